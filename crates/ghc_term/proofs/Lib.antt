@@ -1,0 +1,12 @@
+pub mod Trees
+pub mod Names
+pub mod Chains
+pub mod Total
+pub mod Entries
+pub mod Walks
+pub mod Searches
+pub mod Progress
+pub mod Bind
+pub mod Weights
+pub mod Drops
+pub mod Goals

@@ -1,0 +1,6 @@
+use Rattle.std.proofs.Common.{take}
+use Rattle.ghc_term.specs.Tree.{trees, AreClosed}
+use Rattle.ghc_term.proofs.term.are_closed.Given as goal
+
+abbrev pub invariant-loop-term : goal.invariant-loop-term
+invariant-loop-term l = AreClosed (trees (take l.term-index l.terms))

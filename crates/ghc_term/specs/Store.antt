@@ -1,0 +1,18 @@
+-- Stores as finite maps from variables to trees.
+use Rattle.std.specs.Prelude.{Option}
+use Rattle.std.specs.FinMap as finite
+use Rattle.std.specs.Coded.{Coded}
+use Rattle.ghc_term.specs.declared.var_name.VarName.{VarName}
+use Rattle.ghc_term.specs.Tree.{Tree}
+use Rattle.ghc_term.specs.Bindings.{name_cmp}
+use Rattle.ghc_term.specs.Code.{tree_code, name_code}
+
+abbrev pub StoreValue : Type 0
+StoreValue = finite.FinMap name_cmp Tree
+
+abbrev pub store_code : Coded StoreValue
+store_code = finite.code name_code tree_code
+
+-- what the store binds the variable to
+abbrev pub value_at : StoreValue → VarName → Option Tree
+value_at s x = finite.get s x

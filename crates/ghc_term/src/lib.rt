@@ -1,0 +1,32 @@
+//! Terms of Flat GHC: names, terms, expressions, goals, the store of bindings, refusals and their texts.
+#![tactic(auto)]
+
+mod expr;
+mod expr_view;
+mod fault;
+mod goal;
+mod goal_name;
+mod goal_view;
+mod limit;
+mod name;
+mod operator;
+mod store;
+mod term;
+#[cfg(test)]
+mod tests;
+mod var_name;
+mod view;
+
+pub use expr::Expr;
+pub use expr_view::ExprView;
+pub use fault::Fault;
+pub use goal::Goal;
+pub use goal_name::GoalName;
+pub use goal_view::GoalView;
+pub use limit::Limit;
+pub use name::Name;
+pub use operator::Operator;
+pub use store::Store;
+pub use term::Term;
+pub use var_name::VarName;
+pub use view::TermView;

@@ -1,0 +1,219 @@
+// The bindings of variables.
+ghost use Rattle.std.specs.Prelude.{◌≡◌, ◌↔◌, ◌⊎◌, IfOk, IfErr, OnOk, OnErr, IsTrue, None, Some};
+ghost use Rattle.indexmap.specs.IndexSet.{keys};
+
+use crate::fault::Fault;
+use crate::term::Term;
+use crate::var_name::VarName;
+use crate::view::TermView;
+use indexmap::{IndexMap, IndexSet};
+use std::alloc::{AllocError, Global};
+use std::marker::Model;
+
+/// What variables are bound to: a finite map in which no value reaches its own variable.
+#[derive(Drop)]
+pub struct Store {
+    map: IndexMap<VarName, Term>,
+}
+
+impl Model for Store {
+    ghost use Rattle.ghc_term.specs.Store.{StoreValue, store_code, value_at};
+    ghost use Rattle.ghc_term.specs.Bindings.{IsAcyclic};
+
+    ghost Value = { StoreValue };
+
+    ghost coded = { store_code };
+
+    ghost use Rattle.std.specs.FinMap as finite;
+
+    ghost view = { λ s. finite.from_entries s.map.entries };
+
+    ghost invariant = { λ s. IsAcyclic (value_at (finite.from_entries s.map.entries)) };
+}
+
+impl Store {
+    ghost use Rattle.std.specs.Prelude.{option_copied, List};
+    ghost use Rattle.std.specs.FinMap as finite;
+    ghost use Rattle.ghc_term.specs.Store.{value_at};
+    ghost use Rattle.ghc_term.specs.Tree.{Tree, Occurs, OccursIn, trees};
+    ghost use Rattle.ghc_term.specs.Bindings.{IsAcyclic, Leads, Reaches};
+    ghost use Rattle.ghc_term.specs.Search.{Searched};
+    ghost use Rattle.ghc_term.specs.declared.var_name.VarName.{VarName};
+
+    /// A store without bindings, which takes no memory.
+    pub fn new(alloc: Global) -> Store
+        ensures { result ≡ finite.empty }
+    {
+        Store {
+            map: IndexMap::new(alloc),
+        }
+    }
+
+    /// Every store is acyclic. This costs nothing.
+    pub fn acyclic(&self)
+        ensures { IsAcyclic (value_at self.now) }
+    {
+        let _map = &self.map;
+    }
+
+    /// What the variable is bound to: one look-up.
+    pub fn get(&self, x: VarName) -> Option<&Term>
+        ensures { option_copied result ≡ value_at self.now x }
+    {
+        self.map.get(&x)
+    }
+
+    /// Where the chain of the term ends: an unbound variable or a value. One look-up for each variable passed.
+    pub fn end<'a>(&'a self, term: &'a Term) -> &'a Term
+        ensures { (passed : List VarName) × Leads (value_at self.now) term.now passed result.now }
+    {
+        self.acyclic();
+        let mut place = term;
+        loop {
+            match place.view() {
+                TermView::Var(x) => match self.get(x) {
+                    Some(value) => place = value,
+                    None => return place,
+                },
+                _ => return place,
+            }
+        }
+    }
+
+    /// The variables passed from the term by following bindings, an unbound last one included. One look-up for each.
+    pub fn chain<'a>(&'a self, alloc: Global, term: &'a Term) -> Result<Vec<VarName>, AllocError>
+        ensures { IfOk result (λ passed. (e : Tree) × Leads (value_at self.now) term.now passed.items e) }
+    {
+        self.acyclic();
+        let mut passed = Vec::new(alloc);
+        let mut place = term;
+        loop {
+            match place.view() {
+                TermView::Var(x) => {
+                    passed.push(x)?;
+                    match self.get(x) {
+                        Some(next) => place = next,
+                        None => return Ok(passed),
+                    }
+                }
+                _ => return Ok(passed),
+            }
+        }
+    }
+
+    // Whether `x` is `to`; if not, it is added to `seen` where it is bound.
+    fn meet(
+        &self,
+        x: VarName,
+        to: VarName,
+        seen: &mut IndexSet<VarName>,
+    ) -> Result<bool, AllocError>
+        ensures { IfOk result (λ found. Searched (value_at self.now) to (λ y. y ≡ x) seen.old.keys seen.new.keys found) }
+    {
+        if x == to {
+            return Ok(true);
+        }
+        if let Some(_value) = self.get(x) {
+            seen.insert(x)?;
+        }
+        Ok(false)
+    }
+
+    // Whether `to` stands in the term; if not, the term's bound variables are added to `seen`. It goes along the last arguments.
+    #[cycle(search)]
+    fn search(
+        &self,
+        term: &Term,
+        to: VarName,
+        seen: &mut IndexSet<VarName>,
+    ) -> Result<bool, AllocError>
+        ensures { IfOk result (λ found. Searched (value_at self.now) to (λ y. Occurs y term.now) seen.old.keys seen.new.keys found) }
+    {
+        let mut place = term;
+        loop {
+            if place.is_closed() {
+                return Ok(false);
+            }
+            match place.view() {
+                TermView::Var(x) => return self.meet(x, to, seen),
+                TermView::Struct(_, arguments) => {
+                    let Some((last, front)) = arguments.split_last() else {
+                        return Ok(false);
+                    };
+                    if self.search_all(front, to, seen)? {
+                        return Ok(true);
+                    }
+                    place = last;
+                }
+                _ => return Ok(false),
+            }
+        }
+    }
+
+    // The same for several terms.
+    #[cycle(search)]
+    fn search_all(
+        &self,
+        terms: &[Term],
+        to: VarName,
+        seen: &mut IndexSet<VarName>,
+    ) -> Result<bool, AllocError>
+        ensures { IfOk result (λ found. Searched (value_at self.now) to (λ y. OccursIn y (trees terms.now)) seen.old.keys seen.new.keys found) }
+    {
+        for argument in terms {
+            if self.search(argument, to, seen)? {
+                return Ok(true);
+            }
+        }
+        Ok(false)
+    }
+
+    /// Whether the variable stands in the term, or in the value of a variable that the term reaches. It goes once
+    /// through the term and through each value that it reaches, and past what is closed as written.
+    pub fn reaches(&self, from: &Term, to: VarName) -> Result<bool, AllocError>
+        ensures { IfOk result (λ yes. IsTrue yes ↔ Reaches (value_at self.now) from.now to) }
+    {
+        self.acyclic();
+        let mut seen = IndexSet::new(*self.map.allocator());
+        if self.search(from, to, &mut seen)? {
+            return Ok(true);
+        }
+        let mut next = 0;
+        while next < seen.len() {
+            let x = seen.as_slice()[next];
+            let value = self.get(x).unwrap();
+            if self.search(value, to, &mut seen)? {
+                return Ok(true);
+            }
+            next += 1;
+        }
+        Ok(false)
+    }
+
+    /// Binds an unbound variable, at the cost of `reaches`. `Fault::Cycle` exactly where the value reaches the
+    /// variable; otherwise it fails for want of memory alone.
+    pub fn bind(&mut self, x: VarName, value: Term) -> Result<(), Fault>
+        requires { value_at self.old x ≡ None }
+        ensures ok { OnOk result (self.new ≡ finite.insert self.old x value) }
+        ensures open { OnOk result (¬ Reaches (value_at self.old) value x) }
+        ensures cycle { result ≡ Err Fault.Cycle → Reaches (value_at self.old) value x }
+        ensures only { IfErr result (λ e. (e ≡ Fault.Cycle) ⊎ (e ≡ Fault.Memory)) }
+        ensures err { OnErr result (self.new ≡ self.old) }
+    {
+        if self.reaches(&value, x)? {
+            return Err(Fault::Cycle);
+        }
+        match self.map.insert(x, value) {
+            Ok(_) => Ok(()),
+            Err(_) => Err(Fault::Memory),
+        }
+    }
+
+    /// Takes a binding away and gives its value, if the variable was bound: one look-up.
+    pub fn unbind(&mut self, x: VarName) -> Option<Term>
+        ensures value { result ≡ value_at self.old x }
+        ensures rest { self.new ≡ finite.remove self.old x }
+    {
+        self.map.swap_remove(&x)
+    }
+}

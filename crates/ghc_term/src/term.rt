@@ -1,0 +1,189 @@
+// Terms: trees whose inner parts are shared.
+ghost use Rattle.std.specs.Prelude.{◌≡◌, ◌≢◌, ◌↔◌, [], IfOk, IsTrue};
+ghost use Rattle.ghc_term.specs.Tree.{variable, integer, atom, node, trees, IsClosed, AreClosed};
+
+use crate::name::Name;
+use crate::var_name::VarName;
+use crate::view::TermView;
+use std::alloc::{AllocError, Global};
+use std::marker::Model;
+use std::sync::Arc;
+
+/// A term as written. Its parts are shared, so a term of any size is lent once more by `share` in one step.
+#[cycle(term)]
+pub struct Term {
+    shape: Shape,
+}
+
+#[cycle(term)]
+enum Shape {
+    Var(VarName),
+    Int(i64),
+    Atom(Name),
+    Struct(Arc<Structure>),
+}
+
+// A name over one argument or more, and whether no variable stands in them.
+#[cycle(term)]
+struct Structure {
+    name: Name,
+    arguments: Vec<Term>,
+    is_closed: bool,
+}
+
+impl Model for Term {
+    ghost use Rattle.ghc_term.specs.Tree.{Tree};
+    ghost use Rattle.ghc_term.specs.Code.{tree_code};
+
+    ghost Value = { Tree };
+
+    ghost coded = { tree_code };
+
+    ghost use Rattle.ghc_term.specs.View.{tree_of, height, IsWellMade};
+
+    ghost view = { λ a. tree_of a.shape };
+
+    ghost invariant = { λ a. IsWellMade a.shape };
+
+    ghost size = { height };
+
+    ghost use Rattle.ghc_term.specs.Falls.{deep_height};
+
+    ghost size_decreases = { λ a h. deep_height a.shape };
+}
+
+impl Term {
+    ghost use Rattle.ghc_term.specs.Shown.{shown, HasArgument};
+
+    /// A variable.
+    pub fn variable(x: VarName) -> Term
+        ensures { result ≡ variable x }
+    {
+        Term {
+            shape: Shape::Var(x),
+        }
+    }
+
+    /// An integer.
+    pub fn integer(k: i64) -> Term
+        ensures { result ≡ integer k }
+    {
+        Term {
+            shape: Shape::Int(k),
+        }
+    }
+
+    /// An atom.
+    pub fn atom(name: Name) -> Term
+        ensures { result ≡ atom name }
+    {
+        Term {
+            shape: Shape::Atom(name),
+        }
+    }
+
+    /// A structure, which has at least one argument.
+    pub fn structure(alloc: Global, name: Name, arguments: Vec<Term>) -> Result<Term, AllocError>
+        requires { arguments.items ≢ [] }
+        ensures { IfOk result (λ t. t ≡ node name (trees arguments.items)) }
+    {
+        let is_closed = are_closed(&arguments);
+        let structure = Structure {
+            name,
+            arguments,
+            is_closed,
+        };
+        match Arc::new(alloc, structure) {
+            Ok(structure) => Ok(Term {
+                shape: Shape::Struct(structure),
+            }),
+            Err(failed) => {
+                let Structure {
+                    name: _name,
+                    arguments: _arguments,
+                    is_closed: _,
+                } = failed.value;
+                Err(AllocError)
+            }
+        }
+    }
+
+    /// The same term once more, with its parts shared: one step. Fails where a count of handles is full.
+    pub fn share(&self) -> Result<Term, AllocError>
+        ensures { IfOk result (λ t. t ≡ self.now) }
+    {
+        match &self.shape {
+            Shape::Var(x) => Ok(Term::variable(*x)),
+            Shape::Int(k) => Ok(Term::integer(*k)),
+            Shape::Atom(name) => Ok(Term::atom(name.share()?)),
+            Shape::Struct(structure) => Ok(Term {
+                shape: Shape::Struct(Arc::try_clone(structure)?),
+            }),
+        }
+    }
+
+    /// Whether no variable stands in the term as written: one step.
+    pub fn is_closed(&self) -> bool
+        ensures { IsTrue result ↔ IsClosed self.now }
+    {
+        match &self.shape {
+            Shape::Var(_) => false,
+            Shape::Int(_) => true,
+            Shape::Atom(_) => true,
+            Shape::Struct(structure) => structure.is_closed,
+        }
+    }
+
+    /// The term lent in parts: one step.
+    pub fn view(&self) -> TermView<'_>
+        ensures shown { shown result ≡ self.now }
+        ensures arguments { HasArgument result }
+    {
+        match &self.shape {
+            Shape::Var(x) => TermView::Var(*x),
+            Shape::Int(k) => TermView::Int(*k),
+            Shape::Atom(name) => TermView::Atom(name),
+            Shape::Struct(structure) => TermView::Struct(&structure.name, &structure.arguments),
+        }
+    }
+}
+
+// Whether no variable stands in the terms: one step a term.
+fn are_closed(terms: &[Term]) -> bool
+    ensures { IsTrue result ↔ AreClosed (trees terms.now) }
+{
+    for term in terms {
+        if !term.is_closed() {
+            return false;
+        }
+    }
+    true
+}
+
+impl Drop for Term {
+    // goes along the last arguments, so that a long list takes no stack
+    fn drop(mut self) {
+        loop {
+            let Term { shape } = self;
+            match shape {
+                Shape::Var(_) => return,
+                Shape::Int(_) => return,
+                Shape::Atom(_name) => return,
+                Shape::Struct(structure) => {
+                    let Some(structure) = Arc::into_inner(structure) else {
+                        return;
+                    };
+                    let Structure {
+                        name: _name,
+                        mut arguments,
+                        is_closed: _,
+                    } = structure;
+                    let Some(last) = arguments.pop() else {
+                        return;
+                    };
+                    self = last;
+                }
+            }
+        }
+    }
+}
