@@ -1,0 +1,2 @@
+-- Lemmas of this crate.
+mod Required

@@ -1,0 +1,42 @@
+-- What the command line gives.
+use Rattle.std.specs.Prelude.{◌≡◌, ℕ, List, [], ◌∷◌, Some, false, codes}
+use Rattle.clap.specs.Words.{AddsArg, AddsInTurn, IsParsedFrom, IsPlainArg, args_of, first_value, found_of, groups_of}
+use Rattle.clap.specs.Built.{TakesValue}
+use Rattle.clap.specs.declared.builder.arg.Arg.{Arg}
+use Rattle.clap.specs.declared.builder.command.Command.{Command}
+use Rattle.clap.specs.declared.builder.command.Command.TheViews.{out-Command}
+use Rattle.clap.specs.declared.parser.matches.ArgMatches.{ArgMatches}
+use Rattle.ghcdb.specs.declared.settings.Options.{Options}
+
+-- an argument that has to be given, has one value, and excludes no other
+pub record IsRequiredValue (id : List ℕ) (argument : Arg) : Type 0 where
+  pub id_is : argument.id.now ≡ id
+  pub plain : IsPlainArg argument
+  pub local : argument.global ≡ false
+  pub value : TakesValue argument
+
+-- a command with no argument yet
+pub record IsEmptyCommand (command : Command) : Type 0 where
+  pub arguments : args_of command ≡ []
+  pub groups : groups_of command ≡ []
+  pub local : (out-Command command).has_globals ≡ false
+  pub negates : (out-Command command).subcommand_negates_reqs ≡ false
+
+-- the command that takes FILE and the query, and needs both
+pub record IsGhcdb (command : Command) : Type 0 where
+  pub start : Command
+  pub file : Arg
+  pub query : Arg
+  pub empty : IsEmptyCommand start
+  pub file_is : IsRequiredValue (codes "FILE") file
+  pub query_is : IsRequiredValue (codes "query") query
+  pub chain : AddsInTurn AddsArg start (file ∷ query ∷ []) command
+
+-- the options are the values that a parse of that command found for FILE and for the query
+pub record IsGivenBy (options : Options) : Type 0 where
+  pub command : Command
+  pub matches : ArgMatches
+  pub is_ghcdb : IsGhcdb command
+  pub parsed : IsParsedFrom command matches
+  pub file : first_value (found_of matches) (codes "FILE") ≡ Some options.file.now
+  pub query : first_value (found_of matches) (codes "query") ≡ Some options.query.now

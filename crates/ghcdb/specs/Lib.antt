@@ -1,0 +1,5 @@
+-- The definitions of this crate.
+pub mod CommandLine
+pub mod Refusal
+pub mod Source
+pub mod Status

@@ -1,0 +1,64 @@
+// The command line, read by `clap`.
+ghost use Rattle.std.specs.Prelude.{◌≡◌, IfOk, codes};
+ghost use Rattle.ghcdb.specs.CommandLine.{IsGhcdb, IsGivenBy, IsRequiredValue};
+
+use crate::settings::Options;
+use clap::{Arg, ArgAction, Command, Error};
+use std::alloc::{AllocError, Global};
+
+const ABOUT: &str = "Runs, traces and reverses programs of Flat GHC";
+
+const FILE_HELP: &str = "The program, a file of Flat GHC clauses";
+
+const QUERY_HELP: &str = "The goals to start from, such as 'append([1],[2],R)'";
+
+const AFTER_HELP: &str = "Example: ghcdb append.ghc --query 'append([1],[2],R)'
+
+The exit status is 0 at the end of the session; 1 where the program or the
+query is refused, or no memory is left; 2 where the command line is refused;
+3 where a file cannot be read or a device fails.";
+
+fn file_argument<'a>(alloc: Global) -> Arg<'a>
+    ensures { IsRequiredValue (codes "FILE") result }
+{
+    Arg::new(alloc, "FILE")
+        .required(true)
+        .action(ArgAction::Set)
+        .help(FILE_HELP)
+}
+
+// A query may begin with a hyphen, as `-1 = X` does.
+fn query_argument<'a>(alloc: Global) -> Arg<'a>
+    ensures { IsRequiredValue (codes "query") result }
+{
+    Arg::new(alloc, "query")
+        .long("query")
+        .value_name("TEXT")
+        .required(true)
+        .action(ArgAction::Set)
+        .allow_hyphen_values(true)
+        .help(QUERY_HELP)
+}
+
+fn command<'a>(alloc: Global) -> Result<Command<'a>, AllocError>
+    ensures { IfOk result IsGhcdb }
+{
+    let command = Command::new(alloc, "ghcdb")
+        .about(ABOUT)
+        .after_help(AFTER_HELP)
+        .arg(file_argument(alloc))?
+        .arg(query_argument(alloc))?;
+    Ok(command)
+}
+
+/// Reads the command line, of which the first word is the program's name. What is no command line
+/// of this program, a call for help and want of memory are answered by `clap`'s error.
+pub fn options<'a>(alloc: Global, words: &'a [String]) -> Result<Options<'a>, Error>
+    ensures { IfOk result IsGivenBy }
+{
+    let command = command(alloc)?;
+    let matches = command.try_get_matches_from(words)?;
+    let file = matches.get_str("FILE").unwrap();
+    let query = matches.get_str("query").unwrap();
+    Ok(Options { file, query })
+}

@@ -1,0 +1,82 @@
+// What the program does with the words of its command line.
+ghost use Rattle.std.specs.Prelude.{◌≡◌, ◌≢◌, Err};
+ghost use Rattle.clap.specs.Words.{kind_of};
+ghost use Rattle.clap.specs.declared.error.kind.ErrorKind.{ErrorKind};
+ghost use Rattle.ghc_term.specs.Fault.{fault_text};
+ghost use Rattle.ghcdb.specs.Status.{spare_fault, status_of};
+
+use crate::command_line::options;
+use crate::files::read_file;
+use crate::refusal::{Refusal, push_line};
+use crate::settings::Options;
+use crate::source::Source;
+use crate::status::Status;
+use clap::Error;
+use ghc_term::{Fault, Limit};
+use std::rt::Files;
+
+/// Does what the words ask for, of which the first is the program's name, and says how it ends.
+pub fn run<R: Files + Print + Eprint + AllocGlobal>(rt: &R, words: &[String]) -> Status {
+    match options(rt.alloc(), words) {
+        Ok(options) => debug(rt, options),
+        Err(error) => answer(rt, &error),
+    }
+}
+
+// Prints help on the standard output, and what is wrong with the words on the standard error.
+fn answer<R: Print + Eprint>(rt: &R, error: &Error) -> Status
+    ensures help { kind_of error.now ≡ ErrorKind.DisplayHelp → result ≡ Status.Done }
+    ensures mistake { kind_of error.now ≢ ErrorKind.DisplayHelp → kind_of error.now ≢ ErrorKind.DisplayVersion → result ≡ Status.Misused }
+{
+    let _ = error.print(rt);
+    if error.use_stderr() {
+        Status::Misused
+    } else {
+        Status::Done
+    }
+}
+
+// Reads the files, all of them before anything is judged, and starts.
+fn debug<R: Files + Eprint + AllocGlobal>(rt: &R, options: Options<'_>) -> Status {
+    let source = Source::Program;
+    let program = match read_file(rt, options.file) {
+        Ok(program) => program,
+        Err(fault) => return tell(rt, &Refusal { source, fault }),
+    };
+    match start(program.as_slice(), options.query.as_bytes()) {
+        Ok(()) => Status::Done,
+        Err(refusal) => tell(rt, &refusal),
+    }
+}
+
+// The session on a program and a query. Nothing reads them yet, so it is refused as not built.
+fn start(_program: &[u8], _query: &[u8]) -> Result<(), Refusal>
+    ensures { result ≡ Err (record { source = Source.Program; fault = Fault.Limit Limit.Stage }) }
+{
+    Err(Refusal {
+        source: Source::Program,
+        fault: Fault::Limit(Limit::Stage),
+    })
+}
+
+// Tells of a refusal on the standard error, whose failing changes nothing, and gives its status.
+fn tell<R: Eprint + AllocGlobal>(rt: &R, refusal: &Refusal) -> Status
+    ensures { result ≡ status_of refusal.now.fault }
+{
+    let mut line = String::new(rt.alloc());
+    let _ = match push_line(&mut line, refusal) {
+        Ok(()) => rt.eprint(line),
+        Err(_) => eprintln!(rt; "{}{}", refusal.source.prefix(), spare_text(&refusal.fault)),
+    };
+    Status::of(&refusal.fault)
+}
+
+// A text of the same status that takes no memory.
+fn spare_text(fault: &Fault) -> &'static str
+    ensures { result.now ≡ fault_text (spare_fault fault.now) }
+{
+    match fault {
+        Fault::Device => "F26 device",
+        _ => "F1 no memory",
+    }
+}

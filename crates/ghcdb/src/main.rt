@@ -1,0 +1,42 @@
+// `ghcdb FILE --query TEXT` debugs a program of Flat GHC.
+#![tactic(auto)]
+
+mod command_line;
+mod debugger;
+mod files;
+mod refusal;
+mod settings;
+mod source;
+mod status;
+
+use debugger::run;
+use status::Status;
+use std::process::ExitCode;
+use std::rt::Env;
+use std::{env, io};
+
+// The words of the command line, of which the first is the program's name.
+fn words<R: Env + AllocGlobal>(rt: &R) -> io::Result<Vec<String>> {
+    let words = env::args(rt)?.collect(rt.alloc())?;
+    Ok(words)
+}
+
+// Tells that the words cannot be read.
+fn refuse_words<R: Eprint>(rt: &R, error: &io::Error) -> Status {
+    let _ = match error.kind() {
+        io::ErrorKind::OutOfMemory => eprintln!(rt; "error: out of memory"),
+        _ => eprintln!(rt; "error: a word of the command line is not text"),
+    };
+    Status::Misused
+}
+
+fn main(rt: HostRuntime) -> ExitCode {
+    let status = match words(&rt) {
+        Ok(words) => run(&rt, words.as_slice()),
+        Err(error) => refuse_words(&rt, &error),
+    };
+    ExitCode::from(status.code())
+}
+
+#[cfg(test)]
+mod tests;

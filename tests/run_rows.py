@@ -1,0 +1,241 @@
+#!/usr/bin/env python3
+"""Runs the rows of tests/rows/ on the proved program, crates/ghcdb/out/ghcdb.
+
+    python3 tests/run_rows.py [WORD..]     the rows whose names hold one of the words; without words, all
+
+Each row runs in a fresh folder of its own, for at most 60 seconds, as many rows side by side as there are
+processors. Standard output, standard error and exit status have to be exactly those of the row. The last line is
+`N passed, M failed`; the exit status is 1 where a row failed, or where there is no row.
+
+A row is a file NAME.row: one case, as a list of entries. Lines that begin with `#` say what the row shows, and
+empty lines are left out.
+
+    # A file that is not there.
+    file: missing.ghc
+    query: true
+    errors:
+    | program: F26 device
+    status: 3
+
+An entry is `KEY: VALUE`, where the value is the rest of the line, or `KEY:` and below it lines that begin with `|`
+(a bar alone, or a bar, a space and the text), each of which ends with a line feed in the value. In both forms
+
+    {0D}       is the byte with these two hexadecimal digits, so {7B} is an opening brace
+    {64*f(}    is the text behind the star, 64 times
+    {}         at the end of a line of the second form takes its line feed away
+
+What the program is given:
+
+    program        the text of FILE; an empty text where there is neither `program` nor `file`
+    file           the word for FILE, `program.ghc` where it is left out; with no `program` nothing is written there
+    query          the text of the query; the option is left out where this entry is
+    options        further words, one a line
+    words          all words, one a line, in place of FILE, the query and the options
+    file NAME      the text of a further file of that name
+    input          standard input
+    to PATH        no value: standard output goes to PATH, as /dev/full
+    errors to PATH no value: the same of standard error
+
+What it has to do:
+
+    output             standard output, nothing where it is left out
+    output contains    a text that stands in standard output, which may hold more; can be given more than once
+    errors, errors contain      the same of standard error
+    session            input and output in one: what stands behind `> ` is a line of input, all else is output
+    status             the exit status, 0 where it is left out
+"""
+
+import os
+import re
+import subprocess
+import sys
+import tempfile
+from concurrent.futures import ThreadPoolExecutor
+from contextlib import ExitStack
+from pathlib import Path
+
+TESTS = Path(__file__).resolve().parent
+PROGRAM = TESTS.parent / "crates" / "ghcdb" / "out" / "ghcdb"
+SECONDS = 60
+PROMPT = b"> "
+
+SINGLE = {"program", "file", "query", "options", "words", "input", "session", "output", "errors", "status"}
+LISTED = {"output contains", "errors contain"}
+NAMED = {"file ", "to ", "errors to "}
+
+
+class BadRow(Exception):
+    """A row that is not of the form."""
+
+
+def expand(text):
+    """The bytes of a text with its braces."""
+
+    def one(match):
+        if match["byte"]:
+            return bytes.fromhex(match["byte"].decode())
+        return match["part"] * int(match["times"])
+
+    pattern = rb"\{(?:(?P<byte>[0-9A-F]{2})|(?P<times>[0-9]+)\*(?P<part>[^{}]*))\}"
+    rest = re.sub(pattern, b"", text)
+    if b"{" in rest:
+        raise BadRow(f"an opening brace without a meaning: {text!r}")
+    return re.sub(pattern, one, text)
+
+
+def text_of(lines):
+    """The text that lines with bars give."""
+    text = b""
+    for line in lines:
+        if line != b"|" and not line.startswith(b"| "):
+            raise BadRow(f"a bar stands alone or before a space: {line!r}")
+        body = line[2:]
+        if body.endswith(b"{}"):
+            text += expand(body[:-2])
+        else:
+            text += expand(body) + b"\n"
+    return text
+
+
+def entries(source):
+    """The keys of a row, each with its value, in order."""
+    found = []
+    lines = source.split(b"\n")
+    at = 0
+    while at < len(lines):
+        line = lines[at]
+        at += 1
+        if not line or line.startswith(b"#"):
+            continue
+        key, colon, value = line.partition(b":")
+        if not colon:
+            raise BadRow(f"a line without a key: {line!r}")
+        if value:
+            found.append((key.decode(), expand(value.removeprefix(b" "))))
+            continue
+        start = at
+        while at < len(lines) and lines[at].startswith(b"|"):
+            at += 1
+        found.append((key.decode(), text_of(lines[start:at])))
+    return found
+
+
+def read_row(path):
+    """The entries of a row by their keys; those of LISTED are lists."""
+    row = {key: [] for key in LISTED}
+    for key, value in entries(path.read_bytes()):
+        if key in LISTED:
+            row[key].append(value.removesuffix(b"\n"))
+        elif key in row:
+            raise BadRow(f"`{key}` stands twice")
+        elif key in SINGLE or any(key.startswith(name) for name in NAMED):
+            row[key] = value
+        else:
+            raise BadRow(f"`{key}` is no key")
+    if "session" in row:
+        split_session(row)
+    return row
+
+
+def split_session(row):
+    """Puts input and output in the place of a session."""
+    if "input" in row or "output" in row:
+        raise BadRow("a session stands in the place of input and output")
+    row["input"], row["output"] = b"", b""
+    for line in row.pop("session").splitlines(keepends=True):
+        if line.startswith(PROMPT):
+            row["input"] += line[len(PROMPT):]
+        else:
+            row["output"] += line
+
+
+def words_of(row):
+    """The words of the command line."""
+    if "words" in row:
+        return row["words"].split(b"\n")[:-1]
+    words = [row.get("file", b"program.ghc")]
+    if "query" in row:
+        words += [b"--query", row["query"]]
+    return words + row.get("options", b"").split(b"\n")[:-1]
+
+
+def files_of(row):
+    """The names and the texts of the files that are there."""
+    files = {key.removeprefix("file "): text for key, text in row.items() if key.startswith("file ")}
+    if "program" in row or "file" not in row:
+        files[row.get("file", b"program.ghc").decode()] = row.get("program", b"")
+    return files
+
+
+def target(row, key, stack):
+    """The file that a stream goes to, or a pipe."""
+    for name in row:
+        if name.startswith(key):
+            return stack.enter_context(open(name.removeprefix(key), "wb"))
+    return subprocess.PIPE
+
+
+def run(row):
+    """Standard output, standard error and exit status of the program on a row."""
+    with ExitStack() as stack:
+        folder = stack.enter_context(tempfile.TemporaryDirectory(prefix="ghcdb-row-"))
+        for name, text in files_of(row).items():
+            (Path(folder) / name).write_bytes(text)
+        ended = subprocess.run(
+            [PROGRAM, *words_of(row)],
+            input=row.get("input", b""),
+            stdout=target(row, "to ", stack),
+            stderr=target(row, "errors to ", stack),
+            cwd=folder,
+            timeout=SECONDS,
+        )
+    return ended.stdout or b"", ended.stderr or b"", ended.returncode
+
+
+def difference(row, name, contained, got):
+    """What is wrong with what was written to a stream: a list of lines."""
+    if row[contained]:
+        missing = [text for text in row[contained] if text not in got]
+        return [f"  {name} lacks {text!r}" for text in missing] + ([f"  {name} is {got!r}"] if missing else [])
+    wanted = row.get(name, b"")
+    if wanted == got:
+        return []
+    return [f"  {name} is to be {wanted!r}", f"  {name} is       {got!r}"]
+
+
+def judge(path):
+    """What is wrong with a row: a list of lines."""
+    try:
+        row = read_row(path)
+        output, errors, status = run(row)
+        wanted = int(row.get("status", b"0"))
+    except subprocess.TimeoutExpired:
+        return [f"  it ran for {SECONDS} seconds"]
+    except (BadRow, OSError, ValueError) as error:
+        return [f"  {error}"]
+    wrong = difference(row, "output", "output contains", output)
+    wrong += difference(row, "errors", "errors contain", errors)
+    if status != wanted:
+        wrong.append(f"  status is to be {wanted} and is {status}")
+    return wrong
+
+
+def main():
+    paths = sorted((TESTS / "rows").rglob("*.row"))
+    if sys.argv[1:]:
+        paths = [path for path in paths if any(word in path.stem for word in sys.argv[1:])]
+    if not PROGRAM.is_file():
+        print(f"{PROGRAM} is not there: `rt ci` makes it", file=sys.stderr)
+        paths = []
+    with ThreadPoolExecutor(os.cpu_count()) as pool:
+        judged = list(zip(paths, pool.map(judge, paths)))
+    failed = [(path, wrong) for path, wrong in judged if wrong]
+    for path, wrong in failed:
+        print(f"failed: {path.relative_to(TESTS.parent)}")
+        print("\n".join(wrong))
+    print(f"{len(judged) - len(failed)} passed, {len(failed)} failed")
+    return 1 if failed or not judged else 0
+
+
+if __name__ == "__main__":
+    sys.exit(main())
