@@ -163,7 +163,7 @@ def files_of(row):
     """The names and the texts of the files that are there."""
     files = {key.removeprefix("file "): text for key, text in row.items() if key.startswith("file ")}
     if "program" in row or "file" not in row:
-        files[row.get("file", b"program.ghc").decode()] = row.get("program", b"")
+        files.setdefault(row.get("file", b"program.ghc").decode(), row.get("program", b""))
     return files
 
 

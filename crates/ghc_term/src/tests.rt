@@ -6,6 +6,7 @@ use crate::term::Term;
 use crate::var_name::VarName;
 use crate::view::TermView;
 use std::alloc::{AllocError, Global};
+use std::process::Abort;
 use std::test::Fail;
 
 const MANY: u32 = 100_000;
@@ -21,6 +22,12 @@ fn cell(alloc: Global, head: Term, tail: Term) -> Result<Term, AllocError> {
     arguments.push(head)?;
     arguments.push(tail)?;
     Term::structure(alloc, name, arguments)
+}
+
+// Binds a variable that is unbound, as is tested first.
+fn bind(rt: &impl Abort, store: &mut Store, x: VarName, value: Term) -> Result<(), Fault> {
+    assert!(rt; store.get(x).is_none());
+    store.bind(x, value)
 }
 
 // `[1,1,..|tail]` with so many cells.
@@ -57,14 +64,14 @@ fn bindings_are_followed(rt: HostRuntime) -> Result<(), Fail> {
     let alloc = rt.alloc();
     let mut store = Store::new(alloc);
     let x = Term::variable(query(1));
-    store.bind(query(1), Term::variable(query(2)))?;
+    bind(&rt, &mut store, query(1), Term::variable(query(2)))?;
     assert_eq!(rt;
         store.chain(alloc, &x)?.as_slice(),
         [query(1), query(2)].as_slice()
     );
     assert!(rt; store.get(query(1)).is_some());
     assert!(rt; store.get(query(2)).is_none());
-    store.bind(query(2), Term::integer(3))?;
+    bind(&rt, &mut store, query(2), Term::integer(3))?;
     assert!(rt; matches!(store.end(&x).view(), TermView::Int(3)));
     assert!(rt; store.reaches(&x, query(2))?);
     assert!(rt; !store.reaches(&x, query(3))?);
@@ -78,12 +85,14 @@ fn bindings_are_followed(rt: HostRuntime) -> Result<(), Fail> {
 fn a_cycle_is_refused(rt: HostRuntime) -> Result<(), Fail> {
     let alloc = rt.alloc();
     let mut store = Store::new(alloc);
-    store.bind(
+    bind(
+        &rt,
+        &mut store,
         query(1),
         cell(alloc, Term::integer(1), Term::variable(query(2)))?,
     )?;
     let value = cell(alloc, Term::variable(query(1)), Term::integer(2))?;
-    assert_eq!(rt; store.bind(query(2), value), Err(Fault::Cycle));
+    assert_eq!(rt; bind(&rt, &mut store, query(2), value), Err(Fault::Cycle));
     assert!(rt; store.get(query(2)).is_none());
     Ok(())
 }
@@ -95,8 +104,13 @@ fn a_long_list_takes_no_stack(rt: HostRuntime) -> Result<(), Fail> {
     let open = ones(alloc, MANY, Term::variable(query(2)))?;
     assert!(rt; store.reaches(&open, query(2))?);
     assert!(rt; !store.reaches(&open, query(1))?);
-    store.bind(query(1), open)?;
-    store.bind(query(2), ones(alloc, MANY, Term::integer(0))?)?;
+    bind(&rt, &mut store, query(1), open)?;
+    bind(
+        &rt,
+        &mut store,
+        query(2),
+        ones(alloc, MANY, Term::integer(0))?,
+    )?;
     assert!(rt; store.reaches(&Term::variable(query(1)), query(2))?);
     drop(store.unbind(query(1)));
     Ok(())
@@ -107,7 +121,12 @@ fn a_long_chain_is_followed(rt: HostRuntime) -> Result<(), Fail> {
     let alloc = rt.alloc();
     let mut store = Store::new(alloc);
     for place in 1..MANY {
-        store.bind(query(place), Term::variable(query(place + 1)))?;
+        bind(
+            &rt,
+            &mut store,
+            query(place),
+            Term::variable(query(place + 1)),
+        )?;
     }
     let first = Term::variable(query(1));
     assert_eq!(rt; store.chain(alloc, &first)?.len(), 100_000);
