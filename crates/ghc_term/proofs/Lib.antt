@@ -10,3 +10,6 @@ pub mod Bind
 pub mod Weights
 pub mod Drops
 pub mod Goals
+pub mod Resolving
+pub mod Pieces
+pub mod Texts

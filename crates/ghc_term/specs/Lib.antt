@@ -17,3 +17,7 @@ pub mod Shown
 pub mod Search
 pub mod Limit
 pub mod Fault
+pub mod Text
+pub mod GoalText
+pub mod Resolved
+pub mod Pieces

@@ -10,6 +10,7 @@ mod goal_view;
 mod limit;
 mod name;
 mod operator;
+mod printing;
 mod store;
 mod term;
 #[cfg(test)]
@@ -26,6 +27,10 @@ pub use goal_view::GoalView;
 pub use limit::Limit;
 pub use name::Name;
 pub use operator::Operator;
+pub use printing::{
+    PRINT_LIMIT, print, print_goal, print_goal_written, print_written, push_goal_written,
+    push_written,
+};
 pub use store::Store;
 pub use term::Term;
 pub use var_name::VarName;

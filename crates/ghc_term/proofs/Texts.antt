@@ -1,0 +1,94 @@
+-- The texts of cells, of other structures, and of what ends a list.
+use Rattle.std.proofs.Common.{◌≡◌, ◌≢◌, ℕ, true, false, List, [], ◌∷◌, ◌++◌, length, get_or, refl, sym, ap, ◌∙◌, subst, arith}
+use Rattle.std.specs.Prelude.{Option, Some, None, codes, bytes_eq}
+use Rattle.std.proofs.lemmas.Slice.Eq.{bytes_eq-Decides}
+use Rattle.ghc_term.specs.declared.var_name.VarName.{VarName}
+use Rattle.ghc_term.specs.declared.view.TermView.{TermView}
+use Rattle.ghc_term.specs.declared.view.TermView.TheVariants.{Var, Int, Atom, Struct}
+use Rattle.ghc_term.specs.Tree.{Tree, variable, integer, node, Trees, none, more, trees, cons, nil}
+use Rattle.ghc_term.specs.Shown.{shown, HasArgument}
+use Rattle.ghc_term.specs.Bindings.{Leads}
+use Rattle.ghc_term.specs.Text.{term_text, rest_text, arguments_text, is_cell, is_nil, barred, IsNoCell}
+use Rattle.ghc_term.specs.Resolved.{Resolves, an_integer, unbound, bound, a_node, ResolvesAll, no_more, one_more}
+use Rattle.ghc_term.specs.Resolved.{all_resolved}
+
+not_equal : (f g : List ℕ) → f ≢ g → bytes_eq f g ≡ false
+not_equal f g n =
+    elim (bytes_eq f g) as (λ b. bytes_eq f g ≡ b → b ≡ false) [
+      | true ↦ λ e. absurd (n ((bytes_eq-Decides f g).0 e))
+      | false ↦ λ e. refl
+    ] refl
+
+-- a node that is no cell
+pub no_cell : (f : List ℕ) (us : Trees) → IsNoCell (node f us) → is_cell f us ≡ false
+no_cell f none n = refl
+no_cell f (more t none) n = refl
+no_cell f (more t (more u none)) n = not_equal f (codes ".") (λ e. n t u (ap (λ g. node g (more t (more u none))) e))
+no_cell f (more t (more u (more v us))) n = refl
+
+no_nil : (f : List ℕ) (us : Trees) → node f us ≢ nil → is_nil f us ≡ false
+no_nil f none n = not_equal f (codes "[]") (λ e. n (ap (λ g. node g none) e))
+no_nil f (more t us) n = refl
+
+pub structure_text : (f : List ℕ) (us : Trees) → IsNoCell (node f us) → term_text (node f us) ≡ f ++ arguments_text us
+structure_text f us n = rw (no_cell f us n) refl
+
+-- what is no list stands behind a bar
+pub rest_barred : (u : Tree) → u ≢ nil → IsNoCell u → rest_text u ≡ barred (term_text u)
+rest_barred (variable x) n m = refl
+rest_barred (integer k) n m = refl
+rest_barred (node f us) n m = rw (no_nil f us n, no_cell f us m) refl
+
+module _ {S : VarName → Option Tree} where
+  all_none : {ts us : Trees} → ResolvesAll S ts us → us ≡ none → ts ≡ none
+  all_none no_more e = refl
+  all_none (one_more a m) e = cc
+
+  all_two : {ts us : Trees} → ResolvesAll S ts us → (t u : Tree) → us ≡ more t (more u none) → (v : Tree) × (z : Tree) × (ts ≡ more v (more z none))
+  all_two no_more t u e = cc
+  all_two (one_more a no_more) t u e = cc
+  all_two (one_more {t = v} a (one_more {t = z} b m)) t u e = let none_left = all_none m (cc) in (v, z, ap (λ us. more v (more z us)) none_left)
+
+  -- what a value resolves to is the empty list only where it is the empty list, and a cell only where it is a cell
+  pub no_new_nil : {e u : Tree} → Resolves S e u → ((x : VarName) → e ≡ variable x → S x ≡ None) → u ≡ nil → e ≡ nil
+  no_new_nil an_integer free q = cc
+  no_new_nil (unbound p) free q = cc
+  no_new_nil (bound {x = x} p a) free q = let clash = free x refl in cc
+  no_new_nil (a_node {f = f} m) free q = let none_left = all_none m (cc) in cc
+
+  pub no_new_cell : {e u : Tree} → Resolves S e u → ((x : VarName) → e ≡ variable x → S x ≡ None) → IsNoCell e → IsNoCell u
+  no_new_cell an_integer free n t u q = cc
+  no_new_cell (unbound p) free n t u q = cc
+  no_new_cell (bound {x = x} p a) free n t u q = let clash = free x refl in cc
+  no_new_cell (a_node {f = f} m) free n t u q = let two = all_two m t u (cc) in n two.0 two.1 (let named : f ≡ codes "." = cc in let same = two.2 in cc)
+
+no_arguments : (ts : List Tree) → ts ≢ [] → trees ts ≢ none
+no_arguments [] n q = n refl
+no_arguments (t ∷ ts) n q = cc
+
+-- what is lent of a cell
+pub lent_cell : (v : TermView) → ((f : _) (ts : _) → v ≢ Struct f ts) → IsNoCell (shown v)
+lent_cell (Var x) n t u q = cc
+lent_cell (Int k) n t u q = cc
+lent_cell (Atom f) n t u q = cc
+lent_cell (Struct f ts) n t u q = n f ts refl
+
+pub lent_nil : (v : TermView) → HasArgument v → ((f : _) → v ≢ Atom f) → shown v ≢ nil
+lent_nil (Var x) h n q = cc
+lent_nil (Int k) h n q = cc
+lent_nil (Atom f) h n q = n f refl
+lent_nil (Struct f ts) h n q = no_arguments ts.now h (cc)
+
+-- a cell has two arguments
+pub two_arguments : (f : List ℕ) (ts : List Tree) (t u : Tree) → node f (trees ts) ≡ cons t u → length ts ≡ 2
+two_arguments f [] t u e = cc
+two_arguments f (v ∷ []) t u e = cc
+two_arguments f (v ∷ z ∷ []) t u e = refl
+two_arguments f (v ∷ z ∷ x ∷ ts) t u e = cc
+
+-- two arguments by their places
+pub pair_of : (ts : List Tree) (t u : Tree) → length ts ≡ 2 → t ≡ get_or ts 0 t → u ≡ get_or ts 1 u → trees ts ≡ more t (more u none)
+pair_of [] t u n p q = absurd (omega arith)
+pair_of (v ∷ []) t u n p q = absurd (omega arith)
+pair_of (v ∷ z ∷ []) t u n p q = cc
+pair_of (v ∷ z ∷ x ∷ ts) t u n p q = absurd (omega arith)

@@ -1,0 +1,18 @@
+use Rattle.std.proofs.Common.{◌++◌, [], sym, ap, ◌∙◌, arith}
+use Rattle.ghc_term.specs.GoalText.{expression_text_by, operand}
+use Rattle.ghc_term.specs.Pieces.{expression_size}
+use Rattle.ghc_term.proofs.Pieces.{as_said, left_one, left_three}
+use Rattle.ghc_term.proofs.printing.expressions.push_expression.Goals as goal
+
+pub returns-in_ok-push-in-Leaf : goal.returns-in_ok-push-in-Leaf
+returns-in_ok-push-in-Leaf c r w =
+    as_said r w _ _ _ _ _ _ _ _ (ap (expression_text_by r) (sym c.in-Leaf.ensures)) (omega (arith, ap (expression_size w) c.in-Leaf.ensures))
+    (left_one r w _ _ _ [] c.in_ok-push-in-Leaf.ensures.items)
+
+pub returns-in_ok-push-in-Operation-3 : goal.returns-in_ok-push-in-Operation-3
+returns-in_ok-push-in-Operation-3 c r w =
+    let left = c.in-Operation.left.now in
+    let right = c.in-Operation.right.now in
+    as_said r w _ _ _ _ _ _ _ _ (ap (expression_text_by r) (sym c.in-Operation.ensures) ∙ ap (λ m. operand left (expression_text_by r left) ++ (m ++ operand right (expression_text_by r right))) (sym c.mark_of.ensures))
+    (omega (arith, ap (expression_size w) c.in-Operation.ensures))
+    (left_three r w _ _ _ _ _ _ _ [] c.in_ok-push-in-Operation.ensures.items c.in_ok-push-in-Operation-2.ensures.items c.in_ok-push-in-Operation-3.ensures.items)

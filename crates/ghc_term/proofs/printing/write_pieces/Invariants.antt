@@ -1,0 +1,14 @@
+use Rattle.std.proofs.Common.{◌≡◌, ◌++◌, string_bytes}
+use Rattle.ghc_term.specs.Store.{value_at}
+use Rattle.ghc_term.specs.Tree.{Tree}
+use Rattle.ghc_term.specs.Resolved.{IsResolution}
+use Rattle.ghc_term.specs.Pieces.{pieces_text, pieces_size}
+use Rattle.ghc_term.proofs.Resolving.{measure}
+use Rattle.ghc_term.proofs.printing.write_pieces.Given as goal
+
+abbrev pub invariant-loop-pieces : goal.invariant-loop-pieces
+invariant-loop-pieces l =
+    (r : Tree → Tree) → IsResolution (value_at l.store) r → string_bytes l.out ++ pieces_text r l.pieces.items ≡ string_bytes l.initial.out ++ pieces_text r l.initial.pieces.items
+
+abbrev pub decreases-loop-pieces : goal.decreases-loop-pieces
+decreases-loop-pieces l = pieces_size (measure l.store) l.pieces.items

@@ -1,0 +1,202 @@
+// What is still to be written of a text, in pieces. They stand in a list, so that no depth of a term takes stack.
+ghost use Rattle.std.specs.Prelude.{◌≡◌, ◌≢◌, ◌↔◌, ◌++◌, ◌+◌, ℕ, suc, List, IfOk, OnOk, IsTrue, MatchOption, string_bytes};
+ghost use Rattle.std.specs.Fmt.{signed_decimal};
+ghost use Rattle.ghc_term.specs.Store.{value_at};
+ghost use Rattle.ghc_term.specs.Tree.{Tree, node, trees, cons, nil};
+ghost use Rattle.ghc_term.specs.Text.{IsNoCell, term_text, rest_text, arguments_text, further_text, variable_text};
+ghost use Rattle.ghc_term.specs.Resolved.{all_resolved};
+ghost use Rattle.ghc_term.specs.Pieces.{Unfolds, UnfoldsIn, piece_text, piece_size, term_size, rest_size, arguments_size};
+
+use crate::expr::Expr;
+use crate::name::Name;
+use crate::printing::expressions::{push_expression, push_operand};
+use crate::store::Store;
+use crate::term::Term;
+use crate::var_name::VarName;
+use crate::view::TermView;
+use std::alloc::AllocError;
+
+// Something that is still to be written.
+#[derive(Clone, Copy)]
+pub(crate) enum Piece<'a> {
+    // A term.
+    Term(&'a Term),
+    // The rest of a list, up to its closing bracket.
+    Rest(&'a Term),
+    // Further arguments of a structure, up to its closing parenthesis.
+    Further(&'a [Term]),
+    // A mark, as the closing bracket of a list that ends in no list.
+    Mark(&'a str),
+    // An expression.
+    Expr(&'a Expr),
+    // An operand of an expression.
+    Operand(&'a Expr),
+}
+
+// The head and the tail, where a name over these arguments is a list cell.
+fn cell_of<'a>(name: &Name, arguments: &'a [Term]) -> Option<(&'a Term, &'a Term)>
+    ensures { MatchOption result (IsNoCell (node name.now (trees arguments.now))) (λ parts. node name.now (trees arguments.now) ≡ cons parts.0.now parts.1.now) }
+{
+    match arguments {
+        [head, tail] if name.as_str() == "." => Some((head, tail)),
+        _ => None,
+    }
+}
+
+// The head and the tail of a list cell.
+fn cell(term: &Term) -> Option<(&Term, &Term)>
+    ensures { MatchOption result (IsNoCell term.now) (λ parts. term.now ≡ cons parts.0.now parts.1.now) }
+{
+    match term.view() {
+        TermView::Struct(name, arguments) => cell_of(name, arguments),
+        _ => None,
+    }
+}
+
+// Whether the term is the empty list.
+fn is_nil(term: &Term) -> bool
+    ensures { IsTrue result ↔ (term.now ≡ nil) }
+{
+    match term.view() {
+        TermView::Atom(name) => name.as_str() == "[]",
+        _ => false,
+    }
+}
+
+// Writes the mark in front of a list's head. The head and the rest of the list are left.
+fn push_cell<'a>(
+    mark: &str,
+    head: &'a Term,
+    tail: &'a Term,
+    pieces: &mut Vec<Piece<'a>>,
+    out: &mut String,
+) -> Result<(), AllocError>
+    ensures { IfOk result (λ _. Unfolds (λ r. mark.now ++ (term_text (r head.now) ++ rest_text (r tail.now))) (λ w. suc (term_size w head.now + rest_size w tail.now)) pieces.old.items pieces.new.items (string_bytes out.old) (string_bytes out.new)) }
+{
+    out.push_str(mark)?;
+    pieces.push(Piece::Rest(tail))?;
+    pieces.push(Piece::Term(head))?;
+    Ok(())
+}
+
+// Writes the mark in front of an argument. The argument and the further ones are left.
+fn push_argument<'a>(
+    mark: &str,
+    argument: &'a Term,
+    further: &'a [Term],
+    pieces: &mut Vec<Piece<'a>>,
+    out: &mut String,
+) -> Result<(), AllocError>
+    ensures { IfOk result (λ _. Unfolds (λ r. mark.now ++ (term_text (r argument.now) ++ further_text (all_resolved r further.now))) (λ w. suc (term_size w argument.now + arguments_size w further.now)) pieces.old.items pieces.new.items (string_bytes out.old) (string_bytes out.new)) }
+{
+    out.push_str(mark)?;
+    pieces.push(Piece::Further(further))?;
+    pieces.push(Piece::Term(argument))?;
+    Ok(())
+}
+
+// Writes a name, and what stands in front of its first argument.
+pub(crate) fn push_structure<'a>(
+    name: &Name,
+    arguments: &'a [Term],
+    pieces: &mut Vec<Piece<'a>>,
+    out: &mut String,
+) -> Result<(), AllocError>
+    ensures { IfOk result (λ _. Unfolds (λ r. name.now ++ arguments_text (all_resolved r arguments.now)) (λ w. arguments_size w arguments.now) pieces.old.items pieces.new.items (string_bytes out.old) (string_bytes out.new)) }
+{
+    out.push_str(name.as_str())?;
+    match arguments {
+        [first, further @ ..] => push_argument("(", first, further, pieces, out),
+        [] => Ok(()),
+    }
+}
+
+// Writes what stands in front of the next argument, or the closing parenthesis.
+fn push_further<'a>(
+    arguments: &'a [Term],
+    pieces: &mut Vec<Piece<'a>>,
+    out: &mut String,
+) -> Result<(), AllocError>
+    ensures { IfOk result (λ _. Unfolds (λ r. further_text (all_resolved r arguments.now)) (λ w. arguments_size w arguments.now) pieces.old.items pieces.new.items (string_bytes out.old) (string_bytes out.new)) }
+{
+    match arguments {
+        [next, further @ ..] => push_argument(",", next, further, pieces, out),
+        [] => out.push_str(")"),
+    }
+}
+
+// Writes a variable.
+pub(crate) fn push_variable(x: VarName, out: &mut String) -> Result<(), AllocError>
+    ensures { OnOk result (string_bytes out.new ≡ string_bytes out.old ++ variable_text x) }
+{
+    write!(out, "_{}_{}", x.step, x.place)
+}
+
+// Writes an integer.
+fn push_integer(k: i64, out: &mut String) -> Result<(), AllocError>
+    ensures { OnOk result (string_bytes out.new ≡ string_bytes out.old ++ signed_decimal k) }
+{
+    write!(out, "{k}")
+}
+
+// Writes the beginning of a term.
+fn push_term<'a>(
+    term: &'a Term,
+    store: &'a Store,
+    pieces: &mut Vec<Piece<'a>>,
+    out: &mut String,
+) -> Result<(), AllocError>
+    ensures { IfOk result (λ _. UnfoldsIn (value_at store.now) (λ r. term_text (r term.now)) (λ w. term_size w term.now) pieces.old.items pieces.new.items (string_bytes out.old) (string_bytes out.new)) }
+{
+    let end = store.end(term);
+    if let Some((head, tail)) = cell(end) {
+        return push_cell("[", head, tail, pieces, out);
+    }
+    match end.view() {
+        TermView::Var(x) => push_variable(x, out),
+        TermView::Int(k) => push_integer(k, out),
+        TermView::Atom(name) => push_structure(name, &[], pieces, out),
+        TermView::Struct(name, arguments) => push_structure(name, arguments, pieces, out),
+    }
+}
+
+// Writes the beginning of the rest of a list.
+fn push_rest<'a>(
+    term: &'a Term,
+    store: &'a Store,
+    pieces: &mut Vec<Piece<'a>>,
+    out: &mut String,
+) -> Result<(), AllocError>
+    ensures { IfOk result (λ _. UnfoldsIn (value_at store.now) (λ r. rest_text (r term.now)) (λ w. rest_size w term.now) pieces.old.items pieces.new.items (string_bytes out.old) (string_bytes out.new)) }
+{
+    let end = store.end(term);
+    if is_nil(end) {
+        return out.push_str("]");
+    }
+    if let Some((head, tail)) = cell(end) {
+        return push_cell(",", head, tail, pieces, out);
+    }
+    out.push_str("|")?;
+    pieces.push(Piece::Mark("]"))?;
+    pieces.push(Piece::Term(end))?;
+    Ok(())
+}
+
+// Writes the beginning of a piece, which was taken from the pieces.
+pub(crate) fn push_piece<'a>(
+    piece: Piece<'a>,
+    store: &'a Store,
+    pieces: &mut Vec<Piece<'a>>,
+    out: &mut String,
+) -> Result<(), AllocError>
+    ensures { IfOk result (λ _. UnfoldsIn (value_at store.now) (λ r. piece_text r piece.entry) (λ w. piece_size w piece.entry) pieces.old.items pieces.new.items (string_bytes out.old) (string_bytes out.new)) }
+{
+    match piece {
+        Piece::Term(term) => push_term(term, store, pieces, out),
+        Piece::Rest(term) => push_rest(term, store, pieces, out),
+        Piece::Further(arguments) => push_further(arguments, pieces, out),
+        Piece::Mark(mark) => out.push_str(mark),
+        Piece::Expr(expression) => push_expression(expression, pieces),
+        Piece::Operand(expression) => push_operand(expression, pieces, out),
+    }
+}
