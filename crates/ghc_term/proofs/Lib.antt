@@ -13,3 +13,8 @@ pub mod Goals
 pub mod Resolving
 pub mod Pieces
 pub mod Texts
+pub mod Along
+pub mod Closed
+pub mod Heads
+pub mod Nesting
+pub mod Written

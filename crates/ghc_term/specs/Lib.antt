@@ -21,3 +21,5 @@ pub mod Text
 pub mod GoalText
 pub mod Resolved
 pub mod Pieces
+pub mod InputTerm
+pub mod Measure
