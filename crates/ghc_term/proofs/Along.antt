@@ -4,6 +4,7 @@ use Rattle.std.specs.Prelude.{Option, Some, None}
 use Rattle.std.proofs.lemmas.List.{take_more, take-append-drop}
 use Rattle.ghc_term.specs.Tree.{Tree, node, trees}
 use Rattle.ghc_term.specs.View.{height, height_of_all}
+use Rattle.ghc_term.proofs.Trees.{height_front}
 use Rattle.ghc_term.specs.InputTerm.{IsHead, IsInGrammar, AllInGrammar, nodes, nodes_of_all, deepest}
 use Rattle.ghc_term.specs.Measure.{HasRoom, Leaves, Enters, MeasuredAt, MeasuredAll, bytes_at, nesting_at, bytes_of_all, own_bytes, own_nesting}
 use Rattle.ghc_term.specs.declared.measure.Room.{Room}
@@ -74,11 +75,6 @@ module _ (p : Place) (f : List ℕ) (ts : List Tree) (t : Tree) (d : ℕ) (r : R
 height_last : (ts : List Tree) (t : Tree) → height t < height_of_all (trees (ts ++ t ∷ []))
 height_last [] t = omega arith
 height_last (u ∷ us) t = omega (arith, height_last us t)
-
--- the first arguments are no higher together
-pub height_front : (ts : List Tree) (t : Tree) → height_of_all (trees ts) ≤ height_of_all (trees (ts ++ t ∷ []))
-height_front [] t = omega arith
-height_front (u ∷ us) t = omega (arith, height_front us t)
 
 module _ (t : Tree) (d : ℕ) (r : Room) (p : Place) (u : Tree) (within : ℕ) (left : Room) (a : Along t d r p u within left) (f : List ℕ) (args front : List Tree) (last : Tree)
     (is : u ≡ node f (trees args)) (split : args ≡ front ++ last ∷ []) where
