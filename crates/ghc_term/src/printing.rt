@@ -129,6 +129,4 @@ pub fn push_goal_written(goal: &Goal, out: &mut String) -> Result<(), AllocError
 }
 
 #[cfg(test)]
-mod goal_tests;
-#[cfg(test)]
 mod tests;
