@@ -1,0 +1,125 @@
+-- Inputs, closes and arranges have an answer.
+use Rattle.std.proofs.Common.{◌≡◌, ℕ, ◌<◌, ◌≤◌, ◌⊎◌, true, false, cond, List, [], ◌∷◌, ◌++◌, map, length, refl, sym, ap, ◌∙◌, subst, inl, inr, arith, Some, None}
+use Rattle.std.specs.Prelude.{Option}
+use Rattle.std.specs.Ordering.{eq_by_cmp}
+use Rattle.std.specs.FinMap as finite
+use Rattle.std.specs.FinSet as set
+use Rattle.ghc_term.specs.declared.var_name.VarName.{VarName}
+use Rattle.ghc_term.specs.declared.goal_name.GoalName.{GoalName}
+use Rattle.ghc_term.specs.Tree.{Tree, variable, integer, node, cons, nil}
+use Rattle.ghc_term.specs.Goal.{Goal, call, unify, assign, stream}
+use Rattle.ghc_term.specs.Lists.{In}
+use Rattle.ghc_term.specs.Bindings.{Leads}
+use Rattle.ghc_term.specs.Store.{value_at}
+use Rattle.ghc_term.proofs.Total.{chain}
+use Rattle.ghc_unify.proofs.Ends.{left_end}
+use Rattle.ghc_term.specs.declared.fault.Fault.{Fault}
+use Rattle.ghc_fire.specs.Instance.{made}
+use Rattle.ghc_fire.specs.Effect.{Act, given, closed, Effect, HasEffect}
+use Rattle.ghc_term.specs.Tree.{IsClosed}
+use Rattle.ghc_fire.specs.Goals.{goal_cmp, Goals}
+use Rattle.ghc_records.specs.Numbers.{number_limit, kept_limit}
+use Rattle.ghc_records.specs.Record.{Record}
+use Rattle.ghc_records.proofs.Names.{same_goal}
+use Rattle.ghc_core.specs.World.{World, IsFull, HasRoom, with_step}
+use Rattle.ghc_core.specs.Events.{Reply, stepped, arranged, refused}
+use Rattle.ghc_core.specs.Reverses as by
+use Rattle.ghc_records.specs.Journal.{reordered}
+use Rattle.ghc_depend.proofs.Decided.{decided}
+use Rattle.ghc_core.specs.Streams as streams
+use Rattle.ghc_core.specs.Laws as laws
+use Rattle.ghc_core.proofs.Reaching.{reached}
+
+-- the goal is that of stream k, or not
+is_of : (k : ℕ) (o : Option Goal) → ((s : VarName) × (o ≡ Some (stream k s))) ⊎ ((s : VarName) → ¬ (o ≡ Some (stream k s)))
+is_of k None = inr (λ s e. cc)
+is_of k (Some (call f ts)) = inr (λ s e. cc)
+is_of k (Some (unify l r)) = inr (λ s e. cc)
+is_of k (Some (assign t b)) = inr (λ s e. cc)
+is_of k (Some (stream l s)) = elim (same l k) [
+  | inl e ↦ inl (s, ap (λ i. Some (stream i s)) e)
+  | inr n ↦ inr (λ u e. n (let p : l ≡ k = cc in p))
+]
+  where
+    same : (a b : ℕ) → (a ≡ b) ⊎ (¬ (a ≡ b))
+    same a b = elim (three a b) [ inl e ↦ inl e | inr (inl l) ↦ inr (λ e. omega arith) | inr (inr l) ↦ inr (λ e. omega arith) ]
+      where
+        three : (a b : ℕ) → (a ≡ b) ⊎ ((a < b) ⊎ (b < a))
+        three a b = grind arith
+
+-- among the names, one of a goal of stream k, or none
+search : (m : Goals) (k : ℕ) (names : List GoalName) → ((g : GoalName) × (s : VarName) × (finite.get m g ≡ Some (stream k s))) ⊎ ((g : GoalName) (s : VarName) → In g names → ¬ (finite.get m g ≡ Some (stream k s)))
+search m k [] = inr (λ g s i e. i)
+search m k (n ∷ names) = elim (is_of k (finite.get m n)) [
+  | inl p ↦ inl (n, p.0, p.1)
+  | inr p ↦ elim (search m k names) [
+    | inl q ↦ inl q
+    | inr q ↦ inr (λ g s i e. elim i [ inl same ↦ p s (subst (λ z. finite.get m z ≡ Some (stream k s)) same e) | inr j ↦ q g s j e ])
+  ]
+]
+
+found : (es : List (GoalName × Goal)) (g : GoalName) (b : Goal) → finite.find goal_cmp g es ≡ Some b → In g (map (λ e. e.0) es)
+found [] g b e = cc
+found (x ∷ es) g b e =
+    elim (eq_by_cmp goal_cmp g x.0) as (λ c. eq_by_cmp goal_cmp g x.0 ≡ c → cond c (Some x.1) (finite.find goal_cmp g es) ≡ Some b → In g (map (λ e. e.0) (x ∷ es))) [
+      | true ↦ λ p q. inl (same_goal g x.0 p)
+      | false ↦ λ p q. inr (found es g b q)
+    ] refl e
+
+room : (w : World) → HasRoom w ⊎ IsFull w
+room w = elim (less w.next number_limit) [
+  | inr f ↦ inr (inl f)
+  | inl r ↦ elim (less (length w.kept) kept_limit) [ inr f ↦ inr (inr f) | inl q ↦ inl (r, q) ]
+]
+  where
+    less : (a b : ℕ) → (a < b) ⊎ (b ≤ a)
+    less a b = grind arith
+
+-- an act on a stream
+abbrev OnStream : Act → Type 0
+OnStream act = ((t : Tree) × (act ≡ given t) × IsClosed t) ⊎ (act ≡ closed)
+
+effect_on : (w : World) (k : ℕ) (act : Act) (s x : VarName) (xs : List VarName) → OnStream act → Leads (value_at w.state.store) (variable s) xs (variable x)
+    → (e : Effect) × HasEffect w.opening.program (stream k s) act w.next (value_at w.state.store) e
+effect_on w k act s x xs (inl p) l =
+    let c = left_end l in
+    let e : Effect = record { reads = set.from_list c.0; binds = finite.insert finite.empty x (cons p.0 (variable (made w.next 1))); makes = stream k (made w.next 1) ∷ []; fresh = 1 } in
+    (e, subst (λ a. HasEffect w.opening.program (stream k s) a w.next (value_at w.state.store) e) (sym p.1) (x, p.2, (c.0, c.2, c.3, refl), refl, refl, refl))
+effect_on w k act s x xs (inr p) l =
+    let c = left_end l in
+    let e : Effect = record { reads = set.from_list c.0; binds = finite.insert finite.empty x nil; makes = []; fresh = 0 } in
+    (e, subst (λ a. HasEffect w.opening.program (stream k s) a w.next (value_at w.state.store) e) (sym p) (x, (c.0, c.2, c.3, refl), refl, refl, refl))
+
+abbrev Answered : World → ℕ → Act → Type 0
+Answered w k act = (reply : Reply) × (v : World) × streams.ActsOnStream ⊥ w k act reply v
+
+by_end : (w : World) (k : ℕ) (act : Act) (g : GoalName) (s : VarName) (xs : List VarName) (e : Tree) → OnStream act → streams.IsStreamAt w k g s → Leads (value_at w.state.store) (variable s) xs e → Answered w k act
+by_end w k act g s xs (variable x) a at l = elim (room w) [
+  | inr full ↦ (refused Fault.Full, w, streams.ActsOnStream.fails (streams.StreamFails.full g s x at (xs, l) full))
+  | inl r ↦
+      let f = effect_on w k act s x xs a l in
+      let step : Record = record { number = w.next; goal = Some g; consumed = Some (stream k s); act = act; effect = f.0 } in
+      (stepped w.next, with_step step w, streams.ActsOnStream.takes step (g, s, refl, refl, refl, (refl, ((stream k s, refl, at), f.1), r)))
+]
+by_end w k act g s xs (integer j) a at l = (refused Fault.TailBound, w, streams.ActsOnStream.fails (streams.StreamFails.tail_bound g s (integer j) at (xs, l) tt))
+by_end w k act g s xs (node f us) a at l = (refused Fault.TailBound, w, streams.ActsOnStream.fails (streams.StreamFails.tail_bound g s (node f us) at (xs, l) tt))
+
+answered : (w : World) → laws.IsInOrder w → (k : ℕ) (act : Act) → OnStream act → Answered w k act
+answered w ordered k act a = elim (search w.state.goals k (map (λ e. e.0) (finite.entries w.state.goals))) [
+  | inl p ↦
+      let c = chain (finite.len w.state.store) w.state.store (omega arith) ordered.acyclic (variable p.1) in
+      by_end w k act p.0 p.1 c.passed c.«end» a p.2 c.leads
+  | inr n ↦ (refused Fault.NoStream, w, streams.ActsOnStream.fails (streams.StreamFails.no_stream (λ g s at. n g s (found (finite.entries w.state.goals) g (stream k s) (sym (finite.get-entries w.state.goals g) ∙ at)) at)))
+]
+
+pub inputs_answered : laws.InputsHaveAnAnswer
+inputs_answered w hands k t r c = answered w (reached w hands r) k (given t) (inl (t, refl, c))
+
+pub closes_answered : laws.ClosesHaveAnAnswer
+closes_answered w hands k r = answered w (reached w hands r) k closed (inr refl)
+
+pub arranges_answered : laws.ArrangesHaveAnAnswer
+arranges_answered w hands order r = elim (decided w.kept order (reached w hands r).kept_once) [
+  | inl p ↦ (arranged, record w { kept = p.1.0; journal = w.journal ++ reordered order ∷ [] }, by.Arranges.puts p.1.0 p.0 p.1.1)
+  | inr f ↦ (refused (Fault.NotLawful f.0 f.1), w, by.Arranges.fails f.2)
+]

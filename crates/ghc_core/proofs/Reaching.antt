@@ -1,0 +1,290 @@
+-- A reachable world is in order.
+use Rattle.std.proofs.Common.{◌≡◌, ◌≢◌, ℕ, ◌+◌, ◌<◌, ◌≤◌, ◌⊎◌, true, false, cond, List, [], ◌∷◌, ◌++◌, refl, sym, ap, ◌∙◌, subst, inl, inr, arith, Some, None}
+use Rattle.std.specs.Ordering.{eq_by_cmp, is_eq, nat_cmp}
+use Rattle.std.specs.Cmp.{nat_cmp_total, tied_itself, ranked}
+use Rattle.std.specs.declared.cmp.Ordering.{Ordering}
+use Rattle.std.specs.declared.cmp.Ordering.TheVariants.{Less, Equal, Greater}
+use Rattle.std.specs.FinMap as finite
+use Rattle.ghc_term.specs.Lists.{In}
+use Rattle.ghc_term.specs.Bindings.{IsAcyclic}
+use Rattle.ghc_term.specs.Store.{value_at}
+use Rattle.ghc_flat.specs.Flat.{IsProgram, IsQuery}
+use Rattle.ghc_fire.specs.Instance.{made}
+use Rattle.ghc_fire.specs.Effect.{Act, given, closed}
+use Rattle.ghc_records.specs.Orders.{Picks, nothing, take, leave, AreDistinct}
+use Rattle.ghc_records.specs.Record.{State, Record, numbers, Shelf, after, Fires}
+use Rattle.ghc_records.specs.Replay.{query_state, IsVariableOf}
+use Rattle.ghc_records.specs.Journal.{Entry}
+use Rattle.ghc_records.proofs.OrderLemmas.{in_left, in_right, in_either, number_in, number_of, record_once}
+use Rattle.ghc_records.proofs.Effects.{HasOnly, has_more, after_has, after_acyclic}
+use Rattle.ghc_records.proofs.Replaying.{of_query, replay_well}
+use Rattle.ghc_records.proofs.StreamLemmas.{OneEach, after_one_each, run_one_each, query_one_each}
+use Rattle.ghc_depend.specs.Kept.{with_shelved}
+use Rattle.ghc_depend.specs.Depend.{GoesWith}
+use Rattle.ghc_depend.specs.Lawful.{IsLawful, IsInOrder}
+use Rattle.ghc_core.specs.World.{Hands, World, IsReplay, IsNextStep, with_step, Opens}
+use Rattle.ghc_core.specs.Events.{Command, input, finish, undo, roll, redo, arrange, Reply}
+use Rattle.ghc_core.specs.Proposes as asking
+use Rattle.ghc_core.specs.Streams as streams
+use Rattle.ghc_core.specs.Reverses as by
+use Rattle.ghc_core.specs.Answers.{Obeys, Answers, to_propose, to_commit, to_note, to_command}
+use Rattle.ghc_core.specs.Legal.{IsSound, IsReachable, at_opening, by_event}
+use Rattle.ghc_core.specs.Laws as laws
+
+-- what is known of a shelved step
+abbrev OnShelf : World → ℕ → Record → Type 0
+OnShelf w n r = (r.number ≡ n) × (1 ≤ n) × (n < w.next) × (¬ In n (numbers w.kept))
+
+-- what holds of each reachable world
+record Good (w : World) : Type 0 where
+  accepted : IsProgram w.opening.program
+  asked : IsQuery w.opening.program w.opening.query
+  kept_once : AreDistinct (numbers w.kept)
+  positive : (r : Record) → In r w.kept → 1 ≤ r.number
+  below : (r : Record) → In r w.kept → r.number < w.next
+  shelf : (n : ℕ) (r : Record) → finite.get w.shelf n ≡ Some r → OnShelf w n r
+  first : 1 ≤ w.next
+  acyclic : IsAcyclic (value_at w.state.store)
+  has : HasOnly (IsVariableOf w.opening.query w.kept) w.state
+  one : OneEach w.state
+
+distinct_push : (rs : List Record) (r : Record) → AreDistinct (numbers rs) → ¬ In r.number (numbers rs) → AreDistinct (numbers (rs ++ r ∷ []))
+distinct_push [] r d n = ((λ i. i), tt)
+distinct_push (s ∷ rs) r d n = (
+  (λ i.
+      let q = number_of (rs ++ r ∷ []) s.number i in
+      elim (in_either rs (r ∷ []) q.0 q.1) [
+        | inl j ↦ d.0 (subst (λ m. In m (numbers rs)) q.2 (number_in rs q.0 j))
+        | inr (inl e) ↦ n (inl (ap (λ (x : Record). x.number) (sym e) ∙ q.2))
+        | inr (inr j) ↦ absurd j
+      ]),
+  distinct_push rs r d.1 (λ i. n (inr i)),
+)
+
+-- a number of the record with one more
+pushed : (rs : List Record) (r : Record) (n : ℕ) → In n (numbers (rs ++ r ∷ [])) → In n (numbers rs) ⊎ (n ≡ r.number)
+pushed rs r n i =
+    let q = number_of (rs ++ r ∷ []) n i in
+    elim (in_either rs (r ∷ []) q.0 q.1) [
+      | inl j ↦ inl (subst (λ m. In m (numbers rs)) q.2 (number_in rs q.0 j))
+      | inr (inl e) ↦ inr (sym q.2 ∙ ap (λ (x : Record). x.number) e)
+      | inr (inr j) ↦ absurd j
+    ]
+
+picks_in : {P : Record → Type 0} (xs ys : List Record) (y : Record) → Picks P xs ys → In y ys → In y xs × P y
+picks_in [] ys y nothing i = absurd i
+picks_in {P} (x ∷ xs) ys y (take p k) (inl e) = (inl e, subst P (sym e) p)
+picks_in (x ∷ xs) ys y (take p k) (inr i) = let q = picks_in xs _ y k i in (inr q.0, q.1)
+picks_in (x ∷ xs) ys y (leave p k) i = let q = picks_in xs _ y k i in (inr q.0, q.1)
+
+tied : (r : Ordering) → is_eq r ≡ true → r ≡ Equal
+tied Less e = cc
+tied Equal e = refl
+tied Greater e = cc
+
+same_number : (m n : ℕ) → eq_by_cmp nat_cmp m n ≡ true → m ≡ n
+same_number m n e = ranked m n Equal (sym (tied (nat_cmp m n) e))
+
+shelved : (gone : List Record) (shelf : Shelf) (n : ℕ) (r : Record) → finite.get (with_shelved gone shelf) n ≡ Some r → (In r gone × (r.number ≡ n)) ⊎ (finite.get shelf n ≡ Some r)
+shelved [] shelf n r e = inr e
+shelved (s ∷ gone) shelf n r e =
+    elim (eq_by_cmp nat_cmp n s.number) as (λ b. eq_by_cmp nat_cmp n s.number ≡ b → cond b (Some s) (finite.get (with_shelved gone shelf) n) ≡ Some r → (In r (s ∷ gone) × (r.number ≡ n)) ⊎ (finite.get shelf n ≡ Some r)) [
+      | true ↦ λ p q. let same : s ≡ r = cc in inl (inl (sym same), ap (λ (x : Record). x.number) (sym same) ∙ sym (same_number n s.number p))
+      | false ↦ λ p q. elim (shelved gone shelf n r q) [ inl a ↦ inl (inr a.0, a.1) | inr a ↦ inr a ]
+    ] refl (sym (finite.get-insert nat_cmp_total (with_shelved gone shelf) s.number s n) ∙ e)
+
+unshelved : (shelf : Shelf) (n m : ℕ) (r : Record) → finite.get (finite.remove shelf n) m ≡ Some r → (finite.get shelf m ≡ Some r) × (m ≢ n)
+unshelved shelf n m r e =
+    elim (eq_by_cmp nat_cmp m n) as (λ b. eq_by_cmp nat_cmp m n ≡ b → cond b None (finite.get shelf m) ≡ Some r → (finite.get shelf m ≡ Some r) × (m ≢ n)) [
+      | true ↦ λ p q. cc
+      | false ↦ λ p q. (q, λ same. let clash : false ≡ true = sym p ∙ subst (λ z. eq_by_cmp nat_cmp m z ≡ true) same (ap is_eq (tied_itself nat_cmp_total m)) in cc)
+    ] refl (sym (finite.get-remove nat_cmp_total shelf n m) ∙ e)
+
+module _ (w : World) (good : Good w) where
+  -- a step more at the end of the record
+  module _ (r : Record) (fires : Fires w.opening.program w.state r) (positive : 1 ≤ r.number) (new : ¬ In r.number (numbers w.kept)) where
+    push_acyclic : IsAcyclic (value_at (after w.state r).store)
+    push_acyclic = after_acyclic w.opening.program w.state r fires (IsVariableOf w.opening.query w.kept) good.acyclic good.has (λ i known. elim known [
+      | inl q ↦ let n : r.number ≡ 0 = of_query w.opening.program w.opening.query (made r.number i) good.asked q in omega arith
+      | inr q ↦ new (subst (λ n. In n (numbers w.kept)) (sym q.2.0) (number_in w.kept q.0 q.1))
+    ])
+
+    push_has : HasOnly (IsVariableOf w.opening.query (w.kept ++ r ∷ [])) (after w.state r)
+    push_has = after_has w.opening.program w.state r fires (IsVariableOf w.opening.query (w.kept ++ r ∷ [])) good.accepted good.acyclic
+        (has_more (IsVariableOf w.opening.query w.kept) (IsVariableOf w.opening.query (w.kept ++ r ∷ [])) w.state (λ x known. elim known [
+          | inl i ↦ inl i
+          | inr q ↦ inr (q.0, in_left w.kept (r ∷ []) q.0 q.1, q.2)
+        ]) good.has)
+        (λ y m. inr (r, in_right w.kept (r ∷ []) r (inl refl), m))
+
+    push_one : OneEach (after w.state r)
+    push_one = after_one_each w.opening.program good.accepted w.state r fires good.one
+
+    push_positive : (s : Record) → In s (w.kept ++ r ∷ []) → 1 ≤ s.number
+    push_positive s i = elim (in_either w.kept (r ∷ []) s i) [
+      | inl j ↦ good.positive s j
+      | inr (inl e) ↦ subst (λ (x : Record). 1 ≤ x.number) (sym e) positive
+      | inr (inr j) ↦ absurd j
+    ]
+
+    push_below : (n : ℕ) → w.next ≤ n → r.number < n → (s : Record) → In s (w.kept ++ r ∷ []) → s.number < n
+    push_below n le less s i = elim (in_either w.kept (r ∷ []) s i) [
+      | inl j ↦ let b = good.below s j in omega arith
+      | inr (inl e) ↦ subst (λ (x : Record). x.number < n) (sym e) less
+      | inr (inr j) ↦ absurd j
+    ]
+
+  not_kept_next : ¬ In w.next (numbers w.kept)
+  not_kept_next i = let q = number_of w.kept w.next i in let b = good.below q.0 q.1 in omega (arith, q.2)
+
+  step_good : (r : Record) → IsNextStep w r → Good (with_step r w)
+  step_good r n =
+      let new : ¬ In r.number (numbers w.kept) = λ i. not_kept_next (subst (λ m. In m (numbers w.kept)) n.0 i) in
+      let positive : 1 ≤ r.number = subst (λ m. 1 ≤ m) (sym n.0) good.first in
+      record {
+        accepted = good.accepted;
+        asked = good.asked;
+        kept_once = distinct_push w.kept r good.kept_once new;
+        positive = push_positive r n.1 positive new;
+        below = push_below r n.1 positive new (w.next + 1) (omega arith) (omega (arith, n.0));
+        shelf = λ m s e. let o = good.shelf m s e in (o.0, o.1, omega (arith, o.2), λ i. elim (pushed w.kept r m i) [ inl j ↦ o.3 j | inr same ↦ let less = o.2 in let number = n.0 in omega arith ]);
+        first = omega arith;
+        acyclic = push_acyclic r n.1 positive new;
+        has = push_has r n.1 positive new;
+        one = push_one r n.1 positive new;
+      }
+
+  redone_good : (n : ℕ) (r : Record) → finite.get w.shelf n ≡ Some r → Fires w.opening.program w.state r → Good (by.with_redone r n w)
+  redone_good n r e fires =
+      let on = good.shelf n r e in
+      let new : ¬ In r.number (numbers w.kept) = λ i. on.3 (subst (λ m. In m (numbers w.kept)) on.0 i) in
+      let positive : 1 ≤ r.number = subst (λ m. 1 ≤ m) (sym on.0) on.1 in
+      record {
+        accepted = good.accepted;
+        asked = good.asked;
+        kept_once = distinct_push w.kept r good.kept_once new;
+        positive = push_positive r fires positive new;
+        below = push_below r fires positive new w.next (omega arith) (subst (λ m. m < w.next) (sym on.0) on.2);
+        shelf = λ m s k. let u = unshelved w.shelf n m s k in let o = good.shelf m s u.0 in (o.0, o.1, o.2, λ i. elim (pushed w.kept r m i) [ inl j ↦ o.3 j | inr same ↦ u.1 (same ∙ on.0) ]);
+        first = good.first;
+        acyclic = push_acyclic r fires positive new;
+        has = push_has r fires positive new;
+        one = push_one r fires positive new;
+      }
+
+  without_good : (gone left : List Record) (t : State) (entry : Entry) → ((s : Record) → In s gone → In s w.kept) → ((s : Record) → In s left → In s w.kept) → ((s u : Record) → In s gone → In u left → ¬ (s ≡ u))
+      → IsReplay w left t → Good (by.without_steps gone left t entry w)
+  without_good gone left t entry of_gone of_left apart replay =
+      let well = replay_well w.opening.program w.opening.query left t good.accepted good.asked replay in
+      record {
+        accepted = good.accepted;
+        asked = good.asked;
+        kept_once = replay.0.1;
+        positive = λ r i. (replay.0.0 r i).0;
+        below = λ r i. good.below r (of_left r i);
+        shelf = λ n r e. elim (shelved gone w.shelf n r e) [
+          | inl g ↦ (
+            g.1,
+            subst (λ m. 1 ≤ m) g.1 (good.positive r (of_gone r g.0)),
+            subst (λ m. m < w.next) g.1 (good.below r (of_gone r g.0)),
+            λ i. let q = number_of left n i in apart r q.0 g.0 q.1 (record_once w.kept r q.0 good.kept_once (of_gone r g.0) (of_left q.0 q.1) (g.1 ∙ sym q.2)),
+          )
+          | inr k ↦ let o = good.shelf n r k in (o.0, o.1, o.2, λ i. let q = number_of left n i in o.3 (subst (λ m. In m (numbers w.kept)) q.2 (number_in w.kept q.0 (of_left q.0 q.1))))
+        ];
+        first = good.first;
+        acyclic = well.acyclic;
+        has = record { keys = well.bound; values = λ x u p y o. well.values x y u p o; goals = well.goals };
+        one = run_one_each w.opening.program good.accepted left (query_state w.opening.query) t replay.1 (query_one_each w.opening.program w.opening.query good.asked);
+      }
+
+  arranged_good : (order : List ℕ) (new : List Record) (journal : List Entry) → IsLawful w.kept order → IsInOrder w.kept order new → Good (record w { kept = new; journal = journal })
+  arranged_good order new journal lawful o = record {
+    accepted = good.accepted;
+    asked = good.asked;
+    kept_once = subst AreDistinct (sym o.0) lawful.0.0.1;
+    positive = λ r i. good.positive r ((o.1 r).0 i);
+    below = λ r i. good.below r ((o.1 r).0 i);
+    shelf = λ n r e. let s = good.shelf n r e in (s.0, s.1, s.2, λ i. let q = number_of new n i in s.3 (subst (λ m. In m (numbers w.kept)) q.2 (number_in w.kept q.0 ((o.1 q.0).0 q.1))));
+    first = good.first;
+    acyclic = good.acyclic;
+    has = has_more (IsVariableOf w.opening.query w.kept) (IsVariableOf w.opening.query new) w.state (λ x known. elim known [ inl i ↦ inl i | inr q ↦ inr (q.0, (o.1 q.0).1 q.1, q.2) ]) good.has;
+    one = good.one;
+  }
+
+  acted_good : (k : ℕ) (act : Act) (reply : Reply) (v : World) → streams.ActsOnStream (Unit {0}) w k act reply v → Good v
+  acted_good k act reply v (streams.ActsOnStream.takes r t) = step_good r t.5
+  acted_good k act reply v (streams.ActsOnStream.fails f) = good
+  acted_good k act reply v (streams.ActsOnStream.no_memory f) = good
+
+  undone_good : (n : ℕ) (reply : Reply) (v : World) → by.Undoes (Unit {0}) w n reply v → Good v
+  undone_good n reply v (by.Undoes.takes_away r left t k none out run) =
+      without_good (r ∷ []) left t _ (λ s i. elim i [ inl e ↦ subst (λ x. In x w.kept) (sym e) k.0 | inr j ↦ absurd j ]) (λ s i. (picks_in w.kept left s out i).0)
+      (λ s u i j same. elim i [ inl e ↦ (picks_in w.kept left u out j).1 (sym same ∙ e) | inr a ↦ a ]) run
+  undone_good n reply v (by.Undoes.fails f) = good
+  undone_good n reply v (by.Undoes.no_memory f) = good
+
+  rolled_good : (n : ℕ) (reply : Reply) (v : World) → by.Rolls (Unit {0}) w n reply v → Good v
+  rolled_good n reply v (by.Rolls.takes_away r gone left t k split run) =
+      without_good gone left t _ (λ s i. (picks_in w.kept gone s split.0 i).0) (λ s i. (picks_in w.kept left s split.1 i).0)
+      (λ s u i j same. (picks_in w.kept left u split.1 j).1 (subst (GoesWith w.kept r) same (picks_in w.kept gone s split.0 i).1)) run
+  rolled_good n reply v (by.Rolls.not_kept f) = good
+  rolled_good n reply v (by.Rolls.no_memory f) = good
+
+  redo_good : (n : ℕ) (reply : Reply) (v : World) → by.Redoes (Unit {0}) w n reply v → Good v
+  redo_good n reply v (by.Redoes.puts_back r e f l) = redone_good n r e f
+  redo_good n reply v (by.Redoes.fails f) = good
+  redo_good n reply v (by.Redoes.no_memory f) = good
+
+  arrange_good : (order : List ℕ) (reply : Reply) (v : World) → by.Arranges (Unit {0}) w order reply v → Good v
+  arrange_good order reply v (by.Arranges.puts new l o) = arranged_good order new _ l o
+  arrange_good order reply v (by.Arranges.fails f) = good
+  arrange_good order reply v (by.Arranges.no_memory f) = good
+
+  obeyed_good : (c : Command) (reply : Reply) (v : World) → Obeys (Unit {0}) w c reply v → Good v
+  obeyed_good (input k t) reply v p = acted_good k (given t) reply v p
+  obeyed_good (finish k) reply v p = acted_good k closed reply v p
+  obeyed_good (undo n) reply v p = undone_good n reply v p
+  obeyed_good (roll n) reply v p = rolled_good n reply v p
+  obeyed_good (redo n) reply v p = redo_good n reply v p
+  obeyed_good (arrange order) reply v p = arrange_good order reply v p
+
+  committed_good : (hands : Hands) (h : ℕ) (left : Hands) (reply : Reply) (v : World) → asking.Commits (Unit {0}) w hands h reply v left → Good v
+  committed_good hands h left reply v (asking.Commits.takes p r i e c) = step_good r c.1
+  committed_good hands h left reply v (asking.Commits.no_hand i) = good
+  committed_good hands h left reply v (asking.Commits.empty i e) = good
+  committed_good hands h left reply v (asking.Commits.fails p i e f) = good
+  committed_good hands h left reply v (asking.Commits.no_memory i) = good
+
+  answered_good : (hands left : Hands) (e : _) (reply : Reply) (v : World) → Answers (Unit {0}) w hands e reply v left → Good v
+  answered_good hands left e reply v (to_propose p) = good
+  answered_good hands left e reply v (to_commit p) = committed_good hands _ left reply v p
+  answered_good hands left e reply v (to_note p) = good
+  answered_good hands left e reply v (to_command p) = obeyed_good _ reply v p
+
+opened_good : {w : World} {o : _} → IsSound o → Opens o w → Good w
+opened_good {w} sound opens =
+    let accepted : IsProgram w.opening.program = subst (λ p. IsProgram p.program) (sym opens.opening) sound.0 in
+    let asked : IsQuery w.opening.program w.opening.query = subst (λ p. IsQuery p.program p.query) (sym opens.opening) sound.1 in
+    let well = replay_well w.opening.program w.opening.query w.kept w.state accepted asked opens.state in
+    record {
+      accepted = accepted;
+      asked = asked;
+      kept_once = opens.state.0.1;
+      positive = λ r i. (opens.state.0.0 r i).0;
+      below = λ r i. subst (λ n. r.number < n) (sym opens.next) (opens.below r i);
+      shelf = λ n r e. absurd (let clash : None ≡ Some r = sym (finite.get-empty nat_cmp n) ∙ ap (λ m. finite.get m n) (sym opens.shelf) ∙ e in cc);
+      first = subst (λ n. 1 ≤ n) (sym opens.next) opens.numbered.0;
+      acyclic = well.acyclic;
+      has = record { keys = well.bound; values = λ x u p y o. well.values x y u p o; goals = well.goals };
+      one = run_one_each w.opening.program accepted w.kept (query_state w.opening.query) w.state opens.state.1 (query_one_each w.opening.program w.opening.query asked);
+    }
+
+reached_good : {w : World} {hands : Hands} → IsReachable w hands → Good w
+reached_good (at_opening sound opens empty) = opened_good sound opens
+reached_good (by_event {w = w} {v = v} {hands = hands} {left = left} e reply r proper a) = answered_good w (reached_good r) hands left e reply v a
+
+pub reached : laws.ReachableIsInOrder
+reached w hands r = let g = reached_good r in record { kept_once = g.kept_once; acyclic = g.acyclic; streams_once = λ k n m s u p q. g.one k n m s u p q }
+
+pub known : laws.ReachableIsWellMade
+known w hands r = let g = reached_good r in record { acyclic = g.acyclic; goals = g.has.goals; bound = g.has.keys; values = λ x y u p o. g.has.values x u p y o }

@@ -1,0 +1,55 @@
+-- Laws of worlds and events.
+use Rattle.std.specs.Prelude.{◌≡◌, ℕ, List}
+use Rattle.ghc_term.specs.declared.var_name.VarName.{VarName}
+use Rattle.ghc_term.specs.declared.goal_name.GoalName.{GoalName}
+use Rattle.ghc_term.specs.Bindings.{IsAcyclic}
+use Rattle.ghc_term.specs.Store.{value_at}
+use Rattle.ghc_term.specs.Tree.{Tree}
+use Rattle.ghc_term.specs.Tree.{IsClosed}
+use Rattle.ghc_records.specs.Orders.{AreDistinct}
+use Rattle.ghc_records.specs.Record.{numbers}
+use Rattle.ghc_records.specs.Laws.{IsWellMade}
+use Rattle.ghc_core.specs.World.{Hands, World}
+use Rattle.ghc_core.specs.Events.{Event, Reply}
+use Rattle.ghc_core.specs.Streams.{IsStreamAt, Inputs, Closes}
+use Rattle.ghc_core.specs.Reverses.{Arranges}
+use Rattle.ghc_core.specs.Answers.{Answers}
+use Rattle.ghc_core.specs.Legal.{IsReachable}
+
+-- The world is in order: no number is kept twice, the store is acyclic, and each stream has one goal at most.
+pub record IsInOrder (w : World) : Type 0 where
+  pub kept_once : AreDistinct (numbers w.kept)
+  pub acyclic : IsAcyclic (value_at w.state.store)
+  pub streams_once : (k : ℕ) (g h : GoalName) (s u : VarName) → IsStreamAt w k g s → IsStreamAt w k h u → g ≡ h
+
+-- A reachable world is in order.
+abbrev pub ReachableIsInOrder : Type 0
+ReachableIsInOrder = (w : World) (hands : Hands) → IsReachable w hands → IsInOrder w
+
+-- In a reachable world the store is acyclic, and each variable of goals and store is the query's or made by a kept step.
+abbrev pub ReachableIsWellMade : Type 0
+ReachableIsWellMade = (w : World) (hands : Hands) → IsReachable w hands → IsWellMade w.opening.query w.kept w.state
+
+-- In a world in order each event has one answer at most, want of memory apart.
+abbrev pub OrderedHasOneAnswer : Type 0
+OrderedHasOneAnswer =
+    (w u v : World) (hands left other : Hands) (e : Event) (reply said : Reply) → IsInOrder w
+    → Answers ⊥ w hands e reply u left → Answers ⊥ w hands e said v other → (reply ≡ said) × (u ≡ v) × (left ≡ other)
+
+-- In a reachable world each event has one answer at most, want of memory apart.
+abbrev pub EventsHaveOneAnswer : Type 0
+EventsHaveOneAnswer =
+    (w u v : World) (hands left other : Hands) (e : Event) (reply said : Reply) → IsReachable w hands
+    → Answers ⊥ w hands e reply u left → Answers ⊥ w hands e said v other → (reply ≡ said) × (u ≡ v) × (left ≡ other)
+
+-- In a reachable world an input of a closed term has an answer other than want of memory.
+abbrev pub InputsHaveAnAnswer : Type 0
+InputsHaveAnAnswer = (w : World) (hands : Hands) (k : ℕ) (t : Tree) → IsReachable w hands → IsClosed t → (reply : Reply) × (v : World) × Inputs ⊥ w k t reply v
+
+-- In a reachable world a close has an answer other than want of memory.
+abbrev pub ClosesHaveAnAnswer : Type 0
+ClosesHaveAnAnswer = (w : World) (hands : Hands) (k : ℕ) → IsReachable w hands → (reply : Reply) × (v : World) × Closes ⊥ w k reply v
+
+-- In a reachable world an arrange has an answer other than want of memory.
+abbrev pub ArrangesHaveAnAnswer : Type 0
+ArrangesHaveAnAnswer = (w : World) (hands : Hands) (order : List ℕ) → IsReachable w hands → (reply : Reply) × (v : World) × Arranges ⊥ w order reply v

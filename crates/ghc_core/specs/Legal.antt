@@ -1,0 +1,71 @@
+-- Legal histories, receipts, fronts and reachable worlds.
+use Rattle.std.specs.Prelude.{◌≡◌, ℕ, ◌+◌, List, [], ◌∷◌, ◌++◌}
+use Rattle.std.specs.FinMap as finite
+use Rattle.ghc_flat.specs.Flat.{IsProgram, IsQuery}
+use Rattle.ghc_term.specs.Tree.{IsClosed}
+use Rattle.ghc_records.specs.Record.{numbers}
+use Rattle.ghc_records.specs.Journal.{Opening, Entry, Item, opened, entered, history, opening_journal}
+use Rattle.ghc_core.specs.World.{Hands, World, Opens}
+use Rattle.ghc_core.specs.Events.{input, Event, command, Reply}
+use Rattle.ghc_core.specs.Answers.{Answers}
+
+-- In the world w some event gets this reply, with memory enough, and adds this entry to the journal; that leaves the world v.
+abbrev pub Enters : World → Entry → Reply → World → Type 0
+Enters w entry reply v =
+    (hands left : Hands) × (e : Event) × Answers ⊥ w hands e reply v left × (v.journal ≡ w.journal ++ entry ∷ [])
+
+-- Leaves items w: the list is a legal history, from its opening on, and leaves the world w.
+pub data Leaves : List Item → World → Type 0 where
+  the_opening : {o : Opening} {w : World} → Opens o w → Leaves (history o (opening_journal o)) w
+  and_entry : {items : List Item} {w v : World} (entry : Entry) (reply : Reply) → Leaves items w → Enters w entry reply v → Leaves (items ++ entered entry ∷ []) v
+
+-- The list is a legal history.
+abbrev pub IsLegal : List Item → Type 0
+IsLegal items = (w : World) × Leaves items w
+
+-- the number of entries of the list
+abbrev pub entry_count : List Item → ℕ
+entry_count [] = 0
+entry_count (opened _ ∷ items) = entry_count items
+entry_count (entered _ ∷ items) = 1 + entry_count items
+
+-- A receipt is the reply to a call, and its place: the number of entries in front of the call.
+pub record Receipt : Type 0 where
+  pub place : ℕ
+  pub reply : Reply
+
+-- The front, a legal history, begins the list, and this many entries are in it.
+abbrev pub IsFrontAt : List Item → ℕ → List Item → World → Type 0
+IsFrontAt items place front w = (behind : List Item) × (items ≡ front ++ behind) × (entry_count front ≡ place) × Leaves front w
+
+-- IsReceipt Starved items hands e receipt: the event e, with these hands, has this receipt in the history of the items.
+pub data IsReceipt (Starved : Type 0) (items : List Item) (hands : Hands) (e : Event) (receipt : Receipt) : Type 0 where
+  -- what was accepted is the entry at its place, and its reply is the definition's there
+  accepted : (front : List Item) (entry : Entry) (w v : World) (left : Hands) → IsFrontAt items receipt.place front w
+      → Answers ⊥ w hands e receipt.reply v left → v.journal ≡ w.journal ++ entry ∷ [] → IsFrontAt items (receipt.place + 1) (front ++ entered entry ∷ []) v
+      → IsReceipt Starved items hands e receipt
+  -- what left no entry has the definition's reply after the entries in front of it
+  told : (front : List Item) (w v : World) (left : Hands) → IsFrontAt items receipt.place front w
+      → Answers Starved w hands e receipt.reply v left → v.journal ≡ w.journal → IsReceipt Starved items hands e receipt
+
+-- One front begins the other.
+abbrev pub Begins : List Item → List Item → Type 0
+Begins front longer = (more : List Item) × (longer ≡ front ++ more)
+
+-- The opening's program and query are accepted.
+abbrev pub IsSound : Opening → Type 0
+IsSound o = IsProgram o.program × IsQuery o.program o.query
+
+-- An input term is closed; nothing else is asked of an event.
+abbrev pub IsProper : Event → Type 0
+IsProper (command (input k t)) = IsClosed t
+IsProper _ = Unit {0}
+
+-- A world and its hands are reachable: from the opening of an accepted program and query, with empty hands, by proper events, whether or not memory was refused.
+pub data IsReachable : World → Hands → Type 0 where
+  at_opening : {o : Opening} {w : World} {hands : Hands} → IsSound o → Opens o w → hands.held ≡ finite.empty → IsReachable w hands
+  by_event : {w v : World} {hands left : Hands} (e : Event) (reply : Reply) → IsReachable w hands → IsProper e → Answers (Unit {0}) w hands e reply v left → IsReachable v left
+
+-- What a look at a front shows: how many entries it has, and the kept numbers after them.
+abbrev pub Shows : List Item → ℕ → List ℕ → Type 0
+Shows front length kept = (w : World) × Leaves front w × (length ≡ entry_count front) × (kept ≡ numbers w.kept)

@@ -1,0 +1,9 @@
+pub mod World
+pub mod Events
+pub mod Proposes
+pub mod Streams
+pub mod Reverses
+pub mod Answers
+pub mod Legal
+pub mod Laws
+pub mod Facts

@@ -1,0 +1,70 @@
+-- Proposing, committing and noting. In all events, Starved says that memory was refused in this call.
+use Rattle.std.specs.Prelude.{◌≡◌, ◌⊎◌, true, false, ℕ, Option, Some, None}
+use Rattle.std.specs.FinMap as finite
+use Rattle.ghc_term.specs.declared.goal_name.GoalName.{GoalName}
+use Rattle.ghc_term.specs.Goal.{Goal}
+use Rattle.ghc_term.specs.Store.{value_at}
+use Rattle.ghc_flat.specs.Flat.{is_stream}
+use Rattle.ghc_term.specs.declared.fault.Fault.{Fault}
+use Rattle.ghc_fire.specs.Effect.{Act, by_clause, unified, assigned, given, closed, Effect, HasEffect, no_step}
+use Rattle.ghc_fire.specs.Attempt as attempt
+use Rattle.ghc_records.specs.Record.{Record}
+use Rattle.ghc_hooks.specs.Status.{Status, HasStatus}
+use Rattle.ghc_core.specs.World.{Proposal, Hands, IsHand, with_hand, emptied, World, IsFull, IsNextStep, with_step}
+use Rattle.ghc_core.specs.Events.{Reply, held, stepped, noted, refused}
+
+-- An attempt at the goal named g answers a, in the present state.
+abbrev pub AttemptAnswers : World → GoalName → Option ℕ → attempt.Answer → Type 0
+AttemptAnswers w g choice a = attempt.Attempts w.opening.program (value_at w.state.store) (finite.get w.state.goals g) choice a
+
+-- Proposes Starved w hands h g choice reply left: hand h asks for a step of the goal named g, and the hands left differ in hand h alone.
+pub data Proposes (Starved : Type 0) (w : World) (hands : Hands) (h : ℕ) (g : GoalName) (choice : Option ℕ) : Reply → Hands → Type 0 where
+  holds : (b : Goal) (act : Act) (e : Effect) → IsHand hands h → finite.get w.state.goals g ≡ Some b → AttemptAnswers w g choice (attempt.proposes act e)
+      → Proposes Starved w hands h g choice (held h) (with_hand h (record { goal = g; consumed = b; act = act; effect = e }) hands)
+  no_hand : ¬ IsHand hands h → Proposes Starved w hands h g choice (refused Fault.Command) hands
+  fails : {f : Fault} → IsHand hands h → AttemptAnswers w g choice (attempt.refused f) → Proposes Starved w hands h g choice (refused f) hands
+  no_memory : Starved → Proposes Starved w hands h g choice (refused Fault.Memory) hands
+
+-- The act is one of a proposal.
+abbrev pub IsReduction : Act → Type 0
+IsReduction (by_clause _) = Unit {0}
+IsReduction unified = Unit {0}
+IsReduction assigned = Unit {0}
+IsReduction (given _) = ⊥
+IsReduction closed = ⊥
+
+-- The proposal still holds: its goal is there, and its effect now is the one proposed.
+abbrev pub StillHolds : World → Proposal → Type 0
+StillHolds w p =
+    (b : Goal) × IsReduction p.act × (finite.get w.state.goals p.goal ≡ Some b)
+    × HasEffect w.opening.program b p.act no_step (value_at w.state.store) p.effect
+
+-- Why a commit of the proposal is refused: it does not hold any more, and else the world is full.
+pub data CommitFails (w : World) (p : Proposal) : Fault → Type 0 where
+  stale : ¬ StillHolds w p → CommitFails w p Fault.Stale
+  full : StillHolds w p → IsFull w → CommitFails w p Fault.Full
+
+-- The record is that of the proposal as the next step of the world.
+abbrev pub IsCommitOf : World → Proposal → Record → Type 0
+IsCommitOf w p r = StillHolds w p × IsNextStep w r × (r.goal ≡ Some p.goal) × (r.act ≡ p.act)
+
+-- Commits Starved w hands h reply v left: hand h commits what it holds, which leaves the world v, and hand h empty.
+pub data Commits (Starved : Type 0) (w : World) (hands : Hands) (h : ℕ) : Reply → World → Hands → Type 0 where
+  takes : (p : Proposal) (r : Record) → IsHand hands h → finite.get hands.held h ≡ Some p → IsCommitOf w p r
+      → Commits Starved w hands h (stepped w.next) (with_step r w) (emptied h hands)
+  no_hand : ¬ IsHand hands h → Commits Starved w hands h (refused Fault.Command) w hands
+  empty : IsHand hands h → finite.get hands.held h ≡ None → Commits Starved w hands h (refused Fault.Stale) w (emptied h hands)
+  fails : {f : Fault} (p : Proposal) → IsHand hands h → finite.get hands.held h ≡ Some p → CommitFails w p f
+      → Commits Starved w hands h (refused f) w (emptied h hands)
+  no_memory : Starved → Commits Starved w hands h (refused Fault.Memory) w (emptied h hands)
+
+-- There is no goal of this name to try: none at all, or a stream goal.
+abbrev pub IsNoCandidate : World → GoalName → Type 0
+IsNoCandidate w g = (finite.get w.state.goals g ≡ None) ⊎ ((b : Goal) × (finite.get w.state.goals g ≡ Some b) × (is_stream b ≡ true))
+
+-- Notes Starved w g reply: the goal named g is tried, and its status told; the world stays as it is.
+pub data Notes (Starved : Type 0) (w : World) (g : GoalName) : Reply → Type 0 where
+  tells : (b : Goal) {s : Status} → finite.get w.state.goals g ≡ Some b → is_stream b ≡ false → HasStatus w.opening.program (value_at w.state.store) b s
+      → Notes Starved w g (noted g s)
+  no_goal : IsNoCandidate w g → Notes Starved w g (refused Fault.NoGoal)
+  no_memory : Starved → Notes Starved w g (refused Fault.Memory)

@@ -1,0 +1,32 @@
+// Laws about the definitions, each as the contract of a function.
+ghost use Rattle.ghc_core.specs.Laws.{ReachableIsInOrder, ReachableIsWellMade, EventsHaveOneAnswer, InputsHaveAnAnswer, ClosesHaveAnAnswer, ArrangesHaveAnAnswer};
+
+/// A reachable world keeps no number twice, has an acyclic store, and one goal a stream.
+pub fn reachable_is_in_order()
+    ensures { ReachableIsInOrder }
+{}
+
+/// In a reachable world each variable is the query's or made by a kept step.
+pub fn reachable_is_well_made()
+    ensures { ReachableIsWellMade }
+{}
+
+/// In a reachable world an event has one answer at most, want of memory apart.
+pub fn events_have_one_answer()
+    ensures { EventsHaveOneAnswer }
+{}
+
+/// In a reachable world an input of a closed term has an answer other than want of memory.
+pub fn inputs_have_an_answer()
+    ensures { InputsHaveAnAnswer }
+{}
+
+/// In a reachable world a close has an answer other than want of memory.
+pub fn closes_have_an_answer()
+    ensures { ClosesHaveAnAnswer }
+{}
+
+/// In a reachable world an arrange has an answer other than want of memory.
+pub fn arranges_have_an_answer()
+    ensures { ArrangesHaveAnAnswer }
+{}

@@ -1,0 +1,196 @@
+-- The run of append: who depends on whom, and which orders are lawful.
+use Rattle.std.specs.Prelude.{Option, None}
+use Rattle.std.proofs.Common.{◌≡◌, ℕ, ◌<◌, [], ◌∷◌, refl, sym, ap, ◌∙◌, subst, inl, inr, arith, Some, cond, nat_eq, true, false, subst₂}
+use Rattle.std.specs.FinSet as set
+use Rattle.ghc_term.specs.declared.goal_name.GoalName.{GoalName}
+use Rattle.ghc_term.specs.Lists.{In}
+use Rattle.ghc_term.specs.Bindings.{name_cmp}
+use Rattle.ghc_records.specs.Orders.{Precedes, nothing, take, leave}
+use Rattle.ghc_records.specs.Record.{Record}
+use Rattle.ghc_records.proofs.OrderLemmas.{is_before, before_in, precedes_rises, Rises}
+use Rattle.ghc_depend.specs.Depend.{Consumes, DependsOn, Follows, directly, further}
+use Rattle.ghc_depend.specs.Cause.{by_making}
+use Rattle.ghc_depend.specs.Lawful.{IsTooEarly, not_a_new_one, missing, too_early}
+use Rattle.ghc_depend.specs.Facts.{step_1, step_2, step_3, step_4, run, AppendDepends, AppendOrders}
+
+-- the number of a record
+abbrev number : Record → ℕ
+number r = r.number
+
+rising : Rises number run
+rising = ((omega arith, (omega arith, (omega arith, tt))), ((omega arith, (omega arith, tt)), ((omega arith, tt), (tt, tt))))
+
+-- no step of the run reads anything
+reads_nothing : (r : Record) → In r run → r.effect.reads ≡ set.empty
+reads_nothing r (inl e) = ap (λ (s : Record). s.effect.reads) e
+reads_nothing r (inr (inl e)) = ap (λ (s : Record). s.effect.reads) e
+reads_nothing r (inr (inr (inl e))) = ap (λ (s : Record). s.effect.reads) e
+reads_nothing r (inr (inr (inr (inl e)))) = ap (λ (s : Record). s.effect.reads) e
+reads_nothing r (inr (inr (inr (inr i)))) = absurd i
+
+-- so dependence is by goals alone
+by_goal : (b a : Record) → DependsOn run b a → In a run × In b run × Consumes b a
+by_goal b a d =
+    let i = before_in run a b (is_before run a b d.0) in
+    elim d.1 [
+      | inl c ↦ (i.0, i.1, c)
+      | inr r ↦ absurd (let e : true ≡ false = sym r.1.0 ∙ ap (λ s. set.contains s r.0) (reads_nothing b i.1) ∙ set.contains-empty name_cmp r.0 in cc)
+    ]
+
+-- two numbers are equal
+abbrev Same : ℕ → ℕ → Type 0
+Same m n = m ≡ n
+
+-- the number of the step that made the goal
+abbrev maker : Option GoalName → ℕ
+maker None = 0
+maker (Some g) = g.step
+
+made_by : (b a : Record) → Consumes b a → maker b.goal ≡ a.number
+made_by b a c = ap maker c.1 ∙ c.2.0
+
+depends_21 : DependsOn run step_2 step_1
+depends_21 = (([], [], step_3 ∷ step_4 ∷ [], refl), inl (record { step = 1; place = 1 }, refl, (refl, omega arith, omega arith)))
+
+depends_31 : DependsOn run step_3 step_1
+depends_31 = (([], step_2 ∷ [], step_4 ∷ [], refl), inl (record { step = 1; place = 2 }, refl, (refl, omega arith, omega arith)))
+
+depends_43 : DependsOn run step_4 step_3
+depends_43 = ((step_1 ∷ step_2 ∷ [], [], [], refl), inl (record { step = 3; place = 1 }, refl, (refl, omega arith, omega arith)))
+
+-- a consequence has a greater number
+follows_rises : {a b : Record} → Follows run a b → a.number < b.number
+follows_rises {a} {b} (directly d) = precedes_rises number run a b rising d.0
+follows_rises {a} {b} (further {b = m} f d) = let first = follows_rises f in let last = precedes_rises number run m b rising d.0 in omega arith
+
+-- a chain of dependence begins with a step that depends directly on the first, and ends in a step of the run
+first_link : {a b : Record} → Follows run a b → (c : Record) × DependsOn run c a
+first_link {b = b} (directly d) = (b, d)
+first_link (further f d) = first_link f
+
+last_link : {a b : Record} → Follows run a b → In b run
+last_link {b = b} (directly {b = _} d) = (by_goal b _ d).1
+last_link {b = b} (further f d) = (by_goal b _ d).1
+
+nothing_on_2 : {b : Record} → ¬ Follows run step_2 b
+nothing_on_2 f =
+    let l = first_link f in
+    let g = by_goal l.0 step_2 l.1 in
+    let m : maker l.0.goal ≡ 2 = made_by l.0 step_2 g.2 in
+    elim g.1 [
+      | inl e ↦ let n : Same 0 2 = sym (ap (λ (r : Record). maker r.goal) e) ∙ m in omega arith
+      | inr (inl e) ↦ let n : Same 1 2 = sym (ap (λ (r : Record). maker r.goal) e) ∙ m in omega arith
+      | inr (inr (inl e)) ↦ let n : Same 1 2 = sym (ap (λ (r : Record). maker r.goal) e) ∙ m in omega arith
+      | inr (inr (inr (inl e))) ↦ let n : Same 3 2 = sym (ap (λ (r : Record). maker r.goal) e) ∙ m in omega arith
+      | inr (inr (inr (inr i))) ↦ absurd i
+    ]
+
+pub depends : AppendDepends
+depends = record {
+  second = by_making depends_21.0 (record { step = 1; place = 1 }, refl, (refl, omega arith, omega arith));
+  third = by_making depends_31.0 (record { step = 1; place = 2 }, refl, (refl, omega arith, omega arith));
+  fourth = by_making depends_43.0 (record { step = 3; place = 1 }, refl, (refl, omega arith, omega arith));
+  of_first = leave (λ f. let n = follows_rises f in omega arith) (take (directly depends_21) (take (directly depends_31) (take (further (directly depends_31) depends_43) nothing)));
+  of_second = leave nothing_on_2 (leave nothing_on_2 (leave nothing_on_2 (leave nothing_on_2 nothing)));
+  of_third = leave (λ f. let n = follows_rises f in omega arith) (leave (λ f. let n = follows_rises f in omega arith) (leave (λ f. let n = follows_rises f in omega arith) (take (directly depends_43) nothing)));
+  first_of_first = (
+    directly depends_21,
+    λ c f. elim (last_link f) [
+      | inl e ↦ absurd (let n = follows_rises f in let m : c.number ≡ 1 = ap number e in omega arith)
+      | inr (inl e) ↦ inl e
+      | inr (inr (inl e)) ↦ inr (subst (Precedes run step_2) (sym e) (step_1 ∷ [], [], step_4 ∷ [], refl))
+      | inr (inr (inr (inl e))) ↦ inr (subst (Precedes run step_2) (sym e) (step_1 ∷ [], step_3 ∷ [], [], refl))
+      | inr (inr (inr (inr i))) ↦ absurd i
+    ],
+  );
+}
+
+-- the place of a number in the order 1 3 4 2
+abbrev place : ℕ → ℕ
+place n = cond (nat_eq n 1) 0 (cond (nat_eq n 3) 1 (cond (nat_eq n 4) 2 3))
+
+places_rise : Rises place (1 ∷ 3 ∷ 4 ∷ 2 ∷ [])
+places_rise = ((omega arith, (omega arith, (omega arith, tt))), ((omega arith, (omega arith, tt)), ((omega arith, tt), (tt, tt))))
+
+none_early : (a b : Record) → ¬ IsTooEarly run (1 ∷ 3 ∷ 4 ∷ 2 ∷ []) a b
+none_early a b t =
+    let g = by_goal b a t.0 in
+    let m = made_by b a g.2 in
+    let less = precedes_rises place (1 ∷ 3 ∷ 4 ∷ 2 ∷ []) b.number a.number places_rise t.1 in
+    elim g.1 [
+      | inl e ↦ elim g.0 [
+        | inl d ↦ let n : Same 0 1 = sym (ap (λ (r : Record). maker r.goal) e) ∙ m ∙ ap number d in omega arith
+        | inr (inl d) ↦ let n : Same 0 2 = sym (ap (λ (r : Record). maker r.goal) e) ∙ m ∙ ap number d in omega arith
+        | inr (inr (inl d)) ↦ let n : Same 0 3 = sym (ap (λ (r : Record). maker r.goal) e) ∙ m ∙ ap number d in omega arith
+        | inr (inr (inr (inl d))) ↦ let n : Same 0 4 = sym (ap (λ (r : Record). maker r.goal) e) ∙ m ∙ ap number d in omega arith
+        | inr (inr (inr (inr i))) ↦ absurd i
+      ]
+      | inr (inl e) ↦ let n : 3 < 0 = subst₂ (λ x y. place x < place y) (ap number e) (sym m ∙ ap (λ (r : Record). maker r.goal) e) less in omega arith
+      | inr (inr (inl e)) ↦ let n : 1 < 0 = subst₂ (λ x y. place x < place y) (ap number e) (sym m ∙ ap (λ (r : Record). maker r.goal) e) less in omega arith
+      | inr (inr (inr (inl e))) ↦ let n : 2 < 1 = subst₂ (λ x y. place x < place y) (ap number e) (sym m ∙ ap (λ (r : Record). maker r.goal) e) less in omega arith
+      | inr (inr (inr (inr i))) ↦ absurd i
+    ]
+
+-- the only step on which step 2 depends
+under_2 : (c : Record) → DependsOn run step_2 c → c ≡ step_1
+under_2 c d =
+    let g = by_goal step_2 c d in
+    let m : Same 1 c.number = made_by step_2 c g.2 in
+    elim g.0 [
+      | inl e ↦ e
+      | inr (inl e) ↦ absurd (let n : Same 1 2 = m ∙ ap number e in omega arith)
+      | inr (inr (inl e)) ↦ absurd (let n : Same 1 3 = m ∙ ap number e in omega arith)
+      | inr (inr (inr (inl e))) ↦ absurd (let n : Same 1 4 = m ∙ ap number e in omega arith)
+      | inr (inr (inr (inr i))) ↦ absurd i
+    ]
+
+pub orders : AppendOrders
+orders = record {
+  lawful = (
+    (
+      (
+        λ n i. elim i [
+          | inl e ↦ inl e
+          | inr (inl e) ↦ inr (inr (inl e))
+          | inr (inr (inl e)) ↦ inr (inr (inr (inl e)))
+          | inr (inr (inr (inl e))) ↦ inr (inl e)
+          | inr (inr (inr (inr j))) ↦ absurd j
+        ],
+        (grind arith, (grind arith, (grind arith, (λ i. i, tt)))),
+      ),
+      λ n i. elim i [
+        | inl e ↦ inl e
+        | inr (inl e) ↦ inr (inr (inr (inl e)))
+        | inr (inr (inl e)) ↦ inr (inl e)
+        | inr (inr (inr (inl e))) ↦ inr (inr (inl e))
+        | inr (inr (inr (inr j))) ↦ absurd j
+      ],
+    ),
+    none_early,
+  );
+  early = too_early step_1 step_2 [] (1 ∷ 3 ∷ 4 ∷ []) (
+    (
+      λ n i. elim i [
+        | inl e ↦ inr (inl e)
+        | inr (inl e) ↦ inl e
+        | inr (inr j) ↦ inr (inr j)
+      ],
+      (grind arith, (grind arith, (grind arith, (λ i. i, tt)))),
+    ),
+    λ n i. elim i [
+      | inl e ↦ inr (inl e)
+      | inr (inl e) ↦ inl e
+      | inr (inr j) ↦ inr (inr j)
+    ],
+  ) refl (λ c d i. absurd i) (depends_21, ([], [], 3 ∷ 4 ∷ [], refl)) (λ c t. inl (under_2 c t.0));
+  missing = missing step_4 (step_1 ∷ step_2 ∷ step_3 ∷ []) [] (
+    λ n i. elim i [
+      | inl e ↦ inl e
+      | inr (inl e) ↦ inr (inl e)
+      | inr (inr (inl e)) ↦ inr (inr (inl e))
+      | inr (inr (inr j)) ↦ absurd j
+    ],
+    (grind arith, (grind arith, (λ i. i, tt))),
+  ) refl (λ n i. i) (grind arith);
+  twice = not_a_new_one (1 ∷ []) (2 ∷ 3 ∷ []) refl (λ n i. elim i [ inl e ↦ inl e | inr j ↦ absurd j ], (λ i. i, tt)) (inr (inl refl));
+}

@@ -1,0 +1,234 @@
+-- Whether an order is lawful is decided by going over order and record.
+use Rattle.std.proofs.Common.{◌≡◌, ℕ, ◌<◌, ◌≤◌, ◌⊎◌, true, false, cond, Bool, List, [], ◌∷◌, ◌++◌, map, length, refl, sym, ap, ◌∙◌, subst, inl, inr, arith, Some, None, append_assoc, append-nil}
+use Rattle.std.specs.Prelude.{Option, is_some}
+use Rattle.std.specs.Ordering.{eq_by_cmp}
+use Rattle.std.specs.FinMap as finite
+use Rattle.std.specs.FinSet as set
+use Rattle.ghc_term.specs.declared.var_name.VarName.{VarName}
+use Rattle.ghc_term.specs.declared.goal_name.GoalName.{GoalName}
+use Rattle.ghc_term.specs.Tree.{Tree}
+use Rattle.ghc_term.specs.Lists.{In}
+use Rattle.ghc_term.specs.Bindings.{name_cmp}
+use Rattle.ghc_term.proofs.Total.{same_name}
+use Rattle.ghc_records.specs.Orders.{Precedes, AreDistinct}
+use Rattle.ghc_records.specs.Record.{Record, numbers}
+use Rattle.ghc_records.proofs.OrderLemmas.{in_right, in_either, Before, is_before, before_is, before_in, split_at, number_in, number_of, record_once}
+use Rattle.ghc_depend.specs.Depend.{MakesGoal, ReadsFrom, DependsOn}
+use Rattle.ghc_depend.specs.Lawful.{IsOfKept, IsOrderOf, IsTooEarly, IsInOrder, IsUnlawful, not_a_new_one, missing, too_early}
+use Rattle.ghc_depend.specs.Laws.{OrdersAreDecided}
+
+-- it is so, or not
+abbrev Known : Type 0 → Type 0
+Known A = A ⊎ (¬ A)
+
+known_by : {A B : Type 0} → (A → B) → (B → A) → Known A → Known B
+known_by f g (inl a) = inl (f a)
+known_by f g (inr n) = inr (λ b. n (g b))
+
+known_both : {A B : Type 0} → Known A → Known B → Known (A × B)
+known_both (inl a) (inl b) = inl (a, b)
+known_both (inl a) (inr n) = inr (λ p. n p.1)
+known_both (inr n) k = inr (λ p. n p.0)
+
+known_either : {A B : Type 0} → Known A → Known B → Known (A ⊎ B)
+known_either (inl a) k = inl (inl a)
+known_either (inr n) (inl b) = inl (inr b)
+known_either (inr n) (inr m) = inr (λ p. elim p [ inl a ↦ n a | inr b ↦ m b ])
+
+less : (a b : ℕ) → (a ≤ b) ⊎ (b < a)
+less a b = grind arith
+
+known_le : (a b : ℕ) → Known (a ≤ b)
+known_le a b = elim (less a b) [ inl l ↦ inl l | inr l ↦ inr (λ k. omega arith) ]
+
+three : (a b : ℕ) → (a ≡ b) ⊎ ((a < b) ⊎ (b < a))
+three a b = grind arith
+
+known_same : (a b : ℕ) → Known (a ≡ b)
+known_same a b = elim (three a b) [ inl e ↦ inl e | inr (inl l) ↦ inr (λ e. omega arith) | inr (inr l) ↦ inr (λ e. omega arith) ]
+
+known_true : (b : Bool) → Known (b ≡ true)
+known_true true = inl refl
+known_true false = inr (λ e. cc)
+
+known_in : (n : ℕ) (ns : List ℕ) → Known (In n ns)
+known_in n [] = inr (λ i. i)
+known_in n (m ∷ ns) = known_either (known_same n m) (known_in n ns)
+
+known_before : (ns : List ℕ) (a b : ℕ) → Known (Before ns a b)
+known_before [] a b = inr (λ i. i)
+known_before (n ∷ ns) a b = known_either (known_both (known_same a n) (known_in b ns)) (known_before ns a b)
+
+by_numbers : (rs : List Record) (a b : Record) → Before rs a b → Before (numbers rs) a.number b.number
+by_numbers [] a b h = h
+by_numbers (r ∷ rs) a b (inl h) = inl (ap (λ (x : Record). x.number) h.0, number_in rs b h.1)
+by_numbers (r ∷ rs) a b (inr h) = inr (by_numbers rs a b h)
+
+among : (ns : List ℕ) (a b : ℕ) → Before ns a b → In a ns × In b ns
+among ns a b h = before_in ns a b h
+
+-- where numbers are distinct, a record is the one of its number
+the_one : (rs : List Record) (r : Record) (s : Record) → AreDistinct (numbers (s ∷ rs)) → In r (s ∷ rs) → In r.number (numbers rs) → In r rs
+the_one rs r s d i j =
+    let q = number_of rs r.number j in
+    subst (λ x. In x rs) (record_once (s ∷ rs) q.0 r d (inr q.1) i q.2) q.1
+
+by_records : (rs : List Record) (a b : Record) → AreDistinct (numbers rs) → In a rs → In b rs → Before (numbers rs) a.number b.number → Before rs a b
+by_records [] a b d i j h = h
+by_records (r ∷ rs) a b d i j (inl h) = inl (record_once (r ∷ rs) a r d i (inl refl) h.0, the_one rs b r d j h.1)
+by_records (r ∷ rs) a b d i j (inr h) = let k = among (numbers rs) a.number b.number h in inr (by_records rs a b d.1 (the_one rs a r d i k.0) (the_one rs b r d j k.1) h)
+
+known_consumed : (o : Option GoalName) (a : Record) → Known ((g : GoalName) × (o ≡ Some g) × MakesGoal a g)
+known_consumed None a = inr (λ c. let clash : None ≡ Some c.0 = c.1 in cc)
+known_consumed (Some g) a = elim (known_same g.step a.number) [
+  | inr n ↦ inr (λ c. let same : g ≡ c.0 = (let p = c.1 in cc) in n (ap (λ (x : GoalName). x.step) same ∙ c.2.0))
+  | inl e ↦ elim (known_both (known_le 1 g.place) (known_le g.place (length a.effect.makes))) [
+    | inl p ↦ inl (g, refl, (e, p.0, p.1))
+    | inr n ↦ inr (λ c. let same : g ≡ c.0 = (let p = c.1 in cc) in n (subst (λ (x : GoalName). (1 ≤ x.place) × (x.place ≤ length a.effect.makes)) (sym same) (c.2.1, c.2.2)))
+  ]
+]
+
+key_in : (es : List (VarName × Tree)) (x : VarName) → is_some (finite.find name_cmp x es) ≡ true → In x (map (λ e. e.0) es)
+key_in [] x e = cc
+key_in (k ∷ es) x e =
+    elim (eq_by_cmp name_cmp x k.0) as (λ c. eq_by_cmp name_cmp x k.0 ≡ c → is_some (cond c (Some k.1) (finite.find name_cmp x es)) ≡ true → In x (map (λ e. e.0) (k ∷ es))) [
+      | true ↦ λ p q. inl (same_name x k.0 p)
+      | false ↦ λ p q. inr (key_in es x q)
+    ] refl e
+
+known_read : (b a : Record) (ks : List VarName) → ((x : VarName) × ReadsFrom b a x) ⊎ ((x : VarName) → In x ks → ¬ ReadsFrom b a x)
+known_read b a [] = inr (λ x i r. i)
+known_read b a (k ∷ ks) = elim (known_both (known_true (set.contains b.effect.reads k)) (known_true (finite.contains_key a.effect.binds k))) [
+  | inl r ↦ inl (k, r)
+  | inr n ↦ elim (known_read b a ks) [
+    | inl r ↦ inl r
+    | inr m ↦ inr (λ x i r. elim i [ inl e ↦ n (subst (λ z. ReadsFrom b a z) e r) | inr j ↦ m x j r ])
+  ]
+]
+
+known_reads : (b a : Record) → Known ((x : VarName) × ReadsFrom b a x)
+known_reads b a = elim (known_read b a (map (λ e. e.0) (finite.entries a.effect.binds))) [
+  | inl r ↦ inl r
+  | inr n ↦ inr (λ r. n r.0 (key_in (finite.entries a.effect.binds) r.0 (ap is_some (sym (finite.get-entries a.effect.binds r.0)) ∙ r.1.1)) r.1)
+]
+
+module _ (kept : List Record) (distinct : AreDistinct (numbers kept)) where
+  ends : (b a : Record) → DependsOn kept b a → In a kept × In b kept
+  ends b a d = before_in kept a b (is_before kept a b d.0)
+
+  known_depends : (b a : Record) → In a kept → In b kept → Known (DependsOn kept b a)
+  known_depends b a i j =
+      known_both (known_by (λ h. before_is kept a b (by_records kept a b distinct i j h)) (λ p. by_numbers kept a b (is_before kept a b p)) (known_before (numbers kept) a.number b.number))
+      (known_either (known_consumed b.goal a) (known_reads b a))
+
+  known_early : (order : List ℕ) (a b : Record) → In a kept → In b kept → Known (IsTooEarly kept order a b)
+  known_early order a b i j =
+      known_both (known_depends b a i j) (known_by (before_is order b.number a.number) (is_before order b.number a.number) (known_before order b.number a.number))
+
+  module _ (order : List ℕ) where
+    -- the first step before which b stands too early
+    abbrev FirstEarly : Record → Record → Type 0
+    FirstEarly b a = IsTooEarly kept order a b × ((c : Record) → IsTooEarly kept order c b → (c ≡ a) ⊎ Precedes kept a c)
+
+    first_step : (b : Record) → In b kept → (done rest : List Record) → kept ≡ done ++ rest → ((c : Record) → In c done → ¬ IsTooEarly kept order c b)
+        → ((a : Record) × FirstEarly b a) ⊎ ((c : Record) → ¬ IsTooEarly kept order c b)
+    first_step b j done [] e h = inr (λ c t. h c (subst (In c) (e ∙ append-nil done) (ends b c t.0).0) t)
+    first_step b j done (a ∷ rest) e h =
+        elim (known_early order a b (subst (In a) (sym e) (in_right done (a ∷ rest) a (inl refl))) j) [
+          | inl t ↦ inl (
+            a,
+            (
+              t,
+              λ c s. elim (in_either done (a ∷ rest) c (subst (In c) e (ends b c s.0).0)) [
+                | inl i ↦ absurd (h c i s)
+                | inr (inl same) ↦ inl same
+                | inr (inr i) ↦ let p = split_at rest c i in inr (done, p.0, p.1, e ∙ ap (λ z. done ++ a ∷ z) p.2 ∙ sym (append_assoc done (a ∷ p.0) (c ∷ p.1)))
+              ],
+            ),
+          )
+          | inr n ↦ first_step b j (done ++ a ∷ []) rest (e ∙ sym (append_assoc done (a ∷ []) rest)) (λ c i t. elim (in_either done (a ∷ []) c i) [
+            | inl k ↦ h c k t
+            | inr (inl same) ↦ n (subst (λ z. IsTooEarly kept order z b) same t)
+            | inr (inr k) ↦ absurd k
+          ])
+        ]
+
+    abbrev Fails : Type 0
+    Fails = (a b : ℕ) × IsUnlawful kept order a b
+
+    first_early : IsOrderOf kept order → (done rest : List ℕ) → order ≡ done ++ rest → ((c d : Record) → In d.number done → ¬ IsTooEarly kept order c d)
+        → Fails ⊎ ((a b : Record) → ¬ IsTooEarly kept order a b)
+    first_early o done [] e h = inr (λ a b t. h a b (subst (In b.number) (e ∙ append-nil done) (before_in order b.number a.number (is_before order b.number a.number t.1)).0) t)
+    first_early o done (n ∷ rest) e h =
+        let b = number_of kept n (o.0.0 n (subst (In n) (sym e) (in_right done (n ∷ rest) n (inl refl)))) in
+        elim (first_step b.0 b.1 [] kept refl (λ c i. absurd i)) [
+          | inl f ↦ inl (f.0.number, b.0.number, too_early f.0 b.0 done rest o (e ∙ ap (λ z. done ++ z ∷ rest) (sym b.2)) h f.1.0 f.1.1)
+          | inr none ↦ first_early o (done ++ n ∷ []) rest (e ∙ sym (append_assoc done (n ∷ []) rest)) (λ c d i t. elim (in_either done (n ∷ []) d.number i) [
+            | inl k ↦ h c d k t
+            | inr (inl same) ↦ none c (subst (IsTooEarly kept order c) (record_once kept d b.0 distinct (ends d c t.0).1 b.1 (same ∙ sym b.2)) t)
+            | inr (inr k) ↦ absurd k
+          ])
+        ]
+
+    push_new : (ns : List ℕ) (n : ℕ) → AreDistinct ns → ¬ In n ns → AreDistinct (ns ++ n ∷ [])
+    push_new [] n d k = ((λ i. i), tt)
+    push_new (m ∷ ns) n d k = ((λ i. elim (in_either ns (n ∷ []) m i) [ inl j ↦ d.0 j | inr (inl e) ↦ k (inl (sym e)) | inr (inr j) ↦ j ]), push_new ns n d.1 (λ i. k (inr i)))
+
+    of_kept : (done rest : List ℕ) → order ≡ done ++ rest → IsOfKept kept done → Fails ⊎ IsOfKept kept order
+    of_kept done [] e k = inr (subst (IsOfKept kept) (sym (e ∙ append-nil done)) k)
+    of_kept done (n ∷ rest) e k = elim (known_in n (numbers kept)) [
+      | inr no_one ↦ inl (n, n, not_a_new_one done rest e k (inl no_one))
+      | inl there ↦ elim (known_in n done) [
+        | inl twice ↦ inl (n, n, not_a_new_one done rest e k (inr twice))
+        | inr new ↦ of_kept (done ++ n ∷ []) rest (e ∙ sym (append_assoc done (n ∷ []) rest))
+            ((λ m i. elim (in_either done (n ∷ []) m i) [ inl j ↦ k.0 m j | inr (inl same) ↦ subst (λ z. In z (numbers kept)) (sym same) there | inr (inr j) ↦ absurd j ]), push_new done n k.1 new)
+      ]
+    ]
+
+    none_missing : IsOfKept kept order → (done rest : List Record) → kept ≡ done ++ rest → ((n : ℕ) → In n (numbers done) → In n order) → Fails ⊎ ((n : ℕ) → In n (numbers kept) → In n order)
+    none_missing k done [] e h = inr (λ n i. h n (subst (λ z. In n (numbers z)) (e ∙ append-nil done) i))
+    none_missing k done (r ∷ rest) e h = elim (known_in r.number order) [
+      | inr gone ↦ inl (r.number, 0, missing r done rest k e h gone)
+      | inl there ↦ none_missing k (done ++ r ∷ []) rest (e ∙ sym (append_assoc done (r ∷ []) rest)) (λ n i.
+          let q = number_of (done ++ r ∷ []) n i in
+          elim (in_either done (r ∷ []) q.0 q.1) [
+            | inl j ↦ h n (subst (λ z. In z (numbers done)) q.2 (number_in done q.0 j))
+            | inr (inl same) ↦ subst (λ z. In z order) (ap (λ (x : Record). x.number) (sym same) ∙ q.2) there
+            | inr (inr j) ↦ absurd j
+          ])
+    ]
+
+    -- the records of kept numbers, in their order
+    records_of : (ns : List ℕ) → ((n : ℕ) → In n ns → In n (numbers kept)) → (new : List Record) × (numbers new ≡ ns) × ((r : Record) → In r new → In r kept)
+    records_of [] h = ([], refl, λ r i. absurd i)
+    records_of (n ∷ ns) h =
+        let r = number_of kept n (h n (inl refl)) in
+        let rest = records_of ns (λ m i. h m (inr i)) in
+        (r.0 ∷ rest.0, (λ i. r.2 i ∷ rest.1 i), λ s i. elim i [ inl e ↦ subst (λ z. In z kept) (sym e) r.1 | inr j ↦ rest.2 s j ])
+
+    in_order : IsOrderOf kept order → (new : List Record) × IsInOrder kept order new
+    in_order o =
+        let p = records_of order o.0.0 in (
+          p.0,
+          (
+            p.1,
+            λ r. (
+              p.2 r,
+              λ i.
+                  let q = number_of p.0 r.number (subst (In r.number) (sym p.1) (o.1 r.number (number_in kept r i))) in
+                  subst (λ z. In z p.0) (record_once kept q.0 r distinct (p.2 q.0 q.1) i q.2) q.1,
+            ),
+          ),
+        )
+
+pub decided : OrdersAreDecided
+decided kept order distinct = elim (of_kept kept distinct order [] order refl ((λ n i. absurd i), tt)) [
+  | inl f ↦ inr f
+  | inr k ↦ elim (none_missing kept distinct order k [] kept refl (λ n i. absurd i)) [
+    | inl f ↦ inr f
+    | inr all ↦ elim (first_early kept distinct order (k, all) [] order refl (λ c d i. absurd i)) [
+      | inl f ↦ inr f
+      | inr none ↦ inl (((k, all), none), in_order kept distinct order (k, all))
+    ]
+  ]
+]

@@ -1,0 +1,4 @@
+pub mod Append
+pub mod Waking
+pub mod Once
+pub mod Decided

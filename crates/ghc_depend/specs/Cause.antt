@@ -1,0 +1,46 @@
+-- Why a step depends on an earlier one.
+use Rattle.std.specs.Prelude.{◌≡◌, ◌⊎◌, ◌↔◌, ℕ, List, Option, Some, None, IsTrue, Bool}
+use Rattle.std.specs.declared.cmp.Ordering.TheVariants.{Less}
+use Rattle.ghc_term.specs.declared.var_name.VarName.{VarName}
+use Rattle.ghc_term.specs.Lists.{In}
+use Rattle.ghc_term.specs.Bindings.{name_cmp}
+use Rattle.ghc_fire.specs.Effect.{Act, by_clause, unified, assigned, given, closed}
+use Rattle.ghc_records.specs.Orders.{Precedes}
+use Rattle.ghc_records.specs.Record.{Record}
+use Rattle.ghc_depend.specs.Depend.{Consumes, ReadsFrom, DependsOn, IsKeptAs}
+
+-- A cause: the earlier step made the goal, or bound this variable, which was read; a read may have woken the goal.
+pub data Cause : Type 0 where
+  made : Cause
+  read : VarName → Bool → Cause
+
+-- The act reduces a call or assigns, so that its goal can have waited.
+abbrev pub CanWait : Act → Type 0
+CanWait (by_clause _) = Unit {0}
+CanWait unified = ⊥
+CanWait assigned = Unit {0}
+CanWait (given _) = ⊥
+CanWait closed = ⊥
+
+-- The goal that b consumed was made before a in recorded order; a goal of the query was made before every step.
+abbrev pub WasThereBefore : List Record → Record → Record → Type 0
+WasThereBefore rs b a = (m : Record) → In m rs → Consumes b m → Precedes rs m a
+
+-- The step a woke the goal of b: that goal can have waited and was there before a, and no step after a bound a variable that b read.
+abbrev pub IsWokenBy : List Record → Record → Record → Type 0
+IsWokenBy rs b a =
+    CanWait b.act × WasThereBefore rs b a × ((c : Record) (x : VarName) → Precedes rs a c → ¬ ReadsFrom b c x)
+
+-- x is the least variable that b read and a bound.
+abbrev pub IsLeastRead : Record → Record → VarName → Type 0
+IsLeastRead b a x = ReadsFrom b a x × ((y : VarName) → ReadsFrom b a y → (y ≡ x) ⊎ (name_cmp x y ≡ Less))
+
+-- HasCause rs b a cause: b depends directly on the earlier a for this cause; made comes first, and else it is the least variable read.
+pub data HasCause (rs : List Record) (b a : Record) : Cause → Type 0 where
+  by_making : Precedes rs a b → Consumes b a → HasCause rs b a made
+  by_reading : {x : VarName} {woke : Bool} → Precedes rs a b → ¬ Consumes b a → IsLeastRead b a x → IsTrue woke ↔ IsWokenBy rs b a → HasCause rs b a (read x woke)
+
+-- The direct dependence of the step numbered later on the step numbered earlier, if there is one.
+abbrev pub IsDirect : List Record → ℕ → ℕ → Option Cause → Type 0
+IsDirect rs later earlier (Some cause) = (b a : Record) × IsKeptAs rs later b × IsKeptAs rs earlier a × HasCause rs b a cause
+IsDirect rs later earlier None = (b a : Record) → IsKeptAs rs later b → IsKeptAs rs earlier a → ¬ DependsOn rs b a

@@ -1,0 +1,59 @@
+-- Dependence and consequences.
+use Rattle.std.specs.Prelude.{◌≡◌, ◌⊎◌, ◌≤◌, ℕ, List, length, Some, IsTrue}
+use Rattle.std.specs.FinMap as finite
+use Rattle.std.specs.FinSet as set
+use Rattle.ghc_term.specs.declared.var_name.VarName.{VarName}
+use Rattle.ghc_term.specs.declared.goal_name.GoalName.{GoalName}
+use Rattle.ghc_term.specs.Lists.{In}
+use Rattle.ghc_records.specs.Orders.{Precedes, Picks}
+use Rattle.ghc_records.specs.Record.{Record}
+
+-- The goal named g is one that the step of the record made.
+abbrev pub MakesGoal : Record → GoalName → Type 0
+MakesGoal r g = (g.step ≡ r.number) × (1 ≤ g.place) × (g.place ≤ length r.effect.makes)
+
+-- The step b consumed a goal that the step a made.
+abbrev pub Consumes : Record → Record → Type 0
+Consumes b a = (g : GoalName) × (b.goal ≡ Some g) × MakesGoal a g
+
+-- The step bound the variable x.
+abbrev pub Binds : Record → VarName → Type 0
+Binds r x = IsTrue (finite.contains_key r.effect.binds x)
+
+-- The step b read the variable x, which the step a bound.
+abbrev pub ReadsFrom : Record → Record → VarName → Type 0
+ReadsFrom b a x = IsTrue (set.contains b.effect.reads x) × Binds a x
+
+-- In the record, b depends directly on the earlier a: it consumed a goal that a made, or read a variable that a bound.
+abbrev pub DependsOn : List Record → Record → Record → Type 0
+DependsOn rs b a = Precedes rs a b × (Consumes b a ⊎ ((x : VarName) × ReadsFrom b a x))
+
+-- Follows rs a b: b is a consequence of a, by a chain of direct dependence.
+pub data Follows (rs : List Record) (a : Record) : Record → Type 0 where
+  directly : {b : Record} → DependsOn rs b a → Follows rs a b
+  further : {b c : Record} → Follows rs a b → DependsOn rs c b → Follows rs a c
+
+-- The record numbered n is r, and is kept.
+abbrev pub IsKeptAs : List Record → ℕ → Record → Type 0
+IsKeptAs rs n r = In r rs × (r.number ≡ n)
+
+-- No kept record has the number n.
+abbrev pub IsNotKept : List Record → ℕ → Type 0
+IsNotKept rs n = (r : Record) → In r rs → ¬ (r.number ≡ n)
+
+-- The consequences of r, in recorded order.
+abbrev pub AreConsequences : List Record → Record → List Record → Type 0
+AreConsequences rs r found = Picks (Follows rs r) rs found
+
+-- s is r itself, or a consequence of it.
+abbrev pub GoesWith : List Record → Record → Record → Type 0
+GoesWith rs r s = (s ≡ r) ⊎ Follows rs r s
+
+-- b is the first consequence of r in recorded order.
+abbrev pub IsFirstConsequence : List Record → Record → Record → Type 0
+IsFirstConsequence rs r b = Follows rs r b × ((c : Record) → Follows rs r c → (c ≡ b) ⊎ Precedes rs b c)
+
+-- Descends rs root g: the goal g is the goal root, or was made by a step whose goal descends from root.
+pub data Descends (rs : List Record) (root : GoalName) : GoalName → Type 0 where
+  itself : Descends rs root root
+  made_by : {g h : GoalName} (r : Record) → In r rs → MakesGoal r g → r.goal ≡ Some h → Descends rs root h → Descends rs root g

@@ -1,0 +1,6 @@
+pub mod Depend
+pub mod Cause
+pub mod Lawful
+pub mod Kept
+pub mod Facts
+pub mod Laws

@@ -1,0 +1,4 @@
+pub mod Steps
+pub mod Tries
+pub mod FactProofs
+pub mod Origins

@@ -1,0 +1,15 @@
+//! What a step does: the effect of each act, and what an attempt at a goal answers.
+#![tactic(auto)]
+
+mod facts;
+mod laws;
+
+pub use facts::{
+    append_attempts, append_run, bound_tail_takes_nothing, input_and_close, input_reads_alias,
+    least_assigned, structure_assigned, waits_then_fails,
+};
+pub use laws::{
+    attempt_has_one_answer, attempt_is_of_what_is_looked_at, effect_binds_and_reads,
+    effect_is_local, effect_is_one, effect_keeps_acyclic, effect_under_each_number,
+    effect_variables,
+};

@@ -1,0 +1,5 @@
+pub mod Clause
+pub mod Variables
+pub mod Flat
+pub mod Samples
+pub mod Facts

@@ -1,0 +1,22 @@
+// Small facts on which programs are accepted, each as the contract of a function.
+ghost use Rattle.ghc_flat.specs.Facts.{AppendIsAccepted, CallIsNoTest, TwiceIsNotLinear, CallIsUndefined};
+
+/// `append` is a program, and `append([1],[2],R)` a query of it.
+pub fn append_is_accepted()
+    ensures { AppendIsAccepted }
+{}
+
+/// The guard `q(X)` is not flat, and `true` makes no test.
+pub fn call_is_no_test()
+    ensures { CallIsNoTest }
+{}
+
+/// The head of `p(X,X)` is not linear.
+pub fn twice_is_not_linear()
+    ensures { TwiceIsNotLinear }
+{}
+
+/// In `p :- true | q.` the call of `q` is not defined.
+pub fn call_is_undefined()
+    ensures { CallIsUndefined }
+{}

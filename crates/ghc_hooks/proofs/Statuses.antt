@@ -1,0 +1,104 @@
+-- A goal has one status, and it is decided by what the goal looks at.
+use Rattle.std.proofs.Common.{◌≡◌, Bool, true, false, refl, sym, ap, ◌∙◌, inr, Some, None, IsTrue, ◌↔◌, List, ℕ}
+use Rattle.std.specs.Prelude.{Option}
+use Rattle.std.specs.FinSet as set
+use Rattle.ghc_term.specs.declared.var_name.VarName.{VarName}
+use Rattle.ghc_term.specs.Tree.{Tree, variable}
+use Rattle.ghc_term.specs.Lists.{In}
+use Rattle.ghc_term.specs.Expression.{Expression}
+use Rattle.ghc_term.specs.Goal.{Goal, call, unify, assign, stream}
+use Rattle.ghc_term.specs.Bindings.{Passes}
+use Rattle.ghc_term.proofs.Names.{name_total, name_antisymmetric}
+use Rattle.ghc_flat.specs.Clause.{Program}
+use Rattle.ghc_flat.specs.Flat.{is_stream}
+use Rattle.ghc_match.specs.Sets.{Variables, IsSetOf}
+use Rattle.ghc_term.specs.declared.fault.Fault.{Fault}
+use Rattle.ghc_fire.specs.Effect.{Act, Effect}
+use Rattle.ghc_fire.specs.Attempt.{Answer, proposes, refused, SomeWaitsFor, Attempts}
+use Rattle.ghc_fire.proofs.Tries.{attempt_once, attempt_there}
+use Rattle.ghc_flat.specs.Variables.{leaf_variables}
+use Rattle.ghc_match.specs.Looked.{ExpressionReaches, GoalLooksAt}
+use Rattle.ghc_match.proofs.Sets.{set_of}
+use Rattle.ghc_match.proofs.Chains.{leads_there, leads_back}
+use Rattle.ghc_match.proofs.Values.{leaf_reaches, passes_reaches}
+use Rattle.ghc_match.proofs.Matching.{looks_back}
+use Rattle.ghc_match.proofs.Outcomes.{waits_there}
+use Rattle.ghc_hooks.specs.Status.{Awaits, waiting, failed, is_ready, is_waiting, is_failed, is_stream_goal}
+use Rattle.ghc_hooks.specs.Laws.{StatusIsOne, StatusIsOfWhatIsLookedAt}
+
+same_bool : (a b : Bool) → IsTrue a ↔ IsTrue b → a ≡ b
+same_bool true true e = refl
+same_bool true false e = sym (e.0 refl)
+same_bool false true e = e.1 refl
+same_bool false false e = refl
+
+-- a set is determined by what it holds
+pub set_once : (xs ys : Variables) (P : VarName → Type 0) → IsSetOf xs P → IsSetOf ys P → xs ≡ ys
+set_once xs ys P p q = set.same_set name_total name_antisymmetric xs ys (λ x. same_bool (set.contains xs x) (set.contains ys x) ((λ i. (q x).1 ((p x).0 i)), λ i. (p x).1 ((q x).0 i)))
+
+not_both : {a : Act} {e : Effect} {f : Fault} → proposes a e ≡ refused f → ⊥
+not_both p = cc
+
+same_fault : {f g : Fault} → refused f ≡ refused g → f ≡ g
+same_fault p = cc
+
+-- an attempt at a stream goal answers that there is none
+no_stream : (P : Program) (S : VarName → Option Tree) (g : Goal) (a : Answer) → is_stream g ≡ true → Attempts P S (Some g) None a → a ≡ refused Fault.NoGoal
+no_stream P S (call f ts) a e t = cc
+no_stream P S (unify l r) a e t = cc
+no_stream P S (assign l b) a e t = cc
+no_stream P S (stream k x) a e t = t
+
+waits_apart : refused Fault.Waits ≡ refused Fault.NoGoal → ⊥
+waits_apart p = cc
+
+two_answers : (b : Bool) → b ≡ true → b ≡ false → ⊥
+two_answers b p q = let e : true ≡ false = sym p ∙ q in cc
+
+pub status_once : StatusIsOne
+status_once P S g s t c (is_ready a e p) (is_ready b f q) = refl
+status_once P S g s t c (is_ready a e p) (is_waiting q m) = absurd (not_both (attempt_once P S (Some g) None _ _ c p q))
+status_once P S g s t c (is_ready a e p) (is_failed n q m) = absurd (not_both (attempt_once P S (Some g) None _ _ c p q))
+status_once P S g s t c (is_ready a e p) (is_stream_goal n) = absurd (not_both (no_stream P S g _ n p))
+status_once P S g s t c (is_waiting p m) (is_ready b f q) = absurd (not_both (attempt_once P S (Some g) None _ _ c q p))
+status_once P S g s t c (is_waiting p m) (is_waiting q n) = ap waiting (set_once _ _ _ m n)
+status_once P S g s t c (is_waiting p m) (is_failed n q d) = absurd (d (same_fault (attempt_once P S (Some g) None _ _ c q p)))
+status_once P S g s t c (is_waiting p m) (is_stream_goal n) = absurd (waits_apart (no_stream P S g _ n p))
+status_once P S g s t c (is_failed n p d) (is_ready b f q) = absurd (not_both (attempt_once P S (Some g) None _ _ c q p))
+status_once P S g s t c (is_failed n p d) (is_waiting q m) = absurd (d (same_fault (attempt_once P S (Some g) None _ _ c p q)))
+status_once P S g s t c (is_failed n p d) (is_failed m q e) = ap failed (same_fault (attempt_once P S (Some g) None _ _ c p q))
+status_once P S g s t c (is_failed n p d) (is_stream_goal m) = absurd (two_answers (is_stream g) m n)
+status_once P S g s t c (is_stream_goal n) (is_ready b f q) = absurd (not_both (no_stream P S g _ n q))
+status_once P S g s t c (is_stream_goal n) (is_waiting q m) = absurd (waits_apart (no_stream P S g _ n q))
+status_once P S g s t c (is_stream_goal n) (is_failed m q d) = absurd (two_answers (is_stream g) n m)
+status_once P S g s t c (is_stream_goal n) (is_stream_goal m) = refl
+
+-- stores that agree on what a goal looks at
+module _ (P : Program) (S S' : VarName → Option Tree) where
+  call_awaits : (f : List ℕ) (ts : List Tree) → ((x : VarName) → GoalLooksAt P S (call f ts) x → S' x ≡ S x) → (x : VarName) → SomeWaitsFor P f ts S x → SomeWaitsFor P f ts S' x
+  call_awaits f ts h x w = (w.0, w.1, w.2, w.3, waits_there w.1 ts S S' (λ y l. h y (w.0, w.1, w.2, w.3, l)) x w.4)
+
+  expression_agrees : (b : Expression) → ((x : VarName) → ExpressionReaches S b x → S' x ≡ S x) → (y : VarName) → In y (leaf_variables b) → (x : VarName) → Passes S (variable y) x → S' x ≡ S x
+  expression_agrees b h y i x p = h x (leaf_reaches b y x i (passes_reaches p.1))
+
+call_looks_back : (P : Program) (S S' : VarName → Option Tree) (f : List ℕ) (ts : List Tree) → ((x : VarName) → GoalLooksAt P S (call f ts) x → S' x ≡ S x) → (x : VarName) → GoalLooksAt P S' (call f ts) x → S x ≡ S' x
+call_looks_back P S S' f ts h x l = sym (h x (l.0, l.1, l.2, l.3, looks_back l.1 ts S S' (λ y m. h y (l.0, l.1, l.2, l.3, m)) x l.4))
+
+-- a goal awaits the same variables
+awaits_there : (P : Program) (S S' : VarName → Option Tree) (g : Goal) → ((x : VarName) → GoalLooksAt P S g x → S' x ≡ S x) → (xs : Variables) → IsSetOf xs (Awaits P S g) → IsSetOf xs (Awaits P S' g)
+awaits_there P S S' (call f ts) h xs m =
+    set_of xs (Awaits P S (call f ts)) (Awaits P S' (call f ts)) (call_awaits P S S' f ts h) (call_awaits P S' S f ts (call_looks_back P S S' f ts h)) m
+awaits_there P S S' (unify l r) h xs m = m
+awaits_there P S S' (assign t b) h xs m =
+    let agree = expression_agrees P S S' b (λ x r. h x (inr r)) in
+    set_of xs (Awaits P S (assign t b)) (Awaits P S' (assign t b))
+    (λ x w. (w.0, w.1, (w.2.0, leads_there w.2.1 (agree w.0 w.1))))
+    (λ x w. (w.0, w.1, (w.2.0, leads_back w.2.1 (agree w.0 w.1)))) m
+awaits_there P S S' (stream k s) h xs m = m
+
+pub status_there : StatusIsOfWhatIsLookedAt
+status_there P S S' g s (is_ready a e p) agree = is_ready a e (attempt_there P S S' g None (proposes a e) p (λ x l. sym (agree x l)))
+status_there P S S' g s (is_waiting {xs = xs} p m) agree =
+    is_waiting (attempt_there P S S' g None (refused Fault.Waits) p (λ x l. sym (agree x l))) (awaits_there P S S' g (λ x l. sym (agree x l)) xs m)
+status_there P S S' g s (is_failed {f = f} n p d) agree = is_failed n (attempt_there P S S' g None (refused f) p (λ x l. sym (agree x l))) d
+status_there P S S' g s (is_stream_goal n) agree = is_stream_goal n

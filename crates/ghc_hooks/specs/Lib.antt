@@ -1,0 +1,4 @@
+pub mod Status
+pub mod Face
+pub mod Notes
+pub mod Laws

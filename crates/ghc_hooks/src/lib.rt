@@ -1,0 +1,6 @@
+//! The status of goals, the face of a state, noted outcomes and untried goals.
+#![tactic(auto)]
+
+mod laws;
+
+pub use laws::{status_is_of_what_is_looked_at, status_is_one};

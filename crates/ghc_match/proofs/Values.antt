@@ -1,0 +1,106 @@
+-- The values of expressions: each has one, and hangs on the chains of its variables.
+use Rattle.std.proofs.Common.{◌≡◌, ℤ, List, refl, sym, ap, ◌∙◌, subst, inl, inr}
+use Rattle.std.specs.Prelude.{Option}
+use Rattle.ghc_term.specs.declared.var_name.VarName.{VarName}
+use Rattle.ghc_term.specs.declared.operator.Operator.{Operator}
+use Rattle.ghc_term.specs.declared.operator.Operator.TheVariants.{Add, Subtract, Multiply, Divide, Modulo}
+use Rattle.ghc_term.specs.Tree.{Tree, variable, integer, node}
+use Rattle.ghc_term.specs.Expression.{Expression, leaf, operation}
+use Rattle.ghc_term.specs.Lists.{In}
+use Rattle.ghc_term.specs.Bindings.{Comes, now, on, Reaches, here, through}
+use Rattle.ghc_term.proofs.Chains.{leads_once}
+use Rattle.ghc_term.proofs.Searches.{In_append, In_append_right, In_either}
+use Rattle.ghc_flat.specs.Variables.{leaf_variables}
+use Rattle.ghc_match.specs.Position.{EndsIn}
+use Rattle.ghc_match.specs.Value.{Computes, Number, of_integer, of_variable, computed, Wants, Value, number, waits, bad, HasValue}
+use Rattle.ghc_match.specs.Looked.{ExpressionReaches}
+use Rattle.ghc_match.specs.Laws.{ValuesExclude, ValueLooksAtItsTerms}
+use Rattle.ghc_match.proofs.Sets.{one_set, set_of}
+use Rattle.ghc_match.proofs.Chains.{leads_there, leads_back}
+
+computes_once : (o : Operator) (x y z w : ℤ) → Computes o x y z → Computes o x y w → z ≡ w
+computes_once Add x y z w p q = p.0 ∙ sym q.0
+computes_once Subtract x y z w p q = p.0 ∙ sym q.0
+computes_once Multiply x y z w p q = p.0 ∙ sym q.0
+computes_once Divide x y z w p q = p.1 ∙ sym q.1
+computes_once Modulo x y z w p q = p.1 ∙ sym q.1
+
+-- where E gives each variable one end
+module _ {E : VarName → Tree → Type 0} (once : (x : VarName) (e f : Tree) → E x e → E x f → e ≡ f) where
+  pub number_once : {a : Expression} {j k : ℤ} → Number E a j → Number E a k → j ≡ k
+  number_once of_integer of_integer = refl
+  number_once (of_variable {x = x} {k = j} p) (of_variable {k = k} q) = let same : integer j ≡ integer k = once x (integer j) (integer k) p q in cc
+  number_once (computed {o = o} {x = x} {y = y} {z = z} m n w) (computed {x = u} {y = v} {z = k} p q r) =
+      let one = number_once m p in
+      let two = number_once n q in
+      computes_once o x y z k w (subst (λ i. Computes o i y k) (sym one) (subst (λ i. Computes o u i k) (sym two) r))
+
+  -- what has a value waits for nothing
+  pub number_waits_not : {a : Expression} {k : ℤ} {x : VarName} → Number E a k → ¬ Wants E (leaf_variables a) x
+  number_waits_not of_integer w = absurd w.1
+  number_waits_not {x = z} (of_variable {x = x} {k = k} p) w =
+      elim w.1 [
+        | inl e ↦ let same : variable z ≡ integer k = once x (variable z) (integer k) (subst (λ y. E y (variable z)) e w.2) p in cc
+        | inr i ↦ absurd i
+      ]
+  number_waits_not (computed {a = a} {b = b} m n c) w =
+      elim (In_either (leaf_variables a) (leaf_variables b) w.0 w.1) [
+        | inl i ↦ number_waits_not m (w.0, i, w.2)
+        | inr i ↦ number_waits_not n (w.0, i, w.2)
+      ]
+
+-- the values go over from E to F, where the ends of the variables do
+pub number_there : {E F : VarName → Tree → Type 0} {a : Expression} {k : ℤ} → Number E a k → ((x : VarName) (e : Tree) → In x (leaf_variables a) → E x e → F x e) → Number F a k
+number_there of_integer h = of_integer
+number_there (of_variable {x = x} {k = k} p) h = of_variable (h x (integer k) (inl refl) p)
+number_there (computed {a = a} {b = b} m n w) h = computed
+    (number_there m (λ x e i. h x e (In_append (leaf_variables a) (leaf_variables b) x i)))
+    (number_there n (λ x e i. h x e (In_append_right (leaf_variables a) (leaf_variables b) x i))) w
+
+pub ends_once : {S : VarName → Option Tree} (x : VarName) (e f : Tree) → EndsIn S x e → EndsIn S x f → e ≡ f
+ends_once x e f p q = (leads_once p.1 q.1).1
+
+pub values_exclude : ValuesExclude
+values_exclude S a (number j) (number k) p q = ap number (number_once ends_once p q)
+values_exclude S a (number j) (waits xs) p q = absurd (number_waits_not ends_once p q.1.1)
+values_exclude S a (number j) bad p q = absurd (q.1 j p)
+values_exclude S a (waits xs) (number k) p q = absurd (number_waits_not ends_once q p.1.1)
+values_exclude S a (waits xs) (waits ys) p q = ap waits (one_set xs ys (Wants (EndsIn S) (leaf_variables a)) (Wants (EndsIn S) (leaf_variables a)) p.0 q.0 (λ x w. w) (λ x w. w))
+values_exclude S a (waits xs) bad p q = absurd (q.0 p.1.0 p.1.1)
+values_exclude S a bad (number k) p q = absurd (p.1 k q)
+values_exclude S a bad (waits xs) p q = absurd (p.0 q.1.0 q.1.1)
+values_exclude S a bad bad p q = refl
+
+-- what a variable's chain passes is reached from the expression
+pub leaf_reaches : {S : VarName → Option Tree} (a : Expression) (y x : VarName) → In y (leaf_variables a) → Reaches S (variable y) x → ExpressionReaches S a x
+leaf_reaches {S = S} (leaf (variable z)) y x (inl e) r = subst (λ w. Reaches S (variable w) x) e r
+leaf_reaches (leaf (variable z)) y x (inr i) r = absurd i
+leaf_reaches (leaf (integer k)) y x i r = absurd i
+leaf_reaches (leaf (node f ts)) y x i r = absurd i
+leaf_reaches (operation o a b) y x i r =
+    elim (In_either (leaf_variables a) (leaf_variables b) y i) [ inl j ↦ inl (leaf_reaches a y x j r) | inr j ↦ inr (leaf_reaches b y x j r) ]
+
+pub passes_reaches : {S : VarName → Option Tree} {t : Tree} {xs : List VarName} {x : VarName} → Comes S t xs x → Reaches S t x
+passes_reaches now = here refl
+passes_reaches (on e c) = through refl e (passes_reaches c)
+
+module _ (S S' : VarName → Option Tree) (a : Expression) (h : (x : VarName) → ExpressionReaches S a x → S' x ≡ S x) where
+  ends_there : (y : VarName) (e : Tree) → In y (leaf_variables a) → EndsIn S y e → EndsIn S' y e
+  ends_there y e i l = (l.0, leads_there l.1 (λ x p. h x (leaf_reaches a y x i (passes_reaches p.1))))
+
+  ends_back : (y : VarName) (e : Tree) → In y (leaf_variables a) → EndsIn S' y e → EndsIn S y e
+  ends_back y e i l = (l.0, leads_back l.1 (λ x p. h x (leaf_reaches a y x i (passes_reaches p.1))))
+
+  wants_there : (x : VarName) → Wants (EndsIn S) (leaf_variables a) x → Wants (EndsIn S') (leaf_variables a) x
+  wants_there x w = (w.0, w.1, ends_there w.0 (variable x) w.1 w.2)
+
+  wants_back : (x : VarName) → Wants (EndsIn S') (leaf_variables a) x → Wants (EndsIn S) (leaf_variables a) x
+  wants_back x w = (w.0, w.1, ends_back w.0 (variable x) w.1 w.2)
+
+  value_there : (v : Value) → HasValue S a v → HasValue S' a v
+  value_there (number k) p = number_there p ends_there
+  value_there (waits xs) p = (set_of xs (Wants (EndsIn S) (leaf_variables a)) (Wants (EndsIn S') (leaf_variables a)) wants_there wants_back p.0, (p.1.0, wants_there p.1.0 p.1.1))
+  value_there bad p = (λ x w. p.0 x (wants_back x w), λ k n. p.1 k (number_there n ends_back))
+
+pub value_looks : ValueLooksAtItsTerms
+value_looks S S' a v p h = value_there S S' a h v p

@@ -1,0 +1,7 @@
+pub mod Sets
+pub mod Position
+pub mod Value
+pub mod Match
+pub mod Looked
+pub mod Laws
+pub mod Facts

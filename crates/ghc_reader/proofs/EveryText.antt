@@ -1,0 +1,332 @@
+-- Every text is cut up to its end, or up to a first bad byte.
+use Rattle.std.proofs.Common.{◌≡◌, ◌≢◌, ◌⊎◌, ℕ, zero, suc, ◌<◌, ◌≤◌, Bool, true, false, List, [], ◌∷◌, ◌++◌, length, take, drop, Option, Some, All, FitsSigned, ℤ, refl, sym, ap, subst, ◌∙◌, inl, inr, arith, codes, bytes_eq, length-take-le, length-append, ltb}
+use Rattle.std.specs.Int.{w64}
+use Rattle.std.proofs.lemmas.Bool.{false≢true}
+use Rattle.std.proofs.lemmas.Bool.Decides.{Decides-ltb}
+use Rattle.std.proofs.lemmas.List.{take-append-drop}
+use Rattle.std.proofs.lemmas.List.Elements.{All-nil, All-cons}
+use Rattle.std.proofs.lemmas.Slice.Eq.{bytes_eq-Decides}
+use Rattle.std.proofs.Math.Seq.{take-append_seam}
+use Rattle.std.specs.Char.{is_ascii_digit, is_ascii_lowercase}
+use Rattle.std.specs.List.{list_all, filter_map}
+use Rattle.ghc_reader.specs.Bytes.{is_blank, is_word, begins_variable, IsRun, Lacks}
+use Rattle.ghc_reader.specs.Symbols.{spelling}
+use Rattle.ghc_reader.specs.Pieces.{Piece, IsByte, IsNegative, HasForm, Stands, HasNoPiece, spelled, Cuts, signs_behind, signs_after}
+use Rattle.ghc_reader.specs.Places.{start, place_behind}
+use Rattle.ghc_reader.specs.Lexed.{EndsNumber, IsReserved, IsRefusedToken, IsRefused, token_of, token_places, IsCutInto, EveryTextIsRead, NoTextIsReadTwice}
+use Rattle.ghc_reader.specs.declared.token.Token.{Token}
+use Rattle.ghc_reader.specs.declared.token.Token.TheVariants as token
+use Rattle.ghc_reader.specs.declared.lexer.front.Kind.{Kind}
+use Rattle.ghc_reader.specs.declared.lexer.front.Kind.TheVariants as kind
+use Rattle.ghc_reader.specs.declared.lexer.value.Reserved.{Reserved}
+use Rattle.ghc_reader.specs.declared.lexer.value.Reserved.TheVariants as reserved
+use Rattle.ghc_reader.proofs.Forms.{no_form_is_empty}
+use Rattle.ghc_reader.proofs.OnePiece.{symbol_of, symbol_of-spelling, one_piece}
+use Rattle.ghc_reader.proofs.OneLexing.{one_lexing, never_both, one_bad_byte}
+use Rattle.ghc_reader.proofs.Values.{no_number, no_second_number, reserved_ends, is_reserved_from}
+
+-- ---- facts that are so or not
+
+abbrev IsSoOrNot : Type 0 → Type 0
+IsSoOrNot P = P ⊎ (¬ P)
+
+true_or_not : (b : Bool) → IsSoOrNot (b ≡ true)
+true_or_not true = inl refl
+true_or_not false = inr (λ e. false≢true e)
+
+both_or_not : (P Q : Type 0) → IsSoOrNot P → IsSoOrNot Q → IsSoOrNot (P × Q)
+both_or_not P Q (inl p) (inl q) = inl (p, q)
+both_or_not P Q (inl p) (inr never) = inr (λ h. never h.1)
+both_or_not P Q (inr never) q = inr (λ h. never h.0)
+
+one_or_not : (P Q : Type 0) → IsSoOrNot P → IsSoOrNot Q → IsSoOrNot (P ⊎ Q)
+one_or_not P Q (inl p) q = inl (inl p)
+one_or_not P Q (inr never) (inl q) = inl (inr q)
+one_or_not P Q (inr never) (inr none) = inr (λ h. elim h [ inl p ↦ never p | inr q ↦ none q ])
+
+not_or_so : (P : Type 0) → IsSoOrNot P → IsSoOrNot (¬ P)
+not_or_so P (inl p) = inr (λ never. never p)
+not_or_so P (inr never) = inl never
+
+same_or_not : (xs ys : List ℕ) → IsSoOrNot (xs ≡ ys)
+same_or_not xs ys = elim (true_or_not (bytes_eq xs ys)) [
+  | inl same ↦ inl ((bytes_eq-Decides xs ys).0 same)
+  | inr other ↦ inr (λ e. other ((bytes_eq-Decides xs ys).1 e))
+]
+
+below_or_not : (P : Type 0) (a b : ℕ) → (a < b → P) → (P → a < b) → IsSoOrNot P
+below_or_not P a b to from = elim (true_or_not (ltb a b)) [
+  | inl below ↦ inl (to ((Decides-ltb a b).0 below))
+  | inr above ↦ inr (λ p. above ((Decides-ltb a b).1 (from p)))
+]
+
+-- ---- forms
+
+run_or_not : (first each : ℕ → Bool) (bs : List ℕ) → IsSoOrNot (IsRun first each bs)
+run_or_not first each [] = inr (λ run. run)
+run_or_not first each (b ∷ bs) = both_or_not _ _ (true_or_not (first b)) (true_or_not (list_all each bs))
+
+byte_or_not : (test : ℕ → Bool) (bs : List ℕ) → IsSoOrNot (IsByte test bs)
+byte_or_not test [] = inr (λ byte. byte)
+byte_or_not test (b ∷ bs) = both_or_not _ _ (true_or_not (test b)) (same_or_not bs [])
+
+negative_or_not : (bs : List ℕ) → IsSoOrNot (IsNegative bs)
+negative_or_not [] = inr (λ negative. negative)
+negative_or_not (b ∷ bs) = both_or_not _ _ (elim (same_or_not (b ∷ []) (45 ∷ [])) [ inl same ↦ inl (cc) | inr other ↦ inr (λ e. other (cc)) ]) (run_or_not is_ascii_digit is_ascii_digit bs)
+
+form_or_not : (signs : Bool) (k : Kind) (bs : List ℕ) → IsSoOrNot (HasForm signs k bs)
+form_or_not signs kind.Blank bs = byte_or_not is_blank bs
+form_or_not signs kind.Comment bs = run_or_not _ _ bs
+form_or_not signs kind.Name bs = both_or_not _ _ (run_or_not is_ascii_lowercase is_word bs) (not_or_so _ (same_or_not bs (codes "mod")))
+form_or_not signs kind.Variable bs = run_or_not begins_variable is_word bs
+form_or_not signs kind.Integer bs = one_or_not _ _ (run_or_not is_ascii_digit is_ascii_digit bs) (both_or_not _ _ (true_or_not signs) (negative_or_not bs))
+form_or_not signs (kind.Symbol s) bs = same_or_not bs (spelling s)
+
+abbrev IsFormed : Bool → List ℕ → Type 0
+IsFormed signs bs = (k : Kind) × HasForm signs k bs
+
+formed_or_not : (signs : Bool) (bs : List ℕ) → IsSoOrNot (IsFormed signs bs)
+formed_or_not signs bs =
+    elim (form_or_not signs kind.Blank bs) [
+      | inl form ↦ inl (kind.Blank, form)
+      | inr no_blank ↦
+          elim (form_or_not signs kind.Comment bs) [
+            | inl form ↦ inl (kind.Comment, form)
+            | inr no_comment ↦
+                elim (form_or_not signs kind.Name bs) [
+                  | inl form ↦ inl (kind.Name, form)
+                  | inr no_name ↦
+                      elim (form_or_not signs kind.Variable bs) [
+                        | inl form ↦ inl (kind.Variable, form)
+                        | inr no_variable ↦
+                            elim (form_or_not signs kind.Integer bs) [
+                              | inl form ↦ inl (kind.Integer, form)
+                              | inr no_integer ↦
+                                  elim (form_or_not signs (kind.Symbol (symbol_of bs)) bs) [
+                                    | inl form ↦ inl (kind.Symbol (symbol_of bs), form)
+                                    | inr no_symbol ↦
+                                        inr (λ formed. none no_blank no_comment no_name no_variable no_integer no_symbol formed.0 formed.1)
+                                  ]
+                            ]
+                      ]
+                ]
+          ]
+    ]
+  where
+    none : ¬ (HasForm signs kind.Blank bs) → ¬ (HasForm signs kind.Comment bs) → ¬ (HasForm signs kind.Name bs) → ¬ (HasForm signs kind.Variable bs) → ¬ (HasForm signs kind.Integer bs) → ¬ (HasForm signs (kind.Symbol (symbol_of bs)) bs) → (k : Kind) → HasForm signs k bs → ⊥
+    none no_blank no_comment no_name no_variable no_integer no_symbol kind.Blank form = no_blank form
+    none no_blank no_comment no_name no_variable no_integer no_symbol kind.Comment form = no_comment form
+    none no_blank no_comment no_name no_variable no_integer no_symbol kind.Name form = no_name form
+    none no_blank no_comment no_name no_variable no_integer no_symbol kind.Variable form = no_variable form
+    none no_blank no_comment no_name no_variable no_integer no_symbol kind.Integer form = no_integer form
+    none no_blank no_comment no_name no_variable no_integer no_symbol (kind.Symbol s) form =
+        no_symbol (form ∙ ap spelling (sym (ap symbol_of form ∙ symbol_of-spelling s)))
+
+-- ---- the longest beginning of a text that has a form
+
+record LongestBeginning (signs : Bool) (text : List ℕ) (bound : ℕ) : Type 0 where
+  bytes : ℕ
+  within : bytes ≤ bound
+  formed : IsFormed signs (take bytes text)
+  longest : (m : ℕ) → m ≤ bound → IsFormed signs (take m text) → m ≤ bytes
+
+longest_or_none : (signs : Bool) (text : List ℕ) (bound : ℕ) → LongestBeginning signs text bound ⊎ ((m : ℕ) → m ≤ bound → IsFormed signs (take m text) → ⊥)
+longest_or_none signs text zero = elim (formed_or_not signs (take 0 text)) [
+  | inl formed ↦ inl (record { bytes = 0; within = omega arith; formed = formed; longest = λ m h f. h })
+  | inr none ↦ inr (λ m h f. none (subst (λ n. IsFormed signs (take n text)) (at_zero m h) f))
+]
+  where
+    at_zero : (m : ℕ) → m ≤ 0 → m ≡ 0
+    at_zero m h = omega arith
+longest_or_none signs text (suc bound) = elim (formed_or_not signs (take (suc bound) text)) [
+  | inl formed ↦ inl (record { bytes = suc bound; within = omega arith; formed = formed; longest = λ m h f. h })
+  | inr none ↦ elim (longest_or_none signs text bound) [
+    | inl found ↦ inl (record { bytes = found.bytes; within = omega (arith, found.within); formed = found.formed; longest = λ m h f. found.longest m (below m none h f) f })
+    | inr none_below ↦ inr (λ m h f. none_below m (below m none h f) f)
+  ]
+]
+  where
+    below : (m : ℕ) → ¬ (IsFormed signs (take (suc bound) text)) → m ≤ suc bound → IsFormed signs (take m text) → m ≤ bound
+    below m none h f = elim (true_or_not (ltb m (suc bound))) [
+      | inl lt ↦ let l = (Decides-ltb m (suc bound)).0 lt in omega arith
+      | inr ge ↦ let same : m ≡ suc bound = at_bound m h (λ l. ge ((Decides-ltb m (suc bound)).1 l)) in absurd (none (subst (λ n. IsFormed signs (take n text)) same f))
+    ]
+      where
+        at_bound : (m : ℕ) → m ≤ suc bound → ¬ (m < suc bound) → m ≡ suc bound
+        at_bound m h n = omega arith
+
+-- the beginning of a text that a front is
+take_front : (text front rest : List ℕ) → text ≡ front ++ rest → take (length front) text ≡ front
+take_front text front rest e = ap (take (length front)) e ∙ take-append_seam front rest
+
+length_front : (text front rest : List ℕ) → text ≡ front ++ rest → length front ≤ length text
+length_front text front rest e = omega (arith, ap length e, length-append front rest)
+
+record FrontPiece (signs : Bool) (text : List ℕ) : Type 0 where
+  piece : Piece
+  rest : List ℕ
+  split : text ≡ piece.bytes ++ rest
+  stands : Stands signs piece rest
+
+piece_or_none : (signs : Bool) (text : List ℕ) → FrontPiece signs text ⊎ HasNoPiece signs text
+piece_or_none signs text = elim (longest_or_none signs text (length text)) [
+  | inl found ↦ inl (record {
+    piece = record { kind = found.formed.0; bytes = take found.bytes text };
+    rest = drop found.bytes text;
+    split = sym (take-append-drop found.bytes text);
+    stands = record {
+      form = found.formed.1;
+      longest = λ q more form e.
+          let split : text ≡ q.bytes ++ more = sym (take-append-drop found.bytes text) ∙ e in
+          let shorter = found.longest (length q.bytes) (length_front text q.bytes more split) (q.kind, subst (HasForm signs q.kind) (sym (take_front text q.bytes more split)) form) in
+          omega (arith, shorter, length-take-le found.bytes text found.within);
+    };
+  })
+  | inr none ↦ inr (λ p rest split form. none (length p.bytes) (length_front text p.bytes rest split) (p.kind, subst (HasForm signs p.kind) (sym (take_front text p.bytes rest split)) form))
+]
+
+-- ---- what is refused
+
+record SplitRun (test : ℕ → Bool) (bs : List ℕ) : Type 0 where
+  front : List ℕ
+  rest : List ℕ
+  split : bs ≡ front ++ rest
+  each : list_all test front ≡ true
+  stops : Lacks test rest
+
+split_run_of : (test : ℕ → Bool) (bs : List ℕ) → SplitRun test bs
+split_run_of test [] = record { front = []; rest = []; split = refl; each = refl; stops = tt }
+split_run_of test (b ∷ bs) = by_test (test b) refl (split_run_of test bs)
+  where
+    by_test : (t : Bool) → test b ≡ t → SplitRun test bs → SplitRun test (b ∷ bs)
+    by_test true passes more =
+        let all = more.each in
+        record { front = b ∷ more.front; rest = more.rest; split = ap (λ l. b ∷ l) more.split; each = grind (arith, all, passes); stops = more.stops }
+    by_test false fails more = record { front = []; rest = b ∷ bs; split = refl; each = refl; stops = fails }
+
+abbrev IsDigits : List ℕ → Type 0
+IsDigits = IsRun is_ascii_digit is_ascii_digit
+
+number_or_none : (text : List ℕ) → ((rest : List ℕ) × EndsNumber text rest) ⊎ ((digits more : List ℕ) → IsDigits digits → text ≢ 95 ∷ (digits ++ more))
+number_or_none [] = inr (λ digits more run e. cc)
+number_or_none (b ∷ bs) = elim (same_or_not (b ∷ []) (95 ∷ [])) [
+  | inr other ↦ inr (λ digits more run e. other (cc))
+  | inl same ↦ let s = split_run_of is_ascii_digit bs in by_front s.front s.rest same s.split s.each s.stops
+]
+  where
+    none_there : (rest digits more : List ℕ) → bs ≡ rest → Lacks is_ascii_digit rest → IsDigits digits → bs ≡ digits ++ more → ⊥
+    none_there rest [] more split stops run e = run
+    none_there rest (d ∷ ds) more split stops run e = let lacks = subst (Lacks is_ascii_digit) (sym split ∙ e) stops in let first = run.0 in grind (arith, lacks, first)
+
+    by_front : (front rest : List ℕ) → b ∷ [] ≡ 95 ∷ [] → bs ≡ front ++ rest → list_all is_ascii_digit front ≡ true → Lacks is_ascii_digit rest → ((rest : List ℕ) × EndsNumber (b ∷ bs) rest) ⊎ ((digits more : List ℕ) → IsDigits digits → b ∷ bs ≢ 95 ∷ (digits ++ more))
+    by_front [] rest same split each stops = inr (λ digits more run e. none_there rest digits more split stops run (cc))
+    by_front (d ∷ ds) rest same split each stops =
+        let first : is_ascii_digit d ≡ true = grind (arith, each) in
+        let others : list_all is_ascii_digit ds ≡ true = grind (arith, each) in
+        inl (rest, (d ∷ ds, (first, others), cc, stops))
+
+reserved_or_not : (bs : List ℕ) → IsSoOrNot (IsReserved bs)
+reserved_or_not bs = elim (number_or_none bs) [
+  | inr none ↦ inr (no_number bs none)
+  | inl (rest, first) ↦ elim (number_or_none rest) [
+    | inr none ↦ inr (no_second_number bs rest first none)
+    | inl (end, last) ↦ elim (same_or_not end []) [
+      | inl ended ↦ inl (is_reserved_from bs rest end first last ended)
+      | inr more ↦ inr (λ is. more (reserved_ends bs rest end first last is))
+    ]
+  ]
+]
+
+fits_or_not : (z : ℤ) → IsSoOrNot (FitsSigned w64 z)
+fits_or_not z = below_or_not (FitsSigned w64 z) _ _ (λ h. record { sfits = h }) (λ fits. fits.sfits)
+
+refused_or_not : (r : Reserved) (t : Option Token) → IsSoOrNot (IsRefusedToken r t)
+refused_or_not reserved.Refused (Some (token.Integer value)) = not_or_so _ (fits_or_not value)
+refused_or_not reserved.Allowed (Some (token.Integer value)) = not_or_so _ (fits_or_not value)
+refused_or_not reserved.Refused (Some (token.Variable bs)) = reserved_or_not bs
+refused_or_not reserved.Refused t = inr (λ h. h)
+refused_or_not reserved.Allowed t = inr (λ h. h)
+
+-- ---- the cut
+
+positive : (signs : Bool) (k : Kind) (bs : List ℕ) → HasForm signs k bs → 0 < length bs
+positive signs k [] form = absurd (no_form_is_empty signs k form)
+positive signs k (b ∷ bs) form = omega arith
+
+record CutText (r : Reserved) (signs : Bool) (text : List ℕ) : Type 0 where
+  pieces : List Piece
+  rest : List ℕ
+  whole : text ≡ spelled pieces rest
+  each_stands : Cuts signs pieces rest
+  none_refused : All (λ p. ¬ (IsRefused r p)) pieces
+  ends : (rest ≡ []) ⊎ ((rest ≢ []) × ((p : Piece) (more : List ℕ) → rest ≡ p.bytes ++ more → Stands (signs_after signs pieces) p more → IsRefused r p))
+
+cut_text : (n : ℕ) (r : Reserved) (signs : Bool) (text : List ℕ) → length text ≤ n → CutText r signs text
+cut_text n r signs [] short = record { pieces = []; rest = []; whole = refl; each_stands = tt; none_refused = All-nil (λ p. ¬ (IsRefused r p)); ends = inl refl }
+cut_text zero r signs (b ∷ bs) short = absurd (omega arith)
+cut_text (suc n) r signs (b ∷ bs) short = elim (piece_or_none signs (b ∷ bs)) [
+  | inr none ↦ record {
+    pieces = [];
+    rest = b ∷ bs;
+    whole = refl;
+    each_stands = tt;
+    none_refused = All-nil (λ p. ¬ (IsRefused r p));
+    ends = inr (λ e. cc, λ p more e stands. absurd (none p more e stands.form));
+  }
+  | inl found ↦ elim (refused_or_not r (token_of found.piece)) [
+    | inl bad ↦ record {
+      pieces = [];
+      rest = b ∷ bs;
+      whole = refl;
+      each_stands = tt;
+      none_refused = All-nil (λ p. ¬ (IsRefused r p));
+      ends = inr (λ e. cc, λ p more e stands. subst (IsRefused r) (one_piece signs found.piece p found.rest more found.stands stands (sym found.split ∙ e)) bad);
+    }
+    | inr fine ↦
+        let has = positive signs found.piece.kind found.piece.bytes found.stands.form in
+        let shorter : length found.rest ≤ n = omega (arith, has, ap length found.split, length-append found.piece.bytes found.rest) in
+        let others = cut_text n r (signs_behind signs found.piece.kind) found.rest shorter in
+        record {
+          pieces = found.piece ∷ others.pieces;
+          rest = others.rest;
+          whole = found.split ∙ ap (λ l. found.piece.bytes ++ l) others.whole;
+          each_stands = (subst (Stands signs found.piece) others.whole found.stands, others.each_stands);
+          none_refused = All-cons (λ p. ¬ (IsRefused r p)) found.piece others.pieces fine others.none_refused;
+          ends = others.ends;
+        }
+  ]
+]
+
+pub every_text_is_read : EveryTextIsRead
+every_text_is_read r text =
+    let found = cut_text (length text) r true text (omega arith) in
+    elim found.ends [
+      | inl ended ↦ inl (
+        filter_map token_of found.pieces,
+        token_places start found.pieces ++ place_behind start text ∷ [],
+        record {
+          pieces = found.pieces;
+          cut = subst (IsCutInto r text found.pieces) ended (record { whole = found.whole; each_stands = found.each_stands; none_refused = found.none_refused });
+          tokens_are = refl;
+          places_are = refl;
+        },
+      )
+      | inr (before, bad) ↦ inr (
+        place_behind start (spelled found.pieces []),
+        record {
+          pieces = found.pieces;
+          rest = found.rest;
+          cut = record { whole = found.whole; each_stands = found.each_stands; none_refused = found.none_refused };
+          before_the_end = before;
+          refused = bad;
+          place_is = refl;
+        },
+      )
+    ]
+
+pub no_text_is_read_twice : NoTextIsReadTwice
+no_text_is_read_twice r text = record {
+  one_lexing = one_lexing r text;
+  never_both = never_both r text;
+  one_bad_byte = one_bad_byte r text;
+}

@@ -1,0 +1,78 @@
+-- The derivation of an expression, from those of its parts, and the faults behind them.
+use Rattle.std.proofs.Common.{◌≡◌, ◌≢◌, ℕ, ℤ, List, [], ◌∷◌, length, Some, sym, ap, ◌∙◌, subst}
+use Rattle.ghc_reader.specs.declared.token.Sum.{Sum}
+use Rattle.ghc_reader.specs.declared.token.Product.{Product}
+use Rattle.ghc_reader.specs.declared.token.Mark.{Mark}
+use Rattle.ghc_reader.specs.declared.token.Mark.TheVariants.{Open, Close}
+use Rattle.ghc_reader.specs.declared.token.Token.{Token}
+use Rattle.ghc_reader.specs.declared.token.Token.TheVariants as token
+use Rattle.ghc_reader.specs.Front.{first, Begins}
+use Rattle.ghc_reader.specs.Grammar.{Operand, number, named, nested, Factors, Expression, operand, product, expression}
+use Rattle.ghc_reader.specs.Parts.{EndsOperand, EndsProduct, EndsExpression, Found, Fault}
+use Rattle.ghc_reader.specs.Derived.{operand_of, product_of, value_of}
+use Rattle.ghc_reader.specs.declared.source.SourceExpression.TheVariants as ev
+use Rattle.ghc_reader.specs.Source.{Value}
+use Rattle.ghc_reader.specs.Views.{value_view}
+use Rattle.ghc_reader.proofs.Views.{view_named, view_number}
+use Rattle.ghc_reader.proofs.OneExpression.{BeginsNoOperand}
+use Rattle.ghc_reader.proofs.Loops.{FactorsSoFar, ExpressionSoFar}
+use Rattle.ghc_reader.proofs.ExpressionFaults as faults
+
+abbrev pub OperandFound : List Token → Value → List Token → Type 0
+OperandFound = Found Operand Value operand operand_of EndsOperand
+
+abbrev pub FactorsFound : List Token → Value → List Token → Type 0
+FactorsFound = Found Factors Value product product_of EndsProduct
+
+abbrev pub ExpressionFound : List Token → Value → List Token → Type 0
+ExpressionFound = Found Expression Value expression value_of EndsExpression
+
+abbrev pub OperandFault : List Token → ℕ → Type 0
+OperandFault = Fault Operand operand EndsOperand
+
+abbrev pub FactorsFault : List Token → ℕ → Type 0
+FactorsFault = Fault Factors product EndsProduct
+
+abbrev pub ExpressionFault : List Token → ℕ → Type 0
+ExpressionFault = Fault Expression expression EndsExpression
+
+pub found_named : (ts behind : List Token) (n : List ℕ) → ts ≡ token.Variable n ∷ behind → OperandFound ts (value_view (ev.Variable n)) behind
+found_named ts behind n e = record { derivation = named n; spelled = e; sees = sym (view_named n); stops = tt }
+
+pub found_number : (ts behind : List Token) (n : ℤ) → ts ≡ token.Integer n ∷ behind → OperandFound ts (value_view (ev.Integer n)) behind
+found_number ts behind n e = record { derivation = number n; spelled = e; sees = sym (view_number n); stops = tt }
+
+pub found_nested : (ts inside behind after : List Token) (a : Value) → ts ≡ token.Mark Open ∷ inside → ExpressionFound inside a behind → behind ≡ token.Mark Close ∷ after → OperandFound ts a after
+found_nested ts inside behind after a e x f = record {
+  derivation = nested x.derivation;
+  spelled = e ∙ ap (λ l. token.Mark Open ∷ l) (x.spelled ∙ ap (expression x.derivation) f);
+  sees = x.sees;
+  stops = tt;
+}
+
+pub at_operand_close : (ts inside behind : List Token) (a : Value) → ts ≡ token.Mark Open ∷ inside → ExpressionFound inside a behind → ¬ Begins Close behind → OperandFault ts (length behind)
+at_operand_close ts inside behind a e x n =
+    subst (λ l. OperandFault l (length behind)) (sym (e ∙ ap (λ l. token.Mark Open ∷ l) x.spelled)) (faults.operand_close_missing x.derivation behind x.stops n)
+
+pub at_no_operand : (ts behind : List Token) (t : Token) → BeginsNoOperand t → ts ≡ t ∷ behind → OperandFault ts (length ts)
+at_no_operand ts behind t h e = faults.no_operand_here ts (subst (λ l. faults.NoOperandAt (first l)) (sym e) h)
+
+pub at_no_operand_mark : (ts behind : List Token) (m : Mark) → ts ≡ token.Mark m ∷ behind → ¬ Begins Open ts → OperandFault ts (length ts)
+at_no_operand_mark ts behind m e n = at_no_operand ts behind (token.Mark m) (λ same. n (ap first e ∙ ap (λ k. Some (token.Mark k)) same)) e
+
+pub at_no_token : (ts : List Token) → ts ≡ [] → OperandFault ts 0
+at_no_token ts e = subst (λ l. OperandFault l 0) (sym e) (faults.no_operand_here [] tt)
+
+pub found_factors : (ts behind : List Token) (a b : Value) → FactorsSoFar ts a behind → ((k : Product) → first behind ≢ Some (token.Product k)) → b ≡ a → FactorsFound ts b behind
+found_factors ts behind a b x n e = record { derivation = x.so_far; spelled = x.spelled; sees = x.sees ∙ sym e; stops = n }
+
+pub in_next_operand : (ts behind inside : List Token) (a : Value) (o : Product) (left : ℕ) → FactorsSoFar ts a behind → behind ≡ token.Product o ∷ inside → OperandFault inside left → FactorsFault ts left
+in_next_operand ts behind inside a o left x e f =
+    subst (λ l. FactorsFault l left) (sym (x.spelled ∙ ap (product x.so_far) e)) (faults.next_in_product x.so_far o inside left f)
+
+pub found_expression : (ts behind : List Token) (a b : Value) → ExpressionSoFar ts a behind → ((k : Sum) → first behind ≢ Some (token.Sum k)) → b ≡ a → ExpressionFound ts b behind
+found_expression ts behind a b x n e = record { derivation = x.so_far; spelled = x.spelled; sees = x.sees ∙ sym e; stops = record { product = x.product; sum = n } }
+
+pub in_next_factors : (ts behind inside : List Token) (a : Value) (o : Sum) (left : ℕ) → ExpressionSoFar ts a behind → behind ≡ token.Sum o ∷ inside → FactorsFault inside left → ExpressionFault ts left
+in_next_factors ts behind inside a o left x e f =
+    subst (λ l. ExpressionFault l left) (sym (x.spelled ∙ ap (expression x.so_far) e)) (faults.next_in_expression x.so_far o inside left f)

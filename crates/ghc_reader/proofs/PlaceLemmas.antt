@@ -1,0 +1,106 @@
+-- Where the text goes on behind a piece.
+use Rattle.std.proofs.Common.{◌≡◌, ◌⊎◌, ℕ, ◌+◌, ◌≤◌, Bool, true, false, List, [], ◌∷◌, ◌++◌, length, refl, sym, ap, subst, ◌∙◌, inl, inr, arith, ◌==◌, not, add-zero}
+use Rattle.std.proofs.lemmas.Bool.Decides.{nat_tests, eqb_tells}
+use Rattle.std.specs.Char.{is_ascii_digit}
+use Rattle.std.specs.List.{list_all}
+use Rattle.ghc_reader.specs.Bytes.{is_word}
+use Rattle.ghc_reader.specs.Places.{behind_byte, place_behind}
+use Rattle.ghc_reader.specs.Pieces.{HasForm}
+use Rattle.ghc_reader.specs.declared.place.Place.{Place}
+use Rattle.ghc_reader.specs.declared.token.Mark.TheVariants.{Open}
+use Rattle.ghc_reader.specs.declared.token.Comparison.TheVariants.{Less}
+use Rattle.ghc_reader.specs.declared.token.Sum.TheVariants.{Plus}
+use Rattle.ghc_reader.specs.declared.token.Product.TheVariants.{Modulo}
+use Rattle.ghc_reader.specs.Symbols.{spelling}
+use Rattle.ghc_reader.specs.declared.lexer.symbol.Symbol.{Symbol}
+use Rattle.ghc_reader.specs.declared.lexer.symbol.Symbol.TheVariants as symbol
+use Rattle.ghc_reader.specs.declared.lexer.front.Kind.{Kind}
+use Rattle.ghc_reader.specs.declared.lexer.front.Kind.TheVariants as kind
+
+-- no line feed
+abbrev no_feed : ℕ → Bool
+no_feed b = not (b == 10)
+
+all_weaker : (p q : ℕ → Bool) → ((b : ℕ) → p b ≡ true → q b ≡ true) → (bs : List ℕ) → list_all p bs ≡ true → list_all q bs ≡ true
+all_weaker p q weaker [] all = refl
+all_weaker p q weaker (b ∷ bs) all =
+    let first : p b ≡ true = grind (arith, all) in
+    let others : list_all p bs ≡ true = grind (arith, all) in
+    let this = weaker b first in
+    let those = all_weaker p q weaker bs others in
+    grind (arith, this, those)
+
+-- behind bytes of one line
+pub behind_line : (place : Place) (bs : List ℕ) → list_all no_feed bs ≡ true → place_behind place bs ≡ record { line = place.line; column = place.column + length bs }
+behind_line place [] all = ap (λ c. record { line = place.line; column = c }) (sym (add-zero place.column))
+behind_line place (b ∷ bs) all =
+    let first : (b == 10) ≡ false = grind (arith, all) in
+    let others : list_all no_feed bs ≡ true = grind (arith, all) in
+    let here : behind_byte place b ≡ record { line = place.line; column = place.column + 1 } = rw first refl in
+    let next = behind_line (record { line = place.line; column = place.column + 1 }) bs others in
+    let sums : place.column + 1 + length bs ≡ place.column + length (b ∷ bs) = omega arith in
+    ap (λ p. place_behind p bs) here ∙ next ∙ ap (λ c. record { line = place.line; column = c }) sums
+
+symbol_in_line : (s : Symbol) → list_all no_feed (spelling s) ≡ true
+symbol_in_line (symbol.Mark Open) = refl
+symbol_in_line (symbol.Comparison Less) = refl
+symbol_in_line (symbol.Sum Plus) = refl
+symbol_in_line (symbol.Product Modulo) = refl
+symbol_in_line s = refl
+
+-- a piece is a line feed or stands in one line
+pub feed_or_line : (signs : Bool) (k : Kind) (bs : List ℕ) → HasForm signs k bs → (bs ≡ 10 ∷ []) ⊎ (list_all no_feed bs ≡ true)
+feed_or_line signs kind.Blank [] form = absurd form
+feed_or_line signs kind.Blank (b ∷ bs) form =
+    let alone = form.1 in
+    elim (eqb_tells b 10) [
+      | inl (_, feed) ↦ inl (cc)
+      | inr (other, _) ↦ inr (subst (λ l. list_all no_feed (b ∷ l) ≡ true) (sym alone) (grind (arith, other)))
+    ]
+feed_or_line signs k [] form = inr refl
+feed_or_line signs kind.Comment (b ∷ bs) form = inr (let h = form.0 in let r = form.1 in grind (arith, nat_tests, h, r))
+feed_or_line signs kind.Name (b ∷ bs) form =
+    inr (let h = form.0.0 in let r = all_weaker is_word no_feed (λ c p. grind (arith, nat_tests)) bs form.0.1 in grind (arith, nat_tests, h, r))
+feed_or_line signs kind.Variable (b ∷ bs) form =
+    inr (let h = form.0 in let r = all_weaker is_word no_feed (λ c p. grind (arith, nat_tests)) bs form.1 in grind (arith, nat_tests, h, r))
+feed_or_line signs kind.Integer (b ∷ bs) (inl run) =
+    inr (let h = run.0 in let r = all_weaker is_ascii_digit no_feed (λ c p. grind (arith, nat_tests)) bs run.1 in grind (arith, nat_tests, h, r))
+feed_or_line signs kind.Integer (b ∷ []) (inr negative) = absurd negative.1.1
+feed_or_line signs kind.Integer (b ∷ d ∷ ds) (inr negative) =
+    let h = negative.1.0 in
+    let i = negative.1.1.0 in
+    let r = all_weaker is_ascii_digit no_feed (λ c p. grind (arith, nat_tests)) ds negative.1.1.1 in
+    inr (grind (arith, nat_tests, h, i, r))
+feed_or_line signs (kind.Symbol s) (b ∷ bs) form = inr (subst (λ l. list_all no_feed l ≡ true) (sym form) (symbol_in_line s))
+
+pub behind_feed : (place : Place) (bs : List ℕ) → bs ≡ 10 ∷ [] → place_behind place bs ≡ record { line = place.line + 1; column = 1 }
+behind_feed place bs e = ap (place_behind place) e
+
+-- behind a piece that is no line feed
+pub behind_other : (place : Place) (signs : Bool) (k : Kind) (bs : List ℕ) → HasForm signs k bs → ¬ (bs ≡ 10 ∷ []) → place_behind place bs ≡ record { line = place.line; column = place.column + length bs }
+behind_other place signs k bs form other =
+    elim (feed_or_line signs k bs form) [ inl feed ↦ absurd (other feed) | inr line ↦ behind_line place bs line ]
+
+-- a place is at most as many lines and columns on as there are bytes before it
+pub record Within (place end : Place) (n : ℕ) : Type 0 where
+  pub line : end.line ≤ place.line + n
+  pub column : end.column ≤ place.column + n
+  pub first_column : 1 ≤ place.column → 1 ≤ end.column
+
+pub behind_within : (place : Place) (bs : List ℕ) → 1 ≤ place.column → Within place (place_behind place bs) (length bs)
+behind_within place [] positive = record { line = omega arith; column = omega arith; first_column = λ h. h }
+behind_within place (b ∷ bs) positive =
+    elim (eqb_tells b 10) [
+      | inl (feed, _) ↦
+          let here : behind_byte place b ≡ record { line = place.line + 1; column = 1 } = rw feed refl in
+          let more = behind_within (record { line = place.line + 1; column = 1 }) bs (omega arith) in
+          subst (λ p. Within place (place_behind p bs) (length (b ∷ bs))) (sym here) (record { line = omega (arith, more.line); column = omega (arith, more.column); first_column = λ h. more.first_column (omega arith) })
+      | inr (other, _) ↦
+          let here : behind_byte place b ≡ record { line = place.line; column = place.column + 1 } = rw other refl in
+          let more = behind_within (record { line = place.line; column = place.column + 1 }) bs (omega arith) in
+          subst (λ p. Within place (place_behind p bs) (length (b ∷ bs))) (sym here) (record { line = omega (arith, more.line); column = omega (arith, more.column); first_column = λ h. more.first_column (omega arith) })
+    ]
+
+pub place_behind-append : (place : Place) (front bs : List ℕ) → place_behind place (front ++ bs) ≡ place_behind (place_behind place front) bs
+place_behind-append place [] bs = refl
+place_behind-append place (b ∷ front) bs = place_behind-append (behind_byte place b) front bs

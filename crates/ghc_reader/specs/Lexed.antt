@@ -1,0 +1,122 @@
+-- What a text is read as: its tokens with their places, or the first byte that is refused.
+use Rattle.std.specs.Prelude.{◌≡◌, ◌≢◌, ◌⊎◌, ℕ, ◌<◌, ◌≤◌, List, [], ◌∷◌, ◌++◌, length, true, Option, Some, None, All, ⊤, FitsSigned}
+use Rattle.std.specs.Int.{w64}
+use Rattle.std.specs.Char.{is_ascii_digit}
+use Rattle.std.specs.List.{filter_map}
+use Rattle.std.specs.Str.Parse.{signed_digits_value}
+use Rattle.ghc_reader.specs.Bytes.{IsRun, Lacks}
+use Rattle.ghc_reader.specs.Symbols.{token_of_symbol}
+use Rattle.ghc_reader.specs.Pieces.{Piece, Stands, spelled, Cuts, signs_after}
+use Rattle.ghc_reader.specs.Places.{start, place_behind}
+use Rattle.ghc_term.specs.declared.fault.Fault.{Fault}
+use Rattle.ghc_term.specs.declared.fault.Fault.TheVariants as fault
+use Rattle.ghc_term.specs.declared.limit.Limit.TheVariants as limit
+use Rattle.ghc_reader.specs.declared.token.Token.{Token}
+use Rattle.ghc_reader.specs.declared.token.Token.TheVariants as token
+use Rattle.ghc_reader.specs.declared.place.Place.{Place}
+use Rattle.ghc_reader.specs.declared.lexer.front.Kind.{Kind}
+use Rattle.ghc_reader.specs.declared.lexer.front.Kind.TheVariants.{Blank, Comment, Name, Variable, Integer, Symbol}
+use Rattle.ghc_reader.specs.declared.lexer.front.Front.{Front}
+use Rattle.ghc_reader.specs.declared.lexer.value.Reserved.{Reserved}
+use Rattle.ghc_reader.specs.declared.lexer.value.Reserved.TheVariants.{Refused}
+
+-- ---- one piece
+
+-- the piece that the reader found
+abbrev pub piece_of : Front → Piece
+piece_of front = record { kind = front.kind; bytes = front.bytes.now }
+
+-- the token of bytes of a kind; a blank and a comment are none
+abbrev pub token_of_bytes : Kind → List ℕ → Option Token
+token_of_bytes Blank bs = None
+token_of_bytes Comment bs = None
+token_of_bytes Name bs = Some (token.Name bs)
+token_of_bytes Variable bs = Some (token.Variable bs)
+token_of_bytes Integer bs = Some (token.Integer (signed_digits_value 10 bs))
+token_of_bytes (Symbol s) bs = Some (token_of_symbol s)
+
+abbrev pub token_of : Piece → Option Token
+token_of p = token_of_bytes p.kind p.bytes
+
+-- the text is `_`, one digit or more, and then the rest, which no digit begins
+abbrev pub EndsNumber : List ℕ → List ℕ → Type 0
+EndsNumber text rest =
+    (digits : List ℕ) × IsRun is_ascii_digit is_ascii_digit digits × (text ≡ 95 ∷ (digits ++ rest)) × Lacks is_ascii_digit rest
+
+-- `_`, digits, `_`, digits
+abbrev pub IsReserved : List ℕ → Type 0
+IsReserved bs =
+    (first second : List ℕ) × IsRun is_ascii_digit is_ascii_digit first × IsRun is_ascii_digit is_ascii_digit second
+    × (bs ≡ 95 ∷ (first ++ 95 ∷ second))
+
+-- the token is refused: an integer that doesn't fit 64 bits, or a reserved variable where a text may not hold one
+abbrev pub IsRefusedToken : Reserved → Option Token → Type 0
+IsRefusedToken reserved (Some (token.Integer value)) = ¬ (FitsSigned w64 value)
+IsRefusedToken Refused (Some (token.Variable bs)) = IsReserved bs
+IsRefusedToken reserved t = ⊥
+
+abbrev pub IsRefused : Reserved → Piece → Type 0
+IsRefused reserved p = IsRefusedToken reserved (token_of p)
+
+-- ---- a text
+
+-- the text is cut into these pieces and a rest, and none of the pieces is refused
+pub record IsCutInto (reserved : Reserved) (text : List ℕ) (pieces : List Piece) (rest : List ℕ) : Type 0 where
+  pub whole : text ≡ spelled pieces rest
+  pub each_stands : Cuts true pieces rest
+  pub none_refused : All (λ p. ¬ (IsRefused reserved p)) pieces
+
+-- a place for each piece that is a token
+abbrev pub place_of_token : Option Token → Place → List Place → List Place
+place_of_token None place places = places
+place_of_token (Some t) place places = place ∷ places
+
+abbrev pub token_places : Place → List Piece → List Place
+token_places place [] = []
+token_places place (p ∷ ps) = place_of_token (token_of p) place (token_places (place_behind place p.bytes) ps)
+
+-- The text is cut into pieces, none of them refused; these are their tokens, with the place of each, and behind the last
+-- the place of the end.
+pub record IsLexed (reserved : Reserved) (text : List ℕ) (tokens : List Token) (places : List Place) : Type 0 where
+  pub pieces : List Piece
+  pub cut : IsCutInto reserved text pieces []
+  pub tokens_are : tokens ≡ filter_map token_of pieces
+  pub places_are : places ≡ token_places start pieces ++ place_behind start text ∷ []
+
+-- The place is that of the first byte at which no token starts, or of the first byte of the first token that is refused:
+-- the text in front of it is cut into pieces that aren't, and any piece that stands there is refused.
+pub record IsBadAt (reserved : Reserved) (text : List ℕ) (place : Place) : Type 0 where
+  pub pieces : List Piece
+  pub rest : List ℕ
+  pub cut : IsCutInto reserved text pieces rest
+  pub before_the_end : rest ≢ []
+  pub refused : (p : Piece) (more : List ℕ) → rest ≡ p.bytes ++ more → Stands (signs_after true pieces) p more → IsRefused reserved p
+  pub place_is : place ≡ place_behind start (spelled pieces [])
+
+-- the most bytes of a text
+abbrev pub most_bytes : ℕ
+most_bytes = 1048576
+
+-- why a text has no tokens: it is too long, has a bad byte, or memory was refused
+abbrev pub IsLexFault : Reserved → List ℕ → Fault → Type 0
+IsLexFault reserved text fault.Memory = ⊤
+IsLexFault reserved text (fault.Syntax line column) = (length text ≤ most_bytes) × IsBadAt reserved text (record { line = line; column = column })
+IsLexFault reserved text (fault.Limit limit.Text) = most_bytes < length text
+IsLexFault reserved text f = ⊥
+
+-- ---- laws
+
+-- every text has tokens or a first bad byte
+abbrev pub EveryTextIsRead : Type 0
+EveryTextIsRead =
+    (reserved : Reserved) (text : List ℕ)
+    → ((tokens : List Token) × (places : List Place) × IsLexed reserved text tokens places) ⊎ ((place : Place) × IsBadAt reserved text place)
+
+-- no text has two lists of tokens, or both tokens and a first bad byte, or two first bad bytes
+pub record IsReadOnce (reserved : Reserved) (text : List ℕ) : Type 0 where
+  pub one_lexing : (tokens tokens' : List Token) (places places' : List Place) → IsLexed reserved text tokens places → IsLexed reserved text tokens' places' → (tokens ≡ tokens') × (places ≡ places')
+  pub never_both : (tokens : List Token) (places : List Place) (place : Place) → IsLexed reserved text tokens places → IsBadAt reserved text place → ⊥
+  pub one_bad_byte : (place place' : Place) → IsBadAt reserved text place → IsBadAt reserved text place' → place ≡ place'
+
+abbrev pub NoTextIsReadTwice : Type 0
+NoTextIsReadTwice = (reserved : Reserved) (text : List ℕ) → IsReadOnce reserved text

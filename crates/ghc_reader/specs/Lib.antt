@@ -1,0 +1,14 @@
+pub mod Front
+pub mod Grammar
+pub mod Source
+pub mod Derived
+pub mod Views
+pub mod Viable
+pub mod Parts
+pub mod Reserved
+pub mod Bytes
+pub mod Symbols
+pub mod Pieces
+pub mod Places
+pub mod Lexed
+pub mod Depth

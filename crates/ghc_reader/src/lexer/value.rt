@@ -1,0 +1,118 @@
+// What the bytes of a piece say: the token of a name, a variable, an integer or a symbol.
+ghost use Rattle.std.specs.Prelude.{◌≡◌, ◌≢◌, ◌∷◌, ◌++◌, ℕ, List, ◌↔◌, ◌⊎◌, true, IsTrue, IfOk, IfErr, MatchOption, MatchResult, FitsSigned};
+ghost use Rattle.std.specs.Char.{is_ascii_digit};
+ghost use Rattle.std.specs.Int.{w64};
+ghost use Rattle.std.specs.List.{list_all};
+ghost use Rattle.std.specs.Str.{IsAscii};
+ghost use Rattle.std.specs.Str.Parse.{signed_digits_value};
+ghost use Rattle.ghc_reader.specs.declared.lexer.front.Kind.TheVariants.{Integer};
+ghost use Rattle.ghc_reader.specs.Bytes.{is_word, IsRun};
+ghost use Rattle.ghc_reader.specs.Pieces.{HasForm};
+ghost use Rattle.ghc_reader.specs.Places.{fault_at};
+ghost use Rattle.ghc_reader.specs.Lexed.{EndsNumber, IsReserved, IsRefused, piece_of, token_of};
+
+use crate::lexer::front::{Front, Kind};
+use crate::lexer::names::Names;
+use crate::lexer::run::{Run, split_run};
+use crate::lexer::symbol::symbol_token;
+use crate::place::Place;
+use crate::token::Token;
+use ghc_term::{Fault, Name};
+use std::alloc::AllocError;
+use std::str;
+
+/// Whether a text may hold reserved variables, those that stand for variables of the state.
+#[derive(Clone, Copy, PartialEq, Eq, Debug)]
+pub(crate) enum Reserved {
+    /// It may not, as in a program, a query or an input term.
+    Refused,
+    /// It may, as where a history is read.
+    Allowed,
+}
+
+/// What is behind `_` and one digit or more, as many as there are.
+fn after_number(text: &[u8]) -> Option<&[u8]>
+    ensures { MatchOption result
+        ((digits more : List ℕ) → IsRun is_ascii_digit is_ascii_digit digits → text.now ≢ 95 ∷ (digits ++ more))
+        (λ rest. EndsNumber text.now rest.now) }
+{
+    let [b'_', behind @ ..] = text else {
+        return None;
+    };
+    let (digits, rest) = split_run(Run::Digits, behind);
+    if digits.is_empty() { None } else { Some(rest) }
+}
+
+/// Whether the bytes are those of a reserved variable: `_`, digits, `_`, digits.
+fn is_reserved(bytes: &[u8]) -> bool
+    ensures { IsTrue result ↔ IsReserved bytes.now }
+{
+    let Some(behind) = after_number(bytes) else {
+        return false;
+    };
+    let Some(end) = after_number(behind) else {
+        return false;
+    };
+    end.is_empty()
+}
+
+/// The bytes as text.
+fn ascii_text(bytes: &[u8]) -> &str
+    requires { IsAscii bytes.now }
+    ensures { result.now ≡ bytes.now }
+{
+    str::from_utf8(bytes).unwrap()
+}
+
+/// The value of an integer, where it fits 64 bits.
+fn value(bytes: &[u8]) -> Option<i64>
+    requires { HasForm true Integer bytes.now }
+    ensures { MatchOption result
+        (¬ (FitsSigned w64 (signed_digits_value 10 bytes.now)))
+        (λ value. (value ≡ signed_digits_value 10 bytes.now) × FitsSigned w64 value) }
+{
+    match ascii_text(bytes).parse::<i64>() {
+        Ok(value) => Some(value),
+        Err(_) => None,
+    }
+}
+
+/// The name that the bytes are.
+fn word<'a>(names: &mut Names<'a>, bytes: &'a [u8]) -> Result<Name, AllocError>
+    requires { IsTrue (list_all is_word bytes.now) }
+    ensures { IfOk result (λ name. name ≡ bytes.now) }
+{
+    names.name(ascii_text(bytes))
+}
+
+/// The token of a piece that stands at the place. A blank and a comment are no token; what is refused is a syntax error
+/// at the place.
+pub(crate) fn token<'a>(
+    names: &mut Names<'a>,
+    front: &Front<'a>,
+    reserved: Reserved,
+    place: Place,
+) -> Result<Option<Token>, Fault>
+    requires { HasForm true front.now.kind front.now.bytes.now }
+    ensures found { IfOk result (λ token.
+        (token ≡ token_of (piece_of front.now)) × ¬ (IsRefused reserved (piece_of front.now))) }
+    ensures refused { IfErr result (λ fault.
+        (fault ≡ Fault.Memory) ⊎ ((fault ≡ fault_at place) × IsRefused reserved (piece_of front.now))) }
+{
+    match front.kind {
+        Kind::Blank => Ok(None),
+        Kind::Comment => Ok(None),
+        Kind::Name => Ok(Some(Token::Name(word(names, front.bytes)?))),
+        Kind::Variable => {
+            if reserved == Reserved::Refused && is_reserved(front.bytes) {
+                return Err(place.fault());
+            }
+            Ok(Some(Token::Variable(word(names, front.bytes)?)))
+        }
+        Kind::Integer => match value(front.bytes) {
+            Some(value) => Ok(Some(Token::Integer(value))),
+            None => Err(place.fault()),
+        },
+        Kind::Symbol(symbol) => Ok(Some(symbol_token(symbol))),
+    }
+}

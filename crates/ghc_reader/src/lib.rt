@@ -1,0 +1,19 @@
+//! The reader: from the bytes of a program, a query or an input term to its tree.
+#![tactic(auto)]
+
+pub mod clause_parser;
+pub mod depth;
+pub mod expression_parser;
+pub mod front;
+pub mod goal_parser;
+pub mod halt;
+pub mod input_parser;
+pub mod lexer;
+pub mod parser;
+pub mod place;
+pub mod reserved;
+pub mod source;
+pub mod term_parser;
+#[cfg(test)]
+mod tests;
+pub mod token;

@@ -1,0 +1,84 @@
+// The tokens of a text.
+
+use ghc_term::Name;
+
+/// A mark that brackets, separates or ends.
+#[derive(Clone, Copy, PartialEq, Eq, Debug)]
+pub enum Mark {
+    /// `(`
+    Open,
+    /// `)`
+    Close,
+    /// `[`
+    OpenList,
+    /// `]`
+    CloseList,
+    /// `,`
+    Comma,
+    /// `|`
+    Bar,
+    /// `=`
+    Equals,
+    /// `:=`
+    Assign,
+    /// `:-`
+    Define,
+    /// `.`
+    Stop,
+}
+
+/// A mark that compares two integers.
+#[derive(Clone, Copy, PartialEq, Eq, Debug)]
+pub enum Comparison {
+    /// `<`
+    Less,
+    /// `=<`
+    AtMost,
+    /// `>`
+    Greater,
+    /// `>=`
+    AtLeast,
+    /// `=:=`
+    Equal,
+    /// `=\=`
+    NotEqual,
+}
+
+/// A mark that adds or subtracts.
+#[derive(Clone, Copy, PartialEq, Eq, Debug)]
+pub enum Sum {
+    /// `+`
+    Plus,
+    /// `-` where it is no sign of an integer
+    Minus,
+}
+
+/// A mark that multiplies or divides, or the word `mod`.
+#[derive(Clone, Copy, PartialEq, Eq, Debug)]
+pub enum Product {
+    /// `*`
+    Times,
+    /// `/`
+    Divide,
+    /// `mod`
+    Modulo,
+}
+
+/// One token. A clause sees a name or a variable as its bytes.
+#[derive(Debug, Drop)]
+pub enum Token {
+    /// The name of an atom, a functor or a predicate; `mod` is none.
+    Name(Name),
+    /// A variable, `_` among them.
+    Variable(Name),
+    /// An integer with its sign.
+    Integer(i64),
+    /// A bracket, a separator, an equals sign or an end.
+    Mark(Mark),
+    /// A comparison of two integers.
+    Comparison(Comparison),
+    /// An addition or a subtraction.
+    Sum(Sum),
+    /// A multiplication or a division.
+    Product(Product),
+}

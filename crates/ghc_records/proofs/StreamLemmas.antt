@@ -1,0 +1,162 @@
+-- A run keeps one goal a stream.
+use Rattle.std.proofs.Common.{◌≡◌, ◌≢◌, ℕ, zero, suc, ◌+◌, ◌⊎◌, true, false, cond, List, [], ◌∷◌, filter, refl, sym, ap, ◌∙◌, subst, inl, inr, arith, Some, None, slice_get}
+use Rattle.std.specs.Prelude.{Option}
+use Rattle.std.specs.Ordering.{eq_by_cmp}
+use Rattle.std.specs.FinMap as finite
+use Rattle.ghc_term.specs.declared.var_name.VarName.{VarName}
+use Rattle.ghc_term.specs.declared.goal_name.GoalName.{GoalName}
+use Rattle.ghc_term.specs.Tree.{Tree}
+use Rattle.ghc_term.specs.Goal.{Goal, call, unify, assign, stream}
+use Rattle.ghc_term.specs.Lists.{In}
+use Rattle.ghc_term.specs.Store.{value_at}
+use Rattle.ghc_flat.specs.Clause.{Program, Query}
+use Rattle.ghc_flat.specs.Flat.{is_stream, IsProgram, IsQuery}
+use Rattle.ghc_fire.specs.Instance.{becomes, replace_in_goal}
+use Rattle.ghc_fire.specs.Effect.{Act, by_clause, unified, assigned, given, closed, Effect, HasEffect}
+use Rattle.ghc_fire.specs.Goals.{goal_cmp, Goals}
+use Rattle.ghc_records.specs.Record.{State, Record, with_makes, without_goal, after, Fires, IsThere, HasStepEffect}
+use Rattle.ghc_records.specs.Replay.{query_state, Runs}
+use Rattle.ghc_records.proofs.Names.{goal_total, same_goal}
+use Rattle.ghc_records.proofs.States.{old_apart}
+use Rattle.ghc_records.proofs.Effects.{mapped, not_stream, clause_in}
+
+-- each stream has one goal at most
+abbrev pub OneEach : State → Type 0
+OneEach s = (k : ℕ) (g h : GoalName) (x y : VarName) → finite.get s.goals g ≡ Some (stream k x) → finite.get s.goals h ≡ Some (stream k y) → g ≡ h
+
+same_name : (g h : GoalName) → g.step ≡ h.step → g.place ≡ h.place → g ≡ h
+same_name g h p q i = record { step = p i; place = q i }
+
+-- a goal of the state after a step was made by it at a place, or was there
+abbrev MadeAt : ℕ → ℕ → List Goal → GoalName → Goal → Type 0
+MadeAt n i gs h b = (j : ℕ) × (slice_get gs j ≡ Some b) × (h.step ≡ n) × (h.place ≡ i + j)
+
+made_at : (n i : ℕ) (gs : List Goal) (m : Goals) (h : GoalName) (b : Goal) → finite.get (with_makes n i gs m) h ≡ Some b → MadeAt n i gs h b ⊎ (finite.get m h ≡ Some b)
+made_at n i [] m h b e = inr e
+made_at n i (g ∷ gs) m h b e =
+    elim (eq_by_cmp goal_cmp h (record { step = n; place = i })) as (λ c. eq_by_cmp goal_cmp h (record { step = n; place = i }) ≡ c → cond c (Some g) (finite.get (with_makes n (i + 1) gs m) h) ≡ Some b → MadeAt n i (g ∷ gs) h b ⊎ (finite.get m h ≡ Some b)) [
+      | true ↦ λ p q.
+          let same = same_goal h (record { step = n; place = i }) p in
+          let place : h.place ≡ i = ap (λ (k : GoalName). k.place) same in
+          inl (0, q, ap (λ (k : GoalName). k.step) same, omega arith)
+      | false ↦ λ p q. elim (made_at n (i + 1) gs m h b q) [ inl a ↦ let place : h.place ≡ i + 1 + a.0 = a.3 in inl (suc a.0, a.1, a.2, omega arith) | inr a ↦ inr a ]
+    ] refl (sym (finite.get-insert goal_total (with_makes n (i + 1) gs m) (record { step = n; place = i }) g h) ∙ e)
+
+in_at : {X : Type 0} (xs : List X) (j : ℕ) (x : X) → slice_get xs j ≡ Some x → In x xs
+in_at [] j x e = cc
+in_at (y ∷ xs) zero x e = inl (let s : y ≡ x = cc in sym s)
+in_at (y ∷ xs) (suc j) x e = inr (in_at xs j x e)
+
+still : (s : VarName → Tree) (b : Goal) → is_stream (replace_in_goal s b) ≡ is_stream b
+still s (call f ts) = refl
+still s (unify l r) = refl
+still s (assign t a) = refl
+still s (stream k x) = refl
+
+one_made : (k l : ℕ) (x y : VarName) (j : ℕ) → slice_get (stream k x ∷ []) j ≡ Some (stream l y) → (j ≡ 0) × (k ≡ l)
+one_made k l x y zero e = (refl, cc)
+one_made k l x y (suc j) e = cc
+
+none_made : (gs : List Goal) (j : ℕ) (b : Goal) → gs ≡ [] → slice_get gs j ≡ Some b → ⊥
+none_made gs j b e p = let clash : None ≡ Some b = ap (λ l. slice_get l j) (sym e) ∙ p in cc
+
+-- a step makes a stream goal only of one, and at its first place
+stream_made : (P : Program) (g : Goal) (a : Act) (n : ℕ) (S : VarName → Option Tree) (e : Effect) → IsProgram P → HasEffect P g a n S e → (j k : ℕ) (x : VarName) → slice_get e.makes j ≡ Some (stream k x)
+    → (j ≡ 0) × ((tail : VarName) × (g ≡ stream k tail))
+stream_made P (call f ts) (by_clause c) n S e accepted d j k x p =
+    let b = mapped (replace_in_goal (becomes d.0 d.1 n)) d.0.body (stream k x) (subst (In (stream k x)) d.6 (in_at e.makes j (stream k x) p)) in
+    let plain = not_stream d.0.body b.0 (accepted d.0 (clause_in P d.2.0 d.0 d.2.2)).closed b.1 in
+    absurd (let clash : true ≡ false = ap is_stream b.2 ∙ still (becomes d.0 d.1 n) b.0 ∙ plain in cc)
+stream_made P (unify l r) unified n S e accepted d j k x p = absurd (none_made e.makes j (stream k x) d.1 p)
+stream_made P (assign t b) assigned n S e accepted d j k x p = absurd (none_made e.makes j (stream k x) d.5 p)
+stream_made P (stream l s) (given u) n S e accepted d j k x p =
+    let q = one_made l k (record { step = n; place = 1 }) x j (ap (λ gs. slice_get gs j) (sym d.4) ∙ p) in
+    (q.0, (s, ap (λ i. stream i s) q.1))
+stream_made P (stream l s) closed n S e accepted d j k x p = absurd (none_made e.makes j (stream k x) d.3 p)
+stream_made P g a n S e accepted d j k x p = absurd d
+
+-- the name of the goal that fires
+named : (P : Program) (s : State) (r : Record) (o : Option GoalName) (c : Option Goal) → IsThere s.goals o c → HasStepEffect P c r.act r.number (value_at s.store) r.effect
+    → (g : GoalName) × (b : Goal) × (o ≡ Some g) × (finite.get s.goals g ≡ Some b) × HasEffect P b r.act r.number (value_at s.store) r.effect
+named P s r None None e f = absurd f
+named P s r None (Some b) e f = cc
+named P s r (Some g) None e f = absurd f
+named P s r (Some g) (Some b) e f = (g, b, refl, (let same : b ≡ e.0 = cc in e.2 ∙ ap Some (sym same)), f)
+
+module _ (P : Program) (accepted : IsProgram P) where
+  pub after_one_each : (s : State) (r : Record) → Fires P s r → OneEach s → OneEach (after s r)
+  after_one_each s r fires one k g h x y p q =
+      let f = named P s r r.goal r.consumed fires.0 fires.1 in
+      let old : (i : GoalName) (b : Goal) → finite.get (without_goal r.goal s.goals) i ≡ Some b → (finite.get s.goals i ≡ Some b) × (i ≢ f.0) =
+      λ i b e. old_apart s.goals f.0 i b (subst (λ o. finite.get (without_goal o s.goals) i ≡ Some b) f.2 e) in
+      let made : (i : GoalName) (z : VarName) → MadeAt r.number 1 r.effect.makes i (stream k z) → (i.place ≡ 1) × ((tail : VarName) × (finite.get s.goals f.0 ≡ Some (stream k tail))) =
+      λ i z m.
+      let t = stream_made P f.1 r.act r.number (value_at s.store) r.effect accepted f.4 m.0 k z m.1 in
+      let place : i.place ≡ 1 + m.0 = m.3 in
+      let first : m.0 ≡ 0 = t.0 in
+      ((omega arith), (t.1.0, f.3 ∙ ap Some t.1.1)) in
+      elim (made_at r.number 1 r.effect.makes (without_goal r.goal s.goals) g (stream k x) p) [
+        | inl a ↦ elim (made_at r.number 1 r.effect.makes (without_goal r.goal s.goals) h (stream k y) q) [
+          | inl b ↦ same_name g h (a.2 ∙ sym b.2) ((made g x a).0 ∙ sym (made h y b).0)
+          | inr b ↦ let c = made g x a in let d = old h (stream k y) b in absurd (d.1 (sym (one k f.0 h c.1.0 y c.1.1 d.0)))
+        ]
+        | inr a ↦ elim (made_at r.number 1 r.effect.makes (without_goal r.goal s.goals) h (stream k y) q) [
+          | inl b ↦ let c = made h y b in let d = old g (stream k x) a in absurd (d.1 (sym (one k f.0 g c.1.0 x c.1.1 d.0)))
+          | inr b ↦ one k g h x y (old g (stream k x) a).0 (old h (stream k y) b).0
+        ]
+      ]
+
+  pub run_one_each : (rs : List Record) (s t : State) → Runs P s rs t → OneEach s → OneEach t
+  run_one_each [] s t run one = subst OneEach (sym run) one
+  run_one_each (r ∷ rs) s t run one = run_one_each rs (after s r) t run.1 (after_one_each s r run.0 one)
+
+-- how many stream goals stand before the j-th
+abbrev rank : List Goal → ℕ → ℕ
+rank [] j = 0
+rank (g ∷ gs) zero = 0
+rank (g ∷ gs) (suc j) = cond (is_stream g) (suc (rank gs j)) (rank gs j)
+
+ranked : (gs : List Goal) (j : ℕ) (b : Goal) → slice_get gs j ≡ Some b → is_stream b ≡ true → slice_get (filter is_stream gs) (rank gs j) ≡ Some b
+ranked [] j b e s = cc
+ranked (g ∷ gs) zero b e s =
+    elim (is_stream g) as (λ c. is_stream g ≡ c → slice_get (cond c (g ∷ filter is_stream gs) (filter is_stream gs)) 0 ≡ Some b) [
+      | true ↦ λ p. e
+      | false ↦ λ p. absurd (let same : g ≡ b = cc in let clash : false ≡ true = sym p ∙ ap is_stream same ∙ s in cc)
+    ] refl
+ranked (g ∷ gs) (suc j) b e s =
+    elim (is_stream g) as (λ c. slice_get (cond c (g ∷ filter is_stream gs) (filter is_stream gs)) (cond c (suc (rank gs j)) (rank gs j)) ≡ Some b) [
+      | true ↦ ranked gs j b e s
+      | false ↦ ranked gs j b e s
+    ]
+
+apart_rank : (g : Goal) (n : ℕ) (b : Goal) → Some g ≡ Some b → is_stream b ≡ true → 0 ≡ cond (is_stream g) (suc n) n → ⊥
+apart_rank g n b e s =
+    elim (is_stream g) as (λ c. is_stream g ≡ c → 0 ≡ cond c (suc n) n → ⊥) [
+      | true ↦ λ p q. omega arith
+      | false ↦ λ p q. (let same : g ≡ b = cc in let clash : false ≡ true = sym p ∙ ap is_stream same ∙ s in cc)
+    ] refl
+
+one_rank : (gs : List Goal) (j l : ℕ) (b c : Goal) → slice_get gs j ≡ Some b → is_stream b ≡ true → slice_get gs l ≡ Some c → is_stream c ≡ true → rank gs j ≡ rank gs l → j ≡ l
+one_rank [] j l b c e s f t r = cc
+one_rank (g ∷ gs) zero zero b c e s f t r = refl
+one_rank (g ∷ gs) zero (suc l) b c e s f t r = absurd (apart_rank g (rank gs l) b e s r)
+one_rank (g ∷ gs) (suc j) zero b c e s f t r = absurd (apart_rank g (rank gs j) c f t (sym r))
+one_rank (g ∷ gs) (suc j) (suc l) b c e s f t r =
+    ap suc (one_rank gs j l b c e s f t (elim (is_stream g) as (λ d. cond d (suc (rank gs j)) (rank gs j) ≡ cond d (suc (rank gs l)) (rank gs l) → rank gs j ≡ rank gs l) [ true ↦ λ p. omega arith | false ↦ λ p. p ] r))
+
+-- a query has one goal a stream
+pub query_one_each : (P : Program) (query : Query) → IsQuery P query → OneEach (query_state query)
+query_one_each P query asked k g h x y p q =
+    elim (made_at 0 1 query finite.empty g (stream k x) p) [
+      | inr a ↦ absurd (let clash : None ≡ Some (stream k x) = sym (finite.get-empty goal_cmp g) ∙ a in cc)
+      | inl a ↦ elim (made_at 0 1 query finite.empty h (stream k y) q) [
+        | inr b ↦ absurd (let clash : None ≡ Some (stream k y) = sym (finite.get-empty goal_cmp h) ∙ b in cc)
+        | inl b ↦
+            let first : k ≡ rank query a.0 + 1 = asked.streams (rank query a.0) k x (ranked query a.0 (stream k x) a.1 refl) in
+            let second : k ≡ rank query b.0 + 1 = asked.streams (rank query b.0) k y (ranked query b.0 (stream k y) b.1 refl) in
+            let same : a.0 ≡ b.0 = one_rank query a.0 b.0 (stream k x) (stream k y) a.1 refl b.1 refl (omega arith) in
+            let one : g.place ≡ 1 + a.0 = a.3 in
+            let two : h.place ≡ 1 + b.0 = b.3 in
+            same_name g h (a.2 ∙ sym b.2) (omega arith)
+      ]
+    ]

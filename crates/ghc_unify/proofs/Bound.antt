@@ -1,0 +1,141 @@
+-- The bindings of a run, in their order and as a map.
+use Rattle.std.proofs.Common.{◌≡◌, true, false, cond, List, [], ◌∷◌, ◌++◌, refl, sym, ap, ◌∙◌, subst, inl, inr, ◌⊎◌}
+use Rattle.std.specs.Prelude.{Option, Some, None}
+use Rattle.std.specs.Option.{option_or}
+use Rattle.std.specs.Ordering.{eq_by_cmp}
+use Rattle.std.specs.FinMap as finite
+use Rattle.ghc_term.specs.declared.var_name.VarName.{VarName}
+use Rattle.ghc_term.specs.Tree.{Tree}
+use Rattle.ghc_term.specs.Bindings.{name_cmp, with_binding}
+use Rattle.ghc_term.proofs.Names.{name_total}
+use Rattle.ghc_term.proofs.Total.{same_name, apart}
+use Rattle.ghc_term.proofs.Entries.{same, same_is}
+use Rattle.ghc_term.proofs.Searches.{same_itself}
+use Rattle.ghc_unify.specs.Unify.{Move, shared, left, right, both, Moves, stay, go, with_bindings}
+
+-- the store with these bindings more, one after another
+abbrev pub bound_by : List (VarName × Tree) → (VarName → Option Tree) → VarName → Option Tree
+bound_by [] S = S
+bound_by (b ∷ bs) S = bound_by bs (with_binding S b.0 b.1)
+
+-- one of the bindings binds x
+abbrev pub IsBoundIn : List (VarName × Tree) → VarName → Type 0
+IsBoundIn [] x = ⊥
+IsBoundIn (b ∷ bs) x = (x ≡ b.0) ⊎ IsBoundIn bs x
+
+-- each is bound where it is unbound
+abbrev pub Fresh : List (VarName × Tree) → (VarName → Option Tree) → Type 0
+Fresh [] T = Unit {0}
+Fresh (b ∷ bs) T = (T b.0 ≡ None) × Fresh bs (with_binding T b.0 b.1)
+
+pub itself : (x y : VarName) → x ≡ y → eq_by_cmp name_cmp x y ≡ true
+itself x y e = sym (same_is x y) ∙ ap (same x) (sym e) ∙ same_itself x
+
+pub is_bound : (x : VarName) (b : VarName × Tree) (T : VarName → Option Tree) → x ≡ b.0 → with_binding T b.0 b.1 x ≡ Some b.1
+is_bound x b T e = ap (λ c. cond c (Some b.1) (T x)) (itself x b.0 e)
+
+pub other : (x : VarName) (b : VarName × Tree) (T : VarName → Option Tree) → ¬ (x ≡ b.0) → with_binding T b.0 b.1 x ≡ T x
+other x b T n = ap (λ c. cond c (Some b.1) (T x)) (apart x b.0 n)
+
+pub is_it : (x y : VarName) → (x ≡ y) ⊎ (¬ (x ≡ y))
+is_it x y =
+    elim (eq_by_cmp name_cmp x y) as (λ c. eq_by_cmp name_cmp x y ≡ c → (x ≡ y) ⊎ (¬ (x ≡ y))) [
+      | true ↦ λ p. inl (same_name x y p)
+      | false ↦ λ p. inr (λ e. let clash : true ≡ false = sym (itself x y e) ∙ p in cc)
+    ] refl
+
+pub is_in : (bs : List (VarName × Tree)) (x : VarName) → IsBoundIn bs x ⊎ (¬ IsBoundIn bs x)
+is_in [] x = inr (λ i. i)
+is_in (b ∷ bs) x =
+    elim (is_it x b.0) [
+      | inl e ↦ inl (inl e)
+      | inr n ↦ elim (is_in bs x) [ inl i ↦ inl (inr i) | inr m ↦ inr (λ j. elim j [ inl e ↦ n e | inr i ↦ m i ]) ]
+    ]
+
+pub untouched : (bs : List (VarName × Tree)) (T : VarName → Option Tree) (x : VarName) → ¬ IsBoundIn bs x → bound_by bs T x ≡ T x
+untouched [] T x n = refl
+untouched (b ∷ bs) T x n = untouched bs (with_binding T b.0 b.1) x (λ i. n (inr i)) ∙ other x b T (λ e. n (inl e))
+
+-- what these bind does not hang on the store below
+pub same_bound : (bs : List (VarName × Tree)) (T T' : VarName → Option Tree) (x : VarName) → IsBoundIn bs x → bound_by bs T x ≡ bound_by bs T' x
+same_bound [] T T' x i = absurd i
+same_bound (b ∷ bs) T T' x i =
+    elim (is_in bs x) [
+      | inl j ↦ same_bound bs (with_binding T b.0 b.1) (with_binding T' b.0 b.1) x j
+      | inr n ↦ elim i [
+        | inl e ↦ untouched bs (with_binding T b.0 b.1) x n ∙ is_bound x b T e ∙ sym (untouched bs (with_binding T' b.0 b.1) x n ∙ is_bound x b T' e)
+        | inr j ↦ absurd (n j)
+      ]
+    ]
+
+pub unbound_before : (bs : List (VarName × Tree)) (T : VarName → Option Tree) (x : VarName) → Fresh bs T → IsBoundIn bs x → T x ≡ None
+unbound_before [] T x f i = absurd i
+unbound_before (b ∷ bs) T x f (inl e) = ap T e ∙ f.0
+unbound_before (b ∷ bs) T x f (inr i) =
+    let later = unbound_before bs (with_binding T b.0 b.1) x f.1 i in
+    elim (is_it x b.0) [
+      | inl e ↦ let clash : Some b.1 ≡ None = sym (is_bound x b T e) ∙ later in cc
+      | inr n ↦ sym (other x b T n) ∙ later
+    ]
+
+pub keeps : (bs : List (VarName × Tree)) (T : VarName → Option Tree) (x : VarName) (t : Tree) → Fresh bs T → T x ≡ Some t → bound_by bs T x ≡ Some t
+keeps bs T x t f e = elim (is_in bs x) [
+  | inl i ↦ let clash : None ≡ Some t = sym (unbound_before bs T x f i) ∙ e in cc
+  | inr n ↦ untouched bs T x n ∙ e
+]
+
+pub fresh_append : (bs cs : List (VarName × Tree)) (T : VarName → Option Tree) → Fresh bs T → Fresh cs (bound_by bs T) → Fresh (bs ++ cs) T
+fresh_append [] cs T f g = g
+fresh_append (b ∷ bs) cs T f g = (f.0, fresh_append bs cs (with_binding T b.0 b.1) f.1 g)
+
+pub move_fresh : {S T U : VarName → Option Tree} {es fs : List (Tree × Tree)} {bs : List (VarName × Tree)} {rs : List VarName} → Move S T es U fs bs rs → Fresh bs T × (U ≡ bound_by bs T)
+move_fresh (shared p q first) = (tt, refl)
+move_fresh (left p n o) = ((n, tt), refl)
+move_fresh (right p v q n o) = ((n, tt), refl)
+move_fresh (both p q apart m) = (tt, refl)
+
+pub moves_fresh : {S T V : VarName → Option Tree} {es gs : List (Tree × Tree)} {bs : List (VarName × Tree)} {rs : List VarName} → Moves S T es V gs bs rs → Fresh bs T
+moves_fresh stay = tt
+moves_fresh {T = T} (go {bs = bs} {cs = cs} m ms) = let first = move_fresh m in fresh_append bs cs T first.0 (subst (λ W. Fresh cs W) first.1 (moves_fresh ms))
+
+pub mono : (cs : List (VarName × Tree)) (T T' : VarName → Option Tree) → ((x : VarName) (t : Tree) → T x ≡ Some t → T' x ≡ Some t) → (x : VarName) (t : Tree) → bound_by cs T x ≡ Some t → bound_by cs T' x ≡ Some t
+mono cs T T' h x t e = elim (is_in cs x) [
+  | inl i ↦ sym (same_bound cs T T' x i) ∙ e
+  | inr n ↦ untouched cs T' x n ∙ h x t (sym (untouched cs T x n) ∙ e)
+]
+
+pub has_value : (bs : List (VarName × Tree)) (T : VarName → Option Tree) (x : VarName) → IsBoundIn bs x → (t : Tree) × (bound_by bs T x ≡ Some t)
+has_value [] T x i = absurd i
+has_value (b ∷ bs) T x i =
+    elim (is_in bs x) [
+      | inl j ↦ has_value bs (with_binding T b.0 b.1) x j
+      | inr n ↦ elim i [
+        | inl e ↦ (b.1, untouched bs (with_binding T b.0 b.1) x n ∙ is_bound x b T e)
+        | inr j ↦ absurd (n j)
+      ]
+    ]
+
+bound_append : (bs cs : List (VarName × Tree)) (T : VarName → Option Tree) → bound_by (bs ++ cs) T ≡ bound_by cs (bound_by bs T)
+bound_append [] cs T = refl
+bound_append (b ∷ bs) cs T = bound_append bs cs (with_binding T b.0 b.1)
+
+pub moves_bound : {S T V : VarName → Option Tree} {es gs : List (Tree × Tree)} {bs : List (VarName × Tree)} {rs : List VarName} → Moves S T es V gs bs rs → V ≡ bound_by bs T
+moves_bound stay = refl
+moves_bound {T = T} (go {bs = bs} {cs = cs} m ms) = moves_bound ms ∙ ap (bound_by cs) (move_fresh m).1 ∙ sym (bound_append bs cs T)
+
+-- stores that answer alike are one
+pub by_answers : {S T : VarName → Option Tree} → ((x : VarName) → S x ≡ T x) → S ≡ T
+by_answers h i x = h x i
+
+found : (bs : List (VarName × Tree)) (T : VarName → Option Tree) (x : VarName) → Fresh bs T → option_or (finite.find name_cmp x bs) (T x) ≡ bound_by bs T x
+found [] T x f = refl
+found (b ∷ bs) T x f =
+    let T' = with_binding T b.0 b.1 in
+    elim (eq_by_cmp name_cmp x b.0) as (λ c. eq_by_cmp name_cmp x b.0 ≡ c → option_or (cond c (Some b.1) (finite.find name_cmp x bs)) (T x) ≡ bound_by bs T' x) [
+      | true ↦ λ p. sym (keeps bs T' x b.1 f.1 (is_bound x b T (same_name x b.0 p)))
+      | false ↦ λ p. ap (λ o. option_or (finite.find name_cmp x bs) o) (ap (λ c. cond c (Some b.1) (T x)) (sym p)) ∙ found bs T' x f.1
+    ] refl
+
+-- the bindings as a map
+pub bound_is : (bs : List (VarName × Tree)) (T : VarName → Option Tree) → Fresh bs T → bound_by bs T ≡ with_bindings (finite.from_entries bs) T
+bound_is bs T f = by_answers (λ x. sym (ap (λ o. option_or o (T x)) (finite.get-from_entries name_total bs x) ∙ found bs T x f))

@@ -1,0 +1,59 @@
+-- A store with some bindings more, as one finite map.
+use Rattle.std.proofs.Common.{◌≡◌, true, false, cond, List, [], ◌∷◌, ◌++◌, refl, sym, ap, ◌∙◌, subst}
+use Rattle.std.specs.Prelude.{Option, Some, None}
+use Rattle.std.specs.Option.{option_or}
+use Rattle.std.specs.Ordering.{eq_by_cmp}
+use Rattle.std.specs.FinMap as finite
+use Rattle.ghc_term.specs.declared.var_name.VarName.{VarName}
+use Rattle.ghc_term.specs.Tree.{Tree}
+use Rattle.ghc_term.specs.Bindings.{name_cmp, IsAcyclic, with_binding}
+use Rattle.ghc_term.specs.Store.{StoreValue, value_at}
+use Rattle.ghc_term.proofs.Names.{name_total}
+use Rattle.ghc_unify.specs.Unify.{with_bindings}
+use Rattle.ghc_unify.proofs.Bound.{by_answers}
+
+abbrev pub merged : StoreValue → StoreValue → StoreValue
+merged B S = finite.from_entries (finite.entries B ++ finite.entries S)
+
+find_append : (x : VarName) (es fs : List (VarName × Tree)) → finite.find name_cmp x (es ++ fs) ≡ option_or (finite.find name_cmp x es) (finite.find name_cmp x fs)
+find_append x [] fs = refl
+find_append x (e ∷ es) fs =
+    elim (eq_by_cmp name_cmp x e.0) as (λ b. cond b (Some e.1) (finite.find name_cmp x (es ++ fs)) ≡ option_or (cond b (Some e.1) (finite.find name_cmp x es)) (finite.find name_cmp x fs)) [
+      | true ↦ refl
+      | false ↦ find_append x es fs
+    ]
+
+merged_at : (B S : StoreValue) (x : VarName) → value_at (merged B S) x ≡ with_bindings B (value_at S) x
+merged_at B S x =
+    finite.get-from_entries name_total (finite.entries B ++ finite.entries S) x ∙ find_append x (finite.entries B) (finite.entries S)
+    ∙ ap (λ o. option_or o (finite.find name_cmp x (finite.entries S))) (sym (finite.get-entries B x)) ∙ ap (λ o. option_or (value_at B x) o) (sym (finite.get-entries S x))
+
+pub merged_is : (B S : StoreValue) → value_at (merged B S) ≡ with_bindings B (value_at S)
+merged_is B S = by_answers (merged_at B S)
+
+pub merged_acyclic : (B S : StoreValue) → IsAcyclic (with_bindings B (value_at S)) → IsAcyclic (value_at (merged B S))
+merged_acyclic B S h = subst IsAcyclic (sym (merged_is B S)) h
+
+pub merged_value : (B S : StoreValue) (x : VarName) (o : Option Tree) → o ≡ with_bindings B (value_at S) x → value_at (merged B S) x ≡ o
+merged_value B S x o e = merged_at B S x ∙ sym e
+
+-- one binding more
+insert_at : (B : StoreValue) (T : VarName → Option Tree) (x : VarName) (t : Tree) (y : VarName) → with_binding (with_bindings B T) x t y ≡ with_bindings (finite.insert B x t) T y
+insert_at B T x t y =
+    elim (eq_by_cmp name_cmp y x) as (λ b. cond b (Some t) (with_bindings B T y) ≡ option_or (cond b (Some t) (value_at B y)) (T y)) [ true ↦ refl | false ↦ refl ]
+    ∙ ap (λ o. option_or o (T y)) (sym (finite.get-insert name_total B x t y))
+
+pub insert_is : (B : StoreValue) (T : VarName → Option Tree) (x : VarName) (t : Tree) → with_binding (with_bindings B T) x t ≡ with_bindings (finite.insert B x t) T
+insert_is B T x t = by_answers (insert_at B T x t)
+
+-- with no bindings more
+pub none_more : (T : VarName → Option Tree) → with_bindings finite.empty T ≡ T
+none_more T = by_answers (λ y. ap (λ o. option_or o (T y)) (finite.get-empty name_cmp y))
+
+-- what is unbound with the bindings is unbound in the store, and by them
+pub unbound_below : (B : StoreValue) (T : VarName → Option Tree) (x : VarName) → with_bindings B T x ≡ None → (value_at B x ≡ None) × (T x ≡ None)
+unbound_below B T x e =
+    elim (value_at B x) as (λ o. option_or o (T x) ≡ None → (o ≡ None) × (T x ≡ None)) [
+      | Some t ↦ λ p. let no : Some t ≡ None = p in cc
+      | None ↦ λ p. (refl, p)
+    ] e

@@ -1,0 +1,96 @@
+-- Where two chains come together.
+use Rattle.std.proofs.Common.{◌≡◌, ◌≢◌, ℕ, Bool, true, false, List, [], ◌∷◌, ◌++◌, refl, sym, ap, ◌∙◌, subst, inl, inr, ◌⊎◌, append_assoc, append-nil}
+use Rattle.std.proofs.lemmas.List.{append_cancel_right}
+use Rattle.std.specs.Prelude.{Option, Some, None}
+use Rattle.ghc_term.specs.declared.var_name.VarName.{VarName}
+use Rattle.ghc_term.specs.Tree.{Tree, variable}
+use Rattle.ghc_term.specs.Lists.{In}
+use Rattle.ghc_term.specs.Bindings.{Leads, at_integer, at_node, at_free, along, Comes, now, on, Passes}
+use Rattle.ghc_term.proofs.Chains.{leads_once}
+use Rattle.ghc_unify.specs.Parting.{EndAlike, Parts}
+
+-- two lists, with an end of both taken off
+pub record Split (xs ys a b : List VarName) (shared : Bool) : Type 0 where
+  pub common : List VarName
+  pub left : xs ≡ a ++ common
+  pub right : ys ≡ b ++ common
+  pub none : shared ≡ false → common ≡ []
+  pub some : shared ≡ true → common ≢ []
+
+pub whole : (xs ys : List VarName) → Split xs ys xs ys false
+whole xs ys = record { common = []; left = sym (append-nil xs); right = sym (append-nil ys); none = λ _. refl; some = λ e. cc }
+
+pub further : (xs ys a b c d : List VarName) (x : VarName) (shared : Bool) → Split xs ys a b shared → a ≡ c ++ x ∷ [] → b ≡ d ++ x ∷ [] → Split xs ys c d true
+further xs ys a b c d x shared s p q = record {
+  common = x ∷ s.common;
+  left = s.left ∙ ap (λ l. l ++ s.common) p ∙ append_assoc c (x ∷ []) s.common;
+  right = s.right ∙ ap (λ l. l ++ s.common) q ∙ append_assoc d (x ∷ []) s.common;
+  none = λ e. cc;
+  some = λ _ e. cc;
+}
+
+-- a list is cut at one of its elements
+at_element : (x : VarName) (xs : List VarName) → In x xs → (a b : List VarName) × (xs ≡ a ++ x ∷ b)
+at_element x [] i = absurd i
+at_element x (y ∷ ys) (inl e) = ([], ys, ap (λ z. z ∷ ys) (sym e))
+at_element x (y ∷ ys) (inr i) = let r = at_element x ys i in (y ∷ r.0, r.1, ap (λ l. y ∷ l) r.2)
+
+-- a list that is not empty has a last element
+last_of : (x : VarName) (xs : List VarName) → (w : List VarName) × (z : VarName) × (x ∷ xs ≡ w ++ z ∷ [])
+last_of x [] = ([], x, refl)
+last_of x (y ∷ ys) = let r = last_of y ys in (x ∷ r.0, r.1, ap (λ l. x ∷ l) r.2)
+
+module _ {T : VarName → Option Tree} where
+  -- a chain is cut at a variable
+  pub cut : {t e : Tree} {xs : List VarName} (a : List VarName) (m : VarName) (c : List VarName) → Leads T t xs e → xs ≡ a ++ m ∷ c → Comes T t a m × Leads T (variable m) (m ∷ c) e
+  cut [] m c at_integer q = cc
+  cut (z ∷ a) m c at_integer q = cc
+  cut [] m c at_node q = cc
+  cut (z ∷ a) m c at_node q = cc
+  cut [] m c (at_free {x = x} p) q =
+      let same : x ≡ m = cc in
+      let rest : [] ≡ c = cc in
+      (subst (λ y. Comes T (variable x) [] y) same now, subst (λ y. Leads T (variable y) (y ∷ c) (variable x)) same (subst (λ l. Leads T (variable x) (x ∷ l) (variable x)) rest (at_free p)))
+  cut (z ∷ []) m c (at_free p) q = let no : [] ≡ m ∷ c = cc in cc
+  cut (z ∷ w ∷ a) m c (at_free p) q = let no : [] ≡ (w ∷ a) ++ m ∷ c = cc in cc
+  cut [] m c (along {x = x} {e = e} {xs = xs} p l) q =
+      let same : x ≡ m = cc in
+      let rest : xs ≡ c = cc in
+      (subst (λ y. Comes T (variable x) [] y) same now, subst (λ y. Leads T (variable y) (y ∷ c) e) same (subst (λ k. Leads T (variable x) (x ∷ k) e) rest (along p l)))
+  cut (z ∷ a) m c (along {x = x} {xs = xs} p l) q =
+      let same : x ≡ z = cc in
+      let rest : xs ≡ a ++ m ∷ c = cc in
+      let inner = cut a m c l rest in
+      (subst (λ y. Comes T (variable x) (y ∷ a) m) same (on p inner.0), inner.1)
+
+  -- what comes after a variable that a chain passes
+  after : {t f : Tree} {ys b : List VarName} {x : VarName} → Comes T t b x → Leads T t ys f → (zs : List VarName) × (ys ≡ b ++ zs) × Leads T (variable x) zs f
+  after now l = (_, refl, l)
+  after (on e c) (at_free p) = let no : None ≡ Some _ = sym p ∙ e in cc
+  after (on {x = z} {y = y} {t = u} {xs = b} e c) (along {t = v} {e = f} {xs = ys} p l) =
+      let same : v ≡ u = let s : Some v ≡ Some u = sym p ∙ e in cc in
+      let r = after c (subst (λ w. Leads T w ys f) same l) in
+      (r.0, ap (λ k. z ∷ k) r.1, r.2)
+
+  -- what a chain passes before the common end of both, the other does not pass
+  pub parted : {l r e f : Tree} {xs ys a b : List VarName} (shared : Bool) → Leads T l xs e → Leads T r ys f → Parts xs ys a b shared → (x : VarName) → In x a → ¬ Passes T r x
+  parted {xs = xs} {ys = ys} {a = a} {b = b} shared k h p x i c =
+      let p1 = at_element x a i in
+      let here : xs ≡ p1.0 ++ x ∷ (p1.1 ++ p.common) = p.left ∙ ap (λ w. w ++ p.common) p1.2 ∙ append_assoc p1.0 (x ∷ p1.1) p.common in
+      let rest = (cut p1.0 x (p1.1 ++ p.common) k here).1 in
+      let other = after c.1 h in
+      let same : other.0 ≡ x ∷ (p1.1 ++ p.common) = (leads_once other.2 rest).0 in
+      let there : b ++ p.common ≡ (c.0 ++ x ∷ p1.1) ++ p.common = sym p.right ∙ other.1 ∙ ap (λ w. c.0 ++ w) same ∙ sym (append_assoc c.0 (x ∷ p1.1) p.common) in
+      let back : b ≡ c.0 ++ x ∷ p1.1 = append_cancel_right b (c.0 ++ x ∷ p1.1) p.common there in
+      let z = last_of x p1.1 in
+      p.longest (
+        z.1,
+        p1.0 ++ z.0,
+        c.0 ++ z.0,
+        p1.2 ∙ ap (λ w. p1.0 ++ w) z.2 ∙ sym (append_assoc p1.0 z.0 (z.1 ∷ [])),
+        back ∙ ap (λ w. c.0 ++ w) z.2 ∙ sym (append_assoc c.0 z.0 (z.1 ∷ [])),
+      )
+
+  -- a chain passes what is on it
+  pub passes_in : {t e : Tree} {xs : List VarName} {x : VarName} → Leads T t xs e → In x xs → Passes T t x
+  passes_in {x = x} l i = let q = at_element x _ i in (q.0, (cut q.0 x q.1 l q.2).0)

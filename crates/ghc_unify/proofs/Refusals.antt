@@ -1,0 +1,38 @@
+-- Refusals that are handed on, and what a view that is no variable shows.
+use Rattle.std.proofs.Common.{◌≡◌, ◌≢◌, List, ℕ, refl, sym, ap, ◌∙◌, subst, ◌⊎◌, inl, inr}
+use Rattle.std.specs.Prelude.{Result, Ok, Err, IfOk, IfErr}
+use Rattle.ghc_term.specs.declared.fault.Fault.{Fault}
+use Rattle.ghc_term.specs.declared.fault.Fault.TheVariants.{Clash, Cycle, Memory}
+use Rattle.ghc_term.specs.declared.var_name.VarName.{VarName}
+use Rattle.ghc_term.specs.declared.view.TermView.{TermView}
+use Rattle.ghc_term.specs.declared.view.TermView.TheVariants.{Var, Int, Atom, Struct}
+use Rattle.ghc_term.specs.Tree.{Tree, IsValue}
+use Rattle.ghc_term.specs.Shown.{shown}
+
+abbrev pub Known : Fault → Type 0
+Known f = (f ≡ Clash) ⊎ (f ≡ Cycle) ⊎ (f ≡ Memory)
+
+-- what a refusal with these causes says of the result
+pub record HandedOn {A : Type 0} (P : A → Type 0) (C D : Type 0) (r : Result A Fault) : Type 0 where
+  pub ok : IfOk r P
+  pub clash : r ≡ Err Clash → C
+  pub cycle : r ≡ Err Cycle → D
+  pub only : IfErr r Known
+
+pub handed_on : {A : Type 0} {P : A → Type 0} {C D : Type 0} (r : Result A Fault) (f : Fault) → r ≡ Err f → (f ≡ Clash → C) → (f ≡ Cycle → D) → Known f → HandedOn P C D r
+handed_on {P = P} r f e c d o = record {
+  ok = subst (λ z. IfOk z P) (sym e) tt;
+  clash = λ q. c (let same : Err f ≡ Err Clash = sym e ∙ q in cc);
+  cycle = λ q. d (let same : Err f ≡ Err Cycle = sym e ∙ q in cc);
+  only = subst (λ z. IfErr z Known) (sym e) o;
+}
+
+-- an end that is no variable is a value
+pub value_of : (v : TermView) (e : Tree) → ((x : VarName) → v ≡ Var x → ⊥) → shown v ≡ e → IsValue e
+value_of v e h is = subst IsValue is (go v h)
+  where
+    go : (v : TermView) → ((x : VarName) → v ≡ Var x → ⊥) → IsValue (shown v)
+    go (Var x) h = absurd (h x refl)
+    go (Int k) h = tt
+    go (Atom f) h = tt
+    go (Struct f ts) h = tt

@@ -1,0 +1,103 @@
+-- A run of moves, as the code keeps it.
+use Rattle.std.proofs.Common.{◌≡◌, ℕ, ◌-◌, ◌+◌, ◌<◌, ◌≤◌, List, [], ◌∷◌, ◌++◌, length, refl, sym, ap, ◌∙◌, subst, inl, inr, ◌⊎◌, arith, append-nil}
+use Rattle.std.specs.Prelude.{Option, Some, None, Result, Ok, Err, IfOk, IfErr, reverse}
+use Rattle.std.specs.FinMap as finite
+use Rattle.std.specs.FinSet as set
+use Rattle.ghc_term.specs.declared.var_name.VarName.{VarName}
+use Rattle.ghc_term.specs.declared.fault.Fault.{Fault}
+use Rattle.ghc_term.specs.declared.fault.Fault.TheVariants.{Clash, Cycle, Memory}
+use Rattle.ghc_term.specs.Tree.{Tree}
+use Rattle.ghc_term.specs.Store.{StoreValue, value_at}
+use Rattle.ghc_term.specs.Bindings.{IsAcyclic, name_cmp, with_binding}
+use Rattle.ghc_term.proofs.Names.{name_total, name_antisymmetric}
+use Rattle.ghc_unify.specs.Unify.{Moves, stay, with_bindings, Unifies, Clashes, Cycles, ComesTo, Ending, solved, clash, cycle, HasEnding}
+use Rattle.ghc_unify.specs.Steps.{Advances, FailsFrom}
+use Rattle.ghc_unify.specs.Outcome.{ending_of, refused}
+use Rattle.ghc_unify.specs.declared.solve.Solved.{Solved}
+use Rattle.ghc_unify.proofs.Acyclic.{moves_acyclic}
+use Rattle.ghc_unify.proofs.Bound.{moves_fresh}
+use Rattle.ghc_unify.proofs.Growth.{union_append, union_empty}
+use Rattle.ghc_unify.proofs.Falling.{one_more_move}
+use Rattle.ghc_unify.proofs.LawProofs.{one_ending}
+use Rattle.ghc_unify.proofs.Merged.{insert_is, none_more, unbound_below}
+use Rattle.ghc_unify.proofs.Scope.{scope, few_binds, one_bound}
+
+-- from the equation l = r a run has come to these bindings, reads and equations
+pub record Run (S : VarName → Option Tree) (l r : Tree) (binds : StoreValue) (reads : set.FinSet name_cmp) (es : List (Tree × Tree)) : Type 0 where
+  pub bound : List (VarName × Tree)
+  pub read : List VarName
+  pub moves : Moves S S ((l, r) ∷ []) (with_bindings binds S) es bound read
+  pub binds_are : binds ≡ finite.from_entries bound
+  pub reads_are : reads ≡ set.from_list read
+
+pub begins : (S : VarName → Option Tree) (l r : Tree) (binds : StoreValue) (reads : set.FinSet name_cmp) (es : List (Tree × Tree)) → binds ≡ finite.empty → reads ≡ set.empty → es ≡ (l, r) ∷ [] → Run S l r binds reads es
+begins S l r binds reads es b e q =
+    let none : with_bindings binds S ≡ S = ap (λ m. with_bindings m S) b ∙ none_more S in
+    record {
+      bound = [];
+      read = [];
+      moves = subst (λ W. Moves S S ((l, r) ∷ []) W es [] []) (sym none) (subst (λ z. Moves S S ((l, r) ∷ []) S z [] []) (sym q) stay);
+      binds_are = b;
+      reads_are = e;
+    }
+
+module _ {S : VarName → Option Tree} {l r : Tree} {binds : StoreValue} {reads : set.FinSet name_cmp} {es : List (Tree × Tree)} (run : Run S l r binds reads es) where
+  pub still_acyclic : IsAcyclic S → IsAcyclic (with_bindings binds S)
+  still_acyclic h = moves_acyclic run.moves h
+
+  reads_grow : (grown : set.FinSet name_cmp) (qs : List VarName) → grown ≡ set.union reads (set.from_list qs) → grown ≡ set.from_list (run.read ++ qs)
+  reads_grow grown qs e =
+      e ∙ ap (λ s. set.union s (set.from_list qs)) (run.reads_are ∙ sym (union_empty run.read)) ∙ union_append set.empty run.read qs ∙ union_empty (run.read ++ qs)
+
+  pub goes_on : (old new : List (Tree × Tree)) (grown : set.FinSet name_cmp) (x : VarName) (t : Tree) (after : StoreValue) → es ≡ reverse old → Advances S (with_bindings binds S) old new reads grown (Some (x, t))
+      → after ≡ finite.insert binds x t → Run S l r after grown (reverse new) × (value_at binds x ≡ None)
+  goes_on old new grown x t after e a i =
+      let T = with_bindings binds S in
+      let free = unbound_below binds S x (moves_fresh a.1).0 in
+      let first : Moves S S ((l, r) ∷ []) T (reverse old) run.bound run.read = subst (λ z. Moves S S ((l, r) ∷ []) T z run.bound run.read) e run.moves in
+      let all = one_more_move first a.1 in
+      let same : with_binding T x t ≡ with_bindings after S = insert_is binds S x t ∙ ap (λ m. with_bindings m S) (sym i) in (
+        record {
+          bound = run.bound ++ (x, t) ∷ [];
+          read = run.read ++ a.0;
+          moves = subst (λ W. Moves S S ((l, r) ∷ []) W (reverse new) (run.bound ++ (x, t) ∷ []) (run.read ++ a.0)) same all;
+          binds_are = i ∙ ap (λ m. finite.insert m x t) run.binds_are
+              ∙ sym (finite.from_entries_push name_total name_antisymmetric run.bound x t (sym (finite.get-from_entries name_total run.bound x) ∙ ap (λ m. value_at m x) (sym run.binds_are) ∙ free.0));
+          reads_are = reads_grow grown a.0 a.2;
+        },
+        free.0,
+      )
+
+  pub ends : (old new : List (Tree × Tree)) (grown : set.FinSet name_cmp) → es ≡ reverse old → Advances S (with_bindings binds S) old new reads grown None → Unifies S l r binds grown
+  ends old new grown e a =
+      let T = with_bindings binds S in
+      let first : Moves S S ((l, r) ∷ []) T (reverse old) run.bound run.read = subst (λ z. Moves S S ((l, r) ∷ []) T z run.bound run.read) e run.moves in
+      let all = one_more_move first a.1 in
+      (run.bound ++ [], run.read ++ a.0, (T, all), run.binds_are ∙ ap finite.from_entries (sym (append-nil run.bound)), reads_grow grown a.0 a.2)
+
+  pub fails : (F : (VarName → Option Tree) → Tree → Tree → Type 0) (old : List (Tree × Tree)) → es ≡ reverse old → FailsFrom F S (with_bindings binds S) (reverse old) → ComesTo F S l r
+  fails F old e f =
+      let T = with_bindings binds S in
+      let first : Moves S S ((l, r) ∷ []) T (reverse old) run.bound run.read = subst (λ z. Moves S S ((l, r) ∷ []) T z run.bound run.read) e run.moves in
+      (f.0, f.1, f.2, f.3, run.bound ++ f.4, run.read ++ f.5, one_more_move first f.6, f.7)
+
+-- what is left to bind
+pub falls_short : (s : StoreValue) (l r : Tree) (binds after : StoreValue) (reads : set.FinSet name_cmp) (es : List (Tree × Tree)) (x : VarName) (t : Tree) → Run (value_at s) l r after reads es → after ≡ finite.insert binds x t → value_at binds x ≡ None
+    → length (scope s l r) - finite.len after < length (scope s l r) - finite.len binds
+falls_short s l r binds after reads es x t run i n =
+    let most = few_binds s l r (with_bindings after (value_at s)) es run.bound run.read after run.moves run.binds_are in
+    let more = ap finite.len i ∙ one_bound binds x t n in
+    omega (arith, most, more)
+
+-- the answer is the ending
+pub exactly : (S : VarName → Option Tree) (l r : Tree) (result : Result Solved Fault) → IsAcyclic S → IfOk result (λ s. Unifies S l r s.binds s.reads) → (result ≡ Err Clash → Clashes S l r) → (result ≡ Err Cycle → Cycles S l r)
+    → IfErr result (λ e. (e ≡ Clash) ⊎ (e ≡ Cycle) ⊎ (e ≡ Memory)) → (e : Ending) → HasEnding S l r e → (result ≡ Err Memory) ⊎ (ending_of result ≡ Some e)
+exactly S l r (Ok s) h u c d o e k = inr (ap Some (one_ending S l r (solved s.binds s.reads) e h u k))
+exactly S l r (Err f) h u c d o e k =
+    elim o [
+      | inl p ↦ inr (ap refused p ∙ ap Some (one_ending S l r clash e h (c (ap Err p)) k))
+      | inr q ↦ elim q [
+        | inl p ↦ inr (ap refused p ∙ ap Some (one_ending S l r cycle e h (d (ap Err p)) k))
+        | inr p ↦ inl (ap Err p)
+      ]
+    ]

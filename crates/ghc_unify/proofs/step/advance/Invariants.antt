@@ -1,0 +1,13 @@
+use Rattle.std.specs.Prelude.{reverse}
+use Rattle.ghc_term.specs.Store.{value_at}
+use Rattle.ghc_unify.specs.Unify.{with_bindings}
+use Rattle.ghc_unify.proofs.Merged.{merged}
+use Rattle.ghc_unify.proofs.Falling.{weights}
+use Rattle.ghc_unify.proofs.Advancing.{Quiet}
+use Rattle.ghc_unify.proofs.step.advance.Given as goal
+
+abbrev pub invariant-loop-left : goal.invariant-loop-left
+invariant-loop-left l = Quiet (value_at l.store) (with_bindings l.binds (value_at l.store)) l.initial.equations.items l.equations.items l.initial.reads l.reads
+
+abbrev pub decreases-loop-left : goal.decreases-loop-left
+decreases-loop-left l = weights (merged l.binds l.store) (reverse l.equations.items)

@@ -1,0 +1,8 @@
+use Rattle.std.proofs.Common.{◌≡◌, ◌≤◌, List, ◌++◌, drop, length}
+use Rattle.std.specs.Prelude.{reverse}
+use Rattle.ghc_term.specs.Tree.{Tree, trees}
+use Rattle.ghc_unify.specs.Unify.{Pairs}
+use Rattle.ghc_unify.proofs.step.push_pairs.Given as goal
+
+abbrev pub invariant-loop-index : goal.invariant-loop-index
+invariant-loop-index l = (l.index ≤ length l.lefts) × ((new : List (Tree × Tree)) × Pairs (trees (drop l.index l.lefts)) (trees (drop l.index l.rights)) new × (reverse l.equations.items ≡ new ++ reverse l.initial.equations.items))

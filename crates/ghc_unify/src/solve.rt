@@ -1,0 +1,52 @@
+// Unification.
+ghost use Rattle.std.specs.Prelude.{◌≡◌, ◌⊎◌, ◌↔◌, IfOk, IfErr, Err, Some};
+ghost use Rattle.ghc_term.specs.Store.{value_at};
+ghost use Rattle.ghc_term.specs.Tree.{Tree};
+ghost use Rattle.ghc_term.specs.declared.var_name.VarName.{VarName};
+ghost use Rattle.ghc_unify.specs.Unify.{Unifies, Clashes, Cycles, Ending, HasEnding, with_bindings};
+ghost use Rattle.ghc_unify.specs.Solutions.{Solves, Equates};
+ghost use Rattle.ghc_unify.specs.Outcome.{ending_of};
+
+use crate::bindings::Bindings;
+use crate::step::advance;
+use crate::variables::Variables;
+use ghc_term::{Fault, Store, Term};
+use std::alloc::Global;
+
+/// What a unification binds, as written, and which variables it reads.
+#[derive(Drop)]
+pub struct Solved {
+    pub binds: Bindings,
+    pub reads: Variables,
+}
+
+/// Unifies two terms: gives what is bound beside the store, and which bound variables were read. `Fault::Clash` exactly
+/// where the moves come to a clash, `Fault::Cycle` exactly where a variable would come to reach itself; otherwise it
+/// fails for want of memory alone. Nothing is bound in the store.
+///
+/// It goes by loops along chains and through the terms, once through each pair of parts that is met, so that lists of
+/// any length take no stack. Each binding costs a search of the bound term. Terms that share parts are met once for each
+/// place where they stand: it ends, but no bound on the time is promised there.
+pub fn unify(alloc: Global, left: &Term, right: &Term, store: &Store) -> Result<Solved, Fault>
+    ensures solved { IfOk result (λ s. Unifies (value_at store.now) left.now right.now s.binds s.reads) }
+    ensures clash { result ≡ Err Fault.Clash → Clashes (value_at store.now) left.now right.now }
+    ensures cycle { result ≡ Err Fault.Cycle → Cycles (value_at store.now) left.now right.now }
+    ensures only { IfErr result (λ e. (e ≡ Fault.Clash) ⊎ (e ≡ Fault.Cycle) ⊎ (e ≡ Fault.Memory)) }
+
+    // The answer is the one ending that the unification has, unless memory is wanting.
+    ensures exact { (e : Ending) → HasEnding (value_at store.now) left.now right.now e → (result ≡ Err Fault.Memory) ⊎ (ending_of result ≡ Some e) }
+
+    // The solutions of the store and the equation are those of the store with the bindings; a clash or a cycle has none.
+    ensures kept { IfOk result (λ s. (a : VarName → Tree) → (Solves a (value_at store.now) × Equates a left.now right.now) ↔ Solves a (with_bindings s.binds (value_at store.now))) }
+    ensures none { (result ≡ Err Fault.Clash) ⊎ (result ≡ Err Fault.Cycle) → (a : VarName → Tree) → Solves a (value_at store.now) → ¬ Equates a left.now right.now }
+{
+    store.acyclic();
+    let mut binds = Bindings::new(alloc);
+    let mut reads = Variables::new(alloc);
+    let mut equations = Vec::new(alloc);
+    equations.push((left.share()?, right.share()?))?;
+    while let Some((x, value)) = advance(alloc, store, &binds, &mut equations, &mut reads)? {
+        binds.insert(x, value)?;
+    }
+    Ok(Solved { binds, reads })
+}

@@ -1,0 +1,140 @@
+// The moves on a list of equations up to the next binding.
+ghost use Rattle.std.specs.Prelude.{◌≡◌, ◌⊎◌, IfOk, IfErr, OnOk, Err, List, length, reverse, ◌++◌};
+ghost use Rattle.ghc_term.specs.Store.{value_at};
+ghost use Rattle.ghc_term.specs.Tree.{Tree, trees, IsValue};
+ghost use Rattle.ghc_term.specs.Bindings.{IsAcyclic, Reaches};
+ghost use Rattle.ghc_unify.specs.Unify.{Pairs, Meets, IsClash, IsCycle, with_bindings};
+ghost use Rattle.ghc_unify.specs.Steps.{Steps, Advances, FailsFrom};
+
+use crate::bindings::Bindings;
+use crate::chains::{follow, note};
+use crate::occurs::reaches;
+use crate::parting::part;
+use crate::variables::Variables;
+use ghc_term::{Fault, Store, Term, TermView, VarName};
+use std::alloc::{AllocError, Global};
+
+// A variable and what it is to be bound to.
+pub type Binding = (VarName, Term);
+
+// Equations, of which the last one comes first.
+pub type Equations = Vec<(Term, Term)>;
+
+// Adds the equations of the arguments, those of the first ones to come first. One step an argument, whatever its size.
+fn push_pairs(lefts: &[Term], rights: &[Term], equations: &mut Equations) -> Result<(), AllocError>
+    requires { length lefts.now ≡ length rights.now }
+    ensures { OnOk result ((new : List (Tree × Tree)) × Pairs (trees lefts.now) (trees rights.now) new × (reverse equations.new.items ≡ new ++ reverse equations.old.items)) }
+{
+    for index in (0..lefts.len()).rev() {
+        equations.push((lefts[index].share()?, rights[index].share()?))?;
+    }
+    Ok(())
+}
+
+// Replaces the equation of two values by those of their arguments, or refuses it as a clash.
+fn meet(left: &Term, right: &Term, equations: &mut Equations) -> Result<(), Fault>
+    requires left { IsValue left.now }
+    requires right { IsValue right.now }
+    ensures ok { OnOk result ((new : List (Tree × Tree)) × Meets left.now right.now new × (reverse equations.new.items ≡ new ++ reverse equations.old.items)) }
+    ensures clash { result ≡ Err Fault.Clash → (new : List (Tree × Tree)) → ¬ Meets left.now right.now new }
+    ensures only { IfErr result (λ e. (e ≡ Fault.Clash) ⊎ (e ≡ Fault.Memory)) }
+{
+    match (left.view(), right.view()) {
+        (TermView::Int(i), TermView::Int(k)) => {
+            if i != k {
+                return Err(Fault::Clash);
+            }
+        }
+        (TermView::Atom(f), TermView::Atom(g)) => {
+            if f != g {
+                return Err(Fault::Clash);
+            }
+        }
+        (TermView::Struct(f, lefts), TermView::Struct(g, rights)) => {
+            if f != g || lefts.len() != rights.len() {
+                return Err(Fault::Clash);
+            }
+            push_pairs(lefts, rights, equations)?;
+        }
+        _ => return Err(Fault::Clash),
+    }
+    Ok(())
+}
+
+// The binding of a variable to a term, or the refusal of one that would close a cycle.
+fn binding(
+    alloc: Global,
+    store: &Store,
+    binds: &Bindings,
+    x: VarName,
+    term: &Term,
+) -> Result<Binding, Fault>
+    requires { IsAcyclic (with_bindings binds.now (value_at store.now)) }
+    ensures ok { IfOk result (λ b. b ≡ (x, term.now)) }
+    ensures open { OnOk result (¬ Reaches (with_bindings binds.now (value_at store.now)) term.now x) }
+    ensures cycle { result ≡ Err Fault.Cycle → Reaches (with_bindings binds.now (value_at store.now)) term.now x }
+    ensures only { IfErr result (λ e. (e ≡ Fault.Cycle) ⊎ (e ≡ Fault.Memory)) }
+{
+    if reaches(alloc, store, binds, term, x)? {
+        return Err(Fault::Cycle);
+    }
+    let value = term.share()?;
+    Ok((x, value))
+}
+
+// The move on one equation; the equations are those that come after it.
+fn step<'a>(
+    alloc: Global,
+    store: &'a Store,
+    binds: &'a Bindings,
+    left: &'a Term,
+    right: &'a Term,
+    equations: &mut Equations,
+    reads: &mut Variables,
+) -> Result<Option<Binding>, Fault>
+    requires { IsAcyclic (with_bindings binds.now (value_at store.now)) }
+    ensures ok { IfOk result (Steps (value_at store.now) (with_bindings binds.now (value_at store.now)) left.now right.now equations.old.items equations.new.items reads.old reads.new) }
+    ensures clash { result ≡ Err Fault.Clash → IsClash (with_bindings binds.now (value_at store.now)) left.now right.now }
+    ensures cycle { result ≡ Err Fault.Cycle → IsCycle (with_bindings binds.now (value_at store.now)) left.now right.now }
+    ensures only { IfErr result (λ e. (e ≡ Fault.Clash) ⊎ (e ≡ Fault.Cycle) ⊎ (e ≡ Fault.Memory)) }
+{
+    let mut from_left = follow(alloc, store, binds, left)?;
+    let mut from_right = follow(alloc, store, binds, right)?;
+    let shared = part(&mut from_left.passed, &mut from_right.passed);
+    note(store, &from_left.passed, reads)?;
+    if shared {
+        note(store, &from_right.passed, reads)?;
+        return Ok(None);
+    }
+    if let TermView::Var(x) = from_left.end.view() {
+        return Ok(Some(binding(alloc, store, binds, x, right)?));
+    }
+    note(store, &from_right.passed, reads)?;
+    if let TermView::Var(y) = from_right.end.view() {
+        return Ok(Some(binding(alloc, store, binds, y, left)?));
+    }
+    meet(from_left.end, from_right.end, equations)?;
+    Ok(None)
+}
+
+// Makes the moves up to the next binding, which it gives, or up to the last equation.
+pub fn advance(
+    alloc: Global,
+    store: &Store,
+    binds: &Bindings,
+    equations: &mut Equations,
+    reads: &mut Variables,
+) -> Result<Option<Binding>, Fault>
+    requires { IsAcyclic (with_bindings binds.now (value_at store.now)) }
+    ensures ok { IfOk result (Advances (value_at store.now) (with_bindings binds.now (value_at store.now)) equations.old.items equations.new.items reads.old reads.new) }
+    ensures clash { result ≡ Err Fault.Clash → FailsFrom IsClash (value_at store.now) (with_bindings binds.now (value_at store.now)) (reverse equations.old.items) }
+    ensures cycle { result ≡ Err Fault.Cycle → FailsFrom IsCycle (value_at store.now) (with_bindings binds.now (value_at store.now)) (reverse equations.old.items) }
+    ensures only { IfErr result (λ e. (e ≡ Fault.Clash) ⊎ (e ≡ Fault.Cycle) ⊎ (e ≡ Fault.Memory)) }
+{
+    while let Some((left, right)) = equations.pop() {
+        if let Some(binding) = step(alloc, store, binds, &left, &right, equations, reads)? {
+            return Ok(Some(binding));
+        }
+    }
+    Ok(None)
+}

@@ -1,0 +1,63 @@
+// Sets of variables.
+ghost use Rattle.std.specs.Prelude.{◌≡◌, OnOk, OnErr};
+
+use ghc_term::VarName;
+use indexmap::IndexSet;
+use std::alloc::{AllocError, Global};
+use std::marker::Model;
+
+/// A set of variables.
+#[derive(Drop)]
+pub struct Variables {
+    members: IndexSet<VarName>,
+}
+
+impl Model for Variables {
+    ghost use Rattle.ghc_term.specs.Bindings.{name_cmp};
+    ghost use Rattle.ghc_term.specs.Code.{name_code};
+    ghost use Rattle.std.specs.FinSet as set;
+
+    ghost Value = { set.FinSet name_cmp };
+
+    ghost coded = { set.code name_code };
+
+    ghost view = { λ v. set.from_list v.members.keys };
+}
+
+impl Variables {
+    ghost use Rattle.std.specs.FinSet as set;
+
+    /// The empty set, which takes no memory.
+    pub fn new(alloc: Global) -> Variables
+        ensures { result ≡ set.empty }
+    {
+        Variables {
+            members: IndexSet::new(alloc),
+        }
+    }
+
+    /// Whether the variable is in the set: one look-up.
+    pub fn contains(&self, x: VarName) -> bool
+        ensures { result ≡ set.contains self.now x }
+    {
+        self.members.contains(&x)
+    }
+
+    /// How many variables are in the set.
+    pub fn len(&self) -> usize
+        ensures { result ≡ set.len self.now }
+    {
+        self.members.len()
+    }
+
+    /// Adds the variable.
+    pub fn insert(&mut self, x: VarName) -> Result<(), AllocError>
+        ensures ok { OnOk result (self.new ≡ set.insert self.old x) }
+        ensures err { OnErr result (self.new ≡ self.old) }
+    {
+        match self.members.insert(x) {
+            Ok(_) => Ok(()),
+            Err(_) => Err(AllocError),
+        }
+    }
+}
