@@ -15,7 +15,9 @@ use Rattle.ghc_term.proofs.Total.{chain}
 use Rattle.ghc_unify.proofs.Ends.{left_end}
 use Rattle.ghc_term.specs.declared.fault.Fault.{Fault}
 use Rattle.ghc_fire.specs.Instance.{made}
-use Rattle.ghc_fire.specs.Effect.{Act, given, closed, Effect, HasEffect}
+use Rattle.ghc_fire.specs.declared.act.Act.{Act}
+use Rattle.ghc_fire.specs.declared.act.Act.TheVariants.{Given as given, Closed as closed}
+use Rattle.ghc_fire.specs.Effect.{Effect, HasEffect}
 use Rattle.ghc_term.specs.Tree.{IsClosed}
 use Rattle.ghc_fire.specs.Goals.{goal_cmp, Goals}
 use Rattle.ghc_records.specs.Numbers.{number_limit, kept_limit}

@@ -5,7 +5,7 @@ use Rattle.ghc_term.specs.declared.goal_name.GoalName.{GoalName}
 use Rattle.ghc_term.specs.Goal.{Goal}
 use Rattle.ghc_term.specs.Store.{value_at}
 use Rattle.ghc_flat.specs.Flat.{is_stream}
-use Rattle.ghc_fire.specs.Effect.{given, closed}
+use Rattle.ghc_fire.specs.declared.act.Act.TheVariants.{Given as given, Closed as closed}
 use Rattle.ghc_fire.proofs.Steps.{effect_once}
 use Rattle.ghc_fire.proofs.Tries.{attempt_once}
 use Rattle.ghc_hooks.specs.Status.{HasStatus}

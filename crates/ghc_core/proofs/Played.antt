@@ -13,7 +13,8 @@ use Rattle.ghc_term.specs.Bindings.{Reaches, here, through, now, name_cmp}
 use Rattle.ghc_term.proofs.Names.{name_total}
 use Rattle.ghc_flat.specs.Clause.{Program}
 use Rattle.ghc_unify.specs.Unify.{left, stay, go}
-use Rattle.ghc_fire.specs.Effect.{unified, Effect, HasEffect, no_step}
+use Rattle.ghc_fire.specs.declared.act.Act.TheVariants.{Unified as unified}
+use Rattle.ghc_fire.specs.Effect.{Effect, HasEffect, no_step}
 use Rattle.ghc_fire.specs.Attempt as attempt
 use Rattle.ghc_fire.proofs.Steps.{effect_binds}
 use Rattle.ghc_records.specs.Orders.{nothing, leave}

@@ -10,7 +10,8 @@ use Rattle.ghc_term.specs.Bindings.{IsAcyclic}
 use Rattle.ghc_term.specs.Store.{value_at}
 use Rattle.ghc_flat.specs.Flat.{IsProgram, IsQuery}
 use Rattle.ghc_fire.specs.Instance.{made}
-use Rattle.ghc_fire.specs.Effect.{Act, given, closed}
+use Rattle.ghc_fire.specs.declared.act.Act.{Act}
+use Rattle.ghc_fire.specs.declared.act.Act.TheVariants.{Given as given, Closed as closed}
 use Rattle.ghc_records.specs.Orders.{Picks, nothing, take, leave, AreDistinct}
 use Rattle.ghc_records.specs.Record.{State, Record, numbers, Shelf, after, Fires}
 use Rattle.ghc_records.specs.Replay.{query_state, IsVariableOf}

@@ -12,7 +12,9 @@ use Rattle.ghc_term.proofs.Chains.{leads_once}
 use Rattle.ghc_flat.specs.Clause.{Program}
 use Rattle.ghc_match.specs.Position.{EndsIn}
 use Rattle.ghc_term.specs.declared.fault.Fault.{Fault}
-use Rattle.ghc_fire.specs.Effect.{Act, by_clause, unified, assigned, given, closed, Effect, HasEffect}
+use Rattle.ghc_fire.specs.declared.act.Act.{Act}
+use Rattle.ghc_fire.specs.declared.act.Act.TheVariants.{ByClause as by_clause, Unified as unified, Assigned as assigned, Given as given, Closed as closed}
+use Rattle.ghc_fire.specs.Effect.{Effect, HasEffect}
 use Rattle.ghc_fire.specs.Attempt as attempt
 use Rattle.ghc_fire.specs.Laws.{EffectIsOne, AttemptHasOneAnswer}
 use Rattle.ghc_records.specs.Record.{Record, HasStepEffect}

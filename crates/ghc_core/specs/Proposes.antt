@@ -6,7 +6,9 @@ use Rattle.ghc_term.specs.Goal.{Goal}
 use Rattle.ghc_term.specs.Store.{value_at}
 use Rattle.ghc_flat.specs.Flat.{is_stream}
 use Rattle.ghc_term.specs.declared.fault.Fault.{Fault}
-use Rattle.ghc_fire.specs.Effect.{Act, by_clause, unified, assigned, given, closed, Effect, HasEffect, no_step}
+use Rattle.ghc_fire.specs.declared.act.Act.{Act}
+use Rattle.ghc_fire.specs.declared.act.Act.TheVariants.{ByClause as by_clause, Unified as unified, Assigned as assigned, Given as given, Closed as closed}
+use Rattle.ghc_fire.specs.Effect.{Effect, HasEffect, no_step}
 use Rattle.ghc_fire.specs.Attempt as attempt
 use Rattle.ghc_records.specs.Record.{Record}
 use Rattle.ghc_hooks.specs.Status.{Status, HasStatus}

@@ -8,7 +8,8 @@ use Rattle.ghc_term.specs.Goal.{stream}
 use Rattle.ghc_term.specs.Store.{value_at}
 use Rattle.ghc_match.specs.Position.{EndsIn}
 use Rattle.ghc_term.specs.declared.fault.Fault.{Fault}
-use Rattle.ghc_fire.specs.Effect.{Act, given, closed}
+use Rattle.ghc_fire.specs.declared.act.Act.{Act}
+use Rattle.ghc_fire.specs.declared.act.Act.TheVariants.{Given as given, Closed as closed}
 use Rattle.ghc_records.specs.Record.{Record}
 use Rattle.ghc_core.specs.World.{World, IsFull, IsNextStep, with_step}
 use Rattle.ghc_core.specs.Events.{Command, input, finish, undo, roll, redo, arrange, Reply, stepped, refused}

@@ -4,7 +4,8 @@ use Rattle.std.specs.declared.cmp.Ordering.TheVariants.{Less}
 use Rattle.ghc_term.specs.declared.var_name.VarName.{VarName}
 use Rattle.ghc_term.specs.Lists.{In}
 use Rattle.ghc_term.specs.Bindings.{name_cmp}
-use Rattle.ghc_fire.specs.Effect.{Act, by_clause, unified, assigned, given, closed}
+use Rattle.ghc_fire.specs.declared.act.Act.{Act}
+use Rattle.ghc_fire.specs.declared.act.Act.TheVariants.{ByClause as by_clause, Unified as unified, Assigned as assigned, Given as given, Closed as closed}
 use Rattle.ghc_records.specs.Orders.{Precedes}
 use Rattle.ghc_records.specs.Record.{Record}
 use Rattle.ghc_depend.specs.Depend.{Consumes, ReadsFrom, DependsOn, IsKeptAs}

@@ -4,7 +4,7 @@ use Rattle.std.specs.FinMap as finite
 use Rattle.std.specs.FinSet as set
 use Rattle.ghc_term.specs.Tree.{Tree, variable, integer, atom, nil, cons}
 use Rattle.ghc_term.specs.Goal.{call, unify}
-use Rattle.ghc_fire.specs.Effect.{by_clause, unified}
+use Rattle.ghc_fire.specs.declared.act.Act.TheVariants.{ByClause as by_clause, Unified as unified}
 use Rattle.ghc_records.specs.Record.{Record}
 use Rattle.ghc_depend.specs.Depend.{DependsOn, AreConsequences, IsFirstConsequence}
 use Rattle.ghc_depend.specs.Cause.{made, read, HasCause}

@@ -27,7 +27,9 @@ use Rattle.ghc_unify.specs.Unify.{Unifies, Pairs, no_more, one_more, Meets, inte
 use Rattle.ghc_unify.specs.Solutions.{replace, replace_all}
 use Rattle.ghc_unify.proofs.Locality.{by_value}
 use Rattle.ghc_fire.specs.Instance.{replace_in_expression, replace_in_goal, made, place_in, becomes}
-use Rattle.ghc_fire.specs.Effect.{Act, by_clause, unified, assigned, given, closed, Effect, HasEffect}
+use Rattle.ghc_fire.specs.declared.act.Act.{Act}
+use Rattle.ghc_fire.specs.declared.act.Act.TheVariants.{ByClause as by_clause, Unified as unified, Assigned as assigned, Given as given, Closed as closed}
+use Rattle.ghc_fire.specs.Effect.{Effect, HasEffect}
 use Rattle.ghc_fire.specs.Laws.{IsMadeBy, ComesFrom, EffectVariables}
 use Rattle.ghc_fire.proofs.Steps.{nothing}
 

@@ -18,11 +18,11 @@ use Rattle.ghc_term.proofs.Chains.{leads_once, leads_agree}
 use Rattle.ghc_term.proofs.Searches.{In_either}
 use Rattle.ghc_flat.specs.Clause.{Clause, Program, IsClause}
 use Rattle.ghc_flat.specs.Variables.{leaf_variables, fresh_variables}
-use Rattle.ghc_match.specs.Sets.{Variables}
+use Rattle.ghc_term.specs.Sets.{Variables}
 use Rattle.ghc_match.specs.Position.{EndsIn}
 use Rattle.ghc_match.specs.Value.{Number, of_integer, of_variable, computed}
 use Rattle.ghc_match.specs.Match.{HasOutcome, Outcome, accepts, refuses, waits, LooksAt, Accepts}
-use Rattle.ghc_match.proofs.Sets.{one_set, set_of}
+use Rattle.ghc_term.proofs.Sets.{one_set, set_of}
 use Rattle.ghc_match.proofs.Values.{number_there, number_once, ends_once}
 use Rattle.ghc_match.proofs.Outcomes.{outcome_there, outcomes_exclude}
 use Rattle.ghc_unify.specs.Unify.{Unifies, Ending, solved, with_bindings}
@@ -36,7 +36,8 @@ use Rattle.ghc_unify.proofs.Bound.{by_answers}
 use Rattle.ghc_unify.proofs.Once.{comes_end}
 use Rattle.ghc_unify.proofs.LawProofs.{is_local, one_ending, keeps_acyclic, binds_and_reads}
 use Rattle.ghc_fire.specs.Instance.{made, body_made}
-use Rattle.ghc_fire.specs.Effect.{by_clause, unified, assigned, given, closed, Effect, IsOnChainsOf, Reduces, ReadsTail}
+use Rattle.ghc_fire.specs.declared.act.Act.TheVariants.{ByClause as by_clause, Unified as unified, Assigned as assigned, Given as given, Closed as closed}
+use Rattle.ghc_fire.specs.Effect.{Effect, IsOnChainsOf, Reduces, ReadsTail}
 use Rattle.ghc_term.specs.Tree.{IsClosed}
 use Rattle.ghc_fire.specs.Laws.{EffectIsLocal, EffectIsOne, EffectBindsAndReads, EffectUnderEachNumber, EffectKeepsAcyclic}
 

@@ -12,7 +12,7 @@ use Rattle.ghc_match.specs.Position.{EndsIn}
 use Rattle.ghc_match.specs.Value.{Number, number, waits, bad, HasValue}
 use Rattle.ghc_match.specs.Match.{LooksAt, Accepts, accepts}
 use Rattle.ghc_match.specs.Looked.{GoalLooksAt, ExpressionReaches}
-use Rattle.ghc_match.proofs.Sets.{set_of}
+use Rattle.ghc_term.proofs.Sets.{set_of}
 use Rattle.ghc_match.proofs.Matching.{looks_back}
 use Rattle.ghc_match.proofs.Values.{value_looks, number_once, number_waits_not, ends_once, leaf_reaches, passes_reaches}
 use Rattle.ghc_match.proofs.Chains.{leads_there, leads_back}
@@ -20,7 +20,9 @@ use Rattle.ghc_match.proofs.Outcomes.{outcome_there, refuses_waits, accepts_refu
 use Rattle.ghc_unify.specs.Unify.{Clashes, solved, clash, cycle}
 use Rattle.ghc_unify.proofs.Once.{solved_no_clash, solved_no_cycle, clash_no_cycle}
 use Rattle.ghc_unify.proofs.Agree.{looks_at_terms}
-use Rattle.ghc_fire.specs.Effect.{Act, by_clause, unified, assigned, Effect, IsOnChainsOf, HasEffect, no_step}
+use Rattle.ghc_fire.specs.declared.act.Act.{Act}
+use Rattle.ghc_fire.specs.declared.act.Act.TheVariants.{ByClause as by_clause, Unified as unified, Assigned as assigned}
+use Rattle.ghc_fire.specs.Effect.{Effect, IsOnChainsOf, HasEffect, no_step}
 use Rattle.ghc_fire.specs.Attempt.{Answer, proposes, SomeAccepts, SomeWaitsFor, IsLeast, CallAnswers, ClauseAnswers, ChoiceAnswers, UnificationAnswers, AssignmentAnswers}
 use Rattle.ghc_fire.specs.Laws.{AttemptHasOneAnswer, AttemptIsOfWhatIsLookedAt}
 use Rattle.ghc_fire.proofs.Steps.{clause_once, effect_once}

@@ -5,13 +5,15 @@ use Rattle.ghc_term.specs.Tree.{Tree, integer}
 use Rattle.ghc_term.specs.Expression.{Expression}
 use Rattle.ghc_term.specs.Goal.{Goal, call, unify, assign, stream}
 use Rattle.ghc_flat.specs.Clause.{Clause, Program, IsClause, IsFor}
-use Rattle.ghc_match.specs.Sets.{Variables}
+use Rattle.ghc_term.specs.Sets.{Variables}
 use Rattle.ghc_match.specs.Value.{HasValue, number, waits, bad}
 use Rattle.ghc_match.specs.Match.{Accepts, Refuses, WaitsFor}
 use Rattle.ghc_unify.specs.Unify.{Clashes, Cycles}
 use Rattle.ghc_term.specs.declared.fault.Fault.{Fault}
 use Rattle.ghc_term.specs.declared.fault.Fault.TheVariants.{NoGoal, NoClause, Waits, NoMatch, Clash, Cycle, Arithmetic}
-use Rattle.ghc_fire.specs.Effect.{Act, by_clause, unified, assigned, Effect, HasEffect, no_step}
+use Rattle.ghc_fire.specs.declared.act.Act.{Act}
+use Rattle.ghc_fire.specs.declared.act.Act.TheVariants.{ByClause as by_clause, Unified as unified, Assigned as assigned}
+use Rattle.ghc_fire.specs.Effect.{Effect, HasEffect, no_step}
 
 -- An attempt proposes an act with its effect under any number, or is refused.
 pub data Answer : Type 0 where

@@ -11,20 +11,14 @@ use Rattle.ghc_term.specs.Bindings.{Leads, Comes}
 use Rattle.ghc_term.specs.Store.{StoreValue}
 use Rattle.ghc_flat.specs.Clause.{Clause, Program, IsClause, IsFor}
 use Rattle.ghc_flat.specs.Variables.{leaf_variables, fresh_variables}
-use Rattle.ghc_match.specs.Sets.{Variables, IsSetOf}
+use Rattle.ghc_term.specs.Sets.{Variables, IsSetOf}
 use Rattle.ghc_match.specs.Position.{EndsIn}
 use Rattle.ghc_match.specs.Value.{Number}
 use Rattle.ghc_match.specs.Match.{HasOutcome, accepts}
 use Rattle.ghc_unify.specs.Unify.{Unifies}
+use Rattle.ghc_fire.specs.declared.act.Act.{Act}
+use Rattle.ghc_fire.specs.declared.act.Act.TheVariants.{ByClause as by_clause, Unified as unified, Assigned as assigned, Given as given, Closed as closed}
 use Rattle.ghc_fire.specs.Instance.{made, body_made}
-
--- An act reduces a call by a clause, unifies, assigns, gives a stream an input, or closes it.
-pub data Act : Type 0 where
-  by_clause : ℕ → Act
-  unified : Act
-  assigned : Act
-  given : Tree → Act
-  closed : Act
 
 -- An effect is what a step reads and binds, which goals it makes, and how many variables.
 pub record Effect : Type 0 where

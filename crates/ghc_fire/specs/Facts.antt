@@ -10,7 +10,8 @@ use Rattle.ghc_term.specs.Goal.{Goal, call, unify, assign, stream}
 use Rattle.ghc_flat.specs.Samples.{asked, v, store, both_atoms, appends}
 use Rattle.ghc_term.specs.declared.fault.Fault.TheVariants.{NoClause, Waits, NoMatch, Arithmetic}
 use Rattle.ghc_fire.specs.Instance.{made}
-use Rattle.ghc_fire.specs.Effect.{by_clause, unified, assigned, given, closed, Effect, HasEffect, no_step}
+use Rattle.ghc_fire.specs.declared.act.Act.TheVariants.{ByClause as by_clause, Unified as unified, Assigned as assigned, Given as given, Closed as closed}
+use Rattle.ghc_fire.specs.Effect.{Effect, HasEffect, no_step}
 use Rattle.ghc_fire.specs.Attempt.{proposes, refused, Attempts}
 
 -- the effect with these reads, bindings, goals and so many fresh variables

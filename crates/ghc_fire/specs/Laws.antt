@@ -14,7 +14,8 @@ use Rattle.ghc_match.specs.Looked.{GoalLooksAt}
 use Rattle.ghc_unify.specs.Unify.{with_bindings}
 use Rattle.ghc_unify.specs.Laws.{IsCutDown, BindsAndReads}
 use Rattle.ghc_fire.specs.Instance.{made}
-use Rattle.ghc_fire.specs.Effect.{Act, Effect, HasEffect}
+use Rattle.ghc_fire.specs.declared.act.Act.{Act}
+use Rattle.ghc_fire.specs.Effect.{Effect, HasEffect}
 use Rattle.ghc_fire.specs.Attempt.{Answer, Attempts}
 
 -- An effect is the same where bindings of variables that it did not read are taken away.

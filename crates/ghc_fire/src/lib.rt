@@ -1,9 +1,11 @@
 //! What a step does: the effect of each act, and what an attempt at a goal answers.
 #![tactic(auto)]
 
+mod act;
 mod facts;
 mod laws;
 
+pub use act::Act;
 pub use facts::{
     append_attempts, append_run, bound_tail_takes_nothing, input_and_close, input_reads_alias,
     least_assigned, structure_assigned, waits_then_fails,

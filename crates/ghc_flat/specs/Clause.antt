@@ -2,17 +2,8 @@
 use Rattle.std.specs.Prelude.{◌≡◌, ℕ, ◌+◌, List, length, Some, slice_get}
 use Rattle.ghc_term.specs.declared.var_name.VarName.{VarName}
 use Rattle.ghc_term.specs.Tree.{Tree}
-use Rattle.ghc_term.specs.Expression.{Expression}
 use Rattle.ghc_term.specs.Goal.{Goal}
-use Rattle.ghc_flat.specs.declared.comparison.Comparison.{Comparison}
-
--- A test is `wait(X)`, `integer(X)`, `atom(X)`, `list(X)` of a variable of the clause, or a comparison. (`true` is no test.)
-pub data Test : Type 0 where
-  wait : VarName → Test
-  is_integer : VarName → Test
-  is_atom : VarName → Test
-  is_list : VarName → Test
-  compare : Comparison → Expression → Expression → Test
+use Rattle.ghc_flat.specs.declared.test.Test.{Test}
 
 -- A clause is `name(head) :- tests | body.`, and `_0_i` is its i-th variable by first occurrence. (`true` is no goal of a body.)
 pub record Clause : Type 0 where

@@ -1,8 +1,9 @@
 -- Small facts on which programs are accepted.
 use Rattle.std.specs.Prelude.{List, [], ◌∷◌, codes}
 use Rattle.ghc_term.specs.Goal.{call}
-use Rattle.ghc_flat.specs.Clause.{Test}
-use Rattle.ghc_flat.specs.Flat.{item, MakesTests, IsLinear, AreDefined, IsProgram, IsQuery}
+use Rattle.ghc_flat.specs.declared.test.Test.{Test}
+use Rattle.ghc_reader.specs.declared.written.Guard.TheVariants.{Item as item}
+use Rattle.ghc_flat.specs.Flat.{MakesTests, IsLinear, AreDefined, IsProgram, IsQuery}
 use Rattle.ghc_flat.specs.Samples.{v, appends, append_query}
 
 -- The two clauses of `append` are a program, and `append([1],[2],R)` is a query of it.

@@ -5,14 +5,14 @@ use Rattle.ghc_term.specs.Tree.{Tree, variable}
 use Rattle.ghc_term.specs.Expression.{Expression}
 use Rattle.ghc_term.specs.Goal.{Goal, call, unify, assign, stream}
 use Rattle.ghc_term.specs.Lists.{In}
-use Rattle.ghc_flat.specs.declared.comparison.Comparison.{Comparison}
-use Rattle.ghc_flat.specs.Clause.{Test, wait, is_integer, is_atom, is_list, compare, Clause, Program, IsClause, IsFor, Query}
+use Rattle.ghc_term.specs.declared.comparison.Comparison.{Comparison}
+use Rattle.ghc_reader.specs.declared.written.Guard.{Guard}
+use Rattle.ghc_reader.specs.declared.written.Guard.TheVariants.{Item as item, Comparison as comparison}
+pub use Rattle.ghc_reader.specs.Written.{AreNumbered, is_stream}
+use Rattle.ghc_flat.specs.declared.test.Test.{Test}
+use Rattle.ghc_flat.specs.declared.test.Test.TheVariants.{Wait as wait, IsInteger as is_integer, IsAtom as is_atom, IsList as is_list, Compare as compare}
+use Rattle.ghc_flat.specs.Clause.{Clause, Program, IsClause, IsFor, Query}
 use Rattle.ghc_flat.specs.Variables.{variables_of_list, variables_of_test, variables_of_goals, variables_of_clause, firsts}
-
--- A guard as it is written is an item, as a body has them, or a comparison.
-pub data Guard : Type 0 where
-  item : Goal → Guard
-  comparison : Comparison → Expression → Expression → Guard
 
 -- The predefined test of this name, on the variable x.
 abbrev pub IsPredefined : List ℕ → VarName → Test → Type 0
@@ -43,17 +43,6 @@ IsLinear c = AreDistinct (variables_of_list c.head)
 -- Each call among the goals has a clause of its name and arity.
 abbrev pub AreDefined : Program → List Goal → Type 0
 AreDefined P gs = (f : List ℕ) (ts : List Tree) → In (call f ts) gs → (k : ℕ) × (c : Clause) × IsClause P k c × IsFor f ts c
-
--- The i-th variable, by first occurrence, is `_0_i`.
-abbrev pub AreNumbered : List VarName → Type 0
-AreNumbered xs = (i : ℕ) (x : VarName) → slice_get (firsts [] xs) i ≡ Some x → x ≡ record { step = 0; place = i + 1 }
-
--- whether the goal is a stream goal
-abbrev pub is_stream : Goal → Bool
-is_stream (call _ _) = false
-is_stream (unify _ _) = false
-is_stream (assign _ _) = false
-is_stream (stream _ _) = true
 
 -- A clause is accepted in a program where it is flat and linear, its calls are defined, its variables are numbered, and no stream stands in its body.
 pub record IsAccepted (P : Program) (c : Clause) : Type 0 where

@@ -1,4 +1,5 @@
 pub mod Clause
+pub mod ClauseCode
 pub mod Variables
 pub mod Flat
 pub mod Samples

@@ -7,8 +7,9 @@ use Rattle.ghc_term.specs.Tree.{Tree, variable, integer, atom, nil, cons}
 use Rattle.ghc_term.specs.Expression.{leaf, operation}
 use Rattle.ghc_term.specs.Goal.{call, unify}
 use Rattle.ghc_term.specs.Bindings.{name_cmp}
-use Rattle.ghc_flat.specs.declared.comparison.Comparison.TheVariants.{Above, Equals}
-use Rattle.ghc_flat.specs.Clause.{compare, Clause, Program, Query}
+use Rattle.ghc_term.specs.declared.comparison.Comparison.TheVariants.{Greater, Equal}
+use Rattle.ghc_flat.specs.declared.test.Test.TheVariants.{Compare as compare}
+use Rattle.ghc_flat.specs.Clause.{Clause, Program, Query}
 
 -- the variable `_0_i`: the i-th of a query, or of a clause
 abbrev pub asked : ℕ → VarName
@@ -32,11 +33,11 @@ second_atom = record { name = codes "p"; head = v 1 ∷ atom (codes "b") ∷ [];
 
 -- `d(X) :- 1 / X > 0 | true.`
 abbrev pub divides : Clause
-divides = record { name = codes "d"; head = v 1 ∷ []; tests = compare Above (operation Divide (leaf (integer (pos 1))) (leaf (v 1))) (leaf (integer (pos 0))) ∷ []; body = [] }
+divides = record { name = codes "d"; head = v 1 ∷ []; tests = compare Greater (operation Divide (leaf (integer (pos 1))) (leaf (v 1))) (leaf (integer (pos 0))) ∷ []; body = [] }
 
 -- `m(X) :- X mod 3 =:= -1 | true.`
 abbrev pub remains : Clause
-remains = record { name = codes "m"; head = v 1 ∷ []; tests = compare Equals (operation Modulo (leaf (v 1)) (leaf (integer (pos 3)))) (leaf (integer (negsuc 0))) ∷ []; body = [] }
+remains = record { name = codes "m"; head = v 1 ∷ []; tests = compare Equal (operation Modulo (leaf (v 1)) (leaf (integer (pos 3)))) (leaf (integer (negsuc 0))) ∷ []; body = [] }
 
 -- `append([],Y,Z) :- true | Z = Y.`
 abbrev pub append_nothing : Clause

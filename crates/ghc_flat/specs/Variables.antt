@@ -1,42 +1,10 @@
--- The variables of trees, expressions, tests, goals and clauses, in the order in which they stand there.
-use Rattle.std.specs.Prelude.{List, [], ◌∷◌, ◌++◌, cond}
-use Rattle.std.specs.List.{list_any}
-use Rattle.std.specs.Ordering.{eq_by_cmp}
+-- The variables of tests and clauses, in the order in which they stand there.
+use Rattle.std.specs.Prelude.{List, [], ◌∷◌, ◌++◌}
 use Rattle.ghc_term.specs.declared.var_name.VarName.{VarName}
-use Rattle.ghc_term.specs.Tree.{Tree, variable, integer, node, Trees, none, more}
-use Rattle.ghc_term.specs.Expression.{Expression, leaf, operation}
-use Rattle.ghc_term.specs.Goal.{Goal, call, unify, assign, stream}
-use Rattle.ghc_term.specs.Bindings.{name_cmp}
-use Rattle.ghc_flat.specs.Clause.{Test, wait, is_integer, is_atom, is_list, compare, Clause}
-
-abbrev mutual
-  -- the variables of a tree
-  pub variables : Tree → List VarName
-  variables (variable x) = x ∷ []
-  variables (integer _) = []
-  variables (node _ ts) = variables_of_all ts
-
-  -- the variables of a node's arguments
-  pub variables_of_all : Trees → List VarName
-  variables_of_all none = []
-  variables_of_all (more t ts) = variables t ++ variables_of_all ts
-
--- the variables of a list of trees
-abbrev pub variables_of_list : List Tree → List VarName
-variables_of_list [] = []
-variables_of_list (t ∷ ts) = variables t ++ variables_of_list ts
-
--- the variables of an expression, those inside a structure among them
-abbrev pub variables_of_expression : Expression → List VarName
-variables_of_expression (leaf t) = variables t
-variables_of_expression (operation _ a b) = variables_of_expression a ++ variables_of_expression b
-
--- the leaves of an expression that are variables themselves: those whose values it computes with
-abbrev pub leaf_variables : Expression → List VarName
-leaf_variables (leaf (variable x)) = x ∷ []
-leaf_variables (leaf (integer _)) = []
-leaf_variables (leaf (node _ _)) = []
-leaf_variables (operation _ a b) = leaf_variables a ++ leaf_variables b
+pub use Rattle.ghc_term.specs.Variables.{variables, variables_of_all, variables_of_list, variables_of_expression, leaf_variables, variables_of_goal, variables_of_goals, firsts}
+use Rattle.ghc_flat.specs.declared.test.Test.{Test}
+use Rattle.ghc_flat.specs.declared.test.Test.TheVariants.{Wait as wait, IsInteger as is_integer, IsAtom as is_atom, IsList as is_list, Compare as compare}
+use Rattle.ghc_flat.specs.Clause.{Clause}
 
 -- the variables of a test
 abbrev pub variables_of_test : Test → List VarName
@@ -51,26 +19,9 @@ abbrev pub variables_of_tests : List Test → List VarName
 variables_of_tests [] = []
 variables_of_tests (g ∷ gs) = variables_of_test g ++ variables_of_tests gs
 
--- the variables of a goal
-abbrev pub variables_of_goal : Goal → List VarName
-variables_of_goal (call _ ts) = variables_of_list ts
-variables_of_goal (unify l r) = variables l ++ variables r
-variables_of_goal (assign t a) = variables t ++ variables_of_expression a
-variables_of_goal (stream _ x) = x ∷ []
-
--- the variables of a list of goals
-abbrev pub variables_of_goals : List Goal → List VarName
-variables_of_goals [] = []
-variables_of_goals (g ∷ gs) = variables_of_goal g ++ variables_of_goals gs
-
 -- the variables of a clause: head, guard, body
 abbrev pub variables_of_clause : Clause → List VarName
 variables_of_clause c = variables_of_list c.head ++ variables_of_tests c.tests ++ variables_of_goals c.body
-
--- each variable of the list once, where it stands first, but those seen before
-abbrev pub firsts : List VarName → List VarName → List VarName
-firsts seen [] = []
-firsts seen (x ∷ xs) = cond (list_any (eq_by_cmp name_cmp x) seen) (firsts seen xs) (x ∷ firsts (x ∷ seen) xs)
 
 -- the fresh variables of a clause: those of the body that do not stand in the head, by first occurrence
 abbrev pub fresh_variables : Clause → List VarName

@@ -11,14 +11,15 @@ use Rattle.ghc_term.specs.Bindings.{Passes}
 use Rattle.ghc_term.proofs.Names.{name_total, name_antisymmetric}
 use Rattle.ghc_flat.specs.Clause.{Program}
 use Rattle.ghc_flat.specs.Flat.{is_stream}
-use Rattle.ghc_match.specs.Sets.{Variables, IsSetOf}
+use Rattle.ghc_term.specs.Sets.{Variables, IsSetOf}
 use Rattle.ghc_term.specs.declared.fault.Fault.{Fault}
-use Rattle.ghc_fire.specs.Effect.{Act, Effect}
+use Rattle.ghc_fire.specs.declared.act.Act.{Act}
+use Rattle.ghc_fire.specs.Effect.{Effect}
 use Rattle.ghc_fire.specs.Attempt.{Answer, proposes, refused, SomeWaitsFor, Attempts}
 use Rattle.ghc_fire.proofs.Tries.{attempt_once, attempt_there}
 use Rattle.ghc_flat.specs.Variables.{leaf_variables}
 use Rattle.ghc_match.specs.Looked.{ExpressionReaches, GoalLooksAt}
-use Rattle.ghc_match.proofs.Sets.{set_of}
+use Rattle.ghc_term.proofs.Sets.{set_of}
 use Rattle.ghc_match.proofs.Chains.{leads_there, leads_back}
 use Rattle.ghc_match.proofs.Values.{leaf_reaches, passes_reaches}
 use Rattle.ghc_match.proofs.Matching.{looks_back}

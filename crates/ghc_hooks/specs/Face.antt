@@ -11,7 +11,7 @@ use Rattle.ghc_term.specs.Tree.{Tree}
 use Rattle.ghc_term.specs.Goal.{Goal, call}
 use Rattle.ghc_term.specs.Store.{StoreValue, value_at}
 use Rattle.ghc_flat.specs.Clause.{Clause, Program, IsClause, IsFor}
-use Rattle.ghc_match.specs.Sets.{Variables}
+use Rattle.ghc_term.specs.Sets.{Variables}
 use Rattle.ghc_match.specs.Match.{Outcome, HasOutcome}
 use Rattle.ghc_term.specs.declared.fault.Fault.{Fault}
 use Rattle.ghc_fire.specs.Goals.{goal_cmp, Goals}

@@ -9,7 +9,7 @@ use Rattle.ghc_term.specs.Goal.{Goal}
 use Rattle.ghc_term.specs.Store.{StoreValue, value_at}
 use Rattle.ghc_flat.specs.Clause.{Program}
 use Rattle.ghc_flat.specs.Flat.{is_stream}
-use Rattle.ghc_match.specs.Sets.{Variables, IsSetOf}
+use Rattle.ghc_term.specs.Sets.{Variables, IsSetOf}
 use Rattle.ghc_match.specs.Looked.{GoalLooksAt}
 use Rattle.ghc_fire.specs.Goals.{goal_cmp, Goals}
 use Rattle.ghc_hooks.specs.Status.{Status, waiting, HasStatus}

@@ -20,8 +20,10 @@ use Rattle.ghc_match.proofs.Shown.{EachPlace, Found, Stands, Settled, waits_by, 
 use Rattle.ghc_match.proofs.Places.{places}
 use Rattle.ghc_term.proofs.Chains.{leads_once}
 use Rattle.ghc_term.specs.Lists.{In}
-use Rattle.ghc_flat.specs.declared.comparison.Comparison.TheVariants.{Above, Equals}
-use Rattle.ghc_flat.specs.Clause.{Clause, Test, compare}
+use Rattle.ghc_term.specs.declared.comparison.Comparison.TheVariants.{Greater, Equal}
+use Rattle.ghc_flat.specs.declared.test.Test.{Test}
+use Rattle.ghc_flat.specs.declared.test.Test.TheVariants.{Compare as compare}
+use Rattle.ghc_flat.specs.Clause.{Clause}
 use Rattle.ghc_term.specs.declared.operator.Operator.TheVariants.{Divide, Modulo}
 
 too_large : ¬ FitsSigned w64 (pos 9223372036854775808)
@@ -127,7 +129,7 @@ stands_for c t e h l i d =
 
 -- the test of `d`
 abbrev division : Test
-division = compare Above (operation Divide (leaf (integer (pos 1))) (leaf (v 1))) (leaf (integer (pos 0)))
+division = compare Greater (operation Divide (leaf (integer (pos 1))) (leaf (v 1))) (leaf (integer (pos 0)))
 
 -- 1 is not divided by 0 or by an atom
 no_division : (t : Tree) → Leads (store []) t [] t → IsValue t → ((k : ℤ) → integer k ≡ t → k ≡ pos 0) → (g : Test) → g ≡ division
@@ -174,7 +176,7 @@ divisor_decides = (
 )
 
 -- 2 mod 3 is not -1
-no_remainder : ¬ Holds remains (integer (pos 2) ∷ []) (store []) (compare Equals (operation Modulo (leaf (v 1)) (leaf (integer (pos 3)))) (leaf (integer (negsuc 0))))
+no_remainder : ¬ Holds remains (integer (pos 2) ∷ []) (store []) (compare Equal (operation Modulo (leaf (v 1)) (leaf (integer (pos 3)))) (leaf (integer (negsuc 0))))
 no_remainder h =
     let s = sides h.2 in
     let two : s.0 ≡ pos 2 = same_integer (stands_for remains (integer (pos 2)) (integer s.0) refl at_integer tt (variable_is s.2)) in

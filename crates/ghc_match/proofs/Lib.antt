@@ -1,4 +1,3 @@
-pub mod Sets
 pub mod Chains
 pub mod Values
 pub mod Matching

@@ -6,7 +6,9 @@ use Rattle.ghc_term.specs.Tree.{Tree, variable, node, Trees, IsValue}
 use Rattle.ghc_term.specs.Lists.{In}
 use Rattle.ghc_term.specs.Bindings.{Leads, at_node, along}
 use Rattle.ghc_term.proofs.Searches.{In_append, In_append_right}
-use Rattle.ghc_flat.specs.Clause.{Clause, Test, wait, is_integer, is_atom, is_list, compare}
+use Rattle.ghc_flat.specs.declared.test.Test.{Test}
+use Rattle.ghc_flat.specs.declared.test.Test.TheVariants.{Wait as wait, IsInteger as is_integer, IsAtom as is_atom, IsList as is_list, Compare as compare}
+use Rattle.ghc_flat.specs.Clause.{Clause}
 use Rattle.ghc_flat.specs.Variables.{variables_of_test, leaf_variables}
 use Rattle.ghc_match.specs.Position.{At, here, down, unbound}
 use Rattle.ghc_match.specs.Match.{StandsFor, Mismatch, HeadWants, StandsAt, Holds, TestWants, LooksAt}

@@ -13,9 +13,10 @@ use Rattle.ghc_term.specs.Bindings.{Leads, at_integer, at_node, at_free, along, 
 use Rattle.ghc_term.proofs.Names.{name_total}
 use Rattle.ghc_term.proofs.Total.{same_name}
 use Rattle.ghc_term.proofs.Chains.{leads_once}
-use Rattle.ghc_flat.specs.Clause.{Clause, Test}
+use Rattle.ghc_flat.specs.declared.test.Test.{Test}
+use Rattle.ghc_flat.specs.Clause.{Clause}
 use Rattle.ghc_flat.specs.Variables.{variables_of_test}
-use Rattle.ghc_match.specs.Sets.{IsSetOf}
+use Rattle.ghc_term.specs.Sets.{IsSetOf}
 use Rattle.ghc_match.specs.Position.{At, here, down}
 use Rattle.ghc_match.specs.Match.{AreAlike, HeadHas, StandsFor, Mismatch, HeadWants, StandsAt, Holds, TestWants, WaitsFor, LooksAt, refuses, waits, accepts, HasOutcome}
 use Rattle.ghc_match.proofs.Places.{Listed, places, all_places}

@@ -15,7 +15,7 @@ use Rattle.ghc_match.specs.Position.{EndsIn}
 use Rattle.ghc_match.specs.Value.{Computes, Number, of_integer, of_variable, computed, Wants, Value, number, waits, bad, HasValue}
 use Rattle.ghc_match.specs.Looked.{ExpressionReaches}
 use Rattle.ghc_match.specs.Laws.{ValuesExclude, ValueLooksAtItsTerms}
-use Rattle.ghc_match.proofs.Sets.{one_set, set_of}
+use Rattle.ghc_term.proofs.Sets.{one_set, set_of}
 use Rattle.ghc_match.proofs.Chains.{leads_there, leads_back}
 
 computes_once : (o : Operator) (x y z w : ℤ) → Computes o x y z → Computes o x y w → z ≡ w

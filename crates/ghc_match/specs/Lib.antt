@@ -1,4 +1,3 @@
-pub mod Sets
 pub mod Position
 pub mod Value
 pub mod Match

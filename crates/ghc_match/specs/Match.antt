@@ -5,11 +5,13 @@ use Rattle.ghc_term.specs.Tree.{Tree, variable, integer, node, none, more, list_
 use Rattle.ghc_term.specs.Lists.{In}
 use Rattle.ghc_term.specs.Bindings.{Leads, Passes}
 use Rattle.ghc_term.specs.Store.{StoreValue, value_at}
-use Rattle.ghc_flat.specs.declared.comparison.Comparison.{Comparison}
-use Rattle.ghc_flat.specs.declared.comparison.Comparison.TheVariants.{Below, AtMost, Above, AtLeast, Equals, Differs}
-use Rattle.ghc_flat.specs.Clause.{Test, wait, is_integer, is_atom, is_list, compare, Clause}
+use Rattle.ghc_term.specs.declared.comparison.Comparison.{Comparison}
+use Rattle.ghc_term.specs.declared.comparison.Comparison.TheVariants.{Less, AtMost, Greater, AtLeast, Equal, NotEqual}
+use Rattle.ghc_flat.specs.declared.test.Test.{Test}
+use Rattle.ghc_flat.specs.declared.test.Test.TheVariants.{Wait as wait, IsInteger as is_integer, IsAtom as is_atom, IsList as is_list, Compare as compare}
+use Rattle.ghc_flat.specs.Clause.{Clause}
 use Rattle.ghc_flat.specs.Variables.{variables_of_test}
-use Rattle.ghc_match.specs.Sets.{Variables, IsSetOf}
+use Rattle.ghc_term.specs.Sets.{Variables, IsSetOf}
 use Rattle.ghc_match.specs.Position.{At, unbound}
 use Rattle.ghc_match.specs.Value.{Number, Wants}
 
@@ -21,12 +23,12 @@ AreAlike _ _ = ⊥
 
 -- The comparison holds between two integers.
 abbrev pub Compares : Comparison → ℤ → ℤ → Type 0
-Compares Below x y = x <ℤ y
+Compares Less x y = x <ℤ y
 Compares AtMost x y = x ≤ℤ y
-Compares Above x y = y <ℤ x
+Compares Greater x y = y <ℤ x
 Compares AtLeast x y = y ≤ℤ x
-Compares Equals x y = x ≡ y
-Compares Differs x y = x ≢ y
+Compares Equal x y = x ≡ y
+Compares NotEqual x y = x ≢ y
 
 -- The tree is an integer.
 abbrev pub IsInteger : Tree → Type 0

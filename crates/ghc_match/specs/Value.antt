@@ -8,7 +8,7 @@ use Rattle.ghc_term.specs.Tree.{Tree, variable, integer}
 use Rattle.ghc_term.specs.Lists.{In}
 use Rattle.ghc_term.specs.Expression.{Expression, leaf, operation}
 use Rattle.ghc_flat.specs.Variables.{leaf_variables}
-use Rattle.ghc_match.specs.Sets.{Variables, IsSetOf}
+use Rattle.ghc_term.specs.Sets.{Variables, IsSetOf}
 use Rattle.ghc_match.specs.Position.{EndsIn}
 
 -- The operator makes z of x and y: the unbounded result (a quotient goes towards zero, a remainder has the dividend's sign), if it fits 64 bits and the divisor is not 0.

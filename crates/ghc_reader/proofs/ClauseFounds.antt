@@ -1,6 +1,6 @@
 -- The derivation of clauses, from those of their parts, and the faults behind them.
 use Rattle.std.proofs.Common.{◌≡◌, ◌≢◌, ℕ, List, [], ◌∷◌, ◌++◌, length, refl, sym, ap, ◌∙◌, subst}
-use Rattle.ghc_reader.specs.declared.token.Comparison.{Comparison}
+use Rattle.ghc_term.specs.declared.comparison.Comparison.{Comparison}
 use Rattle.ghc_reader.specs.declared.token.Mark.TheVariants.{Comma, Bar, Define, Stop}
 use Rattle.ghc_reader.specs.declared.token.Token.{Token}
 use Rattle.ghc_reader.specs.declared.token.Token.TheVariants as token

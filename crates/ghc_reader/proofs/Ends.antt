@@ -1,6 +1,6 @@
 -- What ends a part.
 use Rattle.std.proofs.Common.{◌≢◌, [], Some}
-use Rattle.ghc_reader.specs.declared.token.Comparison.{Comparison}
+use Rattle.ghc_term.specs.declared.comparison.Comparison.{Comparison}
 use Rattle.ghc_reader.specs.declared.token.Sum.{Sum}
 use Rattle.ghc_reader.specs.declared.token.Mark.{Mark}
 use Rattle.ghc_reader.specs.declared.token.Mark.TheVariants.{Open, Comma, Bar, Equals, Define, Stop}

@@ -8,7 +8,7 @@ use Rattle.std.proofs.Math.Seq.{take-append_seam, drop-append_seam}
 use Rattle.ghc_reader.specs.Symbols.{spelling, IsLongest}
 use Rattle.ghc_reader.specs.Pieces.{Piece, IsNegative, HasForm, Stands, HasNoPiece}
 use Rattle.ghc_reader.specs.declared.token.Mark.TheVariants.{Open}
-use Rattle.ghc_reader.specs.declared.token.Comparison.TheVariants.{Less}
+use Rattle.ghc_term.specs.declared.comparison.Comparison.TheVariants.{Less}
 use Rattle.ghc_reader.specs.declared.token.Sum.TheVariants.{Plus}
 use Rattle.ghc_reader.specs.declared.token.Product.TheVariants.{Modulo}
 use Rattle.ghc_reader.specs.declared.lexer.symbol.Symbol.{Symbol}

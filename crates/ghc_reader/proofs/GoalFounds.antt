@@ -1,6 +1,6 @@
 -- The derivation of goals and tests, from those of their parts, and the faults behind them.
 use Rattle.std.proofs.Common.{◌≡◌, ◌≢◌, ℕ, List, [], ◌∷◌, length, Some, None, false, refl, sym, ap, ◌∙◌, subst}
-use Rattle.ghc_reader.specs.declared.token.Comparison.{Comparison}
+use Rattle.ghc_term.specs.declared.comparison.Comparison.{Comparison}
 use Rattle.ghc_reader.specs.declared.token.Mark.TheVariants.{Comma, Equals, Assign, Stop}
 use Rattle.ghc_reader.specs.declared.token.Token.{Token}
 use Rattle.ghc_reader.specs.declared.token.Token.TheVariants as token

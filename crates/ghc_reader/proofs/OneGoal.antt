@@ -1,6 +1,6 @@
 -- No text has two derivations as goals or tests.
 use Rattle.std.proofs.Common.{◌≡◌, List, ◌∷◌, Some, refl, sym, ap}
-use Rattle.ghc_reader.specs.declared.token.Comparison.{Comparison}
+use Rattle.ghc_term.specs.declared.comparison.Comparison.{Comparison}
 use Rattle.ghc_reader.specs.declared.token.Mark.TheVariants.{OpenList, Comma, Equals, Assign}
 use Rattle.ghc_reader.specs.declared.token.Token.{Token}
 use Rattle.ghc_reader.specs.declared.token.Token.TheVariants as token

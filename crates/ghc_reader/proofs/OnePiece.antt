@@ -8,7 +8,7 @@ use Rattle.ghc_reader.specs.Symbols.{spelling}
 use Rattle.ghc_reader.specs.Pieces.{Piece, HasForm, Stands}
 use Rattle.ghc_reader.proofs.Forms.{no_form_is_empty}
 use Rattle.ghc_reader.specs.declared.token.Mark.TheVariants.{Open, Close, OpenList, CloseList, Comma, Bar, Equals, Assign, Define, Stop}
-use Rattle.ghc_reader.specs.declared.token.Comparison.TheVariants.{Less, AtMost, Greater, AtLeast, Equal, NotEqual}
+use Rattle.ghc_term.specs.declared.comparison.Comparison.TheVariants.{Less, AtMost, Greater, AtLeast, Equal, NotEqual}
 use Rattle.ghc_reader.specs.declared.token.Sum.TheVariants.{Plus, Minus}
 use Rattle.ghc_reader.specs.declared.token.Product.TheVariants.{Times, Divide, Modulo}
 use Rattle.ghc_reader.specs.declared.lexer.symbol.Symbol.{Symbol}

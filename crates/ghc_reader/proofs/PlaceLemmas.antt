@@ -8,7 +8,7 @@ use Rattle.ghc_reader.specs.Places.{behind_byte, place_behind}
 use Rattle.ghc_reader.specs.Pieces.{HasForm}
 use Rattle.ghc_reader.specs.declared.place.Place.{Place}
 use Rattle.ghc_reader.specs.declared.token.Mark.TheVariants.{Open}
-use Rattle.ghc_reader.specs.declared.token.Comparison.TheVariants.{Less}
+use Rattle.ghc_term.specs.declared.comparison.Comparison.TheVariants.{Less}
 use Rattle.ghc_reader.specs.declared.token.Sum.TheVariants.{Plus}
 use Rattle.ghc_reader.specs.declared.token.Product.TheVariants.{Modulo}
 use Rattle.ghc_reader.specs.Symbols.{spelling}

@@ -1,7 +1,7 @@
 -- A fault in a part of a test is one of the tests.
 use Rattle.std.proofs.Common.{◌≡◌, ◌≢◌, ℕ, List, [], ◌∷◌, ◌++◌, length, Option, Some, None, true, false, refl, sym, ap, ◌∙◌, subst, append_assoc, ◌⊎◌, inl, inr, ⊎_elim}
-use Rattle.ghc_reader.specs.declared.token.Comparison.{Comparison}
-use Rattle.ghc_reader.specs.declared.token.Comparison.TheVariants.{Less}
+use Rattle.ghc_term.specs.declared.comparison.Comparison.{Comparison}
+use Rattle.ghc_term.specs.declared.comparison.Comparison.TheVariants.{Less}
 use Rattle.ghc_reader.specs.declared.token.Sum.{Sum}
 use Rattle.ghc_reader.specs.declared.token.Product.{Product}
 use Rattle.ghc_reader.specs.declared.token.Mark.{Mark}

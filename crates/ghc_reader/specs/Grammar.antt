@@ -20,7 +20,7 @@
 -- An input term is a term in which no variable stands.
 use Rattle.std.specs.Prelude.{ℕ, ℤ, List, ◌∷◌}
 use Rattle.ghc_reader.specs.declared.token.Mark.TheVariants.{Open, Close, OpenList, CloseList, Comma, Bar, Equals, Assign, Define, Stop}
-use Rattle.ghc_reader.specs.declared.token.Comparison.{Comparison}
+use Rattle.ghc_term.specs.declared.comparison.Comparison.{Comparison}
 use Rattle.ghc_reader.specs.declared.token.Sum.{Sum}
 use Rattle.ghc_reader.specs.declared.token.Product.{Product}
 use Rattle.ghc_reader.specs.declared.token.Token.{Token}

@@ -12,3 +12,5 @@ pub mod Pieces
 pub mod Places
 pub mod Lexed
 pub mod Depth
+pub mod Written
+pub mod WrittenCode

@@ -2,7 +2,7 @@
 use Rattle.std.specs.Prelude.{ℕ, ℤ, List, [], ◌∷◌, map}
 use Rattle.ghc_reader.specs.declared.token.Sum.{Sum}
 use Rattle.ghc_reader.specs.declared.token.Product.{Product}
-use Rattle.ghc_reader.specs.declared.token.Comparison.{Comparison}
+use Rattle.ghc_term.specs.declared.comparison.Comparison.{Comparison}
 
 -- a term; a list is made of cells and of the empty list
 mutual

@@ -1,7 +1,7 @@
 -- The tokens that have one spelling each.
 use Rattle.std.specs.Prelude.{◌≡◌, ℕ, ◌≤◌, List, [], ◌∷◌, ◌++◌, length, codes}
 use Rattle.ghc_reader.specs.declared.token.Mark.TheVariants.{Open, Close, OpenList, CloseList, Comma, Bar, Equals, Assign, Define, Stop}
-use Rattle.ghc_reader.specs.declared.token.Comparison.TheVariants.{Less, AtMost, Greater, AtLeast, Equal, NotEqual}
+use Rattle.ghc_term.specs.declared.comparison.Comparison.TheVariants.{Less, AtMost, Greater, AtLeast, Equal, NotEqual}
 use Rattle.ghc_reader.specs.declared.token.Sum.TheVariants.{Plus, Minus}
 use Rattle.ghc_reader.specs.declared.token.Product.TheVariants.{Times, Divide, Modulo}
 use Rattle.ghc_reader.specs.declared.token.Token.{Token}

@@ -1,12 +1,12 @@
 // The front of a list of tokens.
 ghost use Rattle.std.specs.Prelude.{◌≡◌, ◌≢◌, [], ◌∷◌, Some, MatchOption};
-ghost use Rattle.ghc_reader.specs.declared.token.Comparison.{Comparison};
+ghost use Rattle.ghc_term.specs.declared.comparison.Comparison.{Comparison};
 ghost use Rattle.ghc_reader.specs.declared.token.Sum.{Sum};
 ghost use Rattle.ghc_reader.specs.declared.token.Product.{Product};
 ghost use Rattle.ghc_reader.specs.Front.{first, Begins, IsNotNamed, IsNotAssigned, item_like};
 
-use crate::token::{Comparison, Mark, Product, Sum, Token};
-use ghc_term::Name;
+use crate::token::{Mark, Product, Sum, Token};
+use ghc_term::{Comparison, Name};
 
 /// The tokens after this mark, where they begin with it.
 pub fn eat(mark: Mark, tokens: &[Token]) -> Option<&[Token]>

@@ -17,3 +17,6 @@ pub mod term_parser;
 #[cfg(test)]
 mod tests;
 pub mod token;
+mod written;
+
+pub use written::{Guard, Query, Source, WrittenClause};

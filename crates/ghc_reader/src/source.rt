@@ -1,7 +1,7 @@
 // What a program, a query or an input term says, as it is written.
 
-use crate::token::{Comparison, Product, Sum};
-use ghc_term::Name;
+use crate::token::{Product, Sum};
+use ghc_term::{Comparison, Name};
 
 /// A term.
 #[derive(Drop)]

@@ -4,8 +4,8 @@ use crate::input_parser::parse_term;
 use crate::parser::{parse_program, parse_query};
 use crate::reserved::{misplaced_in_program, misplaced_in_query};
 use crate::source::{SourceGoal, SourceTerm};
-use crate::token::{Comparison, Mark, Product, Sum, Token};
-use ghc_term::Name;
+use crate::token::{Mark, Product, Sum, Token};
+use ghc_term::{Comparison, Name};
 use std::alloc::Global;
 use std::test::Fail;
 

@@ -1,6 +1,6 @@
 // The tokens of a text.
 
-use ghc_term::Name;
+use ghc_term::{Comparison, Name};
 
 /// A mark that brackets, separates or ends.
 #[derive(Clone, Copy, PartialEq, Eq, Debug)]
@@ -25,23 +25,6 @@ pub enum Mark {
     Define,
     /// `.`
     Stop,
-}
-
-/// A mark that compares two integers.
-#[derive(Clone, Copy, PartialEq, Eq, Debug)]
-pub enum Comparison {
-    /// `<`
-    Less,
-    /// `=<`
-    AtMost,
-    /// `>`
-    Greater,
-    /// `>=`
-    AtLeast,
-    /// `=:=`
-    Equal,
-    /// `=\=`
-    NotEqual,
 }
 
 /// A mark that adds or subtracts.

@@ -22,7 +22,9 @@ use Rattle.ghc_unify.specs.Unify.{Unifies}
 use Rattle.ghc_unify.proofs.Bound.{by_answers}
 use Rattle.ghc_unify.proofs.Members.{any_in}
 use Rattle.ghc_fire.specs.Instance.{made, place_in, becomes, replace_in_goal}
-use Rattle.ghc_fire.specs.Effect.{Act, by_clause, unified, assigned, given, closed, Effect, HasEffect}
+use Rattle.ghc_fire.specs.declared.act.Act.{Act}
+use Rattle.ghc_fire.specs.declared.act.Act.TheVariants.{ByClause as by_clause, Unified as unified, Assigned as assigned, Given as given, Closed as closed}
+use Rattle.ghc_fire.specs.Effect.{Effect, HasEffect}
 use Rattle.ghc_fire.proofs.Steps.{effect_acyclic}
 use Rattle.ghc_fire.specs.Goals.{Goals}
 use Rattle.ghc_records.specs.Record.{State, Record, without_goal, after, IsThere, Fires, HasStepEffect}

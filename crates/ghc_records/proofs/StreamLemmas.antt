@@ -12,7 +12,9 @@ use Rattle.ghc_term.specs.Store.{value_at}
 use Rattle.ghc_flat.specs.Clause.{Program, Query}
 use Rattle.ghc_flat.specs.Flat.{is_stream, IsProgram, IsQuery}
 use Rattle.ghc_fire.specs.Instance.{becomes, replace_in_goal}
-use Rattle.ghc_fire.specs.Effect.{Act, by_clause, unified, assigned, given, closed, Effect, HasEffect}
+use Rattle.ghc_fire.specs.declared.act.Act.{Act}
+use Rattle.ghc_fire.specs.declared.act.Act.TheVariants.{ByClause as by_clause, Unified as unified, Assigned as assigned, Given as given, Closed as closed}
+use Rattle.ghc_fire.specs.Effect.{Effect, HasEffect}
 use Rattle.ghc_fire.specs.Goals.{goal_cmp, Goals}
 use Rattle.ghc_records.specs.Record.{State, Record, with_makes, without_goal, after, Fires, IsThere, HasStepEffect}
 use Rattle.ghc_records.specs.Replay.{query_state, Runs}

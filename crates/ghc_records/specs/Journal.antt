@@ -2,7 +2,7 @@
 use Rattle.std.specs.Prelude.{ℕ, List, [], ◌∷◌, map, Option}
 use Rattle.ghc_term.specs.declared.goal_name.GoalName.{GoalName}
 use Rattle.ghc_flat.specs.Clause.{Program, Query}
-use Rattle.ghc_fire.specs.Effect.{Act}
+use Rattle.ghc_fire.specs.declared.act.Act.{Act}
 use Rattle.ghc_records.specs.Record.{Record}
 
 -- A step as journals and histories have it: its number, the goal that it consumed, if any, and its act.

@@ -9,7 +9,8 @@ use Rattle.ghc_term.specs.Goal.{Goal}
 use Rattle.ghc_term.specs.Store.{StoreValue, value_at}
 use Rattle.ghc_flat.specs.Clause.{Program}
 use Rattle.ghc_fire.specs.Goals.{Goals}
-use Rattle.ghc_fire.specs.Effect.{Act, Effect, HasEffect}
+use Rattle.ghc_fire.specs.declared.act.Act.{Act}
+use Rattle.ghc_fire.specs.Effect.{Effect, HasEffect}
 
 -- A state is its goals and its store.
 pub record State : Type 0 where

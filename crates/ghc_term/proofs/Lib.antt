@@ -18,3 +18,5 @@ pub mod Closed
 pub mod Heads
 pub mod Nesting
 pub mod Written
+pub mod Collections
+pub mod Sets

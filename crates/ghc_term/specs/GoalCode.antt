@@ -1,8 +1,10 @@
--- Two expressions, or two goals, with one code are one.
+-- Two expressions, two comparisons, or two goals, with one code are one.
 use Rattle.std.specs.Prelude.{◌≡◌, ◌⊎◌, ℕ, List, refl, cond, nat_eq}
 use Rattle.std.proofs.Common.{ap, inl, inr}
 use Rattle.std.specs.Coded.{Coded, code_by, coded×, coded⊎, coded_list, coded_ℕ}
 use base.Stored.{Gv, gnil, gcons}
+use Rattle.ghc_term.specs.declared.comparison.Comparison.{Comparison}
+use Rattle.ghc_term.specs.declared.comparison.Comparison.TheVariants.{Less, AtMost, Greater, AtLeast, Equal, NotEqual}
 use Rattle.ghc_term.specs.declared.operator.Operator.{Operator}
 use Rattle.ghc_term.specs.declared.operator.Operator.TheVariants.{Add, Subtract, Multiply, Divide, Modulo}
 use Rattle.ghc_term.specs.declared.var_name.VarName.{VarName}
@@ -31,6 +33,29 @@ operator_back Modulo = refl
 
 abbrev pub operator_code : Coded Operator
 operator_code = code_by ℕ coded_ℕ place_of operator_at operator_back
+
+-- the place of a comparison among the comparisons
+abbrev pub place_of_comparison : Comparison → ℕ
+place_of_comparison Less = 0
+place_of_comparison AtMost = 1
+place_of_comparison Greater = 2
+place_of_comparison AtLeast = 3
+place_of_comparison Equal = 4
+place_of_comparison NotEqual = 5
+
+abbrev pub comparison_at : ℕ → Comparison
+comparison_at n = cond (nat_eq n 0) Less (cond (nat_eq n 1) AtMost (cond (nat_eq n 2) Greater (cond (nat_eq n 3) AtLeast (cond (nat_eq n 4) Equal NotEqual))))
+
+pub comparison_back : (o : Comparison) → comparison_at (place_of_comparison o) ≡ o
+comparison_back Less = refl
+comparison_back AtMost = refl
+comparison_back Greater = refl
+comparison_back AtLeast = refl
+comparison_back Equal = refl
+comparison_back NotEqual = refl
+
+abbrev pub comparison_code : Coded Comparison
+comparison_code = code_by ℕ coded_ℕ place_of_comparison comparison_at comparison_back
 
 abbrev pub expression_code_of : Expression → Gv
 expression_code_of (leaf t) = gcons gnil (tree_code.code t)

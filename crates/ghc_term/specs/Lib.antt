@@ -23,3 +23,5 @@ pub mod Resolved
 pub mod Pieces
 pub mod InputTerm
 pub mod Measure
+pub mod Sets
+pub mod Variables

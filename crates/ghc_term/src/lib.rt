@@ -1,6 +1,8 @@
 //! Terms of Flat GHC: names, terms, expressions, goals, the store of bindings, refusals and their texts.
 #![tactic(auto)]
 
+mod bindings;
+mod comparison;
 mod expr;
 mod expr_view;
 mod fault;
@@ -18,8 +20,11 @@ mod term;
 #[cfg(test)]
 mod tests;
 mod var_name;
+mod variables;
 mod view;
 
+pub use bindings::Bindings;
+pub use comparison::Comparison;
 pub use expr::Expr;
 pub use expr_view::ExprView;
 pub use fault::Fault;
@@ -37,4 +42,5 @@ pub use printing::{
 pub use store::Store;
 pub use term::Term;
 pub use var_name::VarName;
+pub use variables::Variables;
 pub use view::TermView;

@@ -11,7 +11,6 @@ pub mod LawProofs
 pub mod Agree
 pub mod FactProofs
 pub mod Advancing
-pub mod Collections
 pub mod Falling
 pub mod FirstEquation
 pub mod Growth

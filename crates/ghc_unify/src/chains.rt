@@ -5,9 +5,7 @@ ghost use Rattle.ghc_term.specs.Store.{value_at};
 ghost use Rattle.ghc_term.specs.Bindings.{IsAcyclic, Leads};
 ghost use Rattle.ghc_unify.specs.Unify.{met, with_bindings};
 
-use crate::bindings::Bindings;
-use crate::variables::Variables;
-use ghc_term::{Store, Term, TermView, VarName};
+use ghc_term::{Bindings, Store, Term, TermView, VarName, Variables};
 use std::alloc::{AllocError, Global};
 
 // The variables passed from a term by following bindings, an unbound last one included, and the term to which they lead.

@@ -1,7 +1,6 @@
 //! Unification: the call, the relation that it meets, and laws about it.
 #![tactic(auto)]
 
-mod bindings;
 mod chains;
 mod facts;
 mod laws;
@@ -9,9 +8,7 @@ mod occurs;
 mod parting;
 mod solve;
 mod step;
-mod variables;
 
-pub use bindings::Bindings;
 pub use facts::{
     alias_is_read, arguments, clash_binds_nothing, either_order, itself, middle_is_read,
     second_is_cyclic, turned,
@@ -22,4 +19,3 @@ pub use laws::{
     unifications_commute,
 };
 pub use solve::{Solved, unify};
-pub use variables::Variables;

@@ -5,9 +5,8 @@ ghost use Rattle.ghc_term.specs.Bindings.{IsAcyclic, Reaches};
 ghost use Rattle.ghc_unify.specs.Unify.{with_bindings};
 ghost use Rattle.ghc_unify.specs.Seen.{Sees};
 
-use crate::bindings::Bindings;
 use crate::chains::look;
-use ghc_term::{Store, Term, TermView, VarName};
+use ghc_term::{Bindings, Store, Term, TermView, VarName};
 use indexmap::IndexSet;
 use std::alloc::{AllocError, Global};
 

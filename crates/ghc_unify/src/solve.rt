@@ -7,10 +7,8 @@ ghost use Rattle.ghc_unify.specs.Unify.{Unifies, Clashes, Cycles, Ending, HasEnd
 ghost use Rattle.ghc_unify.specs.Solutions.{Solves, Equates};
 ghost use Rattle.ghc_unify.specs.Outcome.{ending_of};
 
-use crate::bindings::Bindings;
 use crate::step::advance;
-use crate::variables::Variables;
-use ghc_term::{Fault, Store, Term};
+use ghc_term::{Bindings, Fault, Store, Term, Variables};
 use std::alloc::Global;
 
 /// What a unification binds, as written, and which variables it reads.

@@ -6,12 +6,10 @@ ghost use Rattle.ghc_term.specs.Bindings.{IsAcyclic, Reaches};
 ghost use Rattle.ghc_unify.specs.Unify.{Pairs, Meets, IsClash, IsCycle, with_bindings};
 ghost use Rattle.ghc_unify.specs.Steps.{Steps, Advances, FailsFrom};
 
-use crate::bindings::Bindings;
 use crate::chains::{follow, note};
 use crate::occurs::reaches;
 use crate::parting::part;
-use crate::variables::Variables;
-use ghc_term::{Fault, Store, Term, TermView, VarName};
+use ghc_term::{Bindings, Fault, Store, Term, TermView, VarName, Variables};
 use std::alloc::{AllocError, Global};
 
 // A variable and what it is to be bound to.

@@ -3,7 +3,8 @@ ghost use Rattle.std.specs.Prelude.{◌≡◌, ◌≢◌, ◌∷◌, ◌++◌, �
 ghost use Rattle.ghc_reader.specs.Bytes.{is_word, Lacks};
 ghost use Rattle.ghc_reader.specs.Symbols.{spelling, token_of_symbol, IsLongest};
 
-use crate::token::{Comparison, Mark, Product, Sum, Token};
+use crate::token::{Mark, Product, Sum, Token};
+use ghc_term::Comparison;
 
 /// A token that has one spelling.
 #[derive(Clone, Copy, PartialEq, Eq, Debug)]

@@ -1,7 +1,8 @@
 // What a step binds.
 ghost use Rattle.std.specs.Prelude.{◌≡◌, OnOk, OnErr, None};
 
-use ghc_term::{Term, VarName};
+use crate::term::Term;
+use crate::var_name::VarName;
 use indexmap::IndexMap;
 use std::alloc::{AllocError, Global};
 use std::marker::Model;

@@ -1,7 +1,7 @@
 // Sets of variables.
 ghost use Rattle.std.specs.Prelude.{◌≡◌, OnOk, OnErr};
 
-use ghc_term::VarName;
+use crate::var_name::VarName;
 use indexmap::IndexSet;
 use std::alloc::{AllocError, Global};
 use std::marker::Model;

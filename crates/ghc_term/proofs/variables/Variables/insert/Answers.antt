@@ -1,9 +1,9 @@
 use Rattle.std.proofs.Common.{◌≡◌, ◌∙◌, ap, subst, sym}
 use Rattle.std.specs.Prelude.{OnOk}
 use Rattle.std.specs.FinSet as set
-use Rattle.ghc_unify.proofs.Collections.{key_inserted}
-use Rattle.ghc_unify.proofs.variables.Variables.insert.Goals as goal
-use Rattle.ghc_unify.proofs.variables.Variables.insert.Goals.{in-Ok, in-Err}
+use Rattle.ghc_term.proofs.Collections.{key_inserted}
+use Rattle.ghc_term.proofs.variables.Variables.insert.Goals as goal
+use Rattle.ghc_term.proofs.variables.Variables.insert.Goals.{in-Ok, in-Err}
 
 pub returns-clause-ok : goal.returns-clause-ok
 returns-clause-ok c =

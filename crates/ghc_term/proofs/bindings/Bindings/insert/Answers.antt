@@ -1,7 +1,7 @@
 use Rattle.std.proofs.Common.{◌∙◌, ap}
 use Rattle.std.specs.FinMap as finite
 use Rattle.ghc_term.proofs.Entries.{inserted}
-use Rattle.ghc_unify.proofs.bindings.Bindings.insert.Goals as goal
+use Rattle.ghc_term.proofs.bindings.Bindings.insert.Goals as goal
 
 pub returns-in-Ok-clause-ok : goal.returns-in-Ok-clause-ok
 returns-in-Ok-clause-ok c =

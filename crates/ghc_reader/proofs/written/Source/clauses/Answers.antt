@@ -1,0 +1,6 @@
+use Rattle.std.proofs.Common.{subst}
+use Rattle.ghc_reader.specs.Written.{AreWellWritten}
+use Rattle.ghc_reader.proofs.written.Source.clauses.Goals as goal
+
+pub returns-clause-well_written : goal.returns-clause-well_written
+returns-clause-well_written c = subst AreWellWritten c.self.view_is c.self.invariant
