@@ -1,7 +1,7 @@
 #!/usr/bin/env python3
-"""Runs the rows of tests/rows/ on the proved program, crates/ghcdb/out/ghcdb.
+"""Runs the rows and tables of tests/rows/ on the proved program, crates/ghcdb/out/ghcdb.
 
-    python3 tests/run_rows.py [WORD..]     the rows whose names hold one of the words; without words, all
+    python3 tests/run_rows.py [WORD..]     the files whose names hold one of the words; without words, all
 
 Each row runs in a fresh folder of its own, for at most 60 seconds, as many rows side by side as there are
 processors. Standard output, standard error and exit status have to be exactly those of the row. The last line is
@@ -21,7 +21,7 @@ An entry is `KEY: VALUE`, where the value is the rest of the line, or `KEY:` and
 (a bar alone, or a bar, a space and the text), each of which ends with a line feed in the value. In both forms
 
     {0D}       is the byte with these two hexadecimal digits, so {7B} is an opening brace
-    {64*f(}    is the text behind the star, 64 times
+    {64*f(}    is the text behind the star, 64 times, which may hold bytes of the first form
     {}         at the end of a line of the second form takes its line feed away
 
 What the program is given:
@@ -43,6 +43,10 @@ What it has to do:
     errors, errors contain      the same of standard error
     session            input and output in one: what stands behind `> ` is a line of input, all else is output
     status             the exit status, 0 where it is left out
+
+A table is a file NAME.table of many small rows on texts that are refused. Each of its lines is a row: KIND, a tab, the
+text with its braces, a tab, and the line on standard error, with which the status is 1. KIND is `program`, and then the
+query is `true`, or `query`, and then the program is empty. Lines that begin with `#` and empty lines are left out.
 """
 
 import os
@@ -74,9 +78,9 @@ def expand(text):
     def one(match):
         if match["byte"]:
             return bytes.fromhex(match["byte"].decode())
-        return match["part"] * int(match["times"])
+        return expand(match["part"]) * int(match["times"])
 
-    pattern = rb"\{(?:(?P<byte>[0-9A-F]{2})|(?P<times>[0-9]+)\*(?P<part>[^{}]*))\}"
+    pattern = rb"\{(?:(?P<byte>[0-9A-F]{2})|(?P<times>[0-9]+)\*(?P<part>(?:[^{}]|\{[0-9A-F]{2}\})*))\}"
     rest = re.sub(pattern, b"", text)
     if b"{" in rest:
         raise BadRow(f"an opening brace without a meaning: {text!r}")
@@ -135,6 +139,39 @@ def read_row(path):
     if "session" in row:
         split_session(row)
     return row
+
+
+def read_table(path):
+    """The rows of a table, each with its name."""
+    rows = []
+    for number, line in enumerate(path.read_bytes().split(b"\n"), 1):
+        if line and not line.startswith(b"#"):
+            rows.append((f"{path.relative_to(TESTS.parent)}:{number}", table_row(line)))
+    return rows
+
+
+def table_row(line):
+    """A row of a table, or what is wrong with it."""
+    columns = line.split(b"\t")
+    if len(columns) != 3 or columns[0] not in (b"program", b"query"):
+        return BadRow(f"a line of a table is not of the form: {line!r}")
+    try:
+        row = {key: [] for key in LISTED}
+        row |= {"program": b"", "query": b"true", columns[0].decode(): expand(columns[1])}
+        return row | {"errors": expand(columns[2]) + b"\n", "status": b"1"}
+    except BadRow as error:
+        return error
+
+
+def rows_of(path):
+    """The rows of a file, each with its name, or with what is wrong with it."""
+    if path.suffix == ".table":
+        return read_table(path)
+    try:
+        row = read_row(path)
+    except BadRow as error:
+        row = error
+    return [(str(path.relative_to(TESTS.parent)), row)]
 
 
 def split_session(row):
@@ -203,15 +240,16 @@ def difference(row, name, contained, got):
     return [f"  {name} is to be {wanted!r}", f"  {name} is       {got!r}"]
 
 
-def judge(path):
+def judge(row):
     """What is wrong with a row: a list of lines."""
+    if isinstance(row, BadRow):
+        return [f"  {row}"]
     try:
-        row = read_row(path)
         output, errors, status = run(row)
         wanted = int(row.get("status", b"0"))
     except subprocess.TimeoutExpired:
         return [f"  it ran for {SECONDS} seconds"]
-    except (BadRow, OSError, ValueError) as error:
+    except (OSError, ValueError) as error:
         return [f"  {error}"]
     wrong = difference(row, "output", "output contains", output)
     wrong += difference(row, "errors", "errors contain", errors)
@@ -221,17 +259,18 @@ def judge(path):
 
 
 def main():
-    paths = sorted((TESTS / "rows").rglob("*.row"))
+    paths = sorted(path for path in (TESTS / "rows").rglob("*") if path.suffix in (".row", ".table"))
     if sys.argv[1:]:
         paths = [path for path in paths if any(word in path.stem for word in sys.argv[1:])]
     if not PROGRAM.is_file():
         print(f"{PROGRAM} is not there: `rt ci` makes it", file=sys.stderr)
         paths = []
+    rows = [row for path in paths for row in rows_of(path)]
     with ThreadPoolExecutor(os.cpu_count()) as pool:
-        judged = list(zip(paths, pool.map(judge, paths)))
-    failed = [(path, wrong) for path, wrong in judged if wrong]
-    for path, wrong in failed:
-        print(f"failed: {path.relative_to(TESTS.parent)}")
+        judged = list(zip(rows, pool.map(judge, (row for _, row in rows))))
+    failed = [(name, wrong) for (name, _), wrong in judged if wrong]
+    for name, wrong in failed:
+        print(f"failed: {name}")
         print("\n".join(wrong))
     print(f"{len(judged) - len(failed)} passed, {len(failed)} failed")
     return 1 if failed or not judged else 0

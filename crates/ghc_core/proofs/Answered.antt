@@ -106,7 +106,7 @@ by_end w k act g s xs (variable x) a at l = elim (room w) [
 by_end w k act g s xs (integer j) a at l = (refused Fault.TailBound, w, streams.ActsOnStream.fails (streams.StreamFails.tail_bound g s (integer j) at (xs, l) tt))
 by_end w k act g s xs (node f us) a at l = (refused Fault.TailBound, w, streams.ActsOnStream.fails (streams.StreamFails.tail_bound g s (node f us) at (xs, l) tt))
 
-answered : (w : World) → laws.IsInOrder w → (k : ℕ) (act : Act) → OnStream act → Answered w k act
+answered : (w : World) → laws.IsOrderly w → (k : ℕ) (act : Act) → OnStream act → Answered w k act
 answered w ordered k act a = elim (search w.state.goals k (map (λ e. e.0) (finite.entries w.state.goals))) [
   | inl p ↦
       let c = chain (finite.len w.state.store) w.state.store (omega arith) ordered.acyclic (variable p.1) in

@@ -14,7 +14,7 @@ use Rattle.ghc_core.specs.World.{World}
 use Rattle.ghc_core.specs.Events.{Command, input, finish, undo, roll, redo, arrange, Reply, noted}
 use Rattle.ghc_core.specs.Proposes as asking
 use Rattle.ghc_core.specs.Answers.{Obeys, to_propose, to_commit, to_note, to_command}
-use Rattle.ghc_core.specs.Laws.{IsInOrder, OrderedHasOneAnswer, EventsHaveOneAnswer}
+use Rattle.ghc_core.specs.Laws.{IsOrderly, OrderedHasOneAnswer, EventsHaveOneAnswer}
 use Rattle.ghc_core.proofs.Reaching.{reached}
 use Rattle.ghc_core.proofs.Reversing.{Same, value_once, has_not, undo_once, roll_once, redo_once, arrange_once}
 use Rattle.ghc_core.proofs.Stepping.{propose_once, commit_once, act_once}
@@ -22,7 +22,7 @@ use Rattle.ghc_core.proofs.Stepping.{propose_once, commit_once, act_once}
 two_answers : (b : _) → b ≡ true → b ≡ false → ⊥
 two_answers b p q = let e : true ≡ false = sym p ∙ q in cc
 
-module _ (w : World) (ordered : IsInOrder w) where
+module _ (w : World) (ordered : IsOrderly w) where
   no_candidate : (g : GoalName) (b : Goal) → finite.get w.state.goals g ≡ Some b → is_stream b ≡ false → ¬ asking.IsNoCandidate w g
   no_candidate g b e n (inl p) = has_not e p
   no_candidate g b e n (inr p) = two_answers (is_stream b) (ap is_stream (value_once e p.1) ∙ p.2) n

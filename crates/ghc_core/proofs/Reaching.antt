@@ -284,7 +284,7 @@ reached_good : {w : World} {hands : Hands} → IsReachable w hands → Good w
 reached_good (at_opening sound opens empty) = opened_good sound opens
 reached_good (by_event {w = w} {v = v} {hands = hands} {left = left} e reply r proper a) = answered_good w (reached_good r) hands left e reply v a
 
-pub reached : laws.ReachableIsInOrder
+pub reached : laws.ReachableIsOrderly
 reached w hands r = let g = reached_good r in record { kept_once = g.kept_once; acyclic = g.acyclic; streams_once = λ k n m s u p q. g.one k n m s u p q }
 
 pub known : laws.ReachableIsWellMade

@@ -4,13 +4,13 @@ use Rattle.ghc_term.specs.declared.goal_name.GoalName.{GoalName}
 use Rattle.ghc_core.specs.World.{Hands, World}
 use Rattle.ghc_core.specs.Events.{Command, input, finish, undo, roll, redo, arrange, Event, propose, commit, note, command, Reply}
 use Rattle.ghc_core.specs.Proposes.{Proposes, Commits, Notes}
-use Rattle.ghc_core.specs.Streams.{Inputs, Closes}
+use Rattle.ghc_core.specs.Streams.{Inputs, Finishes}
 use Rattle.ghc_core.specs.Reverses.{Undoes, Rolls, Redoes, Arranges}
 
 -- Obeys Starved w c reply v: in the world w the command c gets the reply, which leaves the world v.
 abbrev pub Obeys : Type 0 → World → Command → Reply → World → Type 0
 Obeys Starved w (input k t) reply v = Inputs Starved w k t reply v
-Obeys Starved w (finish k) reply v = Closes Starved w k reply v
+Obeys Starved w (finish k) reply v = Finishes Starved w k reply v
 Obeys Starved w (undo n) reply v = Undoes Starved w n reply v
 Obeys Starved w (roll n) reply v = Rolls Starved w n reply v
 Obeys Starved w (redo n) reply v = Redoes Starved w n reply v

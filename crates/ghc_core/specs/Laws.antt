@@ -11,29 +11,29 @@ use Rattle.ghc_records.specs.Record.{numbers}
 use Rattle.ghc_records.specs.Laws.{IsWellMade}
 use Rattle.ghc_core.specs.World.{Hands, World}
 use Rattle.ghc_core.specs.Events.{Event, Reply}
-use Rattle.ghc_core.specs.Streams.{IsStreamAt, Inputs, Closes}
+use Rattle.ghc_core.specs.Streams.{IsStreamAt, Inputs, Finishes}
 use Rattle.ghc_core.specs.Reverses.{Arranges}
 use Rattle.ghc_core.specs.Answers.{Answers}
 use Rattle.ghc_core.specs.Legal.{IsReachable}
 
--- The world is in order: no number is kept twice, the store is acyclic, and each stream has one goal at most.
-pub record IsInOrder (w : World) : Type 0 where
+-- The world is orderly: no number is kept twice, the store is acyclic, and each stream has one goal at most.
+pub record IsOrderly (w : World) : Type 0 where
   pub kept_once : AreDistinct (numbers w.kept)
   pub acyclic : IsAcyclic (value_at w.state.store)
   pub streams_once : (k : ℕ) (g h : GoalName) (s u : VarName) → IsStreamAt w k g s → IsStreamAt w k h u → g ≡ h
 
--- A reachable world is in order.
-abbrev pub ReachableIsInOrder : Type 0
-ReachableIsInOrder = (w : World) (hands : Hands) → IsReachable w hands → IsInOrder w
+-- A reachable world is orderly.
+abbrev pub ReachableIsOrderly : Type 0
+ReachableIsOrderly = (w : World) (hands : Hands) → IsReachable w hands → IsOrderly w
 
 -- In a reachable world the store is acyclic, and each variable of goals and store is the query's or made by a kept step.
 abbrev pub ReachableIsWellMade : Type 0
 ReachableIsWellMade = (w : World) (hands : Hands) → IsReachable w hands → IsWellMade w.opening.query w.kept w.state
 
--- In a world in order each event has one answer at most, want of memory apart.
+-- In an orderly world each event has one answer at most, want of memory apart.
 abbrev pub OrderedHasOneAnswer : Type 0
 OrderedHasOneAnswer =
-    (w u v : World) (hands left other : Hands) (e : Event) (reply said : Reply) → IsInOrder w
+    (w u v : World) (hands left other : Hands) (e : Event) (reply said : Reply) → IsOrderly w
     → Answers ⊥ w hands e reply u left → Answers ⊥ w hands e said v other → (reply ≡ said) × (u ≡ v) × (left ≡ other)
 
 -- In a reachable world each event has one answer at most, want of memory apart.
@@ -48,7 +48,7 @@ InputsHaveAnAnswer = (w : World) (hands : Hands) (k : ℕ) (t : Tree) → IsReac
 
 -- In a reachable world a close has an answer other than want of memory.
 abbrev pub ClosesHaveAnAnswer : Type 0
-ClosesHaveAnAnswer = (w : World) (hands : Hands) (k : ℕ) → IsReachable w hands → (reply : Reply) × (v : World) × Closes ⊥ w k reply v
+ClosesHaveAnAnswer = (w : World) (hands : Hands) (k : ℕ) → IsReachable w hands → (reply : Reply) × (v : World) × Finishes ⊥ w k reply v
 
 -- In a reachable world an arrange has an answer other than want of memory.
 abbrev pub ArrangesHaveAnAnswer : Type 0

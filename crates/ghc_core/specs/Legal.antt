@@ -14,9 +14,13 @@ abbrev pub Enters : World → Entry → Reply → World → Type 0
 Enters w entry reply v =
     (hands left : Hands) × (e : Event) × Answers ⊥ w hands e reply v left × (v.journal ≡ w.journal ++ entry ∷ [])
 
--- Leaves items w: the list is a legal history, from its opening on, and leaves the world w.
+-- The opening's program and query are accepted.
+abbrev pub IsSound : Opening → Type 0
+IsSound o = IsProgram o.program × IsQuery o.program o.query
+
+-- Leaves items w: the list is a legal history, from the opening of an accepted program and query on, and leaves the world w.
 pub data Leaves : List Item → World → Type 0 where
-  the_opening : {o : Opening} {w : World} → Opens o w → Leaves (history o (opening_journal o)) w
+  the_opening : {o : Opening} {w : World} → IsSound o → Opens o w → Leaves (history o (opening_journal o)) w
   and_entry : {items : List Item} {w v : World} (entry : Entry) (reply : Reply) → Leaves items w → Enters w entry reply v → Leaves (items ++ entered entry ∷ []) v
 
 -- The list is a legal history.
@@ -51,10 +55,6 @@ pub data IsReceipt (Starved : Type 0) (items : List Item) (hands : Hands) (e : E
 -- One front begins the other.
 abbrev pub Begins : List Item → List Item → Type 0
 Begins front longer = (more : List Item) × (longer ≡ front ++ more)
-
--- The opening's program and query are accepted.
-abbrev pub IsSound : Opening → Type 0
-IsSound o = IsProgram o.program × IsQuery o.program o.query
 
 -- An input term is closed; nothing else is asked of an event.
 abbrev pub IsProper : Event → Type 0

@@ -7,3 +7,4 @@ pub mod Answers
 pub mod Legal
 pub mod Laws
 pub mod Facts
+pub mod Load

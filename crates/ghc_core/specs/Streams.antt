@@ -40,8 +40,8 @@ abbrev pub Inputs : Type 0 → World → ℕ → Tree → Reply → World → Ty
 Inputs Starved w k t reply v = ActsOnStream Starved w k (given t) reply v
 
 -- Stream k is closed.
-abbrev pub Closes : Type 0 → World → ℕ → Reply → World → Type 0
-Closes Starved w k reply v = ActsOnStream Starved w k closed reply v
+abbrev pub Finishes : Type 0 → World → ℕ → Reply → World → Type 0
+Finishes Starved w k reply v = ActsOnStream Starved w k closed reply v
 
 -- What is foreseen of a command: the record that it would add, or a refusal.
 pub data Foreseen : Type 0 where

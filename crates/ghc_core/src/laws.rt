@@ -1,9 +1,9 @@
 // Laws about the definitions, each as the contract of a function.
-ghost use Rattle.ghc_core.specs.Laws.{ReachableIsInOrder, ReachableIsWellMade, EventsHaveOneAnswer, InputsHaveAnAnswer, ClosesHaveAnAnswer, ArrangesHaveAnAnswer};
+ghost use Rattle.ghc_core.specs.Laws.{ReachableIsOrderly, ReachableIsWellMade, EventsHaveOneAnswer, InputsHaveAnAnswer, ClosesHaveAnAnswer, ArrangesHaveAnAnswer};
 
 /// A reachable world keeps no number twice, has an acyclic store, and one goal a stream.
-pub fn reachable_is_in_order()
-    ensures { ReachableIsInOrder }
+pub fn reachable_is_orderly()
+    ensures { ReachableIsOrderly }
 {}
 
 /// In a reachable world each variable is the query's or made by a kept step.

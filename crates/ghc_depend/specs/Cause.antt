@@ -1,12 +1,12 @@
 -- Why a step depends on an earlier one.
-use Rattle.std.specs.Prelude.{◌≡◌, ◌⊎◌, ◌↔◌, ℕ, List, Option, Some, None, IsTrue, Bool}
+use Rattle.std.specs.Prelude.{◌≡◌, ◌⊎◌, ◌↔◌, ℕ, List, map, Option, Some, None, IsTrue, Bool}
 use Rattle.std.specs.declared.cmp.Ordering.TheVariants.{Less}
 use Rattle.ghc_term.specs.declared.var_name.VarName.{VarName}
 use Rattle.ghc_term.specs.Lists.{In}
 use Rattle.ghc_term.specs.Bindings.{name_cmp}
 use Rattle.ghc_fire.specs.declared.act.Act.{Act}
 use Rattle.ghc_fire.specs.declared.act.Act.TheVariants.{ByClause as by_clause, Unified as unified, Assigned as assigned, Given as given, Closed as closed}
-use Rattle.ghc_records.specs.Orders.{Precedes}
+use Rattle.ghc_records.specs.Orders.{Precedes, Picks}
 use Rattle.ghc_records.specs.Record.{Record}
 use Rattle.ghc_depend.specs.Depend.{Consumes, ReadsFrom, DependsOn, IsKeptAs}
 
@@ -45,3 +45,11 @@ pub data HasCause (rs : List Record) (b a : Record) : Cause → Type 0 where
 abbrev pub IsDirect : List Record → ℕ → ℕ → Option Cause → Type 0
 IsDirect rs later earlier (Some cause) = (b a : Record) × IsKeptAs rs later b × IsKeptAs rs earlier a × HasCause rs b a cause
 IsDirect rs later earlier None = (b a : Record) → IsKeptAs rs later b → IsKeptAs rs earlier a → ¬ DependsOn rs b a
+
+-- The steps on which b depends directly, in recorded order, each with its cause.
+abbrev pub AreReasons : List Record → Record → List (Record × Cause) → Type 0
+AreReasons rs b reasons = Picks (DependsOn rs b) rs (map (λ p. p.0) reasons) × ((p : Record × Cause) → In p reasons → HasCause rs b p.0 p.1)
+
+-- Why step n was possible: the reasons of the kept step n.
+abbrev pub AreReasonsOf : List Record → ℕ → List (Record × Cause) → Type 0
+AreReasonsOf rs n reasons = (b : Record) × IsKeptAs rs n b × AreReasons rs b reasons

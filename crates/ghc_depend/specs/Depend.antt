@@ -1,5 +1,5 @@
 -- Dependence and consequences.
-use Rattle.std.specs.Prelude.{◌≡◌, ◌⊎◌, ◌≤◌, ℕ, List, length, Some, IsTrue}
+use Rattle.std.specs.Prelude.{◌≡◌, ◌⊎◌, ◌≤◌, ℕ, List, [], length, Some, IsTrue}
 use Rattle.std.specs.FinMap as finite
 use Rattle.std.specs.FinSet as set
 use Rattle.ghc_term.specs.declared.var_name.VarName.{VarName}
@@ -44,6 +44,10 @@ IsNotKept rs n = (r : Record) → In r rs → ¬ (r.number ≡ n)
 -- The consequences of r, in recorded order.
 abbrev pub AreConsequences : List Record → Record → List Record → Type 0
 AreConsequences rs r found = Picks (Follows rs r) rs found
+
+-- What follows from step n: nothing where it is not kept, and else its consequences, in recorded order.
+abbrev pub AreConsequencesOf : List Record → ℕ → List Record → Type 0
+AreConsequencesOf rs n found = (IsNotKept rs n × (found ≡ [])) ⊎ ((r : Record) × IsKeptAs rs n r × AreConsequences rs r found)
 
 -- s is r itself, or a consequence of it.
 abbrev pub GoesWith : List Record → Record → Record → Type 0

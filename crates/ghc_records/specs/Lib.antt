@@ -4,3 +4,4 @@ pub mod Record
 pub mod Replay
 pub mod Journal
 pub mod Laws
+pub mod History

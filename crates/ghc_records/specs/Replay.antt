@@ -19,12 +19,12 @@ Runs P s [] t = t ≡ s
 Runs P s (r ∷ rs) t = Fires P s r × Runs P (after s r) rs t
 
 -- Each record has a number that a step can have, and no two have one number.
-abbrev pub AreNumbered : List Record → Type 0
-AreNumbered rs = ((r : Record) → In r rs → IsStepNumber r.number) × AreDistinct (numbers rs)
+abbrev pub HaveStepNumbers : List Record → Type 0
+HaveStepNumbers rs = ((r : Record) → In r rs → IsStepNumber r.number) × AreDistinct (numbers rs)
 
 -- The replay of the records from the query is the state t.
 abbrev pub Replays : Program → Query → List Record → State → Type 0
-Replays P query rs t = AreNumbered rs × Runs P (query_state query) rs t
+Replays P query rs t = HaveStepNumbers rs × Runs P (query_state query) rs t
 
 -- The step of the record made the variable x.
 abbrev pub MakesVariable : Record → VarName → Type 0
