@@ -5,19 +5,11 @@ use Rattle.std.specs.FinMap as finite
 use Rattle.ghc_term.specs.declared.goal_name.GoalName.{GoalName}
 use Rattle.ghc_term.specs.Goal.{Goal}
 use Rattle.ghc_term.specs.Lists.{In}
-use Rattle.ghc_fire.specs.declared.act.Act.{Act}
-use Rattle.ghc_fire.specs.Effect.{Effect}
+pub use Rattle.ghc_fire.specs.Proposal.{Proposal}
 use Rattle.ghc_records.specs.Numbers.{number_limit, kept_limit}
 use Rattle.ghc_records.specs.Record.{State, Record, Shelf, after, Fires}
 use Rattle.ghc_records.specs.Replay.{Replays}
 use Rattle.ghc_records.specs.Journal.{Opening, Entry, took, step_of, opening_journal}
-
--- A proposal is a goal, by name and as written, the act on it, and the effect under any number.
-pub record Proposal : Type 0 where
-  pub goal : GoalName
-  pub consumed : Goal
-  pub act : Act
-  pub effect : Effect
 
 -- Hands are numbered from 1, and each holds a proposal or nothing.
 pub record Hands : Type 0 where

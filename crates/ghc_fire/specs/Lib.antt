@@ -4,3 +4,4 @@ pub mod Attempt
 pub mod Laws
 pub mod Facts
 pub mod Goals
+pub mod Proposal
