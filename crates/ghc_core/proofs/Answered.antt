@@ -68,7 +68,7 @@ found (x ∷ es) g b e =
       | false ↦ λ p q. inr (found es g b q)
     ] refl e
 
-room : (w : World) → HasRoom w ⊎ IsFull w
+pub room : (w : World) → HasRoom w ⊎ IsFull w
 room w = elim (less w.next number_limit) [
   | inr f ↦ inr (inl f)
   | inl r ↦ elim (less (length w.kept) kept_limit) [ inr f ↦ inr (inr f) | inl q ↦ inl (r, q) ]

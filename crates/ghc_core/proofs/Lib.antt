@@ -4,3 +4,7 @@ pub mod Reaching
 pub mod Answering
 pub mod Answered
 pub mod Played
+pub mod Replayed
+pub mod Returning
+pub mod Redoing
+pub mod EachAnswered

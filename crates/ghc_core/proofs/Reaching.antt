@@ -33,23 +33,23 @@ use Rattle.ghc_core.specs.Legal.{IsSound, IsReachable, at_opening, by_event}
 use Rattle.ghc_core.specs.Laws as laws
 
 -- what is known of a shelved step
-abbrev OnShelf : World → ℕ → Record → Type 0
+abbrev pub OnShelf : World → ℕ → Record → Type 0
 OnShelf w n r = (r.number ≡ n) × (1 ≤ n) × (n < w.next) × (¬ In n (numbers w.kept))
 
 -- what holds of each reachable world
-record Good (w : World) : Type 0 where
-  accepted : IsProgram w.opening.program
-  asked : IsQuery w.opening.program w.opening.query
-  kept_once : AreDistinct (numbers w.kept)
-  positive : (r : Record) → In r w.kept → 1 ≤ r.number
-  below : (r : Record) → In r w.kept → r.number < w.next
-  shelf : (n : ℕ) (r : Record) → finite.get w.shelf n ≡ Some r → OnShelf w n r
-  first : 1 ≤ w.next
-  acyclic : IsAcyclic (value_at w.state.store)
-  has : HasOnly (IsVariableOf w.opening.query w.kept) w.state
-  one : OneEach w.state
+pub record Good (w : World) : Type 0 where
+  pub accepted : IsProgram w.opening.program
+  pub asked : IsQuery w.opening.program w.opening.query
+  pub kept_once : AreDistinct (numbers w.kept)
+  pub positive : (r : Record) → In r w.kept → 1 ≤ r.number
+  pub below : (r : Record) → In r w.kept → r.number < w.next
+  pub shelf : (n : ℕ) (r : Record) → finite.get w.shelf n ≡ Some r → OnShelf w n r
+  pub first : 1 ≤ w.next
+  pub acyclic : IsAcyclic (value_at w.state.store)
+  pub has : HasOnly (IsVariableOf w.opening.query w.kept) w.state
+  pub one : OneEach w.state
 
-distinct_push : (rs : List Record) (r : Record) → AreDistinct (numbers rs) → ¬ In r.number (numbers rs) → AreDistinct (numbers (rs ++ r ∷ []))
+pub distinct_push : (rs : List Record) (r : Record) → AreDistinct (numbers rs) → ¬ In r.number (numbers rs) → AreDistinct (numbers (rs ++ r ∷ []))
 distinct_push [] r d n = ((λ i. i), tt)
 distinct_push (s ∷ rs) r d n = (
   (λ i.
@@ -83,7 +83,7 @@ tied Less e = cc
 tied Equal e = refl
 tied Greater e = cc
 
-same_number : (m n : ℕ) → eq_by_cmp nat_cmp m n ≡ true → m ≡ n
+pub same_number : (m n : ℕ) → eq_by_cmp nat_cmp m n ≡ true → m ≡ n
 same_number m n e = ranked m n Equal (sym (tied (nat_cmp m n) e))
 
 shelved : (gone : List Record) (shelf : Shelf) (n : ℕ) (r : Record) → finite.get (with_shelved gone shelf) n ≡ Some r → (In r gone × (r.number ≡ n)) ⊎ (finite.get shelf n ≡ Some r)
@@ -135,7 +135,7 @@ module _ (w : World) (good : Good w) where
       | inr (inr j) ↦ absurd j
     ]
 
-  not_kept_next : ¬ In w.next (numbers w.kept)
+  pub not_kept_next : ¬ In w.next (numbers w.kept)
   not_kept_next i = let q = number_of w.kept w.next i in let b = good.below q.0 q.1 in omega (arith, q.2)
 
   step_good : (r : Record) → IsNextStep w r → Good (with_step r w)
@@ -280,7 +280,7 @@ opened_good {w} sound opens =
       one = run_one_each w.opening.program accepted w.kept (query_state w.opening.query) w.state opens.state.1 (query_one_each w.opening.program w.opening.query asked);
     }
 
-reached_good : {w : World} {hands : Hands} → IsReachable w hands → Good w
+pub reached_good : {w : World} {hands : Hands} → IsReachable w hands → Good w
 reached_good (at_opening sound opens empty) = opened_good sound opens
 reached_good (by_event {w = w} {v = v} {hands = hands} {left = left} e reply r proper a) = answered_good w (reached_good r) hands left e reply v a
 
@@ -289,3 +289,7 @@ reached w hands r = let g = reached_good r in record { kept_once = g.kept_once; 
 
 pub known : laws.ReachableIsWellMade
 known w hands r = let g = reached_good r in record { acyclic = g.acyclic; goals = g.has.goals; bound = g.has.keys; values = λ x y u p o. g.has.values x u p y o }
+
+-- a reachable world is under an accepted program
+pub under_program : {w : World} {hands : Hands} → IsReachable w hands → IsProgram w.opening.program
+under_program r = (reached_good r).accepted

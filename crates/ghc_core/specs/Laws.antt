@@ -1,5 +1,5 @@
 -- Laws of worlds and events.
-use Rattle.std.specs.Prelude.{◌≡◌, ℕ, List}
+use Rattle.std.specs.Prelude.{◌≡◌, ℕ, List, Option}
 use Rattle.ghc_term.specs.declared.var_name.VarName.{VarName}
 use Rattle.ghc_term.specs.declared.goal_name.GoalName.{GoalName}
 use Rattle.ghc_term.specs.Bindings.{IsAcyclic}
@@ -10,11 +10,12 @@ use Rattle.ghc_records.specs.Orders.{AreDistinct}
 use Rattle.ghc_records.specs.Record.{numbers}
 use Rattle.ghc_records.specs.Laws.{IsWellMade}
 use Rattle.ghc_core.specs.World.{Hands, World}
-use Rattle.ghc_core.specs.Events.{Event, Reply}
 use Rattle.ghc_core.specs.Streams.{IsStreamAt, Inputs, Finishes}
-use Rattle.ghc_core.specs.Reverses.{Arranges}
+use Rattle.ghc_core.specs.Events.{Event, Reply}
+use Rattle.ghc_core.specs.Proposes.{Proposes, Commits, Notes}
+use Rattle.ghc_core.specs.Reverses.{Redoes, Arranges}
 use Rattle.ghc_core.specs.Answers.{Answers}
-use Rattle.ghc_core.specs.Legal.{IsReachable}
+use Rattle.ghc_core.specs.Legal.{IsReachable, IsProper}
 
 -- The world is orderly: no number is kept twice, the store is acyclic, and each stream has one goal at most.
 pub record IsOrderly (w : World) : Type 0 where
@@ -53,3 +54,27 @@ ClosesHaveAnAnswer = (w : World) (hands : Hands) (k : ℕ) → IsReachable w han
 -- In a reachable world an arrange has an answer other than want of memory.
 abbrev pub ArrangesHaveAnAnswer : Type 0
 ArrangesHaveAnAnswer = (w : World) (hands : Hands) (order : List ℕ) → IsReachable w hands → (reply : Reply) × (v : World) × Arranges ⊥ w order reply v
+
+-- In a reachable world a proposal has an answer other than want of memory.
+abbrev pub ProposesHaveAnAnswer : Type 0
+ProposesHaveAnAnswer =
+    (w : World) (hands : Hands) (h : ℕ) (g : GoalName) (choice : Option ℕ) → IsReachable w hands
+    → (reply : Reply) × (left : Hands) × Proposes ⊥ w hands h g choice reply left
+
+-- In a reachable world a commit has an answer other than want of memory.
+abbrev pub CommitsHaveAnAnswer : Type 0
+CommitsHaveAnAnswer = (w : World) (hands : Hands) (h : ℕ) → IsReachable w hands → (reply : Reply) × (v : World) × (left : Hands) × Commits ⊥ w hands h reply v left
+
+-- In a reachable world a note has an answer other than want of memory.
+abbrev pub NotesHaveAnAnswer : Type 0
+NotesHaveAnAnswer = (w : World) (hands : Hands) (g : GoalName) → IsReachable w hands → (reply : Reply) × Notes ⊥ w g reply
+
+-- In a reachable world a redo has an answer other than want of memory.
+abbrev pub RedoesHaveAnAnswer : Type 0
+RedoesHaveAnAnswer = (w : World) (hands : Hands) (n : ℕ) → IsReachable w hands → (reply : Reply) × (v : World) × Redoes ⊥ w n reply v
+
+-- In a reachable world each proper event has an answer other than want of memory.
+abbrev pub EventsHaveAnAnswer : Type 0
+EventsHaveAnAnswer =
+    (w : World) (hands : Hands) (e : Event) → IsReachable w hands → IsProper e
+    → (reply : Reply) × (v : World) × (left : Hands) × Answers ⊥ w hands e reply v left

@@ -6,5 +6,6 @@ pub mod Reverses
 pub mod Answers
 pub mod Legal
 pub mod Laws
+pub mod Returns
 pub mod Facts
 pub mod Load

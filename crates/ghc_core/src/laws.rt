@@ -1,5 +1,5 @@
 // Laws about the definitions, each as the contract of a function.
-ghost use Rattle.ghc_core.specs.Laws.{ReachableIsOrderly, ReachableIsWellMade, EventsHaveOneAnswer, InputsHaveAnAnswer, ClosesHaveAnAnswer, ArrangesHaveAnAnswer};
+ghost use Rattle.ghc_core.specs.Laws.{ReachableIsOrderly, ReachableIsWellMade, EventsHaveOneAnswer, InputsHaveAnAnswer, ClosesHaveAnAnswer, ArrangesHaveAnAnswer, ProposesHaveAnAnswer, CommitsHaveAnAnswer, NotesHaveAnAnswer, RedoesHaveAnAnswer, EventsHaveAnAnswer};
 
 /// A reachable world keeps no number twice, has an acyclic store, and one goal a stream.
 pub fn reachable_is_orderly()
@@ -29,4 +29,29 @@ pub fn closes_have_an_answer()
 /// In a reachable world an arrange has an answer other than want of memory.
 pub fn arranges_have_an_answer()
     ensures { ArrangesHaveAnAnswer }
+{}
+
+/// In a reachable world a proposal has an answer other than want of memory.
+pub fn proposes_have_an_answer()
+    ensures { ProposesHaveAnAnswer }
+{}
+
+/// In a reachable world a commit has an answer other than want of memory.
+pub fn commits_have_an_answer()
+    ensures { CommitsHaveAnAnswer }
+{}
+
+/// In a reachable world a note has an answer other than want of memory.
+pub fn notes_have_an_answer()
+    ensures { NotesHaveAnAnswer }
+{}
+
+/// In a reachable world a redo has an answer other than want of memory.
+pub fn redoes_have_an_answer()
+    ensures { RedoesHaveAnAnswer }
+{}
+
+/// In a reachable world each proper event has an answer other than want of memory.
+pub fn events_have_an_answer()
+    ensures { EventsHaveAnAnswer }
 {}

@@ -3,9 +3,15 @@
 
 mod facts;
 mod laws;
+mod returns;
 
 pub use facts::{redo_is_changed, second_hand_is_stale};
 pub use laws::{
-    arranges_have_an_answer, closes_have_an_answer, events_have_one_answer, inputs_have_an_answer,
-    reachable_is_orderly, reachable_is_well_made,
+    arranges_have_an_answer, closes_have_an_answer, commits_have_an_answer, events_have_an_answer,
+    events_have_one_answer, inputs_have_an_answer, notes_have_an_answer, proposes_have_an_answer,
+    reachable_is_orderly, reachable_is_well_made, redoes_have_an_answer,
+};
+pub use returns::{
+    reachable_is_replay, roll_takes_steps_away, rolls_have_an_answer, step_then_undo,
+    undo_takes_step_away, undoes_have_an_answer, undone_then_redone,
 };

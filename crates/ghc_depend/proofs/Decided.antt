@@ -18,19 +18,19 @@ use Rattle.ghc_depend.specs.Lawful.{IsOfKept, IsOrderOf, IsTooEarly, IsInOrder, 
 use Rattle.ghc_depend.specs.Laws.{OrdersAreDecided}
 
 -- it is so, or not
-abbrev Known : Type 0 → Type 0
+abbrev pub Known : Type 0 → Type 0
 Known A = A ⊎ (¬ A)
 
-known_by : {A B : Type 0} → (A → B) → (B → A) → Known A → Known B
+pub known_by : {A B : Type 0} → (A → B) → (B → A) → Known A → Known B
 known_by f g (inl a) = inl (f a)
 known_by f g (inr n) = inr (λ b. n (g b))
 
-known_both : {A B : Type 0} → Known A → Known B → Known (A × B)
+pub known_both : {A B : Type 0} → Known A → Known B → Known (A × B)
 known_both (inl a) (inl b) = inl (a, b)
 known_both (inl a) (inr n) = inr (λ p. n p.1)
 known_both (inr n) k = inr (λ p. n p.0)
 
-known_either : {A B : Type 0} → Known A → Known B → Known (A ⊎ B)
+pub known_either : {A B : Type 0} → Known A → Known B → Known (A ⊎ B)
 known_either (inl a) k = inl (inl a)
 known_either (inr n) (inl b) = inl (inr b)
 known_either (inr n) (inr m) = inr (λ p. elim p [ inl a ↦ n a | inr b ↦ m b ])
@@ -44,14 +44,14 @@ known_le a b = elim (less a b) [ inl l ↦ inl l | inr l ↦ inr (λ k. omega ar
 three : (a b : ℕ) → (a ≡ b) ⊎ ((a < b) ⊎ (b < a))
 three a b = grind arith
 
-known_same : (a b : ℕ) → Known (a ≡ b)
+pub known_same : (a b : ℕ) → Known (a ≡ b)
 known_same a b = elim (three a b) [ inl e ↦ inl e | inr (inl l) ↦ inr (λ e. omega arith) | inr (inr l) ↦ inr (λ e. omega arith) ]
 
 known_true : (b : Bool) → Known (b ≡ true)
 known_true true = inl refl
 known_true false = inr (λ e. cc)
 
-known_in : (n : ℕ) (ns : List ℕ) → Known (In n ns)
+pub known_in : (n : ℕ) (ns : List ℕ) → Known (In n ns)
 known_in n [] = inr (λ i. i)
 known_in n (m ∷ ns) = known_either (known_same n m) (known_in n ns)
 
@@ -59,7 +59,7 @@ known_before : (ns : List ℕ) (a b : ℕ) → Known (Before ns a b)
 known_before [] a b = inr (λ i. i)
 known_before (n ∷ ns) a b = known_either (known_both (known_same a n) (known_in b ns)) (known_before ns a b)
 
-by_numbers : (rs : List Record) (a b : Record) → Before rs a b → Before (numbers rs) a.number b.number
+pub by_numbers : (rs : List Record) (a b : Record) → Before rs a b → Before (numbers rs) a.number b.number
 by_numbers [] a b h = h
 by_numbers (r ∷ rs) a b (inl h) = inl (ap (λ (x : Record). x.number) h.0, number_in rs b h.1)
 by_numbers (r ∷ rs) a b (inr h) = inr (by_numbers rs a b h)
@@ -73,7 +73,7 @@ the_one rs r s d i j =
     let q = number_of rs r.number j in
     subst (λ x. In x rs) (record_once (s ∷ rs) q.0 r d (inr q.1) i q.2) q.1
 
-by_records : (rs : List Record) (a b : Record) → AreDistinct (numbers rs) → In a rs → In b rs → Before (numbers rs) a.number b.number → Before rs a b
+pub by_records : (rs : List Record) (a b : Record) → AreDistinct (numbers rs) → In a rs → In b rs → Before (numbers rs) a.number b.number → Before rs a b
 by_records [] a b d i j h = h
 by_records (r ∷ rs) a b d i j (inl h) = inl (record_once (r ∷ rs) a r d i (inl refl) h.0, the_one rs b r d j h.1)
 by_records (r ∷ rs) a b d i j (inr h) = let k = among (numbers rs) a.number b.number h in inr (by_records rs a b d.1 (the_one rs a r d i k.0) (the_one rs b r d j k.1) h)
@@ -113,10 +113,10 @@ known_reads b a = elim (known_read b a (map (λ e. e.0) (finite.entries a.effect
 ]
 
 module _ (kept : List Record) (distinct : AreDistinct (numbers kept)) where
-  ends : (b a : Record) → DependsOn kept b a → In a kept × In b kept
+  pub ends : (b a : Record) → DependsOn kept b a → In a kept × In b kept
   ends b a d = before_in kept a b (is_before kept a b d.0)
 
-  known_depends : (b a : Record) → In a kept → In b kept → Known (DependsOn kept b a)
+  pub known_depends : (b a : Record) → In a kept → In b kept → Known (DependsOn kept b a)
   known_depends b a i j =
       known_both (known_by (λ h. before_is kept a b (by_records kept a b distinct i j h)) (λ p. by_numbers kept a b (is_before kept a b p)) (known_before (numbers kept) a.number b.number))
       (known_either (known_consumed b.goal a) (known_reads b a))

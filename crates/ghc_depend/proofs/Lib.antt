@@ -2,3 +2,15 @@ pub mod Append
 pub mod Waking
 pub mod Once
 pub mod Decided
+pub mod Extending
+pub mod Finding
+pub mod Results
+pub mod Placing
+pub mod Working
+pub mod Picking
+pub mod Comparing
+pub mod Deleting
+pub mod Following
+pub mod Arranging
+pub mod Undoing
+pub mod ComingBack

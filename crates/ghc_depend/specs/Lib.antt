@@ -1,5 +1,6 @@
 pub mod Depend
 pub mod Cause
+pub mod Deletion
 pub mod Lawful
 pub mod Kept
 pub mod Facts

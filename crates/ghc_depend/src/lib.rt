@@ -1,8 +1,12 @@
-//! Dependence between kept steps, consequences, lawful orders, and the kept list of a journal.
+//! Dependence between kept steps, consequences, deletion, lawful orders, and the kept list of a journal.
 #![tactic(auto)]
 
 mod facts;
 mod laws;
 
 pub use facts::{append_depends, append_orders, waking_depends};
-pub use laws::{consequences_have_one_answer, orders_are_decided, orders_have_one_answer};
+pub use laws::{
+    consequences_have_one_answer, gone_come_back, law_of_deletion, lawful_order_keeps_replay,
+    neighbours_change_places, orders_are_decided, orders_have_one_answer, roll_keeps_replay,
+    undo_keeps_replay, without_steps_is_one,
+};

@@ -57,6 +57,24 @@ AttemptHasOneAnswer =
     (P : Program) (S : VarName → Option Tree) (g : Option Goal) (choice : Option ℕ) (a b : Answer) → IsAcyclic S
     → Attempts P S g choice a → Attempts P S g choice b → a ≡ b
 
+-- In an acyclic finite store, under an accepted program, each attempt has an answer.
+abbrev pub EachAttemptHasAnAnswer : Type 0
+EachAttemptHasAnAnswer =
+    (P : Program) (s : StoreValue) (g : Option Goal) (choice : Option ℕ) → IsProgram P → IsAcyclic (value_at s)
+    → (a : Answer) × Attempts P (value_at s) g choice a
+
+-- In an acyclic finite store, under an accepted program, each act on a goal has an effect or has none.
+abbrev pub EachActHasAnEffectOrNone : Type 0
+EachActHasAnEffectOrNone =
+    (P : Program) (g : Goal) (a : Act) (n : ℕ) (s : StoreValue) → IsProgram P → IsAcyclic (value_at s)
+    → ((e : Effect) × HasEffect P g a n (value_at s) e) ⊎ ((e : Effect) → ¬ HasEffect P g a n (value_at s) e)
+
+-- In an acyclic finite store, under an accepted program, an act on a goal has this effect or it has not.
+abbrev pub EachEffectIsDecided : Type 0
+EachEffectIsDecided =
+    (P : Program) (g : Goal) (a : Act) (n : ℕ) (s : StoreValue) (e : Effect) → IsProgram P → IsAcyclic (value_at s)
+    → HasEffect P g a n (value_at s) e ⊎ (¬ HasEffect P g a n (value_at s) e)
+
 -- Stores that agree on what a goal looks at answer an attempt at it alike.
 abbrev pub AttemptIsOfWhatIsLookedAt : Type 0
 AttemptIsOfWhatIsLookedAt =

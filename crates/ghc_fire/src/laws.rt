@@ -1,5 +1,5 @@
 // Laws of effects and of attempts, each as the contract of a function.
-ghost use Rattle.ghc_fire.specs.Laws.{EffectIsLocal, EffectIsOne, EffectBindsAndReads, EffectUnderEachNumber, EffectKeepsAcyclic, EffectVariables, AttemptHasOneAnswer, AttemptIsOfWhatIsLookedAt};
+ghost use Rattle.ghc_fire.specs.Laws.{EffectIsLocal, EffectIsOne, EffectBindsAndReads, EffectUnderEachNumber, EffectKeepsAcyclic, EffectVariables, AttemptHasOneAnswer, EachAttemptHasAnAnswer, EachActHasAnEffectOrNone, EachEffectIsDecided, AttemptIsOfWhatIsLookedAt};
 
 /// Bindings of variables that a step did not read may be taken away.
 pub fn effect_is_local()
@@ -34,6 +34,21 @@ pub fn effect_variables()
 /// In an acyclic store an attempt has one answer at most.
 pub fn attempt_has_one_answer()
     ensures { AttemptHasOneAnswer }
+{}
+
+/// In an acyclic finite store each attempt has an answer.
+pub fn each_attempt_has_an_answer()
+    ensures { EachAttemptHasAnAnswer }
+{}
+
+/// In an acyclic finite store each act on a goal has an effect or has none.
+pub fn each_act_has_an_effect_or_none()
+    ensures { EachActHasAnEffectOrNone }
+{}
+
+/// In an acyclic finite store it is decided of each effect whether an act has it.
+pub fn each_effect_is_decided()
+    ensures { EachEffectIsDecided }
 {}
 
 /// Stores that agree on what a goal looks at answer an attempt at it alike.

@@ -1,1 +1,10 @@
 pub mod FactProofs
+pub mod Lists
+pub mod Rising
+pub mod Counts
+pub mod Tests
+pub mod Numbers
+pub mod Heads
+pub mod Clauses
+pub mod Fresh
+pub mod Faults

@@ -11,7 +11,7 @@ use Rattle.ghc_term.specs.Goal.{Goal}
 use Rattle.ghc_term.specs.GoalCode.{comparison_code, expression_code, goal_code}
 use Rattle.ghc_flat.specs.declared.test.Test.{Test}
 use Rattle.ghc_flat.specs.declared.test.Test.TheVariants.{Wait as wait, IsInteger as is_integer, IsAtom as is_atom, IsList as is_list, Compare as compare}
-use Rattle.ghc_flat.specs.Clause.{Clause}
+use Rattle.ghc_flat.specs.Clause.{Clause, Program}
 
 -- what a test is made of: the variable of one of the four, or a comparison and its sides
 abbrev pub TestParts : Type 0
@@ -51,3 +51,6 @@ clause_code =
     (λ c. (c.name, (c.head, (c.tests, c.body))))
     (λ p. record { name = p.0; head = p.1.0; tests = p.1.1.0; body = p.1.1.1 })
     (λ _. refl)
+
+abbrev pub program_code : Coded Program
+program_code = coded_list clause_code

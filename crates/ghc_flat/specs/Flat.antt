@@ -44,6 +44,13 @@ IsLinear c = AreDistinct (variables_of_list c.head)
 abbrev pub AreDefined : Program → List Goal → Type 0
 AreDefined P gs = (f : List ℕ) (ts : List Tree) → In (call f ts) gs → (k : ℕ) × (c : Clause) × IsClause P k c × IsFor f ts c
 
+-- What holds of an accepted clause alone: it is flat and linear, its variables are numbered, and no stream stands in its body.
+pub record IsWellMade (c : Clause) : Type 0 where
+  pub flat : IsFlat c
+  pub linear : IsLinear c
+  pub numbered : AreNumbered (variables_of_clause c)
+  pub closed : filter is_stream c.body ≡ []
+
 -- A clause is accepted in a program where it is flat and linear, its calls are defined, its variables are numbered, and no stream stands in its body.
 pub record IsAccepted (P : Program) (c : Clause) : Type 0 where
   pub flat : IsFlat c

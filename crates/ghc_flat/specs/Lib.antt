@@ -2,5 +2,9 @@ pub mod Clause
 pub mod ClauseCode
 pub mod Variables
 pub mod Flat
+pub mod Checked
+pub mod Counting
+pub mod Numbers
+pub mod Index
 pub mod Samples
 pub mod Facts

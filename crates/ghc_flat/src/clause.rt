@@ -1,21 +1,25 @@
 // Clauses of programs.
-ghost use Rattle.std.specs.Prelude.{◌≡◌};
+ghost use Rattle.std.specs.Prelude.{◌≡◌, ℕ, ◌+◌, length, slice_get};
+ghost use Rattle.ghc_term.specs.declared.var_name.VarName.{VarName};
 
 use crate::test::Test;
 use ghc_term::{Goal, Name, Term};
 use std::marker::Model;
 
 /// A clause `name(head) :- tests | body.`; the i-th of its variables, by first occurrence, is `_0_i`. A goal `true` of the
-/// body is left out.
+/// body is left out. No variable stands twice in its head, and each variable of its tests stands there.
 #[derive(Drop)]
 pub struct Clause {
-    name: Name,
-    head: Vec<Term>,
-    tests: Vec<Test>,
-    body: Vec<Goal>,
+    pub(crate) name: Name,
+    pub(crate) head: Vec<Term>,
+    pub(crate) tests: Vec<Test>,
+    pub(crate) body: Vec<Goal>,
+    // how many variables stand in the head
+    pub(crate) head_variables: u32,
 }
 
 impl Model for Clause {
+    ghost use Rattle.std.specs.Prelude.{◌≡◌, length};
     ghost use Rattle.ghc_flat.specs.Clause.{Clause};
     ghost use Rattle.ghc_flat.specs.ClauseCode.{clause_code};
 
@@ -23,10 +27,22 @@ impl Model for Clause {
 
     ghost coded = { clause_code };
 
+    ghost use Rattle.ghc_flat.specs.Flat.{IsWellMade};
+    ghost use Rattle.ghc_flat.specs.Counting.{Rises};
+    ghost use Rattle.ghc_flat.specs.Variables.{variables_of_list};
+
     ghost view = { λ c. record { name = c.name; head = c.head.items; tests = c.tests.items; body = c.body.items } };
+
+    ghost invariant = { λ c. IsWellMade (record { name = c.name; head = c.head.items; tests = c.tests.items; body = c.body.items })
+        × (c.head_variables ≡ length (variables_of_list c.head.items))
+        × Rises 0 (variables_of_list c.head.items) };
 }
 
 impl Clause {
+    ghost use Rattle.ghc_flat.specs.Flat.{IsWellMade};
+    ghost use Rattle.ghc_flat.specs.Samples.{asked};
+    ghost use Rattle.ghc_flat.specs.Variables.{variables_of_list, fresh_variables};
+
     /// The name of its predicate.
     pub fn name(&self) -> &Name
         ensures { result.now ≡ self.now.name }
@@ -53,5 +69,15 @@ impl Clause {
         ensures { result.now ≡ self.now.body }
     {
         &self.body
+    }
+
+    /// How many variables stand in its head: one step. They are `_0_1` up to this number, and the i-th fresh variable of
+    /// the body, one that does not stand in the head, has the i-th number behind it.
+    pub fn head_variables(&self) -> u32
+        ensures count { result ≡ length (variables_of_list self.now.head) }
+        ensures fresh { (i : ℕ) (x : VarName) → slice_get (fresh_variables self.now) i ≡ Some x → x ≡ asked (result + i + 1) }
+        ensures well_made { IsWellMade self.now }
+    {
+        self.head_variables
     }
 }

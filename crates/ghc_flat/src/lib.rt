@@ -1,10 +1,20 @@
 //! Programs of Flat GHC: tests, clauses and queries, and which of them are flat, linear and defined.
 #![tactic(auto)]
 
+mod checker;
 mod clause;
+mod counting;
 mod facts;
+mod guards;
+mod index;
+mod program;
 mod test;
 
+pub use checker::check;
 pub use clause::Clause;
-pub use facts::{append_is_accepted, call_is_no_test, call_is_undefined, twice_is_not_linear};
+pub use facts::{
+    append_is_accepted, call_is_no_test, call_is_undefined, query_faults_are_told,
+    twice_is_not_linear,
+};
+pub use program::Program;
 pub use test::Test;

@@ -3,4 +3,4 @@
 
 mod laws;
 
-pub use laws::{status_is_of_what_is_looked_at, status_is_one};
+pub use laws::{each_goal_has_a_status, status_is_of_what_is_looked_at, status_is_one};

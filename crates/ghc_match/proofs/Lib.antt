@@ -6,3 +6,8 @@ pub mod Places
 pub mod Shown
 pub mod FactProofs
 pub mod Exists
+pub mod Listings
+pub mod LinearHeads
+pub mod Spots
+pub mod EachOutcome
+pub mod SetsOf

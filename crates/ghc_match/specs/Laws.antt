@@ -6,6 +6,7 @@ use Rattle.ghc_term.specs.Expression.{Expression}
 use Rattle.ghc_term.specs.Bindings.{IsAcyclic}
 use Rattle.ghc_term.specs.Store.{StoreValue, value_at}
 use Rattle.ghc_flat.specs.Clause.{Clause}
+use Rattle.ghc_flat.specs.Flat.{IsLinear}
 use Rattle.ghc_match.specs.Value.{Value, HasValue}
 use Rattle.ghc_match.specs.Match.{LooksAt, Outcome, HasOutcome}
 use Rattle.ghc_match.specs.Looked.{ExpressionReaches}
@@ -27,6 +28,10 @@ ValueLooksAtItsTerms =
 -- A clause has one outcome at most for a call: it refuses, waits or accepts, and only one of these.
 abbrev pub OutcomesExclude : Type 0
 OutcomesExclude = (c : Clause) (ts : List Tree) (S : VarName → Option Tree) (o p : Outcome) → HasOutcome c ts S o → HasOutcome c ts S p → o ≡ p
+
+-- In an acyclic finite store a linear clause has an outcome for each call: it refuses, waits or accepts.
+abbrev pub EachClauseHasAnOutcome : Type 0
+EachClauseHasAnOutcome = (c : Clause) (ts : List Tree) (s : StoreValue) → IsLinear c → IsAcyclic (value_at s) → (o : Outcome) × HasOutcome c ts (value_at s) o
 
 -- Stores that agree on what a clause looks at give it one outcome.
 abbrev pub OutcomeIsOfWhatIsLookedAt : Type 0

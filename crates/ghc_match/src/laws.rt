@@ -1,5 +1,5 @@
 // Laws of matching and of values, each as the contract of a function.
-ghost use Rattle.ghc_match.specs.Laws.{ValuesExclude, EachExpressionHasAValue, ValueLooksAtItsTerms, OutcomesExclude, OutcomeIsOfWhatIsLookedAt};
+ghost use Rattle.ghc_match.specs.Laws.{ValuesExclude, EachExpressionHasAValue, ValueLooksAtItsTerms, OutcomesExclude, EachClauseHasAnOutcome, OutcomeIsOfWhatIsLookedAt};
 
 /// An expression is a number, waits or is bad, only one of these and only in one way.
 pub fn values_exclude()
@@ -19,6 +19,11 @@ pub fn value_looks_at_its_terms()
 /// A clause refuses, waits or accepts, only one of these and only in one way.
 pub fn outcomes_exclude()
     ensures { OutcomesExclude }
+{}
+
+/// In an acyclic finite store a linear clause refuses, waits or accepts.
+pub fn each_clause_has_an_outcome()
+    ensures { EachClauseHasAnOutcome }
 {}
 
 /// Stores that agree on what a clause looks at give it one outcome.

@@ -9,6 +9,6 @@ pub use facts::{
     sevenths, structure_is_no_number, waits_on_two,
 };
 pub use laws::{
-    each_expression_has_a_value, outcome_is_of_what_is_looked_at, outcomes_exclude,
-    value_looks_at_its_terms, values_exclude,
+    each_clause_has_an_outcome, each_expression_has_a_value, outcome_is_of_what_is_looked_at,
+    outcomes_exclude, value_looks_at_its_terms, values_exclude,
 };

@@ -31,3 +31,17 @@ pub mod Depths
 pub mod PlaceLemmas
 pub mod Values
 pub mod NameTables
+pub mod AmountLemmas
+pub mod Counting
+pub mod OneReading
+pub mod MisplacedWithin
+pub mod Names
+pub mod Scopes
+pub mod TermsLowered
+pub mod ExpressionsLowered
+pub mod GoalsLowered
+pub mod Streams
+pub mod Numbered
+pub mod ClausesLowered
+pub mod ClosedTrees
+pub mod OneNaming

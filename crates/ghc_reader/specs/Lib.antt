@@ -14,3 +14,11 @@ pub mod Lexed
 pub mod Depth
 pub mod Written
 pub mod WrittenCode
+pub mod Amounts
+pub mod Limits
+pub mod Tests
+pub mod Lowered
+pub mod Scope
+pub mod Read
+pub mod Lowered
+pub mod Scope

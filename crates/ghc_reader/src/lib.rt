@@ -9,8 +9,12 @@ pub mod goal_parser;
 pub mod halt;
 pub mod input_parser;
 pub mod lexer;
+mod limits;
+mod lowering;
 pub mod parser;
 pub mod place;
+mod read;
+mod reading;
 pub mod reserved;
 pub mod source;
 pub mod term_parser;
@@ -19,4 +23,5 @@ mod tests;
 pub mod token;
 mod written;
 
+pub use read::{read_program, read_query};
 pub use written::{Guard, Query, Source, WrittenClause};

@@ -63,3 +63,6 @@ impl Bindings {
         }
     }
 }
+
+#[cfg(test)]
+mod tests;

@@ -129,4 +129,10 @@ pub fn push_goal_written(goal: &Goal, out: &mut String) -> Result<(), AllocError
 }
 
 #[cfg(test)]
+mod goal_tests;
+#[cfg(test)]
+mod samples;
+#[cfg(test)]
+mod store_tests;
+#[cfg(test)]
 mod tests;

@@ -61,3 +61,6 @@ impl Variables {
         }
     }
 }
+
+#[cfg(test)]
+mod tests;

@@ -22,3 +22,5 @@ pub mod Runs
 pub mod Scope
 pub mod Stacks
 pub mod Tops
+pub mod Reached
+pub mod Endings

@@ -39,6 +39,10 @@ UnificationKeepsAcyclic =
 abbrev pub UnificationHasOneEnding : Type 0
 UnificationHasOneEnding = (S : VarName → Option Tree) (l r : Tree) (e f : Ending) → IsAcyclic S → HasEnding S l r e → HasEnding S l r f → e ≡ f
 
+-- In an acyclic finite store each unification has an end: it is solved, clashes, or comes to a cycle.
+abbrev pub EachUnificationHasAnEnding : Type 0
+EachUnificationHasAnEnding = (s : StoreValue) (l r : Tree) → IsAcyclic (value_at s) → (e : Ending) × HasEnding (value_at s) l r e
+
 -- Stores that agree on all variables that the two sides reach give a unification one end.
 abbrev pub UnificationLooksAtItsTerms : Type 0
 UnificationLooksAtItsTerms =

@@ -8,14 +8,16 @@ mod occurs;
 mod parting;
 mod solve;
 mod step;
+#[cfg(test)]
+mod tests;
 
 pub use facts::{
     alias_is_read, arguments, clash_binds_nothing, either_order, itself, middle_is_read,
     second_is_cyclic, turned,
 };
 pub use laws::{
-    unification_binds_and_reads, unification_has_one_ending, unification_is_local,
-    unification_keeps_acyclic, unification_keeps_solutions, unification_looks_at_its_terms,
-    unifications_commute,
+    each_unification_has_an_ending, unification_binds_and_reads, unification_has_one_ending,
+    unification_is_local, unification_keeps_acyclic, unification_keeps_solutions,
+    unification_looks_at_its_terms, unifications_commute,
 };
 pub use solve::{Solved, unify};

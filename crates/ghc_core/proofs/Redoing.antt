@@ -1,0 +1,128 @@
+-- What an undo or a rollback took away can be redone, which gives back the old state.
+use Rattle.std.proofs.Common.{◌≡◌, ℕ, ◌+◌, ◌≤◌, true, false, cond, List, [], ◌∷◌, ◌++◌, map, length, refl, sym, ap, ◌∙◌, subst, inl, inr, arith, Some, None}
+use Rattle.std.proofs.lemmas.List.{length-append}
+use Rattle.std.specs.Ordering.{eq_by_cmp, is_eq, nat_cmp}
+use Rattle.std.specs.Cmp.{nat_cmp_total, tied_itself}
+use Rattle.std.specs.FinMap as finite
+use Rattle.ghc_term.specs.Lists.{In}
+use Rattle.ghc_flat.specs.Clause.{Program}
+use Rattle.ghc_records.specs.Numbers.{kept_limit}
+use Rattle.ghc_records.specs.Orders.{AreDistinct}
+use Rattle.ghc_records.specs.Record.{State, Record, numbers, Shelf, after}
+use Rattle.ghc_records.specs.Replay.{query_state, Runs}
+use Rattle.ghc_records.specs.Journal.{Entry, undid, rolled}
+use Rattle.ghc_records.proofs.OrderLemmas.{in_either, number_in, records_distinct}
+use Rattle.ghc_records.proofs.Replaying.{run_once}
+use Rattle.ghc_depend.specs.Depend.{GoesWith}
+use Rattle.ghc_depend.specs.Deletion.{IsClosedUnder, IsPartedBy}
+use Rattle.ghc_depend.specs.Kept.{with_shelved}
+use Rattle.ghc_depend.proofs.ComingBack.{both_distinct, come_back}
+use Rattle.ghc_depend.proofs.Following.{one_is, alone_closed, split_closed}
+use Rattle.ghc_depend.proofs.Picking.{no_longer, picks_in, picks_distinct}
+use Rattle.ghc_core.specs.World.{Hands, World, IsReplay}
+use Rattle.ghc_core.specs.Events.{Command, input, finish, undo, roll, redo, arrange, command, Reply, stepped, undone}
+use Rattle.ghc_core.specs.Streams as streams
+use Rattle.ghc_core.specs.Reverses as by
+use Rattle.ghc_core.specs.Answers.{Obeys, to_command, AnswersEach}
+use Rattle.ghc_core.specs.Returns as laws
+use Rattle.ghc_core.proofs.Reaching.{Good, same_number, reached_good}
+use Rattle.ghc_core.proofs.Replayed.{Replayed, replayed}
+
+runs_split : (P : Program) (xs ys : List Record) (s t : State) → Runs P s (xs ++ ys) t → (m : State) × Runs P s xs m × Runs P m ys t
+runs_split P [] ys s t run = (s, refl, run)
+runs_split P (x ∷ xs) ys s t run = let rest = runs_split P xs ys (after s x) t run.1 in (rest.0, (run.0, rest.1), rest.2)
+
+number_apart : (m n : ℕ) → ¬ (m ≡ n) → eq_by_cmp nat_cmp m n ≡ false
+number_apart m n apart =
+    elim (eq_by_cmp nat_cmp m n) as (λ b. eq_by_cmp nat_cmp m n ≡ b → eq_by_cmp nat_cmp m n ≡ false) [
+      | true ↦ λ p. absurd (apart (same_number m n p))
+      | false ↦ λ p. p
+    ] refl
+
+-- each of the steps put on the shelf is there
+on_shelf : (gone : List Record) (shelf : Shelf) → AreDistinct (numbers gone) → (r : Record) → In r gone → finite.get (with_shelved gone shelf) r.number ≡ Some r
+on_shelf [] shelf d r i = absurd i
+on_shelf (s ∷ gone) shelf d r (inl e) =
+    subst (λ (z : Record). finite.get (with_shelved (s ∷ gone) shelf) z.number ≡ Some z) (sym e)
+    (finite.get-insert nat_cmp_total (with_shelved gone shelf) s.number s s.number ∙ ap (λ b. cond b (Some s) (finite.get (with_shelved gone shelf) s.number)) (ap is_eq (tied_itself nat_cmp_total s.number)))
+on_shelf (s ∷ gone) shelf d r (inr i) =
+    finite.get-insert nat_cmp_total (with_shelved gone shelf) s.number s r.number
+    ∙ ap (λ b. cond b (Some s) (finite.get (with_shelved gone shelf) r.number)) (number_apart r.number s.number (λ e. d.0 (subst (λ n. In n (numbers gone)) e (number_in gone r i))))
+    ∙ on_shelf gone shelf d.1 r i
+
+-- steps that are on the shelf and run from here are redone one after another
+redo_each : (hands : Hands) (rest : List Record) (x : World) (goal : State) → Runs x.opening.program x.state rest goal → ((r : Record) → In r rest → finite.get x.shelf r.number ≡ Some r)
+    → AreDistinct (numbers rest) → length x.kept + length rest ≤ kept_limit
+    → (u : World) × AnswersEach (λ i. ⊥) x hands (map (λ m. command (redo m)) (numbers rest)) (map stepped (numbers rest)) u hands × (u.state ≡ goal)
+redo_each hands [] x goal run on d l = (x, (refl, refl), sym run)
+redo_each hands (r ∷ rest) x goal run on d l =
+    let y = by.with_redone r r.number x in
+    let longer : length (x.kept ++ r ∷ []) ≡ length x.kept + 1 = length-append x.kept (r ∷ []) in
+    let next = redo_each hands rest y goal run.1 (λ s i.
+    finite.get-remove nat_cmp_total x.shelf r.number s.number
+    ∙ ap (λ b. cond b None (finite.get x.shelf s.number)) (number_apart s.number r.number (λ e. d.0 (subst (λ n. In n (numbers rest)) e (number_in rest s i))))
+    ∙ on s (inr i)) d.1 (omega arith) in
+    (next.0, (y, hands, to_command (by.Redoes.puts_back r (on r (inl refl)) run.0 (omega arith)), next.1), next.2)
+
+-- the steps of these numbers are redone from v on, which leaves the state of w
+abbrev Redone : World → World → Hands → List ℕ → Type 0
+Redone w v hands ns = (u : World) × AnswersEach (λ i. ⊥) v hands (map (λ m. command (redo m)) ns) (map stepped ns) u hands × (u.state ≡ w.state)
+
+module _ (w : World) (good : Good w) (h : Replayed w) where
+  -- steps that are closed under consequences
+  module _ (D : Record → Type 0) (gone left : List Record) (parts : IsPartedBy w.kept D gone left) (shut : IsClosedUnder w.kept D) (t : State) (run : IsReplay w left t) (entry : Entry) (hands : Hands) where
+    distinct : AreDistinct (numbers (left ++ gone))
+    distinct = both_distinct w.opening.program w.opening.query w.kept w.state h.replay D gone left parts
+
+    short : length left + length gone ≤ kept_limit
+    short =
+        let l = no_longer (left ++ gone) w.kept (records_distinct (left ++ gone) distinct) (λ r i. elim (in_either left gone r i) [
+          | inl j ↦ (picks_in w.kept left r parts.1 j).0
+          | inr j ↦ (picks_in w.kept gone r parts.0 j).0
+        ]) in
+        let both : length (left ++ gone) ≡ length left + length gone = length-append left gone in
+        let limit = h.few in
+        omega arith
+
+    back : Redone w (by.without_steps gone left t entry w) hands (numbers gone)
+    back =
+        let whole = come_back w.opening.program w.opening.query w.kept w.state h.replay D gone left parts shut good.acyclic in
+        let s = runs_split w.opening.program left gone (query_state w.opening.query) w.state whole.1 in
+        let same : s.0 ≡ t = run_once w.opening.program (query_state w.opening.query) left s.0 t s.1 run.1 in
+        let d = picks_distinct w.kept gone parts.0 good.kept_once in
+        redo_each hands gone (by.without_steps gone left t entry w) w.state (subst (λ z. Runs w.opening.program z gone w.state) same s.2) (on_shelf gone w.shelf d) d short
+
+  -- what an event says, of steps that it took away
+  abbrev Again : Reply → World → Hands → Type 0
+  Again reply v hands = (ns : List ℕ) → reply ≡ undone ns → Redone w v hands ns
+
+  same_list : {ms ns : List ℕ} → undone ms ≡ undone ns → ms ≡ ns
+  same_list e = cc
+
+  redo_obeyed : (hands : Hands) (c : Command) (reply : Reply) (v : World) → Obeys (Unit {0}) w c reply v → Again reply v hands
+  redo_obeyed hands (input k t) reply v (streams.ActsOnStream.takes r p) ns e = cc
+  redo_obeyed hands (input k t) reply v (streams.ActsOnStream.fails f) ns e = cc
+  redo_obeyed hands (input k t) reply v (streams.ActsOnStream.no_memory f) ns e = cc
+  redo_obeyed hands (finish k) reply v (streams.ActsOnStream.takes r p) ns e = cc
+  redo_obeyed hands (finish k) reply v (streams.ActsOnStream.fails f) ns e = cc
+  redo_obeyed hands (finish k) reply v (streams.ActsOnStream.no_memory f) ns e = cc
+  redo_obeyed hands (undo n) reply v (by.Undoes.takes_away r left t k none out run) ns e =
+      let same : numbers (r ∷ []) ≡ ns = (λ i. k.1 i ∷ []) ∙ same_list e in
+      subst (Redone w (by.without_steps (r ∷ []) left t (undid n) w) hands) same
+      (back (λ s. s ≡ r) (r ∷ []) left (one_is w.kept good.kept_once w.kept r good.kept_once k.0, out) (alone_closed w.kept good.kept_once r none) t run (undid n) hands)
+  redo_obeyed hands (undo n) reply v (by.Undoes.fails f) ns e = cc
+  redo_obeyed hands (undo n) reply v (by.Undoes.no_memory f) ns e = cc
+  redo_obeyed hands (roll n) reply v (by.Rolls.takes_away r gone left t k split run) ns e =
+      subst (Redone w (by.without_steps gone left t (rolled n) w) hands) (same_list e)
+      (back (GoesWith w.kept r) gone left split (split_closed w.kept good.kept_once r k.0) t run (rolled n) hands)
+  redo_obeyed hands (roll n) reply v (by.Rolls.not_kept f) ns e = cc
+  redo_obeyed hands (roll n) reply v (by.Rolls.no_memory f) ns e = cc
+  redo_obeyed hands (redo n) reply v (by.Redoes.puts_back r p f l) ns e = cc
+  redo_obeyed hands (redo n) reply v (by.Redoes.fails f) ns e = cc
+  redo_obeyed hands (redo n) reply v (by.Redoes.no_memory f) ns e = cc
+  redo_obeyed hands (arrange order) reply v (by.Arranges.puts new l o) ns e = cc
+  redo_obeyed hands (arrange order) reply v (by.Arranges.fails f) ns e = cc
+  redo_obeyed hands (arrange order) reply v (by.Arranges.no_memory f) ns e = cc
+
+pub undone_then_redone : laws.UndoneThenRedone
+undone_then_redone w v hands c ns reach p = redo_obeyed w (reached_good reach) (replayed reach) hands c (undone ns) v p ns refl

@@ -1,0 +1,37 @@
+// Laws of taking steps away, and of taking them again, each as the contract of a function.
+ghost use Rattle.ghc_core.specs.Returns.{ReachableIsReplay, UndoesHaveAnAnswer, RollsHaveAnAnswer, UndoTakesStepAway, RollTakesStepsAway, StepThenUndo, UndoneThenRedone};
+
+/// The state of a reachable world is the replay of its kept steps.
+pub fn reachable_is_replay()
+    ensures { ReachableIsReplay }
+{}
+
+/// In a reachable world an undo has an answer other than want of memory.
+pub fn undoes_have_an_answer()
+    ensures { UndoesHaveAnAnswer }
+{}
+
+/// In a reachable world a rollback has an answer other than want of memory.
+pub fn rolls_have_an_answer()
+    ensures { RollsHaveAnAnswer }
+{}
+
+/// A kept step without consequences can be undone, which leaves the state without it.
+pub fn undo_takes_step_away()
+    ensures { UndoTakesStepAway }
+{}
+
+/// A kept step can be rolled back, which leaves the state without it and its consequences.
+pub fn roll_takes_steps_away()
+    ensures { RollTakesStepsAway }
+{}
+
+/// A step that was just taken can be undone, and that gives back the old state.
+pub fn step_then_undo()
+    ensures { StepThenUndo }
+{}
+
+/// What an undo or a rollback took away can be redone in the order of its list, and that gives back the old state.
+pub fn undone_then_redone()
+    ensures { UndoneThenRedone }
+{}

@@ -1,0 +1,151 @@
+-- States that lists of steps left: with the same steps they are one state, and with fewer steps one is the other without the rest.
+use Rattle.std.proofs.Common.{◌≡◌, ◌≤◌, ◌⊎◌, List, sym, ap, ◌∙◌, subst, inl, inr, arith, Some, None, true, false}
+use Rattle.std.specs.Prelude.{is_some}
+use Rattle.std.specs.Ordering.{is_eq}
+use Rattle.std.specs.FinMap as finite
+use Rattle.ghc_term.specs.declared.var_name.VarName.{VarName}
+use Rattle.ghc_term.specs.declared.goal_name.GoalName.{GoalName}
+use Rattle.ghc_term.specs.Tree.{Tree}
+use Rattle.ghc_term.specs.Goal.{Goal}
+use Rattle.ghc_term.specs.Lists.{In}
+use Rattle.ghc_term.specs.Store.{value_at}
+use Rattle.ghc_term.proofs.Names.{name_total, name_antisymmetric}
+use Rattle.ghc_flat.specs.Clause.{Program, Query}
+use Rattle.ghc_fire.specs.Goals.{goal_cmp}
+use Rattle.ghc_records.specs.Record.{State, Record}
+use Rattle.ghc_records.specs.Replay.{query_state, Replays}
+use Rattle.ghc_records.proofs.Names.{goal_total, same_goal}
+use Rattle.ghc_depend.specs.Depend.{Binds}
+use Rattle.ghc_depend.specs.Deletion.{IsBoundIn, IsMadeIn, IsConsumedIn, IsWithoutSteps}
+use Rattle.ghc_depend.specs.Laws.{WithoutStepsIsOne}
+use Rattle.ghc_depend.proofs.Finding.{by_option, not_both, same_value, find_value, find_consumed, own, own_made, made_own}
+use Rattle.ghc_depend.proofs.Results.{taken, IsUntaken, IsUnmade, Results, of_query, goal_by}
+use Rattle.ghc_depend.proofs.Placing.{results_of, place_of, front_in, consumed_once, bound_once, numbered_once}
+
+goal_antisymmetric : finite.IsAntisymmetric goal_cmp
+goal_antisymmetric g h e = same_goal g h (ap is_eq e)
+
+module _ (query : Query) (rs new : List Record) (s t : State) (h : Results query rs s) (k : Results query new t)
+    (to : (r : Record) → In r rs → In r new) (back : (r : Record) → In r new → In r rs) where
+  same_store : s.store ≡ t.store
+  same_store = finite.same_map name_total name_antisymmetric s.store t.store (λ x. elim (find_value (λ (r : Record). value_at r.effect.binds x) rs) [
+    | inl p ↦ h.bound p.0 x p.1 p.2 p.3 ∙ sym (k.bound p.0 x p.1 (to p.0 p.2) p.3)
+    | inr n ↦ h.unbound x n ∙ sym (k.unbound x (λ r i. n r (back r i)))
+  ])
+
+  same_goals : s.goals ≡ t.goals
+  same_goals = finite.same_map goal_total goal_antisymmetric s.goals t.goals (λ g. elim (find_consumed rs g) [
+    | inl p ↦ h.consumed p.0 g p.1 p.2 ∙ sym (k.consumed p.0 g (to p.0 p.1) p.2)
+    | inr free ↦ elim (find_value (λ (r : Record). own r g) rs) [
+      | inl p ↦ h.made p.0 g p.1 p.2 p.3 free ∙ sym (k.made p.0 g p.1 (to p.0 p.2) p.3 (λ r i. free r (back r i)))
+      | inr n ↦ h.rest g n free ∙ sym (k.rest g (λ r i. n r (back r i)) (λ r i. free r (back r i)))
+    ]
+  ])
+
+  -- the same steps left one state
+  pub same_state : s ≡ t
+  same_state i = record { goals = same_goals i; store = same_store i }
+
+pub bound_value : (r : Record) (x : VarName) → Binds r x → (t : Tree) × (value_at r.effect.binds x ≡ Some t)
+bound_value r x b = by_option (value_at r.effect.binds x) (λ n. let clash : false ≡ true = sym (ap is_some n) ∙ b in cc) (λ t e. (t, e))
+
+module _ (P : Program) (query : Query) (rs gone left : List Record) (s t : State) (replay : Replays P query rs s) (k : Results query left t)
+    (parted : (r : Record) → In r rs → In r gone ⊎ In r left) (apart : (r : Record) → In r gone → ¬ In r left)
+    (of_gone : (r : Record) → In r gone → In r rs) (of_left : (r : Record) → In r left → In r rs) where
+  h : Results query rs s
+  h = results_of P query rs s replay
+
+  -- a step of the one part and a step of the other are two
+  never : (r c : Record) → In r gone → In c left → ¬ (c ≡ r)
+  never r c i j e = apart c (subst_in e i) j
+    where
+      subst_in : {c r : Record} → c ≡ r → In r gone → In c gone
+      subst_in {c} {r} e i = subst (λ z. In z gone) (sym e) i
+
+  unbound : (x : VarName) → IsBoundIn gone x → value_at t.store x ≡ None
+  unbound x b =
+      let v = bound_value b.0 x b.2 in
+      k.unbound x (λ c j. by_option (value_at c.effect.binds x) (λ n. n) (λ w f. absurd (never b.0 c b.1 j (bound_once P query rs s replay b.0 c x v.0 w (of_gone b.0 b.1) (of_left c j) v.1 f))))
+
+  bound : (x : VarName) → ¬ IsBoundIn gone x → value_at t.store x ≡ value_at s.store x
+  bound x n = elim (find_value (λ (r : Record). value_at r.effect.binds x) left) [
+    | inl p ↦ k.bound p.0 x p.1 p.2 p.3 ∙ sym (h.bound p.0 x p.1 (of_left p.0 p.2) p.3)
+    | inr none ↦ k.unbound x none ∙ sym (h.unbound x (λ r i. elim (parted r i) [
+      | inl j ↦ by_option (value_at r.effect.binds x) (λ m. m) (λ w f. absurd (n (r, j, ap is_some f)))
+      | inr j ↦ none r j
+    ]))
+  ]
+
+  positive : (r : Record) → In r rs → 1 ≤ r.number
+  positive r i = (replay.0.0 r i).0
+
+  -- a goal of the query is none that a step made
+  unmade_by_left : (g : GoalName) (b : Goal) → finite.get (query_state query).goals g ≡ Some b → IsUnmade left g
+  unmade_by_left g b q c j = by_option (own c g) (λ n. n) (λ w o.
+      let zero_step = of_query query g b q in
+      let number = (own_made c g w o).0 in
+      let first = positive c (of_left c j) in
+      absurd (omega arith))
+
+  unmade : (g : GoalName) → IsMadeIn gone g → finite.get t.goals g ≡ None
+  unmade g m = by_option (finite.get t.goals g) (λ n. n) (λ b e. elim (goal_by query left t k g b e) [
+    | inl p ↦ absurd (never m.0 p.0 m.1 p.1 (numbered_once P query rs s replay m.0 p.0 (of_gone m.0 m.1) (of_left p.0 p.1) (sym m.2.0 ∙ (own_made p.0 g b p.2).0)))
+    | inr q ↦
+        let zero_step = of_query query g b q.1 in
+        let number = m.2.0 in
+        let first = positive m.0 (of_gone m.0 m.1) in
+        absurd (omega arith)
+  ])
+
+  given_back : (g : GoalName) (r : Record) → In r gone → r.goal ≡ Some g → ¬ IsMadeIn gone g → finite.get t.goals g ≡ r.consumed
+  given_back g r i e n =
+      let p = place_of P query rs s replay r (of_gone r i) in
+      let a = taken P p.state r p.fires in
+      let there : finite.get p.state.goals g ≡ Some a.goal = subst (λ z. finite.get p.state.goals z ≡ Some a.goal) (same_value a.named e) a.there in
+      let free : IsUntaken left g = λ c j f. never r c i j (consumed_once P query rs s replay r c g (of_gone r i) (of_left c j) e f) in
+      elim (goal_by query p.before p.state p.results g a.goal there) [
+        | inl m ↦ elim (parted m.0 (front_in P query rs s replay r m.0 p m.1)) [
+          | inl j ↦ absurd (n (m.0, j, own_made m.0 g a.goal m.2))
+          | inr j ↦ k.made m.0 g a.goal j m.2 free
+        ]
+        | inr q ↦ k.rest g (unmade_by_left g a.goal q.1) free ∙ q.1
+      ] ∙ sym a.consumed
+
+  others : (g : GoalName) → ¬ IsMadeIn gone g → ¬ IsConsumedIn gone g → finite.get t.goals g ≡ finite.get s.goals g
+  others g no_make no_consume = elim (find_consumed left g) [
+    | inl p ↦ k.consumed p.0 g p.1 p.2 ∙ sym (h.consumed p.0 g (of_left p.0 p.1) p.2)
+    | inr free ↦
+        let all_free : IsUntaken rs g = λ r i e. elim (parted r i) [ inl j ↦ no_consume (r, j, e) | inr j ↦ free r j e ] in
+        elim (find_value (λ (r : Record). own r g) left) [
+          | inl p ↦ k.made p.0 g p.1 p.2 p.3 free ∙ sym (h.made p.0 g p.1 (of_left p.0 p.2) p.3 all_free)
+          | inr none ↦ k.rest g none free ∙ sym (h.rest g (λ r i. elim (parted r i) [
+            | inl j ↦ by_option (own r g) (λ m. m) (λ w o. absurd (no_make (r, j, own_made r g w o)))
+            | inr j ↦ none r j
+          ]) all_free)
+        ]
+  ]
+
+  -- the state that the rest left is the other without the steps gone
+  pub without : IsWithoutSteps gone s t
+  without = record { unbound = unbound; bound = bound; unmade = unmade; given_back = given_back; others = others }
+
+module _ (gone : List Record) (s t u : State) (p : IsWithoutSteps gone s t) (q : IsWithoutSteps gone s u) where
+  one_store : t.store ≡ u.store
+  one_store = finite.same_map name_total name_antisymmetric t.store u.store (λ x. elim (find_value (λ (r : Record). value_at r.effect.binds x) gone) [
+    | inl f ↦ let b : IsBoundIn gone x = (f.0, f.2, ap is_some f.3) in p.unbound x b ∙ sym (q.unbound x b)
+    | inr n ↦ let none : ¬ IsBoundIn gone x = λ b. (let v = bound_value b.0 x b.2 in not_both v.1 (n b.0 b.1)) in p.bound x none ∙ sym (q.bound x none)
+  ])
+
+  one_goals : t.goals ≡ u.goals
+  one_goals = finite.same_map goal_total goal_antisymmetric t.goals u.goals (λ g. elim (find_value (λ (r : Record). own r g) gone) [
+    | inl f ↦ let m : IsMadeIn gone g = (f.0, f.2, own_made f.0 g f.1 f.3) in p.unmade g m ∙ sym (q.unmade g m)
+    | inr n ↦
+        let none : ¬ IsMadeIn gone g = λ m. (let v = made_own m.0 g m.2 in not_both v.1 (n m.0 m.1)) in
+        elim (find_consumed gone g) [
+          | inl f ↦ p.given_back g f.0 f.1 f.2 none ∙ sym (q.given_back g f.0 f.1 f.2 none)
+          | inr free ↦ let untaken : ¬ IsConsumedIn gone g = λ c. free c.0 c.1 c.2 in p.others g none untaken ∙ sym (q.others g none untaken)
+        ]
+  ])
+
+pub without_once : WithoutStepsIsOne
+without_once gone s t u p q i = record { goals = one_goals gone s t u p q i; store = one_store gone s t u p q i }

@@ -1,0 +1,112 @@
+-- The law of deletion.
+use Rattle.std.proofs.Common.{◌≡◌, ◌⊎◌, List, ◌∷◌, refl, sym, ◌∙◌, subst, inl, inr, arith, Some}
+use Rattle.std.specs.FinMap as finite
+use Rattle.ghc_term.specs.declared.var_name.VarName.{VarName}
+use Rattle.ghc_term.specs.Lists.{In}
+use Rattle.ghc_term.specs.Bindings.{IsAcyclic}
+use Rattle.ghc_term.specs.Store.{value_at}
+use Rattle.ghc_flat.specs.Clause.{Program, Query}
+use Rattle.ghc_fire.proofs.Steps.{effect_binds}
+use Rattle.ghc_records.specs.Orders.{AreDistinct}
+use Rattle.ghc_records.specs.Record.{State, Record}
+use Rattle.ghc_records.specs.Replay.{Replays}
+use Rattle.ghc_records.proofs.OrderLemmas.{in_right, in_either, Before, is_before, before_in, before_once, records_distinct}
+use Rattle.ghc_records.proofs.Replaying.{replay_well}
+use Rattle.ghc_depend.specs.Depend.{Consumes, ReadsFrom, DependsOn, directly, further}
+use Rattle.ghc_depend.specs.Deletion.{IsClosedUnder, IsPartedBy, IsWithoutSteps}
+use Rattle.ghc_depend.specs.Laws.{LawOfDeletion}
+use Rattle.ghc_depend.proofs.Finding.{same_value}
+use Rattle.ghc_depend.proofs.Results.{taken, bound_by, is_old}
+use Rattle.ghc_depend.proofs.Placing.{Place, place_of, front_in, bound_once, numbered_once}
+use Rattle.ghc_depend.proofs.Picking.{behind_before, picks_in, picks_has, picks_order, picks_distinct}
+use Rattle.ghc_depend.proofs.Working.{StandBehind, works}
+use Rattle.ghc_depend.proofs.Comparing.{bound_value, without}
+
+module _ (P : Program) (query : Query) (rs : List Record) (t : State) (replay : Replays P query rs t) (D : Record → Type 0) (gone left : List Record) (parts : IsPartedBy rs D gone left) where
+  pub of_gone : (r : Record) → In r gone → In r rs
+  of_gone r i = (picks_in rs gone r parts.0 i).0
+
+  pub of_left : (r : Record) → In r left → In r rs
+  of_left r i = (picks_in rs left r parts.1 i).0
+
+  pub apart : (r : Record) → In r gone → ¬ In r left
+  apart r i j = (picks_in rs left r parts.1 j).1 (picks_in rs gone r parts.0 i).1
+
+  pub parted : (r : Record) → In r rs → In r gone ⊎ In r left
+  parted r i = elim (picks_has rs gone r parts.0 i) [
+    | inl j ↦ inl j
+    | inr n ↦ elim (picks_has rs left r parts.1 i) [ inl j ↦ inr j | inr m ↦ absurd (m n) ]
+  ]
+
+  pub ends : (b a : Record) → DependsOn rs b a → In a rs × In b rs
+  ends b a d = before_in rs a b (is_before rs a b d.0)
+
+  distinct : AreDistinct rs
+  distinct = records_distinct rs replay.0.1
+
+  -- where the set is closed, each step left stands behind all on which it depends
+  behind : IsClosedUnder rs D → StandBehind rs left
+  behind shut front back r a e d =
+      let r_left : In r left = subst (In r) (sym e) (in_right front (r ∷ back) r (inl refl)) in
+      let before = is_before rs a r d.0 in
+      elim (parted a (ends r a d).0) [
+        | inl i ↦ absurd ((picks_in rs left r parts.1 r_left).1 (shut a r (picks_in rs gone a parts.0 i).1 (directly d)))
+        | inr i ↦ elim (in_either front (r ∷ back) a (subst (In a) e i)) [
+          | inl j ↦ j
+          | inr (inl same) ↦ let again = subst (λ z. Before rs z r) same before in absurd (before_once rs r r distinct again again)
+          | inr (inr j) ↦ absurd (before_once rs a r distinct before (picks_order rs left r a parts.1 (subst (λ z. Before z r a) (sym e) (behind_before front back r a j))))
+        ]
+      ]
+
+  pub replays : IsAcyclic (value_at t.store) → IsClosedUnder rs D → (u : State) × Replays P query left u × IsWithoutSteps gone t u
+  replays acyclic shut =
+      let w = works P query rs t replay acyclic left of_left (picks_distinct rs left parts.1 replay.0.1) (behind shut) in
+      (w.0, w.1, without P query rs gone left t w.0 replay w.2 parted apart of_gone of_left)
+
+  module _ (u : State) (rest : Replays P query left u) where
+    -- a step left has its place among the steps left
+    place : (b : Record) → In b left → Place P query left b
+    place b i = place_of P query left u rest b i
+
+    made_by_left : (b a : Record) → In a gone → In b left → ¬ Consumes b a
+    made_by_left b a i j c =
+        let p = place b j in
+        let k = taken P p.state b p.fires in
+        let there = subst (λ z. finite.get p.state.goals z ≡ Some k.goal) (same_value k.named c.1) k.there in
+        elim (is_old query p.before p.state p.results c.0 k.goal there) [
+          | inl zero_step ↦ let number = c.2.0 in let positive = (replay.0.0 a (of_gone a i)).0 in omega arith
+          | inr m ↦
+              let m_left = front_in P query left u rest b m.0 p m.1 in
+              apart m.0 (subst (λ z. In z gone) (sym (numbered_once P query rs t replay a m.0 (of_gone a i) (of_left m.0 m_left) (sym c.2.0 ∙ m.2))) i) m_left
+        ]
+
+    bound_by_left : (b a : Record) (x : VarName) → In a gone → In b left → ¬ ReadsFrom b a x
+    bound_by_left b a x i j r =
+        let p = place b j in
+        let k = taken P p.state b p.fires in
+        let w = (effect_binds P k.goal b.act b.number (value_at p.state.store) b.effect k.effect).reads_bound x r.0 in
+        let c = bound_by query p.before p.state p.results x w.0 w.1 in
+        let v = bound_value a x r.1 in
+        let c_left = front_in P query left u rest b c.0 p c.1 in
+        apart c.0 (subst (λ z. In z gone) (sym (bound_once P query rs t replay a c.0 x v.0 w.0 (of_gone a i) (of_left c.0 c_left) v.1 c.2)) i) c_left
+
+    direct : (a b : Record) → D a → DependsOn rs b a → D b
+    direct a b da d =
+        let k = ends b a d in
+        elim (parted b k.1) [
+          | inl i ↦ (picks_in rs gone b parts.0 i).1
+          | inr j ↦ elim (picks_has rs gone a parts.0 k.0) [
+            | inl i ↦ elim d.1 [ inl c ↦ absurd (made_by_left b a i j c) | inr r ↦ absurd (bound_by_left b a r.0 i j r.1) ]
+            | inr n ↦ absurd (n da)
+          ]
+        ]
+
+    pub closed : IsClosedUnder rs D
+    closed a b da (directly d) = direct a b da d
+    closed a b da (further {b = m} f d) = direct m b (closed a m da f) d
+
+pub deletion : LawOfDeletion
+deletion P query kept t gone left accepted asked replay parts = record {
+  replays = replays P query kept t replay (λ r. In r gone) gone left parts (replay_well P query kept t accepted asked replay).acyclic;
+  closed = closed P query kept t replay (λ r. In r gone) gone left parts;
+}

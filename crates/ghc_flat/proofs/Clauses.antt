@@ -1,0 +1,172 @@
+-- What is known of the clause that is made, and the faults of a written one.
+use Rattle.std.proofs.Common.{◌≡◌, ◌≢◌, ℕ, ◌+◌, ◌<◌, ◌≤◌, List, [], ◌∷◌, ◌++◌, length, filter, ◌⊎◌, inl, inr, get_or, take, drop, refl, sym, ap, ◌∙◌, subst, arith}
+use Rattle.std.specs.Prelude.{Some, slice_get, Result, Ok, Err, IfErr, IfOk}
+use Rattle.ghc_term.specs.declared.var_name.VarName.{VarName}
+use Rattle.ghc_term.specs.declared.fault.Fault.{Fault}
+use Rattle.ghc_term.specs.declared.fault.Fault.TheVariants.{NotFlat, Repeated, Undefined, Memory}
+use Rattle.ghc_term.specs.Lists.{In}
+use Rattle.ghc_term.specs.Tree.{Tree}
+use Rattle.ghc_term.specs.Goal.{Goal, call}
+use Rattle.std.specs.Borrow.{Bor}
+use Rattle.ghc_term.specs.declared.goal_view.GoalView.{GoalView}
+use Rattle.ghc_term.specs.declared.goal_view.GoalView.TheVariants.{Call, Unify, Assign, Stream}
+use Rattle.ghc_term.specs.GoalShown.{shown}
+use Rattle.ghc_reader.specs.declared.written.Guard.{Guard}
+use Rattle.ghc_reader.specs.Written.{WrittenClause, IsWellWritten, AreNumbered, variables_of_guards, variables_of_written, is_stream}
+use Rattle.ghc_flat.specs.declared.test.Test.{Test}
+use Rattle.ghc_flat.specs.Clause.{Clause, Program}
+use Rattle.ghc_flat.specs.Flat.{IsWellMade, IsFlat, IsLinear, AreDistinct}
+use Rattle.ghc_flat.specs.Variables.{variables_of_list, variables_of_test, variables_of_tests, variables_of_goals, variables_of_clause}
+use Rattle.ghc_flat.specs.Checked.{IsMadeOf, AreMadeOf, MakeTests, IsFlatGuard, IsFlatWritten, IsLinearWritten, IsNotFlat, IsFaultless, AreFaultless, AllCalls, IsFirstCallWithout, IsClauseFault, IsFirstFault, IsRepeated}
+use Rattle.ghc_flat.specs.Counting.{Rises, IsAmong, AreAmong, MakesAmong}
+use Rattle.ghc_flat.proofs.Lists.{splits_at, next_in, in_right, in_either}
+use Rattle.ghc_flat.proofs.Rising.{rises_distinct, in_of_among}
+use Rattle.ghc_flat.proofs.Tests.{made_by, all_variables_made, not_flat_guard}
+
+-- the tests have variables of the head alone
+abbrev pub TestsAmong : ℕ → List Test → Type 0
+TestsAmong n ts = (t : Test) → In t ts → AreAmong n (variables_of_test t)
+
+among_head : (w : WrittenClause) (n : ℕ) (x : VarName) → Rises 0 (variables_of_list w.head) → n ≡ length (variables_of_list w.head) → IsAmong n x → In x (variables_of_list w.head)
+among_head w n x r e a = in_of_among (variables_of_list w.head) x r (subst (λ k. IsAmong k x) e a)
+
+pub well_made : (w : WrittenClause) (c : Clause) (n : ℕ) → IsWellWritten w → IsMadeOf w c → Rises 0 (variables_of_list w.head) → n ≡ length (variables_of_list w.head) → TestsAmong n c.tests → IsWellMade c
+well_made w c n ok m r e among = record {
+  flat = λ g x i j. subst (λ h. In x (variables_of_list h)) (sym m.head) (among_head w n x r e (among g i x j));
+  linear = subst (λ h. AreDistinct (variables_of_list h)) (sym m.head) (rises_distinct (variables_of_list w.head) 0 r);
+  numbered =
+      let same : variables_of_written w ≡ variables_of_clause c = sym (λ i. variables_of_list (m.head i) ++ all_variables_made w.guards c.tests m.tests i ++ variables_of_goals (m.body i)) in
+      subst AreNumbered same ok.numbered;
+  closed = ap (λ b. filter is_stream b) m.body ∙ ok.closed;
+}
+
+-- the clause of a written one and its tests
+pub clause_of : (v w : WrittenClause) (ts : List Test) (n : ℕ) → v ≡ w → IsWellWritten w → MakeTests v.guards ts → Rises 0 (variables_of_list w.head) → n ≡ length (variables_of_list w.head) → TestsAmong n ts
+    → IsWellMade (record { name = v.name; head = v.head; tests = ts; body = v.body })
+clause_of v w ts n same ok m r e among =
+    well_made w (record { name = v.name; head = v.head; tests = ts; body = v.body }) n ok
+    (record {
+      name = ap (λ (u : WrittenClause). u.name) same;
+      head = ap (λ (u : WrittenClause). u.head) same;
+      tests = subst (λ (u : WrittenClause). MakeTests u.guards ts) same m;
+      body = ap (λ (u : WrittenClause). u.body) same;
+    })
+    r e among
+
+pub linear_written : (w : WrittenClause) → Rises 0 (variables_of_list w.head) → IsLinearWritten w
+linear_written w r = rises_distinct (variables_of_list w.head) 0 r
+
+pub flat_written : (w : WrittenClause) (ts : List Test) (n : ℕ) → MakeTests w.guards ts → Rises 0 (variables_of_list w.head) → n ≡ length (variables_of_list w.head) → TestsAmong n ts → IsFlatWritten w
+flat_written w ts n m r e among g i =
+    let made = made_by w.guards ts m g i in
+    (made.0, made.1, λ t x j k. among_head w n x r e (among t (made.2 t j) x k))
+
+pub not_flat_written : (w : WrittenClause) (n : ℕ) → Rises 0 (variables_of_list w.head) → n ≡ length (variables_of_list w.head) → ((g : Guard) × In g w.guards × ((ts : List Test) → ¬ MakesAmong n g ts)) → IsNotFlat w
+not_flat_written w n r e p = (p.0, p.1, not_flat_guard (variables_of_list w.head) n p.0 r e p.2)
+
+-- a clause that is made well, of which each call is defined, is made of one without fault
+pub faultless : (D : List ℕ → ℕ → Type 0) (w : WrittenClause) (c : Clause) → IsMadeOf w c → IsFlat c → IsLinear c → AllCalls D c.body → IsFaultless D w
+faultless D w c m flat linear defined = record {
+  linear = subst (λ h. AreDistinct (variables_of_list h)) m.head linear;
+  flat = λ g i.
+      let made = made_by w.guards c.tests m.tests g i in
+      (made.0, made.1, λ t x j k. subst (λ h. In x (variables_of_list h)) m.head (flat t x (made.2 t j) k));
+  defined = subst (AllCalls D) m.body defined;
+}
+
+-- the calls of one more goal
+pub calls_next : (D : List ℕ → ℕ → Type 0) (gs : List Goal) (i : ℕ) (g : Goal) → i < length gs → g ≡ get_or gs i g → AllCalls D (take i gs)
+    → ((f : List ℕ) (ts : List Tree) → g ≡ call f ts → D f (length ts)) → AllCalls D (take (i + 1) gs)
+calls_next D gs i g h e before here f ts k = elim (next_in gs i g (call f ts) h e k) [ inl j ↦ before f ts j | inr s ↦ here f ts (sym s) ]
+
+pub first_undefined : (D : List ℕ → ℕ → Type 0) (gs : List Goal) (i : ℕ) (g : Goal) (f : List ℕ) (ts : List Tree) → i < length gs → g ≡ get_or gs i g → AllCalls D (take i gs)
+    → call f ts ≡ g → (¬ D f (length ts)) → IsFirstCallWithout D gs f (length ts)
+first_undefined D gs i g f ts h e before s missing = record {
+  front = take i gs;
+  arguments = ts;
+  back = drop (i + 1) gs;
+  splits = splits_at gs i g h e ∙ ap (λ u. take i gs ++ u ∷ drop (i + 1) gs) (sym s);
+  arity = refl;
+  before = before;
+  without = missing;
+}
+
+-- what the arguments of a call are
+arguments : Goal → List Tree
+arguments (call f ts) = ts
+arguments _ = []
+
+name : Goal → List ℕ
+name (call f ts) = f
+name _ = []
+
+pub same_call : (D : List ℕ → ℕ → Type 0) (f h : List ℕ) (ts us : List Tree) → call f ts ≡ call h us → D f (length ts) → D h (length us)
+unfolding arguments name
+same_call D f h ts us e d = subst (λ n. D h n) (ap length (ap arguments e)) (subst (λ k. D k (length ts)) (ap name e) d)
+
+pub call_name : (f h : List ℕ) (ts us : List Tree) → call f ts ≡ call h us → f ≡ h
+unfolding name
+call_name f h ts us e = ap name e
+
+pub call_arity : (f h : List ℕ) (ts us : List Tree) → call f ts ≡ call h us → length ts ≡ length us
+unfolding arguments
+call_arity f h ts us e = ap length (ap arguments e)
+
+-- one more clause
+pub made_more : (ws : List WrittenClause) (w : WrittenClause) (P : Program) (c : Clause) → AreMadeOf ws P → IsMadeOf w c → AreMadeOf (ws ++ w ∷ []) (P ++ c ∷ [])
+made_more [] w [] c m n = (n, tt)
+made_more [] w (d ∷ P) c m n = absurd m
+made_more (v ∷ ws) w [] c m n = absurd m
+made_more (v ∷ ws) w (d ∷ P) c m n = (m.0, made_more ws w P c m.1 n)
+
+-- a written clause of a program has its clause there
+pub made_clause : (ws : List WrittenClause) (P : Program) → AreMadeOf ws P → (w : WrittenClause) → In w ws → (c : Clause) × In c P × IsMadeOf w c
+made_clause [] [] m w i = absurd i
+made_clause [] (d ∷ P) m w i = absurd m
+made_clause (v ∷ ws) [] m w i = absurd m
+made_clause (v ∷ ws) (d ∷ P) m w (inl e) = (d, inl refl, subst (λ u. IsMadeOf u d) (sym e) m.0)
+made_clause (v ∷ ws) (d ∷ P) m w (inr i) = let r = made_clause ws P m.1 w i in (r.0, inr r.1, r.2)
+
+pub clause_made : (ws : List WrittenClause) (P : Program) → AreMadeOf ws P → (c : Clause) → In c P → (w : WrittenClause) × In w ws × IsMadeOf w c
+clause_made [] [] m c i = absurd i
+clause_made [] (d ∷ P) m c i = absurd m
+clause_made (v ∷ ws) [] m c i = absurd m
+clause_made (v ∷ ws) (d ∷ P) m c (inl e) = (v, inl refl, subst (IsMadeOf v) (sym e) m.0)
+clause_made (v ∷ ws) (d ∷ P) m c (inr i) = let r = clause_made ws P m.1 c i in (r.0, inr r.1, r.2)
+
+-- clauses that are sound are made of ones without fault
+pub all_faultless : (D : List ℕ → ℕ → Type 0) (ws : List WrittenClause) (P : Program) → AreMadeOf ws P → ((c : Clause) → In c P → IsWellMade c × AllCalls D c.body) → AreFaultless D ws
+all_faultless D ws P m sound w i =
+    let r = made_clause ws P m w i in
+    let s = sound r.0 r.1 in
+    faultless D w r.0 r.2 s.0.flat s.0.linear s.1
+
+-- what is lent as no call is none
+pub not_a_call : (v : GoalView) (f : List ℕ) (ts : List Tree) → ((g : Bor (List ℕ)) (us : Bor (List Tree)) → v ≢ Call g us) → shown v ≡ call f ts → ⊥
+not_a_call (Call g us) f ts h e = h g us refl
+not_a_call (Unify t u) f ts h e = cc
+not_a_call (Assign t u) f ts h e = cc
+not_a_call (Stream k x) f ts h e = cc
+
+-- a fault that is passed on
+pub passed : {T : Type 0} (F : Fault → Type 0) (r : Result T Fault) (d e : Fault) → r ≡ Err d → d ≡ e → F e → IfErr r F
+passed F r d e p q f = subst (λ x. IfErr x F) (sym (p ∙ ap Err q)) f
+
+-- the fault of the clause behind the ones that were checked
+pub fault_behind : (D : List ℕ → ℕ → Type 0) (ws : List WrittenClause) (yielded : List WrittenClause) (P : Program) (w : WrittenClause) (m : ℕ) (e : Fault) → yielded ≡ take (length yielded) ws → length yielded < length ws → w ≡ get_or ws (length yielded) w
+    → AreMadeOf yielded P → ((c : Clause) → In c P → IsWellMade c × AllCalls D c.body) → m ≡ length yielded + 1 → IsClauseFault D m w e → IsFirstFault D ws e
+fault_behind D ws yielded P w m e same h at made sound place f = record {
+  front = yielded;
+  clause = w;
+  back = drop (length yielded + 1) ws;
+  splits = splits_at ws (length yielded) w h at ∙ ap (λ l. l ++ w ∷ drop (length yielded + 1) ws) (sym same);
+  before = all_faultless D yielded P made sound;
+  fault = subst (λ k. IsClauseFault D k w e) place f;
+}
+
+-- one sound clause more
+pub sound_more : (D : List ℕ → ℕ → Type 0) (P : Program) (c : Clause) → ((d : Clause) → In d P → IsWellMade d × AllCalls D d.body) → IsWellMade c → AllCalls D c.body → (d : Clause) → In d (P ++ c ∷ []) → IsWellMade d × AllCalls D d.body
+sound_more D P c all ok calls d i = elim (in_either P (c ∷ []) d i) [
+  | inl j ↦ all d j
+  | inr j ↦ elim j [ inl s ↦ (subst IsWellMade (sym s) ok, subst (λ (u : Clause). AllCalls D u.body) (sym s) calls) | inr none ↦ absurd none ]
+]

@@ -1,0 +1,59 @@
+use Rattle.std.proofs.Common.{◌≡◌, ◌∙◌, [], ◌∷◌, List, ℕ, ap, sym, subst, refl, inl, inr, length}
+use Rattle.std.proofs.lemmas.Result.{err_from_is_err_and}
+use Rattle.ghc_term.specs.declared.fault.Fault.{Fault}
+use Rattle.ghc_term.specs.declared.fault.Fault.TheVariants.{Memory}
+use Rattle.ghc_term.specs.Lists.{In}
+use Rattle.ghc_reader.specs.declared.written.Guard.{Guard}
+use Rattle.ghc_reader.specs.Written.{WrittenClause}
+use Rattle.ghc_flat.specs.declared.test.Test.{Test}
+use Rattle.ghc_flat.specs.Variables.{variables_of_list}
+use Rattle.std.proofs.Common.{◌⊎◌}
+use Rattle.ghc_flat.specs.Checked.{IsClauseFault, IsFirstCallWithout, MakeTests}
+use Rattle.ghc_flat.specs.Counting.{MakesAmong, Rises}
+use Rattle.ghc_flat.specs.Index.{Knows}
+use Rattle.ghc_flat.proofs.Clauses.{passed, linear_written, flat_written, not_flat_written, clause_of}
+use Rattle.ghc_flat.proofs.checker.check_clause.Goals as goal
+
+pub returns-in_err-tests-clause-refused : goal.returns-in_err-tests-clause-refused
+returns-in_err-tests-clause-refused c =
+    let p = err_from_is_err_and c.from_residual-in_err-tests.result c.from_residual-in_err-tests.ensures.1 in
+    let n = c.in_ok-head_variables.head_variables in
+    let rising = c.in_ok-head_variables.ensures.rising in
+    let count = c.in_ok-head_variables.ensures.count in
+    passed (λ e. (e ≡ Memory) ⊎ IsClauseFault (Knows c.args.index.now) c.args.number c.args.written e) c.from_residual-in_err-tests.result p.0 c.in_err-tests.field-0.0 p.1 p.2
+    (elim c.in_err-tests.ensures.refused [
+      | inl m ↦ inl m
+      | inr q ↦
+          let bad = subst (λ (w : WrittenClause). (g : Guard) × In g w.guards × ((ts : List Test) → ¬ MakesAmong n g ts)) c.written.view_is q.1 in
+          inr (inr (inl (linear_written c.args.written rising, not_flat_written c.args.written n rising count bad, q.0)))
+    ])
+
+pub returns-in_err-check_calls-clause-refused : goal.returns-in_err-check_calls-clause-refused
+returns-in_err-check_calls-clause-refused c =
+    let p = err_from_is_err_and c.from_residual-in_err-check_calls.result c.from_residual-in_err-check_calls.ensures.1 in
+    let n = c.in_ok-head_variables.head_variables in
+    let rising = c.in_ok-head_variables.ensures.rising in
+    let count = c.in_ok-head_variables.ensures.count in
+    let made = subst (λ (w : WrittenClause). MakeTests w.guards c.in_ok-tests.tests.items) c.written.view_is c.in_ok-tests.ensures.made in
+    let body = c.deref.ensures.value ∙ ap (λ (w : WrittenClause). w.body) c.written.view_is in
+    passed (λ e. (e ≡ Memory) ⊎ IsClauseFault (Knows c.args.index.now) c.args.number c.args.written e) c.from_residual-in_err-check_calls.result p.0 c.in_err-check_calls.field-0.0 p.1 p.2
+    (elim c.in_err-check_calls.ensures.refused [
+      | inl m ↦ inl m
+      | inr q ↦ inr (inr (inr (
+        linear_written c.args.written rising,
+        flat_written c.args.written c.in_ok-tests.tests.items n made rising count c.in_ok-tests.ensures.among,
+        (q.0, q.1, subst (λ b. IsFirstCallWithout (Knows c.args.index.now) b q.0 q.1) body q.2, q.3),
+      )))
+    ])
+
+pub invariant_of-result : goal.invariant_of-result
+invariant_of-result c =
+    let n = c.in_ok-head_variables.head_variables in (
+      clause_of _ c.args.written c.in_ok-tests.tests.items n c.written.view_is c.requires c.in_ok-tests.ensures.made c.in_ok-head_variables.ensures.rising c.in_ok-head_variables.ensures.count c.in_ok-tests.ensures.among,
+      c.in_ok-head_variables.ensures.count ∙ ap (λ (w : WrittenClause). length (variables_of_list w.head)) (sym c.written.view_is),
+      subst (λ (w : WrittenClause). Rises 0 (variables_of_list w.head)) (sym c.written.view_is) c.in_ok-head_variables.ensures.rising,
+    )
+
+pub returns-clause-well_made : goal.returns-clause-well_made
+returns-clause-well_made c =
+    clause_of _ c.args.written c.in_ok-tests.tests.items c.in_ok-head_variables.head_variables c.written.view_is c.requires c.in_ok-tests.ensures.made c.in_ok-head_variables.ensures.rising c.in_ok-head_variables.ensures.count c.in_ok-tests.ensures.among

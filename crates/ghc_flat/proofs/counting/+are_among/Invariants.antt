@@ -1,0 +1,14 @@
+use Rattle.std.proofs.Common.{◌≤◌}
+use Rattle.std.specs.Prelude.{◌↔◌}
+use Rattle.ghc_term.specs.ExpressionView.{depth_of}
+use Rattle.ghc_flat.specs.Variables.{leaf_variables}
+use Rattle.ghc_flat.specs.Counting.{AreAmong}
+use Rattle.ghc_flat.proofs.counting.+are_among.Given as goal
+
+-- the variables of the whole are among the first ones where those of the rest are
+abbrev pub invariant-loop-term : goal.invariant-loop-term
+invariant-loop-term l =
+    (depth_of l.part ≤ depth_of l.fn.expression) × (AreAmong l.count (leaf_variables l.part) ↔ AreAmong l.count (leaf_variables l.fn.expression))
+
+abbrev pub decreases-loop-term : goal.decreases-loop-term
+decreases-loop-term l = depth_of l.part

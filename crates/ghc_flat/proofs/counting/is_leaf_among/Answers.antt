@@ -1,0 +1,13 @@
+use Rattle.std.proofs.Common.{subst, inl}
+use Rattle.std.specs.Prelude.{IsTrue, ◌↔◌}
+use Rattle.ghc_term.specs.Expression.{leaf}
+use Rattle.ghc_term.specs.Tree.{variable}
+use Rattle.ghc_flat.specs.Variables.{leaf_variables}
+use Rattle.ghc_flat.specs.Counting.{AreAmong}
+use Rattle.ghc_flat.proofs.Tests.{one_among}
+use Rattle.ghc_flat.proofs.counting.is_leaf_among.Goals as goal
+
+pub returns-in-Var : goal.returns-in-Var
+returns-in-Var c =
+    subst (λ t. IsTrue c.is_among.result ↔ AreAmong c.args.count (leaf_variables (leaf t))) c.in-Var.ensures.shown
+    (one_among c.args.count c.in-Var.x c.is_among.result c.is_among.ensures)

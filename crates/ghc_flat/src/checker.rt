@@ -1,0 +1,143 @@
+// The checker: from a written program and a query to the program, or the first fault.
+ghost use Rattle.std.specs.Prelude.{◌≡◌, ◌⊎◌, ℕ, List, [], length, IfOk, IfErr, OnOk, MatchResult};
+ghost use Rattle.ghc_term.specs.declared.fault.Fault.{Fault};
+ghost use Rattle.ghc_reader.specs.Written.{AreWellWritten, IsWellWritten};
+ghost use Rattle.ghc_flat.specs.Clause.{Program};
+ghost use Rattle.ghc_flat.specs.Flat.{IsWellMade};
+ghost use Rattle.ghc_flat.specs.Variables.{variables_of_list};
+ghost use Rattle.ghc_flat.specs.Checked.{IsMadeOf, AreMadeOf, IsAcceptedAs, IsRepeated, AllCalls, IsFirstCallWithout, IsClauseFault, IsFirstFault, IsFault};
+ghost use Rattle.ghc_flat.specs.Counting.{Rises};
+ghost use Rattle.ghc_flat.specs.Index.{Knows, AreSound};
+
+use crate::clause::Clause;
+use crate::counting::count_terms;
+use crate::guards::tests_of_guards;
+use crate::index::Index;
+use crate::program::Program;
+use ghc_reader::{Query, Source, WrittenClause};
+use ghc_term::{Fault, Goal, GoalView, Name};
+use std::alloc::Global;
+
+/// The program that is written, where it and the query are accepted, or else the first fault, by clauses in order: a
+/// variable that stands twice in the head, a guard that is not flat, the first undefined call of the body; then the
+/// first undefined call of the query. `Memory` comes for want of memory alone, and for a number over 32 bits. Time and
+/// memory grow with the number of symbols.
+pub fn check(alloc: Global, source: Source, query: &Query) -> Result<Program, Fault>
+    ensures accepted { IfOk result (IsAcceptedAs source query.now.goals) }
+    ensures refused { IfErr result (λ e. (e ≡ Fault.Memory) ⊎ IsFault source query.now.goals e) }
+    ensures only_accepted { (P : Program) → IsAcceptedAs source query.now.goals P → MatchResult result (λ p. p ≡ P) (λ e. e ≡ Fault.Memory) }
+    ensures only_refused { (e : Fault) → IsFault source query.now.goals e → MatchResult result (λ _. ⊥) (λ f. (f ≡ Fault.Memory) ⊎ (f ≡ e)) }
+{
+    answer(alloc, source, query)
+}
+
+// The program, or the first fault.
+fn answer(alloc: Global, source: Source, query: &Query) -> Result<Program, Fault>
+    ensures accepted { IfOk result (IsAcceptedAs source query.now.goals) }
+    ensures refused { IfErr result (λ e. (e ≡ Fault.Memory) ⊎ IsFault source query.now.goals e) }
+{
+    let index = Index::of(alloc, source.clauses())?;
+    let clauses = check_clauses(alloc, source.into_clauses(), &index)?;
+    check_calls(query.goals(), &index)?;
+    Ok(Program { clauses, index })
+}
+
+// The clauses, or the fault of the first with which something is wrong.
+fn check_clauses(
+    alloc: Global,
+    written: Vec<WrittenClause>,
+    index: &Index,
+) -> Result<Vec<Clause>, Fault>
+    requires { AreWellWritten written.items }
+    ensures made { IfOk result (λ clauses. AreMadeOf written.items clauses.items) }
+    ensures defined { IfOk result (λ clauses. AreSound index.now clauses.items) }
+    ensures refused { IfErr result (λ e. (e ≡ Fault.Memory) ⊎ IsFirstFault (Knows index.now) written.items e) }
+{
+    let mut clauses = Vec::new(alloc);
+    let mut number: u32 = 0;
+    for clause in written {
+        number = number.checked_add(1).ok_or(Fault::Memory)?;
+        let checked = check_clause(alloc, clause, number, index)?;
+        clauses.push(checked)?;
+    }
+    Ok(clauses)
+}
+
+// The clause of this number, or its fault.
+fn check_clause(
+    alloc: Global,
+    written: WrittenClause,
+    number: u32,
+    index: &Index,
+) -> Result<Clause, Fault>
+    requires { IsWellWritten written }
+    ensures made { IfOk result (IsMadeOf written) }
+    ensures well_made { IfOk result IsWellMade }
+    ensures defined { IfOk result (λ c. AllCalls (Knows index.now) c.body) }
+    ensures refused { IfErr result (λ e. (e ≡ Fault.Memory) ⊎ IsClauseFault (Knows index.now) number written e) }
+{
+    let head_variables = check_head(&written, number)?;
+    let WrittenClause {
+        name,
+        head,
+        guards,
+        body,
+        variables: _variables,
+    } = written;
+    let tests = tests_of_guards(alloc, guards, head_variables, number)?;
+    check_calls(&body, index)?;
+    Ok(Clause {
+        name,
+        head,
+        tests,
+        body,
+        head_variables,
+    })
+}
+
+// How many variables stand in the head of the clause of this number, where none stands there twice.
+fn check_head(written: &WrittenClause, number: u32) -> Result<u32, Fault>
+    requires { IsWellWritten written.now }
+    ensures count { IfOk result (λ n. n ≡ length (variables_of_list written.now.head)) }
+    ensures rising { IfOk result (λ n. Rises 0 (variables_of_list written.now.head)) }
+    ensures refused { IfErr result (λ e. (e ≡ Fault.Memory) ⊎ ((v : List ℕ) × IsRepeated written.now v × (e ≡ Fault.Repeated number v))) }
+{
+    match count_terms(&written.head, 0) {
+        Ok(count) => Ok(count),
+        Err(x) => {
+            let variable = written.variables[x.place as usize - 1].share()?;
+            Err(Fault::Repeated {
+                clause: number,
+                variable,
+            })
+        }
+    }
+}
+
+// Fails with the first of the goals, from the left, that is a call of which the index knows no clause.
+fn check_calls(goals: &[Goal], index: &Index) -> Result<(), Fault>
+    ensures defined { OnOk result (AllCalls (Knows index.now) goals.now) }
+    ensures refused { IfErr result (λ e. (e ≡ Fault.Memory) ⊎ ((f : List ℕ) × (n : ℕ) × IsFirstCallWithout (Knows index.now) goals.now f n × (e ≡ Fault.Undefined f n))) }
+{
+    for goal in goals {
+        if let GoalView::Call(name, arguments) = goal.view() {
+            if index.numbers(name, arguments.len()).is_empty() {
+                return Err(undefined(name, arguments.len()));
+            }
+        }
+    }
+    Ok(())
+}
+
+// The fault of a call of this name with so many arguments.
+fn undefined(name: &Name, arity: usize) -> Fault
+    ensures { (result ≡ Fault.Memory) ⊎ (result ≡ Fault.Undefined name.now arity) }
+{
+    let Ok(arity) = u32::try_from(arity) else {
+        return Fault::Memory;
+    };
+    match name.share() {
+        Ok(name) => Fault::Undefined { name, arity },
+        Err(_) => Fault::Memory,
+    }
+}

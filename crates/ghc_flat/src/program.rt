@@ -1,0 +1,61 @@
+// Programs: clauses in order, and which of them are for a call.
+ghost use Rattle.std.specs.Prelude.{◌≡◌, IfSome, IfNone};
+
+use crate::clause::Clause;
+use crate::index::Index;
+use ghc_term::Name;
+use std::marker::Model;
+
+/// A program: flat, linear and defined clauses, numbered from 1.
+#[derive(Drop)]
+pub struct Program {
+    pub(crate) clauses: Vec<Clause>,
+    pub(crate) index: Index,
+}
+
+impl Model for Program {
+    ghost use Rattle.ghc_flat.specs.Clause.{Program as program};
+    ghost use Rattle.ghc_flat.specs.ClauseCode.{program_code};
+
+    ghost Value = { program };
+
+    ghost coded = { program_code };
+
+    ghost use Rattle.ghc_flat.specs.Flat.{IsProgram};
+    ghost use Rattle.ghc_flat.specs.Index.{IsIndexOf};
+    ghost use Rattle.ghc_flat.specs.Numbers.{keys_of_program};
+
+    ghost view = { λ p. p.clauses.items };
+
+    ghost invariant = { λ p. IsProgram p.clauses.items × IsIndexOf (keys_of_program p.clauses.items) p.index };
+}
+
+impl Program {
+    ghost use Rattle.ghc_flat.specs.Clause.{Clause as clause, IsClause};
+    ghost use Rattle.ghc_flat.specs.Flat.{IsProgram};
+    ghost use Rattle.ghc_flat.specs.Numbers.{AreNumbersFor};
+
+    /// Its clauses, in order.
+    pub fn clauses(&self) -> &[Clause]
+        ensures same { result.now ≡ self.now }
+        ensures program { IsProgram self.now }
+    {
+        &self.clauses
+    }
+
+    /// The clause of this number, from 1 on: one step.
+    pub fn clause(&self, number: u32) -> Option<&Clause>
+        ensures found { IfSome result (λ c. IsClause self.now number c.now) }
+        ensures none { IfNone result ((c : clause) → ¬ IsClause self.now number c) }
+    {
+        let index = number.checked_sub(1)?;
+        self.clauses.get(index as usize)
+    }
+
+    /// The numbers of the clauses for the calls of the name with so many arguments, in order: two look-ups.
+    pub fn clauses_for(&self, name: &Name, arity: usize) -> &[u32]
+        ensures { AreNumbersFor self.now name.now arity result.now }
+    {
+        self.index.numbers(name, arity)
+    }
+}

@@ -1,0 +1,101 @@
+-- In a head without a variable twice, each variable stands at one position.
+use Rattle.std.proofs.Common.{◌≡◌, ℕ, zero, suc, List, [], ◌∷◌, ◌++◌, refl, sym, ap, subst, inl, inr}
+use Rattle.std.specs.Prelude.{Some, None, slice_get}
+use Rattle.ghc_term.specs.declared.var_name.VarName.{VarName}
+use Rattle.ghc_term.specs.Tree.{Tree, variable, integer, node, Trees, none, more, list_of, trees}
+use Rattle.ghc_term.specs.Lists.{In}
+use Rattle.ghc_term.proofs.Searches.{In_append, In_append_right}
+use Rattle.ghc_flat.specs.Flat.{AreDistinct}
+use Rattle.ghc_flat.specs.Variables.{variables, variables_of_all, variables_of_list}
+use Rattle.ghc_match.specs.Position.{At, here, down, unbound}
+use Rattle.ghc_match.proofs.Places.{written}
+
+-- at p within the tree stands the variable y
+abbrev Stands : Tree → List ℕ → VarName → Type 0
+Stands t [] y = t ≡ variable y
+Stands t (i ∷ p) y = (f : List ℕ) × (us : Trees) × (t ≡ node f us) × At unbound (list_of us) (i ∷ p) (variable y)
+
+-- a position among arguments begins with the number of one of them
+within : {hs : List Tree} {i : ℕ} {p : List ℕ} {y : VarName} → At unbound hs (i ∷ p) (variable y) → (t : Tree) × (slice_get hs i ≡ Some t) × Stands t p y
+within (here {t = t} e) = (t, e, refl)
+within {y = y} (down {p = p} {f = f} {us = us} {t = t} e l a) = (t, e, inside p a (written l)) where
+  inside : (p : List ℕ) → At unbound (list_of us) p (variable y) → t ≡ node f us → Stands t p y
+  inside [] a s = elim a [ ]
+  inside (j ∷ q) a s = (f, us, s, a)
+
+abbrev At_number : Trees → ℕ → List ℕ → VarName → Type 0
+At_number us i p y = (t : Tree) × (slice_get (list_of us) i ≡ Some t) × Stands t p y
+
+mutual
+  -- what stands in the tree is one of its variables
+  occurs : (t : Tree) (p : List ℕ) (y : VarName) → Stands t p y → In y (variables t)
+  occurs (variable x) [] y s = let same : x ≡ y = cc in inl (sym same)
+  occurs (variable x) (i ∷ p) y s = let no : variable x ≡ node s.0 s.1 = s.2 in cc
+  occurs (integer k) [] y s = cc
+  occurs (integer k) (i ∷ p) y s = let no : integer k ≡ node s.0 s.1 = s.2 in cc
+  occurs (node f us) [] y s = cc
+  occurs (node f us) (i ∷ p) y s = let same : s.1 ≡ us = let e = s.2 in cc in occurs_all us i p y (within (subst (λ w. At unbound (list_of w) (i ∷ p) (variable y)) same s.3))
+
+  occurs_all : (us : Trees) (i : ℕ) (p : List ℕ) (y : VarName) → At_number us i p y → In y (variables_of_all us)
+  occurs_all none i p y a = let no : None ≡ Some a.0 = a.1 in cc
+  occurs_all (more t ts) zero p y a = let same : a.0 ≡ t = let e = a.1 in cc in In_append (variables t) (variables_of_all ts) y (occurs t p y (subst (λ w. Stands w p y) same a.2))
+  occurs_all (more t ts) (suc i) p y a = In_append_right (variables t) (variables_of_all ts) y (occurs_all ts i p y a)
+
+-- parts of a list without an element twice
+left_distinct : (xs ys : List VarName) → AreDistinct (xs ++ ys) → AreDistinct xs
+left_distinct [] ys d = tt
+left_distinct (x ∷ xs) ys d = ((λ i. d.0 (In_append xs ys x i)), left_distinct xs ys d.1)
+
+right_distinct : (xs ys : List VarName) → AreDistinct (xs ++ ys) → AreDistinct ys
+right_distinct [] ys d = d
+right_distinct (x ∷ xs) ys d = right_distinct xs ys d.1
+
+not_both : (xs ys : List VarName) (y : VarName) → AreDistinct (xs ++ ys) → In y xs → ¬ In y ys
+not_both [] ys y d i j = i
+not_both (x ∷ xs) ys y d (inl e) j = d.0 (In_append_right xs ys x (subst (λ z. In z ys) e j))
+not_both (x ∷ xs) ys y d (inr i) j = not_both xs ys y d.1 i j
+
+numbered : {i j : ℕ} {p q : List ℕ} → i ∷ p ≡ j ∷ q → suc i ∷ p ≡ suc j ∷ q
+numbered e = cc
+
+mutual
+  tree_once : (t : Tree) (p q : List ℕ) (y : VarName) → AreDistinct (variables t) → Stands t p y → Stands t q y → p ≡ q
+  tree_once (variable x) [] [] y d a b = refl
+  tree_once (variable x) (i ∷ p) q y d a b = let no : variable x ≡ node a.0 a.1 = a.2 in cc
+  tree_once (variable x) [] (j ∷ q) y d a b = let no : variable x ≡ node b.0 b.1 = b.2 in cc
+  tree_once (integer k) [] q y d a b = cc
+  tree_once (integer k) (i ∷ p) q y d a b = let no : integer k ≡ node a.0 a.1 = a.2 in cc
+  tree_once (node f us) [] q y d a b = cc
+  tree_once (node f us) (i ∷ p) [] y d a b = cc
+  tree_once (node f us) (i ∷ p) (j ∷ q) y d a b =
+      let one : a.1 ≡ us = let e = a.2 in cc in
+      let two : b.1 ≡ us = let e = b.2 in cc in
+      all_once us i j p q y d (within (subst (λ w. At unbound (list_of w) (i ∷ p) (variable y)) one a.3)) (within (subst (λ w. At unbound (list_of w) (j ∷ q) (variable y)) two b.3))
+
+  all_once : (us : Trees) (i j : ℕ) (p q : List ℕ) (y : VarName) → AreDistinct (variables_of_all us) → At_number us i p y → At_number us j q y → i ∷ p ≡ j ∷ q
+  all_once none i j p q y d a b = let no : None ≡ Some a.0 = a.1 in cc
+  all_once (more t ts) zero zero p q y d a b =
+      let one : a.0 ≡ t = let e = a.1 in cc in
+      let two : b.0 ≡ t = let e = b.1 in cc in
+      ap (λ l. 0 ∷ l) (tree_once t p q y (left_distinct (variables t) (variables_of_all ts) d) (subst (λ w. Stands w p y) one a.2) (subst (λ w. Stands w q y) two b.2))
+  all_once (more t ts) zero (suc j) p q y d a b = absurd (not_both (variables t) (variables_of_all ts) y d
+      (let one : a.0 ≡ t = let e = a.1 in cc in occurs t p y (subst (λ w. Stands w p y) one a.2)) (occurs_all ts j q y b))
+  all_once (more t ts) (suc i) zero p q y d a b = absurd (not_both (variables t) (variables_of_all ts) y d
+      (let two : b.0 ≡ t = let e = b.1 in cc in occurs t q y (subst (λ w. Stands w q y) two b.2)) (occurs_all ts i p y a))
+  all_once (more t ts) (suc i) (suc j) p q y d a b = numbered (all_once ts i j p q y (right_distinct (variables t) (variables_of_all ts) d) a b)
+
+list_and_back : (hs : List Tree) → list_of (trees hs) ≡ hs
+list_and_back [] = refl
+list_and_back (h ∷ hs) = ap (λ l. h ∷ l) (list_and_back hs)
+
+same_variables : (hs : List Tree) → variables_of_list hs ≡ variables_of_all (trees hs)
+same_variables [] = refl
+same_variables (h ∷ hs) = ap (λ l. variables h ++ l) (same_variables hs)
+
+pub one_position : (hs : List Tree) (p q : List ℕ) (y : VarName) → AreDistinct (variables_of_list hs) → At unbound hs p (variable y) → At unbound hs q (variable y) → p ≡ q
+one_position hs [] q y d a b = elim a [ ]
+one_position hs (i ∷ p) [] y d a b = elim b [ ]
+one_position hs (i ∷ p) (j ∷ q) y d a b =
+    let back = sym (list_and_back hs) in
+    all_once (trees hs) i j p q y (subst AreDistinct (same_variables hs) d)
+    (within (subst (λ w. At unbound w (i ∷ p) (variable y)) back a)) (within (subst (λ w. At unbound w (j ∷ q) (variable y)) back b))

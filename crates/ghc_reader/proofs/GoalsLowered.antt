@@ -1,0 +1,140 @@
+-- What goals say, and which variables they meet.
+use Rattle.std.proofs.Common.{◌≡◌, ℕ, ◌+◌, ◌<◌, List, [], ◌∷◌, ◌++◌, length, map, take, get_or, refl, sym, ap, ◌∙◌, subst, append_assoc, Bool, true, false, cond, Option, Some, None, Box, Global, Vec, vec_len, arith, inl, inr, ◌⊎◌, filter, slice_get}
+use Rattle.std.specs.Prelude.{◌==◌, ◌&&◌, not, MatchOption, bytes_eq, nat_eq, codes}
+use Rattle.std.proofs.lemmas.List.{append-nil, length_push}
+use Rattle.std.proofs.lemmas.List.Elements.{filter-append}
+use Rattle.std.proofs.lemmas.Bool.Decides.{nat_tests}
+use Rattle.ghc_term.specs.declared.var_name.VarName.{VarName}
+use Rattle.ghc_term.specs.Tree as term
+use Rattle.ghc_term.specs.Expression.{Expression}
+use Rattle.ghc_term.specs.Goal as goal
+use Rattle.ghc_term.specs.Variables.{variables, variables_of_expression, variables_of_goal, variables_of_goals}
+use Rattle.ghc_reader.specs.declared.source.SourceTerm.{SourceTerm}
+use Rattle.ghc_reader.specs.declared.source.SourceTerm.TheViews as w
+use Rattle.ghc_reader.specs.declared.source.SourceExpression.{SourceExpression}
+use Rattle.ghc_reader.specs.declared.source.SourceCall.{SourceCall}
+use Rattle.ghc_reader.specs.declared.source.SourceGoal.{SourceGoal}
+use Rattle.ghc_reader.specs.declared.source.SourceGoal.TheVariants as source
+use Rattle.ghc_reader.specs.Source.{Goal, call, unify, assign, cells}
+use Rattle.ghc_reader.specs.Views.{view, views, value_view, goal_view, goal_views}
+use Rattle.ghc_reader.specs.Written.{is_stream}
+use Rattle.ghc_reader.specs.Lowered.{Names, IsCalled, Says, SaysValue, SaysGoal, SaysAsked, Each, AreCounted, is_true, doing, variable_of, first_variable, tail_of}
+use Rattle.ghc_reader.specs.Reserved.{count}
+use Rattle.ghc_reader.proofs.Misplaced.{count_views}
+use Rattle.ghc_reader.specs.Scope.{MeetsAll, Counts}
+use Rattle.ghc_reader.proofs.Names.{get_push}
+use Rattle.ghc_reader.proofs.Scopes.{Grows, grows, met_also, called_still}
+use Rattle.ghc_reader.proofs.TermsLowered.{says_still, says_all_still}
+use Rattle.ghc_reader.proofs.ExpressionsLowered.{value_still, mapped_more}
+use Rattle.ghc_reader.proofs.Views.{view_list}
+
+-- a list with elements is no variable
+pub list_has_no_variable : (a : Vec SourceTerm Global) (b : Box SourceTerm Global) → false ≡ (vec_len a == 0) → variable_of (view (w.List a b)) ≡ None
+list_has_no_variable a b e = ap variable_of (view_list a b) ∙ by_items a.items (e ∙ ap (λ n. n == 0) a.ok.0)
+  where
+    by_items : (ts : List SourceTerm) → false ≡ (length ts == 0) → variable_of (cells (views ts) (view b.value)) ≡ None
+    by_items [] e = cc
+    by_items (t ∷ ts) e = refl
+
+pub goal_still : (g : Goal) (a b : Names) (u : goal.Goal) → Grows a b → SaysGoal a g u → SaysGoal b g u
+goal_still (call c) a b u g h = (h.0, h.1, says_all_still c.arguments a b h.0 g h.2)
+goal_still (unify s t) a b u g h = (h.0, h.1, h.2, says_still s a b h.0 g h.3, says_still t a b h.1 g h.4)
+goal_still (assign v e) a b u g h = (h.0, h.1, h.2, called_still a b v h.0 g h.3, value_still e a b h.1 g h.4)
+
+-- an equation says what its sides say
+pub unify_says : (g : SourceGoal) (s t : SourceTerm) (b c : Names) (l r : term.Tree) (u : goal.Goal) → g ≡ source.Unify s t → u ≡ goal.unify l r → Says b (view s) l → MeetsAll b (variables r) c → Says c (view t) r → SaysGoal c (goal_view g) u
+unify_says g s t b c l r u is made h met k = subst (λ x. SaysGoal c (goal_view x) u) (sym is) (l, r, made, says_still (view s) b c l (grows (variables r) b c met) h, k)
+
+pub unify_meets : (a b c : Names) (l r : term.Tree) (u : goal.Goal) → u ≡ goal.unify l r → MeetsAll a (variables l) b → MeetsAll b (variables r) c → MeetsAll a (variables_of_goal u) c
+unify_meets a b c l r u made m n = subst (λ x. MeetsAll a (variables_of_goal x) c) (sym made) (met_also (variables l) (variables r) a b c m n)
+
+-- an assignment says what its sides say
+pub assign_says : (g : SourceGoal) (v : List ℕ) (e : SourceExpression) (b c : Names) (x : VarName) (left : term.Tree) (r : Expression) (u : goal.Goal) → g ≡ source.Assign v e → u ≡ goal.assign left r → left ≡ term.variable x → IsCalled b v x → MeetsAll b (variables_of_expression r) c → SaysValue c (value_view e) r → SaysGoal c (goal_view g) u
+assign_says g v e b c x left r u is made at h met k =
+    subst (λ l. SaysGoal c (goal_view l) u) (sym is) (x, r, made ∙ ap (λ l. goal.assign l r) at, called_still b c v x (grows (variables_of_expression r) b c met) h, k)
+
+pub each_still : {X Y : Type 0} (R S : X → Y → Type 0) → ((x : X) (y : Y) → R x y → S x y) → (xs : List X) (ys : List Y) → Each R xs ys → Each S xs ys
+each_still R S f [] [] h = tt
+each_still R S f [] (y ∷ ys) h = absurd h
+each_still R S f (x ∷ xs) [] h = absurd h
+each_still R S f (x ∷ xs) (y ∷ ys) h = (f x y h.0, each_still R S f xs ys h.1)
+
+pub each_push : {X Y : Type 0} (R : X → Y → Type 0) (xs : List X) (ys : List Y) (x : X) (y : Y) → Each R xs ys → R x y → Each R (xs ++ x ∷ []) (ys ++ y ∷ [])
+each_push R [] [] x y h k = (k, tt)
+each_push R [] (y' ∷ ys) x y h k = absurd h
+each_push R (x' ∷ xs) [] x y h k = absurd h
+each_push R (x' ∷ xs) (y' ∷ ys) x y h k = (h.0, each_push R xs ys x y h.1 k)
+
+pub variables_goal_push : (gs : List goal.Goal) (g : goal.Goal) → variables_of_goals (gs ++ g ∷ []) ≡ variables_of_goals gs ++ variables_of_goal g
+variables_goal_push [] g = append-nil (variables_of_goal g)
+variables_goal_push (h ∷ gs) g = ap (λ xs. variables_of_goal h ++ xs) (variables_goal_push gs g) ∙ sym (append_assoc (variables_of_goal h) (variables_of_goals gs) (variables_of_goal g))
+
+-- one goal more is among those that do something, but where it is `true`
+doing_more : (goals : List SourceGoal) (i : ℕ) (g : SourceGoal) (b : Bool) → i < length goals → g ≡ get_or goals i g → is_true (goal_view g) ≡ b → doing (goal_views (take (i + 1) goals)) ≡ doing (goal_views (take i goals)) ++ cond (not b) (goal_view g ∷ []) []
+doing_more goals i g b less is e =
+    ap doing (mapped_more goal_view goals i g less is) ∙ filter-append (λ h. not (is_true h)) (goal_views (take i goals)) (goal_view g ∷ [])
+    ∙ ap (λ c. doing (goal_views (take i goals)) ++ cond (not c) (goal_view g ∷ []) []) e
+
+-- what holds of the goals so far, under the names that are known then
+pub goals_skipped : (R : Goal → goal.Goal → Type 0) (goals : List SourceGoal) (i : ℕ) (g : SourceGoal) (us : List goal.Goal) → i < length goals → g ≡ get_or goals i g → is_true (goal_view g) ≡ true → Each R (doing (goal_views (take i goals))) us → Each R (doing (goal_views (take (i + 1) goals))) us
+goals_skipped R goals i g us less is e h =
+    subst (λ l. Each R l us) (sym (doing_more goals i g true less is e ∙ append-nil (doing (goal_views (take i goals))))) h
+
+pub goals_more : (R S : Goal → goal.Goal → Type 0) (goals : List SourceGoal) (i : ℕ) (g : SourceGoal) (us new : List goal.Goal) (u : goal.Goal) → ((x : Goal) (y : goal.Goal) → R x y → S x y) → i < length goals → g ≡ get_or goals i g → is_true (goal_view g) ≡ false → new ≡ us ++ u ∷ [] → Each R (doing (goal_views (take i goals))) us → S (goal_view g) u → Each S (doing (goal_views (take (i + 1) goals))) new
+goals_more R S goals i g us new u still less is e grown h k =
+    subst (λ l. Each S l new) (sym (doing_more goals i g false less is e))
+    (subst (Each S (doing (goal_views (take i goals)) ++ goal_view g ∷ [])) (sym grown)
+    (each_push S (doing (goal_views (take i goals))) us (goal_view g) u (each_still R S still (doing (goal_views (take i goals))) us h) k))
+
+pub goals_meet : (first a b : Names) (us new : List goal.Goal) (u : goal.Goal) → new ≡ us ++ u ∷ [] → MeetsAll first (variables_of_goals us) a → MeetsAll a (variables_of_goal u) b → MeetsAll first (variables_of_goals new) b
+goals_meet first a b us new u grown m n =
+    subst (λ xs. MeetsAll first xs b) (sym (ap variables_of_goals grown ∙ variables_goal_push us u)) (met_also (variables_of_goals us) (variables_of_goal u) first a b m n)
+
+-- no variable where the call is another
+no_tail_named : (n : Bool) (k : Bool) (o : Option (List ℕ)) → n ≡ false → cond (n && k) o None ≡ None
+no_tail_named false k o e = refl
+no_tail_named true k o e = cc
+
+no_tail_counted : (n : Bool) (k : Bool) (o : Option (List ℕ)) → k ≡ false → cond (n && k) o None ≡ None
+no_tail_counted false k o e = refl
+no_tail_counted true k o e = ap (λ b. cond b o None) e
+
+pub another_has_no_tail : (g : SourceGoal) (c : SourceCall) → g ≡ source.Call c → (bytes_eq c.name (codes "instream") ≡ false) ⊎ (nat_eq (length c.arguments.items) 1 ≡ false) → tail_of (goal_view g) ≡ None
+another_has_no_tail g c is (inl e) = ap (λ x. tail_of (goal_view x)) is ∙ no_tail_named (bytes_eq c.name (codes "instream")) (nat_eq (count (views c.arguments.items)) 1) (first_variable (views c.arguments.items)) e
+another_has_no_tail g c is (inr e) =
+    ap (λ x. tail_of (goal_view x)) is ∙ no_tail_counted (bytes_eq c.name (codes "instream")) (nat_eq (count (views c.arguments.items)) 1) (first_variable (views c.arguments.items)) (ap (λ n. nat_eq n 1) (count_views c.arguments.items) ∙ e)
+
+option_still : (o : Option (List ℕ)) (g : Goal) (a b : Names) (u : goal.Goal) → Grows a b → MatchOption o (SaysGoal a g u) (λ v. (k : ℕ) × (x : VarName) × (u ≡ goal.stream k x) × IsCalled a v x) → MatchOption o (SaysGoal b g u) (λ v. (k : ℕ) × (x : VarName) × (u ≡ goal.stream k x) × IsCalled b v x)
+option_still None g a b u grow h = goal_still g a b u grow h
+option_still (Some v) g a b u grow h = (h.0, h.1, h.2, called_still a b v h.1 grow h.3)
+
+pub asked_still : (g : Goal) (a b : Names) (u : goal.Goal) → Grows a b → SaysAsked a g u → SaysAsked b g u
+asked_still g a b u grow h = option_still (tail_of g) g a b u grow h
+
+-- Which goals are said so far, and which names are known by then.
+pub record GoalsSoFar (R : Names → Goal → goal.Goal → Type 0) (gs : List Goal) (first names : Names) (us : List goal.Goal) : Type 0 where
+  pub says : Each (R names) gs us
+  pub met : MeetsAll first (variables_of_goals us) names
+
+-- A goal `true` is left out.
+pub goals_skip : (R : Names → Goal → goal.Goal → Type 0) (goals : List SourceGoal) (i : ℕ) (g : SourceGoal) (first a later : Names) (us now : List goal.Goal) → later ≡ a → now ≡ us → i < length goals → g ≡ get_or goals i g → is_true (goal_view g) ≡ true → Each (R a) (doing (goal_views (take i goals))) us → MeetsAll first (variables_of_goals us) a → GoalsSoFar R (doing (goal_views (take (i + 1) goals))) first later now
+goals_skip R goals i g first a later us now e f less is t h m =
+    subst (λ names. GoalsSoFar R (doing (goal_views (take (i + 1) goals))) first names now) (sym e)
+    (subst (λ vs. GoalsSoFar R (doing (goal_views (take (i + 1) goals))) first a vs) (sym f) (record { says = goals_skipped (R a) goals i g us less is t h; met = m }))
+
+-- Any other goal is said.
+pub goals_step : (R : Names → Goal → goal.Goal → Type 0) → ((g : Goal) (a b : Names) (u : goal.Goal) → Grows a b → R a g u → R b g u) → (goals : List SourceGoal) (i : ℕ) (g : SourceGoal) (first a b later : Names) (us new now : List goal.Goal) (u : goal.Goal) → later ≡ b → now ≡ new → i < length goals → g ≡ get_or goals i g → is_true (goal_view g) ≡ false → new ≡ us ++ u ∷ [] → Each (R a) (doing (goal_views (take i goals))) us → MeetsAll first (variables_of_goals us) a → R b (goal_view g) u → MeetsAll a (variables_of_goal u) b → GoalsSoFar R (doing (goal_views (take (i + 1) goals))) first later now
+goals_step R still goals i g first a b later us new now u e f less is t grown h m k n =
+    subst (λ names. GoalsSoFar R (doing (goal_views (take (i + 1) goals))) first names now) (sym e)
+    (subst (λ vs. GoalsSoFar R (doing (goal_views (take (i + 1) goals))) first b vs) (sym f)
+    (record {
+      says = goals_more (R a) (R b) goals i g us new u (λ x y r. still x a b y (grows (variables_of_goal u) a b n) r) less is t grown h k;
+      met = goals_meet first a b us new u grown m n;
+    }))
+
+pub is_not : (b : Bool) → not b ≡ true → b ≡ false
+is_not true e = cc
+is_not false e = refl
+
+pub another_length : (n m : ℕ) → n ≡ m → (m ≡ 1 → ⊥) → nat_eq n 1 ≡ false
+another_length n m e other = grind (arith, nat_tests)

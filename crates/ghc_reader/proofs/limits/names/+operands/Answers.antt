@@ -1,0 +1,18 @@
+use Rattle.std.proofs.Common.{arith, ap, ◌∙◌}
+use Rattle.std.proofs.lemmas.Grind.{common_steps}
+use Rattle.ghc_reader.specs.Views.{value_view}
+use Rattle.ghc_reader.specs.Amounts.{names_in}
+use Rattle.ghc_reader.proofs.AmountLemmas.{names_of_products, names_of_sums}
+use Rattle.ghc_reader.proofs.limits.names.+operands.Goals as goal
+
+pub push_expression-returns-in_ok-push_expression-in-Products :
+    goal.push_expression-returns-in_ok-push_expression-in-Products
+push_expression-returns-in_ok-push_expression-in-Products t c =
+    let here = ap (λ u. names_in (value_view u)) c.in-Products.is ∙ names_of_products c.in-Products.first c.in-Products.others in
+    grind (arith, common_steps, here)
+
+pub push_expression-returns-in_ok-push_expression-in-Sums :
+    goal.push_expression-returns-in_ok-push_expression-in-Sums
+push_expression-returns-in_ok-push_expression-in-Sums t c =
+    let here = ap (λ u. names_in (value_view u)) c.in-Sums.is ∙ names_of_sums c.in-Sums.first c.in-Sums.others in
+    grind (arith, common_steps, here)

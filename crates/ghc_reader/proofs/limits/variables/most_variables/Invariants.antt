@@ -1,0 +1,7 @@
+use Rattle.std.proofs.Common.{◌≡◌, map, take}
+use Rattle.ghc_reader.specs.Views.{clause_view}
+use Rattle.ghc_reader.specs.Amounts.{largest, names_of_clause, variables}
+use Rattle.ghc_reader.proofs.limits.variables.most_variables.Given as goal
+
+abbrev pub invariant-loop-clause : goal.invariant-loop-clause
+invariant-loop-clause l = l.most ≡ largest (λ c. variables (names_of_clause c)) (map clause_view (take l.clause-index l.clauses))

@@ -1,0 +1,12 @@
+use Rattle.std.proofs.Common.{take}
+use Rattle.ghc_term.specs.Variables.{variables_of_goals}
+use Rattle.ghc_reader.specs.Views.{goal_views}
+use Rattle.ghc_reader.specs.Lowered.{Each, SaysGoal, doing}
+use Rattle.ghc_reader.specs.Scope.{MeetsAll}
+use Rattle.ghc_reader.proofs.lowering.goals.lower_body.Given as goal
+
+abbrev pub invariant-loop-goal : goal.invariant-loop-goal
+invariant-loop-goal l = record {
+  says : Each (SaysGoal l.scope) (doing (goal_views (take l.goal-index l.goals))) l.lowered.items;
+  met : MeetsAll l.initial.scope (variables_of_goals l.lowered.items) l.scope;
+}

@@ -1,0 +1,19 @@
+-- What a text is read as, in the terms of the language.
+use Rattle.std.specs.Prelude.{ℕ, List, []}
+use Rattle.ghc_term.specs.Tree as term
+use Rattle.ghc_reader.specs.Source.{Tree, Goal, Clause}
+use Rattle.ghc_reader.specs.Tests.{a_program, a_query, a_term, IsRead}
+use Rattle.ghc_reader.specs.Written.{WrittenClause, WrittenQuery}
+use Rattle.ghc_reader.specs.Lowered.{Each, Says, SaysClause, SaysQuery}
+
+-- The text is that of a program, no test refuses it, and these are its clauses.
+abbrev pub IsReadProgram : List ℕ → List WrittenClause → Type 0
+IsReadProgram text source = (seen : List Clause) × IsRead a_program text seen × Each SaysClause seen source
+
+-- The text is that of a query, no test refuses it, and this is the query.
+abbrev pub IsReadQuery : List ℕ → WrittenQuery → Type 0
+IsReadQuery text q = (seen : List Goal) × IsRead a_query text seen × SaysQuery seen q
+
+-- The text is that of an input term, no test refuses it, and this is the term.
+abbrev pub IsReadTerm : List ℕ → term.Tree → Type 0
+IsReadTerm text u = (seen : Tree) × IsRead a_term text seen × Says [] seen u

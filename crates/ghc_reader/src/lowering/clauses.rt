@@ -1,0 +1,45 @@
+// From the parse trees of clauses to a program as it is written.
+ghost use Rattle.std.specs.Prelude.{IfOk};
+ghost use Rattle.ghc_reader.specs.Views.{clause_view, clause_views};
+ghost use Rattle.ghc_reader.specs.Written.{IsWellWritten};
+ghost use Rattle.ghc_reader.specs.Lowered.{Each, SaysClause};
+
+use crate::lowering::goals::lower_body;
+use crate::lowering::guards::lower_guards;
+use crate::lowering::lists::Lists;
+use crate::lowering::scope::Scope;
+use crate::lowering::terms::lower_terms;
+use crate::source::SourceClause;
+use crate::written::{Source, WrittenClause};
+use std::alloc::{AllocError, Global};
+
+/// The program that parse trees say, clause by clause. It fails where memory is refused, or where the variables of a
+/// clause are more than a number of 32 bits counts. Time grows with the size of the trees.
+pub(crate) fn lower_program(alloc: Global, clauses: &[SourceClause]) -> Result<Source, AllocError>
+    ensures { IfOk result (λ s. Each SaysClause (clause_views clauses.now) s) }
+{
+    let lists = Lists::new(alloc)?;
+    let mut lowered = Vec::new(alloc);
+    for clause in clauses {
+        lowered.push(lower_clause(&lists, clause)?)?;
+    }
+    Ok(Source { clauses: lowered })
+}
+
+fn lower_clause(lists: &Lists, clause: &SourceClause) -> Result<WrittenClause, AllocError>
+    ensures says { IfOk result (λ w. SaysClause (clause_view clause.now) w) }
+    ensures well_written { IfOk result (λ w. IsWellWritten w) }
+{
+    let mut scope = Scope::new(lists.alloc());
+    let name = clause.head.name.share()?;
+    let head = lower_terms(lists, &clause.head.arguments, &mut scope)?;
+    let guards = lower_guards(lists, &clause.guard, &mut scope)?;
+    let body = lower_body(lists, &clause.body, &mut scope)?;
+    Ok(WrittenClause {
+        name,
+        head,
+        guards,
+        body,
+        variables: scope.into_names(),
+    })
+}

@@ -1,0 +1,154 @@
+// From the bytes of a text to its tree: the tests that a text has to pass, one after the other.
+ghost use Rattle.std.specs.Prelude.{◌≡◌, ◌⊎◌, List, ◌+◌, ◌<◌, length, IfOk, IfErr, IsErrAnd, MatchResult};
+ghost use Rattle.ghc_reader.specs.Source.{Tree, Goal, Clause};
+ghost use Rattle.ghc_reader.specs.Views.{view, goal_views, clause_views};
+ghost use Rattle.ghc_reader.specs.Viable.{IfSyntax};
+ghost use Rattle.ghc_reader.specs.Tests.{a_program, a_query, a_term, IsShallow, IsRead, IsFaultAt, IsTokenRefusal, IsRefusal};
+
+pub(crate) mod laws;
+
+use crate::depth::is_too_deep;
+use crate::halt::Halt;
+use crate::input_parser::parse_term;
+use crate::lexer::value::Reserved;
+use crate::lexer::{Lexed, tokens};
+use crate::limits::{program_limit, query_limit, term_limit};
+use crate::parser::{parse_program, parse_query};
+use crate::place::Place;
+use crate::reserved::{misplaced_in_program, misplaced_in_query};
+use crate::source::{SourceClause, SourceGoal, SourceTerm};
+use ghc_term::{Fault, Limit};
+use std::alloc::Global;
+
+// The tokens of a text that is not too long, has no bad byte and is not nested too deep.
+fn shallow_tokens(alloc: Global, text: &[u8]) -> Result<Lexed, Fault>
+    ensures found { IfOk result (λ lexed. IsShallow text.now lexed.tokens.items lexed.places.items) }
+    ensures paired { IfOk result (λ lexed. length lexed.places.items ≡ length lexed.tokens.items + 1) }
+    ensures fault { IfErr result (λ fault. (fault ≡ Fault.Memory) ⊎ IsTokenRefusal text.now fault) }
+{
+    let lexed = tokens(alloc, text, Reserved::Refused)?;
+    if is_too_deep(&lexed.tokens) {
+        return Err(Fault::Limit(Limit::Depth));
+    }
+    Ok(lexed)
+}
+
+// The refusal of the token with `front` tokens in front of it, or of the end of the text.
+fn fault_at(places: &[Place], front: usize) -> Fault
+    requires { front < length places.now }
+    ensures { IsFaultAt places.now front result }
+{
+    places[front].fault()
+}
+
+// The refusal where a parse stopped.
+fn fault_of(halt: Halt, places: &[Place]) -> Fault
+    requires { IfSyntax halt (λ front. front < length places.now) }
+    ensures memory { halt ≡ Halt.Memory → result ≡ Fault.Memory }
+    ensures syntax { IfSyntax halt (λ front. IsFaultAt places.now front result) }
+{
+    match halt {
+        Halt::Memory => Fault::Memory,
+        Halt::Syntax(front) => fault_at(places, front),
+    }
+}
+
+// The clauses of a program, or its refusal.
+fn clauses(alloc: Global, text: &[u8]) -> Result<Vec<SourceClause>, Fault>
+    ensures found { IfOk result (λ clauses. IsRead a_program text.now (clause_views clauses.items)) }
+    ensures fault { IfErr result (λ fault. (fault ≡ Fault.Memory) ⊎ IsRefusal a_program text.now fault) }
+{
+    let lexed = shallow_tokens(alloc, text)?;
+    let clauses = match parse_program(alloc, &lexed.tokens) {
+        Ok(clauses) => clauses,
+        Err(halt) => return Err(fault_of(halt, &lexed.places)),
+    };
+    if let Some(left) = misplaced_in_program(&clauses) {
+        return Err(fault_at(&lexed.places, lexed.tokens.len() - left));
+    }
+    if let Some(limit) = program_limit(alloc, &clauses)? {
+        return Err(Fault::Limit(limit));
+    }
+    Ok(clauses)
+}
+
+/// The clauses that the text of a program says. Else its refusal: the first of the tests of a text that it does not pass
+/// says which and where; or `Memory`. Time and memory grow with the text.
+pub(crate) fn parsed_program(alloc: Global, text: &[u8]) -> Result<Vec<SourceClause>, Fault>
+    ensures found { IfOk result (λ clauses. IsRead a_program text.now (clause_views clauses.items)) }
+    ensures fault { IfErr result (λ fault. (fault ≡ Fault.Memory) ⊎ IsRefusal a_program text.now fault) }
+
+    // No other tree is that of the text, and no other refusal.
+    ensures only { (seen : List Clause) → IsRead a_program text.now seen
+        → MatchResult result (λ clauses. clause_views clauses.items ≡ seen) (λ fault. fault ≡ Fault.Memory) }
+    ensures only_fault { (refusal : Fault) → IsRefusal a_program text.now refusal
+        → IsErrAnd result (λ fault. (fault ≡ refusal) ⊎ (fault ≡ Fault.Memory)) }
+{
+    clauses(alloc, text)
+}
+
+// The goals of a query, or its refusal.
+fn goals(alloc: Global, text: &[u8]) -> Result<Vec<SourceGoal>, Fault>
+    ensures found { IfOk result (λ goals. IsRead a_query text.now (goal_views goals.items)) }
+    ensures fault { IfErr result (λ fault. (fault ≡ Fault.Memory) ⊎ IsRefusal a_query text.now fault) }
+{
+    let lexed = shallow_tokens(alloc, text)?;
+    let goals = match parse_query(alloc, &lexed.tokens) {
+        Ok(goals) => goals,
+        Err(halt) => return Err(fault_of(halt, &lexed.places)),
+    };
+    if let Some(left) = misplaced_in_query(&goals) {
+        return Err(fault_at(&lexed.places, lexed.tokens.len() - left));
+    }
+    if let Some(limit) = query_limit(alloc, &goals)? {
+        return Err(Fault::Limit(limit));
+    }
+    Ok(goals)
+}
+
+/// The goals that the text of a query says, or its refusal, as `parsed_program`.
+pub(crate) fn parsed_query(alloc: Global, text: &[u8]) -> Result<Vec<SourceGoal>, Fault>
+    ensures found { IfOk result (λ goals. IsRead a_query text.now (goal_views goals.items)) }
+    ensures fault { IfErr result (λ fault. (fault ≡ Fault.Memory) ⊎ IsRefusal a_query text.now fault) }
+
+    // No other tree is that of the text, and no other refusal.
+    ensures only { (seen : List Goal) → IsRead a_query text.now seen
+        → MatchResult result (λ goals. goal_views goals.items ≡ seen) (λ fault. fault ≡ Fault.Memory) }
+    ensures only_fault { (refusal : Fault) → IsRefusal a_query text.now refusal
+        → IsErrAnd result (λ fault. (fault ≡ refusal) ⊎ (fault ≡ Fault.Memory)) }
+{
+    goals(alloc, text)
+}
+
+// The input term, or its refusal.
+fn term(alloc: Global, text: &[u8]) -> Result<SourceTerm, Fault>
+    ensures found { IfOk result (λ term. IsRead a_term text.now (view term)) }
+    ensures fault { IfErr result (λ fault. (fault ≡ Fault.Memory) ⊎ IsRefusal a_term text.now fault) }
+{
+    let lexed = shallow_tokens(alloc, text)?;
+    let term = match parse_term(alloc, &lexed.tokens) {
+        Ok(term) => term,
+        Err(halt) => return Err(fault_of(halt, &lexed.places)),
+    };
+    if let Some(limit) = term_limit(&term) {
+        return Err(Fault::Limit(limit));
+    }
+    Ok(term)
+}
+
+/// The input term that the text says, or its refusal, as `parsed_program`.
+pub(crate) fn parsed_term(alloc: Global, text: &[u8]) -> Result<SourceTerm, Fault>
+    ensures found { IfOk result (λ term. IsRead a_term text.now (view term)) }
+    ensures fault { IfErr result (λ fault. (fault ≡ Fault.Memory) ⊎ IsRefusal a_term text.now fault) }
+
+    // No other tree is that of the text, and no other refusal.
+    ensures only { (seen : Tree) → IsRead a_term text.now seen
+        → MatchResult result (λ term. view term ≡ seen) (λ fault. fault ≡ Fault.Memory) }
+    ensures only_fault { (refusal : Fault) → IsRefusal a_term text.now refusal
+        → IsErrAnd result (λ fault. (fault ≡ refusal) ⊎ (fault ≡ Fault.Memory)) }
+{
+    term(alloc, text)
+}
+
+#[cfg(test)]
+mod tests;

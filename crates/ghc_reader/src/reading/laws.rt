@@ -1,0 +1,7 @@
+// A law about what texts are read as, as the contract of a function.
+ghost use Rattle.ghc_reader.specs.Tests.{NoTextIsAnsweredTwice};
+
+/// No text of a program, a query or an input term has two trees, or both a tree and a refusal, or two refusals.
+pub(crate) fn no_text_is_answered_twice()
+    ensures { NoTextIsAnsweredTwice }
+{}
