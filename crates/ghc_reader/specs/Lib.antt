@@ -20,5 +20,3 @@ pub mod Tests
 pub mod Lowered
 pub mod Scope
 pub mod Read
-pub mod Lowered
-pub mod Scope
