@@ -7,9 +7,11 @@ use Rattle.ghc_term.specs.Tree.{Tree}
 use Rattle.ghc_term.specs.Bindings.{name_cmp}
 use Rattle.ghc_term.specs.Code.{tree_code, name_code}
 
+-- A store is a finite map from variables to trees.
 abbrev pub StoreValue : Type 0
 StoreValue = finite.FinMap name_cmp Tree
 
+-- two stores with one code are one
 abbrev pub store_code : Coded StoreValue
 store_code = finite.code name_code tree_code
 

@@ -9,6 +9,7 @@ mutual
     integer : ℤ → Tree
     node : List ℕ → Trees → Tree
 
+  -- The arguments of a node are none, or a tree and more of them.
   pub data Trees : Type 0 where
     none : Trees
     more : Tree → Trees → Trees
