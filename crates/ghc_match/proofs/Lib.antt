@@ -11,3 +11,14 @@ pub mod LinearHeads
 pub mod Spots
 pub mod EachOutcome
 pub mod SetsOf
+pub mod Waiting
+pub mod Members
+pub mod Ending
+pub mod Making
+pub mod Walking
+pub mod Tops
+pub mod Looking
+pub mod Seeing
+pub mod HeadWalk
+pub mod Asking
+pub mod Decided

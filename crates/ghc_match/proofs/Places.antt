@@ -71,7 +71,7 @@ listed us (here {i = i} {t = t} e) s = (among us 0 i i t (omega arith) (subst (�
 listed us (down {i = i} {p = p} {us = vs} {t = t} {u = u} e l a) s =
     (among us 0 i i t (omega arith) (subst (λ l. slice_get l i ≡ Some t) s e)).1 (p, u) (subst (λ w. Listed p u (below w)) (sym (written l)) (listed vs a refl))
 
-back_again : (hs : List Tree) → hs ≡ list_of (trees hs)
+pub back_again : (hs : List Tree) → hs ≡ list_of (trees hs)
 back_again [] = refl
 back_again (h ∷ hs) = ap (λ l. h ∷ l) (back_again hs)
 

@@ -18,7 +18,7 @@ use Rattle.ghc_match.specs.Laws.{ValuesExclude, ValueLooksAtItsTerms}
 use Rattle.ghc_term.proofs.Sets.{one_set, set_of}
 use Rattle.ghc_match.proofs.Chains.{leads_there, leads_back}
 
-computes_once : (o : Operator) (x y z w : ℤ) → Computes o x y z → Computes o x y w → z ≡ w
+pub computes_once : (o : Operator) (x y z w : ℤ) → Computes o x y z → Computes o x y w → z ≡ w
 computes_once Add x y z w p q = p.0 ∙ sym q.0
 computes_once Subtract x y z w p q = p.0 ∙ sym q.0
 computes_once Multiply x y z w p q = p.0 ∙ sym q.0

@@ -2,5 +2,10 @@ pub mod Position
 pub mod Value
 pub mod Match
 pub mod Looked
+pub mod Ends
+pub mod Tasks
+pub mod Meeting
+pub mod Guarding
+pub mod Told
 pub mod Laws
 pub mod Facts

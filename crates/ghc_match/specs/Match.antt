@@ -46,6 +46,14 @@ IsList (node f none) = f ≡ codes "[]"
 IsList (node f (more _ (more _ none))) = f ≡ codes "."
 IsList _ = ⊥
 
+-- The test is true of what its variables end in, where E says in which tree each ends.
+abbrev pub HoldsBy : (VarName → Tree → Type 0) → Test → Type 0
+HoldsBy E (wait y) = (e : Tree) × E y e × IsValue e
+HoldsBy E (is_integer y) = (e : Tree) × E y e × IsInteger e
+HoldsBy E (is_atom y) = (e : Tree) × E y e × IsAtom e
+HoldsBy E (is_list y) = (e : Tree) × E y e × IsList e
+HoldsBy E (compare o a b) = (j k : ℤ) × Number E a j × Number E b k × Compares o j k
+
 -- An outcome: the clause refuses the call, waits for a set of variables, or accepts it with what its head variables stand for and what was read.
 pub data Outcome : Type 0 where
   refuses : Outcome
@@ -80,11 +88,7 @@ module _ (c : Clause) (ts : List Tree) (S : VarName → Option Tree) where
 
   -- The test is true of what its variables end in.
   abbrev pub Holds : Test → Type 0
-  Holds (wait y) = (e : Tree) × StandsAt y e × IsValue e
-  Holds (is_integer y) = (e : Tree) × StandsAt y e × IsInteger e
-  Holds (is_atom y) = (e : Tree) × StandsAt y e × IsAtom e
-  Holds (is_list y) = (e : Tree) × StandsAt y e × IsList e
-  Holds (compare o a b) = (j k : ℤ) × Number StandsAt a j × Number StandsAt b k × Compares o j k
+  Holds g = HoldsBy StandsAt g
 
   -- The test waits for the unbound variable x, in which one of its variables ends.
   abbrev pub TestWants : Test → VarName → Type 0

@@ -1,9 +1,22 @@
 //! What a clause says to a call: positions, values, guards, and what is read and looked at.
 #![tactic(auto)]
 
+mod alike;
+mod arithmetic;
+mod evaluation;
 mod facts;
+mod guard;
+mod head;
+mod holding;
 mod laws;
+mod leaves;
+mod number;
+mod passing;
+mod scope;
+mod trying;
+mod value;
 
+pub use evaluation::evaluate;
 pub use facts::{
     accepts_with_reads, divisor_decides, least_integer, refuses_before_waiting, remainder_decides,
     sevenths, structure_is_no_number, waits_on_two,
@@ -12,3 +25,5 @@ pub use laws::{
     each_clause_has_an_outcome, each_expression_has_a_value, outcome_is_of_what_is_looked_at,
     outcomes_exclude, value_looks_at_its_terms, values_exclude,
 };
+pub use trying::{Outcome, Tried, try_clause};
+pub use value::Value;

@@ -1,0 +1,113 @@
+-- From what the head and the guard show to the outcome.
+use Rattle.std.proofs.Common.{◌≡◌, ◌<◌, true, false, List, inl, inr}
+use Rattle.std.specs.Prelude.{◌↔◌, Option, Some}
+use Rattle.std.specs.FinSet as set
+use Rattle.ghc_term.specs.declared.var_name.VarName.{VarName}
+use Rattle.ghc_term.specs.Tree.{Tree, variable}
+use Rattle.ghc_term.specs.Sets.{Variables, IsSetOf}
+use Rattle.ghc_term.specs.Store.{StoreValue, value_at}
+use Rattle.ghc_flat.specs.declared.test.Test.{Test}
+use Rattle.ghc_flat.specs.declared.test.Test.TheVariants.{Wait as wait, IsInteger as is_integer, IsAtom as is_atom, IsList as is_list, Compare as compare}
+use Rattle.ghc_flat.specs.Clause.{Clause}
+use Rattle.ghc_flat.specs.Variables.{variables_of_test}
+use Rattle.ghc_match.specs.Value.{Wants}
+use Rattle.ghc_match.specs.Ends.{StandsAndEnds}
+use Rattle.ghc_match.specs.Match.{HoldsBy, StandsFor, Mismatch, HeadWants, HeadFits, StandsAt, GuardSaysNo, LooksAt, refuses, waits, accepts, HasOutcome}
+use Rattle.ghc_match.specs.Meeting.{Gains, HeadLooksAt}
+use Rattle.ghc_match.specs.Guarding.{OneSaysNo, OneWants, GuardLooksAt}
+use Rattle.ghc_match.proofs.Values.{number_there}
+use Rattle.ghc_match.proofs.Members.{member, no_member}
+
+-- a test that holds where variables end as E says holds where they end as F says
+holds_there : (E F : VarName → Tree → Type 0) → ((y : VarName) (e : Tree) → E y e → F y e) → (g : Test) → HoldsBy E g → HoldsBy F g
+holds_there E F f (wait y) h = (h.0, f y h.0 h.1, h.2)
+holds_there E F f (is_integer y) h = (h.0, f y h.0 h.1, h.2)
+holds_there E F f (is_atom y) h = (h.0, f y h.0 h.1, h.2)
+holds_there E F f (is_list y) h = (h.0, f y h.0 h.1, h.2)
+holds_there E F f (compare o a b) h = (h.0, h.1, number_there h.2 (λ y e i. f y e), number_there h.3 (λ y e i. f y e), h.4)
+
+module _ (c : Clause) (ts : List Tree) (S : VarName → Option Tree) (stands : StoreValue) (stand : (y : VarName) (t : Tree) → (value_at stands y ≡ Some t) ↔ StandsFor c ts S y t) where
+  there : (y : VarName) (e : Tree) → StandsAndEnds stands S y e → StandsAt c ts S y e
+  there y e l = (l.0, l.2.0, (stand y l.0).0 l.1, l.2.1)
+
+  back : (y : VarName) (e : Tree) → StandsAt c ts S y e → StandsAndEnds stands S y e
+  back y e l = (l.0, (stand y l.0).1 l.2, (l.1, l.3))
+
+  wants_there : (ys : List VarName) (x : VarName) → Wants (StandsAndEnds stands S) ys x → Wants (StandsAt c ts S) ys x
+  wants_there ys x w = (w.0, w.1, there w.0 (variable x) w.2)
+
+  wants_back : (ys : List VarName) (x : VarName) → Wants (StandsAt c ts S) ys x → Wants (StandsAndEnds stands S) ys x
+  wants_back ys x w = (w.0, w.1, back w.0 (variable x) w.2)
+
+  -- what is looked at, by the head and then by the guard
+  pub all_looked_at : (old new : Variables) → IsSetOf old (HeadLooksAt c ts S) → Gains old new (GuardLooksAt stands S c.tests) → IsSetOf new (LooksAt c ts S)
+  all_looked_at old new h g x = (
+    λ i. elim ((g x).0 i) [
+      | inl j ↦ inl ((h x).0 j)
+      | inr w ↦ let p = w.2.2 in inr (w.0, w.2.0, p.0, w.1, w.2.1, (stand w.2.0 p.0).0 p.1, p.2)
+    ],
+    λ l. (g x).1 (elim l [
+      | inl k ↦ inl ((h x).1 k)
+      | inr w ↦ inr (w.0, w.3, (w.1, w.4, (w.2, (stand w.1 w.2).1 w.5, w.6)))
+    ]),
+  )
+
+  module _ (wanted : Variables) (no_clash : ¬ Mismatch c ts S) (head : IsSetOf wanted (HeadWants c ts S)) where
+    -- the head waits
+    pub head_waits : 0 < set.len wanted → HasOutcome c ts S (waits wanted)
+    head_waits h =
+        let m = member wanted h in
+        let first = (head m.0).0 m.1 in (
+          λ x. (
+            λ i. inl (no_clash, (head x).0 i),
+            λ w. (head x).1 (elim w [ inl k ↦ k.1 | inr k ↦ absurd (k.0.1 m.0 first) ]),
+          ),
+          (m.0, inl (no_clash, first)),
+        )
+
+    module _ (none : set.len wanted ≡ 0) where
+      fits : HeadFits c ts S
+      fits = (no_clash, λ x w. no_member wanted none x ((head x).1 w))
+
+      -- a test says no
+      pub guard_refuses : OneSaysNo (StandsAndEnds stands S) c.tests true → HasOutcome c ts S refuses
+      guard_refuses n = inr (
+        fits,
+        (n.0, n.1, (λ x w. n.2.0 x (wants_back (variables_of_test n.0) x w), λ h. n.2.1 (holds_there (StandsAt c ts S) (StandsAndEnds stands S) back n.0 h))),
+      )
+
+      module _ (others : OneSaysNo (StandsAndEnds stands S) c.tests false) (guard : Variables) (all : IsSetOf guard (OneWants (StandsAndEnds stands S) c.tests)) where
+        none_no : ¬ GuardSaysNo c ts S
+        none_no n = elim (others n.0 n.1) [
+          | inl w ↦ n.2.0 w.0 (wants_there (variables_of_test n.0) w.0 w.1)
+          | inr y ↦ n.2.1 (holds_there (StandsAndEnds stands S) (StandsAt c ts S) there n.0 y.1)
+        ]
+
+        -- the guard waits
+        pub guard_waits : 0 < set.len guard → HasOutcome c ts S (waits guard)
+        guard_waits h =
+            let m = member guard h in
+            let first = (all m.0).0 m.1 in (
+              λ x. (
+                λ i. let w = (all x).0 i in inr (fits, none_no, (w.0, w.1, wants_there (variables_of_test w.0) x w.2)),
+                λ w. (all x).1 (elim w [
+                  | inl k ↦ absurd (fits.1 x k.1)
+                  | inr k ↦ let g = k.2 in (g.0, g.1, wants_back (variables_of_test g.0) x g.2)
+                ]),
+              ),
+              (m.0, inr (fits, none_no, (first.0, first.1, wants_there (variables_of_test first.0) m.0 first.2))),
+            )
+
+        -- each test says yes
+        pub all_accept : set.len guard ≡ 0 → (reads : Variables) → IsSetOf reads (LooksAt c ts S) → HasOutcome c ts S (accepts stands reads)
+        all_accept h reads r = (
+          (
+            fits,
+            λ g i. elim (others g i) [
+              | inl w ↦ absurd (no_member guard h w.0 ((all w.0).1 (g, i, w.1)))
+              | inr y ↦ (λ x w. y.0 x (wants_back (variables_of_test g) x w), holds_there (StandsAndEnds stands S) (StandsAt c ts S) there g y.1)
+            ],
+          ),
+          stand,
+          r,
+        )

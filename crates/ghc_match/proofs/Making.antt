@@ -1,0 +1,36 @@
+-- Tasks, one after another.
+use Rattle.std.proofs.Common.{◌≡◌, ℤ, List, [], ◌∷◌, ◌++◌, sym, ap, ◌∙◌, subst}
+use Rattle.std.specs.Prelude.{◌↔◌, reverse}
+use Rattle.std.specs.Borrow.{Bor}
+use Rattle.ghc_term.specs.declared.var_name.VarName.{VarName}
+use Rattle.ghc_term.specs.declared.operator.Operator.{Operator}
+use Rattle.ghc_term.specs.Tree.{Tree}
+use Rattle.ghc_term.specs.Expression.{Expression, operation}
+use Rattle.ghc_match.specs.Value.{Number, computed}
+use Rattle.ghc_match.specs.Tasks.{Makes}
+use Rattle.ghc_match.specs.declared.number.Task.{Task}
+use Rattle.ghc_match.specs.declared.number.Task.TheVariants.{Find, Apply}
+use Rattle.ghc_match.proofs.Values.{number_once}
+use Rattle.ghc_match.proofs.FactProofs.{sides}
+use Rattle.ghc_match.proofs.Waiting.{reverse_push}
+
+module _ {E : VarName → Tree → Type 0} (once : (x : VarName) (e f : Tree) → E x e → E x f → e ≡ f) where
+  -- a leaf's value is found
+  pub leaf_found : (a : Expression) (z : ℤ) (tasks : List Task) (old new : List ℤ) (b : Bor Expression) → b.now ≡ a → Number E a z → new ≡ old ++ z ∷ []
+      → (k : ℤ) → Makes E (Find b ∷ tasks) (reverse old) k ↔ Makes E tasks (reverse new) k
+  leaf_found a z tasks old new b is n e k = (
+    λ m.
+        let same : m.0 ≡ z = number_once once (subst (λ c. Number E c m.0) is m.1) n in
+        subst (λ l. Makes E tasks l k) (sym (ap reverse e ∙ reverse_push old z)) (subst (λ y. Makes E tasks (y ∷ reverse old) k) same m.2),
+    λ m. (z, subst (λ c. Number E c z) (sym is) n, subst (λ l. Makes E tasks l k) (ap reverse e ∙ reverse_push old z) m),
+  )
+
+  -- an operation gives way to its sides and its operator
+  pub operation_opened : (o : Operator) (l r b : Bor Expression) (tasks : List Task) (zs : List ℤ) → operation o l.now r.now ≡ b.now
+      → (k : ℤ) → Makes E (Find b ∷ tasks) zs k ↔ Makes E (Find l ∷ Find r ∷ Apply o ∷ tasks) zs k
+  operation_opened o l r b tasks zs is k = (
+    λ m.
+        let s = sides (subst (λ c. Number E c m.0) (sym is) m.1) in
+        (s.0, s.2, (s.1, s.3, (m.0, s.4, m.2))),
+    λ m. (m.2.2.0, subst (λ c. Number E c m.2.2.0) is (computed m.1 m.2.1 m.2.2.1), m.2.2.2),
+  )

@@ -1,0 +1,26 @@
+use Rattle.std.proofs.Common.{◌≡◌, ◌∙◌, ◌++◌, ap, subst, arith}
+use Rattle.std.specs.FinSet as set
+use Rattle.ghc_term.specs.Sets.{IsSetOf}
+use Rattle.ghc_term.specs.Store.{value_at}
+use Rattle.ghc_flat.specs.Variables.{leaf_variables}
+use Rattle.ghc_match.specs.Position.{EndsIn}
+use Rattle.ghc_match.specs.Value.{Wants}
+use Rattle.ghc_match.specs.Tasks.{IsWorth}
+use Rattle.ghc_match.proofs.Members.{member, no_member}
+use Rattle.ghc_match.proofs.evaluation.evaluate.Goals as goal
+
+pub returns-then-len-gt0 : goal.returns-then-len-gt0
+returns-then-len-gt0 c =
+    let S = value_at c.args.store.now in
+    let names = c.deref.ensures.value ∙ c.in_ok-push_leaves.ensures ∙ ap (λ l. l ++ leaf_variables c.args.expression.now) c.new-names.ensures.items in
+    let all = subst (λ l. IsSetOf c.in_ok-wanted.wanted (Wants (EndsIn S) l)) names c.in_ok-wanted.ensures in
+    let some = member c.in_ok-wanted.wanted (omega (arith, c.len.ensures, c.if-len-gt0.true)) in
+    (all, (some.0, (all some.0).0 some.1))
+
+pub returns : goal.returns
+returns c =
+    let S = value_at c.args.store.now in
+    let names = c.deref.ensures.value ∙ c.in_ok-push_leaves.ensures ∙ ap (λ l. l ++ leaf_variables c.args.expression.now) c.new-names.ensures.items in
+    let all = subst (λ l. IsSetOf c.in_ok-wanted.wanted (Wants (EndsIn S) l)) names c.in_ok-wanted.ensures in
+    let none : set.len c.in_ok-wanted.wanted ≡ 0 = omega (arith, c.len.ensures, c.if-len-gt0.false) in
+    (λ x w. no_member c.in_ok-wanted.wanted none x ((all x).1 w), subst (IsWorth (EndsIn S) c.args.expression.now) c.in-None.is c.in_ok-integer.ensures)

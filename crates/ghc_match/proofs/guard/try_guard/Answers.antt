@@ -1,0 +1,47 @@
+use Rattle.std.proofs.Common.{◌++◌, ◌∷◌, [], Bool, take, arith, sym, ap, ◌∙◌, subst}
+use Rattle.std.proofs.lemmas.List.{take_more, take_all}
+use Rattle.ghc_term.specs.declared.var_name.VarName.{VarName}
+use Rattle.ghc_term.specs.Store.{value_at}
+use Rattle.ghc_flat.specs.declared.test.Test.{Test}
+use Rattle.ghc_flat.specs.Variables.{variables_of_test}
+use Rattle.ghc_match.specs.Value.{Wants}
+use Rattle.ghc_match.specs.Ends.{StandsAndEnds}
+use Rattle.ghc_match.specs.Meeting.{Gains}
+use Rattle.ghc_term.specs.Sets.{IsSetOf}
+use Rattle.ghc_match.specs.Guarding.{PassedFrom, IsSaid, OneSaysNo}
+use Rattle.ghc_match.proofs.Members.{OneHas, holds_nothing, has_more}
+use Rattle.ghc_match.proofs.Asking.{gains_nothing, gains_more, no_more_no, no_more_other}
+use Rattle.ghc_match.proofs.guard.try_guard.Goals as goal
+use Rattle.ghc_match.proofs.guard.try_guard.Goals.{in-No, in_default}
+
+pub loop-test-init : goal.loop-test-init
+loop-test-init c = record {
+  no = λ g i. absurd i;
+  wants = λ x. (λ h. absurd (holds_nothing c.new-wanted.result c.new-wanted.ensures x h), λ w. absurd w.1);
+  looks = gains_nothing (λ (g : Test) x. PassedFrom c.args.stands.now (value_at c.args.store.now) (variables_of_test g) x) c.args.looked.now;
+}
+
+pub loop-test-preserved : goal.loop-test-preserved
+loop-test-preserved c =
+    let m = c.args.stands.now in
+    let S = value_at c.args.store.now in
+    let E = StandsAndEnds m S in
+    let wants_of = λ (g : Test) (x : VarName). Wants E (variables_of_test g) x in
+    let passed_by = λ (g : Test) (x : VarName). PassedFrom m S (variables_of_test g) x in
+    let g = c.test-item.result in
+    let old = take c.loop-test.test-index c.args.tests.now in
+    let more = ap (λ z. old ++ z ∷ []) c.test-item.is ∙ sym (take_more c.args.tests.now c.loop-test.test-index g c.loop-test-test.true) in
+    record {
+      no = subst (λ l. OneSaysNo E l c.match-branch-2.says_no) more (elim c.match-branch-2.branch [
+        | in-No w ↦ subst (λ (b : Bool). OneSaysNo E (old ++ g ∷ []) b) (sym w.says_no-is) (no_more_no E old g (subst (IsSaid E g) w.in-No.is c.in_ok-ask.ensures.says))
+        | in_default w ↦ subst (λ (b : Bool). OneSaysNo E (old ++ g ∷ []) b) (sym w.says_no-is) (no_more_other E c.loop-test.says_no old g c.in_ok-ask.field-0 c.loop-test.invariant.no c.in_ok-ask.ensures.says w.in_default.not-No)
+      ]);
+      wants = subst (λ l. IsSetOf c.ask.new.wanted (OneHas wants_of l)) more (has_more wants_of c.loop-test.wanted c.ask.new.wanted old g c.loop-test.invariant.wants c.in_ok-ask.ensures.wanted);
+      looks = subst (λ l. Gains c.args.looked.now c.ask.new.looked (OneHas passed_by l)) more
+          (gains_more passed_by c.args.looked.now c.loop-test.looked c.ask.new.looked old g c.loop-test.invariant.looks c.in_ok-ask.ensures.looked);
+    }
+
+pub returns-clause-no : goal.returns-clause-no
+returns-clause-no c =
+    let E = StandsAndEnds c.args.stands.now (value_at c.args.store.now) in
+    subst (λ l. OneSaysNo E l c.loop-test.says_no) (take_all c.loop-test.test-index c.args.tests.now (omega (arith, c.loop-test-test.false))) c.loop-test.invariant.no

@@ -1,0 +1,94 @@
+use Rattle.std.proofs.Common.{◌≡◌, ◌⊎◌, Bool, sym, ap, ◌∙◌, subst, arith, refl, ◌++◌, true, false}
+use Rattle.std.specs.Prelude.{IsTrue, ◌↔◌}
+use Rattle.std.specs.FinMap as finite
+use Rattle.std.specs.List.{zip}
+use Rattle.ghc_term.specs.Store.{value_at}
+use Rattle.ghc_term.specs.Tree.{IsValue, variable}
+use Rattle.ghc_term.proofs.Total.{chain}
+use Rattle.ghc_match.specs.Ends.{ChainEnds}
+use Rattle.ghc_term.specs.Sets.{Variables}
+use Rattle.ghc_match.specs.Meeting.{trees_of, arguments, Clashes, Asks, Passed, Gains}
+use Rattle.ghc_match.specs.declared.head.Met.{Met}
+use Rattle.ghc_match.proofs.Tops.{shown_value}
+use Rattle.ghc_match.proofs.Walking.{opens_nothing, opens_no_terms}
+use Rattle.ghc_match.proofs.Seeing.{clash_not, clash_new, clash_alike, asks_new, asks_not, passed_by, standing_value}
+use Rattle.ghc_match.proofs.head.visit.Goals as goal
+use Rattle.ghc_match.proofs.head.visit.Goals.{then-not-are_alike, else-not-are_alike}
+
+pub returns-in-Var-clause-opens : goal.returns-in-Var-clause-opens
+returns-in-Var-clause-opens c =
+    let s = c.args.store.now in
+    let ch = chain (finite.len s) s (omega arith) c.acyclic.ensures c.args.term.now in
+    opens_nothing (value_at s) c.args.head.now c.args.term.now ch.«end» (trees_of c.args.pending.now.items) (ap arguments (sym c.in-Var.ensures.shown)) (ch.passed, ch.leads)
+
+pub returns-in-Var-view : goal.returns-in-Var-view
+returns-in-Var-view c =
+    let S = value_at c.args.store.now in
+    let h = c.args.head.now in
+    let t = c.args.term.now in
+    let x = c.in-Var-view.x in
+    let old = c.args.met.now in
+    let vh : IsValue h = subst IsValue c.view.ensures.shown (shown_value c.view.result c.in_default.not-Var) in
+    let l : ChainEnds S t (variable x) = subst (ChainEnds S t) (sym c.in-Var-view.ensures.shown) c.in_ok-end.ensures.end in
+    record {
+      clashes = clash_not S h t old.clashes x l;
+      stands = standing_value h t old.stands vh;
+      wanted = asks_new S h t old.wanted c.insert-in-Var-view.new.self x vh l c.in_ok-insert-2.ensures.ok;
+      looked = passed_by S h t old.looked c.pass.new.looked vh c.in_ok-end.ensures.looked;
+      opens = opens_no_terms S h t (variable x) (trees_of c.args.pending.now.items) refl l;
+    }
+
+pub returns-clause-clashes : goal.returns-clause-clashes
+returns-clause-clashes c =
+    let S = value_at c.args.store.now in
+    let h = c.args.head.now in
+    let t = c.args.term.now in
+    let e = c.in_ok-end.end.now in
+    let old = c.args.met.now in
+    let vh : IsValue h = subst IsValue c.view.ensures.shown (shown_value c.view.result c.in_default.not-Var) in
+    let ve : IsValue e = subst IsValue c.view-2.ensures.shown (shown_value c.view-2.result c.in_default-view.not-Var) in
+    let says = λ (b : Bool). IsTrue b ↔ (IsTrue old.clashes ⊎ Clashes S h t) in
+    elim c.if-not-are_alike.branch [
+      | then-not-are_alike w ↦ subst says (sym (ap (λ (m : Met). m.clashes) w.met-is)) (clash_new S h t old.clashes e vh c.in_ok-end.ensures.end ve (λ a. let clash : false ≡ true = sym w.if-not-are_alike.true ∙ c.are_alike.ensures.1 a in cc))
+      | else-not-are_alike w ↦ subst says (sym (ap (λ (m : Met). m.clashes) w.met-is)) (clash_alike S h t old.clashes e c.in_ok-end.ensures.end (c.are_alike.ensures.0 w.if-not-are_alike.false))
+    ]
+
+pub returns-clause-stands : goal.returns-clause-stands
+returns-clause-stands c =
+    let vh : IsValue c.args.head.now = subst IsValue c.view.ensures.shown (shown_value c.view.result c.in_default.not-Var) in
+    let same = standing_value c.args.head.now c.args.term.now c.args.met.now.stands vh in
+    elim c.if-not-are_alike.branch [
+      | then-not-are_alike w ↦ ap (λ (m : Met). m.stands) w.met-is ∙ same
+      | else-not-are_alike w ↦ ap (λ (m : Met). m.stands) w.met-is ∙ same
+    ]
+
+pub returns-clause-wanted : goal.returns-clause-wanted
+returns-clause-wanted c =
+    let S = value_at c.args.store.now in
+    let e = c.in_ok-end.end.now in
+    let ve : IsValue e = subst IsValue c.view-2.ensures.shown (shown_value c.view-2.result c.in_default-view.not-Var) in
+    let same = asks_not S c.args.head.now c.args.term.now c.args.met.now.wanted e c.in_ok-end.ensures.end ve in
+    let goes = λ (s : Variables). Gains c.args.met.now.wanted s (Asks S c.args.head.now c.args.term.now) in
+    elim c.if-not-are_alike.branch [
+      | then-not-are_alike w ↦ subst goes (sym (ap (λ (m : Met). m.wanted) w.met-is)) same
+      | else-not-are_alike w ↦ subst goes (sym (ap (λ (m : Met). m.wanted) w.met-is)) same
+    ]
+
+pub returns-clause-looked : goal.returns-clause-looked
+returns-clause-looked c =
+    let S = value_at c.args.store.now in
+    let vh : IsValue c.args.head.now = subst IsValue c.view.ensures.shown (shown_value c.view.result c.in_default.not-Var) in
+    let same = passed_by S c.args.head.now c.args.term.now c.args.met.now.looked c.pass.new.looked vh c.in_ok-end.ensures.looked in
+    let goes = λ (s : Variables). Gains c.args.met.now.looked s (Passed S c.args.head.now c.args.term.now) in
+    elim c.if-not-are_alike.branch [
+      | then-not-are_alike w ↦ subst goes (sym (ap (λ (m : Met). m.looked) w.met-is)) same
+      | else-not-are_alike w ↦ subst goes (sym (ap (λ (m : Met). m.looked) w.met-is)) same
+    ]
+
+pub returns-clause-opens : goal.returns-clause-opens
+returns-clause-opens c =
+    let old = trees_of c.args.pending.now.items in (
+      c.in_ok-end.end.now,
+      c.in_ok-end.ensures.end,
+      c.in_ok-push_pairs.ensures ∙ ap (λ l. old ++ zip l c.arguments_of-2.result.now) c.arguments_of.ensures ∙ ap (λ l. old ++ zip (arguments c.args.head.now) l) c.arguments_of-2.ensures,
+    )

@@ -1,0 +1,140 @@
+// What the guard of a clause says.
+ghost use Rattle.std.specs.Prelude.{◌≡◌, ◌↔◌, IfOk, OnOk, IsTrue};
+ghost use Rattle.ghc_term.specs.declared.var_name.VarName.{VarName};
+ghost use Rattle.ghc_term.specs.Tree.{variable};
+ghost use Rattle.ghc_term.specs.Store.{value_at};
+ghost use Rattle.ghc_term.specs.Sets.{IsSetOf};
+ghost use Rattle.ghc_flat.specs.Variables.{variables_of_test};
+ghost use Rattle.ghc_match.specs.Value.{Wants};
+ghost use Rattle.ghc_match.specs.Ends.{StandsAndEnds};
+ghost use Rattle.ghc_match.specs.Meeting.{Gains};
+ghost use Rattle.ghc_match.specs.Guarding.{StandsAndPasses, PassedFrom, IsSaid, OneSaysNo, OneWants, GuardLooksAt};
+
+use crate::holding::holds;
+use crate::leaves::push_leaves;
+use crate::passing::pass;
+use ghc_flat::Test;
+use ghc_term::{Bindings, Store, TermView, VarName, Variables};
+use std::alloc::{AllocError, Global};
+
+// What a test says of what its variables stand for.
+#[derive(Clone, Copy, Drop)]
+pub enum Says {
+    Yes,
+    No,
+    Waits,
+}
+
+// What a guard says: whether one of its tests says no, and for which unbound variables its tests wait.
+#[derive(Drop)]
+pub struct Said {
+    pub says_no: bool,
+    pub wanted: Variables,
+}
+
+// The variables of the test, in the order in which they stand there.
+fn variables_of(alloc: Global, test: &Test) -> Result<Vec<VarName>, AllocError>
+    ensures { IfOk result (λ names. names.items ≡ variables_of_test test.now) }
+{
+    let mut names = Vec::new(alloc);
+    match test {
+        Test::Wait(x) => names.push(*x)?,
+        Test::IsInteger(x) => names.push(*x)?,
+        Test::IsAtom(x) => names.push(*x)?,
+        Test::IsList(x) => names.push(*x)?,
+        Test::Compare(_, left, right) => {
+            push_leaves(alloc, left, &mut names)?;
+            push_leaves(alloc, right, &mut names)?;
+        }
+    }
+    Ok(names)
+}
+
+// Whether what the variable stands for ends in an unbound variable, which is then wanted. Its chain is looked at.
+fn look_at(
+    store: &Store,
+    stands: &Bindings,
+    name: VarName,
+    wanted: &mut Variables,
+    looked: &mut Variables,
+) -> Result<bool, AllocError>
+    ensures waits { IfOk result (λ waits. IsTrue waits ↔ ((x : VarName) × StandsAndEnds stands.now (value_at store.now) name (variable x))) }
+    ensures wanted { OnOk result (Gains wanted.old wanted.new (λ x. StandsAndEnds stands.now (value_at store.now) name (variable x))) }
+    ensures looked { OnOk result (Gains looked.old looked.new (StandsAndPasses stands.now (value_at store.now) name)) }
+{
+    let Some(term) = stands.get(name) else {
+        return Ok(false);
+    };
+    let end = pass(store, term, looked)?;
+    if let TermView::Var(x) = end.view() {
+        wanted.insert(x)?;
+        return Ok(true);
+    }
+    Ok(false)
+}
+
+// The same for several variables: whether one of them ends unbound.
+fn look_at_all(
+    store: &Store,
+    stands: &Bindings,
+    names: &[VarName],
+    wanted: &mut Variables,
+    looked: &mut Variables,
+) -> Result<bool, AllocError>
+    ensures waits { IfOk result (λ waits. IsTrue waits ↔ ((x : VarName) × Wants (StandsAndEnds stands.now (value_at store.now)) names.now x)) }
+    ensures wanted { OnOk result (Gains wanted.old wanted.new (Wants (StandsAndEnds stands.now (value_at store.now)) names.now)) }
+    ensures looked { OnOk result (Gains looked.old looked.new (PassedFrom stands.now (value_at store.now) names.now)) }
+{
+    let mut waits = false;
+    for name in names {
+        if look_at(store, stands, *name, wanted, looked)? {
+            waits = true;
+        }
+    }
+    Ok(waits)
+}
+
+// What the test says. What it waits for is wanted, and the chains of its variables are looked at.
+fn ask(
+    alloc: Global,
+    store: &Store,
+    stands: &Bindings,
+    test: &Test,
+    wanted: &mut Variables,
+    looked: &mut Variables,
+) -> Result<Says, AllocError>
+    ensures says { IfOk result (IsSaid (StandsAndEnds stands.now (value_at store.now)) test.now) }
+    ensures wanted { OnOk result (Gains wanted.old wanted.new (Wants (StandsAndEnds stands.now (value_at store.now)) (variables_of_test test.now))) }
+    ensures looked { OnOk result (Gains looked.old looked.new (PassedFrom stands.now (value_at store.now) (variables_of_test test.now))) }
+{
+    let names = variables_of(alloc, test)?;
+    if look_at_all(store, stands, &names, wanted, looked)? {
+        return Ok(Says::Waits);
+    }
+    if holds(alloc, store, stands, test)? {
+        return Ok(Says::Yes);
+    }
+    Ok(Says::No)
+}
+
+// What the tests of a guard say, each of which is asked once.
+pub fn try_guard(
+    alloc: Global,
+    store: &Store,
+    stands: &Bindings,
+    tests: &[Test],
+    looked: &mut Variables,
+) -> Result<Said, AllocError>
+    ensures no { IfOk result (λ said. OneSaysNo (StandsAndEnds stands.now (value_at store.now)) tests.now said.says_no) }
+    ensures wanted { IfOk result (λ said. IsSetOf said.wanted (OneWants (StandsAndEnds stands.now (value_at store.now)) tests.now)) }
+    ensures looked { OnOk result (Gains looked.old looked.new (GuardLooksAt stands.now (value_at store.now) tests.now)) }
+{
+    let mut says_no = false;
+    let mut wanted = Variables::new(alloc);
+    for test in tests {
+        if let Says::No = ask(alloc, store, stands, test, &mut wanted, looked)? {
+            says_no = true;
+        }
+    }
+    Ok(Said { says_no, wanted })
+}

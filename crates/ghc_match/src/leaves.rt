@@ -1,0 +1,32 @@
+// The variables of expressions and tests.
+ghost use Rattle.std.specs.Prelude.{◌≡◌, ◌++◌, OnOk};
+ghost use Rattle.ghc_flat.specs.Variables.{leaf_variables};
+
+use ghc_term::{Expr, ExprView, TermView, VarName};
+use std::alloc::{AllocError, Global};
+
+// Adds the leaves of the expression that are variables, from left to right. One step for each part of the expression.
+pub fn push_leaves(
+    alloc: Global,
+    expression: &Expr,
+    names: &mut Vec<VarName>,
+) -> Result<(), AllocError>
+    ensures { OnOk result (names.new.items ≡ names.old.items ++ leaf_variables expression.now) }
+{
+    let mut waiting = Vec::new(alloc);
+    waiting.push(expression)?;
+    while let Some(part) = waiting.pop() {
+        match part.view() {
+            ExprView::Leaf(term) => {
+                if let TermView::Var(x) = term.view() {
+                    names.push(x)?;
+                }
+            }
+            ExprView::Operation(_, left, right) => {
+                waiting.push(right)?;
+                waiting.push(left)?;
+            }
+        }
+    }
+    Ok(())
+}
