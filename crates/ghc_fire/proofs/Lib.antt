@@ -5,3 +5,7 @@ pub mod Origins
 pub mod Codes
 pub mod EachEffect
 pub mod EachAnswer
+pub mod Ordered
+pub mod GoalNames
+pub mod Rebuilding
+pub mod Renamed

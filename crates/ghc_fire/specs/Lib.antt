@@ -1,7 +1,10 @@
 pub mod Instance
+pub mod Renaming
 pub mod Effect
+pub mod EffectCode
 pub mod Attempt
 pub mod Laws
 pub mod Facts
 pub mod Goals
 pub mod Proposal
+pub mod GoalsCode

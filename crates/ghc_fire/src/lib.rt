@@ -2,14 +2,20 @@
 #![tactic(auto)]
 
 mod act;
+mod effect;
 mod facts;
+mod goals;
+mod instances;
 mod laws;
 
 pub use act::Act;
+pub use effect::Effect;
 pub use facts::{
     append_attempts, append_run, bound_tail_takes_nothing, input_and_close, input_reads_alias,
     least_assigned, structure_assigned, waits_then_fails,
 };
+pub use goals::Goals;
+pub use instances::instance;
 pub use laws::{
     attempt_has_one_answer, attempt_is_of_what_is_looked_at, each_act_has_an_effect_or_none,
     each_attempt_has_an_answer, each_effect_is_decided, effect_binds_and_reads, effect_is_local,

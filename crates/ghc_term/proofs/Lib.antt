@@ -20,3 +20,6 @@ pub mod Nesting
 pub mod Written
 pub mod Collections
 pub mod Sets
+pub mod Alike
+pub mod Full
+pub mod Members

@@ -25,3 +25,4 @@ pub mod InputTerm
 pub mod Measure
 pub mod Sets
 pub mod Variables
+pub mod Equality

@@ -1,9 +1,10 @@
 // What a step binds.
-ghost use Rattle.std.specs.Prelude.{◌≡◌, OnOk, OnErr, None};
+ghost use Rattle.std.specs.Prelude.{◌≡◌, ◌↔◌, length, IfOk, IsTrue, OnOk, OnErr, None, Some};
 
 use crate::term::Term;
 use crate::var_name::VarName;
 use indexmap::IndexMap;
+use indexmap::map::Iter;
 use std::alloc::{AllocError, Global};
 use std::marker::Model;
 
@@ -27,7 +28,11 @@ impl Model for Bindings {
 impl Bindings {
     ghost use Rattle.std.specs.Prelude.{option_copied};
     ghost use Rattle.std.specs.FinMap as finite;
+    ghost use Rattle.std.specs.Map.Iter.{ShowsInOrder, deref_pair};
     ghost use Rattle.ghc_term.specs.Store.{value_at};
+    ghost use Rattle.ghc_term.specs.Tree.{Tree};
+    ghost use Rattle.ghc_term.specs.Equality.{IsWithin};
+    ghost use Rattle.ghc_term.specs.declared.var_name.VarName.{VarName};
 
     /// No bindings, which take no memory.
     pub fn new(alloc: Global) -> Bindings
@@ -61,6 +66,48 @@ impl Bindings {
             Ok(_) => Ok(()),
             Err(_) => Err(AllocError),
         }
+    }
+
+    /// The bindings, each once.
+    pub fn iter(&self) -> Iter<'_, VarName, Term>
+        ensures all { finite.from_entries result ≡ self.now }
+        ensures once { length result ≡ finite.len self.now }
+        ensures runs { ShowsInOrder (deref_pair {K = VarName} {X = Tree}) }
+    {
+        self.map.iter()
+    }
+
+    // Whether the variable is bound to the term here.
+    fn binds(&self, alloc: Global, x: VarName, value: &Term) -> Result<bool, AllocError>
+        ensures { IfOk result (λ yes. IsTrue yes ↔ (value_at self.now x ≡ Some value.now)) }
+    {
+        match self.get(x) {
+            Some(bound) => bound.same(alloc, value),
+            None => Ok(false),
+        }
+    }
+
+    // Whether each binding here is one of the other's.
+    fn is_within(&self, alloc: Global, other: &Bindings) -> Result<bool, AllocError>
+        ensures { IfOk result (λ yes. IsTrue yes ↔ IsWithin self.now other.now) }
+    {
+        for place in 0..self.map.len() {
+            let (x, value) = self.map.get_index(place).unwrap();
+            if !other.binds(alloc, *x, value)? {
+                return Ok(false);
+            }
+        }
+        Ok(true)
+    }
+
+    /// Whether the other has the same variables bound to the same terms: one look-up and a comparison for each.
+    pub fn same(&self, alloc: Global, other: &Bindings) -> Result<bool, AllocError>
+        ensures { IfOk result (λ same. IsTrue same ↔ (self.now ≡ other.now)) }
+    {
+        if self.len() != other.len() {
+            return Ok(false);
+        }
+        self.is_within(alloc, other)
     }
 }
 

@@ -3,6 +3,7 @@
 
 mod bindings;
 mod comparison;
+mod equality;
 mod expr;
 mod expr_view;
 mod fault;

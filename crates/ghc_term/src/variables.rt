@@ -1,5 +1,5 @@
 // Sets of variables.
-ghost use Rattle.std.specs.Prelude.{◌≡◌, OnOk, OnErr};
+ghost use Rattle.std.specs.Prelude.{◌≡◌, ◌↔◌, length, IsTrue, OnOk, OnErr};
 
 use crate::var_name::VarName;
 use indexmap::IndexSet;
@@ -26,6 +26,8 @@ impl Model for Variables {
 
 impl Variables {
     ghost use Rattle.std.specs.FinSet as set;
+    ghost use Rattle.ghc_term.specs.Lists.{In};
+    ghost use Rattle.ghc_term.specs.declared.var_name.VarName.{VarName};
 
     /// The empty set, which takes no memory.
     pub fn new(alloc: Global) -> Variables
@@ -59,6 +61,33 @@ impl Variables {
             Ok(_) => Ok(()),
             Err(_) => Err(AllocError),
         }
+    }
+
+    /// The variables of the set, each once.
+    pub fn members(&self) -> &[VarName]
+        ensures all { set.from_list result.now ≡ self.now }
+        ensures once { length result.now ≡ set.len self.now }
+    {
+        self.members.as_slice()
+    }
+
+    // Whether each of the variables is in the set: one look-up for each.
+    fn has_all(&self, others: &[VarName]) -> bool
+        ensures { IsTrue result ↔ ((x : VarName) → In x others.now → IsTrue (set.contains self.now x)) }
+    {
+        for x in others {
+            if !self.contains(*x) {
+                return false;
+            }
+        }
+        true
+    }
+
+    /// Whether the other is the same set: one look-up for each member of both.
+    pub fn same(&self, other: &Variables) -> bool
+        ensures { IsTrue result ↔ (self.now ≡ other.now) }
+    {
+        self.has_all(other.members()) && other.has_all(self.members())
     }
 }
 

@@ -1,0 +1,25 @@
+-- The order of goal names.
+use Rattle.std.proofs.Common.{◌≡◌, refl, sym}
+use Rattle.std.specs.declared.cmp.Ordering.{Ordering}
+use Rattle.std.specs.declared.cmp.Ordering.TheVariants.{Less, Equal, Greater}
+use Rattle.std.specs.Ordering.{nat_cmp, ordering_then}
+use Rattle.std.specs.Cmp.{IsTotalOrder, ranked, nat_cmp_total}
+use Rattle.std.specs.FinMap.{IsAntisymmetric}
+use Rattle.std.proofs.lemmas.Cmp.{then_total, on_total}
+use Rattle.ghc_term.specs.declared.goal_name.GoalName.{GoalName}
+use Rattle.ghc_fire.specs.Goals.{goal_cmp}
+
+pub goal_total : IsTotalOrder goal_cmp
+goal_total = then_total (on_total (λ (g : GoalName). g.step) nat_cmp_total) (on_total (λ (g : GoalName). g.place) nat_cmp_total)
+
+both : (a b : Ordering) → ordering_then a b ≡ Equal → (a ≡ Equal) × (b ≡ Equal)
+both Less b e = cc
+both Equal b e = (refl, e)
+both Greater b e = cc
+
+pub goal_antisymmetric : IsAntisymmetric goal_cmp
+goal_antisymmetric g h e =
+    let p = both (nat_cmp g.step h.step) (nat_cmp g.place h.place) e in
+    let steps : g.step ≡ h.step = ranked g.step h.step Equal (sym p.0) in
+    let places : g.place ≡ h.place = ranked g.place h.place Equal (sym p.1) in
+    λ i. record { step = steps i; place = places i }

@@ -1,0 +1,64 @@
+-- Terms and expressions with their variables replaced, from the inside out.
+use Rattle.std.proofs.Common.{◌≡◌, ℕ, zero, suc, ◌+◌, ◌-◌, ◌<◌, ◌≤◌, List, [], ◌∷◌, ◌++◌, length, get_or, take, map, refl, sym, ap, ◌∙◌, subst, inl, inr, arith}
+use Rattle.std.specs.Prelude.{Option, Some, None, unwrap_or}
+use Rattle.std.specs.Borrow.{Bor}
+use Rattle.std.proofs.lemmas.List.{take_more}
+use Rattle.ghc_term.specs.declared.var_name.VarName.{VarName}
+use Rattle.ghc_term.specs.declared.operator.Operator.{Operator}
+use Rattle.ghc_term.specs.declared.view.TermView.{TermView}
+use Rattle.ghc_term.specs.declared.view.TermView.TheVariants.{Var, Int, Atom, Struct}
+use Rattle.ghc_term.specs.Shown.{shown}
+use Rattle.ghc_term.specs.Tree.{Tree, variable, integer, node, Trees, none, more, trees, Occurs, OccursIn, IsClosed, AreClosed}
+use Rattle.ghc_term.specs.Expression.{Expression, leaf, operation}
+use Rattle.ghc_unify.specs.Solutions.{replace, replace_all}
+use Rattle.ghc_fire.specs.Instance.{replace_in_expression}
+use Rattle.ghc_fire.specs.Renaming.{plugged, operated}
+use Rattle.ghc_fire.specs.declared.instances.terms.Front.{Front}
+
+pub plugged_push : (fs : List Front) (f : Front) (t : Tree) → plugged (fs ++ f ∷ []) t ≡ plugged fs (node f.name (trees (f.arguments.items ++ t ∷ [])))
+plugged_push [] f t = refl
+plugged_push (g ∷ fs) f t = ap (λ u. node g.name (trees (g.arguments.items ++ u ∷ []))) (plugged_push fs f t)
+
+pub operated_push : (ps : List (Operator × Expression)) (p : Operator × Expression) (a : Expression) → operated (ps ++ p ∷ []) a ≡ operated ps (operation p.0 a p.1)
+operated_push [] p a = refl
+operated_push (q ∷ ps) p a = ap (λ b. operation q.0 b q.1) (operated_push ps p a)
+
+pub map_push : {X Y : Type 0} (f : X → Y) (xs : List X) (x : X) → map f (xs ++ x ∷ []) ≡ map f xs ++ f x ∷ []
+map_push f [] x = refl
+map_push f (y ∷ xs) x = ap (λ l. f y ∷ l) (map_push f xs x)
+
+-- one element more of a list that is mapped
+pub map_more : {X Y : Type 0} (f : X → Y) (xs : List X) (i : ℕ) (x : X) (ys : List Y) (y : Y) → i < length xs → x ≡ get_or xs i x → ys ≡ map f (take i xs) → y ≡ f x → ys ++ y ∷ [] ≡ map f (take (i + 1) xs)
+map_more f xs i x ys y h e p q =
+    let more_taken = take_more xs i x h ∙ ap (λ z. take i xs ++ z ∷ []) (sym e) in
+    (λ j. p j ++ q j ∷ []) ∙ sym (map_push f (take i xs) x) ∙ ap (map f) (sym more_taken)
+
+module _ (s : VarName → Tree) where
+  pub replace_trees : (ts : List Tree) → replace_all s (trees ts) ≡ trees (map (replace s) ts)
+  replace_trees [] = refl
+  replace_trees (t ∷ ts) = ap (more (replace s t)) (replace_trees ts)
+
+  mutual
+    pub replace_closed : (t : Tree) → IsClosed t → replace s t ≡ t
+    replace_closed (variable x) h = absurd (h x refl)
+    replace_closed (integer k) h = refl
+    replace_closed (node f ts) h = ap (node f) (replace_all_closed ts h)
+
+    replace_all_closed : (ts : Trees) → AreClosed ts → replace_all s ts ≡ ts
+    replace_all_closed none h = refl
+    replace_all_closed (more t ts) h = λ i. more (replace_closed t (λ x o. h x (inl o)) i) (replace_all_closed ts (λ x o. h x (inr o)) i)
+
+  -- one structure further in
+  pub further_in : (fs : List Front) (g : Front) (f : List ℕ) (whole front : List Tree) (last place : Tree) → node f (trees whole) ≡ place → whole ≡ front ++ last ∷ [] → g.name ≡ f → g.arguments.items ≡ map (replace s) front
+      → plugged (fs ++ g ∷ []) (replace s last) ≡ plugged fs (replace s place)
+  further_in fs g f whole front last place e w p q =
+      let args : trees (g.arguments.items ++ replace s last ∷ []) ≡ replace_all s (trees whole) =
+      ap (λ l. trees (l ++ replace s last ∷ [])) q ∙ ap trees (sym (map_push (replace s) front last)) ∙ sym (replace_trees (front ++ last ∷ [])) ∙ ap (λ l. replace_all s (trees l)) (sym w) in
+      plugged_push fs g (replace s last) ∙ ap (plugged fs) ((λ i. node (p i) (args i)) ∙ ap (replace s) e)
+
+  -- what is lent as neither a variable nor a structure stays
+  pub replace_plain : (v : TermView) → ((x : VarName) → v ≡ Var x → ⊥) → ((f : Bor (List ℕ)) (ts : Bor (List Tree)) → v ≡ Struct f ts → ⊥) → replace s (shown v) ≡ shown v
+  replace_plain (Var x) h g = absurd (h x refl)
+  replace_plain (Int k) h g = refl
+  replace_plain (Atom f) h g = refl
+  replace_plain (Struct f ts) h g = absurd (g f ts refl)

@@ -1,0 +1,100 @@
+// What a step reads, binds and makes.
+ghost use Rattle.std.specs.Prelude.{◌≡◌, ◌↔◌, IfOk, IsTrue};
+
+use ghc_term::{Bindings, Goal, Variables};
+use std::alloc::{AllocError, Global};
+use std::marker::Model;
+
+/// The effect of a step: the variables that it reads, what it binds, the goals that it makes in order, and how many
+/// variables it makes.
+#[derive(Drop)]
+pub struct Effect {
+    reads: Variables,
+    binds: Bindings,
+    makes: Vec<Goal>,
+    fresh: u32,
+}
+
+impl Model for Effect {
+    ghost use Rattle.ghc_fire.specs.Effect.{Effect};
+    ghost use Rattle.ghc_fire.specs.EffectCode.{effect_code};
+
+    ghost Value = { Effect };
+
+    ghost coded = { effect_code };
+
+    ghost view = { λ e. record { reads = e.reads; binds = e.binds; makes = e.makes.items; fresh = e.fresh } };
+}
+
+// Whether the lists have the same goals in the same order.
+fn same_goals(alloc: Global, lefts: &[Goal], rights: &[Goal]) -> Result<bool, AllocError>
+    ensures { IfOk result (λ same. IsTrue same ↔ (lefts.now ≡ rights.now)) }
+{
+    if lefts.len() != rights.len() {
+        return Ok(false);
+    }
+    for index in 0..lefts.len() {
+        if !lefts[index].same(alloc, &rights[index])? {
+            return Ok(false);
+        }
+    }
+    Ok(true)
+}
+
+impl Effect {
+    /// The effect of these parts.
+    pub fn new(reads: Variables, binds: Bindings, makes: Vec<Goal>, fresh: u32) -> Effect
+        ensures reads { result.reads ≡ reads }
+        ensures binds { result.binds ≡ binds }
+        ensures makes { result.makes ≡ makes.items }
+        ensures fresh { result.fresh ≡ fresh }
+    {
+        Effect {
+            reads,
+            binds,
+            makes,
+            fresh,
+        }
+    }
+
+    /// The variables that the step reads.
+    pub fn reads(&self) -> &Variables
+        ensures { result.now ≡ self.now.reads }
+    {
+        &self.reads
+    }
+
+    /// What the step binds.
+    pub fn binds(&self) -> &Bindings
+        ensures { result.now ≡ self.now.binds }
+    {
+        &self.binds
+    }
+
+    /// The goals that the step makes, in order.
+    pub fn makes(&self) -> &[Goal]
+        ensures { result.now ≡ self.now.makes }
+    {
+        &self.makes
+    }
+
+    /// How many variables the step makes.
+    pub fn fresh(&self) -> u32
+        ensures { result ≡ self.now.fresh }
+    {
+        self.fresh
+    }
+
+    /// Whether the other is the same effect. It goes once through both, up to the first difference.
+    pub fn same(&self, alloc: Global, other: &Effect) -> Result<bool, AllocError>
+        ensures { IfOk result (λ same. IsTrue same ↔ (self.now ≡ other.now)) }
+    {
+        if self.fresh() != other.fresh() || !self.reads().same(other.reads()) {
+            return Ok(false);
+        }
+        if !self.binds().same(alloc, other.binds())? {
+            return Ok(false);
+        }
+        same_goals(alloc, self.makes(), other.makes())
+    }
+}

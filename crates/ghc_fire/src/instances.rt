@@ -1,0 +1,59 @@
+// The goals that a clause's body makes in a step.
+ghost use Rattle.std.specs.Prelude.{◌≡◌, IfOk};
+ghost use Rattle.ghc_fire.specs.Instance.{replace_in_goal, body_made};
+ghost use Rattle.ghc_fire.specs.Renaming.{AreBehindHead, renamed};
+
+mod expressions;
+mod terms;
+
+use crate::instances::expressions::replace_expression;
+use crate::instances::terms::{Renaming, replace_term, replace_terms};
+use ghc_flat::Clause;
+use ghc_term::{Bindings, Goal, GoalView};
+use std::alloc::{AllocError, Global};
+
+// The goal with its variables replaced.
+fn replace_goal(alloc: Global, goal: &Goal, by: Renaming<'_>) -> Result<Goal, AllocError>
+    ensures { IfOk result (λ g. g ≡ replace_in_goal (renamed by.entry.head_variables by.entry.theta.now by.entry.number) goal.now) }
+{
+    match goal.view() {
+        GoalView::Call(name, arguments) => {
+            let arguments = replace_terms(alloc, arguments, by)?;
+            Goal::call(alloc, name.share()?, arguments)
+        }
+        GoalView::Unify(left, right) => {
+            let left = replace_term(alloc, left, by)?;
+            Ok(Goal::unify(left, replace_term(alloc, right, by)?))
+        }
+        GoalView::Assign(left, value) => {
+            let left = replace_term(alloc, left, by)?;
+            Ok(Goal::assign(left, replace_expression(alloc, value, by)?))
+        }
+        GoalView::Stream(number, tail) => Ok(Goal::stream(number, tail)),
+    }
+}
+
+/// The goals that the body of the clause makes in the step of that number, where its head variables, of which there are
+/// `head_variables`, stand for what theta has. It goes once through the body, with one look-up for each variable in it,
+/// and shares what theta has and each part that has no variables.
+pub fn instance(
+    alloc: Global,
+    clause: &Clause,
+    head_variables: u32,
+    theta: &Bindings,
+    number: u32,
+) -> Result<Vec<Goal>, AllocError>
+    requires { AreBehindHead head_variables clause.now theta.now }
+    ensures { IfOk result (λ goals. goals.items ≡ body_made clause.now theta.now number) }
+{
+    let by = Renaming {
+        theta,
+        head_variables,
+        number,
+    };
+    let mut goals = Vec::new(alloc);
+    for goal in clause.body() {
+        goals.push(replace_goal(alloc, goal, by)?)?;
+    }
+    Ok(goals)
+}

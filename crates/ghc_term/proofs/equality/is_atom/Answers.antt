@@ -1,0 +1,9 @@
+use Rattle.std.proofs.Common.{◌≡◌, true, false, ◌∙◌}
+use Rattle.ghc_term.proofs.Alike.{lent_atom}
+use Rattle.ghc_term.proofs.equality.is_atom.Goals as goal
+
+pub returns-in_default : goal.returns-in_default
+returns-in_default c = (
+  λ h. absurd (let clash : false ≡ true = h in cc),
+  λ e. absurd (lent_atom c.args.name.now c.view.result c.view.ensures.arguments c.in_default.not-Atom (c.view.ensures.shown ∙ e)),
+)
