@@ -8,3 +8,4 @@ pub mod Numbers
 pub mod Index
 pub mod Samples
 pub mod Facts
+pub mod Refused

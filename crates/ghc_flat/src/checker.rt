@@ -6,6 +6,7 @@ ghost use Rattle.ghc_flat.specs.Clause.{Program};
 ghost use Rattle.ghc_flat.specs.Flat.{IsWellMade};
 ghost use Rattle.ghc_flat.specs.Variables.{variables_of_list};
 ghost use Rattle.ghc_flat.specs.Checked.{IsMadeOf, AreMadeOf, IsAcceptedAs, IsRepeated, AllCalls, IsFirstCallWithout, IsClauseFault, IsFirstFault, IsFault};
+ghost use Rattle.ghc_flat.specs.Refused.{IsRefusedAs};
 ghost use Rattle.ghc_flat.specs.Counting.{Rises};
 ghost use Rattle.ghc_flat.specs.Index.{Knows, AreSound};
 
@@ -14,6 +15,7 @@ use crate::counting::count_terms;
 use crate::guards::tests_of_guards;
 use crate::index::Index;
 use crate::program::Program;
+use crate::refused::Refused;
 use ghc_reader::{Query, Source, WrittenClause};
 use ghc_term::{Fault, Goal, GoalView, Name};
 use std::alloc::Global;
@@ -36,10 +38,29 @@ fn answer(alloc: Global, source: Source, query: &Query) -> Result<Program, Fault
     ensures accepted { IfOk result (IsAcceptedAs source query.now.goals) }
     ensures refused { IfErr result (λ e. (e ≡ Fault.Memory) ⊎ IsFault source query.now.goals e) }
 {
-    let index = Index::of(alloc, source.clauses())?;
-    let clauses = check_clauses(alloc, source.into_clauses(), &index)?;
-    check_calls(query.goals(), &index)?;
-    Ok(Program { clauses, index })
+    match judge(alloc, source, query) {
+        Ok(program) => Ok(program),
+        Err(refused) => Err(refused.fault()),
+    }
+}
+
+/// The program that is written, as `check`, or else the first fault with the text that it is of.
+pub fn judge(alloc: Global, source: Source, query: &Query) -> Result<Program, Refused>
+    ensures accepted { IfOk result (IsAcceptedAs source query.now.goals) }
+    ensures refused { IfErr result (IsRefusedAs source query.now.goals) }
+{
+    let index = match Index::of(alloc, source.clauses()) {
+        Ok(index) => index,
+        Err(_) => return Err(Refused::Program(Fault::Memory)),
+    };
+    let clauses = match check_clauses(alloc, source.into_clauses(), &index) {
+        Ok(clauses) => clauses,
+        Err(fault) => return Err(Refused::Program(fault)),
+    };
+    match check_calls(query.goals(), &index) {
+        Ok(()) => Ok(Program { clauses, index }),
+        Err(fault) => Err(Refused::of_query(fault)),
+    }
 }
 
 // The clauses, or the fault of the first with which something is wrong.

@@ -1,2 +1,3 @@
 -- Lemmas of this crate.
 mod Required
+mod Starting

@@ -2,4 +2,5 @@
 pub mod CommandLine
 pub mod Refusal
 pub mod Source
+pub mod Start
 pub mod Status

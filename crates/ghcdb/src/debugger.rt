@@ -1,5 +1,5 @@
 // What the program does with the words of its command line.
-ghost use Rattle.std.specs.Prelude.{◌≡◌, ◌≢◌, Err};
+ghost use Rattle.std.specs.Prelude.{◌≡◌, ◌≢◌};
 ghost use Rattle.clap.specs.Words.{kind_of};
 ghost use Rattle.clap.specs.declared.error.kind.ErrorKind.{ErrorKind};
 ghost use Rattle.ghc_term.specs.Fault.{fault_text};
@@ -10,6 +10,7 @@ use crate::files::read_file;
 use crate::refusal::{Refusal, push_line};
 use crate::settings::Options;
 use crate::source::Source;
+use crate::start::start;
 use crate::status::Status;
 use clap::Error;
 use ghc_term::{Fault, Limit};
@@ -43,20 +44,20 @@ fn debug<R: Files + Eprint + AllocGlobal>(rt: &R, options: Options<'_>) -> Statu
         Ok(program) => program,
         Err(fault) => return tell(rt, &Refusal { source, fault }),
     };
-    match start(program.as_slice(), options.query.as_bytes()) {
-        Ok(()) => Status::Done,
+    match start(rt.alloc(), program.as_slice(), options.query.as_bytes()) {
+        Ok(_started) => tell(rt, &not_built()),
         Err(refusal) => tell(rt, &refusal),
     }
 }
 
-// The session on a program and a query. Nothing reads them yet, so it is refused as not built.
-fn start(_program: &[u8], _query: &[u8]) -> Result<(), Refusal>
-    ensures { result ≡ Err (record { source = Source.Program; fault = Fault.Limit Limit.Stage }) }
+// The session on a program and a query is not built yet.
+fn not_built() -> Refusal
+    ensures { result ≡ record { source = Source.Program; fault = Fault.Limit Limit.Stage } }
 {
-    Err(Refusal {
+    Refusal {
         source: Source::Program,
         fault: Fault::Limit(Limit::Stage),
-    })
+    }
 }
 
 // Tells of a refusal on the standard error, whose failing changes nothing, and gives its status.

@@ -7,6 +7,7 @@ mod files;
 mod refusal;
 mod settings;
 mod source;
+mod start;
 mod status;
 
 use debugger::run;

@@ -1,0 +1,21 @@
+use Rattle.std.proofs.Common.{◌⊎◌, sym, subst, inl, inr, refl}
+use Rattle.ghcdb.specs.Start.{IsStartRefusal, IsOutOfMemory, of_program, of_query}
+use Rattle.ghcdb.proofs.Starting.{told}
+use Rattle.ghcdb.proofs.start.start.Goals as goal
+
+pub returns-in-Err-clause-refused : goal.returns-in-Err-clause-refused
+returns-in-Err-clause-refused c = elim c.in-Err.ensures.fault [
+  | inl m ↦ inl (record { fault = m; source = inl refl })
+  | inr r ↦ inr (of_program refl r)
+]
+
+pub returns-in-Err-read_query-clause-refused : goal.returns-in-Err-read_query-clause-refused
+returns-in-Err-read_query-clause-refused c = elim c.in-Err-read_query.ensures.fault [
+  | inl m ↦ inl (record { fault = m; source = inr refl })
+  | inr r ↦ inr (of_query c.in-Ok.written c.in-Ok.ensures.found refl r)
+]
+
+pub returns-in-Err-judge-clause-refused : goal.returns-in-Err-judge-clause-refused
+returns-in-Err-judge-clause-refused c =
+    subst (λ r. IsOutOfMemory r ⊎ IsStartRefusal c.args.program.now c.args.query.now r) (sym c.refusal_of.ensures)
+    (told c.args.program.now c.args.query.now c.in-Ok.written c.in-Ok-read_query.query c.in-Err-judge.refused c.in-Ok.ensures.found c.in-Ok-read_query.ensures.found c.in-Err-judge.ensures.refused)

@@ -1,0 +1,59 @@
+// The start of a session: from the texts of a program and a query to both, read and checked.
+ghost use Rattle.std.specs.Prelude.{◌≡◌, ◌⊎◌, IfOk, IfErr};
+ghost use Rattle.ghcdb.specs.Start.{IsStarted, IsStartRefusal, IsOutOfMemory, told_of};
+
+use crate::refusal::Refusal;
+use crate::source::Source;
+use ghc_flat::{Program, Refused, judge};
+use ghc_reader::{Query, read_program, read_query};
+use std::alloc::Global;
+
+/// A program and a query that are accepted together.
+#[derive(Drop)]
+pub struct Started {
+    pub program: Program,
+    pub query: Query,
+}
+
+/// The program and the query that the texts say. Both texts are read before either is checked: the refusal is that of
+/// the program's text, else that of the query's text, else the fault of the program, else that of the query; or want
+/// of memory. Time and memory grow with the texts.
+pub fn start(alloc: Global, program: &[u8], query: &[u8]) -> Result<Started, Refusal>
+    ensures started { IfOk result (IsStarted program.now query.now) }
+    ensures refused { IfErr result (λ refusal. IsOutOfMemory refusal ⊎ IsStartRefusal program.now query.now refusal) }
+{
+    let written = match read_program(alloc, program) {
+        Ok(written) => written,
+        Err(fault) => {
+            let source = Source::Program;
+            return Err(Refusal { source, fault });
+        }
+    };
+    let query = match read_query(alloc, query) {
+        Ok(query) => query,
+        Err(fault) => {
+            let source = Source::Query;
+            return Err(Refusal { source, fault });
+        }
+    };
+    match judge(alloc, written, &query) {
+        Ok(program) => Ok(Started { program, query }),
+        Err(refused) => Err(refusal_of(refused)),
+    }
+}
+
+// The refusal of the text at fault.
+fn refusal_of(refused: Refused) -> Refusal
+    ensures { result ≡ told_of refused }
+{
+    match refused {
+        Refused::Program(fault) => {
+            let source = Source::Program;
+            Refusal { source, fault }
+        }
+        Refused::Query(fault) => {
+            let source = Source::Query;
+            Refusal { source, fault }
+        }
+    }
+}
