@@ -110,6 +110,3 @@ pub(crate) fn tokens(alloc: Global, text: &[u8], reserved: Reserved) -> Result<L
     }
     cut(alloc, text, reserved)
 }
-
-#[cfg(test)]
-mod tests;

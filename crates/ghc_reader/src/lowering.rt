@@ -11,6 +11,3 @@ mod terms;
 
 pub(crate) use clauses::lower_program;
 pub(crate) use queries::{lower_closed, lower_query};
-
-#[cfg(test)]
-mod tests;

@@ -149,6 +149,3 @@ pub(crate) fn parsed_term(alloc: Global, text: &[u8]) -> Result<SourceTerm, Faul
 {
     term(alloc, text)
 }
-
-#[cfg(test)]
-mod tests;
