@@ -45,3 +45,7 @@ pub mod Numbered
 pub mod ClausesLowered
 pub mod ClosedTrees
 pub mod OneNaming
+pub mod Meanings
+pub mod InputSizes
+pub mod TokenBytes
+pub mod ReadTerms

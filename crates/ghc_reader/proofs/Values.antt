@@ -12,7 +12,7 @@ use Rattle.ghc_reader.specs.Pieces.{HasForm}
 use Rattle.ghc_reader.specs.Lexed.{EndsNumber, IsReserved}
 use Rattle.ghc_reader.specs.declared.lexer.front.Kind.TheVariants as kind
 
-all_of_run : (bs : List ℕ) → IsRun is_ascii_digit is_ascii_digit bs → list_all is_ascii_digit bs ≡ true
+pub all_of_run : (bs : List ℕ) → IsRun is_ascii_digit is_ascii_digit bs → list_all is_ascii_digit bs ≡ true
 all_of_run [] run = absurd run
 all_of_run (b ∷ bs) run = let first = run.0 in let others = run.1 in grind (arith, first, others)
 
@@ -58,7 +58,7 @@ is_reserved_from text rest end first last none =
 
 -- ---- integers
 
-digits_of_all : (bs : List ℕ) → list_all is_ascii_digit bs ≡ true → AllDigits 10 bs
+pub digits_of_all : (bs : List ℕ) → list_all is_ascii_digit bs ≡ true → AllDigits 10 bs
 digits_of_all [] all = tt
 digits_of_all (b ∷ bs) all =
     let first : is_ascii_digit b ≡ true = grind (arith, all) in

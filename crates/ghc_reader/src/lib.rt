@@ -23,5 +23,5 @@ mod tests;
 pub mod token;
 mod written;
 
-pub use read::{read_program, read_query};
+pub use read::{read_ground_term, read_program, read_query};
 pub use written::{Guard, Query, Source, WrittenClause};

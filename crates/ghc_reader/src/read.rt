@@ -1,13 +1,14 @@
 // The reader's calls: from the bytes of a text to what it says, in the terms of the language.
 ghost use Rattle.std.specs.Prelude.{◌≡◌, ◌⊎◌, List, IfOk, IfErr, IsErrAnd, MatchResult, ⊤};
-ghost use Rattle.ghc_reader.specs.Tests.{a_program, a_query, IsRefusal};
+ghost use Rattle.ghc_reader.specs.Tests.{a_program, a_query, a_term, IsRefusal};
 ghost use Rattle.ghc_reader.specs.Written.{WrittenClause, WrittenQuery};
-ghost use Rattle.ghc_reader.specs.Read.{IsReadProgram, IsReadQuery};
+ghost use Rattle.ghc_term.specs.Tree.{Tree};
+ghost use Rattle.ghc_reader.specs.Read.{IsReadProgram, IsReadQuery, IsReadTerm};
 
-use crate::lowering::{lower_program, lower_query};
-use crate::reading::{parsed_program, parsed_query};
+use crate::lowering::{lower_closed, lower_program, lower_query};
+use crate::reading::{parsed_program, parsed_query, parsed_term};
 use crate::written::{Query, Source};
-use ghc_term::Fault;
+use ghc_term::{Fault, Ground};
 use std::alloc::Global;
 
 /// The program that a text says. Else the refusal of the first test that the text does not pass: `Limit::Text` past
@@ -47,4 +48,23 @@ pub fn read_query(alloc: Global, text: &[u8]) -> Result<Query, Fault>
     };
     let query = lower_query(alloc, &goals)?;
     Ok(query)
+}
+
+/// The input term that a text says, or its refusal, as `read_program`; in place of `Limit::Clauses`, `Goals` and `Variables`
+/// there is `Limit::Term` past 10,000 nodes.
+pub fn read_ground_term(alloc: Global, text: &[u8]) -> Result<Ground, Fault>
+    ensures found { IfOk result (IsReadTerm text.now) }
+    ensures fault { IfErr result (λ fault. (fault ≡ Fault.Memory) ⊎ IsRefusal a_term text.now fault) }
+
+    // A text that can be read is not refused, and one that is refused is not read, nor refused in another way.
+    ensures only { (term : Tree) → IsReadTerm text.now term → MatchResult result (λ _. ⊤) (λ fault. fault ≡ Fault.Memory) }
+    ensures only_fault { (refusal : Fault) → IsRefusal a_term text.now refusal
+        → IsErrAnd result (λ fault. (fault ≡ refusal) ⊎ (fault ≡ Fault.Memory)) }
+{
+    let parsed = match parsed_term(alloc, text) {
+        Ok(parsed) => parsed,
+        Err(fault) => return Err(fault),
+    };
+    let term = lower_closed(alloc, &parsed)?;
+    Ok(Ground::new(term).ok().unwrap())
 }

@@ -1,0 +1,110 @@
+-- The one term that a parse tree without variables says.
+use Rattle.std.proofs.Common.{◌≡◌, ℕ, ◌+◌, ◌≤◌, max, List, [], ◌∷◌, length, Some, None, true, false, refl, sym, ap, ◌∙◌, subst, inl, inr, arith, FitsSigned, w64}
+use Rattle.std.specs.Prelude.{codes, bytes_eq, IsTrue}
+use Rattle.std.specs.Char.{is_ascii_lowercase}
+use Rattle.std.proofs.lemmas.Slice.Eq.{bytes_eq-Decides}
+use Rattle.std.proofs.lemmas.Bool.Decides.{nat_tests}
+use Rattle.ghc_term.specs.Tree as term
+use Rattle.ghc_term.specs.Tree.{node, trees, nil, cons, list_of}
+use Rattle.ghc_term.specs.Text.{is_cell, is_nil}
+use Rattle.ghc_term.specs.InputTerm as input
+use Rattle.ghc_term.specs.InputTerm.{IsNameText, IsInGrammar, AllInGrammar}
+use Rattle.ghc_reader.specs.Source.{Tree, Trees, variable, integer, structure, empty, cell, none, some}
+use Rattle.ghc_reader.specs.Reserved.{count}
+use Rattle.ghc_reader.specs.Amounts.{widest, widest_of, nodes, nodes_of}
+use Rattle.ghc_reader.specs.Lowered.{Says, SaysAll}
+
+abbrev mutual
+  -- the term; a variable has none, and stands for any
+  pub meaning : Tree → term.Tree
+  meaning (variable v) = nil
+  meaning (integer n) = term.integer n
+  meaning (structure f ts) = node f (meanings ts)
+  meaning empty = nil
+  meaning (cell t rest) = cons (meaning t) (meaning rest)
+
+  pub meanings : Trees → term.Trees
+  meanings none = term.none
+  meanings (some t ts) = term.more (meaning t) (meanings ts)
+
+mutual
+  pub said : (t : Tree) (u : term.Tree) → Says [] t u → u ≡ meaning t
+  said (variable v) u s = let clash = s.2.1 in cc
+  said (integer n) u s = s
+  said (structure f ts) u s = s.1 ∙ ap (node f) (all_said ts s.0 s.2)
+  said empty u s = s
+  said (cell t rest) u s = s.2 ∙ (λ i. cons (said t s.0 s.3 i) (said rest s.1 s.4 i))
+
+  all_said : (ts : Trees) (us : List term.Tree) → SaysAll [] ts us → trees us ≡ meanings ts
+  all_said none us s = ap trees s
+  all_said (some t ts) us s = ap trees s.2 ∙ (λ i. term.more (said t s.0 s.3 i) (all_said ts s.1 s.4 i))
+
+mutual
+  pub nodes_of_meaning : (t : Tree) → input.nodes (meaning t) ≡ nodes t
+  nodes_of_meaning (variable v) = refl
+  nodes_of_meaning (integer n) = refl
+  nodes_of_meaning (structure f ts) = omega (arith, nodes_of_meanings ts)
+  nodes_of_meaning empty = refl
+  nodes_of_meaning (cell t rest) = omega (arith, nodes_of_meaning t, nodes_of_meaning rest)
+
+  nodes_of_meanings : (ts : Trees) → input.nodes_of_all (meanings ts) ≡ nodes_of ts
+  nodes_of_meanings none = refl
+  nodes_of_meanings (some t ts) = omega (arith, nodes_of_meaning t, nodes_of_meanings ts)
+
+count_meanings : (ts : Trees) → length (list_of (meanings ts)) ≡ count ts
+count_meanings none = refl
+count_meanings (some t ts) = omega (arith, count_meanings ts)
+
+abbrev mutual
+  -- no variable stands in the tree, its names are those of the grammar, and its integers have 64 bits
+  pub IsSound : Tree → Type 0
+  IsSound (variable v) = ⊥
+  IsSound (integer n) = FitsSigned w64 n
+  IsSound (structure f ts) = IsNameText f × AreSound ts
+  IsSound empty = Unit {0}
+  IsSound (cell t rest) = IsSound t × IsSound rest
+
+  pub AreSound : Trees → Type 0
+  AreSound none = Unit {0}
+  AreSound (some t ts) = IsSound t × AreSound ts
+
+mutual
+  pub meaning_in_grammar : (t : Tree) → IsSound t → widest t ≤ 255 → IsInGrammar (meaning t)
+  meaning_in_grammar (variable v) s w = absurd s
+  meaning_in_grammar (integer n) s w = s
+  meaning_in_grammar (structure f ts) s w =
+      (inr (inr (s.0, omega (arith, w, count_meanings ts))), meanings_in_grammar ts s.1 (omega (arith, w)))
+  meaning_in_grammar empty s w = (inl refl, tt)
+  meaning_in_grammar (cell t rest) s w =
+      (inr (inl refl), (meaning_in_grammar t s.0 (omega (arith, w)), (meaning_in_grammar rest s.1 (omega (arith, w)), tt)))
+
+  meanings_in_grammar : (ts : Trees) → AreSound ts → widest_of ts ≤ 255 → AllInGrammar (meanings ts)
+  meanings_in_grammar none s w = tt
+  meanings_in_grammar (some t ts) s w = (meaning_in_grammar t s.0 (omega (arith, w)), meanings_in_grammar ts s.1 (omega (arith, w)))
+
+-- ---- a name of the grammar is neither that of a list cell nor that of the empty list
+
+no_text : (f : List ℕ) (b : ℕ) (bs : List ℕ) → is_ascii_lowercase b ≡ false → IsNameText f → bytes_eq f (b ∷ bs) ≡ false
+no_text f b bs other name =
+    elim (bytes_eq f (b ∷ bs)) as (λ v. bytes_eq f (b ∷ bs) ≡ v → v ≡ false) [
+      | true ↦ λ e. absurd (clash f name ((bytes_eq-Decides f (b ∷ bs)).0 e))
+      | false ↦ λ e. refl
+    ] refl
+  where
+    clash : (g : List ℕ) → IsNameText g → g ≡ b ∷ bs → ⊥
+    clash [] n e = n
+    clash (c ∷ cs) n e =
+        let same : c ≡ b = cc in
+        let lower : is_ascii_lowercase b ≡ true = subst (λ x. IsTrue (is_ascii_lowercase x)) same n.0 in
+        let both : true ≡ false = sym lower ∙ other in
+        cc
+
+pub name_no_cell : (f : List ℕ) (ts : term.Trees) → IsNameText f → is_cell f ts ≡ false
+name_no_cell f term.none n = refl
+name_no_cell f (term.more t term.none) n = refl
+name_no_cell f (term.more t (term.more u term.none)) n = no_text f 46 [] refl n
+name_no_cell f (term.more t (term.more u (term.more v vs))) n = refl
+
+pub name_no_nil : (f : List ℕ) (ts : term.Trees) → IsNameText f → is_nil f ts ≡ false
+name_no_nil f term.none n = no_text f 91 (93 ∷ []) refl n
+name_no_nil f (term.more t ts) n = refl

@@ -1,0 +1,93 @@
+-- What is read as an input term is one: in the grammar, and within the limits.
+use Rattle.std.proofs.Common.{◌≡◌, ℕ, ◌≤◌, ◌<◌, Bool, true, false, List, [], ◌∷◌, length, Option, Some, None, refl, sym, ap, ◌∙◌, subst, arith, cond}
+use Rattle.std.specs.Prelude.{nat_lt}
+use Rattle.std.proofs.lemmas.Bool.Decides.{nat_tests}
+use Rattle.ghc_term.specs.Tree as term
+use Rattle.ghc_term.specs.InputTerm.{IsInputTerm}
+use Rattle.ghc_term.specs.declared.limit.Limit.TheVariants as limit
+use Rattle.ghc_reader.specs.declared.token.Mark.TheVariants.{Close, CloseList, Comma, Bar}
+use Rattle.ghc_reader.specs.declared.token.Token.{Token}
+use Rattle.ghc_reader.specs.declared.token.Token.TheVariants as token
+use Rattle.ghc_reader.specs.declared.place.Place.{Place}
+use Rattle.ghc_reader.specs.declared.lexer.value.Reserved.TheVariants.{Refused}
+use Rattle.ghc_reader.specs.Grammar.{Term, variable, integer, call, list, Arguments, without, within, Rest, closed, whole, partial, Terms, one, more, Input, input, terms, IsClosed, AreClosed}
+use Rattle.ghc_reader.specs.Grammar as grammar
+use Rattle.ghc_reader.specs.Source as tree
+use Rattle.ghc_reader.specs.Derived.{tree_of, trees_of, cells_of}
+use Rattle.ghc_reader.specs.Depth.{IsTooDeep}
+use Rattle.ghc_reader.specs.Lexed.{IsLexed, most_bytes}
+use Rattle.ghc_reader.specs.Amounts.{widest, nodes}
+use Rattle.ghc_reader.specs.Limits.{first_exceeded, of_term}
+use Rattle.ghc_reader.specs.Lowered.{Says}
+use Rattle.ghc_reader.specs.Read.{IsReadTerm}
+use Rattle.ghc_reader.proofs.Meanings.{meaning, said, nodes_of_meaning, IsSound, AreSound, meaning_in_grammar}
+use Rattle.ghc_reader.proofs.InputSizes.{weights, most_open, term_bytes, term_deep, shallow_opens}
+use Rattle.ghc_reader.proofs.TokenBytes.{AreGood, good_tokens, tokens_bytes}
+
+-- ---- a derivation of good tokens has a sound tree
+
+sound_cells : (a : Terms) (end : tree.Tree) → AreSound (trees_of a) → IsSound end → IsSound (cells_of a end)
+sound_cells (one t) end s e = (s.0, e)
+sound_cells (more t a) end s e = (s.0, sound_cells a end s.1 e)
+
+mutual
+  sound_term : (t : Term) (ts : List Token) → IsClosed t → AreGood (grammar.term t ts) → IsSound (tree_of t) × AreGood ts
+  sound_term (variable v) ts c good = absurd c
+  sound_term (integer n) ts c good = good
+  sound_term (call f without) ts c good = ((good.0, tt), good.1)
+  sound_term (call f (within a)) ts c good = let inner = sound_terms a (token.Mark Close ∷ ts) c good.1.1 in ((good.0, inner.0), inner.1.1)
+  sound_term (list closed) ts c good = (tt, good.1.1)
+  sound_term (list (whole a)) ts c good =
+      let inner = sound_terms a (token.Mark CloseList ∷ ts) c good.1 in (sound_cells a tree.empty inner.0 tt, inner.1.1)
+  sound_term (list (partial a t)) ts c good =
+      let inner = sound_terms a (token.Mark Bar ∷ grammar.term t (token.Mark CloseList ∷ ts)) c.0 good.1 in
+      let end = sound_term t (token.Mark CloseList ∷ ts) c.1 inner.1.1 in
+      (sound_cells a (tree_of t) inner.0 end.0, end.1.1)
+
+  sound_terms : (a : Terms) (ts : List Token) → AreClosed a → AreGood (terms a ts) → AreSound (trees_of a) × AreGood ts
+  sound_terms (one t) ts c good = let inner = sound_term t ts c good in ((inner.0, tt), inner.1)
+  sound_terms (more t a) ts c good =
+      let first = sound_term t (token.Mark Comma ∷ terms a ts) c.0 good in
+      let behind = sound_terms a ts c.1 first.1.1 in
+      ((first.0, behind.0), behind.1)
+
+-- ---- the whole text
+
+-- The text has these tokens, they are those of a derivation and not nested too deep, and its tree has no more nodes and arguments
+-- than an input term may have: what the tree says is an input term.
+pub lexed_is_input : (text : List ℕ) (tokens : List Token) (places : List Place) (i : Input) (u : term.Tree)
+    → length text ≤ most_bytes → IsLexed Refused text tokens places → tokens ≡ input i [] → ¬ (IsTooDeep tokens)
+    → nodes (tree_of i.term) ≤ 10000 → widest (tree_of i.term) ≤ 255 → Says [] (tree_of i.term) u → IsInputTerm u
+lexed_is_input text tokens places i u short lexed spelled shallow size width says =
+    let good = subst AreGood (sym lexed.tokens_are ∙ spelled) (good_tokens true lexed.pieces [] lexed.cut.each_stands lexed.cut.none_refused) in
+    let sound = (sound_term i.term [] i.closed good).0 in
+    let bytes = tokens_bytes true lexed.pieces [] lexed.cut.each_stands lexed.cut.none_refused in
+    let written = term_bytes i.term [] sound in
+    let opened = subst (λ l. most_open 0 l ≤ 64) spelled (shallow_opens tokens shallow) in
+    let deep = term_deep i.term 0 [] sound in
+    subst IsInputTerm (sym (said (tree_of i.term) u says)) record {
+      grammar = meaning_in_grammar (tree_of i.term) sound width;
+      size = omega (arith, size, nodes_of_meaning (tree_of i.term));
+      nested = omega (arith, opened, deep);
+      text = omega (arith, short, written, bytes, ap weights (sym lexed.tokens_are ∙ spelled), ap length lexed.cut.whole);
+    }
+
+-- ---- the limits
+
+within_both : (wide many : Bool) → cond wide (Some limit.Arity) (cond many (Some limit.Term) None) ≡ None → (wide ≡ false) × (many ≡ false)
+within_both true many e = cc
+within_both false true e = cc
+within_both false false e = (refl, refl)
+
+at_most : (most n : ℕ) → nat_lt most n ≡ false → n ≤ most
+at_most most n e = grind (arith, nat_tests)
+
+pub read_is_input : (text : List ℕ) (u : term.Tree) → IsReadTerm text u → IsInputTerm u
+read_is_input text u (seen, read, says) =
+    let derived = read.derived in
+    let i = derived.derivation in
+    let limits = within_both (nat_lt 255 (widest seen)) (nat_lt 10000 (nodes seen)) read.within in
+    let wide = at_most 255 (widest seen) limits.0 in
+    let many = at_most 10000 (nodes seen) limits.1 in
+    lexed_is_input text read.tokens read.places i u derived.scanned.has_tokens.short derived.scanned.has_tokens.lexed derived.spelled derived.scanned.shallow
+    (omega (arith, many, ap nodes derived.sees)) (omega (arith, wide, ap widest derived.sees)) (subst (λ t. Says [] t u) (sym derived.sees) says)
