@@ -8,3 +8,4 @@ pub mod Replayed
 pub mod Returning
 pub mod Redoing
 pub mod EachAnswered
+pub mod Keeping

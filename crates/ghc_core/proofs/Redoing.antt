@@ -28,7 +28,7 @@ use Rattle.ghc_core.specs.Returns as laws
 use Rattle.ghc_core.proofs.Reaching.{Good, same_number, reached_good}
 use Rattle.ghc_core.proofs.Replayed.{Replayed, replayed}
 
-runs_split : (P : Program) (xs ys : List Record) (s t : State) → Runs P s (xs ++ ys) t → (m : State) × Runs P s xs m × Runs P m ys t
+pub runs_split : (P : Program) (xs ys : List Record) (s t : State) → Runs P s (xs ++ ys) t → (m : State) × Runs P s xs m × Runs P m ys t
 runs_split P [] ys s t run = (s, refl, run)
 runs_split P (x ∷ xs) ys s t run = let rest = runs_split P xs ys (after s x) t run.1 in (rest.0, (run.0, rest.1), rest.2)
 

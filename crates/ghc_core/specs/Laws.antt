@@ -9,6 +9,7 @@ use Rattle.ghc_term.specs.Tree.{IsClosed}
 use Rattle.ghc_records.specs.Orders.{AreDistinct}
 use Rattle.ghc_records.specs.Record.{numbers}
 use Rattle.ghc_records.specs.Laws.{IsWellMade}
+use Rattle.ghc_depend.specs.Kept.{Keeps}
 use Rattle.ghc_core.specs.World.{Hands, World}
 use Rattle.ghc_core.specs.Streams.{IsStreamAt, Inputs, Finishes}
 use Rattle.ghc_core.specs.Events.{Event, Reply}
@@ -30,6 +31,10 @@ ReachableIsOrderly = (w : World) (hands : Hands) → IsReachable w hands → IsO
 -- In a reachable world the store is acyclic, and each variable of goals and store is the query's or made by a kept step.
 abbrev pub ReachableIsWellMade : Type 0
 ReachableIsWellMade = (w : World) (hands : Hands) → IsReachable w hands → IsWellMade w.opening.query w.kept w.state
+
+-- In a reachable world the journal, in which loaded steps stand as taken, tells what is kept and what is on the shelf.
+abbrev pub ReachableKeeps : Type 0
+ReachableKeeps = (w : World) (hands : Hands) → IsReachable w hands → Keeps w.opening w.journal w.kept w.shelf
 
 -- In an orderly world each event has one answer at most, want of memory apart.
 abbrev pub OrderedHasOneAnswer : Type 0

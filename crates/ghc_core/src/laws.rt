@@ -1,5 +1,5 @@
 // Laws about the definitions, each as the contract of a function.
-ghost use Rattle.ghc_core.specs.Laws.{ReachableIsOrderly, ReachableIsWellMade, EventsHaveOneAnswer, InputsHaveAnAnswer, ClosesHaveAnAnswer, ArrangesHaveAnAnswer, ProposesHaveAnAnswer, CommitsHaveAnAnswer, NotesHaveAnAnswer, RedoesHaveAnAnswer, EventsHaveAnAnswer};
+ghost use Rattle.ghc_core.specs.Laws.{ReachableIsOrderly, ReachableIsWellMade, ReachableKeeps, EventsHaveOneAnswer, InputsHaveAnAnswer, ClosesHaveAnAnswer, ArrangesHaveAnAnswer, ProposesHaveAnAnswer, CommitsHaveAnAnswer, NotesHaveAnAnswer, RedoesHaveAnAnswer, EventsHaveAnAnswer};
 
 /// A reachable world keeps no number twice, has an acyclic store, and one goal a stream.
 pub fn reachable_is_orderly()
@@ -9,6 +9,11 @@ pub fn reachable_is_orderly()
 /// In a reachable world each variable is the query's or made by a kept step.
 pub fn reachable_is_well_made()
     ensures { ReachableIsWellMade }
+{}
+
+/// In a reachable world the journal tells what is kept and what is on the shelf.
+pub fn reachable_keeps()
+    ensures { ReachableKeeps }
 {}
 
 /// In a reachable world an event has one answer at most, want of memory apart.

@@ -9,7 +9,7 @@ pub use facts::{redo_is_changed, second_hand_is_stale};
 pub use laws::{
     arranges_have_an_answer, closes_have_an_answer, commits_have_an_answer, events_have_an_answer,
     events_have_one_answer, inputs_have_an_answer, notes_have_an_answer, proposes_have_an_answer,
-    reachable_is_orderly, reachable_is_well_made, redoes_have_an_answer,
+    reachable_is_orderly, reachable_is_well_made, reachable_keeps, redoes_have_an_answer,
 };
 pub use returns::{
     reachable_is_replay, roll_takes_steps_away, rolls_have_an_answer, step_then_undo,

@@ -22,7 +22,7 @@ use Rattle.ghc_depend.proofs.Finding.{by_option, not_both, same_value, find_valu
 use Rattle.ghc_depend.proofs.Results.{taken, IsUntaken, IsUnmade, Results, of_query, goal_by}
 use Rattle.ghc_depend.proofs.Placing.{results_of, place_of, front_in, consumed_once, bound_once, numbered_once}
 
-goal_antisymmetric : finite.IsAntisymmetric goal_cmp
+pub goal_antisymmetric : finite.IsAntisymmetric goal_cmp
 goal_antisymmetric g h e = same_goal g h (ap is_eq e)
 
 module _ (query : Query) (rs new : List Record) (s t : State) (h : Results query rs s) (k : Results query new t)

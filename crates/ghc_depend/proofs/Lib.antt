@@ -14,3 +14,5 @@ pub mod Following
 pub mod Arranging
 pub mod Undoing
 pub mod ComingBack
+pub mod Runs
+pub mod WakingRun

@@ -4,7 +4,7 @@
 mod facts;
 mod laws;
 
-pub use facts::{append_depends, append_orders, waking_depends};
+pub use facts::{append_depends, append_orders, append_replays, waking_depends, waking_replays};
 pub use laws::{
     consequences_have_one_answer, gone_come_back, law_of_deletion, lawful_order_keeps_replay,
     neighbours_change_places, orders_are_decided, orders_have_one_answer, roll_keeps_replay,

@@ -9,3 +9,4 @@ pub mod Ordered
 pub mod GoalNames
 pub mod Rebuilding
 pub mod Renamed
+pub mod Under

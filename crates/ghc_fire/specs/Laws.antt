@@ -1,5 +1,5 @@
 -- Laws of effects and of attempts.
-use Rattle.std.specs.Prelude.{◌≡◌, ◌≤◌, ◌⊎◌, ℕ, IsTrue, Option, Some, None}
+use Rattle.std.specs.Prelude.{◌≡◌, ◌≢◌, ◌≤◌, ◌⊎◌, ℕ, IsTrue, Option, Some, None, false}
 use Rattle.std.specs.FinSet as set
 use Rattle.ghc_term.specs.declared.var_name.VarName.{VarName}
 use Rattle.ghc_term.specs.Tree.{Tree, variable, Occurs}
@@ -9,14 +9,15 @@ use Rattle.ghc_term.specs.Lists.{In}
 use Rattle.ghc_term.specs.Store.{StoreValue, value_at}
 use Rattle.ghc_flat.specs.Clause.{Program}
 use Rattle.ghc_flat.specs.Variables.{variables_of_goal, variables_of_goals}
-use Rattle.ghc_flat.specs.Flat.{IsProgram}
+use Rattle.ghc_flat.specs.Flat.{IsProgram, is_stream}
 use Rattle.ghc_match.specs.Looked.{GoalLooksAt}
 use Rattle.ghc_unify.specs.Unify.{with_bindings}
 use Rattle.ghc_unify.specs.Laws.{IsCutDown, BindsAndReads}
 use Rattle.ghc_fire.specs.Instance.{made}
 use Rattle.ghc_fire.specs.declared.act.Act.{Act}
-use Rattle.ghc_fire.specs.Effect.{Effect, HasEffect}
-use Rattle.ghc_fire.specs.Attempt.{Answer, Attempts}
+use Rattle.ghc_fire.specs.Effect.{Effect, HasEffect, no_step}
+use Rattle.ghc_fire.specs.Attempt.{Answer, proposes, Attempts}
+use Rattle.ghc_fire.specs.Proposal.{under}
 
 -- An effect is the same where bindings of variables that it did not read are taken away.
 abbrev pub EffectIsLocal : Type 0
@@ -99,3 +100,20 @@ abbrev pub EffectVariables : Type 0
 EffectVariables =
     (P : Program) (g : Goal) (a : Act) (n : ℕ) (s : StoreValue) (e : Effect) → IsProgram P → IsAcyclic (value_at s)
     → HasEffect P g a n (value_at s) e → VariablesCome n g (value_at s) e
+
+-- No variable of step m stands in the goal, or in a value of the store.
+pub record HasNoVariableOf (m : ℕ) (g : Goal) (S : VarName → Option Tree) : Type 0 where
+  pub goal : (x : VarName) → In x (variables_of_goal g) → x.step ≢ m
+  pub values : (y : VarName) (t : Tree) → S y ≡ Some t → (x : VarName) → Occurs x t → x.step ≢ m
+
+-- The effect of a reduction under any number is, as step n has it, its effect as step n.
+abbrev pub EffectUnderANumber : Type 0
+EffectUnderANumber =
+    (P : Program) (g : Goal) (a : Act) (n : ℕ) (S : VarName → Option Tree) (e : Effect) → is_stream g ≡ false → HasNoVariableOf no_step g S
+    → HasEffect P g a no_step S e → HasEffect P g a n S (under n e)
+
+-- What an attempt at a goal proposes is, as step n has it, the effect of the act as step n.
+abbrev pub ProposalIsEffect : Type 0
+ProposalIsEffect =
+    (P : Program) (g : Goal) (choice : Option ℕ) (a : Act) (n : ℕ) (S : VarName → Option Tree) (e : Effect) → HasNoVariableOf no_step g S
+    → Attempts P S (Some g) choice (proposes a e) → HasEffect P g a n S (under n e)

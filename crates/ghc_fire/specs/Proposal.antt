@@ -1,5 +1,5 @@
 -- Proposals, and the effect under a number.
-use Rattle.std.specs.Prelude.{ℕ, List, map, if◌then◌else◌, ◌==◌}
+use Rattle.std.specs.Prelude.{ℕ, map, if◌then◌else◌, ◌==◌}
 use Rattle.ghc_term.specs.declared.var_name.VarName.{VarName}
 use Rattle.ghc_term.specs.declared.goal_name.GoalName.{GoalName}
 use Rattle.ghc_term.specs.Tree.{Tree, variable}

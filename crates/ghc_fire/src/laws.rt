@@ -1,5 +1,5 @@
 // Laws of effects and of attempts, each as the contract of a function.
-ghost use Rattle.ghc_fire.specs.Laws.{EffectIsLocal, EffectIsOne, EffectBindsAndReads, EffectUnderEachNumber, EffectKeepsAcyclic, EffectVariables, AttemptHasOneAnswer, EachAttemptHasAnAnswer, EachActHasAnEffectOrNone, EachEffectIsDecided, AttemptIsOfWhatIsLookedAt};
+ghost use Rattle.ghc_fire.specs.Laws.{EffectIsLocal, EffectIsOne, EffectBindsAndReads, EffectUnderEachNumber, EffectKeepsAcyclic, EffectVariables, AttemptHasOneAnswer, EachAttemptHasAnAnswer, EachActHasAnEffectOrNone, EachEffectIsDecided, AttemptIsOfWhatIsLookedAt, EffectUnderANumber, ProposalIsEffect};
 
 /// Bindings of variables that a step did not read may be taken away.
 pub fn effect_is_local()
@@ -54,4 +54,14 @@ pub fn each_effect_is_decided()
 /// Stores that agree on what a goal looks at answer an attempt at it alike.
 pub fn attempt_is_of_what_is_looked_at()
     ensures { AttemptIsOfWhatIsLookedAt }
+{}
+
+/// The effect of a reduction under any number is, as step n has it, its effect as step n.
+pub fn effect_under_a_number()
+    ensures { EffectUnderANumber }
+{}
+
+/// What an attempt proposes is, as step n has it, the effect of the act as step n.
+pub fn proposal_is_effect()
+    ensures { ProposalIsEffect }
 {}

@@ -1,0 +1,136 @@
+-- The effect of a proposal as a step of some number has it.
+use Rattle.std.proofs.Common.{◌≡◌, ℕ, ◌==◌, true, false, List, [], ◌∷◌, map, refl, sym, ap, ◌∙◌, subst, inl, inr}
+use Rattle.std.specs.Prelude.{Option, Some, None, unwrap_or, if◌then◌else◌}
+use Rattle.std.proofs.lemmas.Bool.{eqb-true}
+use Rattle.ghc_term.specs.declared.var_name.VarName.{VarName}
+use Rattle.ghc_term.specs.Tree.{Tree, variable, integer, node, Trees, none, more, OccursIn}
+use Rattle.ghc_term.specs.Expression.{Expression, leaf, operation}
+use Rattle.ghc_term.specs.Goal.{Goal, call, unify, assign, stream}
+use Rattle.ghc_term.specs.Store.{StoreValue, value_at}
+use Rattle.ghc_term.specs.declared.fault.Fault.{Fault}
+use Rattle.ghc_flat.specs.Clause.{Clause, Program}
+use Rattle.ghc_flat.specs.Flat.{is_stream}
+use Rattle.ghc_flat.specs.Variables.{fresh_variables}
+use Rattle.ghc_unify.specs.Solutions.{replace, replace_all}
+use Rattle.ghc_fire.specs.Instance.{replace_in_expression, replace_in_goal, made, place_in, becomes, body_made}
+use Rattle.ghc_fire.specs.declared.act.Act.{Act}
+use Rattle.ghc_fire.specs.declared.act.Act.TheVariants.{ByClause as by_clause, Unified as unified, Assigned as assigned}
+use Rattle.ghc_fire.specs.Effect.{Effect, HasEffect, no_step}
+use Rattle.ghc_fire.specs.Attempt.{Answer, proposes, refused}
+use Rattle.ghc_fire.specs.Proposal.{numbered, under}
+use Rattle.ghc_fire.specs.Laws.{HasNoVariableOf, EffectUnderANumber, ProposalIsEffect}
+use Rattle.ghc_fire.proofs.Origins.{Inside, at_inside}
+
+-- the variable is not of a step
+abbrev IsNotOf : ℕ → VarName → Type 0
+IsNotOf m x = ¬ (x.step ≡ m)
+
+-- a variable of a step keeps its name
+same_variable : (n : ℕ) (x : VarName) → IsNotOf no_step x → numbered n x ≡ variable x
+same_variable n x o =
+    elim (x.step == no_step) as (λ b. (x.step == no_step) ≡ b → (if b then variable (made n x.place) else variable x) ≡ variable x) [
+      | true ↦ λ p. absurd (o (eqb-true x.step no_step p))
+      | false ↦ λ _. refl
+    ] refl
+
+mutual
+  -- so does a tree of such variables
+  same_tree : (n : ℕ) (t : Tree) → Inside (IsNotOf no_step) t → replace (numbered n) t ≡ t
+  same_tree n (variable x) o = same_variable n x (o x refl)
+  same_tree n (integer k) o = refl
+  same_tree n (node f ts) o = ap (node f) (same_trees n ts o)
+
+  same_trees : (n : ℕ) (ts : Trees) → ((x : VarName) → OccursIn x ts → IsNotOf no_step x) → replace_all (numbered n) ts ≡ ts
+  same_trees n none o = refl
+  same_trees n (more t ts) o = let head = same_tree n t (λ x i. o x (inl i)) in let tail = same_trees n ts (λ x i. o x (inr i)) in cc
+
+-- one replacement behind another is a third
+module _ (s u w : VarName → Tree) (both : (y : VarName) → replace s (u y) ≡ w y) where
+  mutual
+    tree_twice : (t : Tree) → replace s (replace u t) ≡ replace w t
+    tree_twice (variable y) = both y
+    tree_twice (integer k) = refl
+    tree_twice (node f ts) = ap (node f) (trees_twice ts)
+
+    trees_twice : (ts : Trees) → replace_all s (replace_all u ts) ≡ replace_all w ts
+    trees_twice none = refl
+    trees_twice (more t ts) = let head = tree_twice t in let tail = trees_twice ts in cc
+
+  list_twice : (ts : List Tree) → map (replace s) (map (replace u) ts) ≡ map (replace w) ts
+  list_twice [] = refl
+  list_twice (t ∷ ts) = let head = tree_twice t in let tail = list_twice ts in cc
+
+  expression_twice : (a : Expression) → replace_in_expression s (replace_in_expression u a) ≡ replace_in_expression w a
+  expression_twice (leaf t) = ap leaf (tree_twice t)
+  expression_twice (operation o a b) = let left = expression_twice a in let right = expression_twice b in cc
+
+  goal_twice : (g : Goal) → replace_in_goal s (replace_in_goal u g) ≡ replace_in_goal w g
+  goal_twice (call f ts) = ap (call f) (list_twice ts)
+  goal_twice (unify l r) = let left = tree_twice l in let right = tree_twice r in cc
+  goal_twice (assign t a) = let left = tree_twice t in let right = expression_twice a in cc
+  goal_twice (stream k x) = refl
+
+  goals_twice : (gs : List Goal) → map (replace_in_goal s) (map (replace_in_goal u) gs) ≡ map (replace_in_goal w) gs
+  goals_twice [] = refl
+  goals_twice (g ∷ gs) = let head = goal_twice g in let tail = goals_twice gs in cc
+
+-- what a variable of the clause becomes under any number, as step n has it, is what it becomes in step n
+becomes_under : (c : Clause) (theta : StoreValue) (n : ℕ) → ((y : VarName) (t : Tree) → value_at theta y ≡ Some t → Inside (IsNotOf no_step) t) → (y : VarName) → replace (numbered n) (becomes c theta no_step y) ≡ becomes c theta n y
+becomes_under c theta n h y =
+    elim (value_at theta y) as (λ o. value_at theta y ≡ o → replace (numbered n) (unwrap_or o (variable (made no_step (place_in (fresh_variables c) y)))) ≡ unwrap_or o (variable (made n (place_in (fresh_variables c) y)))) [
+      | None ↦ λ _. refl
+      | Some t ↦ λ p. same_tree n t (h y t p)
+    ] refl
+
+body_under : (c : Clause) (theta : StoreValue) (n : ℕ) → ((y : VarName) (t : Tree) → value_at theta y ≡ Some t → Inside (IsNotOf no_step) t) → body_made c theta n ≡ map (replace_in_goal (numbered n)) (body_made c theta no_step)
+body_under c theta n h = sym (goals_twice (numbered n) (becomes c theta no_step) (becomes c theta n) (becomes_under c theta n h) c.body)
+
+nothing_under : (n : ℕ) (gs : List Goal) → gs ≡ [] → map (replace_in_goal (numbered n)) gs ≡ []
+nothing_under n gs p = ap (map (replace_in_goal (numbered n))) p
+
+pub effect_under : EffectUnderANumber
+effect_under P (call f ts) (by_clause k) n S e plain h d =
+    let made_there : (under n e).makes ≡ body_made d.0 d.1 n =
+    ap (map (replace_in_goal (numbered n))) d.6
+    ∙ sym (body_under d.0 d.1 n (λ y t p. at_inside h.values ((d.4.1 y t).0 p).2 h.goal)) in
+    (d.0, d.1, d.2, d.3, d.4, d.5, made_there, d.7)
+effect_under P (unify l r) unified n S e plain h d = (d.0, nothing_under n e.makes d.1, d.2)
+effect_under P (assign t a) assigned n S e plain h d = (d.0, d.1, d.2, d.3, d.4, nothing_under n e.makes d.5, d.6)
+effect_under P (stream k x) a n S e plain h d = let clash : true ≡ false = plain in cc
+effect_under P g a n S e plain h d = absurd d
+
+-- the act and the effect of an answer
+abbrev act_of : Answer → Act
+act_of (proposes a e) = a
+act_of (refused f) = unified
+
+abbrev effect_of : Effect → Answer → Effect
+effect_of d (proposes a e) = e
+effect_of d (refused f) = d
+
+no_refusal : {a : Act} {e : Effect} {f : Fault} → ¬ (proposes a e ≡ refused f)
+no_refusal p = cc
+
+module _ (P : Program) (g : Goal) (a : Act) (n : ℕ) (S : VarName → Option Tree) (e : Effect) (plain : is_stream g ≡ false) (h : HasNoVariableOf no_step g S) where
+  from_proposal : (b : Act) (d : Effect) → HasEffect P g b no_step S d → proposes a e ≡ proposes b d → HasEffect P g a n S (under n e)
+  from_proposal b d has same = effect_under P g a n S e plain h (subst (λ z. HasEffect P g (act_of z) no_step S (effect_of e z)) (sym same) has)
+
+pub proposal_under : ProposalIsEffect
+proposal_under P (call f ts) None a n S e h (inl p) = from_proposal P (call f ts) a n S e refl h (by_clause p.0) p.1 p.3 p.4
+proposal_under P (call f ts) None a n S e h (inr (inl p)) = absurd (no_refusal p.2)
+proposal_under P (call f ts) None a n S e h (inr (inr p)) = absurd (no_refusal p.2)
+proposal_under P (call f ts) (Some k) a n S e h (inl p) = absurd (no_refusal p.1)
+proposal_under P (call f ts) (Some k) a n S e h (inr p) = elim p.3 [
+  | inl q ↦ from_proposal P (call f ts) a n S e refl h (by_clause k) q.0 q.1 q.2
+  | inr o ↦ elim o [ inl q ↦ absurd (no_refusal q.1) | inr q ↦ absurd (no_refusal q.1) ]
+]
+proposal_under P (unify l r) None a n S e h (inl p) = from_proposal P (unify l r) a n S e refl h unified p.0 p.1 p.2
+proposal_under P (unify l r) None a n S e h (inr (inl p)) = absurd (no_refusal p.1)
+proposal_under P (unify l r) None a n S e h (inr (inr p)) = absurd (no_refusal p.1)
+proposal_under P (unify l r) (Some k) a n S e h p = absurd (no_refusal p)
+proposal_under P (assign t b) None a n S e h (inl p) = absurd (no_refusal p.1)
+proposal_under P (assign t b) None a n S e h (inr (inl p)) = absurd (no_refusal p.1)
+proposal_under P (assign t b) None a n S e h (inr (inr (inl p))) = absurd (no_refusal p.1)
+proposal_under P (assign t b) None a n S e h (inr (inr (inr p))) = from_proposal P (assign t b) a n S e refl h assigned p.0 p.1 p.2
+proposal_under P (assign t b) (Some k) a n S e h p = absurd (no_refusal p)
+proposal_under P (stream k x) choice a n S e h p = absurd (no_refusal p)
