@@ -43,6 +43,3 @@ pub fn evaluate(alloc: Global, expression: &Expr, store: &Store) -> Result<Value
         None => Ok(Value::Bad),
     }
 }
-
-#[cfg(test)]
-mod tests;
