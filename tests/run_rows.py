@@ -44,9 +44,10 @@ What it has to do:
     session            input and output in one: what stands behind `> ` is a line of input, all else is output
     status             the exit status, 0 where it is left out
 
-A table is a file NAME.table of many small rows on texts that are refused. Each of its lines is a row: KIND, a tab, the
-text with its braces, a tab, and the line on standard error, with which the status is 1. KIND is `program`, and then the
-query is `true`, or `query`, and then the program is empty. Lines that begin with `#` and empty lines are left out.
+A table is a file NAME.table of many small rows on texts that are refused or accepted. Each of its lines is a row: KIND, a
+tab, the text with its braces, a tab, and the line on standard error, with which the status is 1, or the word `accepted`,
+with which the session begins and, without input, ends with status 0. KIND is `program`, and then the query is `true`, or
+`query`, and then the program is empty. Lines that begin with `#` and empty lines are left out.
 """
 
 import os
@@ -158,6 +159,8 @@ def table_row(line):
     try:
         row = {key: [] for key in LISTED}
         row |= {"program": b"", "query": b"true", columns[0].decode(): expand(columns[1])}
+        if columns[2] == b"accepted":
+            return row
         return row | {"errors": expand(columns[2]) + b"\n", "status": b"1"}
     except BadRow as error:
         return error

@@ -24,7 +24,6 @@ use Rattle.ghc_records.specs.Record.{Record, IsThere, HasStepEffect, Fires}
 use Rattle.ghc_core.specs.World.{Proposal, Hands, IsHand, with_hand, emptied, World, with_step}
 use Rattle.ghc_core.specs.Events.{input, finish, undo, roll, redo, arrange, Event, propose, commit, note, command, Reply, held, stepped, noted, refused}
 use Rattle.ghc_core.specs.Answers.{Answers, to_propose, to_commit, to_note, to_command}
-use Rattle.ghc_core.specs.Legal.{IsReachable, IsProper}
 use Rattle.ghc_core.specs.Proposes as asking
 use Rattle.ghc_core.specs.Reverses as by
 use Rattle.ghc_core.specs.Laws as laws

@@ -9,3 +9,7 @@ pub mod Returning
 pub mod Redoing
 pub mod EachAnswered
 pub mod Keeping
+pub mod Standing
+pub mod Committing
+pub mod Taking
+pub mod Preparing

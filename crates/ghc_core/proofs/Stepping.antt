@@ -46,7 +46,7 @@ room_or_full w r (inl f) = omega (arith, r.0)
 room_or_full w r (inr f) = omega (arith, r.1)
 
 -- the effect of a next step that names its goal
-step_effect : (w : World) (r : Record) (g : GoalName) → IsNextStep w r → r.goal ≡ Some g
+pub step_effect : (w : World) (r : Record) (g : GoalName) → IsNextStep w r → r.goal ≡ Some g
     → (b : Goal) × (r.consumed ≡ Some b) × (finite.get w.state.goals g ≡ Some b) × HasEffect w.opening.program b r.act w.next (value_at w.state.store) r.effect
 step_effect w r g n e =
     let f = finds w r g n.1 e in
@@ -88,17 +88,19 @@ module _ (attempts : AttemptHasOneAnswer) (w : World) (hands : Hands) (acyclic :
   propose_once (asking.Proposes.fails i t) (asking.Proposes.no_memory j) = absurd j
   propose_once (asking.Proposes.no_memory i) q = absurd i
 
+-- a commit is refused for one reason
+pub commit_fails_once : (w : World) {p : Proposal} {f g : Fault} → asking.CommitFails w p f → asking.CommitFails w p g → f ≡ g
+commit_fails_once w (asking.CommitFails.stale p) (asking.CommitFails.stale q) = refl
+commit_fails_once w (asking.CommitFails.stale p) (asking.CommitFails.full q f) = absurd (p q)
+commit_fails_once w (asking.CommitFails.full p f) (asking.CommitFails.stale q) = absurd (q p)
+commit_fails_once w (asking.CommitFails.full p f) (asking.CommitFails.full q g) = refl
+
+-- a commit is not both taken and refused
+pub commit_or_fail : (w : World) {p : Proposal} {f : Fault} (r : Record) → asking.IsCommitOf w p r → ¬ asking.CommitFails w p f
+commit_or_fail w r c (asking.CommitFails.stale p) = p c.0
+commit_or_fail w r c (asking.CommitFails.full p f) = room_or_full w c.1.2 f
+
 module _ (effects : EffectIsOne) (w : World) (hands : Hands) (acyclic : IsAcyclic (value_at w.state.store)) (h : ℕ) where
-  commit_fails_once : {p : Proposal} {f g : Fault} → asking.CommitFails w p f → asking.CommitFails w p g → f ≡ g
-  commit_fails_once (asking.CommitFails.stale p) (asking.CommitFails.stale q) = refl
-  commit_fails_once (asking.CommitFails.stale p) (asking.CommitFails.full q f) = absurd (p q)
-  commit_fails_once (asking.CommitFails.full p f) (asking.CommitFails.stale q) = absurd (q p)
-  commit_fails_once (asking.CommitFails.full p f) (asking.CommitFails.full q g) = refl
-
-  commit_or_fail : {p : Proposal} {f : Fault} (r : Record) → asking.IsCommitOf w p r → ¬ asking.CommitFails w p f
-  commit_or_fail r c (asking.CommitFails.stale p) = p c.0
-  commit_or_fail r c (asking.CommitFails.full p f) = room_or_full w c.1.2 f
-
   moved : {p q : Proposal} {f : Fault} → finite.get hands.held h ≡ Some p → finite.get hands.held h ≡ Some q → asking.CommitFails w p f → asking.CommitFails w q f
   moved {f = f} e k c = subst (λ x. asking.CommitFails w x f) (value_once e k) c
 
@@ -111,7 +113,7 @@ module _ (effects : EffectIsOne) (w : World) (hands : Hands) (acyclic : IsAcycli
       (refl, ap (λ x. with_step x w) steps, refl)
   commit_once (asking.Commits.takes p r i e c) (asking.Commits.no_hand j) = absurd (j i)
   commit_once (asking.Commits.takes p r i e c) (asking.Commits.empty j k) = absurd (has_not e k)
-  commit_once (asking.Commits.takes p r i e c) (asking.Commits.fails q j k f) = absurd (commit_or_fail r c (moved k e f))
+  commit_once (asking.Commits.takes p r i e c) (asking.Commits.fails q j k f) = absurd (commit_or_fail w r c (moved k e f))
   commit_once (asking.Commits.takes p r i e c) (asking.Commits.no_memory j) = absurd j
   commit_once (asking.Commits.no_hand i) (asking.Commits.takes q s j k d) = absurd (i j)
   commit_once (asking.Commits.no_hand i) (asking.Commits.no_hand j) = (refl, refl, refl)
@@ -123,10 +125,10 @@ module _ (effects : EffectIsOne) (w : World) (hands : Hands) (acyclic : IsAcycli
   commit_once (asking.Commits.empty i e) (asking.Commits.empty j k) = (refl, refl, refl)
   commit_once (asking.Commits.empty i e) (asking.Commits.fails q j k f) = absurd (has_not k e)
   commit_once (asking.Commits.empty i e) (asking.Commits.no_memory j) = absurd j
-  commit_once (asking.Commits.fails p i e f) (asking.Commits.takes q s j k d) = absurd (commit_or_fail s d (moved e k f))
+  commit_once (asking.Commits.fails p i e f) (asking.Commits.takes q s j k d) = absurd (commit_or_fail w s d (moved e k f))
   commit_once (asking.Commits.fails p i e f) (asking.Commits.no_hand j) = absurd (j i)
   commit_once (asking.Commits.fails p i e f) (asking.Commits.empty j k) = absurd (has_not e k)
-  commit_once (asking.Commits.fails p i e f) (asking.Commits.fails q j k g) = (ap refused (commit_fails_once (moved e k f) g), refl, refl)
+  commit_once (asking.Commits.fails p i e f) (asking.Commits.fails q j k g) = (ap refused (commit_fails_once w (moved e k f) g), refl, refl)
   commit_once (asking.Commits.fails p i e f) (asking.Commits.no_memory j) = absurd j
   commit_once (asking.Commits.no_memory i) q = absurd i
 

@@ -9,3 +9,5 @@ pub mod Laws
 pub mod Returns
 pub mod Facts
 pub mod Load
+pub mod Core
+pub mod CoreCode

@@ -80,7 +80,8 @@ no_variable : {T : VarName → Option Tree} {v : ℤ} {x : VarName} → ¬ Reach
 no_variable (here o) = o
 no_variable (through o e r) = o
 
-no_cycle : (S : VarName → Option Tree) (t : Tree) (v : ℤ) → ¬ Cycles S t (integer v)
+-- an integer on the right side of an equation never makes a cycle
+pub no_cycle : (S : VarName → Option Tree) (t : Tree) (v : ℤ) → ¬ Cycles S t (integer v)
 no_cycle S t v c = elim (first_or_none t v c.6 refl) [
   | inr e ↦ let no_equation : (c.1, c.2) ∷ c.3 ≡ [] = e in cc
   | inl e ↦ let side : c.2 ≡ integer v = ap (second v) e in at (subst (IsCycle c.0 c.1) side c.7)

@@ -8,5 +8,12 @@ pub mod EachAnswer
 pub mod Ordered
 pub mod GoalNames
 pub mod Rebuilding
+pub mod Walked
+pub mod Gathered
+pub mod Assigned
 pub mod Renamed
 pub mod Under
+pub mod Places
+pub mod FreshPlaces
+pub mod Calling
+pub mod Answering

@@ -46,7 +46,7 @@ mutual
   occurs_in_all (more t ts) x (inr o) = In_append_right (variables t) (variables_of_all ts) x (occurs_in_all ts x o)
 
 mutual
-  in_occurs : (t : Tree) (x : VarName) → In x (variables t) → Occurs x t
+  pub in_occurs : (t : Tree) (x : VarName) → In x (variables t) → Occurs x t
   in_occurs (variable y) x (inl e) = e
   in_occurs (variable y) x (inr i) = absurd i
   in_occurs (integer k) x i = absurd i
@@ -151,7 +151,7 @@ mutual
   place_of_trees (more t ts) y (inr o) = let r = place_of_trees ts y o in shift t r.1
 
 -- each variable of a list stands in it first
-firsts_have : (seen xs : List VarName) (y : VarName) → In y xs → In y seen ⊎ In y (firsts seen xs)
+pub firsts_have : (seen xs : List VarName) (y : VarName) → In y xs → In y seen ⊎ In y (firsts seen xs)
 firsts_have seen [] y i = absurd i
 firsts_have seen (x ∷ xs) y i =
     elim (list_any (eq_by_cmp name_cmp x) seen) as (λ b. list_any (eq_by_cmp name_cmp x) seen ≡ b → In y seen ⊎ In y (cond b (firsts seen xs) (x ∷ firsts (x ∷ seen) xs))) [
@@ -333,7 +333,7 @@ module _ (s : StoreValue) (acyclic : IsAcyclic (value_at s)) (c : Clause) (ts : 
         ended q k u hk vk hu xs (node g vs) l = (xs, node g vs, l, same_arguments k (node g vs) (λ n. fits.0 (q, k, u, node g vs, xs, (hk, vk), hu, l, tt, n)))
 
   -- each variable of the head stands for something
-  stands : (y : VarName) → In y (variables_of_list c.head) → (t : Tree) × StandsFor c ts (value_at s) y t
+  pub stands : (y : VarName) → In y (variables_of_list c.head) → (t : Tree) × StandsFor c ts (value_at s) y t
   stands y i =
       let p = place_of_trees (trees c.head) y (list_occurs (trees c.head) y (subst (λ l. In y (variables_of_list l)) (listed_again c.head) i)) in
       let a = subst (λ l. At unbound l p.0 (variable y)) (sym (listed_again c.head)) p.1 in

@@ -1,6 +1,5 @@
 -- Terms and expressions with their variables replaced, from the inside out.
-use Rattle.std.proofs.Common.{◌≡◌, ℕ, zero, suc, ◌+◌, ◌-◌, ◌<◌, ◌≤◌, List, [], ◌∷◌, ◌++◌, length, get_or, take, map, refl, sym, ap, ◌∙◌, subst, inl, inr, arith}
-use Rattle.std.specs.Prelude.{Option, Some, None, unwrap_or}
+use Rattle.std.proofs.Common.{◌≡◌, ℕ, ◌+◌, ◌<◌, List, [], ◌∷◌, ◌++◌, length, get_or, take, map, refl, sym, ap, ◌∙◌, inl, inr}
 use Rattle.std.specs.Borrow.{Bor}
 use Rattle.std.proofs.lemmas.List.{take_more}
 use Rattle.ghc_term.specs.declared.var_name.VarName.{VarName}
@@ -8,10 +7,9 @@ use Rattle.ghc_term.specs.declared.operator.Operator.{Operator}
 use Rattle.ghc_term.specs.declared.view.TermView.{TermView}
 use Rattle.ghc_term.specs.declared.view.TermView.TheVariants.{Var, Int, Atom, Struct}
 use Rattle.ghc_term.specs.Shown.{shown}
-use Rattle.ghc_term.specs.Tree.{Tree, variable, integer, node, Trees, none, more, trees, Occurs, OccursIn, IsClosed, AreClosed}
-use Rattle.ghc_term.specs.Expression.{Expression, leaf, operation}
+use Rattle.ghc_term.specs.Tree.{Tree, variable, integer, node, Trees, none, more, trees, IsClosed, AreClosed}
+use Rattle.ghc_term.specs.Expression.{Expression, operation}
 use Rattle.ghc_unify.specs.Solutions.{replace, replace_all}
-use Rattle.ghc_fire.specs.Instance.{replace_in_expression}
 use Rattle.ghc_fire.specs.Renaming.{plugged, operated}
 use Rattle.ghc_fire.specs.declared.instances.terms.Front.{Front}
 

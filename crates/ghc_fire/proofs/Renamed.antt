@@ -1,6 +1,6 @@
 -- Replacing by two functions that agree on the variables that stand there.
-use Rattle.std.proofs.Common.{◌≡◌, ℕ, ◌+◌, ◌-◌, List, [], ◌∷◌, ◌++◌, map, refl, ap, inl, arith}
-use Rattle.std.specs.Prelude.{Option, Some, None, unwrap_or}
+use Rattle.std.proofs.Common.{◌≡◌, ℕ, ◌-◌, List, [], ◌∷◌, ◌++◌, map, refl, ap, inl, arith}
+use Rattle.std.specs.Prelude.{Some, None, unwrap_or}
 use Rattle.ghc_term.specs.declared.var_name.VarName.{VarName}
 use Rattle.ghc_term.specs.Tree.{Tree, variable, integer, node, Trees, none, more}
 use Rattle.ghc_term.specs.Expression.{Expression, leaf, operation}

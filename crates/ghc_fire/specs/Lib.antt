@@ -8,3 +8,8 @@ pub mod Facts
 pub mod Goals
 pub mod Proposal
 pub mod GoalsCode
+pub mod Meter
+pub mod ActCode
+pub mod Attempted
+pub mod Places
+pub mod Calls

@@ -1,4 +1,4 @@
--- What the variables of a clause become where they are numbered behind those of its head, and terms that are being rebuilt.
+-- What the variables of the goals that a step makes become, and terms that are being rebuilt.
 use Rattle.std.specs.Prelude.{◌≡◌, ℕ, ◌+◌, ◌-◌, List, [], ◌∷◌, ◌++◌, None, unwrap_or}
 use Rattle.ghc_term.specs.declared.var_name.VarName.{VarName}
 use Rattle.ghc_term.specs.declared.operator.Operator.{Operator}
@@ -9,7 +9,10 @@ use Rattle.ghc_term.specs.Store.{StoreValue, value_at}
 use Rattle.ghc_flat.specs.Clause.{Clause}
 use Rattle.ghc_flat.specs.Variables.{variables_of_goals, fresh_variables}
 use Rattle.ghc_fire.specs.Instance.{made, place_in}
+use Rattle.ghc_fire.specs.Proposal.{numbered}
 use Rattle.ghc_fire.specs.declared.instances.terms.Front.{Front}
+use Rattle.ghc_fire.specs.declared.instances.renaming.Renaming.{Renaming}
+use Rattle.ghc_fire.specs.declared.instances.renaming.Renaming.TheVariants.{Body, Numbered}
 
 -- Each variable of the body that does not stand for anything in theta is a fresh one, and its place comes behind the h variables of the head.
 abbrev pub AreBehindHead : ℕ → Clause → StoreValue → Type 0
@@ -18,6 +21,11 @@ AreBehindHead h c theta = (y : VarName) → In y (variables_of_goals c.body) →
 -- what a variable becomes in step n, where the head has h variables
 abbrev pub renamed : ℕ → StoreValue → ℕ → VarName → Tree
 renamed h theta n y = unwrap_or (value_at theta y) (variable (made n (y.place - h)))
+
+-- what a variable becomes by a renaming
+abbrev pub replacement : Renaming → VarName → Tree
+replacement (Body theta h n) = renamed h theta.now n
+replacement (Numbered n) = numbered n
 
 -- the tree that comes about where t is the last argument of the innermost of the structures
 abbrev pub plugged : List Front → Tree → Tree

@@ -5,6 +5,9 @@ use ghc_term::{Bindings, Goal, Variables};
 use std::alloc::{AllocError, Global};
 use std::marker::Model;
 
+// The number that no step has. The variables that a step makes have it in its effect under any number.
+pub const NO_STEP: u32 = 4_294_967_295;
+
 /// The effect of a step: the variables that it reads, what it binds, the goals that it makes in order, and how many
 /// variables it makes.
 #[derive(Drop)]
@@ -83,6 +86,16 @@ impl Effect {
         ensures { result ≡ self.now.fresh }
     {
         self.fresh
+    }
+
+    /// What the step reads, binds and makes, and how many variables it makes, given up.
+    pub fn into_parts(self) -> (Variables, Bindings, Vec<Goal>, u32)
+        ensures reads { result.0 ≡ self.reads }
+        ensures binds { result.1 ≡ self.binds }
+        ensures makes { result.2.items ≡ self.makes }
+        ensures fresh { result.3 ≡ self.fresh }
+    {
+        (self.reads, self.binds, self.makes, self.fresh)
     }
 
     /// Whether the other is the same effect. It goes once through both, up to the first difference.

@@ -1,20 +1,23 @@
-// The goals that a clause's body makes in a step.
-ghost use Rattle.std.specs.Prelude.{◌≡◌, IfOk};
+// The goals that a clause's body makes in a step, and goals of an effect as the step of some number has them.
+ghost use Rattle.std.specs.Prelude.{◌≡◌, map, IfOk};
 ghost use Rattle.ghc_fire.specs.Instance.{replace_in_goal, body_made};
-ghost use Rattle.ghc_fire.specs.Renaming.{AreBehindHead, renamed};
+ghost use Rattle.ghc_fire.specs.Proposal.{numbered};
+ghost use Rattle.ghc_fire.specs.Renaming.{AreBehindHead, replacement};
 
 mod expressions;
+mod renaming;
 mod terms;
 
 use crate::instances::expressions::replace_expression;
-use crate::instances::terms::{Renaming, replace_term, replace_terms};
+use crate::instances::renaming::Renaming;
+use crate::instances::terms::{replace_term, replace_terms};
 use ghc_flat::Clause;
 use ghc_term::{Bindings, Goal, GoalView};
 use std::alloc::{AllocError, Global};
 
 // The goal with its variables replaced.
 fn replace_goal(alloc: Global, goal: &Goal, by: Renaming<'_>) -> Result<Goal, AllocError>
-    ensures { IfOk result (λ g. g ≡ replace_in_goal (renamed by.entry.head_variables by.entry.theta.now by.entry.number) goal.now) }
+    ensures { IfOk result (λ g. g ≡ replace_in_goal (replacement by.entry) goal.now) }
 {
     match goal.view() {
         GoalView::Call(name, arguments) => {
@@ -33,6 +36,17 @@ fn replace_goal(alloc: Global, goal: &Goal, by: Renaming<'_>) -> Result<Goal, Al
     }
 }
 
+// The goals with their variables replaced.
+fn replace_goals(alloc: Global, goals: &[Goal], by: Renaming<'_>) -> Result<Vec<Goal>, AllocError>
+    ensures { IfOk result (λ gs. gs.items ≡ map (replace_in_goal (replacement by.entry)) goals.now) }
+{
+    let mut replaced = Vec::new(alloc);
+    for goal in goals {
+        replaced.push(replace_goal(alloc, goal, by)?)?;
+    }
+    Ok(replaced)
+}
+
 /// The goals that the body of the clause makes in the step of that number, where its head variables, of which there are
 /// `head_variables`, stand for what theta has. It goes once through the body, with one look-up for each variable in it,
 /// and shares what theta has and each part that has no variables.
@@ -46,14 +60,18 @@ pub fn instance(
     requires { AreBehindHead head_variables clause.now theta.now }
     ensures { IfOk result (λ goals. goals.items ≡ body_made clause.now theta.now number) }
 {
-    let by = Renaming {
+    let by = Renaming::Body {
         theta,
         head_variables,
         number,
     };
-    let mut goals = Vec::new(alloc);
-    for goal in clause.body() {
-        goals.push(replace_goal(alloc, goal, by)?)?;
-    }
-    Ok(goals)
+    replace_goals(alloc, clause.body(), by)
+}
+
+// The goals as the step of this number has them: the variables that it makes get the number. It goes once through the
+// goals, and shares each part of their terms that has no such variable.
+pub fn number_goals(alloc: Global, goals: &[Goal], number: u32) -> Result<Vec<Goal>, AllocError>
+    ensures { IfOk result (λ gs. gs.items ≡ map (replace_in_goal (numbered number)) goals.now) }
+{
+    replace_goals(alloc, goals, Renaming::Numbered(number))
 }

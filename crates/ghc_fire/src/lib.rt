@@ -2,13 +2,21 @@
 #![tactic(auto)]
 
 mod act;
+mod attempting;
+mod calls;
+mod chains;
 mod effect;
 mod facts;
+mod fresh;
 mod goals;
 mod instances;
 mod laws;
+mod meter;
+mod moves;
+mod proposal;
 
 pub use act::Act;
+pub use attempting::{attempt, finish};
 pub use effect::Effect;
 pub use facts::{
     append_attempts, append_run, bound_tail_takes_nothing, input_and_close, input_reads_alias,
@@ -22,3 +30,5 @@ pub use laws::{
     effect_is_one, effect_keeps_acyclic, effect_under_a_number, effect_under_each_number,
     effect_variables, proposal_is_effect,
 };
+pub use meter::Meter;
+pub use proposal::Proposal;

@@ -13,6 +13,8 @@ mod leaves;
 mod number;
 mod passing;
 mod scope;
+#[cfg(test)]
+mod tests;
 mod trying;
 mod value;
 

@@ -24,7 +24,7 @@ use Rattle.ghc_reader.proofs.Numbered.{met_are_named}
 use Rattle.ghc_reader.proofs.Streams.{no_streams}
 use Rattle.ghc_reader.proofs.GoalsLowered.{goal_still, each_still, each_push}
 
-leaves_are_all : (v : Value) (names : Names) (e : Expression) → SaysValue names v e → leaf_variables e ≡ variables_of_expression e
+pub leaves_are_all : (v : Value) (names : Names) (e : Expression) → SaysValue names v e → leaf_variables e ≡ variables_of_expression e
 leaves_are_all (number n) names e h = ap leaf_variables h ∙ sym (ap variables_of_expression h)
 leaves_are_all (named v) names e h = ap leaf_variables h.1 ∙ sym (ap variables_of_expression h.1)
 leaves_are_all (product o a b) names e h =

@@ -131,7 +131,7 @@ shallow_opens ts shallow =
       | inr at_most ↦ at_most
     ])
 
-closes : (n : ℕ) (ts : List Token) → most_open (n + 1 - 1) ts ≡ most_open n ts
+pub closes : (n : ℕ) (ts : List Token) → most_open (n + 1 - 1) ts ≡ most_open n ts
 closes n ts = ap (λ k. most_open k ts) (omega arith)
 
 arguments_depth : (a : Terms) → arguments_nesting (meanings (trees_of a)) ≡ 1 + deepest (meanings (trees_of a))

@@ -49,3 +49,13 @@ pub mod Meanings
 pub mod InputSizes
 pub mod TokenBytes
 pub mod ReadTerms
+pub mod NamesIn
+pub mod OneSaying
+pub mod OneMeaning
+pub mod MarkPieces
+pub mod TokenTexts
+pub mod Derivations
+pub mod PrintedTokens
+pub mod PrintedDepth
+pub mod GrammarTrees
+pub mod ReadAgain

@@ -51,7 +51,7 @@ mutual
   nodes_of_meanings none = refl
   nodes_of_meanings (some t ts) = omega (arith, nodes_of_meaning t, nodes_of_meanings ts)
 
-count_meanings : (ts : Trees) → length (list_of (meanings ts)) ≡ count ts
+pub count_meanings : (ts : Trees) → length (list_of (meanings ts)) ≡ count ts
 count_meanings none = refl
 count_meanings (some t ts) = omega (arith, count_meanings ts)
 

@@ -31,7 +31,7 @@ sound_cells (one t) end s e = (s.0, e)
 sound_cells (more t a) end s e = (s.0, sound_cells a end s.1 e)
 
 mutual
-  sound_term : (t : Term) (ts : List Token) → IsClosed t → AreGood (grammar.term t ts) → IsSound (tree_of t) × AreGood ts
+  pub sound_term : (t : Term) (ts : List Token) → IsClosed t → AreGood (grammar.term t ts) → IsSound (tree_of t) × AreGood ts
   sound_term (variable v) ts c good = absurd c
   sound_term (integer n) ts c good = good
   sound_term (call f without) ts c good = ((good.0, tt), good.1)

@@ -20,3 +20,4 @@ pub mod Tests
 pub mod Lowered
 pub mod Scope
 pub mod Read
+pub mod Laws

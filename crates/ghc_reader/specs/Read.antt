@@ -1,5 +1,5 @@
 -- What a text is read as, in the terms of the language.
-use Rattle.std.specs.Prelude.{ℕ, List, []}
+use Rattle.std.specs.Prelude.{◌≡◌, ℕ, List, []}
 use Rattle.ghc_term.specs.Tree as term
 use Rattle.ghc_reader.specs.Source.{Tree, Goal, Clause}
 use Rattle.ghc_reader.specs.Tests.{a_program, a_query, a_term, IsRead}
@@ -17,3 +17,13 @@ IsReadQuery text q = (seen : List Goal) × IsRead a_query text seen × SaysQuery
 -- The text is that of an input term, no test refuses it, and this is the term.
 abbrev pub IsReadTerm : List ℕ → term.Tree → Type 0
 IsReadTerm text u = (seen : Tree) × IsRead a_term text seen × Says [] seen u
+
+-- The text is read as no two programs, no two queries and no two input terms.
+pub record IsReadInOneWay (text : List ℕ) : Type 0 where
+  pub program : (source other : List WrittenClause) → IsReadProgram text source → IsReadProgram text other → source ≡ other
+  pub query : (q other : WrittenQuery) → IsReadQuery text q → IsReadQuery text other → q ≡ other
+  pub term : (u other : term.Tree) → IsReadTerm text u → IsReadTerm text other → u ≡ other
+
+-- Each text is read in one way.
+abbrev pub EachTextIsReadInOneWay : Type 0
+EachTextIsReadInOneWay = (text : List ℕ) → IsReadInOneWay text

@@ -8,6 +8,7 @@ pub mod front;
 pub mod goal_parser;
 pub mod halt;
 pub mod input_parser;
+mod laws;
 pub mod lexer;
 mod limits;
 mod lowering;
@@ -23,5 +24,6 @@ mod tests;
 pub mod token;
 mod written;
 
+pub use laws::printed_terms_are_read_again;
 pub use read::{read_ground_term, read_program, read_query};
 pub use written::{Guard, Query, Source, WrittenClause};

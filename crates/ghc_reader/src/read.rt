@@ -1,5 +1,5 @@
 // The reader's calls: from the bytes of a text to what it says, in the terms of the language.
-ghost use Rattle.std.specs.Prelude.{◌≡◌, ◌⊎◌, List, IfOk, IfErr, IsErrAnd, MatchResult, ⊤};
+ghost use Rattle.std.specs.Prelude.{◌≡◌, ◌⊎◌, List, IfOk, IfErr, IsErrAnd, MatchResult};
 ghost use Rattle.ghc_reader.specs.Tests.{a_program, a_query, a_term, IsRefusal};
 ghost use Rattle.ghc_reader.specs.Written.{WrittenClause, WrittenQuery};
 ghost use Rattle.ghc_term.specs.Tree.{Tree};
@@ -19,8 +19,8 @@ pub fn read_program(alloc: Global, text: &[u8]) -> Result<Source, Fault>
     ensures found { IfOk result (IsReadProgram text.now) }
     ensures fault { IfErr result (λ fault. (fault ≡ Fault.Memory) ⊎ IsRefusal a_program text.now fault) }
 
-    // A text that can be read is not refused, and one that is refused is not read, nor refused in another way.
-    ensures only { (source : List WrittenClause) → IsReadProgram text.now source → MatchResult result (λ _. ⊤) (λ fault. fault ≡ Fault.Memory) }
+    // A text that can be read is read as nothing else, and not refused; one that is refused is not read, nor refused in another way.
+    ensures only { (source : List WrittenClause) → IsReadProgram text.now source → MatchResult result (λ read. read ≡ source) (λ fault. fault ≡ Fault.Memory) }
     ensures only_fault { (refusal : Fault) → IsRefusal a_program text.now refusal
         → IsErrAnd result (λ fault. (fault ≡ refusal) ⊎ (fault ≡ Fault.Memory)) }
 {
@@ -37,8 +37,8 @@ pub fn read_query(alloc: Global, text: &[u8]) -> Result<Query, Fault>
     ensures found { IfOk result (IsReadQuery text.now) }
     ensures fault { IfErr result (λ fault. (fault ≡ Fault.Memory) ⊎ IsRefusal a_query text.now fault) }
 
-    // A text that can be read is not refused, and one that is refused is not read, nor refused in another way.
-    ensures only { (query : WrittenQuery) → IsReadQuery text.now query → MatchResult result (λ _. ⊤) (λ fault. fault ≡ Fault.Memory) }
+    // A text that can be read is read as nothing else, and not refused; one that is refused is not read, nor refused in another way.
+    ensures only { (query : WrittenQuery) → IsReadQuery text.now query → MatchResult result (λ read. read ≡ query) (λ fault. fault ≡ Fault.Memory) }
     ensures only_fault { (refusal : Fault) → IsRefusal a_query text.now refusal
         → IsErrAnd result (λ fault. (fault ≡ refusal) ⊎ (fault ≡ Fault.Memory)) }
 {
@@ -56,8 +56,8 @@ pub fn read_ground_term(alloc: Global, text: &[u8]) -> Result<Ground, Fault>
     ensures found { IfOk result (IsReadTerm text.now) }
     ensures fault { IfErr result (λ fault. (fault ≡ Fault.Memory) ⊎ IsRefusal a_term text.now fault) }
 
-    // A text that can be read is not refused, and one that is refused is not read, nor refused in another way.
-    ensures only { (term : Tree) → IsReadTerm text.now term → MatchResult result (λ _. ⊤) (λ fault. fault ≡ Fault.Memory) }
+    // A text that can be read is read as nothing else, and not refused; one that is refused is not read, nor refused in another way.
+    ensures only { (term : Tree) → IsReadTerm text.now term → MatchResult result (λ read. read ≡ term) (λ fault. fault ≡ Fault.Memory) }
     ensures only_fault { (refusal : Fault) → IsRefusal a_term text.now refusal
         → IsErrAnd result (λ fault. (fault ≡ refusal) ⊎ (fault ≡ Fault.Memory)) }
 {

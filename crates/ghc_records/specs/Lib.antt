@@ -5,3 +5,7 @@ pub mod Replay
 pub mod Journal
 pub mod Laws
 pub mod History
+pub mod RecordCode
+pub mod EntryCode
+pub mod State
+pub mod StepText

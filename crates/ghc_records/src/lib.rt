@@ -1,6 +1,24 @@
 //! Records of steps, their replay, the journal, and the opening with which it begins.
 #![tactic(auto)]
 
+mod binding;
+mod entry;
+mod journal;
 mod laws;
+mod making;
+mod record;
+mod records;
+mod shelf;
+mod state;
+mod step;
+mod step_text;
 
+pub use entry::Entry;
+pub use journal::Journal;
 pub use laws::{replay_is_one, replay_is_well_made};
+pub use record::Record;
+pub use records::Records;
+pub use shelf::Shelf;
+pub use state::State;
+pub use step::Step;
+pub use step_text::{push_act, push_goal_name, push_journal_step, push_record, push_step};

@@ -1,2 +1,4 @@
 pub mod Ports
+pub mod PortText
+pub mod PortCode
 pub mod Binders

@@ -28,6 +28,10 @@ abbrev pub calls : ℕ → ℕ → List Goal → List Port
 calls n i [] = []
 calls n i (g ∷ gs) = called (record { step = n; place = i }) g ∷ calls n (i + 1) gs
 
+-- The ports of a step without those of the goals that it resumes, which hooks tell: that it is taken, then the goals that it makes by place.
+abbrev pub taken_ports : Record → List Port
+taken_ports r = reduced (step_of r) ∷ calls r.number 1 r.effect.makes
+
 -- The ports of a step: that it is taken, then the goals that it makes by place, then the goals that it resumes by name.
 abbrev pub ArePorts : World → Record → List Port → Type 0
 ArePorts w r ports =

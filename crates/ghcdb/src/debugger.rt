@@ -3,21 +3,28 @@ ghost use Rattle.std.specs.Prelude.{◌≡◌, ◌≢◌};
 ghost use Rattle.clap.specs.Words.{kind_of};
 ghost use Rattle.clap.specs.declared.error.kind.ErrorKind.{ErrorKind};
 ghost use Rattle.ghc_term.specs.Fault.{fault_text};
+ghost use Rattle.ghc_flat.specs.Flat.{IsQuery};
 ghost use Rattle.ghcdb.specs.Status.{spare_fault, status_of};
 
 use crate::command_line::options;
 use crate::files::read_file;
+use crate::playing::play;
 use crate::refusal::{Refusal, push_line};
 use crate::settings::Options;
 use crate::source::Source;
-use crate::start::start;
+use crate::start::{Started, start};
 use crate::status::Status;
 use clap::Error;
-use ghc_term::{Fault, Limit};
+use ghc_core::Core;
+use ghc_term::Fault;
 use std::rt::Files;
+use std::sync::Wait;
 
 /// Does what the words ask for, of which the first is the program's name, and says how it ends.
-pub fn run<R: Files + Print + Eprint + AllocGlobal>(rt: &R, words: &[String]) -> Status {
+pub fn run<R: Wait + Files + Input + Print + Eprint + AllocGlobal>(
+    rt: &R,
+    words: &[String],
+) -> Status {
     match options(rt.alloc(), words) {
         Ok(options) => debug(rt, options),
         Err(error) => answer(rt, &error),
@@ -37,26 +44,41 @@ fn answer<R: Print + Eprint>(rt: &R, error: &Error) -> Status
     }
 }
 
-// Reads the files, all of them before anything is judged, and starts.
-fn debug<R: Files + Eprint + AllocGlobal>(rt: &R, options: Options<'_>) -> Status {
+// Reads the files, all of them before anything is judged, starts, and runs the session.
+fn debug<R: Wait + Files + Input + Print + Eprint + AllocGlobal>(
+    rt: &R,
+    options: Options<'_>,
+) -> Status {
     let source = Source::Program;
     let program = match read_file(rt, options.file) {
         Ok(program) => program,
         Err(fault) => return tell(rt, &Refusal { source, fault }),
     };
     match start(rt.alloc(), program.as_slice(), options.query.as_bytes()) {
-        Ok(_started) => tell(rt, &not_built()),
+        Ok(started) => run_session(rt, started),
         Err(refusal) => tell(rt, &refusal),
     }
 }
 
-// The session on a program and a query is not built yet.
-fn not_built() -> Refusal
-    ensures { result ≡ record { source = Source.Program; fault = Fault.Limit Limit.Stage } }
+// Runs the session on a program and a query that are accepted together.
+fn run_session<R: Wait + Input + Print + Eprint + AllocGlobal>(rt: &R, started: Started) -> Status
+    requires { IsQuery started.program started.query.goals }
 {
-    Refusal {
-        source: Source::Program,
-        fault: Fault::Limit(Limit::Stage),
+    let Started { program, query } = started;
+    let core = match Core::new(rt.alloc(), program, query) {
+        Ok(core) => core,
+        Err(_) => {
+            let source = Source::Program;
+            let fault = Fault::Memory;
+            return tell(rt, &Refusal { source, fault });
+        }
+    };
+    match play(rt, core) {
+        Ok(()) => Status::Done,
+        Err(fault) => {
+            let source = Source::Session;
+            tell(rt, &Refusal { source, fault })
+        }
     }
 }
 

@@ -4,6 +4,7 @@
 mod command_line;
 mod debugger;
 mod files;
+mod playing;
 mod refusal;
 mod settings;
 mod source;

@@ -1,5 +1,5 @@
 // The start of a session: from the texts of a program and a query to both, read and checked.
-ghost use Rattle.std.specs.Prelude.{◌≡◌, ◌⊎◌, IfOk, IfErr};
+ghost use Rattle.std.specs.Prelude.{◌≡◌, ◌⊎◌, IfOk, IfErr, MatchResult};
 ghost use Rattle.ghcdb.specs.Start.{IsStarted, IsStartRefusal, IsOutOfMemory, told_of};
 
 use crate::refusal::Refusal;
@@ -21,6 +21,9 @@ pub struct Started {
 pub fn start(alloc: Global, program: &[u8], query: &[u8]) -> Result<Started, Refusal>
     ensures started { IfOk result (IsStarted program.now query.now) }
     ensures refused { IfErr result (λ refusal. IsOutOfMemory refusal ⊎ IsStartRefusal program.now query.now refusal) }
+
+    // Texts of a program and a query that are accepted start these alone, and are not refused.
+    ensures only { (started : Started) → IsStarted program.now query.now started → MatchResult result (λ s. s ≡ started) IsOutOfMemory }
 {
     let written = match read_program(alloc, program) {
         Ok(written) => written,

@@ -1,9 +1,10 @@
 // Expressions with their variables replaced.
 ghost use Rattle.std.specs.Prelude.{◌≡◌, IfOk};
 ghost use Rattle.ghc_fire.specs.Instance.{replace_in_expression};
-ghost use Rattle.ghc_fire.specs.Renaming.{renamed, operated};
+ghost use Rattle.ghc_fire.specs.Renaming.{replacement, operated};
 
-use crate::instances::terms::{Renaming, replace_term};
+use crate::instances::renaming::Renaming;
+use crate::instances::terms::replace_term;
 use ghc_term::{Expr, ExprView, Operator};
 use std::alloc::{AllocError, Global};
 
@@ -24,7 +25,7 @@ pub fn replace_expression(
     expression: &Expr,
     by: Renaming<'_>,
 ) -> Result<Expr, AllocError>
-    ensures { IfOk result (λ a. a ≡ replace_in_expression (renamed by.entry.head_variables by.entry.theta.now by.entry.number) expression.now) }
+    ensures { IfOk result (λ a. a ≡ replace_in_expression (replacement by.entry) expression.now) }
 {
     let mut rights = Vec::new(alloc);
     let mut place = expression;

@@ -1,18 +1,11 @@
 // Terms with their variables replaced.
-ghost use Rattle.std.specs.Prelude.{◌≡◌, map, IfOk};
+ghost use Rattle.std.specs.Prelude.{◌≡◌, map, take, IfOk, MatchOption, false};
 ghost use Rattle.ghc_unify.specs.Solutions.{replace};
-ghost use Rattle.ghc_fire.specs.Renaming.{renamed, plugged};
+ghost use Rattle.ghc_fire.specs.Renaming.{replacement, plugged};
 
-use ghc_term::{Bindings, Name, Term, TermView, VarName};
+use crate::instances::renaming::{Renaming, replace_variable};
+use ghc_term::{Name, Term, TermView};
 use std::alloc::{AllocError, Global};
-
-// What the variables of a clause become: those of its head what they stand for, and the others the variables of a step.
-#[derive(Clone, Copy)]
-pub struct Renaming<'a> {
-    pub theta: &'a Bindings,
-    pub head_variables: u32,
-    pub number: u32,
-}
 
 // A structure whose last argument is still to come.
 #[derive(Drop)]
@@ -21,17 +14,11 @@ pub struct Front {
     arguments: Vec<Term>,
 }
 
-// What a variable becomes: one look-up.
-fn replace_variable(x: VarName, by: Renaming<'_>) -> Result<Term, AllocError>
-    ensures { IfOk result (λ t. t ≡ renamed by.entry.head_variables by.entry.theta.now by.entry.number x) }
-{
-    match by.theta.get(x) {
-        Some(term) => term.share(),
-        None => Ok(Term::variable(VarName {
-            step: by.number,
-            place: x.place.saturating_sub(by.head_variables),
-        })),
-    }
+// Arguments with their variables replaced, and whether one of them may have become another.
+#[derive(Drop)]
+pub struct Replaced {
+    arguments: Vec<Term>,
+    changed: bool,
 }
 
 // Puts the term in as the last argument of the last structure, that as the last argument of the one before, and so on.
@@ -50,44 +37,99 @@ fn rebuild(alloc: Global, mut fronts: Vec<Front>, end: Term) -> Result<Term, All
     Ok(term)
 }
 
-// The term with its variables replaced. It goes along last arguments in a loop, into the others by calls, and shares
-// what has no variables.
+// What comes about where the rest, which is shared, is the last argument of the innermost of the first so many
+// structures. Where there are none, nothing does.
+fn rebuild_some(
+    alloc: Global,
+    mut fronts: Vec<Front>,
+    count: usize,
+    rest: &Term,
+) -> Result<Option<Term>, AllocError>
+    ensures { IfOk result (λ o. MatchOption o (count ≡ 0) (λ t. t ≡ plugged (take count fronts.items) rest.now)) }
+{
+    if count == 0 {
+        return Ok(None);
+    }
+    fronts.truncate(count);
+    Ok(Some(rebuild(alloc, fronts, rest.share()?)?))
+}
+
+// The term with its variables replaced, if that may be another term. It goes along last arguments in a loop, and into the
+// others by calls. Behind the first `count` structures, of which the last has another argument, comes `rest`, in which
+// nothing has become another term so far.
 #[cycle(replace)]
-pub fn replace_term(alloc: Global, term: &Term, by: Renaming<'_>) -> Result<Term, AllocError>
-    ensures { IfOk result (λ t. t ≡ replace (renamed by.entry.head_variables by.entry.theta.now by.entry.number) term.now) }
+fn replace_open(alloc: Global, term: &Term, by: Renaming<'_>) -> Result<Option<Term>, AllocError>
+    ensures { IfOk result (λ o. MatchOption o (replace (replacement by.entry) term.now ≡ term.now) (λ t. t ≡ replace (replacement by.entry) term.now)) }
 {
     let mut fronts = Vec::new(alloc);
     let mut place = term;
+    let mut count = 0;
+    let mut rest = term;
     loop {
         if place.is_closed() {
-            return rebuild(alloc, fronts, place.share()?);
+            return rebuild_some(alloc, fronts, count, rest);
         }
         match place.view() {
-            TermView::Var(x) => return rebuild(alloc, fronts, replace_variable(x, by)?),
+            TermView::Var(x) => {
+                let Some(end) = replace_variable(x, by)? else {
+                    return rebuild_some(alloc, fronts, count, rest);
+                };
+                return Ok(Some(rebuild(alloc, fronts, end)?));
+            }
             TermView::Struct(name, arguments) => {
                 let (last, front) = arguments.split_last().unwrap();
-                let arguments = replace_terms(alloc, front, by)?;
+                let Replaced { arguments, changed } = replace_each(alloc, front, by)?;
                 let name = name.share()?;
                 fronts.push(Front { name, arguments })?;
                 place = last;
+                if changed {
+                    count = fronts.len();
+                    rest = last;
+                }
             }
-            _ => return rebuild(alloc, fronts, place.share()?),
+            _ => return rebuild_some(alloc, fronts, count, rest),
         }
     }
 }
 
-// The terms with their variables replaced.
+// The terms with their variables replaced. Those that stay are shared.
 #[cycle(replace)]
+fn replace_each(alloc: Global, terms: &[Term], by: Renaming<'_>) -> Result<Replaced, AllocError>
+    ensures arguments { IfOk result (λ r. r.arguments.items ≡ map (replace (replacement by.entry)) terms.now) }
+    ensures changed { IfOk result (λ r. r.changed ≡ false → map (replace (replacement by.entry)) terms.now ≡ terms.now) }
+{
+    let mut arguments = Vec::new(alloc);
+    let mut changed = false;
+    for term in terms {
+        match replace_open(alloc, term, by)? {
+            Some(other) => {
+                arguments.push(other)?;
+                changed = true;
+            }
+            None => arguments.push(term.share()?)?,
+        }
+    }
+    Ok(Replaced { arguments, changed })
+}
+
+// The term with its variables replaced. It goes once through the term, and shares each part that stays.
+pub fn replace_term(alloc: Global, term: &Term, by: Renaming<'_>) -> Result<Term, AllocError>
+    ensures { IfOk result (λ t. t ≡ replace (replacement by.entry) term.now) }
+{
+    match replace_open(alloc, term, by)? {
+        Some(other) => Ok(other),
+        None => term.share(),
+    }
+}
+
+// The terms with their variables replaced. It goes once through them, and shares each part that stays.
 pub fn replace_terms(
     alloc: Global,
     terms: &[Term],
     by: Renaming<'_>,
 ) -> Result<Vec<Term>, AllocError>
-    ensures { IfOk result (λ ts. ts.items ≡ map (replace (renamed by.entry.head_variables by.entry.theta.now by.entry.number)) terms.now) }
+    ensures { IfOk result (λ ts. ts.items ≡ map (replace (replacement by.entry)) terms.now) }
 {
-    let mut replaced = Vec::new(alloc);
-    for term in terms {
-        replaced.push(replace_term(alloc, term, by)?)?;
-    }
-    Ok(replaced)
+    let replaced = replace_each(alloc, terms, by)?;
+    Ok(replaced.arguments)
 }

@@ -1,6 +1,6 @@
 use Rattle.std.proofs.Common.{◌⊎◌, sym, subst, inl, inr, refl}
 use Rattle.ghcdb.specs.Start.{IsStartRefusal, IsOutOfMemory, of_program, of_query}
-use Rattle.ghcdb.proofs.Starting.{told}
+use Rattle.ghcdb.proofs.Starting.{told, started_alone, never_told}
 use Rattle.ghcdb.proofs.start.start.Goals as goal
 
 pub returns-in-Err-clause-refused : goal.returns-in-Err-clause-refused
@@ -19,3 +19,20 @@ pub returns-in-Err-judge-clause-refused : goal.returns-in-Err-judge-clause-refus
 returns-in-Err-judge-clause-refused c =
     subst (λ r. IsOutOfMemory r ⊎ IsStartRefusal c.args.program.now c.args.query.now r) (sym c.refusal_of.ensures)
     (told c.args.program.now c.args.query.now c.in-Ok.written c.in-Ok-read_query.query c.in-Err-judge.refused c.in-Ok.ensures.found c.in-Ok-read_query.ensures.found c.in-Err-judge.ensures.refused)
+
+pub returns-in-Err-clause-only : goal.returns-in-Err-clause-only
+returns-in-Err-clause-only c = λ s h. record { fault = c.in-Err.ensures.only h.written h.reads_program; source = inl refl }
+
+pub returns-in-Err-read_query-clause-only : goal.returns-in-Err-read_query-clause-only
+returns-in-Err-read_query-clause-only c = λ s h. record { fault = c.in-Err-read_query.ensures.only s.query h.reads_query; source = inr refl }
+
+pub returns-in-Ok-judge-clause-only : goal.returns-in-Ok-judge-clause-only
+returns-in-Ok-judge-clause-only c = λ s h.
+    started_alone c.args.program.now c.args.query.now s h c.in-Ok.written c.in-Ok-read_query.query c.in-Ok-judge.program
+    (c.in-Ok.ensures.only h.written h.reads_program) (c.in-Ok-read_query.ensures.only s.query h.reads_query) c.in-Ok-judge.ensures.accepted
+
+pub returns-in-Err-judge-clause-only : goal.returns-in-Err-judge-clause-only
+returns-in-Err-judge-clause-only c = λ s h.
+    subst IsOutOfMemory (sym c.refusal_of.ensures)
+    (never_told c.args.program.now c.args.query.now s h c.in-Ok.written c.in-Ok-read_query.query c.in-Err-judge.refused
+    (c.in-Ok.ensures.only h.written h.reads_program) (c.in-Ok-read_query.ensures.only s.query h.reads_query) c.in-Err-judge.ensures.refused)

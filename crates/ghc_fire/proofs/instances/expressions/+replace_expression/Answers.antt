@@ -1,15 +1,15 @@
-use Rattle.std.proofs.Common.{◌≡◌, ◌<◌, sym, ap, ◌∙◌, arith}
+use Rattle.std.proofs.Common.{◌<◌, ap, ◌∙◌, arith}
 use Rattle.std.proofs.lemmas.Result.{IfOk-weaker}
 use Rattle.ghc_term.specs.Expression.{leaf, operation}
 use Rattle.ghc_term.specs.ExpressionView.{depth_of}
 use Rattle.ghc_fire.specs.Instance.{replace_in_expression}
-use Rattle.ghc_fire.specs.Renaming.{renamed, operated}
+use Rattle.ghc_fire.specs.Renaming.{replacement, operated}
 use Rattle.ghc_fire.proofs.Rebuilding.{operated_push}
 use Rattle.ghc_fire.proofs.instances.expressions.+replace_expression.Goals as goal
 
 pub returns-in-Leaf : goal.returns-in-Leaf
 returns-in-Leaf t c =
-    let s = renamed c.args.by.head_variables c.args.by.theta.now c.args.by.number in
+    let s = replacement c.args.by in
     let same = c.leaf.ensures ∙ ap leaf c.in_ok-replace_term-in-Leaf.ensures ∙ ap (replace_in_expression s) c.in-Leaf.ensures in
     IfOk-weaker c.rebuild.result _ _ (λ a e. e ∙ ap (operated c.loop-term.rights.items) same ∙ c.loop-term.invariant.1) c.rebuild.ensures
 
@@ -21,7 +21,7 @@ replace_expression-requires t c =
 
 pub loop-term-preserved : goal.loop-term-preserved
 loop-term-preserved t c =
-    let s = renamed c.args.by.head_variables c.args.by.theta.now c.args.by.number in
+    let s = replacement c.args.by in
     let seen = ap depth_of c.in-Operation.ensures in
     let left = c.in-Operation.left.now in (
       omega (arith, seen, c.loop-term.invariant.0),

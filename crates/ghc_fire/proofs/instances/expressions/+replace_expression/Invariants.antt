@@ -1,7 +1,7 @@
 use Rattle.std.proofs.Common.{◌≡◌, ◌≤◌}
 use Rattle.ghc_term.specs.ExpressionView.{depth_of}
 use Rattle.ghc_fire.specs.Instance.{replace_in_expression}
-use Rattle.ghc_fire.specs.Renaming.{renamed, operated}
+use Rattle.ghc_fire.specs.Renaming.{replacement, operated}
 use Rattle.ghc_fire.proofs.instances.expressions.+replace_expression.Given as goal
 
 abbrev pub decreases-replace_expression : goal.decreases-replace_expression
@@ -10,7 +10,7 @@ decreases-replace_expression l = depth_of l.expression.now
 abbrev pub invariant-loop-term : goal.invariant-loop-term
 invariant-loop-term l =
     (depth_of l.place ≤ depth_of l.expression)
-    × (operated l.rights.items (replace_in_expression (renamed l.by.head_variables l.by.theta.now l.by.number) l.place) ≡ replace_in_expression (renamed l.by.head_variables l.by.theta.now l.by.number) l.expression)
+    × (operated l.rights.items (replace_in_expression (replacement l.by) l.place) ≡ replace_in_expression (replacement l.by) l.expression)
 
 abbrev pub decreases-loop-term : goal.decreases-loop-term
 decreases-loop-term l = depth_of l.place

@@ -1,50 +1,76 @@
-use Rattle.std.proofs.Common.{◌≡◌, ◌+◌, ◌*◌, ◌<◌, ◌++◌, ◌∷◌, [], sym, ap, ◌∙◌, arith, rules}
+use Rattle.std.proofs.Common.{rules, ◌≡◌, ℕ, ◌<◌, length, List, [], ◌∷◌, ◌++◌, ap, arith}
 use Rattle.std.proofs.lemmas.Result.{IfOk-weaker}
 use Rattle.std.proofs.lemmas.Option.{MatchOption-at_some}
-use Rattle.ghc_term.specs.Tree.{trees}
+use Rattle.ghc_term.specs.Tree.{Tree, node, trees}
 use Rattle.ghc_term.specs.View.{height, height_of_all}
 use Rattle.ghc_term.proofs.Trees.{height_item, height_last, height_front}
-use Rattle.ghc_unify.specs.Solutions.{replace}
-use Rattle.ghc_fire.specs.Renaming.{renamed, plugged}
-use Rattle.ghc_fire.proofs.Rebuilding.{replace_closed, further_in}
+use Rattle.ghc_fire.specs.Renaming.{replacement}
+use Rattle.ghc_fire.proofs.Rebuilding.{replace_closed}
+use Rattle.ghc_fire.proofs.Walked.{walk_stays, walk_same, walk_other}
 use Rattle.ghc_fire.proofs.instances.terms.+replace.Goals as goal
 
-pub replace_term-returns-then-is_closed : goal.replace_term-returns-then-is_closed
-replace_term-returns-then-is_closed t c =
-    let s = renamed c.args.by.head_variables c.args.by.theta.now c.args.by.number in
-    let same = c.in_ok-share.ensures ∙ sym (replace_closed s c.loop-alloc.place.now (c.is_closed.ensures.0 c.if-is_closed.true)) in
-    IfOk-weaker c.rebuild.result _ _ (λ u e. e ∙ ap (plugged c.loop-alloc.fronts.items) same ∙ c.loop-alloc.invariant.1) c.rebuild.ensures
+-- the last argument is lower than the structure
+last_lower : (f : List ℕ) (whole front : List Tree) (last place : Tree) → node f (trees whole) ≡ place → whole ≡ front ++ last ∷ [] → height last < height place
+last_lower f whole front last place e w = let seen = ap height e in let all = ap (λ l. height_of_all (trees l)) w in omega (arith, height_last front last, all, seen)
 
-pub replace_term-replace_terms-requires : goal.replace_term-replace_terms-requires
-replace_term-replace_terms-requires t c =
+pub replace_each-replace_open-requires : goal.replace_each-replace_open-requires
+replace_each-replace_open-requires t c =
+    let falls = height_item c.args.terms.now c.loop-term.term-index c.term-item.result c.loop-term-test.true c.term-item.is in
+    (omega (arith, falls, c.decreases), tt)
+
+pub replace_open-returns-then-is_closed : goal.replace_open-returns-then-is_closed
+replace_open-returns-then-is_closed t c =
+    let s = replacement c.args.by in
+    let place = c.loop-place.place.now in
+    let same = replace_closed s place (c.is_closed.ensures.0 c.if-is_closed.true) in
+    IfOk-weaker c.rebuild_some.result _ _ (walk_stays s c.args.term.now c.loop-place.fronts.items place c.loop-place.count c.loop-place.rest.now c.loop-place.invariant.walked same) c.rebuild_some.ensures
+
+pub replace_open-replace_each-requires : goal.replace_open-replace_each-requires
+replace_open-replace_each-requires t c =
     let split = (MatchOption-at_some _ _ c.unwrap.result c.unwrap.ensures c.split_last.ensures.cases).0 in
     let front = height_front c.unwrap.result.1.now c.unwrap.result.0.now in
     let whole = ap (λ l. height_of_all (trees l)) split in
     let seen = ap height c.in-Struct.ensures.shown in
-    (omega (arith, front, whole, seen, c.loop-alloc.invariant.0, c.decreases), tt)
+    (omega (arith, front, whole, seen, c.loop-place.invariant.lower, c.decreases), tt)
 
-pub replace_term-loop-alloc-smaller : goal.replace_term-loop-alloc-smaller
-replace_term-loop-alloc-smaller t c =
+pub replace_open-loop-place-smaller-then-changed : goal.replace_open-loop-place-smaller-then-changed
+replace_open-loop-place-smaller-then-changed t c =
     let split = (MatchOption-at_some _ _ c.unwrap.result c.unwrap.ensures c.split_last.ensures.cases).0 in
-    let whole = ap (λ l. height_of_all (trees l)) split in
-    let seen = ap height c.in-Struct.ensures.shown in
-    let less : height c.unwrap.result.0.now < height c.loop-alloc.place.now = omega (arith, height_last c.unwrap.result.1.now c.unwrap.result.0.now, whole, seen) in
-    less
+    last_lower c.in-Struct.name.now c.in-Struct.arguments.now c.unwrap.result.1.now c.unwrap.result.0.now c.loop-place.place.now c.in-Struct.ensures.shown split
 
-pub replace_term-loop-alloc-preserved : goal.replace_term-loop-alloc-preserved
-replace_term-loop-alloc-preserved t c =
-    let s = renamed c.args.by.head_variables c.args.by.theta.now c.args.by.number in
+pub replace_open-loop-place-preserved-then-changed :
+    goal.replace_open-loop-place-preserved-then-changed
+replace_open-loop-place-preserved-then-changed t c =
+    let s = replacement c.args.by in
     let split = (MatchOption-at_some _ _ c.unwrap.result c.unwrap.ensures c.split_last.ensures.cases).0 in
-    let whole = ap (λ l. height_of_all (trees l)) split in
-    let seen = ap height c.in-Struct.ensures.shown in
-    let last = c.unwrap.result.0.now in (
-      omega (arith, height_last c.unwrap.result.1.now last, whole, seen, c.loop-alloc.invariant.0),
-      ap (λ fs. plugged fs (replace s last)) c.in_ok-push-in-Struct.ensures.items
-          ∙ further_in s c.loop-alloc.fronts.items _ c.in-Struct.name.now c.in-Struct.arguments.now c.unwrap.result.1.now last c.loop-alloc.place.now c.in-Struct.ensures.shown split c.in_ok-name-in-Struct.ensures.same c.in_ok-arguments-in-Struct.ensures
-          ∙ c.loop-alloc.invariant.1,
-    )
+    let last = c.unwrap.result.0.now in
+    let front = c.unwrap.result.1.now in
+    let place = c.loop-place.place.now in
+    let f = c.in-Struct.name.now in
+    let less = last_lower f c.in-Struct.arguments.now front last place c.in-Struct.ensures.shown split in
+    let counted : c.len-count.result ≡ length c.push.new.self.items = search rules in
+    record {
+      lower = omega (arith, less, c.loop-place.invariant.lower);
+      walked = walk_other s c.args.term.now c.loop-place.fronts.items place c.loop-place.count c.loop-place.rest.now c.loop-place.invariant.walked _ f c.in-Struct.arguments.now front last c.in-Struct.ensures.shown split
+          c.push.new.self.items c.in_ok-push-in-Struct.ensures.items c.in_ok-name-in-Struct.ensures.same c.in_ok-arguments-in-Struct.ensures.arguments c.len-count.result counted;
+    }
 
-pub replace_terms-replace_term-requires : goal.replace_terms-replace_term-requires
-replace_terms-replace_term-requires t c =
-    let falls = height_item c.args.terms.now c.loop-term.term-index c.term-item.result c.loop-term-test.true c.term-item.is in
-    (omega (arith, falls, c.decreases), tt)
+pub replace_open-loop-place-smaller : goal.replace_open-loop-place-smaller
+replace_open-loop-place-smaller t c =
+    let split = (MatchOption-at_some _ _ c.unwrap.result c.unwrap.ensures c.split_last.ensures.cases).0 in
+    last_lower c.in-Struct.name.now c.in-Struct.arguments.now c.unwrap.result.1.now c.unwrap.result.0.now c.loop-place.place.now c.in-Struct.ensures.shown split
+
+pub replace_open-loop-place-preserved : goal.replace_open-loop-place-preserved
+replace_open-loop-place-preserved t c =
+    let s = replacement c.args.by in
+    let split = (MatchOption-at_some _ _ c.unwrap.result c.unwrap.ensures c.split_last.ensures.cases).0 in
+    let last = c.unwrap.result.0.now in
+    let front = c.unwrap.result.1.now in
+    let place = c.loop-place.place.now in
+    let f = c.in-Struct.name.now in
+    let less = last_lower f c.in-Struct.arguments.now front last place c.in-Struct.ensures.shown split in
+    record {
+      lower = omega (arith, less, c.loop-place.invariant.lower);
+      walked = walk_same s c.args.term.now c.loop-place.fronts.items place c.loop-place.count c.loop-place.rest.now c.loop-place.invariant.walked _ f c.in-Struct.arguments.now front last c.in-Struct.ensures.shown split
+          c.push.new.self.items c.in_ok-push-in-Struct.ensures.items c.in_ok-name-in-Struct.ensures.same c.in_ok-arguments-in-Struct.ensures.arguments (c.in_ok-arguments-in-Struct.ensures.changed c.if-changed.false);
+    }

@@ -1,0 +1,115 @@
+-- Lemmas on words, numbers and names of goals.
+use Rattle.std.proofs.Common.{◌≡◌, ◌≢◌, ℕ, ◌+◌, ◌*◌, ◌≤◌, Bool, true, false, cond, eqb, All, Option, Some, None, inl, inr, ◌⊎◌, List, [], ◌&&◌, ◌<◌, not, leb, suc, length, filter, append_assoc, get_or, take, drop, ◌∷◌, ◌++◌, refl, sym, ap, ◌∙◌, arith, rules}
+use Rattle.std.proofs.lemmas.Bool.{eq-eqb, eqb-true, ne_eqb}
+use Rattle.std.proofs.lemmas.List.Splits.{slice_split-cons_no, slice_split-cons_yes, slice_split_at, slice_split_none}
+use Rattle.std.specs.Char.{digit_value, is_ascii_digit}
+use Rattle.std.specs.List.{list_all, slice_split, onto_first}
+use Rattle.std.specs.Str.Parse.{digits_value, digits_value_after}
+use Rattle.std.proofs.Math.Seq.{drop-cons}
+use Rattle.ghc_console.specs.Words.{goal_name_of, goal_named, goal_of_parts, number_of, words_of}
+
+-- the test that finds a byte says no of every other
+pub none_passes : (wanted : ℕ) (bytes : List ℕ) → All (λ b. b ≢ wanted) bytes → All (λ b. eqb b wanted ≡ false) bytes
+none_passes wanted bytes h = λ k e m. ne_eqb _ wanted (h k e m)
+
+-- the part up to the first of the wanted bytes
+pub split-first : (wanted : ℕ) (part rest : List ℕ) → All (λ b. b ≢ wanted) part → slice_split (λ b. eqb b wanted) (part ++ wanted ∷ rest) ≡ part ∷ slice_split (λ b. eqb b wanted) rest
+split-first wanted part rest h = slice_split_at (λ b. eqb b wanted) part wanted rest (none_passes wanted part h) (eq-eqb wanted wanted refl)
+
+-- the last part
+pub split-last : (wanted : ℕ) (part : List ℕ) → All (λ b. b ≢ wanted) part → slice_split (λ b. eqb b wanted) part ≡ part ∷ []
+split-last wanted part h = slice_split_none (λ b. eqb b wanted) part (none_passes wanted part h)
+
+-- more digits make no smaller number
+pub value_after_le : (n : ℕ) (bytes : List ℕ) → n ≤ digits_value_after 10 n bytes
+value_after_le n [] = omega arith
+value_after_le n (byte ∷ bytes) = omega (arith, value_after_le (n * 10 + digit_value byte) bytes)
+
+-- a number over the range is none
+pub too_big : (word : List ℕ) → 4294967295 < digits_value 10 word → number_of word ≡ None
+too_big word h =
+    let over : leb (digits_value 10 word) 4294967295 ≡ false = search rules in
+    gate (not (eqb (length word) 0)) (list_all is_ascii_digit word) (leb (digits_value 10 word) 4294967295) (digits_value 10 word) over
+  where
+    gate : (a b c : Bool) (v : ℕ) → c ≡ false → cond (a && (b && c)) (Some v) None ≡ None
+    gate false b c v e = refl
+    gate true false c v e = refl
+    gate true true true v e = cc
+    gate true true false v e = refl
+
+-- and so is one that is over it already
+pub over_it : (word : List ℕ) (i n : ℕ) → i < length word → digits_value_after 10 n (drop i word) ≡ digits_value 10 word → 4294967295 < n * 10 + digit_value (get_or word i 0) → number_of word ≡ None
+over_it word i n low e h =
+    let split = ap (digits_value_after 10 n) (drop-cons word i 0 low) in
+    too_big word (omega (arith, value_after_le (n * 10 + digit_value (get_or word i 0)) (drop (suc i) word), split, e))
+
+abbrev pub filled : List ℕ → Bool
+filled word = not (eqb (length word) 0)
+
+front_word : (word : List ℕ) (words : List (List ℕ)) → filter filled (word ∷ words) ≡ filter filled (word ∷ []) ++ filter filled words
+front_word word words = elim (filled word) as (λ b. cond b (word ∷ filter filled words) (filter filled words) ≡ cond b (word ∷ []) [] ++ filter filled words) [ true ↦ refl | false ↦ refl ]
+
+-- one word on
+pub words_step : (held : List (List ℕ)) (rest line : List ℕ) (i : ℕ) → rest ≡ take i rest ++ 32 ∷ drop (i + 1) rest → All (λ b. b ≢ 32) (take i rest) → held ++ words_of rest ≡ words_of line
+    → (held ++ filter filled (take i rest ∷ [])) ++ words_of (drop (i + 1) rest) ≡ words_of line
+words_step held rest line i e plain h =
+    let split = ap words_of e ∙ ap (filter filled) (split-first 32 (take i rest) (drop (i + 1) rest) plain) ∙ front_word (take i rest) (slice_split (λ b. eqb b 32) (drop (i + 1) rest)) in
+    append_assoc held (filter filled (take i rest ∷ [])) (words_of (drop (i + 1) rest)) ∙ ap (λ l. held ++ l) (sym split) ∙ h
+
+-- the last word
+pub words_last : (held : List (List ℕ)) (rest line : List ℕ) → All (λ b. b ≢ 32) rest → held ++ words_of rest ≡ words_of line → held ++ filter filled (rest ∷ []) ≡ words_of line
+words_last held rest line plain h = ap (λ l. held ++ filter filled l) (sym (split-last 32 rest plain)) ∙ h
+
+-- Bytes are one part, or they have the wanted byte and are no number.
+abbrev pub IsOnePartOrNone : ℕ → List ℕ → Type 0
+IsOnePartOrNone wanted bytes =
+    (slice_split (λ b. eqb b wanted) bytes ≡ bytes ∷ [])
+    ⊎ ((first second : List ℕ) × (rest : List (List ℕ)) × (slice_split (λ b. eqb b wanted) bytes ≡ first ∷ second ∷ rest) × (list_all is_ascii_digit bytes ≡ false))
+
+all_false : (a b : Bool) → b ≡ false → (a && b) ≡ false
+all_false true b e = e
+all_false false b e = refl
+
+-- where the wanted byte is no digit
+module _ (wanted : ℕ) (plain : is_ascii_digit wanted ≡ false) where
+  no_digit : (byte : ℕ) (bytes : List ℕ) → eqb byte wanted ≡ true → list_all is_ascii_digit (byte ∷ bytes) ≡ false
+  no_digit byte bytes e = ap (λ t. t && list_all is_ascii_digit bytes) (ap is_ascii_digit (eqb-true byte wanted e) ∙ plain)
+
+  one_more : (byte : ℕ) (bytes : List ℕ) (t : Bool) → eqb byte wanted ≡ t → IsOnePartOrNone wanted bytes → IsOnePartOrNone wanted (byte ∷ bytes)
+  one_more byte bytes true e (inl h) = inr ([], bytes, [], slice_split-cons_yes (λ b. eqb b wanted) byte bytes e ∙ ap (λ l. [] ∷ l) h, no_digit byte bytes e)
+  one_more byte bytes true e (inr h) = inr ([], h.0, h.1 ∷ h.2, slice_split-cons_yes (λ b. eqb b wanted) byte bytes e ∙ ap (λ l. [] ∷ l) h.3, no_digit byte bytes e)
+  one_more byte bytes false e (inl h) = inl (slice_split-cons_no (λ b. eqb b wanted) byte bytes e ∙ ap (onto_first byte) h)
+  one_more byte bytes false e (inr h) =
+      inr (byte ∷ h.0, h.1, h.2, slice_split-cons_no (λ b. eqb b wanted) byte bytes e ∙ ap (onto_first byte) h.3, all_false (is_ascii_digit byte) (list_all is_ascii_digit bytes) h.4)
+
+  pub one_part_or_none : (bytes : List ℕ) → IsOnePartOrNone wanted bytes
+  one_part_or_none [] = inl refl
+  one_part_or_none (byte ∷ bytes) = one_more byte bytes (eqb byte wanted) refl (one_part_or_none bytes)
+
+pub no_number : (word : List ℕ) → list_all is_ascii_digit word ≡ false → number_of word ≡ None
+no_number word e = gate (not (eqb (length word) 0)) (list_all is_ascii_digit word) (leb (digits_value 10 word) 4294967295) (digits_value 10 word) e
+  where
+    gate : (a b c : Bool) (v : ℕ) → b ≡ false → cond (a && (b && c)) (Some v) None ≡ None
+    gate false b c v e = refl
+    gate true true c v e = cc
+    gate true false c v e = refl
+
+-- the part in front of the first point, and all behind it
+pub goal_at_point : (word : List ℕ) (i : ℕ) → word ≡ take i word ++ 46 ∷ drop (i + 1) word → All (λ b. b ≢ 46) (take i word)
+    → goal_name_of word ≡ goal_named (number_of (take i word)) (number_of (drop (i + 1) word))
+goal_at_point word i e plain =
+    ap goal_name_of e ∙ ap goal_of_parts (split-first 46 (take i word) (drop (i + 1) word) plain)
+    ∙ behind (drop (i + 1) word) (one_part_or_none 46 refl (drop (i + 1) word))
+  where
+    nothing : (step : Option ℕ) → goal_named step None ≡ None
+    nothing None = refl
+    nothing (Some step) = refl
+
+    behind : (place : List ℕ) → IsOnePartOrNone 46 place → goal_of_parts (take i word ∷ slice_split (λ b. eqb b 46) place) ≡ goal_named (number_of (take i word)) (number_of place)
+    behind place (inl h) = ap (λ l. goal_of_parts (take i word ∷ l)) h
+    behind place (inr h) =
+        ap (λ l. goal_of_parts (take i word ∷ l)) h.3 ∙ sym (nothing (number_of (take i word))) ∙ ap (goal_named (number_of (take i word))) (sym (no_number place h.4))
+
+-- without a point there is no goal
+pub no_point : (word : List ℕ) → All (λ b. b ≢ 46) word → goal_name_of word ≡ None
+no_point word plain = ap goal_of_parts (split-last 46 word plain)

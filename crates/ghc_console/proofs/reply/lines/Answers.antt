@@ -1,0 +1,9 @@
+use Rattle.std.proofs.Common.{sym, ap, ◌∙◌, string_bytes}
+use Rattle.std.specs.Option.{option_copied}
+use Rattle.ghc_console.proofs.RecordLines.{lines_on}
+use Rattle.ghc_console.proofs.reply.lines.Goals as goal
+
+pub loop-place-preserved : goal.loop-place-preserved
+loop-place-preserved c =
+    lines_on c.args.records.now c.loop-place.place c.unwrap.result.now (string_bytes c.loop-place.text) (string_bytes c.push_record.new.out) (string_bytes c.push_str.new.self)
+    (sym c.at.ensures ∙ ap option_copied c.unwrap.ensures) c.loop-place.invariant c.in_ok-push_record.ensures c.in_ok-push_str.ensures.bytes

@@ -1,0 +1,9 @@
+use Rattle.std.proofs.Common.{sym, subst}
+use Rattle.ghc_console.specs.Replies.{IsReply}
+use Rattle.ghc_console.proofs.serving.serve.Goals as goal
+
+pub returns-clause-served : goal.returns-clause-served
+returns-clause-served g c = λ bytes says.
+    let reply = c.answer-reply.ensures.reply bytes says in
+    let wrote = c.in-Err.ensures.bytes in
+    (c.bytes_of.result.now, c.answer-reply.result.1, subst (λ t. IsReply c.args.core.now.world c.args.core.now.names bytes t c.answer-reply.new.core.world c.answer-reply.result.1) (sym c.bytes_of.ensures) reply, wrote)

@@ -1,0 +1,44 @@
+-- The command that a line says.
+use Rattle.std.specs.Prelude.{ℕ, Option, None, Some, if◌then◌else◌, List, [], ◌∷◌, codes}
+use Rattle.std.specs.List.{list_all}
+use Rattle.std.specs.Str.{bytes_eq}
+use Rattle.ghc_term.specs.declared.goal_name.GoalName.{GoalName}
+use Rattle.ghc_console.specs.Words.{goal_name_of, is_printable, is_variable, number_of, words_of}
+use Rattle.ghc_console.specs.declared.command.Command.{Command}
+use Rattle.ghc_console.specs.declared.command.Command.TheVariants.{Nothing, Step, Show, Records, Quit, Unknown}
+
+-- A step with the goal, by the least clause that accepts, where the word named one.
+abbrev pub step_with : Option GoalName → Command
+step_with (Some goal) = Step goal None
+step_with None = Unknown
+
+-- A step with the goal by the clause of this number, where the words said both.
+abbrev pub step_by : Option GoalName → Option ℕ → Command
+step_by (Some goal) (Some clause) = Step goal (Some clause)
+step_by (Some goal) None = Unknown
+step_by None clause = Unknown
+
+-- The command of a word alone: `records` or `quit`.
+abbrev pub bare_command : List ℕ → Command
+bare_command name = if bytes_eq name (codes "records") then Records else (if bytes_eq name (codes "quit") then Quit else Unknown)
+
+-- The command of a word and one more: `step G` or `show X`.
+abbrev pub command_with : List ℕ → List ℕ → Command
+command_with name word = if bytes_eq name (codes "step") then step_with (goal_name_of word)
+    else (if bytes_eq name (codes "show") then (if is_variable word then Show word else Unknown) else Unknown)
+
+-- The command of a word and two more: `step G C`.
+abbrev pub command_with_two : List ℕ → List ℕ → List ℕ → Command
+command_with_two name goal clause = if bytes_eq name (codes "step") then step_by (goal_name_of goal) (number_of clause) else Unknown
+
+-- The command of these words.
+abbrev pub command_of_words : List (List ℕ) → Command
+command_of_words [] = Nothing
+command_of_words (name ∷ []) = bare_command name
+command_of_words (name ∷ word ∷ []) = command_with name word
+command_of_words (name ∷ first ∷ second ∷ []) = command_with_two name first second
+command_of_words (name ∷ first ∷ second ∷ third ∷ rest) = Unknown
+
+-- The command that a line says. With a byte that is not printable it says none that is known.
+abbrev pub command_of : List ℕ → Command
+command_of line = if list_all is_printable line then command_of_words (words_of line) else Unknown

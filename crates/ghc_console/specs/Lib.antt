@@ -1,0 +1,10 @@
+pub mod Device
+pub mod Script
+pub mod Lines
+pub mod Reading
+pub mod Words
+pub mod Commands
+pub mod Asked
+pub mod Finding
+pub mod Replies
+pub mod Session

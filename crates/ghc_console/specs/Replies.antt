@@ -1,0 +1,93 @@
+-- The replies to lines: what is written for each, and which world it leaves.
+use Rattle.std.specs.Prelude.{◌≡◌, ◌<◌, ◌≤◌, ℕ, Bool, true, false, List, [], ◌∷◌, ◌++◌, codes, length, Option, None, Some}
+use Rattle.ghc_term.specs.declared.var_name.VarName.{VarName}
+use Rattle.ghc_term.specs.declared.goal_name.GoalName.{GoalName}
+use Rattle.ghc_term.specs.declared.fault.Fault.{Fault}
+use Rattle.ghc_term.specs.declared.limit.Limit.TheVariants as limit
+use Rattle.ghc_term.specs.Fault.{fault_text}
+use Rattle.ghc_term.specs.Tree.{variable}
+use Rattle.ghc_term.specs.Store.{value_at}
+use Rattle.ghc_term.specs.Resolved.{IsTextOf}
+use Rattle.ghc_fire.specs.Attempt.{proposes, refused}
+use Rattle.ghc_fire.specs.Proposal.{Proposal}
+use Rattle.ghc_records.specs.Record.{Record}
+use Rattle.ghc_records.specs.StepText.{record_text}
+use Rattle.ghc_core.specs.World.{World, IsFull, with_step}
+use Rattle.ghc_core.specs.Proposes.{AttemptAnswers, IsCommitOf}
+use Rattle.ghc_trace.specs.Ports.{taken_ports}
+use Rattle.ghc_trace.specs.PortText.{ports_text}
+use Rattle.ghc_console.specs.Asked.{Names, IsAsked}
+use Rattle.ghc_console.specs.Commands.{command_of}
+use Rattle.ghc_console.specs.declared.command.Command.{Command}
+use Rattle.ghc_console.specs.declared.command.Command.TheVariants.{Nothing as nothing, Step as step, Show as show, Records as records, Quit as quit, Unknown as unknown}
+use Rattle.ghc_console.specs.Reading.{line_limit}
+
+-- the text as a line
+abbrev pub lined : List ℕ → List ℕ
+lined text = text ++ codes "\n"
+
+-- the line of a refusal
+abbrev pub refusal : Fault → List ℕ
+refusal f = lined (fault_text f)
+
+-- the most bytes of a printed term
+abbrev pub print_limit : ℕ
+print_limit = 1048576
+
+-- Takes w p text v: the step that was proposed is taken, and its ports are told; or the world is full, which refuses it.
+pub data Takes (w : World) (p : Proposal) : List ℕ → World → Type 0 where
+  takes : (r : Record) → IsCommitOf w p r → Takes w p (ports_text (taken_ports r)) (with_step r w)
+  full : IsFull w → Takes w p (refusal Fault.Full) w
+
+-- Steps w g choice text v: an attempt at the goal named g, with a clause chosen or not, proposes a step, which is taken, or the attempt is refused.
+pub data Steps (w : World) (g : GoalName) (choice : Option ℕ) (text : List ℕ) (v : World) : Type 0 where
+  steps : (p : Proposal) → p.goal ≡ g → AttemptAnswers w g choice (proposes p.act p.effect) → Takes w p text v → Steps w g choice text v
+  fails : (f : Fault) → AttemptAnswers w g choice (refused f) → text ≡ refusal f → v ≡ w → Steps w g choice text v
+
+-- Shows w names word text: the variable that the word names, and the term to which it leads; or the refusal where it names none, or the term is too long.
+pub data Shows (w : World) (names : Names) (word : List ℕ) : List ℕ → Type 0 where
+  shows : (x : VarName) (text : List ℕ) → IsAsked w names word x → IsTextOf (value_at w.state.store) (variable x) text → length text ≤ print_limit
+      → Shows w names word (lined (word ++ (codes " = " ++ text)))
+  too_long : (x : VarName) (text : List ℕ) → IsAsked w names word x → IsTextOf (value_at w.state.store) (variable x) text → print_limit < length text
+      → Shows w names word (refusal (Fault.Limit limit.Print))
+  no_variable : ((x : VarName) → ¬ IsAsked w names word x) → Shows w names word (refusal Fault.NoVariable)
+
+-- the records, a line each
+abbrev pub record_lines : List Record → List ℕ
+record_lines [] = []
+record_lines (r ∷ rs) = lined (record_text r) ++ record_lines rs
+
+-- the text of all records, and `none` where there is none
+abbrev pub records_text : List Record → List ℕ
+records_text [] = lined (codes "none")
+records_text (r ∷ rs) = record_lines (r ∷ rs)
+
+-- Replies w names c text v: the reply to the command c in the world w is the text, and it leaves the world v.
+abbrev pub Replies : World → Names → Command → List ℕ → World → Type 0
+Replies w names nothing text v = (text ≡ []) × (v ≡ w)
+Replies w names (step g choice) text v = Steps w g choice text v
+Replies w names (show word) text v = Shows w names word text × (v ≡ w)
+Replies w names records text v = (text ≡ records_text w.kept) × (v ≡ w)
+Replies w names quit text v = (text ≡ []) × (v ≡ w)
+Replies w names unknown text v = (text ≡ refusal Fault.Command) × (v ≡ w)
+
+-- The command ends the session.
+abbrev pub quits : Command → Bool
+quits nothing = false
+quits (step g choice) = false
+quits (show word) = false
+quits records = false
+quits quit = true
+quits unknown = false
+
+-- IsReply w names line text v ended: the text is the reply to the line in the world w, which leaves the world v, and the session ends or goes on. A line past the limit is refused; and each line may find no memory, which changes nothing.
+pub data IsReply (w : World) (names : Names) (line : List ℕ) : List ℕ → World → Bool → Type 0 where
+  replies : {text : List ℕ} {v : World} → length line ≤ line_limit → Replies w names (command_of line) text v
+      → IsReply w names line text v (quits (command_of line))
+  too_long : line_limit < length line → IsReply w names line (refusal (Fault.Limit limit.Line)) w false
+  no_memory : IsReply w names line (refusal Fault.Memory) w false
+
+-- the bytes of a reply; there is none for want of memory, which is told
+abbrev pub reply_bytes : Option (List ℕ) → List ℕ
+reply_bytes None = refusal Fault.Memory
+reply_bytes (Some text) = text

@@ -1,0 +1,82 @@
+// The replies to lines.
+ghost use Rattle.std.specs.Prelude.{◌≡◌, ◌≤◌, List, ℕ, length, IfOk, OnErr, option_map};
+ghost use Rattle.ghc_console.specs.Reading.{LineSays, line_limit};
+ghost use Rattle.ghc_console.specs.Replies.{IsReply, Replies, quits, reply_bytes};
+
+use crate::command::{Command, parse};
+use crate::reading::Line;
+use crate::reply::{records, refused, show, step};
+use ghc_core::Core;
+use ghc_term::{Fault, Limit};
+use std::alloc::{AllocError, Global};
+
+// Carries a command out, and gives the reply. An error leaves the core as it was.
+fn execute(alloc: Global, core: &mut Core, command: &Command) -> Result<Vec<u8>, AllocError>
+    ensures reply { IfOk result (λ t. Replies core.old.world core.old.names command.now t.items core.new.world) }
+    ensures err { OnErr result (core.new.world ≡ core.old.world) }
+    ensures names { core.new.names ≡ core.old.names }
+{
+    match command {
+        Command::Nothing | Command::Quit => Ok(Vec::new(alloc)),
+        Command::Step(goal, choice) => step(alloc, core, *goal, *choice),
+        Command::Show(word) => show(alloc, core, word.as_bytes()),
+        Command::Records => records(alloc, core),
+        Command::Unknown => refused(alloc, &Fault::Command),
+    }
+}
+
+// Whether the command ends the session.
+fn is_quit(command: &Command) -> bool
+    ensures { result ≡ quits command.now }
+{
+    match command {
+        Command::Quit => true,
+        _ => false,
+    }
+}
+
+// Carries a whole line out, and says whether the session ends.
+fn execute_line(alloc: Global, core: &mut Core, line: &[u8]) -> Result<(Vec<u8>, bool), AllocError>
+    ensures ok { length line.now ≤ line_limit → IfOk result (λ r. IsReply core.old.world core.old.names line.now r.0.items core.new.world r.1) }
+    ensures err { OnErr result (core.new.world ≡ core.old.world) }
+    ensures names { core.new.names ≡ core.old.names }
+{
+    let command = match parse(alloc, line) {
+        Ok(command) => command,
+        Err(error) => return Err(error),
+    };
+    let ended = is_quit(&command);
+    match execute(alloc, core, &command) {
+        Ok(text) => Ok((text, ended)),
+        Err(error) => Err(error),
+    }
+}
+
+/// The reply to a line, none for want of memory, and whether the session ends.
+pub fn answer(alloc: Global, core: &mut Core, line: &Line) -> (Option<Vec<u8>>, bool)
+    ensures reply { (bytes : List ℕ) → LineSays line.now bytes
+        → IsReply core.old.world core.old.names bytes (reply_bytes (option_map (λ t. t.items) result.0)) core.new.world result.1 }
+    ensures names { core.new.names ≡ core.old.names }
+{
+    match line {
+        Line::Whole(bytes) => match execute_line(alloc, core, bytes.as_slice()) {
+            Ok((text, ended)) => (Some(text), ended),
+            Err(_) => (None, false),
+        },
+        Line::TooLong => match refused(alloc, &Fault::Limit(Limit::Line)) {
+            Ok(text) => (Some(text), false),
+            Err(_) => (None, false),
+        },
+        Line::NoMemory => (None, false),
+    }
+}
+
+/// The bytes of a reply.
+pub fn bytes_of(reply: &Option<Vec<u8>>) -> &[u8]
+    ensures { result.now ≡ reply_bytes (option_map (λ t. t.items) reply.now) }
+{
+    match reply {
+        Some(text) => text.as_slice(),
+        None => b"F1 no memory\n",
+    }
+}

@@ -1,0 +1,118 @@
+// The variable that a word of the console names.
+ghost use Rattle.std.specs.Prelude.{◌≡◌, ◌≢◌, ◌<◌, ◌≤◌, ◌↔◌, All, HoldsAt, IsTrue, IfSome, IfNone, codes, length};
+ghost use Rattle.ghc_term.specs.declared.var_name.VarName.{VarName as var_name};
+ghost use Rattle.ghc_term.specs.Lists.{In};
+ghost use Rattle.ghc_term.specs.Variables.{variables_of_goals};
+ghost use Rattle.ghc_records.specs.Record.{Record};
+ghost use Rattle.ghc_records.specs.Replay.{IsVariableOf, MakesVariable};
+ghost use Rattle.ghc_console.specs.Asked.{IsAsked, IsGivenName, numbered_of, variable_numbered};
+
+use crate::finding::in_goals;
+use crate::words::{first, number};
+use ghc_core::Core;
+use ghc_reader::Query;
+use ghc_term::{Name, VarName};
+
+// Where the word stands among the names.
+fn index_of(names: &[Name], word: &[u8]) -> Option<usize>
+    ensures bound { IfSome result (λ i. i < length names.now) }
+    ensures found { IfSome result (HoldsAt (λ name. name ≡ word.now) names.now) }
+    ensures none { IfNone result (All (λ name. name ≢ word.now) names.now) }
+{
+    names
+        .iter()
+        .position(|name| name.as_str().as_bytes() == word)
+}
+
+// Whether the word is the one that names no variable.
+fn is_blank(word: &[u8]) -> bool
+    ensures { IsTrue result ↔ (word.now ≡ codes "_") }
+{
+    word == b"_".as_slice()
+}
+
+// The variable of the query to which it gives the name, but for `_`. It is searched for among the goals, where its number
+// has 32 bits: names alone are not known to be so few.
+fn given_name(query: &Query, word: &[u8]) -> Option<VarName>
+    ensures found { IfSome result (IsGivenName query.now.variables word.now) }
+    ensures none { IfNone result ((x : var_name) → ¬ IsGivenName query.now.variables word.now x) }
+{
+    if is_blank(word) {
+        return None;
+    }
+    match index_of(query.variables(), word) {
+        Some(index) => in_goals(query.goals(), index + 1),
+        None => None,
+    }
+}
+
+// The variable of a step and a place, where both are there.
+fn variable_of(step: Option<u32>, place: Option<u32>) -> Option<VarName>
+    ensures { result ≡ variable_numbered step place }
+{
+    match (step, place) {
+        (Some(step), Some(place)) => Some(VarName { step, place }),
+        _ => None,
+    }
+}
+
+// The variable that a word `_n_m` names by its numbers.
+fn numbered(word: &[u8]) -> Option<VarName>
+    ensures { result ≡ numbered_of word.now }
+{
+    match word.split_first() {
+        Some((b'_', numbers)) => match first(numbers, b'_') {
+            Some(bar) => variable_of(number(&numbers[..bar]), number(&numbers[bar + 1..])),
+            None => None,
+        },
+        _ => None,
+    }
+}
+
+// Whether the place is one from 1 to the last.
+fn is_place(place: u32, last: usize) -> bool
+    ensures { IsTrue result ↔ ((1 ≤ place) × (place ≤ last)) }
+{
+    0 < place && place as usize <= last
+}
+
+// Whether the variable is one of the query.
+fn is_of_query(query: &Query, x: VarName) -> bool
+    ensures { IsTrue result ↔ In x (variables_of_goals query.now.goals) }
+{
+    let _goals = query.goals();
+    x.step == 0 && is_place(x.place, query.variables().len())
+}
+
+// Whether a kept step made the variable: one look-up.
+fn is_of_step(core: &Core, x: VarName) -> bool
+    ensures { IsTrue result ↔ ((r : Record) × In r core.now.world.kept × MakesVariable r x) }
+{
+    core.stands();
+    match core.records().get(x.step) {
+        Some(step) => is_place(x.place, step.effect().fresh() as usize),
+        None => false,
+    }
+}
+
+// Whether the variable is one of the world.
+fn is_variable_of(core: &Core, x: VarName) -> bool
+    ensures { IsTrue result ↔ IsVariableOf core.now.world.opening.query core.now.world.kept x }
+{
+    is_of_query(core.query(), x) || is_of_step(core, x)
+}
+
+/// The variable that the word names: one of the query by its name, but for `_`; or `_n_m`, where the query has it or a kept
+/// step made it. One look at each name and each symbol of the query, and one look-up in the record.
+pub fn asked(core: &Core, word: &[u8]) -> Option<VarName>
+    ensures found { IfSome result (IsAsked core.now.world core.now.names word.now) }
+    ensures none { IfNone result ((x : var_name) → ¬ IsAsked core.now.world core.now.names word.now x) }
+{
+    if let Some(x) = given_name(core.query(), word) {
+        return Some(x);
+    }
+    match numbered(word) {
+        Some(x) if is_variable_of(core, x) => Some(x),
+        _ => None,
+    }
+}

@@ -1,0 +1,52 @@
+// What a session reads from and writes to.
+ghost use Rattle.std.specs.Prelude.{ℕ, ◌<◌, List, Option, length, IfOk};
+ghost use Rattle.std.specs.Io.{ReadsAtMost, WritesAtMost};
+ghost use Rattle.std.specs.Io.KnownBytes.{Appends, Keeps, ReadConsumes, WriteAppends};
+ghost use Rattle.ghc_console.specs.Device.{Counts, WritesFront};
+
+/// A call of a device failed.
+#[derive(Clone, Copy, Debug, PartialEq, Eq)]
+pub struct Broken;
+
+/// A source of bytes and a sink for bytes. What it tells of them is known or not; its failures are counted.
+pub trait Device {
+    /// The bytes that reads will give from here on, where they are known.
+    ghost unread: { Self → Option (List ℕ) };
+
+    /// The bytes that were written, where they are known.
+    ghost written: { Self → Option (List ℕ) };
+
+    /// How many calls have failed.
+    ghost failures: { Self → ℕ };
+
+    /// Gives some of the bytes that are left, and none only at their end. A failed call takes no byte.
+    fn read(&mut self, buf: &mut [u8]) -> Result<usize, Broken>
+        ensures bound { ReadsAtMost result buf.new }
+        ensures bytes { ReadConsumes (unread self.old) (unread self.new) result buf.new }
+        ensures written { Keeps (written self.old) (written self.new) }
+        ensures count { Counts (failures self.old) (failures self.new) result };
+
+    /// Takes a front of the bytes, a byte or more where there is one. A failed call takes none.
+    fn write(&mut self, bytes: &[u8]) -> Result<usize, Broken>
+        ensures bound { WritesAtMost result bytes.now }
+        ensures some { 0 < length bytes.now → IfOk result (λ n. 0 < n) }
+        ensures bytes { WriteAppends (written self.old) (written self.new) result bytes.now }
+        ensures unread { Keeps (unread self.old) (unread self.new) }
+        ensures count { Counts (failures self.old) (failures self.new) result };
+}
+
+/// Writes all the bytes, or a front of them where a call fails, which is the last call. At most one call for each byte.
+pub fn write_all<D: Device>(device: &mut D, bytes: &[u8]) -> Result<(), Broken>
+    ensures bytes { WritesFront (D.written device.old) (D.written device.new) result bytes.now }
+    ensures unread { Keeps (D.unread device.old) (D.unread device.new) }
+    ensures count { Counts (D.failures device.old) (D.failures device.new) result }
+{
+    let mut rest = bytes;
+    while !rest.is_empty() {
+        match device.write(rest) {
+            Ok(n) => rest = &rest[n..],
+            Err(Broken) => return Err(Broken),
+        }
+    }
+    Ok(())
+}

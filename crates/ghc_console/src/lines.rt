@@ -1,0 +1,124 @@
+// A device over any reader and writer.
+ghost use Rattle.std.specs.Prelude.{◌≡◌, ◌<◌, length, IfOk, ◌+◌};
+ghost use Rattle.std.specs.Io.{ReadsAtMost, WritesAtMost};
+ghost use Rattle.std.specs.Io.KnownBytes.{Keeps, ReadConsumes, WriteAppends};
+ghost use Rattle.ghc_console.specs.Device.{Counts};
+
+use crate::device::{Broken, Device};
+use crate::tally::Tally;
+use std::io::{ErrorKind, Read, Write};
+use std::marker::Model;
+use std::sync::ledger::{Blank, Ledger};
+
+/// A device over a reader and a writer. The writer is flushed before each read.
+#[derive(Drop)]
+pub struct Lines<R: Read, W: Write, L: Ledger> {
+    reader: R,
+    writer: W,
+    failed: Tally<L>,
+}
+
+impl<R: Read, W: Write, L: Ledger> Model for Lines<R, W, L> {
+    ghost use Rattle.ghc_console.specs.Device.{DeviceValue};
+
+    ghost Value = { DeviceValue };
+
+    ghost view = { λ d. record {
+      unread = R.remaining d.reader;
+      written = W.contents d.writer;
+      failures = d.failed;
+    } };
+}
+
+// Reads, and reads again where the system was interrupted.
+fn read_some<R: Read>(reader: &mut R, buf: &mut [u8]) -> Result<usize, Broken>
+    ensures bound { ReadsAtMost result buf.new }
+    ensures bytes { ReadConsumes (R.remaining reader.old) (R.remaining reader.new) result buf.new }
+{
+    for _ in 0..u64::MAX {
+        match reader.read(buf) {
+            Ok(n) => return Ok(n),
+            Err(e) => {
+                if e.kind() != ErrorKind::Interrupted {
+                    return Err(Broken);
+                }
+            }
+        }
+    }
+    Err(Broken)
+}
+
+// Writes, and writes again where the system was interrupted. A writer that takes nothing has failed.
+fn write_some<W: Write>(writer: &mut W, bytes: &[u8]) -> Result<usize, Broken>
+    ensures bound { WritesAtMost result bytes.now }
+    ensures some { 0 < length bytes.now → IfOk result (λ n. 0 < n) }
+    ensures bytes { WriteAppends (W.contents writer.old) (W.contents writer.new) result bytes.now }
+{
+    for _ in 0..u64::MAX {
+        match writer.write(bytes) {
+            Ok(n) => {
+                if n == 0 && !bytes.is_empty() {
+                    return Err(Broken);
+                }
+                return Ok(n);
+            }
+            Err(e) => {
+                if e.kind() != ErrorKind::Interrupted {
+                    return Err(Broken);
+                }
+            }
+        }
+    }
+    Err(Broken)
+}
+
+impl<R: Read, W: Write, L: Ledger> Lines<R, W, L> {
+    /// A device over these two, with no failure yet.
+    pub fn new(reader: R, writer: W, blank: Blank) -> Lines<R, W, L>
+        requires blank { (blank.name ≡ L.name) × (blank.parts ≡ L.parts) × (0 < L.parts) }
+        ensures { result ≡ record { unread = R.remaining reader; written = W.contents writer; failures = 0 } }
+    {
+        Lines {
+            reader,
+            writer,
+            failed: Tally::new(blank),
+        }
+    }
+
+    /// Hands on what the writer holds back. A failure is counted.
+    pub fn flush(&mut self) -> Result<(), Broken>
+        ensures unread { self.new.unread ≡ self.old.unread }
+        ensures written { Keeps self.old.written self.new.written }
+        ensures count { Counts self.old.failures self.new.failures result }
+    {
+        match self.writer.flush() {
+            Ok(()) => Ok(()),
+            Err(_) => Err(self.failed.fail()),
+        }
+    }
+}
+
+impl<R: Read, W: Write, L: Ledger> Device for Lines<R, W, L> {
+    ghost unread = { λ d. d.unread };
+
+    ghost written = { λ d. d.written };
+
+    ghost failures = { λ d. d.failures };
+
+    fn read(&mut self, buf: &mut [u8]) -> Result<usize, Broken> {
+        if self.writer.flush().is_err() {
+            return Err(self.failed.fail());
+        }
+        match read_some(&mut self.reader, buf) {
+            Ok(n) => Ok(n),
+            Err(Broken) => Err(self.failed.fail()),
+        }
+    }
+
+    fn write(&mut self, bytes: &[u8]) -> Result<usize, Broken> {
+        match write_some(&mut self.writer, bytes) {
+            Ok(n) => Ok(n),
+            Err(Broken) => Err(self.failed.fail()),
+        }
+    }
+}

@@ -1,0 +1,139 @@
+// A device over memory, for tests.
+ghost use Rattle.std.specs.Prelude.{◌≡◌, ℕ, ◌+◌, ◌<◌, ◌≤◌, min, [], List, length, take, drop, ◌++◌, Ok, IfOk, Some, vec_len};
+ghost use Rattle.std.specs.Io.{StopsAt, ReadsAtMost, WritesAtMost};
+ghost use Rattle.std.specs.Io.KnownBytes.{Keeps, ReadConsumes, WriteAppends};
+ghost use Rattle.ghc_console.specs.Device.{Counts};
+ghost use Rattle.ghc_console.specs.Script.{after_call, fails_next};
+
+use crate::device::{Broken, Device};
+use crate::tally::Tally;
+use std::alloc::Global;
+use std::marker::Model;
+use std::sync::ledger::{Blank, Ledger};
+
+/// A device over memory. Its reads stop behind a line feed, and the call that was chosen fails; so does a write that
+/// finds no memory.
+#[derive(Drop)]
+pub struct Script<L: Ledger> {
+    input: Vec<u8>,
+    at: usize,
+    output: Vec<u8>,
+    fails_after: Option<u64>,
+    failed: Tally<L>,
+}
+
+impl<L: Ledger> Model for Script<L> {
+    ghost use Rattle.std.specs.Prelude.{ℕ, ◌≤◌, drop, vec_len};
+    ghost use Rattle.ghc_console.specs.Script.{ScriptValue};
+
+    ghost Value = { ScriptValue };
+
+    ghost view = { λ s. record {
+      unread = drop s.at s.input.items;
+      written = s.output.items;
+      failures = s.failed;
+      fails_after = s.fails_after;
+    } };
+
+    ghost invariant = { λ s. s.at ≤ vec_len s.input };
+}
+
+// How many of the bytes one read gives: at most `room`, and none behind a line feed.
+fn front_len(bytes: &[u8], room: usize) -> usize
+    ensures bound { (result ≤ length bytes.now) × (result ≤ room) }
+    ensures some { result ≡ 0 → (0 < room) → bytes.now ≡ [] }
+    ensures stops { StopsAt (take result bytes.now) 10 }
+{
+    for (i, byte) in bytes.iter().enumerate() {
+        if i >= room {
+            return i;
+        }
+        if *byte == b'\n' {
+            return i + 1;
+        }
+    }
+    bytes.len()
+}
+
+// Gives a front of the bytes, and says how many.
+fn give(bytes: &[u8], buf: &mut [u8]) -> usize
+    ensures bound { ReadsAtMost {E = Unit {0}} (Ok result) buf.new }
+    ensures few { result ≤ length bytes.now }
+    ensures given { bytes.now ≡ take result buf.new ++ drop result bytes.now }
+    ensures some { result ≡ 0 → 0 < length buf.new → drop result bytes.now ≡ [] }
+    ensures stops { StopsAt (take result buf.new) 10 }
+{
+    let n = front_len(bytes, buf.len());
+    buf[..n].copy_from_slice(&bytes[..n]);
+    n
+}
+
+impl<L: Ledger> Script<L> {
+    /// A device that gives this input. The call behind the first `fails_after` calls fails, if that is given.
+    pub fn new(alloc: Global, input: Vec<u8>, fails_after: Option<u64>, blank: Blank) -> Script<L>
+        requires blank { (blank.name ≡ L.name) × (blank.parts ≡ L.parts) × (0 < L.parts) }
+        ensures { result ≡ record { unread = input.items; written = []; failures = 0; fails_after = fails_after } }
+    {
+        Script {
+            input,
+            at: 0,
+            output: Vec::new(alloc),
+            fails_after,
+            failed: Tally::new(blank),
+        }
+    }
+
+    /// What was written.
+    pub fn output(&self) -> &[u8]
+        ensures { result.now ≡ self.now.written }
+    {
+        self.output.as_slice()
+    }
+
+    // Counts the call, and says whether it is the one that fails.
+    fn is_due(&mut self) -> bool
+        ensures due { result ≡ fails_next self.old.fails_after }
+        ensures counted { self.new.fails_after ≡ after_call self.old.fails_after }
+        ensures unread { self.new.unread ≡ self.old.unread }
+        ensures written { self.new.written ≡ self.old.written }
+        ensures failures { self.new.failures ≡ self.old.failures }
+    {
+        match self.fails_after {
+            Some(0) => {
+                self.fails_after = None;
+                true
+            }
+            Some(n) => {
+                self.fails_after = Some(n - 1);
+                false
+            }
+            None => false,
+        }
+    }
+}
+
+impl<L: Ledger> Device for Script<L> {
+    ghost use Rattle.std.specs.Prelude.{Some};
+
+    ghost unread = { λ s. Some s.unread };
+
+    ghost written = { λ s. Some s.written };
+
+    ghost failures = { λ s. s.failures };
+
+    fn read(&mut self, buf: &mut [u8]) -> Result<usize, Broken> {
+        if self.is_due() {
+            return Err(self.failed.fail());
+        }
+        let n = give(&self.input[self.at..], buf);
+        self.at += n;
+        Ok(n)
+    }
+
+    fn write(&mut self, bytes: &[u8]) -> Result<usize, Broken> {
+        if self.is_due() || self.output.extend_from_slice(bytes).is_err() {
+            return Err(self.failed.fail());
+        }
+        Ok(bytes.len())
+    }
+}

@@ -1,0 +1,113 @@
+// The words of a line, and the numbers and goals that they name.
+ghost use Rattle.std.specs.Prelude.{◌≡◌, ◌≢◌, ◌==◌, ◌∷◌, ◌++◌, ◌+◌, ◌<◌, All, [], not, length, filter, map, take, drop, IfOk, IfSome, IfNone, OnOk};
+ghost use Rattle.std.specs.List.{list_all};
+ghost use Rattle.ghc_term.specs.InputTerm.{is_name_byte};
+ghost use Rattle.ghc_console.specs.Words.{begins_variable, goal_name_of, goal_named, is_variable, number_of, words_of};
+
+use ghc_term::GoalName;
+use std::alloc::{AllocError, Global};
+
+// Where the first of these bytes is.
+pub(crate) fn first(bytes: &[u8], wanted: u8) -> Option<usize>
+    ensures bound { IfSome result (λ i. i < length bytes.now) }
+    ensures found { IfSome result (λ i. bytes.now ≡ take i bytes.now ++ wanted ∷ drop (i + 1) bytes.now) }
+    ensures plain { IfSome result (λ i. All (λ b. b ≢ wanted) (take i bytes.now)) }
+    ensures none { IfNone result (All (λ b. b ≢ wanted) bytes.now) }
+{
+    bytes.iter().position(|b| *b == wanted)
+}
+
+// Adds a word, where it is one.
+fn push_word<'a>(words: &mut Vec<&'a [u8]>, word: &'a [u8]) -> Result<(), AllocError>
+    ensures { OnOk result (map (λ w. w.now) words.new.items ≡ map (λ w. w.now) words.old.items ++ filter (λ w. not (length w == 0)) (word.entry.now ∷ [])) }
+{
+    if !word.is_empty() {
+        words.push(word)?;
+    }
+    Ok(())
+}
+
+/// The words of a line, in order. It takes time and memory in proportion to the line, and copies no word.
+pub fn words(alloc: Global, line: &[u8]) -> Result<Vec<&[u8]>, AllocError>
+    ensures { IfOk result (λ words. map (λ w. w.now) words.items ≡ words_of line.now) }
+{
+    let mut words = Vec::new(alloc);
+    let mut rest = line;
+    while let Some(i) = first(rest, b' ') {
+        let (word, behind) = rest.split_at(i);
+        push_word(&mut words, word)?;
+        rest = &behind[1..];
+    }
+    push_word(&mut words, rest)?;
+    Ok(words)
+}
+
+/// The number that a word says: digits with a value of at most 4,294,967,295. It takes no memory.
+pub fn number(word: &[u8]) -> Option<u32>
+    ensures { result ≡ number_of word.now }
+{
+    if word.is_empty() {
+        return None;
+    }
+    let mut value = 0u64;
+    for byte in word {
+        if !byte.is_ascii_digit() {
+            return None;
+        }
+        value = value * 10 + u64::from(*byte - b'0');
+        if value > 4_294_967_295 {
+            return None;
+        }
+    }
+    Some(value as u32)
+}
+
+// The goal of a step and a place, where both are there.
+fn goal_of(step: Option<u32>, place: Option<u32>) -> Option<GoalName>
+    ensures { result ≡ goal_named step place }
+{
+    match (step, place) {
+        (Some(step), Some(place)) => Some(GoalName { step, place }),
+        _ => None,
+    }
+}
+
+/// The goal that a word names: a number, a point, and a number. It takes no memory.
+pub fn goal_name(word: &[u8]) -> Option<GoalName>
+    ensures { result ≡ goal_name_of word.now }
+{
+    match first(word, b'.') {
+        Some(point) => goal_of(number(&word[..point]), number(&word[point + 1..])),
+        None => None,
+    }
+}
+
+// Whether the byte may stand first in a variable.
+fn begins(byte: u8) -> bool
+    ensures { result ≡ begins_variable byte }
+{
+    byte.is_ascii_uppercase() || byte == b'_'
+}
+
+// Whether the byte may stand in a variable behind its first.
+fn goes_on(byte: u8) -> bool
+    ensures { result ≡ is_name_byte byte }
+{
+    byte.is_ascii_lowercase() || byte.is_ascii_uppercase() || byte.is_ascii_digit() || byte == b'_'
+}
+
+fn all_go_on(bytes: &[u8]) -> bool
+    ensures { result ≡ list_all is_name_byte bytes.now }
+{
+    bytes.iter().all(|byte| goes_on(*byte))
+}
+
+/// Whether a word has the form of a variable. It takes no memory.
+pub fn is_variable_word(word: &[u8]) -> bool
+    ensures { result ≡ is_variable word.now }
+{
+    match word.split_first() {
+        Some((byte, bytes)) => begins(*byte) && all_go_on(bytes),
+        None => false,
+    }
+}

@@ -1,0 +1,103 @@
+-- What is known of a world that a core can be in, and which worlds are so from the start.
+use Rattle.std.proofs.Common.{◌≡◌, ◌≢◌, ◌<◌, [], refl, inl, inr, arith, Some}
+use Rattle.std.specs.FinMap as finite
+use Rattle.ghc_term.specs.declared.var_name.VarName.{VarName}
+use Rattle.ghc_term.specs.declared.goal_name.GoalName.{GoalName}
+use Rattle.ghc_term.specs.Goal.{Goal}
+use Rattle.ghc_term.specs.Store.{value_at}
+use Rattle.ghc_flat.specs.Clause.{Program, Query}
+use Rattle.ghc_flat.specs.Flat.{IsProgram, IsQuery}
+use Rattle.ghc_fire.specs.Effect.{no_step}
+use Rattle.ghc_fire.specs.Laws.{HasNoVariableOf}
+use Rattle.ghc_term.specs.Lists.{In}
+use Rattle.ghc_records.specs.Record.{Record}
+use Rattle.ghc_records.specs.Replay.{query_state, IsVariableOf}
+use Rattle.ghc_records.specs.Journal.{Opening, fresh_opening}
+use Rattle.ghc_records.specs.Laws.{IsWellMade}
+use Rattle.ghc_records.proofs.Replaying as replaying
+use Rattle.ghc_depend.specs.Kept.{Keeps}
+use Rattle.ghc_depend.proofs.Placing.{results_of}
+use Rattle.ghc_depend.proofs.Results.{is_old}
+use Rattle.ghc_core.specs.World.{World, IsReplay, Opens}
+use Rattle.ghc_core.specs.Legal.{IsSound, at_opening}
+use Rattle.ghc_core.specs.Laws.{IsOrderly}
+use Rattle.ghc_core.specs.Core.{IsStanding}
+use Rattle.ghc_core.proofs.Reaching.{reached_good, reached, known}
+use Rattle.ghc_core.proofs.Replayed.{reachable_replay}
+use Rattle.ghc_core.proofs.Keeping.{reachable_keeps}
+
+-- The state of a standing world is the replay of its kept steps.
+pub standing_replay : (w : World) → IsStanding w → IsReplay w w.kept w.state
+standing_replay w s = reachable_replay w s.0 s.2
+
+-- In a standing world the store is acyclic, and each variable is the query's or made by a kept step.
+pub standing_well_made : (w : World) → IsStanding w → IsWellMade w.opening.query w.kept w.state
+standing_well_made w s = known w s.0 s.2
+
+-- A standing world is orderly: no number is kept twice, and each stream has one goal at most.
+pub standing_orderly : (w : World) → IsStanding w → IsOrderly w
+standing_orderly w s = reached w s.0 s.2
+
+-- The journal of a standing world tells what is kept and what is on the shelf.
+pub standing_keeps : (w : World) → IsStanding w → Keeps w.opening w.journal w.kept w.shelf
+standing_keeps w s = reachable_keeps w s.0 s.2
+
+-- The program and the query of a standing world are accepted.
+pub standing_sound : (w : World) → IsStanding w → IsSound w.opening
+standing_sound w s = let good = reached_good s.2 in (good.accepted, good.asked)
+
+-- No variable of a standing world is one of `no_step`.
+pub standing_apart : (w : World) → IsStanding w → (x : VarName) → IsVariableOf w.opening.query w.kept x → x.step ≢ no_step
+standing_apart w s x (inl i) e =
+    let zero : x.step ≡ 0 = replaying.of_query w.opening.program w.opening.query x (standing_sound w s).1 i in omega (arith, e)
+standing_apart w s x (inr m) e =
+    let below = ((standing_replay w s).0.0 m.0 m.1).1 in let step = m.2.0 in omega (arith, e)
+
+-- In a standing world no variable of `no_step` stands in a goal that is there, or in a value of the store.
+pub standing_numbered : (w : World) → IsStanding w → (g : GoalName) (b : Goal) → finite.get w.state.goals g ≡ Some b → HasNoVariableOf no_step b (value_at w.state.store)
+standing_numbered w s g b e =
+    let well = standing_well_made w s in
+    record {
+      goal = λ x i. standing_apart w s x (well.goals g b x e i);
+      values = λ y t p x o. standing_apart w s x (well.values y x t p o);
+    }
+
+-- In a standing world each goal's name has a step below the next one.
+pub standing_goal_below : (w : World) → IsStanding w → (g : GoalName) (b : Goal) → finite.get w.state.goals g ≡ Some b → g.step < w.next
+standing_goal_below w s g b e =
+    let good = reached_good s.2 in
+    let results = results_of w.opening.program w.opening.query w.kept w.state (standing_replay w s) in
+    elim (is_old w.opening.query w.kept w.state results g b e) [
+      | inl zero ↦ let first = good.first in omega arith
+      | inr r ↦ let below = good.below r.0 r.1 in let step = r.2 in omega arith
+    ]
+
+-- A world that an opening makes stands, where program and query are accepted.
+pub opening_stands : (o : Opening) (w : World) → IsSound o → Opens o w → IsStanding w
+opening_stands o w sound opens = (record { count = 1; held = finite.empty }, (omega arith, omega arith), at_opening sound opens refl)
+
+-- the world of a query where nothing was loaded
+abbrev pub fresh_world : Program → Query → World
+fresh_world P query = record { opening = fresh_opening P query; state = query_state query; kept = []; shelf = finite.empty; next = 1; journal = [] }
+
+-- The fresh opening of a program and a query makes their fresh world.
+pub fresh_opens : (P : Program) (query : Query) → Opens (fresh_opening P query) (fresh_world P query)
+fresh_opens P query = record {
+  opening = refl;
+  steps = refl;
+  state = (((λ r i. absurd i), tt), refl);
+  below = λ r i. absurd i;
+  numbered = (omega arith, omega arith);
+  few = omega arith;
+  shelf = refl;
+  next = refl;
+  journal = refl;
+}
+
+-- The fresh world of an accepted program and query stands.
+pub fresh_stands : (P : Program) (query : Query) → IsProgram P → IsQuery P query → IsStanding (fresh_world P query)
+fresh_stands P query accepted asked = opening_stands (fresh_opening P query) (fresh_world P query) (accepted, asked) (fresh_opens P query)
+
+-- Each kept step of a standing world has a number below the next one.
+pub standing_below : (w : World) → IsStanding w → (r : Record) → In r w.kept → r.number < w.next
+standing_below w s r i = (reached_good s.2).below r i

@@ -1,0 +1,36 @@
+-- What a core is.
+use Rattle.std.specs.Prelude.{◌≡◌, ℕ, List, Option, Some, None}
+use Rattle.ghc_fire.specs.declared.act.Act.{Act}
+use Rattle.ghc_fire.specs.declared.act.Act.TheVariants.{ByClause as by_clause, Unified as unified, Assigned as assigned, Given as given, Closed as closed}
+use Rattle.ghc_fire.specs.Proposal.{Proposal, under}
+use Rattle.ghc_fire.specs.declared.meter.Meter.{Meter}
+use Rattle.ghc_records.specs.Record.{Record}
+use Rattle.ghc_core.specs.World.{Hands, IsHand, World, with_step}
+use Rattle.ghc_core.specs.Proposes.{IsCommitOf}
+use Rattle.ghc_core.specs.Legal.{IsReachable}
+
+-- A core is the world that it is in, the names of the query's variables by number, and the counts of what it fired and tried.
+pub record Core : Type 0 where
+  pub world : World
+  pub names : List (List ℕ)
+  pub meter : Meter
+
+-- The world is one that a core can be in: events reach it, and there is a hand for more.
+abbrev pub IsStanding : World → Type 0
+IsStanding w = (hands : Hands) × IsHand hands 1 × IsReachable w hands
+
+-- A commit of the proposal in the world w takes step n, which leaves the world v.
+abbrev pub IsCommitted : World → Proposal → World → ℕ → Type 0
+IsCommitted w p v n = (r : Record) × IsCommitOf w p r × (n ≡ w.next) × (v ≡ with_step r w)
+
+-- The clause with which an attempt has to be made for it to propose this act.
+abbrev pub choice_of : Act → Option ℕ
+choice_of (by_clause k) = Some k
+choice_of unified = None
+choice_of assigned = None
+choice_of (given u) = None
+choice_of closed = None
+
+-- the record of the proposal as the next step of the world
+abbrev pub next_record : World → Proposal → Record
+next_record w p = record { number = w.next; goal = Some p.goal; consumed = Some p.consumed; act = p.act; effect = under w.next p.effect }

@@ -1,0 +1,25 @@
+-- Two worlds, or two cores, with one code are one.
+use Rattle.std.specs.Prelude.{ℕ, List, refl}
+use Rattle.std.specs.Coded.{Coded, code_by, coded×, coded_list, coded_ℕ}
+use Rattle.ghc_fire.specs.declared.meter.Meter.{Meter}
+use Rattle.ghc_records.specs.Record.{State, Record, Shelf}
+use Rattle.ghc_records.specs.Journal.{Opening, Entry}
+use Rattle.ghc_records.specs.RecordCode.{state_code, records_code, shelf_code, journal_code, opening_code}
+use Rattle.ghc_core.specs.World.{World}
+use Rattle.ghc_core.specs.Core.{Core}
+
+abbrev pub world_code : Coded World
+world_code =
+    code_by (Opening × (State × (List Record × (Shelf × (ℕ × List Entry)))))
+    (coded× opening_code (coded× state_code (coded× records_code (coded× shelf_code (coded× coded_ℕ journal_code)))))
+    (λ w. (w.opening, (w.state, (w.kept, (w.shelf, (w.next, w.journal))))))
+    (λ p. record { opening = p.0; state = p.1.0; kept = p.1.1.0; shelf = p.1.1.1.0; next = p.1.1.1.1.0; journal = p.1.1.1.1.1 })
+    (λ _. refl)
+
+abbrev pub meter_code : Coded Meter
+meter_code = code_by (ℕ × ℕ) (coded× coded_ℕ coded_ℕ) (λ m. (m.firings, m.tries)) (λ p. record { firings = p.0; tries = p.1 }) (λ _. refl)
+
+abbrev pub core_code : Coded Core
+core_code =
+    code_by (World × (List (List ℕ) × Meter)) (coded× world_code (coded× (coded_list (coded_list coded_ℕ)) meter_code))
+    (λ c. (c.world, (c.names, c.meter))) (λ p. record { world = p.0; names = p.1.0; meter = p.1.1 }) (λ _. refl)

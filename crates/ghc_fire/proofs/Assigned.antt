@@ -1,0 +1,44 @@
+-- What an assignment does, or why it is refused, by the value of its expression.
+use Rattle.std.proofs.Common.{◌≡◌, ℤ, [], refl, ap, inl, inr, ◌⊎◌}
+use Rattle.std.specs.Prelude.{Option}
+use Rattle.ghc_term.specs.declared.var_name.VarName.{VarName}
+use Rattle.ghc_term.specs.declared.fault.Fault.{Fault}
+use Rattle.ghc_term.specs.declared.fault.Fault.TheVariants.{Memory, Waits, Clash, Cycle}
+use Rattle.ghc_term.specs.Tree.{Tree, integer}
+use Rattle.ghc_term.specs.Expression.{Expression}
+use Rattle.ghc_term.specs.Sets.{Variables}
+use Rattle.ghc_flat.specs.Clause.{Program}
+use Rattle.ghc_match.specs.Position.{EndsIn}
+use Rattle.ghc_match.specs.Value.{Number, waits, HasValue}
+use Rattle.ghc_match.specs.Meeting.{Gains}
+use Rattle.ghc_unify.specs.Unify.{Unifies, Clashes, Cycles}
+use Rattle.ghc_fire.specs.Effect.{Effect, IsOnChainsOf, Assigns}
+use Rattle.ghc_fire.specs.Attempt.{refused, AssignmentAnswers}
+use Rattle.ghc_fire.proofs.EachAnswer.{no_cycle}
+
+module _ (S : VarName → Option Tree) (t : Tree) (b : Expression) where
+  -- the fault is want of memory, or the answer to the assignment
+  abbrev pub IsAnswer : Fault → Type 0
+  IsAnswer f = (f ≡ Memory) ⊎ ((P : Program) → AssignmentAnswers P t b S (refused f))
+
+  pub waiting : (xs : Variables) → HasValue S b (waits xs) → IsAnswer Waits
+  waiting xs w = inr (λ P. inl ((xs, w), refl))
+
+  module _ (v : ℤ) (worth : Number (EndsIn S) b v) where
+    -- the unification with the value is refused
+    pub not_unified : (f : Fault) → (f ≡ Clash → Clashes S t (integer v)) → (f ≡ Cycle → Cycles S t (integer v)) → (f ≡ Clash) ⊎ (f ≡ Cycle) ⊎ (f ≡ Memory) → IsAnswer f
+    not_unified f clash cycle (inl e) = inr (λ P. inr (inr (inl ((v, worth, clash e), ap refused e))))
+    not_unified f clash cycle (inr (inl e)) = absurd (no_cycle S t v (cycle e))
+    not_unified f clash cycle (inr (inr e)) = inl e
+
+    -- it is solved, and the chains of the expression are read too
+    pub unified : (e : Effect) (rest : Variables) → Unifies S t (integer v) e.binds rest → Gains rest e.reads (IsOnChainsOf S b) → e.makes ≡ [] → e.fresh ≡ 0 → Assigns t b S e
+    unified e rest u g makes fresh = (
+      v,
+      rest,
+      worth,
+      u,
+      λ x. (λ c. elim ((g x).0 c) [ inl r ↦ inr r | inr p ↦ inl p ], λ h. (g x).1 (elim h [ inl p ↦ inr p | inr r ↦ inl r ])),
+      makes,
+      fresh,
+    )

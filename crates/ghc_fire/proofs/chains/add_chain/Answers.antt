@@ -1,0 +1,13 @@
+use Rattle.std.proofs.Common.{sym, subst}
+use Rattle.std.proofs.lemmas.Result.{on_ok_weaker}
+use Rattle.ghc_term.specs.Store.{value_at}
+use Rattle.ghc_term.specs.Bindings.{Leads}
+use Rattle.ghc_fire.proofs.Gathered.{gains_leaf}
+use Rattle.ghc_fire.proofs.chains.add_chain.Goals as goal
+
+pub returns : goal.returns
+returns c =
+    let S = value_at c.args.store.now in
+    let w = c.in_ok-passed.ensures in
+    let leads = subst (λ xs. Leads S c.args.term.now xs w.0) (sym c.deref.ensures.value) w.1 in
+    on_ok_weaker c.add_all.result (λ g. gains_leaf S c.args.reads.now c.add_all.new.reads c.args.term.now w.0 c.deref.result.now leads g) c.add_all.ensures

@@ -1,0 +1,14 @@
+use Rattle.std.specs.Prelude.{reverse, ◌↔◌}
+use Rattle.ghc_term.specs.declared.var_name.VarName.{VarName}
+use Rattle.ghc_term.specs.Store.{value_at}
+use Rattle.ghc_flat.specs.Variables.{leaf_variables}
+use Rattle.ghc_match.proofs.Waiting.{leaves, parts}
+use Rattle.ghc_fire.proofs.Gathered.{Gathers}
+use Rattle.ghc_fire.proofs.chains.add_chains.Given as goal
+
+abbrev pub invariant-loop-part : goal.invariant-loop-part
+invariant-loop-part l =
+    (x : VarName) → Gathers (value_at l.store) l.reads (leaves (reverse l.waiting.items)) x ↔ Gathers (value_at l.store) l.initial.reads (leaf_variables l.expression) x
+
+abbrev pub decreases-loop-part : goal.decreases-loop-part
+decreases-loop-part l = parts (reverse l.waiting.items)

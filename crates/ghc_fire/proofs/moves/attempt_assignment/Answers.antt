@@ -1,0 +1,46 @@
+use Rattle.std.proofs.Common.{◌≡◌, rules, Err, sym, ap, ◌∙◌, subst}
+use Rattle.std.proofs.lemmas.Int.{to_z-of_z}
+use Rattle.std.proofs.lemmas.Result.{err_from_is_err_and}
+use mir.Val.{SFits}
+use mir.Syntax.{w64}
+use Rattle.ghc_term.specs.Tree.{integer}
+use Rattle.ghc_term.specs.Store.{value_at}
+use Rattle.ghc_match.specs.Value.{HasValue}
+use Rattle.ghc_match.specs.Told.{value_of}
+use Rattle.ghc_match.specs.Meeting.{Gains}
+use Rattle.ghc_unify.specs.Unify.{Unifies, Clashes, Cycles}
+use Rattle.ghc_fire.specs.Effect.{IsOnChainsOf}
+use Rattle.ghc_fire.proofs.Assigned.{waiting, not_unified, unified}
+use Rattle.ghc_fire.proofs.moves.attempt_assignment.Goals as goal
+
+pub returns-in-Waits-clause-fault : goal.returns-in-Waits-clause-fault
+returns-in-Waits-clause-fault c =
+    let S = value_at c.args.store.now in
+    let waits = subst (λ v. HasValue S c.args.value.now (value_of v)) c.in-Waits.is c.in_ok-integer.ensures in
+    waiting S c.args.left.now c.args.value.now c.in-Waits.field-0 waits
+
+pub returns-clause-effect : goal.returns-clause-effect
+returns-clause-effect c =
+    let S = value_at c.args.store.now in
+    let v = c.in-Number.integer in
+    let fits : SFits w64 v = search rules in
+    let worth = subst (λ v. HasValue S c.args.value.now (value_of v)) c.in-Number.is c.in_ok-integer.ensures in
+    let right : c.integer.result ≡ integer v = c.integer.ensures ∙ ap integer (to_z-of_z w64 v fits) in
+    let e = c.new-2.result in
+    let rest = c.in_ok-binds.field-0.reads in
+    let solved = subst (λ u. Unifies S c.args.left.now u e.binds rest) right (subst (λ b. Unifies S c.args.left.now c.integer.result b rest) (sym c.new-2.ensures.binds) c.in_ok-binds.ensures.solved) in
+    let read = subst (λ r. Gains rest r (IsOnChainsOf S c.args.value.now)) (sym c.new-2.ensures.reads) c.in_ok-add_chains.ensures in
+    unified S c.args.left.now c.args.value.now v worth e rest solved read (c.new-2.ensures.makes ∙ c.new.ensures.items) c.new-2.ensures.fresh
+
+pub returns-in_err-binds-clause-fault : goal.returns-in_err-binds-clause-fault
+returns-in_err-binds-clause-fault c =
+    let S = value_at c.args.store.now in
+    let v = c.in-Number.integer in
+    let fits : SFits w64 v = search rules in
+    let worth = subst (λ v. HasValue S c.args.value.now (value_of v)) c.in-Number.is c.in_ok-integer.ensures in
+    let right : c.integer.result ≡ integer v = c.integer.ensures ∙ ap integer (to_z-of_z w64 v fits) in
+    let p = err_from_is_err_and c.from_residual-in_err-binds.result c.from_residual-in_err-binds.ensures.1 in
+    let clashes = subst (Clashes S c.args.left.now) right in
+    let cycles = subst (Cycles S c.args.left.now) right in
+    rw (p.1, p.2)
+    (not_unified S c.args.left.now c.args.value.now v worth c.in_err-binds.field-0.0 (λ e. clashes (c.in_err-binds.ensures.clash (ap Err e))) (λ e. cycles (c.in_err-binds.ensures.cycle (ap Err e))) c.in_err-binds.ensures.only)

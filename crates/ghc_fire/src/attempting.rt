@@ -1,0 +1,115 @@
+// What a step of a goal would do, and what it does as a step of some number.
+ghost use Rattle.std.specs.Prelude.{◌≡◌, ◌⊎◌, IfOk, IfErr, IsErrAnd, MatchResult};
+ghost use Rattle.ghc_term.specs.Store.{value_at};
+ghost use Rattle.ghc_term.specs.declared.fault.Fault.{Fault as fault_spec};
+ghost use Rattle.ghc_fire.specs.declared.act.Act.{Act as act_spec};
+ghost use Rattle.ghc_fire.specs.Effect.{Effect as effect_spec};
+ghost use Rattle.ghc_fire.specs.Attempt.{proposes, refused, Attempts};
+ghost use Rattle.ghc_fire.specs.Attempted.{AttemptsAt, IsProposed};
+ghost use Rattle.ghc_fire.specs.Meter.{fired};
+ghost use Rattle.ghc_fire.specs.Proposal.{under};
+
+use crate::act::Act;
+use crate::calls::{attempt_call, attempt_choice};
+use crate::effect::Effect;
+use crate::goals::Goals;
+use crate::instances::number_goals;
+use crate::meter::Meter;
+use crate::moves::{attempt_assignment, attempt_unification};
+use crate::proposal::Proposal;
+use ghc_flat::Program;
+use ghc_term::{Fault, Goal, GoalName, GoalView, Store};
+use std::alloc::{AllocError, Global};
+
+/// Proposes a step of the goal of this name, with a clause chosen or not, and counts a firing. The refusals, in this
+/// order: `NoGoal` where there is no such goal or it is a stream; `NoClause` where no clause of the number chosen is for
+/// the goal; for a call `Waits` or `NoMatch` by what its clauses say, without a choice only where none accepts, and then the
+/// least that accepts is taken; for a unification `Clash` or `Cycle`; for an assignment `Waits`, `Arithmetic` or `Clash`. Else
+/// it fails for want of memory alone. It costs what the goal's clauses look at and what the step would bind and make.
+pub fn attempt(
+    alloc: Global,
+    meter: &mut Meter,
+    program: &Program,
+    goals: &Goals,
+    store: &Store,
+    goal: GoalName,
+    choice: Option<u32>,
+) -> Result<Proposal, Fault>
+    ensures proposed { IfOk result (IsProposed program.now goals.now store.now goal choice) }
+    ensures fault { IfErr result (λ f. (f ≡ Fault.Memory) ⊎ AttemptsAt program.now goals.now store.now goal choice (refused f)) }
+
+    // There is one answer, unless memory is wanting.
+    ensures only { (a : act_spec) (e : effect_spec) → AttemptsAt program.now goals.now store.now goal choice (proposes a e)
+        → MatchResult result (λ p. (p.act ≡ a) × (p.effect ≡ e)) (λ f. f ≡ Fault.Memory) }
+    ensures only_fault { (f : fault_spec) → AttemptsAt program.now goals.now store.now goal choice (refused f)
+        → IsErrAnd result (λ g. (g ≡ f) ⊎ (g ≡ Fault.Memory)) }
+    ensures counted { meter.new ≡ fired meter.old }
+{
+    meter.count_firing();
+    store.acyclic();
+    propose(alloc, program, goals, store, goal, choice)
+}
+
+// Proposes a step of the goal of this name.
+fn propose(
+    alloc: Global,
+    program: &Program,
+    goals: &Goals,
+    store: &Store,
+    goal: GoalName,
+    choice: Option<u32>,
+) -> Result<Proposal, Fault>
+    ensures proposed { IfOk result (IsProposed program.now goals.now store.now goal choice) }
+    ensures fault { IfErr result (λ f. (f ≡ Fault.Memory) ⊎ AttemptsAt program.now goals.now store.now goal choice (refused f)) }
+{
+    let Some(consumed) = goals.get(goal) else {
+        return Err(Fault::NoGoal);
+    };
+    let (act, effect) = step(alloc, program, store, consumed, choice)?;
+    Ok(Proposal::new(goal, consumed.share()?, act, effect))
+}
+
+// The act of a step of the goal, with its effect.
+fn step(
+    alloc: Global,
+    program: &Program,
+    store: &Store,
+    goal: &Goal,
+    choice: Option<u32>,
+) -> Result<(Act, Effect), Fault>
+    ensures proposed { IfOk result (λ p. Attempts program.now (value_at store.now) (Some goal.now) choice (proposes p.0 p.1)) }
+    ensures fault { IfErr result (λ f. (f ≡ Fault.Memory) ⊎ Attempts program.now (value_at store.now) (Some goal.now) choice (refused f)) }
+{
+    match (goal.view(), choice) {
+        (GoalView::Stream(_, _), _) => Err(Fault::NoGoal),
+        (GoalView::Call(name, arguments), None) => {
+            attempt_call(alloc, program, store, name, arguments)
+        }
+        (GoalView::Call(name, arguments), Some(number)) => {
+            attempt_choice(alloc, program, store, name, arguments, number)
+        }
+        (GoalView::Unify(left, right), None) => {
+            match attempt_unification(alloc, store, left, right) {
+                Ok(effect) => Ok((Act::Unified, effect)),
+                Err(fault) => Err(fault),
+            }
+        }
+        (GoalView::Assign(left, value), None) => {
+            match attempt_assignment(alloc, store, left, value) {
+                Ok(effect) => Ok((Act::Assigned, effect)),
+                Err(fault) => Err(fault),
+            }
+        }
+        _ => Err(Fault::NoClause),
+    }
+}
+
+/// The effect that was proposed, as the step of this number has it: the variables that it makes get the number. It goes
+/// once through the goals that are made, and shares each part of their terms that has no such variable.
+pub fn finish(alloc: Global, effect: Effect, number: u32) -> Result<Effect, AllocError>
+    ensures { IfOk result (λ e. e ≡ under number effect) }
+{
+    let (reads, binds, makes, fresh) = effect.into_parts();
+    let makes = number_goals(alloc, &makes, number)?;
+    Ok(Effect::new(reads, binds, makes, fresh))
+}

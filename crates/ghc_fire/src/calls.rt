@@ -1,0 +1,104 @@
+// What a step of a call would do.
+ghost use Rattle.std.specs.Prelude.{◌≡◌, ◌⊎◌, length, IfOk, IfErr};
+ghost use Rattle.ghc_term.specs.Store.{value_at};
+ghost use Rattle.ghc_fire.specs.Attempt.{proposes, refused, CallAnswers, ChoiceAnswers};
+ghost use Rattle.ghc_fire.specs.Calls.{HasVerdict};
+
+use crate::act::Act;
+use crate::effect::{Effect, NO_STEP};
+use crate::fresh::count_fresh;
+use crate::instances::instance;
+use ghc_flat::{Clause, Program};
+use ghc_match::{Outcome, Tried, try_clause};
+use ghc_term::{Bindings, Fault, Name, Store, Term};
+use std::alloc::{AllocError, Global};
+
+// What a clause makes of a call.
+#[derive(Drop)]
+enum Verdict {
+    Refuses,
+    Waits,
+    // It accepts the call, and a step by it has this effect.
+    Reduces(Effect),
+}
+
+// What the clause makes of a call with these arguments: it tries the clause, and where that accepts, goes twice through
+// its body.
+fn ask(
+    alloc: Global,
+    clause: &Clause,
+    arguments: &[Term],
+    store: &Store,
+) -> Result<Verdict, AllocError>
+    requires { length clause.now.head ≡ length arguments.now }
+    ensures { IfOk result (HasVerdict clause.now arguments.now (value_at store.now)) }
+{
+    store.acyclic();
+    let head_variables = clause.head_variables();
+    let Tried { outcome, looked } = try_clause(alloc, clause, arguments, store)?;
+    match outcome {
+        Outcome::Refuses => Ok(Verdict::Refuses),
+        Outcome::Waits(_wanted) => Ok(Verdict::Waits),
+        Outcome::Accepts(theta) => {
+            let makes = instance(alloc, clause, head_variables, &theta, NO_STEP)?;
+            let fresh = count_fresh(clause);
+            let effect = Effect::new(looked, Bindings::new(alloc), makes, fresh);
+            Ok(Verdict::Reduces(effect))
+        }
+    }
+}
+
+/// The step of a call by the least of its clauses that accepts it; where none does, `Waits` if one waits, and else
+/// `NoMatch`. It tries the clauses in order up to the one that it takes.
+pub fn attempt_call(
+    alloc: Global,
+    program: &Program,
+    store: &Store,
+    name: &Name,
+    arguments: &[Term],
+) -> Result<(Act, Effect), Fault>
+    ensures proposed { IfOk result (λ p. CallAnswers program.now name.now arguments.now (value_at store.now) (proposes p.0 p.1)) }
+    ensures fault { IfErr result (λ f. (f ≡ Fault.Memory) ⊎ CallAnswers program.now name.now arguments.now (value_at store.now) (refused f)) }
+{
+    let mut waits = false;
+    for number in program.clauses_for(name, arguments.len()) {
+        let clause = program.clause(*number).unwrap();
+        match ask(alloc, clause, arguments, store)? {
+            Verdict::Refuses => {}
+            Verdict::Waits => waits = true,
+            Verdict::Reduces(effect) => return Ok((Act::ByClause(*number), effect)),
+        }
+    }
+    if waits {
+        Err(Fault::Waits)
+    } else {
+        Err(Fault::NoMatch)
+    }
+}
+
+/// The step of a call by the clause of this number, or `NoClause` where that is not for the call, or else `Waits` or
+/// `NoMatch`. It tries no other clause.
+pub fn attempt_choice(
+    alloc: Global,
+    program: &Program,
+    store: &Store,
+    name: &Name,
+    arguments: &[Term],
+    number: u32,
+) -> Result<(Act, Effect), Fault>
+    ensures proposed { IfOk result (λ p. ChoiceAnswers program.now name.now arguments.now number (value_at store.now) (proposes p.0 p.1)) }
+    ensures fault { IfErr result (λ f. (f ≡ Fault.Memory) ⊎ ChoiceAnswers program.now name.now arguments.now number (value_at store.now) (refused f)) }
+{
+    let Some(clause) = program.clause(number) else {
+        return Err(Fault::NoClause);
+    };
+    if clause.name() != name || clause.head().len() != arguments.len() {
+        return Err(Fault::NoClause);
+    }
+    let verdict = ask(alloc, clause, arguments, store)?;
+    match verdict {
+        Verdict::Refuses => Err(Fault::NoMatch),
+        Verdict::Waits => Err(Fault::Waits),
+        Verdict::Reduces(effect) => Ok((Act::ByClause(number), effect)),
+    }
+}

@@ -1,0 +1,49 @@
+// What variables become in the goals that a step makes.
+ghost use Rattle.std.specs.Prelude.{◌≡◌, IfOk, MatchOption};
+ghost use Rattle.ghc_term.specs.Tree.{variable};
+ghost use Rattle.ghc_fire.specs.Renaming.{replacement};
+
+use crate::effect::NO_STEP;
+use ghc_term::{Bindings, Term, VarName};
+use std::alloc::AllocError;
+
+// The two ways in which a variable becomes a term.
+#[derive(Clone, Copy)]
+pub enum Renaming<'a> {
+    // In the body of a clause: one of the head becomes what it stands for, and another a variable of the step.
+    Body {
+        theta: &'a Bindings,
+        head_variables: u32,
+        number: u32,
+    },
+    // In the goals of an effect under any number: one that the step makes gets this number, and another stays.
+    Numbered(u32),
+}
+
+// What the variable becomes, if that may be another term: one look-up at most.
+pub fn replace_variable(x: VarName, by: Renaming<'_>) -> Result<Option<Term>, AllocError>
+    ensures { IfOk result (λ o. MatchOption o (replacement by.entry x ≡ variable x) (λ t. t ≡ replacement by.entry x)) }
+{
+    match by {
+        Renaming::Body {
+            theta,
+            head_variables,
+            number,
+        } => match theta.get(x) {
+            Some(term) => Ok(Some(term.share()?)),
+            None => Ok(Some(Term::variable(VarName {
+                step: number,
+                place: x.place.saturating_sub(head_variables),
+            }))),
+        },
+        Renaming::Numbered(number) => {
+            if x.step != NO_STEP {
+                return Ok(None);
+            }
+            Ok(Some(Term::variable(VarName {
+                step: number,
+                place: x.place,
+            })))
+        }
+    }
+}

@@ -1,0 +1,81 @@
+// What an attempt proposes.
+ghost use Rattle.std.specs.Prelude.{◌≡◌};
+
+use crate::act::Act;
+use crate::effect::Effect;
+use ghc_term::{Goal, GoalName};
+use std::marker::Model;
+
+/// A step that was possible when it was proposed: a goal, by name and as written, the act on it, and its effect under any
+/// number.
+#[derive(Drop)]
+pub struct Proposal {
+    goal: GoalName,
+    consumed: Goal,
+    act: Act,
+    effect: Effect,
+}
+
+impl Model for Proposal {
+    ghost use Rattle.ghc_fire.specs.Proposal.{Proposal};
+    ghost use Rattle.ghc_fire.specs.ActCode.{proposal_code};
+
+    ghost Value = { Proposal };
+
+    ghost coded = { proposal_code };
+
+    ghost view = { λ p. record { goal = p.goal; consumed = p.consumed; act = p.act; effect = p.effect } };
+}
+
+impl Proposal {
+    /// The proposal of these parts.
+    pub fn new(goal: GoalName, consumed: Goal, act: Act, effect: Effect) -> Proposal
+        ensures goal { result.goal ≡ goal }
+        ensures consumed { result.consumed ≡ consumed }
+        ensures act { result.act ≡ act }
+        ensures effect { result.effect ≡ effect }
+    {
+        Proposal {
+            goal,
+            consumed,
+            act,
+            effect,
+        }
+    }
+
+    /// The name of its goal.
+    pub fn goal(&self) -> GoalName
+        ensures { result ≡ self.now.goal }
+    {
+        self.goal
+    }
+
+    /// Its goal as written.
+    pub fn consumed(&self) -> &Goal
+        ensures { result.now ≡ self.now.consumed }
+    {
+        &self.consumed
+    }
+
+    /// The act on the goal.
+    pub fn act(&self) -> &Act
+        ensures { result.now ≡ self.now.act }
+    {
+        &self.act
+    }
+
+    /// The effect under any number.
+    pub fn effect(&self) -> &Effect
+        ensures { result.now ≡ self.now.effect }
+    {
+        &self.effect
+    }
+
+    /// Its goal as written and the effect under any number, given up.
+    pub fn into_parts(self) -> (Goal, Effect)
+        ensures consumed { result.0 ≡ self.consumed }
+        ensures effect { result.1 ≡ self.effect }
+    {
+        (self.consumed, self.effect)
+    }
+}

@@ -1,0 +1,165 @@
+-- The names that stand in a parse tree, in order; and what says the tree has variables that are called so, in order.
+use Rattle.std.proofs.Common.{◌≡◌, ℕ, List, [], ◌∷◌, ◌++◌, Option, Some, None, refl, sym, ap, ◌∙◌, subst}
+use Rattle.std.specs.Prelude.{MatchOption}
+use Rattle.std.specs.List.{flat_map}
+use Rattle.std.proofs.lemmas.List.{append-nil}
+use Rattle.ghc_term.specs.declared.var_name.VarName.{VarName}
+use Rattle.ghc_term.specs.Tree as term
+use Rattle.ghc_term.specs.Expression.{Expression}
+use Rattle.ghc_term.specs.Goal as goal
+use Rattle.ghc_term.specs.Variables.{variables, variables_of_list, variables_of_expression, leaf_variables, variables_of_goal, variables_of_goals}
+use Rattle.ghc_reader.specs.declared.written.Guard.{Guard}
+use Rattle.ghc_reader.specs.Source.{Tree, Trees, variable, integer, structure, empty, cell, none, some, Value, number, named, product, sum, Goal, call, unify, assign, Test, plain, compare, Clause}
+use Rattle.ghc_reader.specs.Written.{WrittenClause, WrittenQuery, variables_of_guard, variables_of_guards, variables_of_written}
+use Rattle.ghc_reader.specs.Lowered.{Names, IsCalled, Says, SaysAll, SaysValue, SaysGoal, SaysAsked, SaysGuard, SaysClause, SaysQuery, Each, tail_of, doing}
+use Rattle.ghc_reader.proofs.TermsLowered.{variables_of_trees}
+use Rattle.ghc_reader.proofs.ClausesLowered.{leaves_are_all}
+
+-- ---- the names
+
+abbrev mutual
+  -- the names in a term, in order
+  pub names_in : Tree → Names
+  names_in (variable v) = v ∷ []
+  names_in (integer n) = []
+  names_in (structure f ts) = names_in_all ts
+  names_in empty = []
+  names_in (cell t rest) = names_in t ++ names_in rest
+
+  -- the names in terms, in order
+  pub names_in_all : Trees → Names
+  names_in_all none = []
+  names_in_all (some t ts) = names_in t ++ names_in_all ts
+
+-- the names in an expression, in order
+abbrev pub names_in_value : Value → Names
+names_in_value (number n) = []
+names_in_value (named v) = v ∷ []
+names_in_value (product o a b) = names_in_value a ++ names_in_value b
+names_in_value (sum o a b) = names_in_value a ++ names_in_value b
+
+-- the names in a goal, in order
+abbrev pub names_in_goal : Goal → Names
+names_in_goal (call c) = names_in_all c.arguments
+names_in_goal (unify s t) = names_in s ++ names_in t
+names_in_goal (assign v e) = v ∷ names_in_value e
+
+-- the names in a goal of a query: the tail where it is a stream
+abbrev pub names_with_tail : Option (List ℕ) → Goal → Names
+names_with_tail None g = names_in_goal g
+names_with_tail (Some v) g = v ∷ []
+
+-- the names in a guard, in order
+abbrev pub names_in_test : Test → Names
+names_in_test (plain g) = names_in_goal g
+names_in_test (compare a o b) = names_in_value a ++ names_in_value b
+
+-- the names in goals of a query, in order
+abbrev pub names_in_asked : List Goal → Names
+names_in_asked gs = flat_map (λ g. names_with_tail (tail_of g) g) gs
+
+-- the names in a clause, in order: head, guards, body
+abbrev pub names_in_clause : Clause → Names
+names_in_clause c = names_in_all c.head.arguments ++ flat_map names_in_test c.guard ++ flat_map names_in_goal (doing c.body)
+
+-- ---- the variables are called so
+
+each_join : {X Y : Type 0} (R : X → Y → Type 0) (xs ws : List X) (ys zs : List Y) → Each R xs ys → Each R ws zs → Each R (xs ++ ws) (ys ++ zs)
+each_join R [] ws [] zs h k = k
+each_join R [] ws (y ∷ ys) zs h k = absurd h
+each_join R (x ∷ xs) ws [] zs h k = absurd h
+each_join R (x ∷ xs) ws (y ∷ ys) zs h k = (h.0, each_join R xs ws ys zs h.1 k)
+
+variables_of_goals_are : (gs : List goal.Goal) → flat_map variables_of_goal gs ≡ variables_of_goals gs
+variables_of_goals_are [] = refl
+variables_of_goals_are (g ∷ gs) = ap (λ xs. variables_of_goal g ++ xs) (variables_of_goals_are gs)
+
+variables_of_guards_are : (gs : List Guard) → flat_map variables_of_guard gs ≡ variables_of_guards gs
+variables_of_guards_are [] = refl
+variables_of_guards_are (g ∷ gs) = ap (λ xs. variables_of_guard g ++ xs) (variables_of_guards_are gs)
+
+module _ (names : Names) where
+  -- The variables are called the names, in order.
+  abbrev AreCalled : Names → List VarName → Type 0
+  AreCalled vs xs = Each (IsCalled names) vs xs
+
+  join : (vs ws : Names) (xs ys : List VarName) → AreCalled vs xs → AreCalled ws ys → AreCalled (vs ++ ws) (xs ++ ys)
+  join vs ws xs ys h k = each_join (IsCalled names) vs ws xs ys h k
+
+  mutual
+    called_term : (t : Tree) (u : term.Tree) → Says names t u → AreCalled (names_in t) (variables u)
+    called_term (variable v) u h = subst (λ w. AreCalled (v ∷ []) (variables w)) (sym h.1) (h.2, tt)
+    called_term (integer n) u h = subst (λ w. AreCalled [] (variables w)) (sym h) tt
+    called_term (structure f ts) u h = subst (AreCalled (names_in_all ts)) (sym (ap variables h.1 ∙ variables_of_trees h.0)) (called_terms ts h.0 h.2)
+    called_term empty u h = subst (λ w. AreCalled [] (variables w)) (sym h) tt
+    called_term (cell t rest) u h =
+        subst (AreCalled (names_in t ++ names_in rest)) (sym (ap variables h.2 ∙ ap (λ xs. variables h.0 ++ xs) (append-nil (variables h.1))))
+        (join (names_in t) (names_in rest) (variables h.0) (variables h.1) (called_term t h.0 h.3) (called_term rest h.1 h.4))
+
+    called_terms : (ts : Trees) (us : List term.Tree) → SaysAll names ts us → AreCalled (names_in_all ts) (variables_of_list us)
+    called_terms none us h = subst (λ w. AreCalled [] (variables_of_list w)) (sym h) tt
+    called_terms (some t ts) us h =
+        subst (λ w. AreCalled (names_in t ++ names_in_all ts) (variables_of_list w)) (sym h.2)
+        (join (names_in t) (names_in_all ts) (variables h.0) (variables_of_list h.1) (called_term t h.0 h.3) (called_terms ts h.1 h.4))
+
+  called_value : (v : Value) (e : Expression) → SaysValue names v e → AreCalled (names_in_value v) (variables_of_expression e)
+  called_value (number n) e h = subst (λ w. AreCalled [] (variables_of_expression w)) (sym h) tt
+  called_value (named v) e h = subst (λ w. AreCalled (v ∷ []) (variables_of_expression w)) (sym h.1) (h.2, tt)
+  called_value (product o a b) e h =
+      subst (λ w. AreCalled (names_in_value a ++ names_in_value b) (variables_of_expression w)) (sym h.2)
+      (join (names_in_value a) (names_in_value b) (variables_of_expression h.0) (variables_of_expression h.1) (called_value a h.0 h.3) (called_value b h.1 h.4))
+  called_value (sum o a b) e h =
+      subst (λ w. AreCalled (names_in_value a ++ names_in_value b) (variables_of_expression w)) (sym h.2)
+      (join (names_in_value a) (names_in_value b) (variables_of_expression h.0) (variables_of_expression h.1) (called_value a h.0 h.3) (called_value b h.1 h.4))
+
+  called_goal : (g : Goal) (w : goal.Goal) → SaysGoal names g w → AreCalled (names_in_goal g) (variables_of_goal w)
+  called_goal (call c) w h = subst (λ x. AreCalled (names_in_all c.arguments) (variables_of_goal x)) (sym h.1) (called_terms c.arguments h.0 h.2)
+  called_goal (unify s t) w h =
+      subst (λ x. AreCalled (names_in s ++ names_in t) (variables_of_goal x)) (sym h.2)
+      (join (names_in s) (names_in t) (variables h.0) (variables h.1) (called_term s h.0 h.3) (called_term t h.1 h.4))
+  called_goal (assign v e) w h = subst (λ x. AreCalled (v ∷ names_in_value e) (variables_of_goal x)) (sym h.2) (h.3, called_value e h.1 h.4)
+
+  called_with_tail : (o : Option (List ℕ)) (g : Goal) (w : goal.Goal) → MatchOption o (SaysGoal names g w) (λ v. (k : ℕ) × (x : VarName) × (w ≡ goal.stream k x) × IsCalled names v x) → AreCalled (names_with_tail o g) (variables_of_goal w)
+  called_with_tail None g w h = called_goal g w h
+  called_with_tail (Some v) g w h = subst (λ x. AreCalled (v ∷ []) (variables_of_goal x)) (sym h.2) (h.3, tt)
+
+  called_guard : (t : Test) (w : Guard) → SaysGuard names t w → AreCalled (names_in_test t) (variables_of_guard w)
+  called_guard (plain g) w h = subst (λ x. AreCalled (names_in_goal g) (variables_of_guard x)) (sym h.1) (called_goal g h.0 h.2)
+  called_guard (compare a o b) w h =
+      subst (λ x. AreCalled (names_in_value a ++ names_in_value b) (variables_of_guard x)) (sym h.2)
+      (join (names_in_value a) (names_in_value b) (leaf_variables h.0) (leaf_variables h.1) (called_leaves a h.0 h.3) (called_leaves b h.1 h.4))
+    where
+      called_leaves : (v : Value) (e : Expression) → SaysValue names v e → AreCalled (names_in_value v) (leaf_variables e)
+      called_leaves v e k = subst (AreCalled (names_in_value v)) (sym (leaves_are_all v names e k)) (called_value v e k)
+
+  -- of each in a list
+  called_each : {X Y : Type 0} (R : X → Y → Type 0) (f : X → Names) (g : Y → List VarName) → ((x : X) (y : Y) → R x y → AreCalled (f x) (g y)) → (xs : List X) (ys : List Y) → Each R xs ys → AreCalled (flat_map f xs) (flat_map g ys)
+  called_each R f g one [] [] h = tt
+  called_each R f g one [] (y ∷ ys) h = absurd h
+  called_each R f g one (x ∷ xs) [] h = absurd h
+  called_each R f g one (x ∷ xs) (y ∷ ys) h = join (f x) (flat_map f xs) (g y) (flat_map g ys) (one x y h.0) (called_each R f g one xs ys h.1)
+
+  called_goals : (gs : List Goal) (ws : List goal.Goal) → Each (SaysGoal names) gs ws → AreCalled (flat_map names_in_goal gs) (variables_of_goals ws)
+  called_goals gs ws h = subst (AreCalled (flat_map names_in_goal gs)) (variables_of_goals_are ws) (called_each (SaysGoal names) names_in_goal variables_of_goal called_goal gs ws h)
+
+  called_guards : (ts : List Test) (ws : List Guard) → Each (SaysGuard names) ts ws → AreCalled (flat_map names_in_test ts) (variables_of_guards ws)
+  called_guards ts ws h = subst (AreCalled (flat_map names_in_test ts)) (variables_of_guards_are ws) (called_each (SaysGuard names) names_in_test variables_of_guard called_guard ts ws h)
+
+  called_asked : (gs : List Goal) (ws : List goal.Goal) → Each (SaysAsked names) gs ws → AreCalled (names_in_asked gs) (variables_of_goals ws)
+  called_asked gs ws h =
+      subst (AreCalled (names_in_asked gs)) (variables_of_goals_are ws)
+      (called_each (SaysAsked names) (λ g. names_with_tail (tail_of g) g) variables_of_goal (λ g w s. called_with_tail (tail_of g) g w s) gs ws h)
+
+-- The variables of a written clause are called as the names in its parse tree.
+pub clause_called : (c : Clause) (w : WrittenClause) → SaysClause c w → Each (IsCalled w.variables) (names_in_clause c) (variables_of_written w)
+clause_called c w s =
+    let n = w.variables in
+    let head = called_terms n c.head.arguments w.head s.head in
+    let guards = called_guards n c.guard w.guards s.guards in
+    let body = called_goals n (doing c.body) w.body s.body in
+    let front = join n (names_in_all c.head.arguments) (flat_map names_in_test c.guard) (variables_of_list w.head) (variables_of_guards w.guards) head guards in
+    join n (names_in_all c.head.arguments ++ flat_map names_in_test c.guard) (flat_map names_in_goal (doing c.body)) (variables_of_list w.head ++ variables_of_guards w.guards) (variables_of_goals w.body) front body
+
+-- The variables of a written query are called as the names in its parse trees.
+pub query_called : (gs : List Goal) (q : WrittenQuery) → SaysQuery gs q → Each (IsCalled q.variables) (names_in_asked (doing gs)) (variables_of_goals q.goals)
+query_called gs q s = called_asked q.variables (doing gs) q.goals s.goals

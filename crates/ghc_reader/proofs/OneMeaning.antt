@@ -1,0 +1,65 @@
+-- A parse tree says one term, clause or query, so a text is read in one way.
+use Rattle.std.proofs.Common.{◌≡◌, ℕ, List, [], ◌∷◌, ◌++◌, refl, sym, ◌∙◌, subst, append_assoc}
+use Rattle.ghc_term.specs.Tree as term
+use Rattle.ghc_term.specs.Variables.{variables_of_list, variables_of_goals}
+use Rattle.ghc_reader.specs.Source.{Goal, Clause}
+use Rattle.ghc_reader.specs.Tests.{a_program, a_query, a_term}
+use Rattle.ghc_reader.specs.Written.{WrittenClause, WrittenQuery, variables_of_guards, variables_of_written}
+use Rattle.ghc_reader.specs.Lowered.{Each, SaysClause, SaysQuery, doing, Says}
+use Rattle.ghc_reader.specs.Read.{IsReadProgram, IsReadQuery, IsReadTerm, IsReadInOneWay}
+use Rattle.ghc_reader.proofs.Whole.{one_query}
+use Rattle.ghc_reader.proofs.OneReading.{answered_once, one_program_tree, one_input_tree}
+use Rattle.ghc_reader.proofs.OneNaming.{one_naming}
+use Rattle.ghc_reader.proofs.Meanings.{said}
+use Rattle.ghc_reader.proofs.NamesIn.{names_in_clause, names_in_asked, clause_called, query_called}
+use Rattle.ghc_reader.proofs.OneSaying.{one_list, one_guards, one_body, one_question}
+
+-- a parse tree of a clause says one clause
+one_clause : (c : Clause) (w z : WrittenClause) → SaysClause c w → SaysClause c z → w ≡ z
+one_clause c w z s t =
+    let naming = one_naming (names_in_clause c) (variables_of_written w) (variables_of_written z) w.variables z.variables s.variables t.variables (clause_called c w s) (clause_called c z t) in
+    let behind = sym (append_assoc (variables_of_list w.head) (variables_of_guards w.guards) (variables_of_goals w.body)) ∙ naming.0 ∙ append_assoc (variables_of_list z.head) (variables_of_guards z.guards) (variables_of_goals z.body) in
+    let head = one_list w.variables z.variables c.head.arguments w.head z.head (variables_of_guards w.guards ++ variables_of_goals w.body) (variables_of_guards z.guards ++ variables_of_goals z.body) s.head t.head behind in
+    let guards = one_guards w.variables z.variables c.guard w.guards z.guards (variables_of_goals w.body) (variables_of_goals z.body) s.guards t.guards head.1 in
+    let body = one_body w.variables z.variables (doing c.body) w.body z.body s.body t.body guards.1 in
+    let name = s.name ∙ sym t.name in
+    λ i. record { name = name i; head = head.0 i; guards = guards.0 i; body = body i; variables = naming.1 i }
+
+-- parse trees of clauses say one program
+one_source : (cs : List Clause) (ws zs : List WrittenClause) → Each SaysClause cs ws → Each SaysClause cs zs → ws ≡ zs
+one_source [] [] [] h k = refl
+one_source [] (w ∷ ws) zs h k = absurd h
+one_source [] [] (z ∷ zs) h k = absurd k
+one_source (c ∷ cs) [] zs h k = absurd h
+one_source (c ∷ cs) (w ∷ ws) [] h k = absurd k
+one_source (c ∷ cs) (w ∷ ws) (z ∷ zs) h k =
+    let first = one_clause c w z h.0 k.0 in
+    let second = one_source cs ws zs h.1 k.1 in
+    λ i. first i ∷ second i
+
+-- parse trees of goals say one query
+one_asking : (gs : List Goal) (q r : WrittenQuery) → SaysQuery gs q → SaysQuery gs r → q ≡ r
+one_asking gs q r s t =
+    let naming = one_naming (names_in_asked (doing gs)) (variables_of_goals q.goals) (variables_of_goals r.goals) q.variables r.variables s.variables t.variables (query_called gs q s) (query_called gs r t) in
+    let goals = one_question q.variables r.variables (doing gs) q.goals r.goals s.goals t.goals s.streams t.streams naming.0 in
+    λ i. record { goals = goals i; variables = naming.1 i }
+
+-- ---- texts
+
+pub one_program_read : (text : List ℕ) (ws zs : List WrittenClause) → IsReadProgram text ws → IsReadProgram text zs → ws ≡ zs
+one_program_read text ws zs x y =
+    let tree = (answered_once a_program one_program_tree text).one_tree x.0 y.0 x.1 y.1 in
+    one_source y.0 ws zs (subst (λ cs. Each SaysClause cs ws) tree x.2) y.2
+
+pub one_query_read : (text : List ℕ) (q r : WrittenQuery) → IsReadQuery text q → IsReadQuery text r → q ≡ r
+one_query_read text q r x y =
+    let tree = (answered_once a_query one_query text).one_tree x.0 y.0 x.1 y.1 in
+    one_asking y.0 q r (subst (λ gs. SaysQuery gs q) tree x.2) y.2
+
+pub one_term_read : (text : List ℕ) (u w : term.Tree) → IsReadTerm text u → IsReadTerm text w → u ≡ w
+one_term_read text u w x y =
+    let tree = (answered_once a_term one_input_tree text).one_tree x.0 y.0 x.1 y.1 in
+    said y.0 u (subst (λ t. Says [] t u) tree x.2) ∙ sym (said y.0 w y.2)
+
+pub read_in_one_way : (text : List ℕ) → IsReadInOneWay text
+read_in_one_way text = record { program = one_program_read text; query = one_query_read text; term = one_term_read text }

@@ -1,0 +1,35 @@
+-- A law of reading and printing.
+use Rattle.std.specs.Prelude.{◌≡◌, ℕ, ◌≤◌, List, [], length, Option}
+use Rattle.ghc_term.specs.declared.var_name.VarName.{VarName}
+use Rattle.ghc_term.specs.Tree.{Tree}
+use Rattle.ghc_term.specs.Text.{term_text}
+use Rattle.ghc_term.specs.Resolved.{IsTextOf}
+use Rattle.ghc_term.specs.InputTerm.{IsInGrammar, IsInputTerm}
+use Rattle.ghc_reader.specs.declared.token.Token.{Token}
+use Rattle.ghc_reader.specs.declared.place.Place.{Place}
+use Rattle.ghc_reader.specs.declared.lexer.value.Reserved.TheVariants.{Refused}
+use Rattle.ghc_reader.specs.Lexed.{IsLexed}
+use Rattle.ghc_reader.specs.Grammar.{Input, input}
+use Rattle.ghc_reader.specs.Derived.{tree_of}
+use Rattle.ghc_reader.specs.Lowered.{Says}
+use Rattle.ghc_reader.specs.Read.{IsReadTerm}
+
+-- The tokens of the text are those of a derivation that says the term, whatever the limits on input terms.
+pub record IsSpelledBy (text : List ℕ) (u : Tree) : Type 0 where
+  pub tokens : List Token
+  pub places : List Place
+  pub lexed : IsLexed Refused text tokens places
+  pub derivation : Input
+  pub spelled : tokens ≡ input derivation []
+  pub says : Says [] (tree_of derivation.term) u
+
+-- Each term of the grammar is spelled by its text. The input terms are what texts are read as, and each is what its own text is read
+-- as. So what was read is, as it is written, read again as itself, from a text that is no longer; and so it is as it is printed,
+-- whatever variables stand for.
+pub record PrintedTermsAreReadAgain : Type 0 where
+  pub spelled : (u : Tree) → IsInGrammar u → IsSpelledBy (term_text u) u
+  pub only : (text : List ℕ) (u : Tree) → IsReadTerm text u → IsInputTerm u
+  pub each : (u : Tree) → IsInputTerm u → IsReadTerm (term_text u) u
+  pub written : (text : List ℕ) (u : Tree) → IsReadTerm text u → IsReadTerm (term_text u) u
+  pub no_longer : (text : List ℕ) (u : Tree) → IsReadTerm text u → length (term_text u) ≤ length text
+  pub printed : (text out : List ℕ) (u : Tree) (S : VarName → Option Tree) → IsReadTerm text u → IsTextOf S u out → IsReadTerm out u

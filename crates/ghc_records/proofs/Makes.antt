@@ -1,0 +1,16 @@
+-- The names that a step gives to the goals that it makes, one after another.
+use Rattle.std.proofs.Common.{◌≡◌, ℕ, ◌+◌, ◌<◌, List, [], ◌∷◌, length, drop, refl, arith}
+use Rattle.std.proofs.lemmas.List.{at_drop_more}
+use Rattle.ghc_term.specs.Goal.{Goal}
+use Rattle.ghc_records.specs.StepText.{names_given}
+
+-- the name of the goal at this place, and those behind it
+pub named_next : (n i : ℕ) (gs : List Goal) → i < length gs
+    → names_given n (i + 1) (drop i gs) ≡ record { step = n; place = i + 1 } ∷ names_given n (i + 1 + 1) (drop (i + 1) gs)
+named_next n i [] h = absurd (omega (arith, h))
+named_next n i (g ∷ gs) h = at_drop_more (names_given n (i + 1)) (g ∷ gs) i g h
+
+-- a goal for each name
+pub as_many_named : (n i : ℕ) (gs : List Goal) → (length gs ≡ 0 → ⊥) → length (names_given n i gs) ≡ 0 → ⊥
+as_many_named n i [] some none = some refl
+as_many_named n i (g ∷ gs) some none = omega (arith, none)

@@ -1,0 +1,71 @@
+-- Records in a map, each under its own number.
+use Rattle.std.proofs.Common.{◌≡◌, ◌≢◌, ℕ, true, false, cond, List, [], ◌∷◌, ◌++◌, refl, sym, ap, ◌∙◌, inl, inr, nat_eq}
+use Rattle.std.specs.Prelude.{Some, None}
+use Rattle.std.specs.Map.{keys_of, values_of, lookup}
+use Rattle.std.specs.List.{IsDistinct, AllByRecursion}
+use Rattle.std.proofs.lemmas.Bool.{eqb-true, eq-eqb, ne_eqb}
+use Rattle.indexmap.specs.IndexMap.{insert_entry}
+use Rattle.ghc_term.specs.Lists.{In}
+use Rattle.ghc_records.specs.Orders.{AreDistinct}
+use Rattle.ghc_records.specs.Record.{Record, numbers}
+
+-- each record stands under its number
+abbrev pub AreNumbered : List (ℕ × Record) → Type 0
+AreNumbered es = keys_of es ≡ numbers (values_of es)
+
+first : (e : ℕ × Record) (es : List (ℕ × Record)) → AreNumbered (e ∷ es) → e.0 ≡ e.1.number
+first e es h = cc
+
+rest : (e : ℕ × Record) (es : List (ℕ × Record)) → AreNumbered (e ∷ es) → AreNumbered es
+rest e es h = cc
+
+pub found : (n : ℕ) (r : Record) (es : List (ℕ × Record)) → AreNumbered es → lookup (nat_eq n) es ≡ Some r → In r (values_of es) × (r.number ≡ n)
+found n r [] h e = cc
+found n r (x ∷ es) h e =
+    elim (nat_eq n x.0) as (λ b. nat_eq n x.0 ≡ b → cond b (Some x.1) (lookup (nat_eq n) es) ≡ Some r → In r (values_of (x ∷ es)) × (r.number ≡ n)) [
+      | true ↦ λ p q. let same : x.1 ≡ r = cc in (inl (sym same), ap (λ (s : Record). s.number) (sym same) ∙ sym (first x es h) ∙ sym (eqb-true n x.0 p))
+      | false ↦ λ p q. let f = found n r es (rest x es h) q in (inr f.0, f.1)
+    ] refl e
+
+pub not_found : (n : ℕ) (es : List (ℕ × Record)) → AreNumbered es → lookup (nat_eq n) es ≡ None → (r : Record) → In r (values_of es) → r.number ≢ n
+not_found n [] h e r i same = i
+not_found n (x ∷ es) h e r i same =
+    elim (nat_eq n x.0) as (λ b. nat_eq n x.0 ≡ b → cond b (Some x.1) (lookup (nat_eq n) es) ≡ None → ⊥) [
+      | true ↦ λ p q. cc
+      | false ↦ λ p q. elim i [
+        | inl here ↦ let clash : true ≡ false = sym (eq-eqb n x.0 (sym same ∙ ap (λ (s : Record). s.number) here ∙ sym (first x es h))) ∙ p in cc
+        | inr there ↦ not_found n es (rest x es h) q r there same
+      ]
+    ] refl e
+
+pub added_last : (n : ℕ) (r : Record) (es : List (ℕ × Record)) → AreNumbered es → ((s : Record) → In s (values_of es) → s.number ≢ n) → insert_entry nat_eq es n r ≡ es ++ (n, r) ∷ []
+added_last n r [] h new = refl
+added_last n r (x ∷ es) h new =
+    let other : nat_eq n x.0 ≡ false = ne_eqb n x.0 (λ same. new x.1 (inl refl) (sym (first x es h) ∙ sym same)) in
+    ap (λ b. cond b ((x.0, r) ∷ es) (x ∷ insert_entry nat_eq es n r)) other ∙ ap (λ l. x ∷ l) (added_last n r es (rest x es h) (λ s i. new s (inr i)))
+
+apart : (n : ℕ) (ks : List ℕ) → AllByRecursion (λ k. nat_eq n k ≡ false) ks → ¬ In n ks
+apart n [] h i = i
+apart n (k ∷ ks) h (inl same) = let clash : true ≡ false = sym (eq-eqb n k same) ∙ h.0 in cc
+apart n (k ∷ ks) h (inr i) = apart n ks h.1 i
+
+pub distinct : (ks : List ℕ) → IsDistinct nat_eq ks → AreDistinct ks
+unfolding IsDistinct
+distinct [] h = tt
+distinct (k ∷ ks) h = (apart k ks h.0, distinct ks h.1)
+
+keys_last : (es : List (ℕ × Record)) (e : ℕ × Record) → keys_of (es ++ e ∷ []) ≡ keys_of es ++ e.0 ∷ []
+keys_last [] e = refl
+keys_last (x ∷ es) e = ap (λ l. x.0 ∷ l) (keys_last es e)
+
+pub values_last : (es : List (ℕ × Record)) (e : ℕ × Record) → values_of (es ++ e ∷ []) ≡ values_of es ++ e.1 ∷ []
+values_last [] e = refl
+values_last (x ∷ es) e = ap (λ l. x.1 ∷ l) (values_last es e)
+
+numbers_last : (rs : List Record) (r : Record) → numbers (rs ++ r ∷ []) ≡ numbers rs ++ r.number ∷ []
+numbers_last [] r = refl
+numbers_last (s ∷ rs) r = ap (λ l. s.number ∷ l) (numbers_last rs r)
+
+-- one record more, and each stands under its number
+pub numbered_last : (es : List (ℕ × Record)) (r : Record) → AreNumbered es → AreNumbered (es ++ (r.number, r) ∷ [])
+numbered_last es r h = keys_last es (r.number, r) ∙ ap (λ l. l ++ r.number ∷ []) h ∙ sym (numbers_last (values_of es) r) ∙ ap numbers (sym (values_last es (r.number, r)))

@@ -1,0 +1,21 @@
+use Rattle.std.proofs.Common.{rules, ◌+◌, ◌++◌, map, drop, sym, ap, ◌∙◌, arith, string_bytes}
+use Rattle.std.specs.Prelude.{codes}
+use Rattle.ghc_records.specs.StepText.{goal_name_text, names_given}
+use Rattle.ghc_records.proofs.Listing.{led, led_all, led_next}
+use Rattle.ghc_records.proofs.Makes.{named_next, as_many_named}
+use Rattle.ghc_records.proofs.step_text.push_makes.Goals as goal
+
+pub loop-index-init : goal.loop-index-init
+loop-index-init c =
+    (search rules, ap (λ l. string_bytes c.args.out.now ++ l) (led_all (codes ",") goal_name_text (names_given c.args.number 1 c.args.goals.now) (as_many_named c.args.number 1 c.args.goals.now (λ none. c.if-count-eq0.false (c.in-Ok.ensures.1 ∙ none)))))
+
+pub loop-index-preserved : goal.loop-index-preserved
+loop-index-preserved c =
+    let n = c.args.number in
+    let i = c.loop-index.index in
+    let here = string_bytes c.loop-index.out in (
+      search rules,
+      led_next (codes ",") c.loop-index.mark.now (goal_name_text (record { step = n; place = i + 1 })) (map goal_name_text (names_given n (i + 1 + 1) (drop (i + 1) c.args.goals.now)))
+          here (string_bytes c.push_str-in-loop-index.new.self) (string_bytes c.push_goal_name.new.out) _ c.in_ok-push_str.ensures.bytes c.in_ok-push_goal_name.ensures
+          (ap (λ names. here ++ led (codes ",") c.loop-index.mark.now (map goal_name_text names)) (sym (named_next n i c.args.goals.now (omega (arith, c.loop-index-test.true, c.in-Ok.ensures.1)))) ∙ c.loop-index.invariant.1),
+    )

@@ -1,0 +1,79 @@
+-- Two records, states, steps or entries with one code are one.
+use Rattle.std.specs.Prelude.{◌≡◌, ℕ, List, [], Option, None, refl, cond, nat_eq}
+use Rattle.std.specs.Coded.{Coded, code_by, coded×, coded_list, coded_option, coded_ℕ}
+use Rattle.std.specs.FinMap as finite
+use Rattle.ghc_term.specs.declared.goal_name.GoalName.{GoalName}
+use Rattle.ghc_term.specs.Goal.{Goal}
+use Rattle.ghc_term.specs.GoalCode.{goal_code}
+use Rattle.ghc_term.specs.Store.{StoreValue, store_code}
+use Rattle.ghc_flat.specs.Clause.{Program, Query}
+use Rattle.ghc_flat.specs.ClauseCode.{program_code}
+use Rattle.ghc_fire.specs.Goals.{Goals}
+use Rattle.ghc_fire.specs.GoalsCode.{goal_name_code, goals_code}
+use Rattle.ghc_fire.specs.declared.act.Act.{Act}
+use Rattle.ghc_fire.specs.declared.act.Act.TheVariants.{Closed as closed}
+use Rattle.ghc_fire.specs.ActCode.{act_code}
+use Rattle.ghc_fire.specs.Effect.{Effect}
+use Rattle.ghc_fire.specs.EffectCode.{effect_code}
+use Rattle.ghc_records.specs.Record.{State, Record, Shelf}
+use Rattle.ghc_records.specs.Journal.{Step, Entry, took, undid, rolled, redid, reordered, Opening}
+
+abbrev pub state_code : Coded State
+state_code = code_by (Goals × StoreValue) (coded× goals_code store_code) (λ s. (s.goals, s.store)) (λ p. record { goals = p.0; store = p.1 }) (λ _. refl)
+
+abbrev pub record_code : Coded Record
+record_code =
+    code_by (ℕ × (Option GoalName × (Option Goal × (Act × Effect))))
+    (coded× coded_ℕ (coded× (coded_option goal_name_code) (coded× (coded_option goal_code) (coded× act_code effect_code))))
+    (λ r. (r.number, (r.goal, (r.consumed, (r.act, r.effect)))))
+    (λ p. record { number = p.0; goal = p.1.0; consumed = p.1.1.0; act = p.1.1.1.0; effect = p.1.1.1.1 })
+    (λ _. refl)
+
+abbrev pub records_code : Coded (List Record)
+records_code = coded_list record_code
+
+abbrev pub shelf_code : Coded Shelf
+shelf_code = finite.code coded_ℕ record_code
+
+abbrev pub step_code : Coded Step
+step_code =
+    code_by (ℕ × (Option GoalName × Act)) (coded× coded_ℕ (coded× (coded_option goal_name_code) act_code)) (λ s. (s.number, (s.goal, s.act)))
+    (λ p. record { number = p.0; goal = p.1.0; act = p.1.1 }) (λ _. refl)
+
+-- the step that stands for none
+abbrev pub no_step_at_all : Step
+no_step_at_all = record { number = 0; goal = None; act = closed }
+
+-- what an entry is made of: its kind, its step, its number, its order
+abbrev pub EntryParts : Type 0
+EntryParts = ℕ × (Step × (ℕ × List ℕ))
+
+abbrev pub entry_parts : Entry → EntryParts
+entry_parts (took s) = (0, (s, (0, [])))
+entry_parts (undid n) = (1, (no_step_at_all, (n, [])))
+entry_parts (rolled n) = (2, (no_step_at_all, (n, [])))
+entry_parts (redid n) = (3, (no_step_at_all, (n, [])))
+entry_parts (reordered order) = (4, (no_step_at_all, (0, order)))
+
+abbrev pub entry_from : EntryParts → Entry
+entry_from p =
+    cond (nat_eq p.0 0) (took p.1.0)
+    (cond (nat_eq p.0 1) (undid p.1.1.0) (cond (nat_eq p.0 2) (rolled p.1.1.0) (cond (nat_eq p.0 3) (redid p.1.1.0) (reordered p.1.1.1))))
+
+pub entry_back : (e : Entry) → entry_from (entry_parts e) ≡ e
+entry_back (took s) = refl
+entry_back (undid n) = refl
+entry_back (rolled n) = refl
+entry_back (redid n) = refl
+entry_back (reordered order) = refl
+
+abbrev pub entry_code : Coded Entry
+entry_code = code_by EntryParts (coded× coded_ℕ (coded× step_code (coded× coded_ℕ (coded_list coded_ℕ)))) entry_parts entry_from entry_back
+
+abbrev pub journal_code : Coded (List Entry)
+journal_code = coded_list entry_code
+
+abbrev pub opening_code : Coded Opening
+opening_code =
+    code_by (Program × (Query × (List Step × ℕ))) (coded× program_code (coded× (coded_list goal_code) (coded× (coded_list step_code) coded_ℕ)))
+    (λ o. (o.program, (o.query, (o.steps, o.next)))) (λ p. record { program = p.0; query = p.1.0; steps = p.1.1.0; next = p.1.1.1 }) (λ _. refl)

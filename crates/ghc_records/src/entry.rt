@@ -1,0 +1,18 @@
+// Entries of a journal.
+
+use crate::step::Step;
+
+/// An entry: a step was taken, step n was undone, rolled back or redone, or the record was put into another order.
+#[derive(Drop)]
+pub enum Entry {
+    /// A step was taken.
+    Took(Step),
+    /// The step of this number was undone.
+    Undid(u32),
+    /// The step of this number was rolled back.
+    Rolled(u32),
+    /// The step of this number was redone.
+    Redid(u32),
+    /// The record was put into this order.
+    Reordered(Vec<u32>),
+}
