@@ -7,6 +7,11 @@ use crate::gather::LINE_LIMIT;
 use crate::lines::Lines;
 use crate::reading::{Ahead, Line};
 use crate::script::Script;
+use crate::serving::session;
+use ghc_core::Core;
+use ghc_flat::judge;
+use ghc_reader::{read_program, read_query};
+use ghc_term::Fault;
 use std::alloc::{AllocError, Global};
 use std::marker::Brand;
 use std::sync::Wait;
@@ -208,6 +213,70 @@ fn commands_are_read(rt: HostRuntime) -> Result<(), Fail> {
         let mut text = String::new(rt.alloc());
         push_command(&mut text, &command)?;
         assert!(rt; text.as_str() == *told, "{line}");
+    }
+    Ok(())
+}
+
+// The core of a query with no program.
+fn core_of(alloc: Global, query: &str) -> Result<Core, Fault> {
+    let query = read_query(alloc, query.as_bytes())?;
+    let source = read_program(alloc, b"".as_slice())?;
+    let program = match judge(alloc, source, &query) {
+        Ok(program) => program,
+        Err(refused) => return Err(refused.fault()),
+    };
+    match Core::new(alloc, program, query) {
+        Ok(core) => Ok(core),
+        Err(_) => Err(Fault::Memory),
+    }
+}
+
+fn replied_with<L: Ledger, R: Wait>(
+    rt: &R,
+    alloc: Global,
+    core: Core,
+    fails_after: Option<u64>,
+    blank: Blank,
+) -> Result<Heard, AllocError>
+    requires blank { (blank.name ≡ L.name) × (blank.parts ≡ L.parts) × (0 < L.parts) }
+{
+    let input = Vec::from_slice(alloc, b"step 0.1\nshow X\n".as_slice())?;
+    let mut script: Script<L> = Script::new(alloc, input, fails_after, blank);
+    let (_, ended) = session(rt, alloc, core, &mut script);
+    let text = Vec::from_slice(alloc, script.output())?;
+    let failed = match ended {
+        Err(Fault::Device) => true,
+        _ => false,
+    };
+    Ok(Heard { text, failed })
+}
+
+// What a session of two commands writes, and whether it ended with `Device`.
+fn replied<R: Wait>(
+    rt: &R,
+    alloc: Global,
+    core: Core,
+    fails_after: Option<u64>,
+) -> Result<Heard, AllocError> {
+    replied_with::<Brand, R>(rt, alloc, core, fails_after, Blank::new(1))
+}
+
+// Three reads and two writes are made. Each fails in turn, and then none.
+#[test]
+fn sessions_are_served(rt: HostRuntime) -> Result<(), Fail> {
+    let told = [
+        "",
+        "",
+        "REDU 1 0.1 eq\n",
+        "REDU 1 0.1 eq\n",
+        "REDU 1 0.1 eq\nX = 1\n",
+        "REDU 1 0.1 eq\nX = 1\n",
+    ];
+    for (n, text) in told.iter().enumerate() {
+        let core = core_of(rt.alloc(), "X = 1")?;
+        let heard = replied(&rt, rt.alloc(), core, Some(n as u64))?;
+        assert!(rt; heard.failed == (n < 5), "at {n}");
+        assert!(rt; heard.text.as_slice() == text.as_bytes(), "at {n}");
     }
     Ok(())
 }
