@@ -35,6 +35,7 @@ What the program is given:
     input          standard input
     to PATH        no value: standard output goes to PATH, as /dev/full
     errors to PATH no value: the same of standard error
+    in turns       no value: each line of a session is given only when what stands above it was written
 
 What it has to do:
 
@@ -52,6 +53,7 @@ with which the session begins and, without input, ends with status 0. KIND is `p
 
 import os
 import re
+import select
 import subprocess
 import sys
 import tempfile
@@ -62,9 +64,10 @@ from pathlib import Path
 TESTS = Path(__file__).resolve().parent
 PROGRAM = TESTS.parent / "crates" / "ghcdb" / "out" / "ghcdb"
 SECONDS = 60
+TURN_SECONDS = 10
 PROMPT = b"> "
 
-SINGLE = {"program", "file", "query", "options", "words", "input", "session", "output", "errors", "status"}
+SINGLE = {"program", "file", "query", "options", "words", "input", "in turns", "session", "output", "errors", "status"}
 LISTED = {"output contains", "errors contain"}
 NAMED = {"file ", "to ", "errors to "}
 
@@ -181,12 +184,17 @@ def split_session(row):
     """Puts input and output in the place of a session."""
     if "input" in row or "output" in row:
         raise BadRow("a session stands in the place of input and output")
-    row["input"], row["output"] = b"", b""
+    row["turns"] = []
     for line in row.pop("session").splitlines(keepends=True):
         if line.startswith(PROMPT):
-            row["input"] += line[len(PROMPT):]
+            row["turns"].append((line[len(PROMPT):], b""))
+        elif row["turns"]:
+            given, written = row["turns"].pop()
+            row["turns"].append((given, written + line))
         else:
-            row["output"] += line
+            raise BadRow("a session begins with a line of input")
+    row["input"] = b"".join(given for given, _ in row["turns"])
+    row["output"] = b"".join(written for _, written in row["turns"])
 
 
 def words_of(row):
@@ -215,12 +223,40 @@ def target(row, key, stack):
     return subprocess.PIPE
 
 
+def read_some(stream, length):
+    """What comes from the stream: so many bytes, or fewer where no more come for a while."""
+    got = b""
+    while len(got) < length and select.select([stream], [], [], TURN_SECONDS)[0]:
+        piece = os.read(stream.fileno(), length - len(got))
+        if not piece:
+            break
+        got += piece
+    return got
+
+
+def run_in_turns(row, folder):
+    """The same of a session in which no line is given before the replies to those above it were written."""
+    with subprocess.Popen(
+        [PROGRAM, *words_of(row)], stdin=subprocess.PIPE, stdout=subprocess.PIPE, stderr=subprocess.PIPE, cwd=folder, bufsize=0
+    ) as program:
+        output = b""
+        for given, written in row["turns"]:
+            program.stdin.write(given)
+            output += read_some(program.stdout, len(written))
+            if not row["output"].startswith(output):
+                break
+        rest, errors = program.communicate(timeout=SECONDS)
+    return output + rest, errors, program.returncode
+
+
 def run(row):
     """Standard output, standard error and exit status of the program on a row."""
     with ExitStack() as stack:
         folder = stack.enter_context(tempfile.TemporaryDirectory(prefix="ghcdb-row-"))
         for name, text in files_of(row).items():
             (Path(folder) / name).write_bytes(text)
+        if "in turns" in row:
+            return run_in_turns(row, folder)
         ended = subprocess.run(
             [PROGRAM, *words_of(row)],
             input=row.get("input", b""),
