@@ -13,3 +13,4 @@ pub mod Standing
 pub mod Committing
 pub mod Taking
 pub mod Preparing
+pub mod TakenAway

@@ -28,7 +28,7 @@ prepared w p again n standing holds there goal act effect room number =
     (next_step w p again.consumed standing holds found room))))
 
 -- Worlds are the same where their parts are.
-pub same_world : (o : Opening) {s t : State} {rs qs : List Record} (shelf : Shelf) (n : ℕ) {es fs : List Entry} → s ≡ t → rs ≡ qs → es ≡ fs
-    → ◌≡◌ {A = World} (record { opening = o; state = s; kept = rs; shelf = shelf; next = n; journal = es })
-    (record { opening = o; state = t; kept = qs; shelf = shelf; next = n; journal = fs })
-same_world o shelf n p q r i = record { opening = o; state = p i; kept = q i; shelf = shelf; next = n; journal = r i }
+pub same_world : (o : Opening) {s t : State} {rs qs : List Record} {x y : Shelf} (n : ℕ) {es fs : List Entry} → s ≡ t → rs ≡ qs → x ≡ y → es ≡ fs
+    → ◌≡◌ {A = World} (record { opening = o; state = s; kept = rs; shelf = x; next = n; journal = es })
+    (record { opening = o; state = t; kept = qs; shelf = y; next = n; journal = fs })
+same_world o n p q r u i = record { opening = o; state = p i; kept = q i; shelf = r i; next = n; journal = u i }

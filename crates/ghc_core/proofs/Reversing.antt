@@ -33,7 +33,7 @@ pub value_once : {A : Type 0} {x y : A} {o : Option A} → o ≡ Some x → o �
 value_once p q = cc
 
 module _ (w : World) (n : ℕ) (d : AreDistinct (numbers w.kept)) where
-  undo_fails_once : {f g : Fault} → UndoFails w.kept n f → UndoFails w.kept n g → f ≡ g
+  pub undo_fails_once : {f g : Fault} → UndoFails w.kept n f → UndoFails w.kept n g → f ≡ g
   undo_fails_once (not_kept p) (not_kept q) = refl
   undo_fails_once (not_kept p) (has_consequence r b k c) = absurd (p r k.0 k.1)
   undo_fails_once (has_consequence r b k c) (not_kept q) = absurd (q r k.0 k.1)
@@ -41,7 +41,7 @@ module _ (w : World) (n : ℕ) (d : AreDistinct (numbers w.kept)) where
       let same : r ≡ s = kept_once w.kept n r s d k l in
       ap (λ (x : Record). Fault.HasConsequence x.number) ((consequences w.kept s d).one_first b a (subst (λ x. IsFirstConsequence w.kept x b) same c) e)
 
-  undo_or_fail : {f : Fault} (r : Record) → IsKeptAs w.kept n r → ((b : Record) → ¬ Follows w.kept r b) → ¬ UndoFails w.kept n f
+  pub undo_or_fail : {f : Fault} (r : Record) → IsKeptAs w.kept n r → ((b : Record) → ¬ Follows w.kept r b) → ¬ UndoFails w.kept n f
   undo_or_fail r k none (not_kept p) = p r k.0 k.1
   undo_or_fail r k none (has_consequence s b l c) = none b (subst (λ x. Follows w.kept x b) (kept_once w.kept n s r d l k) c.0)
 

@@ -16,6 +16,10 @@ use Rattle.ghc_core.specs.Events.{Reply, stepped, undone, arranged, refused}
 abbrev pub without_steps : List Record → List Record → State → Entry → World → World
 without_steps gone left t entry w = record w { state = t; kept = left; shelf = with_shelved gone w.shelf; journal = w.journal ++ entry ∷ [] }
 
+-- Step n can be undone: it is kept, and has no consequences.
+abbrev pub CanUndo : List Record → ℕ → Type 0
+CanUndo kept n = (r : Record) × IsKeptAs kept n r × ((b : Record) → ¬ Follows kept r b)
+
 -- Why step n is not undone: it is not kept, or else its first consequence stands in the way.
 pub data UndoFails (kept : List Record) (n : ℕ) : Fault → Type 0 where
   not_kept : IsNotKept kept n → UndoFails kept n Fault.NotKept

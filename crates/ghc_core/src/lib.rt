@@ -8,6 +8,7 @@ mod machine;
 mod renewal;
 mod returns;
 mod steps;
+mod undoing;
 
 pub use facts::{redo_is_changed, second_hand_is_stale};
 pub use laws::{

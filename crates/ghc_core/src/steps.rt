@@ -36,7 +36,7 @@ fn record_of(alloc: Global, proposal: Proposal, number: u32) -> Result<Record, A
     };
     let (consumed, effect) = proposal.into_parts();
     match finish(alloc, effect, number) {
-        Ok(effect) => Ok(Record::new(number, goal, consumed, act, effect)),
+        Ok(effect) => Record::new(alloc, number, goal, consumed, act, effect),
         Err(error) => Err(error),
     }
 }
@@ -49,7 +49,7 @@ fn withdraw_record(records: &mut Records)
 }
 
 // Takes the last entry away.
-fn withdraw_entry(journal: &mut Journal)
+pub(crate) fn withdraw_entry(journal: &mut Journal)
     ensures { (es : List entry_spec) (e : entry_spec) → journal.old ≡ es ++ e ∷ [] → journal.new ≡ es }
 {
     let _ = journal.pop();

@@ -45,7 +45,7 @@ goal_or_not h g =
       | false ↦ λ p. inr (λ e. let clash : true ≡ false = sym (goal_tied h g e) ∙ p in cc)
     ] refl
 
-goal_apart : (h g : GoalName) → ¬ (h ≡ g) → eq_by_cmp goal_cmp h g ≡ false
+pub goal_apart : (h g : GoalName) → ¬ (h ≡ g) → eq_by_cmp goal_cmp h g ≡ false
 goal_apart h g n =
     elim (eq_by_cmp goal_cmp h g) as (λ b. eq_by_cmp goal_cmp h g ≡ b → eq_by_cmp goal_cmp h g ≡ false) [
       | true ↦ λ p. absurd (n (same_goal h g p))
@@ -94,7 +94,7 @@ made_place n i (c ∷ gs) g b e =
       | false ↦ λ p q. let m = made_place n (i + 1) gs g b q in (m.0, omega (arith, m.1), omega (arith, m.2))
     ] refl (sym (finite.get-insert goal_total (with_makes n (i + 1) gs finite.empty) (record { step = n; place = i }) c g) ∙ e)
 
-same_parts : (g h : GoalName) → g.step ≡ h.step → g.place ≡ h.place → g ≡ h
+pub same_parts : (g h : GoalName) → g.step ≡ h.step → g.place ≡ h.place → g ≡ h
 same_parts g h p q i = record { step = p i; place = q i }
 
 above : (a b : ℕ) → a ≤ b → ¬ (b ≡ a) → a + 1 ≤ b

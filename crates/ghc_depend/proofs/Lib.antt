@@ -11,6 +11,9 @@ pub mod Picking
 pub mod Comparing
 pub mod Deleting
 pub mod Following
+pub mod Trails
+pub mod Walking
+pub mod TakingBack
 pub mod Arranging
 pub mod Undoing
 pub mod ComingBack

@@ -1,9 +1,12 @@
 //! Dependence between kept steps, consequences, deletion, lawful orders, and the kept list of a journal.
 #![tactic(auto)]
 
+mod chain;
 mod facts;
 mod laws;
+mod trail;
 
+pub use chain::{consequences, first_consequence};
 pub use facts::{append_depends, append_orders, append_replays, waking_depends, waking_replays};
 pub use laws::{
     consequences_have_one_answer, gone_come_back, law_of_deletion, lawful_order_keeps_replay,

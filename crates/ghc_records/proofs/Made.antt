@@ -1,7 +1,9 @@
 -- Goals are put there one after another, and taken away again.
 use Rattle.std.proofs.Common.{◌≡◌, ◌≢◌, ℕ, zero, suc, ◌+◌, ◌<◌, ◌≤◌, Bool, true, false, cond, List, [], ◌∷◌, ◌++◌, length, get_or, take, refl, sym, ap, ◌∙◌, subst, arith}
 use Rattle.std.specs.Prelude.{Option, Some, None}
+use Rattle.std.specs.declared.cmp.Ordering.{Ordering}
 use Rattle.std.specs.Ordering.{eq_by_cmp}
+use Rattle.std.specs.Cmp.{IsTotalOrder}
 use Rattle.std.specs.FinMap as finite
 use Rattle.std.proofs.lemmas.List.{take_more, length-take-le}
 use Rattle.std.proofs.Math.Seq.{take-length}
@@ -50,11 +52,13 @@ remove_other m k g v n = finite.same_map goal_total goal_antisymmetric _ _ (λ q
     ∙ either_way (eq_by_cmp goal_cmp q k) (eq_by_cmp goal_cmp q g) (Some v) None (finite.get m q) (not_both k g q n)
     ∙ sym (finite.get-insert goal_total (finite.remove m g) k v q ∙ ap (cond (eq_by_cmp goal_cmp q k) (Some v)) (finite.get-remove goal_total m g q)))
 
-remove_inserted : (m : Goals) (k : GoalName) (v : Goal) → finite.get m k ≡ None → finite.remove (finite.insert m k v) k ≡ m
-remove_inserted m k v free = finite.same_map goal_total goal_antisymmetric _ _ (λ q.
-    finite.get-remove goal_total (finite.insert m k v) k q ∙ ap (cond (eq_by_cmp goal_cmp q k) None) (finite.get-insert goal_total m k v q)
-    ∙ elim (eq_by_cmp goal_cmp q k) as (λ b. eq_by_cmp goal_cmp q k ≡ b → cond b None (cond b (Some v) (finite.get m q)) ≡ finite.get m q) [
-      | true ↦ λ p. sym (ap (finite.get m) (same_goal q k p) ∙ free)
+-- what was put where nothing was is taken away again
+pub remove_inserted : {K X : Type 0} {R : K → K → Ordering} (o : IsTotalOrder R) → finite.IsAntisymmetric R → (m : finite.FinMap R X) (k : K) (v : X)
+    → ((q : K) → eq_by_cmp R q k ≡ true → q ≡ k) → finite.get m k ≡ None → finite.remove (finite.insert m k v) k ≡ m
+remove_inserted {R = R} o a m k v same free = finite.same_map o a _ _ (λ q.
+    finite.get-remove o (finite.insert m k v) k q ∙ ap (cond (eq_by_cmp R q k) None) (finite.get-insert o m k v q)
+    ∙ elim (eq_by_cmp R q k) as (λ b. eq_by_cmp R q k ≡ b → cond b None (cond b (Some v) (finite.get m q)) ≡ finite.get m q) [
+      | true ↦ λ p. sym (ap (finite.get m) (same q p) ∙ free)
       | false ↦ λ p. refl
     ] refl)
 
@@ -94,7 +98,7 @@ unmade n gs m (suc k) free within =
     let made : with_makes n 1 (take (suc k) gs) m ≡ finite.insert (with_makes n 1 (take k gs) m) (name n (suc k)) (get_or gs k some_goal) =
     subst (λ j. with_makes n 1 (take j gs) m ≡ finite.insert (with_makes n 1 (take k gs) m) (name n j) (get_or gs k some_goal)) one (made_next n gs m k some_goal (omega arith)) in
     ap (λ x. without_makes n k (finite.remove x (name n (suc k)))) made
-    ∙ ap (without_makes n k) (remove_inserted (with_makes n 1 (take k gs) m) (name n (suc k)) (get_or gs k some_goal) (still_free n 1 (take k gs) m (suc k) free (omega (arith, long))))
+    ∙ ap (without_makes n k) (remove_inserted goal_total goal_antisymmetric (with_makes n 1 (take k gs) m) (name n (suc k)) (get_or gs k some_goal) (λ q. same_goal q (name n (suc k))) (still_free n 1 (take k gs) m (suc k) free (omega (arith, long))))
     ∙ unmade n gs m k free (omega arith)
 
 -- a goal of another name is taken away as well before the goals are put there as after

@@ -1,13 +1,14 @@
 -- Records in a map, each under its own number.
-use Rattle.std.proofs.Common.{◌≡◌, ◌≢◌, ℕ, true, false, cond, List, [], ◌∷◌, ◌++◌, refl, sym, ap, ◌∙◌, inl, inr, nat_eq}
+use Rattle.std.proofs.Common.{◌≡◌, ◌≢◌, ℕ, true, false, cond, List, [], ◌∷◌, ◌++◌, refl, sym, ap, ◌∙◌, subst, inl, inr, nat_eq}
 use Rattle.std.specs.Prelude.{Some, None}
 use Rattle.std.specs.Map.{keys_of, values_of, lookup}
 use Rattle.std.specs.List.{IsDistinct, AllByRecursion}
 use Rattle.std.proofs.lemmas.Bool.{eqb-true, eq-eqb, ne_eqb}
-use Rattle.indexmap.specs.IndexMap.{insert_entry}
+use Rattle.indexmap.specs.IndexMap.{insert_entry, shift_remove_entry}
 use Rattle.ghc_term.specs.Lists.{In}
-use Rattle.ghc_records.specs.Orders.{AreDistinct}
+use Rattle.ghc_records.specs.Orders.{AreDistinct, Picks, nothing, take, leave}
 use Rattle.ghc_records.specs.Record.{Record, numbers}
+use Rattle.ghc_records.proofs.OrderLemmas.{number_in}
 
 -- each record stands under its number
 abbrev pub AreNumbered : List (ℕ × Record) → Type 0
@@ -69,3 +70,32 @@ numbers_last (s ∷ rs) r = ap (λ l. s.number ∷ l) (numbers_last rs r)
 -- one record more, and each stands under its number
 pub numbered_last : (es : List (ℕ × Record)) (r : Record) → AreNumbered es → AreNumbered (es ++ (r.number, r) ∷ [])
 numbered_last es r h = keys_last es (r.number, r) ∙ ap (λ l. l ++ r.number ∷ []) h ∙ sym (numbers_last (values_of es) r) ∙ ap numbers (sym (values_last es (r.number, r)))
+
+-- the records of a list are all picked where each is another than r
+all_left : (r : Record) (rs : List Record) → ((s : Record) → In s rs → s ≢ r) → Picks (λ s. ¬ (s ≡ r)) rs rs
+all_left r [] other = nothing
+all_left r (s ∷ rs) other = take (other s (inl refl)) (all_left r rs (λ q i. other q (inr i)))
+
+-- what is found among the entries is taken out of them, and the others are left
+pub taken_out : (n : ℕ) (r : Record) (es : List (ℕ × Record)) → AreNumbered es → AreDistinct (keys_of es) → lookup (nat_eq n) es ≡ Some r
+    → Picks (λ s. ¬ (s ≡ r)) (values_of es) (values_of (shift_remove_entry (nat_eq n) es))
+taken_out n r [] h d e = cc
+taken_out n r (x ∷ es) h d e =
+    elim (nat_eq n x.0) as (λ b. nat_eq n x.0 ≡ b → cond b (Some x.1) (lookup (nat_eq n) es) ≡ Some r
+    → Picks (λ s. ¬ (s ≡ r)) (x.1 ∷ values_of es) (values_of (cond b es (x ∷ shift_remove_entry (nat_eq n) es)))) [
+      | true ↦ λ p q.
+          let same : x.1 ≡ r = cc in
+          let number : x.0 ≡ r.number = first x es h ∙ ap (λ (s : Record). s.number) same in
+          leave (λ k. k same) (all_left r (values_of es) (λ s i k. d.0 (subst (λ m. In m (keys_of es)) (ap (λ (z : Record). z.number) k ∙ sym number) (subst (In s.number) (sym (rest x es h)) (number_in (values_of es) s i)))))
+      | false ↦ λ p q.
+          let there = found n r es (rest x es h) q in
+          take (λ k. let clash : true ≡ false = sym (eq-eqb n x.0 (sym there.1 ∙ ap (λ (z : Record). z.number) (sym k) ∙ sym (first x es h))) ∙ p in cc) (taken_out n r es (rest x es h) d.1 q)
+    ] refl e
+
+-- what is left is still numbered
+pub numbered_left : (n : ℕ) (es : List (ℕ × Record)) → AreNumbered es → AreNumbered (shift_remove_entry (nat_eq n) es)
+numbered_left n [] h = refl
+numbered_left n (x ∷ es) h = elim (nat_eq n x.0) as (λ b. AreNumbered (cond b es (x ∷ shift_remove_entry (nat_eq n) es))) [
+  | true ↦ rest x es h
+  | false ↦ let same = numbered_left n es (rest x es h) in let head = first x es h in cc
+]

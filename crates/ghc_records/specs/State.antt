@@ -1,7 +1,9 @@
 -- What lets a state take a step.
-use Rattle.std.specs.Prelude.{◌≡◌, ◌≢◌, ℕ, zero, suc, None}
+use Rattle.std.specs.Prelude.{◌≡◌, ◌≢◌, if◌then◌else◌, is_some, ℕ, zero, suc, length, Option, Some, None}
 use Rattle.std.specs.FinMap as finite
 use Rattle.ghc_term.specs.declared.var_name.VarName.{VarName}
+use Rattle.ghc_term.specs.declared.goal_name.GoalName.{GoalName}
+use Rattle.ghc_term.specs.Goal.{Goal}
 use Rattle.ghc_term.specs.Bindings.{IsAcyclic}
 use Rattle.ghc_term.specs.Store.{value_at}
 use Rattle.ghc_fire.specs.Goals.{Goals}
@@ -15,6 +17,17 @@ AreFree m n = (i : ℕ) → finite.get m (record { step = n; place = i }) ≡ No
 abbrev pub without_makes : ℕ → ℕ → Goals → Goals
 without_makes n zero m = m
 without_makes n (suc k) m = without_makes n k (finite.remove m (record { step = n; place = suc k }))
+
+-- the goals, with the one named put back, if one is
+abbrev pub with_goal : Option GoalName → Option Goal → Goals → Goals
+with_goal (Some g) (Some b) m = finite.insert m g b
+with_goal (Some g) None m = m
+with_goal None consumed m = m
+
+-- The step is taken back from the state s, which leaves t: what it bound is unbound, the goals that it made are gone, and the goal that it consumed is there again.
+pub record IsTakenBack (r : Record) (s t : State) : Type 0 where
+  pub goals : t.goals ≡ without_makes r.number (length r.effect.makes) (with_goal r.goal r.consumed s.goals)
+  pub store : (x : VarName) → value_at t.store x ≡ if is_some (value_at r.effect.binds x) then None else value_at s.store x
 
 -- The state can take the step: the goal that it consumes is there, no goal has a name that it gives, what it binds is unbound, and the store stays acyclic.
 pub record CanTake (s : State) (r : Record) : Type 0 where

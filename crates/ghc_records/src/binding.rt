@@ -27,8 +27,8 @@ fn bind_shared(store: &mut Store, x: VarName, value: &Term) -> Result<(), AllocE
     }
 }
 
-// Unbinds each variable that the bindings bind: one look-up for each.
-fn unbind_all(store: &mut Store, binds: &Bindings)
+/// Unbinds each variable that the bindings bind: one look-up for each.
+pub(crate) fn unbind_all(store: &mut Store, binds: &Bindings)
     ensures { (y : VarName) → value_at store.new y ≡ if is_some (value_at binds.now y) then None else value_at store.old y }
 {
     for (x, _) in binds.iter() {

@@ -1,8 +1,8 @@
 // Goals that a step makes: all are put there, or none.
-ghost use Rattle.std.specs.Prelude.{◌≡◌, length, IfOk, OnOk, OnErr};
+ghost use Rattle.std.specs.Prelude.{◌≡◌, length, option_copied, IfOk, OnOk, OnErr};
 ghost use Rattle.std.specs.FinMap as finite;
 ghost use Rattle.ghc_records.specs.Record.{with_makes, without_goal};
-ghost use Rattle.ghc_records.specs.State.{without_makes, AreFree};
+ghost use Rattle.ghc_records.specs.State.{with_goal, without_makes, AreFree};
 
 use ghc_fire::Goals;
 use ghc_term::{Goal, GoalName};
@@ -25,6 +25,21 @@ pub(crate) fn consume_goal(goals: &mut Goals, name: Option<GoalName>)
 {
     if let Some(name) = name {
         goals.remove(name);
+    }
+}
+
+/// Puts the goal that a step consumed back under its name, if it consumed one, and shares it: one look-up.
+pub(crate) fn give_back(
+    goals: &mut Goals,
+    name: Option<GoalName>,
+    consumed: Option<&Goal>,
+) -> Result<(), AllocError>
+    ensures ok { OnOk result (goals.new ≡ with_goal name (option_copied consumed.entry) goals.old) }
+    ensures err { OnErr result (goals.new ≡ goals.old) }
+{
+    match (name, consumed) {
+        (Some(name), Some(goal)) => insert_shared(goals, name, goal),
+        _ => Ok(()),
     }
 }
 

@@ -4,12 +4,19 @@ ghost use Rattle.std.specs.Prelude.{◌≡◌, IfOk, Some};
 use crate::step::Step;
 use ghc_fire::{Act, Effect};
 use ghc_term::{Goal, GoalName};
-use std::alloc::AllocError;
+use std::alloc::{AllocError, Global};
 use std::marker::Model;
+use std::sync::Arc;
 
-/// A record of a step: its number, the goal that it consumed, if any, by name and as written, its act, and its effect.
+/// A record of a step: its number, the goal that it consumed, if any, by name and as written, its act, and its effect. Its
+/// parts are shared.
 #[derive(Drop)]
 pub struct Record {
+    parts: Arc<Parts>,
+}
+
+#[derive(Drop)]
+struct Parts {
     number: u32,
     goal: Option<GoalName>,
     consumed: Option<Goal>,
@@ -25,7 +32,7 @@ impl Model for Record {
 
     ghost coded = { record_code };
 
-    ghost view = { λ r. record { number = r.number; goal = r.goal; consumed = r.consumed; act = r.act; effect = r.effect } };
+    ghost view = { λ r. record { number = r.parts.value.number; goal = r.parts.value.goal; consumed = r.parts.value.consumed; act = r.parts.value.act; effect = r.parts.value.effect } };
 }
 
 impl Record {
@@ -33,61 +40,78 @@ impl Record {
     ghost use Rattle.ghc_records.specs.Journal.{step_of};
 
     /// The record of the step of this number that consumed a goal.
-    pub fn new(number: u32, goal: GoalName, consumed: Goal, act: Act, effect: Effect) -> Record
-        ensures { result ≡ record { number = number; goal = Some goal; consumed = Some consumed; act = act; effect = effect } }
+    pub fn new(
+        alloc: Global,
+        number: u32,
+        goal: GoalName,
+        consumed: Goal,
+        act: Act,
+        effect: Effect,
+    ) -> Result<Record, AllocError>
+        ensures { IfOk result (λ r. r ≡ record { number = number; goal = Some goal; consumed = Some consumed; act = act; effect = effect }) }
     {
-        let goal = Some(goal);
-        let consumed = Some(consumed);
-        Record {
+        let parts = Parts {
             number,
-            goal,
-            consumed,
+            goal: Some(goal),
+            consumed: Some(consumed),
             act,
             effect,
+        };
+        match Arc::new(alloc, parts) {
+            Ok(parts) => Ok(Record { parts }),
+            Err(_) => Err(AllocError),
         }
+    }
+
+    /// The same record once more, with its parts shared: one step. Fails where a count of handles is full.
+    pub fn share(&self) -> Result<Record, AllocError>
+        ensures { IfOk result (λ r. r ≡ self.now) }
+    {
+        let parts = Arc::try_clone(&self.parts)?;
+        Ok(Record { parts })
     }
 
     /// The number of the step.
     pub fn number(&self) -> u32
         ensures { result ≡ self.now.number }
     {
-        self.number
+        self.parts.number
     }
 
     /// The name of the goal that the step consumed, if it consumed one.
     pub fn goal(&self) -> Option<GoalName>
         ensures { result ≡ self.now.goal }
     {
-        self.goal
+        self.parts.goal
     }
 
     /// The goal that the step consumed, as written, if it consumed one.
     pub fn consumed(&self) -> Option<&Goal>
         ensures { option_copied result ≡ self.now.consumed }
     {
-        self.consumed.as_ref()
+        self.parts.consumed.as_ref()
     }
 
     /// What the step did.
     pub fn act(&self) -> &Act
         ensures { result.now ≡ self.now.act }
     {
-        &self.act
+        &self.parts.act
     }
 
     /// The effect of the step.
     pub fn effect(&self) -> &Effect
         ensures { result.now ≡ self.now.effect }
     {
-        &self.effect
+        &self.parts.effect
     }
 
     /// The step as journals and histories have it. Fails where a count of handles is full.
     pub fn step(&self) -> Result<Step, AllocError>
         ensures { IfOk result (λ s. s ≡ step_of self.now) }
     {
-        match self.act.share() {
-            Ok(act) => Ok(Step::new(self.number, self.goal, act)),
+        match self.act().share() {
+            Ok(act) => Ok(Step::new(self.number(), self.goal(), act)),
             Err(error) => Err(error),
         }
     }

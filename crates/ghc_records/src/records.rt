@@ -31,7 +31,7 @@ impl Records {
     ghost use Rattle.std.specs.Prelude.{option_copied};
     ghost use Rattle.ghc_term.specs.Lists.{In};
     ghost use Rattle.ghc_records.specs.Record.{Record, numbers};
-    ghost use Rattle.ghc_records.specs.Orders.{AreDistinct};
+    ghost use Rattle.ghc_records.specs.Orders.{AreDistinct, Picks};
 
     /// No records, which take no memory.
     pub fn new(alloc: Global) -> Records
@@ -68,6 +68,14 @@ impl Records {
         }
     }
 
+    /// The place of the record of the step of this number in recorded order, from 0 on: one look-up.
+    pub fn place_of(&self, number: u32) -> Option<usize>
+        ensures found { IfSome result (λ p. (r : Record) × (slice_get self.now p ≡ Some r) × (r.number ≡ number)) }
+        ensures none { IfNone result ((r : Record) → In r self.now → r.number ≢ number) }
+    {
+        self.map.get_index_of(&number)
+    }
+
     /// Puts a record at the end, whose number no other has. They stay as they were where memory is refused.
     pub fn push(&mut self, record: Record) -> Result<(), AllocError>
         requires { (r : Record) → In r self.old → r.number ≢ record.number }
@@ -90,5 +98,17 @@ impl Records {
             Some((_, record)) => Some(record),
             None => None,
         }
+    }
+
+    /// Takes the record of the step of this number away and gives it, if there was one; the others keep their order. It moves
+    /// each record behind it.
+    pub fn remove(&mut self, number: u32) -> Option<Record>
+        ensures found { IfSome result (λ r. In r self.old × (r.number ≡ number)) }
+        ensures rest { (r : Record) → In r self.old → r.number ≡ number → Picks (λ s. ¬ (s ≡ r)) self.old self.new }
+        ensures none { IfNone result ((r : Record) → In r self.old → r.number ≢ number) }
+        ensures none_left { IfNone result (self.new ≡ self.old) }
+    {
+        let _count = self.len();
+        self.map.shift_remove(&number)
     }
 }

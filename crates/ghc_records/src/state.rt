@@ -1,8 +1,8 @@
 // States: the goals and the store.
 ghost use Rattle.std.specs.Prelude.{◌≡◌, IfOk, OnOk, OnErr};
 
-use crate::binding::bind_all;
-use crate::making::{consume_goal, make_goals, unmake_goals};
+use crate::binding::{bind_all, unbind_all};
+use crate::making::{consume_goal, give_back, make_goals, unmake_goals};
 use crate::record::Record;
 use ghc_fire::Goals;
 use ghc_term::{Goal, Store};
@@ -30,7 +30,7 @@ impl Model for State {
 impl State {
     ghost use Rattle.ghc_records.specs.Record.{after};
     ghost use Rattle.ghc_records.specs.Replay.{query_state};
-    ghost use Rattle.ghc_records.specs.State.{CanTake};
+    ghost use Rattle.ghc_records.specs.State.{CanTake, IsTakenBack};
 
     /// The state of a query before any step. It costs a look-up for each goal, and shares the goals.
     pub fn of_query(alloc: Global, query: &[Goal]) -> Result<State, AllocError>
@@ -78,6 +78,24 @@ impl State {
             return Err(error);
         }
         consume_goal(&mut self.goals, record.goal());
+        Ok(())
+    }
+
+    /// Takes a step back: what it bound is unbound, the goals that it made are gone, and the goal that it consumed is there
+    /// again. The state stays as it was where memory is refused. It costs a look-up for each goal and each binding.
+    pub fn take_back(&mut self, step: &Record) -> Result<(), AllocError>
+        ensures ok { OnOk result (IsTakenBack step.now self.old self.new) }
+        ensures err { OnErr result (self.new ≡ self.old) }
+    {
+        let effect = step.effect();
+        let Ok(count) = u32::try_from(effect.makes().len()) else {
+            return Err(AllocError);
+        };
+        if let Err(error) = give_back(&mut self.goals, step.goal(), step.consumed()) {
+            return Err(error);
+        }
+        unmake_goals(&mut self.goals, step.number(), count);
+        unbind_all(&mut self.store, effect.binds());
         Ok(())
     }
 }

@@ -50,7 +50,7 @@ fn first_step(rt: HostRuntime) -> Result<(), Fail> {
     makes.push(append(alloc, nil(alloc)?, two, made)?)?;
     let effect = Effect::new(Variables::new(alloc), Bindings::new(alloc), makes, 1);
     let name = GoalName { step: 0, place: 1 };
-    let taken = Record::new(1, name, consumed, Act::ByClause(2), effect);
+    let taken = Record::new(alloc, 1, name, consumed, Act::ByClause(2), effect)?;
     says(
         &rt,
         alloc,
@@ -70,7 +70,7 @@ fn second_step(rt: HostRuntime) -> Result<(), Fail> {
     binds.insert(query, bound)?;
     let effect = Effect::new(Variables::new(alloc), binds, Vec::new(alloc), 0);
     let name = GoalName { step: 1, place: 1 };
-    let taken = Record::new(2, name, consumed, Act::Unified, effect);
+    let taken = Record::new(alloc, 2, name, consumed, Act::Unified, effect)?;
     says(
         &rt,
         alloc,

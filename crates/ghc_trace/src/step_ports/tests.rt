@@ -42,7 +42,7 @@ fn first_step(rt: HostRuntime) -> Result<(), Fail> {
     makes.push(append(alloc, nil(alloc)?, two, made)?)?;
     let effect = Effect::new(Variables::new(alloc), Bindings::new(alloc), makes, 1);
     let name = GoalName { step: 0, place: 1 };
-    let taken = Record::new(1, name, consumed, Act::ByClause(2), effect);
+    let taken = Record::new(alloc, 1, name, consumed, Act::ByClause(2), effect)?;
     let mut out = String::new(alloc);
     push_ports(ports(alloc, &taken)?.as_slice(), &mut out)?;
     let text = "REDU 1 0.1 by 2\nCALL 1.1 _0_1 = [1|_1_1]\nCALL 1.2 append([],[2],_1_1)\n";

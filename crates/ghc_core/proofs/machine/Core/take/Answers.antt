@@ -22,7 +22,7 @@ enter-requires c r i same =
 -- where nothing was entered the world is the old one
 unentered : (c : In-Err) → ◌≡◌ {A = World} (record { opening = fresh_opening c.self.inside.program c.self.inside.query.goals; state = c.self.inside.state; kept = c.enter.new.records; shelf = c.self.inside.shelf; next = c.self.inside.next; journal = c.enter.new.journal })
     (record { opening = fresh_opening c.self.inside.program c.self.inside.query.goals; state = c.self.inside.state; kept = c.self.inside.records; shelf = c.self.inside.shelf; next = c.self.inside.next; journal = c.self.inside.journal })
-unentered c = same_world (fresh_opening c.self.inside.program c.self.inside.query.goals) c.self.inside.shelf c.self.inside.next refl c.in-Err.ensures.records_stay c.in-Err.ensures.journal_stays
+unentered c = same_world (fresh_opening c.self.inside.program c.self.inside.query.goals) c.self.inside.next refl c.in-Err.ensures.records_stay refl c.in-Err.ensures.journal_stays
 
 pub invariant_of-self : goal.invariant_of-self
 invariant_of-self c = subst IsStanding (sym (unentered c)) c.self.invariant
@@ -57,22 +57,22 @@ invariant_of-self-in-Ok c =
     let commit = subst (λ (x : Core). IsCommitOf x.world c.requires.0 c.args.step) (sym c.self.view_is) c.requires.1 in
     let taken = is_step c.last_of.result c.unwrap-taken.result c.unwrap-taken.ensures (c.last_of.ensures c.self.inside.records c.args.step c.in_default.ensures.records) in
     subst IsStanding
-    (sym (same_world (fresh_opening c.self.inside.program c.self.inside.query.goals) c.self.inside.shelf (c.self.inside.next + 1)
-    (c.in-Ok.ensures.ok ∙ ap (after c.self.inside.state) taken) c.in_default.ensures.records c.in_default.ensures.journal))
+    (sym (same_world (fresh_opening c.self.inside.program c.self.inside.query.goals) (c.self.inside.next + 1)
+    (c.in-Ok.ensures.ok ∙ ap (after c.self.inside.state) taken) c.in_default.ensures.records refl c.in_default.ensures.journal))
     (stands _ c.requires.0 c.args.step c.self.invariant commit)
 
 pub invariant_of-self-in-Err-take : goal.invariant_of-self-in-Err-take
 invariant_of-self-in-Err-take c =
     subst IsStanding
-    (sym (same_world (fresh_opening c.self.inside.program c.self.inside.query.goals) c.self.inside.shelf c.self.inside.next
-    c.in-Err-take.ensures.err (c.withdraw_record.ensures _ _ c.in_default.ensures.records) (c.withdraw_entry.ensures _ _ c.in_default.ensures.journal)))
+    (sym (same_world (fresh_opening c.self.inside.program c.self.inside.query.goals) c.self.inside.next
+    c.in-Err-take.ensures.err (c.withdraw_record.ensures _ _ c.in_default.ensures.records) refl (c.withdraw_entry.ensures _ _ c.in_default.ensures.journal)))
     c.self.invariant
 
 pub returns-in-Ok-clause-ok : goal.returns-in-Ok-clause-ok
 returns-in-Ok-clause-ok c =
     let taken = is_step c.last_of.result c.unwrap-taken.result c.unwrap-taken.ensures (c.last_of.ensures c.self.inside.records c.args.step c.in_default.ensures.records) in
-    same_world (fresh_opening c.self.inside.program c.self.inside.query.goals) c.self.inside.shelf (c.self.inside.next + 1)
-    (c.in-Ok.ensures.ok ∙ ap (after c.self.inside.state) taken) c.in_default.ensures.records c.in_default.ensures.journal
+    same_world (fresh_opening c.self.inside.program c.self.inside.query.goals) (c.self.inside.next + 1)
+    (c.in-Ok.ensures.ok ∙ ap (after c.self.inside.state) taken) c.in_default.ensures.records refl c.in_default.ensures.journal
     ∙ ap (λ (x : Core). with_step c.args.step x.world) c.self.view_is
 
 pub returns-in-Ok-clause-replay : goal.returns-in-Ok-clause-replay
@@ -83,8 +83,8 @@ returns-in-Ok-clause-well_made c = standing_well_made _ (invariant_of-self-in-Ok
 
 pub returns-in-Err-take-clause-err : goal.returns-in-Err-take-clause-err
 returns-in-Err-take-clause-err c =
-    same_world (fresh_opening c.self.inside.program c.self.inside.query.goals) c.self.inside.shelf c.self.inside.next
-    c.in-Err-take.ensures.err (c.withdraw_record.ensures _ _ c.in_default.ensures.records) (c.withdraw_entry.ensures _ _ c.in_default.ensures.journal)
+    same_world (fresh_opening c.self.inside.program c.self.inside.query.goals) c.self.inside.next
+    c.in-Err-take.ensures.err (c.withdraw_record.ensures _ _ c.in_default.ensures.records) refl (c.withdraw_entry.ensures _ _ c.in_default.ensures.journal)
     ∙ ap (λ (x : Core). x.world) c.self.view_is
 
 pub returns-in-Err-take-clause-replay : goal.returns-in-Err-take-clause-replay

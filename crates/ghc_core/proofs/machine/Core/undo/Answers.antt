@@ -1,0 +1,41 @@
+use Rattle.std.proofs.Common.{◌≡◌, ℕ, List, subst, sym, inl, inr}
+use Rattle.ghc_term.specs.declared.fault.Fault.{Fault}
+use Rattle.ghc_records.specs.Record.{Record}
+use Rattle.ghc_records.specs.Journal.{fresh_opening}
+use Rattle.ghc_depend.specs.Depend.{Follows, IsKeptAs}
+use Rattle.ghc_core.specs.World.{World}
+use Rattle.ghc_core.specs.Core.{Core, IsStanding}
+use Rattle.ghc_core.specs.Reverses.{UndoFails}
+use Rattle.ghc_core.proofs.Reversing.{undo_fails_once, undo_or_fail}
+use Rattle.ghc_core.proofs.Standing.{standing_replay, standing_well_made, standing_orderly}
+use Rattle.ghc_core.proofs.machine.Core.undo.Goals as goal
+
+-- in a standing world a step that can be undone is not refused, and there is one refusal
+cannot : (w : World) → IsStanding w → {n : ℕ} {f : Fault} (r : Record) → IsKeptAs w.kept n r → ((b : Record) → ¬ Follows w.kept r b) → ¬ UndoFails w.kept n f
+cannot w s {n} r k none fails = undo_or_fail w n (standing_orderly w s).kept_once r k none fails
+
+one_refusal : (w : World) → IsStanding w → {n : ℕ} {f g : Fault} → UndoFails w.kept n f → UndoFails w.kept n g → f ≡ g
+one_refusal w s {n} p q = undo_fails_once w n (standing_orderly w s).kept_once p q
+
+pub returns-in-Err-clause-only : goal.returns-in-Err-clause-only
+returns-in-Err-clause-only c can = elim c.in-Err.ensures.fault [
+  | inl memory ↦ memory
+  | inr fails ↦ absurd (cannot c.args.self.now.world c.stands.ensures.standing can.0 can.1 can.2 (subst (λ (x : Core). UndoFails x.world.kept c.args.number c.in-Err.fault) c.self.view_is fails))
+]
+
+pub returns-in-Err-clause-only_fault : goal.returns-in-Err-clause-only_fault
+returns-in-Err-clause-only_fault c f fails = elim c.in-Err.ensures.fault [
+  | inl memory ↦ inr memory
+  | inr other ↦ inl (one_refusal c.args.self.now.world c.stands.ensures.standing (subst (λ (x : Core). UndoFails x.world.kept c.args.number c.in-Err.fault) c.self.view_is other) fails)
+]
+
+pub returns-in-Ok-take_away-clause-only_fault : goal.returns-in-Ok-take_away-clause-only_fault
+returns-in-Ok-take_away-clause-only_fault c f fails =
+    cannot c.args.self.now.world c.stands.ensures.standing c.in-Ok.step (subst (λ (x : Core). IsKeptAs x.world.kept c.args.number c.in-Ok.step) c.self.view_is c.in-Ok.ensures.kept)
+    (subst (λ (x : Core). (b : Record) → ¬ Follows x.world.kept c.in-Ok.step b) c.self.view_is c.in-Ok.ensures.free) fails
+
+pub returns-in-Ok-take_away-clause-well_made : goal.returns-in-Ok-take_away-clause-well_made
+returns-in-Ok-take_away-clause-well_made c = standing_well_made c.take_away.new.self.world c.take_away.ensures.standing
+
+pub returns-in-Err-take_away-clause-replay : goal.returns-in-Err-take_away-clause-replay
+returns-in-Err-take_away-clause-replay c = standing_replay c.take_away.new.self.world c.take_away.ensures.standing

@@ -1,0 +1,111 @@
+-- One walk over the records behind a step, which finds its consequences.
+use Rattle.std.proofs.Common.{◌≡◌, ℕ, ◌+◌, ◌≤◌, List, [], ◌∷◌, ◌++◌, length, take, refl, sym, ap, ◌∙◌, subst, inl, inr}
+use Rattle.std.specs.Prelude.{Some, slice_get}
+use Rattle.std.specs.FinSet as set
+use Rattle.ghc_term.specs.Lists.{In}
+use Rattle.ghc_term.specs.Sets.{Variables}
+use Rattle.ghc_records.specs.Orders.{Picks, AreDistinct}
+use Rattle.ghc_records.specs.Record.{Record, numbers}
+use Rattle.ghc_records.proofs.OrderLemmas.{in_left, in_right, in_either, Before, before_is, record_once}
+use Rattle.ghc_depend.specs.Depend.{Follows, IsKeptAs, IsFirstConsequence}
+use Rattle.ghc_depend.specs.Trail.{Touches}
+use Rattle.ghc_depend.proofs.Finding.{same_value}
+use Rattle.ghc_depend.proofs.Picking.{behind_before, picks_has}
+use Rattle.ghc_depend.proofs.Following.{follows_in}
+use Rattle.ghc_depend.proofs.Trails.{IsTrailOf, AddsNumber, AddsBound, no_trail, trail_added, numbers_last, at_split, whole, is_there, pick_none, pick_last, leave_last, none_yet, follows, touched}
+
+-- of the first i records, found are the consequences of a, with these numbers, and the trail is that of a and them
+pub record Walked (kept : List Record) (a : Record) (i : ℕ) (items ns : List ℕ) (bound : Variables) : Type 0 where
+  pub found : List Record
+  pub here : In a (take i kept)
+  pub picked : Picks (Follows kept a) (take i kept) found
+  pub numbered : numbers found ≡ items
+  pub trail : IsTrailOf (a ∷ found) ns bound
+
+empty : (rs : List Record) → numbers rs ≡ [] → (c : Record) → ¬ In c rs
+empty [] e c i = i
+empty (r ∷ rs) e c i = cc
+
+module _ (kept : List Record) (distinct : AreDistinct (numbers kept)) (a : Record) where
+  -- the walk begins behind the step
+  pub begin : (place : ℕ) (old ns : List ℕ) (none bound : Variables) → slice_get kept place ≡ Some a → old ≡ [] → none ≡ set.empty → AddsNumber old ns a.number → AddsBound none bound a
+      → Walked kept a (place + 1) [] ns bound
+  begin place old ns none bound at p q f g =
+      let s = at_split kept place a at in
+      record {
+        found = [];
+        here = subst (In a) (sym s.2) (in_right (take place kept) (a ∷ []) a (inl refl));
+        picked = subst (λ l. Picks (Follows kept a) l []) (sym s.2) (pick_none (take place kept ++ a ∷ []) (none_yet kept distinct a (take place kept) s.0 s.1));
+        numbered = refl;
+        trail = trail_added [] a [] ns set.empty bound no_trail (subst (λ l. AddsNumber l ns a.number) p f) (subst (λ v. AddsBound v bound a) q g);
+      }
+
+  module _ (i : ℕ) (items ns : List ℕ) (bound : Variables) (w : Walked kept a i items ns bound) where
+    -- at the end all are found
+    pub finished : length kept ≤ i → Picks (Follows kept a) kept w.found
+    finished h = subst (λ l. Picks (Follows kept a) l w.found) (whole kept i h) w.picked
+
+    module _ (b : Record) (at : slice_get kept i ≡ Some b) where
+      abbrev rest : List Record
+      rest = (at_split kept i b at).0
+
+      parts : kept ≡ take i kept ++ b ∷ rest
+      parts = (at_split kept i b at).1
+
+      more : take (i + 1) kept ≡ take i kept ++ b ∷ []
+      more = (at_split kept i b at).2
+
+      is_next : Touches kept ns bound b → Follows kept a b
+      is_next = follows kept distinct a (take i kept) rest b parts w.found w.here w.picked ns bound w.trail
+
+      is_touched : Follows kept a b → Touches kept ns bound b
+      is_touched = touched kept distinct a (take i kept) rest b parts w.found w.here w.picked ns bound w.trail
+
+      here_still : In a (take (i + 1) kept)
+      here_still = subst (In a) (sym more) (in_left (take i kept) (b ∷ []) a w.here)
+
+      pub taken_on : (new : List ℕ) (all : Variables) → Touches kept ns bound b → AddsNumber ns new b.number → AddsBound bound all b → Walked kept a (i + 1) (items ++ b.number ∷ []) new all
+      taken_on new all t f g = record {
+        found = w.found ++ b ∷ [];
+        here = here_still;
+        picked = subst (λ l. Picks (Follows kept a) l (w.found ++ b ∷ [])) (sym more) (pick_last (take i kept) w.found b w.picked (is_next t));
+        numbered = numbers_last w.found b ∙ ap (λ l. l ++ b.number ∷ []) w.numbered;
+        trail = trail_added (a ∷ w.found) b ns new bound all w.trail f g;
+      }
+
+      pub passed_by : ¬ Touches kept ns bound b → Walked kept a (i + 1) items ns bound
+      passed_by n = record {
+        found = w.found;
+        here = here_still;
+        picked = subst (λ l. Picks (Follows kept a) l w.found) (sym more) (leave_last (take i kept) w.found b w.picked (λ f. n (is_touched f)));
+        numbered = w.numbered;
+        trail = w.trail;
+      }
+
+      pub is_first : items ≡ [] → Touches kept ns bound b → IsFirstConsequence kept a b
+      is_first e t = (
+        is_next t,
+        λ c f. elim (in_either (take i kept) (b ∷ rest) c (subst (In c) parts (follows_in f))) [
+          | inl j ↦ absurd (elim (picks_has (take i kept) w.found c w.picked j) [ inl k ↦ empty w.found (w.numbered ∙ e) c k | inr n ↦ n f ])
+          | inr (inl same) ↦ inl same
+          | inr (inr j) ↦ inr (before_is kept b c (subst (λ z. Before z b c) (sym parts) (behind_before (take i kept) rest b c j)))
+        ],
+      )
+
+    pub none_at_all : items ≡ [] → length kept ≤ i → (b : Record) → ¬ Follows kept a b
+    none_at_all e h b f = elim (picks_has kept w.found b (finished h) (follows_in f)) [
+      | inl k ↦ empty w.found (w.numbered ∙ e) b k
+      | inr n ↦ n f
+    ]
+
+    -- no other record of its number has a consequence either
+    pub none_of_it : items ≡ [] → length kept ≤ i → (n : ℕ) → IsKeptAs kept n a → (c b : Record) → IsKeptAs kept n c → ¬ Follows kept c b
+    none_of_it e h n k c b j f = none_at_all e h b (subst (λ z. Follows kept z b) (record_once kept c a distinct j.0 k.0 (j.1 ∙ sym k.1)) f)
+
+    pub goes_on : (b : Record) → slice_get kept i ≡ Some b → (n : ℕ) (next new : List ℕ) (all : Variables) → Touches kept ns bound b → next ≡ items ++ n ∷ [] → n ≡ b.number
+        → AddsNumber ns new b.number → AddsBound bound all b → Walked kept a (i + 1) next new all
+    goes_on b at n next new all t p q f g = subst (λ l. Walked kept a (i + 1) l new all) (sym (p ∙ ap (λ m. items ++ m ∷ []) q)) (taken_on b at new all t f g)
+
+-- the record at the place of a number
+pub kept_at : (kept : List Record) (place n : ℕ) (a : Record) → ((r : Record) × (slice_get kept place ≡ Some r) × (r.number ≡ n)) → slice_get kept place ≡ Some a → IsKeptAs kept n a
+kept_at kept place n a p at = (is_there kept place a at, ap (λ (z : Record). z.number) (same_value at p.1) ∙ p.2)
