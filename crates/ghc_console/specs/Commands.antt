@@ -5,7 +5,7 @@ use Rattle.std.specs.Str.{bytes_eq}
 use Rattle.ghc_term.specs.declared.goal_name.GoalName.{GoalName}
 use Rattle.ghc_console.specs.Words.{goal_name_of, is_printable, is_variable, number_of, words_of}
 use Rattle.ghc_console.specs.declared.command.Command.{Command}
-use Rattle.ghc_console.specs.declared.command.Command.TheVariants.{Nothing, Step, Show, Records, Quit, Unknown}
+use Rattle.ghc_console.specs.declared.command.Command.TheVariants.{Nothing, Step, Undo, Show, Records, Quit, Unknown}
 
 -- A step with the goal, by the least clause that accepts, where the word named one.
 abbrev pub step_with : Option GoalName → Command
@@ -18,14 +18,20 @@ step_by (Some goal) (Some clause) = Step goal (Some clause)
 step_by (Some goal) None = Unknown
 step_by None clause = Unknown
 
+-- The undoing of the step of this number, where the word said one.
+abbrev pub undo_with : Option ℕ → Command
+undo_with (Some number) = Undo number
+undo_with None = Unknown
+
 -- The command of a word alone: `records` or `quit`.
 abbrev pub bare_command : List ℕ → Command
 bare_command name = if bytes_eq name (codes "records") then Records else (if bytes_eq name (codes "quit") then Quit else Unknown)
 
--- The command of a word and one more: `step G` or `show X`.
+-- The command of a word and one more: `step G`, `undo N` or `show X`.
 abbrev pub command_with : List ℕ → List ℕ → Command
 command_with name word = if bytes_eq name (codes "step") then step_with (goal_name_of word)
-    else (if bytes_eq name (codes "show") then (if is_variable word then Show word else Unknown) else Unknown)
+    else (if bytes_eq name (codes "undo") then undo_with (number_of word)
+    else (if bytes_eq name (codes "show") then (if is_variable word then Show word else Unknown) else Unknown))
 
 -- The command of a word and two more: `step G C`.
 abbrev pub command_with_two : List ℕ → List ℕ → List ℕ → Command

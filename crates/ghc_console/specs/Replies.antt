@@ -1,5 +1,6 @@
 -- The replies to lines: what is written for each, and which world it leaves.
-use Rattle.std.specs.Prelude.{◌≡◌, ◌<◌, ◌≤◌, ℕ, Bool, true, false, List, [], ◌∷◌, ◌++◌, codes, length, Option, None, Some}
+use Rattle.std.specs.Prelude.{◌≡◌, ◌<◌, ◌≤◌, ℕ, Bool, true, false, List, [], ◌∷◌, ◌++◌, codes, length, map, Option, None, Some}
+use Rattle.std.specs.Fmt.{decimal}
 use Rattle.ghc_term.specs.declared.var_name.VarName.{VarName}
 use Rattle.ghc_term.specs.declared.goal_name.GoalName.{GoalName}
 use Rattle.ghc_term.specs.declared.fault.Fault.{Fault}
@@ -11,15 +12,17 @@ use Rattle.ghc_term.specs.Resolved.{IsTextOf}
 use Rattle.ghc_fire.specs.Attempt.{proposes, refused}
 use Rattle.ghc_fire.specs.Proposal.{Proposal}
 use Rattle.ghc_records.specs.Record.{Record}
-use Rattle.ghc_records.specs.StepText.{record_text}
+use Rattle.ghc_records.specs.StepText.{listed, record_text}
 use Rattle.ghc_core.specs.World.{World, IsFull, with_step}
+use Rattle.ghc_core.specs.Events.{undone}
 use Rattle.ghc_core.specs.Proposes.{AttemptAnswers, IsCommitOf}
+use Rattle.ghc_core.specs.Reverses.{Undoes, UndoFails}
 use Rattle.ghc_trace.specs.Ports.{taken_ports}
 use Rattle.ghc_trace.specs.PortText.{ports_text}
 use Rattle.ghc_console.specs.Asked.{Names, IsAsked}
 use Rattle.ghc_console.specs.Commands.{command_of}
 use Rattle.ghc_console.specs.declared.command.Command.{Command}
-use Rattle.ghc_console.specs.declared.command.Command.TheVariants.{Nothing as nothing, Step as step, Show as show, Records as records, Quit as quit, Unknown as unknown}
+use Rattle.ghc_console.specs.declared.command.Command.TheVariants.{Nothing as nothing, Step as step, Undo as undo, Show as show, Records as records, Quit as quit, Unknown as unknown}
 use Rattle.ghc_console.specs.Reading.{line_limit}
 
 -- the text as a line
@@ -44,6 +47,19 @@ pub data Steps (w : World) (g : GoalName) (choice : Option ℕ) (text : List ℕ
   steps : (p : Proposal) → p.goal ≡ g → AttemptAnswers w g choice (proposes p.act p.effect) → Takes w p text v → Steps w g choice text v
   fails : (f : Fault) → AttemptAnswers w g choice (refused f) → text ≡ refusal f → v ≡ w → Steps w g choice text v
 
+-- the numbers with a comma between them, and `-` where there is none
+abbrev pub numbers_text : List ℕ → List ℕ
+numbers_text numbers = listed (codes ",") (map decimal numbers)
+
+-- the line of the steps that were undone, as `undone 3,4`
+abbrev pub undone_text : List ℕ → List ℕ
+undone_text numbers = lined (codes "undone " ++ numbers_text numbers)
+
+-- TakesBack w n text v: step n is undone, and the text tells it; or it is not, and the text is the refusal.
+pub data TakesBack (w : World) (n : ℕ) (text : List ℕ) (v : World) : Type 0 where
+  takes_back : Undoes ⊥ w n (undone (n ∷ [])) v → text ≡ undone_text (n ∷ []) → TakesBack w n text v
+  stays : (f : Fault) → UndoFails w.kept n f → text ≡ refusal f → v ≡ w → TakesBack w n text v
+
 -- Shows w names word text: the variable that the word names, and the term to which it leads; or the refusal where it names none, or the term is too long.
 pub data Shows (w : World) (names : Names) (word : List ℕ) : List ℕ → Type 0 where
   shows : (x : VarName) (text : List ℕ) → IsAsked w names word x → IsTextOf (value_at w.state.store) (variable x) text → length text ≤ print_limit
@@ -66,6 +82,7 @@ records_text (r ∷ rs) = record_lines (r ∷ rs)
 abbrev pub Replies : World → Names → Command → List ℕ → World → Type 0
 Replies w names nothing text v = (text ≡ []) × (v ≡ w)
 Replies w names (step g choice) text v = Steps w g choice text v
+Replies w names (undo n) text v = TakesBack w n text v
 Replies w names (show word) text v = Shows w names word text × (v ≡ w)
 Replies w names records text v = (text ≡ records_text w.kept) × (v ≡ w)
 Replies w names quit text v = (text ≡ []) × (v ≡ w)
@@ -75,6 +92,7 @@ Replies w names unknown text v = (text ≡ refusal Fault.Command) × (v ≡ w)
 abbrev pub quits : Command → Bool
 quits nothing = false
 quits (step g choice) = false
+quits (undo n) = false
 quits (show word) = false
 quits records = false
 quits quit = true

@@ -6,6 +6,7 @@ ghost use Rattle.ghc_console.specs.Replies.{IsReply, Replies, quits, reply_bytes
 use crate::command::{Command, parse};
 use crate::reading::Line;
 use crate::reply::{records, refused, show, step};
+use crate::reversal::undo;
 use ghc_core::Core;
 use ghc_term::{Fault, Limit};
 use std::alloc::{AllocError, Global};
@@ -19,6 +20,7 @@ fn execute(alloc: Global, core: &mut Core, command: &Command) -> Result<Vec<u8>,
     match command {
         Command::Nothing | Command::Quit => Ok(Vec::new(alloc)),
         Command::Step(goal, choice) => step(alloc, core, *goal, *choice),
+        Command::Undo(number) => undo(alloc, core, *number),
         Command::Show(word) => show(alloc, core, word.as_bytes()),
         Command::Records => records(alloc, core),
         Command::Unknown => refused(alloc, &Fault::Command),

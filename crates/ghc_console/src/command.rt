@@ -16,6 +16,8 @@ pub enum Command {
     Nothing,
     /// A step with the goal, by the clause of this number where one is named.
     Step(GoalName, Option<u32>),
+    /// The undoing of the step of this number.
+    Undo(u32),
     /// The value of the variable that is written so.
     Show(Word),
     /// The record.
@@ -46,6 +48,12 @@ fn with(alloc: Global, name: &[u8], word: &[u8]) -> Result<Command, AllocError>
     if name == b"step".as_slice() {
         return match goal_name(word) {
             Some(goal) => Ok(Command::Step(goal, None)),
+            None => Ok(Command::Unknown),
+        };
+    }
+    if name == b"undo".as_slice() {
+        return match number(word) {
+            Some(step) => Ok(Command::Undo(step)),
             None => Ok(Command::Unknown),
         };
     }

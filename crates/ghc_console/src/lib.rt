@@ -10,6 +10,7 @@ mod gather;
 mod lines;
 mod reading;
 mod reply;
+mod reversal;
 mod script;
 mod serving;
 mod tally;

@@ -176,6 +176,7 @@ fn push_command(text: &mut String, command: &Command) -> Result<(), AllocError> 
                 write!(text, " by {clause}")?;
             }
         }
+        Command::Undo(number) => write!(text, "undo {number}")?,
         Command::Show(word) => write!(text, "show {} bytes", word.as_bytes().len())?,
         Command::Records => text.push_str("records")?,
         Command::Quit => text.push_str("quit")?,
@@ -196,6 +197,15 @@ const COMMANDS: &[(&str, &str)] = &[
     ("step .1", "unknown"),
     ("step 1.1 +1", "unknown"),
     ("step 1.1 1 1", "unknown"),
+    ("undo 007", "undo 7"),
+    ("undo 4294967295", "undo 4294967295"),
+    ("undo 0", "undo 0"),
+    ("undo", "unknown"),
+    ("undo x", "unknown"),
+    ("undo -1", "unknown"),
+    ("undo 1.1", "unknown"),
+    ("undo 1 2", "unknown"),
+    ("undo 4294967296", "unknown"),
     ("show _", "show 1 bytes"),
     ("show X_1a", "show 4 bytes"),
     ("show x", "unknown"),

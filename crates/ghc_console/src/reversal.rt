@@ -1,0 +1,32 @@
+// The replies to commands that take steps back.
+ghost use Rattle.std.specs.Prelude.{◌≡◌, ◌∷◌, [], IfOk, OnErr};
+ghost use Rattle.ghc_console.specs.Replies.{TakesBack, undone_text};
+
+use crate::reply::refused;
+use ghc_core::Core;
+use std::alloc::{AllocError, Global};
+
+// The line of a step that is undone.
+fn undone(alloc: Global, number: u32) -> Result<Vec<u8>, AllocError>
+    ensures { IfOk result (λ t. t.items ≡ undone_text (number ∷ [])) }
+{
+    let text = format!(in alloc; "undone {number}\n")?;
+    Ok(text.into_bytes())
+}
+
+/// Undoes the step of this number, and tells it; or its refusal, which changes nothing. The text is made first, so that an
+/// error leaves the core as it was. It costs what the core's undo costs.
+pub fn undo(alloc: Global, core: &mut Core, number: u32) -> Result<Vec<u8>, AllocError>
+    ensures text { IfOk result (λ t. TakesBack core.old.world number t.items core.new.world) }
+    ensures err { OnErr result (core.new.world ≡ core.old.world) }
+    ensures names { core.new.names ≡ core.old.names }
+{
+    let text = match undone(alloc, number) {
+        Ok(text) => text,
+        Err(error) => return Err(error),
+    };
+    match core.undo(alloc, number) {
+        Ok(()) => Ok(text),
+        Err(fault) => refused(alloc, &fault),
+    }
+}
