@@ -14,3 +14,4 @@ pub mod Committing
 pub mod Taking
 pub mod Preparing
 pub mod TakenAway
+pub mod Crosses

@@ -13,6 +13,7 @@ pub mod Deleting
 pub mod Following
 pub mod Trails
 pub mod Walking
+pub mod Causes
 pub mod TakingBack
 pub mod Arranging
 pub mod Undoing

@@ -8,12 +8,9 @@ use Rattle.ghc_fire.specs.declared.act.Act.{Act}
 use Rattle.ghc_fire.specs.declared.act.Act.TheVariants.{ByClause as by_clause, Unified as unified, Assigned as assigned, Given as given, Closed as closed}
 use Rattle.ghc_records.specs.Orders.{Precedes, Picks}
 use Rattle.ghc_records.specs.Record.{Record}
+use Rattle.ghc_depend.specs.declared.cause.Cause.{Cause}
+use Rattle.ghc_depend.specs.declared.cause.Cause.TheVariants.{Made as made, Read as read}
 use Rattle.ghc_depend.specs.Depend.{Consumes, ReadsFrom, DependsOn, IsKeptAs}
-
--- A cause: the earlier step made the goal, or bound this variable, which was read; a read may have woken the goal.
-pub data Cause : Type 0 where
-  made : Cause
-  read : VarName → Bool → Cause
 
 -- The act reduces a call or assigns, so that its goal can have waited.
 abbrev pub CanWait : Act → Type 0
@@ -26,6 +23,10 @@ CanWait closed = ⊥
 -- The goal that b consumed was made before a in recorded order; a goal of the query was made before every step.
 abbrev pub WasThereBefore : List Record → Record → Record → Type 0
 WasThereBefore rs b a = (m : Record) → In m rs → Consumes b m → Precedes rs m a
+
+-- The step b read a variable that a step after a bound.
+abbrev pub ReadsBehind : List Record → Record → Record → Type 0
+ReadsBehind rs b a = (c : Record) × (x : VarName) × Precedes rs a c × ReadsFrom b c x
 
 -- The step a woke the goal of b: that goal can have waited and was there before a, and no step after a bound a variable that b read.
 abbrev pub IsWokenBy : List Record → Record → Record → Type 0

@@ -10,7 +10,8 @@ use Rattle.ghc_fire.specs.declared.act.Act.TheVariants.{ByClause as by_clause, U
 use Rattle.ghc_records.specs.Record.{State, Record}
 use Rattle.ghc_records.specs.Replay.{Replays}
 use Rattle.ghc_depend.specs.Depend.{DependsOn, AreConsequences, IsFirstConsequence}
-use Rattle.ghc_depend.specs.Cause.{made, read, HasCause}
+use Rattle.ghc_depend.specs.declared.cause.Cause.TheVariants.{Made as made, Read as read}
+use Rattle.ghc_depend.specs.Cause.{HasCause}
 use Rattle.ghc_depend.specs.Lawful.{IsLawful, IsUnlawful}
 
 -- the variable `_n_i`

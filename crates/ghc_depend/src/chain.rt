@@ -1,25 +1,11 @@
 // The consequences of a kept step.
-ghost use Rattle.std.specs.Prelude.{◌≡◌, ◌<◌, List, length, slice_get, Some, IfOk, IfSome, IfNone};
+ghost use Rattle.std.specs.Prelude.{◌≡◌, List, IfOk, IfSome, IfNone};
 ghost use Rattle.ghc_records.specs.Record.{Record, numbers};
-ghost use Rattle.ghc_depend.specs.Depend.{Follows, IsKeptAs, IsNotKept, AreConsequencesOf, IsFirstConsequence};
+ghost use Rattle.ghc_depend.specs.Depend.{Follows, IsKeptAs, AreConsequencesOf, IsFirstConsequence};
 
 use crate::trail::Trail;
 use ghc_records::Records;
 use std::alloc::{AllocError, Global};
-
-// The place of the step of this number: one step for each record before it.
-fn place_of(records: &Records, number: u32) -> Option<usize>
-    ensures some { IfSome result (λ p. (r : Record) × (slice_get records.now p ≡ Some r) × (r.number ≡ number)) }
-    ensures within { IfSome result (λ p. p < length records.now) }
-    ensures none { IfNone result (IsNotKept records.now number) }
-{
-    for place in 0..records.len() {
-        if records.at(place).unwrap().number() == number {
-            return Some(place);
-        }
-    }
-    None
-}
 
 /// The numbers of the consequences of the step of this number, in recorded order: none where it is not kept. It goes once over the
 /// records, with a look-up for each variable that one behind the step read, or a consequence bound.
@@ -27,7 +13,7 @@ pub fn consequences(alloc: Global, records: &Records, number: u32) -> Result<Vec
     ensures { IfOk result (λ ns. (found : List Record) × AreConsequencesOf records.now number found × (numbers found ≡ ns.items)) }
 {
     let mut found = Vec::new(alloc);
-    let Some(place) = place_of(records, number) else {
+    let Some(place) = records.place_of(number) else {
         return Ok(found);
     };
     let mut trail = Trail::new(alloc);
@@ -53,7 +39,7 @@ pub fn first_consequence(
     ensures found { IfOk result (λ o. IfSome o (λ n. (a b : Record) × IsKeptAs records.now number a × IsFirstConsequence records.now a b × (b.number ≡ n))) }
     ensures none { IfOk result (λ o. IfNone o ((a b : Record) → IsKeptAs records.now number a → ¬ Follows records.now a b)) }
 {
-    let Some(place) = place_of(records, number) else {
+    let Some(place) = records.place_of(number) else {
         return Ok(None);
     };
     let mut trail = Trail::new(alloc);

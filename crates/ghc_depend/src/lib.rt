@@ -1,11 +1,15 @@
 //! Dependence between kept steps, consequences, deletion, lawful orders, and the kept list of a journal.
 #![tactic(auto)]
 
+mod cause;
 mod chain;
 mod facts;
 mod laws;
+#[cfg(test)]
+mod tests;
 mod trail;
 
+pub use cause::{Cause, direct};
 pub use chain::{consequences, first_consequence};
 pub use facts::{append_depends, append_orders, append_replays, waking_depends, waking_replays};
 pub use laws::{

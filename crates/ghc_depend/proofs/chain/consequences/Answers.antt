@@ -1,5 +1,6 @@
-use Rattle.std.proofs.Common.{◌≡◌, ◌+◌, true, false, sym, ap, ◌∙◌, subst, inr, arith}
+use Rattle.std.proofs.Common.{◌≡◌, ◌+◌, true, false, [], refl, sym, ap, ◌∙◌, subst, inl, inr, arith}
 use Rattle.std.specs.Option.{option_copied}
+use Rattle.ghc_depend.proofs.Causes.{place_within, some_within}
 use Rattle.ghc_depend.proofs.Walking.{Walked, begin, goes_on, passed_by, finished, kept_at}
 use Rattle.ghc_depend.proofs.chain.consequences.Goals as goal
 use Rattle.ghc_depend.proofs.chain.consequences.Goals.{then-touches+in_ok-add-2+in_ok-push, else-touches}
@@ -11,7 +12,7 @@ loop-index-init c =
     let place = c.in-Some.place in
     let at = sym c.at.ensures ∙ ap option_copied c.unwrap.ensures in (
       a,
-      kept_at kept place c.args.number a c.in-Some.ensures.some at,
+      kept_at kept place c.args.number a c.in-Some.ensures.found at,
       subst (λ l. Walked kept a (place + 1) l c.add.new.self.numbers.keys c.add.new.self.bound) (sym c.new-found.ensures.items) (begin kept c.len-end.ensures.distinct a place c.new-trail.result.numbers.keys c.add.new.self.numbers.keys c.new-trail.result.bound c.add.new.self.bound at
           c.new-trail.ensures.numbers c.new-trail.ensures.bound c.in_ok-add.ensures.numbers c.in_ok-add.ensures.bound),
     )
@@ -43,3 +44,12 @@ returns c =
     let a = c.loop-index.invariant.0 in
     let walked = c.loop-index.invariant.2 in
     (walked.found, inr (a, c.loop-index.invariant.1, finished c.args.records.now c.len-end.ensures.distinct a c.loop-index.index c.loop-index.found.items c.loop-index.trail.numbers.keys c.loop-index.trail.bound walked (omega (arith, c.loop-index-test.false, c.len-end.ensures.count))), walked.numbered)
+
+pub returns-in_default : goal.returns-in_default
+returns-in_default c = ([], inl (c.in_default.ensures.none, refl), sym c.new-found.ensures.items)
+
+pub overflow_step-index : goal.overflow_step-index
+overflow_step-index c = omega (arith, place_within c.args.records.now c.in-Some.place c.unwrap.result.now (sym c.at.ensures ∙ ap option_copied c.unwrap.ensures))
+
+pub unwrap-taken-requires : goal.unwrap-taken-requires
+unwrap-taken-requires c = some_within c.args.records.now c.loop-index.index c.at-in-loop-index.result (omega arith) c.at-in-loop-index.ensures

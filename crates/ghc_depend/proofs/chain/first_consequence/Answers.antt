@@ -10,7 +10,7 @@ loop-index-init c =
     let place = c.in-Some.place in
     let at = sym c.at.ensures ∙ ap option_copied c.unwrap.ensures in (
       a,
-      kept_at kept place c.args.number a c.in-Some.ensures.some at,
+      kept_at kept place c.args.number a c.in-Some.ensures.found at,
       begin kept c.len-end.ensures.distinct a place c.new-trail.result.numbers.keys c.add.new.self.numbers.keys c.new-trail.result.bound c.add.new.self.bound at
           c.new-trail.ensures.numbers c.new-trail.ensures.bound c.in_ok-add.ensures.numbers c.in_ok-add.ensures.bound,
     )

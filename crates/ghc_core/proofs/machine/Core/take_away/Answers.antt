@@ -5,7 +5,6 @@ use Rattle.ghc_term.specs.Lists.{In}
 use Rattle.ghc_records.specs.Record.{Record}
 use Rattle.ghc_records.specs.Journal.{fresh_opening}
 use Rattle.ghc_depend.specs.Depend.{Follows, IsKeptAs}
-use Rattle.ghc_core.specs.World.{World}
 use Rattle.ghc_core.specs.Core.{Core, IsStanding}
 use Rattle.ghc_core.specs.Events.{undone}
 use Rattle.ghc_core.specs.Reverses.{Undoes}

@@ -1,7 +1,6 @@
-use Rattle.std.proofs.Common.{◌≡◌, ℕ, List, subst, sym, inl, inr}
+use Rattle.std.proofs.Common.{◌≡◌, ℕ, subst, inl, inr}
 use Rattle.ghc_term.specs.declared.fault.Fault.{Fault}
 use Rattle.ghc_records.specs.Record.{Record}
-use Rattle.ghc_records.specs.Journal.{fresh_opening}
 use Rattle.ghc_depend.specs.Depend.{Follows, IsKeptAs}
 use Rattle.ghc_core.specs.World.{World}
 use Rattle.ghc_core.specs.Core.{Core, IsStanding}

@@ -1,6 +1,6 @@
 use Rattle.std.proofs.Common.{◌≡◌, ◌≢◌, ℕ, List, nat_eq, sym, ap, ◌∙◌, subst}
 use Rattle.std.specs.Prelude.{Option, Some, None, IfSome, IfNone}
-use Rattle.std.specs.Map.{keys_of, values_of, lookup}
+use Rattle.std.specs.Map.{values_of, lookup}
 use Rattle.indexmap.specs.IndexMap.{shift_remove_entry}
 use Rattle.ghc_term.specs.Lists.{In}
 use Rattle.ghc_records.specs.Orders.{Picks, AreDistinct}

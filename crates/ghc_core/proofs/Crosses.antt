@@ -1,0 +1,155 @@
+-- A core may go to another thread, and threads may share one.
+use denote.Param.Send.{IsSend, IsSync, sendable}
+use Rattle.std.proofs.Crossing.{crosses}
+use Rattle.std.proofs.MapsCrossing as maps
+use Rattle.ghc_term.proofs.term.Term.TheLaws.TheKnot as of_terms
+use Rattle.ghc_term.proofs.expr.Expr.TheLaws.TheKnot as of_expressions
+use Rattle.ghc_term.proofs.goal_name.GoalName.TheSendSync as goal_name
+use Rattle.ghc_term.proofs.operator.Operator.TheSendSync as operator
+use Rattle.ghc_term.specs.contracts.term.Term as term
+use Rattle.ghc_term.specs.contracts.expr.Expr as expression
+use Rattle.ghc_term.specs.contracts.goal.Goal as goal
+use Rattle.ghc_term.specs.contracts.store.Store as store
+use Rattle.ghc_term.specs.contracts.ground.Ground as ground
+use Rattle.ghc_term.specs.contracts.bindings.Bindings as bindings
+use Rattle.ghc_term.specs.contracts.variables.Variables as variables
+use Rattle.ghc_fire.specs.contracts.act.Act as act
+use Rattle.ghc_fire.specs.contracts.effect.Effect as effect
+use Rattle.ghc_fire.specs.contracts.goals.Goals as goals
+use Rattle.ghc_records.specs.contracts.record.Record as taken
+use Rattle.ghc_records.specs.contracts.records.Records as records
+use Rattle.ghc_records.specs.contracts.shelf.Shelf as shelf
+use Rattle.ghc_records.specs.contracts.state.State as state
+use Rattle.ghc_records.specs.contracts.step.Step as step
+use Rattle.ghc_records.specs.contracts.journal.Journal as journal
+use Rattle.ghc_flat.specs.contracts.test.Test as test
+use Rattle.ghc_flat.specs.contracts.clause.Clause as clause
+use Rattle.ghc_flat.specs.contracts.program.Program as program
+use Rattle.ghc_reader.specs.contracts.written.Query as query
+use Rattle.ghc_core.specs.contracts.machine.Core as core
+
+term_send : IsSend term.the_row
+term_send = search (of_terms.crosses, crosses, sendable) depth 60 fits 20000
+
+term_sync : IsSync term.the_row
+term_sync = search (of_terms.crosses, crosses, sendable) depth 60 fits 20000
+
+expression_send : IsSend expression.the_row
+expression_send = search (term_send, term_sync, operator.the_send, operator.the_sync, of_expressions.crosses, crosses, sendable) depth 60 fits 20000
+
+expression_sync : IsSync expression.the_row
+expression_sync = search (term_sync, term_send, operator.the_send, operator.the_sync, of_expressions.crosses, crosses, sendable) depth 60 fits 20000
+
+goal_send : IsSend goal.the_row
+goal_send = search (term_send, expression_send, crosses, sendable) depth 60 fits 20000
+
+goal_sync : IsSync goal.the_row
+goal_sync = search (term_sync, expression_sync, crosses, sendable) depth 60 fits 20000
+
+store_send : IsSend store.the_row
+store_send = search (term_send, crosses, sendable) depth 60 fits 20000
+
+store_sync : IsSync store.the_row
+store_sync = search (term_sync, crosses, sendable) depth 60 fits 20000
+
+ground_send : IsSend ground.the_row
+ground_send = search (term_send, crosses, sendable) depth 60 fits 20000
+
+ground_sync : IsSync ground.the_row
+ground_sync = search (term_sync, crosses, sendable) depth 60 fits 20000
+
+bindings_send : IsSend bindings.the_row
+bindings_send = search (term_send, crosses, sendable) depth 60 fits 20000
+
+bindings_sync : IsSync bindings.the_row
+bindings_sync = search (term_sync, crosses, sendable) depth 60 fits 20000
+
+variables_send : IsSend variables.the_row
+variables_send = search (crosses, sendable) depth 60 fits 20000
+
+variables_sync : IsSync variables.the_row
+variables_sync = search (crosses, sendable) depth 60 fits 20000
+
+act_send : IsSend act.the_field.row
+act_send = search (ground_send, crosses, sendable) depth 60 fits 20000
+
+act_sync : IsSync act.the_field.row
+act_sync = search (ground_sync, crosses, sendable) depth 60 fits 20000
+
+effect_send : IsSend effect.the_row
+effect_send = search (goal_send, bindings_send, variables_send, crosses, sendable) depth 60 fits 20000
+
+effect_sync : IsSync effect.the_row
+effect_sync = search (goal_sync, bindings_sync, variables_sync, crosses, sendable) depth 60 fits 20000
+
+goals_send : IsSend goals.the_row
+goals_send = search (goal_send, maps.crosses, crosses, sendable) depth 60 fits 20000
+
+goals_sync : IsSync goals.the_row
+goals_sync = search (goal_sync, maps.crosses, crosses, sendable) depth 60 fits 20000
+
+taken_send : IsSend taken.the_row
+taken_send = search (goal_send, goal_sync, act_send, act_sync, effect_send, effect_sync, goal_name.the_send, goal_name.the_sync, crosses, sendable) depth 60 fits 20000
+
+taken_sync : IsSync taken.the_row
+taken_sync = search (goal_sync, goal_send, act_sync, act_send, effect_sync, effect_send, goal_name.the_sync, goal_name.the_send, crosses, sendable) depth 60 fits 20000
+
+records_send : IsSend records.the_row
+records_send = search (taken_send, crosses, sendable) depth 60 fits 20000
+
+records_sync : IsSync records.the_row
+records_sync = search (taken_sync, crosses, sendable) depth 60 fits 20000
+
+shelf_send : IsSend shelf.the_row
+shelf_send = search (taken_send, maps.crosses, crosses, sendable) depth 60 fits 20000
+
+shelf_sync : IsSync shelf.the_row
+shelf_sync = search (taken_sync, maps.crosses, crosses, sendable) depth 60 fits 20000
+
+state_send : IsSend state.the_row
+state_send = search (goals_send, store_send, crosses, sendable) depth 60 fits 20000
+
+state_sync : IsSync state.the_row
+state_sync = search (goals_sync, store_sync, crosses, sendable) depth 60 fits 20000
+
+step_send : IsSend step.the_row
+step_send = search (act_send, goal_name.the_send, crosses, sendable) depth 60 fits 20000
+
+step_sync : IsSync step.the_row
+step_sync = search (act_sync, goal_name.the_sync, crosses, sendable) depth 60 fits 20000
+
+journal_send : IsSend journal.the_row
+journal_send = search (step_send, crosses, sendable) depth 60 fits 20000
+
+journal_sync : IsSync journal.the_row
+journal_sync = search (step_sync, crosses, sendable) depth 60 fits 20000
+
+test_send : IsSend test.the_row
+test_send = search (of_terms.crosses, of_expressions.crosses, crosses, sendable) depth 60 fits 20000
+
+test_sync : IsSync test.the_row
+test_sync = search (of_terms.crosses, of_expressions.crosses, crosses, sendable) depth 60 fits 20000
+
+clause_send : IsSend clause.the_row
+clause_send = search (term_send, goal_send, test_send, crosses, sendable) depth 60 fits 20000
+
+clause_sync : IsSync clause.the_row
+clause_sync = search (term_sync, goal_sync, test_sync, crosses, sendable) depth 60 fits 20000
+
+program_send : IsSend program.the_row
+program_send = search (clause_send, crosses, sendable) depth 60 fits 20000
+
+program_sync : IsSync program.the_row
+program_sync = search (clause_sync, crosses, sendable) depth 60 fits 20000
+
+query_send : IsSend query.the_row
+query_send = search (goal_send, crosses, sendable) depth 60 fits 20000
+
+query_sync : IsSync query.the_row
+query_sync = search (goal_sync, crosses, sendable) depth 60 fits 20000
+
+pub core_send : IsSend core.the_row
+core_send = search (program_send, query_send, state_send, records_send, shelf_send, journal_send, crosses, sendable) depth 60 fits 20000
+
+pub core_sync : IsSync core.the_row
+core_sync = search (program_sync, query_sync, state_sync, records_sync, shelf_sync, journal_sync, crosses, sendable) depth 60 fits 20000

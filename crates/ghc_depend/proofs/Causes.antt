@@ -1,0 +1,240 @@
+-- Why a step depends directly on an earlier one: places in recorded order, the least variable, and what woke a goal.
+use Rattle.std.proofs.Common.{◌≡◌, ℕ, zero, suc, ◌+◌, ◌<◌, ◌≤◌, ◌⊎◌, Bool, true, false, not, cond, List, [], ◌∷◌, ◌++◌, length, refl, sym, ap, ◌∙◌, subst, subst₂, inl, inr, arith}
+use Rattle.std.specs.Prelude.{◌↔◌, Option, Some, None, IsTrue, IfSome, IfNone, IsSome, is_some, option_copied, slice_get}
+use Rattle.std.specs.Borrow.{Bor}
+use Rattle.std.specs.declared.cmp.Ordering.TheVariants.{Less, Equal, Greater}
+use Rattle.std.specs.Ordering.{is_lt, ord_min, ordering_reverse}
+use Rattle.std.specs.FinSet as set
+use Rattle.ghc_term.specs.declared.var_name.VarName.{VarName}
+use Rattle.ghc_term.specs.declared.goal_name.GoalName.{GoalName}
+use Rattle.ghc_term.specs.Lists.{In}
+use Rattle.ghc_term.specs.Bindings.{name_cmp}
+use Rattle.ghc_term.proofs.Names.{name_total, name_antisymmetric}
+use Rattle.ghc_term.proofs.Members.{has_member}
+use Rattle.ghc_records.specs.Orders.{Precedes, AreDistinct}
+use Rattle.ghc_records.specs.Record.{Record, numbers}
+use Rattle.ghc_records.proofs.OrderLemmas.{in_left, in_right, in_either, Before, is_before, before_is, before_in, before_once, record_once, records_distinct}
+use Rattle.ghc_depend.specs.Depend.{MakesGoal, Consumes, Binds, ReadsFrom, IsKeptAs}
+use Rattle.ghc_depend.specs.declared.cause.Cause.TheVariants.{Made as made, Read as read}
+use Rattle.ghc_depend.specs.Cause.{CanWait, WasThereBefore, ReadsBehind, IsWokenBy, IsLeastRead, by_making, by_reading, IsDirect}
+use Rattle.ghc_depend.proofs.Finding.{same_value}
+use Rattle.ghc_depend.proofs.Trails.{is_there, member_of}
+use Rattle.ghc_depend.proofs.Walking.{kept_at}
+
+three : (i j : ℕ) → (i < j) ⊎ ((i ≡ j) ⊎ (j < i))
+three i j = grind arith
+
+module _ {X : Type 0} where
+  -- what stands at an earlier place stands before
+  pub places_before : (xs : List X) (i j : ℕ) (a b : X) → slice_get xs i ≡ Some a → slice_get xs j ≡ Some b → i < j → Before xs a b
+  places_before [] zero j a b p q h = cc
+  places_before [] (suc i) j a b p q h = cc
+  places_before (x ∷ xs) zero zero a b p q h = absurd (omega arith)
+  places_before (x ∷ xs) zero (suc j) a b p q h = let same : x ≡ a = cc in inl (sym same, is_there xs j b q)
+  places_before (x ∷ xs) (suc i) zero a b p q h = absurd (omega arith)
+  places_before (x ∷ xs) (suc i) (suc j) a b p q h = inr (places_before xs i j a b p q (omega arith))
+
+  -- what stands before stands at an earlier place
+  pub before_places : (xs : List X) → AreDistinct xs → (i j : ℕ) (a b : X) → slice_get xs i ≡ Some a → slice_get xs j ≡ Some b → Before xs a b → i < j
+  before_places xs distinct i j a b p q h = elim (three i j) [
+    | inl l ↦ l
+    | inr (inl e) ↦
+        let same : b ≡ a = same_value (ap (slice_get xs) e ∙ q) p in
+        let again = subst (Before xs a) same h in
+        absurd (before_once xs a a distinct again again)
+    | inr (inr l) ↦ absurd (before_once xs a b distinct h (places_before xs j i b a q p l))
+  ]
+
+  -- a place is within the list
+  pub place_within : (xs : List X) (i : ℕ) (a : X) → slice_get xs i ≡ Some a → i < length xs
+  place_within [] zero a p = cc
+  place_within [] (suc i) a p = cc
+  place_within (x ∷ xs) zero a p = omega arith
+  place_within (x ∷ xs) (suc i) a p = let h = place_within xs i a p in omega arith
+
+  -- and within the list there is something at each place
+  pub some_within : (xs : List X) (i : ℕ) (o : Option (Bor X)) → i < length xs → option_copied o ≡ slice_get xs i → IsSome o
+  some_within xs i (Some a) h e = refl
+  some_within [] zero None h e = absurd (omega arith)
+  some_within [] (suc i) None h e = absurd (omega arith)
+  some_within (x ∷ xs) zero None h e = cc
+  some_within (x ∷ xs) (suc i) None h e = some_within xs i None (omega arith) e
+
+  pub if_some : {P : X → Type 0} (o : Option X) → ((a : X) → o ≡ Some a → P a) → IfSome o P
+  if_some None f = tt
+  if_some (Some a) f = f a refl
+
+-- of these variables, this is the least that the step bound, or it bound none
+abbrev pub IsLeastOf : Record → List VarName → Option VarName → Type 0
+IsLeastOf a xs None = (x : VarName) → In x xs → ¬ Binds a x
+IsLeastOf a xs (Some y) = In y xs × Binds a y × ((x : VarName) → In x xs → Binds a x → (x ≡ y) ⊎ (name_cmp y x ≡ Less))
+
+-- the lesser of two, by their order
+abbrev IsLesser : VarName → VarName → VarName → Type 0
+IsLesser y x z = ((z ≡ x) × (name_cmp x y ≡ Less)) ⊎ ((z ≡ y) × ((x ≡ y) ⊎ (name_cmp y x ≡ Less)))
+
+is_lesser : (y x : VarName) → IsLesser y x (ord_min name_cmp y x)
+is_lesser y x =
+    elim (name_cmp x y) as (λ o. name_cmp x y ≡ o → IsLesser y x (cond (is_lt o) x y)) [
+      | Less ↦ λ e. inl (refl, e)
+      | Equal ↦ λ e. inr (refl, inl (name_antisymmetric x y e))
+      | Greater ↦ λ e. inr (refl, inr (name_total.antisymm y x ∙ ap ordering_reverse e))
+    ] refl
+
+module _ (a : Record) (xs : List VarName) (x : VarName) where
+  either_one : (z : VarName) → In z (xs ++ x ∷ []) → In z xs ⊎ (z ≡ x)
+  either_one z i = elim (in_either xs (x ∷ []) z i) [ inl j ↦ inl j | inr (inl e) ↦ inr e | inr (inr j) ↦ absurd j ]
+
+  last : In x (xs ++ x ∷ [])
+  last = in_right xs (x ∷ []) x (inl refl)
+
+  -- one variable more, which the step did not bind
+  pub least_passed : (o : Option VarName) → IsLeastOf a xs o → ¬ Binds a x → IsLeastOf a (xs ++ x ∷ []) o
+  least_passed None h n = λ z i b. elim (either_one z i) [ inl j ↦ h z j b | inr e ↦ n (subst (Binds a) e b) ]
+  least_passed (Some y) h n = (
+    in_left xs (x ∷ []) y h.0,
+    h.1,
+    λ z i b. elim (either_one z i) [ inl j ↦ h.2 z j b | inr e ↦ absurd (n (subst (Binds a) e b)) ],
+  )
+
+  first_one : IsLeastOf a xs None → Binds a x → IsLeastOf a (xs ++ x ∷ []) (Some x)
+  first_one h b = (last, b, λ z i c. elim (either_one z i) [ inl j ↦ absurd (h z j c) | inr e ↦ inl e ])
+
+  lesser_one : (y : VarName) → IsLeastOf a xs (Some y) → Binds a x → name_cmp x y ≡ Less → IsLeastOf a (xs ++ x ∷ []) (Some x)
+  lesser_one y h b less = (
+    last,
+    b,
+    λ z i c. elim (either_one z i) [
+      | inl j ↦ inr (elim (h.2 z j c) [ inl e ↦ subst (λ w. name_cmp x w ≡ Less) (sym e) less | inr l ↦ name_total.trans x y z less l ])
+      | inr e ↦ inl e
+    ],
+  )
+
+  same_one : (y : VarName) → IsLeastOf a xs (Some y) → (x ≡ y) ⊎ (name_cmp y x ≡ Less) → IsLeastOf a (xs ++ x ∷ []) (Some y)
+  same_one y h order = (
+    in_left xs (x ∷ []) y h.0,
+    h.1,
+    λ z i c. elim (either_one z i) [
+      | inl j ↦ h.2 z j c
+      | inr e ↦ elim order [ inl f ↦ inl (e ∙ f) | inr l ↦ inr (subst (λ w. name_cmp y w ≡ Less) (sym e) l) ]
+    ],
+  )
+
+  -- one more, which it bound
+  pub least_taken : (o : Option VarName) (z : VarName) → IsLeastOf a xs o → Binds a x → IfSome o (λ y. z ≡ ord_min name_cmp y x) → IfNone o (z ≡ x) → IsLeastOf a (xs ++ x ∷ []) (Some z)
+  least_taken None z h b s n = subst (λ w. IsLeastOf a (xs ++ x ∷ []) (Some w)) (sym n) (first_one h b)
+  least_taken (Some y) z h b s n = subst (λ w. IsLeastOf a (xs ++ x ∷ []) (Some w)) (sym s) (elim (is_lesser y x) [
+    | inl l ↦ subst (λ w. IsLeastOf a (xs ++ x ∷ []) (Some w)) (sym l.0) (lesser_one y h b l.1)
+    | inr l ↦ subst (λ w. IsLeastOf a (xs ++ x ∷ []) (Some w)) (sym l.0) (same_one y h l.1)
+  ])
+
+-- the least of what a step read
+pub least_is : (b a : Record) (xs : List VarName) (o : Option VarName) → set.from_list xs ≡ b.effect.reads → IsLeastOf a xs o → IfSome o (IsLeastRead b a)
+least_is b a xs None all h = tt
+least_is b a xs (Some y) all h = ((has_member b.effect.reads xs all y h.0, h.1), λ x r. h.2 x (member_of b.effect.reads xs all x r.0) r.1)
+
+pub least_none : (b a : Record) (xs : List VarName) (o : Option VarName) → set.from_list xs ≡ b.effect.reads → IsLeastOf a xs o → IfNone o ((x : VarName) → ¬ ReadsFrom b a x)
+least_none b a xs None all h = λ x r. h x (member_of b.effect.reads xs all x r.0) r.1
+least_none b a xs (Some y) all h = tt
+
+pub has_read : (b a : Record) (o : Option VarName) → is_some o ≡ true → IfSome o (IsLeastRead b a) → (x : VarName) × ReadsFrom b a x
+has_read b a None e h = cc
+has_read b a (Some x) e h = (x, h.0)
+
+-- the goal that b consumed, and the step that made it
+pub goal_made : (b m : Record) (name : GoalName) → b.goal ≡ Some name → Consumes b m → MakesGoal m name
+goal_made b m name e c = subst (MakesGoal m) (same_value c.1 e) c.2
+
+module _ (rs : List Record) (distinct : AreDistinct (numbers rs)) (b : Record) where
+  -- a goal of the query was made before every step
+  pub before_all : b.goal ≡ None → (a : Record) → WasThereBefore rs b a
+  before_all e a m i c = let clash : Some c.0 ≡ None = sym c.1 ∙ e in cc
+
+  module _ (name : GoalName) (e : b.goal ≡ Some name) where
+    pub before_none : ((r : Record) → In r rs → ¬ (r.number ≡ name.step)) → (a : Record) → WasThereBefore rs b a
+    before_none none a m i c = absurd (none m i (sym (goal_made b m name e c).0))
+
+    module _ (maker : Record) (made : ℕ) (at : slice_get rs made ≡ Some maker) (number : maker.number ≡ name.step) where
+      only_maker : (m : Record) → In m rs → Consumes b m → m ≡ maker
+      only_maker m i c = record_once rs m maker distinct i (is_there rs made maker at) (sym (goal_made b m name e c).0 ∙ sym number)
+
+      pub before_other : ¬ MakesGoal maker name → (a : Record) → WasThereBefore rs b a
+      before_other n a m i c = absurd (n (subst (λ z. MakesGoal z name) (only_maker m i c) (goal_made b m name e c)))
+
+      module _ (makes : MakesGoal maker name) (a : Record) (place : ℕ) (there : slice_get rs place ≡ Some a) where
+        pub was_there : made < place → WasThereBefore rs b a
+        was_there h m i c = subst (λ z. Precedes rs z a) (sym (only_maker m i c)) (before_is rs maker a (places_before rs made place maker a at there h))
+
+        pub place_there : WasThereBefore rs b a → made < place
+        place_there h = before_places rs (records_distinct rs distinct) made place maker a at there (is_before rs maker a (h maker (is_there rs made maker at) (name, e, makes)))
+
+-- of the steps behind this place and in front of the other, b read nothing that one bound
+abbrev pub ReadsNoneFrom : List Record → Record → ℕ → ℕ → Type 0
+ReadsNoneFrom rs b place end_place = (k : ℕ) (c : Record) (x : VarName) → place < k → k < end_place → slice_get rs k ≡ Some c → ¬ ReadsFrom b c x
+
+-- at first there are none
+pub none_between : (rs : List Record) (b : Record) (place : ℕ) → ReadsNoneFrom rs b place (place + 1)
+none_between rs b place k c x low high at r = absurd (omega arith)
+
+-- an element of a list has a place
+pub place_at : {X : Type 0} (xs : List X) (x : X) → In x xs → (i : ℕ) × (slice_get xs i ≡ Some x)
+place_at [] x i = absurd i
+place_at (y ∷ xs) x (inl e) = (0, ap Some (sym e))
+place_at (y ∷ xs) x (inr i) = let p = place_at xs x i in (suc p.0, p.1)
+
+module _ (rs : List Record) (b a : Record) (place : ℕ) (there : slice_get rs place ≡ Some a) where
+  -- a step that stands behind
+  pub one_behind : (i : ℕ) (c : Record) (x : VarName) → slice_get rs i ≡ Some c → place < i → ReadsFrom b c x → ReadsBehind rs b a
+  one_behind i c x at low r = (c, x, before_is rs a c (places_before rs place i a c there at low), r)
+
+  -- or no step at all
+  pub none_behind : AreDistinct (numbers rs) → (i : ℕ) → length rs ≤ i → ReadsNoneFrom rs b place i → ¬ ReadsBehind rs b a
+  none_behind distinct i long h t =
+      let before = is_before rs a t.0 t.2 in
+      let at = place_at rs t.0 (before_in rs a t.0 before).1 in
+      let within = place_within rs at.0 t.0 at.1 in
+      h at.0 t.0 t.1 (before_places rs (records_distinct rs distinct) place at.0 a t.0 there at.1 before) (omega arith) at.1 t.3
+
+-- the mark woke
+pub woken : (rs : List Record) (b a : Record) (read : Bool) → CanWait b.act → WasThereBefore rs b a → (IsTrue read ↔ ReadsBehind rs b a) → IsTrue (not read) ↔ IsWokenBy rs b a
+woken rs b a true can was h = (λ e. cc, λ w. let t = h.0 refl in absurd (w.2 t.0 t.1 t.2 t.3))
+woken rs b a false can was h = (λ _. (can, was, λ c x p r. let clash : false ≡ true = h.1 (c, x, p, r) in cc), λ _. refl)
+
+-- the record of this number stands at this place
+abbrev pub StandsAt : List Record → ℕ → ℕ → Type 0
+StandsAt rs n place = (r : Record) × (slice_get rs place ≡ Some r) × (r.number ≡ n)
+
+pub placed : (rs : List Record) (n place : ℕ) (a : Record) → AreDistinct (numbers rs) → StandsAt rs n place → IsKeptAs rs n a → slice_get rs place ≡ Some a
+placed rs n place a distinct p k = subst (λ z. slice_get rs place ≡ Some z) (record_once rs p.0 a distinct (is_there rs place p.0 p.1) k.0 (p.2 ∙ sym k.1)) p.1
+
+module _ (rs : List Record) (later earlier place behind : ℕ) (first : StandsAt rs earlier place) (second : StandsAt rs later behind) where
+  -- a step that does not stand behind does not depend
+  pub not_behind : AreDistinct (numbers rs) → behind ≤ place → IsDirect rs later earlier None
+  not_behind distinct high b a kb ka d =
+      let low = before_places rs (records_distinct rs distinct) place behind a b (placed rs earlier place a distinct first ka) (placed rs later behind b distinct second kb) (is_before rs a b d.0) in
+      omega arith
+
+  module _ (b a : Record) (at : slice_get rs place ≡ Some a) (at_behind : slice_get rs behind ≡ Some b) where
+    precedes : place < behind → Precedes rs a b
+    precedes low = before_is rs a b (places_before rs place behind a b at at_behind low)
+
+    pub is_made : place < behind → Consumes b a → IsDirect rs later earlier (Some made)
+    is_made low c = (b, a, kept_at rs behind later b second at_behind, kept_at rs place earlier a first at, by_making (precedes low) c)
+
+    pub is_read : (x : VarName) (woke : Bool) → place < behind → ¬ Consumes b a → IsLeastRead b a x → (IsTrue woke ↔ IsWokenBy rs b a) → IsDirect rs later earlier (Some (read x woke))
+    is_read x woke low n least marked = (b, a, kept_at rs behind later b second at_behind, kept_at rs place earlier a first at, by_reading (precedes low) n least marked)
+
+    pub is_none : AreDistinct (numbers rs) → ¬ Consumes b a → ((x : VarName) → ¬ ReadsFrom b a x) → IsDirect rs later earlier None
+    is_none distinct n none c d kc kd depends =
+        let same : c ≡ b = same_value (placed rs later behind c distinct second kc) at_behind in
+        let other : d ≡ a = same_value (placed rs earlier place d distinct first kd) at in
+        elim depends.1 [
+          | inl k ↦ n (subst₂ Consumes same other k)
+          | inr r ↦ none r.0 (subst₂ (λ y z. ReadsFrom y z r.0) same other r.1)
+        ]
+
+pub none_earlier : (rs : List Record) (later earlier : ℕ) → ((r : Record) → In r rs → ¬ (r.number ≡ earlier)) → IsDirect rs later earlier None
+none_earlier rs later earlier none b a kb ka d = none a ka.0 ka.1
+
+pub none_later : (rs : List Record) (later earlier : ℕ) → ((r : Record) → In r rs → ¬ (r.number ≡ later)) → IsDirect rs later earlier None
+none_later rs later earlier none b a kb ka d = none b kb.0 kb.1

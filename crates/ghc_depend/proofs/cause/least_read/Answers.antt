@@ -1,0 +1,38 @@
+use Rattle.std.proofs.Common.{◌≡◌, ◌+◌, true, false, [], ◌∷◌, ◌++◌, get_or, take, sym, ap, ◌∙◌, subst, arith}
+use Rattle.std.specs.Prelude.{Some}
+use Rattle.std.specs.FinSet as set
+use Rattle.std.proofs.lemmas.List.{take_more}
+use Rattle.ghc_term.specs.declared.var_name.VarName.{VarName}
+use Rattle.ghc_depend.proofs.Trails.{whole}
+use Rattle.ghc_depend.proofs.Causes.{IsLeastOf, least_passed, least_taken, least_is, least_none}
+use Rattle.ghc_depend.proofs.cause.least_read.Goals as goal
+use Rattle.ghc_depend.proofs.cause.least_read.Goals.{then-binds, else-binds}
+
+pub loop-x-preserved : goal.loop-x-preserved
+loop-x-preserved c =
+    let a = c.args.earlier.now in
+    let items = c.members-x-items.result.now in
+    let i = c.loop-x.x-index in
+    let none : VarName = record { step = 0; place = 0 } in
+    let x = get_or items i none in
+    let more : take (i + 1) items ≡ take i items ++ x ∷ [] = take_more items i none c.loop-x-test.true in
+    elim c.if-binds.branch [
+      | then-binds w ↦ rw w.least-is (subst (λ l. IsLeastOf a l (Some w.lesser.result)) (sym more)
+          (least_taken a (take i items) x c.loop-x.least w.lesser.result c.loop-x.invariant (c.binds.ensures.0 w.if-binds.true) w.lesser.ensures.second w.lesser.ensures.alone))
+      | else-binds w ↦ rw w.least-is (subst (λ l. IsLeastOf a l c.loop-x.least) (sym more)
+          (least_passed a (take i items) x c.loop-x.least c.loop-x.invariant (λ h. let clash : true ≡ false = sym (c.binds.ensures.1 h) ∙ w.if-binds.false in cc)))
+    ]
+
+pub returns-clause-some : goal.returns-clause-some
+returns-clause-some c =
+    let items = c.members-x-items.result.now in
+    let all : set.from_list items ≡ c.args.later.now.effect.reads = c.members-x-items.ensures.all ∙ c.reads.ensures ∙ ap (λ f. f.reads) c.effect.ensures in
+    least_is c.args.later.now c.args.earlier.now items c.loop-x.least all
+    (subst (λ l. IsLeastOf c.args.earlier.now l c.loop-x.least) (whole items c.loop-x.x-index (omega (arith, c.loop-x-test.false))) c.loop-x.invariant)
+
+pub returns-clause-none : goal.returns-clause-none
+returns-clause-none c =
+    let items = c.members-x-items.result.now in
+    let all : set.from_list items ≡ c.args.later.now.effect.reads = c.members-x-items.ensures.all ∙ c.reads.ensures ∙ ap (λ f. f.reads) c.effect.ensures in
+    least_none c.args.later.now c.args.earlier.now items c.loop-x.least all
+    (subst (λ l. IsLeastOf c.args.earlier.now l c.loop-x.least) (whole items c.loop-x.x-index (omega (arith, c.loop-x-test.false))) c.loop-x.invariant)

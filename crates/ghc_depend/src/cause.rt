@@ -1,0 +1,145 @@
+// Why a step depends directly on an earlier one.
+ghost use Rattle.std.specs.Prelude.{◌≡◌, ◌<◌, ◌↔◌, length, slice_get, Some, IsTrue, IfSome, IfNone};
+ghost use Rattle.std.specs.Ordering.{ord_min};
+ghost use Rattle.ghc_term.specs.Bindings.{name_cmp};
+ghost use Rattle.ghc_term.specs.declared.var_name.VarName.{VarName};
+ghost use Rattle.ghc_records.specs.Record.{Record};
+ghost use Rattle.ghc_depend.specs.Depend.{MakesGoal, Consumes, Binds, ReadsFrom};
+ghost use Rattle.ghc_depend.specs.Cause.{CanWait, WasThereBefore, ReadsBehind, IsWokenBy, IsLeastRead, IsDirect};
+
+use ghc_fire::Act;
+use ghc_records::{Record, Records};
+use ghc_term::{GoalName, VarName};
+
+/// Why a step depends directly on an earlier one.
+#[derive(Clone, Copy, Drop, Debug, PartialEq, Eq)]
+pub enum Cause {
+    /// The earlier step made the goal that the later one consumed.
+    Made,
+    /// The later step read a variable that the earlier one bound, which may have woken its goal.
+    Read { variable: VarName, woke: bool },
+}
+
+// Whether the goal is one that the step made.
+fn makes_goal(maker: &Record, name: GoalName) -> bool
+    ensures { IsTrue result ↔ MakesGoal maker.now name }
+{
+    name.step == maker.number()
+        && 1 <= name.place
+        && name.place as usize <= maker.effect().makes().len()
+}
+
+// Whether the later step consumed a goal that the earlier one made.
+fn consumes(later: &Record, earlier: &Record) -> bool
+    ensures { IsTrue result ↔ Consumes later.now earlier.now }
+{
+    match later.goal() {
+        Some(name) => makes_goal(earlier, name),
+        None => false,
+    }
+}
+
+// Whether the step bound the variable: one look-up.
+fn binds(binder: &Record, x: VarName) -> bool
+    ensures { IsTrue result ↔ Binds binder.now x }
+{
+    binder.effect().binds().get(x).is_some()
+}
+
+// The lesser of a variable and the least so far, if there is one.
+fn lesser(least: Option<VarName>, x: VarName) -> VarName
+    ensures second { IfSome least (λ y. result ≡ ord_min name_cmp y x) }
+    ensures alone { IfNone least (result ≡ x) }
+{
+    match least {
+        Some(y) => y.min(x),
+        None => x,
+    }
+}
+
+// The least variable that the later step read and the earlier one bound: one look-up for each that it read.
+fn least_read(later: &Record, earlier: &Record) -> Option<VarName>
+    ensures some { IfSome result (IsLeastRead later.now earlier.now) }
+    ensures none { IfNone result ((x : VarName) → ¬ ReadsFrom later.now earlier.now x) }
+{
+    let mut least = None;
+    for x in later.effect().reads().members() {
+        if binds(earlier, *x) {
+            least = Some(lesser(least, *x));
+        }
+    }
+    least
+}
+
+// Whether the act is one whose goal can have waited.
+fn can_wait(act: &Act) -> bool
+    ensures { IsTrue result ↔ CanWait act.now }
+{
+    match act {
+        Act::ByClause(_) | Act::Assigned => true,
+        Act::Unified | Act::Given(_) | Act::Closed => false,
+    }
+}
+
+// Whether the goal that the later step consumed was made before the step at this place: one look-up.
+fn was_there_before(records: &Records, later: &Record, place: usize) -> bool
+    ensures { IfSome (slice_get records.now place) (λ a. IsTrue result ↔ WasThereBefore records.now later.now a) }
+{
+    let _count = records.len();
+    let Some(name) = later.goal() else {
+        return true;
+    };
+    let Some(made) = records.place_of(name.step) else {
+        return true;
+    };
+    if !makes_goal(records.at(made).unwrap(), name) {
+        return true;
+    }
+    made < place
+}
+
+// Whether the later step read a variable that a step behind this place bound: a look-up for each that it read, at each step.
+fn reads_behind(records: &Records, later: &Record, place: usize) -> bool
+    requires { place < length records.now }
+    ensures { IfSome (slice_get records.now place) (λ a. IsTrue result ↔ ReadsBehind records.now later.now a) }
+{
+    let end = records.len();
+    for index in place + 1..end {
+        if least_read(later, records.at(index).unwrap()).is_some() {
+            return true;
+        }
+    }
+    false
+}
+
+// Whether the step at this place woke the goal of the later one: it goes over the records behind that place at most once.
+fn is_woken_by(records: &Records, later: &Record, place: usize) -> bool
+    requires { place < length records.now }
+    ensures { IfSome (slice_get records.now place) (λ a. IsTrue result ↔ IsWokenBy records.now later.now a) }
+{
+    can_wait(later.act())
+        && was_there_before(records, later, place)
+        && !reads_behind(records, later, place)
+}
+
+/// Why the step numbered `later` depends directly on the one numbered `earlier`, if it does: for a goal that it made, and else for
+/// the least variable. None where one of them is not kept. It costs two look-ups, and one for each variable that the later step
+/// read; for the mark `woke` it goes over the records behind the earlier step, with as many look-ups at each.
+pub fn direct(records: &Records, later: u32, earlier: u32) -> Option<Cause>
+    ensures { IsDirect records.now later earlier result }
+{
+    let _count = records.len();
+    let place = records.place_of(earlier)?;
+    let behind = records.place_of(later)?;
+    if behind <= place {
+        return None;
+    }
+    let maker = records.at(place).unwrap();
+    let taken = records.at(behind).unwrap();
+    if consumes(taken, maker) {
+        return Some(Cause::Made);
+    }
+    let variable = least_read(taken, maker)?;
+    let woke = is_woken_by(records, taken, place);
+    Some(Cause::Read { variable, woke })
+}
