@@ -14,9 +14,9 @@ use Rattle.ghc_fire.specs.Proposal.{Proposal}
 use Rattle.ghc_records.specs.Record.{Record}
 use Rattle.ghc_records.specs.StepText.{listed, record_text}
 use Rattle.ghc_core.specs.World.{World, IsFull, with_step}
-use Rattle.ghc_core.specs.Events.{undone}
+use Rattle.ghc_core.specs.Events.{Reply, undone, refused as event_refused}
 use Rattle.ghc_core.specs.Proposes.{AttemptAnswers, IsCommitOf}
-use Rattle.ghc_core.specs.Reverses.{Undoes, UndoFails}
+use Rattle.ghc_core.specs.Reverses.{Undoes}
 use Rattle.ghc_trace.specs.Ports.{taken_ports}
 use Rattle.ghc_trace.specs.PortText.{ports_text}
 use Rattle.ghc_console.specs.Asked.{Names, IsAsked}
@@ -55,10 +55,14 @@ numbers_text numbers = listed (codes ",") (map decimal numbers)
 abbrev pub undone_text : List ℕ → List ℕ
 undone_text numbers = lined (codes "undone " ++ numbers_text numbers)
 
--- TakesBack w n text v: step n is undone, and the text tells it; or it is not, and the text is the refusal.
-pub data TakesBack (w : World) (n : ℕ) (text : List ℕ) (v : World) : Type 0 where
-  takes_back : Undoes ⊥ w n (undone (n ∷ [])) v → text ≡ undone_text (n ∷ []) → TakesBack w n text v
-  stays : (f : Fault) → UndoFails w.kept n f → text ≡ refusal f → v ≡ w → TakesBack w n text v
+-- Tells reply text: the text tells which steps were undone, or why none was.
+pub data Tells : Reply → List ℕ → Type 0 where
+  tells_steps : {steps text : List ℕ} → text ≡ undone_text steps → Tells (undone steps) text
+  tells_why : {f : Fault} {text : List ℕ} → text ≡ refusal f → Tells (event_refused f) text
+
+-- TakesBack w n text v: the text tells the reply to undoing step n, which leaves the world v.
+abbrev pub TakesBack : World → ℕ → List ℕ → World → Type 0
+TakesBack w n text v = (reply : Reply) × Undoes ⊥ w n reply v × Tells reply text
 
 -- Shows w names word text: the variable that the word names, and the term to which it leads; or the refusal where it names none, or the term is too long.
 pub data Shows (w : World) (names : Names) (word : List ℕ) : List ℕ → Type 0 where

@@ -25,7 +25,7 @@ pub fn undo(alloc: Global, core: &mut Core, number: u32) -> Result<Vec<u8>, Allo
         Ok(text) => text,
         Err(error) => return Err(error),
     };
-    match core.undo(alloc, number) {
+    match core.undo(number) {
         Ok(()) => Ok(text),
         Err(fault) => refused(alloc, &fault),
     }

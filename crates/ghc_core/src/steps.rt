@@ -158,7 +158,7 @@ impl Core {
     /// The record of the step that was proposed, as the next step, and counts a firing. `Stale` exactly where the goal is not
     /// there any more or the effect is not the one proposed; else `Full` exactly where the numbers are used up or 1,000,000
     /// steps are kept; else it fails for want of memory alone. But for the meter the core stays as it is. It costs what the
-    /// attempt costs.
+    /// attempt costs, and a walk over its effect as written.
     pub fn prepare(&mut self, alloc: Global, proposal: &Proposal) -> Result<Record, Fault>
         ensures record { IfOk result (IsCommitOf self.old.world proposal.now) }
         ensures fault { IfErr result (λ f. (f ≡ Fault.Memory) ⊎ CommitFails self.old.world proposal.now f) }
@@ -215,7 +215,7 @@ impl Core {
     }
 
     /// Takes the step that was proposed, under the next number, and gives that number. The refusals are those of `prepare`. A
-    /// refused commit changes nothing but the meter. It costs what the attempt costs, and what taking the step costs.
+    /// refused commit changes nothing but the meter. It costs what preparing and taking the step cost.
     pub fn commit(&mut self, alloc: Global, proposal: &Proposal) -> Result<u32, Fault>
         ensures step { IfOk result (IsCommitted self.old.world proposal.now self.new.world) }
         ensures fault { IfErr result (λ f. (f ≡ Fault.Memory) ⊎ CommitFails self.old.world proposal.now f) }

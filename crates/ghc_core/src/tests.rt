@@ -3,7 +3,7 @@ use crate::Core;
 use ghc_fire::{Meter, Proposal};
 use ghc_flat::check;
 use ghc_reader::{read_program, read_query};
-use ghc_records::{Records, push_record};
+use ghc_records::{Entry, Records, push_record};
 use ghc_term::{Fault, GoalName, Term, VarName, print};
 use std::alloc::{AllocError, Global};
 use std::process::Abort;
@@ -219,15 +219,17 @@ fn two_threads_read_a_core_behind_a_lock(rt: HostRuntime) -> Result<(), Fail> {
 }
 
 // The core with step 2 undone, on which nothing depends. Undoing fires nothing, and moves no number.
-fn undone<R: Abort>(rt: &R, alloc: Global, core: Core) -> Core {
+fn undone<R: Abort>(rt: &R, core: Core) -> Core {
     let mut core = core;
-    assert!(rt; core.undo(alloc, 5) == Err(Fault::NotKept));
-    assert!(rt; core.undo(alloc, 1) == Err(Fault::HasConsequence { step: 2 }));
-    assert!(rt; core.undo(alloc, 2) == Ok(()));
-    assert!(rt; core.undo(alloc, 2) == Err(Fault::NotKept));
+    assert!(rt; core.undo(5) == Err(Fault::NotKept));
+    assert!(rt; core.undo(1) == Err(Fault::HasConsequence { step: 2 }));
+    assert!(rt; core.undo(2) == Ok(()));
+    assert!(rt; core.undo(2) == Err(Fault::NotKept));
     assert!(rt; core.shelf().get(2).is_some());
     assert!(rt; core.next() == 5);
     assert!(rt; core.journal().len() == 5);
+    assert!(rt; matches!(core.journal().at(4), Some(Entry::Undid(2))));
+    assert!(rt; core.goals().get(GoalName { step: 1, place: 1 }).is_some());
     assert!(rt; core.meter().firings() == 4);
     core
 }
@@ -243,7 +245,7 @@ const UNDONE: &str = "\
 fn a_step_is_undone(rt: HostRuntime) -> Result<(), Fail> {
     let alloc = rt.alloc();
     let core = appended_core(&rt, alloc).ok_or("a core")?;
-    let core = undone(&rt, alloc, core);
+    let core = undone(&rt, core);
     let text = text_of_r(alloc, &core);
     assert!(rt; text.as_deref() == Some("_0_1"));
     ends_with(&rt, alloc, core, 1, UNDONE)?;

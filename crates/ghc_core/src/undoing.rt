@@ -1,5 +1,5 @@
 // Undoing a step that nothing depends on.
-ghost use Rattle.std.specs.Prelude.{◌≡◌, ◌⊎◌, ◌∷◌, ◌++◌, [], None, IfOk, IfErr, OnOk, OnErr, IsErrAnd, MatchResult, ⊤};
+ghost use Rattle.std.specs.Prelude.{◌≡◌, ◌⊎◌, ◌∷◌, ◌++◌, [], IfOk, IfErr, OnOk, OnErr, IsErrAnd, MatchResult, ⊤};
 ghost use Rattle.std.specs.FinMap as finite;
 ghost use Rattle.ghc_term.specs.declared.fault.Fault.{Fault as fault_spec};
 ghost use Rattle.ghc_term.specs.Lists.{In};
@@ -18,10 +18,10 @@ use crate::steps::withdraw_entry;
 use ghc_depend::first_consequence;
 use ghc_records::{Entry, Journal, Record, Records, Shelf};
 use ghc_term::Fault;
-use std::alloc::{AllocError, Global};
+use std::alloc::AllocError;
 
 // The record of the step of this number, shared, where the step can be undone; else why it can not.
-fn undoable(alloc: Global, records: &Records, number: u32) -> Result<Record, Fault>
+fn undoable(records: &Records, number: u32) -> Result<Record, Fault>
     ensures kept { IfOk result (λ r. IsKeptAs records.now number r) }
     ensures free { IfOk result (λ r. (b : record_spec) → ¬ Follows records.now r b) }
     ensures fault { IfErr result (λ f. (f ≡ Fault.Memory) ⊎ UndoFails records.now number f) }
@@ -29,12 +29,11 @@ fn undoable(alloc: Global, records: &Records, number: u32) -> Result<Record, Fau
     let Some(kept) = records.get(number) else {
         return Err(Fault::NotKept);
     };
-    match first_consequence(alloc, records, number) {
-        Ok(Some(step)) => Err(Fault::HasConsequence { step }),
-        Ok(None) => match kept.share() {
-            Ok(step) => Ok(step),
-            Err(_) => Err(Fault::Memory),
-        },
+    if let Some(step) = first_consequence(records, number) {
+        return Err(Fault::HasConsequence { step });
+    }
+    match kept.share() {
+        Ok(step) => Ok(step),
         Err(_) => Err(Fault::Memory),
     }
 }
@@ -105,10 +104,10 @@ impl Core {
     /// Undoes the step of this number: what it bound is unbound, the goals that it made are gone, the goal that it consumed is
     /// there again, and its record goes to the shelf. `NotKept` exactly where the step is not kept; else `HasConsequence`, with
     /// the first consequence in recorded order, exactly where it has one; else it fails for want of memory alone. A refused
-    /// undo changes nothing. It goes once over the records behind the step, with a look-up for each variable that they read.
+    /// undo changes nothing. It goes over the records behind the step, with a look-up for each variable that they read.
     ///
     /// The rule is that of Danos and Krivine (2004): an action may be undone exactly when all its consequences have been.
-    pub fn undo(&mut self, alloc: Global, number: u32) -> Result<(), Fault>
+    pub fn undo(&mut self, number: u32) -> Result<(), Fault>
         ensures ok { OnOk result (Undoes ⊥ self.old.world number (undone (number ∷ [])) self.new.world) }
         ensures fault { IfErr result (λ f. (f ≡ Fault.Memory) ⊎ UndoFails self.old.world.kept number f) }
 
@@ -124,7 +123,7 @@ impl Core {
         ensures well_made { IsWellMade self.new.world.opening.query self.new.world.kept self.new.world.state }
     {
         self.stands();
-        let step = match undoable(alloc, &self.records, number) {
+        let step = match undoable(&self.records, number) {
             Ok(step) => step,
             Err(fault) => return Err(fault),
         };

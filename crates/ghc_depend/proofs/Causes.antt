@@ -1,6 +1,6 @@
 -- Why a step depends directly on an earlier one: places in recorded order, the least variable, and what woke a goal.
 use Rattle.std.proofs.Common.{◌≡◌, ℕ, zero, suc, ◌+◌, ◌<◌, ◌≤◌, ◌⊎◌, Bool, true, false, not, cond, List, [], ◌∷◌, ◌++◌, length, refl, sym, ap, ◌∙◌, subst, subst₂, inl, inr, arith}
-use Rattle.std.specs.Prelude.{◌↔◌, Option, Some, None, IsTrue, IfSome, IfNone, IsSome, is_some, option_copied, slice_get}
+use Rattle.std.specs.Prelude.{◌↔◌, Option, Some, None, IsTrue, IfSome, IfNone, IsSome, option_copied, slice_get}
 use Rattle.std.specs.Borrow.{Bor}
 use Rattle.std.specs.declared.cmp.Ordering.TheVariants.{Less, Equal, Greater}
 use Rattle.std.specs.Ordering.{is_lt, ord_min, ordering_reverse}
@@ -137,10 +137,6 @@ pub least_none : (b a : Record) (xs : List VarName) (o : Option VarName) → set
 least_none b a xs None all h = λ x r. h x (member_of b.effect.reads xs all x r.0) r.1
 least_none b a xs (Some y) all h = tt
 
-pub has_read : (b a : Record) (o : Option VarName) → is_some o ≡ true → IfSome o (IsLeastRead b a) → (x : VarName) × ReadsFrom b a x
-has_read b a None e h = cc
-has_read b a (Some x) e h = (x, h.0)
-
 -- the goal that b consumed, and the step that made it
 pub goal_made : (b m : Record) (name : GoalName) → b.goal ≡ Some name → Consumes b m → MakesGoal m name
 goal_made b m name e c = subst (MakesGoal m) (same_value c.1 e) c.2
@@ -168,13 +164,22 @@ module _ (rs : List Record) (distinct : AreDistinct (numbers rs)) (b : Record) w
         pub place_there : WasThereBefore rs b a → made < place
         place_there h = before_places rs (records_distinct rs distinct) made place maker a at there (is_before rs maker a (h maker (is_there rs made maker at) (name, e, makes)))
 
--- of the steps behind this place and in front of the other, b read nothing that one bound
-abbrev pub ReadsNoneFrom : List Record → Record → ℕ → ℕ → Type 0
-ReadsNoneFrom rs b place end_place = (k : ℕ) (c : Record) (x : VarName) → place < k → k < end_place → slice_get rs k ≡ Some c → ¬ ReadsFrom b c x
+-- P holds of none of the steps behind this place and in front of the other
+abbrev pub NoneBetween : (Record → Type 0) → List Record → ℕ → ℕ → Type 0
+NoneBetween P rs place end_place = (k : ℕ) (c : Record) → place < k → k < end_place → slice_get rs k ≡ Some c → ¬ P c
 
--- at first there are none
-pub none_between : (rs : List Record) (b : Record) (place : ℕ) → ReadsNoneFrom rs b place (place + 1)
-none_between rs b place k c x low high at r = absurd (omega arith)
+same_or_before : (k i : ℕ) → k < i + 1 → (k ≡ i) ⊎ (k < i)
+same_or_before k i h = grind arith
+
+-- at first there are none, and then one more
+pub none_between : (P : Record → Type 0) (rs : List Record) (place : ℕ) → NoneBetween P rs place (place + 1)
+none_between P rs place k c low high at p = absurd (omega arith)
+
+pub none_more : (P : Record → Type 0) (rs : List Record) (place i : ℕ) (b : Record) → slice_get rs i ≡ Some b → ¬ P b → NoneBetween P rs place i → NoneBetween P rs place (i + 1)
+none_more P rs place i b at n none k c low high there p = elim (same_or_before k i high) [
+  | inl e ↦ n (subst P (same_value (ap (slice_get rs) (sym e) ∙ there) at) p)
+  | inr h ↦ none k c low h there p
+]
 
 -- an element of a list has a place
 pub place_at : {X : Type 0} (xs : List X) (x : X) → In x xs → (i : ℕ) × (slice_get xs i ≡ Some x)
@@ -188,17 +193,17 @@ module _ (rs : List Record) (b a : Record) (place : ℕ) (there : slice_get rs p
   one_behind i c x at low r = (c, x, before_is rs a c (places_before rs place i a c there at low), r)
 
   -- or no step at all
-  pub none_behind : AreDistinct (numbers rs) → (i : ℕ) → length rs ≤ i → ReadsNoneFrom rs b place i → ¬ ReadsBehind rs b a
+  pub none_behind : AreDistinct (numbers rs) → (i : ℕ) → length rs ≤ i → NoneBetween (λ c. (x : VarName) × ReadsFrom b c x) rs place i → ¬ ReadsBehind rs b a
   none_behind distinct i long h t =
       let before = is_before rs a t.0 t.2 in
       let at = place_at rs t.0 (before_in rs a t.0 before).1 in
       let within = place_within rs at.0 t.0 at.1 in
-      h at.0 t.0 t.1 (before_places rs (records_distinct rs distinct) place at.0 a t.0 there at.1 before) (omega arith) at.1 t.3
+      h at.0 t.0 (before_places rs (records_distinct rs distinct) place at.0 a t.0 there at.1 before) (omega arith) at.1 (t.1, t.3)
 
 -- the mark woke
 pub woken : (rs : List Record) (b a : Record) (read : Bool) → CanWait b.act → WasThereBefore rs b a → (IsTrue read ↔ ReadsBehind rs b a) → IsTrue (not read) ↔ IsWokenBy rs b a
-woken rs b a true can was h = (λ e. cc, λ w. let t = h.0 refl in absurd (w.2 t.0 t.1 t.2 t.3))
-woken rs b a false can was h = (λ _. (can, was, λ c x p r. let clash : false ≡ true = h.1 (c, x, p, r) in cc), λ _. refl)
+woken rs b a true can was h = (λ e. cc, λ w. absurd (w.2 (h.0 refl)))
+woken rs b a false can was h = (λ _. (can, was, λ r. let clash : false ≡ true = h.1 r in cc), λ _. refl)
 
 -- the record of this number stands at this place
 abbrev pub StandsAt : List Record → ℕ → ℕ → Type 0

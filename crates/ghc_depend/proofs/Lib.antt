@@ -14,6 +14,7 @@ pub mod Following
 pub mod Trails
 pub mod Walking
 pub mod Causes
+pub mod Nearest
 pub mod TakingBack
 pub mod Arranging
 pub mod Undoing

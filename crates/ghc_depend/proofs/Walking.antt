@@ -1,17 +1,15 @@
 -- One walk over the records behind a step, which finds its consequences.
-use Rattle.std.proofs.Common.{◌≡◌, ℕ, ◌+◌, ◌≤◌, List, [], ◌∷◌, ◌++◌, length, take, refl, sym, ap, ◌∙◌, subst, inl, inr}
+use Rattle.std.proofs.Common.{◌≡◌, ℕ, ◌+◌, ◌≤◌, List, [], ◌∷◌, ◌++◌, length, take, refl, sym, ap, ◌∙◌, subst, inl}
 use Rattle.std.specs.Prelude.{Some, slice_get}
 use Rattle.std.specs.FinSet as set
 use Rattle.ghc_term.specs.Lists.{In}
 use Rattle.ghc_term.specs.Sets.{Variables}
 use Rattle.ghc_records.specs.Orders.{Picks, AreDistinct}
 use Rattle.ghc_records.specs.Record.{Record, numbers}
-use Rattle.ghc_records.proofs.OrderLemmas.{in_left, in_right, in_either, Before, before_is, record_once}
-use Rattle.ghc_depend.specs.Depend.{Follows, IsKeptAs, IsFirstConsequence}
+use Rattle.ghc_records.proofs.OrderLemmas.{in_left, in_right}
+use Rattle.ghc_depend.specs.Depend.{Follows, IsKeptAs}
 use Rattle.ghc_depend.specs.Trail.{Touches}
 use Rattle.ghc_depend.proofs.Finding.{same_value}
-use Rattle.ghc_depend.proofs.Picking.{behind_before, picks_has}
-use Rattle.ghc_depend.proofs.Following.{follows_in}
 use Rattle.ghc_depend.proofs.Trails.{IsTrailOf, AddsNumber, AddsBound, no_trail, trail_added, numbers_last, at_split, whole, is_there, pick_none, pick_last, leave_last, none_yet, follows, touched}
 
 -- of the first i records, found are the consequences of a, with these numbers, and the trail is that of a and them
@@ -21,10 +19,6 @@ pub record Walked (kept : List Record) (a : Record) (i : ℕ) (items ns : List �
   pub picked : Picks (Follows kept a) (take i kept) found
   pub numbered : numbers found ≡ items
   pub trail : IsTrailOf (a ∷ found) ns bound
-
-empty : (rs : List Record) → numbers rs ≡ [] → (c : Record) → ¬ In c rs
-empty [] e c i = i
-empty (r ∷ rs) e c i = cc
 
 module _ (kept : List Record) (distinct : AreDistinct (numbers kept)) (a : Record) where
   -- the walk begins behind the step
@@ -81,26 +75,6 @@ module _ (kept : List Record) (distinct : AreDistinct (numbers kept)) (a : Recor
         numbered = w.numbered;
         trail = w.trail;
       }
-
-      pub is_first : items ≡ [] → Touches kept ns bound b → IsFirstConsequence kept a b
-      is_first e t = (
-        is_next t,
-        λ c f. elim (in_either (take i kept) (b ∷ rest) c (subst (In c) parts (follows_in f))) [
-          | inl j ↦ absurd (elim (picks_has (take i kept) w.found c w.picked j) [ inl k ↦ empty w.found (w.numbered ∙ e) c k | inr n ↦ n f ])
-          | inr (inl same) ↦ inl same
-          | inr (inr j) ↦ inr (before_is kept b c (subst (λ z. Before z b c) (sym parts) (behind_before (take i kept) rest b c j)))
-        ],
-      )
-
-    pub none_at_all : items ≡ [] → length kept ≤ i → (b : Record) → ¬ Follows kept a b
-    none_at_all e h b f = elim (picks_has kept w.found b (finished h) (follows_in f)) [
-      | inl k ↦ empty w.found (w.numbered ∙ e) b k
-      | inr n ↦ n f
-    ]
-
-    -- no other record of its number has a consequence either
-    pub none_of_it : items ≡ [] → length kept ≤ i → (n : ℕ) → IsKeptAs kept n a → (c b : Record) → IsKeptAs kept n c → ¬ Follows kept c b
-    none_of_it e h n k c b j f = none_at_all e h b (subst (λ z. Follows kept z b) (record_once kept c a distinct j.0 k.0 (j.1 ∙ sym k.1)) f)
 
     pub goes_on : (b : Record) → slice_get kept i ≡ Some b → (n : ℕ) (next new : List ℕ) (all : Variables) → Touches kept ns bound b → next ≡ items ++ n ∷ [] → n ≡ b.number
         → AddsNumber ns new b.number → AddsBound bound all b → Walked kept a (i + 1) next new all

@@ -30,8 +30,7 @@ ReadsBehind rs b a = (c : Record) × (x : VarName) × Precedes rs a c × ReadsFr
 
 -- The step a woke the goal of b: that goal can have waited and was there before a, and no step after a bound a variable that b read.
 abbrev pub IsWokenBy : List Record → Record → Record → Type 0
-IsWokenBy rs b a =
-    CanWait b.act × WasThereBefore rs b a × ((c : Record) (x : VarName) → Precedes rs a c → ¬ ReadsFrom b c x)
+IsWokenBy rs b a = CanWait b.act × WasThereBefore rs b a × (¬ ReadsBehind rs b a)
 
 -- x is the least variable that b read and a bound.
 abbrev pub IsLeastRead : Record → Record → VarName → Type 0

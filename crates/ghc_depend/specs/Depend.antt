@@ -24,9 +24,13 @@ Binds r x = IsTrue (finite.contains_key r.effect.binds x)
 abbrev pub ReadsFrom : Record → Record → VarName → Type 0
 ReadsFrom b a x = IsTrue (set.contains b.effect.reads x) × Binds a x
 
--- In the record, b depends directly on the earlier a: it consumed a goal that a made, or read a variable that a bound.
+-- The step b used what the step a gave: it consumed a goal that a made, or read a variable that a bound.
+abbrev pub Uses : Record → Record → Type 0
+Uses b a = Consumes b a ⊎ ((x : VarName) × ReadsFrom b a x)
+
+-- In the record, b depends directly on the earlier a, whose goals or bindings it used.
 abbrev pub DependsOn : List Record → Record → Record → Type 0
-DependsOn rs b a = Precedes rs a b × (Consumes b a ⊎ ((x : VarName) × ReadsFrom b a x))
+DependsOn rs b a = Precedes rs a b × Uses b a
 
 -- Follows rs a b: b is a consequence of a, by a chain of direct dependence.
 pub data Follows (rs : List Record) (a : Record) : Record → Type 0 where

@@ -4,7 +4,7 @@ ghost use Rattle.std.specs.Ordering.{ord_min};
 ghost use Rattle.ghc_term.specs.Bindings.{name_cmp};
 ghost use Rattle.ghc_term.specs.declared.var_name.VarName.{VarName};
 ghost use Rattle.ghc_records.specs.Record.{Record};
-ghost use Rattle.ghc_depend.specs.Depend.{MakesGoal, Consumes, Binds, ReadsFrom};
+ghost use Rattle.ghc_depend.specs.Depend.{MakesGoal, Consumes, Binds, ReadsFrom, Uses};
 ghost use Rattle.ghc_depend.specs.Cause.{CanWait, WasThereBefore, ReadsBehind, IsWokenBy, IsLeastRead, IsDirect};
 
 use ghc_fire::Act;
@@ -71,6 +71,25 @@ fn least_read(later: &Record, earlier: &Record) -> Option<VarName>
     least
 }
 
+// Whether the later step read a variable that the earlier one bound: one look-up for each that it read.
+fn reads_from(later: &Record, earlier: &Record) -> bool
+    ensures { IsTrue result ↔ ((x : VarName) × ReadsFrom later.now earlier.now x) }
+{
+    for x in later.effect().reads().members() {
+        if binds(earlier, *x) {
+            return true;
+        }
+    }
+    false
+}
+
+/// Whether the later step used a goal or a binding of the earlier one: one look-up for each variable that it read.
+pub(crate) fn uses(later: &Record, earlier: &Record) -> bool
+    ensures { IsTrue result ↔ Uses later.now earlier.now }
+{
+    consumes(later, earlier) || reads_from(later, earlier)
+}
+
 // Whether the act is one whose goal can have waited.
 fn can_wait(act: &Act) -> bool
     ensures { IsTrue result ↔ CanWait act.now }
@@ -105,7 +124,7 @@ fn reads_behind(records: &Records, later: &Record, place: usize) -> bool
 {
     let end = records.len();
     for index in place + 1..end {
-        if least_read(later, records.at(index).unwrap()).is_some() {
+        if reads_from(later, records.at(index).unwrap()) {
             return true;
         }
     }

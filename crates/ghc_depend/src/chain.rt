@@ -3,12 +3,13 @@ ghost use Rattle.std.specs.Prelude.{◌≡◌, List, IfOk, IfSome, IfNone};
 ghost use Rattle.ghc_records.specs.Record.{Record, numbers};
 ghost use Rattle.ghc_depend.specs.Depend.{Follows, IsKeptAs, AreConsequencesOf, IsFirstConsequence};
 
+use crate::cause::uses;
 use crate::trail::Trail;
 use ghc_records::Records;
 use std::alloc::{AllocError, Global};
 
 /// The numbers of the consequences of the step of this number, in recorded order: none where it is not kept. It goes once over the
-/// records, with a look-up for each variable that one behind the step read, or a consequence bound.
+/// records, with a look-up for each variable that one behind the step read, or a consequence bound. It fails for want of memory alone.
 pub fn consequences(alloc: Global, records: &Records, number: u32) -> Result<Vec<u32>, AllocError>
     ensures { IfOk result (λ ns. (found : List Record) × AreConsequencesOf records.now number found × (numbers found ≡ ns.items)) }
 {
@@ -29,27 +30,20 @@ pub fn consequences(alloc: Global, records: &Records, number: u32) -> Result<Vec
     Ok(found)
 }
 
-/// The number of the first consequence of the step of this number, if it is kept and has one. It goes over the records up to that
-/// one, with a look-up for each variable that one behind the step read.
-pub fn first_consequence(
-    alloc: Global,
-    records: &Records,
-    number: u32,
-) -> Result<Option<u32>, AllocError>
-    ensures found { IfOk result (λ o. IfSome o (λ n. (a b : Record) × IsKeptAs records.now number a × IsFirstConsequence records.now a b × (b.number ≡ n))) }
-    ensures none { IfOk result (λ o. IfNone o ((a b : Record) → IsKeptAs records.now number a → ¬ Follows records.now a b)) }
+/// The number of the first consequence of the step of this number, if it is kept and has one. The first one always depends
+/// directly, so it goes over the records up to that one, with a look-up for each variable that they read.
+pub fn first_consequence(records: &Records, number: u32) -> Option<u32>
+    ensures found { IfSome result (λ n. (a b : Record) × IsKeptAs records.now number a × IsFirstConsequence records.now a b × (b.number ≡ n)) }
+    ensures none { IfNone result ((a b : Record) → IsKeptAs records.now number a → ¬ Follows records.now a b) }
 {
-    let Some(place) = records.place_of(number) else {
-        return Ok(None);
-    };
-    let mut trail = Trail::new(alloc);
-    trail.add(records.at(place).unwrap())?;
     let end = records.len();
+    let place = records.place_of(number)?;
+    let first = records.at(place).unwrap();
     for index in place + 1..end {
-        let taken = records.at(index).unwrap();
-        if trail.touches(records, taken) {
-            return Ok(Some(taken.number()));
+        let later = records.at(index).unwrap();
+        if uses(later, first) {
+            return Some(later.number());
         }
     }
-    Ok(None)
+    None
 }

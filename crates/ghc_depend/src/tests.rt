@@ -221,9 +221,9 @@ fn consequences_of_append(rt: HostRuntime) -> Result<(), Fail> {
         consequences(alloc, &records, 3)?.as_slice(),
         [4].as_slice()
     );
-    assert_eq!(rt; first_consequence(alloc, &records, 1)?, Some(2));
-    assert_eq!(rt; first_consequence(alloc, &records, 2)?, None);
-    assert_eq!(rt; first_consequence(alloc, &records, 3)?, Some(4));
+    assert_eq!(rt; first_consequence(&records, 1), Some(2));
+    assert_eq!(rt; first_consequence(&records, 2), None);
+    assert_eq!(rt; first_consequence(&records, 3), Some(4));
     Ok(())
 }
 

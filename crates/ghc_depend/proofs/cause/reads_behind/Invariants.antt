@@ -1,5 +1,7 @@
-use Rattle.ghc_depend.proofs.Causes.{ReadsNoneFrom}
+use Rattle.ghc_term.specs.declared.var_name.VarName.{VarName}
+use Rattle.ghc_depend.specs.Depend.{ReadsFrom}
+use Rattle.ghc_depend.proofs.Causes.{NoneBetween}
 use Rattle.ghc_depend.proofs.cause.reads_behind.Given as goal
 
 abbrev pub invariant-loop-index : goal.invariant-loop-index
-invariant-loop-index l = ReadsNoneFrom l.records l.later l.place l.index
+invariant-loop-index l = NoneBetween (λ c. (x : VarName) × ReadsFrom l.later c x) l.records l.place l.index

@@ -1,39 +1,39 @@
-use Rattle.std.proofs.Common.{◌≡◌, true, false, [], refl, sym, ap, ◌∙◌, arith}
+use Rattle.std.proofs.Common.{◌≡◌, true, false, sym, ap, ◌∙◌, arith}
 use Rattle.std.specs.Option.{option_copied}
-use Rattle.ghc_depend.proofs.Walking.{begin, passed_by, is_first, none_of_it, kept_at}
+use Rattle.ghc_depend.specs.Depend.{Uses}
+use Rattle.ghc_depend.proofs.Causes.{place_within, some_within, none_between, none_more}
+use Rattle.ghc_depend.proofs.Nearest.{is_first, none_of_it}
+use Rattle.ghc_depend.proofs.Walking.{kept_at}
 use Rattle.ghc_depend.proofs.chain.first_consequence.Goals as goal
 
 pub loop-index-init : goal.loop-index-init
-loop-index-init c =
-    let a = c.unwrap.result.now in
-    let kept = c.args.records.now in
-    let place = c.in-Some.place in
-    let at = sym c.at.ensures ∙ ap option_copied c.unwrap.ensures in (
-      a,
-      kept_at kept place c.args.number a c.in-Some.ensures.found at,
-      begin kept c.len-end.ensures.distinct a place c.new-trail.result.numbers.keys c.add.new.self.numbers.keys c.new-trail.result.bound c.add.new.self.bound at
-          c.new-trail.ensures.numbers c.new-trail.ensures.bound c.in_ok-add.ensures.numbers c.in_ok-add.ensures.bound,
-    )
+loop-index-init c = none_between (λ d. Uses d c.unwrap-first.result.now) c.args.records.now c.in_ok-place.place
 
 pub loop-index-preserved : goal.loop-index-preserved
 loop-index-preserved c =
-    let kept = c.args.records.now in
-    let a = c.loop-index.invariant.0 in
-    let own = c.loop-index.invariant.1 in
-    let walked = c.loop-index.invariant.2 in
-    let at = sym c.at-in-loop-index.ensures ∙ ap option_copied c.unwrap-taken.ensures in
-    (a, own, passed_by kept c.len-end.ensures.distinct a c.loop-index.index [] c.add.new.self.numbers.keys c.add.new.self.bound walked c.unwrap-taken.result.now at (λ t. let clash : true ≡ false = sym (c.touches.ensures.1 t) ∙ c.if-touches.false in cc))
+    none_more (λ d. Uses d c.unwrap-first.result.now) c.args.records.now c.in_ok-place.place c.loop-index.index c.unwrap-later.result.now (sym c.at-in-loop-index.ensures ∙ ap option_copied c.unwrap-later.ensures)
+    (λ u. let clash : true ≡ false = sym (c.uses.ensures.1 u) ∙ c.if-uses.false in cc) c.loop-index.invariant
 
-pub returns-then-touches-clause-found : goal.returns-then-touches-clause-found
-returns-then-touches-clause-found c =
+pub returns-then-uses-clause-found : goal.returns-then-uses-clause-found
+returns-then-uses-clause-found c =
     let kept = c.args.records.now in
-    let a = c.loop-index.invariant.0 in
-    let walked = c.loop-index.invariant.2 in
-    let b = c.unwrap-taken.result.now in
-    let at = sym c.at-in-loop-index.ensures ∙ ap option_copied c.unwrap-taken.ensures in
-    (a, b, c.loop-index.invariant.1, is_first kept c.len-end.ensures.distinct a c.loop-index.index [] c.add.new.self.numbers.keys c.add.new.self.bound walked b at refl (c.touches.ensures.0 c.if-touches.true), sym c.number.ensures)
+    let place = c.in_ok-place.place in
+    let a = c.unwrap-first.result.now in
+    let b = c.unwrap-later.result.now in
+    let there = sym c.at.ensures ∙ ap option_copied c.unwrap-first.ensures in
+    let at = sym c.at-in-loop-index.ensures ∙ ap option_copied c.unwrap-later.ensures in
+    (a, b, kept_at kept place c.args.number a c.in_ok-place.ensures.found there, is_first kept c.len-end.ensures.distinct a place there c.loop-index.index c.loop-index.invariant b at (omega arith) (c.uses.ensures.0 c.if-uses.true), sym c.number.ensures)
 
 pub returns-clause-none : goal.returns-clause-none
 returns-clause-none c =
-    let a = c.loop-index.invariant.0 in
-    none_of_it c.args.records.now c.len-end.ensures.distinct a c.loop-index.index [] c.add.new.self.numbers.keys c.add.new.self.bound c.loop-index.invariant.2 refl (omega (arith, c.loop-index-test.false, c.len-end.ensures.count)) c.args.number c.loop-index.invariant.1
+    let there = sym c.at.ensures ∙ ap option_copied c.unwrap-first.ensures in
+    none_of_it c.args.records.now c.len-end.ensures.distinct c.unwrap-first.result.now c.in_ok-place.place there c.loop-index.index c.loop-index.invariant (omega (arith, c.loop-index-test.false, c.len-end.ensures.count)) c.args.number c.in_ok-place.ensures.found
+
+pub returns-in_err-place-clause-none : goal.returns-in_err-place-clause-none
+returns-in_err-place-clause-none c = rw c.from_residual.ensures (λ a b k f. c.in_err-place.ensures.none a k.0 k.1)
+
+pub overflow_step-index : goal.overflow_step-index
+overflow_step-index c = omega (arith, place_within c.args.records.now c.in_ok-place.place c.unwrap-first.result.now (sym c.at.ensures ∙ ap option_copied c.unwrap-first.ensures))
+
+pub unwrap-later-requires : goal.unwrap-later-requires
+unwrap-later-requires c = some_within c.args.records.now c.loop-index.index c.at-in-loop-index.result (omega arith) c.at-in-loop-index.ensures

@@ -1,8 +1,6 @@
-use Rattle.std.specs.Prelude.{[]}
-use Rattle.ghc_records.specs.Record.{Record}
-use Rattle.ghc_depend.specs.Depend.{IsKeptAs}
-use Rattle.ghc_depend.proofs.Walking.{Walked}
+use Rattle.ghc_depend.specs.Depend.{Uses}
+use Rattle.ghc_depend.proofs.Causes.{NoneBetween}
 use Rattle.ghc_depend.proofs.chain.first_consequence.Given as goal
 
 abbrev pub invariant-loop-index : goal.invariant-loop-index
-invariant-loop-index l = (a : Record) × IsKeptAs l.records l.number a × Walked l.records a l.index [] l.trail.numbers.keys l.trail.bound
+invariant-loop-index l = NoneBetween (λ c. Uses c l.first) l.records l.place l.index
