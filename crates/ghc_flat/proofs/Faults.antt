@@ -14,7 +14,10 @@ use Rattle.ghc_flat.specs.declared.index.Index.{Index}
 use Rattle.ghc_flat.specs.Clause.{Clause, Program, Query}
 use Rattle.ghc_flat.specs.Flat.{IsWellMade, AreDistinct, AreDefined, IsProgram, IsQuery}
 use Rattle.ghc_flat.specs.Variables.{variables_of_list, variables_of_test, variables_of_goals}
-use Rattle.ghc_flat.specs.Checked.{IsMadeOf, AreMadeOf, IsAcceptedAs, IsFirstTwice, IsNamed, IsRepeated, HasClause, AllCalls, IsFirstCallWithout, IsFaultless, AreFaultless, IsClauseFault, IsFirstFault, IsFault, IsFlatGuard, MakeTests, QueryFaultsAreTold}
+use Rattle.ghc_flat.specs.Checked.{IsMadeOf, AreMadeOf, IsAcceptedAs, IsFirstTwice, IsNamed, IsRepeated, HasClause, AllCalls, IsFirstCallWithout, IsFaultless, AreFaultless, IsClauseFault, IsFirstFault, IsProgramFault, IsQueryFault, IsFault, IsFlatGuard, MakeTests, QueryFaultsAreTold}
+use Rattle.ghc_flat.specs.declared.refused.Refused.{Refused}
+use Rattle.ghc_flat.specs.declared.refused.Refused.TheVariants as refused
+use Rattle.ghc_flat.specs.Refused.{IsRefusedAs, fault_of}
 use Rattle.ghc_flat.specs.Numbers.{keys_of_written}
 use Rattle.ghc_flat.specs.Index.{Knows, IsIndexOf, AreSound}
 use Rattle.ghc_flat.proofs.Lists.{in_at, at_of_in, in_middle, in_either, compare_splits}
@@ -202,6 +205,18 @@ pub only_refused : (ws : List WrittenClause) (gs : Query) (r : Result Program Fa
 only_refused ws gs (Ok Q) a f d q = accepted_no_fault ws gs Q d a q
 only_refused ws gs (Err e) a (inl m) d q = inl m
 only_refused ws gs (Err e) a (inr f) d q = inr (fault_once ws gs e d f q)
+
+-- of the checker's refusals, that for the program's fault is the only one where there is one, and so is that for the query's
+pub program_refused_once : (ws : List WrittenClause) (gs : Query) (r : Refused) (d : Fault) → IsRefusedAs ws gs r → IsProgramFault ws d → (r ≡ refused.Program d) ⊎ (fault_of r ≡ Memory)
+program_refused_once ws gs (refused.Program e) d (inl m) q = inr m
+program_refused_once ws gs (refused.Program e) d (inr p) q = inl (ap refused.Program (first_fault_once (HasClause ws) ws e d p q))
+program_refused_once ws gs (refused.Query e) d p q = absurd (first_fault_no (HasClause ws) ws d p.0 q)
+
+pub query_refused_once : (ws : List WrittenClause) (gs : Query) (r : Refused) (d : Fault) → IsRefusedAs ws gs r → AreFaultless (HasClause ws) ws → IsQueryFault ws gs d
+    → (r ≡ refused.Query d) ⊎ (fault_of r ≡ Memory)
+query_refused_once ws gs (refused.Program e) d (inl m) clean q = inr m
+query_refused_once ws gs (refused.Program e) d (inr p) clean q = absurd (first_fault_no (HasClause ws) ws e clean p)
+query_refused_once ws gs (refused.Query e) d p clean q = inl (ap refused.Query (fault_once ws gs e d (inr p) (inr (clean, q))))
 
 -- guards that are all flat make tests
 tests_of : (xs : List VarName) (gs : List Guard) → ((g : Guard) → In g gs → IsFlatGuard xs g) → (ts : List Test) × MakeTests gs ts × ((t : Test) (x : VarName) → In t ts → In x (variables_of_test t) → In x xs)

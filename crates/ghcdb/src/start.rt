@@ -1,5 +1,5 @@
 // The start of a session: from the texts of a program and a query to both, read and checked.
-ghost use Rattle.std.specs.Prelude.{◌≡◌, ◌⊎◌, IfOk, IfErr, MatchResult};
+ghost use Rattle.std.specs.Prelude.{◌≡◌, ◌⊎◌, IfOk, IfErr, IsErrAnd, MatchResult};
 ghost use Rattle.ghcdb.specs.Start.{IsStarted, IsStartRefusal, IsOutOfMemory, told_of};
 
 use crate::refusal::Refusal;
@@ -22,8 +22,9 @@ pub fn start(alloc: Global, program: &[u8], query: &[u8]) -> Result<Started, Ref
     ensures started { IfOk result (IsStarted program.now query.now) }
     ensures refused { IfErr result (λ refusal. IsOutOfMemory refusal ⊎ IsStartRefusal program.now query.now refusal) }
 
-    // Texts of a program and a query that are accepted start these alone, and are not refused.
+    // Texts of a program and a query that are accepted start these alone, and are not refused; others are refused in one way.
     ensures only { (started : Started) → IsStarted program.now query.now started → MatchResult result (λ s. s ≡ started) IsOutOfMemory }
+    ensures only_refusal { (refusal : Refusal) → IsStartRefusal program.now query.now refusal → IsErrAnd result (λ r. (r ≡ refusal) ⊎ IsOutOfMemory r) }
 {
     let written = match read_program(alloc, program) {
         Ok(written) => written,

@@ -1,6 +1,6 @@
-use Rattle.std.proofs.Common.{◌⊎◌, sym, subst, inl, inr, refl}
+use Rattle.std.proofs.Common.{◌≡◌, ◌⊎◌, sym, subst, inl, inr, refl}
 use Rattle.ghcdb.specs.Start.{IsStartRefusal, IsOutOfMemory, of_program, of_query}
-use Rattle.ghcdb.proofs.Starting.{told, started_alone, never_told}
+use Rattle.ghcdb.proofs.Starting.{told, started_alone, never_told, program_alone, query_alone, judged_alone, none_refused}
 use Rattle.ghcdb.proofs.start.start.Goals as goal
 
 pub returns-in-Err-clause-refused : goal.returns-in-Err-clause-refused
@@ -36,3 +36,19 @@ returns-in-Err-judge-clause-only c = λ s h.
     subst IsOutOfMemory (sym c.refusal_of.ensures)
     (never_told c.args.program.now c.args.query.now s h c.in-Ok.written c.in-Ok-read_query.query c.in-Err-judge.refused
     (c.in-Ok.ensures.only h.written h.reads_program) (c.in-Ok-read_query.ensures.only s.query h.reads_query) c.in-Err-judge.ensures.refused)
+
+pub returns-in-Err-clause-only_refusal : goal.returns-in-Err-clause-only_refusal
+returns-in-Err-clause-only_refusal c = λ r h. program_alone c.args.program.now c.args.query.now c.in-Err.fault c.in-Err.ensures.only c.in-Err.ensures.only_fault r h
+
+pub returns-in-Err-read_query-clause-only_refusal : goal.returns-in-Err-read_query-clause-only_refusal
+returns-in-Err-read_query-clause-only_refusal c = λ r h.
+    query_alone c.args.program.now c.args.query.now c.in-Ok.ensures.only_fault c.in-Err-read_query.fault c.in-Err-read_query.ensures.only c.in-Err-read_query.ensures.only_fault r h
+
+pub returns-in-Ok-judge-clause-only_refusal : goal.returns-in-Ok-judge-clause-only_refusal
+returns-in-Ok-judge-clause-only_refusal c = λ r h.
+    absurd (none_refused c.args.program.now c.args.query.now c.in-Ok.ensures.only_fault c.in-Ok-read_query.ensures.only_fault c.in-Ok.written c.in-Ok-read_query.query c.in-Ok.ensures.only c.in-Ok-read_query.ensures.only c.in-Ok-judge.program c.in-Ok-judge.ensures.accepted r h)
+
+pub returns-in-Err-judge-clause-only_refusal : goal.returns-in-Err-judge-clause-only_refusal
+returns-in-Err-judge-clause-only_refusal c = λ r h.
+    subst (λ s. (s ≡ r) ⊎ IsOutOfMemory s) (sym c.refusal_of.ensures)
+    (judged_alone c.args.program.now c.args.query.now c.in-Ok.ensures.only_fault c.in-Ok-read_query.ensures.only_fault c.in-Ok.written c.in-Ok-read_query.query c.in-Ok.ensures.only c.in-Ok-read_query.ensures.only c.in-Err-judge.refused c.in-Err-judge.ensures.refused r h)
