@@ -2,10 +2,11 @@
 use Rattle.std.specs.Prelude.{◌≡◌, ℕ, ◌+◌, List, take, Option, MatchResult, Result, if◌then◌else◌, is_ok}
 use Rattle.std.specs.Io.KnownBytes.{Appends}
 
--- What a device tells: the bytes to come and the bytes written, where they are known, and how many calls have failed.
-pub record DeviceValue : Type 0 where
+-- What a buffered device tells: the bytes to come and the bytes written, where they are known; those of them that it still holds back; and how many calls have failed.
+pub record LinesValue : Type 0 where
   pub unread : Option (List ℕ)
   pub written : Option (List ℕ)
+  pub held : List ℕ
   pub failures : ℕ
 
 -- A call that fails is counted once, and no other is.

@@ -1,5 +1,5 @@
 // What a session reads from and writes to.
-ghost use Rattle.std.specs.Prelude.{ℕ, ◌<◌, List, Option, length, IfOk};
+ghost use Rattle.std.specs.Prelude.{◌≡◌, ℕ, ◌<◌, List, [], Option, length, IfOk, OnOk};
 ghost use Rattle.std.specs.Io.{ReadsAtMost, WritesAtMost};
 ghost use Rattle.std.specs.Io.KnownBytes.{Appends, Keeps, ReadConsumes, WriteAppends};
 ghost use Rattle.ghc_console.specs.Device.{Counts, WritesFront};
@@ -16,13 +16,18 @@ pub trait Device {
     /// The bytes that were written, where they are known.
     ghost written: { Self → Option (List ℕ) };
 
+    /// Those of the bytes written that it still holds back.
+    ghost held: { Self → List ℕ };
+
     /// How many calls have failed.
     ghost failures: { Self → ℕ };
 
-    /// Gives some of the bytes that are left, and none only at their end. A failed call takes no byte.
+    /// Hands on what it holds back, and gives some of the bytes that are left, and none only at their end. A failed call takes
+    /// no byte.
     fn read(&mut self, buf: &mut [u8]) -> Result<usize, Broken>
         ensures bound { ReadsAtMost result buf.new }
         ensures bytes { ReadConsumes (unread self.old) (unread self.new) result buf.new }
+        ensures held { OnOk result (held self.new ≡ []) }
         ensures written { Keeps (written self.old) (written self.new) }
         ensures count { Counts (failures self.old) (failures self.new) result };
 

@@ -1,31 +1,34 @@
 // A device over any reader and writer.
-ghost use Rattle.std.specs.Prelude.{◌≡◌, ◌<◌, length, IfOk, ◌+◌};
+ghost use Rattle.std.specs.Prelude.{◌≡◌, ◌<◌, [], length, IfOk, OnOk, ◌+◌};
 ghost use Rattle.std.specs.Io.{ReadsAtMost, WritesAtMost};
+ghost use Rattle.std.specs.Io.Buffered.{writer_buffer, writer_contents};
 ghost use Rattle.std.specs.Io.KnownBytes.{Keeps, ReadConsumes, WriteAppends};
 ghost use Rattle.ghc_console.specs.Device.{Counts};
 
 use crate::device::{Broken, Device};
 use crate::tally::Tally;
-use std::io::{ErrorKind, Read, Write};
+use std::io::{BufWriter, ErrorKind, Read, Write};
 use std::marker::Model;
 use std::sync::ledger::{Blank, Ledger};
 
-/// A device over a reader and a writer. The writer is flushed before each read.
+/// A device over a reader and a writer, with a buffer for what is written. The buffer is emptied before each read.
 #[derive(Drop)]
-pub struct Lines<R: Read, W: Write, L: Ledger> {
+pub struct Lines<R: Read, W: Write + Drop, L: Ledger> {
     reader: R,
-    writer: W,
+    writer: BufWriter<W>,
     failed: Tally<L>,
 }
 
-impl<R: Read, W: Write, L: Ledger> Model for Lines<R, W, L> {
-    ghost use Rattle.ghc_console.specs.Device.{DeviceValue};
+impl<R: Read, W: Write + Drop, L: Ledger> Model for Lines<R, W, L> {
+    ghost use Rattle.std.specs.Io.Buffered.{writer_buffer, writer_contents};
+    ghost use Rattle.ghc_console.specs.Device.{LinesValue};
 
-    ghost Value = { DeviceValue };
+    ghost Value = { LinesValue };
 
     ghost view = { λ d. record {
       unread = R.remaining d.reader;
-      written = W.contents d.writer;
+      written = writer_contents W.contents d.writer;
+      held = writer_buffer d.writer;
       failures = d.failed;
     } };
 }
@@ -72,11 +75,22 @@ fn write_some<W: Write>(writer: &mut W, bytes: &[u8]) -> Result<usize, Broken>
     Err(Broken)
 }
 
-impl<R: Read, W: Write, L: Ledger> Lines<R, W, L> {
+// Empties the buffer into the writer behind it. It has failed where something is left.
+fn hand_on<W: Write + Drop>(writer: &mut BufWriter<W>) -> Result<(), Broken>
+    ensures held { OnOk result (writer_buffer writer.new ≡ []) }
+    ensures bytes { Keeps (writer_contents W.contents writer.old) (writer_contents W.contents writer.new) }
+{
+    match writer.flush() {
+        Ok(()) if writer.buffer().is_empty() => Ok(()),
+        _ => Err(Broken),
+    }
+}
+
+impl<R: Read, W: Write + Drop, L: Ledger> Lines<R, W, L> {
     /// A device over these two, with no failure yet.
-    pub fn new(reader: R, writer: W, blank: Blank) -> Lines<R, W, L>
+    pub fn new(reader: R, writer: BufWriter<W>, blank: Blank) -> Lines<R, W, L>
         requires blank { (blank.name ≡ L.name) × (blank.parts ≡ L.parts) × (0 < L.parts) }
-        ensures { result ≡ record { unread = R.remaining reader; written = W.contents writer; failures = 0 } }
+        ensures { result ≡ record { unread = R.remaining reader; written = writer_contents W.contents writer; held = writer_buffer writer; failures = 0 } }
     {
         Lines {
             reader,
@@ -85,28 +99,31 @@ impl<R: Read, W: Write, L: Ledger> Lines<R, W, L> {
         }
     }
 
-    /// Hands on what the writer holds back. A failure is counted.
+    /// Hands on what the buffer holds. A failure is counted.
     pub fn flush(&mut self) -> Result<(), Broken>
+        ensures held { OnOk result (self.new.held ≡ []) }
         ensures unread { self.new.unread ≡ self.old.unread }
         ensures written { Keeps self.old.written self.new.written }
         ensures count { Counts self.old.failures self.new.failures result }
     {
-        match self.writer.flush() {
+        match hand_on(&mut self.writer) {
             Ok(()) => Ok(()),
-            Err(_) => Err(self.failed.fail()),
+            Err(Broken) => Err(self.failed.fail()),
         }
     }
 }
 
-impl<R: Read, W: Write, L: Ledger> Device for Lines<R, W, L> {
+impl<R: Read, W: Write + Drop, L: Ledger> Device for Lines<R, W, L> {
     ghost unread = { λ d. d.unread };
 
     ghost written = { λ d. d.written };
 
+    ghost held = { λ d. d.held };
+
     ghost failures = { λ d. d.failures };
 
     fn read(&mut self, buf: &mut [u8]) -> Result<usize, Broken> {
-        if self.writer.flush().is_err() {
+        if hand_on(&mut self.writer).is_err() {
             return Err(self.failed.fail());
         }
         match read_some(&mut self.reader, buf) {

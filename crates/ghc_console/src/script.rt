@@ -1,5 +1,5 @@
 // A device over memory, for tests.
-ghost use Rattle.std.specs.Prelude.{◌≡◌, ℕ, ◌+◌, ◌<◌, ◌≤◌, min, [], List, length, take, drop, ◌++◌, Ok, IfOk, Some, vec_len};
+ghost use Rattle.std.specs.Prelude.{◌≡◌, ℕ, ◌+◌, ◌<◌, ◌≤◌, true, false, not, min, [], List, length, take, drop, ◌++◌, Ok, IfOk, is_ok, Some, vec_len};
 ghost use Rattle.std.specs.Io.{StopsAt, ReadsAtMost, WritesAtMost};
 ghost use Rattle.std.specs.Io.KnownBytes.{Keeps, ReadConsumes, WriteAppends};
 ghost use Rattle.ghc_console.specs.Device.{Counts};
@@ -113,15 +113,26 @@ impl<L: Ledger> Script<L> {
 }
 
 impl<L: Ledger> Device for Script<L> {
-    ghost use Rattle.std.specs.Prelude.{Some};
+    ghost use Rattle.std.specs.Prelude.{Some, []};
 
     ghost unread = { λ s. Some s.unread };
 
     ghost written = { λ s. Some s.written };
 
+    ghost held = { λ s. [] };
+
     ghost failures = { λ s. s.failures };
 
-    fn read(&mut self, buf: &mut [u8]) -> Result<usize, Broken> {
+    /// As `Device` has it; it fails exactly where its turn has come, and gives no byte behind a line feed.
+    fn read(&mut self, buf: &mut [u8]) -> Result<usize, Broken>
+        ensures bound { ReadsAtMost result buf.new }
+        ensures bytes { ReadConsumes (Some self.old.unread) (Some self.new.unread) result buf.new }
+        ensures written { Keeps (Some self.old.written) (Some self.new.written) }
+        ensures count { Counts self.old.failures self.new.failures result }
+        ensures due { is_ok result ≡ not (fails_next self.old.fails_after) }
+        ensures counted { self.new.fails_after ≡ after_call self.old.fails_after }
+        ensures stops { IfOk result (λ n. StopsAt (take n buf.new) 10) }
+    {
         if self.is_due() {
             return Err(self.failed.fail());
         }
@@ -130,7 +141,17 @@ impl<L: Ledger> Device for Script<L> {
         Ok(n)
     }
 
-    fn write(&mut self, bytes: &[u8]) -> Result<usize, Broken> {
+    /// As `Device` has it; it takes all, or fails, which it does where its turn has come, or no memory is left.
+    fn write(&mut self, bytes: &[u8]) -> Result<usize, Broken>
+        ensures bound { WritesAtMost result bytes.now }
+        ensures some { 0 < length bytes.now → IfOk result (λ n. 0 < n) }
+        ensures bytes { WriteAppends (Some self.old.written) (Some self.new.written) result bytes.now }
+        ensures unread { Keeps (Some self.old.unread) (Some self.new.unread) }
+        ensures count { Counts self.old.failures self.new.failures result }
+        ensures due { fails_next self.old.fails_after ≡ true → is_ok result ≡ false }
+        ensures counted { self.new.fails_after ≡ after_call self.old.fails_after }
+        ensures all { IfOk result (λ n. n ≡ length bytes.now) }
+    {
         if self.is_due() || self.output.extend_from_slice(bytes).is_err() {
             return Err(self.failed.fail());
         }

@@ -13,6 +13,7 @@ use ghc_flat::judge;
 use ghc_reader::{read_program, read_query};
 use ghc_term::Fault;
 use std::alloc::{AllocError, Global};
+use std::io::BufWriter;
 use std::marker::Brand;
 use std::sync::Wait;
 use std::sync::ledger::{Blank, Ledger};
@@ -93,7 +94,10 @@ fn hear_whole_with<L: Ledger, R: Wait>(
 ) -> Result<Heard, AllocError>
     requires blank { (blank.name ≡ L.name) × (blank.parts ≡ L.parts) × (0 < L.parts) }
 {
-    let mut device: Lines<&[u8], Vec<u8>, L> = Lines::new(INPUT.as_bytes(), Vec::new(alloc), blank);
+    let Ok(writer) = BufWriter::new(alloc, Vec::new(alloc)) else {
+        return Err(AllocError);
+    };
+    let mut device: Lines<&[u8], Vec<u8>, L> = Lines::new(INPUT.as_bytes(), writer, blank);
     let mut heard = listen(rt, alloc, &mut device)?;
     heard.failed = heard.failed || device.flush().is_err();
     Ok(heard)
@@ -241,52 +245,66 @@ fn core_of(alloc: Global, query: &str) -> Result<Core, Fault> {
     }
 }
 
-fn replied_with<L: Ledger, R: Wait>(
+// What a session wrote, how many steps its core has at the end, and whether it ended with `Device`.
+#[derive(Drop)]
+struct Served {
+    text: Vec<u8>,
+    steps: usize,
+    failed: bool,
+}
+
+fn serve_with<L: Ledger, R: Wait>(
     rt: &R,
     alloc: Global,
     core: Core,
     fails_after: Option<u64>,
     blank: Blank,
-) -> Result<Heard, AllocError>
+) -> Result<Served, AllocError>
     requires blank { (blank.name ≡ L.name) × (blank.parts ≡ L.parts) × (0 < L.parts) }
 {
     let input = Vec::from_slice(alloc, b"step 0.1\nshow X\n".as_slice())?;
     let mut script: Script<L> = Script::new(alloc, input, fails_after, blank);
-    let (_, ended) = session(rt, alloc, core, &mut script);
+    let (core, ended) = session(rt, alloc, core, &mut script);
     let text = Vec::from_slice(alloc, script.output())?;
+    let steps = core.records().len();
     let failed = match ended {
         Err(Fault::Device) => true,
         _ => false,
     };
-    Ok(Heard { text, failed })
+    Ok(Served {
+        text,
+        steps,
+        failed,
+    })
 }
 
-// What a session of two commands writes, and whether it ended with `Device`.
-fn replied<R: Wait>(
+// A session of two commands.
+fn serve<R: Wait>(
     rt: &R,
     alloc: Global,
     core: Core,
     fails_after: Option<u64>,
-) -> Result<Heard, AllocError> {
-    replied_with::<Brand, R>(rt, alloc, core, fails_after, Blank::new(1))
+) -> Result<Served, AllocError> {
+    serve_with::<Brand, R>(rt, alloc, core, fails_after, Blank::new(1))
 }
 
-// Three reads and two writes are made. Each fails in turn, and then none.
+// Three reads and two writes are made. Each fails in turn, and then none. A step whose reply is not written was taken.
 #[test]
 fn sessions_are_served(rt: HostRuntime) -> Result<(), Fail> {
     let told = [
-        "",
-        "",
-        "REDU 1 0.1 eq\n",
-        "REDU 1 0.1 eq\n",
-        "REDU 1 0.1 eq\nX = 1\n",
-        "REDU 1 0.1 eq\nX = 1\n",
+        ("", 0),
+        ("", 1),
+        ("REDU 1 0.1 eq\n", 1),
+        ("REDU 1 0.1 eq\n", 1),
+        ("REDU 1 0.1 eq\nX = 1\n", 1),
+        ("REDU 1 0.1 eq\nX = 1\n", 1),
     ];
-    for (n, text) in told.iter().enumerate() {
+    for (n, (text, steps)) in told.iter().enumerate() {
         let core = core_of(rt.alloc(), "X = 1")?;
-        let heard = replied(&rt, rt.alloc(), core, Some(n as u64))?;
-        assert!(rt; heard.failed == (n < 5), "at {n}");
-        assert!(rt; heard.text.as_slice() == text.as_bytes(), "at {n}");
+        let served = serve(&rt, rt.alloc(), core, Some(n as u64))?;
+        assert!(rt; served.failed == (n < 5), "at {n}");
+        assert!(rt; served.steps == *steps, "at {n}");
+        assert!(rt; served.text.as_slice() == text.as_bytes(), "at {n}");
     }
     Ok(())
 }
