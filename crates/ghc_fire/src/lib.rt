@@ -14,6 +14,8 @@ mod laws;
 mod meter;
 mod moves;
 mod proposal;
+#[cfg(test)]
+mod tests;
 
 pub use act::Act;
 pub use attempting::{attempt, finish};

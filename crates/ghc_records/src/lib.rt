@@ -12,6 +12,8 @@ mod shelf;
 mod state;
 mod step;
 mod step_text;
+#[cfg(test)]
+mod tests;
 
 pub use entry::Entry;
 pub use journal::Journal;

@@ -39,7 +39,7 @@ impl Record {
     ghost use Rattle.std.specs.Prelude.{option_copied};
     ghost use Rattle.ghc_records.specs.Journal.{step_of};
 
-    /// The record of the step of this number that consumed a goal.
+    /// The record of the step of this number that consumed a goal. It fails for want of memory alone.
     pub fn new(
         alloc: Global,
         number: u32,

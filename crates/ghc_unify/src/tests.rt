@@ -216,5 +216,9 @@ fn long_lists_take_no_stack(rt: HostRuntime) -> Result<(), Fail> {
     let right = ones(alloc, 100_000, Term::variable(X))?;
     let text = "0 read, 1 bound; _0_1 = 7";
     gives(&rt, alloc, left, right, Store::new(alloc), text)?;
+    let left = ones(alloc, 100_000, Term::integer(7))?;
+    let right = ones(alloc, 100_000, Term::integer(7))?;
+    let text = "0 read, 0 bound";
+    gives(&rt, alloc, left, right, Store::new(alloc), text)?;
     Ok(())
 }
