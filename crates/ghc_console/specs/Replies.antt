@@ -55,14 +55,14 @@ numbers_text numbers = listed (codes ",") (map decimal numbers)
 abbrev pub undone_text : List ℕ → List ℕ
 undone_text numbers = lined (codes "undone " ++ numbers_text numbers)
 
--- Tells reply text: the text tells which steps were undone, or why none was.
-pub data Tells : Reply → List ℕ → Type 0 where
-  tells_steps : {steps text : List ℕ} → text ≡ undone_text steps → Tells (undone steps) text
-  tells_why : {f : Fault} {text : List ℕ} → text ≡ refusal f → Tells (event_refused f) text
+-- IsToldAs reply text: the text tells which steps were undone, or why none was.
+pub data IsToldAs : Reply → List ℕ → Type 0 where
+  tells_steps : {steps text : List ℕ} → text ≡ undone_text steps → IsToldAs (undone steps) text
+  tells_why : {f : Fault} {text : List ℕ} → text ≡ refusal f → IsToldAs (event_refused f) text
 
 -- TakesBack w n text v: the text tells the reply to undoing step n, which leaves the world v.
 abbrev pub TakesBack : World → ℕ → List ℕ → World → Type 0
-TakesBack w n text v = (reply : Reply) × Undoes ⊥ w n reply v × Tells reply text
+TakesBack w n text v = (reply : Reply) × Undoes ⊥ w n reply v × IsToldAs reply text
 
 -- Shows w names word text: the variable that the word names, and the term to which it leads; or the refusal where it names none, or the term is too long.
 pub data Shows (w : World) (names : Names) (word : List ℕ) : List ℕ → Type 0 where
