@@ -1,5 +1,5 @@
 #!/usr/bin/env python3
-"""Runs the rows and tables of tests/rows/ on the proved program, crates/ghcdb/out/ghcdb.
+"""Runs the rows and tables of tests/rows/, and the examples of two pages, on the proved program, crates/ghcdb/out/ghcdb.
 
     python3 tests/run_rows.py [WORD..]     the files whose names hold one of the words; without words, all
 
@@ -49,6 +49,10 @@ A table is a file NAME.table of many small rows on texts that are refused or acc
 tab, the text with its braces, a tab, and the line on standard error, with which the status is 1, or the word `accepted`,
 with which the session begins and, without input, ends with status 0. KIND is `program`, and then the query is `true`, or
 `query`, and then the program is empty. Lines that begin with `#` and empty lines are left out.
+
+The examples of docs/LANGUAGE.md and docs/FORMATS.md are rows too: each block that begins with `program` and `query`, and
+then has a session; one that begins with `continued` goes on with the session of the block before it, and one that begins
+with `after the first run` with that of the page's first.
 """
 
 import os
@@ -66,6 +70,7 @@ PROGRAM = TESTS.parent / "crates" / "ghcdb" / "out" / "ghcdb"
 SECONDS = 60
 TURN_SECONDS = 10
 PROMPT = b"> "
+PAGES = ("LANGUAGE.md", "FORMATS.md")
 
 SINGLE = {"program", "file", "query", "options", "words", "input", "in turns", "session", "output", "errors", "status"}
 LISTED = {"output contains", "errors contain"}
@@ -169,8 +174,54 @@ def table_row(line):
         return error
 
 
+def blocks_of(text):
+    """The blocks of a page between fences: the number of the first line, and the lines."""
+    inside, start = False, 0
+    lines = text.split(b"\n")
+    for number, line in enumerate(lines):
+        if line == b"```":
+            if inside:
+                yield start + 1, lines[start:number]
+            inside, start = not inside, number + 1
+
+
+def program_of(lines):
+    """The text of an example's program: it begins behind `program`, and further lines are set in as far."""
+    texts = [line[9:] for line in lines if not line.startswith(b"query ")]
+    return b"" if texts == [b"(no clause)"] else b"".join(text + b"\n" for text in texts)
+
+
+def example_of(block, before):
+    """The row of an example, where `before` has the rows on which it can go on; none where the block is no example."""
+    head, _, session = b"\n".join(block).partition(b"\n\n")
+    if head in before:
+        told = before[head]
+        return told | {"session": told["session"] + session + b"\n"}
+    lines = head.split(b"\n")
+    if not lines[0].startswith(b"program  ") or not lines[-1].startswith(b"query    "):
+        return None
+    row = {key: [] for key in LISTED}
+    return row | {"program": program_of(lines), "query": lines[-1][9:], "session": session + b"\n"}
+
+
+def read_page(path):
+    """The examples of a page, each with its name."""
+    rows, before = [], {}
+    for number, block in blocks_of(path.read_bytes()):
+        row = example_of(block, before)
+        if row:
+            before[b"continued"] = row
+            before.setdefault(b"after the first run", row)
+            rows.append((f"{path.relative_to(TESTS.parent)}:{number}", dict(row)))
+    for _, row in rows:
+        split_session(row)
+    return rows
+
+
 def rows_of(path):
     """The rows of a file, each with its name, or with what is wrong with it."""
+    if path.suffix == ".md":
+        return read_page(path)
     if path.suffix == ".table":
         return read_table(path)
     try:
@@ -299,6 +350,7 @@ def judge(row):
 
 def main():
     paths = sorted(path for path in (TESTS / "rows").rglob("*") if path.suffix in (".row", ".table"))
+    paths += [TESTS.parent / "docs" / page for page in PAGES]
     if sys.argv[1:]:
         paths = [path for path in paths if any(word in path.stem for word in sys.argv[1:])]
     if not PROGRAM.is_file():
