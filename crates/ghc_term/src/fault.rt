@@ -20,7 +20,7 @@ pub enum Fault {
     Repeated { clause: u32, variable: Name },
     /// A call of a predicate that has no clause.
     Undefined { name: Name, arity: u32 },
-    /// Something is too large, or not built yet.
+    /// Something is too large.
     Limit(Limit),
     /// No goal has this name.
     NoGoal,
