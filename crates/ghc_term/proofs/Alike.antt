@@ -6,13 +6,13 @@ use Rattle.std.specs.Str.{bytes_eq}
 use Rattle.std.proofs.lemmas.Slice.Eq.{bytes_eq-Decides}
 use Rattle.std.proofs.lemmas.List.{drop_all}
 use Rattle.ghc_term.specs.declared.equality.Pair.{Pair}
-use Rattle.ghc_term.specs.declared.equality.Pair.TheVariants.{Terms, Exprs}
+use Rattle.ghc_term.specs.declared.equality.Pair.TheVariants.{Terms}
 use Rattle.ghc_term.specs.declared.view.TermView.{TermView}
 use Rattle.ghc_term.specs.declared.view.TermView.TheVariants.{Var, Int, Atom, Struct}
-use Rattle.ghc_term.specs.Tree.{Tree, node, none, more, trees, list_of, atom}
+use Rattle.ghc_term.specs.Tree.{Tree, node, none, trees, list_of, atom}
 use Rattle.ghc_term.specs.Shown.{shown, HasArgument}
 use Rattle.ghc_term.proofs.Goals.{list_of-trees}
-use Rattle.ghc_term.specs.InputTerm.{nodes, nodes_of_all}
+use Rattle.ghc_term.specs.InputTerm.{nodes_of_all}
 use Rattle.ghc_term.specs.Equality.{IsAlike, AreAlike, left_nodes, all_left_nodes, Adds, Compared}
 
 alike_join : (ps qs : List Pair) → AreAlike ps → AreAlike qs → AreAlike (ps ++ qs)

@@ -4,7 +4,6 @@ use Rattle.std.specs.Prelude.{Option, Some, None}
 use Rattle.std.proofs.lemmas.List.{take_more, take-append-drop}
 use Rattle.ghc_term.specs.Tree.{Tree, node, trees}
 use Rattle.ghc_term.specs.View.{height, height_of_all}
-use Rattle.ghc_term.proofs.Trees.{height_front}
 use Rattle.ghc_term.specs.InputTerm.{IsHead, IsInGrammar, AllInGrammar, nodes, nodes_of_all, deepest}
 use Rattle.ghc_term.specs.Measure.{HasRoom, Leaves, Enters, MeasuredAt, MeasuredAll, bytes_at, nesting_at, bytes_of_all, own_bytes, own_nesting}
 use Rattle.ghc_term.specs.declared.measure.Room.{Room}

@@ -1,3 +1,7 @@
+pub mod ListsLemmas
+pub mod SetsLemmas
+pub mod MapsLemmas
+pub mod Decided
 pub mod Trees
 pub mod Names
 pub mod Chains
@@ -21,5 +25,4 @@ pub mod Written
 pub mod Collections
 pub mod Sets
 pub mod Alike
-pub mod Full
 pub mod Members

@@ -1,11 +1,12 @@
 -- The order of names.
-use Rattle.std.proofs.Common.{◌≡◌, refl, sym}
+use Rattle.std.proofs.Common.{◌≡◌, ◌≢◌, true, false, refl, sym}
 use Rattle.std.specs.declared.cmp.Ordering.{Ordering}
 use Rattle.std.specs.declared.cmp.Ordering.TheVariants.{Less, Equal, Greater}
-use Rattle.std.specs.Ordering.{nat_cmp, ordering_then}
-use Rattle.std.specs.Cmp.{IsTotalOrder, ranked, nat_cmp_total}
+use Rattle.std.specs.Ordering.{nat_cmp, ordering_then, eq_by_cmp}
+use Rattle.std.specs.Cmp.{IsTotalOrder, ranked, nat_cmp_total, eq_by_cmp_equiv}
 use Rattle.std.specs.FinMap.{IsAntisymmetric}
 use Rattle.std.proofs.lemmas.Cmp.{then_total, on_total}
+use Rattle.std.proofs.lemmas.Map.Views.{tells_apart}
 use Rattle.ghc_term.specs.declared.var_name.VarName.{VarName}
 use Rattle.ghc_term.specs.Code.{var_inj}
 use Rattle.ghc_term.specs.Bindings.{name_cmp}
@@ -20,3 +21,17 @@ both Greater b e = cc
 
 pub name_antisymmetric : IsAntisymmetric name_cmp
 name_antisymmetric x y e = let p = both (nat_cmp x.step y.step) (nat_cmp x.place y.place) e in var_inj x y (ranked x.step y.step Equal (sym p.0)) (ranked x.place y.place Equal (sym p.1))
+
+-- the test of names tells whether they are one
+pub same_name : (x y : VarName) → eq_by_cmp name_cmp x y ≡ true → x ≡ y
+same_name = tells_apart name_antisymmetric
+
+pub itself : (x : VarName) → eq_by_cmp name_cmp x x ≡ true
+itself = (eq_by_cmp_equiv name_total).refl
+
+pub apart : (x y : VarName) → x ≢ y → eq_by_cmp name_cmp x y ≡ false
+apart x y n =
+    elim (eq_by_cmp name_cmp x y) as (λ b. eq_by_cmp name_cmp x y ≡ b → b ≡ false) [
+      | true ↦ λ e. absurd (n (same_name x y e))
+      | false ↦ λ e. refl
+    ] refl

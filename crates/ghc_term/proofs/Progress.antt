@@ -13,7 +13,8 @@ use Rattle.ghc_term.specs.Bindings.{Reaches, here, through}
 use Rattle.ghc_term.specs.Search.{IsBound, Covers, Searched}
 use Rattle.ghc_term.proofs.Entries.{same}
 use Rattle.ghc_term.proofs.Total.{removed_apart, fewer, none_bound}
-use Rattle.ghc_term.proofs.Searches.{In_append, In_either, in_at, same_itself}
+use Rattle.ghc_term.proofs.ListsLemmas.{in_left, in_either, in_get}
+use Rattle.ghc_term.proofs.Searches.{same_itself}
 
 module _ {S : VarName → Option Tree} where
   -- what the value of a reached variable reaches is reached
@@ -29,7 +30,7 @@ pub record Progress (S : VarName → Option Tree) (to : VarName) (from : Tree) (
 
 module _ (S : VarName → Option Tree) (to : VarName) where
   covers_more : (P : VarName → Type 0) (old added new : List VarName) → new ≡ old ++ added → Covers S to old P → Covers S to new P
-  covers_more P old added new e c = record { absent = c.absent; held = λ y p b. subst (λ l. In y l) (sym e) (In_append old added y (c.held y p b)) }
+  covers_more P old added new e c = record { absent = c.absent; held = λ y p b. subst (λ l. In y l) (sym e) (in_left old added y (c.held y p b)) }
 
   pub begin : (from : Tree) (seen : List VarName) → Searched S to (λ y. Occurs y from) [] seen false → Progress S to from seen 0
   begin from seen s = record {
@@ -45,7 +46,7 @@ module _ (S : VarName → Option Tree) (to : VarName) where
       ap (take (next + 1)) s.adds ∙ take-append-le (next + 1) old s.added (omega arith) ∙ take_more old next d h ∙ ap (λ v. take next old ++ v ∷ []) (sym is) in
       record {
         first = covers_more (λ y. Occurs y from) old s.added new s.adds p.first;
-        done = λ y i v e. elim (In_either (take next old) (x ∷ []) y (subst (λ l. In y l) taken i)) [
+        done = λ y i v e. elim (in_either (take next old) (x ∷ []) y (subst (λ l. In y l) taken i)) [
           | inl j ↦ covers_more (λ z. Occurs z v) old s.added new s.adds (p.done y j v e)
           | inr k ↦ elim k [
             | inl same_x ↦
@@ -54,9 +55,9 @@ module _ (S : VarName → Option Tree) (to : VarName) where
             | inr n ↦ absurd n
           ]
         ];
-        reached = λ y i. elim (In_either old s.added y (subst (λ l. In y l) s.adds i)) [
+        reached = λ y i. elim (in_either old s.added y (subst (λ l. In y l) s.adds i)) [
           | inl j ↦ p.reached y j
-          | inr j ↦ (reaches_on (p.reached x (in_at old next x d h is)).0 bound (here (s.held y j).0), (s.held y j).1)
+          | inr j ↦ (reaches_on (p.reached x (subst (λ z. In z old) (sym is) (in_get old next d h))).0 bound (here (s.held y j).0), (s.held y j).1)
         ];
       }
 
@@ -68,7 +69,7 @@ module _ (S : VarName → Option Tree) (to : VarName) where
 -- the variable that is taken up next is reached and bound
 pub taken_up : (S : VarName → Option Tree) (to : VarName) (from : Tree) (seen slice : List VarName) (next : ℕ) (d : VarName) → Progress S to from seen next → next < length seen → slice ≡ seen
     → Reaches S from (get_or slice next d) × IsBound S (get_or slice next d)
-taken_up S to from seen slice next d p h e = p.reached (get_or slice next d) (in_at seen next (get_or slice next d) d h (ap (λ l. get_or l next d) e))
+taken_up S to from seen slice next d p h e = p.reached (get_or slice next d) (subst (λ z. In z seen) (sym (ap (λ l. get_or l next d) e)) (in_get seen next d h))
 
 apart_from : (k : VarName) (ks : List VarName) → AllByRecursion (λ y. same k y ≡ false) ks → (x : VarName) → In x ks → x ≢ k
 apart_from k [] a x i = absurd i

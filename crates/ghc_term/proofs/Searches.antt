@@ -1,43 +1,25 @@
 -- Searches of trees.
-use Rattle.std.proofs.Common.{◌≡◌, ◌≢◌, ℕ, zero, suc, ◌+◌, ◌<◌, ◌≤◌, Bool, true, false, cond, ◌||◌, List, [], ◌∷◌, ◌++◌, length, get_or, take, refl, sym, ap, ◌∙◌, subst, inl, inr, ◌⊎◌, arith, append_assoc, append-nil}
+use Rattle.std.proofs.Common.{◌≡◌, ◌≢◌, ℕ, ◌+◌, ◌<◌, Bool, true, false, cond, List, [], ◌∷◌, ◌++◌, length, get_or, take, refl, sym, ap, ◌∙◌, subst, inl, inr, ◌⊎◌, append_assoc, append-nil}
 use Rattle.std.specs.Prelude.{Option, Some}
-use Rattle.std.proofs.lemmas.Bool.Decides.{nat_tests}
 use Rattle.std.proofs.lemmas.List.{take_more}
 use Rattle.std.specs.List.{list_any}
 use Rattle.indexmap.specs.IndexSet.{insert_key}
 use Rattle.ghc_term.specs.declared.var_name.VarName.{VarName}
 use Rattle.ghc_term.specs.Tree.{Tree, variable, trees, Occurs, OccursIn}
-use Rattle.ghc_term.specs.View.{height, height_of_all}
 use Rattle.ghc_term.specs.Lists.{In}
 use Rattle.ghc_term.specs.Search.{Searched}
 use Rattle.ghc_term.proofs.Trees.{OccursIn_push, OccursIn_left, OccursIn_right}
 use Rattle.ghc_term.proofs.Entries.{same, same_is}
-use Rattle.ghc_term.proofs.Total.{same_name}
-
-pub In_append : (xs ys : List VarName) (y : VarName) → In y xs → In y (xs ++ ys)
-In_append [] ys y h = absurd h
-In_append (x ∷ xs) ys y (inl e) = inl e
-In_append (x ∷ xs) ys y (inr h) = inr (In_append xs ys y h)
-
-pub In_append_right : (xs ys : List VarName) (y : VarName) → In y ys → In y (xs ++ ys)
-In_append_right [] ys y h = h
-In_append_right (x ∷ xs) ys y h = inr (In_append_right xs ys y h)
-
-pub In_either : (xs ys : List VarName) (y : VarName) → In y (xs ++ ys) → In y xs ⊎ In y ys
-In_either [] ys y h = inr h
-In_either (x ∷ xs) ys y (inl e) = inl (inl e)
-In_either (x ∷ xs) ys y (inr h) = elim (In_either xs ys y h) [ inl i ↦ inl (inr i) | inr j ↦ inr j ]
+use Rattle.ghc_term.proofs.Names.{itself}
+use Rattle.ghc_term.proofs.SetsLemmas.{any_in, any_same}
+use Rattle.ghc_term.proofs.ListsLemmas.{in_left, in_right, in_either}
+pub use Rattle.ghc_term.proofs.ListsLemmas.{in_left as In_append, in_right as In_append_right, in_either as In_either}
 
 pub same_itself : (x : VarName) → same x x ≡ true
-same_itself x = grind (arith, nat_tests)
+same_itself x = same_is x x ∙ itself x
 
 pub In_any : (x : VarName) (ks : List VarName) → list_any (same x) ks ≡ true → In x ks
-In_any x [] e = cc
-In_any x (k ∷ ks) e =
-    elim (same x k) as (λ b. same x k ≡ b → (b || list_any (same x) ks) ≡ true → In x (k ∷ ks)) [
-      | true ↦ λ p _. inl (same_name x k (sym (same_is x k) ∙ p))
-      | false ↦ λ p q. inr (In_any x ks q)
-    ] refl e
+In_any x ks e = any_in x ks (sym (any_same x ks) ∙ e)
 
 module _ (S : VarName → Option Tree) (to : VarName) where
   -- nothing is there to be searched
@@ -61,13 +43,13 @@ module _ (S : VarName → Option Tree) (to : VarName) where
         record {
           absent = λ r. elim (split to r) [ inl x ↦ first.absent x | inr y ↦ next.absent y ];
           held = λ y r bound. elim (split y r) [
-            | inl x ↦ subst (λ l. In y l) (sym q.adds) (In_append mid q.added y (first.held y x bound))
+            | inl x ↦ subst (λ l. In y l) (sym q.adds) (in_left mid q.added y (first.held y x bound))
             | inr z ↦ next.held y z bound
           ];
         };
     added = p.added ++ q.added;
     adds = q.adds ∙ ap (λ l. l ++ q.added) p.adds ∙ append_assoc old p.added q.added;
-    held = λ y i. elim (In_either p.added q.added y i) [
+    held = λ y i. elim (in_either p.added q.added y i) [
       | inl j ↦ (left y (p.held y j).0, (p.held y j).1)
       | inr j ↦ (right y (q.held y j).0, (q.held y j).1)
     ];
@@ -98,7 +80,7 @@ module _ (S : VarName → Option Tree) (to : VarName) where
         }
         | false ↦ λ any. record {
           hit = λ e. cc;
-          miss = λ _. record { absent = other; held = λ y e _. In_append_right ks (x ∷ []) y (inl e) };
+          miss = λ _. record { absent = other; held = λ y e _. in_right ks (x ∷ []) y (inl e) };
           added = x ∷ [];
           adds = refl;
           held = λ y i. elim i [ inl e ↦ (e, (u, ap S e ∙ bound)) | inr n ↦ absurd n ];
@@ -124,11 +106,6 @@ module _ (S : VarName → Option Tree) (to : VarName) where
       let more : take (i + 1) ts ≡ take i ts ++ t ∷ [] = take_more ts i t h ∙ ap (λ u. take i ts ++ u ∷ []) (sym e) in
       subst (λ l. Searched S to (λ y. OccursIn y (trees l)) old new b) (sym more)
       (search_more S to (λ y. OccursIn y (trees (take i ts))) (λ y. Occurs y t) (λ y. OccursIn y (trees (take i ts ++ t ∷ []))) old mid new b p q (OccursIn_push (take i ts) t) (OccursIn_left (take i ts) t) (OccursIn_right (take i ts) t))
-
-pub in_at : (ks : List VarName) (i : ℕ) (x d : VarName) → i < length ks → x ≡ get_or ks i d → In x ks
-in_at [] i x d h e = absurd (omega arith)
-in_at (k ∷ ks) zero x d h e = inl e
-in_at (k ∷ ks) (suc i) x d h e = inr (in_at ks i x d (omega arith) e)
 
 -- a search of a node, by its front arguments and its last one
 module _ (S : VarName → Option Tree) (to : VarName) where

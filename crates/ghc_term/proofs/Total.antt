@@ -1,9 +1,7 @@
 -- Where the store is acyclic each term has a chain, which is no longer than the store allows.
 use Rattle.std.proofs.Common.{◌≡◌, ◌≢◌, ℕ, zero, suc, ◌+◌, ◌-◌, ◌<◌, ◌≤◌, true, false, cond, List, [], ◌∷◌, length, refl, sym, ap, ◌∙◌, subst, arith}
 use Rattle.std.specs.Prelude.{Option, Some, None, is_some}
-use Rattle.std.specs.Ordering.{eq_by_cmp, is_eq}
-use Rattle.std.specs.declared.cmp.Ordering.{Ordering}
-use Rattle.std.specs.declared.cmp.Ordering.TheVariants.{Less, Equal, Greater}
+use Rattle.std.specs.Ordering.{eq_by_cmp}
 use Rattle.std.specs.FinMap as finite
 use Rattle.ghc_term.specs.declared.var_name.VarName.{VarName}
 use Rattle.ghc_term.specs.Tree.{Tree, variable, integer, node}
@@ -11,23 +9,9 @@ use Rattle.ghc_term.specs.Store.{StoreValue, value_at}
 use Rattle.ghc_term.specs.Bindings.{name_cmp}
 use Rattle.ghc_term.specs.Lists.{In}
 use Rattle.ghc_term.specs.Bindings.{Leads, at_integer, at_node, at_free, along, IsAcyclic}
-use Rattle.ghc_term.proofs.Names.{name_total, name_antisymmetric}
+use Rattle.ghc_term.proofs.Names.{name_total}
 use Rattle.ghc_term.proofs.Chains.{leads_once, leads_reaches, leads_agree, reaches_more}
-
-tied : (r : Ordering) → is_eq r ≡ true → r ≡ Equal
-tied Less e = cc
-tied Equal e = refl
-tied Greater e = cc
-
-pub same_name : (x y : VarName) → eq_by_cmp name_cmp x y ≡ true → x ≡ y
-same_name x y e = name_antisymmetric x y (tied (name_cmp x y) e)
-
-pub apart : (x y : VarName) → x ≢ y → eq_by_cmp name_cmp x y ≡ false
-apart x y n =
-    elim (eq_by_cmp name_cmp x y) as (λ b. eq_by_cmp name_cmp x y ≡ b → b ≡ false) [
-      | true ↦ λ e. absurd (n (same_name x y e))
-      | false ↦ λ e. refl
-    ] refl
+pub use Rattle.ghc_term.proofs.Names.{same_name, apart}
 
 pub removed_apart : (S : StoreValue) (x q : VarName) → q ≢ x → value_at (finite.remove S x) q ≡ value_at S q
 removed_apart S x q n = finite.get-remove name_total S x q ∙ ap (λ b. cond b None (value_at S q)) (apart q x n)

@@ -2,7 +2,7 @@
 use Rattle.ghc_term.specs.declared.goal.Shape.{Shape}
 use Rattle.ghc_term.specs.declared.goal.Shape.TheVariants.{Call, Unify, Assign, Stream}
 use Rattle.std.specs.Prelude.{[]}
-use Rattle.ghc_term.specs.Tree.{Tree, variable, integer, node, list_of, IsValue}
+use Rattle.ghc_term.specs.Tree.{Tree, variable, integer, node, list_of}
 use Rattle.ghc_term.specs.Goal.{Goal, call, unify, assign, stream}
 
 -- the call that is written as this tree, a name over its arguments (other trees are no calls)

@@ -1,7 +1,7 @@
 -- The words for limits.
 use Rattle.std.specs.Prelude.{ℕ, List, codes}
 use Rattle.ghc_term.specs.declared.limit.Limit.{Limit}
-use Rattle.ghc_term.specs.declared.limit.Limit.TheVariants.{Text, Clauses, Arity, Depth, Goals, Variables, Term, Print, Line, Stage, Version}
+use Rattle.ghc_term.specs.declared.limit.Limit.TheVariants.{Text, Clauses, Arity, Depth, Goals, Variables, Term, Print, Line, Version}
 
 -- the word for a limit, as a refusal shows it
 abbrev pub limit_word : Limit → List ℕ
@@ -14,5 +14,4 @@ limit_word Variables = codes "variables"
 limit_word Term = codes "term"
 limit_word Print = codes "print"
 limit_word Line = codes "line"
-limit_word Stage = codes "stage"
 limit_word Version = codes "version"

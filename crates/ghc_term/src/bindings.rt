@@ -9,7 +9,6 @@ use std::alloc::{AllocError, Global};
 use std::marker::Model;
 
 /// Some variables, each with the term to which it is bound as written.
-#[derive(Drop)]
 pub struct Bindings {
     map: IndexMap<VarName, Term>,
 }
@@ -108,6 +107,12 @@ impl Bindings {
             return Ok(false);
         }
         self.is_within(alloc, other)
+    }
+}
+
+impl Drop for Bindings {
+    fn drop(self) {
+        let Bindings { map: _map } = self;
     }
 }
 

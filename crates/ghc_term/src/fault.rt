@@ -4,90 +4,65 @@ ghost use Rattle.std.specs.Prelude.{◌≡◌, ◌++◌, IfOk, is_ok, if◌then�
 use crate::limit::Limit;
 use crate::name::Name;
 use std::alloc::{AllocError, AllocFailed, Global};
-use thiserror::Error;
+use std::error::Error;
+use std::fmt;
 
-/// A refusal. Its number and its text are part of the product; the messages of `Display` are not.
-#[derive(Debug, Drop, Error, PartialEq, Eq)]
+/// A refusal. Its number and its text are part of the product; `Display` writes the number, as `F12`.
+#[derive(Debug, Drop, PartialEq, Eq)]
 pub enum Fault {
     /// A growth found no memory.
-    #[error("no memory is left")]
     Memory,
     /// A text is not of its grammar; both count from 1, the column in bytes.
-    #[error("the syntax is wrong at line {line}, column {column}")]
     Syntax { line: u32, column: u32 },
     /// A guard is no predefined test on the head's variables.
-    #[error("clause {clause} is not flat")]
     NotFlat { clause: u32 },
     /// A variable stands twice in a head.
-    #[error("variable {variable} stands twice in the head of clause {clause}")]
     Repeated { clause: u32, variable: Name },
     /// A call of a predicate that has no clause.
-    #[error("{name}/{arity} has no clause")]
     Undefined { name: Name, arity: u32 },
-    /// Something is too large, or not built yet.
-    #[error("a limit is exceeded")]
+    /// Something is too large.
     Limit(Limit),
     /// No goal has this name.
-    #[error("there is no such goal")]
     NoGoal,
     /// The clause is not one of the goal's predicate.
-    #[error("the goal has no such clause")]
     NoClause,
     /// The goal waits for a binding.
-    #[error("the goal waits")]
     Waits,
     /// No clause can ever be selected for the goal.
-    #[error("no clause matches the goal")]
     NoMatch,
     /// Two terms can not be made equal.
-    #[error("two terms clash")]
     Clash,
     /// A variable would stand in its own value.
-    #[error("a variable would reach itself")]
     Cycle,
     /// An expression has no value.
-    #[error("an expression has no value")]
     Arithmetic,
     /// No open stream has this number.
-    #[error("there is no open stream of this number")]
     NoStream,
     /// The tail of a stream was bound by a goal.
-    #[error("the tail of the stream is bound")]
     TailBound,
     /// The step is not in the record.
-    #[error("the step is not kept")]
     NotKept,
     /// Another kept step depends on the step.
-    #[error("step {step} depends on the step")]
     HasConsequence { step: u32 },
     /// The step is not on the shelf.
-    #[error("the step is not on the shelf")]
     NotShelved,
     /// The step would now have another effect.
-    #[error("the step would have another effect")]
     Changed,
     /// A proposal does not fit the state any more.
-    #[error("the proposal is stale")]
     Stale,
     /// An order of the steps is not lawful. The two are the first step that is not kept or stands
     /// twice, given twice; or the first kept step that is missing, and 0; or the first two steps of
     /// which the earlier in the order depends directly on the later.
-    #[error("the order {earlier}, {later} is not lawful")]
     NotLawful { earlier: u32, later: u32 },
     /// No further step can be kept or numbered.
-    #[error("the record is full")]
     Full,
     /// No variable has this name.
-    #[error("there is no such variable")]
     NoVariable,
     /// A line of a history is wrong, counted from 1.
-    #[error("line {line} of the history is wrong")]
     History { line: u32 },
     /// The line is no command.
-    #[error("the line is no command")]
     Command,
     /// A device failed.
-    #[error("a device failed")]
     Device,
 }
 
@@ -175,6 +150,21 @@ impl Fault {
         Ok(())
     }
 }
+
+impl fmt::Display for Fault {
+    ghost use Rattle.std.specs.Prelude.{Some, codes};
+    ghost use Rattle.std.specs.Fmt.{decimal};
+    ghost use Rattle.ghc_term.specs.Fault.{fault_number};
+
+    ghost output = { λ fault. Some (codes "F" ++ decimal (fault_number fault)) };
+
+    fn fmt<W: fmt::Write>(&self, f: &mut fmt::Formatter<W>) -> fmt::Result {
+        let number = self.number();
+        write!(f, "F{number}")
+    }
+}
+
+impl Error for Fault {}
 
 impl From<AllocError> for Fault {
     ghost use Rattle.ghc_term.specs.declared.fault.Fault.{Fault};

@@ -12,7 +12,6 @@ use std::alloc::{AllocError, Global};
 use std::marker::Model;
 
 /// A goal as written. Its parts are shared, so a goal of any size is lent once more by `share` in one step.
-#[derive(Drop)]
 pub struct Goal {
     shape: Shape,
 }
@@ -112,6 +111,12 @@ impl Goal {
             Shape::Assign(left, value) => GoalView::Assign(left, value),
             Shape::Stream(number, tail) => GoalView::Stream(*number, *tail),
         }
+    }
+}
+
+impl Drop for Goal {
+    fn drop(self) {
+        let Goal { shape: _shape } = self;
     }
 }
 

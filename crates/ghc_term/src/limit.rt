@@ -2,7 +2,7 @@
 ghost use Rattle.std.specs.Prelude.{◌≡◌};
 ghost use Rattle.ghc_term.specs.Limit.{limit_word};
 
-/// What was exceeded, or is not there yet.
+/// What was exceeded.
 #[derive(Clone, Copy, Debug, PartialEq, Eq)]
 pub enum Limit {
     /// The bytes of a program or a query.
@@ -23,8 +23,6 @@ pub enum Limit {
     Print,
     /// The bytes of a console line.
     Line,
-    /// A part of the debugger that is not built yet.
-    Stage,
     /// A history of a version that is not read here.
     Version,
 }
@@ -44,7 +42,6 @@ impl Limit {
             Limit::Term => "term",
             Limit::Print => "print",
             Limit::Line => "line",
-            Limit::Stage => "stage",
             Limit::Version => "version",
         }
     }

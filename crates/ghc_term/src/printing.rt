@@ -86,9 +86,9 @@ pub fn print_goal(alloc: Global, goal: &Goal, store: &Store) -> Result<String, F
 pub fn print_written(alloc: Global, term: &Term) -> Result<String, AllocError>
     ensures { IfOk result (λ text. string_bytes text ≡ term_text term.now) }
 {
-    let nothing = Store::new(alloc);
     let mut pieces = Vec::new(alloc);
     pieces.push(Piece::Term(term))?;
+    let nothing = Store::new(alloc);
     let mut out = String::new(alloc);
     match write_pieces(&nothing, usize::MAX, pieces, &mut out) {
         Ok(()) => Ok(out),

@@ -11,7 +11,6 @@ use std::alloc::{AllocError, Global};
 use std::marker::Model;
 
 /// What variables are bound to: a finite map in which no value reaches its own variable.
-#[derive(Drop)]
 pub struct Store {
     map: IndexMap<VarName, Term>,
 }
@@ -215,5 +214,11 @@ impl Store {
         ensures rest { self.new ≡ finite.remove self.old x }
     {
         self.map.swap_remove(&x)
+    }
+}
+
+impl Drop for Store {
+    fn drop(self) {
+        let Store { map: _map } = self;
     }
 }

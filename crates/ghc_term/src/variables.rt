@@ -7,7 +7,6 @@ use std::alloc::{AllocError, Global};
 use std::marker::Model;
 
 /// A set of variables.
-#[derive(Drop)]
 pub struct Variables {
     members: IndexSet<VarName>,
 }
@@ -88,6 +87,12 @@ impl Variables {
         ensures { IsTrue result ↔ (self.now ≡ other.now) }
     {
         self.has_all(other.members()) && other.has_all(self.members())
+    }
+}
+
+impl Drop for Variables {
+    fn drop(self) {
+        let Variables { members: _members } = self;
     }
 }
 

@@ -69,7 +69,6 @@ fn tells_of_limits(rt: HostRuntime) -> Result<(), Fail> {
         (Limit::Term, "F6 limit: term"),
         (Limit::Print, "F6 limit: print"),
         (Limit::Line, "F6 limit: line"),
-        (Limit::Stage, "F6 limit: stage"),
         (Limit::Version, "F6 limit: version"),
     ];
     for (limit, text) in limits {

@@ -6,7 +6,7 @@ ghost use Rattle.ghc_term.specs.Pieces.{Unfolds, expression_size};
 use crate::expr::Expr;
 use crate::expr_view::ExprView;
 use crate::operator::Operator;
-use crate::printing::pieces::Piece;
+use crate::printing::pieces::{Piece, push_sides};
 use std::alloc::AllocError;
 
 // The operator, with a space on each side.
@@ -35,10 +35,8 @@ pub(crate) fn push_expression<'a>(
             Ok(())
         }
         ExprView::Operation(operator, left, right) => {
-            pieces.push(Piece::Operand(right))?;
-            pieces.push(Piece::Mark(mark_of(operator)))?;
-            pieces.push(Piece::Operand(left))?;
-            Ok(())
+            let mark = mark_of(operator);
+            push_sides(Piece::Operand(left), mark, Piece::Operand(right), pieces)
         }
     }
 }

@@ -9,7 +9,7 @@ ghost use Rattle.ghc_term.specs.Pieces.{StartsIn};
 
 use crate::goal::Goal;
 use crate::goal_view::GoalView;
-use crate::printing::pieces::{Piece, push_structure, push_variable};
+use crate::printing::pieces::{Piece, push_sides, push_structure, push_variable};
 use crate::store::Store;
 use crate::var_name::VarName;
 use std::alloc::AllocError;
@@ -46,16 +46,10 @@ pub(crate) fn push_goal<'a>(
     match goal.view() {
         GoalView::Call(name, arguments) => push_structure(name, arguments, pieces, out),
         GoalView::Unify(left, right) => {
-            pieces.push(Piece::Term(right))?;
-            pieces.push(Piece::Mark(" = "))?;
-            pieces.push(Piece::Term(left))?;
-            Ok(())
+            push_sides(Piece::Term(left), " = ", Piece::Term(right), pieces)
         }
         GoalView::Assign(left, value) => {
-            pieces.push(Piece::Expr(value))?;
-            pieces.push(Piece::Mark(" := "))?;
-            pieces.push(Piece::Term(left))?;
-            Ok(())
+            push_sides(Piece::Term(left), " := ", Piece::Expr(value), pieces)
         }
         GoalView::Stream(number, tail) => push_stream(number, tail, store, pieces, out),
     }

@@ -1,5 +1,5 @@
 // What is still to be written of a text, in pieces. They stand in a list, so that no depth of a term takes stack.
-ghost use Rattle.std.specs.Prelude.{◌≡◌, ◌≢◌, ◌↔◌, ◌++◌, ◌+◌, ℕ, suc, List, IfOk, OnOk, IsTrue, MatchOption, string_bytes};
+ghost use Rattle.std.specs.Prelude.{◌≡◌, ◌≢◌, ◌↔◌, ◌++◌, ◌+◌, [], ℕ, suc, List, IfOk, OnOk, IsTrue, MatchOption, string_bytes};
 ghost use Rattle.std.specs.Fmt.{signed_decimal};
 ghost use Rattle.ghc_term.specs.Store.{value_at};
 ghost use Rattle.ghc_term.specs.Tree.{Tree, node, trees, cons, nil};
@@ -92,6 +92,21 @@ fn push_argument<'a>(
     out.push_str(mark)?;
     pieces.push(Piece::Further(further))?;
     pieces.push(Piece::Term(argument))?;
+    Ok(())
+}
+
+// Leaves two sides with a mark between them.
+pub(crate) fn push_sides<'a>(
+    left: Piece<'a>,
+    mark: &'a str,
+    right: Piece<'a>,
+    pieces: &mut Vec<Piece<'a>>,
+) -> Result<(), AllocError>
+    ensures { IfOk result (λ _. Unfolds (λ r. piece_text r left.entry ++ (mark.now ++ piece_text r right.entry)) (λ w. suc (piece_size w left.entry + 1 + piece_size w right.entry)) pieces.old.items pieces.new.items [] []) }
+{
+    pieces.push(right)?;
+    pieces.push(Piece::Mark(mark))?;
+    pieces.push(left)?;
     Ok(())
 }
 

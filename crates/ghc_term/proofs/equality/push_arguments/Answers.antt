@@ -1,5 +1,5 @@
 use Rattle.std.proofs.Common.{arith}
-use Rattle.ghc_term.proofs.Alike.{arguments_end, arguments_more}
+use Rattle.ghc_term.proofs.Alike.{arguments_more}
 use Rattle.ghc_term.proofs.equality.push_arguments.Goals as goal
 
 pub loop-index-preserved : goal.loop-index-preserved

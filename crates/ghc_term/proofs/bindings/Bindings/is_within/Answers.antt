@@ -3,7 +3,7 @@ use Rattle.std.specs.Prelude.{Some}
 use Rattle.std.specs.Map.{lookup}
 use Rattle.ghc_term.specs.Store.{value_at}
 use Rattle.ghc_term.proofs.Entries.{same, lookup_at}
-use Rattle.ghc_term.proofs.Members.{within_by_places, at_some}
+use Rattle.ghc_term.proofs.MapsLemmas.{within_by_places, at_some}
 use Rattle.ghc_term.proofs.bindings.Bindings.is_within.Goals as goal
 
 pub returns-then-not-branch : goal.returns-then-not-branch

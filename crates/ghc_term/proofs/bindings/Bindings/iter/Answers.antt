@@ -1,6 +1,6 @@
 use Rattle.std.proofs.Common.{◌∙◌, ap, sym, length}
 use Rattle.std.specs.FinMap as finite
-use Rattle.ghc_term.proofs.Collections.{entries_len}
+use Rattle.ghc_term.proofs.MapsLemmas.{entries_len}
 use Rattle.ghc_term.proofs.bindings.Bindings.iter.Goals as goal
 
 pub returns-clause-all : goal.returns-clause-all

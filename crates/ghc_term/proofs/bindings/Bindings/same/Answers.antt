@@ -1,8 +1,7 @@
-use Rattle.std.proofs.Common.{◌≡◌, sym, ap, subst, ◌∙◌}
+use Rattle.std.proofs.Common.{sym, ap, ◌∙◌}
 use Rattle.std.proofs.lemmas.Result.{IfOk-weaker}
-use Rattle.std.specs.FinMap as finite
 use Rattle.ghc_term.specs.Store.{value_at}
-use Rattle.ghc_term.proofs.Members.{same_bindings}
+use Rattle.ghc_term.proofs.MapsLemmas.{same_bindings}
 use Rattle.ghc_term.proofs.bindings.Bindings.same.Goals as goal
 
 pub returns : goal.returns

@@ -1,6 +1,5 @@
-use Rattle.std.proofs.Common.{◌≤◌, subst, arith}
-use Rattle.ghc_term.specs.Text.{term_text}
-use Rattle.ghc_term.specs.InputTerm.{IsInputTerm, most_open}
+use Rattle.std.proofs.Common.{subst, arith}
+use Rattle.ghc_term.specs.InputTerm.{IsInputTerm}
 use Rattle.ghc_term.proofs.Closed.{closed}
 use Rattle.ghc_term.proofs.Nesting.{most_open-term}
 use Rattle.ghc_term.proofs.ground.Ground.as_term.Goals as goal

@@ -1,7 +1,8 @@
 use Rattle.std.proofs.Common.{◌++◌, [], sym, ap, ◌∙◌, arith}
+use Rattle.std.proofs.lemmas.Result.{IfOk-weaker}
 use Rattle.ghc_term.specs.GoalText.{expression_text_by, operand}
 use Rattle.ghc_term.specs.Pieces.{expression_size}
-use Rattle.ghc_term.proofs.Pieces.{as_said, left_one, left_three}
+use Rattle.ghc_term.proofs.Pieces.{as_said, left_one}
 use Rattle.ghc_term.proofs.printing.expressions.push_expression.Goals as goal
 
 pub returns-in_ok-push-in-Leaf : goal.returns-in_ok-push-in-Leaf
@@ -9,10 +10,10 @@ returns-in_ok-push-in-Leaf c r w =
     as_said r w _ _ _ _ _ _ _ _ (ap (expression_text_by r) (sym c.in-Leaf.ensures)) (omega (arith, ap (expression_size w) c.in-Leaf.ensures))
     (left_one r w _ _ _ [] c.in_ok-push-in-Leaf.ensures.items)
 
-pub returns-in_ok-push-in-Operation-3 : goal.returns-in_ok-push-in-Operation-3
-returns-in_ok-push-in-Operation-3 c r w =
+pub returns-in-Operation : goal.returns-in-Operation
+returns-in-Operation c = IfOk-weaker c.push_sides.result _ _ (λ _ u r w.
     let left = c.in-Operation.left.now in
     let right = c.in-Operation.right.now in
-    as_said r w _ _ _ _ _ _ _ _ (ap (expression_text_by r) (sym c.in-Operation.ensures) ∙ ap (λ m. operand left (expression_text_by r left) ++ (m ++ operand right (expression_text_by r right))) (sym c.mark_of.ensures))
+    as_said r w _ _ _ _ _ _ _ _ (ap (expression_text_by r) (sym c.in-Operation.ensures) ∙ ap (λ m. operand left (expression_text_by r left) ++ (m ++ operand right (expression_text_by r right))) (sym c.mark_of-mark.ensures))
     (omega (arith, ap (expression_size w) c.in-Operation.ensures))
-    (left_three r w _ _ _ _ _ _ _ [] c.in_ok-push-in-Operation.ensures.items c.in_ok-push-in-Operation-2.ensures.items c.in_ok-push-in-Operation-3.ensures.items)
+    (u r w)) c.push_sides.ensures

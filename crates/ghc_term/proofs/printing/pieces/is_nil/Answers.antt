@@ -1,4 +1,4 @@
-use Rattle.std.proofs.Common.{◌≡◌, true, false, sym, ◌∙◌}
+use Rattle.std.proofs.Common.{◌≡◌, true, false, ◌∙◌}
 use Rattle.ghc_term.proofs.Texts.{lent_nil}
 use Rattle.ghc_term.proofs.printing.pieces.is_nil.Goals as goal
 

@@ -1,10 +1,9 @@
-use Rattle.std.proofs.Common.{◌≡◌, ◌+◌, ◌*◌, ◌<◌, ◌≤◌, [], ◌∷◌, ◌++◌, false, true, take, take_all, sym, ap, ◌∙◌, subst, arith, rules, List, Bool}
+use Rattle.std.proofs.Common.{◌≡◌, ◌+◌, ◌*◌, ◌<◌, [], ◌∷◌, ◌++◌, false, true, take, take_all, ap, subst, arith, rules}
 use Rattle.std.specs.Prelude.{Result, Ok, Err, IfOk}
 use Rattle.ghc_term.specs.Store.{value_at}
-use Rattle.ghc_term.specs.Tree.{Occurs, OccursIn, trees, variable}
+use Rattle.ghc_term.specs.Tree.{Occurs, OccursIn, trees}
 use Rattle.ghc_term.specs.View.{height, height_of_all}
 use Rattle.ghc_term.specs.Search.{Searched}
-use Rattle.ghc_term.specs.declared.var_name.VarName.{VarName}
 use Rattle.ghc_term.specs.Shown.{shown}
 use Rattle.ghc_term.proofs.Walks.{no_variable}
 use Rattle.ghc_term.proofs.Trees.{OccursIn_take, height_item, height_last, height_front}

@@ -1,4 +1,4 @@
-use Rattle.std.proofs.Common.{◌≡◌, ◌+◌, ◌*◌, ◌≤◌, Bool, false, List, take}
+use Rattle.std.proofs.Common.{◌+◌, ◌*◌, ◌≤◌, Bool, false, List, take}
 use Rattle.ghc_term.specs.Store.{value_at}
 use Rattle.ghc_term.specs.Tree.{Occurs, OccursIn, trees}
 use Rattle.ghc_term.specs.View.{height, height_of_all}

@@ -1,6 +1,6 @@
 use Rattle.std.proofs.Common.{◌∙◌, ap}
 use Rattle.std.specs.FinSet as set
-use Rattle.ghc_term.proofs.Collections.{has_at}
+use Rattle.ghc_term.proofs.SetsLemmas.{has_at}
 use Rattle.ghc_term.proofs.variables.Variables.contains.Goals as goal
 
 pub returns : goal.returns

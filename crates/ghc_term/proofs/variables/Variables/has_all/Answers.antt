@@ -1,16 +1,16 @@
 use Rattle.std.proofs.Common.{◌≡◌, true, false, sym, ◌∙◌}
 use Rattle.std.specs.Prelude.{IsTrue}
 use Rattle.std.specs.FinSet as set
-use Rattle.ghc_term.proofs.Members.{one_more_member, In_at}
+use Rattle.ghc_term.proofs.ListsLemmas.{each_next, in_get}
 use Rattle.ghc_term.proofs.variables.Variables.has_all.Goals as goal
 
 pub returns-then-not-contains : goal.returns-then-not-contains
 returns-then-not-contains c = (
   λ h. absurd (let clash : false ≡ true = h in cc),
-  λ all. absurd (let clash : false ≡ true = sym c.if-not-contains.true ∙ c.contains.ensures ∙ all _ (In_at c.args.others.now c.loop-x.x-index (record { step = 0; place = 0 }) c.loop-x-test.true) in cc),
+  λ all. absurd (let clash : false ≡ true = sym c.if-not-contains.true ∙ c.contains.ensures ∙ all _ (in_get c.args.others.now c.loop-x.x-index (record { step = 0; place = 0 }) c.loop-x-test.true) in cc),
 )
 
 pub loop-x-preserved : goal.loop-x-preserved
 loop-x-preserved c =
-    one_more_member (λ x. IsTrue (set.contains c.args.self.now x)) c.args.others.now c.loop-x.x-index (record { step = 0; place = 0 }) c.loop-x-test.true c.loop-x.invariant
+    each_next (λ x. IsTrue (set.contains c.args.self.now x)) c.args.others.now c.loop-x.x-index (record { step = 0; place = 0 }) c.loop-x-test.true c.loop-x.invariant
     (sym c.contains.ensures ∙ c.if-not-contains.false)

@@ -1,7 +1,6 @@
-use Rattle.std.proofs.Common.{◌≡◌, ◌∙◌, ap, subst, sym}
-use Rattle.std.specs.Prelude.{OnOk}
+use Rattle.std.proofs.Common.{◌∙◌, ap}
 use Rattle.std.specs.FinSet as set
-use Rattle.ghc_term.proofs.Collections.{key_inserted}
+use Rattle.ghc_term.proofs.SetsLemmas.{key_inserted}
 use Rattle.ghc_term.proofs.variables.Variables.insert.Goals as goal
 use Rattle.ghc_term.proofs.variables.Variables.insert.Goals.{in-Ok, in-Err}
 

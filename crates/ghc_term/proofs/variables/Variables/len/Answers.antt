@@ -1,6 +1,6 @@
 use Rattle.std.proofs.Common.{◌∙◌, ap, sym}
 use Rattle.std.specs.FinSet as set
-use Rattle.ghc_term.proofs.Collections.{list_len}
+use Rattle.ghc_term.proofs.SetsLemmas.{list_len}
 use Rattle.ghc_term.proofs.variables.Variables.len.Goals as goal
 
 pub returns : goal.returns
