@@ -25,7 +25,6 @@ use std::alloc::{AllocError, Global};
 pub(crate) const MOST_BYTES: usize = 1_048_576;
 
 /// The tokens of a text, and their places. The last place, behind those of the tokens, is that of the end of the text.
-#[derive(Debug)]
 pub(crate) struct Lexed {
     pub(crate) tokens: Vec<Token>,
     pub(crate) places: Vec<Place>,
