@@ -1,4 +1,3 @@
-pub mod FactProofs
 pub mod Lists
 pub mod Rising
 pub mod Counts

@@ -7,5 +7,4 @@ pub mod Counting
 pub mod Numbers
 pub mod Index
 pub mod Samples
-pub mod Facts
 pub mod Refused

@@ -8,7 +8,6 @@ use std::marker::Model;
 
 /// A clause `name(head) :- tests | body.`; the i-th of its variables, by first occurrence, is `_0_i`. A goal `true` of the
 /// body is left out. No variable stands twice in its head, and each variable of its tests stands there.
-#[derive(Drop)]
 pub struct Clause {
     pub(crate) name: Name,
     pub(crate) head: Vec<Term>,
@@ -16,6 +15,18 @@ pub struct Clause {
     pub(crate) body: Vec<Goal>,
     // how many variables stand in the head
     pub(crate) head_variables: u32,
+}
+
+impl Drop for Clause {
+    fn drop(self) {
+        let Clause {
+            name: _name,
+            head: _head,
+            tests: _tests,
+            body: _body,
+            head_variables: _,
+        } = self;
+    }
 }
 
 impl Model for Clause {

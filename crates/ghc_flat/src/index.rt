@@ -7,9 +7,14 @@ use indexmap::IndexMap;
 use std::alloc::{AllocError, Global};
 
 // The numbers of the clauses of one name, by arity.
-#[derive(Drop)]
 pub(crate) struct Arities {
     numbers: IndexMap<usize, Vec<u32>>,
+}
+
+impl Drop for Arities {
+    fn drop(self) {
+        let Arities { numbers: _numbers } = self;
+    }
 }
 
 impl Arities {
@@ -52,9 +57,14 @@ impl Arities {
 }
 
 // The numbers of the clauses, by name and arity.
-#[derive(Drop)]
 pub(crate) struct Index {
     names: IndexMap<Name, Arities>,
+}
+
+impl Drop for Index {
+    fn drop(self) {
+        let Index { names: _names } = self;
+    }
 }
 
 impl Index {

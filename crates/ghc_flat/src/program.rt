@@ -7,10 +7,18 @@ use ghc_term::Name;
 use std::marker::Model;
 
 /// A program: flat, linear and defined clauses, numbered from 1.
-#[derive(Drop)]
 pub struct Program {
     pub(crate) clauses: Vec<Clause>,
     pub(crate) index: Index,
+}
+
+impl Drop for Program {
+    fn drop(self) {
+        let Program {
+            clauses: _clauses,
+            index: _index,
+        } = self;
+    }
 }
 
 impl Model for Program {

@@ -3,7 +3,6 @@
 use ghc_term::{Comparison, Expr, VarName};
 
 /// A test of a guard: of a variable of the clause, or a comparison. (`true` is no test.)
-#[derive(Drop)]
 pub enum Test {
     /// `wait(X)`: X ends in a value.
     Wait(VarName),
@@ -15,4 +14,16 @@ pub enum Test {
     IsList(VarName),
     /// A comparison of two expressions.
     Compare(Comparison, Expr, Expr),
+}
+
+impl Drop for Test {
+    fn drop(self) {
+        match self {
+            Test::Wait(_) => {}
+            Test::IsInteger(_) => {}
+            Test::IsAtom(_) => {}
+            Test::IsList(_) => {}
+            Test::Compare(_, _left, _right) => {}
+        }
+    }
 }

@@ -38,6 +38,12 @@ pub joined_more : {A B C : Type 0} (f : B → List C) (v : A → B) (xs : List A
 joined_more f v xs i x less is =
     ap (flat_map f) (views_more v xs i x less is) ∙ flat_map-append f (map v (take i xs)) (v x ∷ []) ∙ ap (λ l. flat_map f (map v (take i xs)) ++ l) (append-nil (f (v x)))
 
+-- so a loop that adds what each element has at the end of a list goes on
+pub push_more : {A B C : Type 0} (f : B → List C) (v : A → B) (xs : List A) (i : ℕ) (x : A) (start now new : List C) → i < length xs → x ≡ get_or xs i x
+    → now ≡ start ++ flat_map f (map v (take i xs)) → new ≡ now ++ f (v x) → new ≡ start ++ flat_map f (map v (take (i + 1) xs))
+push_more f v xs i x start now new less is before pushed =
+    pushed ∙ ap (λ l. l ++ f (v x)) before ∙ append_assoc start (flat_map f (map v (take i xs))) (f (v x)) ∙ ap (λ l. start ++ l) (sym (joined_more f v xs i x less is))
+
 -- ---- arguments
 
 widest_all : (us : List Tree) → widest_of (trees_of us) ≡ largest widest us

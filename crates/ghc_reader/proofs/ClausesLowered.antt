@@ -109,4 +109,4 @@ query_said gs q start all is_start names goals met streams = record {
 }
 
 pub query_well_asked : (gs : List Goal) (q : WrittenQuery) → SaysQuery gs q → IsWellAsked q
-query_well_asked gs q s = record { numbered = s.variables.numbered; named = s.variables.named; streams = s.streams }
+query_well_asked gs q s = record { numbered = s.variables.numbered; named = s.variables.named; apart = s.variables.apart; streams = s.streams }

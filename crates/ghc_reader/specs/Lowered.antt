@@ -16,7 +16,7 @@ use Rattle.ghc_reader.specs.Source.{Tree, Trees, variable, integer, structure, e
 use Rattle.ghc_reader.specs.Reserved.{is_call, is_stream}
 use Rattle.ghc_reader.specs.declared.written.Guard.{Guard}
 use Rattle.ghc_reader.specs.declared.written.Guard.TheVariants.{Item as item, Comparison as comparison}
-use Rattle.ghc_reader.specs.Written.{WrittenClause, WrittenQuery, variables_of_written, AreNumbered}
+use Rattle.ghc_reader.specs.Written.{WrittenClause, WrittenQuery, variables_of_written, AreNumbered, AreApart}
 use Rattle.ghc_reader.specs.Written as written
 
 -- the names of the variables of a clause or a query, by number
@@ -118,7 +118,7 @@ Each R (x ∷ xs) (y ∷ ys) = R x y × Each R xs ys
 pub record AreNamed (names : Names) (xs : List VarName) : Type 0 where
   pub numbered : AreNumbered xs
   pub named : length names ≡ length (firsts [] xs)
-  pub apart : (i j : ℕ) (v : List ℕ) → slice_get names i ≡ Some v → slice_get names j ≡ Some v → v ≢ blank → i ≡ j
+  pub apart : AreApart names
   pub alone : (i j : ℕ) (x : VarName) → slice_get xs i ≡ Some x → slice_get xs j ≡ Some x → IsCalled names blank x → i ≡ j
 
 -- The written clause w says what the parse tree c says.

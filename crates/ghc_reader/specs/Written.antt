@@ -1,5 +1,5 @@
 -- Programs and queries as they are written, in the terms of the language.
-use Rattle.std.specs.Prelude.{◌≡◌, ℕ, ◌+◌, List, [], ◌∷◌, ◌++◌, Bool, true, false, length, filter, Some, slice_get}
+use Rattle.std.specs.Prelude.{◌≡◌, ◌≢◌, ℕ, ◌+◌, List, [], ◌∷◌, ◌++◌, Bool, true, false, length, filter, Some, slice_get, codes}
 use Rattle.ghc_term.specs.declared.var_name.VarName.{VarName}
 use Rattle.ghc_term.specs.Lists.{In}
 use Rattle.ghc_term.specs.Tree.{Tree}
@@ -39,6 +39,10 @@ variables_of_written c = variables_of_list c.head ++ variables_of_guards c.guard
 abbrev pub AreNumbered : List VarName → Type 0
 AreNumbered xs = (i : ℕ) (x : VarName) → slice_get (firsts [] xs) i ≡ Some x → x ≡ record { step = 0; place = i + 1 }
 
+-- No two of the names are the same, but for `_`, which is a variable of its own at each place.
+abbrev pub AreApart : List (List ℕ) → Type 0
+AreApart names = (i j : ℕ) (v : List ℕ) → slice_get names i ≡ Some v → slice_get names j ≡ Some v → v ≢ codes "_" → i ≡ j
+
 -- whether the goal is a stream goal
 abbrev pub is_stream : Goal → Bool
 is_stream (call _ _) = false
@@ -56,8 +60,9 @@ pub record IsWellWritten (c : WrittenClause) : Type 0 where
 abbrev pub AreWellWritten : List WrittenClause → Type 0
 AreWellWritten cs = (c : WrittenClause) → In c cs → IsWellWritten c
 
--- The variables of a query are numbered and each has its name, and its k-th stream goal is stream k.
+-- The variables of a query are numbered and each has a name of its own, or `_`, and its k-th stream goal is stream k.
 pub record IsWellAsked (q : WrittenQuery) : Type 0 where
   pub numbered : AreNumbered (variables_of_goals q.goals)
   pub named : length q.variables ≡ length (firsts [] (variables_of_goals q.goals))
+  pub apart : AreApart q.variables
   pub streams : (i k : ℕ) (x : VarName) → slice_get (filter is_stream q.goals) i ≡ Some (stream k x) → k ≡ i + 1

@@ -2,7 +2,7 @@
 use std::alloc::{AllocError, AllocFailed};
 
 /// No memory, or a fault.
-#[derive(Clone, Copy, Debug)]
+#[derive(Clone, Copy)]
 pub enum Halt {
     /// Memory was refused.
     Memory,

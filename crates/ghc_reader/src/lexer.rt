@@ -25,10 +25,18 @@ use std::alloc::{AllocError, Global};
 pub(crate) const MOST_BYTES: usize = 1_048_576;
 
 /// The tokens of a text, and their places. The last place, behind those of the tokens, is that of the end of the text.
-#[derive(Debug, Drop)]
 pub(crate) struct Lexed {
     pub(crate) tokens: Vec<Token>,
     pub(crate) places: Vec<Place>,
+}
+
+impl Drop for Lexed {
+    fn drop(self) {
+        let Lexed {
+            tokens: _tokens,
+            places: _places,
+        } = self;
+    }
 }
 
 impl Lexed {

@@ -1,27 +1,27 @@
 //! The reader: from the bytes of a program, a query or an input term to its tree.
 #![tactic(auto)]
 
-pub mod clause_parser;
-pub mod depth;
-pub mod expression_parser;
-pub mod front;
-pub mod goal_parser;
-pub mod halt;
-pub mod input_parser;
+mod clause_parser;
+mod depth;
+mod expression_parser;
+mod front;
+mod goal_parser;
+mod halt;
+mod input_parser;
 mod laws;
-pub mod lexer;
+mod lexer;
 mod limits;
 mod lowering;
-pub mod parser;
-pub mod place;
+mod parser;
+mod place;
 mod read;
 mod reading;
-pub mod reserved;
-pub mod source;
-pub mod term_parser;
+mod reserved;
+mod source;
+mod term_parser;
 #[cfg(test)]
 mod tests;
-pub mod token;
+mod token;
 mod written;
 
 pub use laws::printed_terms_are_read_again;

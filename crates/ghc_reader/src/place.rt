@@ -7,7 +7,7 @@ use ghc_term::Fault;
 
 /// The place of a byte in a text, or of the end: line and column, both from 1, the column in bytes. A line starts
 /// behind each line feed.
-#[derive(Clone, Copy, PartialEq, Eq, Debug)]
+#[derive(Clone, Copy)]
 pub(crate) struct Place {
     pub(crate) line: u32,
     pub(crate) column: u32,

@@ -1,5 +1,7 @@
 // The reader's calls: from the bytes of a text to what it says, in the terms of the language.
-ghost use Rattle.std.specs.Prelude.{◌≡◌, ◌⊎◌, List, IfOk, IfErr, IsErrAnd, MatchResult};
+ghost use Rattle.std.specs.Prelude.{◌≡◌, ◌<◌, ◌⊎◌, List, length, IfOk, IfErr, IsErrAnd, MatchResult};
+ghost use Rattle.ghc_term.specs.declared.limit.Limit.TheVariants.{Text};
+ghost use Rattle.ghc_reader.specs.Lexed.{most_bytes};
 ghost use Rattle.ghc_reader.specs.Tests.{a_program, a_query, a_term, IsRefusal};
 ghost use Rattle.ghc_reader.specs.Written.{WrittenClause, WrittenQuery};
 ghost use Rattle.ghc_term.specs.Tree.{Tree};
@@ -18,6 +20,7 @@ use std::alloc::Global;
 pub fn read_program(alloc: Global, text: &[u8]) -> Result<Source, Fault>
     ensures found { IfOk result (IsReadProgram text.now) }
     ensures fault { IfErr result (λ fault. (fault ≡ Fault.Memory) ⊎ IsRefusal a_program text.now fault) }
+    ensures too_long { most_bytes < length text.now → result ≡ Err (Fault.Limit Text) }
 
     // A text that can be read is read as nothing else, and not refused; one that is refused is not read, nor refused in another way.
     ensures only { (source : List WrittenClause) → IsReadProgram text.now source → MatchResult result (λ read. read ≡ source) (λ fault. fault ≡ Fault.Memory) }
@@ -36,6 +39,7 @@ pub fn read_program(alloc: Global, text: &[u8]) -> Result<Source, Fault>
 pub fn read_query(alloc: Global, text: &[u8]) -> Result<Query, Fault>
     ensures found { IfOk result (IsReadQuery text.now) }
     ensures fault { IfErr result (λ fault. (fault ≡ Fault.Memory) ⊎ IsRefusal a_query text.now fault) }
+    ensures too_long { most_bytes < length text.now → result ≡ Err (Fault.Limit Text) }
 
     // A text that can be read is read as nothing else, and not refused; one that is refused is not read, nor refused in another way.
     ensures only { (query : WrittenQuery) → IsReadQuery text.now query → MatchResult result (λ read. read ≡ query) (λ fault. fault ≡ Fault.Memory) }
@@ -55,6 +59,7 @@ pub fn read_query(alloc: Global, text: &[u8]) -> Result<Query, Fault>
 pub fn read_ground_term(alloc: Global, text: &[u8]) -> Result<Ground, Fault>
     ensures found { IfOk result (IsReadTerm text.now) }
     ensures fault { IfErr result (λ fault. (fault ≡ Fault.Memory) ⊎ IsRefusal a_term text.now fault) }
+    ensures too_long { most_bytes < length text.now → result ≡ Err (Fault.Limit Text) }
 
     // A text that can be read is read as nothing else, and not refused; one that is refused is not read, nor refused in another way.
     ensures only { (term : Tree) → IsReadTerm text.now term → MatchResult result (λ read. read ≡ term) (λ fault. fault ≡ Fault.Memory) }

@@ -2,6 +2,7 @@
 ghost use Rattle.std.specs.Prelude.{◌≡◌, ◌⊎◌, List, ◌+◌, ◌<◌, length, IfOk, IfErr, IsErrAnd, MatchResult};
 ghost use Rattle.ghc_reader.specs.Source.{Tree, Goal, Clause};
 ghost use Rattle.ghc_reader.specs.Views.{view, goal_views, clause_views};
+ghost use Rattle.ghc_reader.specs.Lexed.{most_bytes};
 ghost use Rattle.ghc_reader.specs.Viable.{IfSyntax};
 ghost use Rattle.ghc_reader.specs.Tests.{a_program, a_query, a_term, IsShallow, IsRead, IsFaultAt, IsTokenRefusal, IsRefusal};
 
@@ -25,6 +26,7 @@ fn shallow_tokens(alloc: Global, text: &[u8]) -> Result<Lexed, Fault>
     ensures found { IfOk result (λ lexed. IsShallow text.now lexed.tokens.items lexed.places.items) }
     ensures paired { IfOk result (λ lexed. length lexed.places.items ≡ length lexed.tokens.items + 1) }
     ensures fault { IfErr result (λ fault. (fault ≡ Fault.Memory) ⊎ IsTokenRefusal text.now fault) }
+    ensures too_long { most_bytes < length text.now → result ≡ Err (Fault.Limit Limit.Text) }
 {
     let lexed = tokens(alloc, text, Reserved::Refused)?;
     if is_too_deep(&lexed.tokens) {
@@ -57,6 +59,7 @@ fn fault_of(halt: Halt, places: &[Place]) -> Fault
 fn clauses(alloc: Global, text: &[u8]) -> Result<Vec<SourceClause>, Fault>
     ensures found { IfOk result (λ clauses. IsRead a_program text.now (clause_views clauses.items)) }
     ensures fault { IfErr result (λ fault. (fault ≡ Fault.Memory) ⊎ IsRefusal a_program text.now fault) }
+    ensures too_long { most_bytes < length text.now → result ≡ Err (Fault.Limit Limit.Text) }
 {
     let lexed = shallow_tokens(alloc, text)?;
     let clauses = match parse_program(alloc, &lexed.tokens) {
@@ -77,6 +80,7 @@ fn clauses(alloc: Global, text: &[u8]) -> Result<Vec<SourceClause>, Fault>
 pub(crate) fn parsed_program(alloc: Global, text: &[u8]) -> Result<Vec<SourceClause>, Fault>
     ensures found { IfOk result (λ clauses. IsRead a_program text.now (clause_views clauses.items)) }
     ensures fault { IfErr result (λ fault. (fault ≡ Fault.Memory) ⊎ IsRefusal a_program text.now fault) }
+    ensures too_long { most_bytes < length text.now → result ≡ Err (Fault.Limit Limit.Text) }
 
     // No other tree is that of the text, and no other refusal.
     ensures only { (seen : List Clause) → IsRead a_program text.now seen
@@ -91,6 +95,7 @@ pub(crate) fn parsed_program(alloc: Global, text: &[u8]) -> Result<Vec<SourceCla
 fn goals(alloc: Global, text: &[u8]) -> Result<Vec<SourceGoal>, Fault>
     ensures found { IfOk result (λ goals. IsRead a_query text.now (goal_views goals.items)) }
     ensures fault { IfErr result (λ fault. (fault ≡ Fault.Memory) ⊎ IsRefusal a_query text.now fault) }
+    ensures too_long { most_bytes < length text.now → result ≡ Err (Fault.Limit Limit.Text) }
 {
     let lexed = shallow_tokens(alloc, text)?;
     let goals = match parse_query(alloc, &lexed.tokens) {
@@ -110,6 +115,7 @@ fn goals(alloc: Global, text: &[u8]) -> Result<Vec<SourceGoal>, Fault>
 pub(crate) fn parsed_query(alloc: Global, text: &[u8]) -> Result<Vec<SourceGoal>, Fault>
     ensures found { IfOk result (λ goals. IsRead a_query text.now (goal_views goals.items)) }
     ensures fault { IfErr result (λ fault. (fault ≡ Fault.Memory) ⊎ IsRefusal a_query text.now fault) }
+    ensures too_long { most_bytes < length text.now → result ≡ Err (Fault.Limit Limit.Text) }
 
     // No other tree is that of the text, and no other refusal.
     ensures only { (seen : List Goal) → IsRead a_query text.now seen
@@ -124,6 +130,7 @@ pub(crate) fn parsed_query(alloc: Global, text: &[u8]) -> Result<Vec<SourceGoal>
 fn term(alloc: Global, text: &[u8]) -> Result<SourceTerm, Fault>
     ensures found { IfOk result (λ term. IsRead a_term text.now (view term)) }
     ensures fault { IfErr result (λ fault. (fault ≡ Fault.Memory) ⊎ IsRefusal a_term text.now fault) }
+    ensures too_long { most_bytes < length text.now → result ≡ Err (Fault.Limit Limit.Text) }
 {
     let lexed = shallow_tokens(alloc, text)?;
     let term = match parse_term(alloc, &lexed.tokens) {
@@ -140,6 +147,7 @@ fn term(alloc: Global, text: &[u8]) -> Result<SourceTerm, Fault>
 pub(crate) fn parsed_term(alloc: Global, text: &[u8]) -> Result<SourceTerm, Fault>
     ensures found { IfOk result (λ term. IsRead a_term text.now (view term)) }
     ensures fault { IfErr result (λ fault. (fault ≡ Fault.Memory) ⊎ IsRefusal a_term text.now fault) }
+    ensures too_long { most_bytes < length text.now → result ≡ Err (Fault.Limit Limit.Text) }
 
     // No other tree is that of the text, and no other refusal.
     ensures only { (seen : Tree) → IsRead a_term text.now seen

@@ -4,7 +4,6 @@ use crate::token::{Product, Sum};
 use ghc_term::{Comparison, Name};
 
 /// A term.
-#[derive(Drop)]
 pub enum SourceTerm {
     /// A variable, `_` among them.
     Variable(Name),
@@ -19,7 +18,6 @@ pub enum SourceTerm {
 }
 
 /// An expression. Operators of one level group to the left.
-#[derive(Drop)]
 pub enum SourceExpression {
     /// An integer.
     Integer(i64),
@@ -32,7 +30,6 @@ pub enum SourceExpression {
 }
 
 /// A call: a head, or a goal of a guard, a body or a query.
-#[derive(Drop)]
 pub struct SourceCall {
     /// How many tokens the text has from the call's name on.
     pub left: usize,
@@ -43,7 +40,6 @@ pub struct SourceCall {
 }
 
 /// A goal of a guard, a body or a query.
-#[derive(Drop)]
 pub enum SourceGoal {
     /// A call.
     Call(SourceCall),
@@ -63,7 +59,6 @@ pub enum SourceTest {
 }
 
 /// A clause. What is not written is empty.
-#[derive(Drop)]
 pub struct SourceClause {
     /// The head.
     pub head: SourceCall,
@@ -71,4 +66,57 @@ pub struct SourceClause {
     pub guard: Vec<SourceTest>,
     /// The goals.
     pub body: Vec<SourceGoal>,
+}
+
+impl Drop for SourceTerm {
+    fn drop(self) {
+        match self {
+            SourceTerm::Variable(_name) => {}
+            SourceTerm::Integer(_) => {}
+            SourceTerm::Structure(_name, _arguments) => {}
+            SourceTerm::Empty => {}
+            SourceTerm::List(_elements, _tail) => {}
+        }
+    }
+}
+
+impl Drop for SourceExpression {
+    fn drop(self) {
+        match self {
+            SourceExpression::Integer(_) => {}
+            SourceExpression::Variable(_name) => {}
+            SourceExpression::Products(_first, _others) => {}
+            SourceExpression::Sums(_first, _others) => {}
+        }
+    }
+}
+
+impl Drop for SourceCall {
+    fn drop(self) {
+        let SourceCall {
+            left: _left,
+            name: _name,
+            arguments: _arguments,
+        } = self;
+    }
+}
+
+impl Drop for SourceGoal {
+    fn drop(self) {
+        match self {
+            SourceGoal::Call(_call) => {}
+            SourceGoal::Unify(_left, _right) => {}
+            SourceGoal::Assign(_variable, _value) => {}
+        }
+    }
+}
+
+impl Drop for SourceClause {
+    fn drop(self) {
+        let SourceClause {
+            head: _head,
+            guard: _guard,
+            body: _body,
+        } = self;
+    }
 }

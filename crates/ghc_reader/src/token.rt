@@ -3,7 +3,7 @@
 use ghc_term::{Comparison, Name};
 
 /// A mark that brackets, separates or ends.
-#[derive(Clone, Copy, PartialEq, Eq, Debug)]
+#[derive(Clone, Copy, PartialEq, Eq)]
 pub enum Mark {
     /// `(`
     Open,
@@ -28,7 +28,7 @@ pub enum Mark {
 }
 
 /// A mark that adds or subtracts.
-#[derive(Clone, Copy, PartialEq, Eq, Debug)]
+#[derive(Clone, Copy)]
 pub enum Sum {
     /// `+`
     Plus,
@@ -37,7 +37,7 @@ pub enum Sum {
 }
 
 /// A mark that multiplies or divides, or the word `mod`.
-#[derive(Clone, Copy, PartialEq, Eq, Debug)]
+#[derive(Clone, Copy)]
 pub enum Product {
     /// `*`
     Times,
@@ -48,7 +48,7 @@ pub enum Product {
 }
 
 /// One token. A clause sees a name or a variable as its bytes.
-#[derive(Debug, Drop)]
+#[derive(Drop)]
 pub enum Token {
     /// The name of an atom, a functor or a predicate; `mod` is none.
     Name(Name),

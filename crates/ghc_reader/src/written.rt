@@ -37,9 +37,14 @@ impl Model for WrittenClause {
 }
 
 /// A program as it is written: its clauses in order.
-#[derive(Drop)]
 pub struct Source {
     pub(crate) clauses: Vec<WrittenClause>,
+}
+
+impl Drop for Source {
+    fn drop(self) {
+        let Source { clauses: _clauses } = self;
+    }
 }
 
 impl Model for Source {
@@ -72,16 +77,25 @@ impl Source {
         ensures same { result.items ≡ self }
         ensures well_written { AreWellWritten self }
     {
-        self.clauses
+        let Source { clauses } = self;
+        clauses
     }
 }
 
 /// A query as it is written: its goals in order, and the names of its variables. The i-th of them, by first occurrence,
 /// is `_0_i`. A goal `true` is left out, and the k-th goal `instream(S)` is stream k.
-#[derive(Drop)]
 pub struct Query {
     pub(crate) goals: Vec<Goal>,
     pub(crate) variables: Vec<Name>,
+}
+
+impl Drop for Query {
+    fn drop(self) {
+        let Query {
+            goals: _goals,
+            variables: _variables,
+        } = self;
+    }
 }
 
 impl Model for Query {

@@ -9,7 +9,7 @@ use crate::lexer::symbol::{Symbol, longest_symbol};
 use crate::token::Product;
 
 /// The kinds of pieces that a text is cut into.
-#[derive(Clone, Copy, PartialEq, Eq, Debug)]
+#[derive(Clone, Copy)]
 pub(crate) enum Kind {
     /// A space, a tab, a line feed or a carriage return.
     Blank,
@@ -23,7 +23,7 @@ pub(crate) enum Kind {
 }
 
 /// The piece at the front of a text, and the text behind it.
-#[derive(Clone, Copy, Debug)]
+#[derive(Clone, Copy)]
 pub(crate) struct Front<'a> {
     pub(crate) kind: Kind,
     pub(crate) bytes: &'a [u8],

@@ -9,11 +9,19 @@ use std::alloc::{AllocError, Global};
 use std::collections::BTreeMap;
 
 /// The names met so far by their spelling, so that equal names share one text.
-#[derive(Drop)]
 pub(crate) struct Names<'a> {
     alloc: Global,
     known: BTreeMap<&'a str, Name>,
     ghost spelled: { (spelling name : List ℕ) → get_by (λ k. slice_cmp nat_cmp spelling k.now) known ≡ Some name → name ≡ spelling },
+}
+
+impl Drop for Names<'_> {
+    fn drop(self) {
+        let Names {
+            alloc: _alloc,
+            known: _known,
+        } = self;
+    }
 }
 
 impl<'a> Names<'a> {

@@ -4,7 +4,7 @@ ghost use Rattle.std.specs.List.{list_all};
 ghost use Rattle.ghc_reader.specs.Bytes.{goes_on, Lacks};
 
 /// What a run is made of.
-#[derive(Clone, Copy, PartialEq, Eq, Debug)]
+#[derive(Clone, Copy)]
 pub(crate) enum Run {
     /// Digits.
     Digits,

@@ -7,7 +7,7 @@ use crate::token::{Mark, Product, Sum, Token};
 use ghc_term::Comparison;
 
 /// A token that has one spelling.
-#[derive(Clone, Copy, PartialEq, Eq, Debug)]
+#[derive(Clone, Copy)]
 pub(crate) enum Symbol {
     Mark(Mark),
     Comparison(Comparison),

@@ -22,7 +22,7 @@ use std::alloc::AllocError;
 use std::str;
 
 /// Whether a text may hold reserved variables, those that stand for variables of the state.
-#[derive(Clone, Copy, PartialEq, Eq, Debug)]
+#[derive(Clone, Copy, PartialEq, Eq)]
 pub(crate) enum Reserved {
     /// It may not, as in a program, a query or an input term.
     Refused,

@@ -7,13 +7,22 @@ use ghc_term::{Name, Term};
 use std::alloc::{AllocError, Global};
 
 /// The names of which lists are made, so that each list shares them.
-#[derive(Drop)]
 pub(crate) struct Lists {
     alloc: Global,
     cell: Name,
     empty: Name,
     ghost names_cells: { cell ≡ codes "." },
     ghost names_the_empty: { empty ≡ codes "[]" },
+}
+
+impl Drop for Lists {
+    fn drop(self) {
+        let Lists {
+            alloc: _alloc,
+            cell: _cell,
+            empty: _empty,
+        } = self;
+    }
 }
 
 impl Lists {

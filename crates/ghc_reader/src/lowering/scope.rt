@@ -9,7 +9,6 @@ use std::alloc::{AllocError, Global};
 use std::marker::Model;
 
 /// The variables known so far, by number. Contracts see their names.
-#[derive(Drop)]
 pub(crate) struct Scope {
     places: IndexMap<Name, u32>,
     names: Vec<Name>,
@@ -29,6 +28,15 @@ impl Model for Scope {
     ghost view = { λ s. s.names.items };
 
     ghost invariant = { λ s. IsTable (get bytes_eq s.places) s.names.items };
+}
+
+impl Drop for Scope {
+    fn drop(self) {
+        let Scope {
+            places: _places,
+            names: _names,
+        } = self;
+    }
 }
 
 impl Scope {
@@ -65,7 +73,11 @@ impl Scope {
     pub(crate) fn into_names(self) -> Vec<Name>
         ensures { result.items ≡ self }
     {
-        self.names
+        let Scope {
+            places: _places,
+            names,
+        } = self;
+        names
     }
 
     // The next variable, called `_`.

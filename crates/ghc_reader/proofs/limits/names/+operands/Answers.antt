@@ -2,7 +2,7 @@ use Rattle.std.proofs.Common.{arith, ap, ◌∙◌}
 use Rattle.std.proofs.lemmas.Grind.{common_steps}
 use Rattle.ghc_reader.specs.Views.{value_view}
 use Rattle.ghc_reader.specs.Amounts.{names_in}
-use Rattle.ghc_reader.proofs.AmountLemmas.{names_of_products, names_of_sums}
+use Rattle.ghc_reader.proofs.AmountLemmas.{names_of_products, names_of_sums, push_more}
 use Rattle.ghc_reader.proofs.limits.names.+operands.Goals as goal
 
 pub push_expression-returns-in_ok-push_expression-in-Products :
@@ -16,3 +16,9 @@ pub push_expression-returns-in_ok-push_expression-in-Sums :
 push_expression-returns-in_ok-push_expression-in-Sums t c =
     let here = ap (λ u. names_in (value_view u)) c.in-Sums.is ∙ names_of_sums c.in-Sums.first c.in-Sums.others in
     grind (arith, common_steps, here)
+
+pub push_factors-loop-factor-preserved : goal.push_factors-loop-factor-preserved
+push_factors-loop-factor-preserved t c = push_more (λ x. names_in x.1) (λ x. (x.0, value_view x.1)) c.args.factors.now c.loop-factor.factor-index c.loop-factor-item.result _ _ _ c.loop-factor-test.true c.loop-factor-item.is c.loop-factor.invariant c.in_ok-push_expression.ensures
+
+pub push_summands-loop-summand-preserved : goal.push_summands-loop-summand-preserved
+push_summands-loop-summand-preserved t c = push_more (λ x. names_in x.1) (λ x. (x.0, value_view x.1)) c.args.summands.now c.loop-summand.summand-index c.loop-summand-item.result _ _ _ c.loop-summand-test.true c.loop-summand-item.is c.loop-summand.invariant c.in_ok-push_expression.ensures

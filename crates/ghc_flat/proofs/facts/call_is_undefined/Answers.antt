@@ -1,5 +1,0 @@
-use Rattle.ghc_flat.proofs.FactProofs.{call_is_undefined}
-use Rattle.ghc_flat.proofs.facts.call_is_undefined.Goals as goal
-
-pub returns : goal.returns
-returns c = call_is_undefined
