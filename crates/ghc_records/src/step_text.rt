@@ -13,13 +13,19 @@ use ghc_term::{Bindings, Goal, GoalName, Term, VarName, Variables, push_written}
 use std::alloc::{AllocError, Global};
 use std::collections::{BTreeMap, BTreeSet};
 
+// Puts the text at the end of `out`, which stays as it was where memory is refused.
+fn append(text: String, out: &mut String) -> Result<(), AllocError>
+    ensures { string_bytes out.new ≡ (if is_ok result then string_bytes out.old ++ string_bytes text else string_bytes out.old) }
+{
+    out.push_str(text.as_str())
+}
+
 /// Writes the name of a goal at the end of `out`, `n.m`, which stays as it was where memory is refused: one step.
 pub fn push_goal_name(name: GoalName, out: &mut String) -> Result<(), AllocError>
     ensures { string_bytes out.new ≡ (if is_ok result then string_bytes out.old ++ goal_name_text name else string_bytes out.old) }
 {
     let text = format!(in *out.allocator(); "{}.{}", name.step, name.place)?;
-    out.push_str(text.as_str())?;
-    Ok(())
+    append(text, out)
 }
 
 // Writes an act at the end of `out`.
@@ -45,8 +51,7 @@ pub fn push_act(act: &Act, out: &mut String) -> Result<(), AllocError>
 {
     let mut text = String::new(*out.allocator());
     write_act(act, &mut text)?;
-    out.push_str(text.as_str())?;
-    Ok(())
+    append(text, out)
 }
 
 // Writes the name of the goal that a step consumed, or `-` where it consumed none, and a space behind it.
@@ -83,8 +88,7 @@ pub fn push_journal_step(step: &Step, out: &mut String) -> Result<(), AllocError
     ensures { string_bytes out.new ≡ (if is_ok result then string_bytes out.old ++ step_text step.now else string_bytes out.old) }
 {
     let text = parts_text(*out.allocator(), step.number(), step.goal(), step.act())?;
-    out.push_str(text.as_str())?;
-    Ok(())
+    append(text, out)
 }
 
 /// Writes the step of a record at the end of `out`, which stays as it was where memory is refused, as `1 0.1 by 2`. The
@@ -93,8 +97,7 @@ pub fn push_step(taken: &Record, out: &mut String) -> Result<(), AllocError>
     ensures { string_bytes out.new ≡ (if is_ok result then string_bytes out.old ++ step_text (step_of taken.now) else string_bytes out.old) }
 {
     let text = parts_text(*out.allocator(), taken.number(), taken.goal(), taken.act())?;
-    out.push_str(text.as_str())?;
-    Ok(())
+    append(text, out)
 }
 
 // Writes a variable at the end of `out`: `_n_m`.
@@ -222,8 +225,7 @@ pub fn push_record(taken: &Record, out: &mut String) -> Result<(), AllocError>
     ensures { string_bytes out.new ≡ (if is_ok result then string_bytes out.old ++ record_text taken.now else string_bytes out.old) }
 {
     let text = text_of_record(*out.allocator(), taken)?;
-    out.push_str(text.as_str())?;
-    Ok(())
+    append(text, out)
 }
 
 #[cfg(test)]
