@@ -1,28 +1,23 @@
 -- The facts, step by step.
-use Rattle.std.proofs.Common.{◌≡◌, ℕ, suc, zero, ◌+◌, ◌<◌, cond, pos, List, [], ◌∷◌, map, refl, sym, ap, ◌∙◌, subst, inl, inr, arith}
-use Rattle.std.specs.Prelude.{Option, Some, None, codes, unwrap_or, slice_get}
+use Rattle.std.proofs.Common.{◌≡◌, ℕ, cond, pos, List, [], ◌∷◌, map, refl, sym, ap, ◌∙◌, inl, inr, arith}
+use Rattle.std.specs.Prelude.{Option, Some, None, unwrap_or}
 use Rattle.std.specs.Ordering.{eq_by_cmp}
 use Rattle.std.specs.FinMap as finite
 use Rattle.std.specs.FinSet as set
 use Rattle.ghc_term.specs.declared.var_name.VarName.{VarName}
-use Rattle.ghc_term.specs.Tree.{Tree, variable, integer, atom, nil, cons}
+use Rattle.ghc_term.specs.Tree.{Tree, variable, integer, nil, cons}
 use Rattle.ghc_term.specs.Bindings.{at_node, along, Reaches, here, through, now, on, name_cmp}
 use Rattle.ghc_term.proofs.Names.{name_total, name_antisymmetric}
-use Rattle.ghc_flat.specs.Clause.{Clause, IsClause}
+use Rattle.ghc_flat.specs.Clause.{Clause}
 use Rattle.ghc_flat.specs.Variables.{fresh_variables}
-use Rattle.ghc_flat.specs.Samples.{asked, v, store, both_atoms, append_nothing, append_cell, appends}
+use Rattle.ghc_flat.specs.Samples.{asked, v, store, append_nothing, append_cell, appends}
 use Rattle.ghc_match.specs.Position as position
-use Rattle.ghc_match.specs.Match.{Accepts, HasOutcome, accepts, Refuses, WaitsFor, AreAlike}
-use Rattle.ghc_match.proofs.Shown.{set_by, accepts_by, value_not, stands_at, stands_value}
-use Rattle.ghc_match.proofs.Outcomes.{accepts_refuses, accepts_waits, refuses_waits}
-use Rattle.ghc_match.proofs.FactProofs.{waits_on_two, refuses_before_waiting, least_integer, structure_is_no_number}
+use Rattle.ghc_match.specs.Match.{HasOutcome, accepts}
+use Rattle.ghc_match.proofs.Shown.{accepts_by, value_not, stands_at, stands_value}
 use Rattle.ghc_unify.specs.Unify.{left, stay, go}
-use Rattle.ghc_unify.proofs.FactProofs.{from_integer}
 use Rattle.ghc_unify.proofs.Ends.{ends}
-use Rattle.ghc_unify.proofs.Members.{set_in}
 use Rattle.ghc_fire.specs.Instance.{replace_in_goal, made, place_in, body_made}
-use Rattle.ghc_fire.specs.Effect.{no_step}
-use Rattle.ghc_fire.specs.Facts.{list_1, list_2, partial_list, AppendRun, InputAndClose, InputReadsAlias, BoundTailTakesNothing, LeastAssigned, StructureAssigned, AppendAttempts, WaitsThenFails}
+use Rattle.ghc_fire.specs.Facts.{list_1, list_2, partial_list, AppendRun, InputAndClose, InputReadsAlias, BoundTailTakesNothing}
 
 no_entry : finite.from_entries {R = name_cmp} [] ≡ finite.empty {X = Tree}
 no_entry = finite.same_map name_total name_antisymmetric _ _ (λ q. finite.get-from_entries name_total [] q ∙ sym (finite.get-empty name_cmp q))
@@ -111,75 +106,3 @@ bound_tail_takes_nothing e d =
     let r = d.2 in
     let same : nil ≡ variable d.0 = ends r.2 (along refl at_node) (r.0, r.1) in
     value_not same tt
-
-pub least_assigned : LeastAssigned
-least_assigned = (
-  pos 0,
-  set.from_list [],
-  least_integer.0,
-  ((asked 1, integer (pos 0)) ∷ [], [], (_, go (left now refl from_integer) stay), refl, refl),
-  set_by [] _ tt (λ x p. elim p [ inl o ↦ o.3 | inr i ↦ set_in x [] i ]),
-  refl,
-  refl,
-)
-
-pub structure_assigned : StructureAssigned
-structure_assigned = inr (inl (structure_is_no_number, refl))
-
-nil_is_no_cell : ¬ AreAlike nil list_1
-nil_is_no_cell a = omega (arith, a.1)
-
-nothing_refuses : Refuses append_nothing (list_1 ∷ list_2 ∷ v 1 ∷ []) (store [])
-nothing_refuses = inl (0 ∷ [], nil, list_1, list_1, [], (position.here refl, tt), position.here refl, at_node, tt, nil_is_no_cell)
-
--- below clause 2 there is clause 1 alone
-first_clause : (c : Clause) (i : ℕ) → slice_get appends i ≡ Some c → i + 1 < 2 → append_nothing ≡ c
-first_clause c zero e l = cc
-first_clause c (suc i) e l = absurd (omega arith)
-
-no_third : (c : Clause) (i : ℕ) → 3 ≡ i + 1 → slice_get appends i ≡ Some c → ⊥
-no_third c zero p e = omega (arith, p)
-no_third c (suc zero) p e = omega (arith, p)
-no_third c (suc (suc i)) p e = let clash : None ≡ Some c = e in cc
-
-pub append_attempts : AppendAttempts
-append_attempts = (
-  inl (
-    2,
-    _,
-    (
-      (append_cell, (1, refl, refl), (refl, refl), cell_accepts.0),
-      λ j c less ic f a.
-          let same = first_clause c ic.0 ic.2 (omega (arith, less, ic.1)) in
-          accepts_refuses append_nothing (list_1 ∷ list_2 ∷ v 1 ∷ []) (store []) (subst (λ z. Accepts z (list_1 ∷ list_2 ∷ v 1 ∷ []) (store [])) (sym same) a) nothing_refuses,
-    ),
-    (append_cell, finite.from_entries cell_entries, (1, refl, refl), (refl, refl), cell_accepts, no_entry, sym (body_is append_cell cell_entries no_step), refl),
-    refl,
-  ),
-  inl ((λ c ic f. no_third c ic.0 ic.1 ic.2), refl),
-  inr (append_nothing, (0, refl, refl), (refl, refl), inr (inr (nothing_refuses, refl))),
-)
-
--- the only clause
-only_clause : {k : ℕ} {c : Clause} → IsClause (both_atoms ∷ []) k c → both_atoms ≡ c
-only_clause {c = c} i = at i.0 i.2 where
-  at : (j : ℕ) → slice_get (both_atoms ∷ []) j ≡ Some c → both_atoms ≡ c
-  at zero e = cc
-  at (suc j) e = let clash : None ≡ Some c = e in cc
-
-pub waits_then_fails : WaitsThenFails
-waits_then_fails =
-    let ts = v 1 ∷ v 2 ∷ [] in
-    let later = store ((asked 2, atom (codes "c")) ∷ []) in
-    let wanted = waits_on_two.1 in (
-      inr (inl (
-        (λ s. accepts_waits both_atoms ts (store []) (subst (λ c. Accepts c ts (store [])) (sym (only_clause s.2)) s.4) wanted.0 wanted.1),
-        (wanted.0, (1, both_atoms, (0, refl, refl), (refl, refl), wanted.1)),
-        refl,
-      )),
-      inr (inr (
-        (λ s. accepts_refuses both_atoms ts later (subst (λ c. Accepts c ts later) (sym (only_clause s.2)) s.4) refuses_before_waiting),
-        (λ x s. refuses_waits both_atoms ts later refuses_before_waiting x (subst (λ c. WaitsFor c ts later x) (sym (only_clause s.2)) s.4)),
-        refl,
-      )),
-    )

@@ -64,11 +64,25 @@ Closes s S e = (x : VarName) × ReadsTail s S x e × (e.binds ≡ finite.insert 
 -- In the store S, the act on the goal has this effect as step n; an act of another kind than the goal has none.
 abbrev pub HasEffect : Program → Goal → Act → ℕ → (VarName → Option Tree) → Effect → Type 0
 HasEffect P (call f ts) (by_clause k) n S e = Reduces P f ts k n S e
+HasEffect P (call f ts) unified n S e = ⊥
+HasEffect P (call f ts) assigned n S e = ⊥
+HasEffect P (call f ts) (given u) n S e = ⊥
+HasEffect P (call f ts) closed n S e = ⊥
+HasEffect P (unify l r) (by_clause k) n S e = ⊥
 HasEffect P (unify l r) unified n S e = Unites l r S e
+HasEffect P (unify l r) assigned n S e = ⊥
+HasEffect P (unify l r) (given u) n S e = ⊥
+HasEffect P (unify l r) closed n S e = ⊥
+HasEffect P (assign t a) (by_clause k) n S e = ⊥
+HasEffect P (assign t a) unified n S e = ⊥
 HasEffect P (assign t a) assigned n S e = Assigns t a S e
+HasEffect P (assign t a) (given u) n S e = ⊥
+HasEffect P (assign t a) closed n S e = ⊥
+HasEffect P (stream k s) (by_clause j) n S e = ⊥
+HasEffect P (stream k s) unified n S e = ⊥
+HasEffect P (stream k s) assigned n S e = ⊥
 HasEffect P (stream k s) (given u) n S e = Feeds k s u n S e
 HasEffect P (stream k s) closed n S e = Closes s S e
-HasEffect P _ _ n S e = ⊥
 
 -- The number that no step has; the effect under it stands for the effect under any number.
 abbrev pub no_step : ℕ

@@ -1,18 +1,14 @@
--- Small facts on effects and attempts, with values worked out by hand.
-use Rattle.std.specs.Prelude.{ℕ, pos, negsuc, List, [], ◌∷◌, Some, None, codes}
+-- Small facts on effects, with values worked out by hand.
+use Rattle.std.specs.Prelude.{ℕ, pos, List, [], ◌∷◌, codes}
 use Rattle.std.specs.FinMap as finite
 use Rattle.std.specs.FinSet as set
 use Rattle.ghc_term.specs.declared.var_name.VarName.{VarName}
-use Rattle.ghc_term.specs.declared.operator.Operator.TheVariants.{Add, Modulo}
-use Rattle.ghc_term.specs.Tree.{Tree, variable, integer, node, none, more, atom, nil, cons}
-use Rattle.ghc_term.specs.Expression.{leaf, operation}
-use Rattle.ghc_term.specs.Goal.{Goal, call, unify, assign, stream}
-use Rattle.ghc_flat.specs.Samples.{asked, v, store, both_atoms, appends}
-use Rattle.ghc_term.specs.declared.fault.Fault.TheVariants.{NoClause, Waits, NoMatch, Arithmetic}
+use Rattle.ghc_term.specs.Tree.{Tree, variable, integer, nil, cons}
+use Rattle.ghc_term.specs.Goal.{Goal, call, unify, stream}
+use Rattle.ghc_flat.specs.Samples.{asked, v, store, appends}
 use Rattle.ghc_fire.specs.Instance.{made}
-use Rattle.ghc_fire.specs.declared.act.Act.TheVariants.{ByClause as by_clause, Unified as unified, Assigned as assigned, Given as given, Closed as closed}
-use Rattle.ghc_fire.specs.Effect.{Effect, HasEffect, no_step}
-use Rattle.ghc_fire.specs.Attempt.{proposes, refused, Attempts}
+use Rattle.ghc_fire.specs.declared.act.Act.TheVariants.{ByClause as by_clause, Unified as unified, Given as given, Closed as closed}
+use Rattle.ghc_fire.specs.Effect.{Effect, HasEffect}
 
 -- the effect with these reads, bindings, goals and so many fresh variables
 abbrev pub effect : List VarName → List (VarName × Tree) → List Goal → ℕ → Effect
@@ -60,29 +56,3 @@ InputReadsAlias =
 -- After `S = []` no input is possible.
 abbrev pub BoundTailTakesNothing : Type 0
 BoundTailTakesNothing = (e : Effect) → ¬ HasEffect [] (stream 1 (asked 1)) (given (integer (pos 5))) 1 (store ((asked 1, nil) ∷ [])) e
-
--- `X := -9223372036854775808 mod -1` binds X to 0 and reads nothing.
-abbrev pub LeastAssigned : Type 0
-LeastAssigned =
-    HasEffect [] (assign (v 1) (operation Modulo (leaf (integer (negsuc 9223372036854775807))) (leaf (integer (negsuc 0))))) assigned 1 (store [])
-    (effect [] ((asked 1, integer (pos 0)) ∷ []) [] 0)
-
--- `X := f(Y) + 1` is refused for want of a value, not for waiting.
-abbrev pub StructureAssigned : Type 0
-StructureAssigned =
-    Attempts [] (store []) (Some (assign (v 1) (operation Add (leaf (node (codes "f") (more (v 2) none))) (leaf (integer (pos 1)))))) None (refused Arithmetic)
-
--- Without a choice `append([1],[2],R)` is proposed by clause 2, the least that accepts; there is no clause 3 for it, and clause 1 does not match.
-abbrev pub AppendAttempts : Type 0
-AppendAttempts =
-    let goal = Some (call (codes "append") (list_1 ∷ list_2 ∷ v 1 ∷ [])) in
-    Attempts appends (store []) goal None
-    (proposes (by_clause 2) (effect [] [] (unify (v 1) (cons (integer (pos 1)) (variable (made no_step 1))) ∷ call (codes "append") (nil ∷ list_2 ∷ variable (made no_step 1) ∷ []) ∷ []) 1))
-    × Attempts appends (store []) goal (Some 3) (refused NoClause) × Attempts appends (store []) goal (Some 1) (refused NoMatch)
-
--- With `p(a,b) :- true | true.`, the goal `p(X,Y)` waits, and where Y is c no clause matches.
-abbrev pub WaitsThenFails : Type 0
-WaitsThenFails =
-    let goal = Some (call (codes "p") (v 1 ∷ v 2 ∷ [])) in
-    Attempts (both_atoms ∷ []) (store []) goal None (refused Waits)
-    × Attempts (both_atoms ∷ []) (store ((asked 2, atom (codes "c")) ∷ [])) goal None (refused NoMatch)

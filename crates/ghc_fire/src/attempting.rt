@@ -1,5 +1,5 @@
 // What a step of a goal would do, and what it does as a step of some number.
-ghost use Rattle.std.specs.Prelude.{◌≡◌, ◌⊎◌, IfOk, IfErr, IsErrAnd, MatchResult};
+ghost use Rattle.std.specs.Prelude.{◌≡◌, ◌⊎◌, Err, IfOk, IfErr, IsErrAnd, MatchResult};
 ghost use Rattle.ghc_term.specs.Store.{value_at};
 ghost use Rattle.ghc_term.specs.declared.fault.Fault.{Fault as fault_spec};
 ghost use Rattle.ghc_fire.specs.declared.act.Act.{Act as act_spec};
@@ -43,6 +43,10 @@ pub fn attempt(
         → MatchResult result (λ p. (p.act ≡ a) × (p.effect ≡ e)) (λ f. f ≡ Fault.Memory) }
     ensures only_fault { (f : fault_spec) → AttemptsAt program.now goals.now store.now goal choice (refused f)
         → IsErrAnd result (λ g. (g ≡ f) ⊎ (g ≡ Fault.Memory)) }
+
+    // What look-ups refuse, no want of memory hides.
+    ensures no_goal { AttemptsAt program.now goals.now store.now goal choice (refused Fault.NoGoal) → result ≡ Err Fault.NoGoal }
+    ensures no_clause { AttemptsAt program.now goals.now store.now goal choice (refused Fault.NoClause) → result ≡ Err Fault.NoClause }
     ensures counted { meter.new ≡ fired meter.old }
 {
     meter.count_firing();
@@ -61,6 +65,8 @@ fn propose(
 ) -> Result<Proposal, Fault>
     ensures proposed { IfOk result (IsProposed program.now goals.now store.now goal choice) }
     ensures fault { IfErr result (λ f. (f ≡ Fault.Memory) ⊎ AttemptsAt program.now goals.now store.now goal choice (refused f)) }
+    ensures no_goal { AttemptsAt program.now goals.now store.now goal choice (refused Fault.NoGoal) → result ≡ Err Fault.NoGoal }
+    ensures no_clause { AttemptsAt program.now goals.now store.now goal choice (refused Fault.NoClause) → result ≡ Err Fault.NoClause }
 {
     let Some(consumed) = goals.get(goal) else {
         return Err(Fault::NoGoal);
@@ -79,6 +85,8 @@ fn step(
 ) -> Result<(Act, Effect), Fault>
     ensures proposed { IfOk result (λ p. Attempts program.now (value_at store.now) (Some goal.now) choice (proposes p.0 p.1)) }
     ensures fault { IfErr result (λ f. (f ≡ Fault.Memory) ⊎ Attempts program.now (value_at store.now) (Some goal.now) choice (refused f)) }
+    ensures no_goal { Attempts program.now (value_at store.now) (Some goal.now) choice (refused Fault.NoGoal) → result ≡ Err Fault.NoGoal }
+    ensures no_clause { Attempts program.now (value_at store.now) (Some goal.now) choice (refused Fault.NoClause) → result ≡ Err Fault.NoClause }
 {
     match (goal.view(), choice) {
         (GoalView::Stream(_, _), _) => Err(Fault::NoGoal),

@@ -1,5 +1,5 @@
 // What a step of a call would do.
-ghost use Rattle.std.specs.Prelude.{◌≡◌, ◌⊎◌, length, IfOk, IfErr};
+ghost use Rattle.std.specs.Prelude.{◌≡◌, ◌⊎◌, length, Err, IfOk, IfErr};
 ghost use Rattle.ghc_term.specs.Store.{value_at};
 ghost use Rattle.ghc_fire.specs.Attempt.{proposes, refused, CallAnswers, ChoiceAnswers};
 ghost use Rattle.ghc_fire.specs.Calls.{HasVerdict};
@@ -88,6 +88,7 @@ pub fn attempt_choice(
 ) -> Result<(Act, Effect), Fault>
     ensures proposed { IfOk result (λ p. ChoiceAnswers program.now name.now arguments.now number (value_at store.now) (proposes p.0 p.1)) }
     ensures fault { IfErr result (λ f. (f ≡ Fault.Memory) ⊎ ChoiceAnswers program.now name.now arguments.now number (value_at store.now) (refused f)) }
+    ensures no_clause { ChoiceAnswers program.now name.now arguments.now number (value_at store.now) (refused Fault.NoClause) → result ≡ Err Fault.NoClause }
 {
     let Some(clause) = program.clause(number) else {
         return Err(Fault::NoClause);

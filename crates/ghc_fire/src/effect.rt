@@ -10,12 +10,22 @@ pub const NO_STEP: u32 = 4_294_967_295;
 
 /// The effect of a step: the variables that it reads, what it binds, the goals that it makes in order, and how many
 /// variables it makes.
-#[derive(Drop)]
 pub struct Effect {
     reads: Variables,
     binds: Bindings,
     makes: Vec<Goal>,
     fresh: u32,
+}
+
+impl Drop for Effect {
+    fn drop(self) {
+        let Effect {
+            reads: _reads,
+            binds: _binds,
+            makes: _makes,
+            fresh: _,
+        } = self;
+    }
 }
 
 impl Model for Effect {
@@ -95,7 +105,13 @@ impl Effect {
         ensures makes { result.2.items ≡ self.makes }
         ensures fresh { result.3 ≡ self.fresh }
     {
-        (self.reads, self.binds, self.makes, self.fresh)
+        let Effect {
+            reads,
+            binds,
+            makes,
+            fresh,
+        } = self;
+        (reads, binds, makes, fresh)
     }
 
     /// Whether the other is the same effect. It goes once through both, up to the first difference.

@@ -8,9 +8,14 @@ use std::collections::btree_map::Iter;
 use std::marker::Model;
 
 /// The goals of a state by their names.
-#[derive(Drop)]
 pub struct Goals {
     map: BTreeMap<GoalName, Goal>,
+}
+
+impl Drop for Goals {
+    fn drop(self) {
+        let Goals { map: _map } = self;
+    }
 }
 
 impl Model for Goals {

@@ -20,10 +20,7 @@ mod tests;
 pub use act::Act;
 pub use attempting::{attempt, finish};
 pub use effect::Effect;
-pub use facts::{
-    append_attempts, append_run, bound_tail_takes_nothing, input_and_close, input_reads_alias,
-    least_assigned, structure_assigned, waits_then_fails,
-};
+pub use facts::{append_run, bound_tail_takes_nothing, input_and_close, input_reads_alias};
 pub use goals::Goals;
 pub use instances::instance;
 pub use laws::{

@@ -8,12 +8,22 @@ use std::marker::Model;
 
 /// A step that was possible when it was proposed: a goal, by name and as written, the act on it, and its effect under any
 /// number.
-#[derive(Drop)]
 pub struct Proposal {
     goal: GoalName,
     consumed: Goal,
     act: Act,
     effect: Effect,
+}
+
+impl Drop for Proposal {
+    fn drop(self) {
+        let Proposal {
+            goal: _,
+            consumed: _consumed,
+            act: _act,
+            effect: _effect,
+        } = self;
+    }
 }
 
 impl Model for Proposal {
@@ -76,6 +86,12 @@ impl Proposal {
         ensures consumed { result.0 ≡ self.consumed }
         ensures effect { result.1 ≡ self.effect }
     {
-        (self.consumed, self.effect)
+        let Proposal {
+            goal: _,
+            consumed,
+            act: _act,
+            effect,
+        } = self;
+        (consumed, effect)
     }
 }

@@ -14,3 +14,4 @@ pub mod Listing
 pub mod NameOrder
 pub mod BindingOrder
 pub mod Makes
+pub mod TakenBack

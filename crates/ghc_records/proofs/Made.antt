@@ -16,7 +16,7 @@ use Rattle.ghc_records.specs.State.{AreFree, without_makes}
 use Rattle.ghc_records.proofs.Names.{goal_total, same_goal}
 
 -- the name that step n gives at the place i
-abbrev name : ℕ → ℕ → GoalName
+abbrev pub name : ℕ → ℕ → GoalName
 name n i = record { step = n; place = i }
 
 -- a goal that stands for none

@@ -21,7 +21,7 @@ tied Less e = cc
 tied Equal e = refl
 tied Greater e = cc
 
-same_parts : (g h : GoalName) → g.step ≡ h.step → g.place ≡ h.place → g ≡ h
+pub same_parts : (g h : GoalName) → g.step ≡ h.step → g.place ≡ h.place → g ≡ h
 same_parts g h p q i = record { step = p i; place = q i }
 
 pub same_goal : (g h : GoalName) → eq_by_cmp goal_cmp g h ≡ true → g ≡ h

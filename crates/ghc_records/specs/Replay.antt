@@ -1,7 +1,8 @@
 -- What it is to run a list of steps from a query.
-use Rattle.std.specs.Prelude.{◌≡◌, ◌⊎◌, ◌≤◌, List, [], ◌∷◌}
+use Rattle.std.specs.Prelude.{◌≡◌, ◌⊎◌, ◌≤◌, List, [], ◌∷◌, length}
 use Rattle.std.specs.FinMap as finite
 use Rattle.ghc_term.specs.declared.var_name.VarName.{VarName}
+use Rattle.ghc_term.specs.declared.goal_name.GoalName.{GoalName}
 use Rattle.ghc_term.specs.Lists.{In}
 use Rattle.ghc_flat.specs.Clause.{Program, Query}
 use Rattle.ghc_flat.specs.Variables.{variables_of_goals}
@@ -25,6 +26,10 @@ HaveStepNumbers rs = ((r : Record) → In r rs → IsStepNumber r.number) × Are
 -- The replay of the records from the query is the state t.
 abbrev pub Replays : Program → Query → List Record → State → Type 0
 Replays P query rs t = HaveStepNumbers rs × Runs P (query_state query) rs t
+
+-- The step of the record made the goal named g.
+abbrev pub MakesGoal : Record → GoalName → Type 0
+MakesGoal r g = (g.step ≡ r.number) × (1 ≤ g.place) × (g.place ≤ length r.effect.makes)
 
 -- The step of the record made the variable x.
 abbrev pub MakesVariable : Record → VarName → Type 0

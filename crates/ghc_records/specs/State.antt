@@ -1,5 +1,5 @@
 -- What lets a state take a step.
-use Rattle.std.specs.Prelude.{◌≡◌, ◌≢◌, if◌then◌else◌, is_some, ℕ, zero, suc, length, Option, Some, None}
+use Rattle.std.specs.Prelude.{◌≡◌, ◌≢◌, if◌then◌else◌, is_some, ℕ, zero, suc, Option, Some, None}
 use Rattle.std.specs.FinMap as finite
 use Rattle.ghc_term.specs.declared.var_name.VarName.{VarName}
 use Rattle.ghc_term.specs.declared.goal_name.GoalName.{GoalName}
@@ -8,6 +8,7 @@ use Rattle.ghc_term.specs.Bindings.{IsAcyclic}
 use Rattle.ghc_term.specs.Store.{value_at}
 use Rattle.ghc_fire.specs.Goals.{Goals}
 use Rattle.ghc_records.specs.Record.{State, Record, after, IsThere}
+use Rattle.ghc_records.specs.Replay.{MakesGoal}
 
 -- no goal has a name that step n gives
 abbrev pub AreFree : Goals → ℕ → Type 0
@@ -24,9 +25,19 @@ with_goal (Some g) (Some b) m = finite.insert m g b
 with_goal (Some g) None m = m
 with_goal None consumed m = m
 
--- The step is taken back from the state s, which leaves t: what it bound is unbound, the goals that it made are gone, and the goal that it consumed is there again.
+-- The step consumed the goal b of the name g.
+abbrev pub ConsumesGoal : Record → GoalName → Goal → Type 0
+ConsumesGoal r g b = (r.goal ≡ Some g) × (r.consumed ≡ Some b)
+
+-- Of the goals m the step's are taken back, which leaves l: those that it made are gone, the one that it consumed and did not make is there again, and under each other name is what was there.
+pub record GoalsTakenBack (r : Record) (m l : Goals) : Type 0 where
+  pub unmade : (g : GoalName) → MakesGoal r g → finite.get l g ≡ None
+  pub given_back : (g : GoalName) (b : Goal) → ConsumesGoal r g b → ¬ MakesGoal r g → finite.get l g ≡ Some b
+  pub others : (g : GoalName) → ¬ MakesGoal r g → ((b : Goal) → ¬ ConsumesGoal r g b) → finite.get l g ≡ finite.get m g
+
+-- The step is taken back from the state s, which leaves t: its goals are taken back, and what it bound is unbound.
 pub record IsTakenBack (r : Record) (s t : State) : Type 0 where
-  pub goals : t.goals ≡ without_makes r.number (length r.effect.makes) (with_goal r.goal r.consumed s.goals)
+  pub goals : GoalsTakenBack r s.goals t.goals
   pub store : (x : VarName) → value_at t.store x ≡ if is_some (value_at r.effect.binds x) then None else value_at s.store x
 
 -- The state can take the step: the goal that it consumes is there, no goal has a name that it gives, what it binds is unbound, and the store stays acyclic.

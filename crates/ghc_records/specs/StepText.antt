@@ -28,12 +28,12 @@ act_text assigned = codes "is"
 act_text (given u) = codes "in " ++ term_text u
 act_text closed = codes "end"
 
--- the name of the goal that a step consumed, if it consumed one, and a space behind it
+-- the name of the goal that a step consumed, or `-` where it consumed none, and a space behind it
 abbrev pub consumed_text : Option GoalName → List ℕ
-consumed_text None = []
+consumed_text None = codes "- "
 consumed_text (Some g) = goal_name_text g ++ codes " "
 
--- a step: its number, the goal that it consumed, and its act, as `1 0.1 by 2`
+-- a step: its number, the goal that it consumed, and its act, as `1 0.1 by 2`, or `2 - end` without a goal
 abbrev pub step_text : Step → List ℕ
 step_text s = decimal s.number ++ (codes " " ++ (consumed_text s.goal ++ act_text s.act))
 

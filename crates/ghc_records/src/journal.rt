@@ -7,9 +7,14 @@ use std::alloc::{AllocError, Global};
 use std::marker::Model;
 
 /// Entries in the order in which they were made.
-#[derive(Drop)]
 pub struct Journal {
     entries: Vec<Entry>,
+}
+
+impl Drop for Journal {
+    fn drop(self) {
+        let Journal { entries: _entries } = self;
+    }
 }
 
 impl Model for Journal {

@@ -15,13 +15,24 @@ pub struct Record {
     parts: Arc<Parts>,
 }
 
-#[derive(Drop)]
 struct Parts {
     number: u32,
     goal: Option<GoalName>,
     consumed: Option<Goal>,
     act: Act,
     effect: Effect,
+}
+
+impl Drop for Parts {
+    fn drop(self) {
+        let Parts {
+            number: _,
+            goal: _,
+            consumed: _consumed,
+            act: _act,
+            effect: _effect,
+        } = self;
+    }
 }
 
 impl Model for Record {

@@ -7,9 +7,14 @@ use std::alloc::{AllocError, Global};
 use std::marker::Model;
 
 /// Records in recorded order, no two of one number, each found by its number.
-#[derive(Drop)]
 pub struct Records {
     map: IndexMap<u32, Record>,
+}
+
+impl Drop for Records {
+    fn drop(self) {
+        let Records { map: _map } = self;
+    }
 }
 
 impl Model for Records {

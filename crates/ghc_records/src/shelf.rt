@@ -8,9 +8,14 @@ use std::collections::btree_map::Iter;
 use std::marker::Model;
 
 /// Records by the numbers of their steps.
-#[derive(Drop)]
 pub struct Shelf {
     map: BTreeMap<u32, Record>,
+}
+
+impl Drop for Shelf {
+    fn drop(self) {
+        let Shelf { map: _map } = self;
+    }
 }
 
 impl Model for Shelf {

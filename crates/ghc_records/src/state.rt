@@ -10,10 +10,18 @@ use std::alloc::{AllocError, Global};
 use std::marker::Model;
 
 /// A state of a run: its goals by name, and what variables are bound to.
-#[derive(Drop)]
 pub struct State {
     goals: Goals,
     store: Store,
+}
+
+impl Drop for State {
+    fn drop(self) {
+        let State {
+            goals: _goals,
+            store: _store,
+        } = self;
+    }
 }
 
 impl Model for State {

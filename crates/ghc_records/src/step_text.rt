@@ -1,5 +1,5 @@
 // The texts of steps and of records.
-ghost use Rattle.std.specs.Prelude.{◌≡◌, ◌++◌, List, ℕ, map, IfOk, OnOk, string_bytes};
+ghost use Rattle.std.specs.Prelude.{◌≡◌, ◌++◌, List, ℕ, map, IfOk, OnOk, is_ok, if◌then◌else◌, string_bytes};
 ghost use Rattle.std.specs.FinSet as set;
 ghost use Rattle.std.specs.FinMap as finite;
 ghost use Rattle.ghc_term.specs.Text.{variable_text};
@@ -13,15 +13,23 @@ use ghc_term::{Bindings, Goal, GoalName, Term, VarName, Variables, push_written}
 use std::alloc::{AllocError, Global};
 use std::collections::{BTreeMap, BTreeSet};
 
-/// Writes the name of a goal at the end of `out`, `n.m`: one step.
-pub fn push_goal_name(name: GoalName, out: &mut String) -> Result<(), AllocError>
-    ensures { OnOk result (string_bytes out.new ≡ string_bytes out.old ++ goal_name_text name) }
+// Puts the text at the end of `out`, which stays as it was where memory is refused.
+fn append(text: String, out: &mut String) -> Result<(), AllocError>
+    ensures { string_bytes out.new ≡ (if is_ok result then string_bytes out.old ++ string_bytes text else string_bytes out.old) }
 {
-    write!(out, "{}.{}", name.step, name.place)
+    out.push_str(text.as_str())
 }
 
-/// Writes an act at the end of `out`: `by 2`, `eq`, `is`, `in T` or `end`. The cost is that of the text.
-pub fn push_act(act: &Act, out: &mut String) -> Result<(), AllocError>
+/// Writes the name of a goal at the end of `out`, `n.m`, which stays as it was where memory is refused: one step.
+pub fn push_goal_name(name: GoalName, out: &mut String) -> Result<(), AllocError>
+    ensures { string_bytes out.new ≡ (if is_ok result then string_bytes out.old ++ goal_name_text name else string_bytes out.old) }
+{
+    let text = format!(in *out.allocator(); "{}.{}", name.step, name.place)?;
+    append(text, out)
+}
+
+// Writes an act at the end of `out`.
+fn write_act(act: &Act, out: &mut String) -> Result<(), AllocError>
     ensures { OnOk result (string_bytes out.new ≡ string_bytes out.old ++ act_text act.now) }
 {
     match act {
@@ -36,7 +44,17 @@ pub fn push_act(act: &Act, out: &mut String) -> Result<(), AllocError>
     }
 }
 
-// Writes the name of the goal that a step consumed, if it consumed one, and a space behind it.
+/// Writes an act at the end of `out`, which stays as it was where memory is refused: `by 2`, `eq`, `is`, `in T` or `end`. The
+/// cost is that of the text.
+pub fn push_act(act: &Act, out: &mut String) -> Result<(), AllocError>
+    ensures { string_bytes out.new ≡ (if is_ok result then string_bytes out.old ++ act_text act.now else string_bytes out.old) }
+{
+    let mut text = String::new(*out.allocator());
+    write_act(act, &mut text)?;
+    append(text, out)
+}
+
+// Writes the name of the goal that a step consumed, or `-` where it consumed none, and a space behind it.
 fn push_consumed(goal: Option<GoalName>, out: &mut String) -> Result<(), AllocError>
     ensures { OnOk result (string_bytes out.new ≡ string_bytes out.old ++ consumed_text goal) }
 {
@@ -45,36 +63,41 @@ fn push_consumed(goal: Option<GoalName>, out: &mut String) -> Result<(), AllocEr
             push_goal_name(name, out)?;
             out.push_str(" ")
         }
-        None => Ok(()),
+        None => out.push_str("- "),
     }
 }
 
-// Writes the step of these parts at the end of `out`.
-fn push_parts(
+// The text of the step of these parts.
+fn parts_text(
+    alloc: Global,
     number: u32,
     goal: Option<GoalName>,
     act: &Act,
-    out: &mut String,
-) -> Result<(), AllocError>
-    ensures { OnOk result (string_bytes out.new ≡ string_bytes out.old ++ step_text (record { number = number; goal = goal; act = act.now })) }
+) -> Result<String, AllocError>
+    ensures { IfOk result (λ text. string_bytes text ≡ step_text (record { number = number; goal = goal; act = act.now })) }
 {
-    write!(out, "{number} ")?;
-    push_consumed(goal, out)?;
-    push_act(act, out)
+    let mut text = format!(in alloc; "{number} ")?;
+    push_consumed(goal, &mut text)?;
+    write_act(act, &mut text)?;
+    Ok(text)
 }
 
-/// Writes a step at the end of `out`, as `1 0.1 by 2`. The cost is that of the text.
+/// Writes a step at the end of `out`, which stays as it was where memory is refused, as `1 0.1 by 2`. The cost is that of
+/// the text.
 pub fn push_journal_step(step: &Step, out: &mut String) -> Result<(), AllocError>
-    ensures { OnOk result (string_bytes out.new ≡ string_bytes out.old ++ step_text step.now) }
+    ensures { string_bytes out.new ≡ (if is_ok result then string_bytes out.old ++ step_text step.now else string_bytes out.old) }
 {
-    push_parts(step.number(), step.goal(), step.act(), out)
+    let text = parts_text(*out.allocator(), step.number(), step.goal(), step.act())?;
+    append(text, out)
 }
 
-/// Writes the step of a record at the end of `out`, as `1 0.1 by 2`. The cost is that of the text.
+/// Writes the step of a record at the end of `out`, which stays as it was where memory is refused, as `1 0.1 by 2`. The
+/// cost is that of the text.
 pub fn push_step(taken: &Record, out: &mut String) -> Result<(), AllocError>
-    ensures { OnOk result (string_bytes out.new ≡ string_bytes out.old ++ step_text (step_of taken.now)) }
+    ensures { string_bytes out.new ≡ (if is_ok result then string_bytes out.old ++ step_text (step_of taken.now) else string_bytes out.old) }
 {
-    push_parts(taken.number(), taken.goal(), taken.act(), out)
+    let text = parts_text(*out.allocator(), taken.number(), taken.goal(), taken.act())?;
+    append(text, out)
 }
 
 // Writes a variable at the end of `out`: `_n_m`.
@@ -180,19 +203,29 @@ fn push_makes(number: u32, goals: &[Goal], out: &mut String) -> Result<(), Alloc
     Ok(())
 }
 
-/// Writes a record at the end of `out`, as `1 0.1 by 2 reads - binds - makes 1.1,1.2`. The cost is that of the text, and what
-/// it takes to put its variables in order. Fails also where the step makes 2^32 goals or more.
-pub fn push_record(taken: &Record, out: &mut String) -> Result<(), AllocError>
-    ensures { OnOk result (string_bytes out.new ≡ string_bytes out.old ++ record_text taken.now) }
+// The text of a record.
+fn text_of_record(alloc: Global, taken: &Record) -> Result<String, AllocError>
+    ensures { IfOk result (λ text. string_bytes text ≡ record_text taken.now) }
 {
-    push_step(taken, out)?;
+    let mut text = parts_text(alloc, taken.number(), taken.goal(), taken.act())?;
     let effect = taken.effect();
-    out.push_str(" reads ")?;
-    push_variables(effect.reads(), out)?;
-    out.push_str(" binds ")?;
-    push_bindings(effect.binds(), out)?;
-    out.push_str(" makes ")?;
-    push_makes(taken.number(), effect.makes(), out)
+    text.push_str(" reads ")?;
+    push_variables(effect.reads(), &mut text)?;
+    text.push_str(" binds ")?;
+    push_bindings(effect.binds(), &mut text)?;
+    text.push_str(" makes ")?;
+    push_makes(taken.number(), effect.makes(), &mut text)?;
+    Ok(text)
+}
+
+/// Writes a record at the end of `out`, which stays as it was where memory is refused, as
+/// `1 0.1 by 2 reads - binds - makes 1.1,1.2`. The cost is that of the text, and what it takes to put its variables in
+/// order. Fails also where the step makes 2^32 goals or more.
+pub fn push_record(taken: &Record, out: &mut String) -> Result<(), AllocError>
+    ensures { string_bytes out.new ≡ (if is_ok result then string_bytes out.old ++ record_text taken.now else string_bytes out.old) }
+{
+    let text = text_of_record(*out.allocator(), taken)?;
+    append(text, out)
 }
 
 #[cfg(test)]
