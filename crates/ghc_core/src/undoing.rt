@@ -1,5 +1,5 @@
 // Undoing a step that nothing depends on.
-ghost use Rattle.std.specs.Prelude.{◌≡◌, ◌⊎◌, ◌∷◌, ◌++◌, [], IfOk, IfErr, OnOk, OnErr, IsErrAnd, MatchResult, ⊤};
+ghost use Rattle.std.specs.Prelude.{◌≡◌, ◌⊎◌, ◌∷◌, ◌++◌, [], IfOk, IfErr, OnOk, OnErr, Err};
 ghost use Rattle.std.specs.FinMap as finite;
 ghost use Rattle.ghc_term.specs.declared.fault.Fault.{Fault as fault_spec};
 ghost use Rattle.ghc_term.specs.Lists.{In};
@@ -24,7 +24,7 @@ use std::alloc::AllocError;
 fn undoable(records: &Records, number: u32) -> Result<Record, Fault>
     ensures kept { IfOk result (λ r. IsKeptAs records.now number r) }
     ensures free { IfOk result (λ r. (b : record_spec) → ¬ Follows records.now r b) }
-    ensures fault { IfErr result (λ f. (f ≡ Fault.Memory) ⊎ UndoFails records.now number f) }
+    ensures fault { IfErr result (λ f. ((f ≡ Fault.Memory) × CanUndo records.now number) ⊎ UndoFails records.now number f) }
 {
     let Some(kept) = records.get(number) else {
         return Err(Fault::NotKept);
@@ -103,17 +103,14 @@ impl Core {
 
     /// Undoes the step of this number: what it bound is unbound, the goals that it made are gone, the goal that it consumed is
     /// there again, and its record goes to the shelf. `NotKept` exactly where the step is not kept; else `HasConsequence`, with
-    /// the first consequence in recorded order, exactly where it has one; else it fails for want of memory alone. A refused
-    /// undo changes nothing. It goes over the records behind the step, with a look-up for each variable that they read.
+    /// the first consequence in recorded order, exactly where it has one; these come before memory is asked for, whose want is the
+    /// one refusal else. A refused undo changes nothing. It goes over the records behind the step, with a look-up for each variable that they read.
     ///
     /// The rule is that of Danos and Krivine (2004): an action may be undone exactly when all its consequences have been.
     pub fn undo(&mut self, number: u32) -> Result<(), Fault>
         ensures ok { OnOk result (Undoes ⊥ self.old.world number (undone (number ∷ [])) self.new.world) }
         ensures fault { IfErr result (λ f. (f ≡ Fault.Memory) ⊎ UndoFails self.old.world.kept number f) }
-
-        // There is one answer, unless memory is wanting.
-        ensures only { CanUndo self.old.world.kept number → MatchResult result (λ _. ⊤) (λ f. f ≡ Fault.Memory) }
-        ensures only_fault { (f : fault_spec) → UndoFails self.old.world.kept number f → IsErrAnd result (λ g. (g ≡ f) ⊎ (g ≡ Fault.Memory)) }
+        ensures refused { (f : fault_spec) → UndoFails self.old.world.kept number f → result ≡ Err f }
         ensures err { OnErr result (self.new.world ≡ self.old.world) }
         ensures names { self.new.names ≡ self.old.names }
         ensures meter { self.new.meter ≡ self.old.meter }

@@ -1,4 +1,4 @@
-use Rattle.std.proofs.Common.{◌≡◌, ℕ, subst, inl, inr}
+use Rattle.std.proofs.Common.{◌≡◌, ℕ, subst, ap, inl, inr, Err}
 use Rattle.ghc_term.specs.declared.fault.Fault.{Fault}
 use Rattle.ghc_records.specs.Record.{Record}
 use Rattle.ghc_depend.specs.Depend.{Follows, IsKeptAs}
@@ -16,22 +16,30 @@ cannot w s {n} r k none fails = undo_or_fail w n (standing_orderly w s).kept_onc
 one_refusal : (w : World) → IsStanding w → {n : ℕ} {f g : Fault} → UndoFails w.kept n f → UndoFails w.kept n g → f ≡ g
 one_refusal w s {n} p q = undo_fails_once w n (standing_orderly w s).kept_once p q
 
-pub returns-in-Err-clause-only : goal.returns-in-Err-clause-only
-returns-in-Err-clause-only c can = elim c.in-Err.ensures.fault [
-  | inl memory ↦ memory
-  | inr fails ↦ absurd (cannot c.args.self.now.world c.stands.ensures.standing can.0 can.1 can.2 (subst (λ (x : Core). UndoFails x.world.kept c.args.number c.in-Err.fault) c.self.view_is fails))
+-- a step that was found to be one that can be undone is not refused
+found_free : (w : World) → IsStanding w → {n : ℕ} {f : Fault} (v : World) (r : Record) → v ≡ w → IsKeptAs v.kept n r → ((b : Record) → ¬ Follows v.kept r b) → ¬ UndoFails w.kept n f
+found_free w s {n} v r same kept free =
+    cannot w s r (subst (λ (x : World). IsKeptAs x.kept n r) same kept) (subst (λ (x : World). (b : Record) → ¬ Follows x.kept r b) same free)
+
+pub returns-in-Err-clause-fault : goal.returns-in-Err-clause-fault
+returns-in-Err-clause-fault c = elim c.in-Err.ensures.fault [
+  | inl memory ↦ inl memory.0
+  | inr fails ↦ inr (subst (λ (x : Core). UndoFails x.world.kept c.args.number c.in-Err.fault) c.self.view_is fails)
 ]
 
-pub returns-in-Err-clause-only_fault : goal.returns-in-Err-clause-only_fault
-returns-in-Err-clause-only_fault c f fails = elim c.in-Err.ensures.fault [
-  | inl memory ↦ inr memory
-  | inr other ↦ inl (one_refusal c.args.self.now.world c.stands.ensures.standing (subst (λ (x : Core). UndoFails x.world.kept c.args.number c.in-Err.fault) c.self.view_is other) fails)
+pub returns-in-Err-clause-refused : goal.returns-in-Err-clause-refused
+returns-in-Err-clause-refused c f fails = elim c.in-Err.ensures.fault [
+  | inl memory ↦ absurd (found_free c.args.self.now.world c.stands.ensures.standing _ memory.1.0 (ap (λ (x : Core). x.world) c.self.view_is) memory.1.1 memory.1.2 fails)
+  | inr other ↦ ap Err (one_refusal c.args.self.now.world c.stands.ensures.standing (subst (λ (x : Core). UndoFails x.world.kept c.args.number c.in-Err.fault) c.self.view_is other) fails)
 ]
 
-pub returns-in-Ok-take_away-clause-only_fault : goal.returns-in-Ok-take_away-clause-only_fault
-returns-in-Ok-take_away-clause-only_fault c f fails =
-    cannot c.args.self.now.world c.stands.ensures.standing c.in-Ok.step (subst (λ (x : Core). IsKeptAs x.world.kept c.args.number c.in-Ok.step) c.self.view_is c.in-Ok.ensures.kept)
-    (subst (λ (x : Core). (b : Record) → ¬ Follows x.world.kept c.in-Ok.step b) c.self.view_is c.in-Ok.ensures.free) fails
+pub returns-in-Ok-take_away-clause-refused : goal.returns-in-Ok-take_away-clause-refused
+returns-in-Ok-take_away-clause-refused c f fails =
+    absurd (found_free c.args.self.now.world c.stands.ensures.standing _ c.in-Ok.step (ap (λ (x : Core). x.world) c.self.view_is) c.in-Ok.ensures.kept c.in-Ok.ensures.free fails)
+
+pub returns-in-Err-take_away-clause-refused : goal.returns-in-Err-take_away-clause-refused
+returns-in-Err-take_away-clause-refused c f fails =
+    absurd (found_free c.args.self.now.world c.stands.ensures.standing _ c.in-Ok.step (ap (λ (x : Core). x.world) c.self.view_is) c.in-Ok.ensures.kept c.in-Ok.ensures.free fails)
 
 pub returns-in-Ok-take_away-clause-well_made : goal.returns-in-Ok-take_away-clause-well_made
 returns-in-Ok-take_away-clause-well_made c = standing_well_made c.take_away.new.self.world c.take_away.ensures.standing
