@@ -1,5 +1,5 @@
 // Steps of a core: proposals, the steps that they would take, and taking them.
-ghost use Rattle.std.specs.Prelude.{◌≡◌, ◌≢◌, ◌⊎◌, ◌∷◌, ◌++◌, [], true, false, Some, List, option_copied, IfOk, IfErr, OnOk, OnErr, IsErrAnd, MatchResult, ⊤};
+ghost use Rattle.std.specs.Prelude.{◌≡◌, ◌≢◌, ◌⊎◌, ◌∷◌, ◌++◌, [], true, false, Some, Err, List, option_copied, IfOk, IfErr, OnOk, OnErr, IsErrAnd, MatchResult, ⊤};
 ghost use Rattle.std.specs.FinMap as finite;
 ghost use Rattle.ghc_term.specs.Lists.{In};
 ghost use Rattle.ghc_term.specs.declared.fault.Fault.{Fault as fault_spec};
@@ -105,6 +105,10 @@ impl Core {
             → MatchResult result (λ p. (p.act ≡ a) × (p.effect ≡ e)) (λ f. f ≡ Fault.Memory) }
         ensures only_fault { (f : fault_spec) → AttemptAnswers self.now.world goal choice (refused f)
             → IsErrAnd result (λ g. (g ≡ f) ⊎ (g ≡ Fault.Memory)) }
+
+        // No want of memory hides that the goal or the clause is not there.
+        ensures no_goal { AttemptAnswers self.now.world goal choice (refused Fault.NoGoal) → result ≡ Err Fault.NoGoal }
+        ensures no_clause { AttemptAnswers self.now.world goal choice (refused Fault.NoClause) → result ≡ Err Fault.NoClause }
         ensures counted { meter.new ≡ fired meter.old }
 
         // What the proposal is made in is the replay of the record.
