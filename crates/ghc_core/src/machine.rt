@@ -13,7 +13,6 @@ use std::alloc::{AllocError, Global};
 use std::marker::Model;
 
 /// A core: in each state of its run, goals and store are the replay of the steps that it keeps.
-#[derive(Drop)]
 pub struct Core {
     pub(crate) program: Program,
     pub(crate) query: Query,
@@ -23,6 +22,21 @@ pub struct Core {
     pub(crate) next: u32,
     pub(crate) journal: Journal,
     pub(crate) meter: Meter,
+}
+
+impl Drop for Core {
+    fn drop(self) {
+        let Core {
+            program: _program,
+            query: _query,
+            state: _state,
+            records: _records,
+            shelf: _shelf,
+            next: _next,
+            journal: _journal,
+            meter: _meter,
+        } = self;
+    }
 }
 
 impl Model for Core {
