@@ -17,6 +17,7 @@ pub use laws::{
     arranges_have_an_answer, closes_have_an_answer, commits_have_an_answer, events_have_an_answer,
     events_have_one_answer, inputs_have_an_answer, notes_have_an_answer, proposes_have_an_answer,
     reachable_is_orderly, reachable_is_well_made, reachable_keeps, redoes_have_an_answer,
+    still_holds_as_next,
 };
 pub use machine::Core;
 pub use returns::{
