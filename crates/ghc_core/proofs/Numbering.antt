@@ -17,16 +17,14 @@ use Rattle.ghc_unify.specs.Solutions.{replace, replace_all}
 use Rattle.ghc_fire.specs.Instance.{made, replace_in_expression, replace_in_goal}
 use Rattle.ghc_fire.specs.declared.act.Act.{Act}
 use Rattle.ghc_fire.specs.Effect.{Effect, HasEffect, no_step}
-use Rattle.ghc_fire.specs.Attempt as attempt
 use Rattle.ghc_fire.specs.Proposal.{Proposal, numbered, under}
 use Rattle.ghc_fire.proofs.Origins.{variables_come}
 use Rattle.ghc_fire.proofs.Steps.{effect_once, effect_each}
 use Rattle.ghc_fire.proofs.Under.{effect_under}
 use Rattle.ghc_records.specs.Replay.{IsVariableOf}
 use Rattle.ghc_records.proofs.Replaying as replaying
-use Rattle.ghc_core.specs.World.{Hands, no_hands, with_hand, emptied, World}
+use Rattle.ghc_core.specs.World.{Hands, with_hand, emptied, World}
 use Rattle.ghc_core.specs.Events.{Command, input, finish, undo, roll, redo, arrange, Event, Reply}
-use Rattle.ghc_core.specs.Proposes.{AttemptAnswers, IsReduction, StillHolds, HoldsAsNext}
 use Rattle.ghc_core.specs.Proposes as asking
 use Rattle.ghc_core.specs.Streams as streams
 use Rattle.ghc_core.specs.Reverses as by
