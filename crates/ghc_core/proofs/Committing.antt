@@ -96,7 +96,7 @@ pub answered_holds : (w : World) (p : Proposal) (choice : Option ℕ) (b : Goal)
 answered_holds w p choice b there t = let h = proposed_holds w p.goal choice b p.act p.effect there t in (b, h.1, there, h.0)
 
 -- a goal that a reduction has an effect on is no stream goal
-no_stream : (P : Program) (b : Goal) (a : Act) (n : ℕ) (S : VarName → Option Tree) (e : Effect) → IsReduction a → HasEffect P b a n S e → is_stream b ≡ false
+pub no_stream : (P : Program) (b : Goal) (a : Act) (n : ℕ) (S : VarName → Option Tree) (e : Effect) → IsReduction a → HasEffect P b a n S e → is_stream b ≡ false
 no_stream P (call f ts) a n S e r h = refl
 no_stream P (unify l r) a n S e _ h = refl
 no_stream P (assign t x) a n S e r h = refl

@@ -26,7 +26,7 @@ use Rattle.ghc_flat.specs.contracts.test.Test as test
 use Rattle.ghc_flat.specs.contracts.clause.Clause as clause
 use Rattle.ghc_flat.specs.contracts.program.Program as program
 use Rattle.ghc_reader.specs.contracts.written.Query as query
-use Rattle.ghc_core.specs.contracts.machine.Core as core
+use Rattle.ghc_core.specs.contracts.core_state.Core as core
 
 term_send : IsSend term.the_row
 term_send = search (of_terms.crosses, crosses, sendable) depth 60 fits 20000

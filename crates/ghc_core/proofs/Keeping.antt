@@ -18,7 +18,7 @@ use Rattle.ghc_core.specs.Proposes as asking
 use Rattle.ghc_core.specs.Streams as streams
 use Rattle.ghc_core.specs.Reverses as by
 use Rattle.ghc_core.specs.Answers.{Obeys, Answers, to_propose, to_commit, to_note, to_command}
-use Rattle.ghc_core.specs.Legal.{at_opening, by_event}
+use Rattle.ghc_core.specs.Legal.{at_opening, by_event, with_other_hands}
 use Rattle.ghc_core.specs.Laws as laws
 use Rattle.ghc_core.proofs.Redoing.{runs_split}
 use Rattle.ghc_core.proofs.Replayed.{Replayed, replayed}
@@ -107,3 +107,4 @@ pub reachable_keeps : laws.ReachableKeeps
 reachable_keeps w hands (at_opening {o = o} sound opens empty) = opened_tells o w opens
 reachable_keeps w hands (by_event {w = u} {hands = before} e reply r proper a) =
     answered_tells u (reachable_keeps u before r) before hands e reply w a (replayed (by_event e reply r proper a))
+reachable_keeps w hands (with_other_hands {hands = before} r empty) = reachable_keeps w before r

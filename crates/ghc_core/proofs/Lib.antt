@@ -11,6 +11,7 @@ pub mod EachAnswered
 pub mod Keeping
 pub mod Standing
 pub mod Committing
+pub mod Numbering
 pub mod Taking
 pub mod Preparing
 pub mod TakenAway

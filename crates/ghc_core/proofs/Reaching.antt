@@ -29,7 +29,7 @@ use Rattle.ghc_core.specs.Proposes as asking
 use Rattle.ghc_core.specs.Streams as streams
 use Rattle.ghc_core.specs.Reverses as by
 use Rattle.ghc_core.specs.Answers.{Obeys, Answers, to_propose, to_commit, to_note, to_command}
-use Rattle.ghc_core.specs.Legal.{IsSound, IsReachable, at_opening, by_event}
+use Rattle.ghc_core.specs.Legal.{IsSound, IsReachable, at_opening, by_event, with_other_hands}
 use Rattle.ghc_core.specs.Laws as laws
 
 -- what is known of a shelved step
@@ -283,6 +283,7 @@ opened_good {w} sound opens =
 pub reached_good : {w : World} {hands : Hands} → IsReachable w hands → Good w
 reached_good (at_opening sound opens empty) = opened_good sound opens
 reached_good (by_event {w = w} {v = v} {hands = hands} {left = left} e reply r proper a) = answered_good w (reached_good r) hands left e reply v a
+reached_good (with_other_hands r empty) = reached_good r
 
 pub reached : laws.ReachableIsOrderly
 reached w hands r = let g = reached_good r in record { kept_once = g.kept_once; acyclic = g.acyclic; streams_once = λ k n m s u p q. g.one k n m s u p q }

@@ -20,7 +20,7 @@ use Rattle.ghc_core.specs.Proposes as asking
 use Rattle.ghc_core.specs.Streams as streams
 use Rattle.ghc_core.specs.Reverses as by
 use Rattle.ghc_core.specs.Answers.{Obeys, Answers, to_propose, to_commit, to_note, to_command}
-use Rattle.ghc_core.specs.Legal.{IsReachable, at_opening, by_event}
+use Rattle.ghc_core.specs.Legal.{IsReachable, at_opening, by_event, with_other_hands}
 use Rattle.ghc_core.specs.Returns as laws
 use Rattle.ghc_core.proofs.Reaching.{Good, distinct_push, not_kept_next, reached_good}
 
@@ -119,6 +119,7 @@ module _ (w : World) (good : Good w) (h : Replayed w) where
 pub replayed : {w : World} {hands : Hands} → IsReachable w hands → Replayed w
 replayed (at_opening sound opens empty) = record { replay = opens.state; within = subst (λ n. n ≤ number_limit) (sym opens.next) opens.numbered.1; few = opens.few }
 replayed (by_event {w = w} {v = v} {hands = hands} {left = left} e reply r proper a) = answered w (reached_good r) (replayed r) hands left e reply v a
+replayed (with_other_hands r empty) = replayed r
 
 pub reachable_replay : laws.ReachableIsReplay
 reachable_replay w hands r = (replayed r).replay

@@ -18,7 +18,7 @@ use Rattle.ghc_records.proofs.Replaying as replaying
 use Rattle.ghc_depend.specs.Kept.{Keeps}
 use Rattle.ghc_depend.proofs.Placing.{results_of}
 use Rattle.ghc_depend.proofs.Results.{is_old}
-use Rattle.ghc_core.specs.World.{World, IsReplay, Opens}
+use Rattle.ghc_core.specs.World.{no_hands, World, IsReplay, Opens}
 use Rattle.ghc_core.specs.Legal.{IsSound, at_opening}
 use Rattle.ghc_core.specs.Laws.{IsOrderly}
 use Rattle.ghc_core.specs.Core.{IsStanding}
@@ -28,23 +28,23 @@ use Rattle.ghc_core.proofs.Keeping.{reachable_keeps}
 
 -- The state of a standing world is the replay of its kept steps.
 pub standing_replay : (w : World) → IsStanding w → IsReplay w w.kept w.state
-standing_replay w s = reachable_replay w s.0 s.2
+standing_replay w s = reachable_replay w no_hands s
 
 -- In a standing world the store is acyclic, and each variable is the query's or made by a kept step.
 pub standing_well_made : (w : World) → IsStanding w → IsWellMade w.opening.query w.kept w.state
-standing_well_made w s = known w s.0 s.2
+standing_well_made w s = known w no_hands s
 
 -- A standing world is orderly: no number is kept twice, and each stream has one goal at most.
 pub standing_orderly : (w : World) → IsStanding w → IsOrderly w
-standing_orderly w s = reached w s.0 s.2
+standing_orderly w s = reached w no_hands s
 
 -- The journal of a standing world tells what is kept and what is on the shelf.
 pub standing_keeps : (w : World) → IsStanding w → Keeps w.opening w.journal w.kept w.shelf
-standing_keeps w s = reachable_keeps w s.0 s.2
+standing_keeps w s = reachable_keeps w no_hands s
 
 -- The program and the query of a standing world are accepted.
 pub standing_sound : (w : World) → IsStanding w → IsSound w.opening
-standing_sound w s = let good = reached_good s.2 in (good.accepted, good.asked)
+standing_sound w s = let good = reached_good s in (good.accepted, good.asked)
 
 -- No variable of a standing world is one of `no_step`.
 pub standing_apart : (w : World) → IsStanding w → (x : VarName) → IsVariableOf w.opening.query w.kept x → x.step ≢ no_step
@@ -65,7 +65,7 @@ standing_numbered w s g b e =
 -- In a standing world each goal's name has a step below the next one.
 pub standing_goal_below : (w : World) → IsStanding w → (g : GoalName) (b : Goal) → finite.get w.state.goals g ≡ Some b → g.step < w.next
 standing_goal_below w s g b e =
-    let good = reached_good s.2 in
+    let good = reached_good s in
     let results = results_of w.opening.program w.opening.query w.kept w.state (standing_replay w s) in
     elim (is_old w.opening.query w.kept w.state results g b e) [
       | inl zero ↦ let first = good.first in omega arith
@@ -74,7 +74,7 @@ standing_goal_below w s g b e =
 
 -- A world that an opening makes stands, where program and query are accepted.
 pub opening_stands : (o : Opening) (w : World) → IsSound o → Opens o w → IsStanding w
-opening_stands o w sound opens = (record { count = 1; held = finite.empty }, (omega arith, omega arith), at_opening sound opens refl)
+opening_stands o w sound opens = at_opening sound opens refl
 
 -- the world of a query where nothing was loaded
 abbrev pub fresh_world : Program → Query → World
@@ -100,4 +100,4 @@ fresh_stands P query accepted asked = opening_stands (fresh_opening P query) (fr
 
 -- Each kept step of a standing world has a number below the next one.
 pub standing_below : (w : World) → IsStanding w → (r : Record) → In r w.kept → r.number < w.next
-standing_below w s r i = (reached_good s.2).below r i
+standing_below w s r i = (reached_good s).below r i

@@ -28,7 +28,7 @@ use Rattle.ghc_core.proofs.Standing.{standing_replay}
 unshelved : (w : World) → IsStanding w → (r : Record) → In r w.kept → finite.get w.shelf r.number ≡ None
 unshelved w s r i = elim (finite.get w.shelf r.number) as (λ o. finite.get w.shelf r.number ≡ o → o ≡ None) [
   | None ↦ λ e. refl
-  | Some q ↦ λ e. absurd (((reached_good s.2).shelf r.number q e).3 (number_in w.kept r i))
+  | Some q ↦ λ e. absurd (((reached_good s).shelf r.number q e).3 (number_in w.kept r i))
 ] refl
 
 -- Where memory was refused, what was put on the shelf and into the journal was taken away again.
@@ -46,7 +46,7 @@ pub taken_away : {Starved : Type 0} (w : World) → IsStanding w → (r k : Reco
     → shelf ≡ finite.insert w.shelf r.number r → es ≡ w.journal ++ undid r.number ∷ []
     → Undoes Starved w r.number (undone (r.number ∷ [])) (record w { state = t; kept = left; shelf = shelf; journal = es })
 taken_away {Starved} w s r k n left t shelf es i none number there out back put told =
-    let good = reached_good s.2 in
+    let good = reached_good s in
     let replay = standing_replay w s in
     let same : k ≡ r = record_once w.kept k r good.kept_once there.0 i (there.1 ∙ number) in
     let u = undoing.undone w.opening.program w.opening.query w.kept w.state r good.accepted good.asked replay i none in
@@ -58,4 +58,4 @@ taken_away {Starved} w s r k n left t shelf es i none number there out back put 
 
 -- An undo leaves a world that stands.
 pub undone_stands : (w v : World) (n : ℕ) → IsStanding w → Undoes (Unit {0}) w n (undone (n ∷ [])) v → IsStanding v
-undone_stands w v n s u = (s.0, s.1, by_event (command (undo n)) (undone (n ∷ [])) s.2 tt (to_command u))
+undone_stands w v n s u = by_event (command (undo n)) (undone (n ∷ [])) s tt (to_command u)

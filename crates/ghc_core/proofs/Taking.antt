@@ -8,27 +8,32 @@ use Rattle.ghc_fire.proofs.Steps.{effect_binds}
 use Rattle.ghc_fire.specs.Proposal.{Proposal}
 use Rattle.ghc_records.specs.Record.{Record}
 use Rattle.ghc_records.specs.State.{CanTake}
-use Rattle.ghc_core.specs.World.{Hands, with_hand, emptied, World, with_step}
+use Rattle.ghc_core.specs.World.{Hands, IsHand, with_hand, emptied, World, with_step}
 use Rattle.ghc_core.specs.Events.{propose, commit, held, stepped}
 use Rattle.ghc_core.specs.Proposes.{IsCommitOf}
 use Rattle.ghc_core.specs.Proposes as asking
 use Rattle.ghc_core.specs.Answers.{to_propose, to_commit}
-use Rattle.ghc_core.specs.Legal.{IsReachable, by_event}
+use Rattle.ghc_core.specs.Legal.{IsReachable, by_event, with_other_hands}
 use Rattle.ghc_core.specs.Core.{IsStanding, choice_of}
 use Rattle.ghc_core.proofs.Stepping.{step_effect}
 use Rattle.ghc_core.proofs.Standing.{standing_well_made, standing_goal_below}
 use Rattle.ghc_core.proofs.Committing.{still_proposed}
+
+-- one hand, which holds nothing
+abbrev one_hand : Hands
+one_hand = record { count = 1; held = finite.empty }
 
 -- A commit leaves a world that stands: a hand proposes the step and commits it.
 pub stands : (w : World) (p : Proposal) (r : Record) → IsStanding w → IsCommitOf w p r → IsStanding (with_step r w)
 stands w p r s c =
     let h = c.0 in
     let asked : Proposal = record { goal = p.goal; consumed = h.0; act = p.act; effect = p.effect } in
-    let full : Hands = with_hand 1 asked s.0 in
-    let in_hand : finite.get full.held 1 ≡ Some asked = finite.get-insert nat_cmp_total s.0.held 1 asked 1 in
-    let proposed : IsReachable w full = by_event (propose 1 p.goal (choice_of p.act)) (held 1) s.2 tt (to_propose (asking.Proposes.holds h.0 p.act p.effect s.1 h.2 (still_proposed w p h))) in
-    let committed : IsReachable (with_step r w) (emptied 1 full) = by_event (commit 1) (stepped w.next) proposed tt (to_commit (asking.Commits.takes asked r s.1 in_hand c)) in
-    (emptied 1 full, s.1, committed)
+    let full : Hands = with_hand 1 asked one_hand in
+    let in_hand : finite.get full.held 1 ≡ Some asked = finite.get-insert nat_cmp_total one_hand.held 1 asked 1 in
+    let is_hand : IsHand one_hand 1 = (omega arith, omega arith) in
+    let proposed : IsReachable w full = by_event (propose 1 p.goal (choice_of p.act)) (held 1) (with_other_hands s refl) tt (to_propose (asking.Proposes.holds h.0 p.act p.effect is_hand h.2 (still_proposed w p h))) in
+    let committed : IsReachable (with_step r w) (emptied 1 full) = by_event (commit 1) (stepped w.next) proposed tt (to_commit (asking.Commits.takes asked r is_hand in_hand c)) in
+    with_other_hands committed refl
 
 -- what is not nothing is something
 something : {A : Type 0} (o : Option A) → o ≢ None → (x : A) × (o ≡ Some x)

@@ -5,7 +5,7 @@ use Rattle.ghc_fire.specs.declared.act.Act.TheVariants.{ByClause as by_clause, U
 use Rattle.ghc_fire.specs.Proposal.{Proposal, under}
 use Rattle.ghc_fire.specs.declared.meter.Meter.{Meter}
 use Rattle.ghc_records.specs.Record.{Record}
-use Rattle.ghc_core.specs.World.{Hands, IsHand, World, with_step}
+use Rattle.ghc_core.specs.World.{no_hands, World, with_step}
 use Rattle.ghc_core.specs.Proposes.{IsCommitOf}
 use Rattle.ghc_core.specs.Legal.{IsReachable}
 
@@ -15,9 +15,9 @@ pub record Core : Type 0 where
   pub names : List (List ℕ)
   pub meter : Meter
 
--- The world is one that a core can be in: events reach it, and there is a hand for more.
+-- The world is one that a core can be in: events reach it.
 abbrev pub IsStanding : World → Type 0
-IsStanding w = (hands : Hands) × IsHand hands 1 × IsReachable w hands
+IsStanding w = IsReachable w no_hands
 
 -- A commit of the proposal in the world w takes step n, which leaves the world v.
 abbrev pub IsCommitted : World → Proposal → World → ℕ → Type 0

@@ -1,19 +1,22 @@
 -- Laws of worlds and events.
-use Rattle.std.specs.Prelude.{◌≡◌, ℕ, List, Option}
+use Rattle.std.specs.Prelude.{◌≡◌, ◌≢◌, ◌↔◌, ℕ, List, Option, Some}
+use Rattle.std.specs.FinMap as finite
 use Rattle.ghc_term.specs.declared.var_name.VarName.{VarName}
 use Rattle.ghc_term.specs.declared.goal_name.GoalName.{GoalName}
 use Rattle.ghc_term.specs.Bindings.{IsAcyclic}
 use Rattle.ghc_term.specs.Store.{value_at}
 use Rattle.ghc_term.specs.Tree.{Tree}
 use Rattle.ghc_term.specs.Tree.{IsClosed}
+use Rattle.ghc_fire.specs.Effect.{no_step}
 use Rattle.ghc_records.specs.Orders.{AreDistinct}
 use Rattle.ghc_records.specs.Record.{numbers}
+use Rattle.ghc_records.specs.Replay.{IsVariableOf}
 use Rattle.ghc_records.specs.Laws.{IsWellMade}
 use Rattle.ghc_depend.specs.Kept.{Keeps}
-use Rattle.ghc_core.specs.World.{Hands, World}
+use Rattle.ghc_core.specs.World.{Proposal, Hands, World}
 use Rattle.ghc_core.specs.Streams.{IsStreamAt, Inputs, Finishes}
 use Rattle.ghc_core.specs.Events.{Event, Reply}
-use Rattle.ghc_core.specs.Proposes.{Proposes, Commits, Notes}
+use Rattle.ghc_core.specs.Proposes.{Proposes, StillHolds, HoldsAsNext, Commits, Notes}
 use Rattle.ghc_core.specs.Reverses.{Redoes, Arranges}
 use Rattle.ghc_core.specs.Answers.{Answers}
 use Rattle.ghc_core.specs.Legal.{IsReachable, IsProper}
@@ -23,6 +26,10 @@ pub record IsOrderly (w : World) : Type 0 where
   pub kept_once : AreDistinct (numbers w.kept)
   pub acyclic : IsAcyclic (value_at w.state.store)
   pub streams_once : (k : ℕ) (g h : GoalName) (s u : VarName) → IsStreamAt w k g s → IsStreamAt w k h u → g ≡ h
+
+-- No variable of the world is of the number that no step has, so that an effect under it stands for the effect under any number.
+abbrev pub NoStepIsFree : World → Type 0
+NoStepIsFree w = (x : VarName) → IsVariableOf w.opening.query w.kept x → x.step ≢ no_step
 
 -- A reachable world is orderly.
 abbrev pub ReachableIsOrderly : Type 0
@@ -69,6 +76,11 @@ ProposesHaveAnAnswer =
 -- In a reachable world a commit has an answer other than want of memory.
 abbrev pub CommitsHaveAnAnswer : Type 0
 CommitsHaveAnAnswer = (w : World) (hands : Hands) (h : ℕ) → IsReachable w hands → (reply : Reply) × (v : World) × (left : Hands) × Commits ⊥ w hands h reply v left
+
+-- In a reachable world, what a hand holds still holds exactly where it holds as the next step: under no number and under the next one alike, its effect now is the one proposed.
+abbrev pub StillHoldsAsNext : Type 0
+StillHoldsAsNext =
+    (w : World) (hands : Hands) (h : ℕ) (p : Proposal) → IsReachable w hands → finite.get hands.held h ≡ Some p → StillHolds w p ↔ HoldsAsNext w p
 
 -- In a reachable world a note has an answer other than want of memory.
 abbrev pub NotesHaveAnAnswer : Type 0

@@ -9,6 +9,7 @@ use Rattle.ghc_term.specs.declared.fault.Fault.{Fault}
 use Rattle.ghc_fire.specs.declared.act.Act.{Act}
 use Rattle.ghc_fire.specs.declared.act.Act.TheVariants.{ByClause as by_clause, Unified as unified, Assigned as assigned, Given as given, Closed as closed}
 use Rattle.ghc_fire.specs.Effect.{Effect, HasEffect, no_step}
+use Rattle.ghc_fire.specs.Proposal.{under}
 use Rattle.ghc_fire.specs.Attempt as attempt
 use Rattle.ghc_records.specs.Record.{Record}
 use Rattle.ghc_hooks.specs.Status.{Status, HasStatus}
@@ -40,6 +41,12 @@ abbrev pub StillHolds : World → Proposal → Type 0
 StillHolds w p =
     (b : Goal) × IsReduction p.act × (finite.get w.state.goals p.goal ≡ Some b)
     × HasEffect w.opening.program b p.act no_step (value_at w.state.store) p.effect
+
+-- The proposal holds as the next step: its goal is there, and its effect under the next number is the one proposed, under that number.
+abbrev pub HoldsAsNext : World → Proposal → Type 0
+HoldsAsNext w p =
+    (b : Goal) × IsReduction p.act × (finite.get w.state.goals p.goal ≡ Some b)
+    × HasEffect w.opening.program b p.act w.next (value_at w.state.store) (under w.next p.effect)
 
 -- Why a commit of the proposal is refused: it does not hold any more, and else the world is full.
 pub data CommitFails (w : World) (p : Proposal) : Fault → Type 0 where

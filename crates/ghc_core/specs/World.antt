@@ -14,6 +14,10 @@ pub record Hands : Type 0 where
   pub count : ℕ
   pub held : finite.FinMap nat_cmp Proposal
 
+-- No hands at all.
+abbrev pub no_hands : Hands
+no_hands = record { count = 0; held = finite.empty }
+
 -- There is a hand h.
 abbrev pub IsHand : Hands → ℕ → Type 0
 IsHand hands h = (1 ≤ h) × (h ≤ hands.count)

@@ -1,5 +1,5 @@
 // Laws about the definitions, each as the contract of a function.
-ghost use Rattle.ghc_core.specs.Laws.{ReachableIsOrderly, ReachableIsWellMade, ReachableKeeps, EventsHaveOneAnswer, InputsHaveAnAnswer, ClosesHaveAnAnswer, ArrangesHaveAnAnswer, ProposesHaveAnAnswer, CommitsHaveAnAnswer, NotesHaveAnAnswer, RedoesHaveAnAnswer, EventsHaveAnAnswer};
+ghost use Rattle.ghc_core.specs.Laws.{ReachableIsOrderly, ReachableIsWellMade, ReachableKeeps, EventsHaveOneAnswer, InputsHaveAnAnswer, ClosesHaveAnAnswer, ArrangesHaveAnAnswer, ProposesHaveAnAnswer, CommitsHaveAnAnswer, NotesHaveAnAnswer, RedoesHaveAnAnswer, EventsHaveAnAnswer, StillHoldsAsNext};
 
 /// A reachable world keeps no number twice, has an acyclic store, and one goal a stream.
 pub fn reachable_is_orderly()
@@ -44,6 +44,11 @@ pub fn proposes_have_an_answer()
 /// In a reachable world a commit has an answer other than want of memory.
 pub fn commits_have_an_answer()
     ensures { CommitsHaveAnAnswer }
+{}
+
+/// In a reachable world, what a hand holds still holds exactly where it holds as the next step.
+pub fn still_holds_as_next()
+    ensures { StillHoldsAsNext }
 {}
 
 /// In a reachable world a note has an answer other than want of memory.

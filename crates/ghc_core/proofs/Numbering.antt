@@ -1,0 +1,240 @@
+-- What a hand holds is judged alike as the next step and under the number that no step has.
+use Rattle.std.proofs.Common.{◌≡◌, ℕ, ◌<◌, ◌≤◌, ◌⊎◌, ◌==◌, true, false, cond, List, [], ◌∷◌, ◌++◌, map, refl, sym, ap, ◌∙◌, subst, inl, inr, arith, eq-eqb, eqb-true, Some, None}
+use Rattle.std.specs.Prelude.{Option, if◌then◌else◌}
+use Rattle.std.specs.Ordering.{eq_by_cmp, nat_cmp}
+use Rattle.std.specs.Cmp.{nat_cmp_total}
+use Rattle.std.specs.FinMap as finite
+use Rattle.ghc_term.specs.declared.var_name.VarName.{VarName}
+use Rattle.ghc_term.specs.declared.goal_name.GoalName.{GoalName}
+use Rattle.ghc_term.specs.Tree.{Tree, variable, integer, node, Trees, none, more}
+use Rattle.ghc_term.specs.Expression.{Expression, leaf, operation}
+use Rattle.ghc_term.specs.Goal.{Goal, call, unify, assign, stream}
+use Rattle.ghc_term.specs.Lists.{In}
+use Rattle.ghc_term.specs.Store.{value_at}
+use Rattle.ghc_term.specs.Variables.{variables, variables_of_all, variables_of_list, variables_of_expression, variables_of_goal, variables_of_goals}
+use Rattle.ghc_term.proofs.Searches.{In_append, In_append_right}
+use Rattle.ghc_unify.specs.Solutions.{replace, replace_all}
+use Rattle.ghc_fire.specs.Instance.{made, replace_in_expression, replace_in_goal}
+use Rattle.ghc_fire.specs.declared.act.Act.{Act}
+use Rattle.ghc_fire.specs.Effect.{Effect, HasEffect, no_step}
+use Rattle.ghc_fire.specs.Proposal.{Proposal, numbered, under}
+use Rattle.ghc_fire.proofs.Origins.{variables_come}
+use Rattle.ghc_fire.proofs.Steps.{effect_once, effect_each}
+use Rattle.ghc_fire.proofs.Under.{effect_under}
+use Rattle.ghc_records.specs.Replay.{IsVariableOf}
+use Rattle.ghc_records.proofs.Replaying as replaying
+use Rattle.ghc_core.specs.World.{Hands, with_hand, emptied, World}
+use Rattle.ghc_core.specs.Events.{Command, input, finish, undo, roll, redo, arrange, Event, Reply}
+use Rattle.ghc_core.specs.Proposes as asking
+use Rattle.ghc_core.specs.Streams as streams
+use Rattle.ghc_core.specs.Reverses as by
+use Rattle.ghc_core.specs.Answers.{Obeys, Answers, to_propose, to_commit, to_note, to_command}
+use Rattle.ghc_core.specs.Legal.{IsReachable, at_opening, by_event, with_other_hands}
+use Rattle.ghc_core.specs.Laws as laws
+use Rattle.ghc_core.proofs.Reaching.{reached_good, known}
+use Rattle.ghc_core.proofs.Standing.{standing_numbered}
+use Rattle.ghc_core.proofs.Committing.{proposed_holds, no_stream}
+
+-- The variable is of a step before the n-th, or of no step.
+abbrev IsOld : ℕ → VarName → Type 0
+IsOld n x = (x.step < n) ⊎ (x.step ≡ no_step)
+
+-- All variables of the list are so.
+abbrev AreOld : ℕ → List VarName → Type 0
+AreOld n xs = (x : VarName) → In x xs → IsOld n x
+
+-- what the variables of step n were under no step
+abbrev back : ℕ → VarName → Tree
+back n x = if x.step == n then variable (made no_step x.place) else variable x
+
+back_own : (n i : ℕ) → back n (made n i) ≡ variable (made no_step i)
+back_own n i = ap (λ b. if b then variable (made no_step i) else variable (made n i)) (eq-eqb n n refl)
+
+back_other : (n : ℕ) (x : VarName) → (x.step ≡ n → ⊥) → back n x ≡ variable x
+back_other n x other =
+    elim (x.step == n) as (λ b. (x.step == n) ≡ b → (if b then variable (made no_step x.place) else variable x) ≡ variable x) [
+      | true ↦ λ p. absurd (other (eqb-true x.step n p))
+      | false ↦ λ _. refl
+    ] refl
+
+back_variable : (n : ℕ) (x : VarName) → IsOld n x → replace (back n) (numbered n x) ≡ variable x
+back_variable n x old =
+    elim (x.step == no_step) as (λ b. (x.step == no_step) ≡ b → replace (back n) (if b then variable (made n x.place) else variable x) ≡ variable x) [
+      | true ↦ λ p. back_own n x.place ∙ ap (λ s. variable (made s x.place)) (sym (eqb-true x.step no_step p))
+      | false ↦ λ p. elim old [
+        | inl less ↦ back_other n x (λ e. omega arith)
+        | inr same ↦ absurd (let clash : true ≡ false = sym (eq-eqb no_step no_step refl) ∙ ap (λ s. s == no_step) (sym same) ∙ p in cc)
+      ]
+    ] refl
+
+left_of : {n : ℕ} (xs ys : List VarName) → AreOld n (xs ++ ys) → AreOld n xs
+left_of xs ys old x i = old x (In_append xs ys x i)
+
+right_of : {n : ℕ} (xs ys : List VarName) → AreOld n (xs ++ ys) → AreOld n ys
+right_of xs ys old x i = old x (In_append_right xs ys x i)
+
+module _ (n : ℕ) where
+  mutual
+    back_tree : (t : Tree) → AreOld n (variables t) → replace (back n) (replace (numbered n) t) ≡ t
+    back_tree (variable x) old = back_variable n x (old x (inl refl))
+    back_tree (integer k) old = refl
+    back_tree (node f ts) old = ap (node f) (back_trees ts old)
+
+    back_trees : (ts : Trees) → AreOld n (variables_of_all ts) → replace_all (back n) (replace_all (numbered n) ts) ≡ ts
+    back_trees none old = refl
+    back_trees (more t ts) old =
+        let head = back_tree t (left_of (variables t) (variables_of_all ts) old) in
+        let tail = back_trees ts (right_of (variables t) (variables_of_all ts) old) in
+        cc
+
+  back_list : (ts : List Tree) → AreOld n (variables_of_list ts) → map (replace (back n)) (map (replace (numbered n)) ts) ≡ ts
+  back_list [] old = refl
+  back_list (t ∷ ts) old =
+      let head = back_tree t (left_of (variables t) (variables_of_list ts) old) in
+      let tail = back_list ts (right_of (variables t) (variables_of_list ts) old) in
+      cc
+
+  back_expression : (a : Expression) → AreOld n (variables_of_expression a) → replace_in_expression (back n) (replace_in_expression (numbered n) a) ≡ a
+  back_expression (leaf t) old = ap leaf (back_tree t old)
+  back_expression (operation o a b) old =
+      let left = back_expression a (left_of (variables_of_expression a) (variables_of_expression b) old) in
+      let right = back_expression b (right_of (variables_of_expression a) (variables_of_expression b) old) in
+      cc
+
+  back_goal : (g : Goal) → AreOld n (variables_of_goal g) → replace_in_goal (back n) (replace_in_goal (numbered n) g) ≡ g
+  back_goal (call f ts) old = ap (call f) (back_list ts old)
+  back_goal (unify l r) old =
+      let left = back_tree l (left_of (variables l) (variables r) old) in
+      let right = back_tree r (right_of (variables l) (variables r) old) in
+      cc
+  back_goal (assign t a) old =
+      let left = back_tree t (left_of (variables t) (variables_of_expression a) old) in
+      let right = back_expression a (right_of (variables t) (variables_of_expression a) old) in
+      cc
+  back_goal (stream k x) old = refl
+
+  back_goals : (gs : List Goal) → AreOld n (variables_of_goals gs) → map (replace_in_goal (back n)) (map (replace_in_goal (numbered n)) gs) ≡ gs
+  back_goals [] old = refl
+  back_goals (g ∷ gs) old =
+      let head = back_goal g (left_of (variables_of_goal g) (variables_of_goals gs) old) in
+      let tail = back_goals gs (right_of (variables_of_goal g) (variables_of_goals gs) old) in
+      cc
+
+  -- effects that are one as step n are one
+  under_once : (e f : Effect) → AreOld n (variables_of_goals e.makes) → AreOld n (variables_of_goals f.makes) → under n e ≡ under n f → e ≡ f
+  under_once e f old new same =
+      let makes : e.makes ≡ f.makes = sym (back_goals e.makes old) ∙ ap (λ (x : Effect). map (replace_in_goal (back n)) x.makes) same ∙ back_goals f.makes new in
+      λ i. record { reads = (same i).reads; binds = (same i).binds; makes = makes i; fresh = (same i).fresh }
+
+-- What a reduction would make now, under no number, has variables of steps before the next one, and of no step.
+makes_old : (w : World) (hands : Hands) → IsReachable w hands → (g : GoalName) (b : Goal) (a : Act) (e : Effect) → finite.get w.state.goals g ≡ Some b
+    → HasEffect w.opening.program b a no_step (value_at w.state.store) e → AreOld w.next (variables_of_goals e.makes)
+makes_old w hands r g b a e there has x i =
+    let good = reached_good r in
+    let well = known w hands r in
+    let is_known : (y : VarName) → IsVariableOf w.opening.query w.kept y → IsOld w.next y =
+    λ y of. elim of [
+      | inl q ↦ inl (let zero : y.step ≡ 0 = replaying.of_query w.opening.program w.opening.query y good.asked q in let first = good.first in omega arith)
+      | inr m ↦ inl (let below = good.below m.0 m.1 in let step = m.2.0 in omega arith)
+    ] in
+    elim ((variables_come w.opening.program b a no_step w.state.store e good.accepted good.acyclic has).made x i) [
+      | inl of_goal ↦ is_known x (well.goals g b x there of_goal)
+      | inr (inl value) ↦ is_known x (well.values value.0 x value.1 value.2 value.3)
+      | inr (inr own) ↦ inr own.0
+    ]
+
+-- What a hand holds makes goals of such variables.
+abbrev HoldsOld : World → Hands → Type 0
+HoldsOld w hands = (h : ℕ) (p : Proposal) → finite.get hands.held h ≡ Some p → AreOld w.next (variables_of_goals p.effect.makes)
+
+later : (m n : ℕ) (xs : List VarName) → m ≤ n → AreOld m xs → AreOld n xs
+later m n xs le old x i = elim (old x i) [ inl less ↦ inl (omega arith) | inr same ↦ inr same ]
+
+nothing_held : (hands : Hands) (h : ℕ) (p : Proposal) → hands.held ≡ finite.empty → finite.get hands.held h ≡ Some p → ⊥
+nothing_held hands h p empty e = let clash : None ≡ Some p = sym (finite.get-empty nat_cmp h) ∙ ap (λ m. finite.get m h) (sym empty) ∙ e in cc
+
+-- a hand that was emptied holds nothing, and the others what they held
+still_held : (hands : Hands) (k h : ℕ) (p : Proposal) → finite.get (emptied k hands).held h ≡ Some p → finite.get hands.held h ≡ Some p
+still_held hands k h p e =
+    elim (eq_by_cmp nat_cmp h k) as (λ b. cond b None (finite.get hands.held h) ≡ Some p → finite.get hands.held h ≡ Some p) [
+      | true ↦ λ q. cc
+      | false ↦ λ q. q
+    ] (sym (finite.get-remove nat_cmp_total hands.held k h) ∙ e)
+
+-- a hand that got a proposal holds it, and the others what they held
+held_or : (hands : Hands) (k : ℕ) (q : Proposal) (h : ℕ) (p : Proposal) → finite.get (with_hand k q hands).held h ≡ Some p → (q ≡ p) ⊎ (finite.get hands.held h ≡ Some p)
+held_or hands k q h p e =
+    elim (eq_by_cmp nat_cmp h k) as (λ b. cond b (Some q) (finite.get hands.held h) ≡ Some p → (q ≡ p) ⊎ (finite.get hands.held h ≡ Some p)) [
+      | true ↦ λ s. inl cc
+      | false ↦ λ s. inr s
+    ] (sym (finite.get-insert nat_cmp_total hands.held k q h) ∙ e)
+
+-- the next number does not go down
+acted_on : (w v : World) (k : ℕ) (act : Act) (reply : Reply) → streams.ActsOnStream (Unit {0}) w k act reply v → w.next ≤ v.next
+acted_on w v k act reply (streams.ActsOnStream.takes r t) = omega arith
+acted_on w v k act reply (streams.ActsOnStream.fails f) = omega arith
+acted_on w v k act reply (streams.ActsOnStream.no_memory f) = omega arith
+
+redone_on : (w : World) (n : ℕ) (reply : Reply) (v : World) → by.Redoes (Unit {0}) w n reply v → w.next ≤ v.next
+redone_on w n reply v (by.Redoes.puts_back r e f l) = omega arith
+redone_on w n reply v (by.Redoes.fails f) = omega arith
+redone_on w n reply v (by.Redoes.no_memory f) = omega arith
+
+obeyed_on : (w v : World) (c : Command) (reply : Reply) → Obeys (Unit {0}) w c reply v → w.next ≤ v.next
+obeyed_on w v (input k t) reply p = acted_on w v k _ reply p
+obeyed_on w v (finish k) reply p = acted_on w v k _ reply p
+obeyed_on w v (undo n) reply (by.Undoes.takes_away r left t k free out run) = omega arith
+obeyed_on w v (undo n) reply (by.Undoes.fails f) = omega arith
+obeyed_on w v (undo n) reply (by.Undoes.no_memory f) = omega arith
+obeyed_on w v (roll n) reply (by.Rolls.takes_away r gone left t k split run) = omega arith
+obeyed_on w v (roll n) reply (by.Rolls.not_kept f) = omega arith
+obeyed_on w v (roll n) reply (by.Rolls.no_memory f) = omega arith
+obeyed_on w v (redo n) reply p = redone_on w n reply v p
+obeyed_on w v (arrange order) reply (by.Arranges.puts new l o) = omega arith
+obeyed_on w v (arrange order) reply (by.Arranges.fails f) = omega arith
+obeyed_on w v (arrange order) reply (by.Arranges.no_memory f) = omega arith
+
+module _ (w : World) (hands : Hands) (r : IsReachable w hands) (old : HoldsOld w hands) where
+  proposed_old : (k : ℕ) (g : GoalName) (choice : Option ℕ) (reply : Reply) (left : Hands) → asking.Proposes (Unit {0}) w hands k g choice reply left → HoldsOld w left
+  proposed_old k g choice reply left (asking.Proposes.holds b act e i there t) h p got = elim (held_or hands k _ h p got) [
+    | inl new ↦ subst (λ (q : Proposal). AreOld w.next (variables_of_goals q.effect.makes)) new
+        (makes_old w hands r g b act e there (proposed_holds w g choice b act e there t).0)
+    | inr kept ↦ old h p kept
+  ]
+  proposed_old k g choice reply left (asking.Proposes.no_hand i) h p got = old h p got
+  proposed_old k g choice reply left (asking.Proposes.fails i t) h p got = old h p got
+  proposed_old k g choice reply left (asking.Proposes.no_memory i) h p got = old h p got
+
+  committed_old : (k : ℕ) (reply : Reply) (v : World) (left : Hands) → asking.Commits (Unit {0}) w hands k reply v left → HoldsOld v left
+  committed_old k reply v left (asking.Commits.takes q s i e c) h p got = later w.next v.next (variables_of_goals p.effect.makes) (omega arith) (old h p (still_held hands k h p got))
+  committed_old k reply v left (asking.Commits.no_hand i) h p got = old h p got
+  committed_old k reply v left (asking.Commits.empty i e) h p got = old h p (still_held hands k h p got)
+  committed_old k reply v left (asking.Commits.fails q i e f) h p got = old h p (still_held hands k h p got)
+  committed_old k reply v left (asking.Commits.no_memory i) h p got = old h p (still_held hands k h p got)
+
+  answered_old : (e : Event) (reply : Reply) (v : World) (left : Hands) → Answers (Unit {0}) w hands e reply v left → HoldsOld v left
+  answered_old e reply v left (to_propose p) h q got = proposed_old _ _ _ reply left p h q got
+  answered_old e reply v left (to_commit p) h q got = committed_old _ reply v left p h q got
+  answered_old e reply v left (to_note p) h q got = old h q got
+  answered_old e reply v left (to_command {c = c} p) h q got = later w.next v.next (variables_of_goals q.effect.makes) (obeyed_on w v c reply p) (old h q got)
+
+held_old : {w : World} {hands : Hands} → IsReachable w hands → HoldsOld w hands
+held_old (at_opening {hands = hands} sound opens empty) h p got = absurd (nothing_held hands h p empty got)
+held_old (by_event {w = w} {v = v} {hands = hands} {left = left} e reply r proper a) h p got = answered_old w hands r (held_old r) e reply v left a h p got
+held_old (with_other_hands {other = other} r empty) h p got = absurd (nothing_held other h p empty got)
+
+pub still_next : laws.StillHoldsAsNext
+still_next w hands h p r got =
+    let P = w.opening.program in
+    let S = value_at w.state.store in
+    let good = reached_good r in
+    let apart = λ (b : Goal) (there : finite.get w.state.goals p.goal ≡ Some b). standing_numbered w (with_other_hands r refl) p.goal b there in (
+      λ now. (now.0, now.1, now.2, effect_under P now.0 p.act w.next S p.effect (no_stream P now.0 p.act no_step S p.effect now.1 now.3) (apart now.0 now.2) now.3),
+      λ next.
+          let b = next.0 in
+          let f = effect_each P b p.act w.next no_step S (under w.next p.effect) next.3 in
+          let renumbered = effect_under P b p.act w.next S f.0 (no_stream P b p.act no_step S f.0 next.1 f.1) (apart b next.2) f.1 in
+          let alike : under w.next f.0 ≡ under w.next p.effect = effect_once P b p.act w.next S (under w.next f.0) (under w.next p.effect) good.acyclic renumbered next.3 in
+          let same : f.0 ≡ p.effect = under_once w.next f.0 p.effect (makes_old w hands r p.goal b p.act f.0 next.2 f.1) (held_old r h p got) alike in
+          (b, next.1, next.2, subst (HasEffect P b p.act no_step S) same f.1),
+    )

@@ -1,0 +1,20 @@
+use Rattle.std.proofs.Common.{◌≡◌, [], subst, ap, ◌∙◌}
+use Rattle.std.specs.FinMap as finite
+use Rattle.ghc_flat.specs.Flat.{IsProgram}
+use Rattle.ghc_records.specs.Journal.{fresh_opening}
+use Rattle.ghc_records.specs.Replay.{query_state}
+use Rattle.ghc_core.specs.Core.{IsStanding}
+use Rattle.ghc_core.proofs.Standing.{fresh_world, fresh_stands}
+use Rattle.ghc_core.proofs.core_state.Core.new.Goals as goal
+
+pub invariant_of-result : goal.invariant_of-result
+invariant_of-result c =
+    let accepted : IsProgram c.args.program = subst IsProgram c.program.view_is c.program.invariant.0 in
+    let state : c.in-Ok.state ≡ query_state c.args.query.goals = c.in-Ok.ensures ∙ ap query_state c.goals.ensures.same in
+    let same : fresh_world c.args.program c.args.query.goals
+    ≡ record { opening = fresh_opening c.args.program c.args.query.goals; state = c.in-Ok.state; kept = c.new.result; shelf = c.new-2.result; next = 1; journal = c.new-3.result } =
+    let kept : c.new.result ≡ [] = c.new.ensures in
+    let shelf : c.new-2.result ≡ finite.empty = c.new-2.ensures in
+    let journal : c.new-3.result ≡ [] = c.new-3.ensures in
+    cc in
+    subst IsStanding same (fresh_stands c.args.program c.args.query.goals accepted c.requires)

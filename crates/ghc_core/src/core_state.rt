@@ -1,0 +1,87 @@
+// The core of a debugger: a program and a query, the state of the run, and its record.
+ghost use Rattle.std.specs.Prelude.{◌≡◌, ◌⊎◌, IfOk, IfErr, OnErr, IsErrAnd, MatchResult, ⊤};
+ghost use Rattle.ghc_core.specs.World.{World};
+ghost use Rattle.ghc_core.specs.Core.{IsCommitted};
+ghost use Rattle.ghc_core.specs.Proposes.{AttemptAnswers, IsCommitOf, CommitFails};
+
+use ghc_fire::{Goals, Meter, Proposal, attempt};
+use ghc_flat::Program;
+use ghc_reader::Query;
+use ghc_records::{Journal, Records, Shelf, State};
+use ghc_term::{Fault, GoalName, Store};
+use std::alloc::{AllocError, Global};
+use std::marker::Model;
+
+/// A core: in each state of its run, goals and store are the replay of the steps that it keeps.
+pub struct Core {
+    pub(crate) program: Program,
+    pub(crate) query: Query,
+    pub(crate) state: State,
+    pub(crate) records: Records,
+    pub(crate) shelf: Shelf,
+    pub(crate) next: u32,
+    pub(crate) journal: Journal,
+    pub(crate) meter: Meter,
+}
+
+impl Drop for Core {
+    fn drop(self) {
+        let Core {
+            program: _program,
+            query: _query,
+            state: _state,
+            records: _records,
+            shelf: _shelf,
+            next: _next,
+            journal: _journal,
+            meter: _meter,
+        } = self;
+    }
+}
+
+impl Model for Core {
+    ghost use Rattle.ghc_records.specs.Journal.{fresh_opening};
+    ghost use Rattle.ghc_core.specs.Core.{Core, IsStanding};
+    ghost use Rattle.ghc_core.specs.CoreCode.{core_code};
+
+    ghost Value = { Core };
+
+    ghost coded = { core_code };
+
+    ghost view = { λ c. record {
+      world = record { opening = fresh_opening c.program c.query.goals; state = c.state; kept = c.records; shelf = c.shelf; next = c.next; journal = c.journal };
+      names = c.query.variables;
+      meter = c.meter;
+    } };
+
+    ghost invariant = { λ c. IsStanding (record { opening = fresh_opening c.program c.query.goals; state = c.state; kept = c.records; shelf = c.shelf; next = c.next; journal = c.journal }) };
+}
+
+impl Core {
+    ghost use Rattle.ghc_flat.specs.Flat.{IsQuery};
+    ghost use Rattle.ghc_records.specs.Journal.{fresh_opening};
+    ghost use Rattle.ghc_core.specs.World.{Opens};
+
+    /// The core of a query before any step. It costs a look-up for each goal of the query.
+    pub fn new(alloc: Global, program: Program, query: Query) -> Result<Core, AllocError>
+        requires { IsQuery program query.goals }
+        ensures opens { IfOk result (λ core. Opens (fresh_opening program query.goals) core.world) }
+        ensures names { IfOk result (λ core. core.names ≡ query.variables) }
+        ensures meter { IfOk result (λ core. (core.meter.firings ≡ 0) × (core.meter.tries ≡ 0)) }
+    {
+        let state = match State::of_query(alloc, query.goals()) {
+            Ok(state) => state,
+            Err(error) => return Err(error),
+        };
+        Ok(Core {
+            program,
+            query,
+            state,
+            records: Records::new(alloc),
+            shelf: Shelf::new(alloc),
+            next: 1,
+            journal: Journal::new(alloc),
+            meter: Meter::new(),
+        })
+    }
+}
