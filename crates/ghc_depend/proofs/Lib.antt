@@ -19,5 +19,6 @@ pub mod TakingBack
 pub mod Arranging
 pub mod Undoing
 pub mod ComingBack
+pub mod KeptOnce
 pub mod Runs
 pub mod WakingRun

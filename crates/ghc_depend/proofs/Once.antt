@@ -40,6 +40,17 @@ not_failing : (kept : List Record) (order bs ds : List ℕ) (s : ℕ) → order 
 not_failing kept order bs ds s e k (inl n) = n (k.0 s (subst (In s) (sym e) (in_right bs (s ∷ ds) s (inl refl))))
 not_failing kept order bs ds s e k (inr i) = new_at bs ds s (subst AreDistinct e k.1) i
 
+-- records with the same numbers are the same, where a number has one record
+pub same_records : (kept : List Record) → ((r s : Record) → In r kept → In s kept → r.number ≡ s.number → r ≡ s)
+    → (xs ys : List Record) → numbers xs ≡ numbers ys → ((r : Record) → In r xs → In r kept) → ((r : Record) → In r ys → In r kept) → xs ≡ ys
+same_records kept one [] [] e p q = refl
+same_records kept one [] (y ∷ ys) e p q = cc
+same_records kept one (x ∷ xs) [] e p q = cc
+same_records kept one (x ∷ xs) (y ∷ ys) e p q =
+    let first : x ≡ y = one x y (p x (inl refl)) (q y (inl refl)) (head_of e) in
+    let rest : xs ≡ ys = same_records kept one xs ys (tail_of e) (λ r i. p r (inr i)) (λ r i. q r (inr i)) in
+    λ i. first i ∷ rest i
+
 module _ (kept : List Record) (distinct : AreDistinct (numbers kept)) where
   -- both ends of a dependence are kept
   ends : (b a : Record) → DependsOn kept b a → In a kept × In b kept
@@ -85,15 +96,6 @@ module _ (kept : List Record) (distinct : AreDistinct (numbers kept)) where
         | inr (inr k) ↦ absurd (h x y (subst (In y.number) (sym k.1) (in_right cs (y.number ∷ k.0) y.number (inl refl))) v)
       ]
 
-  same_records : (xs ys : List Record) → numbers xs ≡ numbers ys → ((r : Record) → In r xs → In r kept) → ((r : Record) → In r ys → In r kept) → xs ≡ ys
-  same_records [] [] e p q = refl
-  same_records [] (y ∷ ys) e p q = cc
-  same_records (x ∷ xs) [] e p q = cc
-  same_records (x ∷ xs) (y ∷ ys) e p q =
-      let first : x ≡ y = record_once kept x y distinct (p x (inl refl)) (q y (inl refl)) (head_of e) in
-      let rest : xs ≡ ys = same_records xs ys (tail_of e) (λ r i. p r (inr i)) (λ r i. q r (inr i)) in
-      λ i. first i ∷ rest i
-
   one_first : (r b c : Record) → IsFirstConsequence kept r b → IsFirstConsequence kept r c → b ≡ c
   one_first r b c p q = elim (p.1 c q.0) [
     | inl e ↦ sym e
@@ -107,7 +109,7 @@ pub orders : OrdersHaveOneAnswer
 orders kept distinct = record {
   no_pair = no_pair kept distinct;
   one_pair = one_pair kept distinct;
-  one_record = λ order new other p q. same_records kept distinct new other (p.0 ∙ sym q.0) (λ r. (p.1 r).0) (λ r. (q.1 r).0);
+  one_record = λ order new other p q. same_records kept (λ r s. record_once kept r s distinct) new other (p.0 ∙ sym q.0) (λ r. (p.1 r).0) (λ r. (q.1 r).0);
 }
 
 pub consequences : ConsequencesHaveOneAnswer
