@@ -15,3 +15,4 @@ pub mod Taking
 pub mod Preparing
 pub mod TakenAway
 pub mod Crosses
+pub mod Histories
