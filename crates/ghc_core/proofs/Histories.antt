@@ -16,7 +16,8 @@ use Rattle.ghc_records.specs.Journal.{Step, Opening, Entry, took, undid, rolled,
 use Rattle.ghc_records.proofs.OrderLemmas.{number_of}
 use Rattle.ghc_records.proofs.Replaying.{run_once}
 use Rattle.ghc_depend.specs.Kept.{Keeps, taken_numbers}
-use Rattle.ghc_depend.proofs.KeptOnce.{in_pushed, taken_append, keeps_once}
+use Rattle.ghc_depend.proofs.KeptOnce.{taken_append, keeps_once}
+use Rattle.ghc_depend.proofs.Picking.{distinct_push, in_pushed}
 use Rattle.ghc_core.specs.World.{Proposal, Hands, IsHand, with_hand, emptied, World, with_step, Opens}
 use Rattle.ghc_core.specs.Events.{Command, input, finish, undo, roll, redo, arrange, Event, propose, commit, command, Reply, held, stepped}
 use Rattle.ghc_core.specs.Proposes as asking
@@ -188,10 +189,6 @@ record Counted (w : World) : Type 0 where
   pub distinct : AreDistinct (taken_numbers w.journal)
   pub below : (n : ℕ) → In n (taken_numbers w.journal) → n < w.next
   pub next : w.next + length w.opening.steps ≡ w.opening.next + length (taken_numbers w.journal)
-
-distinct_push : (ns : List ℕ) (n : ℕ) → AreDistinct ns → ¬ In n ns → AreDistinct (ns ++ n ∷ [])
-distinct_push [] n d new = ((λ i. i), tt)
-distinct_push (m ∷ ns) n d new = ((λ i. elim (in_pushed ns n m i) [ inl j ↦ d.0 j | inr e ↦ new (inl (sym e)) ]), distinct_push ns n d.1 (λ i. new (inr i)))
 
 -- the numbers of loaded steps
 loaded_numbers : (ss : List Step) → taken_numbers (map took ss) ≡ map (λ s. s.number) ss

@@ -22,7 +22,7 @@ use Rattle.ghc_records.specs.Orders.{AreDistinct}
 use Rattle.ghc_records.specs.Record.{State, Record, numbers, Shelf, after, IsThere, HasStepEffect, Fires}
 use Rattle.ghc_records.specs.Replay.{query_state, Runs, Replays}
 use Rattle.ghc_records.specs.Journal.{Opening, Entry, took, undid, rolled, redid, reordered, step_of}
-use Rattle.ghc_records.proofs.OrderLemmas.{in_left, in_right, in_either, picks_once}
+use Rattle.ghc_records.proofs.OrderLemmas.{in_left, in_right, picks_once}
 use Rattle.ghc_records.proofs.Replaying.{run_once, replay_well}
 use Rattle.ghc_depend.specs.Depend.{IsKeptAs, GoesWith}
 use Rattle.ghc_depend.specs.Lawful.{IsInOrder}
@@ -30,38 +30,7 @@ use Rattle.ghc_depend.specs.Kept.{with_shelved, IsWithout, IsSplitAt, taken_numb
 use Rattle.ghc_depend.specs.Laws.{KeepsIsOne}
 use Rattle.ghc_depend.proofs.Finding.{same_value}
 use Rattle.ghc_depend.proofs.Once.{same_records}
-use Rattle.ghc_depend.proofs.Picking.{picks_in}
-
-module _ {X : Type 0} where
-  pub never_nothing : (xs : List X) (x : X) → ¬ (xs ++ x ∷ [] ≡ [])
-  never_nothing [] x e = cc
-  never_nothing (y ∷ xs) x e = cc
-
-  head_of : {x y : X} {xs ys : List X} → x ∷ xs ≡ y ∷ ys → x ≡ y
-  head_of e = cc
-
-  tail_of : {x y : X} {xs ys : List X} → x ∷ xs ≡ y ∷ ys → xs ≡ ys
-  tail_of e = cc
-
-  -- a list determines its last element, and what stands in front of that
-  pub last_once : (xs ys : List X) (x y : X) → xs ++ x ∷ [] ≡ ys ++ y ∷ [] → (xs ≡ ys) × (x ≡ y)
-  last_once [] [] x y e = (refl, head_of e)
-  last_once [] (z ∷ ys) x y e = absurd (never_nothing ys y (sym (tail_of e)))
-  last_once (z ∷ xs) [] x y e = absurd (never_nothing xs x (tail_of e))
-  last_once (z ∷ xs) (w ∷ ys) x y e = let p = last_once xs ys x y (tail_of e) in ((λ i. head_of e i ∷ p.0 i), p.1)
-
-  pub distinct_left : (xs ys : List X) → AreDistinct (xs ++ ys) → AreDistinct xs
-  distinct_left [] ys d = tt
-  distinct_left (x ∷ xs) ys d = ((λ i. d.0 (in_left xs ys x i)), distinct_left xs ys d.1)
-
-  pub distinct_last : (xs : List X) (x : X) → AreDistinct (xs ++ x ∷ []) → ¬ In x xs
-  distinct_last (y ∷ xs) x d (inl e) = d.0 (subst (λ z. In z (xs ++ x ∷ [])) e (in_right xs (x ∷ []) x (inl refl)))
-  distinct_last (y ∷ xs) x d (inr i) = distinct_last xs x d.1 i
-  distinct_last [] x d i = i
-
-  -- what is in a list with one more
-  pub in_pushed : (xs : List X) (x y : X) → In y (xs ++ x ∷ []) → In y xs ⊎ (y ≡ x)
-  in_pushed xs x y i = elim (in_either xs (x ∷ []) y i) [ inl j ↦ inl j | inr (inl e) ↦ inr e | inr (inr j) ↦ absurd j ]
+use Rattle.ghc_depend.proofs.Picking.{never_nothing, last_once, distinct_left, distinct_last, in_pushed, picks_in}
 
 pub taken_append : (es fs : List Entry) → taken_numbers (es ++ fs) ≡ taken_numbers es ++ taken_numbers fs
 taken_append [] fs = refl

@@ -20,5 +20,3 @@ pub mod Arranging
 pub mod Undoing
 pub mod ComingBack
 pub mod KeptOnce
-pub mod Runs
-pub mod WakingRun
