@@ -16,3 +16,4 @@ pub mod Taking
 pub mod Preparing
 pub mod TakenAway
 pub mod Crosses
+pub mod Histories

@@ -6,6 +6,7 @@ pub mod Reverses
 pub mod Answers
 pub mod Legal
 pub mod Laws
+pub mod HistoryLaws
 pub mod Returns
 pub mod Facts
 pub mod Load

@@ -4,6 +4,7 @@
 mod commit;
 mod core_state;
 mod facts;
+mod history_laws;
 mod laws;
 mod recheck;
 #[cfg(test)]
@@ -13,6 +14,10 @@ mod undo;
 mod undo_laws;
 
 pub use facts::{redo_is_changed, second_hand_is_stale};
+pub use history_laws::{
+    journal_tells_what_is_kept, leaves_is_one, legal_is_reachable, reachable_is_legal,
+    reachable_is_one,
+};
 pub use laws::{
     arranges_have_an_answer, closes_have_an_answer, commits_have_an_answer, events_have_an_answer,
     events_have_one_answer, inputs_have_an_answer, notes_have_an_answer, proposes_have_an_answer,

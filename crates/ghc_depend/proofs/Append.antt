@@ -10,7 +10,7 @@ use Rattle.ghc_records.specs.Record.{Record}
 use Rattle.ghc_records.proofs.OrderLemmas.{is_before, before_in, precedes_rises, Rises}
 use Rattle.ghc_depend.specs.Depend.{Consumes, DependsOn, Follows, directly, further}
 use Rattle.ghc_depend.specs.Cause.{by_making}
-use Rattle.ghc_depend.specs.Lawful.{IsTooEarly, not_a_new_one, missing, too_early}
+use Rattle.ghc_depend.specs.Lawful.{IsTooEarly, wrong, missing, too_early}
 use Rattle.ghc_depend.specs.Facts.{step_1, step_2, step_3, step_4, run, AppendDepends, AppendOrders}
 
 -- the number of a record
@@ -168,7 +168,7 @@ orders = record {
     ),
     none_early,
   );
-  early = too_early step_1 step_2 [] (1 ∷ 3 ∷ 4 ∷ []) (
+  early = too_early {a = step_1} {b = step_2} (
     (
       λ n i. elim i [
         | inl e ↦ inr (inl e)
@@ -182,8 +182,8 @@ orders = record {
       | inr (inl e) ↦ inl e
       | inr (inr j) ↦ inr (inr j)
     ],
-  ) refl (λ c d i. absurd i) (depends_21, ([], [], 3 ∷ 4 ∷ [], refl)) (λ c t. inl (under_2 c t.0));
-  missing = missing step_4 (step_1 ∷ step_2 ∷ step_3 ∷ []) [] (
+  ) (record { front = []; behind = 1 ∷ 3 ∷ 4 ∷ []; splits = refl; before = λ c d i. absurd i; early = (depends_21, ([], [], 3 ∷ 4 ∷ [], refl)); first = λ c t. inl (under_2 c t.0) });
+  missing = missing {r = step_4} (
     λ n i. elim i [
       | inl e ↦ inl e
       | inr (inl e) ↦ inr (inl e)
@@ -191,6 +191,6 @@ orders = record {
       | inr (inr (inr j)) ↦ absurd j
     ],
     (grind arith, (grind arith, (λ i. i, tt))),
-  ) refl (λ n i. i) (grind arith);
-  twice = not_a_new_one (1 ∷ []) (2 ∷ 3 ∷ []) refl (λ n i. elim i [ inl e ↦ inl e | inr j ↦ absurd j ], (λ i. i, tt)) (inr (inl refl));
+  ) (record { front = step_1 ∷ step_2 ∷ step_3 ∷ []; behind = []; splits = refl; before = λ n i. i; absent = grind arith });
+  twice = wrong (record { front = 1 ∷ []; behind = 2 ∷ 3 ∷ []; splits = refl; before = (λ n i. elim i [ inl e ↦ inl e | inr j ↦ absurd j ], (λ i. i, tt)); not_new = inr (inl refl) });
 }

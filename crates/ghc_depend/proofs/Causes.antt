@@ -5,6 +5,7 @@ use Rattle.std.specs.Borrow.{Bor}
 use Rattle.std.specs.declared.cmp.Ordering.TheVariants.{Less, Equal, Greater}
 use Rattle.std.specs.Ordering.{is_lt, ord_min, ordering_reverse}
 use Rattle.std.specs.FinSet as set
+use Rattle.std.proofs.lemmas.Bool.{cases_lt, cases_order}
 use Rattle.ghc_term.specs.declared.var_name.VarName.{VarName}
 use Rattle.ghc_term.specs.declared.goal_name.GoalName.{GoalName}
 use Rattle.ghc_term.specs.Lists.{In}
@@ -13,16 +14,14 @@ use Rattle.ghc_term.proofs.Names.{name_total, name_antisymmetric}
 use Rattle.ghc_term.proofs.Members.{has_member}
 use Rattle.ghc_records.specs.Orders.{Precedes, AreDistinct}
 use Rattle.ghc_records.specs.Record.{Record, numbers}
-use Rattle.ghc_records.proofs.OrderLemmas.{in_left, in_right, in_either, Before, is_before, before_is, before_in, before_once, record_once, records_distinct}
+use Rattle.ghc_records.proofs.OrderLemmas.{in_left, in_right, Before, is_before, before_is, before_in, before_once, record_once, records_distinct}
 use Rattle.ghc_depend.specs.Depend.{MakesGoal, Consumes, Binds, ReadsFrom, IsKeptAs}
 use Rattle.ghc_depend.specs.declared.cause.Cause.TheVariants.{Made as made, Read as read}
 use Rattle.ghc_depend.specs.Cause.{CanWait, WasThereBefore, ReadsBehind, IsWokenBy, IsLeastRead, by_making, by_reading, IsDirect}
 use Rattle.ghc_depend.proofs.Finding.{same_value}
+use Rattle.ghc_depend.proofs.Picking.{in_pushed}
 use Rattle.ghc_depend.proofs.Trails.{is_there, member_of}
 use Rattle.ghc_depend.proofs.Walking.{kept_at}
-
-three : (i j : ℕ) → (i < j) ⊎ ((i ≡ j) ⊎ (j < i))
-three i j = grind arith
 
 module _ {X : Type 0} where
   -- what stands at an earlier place stands before
@@ -36,9 +35,9 @@ module _ {X : Type 0} where
 
   -- what stands before stands at an earlier place
   pub before_places : (xs : List X) → AreDistinct xs → (i j : ℕ) (a b : X) → slice_get xs i ≡ Some a → slice_get xs j ≡ Some b → Before xs a b → i < j
-  before_places xs distinct i j a b p q h = elim (three i j) [
-    | inl l ↦ l
-    | inr (inl e) ↦
+  before_places xs distinct i j a b p q h = elim (cases_order i j) [
+    | inr (inl l) ↦ l
+    | inl e ↦
         let same : b ≡ a = same_value (ap (slice_get xs) e ∙ q) p in
         let again = subst (Before xs a) same h in
         absurd (before_once xs a a distinct again again)
@@ -82,29 +81,26 @@ is_lesser y x =
     ] refl
 
 module _ (a : Record) (xs : List VarName) (x : VarName) where
-  either_one : (z : VarName) → In z (xs ++ x ∷ []) → In z xs ⊎ (z ≡ x)
-  either_one z i = elim (in_either xs (x ∷ []) z i) [ inl j ↦ inl j | inr (inl e) ↦ inr e | inr (inr j) ↦ absurd j ]
-
   last : In x (xs ++ x ∷ [])
   last = in_right xs (x ∷ []) x (inl refl)
 
   -- one variable more, which the step did not bind
   pub least_passed : (o : Option VarName) → IsLeastOf a xs o → ¬ Binds a x → IsLeastOf a (xs ++ x ∷ []) o
-  least_passed None h n = λ z i b. elim (either_one z i) [ inl j ↦ h z j b | inr e ↦ n (subst (Binds a) e b) ]
+  least_passed None h n = λ z i b. elim (in_pushed xs x z i) [ inl j ↦ h z j b | inr e ↦ n (subst (Binds a) e b) ]
   least_passed (Some y) h n = (
     in_left xs (x ∷ []) y h.0,
     h.1,
-    λ z i b. elim (either_one z i) [ inl j ↦ h.2 z j b | inr e ↦ absurd (n (subst (Binds a) e b)) ],
+    λ z i b. elim (in_pushed xs x z i) [ inl j ↦ h.2 z j b | inr e ↦ absurd (n (subst (Binds a) e b)) ],
   )
 
   first_one : IsLeastOf a xs None → Binds a x → IsLeastOf a (xs ++ x ∷ []) (Some x)
-  first_one h b = (last, b, λ z i c. elim (either_one z i) [ inl j ↦ absurd (h z j c) | inr e ↦ inl e ])
+  first_one h b = (last, b, λ z i c. elim (in_pushed xs x z i) [ inl j ↦ absurd (h z j c) | inr e ↦ inl e ])
 
   lesser_one : (y : VarName) → IsLeastOf a xs (Some y) → Binds a x → name_cmp x y ≡ Less → IsLeastOf a (xs ++ x ∷ []) (Some x)
   lesser_one y h b less = (
     last,
     b,
-    λ z i c. elim (either_one z i) [
+    λ z i c. elim (in_pushed xs x z i) [
       | inl j ↦ inr (elim (h.2 z j c) [ inl e ↦ subst (λ w. name_cmp x w ≡ Less) (sym e) less | inr l ↦ name_total.trans x y z less l ])
       | inr e ↦ inl e
     ],
@@ -114,7 +110,7 @@ module _ (a : Record) (xs : List VarName) (x : VarName) where
   same_one y h order = (
     in_left xs (x ∷ []) y h.0,
     h.1,
-    λ z i c. elim (either_one z i) [
+    λ z i c. elim (in_pushed xs x z i) [
       | inl j ↦ h.2 z j c
       | inr e ↦ elim order [ inl f ↦ inl (e ∙ f) | inr l ↦ inr (subst (λ w. name_cmp y w ≡ Less) (sym e) l) ]
     ],
@@ -168,17 +164,14 @@ module _ (rs : List Record) (distinct : AreDistinct (numbers rs)) (b : Record) w
 abbrev pub NoneBetween : (Record → Type 0) → List Record → ℕ → ℕ → Type 0
 NoneBetween P rs place end_place = (k : ℕ) (c : Record) → place < k → k < end_place → slice_get rs k ≡ Some c → ¬ P c
 
-same_or_before : (k i : ℕ) → k < i + 1 → (k ≡ i) ⊎ (k < i)
-same_or_before k i h = grind arith
-
 -- at first there are none, and then one more
 pub none_between : (P : Record → Type 0) (rs : List Record) (place : ℕ) → NoneBetween P rs place (place + 1)
 none_between P rs place k c low high at p = absurd (omega arith)
 
 pub none_more : (P : Record → Type 0) (rs : List Record) (place i : ℕ) (b : Record) → slice_get rs i ≡ Some b → ¬ P b → NoneBetween P rs place i → NoneBetween P rs place (i + 1)
-none_more P rs place i b at n none k c low high there p = elim (same_or_before k i high) [
-  | inl e ↦ n (subst P (same_value (ap (slice_get rs) (sym e) ∙ there) at) p)
-  | inr h ↦ none k c low h there p
+none_more P rs place i b at n none k c low high there p = elim (cases_lt k i) [
+  | inl h ↦ none k c low h there p
+  | inr h ↦ let e : i ≡ k = omega arith in n (subst P (same_value (ap (slice_get rs) e ∙ there) at) p)
 ]
 
 -- an element of a list has a place

@@ -13,7 +13,8 @@ use Rattle.ghc_depend.specs.Depend.{DependsOn, directly}
 use Rattle.ghc_depend.specs.Deletion.{IsClosedUnder, IsPartedBy}
 use Rattle.ghc_depend.specs.Laws.{GoneComeBack}
 use Rattle.ghc_depend.proofs.Comparing.{same_state}
-use Rattle.ghc_depend.proofs.Deleting.{of_gone, of_left, apart, parted, ends}
+use Rattle.ghc_depend.proofs.Finding.{ends}
+use Rattle.ghc_depend.proofs.Deleting.{of_gone, of_left, apart, parted}
 use Rattle.ghc_depend.proofs.Picking.{stands_in_front, before_left, before_right, before_across, picks_in, picks_keep, picks_distinct, distinct_both}
 use Rattle.ghc_depend.proofs.Placing.{results_of, numbered_once}
 use Rattle.ghc_depend.proofs.Working.{StandBehind, works}
@@ -36,7 +37,7 @@ module _ (P : Program) (query : Query) (rs : List Record) (t : State) (replay : 
   module _ (shut : IsClosedUnder rs D) where
     order : (r a : Record) → DependsOn rs r a → Before (left ++ gone) a r
     order r a d =
-        let k = ends P query rs t replay D gone left parts r a d in
+        let k = ends rs r a d in
         let before = is_before rs a r d.0 in
         let distinct = records_distinct rs replay.0.1 in
         elim (parted P query rs t replay D gone left parts r k.1) [

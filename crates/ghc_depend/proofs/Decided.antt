@@ -1,5 +1,5 @@
 -- Whether an order is lawful is decided by going over order and record.
-use Rattle.std.proofs.Common.{◌≡◌, ℕ, ◌<◌, ◌≤◌, ◌⊎◌, true, false, cond, Bool, List, [], ◌∷◌, ◌++◌, map, length, refl, sym, ap, ◌∙◌, subst, inl, inr, arith, Some, None, append_assoc, append-nil}
+use Rattle.std.proofs.Common.{◌≡◌, ℕ, ◌≤◌, ◌⊎◌, true, false, cond, Bool, List, [], ◌∷◌, ◌++◌, map, length, refl, sym, ap, ◌∙◌, subst, inl, inr, arith, Some, None, append_assoc, append-nil}
 use Rattle.std.specs.Prelude.{Option, is_some}
 use Rattle.std.specs.Ordering.{eq_by_cmp}
 use Rattle.std.specs.FinMap as finite
@@ -7,6 +7,7 @@ use Rattle.std.specs.FinSet as set
 use Rattle.ghc_term.specs.declared.var_name.VarName.{VarName}
 use Rattle.ghc_term.specs.declared.goal_name.GoalName.{GoalName}
 use Rattle.ghc_term.specs.Tree.{Tree}
+use Rattle.std.proofs.lemmas.Bool.{cases_eq, cases_lt}
 use Rattle.ghc_term.specs.Lists.{In}
 use Rattle.ghc_term.specs.Bindings.{name_cmp}
 use Rattle.ghc_term.proofs.Total.{same_name}
@@ -14,7 +15,9 @@ use Rattle.ghc_records.specs.Orders.{Precedes, AreDistinct}
 use Rattle.ghc_records.specs.Record.{Record, numbers}
 use Rattle.ghc_records.proofs.OrderLemmas.{in_right, in_either, Before, is_before, before_is, before_in, split_at, number_in, number_of, record_once}
 use Rattle.ghc_depend.specs.Depend.{MakesGoal, ReadsFrom, DependsOn}
-use Rattle.ghc_depend.specs.Lawful.{IsOfKept, IsOrderOf, IsTooEarly, IsInOrder, IsUnlawful, not_a_new_one, missing, too_early}
+use Rattle.ghc_depend.proofs.Finding.{ends}
+use Rattle.ghc_depend.proofs.Picking.{distinct_push}
+use Rattle.ghc_depend.specs.Lawful.{IsOfKept, IsOrderOf, IsTooEarly, IsInOrder, IsUnlawful, wrong, missing, too_early}
 use Rattle.ghc_depend.specs.Laws.{OrdersAreDecided}
 
 -- it is so, or not
@@ -35,17 +38,11 @@ known_either (inl a) k = inl (inl a)
 known_either (inr n) (inl b) = inl (inr b)
 known_either (inr n) (inr m) = inr (λ p. elim p [ inl a ↦ n a | inr b ↦ m b ])
 
-less : (a b : ℕ) → (a ≤ b) ⊎ (b < a)
-less a b = grind arith
-
 known_le : (a b : ℕ) → Known (a ≤ b)
-known_le a b = elim (less a b) [ inl l ↦ inl l | inr l ↦ inr (λ k. omega arith) ]
-
-three : (a b : ℕ) → (a ≡ b) ⊎ ((a < b) ⊎ (b < a))
-three a b = grind arith
+known_le a b = elim (cases_lt b a) [ inr l ↦ inl l | inl l ↦ inr (λ k. omega arith) ]
 
 pub known_same : (a b : ℕ) → Known (a ≡ b)
-known_same a b = elim (three a b) [ inl e ↦ inl e | inr (inl l) ↦ inr (λ e. omega arith) | inr (inr l) ↦ inr (λ e. omega arith) ]
+known_same a b = cases_eq a b
 
 known_true : (b : Bool) → Known (b ≡ true)
 known_true true = inl refl
@@ -113,9 +110,6 @@ known_reads b a = elim (known_read b a (map (λ e. e.0) (finite.entries a.effect
 ]
 
 module _ (kept : List Record) (distinct : AreDistinct (numbers kept)) where
-  pub ends : (b a : Record) → DependsOn kept b a → In a kept × In b kept
-  ends b a d = before_in kept a b (is_before kept a b d.0)
-
   pub known_depends : (b a : Record) → In a kept → In b kept → Known (DependsOn kept b a)
   known_depends b a i j =
       known_both (known_by (λ h. before_is kept a b (by_records kept a b distinct i j h)) (λ p. by_numbers kept a b (is_before kept a b p)) (known_before (numbers kept) a.number b.number))
@@ -132,14 +126,14 @@ module _ (kept : List Record) (distinct : AreDistinct (numbers kept)) where
 
     first_step : (b : Record) → In b kept → (done rest : List Record) → kept ≡ done ++ rest → ((c : Record) → In c done → ¬ IsTooEarly kept order c b)
         → ((a : Record) × FirstEarly b a) ⊎ ((c : Record) → ¬ IsTooEarly kept order c b)
-    first_step b j done [] e h = inr (λ c t. h c (subst (In c) (e ∙ append-nil done) (ends b c t.0).0) t)
+    first_step b j done [] e h = inr (λ c t. h c (subst (In c) (e ∙ append-nil done) (ends kept b c t.0).0) t)
     first_step b j done (a ∷ rest) e h =
         elim (known_early order a b (subst (In a) (sym e) (in_right done (a ∷ rest) a (inl refl))) j) [
           | inl t ↦ inl (
             a,
             (
               t,
-              λ c s. elim (in_either done (a ∷ rest) c (subst (In c) e (ends b c s.0).0)) [
+              λ c s. elim (in_either done (a ∷ rest) c (subst (In c) e (ends kept b c s.0).0)) [
                 | inl i ↦ absurd (h c i s)
                 | inr (inl same) ↦ inl same
                 | inr (inr i) ↦ let p = split_at rest c i in inr (done, p.0, p.1, e ∙ ap (λ z. done ++ a ∷ z) p.2 ∙ sym (append_assoc done (a ∷ p.0) (c ∷ p.1)))
@@ -162,33 +156,29 @@ module _ (kept : List Record) (distinct : AreDistinct (numbers kept)) where
     first_early o done (n ∷ rest) e h =
         let b = number_of kept n (o.0.0 n (subst (In n) (sym e) (in_right done (n ∷ rest) n (inl refl)))) in
         elim (first_step b.0 b.1 [] kept refl (λ c i. absurd i)) [
-          | inl f ↦ inl (f.0.number, b.0.number, too_early f.0 b.0 done rest o (e ∙ ap (λ z. done ++ z ∷ rest) (sym b.2)) h f.1.0 f.1.1)
+          | inl f ↦ inl (f.0.number, b.0.number, too_early o (record { front = done; behind = rest; splits = e ∙ ap (λ z. done ++ z ∷ rest) (sym b.2); before = h; early = f.1.0; first = f.1.1 }))
           | inr none ↦ first_early o (done ++ n ∷ []) rest (e ∙ sym (append_assoc done (n ∷ []) rest)) (λ c d i t. elim (in_either done (n ∷ []) d.number i) [
             | inl k ↦ h c d k t
-            | inr (inl same) ↦ none c (subst (IsTooEarly kept order c) (record_once kept d b.0 distinct (ends d c t.0).1 b.1 (same ∙ sym b.2)) t)
+            | inr (inl same) ↦ none c (subst (IsTooEarly kept order c) (record_once kept d b.0 distinct (ends kept d c t.0).1 b.1 (same ∙ sym b.2)) t)
             | inr (inr k) ↦ absurd k
           ])
         ]
 
-    push_new : (ns : List ℕ) (n : ℕ) → AreDistinct ns → ¬ In n ns → AreDistinct (ns ++ n ∷ [])
-    push_new [] n d k = ((λ i. i), tt)
-    push_new (m ∷ ns) n d k = ((λ i. elim (in_either ns (n ∷ []) m i) [ inl j ↦ d.0 j | inr (inl e) ↦ k (inl (sym e)) | inr (inr j) ↦ j ]), push_new ns n d.1 (λ i. k (inr i)))
-
     of_kept : (done rest : List ℕ) → order ≡ done ++ rest → IsOfKept kept done → Fails ⊎ IsOfKept kept order
     of_kept done [] e k = inr (subst (IsOfKept kept) (sym (e ∙ append-nil done)) k)
     of_kept done (n ∷ rest) e k = elim (known_in n (numbers kept)) [
-      | inr no_one ↦ inl (n, n, not_a_new_one done rest e k (inl no_one))
+      | inr no_one ↦ inl (n, n, wrong (record { front = done; behind = rest; splits = e; before = k; not_new = inl no_one }))
       | inl there ↦ elim (known_in n done) [
-        | inl twice ↦ inl (n, n, not_a_new_one done rest e k (inr twice))
+        | inl twice ↦ inl (n, n, wrong (record { front = done; behind = rest; splits = e; before = k; not_new = inr twice }))
         | inr new ↦ of_kept (done ++ n ∷ []) rest (e ∙ sym (append_assoc done (n ∷ []) rest))
-            ((λ m i. elim (in_either done (n ∷ []) m i) [ inl j ↦ k.0 m j | inr (inl same) ↦ subst (λ z. In z (numbers kept)) (sym same) there | inr (inr j) ↦ absurd j ]), push_new done n k.1 new)
+            ((λ m i. elim (in_either done (n ∷ []) m i) [ inl j ↦ k.0 m j | inr (inl same) ↦ subst (λ z. In z (numbers kept)) (sym same) there | inr (inr j) ↦ absurd j ]), distinct_push done n k.1 new)
       ]
     ]
 
     none_missing : IsOfKept kept order → (done rest : List Record) → kept ≡ done ++ rest → ((n : ℕ) → In n (numbers done) → In n order) → Fails ⊎ ((n : ℕ) → In n (numbers kept) → In n order)
     none_missing k done [] e h = inr (λ n i. h n (subst (λ z. In n (numbers z)) (e ∙ append-nil done) i))
     none_missing k done (r ∷ rest) e h = elim (known_in r.number order) [
-      | inr gone ↦ inl (r.number, 0, missing r done rest k e h gone)
+      | inr gone ↦ inl (r.number, 0, missing k (record { front = done; behind = rest; splits = e; before = h; absent = gone }))
       | inl there ↦ none_missing k (done ++ r ∷ []) rest (e ∙ sym (append_assoc done (r ∷ []) rest)) (λ n i.
           let q = number_of (done ++ r ∷ []) n i in
           elim (in_either done (r ∷ []) q.0 q.1) [

@@ -10,12 +10,12 @@ use Rattle.ghc_fire.proofs.Steps.{effect_binds}
 use Rattle.ghc_records.specs.Orders.{AreDistinct}
 use Rattle.ghc_records.specs.Record.{State, Record}
 use Rattle.ghc_records.specs.Replay.{Replays}
-use Rattle.ghc_records.proofs.OrderLemmas.{in_right, in_either, Before, is_before, before_in, before_once, records_distinct}
+use Rattle.ghc_records.proofs.OrderLemmas.{in_right, in_either, Before, is_before, before_once, records_distinct}
 use Rattle.ghc_records.proofs.Replaying.{replay_well}
 use Rattle.ghc_depend.specs.Depend.{Consumes, ReadsFrom, DependsOn, directly, further}
 use Rattle.ghc_depend.specs.Deletion.{IsClosedUnder, IsPartedBy, IsWithoutSteps}
 use Rattle.ghc_depend.specs.Laws.{LawOfDeletion}
-use Rattle.ghc_depend.proofs.Finding.{same_value}
+use Rattle.ghc_depend.proofs.Finding.{same_value, ends}
 use Rattle.ghc_depend.proofs.Results.{taken, bound_by, is_old}
 use Rattle.ghc_depend.proofs.Placing.{Place, place_of, front_in, bound_once, numbered_once}
 use Rattle.ghc_depend.proofs.Picking.{behind_before, picks_in, picks_has, picks_order, picks_distinct}
@@ -38,9 +38,6 @@ module _ (P : Program) (query : Query) (rs : List Record) (t : State) (replay : 
     | inr n ↦ elim (picks_has rs left r parts.1 i) [ inl j ↦ inr j | inr m ↦ absurd (m n) ]
   ]
 
-  pub ends : (b a : Record) → DependsOn rs b a → In a rs × In b rs
-  ends b a d = before_in rs a b (is_before rs a b d.0)
-
   distinct : AreDistinct rs
   distinct = records_distinct rs replay.0.1
 
@@ -49,7 +46,7 @@ module _ (P : Program) (query : Query) (rs : List Record) (t : State) (replay : 
   behind shut front back r a e d =
       let r_left : In r left = subst (In r) (sym e) (in_right front (r ∷ back) r (inl refl)) in
       let before = is_before rs a r d.0 in
-      elim (parted a (ends r a d).0) [
+      elim (parted a (ends rs r a d).0) [
         | inl i ↦ absurd ((picks_in rs left r parts.1 r_left).1 (shut a r (picks_in rs gone a parts.0 i).1 (directly d)))
         | inr i ↦ elim (in_either front (r ∷ back) a (subst (In a) e i)) [
           | inl j ↦ j
@@ -92,7 +89,7 @@ module _ (P : Program) (query : Query) (rs : List Record) (t : State) (replay : 
 
     direct : (a b : Record) → D a → DependsOn rs b a → D b
     direct a b da d =
-        let k = ends b a d in
+        let k = ends rs b a d in
         elim (parted b k.1) [
           | inl i ↦ (picks_in rs gone b parts.0 i).1
           | inr j ↦ elim (picks_has rs gone a parts.0 k.0) [

@@ -11,7 +11,8 @@ use Rattle.ghc_term.specs.Lists.{In}
 use Rattle.ghc_fire.specs.Goals.{goal_cmp, Goals}
 use Rattle.ghc_records.specs.Record.{Record, with_makes, without_goal}
 use Rattle.ghc_records.proofs.Names.{goal_total, same_goal}
-use Rattle.ghc_depend.specs.Depend.{MakesGoal}
+use Rattle.ghc_records.proofs.OrderLemmas.{is_before, before_in}
+use Rattle.ghc_depend.specs.Depend.{MakesGoal, DependsOn}
 
 -- by whether there is a value
 pub by_option : {A P : Type 0} (o : Option A) → (o ≡ None → P) → ((a : A) → o ≡ Some a → P) → P
@@ -23,6 +24,10 @@ not_both p q = cc
 
 pub same_value : {A : Type 0} {o : Option A} {x y : A} → o ≡ Some x → o ≡ Some y → x ≡ y
 same_value p q = cc
+
+-- both ends of a dependence are in the list
+pub ends : (rs : List Record) (b a : Record) → DependsOn rs b a → In a rs × In b rs
+ends rs b a d = before_in rs a b (is_before rs a b d.0)
 
 -- an element at which f has a value, or none
 pub find_value : {A B : Type 0} (f : A → Option B) (xs : List A) → ((x : A) × (b : B) × In x xs × (f x ≡ Some b)) ⊎ ((x : A) → In x xs → f x ≡ None)
@@ -98,10 +103,7 @@ pub same_parts : (g h : GoalName) → g.step ≡ h.step → g.place ≡ h.place 
 same_parts g h p q i = record { step = p i; place = q i }
 
 above : (a b : ℕ) → a ≤ b → ¬ (b ≡ a) → a + 1 ≤ b
-above a b l n = elim (three a b) [ inl e ↦ absurd (n (sym e)) | inr (inl k) ↦ omega arith | inr (inr k) ↦ omega arith ]
-  where
-    three : (a b : ℕ) → (a ≡ b) ⊎ ((a < b) ⊎ (b < a))
-    three a b = grind arith
+above a b l n = omega (arith, n)
 
 place_made : (n i : ℕ) (gs : List Goal) (g : GoalName) → g.step ≡ n → i ≤ g.place → g.place < i + length gs → (b : Goal) × (finite.get (with_makes n i gs finite.empty) g ≡ Some b)
 place_made n i [] g s l u = absurd (omega arith)

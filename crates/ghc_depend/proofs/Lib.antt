@@ -19,5 +19,4 @@ pub mod TakingBack
 pub mod Arranging
 pub mod Undoing
 pub mod ComingBack
-pub mod Runs
-pub mod WakingRun
+pub mod KeptOnce

@@ -1,6 +1,8 @@
 -- The first consequence of a step depends on it directly.
-use Rattle.std.proofs.Common.{◌≡◌, ℕ, ◌<◌, ◌≤◌, ◌⊎◌, List, length, ap, ◌∙◌, subst, inl, inr, arith}
+use Rattle.std.proofs.Common.{◌≡◌, ℕ, ◌<◌, ◌≤◌, List, length, ap, ◌∙◌, subst, inl, inr, arith}
 use Rattle.std.specs.Prelude.{Some, slice_get}
+use Rattle.std.proofs.lemmas.Bool.{cases_lt}
+use Rattle.std.proofs.Math.Nat.{eq-or-lt_of_le}
 use Rattle.ghc_records.specs.Orders.{AreDistinct}
 use Rattle.ghc_records.specs.Record.{Record, numbers}
 use Rattle.ghc_records.proofs.OrderLemmas.{is_before, before_is, records_distinct}
@@ -8,9 +10,6 @@ use Rattle.ghc_depend.specs.Depend.{Uses, DependsOn, Follows, directly, further,
 use Rattle.ghc_depend.proofs.Finding.{same_value}
 use Rattle.ghc_depend.proofs.Following.{follows_in}
 use Rattle.ghc_depend.proofs.Causes.{NoneBetween, StandsAt, placed, place_at, place_within, places_before, before_places}
-
-same_or_behind : (i j : ℕ) → i ≤ j → (i ≡ j) ⊎ (i < j)
-same_or_behind i j h = grind arith
 
 module _ (rs : List Record) (distinct : AreDistinct (numbers rs)) (a : Record) (place : ℕ) (there : slice_get rs place ≡ Some a) where
   -- a step stands behind each on which it depends
@@ -20,13 +19,10 @@ module _ (rs : List Record) (distinct : AreDistinct (numbers rs)) (a : Record) (
   module _ (i : ℕ) (none : NoneBetween (λ c. Uses c a) rs place i) where
     -- no consequence stands in front of the first step that uses this one
     pub not_before : {b : Record} → Follows rs a b → (j : ℕ) → slice_get rs j ≡ Some b → i ≤ j
-    not_before (directly {b = b} d) j at = elim (reaches i j) [
-      | inl h ↦ h
-      | inr h ↦ absurd (none j b (low place j a b there at d) h at d.1)
+    not_before (directly {b = b} d) j at = elim (cases_lt j i) [
+      | inr h ↦ h
+      | inl h ↦ absurd (none j b (low place j a b there at d) h at d.1)
     ]
-      where
-        reaches : (i j : ℕ) → (i ≤ j) ⊎ (j < i)
-        reaches i j = grind arith
     not_before (further {b = c} {c = b} f d) j at =
         let p = place_at rs c (follows_in f) in
         let h : i ≤ p.0 = not_before f p.0 p.1 in
@@ -38,7 +34,7 @@ module _ (rs : List Record) (distinct : AreDistinct (numbers rs)) (a : Record) (
       directly (before_is rs a b (places_before rs place i a b there at behind), used),
       λ c f.
           let p = place_at rs c (follows_in f) in
-          elim (same_or_behind i p.0 (not_before f p.0 p.1)) [
+          elim (eq-or-lt_of_le (not_before f p.0 p.1)) [
             | inl e ↦ inl (same_value (ap (slice_get rs) e ∙ p.1) at)
             | inr l ↦ inr (before_is rs b c (places_before rs i p.0 b c at p.1 l))
           ],

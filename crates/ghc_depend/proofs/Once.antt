@@ -3,9 +3,10 @@ use Rattle.std.proofs.Common.{◌≡◌, ℕ, ◌⊎◌, List, [], ◌∷◌, �
 use Rattle.ghc_term.specs.Lists.{In}
 use Rattle.ghc_records.specs.Orders.{AreDistinct}
 use Rattle.ghc_records.specs.Record.{Record, numbers}
-use Rattle.ghc_records.proofs.OrderLemmas.{in_right, is_before, before_in, precedes_once, picks_once, number_in, record_once, records_distinct}
-use Rattle.ghc_depend.specs.Depend.{DependsOn, IsFirstConsequence}
-use Rattle.ghc_depend.specs.Lawful.{IsOfKept, IsTooEarly, IsLawful, IsUnlawful, not_a_new_one, missing, too_early}
+use Rattle.ghc_records.proofs.OrderLemmas.{in_right, precedes_once, picks_once, number_in, record_once, records_distinct}
+use Rattle.ghc_depend.specs.Depend.{IsFirstConsequence}
+use Rattle.ghc_depend.specs.Lawful.{IsOfKept, IsOrderOf, IsTooEarly, IsLawful, IsFirstWrong, IsFirstMissing, IsFirstTooEarly, IsUnlawful, wrong, missing, too_early}
+use Rattle.ghc_depend.proofs.Finding.{ends}
 use Rattle.ghc_depend.specs.Laws.{OrdersHaveOneAnswer, ConsequencesHaveOneAnswer}
 
 -- how two splits of one list lie to each other
@@ -36,63 +37,79 @@ module _ {X : Type 0} where
   new_at (b ∷ bs) ds s d (inr i) = new_at bs ds s d.1 i
 
 -- at a number of an order of kept ones, it is kept and new
-not_failing : (kept : List Record) (order bs ds : List ℕ) (s : ℕ) → order ≡ bs ++ s ∷ ds → IsOfKept kept order → (¬ In s (numbers kept)) ⊎ In s bs → ⊥
-not_failing kept order bs ds s e k (inl n) = n (k.0 s (subst (In s) (sym e) (in_right bs (s ∷ ds) s (inl refl))))
-not_failing kept order bs ds s e k (inr i) = new_at bs ds s (subst AreDistinct e k.1) i
+none_wrong : (kept : List Record) (order : List ℕ) (s : ℕ) → IsOfKept kept order → ¬ IsFirstWrong kept order s
+none_wrong kept order s k f = elim f.not_new [
+  | inl n ↦ n (k.0 s (subst (In s) (sym f.splits) (in_right f.front (s ∷ f.behind) s (inl refl))))
+  | inr i ↦ new_at f.front f.behind s (subst AreDistinct f.splits k.1) i
+]
+
+-- an order that has each kept number misses none
+none_missing : (kept : List Record) (order : List ℕ) (r : Record) → IsOrderOf kept order → ¬ IsFirstMissing kept order r
+none_missing kept order r o f = f.absent (o.1 r.number (number_in kept r (subst (In r) (sym f.splits) (in_right f.front (r ∷ f.behind) r (inl refl)))))
+
+wrong_once : (kept : List Record) (order : List ℕ) (s t : ℕ) → IsFirstWrong kept order s → IsFirstWrong kept order t → s ≡ t
+wrong_once kept order s t f g = elim (lie f.front f.behind g.front g.behind s t (sym f.splits ∙ g.splits)) [
+  | inl p ↦ p.1
+  | inr (inl p) ↦ absurd (none_wrong kept g.front s g.before (record { front = f.front; behind = p.0; splits = p.1; before = f.before; not_new = f.not_new }))
+  | inr (inr p) ↦ absurd (none_wrong kept f.front t f.before (record { front = g.front; behind = p.0; splits = p.1; before = g.before; not_new = g.not_new }))
+]
+
+-- what is missing is not in front of what is missing first
+not_in_front : (kept : List Record) (order : List ℕ) (r s : Record) (f : IsFirstMissing kept order r) (g : IsFirstMissing kept order s) (more : List Record) → ¬ (g.front ≡ f.front ++ r ∷ more)
+not_in_front kept order r s f g more e = f.absent (g.before r.number (number_in g.front r (subst (In r) (sym e) (in_right f.front (r ∷ more) r (inl refl)))))
+
+missing_once : (kept : List Record) (order : List ℕ) (r s : Record) → IsFirstMissing kept order r → IsFirstMissing kept order s → r ≡ s
+missing_once kept order r s f g = elim (lie f.front f.behind g.front g.behind r s (sym f.splits ∙ g.splits)) [
+  | inl p ↦ p.1
+  | inr (inl p) ↦ absurd (not_in_front kept order r s f g p.0 p.1)
+  | inr (inr p) ↦ absurd (not_in_front kept order s r g f p.0 p.1)
+]
+
+-- records with the same numbers are the same, where a number has one record
+pub same_records : (kept : List Record) → ((r s : Record) → In r kept → In s kept → r.number ≡ s.number → r ≡ s)
+    → (xs ys : List Record) → numbers xs ≡ numbers ys → ((r : Record) → In r xs → In r kept) → ((r : Record) → In r ys → In r kept) → xs ≡ ys
+same_records kept one [] [] e p q = refl
+same_records kept one [] (y ∷ ys) e p q = cc
+same_records kept one (x ∷ xs) [] e p q = cc
+same_records kept one (x ∷ xs) (y ∷ ys) e p q =
+    let first : x ≡ y = one x y (p x (inl refl)) (q y (inl refl)) (head_of e) in
+    let rest : xs ≡ ys = same_records kept one xs ys (tail_of e) (λ r i. p r (inr i)) (λ r i. q r (inr i)) in
+    λ i. first i ∷ rest i
 
 module _ (kept : List Record) (distinct : AreDistinct (numbers kept)) where
-  -- both ends of a dependence are kept
-  ends : (b a : Record) → DependsOn kept b a → In a kept × In b kept
-  ends b a d = before_in kept a b (is_before kept a b d.0)
+  early_once : (order : List ℕ) (a b c d : Record) → IsFirstTooEarly kept order a b → IsFirstTooEarly kept order c d → (a ≡ c) × (b ≡ d)
+  early_once order a b c d f g = elim (lie f.front f.behind g.front g.behind b.number d.number (sym f.splits ∙ g.splits)) [
+    | inl k ↦
+        let same : b ≡ d = record_once kept b d distinct (ends kept b a f.early.0).1 (ends kept d c g.early.0).1 k.1 in
+        let first : a ≡ c = elim (f.first c (subst (IsTooEarly kept order c) (sym same) g.early)) [
+          | inl z ↦ sym z
+          | inr before ↦ elim (g.first a (subst (IsTooEarly kept order a) same f.early)) [
+            | inl z ↦ z
+            | inr after ↦ absurd (precedes_once kept a c (records_distinct kept distinct) before after)
+          ]
+        ] in
+        (first, same)
+    | inr (inl k) ↦ absurd (g.before a b (subst (In b.number) (sym k.1) (in_right f.front (b.number ∷ k.0) b.number (inl refl))) f.early)
+    | inr (inr k) ↦ absurd (f.before c d (subst (In d.number) (sym k.1) (in_right g.front (d.number ∷ k.0) d.number (inl refl))) g.early)
+  ]
 
   no_pair : (order : List ℕ) (a b : ℕ) → IsLawful kept order → ¬ IsUnlawful kept order a b
-  no_pair order a b l (not_a_new_one before behind e k f) = not_failing kept order before behind _ e l.0.0 f
-  no_pair order a b l (missing r before behind k e h n) = n (l.0.1 r.number (number_in kept r (subst (In r) (sym e) (in_right before (r ∷ behind) r (inl refl)))))
-  no_pair order a b l (too_early c d before behind o e h t f) = l.1 c d t
+  no_pair order a b l (wrong f) = none_wrong kept order a l.0.0 f
+  no_pair order a b l (missing {r = r} k f) = none_missing kept order r l.0 f
+  no_pair order a b l (too_early {a = c} {b = d} o f) = l.1 c d f.early
 
   one_pair : (order : List ℕ) (a b c d : ℕ) → IsUnlawful kept order a b → IsUnlawful kept order c d → (a ≡ c) × (b ≡ d)
-  one_pair order a b c d (not_a_new_one bs ds e k f) (not_a_new_one cs es g l h) =
-      elim (lie bs ds cs es a c (sym e ∙ g)) [
-        | inl p ↦ (p.1, p.1)
-        | inr (inl p) ↦ absurd (not_failing kept cs bs p.0 a p.1 l f)
-        | inr (inr p) ↦ absurd (not_failing kept bs cs p.0 c p.1 k h)
-      ]
-  one_pair order a b c d (not_a_new_one bs ds e k f) (missing r cs es l g h n) = absurd (not_failing kept order bs ds a e l f)
-  one_pair order a b c d (not_a_new_one bs ds e k f) (too_early p q cs es o g h t u) = absurd (not_failing kept order bs ds a e o.0 f)
-  one_pair order a b c d (missing r bs ds k e h n) (not_a_new_one cs es g l f) = absurd (not_failing kept order cs es c g k f)
-  one_pair order a b c d (missing r bs ds k e h n) (missing s cs es l g i m) =
-      elim (lie bs ds cs es r s (sym e ∙ g)) [
-        | inl p ↦ (ap (λ (x : Record). x.number) p.1, refl)
-        | inr (inl p) ↦ absurd (n (i r.number (number_in cs r (subst (In r) (sym p.1) (in_right bs (r ∷ p.0) r (inl refl))))))
-        | inr (inr p) ↦ absurd (m (h s.number (number_in bs s (subst (In s) (sym p.1) (in_right cs (s ∷ p.0) s (inl refl))))))
-      ]
-  one_pair order a b c d (missing r bs ds k e h n) (too_early p q cs es o g i t u) = absurd (n (o.1 r.number (number_in kept r (subst (In r) (sym e) (in_right bs (r ∷ ds) r (inl refl))))))
-  one_pair order a b c d (too_early p q bs ds o e h t u) (not_a_new_one cs es g l f) = absurd (not_failing kept order cs es c g o.0 f)
-  one_pair order a b c d (too_early p q bs ds o e h t u) (missing s cs es l g i m) = absurd (m (o.1 s.number (number_in kept s (subst (In s) (sym g) (in_right cs (s ∷ es) s (inl refl))))))
-  one_pair order a b c d (too_early p q bs ds o e h t u) (too_early x y cs es m g i v f) =
-      elim (lie bs ds cs es q.number y.number (sym e ∙ g)) [
-        | inl k ↦
-            let same : q ≡ y = record_once kept q y distinct (ends q p t.0).1 (ends y x v.0).1 k.1 in
-            let first : p ≡ x = elim (u x (subst (IsTooEarly kept order x) (sym same) v)) [
-              | inl z ↦ sym z
-              | inr before ↦ elim (f p (subst (IsTooEarly kept order p) same t)) [
-                | inl z ↦ z
-                | inr after ↦ absurd (precedes_once kept p x (records_distinct kept distinct) before after)
-              ]
-            ] in
-            (ap (λ (z : Record). z.number) first, k.1)
-        | inr (inl k) ↦ absurd (i p q (subst (In q.number) (sym k.1) (in_right bs (q.number ∷ k.0) q.number (inl refl))) t)
-        | inr (inr k) ↦ absurd (h x y (subst (In y.number) (sym k.1) (in_right cs (y.number ∷ k.0) y.number (inl refl))) v)
-      ]
-
-  same_records : (xs ys : List Record) → numbers xs ≡ numbers ys → ((r : Record) → In r xs → In r kept) → ((r : Record) → In r ys → In r kept) → xs ≡ ys
-  same_records [] [] e p q = refl
-  same_records [] (y ∷ ys) e p q = cc
-  same_records (x ∷ xs) [] e p q = cc
-  same_records (x ∷ xs) (y ∷ ys) e p q =
-      let first : x ≡ y = record_once kept x y distinct (p x (inl refl)) (q y (inl refl)) (head_of e) in
-      let rest : xs ≡ ys = same_records xs ys (tail_of e) (λ r i. p r (inr i)) (λ r i. q r (inr i)) in
-      λ i. first i ∷ rest i
+  one_pair order a b c d (wrong f) (wrong g) = let same = wrong_once kept order a c f g in (same, same)
+  one_pair order a b c d (wrong f) (missing k g) = absurd (none_wrong kept order a k f)
+  one_pair order a b c d (wrong f) (too_early o g) = absurd (none_wrong kept order a o.0 f)
+  one_pair order a b c d (missing k f) (wrong g) = absurd (none_wrong kept order c k g)
+  one_pair order a b c d (missing {r = r} k f) (missing {r = s} l g) = (ap (λ (x : Record). x.number) (missing_once kept order r s f g), refl)
+  one_pair order a b c d (missing {r = r} k f) (too_early o g) = absurd (none_missing kept order r o f)
+  one_pair order a b c d (too_early o f) (wrong g) = absurd (none_wrong kept order c o.0 g)
+  one_pair order a b c d (too_early o f) (missing {r = r} k g) = absurd (none_missing kept order r o g)
+  one_pair order a b c d (too_early {a = p} {b = q} o f) (too_early {a = x} {b = y} k g) =
+      let same = early_once order p q x y f g in
+      (ap (λ (z : Record). z.number) same.0, ap (λ (z : Record). z.number) same.1)
 
   one_first : (r b c : Record) → IsFirstConsequence kept r b → IsFirstConsequence kept r c → b ≡ c
   one_first r b c p q = elim (p.1 c q.0) [
@@ -107,7 +124,7 @@ pub orders : OrdersHaveOneAnswer
 orders kept distinct = record {
   no_pair = no_pair kept distinct;
   one_pair = one_pair kept distinct;
-  one_record = λ order new other p q. same_records kept distinct new other (p.0 ∙ sym q.0) (λ r. (p.1 r).0) (λ r. (q.1 r).0);
+  one_record = λ order new other p q. same_records kept (λ r s. record_once kept r s distinct) new other (p.0 ∙ sym q.0) (λ r. (p.1 r).0) (λ r. (q.1 r).0);
 }
 
 pub consequences : ConsequencesHaveOneAnswer

@@ -63,6 +63,40 @@ module _ {X : Type 0} where
       let parts : length (s.0 ++ s.1) ≡ length s.0 + length s.1 = length-append s.0 s.1 in
       omega arith
 
+  pub never_nothing : (xs : List X) (x : X) → ¬ (xs ++ x ∷ [] ≡ [])
+  never_nothing [] x e = cc
+  never_nothing (y ∷ xs) x e = cc
+
+  head_of : {x y : X} {xs ys : List X} → x ∷ xs ≡ y ∷ ys → x ≡ y
+  head_of e = cc
+
+  tail_of : {x y : X} {xs ys : List X} → x ∷ xs ≡ y ∷ ys → xs ≡ ys
+  tail_of e = cc
+
+  -- a list determines its last element, and what stands in front of that
+  pub last_once : (xs ys : List X) (x y : X) → xs ++ x ∷ [] ≡ ys ++ y ∷ [] → (xs ≡ ys) × (x ≡ y)
+  last_once [] [] x y e = (refl, head_of e)
+  last_once [] (z ∷ ys) x y e = absurd (never_nothing ys y (sym (tail_of e)))
+  last_once (z ∷ xs) [] x y e = absurd (never_nothing xs x (tail_of e))
+  last_once (z ∷ xs) (w ∷ ys) x y e = let p = last_once xs ys x y (tail_of e) in ((λ i. head_of e i ∷ p.0 i), p.1)
+
+  pub distinct_left : (xs ys : List X) → AreDistinct (xs ++ ys) → AreDistinct xs
+  distinct_left [] ys d = tt
+  distinct_left (x ∷ xs) ys d = ((λ i. d.0 (in_left xs ys x i)), distinct_left xs ys d.1)
+
+  pub distinct_last : (xs : List X) (x : X) → AreDistinct (xs ++ x ∷ []) → ¬ In x xs
+  distinct_last (y ∷ xs) x d (inl e) = d.0 (subst (λ z. In z (xs ++ x ∷ [])) e (in_right xs (x ∷ []) x (inl refl)))
+  distinct_last (y ∷ xs) x d (inr i) = distinct_last xs x d.1 i
+  distinct_last [] x d i = i
+
+  -- what is in a list with one more
+  pub in_pushed : (xs : List X) (x y : X) → In y (xs ++ x ∷ []) → In y xs ⊎ (y ≡ x)
+  in_pushed xs x y i = elim (in_either xs (x ∷ []) y i) [ inl j ↦ inl j | inr (inl e) ↦ inr e | inr (inr j) ↦ absurd j ]
+
+  pub distinct_push : (xs : List X) (x : X) → AreDistinct xs → ¬ In x xs → AreDistinct (xs ++ x ∷ [])
+  distinct_push [] x d new = ((λ i. i), tt)
+  distinct_push (y ∷ xs) x d new = ((λ i. elim (in_pushed xs x y i) [ inl j ↦ d.0 j | inr e ↦ new (inl (sym e)) ]), distinct_push xs x d.1 (λ i. new (inr i)))
+
 module _ {X : Type 0} {P : X → Type 0} where
   pub picks_in : (xs ys : List X) (y : X) → Picks P xs ys → In y ys → In y xs × P y
   picks_in [] ys y nothing i = absurd i

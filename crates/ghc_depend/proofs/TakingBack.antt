@@ -38,11 +38,8 @@ made_gone n (suc k) m g s one most =
       | true ↦ λ p. stays_gone n k (finite.remove m (name n (suc k))) g (without_it (Some (name n (suc k))) m g (ap Some (sym (same_parts g (name n (suc k)) s (eqb-true g.place (suc k) p)))))
       | false ↦ λ p.
           let other : ¬ (g.place ≡ suc k) = λ e. let clash : true ≡ false = sym (eq-eqb g.place (suc k) e) ∙ p in cc in
-          made_gone n k (finite.remove m (name n (suc k))) g s one (below g.place k most other)
+          made_gone n k (finite.remove m (name n (suc k))) g s one (omega (arith, other))
     ] refl
-  where
-    below : (a b : ℕ) → a ≤ suc b → ¬ (a ≡ suc b) → a ≤ b
-    below a b = grind arith
 
 -- all others are as they were
 others_stay : (n k : ℕ) (m : Goals) (g : GoalName) → ¬ ((g.step ≡ n) × (1 ≤ g.place) × (g.place ≤ k)) → finite.get (without_makes n k m) g ≡ finite.get m g

@@ -4,11 +4,8 @@ use Rattle.std.specs.FinMap as finite
 use Rattle.std.specs.FinSet as set
 use Rattle.ghc_term.specs.Tree.{Tree, variable, integer, atom, nil, cons}
 use Rattle.ghc_term.specs.Goal.{call, unify}
-use Rattle.ghc_flat.specs.Clause.{Program, Query}
-use Rattle.ghc_flat.specs.Samples.{second_atom, appends, append_query}
 use Rattle.ghc_fire.specs.declared.act.Act.TheVariants.{ByClause as by_clause, Unified as unified}
-use Rattle.ghc_records.specs.Record.{State, Record}
-use Rattle.ghc_records.specs.Replay.{Replays}
+use Rattle.ghc_records.specs.Record.{Record}
 use Rattle.ghc_depend.specs.Depend.{DependsOn, AreConsequences, IsFirstConsequence}
 use Rattle.ghc_depend.specs.declared.cause.Cause.TheVariants.{Made as made, Read as read}
 use Rattle.ghc_depend.specs.Cause.{HasCause}
@@ -67,17 +64,6 @@ step_4 = record {
 abbrev pub run : List Record
 run = step_1 ∷ step_2 ∷ step_3 ∷ step_4 ∷ []
 
--- the state at its end: no goal is left, R is `[1|_1_1]`, and `_1_1` is `[2]`
-abbrev pub append_end : State
-append_end = record {
-  goals = finite.empty;
-  store = finite.from_entries ((record { step = 0; place = 1 }, cons (integer (pos 1)) (v 1 1)) ∷ (record { step = 1; place = 1 }, cons (integer (pos 2)) nil) ∷ []);
-}
-
--- That run is the replay of its query.
-abbrev pub AppendReplays : Type 0
-AppendReplays = Replays appends append_query run append_end
-
 -- In the run of append, steps 2 and 3 depend on step 1, which made their goals, and step 4 on step 3; all others are consequences of step 1, the first is step 2, and step 2 has none.
 pub record AppendDepends : Type 0 where
   pub second : HasCause run step_2 step_1 made
@@ -128,25 +114,6 @@ third_wake = record {
 -- the whole run
 abbrev pub wake : List Record
 wake = first_wake ∷ second_wake ∷ third_wake ∷ []
-
--- `p(a,_) :- true | true.` and `p(_,b) :- true | true.`
-abbrev pub wakes : Program
-wakes = record { name = codes "p"; head = atom (codes "a") ∷ v 0 1 ∷ []; tests = []; body = [] } ∷ second_atom ∷ []
-
--- `p(X,Y), X = c, Y = b`
-abbrev pub wake_query : Query
-wake_query = call (codes "p") (v 0 1 ∷ v 0 2 ∷ []) ∷ unify (v 0 1) (atom (codes "c")) ∷ unify (v 0 2) (atom (codes "b")) ∷ []
-
--- the state at its end: no goal is left, X is c, and Y is b
-abbrev pub wake_end : State
-wake_end = record {
-  goals = finite.empty;
-  store = finite.from_entries ((record { step = 0; place = 1 }, atom (codes "c")) ∷ (record { step = 0; place = 2 }, atom (codes "b")) ∷ []);
-}
-
--- That run is the replay of its query.
-abbrev pub WakingReplays : Type 0
-WakingReplays = Replays wakes wake_query wake wake_end
 
 -- There step 3 depends on step 2, which bound Y and woke its goal, and not on step 1, although step 1 bound X.
 pub record WakingDepends : Type 0 where

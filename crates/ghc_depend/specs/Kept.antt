@@ -21,6 +21,15 @@ IsWithout kept r left = Picks (λ s. ¬ (s ≡ r)) kept left
 abbrev pub IsSplitAt : List Record → Record → List Record → List Record → Type 0
 IsSplitAt kept r gone left = Picks (GoesWith kept r) kept gone × Picks (λ s. ¬ GoesWith kept r s) kept left
 
+-- The numbers of the steps that the entries took.
+abbrev pub taken_numbers : List Entry → List ℕ
+taken_numbers [] = []
+taken_numbers (took s ∷ es) = s.number ∷ taken_numbers es
+taken_numbers (undid n ∷ es) = taken_numbers es
+taken_numbers (rolled n ∷ es) = taken_numbers es
+taken_numbers (redid n ∷ es) = taken_numbers es
+taken_numbers (reordered order ∷ es) = taken_numbers es
+
 -- Keeps o es kept shelf: where a journal that belongs to the opening o has the entries es, these records are kept, in this order, and those are on the shelf.
 pub data Keeps (o : Opening) : List Entry → List Record → Shelf → Type 0 where
   -- at first, none

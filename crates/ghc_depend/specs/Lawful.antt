@@ -25,16 +25,33 @@ IsLawful kept order = IsOrderOf kept order × ((a b : Record) → ¬ IsTooEarly 
 abbrev pub IsInOrder : List Record → List ℕ → List Record → Type 0
 IsInOrder kept order new = (numbers new ≡ order) × ((r : Record) → In r new ↔ In r kept)
 
--- IsUnlawful kept order a b: the order is not lawful, and (a, b) is the pair that tells why.
+-- s is the first of the order that is not kept or stood before.
+pub record IsFirstWrong (kept : List Record) (order : List ℕ) (s : ℕ) : Type 0 where
+  pub front : List ℕ
+  pub behind : List ℕ
+  pub splits : order ≡ front ++ s ∷ behind
+  pub before : IsOfKept kept front
+  pub not_new : (¬ In s (numbers kept)) ⊎ In s front
+
+-- r is the first kept record, in recorded order, whose number is not in the order.
+pub record IsFirstMissing (kept : List Record) (order : List ℕ) (r : Record) : Type 0 where
+  pub front : List Record
+  pub behind : List Record
+  pub splits : kept ≡ front ++ r ∷ behind
+  pub before : (n : ℕ) → In n (numbers front) → In n order
+  pub absent : ¬ In r.number order
+
+-- b is the first of the order that stands before a step on which it depends directly, and a is the first such step in recorded order.
+pub record IsFirstTooEarly (kept : List Record) (order : List ℕ) (a b : Record) : Type 0 where
+  pub front : List ℕ
+  pub behind : List ℕ
+  pub splits : order ≡ front ++ b.number ∷ behind
+  pub before : (c d : Record) → In d.number front → ¬ IsTooEarly kept order c d
+  pub early : IsTooEarly kept order a b
+  pub first : (c : Record) → IsTooEarly kept order c b → (c ≡ a) ⊎ Precedes kept a c
+
+-- IsUnlawful kept order a b: the order is not lawful, and (a, b) is the pair that tells why: (s, s) for a wrong s; else (s, 0) for a missing s; else (a, b) where b stands before a.
 pub data IsUnlawful (kept : List Record) (order : List ℕ) : ℕ → ℕ → Type 0 where
-  -- (s, s) for the first s of the order that is not kept or stood before
-  not_a_new_one : {s : ℕ} (before behind : List ℕ) → order ≡ before ++ s ∷ behind → IsOfKept kept before
-      → (¬ In s (numbers kept)) ⊎ In s before → IsUnlawful kept order s s
-  -- else (s, 0) for the first kept s, in recorded order, that is missing
-  missing : (r : Record) (before behind : List Record) → IsOfKept kept order → kept ≡ before ++ r ∷ behind
-      → ((n : ℕ) → In n (numbers before) → In n order) → ¬ In r.number order → IsUnlawful kept order r.number 0
-  -- else (a, b) for the first b of the order that stands before a step on which it depends directly, and the first such a in recorded order
-  too_early : (a b : Record) (before behind : List ℕ) → IsOrderOf kept order → order ≡ before ++ b.number ∷ behind
-      → ((c d : Record) → In d.number before → ¬ IsTooEarly kept order c d)
-      → IsTooEarly kept order a b → ((c : Record) → IsTooEarly kept order c b → (c ≡ a) ⊎ Precedes kept a c)
-      → IsUnlawful kept order a.number b.number
+  wrong : {s : ℕ} → IsFirstWrong kept order s → IsUnlawful kept order s s
+  missing : {r : Record} → IsOfKept kept order → IsFirstMissing kept order r → IsUnlawful kept order r.number 0
+  too_early : {a b : Record} → IsOrderOf kept order → IsFirstTooEarly kept order a b → IsUnlawful kept order a.number b.number

@@ -4,12 +4,13 @@ use Rattle.ghc_term.specs.Lists.{In}
 use Rattle.ghc_flat.specs.Clause.{Program, Query}
 use Rattle.ghc_flat.specs.Flat.{IsProgram, IsQuery}
 use Rattle.ghc_records.specs.Orders.{AreDistinct}
-use Rattle.ghc_records.specs.Record.{State, Record, numbers}
+use Rattle.ghc_records.specs.Record.{State, Record, numbers, Shelf}
 use Rattle.ghc_records.specs.Replay.{Replays}
+use Rattle.ghc_records.specs.Journal.{Opening, Entry}
 use Rattle.ghc_depend.specs.Depend.{DependsOn, Follows, IsFirstConsequence}
 use Rattle.ghc_depend.specs.Deletion.{IsClosedUnder, IsPartedBy, IsWithoutSteps}
 use Rattle.ghc_depend.specs.Lawful.{IsLawful, IsInOrder, IsUnlawful}
-use Rattle.ghc_depend.specs.Kept.{IsWithout, IsSplitAt}
+use Rattle.ghc_depend.specs.Kept.{IsWithout, IsSplitAt, taken_numbers, Keeps}
 
 -- Of kept records with distinct numbers: an order that is lawful has no pair, one that is not has one pair at most, and the numbers of an order determine the records in that order.
 pub record OrdersAreDecidedOnce (kept : List Record) : Type 0 where
@@ -80,3 +81,9 @@ GoneComeBack =
 -- The state without the steps gone is one.
 abbrev pub WithoutStepsIsOne : Type 0
 WithoutStepsIsOne = (gone : List Record) (s t u : State) → IsWithoutSteps gone s t → IsWithoutSteps gone s u → t ≡ u
+
+-- Of an accepted program and query, a journal that takes no number twice tells one kept list and one shelf.
+abbrev pub KeepsIsOne : Type 0
+KeepsIsOne =
+    (o : Opening) (es : List Entry) (kept other : List Record) (shelf rest : Shelf) → IsProgram o.program → IsQuery o.program o.query → AreDistinct (taken_numbers es)
+    → Keeps o es kept shelf → Keeps o es other rest → (kept ≡ other) × (shelf ≡ rest)

@@ -18,7 +18,8 @@ pub fn consequences(alloc: Global, records: &Records, number: u32) -> Result<Vec
         return Ok(found);
     };
     let mut trail = Trail::new(alloc);
-    trail.add(records.at(place).unwrap())?;
+    let first = records.at(place).unwrap();
+    trail.add(first)?;
     let end = records.len();
     for index in place + 1..end {
         let taken = records.at(index).unwrap();

@@ -1,5 +1,5 @@
 // Laws about the definitions, each as the contract of a function.
-ghost use Rattle.ghc_depend.specs.Laws.{OrdersHaveOneAnswer, OrdersAreDecided, ConsequencesHaveOneAnswer, LawOfDeletion, LawfulOrderKeepsReplay, NeighboursChangePlaces, UndoKeepsReplay, RollKeepsReplay, GoneComeBack, WithoutStepsIsOne};
+ghost use Rattle.ghc_depend.specs.Laws.{OrdersHaveOneAnswer, OrdersAreDecided, ConsequencesHaveOneAnswer, LawOfDeletion, LawfulOrderKeepsReplay, NeighboursChangePlaces, UndoKeepsReplay, RollKeepsReplay, GoneComeBack, WithoutStepsIsOne, KeepsIsOne};
 
 /// An order is lawful or has one pair that tells why not, and not both.
 pub fn orders_have_one_answer()
@@ -49,4 +49,9 @@ pub fn gone_come_back()
 /// There is one state without the steps that are gone.
 pub fn without_steps_is_one()
     ensures { WithoutStepsIsOne }
+{}
+
+/// A journal that takes no number twice tells one kept list and one shelf.
+pub fn keeps_is_one()
+    ensures { KeepsIsOne }
 {}

@@ -11,9 +11,9 @@ mod trail;
 
 pub use cause::{Cause, direct};
 pub use chain::{consequences, first_consequence};
-pub use facts::{append_depends, append_orders, append_replays, waking_depends, waking_replays};
+pub use facts::{append_depends, append_orders, waking_depends};
 pub use laws::{
-    consequences_have_one_answer, gone_come_back, law_of_deletion, lawful_order_keeps_replay,
-    neighbours_change_places, orders_are_decided, orders_have_one_answer, roll_keeps_replay,
-    undo_keeps_replay, without_steps_is_one,
+    consequences_have_one_answer, gone_come_back, keeps_is_one, law_of_deletion,
+    lawful_order_keeps_replay, neighbours_change_places, orders_are_decided,
+    orders_have_one_answer, roll_keeps_replay, undo_keeps_replay, without_steps_is_one,
 };

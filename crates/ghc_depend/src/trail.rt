@@ -13,10 +13,18 @@ use indexmap::IndexSet;
 use std::alloc::{AllocError, Global};
 
 /// The numbers of some steps, and the variables that they bound.
-#[derive(Drop)]
 pub(crate) struct Trail {
     numbers: IndexSet<u32>,
     bound: Variables,
+}
+
+impl Drop for Trail {
+    fn drop(self) {
+        let Trail {
+            numbers: _numbers,
+            bound: _bound,
+        } = self;
+    }
 }
 
 // Whether the sets have a variable in common: one look-up for each of the first.

@@ -7,10 +7,10 @@ use Rattle.ghc_depend.proofs.chain.consequences.Goals.{then-touches+in_ok-add-2+
 
 pub loop-index-init : goal.loop-index-init
 loop-index-init c =
-    let a = c.unwrap.result.now in
+    let a = c.unwrap-first.result.now in
     let kept = c.args.records.now in
     let place = c.in-Some.place in
-    let at = sym c.at.ensures ∙ ap option_copied c.unwrap.ensures in (
+    let at = sym c.at.ensures ∙ ap option_copied c.unwrap-first.ensures in (
       a,
       kept_at kept place c.args.number a c.in-Some.ensures.found at,
       subst (λ l. Walked kept a (place + 1) l c.add.new.self.numbers.keys c.add.new.self.bound) (sym c.new-found.ensures.items) (begin kept c.len-end.ensures.distinct a place c.new-trail.result.numbers.keys c.add.new.self.numbers.keys c.new-trail.result.bound c.add.new.self.bound at
@@ -49,7 +49,7 @@ pub returns-in_default : goal.returns-in_default
 returns-in_default c = ([], inl (c.in_default.ensures.none, refl), sym c.new-found.ensures.items)
 
 pub overflow_step-index : goal.overflow_step-index
-overflow_step-index c = omega (arith, place_within c.args.records.now c.in-Some.place c.unwrap.result.now (sym c.at.ensures ∙ ap option_copied c.unwrap.ensures))
+overflow_step-index c = omega (arith, place_within c.args.records.now c.in-Some.place c.unwrap-first.result.now (sym c.at.ensures ∙ ap option_copied c.unwrap-first.ensures))
 
 pub unwrap-taken-requires : goal.unwrap-taken-requires
 unwrap-taken-requires c = some_within c.args.records.now c.loop-index.index c.at-in-loop-index.result (omega arith) c.at-in-loop-index.ensures
