@@ -25,7 +25,7 @@ use Rattle.ghc_core.specs.Streams as streams
 use Rattle.ghc_core.specs.Reverses as by
 use Rattle.ghc_core.specs.Answers.{Obeys, Answers, to_propose, to_commit, to_note, to_command}
 use Rattle.ghc_core.specs.Core.{choice_of}
-use Rattle.ghc_core.specs.Legal.{Leaves, the_opening, and_entry, IsProper, IsReachable, at_opening, by_event}
+use Rattle.ghc_core.specs.Legal.{Leaves, the_opening, and_entry, IsProper, IsReachable, at_opening, by_event, with_other_hands}
 use Rattle.ghc_core.specs.HistoryLaws as laws
 use Rattle.ghc_core.proofs.Reaching.{reached_good}
 use Rattle.ghc_core.proofs.Replayed.{reachable_replay}
@@ -109,6 +109,7 @@ reachable_legal w hands (by_event {w = u} {hands = before} e reply r proper a) =
   | inl same ↦ subst (λ z. Leaves (history z.opening z.journal) z) (sym same) (reachable_legal u before r)
   | inr g ↦ grown_legal u w before hands e reply (reachable_legal u before r) g
 ]
+reachable_legal w hands (with_other_hands r e) = reachable_legal w _ r
 
 -- one hand, empty
 abbrev one_hand : Hands
@@ -258,6 +259,7 @@ counted (by_event {w = w} {v = v} {hands = hands} {left = left} e reply r proper
   | inl same ↦ subst Counted (sym same) (counted r)
   | inr g ↦ grown_counted w v g.entry g.journal g.opening g.numbers (counted r)
 ]
+counted (with_other_hands r e) = counted r
 
 pub journal_tells : laws.JournalTellsWhatIsKept
 journal_tells w hands kept shelf r k =

@@ -7,10 +7,7 @@ use Rattle.ghc_term.specs.declared.goal_name.GoalName.{GoalName}
 use Rattle.ghc_term.specs.Lists.{In}
 use Rattle.ghc_records.specs.Orders.{Precedes, Picks}
 use Rattle.ghc_records.specs.Record.{Record}
-
--- The goal named g is one that the step of the record made.
-abbrev pub MakesGoal : Record → GoalName → Type 0
-MakesGoal r g = (g.step ≡ r.number) × (1 ≤ g.place) × (g.place ≤ length r.effect.makes)
+pub use Rattle.ghc_records.specs.Replay.{MakesGoal}
 
 -- The step b consumed a goal that the step a made.
 abbrev pub Consumes : Record → Record → Type 0
