@@ -12,6 +12,7 @@ mod there;
 mod undo;
 mod undo_laws;
 
+pub use core_state::Core;
 pub use facts::{redo_is_changed, second_hand_is_stale};
 pub use laws::{
     arranges_have_an_answer, closes_have_an_answer, commits_have_an_answer, events_have_an_answer,
@@ -19,7 +20,6 @@ pub use laws::{
     reachable_is_orderly, reachable_is_well_made, reachable_keeps, redoes_have_an_answer,
     still_holds_as_next,
 };
-pub use core_state::Core;
 pub use undo_laws::{
     reachable_is_replay, roll_takes_steps_away, rolls_have_an_answer, step_then_undo,
     undo_takes_step_away, undoes_have_an_answer, undone_then_redone,
