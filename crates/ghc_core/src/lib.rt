@@ -13,6 +13,7 @@ mod there;
 mod undo;
 mod undo_laws;
 
+pub use core_state::Core;
 pub use facts::{redo_is_changed, second_hand_is_stale};
 pub use history_laws::{
     journal_tells_what_is_kept, leaves_is_one, legal_is_reachable, reachable_is_legal,
@@ -24,7 +25,6 @@ pub use laws::{
     reachable_is_orderly, reachable_is_well_made, reachable_keeps, redoes_have_an_answer,
     still_holds_as_next,
 };
-pub use core_state::Core;
 pub use undo_laws::{
     reachable_is_replay, roll_takes_steps_away, rolls_have_an_answer, step_then_undo,
     undo_takes_step_away, undoes_have_an_answer, undone_then_redone,

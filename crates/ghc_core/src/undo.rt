@@ -13,8 +13,8 @@ ghost use Rattle.ghc_core.specs.Core.{IsStanding};
 ghost use Rattle.ghc_core.specs.Events.{undone};
 ghost use Rattle.ghc_core.specs.Reverses.{Undoes, UndoFails, CanUndo};
 
-use crate::core_state::Core;
 use crate::commit::withdraw_entry;
+use crate::core_state::Core;
 use ghc_depend::first_consequence;
 use ghc_records::{Entry, Journal, Record, Records, Shelf};
 use ghc_term::Fault;
