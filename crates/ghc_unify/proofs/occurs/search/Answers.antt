@@ -11,7 +11,7 @@ use Rattle.ghc_term.proofs.Walks.{no_variable}
 use Rattle.ghc_unify.specs.Unify.{with_bindings}
 use Rattle.ghc_unify.proofs.Merged.{merged, merged_is, merged_acyclic}
 use Rattle.ghc_unify.proofs.Open.{Searching, sizes, found, finished, passed, popped, falls_away, sees, sees_falls, unfolds, unfold_falls, nothing_open}
-use Rattle.ghc_unify.proofs.occurs.reaches.Goals as goal
+use Rattle.ghc_unify.proofs.occurs.search.Goals as goal
 
 pub loop-term-smaller-then-is_closed : goal.loop-term-smaller-then-is_closed
 loop-term-smaller-then-is_closed c =
@@ -35,7 +35,7 @@ pub loop-term-smaller-in-Continue-branch-2 : goal.loop-term-smaller-in-Continue-
 loop-term-smaller-in-Continue-branch-2 c =
     let s = merged c.args.binds.now c.args.store.now in
     let less : sizes s (map (λ t. t.now) c.see.new.waiting.items) < sizes s (map (λ t. t.now) c.loop-term.waiting.items) =
-    sees_falls s (with_bindings c.args.binds.now (value_at c.args.store.now)) (merged_acyclic c.args.binds.now c.args.store.now c.requires) (merged_is c.args.binds.now c.args.store.now) c.loop-term.seen.keys c.see.new.seen.keys _ _ _ c.in-Var.x c.in-Some.term.now
+    sees_falls s (with_bindings c.args.binds.now (value_at c.args.store.now)) (merged_acyclic c.args.binds.now c.args.store.now c.requires.acyclic) (merged_is c.args.binds.now c.args.store.now) c.loop-term.seen.keys c.see.new.seen.keys _ _ _ c.in-Var.x c.in-Some.term.now
     c.in-Var.ensures.shown (popped _ _ c.in-Some.term c.in-Some.ensures.items) c.in_ok-see-in-Var.ensures in
     less
 

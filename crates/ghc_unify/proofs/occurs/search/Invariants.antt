@@ -3,7 +3,7 @@ use Rattle.ghc_term.specs.Store.{value_at}
 use Rattle.ghc_unify.specs.Unify.{with_bindings}
 use Rattle.ghc_unify.proofs.Merged.{merged}
 use Rattle.ghc_unify.proofs.Open.{Searching, sizes}
-use Rattle.ghc_unify.proofs.occurs.reaches.Given as goal
+use Rattle.ghc_unify.proofs.occurs.search.Given as goal
 
 abbrev pub invariant-loop-term : goal.invariant-loop-term
 invariant-loop-term l = Searching (with_bindings l.binds (value_at l.store)) l.to l.from l.seen.keys (map (λ t. t.now) l.waiting.items)
