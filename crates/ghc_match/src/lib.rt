@@ -7,12 +7,12 @@ mod evaluation;
 mod facts;
 mod guard;
 mod head;
-mod holding;
 mod laws;
 mod leaves;
 mod number;
 mod passing;
 mod scope;
+mod test_holds;
 #[cfg(test)]
 mod tests;
 mod trying;

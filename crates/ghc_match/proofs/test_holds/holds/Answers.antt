@@ -5,7 +5,7 @@ use Rattle.ghc_match.specs.Ends.{StandsAndEnds}
 use Rattle.ghc_match.specs.Match.{HoldsBy, IsInteger, IsAtom, IsList}
 use Rattle.ghc_match.proofs.Ending.{stands_ends_once}
 use Rattle.ghc_match.proofs.Asking.{value_holds, none_holds, integer_value, atom_value, list_value}
-use Rattle.ghc_match.proofs.holding.holds.Goals as goal
+use Rattle.ghc_match.proofs.test_holds.holds.Goals as goal
 
 pub returns-in-Some : goal.returns-in-Some
 returns-in-Some c =

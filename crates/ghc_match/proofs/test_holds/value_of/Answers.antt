@@ -1,7 +1,7 @@
 use Rattle.ghc_term.specs.Store.{value_at}
 use Rattle.ghc_match.specs.Ends.{StandsAndEnds}
 use Rattle.ghc_match.proofs.Ending.{no_value_told, stands_ends_once}
-use Rattle.ghc_match.proofs.holding.value_of.Goals as goal
+use Rattle.ghc_match.proofs.test_holds.value_of.Goals as goal
 
 pub returns-in_default : goal.returns-in_default
 returns-in_default c =

@@ -4,7 +4,7 @@ use Rattle.ghc_match.specs.Value.{Wants}
 use Rattle.ghc_match.specs.Ends.{StandsAndEnds}
 use Rattle.ghc_match.specs.Meeting.{Gains}
 use Rattle.ghc_match.specs.Guarding.{PassedFrom}
-use Rattle.ghc_match.proofs.guard.ask.Goals as goal
+use Rattle.ghc_match.proofs.guard.try_test.Goals as goal
 
 pub returns-then-branch-clause-wanted : goal.returns-then-branch-clause-wanted
 returns-then-branch-clause-wanted c =

@@ -8,7 +8,7 @@ use Rattle.ghc_term.specs.Bindings.{Passes}
 use Rattle.ghc_term.specs.declared.var_name.VarName.{VarName}
 use Rattle.ghc_term.proofs.Total.{walk}
 use Rattle.ghc_match.specs.Ends.{ChainEnds}
-use Rattle.ghc_match.proofs.passing.pass.Given as goal
+use Rattle.ghc_match.proofs.passing.follow_noting.Given as goal
 
 abbrev pub invariant-loop-x : goal.invariant-loop-x
 invariant-loop-x l = record {

@@ -9,7 +9,7 @@ use Rattle.ghc_match.specs.Match.{Compares}
 use Rattle.ghc_match.specs.Tasks.{IsWorth}
 use Rattle.ghc_match.proofs.Ending.{stands_ends_once}
 use Rattle.ghc_match.proofs.Values.{number_once}
-use Rattle.ghc_match.proofs.holding.holds_between.Goals as goal
+use Rattle.ghc_match.proofs.test_holds.holds_between.Goals as goal
 
 pub returns : goal.returns
 returns c =

@@ -7,7 +7,7 @@ ghost use Rattle.ghc_match.specs.Guarding.{TellsValue};
 
 use crate::alike::{is_atom, is_integer, is_list};
 use crate::arithmetic::compares;
-use crate::number::number;
+use crate::number::integer_of;
 use crate::scope::{End, Scope, end_of};
 use ghc_flat::Test;
 use ghc_term::{Bindings, Comparison, Expr, Store, Term, VarName};
@@ -35,10 +35,10 @@ fn holds_between(
     ensures { IfOk result (λ yes. IsTrue yes ↔ HoldsBy (StandsAndEnds stands.now (value_at store.now)) (Test.Compare comparison left.now right.now)) }
 {
     let scope = Scope::Head(stands);
-    let Some(x) = number(alloc, store, scope, left)? else {
+    let Some(x) = integer_of(alloc, store, scope, left)? else {
         return Ok(false);
     };
-    let Some(y) = number(alloc, store, scope, right)? else {
+    let Some(y) = integer_of(alloc, store, scope, right)? else {
         return Ok(false);
     };
     Ok(compares(comparison, x, y))
