@@ -60,7 +60,11 @@ pub fn follow<'a>(
 }
 
 // Adds those of the variables that are bound in the store.
-pub fn note(store: &Store, passed: &[VarName], reads: &mut Variables) -> Result<(), AllocError>
+pub fn add_bound_reads(
+    store: &Store,
+    passed: &[VarName],
+    reads: &mut Variables,
+) -> Result<(), AllocError>
     ensures { OnOk result (reads.new ≡ set.union reads.old (set.from_list (met (value_at store.now) passed.now))) }
 {
     for x in passed {

@@ -38,7 +38,7 @@ fn end_alike(left: &[VarName], right: &[VarName]) -> bool
 
 // Takes off both chains what they have in common, which is their end, and tells whether there was any. One step for
 // each variable taken off.
-fn part(left: &mut Vec<VarName>, right: &mut Vec<VarName>) -> bool
+fn strip_common_tail(left: &mut Vec<VarName>, right: &mut Vec<VarName>) -> bool
     ensures { Parts left.old.items right.old.items left.new.items right.new.items result }
 {
     let mut shared = false;
@@ -66,7 +66,7 @@ pub fn both_chains<'a>(
 {
     let mut from_left = follow(alloc, store, binds, left)?;
     let mut from_right = follow(alloc, store, binds, right)?;
-    let shared = part(&mut from_left.passed, &mut from_right.passed);
+    let shared = strip_common_tail(&mut from_left.passed, &mut from_right.passed);
     Ok(Sides {
         left: from_left,
         right: from_right,

@@ -6,7 +6,7 @@ ghost use Rattle.ghc_term.specs.Bindings.{IsAcyclic, Reaches};
 ghost use Rattle.ghc_unify.specs.Unify.{Pairs, Meets, IsClash, IsCycle, with_bindings};
 ghost use Rattle.ghc_unify.specs.Steps.{Steps, Advances, FailsFrom};
 
-use crate::chains::note;
+use crate::chains::add_bound_reads;
 use crate::occurs::reaches;
 use crate::parting::both_chains;
 use ghc_term::{Bindings, Fault, Store, Term, TermView, VarName, Variables};
@@ -98,15 +98,15 @@ fn step<'a>(
 {
     let sides = both_chains(alloc, store, binds, left, right)?;
     let shared = sides.shared;
-    note(store, &sides.left.passed, reads)?;
+    add_bound_reads(store, &sides.left.passed, reads)?;
     if shared {
-        note(store, &sides.right.passed, reads)?;
+        add_bound_reads(store, &sides.right.passed, reads)?;
         return Ok(None);
     }
     if let TermView::Var(x) = sides.left.end.view() {
         return Ok(Some(binding(alloc, store, binds, x, right)?));
     }
-    note(store, &sides.right.passed, reads)?;
+    add_bound_reads(store, &sides.right.passed, reads)?;
     if let TermView::Var(y) = sides.right.end.view() {
         return Ok(Some(binding(alloc, store, binds, y, left)?));
     }

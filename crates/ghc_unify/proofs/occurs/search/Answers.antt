@@ -10,7 +10,7 @@ use Rattle.ghc_term.proofs.Total.{same_name}
 use Rattle.ghc_term.proofs.Walks.{no_variable}
 use Rattle.ghc_unify.specs.Unify.{with_bindings}
 use Rattle.ghc_unify.proofs.Merged.{merged, merged_is, merged_acyclic}
-use Rattle.ghc_unify.proofs.Open.{Searching, sizes, found, finished, passed, popped, falls_away, sees, sees_falls, unfolds, unfold_falls, nothing_open}
+use Rattle.ghc_unify.proofs.ReachSearch.{Searching, sizes, found, finished, passed, popped, falls_away, sees, sees_falls, unfolds, unfold_falls, nothing_open}
 use Rattle.ghc_unify.proofs.occurs.search.Goals as goal
 
 pub loop-term-smaller-then-is_closed : goal.loop-term-smaller-then-is_closed

@@ -2,7 +2,7 @@ use Rattle.std.proofs.Common.{map}
 use Rattle.ghc_term.specs.Store.{value_at}
 use Rattle.ghc_unify.specs.Unify.{with_bindings}
 use Rattle.ghc_unify.proofs.Merged.{merged}
-use Rattle.ghc_unify.proofs.Open.{Searching, sizes}
+use Rattle.ghc_unify.proofs.ReachSearch.{Searching, sizes}
 use Rattle.ghc_unify.proofs.occurs.search.Given as goal
 
 abbrev pub invariant-loop-term : goal.invariant-loop-term

@@ -1,7 +1,6 @@
-use Rattle.std.proofs.Common.{◌≡◌, sym, ap, ◌∙◌, inl, inr, ◌⊎◌}
+use Rattle.std.proofs.Common.{ap, ◌∙◌, inl, inr}
 use Rattle.std.specs.Prelude.{Err, Some}
 use Rattle.std.proofs.lemmas.Result.{err_from_is_err_and}
-use Rattle.ghc_term.specs.declared.fault.Fault.TheVariants.{Clash, Cycle}
 use Rattle.ghc_term.specs.Store.{value_at}
 use Rattle.ghc_unify.specs.Unify.{Unifies, Clashes, Cycles, solved}
 use Rattle.ghc_unify.proofs.LawProofs.{one_ending}

@@ -23,9 +23,9 @@ returns-then-shared-clause-ok c =
     let parts = subst (Parts c.in_ok-sides.ensures.0 c.in_ok-sides.ensures.1 a b) c.if-shared.true c.in_ok-sides.ensures.4 in (
       met S a ++ met S b,
       shared_move S (with_bindings c.args.binds.now S) c.args.left.now c.args.right.now _ _ _ _ a b (λ x n. (unbound_below c.args.binds.now S x n).1) c.in_ok-sides.ensures.2 c.in_ok-sides.ensures.3 (reverse c.args.equations.now.items) parts,
-      read_both c.args.reads.now c.note.new.reads c.note-then-shared.new.reads (met S a) (met S b)
-          (c.in_ok-note.ensures ∙ ap (λ z. set.union c.args.reads.now (set.from_list (met S z))) c.deref.ensures.value)
-          (c.in_ok-note-2.ensures ∙ ap (λ z. set.union c.note.new.reads (set.from_list (met S z))) c.deref-then-shared.ensures.value),
+      read_both c.args.reads.now c.add_bound_reads.new.reads c.add_bound_reads-then-shared.new.reads (met S a) (met S b)
+          (c.in_ok-add_bound_reads.ensures ∙ ap (λ z. set.union c.args.reads.now (set.from_list (met S z))) c.deref.ensures.value)
+          (c.in_ok-add_bound_reads-2.ensures ∙ ap (λ z. set.union c.add_bound_reads.new.reads (set.from_list (met S z))) c.deref-then-shared.ensures.value),
     )
 
 pub returns-in_err-binding-clause-cycle : goal.returns-in_err-binding-clause-cycle
@@ -53,7 +53,7 @@ returns-in-Var-clause-ok c =
       met S a,
       subst (λ (d : VarName × Tree). Move S T ((l, r) ∷ es) (with_binding T d.0 d.1) es (d ∷ []) (met S a)) (sym c.in_ok-binding.ensures.ok)
           (left_move S T l r _ _ _ _ a b (λ x n. (unbound_below c.args.binds.now S x n).1) c.in_ok-sides.ensures.2 c.in_ok-sides.ensures.3 es c.in-Var.x parts c.in-Var.ensures.shown c.in_ok-binding.ensures.open),
-      c.in_ok-note.ensures ∙ ap (λ z. set.union c.args.reads.now (set.from_list (met S z))) c.deref.ensures.value,
+      c.in_ok-add_bound_reads.ensures ∙ ap (λ z. set.union c.args.reads.now (set.from_list (met S z))) c.deref.ensures.value,
     )
 
 pub returns-in_err-binding-2 : goal.returns-in_err-binding-2
@@ -88,9 +88,9 @@ returns-in-Var-view c =
         subst (λ (d : VarName × Tree). Move S T ((l, r) ∷ es) (with_binding T d.0 d.1) es (d ∷ []) (met S a ++ met S b)) (sym c.in_ok-binding-2.ensures.ok)
             (right_move S T l r _ _ _ _ a b (λ x n. (unbound_below c.args.binds.now S x n).1) c.in_ok-sides.ensures.2 c.in_ok-sides.ensures.3 es c.in-Var-view.y parts
             (value_of c.view.result _ c.in_default.not-Var c.view.ensures.shown) c.in-Var-view.ensures.shown c.in_ok-binding-2.ensures.open),
-        read_both c.args.reads.now c.note.new.reads c.note-2.new.reads (met S a) (met S b)
-            (c.in_ok-note.ensures ∙ ap (λ z. set.union c.args.reads.now (set.from_list (met S z))) c.deref.ensures.value)
-            (c.in_ok-note-3.ensures ∙ ap (λ z. set.union c.note.new.reads (set.from_list (met S z))) c.deref-2.ensures.value),
+        read_both c.args.reads.now c.add_bound_reads.new.reads c.add_bound_reads-2.new.reads (met S a) (met S b)
+            (c.in_ok-add_bound_reads.ensures ∙ ap (λ z. set.union c.args.reads.now (set.from_list (met S z))) c.deref.ensures.value)
+            (c.in_ok-add_bound_reads-3.ensures ∙ ap (λ z. set.union c.add_bound_reads.new.reads (set.from_list (met S z))) c.deref-2.ensures.value),
       );
       clash = λ e. cc;
       cycle = λ e. cc;
@@ -129,9 +129,9 @@ returns c =
         met S a ++ met S b,
         subst (λ z. Move S T ((l, r) ∷ es) T z [] (met S a ++ met S b)) (sym new.2)
             (both_move S T l r _ _ _ _ a b (λ x n. (unbound_below c.args.binds.now S x n).1) c.in_ok-sides.ensures.2 c.in_ok-sides.ensures.3 es new.0 parts new.1),
-        read_both c.args.reads.now c.note.new.reads c.note-2.new.reads (met S a) (met S b)
-            (c.in_ok-note.ensures ∙ ap (λ z. set.union c.args.reads.now (set.from_list (met S z))) c.deref.ensures.value)
-            (c.in_ok-note-3.ensures ∙ ap (λ z. set.union c.note.new.reads (set.from_list (met S z))) c.deref-2.ensures.value),
+        read_both c.args.reads.now c.add_bound_reads.new.reads c.add_bound_reads-2.new.reads (met S a) (met S b)
+            (c.in_ok-add_bound_reads.ensures ∙ ap (λ z. set.union c.args.reads.now (set.from_list (met S z))) c.deref.ensures.value)
+            (c.in_ok-add_bound_reads-3.ensures ∙ ap (λ z. set.union c.add_bound_reads.new.reads (set.from_list (met S z))) c.deref-2.ensures.value),
       );
       clash = λ e. cc;
       cycle = λ e. cc;

@@ -5,8 +5,8 @@ use Rattle.ghc_term.specs.declared.var_name.VarName.{VarName}
 use Rattle.ghc_term.specs.Store.{value_at}
 use Rattle.ghc_unify.specs.Unify.{met}
 use Rattle.ghc_unify.proofs.Growth.{union_none, union_push, met_bound, met_skip, some_copied}
-use Rattle.ghc_unify.proofs.chains.note.Goals as goal
-use Rattle.ghc_unify.proofs.chains.note.Goals.{then-is_some+in_ok-insert, else-is_some}
+use Rattle.ghc_unify.proofs.chains.add_bound_reads.Goals as goal
+use Rattle.ghc_unify.proofs.chains.add_bound_reads.Goals.{then-is_some+in_ok-insert, else-is_some}
 
 abbrev zero_name : VarName
 zero_name = record { step = 0; place = 0 }

@@ -1,6 +1,6 @@
 use Rattle.std.proofs.Common.{vec_len}
 use Rattle.ghc_unify.proofs.Partings.{Split}
-use Rattle.ghc_unify.proofs.parting.part.Given as goal
+use Rattle.ghc_unify.proofs.parting.strip_common_tail.Given as goal
 
 abbrev pub invariant-loop-shared : goal.invariant-loop-shared
 invariant-loop-shared l = Split l.initial.left.items l.initial.right.items l.left.items l.right.items l.shared
