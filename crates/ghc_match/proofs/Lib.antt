@@ -16,7 +16,7 @@ pub mod Members
 pub mod Ending
 pub mod Making
 pub mod Walking
-pub mod Tops
+pub mod TopAgreement
 pub mod Looking
 pub mod Seeing
 pub mod HeadWalk

@@ -18,7 +18,7 @@ use Rattle.ghc_flat.specs.Clause.{Clause}
 use Rattle.ghc_flat.specs.Variables.{variables_of_test}
 use Rattle.ghc_term.specs.Sets.{IsSetOf}
 use Rattle.ghc_match.specs.Position.{At, here, down}
-use Rattle.ghc_match.specs.Match.{AreAlike, HeadHas, StandsFor, Mismatch, HeadWants, StandsAt, Holds, TestWants, WaitsFor, LooksAt, refuses, waits, accepts, HasOutcome}
+use Rattle.ghc_match.specs.Match.{AreAlike, HeadHas, StandsFor, Mismatch, HeadWants, StandsAt, Holds, TestWants, WaitsFor, LooksAt, waits, accepts, HasOutcome}
 use Rattle.ghc_match.proofs.Places.{Listed, places, all_places}
 
 -- each place of the list is one of which Q holds
@@ -177,13 +177,6 @@ module _ (c : Clause) (ts : List Tree) (S : VarName → Option Tree) (es : List 
       let same : s.0 ≡ d.0 = cc in
       value_not (leads_once (subst (λ w. Leads S w s.1 s.2) same s.4) d.3).1 s.5
 
-  -- and ends where it is settled
-  pub settled_is : (rs : List VarName) (y : VarName) (e : Tree) (s : Settled S es rs y) → StandsAt c ts S y e → e ≡ s.2
-  settled_is rs y e s d =
-      let both : Some s.0 ≡ Some d.0 = sym s.3 ∙ stands_found y d.0 d.2 in
-      let same : s.0 ≡ d.0 = cc in
-      sym (leads_once (subst (λ w. Leads S w s.1 s.2) same s.4) d.3).1
-
   -- a test whose variables are settled waits for nothing
   pub settled_wants : (rs : List VarName) (g : Test) → Each (variables_of_test g) (Settled S es rs) → (x : VarName) → ¬ TestWants c ts S g x
   settled_wants rs g t x w = settled_not rs w.0 x (each_in (variables_of_test g) (Settled S es rs) w.0 t w.1) w.2
@@ -217,12 +210,6 @@ accepts_by c ts S es rs found stands entries tests looked = (
         settled_in c ts S es stands rs p.1 x p.2 (each_in (variables_of_test p.0) (Settled S es rs) p.1 t.1 p.4) p.5 p.6
   ]),
 )
-
--- a clause refuses, where its head fits and its only test, whose variables are settled, does not hold
-pub refuses_by : (c : Clause) (ts : List Tree) (S : VarName → Option Tree) (es : List (VarName × Tree)) (rs : List VarName) (g : Test)
-    → EachPlace (places c.head) (Found S ts rs []) → EachPlace (places c.head) (Stands S ts es) → In g c.tests
-    → Each (variables_of_test g) (Settled S es rs) → ¬ Holds c ts S g → HasOutcome c ts S refuses
-refuses_by c ts S es rs g found stands ig settled not = inr ((no_mismatch c ts S rs [] found, wants_in c ts S rs [] found), (g, ig, (settled_wants c ts S es stands rs g settled, not)))
 
 -- at a place where the head has the variable x
 pub stands_at : {S : VarName → Option Tree} {ts : List Tree} (es : List (VarName × Tree)) {p : List ℕ} {x : VarName} {t : Tree} → At S ts p t → finite.find name_cmp x es ≡ Some t → Stands S ts es p (variable x)

@@ -5,7 +5,7 @@ use Rattle.std.specs.FinSet as set
 use Rattle.ghc_term.specs.declared.operator.Operator.TheVariants.{Add, Divide, Modulo}
 use Rattle.ghc_term.specs.Tree.{integer, node, none, more, atom}
 use Rattle.ghc_term.specs.Expression.{leaf, operation}
-use Rattle.ghc_flat.specs.Samples.{asked, v, store, both_atoms, second_atom, divides, remains}
+use Rattle.ghc_flat.specs.Samples.{asked, v, store, both_atoms, second_atom}
 use Rattle.ghc_match.specs.Value.{number, bad, HasValue}
 use Rattle.ghc_match.specs.Match.{refuses, waits, accepts, HasOutcome}
 
@@ -15,14 +15,6 @@ LeastInteger =
     let least = leaf (integer (negsuc 9223372036854775807)) in
     let minus_one = leaf (integer (negsuc 0)) in
     HasValue (store []) (operation Modulo least minus_one) (number (pos 0)) × HasValue (store []) (operation Divide least minus_one) bad
-
--- `-7 / 2` is -3, `-7 mod 2` is -1, and `9223372036854775807 + 1` does not exist.
-abbrev pub Sevenths : Type 0
-Sevenths =
-    let seven = leaf (integer (negsuc 6)) in
-    let two = leaf (integer (pos 2)) in
-    HasValue (store []) (operation Divide seven two) (number (negsuc 2)) × HasValue (store []) (operation Modulo seven two) (number (negsuc 0))
-    × HasValue (store []) (operation Add (leaf (integer (pos 9223372036854775807))) (leaf (integer (pos 1)))) bad
 
 -- `f(Y) + 1` has no value and waits on nothing, though Y is unbound.
 abbrev pub StructureIsNoNumber : Type 0
@@ -41,15 +33,3 @@ abbrev pub AcceptsWithReads : Type 0
 AcceptsWithReads =
     HasOutcome second_atom (v 1 ∷ v 2 ∷ []) (store ((asked 1, atom (codes "c")) ∷ (asked 2, atom (codes "b")) ∷ []))
     (accepts (finite.from_entries ((asked 1, v 1) ∷ [])) (set.from_list (asked 2 ∷ [])))
-
--- `d(X) :- 1 / X > 0 | true.` refuses `d(0)` and `d(a)`, and waits for the variable of `d(Y)`.
-abbrev pub DivisorDecides : Type 0
-DivisorDecides =
-    HasOutcome divides (integer (pos 0) ∷ []) (store []) refuses × HasOutcome divides (atom (codes "a") ∷ []) (store []) refuses
-    × HasOutcome divides (v 1 ∷ []) (store []) (waits (set.from_list (asked 1 ∷ [])))
-
--- `m(X) :- X mod 3 =:= -1 | true.` accepts `m(-7)` and reads nothing, and refuses `m(2)`.
-abbrev pub RemainderDecides : Type 0
-RemainderDecides =
-    HasOutcome remains (integer (negsuc 6) ∷ []) (store []) (accepts (finite.from_entries ((asked 1, integer (negsuc 6)) ∷ [])) (set.from_list []))
-    × HasOutcome remains (integer (pos 2) ∷ []) (store []) refuses

@@ -7,7 +7,7 @@ ghost use Rattle.ghc_match.specs.Value.{Wants, HasValue};
 ghost use Rattle.ghc_match.specs.Told.{value_of};
 
 use crate::leaves::push_leaves;
-use crate::number::number;
+use crate::number::integer_of;
 use crate::scope::{End, Scope, end_of};
 use crate::value::Value;
 use ghc_term::{Expr, Store, VarName, Variables};
@@ -38,7 +38,7 @@ pub fn evaluate(alloc: Global, expression: &Expr, store: &Store) -> Result<Value
     if wanted.len() > 0 {
         return Ok(Value::Waits(wanted));
     }
-    match number(alloc, store, Scope::Goal, expression)? {
+    match integer_of(alloc, store, Scope::Goal, expression)? {
         Some(integer) => Ok(Value::Number(integer)),
         None => Ok(Value::Bad),
     }

@@ -1,14 +1,9 @@
 // Small facts on values and on what clauses say, each as the contract of a function.
-ghost use Rattle.ghc_match.specs.Facts.{LeastInteger, Sevenths, StructureIsNoNumber, WaitsOnTwo, RefusesBeforeWaiting, AcceptsWithReads, DivisorDecides, RemainderDecides};
+ghost use Rattle.ghc_match.specs.Facts.{LeastInteger, StructureIsNoNumber, WaitsOnTwo, RefusesBeforeWaiting, AcceptsWithReads};
 
 /// The least integer `mod -1` is 0, and `/ -1` has no value.
 pub fn least_integer()
     ensures { LeastInteger }
-{}
-
-/// `-7 / 2` is -3, `-7 mod 2` is -1, and a sum out of range has no value.
-pub fn sevenths()
-    ensures { Sevenths }
 {}
 
 /// `f(Y) + 1` has no value and waits on nothing.
@@ -29,14 +24,4 @@ pub fn refuses_before_waiting()
 /// `p(_,b)` accepts `p(X,Y)` where Y is b, and read Y alone.
 pub fn accepts_with_reads()
     ensures { AcceptsWithReads }
-{}
-
-/// The guard `1 / X > 0` says no at 0 and at an atom, and waits where X is unbound.
-pub fn divisor_decides()
-    ensures { DivisorDecides }
-{}
-
-/// The guard `X mod 3 =:= -1` says yes at -7 and no at 2.
-pub fn remainder_decides()
-    ensures { RemainderDecides }
 {}

@@ -10,9 +10,9 @@ ghost use Rattle.ghc_match.specs.Ends.{StandsAndEnds};
 ghost use Rattle.ghc_match.specs.Meeting.{Gains};
 ghost use Rattle.ghc_match.specs.Guarding.{StandsAndPasses, PassedFrom, IsSaid, OneSaysNo, OneWants, GuardLooksAt};
 
-use crate::holding::holds;
 use crate::leaves::push_leaves;
-use crate::passing::pass;
+use crate::passing::follow_noting;
+use crate::test_holds::holds;
 use ghc_flat::Test;
 use ghc_term::{Bindings, Store, TermView, VarName, Variables};
 use std::alloc::{AllocError, Global};
@@ -65,7 +65,7 @@ fn look_at(
     let Some(term) = stands.get(name) else {
         return Ok(false);
     };
-    let end = pass(store, term, looked)?;
+    let end = follow_noting(store, term, looked)?;
     if let TermView::Var(x) = end.view() {
         wanted.insert(x)?;
         return Ok(true);
@@ -95,7 +95,7 @@ fn look_at_all(
 }
 
 // What the test says. What it waits for is wanted, and the chains of its variables are looked at.
-fn ask(
+fn try_test(
     alloc: Global,
     store: &Store,
     stands: &Bindings,
@@ -132,7 +132,7 @@ pub fn try_guard(
     let mut says_no = false;
     let mut wanted = Variables::new(alloc);
     for test in tests {
-        if let Says::No = ask(alloc, store, stands, test, &mut wanted, looked)? {
+        if let Says::No = try_test(alloc, store, stands, test, &mut wanted, looked)? {
             says_no = true;
         }
     }

@@ -11,7 +11,7 @@ ghost use Rattle.ghc_term.specs.Tree.{Tree};
 ghost use Rattle.std.specs.Prelude.{Some};
 
 use crate::alike::{are_alike, arguments_of};
-use crate::passing::pass;
+use crate::passing::follow_noting;
 use ghc_flat::Clause;
 use ghc_term::{Bindings, Store, Term, TermView, Variables};
 use std::alloc::{AllocError, Global};
@@ -62,7 +62,7 @@ fn visit<'a>(
         met.stands.insert(y, term.share()?)?;
         return Ok(());
     }
-    let end = pass(store, term, &mut met.looked)?;
+    let end = follow_noting(store, term, &mut met.looked)?;
     if let TermView::Var(x) = end.view() {
         met.wanted.insert(x)?;
         return Ok(());

@@ -7,12 +7,12 @@ mod evaluation;
 mod facts;
 mod guard;
 mod head;
-mod holding;
 mod laws;
 mod leaves;
 mod number;
 mod passing;
 mod scope;
+mod test_holds;
 #[cfg(test)]
 mod tests;
 mod trying;
@@ -20,8 +20,7 @@ mod value;
 
 pub use evaluation::evaluate;
 pub use facts::{
-    accepts_with_reads, divisor_decides, least_integer, refuses_before_waiting, remainder_decides,
-    sevenths, structure_is_no_number, waits_on_two,
+    accepts_with_reads, least_integer, refuses_before_waiting, structure_is_no_number, waits_on_two,
 };
 pub use laws::{
     each_clause_has_an_outcome, each_expression_has_a_value, outcome_is_of_what_is_looked_at,

@@ -93,7 +93,7 @@ fn perform<'a>(
 }
 
 // The integer that the expression is worth, if there is one: one step for each part of the expression, by a loop.
-pub fn number(
+pub fn integer_of(
     alloc: Global,
     store: &Store,
     scope: Scope<'_>,

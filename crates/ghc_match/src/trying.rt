@@ -1,5 +1,6 @@
 // What a clause says to a call.
-ghost use Rattle.std.specs.Prelude.{IfOk};
+ghost use Rattle.std.specs.Prelude.{◌≡◌, ◌<◌, true, false, IfOk};
+ghost use Rattle.std.specs.FinSet as set;
 ghost use Rattle.ghc_term.specs.Store.{value_at};
 ghost use Rattle.ghc_term.specs.Sets.{IsSetOf};
 ghost use Rattle.ghc_flat.specs.Flat.{IsLinear};
@@ -30,6 +31,53 @@ pub struct Tried {
     pub looked: Variables,
 }
 
+impl Said {
+    // What the clause says where its head fits and its variables stand for this: a no decides before a wait.
+    fn decide(self, stands: Bindings) -> Outcome
+        ensures refuses { self.says_no ≡ true → result ≡ Outcome.Refuses }
+        ensures waits { self.says_no ≡ false → 0 < set.len self.wanted → result ≡ Outcome.Waits self.wanted }
+        ensures accepts { self.says_no ≡ false → set.len self.wanted ≡ 0 → result ≡ Outcome.Accepts stands }
+    {
+        let Said { says_no, wanted } = self;
+        if says_no {
+            return Outcome::Refuses;
+        }
+        if wanted.len() > 0 {
+            return Outcome::Waits(wanted);
+        }
+        Outcome::Accepts(stands)
+    }
+}
+
+impl Met {
+    // What the clause says whose guard says this: a clash decides before a wait of the head, and that before the guard.
+    fn decide(self, said: Said) -> Tried
+        ensures clash { self.clashes ≡ true → result.outcome ≡ Outcome.Refuses }
+        ensures waits { self.clashes ≡ false → 0 < set.len self.wanted → result.outcome ≡ Outcome.Waits self.wanted }
+        ensures guard_refuses { self.clashes ≡ false → set.len self.wanted ≡ 0 → said.says_no ≡ true → result.outcome ≡ Outcome.Refuses }
+        ensures guard_waits { self.clashes ≡ false → set.len self.wanted ≡ 0 → said.says_no ≡ false → 0 < set.len said.wanted → result.outcome ≡ Outcome.Waits said.wanted }
+        ensures accepts { self.clashes ≡ false → set.len self.wanted ≡ 0 → said.says_no ≡ false → set.len said.wanted ≡ 0 → result.outcome ≡ Outcome.Accepts self.stands }
+        ensures looked { result.looked ≡ self.looked }
+    {
+        let Met {
+            clashes,
+            stands,
+            wanted,
+            looked,
+        } = self;
+        if clashes {
+            let outcome = Outcome::Refuses;
+            return Tried { outcome, looked };
+        }
+        if wanted.len() > 0 {
+            let outcome = Outcome::Waits(wanted);
+            return Tried { outcome, looked };
+        }
+        let outcome = said.decide(stands);
+        Tried { outcome, looked }
+    }
+}
+
 /// Tries the clause on a call with these arguments. It goes once to each position of the head and asks each test once,
 /// by loops; a position costs the chain of the goal's term there, and a test the chains of what its variables stand for.
 /// A clause of a program is linear.
@@ -43,26 +91,7 @@ pub fn try_clause(
     ensures outcome { IfOk result (λ tried. HasOutcome clause.now arguments.now (value_at store.now) (outcome_of tried)) }
     ensures looked { IfOk result (λ tried. IsSetOf tried.looked (LooksAt clause.now arguments.now (value_at store.now))) }
 {
-    let Met {
-        clashes,
-        stands,
-        wanted,
-        mut looked,
-    } = match_head(alloc, clause, arguments, store)?;
-    let Said {
-        says_no,
-        wanted: wanted_by_guard,
-    } = try_guard(alloc, store, &stands, clause.tests(), &mut looked)?;
-    let outcome = if clashes {
-        Outcome::Refuses
-    } else if wanted.len() > 0 {
-        Outcome::Waits(wanted)
-    } else if says_no {
-        Outcome::Refuses
-    } else if wanted_by_guard.len() > 0 {
-        Outcome::Waits(wanted_by_guard)
-    } else {
-        Outcome::Accepts(stands)
-    };
-    Ok(Tried { outcome, looked })
+    let mut met = match_head(alloc, clause, arguments, store)?;
+    let said = try_guard(alloc, store, &met.stands, clause.tests(), &mut met.looked)?;
+    Ok(met.decide(said))
 }

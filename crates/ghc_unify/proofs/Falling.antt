@@ -7,7 +7,7 @@ use Rattle.ghc_term.specs.Store.{StoreValue, value_at}
 use Rattle.ghc_term.specs.Bindings.{IsAcyclic, Leads}
 use Rattle.ghc_term.proofs.Weights.{size, size_all, size_end}
 use Rattle.ghc_unify.specs.Unify.{Pairs, no_more, one_more, Meets, integers, nodes, Move, shared, left, right, both, Moves, stay, go}
-use Rattle.ghc_unify.proofs.Open.{size_positive}
+use Rattle.ghc_unify.proofs.ReachSearch.{size_positive}
 
 -- how large the equations are
 abbrev pub weights : StoreValue → List (Tree × Tree) → ℕ

@@ -9,7 +9,7 @@ use Rattle.ghc_unify.specs.Unify.{Meets, met, Move, shared, left, right, both, I
 use Rattle.ghc_unify.specs.Parting.{Parts}
 use Rattle.ghc_unify.proofs.Ends.{left_end}
 use Rattle.ghc_unify.proofs.Growth.{met_unbound}
-use Rattle.ghc_unify.proofs.Open.{in_right}
+use Rattle.ghc_unify.proofs.ReachSearch.{in_right}
 use Rattle.ghc_unify.proofs.Partings.{cut, parted, passes_in}
 
 first_of_list : (c : List VarName) → c ≢ [] → (m : VarName) × (rest : List VarName) × (c ≡ m ∷ rest)

@@ -15,12 +15,12 @@ pub mod Falling
 pub mod FirstEquation
 pub mod Growth
 pub mod Merged
-pub mod Open
+pub mod ReachSearch
 pub mod Partings
 pub mod Refusals
 pub mod Runs
 pub mod Scope
 pub mod Stacks
-pub mod Tops
+pub mod TopAgreement
 pub mod Reached
 pub mod Endings

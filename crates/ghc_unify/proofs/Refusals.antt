@@ -27,6 +27,10 @@ handed_on {P = P} r f e c d o = record {
   only = subst (λ z. IfErr z Known) (sym e) o;
 }
 
+-- a refusal is no answer
+pub no_answer : {A B : Type 0} (P : A → Type 0) (r : Result A B) (f : B) → r ≡ Err f → IfOk r P
+no_answer P r f e = subst (λ z. IfOk z P) (sym e) tt
+
 -- an end that is no variable is a value
 pub value_of : (v : TermView) (e : Tree) → ((x : VarName) → v ≡ Var x → ⊥) → shown v ≡ e → IsValue e
 value_of v e h is = subst IsValue is (go v h)

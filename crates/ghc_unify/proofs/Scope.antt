@@ -12,7 +12,7 @@ use Rattle.ghc_term.proofs.Names.{name_total, name_antisymmetric}
 use Rattle.ghc_term.proofs.Total.{same_name, removed_apart, removed_less, fewer}
 use Rattle.ghc_unify.specs.Unify.{Pairs, no_more, one_more, Meets, integers, nodes, Move, shared, left, right, both, Moves, stay, go}
 use Rattle.ghc_unify.proofs.Bound.{is_it, itself, is_bound, other}
-use Rattle.ghc_unify.proofs.Open.{in_left, in_right, in_either}
+use Rattle.ghc_unify.proofs.ReachSearch.{in_left, in_right, in_either}
 
 abbrev mutual
   -- the variables of a tree

@@ -1,7 +1,6 @@
 pub mod Unify
 pub mod Solutions
 pub mod Laws
-pub mod Facts
 pub mod Parting
 pub mod Seen
 pub mod Steps

@@ -19,11 +19,12 @@ pub data Meets : Tree → Tree → List (Tree × Tree) → Type 0 where
   integers : {k : _} → Meets (integer k) (integer k) []
   nodes : {f : _} {ts us : Trees} {es : List (Tree × Tree)} → Pairs ts us es → Meets (node f ts) (node f us) es
 
--- Those of the variables that are bound in S; with S the store before the step they are what it read.
+-- Those of the variables that are bound in S.
 abbrev pub met : (VarName → Option Tree) → List VarName → List VarName
 met S xs = filter (λ x. is_some (S x)) xs
 
--- Move S T es U fs bs rs: where S is the store before the step and T the store by now, the first of the equations es is dealt with; that leaves the store U and the equations fs, binds bs and reads rs.
+-- Move S T es U fs bs rs: the first of the equations es is dealt with. S is the store before the step, T the store now and U the one after the move;
+-- fs are the equations that it leaves, bs what it binds, and rs what it reads: those of the variables met that were bound before the step.
 pub data Move (S : VarName → Option Tree) : (VarName → Option Tree) → List (Tree × Tree) → (VarName → Option Tree) → List (Tree × Tree) → List (VarName × Tree) → List VarName → Type 0 where
   -- The chains share a variable, and m is the first: the equation is dropped.
   shared : {T : VarName → Option Tree} {l r : Tree} {a b : List VarName} {m : VarName} {es : List (Tree × Tree)}
@@ -42,7 +43,7 @@ pub data Move (S : VarName → Option Tree) : (VarName → Option Tree) → List
       → Leads T l a e → Leads T r b f → ((x : VarName) → In x a → ¬ In x b) → Meets e f new
       → Move S T ((l, r) ∷ es) T (new ++ es) [] (met S a ++ met S b)
 
--- Moves one after another.
+-- Moves one after another: what they bind and read, in order.
 pub data Moves (S : VarName → Option Tree) : (VarName → Option Tree) → List (Tree × Tree) → (VarName → Option Tree) → List (Tree × Tree) → List (VarName × Tree) → List VarName → Type 0 where
   stay : {T : VarName → Option Tree} {es : List (Tree × Tree)} → Moves S T es T es [] []
   go : {T U V : VarName → Option Tree} {es fs gs : List (Tree × Tree)} {bs cs : List (VarName × Tree)} {rs qs : List VarName}

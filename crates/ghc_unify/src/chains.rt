@@ -9,10 +9,18 @@ use ghc_term::{Bindings, Store, Term, TermView, VarName, Variables};
 use std::alloc::{AllocError, Global};
 
 // The variables passed from a term by following bindings, an unbound last one included, and the term to which they lead.
-#[derive(Drop)]
 pub struct Chain<'a> {
     pub passed: Vec<VarName>,
     pub end: &'a Term,
+}
+
+impl Drop for Chain<'_> {
+    fn drop(self) {
+        let Chain {
+            passed: _passed,
+            end: _,
+        } = self;
+    }
 }
 
 // What the variable is bound to, here or else in the store.
@@ -52,7 +60,11 @@ pub fn follow<'a>(
 }
 
 // Adds those of the variables that are bound in the store.
-pub fn note(store: &Store, passed: &[VarName], reads: &mut Variables) -> Result<(), AllocError>
+pub fn add_bound_reads(
+    store: &Store,
+    passed: &[VarName],
+    reads: &mut Variables,
+) -> Result<(), AllocError>
     ensures { OnOk result (reads.new ≡ set.union reads.old (set.from_list (met (value_at store.now) passed.now))) }
 {
     for x in passed {

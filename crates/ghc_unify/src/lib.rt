@@ -2,7 +2,6 @@
 #![tactic(auto)]
 
 mod chains;
-mod facts;
 mod laws;
 mod occurs;
 mod parting;
@@ -11,10 +10,6 @@ mod step;
 #[cfg(test)]
 mod tests;
 
-pub use facts::{
-    alias_is_read, arguments, clash_binds_nothing, either_order, itself, middle_is_read,
-    second_is_cyclic, turned,
-};
 pub use laws::{
     each_unification_has_an_ending, unification_binds_and_reads, unification_has_one_ending,
     unification_is_local, unification_keeps_acyclic, unification_keeps_solutions,

@@ -1,5 +1,5 @@
 // Whether a term reaches a variable, in a store with some bindings more.
-ghost use Rattle.std.specs.Prelude.{◌≡◌, ◌↔◌, ◌++◌, map, IfOk, OnOk, IsTrue};
+ghost use Rattle.std.specs.Prelude.{◌≡◌, ◌↔◌, [], ◌++◌, map, IfOk, OnOk, IsTrue};
 ghost use Rattle.ghc_term.specs.Store.{value_at};
 ghost use Rattle.ghc_term.specs.Bindings.{IsAcyclic, Reaches};
 ghost use Rattle.ghc_unify.specs.Unify.{with_bindings};
@@ -39,6 +39,39 @@ fn see<'a>(
     Ok(())
 }
 
+// The search of `reaches`, of which nothing is seen so far.
+fn search(
+    alloc: Global,
+    store: &Store,
+    binds: &Bindings,
+    from: &Term,
+    to: VarName,
+    seen: &mut IndexSet<VarName>,
+) -> Result<bool, AllocError>
+    requires acyclic { IsAcyclic (with_bindings binds.now (value_at store.now)) }
+    requires unseen { seen.old.keys ≡ [] }
+    ensures { IfOk result (λ yes. IsTrue yes ↔ Reaches (with_bindings binds.now (value_at store.now)) from.now to) }
+{
+    let mut waiting = Vec::new(alloc);
+    waiting.push(from)?;
+    while let Some(term) = waiting.pop() {
+        if term.is_closed() {
+            continue;
+        }
+        match term.view() {
+            TermView::Var(x) => {
+                if x == to {
+                    return Ok(true);
+                }
+                see(store, binds, x, seen, &mut waiting)?;
+            }
+            TermView::Struct(_, arguments) => push_all(arguments, &mut waiting)?,
+            _ => {}
+        }
+    }
+    Ok(false)
+}
+
 // Whether the variable stands in the term, or in the value of a variable that the term reaches. It goes once through
 // the term and through each value that it reaches, and past what is closed as written.
 pub fn reaches(
@@ -52,22 +85,5 @@ pub fn reaches(
     ensures { IfOk result (λ yes. IsTrue yes ↔ Reaches (with_bindings binds.now (value_at store.now)) from.now to) }
 {
     let mut seen = IndexSet::new(alloc);
-    let mut waiting = Vec::new(alloc);
-    waiting.push(from)?;
-    while let Some(term) = waiting.pop() {
-        if term.is_closed() {
-            continue;
-        }
-        match term.view() {
-            TermView::Var(x) => {
-                if x == to {
-                    return Ok(true);
-                }
-                see(store, binds, x, &mut seen, &mut waiting)?;
-            }
-            TermView::Struct(_, arguments) => push_all(arguments, &mut waiting)?,
-            _ => {}
-        }
-    }
-    Ok(false)
+    search(alloc, store, binds, from, to, &mut seen)
 }

@@ -1,21 +1,62 @@
 // Unification.
-ghost use Rattle.std.specs.Prelude.{◌≡◌, ◌⊎◌, ◌↔◌, IfOk, IfErr, Err, Some};
+ghost use Rattle.std.specs.Prelude.{◌≡◌, ◌⊎◌, ◌↔◌, [], ◌∷◌, IfOk, IfErr, OnOk, Err, Some};
+ghost use Rattle.std.specs.FinMap as finite;
+ghost use Rattle.std.specs.FinSet as set;
 ghost use Rattle.ghc_term.specs.Store.{value_at};
 ghost use Rattle.ghc_term.specs.Tree.{Tree};
 ghost use Rattle.ghc_term.specs.declared.var_name.VarName.{VarName};
+ghost use Rattle.ghc_term.specs.Bindings.{IsAcyclic};
 ghost use Rattle.ghc_unify.specs.Unify.{Unifies, Clashes, Cycles, Ending, HasEnding, with_bindings};
 ghost use Rattle.ghc_unify.specs.Solutions.{Solves, Equates};
 ghost use Rattle.ghc_unify.specs.Outcome.{ending_of};
 
-use crate::step::advance;
+use crate::step::{Equations, advance};
 use ghc_term::{Bindings, Fault, Store, Term, Variables};
-use std::alloc::Global;
+use std::alloc::{AllocError, Global};
 
 /// What a unification binds, as written, and which variables it reads.
 #[derive(Drop)]
 pub struct Solved {
     pub binds: Bindings,
     pub reads: Variables,
+}
+
+// The equation of the two terms, alone.
+fn equation(alloc: Global, left: &Term, right: &Term) -> Result<Equations, AllocError>
+    ensures { IfOk result (λ equations. equations.items ≡ (left.now, right.now) ∷ []) }
+{
+    let mut equations = Vec::new(alloc);
+    equations.push((left.share()?, right.share()?))?;
+    Ok(equations)
+}
+
+// Makes the moves on the equation of the two terms, from no bindings and no reads on.
+fn solve(
+    alloc: Global,
+    left: &Term,
+    right: &Term,
+    store: &Store,
+    solved: &mut Solved,
+) -> Result<(), Fault>
+    requires acyclic { IsAcyclic (value_at store.now) }
+    requires unbound { solved.old.binds ≡ finite.empty }
+    requires unread { solved.old.reads ≡ set.empty }
+    ensures solved { OnOk result (Unifies (value_at store.now) left.now right.now solved.new.binds solved.new.reads) }
+    ensures clash { result ≡ Err Fault.Clash → Clashes (value_at store.now) left.now right.now }
+    ensures cycle { result ≡ Err Fault.Cycle → Cycles (value_at store.now) left.now right.now }
+    ensures only { IfErr result (λ e. (e ≡ Fault.Clash) ⊎ (e ≡ Fault.Cycle) ⊎ (e ≡ Fault.Memory)) }
+{
+    let mut equations = equation(alloc, left, right)?;
+    while let Some((x, value)) = advance(
+        alloc,
+        store,
+        &solved.binds,
+        &mut equations,
+        &mut solved.reads,
+    )? {
+        solved.binds.insert(x, value)?;
+    }
+    Ok(())
 }
 
 /// Unifies two terms: gives what is bound beside the store, and which bound variables were read. `Fault::Clash` exactly
@@ -39,12 +80,10 @@ pub fn unify(alloc: Global, left: &Term, right: &Term, store: &Store) -> Result<
     ensures none { (result ≡ Err Fault.Clash) ⊎ (result ≡ Err Fault.Cycle) → (a : VarName → Tree) → Solves a (value_at store.now) → ¬ Equates a left.now right.now }
 {
     store.acyclic();
-    let mut binds = Bindings::new(alloc);
-    let mut reads = Variables::new(alloc);
-    let mut equations = Vec::new(alloc);
-    equations.push((left.share()?, right.share()?))?;
-    while let Some((x, value)) = advance(alloc, store, &binds, &mut equations, &mut reads)? {
-        binds.insert(x, value)?;
-    }
-    Ok(Solved { binds, reads })
+    let mut solved = Solved {
+        binds: Bindings::new(alloc),
+        reads: Variables::new(alloc),
+    };
+    solve(alloc, left, right, store, &mut solved)?;
+    Ok(solved)
 }

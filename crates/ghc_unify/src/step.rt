@@ -6,9 +6,9 @@ ghost use Rattle.ghc_term.specs.Bindings.{IsAcyclic, Reaches};
 ghost use Rattle.ghc_unify.specs.Unify.{Pairs, Meets, IsClash, IsCycle, with_bindings};
 ghost use Rattle.ghc_unify.specs.Steps.{Steps, Advances, FailsFrom};
 
-use crate::chains::{follow, note};
+use crate::chains::add_bound_reads;
 use crate::occurs::reaches;
-use crate::parting::part;
+use crate::parting::both_chains;
 use ghc_term::{Bindings, Fault, Store, Term, TermView, VarName, Variables};
 use std::alloc::{AllocError, Global};
 
@@ -96,22 +96,21 @@ fn step<'a>(
     ensures cycle { result ≡ Err Fault.Cycle → IsCycle (with_bindings binds.now (value_at store.now)) left.now right.now }
     ensures only { IfErr result (λ e. (e ≡ Fault.Clash) ⊎ (e ≡ Fault.Cycle) ⊎ (e ≡ Fault.Memory)) }
 {
-    let mut from_left = follow(alloc, store, binds, left)?;
-    let mut from_right = follow(alloc, store, binds, right)?;
-    let shared = part(&mut from_left.passed, &mut from_right.passed);
-    note(store, &from_left.passed, reads)?;
+    let sides = both_chains(alloc, store, binds, left, right)?;
+    let shared = sides.shared;
+    add_bound_reads(store, &sides.left.passed, reads)?;
     if shared {
-        note(store, &from_right.passed, reads)?;
+        add_bound_reads(store, &sides.right.passed, reads)?;
         return Ok(None);
     }
-    if let TermView::Var(x) = from_left.end.view() {
+    if let TermView::Var(x) = sides.left.end.view() {
         return Ok(Some(binding(alloc, store, binds, x, right)?));
     }
-    note(store, &from_right.passed, reads)?;
-    if let TermView::Var(y) = from_right.end.view() {
+    add_bound_reads(store, &sides.right.passed, reads)?;
+    if let TermView::Var(y) = sides.right.end.view() {
         return Ok(Some(binding(alloc, store, binds, y, left)?));
     }
-    meet(from_left.end, from_right.end, equations)?;
+    meet(sides.left.end, sides.right.end, equations)?;
     Ok(None)
 }
 

@@ -33,12 +33,12 @@ loop-test-preserved c =
     let more = ap (λ z. old ++ z ∷ []) c.test-item.is ∙ sym (take_more c.args.tests.now c.loop-test.test-index g c.loop-test-test.true) in
     record {
       no = subst (λ l. OneSaysNo E l c.match-branch-2.says_no) more (elim c.match-branch-2.branch [
-        | in-No w ↦ subst (λ (b : Bool). OneSaysNo E (old ++ g ∷ []) b) (sym w.says_no-is) (no_more_no E old g (subst (IsSaid E g) w.in-No.is c.in_ok-ask.ensures.says))
-        | in_default w ↦ subst (λ (b : Bool). OneSaysNo E (old ++ g ∷ []) b) (sym w.says_no-is) (no_more_other E c.loop-test.says_no old g c.in_ok-ask.field-0 c.loop-test.invariant.no c.in_ok-ask.ensures.says w.in_default.not-No)
+        | in-No w ↦ subst (λ (b : Bool). OneSaysNo E (old ++ g ∷ []) b) (sym w.says_no-is) (no_more_no E old g (subst (IsSaid E g) w.in-No.is c.in_ok-try_test.ensures.says))
+        | in_default w ↦ subst (λ (b : Bool). OneSaysNo E (old ++ g ∷ []) b) (sym w.says_no-is) (no_more_other E c.loop-test.says_no old g c.in_ok-try_test.field-0 c.loop-test.invariant.no c.in_ok-try_test.ensures.says w.in_default.not-No)
       ]);
-      wants = subst (λ l. IsSetOf c.ask.new.wanted (OneHas wants_of l)) more (has_more wants_of c.loop-test.wanted c.ask.new.wanted old g c.loop-test.invariant.wants c.in_ok-ask.ensures.wanted);
-      looks = subst (λ l. Gains c.args.looked.now c.ask.new.looked (OneHas passed_by l)) more
-          (gains_more passed_by c.args.looked.now c.loop-test.looked c.ask.new.looked old g c.loop-test.invariant.looks c.in_ok-ask.ensures.looked);
+      wants = subst (λ l. IsSetOf c.try_test.new.wanted (OneHas wants_of l)) more (has_more wants_of c.loop-test.wanted c.try_test.new.wanted old g c.loop-test.invariant.wants c.in_ok-try_test.ensures.wanted);
+      looks = subst (λ l. Gains c.args.looked.now c.try_test.new.looked (OneHas passed_by l)) more
+          (gains_more passed_by c.args.looked.now c.loop-test.looked c.try_test.new.looked old g c.loop-test.invariant.looks c.in_ok-try_test.ensures.looked);
     }
 
 pub returns-clause-no : goal.returns-clause-no

@@ -9,7 +9,7 @@ use Rattle.ghc_match.specs.Ends.{ChainEnds}
 use Rattle.ghc_term.specs.Sets.{Variables}
 use Rattle.ghc_match.specs.Meeting.{trees_of, arguments, Clashes, Asks, Passed, Gains}
 use Rattle.ghc_match.specs.declared.head.Met.{Met}
-use Rattle.ghc_match.proofs.Tops.{shown_value}
+use Rattle.ghc_match.proofs.TopAgreement.{shown_value}
 use Rattle.ghc_match.proofs.Walking.{opens_nothing, opens_no_terms}
 use Rattle.ghc_match.proofs.Seeing.{clash_not, clash_new, clash_alike, asks_new, asks_not, passed_by, standing_value}
 use Rattle.ghc_match.proofs.head.visit.Goals as goal
@@ -34,7 +34,7 @@ returns-in-Var-view c =
       clashes = clash_not S h t old.clashes x l;
       stands = standing_value h t old.stands vh;
       wanted = asks_new S h t old.wanted c.insert-in-Var-view.new.self x vh l c.in_ok-insert-2.ensures.ok;
-      looked = passed_by S h t old.looked c.pass.new.looked vh c.in_ok-end.ensures.looked;
+      looked = passed_by S h t old.looked c.follow_noting.new.looked vh c.in_ok-end.ensures.looked;
       opens = opens_no_terms S h t (variable x) (trees_of c.args.pending.now.items) refl l;
     }
 
@@ -78,7 +78,7 @@ pub returns-clause-looked : goal.returns-clause-looked
 returns-clause-looked c =
     let S = value_at c.args.store.now in
     let vh : IsValue c.args.head.now = subst IsValue c.view.ensures.shown (shown_value c.view.result c.in_default.not-Var) in
-    let same = passed_by S c.args.head.now c.args.term.now c.args.met.now.looked c.pass.new.looked vh c.in_ok-end.ensures.looked in
+    let same = passed_by S c.args.head.now c.args.term.now c.args.met.now.looked c.follow_noting.new.looked vh c.in_ok-end.ensures.looked in
     let goes = λ (s : Variables). Gains c.args.met.now.looked s (Passed S c.args.head.now c.args.term.now) in
     elim c.if-not-are_alike.branch [
       | then-not-are_alike w ↦ subst goes (sym (ap (λ (m : Met). m.looked) w.met-is)) same

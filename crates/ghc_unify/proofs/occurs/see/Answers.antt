@@ -3,7 +3,7 @@ use Rattle.std.specs.Prelude.{not}
 use Rattle.std.specs.List.{list_any}
 use Rattle.ghc_term.proofs.Entries.{same}
 use Rattle.ghc_term.proofs.Searches.{In_any}
-use Rattle.ghc_unify.proofs.Open.{twice}
+use Rattle.ghc_unify.proofs.ReachSearch.{twice}
 use Rattle.ghc_unify.proofs.occurs.see.Goals as goal
 
 pub returns-then-not-branch : goal.returns-then-not-branch

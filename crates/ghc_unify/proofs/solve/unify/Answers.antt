@@ -1,113 +1,40 @@
-use Rattle.std.proofs.Common.{◌≡◌, ◌<◌, ◌-◌, [], ◌∷◌, ◌++◌, length, refl, sym, ap, ◌∙◌, subst, inl, inr, ◌⊎◌}
-use Rattle.std.specs.Prelude.{reverse, Err, Some, None}
-use Rattle.std.specs.FinMap as finite
+use Rattle.std.proofs.Common.{ap, ◌∙◌, inl, inr}
+use Rattle.std.specs.Prelude.{Err, Some}
 use Rattle.std.proofs.lemmas.Result.{err_from_is_err_and}
-use Rattle.ghc_term.specs.declared.fault.Fault.TheVariants.{Clash, Cycle}
 use Rattle.ghc_term.specs.Store.{value_at}
-use Rattle.ghc_unify.specs.Steps.{Advances}
-use Rattle.ghc_unify.specs.Unify.{with_bindings, IsClash, IsCycle, Unifies, Clashes, Cycles, solved}
+use Rattle.ghc_unify.specs.Unify.{Unifies, Clashes, Cycles, solved}
 use Rattle.ghc_unify.proofs.LawProofs.{one_ending}
-use Rattle.ghc_unify.proofs.Refusals.{HandedOn, handed_on}
-use Rattle.ghc_unify.proofs.Runs.{begins, still_acyclic, goes_on, ends, fails, falls_short, exactly}
-use Rattle.ghc_unify.proofs.Scope.{scope}
+use Rattle.ghc_unify.proofs.Refusals.{HandedOn, handed_on, no_answer}
+use Rattle.ghc_unify.proofs.Runs.{exactly}
 use Rattle.ghc_unify.proofs.SolutionLemmas.{solutions}
 use Rattle.ghc_unify.proofs.solve.unify.Goals as goal
 
-pub loop-equations-init : goal.loop-equations-init
-loop-equations-init c =
-    begins (value_at c.args.store.now) c.args.left.now c.args.right.now _ _ _ c.new-binds.ensures c.new-reads.ensures
-    (ap reverse (c.in_ok-push.ensures.items ∙ ap (λ l. l ++ (c.in_ok-share.field-0, c.in_ok-share-2.field-0) ∷ []) c.new-equations.ensures.items)
-    ∙ ap (λ t. (t, c.in_ok-share-2.field-0) ∷ []) c.in_ok-share.ensures ∙ ap (λ t. (c.args.left.now, t) ∷ []) c.in_ok-share-2.ensures)
-
-pub advance-requires : goal.advance-requires
-advance-requires c = still_acyclic c.loop-equations.invariant c.acyclic.ensures
-
-pub returns-in_err-x-clause-clash : goal.returns-in_err-x-clause-clash
-returns-in_err-x-clause-clash c e =
-    let r = c.from_residual-in_err-x in
-    let p = err_from_is_err_and r.result r.ensures.1 in
-    let is : c.in_err-x.field-0.0 ≡ Clash = let same : Err p.0 ≡ Err Clash = sym p.1 ∙ e in let one : p.0 ≡ Clash = cc in sym p.2 ∙ one in
-    fails c.loop-equations.invariant IsClash c.loop-equations.equations.items refl (c.in_err-x.ensures.clash (ap Err is))
-
-pub returns-in_err-x-clause-cycle : goal.returns-in_err-x-clause-cycle
-returns-in_err-x-clause-cycle c e =
-    let r = c.from_residual-in_err-x in
-    let p = err_from_is_err_and r.result r.ensures.1 in
-    let is : c.in_err-x.field-0.0 ≡ Cycle = let same : Err p.0 ≡ Err Cycle = sym p.1 ∙ e in let one : p.0 ≡ Cycle = cc in sym p.2 ∙ one in
-    fails c.loop-equations.invariant IsCycle c.loop-equations.equations.items refl (c.in_err-x.ensures.cycle (ap Err is))
-
-pub returns-in_err-x-clause-exact : goal.returns-in_err-x-clause-exact
-returns-in_err-x-clause-exact c =
+pub returns-in_err-solve : goal.returns-in_err-solve
+returns-in_err-solve c =
     let S = value_at c.args.store.now in
     let l = c.args.left.now in
     let r = c.args.right.now in
-    let out = c.from_residual-in_err-x in
+    let out = c.from_residual in
     let p = err_from_is_err_and out.result out.ensures.1 in
     let h : HandedOn (λ s. Unifies S l r s.binds s.reads) (Clashes S l r) (Cycles S l r) out.result =
-    handed_on out.result c.in_err-x.field-0.0 (p.1 ∙ ap Err p.2)
-    (λ is. fails c.loop-equations.invariant IsClash c.loop-equations.equations.items refl (c.in_err-x.ensures.clash (ap Err is)))
-    (λ is. fails c.loop-equations.invariant IsCycle c.loop-equations.equations.items refl (c.in_err-x.ensures.cycle (ap Err is)))
-    c.in_err-x.ensures.only in
-    exactly S l r out.result c.acyclic.ensures h.ok h.clash h.cycle h.only
-
-pub loop-equations-smaller : goal.loop-equations-smaller
-loop-equations-smaller c =
-    let S = value_at c.args.store.now in
-    let old = c.loop-equations.equations.items in
-    let new = c.advance.new.equations.items in
-    let next = goes_on c.loop-equations.invariant old new c.advance.new.reads c.in-Some.x c.in-Some.value c.insert.new.self refl
-    (subst (Advances S (with_bindings c.loop-equations.binds S) old new c.loop-equations.reads c.advance.new.reads) c.in-Some.is c.in_ok-x.ensures.ok) c.in_ok-insert.ensures.ok in
-    let all = scope c.args.store.now c.args.left.now c.args.right.now in
-    let less : length all - finite.len c.insert.new.self < length all - finite.len c.loop-equations.binds =
-    falls_short c.args.store.now c.args.left.now c.args.right.now c.loop-equations.binds c.insert.new.self c.advance.new.reads (reverse new) c.in-Some.x c.in-Some.value next.0 c.in_ok-insert.ensures.ok next.1 in
-    less
-
-pub loop-equations-preserved : goal.loop-equations-preserved
-loop-equations-preserved c =
-    let S = value_at c.args.store.now in
-    let old = c.loop-equations.equations.items in
-    let new = c.advance.new.equations.items in
-    let next = goes_on c.loop-equations.invariant old new c.advance.new.reads c.in-Some.x c.in-Some.value c.insert.new.self refl
-    (subst (Advances S (with_bindings c.loop-equations.binds S) old new c.loop-equations.reads c.advance.new.reads) c.in-Some.is c.in_ok-x.ensures.ok) c.in_ok-insert.ensures.ok in
-    next.0
-
-pub returns-clause-solved : goal.returns-clause-solved
-returns-clause-solved c =
-    let S = value_at c.args.store.now in
-    let old = c.loop-equations.equations.items in
-    let new = c.advance.new.equations.items in
-    ends c.loop-equations.invariant old new c.advance.new.reads refl
-    (subst (Advances S (with_bindings c.loop-equations.binds S) old new c.loop-equations.reads c.advance.new.reads) c.in_default.is c.in_ok-x.ensures.ok)
+    handed_on out.result c.in_err-solve.field-0.0 (p.1 ∙ ap Err p.2) (λ is. c.in_err-solve.ensures.clash (ap Err is)) (λ is. c.in_err-solve.ensures.cycle (ap Err is)) c.in_err-solve.ensures.only in
+    let all = solutions S l r in
+    record {
+      solved = h.ok;
+      clash = h.clash;
+      cycle = h.cycle;
+      only = h.only;
+      exact = exactly S l r out.result c.acyclic.ensures h.ok h.clash h.cycle h.only;
+      kept = no_answer _ out.result c.in_err-solve.field-0.0 (p.1 ∙ ap Err p.2);
+      none = λ e. elim e [ inl q ↦ all.clash (h.clash q) | inr q ↦ all.cycle (h.cycle q) ];
+    }
 
 pub returns-clause-exact : goal.returns-clause-exact
 returns-clause-exact c e k =
-    let S = value_at c.args.store.now in
-    let old = c.loop-equations.equations.items in
-    let new = c.advance.new.equations.items in
-    let u = ends c.loop-equations.invariant old new c.advance.new.reads refl
-    (subst (Advances S (with_bindings c.loop-equations.binds S) old new c.loop-equations.reads c.advance.new.reads) c.in_default.is c.in_ok-x.ensures.ok) in
-    inr (ap Some (one_ending S c.args.left.now c.args.right.now (solved c.loop-equations.binds c.advance.new.reads) e c.acyclic.ensures u k))
-
-pub returns-in_err-x-clause-none : goal.returns-in_err-x-clause-none
-returns-in_err-x-clause-none c e =
-    let r = c.from_residual-in_err-x in
-    let p = err_from_is_err_and r.result r.ensures.1 in
-    let kept = solutions (value_at c.args.store.now) c.args.left.now c.args.right.now in
-    let is : (c.in_err-x.field-0.0 ≡ Clash) ⊎ (c.in_err-x.field-0.0 ≡ Cycle) =
-    elim e [
-      | inl q ↦ inl (let same : Err p.0 ≡ Err Clash = sym p.1 ∙ q in let one : p.0 ≡ Clash = cc in sym p.2 ∙ one)
-      | inr q ↦ inr (let same : Err p.0 ≡ Err Cycle = sym p.1 ∙ q in let one : p.0 ≡ Cycle = cc in sym p.2 ∙ one)
-    ] in
-    elim is [
-      | inl q ↦ kept.clash (fails c.loop-equations.invariant IsClash c.loop-equations.equations.items refl (c.in_err-x.ensures.clash (ap Err q)))
-      | inr q ↦ kept.cycle (fails c.loop-equations.invariant IsCycle c.loop-equations.equations.items refl (c.in_err-x.ensures.cycle (ap Err q)))
-    ]
+    let s = c.solve.new.solved in
+    inr (ap Some (one_ending (value_at c.args.store.now) c.args.left.now c.args.right.now (solved s.binds s.reads) e c.acyclic.ensures c.in_ok-solve.ensures.solved k))
 
 pub returns-clause-kept : goal.returns-clause-kept
 returns-clause-kept c =
-    let S = value_at c.args.store.now in
-    let old = c.loop-equations.equations.items in
-    let new = c.advance.new.equations.items in
-    let u = ends c.loop-equations.invariant old new c.advance.new.reads refl
-    (subst (Advances S (with_bindings c.loop-equations.binds S) old new c.loop-equations.reads c.advance.new.reads) c.in_default.is c.in_ok-x.ensures.ok) in
-    (solutions S c.args.left.now c.args.right.now).solved c.loop-equations.binds c.advance.new.reads u
+    let s = c.solve.new.solved in
+    (solutions (value_at c.args.store.now) c.args.left.now c.args.right.now).solved s.binds s.reads c.in_ok-solve.ensures.solved

@@ -1,0 +1,12 @@
+use Rattle.std.proofs.Common.{ℤ}
+use Rattle.std.specs.Prelude.{◌↔◌, reverse}
+use Rattle.ghc_match.specs.Ends.{EndsAt}
+use Rattle.ghc_match.specs.Value.{Number}
+use Rattle.ghc_match.specs.Tasks.{Makes, steps}
+use Rattle.ghc_match.proofs.number.integer_of.Given as goal
+
+abbrev pub invariant-loop-task : goal.invariant-loop-task
+invariant-loop-task l = (k : ℤ) → Number (EndsAt l.scope l.store) l.expression k ↔ Makes (EndsAt l.scope l.store) (reverse l.tasks.items) (reverse l.values.items) k
+
+abbrev pub decreases-loop-task : goal.decreases-loop-task
+decreases-loop-task l = steps (reverse l.tasks.items)

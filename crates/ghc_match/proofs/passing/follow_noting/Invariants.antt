@@ -1,0 +1,20 @@
+use Rattle.std.proofs.Common.{◌+◌, ◌⊎◌}
+use Rattle.std.specs.Prelude.{IsTrue, ◌↔◌}
+use Rattle.std.specs.FinMap as finite
+use Rattle.std.specs.FinSet as set
+use Rattle.ghc_term.specs.Store.{value_at}
+use Rattle.ghc_term.specs.Tree.{Tree}
+use Rattle.ghc_term.specs.Bindings.{Passes}
+use Rattle.ghc_term.specs.declared.var_name.VarName.{VarName}
+use Rattle.ghc_term.proofs.Total.{walk}
+use Rattle.ghc_match.specs.Ends.{ChainEnds}
+use Rattle.ghc_match.proofs.passing.follow_noting.Given as goal
+
+abbrev pub invariant-loop-x : goal.invariant-loop-x
+invariant-loop-x l = record {
+  ends : (e : Tree) → ChainEnds (value_at l.store) l.place e → ChainEnds (value_at l.store) l.fn.term e;
+  looks : (x : VarName) → (IsTrue (set.contains l.looked x) ⊎ Passes (value_at l.store) l.place x) ↔ (IsTrue (set.contains l.initial.looked x) ⊎ Passes (value_at l.store) l.fn.term x);
+}
+
+abbrev pub decreases-loop-x : goal.decreases-loop-x
+decreases-loop-x l = walk (finite.len l.store + 1) l.store l.place

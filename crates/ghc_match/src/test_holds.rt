@@ -1,0 +1,74 @@
+// Whether a test of a guard holds.
+ghost use Rattle.std.specs.Prelude.{◌↔◌, IfOk, IsTrue};
+ghost use Rattle.ghc_term.specs.Store.{value_at};
+ghost use Rattle.ghc_match.specs.Match.{HoldsBy};
+ghost use Rattle.ghc_match.specs.Ends.{StandsAndEnds};
+ghost use Rattle.ghc_match.specs.Guarding.{TellsValue};
+
+use crate::alike::{is_atom, is_integer, is_list};
+use crate::arithmetic::compares;
+use crate::number::integer_of;
+use crate::scope::{End, Scope, end_of};
+use ghc_flat::Test;
+use ghc_term::{Bindings, Comparison, Expr, Store, Term, VarName};
+use std::alloc::{AllocError, Global};
+
+// The value in which the variable ends, if it ends in one.
+fn value_of<'a>(store: &'a Store, stands: &'a Bindings, x: VarName) -> Option<&'a Term>
+    ensures { TellsValue (StandsAndEnds stands.now (value_at store.now) x) result }
+{
+    match end_of(store, Scope::Head(stands), x) {
+        End::Value(value) => Some(value),
+        _ => None,
+    }
+}
+
+// Whether both expressions are integers between which the comparison holds.
+fn holds_between(
+    alloc: Global,
+    store: &Store,
+    stands: &Bindings,
+    comparison: Comparison,
+    left: &Expr,
+    right: &Expr,
+) -> Result<bool, AllocError>
+    ensures { IfOk result (λ yes. IsTrue yes ↔ HoldsBy (StandsAndEnds stands.now (value_at store.now)) (Test.Compare comparison left.now right.now)) }
+{
+    let scope = Scope::Head(stands);
+    let Some(x) = integer_of(alloc, store, scope, left)? else {
+        return Ok(false);
+    };
+    let Some(y) = integer_of(alloc, store, scope, right)? else {
+        return Ok(false);
+    };
+    Ok(compares(comparison, x, y))
+}
+
+// Whether the test holds of what its variables end in: it does not where one of them ends in no value.
+pub fn holds(
+    alloc: Global,
+    store: &Store,
+    stands: &Bindings,
+    test: &Test,
+) -> Result<bool, AllocError>
+    ensures { IfOk result (λ yes. IsTrue yes ↔ HoldsBy (StandsAndEnds stands.now (value_at store.now)) test.now) }
+{
+    match test {
+        Test::Wait(x) => Ok(value_of(store, stands, *x).is_some()),
+        Test::IsInteger(x) => match value_of(store, stands, *x) {
+            Some(value) => Ok(is_integer(value)),
+            None => Ok(false),
+        },
+        Test::IsAtom(x) => match value_of(store, stands, *x) {
+            Some(value) => Ok(is_atom(value)),
+            None => Ok(false),
+        },
+        Test::IsList(x) => match value_of(store, stands, *x) {
+            Some(value) => Ok(is_list(value)),
+            None => Ok(false),
+        },
+        Test::Compare(comparison, left, right) => {
+            holds_between(alloc, store, stands, *comparison, left, right)
+        }
+    }
+}

@@ -1,8 +1,0 @@
-use Rattle.std.proofs.Common.{◌≡◌, take}
-use Rattle.std.specs.FinSet as set
-use Rattle.ghc_term.specs.Store.{value_at}
-use Rattle.ghc_unify.specs.Unify.{met}
-use Rattle.ghc_unify.proofs.chains.note.Given as goal
-
-abbrev pub invariant-loop-x : goal.invariant-loop-x
-invariant-loop-x l = l.reads ≡ set.union l.initial.reads (set.from_list (met (value_at l.store) (take l.x-index l.passed)))

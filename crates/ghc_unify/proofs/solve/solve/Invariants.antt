@@ -1,0 +1,13 @@
+use Rattle.std.proofs.Common.{◌-◌, length}
+use Rattle.std.specs.Prelude.{reverse}
+use Rattle.std.specs.FinMap as finite
+use Rattle.ghc_term.specs.Store.{value_at}
+use Rattle.ghc_unify.proofs.Runs.{Run}
+use Rattle.ghc_unify.proofs.Scope.{scope}
+use Rattle.ghc_unify.proofs.solve.solve.Given as goal
+
+abbrev pub invariant-loop-equations : goal.invariant-loop-equations
+invariant-loop-equations l = Run (value_at l.store) l.left l.right l.solved.binds l.solved.reads (reverse l.equations.items)
+
+abbrev pub decreases-loop-equations : goal.decreases-loop-equations
+decreases-loop-equations l = length (scope l.store l.left l.right) - finite.len l.solved.binds
