@@ -1,5 +1,5 @@
 // The session: lines are read, and their replies written.
-ghost use Rattle.std.specs.Prelude.{◌≡◌, ◌+◌, ℕ, List, IfErr, OnOk, MatchResult};
+ghost use Rattle.std.specs.Prelude.{◌≡◌, ◌+◌, ◌-◌, ℕ, List, IfErr, OnOk, MatchResult};
 ghost use Rattle.std.specs.Io.KnownBytes.{Keeps};
 ghost use Rattle.ghc_console.specs.Device.{Counts};
 ghost use Rattle.ghc_console.specs.Reading.{LineSays};
@@ -25,6 +25,8 @@ fn serve<D: Device>(
     ensures names { core.new.names ≡ core.old.names }
     ensures unread { Keeps (D.unread device.old) (D.unread device.new) }
     ensures count { Counts (D.failures device.old) (D.failures device.new) result }
+    ensures earlier { D.earlier device.new ≡ D.earlier device.old }
+    ensures latest { D.latest device.new ≡ D.latest device.old }
 {
     let (reply, ended) = answer(alloc, core, &line);
     match write_all(device, bytes_of(&reply)) {
@@ -41,10 +43,13 @@ pub fn session<R: Wait, D: Device>(
     core: Core,
     device: &mut D,
 ) -> (Core, Result<(), Fault>)
-    // What is written is the replies to the lines, or a beginning of them where the device failed.
+    // What is written is the replies to the lines, or a beginning of them where the device failed; and no read is made
+    // where a line that ends the session is there.
     ensures text { MatchResult result.1
-        (λ _. Tells (Session core.names) core.world (D.unread device.old) (D.written device.old) (D.written device.new) result.0.world)
-        (λ _. Tells (Began core.names) core.world (D.unread device.old) (D.written device.old) (D.written device.new) result.0.world) }
+        (λ _. Tells (Session core.names) core.world (D.unread device.old) (D.written device.old) (D.written device.new)
+        (D.earlier device.new - (D.earlier device.old + D.latest device.old)) result.0.world)
+        (λ _. Tells (Began core.names) core.world (D.unread device.old) (D.written device.old) (D.written device.new)
+        (D.earlier device.new - (D.earlier device.old + D.latest device.old)) result.0.world) }
     ensures names { result.0.names ≡ core.names }
 
     // It fails only where the device did.
