@@ -1,9 +1,9 @@
 -- How far the reading of a line has come.
-use Rattle.std.proofs.Common.{◌≡◌, ◌≢◌, ℕ, ◌+◌, All, Option, None, Some, List, [], ◌∷◌, ◌++◌, length, IfSome, inl, inr, refl, sym, ap, ◌∙◌, subst, append_assoc, append-nil, length-append, arith, drop_of_length-le, Bool, false}
+use Rattle.std.proofs.Common.{◌≡◌, ◌≢◌, ℕ, ◌+◌, All, Option, None, Some, List, [], ◌∷◌, ◌++◌, length, IfSome, inl, inr, refl, sym, ap, ◌∙◌, subst, append_assoc, length-append, arith, drop_of_length-le, Bool, false}
 use Rattle.std.proofs.lemmas.List.Elements.{All-append}
 use Rattle.std.specs.Io.KnownBytes.{Consumes, IsAtEnd, Keeps, prepend_known}
-use Rattle.std.proofs.KnownBytes.{Consumes-kept, Consumes-nil, Consumes-trans, Keeps-refl, Keeps-trans, prepend_known-nil}
-use Rattle.ghc_console.specs.Reading.{AsksAtNeed, AsksForMore, CountsGiven, HasGathered, TakesFront}
+use Rattle.std.proofs.KnownBytes.{Consumes-kept, Consumes-nil, Keeps-refl, Keeps-trans, prepend_known-nil}
+use Rattle.ghc_console.specs.Reading.{AsksAtNeed, CountsGiven, HasGathered, TakesFront}
 use Rattle.ghc_console.specs.declared.gather.Gathered.{Gathered}
 
 -- these bytes of the line were taken, no call has failed, and each read was needed: `first` and `given` are the bytes given at the start and now, `before` and `asked` those before the last read
