@@ -36,6 +36,7 @@ What the program is given:
     to PATH        no value: standard output goes to PATH, as /dev/full
     errors to PATH no value: the same of standard error
     in turns       no value: each line of a session is given only when what stands above it was written
+    left open      no value, beside `in turns`: the input stays open behind the last line, and the program ends by itself
 
 What it has to do:
 
@@ -72,7 +73,7 @@ TURN_SECONDS = 10
 PROMPT = b"> "
 PAGES = ("LANGUAGE.md", "FORMATS.md")
 
-SINGLE = {"program", "file", "query", "options", "words", "input", "in turns", "session", "output", "errors", "status"}
+SINGLE = {"program", "file", "query", "options", "words", "input", "in turns", "left open", "session", "output", "errors", "status"}
 LISTED = {"output contains", "errors contain"}
 NAMED = {"file ", "to ", "errors to "}
 
@@ -296,6 +297,8 @@ def run_in_turns(row, folder):
             output += read_some(program.stdout, len(written))
             if not row["output"].startswith(output):
                 break
+        if "left open" in row:
+            program.wait(timeout=SECONDS)
         rest, errors = program.communicate(timeout=SECONDS)
     return output + rest, errors, program.returncode
 

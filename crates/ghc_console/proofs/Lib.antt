@@ -3,6 +3,7 @@ pub mod Rows
 pub mod NextLine
 pub mod WordLemmas
 pub mod Going
+mod Fired
 pub mod Told
 pub mod RecordLines
 pub mod Bars

@@ -3,7 +3,8 @@ use Rattle.std.proofs.Common.{◌≡◌, ◌≢◌, ℕ, ◌+◌, ◌-◌, ◌<�
 use Rattle.std.proofs.lemmas.List.{drop-drop, drop-take, length-take}
 use Rattle.std.proofs.lemmas.List.Elements.{All-head, All-tail}
 use Rattle.std.specs.Io.KnownBytes.{Consumes, IsAtEnd}
-use Rattle.ghc_console.specs.Lines.{onto, rows_of, line_of, lines_of}
+use Rattle.std.proofs.lemmas.List.Sums.{sum_by-append}
+use Rattle.ghc_console.specs.Lines.{onto, rows_of, line_feeds, line_of, lines_of}
 use Rattle.ghc_console.specs.Reading.{HasGathered, IsMadeOf, IsNextLine, TakesFront, TakesLine}
 use Rattle.ghc_console.specs.declared.gather.Gathered.{Gathered}
 use Rattle.ghc_console.specs.declared.reading.Line.{Line}
@@ -34,12 +35,39 @@ rows-last b (c ∷ seen) h =
     ap (λ t. cond t (([], true) ∷ rows_of (c ∷ seen)) (onto b (rows_of (c ∷ seen)))) (not_feed b (All-head (λ x. x ≢ 10) b (c ∷ seen) h))
     ∙ ap (onto b) (rows-last c seen (All-tail (λ x. x ≢ 10) b (c ∷ seen) h))
 
+-- the line feeds of two parts
+pub feeds_append : (xs ys : List ℕ) → line_feeds (xs ++ ys) ≡ line_feeds xs + line_feeds ys
+feeds_append xs ys = sum_by-append _ xs ys
+
+-- no line feed
+pub feeds_plain : (seen : List ℕ) → All (λ b. b ≢ 10) seen → line_feeds seen ≡ 0
+feeds_plain [] h = refl
+feeds_plain (b ∷ seen) h =
+    let first : line_feeds (b ∷ []) ≡ 0 = ap (λ t. 0 + cond t 1 0) (not_feed b (All-head (λ x. x ≢ 10) b seen h)) in
+    let rest = feeds_plain seen (All-tail (λ x. x ≢ 10) b seen h) in
+    let both : line_feeds (b ∷ seen) ≡ line_feeds (b ∷ []) + line_feeds seen = feeds_append (b ∷ []) seen in
+    omega (arith, first, rest, both)
+
+one_feed : (seen : List ℕ) → All (λ b. b ≢ 10) seen → line_feeds (seen ++ 10 ∷ []) ≤ 1
+one_feed seen h =
+    let none = feeds_plain seen h in
+    let both = feeds_append seen (10 ∷ []) in
+    let last : line_feeds (10 ∷ []) ≡ 1 = refl in
+    omega (arith, none, both, last)
+
 -- a whole line was consumed
 takes : (old new : Option (List ℕ)) (seen : List ℕ) (P : List ℕ → Type 0) → All (λ b. b ≢ 10) seen → Consumes old new (seen ++ 10 ∷ []) → P (line_of (seen, true)) → TakesLine old new P
 takes None new seen P h c p = tt
 takes (Some xs) None seen P h c p = absurd c
 takes (Some xs) (Some ys) seen P h c p =
-    (line_of (seen, true), ap lines_of (c ∙ append_one seen ys) ∙ ap (map line_of) (rows-ended seen ys h), p)
+    record {
+      taken = seen ++ 10 ∷ [];
+      whole = c;
+      one = one_feed seen h;
+      bytes = line_of (seen, true);
+      lines = ap lines_of (c ∙ append_one seen ys) ∙ ap (map line_of) (rows-ended seen ys h);
+      says = p;
+    }
   where
     append_one : (s r : List ℕ) → (s ++ 10 ∷ []) ++ r ≡ s ++ 10 ∷ r
     append_one [] r = refl
@@ -60,7 +88,14 @@ takes_last None new seen P h some c e p = tt
 takes_last (Some xs) None seen P h some c e p = absurd c
 takes_last (Some xs) (Some ys) [] P h some c e p = absurd (omega arith)
 takes_last (Some xs) (Some ys) (b ∷ seen) P h some c e p =
-    (b ∷ seen, ap lines_of (c ∙ ap (λ l. (b ∷ seen) ++ l) e ∙ append-nil (b ∷ seen)) ∙ ap (map line_of) (rows-last b seen h) ∙ ap (λ l. (b ∷ seen) ∷ lines_of l) (sym e), p)
+    let none = feeds_plain (b ∷ seen) h in record {
+      taken = b ∷ seen;
+      whole = c;
+      one = omega (arith, none);
+      bytes = b ∷ seen;
+      lines = ap lines_of (c ∙ ap (λ l. (b ∷ seen) ++ l) e ∙ append-nil (b ∷ seen)) ∙ ap (map line_of) (rows-last b seen h) ∙ ap (λ l. (b ∷ seen) ∷ lines_of l) (sym e);
+      says = p;
+    }
 
 at_end : (old new : Option (List ℕ)) (seen : List ℕ) → seen ≡ [] → Consumes old new seen → IsAtEnd new → IsAtEnd old
 at_end None new seen none c e = tt
@@ -68,7 +103,7 @@ at_end (Some xs) None seen none c e = absurd c
 at_end (Some xs) (Some ys) seen none c e = c ∙ ap (λ l. l ++ ys) none ∙ e
 
 pub last : (l : Option Line) (old new : Option (List ℕ)) (seen : List ℕ) → All (λ b. b ≢ 10) seen → Consumes old new seen → IsAtEnd new → IsMadeOf l (seen, false) → IsNextLine l old new
-last None old new seen h c e m = at_end old new seen m.0 c e
+last None old new seen h c e m = (at_end old new seen m.0 c e, e)
 last (Some (line.Whole v)) old new seen h c e m = takes_last old new seen _ h (some m.2) c e (m.0, m.1)
   where
     some : (false ≡ true) ⊎ (0 < length seen) → 0 < length seen

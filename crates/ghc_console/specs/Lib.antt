@@ -8,3 +8,4 @@ pub mod Asked
 pub mod Finding
 pub mod Replies
 pub mod Session
+pub mod Firing

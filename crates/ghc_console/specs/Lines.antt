@@ -1,5 +1,5 @@
 -- The lines of an input.
-use Rattle.std.specs.Prelude.{ℕ, ◌==◌, Bool, true, false, if◌then◌else◌, List, [], ◌∷◌, map}
+use Rattle.std.specs.Prelude.{ℕ, ◌==◌, Bool, true, false, if◌then◌else◌, List, [], ◌∷◌, map, count_by}
 use Rattle.std.specs.Io.BufRead.{strip_last}
 
 -- A row is the bytes up to a line feed, or up to the end of the input, and whether a line feed ends it.
@@ -23,3 +23,7 @@ line_of row = if row.1 then strip_last 13 row.0 else row.0
 -- The lines of an input.
 abbrev pub lines_of : List ℕ → List (List ℕ)
 lines_of bytes = map line_of (rows_of bytes)
+
+-- how many line feeds the bytes have
+abbrev pub line_feeds : List ℕ → ℕ
+line_feeds bytes = count_by (λ byte. byte == 10) bytes

@@ -1,30 +1,52 @@
 -- Whole sessions.
-use Rattle.std.specs.Prelude.{◌≡◌, ℕ, ◌⊎◌, Bool, true, false, List, [], ◌∷◌, ◌++◌, Option, Result, IfSome, MatchResult, take}
+use Rattle.std.specs.Prelude.{◌≡◌, ◌≤◌, ◌+◌, ℕ, Bool, true, false, List, [], ◌∷◌, ◌++◌, Option, Result, IfSome, MatchResult, take}
 use Rattle.std.specs.Io.KnownBytes.{Appends}
 use Rattle.ghc_core.specs.World.{World}
 use Rattle.ghc_console.specs.Asked.{Names}
-use Rattle.ghc_console.specs.Lines.{lines_of}
+use Rattle.ghc_console.specs.Lines.{line_feeds, lines_of}
 use Rattle.ghc_console.specs.Replies.{IsReply}
 
--- Session names w lines out v: these are the replies to the lines, in order, from the world w on, and they leave the world v. A line may end the session.
-abbrev pub Session : Names → World → List (List ℕ) → List ℕ → World → Type 0
-Session names w [] out v = (out ≡ []) × (v ≡ w)
-Session names w (line ∷ lines) out v = (u : World) × (text : List ℕ) × (
-    (IsReply w names line text u true × (out ≡ text) × (v ≡ u))
-    ⊎ (IsReply w names line text u false × ((rest : List ℕ) × (out ≡ text ++ rest) × Session names u lines rest v)))
+-- Session names count w lines out v: out are the replies to the lines, in order, from the world w on, and they leave the world v. After `count` lines there is none, or one that ends the session.
+pub data Session (names : Names) : ℕ → World → List (List ℕ) → List ℕ → World → Type 0 where
+  at_end : {w : World} → Session names 0 w [] [] w
+  ends :
+      {w v : World} {line text : List ℕ} {lines : List (List ℕ)}
+      → IsReply w names line text v true
+      → Session names 0 w (line ∷ lines) text v
+  goes_on :
+      {count : ℕ} {w u v : World} {line text rest : List ℕ} {lines : List (List ℕ)}
+      → IsReply w names line text u false
+      → Session names count u lines rest v
+      → Session names (count + 1) w (line ∷ lines) (text ++ rest) v
 
--- Began names w lines out v: a session that was broken off. The lines of a front were executed, and a beginning of their replies was written.
-abbrev pub Began : Names → World → List (List ℕ) → List ℕ → World → Type 0
-Began names w [] out v = (out ≡ []) × (v ≡ w)
-Began names w (line ∷ lines) out v = ((out ≡ []) × (v ≡ w)) ⊎ ((u : World) × (text : List ℕ) × (
-    ((ended : Bool) × IsReply w names line text u ended × ((n : ℕ) × (out ≡ take n text) × (v ≡ u)))
-    ⊎ (IsReply w names line text u false × ((rest : List ℕ) × (out ≡ text ++ rest) × Began names u lines rest v))))
+-- Began names count w lines out v: the same of a session that was broken off. After `count` lines a read failed, or a write of a reply, of which a beginning was written.
+pub data Began (names : Names) : ℕ → World → List (List ℕ) → List ℕ → World → Type 0 where
+  nothing_yet : {w : World} {lines : List (List ℕ)} → Began names 0 w lines [] w
+  broken :
+      {w v : World} {line text : List ℕ} {lines : List (List ℕ)} {ended : Bool} (n : ℕ)
+      → IsReply w names line text v ended
+      → Began names 0 w (line ∷ lines) (take n text) v
+  went_on :
+      {count : ℕ} {w u v : World} {line text rest : List ℕ} {lines : List (List ℕ)}
+      → IsReply w names line text u false
+      → Began names count u lines rest v
+      → Began names (count + 1) w (line ∷ lines) (text ++ rest) v
 
 -- One line was served: its reply was written, or a beginning of it where a call failed.
-abbrev pub Served : {E : Type 0} → Names → World → List ℕ → World → Option (List ℕ) → Option (List ℕ) → Result Bool E → Type 0
-Served names w line v old new result = (text : List ℕ) × (ended : Bool) × IsReply w names line text v ended
-    × MatchResult result (λ b. (b ≡ ended) × Appends old new text) (λ _. (n : ℕ) × Appends old new (take n text))
+pub record Served {E : Type 0} (names : Names) (w : World) (line : List ℕ) (v : World) (old new : Option (List ℕ)) (result : Result Bool E) : Type 0 where
+  pub text : List ℕ
+  pub ended : Bool
+  pub reply : IsReply w names line text v ended
+  pub written : MatchResult result (λ b. (b ≡ ended) × Appends old new text) (λ _. (n : ℕ) × Appends old new (take n text))
 
--- Where the bytes are known, what was written is that of such a run over the lines of the input.
-abbrev pub Tells : (World → List (List ℕ) → List ℕ → World → Type 0) → World → Option (List ℕ) → Option (List ℕ) → Option (List ℕ) → World → Type 0
-Tells Run w unread written now v = IfSome unread (λ input. (out : List ℕ) × Appends written now out × Run w (lines_of input) out v)
+-- What was written is that of such a run over the lines of the input; and the bytes that were there when the last read was made, `before` of them, had no more whole lines than those after which the session went on.
+pub record Writes (Run : ℕ → World → List (List ℕ) → List ℕ → World → Type 0) (w : World) (input : List ℕ) (written now : Option (List ℕ)) (before : ℕ) (v : World) : Type 0 where
+  pub count : ℕ
+  pub out : List ℕ
+  pub appended : Appends written now out
+  pub run : Run count w (lines_of input) out v
+  pub asked : line_feeds (take before input) ≤ count
+
+-- The same, where the bytes to come are known.
+abbrev pub Tells : (ℕ → World → List (List ℕ) → List ℕ → World → Type 0) → World → Option (List ℕ) → Option (List ℕ) → Option (List ℕ) → ℕ → World → Type 0
+Tells Run w unread written now before v = IfSome unread (λ input. Writes Run w input written now before v)

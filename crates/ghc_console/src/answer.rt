@@ -1,5 +1,7 @@
 // The replies to lines.
 ghost use Rattle.std.specs.Prelude.{◌≡◌, ◌≤◌, List, ℕ, length, IfOk, OnErr, option_map};
+ghost use Rattle.ghc_console.specs.Commands.{command_of};
+ghost use Rattle.ghc_console.specs.Firing.{Fires};
 ghost use Rattle.ghc_console.specs.Reading.{LineSays, line_limit};
 ghost use Rattle.ghc_console.specs.Replies.{IsReply, Replies, quits, reply_bytes};
 
@@ -16,6 +18,7 @@ fn execute(alloc: Global, core: &mut Core, command: &Command) -> Result<Vec<u8>,
     ensures reply { IfOk result (λ t. Replies core.old.world core.old.names command.now t.items core.new.world) }
     ensures err { OnErr result (core.new.world ≡ core.old.world) }
     ensures names { core.new.names ≡ core.old.names }
+    ensures fires { Fires command.now core.old.meter core.new.meter }
 {
     match command {
         Command::Nothing | Command::Quit => Ok(Vec::new(alloc)),
@@ -42,6 +45,7 @@ fn execute_line(alloc: Global, core: &mut Core, line: &[u8]) -> Result<(Vec<u8>,
     ensures ok { length line.now ≤ line_limit → IfOk result (λ r. IsReply core.old.world core.old.names line.now r.0.items core.new.world r.1) }
     ensures err { OnErr result (core.new.world ≡ core.old.world) }
     ensures names { core.new.names ≡ core.old.names }
+    ensures fires { Fires (command_of line.now) core.old.meter core.new.meter }
 {
     let command = match parse(alloc, line) {
         Ok(command) => command,
@@ -59,6 +63,7 @@ pub fn answer(alloc: Global, core: &mut Core, line: &Line) -> (Option<Vec<u8>>, 
     ensures reply { (bytes : List ℕ) → LineSays line.now bytes
         → IsReply core.old.world core.old.names bytes (reply_bytes (option_map (λ t. t.items) result.0)) core.new.world result.1 }
     ensures names { core.new.names ≡ core.old.names }
+    ensures fires { (bytes : List ℕ) → LineSays line.now bytes → Fires (command_of bytes) core.old.meter core.new.meter }
 {
     match line {
         Line::Whole(bytes) => match execute_line(alloc, core, bytes.as_slice()) {

@@ -1,8 +1,8 @@
 // What a session reads from and writes to.
-ghost use Rattle.std.specs.Prelude.{◌≡◌, ℕ, ◌<◌, List, [], Option, length, IfOk, OnOk};
+ghost use Rattle.std.specs.Prelude.{◌≡◌, ℕ, ◌+◌, ◌<◌, List, [], Option, length, IfOk, OnOk};
 ghost use Rattle.std.specs.Io.{ReadsAtMost, WritesAtMost};
 ghost use Rattle.std.specs.Io.KnownBytes.{Appends, Keeps, ReadConsumes, WriteAppends};
-ghost use Rattle.ghc_console.specs.Device.{Counts, WritesFront};
+ghost use Rattle.ghc_console.specs.Device.{Counts, EndsWith, Gives, WritesFront};
 
 /// A call of a device failed.
 #[derive(Clone, Copy, Debug, PartialEq, Eq)]
@@ -16,11 +16,17 @@ pub trait Device {
     /// The bytes that were written, where they are known.
     ghost written: { Self → Option (List ℕ) };
 
-    /// Those of the bytes written that it still holds back.
+    /// Those of the bytes written that it still holds back, which are the last of them.
     ghost held: { Self → List ℕ };
 
     /// How many calls have failed.
     ghost failures: { Self → ℕ };
+
+    /// How many bytes the last read gave.
+    ghost latest: { Self → ℕ };
+
+    /// How many bytes the reads before it gave.
+    ghost earlier: { Self → ℕ };
 
     /// Hands on what it holds back, and gives some of the bytes that are left, and none only at their end. A failed call takes
     /// no byte.
@@ -28,16 +34,22 @@ pub trait Device {
         ensures bound { ReadsAtMost result buf.new }
         ensures bytes { ReadConsumes (unread self.old) (unread self.new) result buf.new }
         ensures held { OnOk result (held self.new ≡ []) }
+        ensures tail { EndsWith (written self.new) (held self.new) }
         ensures written { Keeps (written self.old) (written self.new) }
-        ensures count { Counts (failures self.old) (failures self.new) result };
+        ensures count { Counts (failures self.old) (failures self.new) result }
+        ensures earlier { earlier self.new ≡ earlier self.old + latest self.old }
+        ensures latest { Gives (latest self.new) result };
 
     /// Takes a front of the bytes, a byte or more where there is one. A failed call takes none.
     fn write(&mut self, bytes: &[u8]) -> Result<usize, Broken>
         ensures bound { WritesAtMost result bytes.now }
         ensures some { 0 < length bytes.now → IfOk result (λ n. 0 < n) }
         ensures bytes { WriteAppends (written self.old) (written self.new) result bytes.now }
+        ensures tail { EndsWith (written self.new) (held self.new) }
         ensures unread { Keeps (unread self.old) (unread self.new) }
-        ensures count { Counts (failures self.old) (failures self.new) result };
+        ensures count { Counts (failures self.old) (failures self.new) result }
+        ensures earlier { earlier self.new ≡ earlier self.old }
+        ensures latest { latest self.new ≡ latest self.old };
 }
 
 /// Writes all the bytes, or a front of them where a call fails, which is the last call. At most one call for each byte.
@@ -45,6 +57,8 @@ pub fn write_all<D: Device>(device: &mut D, bytes: &[u8]) -> Result<(), Broken>
     ensures bytes { WritesFront (D.written device.old) (D.written device.new) result bytes.now }
     ensures unread { Keeps (D.unread device.old) (D.unread device.new) }
     ensures count { Counts (D.failures device.old) (D.failures device.new) result }
+    ensures earlier { D.earlier device.new ≡ D.earlier device.old }
+    ensures latest { D.latest device.new ≡ D.latest device.old }
 {
     let mut rest = bytes;
     while !rest.is_empty() {

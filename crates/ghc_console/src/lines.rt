@@ -3,7 +3,7 @@ ghost use Rattle.std.specs.Prelude.{◌≡◌, ◌<◌, [], length, IfOk, OnOk, 
 ghost use Rattle.std.specs.Io.{ReadsAtMost, WritesAtMost};
 ghost use Rattle.std.specs.Io.Buffered.{writer_buffer, writer_contents};
 ghost use Rattle.std.specs.Io.KnownBytes.{Keeps, ReadConsumes, WriteAppends};
-ghost use Rattle.ghc_console.specs.Device.{Counts};
+ghost use Rattle.ghc_console.specs.Device.{Counts, EndsWith};
 
 use crate::device::{Broken, Device};
 use crate::tally::Tally;
@@ -16,7 +16,7 @@ use std::sync::ledger::{Blank, Ledger};
 pub struct Lines<R: Read, W: Write + Drop, L: Ledger> {
     reader: R,
     writer: BufWriter<W>,
-    failed: Tally<L>,
+    calls: Tally<L>,
 }
 
 impl<R: Read, W: Write + Drop, L: Ledger> Model for Lines<R, W, L> {
@@ -29,7 +29,9 @@ impl<R: Read, W: Write + Drop, L: Ledger> Model for Lines<R, W, L> {
       unread = R.remaining d.reader;
       written = writer_contents W.contents d.writer;
       held = writer_buffer d.writer;
-      failures = d.failed;
+      failures = d.calls.failures;
+      earlier = d.calls.earlier;
+      latest = d.calls.latest;
     } };
 }
 
@@ -87,28 +89,29 @@ fn hand_on<W: Write + Drop>(writer: &mut BufWriter<W>) -> Result<(), Broken>
 }
 
 impl<R: Read, W: Write + Drop, L: Ledger> Lines<R, W, L> {
-    /// A device over these two, with no failure yet.
+    /// A device over these two, with no call yet.
     pub fn new(reader: R, writer: BufWriter<W>, blank: Blank) -> Lines<R, W, L>
-        requires blank { (blank.name ≡ L.name) × (blank.parts ≡ L.parts) × (0 < L.parts) }
-        ensures { result ≡ record { unread = R.remaining reader; written = writer_contents W.contents writer; held = writer_buffer writer; failures = 0 } }
+        requires blank { (blank.name ≡ L.name) × (blank.parts ≡ L.parts) × (1 < L.parts) }
+        ensures { result ≡ record { unread = R.remaining reader; written = writer_contents W.contents writer; held = writer_buffer writer; failures = 0; earlier = 0; latest = 0 } }
     {
         Lines {
             reader,
             writer,
-            failed: Tally::new(blank),
+            calls: Tally::new(blank),
         }
     }
 
     /// Hands on what the buffer holds. A failure is counted.
     pub fn flush(&mut self) -> Result<(), Broken>
         ensures held { OnOk result (self.new.held ≡ []) }
+        ensures tail { EndsWith self.new.written self.new.held }
         ensures unread { self.new.unread ≡ self.old.unread }
         ensures written { Keeps self.old.written self.new.written }
         ensures count { Counts self.old.failures self.new.failures result }
     {
         match hand_on(&mut self.writer) {
             Ok(()) => Ok(()),
-            Err(Broken) => Err(self.failed.fail()),
+            Err(Broken) => Err(self.calls.fail()),
         }
     }
 }
@@ -122,20 +125,28 @@ impl<R: Read, W: Write + Drop, L: Ledger> Device for Lines<R, W, L> {
 
     ghost failures = { λ d. d.failures };
 
+    ghost latest = { λ d. d.latest };
+
+    ghost earlier = { λ d. d.earlier };
+
     fn read(&mut self, buf: &mut [u8]) -> Result<usize, Broken> {
+        self.calls.ask();
         if hand_on(&mut self.writer).is_err() {
-            return Err(self.failed.fail());
+            return Err(self.calls.fail());
         }
         match read_some(&mut self.reader, buf) {
-            Ok(n) => Ok(n),
-            Err(Broken) => Err(self.failed.fail()),
+            Ok(n) => {
+                self.calls.gave(n);
+                Ok(n)
+            }
+            Err(Broken) => Err(self.calls.fail()),
         }
     }
 
     fn write(&mut self, bytes: &[u8]) -> Result<usize, Broken> {
         match write_some(&mut self.writer, bytes) {
             Ok(n) => Ok(n),
-            Err(Broken) => Err(self.failed.fail()),
+            Err(Broken) => Err(self.calls.fail()),
         }
     }
 }

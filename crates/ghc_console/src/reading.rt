@@ -2,7 +2,7 @@
 ghost use Rattle.std.specs.Prelude.{◌≡◌, ◌≢◌, ◌∷◌, ◌++◌, ◌+◌, ◌<◌, All, IfSome, IfNone, List, ℕ, [], length, ◌==◌, false, take, drop, IfOk, OnOk, Option};
 ghost use Rattle.std.specs.Io.KnownBytes.{IsAtEnd, Keeps, prepend_known};
 ghost use Rattle.ghc_console.specs.Device.{Counts};
-ghost use Rattle.ghc_console.specs.Reading.{HasGathered, IsMadeOf, IsNextLine, TakesFront};
+ghost use Rattle.ghc_console.specs.Reading.{AsksAtNeed, CountsGiven, HasGathered, IsMadeOf, IsNextLine, TakesFront};
 
 use crate::device::{Broken, Device};
 use crate::gather::{Gathered, LINE_LIMIT, State};
@@ -97,6 +97,8 @@ impl Ahead {
         ensures end { IfOk result (λ more. more ≡ false → (self.new ≡ []) × IsAtEnd (D.unread device.new)) }
         ensures written { Keeps (D.written device.old) (D.written device.new) }
         ensures count { Counts (D.failures device.old) (D.failures device.new) result }
+        ensures earlier { D.earlier device.new ≡ D.earlier device.old + D.latest device.old }
+        ensures latest { OnOk result (D.latest device.new ≡ length self.new) }
     {
         match device.read(&mut self.buf) {
             Ok(n) => {
@@ -139,6 +141,12 @@ impl Ahead {
             (prepend_known self.old (D.unread device.old)) (prepend_known self.new (D.unread device.new))) }
         ensures written { Keeps (D.written device.old) (D.written device.new) }
         ensures count { Counts (D.failures device.old) (D.failures device.new) result }
+
+        // It reads only while what is there of the line has no line feed.
+        ensures asks { AsksAtNeed self.old (prepend_known self.old (D.unread device.old))
+            (D.earlier device.old + D.latest device.old) (D.earlier device.old) (D.earlier device.new) }
+        ensures given { OnOk result (CountsGiven (D.unread device.old) (D.unread device.new)
+            (D.earlier device.old + D.latest device.old) (D.earlier device.new + D.latest device.new)) }
     {
         let mut line = Gathered::new(alloc);
         for _ in rt.forever() {

@@ -1,6 +1,7 @@
 // The replies to commands.
-ghost use Rattle.std.specs.Prelude.{◌≡◌, ◌≢◌, ◌++◌, IfOk, OnErr, OnOk, codes, Some, string_bytes};
+ghost use Rattle.std.specs.Prelude.{◌≡◌, ◌≢◌, ◌⊎◌, ◌++◌, IfOk, OnErr, OnOk, codes, Some, string_bytes};
 ghost use Rattle.std.specs.FinMap as finite;
+ghost use Rattle.ghc_fire.specs.Meter.{fired};
 ghost use Rattle.ghc_core.specs.Proposes.{StillHolds};
 ghost use Rattle.ghc_trace.specs.Ports.{taken_ports};
 ghost use Rattle.ghc_trace.specs.PortText.{ports_text};
@@ -44,6 +45,7 @@ fn take(alloc: Global, core: &mut Core, proposal: &Proposal) -> Result<Vec<u8>, 
     ensures taken { IfOk result (λ t. Takes core.old.world proposal.now t.items core.new.world) }
     ensures err { OnErr result (core.new.world ≡ core.old.world) }
     ensures names { core.new.names ≡ core.old.names }
+    ensures meter { core.new.meter ≡ fired core.old.meter }
 {
     let step = match core.prepare(alloc, proposal) {
         Ok(step) => step,
@@ -69,6 +71,7 @@ pub fn step(
     ensures text { IfOk result (λ t. Steps core.old.world goal choice t.items core.new.world) }
     ensures err { OnErr result (core.new.world ≡ core.old.world) }
     ensures names { core.new.names ≡ core.old.names }
+    ensures meter { (core.new.meter ≡ core.old.meter) ⊎ (core.new.meter ≡ fired core.old.meter) }
 {
     let mut meter = Meter::new();
     match core.attempt(alloc, &mut meter, goal, choice) {

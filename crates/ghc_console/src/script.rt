@@ -2,7 +2,7 @@
 ghost use Rattle.std.specs.Prelude.{◌≡◌, ℕ, ◌+◌, ◌<◌, ◌≤◌, true, false, not, min, [], List, length, take, drop, ◌++◌, Ok, IfOk, is_ok, Some, vec_len};
 ghost use Rattle.std.specs.Io.{StopsAt, ReadsAtMost, WritesAtMost};
 ghost use Rattle.std.specs.Io.KnownBytes.{Keeps, ReadConsumes, WriteAppends};
-ghost use Rattle.ghc_console.specs.Device.{Counts};
+ghost use Rattle.ghc_console.specs.Device.{Counts, EndsWith, Gives};
 ghost use Rattle.ghc_console.specs.Script.{after_call, fails_next};
 
 use crate::device::{Broken, Device};
@@ -19,7 +19,7 @@ pub struct Script<L: Ledger> {
     at: usize,
     output: Vec<u8>,
     fails_after: Option<u64>,
-    failed: Tally<L>,
+    calls: Tally<L>,
 }
 
 impl<L: Ledger> Model for Script<L> {
@@ -31,7 +31,9 @@ impl<L: Ledger> Model for Script<L> {
     ghost view = { λ s. record {
       unread = drop s.at s.input.items;
       written = s.output.items;
-      failures = s.failed;
+      failures = s.calls.failures;
+      earlier = s.calls.earlier;
+      latest = s.calls.latest;
       fails_after = s.fails_after;
     } };
 
@@ -71,15 +73,15 @@ fn give(bytes: &[u8], buf: &mut [u8]) -> usize
 impl<L: Ledger> Script<L> {
     /// A device that gives this input. The call behind the first `fails_after` calls fails, if that is given.
     pub fn new(alloc: Global, input: Vec<u8>, fails_after: Option<u64>, blank: Blank) -> Script<L>
-        requires blank { (blank.name ≡ L.name) × (blank.parts ≡ L.parts) × (0 < L.parts) }
-        ensures { result ≡ record { unread = input.items; written = []; failures = 0; fails_after = fails_after } }
+        requires blank { (blank.name ≡ L.name) × (blank.parts ≡ L.parts) × (1 < L.parts) }
+        ensures { result ≡ record { unread = input.items; written = []; failures = 0; earlier = 0; latest = 0; fails_after = fails_after } }
     {
         Script {
             input,
             at: 0,
             output: Vec::new(alloc),
             fails_after,
-            failed: Tally::new(blank),
+            calls: Tally::new(blank),
         }
     }
 
@@ -97,6 +99,8 @@ impl<L: Ledger> Script<L> {
         ensures unread { self.new.unread ≡ self.old.unread }
         ensures written { self.new.written ≡ self.old.written }
         ensures failures { self.new.failures ≡ self.old.failures }
+        ensures earlier { self.new.earlier ≡ self.old.earlier }
+        ensures latest { self.new.latest ≡ self.old.latest }
     {
         match self.fails_after {
             Some(0) => {
@@ -123,21 +127,30 @@ impl<L: Ledger> Device for Script<L> {
 
     ghost failures = { λ s. s.failures };
 
+    ghost latest = { λ s. s.latest };
+
+    ghost earlier = { λ s. s.earlier };
+
     /// As `Device` has it; it fails exactly where its turn has come, and gives no byte behind a line feed.
     fn read(&mut self, buf: &mut [u8]) -> Result<usize, Broken>
         ensures bound { ReadsAtMost result buf.new }
         ensures bytes { ReadConsumes (Some self.old.unread) (Some self.new.unread) result buf.new }
+        ensures tail { EndsWith (Some self.new.written) [] }
         ensures written { Keeps (Some self.old.written) (Some self.new.written) }
         ensures count { Counts self.old.failures self.new.failures result }
+        ensures earlier { self.new.earlier ≡ self.old.earlier + self.old.latest }
+        ensures latest { Gives self.new.latest result }
         ensures due { is_ok result ≡ not (fails_next self.old.fails_after) }
         ensures counted { self.new.fails_after ≡ after_call self.old.fails_after }
         ensures stops { IfOk result (λ n. StopsAt (take n buf.new) 10) }
     {
+        self.calls.ask();
         if self.is_due() {
-            return Err(self.failed.fail());
+            return Err(self.calls.fail());
         }
         let n = give(&self.input[self.at..], buf);
         self.at += n;
+        self.calls.gave(n);
         Ok(n)
     }
 
@@ -146,14 +159,17 @@ impl<L: Ledger> Device for Script<L> {
         ensures bound { WritesAtMost result bytes.now }
         ensures some { 0 < length bytes.now → IfOk result (λ n. 0 < n) }
         ensures bytes { WriteAppends (Some self.old.written) (Some self.new.written) result bytes.now }
+        ensures tail { EndsWith (Some self.new.written) [] }
         ensures unread { Keeps (Some self.old.unread) (Some self.new.unread) }
         ensures count { Counts self.old.failures self.new.failures result }
+        ensures earlier { self.new.earlier ≡ self.old.earlier }
+        ensures latest { self.new.latest ≡ self.old.latest }
         ensures due { fails_next self.old.fails_after ≡ true → is_ok result ≡ false }
         ensures counted { self.new.fails_after ≡ after_call self.old.fails_after }
         ensures all { IfOk result (λ n. n ≡ length bytes.now) }
     {
         if self.is_due() || self.output.extend_from_slice(bytes).is_err() {
-            return Err(self.failed.fail());
+            return Err(self.calls.fail());
         }
         Ok(bytes.len())
     }

@@ -1,7 +1,10 @@
 // The session: lines are read, and their replies written.
-ghost use Rattle.std.specs.Prelude.{◌≡◌, ◌+◌, ℕ, List, IfErr, OnOk, MatchResult};
+ghost use Rattle.std.specs.Prelude.{◌≡◌, ◌+◌, ◌-◌, ℕ, List, IfErr, IfSome, OnOk, MatchResult};
 ghost use Rattle.std.specs.Io.KnownBytes.{Keeps};
+ghost use Rattle.ghc_console.specs.Commands.{command_of};
 ghost use Rattle.ghc_console.specs.Device.{Counts};
+ghost use Rattle.ghc_console.specs.Firing.{Fires, FiresAtMost, firings_in};
+ghost use Rattle.ghc_console.specs.Lines.{lines_of};
 ghost use Rattle.ghc_console.specs.Reading.{LineSays};
 ghost use Rattle.ghc_console.specs.Session.{Began, Served, Session, Tells};
 
@@ -23,8 +26,11 @@ fn serve<D: Device>(
     ensures served { (bytes : List ℕ) → LineSays line bytes
         → Served core.old.names core.old.world bytes core.new.world (D.written device.old) (D.written device.new) result }
     ensures names { core.new.names ≡ core.old.names }
+    ensures fires { (bytes : List ℕ) → LineSays line bytes → Fires (command_of bytes) core.old.meter core.new.meter }
     ensures unread { Keeps (D.unread device.old) (D.unread device.new) }
     ensures count { Counts (D.failures device.old) (D.failures device.new) result }
+    ensures earlier { D.earlier device.new ≡ D.earlier device.old }
+    ensures latest { D.latest device.new ≡ D.latest device.old }
 {
     let (reply, ended) = answer(alloc, core, &line);
     match write_all(device, bytes_of(&reply)) {
@@ -41,11 +47,17 @@ pub fn session<R: Wait, D: Device>(
     core: Core,
     device: &mut D,
 ) -> (Core, Result<(), Fault>)
-    // What is written is the replies to the lines, or a beginning of them where the device failed.
+    // What is written is the replies to the lines, or a beginning of them where the device failed; and no read is made
+    // where a line that ends the session is there.
     ensures text { MatchResult result.1
-        (λ _. Tells (Session core.names) core.world (D.unread device.old) (D.written device.old) (D.written device.new) result.0.world)
-        (λ _. Tells (Began core.names) core.world (D.unread device.old) (D.written device.old) (D.written device.new) result.0.world) }
+        (λ _. Tells (Session core.names) core.world (D.unread device.old) (D.written device.old) (D.written device.new)
+        (D.earlier device.new - (D.earlier device.old + D.latest device.old)) result.0.world)
+        (λ _. Tells (Began core.names) core.world (D.unread device.old) (D.written device.old) (D.written device.new)
+        (D.earlier device.new - (D.earlier device.old + D.latest device.old)) result.0.world) }
     ensures names { result.0.names ≡ core.names }
+
+    // Where the bytes are known, each step of the lines fires at most once, and nothing else does.
+    ensures fires { IfSome (D.unread device.old) (λ input. FiresAtMost (firings_in (lines_of input)) core.meter result.0.meter) }
 
     // It fails only where the device did.
     ensures failed { IfErr result.1 (λ e. (e ≡ Fault.Device) × (D.failures device.new ≡ D.failures device.old + 1)) }

@@ -36,4 +36,4 @@ taken_ports r = reduced (step_of r) ∷ calls r.number 1 r.effect.makes
 abbrev pub ArePorts : World → Record → List Port → Type 0
 ArePorts w r ports =
     (woken : List GoalName) × ((g : GoalName) → In g woken ↔ Resumes w r g) × ((g h : GoalName) → Precedes woken g h → goal_cmp g h ≡ Less)
-    × (ports ≡ reduced (step_of r) ∷ calls r.number 1 r.effect.makes ++ map resumed woken)
+    × (ports ≡ taken_ports r ++ map resumed woken)

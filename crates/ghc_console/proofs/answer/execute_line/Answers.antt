@@ -1,4 +1,6 @@
-use Rattle.std.proofs.Common.{sym, subst, ap, ◌∙◌}
+use Rattle.std.proofs.Common.{refl, sym, subst, ap, ◌∙◌}
+use Rattle.ghc_console.specs.Firing.{Fires}
+use Rattle.ghc_console.proofs.Fired.{fires_nothing}
 use Rattle.ghc_console.specs.Replies.{IsReply, replies, Replies, quits}
 use Rattle.ghc_console.proofs.answer.execute_line.Goals as goal
 
@@ -8,3 +10,9 @@ returns-in-Ok-execute-clause-ok c short =
     let names = c.args.core.now.names in
     subst (IsReply w names c.args.line.now c.in-Ok-execute.text.items c.execute.new.core.world) (sym (c.is_quit-ended.ensures ∙ ap quits c.in-Ok.ensures))
     (replies short (subst (λ k. Replies w names k c.in-Ok-execute.text.items c.execute.new.core.world) c.in-Ok.ensures c.in-Ok-execute.ensures.reply))
+
+pub returns-in-Err-clause-fires : goal.returns-in-Err-clause-fires
+returns-in-Err-clause-fires c = fires_nothing _ _ _ refl
+
+pub returns-in-Ok-execute-clause-fires : goal.returns-in-Ok-execute-clause-fires
+returns-in-Ok-execute-clause-fires c = subst (λ k. Fires k c.args.core.now.meter c.execute.new.core.meter) c.in-Ok.ensures c.in-Ok-execute.ensures.fires

@@ -4,6 +4,11 @@ use Rattle.ghc_console.proofs.serving.serve.Goals as goal
 
 pub returns-clause-served : goal.returns-clause-served
 returns-clause-served g c = λ bytes says.
+    let ended = c.answer-reply.result.1 in
     let reply = c.answer-reply.ensures.reply bytes says in
-    let wrote = c.in-Err.ensures.bytes in
-    (c.bytes_of.result.now, c.answer-reply.result.1, subst (λ t. IsReply c.args.core.now.world c.args.core.now.names bytes t c.answer-reply.new.core.world c.answer-reply.result.1) (sym c.bytes_of.ensures) reply, wrote)
+    record {
+      text = c.bytes_of.result.now;
+      ended = ended;
+      reply = subst (λ t. IsReply c.args.core.now.world c.args.core.now.names bytes t c.answer-reply.new.core.world ended) (sym c.bytes_of.ensures) reply;
+      written = c.in-Err.ensures.bytes;
+    }

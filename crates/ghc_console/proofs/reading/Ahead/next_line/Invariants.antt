@@ -1,4 +1,4 @@
-use Rattle.std.specs.Io.KnownBytes.{prepend_known}
+use Rattle.std.proofs.Common.{◌+◌}
 use Rattle.ghc_console.proofs.NextLine.{Begun}
 use Rattle.ghc_console.proofs.reading.Ahead.next_line.Given as goal
 
@@ -7,5 +7,6 @@ invariant-loop g l =
     let d = g.D.Device in
     let it = goal.iterator-loop g in
     it.can_next l.iterator' × it.is_finite l.iterator'
-    × Begun (prepend_known l.initial.self (d.unread l.initial.device)) (prepend_known l.self (d.unread l.device)) l.line
+    × Begun l.initial.self l.self (d.unread l.initial.device) (d.unread l.device) l.line
     (d.written l.initial.device) (d.written l.device) (d.failures l.initial.device) (d.failures l.device)
+    (d.earlier l.initial.device + d.latest l.initial.device) (d.earlier l.device + d.latest l.device) (d.earlier l.initial.device) (d.earlier l.device)
