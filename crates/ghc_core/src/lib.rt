@@ -8,8 +8,6 @@ mod machine;
 mod renewal;
 mod returns;
 mod steps;
-#[cfg(test)]
-mod tests;
 mod undoing;
 
 pub use facts::{redo_is_changed, second_hand_is_stale};

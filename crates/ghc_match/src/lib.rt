@@ -13,8 +13,6 @@ mod leaves;
 mod number;
 mod passing;
 mod scope;
-#[cfg(test)]
-mod tests;
 mod trying;
 mod value;
 

@@ -19,8 +19,6 @@ mod reading;
 pub mod reserved;
 pub mod source;
 pub mod term_parser;
-#[cfg(test)]
-mod tests;
 pub mod token;
 mod written;
 

@@ -194,6 +194,3 @@ pub fn push_record(taken: &Record, out: &mut String) -> Result<(), AllocError>
     out.push_str(" makes ")?;
     push_makes(taken.number(), effect.makes(), out)
 }
-
-#[cfg(test)]
-mod tests;

@@ -110,6 +110,3 @@ impl Bindings {
         self.is_within(alloc, other)
     }
 }
-
-#[cfg(test)]
-mod tests;

@@ -114,6 +114,3 @@ impl Goal {
         }
     }
 }
-
-#[cfg(test)]
-mod tests;

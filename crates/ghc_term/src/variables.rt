@@ -90,6 +90,3 @@ impl Variables {
         self.has_all(other.members()) && other.has_all(self.members())
     }
 }
-
-#[cfg(test)]
-mod tests;

@@ -8,8 +8,6 @@ mod occurs;
 mod parting;
 mod solve;
 mod step;
-#[cfg(test)]
-mod tests;
 
 pub use facts::{
     alias_is_read, arguments, clash_binds_nothing, either_order, itself, middle_is_read,
