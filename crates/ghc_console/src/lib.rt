@@ -14,8 +14,6 @@ mod reversal;
 mod script;
 mod serving;
 mod tally;
-#[cfg(test)]
-mod tests;
 mod word;
 pub mod words;
 

@@ -7,8 +7,6 @@ mod facts;
 mod history_laws;
 mod laws;
 mod recheck;
-#[cfg(test)]
-mod tests;
 mod there;
 mod undo;
 mod undo_laws;

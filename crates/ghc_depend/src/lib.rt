@@ -5,8 +5,6 @@ mod cause;
 mod chain;
 mod facts;
 mod laws;
-#[cfg(test)]
-mod tests;
 mod trail;
 
 pub use cause::{Cause, direct};

@@ -14,8 +14,6 @@ mod laws;
 mod meter;
 mod moves;
 mod proposal;
-#[cfg(test)]
-mod tests;
 
 pub use act::Act;
 pub use attempting::{attempt, finish};

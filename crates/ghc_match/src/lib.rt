@@ -13,8 +13,6 @@ mod number;
 mod passing;
 mod scope;
 mod test_holds;
-#[cfg(test)]
-mod tests;
 mod trying;
 mod value;
 

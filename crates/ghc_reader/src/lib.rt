@@ -19,8 +19,6 @@ mod reading;
 mod reserved;
 mod source;
 mod term_parser;
-#[cfg(test)]
-mod tests;
 mod token;
 mod written;
 

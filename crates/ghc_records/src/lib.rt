@@ -12,8 +12,6 @@ mod shelf;
 mod state;
 mod step;
 mod step_text;
-#[cfg(test)]
-mod tests;
 
 pub use entry::Entry;
 pub use journal::Journal;

@@ -227,6 +227,3 @@ pub fn push_record(taken: &Record, out: &mut String) -> Result<(), AllocError>
     let text = text_of_record(*out.allocator(), taken)?;
     append(text, out)
 }
-
-#[cfg(test)]
-mod tests;

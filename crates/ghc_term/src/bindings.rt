@@ -115,6 +115,3 @@ impl Drop for Bindings {
         let Bindings { map: _map } = self;
     }
 }
-
-#[cfg(test)]
-mod tests;

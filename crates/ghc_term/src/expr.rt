@@ -140,6 +140,3 @@ impl Drop for Expr {
         }
     }
 }
-
-#[cfg(test)]
-mod tests;

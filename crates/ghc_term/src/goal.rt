@@ -119,6 +119,3 @@ impl Drop for Goal {
         let Goal { shape: _shape } = self;
     }
 }
-
-#[cfg(test)]
-mod tests;

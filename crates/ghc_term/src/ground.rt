@@ -72,6 +72,3 @@ impl Ground {
         Ok(Ground { term })
     }
 }
-
-#[cfg(test)]
-mod tests;

@@ -18,8 +18,6 @@ mod operator;
 mod printing;
 mod store;
 mod term;
-#[cfg(test)]
-mod tests;
 mod var_name;
 mod variables;
 mod view;

@@ -132,6 +132,3 @@ impl fmt::Debug for Name {
         fmt::Debug::fmt(&self.as_str(), f)
     }
 }
-
-#[cfg(test)]
-mod tests;

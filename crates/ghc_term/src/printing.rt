@@ -127,12 +127,3 @@ pub fn push_goal_written(goal: &Goal, out: &mut String) -> Result<(), AllocError
     out.push_str(text.as_str())?;
     Ok(())
 }
-
-#[cfg(test)]
-mod goal_tests;
-#[cfg(test)]
-mod samples;
-#[cfg(test)]
-mod store_tests;
-#[cfg(test)]
-mod tests;

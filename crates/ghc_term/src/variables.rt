@@ -95,6 +95,3 @@ impl Drop for Variables {
         let Variables { members: _members } = self;
     }
 }
-
-#[cfg(test)]
-mod tests;

@@ -37,6 +37,3 @@ pub fn ports(alloc: Global, taken: &Record) -> Result<Vec<Port>, AllocError>
     push_calls(taken.number(), taken.effect().makes(), &mut ports)?;
     Ok(ports)
 }
-
-#[cfg(test)]
-mod tests;

@@ -7,8 +7,6 @@ mod occurs;
 mod parting;
 mod solve;
 mod step;
-#[cfg(test)]
-mod tests;
 
 pub use laws::{
     each_unification_has_an_ending, unification_binds_and_reads, unification_has_one_ending,

@@ -1,4 +1,0 @@
-use Rattle.ghc_console.proofs.tests.serve.Given as goal
-
-abbrev pub ghosts-serve_with : goal.ghosts-serve_with
-ghosts-serve_with g a = record { name = a.blank.name; parts = a.blank.parts }
