@@ -4,11 +4,11 @@ ghost use Rattle.std.specs.Prelude.{◌≡◌, ◌++◌, IfOk, is_ok, if◌then�
 use crate::limit::Limit;
 use crate::name::Name;
 use std::alloc::{AllocError, AllocFailed, Global};
-use std::error::Error;
-use std::fmt;
+use thiserror::Error;
 
-/// A refusal. Its number and its text are part of the product; `Display` writes the number, as `F12`.
-#[derive(Debug, Drop, PartialEq, Eq)]
+/// A refusal. Its number and its text are part of the product; the message of `Display` is not.
+#[derive(Debug, Drop, Error, PartialEq, Eq)]
+#[error("F{}", self.number())]
 pub enum Fault {
     /// A growth found no memory.
     Memory,
@@ -150,21 +150,6 @@ impl Fault {
         Ok(())
     }
 }
-
-impl fmt::Display for Fault {
-    ghost use Rattle.std.specs.Prelude.{Some, codes};
-    ghost use Rattle.std.specs.Fmt.{decimal};
-    ghost use Rattle.ghc_term.specs.Fault.{fault_number};
-
-    ghost output = { λ fault. Some (codes "F" ++ decimal (fault_number fault)) };
-
-    fn fmt<W: fmt::Write>(&self, f: &mut fmt::Formatter<W>) -> fmt::Result {
-        let number = self.number();
-        write!(f, "F{number}")
-    }
-}
-
-impl Error for Fault {}
 
 impl From<AllocError> for Fault {
     ghost use Rattle.ghc_term.specs.declared.fault.Fault.{Fault};
