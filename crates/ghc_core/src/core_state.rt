@@ -69,6 +69,8 @@ impl Core {
         ensures names { IfOk result (λ core. core.names ≡ query.variables) }
         ensures meter { IfOk result (λ core. (core.meter.firings ≡ 0) × (core.meter.tries ≡ 0)) }
     {
+        // Called for its clause that each clause of a program is accepted, which the proof cites.
+        let _clauses = program.clauses();
         let state = match State::of_query(alloc, query.goals()) {
             Ok(state) => state,
             Err(error) => return Err(error),

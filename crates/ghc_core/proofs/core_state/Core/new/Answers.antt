@@ -9,7 +9,7 @@ use Rattle.ghc_core.proofs.core_state.Core.new.Goals as goal
 
 pub invariant_of-result : goal.invariant_of-result
 invariant_of-result c =
-    let accepted : IsProgram c.args.program = subst IsProgram c.program.view_is c.program.invariant.0 in
+    let accepted : IsProgram c.args.program = c.clauses-clauses.ensures.program in
     let state : c.in-Ok.state ≡ query_state c.args.query.goals = c.in-Ok.ensures ∙ ap query_state c.goals.ensures.same in
     let same : fresh_world c.args.program c.args.query.goals
     ≡ record { opening = fresh_opening c.args.program c.args.query.goals; state = c.in-Ok.state; kept = c.new.result; shelf = c.new-2.result; next = 1; journal = c.new-3.result } =
