@@ -1,9 +1,10 @@
 // What the program does with the words of its command line.
-ghost use Rattle.std.specs.Prelude.{◌≡◌, ◌≢◌};
+ghost use Rattle.std.specs.Prelude.{◌≡◌, ◌≢◌, ◌⊎◌, IfErr, IfOk};
 ghost use Rattle.clap.specs.Words.{kind_of};
 ghost use Rattle.clap.specs.declared.error.kind.ErrorKind.{ErrorKind};
 ghost use Rattle.ghc_term.specs.Fault.{fault_text};
 ghost use Rattle.ghc_flat.specs.Flat.{IsQuery};
+ghost use Rattle.ghcdb.specs.Start.{IsOutOfMemory, IsStartRefusal, IsStarted};
 ghost use Rattle.ghcdb.specs.Status.{spare_fault, status_of};
 
 use crate::command_line::options;
@@ -17,6 +18,7 @@ use crate::status::Status;
 use clap::Error;
 use ghc_core::Core;
 use ghc_term::Fault;
+use std::alloc::Global;
 use std::rt::Files;
 use std::sync::Wait;
 
@@ -44,6 +46,14 @@ fn answer<R: Print + Eprint>(rt: &R, error: &Error) -> Status
     }
 }
 
+// What the bytes of FILE and the options start: the program is in the file, and the query in the options.
+fn start_with(alloc: Global, file: &[u8], options: Options<'_>) -> Result<Started, Refusal>
+    ensures started { IfOk result (IsStarted file.now options.entry.query.now) }
+    ensures refused { IfErr result (λ refusal. IsOutOfMemory refusal ⊎ IsStartRefusal file.now options.entry.query.now refusal) }
+{
+    start(alloc, file, options.query.as_bytes())
+}
+
 // Reads the files, all of them before anything is judged, starts, and runs the session.
 fn debug<R: Wait + Files + Input + Print + Eprint + AllocGlobal>(
     rt: &R,
@@ -54,7 +64,7 @@ fn debug<R: Wait + Files + Input + Print + Eprint + AllocGlobal>(
         Ok(program) => program,
         Err(fault) => return tell(rt, &Refusal { source, fault }),
     };
-    match start(rt.alloc(), program.as_slice(), options.query.as_bytes()) {
+    match start_with(rt.alloc(), program.as_slice(), options) {
         Ok(started) => run_session(rt, started),
         Err(refusal) => tell(rt, &refusal),
     }

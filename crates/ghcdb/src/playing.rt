@@ -10,13 +10,13 @@ use std::marker::Brand;
 use std::sync::Wait;
 use std::sync::ledger::{Blank, Ledger};
 
-// Runs a session over the standard streams, whose failures are counted in the ledger.
+// Runs a session over the standard streams, whose calls are counted in the ledger.
 fn play_counted<L: Ledger, R: Wait + Input + Print + AllocGlobal>(
     rt: &R,
     core: Core,
     blank: Blank,
 ) -> Result<(), Fault>
-    requires blank { (blank.name ≡ L.name) × (blank.parts ≡ L.parts) × (0 < L.parts) }
+    requires blank { (blank.name ≡ L.name) × (blank.parts ≡ L.parts) × (1 < L.parts) }
     ensures { IfErr result (λ fault. (fault ≡ Fault.Memory) ⊎ (fault ≡ Fault.Device)) }
 {
     let alloc = rt.alloc();
@@ -36,5 +36,5 @@ fn play_counted<L: Ledger, R: Wait + Input + Print + AllocGlobal>(
 pub fn play<R: Wait + Input + Print + AllocGlobal>(rt: &R, core: Core) -> Result<(), Fault>
     ensures { IfErr result (λ fault. (fault ≡ Fault.Memory) ⊎ (fault ≡ Fault.Device)) }
 {
-    play_counted::<Brand, R>(rt, core, Blank::new(1))
+    play_counted::<Brand, R>(rt, core, Blank::new(2))
 }
