@@ -108,6 +108,8 @@ impl<R: Read, W: Write + Drop, L: Ledger> Lines<R, W, L> {
         ensures unread { self.new.unread ≡ self.old.unread }
         ensures written { Keeps self.old.written self.new.written }
         ensures count { Counts self.old.failures self.new.failures result }
+        ensures earlier { self.new.earlier ≡ self.old.earlier }
+        ensures latest { self.new.latest ≡ self.old.latest }
     {
         match hand_on(&mut self.writer) {
             Ok(()) => Ok(()),

@@ -1,6 +1,6 @@
 -- What the command line gives.
 use Rattle.std.specs.Prelude.{◌≡◌, ℕ, List, [], ◌∷◌, Some, false, codes}
-use Rattle.clap.specs.Words.{AddsArg, AddsInTurn, IsParsedFrom, IsPlainArg, args_of, first_value, found_of, groups_of}
+use Rattle.clap.specs.Words.{AddsArg, AddsInTurn, HasMatchesOf, app_of, IsParsedFrom, IsPlainArg, args_of, first_value, found_of, groups_of}
 use Rattle.clap.specs.Built.{TakesValue}
 use Rattle.clap.specs.declared.builder.arg.Arg.{Arg}
 use Rattle.clap.specs.declared.builder.command.Command.{Command}
@@ -33,10 +33,11 @@ pub record IsGhcdb (command : Command) : Type 0 where
   pub chain : AddsInTurn AddsArg start (file ∷ query ∷ []) command
 
 -- the options are the values that a parse of that command found for FILE and for the query
-pub record IsGivenBy (options : Options) : Type 0 where
+pub record IsGivenBy (words : List (List ℕ)) (options : Options) : Type 0 where
   pub command : Command
   pub matches : ArgMatches
   pub is_ghcdb : IsGhcdb command
   pub parsed : IsParsedFrom command matches
+  pub given : HasMatchesOf (app_of command) words matches
   pub file : first_value (found_of matches) (codes "FILE") ≡ Some options.file.now
   pub query : first_value (found_of matches) (codes "query") ≡ Some options.query.now

@@ -1,5 +1,5 @@
 // The command line, read by `clap`.
-ghost use Rattle.std.specs.Prelude.{◌≡◌, IfOk, codes};
+ghost use Rattle.std.specs.Prelude.{◌≡◌, IfOk, codes, map, string_bytes};
 ghost use Rattle.ghcdb.specs.CommandLine.{IsGhcdb, IsGivenBy, IsRequiredValue};
 
 use crate::settings::Options;
@@ -54,7 +54,7 @@ fn command<'a>(alloc: Global) -> Result<Command<'a>, AllocError>
 /// Reads the command line, of which the first word is the program's name. What is no command line
 /// of this program, a call for help and want of memory are answered by `clap`'s error.
 pub fn options<'a>(alloc: Global, words: &'a [String]) -> Result<Options<'a>, Error>
-    ensures { IfOk result IsGivenBy }
+    ensures { IfOk result (IsGivenBy (map string_bytes words.now)) }
 {
     let command = command(alloc)?;
     let matches = command.try_get_matches_from(words)?;
