@@ -1,0 +1,93 @@
+// A session on a device of which each call fails in turn.
+ghost use Rattle.std.specs.Prelude.{◌≡◌, ◌<◌};
+
+use crate::tests::cores::core_of;
+use ghc_console::{Device, Script, session};
+use ghc_core::Core;
+use std::alloc::Global;
+use std::marker::Brand;
+use std::sync::Wait;
+use std::sync::ledger::{Blank, Ledger};
+
+const INPUT: &str = "step 0.1\r\n\nshow X\nrecords";
+
+const OUTPUT: &str = "REDU 1 0.1 eq\nX = 1\n1 0.1 eq reads - binds _0_1=1 makes -\n";
+
+// What became of a session: how many bytes of the output were written, where nothing else was; how many steps the core has;
+// whether it was broken off.
+type Served = (Option<usize>, usize, bool);
+
+// Runs a session, and says how many steps the core has then, and whether it was broken off.
+fn serve<R: Wait, D: Device>(rt: &R, alloc: Global, core: Core, device: &mut D) -> (usize, bool) {
+    let (core, ended) = session(rt, alloc, core, device);
+    (core.records().len(), ended.is_err())
+}
+
+// How many bytes of the output were written, where nothing else was.
+fn written<L: Ledger>(script: &Script<L>) -> Option<usize> {
+    let out = script.output();
+    if OUTPUT.as_bytes().starts_with(out) {
+        Some(out.len())
+    } else {
+        None
+    }
+}
+
+fn serve_script<L: Ledger, R: Wait>(
+    rt: &R,
+    alloc: Global,
+    core: Core,
+    input: Vec<u8>,
+    fails_after: u64,
+    blank: Blank,
+) -> Served
+    requires blank { (blank.name ≡ L.name) × (blank.parts ≡ L.parts) × (1 < L.parts) }
+{
+    let mut script: Script<L> = Script::new(alloc, input, Some(fails_after), blank);
+    let (steps, broken) = serve(rt, alloc, core, &mut script);
+    (written(&script), steps, broken)
+}
+
+fn serve_failing<R: Wait>(
+    rt: &R,
+    alloc: Global,
+    core: Core,
+    input: Vec<u8>,
+    fails_after: u64,
+) -> Served {
+    serve_script::<Brand, R>(rt, alloc, core, input, fails_after, Blank::new(2))
+}
+
+// A session of which the call behind so many fails.
+fn served<R: Wait>(rt: &R, alloc: Global, fails_after: u64) -> Option<Served> {
+    let input = Vec::from_slice(alloc, INPUT.as_bytes()).ok()?;
+    let core = core_of(alloc, "", "X = 1")?;
+    Some(serve_failing(rt, alloc, core, input, fails_after))
+}
+
+// How many bytes are written, and how many steps taken, where the call behind so many fails. Five reads give the lines and
+// their end, the last line and its end by two; three writes are made, none for the empty line.
+const FAILING: &[(usize, usize)] = &[
+    // The first line is not read.
+    (0, 0),
+    // The step is taken, and its reply is not written.
+    (0, 1),
+    (14, 1),
+    (14, 1),
+    (14, 1),
+    // The last line is not read, or not to its end, or its reply is not written.
+    (20, 1),
+    (20, 1),
+    (20, 1),
+    // The end of the input is not read once more.
+    (58, 1),
+];
+
+#[test]
+fn each_call_of_a_session_fails(rt: HostRuntime) {
+    for (n, (written, steps)) in FAILING.iter().enumerate() {
+        let served = served(&rt, rt.alloc(), n as u64);
+        assert!(rt; served == Some((Some(*written), *steps, true)), "at {n}");
+    }
+    assert!(rt; served(&rt, rt.alloc(), 9) == Some((Some(58), 1, false)));
+}
