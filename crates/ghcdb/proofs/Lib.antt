@@ -1,3 +1,4 @@
 -- Lemmas of this crate.
 mod Required
 mod Starting
+mod Told
