@@ -18,7 +18,6 @@ fn push_fault(fault: Fault, out: &mut String) -> Result<(), AllocError> {
 fn push_faults(out: &mut String) -> Result<(), AllocError> {
     push_fault(Fault::Memory, out)?;
     push_fault(Fault::Limit(Limit::Term), out)?;
-    push_fault(Fault::Limit(Limit::Stage), out)?;
     push_fault(Fault::Limit(Limit::Version), out)?;
     push_fault(Fault::NoStream, out)?;
     push_fault(Fault::TailBound, out)?;
@@ -39,7 +38,6 @@ fn push_faults(out: &mut String) -> Result<(), AllocError> {
 const TEXTS: &str = "\
 1 F1 no memory
 6 F6 limit: term
-6 F6 limit: stage
 6 F6 limit: version
 14 F14 no open stream
 15 F15 tail is bound
