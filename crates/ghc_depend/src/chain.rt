@@ -1,5 +1,5 @@
 // The consequences of a kept step.
-ghost use Rattle.std.specs.Prelude.{◌≡◌, List, IfOk, IfSome, IfNone};
+ghost use Rattle.std.specs.Prelude.{◌≡◌, List, IfOk, OnErr, IfSome, IfNone};
 ghost use Rattle.ghc_records.specs.Record.{Record, numbers};
 ghost use Rattle.ghc_depend.specs.Depend.{Follows, IsKeptAs, AreConsequencesOf, IsFirstConsequence};
 
@@ -9,9 +9,13 @@ use ghc_records::Records;
 use std::alloc::{AllocError, Global};
 
 /// The numbers of the consequences of the step of this number, in recorded order: none where it is not kept. It goes once over the
-/// records, with a look-up for each variable that one behind the step read, or a consequence bound. It fails for want of memory alone.
+/// records, with a look-up for each variable that one behind the step read, or a consequence bound. It fails for want of memory
+/// alone, and never where the step is not kept.
 pub fn consequences(alloc: Global, records: &Records, number: u32) -> Result<Vec<u32>, AllocError>
-    ensures { IfOk result (λ ns. (found : List Record) × AreConsequencesOf records.now number found × (numbers found ≡ ns.items)) }
+    ensures found { IfOk result (λ ns. (found : List Record) × AreConsequencesOf records.now number found × (numbers found ≡ ns.items)) }
+
+    // No want of memory hides that the step is not kept.
+    ensures kept { OnErr result ((r : Record) × IsKeptAs records.now number r) }
 {
     let mut found = Vec::new(alloc);
     let Some(place) = records.place_of(number) else {

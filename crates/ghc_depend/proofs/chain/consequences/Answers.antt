@@ -1,9 +1,17 @@
-use Rattle.std.proofs.Common.{◌≡◌, ◌+◌, true, false, [], refl, sym, ap, ◌∙◌, subst, inl, inr, arith}
+use Rattle.std.proofs.Common.{◌≡◌, ℕ, ◌+◌, true, false, List, [], Result, Ok, Err, refl, sym, ap, ◌∙◌, subst, inl, inr, arith}
 use Rattle.std.specs.Option.{option_copied}
+use Rattle.std.specs.Result.{OnErr}
+use Rattle.ghc_records.specs.Record.{Record}
+use Rattle.ghc_depend.specs.Depend.{IsKeptAs}
 use Rattle.ghc_depend.proofs.Causes.{place_within, some_within}
 use Rattle.ghc_depend.proofs.Walking.{Walked, begin, goes_on, passed_by, finished, kept_at}
 use Rattle.ghc_depend.proofs.chain.consequences.Goals as goal
 use Rattle.ghc_depend.proofs.chain.consequences.Goals.{then-touches+in_ok-add-2+in_ok-push, else-touches}
+
+-- where the step is kept, an error is of a kept step
+where_kept : {T E : Type 0} (r : Result T E) (kept : List Record) (n : ℕ) (a : Record) → IsKeptAs kept n a → OnErr r ((b : Record) × IsKeptAs kept n b)
+where_kept (Ok x) kept n a own = tt
+where_kept (Err e) kept n a own = (a, own)
 
 pub loop-index-init : goal.loop-index-init
 loop-index-init c =
@@ -39,14 +47,25 @@ loop-index-preserved c =
       | else-touches w ↦ rw w.found-is (rw w.trail-is (a, own, passed_by kept c.len-end.ensures.distinct a i items ns bound walked b at (λ t. let clash : true ≡ false = sym (c.touches.ensures.1 t) ∙ w.if-touches.false in cc)))
     ]
 
-pub returns : goal.returns
-returns c =
+pub returns-clause-found : goal.returns-clause-found
+returns-clause-found c =
     let a = c.loop-index.invariant.0 in
     let walked = c.loop-index.invariant.2 in
     (walked.found, inr (a, c.loop-index.invariant.1, finished c.args.records.now c.len-end.ensures.distinct a c.loop-index.index c.loop-index.found.items c.loop-index.trail.numbers.keys c.loop-index.trail.bound walked (omega (arith, c.loop-index-test.false, c.len-end.ensures.count))), walked.numbered)
 
-pub returns-in_default : goal.returns-in_default
-returns-in_default c = ([], inl (c.in_default.ensures.none, refl), sym c.new-found.ensures.items)
+pub returns-in_default-clause-found : goal.returns-in_default-clause-found
+returns-in_default-clause-found c = ([], inl (c.in_default.ensures.none, refl), sym c.new-found.ensures.items)
+
+pub returns-in_err-add-clause-kept : goal.returns-in_err-add-clause-kept
+returns-in_err-add-clause-kept c =
+    let a = c.unwrap-first.result.now in
+    where_kept c.from_residual.result c.args.records.now c.args.number a (kept_at c.args.records.now c.in-Some.place c.args.number a c.in-Some.ensures.found (sym c.at.ensures ∙ ap option_copied c.unwrap-first.ensures))
+
+pub returns-in_err-add-2-clause-kept : goal.returns-in_err-add-2-clause-kept
+returns-in_err-add-2-clause-kept c = where_kept c.from_residual-in_err-add-2.result c.args.records.now c.args.number c.loop-index.invariant.0 c.loop-index.invariant.1
+
+pub returns-in_err-push-clause-kept : goal.returns-in_err-push-clause-kept
+returns-in_err-push-clause-kept c = where_kept c.from_residual-in_err-push.result c.args.records.now c.args.number c.loop-index.invariant.0 c.loop-index.invariant.1
 
 pub overflow_step-index : goal.overflow_step-index
 overflow_step-index c = omega (arith, place_within c.args.records.now c.in-Some.place c.unwrap-first.result.now (sym c.at.ensures ∙ ap option_copied c.unwrap-first.ensures))
