@@ -16,11 +16,10 @@ use Rattle.ghc_term.specs.Goal.{Goal}
 use Rattle.ghc_term.specs.Store.{StoreValue}
 use Rattle.ghc_term.specs.Bindings.{name_cmp}
 use Rattle.ghc_term.proofs.Names.{name_total}
-use Rattle.ghc_term.proofs.Collections.{has_at}
-use Rattle.ghc_term.proofs.Searches.{In_any}
+use Rattle.ghc_term.proofs.ListsLemmas.{in_left, in_right, in_either}
 use Rattle.ghc_records.specs.Orders.{Picks, nothing, take as taken, leave, AreDistinct}
 use Rattle.ghc_records.specs.Record.{Record, numbers}
-use Rattle.ghc_records.proofs.OrderLemmas.{in_left, in_right, in_either, Before, is_before, before_is, before_in, before_once, number_in, number_of, record_once, records_distinct}
+use Rattle.ghc_records.proofs.OrderLemmas.{Before, is_before, before_is, before_in, before_once, number_in, number_of, record_once, records_distinct, numbers_append}
 use Rattle.ghc_depend.specs.Depend.{MakesGoal, Binds, Consumes, ReadsFrom, DependsOn, Follows, directly, further, GoesWith}
 use Rattle.ghc_depend.specs.Trail.{TakesFrom, Touches}
 use Rattle.ghc_depend.proofs.Finding.{same_value}
@@ -44,18 +43,14 @@ no_trail = record {
   has_bound = λ x. (λ h. absurd (let clash : true ≡ false = sym h ∙ set.contains-empty name_cmp x in cc), λ c. absurd c.1);
 }
 
-pub numbers_last : (rs : List Record) (r : Record) → numbers (rs ++ r ∷ []) ≡ numbers rs ++ r.number ∷ []
-numbers_last [] r = refl
-numbers_last (s ∷ rs) r = ap (λ l. s.number ∷ l) (numbers_last rs r)
-
 pub trail_added : (cs : List Record) (b : Record) (ns new : List ℕ) (bound more : Variables) → IsTrailOf cs ns bound → AddsNumber ns new b.number → AddsBound bound more b → IsTrailOf (cs ++ b ∷ []) new more
 trail_added cs b ns new bound more t f g = record {
   has_numbers = λ n. (
-    λ i. subst (In n) (sym (numbers_last cs b)) (elim ((f n).0 i) [
+    λ i. subst (In n) (sym (numbers_append cs (b ∷ []))) (elim ((f n).0 i) [
       | inl j ↦ in_left (numbers cs) (b.number ∷ []) n ((t.has_numbers n).0 j)
       | inr e ↦ in_right (numbers cs) (b.number ∷ []) n (inl e)
     ]),
-    λ i. (f n).1 (elim (in_either (numbers cs) (b.number ∷ []) n (subst (In n) (numbers_last cs b) i)) [
+    λ i. (f n).1 (elim (in_either (numbers cs) (b.number ∷ []) n (subst (In n) (numbers_append cs (b ∷ [])) i)) [
       | inl j ↦ inl ((t.has_numbers n).1 j)
       | inr (inl e) ↦ inr e
       | inr (inr j) ↦ absurd j
@@ -84,23 +79,7 @@ at_split (x ∷ xs) (suc i) b e =
     let next : suc i + 1 ≡ suc (i + 1) = omega arith in
     (s.0, ap (λ l. x ∷ l) s.1, ap (λ k. take k (x ∷ xs)) next ∙ ap (λ l. x ∷ l) s.2)
 
-pub whole : {X : Type 0} (xs : List X) (i : ℕ) → length xs ≤ i → take i xs ≡ xs
-whole [] zero h = refl
-whole [] (suc i) h = refl
-whole (x ∷ xs) zero h = absurd (omega arith)
-whole (x ∷ xs) (suc i) h = ap (λ l. x ∷ l) (whole xs i (omega arith))
-
-pub is_there : {X : Type 0} (xs : List X) (i : ℕ) (b : X) → slice_get xs i ≡ Some b → In b xs
-is_there xs i b e = let s = at_split xs i b e in subst (In b) (sym s.1) (in_right (take i xs) (b ∷ s.0) b (inl refl))
-
 module _ {X : Type 0} {P : X → Type 0} where
-  pub one_more : (xs : List X) (i : ℕ) (b : X) → slice_get xs i ≡ Some b → ((x : X) → In x (take i xs) → P x) → P b → (x : X) → In x (take (i + 1) xs) → P x
-  one_more xs i b at before here x j = elim (in_either (take i xs) (b ∷ []) x (subst (In x) (at_split xs i b at).2 j)) [
-    | inl k ↦ before x k
-    | inr (inl same) ↦ subst P (sym same) here
-    | inr (inr k) ↦ absurd k
-  ]
-
   pub pick_none : (xs : List X) → ((x : X) → In x xs → ¬ P x) → Picks P xs []
   pick_none [] none = nothing
   pick_none (x ∷ xs) none = leave (none x (inl refl)) (pick_none xs (λ y i. none y (inr i)))
@@ -233,10 +212,6 @@ by_maker rs ns b name maker makes distinct e some there kept number same =
           let made : MakesGoal maker name = subst (λ z. MakesGoal z name) one m.3 in
           omega (arith, made.2, long),
     )
-
--- what is in a set stands in its list
-pub member_of : (s : Variables) (ks : List VarName) → set.from_list ks ≡ s → (x : VarName) → IsTrue (set.contains s x) → In x ks
-member_of s ks e x h = In_any x ks (has_at x ks ∙ ap (λ z. set.contains z x) e ∙ h)
 
 -- of the variables bound, those of the list are still to be added to the set
 abbrev pub IsAdding : StoreValue → Variables → Variables → List (VarName × Tree) → Type 0

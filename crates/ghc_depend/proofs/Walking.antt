@@ -2,15 +2,17 @@
 use Rattle.std.proofs.Common.{◌≡◌, ℕ, ◌+◌, ◌≤◌, List, [], ◌∷◌, ◌++◌, length, take, refl, sym, ap, ◌∙◌, subst, inl}
 use Rattle.std.specs.Prelude.{Some, slice_get}
 use Rattle.std.specs.FinSet as set
+use Rattle.std.proofs.lemmas.List.{take_all}
 use Rattle.ghc_term.specs.Lists.{In}
 use Rattle.ghc_term.specs.Sets.{Variables}
+use Rattle.ghc_term.proofs.ListsLemmas.{in_left, in_right, in_at}
 use Rattle.ghc_records.specs.Orders.{Picks, AreDistinct}
 use Rattle.ghc_records.specs.Record.{Record, numbers}
-use Rattle.ghc_records.proofs.OrderLemmas.{in_left, in_right}
+use Rattle.ghc_records.proofs.OrderLemmas.{numbers_append}
 use Rattle.ghc_depend.specs.Depend.{Follows, IsKeptAs}
 use Rattle.ghc_depend.specs.Trail.{Touches}
 use Rattle.ghc_depend.proofs.Finding.{same_value}
-use Rattle.ghc_depend.proofs.Trails.{IsTrailOf, AddsNumber, AddsBound, no_trail, trail_added, numbers_last, at_split, whole, is_there, pick_none, pick_last, leave_last, none_yet, follows, touched}
+use Rattle.ghc_depend.proofs.Trails.{IsTrailOf, AddsNumber, AddsBound, no_trail, trail_added, at_split, pick_none, pick_last, leave_last, none_yet, follows, touched}
 
 -- of the first i records, found are the consequences of a, with these numbers, and the trail is that of a and them
 pub record Walked (kept : List Record) (a : Record) (i : ℕ) (items ns : List ℕ) (bound : Variables) : Type 0 where
@@ -37,7 +39,7 @@ module _ (kept : List Record) (distinct : AreDistinct (numbers kept)) (a : Recor
   module _ (i : ℕ) (items ns : List ℕ) (bound : Variables) (w : Walked kept a i items ns bound) where
     -- at the end all are found
     pub finished : length kept ≤ i → Picks (Follows kept a) kept w.found
-    finished h = subst (λ l. Picks (Follows kept a) l w.found) (whole kept i h) w.picked
+    finished h = subst (λ l. Picks (Follows kept a) l w.found) (take_all i kept h) w.picked
 
     module _ (b : Record) (at : slice_get kept i ≡ Some b) where
       abbrev rest : List Record
@@ -63,7 +65,7 @@ module _ (kept : List Record) (distinct : AreDistinct (numbers kept)) (a : Recor
         found = w.found ++ b ∷ [];
         here = here_still;
         picked = subst (λ l. Picks (Follows kept a) l (w.found ++ b ∷ [])) (sym more) (pick_last (take i kept) w.found b w.picked (is_next t));
-        numbered = numbers_last w.found b ∙ ap (λ l. l ++ b.number ∷ []) w.numbered;
+        numbered = numbers_append w.found (b ∷ []) ∙ ap (λ l. l ++ b.number ∷ []) w.numbered;
         trail = trail_added (a ∷ w.found) b ns new bound all w.trail f g;
       }
 
@@ -82,4 +84,4 @@ module _ (kept : List Record) (distinct : AreDistinct (numbers kept)) (a : Recor
 
 -- the record at the place of a number
 pub kept_at : (kept : List Record) (place n : ℕ) (a : Record) → ((r : Record) × (slice_get kept place ≡ Some r) × (r.number ≡ n)) → slice_get kept place ≡ Some a → IsKeptAs kept n a
-kept_at kept place n a p at = (is_there kept place a at, ap (λ (z : Record). z.number) (same_value at p.1) ∙ p.2)
+kept_at kept place n a p at = (in_at kept place a at, ap (λ (z : Record). z.number) (same_value at p.1) ∙ p.2)
