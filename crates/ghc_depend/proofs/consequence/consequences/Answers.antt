@@ -5,8 +5,8 @@ use Rattle.ghc_records.specs.Record.{Record}
 use Rattle.ghc_depend.specs.Depend.{IsKeptAs}
 use Rattle.ghc_depend.proofs.Causes.{place_within, some_within}
 use Rattle.ghc_depend.proofs.Walking.{Walked, begin, goes_on, passed_by, finished, kept_at}
-use Rattle.ghc_depend.proofs.chain.consequences.Goals as goal
-use Rattle.ghc_depend.proofs.chain.consequences.Goals.{then-touches+in_ok-add-2+in_ok-push, else-touches}
+use Rattle.ghc_depend.proofs.consequence.consequences.Goals as goal
+use Rattle.ghc_depend.proofs.consequence.consequences.Goals.{then-touches+in_ok-add-2+in_ok-push, else-touches}
 
 -- where the step is kept, an error is of a kept step
 where_kept : {T E : Type 0} (r : Result T E) (kept : List Record) (n : ℕ) (a : Record) → IsKeptAs kept n a → OnErr r ((b : Record) × IsKeptAs kept n b)
@@ -21,8 +21,8 @@ loop-index-init c =
     let at = sym c.at.ensures ∙ ap option_copied c.unwrap-first.ensures in (
       a,
       kept_at kept place c.args.number a c.in-Some.ensures.found at,
-      subst (λ l. Walked kept a (place + 1) l c.add.new.self.numbers.keys c.add.new.self.bound) (sym c.new-found.ensures.items) (begin kept c.len-end.ensures.distinct a place c.new-trail.result.numbers.keys c.add.new.self.numbers.keys c.new-trail.result.bound c.add.new.self.bound at
-          c.new-trail.ensures.numbers c.new-trail.ensures.bound c.in_ok-add.ensures.numbers c.in_ok-add.ensures.bound),
+      subst (λ l. Walked kept a (place + 1) l c.add.new.self.numbers.keys c.add.new.self.bound) (sym c.new-found.ensures.items) (begin kept c.len-end.ensures.distinct a place c.new-affected.result.numbers.keys c.add.new.self.numbers.keys c.new-affected.result.bound c.add.new.self.bound at
+          c.new-affected.ensures.numbers c.new-affected.ensures.bound c.in_ok-add.ensures.numbers c.in_ok-add.ensures.bound),
     )
 
 pub loop-index-preserved : goal.loop-index-preserved
@@ -33,25 +33,25 @@ loop-index-preserved c =
     let walked = c.loop-index.invariant.2 in
     let i = c.loop-index.index in
     let items = c.loop-index.found.items in
-    let ns = c.loop-index.trail.numbers.keys in
-    let bound = c.loop-index.trail.bound in
+    let ns = c.loop-index.affected.numbers.keys in
+    let bound = c.loop-index.affected.bound in
     let b = c.unwrap-taken.result.now in
     let at = sym c.at-in-loop-index.ensures ∙ ap option_copied c.unwrap-taken.ensures in
     elim c.if-touches.branch [
-      | then-touches+in_ok-add-2+in_ok-push w ↦ rw w.found-is (rw w.trail-is (
+      | then-touches+in_ok-add-2+in_ok-push w ↦ rw w.found-is (rw w.affected-is (
         a,
         own,
         goes_on kept c.len-end.ensures.distinct a i items ns bound walked b at w.number.result w.push.new.self.items w.add-then-touches.new.self.numbers.keys w.add-then-touches.new.self.bound
             (c.touches.ensures.0 w.if-touches.true) w.in_ok-push.ensures.items w.number.ensures w.in_ok-add-2.ensures.numbers w.in_ok-add-2.ensures.bound,
       ))
-      | else-touches w ↦ rw w.found-is (rw w.trail-is (a, own, passed_by kept c.len-end.ensures.distinct a i items ns bound walked b at (λ t. let clash : true ≡ false = sym (c.touches.ensures.1 t) ∙ w.if-touches.false in cc)))
+      | else-touches w ↦ rw w.found-is (rw w.affected-is (a, own, passed_by kept c.len-end.ensures.distinct a i items ns bound walked b at (λ t. let clash : true ≡ false = sym (c.touches.ensures.1 t) ∙ w.if-touches.false in cc)))
     ]
 
 pub returns-clause-found : goal.returns-clause-found
 returns-clause-found c =
     let a = c.loop-index.invariant.0 in
     let walked = c.loop-index.invariant.2 in
-    (walked.found, inr (a, c.loop-index.invariant.1, finished c.args.records.now c.len-end.ensures.distinct a c.loop-index.index c.loop-index.found.items c.loop-index.trail.numbers.keys c.loop-index.trail.bound walked (omega (arith, c.loop-index-test.false, c.len-end.ensures.count))), walked.numbered)
+    (walked.found, inr (a, c.loop-index.invariant.1, finished c.args.records.now c.len-end.ensures.distinct a c.loop-index.index c.loop-index.found.items c.loop-index.affected.numbers.keys c.loop-index.affected.bound walked (omega (arith, c.loop-index-test.false, c.len-end.ensures.count))), walked.numbered)
 
 pub returns-in_default-clause-found : goal.returns-in_default-clause-found
 returns-in_default-clause-found c = ([], inl (c.in_default.ensures.none, refl), sym c.new-found.ensures.items)

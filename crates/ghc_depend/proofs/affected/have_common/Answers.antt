@@ -5,7 +5,7 @@ use Rattle.std.proofs.lemmas.List.{take_all}
 use Rattle.ghc_term.specs.Lists.{In}
 use Rattle.ghc_term.proofs.Members.{one_more_member, In_at, has_member}
 use Rattle.ghc_term.proofs.SetsLemmas.{is_member}
-use Rattle.ghc_depend.proofs.trail.have_common.Goals as goal
+use Rattle.ghc_depend.proofs.affected.have_common.Goals as goal
 
 pub returns-then-contains : goal.returns-then-contains
 returns-then-contains c =

@@ -3,8 +3,8 @@ ghost use Rattle.std.specs.Prelude.{◌≡◌, List, IfOk, OnErr, IfSome, IfNone
 ghost use Rattle.ghc_records.specs.Record.{Record, numbers};
 ghost use Rattle.ghc_depend.specs.Depend.{Follows, IsKeptAs, AreConsequencesOf, IsFirstConsequence};
 
+use crate::affected::Affected;
 use crate::cause::uses;
-use crate::trail::Trail;
 use ghc_records::Records;
 use std::alloc::{AllocError, Global};
 
@@ -21,14 +21,14 @@ pub fn consequences(alloc: Global, records: &Records, number: u32) -> Result<Vec
     let Some(place) = records.place_of(number) else {
         return Ok(found);
     };
-    let mut trail = Trail::new(alloc);
+    let mut affected = Affected::new(alloc);
     let first = records.at(place).unwrap();
-    trail.add(first)?;
+    affected.add(first)?;
     let end = records.len();
     for index in place + 1..end {
         let taken = records.at(index).unwrap();
-        if trail.touches(records, taken) {
-            trail.add(taken)?;
+        if affected.touches(records, taken) {
+            affected.add(taken)?;
             found.push(taken.number())?;
         }
     }
