@@ -4,6 +4,7 @@ use Rattle.std.specs.Prelude.{Option}
 use Rattle.std.specs.Ordering.{eq_by_cmp}
 use Rattle.std.specs.FinMap as finite
 use Rattle.std.specs.FinSet as set
+use Rattle.std.proofs.lemmas.Bool.{cases_eq}
 use Rattle.ghc_term.specs.declared.var_name.VarName.{VarName}
 use Rattle.ghc_term.specs.declared.goal_name.GoalName.{GoalName}
 use Rattle.ghc_term.specs.Tree.{Tree, variable, integer, node, cons, nil}
@@ -38,16 +39,10 @@ is_of k None = inr (λ s e. cc)
 is_of k (Some (call f ts)) = inr (λ s e. cc)
 is_of k (Some (unify l r)) = inr (λ s e. cc)
 is_of k (Some (assign t b)) = inr (λ s e. cc)
-is_of k (Some (stream l s)) = elim (same l k) [
+is_of k (Some (stream l s)) = elim (cases_eq l k) [
   | inl e ↦ inl (s, ap (λ i. Some (stream i s)) e)
   | inr n ↦ inr (λ u e. n (let p : l ≡ k = cc in p))
 ]
-  where
-    same : (a b : ℕ) → (a ≡ b) ⊎ (¬ (a ≡ b))
-    same a b = elim (three a b) [ inl e ↦ inl e | inr (inl l) ↦ inr (λ e. omega arith) | inr (inr l) ↦ inr (λ e. omega arith) ]
-      where
-        three : (a b : ℕ) → (a ≡ b) ⊎ ((a < b) ⊎ (b < a))
-        three a b = grind arith
 
 -- among the names, one of a goal of stream k, or none
 search : (m : Goals) (k : ℕ) (names : List GoalName) → ((g : GoalName) × (s : VarName) × (finite.get m g ≡ Some (stream k s))) ⊎ ((g : GoalName) (s : VarName) → In g names → ¬ (finite.get m g ≡ Some (stream k s)))

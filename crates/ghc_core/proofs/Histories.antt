@@ -7,6 +7,7 @@ use Rattle.std.specs.Prelude.{Some}
 use Rattle.ghc_term.specs.Lists.{In}
 use Rattle.ghc_term.specs.Tree.{Tree, IsClosed}
 use Rattle.ghc_term.specs.Store.{value_at}
+use Rattle.ghc_term.proofs.ListsLemmas.{in_more}
 use Rattle.ghc_fire.specs.declared.act.Act.{Act}
 use Rattle.ghc_fire.specs.declared.act.Act.TheVariants.{Given as given, Closed as closed}
 use Rattle.ghc_records.specs.Orders.{AreDistinct}
@@ -17,7 +18,7 @@ use Rattle.ghc_records.proofs.OrderLemmas.{number_of}
 use Rattle.ghc_records.proofs.Replaying.{run_once}
 use Rattle.ghc_depend.specs.Kept.{Keeps, taken_numbers}
 use Rattle.ghc_depend.proofs.KeptOnce.{taken_append, keeps_once}
-use Rattle.ghc_depend.proofs.Picking.{distinct_push, in_pushed}
+use Rattle.ghc_depend.proofs.Picking.{distinct_push}
 use Rattle.ghc_core.specs.World.{Proposal, Hands, IsHand, with_hand, emptied, World, with_step, Opens}
 use Rattle.ghc_core.specs.Events.{Command, input, finish, undo, roll, redo, arrange, Event, propose, commit, command, Reply, held, stepped}
 use Rattle.ghc_core.specs.Proposes as asking
@@ -240,7 +241,7 @@ grown_counted w v entry j o (inr m) c =
     sym (ap taken_numbers j ∙ taken_append w.journal (entry ∷ []) ∙ ap (λ ns. taken_numbers w.journal ++ ns) m.0) in
     record {
       distinct = subst AreDistinct taken (distinct_push (taken_numbers w.journal) w.next c.distinct (λ i. let less = c.below w.next i in omega arith));
-      below = λ n i. elim (in_pushed (taken_numbers w.journal) w.next n (subst (In n) (sym taken) i)) [
+      below = λ n i. elim (in_more (taken_numbers w.journal) w.next n (subst (In n) (sym taken) i)) [
         | inl k ↦ let less = c.below n k in let now = m.1 in omega arith
         | inr e ↦ let now = m.1 in omega (arith, e)
       ];

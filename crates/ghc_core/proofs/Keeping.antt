@@ -2,7 +2,7 @@
 use Rattle.std.proofs.Common.{◌≡◌, ℕ, List, [], ◌∷◌, ◌++◌, map, refl, sym, ap, ◌∙◌, subst}
 use Rattle.std.proofs.lemmas.List.{append-nil, append_assoc}
 use Rattle.std.specs.FinMap as finite
-use Rattle.ghc_term.specs.Lists.{In}
+use Rattle.ghc_term.proofs.ListsLemmas.{in_left}
 use Rattle.ghc_flat.specs.Clause.{Program, Query}
 use Rattle.ghc_fire.specs.declared.act.Act.{Act}
 use Rattle.ghc_fire.specs.declared.act.Act.TheVariants.{Given as given, Closed as closed}
@@ -10,8 +10,10 @@ use Rattle.ghc_records.specs.Orders.{AreDistinct}
 use Rattle.ghc_records.specs.Record.{State, Record, numbers}
 use Rattle.ghc_records.specs.Replay.{query_state, Replays}
 use Rattle.ghc_records.specs.Journal.{Opening, Entry, took, step_of}
-use Rattle.ghc_records.proofs.OrderLemmas.{in_left, number_in, number_of}
+use Rattle.ghc_records.proofs.OrderLemmas.{numbers_append}
 use Rattle.ghc_depend.specs.Kept.{Keeps}
+use Rattle.ghc_depend.proofs.KeptOnce.{runs_split}
+use Rattle.ghc_depend.proofs.Picking.{distinct_left}
 use Rattle.ghc_core.specs.World.{Hands, World, with_step, Opens}
 use Rattle.ghc_core.specs.Events.{Command, input, finish, undo, roll, redo, arrange, Reply}
 use Rattle.ghc_core.specs.Proposes as asking
@@ -20,7 +22,6 @@ use Rattle.ghc_core.specs.Reverses as by
 use Rattle.ghc_core.specs.Answers.{Obeys, Answers, to_propose, to_commit, to_note, to_command}
 use Rattle.ghc_core.specs.Legal.{at_opening, by_event, with_other_hands}
 use Rattle.ghc_core.specs.Laws as laws
-use Rattle.ghc_core.proofs.Redoing.{runs_split}
 use Rattle.ghc_core.proofs.Replayed.{Replayed, replayed}
 
 -- the journal of the world tells what it keeps
@@ -28,13 +29,7 @@ abbrev Tells : World → Type 0
 Tells w = Keeps w.opening w.journal w.kept w.shelf
 
 distinct_front : (xs ys : List Record) → AreDistinct (numbers (xs ++ ys)) → AreDistinct (numbers xs)
-distinct_front [] ys d = tt
-distinct_front (x ∷ xs) ys d = (
-  (λ i.
-      let q = number_of xs x.number i in
-      d.0 (subst (λ n. In n (numbers (xs ++ ys))) q.2 (number_in (xs ++ ys) q.0 (in_left xs ys q.0 q.1)))),
-  distinct_front xs ys d.1,
-)
+distinct_front xs ys d = distinct_left (numbers xs) (numbers ys) (subst AreDistinct (numbers_append xs ys) d)
 
 -- the first of the steps replay
 front_replays : (P : Program) (query : Query) (xs ys : List Record) (t : State) → Replays P query (xs ++ ys) t → (m : State) × Replays P query xs m

@@ -1,28 +1,27 @@
 -- A reachable world is in order.
-use Rattle.std.proofs.Common.{◌≡◌, ◌≢◌, ℕ, ◌+◌, ◌<◌, ◌≤◌, ◌⊎◌, true, false, cond, List, [], ◌∷◌, ◌++◌, refl, sym, ap, ◌∙◌, subst, inl, inr, arith, Some, None}
-use Rattle.std.specs.Ordering.{eq_by_cmp, is_eq, nat_cmp}
-use Rattle.std.specs.Cmp.{nat_cmp_total, tied_itself, ranked}
-use Rattle.std.specs.declared.cmp.Ordering.{Ordering}
-use Rattle.std.specs.declared.cmp.Ordering.TheVariants.{Less, Equal, Greater}
+use Rattle.std.proofs.Common.{◌≡◌, ℕ, ◌+◌, ◌<◌, ◌≤◌, ◌⊎◌, List, [], ◌∷◌, ◌++◌, refl, sym, ap, ◌∙◌, subst, inl, inr, arith, Some, None}
+use Rattle.std.specs.Ordering.{nat_cmp}
 use Rattle.std.specs.FinMap as finite
 use Rattle.ghc_term.specs.Lists.{In}
 use Rattle.ghc_term.specs.Bindings.{IsAcyclic}
 use Rattle.ghc_term.specs.Store.{value_at}
+use Rattle.ghc_term.proofs.ListsLemmas.{in_left, in_right, in_either, in_more}
 use Rattle.ghc_flat.specs.Flat.{IsProgram, IsQuery}
 use Rattle.ghc_fire.specs.Instance.{made}
 use Rattle.ghc_fire.specs.declared.act.Act.{Act}
 use Rattle.ghc_fire.specs.declared.act.Act.TheVariants.{Given as given, Closed as closed}
-use Rattle.ghc_records.specs.Orders.{Picks, nothing, take, leave, AreDistinct}
-use Rattle.ghc_records.specs.Record.{State, Record, numbers, Shelf, after, Fires}
+use Rattle.ghc_records.specs.Orders.{AreDistinct}
+use Rattle.ghc_records.specs.Record.{State, Record, numbers, after, Fires}
 use Rattle.ghc_records.specs.Replay.{query_state, IsVariableOf}
 use Rattle.ghc_records.specs.Journal.{Entry}
-use Rattle.ghc_records.proofs.OrderLemmas.{in_left, in_right, in_either, number_in, number_of, record_once}
+use Rattle.ghc_records.proofs.OrderLemmas.{number_in, number_of, record_once, numbers_append}
 use Rattle.ghc_records.proofs.Effects.{HasOnly, has_more, after_has, after_acyclic}
 use Rattle.ghc_records.proofs.Replaying.{of_query, replay_well}
 use Rattle.ghc_records.proofs.StreamLemmas.{OneEach, after_one_each, run_one_each, query_one_each}
-use Rattle.ghc_depend.specs.Kept.{with_shelved}
 use Rattle.ghc_depend.specs.Depend.{GoesWith}
 use Rattle.ghc_depend.specs.Lawful.{IsLawful, IsInOrder}
+use Rattle.ghc_depend.proofs.Picking.{picks_in, records_push}
+use Rattle.ghc_depend.proofs.KeptOnce.{shelved, unshelved}
 use Rattle.ghc_core.specs.World.{Hands, World, IsReplay, IsNextStep, with_step, Opens}
 use Rattle.ghc_core.specs.Events.{Command, input, finish, undo, roll, redo, arrange, Reply}
 use Rattle.ghc_core.specs.Proposes as asking
@@ -49,57 +48,9 @@ pub record Good (w : World) : Type 0 where
   pub has : HasOnly (IsVariableOf w.opening.query w.kept) w.state
   pub one : OneEach w.state
 
-pub distinct_push : (rs : List Record) (r : Record) → AreDistinct (numbers rs) → ¬ In r.number (numbers rs) → AreDistinct (numbers (rs ++ r ∷ []))
-distinct_push [] r d n = ((λ i. i), tt)
-distinct_push (s ∷ rs) r d n = (
-  (λ i.
-      let q = number_of (rs ++ r ∷ []) s.number i in
-      elim (in_either rs (r ∷ []) q.0 q.1) [
-        | inl j ↦ d.0 (subst (λ m. In m (numbers rs)) q.2 (number_in rs q.0 j))
-        | inr (inl e) ↦ n (inl (ap (λ (x : Record). x.number) (sym e) ∙ q.2))
-        | inr (inr j) ↦ absurd j
-      ]),
-  distinct_push rs r d.1 (λ i. n (inr i)),
-)
-
 -- a number of the record with one more
 pushed : (rs : List Record) (r : Record) (n : ℕ) → In n (numbers (rs ++ r ∷ [])) → In n (numbers rs) ⊎ (n ≡ r.number)
-pushed rs r n i =
-    let q = number_of (rs ++ r ∷ []) n i in
-    elim (in_either rs (r ∷ []) q.0 q.1) [
-      | inl j ↦ inl (subst (λ m. In m (numbers rs)) q.2 (number_in rs q.0 j))
-      | inr (inl e) ↦ inr (sym q.2 ∙ ap (λ (x : Record). x.number) e)
-      | inr (inr j) ↦ absurd j
-    ]
-
-picks_in : {P : Record → Type 0} (xs ys : List Record) (y : Record) → Picks P xs ys → In y ys → In y xs × P y
-picks_in [] ys y nothing i = absurd i
-picks_in {P} (x ∷ xs) ys y (take p k) (inl e) = (inl e, subst P (sym e) p)
-picks_in (x ∷ xs) ys y (take p k) (inr i) = let q = picks_in xs _ y k i in (inr q.0, q.1)
-picks_in (x ∷ xs) ys y (leave p k) i = let q = picks_in xs _ y k i in (inr q.0, q.1)
-
-tied : (r : Ordering) → is_eq r ≡ true → r ≡ Equal
-tied Less e = cc
-tied Equal e = refl
-tied Greater e = cc
-
-pub same_number : (m n : ℕ) → eq_by_cmp nat_cmp m n ≡ true → m ≡ n
-same_number m n e = ranked m n Equal (sym (tied (nat_cmp m n) e))
-
-shelved : (gone : List Record) (shelf : Shelf) (n : ℕ) (r : Record) → finite.get (with_shelved gone shelf) n ≡ Some r → (In r gone × (r.number ≡ n)) ⊎ (finite.get shelf n ≡ Some r)
-shelved [] shelf n r e = inr e
-shelved (s ∷ gone) shelf n r e =
-    elim (eq_by_cmp nat_cmp n s.number) as (λ b. eq_by_cmp nat_cmp n s.number ≡ b → cond b (Some s) (finite.get (with_shelved gone shelf) n) ≡ Some r → (In r (s ∷ gone) × (r.number ≡ n)) ⊎ (finite.get shelf n ≡ Some r)) [
-      | true ↦ λ p q. let same : s ≡ r = cc in inl (inl (sym same), ap (λ (x : Record). x.number) (sym same) ∙ sym (same_number n s.number p))
-      | false ↦ λ p q. elim (shelved gone shelf n r q) [ inl a ↦ inl (inr a.0, a.1) | inr a ↦ inr a ]
-    ] refl (sym (finite.get-insert nat_cmp_total (with_shelved gone shelf) s.number s n) ∙ e)
-
-unshelved : (shelf : Shelf) (n m : ℕ) (r : Record) → finite.get (finite.remove shelf n) m ≡ Some r → (finite.get shelf m ≡ Some r) × (m ≢ n)
-unshelved shelf n m r e =
-    elim (eq_by_cmp nat_cmp m n) as (λ b. eq_by_cmp nat_cmp m n ≡ b → cond b None (finite.get shelf m) ≡ Some r → (finite.get shelf m ≡ Some r) × (m ≢ n)) [
-      | true ↦ λ p q. cc
-      | false ↦ λ p q. (q, λ same. let clash : false ≡ true = sym p ∙ subst (λ z. eq_by_cmp nat_cmp m z ≡ true) same (ap is_eq (tied_itself nat_cmp_total m)) in cc)
-    ] refl (sym (finite.get-remove nat_cmp_total shelf n m) ∙ e)
+pushed rs r n i = in_more (numbers rs) r.number n (subst (In n) (numbers_append rs (r ∷ [])) i)
 
 module _ (w : World) (good : Good w) where
   -- a step more at the end of the record
@@ -145,7 +96,7 @@ module _ (w : World) (good : Good w) where
       record {
         accepted = good.accepted;
         asked = good.asked;
-        kept_once = distinct_push w.kept r good.kept_once new;
+        kept_once = records_push w.kept r good.kept_once new;
         positive = push_positive r n.1 positive new;
         below = push_below r n.1 positive new (w.next + 1) (omega arith) (omega (arith, n.0));
         shelf = λ m s e. let o = good.shelf m s e in (o.0, o.1, omega (arith, o.2), λ i. elim (pushed w.kept r m i) [ inl j ↦ o.3 j | inr same ↦ let less = o.2 in let number = n.0 in omega arith ]);
@@ -163,7 +114,7 @@ module _ (w : World) (good : Good w) where
       record {
         accepted = good.accepted;
         asked = good.asked;
-        kept_once = distinct_push w.kept r good.kept_once new;
+        kept_once = records_push w.kept r good.kept_once new;
         positive = push_positive r fires positive new;
         below = push_below r fires positive new w.next (omega arith) (subst (λ m. m < w.next) (sym on.0) on.2);
         shelf = λ m s k. let u = unshelved w.shelf n m s k in let o = good.shelf m s u.0 in (o.0, o.1, o.2, λ i. elim (pushed w.kept r m i) [ inl j ↦ o.3 j | inr same ↦ u.1 (same ∙ on.0) ]);

@@ -5,13 +5,13 @@ use Rattle.std.specs.Ordering.{eq_by_cmp, is_eq, nat_cmp}
 use Rattle.std.specs.Cmp.{nat_cmp_total, tied_itself}
 use Rattle.std.specs.FinMap as finite
 use Rattle.ghc_term.specs.Lists.{In}
-use Rattle.ghc_flat.specs.Clause.{Program}
+use Rattle.ghc_term.proofs.ListsLemmas.{in_either}
 use Rattle.ghc_records.specs.Numbers.{kept_limit}
 use Rattle.ghc_records.specs.Orders.{AreDistinct}
-use Rattle.ghc_records.specs.Record.{State, Record, numbers, Shelf, after}
+use Rattle.ghc_records.specs.Record.{State, Record, numbers, Shelf}
 use Rattle.ghc_records.specs.Replay.{query_state, Runs}
 use Rattle.ghc_records.specs.Journal.{Entry, undid, rolled}
-use Rattle.ghc_records.proofs.OrderLemmas.{in_either, number_in, records_distinct}
+use Rattle.ghc_records.proofs.OrderLemmas.{number_in, records_distinct}
 use Rattle.ghc_records.proofs.Replaying.{run_once}
 use Rattle.ghc_depend.specs.Depend.{GoesWith}
 use Rattle.ghc_depend.specs.Deletion.{IsClosedUnder, IsPartedBy}
@@ -19,18 +19,15 @@ use Rattle.ghc_depend.specs.Kept.{with_shelved}
 use Rattle.ghc_depend.proofs.ComingBack.{both_distinct, come_back}
 use Rattle.ghc_depend.proofs.Following.{one_is, alone_closed, split_closed}
 use Rattle.ghc_depend.proofs.Picking.{no_longer, picks_in, picks_distinct}
+use Rattle.ghc_depend.proofs.KeptOnce.{same_number, runs_split}
 use Rattle.ghc_core.specs.World.{Hands, World, IsReplay}
 use Rattle.ghc_core.specs.Events.{Command, input, finish, undo, roll, redo, arrange, command, Reply, stepped, undone}
 use Rattle.ghc_core.specs.Streams as streams
 use Rattle.ghc_core.specs.Reverses as by
 use Rattle.ghc_core.specs.Answers.{Obeys, to_command, AnswersEach}
 use Rattle.ghc_core.specs.Returns as laws
-use Rattle.ghc_core.proofs.Reaching.{Good, same_number, reached_good}
+use Rattle.ghc_core.proofs.Reaching.{Good, reached_good}
 use Rattle.ghc_core.proofs.Replayed.{Replayed, replayed}
-
-pub runs_split : (P : Program) (xs ys : List Record) (s t : State) → Runs P s (xs ++ ys) t → (m : State) × Runs P s xs m × Runs P m ys t
-runs_split P [] ys s t run = (s, refl, run)
-runs_split P (x ∷ xs) ys s t run = let rest = runs_split P xs ys (after s x) t run.1 in (rest.0, (run.0, rest.1), rest.2)
 
 number_apart : (m n : ℕ) → ¬ (m ≡ n) → eq_by_cmp nat_cmp m n ≡ false
 number_apart m n apart =

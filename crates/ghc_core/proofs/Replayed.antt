@@ -4,6 +4,7 @@ use Rattle.std.proofs.lemmas.List.{length-append}
 use Rattle.std.specs.FinMap as finite
 use Rattle.std.specs.Prelude.{Some}
 use Rattle.ghc_term.specs.Lists.{In}
+use Rattle.ghc_term.proofs.ListsLemmas.{in_either}
 use Rattle.ghc_flat.specs.Clause.{Program}
 use Rattle.ghc_fire.specs.declared.act.Act.{Act}
 use Rattle.ghc_fire.specs.declared.act.Act.TheVariants.{Given as given, Closed as closed}
@@ -11,9 +12,9 @@ use Rattle.ghc_records.specs.Numbers.{number_limit, kept_limit, IsStepNumber}
 use Rattle.ghc_records.specs.Orders.{AreDistinct}
 use Rattle.ghc_records.specs.Record.{State, Record, numbers, after, Fires}
 use Rattle.ghc_records.specs.Replay.{query_state, Runs}
-use Rattle.ghc_records.proofs.OrderLemmas.{in_either, records_distinct}
+use Rattle.ghc_records.proofs.OrderLemmas.{records_distinct}
 use Rattle.ghc_depend.proofs.Arranging.{arranged}
-use Rattle.ghc_depend.proofs.Picking.{no_longer, picks_in}
+use Rattle.ghc_depend.proofs.Picking.{no_longer, picks_in, records_push}
 use Rattle.ghc_core.specs.World.{Hands, World, IsReplay, IsNextStep, with_step}
 use Rattle.ghc_core.specs.Events.{Command, input, finish, undo, roll, redo, arrange, Reply}
 use Rattle.ghc_core.specs.Proposes as asking
@@ -22,7 +23,7 @@ use Rattle.ghc_core.specs.Reverses as by
 use Rattle.ghc_core.specs.Answers.{Obeys, Answers, to_propose, to_commit, to_note, to_command}
 use Rattle.ghc_core.specs.Legal.{IsReachable, at_opening, by_event, with_other_hands}
 use Rattle.ghc_core.specs.Returns as laws
-use Rattle.ghc_core.proofs.Reaching.{Good, distinct_push, not_kept_next, reached_good}
+use Rattle.ghc_core.proofs.Reaching.{Good, not_kept_next, reached_good}
 
 -- the state is the replay of the kept steps, and numbers and steps are within their limits
 pub record Replayed (w : World) : Type 0 where
@@ -52,7 +53,7 @@ module _ (w : World) (good : Good w) (h : Replayed w) where
         | inr (inl e) ↦ subst (λ (z : Record). IsStepNumber z.number) (sym e) n
         | inr (inr j) ↦ absurd j
       ],
-      distinct_push w.kept r good.kept_once new,
+      records_push w.kept r good.kept_once new,
     ),
     runs_push w.opening.program w.kept r (query_state w.opening.query) w.state h.replay.1 f,
   )

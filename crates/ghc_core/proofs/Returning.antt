@@ -4,17 +4,18 @@ use Rattle.std.specs.Prelude.{Option}
 use Rattle.ghc_term.specs.Lists.{In}
 use Rattle.ghc_term.specs.declared.goal_name.GoalName.{GoalName}
 use Rattle.ghc_term.specs.declared.fault.Fault.{Fault}
+use Rattle.ghc_term.proofs.ListsLemmas.{in_right, in_either}
+use Rattle.ghc_term.proofs.Decided.{nat_decided, in_decided}
 use Rattle.ghc_fire.specs.declared.act.Act.{Act}
 use Rattle.ghc_fire.specs.declared.act.Act.TheVariants.{Given as given, Closed as closed}
 use Rattle.ghc_records.specs.Orders.{nothing, take, leave, AreDistinct}
 use Rattle.ghc_records.specs.Record.{Record, numbers}
 use Rattle.ghc_records.specs.Journal.{undid, rolled}
-use Rattle.ghc_records.proofs.OrderLemmas.{in_right, in_either, Before, is_before, before_in, before_once, number_in, number_of, records_distinct}
+use Rattle.ghc_records.proofs.OrderLemmas.{Before, is_before, before_in, before_once, number_in, number_of, records_distinct}
 use Rattle.ghc_depend.specs.Depend.{Follows, directly, further}
 use Rattle.ghc_depend.specs.Kept.{IsWithout}
-use Rattle.ghc_depend.proofs.Decided.{known_in}
 use Rattle.ghc_depend.proofs.Following.{first_or_none}
-use Rattle.ghc_depend.proofs.Picking.{before_front}
+use Rattle.ghc_depend.proofs.Picking.{before_front, records_push}
 use Rattle.ghc_depend.proofs.Undoing as undoing
 use Rattle.ghc_core.specs.World.{Hands, World, IsReplay, IsNextStep, with_step}
 use Rattle.ghc_core.specs.Events.{Command, input, finish, undo, roll, redo, arrange, Reply, stepped, undone, refused}
@@ -23,7 +24,7 @@ use Rattle.ghc_core.specs.Streams as streams
 use Rattle.ghc_core.specs.Reverses as by
 use Rattle.ghc_core.specs.Answers.{Obeys, Answers, to_propose, to_commit, to_note, to_command}
 use Rattle.ghc_core.specs.Returns as laws
-use Rattle.ghc_core.proofs.Reaching.{Good, distinct_push, reached_good}
+use Rattle.ghc_core.proofs.Reaching.{Good, reached_good}
 use Rattle.ghc_core.proofs.Replayed.{not_next, reachable_replay}
 
 pub undo_takes : laws.UndoTakesStepAway
@@ -39,7 +40,7 @@ roll_takes w hands n r reach k =
     (u.0, by.without_steps u.0 u.1 u.2 (rolled n) w, by.Rolls.takes_away r u.0 u.1 u.2 k u.3 u.4, u.3, u.5)
 
 pub undoes_answered : laws.UndoesHaveAnAnswer
-undoes_answered w hands n reach = elim (known_in n (numbers w.kept)) [
+undoes_answered w hands n reach = elim (in_decided nat_decided n (numbers w.kept)) [
   | inr no_one ↦ (refused Fault.NotKept, w, by.Undoes.fails (by.UndoFails.not_kept (λ r i e. no_one (subst (λ m. In m (numbers w.kept)) e (number_in w.kept r i)))))
   | inl i ↦
       let r = number_of w.kept n i in
@@ -51,7 +52,7 @@ undoes_answered w hands n reach = elim (known_in n (numbers w.kept)) [
 ]
 
 pub rolls_answered : laws.RollsHaveAnAnswer
-rolls_answered w hands n reach = elim (known_in n (numbers w.kept)) [
+rolls_answered w hands n reach = elim (in_decided nat_decided n (numbers w.kept)) [
   | inr no_one ↦ (refused Fault.NotKept, w, by.Rolls.not_kept (λ r i e. no_one (subst (λ m. In m (numbers w.kept)) e (number_in w.kept r i))))
   | inl i ↦ let r = number_of w.kept n i in let u = roll_takes w hands n r.0 reach (r.1, r.2) in (undone (numbers u.0), u.1, u.2)
 ]
@@ -77,7 +78,7 @@ module _ (w : World) (good : Good w) (replay : IsReplay w w.kept w.state) where
   undo_last : (r : Record) (n : ℕ) (v : World) → v.opening ≡ w.opening → v.kept ≡ w.kept ++ r ∷ [] → r.number ≡ n → ¬ In r.number (numbers w.kept)
       → (u : World) × by.Undoes ⊥ v n (undone (n ∷ [])) u × (u.state ≡ w.state) × (u.kept ≡ w.kept)
   undo_last r n v opening kept number new =
-      let distinct = records_distinct (w.kept ++ r ∷ []) (distinct_push w.kept r good.kept_once new) in (
+      let distinct = records_distinct (w.kept ++ r ∷ []) (records_push w.kept r good.kept_once new) in (
         by.without_steps (r ∷ []) w.kept w.state (undid n) v,
         by.Undoes.takes_away r w.kept w.state (subst (In r) (sym kept) (in_right w.kept (r ∷ []) r (inl refl)), number)
             (λ b f. last_alone w.kept r distinct (subst (λ z. Follows z r b) kept f))

@@ -13,6 +13,7 @@ use Rattle.ghc_depend.specs.Kept.{IsWithout}
 use Rattle.ghc_depend.proofs.Undoing as undoing
 use Rattle.ghc_depend.proofs.TakingBack.{is_without}
 use Rattle.ghc_depend.proofs.Comparing.{without_once}
+use Rattle.ghc_depend.proofs.KeptOnce.{same_number}
 use Rattle.ghc_core.specs.World.{World, IsReplay}
 use Rattle.ghc_core.specs.Events.{undo, command, undone}
 use Rattle.ghc_core.specs.Reverses.{Undoes}
@@ -21,7 +22,7 @@ use Rattle.ghc_core.specs.Answers.{to_command}
 use Rattle.ghc_core.specs.Legal.{by_event}
 use Rattle.ghc_core.specs.Core.{IsStanding}
 use Rattle.ghc_core.proofs.Preparing.{same_world}
-use Rattle.ghc_core.proofs.Reaching.{reached_good, same_number}
+use Rattle.ghc_core.proofs.Reaching.{reached_good}
 use Rattle.ghc_core.proofs.Standing.{standing_replay}
 
 -- in a standing world a kept step is not on the shelf

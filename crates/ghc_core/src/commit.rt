@@ -1,5 +1,5 @@
 // Steps of a core: proposals, the steps that they would take, and taking them.
-ghost use Rattle.std.specs.Prelude.{◌≡◌, ◌≢◌, ◌⊎◌, ◌∷◌, ◌++◌, [], true, false, Some, Err, List, option_copied, IfOk, IfErr, OnOk, OnErr, IsErrAnd, MatchResult, ⊤};
+ghost use Rattle.std.specs.Prelude.{◌≡◌, ◌≢◌, ◌⊎◌, ◌∷◌, ◌++◌, [], true, false, Some, None, Err, List, option_copied, IfOk, IfErr, OnOk, OnErr, IsErrAnd, MatchResult, ⊤};
 ghost use Rattle.std.specs.FinMap as finite;
 ghost use Rattle.ghc_term.specs.Lists.{In};
 ghost use Rattle.ghc_term.specs.declared.fault.Fault.{Fault as fault_spec};
@@ -136,6 +136,7 @@ impl Core {
         ensures proposed { IfOk result (IsProposed self.old.world.opening.program self.old.world.state.goals self.old.world.state.store goal choice) }
         ensures only { (a : act_spec) (e : effect_spec) → AttemptAnswers self.old.world goal choice (proposes a e)
             → MatchResult result (λ p. (p.act ≡ a) × (p.effect ≡ e)) (λ f. f ≡ Fault.Memory) }
+        ensures no_goal { AttemptAnswers self.old.world goal choice (refused Fault.NoGoal) → result ≡ Err Fault.NoGoal }
         ensures world { self.new.world ≡ self.old.world }
         ensures names { self.new.names ≡ self.old.names }
         ensures counted { self.new.meter ≡ fired self.old.meter }
@@ -170,6 +171,9 @@ impl Core {
         // There is one answer, unless memory is wanting.
         ensures only { (r : record_spec) → IsCommitOf self.old.world proposal.now r → MatchResult result (λ q. q ≡ r) (λ f. f ≡ Fault.Memory) }
         ensures only_fault { (f : fault_spec) → CommitFails self.old.world proposal.now f → IsErrAnd result (λ g. (g ≡ f) ⊎ (g ≡ Fault.Memory)) }
+
+        // No want of memory hides that the goal is not there any more.
+        ensures gone { finite.get self.old.world.state.goals proposal.now.goal ≡ None → result ≡ Err Fault.Stale }
         ensures world { self.new.world ≡ self.old.world }
         ensures names { self.new.names ≡ self.old.names }
         ensures counted { self.new.meter ≡ fired self.old.meter }
@@ -227,6 +231,9 @@ impl Core {
         // There is one answer, unless memory is wanting.
         ensures only { (r : record_spec) → IsCommitOf self.old.world proposal.now r → MatchResult result (λ _. ⊤) (λ f. f ≡ Fault.Memory) }
         ensures only_fault { (f : fault_spec) → CommitFails self.old.world proposal.now f → IsErrAnd result (λ g. (g ≡ f) ⊎ (g ≡ Fault.Memory)) }
+
+        // No want of memory hides that the goal is not there any more.
+        ensures gone { finite.get self.old.world.state.goals proposal.now.goal ≡ None → result ≡ Err Fault.Stale }
         ensures err { OnErr result (self.new.world ≡ self.old.world) }
         ensures names { self.new.names ≡ self.old.names }
         ensures counted { self.new.meter ≡ fired self.old.meter }

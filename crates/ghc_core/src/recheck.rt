@@ -1,5 +1,5 @@
 // Proposals made again, to see whether they still hold.
-ghost use Rattle.std.specs.Prelude.{◌≡◌, ◌≢◌, ◌⊎◌, true, false, Some, IfOk, IfErr};
+ghost use Rattle.std.specs.Prelude.{◌≡◌, ◌≢◌, ◌⊎◌, true, false, Some, None, Err, IfOk, IfErr};
 ghost use Rattle.std.specs.FinMap as finite;
 ghost use Rattle.ghc_fire.specs.Meter.{fired};
 ghost use Rattle.ghc_fire.specs.Proposal.{Proposal as proposal_spec};
@@ -62,6 +62,7 @@ pub fn recheck(alloc: Global, core: &mut Core, proposal: &Proposal) -> Result<Pr
     ensures there { IfOk result (λ p. finite.get core.old.world.state.goals p.goal ≡ Some p.consumed) }
     ensures same { IfOk result (λ p. (p.goal ≡ proposal.now.goal) × (p.act ≡ proposal.now.act) × (p.effect ≡ proposal.now.effect)) }
     ensures fault { IfErr result (λ f. (f ≡ Fault.Memory) ⊎ ((f ≡ Fault.Stale) × ¬ StillHolds core.old.world proposal.now)) }
+    ensures gone { finite.get core.old.world.state.goals proposal.now.goal ≡ None → result ≡ Err Fault.Stale }
     ensures world { core.new.world ≡ core.old.world }
     ensures names { core.new.names ≡ core.old.names }
     ensures counted { core.new.meter ≡ fired core.old.meter }

@@ -12,15 +12,15 @@ use Rattle.ghc_term.specs.Lists.{In}
 use Rattle.ghc_term.specs.Bindings.{name_cmp}
 use Rattle.ghc_term.proofs.Names.{name_total, name_antisymmetric}
 use Rattle.ghc_term.proofs.Members.{has_member}
+use Rattle.ghc_term.proofs.ListsLemmas.{in_left, in_right, in_more, in_at}
+use Rattle.ghc_term.proofs.SetsLemmas.{is_member}
 use Rattle.ghc_records.specs.Orders.{Precedes, AreDistinct}
 use Rattle.ghc_records.specs.Record.{Record, numbers}
-use Rattle.ghc_records.proofs.OrderLemmas.{in_left, in_right, Before, is_before, before_is, before_in, before_once, record_once, records_distinct}
+use Rattle.ghc_records.proofs.OrderLemmas.{Before, is_before, before_is, before_in, before_once, record_once, records_distinct}
 use Rattle.ghc_depend.specs.Depend.{MakesGoal, Consumes, Binds, ReadsFrom, IsKeptAs}
 use Rattle.ghc_depend.specs.declared.cause.Cause.TheVariants.{Made as made, Read as read}
 use Rattle.ghc_depend.specs.Cause.{CanWait, WasThereBefore, ReadsBehind, IsWokenBy, IsLeastRead, by_making, by_reading, IsDirect}
 use Rattle.ghc_depend.proofs.Finding.{same_value}
-use Rattle.ghc_depend.proofs.Picking.{in_pushed}
-use Rattle.ghc_depend.proofs.Trails.{is_there, member_of}
 use Rattle.ghc_depend.proofs.Walking.{kept_at}
 
 module _ {X : Type 0} where
@@ -29,7 +29,7 @@ module _ {X : Type 0} where
   places_before [] zero j a b p q h = cc
   places_before [] (suc i) j a b p q h = cc
   places_before (x ∷ xs) zero zero a b p q h = absurd (omega arith)
-  places_before (x ∷ xs) zero (suc j) a b p q h = let same : x ≡ a = cc in inl (sym same, is_there xs j b q)
+  places_before (x ∷ xs) zero (suc j) a b p q h = let same : x ≡ a = cc in inl (sym same, in_at xs j b q)
   places_before (x ∷ xs) (suc i) zero a b p q h = absurd (omega arith)
   places_before (x ∷ xs) (suc i) (suc j) a b p q h = inr (places_before xs i j a b p q (omega arith))
 
@@ -86,21 +86,21 @@ module _ (a : Record) (xs : List VarName) (x : VarName) where
 
   -- one variable more, which the step did not bind
   pub least_passed : (o : Option VarName) → IsLeastOf a xs o → ¬ Binds a x → IsLeastOf a (xs ++ x ∷ []) o
-  least_passed None h n = λ z i b. elim (in_pushed xs x z i) [ inl j ↦ h z j b | inr e ↦ n (subst (Binds a) e b) ]
+  least_passed None h n = λ z i b. elim (in_more xs x z i) [ inl j ↦ h z j b | inr e ↦ n (subst (Binds a) e b) ]
   least_passed (Some y) h n = (
     in_left xs (x ∷ []) y h.0,
     h.1,
-    λ z i b. elim (in_pushed xs x z i) [ inl j ↦ h.2 z j b | inr e ↦ absurd (n (subst (Binds a) e b)) ],
+    λ z i b. elim (in_more xs x z i) [ inl j ↦ h.2 z j b | inr e ↦ absurd (n (subst (Binds a) e b)) ],
   )
 
   first_one : IsLeastOf a xs None → Binds a x → IsLeastOf a (xs ++ x ∷ []) (Some x)
-  first_one h b = (last, b, λ z i c. elim (in_pushed xs x z i) [ inl j ↦ absurd (h z j c) | inr e ↦ inl e ])
+  first_one h b = (last, b, λ z i c. elim (in_more xs x z i) [ inl j ↦ absurd (h z j c) | inr e ↦ inl e ])
 
   lesser_one : (y : VarName) → IsLeastOf a xs (Some y) → Binds a x → name_cmp x y ≡ Less → IsLeastOf a (xs ++ x ∷ []) (Some x)
   lesser_one y h b less = (
     last,
     b,
-    λ z i c. elim (in_pushed xs x z i) [
+    λ z i c. elim (in_more xs x z i) [
       | inl j ↦ inr (elim (h.2 z j c) [ inl e ↦ subst (λ w. name_cmp x w ≡ Less) (sym e) less | inr l ↦ name_total.trans x y z less l ])
       | inr e ↦ inl e
     ],
@@ -110,7 +110,7 @@ module _ (a : Record) (xs : List VarName) (x : VarName) where
   same_one y h order = (
     in_left xs (x ∷ []) y h.0,
     h.1,
-    λ z i c. elim (in_pushed xs x z i) [
+    λ z i c. elim (in_more xs x z i) [
       | inl j ↦ h.2 z j c
       | inr e ↦ elim order [ inl f ↦ inl (e ∙ f) | inr l ↦ inr (subst (λ w. name_cmp y w ≡ Less) (sym e) l) ]
     ],
@@ -127,10 +127,10 @@ module _ (a : Record) (xs : List VarName) (x : VarName) where
 -- the least of what a step read
 pub least_is : (b a : Record) (xs : List VarName) (o : Option VarName) → set.from_list xs ≡ b.effect.reads → IsLeastOf a xs o → IfSome o (IsLeastRead b a)
 least_is b a xs None all h = tt
-least_is b a xs (Some y) all h = ((has_member b.effect.reads xs all y h.0, h.1), λ x r. h.2 x (member_of b.effect.reads xs all x r.0) r.1)
+least_is b a xs (Some y) all h = ((has_member b.effect.reads xs all y h.0, h.1), λ x r. h.2 x (is_member b.effect.reads xs all x r.0) r.1)
 
 pub least_none : (b a : Record) (xs : List VarName) (o : Option VarName) → set.from_list xs ≡ b.effect.reads → IsLeastOf a xs o → IfNone o ((x : VarName) → ¬ ReadsFrom b a x)
-least_none b a xs None all h = λ x r. h x (member_of b.effect.reads xs all x r.0) r.1
+least_none b a xs None all h = λ x r. h x (is_member b.effect.reads xs all x r.0) r.1
 least_none b a xs (Some y) all h = tt
 
 -- the goal that b consumed, and the step that made it
@@ -148,7 +148,7 @@ module _ (rs : List Record) (distinct : AreDistinct (numbers rs)) (b : Record) w
 
     module _ (maker : Record) (made : ℕ) (at : slice_get rs made ≡ Some maker) (number : maker.number ≡ name.step) where
       only_maker : (m : Record) → In m rs → Consumes b m → m ≡ maker
-      only_maker m i c = record_once rs m maker distinct i (is_there rs made maker at) (sym (goal_made b m name e c).0 ∙ sym number)
+      only_maker m i c = record_once rs m maker distinct i (in_at rs made maker at) (sym (goal_made b m name e c).0 ∙ sym number)
 
       pub before_other : ¬ MakesGoal maker name → (a : Record) → WasThereBefore rs b a
       before_other n a m i c = absurd (n (subst (λ z. MakesGoal z name) (only_maker m i c) (goal_made b m name e c)))
@@ -158,7 +158,7 @@ module _ (rs : List Record) (distinct : AreDistinct (numbers rs)) (b : Record) w
         was_there h m i c = subst (λ z. Precedes rs z a) (sym (only_maker m i c)) (before_is rs maker a (places_before rs made place maker a at there h))
 
         pub place_there : WasThereBefore rs b a → made < place
-        place_there h = before_places rs (records_distinct rs distinct) made place maker a at there (is_before rs maker a (h maker (is_there rs made maker at) (name, e, makes)))
+        place_there h = before_places rs (records_distinct rs distinct) made place maker a at there (is_before rs maker a (h maker (in_at rs made maker at) (name, e, makes)))
 
 -- P holds of none of the steps behind this place and in front of the other
 abbrev pub NoneBetween : (Record → Type 0) → List Record → ℕ → ℕ → Type 0
@@ -203,7 +203,7 @@ abbrev pub StandsAt : List Record → ℕ → ℕ → Type 0
 StandsAt rs n place = (r : Record) × (slice_get rs place ≡ Some r) × (r.number ≡ n)
 
 pub placed : (rs : List Record) (n place : ℕ) (a : Record) → AreDistinct (numbers rs) → StandsAt rs n place → IsKeptAs rs n a → slice_get rs place ≡ Some a
-placed rs n place a distinct p k = subst (λ z. slice_get rs place ≡ Some z) (record_once rs p.0 a distinct (is_there rs place p.0 p.1) k.0 (p.2 ∙ sym k.1)) p.1
+placed rs n place a distinct p k = subst (λ z. slice_get rs place ≡ Some z) (record_once rs p.0 a distinct (in_at rs place p.0 p.1) k.0 (p.2 ∙ sym k.1)) p.1
 
 module _ (rs : List Record) (later earlier place behind : ℕ) (first : StandsAt rs earlier place) (second : StandsAt rs later behind) where
   -- a step that does not stand behind does not depend

@@ -3,11 +3,12 @@ use Rattle.std.proofs.Common.{List, ◌++◌, sym, subst, inl, inr}
 use Rattle.ghc_term.specs.Lists.{In}
 use Rattle.ghc_term.specs.Bindings.{IsAcyclic}
 use Rattle.ghc_term.specs.Store.{value_at}
+use Rattle.ghc_term.proofs.ListsLemmas.{in_left, in_right, in_either}
 use Rattle.ghc_flat.specs.Clause.{Program, Query}
 use Rattle.ghc_records.specs.Orders.{AreDistinct}
 use Rattle.ghc_records.specs.Record.{State, Record, numbers}
 use Rattle.ghc_records.specs.Replay.{Replays}
-use Rattle.ghc_records.proofs.OrderLemmas.{in_left, in_right, in_either, Before, is_before, records_distinct}
+use Rattle.ghc_records.proofs.OrderLemmas.{Before, is_before, records_distinct}
 use Rattle.ghc_records.proofs.Replaying.{replay_well}
 use Rattle.ghc_depend.specs.Depend.{DependsOn, directly}
 use Rattle.ghc_depend.specs.Deletion.{IsClosedUnder, IsPartedBy}

@@ -1,60 +1,30 @@
 -- Whether an order is lawful is decided by going over order and record.
-use Rattle.std.proofs.Common.{◌≡◌, ℕ, ◌≤◌, ◌⊎◌, true, false, cond, Bool, List, [], ◌∷◌, ◌++◌, map, length, refl, sym, ap, ◌∙◌, subst, inl, inr, arith, Some, None, append_assoc, append-nil}
+use Rattle.std.proofs.Common.{◌≡◌, ℕ, ◌≤◌, ◌⊎◌, List, [], ◌∷◌, ◌++◌, map, length, refl, sym, ap, ◌∙◌, subst, inl, inr, arith, Some, None, append_assoc, append-nil}
 use Rattle.std.specs.Prelude.{Option, is_some}
-use Rattle.std.specs.Ordering.{eq_by_cmp}
 use Rattle.std.specs.FinMap as finite
 use Rattle.std.specs.FinSet as set
 use Rattle.ghc_term.specs.declared.var_name.VarName.{VarName}
 use Rattle.ghc_term.specs.declared.goal_name.GoalName.{GoalName}
-use Rattle.ghc_term.specs.Tree.{Tree}
-use Rattle.std.proofs.lemmas.Bool.{cases_eq, cases_lt}
+use Rattle.std.proofs.lemmas.Bool.{cases_lt}
 use Rattle.ghc_term.specs.Lists.{In}
-use Rattle.ghc_term.specs.Bindings.{name_cmp}
-use Rattle.ghc_term.proofs.Total.{same_name}
+use Rattle.ghc_term.proofs.ListsLemmas.{in_right, in_either, in_splits}
+use Rattle.ghc_term.proofs.Decided.{Decided, decided_by, decided_both, decided_either, true_decided, nat_decided, in_decided}
+use Rattle.ghc_term.proofs.MapsLemmas.{key_in}
 use Rattle.ghc_records.specs.Orders.{Precedes, AreDistinct}
 use Rattle.ghc_records.specs.Record.{Record, numbers}
-use Rattle.ghc_records.proofs.OrderLemmas.{in_right, in_either, Before, is_before, before_is, before_in, split_at, number_in, number_of, record_once}
+use Rattle.ghc_records.proofs.OrderLemmas.{Before, is_before, before_is, before_in, number_in, number_of, record_once}
 use Rattle.ghc_depend.specs.Depend.{MakesGoal, ReadsFrom, DependsOn}
 use Rattle.ghc_depend.proofs.Finding.{ends}
 use Rattle.ghc_depend.proofs.Picking.{distinct_push}
 use Rattle.ghc_depend.specs.Lawful.{IsOfKept, IsOrderOf, IsTooEarly, IsInOrder, IsUnlawful, wrong, missing, too_early}
 use Rattle.ghc_depend.specs.Laws.{OrdersAreDecided}
 
--- it is so, or not
-abbrev pub Known : Type 0 → Type 0
-Known A = A ⊎ (¬ A)
+le_decided : (a b : ℕ) → Decided (a ≤ b)
+le_decided a b = elim (cases_lt b a) [ inr l ↦ inl l | inl l ↦ inr (λ k. omega arith) ]
 
-pub known_by : {A B : Type 0} → (A → B) → (B → A) → Known A → Known B
-known_by f g (inl a) = inl (f a)
-known_by f g (inr n) = inr (λ b. n (g b))
-
-pub known_both : {A B : Type 0} → Known A → Known B → Known (A × B)
-known_both (inl a) (inl b) = inl (a, b)
-known_both (inl a) (inr n) = inr (λ p. n p.1)
-known_both (inr n) k = inr (λ p. n p.0)
-
-pub known_either : {A B : Type 0} → Known A → Known B → Known (A ⊎ B)
-known_either (inl a) k = inl (inl a)
-known_either (inr n) (inl b) = inl (inr b)
-known_either (inr n) (inr m) = inr (λ p. elim p [ inl a ↦ n a | inr b ↦ m b ])
-
-known_le : (a b : ℕ) → Known (a ≤ b)
-known_le a b = elim (cases_lt b a) [ inr l ↦ inl l | inl l ↦ inr (λ k. omega arith) ]
-
-pub known_same : (a b : ℕ) → Known (a ≡ b)
-known_same a b = cases_eq a b
-
-known_true : (b : Bool) → Known (b ≡ true)
-known_true true = inl refl
-known_true false = inr (λ e. cc)
-
-pub known_in : (n : ℕ) (ns : List ℕ) → Known (In n ns)
-known_in n [] = inr (λ i. i)
-known_in n (m ∷ ns) = known_either (known_same n m) (known_in n ns)
-
-known_before : (ns : List ℕ) (a b : ℕ) → Known (Before ns a b)
+known_before : (ns : List ℕ) (a b : ℕ) → Decided (Before ns a b)
 known_before [] a b = inr (λ i. i)
-known_before (n ∷ ns) a b = known_either (known_both (known_same a n) (known_in b ns)) (known_before ns a b)
+known_before (n ∷ ns) a b = decided_either (decided_both (nat_decided a n) (in_decided nat_decided b ns)) (known_before ns a b)
 
 pub by_numbers : (rs : List Record) (a b : Record) → Before rs a b → Before (numbers rs) a.number b.number
 by_numbers [] a b h = h
@@ -75,27 +45,19 @@ by_records [] a b d i j h = h
 by_records (r ∷ rs) a b d i j (inl h) = inl (record_once (r ∷ rs) a r d i (inl refl) h.0, the_one rs b r d j h.1)
 by_records (r ∷ rs) a b d i j (inr h) = let k = among (numbers rs) a.number b.number h in inr (by_records rs a b d.1 (the_one rs a r d i k.0) (the_one rs b r d j k.1) h)
 
-known_consumed : (o : Option GoalName) (a : Record) → Known ((g : GoalName) × (o ≡ Some g) × MakesGoal a g)
+known_consumed : (o : Option GoalName) (a : Record) → Decided ((g : GoalName) × (o ≡ Some g) × MakesGoal a g)
 known_consumed None a = inr (λ c. let clash : None ≡ Some c.0 = c.1 in cc)
-known_consumed (Some g) a = elim (known_same g.step a.number) [
+known_consumed (Some g) a = elim (nat_decided g.step a.number) [
   | inr n ↦ inr (λ c. let same : g ≡ c.0 = (let p = c.1 in cc) in n (ap (λ (x : GoalName). x.step) same ∙ c.2.0))
-  | inl e ↦ elim (known_both (known_le 1 g.place) (known_le g.place (length a.effect.makes))) [
+  | inl e ↦ elim (decided_both (le_decided 1 g.place) (le_decided g.place (length a.effect.makes))) [
     | inl p ↦ inl (g, refl, (e, p.0, p.1))
     | inr n ↦ inr (λ c. let same : g ≡ c.0 = (let p = c.1 in cc) in n (subst (λ (x : GoalName). (1 ≤ x.place) × (x.place ≤ length a.effect.makes)) (sym same) (c.2.1, c.2.2)))
   ]
 ]
 
-key_in : (es : List (VarName × Tree)) (x : VarName) → is_some (finite.find name_cmp x es) ≡ true → In x (map (λ e. e.0) es)
-key_in [] x e = cc
-key_in (k ∷ es) x e =
-    elim (eq_by_cmp name_cmp x k.0) as (λ c. eq_by_cmp name_cmp x k.0 ≡ c → is_some (cond c (Some k.1) (finite.find name_cmp x es)) ≡ true → In x (map (λ e. e.0) (k ∷ es))) [
-      | true ↦ λ p q. inl (same_name x k.0 p)
-      | false ↦ λ p q. inr (key_in es x q)
-    ] refl e
-
 known_read : (b a : Record) (ks : List VarName) → ((x : VarName) × ReadsFrom b a x) ⊎ ((x : VarName) → In x ks → ¬ ReadsFrom b a x)
 known_read b a [] = inr (λ x i r. i)
-known_read b a (k ∷ ks) = elim (known_both (known_true (set.contains b.effect.reads k)) (known_true (finite.contains_key a.effect.binds k))) [
+known_read b a (k ∷ ks) = elim (decided_both (true_decided (set.contains b.effect.reads k)) (true_decided (finite.contains_key a.effect.binds k))) [
   | inl r ↦ inl (k, r)
   | inr n ↦ elim (known_read b a ks) [
     | inl r ↦ inl r
@@ -103,21 +65,21 @@ known_read b a (k ∷ ks) = elim (known_both (known_true (set.contains b.effect.
   ]
 ]
 
-known_reads : (b a : Record) → Known ((x : VarName) × ReadsFrom b a x)
+known_reads : (b a : Record) → Decided ((x : VarName) × ReadsFrom b a x)
 known_reads b a = elim (known_read b a (map (λ e. e.0) (finite.entries a.effect.binds))) [
   | inl r ↦ inl r
   | inr n ↦ inr (λ r. n r.0 (key_in (finite.entries a.effect.binds) r.0 (ap is_some (sym (finite.get-entries a.effect.binds r.0)) ∙ r.1.1)) r.1)
 ]
 
 module _ (kept : List Record) (distinct : AreDistinct (numbers kept)) where
-  pub known_depends : (b a : Record) → In a kept → In b kept → Known (DependsOn kept b a)
+  pub known_depends : (b a : Record) → In a kept → In b kept → Decided (DependsOn kept b a)
   known_depends b a i j =
-      known_both (known_by (λ h. before_is kept a b (by_records kept a b distinct i j h)) (λ p. by_numbers kept a b (is_before kept a b p)) (known_before (numbers kept) a.number b.number))
-      (known_either (known_consumed b.goal a) (known_reads b a))
+      decided_both (decided_by (λ h. before_is kept a b (by_records kept a b distinct i j h)) (λ p. by_numbers kept a b (is_before kept a b p)) (known_before (numbers kept) a.number b.number))
+      (decided_either (known_consumed b.goal a) (known_reads b a))
 
-  known_early : (order : List ℕ) (a b : Record) → In a kept → In b kept → Known (IsTooEarly kept order a b)
+  known_early : (order : List ℕ) (a b : Record) → In a kept → In b kept → Decided (IsTooEarly kept order a b)
   known_early order a b i j =
-      known_both (known_depends b a i j) (known_by (before_is order b.number a.number) (is_before order b.number a.number) (known_before order b.number a.number))
+      decided_both (known_depends b a i j) (decided_by (before_is order b.number a.number) (is_before order b.number a.number) (known_before order b.number a.number))
 
   module _ (order : List ℕ) where
     -- the first step before which b stands too early
@@ -136,7 +98,7 @@ module _ (kept : List Record) (distinct : AreDistinct (numbers kept)) where
               λ c s. elim (in_either done (a ∷ rest) c (subst (In c) e (ends kept b c s.0).0)) [
                 | inl i ↦ absurd (h c i s)
                 | inr (inl same) ↦ inl same
-                | inr (inr i) ↦ let p = split_at rest c i in inr (done, p.0, p.1, e ∙ ap (λ z. done ++ a ∷ z) p.2 ∙ sym (append_assoc done (a ∷ p.0) (c ∷ p.1)))
+                | inr (inr i) ↦ let p = in_splits rest c i in inr (done, p.0, p.1, e ∙ ap (λ z. done ++ a ∷ z) p.2 ∙ sym (append_assoc done (a ∷ p.0) (c ∷ p.1)))
               ],
             ),
           )
@@ -166,9 +128,9 @@ module _ (kept : List Record) (distinct : AreDistinct (numbers kept)) where
 
     of_kept : (done rest : List ℕ) → order ≡ done ++ rest → IsOfKept kept done → Fails ⊎ IsOfKept kept order
     of_kept done [] e k = inr (subst (IsOfKept kept) (sym (e ∙ append-nil done)) k)
-    of_kept done (n ∷ rest) e k = elim (known_in n (numbers kept)) [
+    of_kept done (n ∷ rest) e k = elim (in_decided nat_decided n (numbers kept)) [
       | inr no_one ↦ inl (n, n, wrong (record { front = done; behind = rest; splits = e; before = k; not_new = inl no_one }))
-      | inl there ↦ elim (known_in n done) [
+      | inl there ↦ elim (in_decided nat_decided n done) [
         | inl twice ↦ inl (n, n, wrong (record { front = done; behind = rest; splits = e; before = k; not_new = inr twice }))
         | inr new ↦ of_kept (done ++ n ∷ []) rest (e ∙ sym (append_assoc done (n ∷ []) rest))
             ((λ m i. elim (in_either done (n ∷ []) m i) [ inl j ↦ k.0 m j | inr (inl same) ↦ subst (λ z. In z (numbers kept)) (sym same) there | inr (inr j) ↦ absurd j ]), distinct_push done n k.1 new)
@@ -177,7 +139,7 @@ module _ (kept : List Record) (distinct : AreDistinct (numbers kept)) where
 
     none_missing : IsOfKept kept order → (done rest : List Record) → kept ≡ done ++ rest → ((n : ℕ) → In n (numbers done) → In n order) → Fails ⊎ ((n : ℕ) → In n (numbers kept) → In n order)
     none_missing k done [] e h = inr (λ n i. h n (subst (λ z. In n (numbers z)) (e ∙ append-nil done) i))
-    none_missing k done (r ∷ rest) e h = elim (known_in r.number order) [
+    none_missing k done (r ∷ rest) e h = elim (in_decided nat_decided r.number order) [
       | inr gone ↦ inl (r.number, 0, missing k (record { front = done; behind = rest; splits = e; before = h; absent = gone }))
       | inl there ↦ none_missing k (done ++ r ∷ []) rest (e ∙ sym (append_assoc done (r ∷ []) rest)) (λ n i.
           let q = number_of (done ++ r ∷ []) n i in

@@ -5,12 +5,13 @@ use Rattle.ghc_term.specs.declared.var_name.VarName.{VarName}
 use Rattle.ghc_term.specs.Lists.{In}
 use Rattle.ghc_term.specs.Bindings.{IsAcyclic}
 use Rattle.ghc_term.specs.Store.{value_at}
+use Rattle.ghc_term.proofs.ListsLemmas.{in_right, in_either}
 use Rattle.ghc_flat.specs.Clause.{Program, Query}
 use Rattle.ghc_fire.proofs.Steps.{effect_binds}
 use Rattle.ghc_records.specs.Orders.{AreDistinct}
 use Rattle.ghc_records.specs.Record.{State, Record}
 use Rattle.ghc_records.specs.Replay.{Replays}
-use Rattle.ghc_records.proofs.OrderLemmas.{in_right, in_either, Before, is_before, before_once, records_distinct}
+use Rattle.ghc_records.proofs.OrderLemmas.{Before, is_before, before_once, records_distinct}
 use Rattle.ghc_records.proofs.Replaying.{replay_well}
 use Rattle.ghc_depend.specs.Depend.{Consumes, ReadsFrom, DependsOn, directly, further}
 use Rattle.ghc_depend.specs.Deletion.{IsClosedUnder, IsPartedBy, IsWithoutSteps}

@@ -10,7 +10,7 @@ use Rattle.ghc_term.specs.Goal.{Goal}
 use Rattle.ghc_term.specs.Lists.{In}
 use Rattle.ghc_fire.specs.Goals.{goal_cmp, Goals}
 use Rattle.ghc_records.specs.Record.{Record, with_makes, without_goal}
-use Rattle.ghc_records.proofs.Names.{goal_total, same_goal}
+use Rattle.ghc_records.proofs.Names.{goal_total, same_goal, same_parts}
 use Rattle.ghc_records.proofs.OrderLemmas.{is_before, before_in}
 use Rattle.ghc_depend.specs.Depend.{MakesGoal, DependsOn}
 
@@ -98,9 +98,6 @@ made_place n i (c ∷ gs) g b e =
           (ap (λ (h : GoalName). h.step) same, omega arith, omega arith)
       | false ↦ λ p q. let m = made_place n (i + 1) gs g b q in (m.0, omega (arith, m.1), omega (arith, m.2))
     ] refl (sym (finite.get-insert goal_total (with_makes n (i + 1) gs finite.empty) (record { step = n; place = i }) c g) ∙ e)
-
-pub same_parts : (g h : GoalName) → g.step ≡ h.step → g.place ≡ h.place → g ≡ h
-same_parts g h p q i = record { step = p i; place = q i }
 
 above : (a b : ℕ) → a ≤ b → ¬ (b ≡ a) → a + 1 ≤ b
 above a b l n = omega (arith, n)

@@ -1,12 +1,14 @@
 -- Consequences of kept steps: which there are, the first, and the sets that are closed under them.
 use Rattle.std.proofs.Common.{◌≡◌, ◌⊎◌, List, [], ◌∷◌, ◌++◌, refl, sym, ap, ◌∙◌, subst, inl, inr, append_assoc, append-nil}
 use Rattle.ghc_term.specs.Lists.{In}
+use Rattle.ghc_term.proofs.ListsLemmas.{in_left, in_right, in_either}
+use Rattle.ghc_term.proofs.Decided.{Decided, decided_both, decided_either, nat_decided}
 use Rattle.ghc_records.specs.Orders.{Picks, nothing, take, leave, AreDistinct}
 use Rattle.ghc_records.specs.Record.{Record, numbers}
-use Rattle.ghc_records.proofs.OrderLemmas.{in_left, in_right, in_either, Before, is_before, before_is, before_in, number_in, record_once, records_distinct}
+use Rattle.ghc_records.proofs.OrderLemmas.{Before, is_before, before_is, before_in, number_in, record_once, records_distinct}
 use Rattle.ghc_depend.specs.Depend.{DependsOn, Follows, directly, further, GoesWith, IsFirstConsequence}
 use Rattle.ghc_depend.specs.Deletion.{IsClosedUnder, IsPartedBy}
-use Rattle.ghc_depend.proofs.Decided.{Known, known_both, known_either, known_same, known_depends}
+use Rattle.ghc_depend.proofs.Decided.{known_depends}
 use Rattle.ghc_depend.proofs.Picking.{behind_before, stands_in_front, pick}
 
 -- a consequence of a consequence is one
@@ -19,20 +21,20 @@ follows_in {rs} (directly {b = b} d) = (before_in rs _ b (is_before rs _ b d.0))
 follows_in {rs} (further {c = c} f d) = (before_in rs _ c (is_before rs _ c d.0)).1
 
 module _ (kept : List Record) (distinct : AreDistinct (numbers kept)) where
-  pub known_itself : (s r : Record) → In s kept → In r kept → Known (s ≡ r)
-  known_itself s r i j = elim (known_same s.number r.number) [
+  pub known_itself : (s r : Record) → In s kept → In r kept → Decided (s ≡ r)
+  known_itself s r i j = elim (nat_decided s.number r.number) [
     | inl e ↦ inl (record_once kept s r distinct i j e)
     | inr n ↦ inr (λ e. n (ap (λ (z : Record). z.number) e))
   ]
 
   module _ (a : Record) (kept_a : In a kept) where
     -- b depends directly on one of the steps that go with a, or on none
-    link : (b : Record) → In b kept → (cs : List Record) → ((c : Record) → In c cs → In c kept × Known (Follows kept a c))
+    link : (b : Record) → In b kept → (cs : List Record) → ((c : Record) → In c cs → In c kept × Decided (Follows kept a c))
         → ((c : Record) × GoesWith kept a c × DependsOn kept b c) ⊎ ((c : Record) → In c cs → GoesWith kept a c → ¬ DependsOn kept b c)
     link b kept_b [] known = inr (λ c i. absurd i)
     link b kept_b (c ∷ cs) known =
         let k = known c (inl refl) in
-        elim (known_both (known_either (known_itself c a k.0 kept_a) k.1) (known_depends kept distinct b c k.0 kept_b)) [
+        elim (decided_both (decided_either (known_itself c a k.0 kept_a) k.1) (known_depends kept distinct b c k.0 kept_b)) [
           | inl p ↦ inl (c, p.0, p.1)
           | inr n ↦ elim (link b kept_b cs (λ d i. known d (inr i))) [
             | inl p ↦ inl p
@@ -43,11 +45,11 @@ module _ (kept : List Record) (distinct : AreDistinct (numbers kept)) where
     in_front : (done rest : List Record) (b c : Record) → kept ≡ done ++ b ∷ rest → DependsOn kept b c → In c done
     in_front done rest b c e d = stands_in_front kept done rest b c (records_distinct kept distinct) e (is_before kept c b d.0)
 
-    known_from : (done rest : List Record) → kept ≡ done ++ rest → ((b : Record) → In b done → Known (Follows kept a b)) → (b : Record) → In b kept → Known (Follows kept a b)
+    known_from : (done rest : List Record) → kept ≡ done ++ rest → ((b : Record) → In b done → Decided (Follows kept a b)) → (b : Record) → In b kept → Decided (Follows kept a b)
     known_from done [] e known b i = known b (subst (In b) (e ∙ append-nil done) i)
     known_from done (b ∷ rest) e known c i =
         let kept_b : In b kept = subst (In b) (sym e) (in_right done (b ∷ rest) b (inl refl)) in
-        let here : Known (Follows kept a b) = elim (link b kept_b done (λ c i. (subst (In c) (sym e) (in_left done (b ∷ rest) c i), known c i))) [
+        let here : Decided (Follows kept a b) = elim (link b kept_b done (λ c i. (subst (In c) (sym e) (in_left done (b ∷ rest) c i), known c i))) [
           | inl p ↦ inl (elim p.1 [ inl same ↦ directly (subst (DependsOn kept b) same p.2) | inr f ↦ further f p.2 ])
           | inr n ↦ inr (λ f. elim f [
             | directly {b = x} d ↦ n a (in_front done rest b a e d) (inl refl) d
@@ -56,12 +58,12 @@ module _ (kept : List Record) (distinct : AreDistinct (numbers kept)) where
         ] in
         known_from (done ++ b ∷ []) rest (e ∙ sym (append_assoc done (b ∷ []) rest)) (λ d k. elim (in_either done (b ∷ []) d k) [
           | inl j ↦ known d j
-          | inr (inl same) ↦ subst (λ z. Known (Follows kept a z)) (sym same) here
+          | inr (inl same) ↦ subst (λ z. Decided (Follows kept a z)) (sym same) here
           | inr (inr j) ↦ absurd j
         ]) c i
 
     -- of each kept step it is known whether it is a consequence
-    pub known_follows : (b : Record) → In b kept → Known (Follows kept a b)
+    pub known_follows : (b : Record) → In b kept → Decided (Follows kept a b)
     known_follows = known_from [] kept refl (λ b i. absurd i)
 
     first_from : (done rest : List Record) → kept ≡ done ++ rest → ((b : Record) → In b done → ¬ Follows kept a b) → ((b : Record) × IsFirstConsequence kept a b) ⊎ ((b : Record) → ¬ Follows kept a b)
@@ -92,7 +94,7 @@ module _ (kept : List Record) (distinct : AreDistinct (numbers kept)) where
     -- the step and its consequences part the kept list, and are closed
     pub split : (gone left : List Record) × IsPartedBy kept (GoesWith kept a) gone left
     split =
-        let known : (s : Record) → In s kept → Known (GoesWith kept a s) = λ s i. known_either (known_itself s a i kept_a) (known_follows s i) in
+        let known : (s : Record) → In s kept → Decided (GoesWith kept a s) = λ s i. decided_either (known_itself s a i kept_a) (known_follows s i) in
         let gone = pick kept known in
         let left = pick kept (λ s i. elim (known s i) [ inl p ↦ inr (λ n. n p) | inr n ↦ inl n ]) in
         (gone.0, left.0, (gone.1, left.1))

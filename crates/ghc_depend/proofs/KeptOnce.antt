@@ -1,6 +1,5 @@
 -- A journal that takes no number twice tells one kept list and one shelf.
 use Rattle.std.proofs.Common.{◌≡◌, ◌≢◌, ℕ, ◌⊎◌, true, false, cond, List, [], ◌∷◌, ◌++◌, refl, sym, ap, ◌∙◌, subst, subst₂, inl, inr, Some, None, append-nil}
-use Rattle.std.proofs.lemmas.List.{map-append}
 use Rattle.std.specs.Prelude.{Option}
 use Rattle.std.specs.Ordering.{eq_by_cmp, is_eq, nat_cmp}
 use Rattle.std.specs.Cmp.{nat_cmp_total, tied_itself, ranked}
@@ -12,6 +11,7 @@ use Rattle.ghc_term.specs.Goal.{Goal}
 use Rattle.ghc_term.specs.Lists.{In}
 use Rattle.ghc_term.specs.Bindings.{IsAcyclic}
 use Rattle.ghc_term.specs.Store.{value_at}
+use Rattle.ghc_term.proofs.ListsLemmas.{in_left, in_right, in_more}
 use Rattle.ghc_flat.specs.Clause.{Program, Query}
 use Rattle.ghc_flat.specs.Flat.{IsProgram, IsQuery}
 use Rattle.ghc_fire.specs.declared.act.Act.{Act}
@@ -22,7 +22,7 @@ use Rattle.ghc_records.specs.Orders.{AreDistinct}
 use Rattle.ghc_records.specs.Record.{State, Record, numbers, Shelf, after, IsThere, HasStepEffect, Fires}
 use Rattle.ghc_records.specs.Replay.{query_state, Runs, Replays}
 use Rattle.ghc_records.specs.Journal.{Opening, Entry, took, undid, rolled, redid, reordered, step_of}
-use Rattle.ghc_records.proofs.OrderLemmas.{in_left, in_right, picks_once}
+use Rattle.ghc_records.proofs.OrderLemmas.{picks_once, numbers_append}
 use Rattle.ghc_records.proofs.Replaying.{run_once, replay_well}
 use Rattle.ghc_depend.specs.Depend.{IsKeptAs, GoesWith}
 use Rattle.ghc_depend.specs.Lawful.{IsInOrder}
@@ -30,7 +30,7 @@ use Rattle.ghc_depend.specs.Kept.{with_shelved, IsWithout, IsSplitAt, taken_numb
 use Rattle.ghc_depend.specs.Laws.{KeepsIsOne}
 use Rattle.ghc_depend.proofs.Finding.{same_value}
 use Rattle.ghc_depend.proofs.Once.{same_records}
-use Rattle.ghc_depend.proofs.Picking.{never_nothing, last_once, distinct_left, distinct_last, in_pushed, picks_in}
+use Rattle.ghc_depend.proofs.Picking.{never_nothing, last_once, distinct_left, distinct_last, picks_in}
 
 pub taken_append : (es fs : List Entry) → taken_numbers (es ++ fs) ≡ taken_numbers es ++ taken_numbers fs
 taken_append [] fs = refl
@@ -53,7 +53,7 @@ tied Less e = cc
 tied Equal e = refl
 tied Greater e = cc
 
-same_number : (m n : ℕ) → eq_by_cmp nat_cmp m n ≡ true → m ≡ n
+pub same_number : (m n : ℕ) → eq_by_cmp nat_cmp m n ≡ true → m ≡ n
 same_number m n e = ranked m n Equal (sym (tied (nat_cmp m n) e))
 
 pub shelved : (gone : List Record) (shelf : Shelf) (n : ℕ) (r : Record) → finite.get (with_shelved gone shelf) n ≡ Some r → (In r gone × (r.number ≡ n)) ⊎ (finite.get shelf n ≡ Some r)
@@ -90,15 +90,15 @@ part f h = record {
 pushed : {ns : List ℕ} {kept : List Record} {shelf : Shelf} (r : Record) → Told ns kept shelf → In r.number ns → ((s : Record) → In s kept → ¬ (s.number ≡ r.number))
     → ((s : Record) → ¬ (finite.get shelf r.number ≡ Some s)) → Told ns (kept ++ r ∷ []) shelf
 pushed {ns} {kept} {shelf} r h i new free = record {
-  one = λ s u j k e. elim (in_pushed kept r s j) [
-    | inl a ↦ elim (in_pushed kept r u k) [ inl b ↦ h.one s u a b e | inr g ↦ absurd (new s a (e ∙ ap (λ (x : Record). x.number) g)) ]
-    | inr f ↦ elim (in_pushed kept r u k) [ inl b ↦ absurd (new u b (sym e ∙ ap (λ (x : Record). x.number) f)) | inr g ↦ f ∙ sym g ]
+  one = λ s u j k e. elim (in_more kept r s j) [
+    | inl a ↦ elim (in_more kept r u k) [ inl b ↦ h.one s u a b e | inr g ↦ absurd (new s a (e ∙ ap (λ (x : Record). x.number) g)) ]
+    | inr f ↦ elim (in_more kept r u k) [ inl b ↦ absurd (new u b (sym e ∙ ap (λ (x : Record). x.number) f)) | inr g ↦ f ∙ sym g ]
   ];
-  taken = λ s j. elim (in_pushed kept r s j) [ inl a ↦ h.taken s a | inr f ↦ subst (λ (x : Record). In x.number ns) (sym f) i ];
+  taken = λ s j. elim (in_more kept r s j) [ inl a ↦ h.taken s a | inr f ↦ subst (λ (x : Record). In x.number ns) (sym f) i ];
   away = λ n s e. let a = h.away n s e in (
     a.0,
     a.1,
-    λ u j same. elim (in_pushed kept r u j) [
+    λ u j same. elim (in_more kept r u j) [
       | inl b ↦ a.2 u b same
       | inr f ↦ free s (subst (λ m. finite.get shelf m ≡ Some s) (sym same ∙ ap (λ (x : Record). x.number) f) e)
     ],
@@ -218,7 +218,7 @@ module _ (P : Program) (query : Query) (accepted : IsProgram P) (asked : IsQuery
   front kept r t run =
       let split = runs_split P kept (r ∷ []) (query_state query) t run.1 in
       let replay : Replays P query kept split.0 = (
-        ((λ s i. run.0.0 s (in_left kept (r ∷ []) s i)), distinct_left (numbers kept) (r.number ∷ []) (subst AreDistinct (map-append (λ (x : Record). x.number) kept (r ∷ [])) run.0.1)),
+        ((λ s i. run.0.0 s (in_left kept (r ∷ []) s i)), distinct_left (numbers kept) (r.number ∷ []) (subst AreDistinct (numbers_append kept (r ∷ [])) run.0.1)),
         split.1,
       ) in
       (split.0, replay, split.2.0, (replay_well P query kept split.0 accepted asked replay).acyclic)

@@ -11,7 +11,7 @@ pub mod Picking
 pub mod Comparing
 pub mod Deleting
 pub mod Following
-pub mod Trails
+pub mod AffectedSteps
 pub mod Walking
 pub mod Causes
 pub mod Nearest

@@ -1,36 +1,17 @@
 -- Orders and consequences are determined.
-use Rattle.std.proofs.Common.{◌≡◌, ℕ, ◌⊎◌, List, [], ◌∷◌, ◌++◌, refl, sym, ap, ◌∙◌, subst, inl, inr}
+use Rattle.std.proofs.Common.{◌≡◌, ℕ, List, [], ◌∷◌, ◌++◌, refl, sym, ap, ◌∙◌, subst, inl, inr}
 use Rattle.ghc_term.specs.Lists.{In}
+use Rattle.ghc_term.proofs.ListsLemmas.{in_right, compare_splits}
 use Rattle.ghc_records.specs.Orders.{AreDistinct}
 use Rattle.ghc_records.specs.Record.{Record, numbers}
-use Rattle.ghc_records.proofs.OrderLemmas.{in_right, precedes_once, picks_once, number_in, record_once, records_distinct}
+use Rattle.ghc_records.proofs.OrderLemmas.{precedes_once, picks_once, number_in, record_once, records_distinct}
 use Rattle.ghc_depend.specs.Depend.{IsFirstConsequence}
 use Rattle.ghc_depend.specs.Lawful.{IsOfKept, IsOrderOf, IsTooEarly, IsLawful, IsFirstWrong, IsFirstMissing, IsFirstTooEarly, IsUnlawful, wrong, missing, too_early}
 use Rattle.ghc_depend.proofs.Finding.{ends}
 use Rattle.ghc_depend.specs.Laws.{OrdersHaveOneAnswer, ConsequencesHaveOneAnswer}
-
--- how two splits of one list lie to each other
-abbrev Lie : {X : Type 0} → List X → X → List X → X → Type 0
-Lie {X} bs s cs t = ((bs ≡ cs) × (s ≡ t)) ⊎ (((m : List X) × (cs ≡ bs ++ s ∷ m)) ⊎ ((m : List X) × (bs ≡ cs ++ t ∷ m)))
+use Rattle.ghc_depend.proofs.Picking.{head_of, tail_of}
 
 module _ {X : Type 0} where
-  head_of : {x y : X} {xs ys : List X} → x ∷ xs ≡ y ∷ ys → x ≡ y
-  head_of e = cc
-
-  tail_of : {x y : X} {xs ys : List X} → x ∷ xs ≡ y ∷ ys → xs ≡ ys
-  tail_of e = cc
-
-  lie : (bs ds cs es : List X) (s t : X) → bs ++ s ∷ ds ≡ cs ++ t ∷ es → Lie bs s cs t
-  lie [] ds [] es s t e = inl (refl, head_of e)
-  lie [] ds (y ∷ cs) es s t e = inr (inl (cs, ap (λ z. z ∷ cs) (sym (head_of e))))
-  lie (x ∷ bs) ds [] es s t e = inr (inr (bs, ap (λ z. z ∷ bs) (head_of e)))
-  lie (x ∷ bs) ds (y ∷ cs) es s t e =
-      elim (lie bs ds cs es s t (tail_of e)) [
-        | inl p ↦ inl ((λ i. head_of e i ∷ p.0 i), p.1)
-        | inr (inl p) ↦ inr (inl (p.0, λ i. sym (head_of e) i ∷ p.1 i))
-        | inr (inr p) ↦ inr (inr (p.0, λ i. head_of e i ∷ p.1 i))
-      ]
-
   new_at : (bs ds : List X) (s : X) → AreDistinct (bs ++ s ∷ ds) → ¬ In s bs
   new_at [] ds s d i = i
   new_at (b ∷ bs) ds s d (inl e) = d.0 (subst (λ z. In z (bs ++ s ∷ ds)) e (in_right bs (s ∷ ds) s (inl refl)))
@@ -48,7 +29,7 @@ none_missing : (kept : List Record) (order : List ℕ) (r : Record) → IsOrderO
 none_missing kept order r o f = f.absent (o.1 r.number (number_in kept r (subst (In r) (sym f.splits) (in_right f.front (r ∷ f.behind) r (inl refl)))))
 
 wrong_once : (kept : List Record) (order : List ℕ) (s t : ℕ) → IsFirstWrong kept order s → IsFirstWrong kept order t → s ≡ t
-wrong_once kept order s t f g = elim (lie f.front f.behind g.front g.behind s t (sym f.splits ∙ g.splits)) [
+wrong_once kept order s t f g = elim (compare_splits f.front g.front s t f.behind g.behind (sym f.splits ∙ g.splits)) [
   | inl p ↦ p.1
   | inr (inl p) ↦ absurd (none_wrong kept g.front s g.before (record { front = f.front; behind = p.0; splits = p.1; before = f.before; not_new = f.not_new }))
   | inr (inr p) ↦ absurd (none_wrong kept f.front t f.before (record { front = g.front; behind = p.0; splits = p.1; before = g.before; not_new = g.not_new }))
@@ -59,7 +40,7 @@ not_in_front : (kept : List Record) (order : List ℕ) (r s : Record) (f : IsFir
 not_in_front kept order r s f g more e = f.absent (g.before r.number (number_in g.front r (subst (In r) (sym e) (in_right f.front (r ∷ more) r (inl refl)))))
 
 missing_once : (kept : List Record) (order : List ℕ) (r s : Record) → IsFirstMissing kept order r → IsFirstMissing kept order s → r ≡ s
-missing_once kept order r s f g = elim (lie f.front f.behind g.front g.behind r s (sym f.splits ∙ g.splits)) [
+missing_once kept order r s f g = elim (compare_splits f.front g.front r s f.behind g.behind (sym f.splits ∙ g.splits)) [
   | inl p ↦ p.1
   | inr (inl p) ↦ absurd (not_in_front kept order r s f g p.0 p.1)
   | inr (inr p) ↦ absurd (not_in_front kept order s r g f p.0 p.1)
@@ -78,7 +59,7 @@ same_records kept one (x ∷ xs) (y ∷ ys) e p q =
 
 module _ (kept : List Record) (distinct : AreDistinct (numbers kept)) where
   early_once : (order : List ℕ) (a b c d : Record) → IsFirstTooEarly kept order a b → IsFirstTooEarly kept order c d → (a ≡ c) × (b ≡ d)
-  early_once order a b c d f g = elim (lie f.front f.behind g.front g.behind b.number d.number (sym f.splits ∙ g.splits)) [
+  early_once order a b c d f g = elim (compare_splits f.front g.front b.number d.number f.behind g.behind (sym f.splits ∙ g.splits)) [
     | inl k ↦
         let same : b ≡ d = record_once kept b d distinct (ends kept b a f.early.0).1 (ends kept d c g.early.0).1 k.1 in
         let first : a ≡ c = elim (f.first c (subst (IsTooEarly kept order c) (sym same) g.early)) [

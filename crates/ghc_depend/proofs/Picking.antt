@@ -2,9 +2,10 @@
 use Rattle.std.proofs.Common.{◌≡◌, ◌+◌, ◌≤◌, ◌⊎◌, List, [], ◌∷◌, ◌++◌, length, refl, sym, ap, ◌∙◌, subst, inl, inr, arith}
 use Rattle.std.proofs.lemmas.List.{length-append}
 use Rattle.ghc_term.specs.Lists.{In}
+use Rattle.ghc_term.proofs.ListsLemmas.{in_left, in_right, in_either, in_splits, in_more}
 use Rattle.ghc_records.specs.Orders.{Picks, nothing, take, leave, AreDistinct}
 use Rattle.ghc_records.specs.Record.{Record, numbers}
-use Rattle.ghc_records.proofs.OrderLemmas.{in_left, in_right, in_either, Before, before_in, before_once, split_at, number_in, number_of}
+use Rattle.ghc_records.proofs.OrderLemmas.{Before, before_in, before_once, number_in, number_of, numbers_append}
 
 module _ {X : Type 0} where
   pub before_front : (done rest : List X) (r m : X) → In m done → Before (done ++ r ∷ rest) m r
@@ -57,7 +58,7 @@ module _ {X : Type 0} where
   pub no_longer : (xs ys : List X) → AreDistinct xs → ((x : X) → In x xs → In x ys) → length xs ≤ length ys
   no_longer [] ys d h = omega arith
   no_longer (x ∷ xs) ys d h =
-      let s = split_at ys x (h x (inl refl)) in
+      let s = in_splits ys x (h x (inl refl)) in
       let rest = no_longer xs (s.0 ++ s.1) d.1 (λ y i. kept_in s.0 s.1 x y (subst (In y) s.2 (h y (inr i))) (λ e. d.0 (subst (λ z. In z xs) e i))) in
       let whole : length ys ≡ length s.0 + length (x ∷ s.1) = ap length s.2 ∙ length-append s.0 (x ∷ s.1) in
       let parts : length (s.0 ++ s.1) ≡ length s.0 + length s.1 = length-append s.0 s.1 in
@@ -67,10 +68,10 @@ module _ {X : Type 0} where
   never_nothing [] x e = cc
   never_nothing (y ∷ xs) x e = cc
 
-  head_of : {x y : X} {xs ys : List X} → x ∷ xs ≡ y ∷ ys → x ≡ y
+  pub head_of : {x y : X} {xs ys : List X} → x ∷ xs ≡ y ∷ ys → x ≡ y
   head_of e = cc
 
-  tail_of : {x y : X} {xs ys : List X} → x ∷ xs ≡ y ∷ ys → xs ≡ ys
+  pub tail_of : {x y : X} {xs ys : List X} → x ∷ xs ≡ y ∷ ys → xs ≡ ys
   tail_of e = cc
 
   -- a list determines its last element, and what stands in front of that
@@ -89,13 +90,9 @@ module _ {X : Type 0} where
   distinct_last (y ∷ xs) x d (inr i) = distinct_last xs x d.1 i
   distinct_last [] x d i = i
 
-  -- what is in a list with one more
-  pub in_pushed : (xs : List X) (x y : X) → In y (xs ++ x ∷ []) → In y xs ⊎ (y ≡ x)
-  in_pushed xs x y i = elim (in_either xs (x ∷ []) y i) [ inl j ↦ inl j | inr (inl e) ↦ inr e | inr (inr j) ↦ absurd j ]
-
   pub distinct_push : (xs : List X) (x : X) → AreDistinct xs → ¬ In x xs → AreDistinct (xs ++ x ∷ [])
   distinct_push [] x d new = ((λ i. i), tt)
-  distinct_push (y ∷ xs) x d new = ((λ i. elim (in_pushed xs x y i) [ inl j ↦ d.0 j | inr e ↦ new (inl (sym e)) ]), distinct_push xs x d.1 (λ i. new (inr i)))
+  distinct_push (y ∷ xs) x d new = ((λ i. elim (in_more xs x y i) [ inl j ↦ d.0 j | inr e ↦ new (inl (sym e)) ]), distinct_push xs x d.1 (λ i. new (inr i)))
 
 module _ {X : Type 0} {P : X → Type 0} where
   pub picks_in : (xs ys : List X) (y : X) → Picks P xs ys → In y ys → In y xs × P y
@@ -140,6 +137,10 @@ picks_distinct [] left nothing d = tt
 picks_distinct (r ∷ rs) left (take {ys = ys} p k) d =
     ((λ i. let q = number_of ys r.number i in d.0 (subst (λ n. In n (numbers rs)) q.2 (number_in rs q.0 (picks_in rs ys q.0 k q.1).0))), picks_distinct rs ys k d.1)
 picks_distinct (r ∷ rs) left (leave p k) d = picks_distinct rs left k d.1
+
+-- a record more, of a new number
+pub records_push : (rs : List Record) (r : Record) → AreDistinct (numbers rs) → ¬ In r.number (numbers rs) → AreDistinct (numbers (rs ++ r ∷ []))
+records_push rs r d new = subst AreDistinct (sym (numbers_append rs (r ∷ []))) (distinct_push (numbers rs) r.number d new)
 
 -- lists with no number in common have distinct numbers together
 pub distinct_both : (xs ys : List Record) → AreDistinct (numbers xs) → AreDistinct (numbers ys) → ((x y : Record) → In x xs → In y ys → ¬ (x.number ≡ y.number)) → AreDistinct (numbers (xs ++ ys))

@@ -6,12 +6,13 @@ use Rattle.ghc_term.specs.declared.goal_name.GoalName.{GoalName}
 use Rattle.ghc_term.specs.Tree.{Tree}
 use Rattle.ghc_term.specs.Lists.{In}
 use Rattle.ghc_term.specs.Store.{value_at}
+use Rattle.ghc_term.proofs.ListsLemmas.{in_left, in_right, in_either}
 use Rattle.ghc_flat.specs.Clause.{Program, Query}
 use Rattle.ghc_fire.proofs.Steps.{effect_binds}
 use Rattle.ghc_records.specs.Orders.{AreDistinct}
 use Rattle.ghc_records.specs.Record.{State, Record, numbers, after, Fires}
 use Rattle.ghc_records.specs.Replay.{query_state, Runs, HaveStepNumbers, Replays}
-use Rattle.ghc_records.proofs.OrderLemmas.{in_left, in_right, in_either, Before, before_once, number_in, record_once, records_distinct}
+use Rattle.ghc_records.proofs.OrderLemmas.{Before, before_once, number_in, record_once, records_distinct}
 use Rattle.ghc_depend.proofs.Finding.{not_both, same_value}
 use Rattle.ghc_depend.proofs.Picking.{before_front, behind_before}
 use Rattle.ghc_depend.proofs.Results.{taken, Results, at_first, with_step}

@@ -10,12 +10,12 @@ use Rattle.ghc_term.specs.Goal.{Goal}
 use Rattle.ghc_term.specs.Lists.{In}
 use Rattle.ghc_term.specs.Bindings.{name_cmp}
 use Rattle.ghc_term.specs.Store.{value_at}
+use Rattle.ghc_term.proofs.ListsLemmas.{in_left, in_right, in_either}
 use Rattle.ghc_flat.specs.Clause.{Program, Query}
 use Rattle.ghc_fire.specs.Effect.{HasEffect}
 use Rattle.ghc_fire.proofs.Steps.{effect_binds}
 use Rattle.ghc_records.specs.Record.{State, Record, after, without_goal, IsThere, HasStepEffect, Fires}
 use Rattle.ghc_records.specs.Replay.{query_state}
-use Rattle.ghc_records.proofs.OrderLemmas.{in_left, in_right, in_either}
 use Rattle.ghc_records.proofs.States.{bound_at, made_or_old}
 use Rattle.ghc_depend.proofs.Finding.{by_option, not_both, same_value, find_value, own, makes_at, own_made, without_it, without_other, without_none}
 

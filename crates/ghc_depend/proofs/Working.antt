@@ -9,13 +9,14 @@ use Rattle.ghc_term.specs.Lists.{In}
 use Rattle.ghc_term.specs.Bindings.{IsAcyclic}
 use Rattle.ghc_term.specs.Store.{value_at}
 use Rattle.ghc_term.proofs.Chains.{reaches_more}
+use Rattle.ghc_term.proofs.ListsLemmas.{in_left, in_right}
 use Rattle.ghc_flat.specs.Clause.{Program, Query}
 use Rattle.ghc_unify.specs.Unify.{with_bindings}
 use Rattle.ghc_fire.proofs.Steps.{effect_binds}
 use Rattle.ghc_records.specs.Orders.{AreDistinct}
 use Rattle.ghc_records.specs.Record.{State, Record, numbers, after, Fires}
 use Rattle.ghc_records.specs.Replay.{query_state, Runs, Replays}
-use Rattle.ghc_records.proofs.OrderLemmas.{in_left, in_right, before_is}
+use Rattle.ghc_records.proofs.OrderLemmas.{before_is}
 use Rattle.ghc_depend.specs.Depend.{Consumes, ReadsFrom, DependsOn}
 use Rattle.ghc_depend.proofs.Finding.{by_option, own, own_made}
 use Rattle.ghc_depend.proofs.Extending.{effect_elsewhere}

@@ -1,14 +1,14 @@
 //! Dependence between kept steps, consequences, deletion, lawful orders, and the kept list of a journal.
 #![tactic(auto)]
 
+mod affected;
 mod cause;
-mod chain;
+mod consequence;
 mod facts;
 mod laws;
-mod trail;
 
 pub use cause::{Cause, direct};
-pub use chain::{consequences, first_consequence};
+pub use consequence::{consequences, first_consequence};
 pub use facts::{append_depends, append_orders, waking_depends};
 pub use laws::{
     consequences_have_one_answer, gone_come_back, keeps_is_one, law_of_deletion,

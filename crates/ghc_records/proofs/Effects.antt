@@ -1,5 +1,5 @@
 -- The variables that an effect brings in, and the state after a step.
-use Rattle.std.proofs.Common.{◌≡◌, ℕ, ◌≤◌, ◌⊎◌, true, false, cond, List, [], ◌∷◌, map, length, filter, refl, sym, ap, ◌∙◌, subst, inl, inr, arith, Some, None, unwrap_or, slice_get, zero, suc}
+use Rattle.std.proofs.Common.{◌≡◌, ℕ, ◌≤◌, ◌⊎◌, true, false, cond, List, [], ◌∷◌, map, length, filter, refl, sym, ap, ◌∙◌, subst, inl, inr, arith, Some, None, unwrap_or}
 use Rattle.std.specs.Prelude.{Option}
 use Rattle.std.specs.Option.{option_or}
 use Rattle.std.specs.List.{list_any}
@@ -15,7 +15,8 @@ use Rattle.ghc_term.specs.Bindings.{Reaches, here, through, IsAcyclic, name_cmp}
 use Rattle.ghc_term.specs.Store.{StoreValue, value_at}
 use Rattle.ghc_term.proofs.Names.{name_total}
 use Rattle.ghc_term.proofs.Total.{same_name}
-use Rattle.ghc_flat.specs.Clause.{Clause, Program}
+use Rattle.ghc_term.proofs.ListsLemmas.{in_left, in_right, in_at}
+use Rattle.ghc_flat.specs.Clause.{Program}
 use Rattle.ghc_flat.specs.Variables.{variables, variables_of_expression, variables_of_list, variables_of_goal, variables_of_goals, fresh_variables}
 use Rattle.ghc_flat.specs.Flat.{is_stream, IsProgram}
 use Rattle.ghc_unify.specs.Unify.{Unifies}
@@ -28,7 +29,6 @@ use Rattle.ghc_fire.specs.Effect.{Effect, HasEffect}
 use Rattle.ghc_fire.proofs.Steps.{effect_acyclic}
 use Rattle.ghc_fire.specs.Goals.{Goals}
 use Rattle.ghc_records.specs.Record.{State, Record, without_goal, after, IsThere, Fires, HasStepEffect}
-use Rattle.ghc_records.proofs.OrderLemmas.{in_left, in_right}
 use Rattle.ghc_records.proofs.States.{bound_at, made_or_old, old_apart}
 use Rattle.ghc_records.proofs.Inside.{Inside, Closed, comes_inside, at_inside, moves_inside, find_inside, occurs_in}
 use Rattle.ghc_records.proofs.Heads.{stands_for, first_in, place_at, from_goal, of_goals}
@@ -55,11 +55,6 @@ not_stream (h ∷ gs) g e i =
       | true ↦ λ p q. cc
       | false ↦ λ p q. elim i [ inl same ↦ ap is_stream same ∙ p | inr j ↦ not_stream gs g q j ]
     ] refl e
-
-pub clause_in : (P : Program) (i : ℕ) (c : Clause) → slice_get P i ≡ Some c → In c P
-clause_in [] i c e = cc
-clause_in (d ∷ P) zero c e = inl (let s : d ≡ c = cc in sym s)
-clause_in (d ∷ P) (suc i) c e = inr (clause_in P i c e)
 
 no_entry : (x : VarName) (t : Tree) (m : StoreValue) → m ≡ finite.empty → value_at m x ≡ Some t → ⊥
 no_entry x t m e p = let clash : None ≡ Some t = sym (finite.get-empty name_cmp x) ∙ ap (λ z. value_at z x) (sym e) ∙ p in cc
@@ -107,7 +102,7 @@ module _ (D : VarName → Type 0) (s : StoreValue) (shut : Closed D (value_at s)
     values = λ x t p. absurd (no_entry x t e.binds d.5 p);
     goals = λ g y i j.
         let b = mapped (replace_in_goal (becomes d.0 d.1 n)) d.0.body g (subst (In g) d.6 i) in
-        let plain = not_stream d.0.body b.0 (accepted d.0 (clause_in P d.2.0 d.0 d.2.2)).closed b.1 in
+        let plain = not_stream d.0.body b.0 (accepted d.0 (in_at P d.2.0 d.0 d.2.2)).closed b.1 in
         let z = from_goal (becomes d.0 d.1 n) b.0 y plain (subst (λ w. In y (variables_of_goal w)) b.2 j) in
         body_brings P f ts k n e acyclic h new d z.0 y (of_goals d.0.body b.0 z.0 b.1 z.1) z.2;
   }

@@ -1,10 +1,11 @@
 -- Where a clause accepts, each variable of its head stands for something; and what its body makes of its variables.
-use Rattle.std.proofs.Common.{◌≡◌, ℕ, zero, suc, ◌+◌, ◌<◌, ◌≤◌, ◌⊎◌, true, false, cond, Bool, ◌||◌, List, [], ◌∷◌, ◌++◌, map, length, refl, sym, ap, ◌∙◌, subst, inl, inr, arith, Some, None, nat_lt, unwrap_or, slice_get}
+use Rattle.std.proofs.Common.{◌≡◌, ℕ, zero, suc, ◌+◌, ◌≤◌, ◌⊎◌, true, false, cond, Bool, ◌||◌, List, [], ◌∷◌, ◌++◌, map, length, refl, sym, ap, ◌∙◌, subst, inl, inr, arith, Some, None, nat_lt, unwrap_or, slice_get}
 use Rattle.std.proofs.lemmas.Bool.Decides.{nat_tests}
 use Rattle.std.specs.Prelude.{Option}
 use Rattle.std.specs.List.{list_any, position_or_len}
 use Rattle.std.specs.Ordering.{eq_by_cmp}
 use Rattle.std.specs.FinMap as finite
+use Rattle.std.proofs.lemmas.Bool.{cases_eq}
 use Rattle.ghc_term.specs.declared.var_name.VarName.{VarName}
 use Rattle.ghc_term.specs.Tree.{Tree, variable, integer, node, Trees, none, more, list_of, Occurs, OccursIn, IsValue}
 use Rattle.ghc_term.specs.Expression.{Expression, leaf, operation}
@@ -13,6 +14,7 @@ use Rattle.ghc_term.specs.Lists.{In}
 use Rattle.ghc_term.specs.Bindings.{Leads, at_node, along, IsAcyclic, name_cmp}
 use Rattle.ghc_term.specs.Store.{StoreValue, value_at}
 use Rattle.ghc_term.proofs.Total.{same_name, chain}
+use Rattle.ghc_term.proofs.ListsLemmas.{in_left, in_right, in_either}
 use Rattle.ghc_flat.specs.Variables.{variables, variables_of_list, variables_of_expression, variables_of_goal, variables_of_goals, firsts}
 use Rattle.ghc_flat.specs.Clause.{Clause}
 use Rattle.ghc_flat.specs.Flat.{is_stream}
@@ -20,7 +22,6 @@ use Rattle.ghc_match.specs.Position.{At, here, down, unbound}
 use Rattle.ghc_match.specs.Match.{AreAlike, StandsFor, HeadFits}
 use Rattle.ghc_unify.specs.Solutions.{replace, replace_all}
 use Rattle.ghc_fire.specs.Instance.{place_in, replace_in_expression, replace_in_goal}
-use Rattle.ghc_records.proofs.OrderLemmas.{in_left, in_right, in_either}
 use Rattle.ghc_records.proofs.Inside.{occurs_in, in_occurs}
 
 shift : {S : VarName → Option Tree} {ts : List Tree} {p : List ℕ} {u : Tree} (t : Tree) → At S ts p u → (q : List ℕ) × At S (t ∷ ts) q u
@@ -63,11 +64,8 @@ unbound_node : {t : Tree} {xs : List VarName} {f : List ℕ} {us : Trees} → Le
 unbound_node at_node = refl
 unbound_node (along e l) = cc
 
-three : (a b : ℕ) → (a ≡ b) ⊎ ((a < b) ⊎ (b < a))
-three a b = grind arith
-
 stable : (a b : ℕ) → ¬ (¬ (a ≡ b)) → a ≡ b
-stable a b n = elim (three a b) [ inl e ↦ e | inr (inl l) ↦ absurd (n (λ e. omega arith)) | inr (inr l) ↦ absurd (n (λ e. omega arith)) ]
+stable a b n = elim (cases_eq a b) [ inl e ↦ e | inr d ↦ absurd (n d) ]
 
 -- a value that is not unlike a node is a node of its arity
 node_of : (f : List ℕ) (us : Trees) (e : Tree) → IsValue e → ¬ (¬ AreAlike (node f us) e) → (g : List ℕ) × (vs : Trees) × (e ≡ node g vs) × (length (list_of us) ≡ length (list_of vs))

@@ -8,10 +8,10 @@ use Rattle.ghc_term.specs.Tree.{Tree, variable, integer, node, Trees, none, more
 use Rattle.ghc_term.specs.Lists.{In}
 use Rattle.ghc_term.specs.Bindings.{Leads, at_integer, at_node, at_free, along, Comes, now, on, name_cmp, with_binding}
 use Rattle.ghc_term.proofs.Total.{same_name}
+use Rattle.ghc_term.proofs.ListsLemmas.{in_left, in_right, in_either}
 use Rattle.ghc_flat.specs.Variables.{variables, variables_of_all, variables_of_list}
 use Rattle.ghc_match.specs.Position.{At, here, down}
 use Rattle.ghc_unify.specs.Unify.{Pairs, no_more, one_more, Meets, integers, nodes, Move, shared, left, right, both, Moves, stay, go}
-use Rattle.ghc_records.proofs.OrderLemmas.{in_left, in_right, in_either}
 
 -- what stands in a tree is one of its variables, and the other way round
 mutual

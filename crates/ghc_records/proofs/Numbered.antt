@@ -8,7 +8,7 @@ use Rattle.indexmap.specs.IndexMap.{insert_entry, shift_remove_entry}
 use Rattle.ghc_term.specs.Lists.{In}
 use Rattle.ghc_records.specs.Orders.{AreDistinct, Picks, nothing, take, leave}
 use Rattle.ghc_records.specs.Record.{Record, numbers}
-use Rattle.ghc_records.proofs.OrderLemmas.{number_in}
+use Rattle.ghc_records.proofs.OrderLemmas.{number_in, numbers_append}
 
 -- each record stands under its number
 abbrev pub AreNumbered : List (ℕ × Record) → Type 0
@@ -63,13 +63,9 @@ pub values_last : (es : List (ℕ × Record)) (e : ℕ × Record) → values_of 
 values_last [] e = refl
 values_last (x ∷ es) e = ap (λ l. x.1 ∷ l) (values_last es e)
 
-numbers_last : (rs : List Record) (r : Record) → numbers (rs ++ r ∷ []) ≡ numbers rs ++ r.number ∷ []
-numbers_last [] r = refl
-numbers_last (s ∷ rs) r = ap (λ l. s.number ∷ l) (numbers_last rs r)
-
 -- one record more, and each stands under its number
 pub numbered_last : (es : List (ℕ × Record)) (r : Record) → AreNumbered es → AreNumbered (es ++ (r.number, r) ∷ [])
-numbered_last es r h = keys_last es (r.number, r) ∙ ap (λ l. l ++ r.number ∷ []) h ∙ sym (numbers_last (values_of es) r) ∙ ap numbers (sym (values_last es (r.number, r)))
+numbered_last es r h = keys_last es (r.number, r) ∙ ap (λ l. l ++ r.number ∷ []) h ∙ sym (numbers_append (values_of es) (r ∷ [])) ∙ ap numbers (sym (values_last es (r.number, r)))
 
 -- the records of a list are all picked where each is another than r
 all_left : (r : Record) (rs : List Record) → ((s : Record) → In s rs → s ≢ r) → Picks (λ s. ¬ (s ≡ r)) rs rs

@@ -1,24 +1,12 @@
 -- Lists in recorded order.
 use Rattle.std.proofs.Common.{◌≡◌, ℕ, ◌<◌, ◌⊎◌, List, [], ◌∷◌, ◌++◌, refl, sym, ap, ◌∙◌, subst, inl, inr}
+use Rattle.std.proofs.lemmas.List.{map-append}
 use Rattle.ghc_term.specs.Lists.{In}
+use Rattle.ghc_term.proofs.ListsLemmas.{in_right, in_splits}
 use Rattle.ghc_records.specs.Orders.{Precedes, Picks, nothing, take, leave, AreDistinct}
 use Rattle.ghc_records.specs.Record.{Record, numbers}
 
 module _ {X : Type 0} where
-  pub in_left : (xs ys : List X) (x : X) → In x xs → In x (xs ++ ys)
-  in_left [] ys x i = absurd i
-  in_left (y ∷ xs) ys x (inl e) = inl e
-  in_left (y ∷ xs) ys x (inr i) = inr (in_left xs ys x i)
-
-  pub in_right : (xs ys : List X) (x : X) → In x ys → In x (xs ++ ys)
-  in_right [] ys x i = i
-  in_right (y ∷ xs) ys x i = inr (in_right xs ys x i)
-
-  pub in_either : (xs ys : List X) (x : X) → In x (xs ++ ys) → In x xs ⊎ In x ys
-  in_either [] ys x i = inr i
-  in_either (y ∷ xs) ys x (inl e) = inl (inl e)
-  in_either (y ∷ xs) ys x (inr i) = elim (in_either xs ys x i) [ inl j ↦ inl (inr j) | inr j ↦ inr j ]
-
   -- a stands before b, by cases of the list
   abbrev pub Before : List X → X → X → Type 0
   Before [] a b = ⊥
@@ -31,15 +19,9 @@ module _ {X : Type 0} where
   pub is_before : (xs : List X) (a b : X) → Precedes xs a b → Before xs a b
   is_before xs a b p = subst (λ ys. Before ys a b) (sym p.3) (before_at p.0 p.1 p.2 a b)
 
-  -- an element of a list splits it
-  pub split_at : (xs : List X) (x : X) → In x xs → (before behind : List X) × (xs ≡ before ++ x ∷ behind)
-  split_at [] x i = absurd i
-  split_at (y ∷ xs) x (inl e) = ([], xs, ap (λ z. z ∷ xs) (sym e))
-  split_at (y ∷ xs) x (inr i) = let s = split_at xs x i in (y ∷ s.0, s.1, ap (λ zs. y ∷ zs) s.2)
-
   pub before_is : (xs : List X) (a b : X) → Before xs a b → Precedes xs a b
   before_is [] a b h = absurd h
-  before_is (x ∷ xs) a b (inl h) = let s = split_at xs b h.1 in ([], s.0, s.1, ap (λ z. z ∷ xs) (sym h.0) ∙ ap (λ zs. a ∷ zs) s.2)
+  before_is (x ∷ xs) a b (inl h) = let s = in_splits xs b h.1 in ([], s.0, s.1, ap (λ z. z ∷ xs) (sym h.0) ∙ ap (λ zs. a ∷ zs) s.2)
   before_is (x ∷ xs) a b (inr h) = let p = before_is xs a b h in (x ∷ p.0, p.1, p.2, ap (λ zs. x ∷ zs) p.3)
 
   pub before_in : (xs : List X) (a b : X) → Before xs a b → In a xs × In b xs
@@ -92,6 +74,10 @@ pub number_in : (rs : List Record) (r : Record) → In r rs → In r.number (num
 number_in [] r i = absurd i
 number_in (s ∷ rs) r (inl e) = inl (ap (λ t. t.number) e)
 number_in (s ∷ rs) r (inr i) = inr (number_in rs r i)
+
+-- the numbers of two lists, one behind the other
+pub numbers_append : (rs qs : List Record) → numbers (rs ++ qs) ≡ numbers rs ++ numbers qs
+numbers_append rs qs = map-append (λ (r : Record). r.number) rs qs
 
 -- a number of the list is that of a record
 pub number_of : (rs : List Record) (n : ℕ) → In n (numbers rs) → (r : Record) × In r rs × (r.number ≡ n)

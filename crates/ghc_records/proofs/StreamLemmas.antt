@@ -9,6 +9,7 @@ use Rattle.ghc_term.specs.Tree.{Tree}
 use Rattle.ghc_term.specs.Goal.{Goal, call, unify, assign, stream}
 use Rattle.ghc_term.specs.Lists.{In}
 use Rattle.ghc_term.specs.Store.{value_at}
+use Rattle.ghc_term.proofs.ListsLemmas.{in_at}
 use Rattle.ghc_flat.specs.Clause.{Program, Query}
 use Rattle.ghc_flat.specs.Flat.{is_stream, IsProgram, IsQuery}
 use Rattle.ghc_fire.specs.Instance.{becomes, replace_in_goal}
@@ -18,16 +19,13 @@ use Rattle.ghc_fire.specs.Effect.{Effect, HasEffect}
 use Rattle.ghc_fire.specs.Goals.{goal_cmp, Goals}
 use Rattle.ghc_records.specs.Record.{State, Record, with_makes, without_goal, after, Fires, IsThere, HasStepEffect}
 use Rattle.ghc_records.specs.Replay.{query_state, Runs}
-use Rattle.ghc_records.proofs.Names.{goal_total, same_goal}
+use Rattle.ghc_records.proofs.Names.{goal_total, same_goal, same_parts}
 use Rattle.ghc_records.proofs.States.{old_apart}
-use Rattle.ghc_records.proofs.Effects.{mapped, not_stream, clause_in}
+use Rattle.ghc_records.proofs.Effects.{mapped, not_stream}
 
 -- each stream has one goal at most
 abbrev pub OneEach : State → Type 0
 OneEach s = (k : ℕ) (g h : GoalName) (x y : VarName) → finite.get s.goals g ≡ Some (stream k x) → finite.get s.goals h ≡ Some (stream k y) → g ≡ h
-
-same_name : (g h : GoalName) → g.step ≡ h.step → g.place ≡ h.place → g ≡ h
-same_name g h p q i = record { step = p i; place = q i }
 
 -- a goal of the state after a step was made by it at a place, or was there
 abbrev MadeAt : ℕ → ℕ → List Goal → GoalName → Goal → Type 0
@@ -43,11 +41,6 @@ made_at n i (g ∷ gs) m h b e =
           inl (0, q, ap (λ (k : GoalName). k.step) same, omega arith)
       | false ↦ λ p q. elim (made_at n (i + 1) gs m h b q) [ inl a ↦ let place : h.place ≡ i + 1 + a.0 = a.3 in inl (suc a.0, a.1, a.2, omega arith) | inr a ↦ inr a ]
     ] refl (sym (finite.get-insert goal_total (with_makes n (i + 1) gs m) (record { step = n; place = i }) g h) ∙ e)
-
-in_at : {X : Type 0} (xs : List X) (j : ℕ) (x : X) → slice_get xs j ≡ Some x → In x xs
-in_at [] j x e = cc
-in_at (y ∷ xs) zero x e = inl (let s : y ≡ x = cc in sym s)
-in_at (y ∷ xs) (suc j) x e = inr (in_at xs j x e)
 
 still : (s : VarName → Tree) (b : Goal) → is_stream (replace_in_goal s b) ≡ is_stream b
 still s (call f ts) = refl
@@ -67,7 +60,7 @@ stream_made : (P : Program) (g : Goal) (a : Act) (n : ℕ) (S : VarName → Opti
     → (j ≡ 0) × ((tail : VarName) × (g ≡ stream k tail))
 stream_made P (call f ts) (by_clause c) n S e accepted d j k x p =
     let b = mapped (replace_in_goal (becomes d.0 d.1 n)) d.0.body (stream k x) (subst (In (stream k x)) d.6 (in_at e.makes j (stream k x) p)) in
-    let plain = not_stream d.0.body b.0 (accepted d.0 (clause_in P d.2.0 d.0 d.2.2)).closed b.1 in
+    let plain = not_stream d.0.body b.0 (accepted d.0 (in_at P d.2.0 d.0 d.2.2)).closed b.1 in
     absurd (let clash : true ≡ false = ap is_stream b.2 ∙ still (becomes d.0 d.1 n) b.0 ∙ plain in cc)
 stream_made P (unify l r) unified n S e accepted d j k x p = absurd (none_made e.makes j (stream k x) d.1 p)
 stream_made P (assign t b) assigned n S e accepted d j k x p = absurd (none_made e.makes j (stream k x) d.5 p)
@@ -99,7 +92,7 @@ module _ (P : Program) (accepted : IsProgram P) where
       ((omega arith), (t.1.0, f.3 ∙ ap Some t.1.1)) in
       elim (made_at r.number 1 r.effect.makes (without_goal r.goal s.goals) g (stream k x) p) [
         | inl a ↦ elim (made_at r.number 1 r.effect.makes (without_goal r.goal s.goals) h (stream k y) q) [
-          | inl b ↦ same_name g h (a.2 ∙ sym b.2) ((made g x a).0 ∙ sym (made h y b).0)
+          | inl b ↦ same_parts g h (a.2 ∙ sym b.2) ((made g x a).0 ∙ sym (made h y b).0)
           | inr b ↦ let c = made g x a in let d = old h (stream k y) b in absurd (d.1 (sym (one k f.0 h c.1.0 y c.1.1 d.0)))
         ]
         | inr a ↦ elim (made_at r.number 1 r.effect.makes (without_goal r.goal s.goals) h (stream k y) q) [
@@ -159,6 +152,6 @@ query_one_each P query asked k g h x y p q =
             let same : a.0 ≡ b.0 = one_rank query a.0 b.0 (stream k x) (stream k y) a.1 refl b.1 refl (omega arith) in
             let one : g.place ≡ 1 + a.0 = a.3 in
             let two : h.place ≡ 1 + b.0 = b.3 in
-            same_name g h (a.2 ∙ sym b.2) (omega arith)
+            same_parts g h (a.2 ∙ sym b.2) (omega arith)
       ]
     ]

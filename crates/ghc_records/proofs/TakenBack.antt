@@ -10,8 +10,7 @@ use Rattle.ghc_term.specs.declared.goal_name.GoalName.{GoalName}
 use Rattle.ghc_term.specs.Goal.{Goal}
 use Rattle.ghc_fire.specs.Goals.{goal_cmp, Goals}
 use Rattle.ghc_records.specs.Record.{Record}
-use Rattle.ghc_records.specs.Replay.{MakesGoal}
-use Rattle.ghc_records.specs.State.{ConsumesGoal, with_goal, without_makes, GoalsTakenBack}
+use Rattle.ghc_records.specs.State.{with_goal, without_makes, GoalsTakenBack}
 use Rattle.ghc_records.proofs.Made.{name, apart}
 use Rattle.ghc_records.proofs.Names.{goal_total, same_parts}
 

@@ -25,8 +25,9 @@ returns-in-Err-clause-fault c = elim c.stale_unless_memory.ensures [
     q.1,
     λ holds.
         let p = c.args.proposal.now in
-        q.0 (c.in-Err.ensures.only p.act p.effect
-        (proposed_as c.args.core.now.world p c.goal.result c.clause_of-choice.result c.goal.ensures (c.clause_of-choice.ensures ∙ ap choice_of c.act.ensures) holds)),
+        let memory = c.in-Err.ensures.only p.act p.effect
+        (proposed_as c.args.core.now.world p c.goal.result c.clause_of-choice.result c.goal.ensures (c.clause_of-choice.ensures ∙ ap choice_of c.act.ensures) holds) in
+        q.0 (cc),
   )
 ]
 

@@ -1,9 +1,8 @@
 use Rattle.std.proofs.Common.{◌≡◌, ◌+◌, true, false, [], ◌∷◌, ◌++◌, get_or, take, sym, ap, ◌∙◌, subst, arith}
 use Rattle.std.specs.Prelude.{Some}
 use Rattle.std.specs.FinSet as set
-use Rattle.std.proofs.lemmas.List.{take_more}
+use Rattle.std.proofs.lemmas.List.{take_more, take_all}
 use Rattle.ghc_term.specs.declared.var_name.VarName.{VarName}
-use Rattle.ghc_depend.proofs.Trails.{whole}
 use Rattle.ghc_depend.proofs.Causes.{IsLeastOf, least_passed, least_taken, least_is, least_none}
 use Rattle.ghc_depend.proofs.cause.least_read.Goals as goal
 use Rattle.ghc_depend.proofs.cause.least_read.Goals.{then-binds, else-binds}
@@ -28,11 +27,11 @@ returns-clause-some c =
     let items = c.members-x-items.result.now in
     let all : set.from_list items ≡ c.args.later.now.effect.reads = c.members-x-items.ensures.all ∙ c.reads.ensures ∙ ap (λ f. f.reads) c.effect.ensures in
     least_is c.args.later.now c.args.earlier.now items c.loop-x.least all
-    (subst (λ l. IsLeastOf c.args.earlier.now l c.loop-x.least) (whole items c.loop-x.x-index (omega (arith, c.loop-x-test.false))) c.loop-x.invariant)
+    (subst (λ l. IsLeastOf c.args.earlier.now l c.loop-x.least) (take_all c.loop-x.x-index items (omega (arith, c.loop-x-test.false))) c.loop-x.invariant)
 
 pub returns-clause-none : goal.returns-clause-none
 returns-clause-none c =
     let items = c.members-x-items.result.now in
     let all : set.from_list items ≡ c.args.later.now.effect.reads = c.members-x-items.ensures.all ∙ c.reads.ensures ∙ ap (λ f. f.reads) c.effect.ensures in
     least_none c.args.later.now c.args.earlier.now items c.loop-x.least all
-    (subst (λ l. IsLeastOf c.args.earlier.now l c.loop-x.least) (whole items c.loop-x.x-index (omega (arith, c.loop-x-test.false))) c.loop-x.invariant)
+    (subst (λ l. IsLeastOf c.args.earlier.now l c.loop-x.least) (take_all c.loop-x.x-index items (omega (arith, c.loop-x-test.false))) c.loop-x.invariant)

@@ -1,9 +1,10 @@
 use Rattle.std.proofs.Common.{◌≡◌, true, false, refl, sym, ap, ◌∙◌, subst, arith}
 use Rattle.std.specs.FinSet as set
+use Rattle.std.proofs.lemmas.List.{take_all}
 use Rattle.ghc_term.specs.Lists.{In}
 use Rattle.ghc_term.proofs.Members.{one_more_member, In_at, has_member}
+use Rattle.ghc_term.proofs.SetsLemmas.{is_member}
 use Rattle.ghc_depend.specs.Depend.{Binds}
-use Rattle.ghc_depend.proofs.Trails.{member_of, whole}
 use Rattle.ghc_depend.proofs.cause.reads_from.Goals as goal
 
 pub returns-then-binds : goal.returns-then-binds
@@ -23,5 +24,5 @@ returns c =
     let items = c.members-x-items.result.now in
     let all : set.from_list items ≡ c.args.later.now.effect.reads = c.members-x-items.ensures.all ∙ c.reads.ensures ∙ ap (λ f. f.reads) c.effect.ensures in (
       λ h. absurd (let clash : false ≡ true = h in cc),
-      λ t. absurd (c.loop-x.invariant t.0 (subst (In t.0) (sym (whole items c.loop-x.x-index (omega (arith, c.loop-x-test.false)))) (member_of c.args.later.now.effect.reads items all t.0 t.1.0)) t.1.1),
+      λ t. absurd (c.loop-x.invariant t.0 (subst (In t.0) (sym (take_all c.loop-x.x-index items (omega (arith, c.loop-x-test.false)))) (is_member c.args.later.now.effect.reads items all t.0 t.1.0)) t.1.1),
     )

@@ -1,4 +1,4 @@
-use Rattle.std.proofs.Common.{rules, ◌≡◌, length, sym, ap, subst}
+use Rattle.std.proofs.Common.{rules, ◌≡◌, length, sym, subst}
 use Rattle.ghc_records.specs.Record.{State}
 use Rattle.ghc_records.specs.State.{with_goal, without_makes, GoalsTakenBack}
 use Rattle.ghc_records.proofs.TakenBack.{goals_back}

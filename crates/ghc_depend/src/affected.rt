@@ -1,11 +1,11 @@
-// Trails: what is known of some steps while one looks for those that depend on them.
+// Affected steps: what is known of them while one looks for those that depend on them.
 ghost use Rattle.std.specs.Prelude.{◌≡◌, ◌⊎◌, ◌↔◌, [], OnOk, IsTrue, ℕ};
 ghost use Rattle.std.specs.FinSet as set;
 ghost use Rattle.std.specs.FinMap as finite;
 ghost use Rattle.ghc_term.specs.declared.var_name.VarName.{VarName};
 ghost use Rattle.ghc_term.specs.Lists.{In};
 ghost use Rattle.ghc_depend.specs.Depend.{Binds};
-ghost use Rattle.ghc_depend.specs.Trail.{HaveCommon, TakesFrom, Touches};
+ghost use Rattle.ghc_depend.specs.Affected.{HaveCommon, TakesFrom, Touches};
 
 use ghc_records::{Record, Records};
 use ghc_term::{Bindings, Variables};
@@ -13,14 +13,14 @@ use indexmap::IndexSet;
 use std::alloc::{AllocError, Global};
 
 /// The numbers of some steps, and the variables that they bound.
-pub(crate) struct Trail {
+pub(crate) struct Affected {
     numbers: IndexSet<u32>,
     bound: Variables,
 }
 
-impl Drop for Trail {
+impl Drop for Affected {
     fn drop(self) {
-        let Trail {
+        let Affected {
             numbers: _numbers,
             bound: _bound,
         } = self;
@@ -68,19 +68,19 @@ fn takes_from(records: &Records, numbers: &IndexSet<u32>, taken: &Record) -> boo
     }
 }
 
-impl Trail {
-    /// The trail of no step, which takes no memory.
-    pub(crate) fn new(alloc: Global) -> Trail
+impl Affected {
+    /// Of no step, which takes no memory.
+    pub(crate) fn new(alloc: Global) -> Affected
         ensures numbers { result.numbers.keys ≡ [] }
         ensures bound { result.bound ≡ set.empty }
     {
-        Trail {
+        Affected {
             numbers: IndexSet::new(alloc),
             bound: Variables::new(alloc),
         }
     }
 
-    /// Whether the step touches the trail: a look-up for each variable that it read, and two.
+    /// Whether the step touches what is affected: a look-up for each variable that it read, and two.
     pub(crate) fn touches(&self, records: &Records, taken: &Record) -> bool
         ensures { IsTrue result ↔ Touches records.now self.now.numbers.keys self.now.bound taken.now }
     {

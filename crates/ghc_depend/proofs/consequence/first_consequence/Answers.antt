@@ -4,7 +4,7 @@ use Rattle.ghc_depend.specs.Depend.{Uses}
 use Rattle.ghc_depend.proofs.Causes.{place_within, some_within, none_between, none_more}
 use Rattle.ghc_depend.proofs.Nearest.{is_first, none_of_it}
 use Rattle.ghc_depend.proofs.Walking.{kept_at}
-use Rattle.ghc_depend.proofs.chain.first_consequence.Goals as goal
+use Rattle.ghc_depend.proofs.consequence.first_consequence.Goals as goal
 
 pub loop-index-init : goal.loop-index-init
 loop-index-init c = none_between (λ d. Uses d c.unwrap-first.result.now) c.args.records.now c.in_ok-place.place

@@ -1,4 +1,4 @@
--- Trails: the numbers of some steps, and the variables that they bound.
+-- Affected steps: their numbers, and the variables that they bound.
 use Rattle.std.specs.Prelude.{◌⊎◌, ℕ, List, IsTrue}
 use Rattle.std.specs.FinSet as set
 use Rattle.ghc_term.specs.declared.var_name.VarName.{VarName}
@@ -15,6 +15,6 @@ TakesFrom rs ns b = (m : Record) × In m rs × In m.number ns × Consumes b m
 abbrev pub HaveCommon : Variables → Variables → Type 0
 HaveCommon s t = (x : VarName) × IsTrue (set.contains s x) × IsTrue (set.contains t x)
 
--- b touches the trail: it consumed a goal that a step of one of these numbers made, or read one of these variables.
+-- b touches what is affected: it consumed a goal that a step of one of these numbers made, or read one of these variables.
 abbrev pub Touches : List Record → List ℕ → Variables → Record → Type 0
 Touches rs ns bound b = TakesFrom rs ns b ⊎ HaveCommon b.effect.reads bound

@@ -1,10 +1,11 @@
 use Rattle.std.proofs.Common.{◌≡◌, true, false, refl, sym, ◌∙◌, subst, arith}
 use Rattle.std.specs.Prelude.{IsTrue}
 use Rattle.std.specs.FinSet as set
+use Rattle.std.proofs.lemmas.List.{take_all}
 use Rattle.ghc_term.specs.Lists.{In}
 use Rattle.ghc_term.proofs.Members.{one_more_member, In_at, has_member}
-use Rattle.ghc_depend.proofs.Trails.{member_of, whole}
-use Rattle.ghc_depend.proofs.trail.have_common.Goals as goal
+use Rattle.ghc_term.proofs.SetsLemmas.{is_member}
+use Rattle.ghc_depend.proofs.affected.have_common.Goals as goal
 
 pub returns-then-contains : goal.returns-then-contains
 returns-then-contains c =
@@ -21,5 +22,5 @@ pub returns : goal.returns
 returns c =
     let items = c.members-x-items.result.now in (
       λ h. absurd (let clash : false ≡ true = h in cc),
-      λ t. absurd (c.loop-x.invariant t.0 (subst (In t.0) (sym (whole items c.loop-x.x-index (omega (arith, c.loop-x-test.false)))) (member_of c.args.reads.now items c.members-x-items.ensures.all t.0 t.1)) t.2),
+      λ t. absurd (c.loop-x.invariant t.0 (subst (In t.0) (sym (take_all c.loop-x.x-index items (omega (arith, c.loop-x-test.false)))) (is_member c.args.reads.now items c.members-x-items.ensures.all t.0 t.1)) t.2),
     )

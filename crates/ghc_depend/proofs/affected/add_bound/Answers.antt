@@ -1,8 +1,8 @@
 use Rattle.std.proofs.Common.{sym, ap, ◌∙◌, subst}
 use Rattle.std.specs.FinMap as finite
 use Rattle.ghc_records.proofs.Allowed.{allowed}
-use Rattle.ghc_depend.proofs.Trails.{IsAdding, adds_begin, adds_next, adds_all}
-use Rattle.ghc_depend.proofs.trail.add_bound.Goals as goal
+use Rattle.ghc_depend.proofs.AffectedSteps.{IsAdding, adds_begin, adds_next, adds_all}
+use Rattle.ghc_depend.proofs.affected.add_bound.Goals as goal
 
 pub loop-x-init : goal.loop-x-init
 loop-x-init c = adds_begin c.args.binds.now c.args.bound.now c.into_iter-x-iterator.result (ap finite.from_entries c.into_iter-x-iterator.ensures.into_iter_gives ∙ c.iter-x-items.ensures.all)

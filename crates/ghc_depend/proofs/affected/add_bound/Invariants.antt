@@ -1,5 +1,5 @@
-use Rattle.ghc_depend.proofs.Trails.{IsAdding}
-use Rattle.ghc_depend.proofs.trail.add_bound.Given as goal
+use Rattle.ghc_depend.proofs.AffectedSteps.{IsAdding}
+use Rattle.ghc_depend.proofs.affected.add_bound.Given as goal
 
 abbrev pub invariant-loop-x : goal.invariant-loop-x
 invariant-loop-x l = IsAdding l.binds l.initial.bound l.bound l.x-iterator

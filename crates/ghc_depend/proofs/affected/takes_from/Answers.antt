@@ -1,8 +1,8 @@
 use Rattle.std.proofs.Common.{◌≡◌, true, false, sym, ap, ◌∙◌, arith}
 use Rattle.std.proofs.lemmas.Bool.{leb-true, le-leb}
-use Rattle.ghc_depend.proofs.Trails.{not_at_zero, not_of_others, not_of_none, by_maker}
-use Rattle.ghc_depend.proofs.trail.takes_from.Goals as goal
-use Rattle.ghc_depend.proofs.trail.takes_from.Goals.{then-name-eq0-via-then-name-eq0, then-name-eq0-via-else-name-eq0+then-not-contains}
+use Rattle.ghc_depend.proofs.AffectedSteps.{not_at_zero, not_of_others, not_of_none, by_maker}
+use Rattle.ghc_depend.proofs.affected.takes_from.Goals as goal
+use Rattle.ghc_depend.proofs.affected.takes_from.Goals.{then-name-eq0-via-then-name-eq0, then-name-eq0-via-else-name-eq0+then-not-contains}
 
 pub returns-then-name-eq0 : goal.returns-then-name-eq0
 returns-then-name-eq0 c =

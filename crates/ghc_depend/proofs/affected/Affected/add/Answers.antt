@@ -1,8 +1,8 @@
 use Rattle.std.proofs.Common.{◌≡◌, sym, ap, ◌∙◌, subst, nat_eq}
 use Rattle.std.specs.Prelude.{Result, Ok, Err, OnOk}
 use Rattle.indexmap.specs.IndexSet.{insert_key}
-use Rattle.ghc_depend.proofs.Trails.{AddsNumber, number_added}
-use Rattle.ghc_depend.proofs.trail.Trail.add.Goals as goal
+use Rattle.ghc_depend.proofs.AffectedSteps.{AddsNumber, number_added}
+use Rattle.ghc_depend.proofs.affected.Affected.add.Goals as goal
 
 on_ok : {X E P : Type 0} (r : Result X E) → P → OnOk r P
 on_ok (Ok v) p = p

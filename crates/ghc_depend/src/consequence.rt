@@ -1,30 +1,34 @@
 // The consequences of a kept step.
-ghost use Rattle.std.specs.Prelude.{◌≡◌, List, IfOk, IfSome, IfNone};
+ghost use Rattle.std.specs.Prelude.{◌≡◌, List, IfOk, OnErr, IfSome, IfNone};
 ghost use Rattle.ghc_records.specs.Record.{Record, numbers};
 ghost use Rattle.ghc_depend.specs.Depend.{Follows, IsKeptAs, AreConsequencesOf, IsFirstConsequence};
 
+use crate::affected::Affected;
 use crate::cause::uses;
-use crate::trail::Trail;
 use ghc_records::Records;
 use std::alloc::{AllocError, Global};
 
 /// The numbers of the consequences of the step of this number, in recorded order: none where it is not kept. It goes once over the
-/// records, with a look-up for each variable that one behind the step read, or a consequence bound. It fails for want of memory alone.
+/// records, with a look-up for each variable that one behind the step read, or a consequence bound. It fails for want of memory
+/// alone, and never where the step is not kept.
 pub fn consequences(alloc: Global, records: &Records, number: u32) -> Result<Vec<u32>, AllocError>
-    ensures { IfOk result (λ ns. (found : List Record) × AreConsequencesOf records.now number found × (numbers found ≡ ns.items)) }
+    ensures found { IfOk result (λ ns. (found : List Record) × AreConsequencesOf records.now number found × (numbers found ≡ ns.items)) }
+
+    // No want of memory hides that the step is not kept.
+    ensures kept { OnErr result ((r : Record) × IsKeptAs records.now number r) }
 {
     let mut found = Vec::new(alloc);
     let Some(place) = records.place_of(number) else {
         return Ok(found);
     };
-    let mut trail = Trail::new(alloc);
+    let mut affected = Affected::new(alloc);
     let first = records.at(place).unwrap();
-    trail.add(first)?;
+    affected.add(first)?;
     let end = records.len();
     for index in place + 1..end {
         let taken = records.at(index).unwrap();
-        if trail.touches(records, taken) {
-            trail.add(taken)?;
+        if affected.touches(records, taken) {
+            affected.add(taken)?;
             found.push(taken.number())?;
         }
     }

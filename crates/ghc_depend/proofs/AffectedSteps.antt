@@ -1,4 +1,4 @@
--- Trails of a step and of those of its consequences over which one has gone.
+-- A step and those of its consequences over which one has gone, as affected steps.
 use Rattle.std.proofs.Common.{◌≡◌, ℕ, zero, suc, ◌+◌, ◌≤◌, ◌⊎◌, Bool, true, false, cond, ◌||◌, List, [], ◌∷◌, ◌++◌, length, take, refl, sym, ap, ◌∙◌, subst, inl, inr, arith, nat_eq}
 use Rattle.std.specs.Prelude.{◌↔◌, Option, Some, IsTrue, slice_get, is_some}
 use Rattle.std.specs.List.{list_any}
@@ -16,18 +16,17 @@ use Rattle.ghc_term.specs.Goal.{Goal}
 use Rattle.ghc_term.specs.Store.{StoreValue}
 use Rattle.ghc_term.specs.Bindings.{name_cmp}
 use Rattle.ghc_term.proofs.Names.{name_total}
-use Rattle.ghc_term.proofs.Collections.{has_at}
-use Rattle.ghc_term.proofs.Searches.{In_any}
+use Rattle.ghc_term.proofs.ListsLemmas.{in_left, in_right, in_either}
 use Rattle.ghc_records.specs.Orders.{Picks, nothing, take as taken, leave, AreDistinct}
 use Rattle.ghc_records.specs.Record.{Record, numbers}
-use Rattle.ghc_records.proofs.OrderLemmas.{in_left, in_right, in_either, Before, is_before, before_is, before_in, before_once, number_in, number_of, record_once, records_distinct}
+use Rattle.ghc_records.proofs.OrderLemmas.{Before, is_before, before_is, before_in, before_once, number_in, number_of, record_once, records_distinct, numbers_append}
 use Rattle.ghc_depend.specs.Depend.{MakesGoal, Binds, Consumes, ReadsFrom, DependsOn, Follows, directly, further, GoesWith}
-use Rattle.ghc_depend.specs.Trail.{TakesFrom, Touches}
+use Rattle.ghc_depend.specs.Affected.{TakesFrom, Touches}
 use Rattle.ghc_depend.proofs.Finding.{same_value}
 use Rattle.ghc_depend.proofs.Picking.{before_front, behind_before, before_across, stands_in_front, picks_in, picks_has}
 
 -- these are the numbers of the steps, and these the variables that they bound
-pub record IsTrailOf (cs : List Record) (ns : List ℕ) (bound : Variables) : Type 0 where
+pub record IsAffectedOf (cs : List Record) (ns : List ℕ) (bound : Variables) : Type 0 where
   pub has_numbers : (n : ℕ) → In n ns ↔ In n (numbers cs)
   pub has_bound : (x : VarName) → IsTrue (set.contains bound x) ↔ ((c : Record) × In c cs × Binds c x)
 
@@ -38,24 +37,20 @@ AddsNumber old new m = (n : ℕ) → In n new ↔ (In n old ⊎ (n ≡ m))
 abbrev pub AddsBound : Variables → Variables → Record → Type 0
 AddsBound old new b = (x : VarName) → IsTrue (set.contains new x) ↔ (IsTrue (set.contains old x) ⊎ Binds b x)
 
-pub no_trail : IsTrailOf [] [] set.empty
-no_trail = record {
+pub none_affected : IsAffectedOf [] [] set.empty
+none_affected = record {
   has_numbers = λ n. (λ i. i, λ i. i);
   has_bound = λ x. (λ h. absurd (let clash : true ≡ false = sym h ∙ set.contains-empty name_cmp x in cc), λ c. absurd c.1);
 }
 
-pub numbers_last : (rs : List Record) (r : Record) → numbers (rs ++ r ∷ []) ≡ numbers rs ++ r.number ∷ []
-numbers_last [] r = refl
-numbers_last (s ∷ rs) r = ap (λ l. s.number ∷ l) (numbers_last rs r)
-
-pub trail_added : (cs : List Record) (b : Record) (ns new : List ℕ) (bound more : Variables) → IsTrailOf cs ns bound → AddsNumber ns new b.number → AddsBound bound more b → IsTrailOf (cs ++ b ∷ []) new more
-trail_added cs b ns new bound more t f g = record {
+pub affected_added : (cs : List Record) (b : Record) (ns new : List ℕ) (bound more : Variables) → IsAffectedOf cs ns bound → AddsNumber ns new b.number → AddsBound bound more b → IsAffectedOf (cs ++ b ∷ []) new more
+affected_added cs b ns new bound more t f g = record {
   has_numbers = λ n. (
-    λ i. subst (In n) (sym (numbers_last cs b)) (elim ((f n).0 i) [
+    λ i. subst (In n) (sym (numbers_append cs (b ∷ []))) (elim ((f n).0 i) [
       | inl j ↦ in_left (numbers cs) (b.number ∷ []) n ((t.has_numbers n).0 j)
       | inr e ↦ in_right (numbers cs) (b.number ∷ []) n (inl e)
     ]),
-    λ i. (f n).1 (elim (in_either (numbers cs) (b.number ∷ []) n (subst (In n) (numbers_last cs b) i)) [
+    λ i. (f n).1 (elim (in_either (numbers cs) (b.number ∷ []) n (subst (In n) (numbers_append cs (b ∷ [])) i)) [
       | inl j ↦ inl ((t.has_numbers n).1 j)
       | inr (inl e) ↦ inr e
       | inr (inr j) ↦ absurd j
@@ -84,23 +79,7 @@ at_split (x ∷ xs) (suc i) b e =
     let next : suc i + 1 ≡ suc (i + 1) = omega arith in
     (s.0, ap (λ l. x ∷ l) s.1, ap (λ k. take k (x ∷ xs)) next ∙ ap (λ l. x ∷ l) s.2)
 
-pub whole : {X : Type 0} (xs : List X) (i : ℕ) → length xs ≤ i → take i xs ≡ xs
-whole [] zero h = refl
-whole [] (suc i) h = refl
-whole (x ∷ xs) zero h = absurd (omega arith)
-whole (x ∷ xs) (suc i) h = ap (λ l. x ∷ l) (whole xs i (omega arith))
-
-pub is_there : {X : Type 0} (xs : List X) (i : ℕ) (b : X) → slice_get xs i ≡ Some b → In b xs
-is_there xs i b e = let s = at_split xs i b e in subst (In b) (sym s.1) (in_right (take i xs) (b ∷ s.0) b (inl refl))
-
 module _ {X : Type 0} {P : X → Type 0} where
-  pub one_more : (xs : List X) (i : ℕ) (b : X) → slice_get xs i ≡ Some b → ((x : X) → In x (take i xs) → P x) → P b → (x : X) → In x (take (i + 1) xs) → P x
-  one_more xs i b at before here x j = elim (in_either (take i xs) (b ∷ []) x (subst (In x) (at_split xs i b at).2 j)) [
-    | inl k ↦ before x k
-    | inr (inl same) ↦ subst P (sym same) here
-    | inr (inr k) ↦ absurd k
-  ]
-
   pub pick_none : (xs : List X) → ((x : X) → In x xs → ¬ P x) → Picks P xs []
   pick_none [] none = nothing
   pick_none (x ∷ xs) none = leave (none x (inl refl)) (pick_none xs (λ y i. none y (inr i)))
@@ -152,31 +131,31 @@ module _ (kept : List Record) (distinct : AreDistinct (numbers kept)) (a : Recor
     go_with c (inl same) = (subst (λ z. In z done) (sym same) here, inl same)
     go_with c (inr i) = let p = picks_in done cs c picked i in (p.0, inr p.1)
 
-    module _ (ns : List ℕ) (bound : Variables) (trail : IsTrailOf (a ∷ cs) ns bound) where
+    module _ (ns : List ℕ) (bound : Variables) (affected : IsAffectedOf (a ∷ cs) ns bound) where
       link : (c : Record) → In c (a ∷ cs) → Consumes b c ⊎ ((x : VarName) × ReadsFrom b c x) → Follows kept a b
       link c i d =
           let g = go_with c i in
           let depends : DependsOn kept b c = (before_is kept c b (subst (λ z. Before z c b) (sym e) (before_front done rest b c g.0)), d) in
           elim g.1 [ inl same ↦ directly (subst (DependsOn kept b) same depends) | inr f ↦ further f depends ]
 
-      -- what touches the trail follows
+      -- what touches them follows
       pub follows : Touches kept ns bound b → Follows kept a b
       follows (inl t) =
-          let c = number_of (a ∷ cs) t.0.number ((trail.has_numbers t.0.number).0 t.2) in
+          let c = number_of (a ∷ cs) t.0.number ((affected.has_numbers t.0.number).0 t.2) in
           let same : t.0 ≡ c.0 = record_once kept t.0 c.0 distinct t.1 (in_kept c.0 (go_with c.0 c.1).0) (sym c.2) in
           link c.0 c.1 (inl (subst (Consumes b) same t.3))
-      follows (inr x) = let c = (trail.has_bound x.0).0 x.2 in link c.0 c.1 (inr (x.0, (x.1, c.2)))
+      follows (inr x) = let c = (affected.has_bound x.0).0 x.2 in link c.0 c.1 (inr (x.0, (x.1, c.2)))
 
       touch : (c : Record) → In c (a ∷ cs) → DependsOn kept b c → Touches kept ns bound b
       touch c i d = elim d.1 [
-        | inl k ↦ inl (c, (before_in kept c b (is_before kept c b d.0)).0, (trail.has_numbers c.number).1 (number_in (a ∷ cs) c i), k)
-        | inr r ↦ inr (r.0, r.1.0, (trail.has_bound r.0).1 (c, i, r.1.1))
+        | inl k ↦ inl (c, (before_in kept c b (is_before kept c b d.0)).0, (affected.has_numbers c.number).1 (number_in (a ∷ cs) c i), k)
+        | inr r ↦ inr (r.0, r.1.0, (affected.has_bound r.0).1 (c, i, r.1.1))
       ]
 
       found_before : (c : Record) → Follows kept a c → DependsOn kept b c → In c cs
       found_before c f d = elim (picks_has done cs c picked (stands_in_front kept done rest b c apart e (is_before kept c b d.0))) [ inl i ↦ i | inr n ↦ absurd (n f) ]
 
-      -- what follows touches the trail
+      -- what follows touches them
       pub touched : Follows kept a b → Touches kept ns bound b
       touched f = elim f [
         | directly {b = x} d ↦ touch a (inl refl) d
@@ -233,10 +212,6 @@ by_maker rs ns b name maker makes distinct e some there kept number same =
           let made : MakesGoal maker name = subst (λ z. MakesGoal z name) one m.3 in
           omega (arith, made.2, long),
     )
-
--- what is in a set stands in its list
-pub member_of : (s : Variables) (ks : List VarName) → set.from_list ks ≡ s → (x : VarName) → IsTrue (set.contains s x) → In x ks
-member_of s ks e x h = In_any x ks (has_at x ks ∙ ap (λ z. set.contains z x) e ∙ h)
 
 -- of the variables bound, those of the list are still to be added to the set
 abbrev pub IsAdding : StoreValue → Variables → Variables → List (VarName × Tree) → Type 0
