@@ -1,5 +1,5 @@
 -- The fresh variables of a clause have the numbers behind those of its head.
-use Rattle.std.proofs.Common.{◌≡◌, ℕ, suc, ◌+◌, Bool, ◌||◌, cond, List, [], ◌∷◌, ◌++◌, length, append_assoc, inl, inr, refl, sym, ap, ◌∙◌, arith}
+use Rattle.std.proofs.Common.{◌-◌, length-append, ◌≡◌, ℕ, suc, ◌+◌, Bool, ◌||◌, cond, List, [], ◌∷◌, ◌++◌, length, append_assoc, inl, inr, refl, sym, ap, ◌∙◌, arith}
 use Rattle.std.specs.Prelude.{Some, slice_get, reverse}
 use mathlib.Core.List.{reverse_aux}
 use Rattle.std.specs.List.{list_any}
@@ -57,15 +57,26 @@ of_a_test (t ∷ ts) x i = elim (in_either (variables_of_test t) (variables_of_t
   | inr j ↦ let r = of_a_test ts x j in (r.0, inr r.1, r.2)
 ]
 
-pub fresh_numbered : (c : Clause) → Rises 0 (variables_of_list c.head) → AreNumbered (variables_of_clause c) → IsFlat c → (i : ℕ) (x : VarName)
-    → slice_get (fresh_variables c) i ≡ Some x → x ≡ asked (length (variables_of_list c.head) + i + 1)
-fresh_numbered c r numbered flat i x e =
+-- a clause has the variables of its head, and then its fresh ones
+firsts_of_clause : (c : Clause) → Rises 0 (variables_of_list c.head) → IsFlat c → firsts [] (variables_of_clause c) ≡ variables_of_list c.head ++ fresh_variables c
+firsts_of_clause c r flat =
     let head = variables_of_list c.head in
     let tests = variables_of_tests c.tests in
     let body = variables_of_goals c.body in
     let in_head : (y : VarName) → In y (variables_of_tests c.tests) → In y (variables_of_list c.head) = λ y j. let t = of_a_test c.tests y j in flat t.0 y t.1 t.2 in
-    let whole : firsts [] (variables_of_clause c) ≡ variables_of_list c.head ++ fresh_variables c =
     ap (firsts []) (append_assoc head tests body)
     ∙ firsts_front head 0 [] (tests ++ body) r (λ y j. absurd j)
-    ∙ ap (λ l. head ++ l) (firsts_same (tests ++ body) (reverse head) head (λ y. sym (list_any-IsPermutation (eq_by_cmp name_cmp y) head (reverse head) (IsPermutation-reverse head))) ∙ firsts_skip tests body head in_head) in
-    numbered (length head + i) x (ap (λ l. slice_get l (length head + i)) whole ∙ behind head (fresh_variables c) i ∙ e)
+    ∙ ap (λ l. head ++ l) (firsts_same (tests ++ body) (reverse head) head (λ y. sym (list_any-IsPermutation (eq_by_cmp name_cmp y) head (reverse head) (IsPermutation-reverse head)))
+    ∙ firsts_skip tests body head in_head)
+
+pub fresh_numbered : (c : Clause) → Rises 0 (variables_of_list c.head) → AreNumbered (variables_of_clause c) → IsFlat c → (i : ℕ) (x : VarName)
+    → slice_get (fresh_variables c) i ≡ Some x → x ≡ asked (length (variables_of_list c.head) + i + 1)
+fresh_numbered c r numbered flat i x e =
+    let head = variables_of_list c.head in
+    numbered (length head + i) x (ap (λ l. slice_get l (length head + i)) (firsts_of_clause c r flat) ∙ behind head (fresh_variables c) i ∙ e)
+
+-- so there are as many as are left of all
+pub fresh_left : (c : Clause) (n : ℕ) → Rises 0 (variables_of_list c.head) → IsFlat c → n ≡ length (firsts [] (variables_of_clause c)) → n - length (variables_of_list c.head) ≡ length (fresh_variables c)
+fresh_left c n r flat all =
+    let parts = ap length (firsts_of_clause c r flat) ∙ length-append (variables_of_list c.head) (fresh_variables c) in
+    omega (arith, all, parts)
