@@ -5,7 +5,7 @@ use Rattle.std.specs.Prelude.{Option, Some, None}
 use Rattle.ghc_term.specs.declared.var_name.VarName.{VarName}
 use Rattle.ghc_term.specs.Goal.{Goal}
 use Rattle.ghc_term.specs.Variables.{variables_of_goal, variables_of_goals}
-use Rattle.ghc_flat.proofs.Lists.{in_left, in_right, in_either, splits_at}
+use Rattle.ghc_term.proofs.ListsLemmas.{in_left, in_right, in_either, splits_at}
 use Rattle.ghc_console.specs.Finding.{Finds}
 
 -- one that was found in front

@@ -9,8 +9,8 @@ use Rattle.ghc_term.specs.Bindings.{name_cmp}
 use Rattle.ghc_term.specs.Lists.{In}
 use Rattle.ghc_term.specs.Variables.{firsts, variables_of_goals}
 use Rattle.ghc_reader.specs.Written.{WrittenQuery, IsWellAsked, AreNumbered}
-use Rattle.ghc_flat.proofs.Lists.{in_at, at_of_in}
-use Rattle.ghc_flat.proofs.Rising.{same_parts}
+use Rattle.ghc_term.proofs.ListsLemmas.{in_at, at_of_in}
+use Rattle.ghc_term.specs.Code.{var_inj as same_parts}
 use Rattle.ghc_flat.specs.Samples.{asked}
 use Rattle.ghc_records.specs.Orders.{AreDistinct}
 use Rattle.ghc_records.specs.Record.{Record, numbers}

@@ -8,8 +8,8 @@ use Rattle.ghc_term.specs.Goal.{Goal}
 use Rattle.ghc_term.specs.GoalCode.{goal_code}
 use Rattle.ghc_term.specs.Bindings.{IsAcyclic}
 use Rattle.ghc_term.specs.Store.{value_at}
+use Rattle.ghc_term.proofs.Decided.{Decided}
 use Rattle.ghc_flat.specs.Flat.{IsProgram, is_stream}
-use Rattle.ghc_match.proofs.Listings.{Decided}
 use Rattle.ghc_fire.specs.declared.act.Act.{Act}
 use Rattle.ghc_fire.specs.declared.act.Act.TheVariants.{ByClause as by_clause, Unified as unified, Assigned as assigned, Given as given, Closed as closed}
 use Rattle.ghc_fire.specs.Effect.{Effect, HasEffect, no_step}

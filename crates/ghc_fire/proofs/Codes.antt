@@ -9,7 +9,7 @@ use Rattle.ghc_term.specs.GoalCode.{goal_code}
 use Rattle.ghc_term.specs.Goal.{Goal}
 use Rattle.ghc_term.specs.Sets.{Variables}
 use Rattle.ghc_term.specs.Store.{StoreValue, store_code}
-use Rattle.ghc_match.proofs.Listings.{Decided}
+use Rattle.ghc_term.proofs.Decided.{Decided}
 use Rattle.ghc_fire.specs.Effect.{Effect}
 
 code_decided : (a b : Gv) → Decided (a ≡ b)

@@ -14,12 +14,12 @@ use Rattle.ghc_flat.specs.Flat.{IsProgram}
 use Rattle.ghc_match.specs.Value.{Value, number, waits as waits_on, bad, HasValue}
 use Rattle.ghc_match.specs.Match.{Accepts, WaitsFor, Outcome, refuses, waits, accepts, HasOutcome}
 use Rattle.ghc_match.proofs.EachOutcome.{each_outcome}
-use Rattle.ghc_match.proofs.Exists.{each_value}
-use Rattle.ghc_match.proofs.Listings.{Decided}
+use Rattle.ghc_match.proofs.EachValue.{each_value}
 use Rattle.ghc_match.proofs.Outcomes.{refuses_waits, accepts_refuses, accepts_waits}
 use Rattle.ghc_unify.specs.Unify.{Meets, integers, nodes, Move, shared, left, right, both, Moves, stay, go, IsCycle, Cycles, Ending, solved, clash, cycle, HasEnding}
 use Rattle.ghc_unify.proofs.Endings.{each_ending}
 use Rattle.ghc_term.specs.declared.fault.Fault.TheVariants.{NoGoal, NoClause, Waits, NoMatch, Clash, Cycle, Arithmetic}
+use Rattle.ghc_term.proofs.Decided.{Decided}
 use Rattle.ghc_fire.specs.declared.act.Act.TheVariants.{ByClause as by_clause, Unified as unified, Assigned as assigned}
 use Rattle.ghc_fire.specs.Effect.{Effect, HasEffect, no_step}
 use Rattle.ghc_fire.specs.Attempt.{Answer, proposes, refused, SomeAccepts, CallAnswers, ChoiceAnswers, UnificationAnswers, AssignmentAnswers}

@@ -4,6 +4,7 @@ use Rattle.std.specs.Prelude.{Option, Some, None, slice_get}
 use Rattle.std.proofs.Math.Decide.{ℕ_discrete}
 use Rattle.std.specs.FinMap as finite
 use Rattle.std.specs.FinSet as set
+use Rattle.std.specs.Coded.{coded_list, coded_ℕ}
 use Rattle.ghc_term.specs.declared.var_name.VarName.{VarName}
 use Rattle.ghc_term.specs.Tree.{Tree, variable, integer, node, Trees, none as no_tree, more, nil, cons, Occurs, OccursIn}
 use Rattle.ghc_term.specs.Expression.{Expression}
@@ -14,6 +15,7 @@ use Rattle.ghc_term.specs.Bindings.{Leads, Comes, IsAcyclic}
 use Rattle.ghc_term.specs.Store.{StoreValue, value_at}
 use Rattle.ghc_term.proofs.Chains.{leads_once}
 use Rattle.ghc_term.proofs.Total.{chain}
+use Rattle.ghc_term.proofs.Decided.{Decided}
 use Rattle.ghc_flat.specs.Clause.{Clause, Program, IsClause, IsFor}
 use Rattle.ghc_flat.specs.Flat.{IsProgram}
 use Rattle.ghc_flat.specs.Variables.{leaf_variables, fresh_variables}
@@ -21,11 +23,10 @@ use Rattle.ghc_match.specs.Position.{EndsIn}
 use Rattle.ghc_match.specs.Value.{Number, Value, number, waits as waits_on, bad, HasValue}
 use Rattle.ghc_match.specs.Match.{Outcome, refuses, waits, accepts, HasOutcome}
 use Rattle.ghc_match.proofs.EachOutcome.{each_outcome}
-use Rattle.ghc_match.proofs.Exists.{each_value}
-use Rattle.ghc_match.proofs.Listings.{Decided, Listing, restated, itself, over}
+use Rattle.ghc_match.proofs.EachValue.{each_value}
+use Rattle.ghc_match.proofs.Listings.{Listing, restated, itself, over}
 use Rattle.ghc_match.proofs.Outcomes.{outcomes_exclude}
 use Rattle.ghc_match.proofs.SetsOf.{either_set, listed_set, own_set}
-use Rattle.ghc_match.proofs.Spots.{names_decided}
 use Rattle.ghc_match.proofs.Values.{number_once, number_waits_not, ends_once}
 use Rattle.ghc_unify.specs.Unify.{Unifies, Ending, solved, clash, cycle, HasEnding}
 use Rattle.ghc_unify.proofs.Endings.{each_ending}
@@ -60,7 +61,7 @@ clause_decided P f ts (suc i) =
           cc)
       | Some c ↦ λ e.
           let here : IsClause P (suc i) c = (i, omega arith, e) in
-          elim (names_decided c.name f) [
+          elim (same_decided (coded_list coded_ℕ) c.name f) [
             | inr n ↦ inr (λ h. n (subst (λ d. d.name ≡ f) (clause_once P h.1 here) h.2.0))
             | inl p ↦ elim (ℕ_discrete (length c.head) (length ts)) [
               | no n ↦ inr (λ h. n (subst (λ d. length d.head ≡ length ts) (clause_once P h.1 here) h.2.1))

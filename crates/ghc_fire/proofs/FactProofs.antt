@@ -13,7 +13,8 @@ use Rattle.ghc_flat.specs.Variables.{fresh_variables}
 use Rattle.ghc_flat.specs.Samples.{asked, v, store, append_nothing, append_cell, appends}
 use Rattle.ghc_match.specs.Position as position
 use Rattle.ghc_match.specs.Match.{HasOutcome, accepts}
-use Rattle.ghc_match.proofs.Shown.{accepts_by, value_not, stands_at, stands_value}
+use Rattle.ghc_match.proofs.OutcomesByPlaces.{accepts_by, stands_at, stands_value}
+use Rattle.ghc_match.proofs.Positions.{value_not}
 use Rattle.ghc_unify.specs.Unify.{left, stay, go}
 use Rattle.ghc_unify.proofs.Ends.{ends}
 use Rattle.ghc_fire.specs.Instance.{replace_in_goal, made, place_in, body_made}

@@ -9,8 +9,9 @@ use Rattle.ghc_term.specs.Lists.{In}
 use Rattle.ghc_term.specs.Bindings.{Leads, at_integer, at_node}
 use Rattle.ghc_term.specs.Sets.{Variables}
 use Rattle.ghc_term.proofs.Chains.{leads_once}
+use Rattle.ghc_term.proofs.ListsLemmas.{in_left, in_right, in_either}
+use Rattle.ghc_term.proofs.SetsLemmas.{one_inserted as inserted}
 use Rattle.ghc_match.specs.Meeting.{Gains}
-use Rattle.ghc_match.proofs.Members.{in_left, in_right, in_either, inserted}
 use Rattle.ghc_fire.specs.Effect.{IsOnChainsOf}
 
 -- the variable x is on the chain of one of the variables ys

@@ -16,13 +16,13 @@ use Rattle.ghc_term.specs.Store.{StoreValue, value_at}
 use Rattle.ghc_term.proofs.Searches.{In_append, In_append_right, In_either}
 use Rattle.ghc_term.proofs.Names.{name_total}
 use Rattle.ghc_term.proofs.Total.{chain, same_name}
+use Rattle.ghc_term.proofs.SetsLemmas.{any_in}
 use Rattle.ghc_flat.specs.Clause.{Clause, Program, IsClause}
 use Rattle.ghc_flat.specs.Flat.{is_stream, IsProgram}
 use Rattle.ghc_flat.specs.Variables.{variables, variables_of_all, variables_of_list, variables_of_expression, variables_of_goal, variables_of_goals, firsts, fresh_variables}
 use Rattle.ghc_match.specs.Position.{At, here, down, unbound}
 use Rattle.ghc_match.specs.Match.{AreAlike, HeadFits, StandsFor}
-use Rattle.ghc_match.proofs.Places.{written}
-use Rattle.ghc_match.proofs.Shown.{any_in}
+use Rattle.ghc_match.proofs.Chains.{written}
 use Rattle.ghc_unify.specs.Unify.{Unifies, Pairs, no_more, one_more, Meets, integers, nodes, Move, shared, left, right, both, Moves, stay, go}
 use Rattle.ghc_unify.specs.Solutions.{replace, replace_all}
 use Rattle.ghc_unify.proofs.Locality.{by_value}

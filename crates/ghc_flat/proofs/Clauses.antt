@@ -1,9 +1,8 @@
 -- What is known of the clause that is made, and the faults of a written one.
-use Rattle.std.proofs.Common.{◌≡◌, ◌≢◌, ℕ, ◌+◌, ◌<◌, ◌≤◌, List, [], ◌∷◌, ◌++◌, length, filter, ◌⊎◌, inl, inr, get_or, take, drop, refl, sym, ap, ◌∙◌, subst, arith}
-use Rattle.std.specs.Prelude.{Some, slice_get, Result, Ok, Err, IfErr, IfOk}
+use Rattle.std.proofs.Common.{◌-◌, arith, ◌≡◌, ◌≢◌, ℕ, ◌+◌, ◌<◌, List, [], ◌∷◌, ◌++◌, length, filter, inl, inr, get_or, take, drop, refl, sym, ap, ◌∙◌, subst}
+use Rattle.std.specs.Prelude.{Result, Err, IfErr}
 use Rattle.ghc_term.specs.declared.var_name.VarName.{VarName}
 use Rattle.ghc_term.specs.declared.fault.Fault.{Fault}
-use Rattle.ghc_term.specs.declared.fault.Fault.TheVariants.{NotFlat, Repeated, Undefined, Memory}
 use Rattle.ghc_term.specs.Lists.{In}
 use Rattle.ghc_term.specs.Tree.{Tree}
 use Rattle.ghc_term.specs.Goal.{Goal, call}
@@ -12,14 +11,15 @@ use Rattle.ghc_term.specs.declared.goal_view.GoalView.{GoalView}
 use Rattle.ghc_term.specs.declared.goal_view.GoalView.TheVariants.{Call, Unify, Assign, Stream}
 use Rattle.ghc_term.specs.GoalShown.{shown}
 use Rattle.ghc_reader.specs.declared.written.Guard.{Guard}
-use Rattle.ghc_reader.specs.Written.{WrittenClause, IsWellWritten, AreNumbered, variables_of_guards, variables_of_written, is_stream}
+use Rattle.ghc_reader.specs.Written.{WrittenClause, IsWellWritten, AreNumbered, variables_of_written, is_stream}
 use Rattle.ghc_flat.specs.declared.test.Test.{Test}
 use Rattle.ghc_flat.specs.Clause.{Clause, Program}
 use Rattle.ghc_flat.specs.Flat.{IsWellMade, IsFlat, IsLinear, AreDistinct}
-use Rattle.ghc_flat.specs.Variables.{variables_of_list, variables_of_test, variables_of_tests, variables_of_goals, variables_of_clause}
-use Rattle.ghc_flat.specs.Checked.{IsMadeOf, AreMadeOf, MakeTests, IsFlatGuard, IsFlatWritten, IsLinearWritten, IsNotFlat, IsFaultless, AreFaultless, AllCalls, IsFirstCallWithout, IsClauseFault, IsFirstFault, IsRepeated}
+use Rattle.ghc_flat.specs.Variables.{firsts, fresh_variables, variables_of_list, variables_of_test, variables_of_goals, variables_of_clause}
+use Rattle.ghc_flat.specs.Checked.{IsMadeOf, AreMadeOf, MakeTests, IsFlatWritten, IsLinearWritten, IsNotFlat, IsFaultless, AreFaultless, AllCalls, IsFirstCallWithout, IsClauseFault, IsFirstFault}
 use Rattle.ghc_flat.specs.Counting.{Rises, IsAmong, AreAmong, MakesAmong}
-use Rattle.ghc_flat.proofs.Lists.{splits_at, next_in, in_right, in_either}
+use Rattle.ghc_term.proofs.ListsLemmas.{splits_at, next_in, in_either}
+use Rattle.ghc_flat.proofs.FreshVariables.{fresh_left}
 use Rattle.ghc_flat.proofs.Rising.{rises_distinct, in_of_among}
 use Rattle.ghc_flat.proofs.Tests.{made_by, all_variables_made, not_flat_guard}
 
@@ -30,28 +30,41 @@ TestsAmong n ts = (t : Test) → In t ts → AreAmong n (variables_of_test t)
 among_head : (w : WrittenClause) (n : ℕ) (x : VarName) → Rises 0 (variables_of_list w.head) → n ≡ length (variables_of_list w.head) → IsAmong n x → In x (variables_of_list w.head)
 among_head w n x r e a = in_of_among (variables_of_list w.head) x r (subst (λ k. IsAmong k x) e a)
 
+same_variables : (w : WrittenClause) (c : Clause) → IsMadeOf w c → variables_of_written w ≡ variables_of_clause c
+same_variables w c m = sym (λ i. variables_of_list (m.head i) ++ all_variables_made w.guards c.tests m.tests i ++ variables_of_goals (m.body i))
+
 pub well_made : (w : WrittenClause) (c : Clause) (n : ℕ) → IsWellWritten w → IsMadeOf w c → Rises 0 (variables_of_list w.head) → n ≡ length (variables_of_list w.head) → TestsAmong n c.tests → IsWellMade c
 well_made w c n ok m r e among = record {
   flat = λ g x i j. subst (λ h. In x (variables_of_list h)) (sym m.head) (among_head w n x r e (among g i x j));
   linear = subst (λ h. AreDistinct (variables_of_list h)) (sym m.head) (rises_distinct (variables_of_list w.head) 0 r);
-  numbered =
-      let same : variables_of_written w ≡ variables_of_clause c = sym (λ i. variables_of_list (m.head i) ++ all_variables_made w.guards c.tests m.tests i ++ variables_of_goals (m.body i)) in
-      subst AreNumbered same ok.numbered;
+  numbered = subst AreNumbered (same_variables w c m) ok.numbered;
   closed = ap (λ b. filter is_stream b) m.body ∙ ok.closed;
 }
 
 -- the clause of a written one and its tests
-pub clause_of : (v w : WrittenClause) (ts : List Test) (n : ℕ) → v ≡ w → IsWellWritten w → MakeTests v.guards ts → Rises 0 (variables_of_list w.head) → n ≡ length (variables_of_list w.head) → TestsAmong n ts
-    → IsWellMade (record { name = v.name; head = v.head; tests = ts; body = v.body })
-clause_of v w ts n same ok m r e among =
-    well_made w (record { name = v.name; head = v.head; tests = ts; body = v.body }) n ok
-    (record {
-      name = ap (λ (u : WrittenClause). u.name) same;
-      head = ap (λ (u : WrittenClause). u.head) same;
-      tests = subst (λ (u : WrittenClause). MakeTests u.guards ts) same m;
-      body = ap (λ (u : WrittenClause). u.body) same;
-    })
-    r e among
+abbrev clause_with : WrittenClause → List Test → Clause
+clause_with v ts = record { name = v.name; head = v.head; tests = ts; body = v.body }
+
+made_of : (v w : WrittenClause) (ts : List Test) → v ≡ w → MakeTests v.guards ts → IsMadeOf w (clause_with v ts)
+made_of v w ts same m = record {
+  name = ap (λ (u : WrittenClause). u.name) same;
+  head = ap (λ (u : WrittenClause). u.head) same;
+  tests = subst (λ (u : WrittenClause). MakeTests u.guards ts) same m;
+  body = ap (λ (u : WrittenClause). u.body) same;
+}
+
+module _ (v w : WrittenClause) (ts : List Test) (n : ℕ) (same : v ≡ w) (ok : IsWellWritten w) (m : MakeTests v.guards ts) (r : Rises 0 (variables_of_list w.head)) (e : n ≡ length (variables_of_list w.head)) (among : TestsAmong n ts) where
+  pub clause_of : IsWellMade (clause_with v ts)
+  clause_of = well_made w (clause_with v ts) n ok (made_of v w ts same m) r e among
+
+  -- its fresh variables are those that are left when so many stand in its head
+  pub fresh_of : (k : ℕ) → k ≡ length w.variables - n → k ≡ length (fresh_variables (clause_with v ts))
+  fresh_of k left =
+      let made = made_of v w ts same m in
+      let all = ok.named ∙ ap (λ l. length (firsts [] l)) (same_variables w (clause_with v ts) made) in
+      let rest = fresh_left (clause_with v ts) (length w.variables) (subst (λ h. Rises 0 (variables_of_list h)) (sym made.head) r) clause_of.flat all in
+      let heads = ap (λ h. length (variables_of_list h)) made.head in
+      omega (arith, left, rest, heads, e)
 
 pub linear_written : (w : WrittenClause) → Rises 0 (variables_of_list w.head) → IsLinearWritten w
 linear_written w r = rises_distinct (variables_of_list w.head) 0 r

@@ -1,9 +1,9 @@
 -- Counting along terms and lists of terms.
-use Rattle.std.proofs.Common.{◌≡◌, ◌≢◌, ℕ, ◌+◌, ◌<◌, ◌≤◌, List, [], ◌∷◌, ◌++◌, length, length-append, append_assoc, append-nil, take, drop, get_or, refl, sym, ap, ◌∙◌, subst, arith}
+use Rattle.std.proofs.Common.{◌≡◌, ◌≢◌, ℕ, ◌+◌, ◌<◌, List, [], ◌∷◌, ◌++◌, length, length-append, append_assoc, append-nil, take, drop, get_or, refl, sym, ap, ◌∙◌, subst, arith}
 use Rattle.std.specs.Prelude.{Result, Ok, Err}
 use Rattle.std.proofs.lemmas.List.{take_more, take-append-drop}
 use Rattle.ghc_term.specs.declared.var_name.VarName.{VarName}
-use Rattle.ghc_term.specs.Tree.{Tree, node, Trees, trees}
+use Rattle.ghc_term.specs.Tree.{Tree, node, trees}
 use Rattle.ghc_flat.specs.Variables.{variables, variables_of_all, variables_of_list}
 use Rattle.ghc_flat.specs.Samples.{asked}
 use Rattle.ghc_flat.specs.Counting.{Rises, CountsTo}
@@ -11,9 +11,6 @@ use Rattle.ghc_flat.proofs.Rising.{rises_append}
 
 pub counts_none : (k : ℕ) → CountsTo [] k (Ok k)
 counts_none k = (tt, omega arith)
-
-pub counts_one : (x : VarName) (k n : ℕ) → x ≡ asked (k + 1) → n ≡ k + 1 → CountsTo (x ∷ []) k (Ok n)
-counts_one x k n e p = ((e, tt), omega (arith, p))
 
 pub counts_other : (x : VarName) (k : ℕ) → x ≢ asked (k + 1) → CountsTo (x ∷ []) k (Err x)
 counts_other x k n = let same : k + 0 + 1 ≡ k + 1 = omega arith in ([], [], refl, tt, λ e. n (e ∙ ap asked same))

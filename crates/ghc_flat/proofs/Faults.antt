@@ -1,11 +1,10 @@
 -- A written program and a query are accepted as one program alone, or have one fault alone.
-use Rattle.std.proofs.Common.{◌≡◌, ◌≢◌, ℕ, ◌+◌, List, [], ◌∷◌, ◌++◌, length, ◌⊎◌, inl, inr, refl, sym, ap, ◌∙◌, subst, arith}
+use Rattle.std.proofs.Common.{◌≡◌, ℕ, ◌+◌, List, [], ◌∷◌, ◌++◌, length, ◌⊎◌, inl, inr, refl, sym, ap, ◌∙◌, subst, arith}
 use Rattle.std.specs.Prelude.{Some, None, slice_get, Result, Ok, Err, IfOk, IfErr, MatchResult}
 use Rattle.ghc_term.specs.declared.var_name.VarName.{VarName}
 use Rattle.ghc_term.specs.declared.fault.Fault.{Fault}
-use Rattle.ghc_term.specs.declared.fault.Fault.TheVariants.{NotFlat, Repeated, Undefined, Memory}
+use Rattle.ghc_term.specs.declared.fault.Fault.TheVariants.{Repeated, Undefined, Memory}
 use Rattle.ghc_term.specs.Lists.{In}
-use Rattle.ghc_term.specs.Tree.{Tree}
 use Rattle.ghc_term.specs.Goal.{Goal, call, stream}
 use Rattle.ghc_reader.specs.declared.written.Guard.{Guard}
 use Rattle.ghc_flat.specs.declared.test.Test.{Test}
@@ -20,15 +19,11 @@ use Rattle.ghc_flat.specs.declared.refused.Refused.TheVariants as refused
 use Rattle.ghc_flat.specs.Refused.{IsRefusedAs, fault_of}
 use Rattle.ghc_flat.specs.Numbers.{keys_of_written}
 use Rattle.ghc_flat.specs.Index.{Knows, IsIndexOf, AreSound}
-use Rattle.ghc_flat.proofs.Lists.{in_at, at_of_in, in_middle, in_either, compare_splits}
+use Rattle.ghc_term.proofs.ListsLemmas.{in_at, at_of_in, in_middle, in_either, compare_splits}
+use Rattle.ghc_flat.proofs.DistinctLemmas.{distinct_split}
 use Rattle.ghc_flat.proofs.Tests.{make_once, all_variables_made}
 use Rattle.ghc_flat.proofs.Numbers.{known, has_clause}
 use Rattle.ghc_flat.proofs.Clauses.{faultless, made_clause, clause_made, call_name, call_arity}
-
-distinct_split : (f : List VarName) (x : VarName) (m : List VarName) → AreDistinct (f ++ x ∷ m) → ¬ In x f
-distinct_split [] x m d i = i
-distinct_split (y ∷ f) x m d (inl e) = d.0 (subst (λ z. In z (f ++ x ∷ m)) e (in_middle f x m))
-distinct_split (y ∷ f) x m d (inr i) = distinct_split f x m d.1 i
 
 same_twice : (xs : List VarName) (x y : VarName) → IsFirstTwice xs x → IsFirstTwice xs y → x ≡ y
 same_twice xs x y p q =

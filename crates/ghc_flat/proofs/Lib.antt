@@ -1,9 +1,9 @@
-pub mod Lists
+pub mod DistinctLemmas
 pub mod Rising
 pub mod Counts
 pub mod Tests
 pub mod Numbers
-pub mod Heads
+pub mod Repeated
 pub mod Clauses
-pub mod Fresh
+pub mod FreshVariables
 pub mod Faults

@@ -1,13 +1,13 @@
 -- The numbers of the clauses of a name and arity.
-use Rattle.std.proofs.Common.{◌≡◌, ◌≢◌, ℕ, zero, suc, ◌+◌, ◌<◌, ◌≤◌, Bool, true, false, cond, ◌&&◌, List, [], ◌∷◌, ◌++◌, length, map, get_or, slice_index, ◌⊎◌, inl, inr, refl, sym, ap, ◌∙◌, subst, arith, nat_eq, bytes_eq}
-use Rattle.std.specs.Prelude.{Some, None, slice_get, ◌↔◌}
+use Rattle.std.proofs.Common.{◌≡◌, ◌≢◌, ℕ, zero, suc, ◌+◌, ◌<◌, ◌≤◌, true, false, cond, ◌&&◌, List, [], ◌∷◌, ◌++◌, length, slice_index, inl, inr, refl, sym, ap, ◌∙◌, subst, arith, nat_eq, bytes_eq}
+use Rattle.std.specs.Prelude.{Some, None, slice_get}
 use Rattle.std.specs.List.Sorted.{IsStrictlyIncreasing}
 use Rattle.std.proofs.lemmas.Slice.Eq.{bytes_eq-Decides}
 use Rattle.std.proofs.lemmas.Bool.Decides.{nat_tests}
 use Rattle.ghc_term.specs.Lists.{In}
 use Rattle.ghc_reader.specs.Written.{WrittenClause}
-use Rattle.ghc_flat.specs.Clause.{Clause, Program, IsClause}
-use Rattle.ghc_flat.specs.Checked.{IsMadeOf, AreMadeOf, HasClause}
+use Rattle.ghc_flat.specs.Clause.{Clause, Program}
+use Rattle.ghc_flat.specs.Checked.{AreMadeOf, HasClause}
 use Rattle.ghc_flat.specs.declared.index.Index.{Index}
 use Rattle.ghc_flat.specs.Index.{IsIndexOf, numbers_at}
 use Rattle.ghc_flat.specs.Numbers.{AreNumbersFor, keys_of_program, keys_of_written, is_same_key, numbers_from}
@@ -45,9 +45,6 @@ numbers_push (q ∷ ps) k p f n =
 -- a clause of the name and arity, at the place i
 abbrev pub IsAt : Program → List ℕ → ℕ → ℕ → ℕ → Type 0
 IsAt P f n k j = (i : ℕ) × (c : Clause) × (j ≡ k + i + 1) × (slice_get P i ≡ Some c) × (c.name ≡ f) × (length c.head ≡ n)
-
-key_of : Clause → List ℕ × ℕ
-key_of c = (c.name, length c.head)
 
 numbers_sound : (P : Program) (k : ℕ) (f : List ℕ) (n j : ℕ) → In j (numbers_from k (keys_of_program P) f n) → IsAt P f n k j
 numbers_sound [] k f n j h = absurd h

@@ -1,23 +1,20 @@
 -- Lists of variables that go up one by one, and the variables of texts that are numbered by first occurrence.
-use Rattle.std.proofs.Common.{◌≡◌, ◌≢◌, ℕ, zero, suc, ◌+◌, ◌-◌, ◌<◌, ◌≤◌, true, false, ◌||◌, cond, List, [], ◌∷◌, ◌++◌, length, append_assoc, ◌⊎◌, inl, inr, refl, sym, ap, ◌∙◌, subst, arith}
-use Rattle.std.specs.Prelude.{Some, None, slice_get}
+use Rattle.std.proofs.Common.{◌≡◌, ◌≢◌, ℕ, zero, suc, ◌+◌, ◌-◌, ◌<◌, ◌≤◌, false, cond, List, [], ◌∷◌, ◌++◌, length, inl, inr, sym, ap, ◌∙◌, subst, arith}
+use Rattle.std.specs.Prelude.{Some, slice_get}
 use Rattle.std.specs.List.{list_any}
 use Rattle.std.specs.Ordering.{eq_by_cmp}
+use Rattle.std.proofs.lemmas.Bool.{false_from_ne_true}
 use Rattle.ghc_term.specs.declared.var_name.VarName.{VarName}
+use Rattle.ghc_term.specs.Code.{var_inj}
 use Rattle.ghc_term.specs.Bindings.{name_cmp}
 use Rattle.ghc_term.specs.Lists.{In}
 use Rattle.ghc_term.specs.Variables.{firsts}
-use Rattle.ghc_term.proofs.Total.{same_name, apart}
-use Rattle.ghc_term.proofs.Entries.{same_is}
-use Rattle.ghc_term.proofs.Searches.{same_itself}
+use Rattle.ghc_term.proofs.SetsLemmas.{any_in}
+use Rattle.ghc_term.proofs.Decided.{in_decided, name_decided}
 use Rattle.ghc_reader.specs.Written.{AreNumbered}
 use Rattle.ghc_flat.specs.Samples.{asked}
 use Rattle.ghc_flat.specs.Flat.{AreDistinct}
 use Rattle.ghc_flat.specs.Counting.{Rises, IsAmong}
-
--- variables of one step and place are one
-pub same_parts : (x y : VarName) → x.step ≡ y.step → x.place ≡ y.place → x ≡ y
-same_parts x y s p = λ i. record { step = s i; place = p i }
 
 pub rises_append : (xs ys : List VarName) (k : ℕ) → Rises k xs → Rises (k + length xs) ys → Rises k (xs ++ ys)
 rises_append [] ys k r s = let same : k + 0 ≡ k = omega arith in subst (λ n. Rises n ys) same s
@@ -68,27 +65,12 @@ in_of_among xs x r a =
     let low : 0 < x.place = a.1 in
     let high : x.place ≤ length xs = a.2 in
     let place : 0 + (x.place - 1) + 1 ≡ x.place = omega (arith, low) in
-    let same : asked (0 + (x.place - 1) + 1) ≡ x = same_parts (asked (0 + (x.place - 1) + 1)) x (sym a.0) place in
+    let same : asked (0 + (x.place - 1) + 1) ≡ x = var_inj (asked (0 + (x.place - 1) + 1)) x (sym a.0) place in
     subst (λ y. In y xs) same (in_of_place xs 0 (x.place - 1) r (omega (arith, low, high)))
 
--- whether a variable stands in a list
-pub in_or_not : (x : VarName) (xs : List VarName) → In x xs ⊎ (¬ In x xs)
-in_or_not x [] = inr (λ i. i)
-in_or_not x (y ∷ xs) =
-    elim (eq_by_cmp name_cmp x y) as (λ b. eq_by_cmp name_cmp x y ≡ b → In x (y ∷ xs) ⊎ (¬ In x (y ∷ xs))) [
-      | true ↦ λ e. inl (inl (same_name x y e))
-      | false ↦ λ e. elim (in_or_not x xs) [
-        | inl i ↦ inl (inr i)
-        | inr n ↦ inr (λ i. elim i [
-          | inl same ↦ let yes : eq_by_cmp name_cmp x y ≡ true = ap (eq_by_cmp name_cmp x) (sym same) ∙ (sym (same_is x x) ∙ same_itself x) in let clash : true ≡ false = sym yes ∙ e in cc
-          | inr j ↦ n j
-        ])
-      ]
-    ] refl
-
+-- what is not in a list is not found there
 pub not_in_any : (x : VarName) (xs : List VarName) → (¬ In x xs) → list_any (eq_by_cmp name_cmp x) xs ≡ false
-not_in_any x [] n = refl
-not_in_any x (y ∷ xs) n = ap (λ b. b || list_any (eq_by_cmp name_cmp x) xs) (apart x y (λ e. n (inl e))) ∙ not_in_any x xs (λ i. n (inr i))
+not_in_any x xs n = false_from_ne_true (list_any (eq_by_cmp name_cmp x) xs) (λ e. n (any_in x xs e))
 
 -- each place in the list is k at most
 abbrev pub ArePlacedUpTo : ℕ → List VarName → Type 0
@@ -124,7 +106,7 @@ firsts_long (y ∷ ys) k seen rest r b =
 -- in a numbered list, behind variables that go up, one that does not go on is one of them
 pub again : (front : List VarName) (x : VarName) (rest : List VarName) → AreNumbered (front ++ x ∷ rest) → Rises 0 front → x ≢ asked (0 + length front + 1) → In x front
 again front x rest numbered r other =
-    elim (in_or_not x front) [
+    elim (in_decided name_decided x front) [
       | inl i ↦ i
       | inr n ↦
           let same : length front + 1 ≡ 0 + length front + 1 = omega arith in

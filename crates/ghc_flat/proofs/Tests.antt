@@ -1,24 +1,23 @@
 -- The tests that guards make, and whose variables they test.
-use Rattle.std.proofs.Common.{◌≡◌, ◌≢◌, ℕ, ◌+◌, ◌<◌, ◌≤◌, Bool, true, false, List, [], ◌∷◌, ◌++◌, length, append_assoc, append-nil, ◌⊎◌, inl, inr, refl, sym, ap, ◌∙◌, subst, arith}
-use Rattle.std.specs.Prelude.{Option, Some, None, IsTrue, ◌↔◌, codes, bytes_eq, option_to_list}
+use Rattle.std.proofs.Common.{◌≡◌, ℕ, Bool, List, [], ◌∷◌, ◌++◌, length, append_assoc, append-nil, inl, inr, refl, sym, ap, ◌∙◌, subst, arith}
+use Rattle.std.specs.Prelude.{IsTrue, ◌↔◌}
 use Rattle.ghc_term.specs.declared.var_name.VarName.{VarName}
 use Rattle.ghc_term.specs.declared.comparison.Comparison.{Comparison}
-use Rattle.ghc_term.specs.declared.operator.Operator.{Operator}
-use Rattle.ghc_term.specs.Tree.{Tree, variable, integer, node, Trees}
-use Rattle.ghc_term.specs.Expression.{Expression, leaf, operation}
-use Rattle.ghc_term.specs.Goal.{Goal, call, unify, assign, stream}
+use Rattle.ghc_term.specs.Tree.{variable, integer, node}
+use Rattle.ghc_term.specs.Expression.{Expression}
+use Rattle.ghc_term.specs.Goal.{call, unify, assign, stream}
 use Rattle.ghc_term.specs.Lists.{In}
 use Rattle.ghc_reader.specs.declared.written.Guard.{Guard}
 use Rattle.ghc_reader.specs.declared.written.Guard.TheVariants.{Item as item, Comparison as comparison}
 use Rattle.ghc_reader.specs.Written.{variables_of_guard, variables_of_guards}
 use Rattle.ghc_flat.specs.declared.test.Test.{Test}
-use Rattle.ghc_flat.specs.declared.test.Test.TheVariants.{Wait as wait, IsInteger as is_integer, IsAtom as is_atom, IsList as is_list, Compare as compare}
+use Rattle.ghc_flat.specs.declared.test.Test.TheVariants.{Compare as compare}
 use Rattle.ghc_flat.specs.Flat.{IsPredefined, MakesTests}
 use Rattle.ghc_flat.specs.Checked.{MakeTests, IsFlatGuard}
 use Rattle.ghc_flat.specs.Variables.{variables_of_test, variables_of_tests, leaf_variables}
 use Rattle.ghc_flat.specs.Counting.{Rises, IsAmong, AreAmong, MakesAmong}
-use Rattle.ghc_flat.proofs.Lists.{in_left, in_right, in_either}
-use Rattle.ghc_flat.proofs.Rising.{among_of_in, in_of_among}
+use Rattle.ghc_term.proofs.ListsLemmas.{in_left, in_right, in_either}
+use Rattle.ghc_flat.proofs.Rising.{among_of_in}
 
 -- a test of one variable
 pub one_among : (n : ℕ) (x : VarName) (b : Bool) → (IsTrue b ↔ IsAmong n x) → IsTrue b ↔ AreAmong n (x ∷ [])
@@ -37,16 +36,6 @@ left_among n xs ys a y i = a y (in_left xs ys y i)
 pub right_among : (n : ℕ) (xs ys : List VarName) → AreAmong n (xs ++ ys) → AreAmong n ys
 right_among n xs ys a y i = a y (in_right xs ys y i)
 
--- the guard of one goal and one variable
-one_test : (n : ℕ) (x : VarName) → IsAmong n x → (g : Test) → variables_of_test g ≡ x ∷ [] → (t : Test) → In t (g ∷ []) → AreAmong n (variables_of_test t)
-one_test n x a g e t (inl s) y i =
-    let at : In y (x ∷ []) = subst (λ l. In y l) (ap variables_of_test s ∙ e) i in
-    elim at [ inl same ↦ subst (IsAmong n) (sym same) a | inr none ↦ absurd none ]
-one_test n x a g e t (inr none) y i = absurd none
-
-pub makes_one : (n : ℕ) (f : List ℕ) (x : VarName) (g : Test) → IsAmong n x → IsPredefined f x g → variables_of_test g ≡ x ∷ [] → MakesAmong n (item (call f (variable x ∷ []))) (g ∷ [])
-makes_one n f x g a p e = ((g, p, refl), one_test n x a g e)
-
 -- a predefined test is of its variable
 pub predefined_variable : (f : List ℕ) (x : VarName) (g : Test) → IsPredefined f x g → variables_of_test g ≡ x ∷ []
 predefined_variable f x g (inl p) = ap variables_of_test p.1
@@ -58,27 +47,6 @@ pub not_among : (n : ℕ) (f : List ℕ) (x : VarName) → (¬ IsAmong n x) → 
 not_among n f x other ts m =
     let made = m.0 in
     other (m.1 made.0 (subst (λ l. In made.0 l) (sym made.2) (inl refl)) x (subst (λ l. In x l) (sym (predefined_variable f x made.0 made.1)) (inl refl)))
-
-pub no_name : (n : ℕ) (f : List ℕ) (x : VarName) → f ≢ codes "wait" → f ≢ codes "integer" → f ≢ codes "atom" → f ≢ codes "list" → (ts : List Test) → ¬ MakesAmong n (item (call f (variable x ∷ []))) ts
-no_name n f x w i a l ts m = elim m.0.1 [ inl p ↦ w p.0 | inr r ↦ elim r [ inl p ↦ i p.0 | inr s ↦ elim s [ inl p ↦ a p.0 | inr p ↦ l p.0 ] ] ]
-
--- `true`, and the goals that make no tests
-pub makes_none : (n : ℕ) (f : List ℕ) → f ≡ codes "true" → MakesAmong n (item (call f [])) []
-makes_none n f e = ((e, refl), λ t i. absurd i)
-
-pub not_true : (n : ℕ) (f : List ℕ) → f ≢ codes "true" → (ts : List Test) → ¬ MakesAmong n (item (call f [])) ts
-not_true n f other ts m = other m.0.0
-
-pub no_integer : (n : ℕ) (f : List ℕ) (k : _) (us : List Tree) (ts : List Test) → ¬ MakesAmong n (item (call f (integer k ∷ us))) ts
-no_integer n f k us ts m = m.0
-
-pub no_node : (n : ℕ) (f h : List ℕ) (vs : Trees) (us : List Tree) (ts : List Test) → ¬ MakesAmong n (item (call f (node h vs ∷ us))) ts
-no_node n f h vs us ts m = m.0
-
-pub no_two : (n : ℕ) (f : List ℕ) (t u : Tree) (us : List Tree) (ts : List Test) → ¬ MakesAmong n (item (call f (t ∷ u ∷ us))) ts
-no_two n f (variable x) u us ts m = m.0
-no_two n f (integer k) u us ts m = m.0
-no_two n f (node h vs) u us ts m = m.0
 
 -- a comparison
 pub makes_comparison : (n : ℕ) (o : Comparison) (a b : Expression) → AreAmong n (leaf_variables a) → AreAmong n (leaf_variables b) → MakesAmong n (comparison o a b) (compare o a b ∷ [])
@@ -126,10 +94,6 @@ made_by (h ∷ gs) ts d g (inl e) = (d.0, subst (λ k. MakesTests k d.0) (sym e)
 made_by (h ∷ gs) ts d g (inr i) =
     let r = made_by gs d.1 d.3 g i in
     (r.0, r.1, λ t j. subst (λ l. In t l) (sym d.4) (in_right d.0 d.1 t (r.2 t j)))
-
--- flat guards by the numbers of their variables
-pub flat_guard : (xs : List VarName) (n : ℕ) (g : Guard) (ts : List Test) → Rises 0 xs → n ≡ length xs → MakesAmong n g ts → IsFlatGuard xs g
-flat_guard xs n g ts r e m = (ts, m.0, λ t x i j. in_of_among xs x r (subst (λ k. IsAmong k x) e (m.1 t i x j)))
 
 pub not_flat_guard : (xs : List VarName) (n : ℕ) (g : Guard) → Rises 0 xs → n ≡ length xs → ((ts : List Test) → ¬ MakesAmong n g ts) → ¬ IsFlatGuard xs g
 not_flat_guard xs n g r e none f = none f.0 (f.1, λ t i x j. subst (λ k. IsAmong k x) (sym e) (among_of_in xs x r (f.2 t x i j)))

@@ -1,6 +1,5 @@
 -- Programs: tests, clauses and queries.
 use Rattle.std.specs.Prelude.{◌≡◌, ℕ, ◌+◌, List, length, Some, slice_get}
-use Rattle.ghc_term.specs.declared.var_name.VarName.{VarName}
 use Rattle.ghc_term.specs.Tree.{Tree}
 use Rattle.ghc_term.specs.Goal.{Goal}
 use Rattle.ghc_flat.specs.declared.test.Test.{Test}

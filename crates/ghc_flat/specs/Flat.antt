@@ -1,18 +1,16 @@
 -- Which guards, clauses, programs and queries are accepted.
-use Rattle.std.specs.Prelude.{◌≡◌, ◌⊎◌, ℕ, ◌+◌, List, [], ◌∷◌, Bool, true, false, filter, Some, slice_get, codes}
+use Rattle.std.specs.Prelude.{◌≡◌, ◌⊎◌, ℕ, ◌+◌, List, [], ◌∷◌, filter, Some, slice_get, codes}
 use Rattle.ghc_term.specs.declared.var_name.VarName.{VarName}
 use Rattle.ghc_term.specs.Tree.{Tree, variable}
-use Rattle.ghc_term.specs.Expression.{Expression}
-use Rattle.ghc_term.specs.Goal.{Goal, call, unify, assign, stream}
+use Rattle.ghc_term.specs.Goal.{Goal, call, stream}
 use Rattle.ghc_term.specs.Lists.{In}
-use Rattle.ghc_term.specs.declared.comparison.Comparison.{Comparison}
 use Rattle.ghc_reader.specs.declared.written.Guard.{Guard}
 use Rattle.ghc_reader.specs.declared.written.Guard.TheVariants.{Item as item, Comparison as comparison}
 pub use Rattle.ghc_reader.specs.Written.{AreNumbered, is_stream}
 use Rattle.ghc_flat.specs.declared.test.Test.{Test}
 use Rattle.ghc_flat.specs.declared.test.Test.TheVariants.{Wait as wait, IsInteger as is_integer, IsAtom as is_atom, IsList as is_list, Compare as compare}
 use Rattle.ghc_flat.specs.Clause.{Clause, Program, IsClause, IsFor, Query}
-use Rattle.ghc_flat.specs.Variables.{variables_of_list, variables_of_test, variables_of_goals, variables_of_clause, firsts}
+use Rattle.ghc_flat.specs.Variables.{variables_of_list, variables_of_test, variables_of_goals, variables_of_clause}
 
 -- The predefined test of this name, on the variable x.
 abbrev pub IsPredefined : List ℕ → VarName → Test → Type 0

@@ -1,15 +1,11 @@
 -- Programs and stores of the facts.
-use Rattle.std.specs.Prelude.{ℕ, pos, negsuc, List, [], ◌∷◌, Option, codes}
+use Rattle.std.specs.Prelude.{ℕ, List, [], ◌∷◌, Option, codes}
 use Rattle.std.specs.FinMap as finite
 use Rattle.ghc_term.specs.declared.var_name.VarName.{VarName}
-use Rattle.ghc_term.specs.declared.operator.Operator.TheVariants.{Divide, Modulo}
-use Rattle.ghc_term.specs.Tree.{Tree, variable, integer, atom, nil, cons}
-use Rattle.ghc_term.specs.Expression.{leaf, operation}
+use Rattle.ghc_term.specs.Tree.{Tree, variable, atom, nil, cons}
 use Rattle.ghc_term.specs.Goal.{call, unify}
 use Rattle.ghc_term.specs.Bindings.{name_cmp}
-use Rattle.ghc_term.specs.declared.comparison.Comparison.TheVariants.{Greater, Equal}
-use Rattle.ghc_flat.specs.declared.test.Test.TheVariants.{Compare as compare}
-use Rattle.ghc_flat.specs.Clause.{Clause, Program, Query}
+use Rattle.ghc_flat.specs.Clause.{Clause, Program}
 
 -- the variable `_0_i`: the i-th of a query, or of a clause
 abbrev pub asked : ℕ → VarName
@@ -27,18 +23,6 @@ store bs x = finite.find name_cmp x bs
 abbrev pub both_atoms : Clause
 both_atoms = record { name = codes "p"; head = atom (codes "a") ∷ atom (codes "b") ∷ []; tests = []; body = [] }
 
--- `p(_,b) :- true | true.`
-abbrev pub second_atom : Clause
-second_atom = record { name = codes "p"; head = v 1 ∷ atom (codes "b") ∷ []; tests = []; body = [] }
-
--- `d(X) :- 1 / X > 0 | true.`
-abbrev pub divides : Clause
-divides = record { name = codes "d"; head = v 1 ∷ []; tests = compare Greater (operation Divide (leaf (integer (pos 1))) (leaf (v 1))) (leaf (integer (pos 0))) ∷ []; body = [] }
-
--- `m(X) :- X mod 3 =:= -1 | true.`
-abbrev pub remains : Clause
-remains = record { name = codes "m"; head = v 1 ∷ []; tests = compare Equal (operation Modulo (leaf (v 1)) (leaf (integer (pos 3)))) (leaf (integer (negsuc 0))) ∷ []; body = [] }
-
 -- `append([],Y,Z) :- true | Z = Y.`
 abbrev pub append_nothing : Clause
 append_nothing = record { name = codes "append"; head = nil ∷ v 1 ∷ v 2 ∷ []; tests = []; body = unify (v 2) (v 1) ∷ [] }
@@ -55,7 +39,3 @@ append_cell = record {
 -- these two
 abbrev pub appends : Program
 appends = append_nothing ∷ append_cell ∷ []
-
--- `append([1],[2],R)`
-abbrev pub append_query : Query
-append_query = call (codes "append") (cons (integer (pos 1)) nil ∷ cons (integer (pos 2)) nil ∷ v 1 ∷ []) ∷ []

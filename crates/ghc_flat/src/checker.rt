@@ -1,5 +1,5 @@
 // The checker: from a written program and a query to the program, or the first fault.
-ghost use Rattle.std.specs.Prelude.{◌≡◌, ◌⊎◌, ℕ, List, [], length, IfOk, IfErr, OnOk, MatchResult};
+ghost use Rattle.std.specs.Prelude.{◌≡◌, ◌⊎◌, ◌-◌, ℕ, List, [], length, IfOk, IfErr, OnOk, MatchResult};
 ghost use Rattle.ghc_term.specs.declared.fault.Fault.{Fault};
 ghost use Rattle.ghc_reader.specs.Written.{AreWellWritten, IsWellWritten};
 ghost use Rattle.ghc_flat.specs.Clause.{Program};
@@ -98,6 +98,7 @@ fn check_clause(
     ensures refused { IfErr result (λ e. (e ≡ Fault.Memory) ⊎ IsClauseFault (Knows index.now) number written e) }
 {
     let head_variables = check_head(&written, number)?;
+    let fresh = count_fresh(&written, head_variables)?;
     let WrittenClause {
         name,
         head,
@@ -113,6 +114,7 @@ fn check_clause(
         tests,
         body,
         head_variables,
+        fresh,
     })
 }
 
@@ -132,6 +134,17 @@ fn check_head(written: &WrittenClause, number: u32) -> Result<u32, Fault>
                 variable,
             })
         }
+    }
+}
+
+// How many of the clause's variables are left when so many stand in its head.
+fn count_fresh(written: &WrittenClause, head_variables: u32) -> Result<u32, Fault>
+    ensures count { IfOk result (λ n. n ≡ length written.now.variables - head_variables) }
+    ensures refused { IfErr result (λ e. e ≡ Fault.Memory) }
+{
+    match u32::try_from(written.variables.len()) {
+        Ok(all) => Ok(all.saturating_sub(head_variables)),
+        Err(_) => Err(Fault::Memory),
     }
 }
 

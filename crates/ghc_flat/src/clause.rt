@@ -15,6 +15,8 @@ pub struct Clause {
     pub(crate) body: Vec<Goal>,
     // how many variables stand in the head
     pub(crate) head_variables: u32,
+    // how many variables of the body do not
+    pub(crate) fresh: u32,
 }
 
 impl Drop for Clause {
@@ -25,6 +27,7 @@ impl Drop for Clause {
             tests: _tests,
             body: _body,
             head_variables: _,
+            fresh: _,
         } = self;
     }
 }
@@ -40,13 +43,14 @@ impl Model for Clause {
 
     ghost use Rattle.ghc_flat.specs.Flat.{IsWellMade};
     ghost use Rattle.ghc_flat.specs.Counting.{Rises};
-    ghost use Rattle.ghc_flat.specs.Variables.{variables_of_list};
+    ghost use Rattle.ghc_flat.specs.Variables.{variables_of_list, fresh_variables};
 
     ghost view = { λ c. record { name = c.name; head = c.head.items; tests = c.tests.items; body = c.body.items } };
 
     ghost invariant = { λ c. IsWellMade (record { name = c.name; head = c.head.items; tests = c.tests.items; body = c.body.items })
         × (c.head_variables ≡ length (variables_of_list c.head.items))
-        × Rises 0 (variables_of_list c.head.items) };
+        × Rises 0 (variables_of_list c.head.items)
+        × (c.fresh ≡ length (fresh_variables (record { name = c.name; head = c.head.items; tests = c.tests.items; body = c.body.items }))) };
 }
 
 impl Clause {
@@ -90,5 +94,12 @@ impl Clause {
         ensures well_made { IsWellMade self.now }
     {
         self.head_variables
+    }
+
+    /// How many variables of its body do not stand in its head: one step.
+    pub fn fresh(&self) -> u32
+        ensures { result ≡ length (fresh_variables self.now) }
+    {
+        self.fresh
     }
 }

@@ -17,7 +17,7 @@ use Rattle.ghc_match.specs.Position.{EndsIn}
 use Rattle.ghc_match.specs.Value.{Wants, Value, number, waits as waits_on, bad, HasValue}
 use Rattle.ghc_match.specs.Match.{WaitsFor, Outcome, refuses, waits, accepts, HasOutcome}
 use Rattle.ghc_match.proofs.EachOutcome.{each_outcome}
-use Rattle.ghc_match.proofs.Exists.{each_value}
+use Rattle.ghc_match.proofs.EachValue.{each_value}
 use Rattle.ghc_match.proofs.Outcomes.{refuses_waits, accepts_waits}
 use Rattle.ghc_match.proofs.SetsOf.{SetOf, no_set, restated_set, below_set}
 use Rattle.ghc_match.proofs.Values.{number_waits_not, ends_once}

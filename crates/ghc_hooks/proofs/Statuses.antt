@@ -22,7 +22,7 @@ use Rattle.ghc_match.specs.Looked.{ExpressionReaches, GoalLooksAt}
 use Rattle.ghc_term.proofs.Sets.{set_of}
 use Rattle.ghc_match.proofs.Chains.{leads_there, leads_back}
 use Rattle.ghc_match.proofs.Values.{leaf_reaches, passes_reaches}
-use Rattle.ghc_match.proofs.Matching.{looks_back}
+use Rattle.ghc_match.proofs.LooksAt.{looks_back}
 use Rattle.ghc_match.proofs.Outcomes.{waits_there}
 use Rattle.ghc_hooks.specs.Status.{Awaits, waiting, failed, is_ready, is_waiting, is_failed, is_stream_goal}
 use Rattle.ghc_hooks.specs.Laws.{StatusIsOne, StatusIsOfWhatIsLookedAt}

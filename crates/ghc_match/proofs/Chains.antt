@@ -1,11 +1,15 @@
--- Chains in stores that agree on them.
-use Rattle.std.proofs.Common.{◌≡◌, List, [], ◌∷◌, sym, ◌∙◌, subst, inl, inr}
-use Rattle.std.specs.Prelude.{Option}
+-- Chains: what they pass, and the same ones in stores that agree on them.
+use Rattle.std.proofs.Common.{◌≡◌, List, [], ◌∷◌, sym, ◌∙◌, subst, inl, inr, refl, arith, ℕ}
+use Rattle.std.specs.FinMap as finite
+use Rattle.std.specs.Prelude.{Option, Some, None}
 use Rattle.ghc_term.specs.declared.var_name.VarName.{VarName}
-use Rattle.ghc_term.specs.Tree.{Tree, variable}
+use Rattle.ghc_term.specs.Tree.{Tree, variable, node, Trees}
 use Rattle.ghc_term.specs.Lists.{In}
-use Rattle.ghc_term.specs.Bindings.{Leads, at_integer, at_node, at_free, along, Comes, now, on, Passes}
+use Rattle.ghc_term.specs.Bindings.{Leads, at_integer, at_node, at_free, along, Comes, now, on, Passes, IsAcyclic}
 use Rattle.ghc_term.proofs.Chains.{leads_agree}
+use Rattle.ghc_term.specs.Store.{StoreValue, value_at}
+use Rattle.ghc_term.proofs.Total.{chain}
+use Rattle.ghc_match.specs.Position.{unbound}
 
 -- what is on a chain is passed
 pub leads_passes : {S : VarName → Option Tree} {t e : Tree} {xs : List VarName} {x : VarName} → Leads S t xs e → In x xs → Passes S t x
@@ -15,12 +19,6 @@ leads_passes {S = S} {x = x} (at_free {x = z} p) (inl e) = ([], subst (λ z. Com
 leads_passes (at_free p) (inr i) = absurd i
 leads_passes {S = S} {x = x} (along {x = z} p a) (inl e) = ([], subst (λ z. Comes S (variable z) [] x) e now)
 leads_passes (along {x = z} p a) (inr i) = let r = leads_passes a i in (z ∷ r.0, on p r.1)
-
--- what a chain passes on the way is passed
-pub before : {T : VarName → Option Tree} {t : Tree} {xs : List VarName} {x y : VarName} → Comes T t xs y → In x xs → Passes T t x
-before now i = absurd i
-before {T = T} {x = x} (on {x = z} e c) (inl p) = ([], subst (λ w. Comes T (variable w) [] x) p now)
-before (on {x = z} e c) (inr i) = let rest = before c i in (z ∷ rest.0, on e rest.1)
 
 -- S' agrees with S on the chain of t
 abbrev pub AgreesFrom : (VarName → Option Tree) → (VarName → Option Tree) → Tree → Type 0
@@ -46,3 +44,23 @@ passes_back now h = now
 passes_back (on {x = x} e c) h =
     let was = sym (h x ([], now)) ∙ e in
     on was (passes_back c (λ y q. h y (x ∷ q.0, on was q.1)))
+
+-- where a store has no cycle each tree has a chain
+pub chains : (s : StoreValue) → IsAcyclic (value_at s) → (t : Tree) → (xs : List VarName) × (e : Tree) × Leads (value_at s) t xs e
+chains s acyclic t = let k = chain (finite.len s) s (omega arith) acyclic t in (k.passed, k.«end», k.leads)
+
+-- a chain that ends passes just its variables
+pub passes_in : {S : VarName → Option Tree} {t e : Tree} {xs ys : List VarName} {x : VarName} → Leads S t xs e → Comes S t ys x → In x xs
+passes_in at_integer c = elim c [ ]
+passes_in at_node c = elim c [ ]
+passes_in (at_free p) now = inl refl
+passes_in (at_free p) (on {t = u} e c) = let clash : None ≡ Some u = sym p ∙ e in cc
+passes_in (along p a) now = inl refl
+passes_in {S = S} (along {x = z} {t = u} p a) (on {y = y} {t = w} {xs = b} g d) =
+    let same : w ≡ u = let s : Some w ≡ Some u = sym g ∙ p in cc in
+    inr (passes_in a (subst (λ k. Comes S k b y) same d))
+
+-- in a head a node is reached as written
+pub written : {t : Tree} {xs : List VarName} {f : List ℕ} {us : Trees} → Leads unbound t xs (node f us) → t ≡ node f us
+written at_node = refl
+written (along {t = u} p a) = let clash : None ≡ Some u = p in cc

@@ -1,42 +1,39 @@
 -- In an acyclic finite store each linear clause has an outcome.
 use Rattle.std.proofs.Common.{◌≡◌, true, false, cond, ℤ, List, [], ◌∷◌, refl, sym, ap, ◌∙◌, subst, inl, inr}
-use Rattle.std.specs.Prelude.{Option, Some, None, codes}
+use Rattle.std.specs.Prelude.{Option, Some, codes}
 use Rattle.std.specs.Ordering.{eq_by_cmp}
 use Rattle.std.specs.Int.Signed.{clash_ℤ}
 use Rattle.std.proofs.lemmas.Int.{by_lt_z}
 use Rattle.std.proofs.Math.IntN.{ℤ_discrete}
 use Rattle.std.specs.FinMap as finite
-use Rattle.std.specs.Cmp.{eq_by_cmp_equiv}
+use Rattle.std.specs.Coded.{coded_list, coded_ℕ}
 use Rattle.ghc_term.specs.declared.var_name.VarName.{VarName}
 use Rattle.ghc_term.specs.declared.comparison.Comparison.{Comparison}
 use Rattle.ghc_term.specs.declared.comparison.Comparison.TheVariants.{Less, AtMost, Greater, AtLeast, Equal, NotEqual}
-use Rattle.ghc_term.specs.declared.operator.Operator.{Operator}
 use Rattle.ghc_term.specs.Tree.{Tree, variable, integer, node, none as no_tree, more, IsValue}
-use Rattle.ghc_term.specs.Expression.{Expression, leaf, operation}
 use Rattle.ghc_term.specs.Lists.{In}
 use Rattle.ghc_term.specs.Bindings.{Leads, Passes, IsAcyclic, name_cmp}
 use Rattle.ghc_term.specs.Store.{StoreValue, value_at}
 use Rattle.ghc_term.proofs.Chains.{leads_once}
-use Rattle.ghc_term.proofs.Names.{name_total}
-use Rattle.ghc_term.proofs.Total.{same_name, empty_acyclic}
+use Rattle.ghc_term.proofs.Names.{name_total, itself as itself_name}
+use Rattle.ghc_term.proofs.Decided.{Decided, some_decided, same_decided, name_decided}
+use Rattle.ghc_term.proofs.ListsLemmas.{each_in, not_both}
 use Rattle.ghc_flat.specs.declared.test.Test.{Test}
 use Rattle.ghc_flat.specs.declared.test.Test.TheVariants.{Wait as wait, IsInteger as is_integer, IsAtom as is_atom, IsList as is_list, Compare as compare}
 use Rattle.ghc_flat.specs.Clause.{Clause}
 use Rattle.ghc_flat.specs.Flat.{IsLinear}
 use Rattle.ghc_flat.specs.Variables.{variables_of_test}
 use Rattle.ghc_match.specs.Position.{At}
-use Rattle.ghc_match.specs.Value.{Computes, Number, of_integer, of_variable, computed, Value, number, waits as waits_on, bad, HasValue}
+use Rattle.ghc_match.specs.Value.{Number}
 use Rattle.ghc_match.specs.Match.{Compares, IsInteger, IsAtom, IsList, StandsFor, HeadFits, StandsAt, Holds, TestWants, SaysNo, GuardSaysNo, GuardWants, WaitsFor, LooksAt, Outcome, refuses, waits, accepts, HasOutcome}
 use Rattle.ghc_match.specs.Laws.{EachClauseHasAnOutcome}
-use Rattle.ghc_match.proofs.Chains.{leads_passes}
-use Rattle.ghc_match.proofs.Exists.{each_value}
-use Rattle.ghc_match.proofs.FactProofs.{sides, no_structure}
+use Rattle.ghc_match.proofs.Chains.{leads_passes, passes_in, chains}
+use Rattle.ghc_match.proofs.EachValue.{wanted, numbers}
 use Rattle.ghc_match.proofs.LinearHeads.{one_position}
-use Rattle.ghc_match.proofs.Listings.{Decided, Listing, none, one, restated, either, itself, some, over, any, such}
-use Rattle.ghc_match.proofs.Shown.{each_in, at_once, passes_in}
+use Rattle.ghc_match.proofs.Listings.{Listing, none, one, restated, either, itself, some, over, such, through}
 use Rattle.ghc_match.proofs.SetsOf.{listed_set}
-use Rattle.ghc_match.proofs.Values.{number_once, ends_once}
-use Rattle.ghc_match.proofs.Spots.{names_decided, value_decided, the_variable, chains, mismatch_decided, head_wants, head_looks, standing}
+use Rattle.ghc_match.proofs.HeadPositions.{value_decided, mismatch_decided, head_wants, head_looks, standing}
+use Rattle.ghc_match.proofs.Positions.{at_once, entry_in}
 
 -- the comparison holds, or not
 compares_decided : (o : Comparison) (j k : ℤ) → Decided (Compares o j k)
@@ -61,44 +58,10 @@ atom_decided (node f (more t us)) = inr (λ i. i)
 list_decided : (e : Tree) → Decided (IsList e)
 list_decided (variable x) = inr (λ i. i)
 list_decided (integer k) = inr (λ i. i)
-list_decided (node f no_tree) = names_decided f (codes "[]")
+list_decided (node f no_tree) = same_decided (coded_list coded_ℕ) f (codes "[]")
 list_decided (node f (more t no_tree)) = inr (λ i. i)
-list_decided (node f (more t (more u no_tree))) = names_decided f (codes ".")
+list_decided (node f (more t (more u no_tree))) = same_decided (coded_list coded_ℕ) f (codes ".")
 list_decided (node f (more t (more u (more v us)))) = inr (λ i. i)
-
--- what the operator makes of two integers: the value of the operation on them
-integer_value : {E : VarName → Tree → Type 0} {a : Expression} {j k : ℤ} → Number E a k → a ≡ leaf (integer j) → k ≡ j
-integer_value of_integer p = cc
-integer_value (of_variable q) p = cc
-integer_value (computed m n w) p = cc
-
-results : (o : Operator) (x y : ℤ) → Listing (Computes o x y)
-results o x y = let v = each_value finite.empty (operation o (leaf (integer x)) (leaf (integer y))) (empty_acyclic finite.empty refl) in at v.0 v.1 where
-  alone : {E : VarName → Tree → Type 0} {z : ℤ} → Number E (operation o (leaf (integer x)) (leaf (integer y))) z → Computes o x y z
-  alone {z = z} n =
-      let t = sides n in
-      subst (λ i. Computes o i y z) (integer_value t.2 refl) (subst (λ j. Computes o t.0 j z) (integer_value t.3 refl) t.4)
-
-  at : (v : Value) → HasValue (value_at finite.empty) (operation o (leaf (integer x)) (leaf (integer y))) v → Listing (Computes o x y)
-  at (number k) n = one k (alone n) (λ z w. number_once ends_once (computed of_integer of_integer w) n)
-  at (waits_on xs) w = absurd w.1.1.1
-  at bad n = none (λ z w. n.1 z (computed of_integer of_integer w))
-
--- two variables are one, or not
-is_it : (x y : VarName) → Decided (x ≡ y)
-is_it x y = elim (eq_by_cmp name_cmp x y) as (λ b. eq_by_cmp name_cmp x y ≡ b → Decided (x ≡ y)) [
-  | true ↦ λ e. inl (same_name x y e)
-  | false ↦ λ e. inr (λ p. let yes : eq_by_cmp name_cmp x y ≡ true = ap (eq_by_cmp name_cmp x) (sym p) ∙ (eq_by_cmp_equiv name_total).refl x in let no : true ≡ false = sym yes ∙ e in cc)
-] refl
-
--- what is found under a name is listed there
-listed : (es : List (VarName × Tree)) (y : VarName) (t : Tree) → finite.find name_cmp y es ≡ Some t → In {X = VarName × Tree} (y, t) es
-listed [] y t e = let no_entry : None ≡ Some t = e in cc
-listed (b ∷ bs) y t e =
-    elim (eq_by_cmp name_cmp y b.0) as (λ c. eq_by_cmp name_cmp y b.0 ≡ c → cond c (Some b.1) (finite.find name_cmp y bs) ≡ Some t → In {X = VarName × Tree} (y, t) (b ∷ bs)) [
-      | true ↦ λ p q. let same : b.1 ≡ t = cc in let name : y ≡ b.0 = same_name y b.0 p in inl (λ i. (name i, sym same i))
-      | false ↦ λ p q. inr (listed bs y t q)
-    ] refl e
 
 -- what is listed under a name is found there
 found : (es : List (VarName × Tree)) (y : VarName) (t : Tree) → In {X = VarName × Tree} (y, t) es → (u : Tree) × (finite.find name_cmp y es ≡ Some u)
@@ -107,11 +70,7 @@ found (b ∷ bs) y t i =
     elim (eq_by_cmp name_cmp y b.0) as (λ c. eq_by_cmp name_cmp y b.0 ≡ c → (u : Tree) × (cond c (Some b.1) (finite.find name_cmp y bs) ≡ Some u)) [
       | true ↦ λ p. (b.1, refl)
       | false ↦ λ p. elim i [
-        | inl e ↦
-            let name : y ≡ b.0 = ap (λ (d : VarName × Tree). d.0) e in
-            let yes : eq_by_cmp name_cmp y b.0 ≡ true = ap (eq_by_cmp name_cmp y) (sym name) ∙ (eq_by_cmp_equiv name_total).refl y in
-            let no : true ≡ false = sym yes ∙ p in
-            cc
+        | inl e ↦ absurd (not_both (eq_by_cmp name_cmp y b.0) p (ap (eq_by_cmp name_cmp y) (sym (ap (λ (d : VarName × Tree). d.0) e)) ∙ itself_name y))
         | inr j ↦ found bs y t j
       ]
     ] refl
@@ -126,56 +85,18 @@ module _ (c : Clause) (ts : List Tree) (s : StoreValue) (acyclic : IsAcyclic (va
   -- all that the variable stands for
   stands_for : (y : VarName) → Listing (StandsFor c ts S y)
   stands_for y = restated
-      (λ t h. subst (λ z. StandsFor c ts S z t) h.2.0 (subst (StandsFor c ts S h.0.0) h.2.1 (each_in entries.items (λ b. StandsFor c ts S b.0 b.1) h.0 entries.each h.1)))
-      (λ t f. ((y, t), entries.all (y, t) f, (refl, refl)))
-      (over entries.items (λ b t. (b.0 ≡ y) × (b.1 ≡ t)) (λ b i. elim (is_it b.0 y) [
+      (λ t h. subst (λ z. StandsFor c ts S z t) h.2.0 (subst (StandsFor c ts S h.0.0) h.2.1 h.1))
+      (λ t f. ((y, t), f, (refl, refl)))
+      (through (λ b t. (b.0 ≡ y) × (b.1 ≡ t)) entries (λ b. elim (name_decided b.0 y) [
         | inl e ↦ one b.1 (e, refl) (λ t h. sym h.1)
         | inr n ↦ none (λ t h. n h.0)
       ]))
 
   -- all that it ends in
   ends : (y : VarName) → Listing (StandsAt c ts S y)
-  ends y = restated
-      (λ e h. (h.0, h.2.0, each_in (stands_for y).items (StandsFor c ts S y) h.0 (stands_for y).each h.1, h.2.1))
-      (λ e h. (h.0, (stands_for y).all h.0 h.2, (h.1, h.3)))
-      (over (stands_for y).items (λ t e. (xs : List VarName) × Leads S t xs e) (λ t i.
-      let k = chains c ts s acyclic t in
+  ends y = restated (λ e h. (h.0, h.2.0, h.1, h.2.1)) (λ e h. (h.0, h.2, (h.1, h.3))) (through (λ t e. (xs : List VarName) × Leads S t xs e) (stands_for y) (λ t.
+      let k = chains s acyclic t in
       one k.1 (k.0, k.2) (λ e l. (leads_once l.1 k.2).1)))
-
-  -- the unbound variables among these ends
-  unbound_ends : (y : VarName) → Listing (λ x. StandsAt c ts S y (variable x))
-  unbound_ends y = restated
-      (λ x h. subst (StandsAt c ts S y) h.2 (each_in (ends y).items (StandsAt c ts S y) h.0 (ends y).each h.1))
-      (λ x h. (variable x, (ends y).all (variable x) h, refl))
-      (over (ends y).items (λ e x. e ≡ variable x) (λ e i. the_variable e))
-
-  -- the values of an expression, where its variables end so
-  integers_at : (x : VarName) (e : Tree) → Listing (λ k. e ≡ integer k)
-  integers_at x (variable z) = none (λ k q. cc)
-  integers_at x (integer j) = one j refl (λ k q. let p : j ≡ k = cc in sym p)
-  integers_at x (node f us) = none (λ k q. cc)
-
-  of_leaf : {x : VarName} {k : ℤ} → Number (StandsAt c ts S) (leaf (variable x)) k → StandsAt c ts S x (integer k)
-  of_leaf n = at n refl where
-    at : {x : VarName} {a : Expression} {k : ℤ} → Number (StandsAt c ts S) a k → a ≡ leaf (variable x) → StandsAt c ts S x (integer k)
-    at of_integer p = cc
-    at {x = x} (of_variable {x = z} {k = k} h) p = let same : z ≡ x = cc in subst (λ w. StandsAt c ts S w (integer k)) same h
-    at (computed m n w) p = cc
-
-  numbers : (a : Expression) → Listing (Number (StandsAt c ts S) a)
-  numbers (leaf (integer k)) = one k of_integer (λ j n. integer_value n refl)
-  numbers (leaf (variable x)) = restated
-      (λ k h. of_variable (subst (StandsAt c ts S x) h.2 (each_in (ends x).items (StandsAt c ts S x) h.0 (ends x).each h.1)))
-      (λ k n. (integer k, (ends x).all (integer k) (of_leaf n), refl))
-      (over (ends x).items (λ e k. e ≡ integer k) (λ e i. integers_at x e))
-  numbers (leaf (node f us)) = none (λ k n. no_structure n)
-  numbers (operation o a b) =
-      let left = numbers a in
-      let right = numbers b in
-      restated
-      (λ z h. computed (each_in left.items (Number (StandsAt c ts S) a) h.0 left.each h.1) (each_in right.items (Number (StandsAt c ts S) b) h.2.0 right.each h.2.1) h.2.2)
-      (λ z n. let t = sides n in (t.0, left.all t.0 t.2, (t.1, right.all t.1 t.3, t.4)))
-      (over left.items (λ x z. (y : ℤ) × In y right.items × Computes o x y z) (λ x i. over right.items (λ y z. Computes o x y z) (λ y j. results o x y)))
 
   -- a test holds, or not
   holds_decided : (g : Test) → Decided (Holds c ts S g)
@@ -183,14 +104,14 @@ module _ (c : Clause) (ts : List Tree) (s : StoreValue) (acyclic : IsAcyclic (va
   holds_decided (is_integer y) = such IsInteger (ends y) integer_decided
   holds_decided (is_atom y) = such IsAtom (ends y) atom_decided
   holds_decided (is_list y) = such IsList (ends y) list_decided
-  holds_decided (compare o a b) = elim (such (λ j. (k : ℤ) × Number (StandsAt c ts S) b k × Compares o j k) (numbers a) (λ j. such (Compares o j) (numbers b) (compares_decided o j))) [
+  holds_decided (compare o a b) = elim (such (λ j. (k : ℤ) × Number (StandsAt c ts S) b k × Compares o j k) (numbers (StandsAt c ts S) ends a) (λ j. such (Compares o j) (numbers (StandsAt c ts S) ends b) (compares_decided o j))) [
     | inl h ↦ inl (h.0, h.2.0, h.1, h.2.1, h.2.2)
     | inr n ↦ inr (λ h. n (h.0, h.2, (h.1, h.3, h.4)))
   ]
 
   -- all that a test, or the guard, waits for
   test_wants : (g : Test) → Listing (TestWants c ts S g)
-  test_wants g = over (variables_of_test g) (λ y x. StandsAt c ts S y (variable x)) (λ y i. unbound_ends y)
+  test_wants g = wanted (StandsAt c ts S) ends (variables_of_test g)
 
   guard_wants : Listing (GuardWants c ts S)
   guard_wants = over c.tests (TestWants c ts S) (λ g i. test_wants g)
@@ -205,22 +126,21 @@ module _ (c : Clause) (ts : List Tree) (s : StoreValue) (acyclic : IsAcyclic (va
   ]
 
   guard_no : Decided (GuardSaysNo c ts S)
-  guard_no = any c.tests (SaysNo c ts S) (λ g i. says_no_decided g)
+  guard_no = some_decided c.tests (SaysNo c ts S) (λ g i. says_no_decided g)
 
   -- all that the clause looks at
   abbrev GuardLooks : VarName → Type 0
   GuardLooks x = (g : Test) × (y : VarName) × (t : Tree) × In g c.tests × In y (variables_of_test g) × StandsFor c ts S y t × Passes S t x
 
   passed_by : (t : Tree) → Listing (λ x. Passes S t x)
-  passed_by t = let k = chains c ts s acyclic t in restated (λ x i. leads_passes k.2 i) (λ x p. passes_in k.2 p.1) (itself k.0)
+  passed_by t = let k = chains s acyclic t in restated (λ x i. leads_passes k.2 i) (λ x p. passes_in k.2 p.1) (itself k.0)
 
   guard_looks : Listing GuardLooks
   guard_looks = restated
-      (λ x h. let v = h.2 in let t = v.2 in (h.0, v.0, t.0, h.1, v.1, each_in (stands_for v.0).items (StandsFor c ts S v.0) t.0 (stands_for v.0).each t.1, t.2))
-      (λ x h. (h.0, h.3, (h.1, h.4, (h.2, (stands_for h.1).all h.2 h.5, h.6))))
-      (over c.tests (λ g x. (y : VarName) × In y (variables_of_test g) × ((t : Tree) × In t (stands_for y).items × Passes S t x)) (λ g i.
-      over (variables_of_test g) (λ y x. (t : Tree) × In t (stands_for y).items × Passes S t x) (λ y j.
-      over (stands_for y).items (λ t x. Passes S t x) (λ t k. passed_by t))))
+      (λ x h. let v = h.2 in let t = v.2 in (h.0, v.0, t.0, h.1, v.1, t.1, t.2))
+      (λ x h. (h.0, h.3, (h.1, h.4, (h.2, h.5, h.6))))
+      (over c.tests (λ g x. (y : VarName) × In y (variables_of_test g) × ((t : Tree) × StandsFor c ts S y t × Passes S t x)) (λ g i.
+      over (variables_of_test g) (λ y x. (t : Tree) × StandsFor c ts S y t × Passes S t x) (λ y j. through (λ t x. Passes S t x) (stands_for y) passed_by)))
 
   looks : Listing (LooksAt c ts S)
   looks = either (head_looks c ts s acyclic) guard_looks
@@ -250,7 +170,7 @@ module _ (c : Clause) (ts : List Tree) (s : StoreValue) (acyclic : IsAcyclic (va
     ),
   ) where
     there : (y : VarName) (t : Tree) → finite.find name_cmp y entries.items ≡ Some t → StandsFor c ts S y t
-    there y t e = each_in entries.items (λ b. StandsFor c ts S b.0 b.1) (y, t) entries.each (listed entries.items y t e)
+    there y t e = each_in entries.items (λ b. StandsFor c ts S b.0 b.1) (y, t) entries.each (entry_in entries.items y t e)
 
   fitting : IsLinear c → HeadFits c ts S → HasOne
   fitting linear fits = elim guard_no [

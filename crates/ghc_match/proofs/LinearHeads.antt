@@ -1,14 +1,17 @@
 -- In a head without a variable twice, each variable stands at one position.
-use Rattle.std.proofs.Common.{◌≡◌, ℕ, zero, suc, List, [], ◌∷◌, ◌++◌, refl, sym, ap, subst, inl, inr}
+use Rattle.std.proofs.Common.{◌≡◌, ℕ, zero, suc, List, [], ◌∷◌, refl, sym, ap, subst, inl}
 use Rattle.std.specs.Prelude.{Some, None, slice_get}
 use Rattle.ghc_term.specs.declared.var_name.VarName.{VarName}
 use Rattle.ghc_term.specs.Tree.{Tree, variable, integer, node, Trees, none, more, list_of, trees}
 use Rattle.ghc_term.specs.Lists.{In}
-use Rattle.ghc_term.proofs.Searches.{In_append, In_append_right}
+use Rattle.ghc_term.proofs.ListsLemmas.{in_left, in_right}
 use Rattle.ghc_flat.specs.Flat.{AreDistinct}
 use Rattle.ghc_flat.specs.Variables.{variables, variables_of_all, variables_of_list}
+use Rattle.ghc_flat.proofs.DistinctLemmas.{distinct_left, distinct_right, distinct_apart}
+use Rattle.ghc_flat.proofs.Counts.{all_list}
 use Rattle.ghc_match.specs.Position.{At, here, down, unbound}
-use Rattle.ghc_match.proofs.Places.{written}
+use Rattle.ghc_match.proofs.Chains.{written}
+use Rattle.ghc_match.proofs.Positions.{back_again}
 
 -- at p within the tree stands the variable y
 abbrev Stands : Tree → List ℕ → VarName → Type 0
@@ -38,22 +41,8 @@ mutual
 
   occurs_all : (us : Trees) (i : ℕ) (p : List ℕ) (y : VarName) → At_number us i p y → In y (variables_of_all us)
   occurs_all none i p y a = let no : None ≡ Some a.0 = a.1 in cc
-  occurs_all (more t ts) zero p y a = let same : a.0 ≡ t = let e = a.1 in cc in In_append (variables t) (variables_of_all ts) y (occurs t p y (subst (λ w. Stands w p y) same a.2))
-  occurs_all (more t ts) (suc i) p y a = In_append_right (variables t) (variables_of_all ts) y (occurs_all ts i p y a)
-
--- parts of a list without an element twice
-left_distinct : (xs ys : List VarName) → AreDistinct (xs ++ ys) → AreDistinct xs
-left_distinct [] ys d = tt
-left_distinct (x ∷ xs) ys d = ((λ i. d.0 (In_append xs ys x i)), left_distinct xs ys d.1)
-
-right_distinct : (xs ys : List VarName) → AreDistinct (xs ++ ys) → AreDistinct ys
-right_distinct [] ys d = d
-right_distinct (x ∷ xs) ys d = right_distinct xs ys d.1
-
-not_both : (xs ys : List VarName) (y : VarName) → AreDistinct (xs ++ ys) → In y xs → ¬ In y ys
-not_both [] ys y d i j = i
-not_both (x ∷ xs) ys y d (inl e) j = d.0 (In_append_right xs ys x (subst (λ z. In z ys) e j))
-not_both (x ∷ xs) ys y d (inr i) j = not_both xs ys y d.1 i j
+  occurs_all (more t ts) zero p y a = let same : a.0 ≡ t = let e = a.1 in cc in in_left (variables t) (variables_of_all ts) y (occurs t p y (subst (λ w. Stands w p y) same a.2))
+  occurs_all (more t ts) (suc i) p y a = in_right (variables t) (variables_of_all ts) y (occurs_all ts i p y a)
 
 numbered : {i j : ℕ} {p q : List ℕ} → i ∷ p ≡ j ∷ q → suc i ∷ p ≡ suc j ∷ q
 numbered e = cc
@@ -77,25 +66,17 @@ mutual
   all_once (more t ts) zero zero p q y d a b =
       let one : a.0 ≡ t = let e = a.1 in cc in
       let two : b.0 ≡ t = let e = b.1 in cc in
-      ap (λ l. 0 ∷ l) (tree_once t p q y (left_distinct (variables t) (variables_of_all ts) d) (subst (λ w. Stands w p y) one a.2) (subst (λ w. Stands w q y) two b.2))
-  all_once (more t ts) zero (suc j) p q y d a b = absurd (not_both (variables t) (variables_of_all ts) y d
+      ap (λ l. 0 ∷ l) (tree_once t p q y (distinct_left (variables t) (variables_of_all ts) d) (subst (λ w. Stands w p y) one a.2) (subst (λ w. Stands w q y) two b.2))
+  all_once (more t ts) zero (suc j) p q y d a b = absurd (distinct_apart (variables t) (variables_of_all ts) d y
       (let one : a.0 ≡ t = let e = a.1 in cc in occurs t p y (subst (λ w. Stands w p y) one a.2)) (occurs_all ts j q y b))
-  all_once (more t ts) (suc i) zero p q y d a b = absurd (not_both (variables t) (variables_of_all ts) y d
+  all_once (more t ts) (suc i) zero p q y d a b = absurd (distinct_apart (variables t) (variables_of_all ts) d y
       (let two : b.0 ≡ t = let e = b.1 in cc in occurs t q y (subst (λ w. Stands w q y) two b.2)) (occurs_all ts i p y a))
-  all_once (more t ts) (suc i) (suc j) p q y d a b = numbered (all_once ts i j p q y (right_distinct (variables t) (variables_of_all ts) d) a b)
-
-list_and_back : (hs : List Tree) → list_of (trees hs) ≡ hs
-list_and_back [] = refl
-list_and_back (h ∷ hs) = ap (λ l. h ∷ l) (list_and_back hs)
-
-same_variables : (hs : List Tree) → variables_of_list hs ≡ variables_of_all (trees hs)
-same_variables [] = refl
-same_variables (h ∷ hs) = ap (λ l. variables h ++ l) (same_variables hs)
+  all_once (more t ts) (suc i) (suc j) p q y d a b = numbered (all_once ts i j p q y (distinct_right (variables t) (variables_of_all ts) d) a b)
 
 pub one_position : (hs : List Tree) (p q : List ℕ) (y : VarName) → AreDistinct (variables_of_list hs) → At unbound hs p (variable y) → At unbound hs q (variable y) → p ≡ q
 one_position hs [] q y d a b = elim a [ ]
 one_position hs (i ∷ p) [] y d a b = elim b [ ]
 one_position hs (i ∷ p) (j ∷ q) y d a b =
-    let back = sym (list_and_back hs) in
-    all_once (trees hs) i j p q y (subst AreDistinct (same_variables hs) d)
+    let back = back_again hs in
+    all_once (trees hs) i j p q y (subst AreDistinct (sym (all_list hs)) d)
     (within (subst (λ w. At unbound w (i ∷ p) (variable y)) back a)) (within (subst (λ w. At unbound w (j ∷ q) (variable y)) back b))

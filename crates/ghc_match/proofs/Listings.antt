@@ -1,34 +1,15 @@
 -- All of which something holds, as a list.
-use Rattle.std.proofs.Common.{◌≡◌, List, [], ◌∷◌, ◌++◌, refl, subst, inl, inr, ◌⊎◌}
+use Rattle.std.proofs.Common.{◌≡◌, List, [], ◌∷◌, ◌++◌, refl, subst, inl, inr, ◌⊎◌, sym}
 use Rattle.ghc_term.specs.Lists.{In}
-use Rattle.ghc_match.proofs.Shown.{Each, each_in}
-
--- P is so, or is not
-abbrev pub Decided : Type 0 → Type 0
-Decided P = P ⊎ (¬ P)
+use Rattle.ghc_term.proofs.ListsLemmas.{Each, each_in, in_left, in_right, each_both, each_as}
+use Rattle.ghc_term.proofs.Decided.{Decided, some_decided}
+use Rattle.ghc_term.specs.Tree.{Tree, variable, integer, node}
 
 -- the list of all of which P holds
 pub record Listing {X : Type 0} (P : X → Type 0) : Type 0 where
   pub items : List X
   pub each : Each items P
   pub all : (x : X) → P x → In x items
-
-in_left : {X : Type 0} (x : X) (xs ys : List X) → In x xs → In x (xs ++ ys)
-in_left x [] ys i = absurd i
-in_left x (y ∷ xs) ys (inl e) = inl e
-in_left x (y ∷ xs) ys (inr i) = inr (in_left x xs ys i)
-
-in_right : {X : Type 0} (x : X) (xs ys : List X) → In x ys → In x (xs ++ ys)
-in_right x [] ys i = i
-in_right x (y ∷ xs) ys i = inr (in_right x xs ys i)
-
-each_both : {X : Type 0} (xs ys : List X) (P : X → Type 0) → Each xs P → Each ys P → Each (xs ++ ys) P
-each_both [] ys P a b = b
-each_both (x ∷ xs) ys P a b = (a.0, each_both xs ys P a.1 b)
-
-each_as : {X : Type 0} (xs : List X) (P Q : X → Type 0) → ((x : X) → P x → Q x) → Each xs P → Each xs Q
-each_as [] P Q f a = tt
-each_as (x ∷ xs) P Q f a = (f x a.0, each_as xs P Q f a.1)
 
 module _ {X : Type 0} where
   pub none : {P : X → Type 0} → ((x : X) → ¬ P x) → Listing P
@@ -44,7 +25,7 @@ module _ {X : Type 0} where
   either {P = P} {Q = Q} p q = record {
     items = p.items ++ q.items;
     each = each_both p.items q.items (λ x. P x ⊎ Q x) (each_as p.items P (λ x. P x ⊎ Q x) (λ x h. inl h) p.each) (each_as q.items Q (λ x. P x ⊎ Q x) (λ x h. inr h) q.each);
-    all = λ x h. elim h [ inl a ↦ in_left x p.items q.items (p.all x a) | inr b ↦ in_right x p.items q.items (q.all x b) ];
+    all = λ x h. elim h [ inl a ↦ in_left p.items q.items x (p.all x a) | inr b ↦ in_right p.items q.items x (q.all x b) ];
   }
 
   -- the list itself
@@ -70,20 +51,24 @@ over (a ∷ xs) Q f = restated
     (λ x h. elim h.1 [ inl e ↦ inl (subst (λ b. Q b x) e h.2) | inr i ↦ inr (h.0, i, h.2) ])
     (either (f a (inl refl)) (over xs Q (λ b i. f b (inr i))))
 
--- some element of the list has Q, or none has
-pub any : {A : Type 0} (xs : List A) (Q : A → Type 0) → ((a : A) → In a xs → Decided (Q a)) → Decided ((a : A) × In a xs × Q a)
-any [] Q f = inr (λ h. h.1)
-any (a ∷ xs) Q f = elim (f a (inl refl)) [
-  | inl q ↦ inl (a, inl refl, q)
-  | inr n ↦ elim (any xs Q (λ b i. f b (inr i))) [
-    | inl r ↦ inl (r.0, inr r.1, r.2)
-    | inr m ↦ inr (λ h. elim h.1 [ inl e ↦ n (subst Q e h.2) | inr i ↦ m (h.0, i, h.2) ])
-  ]
-]
-
 -- of the listed, one that has Q as well, or there is none
 pub such : {X : Type 0} {P : X → Type 0} (Q : X → Type 0) → Listing P → ((x : X) → Decided (Q x)) → Decided ((x : X) × P x × Q x)
-such {P = P} Q l d = elim (any l.items Q (λ x i. d x)) [
+such {P = P} Q l d = elim (some_decided l.items Q (λ x i. d x)) [
   | inl r ↦ inl (r.0, each_in l.items P r.0 l.each r.1, r.2)
   | inr n ↦ inr (λ h. n (h.0, l.all h.0 h.1, h.2))
 ]
+
+-- of each that is listed, all that stands to it so
+pub through : {A X : Type 0} {P : A → Type 0} (R : A → X → Type 0) → Listing P → ((a : A) → Listing (R a)) → Listing (λ x. (a : A) × P a × R a x)
+through {P = P} R l f = restated (λ x h. (h.0, each_in l.items P h.0 l.each h.1, h.2)) (λ x h. (h.0, l.all h.0 h.1, h.2)) (over l.items R (λ a i. f a))
+
+-- the variable, and the integer, that a tree is
+pub the_variable : (e : Tree) → Listing (λ x. e ≡ variable x)
+the_variable (variable z) = one z refl (λ y q. let p : z ≡ y = cc in sym p)
+the_variable (integer k) = none (λ x q. cc)
+the_variable (node f us) = none (λ x q. cc)
+
+pub the_integer : (e : Tree) → Listing (λ k. e ≡ integer k)
+the_integer (variable z) = none (λ k q. cc)
+the_integer (integer j) = one j refl (λ k q. let p : j ≡ k = cc in sym p)
+the_integer (node f us) = none (λ k q. cc)

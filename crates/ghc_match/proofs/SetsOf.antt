@@ -1,29 +1,18 @@
 -- Finite sets of variables made from one another.
-use Rattle.std.proofs.Common.{◌≡◌, ℕ, zero, suc, ◌<◌, Bool, true, false, ◌||◌, refl, sym, ap, ◌∙◌, subst, inl, inr, ◌⊎◌, arith}
+use Rattle.std.proofs.Common.{◌≡◌, ℕ, zero, suc, ◌<◌, true, false, sym, ◌∙◌, subst, inl, inr, ◌⊎◌, arith}
 use Rattle.std.specs.Prelude.{IsTrue}
 use Rattle.std.specs.FinSet as set
+use Rattle.std.proofs.lemmas.Bool.{or_cases, or_left, or_right}
 use Rattle.ghc_term.specs.declared.var_name.VarName.{VarName}
 use Rattle.ghc_term.specs.Bindings.{name_cmp}
 use Rattle.ghc_term.specs.Sets.{Variables, IsSetOf}
 use Rattle.ghc_term.proofs.Names.{name_total}
-use Rattle.ghc_term.proofs.Sets.{set_of}
+use Rattle.ghc_term.proofs.SetsLemmas.{set_of, set_by}
 use Rattle.ghc_match.proofs.Listings.{Listing}
-use Rattle.ghc_match.proofs.Shown.{set_by}
 
 -- the set of all of which P holds
 abbrev pub SetOf : (VarName → Type 0) → Type 0
 SetOf P = (xs : Variables) × IsSetOf xs P
-
-or_true : (a b : Bool) → (a || b) ≡ true → (a ≡ true) ⊎ (b ≡ true)
-or_true true b e = inl refl
-or_true false b e = inr e
-
-or_left : (a b : Bool) → a ≡ true → (a || b) ≡ true
-or_left a b e = ap (λ c. c || b) e
-
-or_right : (a b : Bool) → b ≡ true → (a || b) ≡ true
-or_right true b e = refl
-or_right false b e = e
 
 pub no_set : {P : VarName → Type 0} → ((x : VarName) → ¬ P x) → SetOf P
 no_set n = (set.empty, λ x. ((λ c. let no_element : false ≡ true = sym (set.contains-empty name_cmp x) ∙ c in cc), λ p. absurd (n x p)))
@@ -32,7 +21,7 @@ pub either_set : {P Q : VarName → Type 0} → SetOf P → SetOf Q → SetOf (�
 either_set p q = (
   set.union p.0 q.0,
   λ x. (
-    λ c. elim (or_true (set.contains p.0 x) (set.contains q.0 x) (sym (set.contains-union name_total p.0 q.0 x) ∙ c)) [ inl a ↦ inl ((p.1 x).0 a) | inr b ↦ inr ((q.1 x).0 b) ],
+    λ c. elim (or_cases (set.contains p.0 x) (set.contains q.0 x) (sym (set.contains-union name_total p.0 q.0 x) ∙ c)) [ inl a ↦ inl ((p.1 x).0 a) | inr b ↦ inr ((q.1 x).0 b) ],
     λ h. set.contains-union name_total p.0 q.0 x ∙ elim h [ inl a ↦ or_left (set.contains p.0 x) (set.contains q.0 x) ((p.1 x).1 a) | inr b ↦ or_right (set.contains p.0 x) (set.contains q.0 x) ((q.1 x).1 b) ],
   ),
 )

@@ -1,22 +1,23 @@
 -- The values of expressions: each has one, and hangs on the chains of its variables.
-use Rattle.std.proofs.Common.{◌≡◌, ℤ, List, refl, sym, ap, ◌∙◌, subst, inl, inr}
+use Rattle.std.proofs.Common.{◌≡◌, ℤ, List, refl, sym, ap, ◌∙◌, subst, inl, inr, ℕ}
 use Rattle.std.specs.Prelude.{Option}
 use Rattle.ghc_term.specs.declared.var_name.VarName.{VarName}
 use Rattle.ghc_term.specs.declared.operator.Operator.{Operator}
 use Rattle.ghc_term.specs.declared.operator.Operator.TheVariants.{Add, Subtract, Multiply, Divide, Modulo}
-use Rattle.ghc_term.specs.Tree.{Tree, variable, integer, node}
+use Rattle.ghc_term.specs.Tree.{Tree, variable, integer, node, Trees}
 use Rattle.ghc_term.specs.Expression.{Expression, leaf, operation}
 use Rattle.ghc_term.specs.Lists.{In}
 use Rattle.ghc_term.specs.Bindings.{Comes, now, on, Reaches, here, through}
 use Rattle.ghc_term.proofs.Chains.{leads_once}
-use Rattle.ghc_term.proofs.Searches.{In_append, In_append_right, In_either}
+use Rattle.ghc_term.proofs.ListsLemmas.{in_left, in_right, in_either}
+use Rattle.ghc_term.proofs.SetsLemmas.{one_set, set_of}
 use Rattle.ghc_flat.specs.Variables.{leaf_variables}
 use Rattle.ghc_match.specs.Position.{EndsIn}
 use Rattle.ghc_match.specs.Value.{Computes, Number, of_integer, of_variable, computed, Wants, Value, number, waits, bad, HasValue}
 use Rattle.ghc_match.specs.Looked.{ExpressionReaches}
 use Rattle.ghc_match.specs.Laws.{ValuesExclude, ValueLooksAtItsTerms}
-use Rattle.ghc_term.proofs.Sets.{one_set, set_of}
 use Rattle.ghc_match.proofs.Chains.{leads_there, leads_back}
+use Rattle.ghc_match.proofs.Positions.{same_variable}
 
 pub computes_once : (o : Operator) (x y z w : ℤ) → Computes o x y z → Computes o x y w → z ≡ w
 computes_once Add x y z w p q = p.0 ∙ sym q.0
@@ -24,6 +25,29 @@ computes_once Subtract x y z w p q = p.0 ∙ sym q.0
 computes_once Multiply x y z w p q = p.0 ∙ sym q.0
 computes_once Divide x y z w p q = p.1 ∙ sym q.1
 computes_once Modulo x y z w p q = p.1 ∙ sym q.1
+
+-- an operation's value comes from those of its sides
+pub sides : {E : VarName → Tree → Type 0} {o : Operator} {a b : Expression} {z : ℤ} → Number E (operation o a b) z → (x y : ℤ) × Number E a x × Number E b y × Computes o x y z
+sides (computed {x = x} {y = y} m n w) = (x, y, m, n, w)
+
+pub no_structure : {E : VarName → Tree → Type 0} {f : List ℕ} {ts : Trees} {k : ℤ} → ¬ Number E (leaf (node f ts)) k
+no_structure n = elim n [ ]
+
+-- an integer has itself as its value
+pub integer_is : {E : VarName → Tree → Type 0} {j k : ℤ} → Number E (leaf (integer j)) k → k ≡ j
+integer_is n = apart n refl where
+  apart : {E : VarName → Tree → Type 0} {a : Expression} {j k : ℤ} → Number E a k → a ≡ leaf (integer j) → k ≡ j
+  apart of_integer p = cc
+  apart (of_variable q) p = cc
+  apart (computed m n w) p = cc
+
+-- a variable has the value at which it ends
+pub variable_is : {E : VarName → Tree → Type 0} {x : VarName} {k : ℤ} → Number E (leaf (variable x)) k → E x (integer k)
+variable_is {E = E} n = apart n refl where
+  apart : {E : VarName → Tree → Type 0} {a : Expression} {x : VarName} {k : ℤ} → Number E a k → a ≡ leaf (variable x) → E x (integer k)
+  apart of_integer p = cc
+  apart {E = E} (of_variable {x = y} {k = k} q) p = let same : variable y ≡ variable _ = cc in subst (λ z. E z (integer k)) (same_variable same) q
+  apart (computed m n w) p = cc
 
 -- where E gives each variable one end
 module _ {E : VarName → Tree → Type 0} (once : (x : VarName) (e f : Tree) → E x e → E x f → e ≡ f) where
@@ -44,7 +68,7 @@ module _ {E : VarName → Tree → Type 0} (once : (x : VarName) (e f : Tree) �
         | inr i ↦ absurd i
       ]
   number_waits_not (computed {a = a} {b = b} m n c) w =
-      elim (In_either (leaf_variables a) (leaf_variables b) w.0 w.1) [
+      elim (in_either (leaf_variables a) (leaf_variables b) w.0 w.1) [
         | inl i ↦ number_waits_not m (w.0, i, w.2)
         | inr i ↦ number_waits_not n (w.0, i, w.2)
       ]
@@ -54,8 +78,8 @@ pub number_there : {E F : VarName → Tree → Type 0} {a : Expression} {k : ℤ
 number_there of_integer h = of_integer
 number_there (of_variable {x = x} {k = k} p) h = of_variable (h x (integer k) (inl refl) p)
 number_there (computed {a = a} {b = b} m n w) h = computed
-    (number_there m (λ x e i. h x e (In_append (leaf_variables a) (leaf_variables b) x i)))
-    (number_there n (λ x e i. h x e (In_append_right (leaf_variables a) (leaf_variables b) x i))) w
+    (number_there m (λ x e i. h x e (in_left (leaf_variables a) (leaf_variables b) x i)))
+    (number_there n (λ x e i. h x e (in_right (leaf_variables a) (leaf_variables b) x i))) w
 
 pub ends_once : {S : VarName → Option Tree} (x : VarName) (e f : Tree) → EndsIn S x e → EndsIn S x f → e ≡ f
 ends_once x e f p q = (leads_once p.1 q.1).1
@@ -78,7 +102,7 @@ leaf_reaches (leaf (variable z)) y x (inr i) r = absurd i
 leaf_reaches (leaf (integer k)) y x i r = absurd i
 leaf_reaches (leaf (node f ts)) y x i r = absurd i
 leaf_reaches (operation o a b) y x i r =
-    elim (In_either (leaf_variables a) (leaf_variables b) y i) [ inl j ↦ inl (leaf_reaches a y x j r) | inr j ↦ inr (leaf_reaches b y x j r) ]
+    elim (in_either (leaf_variables a) (leaf_variables b) y i) [ inl j ↦ inl (leaf_reaches a y x j r) | inr j ↦ inr (leaf_reaches b y x j r) ]
 
 pub passes_reaches : {S : VarName → Option Tree} {t : Tree} {xs : List VarName} {x : VarName} → Comes S t xs x → Reaches S t x
 passes_reaches now = here refl

@@ -17,9 +17,7 @@ mod trying;
 mod value;
 
 pub use evaluation::evaluate;
-pub use facts::{
-    accepts_with_reads, least_integer, refuses_before_waiting, structure_is_no_number, waits_on_two,
-};
+pub use facts::{structure_is_no_number, waits_on_two};
 pub use laws::{
     each_clause_has_an_outcome, each_expression_has_a_value, outcome_is_of_what_is_looked_at,
     outcomes_exclude, value_looks_at_its_terms, values_exclude,

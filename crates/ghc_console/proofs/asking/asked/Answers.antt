@@ -1,5 +1,5 @@
 use Rattle.std.proofs.Common.{◌≡◌, ◌∙◌, Some, None, inl, inr, subst, sym}
-use Rattle.ghc_flat.proofs.Lists.{not_both}
+use Rattle.ghc_term.proofs.ListsLemmas.{not_both}
 use Rattle.ghc_records.specs.Replay.{IsVariableOf}
 use Rattle.ghc_console.specs.Asked.{IsGivenName}
 use Rattle.ghc_console.proofs.asking.asked.Goals as goal

@@ -1,8 +1,9 @@
 use Rattle.std.proofs.Common.{◌≡◌, [], ◌∷◌, ◌++◌, append_assoc, sym, ap, ◌∙◌, subst}
 use Rattle.std.specs.Prelude.{reverse, ◌↔◌}
+use Rattle.std.proofs.lemmas.List.{reverse-append}
 use Rattle.ghc_term.specs.Store.{value_at}
 use Rattle.ghc_flat.specs.Variables.{leaf_variables}
-use Rattle.ghc_match.proofs.Waiting.{leaves, reverse_push}
+use Rattle.ghc_match.proofs.PushLeaves.{leaves}
 use Rattle.ghc_match.specs.Meeting.{Gains}
 use Rattle.ghc_fire.proofs.Gathered.{Gathers, OnChains, gathers_first}
 use Rattle.ghc_fire.proofs.chains.add_chains.Goals as goal
@@ -12,7 +13,7 @@ loop-part-preserved-in-Continue-branch-2 c x =
     let S = value_at c.args.store.now in
     let rest = leaves (reverse c.pop.new.self.items) in
     let part = c.in-Some.part in
-    let opened : leaves (reverse c.loop-part.waiting.items) ≡ leaf_variables part.now ++ rest = ap (λ l. leaves (reverse l)) c.in-Some.ensures.items ∙ ap leaves (reverse_push c.pop.new.self.items part) in
+    let opened : leaves (reverse c.loop-part.waiting.items) ≡ leaf_variables part.now ++ rest = ap (λ l. leaves (reverse l)) c.in-Some.ensures.items ∙ ap leaves (reverse-append c.pop.new.self.items (part ∷ [])) in
     let added = subst (λ a. Gains c.loop-part.reads c.add_chain.new.reads (OnChains S (leaf_variables a))) c.in-Leaf.ensures c.in_ok-add_chain-in-Leaf.ensures in
     let first = gathers_first S c.loop-part.reads c.add_chain.new.reads (leaf_variables part.now) rest added x in
     let old = subst (λ ys. Gathers S c.loop-part.reads ys x ↔ Gathers S c.args.reads.now (leaf_variables c.args.expression.now) x) opened (c.loop-part.invariant x) in
@@ -26,10 +27,10 @@ loop-part-preserved c x =
     let part = c.in-Some.part in
     let before = c.pop.new.self.items in
     let rest = leaves (reverse before) in
-    let opened : leaves (reverse c.loop-part.waiting.items) ≡ leaf_variables part.now ++ rest = ap (λ l. leaves (reverse l)) c.in-Some.ensures.items ∙ ap leaves (reverse_push before part) in
+    let opened : leaves (reverse c.loop-part.waiting.items) ≡ leaf_variables part.now ++ rest = ap (λ l. leaves (reverse l)) c.in-Some.ensures.items ∙ ap leaves (reverse-append before (part ∷ [])) in
     let parted : leaf_variables part.now ≡ leaf_variables left.now ++ leaf_variables right.now = ap leaf_variables (sym c.in-Operation.ensures) in
     let pushed = c.in_ok-push-in-Operation-2.ensures.items ∙ ap (λ l. l ++ left ∷ []) c.in_ok-push-in-Operation.ensures.items in
-    let turned = ap reverse pushed ∙ reverse_push (before ++ right ∷ []) left ∙ ap (λ l. left ∷ l) (reverse_push before right) in
+    let turned = ap reverse pushed ∙ reverse-append (before ++ right ∷ []) (left ∷ []) ∙ ap (λ l. left ∷ l) (reverse-append before (right ∷ [])) in
     let same : leaves (reverse c.loop-part.waiting.items) ≡ leaves (reverse c.push-in-Operation-2.new.self.items) =
     opened ∙ ap (λ l. l ++ rest) parted ∙ append_assoc (leaf_variables left.now) (leaf_variables right.now) rest ∙ sym (ap leaves turned)
     in

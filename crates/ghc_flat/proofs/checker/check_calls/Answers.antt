@@ -1,10 +1,7 @@
-use Rattle.std.proofs.Common.{◌≡◌, ◌∙◌, sym, ap, subst, inl, inr, length, [], List, ℕ, arith}
-use Rattle.std.specs.Prelude.{nat_eq}
-use Rattle.ghc_term.specs.Tree.{Tree}
-use Rattle.ghc_term.specs.Goal.{call}
+use Rattle.std.proofs.Common.{◌≡◌, ◌∙◌, sym, inl, inr, length, []}
 use Rattle.ghc_flat.specs.Index.{Knows, numbers_at}
 use Rattle.ghc_flat.proofs.Clauses.{calls_next, first_undefined, same_call, not_a_call}
-use Rattle.ghc_flat.proofs.Lists.{is_nothing, is_something}
+use Rattle.ghc_term.proofs.ListsLemmas.{is_nothing, is_something}
 use Rattle.ghc_flat.proofs.checker.check_calls.Goals as goal
 use Rattle.ghc_flat.proofs.checker.check_calls.Goals.{in-Call+else-is_empty, in_default}
 

@@ -1,6 +1,5 @@
-use Rattle.std.proofs.Common.{◌≡◌, ◌∙◌, [], ◌∷◌, List, ℕ, ap, sym, subst, refl, inl, inr, length}
+use Rattle.std.proofs.Common.{◌≡◌, ◌∙◌, List, ap, sym, subst, inl, inr, length}
 use Rattle.std.proofs.lemmas.Result.{err_from_is_err_and}
-use Rattle.ghc_term.specs.declared.fault.Fault.{Fault}
 use Rattle.ghc_term.specs.declared.fault.Fault.TheVariants.{Memory}
 use Rattle.ghc_term.specs.Lists.{In}
 use Rattle.ghc_reader.specs.declared.written.Guard.{Guard}
@@ -11,7 +10,7 @@ use Rattle.std.proofs.Common.{◌⊎◌}
 use Rattle.ghc_flat.specs.Checked.{IsClauseFault, IsFirstCallWithout, MakeTests}
 use Rattle.ghc_flat.specs.Counting.{MakesAmong, Rises}
 use Rattle.ghc_flat.specs.Index.{Knows}
-use Rattle.ghc_flat.proofs.Clauses.{passed, linear_written, flat_written, not_flat_written, clause_of}
+use Rattle.ghc_flat.proofs.Clauses.{passed, linear_written, flat_written, not_flat_written, clause_of, fresh_of}
 use Rattle.ghc_flat.proofs.checker.check_clause.Goals as goal
 
 pub returns-in_err-tests-clause-refused : goal.returns-in_err-tests-clause-refused
@@ -52,6 +51,7 @@ invariant_of-result c =
       clause_of _ c.args.written c.in_ok-tests.tests.items n c.written.view_is c.requires c.in_ok-tests.ensures.made c.in_ok-head_variables.ensures.rising c.in_ok-head_variables.ensures.count c.in_ok-tests.ensures.among,
       c.in_ok-head_variables.ensures.count ∙ ap (λ (w : WrittenClause). length (variables_of_list w.head)) (sym c.written.view_is),
       subst (λ (w : WrittenClause). Rises 0 (variables_of_list w.head)) (sym c.written.view_is) c.in_ok-head_variables.ensures.rising,
+      fresh_of _ c.args.written c.in_ok-tests.tests.items n c.written.view_is c.requires c.in_ok-tests.ensures.made c.in_ok-head_variables.ensures.rising c.in_ok-head_variables.ensures.count c.in_ok-tests.ensures.among c.in_ok-fresh.fresh c.in_ok-fresh.ensures.count,
     )
 
 pub returns-clause-well_made : goal.returns-clause-well_made

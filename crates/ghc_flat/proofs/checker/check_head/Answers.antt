@@ -1,11 +1,11 @@
-use Rattle.std.proofs.Common.{◌≡◌, ◌<◌, ◌≤◌, ◌-◌, ◌+◌, ◌∙◌, ap, sym, subst, inr, length, refl, arith, ℕ}
+use Rattle.std.proofs.Common.{◌≡◌, ◌<◌, ◌-◌, ◌+◌, ◌∙◌, ap, sym, subst, inr, length, refl, arith}
 use Rattle.std.specs.Prelude.{Err, Some, slice_get}
 use Rattle.std.proofs.lemmas.Option.{slice_get-get_or}
 use Rattle.ghc_term.specs.declared.var_name.VarName.{VarName}
 use Rattle.ghc_reader.specs.Written.{WrittenClause}
 use Rattle.ghc_flat.specs.Variables.{variables_of_list}
 use Rattle.ghc_flat.specs.Counting.{CountsTo}
-use Rattle.ghc_flat.proofs.Heads.{named_place, repeated}
+use Rattle.ghc_flat.proofs.Repeated.{named_place, repeated}
 use Rattle.ghc_flat.proofs.checker.check_head.Goals as goal
 
 pub overflow_sub-x : goal.overflow_sub-x

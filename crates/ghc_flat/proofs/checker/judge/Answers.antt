@@ -1,6 +1,4 @@
-use Rattle.std.proofs.Common.{◌≡◌, ◌∙◌, ◌⊎◌, List, ℕ, sym, subst, inl, inr, refl}
-use Rattle.ghc_term.specs.declared.fault.Fault.{Fault}
-use Rattle.ghc_term.specs.declared.fault.Fault.TheVariants.{Memory}
+use Rattle.std.proofs.Common.{sym, subst, inl, inr, refl}
 use Rattle.ghc_reader.specs.Written.{AreWellWritten}
 use Rattle.ghc_flat.specs.Checked.{IsFirstFault, AreMadeOf, HasClause, AllCalls, IsFirstCallWithout}
 use Rattle.ghc_flat.specs.Refused.{IsRefusedAs, refused_of_query}

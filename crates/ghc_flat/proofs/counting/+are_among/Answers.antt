@@ -1,5 +1,5 @@
 use Rattle.std.proofs.Common.{false, refl, sym, ap, subst, arith}
-use Rattle.ghc_flat.proofs.Lists.{not_both}
+use Rattle.ghc_term.proofs.ListsLemmas.{not_both}
 use Rattle.ghc_term.specs.ExpressionView.{depth_of}
 use Rattle.ghc_flat.specs.Variables.{leaf_variables}
 use Rattle.ghc_flat.specs.Counting.{AreAmong}

@@ -1,7 +1,6 @@
-use Rattle.std.proofs.Common.{subst, inl}
+use Rattle.std.proofs.Common.{subst}
 use Rattle.std.specs.Prelude.{IsTrue, ◌↔◌}
 use Rattle.ghc_term.specs.Expression.{leaf}
-use Rattle.ghc_term.specs.Tree.{variable}
 use Rattle.ghc_flat.specs.Variables.{leaf_variables}
 use Rattle.ghc_flat.specs.Counting.{AreAmong}
 use Rattle.ghc_flat.proofs.Tests.{one_among}

@@ -1,5 +1,5 @@
 use Rattle.std.proofs.Common.{sym, subst, [], ◌∷◌}
-use Rattle.ghc_flat.proofs.Lists.{not_both}
+use Rattle.ghc_term.proofs.ListsLemmas.{not_both}
 use Rattle.ghc_flat.specs.declared.test.Test.TheVariants.{Compare as compare}
 use Rattle.ghc_flat.specs.Variables.{leaf_variables}
 use Rattle.ghc_flat.specs.Counting.{MakesAmong}

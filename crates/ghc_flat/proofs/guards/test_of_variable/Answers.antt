@@ -1,4 +1,4 @@
-use Rattle.ghc_flat.proofs.Lists.{not_both}
+use Rattle.ghc_term.proofs.ListsLemmas.{not_both}
 use Rattle.ghc_flat.proofs.Tests.{not_among}
 use Rattle.ghc_flat.proofs.guards.test_of_variable.Goals as goal
 

@@ -1,5 +1,5 @@
 use Rattle.std.proofs.Common.{false, true, ◌≡◌}
-use Rattle.ghc_match.proofs.TopAgreement.{alike_structures, atom_unlike, structure_unlike, named}
+use Rattle.ghc_match.proofs.AlikeLemmas.{alike_structures, atom_unlike, structure_unlike, named}
 use Rattle.ghc_match.proofs.alike.are_alike.Goals as goal
 
 pub returns-then-eq : goal.returns-then-eq

@@ -1,6 +1,6 @@
 use Rattle.std.proofs.Common.{ap, ◌∙◌}
 use Rattle.ghc_match.specs.Meeting.{arguments}
-use Rattle.ghc_match.proofs.Places.{back_again}
+use Rattle.ghc_match.proofs.Positions.{back_again}
 use Rattle.ghc_match.proofs.alike.arguments_of.Goals as goal
 
 pub returns-in-Struct : goal.returns-in-Struct

@@ -1,6 +1,6 @@
 use Rattle.std.proofs.Common.{◌≡◌, false, true, sym, subst}
 use Rattle.ghc_match.specs.Match.{IsAtom}
-use Rattle.ghc_match.proofs.TopAgreement.{no_atom}
+use Rattle.ghc_match.proofs.AlikeLemmas.{no_atom}
 use Rattle.ghc_match.proofs.alike.is_atom.Goals as goal
 
 pub returns-in_default : goal.returns-in_default

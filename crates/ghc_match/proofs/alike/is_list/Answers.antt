@@ -1,6 +1,6 @@
 use Rattle.std.proofs.Common.{◌≡◌, false, true, sym, ap, ◌∙◌}
 use Rattle.std.specs.Prelude.{codes, bytes_eq}
-use Rattle.ghc_match.proofs.TopAgreement.{list_by_count, list_name, named, not_named}
+use Rattle.ghc_match.proofs.AlikeLemmas.{list_by_count, list_name, named, not_named}
 use Rattle.ghc_match.proofs.alike.is_list.Goals as goal
 
 pub returns-then-eq : goal.returns-then-eq

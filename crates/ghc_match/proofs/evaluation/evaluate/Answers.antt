@@ -2,11 +2,11 @@ use Rattle.std.proofs.Common.{◌≡◌, ◌∙◌, ◌++◌, ap, subst, arith}
 use Rattle.std.specs.FinSet as set
 use Rattle.ghc_term.specs.Sets.{IsSetOf}
 use Rattle.ghc_term.specs.Store.{value_at}
+use Rattle.ghc_term.proofs.SetsLemmas.{member, no_member}
 use Rattle.ghc_flat.specs.Variables.{leaf_variables}
 use Rattle.ghc_match.specs.Position.{EndsIn}
 use Rattle.ghc_match.specs.Value.{Wants}
 use Rattle.ghc_match.specs.Tasks.{IsWorth}
-use Rattle.ghc_match.proofs.Members.{member, no_member}
 use Rattle.ghc_match.proofs.evaluation.evaluate.Goals as goal
 
 pub returns-then-len-gt0 : goal.returns-then-len-gt0

@@ -3,11 +3,12 @@ use Rattle.std.proofs.lemmas.List.{take_more}
 use Rattle.ghc_term.specs.Tree.{variable}
 use Rattle.ghc_term.specs.Sets.{IsSetOf}
 use Rattle.ghc_term.specs.Store.{value_at}
+use Rattle.ghc_term.proofs.SetsLemmas.{holds_nothing}
 use Rattle.ghc_match.specs.Position.{EndsIn}
 use Rattle.ghc_match.specs.Value.{Wants}
 use Rattle.ghc_match.proofs.Values.{ends_once}
-use Rattle.ghc_match.proofs.Members.{holds_nothing, has_more}
-use Rattle.ghc_match.proofs.Ending.{not_unbound, after_unbound, after_other}
+use Rattle.ghc_match.proofs.GainsLemmas.{has_more}
+use Rattle.ghc_match.proofs.EndsLemmas.{not_unbound, after_unbound, after_other}
 use Rattle.ghc_match.proofs.evaluation.unbound_ends.Goals as goal
 use Rattle.ghc_match.proofs.evaluation.unbound_ends.Goals.{in-Unbound+in_ok-insert, in_default}
 

@@ -6,8 +6,7 @@ use Rattle.ghc_term.specs.Store.{value_at}
 use Rattle.ghc_match.specs.Ends.{StandsAndEnds}
 use Rattle.ghc_match.specs.Meeting.{Gains}
 use Rattle.ghc_match.specs.Guarding.{StandsAndPasses}
-use Rattle.ghc_match.proofs.Members.{OneHas}
-use Rattle.ghc_match.proofs.Asking.{gains_more, Tells, tells_one, tells_same}
+use Rattle.ghc_match.proofs.GainsLemmas.{OneHas, gains_more, Tells, tells_one, tells_same}
 use Rattle.ghc_match.proofs.guard.look_at_all.Goals as goal
 use Rattle.ghc_match.proofs.guard.look_at_all.Goals.{then-branch, else-branch}
 

@@ -8,9 +8,10 @@ use Rattle.ghc_match.specs.Value.{Wants}
 use Rattle.ghc_match.specs.Ends.{StandsAndEnds}
 use Rattle.ghc_match.specs.Meeting.{Gains}
 use Rattle.ghc_term.specs.Sets.{IsSetOf}
+use Rattle.ghc_term.proofs.SetsLemmas.{holds_nothing}
 use Rattle.ghc_match.specs.Guarding.{PassedFrom, IsSaid, OneSaysNo}
-use Rattle.ghc_match.proofs.Members.{OneHas, holds_nothing, has_more}
-use Rattle.ghc_match.proofs.Asking.{gains_nothing, gains_more, no_more_no, no_more_other}
+use Rattle.ghc_match.proofs.GainsLemmas.{OneHas, has_more, gains_nothing, gains_more}
+use Rattle.ghc_match.proofs.GuardingLemmas.{no_more_no, no_more_other}
 use Rattle.ghc_match.proofs.guard.try_guard.Goals as goal
 use Rattle.ghc_match.proofs.guard.try_guard.Goals.{in-No, in_default}
 

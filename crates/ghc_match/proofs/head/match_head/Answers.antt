@@ -4,9 +4,9 @@ use Rattle.std.specs.Borrow.{Bor}
 use Rattle.ghc_term.specs.Store.{value_at}
 use Rattle.ghc_term.specs.Tree.{Tree}
 use Rattle.ghc_match.specs.Meeting.{trees_of}
-use Rattle.ghc_match.proofs.Walking.{Walked, walk_begins, walk_ends, head_parts, trees_append, nothing_ahead}
-use Rattle.ghc_match.proofs.Seeing.{IsFresh, seen_nothing, fresh_first}
-use Rattle.ghc_match.proofs.HeadWalk.{HeadSoFar, head_goes_on, all_clashes, all_stands, all_wanted, all_looked}
+use Rattle.ghc_match.proofs.WalkedPositions.{Walked, walk_begins, walk_ends, head_parts, trees_append, nothing_ahead}
+use Rattle.ghc_match.proofs.MeetingLemmas.{IsFresh, seen_nothing, fresh_first}
+use Rattle.ghc_match.proofs.MatchHead.{HeadSoFar, head_goes_on, all_clashes, all_stands, all_wanted, all_looked}
 use Rattle.ghc_match.proofs.head.match_head.Goals as goal
 
 pub loop-head-init : goal.loop-head-init

@@ -1,7 +1,7 @@
 use Rattle.ghc_term.specs.Store.{value_at}
 use Rattle.ghc_match.specs.Meeting.{trees_of}
-use Rattle.ghc_match.proofs.Walking.{head_parts}
-use Rattle.ghc_match.proofs.HeadWalk.{HeadSoFar}
+use Rattle.ghc_match.proofs.WalkedPositions.{head_parts}
+use Rattle.ghc_match.proofs.MatchHead.{HeadSoFar}
 use Rattle.ghc_match.proofs.head.match_head.Given as goal
 
 abbrev pub invariant-loop-head : goal.invariant-loop-head

@@ -5,7 +5,7 @@ use Rattle.std.specs.List.{zip}
 use Rattle.std.specs.Borrow.{Bor}
 use Rattle.ghc_term.specs.Tree.{Tree}
 use Rattle.ghc_match.specs.Meeting.{trees_of}
-use Rattle.ghc_match.proofs.Walking.{trees_append}
+use Rattle.ghc_match.proofs.WalkedPositions.{trees_append}
 use Rattle.ghc_match.proofs.head.push_pairs.Goals as goal
 
 pub loop-head-preserved : goal.loop-head-preserved

@@ -1,25 +1,24 @@
-use Rattle.std.proofs.Common.{◌≡◌, ◌⊎◌, Bool, sym, ap, ◌∙◌, subst, arith, refl, ◌++◌, true, false}
+use Rattle.std.proofs.Common.{◌≡◌, ◌⊎◌, Bool, sym, ap, ◌∙◌, subst, refl, ◌++◌, true, false}
 use Rattle.std.specs.Prelude.{IsTrue, ◌↔◌}
-use Rattle.std.specs.FinMap as finite
 use Rattle.std.specs.List.{zip}
 use Rattle.ghc_term.specs.Store.{value_at}
 use Rattle.ghc_term.specs.Tree.{IsValue, variable}
-use Rattle.ghc_term.proofs.Total.{chain}
+use Rattle.ghc_match.proofs.Chains.{chains}
 use Rattle.ghc_match.specs.Ends.{ChainEnds}
 use Rattle.ghc_term.specs.Sets.{Variables}
 use Rattle.ghc_match.specs.Meeting.{trees_of, arguments, Clashes, Asks, Passed, Gains}
 use Rattle.ghc_match.specs.declared.head.Met.{Met}
-use Rattle.ghc_match.proofs.TopAgreement.{shown_value}
-use Rattle.ghc_match.proofs.Walking.{opens_nothing, opens_no_terms}
-use Rattle.ghc_match.proofs.Seeing.{clash_not, clash_new, clash_alike, asks_new, asks_not, passed_by, standing_value}
+use Rattle.ghc_match.proofs.AlikeLemmas.{shown_value}
+use Rattle.ghc_match.proofs.WalkedPositions.{opens_nothing, opens_no_terms}
+use Rattle.ghc_match.proofs.MeetingLemmas.{clash_not, clash_new, clash_alike, asks_new, asks_not, passed_by, standing_value}
 use Rattle.ghc_match.proofs.head.visit.Goals as goal
 use Rattle.ghc_match.proofs.head.visit.Goals.{then-not-are_alike, else-not-are_alike}
 
 pub returns-in-Var-clause-opens : goal.returns-in-Var-clause-opens
 returns-in-Var-clause-opens c =
     let s = c.args.store.now in
-    let ch = chain (finite.len s) s (omega arith) c.acyclic.ensures c.args.term.now in
-    opens_nothing (value_at s) c.args.head.now c.args.term.now ch.«end» (trees_of c.args.pending.now.items) (ap arguments (sym c.in-Var.ensures.shown)) (ch.passed, ch.leads)
+    let ch = chains s c.acyclic.ensures c.args.term.now in
+    opens_nothing (value_at s) c.args.head.now c.args.term.now ch.1 (trees_of c.args.pending.now.items) (ap arguments (sym c.in-Var.ensures.shown)) (ch.0, ch.2)
 
 pub returns-in-Var-view : goal.returns-in-Var-view
 returns-in-Var-view c =

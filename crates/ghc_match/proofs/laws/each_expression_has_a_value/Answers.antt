@@ -1,4 +1,4 @@
-use Rattle.ghc_match.proofs.Exists.{each_value}
+use Rattle.ghc_match.proofs.EachValue.{each_value}
 use Rattle.ghc_match.proofs.laws.each_expression_has_a_value.Goals as goal
 
 pub returns : goal.returns

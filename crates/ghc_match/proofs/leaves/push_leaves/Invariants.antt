@@ -1,7 +1,7 @@
 use Rattle.std.proofs.Common.{◌≡◌, ◌++◌}
 use Rattle.std.specs.Prelude.{reverse}
 use Rattle.ghc_flat.specs.Variables.{leaf_variables}
-use Rattle.ghc_match.proofs.Waiting.{leaves, parts}
+use Rattle.ghc_match.proofs.PushLeaves.{leaves, parts}
 use Rattle.ghc_match.proofs.leaves.push_leaves.Given as goal
 
 abbrev pub invariant-loop-part : goal.invariant-loop-part

@@ -3,13 +3,13 @@ use Rattle.std.proofs.lemmas.Int.{to_z-of_z}
 use mir.Val.{SFits}
 use mir.Syntax.{w64}
 use Rattle.std.specs.Prelude.{reverse, ◌↔◌}
+use Rattle.std.proofs.lemmas.List.{reverse-append}
 use Rattle.ghc_term.specs.Expression.{leaf}
 use Rattle.ghc_match.specs.Ends.{EndsAt}
 use Rattle.ghc_match.specs.Tasks.{Makes}
 use Rattle.ghc_match.specs.declared.number.Task.TheVariants.{Find, Apply}
-use Rattle.ghc_match.proofs.Ending.{once_at}
-use Rattle.ghc_match.proofs.Making.{leaf_found, operation_opened}
-use Rattle.ghc_match.proofs.Waiting.{reverse_push}
+use Rattle.ghc_match.proofs.EndsLemmas.{once_at}
+use Rattle.ghc_match.proofs.TasksLemmas.{leaf_found, operation_opened}
 use Rattle.ghc_match.proofs.number.find.Goals as goal
 
 pub returns-in_ok-push-in-Leaf-clause-goes : goal.returns-in_ok-push-in-Leaf-clause-goes
@@ -27,6 +27,6 @@ returns-in_ok-push-in-Operation-3-clause-goes c k =
     let r = Find c.in-Operation.right in
     let l = Find c.in-Operation.left in
     let pushed = c.in_ok-push-in-Operation-3.ensures.items ∙ ap (λ ts. ts ++ l ∷ []) (c.in_ok-push-in-Operation-2.ensures.items ∙ ap (λ ts. ts ++ r ∷ []) c.in_ok-push-in-Operation.ensures.items) in
-    let all = ap reverse pushed ∙ reverse_push ((old ++ o ∷ []) ++ r ∷ []) l ∙ ap (λ ts. l ∷ ts) (reverse_push (old ++ o ∷ []) r ∙ ap (λ ts. r ∷ ts) (reverse_push old o)) in
+    let all = ap reverse pushed ∙ reverse-append ((old ++ o ∷ []) ++ r ∷ []) (l ∷ []) ∙ ap (λ ts. l ∷ ts) (reverse-append (old ++ o ∷ []) (r ∷ []) ∙ ap (λ ts. r ∷ ts) (reverse-append old (o ∷ []))) in
     subst (λ ts. Makes E (Find c.args.expression ∷ reverse old) (reverse c.args.values.now.items) k ↔ Makes E ts (reverse c.args.values.now.items) k) (sym all)
     (operation_opened (once_at c.args.scope c.args.store.now) c.in-Operation.operator c.in-Operation.left c.in-Operation.right c.args.expression (reverse old) (reverse c.args.values.now.items) c.in-Operation.ensures k)

@@ -6,7 +6,7 @@ use Rattle.ghc_term.specs.Tree.{integer}
 use Rattle.ghc_term.specs.Expression.{leaf}
 use Rattle.ghc_match.specs.Value.{Number, of_integer, of_variable}
 use Rattle.ghc_match.specs.Ends.{EndsAt}
-use Rattle.ghc_match.proofs.Ending.{once_at, no_value, shown_no_integer, leaf_number}
+use Rattle.ghc_match.proofs.EndsLemmas.{once_at, no_value, shown_no_integer, leaf_number}
 use Rattle.ghc_match.proofs.number.integer_at.Goals as goal
 
 pub returns-in-Int : goal.returns-in-Int

@@ -6,8 +6,8 @@ use Rattle.ghc_term.specs.Tree.{IsValue}
 use Rattle.ghc_term.proofs.Total.{walk, walk_step}
 use Rattle.ghc_term.proofs.Walks.{at_value}
 use Rattle.ghc_match.specs.Ends.{ChainEnds}
-use Rattle.ghc_match.proofs.Looking.{sees_on, sees_last, sees_value}
-use Rattle.ghc_match.proofs.TopAgreement.{shown_value}
+use Rattle.ghc_match.proofs.FollowNoting.{sees_on, sees_last, sees_value}
+use Rattle.ghc_match.proofs.AlikeLemmas.{shown_value}
 use Rattle.ghc_match.proofs.passing.follow_noting.Goals as goal
 
 pub loop-x-smaller : goal.loop-x-smaller

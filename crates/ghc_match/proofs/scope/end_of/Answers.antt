@@ -3,7 +3,7 @@ use Rattle.ghc_term.specs.Store.{value_at}
 use Rattle.ghc_term.specs.Tree.{variable}
 use Rattle.ghc_term.specs.Bindings.{at_free}
 use Rattle.ghc_match.specs.Ends.{EndsAt, TellsEnd}
-use Rattle.ghc_match.proofs.Ending.{through, stood}
+use Rattle.ghc_match.proofs.EndsLemmas.{through, stood}
 use Rattle.ghc_match.proofs.scope.end_of.Goals as goal
 
 pub returns-in-Some : goal.returns-in-Some

@@ -7,7 +7,7 @@ use Rattle.ghc_term.specs.Store.{value_at}
 use Rattle.ghc_match.specs.Ends.{StandsAndEnds}
 use Rattle.ghc_match.specs.Match.{Compares}
 use Rattle.ghc_match.specs.Tasks.{IsWorth}
-use Rattle.ghc_match.proofs.Ending.{stands_ends_once}
+use Rattle.ghc_match.proofs.EndsLemmas.{stands_ends_once}
 use Rattle.ghc_match.proofs.Values.{number_once}
 use Rattle.ghc_match.proofs.test_holds.holds_between.Goals as goal
 

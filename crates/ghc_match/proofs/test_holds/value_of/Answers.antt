@@ -1,6 +1,6 @@
 use Rattle.ghc_term.specs.Store.{value_at}
 use Rattle.ghc_match.specs.Ends.{StandsAndEnds}
-use Rattle.ghc_match.proofs.Ending.{no_value_told, stands_ends_once}
+use Rattle.ghc_match.proofs.EndsLemmas.{no_value_told, stands_ends_once}
 use Rattle.ghc_match.proofs.test_holds.value_of.Goals as goal
 
 pub returns-in_default : goal.returns-in_default

@@ -8,7 +8,7 @@ use Rattle.ghc_match.specs.Meeting.{Gains}
 use Rattle.ghc_match.specs.Guarding.{OneSaysNo, OneWants, GuardLooksAt}
 use Rattle.ghc_match.specs.Told.{told}
 use Rattle.ghc_match.specs.declared.trying.Outcome.{Outcome}
-use Rattle.ghc_match.proofs.Decided.{all_looked_at, head_waits, guard_refuses, guard_waits, all_accept}
+use Rattle.ghc_match.proofs.TryClause.{all_looked_at, head_waits, guard_refuses, guard_waits, all_accept}
 use Rattle.ghc_match.proofs.trying.try_clause.Goals as goal
 
 none_or_some : (n : ℕ) → (n ≡ 0) ⊎ (0 < n)

@@ -1,12 +1,10 @@
-use Rattle.std.proofs.Common.{◌≡◌, ◌∙◌, ◌+◌, sym, ap, subst, length, List, ℕ}
-use Rattle.std.specs.Prelude.{Some, slice_get}
-use Rattle.ghc_term.specs.declared.var_name.VarName.{VarName}
+use Rattle.std.proofs.Common.{◌∙◌, ◌+◌, sym, ap, subst, length}
 use Rattle.ghc_flat.specs.Clause.{Clause}
 use Rattle.ghc_flat.specs.Samples.{asked}
-use Rattle.ghc_flat.specs.Variables.{variables_of_list, fresh_variables}
+use Rattle.ghc_flat.specs.Variables.{variables_of_list}
 use Rattle.ghc_flat.specs.Counting.{Rises}
 use Rattle.ghc_flat.specs.Flat.{IsWellMade}
-use Rattle.ghc_flat.proofs.Fresh.{fresh_numbered}
+use Rattle.ghc_flat.proofs.FreshVariables.{fresh_numbered}
 use Rattle.ghc_flat.proofs.clause.Clause.head_variables.Goals as goal
 
 pub returns-clause-fresh : goal.returns-clause-fresh

@@ -11,7 +11,7 @@ use Rattle.ghc_term.specs.declared.var_name.VarName.{VarName}
 use Rattle.ghc_term.specs.Tree.{Tree, node, trees, list_of, IsValue}
 use Rattle.ghc_term.specs.Shown.{shown, HasArgument}
 use Rattle.ghc_match.specs.Match.{AreAlike, IsAtom, IsList}
-use Rattle.ghc_match.proofs.Places.{back_again}
+use Rattle.ghc_match.proofs.Positions.{back_again}
 
 counted : (n m : ℕ) → nat_eq n m ≡ true → n ≡ m
 counted n m e = grind (arith, nat_tests, e)

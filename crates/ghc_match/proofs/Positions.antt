@@ -1,11 +1,16 @@
 -- The positions of a head, one by one.
 use Rattle.std.proofs.Common.{◌≡◌, ℕ, zero, suc, ◌+◌, List, [], ◌∷◌, ◌++◌, map, refl, sym, ap, subst, inl, inr, arith}
-use Rattle.std.specs.Prelude.{Option, Some, None, slice_get}
+use Rattle.std.specs.FinMap as finite
+use Rattle.std.specs.Prelude.{Option, Some, slice_get}
 use Rattle.ghc_term.specs.declared.var_name.VarName.{VarName}
-use Rattle.ghc_term.specs.Tree.{Tree, variable, integer, node, Trees, none, more, list_of, trees}
+use Rattle.ghc_term.specs.Tree.{Tree, variable, integer, node, Trees, none, more, list_of, trees, IsValue}
 use Rattle.ghc_term.specs.Lists.{In}
-use Rattle.ghc_term.specs.Bindings.{Leads, at_node, along}
+use Rattle.ghc_term.specs.Bindings.{Leads, name_cmp}
+use Rattle.ghc_term.proofs.ListsLemmas.{in_left, in_right, in_map, in_at}
+use Rattle.ghc_term.proofs.Chains.{leads_once}
+use Rattle.ghc_term.proofs.MapsLemmas.{place_of}
 use Rattle.ghc_match.specs.Position.{At, here, down, unbound}
+use Rattle.ghc_match.proofs.Chains.{written}
 
 -- a position and what stands there
 abbrev pub Place : Type 0
@@ -31,20 +36,6 @@ abbrev mutual
 abbrev pub places : List Tree → List (List ℕ × Tree)
 places hs = along_from 0 (trees hs)
 
-in_left : (xs ys : List Place) (e : Place) → In e xs → In e (xs ++ ys)
-in_left [] ys e i = absurd i
-in_left (x ∷ xs) ys e (inl p) = inl p
-in_left (x ∷ xs) ys e (inr i) = inr (in_left xs ys e i)
-
-in_right : (xs ys : List Place) (e : Place) → In e ys → In e (xs ++ ys)
-in_right [] ys e i = i
-in_right (x ∷ xs) ys e i = inr (in_right xs ys e i)
-
-in_map : (f : Place → Place) (xs : List Place) (e : Place) → In e xs → In (f e) (map f xs)
-in_map f [] e i = absurd i
-in_map f (x ∷ xs) e (inl p) = inl (ap f p)
-in_map f (x ∷ xs) e (inr i) = inr (in_map f xs e i)
-
 -- what stands among the arguments, and below it
 among : (ts : Trees) (k i j : ℕ) (t : Tree) → k + i ≡ j → slice_get (list_of ts) i ≡ Some t → Listed (j ∷ []) (t) (along_from k ts) × ((e : Place) → In e (below t) → Listed (j ∷ e.0) (e.1) (along_from k ts))
 among none k i j t s e = cc
@@ -60,10 +51,24 @@ among (more u ts) k (suc i) j t s e =
     let right = in_right (map (λ e. (k ∷ e.0, e.1)) (below u)) (along_from (k + 1) ts) in
     (inr (right (j ∷ [], t) rest.0), λ p q. inr (right (j ∷ p.0, p.1) (rest.1 p q)))
 
--- in a head a node is reached as written
-pub written : {t : Tree} {xs : List VarName} {f : List ℕ} {us : Trees} → Leads unbound t xs (node f us) → t ≡ node f us
-written at_node = refl
-written (along {t = u} p a) = let clash : None ≡ Some u = p in cc
+-- a position holds one tree
+pub at_once : {S : VarName → Option Tree} {ts : List Tree} {p : List ℕ} {t u : Tree} → At S ts p t → At S ts p u → t ≡ u
+at_once (here e) (here g) = cc
+at_once (here e) (down g l a) = elim a [ ]
+at_once (down e m b) (here g) = elim b [ ]
+at_once {S = S} (down {p = p} {f = f} {us = us} {t = s} {u = t} e m b) (down {xs = zs} {f = k} {us = vs} {t = r} {u = u} g l a) =
+    let same : r ≡ s = cc in
+    let one : node f us ≡ node k vs = (leads_once m (subst (λ w. Leads S w zs (node k vs)) same l)).1 in
+    let arguments : vs ≡ us = cc in
+    at_once b (subst (λ w. At S (list_of w) p u) arguments a)
+
+-- a variable's name
+pub same_variable : {x y : VarName} → variable x ≡ variable y → x ≡ y
+same_variable e = cc
+
+-- a value is no variable
+pub value_not : {x : VarName} {e : Tree} → e ≡ variable x → ¬ IsValue e
+value_not p v = subst IsValue p v
 
 -- each position is one of those listed
 listed : (us : Trees) {ts : List Tree} {p : List ℕ} {h : Tree} → At unbound ts p h → ts ≡ list_of us → Listed p h (along_from 0 us)
@@ -78,7 +83,6 @@ back_again (h ∷ hs) = ap (λ l. h ∷ l) (back_again hs)
 pub all_places : (hs : List Tree) {p : List ℕ} {h : Tree} → At unbound hs p h → Listed p h (places hs)
 all_places hs a = listed (trees hs) a (back_again hs)
 
--- what stands at a first position
-pub at_first : {S : VarName → Option Tree} {ts : List Tree} {i : ℕ} {t : Tree} → At S ts (i ∷ []) t → slice_get ts i ≡ Some t
-at_first (here e) = e
-at_first (down e l a) = elim a [ ]
+-- what is found under a name is one of the entries
+pub entry_in : (es : List (VarName × Tree)) (y : VarName) (t : Tree) → finite.find name_cmp y es ≡ Some t → In {X = VarName × Tree} (y, t) es
+entry_in es y t e = let p = place_of y t es e in in_at es p.0 (y, t) p.2

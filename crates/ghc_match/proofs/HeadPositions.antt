@@ -1,24 +1,21 @@
 -- What a head and a goal have at each position, and which heads fit.
-use Rattle.std.proofs.Common.{◌≡◌, ℕ, true, false, List, [], ◌∷◌, length, refl, sym, ◌∙◌, subst, inl, inr, ◌⊎◌, arith}
+use Rattle.std.proofs.Common.{◌≡◌, ℕ, List, [], ◌∷◌, length, refl, sym, ◌∙◌, subst, inl, inr, ◌⊎◌}
 use Rattle.std.specs.Prelude.{Option, Some, None, slice_get}
-use Rattle.std.specs.Str.{bytes_eq}
-use Rattle.std.proofs.lemmas.Slice.Eq.{bytes_eq-Decides}
 use Rattle.std.proofs.Math.IntN.{ℤ_discrete}
 use Rattle.std.proofs.Math.Decide.{ℕ_discrete}
-use Rattle.std.specs.FinMap as finite
+use Rattle.std.specs.Coded.{coded_list, coded_ℕ}
 use Rattle.ghc_term.specs.declared.var_name.VarName.{VarName}
 use Rattle.ghc_term.specs.Tree.{Tree, variable, integer, node, Trees, list_of, IsValue}
 use Rattle.ghc_term.specs.Bindings.{Leads, at_integer, at_node, at_free, Passes, IsAcyclic}
 use Rattle.ghc_term.specs.Store.{StoreValue, value_at}
 use Rattle.ghc_term.proofs.Chains.{leads_once}
-use Rattle.ghc_term.proofs.Total.{chain}
+use Rattle.ghc_term.proofs.Decided.{Decided, some_decided, same_decided}
 use Rattle.ghc_flat.specs.Clause.{Clause}
 use Rattle.ghc_match.specs.Position.{At, here, down, unbound}
 use Rattle.ghc_match.specs.Match.{AreAlike, HeadHas, StandsFor, Mismatch, HeadWants}
-use Rattle.ghc_match.proofs.Chains.{leads_passes}
-use Rattle.ghc_match.proofs.Listings.{Decided, Listing, none, one, restated, itself, over, any}
-use Rattle.ghc_match.proofs.Places.{places, all_places}
-use Rattle.ghc_match.proofs.Shown.{at_once, passes_in, same_variable}
+use Rattle.ghc_match.proofs.Chains.{leads_passes, passes_in, chains}
+use Rattle.ghc_match.proofs.Listings.{Listing, none, one, restated, itself, over, the_variable}
+use Rattle.ghc_match.proofs.Positions.{places, all_places, at_once, same_variable}
 
 -- where each tree has a chain, it is decided whether there is something at a position
 module _ (S : VarName → Option Tree) (chains : (t : Tree) → (xs : List VarName) × (e : Tree) × Leads S t xs e) where
@@ -76,12 +73,6 @@ own_chain (variable x) = (x ∷ [], variable x, at_free refl)
 own_chain (integer k) = ([], integer k, at_integer)
 own_chain (node f us) = ([], node f us, at_node)
 
-pub names_decided : (f g : List ℕ) → Decided (f ≡ g)
-names_decided f g = elim (bytes_eq f g) as (λ b. bytes_eq f g ≡ b → Decided (f ≡ g)) [
-  | true ↦ λ e. inl ((bytes_eq-Decides f g).0 e)
-  | false ↦ λ e. inr (λ s. let no : true ≡ false = sym ((bytes_eq-Decides f g).1 s) ∙ e in cc)
-] refl
-
 alike_decided : (h e : Tree) → Decided (AreAlike h e)
 alike_decided (variable x) e = inr (λ a. a)
 alike_decided (integer j) (variable y) = inr (λ a. a)
@@ -89,7 +80,7 @@ alike_decided (integer j) (integer k) = elim (ℤ_discrete j k) [ yes e ↦ inl 
 alike_decided (integer j) (node g us) = inr (λ a. a)
 alike_decided (node f ts) (variable y) = inr (λ a. a)
 alike_decided (node f ts) (integer k) = inr (λ a. a)
-alike_decided (node f ts) (node g us) = elim (names_decided f g) [
+alike_decided (node f ts) (node g us) = elim (same_decided (coded_list coded_ℕ) f g) [
   | inr n ↦ inr (λ a. n a.0)
   | inl e ↦ elim (ℕ_discrete (length (list_of ts)) (length (list_of us))) [ yes l ↦ inl (e, l) | no n ↦ inr (λ a. n a.1) ]
 ]
@@ -99,18 +90,9 @@ value_decided (variable x) = inr (λ v. v)
 value_decided (integer k) = inl tt
 value_decided (node f us) = inl tt
 
--- the unbound variable that the tree is
-pub the_variable : (e : Tree) → Listing (λ x. e ≡ variable x)
-the_variable (variable z) = one z refl (λ y q. let p : z ≡ y = cc in sym p)
-the_variable (integer k) = none (λ x q. cc)
-the_variable (node f us) = none (λ x q. cc)
-
 module _ (c : Clause) (ts : List Tree) (s : StoreValue) (acyclic : IsAcyclic (value_at s)) where
   abbrev S : VarName → Option Tree
   S = value_at s
-
-  pub chains : (t : Tree) → (xs : List VarName) × (e : Tree) × Leads S t xs e
-  chains t = let k = chain (finite.len s) s (omega arith) acyclic t in (k.passed, k.«end», k.leads)
 
   -- at this position the head has the value h, and the goal t, which ends in e
   record Spot (p : List ℕ) : Type 0 where
@@ -131,9 +113,9 @@ module _ (c : Clause) (ts : List Tree) (s : StoreValue) (acyclic : IsAcyclic (va
     | inr n ↦ inr (λ i. n (i.0, i.2.0))
     | inl h ↦ elim (value_decided h.0) [
       | inr n ↦ inr (λ i. n (subst IsValue (at_once i.2.0 h.1) i.2.1))
-      | inl v ↦ elim (at_decided S chains p ts) [
+      | inl v ↦ elim (at_decided S (chains s acyclic) p ts) [
         | inr n ↦ inr (λ i. n (i.1, i.3))
-        | inl t ↦ let k = chains t.0 in inl (record { head = h.0; has = (h.1, v); tree = t.0; there = t.1; passed = k.0; «end» = k.1; leads = k.2 })
+        | inl t ↦ let k = chains s acyclic t.0 in inl (record { head = h.0; has = (h.1, v); tree = t.0; there = t.1; passed = k.0; «end» = k.1; leads = k.2 })
       ]
     ]
   ]
@@ -158,7 +140,7 @@ module _ (c : Clause) (ts : List Tree) (s : StoreValue) (acyclic : IsAcyclic (va
   ]
 
   pub mismatch_decided : Decided (Mismatch c ts S)
-  mismatch_decided = elim (any (places c.head) (λ e. Misses e.0) (λ e i. misses e.0)) [
+  mismatch_decided = elim (some_decided (places c.head) (λ e. Misses e.0) (λ e i. misses e.0)) [
     | inl m ↦ let k = m.2 in inl (m.0.0, k.0, k.1, k.2, k.3, k.4, k.5, k.6, k.7, k.8)
     | inr n ↦ inr (λ m. n ((m.0, m.1), all_places c.head m.5.0, (m.1, m.2, m.3, m.4, m.5, m.6, m.7, m.8, m.9)))
   ]
@@ -208,7 +190,7 @@ module _ (c : Clause) (ts : List Tree) (s : StoreValue) (acyclic : IsAcyclic (va
   stands_there : (p : List ℕ) → Listing (StandsThere p)
   stands_there p = elim (at_decided unbound own_chain p c.head) [
     | inr n ↦ none (λ b w. n (variable b.0, w.0))
-    | inl h ↦ elim (at_decided S chains p ts) [
+    | inl h ↦ elim (at_decided S (chains s acyclic) p ts) [
       | inr n ↦ none (λ b w. n (b.1, w.1))
       | inl t ↦ head h.0 h.1 t.0 t.1
     ]

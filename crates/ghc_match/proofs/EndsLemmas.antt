@@ -12,6 +12,7 @@ use Rattle.ghc_term.specs.Expression.{leaf}
 use Rattle.ghc_term.specs.Store.{StoreValue, value_at}
 use Rattle.ghc_term.specs.Bindings.{Leads, at_free, along}
 use Rattle.ghc_term.proofs.Chains.{leads_once}
+use Rattle.ghc_term.proofs.SetsLemmas.{one_inserted}
 use Rattle.ghc_match.specs.Position.{EndsIn}
 use Rattle.ghc_match.specs.Value.{Number}
 use Rattle.ghc_match.specs.Ends.{ChainEnds, StandsAndEnds, EndsAt, TellsEnd}
@@ -19,10 +20,8 @@ use Rattle.ghc_match.specs.declared.scope.Scope.{Scope}
 use Rattle.ghc_match.specs.declared.scope.Scope.TheVariants.{Goal, Head}
 use Rattle.ghc_match.specs.declared.scope.End.{End}
 use Rattle.ghc_match.specs.declared.scope.End.TheVariants.{Nowhere, Unbound, Value}
-use Rattle.ghc_match.proofs.FactProofs.{variable_is}
-use Rattle.ghc_match.proofs.Values.{ends_once}
-use Rattle.ghc_match.proofs.Shown.{value_not}
-use Rattle.ghc_match.proofs.Members.{inserted}
+use Rattle.ghc_match.proofs.Values.{ends_once, variable_is}
+use Rattle.ghc_match.proofs.Positions.{value_not}
 
 -- what is told of one tree is told of another that ends as it does
 told_as : (P Q : Tree → Type 0) (end : End) → ((e : Tree) → P e → Q e) → ((e : Tree) → Q e → P e) → TellsEnd P end → TellsEnd Q end
@@ -53,9 +52,6 @@ stood stands S x t end b h = told_as (ChainEnds S t) (StandsAndEnds stands S x) 
     let both : Some l.0 ≡ Some t = sym l.1 ∙ b in
     let same : l.0 ≡ t = cc in
     (l.2.0, subst (λ z. Leads S z l.2.0 e) same l.2.1)) h
-
-pub stands_for_nothing : (stands : StoreValue) (S : VarName → Option Tree) (x : VarName) → value_at stands x ≡ None → TellsEnd (StandsAndEnds stands S x) Nowhere
-stands_for_nothing stands S x n e l = let clash : None ≡ Some l.0 = sym n ∙ l.1 in cc
 
 -- a variable has one end
 pub stands_ends_once : (stands : StoreValue) (S : VarName → Option Tree) (x : VarName) (e f : Tree) → StandsAndEnds stands S x e → StandsAndEnds stands S x f → e ≡ f
@@ -95,8 +91,8 @@ not_unbound P (Value t) once n h x p = value_not (once t.now (variable x) h.0 p)
 pub after_unbound : (P : Tree → Type 0) (s new : Variables) (y : VarName) → ((e f : Tree) → P e → P f → e ≡ f) → P (variable y) → new ≡ set.insert s y
     → (x : VarName) → IsTrue (set.contains new x) ↔ (IsTrue (set.contains s x) ⊎ P (variable x))
 after_unbound P s new y once h e x = (
-  λ c. elim ((inserted s y x).0 (subst (λ z. IsTrue (set.contains z x)) e c)) [ inl a ↦ inl a | inr b ↦ inr (subst (λ z. P (variable z)) (sym b) h) ],
-  λ c. subst (λ z. IsTrue (set.contains z x)) (sym e) ((inserted s y x).1 (elim c [ inl a ↦ inl a | inr p ↦ inr (let same : variable x ≡ variable y = once (variable x) (variable y) p h in cc) ])),
+  λ c. elim ((one_inserted s y x).0 (subst (λ z. IsTrue (set.contains z x)) e c)) [ inl a ↦ inl a | inr b ↦ inr (subst (λ z. P (variable z)) (sym b) h) ],
+  λ c. subst (λ z. IsTrue (set.contains z x)) (sym e) ((one_inserted s y x).1 (elim c [ inl a ↦ inl a | inr p ↦ inr (let same : variable x ≡ variable y = once (variable x) (variable y) p h in cc) ])),
 )
 
 -- and after another

@@ -2,6 +2,7 @@
 use Rattle.std.proofs.Common.{◌≡◌, ℤ, List, [], ◌∷◌, ◌++◌, sym, ap, ◌∙◌, subst}
 use Rattle.std.specs.Prelude.{◌↔◌, reverse}
 use Rattle.std.specs.Borrow.{Bor}
+use Rattle.std.proofs.lemmas.List.{reverse-append}
 use Rattle.ghc_term.specs.declared.var_name.VarName.{VarName}
 use Rattle.ghc_term.specs.declared.operator.Operator.{Operator}
 use Rattle.ghc_term.specs.Tree.{Tree}
@@ -10,9 +11,7 @@ use Rattle.ghc_match.specs.Value.{Number, computed}
 use Rattle.ghc_match.specs.Tasks.{Makes}
 use Rattle.ghc_match.specs.declared.number.Task.{Task}
 use Rattle.ghc_match.specs.declared.number.Task.TheVariants.{Find, Apply}
-use Rattle.ghc_match.proofs.Values.{number_once}
-use Rattle.ghc_match.proofs.FactProofs.{sides}
-use Rattle.ghc_match.proofs.Waiting.{reverse_push}
+use Rattle.ghc_match.proofs.Values.{number_once, sides}
 
 module _ {E : VarName → Tree → Type 0} (once : (x : VarName) (e f : Tree) → E x e → E x f → e ≡ f) where
   -- a leaf's value is found
@@ -21,8 +20,8 @@ module _ {E : VarName → Tree → Type 0} (once : (x : VarName) (e f : Tree) �
   leaf_found a z tasks old new b is n e k = (
     λ m.
         let same : m.0 ≡ z = number_once once (subst (λ c. Number E c m.0) is m.1) n in
-        subst (λ l. Makes E tasks l k) (sym (ap reverse e ∙ reverse_push old z)) (subst (λ y. Makes E tasks (y ∷ reverse old) k) same m.2),
-    λ m. (z, subst (λ c. Number E c z) (sym is) n, subst (λ l. Makes E tasks l k) (ap reverse e ∙ reverse_push old z) m),
+        subst (λ l. Makes E tasks l k) (sym (ap reverse e ∙ reverse-append old (z ∷ []))) (subst (λ y. Makes E tasks (y ∷ reverse old) k) same m.2),
+    λ m. (z, subst (λ c. Number E c z) (sym is) n, subst (λ l. Makes E tasks l k) (ap reverse e ∙ reverse-append old (z ∷ [])) m),
   )
 
   -- an operation gives way to its sides and its operator

@@ -9,8 +9,8 @@ use Rattle.ghc_term.specs.Store.{StoreValue, value_at}
 use Rattle.ghc_flat.specs.Clause.{Clause}
 use Rattle.ghc_match.specs.Match.{StandsFor, Mismatch, HeadWants}
 use Rattle.ghc_match.specs.Meeting.{Gains, Clashes, Asks, Passed, standing, Opens, HeadLooksAt}
-use Rattle.ghc_match.proofs.Walking.{Meets, Walked, walk_goes_on}
-use Rattle.ghc_match.proofs.Seeing.{Seen, seen_on, IsFresh, fresh_on}
+use Rattle.ghc_match.proofs.WalkedPositions.{Meets, Walked, walk_goes_on}
+use Rattle.ghc_match.proofs.MeetingLemmas.{Seen, seen_on, IsFresh, fresh_on}
 
 -- How far the walk has come: which pairs are done is known, what they have shown, and that the variables ahead are fresh.
 pub record HeadSoFar (S : VarName → Option Tree) (hs ts : List Tree) (clashes : Bool) (stands : StoreValue) (wanted looked : Variables) (ahead : List (Tree × Tree)) : Type 0 where

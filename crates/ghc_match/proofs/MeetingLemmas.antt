@@ -13,14 +13,16 @@ use Rattle.ghc_term.specs.Bindings.{name_cmp, Passes}
 use Rattle.ghc_term.specs.Sets.{Variables, IsSetOf}
 use Rattle.ghc_term.specs.Store.{StoreValue, value_at}
 use Rattle.ghc_term.proofs.Chains.{leads_once}
-use Rattle.ghc_term.proofs.Names.{name_total}
-use Rattle.ghc_term.proofs.Total.{same_name, apart}
+use Rattle.ghc_term.proofs.Names.{name_total, same_name, apart, itself}
+use Rattle.ghc_term.proofs.ListsLemmas.{in_left, in_right, in_more}
+use Rattle.ghc_term.proofs.SetsLemmas.{one_inserted, holds_nothing}
 use Rattle.ghc_flat.specs.Flat.{AreDistinct}
+use Rattle.ghc_flat.proofs.DistinctLemmas.{distinct_left, distinct_apart}
 use Rattle.ghc_match.specs.Ends.{ChainEnds}
 use Rattle.ghc_match.specs.Match.{AreAlike}
 use Rattle.ghc_match.specs.Meeting.{Gains, arguments, Clashes, Asks, Passed, standing, Opens}
-use Rattle.ghc_match.proofs.Shown.{value_not}
-use Rattle.ghc_match.proofs.Members.{itself, in_left, in_right, in_either, inserted, OneHas, has_more}
+use Rattle.ghc_match.proofs.GainsLemmas.{OneHas, has_more}
+use Rattle.ghc_match.proofs.Positions.{value_not, same_variable}
 
 -- what one pair shows
 module _ (S : VarName → Option Tree) (h t : Tree) where
@@ -35,8 +37,8 @@ module _ (S : VarName → Option Tree) (h t : Tree) where
 
   pub asks_new : (old new : Variables) (x : VarName) → IsValue h → ChainEnds S t (variable x) → new ≡ set.insert old x → Gains old new (Asks S h t)
   asks_new old new x v l e y = (
-    λ c. elim ((inserted old x y).0 (subst (λ z. IsTrue (set.contains z y)) e c)) [ inl a ↦ inl a | inr same ↦ inr (v, subst (λ z. ChainEnds S t (variable z)) (sym same) l) ],
-    λ c. subst (λ z. IsTrue (set.contains z y)) (sym e) ((inserted old x y).1 (elim c [ inl a ↦ inl a | inr p ↦ inr (let same : variable y ≡ variable x = (leads_once p.1.1 l.1).1 in cc) ])),
+    λ c. elim ((one_inserted old x y).0 (subst (λ z. IsTrue (set.contains z y)) e c)) [ inl a ↦ inl a | inr same ↦ inr (v, subst (λ z. ChainEnds S t (variable z)) (sym same) l) ],
+    λ c. subst (λ z. IsTrue (set.contains z y)) (sym e) ((one_inserted old x y).1 (elim c [ inl a ↦ inl a | inr p ↦ inr (let same : variable y ≡ variable x = (leads_once p.1.1 l.1).1 in cc) ])),
   )
 
   pub asks_not : (s : Variables) (e : Tree) → ChainEnds S t e → IsValue e → Gains s s (Asks S h t)
@@ -64,11 +66,9 @@ pub seen_nothing : (S : VarName → Option Tree) (stands : StoreValue) (wanted l
 seen_nothing S stands wanted looked a b c = record {
   clash = (λ e. absurd (let clash : false ≡ true = e in cc), λ w. absurd w.1);
   stand = λ y t. (λ e. absurd (let clash : None ≡ Some t = sym (finite.get-empty name_cmp y) ∙ ap (λ s. value_at s y) (sym a) ∙ e in cc), λ i. absurd i);
-  wants = λ x. (λ e. absurd (none_in wanted b x e), λ w. absurd w.1);
-  looks = λ x. (λ e. absurd (none_in looked c x e), λ w. absurd w.1);
-} where
-  none_in : (s : Variables) → s ≡ set.empty → (x : VarName) → ¬ IsTrue (set.contains s x)
-  none_in s e x h = let clash : false ≡ true = sym (set.contains-empty name_cmp x) ∙ ap (λ z. set.contains z x) (sym e) ∙ h in cc
+  wants = λ x. (λ e. absurd (holds_nothing wanted b x e), λ w. absurd w.1);
+  looks = λ x. (λ e. absurd (holds_nothing looked c x e), λ w. absurd w.1);
+}
 
 -- the variables of the heads of pairs
 abbrev pub names : List (Tree × Tree) → List VarName
@@ -91,33 +91,29 @@ stand_on done stands old (variable z) u free y t =
             | true ↦ λ p q. let is : u ≡ t = cc in let name = same_name y z p in in_right done ((variable z, u) ∷ []) (variable y, t) (inl (λ n. (variable (name n), sym is n)))
             | false ↦ λ p q. in_left done ((variable z, u) ∷ []) (variable y, t) ((old y t).0 q)
           ] refl (sym read ∙ e),
-      λ i. elim (in_either done ((variable z, u) ∷ []) (variable y, t) i) [
+      λ i. elim (in_more done (variable z, u) (variable y, t) i) [
         | inl j ↦
             let bound = (old y t).1 j in
             let other : eq_by_cmp name_cmp y z ≡ false = apart y z (λ same. let clash : None ≡ Some t = sym (free z (inl refl)) ∙ ap (value_at stands) (sym same) ∙ bound in cc) in
             read ∙ ap (λ b. cond b (Some u) (value_at stands y)) other ∙ bound
-        | inr j ↦ elim j [
-          | inl same ↦
-              let a : variable y ≡ variable z = ap (λ (q : Tree × Tree). q.0) same in
-              let b : t ≡ u = ap (λ (q : Tree × Tree). q.1) same in
-              let name : y ≡ z = cc in
-              read ∙ ap (λ b. cond b (Some u) (value_at stands y)) (ap (eq_by_cmp name_cmp y) (sym name) ∙ itself y) ∙ ap Some (sym b)
-          | inr n ↦ absurd n
-        ]
+        | inr same ↦
+            let a : variable y ≡ variable z = ap (λ (q : Tree × Tree). q.0) same in
+            let b : t ≡ u = ap (λ (q : Tree × Tree). q.1) same in
+            read ∙ ap (λ b. cond b (Some u) (value_at stands y)) (ap (eq_by_cmp name_cmp y) (sym (same_variable a)) ∙ itself y) ∙ ap Some (sym b)
       ],
     )
 stand_on done stands old (integer k) u free y t = (
   λ e. in_left done ((integer k, u) ∷ []) (variable y, t) ((old y t).0 e),
-  λ i. elim (in_either done ((integer k, u) ∷ []) (variable y, t) i) [
+  λ i. elim (in_more done (integer k, u) (variable y, t) i) [
     | inl j ↦ (old y t).1 j
-    | inr j ↦ elim j [ inl same ↦ absurd (let clash : variable y ≡ integer k = ap (λ (q : Tree × Tree). q.0) same in cc) | inr n ↦ absurd n ]
+    | inr same ↦ absurd (let clash : variable y ≡ integer k = ap (λ (q : Tree × Tree). q.0) same in cc)
   ],
 )
 stand_on done stands old (node f ts) u free y t = (
   λ e. in_left done ((node f ts, u) ∷ []) (variable y, t) ((old y t).0 e),
-  λ i. elim (in_either done ((node f ts, u) ∷ []) (variable y, t) i) [
+  λ i. elim (in_more done (node f ts, u) (variable y, t) i) [
     | inl j ↦ (old y t).1 j
-    | inr j ↦ elim j [ inl same ↦ absurd (let clash : variable y ≡ node f ts = ap (λ (q : Tree × Tree). q.0) same in cc) | inr n ↦ absurd n ]
+    | inr same ↦ absurd (let clash : variable y ≡ node f ts = ap (λ (q : Tree × Tree). q.0) same in cc)
   ],
 )
 
@@ -135,9 +131,9 @@ seen_on S done rest q b c stands stands' wanted wanted' looked looked' s f k e g
       | inl j ↦ let w = s.clash.0 j in (w.0, in_left done (q ∷ []) w.0 w.1, w.2)
       | inr m ↦ (q, in_right done (q ∷ []) q (inl refl), m)
     ],
-    λ w. k.1 (elim (in_either done (q ∷ []) w.0 w.1) [
+    λ w. k.1 (elim (in_more done q w.0 w.1) [
       | inl i ↦ inl (s.clash.1 (w.0, i, w.2))
-      | inr j ↦ elim j [ inl same ↦ inr (subst (λ (z : Tree × Tree). Clashes S z.0 z.1) same w.2) | inr n ↦ absurd n ]
+      | inr same ↦ inr (subst (λ (z : Tree × Tree). Clashes S z.0 z.1) same w.2)
     ]),
   );
   stand = λ y t. subst (λ m. (value_at m y ≡ Some t) ↔ In {X = Tree × Tree} (variable y, t) (done ++ q ∷ [])) (sym e)
@@ -145,15 +141,6 @@ seen_on S done rest q b c stands stands' wanted wanted' looked looked' s f k e g
   wants = has_more (λ (p : Tree × Tree) x. Asks S p.0 p.1 x) wanted wanted' done q s.wants g;
   looks = has_more (λ (p : Tree × Tree) x. Passed S p.0 p.1 x) looked looked' done q s.looks l;
 }
-
-distinct_left : {X : Type 0} (xs ys : List X) → AreDistinct (xs ++ ys) → AreDistinct xs
-distinct_left [] ys d = tt
-distinct_left (x ∷ xs) ys d = (λ i. d.0 (in_left xs ys x i), distinct_left xs ys d.1)
-
-distinct_apart : {X : Type 0} (xs ys : List X) → AreDistinct (xs ++ ys) → (y : X) → In y xs → ¬ In y ys
-distinct_apart [] ys d y i j = i
-distinct_apart (x ∷ xs) ys d y (inl e) j = d.0 (in_right xs ys x (subst (λ z. In z ys) e j))
-distinct_apart (x ∷ xs) ys d y (inr i) j = distinct_apart xs ys d.1 y i j
 
 -- the heads of two lists have the variables of the first, or of its beginning
 abbrev Rest : List VarName → List VarName → Type 0

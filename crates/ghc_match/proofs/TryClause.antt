@@ -6,6 +6,7 @@ use Rattle.ghc_term.specs.declared.var_name.VarName.{VarName}
 use Rattle.ghc_term.specs.Tree.{Tree, variable}
 use Rattle.ghc_term.specs.Sets.{Variables, IsSetOf}
 use Rattle.ghc_term.specs.Store.{StoreValue, value_at}
+use Rattle.ghc_term.proofs.SetsLemmas.{member, no_member}
 use Rattle.ghc_flat.specs.declared.test.Test.{Test}
 use Rattle.ghc_flat.specs.declared.test.Test.TheVariants.{Wait as wait, IsInteger as is_integer, IsAtom as is_atom, IsList as is_list, Compare as compare}
 use Rattle.ghc_flat.specs.Clause.{Clause}
@@ -16,7 +17,6 @@ use Rattle.ghc_match.specs.Match.{HoldsBy, StandsFor, Mismatch, HeadWants, HeadF
 use Rattle.ghc_match.specs.Meeting.{Gains, HeadLooksAt}
 use Rattle.ghc_match.specs.Guarding.{OneSaysNo, OneWants, GuardLooksAt}
 use Rattle.ghc_match.proofs.Values.{number_there}
-use Rattle.ghc_match.proofs.Members.{member, no_member}
 
 -- a test that holds where variables end as E says holds where they end as F says
 holds_there : (E F : VarName → Tree → Type 0) → ((y : VarName) (e : Tree) → E y e → F y e) → (g : Test) → HoldsBy E g → HoldsBy F g

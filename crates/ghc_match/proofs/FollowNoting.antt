@@ -6,7 +6,7 @@ use Rattle.ghc_term.specs.declared.var_name.VarName.{VarName}
 use Rattle.ghc_term.specs.Tree.{Tree, variable, IsValue}
 use Rattle.ghc_term.specs.Sets.{Variables}
 use Rattle.ghc_term.specs.Bindings.{Comes, now, on, Passes}
-use Rattle.ghc_match.proofs.Members.{inserted}
+use Rattle.ghc_term.proofs.SetsLemmas.{one_inserted}
 
 -- the set has x, or the chain of t passes it
 abbrev pub Sees : (VarName → Option Tree) → Variables → Tree → VarName → Type 0
@@ -24,13 +24,13 @@ pub sees_on : (S : VarName → Option Tree) (old new : Variables) (x : VarName) 
     → (y : VarName) → Sees S new value y ↔ Sees S old place y
 sees_on S old new x place value is b g y = subst (λ z. Sees S new value y ↔ Sees S old z y) is (
   λ s. elim s [
-    | inl c ↦ elim ((inserted old x y).0 (subst (λ z. IsTrue (set.contains z y)) g c)) [ inl a ↦ inl a | inr e ↦ inr ([], subst (λ z. Comes S (variable z) [] y) e now) ]
+    | inl c ↦ elim ((one_inserted old x y).0 (subst (λ z. IsTrue (set.contains z y)) g c)) [ inl a ↦ inl a | inr e ↦ inr ([], subst (λ z. Comes S (variable z) [] y) e now) ]
     | inr p ↦ inr (x ∷ p.0, on b p.1)
   ],
   λ s. elim s [
-    | inl c ↦ inl (subst (λ z. IsTrue (set.contains z y)) (sym g) ((inserted old x y).1 (inl c)))
+    | inl c ↦ inl (subst (λ z. IsTrue (set.contains z y)) (sym g) ((one_inserted old x y).1 (inl c)))
     | inr p ↦ elim (passes_variable S x y p) [
-      | inl e ↦ inl (subst (λ z. IsTrue (set.contains z y)) (sym g) ((inserted old x y).1 (inr e)))
+      | inl e ↦ inl (subst (λ z. IsTrue (set.contains z y)) (sym g) ((one_inserted old x y).1 (inr e)))
       | inr v ↦ let both : Some v.0 ≡ Some value = sym v.1 ∙ b in let same : v.0 ≡ value = cc in inr (subst (λ z. Passes S z y) same v.2)
     ]
   ],
@@ -40,11 +40,11 @@ sees_on S old new x place value is b g y = subst (λ z. Sees S new value y ↔ S
 pub sees_last : (S : VarName → Option Tree) (old new : Variables) (x : VarName) (place : Tree) → variable x ≡ place → S x ≡ None → new ≡ set.insert old x
     → (y : VarName) → IsTrue (set.contains new y) ↔ Sees S old place y
 sees_last S old new x place is b g y = subst (λ z. IsTrue (set.contains new y) ↔ Sees S old z y) is (
-  λ c. elim ((inserted old x y).0 (subst (λ z. IsTrue (set.contains z y)) g c)) [ inl a ↦ inl a | inr e ↦ inr ([], subst (λ z. Comes S (variable z) [] y) e now) ],
+  λ c. elim ((one_inserted old x y).0 (subst (λ z. IsTrue (set.contains z y)) g c)) [ inl a ↦ inl a | inr e ↦ inr ([], subst (λ z. Comes S (variable z) [] y) e now) ],
   λ s. elim s [
-    | inl c ↦ subst (λ z. IsTrue (set.contains z y)) (sym g) ((inserted old x y).1 (inl c))
+    | inl c ↦ subst (λ z. IsTrue (set.contains z y)) (sym g) ((one_inserted old x y).1 (inl c))
     | inr p ↦ elim (passes_variable S x y p) [
-      | inl e ↦ subst (λ z. IsTrue (set.contains z y)) (sym g) ((inserted old x y).1 (inr e))
+      | inl e ↦ subst (λ z. IsTrue (set.contains z y)) (sym g) ((one_inserted old x y).1 (inr e))
       | inr v ↦ let clash : None ≡ Some v.0 = sym b ∙ v.1 in cc
     ]
   ],

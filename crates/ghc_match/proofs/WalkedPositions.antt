@@ -3,16 +3,17 @@ use Rattle.std.proofs.Common.{◌≡◌, ℕ, zero, suc, ◌+◌, ◌<◌, ◌�
 use Rattle.std.specs.Prelude.{Option, Some, None, slice_get}
 use Rattle.std.specs.List.{zip}
 use Rattle.std.specs.Borrow.{Bor}
+use Rattle.std.proofs.lemmas.List.{append-nil}
 use Rattle.ghc_term.specs.declared.var_name.VarName.{VarName}
 use Rattle.ghc_term.specs.Tree.{Tree, variable, integer, node, Trees, none, more, list_of}
 use Rattle.ghc_term.specs.Lists.{In}
 use Rattle.ghc_term.specs.Bindings.{at_node}
 use Rattle.ghc_term.proofs.Chains.{leads_once}
+use Rattle.ghc_term.proofs.ListsLemmas.{in_left, in_right, in_either, in_more}
 use Rattle.ghc_match.specs.Position.{At, here, down, unbound}
 use Rattle.ghc_match.specs.Ends.{ChainEnds}
 use Rattle.ghc_match.specs.Meeting.{arguments, trees_of, Opens}
-use Rattle.ghc_match.proofs.Places.{written}
-use Rattle.ghc_match.proofs.Members.{in_left, in_right, in_either}
+use Rattle.ghc_match.proofs.Chains.{written}
 
 pub trees_append : (ps qs : List (Bor Tree × Bor Tree)) → trees_of (ps ++ qs) ≡ trees_of ps ++ trees_of qs
 trees_append [] qs = refl
@@ -94,27 +95,21 @@ module _ (S : VarName → Option Tree) where
       record {
         covers = λ h t m. elim (w.covers h t m) [
           | inl i ↦ inl (in_left done (q ∷ []) (h, t) i)
-          | inr u ↦ elim (in_either rest (q ∷ []) u.0 u.1) [
+          | inr u ↦ elim (in_more rest q u.0 u.1) [
             | inl i ↦ inr (u.0, subst (In u.0) (sym o.2) (in_left rest inner u.0 i), u.2)
-            | inr j ↦ elim j [
-              | inl same ↦ elim (subst (λ z. Under z h t) same u.2) [
-                | inl s ↦ inl (in_right done (q ∷ []) (h, t) (inl (λ n. (s.0 n, s.1 n))))
-                | inr b ↦
-                    let end : b.0 ≡ o.0 = (leads_once b.1.1 o.1.1).1 in
-                    let m = subst (λ z. Meets (arguments q.0) (arguments z) h t) end b.2 in
-                    let v = meets_under m.1 m.2 in
-                    inr (v.0, subst (In v.0) (sym o.2) (in_right rest inner v.0 v.1), v.2)
-              ]
-              | inr n ↦ absurd n
+            | inr same ↦ elim (subst (λ z. Under z h t) same u.2) [
+              | inl s ↦ inl (in_right done (q ∷ []) (h, t) (inl (λ n. (s.0 n, s.1 n))))
+              | inr b ↦
+                  let end : b.0 ≡ o.0 = (leads_once b.1.1 o.1.1).1 in
+                  let m = subst (λ z. Meets (arguments q.0) (arguments z) h t) end b.2 in
+                  let v = meets_under m.1 m.2 in
+                  inr (v.0, subst (In v.0) (sym o.2) (in_right rest inner v.0 v.1), v.2)
             ]
           ]
         ];
-        done_meets = λ p i. elim (in_either done (q ∷ []) p i) [
+        done_meets = λ p i. elim (in_more done q p i) [
           | inl j ↦ w.done_meets p j
-          | inr j ↦ elim j [
-            | inl same ↦ subst (λ (z : Tree × Tree). Meets hs ts z.0 z.1) (sym same) (w.ahead_meets q.0 q.1 (q, last, inl (refl, refl)))
-            | inr n ↦ absurd n
-          ]
+          | inr same ↦ subst (λ (z : Tree × Tree). Meets hs ts z.0 z.1) (sym same) (w.ahead_meets q.0 q.1 (q, last, inl (refl, refl)))
         ];
         ahead_meets = λ h t u. elim (in_either rest inner u.0 (subst (In u.0) o.2 u.1)) [
           | inl i ↦ w.ahead_meets h t (u.0, in_left rest (q ∷ []) u.0 i, u.2)
@@ -124,21 +119,14 @@ module _ (S : VarName → Option Tree) where
 
 -- to a pair whose head has no arguments nothing comes
 pub opens_nothing : (S : VarName → Option Tree) (h t e : Tree) (old : List (Tree × Tree)) → arguments h ≡ [] → ChainEnds S t e → Opens S h t old old
-opens_nothing S h t e old n l = (e, l, sym (ap (λ hs. old ++ zip hs (arguments e)) n ∙ append_nil old)) where
-  append_nil : (xs : List (Tree × Tree)) → xs ++ [] ≡ xs
-  append_nil [] = refl
-  append_nil (x ∷ xs) = ap (λ l. x ∷ l) (append_nil xs)
+opens_nothing S h t e old n l = (e, l, sym (ap (λ hs. old ++ zip hs (arguments e)) n ∙ append-nil old))
 
 -- nor to one whose term ends in a tree without arguments
 pub opens_no_terms : (S : VarName → Option Tree) (h t e : Tree) (old : List (Tree × Tree)) → arguments e ≡ [] → ChainEnds S t e → Opens S h t old old
-opens_no_terms S h t e old n l = (e, l, sym (ap (λ us. old ++ zip (arguments h) us) n ∙ ap (λ z. old ++ z) (no_terms (arguments h)) ∙ append_nil old)) where
+opens_no_terms S h t e old n l = (e, l, sym (ap (λ us. old ++ zip (arguments h) us) n ∙ ap (λ z. old ++ z) (no_terms (arguments h)) ∙ append-nil old)) where
   no_terms : (hs : List Tree) → zip {X = Tree} hs [] ≡ []
   no_terms [] = refl
   no_terms (h ∷ hs) = refl
-
-  append_nil : (xs : List (Tree × Tree)) → xs ++ [] ≡ xs
-  append_nil [] = refl
-  append_nil (x ∷ xs) = ap (λ l. x ∷ l) (append_nil xs)
 
 abbrev mutual
   -- how many parts a tree has

@@ -1,13 +1,14 @@
 -- The fresh variables of a clause have the numbers behind those of its head.
-use Rattle.std.proofs.Common.{◌≡◌, ℕ, zero, suc, ◌+◌, Bool, true, false, ◌||◌, cond, List, [], ◌∷◌, ◌++◌, length, append_assoc, inl, inr, refl, sym, ap, ◌∙◌, subst, arith}
-use Rattle.std.specs.Prelude.{Some, slice_get}
+use Rattle.std.proofs.Common.{◌-◌, length-append, ◌≡◌, ℕ, suc, ◌+◌, Bool, ◌||◌, cond, List, [], ◌∷◌, ◌++◌, length, append_assoc, inl, inr, refl, sym, ap, ◌∙◌, arith}
+use Rattle.std.specs.Prelude.{Some, slice_get, reverse}
+use mathlib.Core.List.{reverse_aux}
 use Rattle.std.specs.List.{list_any}
 use Rattle.std.specs.Ordering.{eq_by_cmp}
+use Rattle.std.proofs.lemmas.List.Sorted.{IsPermutation-reverse, list_any-IsPermutation}
 use Rattle.ghc_term.specs.declared.var_name.VarName.{VarName}
 use Rattle.ghc_term.specs.Bindings.{name_cmp}
 use Rattle.ghc_term.specs.Lists.{In}
-use Rattle.ghc_term.proofs.Entries.{same_is}
-use Rattle.ghc_term.proofs.Searches.{same_itself}
+use Rattle.ghc_term.proofs.SetsLemmas.{in_any}
 use Rattle.ghc_reader.specs.Written.{AreNumbered}
 use Rattle.ghc_flat.specs.declared.test.Test.{Test}
 use Rattle.ghc_flat.specs.Clause.{Clause}
@@ -15,21 +16,12 @@ use Rattle.ghc_flat.specs.Flat.{IsFlat}
 use Rattle.ghc_flat.specs.Samples.{asked}
 use Rattle.ghc_flat.specs.Variables.{firsts, variables_of_list, variables_of_test, variables_of_tests, variables_of_goals, variables_of_clause, fresh_variables}
 use Rattle.ghc_flat.specs.Counting.{Rises}
-use Rattle.ghc_flat.proofs.Lists.{in_either}
+use Rattle.ghc_term.proofs.ListsLemmas.{in_either}
 use Rattle.ghc_flat.proofs.Rising.{ArePlacedUpTo, not_in_any, above_absent, placed_more}
 
 -- whether the variable is one of those seen
 abbrev is_seen : VarName → List VarName → Bool
 is_seen y s = list_any (eq_by_cmp name_cmp y) s
-
-either_true : (b : Bool) → (b || true) ≡ true
-either_true true = refl
-either_true false = refl
-
-seen_in : (y : VarName) (s : List VarName) → In y s → is_seen y s ≡ true
-seen_in y [] i = absurd i
-seen_in y (x ∷ s) (inl e) = ap (λ b. b || is_seen y s) (ap (eq_by_cmp name_cmp y) (sym e) ∙ sym (same_is y y) ∙ same_itself y)
-seen_in y (x ∷ s) (inr i) = ap (λ b. eq_by_cmp name_cmp y x || b) (seen_in y s i) ∙ either_true (eq_by_cmp name_cmp y x)
 
 -- what was seen matters, and not its order
 firsts_same : (xs s t : List VarName) → ((y : VarName) → is_seen y s ≡ is_seen y t) → firsts s xs ≡ firsts t xs
@@ -43,34 +35,13 @@ firsts_same (x ∷ xs) s t h =
 firsts_skip : (xs ys s : List VarName) → ((y : VarName) → In y xs → In y s) → firsts s (xs ++ ys) ≡ firsts s ys
 firsts_skip [] ys s h = refl
 firsts_skip (x ∷ xs) ys s h =
-    ap (λ b. cond b (firsts s (xs ++ ys)) (x ∷ firsts (x ∷ s) (xs ++ ys))) (seen_in x s (h x (inl refl))) ∙ firsts_skip xs ys s (λ y i. h y (inr i))
+    ap (λ b. cond b (firsts s (xs ++ ys)) (x ∷ firsts (x ∷ s) (xs ++ ys))) (in_any x s (h x (inl refl))) ∙ firsts_skip xs ys s (λ y i. h y (inr i))
 
--- the first list turned round, in front of the second
-onto : List VarName → List VarName → List VarName
-onto [] s = s
-onto (x ∷ xs) s = onto xs (x ∷ s)
-
-firsts_front : (front : List VarName) (k : ℕ) (seen rest : List VarName) → Rises k front → ArePlacedUpTo k seen → firsts seen (front ++ rest) ≡ front ++ firsts (onto front seen) rest
-unfolding onto
+firsts_front : (front : List VarName) (k : ℕ) (seen rest : List VarName) → Rises k front → ArePlacedUpTo k seen → firsts seen (front ++ rest) ≡ front ++ firsts (reverse_aux front seen) rest
 firsts_front [] k seen rest r b = refl
 firsts_front (y ∷ ys) k seen rest r b =
     ap (λ t. cond t (firsts seen (ys ++ rest)) (y ∷ firsts (y ∷ seen) (ys ++ rest))) (not_in_any y seen (above_absent k seen y r.0 b))
     ∙ ap (λ l. y ∷ l) (firsts_front ys (k + 1) (y ∷ seen) rest r.1 (placed_more k seen y r.0 b))
-
-between : (a b d : Bool) → (b || (a || d)) ≡ ((a || b) || d)
-between true true d = refl
-between true false d = refl
-between false true d = refl
-between false false d = refl
-
-seen_onto : (y : VarName) (xs s : List VarName) → is_seen y (onto xs s) ≡ (is_seen y xs || is_seen y s)
-unfolding onto
-seen_onto y [] s = refl
-seen_onto y (x ∷ xs) s = seen_onto y xs (x ∷ s) ∙ between (eq_by_cmp name_cmp y x) (is_seen y xs) (is_seen y s)
-
-either_false : (b : Bool) → (b || false) ≡ b
-either_false true = refl
-either_false false = refl
 
 behind : (xs ys : List VarName) (i : ℕ) → slice_get (xs ++ ys) (length xs + i) ≡ slice_get ys i
 behind [] ys i = let same : 0 + i ≡ i = omega arith in ap (slice_get ys) same
@@ -86,15 +57,26 @@ of_a_test (t ∷ ts) x i = elim (in_either (variables_of_test t) (variables_of_t
   | inr j ↦ let r = of_a_test ts x j in (r.0, inr r.1, r.2)
 ]
 
-pub fresh_numbered : (c : Clause) → Rises 0 (variables_of_list c.head) → AreNumbered (variables_of_clause c) → IsFlat c → (i : ℕ) (x : VarName)
-    → slice_get (fresh_variables c) i ≡ Some x → x ≡ asked (length (variables_of_list c.head) + i + 1)
-fresh_numbered c r numbered flat i x e =
+-- a clause has the variables of its head, and then its fresh ones
+firsts_of_clause : (c : Clause) → Rises 0 (variables_of_list c.head) → IsFlat c → firsts [] (variables_of_clause c) ≡ variables_of_list c.head ++ fresh_variables c
+firsts_of_clause c r flat =
     let head = variables_of_list c.head in
     let tests = variables_of_tests c.tests in
     let body = variables_of_goals c.body in
     let in_head : (y : VarName) → In y (variables_of_tests c.tests) → In y (variables_of_list c.head) = λ y j. let t = of_a_test c.tests y j in flat t.0 y t.1 t.2 in
-    let whole : firsts [] (variables_of_clause c) ≡ variables_of_list c.head ++ fresh_variables c =
     ap (firsts []) (append_assoc head tests body)
     ∙ firsts_front head 0 [] (tests ++ body) r (λ y j. absurd j)
-    ∙ ap (λ l. head ++ l) (firsts_same (tests ++ body) (onto head []) head (λ y. seen_onto y head [] ∙ either_false (is_seen y head)) ∙ firsts_skip tests body head in_head) in
-    numbered (length head + i) x (ap (λ l. slice_get l (length head + i)) whole ∙ behind head (fresh_variables c) i ∙ e)
+    ∙ ap (λ l. head ++ l) (firsts_same (tests ++ body) (reverse head) head (λ y. sym (list_any-IsPermutation (eq_by_cmp name_cmp y) head (reverse head) (IsPermutation-reverse head)))
+    ∙ firsts_skip tests body head in_head)
+
+pub fresh_numbered : (c : Clause) → Rises 0 (variables_of_list c.head) → AreNumbered (variables_of_clause c) → IsFlat c → (i : ℕ) (x : VarName)
+    → slice_get (fresh_variables c) i ≡ Some x → x ≡ asked (length (variables_of_list c.head) + i + 1)
+fresh_numbered c r numbered flat i x e =
+    let head = variables_of_list c.head in
+    numbered (length head + i) x (ap (λ l. slice_get l (length head + i)) (firsts_of_clause c r flat) ∙ behind head (fresh_variables c) i ∙ e)
+
+-- so there are as many as are left of all
+pub fresh_left : (c : Clause) (n : ℕ) → Rises 0 (variables_of_list c.head) → IsFlat c → n ≡ length (firsts [] (variables_of_clause c)) → n - length (variables_of_list c.head) ≡ length (fresh_variables c)
+fresh_left c n r flat all =
+    let parts = ap length (firsts_of_clause c r flat) ∙ length-append (variables_of_list c.head) (fresh_variables c) in
+    omega (arith, all, parts)

@@ -5,7 +5,7 @@ use Rattle.ghc_term.specs.declared.var_name.VarName.{VarName}
 use Rattle.ghc_term.specs.Tree.{Tree, variable, node, Trees, IsValue}
 use Rattle.ghc_term.specs.Lists.{In}
 use Rattle.ghc_term.specs.Bindings.{Leads, at_node, along}
-use Rattle.ghc_term.proofs.Searches.{In_append, In_append_right}
+use Rattle.ghc_term.proofs.ListsLemmas.{in_left, in_right}
 use Rattle.ghc_flat.specs.declared.test.Test.{Test}
 use Rattle.ghc_flat.specs.declared.test.Test.TheVariants.{Wait as wait, IsInteger as is_integer, IsAtom as is_atom, IsList as is_list, Compare as compare}
 use Rattle.ghc_flat.specs.Clause.{Clause}
@@ -84,7 +84,7 @@ module _ (c : Clause) (ts : List Tree) (S S' : VarName → Option Tree) (agree :
   holds_there (compare o a b) ig h = (
     h.0,
     h.1,
-    number_there h.2 (λ y e i. stands_at_there (compare o a b) ig y e (In_append (leaf_variables a) (leaf_variables b) y i)),
-    number_there h.3 (λ y e i. stands_at_there (compare o a b) ig y e (In_append_right (leaf_variables a) (leaf_variables b) y i)),
+    number_there h.2 (λ y e i. stands_at_there (compare o a b) ig y e (in_left (leaf_variables a) (leaf_variables b) y i)),
+    number_there h.3 (λ y e i. stands_at_there (compare o a b) ig y e (in_right (leaf_variables a) (leaf_variables b) y i)),
     h.4,
   )
