@@ -5,7 +5,7 @@ use Rattle.std.specs.List.Sorted.{IsStrictlyIncreasing}
 use Rattle.std.proofs.lemmas.List.{take_more}
 use Rattle.std.proofs.lemmas.List.Kept.{AllPairs-from_increasing}
 use Rattle.ghc_term.specs.declared.var_name.VarName.{VarName}
-use Rattle.ghc_term.specs.declared.fault.Fault.TheVariants.{Waits, NoMatch}
+use Rattle.ghc_term.specs.declared.fault.Fault.TheVariants.{NoClause, Waits, NoMatch}
 use Rattle.ghc_term.specs.Tree.{Tree}
 use Rattle.ghc_term.specs.Lists.{In}
 use Rattle.ghc_flat.specs.Clause.{Clause, Program, IsClause, IsFor}
@@ -109,29 +109,27 @@ module _ (P : Program) (f : List ℕ) (ts : List Tree) (S : VarName → Option T
       let o = n.waits refl in
       let found = (numbers.«exactly» o.0).0 o.2 in
       let is : IsFor f ts o.1 = subst (IsFor f ts) (clause_once P found.1 o.3) (found.2, found.3) in
-      inr (inl (nobody ks true numbers n, (o.4.0, (o.0, o.1, o.3, is, o.4.1)), refl))
+      CallAnswers.waits (nobody ks true numbers n) (o.0, o.1, o.3, is, o.4.1)
 
   pub all_refuse : (ks : List ℕ) → AreNumbersFor P f (length ts) ks → NoneTaken ks false → CallAnswers P f ts S (refused NoMatch)
   all_refuse ks numbers n =
-      inr (inr (nobody ks false numbers n, (λ x s. n.idle refl (s.0, s.1, (numbers.«exactly» s.0).1 (s.1, s.2, s.3.0, s.3.1), s.2, (x, s.4))), refl))
+      CallAnswers.no_match (nobody ks false numbers n) (λ x s. n.idle refl (s.0, s.1, (numbers.«exactly» s.0).1 (s.1, s.2, s.3.0, s.3.1), s.2, (x, s.4)))
 
   -- where none before it is taken, the clause that accepts is the least
   pub least_reduces : (ks : List ℕ) (w : Bool) (i k : ℕ) (c : Clause) (e : Effect) → AreNumbersFor P f (length ts) ks → NoneTaken (take i ks) w → i < length ks → slice_index_or ks i 0 ≡ k → IsClause P k c → IsFor f ts c
       → HasVerdict c ts S (verdict.Reduces e) → CallAnswers P f ts S (proposes (by_clause k) e)
-  least_reduces ks w i k c e numbers n l at ic is v = inl (
-    k,
-    e,
-    (
-      (c, ic, is, v.0),
-      λ j d less id for a. n.none j d (lower_before ks numbers.increasing i k j l at less ((numbers.«exactly» j).1 (d, id, for.0, for.1))) id a,
-    ),
-    v.1 P f k ic is,
-    refl,
-  )
+  least_reduces ks w i k c e numbers n l at ic is v =
+      CallAnswers.by_least
+      ((c, ic, is, v.0), λ j d less id for a. n.none j d (lower_before ks numbers.increasing i k j l at less ((numbers.«exactly» j).1 (d, id, for.0, for.1))) id a)
+      (v.1 P f k ic is)
 
   -- a clause that is chosen reduces the call
   pub chosen_reduces : (k : ℕ) (c : Clause) (e : Effect) → IsClause P k c → IsFor f ts c → HasVerdict c ts S (verdict.Reduces e) → ChoiceAnswers P f ts k S (proposes (by_clause k) e)
-  chosen_reduces k c e ic is v = inr (c, ic, is, inl (e, v.1 P f k ic is, refl))
+  chosen_reduces k c e ic is v = ChoiceAnswers.by_choice (v.1 P f k ic is)
+
+-- where a clause has the number chosen and is for the call, the answer is not that there is none
+pub has_clause : (P : Program) (f : List ℕ) (ts : List Tree) (S : VarName → Option Tree) (k : ℕ) (c : Clause) → IsClause P k c → IsFor f ts c → ¬ ChoiceAnswers P f ts k S (refused NoClause)
+has_clause P f ts S k c ic is (ChoiceAnswers.no_clause none) = none c ic is
 
 -- a number in the index is that of a clause for the call
 pub numbered_for : (P : Program) (f : List ℕ) (n : ℕ) (ks : List ℕ) → AreNumbersFor P f n ks → (i k : ℕ) → i < length ks → slice_index_or ks i 0 ≡ k → (c : Clause) × IsClause P k c × (c.name ≡ f) × (length c.head ≡ n)
