@@ -9,13 +9,14 @@ use Rattle.ghc_term.specs.Goal.{call, unify, assign, stream}
 use Rattle.ghc_term.specs.Bindings.{Leads, at_integer, Reaches, here, through, IsAcyclic}
 use Rattle.ghc_term.specs.Store.{StoreValue, value_at}
 use Rattle.ghc_term.proofs.Chains.{leads_once}
+use Rattle.ghc_term.proofs.Decided.{Decided}
+use Rattle.ghc_term.proofs.ListsLemmas.{in_at}
 use Rattle.ghc_flat.specs.Clause.{Clause, Program, IsClause, IsFor}
 use Rattle.ghc_flat.specs.Flat.{IsProgram}
 use Rattle.ghc_match.specs.Value.{Value, number, waits as waits_on, bad, HasValue}
 use Rattle.ghc_match.specs.Match.{Accepts, WaitsFor, Outcome, refuses, waits, accepts, HasOutcome}
 use Rattle.ghc_match.proofs.EachOutcome.{each_outcome}
 use Rattle.ghc_match.proofs.Exists.{each_value}
-use Rattle.ghc_match.proofs.Listings.{Decided}
 use Rattle.ghc_match.proofs.Outcomes.{refuses_waits, accepts_refuses, accepts_waits}
 use Rattle.ghc_unify.specs.Unify.{Meets, integers, nodes, Move, shared, left, right, both, Moves, stay, go, IsCycle, Cycles, Ending, solved, clash, cycle, HasEnding}
 use Rattle.ghc_unify.proofs.Endings.{each_ending}
@@ -24,7 +25,7 @@ use Rattle.ghc_fire.specs.declared.act.Act.TheVariants.{ByClause as by_clause, U
 use Rattle.ghc_fire.specs.Effect.{Effect, HasEffect, no_step}
 use Rattle.ghc_fire.specs.Attempt.{Answer, proposes, refused, SomeAccepts, CallAnswers, ChoiceAnswers, UnificationAnswers, AssignmentAnswers}
 use Rattle.ghc_fire.specs.Laws.{EachAttemptHasAnAnswer}
-use Rattle.ghc_fire.proofs.EachEffect.{clause_in, clause_decided, reduced, united, made_equal}
+use Rattle.ghc_fire.proofs.EachEffect.{clause_decided, reduced, united, made_equal}
 use Rattle.ghc_fire.proofs.Steps.{clause_once}
 
 -- of the numbers below n, the least that has Q, or none has
@@ -95,7 +96,7 @@ module _ (P : Program) (accepted : IsProgram P) (s : StoreValue) (acyclic : IsAc
   S = value_at s
 
   outcome : (c : Clause) (ts : List Tree) (k : ℕ) → IsClause P k c → (o : Outcome) × HasOutcome c ts S o
-  outcome c ts k ic = each_outcome c ts s (accepted c (clause_in P ic.0 c ic.2)).linear acyclic
+  outcome c ts k ic = each_outcome c ts s (accepted c (in_at P ic.0 c ic.2)).linear acyclic
 
   module _ (f : List ℕ) (ts : List Tree) where
     -- clause k is for the call, and accepts it, or waits

@@ -13,7 +13,7 @@ use Rattle.ghc_match.specs.Position.{EndsIn}
 use Rattle.ghc_match.specs.Value.{Number, number, waits, bad, HasValue}
 use Rattle.ghc_match.specs.Match.{LooksAt, Accepts, Refuses, accepts}
 use Rattle.ghc_match.specs.Looked.{GoalLooksAt, ExpressionReaches}
-use Rattle.ghc_term.proofs.Sets.{set_of}
+use Rattle.ghc_term.proofs.SetsLemmas.{set_of}
 use Rattle.ghc_match.proofs.Matching.{looks_back}
 use Rattle.ghc_match.proofs.Values.{value_looks, number_once, number_waits_not, ends_once, leaf_reaches, passes_reaches}
 use Rattle.ghc_match.proofs.Chains.{leads_there, leads_back}
