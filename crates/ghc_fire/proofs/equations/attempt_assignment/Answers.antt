@@ -12,7 +12,7 @@ use Rattle.ghc_unify.specs.Unify.{Unifies, Clashes, Cycles}
 use Rattle.ghc_fire.specs.Effect.{IsOnChainsOf}
 use Rattle.ghc_fire.specs.Attempt.{AssignmentAnswers}
 use Rattle.ghc_fire.proofs.Assigned.{waiting, not_unified, unified}
-use Rattle.ghc_fire.proofs.moves.attempt_assignment.Goals as goal
+use Rattle.ghc_fire.proofs.equations.attempt_assignment.Goals as goal
 
 pub returns-in-Waits-clause-fault : goal.returns-in-Waits-clause-fault
 returns-in-Waits-clause-fault c =

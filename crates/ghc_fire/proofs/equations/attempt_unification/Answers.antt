@@ -2,7 +2,7 @@ use Rattle.std.proofs.Common.{Err, ap}
 use Rattle.std.proofs.lemmas.Result.{err_from_is_err_and}
 use Rattle.ghc_term.specs.Store.{value_at}
 use Rattle.ghc_fire.proofs.Assigned.{not_solved}
-use Rattle.ghc_fire.proofs.moves.attempt_unification.Goals as goal
+use Rattle.ghc_fire.proofs.equations.attempt_unification.Goals as goal
 
 pub returns-in_err-solved-clause-fault : goal.returns-in_err-solved-clause-fault
 returns-in_err-solved-clause-fault c =

@@ -1,6 +1,6 @@
 use Rattle.std.proofs.Common.{sym, inl, inr}
 use Rattle.ghc_fire.specs.Attempt.{UnificationAnswers, AssignmentAnswers}
-use Rattle.ghc_fire.proofs.attempting.step.Goals as goal
+use Rattle.ghc_fire.proofs.attempting.propose_act.Goals as goal
 
 pub returns-in-Ok-clause-proposed : goal.returns-in-Ok-clause-proposed
 returns-in-Ok-clause-proposed c = let m = c.in-Unify-None in rw (sym m.ensures, m.is-1) (UnificationAnswers.solves c.in-Ok.ensures.effect)
