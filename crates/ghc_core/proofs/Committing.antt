@@ -14,7 +14,7 @@ use Rattle.ghc_fire.specs.declared.act.Act.{Act}
 use Rattle.ghc_fire.specs.declared.act.Act.TheVariants.{ByClause as by_clause, Unified as unified, Assigned as assigned, Given as given, Closed as closed}
 use Rattle.ghc_fire.specs.Effect.{Effect, HasEffect, no_step}
 use Rattle.ghc_fire.specs.Proposal.{Proposal, under}
-use Rattle.ghc_fire.specs.Attempt.{Answer, proposes, refused, Attempts}
+use Rattle.ghc_fire.specs.Attempt.{proposes, CallAnswers, ChoiceAnswers, UnificationAnswers, AssignmentAnswers, Attempts}
 use Rattle.ghc_fire.proofs.Steps.{effect_once}
 use Rattle.ghc_fire.proofs.Under.{effect_under}
 use Rattle.ghc_records.specs.Record.{Record}
@@ -27,9 +27,9 @@ use Rattle.ghc_core.proofs.Standing.{standing_well_made, standing_numbered}
 
 -- a reduction that has an effect on a goal is what an attempt at it proposes
 attempted : (P : Program) (S : VarName → Option Tree) (b : Goal) (a : Act) (e : Effect) → IsReduction a → HasEffect P b a no_step S e → Attempts P S (Some b) (choice_of a) (proposes a e)
-attempted P S (call f ts) (by_clause k) e r h = inr (h.0, h.2, h.3, inl (e, h, refl))
-attempted P S (unify l r) unified e _ h = inl (e, h, refl)
-attempted P S (assign t a) assigned e r h = inr (inr (inr (e, h, refl)))
+attempted P S (call f ts) (by_clause k) e r h = ChoiceAnswers.by_choice h
+attempted P S (unify l r) unified e _ h = UnificationAnswers.solves h
+attempted P S (assign t a) assigned e r h = AssignmentAnswers.assigns h
 attempted P S b (given u) e r h = absurd r
 attempted P S b closed e r h = absurd r
 attempted P S b a e r h = absurd h
@@ -40,49 +40,19 @@ still_proposed w p h =
     subst (λ o. Attempts w.opening.program (value_at w.state.store) o (choice_of p.act) (proposes p.act p.effect)) (sym h.2)
     (attempted w.opening.program (value_at w.state.store) h.0 p.act p.effect h.1 h.3)
 
--- the act and the effect of an answer
-abbrev act_of : Answer → Act
-act_of (proposes a e) = a
-act_of (refused f) = unified
-
-abbrev effect_of : Effect → Answer → Effect
-effect_of d (proposes a e) = e
-effect_of d (refused f) = d
-
-no_refusal : {a : Act} {e : Effect} {f : Fault} → ¬ (proposes a e ≡ refused f)
-no_refusal p = cc
-
 -- the act is a reduction that has this effect on the goal, under any number
 abbrev IsReducedBy : Program → (VarName → Option Tree) → Goal → Act → Effect → Type 0
 IsReducedBy P S b a e = HasEffect P b a no_step S e × IsReduction a
 
-module _ (P : Program) (S : VarName → Option Tree) (b : Goal) (a : Act) (e : Effect) where
-  answered : (c : Act) (d : Effect) → HasEffect P b c no_step S d → IsReduction c → proposes a e ≡ proposes c d → IsReducedBy P S b a e
-  answered c d h r same = (
-    subst (λ z. HasEffect P b (act_of z) no_step S (effect_of e z)) (sym same) h,
-    subst (λ z. IsReduction (act_of z)) (sym same) r,
-  )
-
 -- what an attempt proposes has its effect, and is a reduction
 proposed : (P : Program) (S : VarName → Option Tree) (b : Goal) (choice : Option ℕ) (a : Act) (e : Effect) → Attempts P S (Some b) choice (proposes a e) → IsReducedBy P S b a e
-proposed P S (call f ts) None a e (inl p) = answered P S (call f ts) a e (by_clause p.0) p.1 p.3 tt p.4
-proposed P S (call f ts) None a e (inr (inl p)) = absurd (no_refusal p.2)
-proposed P S (call f ts) None a e (inr (inr p)) = absurd (no_refusal p.2)
-proposed P S (call f ts) (Some k) a e (inl p) = absurd (no_refusal p.1)
-proposed P S (call f ts) (Some k) a e (inr p) = elim p.3 [
-  | inl q ↦ answered P S (call f ts) a e (by_clause k) q.0 q.1 tt q.2
-  | inr o ↦ elim o [ inl q ↦ absurd (no_refusal q.1) | inr q ↦ absurd (no_refusal q.1) ]
-]
-proposed P S (unify l r) None a e (inl p) = answered P S (unify l r) a e unified p.0 p.1 tt p.2
-proposed P S (unify l r) None a e (inr (inl p)) = absurd (no_refusal p.1)
-proposed P S (unify l r) None a e (inr (inr p)) = absurd (no_refusal p.1)
-proposed P S (unify l r) (Some k) a e p = absurd (no_refusal p)
-proposed P S (assign t b) None a e (inl p) = absurd (no_refusal p.1)
-proposed P S (assign t b) None a e (inr (inl p)) = absurd (no_refusal p.1)
-proposed P S (assign t b) None a e (inr (inr (inl p))) = absurd (no_refusal p.1)
-proposed P S (assign t b) None a e (inr (inr (inr p))) = answered P S (assign t b) a e assigned p.0 p.1 tt p.2
-proposed P S (assign t b) (Some k) a e p = absurd (no_refusal p)
-proposed P S (stream k x) choice a e p = absurd (no_refusal p)
+proposed P S (call f ts) None a e (CallAnswers.by_least l d) = (d, tt)
+proposed P S (call f ts) (Some k) a e (ChoiceAnswers.by_choice d) = (d, tt)
+proposed P S (unify l r) None a e (UnificationAnswers.solves d) = (d, tt)
+proposed P S (unify l r) (Some k) a e p = cc
+proposed P S (assign t b) None a e (AssignmentAnswers.assigns d) = (d, tt)
+proposed P S (assign t b) (Some k) a e p = cc
+proposed P S (stream k x) choice a e p = cc
 
 -- What an attempt at a goal proposes has this effect on it now, and is a reduction.
 pub proposed_holds : (w : World) (g : GoalName) (choice : Option ℕ) (b : Goal) (a : Act) (e : Effect) → finite.get w.state.goals g ≡ Some b → AttemptAnswers w g choice (proposes a e)

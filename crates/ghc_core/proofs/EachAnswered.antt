@@ -14,7 +14,7 @@ use Rattle.ghc_fire.specs.declared.act.Act.{Act}
 use Rattle.ghc_fire.specs.declared.act.Act.TheVariants.{ByClause as by_clause, Unified as unified, Assigned as assigned, Given as given, Closed as closed}
 use Rattle.ghc_fire.specs.Effect.{Effect, HasEffect, no_step}
 use Rattle.ghc_fire.specs.Attempt as attempt
-use Rattle.ghc_fire.proofs.Codes.{same_decided}
+use Rattle.ghc_term.proofs.Decided.{same_decided}
 use Rattle.ghc_fire.proofs.EachAnswer.{each_answer}
 use Rattle.ghc_fire.proofs.EachEffect.{effect_decided}
 use Rattle.ghc_fire.proofs.Steps.{effect_each}

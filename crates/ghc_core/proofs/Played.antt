@@ -48,7 +48,7 @@ binds : (P : Program) (k n : ℕ) (S : VarName → Option Tree) → S x ≡ None
 binds P k n S e = (((x, integer (pos k)) ∷ [], [], (_, go (left now e no_reach) stay), refl, refl), refl, refl)
 
 proposed : (P : Program) (k : ℕ) (S : VarName → Option Tree) → S x ≡ None → (o : Option Goal) → o ≡ Some (equals k) → attempt.Attempts P S o None (attempt.proposes unified (binding k))
-proposed P k S e o at = subst (λ z. attempt.Attempts P S z None (attempt.proposes unified (binding k))) (sym at) (inl (binding k, binds P k no_step S e, refl))
+proposed P k S e o at = subst (λ z. attempt.Attempts P S z None (attempt.proposes unified (binding k))) (sym at) (attempt.UnificationAnswers.solves (binds P k no_step S e))
 
 unbound : value_at finite.empty x ≡ None
 unbound = finite.get-empty name_cmp x

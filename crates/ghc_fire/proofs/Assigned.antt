@@ -1,5 +1,5 @@
--- What an assignment does, or why it is refused, by the value of its expression.
-use Rattle.std.proofs.Common.{◌≡◌, ℤ, [], refl, ap, inl, inr, ◌⊎◌}
+-- Why a unification is refused; what an assignment does, or why it is refused, by the value of its expression.
+use Rattle.std.proofs.Common.{◌≡◌, ℤ, [], sym, subst, inl, inr, ◌⊎◌}
 use Rattle.std.specs.Prelude.{Option}
 use Rattle.ghc_term.specs.declared.var_name.VarName.{VarName}
 use Rattle.ghc_term.specs.declared.fault.Fault.{Fault}
@@ -13,8 +13,15 @@ use Rattle.ghc_match.specs.Value.{Number, waits, HasValue}
 use Rattle.ghc_match.specs.Meeting.{Gains}
 use Rattle.ghc_unify.specs.Unify.{Unifies, Clashes, Cycles}
 use Rattle.ghc_fire.specs.Effect.{Effect, IsOnChainsOf, Assigns}
-use Rattle.ghc_fire.specs.Attempt.{refused, AssignmentAnswers}
+use Rattle.ghc_fire.specs.Attempt.{refused, UnificationAnswers, AssignmentAnswers}
 use Rattle.ghc_fire.proofs.EachAnswer.{no_cycle}
+
+-- a unification that is not solved
+pub not_solved : (S : VarName → Option Tree) (l r : Tree) (f : Fault) → (f ≡ Clash → Clashes S l r) → (f ≡ Cycle → Cycles S l r) → (f ≡ Clash) ⊎ (f ≡ Cycle) ⊎ (f ≡ Memory)
+    → (f ≡ Memory) ⊎ ((P : Program) → UnificationAnswers P l r S (refused f))
+not_solved S l r f clash cycle (inl e) = inr (λ P. subst (λ z. UnificationAnswers P l r S (refused z)) (sym e) (UnificationAnswers.clashes (clash e)))
+not_solved S l r f clash cycle (inr (inl e)) = inr (λ P. subst (λ z. UnificationAnswers P l r S (refused z)) (sym e) (UnificationAnswers.cycles (cycle e)))
+not_solved S l r f clash cycle (inr (inr e)) = inl e
 
 module _ (S : VarName → Option Tree) (t : Tree) (b : Expression) where
   -- the fault is want of memory, or the answer to the assignment
@@ -22,12 +29,12 @@ module _ (S : VarName → Option Tree) (t : Tree) (b : Expression) where
   IsAnswer f = (f ≡ Memory) ⊎ ((P : Program) → AssignmentAnswers P t b S (refused f))
 
   pub waiting : (xs : Variables) → HasValue S b (waits xs) → IsAnswer Waits
-  waiting xs w = inr (λ P. inl ((xs, w), refl))
+  waiting xs w = inr (λ P. AssignmentAnswers.waits xs w)
 
   module _ (v : ℤ) (worth : Number (EndsIn S) b v) where
     -- the unification with the value is refused
     pub not_unified : (f : Fault) → (f ≡ Clash → Clashes S t (integer v)) → (f ≡ Cycle → Cycles S t (integer v)) → (f ≡ Clash) ⊎ (f ≡ Cycle) ⊎ (f ≡ Memory) → IsAnswer f
-    not_unified f clash cycle (inl e) = inr (λ P. inr (inr (inl ((v, worth, clash e), ap refused e))))
+    not_unified f clash cycle (inl e) = inr (λ P. subst (λ z. AssignmentAnswers P t b S (refused z)) (sym e) (AssignmentAnswers.clashes v worth (clash e)))
     not_unified f clash cycle (inr (inl e)) = absurd (no_cycle S t v (cycle e))
     not_unified f clash cycle (inr (inr e)) = inl e
 

@@ -1,13 +1,14 @@
 -- From the verdicts of clauses to the answer of a call.
-use Rattle.std.proofs.Common.{◌≡◌, ℕ, zero, suc, Bool, true, false, ◌+◌, ◌<◌, List, [], ◌∷◌, ◌++◌, length, take, slice_index_or, refl, sym, ap, subst, inl, inr, ◌⊎◌, arith}
+use Rattle.std.proofs.Common.{◌≡◌, ℕ, Bool, true, false, ◌+◌, ◌<◌, List, [], ◌∷◌, ◌++◌, length, take, slice_index_or, refl, sym, ap, ◌∙◌, subst, inl, inr, arith}
 use Rattle.std.specs.Prelude.{Option, Some, None, IsSome, IfNone}
 use Rattle.std.specs.List.Sorted.{IsStrictlyIncreasing}
-use Rattle.std.proofs.lemmas.List.{take_more}
+use Rattle.std.proofs.lemmas.List.{get_or_default, get_or-take, length-take-le, take_more}
 use Rattle.std.proofs.lemmas.List.Kept.{AllPairs-from_increasing}
 use Rattle.ghc_term.specs.declared.var_name.VarName.{VarName}
-use Rattle.ghc_term.specs.declared.fault.Fault.TheVariants.{Waits, NoMatch}
+use Rattle.ghc_term.specs.declared.fault.Fault.TheVariants.{NoClause, Waits, NoMatch}
 use Rattle.ghc_term.specs.Tree.{Tree}
 use Rattle.ghc_term.specs.Lists.{In}
+use Rattle.ghc_term.proofs.ListsLemmas.{in_contains, in_get, in_left, in_last, in_more}
 use Rattle.ghc_flat.specs.Clause.{Clause, Program, IsClause, IsFor}
 use Rattle.ghc_flat.specs.Numbers.{AreNumbersFor}
 use Rattle.ghc_match.specs.Match.{Accepts, Refuses, WaitsFor}
@@ -19,48 +20,17 @@ use Rattle.ghc_fire.specs.Attempt.{proposes, refused, SomeAccepts, CallAnswers, 
 use Rattle.ghc_fire.specs.Calls.{HasVerdict}
 use Rattle.ghc_fire.proofs.Steps.{clause_once}
 
--- one more element at the end
-in_more : {X : Type 0} (xs : List X) (x y : X) → In y (xs ++ x ∷ []) → In y xs ⊎ (y ≡ x)
-in_more [] x y (inl e) = inr e
-in_more [] x y (inr i) = absurd i
-in_more (z ∷ xs) x y (inl e) = inl (inl e)
-in_more (z ∷ xs) x y (inr i) = elim (in_more xs x y i) [ inl j ↦ inl (inr j) | inr e ↦ inr e ]
-
-in_front : {X : Type 0} (xs : List X) (x y : X) → In y xs → In y (xs ++ x ∷ [])
-in_front [] x y i = absurd i
-in_front (z ∷ xs) x y (inl e) = inl e
-in_front (z ∷ xs) x y (inr i) = inr (in_front xs x y i)
-
-in_last : {X : Type 0} (xs : List X) (x : X) → In x (xs ++ x ∷ [])
-in_last [] x = inl refl
-in_last (z ∷ xs) x = inr (in_last xs x)
-
--- the number at an index is one of the numbers
-at_in : (ks : List ℕ) (i k : ℕ) → i < length ks → slice_index_or ks i 0 ≡ k → In k ks
-at_in [] i k l e = absurd (omega arith)
-at_in (j ∷ ks) zero k l e = inl (sym e)
-at_in (j ∷ ks) (suc i) k l e = inr (at_in ks i k (omega arith) e)
-
--- each number of the list stands at an index
-index_of : (ks : List ℕ) (j : ℕ) → In j ks → (i : ℕ) × (i < length ks) × (slice_index_or ks i 0 ≡ j)
-index_of [] j h = absurd h
-index_of (k ∷ ks) j (inl e) = (0, omega arith, sym e)
-index_of (k ∷ ks) j (inr h) = let rest = index_of ks j h in (suc rest.0, omega (arith, rest.1), rest.2)
-
-taken_in : (ks : List ℕ) (n i j : ℕ) → i < n → i < length ks → slice_index_or ks i 0 ≡ j → In j (take n ks)
-taken_in [] n i j l h e = absurd (omega arith)
-taken_in (k ∷ ks) zero i j l h e = absurd (omega arith)
-taken_in (k ∷ ks) (suc n) zero j l h e = inl (sym e)
-taken_in (k ∷ ks) (suc n) (suc i) j l h e = inr (taken_in ks n i j (omega arith) (omega arith) e)
-
 -- in a list that goes up, a lower number stands before
 pub lower_before : (ks : List ℕ) → IsStrictlyIncreasing ks → (i k j : ℕ) → i < length ks → slice_index_or ks i 0 ≡ k → j < k → In j ks → In j (take i ks)
 lower_before ks up i k j l e lower h =
-    let m = index_of ks j h in
-    let no_more : ¬ (i < m.0) = λ behind. let climbs = AllPairs-from_increasing ks up i m.0 0 behind m.1 in omega (arith, climbs, e, m.2, lower) in
-    let no_same : ¬ (m.0 ≡ i) = λ same. let number = ap (λ a. slice_index_or ks a 0) same in omega (arith, number, e, m.2, lower) in
+    let m = in_contains ks j h in
+    let there : slice_index_or ks m.0 0 ≡ j = get_or_default ks m.0 0 j m.1 ∙ m.2 in
+    let no_more : ¬ (i < m.0) = λ behind. let climbs = AllPairs-from_increasing ks up i m.0 0 behind m.1 in omega (arith, climbs, e, there, lower) in
+    let no_same : ¬ (m.0 ≡ i) = λ same. let number = ap (λ a. slice_index_or ks a 0) same in omega (arith, number, e, there, lower) in
     let before : m.0 < i = omega (arith, no_more, no_same) in
-    taken_in ks i m.0 j before m.1 m.2
+    let taken : slice_index_or (take i ks) m.0 0 ≡ j = get_or-take i ks m.0 0 before ∙ there in
+    let long : length (take i ks) ≡ i = length-take-le i ks (omega (arith, l)) in
+    subst (λ n. In n (take i ks)) taken (in_get (take i ks) m.0 0 (omega (arith, before, long)))
 
 module _ (P : Program) (f : List ℕ) (ts : List Tree) (S : VarName → Option Tree) where
   -- one of the clauses of these numbers waits
@@ -86,7 +56,7 @@ module _ (P : Program) (f : List ℕ) (ts : List Tree) (S : VarName → Option T
   pub one_refuses : (ks : List ℕ) (w : Bool) (k : ℕ) (c : Clause) → NoneTaken ks w → IsClause P k c → Refuses c ts S → NoneTaken (ks ++ k ∷ []) w
   one_refuses ks w k c n ic r = record {
     none = none_more ks w k c n ic (λ a. accepts_refuses c ts S a r);
-    waits = λ e. let o = n.waits e in (o.0, o.1, in_front ks k o.0 o.2, o.3, o.4);
+    waits = λ e. let o = n.waits e in (o.0, o.1, in_left ks (k ∷ []) o.0 o.2, o.3, o.4);
     idle = λ e o. elim (in_more ks k o.0 o.2) [
       | inl h ↦ n.idle e (o.0, o.1, h, o.3, o.4)
       | inr s ↦ let same = clause_once P (subst (λ z. IsClause P z o.1) s o.3) ic in refuses_waits c ts S r o.4.0 (subst (λ z. WaitsFor z ts S o.4.0) same o.4.1)
@@ -109,33 +79,31 @@ module _ (P : Program) (f : List ℕ) (ts : List Tree) (S : VarName → Option T
       let o = n.waits refl in
       let found = (numbers.«exactly» o.0).0 o.2 in
       let is : IsFor f ts o.1 = subst (IsFor f ts) (clause_once P found.1 o.3) (found.2, found.3) in
-      inr (inl (nobody ks true numbers n, (o.4.0, (o.0, o.1, o.3, is, o.4.1)), refl))
+      CallAnswers.waits (nobody ks true numbers n) (o.0, o.1, o.3, is, o.4.1)
 
   pub all_refuse : (ks : List ℕ) → AreNumbersFor P f (length ts) ks → NoneTaken ks false → CallAnswers P f ts S (refused NoMatch)
   all_refuse ks numbers n =
-      inr (inr (nobody ks false numbers n, (λ x s. n.idle refl (s.0, s.1, (numbers.«exactly» s.0).1 (s.1, s.2, s.3.0, s.3.1), s.2, (x, s.4))), refl))
+      CallAnswers.no_match (nobody ks false numbers n) (λ x s. n.idle refl (s.0, s.1, (numbers.«exactly» s.0).1 (s.1, s.2, s.3.0, s.3.1), s.2, (x, s.4)))
 
   -- where none before it is taken, the clause that accepts is the least
   pub least_reduces : (ks : List ℕ) (w : Bool) (i k : ℕ) (c : Clause) (e : Effect) → AreNumbersFor P f (length ts) ks → NoneTaken (take i ks) w → i < length ks → slice_index_or ks i 0 ≡ k → IsClause P k c → IsFor f ts c
       → HasVerdict c ts S (verdict.Reduces e) → CallAnswers P f ts S (proposes (by_clause k) e)
-  least_reduces ks w i k c e numbers n l at ic is v = inl (
-    k,
-    e,
-    (
-      (c, ic, is, v.0),
-      λ j d less id for a. n.none j d (lower_before ks numbers.increasing i k j l at less ((numbers.«exactly» j).1 (d, id, for.0, for.1))) id a,
-    ),
-    v.1 P f k ic is,
-    refl,
-  )
+  least_reduces ks w i k c e numbers n l at ic is v =
+      CallAnswers.by_least
+      ((c, ic, is, v.0), λ j d less id for a. n.none j d (lower_before ks numbers.increasing i k j l at less ((numbers.«exactly» j).1 (d, id, for.0, for.1))) id a)
+      (v.1 P f k ic is)
 
   -- a clause that is chosen reduces the call
   pub chosen_reduces : (k : ℕ) (c : Clause) (e : Effect) → IsClause P k c → IsFor f ts c → HasVerdict c ts S (verdict.Reduces e) → ChoiceAnswers P f ts k S (proposes (by_clause k) e)
-  chosen_reduces k c e ic is v = inr (c, ic, is, inl (e, v.1 P f k ic is, refl))
+  chosen_reduces k c e ic is v = ChoiceAnswers.by_choice (v.1 P f k ic is)
+
+-- where a clause has the number chosen and is for the call, the answer is not that there is none
+pub has_clause : (P : Program) (f : List ℕ) (ts : List Tree) (S : VarName → Option Tree) (k : ℕ) (c : Clause) → IsClause P k c → IsFor f ts c → ¬ ChoiceAnswers P f ts k S (refused NoClause)
+has_clause P f ts S k c ic is (ChoiceAnswers.no_clause none) = none c ic is
 
 -- a number in the index is that of a clause for the call
 pub numbered_for : (P : Program) (f : List ℕ) (n : ℕ) (ks : List ℕ) → AreNumbersFor P f n ks → (i k : ℕ) → i < length ks → slice_index_or ks i 0 ≡ k → (c : Clause) × IsClause P k c × (c.name ≡ f) × (length c.head ≡ n)
-numbered_for P f n ks numbers i k l e = (numbers.«exactly» k).0 (at_in ks i k l e)
+numbered_for P f n ks numbers i k l e = (numbers.«exactly» k).0 (subst (λ j. In j ks) e (in_get ks i 0 l))
 
 -- one number more is looked at
 pub take_number : (ks : List ℕ) (i : ℕ) → i < length ks → take i ks ++ slice_index_or ks i 0 ∷ [] ≡ take (i + 1) ks

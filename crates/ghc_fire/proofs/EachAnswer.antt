@@ -9,6 +9,8 @@ use Rattle.ghc_term.specs.Goal.{call, unify, assign, stream}
 use Rattle.ghc_term.specs.Bindings.{Leads, at_integer, Reaches, here, through, IsAcyclic}
 use Rattle.ghc_term.specs.Store.{StoreValue, value_at}
 use Rattle.ghc_term.proofs.Chains.{leads_once}
+use Rattle.ghc_term.proofs.Decided.{Decided}
+use Rattle.ghc_term.proofs.ListsLemmas.{in_at}
 use Rattle.ghc_flat.specs.Clause.{Clause, Program, IsClause, IsFor}
 use Rattle.ghc_flat.specs.Flat.{IsProgram}
 use Rattle.ghc_match.specs.Value.{Value, number, waits as waits_on, bad, HasValue}
@@ -24,7 +26,7 @@ use Rattle.ghc_fire.specs.declared.act.Act.TheVariants.{ByClause as by_clause, U
 use Rattle.ghc_fire.specs.Effect.{Effect, HasEffect, no_step}
 use Rattle.ghc_fire.specs.Attempt.{Answer, proposes, refused, SomeAccepts, CallAnswers, ChoiceAnswers, UnificationAnswers, AssignmentAnswers}
 use Rattle.ghc_fire.specs.Laws.{EachAttemptHasAnAnswer}
-use Rattle.ghc_fire.proofs.EachEffect.{clause_in, clause_decided, reduced, united, made_equal}
+use Rattle.ghc_fire.proofs.EachEffect.{clause_decided, reduced, united, made_equal}
 use Rattle.ghc_fire.proofs.Steps.{clause_once}
 
 -- of the numbers below n, the least that has Q, or none has
@@ -95,7 +97,7 @@ module _ (P : Program) (accepted : IsProgram P) (s : StoreValue) (acyclic : IsAc
   S = value_at s
 
   outcome : (c : Clause) (ts : List Tree) (k : ℕ) → IsClause P k c → (o : Outcome) × HasOutcome c ts S o
-  outcome c ts k ic = each_outcome c ts s (accepted c (clause_in P ic.0 c ic.2)).linear acyclic
+  outcome c ts k ic = each_outcome c ts s (accepted c (in_at P ic.0 c ic.2)).linear acyclic
 
   module _ (f : List ℕ) (ts : List Tree) where
     -- clause k is for the call, and accepts it, or waits
@@ -149,43 +151,43 @@ module _ (P : Program) (accepted : IsProgram P) (s : StoreValue) (acyclic : IsAc
       | inl k ↦
           let c = k.1 in
           let e = fires k.0 c.0 c.1 c.2 c.3 in
-          (proposes (by_clause k.0) e.0, inl (k.0, e.0, (k.1, λ j d l ic is a. k.2 j l (d, ic, is, a)), e.1, refl))
+          (proposes (by_clause k.0) e.0, CallAnswers.by_least (k.1, λ j d l ic is a. k.2 j l (d, ic, is, a)) e.1)
       | inr none ↦
           let nobody : ¬ SomeAccepts P f ts S = λ a. none a.0 (in_program a.0 a.1 a.2) (a.1, a.2, a.3, a.4) in
           elim (least WaitsAt waits_at (suc (length P))) [
-            | inl k ↦ let c = k.1 in (refused Waits, inr (inl (nobody, (c.3.0, (k.0, c.0, c.1, c.2, c.3.1)), refl)))
-            | inr idle ↦ (refused NoMatch, inr (inr (nobody, (λ x w. idle w.0 (in_program w.0 w.1 w.2) (w.1, w.2, w.3, (x, w.4))), refl)))
+            | inl k ↦ let c = k.1 in (refused Waits, CallAnswers.waits nobody (k.0, c.0, c.1, c.2, c.3.1))
+            | inr idle ↦ (refused NoMatch, CallAnswers.no_match nobody (λ x w. idle w.0 (in_program w.0 w.1 w.2) (w.1, w.2, w.3, (x, w.4))))
           ]
     ]
 
     choice_answer : (k : ℕ) → (a : Answer) × ChoiceAnswers P f ts k S a
     choice_answer k = elim (clause_decided P f ts k) [
-      | inr none ↦ (refused NoClause, inl ((λ c ic is. none (c, ic, is)), refl))
+      | inr none ↦ (refused NoClause, ChoiceAnswers.no_clause (λ c ic is. none (c, ic, is)))
       | inl c ↦ let o = outcome c.0 ts k c.1 in by c.0 c.1 c.2 o.0 o.1
     ] where
       by : (c : Clause) → IsClause P k c → IsFor f ts c → (o : Outcome) → HasOutcome c ts S o → (a : Answer) × ChoiceAnswers P f ts k S a
-      by c ic is refuses h = (refused NoMatch, inr (c, ic, is, inr (inr (h, refl))))
-      by c ic is (waits xs) h = (refused Waits, inr (c, ic, is, inr (inl (h.1, refl))))
-      by c ic is (accepts theta reads) h = let e = reduced P no_step s acyclic f ts k c theta reads ic is h in (proposes (by_clause k) e.0, inr (c, ic, is, inl (e.0, e.1, refl)))
+      by c ic is refuses h = (refused NoMatch, ChoiceAnswers.no_match ic is h)
+      by c ic is (waits xs) h = (refused Waits, ChoiceAnswers.waits ic is h.1.1)
+      by c ic is (accepts theta reads) h = let e = reduced P no_step s acyclic f ts k c theta reads ic is h in (proposes (by_clause k) e.0, ChoiceAnswers.by_choice e.1)
 
   unification_answer : (l r : Tree) → (a : Answer) × UnificationAnswers P l r S a
   unification_answer l r = let e = each_ending s l r acyclic in by e.0 e.1 where
     by : (o : Ending) → HasEnding S l r o → (a : Answer) × UnificationAnswers P l r S a
-    by (solved binds reads) h = let e = united P no_step s acyclic l r binds reads h in (proposes unified e.0, inl (e.0, e.1, refl))
-    by clash h = (refused Clash, inr (inl (h, refl)))
-    by cycle h = (refused Cycle, inr (inr (h, refl)))
+    by (solved binds reads) h = let e = united P no_step s acyclic l r binds reads h in (proposes unified e.0, UnificationAnswers.solves e.1)
+    by clash h = (refused Clash, UnificationAnswers.clashes h)
+    by cycle h = (refused Cycle, UnificationAnswers.cycles h)
 
   assignment_answer : (t : Tree) (b : Expression) → (a : Answer) × AssignmentAnswers P t b S a
   assignment_answer t b = let v = each_value s b acyclic in by v.0 v.1 where
     with_value : (v : ℤ) → HasValue S b (number v) → (o : Ending) → HasEnding S t (integer v) o → (a : Answer) × AssignmentAnswers P t b S a
-    with_value v k (solved binds rest) h = let e = made_equal P no_step s acyclic t b v binds rest k h in (proposes assigned e.0, inr (inr (inr (e.0, e.1, refl))))
-    with_value v k clash h = (refused Clash, inr (inr (inl ((v, k, h), refl))))
+    with_value v k (solved binds rest) h = let e = made_equal P no_step s acyclic t b v binds rest k h in (proposes assigned e.0, AssignmentAnswers.assigns e.1)
+    with_value v k clash h = (refused Clash, AssignmentAnswers.clashes v k h)
     with_value v k cycle h = absurd (no_cycle S t v h)
 
     by : (v : Value) → HasValue S b v → (a : Answer) × AssignmentAnswers P t b S a
     by (number v) k = let e = each_ending s t (integer v) acyclic in with_value v k e.0 e.1
-    by (waits_on xs) w = (refused Waits, inl ((xs, w), refl))
-    by bad w = (refused Arithmetic, inr (inl (w, refl)))
+    by (waits_on xs) w = (refused Waits, AssignmentAnswers.waits xs w)
+    by bad w = (refused Arithmetic, AssignmentAnswers.has_no_value w)
 
 pub each_answer : EachAttemptHasAnAnswer
 each_answer P s None choice accepted acyclic = (refused NoGoal, refl)

@@ -1,7 +1,6 @@
 -- Each act on a goal has an effect in an acyclic finite store, or has none.
 use Rattle.std.proofs.Common.{◌≡◌, ℕ, suc, zero, ℤ, List, [], ◌∷◌, length, refl, sym, ◌∙◌, subst, inl, inr, ◌⊎◌, arith}
 use Rattle.std.specs.Prelude.{Option, Some, None, slice_get}
-use Rattle.std.proofs.Math.Decide.{ℕ_discrete}
 use Rattle.std.specs.FinMap as finite
 use Rattle.std.specs.FinSet as set
 use Rattle.std.specs.Coded.{coded_list, coded_ℕ}
@@ -14,8 +13,9 @@ use Rattle.ghc_term.specs.Sets.{Variables}
 use Rattle.ghc_term.specs.Bindings.{Leads, Comes, IsAcyclic}
 use Rattle.ghc_term.specs.Store.{StoreValue, value_at}
 use Rattle.ghc_term.proofs.Chains.{leads_once}
+use Rattle.ghc_term.proofs.Decided.{Decided, nat_decided, same_decided}
+use Rattle.ghc_term.proofs.ListsLemmas.{in_at}
 use Rattle.ghc_term.proofs.Total.{chain}
-use Rattle.ghc_term.proofs.Decided.{Decided}
 use Rattle.ghc_flat.specs.Clause.{Clause, Program, IsClause, IsFor}
 use Rattle.ghc_flat.specs.Flat.{IsProgram}
 use Rattle.ghc_flat.specs.Variables.{leaf_variables, fresh_variables}
@@ -35,19 +35,13 @@ use Rattle.ghc_unify.proofs.LawProofs.{one_ending}
 use Rattle.ghc_fire.specs.declared.act.Act.TheVariants.{ByClause as by_clause, Unified as unified, Assigned as assigned, Given as given, Closed as closed}
 use Rattle.ghc_fire.specs.Instance.{made, body_made}
 use Rattle.ghc_fire.specs.Effect.{Effect, IsOnChainsOf, Reduces, Unites, Assigns, Feeds, Closes, HasEffect}
+use Rattle.ghc_fire.specs.EffectCode.{effect_code}
 use Rattle.ghc_fire.specs.Laws.{EachActHasAnEffectOrNone, EachEffectIsDecided}
-use Rattle.ghc_fire.proofs.Codes.{same_decided, effect_code}
 use Rattle.ghc_fire.proofs.Steps.{clause_once, effect_once}
 
 -- something has P, or nothing has it
 abbrev pub SomeOrNone : {X : Type 0} → (X → Type 0) → Type 0
 SomeOrNone {X} P = ((x : X) × P x) ⊎ ((x : X) → ¬ P x)
-
--- a clause of the program
-pub clause_in : (P : Program) (i : ℕ) (c : Clause) → slice_get P i ≡ Some c → In c P
-clause_in [] i c e = let no_clause : None ≡ Some c = e in cc
-clause_in (d ∷ P) zero c e = let same : d ≡ c = cc in inl (sym same)
-clause_in (d ∷ P) (suc i) c e = inr (clause_in P i c e)
 
 -- clause k is there for the call, or is not
 pub clause_decided : (P : Program) (f : List ℕ) (ts : List Tree) (k : ℕ) → Decided ((c : Clause) × IsClause P k c × IsFor f ts c)
@@ -63,9 +57,9 @@ clause_decided P f ts (suc i) =
           let here : IsClause P (suc i) c = (i, omega arith, e) in
           elim (same_decided (coded_list coded_ℕ) c.name f) [
             | inr n ↦ inr (λ h. n (subst (λ d. d.name ≡ f) (clause_once P h.1 here) h.2.0))
-            | inl p ↦ elim (ℕ_discrete (length c.head) (length ts)) [
-              | no n ↦ inr (λ h. n (subst (λ d. length d.head ≡ length ts) (clause_once P h.1 here) h.2.1))
-              | yes q ↦ inl (c, here, (p, q))
+            | inl p ↦ elim (nat_decided (length c.head) (length ts)) [
+              | inr n ↦ inr (λ h. n (subst (λ d. length d.head ≡ length ts) (clause_once P h.1 here) h.2.1))
+              | inl q ↦ inl (c, here, (p, q))
             ]
           ]
     ] refl
@@ -97,7 +91,7 @@ module _ (P : Program) (n : ℕ) (s : StoreValue) (acyclic : IsAcyclic (value_at
   of_call : IsProgram P → (f : List ℕ) (ts : List Tree) (k : ℕ) → SomeOrNone (Reduces P f ts k n S)
   of_call accepted f ts k = elim (clause_decided P f ts k) [
     | inr none ↦ inr (λ e h. none (h.0, h.2, h.3))
-    | inl c ↦ let o = each_outcome c.0 ts s (accepted c.0 (clause_in P c.1.0 c.0 c.1.2)).linear acyclic in by c.0 c.1 c.2 o.0 o.1
+    | inl c ↦ let o = each_outcome c.0 ts s (accepted c.0 (in_at P c.1.0 c.0 c.1.2)).linear acyclic in by c.0 c.1 c.2 o.0 o.1
   ] where
     other : (c : Clause) (o : Outcome) → IsClause P k c → HasOutcome c ts S o → ((theta : StoreValue) (reads : Variables) → ¬ (o ≡ accepts theta reads)) → (e : Effect) → ¬ Reduces P f ts k n S e
     other c o ic h differs e r = differs r.1 e.reads (outcomes_exclude c ts S o (accepts r.1 e.reads) h (subst (λ d. HasOutcome d ts S (accepts r.1 e.reads)) (clause_once P r.2 ic) r.4))

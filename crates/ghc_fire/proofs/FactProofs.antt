@@ -10,7 +10,7 @@ use Rattle.ghc_term.specs.Bindings.{at_node, along, Reaches, here, through, now,
 use Rattle.ghc_term.proofs.Names.{name_total, name_antisymmetric}
 use Rattle.ghc_flat.specs.Clause.{Clause}
 use Rattle.ghc_flat.specs.Variables.{fresh_variables}
-use Rattle.ghc_flat.specs.Samples.{asked, v, store, append_nothing, append_cell, appends}
+use Rattle.ghc_flat.specs.Samples.{asked, v, store, append_nothing, append_cell}
 use Rattle.ghc_match.specs.Position as position
 use Rattle.ghc_match.specs.Match.{HasOutcome, accepts}
 use Rattle.ghc_match.proofs.OutcomesByPlaces.{accepts_by, stands_at, stands_value}

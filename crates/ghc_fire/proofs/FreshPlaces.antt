@@ -11,9 +11,8 @@ use Rattle.ghc_term.specs.Bindings.{name_cmp}
 use Rattle.ghc_term.specs.Lists.{In}
 use Rattle.ghc_term.specs.Tree.{Tree}
 use Rattle.ghc_term.specs.Store.{StoreValue, value_at}
-use Rattle.ghc_term.proofs.Entries.{same_is}
-use Rattle.ghc_term.proofs.Searches.{same_itself}
-use Rattle.ghc_term.proofs.Total.{same_name}
+use Rattle.ghc_term.proofs.ListsLemmas.{in_at, at_of_in}
+use Rattle.ghc_term.proofs.Names.{same_name, itself}
 use Rattle.ghc_flat.specs.Clause.{Clause}
 use Rattle.ghc_flat.specs.Flat.{AreDistinct, IsWellMade}
 use Rattle.ghc_flat.specs.Samples.{asked}
@@ -24,17 +23,6 @@ use Rattle.ghc_fire.specs.Places.{last_place}
 use Rattle.ghc_fire.specs.Renaming.{AreBehindHead}
 use Rattle.ghc_fire.proofs.Origins.{firsts_have}
 use Rattle.ghc_fire.proofs.Places.{place_of_in, place_below}
-
--- what stands in a list has an index
-index_of : (xs : List VarName) (y : VarName) → In y xs → (i : ℕ) × (slice_get xs i ≡ Some y)
-index_of [] y i = absurd i
-index_of (x ∷ xs) y (inl e) = (0, ap Some (sym e))
-index_of (x ∷ xs) y (inr i) = let rest = index_of xs y i in (suc rest.0, rest.1)
-
-in_at : (xs : List VarName) (i : ℕ) (y : VarName) → slice_get xs i ≡ Some y → In y xs
-in_at [] i y e = let clash : None ≡ Some y = e in cc
-in_at (x ∷ xs) zero y e = let same : y ≡ x = cc in inl same
-in_at (x ∷ xs) (suc i) y e = inr (in_at xs i y e)
 
 -- the first occurrences are occurrences
 firsts_in : (seen xs : List VarName) (y : VarName) → In y (firsts seen xs) → In y xs
@@ -62,7 +50,7 @@ head_place c ok y i =
     let head = variables_of_list c.head in
     let tests = variables_of_tests c.tests in
     let body = variables_of_goals c.body in
-    let j = index_of head y i in
+    let j = at_of_in head y i in
     let first = front_first head [] (tests ++ body) ok.linear (λ z k l. l) j.0 y j.1 in
     let name : y ≡ asked (j.0 + 1) = ok.numbered j.0 y (ap (λ l. slice_get (firsts [] l) j.0) (append_assoc head tests body) ∙ first) in
     let place : y.place ≡ j.0 + 1 = ap (λ (z : VarName). z.place) name in
@@ -83,7 +71,7 @@ place_got xs y i =
           | true ↦ λ p. ap Some (sym (same_name y x p))
           | false ↦ λ p. elim i [
             | inl e ↦
-                let yes : eq_by_cmp name_cmp y x ≡ true = ap (eq_by_cmp name_cmp y) (sym e) ∙ (sym (same_is y y) ∙ same_itself y) in
+                let yes : eq_by_cmp name_cmp y x ≡ true = ap (eq_by_cmp name_cmp y) (sym e) ∙ itself y in
                 let clash : true ≡ false = sym yes ∙ p in
                 cc
             | inr j ↦ found xs j

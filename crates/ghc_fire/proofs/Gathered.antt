@@ -10,7 +10,7 @@ use Rattle.ghc_term.specs.Bindings.{Leads, at_integer, at_node}
 use Rattle.ghc_term.specs.Sets.{Variables}
 use Rattle.ghc_term.proofs.Chains.{leads_once}
 use Rattle.ghc_term.proofs.ListsLemmas.{in_left, in_right, in_either}
-use Rattle.ghc_term.proofs.SetsLemmas.{one_inserted as inserted}
+use Rattle.ghc_term.proofs.SetsLemmas.{one_inserted}
 use Rattle.ghc_match.specs.Meeting.{Gains}
 use Rattle.ghc_fire.specs.Effect.{IsOnChainsOf}
 
@@ -63,11 +63,11 @@ module _ (S : VarName → Option Tree) where
 -- one variable more is added
 pub gains_one : (old mid : Variables) (ys : List VarName) (y : VarName) (new : Variables) → Gains old mid (λ x. In x ys) → new ≡ set.insert mid y → Gains old new (λ x. In x (ys ++ y ∷ []))
 gains_one old mid ys y new g e x = (
-  λ c. elim ((inserted mid y x).0 (subst (λ s. IsTrue (set.contains s x)) e c)) [
+  λ c. elim ((one_inserted mid y x).0 (subst (λ s. IsTrue (set.contains s x)) e c)) [
     | inl d ↦ elim ((g x).0 d) [ inl a ↦ inl a | inr i ↦ inr (in_left ys (y ∷ []) x i) ]
     | inr same ↦ inr (in_right ys (y ∷ []) x (inl same))
   ],
-  λ h. subst (λ s. IsTrue (set.contains s x)) (sym e) ((inserted mid y x).1 (elim h [
+  λ h. subst (λ s. IsTrue (set.contains s x)) (sym e) ((one_inserted mid y x).1 (elim h [
     | inl a ↦ inl ((g x).1 (inl a))
     | inr i ↦ elim (in_either ys (y ∷ []) x i) [
       | inl j ↦ inl ((g x).1 (inr j))

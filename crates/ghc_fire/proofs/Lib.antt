@@ -2,7 +2,6 @@ pub mod Steps
 pub mod Tries
 pub mod FactProofs
 pub mod Origins
-pub mod Codes
 pub mod EachEffect
 pub mod EachAnswer
 pub mod Ordered

@@ -13,11 +13,11 @@ use Rattle.ghc_term.specs.Goal.{Goal, call, unify, assign, stream}
 use Rattle.ghc_term.specs.Lists.{In}
 use Rattle.ghc_term.specs.Bindings.{Leads, at_integer, at_node, at_free, along, Comes, now, on, IsAcyclic, name_cmp, with_binding}
 use Rattle.ghc_term.specs.Store.{StoreValue, value_at}
-use Rattle.ghc_term.proofs.Searches.{In_append, In_append_right, In_either}
+use Rattle.ghc_term.proofs.ListsLemmas.{in_left, in_right, in_either, in_at}
+use Rattle.ghc_term.proofs.SetsLemmas.{any_in}
 use Rattle.ghc_term.proofs.Names.{name_total}
 use Rattle.ghc_term.proofs.Total.{chain, same_name}
-use Rattle.ghc_term.proofs.SetsLemmas.{any_in}
-use Rattle.ghc_flat.specs.Clause.{Clause, Program, IsClause}
+use Rattle.ghc_flat.specs.Clause.{Clause, Program}
 use Rattle.ghc_flat.specs.Flat.{is_stream, IsProgram}
 use Rattle.ghc_flat.specs.Variables.{variables, variables_of_all, variables_of_list, variables_of_expression, variables_of_goal, variables_of_goals, firsts, fresh_variables}
 use Rattle.ghc_match.specs.Position.{At, here, down, unbound}
@@ -42,8 +42,8 @@ mutual
 
   occurs_in_all : (ts : Trees) (x : VarName) → OccursIn x ts → In x (variables_of_all ts)
   occurs_in_all none x o = absurd o
-  occurs_in_all (more t ts) x (inl o) = In_append (variables t) (variables_of_all ts) x (occurs_in t x o)
-  occurs_in_all (more t ts) x (inr o) = In_append_right (variables t) (variables_of_all ts) x (occurs_in_all ts x o)
+  occurs_in_all (more t ts) x (inl o) = in_left (variables t) (variables_of_all ts) x (occurs_in t x o)
+  occurs_in_all (more t ts) x (inr o) = in_right (variables t) (variables_of_all ts) x (occurs_in_all ts x o)
 
 mutual
   pub in_occurs : (t : Tree) (x : VarName) → In x (variables t) → Occurs x t
@@ -54,16 +54,16 @@ mutual
 
   in_occurs_all : (ts : Trees) (x : VarName) → In x (variables_of_all ts) → OccursIn x ts
   in_occurs_all none x i = absurd i
-  in_occurs_all (more t ts) x i = elim (In_either (variables t) (variables_of_all ts) x i) [ inl j ↦ inl (in_occurs t x j) | inr j ↦ inr (in_occurs_all ts x j) ]
+  in_occurs_all (more t ts) x i = elim (in_either (variables t) (variables_of_all ts) x i) [ inl j ↦ inl (in_occurs t x j) | inr j ↦ inr (in_occurs_all ts x j) ]
 
 list_occurs : (ts : Trees) (x : VarName) → In x (variables_of_list (list_of ts)) → OccursIn x ts
 list_occurs none x i = absurd i
-list_occurs (more t ts) x i = elim (In_either (variables t) (variables_of_list (list_of ts)) x i) [ inl j ↦ inl (in_occurs t x j) | inr j ↦ inr (list_occurs ts x j) ]
+list_occurs (more t ts) x i = elim (in_either (variables t) (variables_of_list (list_of ts)) x i) [ inl j ↦ inl (in_occurs t x j) | inr j ↦ inr (list_occurs ts x j) ]
 
 got_in : (ts : List Tree) (i : ℕ) (t : Tree) (x : VarName) → slice_get ts i ≡ Some t → Occurs x t → In x (variables_of_list ts)
 got_in [] i t x e o = let clash : None ≡ Some t = e in cc
-got_in (u ∷ ts) zero t x e o = let same : t ≡ u = cc in In_append (variables u) (variables_of_list ts) x (occurs_in u x (subst (Occurs x) same o))
-got_in (u ∷ ts) (suc i) t x e o = In_append_right (variables u) (variables_of_list ts) x (got_in ts i t x e o)
+got_in (u ∷ ts) zero t x e o = let same : t ≡ u = cc in in_left (variables u) (variables_of_list ts) x (occurs_in u x (subst (Occurs x) same o))
+got_in (u ∷ ts) (suc i) t x e o = in_right (variables u) (variables_of_list ts) x (got_in ts i t x e o)
 
 -- Q holds of the variables of the tree
 abbrev pub Inside : (VarName → Type 0) → Tree → Type 0
@@ -193,17 +193,17 @@ mutual
 expression_replaced : (s : VarName → Tree) (a : Expression) (x : VarName) → In x (variables_of_expression (replace_in_expression s a)) → (y : VarName) × In y (variables_of_expression a) × Occurs x (s y)
 expression_replaced s (leaf t) x i = let r = replaced s t x (in_occurs (replace s t) x i) in (r.0, occurs_in t r.0 r.1, r.2)
 expression_replaced s (operation o a b) x i =
-    elim (In_either (variables_of_expression (replace_in_expression s a)) (variables_of_expression (replace_in_expression s b)) x i) [
-      | inl j ↦ let r = expression_replaced s a x j in (r.0, In_append (variables_of_expression a) (variables_of_expression b) r.0 r.1, r.2)
-      | inr j ↦ let r = expression_replaced s b x j in (r.0, In_append_right (variables_of_expression a) (variables_of_expression b) r.0 r.1, r.2)
+    elim (in_either (variables_of_expression (replace_in_expression s a)) (variables_of_expression (replace_in_expression s b)) x i) [
+      | inl j ↦ let r = expression_replaced s a x j in (r.0, in_left (variables_of_expression a) (variables_of_expression b) r.0 r.1, r.2)
+      | inr j ↦ let r = expression_replaced s b x j in (r.0, in_right (variables_of_expression a) (variables_of_expression b) r.0 r.1, r.2)
     ]
 
 list_replaced : (s : VarName → Tree) (ts : List Tree) (x : VarName) → In x (variables_of_list (map (replace s) ts)) → (y : VarName) × In y (variables_of_list ts) × Occurs x (s y)
 list_replaced s [] x i = absurd i
 list_replaced s (t ∷ ts) x i =
-    elim (In_either (variables (replace s t)) (variables_of_list (map (replace s) ts)) x i) [
-      | inl j ↦ let r = replaced s t x (in_occurs (replace s t) x j) in (r.0, In_append (variables t) (variables_of_list ts) r.0 (occurs_in t r.0 r.1), r.2)
-      | inr j ↦ let r = list_replaced s ts x j in (r.0, In_append_right (variables t) (variables_of_list ts) r.0 r.1, r.2)
+    elim (in_either (variables (replace s t)) (variables_of_list (map (replace s) ts)) x i) [
+      | inl j ↦ let r = replaced s t x (in_occurs (replace s t) x j) in (r.0, in_left (variables t) (variables_of_list ts) r.0 (occurs_in t r.0 r.1), r.2)
+      | inr j ↦ let r = list_replaced s ts x j in (r.0, in_right (variables t) (variables_of_list ts) r.0 r.1, r.2)
     ]
 
 tree_replaced : (s : VarName → Tree) (t : Tree) (x : VarName) → In x (variables (replace s t)) → (y : VarName) × In y (variables t) × Occurs x (s y)
@@ -216,14 +216,14 @@ IsPlain g = is_stream g ≡ false
 goal_replaced : (s : VarName → Tree) (g : Goal) (x : VarName) → IsPlain g → In x (variables_of_goal (replace_in_goal s g)) → (y : VarName) × In y (variables_of_goal g) × Occurs x (s y)
 goal_replaced s (call f ts) x p i = list_replaced s ts x i
 goal_replaced s (unify l r) x p i =
-    elim (In_either (variables (replace s l)) (variables (replace s r)) x i) [
-      | inl j ↦ let o = tree_replaced s l x j in (o.0, In_append (variables l) (variables r) o.0 o.1, o.2)
-      | inr j ↦ let o = tree_replaced s r x j in (o.0, In_append_right (variables l) (variables r) o.0 o.1, o.2)
+    elim (in_either (variables (replace s l)) (variables (replace s r)) x i) [
+      | inl j ↦ let o = tree_replaced s l x j in (o.0, in_left (variables l) (variables r) o.0 o.1, o.2)
+      | inr j ↦ let o = tree_replaced s r x j in (o.0, in_right (variables l) (variables r) o.0 o.1, o.2)
     ]
 goal_replaced s (assign t a) x p i =
-    elim (In_either (variables (replace s t)) (variables_of_expression (replace_in_expression s a)) x i) [
-      | inl j ↦ let o = tree_replaced s t x j in (o.0, In_append (variables t) (variables_of_expression a) o.0 o.1, o.2)
-      | inr j ↦ let o = expression_replaced s a x j in (o.0, In_append_right (variables t) (variables_of_expression a) o.0 o.1, o.2)
+    elim (in_either (variables (replace s t)) (variables_of_expression (replace_in_expression s a)) x i) [
+      | inl j ↦ let o = tree_replaced s t x j in (o.0, in_left (variables t) (variables_of_expression a) o.0 o.1, o.2)
+      | inr j ↦ let o = expression_replaced s a x j in (o.0, in_right (variables t) (variables_of_expression a) o.0 o.1, o.2)
     ]
 goal_replaced s (stream k z) x p i = let clash : true ≡ false = p in cc
 
@@ -232,19 +232,11 @@ goals_replaced s [] x p i = absurd i
 goals_replaced s (g ∷ gs) x p i =
     elim (is_stream g) as (λ b. is_stream g ≡ b → cond b (g ∷ filter is_stream gs) (filter is_stream gs) ≡ [] → (y : VarName) × In y (variables_of_goals (g ∷ gs)) × Occurs x (s y)) [
       | true ↦ λ q r. cc
-      | false ↦ λ q r. elim (In_either (variables_of_goal (replace_in_goal s g)) (variables_of_goals (map (replace_in_goal s) gs)) x i) [
-        | inl j ↦ let o = goal_replaced s g x q j in (o.0, In_append (variables_of_goal g) (variables_of_goals gs) o.0 o.1, o.2)
-        | inr j ↦ let o = goals_replaced s gs x r j in (o.0, In_append_right (variables_of_goal g) (variables_of_goals gs) o.0 o.1, o.2)
+      | false ↦ λ q r. elim (in_either (variables_of_goal (replace_in_goal s g)) (variables_of_goals (map (replace_in_goal s) gs)) x i) [
+        | inl j ↦ let o = goal_replaced s g x q j in (o.0, in_left (variables_of_goal g) (variables_of_goals gs) o.0 o.1, o.2)
+        | inr j ↦ let o = goals_replaced s gs x r j in (o.0, in_right (variables_of_goal g) (variables_of_goals gs) o.0 o.1, o.2)
       ]
     ] refl p
-
--- clause k is a clause of the program
-clause_in : (P : Program) (k : ℕ) (c : Clause) → IsClause P k c → In c P
-clause_in P k c ic = at P ic.0 ic.2 where
-  at : (P : Program) (i : ℕ) → slice_get P i ≡ Some c → In c P
-  at [] i e = let clash : None ≡ Some c = e in cc
-  at (d ∷ P) zero e = inl (let same : c ≡ d = cc in same)
-  at (d ∷ P) (suc i) e = inr (at P i e)
 
 listed_again : (hs : List Tree) → hs ≡ list_of (trees hs)
 listed_again [] = refl
@@ -347,7 +339,7 @@ pub stays_inside : (P : Program) (g : Goal) (a : Act) (n : ℕ) (s : StoreValue)
 stays_inside P (call f ts) (by_clause k) n s e Q program acyclic d goal values fresh =
     let c = d.0 in
     let theta = d.1 in
-    let ok = program c (clause_in P k c d.2) in (
+    let ok = program c (in_at P d.2.0 c d.2.2) in (
       λ x t b. absurd (nothing e.binds d.5 x t b),
       λ x i.
           let o = goals_replaced (becomes c theta n) c.body x ok.closed (subst (λ gs. In x (variables_of_goals gs)) d.6 i) in
@@ -366,11 +358,11 @@ stays_inside P (call f ts) (by_clause k) n s e Q program acyclic d goal values f
           (λ t is. at_inside values ((d.4.1 o.0 t).0 is).2 goal x (subst (λ z. Occurs x (unwrap_or z (variable (made n (place_in (fresh_variables c) o.0))))) is o.2)),
     )
 stays_inside P (unify l r) unified n s e Q program acyclic d goal values fresh = (
-  unifies_inside (value_at s) l r e.binds e.reads d.0 values (λ x o. goal x (In_append (variables l) (variables r) x (occurs_in l x o))) (λ x o. goal x (In_append_right (variables l) (variables r) x (occurs_in r x o))),
+  unifies_inside (value_at s) l r e.binds e.reads d.0 values (λ x o. goal x (in_left (variables l) (variables r) x (occurs_in l x o))) (λ x o. goal x (in_right (variables l) (variables r) x (occurs_in r x o))),
   λ x i. absurd (subst (λ gs. In x (variables_of_goals gs)) d.1 i),
 )
 stays_inside P (assign t a) assigned n s e Q program acyclic d goal values fresh = (
-  unifies_inside (value_at s) t (integer d.0) e.binds d.1 d.3 values (λ x o. goal x (In_append (variables t) (variables_of_expression a) x (occurs_in t x o))) (λ x o. absurd o),
+  unifies_inside (value_at s) t (integer d.0) e.binds d.1 d.3 values (λ x o. goal x (in_left (variables t) (variables_of_expression a) x (occurs_in t x o))) (λ x o. absurd o),
   λ x i. absurd (subst (λ gs. In x (variables_of_goals gs)) d.5 i),
 )
 stays_inside P (stream k z) (given u) n s e Q program acyclic d goal values fresh =

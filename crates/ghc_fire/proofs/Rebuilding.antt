@@ -1,7 +1,7 @@
 -- Terms and expressions with their variables replaced, from the inside out.
 use Rattle.std.proofs.Common.{◌≡◌, ℕ, ◌+◌, ◌<◌, List, [], ◌∷◌, ◌++◌, length, get_or, take, map, refl, sym, ap, ◌∙◌, inl, inr}
 use Rattle.std.specs.Borrow.{Bor}
-use Rattle.std.proofs.lemmas.List.{take_more}
+use Rattle.std.proofs.lemmas.List.{map_push, take_more}
 use Rattle.ghc_term.specs.declared.var_name.VarName.{VarName}
 use Rattle.ghc_term.specs.declared.operator.Operator.{Operator}
 use Rattle.ghc_term.specs.declared.view.TermView.{TermView}
@@ -20,10 +20,6 @@ plugged_push (g ∷ fs) f t = ap (λ u. node g.name (trees (g.arguments.items ++
 pub operated_push : (ps : List (Operator × Expression)) (p : Operator × Expression) (a : Expression) → operated (ps ++ p ∷ []) a ≡ operated ps (operation p.0 a p.1)
 operated_push [] p a = refl
 operated_push (q ∷ ps) p a = ap (λ b. operation q.0 b q.1) (operated_push ps p a)
-
-pub map_push : {X Y : Type 0} (f : X → Y) (xs : List X) (x : X) → map f (xs ++ x ∷ []) ≡ map f xs ++ f x ∷ []
-map_push f [] x = refl
-map_push f (y ∷ xs) x = ap (λ l. f y ∷ l) (map_push f xs x)
 
 -- one element more of a list that is mapped
 pub map_more : {X Y : Type 0} (f : X → Y) (xs : List X) (i : ℕ) (x : X) (ys : List Y) (y : Y) → i < length xs → x ≡ get_or xs i x → ys ≡ map f (take i xs) → y ≡ f x → ys ++ y ∷ [] ≡ map f (take (i + 1) xs)

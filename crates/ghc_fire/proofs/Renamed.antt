@@ -8,7 +8,7 @@ use Rattle.ghc_term.specs.Goal.{Goal, call, unify, assign, stream}
 use Rattle.ghc_term.specs.Lists.{In}
 use Rattle.ghc_term.specs.Store.{StoreValue, value_at}
 use Rattle.ghc_term.specs.Variables.{variables, variables_of_all, variables_of_list, variables_of_expression, variables_of_goal, variables_of_goals}
-use Rattle.ghc_term.proofs.Searches.{In_append, In_append_right}
+use Rattle.ghc_term.proofs.ListsLemmas.{in_left, in_right}
 use Rattle.ghc_flat.specs.Clause.{Clause}
 use Rattle.ghc_flat.specs.Variables.{fresh_variables}
 use Rattle.ghc_unify.specs.Solutions.{replace, replace_all}
@@ -20,10 +20,10 @@ module _ (s r : VarName → Tree) where
   Agree xs = (y : VarName) → In y xs → s y ≡ r y
 
   front : (xs ys : List VarName) → Agree (xs ++ ys) → Agree xs
-  front xs ys h y i = h y (In_append xs ys y i)
+  front xs ys h y i = h y (in_left xs ys y i)
 
   rest : (xs ys : List VarName) → Agree (xs ++ ys) → Agree ys
-  rest xs ys h y i = h y (In_append_right xs ys y i)
+  rest xs ys h y i = h y (in_right xs ys y i)
 
   mutual
     in_tree : (t : Tree) → Agree (variables t) → replace s t ≡ replace r t

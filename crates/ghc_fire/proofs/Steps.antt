@@ -15,21 +15,20 @@ use Rattle.ghc_term.specs.Store.{StoreValue, value_at}
 use Rattle.ghc_term.proofs.Names.{name_total}
 use Rattle.ghc_term.proofs.Total.{same_name}
 use Rattle.ghc_term.proofs.Chains.{leads_once, leads_agree}
-use Rattle.ghc_term.proofs.Searches.{In_either}
+use Rattle.ghc_term.proofs.ListsLemmas.{in_either}
 use Rattle.ghc_flat.specs.Clause.{Clause, Program, IsClause}
 use Rattle.ghc_flat.specs.Variables.{leaf_variables, fresh_variables}
 use Rattle.ghc_term.specs.Sets.{Variables}
 use Rattle.ghc_match.specs.Position.{EndsIn}
 use Rattle.ghc_match.specs.Value.{Number, of_integer, of_variable, computed}
 use Rattle.ghc_match.specs.Match.{HasOutcome, Outcome, accepts, refuses, waits, LooksAt, Accepts}
-use Rattle.ghc_term.proofs.Sets.{one_set, set_of}
+use Rattle.ghc_term.proofs.SetsLemmas.{in_set, set_in, one_set, set_of}
 use Rattle.ghc_match.proofs.Values.{number_there, number_once, ends_once}
 use Rattle.ghc_match.proofs.Outcomes.{outcome_there, outcomes_exclude}
 use Rattle.ghc_unify.specs.Unify.{Unifies, Ending, solved, with_bindings}
 use Rattle.ghc_unify.specs.Laws.{IsCutDown, BindsAndReads}
 use Rattle.ghc_unify.proofs.Locality.{by_value, comes_agree}
 use Rattle.ghc_unify.proofs.Extension.{passed_on, comes_reaches, leads_bound}
-use Rattle.ghc_unify.proofs.Members.{in_set, set_in}
 use Rattle.ghc_unify.proofs.Ends.{comes_leads}
 use Rattle.ghc_unify.proofs.Acyclic.{binding_acyclic}
 use Rattle.ghc_unify.proofs.Bound.{by_answers}
@@ -46,7 +45,7 @@ number_ends : {E : VarName → Tree → Type 0} {a : Expression} {k : ℤ} {y : 
 number_ends of_integer i = absurd i
 number_ends {E = E} (of_variable {x = x} {k = k} p) (inl e) = (k, subst (λ z. E z (integer k)) (sym e) p)
 number_ends (of_variable p) (inr i) = absurd i
-number_ends {y = y} (computed {a = a} {b = b} m n c) i = elim (In_either (leaf_variables a) (leaf_variables b) y i) [ inl j ↦ number_ends m j | inr j ↦ number_ends n j ]
+number_ends {y = y} (computed {a = a} {b = b} m n c) i = elim (in_either (leaf_variables a) (leaf_variables b) y i) [ inl j ↦ number_ends m j | inr j ↦ number_ends n j ]
 
 -- the reads of a tail are those of its chain in each store that has them
 tail_local : {s x : VarName} {S S' : VarName → Option Tree} (e : Effect) → ReadsTail s S x e → IsCutDown (λ y. IsTrue (set.contains e.reads y)) S S' → ReadsTail s S' x e

@@ -1,18 +1,19 @@
 -- Attempts: one answer at most, and the same in stores that agree on what the goal looks at.
-use Rattle.std.proofs.Common.{◌≡◌, ℕ, ◌<◌, ℤ, List, sym, ap, ◌∙◌, subst, inl, inr, ◌⊎◌, arith}
+use Rattle.std.proofs.Common.{◌≡◌, ℕ, ◌<◌, ℤ, List, refl, sym, ap, ◌∙◌, subst, inl, inr, ◌⊎◌, arith}
 use Rattle.std.specs.Prelude.{Option, Some, None, IsTrue}
 use Rattle.std.specs.FinSet as set
 use Rattle.ghc_term.specs.declared.var_name.VarName.{VarName}
 use Rattle.ghc_term.specs.Tree.{Tree, integer}
 use Rattle.ghc_term.specs.Expression.{Expression}
 use Rattle.ghc_term.specs.Goal.{Goal, call, unify, assign, stream}
+use Rattle.ghc_term.specs.Sets.{Variables}
 use Rattle.ghc_term.specs.Bindings.{Reaches, here, through, IsAcyclic}
 use Rattle.ghc_flat.specs.Clause.{Clause, Program, IsClause, IsFor}
 use Rattle.ghc_match.specs.Position.{EndsIn}
 use Rattle.ghc_match.specs.Value.{Number, number, waits, bad, HasValue}
-use Rattle.ghc_match.specs.Match.{LooksAt, Accepts, accepts}
+use Rattle.ghc_match.specs.Match.{LooksAt, Accepts, Refuses, accepts}
 use Rattle.ghc_match.specs.Looked.{GoalLooksAt, ExpressionReaches}
-use Rattle.ghc_term.proofs.Sets.{set_of}
+use Rattle.ghc_term.proofs.SetsLemmas.{set_of}
 use Rattle.ghc_match.proofs.LooksAt.{looks_back}
 use Rattle.ghc_match.proofs.Values.{value_looks, number_once, number_waits_not, ends_once, leaf_reaches, passes_reaches}
 use Rattle.ghc_match.proofs.Chains.{leads_there, leads_back}
@@ -23,7 +24,7 @@ use Rattle.ghc_unify.proofs.Agree.{looks_at_terms}
 use Rattle.ghc_fire.specs.declared.act.Act.{Act}
 use Rattle.ghc_fire.specs.declared.act.Act.TheVariants.{ByClause as by_clause, Unified as unified, Assigned as assigned}
 use Rattle.ghc_fire.specs.Effect.{Effect, IsOnChainsOf, HasEffect, no_step}
-use Rattle.ghc_fire.specs.Attempt.{Answer, proposes, SomeAccepts, SomeWaitsFor, IsLeast, CallAnswers, ClauseAnswers, ChoiceAnswers, UnificationAnswers, AssignmentAnswers}
+use Rattle.ghc_fire.specs.Attempt.{Answer, proposes, SomeAccepts, SomeWaitsFor, IsLeast, CallAnswers, ChoiceAnswers, UnificationAnswers, AssignmentAnswers}
 use Rattle.ghc_fire.specs.Laws.{AttemptHasOneAnswer, AttemptIsOfWhatIsLookedAt}
 use Rattle.ghc_fire.proofs.Steps.{clause_once, effect_once}
 
@@ -36,88 +37,88 @@ least_once P f ts S j k p q =
     omega (arith, no_less, no_more)
 
 -- the effect of one act is one answer
-one_proposal : (P : Program) (g : Goal) (act : Act) (S : VarName → Option Tree) (e f : Effect) (a b : Answer) → IsAcyclic S → HasEffect P g act no_step S e → HasEffect P g act no_step S f
-    → a ≡ proposes act e → b ≡ proposes act f → a ≡ b
-one_proposal P g act S e f a b h d c p q = p ∙ ap (proposes act) (effect_once P g act no_step S e f h d c) ∙ sym q
+one_proposal : (P : Program) (g : Goal) (act : Act) (S : VarName → Option Tree) (e f : Effect) → IsAcyclic S → HasEffect P g act no_step S e → HasEffect P g act no_step S f → proposes act e ≡ proposes act f
+one_proposal P g act S e f h d c = ap (proposes act) (effect_once P g act no_step S e f h d c)
 
 module _ (P : Program) (f : List ℕ) (ts : List Tree) (S : VarName → Option Tree) (h : IsAcyclic S) where
   some : (k : ℕ) → IsLeast P f ts S k → SomeAccepts P f ts S
   some k p = let c = p.0 in (k, c.0, c.1, c.2, c.3)
 
+  least_proposal : (j k : ℕ) (d e : Effect) → j ≡ k → HasEffect P (call f ts) (by_clause j) no_step S d → HasEffect P (call f ts) (by_clause k) no_step S e → proposes (by_clause j) d ≡ proposes (by_clause k) e
+  least_proposal j k d e same p q =
+      ap (λ i. proposes (by_clause i) d) same
+      ∙ one_proposal P (call f ts) (by_clause k) S d e h (subst (λ i. HasEffect P (call f ts) (by_clause i) no_step S d) same p) q
+
   call_once : (a b : Answer) → CallAnswers P f ts S a → CallAnswers P f ts S b → a ≡ b
-  call_once a b (inl p) (inl q) =
-      let k : q.0 ≡ p.0 = least_once P f ts S q.0 p.0 q.2 p.2 in
-      one_proposal P (call f ts) (by_clause p.0) S p.1 q.1 a b h p.3 (subst (λ i. HasEffect P (call f ts) (by_clause i) no_step S q.1) k q.3) p.4 (q.4 ∙ ap (λ i. proposes (by_clause i) q.1) k)
-  call_once a b (inl p) (inr (inl q)) = absurd (q.0 (some p.0 p.2))
-  call_once a b (inl p) (inr (inr q)) = absurd (q.0 (some p.0 p.2))
-  call_once a b (inr (inl p)) (inl q) = absurd (p.0 (some q.0 q.2))
-  call_once a b (inr (inr p)) (inl q) = absurd (p.0 (some q.0 q.2))
-  call_once a b (inr (inl p)) (inr (inl q)) = p.2 ∙ sym q.2
-  call_once a b (inr (inl p)) (inr (inr q)) = absurd (q.1 p.1.0 p.1.1)
-  call_once a b (inr (inr p)) (inr (inl q)) = absurd (p.1 q.1.0 q.1.1)
-  call_once a b (inr (inr p)) (inr (inr q)) = p.2 ∙ sym q.2
+  call_once a b (CallAnswers.by_least {k = j} {e = d} l p) (CallAnswers.by_least {k = k} {e = e} m q) = least_proposal j k d e (least_once P f ts S j k l m) p q
+  call_once a b (CallAnswers.by_least {k = k} l p) (CallAnswers.waits n w) = absurd (n (some k l))
+  call_once a b (CallAnswers.by_least {k = k} l p) (CallAnswers.no_match n w) = absurd (n (some k l))
+  call_once a b (CallAnswers.waits n w) (CallAnswers.by_least {k = k} l p) = absurd (n (some k l))
+  call_once a b (CallAnswers.waits n w) (CallAnswers.waits m v) = refl
+  call_once a b (CallAnswers.waits {x = x} n w) (CallAnswers.no_match m idle) = absurd (idle x w)
+  call_once a b (CallAnswers.no_match n idle) (CallAnswers.by_least {k = k} l p) = absurd (n (some k l))
+  call_once a b (CallAnswers.no_match n idle) (CallAnswers.waits {x = x} m w) = absurd (idle x w)
+  call_once a b (CallAnswers.no_match n idle) (CallAnswers.no_match m none) = refl
 
   -- the clause that has the effect accepts
   effect_accepts : (k : ℕ) (c : Clause) (e : Effect) → IsClause P k c → HasEffect P (call f ts) (by_clause k) no_step S e → Accepts c ts S
   effect_accepts k c e ic d = subst (λ z. Accepts z ts S) (clause_once P d.2 ic) d.4.0
 
-  chosen_once : (k : ℕ) (c : Clause) (a b : Answer) → IsClause P k c → ClauseAnswers P f ts k c S a → ClauseAnswers P f ts k c S b → a ≡ b
-  chosen_once k c a b ic (inl p) (inl q) = one_proposal P (call f ts) (by_clause k) S p.0 q.0 a b h p.1 q.1 p.2 q.2
-  chosen_once k c a b ic (inl p) (inr (inl q)) = absurd (accepts_waits c ts S (effect_accepts k c p.0 ic p.1) q.0.0 q.0.1)
-  chosen_once k c a b ic (inl p) (inr (inr q)) = absurd (accepts_refuses c ts S (effect_accepts k c p.0 ic p.1) q.0)
-  chosen_once k c a b ic (inr (inl p)) (inl q) = absurd (accepts_waits c ts S (effect_accepts k c q.0 ic q.1) p.0.0 p.0.1)
-  chosen_once k c a b ic (inr (inr p)) (inl q) = absurd (accepts_refuses c ts S (effect_accepts k c q.0 ic q.1) p.0)
-  chosen_once k c a b ic (inr (inl p)) (inr (inl q)) = p.1 ∙ sym q.1
-  chosen_once k c a b ic (inr (inl p)) (inr (inr q)) = absurd (refuses_waits c ts S q.0 p.0.0 p.0.1)
-  chosen_once k c a b ic (inr (inr p)) (inr (inl q)) = absurd (refuses_waits c ts S p.0 q.0.0 q.0.1)
-  chosen_once k c a b ic (inr (inr p)) (inr (inr q)) = p.1 ∙ sym q.1
-
   choice_once : (k : ℕ) (a b : Answer) → ChoiceAnswers P f ts k S a → ChoiceAnswers P f ts k S b → a ≡ b
-  choice_once k a b (inl p) (inl q) = p.1 ∙ sym q.1
-  choice_once k a b (inl p) (inr q) = absurd (p.0 q.0 q.1 q.2)
-  choice_once k a b (inr p) (inl q) = absurd (q.0 p.0 p.1 p.2)
-  choice_once k a b (inr p) (inr q) = chosen_once k p.0 a b p.1 p.3 (subst (λ c. ClauseAnswers P f ts k c S b) (clause_once P q.1 p.1) q.3)
+  choice_once k a b (ChoiceAnswers.no_clause n) (ChoiceAnswers.no_clause m) = refl
+  choice_once k a b (ChoiceAnswers.no_clause n) (ChoiceAnswers.by_choice p) = absurd (n p.0 p.2 p.3)
+  choice_once k a b (ChoiceAnswers.no_clause n) (ChoiceAnswers.waits {c = c} ic is w) = absurd (n c ic is)
+  choice_once k a b (ChoiceAnswers.no_clause n) (ChoiceAnswers.no_match {c = c} ic is r) = absurd (n c ic is)
+  choice_once k a b (ChoiceAnswers.by_choice p) (ChoiceAnswers.no_clause n) = absurd (n p.0 p.2 p.3)
+  choice_once k a b (ChoiceAnswers.by_choice {e = d} p) (ChoiceAnswers.by_choice {e = e} q) = one_proposal P (call f ts) (by_clause k) S d e h p q
+  choice_once k a b (ChoiceAnswers.by_choice {e = e} p) (ChoiceAnswers.waits {c = c} {x = x} ic is w) = absurd (accepts_waits c ts S (effect_accepts k c e ic p) x w)
+  choice_once k a b (ChoiceAnswers.by_choice {e = e} p) (ChoiceAnswers.no_match {c = c} ic is r) = absurd (accepts_refuses c ts S (effect_accepts k c e ic p) r)
+  choice_once k a b (ChoiceAnswers.waits {c = c} ic is w) (ChoiceAnswers.no_clause n) = absurd (n c ic is)
+  choice_once k a b (ChoiceAnswers.waits {c = c} {x = x} ic is w) (ChoiceAnswers.by_choice {e = e} p) = absurd (accepts_waits c ts S (effect_accepts k c e ic p) x w)
+  choice_once k a b (ChoiceAnswers.waits ic is w) (ChoiceAnswers.waits id for v) = refl
+  choice_once k a b (ChoiceAnswers.waits {c = c} {x = x} ic is w) (ChoiceAnswers.no_match {c = d} id for r) = absurd (refuses_waits c ts S (subst (λ z. Refuses z ts S) (clause_once P id ic) r) x w)
+  choice_once k a b (ChoiceAnswers.no_match {c = c} ic is r) (ChoiceAnswers.no_clause n) = absurd (n c ic is)
+  choice_once k a b (ChoiceAnswers.no_match {c = c} ic is r) (ChoiceAnswers.by_choice {e = e} p) = absurd (accepts_refuses c ts S (effect_accepts k c e ic p) r)
+  choice_once k a b (ChoiceAnswers.no_match {c = c} ic is r) (ChoiceAnswers.waits {c = d} {x = x} id for w) = absurd (refuses_waits d ts S (subst (λ z. Refuses z ts S) (clause_once P ic id) r) x w)
+  choice_once k a b (ChoiceAnswers.no_match ic is r) (ChoiceAnswers.no_match id for s) = refl
 
 module _ (P : Program) (S : VarName → Option Tree) (h : IsAcyclic S) where
   unification_once : (l r : Tree) (a b : Answer) → UnificationAnswers P l r S a → UnificationAnswers P l r S b → a ≡ b
-  unification_once l r a b (inl p) (inl q) = one_proposal P (unify l r) unified S p.0 q.0 a b h p.1 q.1 p.2 q.2
-  unification_once l r a b (inl p) (inr (inl q)) = absurd (solved_no_clash h p.1.0.2 q.0)
-  unification_once l r a b (inl p) (inr (inr q)) = absurd (solved_no_cycle h p.1.0.2 q.0)
-  unification_once l r a b (inr (inl p)) (inl q) = absurd (solved_no_clash h q.1.0.2 p.0)
-  unification_once l r a b (inr (inr p)) (inl q) = absurd (solved_no_cycle h q.1.0.2 p.0)
-  unification_once l r a b (inr (inl p)) (inr (inl q)) = p.1 ∙ sym q.1
-  unification_once l r a b (inr (inl p)) (inr (inr q)) = absurd (clash_no_cycle h p.0 q.0)
-  unification_once l r a b (inr (inr p)) (inr (inl q)) = absurd (clash_no_cycle h q.0 p.0)
-  unification_once l r a b (inr (inr p)) (inr (inr q)) = p.1 ∙ sym q.1
+  unification_once l r a b (UnificationAnswers.solves {e = d} p) (UnificationAnswers.solves {e = e} q) = one_proposal P (unify l r) unified S d e h p q
+  unification_once l r a b (UnificationAnswers.solves p) (UnificationAnswers.clashes c) = absurd (solved_no_clash h p.0.2 c)
+  unification_once l r a b (UnificationAnswers.solves p) (UnificationAnswers.cycles c) = absurd (solved_no_cycle h p.0.2 c)
+  unification_once l r a b (UnificationAnswers.clashes c) (UnificationAnswers.solves p) = absurd (solved_no_clash h p.0.2 c)
+  unification_once l r a b (UnificationAnswers.clashes c) (UnificationAnswers.clashes d) = refl
+  unification_once l r a b (UnificationAnswers.clashes c) (UnificationAnswers.cycles d) = absurd (clash_no_cycle h c d)
+  unification_once l r a b (UnificationAnswers.cycles c) (UnificationAnswers.solves p) = absurd (solved_no_cycle h p.0.2 c)
+  unification_once l r a b (UnificationAnswers.cycles c) (UnificationAnswers.clashes d) = absurd (clash_no_cycle h d c)
+  unification_once l r a b (UnificationAnswers.cycles c) (UnificationAnswers.cycles d) = refl
 
   -- a number excludes waiting and having no value
-  number_not_waits : (b : Expression) (v : ℤ) → Number (EndsIn S) b v → ¬ ((xs : _) × HasValue S b (waits xs))
-  number_not_waits b v n w = number_waits_not ends_once n w.1.1.1
-
-  number_not_bad : (b : Expression) (v : ℤ) → Number (EndsIn S) b v → ¬ HasValue S b bad
-  number_not_bad b v n w = w.1 v n
+  number_not_waits : (b : Expression) (v : ℤ) (xs : Variables) → Number (EndsIn S) b v → ¬ HasValue S b (waits xs)
+  number_not_waits b v xs n w = number_waits_not ends_once n w.1.1
 
   clash_not_solved : (t : Tree) (b : Expression) (v : ℤ) (e : Effect) → HasValue S b (number v) → Clashes S t (integer v) → ¬ HasEffect P (assign t b) assigned no_step S e
   clash_not_solved t b v e n c d =
       solved_no_clash h d.3.2 (subst (λ i. Clashes S t (integer i)) (number_once ends_once n d.2) c)
 
   assignment_once : (t : Tree) (b : Expression) (a c : Answer) → AssignmentAnswers P t b S a → AssignmentAnswers P t b S c → a ≡ c
-  assignment_once t b a c (inl p) (inl q) = p.1 ∙ sym q.1
-  assignment_once t b a c (inl p) (inr (inl q)) = absurd (q.0.0 p.0.1.1.0 p.0.1.1.1)
-  assignment_once t b a c (inl p) (inr (inr (inl q))) = absurd (number_not_waits b q.0.0 q.0.1 p.0)
-  assignment_once t b a c (inl p) (inr (inr (inr q))) = absurd (number_not_waits b q.1.0 q.1.2 p.0)
-  assignment_once t b a c (inr (inl p)) (inl q) = absurd (p.0.0 q.0.1.1.0 q.0.1.1.1)
-  assignment_once t b a c (inr (inl p)) (inr (inl q)) = p.1 ∙ sym q.1
-  assignment_once t b a c (inr (inl p)) (inr (inr (inl q))) = absurd (number_not_bad b q.0.0 q.0.1 p.0)
-  assignment_once t b a c (inr (inl p)) (inr (inr (inr q))) = absurd (number_not_bad b q.1.0 q.1.2 p.0)
-  assignment_once t b a c (inr (inr (inl p))) (inl q) = absurd (number_not_waits b p.0.0 p.0.1 q.0)
-  assignment_once t b a c (inr (inr (inl p))) (inr (inl q)) = absurd (number_not_bad b p.0.0 p.0.1 q.0)
-  assignment_once t b a c (inr (inr (inl p))) (inr (inr (inl q))) = p.1 ∙ sym q.1
-  assignment_once t b a c (inr (inr (inl p))) (inr (inr (inr q))) = absurd (clash_not_solved t b p.0.0 q.0 p.0.1 p.0.2 q.1)
-  assignment_once t b a c (inr (inr (inr p))) (inl q) = absurd (number_not_waits b p.1.0 p.1.2 q.0)
-  assignment_once t b a c (inr (inr (inr p))) (inr (inl q)) = absurd (number_not_bad b p.1.0 p.1.2 q.0)
-  assignment_once t b a c (inr (inr (inr p))) (inr (inr (inl q))) = absurd (clash_not_solved t b q.0.0 p.0 q.0.1 q.0.2 p.1)
-  assignment_once t b a c (inr (inr (inr p))) (inr (inr (inr q))) = one_proposal P (assign t b) assigned S p.0 q.0 a c h p.1 q.1 p.2 q.2
+  assignment_once t b a c (AssignmentAnswers.waits xs w) (AssignmentAnswers.waits ys u) = refl
+  assignment_once t b a c (AssignmentAnswers.waits xs w) (AssignmentAnswers.has_no_value n) = absurd (n.0 w.1.0 w.1.1)
+  assignment_once t b a c (AssignmentAnswers.waits xs w) (AssignmentAnswers.clashes v k m) = absurd (number_not_waits b v xs k w)
+  assignment_once t b a c (AssignmentAnswers.waits xs w) (AssignmentAnswers.assigns d) = absurd (number_not_waits b d.0 xs d.2 w)
+  assignment_once t b a c (AssignmentAnswers.has_no_value n) (AssignmentAnswers.waits xs w) = absurd (n.0 w.1.0 w.1.1)
+  assignment_once t b a c (AssignmentAnswers.has_no_value n) (AssignmentAnswers.has_no_value m) = refl
+  assignment_once t b a c (AssignmentAnswers.has_no_value n) (AssignmentAnswers.clashes v k m) = absurd (n.1 v k)
+  assignment_once t b a c (AssignmentAnswers.has_no_value n) (AssignmentAnswers.assigns d) = absurd (n.1 d.0 d.2)
+  assignment_once t b a c (AssignmentAnswers.clashes v k m) (AssignmentAnswers.waits xs w) = absurd (number_not_waits b v xs k w)
+  assignment_once t b a c (AssignmentAnswers.clashes v k m) (AssignmentAnswers.has_no_value n) = absurd (n.1 v k)
+  assignment_once t b a c (AssignmentAnswers.clashes v k m) (AssignmentAnswers.clashes i j n) = refl
+  assignment_once t b a c (AssignmentAnswers.clashes v k m) (AssignmentAnswers.assigns {e = e} d) = absurd (clash_not_solved t b v e k m d)
+  assignment_once t b a c (AssignmentAnswers.assigns d) (AssignmentAnswers.waits xs w) = absurd (number_not_waits b d.0 xs d.2 w)
+  assignment_once t b a c (AssignmentAnswers.assigns d) (AssignmentAnswers.has_no_value n) = absurd (n.1 d.0 d.2)
+  assignment_once t b a c (AssignmentAnswers.assigns {e = e} d) (AssignmentAnswers.clashes v k m) = absurd (clash_not_solved t b v e k m d)
+  assignment_once t b a c (AssignmentAnswers.assigns {e = d} p) (AssignmentAnswers.assigns {e = e} q) = one_proposal P (assign t b) assigned S d e h p q
 
 pub attempt_once : AttemptHasOneAnswer
 attempt_once P S None choice a b h p q = p ∙ sym q
@@ -155,24 +156,16 @@ module _ (P : Program) (f : List ℕ) (ts : List Tree) (S S' : VarName → Optio
       )
 
   call_there : (a : Answer) → CallAnswers P f ts S a → CallAnswers P f ts S' a
-  call_there a (inl p) = inl (p.0, p.1, least_there p.0 p.2, reduction_there P f ts S S' h p.0 no_step p.1 p.3, p.4)
-  call_there a (inr (inl p)) = inr (inl ((λ s. p.0 (some_accepts_there P f ts S' S (call_back P f ts S S' h) s)), (p.1.0, some_waits_there P f ts S S' h p.1.0 p.1.1), p.2))
-  call_there a (inr (inr p)) = inr (inr ((λ s. p.0 (some_accepts_there P f ts S' S (call_back P f ts S S' h) s)), (λ x w. p.1 x (some_waits_there P f ts S' S (call_back P f ts S S' h) x w)), p.2))
+  call_there a (CallAnswers.by_least {k = k} {e = e} l d) = CallAnswers.by_least (least_there k l) (reduction_there P f ts S S' h k no_step e d)
+  call_there a (CallAnswers.waits {x = x} n w) = CallAnswers.waits (λ s. n (some_accepts_there P f ts S' S (call_back P f ts S S' h) s)) (some_waits_there P f ts S S' h x w)
+  call_there a (CallAnswers.no_match n idle) =
+      CallAnswers.no_match (λ s. n (some_accepts_there P f ts S' S (call_back P f ts S S' h) s)) (λ x w. idle x (some_waits_there P f ts S' S (call_back P f ts S S' h) x w))
 
   choice_there : (k : ℕ) (a : Answer) → ChoiceAnswers P f ts k S a → ChoiceAnswers P f ts k S' a
-  choice_there k a (inl p) = inl p
-  choice_there k a (inr p) = inr (
-    p.0,
-    p.1,
-    p.2,
-    elim p.3 [
-      | inl e ↦ inl (e.0, reduction_there P f ts S S' h k no_step e.0 e.1, e.2)
-      | inr o ↦ inr (elim o [
-        | inl w ↦ inl ((w.0.0, waits_there p.0 ts S S' (at_clause P f ts S S' h k p.0 p.1 p.2) w.0.0 w.0.1), w.1)
-        | inr r ↦ inr (refuses_there p.0 ts S S' (at_clause P f ts S S' h k p.0 p.1 p.2) r.0, r.1)
-      ])
-    ],
-  )
+  choice_there k a (ChoiceAnswers.no_clause n) = ChoiceAnswers.no_clause n
+  choice_there k a (ChoiceAnswers.by_choice {e = e} d) = ChoiceAnswers.by_choice (reduction_there P f ts S S' h k no_step e d)
+  choice_there k a (ChoiceAnswers.waits {c = c} {x = x} ic is w) = ChoiceAnswers.waits ic is (waits_there c ts S S' (at_clause P f ts S S' h k c ic is) x w)
+  choice_there k a (ChoiceAnswers.no_match {c = c} ic is r) = ChoiceAnswers.no_match ic is (refuses_there c ts S S' (at_clause P f ts S S' h k c ic is) r)
 
 -- an integer reaches no variable
 from_integer : {S : VarName → Option Tree} {k : ℤ} {x : VarName} → ¬ Reaches S (integer k) x
@@ -181,9 +174,9 @@ from_integer (through o e r) = o
 
 module _ (P : Program) (S S' : VarName → Option Tree) where
   unification_there : (l r : Tree) (a : Answer) → ((x : VarName) → GoalLooksAt P S (unify l r) x → S' x ≡ S x) → UnificationAnswers P l r S a → UnificationAnswers P l r S' a
-  unification_there l r a h (inl p) = inl (p.0, (looks_at_terms S S' l r (solved p.0.binds p.0.reads) p.1.0 h, p.1.1, p.1.2), p.2)
-  unification_there l r a h (inr (inl p)) = inr (inl (looks_at_terms S S' l r clash p.0 h, p.1))
-  unification_there l r a h (inr (inr p)) = inr (inr (looks_at_terms S S' l r cycle p.0 h, p.1))
+  unification_there l r a h (UnificationAnswers.solves {e = e} d) = UnificationAnswers.solves (looks_at_terms S S' l r (solved e.binds e.reads) d.0 h, d.1, d.2)
+  unification_there l r a h (UnificationAnswers.clashes c) = UnificationAnswers.clashes (looks_at_terms S S' l r clash c h)
+  unification_there l r a h (UnificationAnswers.cycles c) = UnificationAnswers.cycles (looks_at_terms S S' l r cycle c h)
 
   module _ (t : Tree) (b : Expression) (h : (x : VarName) → GoalLooksAt P S (assign t b) x → S' x ≡ S x) where
     at_expression : (x : VarName) → ExpressionReaches S b x → S' x ≡ S x
@@ -212,11 +205,11 @@ module _ (P : Program) (S S' : VarName → Option Tree) where
     )
 
     assignment_there : (a : Answer) → AssignmentAnswers P t b S a → AssignmentAnswers P t b S' a
-    assignment_there a (inl p) = inl ((p.0.0, value_looks S S' b (waits p.0.0) p.0.1 at_expression), p.1)
-    assignment_there a (inr (inl p)) = inr (inl (value_looks S S' b bad p.0 at_expression, p.1))
-    assignment_there a (inr (inr (inl p))) =
-        inr (inr (inl ((p.0.0, value_looks S S' b (number p.0.0) p.0.1 at_expression, looks_at_terms S S' t (integer p.0.0) clash p.0.2 (at_sides p.0.0)), p.1)))
-    assignment_there a (inr (inr (inr p))) = inr (inr (inr (p.0, effect_there p.0 p.1, p.2)))
+    assignment_there a (AssignmentAnswers.waits xs w) = AssignmentAnswers.waits xs (value_looks S S' b (waits xs) w at_expression)
+    assignment_there a (AssignmentAnswers.has_no_value n) = AssignmentAnswers.has_no_value (value_looks S S' b bad n at_expression)
+    assignment_there a (AssignmentAnswers.clashes v k c) =
+        AssignmentAnswers.clashes v (value_looks S S' b (number v) k at_expression) (looks_at_terms S S' t (integer v) clash c (at_sides v))
+    assignment_there a (AssignmentAnswers.assigns {e = e} d) = AssignmentAnswers.assigns (effect_there e d)
 
 pub attempt_there : AttemptIsOfWhatIsLookedAt
 attempt_there P S S' (call f ts) None a p h = call_there P f ts S S' h a p

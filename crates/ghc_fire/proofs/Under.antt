@@ -1,24 +1,21 @@
 -- The effect of a proposal as a step of some number has it.
-use Rattle.std.proofs.Common.{◌≡◌, ℕ, ◌==◌, true, false, List, [], ◌∷◌, map, refl, sym, ap, ◌∙◌, subst, inl, inr}
-use Rattle.std.specs.Prelude.{Option, Some, None, unwrap_or, if◌then◌else◌}
+use Rattle.std.proofs.Common.{◌≡◌, ℕ, ◌==◌, true, false, List, [], ◌∷◌, map, refl, sym, ap, ◌∙◌, inl, inr}
+use Rattle.std.specs.Prelude.{Some, None, unwrap_or, if◌then◌else◌}
 use Rattle.std.proofs.lemmas.Bool.{eqb-true}
 use Rattle.ghc_term.specs.declared.var_name.VarName.{VarName}
 use Rattle.ghc_term.specs.Tree.{Tree, variable, integer, node, Trees, none, more, OccursIn}
 use Rattle.ghc_term.specs.Expression.{Expression, leaf, operation}
 use Rattle.ghc_term.specs.Goal.{Goal, call, unify, assign, stream}
 use Rattle.ghc_term.specs.Store.{StoreValue, value_at}
-use Rattle.ghc_term.specs.declared.fault.Fault.{Fault}
-use Rattle.ghc_flat.specs.Clause.{Clause, Program}
-use Rattle.ghc_flat.specs.Flat.{is_stream}
+use Rattle.ghc_flat.specs.Clause.{Clause}
 use Rattle.ghc_flat.specs.Variables.{fresh_variables}
 use Rattle.ghc_unify.specs.Solutions.{replace, replace_all}
 use Rattle.ghc_fire.specs.Instance.{replace_in_expression, replace_in_goal, made, place_in, becomes, body_made}
-use Rattle.ghc_fire.specs.declared.act.Act.{Act}
 use Rattle.ghc_fire.specs.declared.act.Act.TheVariants.{ByClause as by_clause, Unified as unified, Assigned as assigned}
-use Rattle.ghc_fire.specs.Effect.{Effect, HasEffect, no_step}
-use Rattle.ghc_fire.specs.Attempt.{Answer, proposes, refused}
+use Rattle.ghc_fire.specs.Effect.{no_step}
+use Rattle.ghc_fire.specs.Attempt.{CallAnswers, ChoiceAnswers, UnificationAnswers, AssignmentAnswers}
 use Rattle.ghc_fire.specs.Proposal.{numbered, under}
-use Rattle.ghc_fire.specs.Laws.{HasNoVariableOf, EffectUnderANumber, ProposalIsEffect}
+use Rattle.ghc_fire.specs.Laws.{EffectUnderANumber, ProposalIsEffect}
 use Rattle.ghc_fire.proofs.Origins.{Inside, at_inside}
 
 -- the variable is not of a step
@@ -99,38 +96,11 @@ effect_under P (assign t a) assigned n S e plain h d = (d.0, d.1, d.2, d.3, d.4,
 effect_under P (stream k x) a n S e plain h d = let clash : true ≡ false = plain in cc
 effect_under P g a n S e plain h d = absurd d
 
--- the act and the effect of an answer
-abbrev act_of : Answer → Act
-act_of (proposes a e) = a
-act_of (refused f) = unified
-
-abbrev effect_of : Effect → Answer → Effect
-effect_of d (proposes a e) = e
-effect_of d (refused f) = d
-
-no_refusal : {a : Act} {e : Effect} {f : Fault} → ¬ (proposes a e ≡ refused f)
-no_refusal p = cc
-
-module _ (P : Program) (g : Goal) (a : Act) (n : ℕ) (S : VarName → Option Tree) (e : Effect) (plain : is_stream g ≡ false) (h : HasNoVariableOf no_step g S) where
-  from_proposal : (b : Act) (d : Effect) → HasEffect P g b no_step S d → proposes a e ≡ proposes b d → HasEffect P g a n S (under n e)
-  from_proposal b d has same = effect_under P g a n S e plain h (subst (λ z. HasEffect P g (act_of z) no_step S (effect_of e z)) (sym same) has)
-
 pub proposal_under : ProposalIsEffect
-proposal_under P (call f ts) None a n S e h (inl p) = from_proposal P (call f ts) a n S e refl h (by_clause p.0) p.1 p.3 p.4
-proposal_under P (call f ts) None a n S e h (inr (inl p)) = absurd (no_refusal p.2)
-proposal_under P (call f ts) None a n S e h (inr (inr p)) = absurd (no_refusal p.2)
-proposal_under P (call f ts) (Some k) a n S e h (inl p) = absurd (no_refusal p.1)
-proposal_under P (call f ts) (Some k) a n S e h (inr p) = elim p.3 [
-  | inl q ↦ from_proposal P (call f ts) a n S e refl h (by_clause k) q.0 q.1 q.2
-  | inr o ↦ elim o [ inl q ↦ absurd (no_refusal q.1) | inr q ↦ absurd (no_refusal q.1) ]
-]
-proposal_under P (unify l r) None a n S e h (inl p) = from_proposal P (unify l r) a n S e refl h unified p.0 p.1 p.2
-proposal_under P (unify l r) None a n S e h (inr (inl p)) = absurd (no_refusal p.1)
-proposal_under P (unify l r) None a n S e h (inr (inr p)) = absurd (no_refusal p.1)
-proposal_under P (unify l r) (Some k) a n S e h p = absurd (no_refusal p)
-proposal_under P (assign t b) None a n S e h (inl p) = absurd (no_refusal p.1)
-proposal_under P (assign t b) None a n S e h (inr (inl p)) = absurd (no_refusal p.1)
-proposal_under P (assign t b) None a n S e h (inr (inr (inl p))) = absurd (no_refusal p.1)
-proposal_under P (assign t b) None a n S e h (inr (inr (inr p))) = from_proposal P (assign t b) a n S e refl h assigned p.0 p.1 p.2
-proposal_under P (assign t b) (Some k) a n S e h p = absurd (no_refusal p)
-proposal_under P (stream k x) choice a n S e h p = absurd (no_refusal p)
+proposal_under P (call f ts) None a n S e h (CallAnswers.by_least {k = k} l d) = effect_under P (call f ts) (by_clause k) n S e refl h d
+proposal_under P (call f ts) (Some k) a n S e h (ChoiceAnswers.by_choice d) = effect_under P (call f ts) (by_clause k) n S e refl h d
+proposal_under P (unify l r) None a n S e h (UnificationAnswers.solves d) = effect_under P (unify l r) unified n S e refl h d
+proposal_under P (unify l r) (Some k) a n S e h p = cc
+proposal_under P (assign t b) None a n S e h (AssignmentAnswers.assigns d) = effect_under P (assign t b) assigned n S e refl h d
+proposal_under P (assign t b) (Some k) a n S e h p = cc
+proposal_under P (stream k x) choice a n S e h p = cc

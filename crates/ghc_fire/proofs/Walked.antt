@@ -1,13 +1,13 @@
 -- A term that is being replaced along its last arguments, and what of it stays.
 use Rattle.std.proofs.Common.{◌≡◌, ℕ, ◌+◌, ◌≤◌, List, [], ◌∷◌, ◌++◌, length, take, map, length-append, sym, ap, ◌∙◌, subst, arith}
 use Rattle.std.specs.Prelude.{Option, Some, None, MatchOption}
-use Rattle.std.proofs.lemmas.List.{take-append-le, take_all}
+use Rattle.std.proofs.lemmas.List.{map_push, take-append-le, take_all}
 use Rattle.ghc_term.specs.declared.var_name.VarName.{VarName}
 use Rattle.ghc_term.specs.Tree.{Tree, node, trees}
 use Rattle.ghc_unify.specs.Solutions.{replace}
 use Rattle.ghc_fire.specs.Renaming.{plugged}
 use Rattle.ghc_fire.specs.declared.instances.terms.Front.{Front}
-use Rattle.ghc_fire.proofs.Rebuilding.{map_push, replace_trees, further_in}
+use Rattle.ghc_fire.proofs.Rebuilding.{replace_trees, further_in}
 
 module _ (s : VarName → Tree) where
   -- the term is walked up to the place; if that stays, so does the rest, which stands in the first so many structures

@@ -1,12 +1,12 @@
 -- What an attempt at a goal answers.
-use Rattle.std.specs.Prelude.{◌≡◌, ◌⊎◌, ℕ, ℤ, ◌<◌, List, Option, Some, None}
+use Rattle.std.specs.Prelude.{◌≡◌, ℕ, ℤ, ◌<◌, List, Option, Some, None}
 use Rattle.ghc_term.specs.declared.var_name.VarName.{VarName}
 use Rattle.ghc_term.specs.Tree.{Tree, integer}
 use Rattle.ghc_term.specs.Expression.{Expression}
 use Rattle.ghc_term.specs.Goal.{Goal, call, unify, assign, stream}
 use Rattle.ghc_flat.specs.Clause.{Clause, Program, IsClause, IsFor}
 use Rattle.ghc_term.specs.Sets.{Variables}
-use Rattle.ghc_match.specs.Value.{HasValue, number, waits, bad}
+use Rattle.ghc_match.specs.Value.{HasValue, number, waits as waits_for, bad}
 use Rattle.ghc_match.specs.Match.{Accepts, Refuses, WaitsFor}
 use Rattle.ghc_unify.specs.Unify.{Clashes, Cycles}
 use Rattle.ghc_term.specs.declared.fault.Fault.{Fault}
@@ -34,42 +34,49 @@ IsLeast P f ts S k =
     ((c : Clause) × IsClause P k c × IsFor f ts c × Accepts c ts S)
     × ((j : ℕ) (c : Clause) → j < k → IsClause P j c → IsFor f ts c → ¬ Accepts c ts S)
 
--- A call without a choice: the least clause that accepts; else it waits if a clause waits; else no clause matches.
-abbrev pub CallAnswers : Program → List ℕ → List Tree → (VarName → Option Tree) → Answer → Type 0
-CallAnswers P f ts S a =
-    ((k : ℕ) × (e : Effect) × IsLeast P f ts S k × HasEffect P (call f ts) (by_clause k) no_step S e × (a ≡ proposes (by_clause k) e))
-    ⊎ ((¬ SomeAccepts P f ts S) × ((x : VarName) × SomeWaitsFor P f ts S x) × (a ≡ refused Waits))
-    ⊎ ((¬ SomeAccepts P f ts S) × ((x : VarName) → ¬ SomeWaitsFor P f ts S x) × (a ≡ refused NoMatch))
+-- What the call `f(ts)` answers, with no clause chosen.
+pub data CallAnswers (P : Program) (f : List ℕ) (ts : List Tree) (S : VarName → Option Tree) : Answer → Type 0 where
+  -- the least clause that accepts it is taken
+  by_least : {k : ℕ} {e : Effect} → IsLeast P f ts S k → HasEffect P (call f ts) (by_clause k) no_step S e
+      → CallAnswers P f ts S (proposes (by_clause k) e)
+  -- else it waits, where a clause waits
+  waits : {x : VarName} → ¬ SomeAccepts P f ts S → SomeWaitsFor P f ts S x → CallAnswers P f ts S (refused Waits)
+  -- else no clause matches
+  no_match : ¬ SomeAccepts P f ts S → ((x : VarName) → ¬ SomeWaitsFor P f ts S x) → CallAnswers P f ts S (refused NoMatch)
 
--- The clause c, which is clause k, is chosen for the call `f(ts)`: its outcome decides.
-abbrev pub ClauseAnswers : Program → List ℕ → List Tree → ℕ → Clause → (VarName → Option Tree) → Answer → Type 0
-ClauseAnswers P f ts k c S a =
-    ((e : Effect) × HasEffect P (call f ts) (by_clause k) no_step S e × (a ≡ proposes (by_clause k) e))
-    ⊎ (((x : VarName) × WaitsFor c ts S x) × (a ≡ refused Waits))
-    ⊎ (Refuses c ts S × (a ≡ refused NoMatch))
+-- What the call `f(ts)` answers, with clause k chosen.
+pub data ChoiceAnswers (P : Program) (f : List ℕ) (ts : List Tree) (k : ℕ) (S : VarName → Option Tree) : Answer → Type 0 where
+  -- no clause k is for the call
+  no_clause : ((c : Clause) → IsClause P k c → ¬ IsFor f ts c) → ChoiceAnswers P f ts k S (refused NoClause)
+  -- clause k accepts it
+  by_choice : {e : Effect} → HasEffect P (call f ts) (by_clause k) no_step S e → ChoiceAnswers P f ts k S (proposes (by_clause k) e)
+  -- clause k waits
+  waits : {c : Clause} {x : VarName} → IsClause P k c → IsFor f ts c → WaitsFor c ts S x → ChoiceAnswers P f ts k S (refused Waits)
+  -- clause k refuses it
+  no_match : {c : Clause} → IsClause P k c → IsFor f ts c → Refuses c ts S → ChoiceAnswers P f ts k S (refused NoMatch)
 
--- A call with clause k chosen: there must be such a clause for the call.
-abbrev pub ChoiceAnswers : Program → List ℕ → List Tree → ℕ → (VarName → Option Tree) → Answer → Type 0
-ChoiceAnswers P f ts k S a =
-    (((c : Clause) → IsClause P k c → ¬ IsFor f ts c) × (a ≡ refused NoClause))
-    ⊎ ((c : Clause) × IsClause P k c × IsFor f ts c × ClauseAnswers P f ts k c S a)
+-- What the unification `l = r` answers.
+pub data UnificationAnswers (P : Program) (l r : Tree) (S : VarName → Option Tree) : Answer → Type 0 where
+  -- the two sides are made equal
+  solves : {e : Effect} → HasEffect P (unify l r) unified no_step S e → UnificationAnswers P l r S (proposes unified e)
+  -- two values clash
+  clashes : Clashes S l r → UnificationAnswers P l r S (refused Clash)
+  -- a variable would be bound to what reaches it
+  cycles : Cycles S l r → UnificationAnswers P l r S (refused Cycle)
 
--- A unification: it is solved, clashes, or comes to a cycle.
-abbrev pub UnificationAnswers : Program → Tree → Tree → (VarName → Option Tree) → Answer → Type 0
-UnificationAnswers P l r S a =
-    ((e : Effect) × HasEffect P (unify l r) unified no_step S e × (a ≡ proposes unified e))
-    ⊎ (Clashes S l r × (a ≡ refused Clash))
-    ⊎ (Cycles S l r × (a ≡ refused Cycle))
+-- What the assignment of b to t answers.
+pub data AssignmentAnswers (P : Program) (t : Tree) (b : Expression) (S : VarName → Option Tree) : Answer → Type 0 where
+  -- its expression waits for variables
+  waits : (xs : Variables) → HasValue S b (waits_for xs) → AssignmentAnswers P t b S (refused Waits)
+  -- its expression has no value
+  has_no_value : HasValue S b bad → AssignmentAnswers P t b S (refused Arithmetic)
+  -- its left side clashes with the value
+  clashes : (v : ℤ) → HasValue S b (number v) → Clashes S t (integer v) → AssignmentAnswers P t b S (refused Clash)
+  -- its left side is made equal to the value
+  assigns : {e : Effect} → HasEffect P (assign t b) assigned no_step S e → AssignmentAnswers P t b S (proposes assigned e)
 
--- An assignment: its expression waits, has no value, or has one with which the left side is unified.
-abbrev pub AssignmentAnswers : Program → Tree → Expression → (VarName → Option Tree) → Answer → Type 0
-AssignmentAnswers P t b S a =
-    (((xs : Variables) × HasValue S b (waits xs)) × (a ≡ refused Waits))
-    ⊎ (HasValue S b bad × (a ≡ refused Arithmetic))
-    ⊎ (((v : ℤ) × HasValue S b (number v) × Clashes S t (integer v)) × (a ≡ refused Clash))
-    ⊎ ((e : Effect) × HasEffect P (assign t b) assigned no_step S e × (a ≡ proposes assigned e))
-
--- Attempts P S goal choice a: in the store S, an attempt at the goal, if there is one, with a clause chosen or not, answers a. A stream goal is none for an attempt, and only a call has clauses to choose.
+-- Attempts P S goal choice a: in the store S, an attempt at the goal, if there is one, with a clause chosen or not, answers a.
+-- A stream goal is none for an attempt, and only a call has clauses to choose.
 abbrev pub Attempts : Program → (VarName → Option Tree) → Option Goal → Option ℕ → Answer → Type 0
 Attempts P S None choice a = a ≡ refused NoGoal
 Attempts P S (Some (stream k s)) choice a = a ≡ refused NoGoal

@@ -12,10 +12,10 @@ ghost use Rattle.ghc_fire.specs.Proposal.{under};
 use crate::act::Act;
 use crate::calls::{attempt_call, attempt_choice};
 use crate::effect::Effect;
+use crate::equations::{attempt_assignment, attempt_unification};
 use crate::goals::Goals;
 use crate::instances::number_goals;
 use crate::meter::Meter;
-use crate::moves::{attempt_assignment, attempt_unification};
 use crate::proposal::Proposal;
 use ghc_flat::Program;
 use ghc_term::{Fault, Goal, GoalName, GoalView, Store};
@@ -71,12 +71,12 @@ fn propose(
     let Some(consumed) = goals.get(goal) else {
         return Err(Fault::NoGoal);
     };
-    let (act, effect) = step(alloc, program, store, consumed, choice)?;
+    let (act, effect) = propose_act(alloc, program, store, consumed, choice)?;
     Ok(Proposal::new(goal, consumed.share()?, act, effect))
 }
 
 // The act of a step of the goal, with its effect.
-fn step(
+fn propose_act(
     alloc: Global,
     program: &Program,
     store: &Store,

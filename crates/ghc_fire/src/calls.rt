@@ -24,7 +24,7 @@ enum Verdict {
 
 // What the clause makes of a call with these arguments: it tries the clause, and where that accepts, goes twice through
 // its body.
-fn ask(
+fn try_clause_as_step(
     alloc: Global,
     clause: &Clause,
     arguments: &[Term],
@@ -63,7 +63,7 @@ pub fn attempt_call(
     let mut waits = false;
     for number in program.clauses_for(name, arguments.len()) {
         let clause = program.clause(*number).unwrap();
-        match ask(alloc, clause, arguments, store)? {
+        match try_clause_as_step(alloc, clause, arguments, store)? {
             Verdict::Refuses => {}
             Verdict::Waits => waits = true,
             Verdict::Reduces(effect) => return Ok((Act::ByClause(*number), effect)),
@@ -96,7 +96,7 @@ pub fn attempt_choice(
     if clause.name() != name || clause.head().len() != arguments.len() {
         return Err(Fault::NoClause);
     }
-    let verdict = ask(alloc, clause, arguments, store)?;
+    let verdict = try_clause_as_step(alloc, clause, arguments, store)?;
     match verdict {
         Verdict::Refuses => Err(Fault::NoMatch),
         Verdict::Waits => Err(Fault::Waits),

@@ -4,15 +4,15 @@
 mod act;
 mod attempting;
 mod calls;
-mod chains;
 mod effect;
+mod equations;
+mod expression_reads;
 mod facts;
 mod fresh;
 mod goals;
 mod instances;
 mod laws;
 mod meter;
-mod moves;
 mod proposal;
 
 pub use act::Act;

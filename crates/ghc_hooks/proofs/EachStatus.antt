@@ -10,6 +10,7 @@ use Rattle.ghc_term.specs.Expression.{Expression}
 use Rattle.ghc_term.specs.Goal.{Goal, call, unify, assign, stream}
 use Rattle.ghc_term.specs.Bindings.{IsAcyclic}
 use Rattle.ghc_term.specs.Store.{StoreValue, value_at}
+use Rattle.ghc_term.proofs.ListsLemmas.{in_at}
 use Rattle.ghc_flat.specs.Clause.{Clause, Program, IsClause, IsFor}
 use Rattle.ghc_flat.specs.Flat.{IsProgram, is_stream}
 use Rattle.ghc_flat.specs.Variables.{leaf_variables}
@@ -23,7 +24,7 @@ use Rattle.ghc_match.proofs.SetsOf.{SetOf, no_set, restated_set, below_set}
 use Rattle.ghc_match.proofs.Values.{number_waits_not, ends_once}
 use Rattle.ghc_fire.specs.Attempt.{Answer, proposes, refused, SomeWaitsFor, Attempts}
 use Rattle.ghc_fire.proofs.EachAnswer.{each_answer}
-use Rattle.ghc_fire.proofs.EachEffect.{clause_in, clause_decided}
+use Rattle.ghc_fire.proofs.EachEffect.{clause_decided}
 use Rattle.ghc_fire.proofs.Steps.{clause_once}
 use Rattle.ghc_hooks.specs.Status.{Status, ready, waiting, failed, streaming, Awaits, HasStatus, is_ready, is_waiting, is_failed, is_stream_goal}
 use Rattle.ghc_hooks.specs.Laws.{EachGoalHasAStatus}
@@ -46,7 +47,7 @@ module _ (P : Program) (accepted : IsProgram P) (s : StoreValue) (acyclic : IsAc
       | inr none ↦ no_set (λ x w. none (w.0, w.1, w.2))
       | inl c ↦
           let ic = c.1 in
-          let o = each_outcome c.0 ts s (accepted c.0 (clause_in P ic.0 c.0 ic.2)).linear acyclic in
+          let o = each_outcome c.0 ts s (accepted c.0 (in_at P ic.0 c.0 ic.2)).linear acyclic in
           restated_set
           (λ x w. (c.0, c.1, c.2, w))
           (λ x w. subst (λ d. WaitsFor d ts S x) (clause_once P w.1 c.1) w.3)

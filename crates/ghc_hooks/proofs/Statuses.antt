@@ -1,14 +1,14 @@
 -- A goal has one status, and it is decided by what the goal looks at.
-use Rattle.std.proofs.Common.{◌≡◌, Bool, true, false, refl, sym, ap, ◌∙◌, inr, Some, None, IsTrue, ◌↔◌, List, ℕ}
+use Rattle.std.proofs.Common.{◌≡◌, true, refl, sym, ap, inr, Some, None, List, ℕ}
 use Rattle.std.specs.Prelude.{Option}
-use Rattle.std.specs.FinSet as set
 use Rattle.ghc_term.specs.declared.var_name.VarName.{VarName}
 use Rattle.ghc_term.specs.Tree.{Tree, variable}
 use Rattle.ghc_term.specs.Lists.{In}
 use Rattle.ghc_term.specs.Expression.{Expression}
 use Rattle.ghc_term.specs.Goal.{Goal, call, unify, assign, stream}
 use Rattle.ghc_term.specs.Bindings.{Passes}
-use Rattle.ghc_term.proofs.Names.{name_total, name_antisymmetric}
+use Rattle.ghc_term.proofs.ListsLemmas.{not_both as one_test}
+use Rattle.ghc_term.proofs.SetsLemmas.{one_set, set_of}
 use Rattle.ghc_flat.specs.Clause.{Program}
 use Rattle.ghc_flat.specs.Flat.{is_stream}
 use Rattle.ghc_term.specs.Sets.{Variables, IsSetOf}
@@ -19,23 +19,12 @@ use Rattle.ghc_fire.specs.Attempt.{Answer, proposes, refused, SomeWaitsFor, Atte
 use Rattle.ghc_fire.proofs.Tries.{attempt_once, attempt_there}
 use Rattle.ghc_flat.specs.Variables.{leaf_variables}
 use Rattle.ghc_match.specs.Looked.{ExpressionReaches, GoalLooksAt}
-use Rattle.ghc_term.proofs.Sets.{set_of}
 use Rattle.ghc_match.proofs.Chains.{leads_there, leads_back}
 use Rattle.ghc_match.proofs.Values.{leaf_reaches, passes_reaches}
 use Rattle.ghc_match.proofs.LooksAt.{looks_back}
 use Rattle.ghc_match.proofs.Outcomes.{waits_there}
 use Rattle.ghc_hooks.specs.Status.{Awaits, waiting, failed, is_ready, is_waiting, is_failed, is_stream_goal}
 use Rattle.ghc_hooks.specs.Laws.{StatusIsOne, StatusIsOfWhatIsLookedAt}
-
-same_bool : (a b : Bool) → IsTrue a ↔ IsTrue b → a ≡ b
-same_bool true true e = refl
-same_bool true false e = sym (e.0 refl)
-same_bool false true e = e.1 refl
-same_bool false false e = refl
-
--- a set is determined by what it holds
-pub set_once : (xs ys : Variables) (P : VarName → Type 0) → IsSetOf xs P → IsSetOf ys P → xs ≡ ys
-set_once xs ys P p q = set.same_set name_total name_antisymmetric xs ys (λ x. same_bool (set.contains xs x) (set.contains ys x) ((λ i. (q x).1 ((p x).0 i)), λ i. (p x).1 ((q x).0 i)))
 
 not_both : {a : Act} {e : Effect} {f : Fault} → proposes a e ≡ refused f → ⊥
 not_both p = cc
@@ -53,25 +42,22 @@ no_stream P S (stream k x) a e t = t
 waits_apart : refused Fault.Waits ≡ refused Fault.NoGoal → ⊥
 waits_apart p = cc
 
-two_answers : (b : Bool) → b ≡ true → b ≡ false → ⊥
-two_answers b p q = let e : true ≡ false = sym p ∙ q in cc
-
 pub status_once : StatusIsOne
 status_once P S g s t c (is_ready a e p) (is_ready b f q) = refl
 status_once P S g s t c (is_ready a e p) (is_waiting q m) = absurd (not_both (attempt_once P S (Some g) None _ _ c p q))
 status_once P S g s t c (is_ready a e p) (is_failed n q m) = absurd (not_both (attempt_once P S (Some g) None _ _ c p q))
 status_once P S g s t c (is_ready a e p) (is_stream_goal n) = absurd (not_both (no_stream P S g _ n p))
 status_once P S g s t c (is_waiting p m) (is_ready b f q) = absurd (not_both (attempt_once P S (Some g) None _ _ c q p))
-status_once P S g s t c (is_waiting p m) (is_waiting q n) = ap waiting (set_once _ _ _ m n)
+status_once P S g s t c (is_waiting p m) (is_waiting q n) = ap waiting (one_set _ _ _ _ m n (λ x h. h) (λ x h. h))
 status_once P S g s t c (is_waiting p m) (is_failed n q d) = absurd (d (same_fault (attempt_once P S (Some g) None _ _ c q p)))
 status_once P S g s t c (is_waiting p m) (is_stream_goal n) = absurd (waits_apart (no_stream P S g _ n p))
 status_once P S g s t c (is_failed n p d) (is_ready b f q) = absurd (not_both (attempt_once P S (Some g) None _ _ c q p))
 status_once P S g s t c (is_failed n p d) (is_waiting q m) = absurd (d (same_fault (attempt_once P S (Some g) None _ _ c p q)))
 status_once P S g s t c (is_failed n p d) (is_failed m q e) = ap failed (same_fault (attempt_once P S (Some g) None _ _ c p q))
-status_once P S g s t c (is_failed n p d) (is_stream_goal m) = absurd (two_answers (is_stream g) m n)
+status_once P S g s t c (is_failed n p d) (is_stream_goal m) = absurd (one_test (is_stream g) n m)
 status_once P S g s t c (is_stream_goal n) (is_ready b f q) = absurd (not_both (no_stream P S g _ n q))
 status_once P S g s t c (is_stream_goal n) (is_waiting q m) = absurd (waits_apart (no_stream P S g _ n q))
-status_once P S g s t c (is_stream_goal n) (is_failed m q d) = absurd (two_answers (is_stream g) n m)
+status_once P S g s t c (is_stream_goal n) (is_failed m q d) = absurd (one_test (is_stream g) m n)
 status_once P S g s t c (is_stream_goal n) (is_stream_goal m) = refl
 
 -- stores that agree on what a goal looks at

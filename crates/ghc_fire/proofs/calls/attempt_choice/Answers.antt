@@ -1,12 +1,44 @@
-use Rattle.std.proofs.Common.{◌≡◌, length, subst, inl, inr, refl, rules}
+use Rattle.std.proofs.Common.{◌≡◌, length, subst, inr, rules}
 use Rattle.ghc_term.specs.Store.{value_at}
-use Rattle.ghc_flat.specs.Clause.{IsClause}
+use Rattle.ghc_flat.specs.Clause.{Clause, IsClause, IsFor}
+use Rattle.ghc_fire.specs.Attempt.{ChoiceAnswers}
 use Rattle.ghc_fire.specs.Calls.{HasVerdict}
-use Rattle.ghc_fire.proofs.Calling.{chosen_reduces}
+use Rattle.ghc_fire.proofs.Calling.{has_clause, chosen_reduces}
+use Rattle.ghc_fire.proofs.Steps.{clause_once}
 use Rattle.ghc_fire.proofs.calls.attempt_choice.Goals as goal
 
 pub returns-in_default-clause-fault : goal.returns-in_default-clause-fault
-returns-in_default-clause-fault c = inr (inl ((λ d ic is. c.in_default.ensures.none d ic), refl))
+returns-in_default-clause-fault c = inr (ChoiceAnswers.no_clause (λ d ic is. c.in_default.ensures.none d ic))
+
+pub returns-then-ne-clause-fault : goal.returns-then-ne-clause-fault
+returns-then-ne-clause-fault c =
+    let other : (d : Clause) → IsClause c.args.program.now c.args.number d → ¬ IsFor c.args.name.now c.args.arguments.now d = λ d id for.
+    let same : d ≡ c.in-Some.clause.now = clause_once c.args.program.now id c.in-Some.ensures.found in
+    search rules in
+    inr (ChoiceAnswers.no_clause other)
+
+pub returns-in-Refuses-clause-fault : goal.returns-in-Refuses-clause-fault
+returns-in-Refuses-clause-fault c =
+    let clause = c.in-Some.clause.now in
+    let name : clause.name ≡ c.args.name.now = search rules in
+    let arity : length clause.head ≡ length c.args.arguments.now = search rules in
+    let refuses = subst (HasVerdict clause c.args.arguments.now (value_at c.args.store.now)) c.in-Refuses.is c.in_ok-verdict.ensures in
+    inr (ChoiceAnswers.no_match c.in-Some.ensures.found (name, arity) refuses)
+
+pub returns-in-Waits-clause-fault : goal.returns-in-Waits-clause-fault
+returns-in-Waits-clause-fault c =
+    let clause = c.in-Some.clause.now in
+    let name : clause.name ≡ c.args.name.now = search rules in
+    let arity : length clause.head ≡ length c.args.arguments.now = search rules in
+    let waits = subst (HasVerdict clause c.args.arguments.now (value_at c.args.store.now)) c.in-Waits.is c.in_ok-verdict.ensures in
+    inr (ChoiceAnswers.waits c.in-Some.ensures.found (name, arity) waits.1)
+
+pub returns-in-Reduces-clause-no_clause : goal.returns-in-Reduces-clause-no_clause
+returns-in-Reduces-clause-no_clause c none =
+    let clause = c.in-Some.clause.now in
+    let name : clause.name ≡ c.args.name.now = search rules in
+    let arity : length clause.head ≡ length c.args.arguments.now = search rules in
+    absurd (has_clause c.args.program.now c.args.name.now c.args.arguments.now (value_at c.args.store.now) c.args.number clause c.in-Some.ensures.found (name, arity) none)
 
 pub returns-in-Reduces-clause-proposed : goal.returns-in-Reduces-clause-proposed
 returns-in-Reduces-clause-proposed c =

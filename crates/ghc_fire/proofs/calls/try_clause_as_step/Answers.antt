@@ -4,7 +4,7 @@ use Rattle.ghc_match.specs.Match.{HasOutcome, accepts}
 use Rattle.ghc_match.specs.Told.{told}
 use Rattle.ghc_fire.proofs.FreshPlaces.{behind_head}
 use Rattle.ghc_fire.proofs.Origins.{stands}
-use Rattle.ghc_fire.proofs.calls.ask.Goals as goal
+use Rattle.ghc_fire.proofs.calls.try_clause_as_step.Goals as goal
 
 pub instance-requires : goal.instance-requires
 instance-requires c =

@@ -3,7 +3,7 @@ use Rattle.std.proofs.lemmas.Result.{on_ok_weaker}
 use Rattle.ghc_term.specs.Store.{value_at}
 use Rattle.ghc_term.specs.Bindings.{Leads}
 use Rattle.ghc_fire.proofs.Gathered.{gains_leaf}
-use Rattle.ghc_fire.proofs.chains.add_chain.Goals as goal
+use Rattle.ghc_fire.proofs.expression_reads.add_chain.Goals as goal
 
 pub returns : goal.returns
 returns c =

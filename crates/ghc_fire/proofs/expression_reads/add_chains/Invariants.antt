@@ -4,7 +4,7 @@ use Rattle.ghc_term.specs.Store.{value_at}
 use Rattle.ghc_flat.specs.Variables.{leaf_variables}
 use Rattle.ghc_match.proofs.PushLeaves.{leaves, parts}
 use Rattle.ghc_fire.proofs.Gathered.{Gathers}
-use Rattle.ghc_fire.proofs.chains.add_chains.Given as goal
+use Rattle.ghc_fire.proofs.expression_reads.add_chains.Given as goal
 
 abbrev pub invariant-loop-part : goal.invariant-loop-part
 invariant-loop-part l =

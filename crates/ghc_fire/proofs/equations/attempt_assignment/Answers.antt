@@ -1,4 +1,4 @@
-use Rattle.std.proofs.Common.{◌≡◌, rules, Err, sym, ap, ◌∙◌, subst}
+use Rattle.std.proofs.Common.{◌≡◌, rules, Err, sym, ap, ◌∙◌, subst, inr}
 use Rattle.std.proofs.lemmas.Int.{to_z-of_z}
 use Rattle.std.proofs.lemmas.Result.{err_from_is_err_and}
 use mir.Val.{SFits}
@@ -10,14 +10,20 @@ use Rattle.ghc_match.specs.Told.{value_of}
 use Rattle.ghc_match.specs.Meeting.{Gains}
 use Rattle.ghc_unify.specs.Unify.{Unifies, Clashes, Cycles}
 use Rattle.ghc_fire.specs.Effect.{IsOnChainsOf}
+use Rattle.ghc_fire.specs.Attempt.{AssignmentAnswers}
 use Rattle.ghc_fire.proofs.Assigned.{waiting, not_unified, unified}
-use Rattle.ghc_fire.proofs.moves.attempt_assignment.Goals as goal
+use Rattle.ghc_fire.proofs.equations.attempt_assignment.Goals as goal
 
 pub returns-in-Waits-clause-fault : goal.returns-in-Waits-clause-fault
 returns-in-Waits-clause-fault c =
     let S = value_at c.args.store.now in
     let waits = subst (λ v. HasValue S c.args.value.now (value_of v)) c.in-Waits.is c.in_ok-integer.ensures in
     waiting S c.args.left.now c.args.value.now c.in-Waits.field-0 waits
+
+pub returns-in-Bad-clause-fault : goal.returns-in-Bad-clause-fault
+returns-in-Bad-clause-fault c =
+    let none = subst (λ v. HasValue (value_at c.args.store.now) c.args.value.now (value_of v)) c.in-Bad.is c.in_ok-integer.ensures in
+    inr (λ P. AssignmentAnswers.has_no_value none)
 
 pub returns-clause-effect : goal.returns-clause-effect
 returns-clause-effect c =

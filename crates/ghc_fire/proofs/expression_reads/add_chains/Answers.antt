@@ -6,7 +6,7 @@ use Rattle.ghc_flat.specs.Variables.{leaf_variables}
 use Rattle.ghc_match.proofs.PushLeaves.{leaves}
 use Rattle.ghc_match.specs.Meeting.{Gains}
 use Rattle.ghc_fire.proofs.Gathered.{Gathers, OnChains, gathers_first}
-use Rattle.ghc_fire.proofs.chains.add_chains.Goals as goal
+use Rattle.ghc_fire.proofs.expression_reads.add_chains.Goals as goal
 
 pub loop-part-preserved-in-Continue-branch-2 : goal.loop-part-preserved-in-Continue-branch-2
 loop-part-preserved-in-Continue-branch-2 c x =

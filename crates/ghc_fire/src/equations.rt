@@ -5,8 +5,8 @@ ghost use Rattle.ghc_flat.specs.Clause.{Program as program_spec};
 ghost use Rattle.ghc_fire.specs.Attempt.{refused, UnificationAnswers, AssignmentAnswers};
 ghost use Rattle.ghc_fire.specs.Effect.{Unites, Assigns};
 
-use crate::chains::add_chains;
 use crate::effect::Effect;
+use crate::expression_reads::add_chains;
 use ghc_match::{Value, evaluate};
 use ghc_term::{Expr, Fault, Store, Term};
 use ghc_unify::{Solved, unify};

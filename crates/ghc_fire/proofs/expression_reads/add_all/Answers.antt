@@ -4,7 +4,7 @@ use Rattle.ghc_term.specs.declared.var_name.VarName.{VarName}
 use Rattle.ghc_term.specs.Lists.{In}
 use Rattle.ghc_match.specs.Meeting.{Gains}
 use Rattle.ghc_fire.proofs.Gathered.{gains_one}
-use Rattle.ghc_fire.proofs.chains.add_all.Goals as goal
+use Rattle.ghc_fire.proofs.expression_reads.add_all.Goals as goal
 
 pub loop-name-preserved : goal.loop-name-preserved
 loop-name-preserved c =
