@@ -30,5 +30,5 @@ abbrev pub numbered_of : List ℕ → Option VarName
 numbered_of word = variable_of_parts (slice_split (λ byte. byte == 95) word)
 
 -- The word names the variable x of the world: one of the query by its name, or by its numbers one of the query or of a kept step.
-abbrev pub IsAsked : World → Names → List ℕ → VarName → Type 0
-IsAsked w names word x = IsGivenName names word x ⊎ ((numbered_of word ≡ Some x) × IsVariableOf w.opening.query w.kept x)
+abbrev pub IsVariableNamed : World → Names → List ℕ → VarName → Type 0
+IsVariableNamed w names word x = IsGivenName names word x ⊎ ((numbered_of word ≡ Some x) × IsVariableOf w.opening.query w.kept x)

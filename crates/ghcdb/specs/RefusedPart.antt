@@ -1,10 +1,10 @@
 -- How refusals begin.
 use Rattle.std.specs.Prelude.{ℕ, List, codes}
-use Rattle.ghcdb.specs.declared.source.Source.{Source}
-use Rattle.ghcdb.specs.declared.source.Source.TheVariants.{Program, Query, History, Schedule, Session}
+use Rattle.ghcdb.specs.declared.refused_part.RefusedPart.{RefusedPart}
+use Rattle.ghcdb.specs.declared.refused_part.RefusedPart.TheVariants.{Program, Query, History, Schedule, Session}
 
 -- what stands before the text of a refusal
-abbrev pub prefix_of : Source → List ℕ
+abbrev pub prefix_of : RefusedPart → List ℕ
 prefix_of Program = codes "program: "
 prefix_of Query = codes "query: "
 prefix_of History = codes "history: "

@@ -4,7 +4,7 @@ use Rattle.std.proofs.Math.Seq.{take-append_seam}
 use Rattle.std.specs.Io.KnownBytes.{Appends, IsAtEnd, Keeps, prepend_known}
 use Rattle.std.proofs.KnownBytes.{Appends-trans, Appends-kept, Appends-nil}
 use Rattle.ghc_core.specs.World.{World}
-use Rattle.ghc_console.specs.Asked.{Names}
+use Rattle.ghc_console.specs.VariableNamed.{Names}
 use Rattle.ghc_console.specs.Lines.{line_feeds, lines_of}
 use Rattle.ghc_console.specs.Reading.{AsksAtNeed, CountsGiven, TakesFirst, TakesLine}
 use Rattle.ghc_console.specs.Replies.{IsReply}

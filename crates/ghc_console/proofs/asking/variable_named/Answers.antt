@@ -1,8 +1,8 @@
 use Rattle.std.proofs.Common.{◌≡◌, ◌∙◌, Some, None, inl, inr, subst, sym}
 use Rattle.ghc_flat.proofs.Lists.{not_both}
 use Rattle.ghc_records.specs.Replay.{IsVariableOf}
-use Rattle.ghc_console.specs.Asked.{IsGivenName}
-use Rattle.ghc_console.proofs.asking.asked.Goals as goal
+use Rattle.ghc_console.specs.VariableNamed.{IsGivenName}
+use Rattle.ghc_console.proofs.asking.variable_named.Goals as goal
 
 pub returns-in_default-numbered-clause-none : goal.returns-in_default-numbered-clause-none
 returns-in_default-numbered-clause-none c x a =

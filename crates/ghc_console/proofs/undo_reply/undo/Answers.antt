@@ -2,8 +2,8 @@ use Rattle.std.proofs.Common.{[], ◌∷◌, sym, subst, inl, inr}
 use Rattle.ghc_core.specs.Events.{undone, refused}
 use Rattle.ghc_core.specs.Reverses.{Undoes, fails}
 use Rattle.ghc_console.specs.Replies.{tells_steps, tells_why}
-use Rattle.ghc_console.proofs.Told.{if_ok}
-use Rattle.ghc_console.proofs.reversal.undo.Goals as goal
+use Rattle.ghc_console.proofs.StepReplies.{if_ok}
+use Rattle.ghc_console.proofs.undo_reply.undo.Goals as goal
 
 pub returns-in-Ok-undo-clause-text : goal.returns-in-Ok-undo-clause-text
 returns-in-Ok-undo-clause-text c = (undone (c.args.number ∷ []), c.in-Ok-undo.ensures.ok, tells_steps c.in-Ok.ensures)

@@ -19,8 +19,8 @@ use Rattle.ghc_core.specs.Proposes as proposing
 use Rattle.ghc_core.proofs.Committing.{answered_holds}
 use Rattle.ghc_trace.specs.Ports.{taken_ports}
 use Rattle.ghc_trace.specs.PortText.{ports_text}
-use Rattle.ghc_console.specs.Asked.{Names, IsAsked}
-use Rattle.ghc_console.specs.Replies.{Takes, takes, full, Shows, too_long, refusal, print_limit}
+use Rattle.ghc_console.specs.VariableNamed.{Names, IsVariableNamed}
+use Rattle.ghc_console.specs.Replies.{Takes, takes, full, RepliesToShow, too_long, refusal, print_limit}
 
 -- What is known of an answer leads to more about it.
 pub if_ok : {T E : Type 0} (r : Result T E) {P Q R : T → Type 0} → IfOk r P → IfOk r Q → ((t : T) → P t → Q t → R t) → IfOk r R
@@ -47,10 +47,10 @@ pub step_taken : (w v : World) (p : Proposal) (r : Record) (text : List ℕ) →
 step_taken w v p r text commit told same = subst (λ x. Takes w p x v) (sym told) (subst (Takes w p (ports_text (taken_ports r))) (sym same) (takes r commit))
 
 -- A refusal by a printed term says that it is too long.
-pub printed_refused : (w : World) (names : Names) (word : List ℕ) (x : VarName) (f : Fault) (text : List ℕ) → IsAsked w names word x → (f ≡ fault.Memory) ⊎ (f ≡ fault.Limit limit.Print)
+pub printed_refused : (w : World) (names : Names) (word : List ℕ) (x : VarName) (f : Fault) (text : List ℕ) → IsVariableNamed w names word x → (f ≡ fault.Memory) ⊎ (f ≡ fault.Limit limit.Print)
     → (f ≡ fault.Limit limit.Print → (long : List ℕ) × (IsTextOf (value_at w.state.store) (variable x) long × (print_limit < length long)))
-    → text ≡ refusal f → f ≢ fault.Memory → Shows w names word text
+    → text ≡ refusal f → f ≢ fault.Memory → RepliesToShow w names word text
 printed_refused w names word x f text named (inl m) past told kept = absurd (kept m)
 printed_refused w names word x f text named (inr q) past told kept =
     let long = past q in
-    subst (Shows w names word) (sym (told ∙ ap refusal q)) (too_long x long.0 named long.1.0 long.1.1)
+    subst (RepliesToShow w names word) (sym (told ∙ ap refusal q)) (too_long x long.0 named long.1.0 long.1.1)

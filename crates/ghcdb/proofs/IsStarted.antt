@@ -12,13 +12,13 @@ use Rattle.ghc_flat.specs.Clause.{Program, Query}
 use Rattle.ghc_flat.specs.Checked.{HasClause, AreFaultless, IsAcceptedAs, IsProgramFault, IsQueryFault, IsFault}
 use Rattle.ghc_flat.proofs.Faults.{only_accepted, only_refused, program_refused_once, query_refused_once}
 use Rattle.ghcdb.specs.declared.refusal.Refusal.{Refusal}
-use Rattle.ghcdb.specs.declared.source.Source.{Source}
-use Rattle.ghcdb.specs.declared.source.Source.TheVariants as source
+use Rattle.ghcdb.specs.declared.refused_part.RefusedPart.{RefusedPart}
+use Rattle.ghcdb.specs.declared.refused_part.RefusedPart.TheVariants as part
 use Rattle.ghcdb.specs.declared.start.Started.{Started}
 use Rattle.ghcdb.specs.Start.{IsStarted, IsOutOfMemory, IsStartRefusal, of_program, of_query, of_clauses, of_calls, told_of}
 
 pub told : (p q : List ℕ) (ws : List WrittenClause) (asked : WrittenQuery) (r : Refused) → IsReadProgram p ws → IsReadQuery q asked → IsRefusedAs ws asked.goals r → IsOutOfMemory (told_of r) ⊎ IsStartRefusal p q (told_of r)
-told p q ws asked (refused.Program e) a b (inl m) = inl (record { fault = m; source = inl refl })
+told p q ws asked (refused.Program e) a b (inl m) = inl (record { fault = m; part = inl refl })
 told p q ws asked (refused.Program e) a b (inr f) = inr (of_clauses ws asked (record { reads_program = a; reads_query = b }) refl f)
 told p q ws asked (refused.Query e) a b h = inr (of_calls ws asked (record { reads_program = a; reads_query = b }) refl h.0 h.1)
 
@@ -41,8 +41,8 @@ checker_fault ws gs (refused.Program e) (inr f) = inr (inl f)
 checker_fault ws gs (refused.Query e) h = inr (inr h)
 
 memory_told : (r : Refused) → fault_of r ≡ Memory → IsOutOfMemory (told_of r)
-memory_told (refused.Program e) m = record { fault = m; source = inl refl }
-memory_told (refused.Query e) m = record { fault = m; source = inr refl }
+memory_told (refused.Program e) m = record { fault = m; part = inl refl }
+memory_told (refused.Query e) m = record { fault = m; part = inr refl }
 
 -- and the checker refuses it for want of memory alone
 pub never_told : (p q : List ℕ) (s : Started) (h : IsStarted p q s) (ws : List WrittenClause) (asked : WrittenQuery) (r : Refused) → ws ≡ h.written → asked ≡ s.query → IsRefusedAs ws asked.goals r → IsOutOfMemory (told_of r)
@@ -51,35 +51,35 @@ never_told p q s h ws asked r source query bad =
 
 -- ---- texts that are refused
 
-same_refusal : (r s : Refusal) → r.source ≡ s.source → r.fault ≡ s.fault → r ≡ s
-same_refusal r s source fault i = record { source = source i; fault = fault i }
+same_refusal : (r s : Refusal) → r.part ≡ s.part → r.fault ≡ s.fault → r ≡ s
+same_refusal r s same fault i = record { part = same i; fault = fault i }
 
-no_memory_for : (f : Source) (e : Fault) → (f ≡ source.Program) ⊎ (f ≡ source.Query) → e ≡ Memory → IsOutOfMemory (record { source = f; fault = e })
-no_memory_for f e of m = record { fault = m; source = of }
+no_memory_for : (f : RefusedPart) (e : Fault) → (f ≡ part.Program) ⊎ (f ≡ part.Query) → e ≡ Memory → IsOutOfMemory (record { part = f; fault = e })
+no_memory_for f e of m = record { fault = m; part = of }
 
 -- the only fault, or want of memory
-told_once : (f : Source) (e : Fault) (r : Refusal) → (f ≡ source.Program) ⊎ (f ≡ source.Query) → r.source ≡ f → (e ≡ r.fault) ⊎ (e ≡ Memory)
-    → (record { source = f; fault = e } ≡ r) ⊎ IsOutOfMemory (record { source = f; fault = e })
-told_once f e r of s (inl m) = inl (same_refusal (record { source = f; fault = e }) r (sym s) m)
+told_once : (f : RefusedPart) (e : Fault) (r : Refusal) → (f ≡ part.Program) ⊎ (f ≡ part.Query) → r.part ≡ f → (e ≡ r.fault) ⊎ (e ≡ Memory)
+    → (record { part = f; fault = e } ≡ r) ⊎ IsOutOfMemory (record { part = f; fault = e })
+told_once f e r of s (inl m) = inl (same_refusal (record { part = f; fault = e }) r (sym s) m)
 told_once f e r of s (inr m) = inr (no_memory_for f e of m)
 
 module _ (p q : List ℕ) where
   -- the program's text is not read
   pub program_alone : (e : Fault) → ((ws : List WrittenClause) → IsReadProgram p ws → e ≡ Memory) → ((f : Fault) → IsRefusal a_program p f → (e ≡ f) ⊎ (e ≡ Memory)) → (r : Refusal) → IsStartRefusal p q r
-      → (record { source = source.Program; fault = e } ≡ r) ⊎ IsOutOfMemory (record { source = source.Program; fault = e })
-  program_alone e only fault r (of_program s h) = told_once source.Program e r (inl refl) s (fault r.fault h)
-  program_alone e only fault r (of_query ws reads s h) = inr (no_memory_for source.Program e (inl refl) (only ws reads))
-  program_alone e only fault r (of_clauses ws asked are s h) = inr (no_memory_for source.Program e (inl refl) (only ws are.reads_program))
-  program_alone e only fault r (of_calls ws asked are s clean h) = inr (no_memory_for source.Program e (inl refl) (only ws are.reads_program))
+      → (record { part = part.Program; fault = e } ≡ r) ⊎ IsOutOfMemory (record { part = part.Program; fault = e })
+  program_alone e only fault r (of_program s h) = told_once part.Program e r (inl refl) s (fault r.fault h)
+  program_alone e only fault r (of_query ws reads s h) = inr (no_memory_for part.Program e (inl refl) (only ws reads))
+  program_alone e only fault r (of_clauses ws asked are s h) = inr (no_memory_for part.Program e (inl refl) (only ws are.reads_program))
+  program_alone e only fault r (of_calls ws asked are s clean h) = inr (no_memory_for part.Program e (inl refl) (only ws are.reads_program))
 
   module _ (read : (f : Fault) → ¬ IsRefusal a_program p f) where
     -- the program's text is read, and the query's is not
     pub query_alone : (e : Fault) → ((asked : WrittenQuery) → IsReadQuery q asked → e ≡ Memory) → ((f : Fault) → IsRefusal a_query q f → (e ≡ f) ⊎ (e ≡ Memory)) → (r : Refusal) → IsStartRefusal p q r
-        → (record { source = source.Query; fault = e } ≡ r) ⊎ IsOutOfMemory (record { source = source.Query; fault = e })
+        → (record { part = part.Query; fault = e } ≡ r) ⊎ IsOutOfMemory (record { part = part.Query; fault = e })
     query_alone e only fault r (of_program s h) = absurd (read r.fault h)
-    query_alone e only fault r (of_query ws reads s h) = told_once source.Query e r (inr refl) s (fault r.fault h)
-    query_alone e only fault r (of_clauses ws asked are s h) = inr (no_memory_for source.Query e (inr refl) (only asked are.reads_query))
-    query_alone e only fault r (of_calls ws asked are s clean h) = inr (no_memory_for source.Query e (inr refl) (only asked are.reads_query))
+    query_alone e only fault r (of_query ws reads s h) = told_once part.Query e r (inr refl) s (fault r.fault h)
+    query_alone e only fault r (of_clauses ws asked are s h) = inr (no_memory_for part.Query e (inr refl) (only asked are.reads_query))
+    query_alone e only fault r (of_calls ws asked are s clean h) = inr (no_memory_for part.Query e (inr refl) (only asked are.reads_query))
 
     module _ (asks : (f : Fault) → ¬ IsRefusal a_query q f) (ws : List WrittenClause) (asked : WrittenQuery) (one : (us : List WrittenClause) → IsReadProgram p us → ws ≡ us) (one_query : (other : WrittenQuery) → IsReadQuery q other → asked ≡ other) where
       -- both are read, and what is read is refused
@@ -88,14 +88,14 @@ module _ (p q : List ℕ) where
       judged_alone j bad r (of_query us reads s h) = absurd (asks r.fault h)
       judged_alone j bad r (of_clauses us other are s h) =
           elim (program_refused_once ws asked.goals j r.fault bad (subst (λ vs. IsProgramFault vs r.fault) (sym (one us are.reads_program)) h)) [
-            | inl m ↦ inl (ap told_of m ∙ same_refusal (record { source = source.Program; fault = r.fault }) r (sym s) refl)
+            | inl m ↦ inl (ap told_of m ∙ same_refusal (record { part = part.Program; fault = r.fault }) r (sym s) refl)
             | inr m ↦ inr (memory_told j m)
           ]
       judged_alone j bad r (of_calls us other are s clean h) =
           let same = sym (one us are.reads_program) in
           let fault = subst (λ vs. IsQueryFault vs asked.goals r.fault) same (subst (λ (a : WrittenQuery). IsQueryFault us a.goals r.fault) (sym (one_query other are.reads_query)) h) in
           elim (query_refused_once ws asked.goals j r.fault bad (subst (λ vs. AreFaultless (HasClause vs) vs) same clean) fault) [
-            | inl m ↦ inl (ap told_of m ∙ same_refusal (record { source = source.Query; fault = r.fault }) r (sym s) refl)
+            | inl m ↦ inl (ap told_of m ∙ same_refusal (record { part = part.Query; fault = r.fault }) r (sym s) refl)
             | inr m ↦ inr (memory_told j m)
           ]
 

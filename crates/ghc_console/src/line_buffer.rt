@@ -8,7 +8,7 @@ use std::alloc::Global;
 pub const LINE_LIMIT: usize = 1_048_576;
 
 /// What becomes of a line.
-#[derive(Clone, Copy, Debug, PartialEq, Eq)]
+#[derive(Clone, Copy)]
 pub enum State {
     /// All its bytes so far are held.
     Whole,

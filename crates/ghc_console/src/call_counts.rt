@@ -7,14 +7,14 @@ use std::sync::ledger::{Blank, Book, Ledger, Share};
 
 /// How many calls failed, how many bytes the last read gave, and how many those before it.
 #[derive(Drop)]
-pub struct Tally<L: Ledger> {
+pub struct CallCounts<L: Ledger> {
     book: Book<L>,
     failed: Share<L>,
     earlier: Share<L>,
     latest: usize,
 }
 
-impl<L: Ledger> Model for Tally<L> {
+impl<L: Ledger> Model for CallCounts<L> {
     ghost use Rattle.std.specs.Prelude.{◌<◌};
     ghost use Rattle.ghc_console.specs.Device.{Counted};
 
@@ -25,15 +25,15 @@ impl<L: Ledger> Model for Tally<L> {
     ghost invariant = { λ t. (0 < t.failed.parts) × (0 < t.earlier.parts) };
 }
 
-impl<L: Ledger> Tally<L> {
+impl<L: Ledger> CallCounts<L> {
     /// No call yet. The blank is of the ledger that the type names, which has two parts or more.
-    pub fn new(blank: Blank) -> Tally<L>
+    pub fn new(blank: Blank) -> CallCounts<L>
         requires blank { (blank.name ≡ L.name) × (blank.parts ≡ L.parts) × (1 < L.parts) }
         ensures { result ≡ record { failures = 0; earlier = 0; latest = 0 } }
     {
         let (book, mut failed) = blank.open::<L>();
         let earlier = failed.split_off(1, 0);
-        Tally {
+        CallCounts {
             book,
             failed,
             earlier,

@@ -7,11 +7,11 @@ use Rattle.ghc_console.specs.Commands.{command_of}
 use Rattle.ghc_console.specs.Firing.{Fires, FiresAtMost, firings_in, firings_of}
 use Rattle.ghc_console.specs.Lines.{lines_of}
 use Rattle.ghc_console.specs.Reading.{TakesLine}
-use Rattle.ghc_console.specs.declared.command.Command.{Command}
-use Rattle.ghc_console.specs.declared.command.Command.TheVariants.{Nothing, Step, Undo, Show, Records, Quit, Unknown}
+use Rattle.ghc_console.specs.declared.command.LineCommand.{LineCommand}
+use Rattle.ghc_console.specs.declared.command.LineCommand.TheVariants.{Nothing, Step, Undo, Show, Records, Quit, Unknown}
 
 -- a command may fire nothing
-pub fires_nothing : (c : Command) (m n : Meter) → n ≡ m → Fires c m n
+pub fires_nothing : (c : LineCommand) (m n : Meter) → n ≡ m → Fires c m n
 fires_nothing (Step goal choice) m n e = inl e
 fires_nothing Nothing m n e = e
 fires_nothing (Undo number) m n e = e
@@ -25,7 +25,7 @@ same_at_most k m n e =
     let firings : n.firings ≡ m.firings = ap (λ x. x.firings) e in
     record { firings = omega (arith, firings); tries = ap (λ x. x.tries) e }
 
-pub fires_few : (c : Command) (m n : Meter) → Fires c m n → FiresAtMost (firings_of c) m n
+pub fires_few : (c : LineCommand) (m n : Meter) → Fires c m n → FiresAtMost (firings_of c) m n
 fires_few (Step goal choice) m n (inl e) = same_at_most 1 m n e
 fires_few (Step goal choice) m n (inr e) =
     let firings : n.firings ≡ (fired m).firings = ap (λ x. x.firings) e in

@@ -1,9 +1,9 @@
 use Rattle.std.proofs.Common.{◌∙◌, arith, refl, rules, sym, subst, true, false}
 use Rattle.ghc_console.specs.Replies.{IsReply}
 use Rattle.std.proofs.KnownBytes.{prepend_known-nil}
-use Rattle.ghc_console.proofs.Fired.{fired_start, fired_on, fired_end}
-use Rattle.ghc_console.proofs.Going.{going_asked, going_on, going_end, going_quit, broken_read, broken_write, kept_then, taken_kept, going_start, given_start, given_then, given_kept}
-use Rattle.ghc_console.proofs.serving.session.Goals as goal
+use Rattle.ghc_console.proofs.SessionFirings.{fired_start, fired_on, fired_end}
+use Rattle.ghc_console.proofs.SessionLoop.{going_asked, going_on, going_end, going_quit, broken_read, broken_write, kept_then, taken_kept, going_start, given_start, given_then, given_kept}
+use Rattle.ghc_console.proofs.session_loop.session.Goals as goal
 
 pub loop-init : goal.loop-init
 loop-init g c = (tt, tt, rw c.new-ahead.ensures (going_start _ _ _ _ _ (omega arith)), refl, refl, rw (c.new-ahead.ensures, prepend_known-nil _) (fired_start _ _), given_start _ _)

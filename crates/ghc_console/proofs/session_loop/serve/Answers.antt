@@ -1,6 +1,6 @@
 use Rattle.std.proofs.Common.{sym, subst}
 use Rattle.ghc_console.specs.Replies.{IsReply}
-use Rattle.ghc_console.proofs.serving.serve.Goals as goal
+use Rattle.ghc_console.proofs.session_loop.serve.Goals as goal
 
 pub returns-clause-served : goal.returns-clause-served
 returns-clause-served g c = λ bytes says.

@@ -17,7 +17,7 @@ use Rattle.ghc_records.specs.Record.{Record, numbers}
 use Rattle.ghc_records.specs.Replay.{MakesVariable}
 use Rattle.ghc_records.proofs.Heads.{first_in}
 use Rattle.ghc_records.proofs.OrderLemmas.{record_once}
-use Rattle.ghc_console.specs.Asked.{Names, IsGivenName}
+use Rattle.ghc_console.specs.VariableNamed.{Names, IsGivenName}
 use Rattle.ghc_console.specs.Finding.{Finds}
 
 -- what stands among the first occurrences stands in the list

@@ -1,9 +1,9 @@
 use Rattle.std.proofs.Common.{◌≡◌, ◌+◌, ◌-◌}
 use Rattle.std.specs.Io.KnownBytes.{prepend_known}
 use Rattle.ghc_console.specs.Reading.{CountsGiven}
-use Rattle.ghc_console.proofs.Fired.{FiredSo}
-use Rattle.ghc_console.proofs.Going.{Going}
-use Rattle.ghc_console.proofs.serving.session.Given as goal
+use Rattle.ghc_console.proofs.SessionFirings.{FiredSo}
+use Rattle.ghc_console.proofs.SessionLoop.{Going}
+use Rattle.ghc_console.proofs.session_loop.session.Given as goal
 
 abbrev pub invariant-loop : goal.invariant-loop
 invariant-loop g l =

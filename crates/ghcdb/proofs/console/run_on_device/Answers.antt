@@ -1,5 +1,5 @@
-use Rattle.ghcdb.proofs.Told.{told_kept}
-use Rattle.ghcdb.proofs.playing.play_on.Goals as goal
+use Rattle.ghcdb.proofs.Tells.{told_kept}
+use Rattle.ghcdb.proofs.console.run_on_device.Goals as goal
 
 pub returns-in-Ok-flush-clause-told : goal.returns-in-Ok-flush-clause-told
 returns-in-Ok-flush-clause-told g c =

@@ -1,10 +1,10 @@
 // What can be refused, and how its refusal begins.
 ghost use Rattle.std.specs.Prelude.{◌≡◌};
-ghost use Rattle.ghcdb.specs.Source.{prefix_of};
+ghost use Rattle.ghcdb.specs.RefusedPart.{prefix_of};
 
 /// What is refused.
-#[derive(Clone, Copy, Debug, PartialEq, Eq)]
-pub enum Source {
+#[derive(Clone, Copy)]
+pub enum RefusedPart {
     Program,
     Query,
     History,
@@ -12,17 +12,17 @@ pub enum Source {
     Session,
 }
 
-impl Source {
+impl RefusedPart {
     /// What stands before the text of a refusal.
     pub fn prefix(self) -> &'static str
         ensures { result.now ≡ prefix_of self }
     {
         match self {
-            Source::Program => "program: ",
-            Source::Query => "query: ",
-            Source::History => "history: ",
-            Source::Schedule => "schedule: ",
-            Source::Session => "session: ",
+            RefusedPart::Program => "program: ",
+            RefusedPart::Query => "query: ",
+            RefusedPart::History => "history: ",
+            RefusedPart::Schedule => "schedule: ",
+            RefusedPart::Session => "session: ",
         }
     }
 }

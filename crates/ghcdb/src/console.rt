@@ -13,7 +13,7 @@ use std::sync::Wait;
 use std::sync::ledger::{Blank, Ledger};
 
 // Runs a session on the device, and hands on what that holds back at the end.
-fn play_on<L: Ledger, R: Wait, I: Read, O: Write + Drop>(
+fn run_on_device<L: Ledger, R: Wait, I: Read, O: Write + Drop>(
     rt: &R,
     alloc: Global,
     core: Core,
@@ -35,7 +35,7 @@ fn play_on<L: Ledger, R: Wait, I: Read, O: Write + Drop>(
 }
 
 // Runs a session from the reader to the writer, whose calls are counted in the ledger.
-fn play_between<L: Ledger, R: Wait + AllocGlobal, I: Read + Drop, O: Write + Drop>(
+fn run_between<L: Ledger, R: Wait + AllocGlobal, I: Read + Drop, O: Write + Drop>(
     rt: &R,
     core: Core,
     reader: I,
@@ -46,12 +46,12 @@ fn play_between<L: Ledger, R: Wait + AllocGlobal, I: Read + Drop, O: Write + Dro
     ensures { IfErr result (λ fault. fault ≡ Fault.Device) }
 {
     let mut device: Lines<I, O, L> = Lines::new(reader, writer, blank);
-    let (_core, result) = play_on(rt, rt.alloc(), core, &mut device);
+    let (_core, result) = run_on_device(rt, rt.alloc(), core, &mut device);
     result
 }
 
 // Runs a session over the standard streams.
-fn play_counted<L: Ledger, R: Wait + Input + Print + AllocGlobal>(
+fn run_counted<L: Ledger, R: Wait + Input + Print + AllocGlobal>(
     rt: &R,
     core: Core,
     blank: Blank,
@@ -62,13 +62,13 @@ fn play_counted<L: Ledger, R: Wait + Input + Print + AllocGlobal>(
     let Ok(writer) = BufWriter::new(rt.alloc(), io::writer(rt)) else {
         return Err(Fault::Memory);
     };
-    play_between::<L, _, _, _>(rt, core, rt.reader(), writer, blank)
+    run_between::<L, _, _, _>(rt, core, rt.reader(), writer, blank)
 }
 
 /// Runs a session over the standard streams, up to `quit` or the end of the input. `Device` where one of them fails, and
 /// `Memory` where there is none for the output that is gathered.
-pub fn play<R: Wait + Input + Print + AllocGlobal>(rt: &R, core: Core) -> Result<(), Fault>
+pub fn run_console<R: Wait + Input + Print + AllocGlobal>(rt: &R, core: Core) -> Result<(), Fault>
     ensures { IfErr result (λ fault. (fault ≡ Fault.Memory) ⊎ (fault ≡ Fault.Device)) }
 {
-    play_counted::<Brand, R>(rt, core, Blank::new(2))
+    run_counted::<Brand, R>(rt, core, Blank::new(2))
 }
