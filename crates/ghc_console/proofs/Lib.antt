@@ -1,11 +1,11 @@
-pub mod Progress
+pub mod WriteLoop
 pub mod Rows
-pub mod NextLine
+pub mod ReadLoop
 pub mod WordLemmas
-pub mod Going
-mod Fired
-pub mod Told
+pub mod SessionLoop
+mod SessionFirings
+pub mod StepReplies
 pub mod RecordLines
-pub mod Bars
-pub mod Found
-pub mod Queried
+pub mod NumberedWords
+pub mod Finds
+pub mod QueryVariables

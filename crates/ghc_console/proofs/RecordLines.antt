@@ -1,16 +1,15 @@
 -- The lines of records, one more at a time.
-use Rattle.std.proofs.Common.{◌≡◌, ℕ, zero, suc, ◌+◌, List, [], ◌∷◌, ◌++◌, drop, Some, sym, ap, ◌∙◌, slice_get, append_assoc, arith, subst}
+use Rattle.std.proofs.Common.{◌≡◌, ℕ, suc, ◌+◌, List, [], ◌∷◌, ◌++◌, drop, drop-cons, Some, sym, ap, ◌∙◌, slice_get, append_assoc, arith}
+use Rattle.std.proofs.lemmas.Option.{slice_get_within, get_or_from_slice_get}
 use Rattle.ghc_records.specs.Record.{Record}
 use Rattle.ghc_records.specs.StepText.{record_text}
 use Rattle.ghc_console.specs.Replies.{lined, record_lines}
 
 -- What is left from a place on is the record there and the rest.
 drop_at : (rs : List Record) (i : ℕ) (r : Record) → slice_get rs i ≡ Some r → drop i rs ≡ r ∷ drop (i + 1) rs
-drop_at [] i r e = cc
-drop_at (x ∷ rs) zero r e = let same : x ≡ r = cc in ap (λ y. y ∷ rs) same
-drop_at (x ∷ rs) (suc i) r e =
-    let more : suc i + 1 ≡ suc (i + 1) = omega arith in
-    subst (λ n. drop i rs ≡ r ∷ drop n (x ∷ rs)) (sym more) (drop_at rs i r e)
+drop_at rs i r e =
+    let more : suc i ≡ i + 1 = omega arith in
+    drop-cons rs i r (slice_get_within rs i r e) ∙ (λ k. get_or_from_slice_get rs i r r e k ∷ drop (more k) rs)
 
 -- Where a text and the lines from a place on are all lines, so are the text with the line there and the lines behind it.
 pub lines_on : (rs : List Record) (i : ℕ) (r : Record) (before mid later : List ℕ) → slice_get rs i ≡ Some r → before ++ record_lines (drop i rs) ≡ record_lines rs

@@ -6,7 +6,7 @@ use Rattle.std.specs.Io.KnownBytes.{Consumes, IsAtEnd}
 use Rattle.std.proofs.lemmas.List.Sums.{sum_by-append}
 use Rattle.ghc_console.specs.Lines.{onto, rows_of, line_feeds, line_of, lines_of}
 use Rattle.ghc_console.specs.Reading.{HasGathered, IsMadeOf, IsNextLine, TakesFront, TakesLine}
-use Rattle.ghc_console.specs.declared.gather.Gathered.{Gathered}
+use Rattle.ghc_console.specs.declared.line_buffer.Gathered.{Gathered}
 use Rattle.ghc_console.specs.declared.reading.Line.{Line}
 use Rattle.ghc_console.specs.declared.reading.Line.TheVariants as line
 

@@ -3,11 +3,11 @@ use Rattle.std.specs.Prelude.{◌≡◌, ◌≤◌, ◌⊎◌, ◌+◌, ℕ, Lis
 use Rattle.ghc_fire.specs.Meter.{fired}
 use Rattle.ghc_fire.specs.declared.meter.Meter.{Meter}
 use Rattle.ghc_console.specs.Commands.{command_of}
-use Rattle.ghc_console.specs.declared.command.Command.{Command}
-use Rattle.ghc_console.specs.declared.command.Command.TheVariants.{Nothing, Step, Undo, Show, Records, Quit, Unknown}
+use Rattle.ghc_console.specs.declared.command.LineCommand.{LineCommand}
+use Rattle.ghc_console.specs.declared.command.LineCommand.TheVariants.{Nothing, Step, Undo, Show, Records, Quit, Unknown}
 
 -- A step fires once in the core, or not at all where it is refused before; no other command fires.
-abbrev pub Fires : Command → Meter → Meter → Type 0
+abbrev pub Fires : LineCommand → Meter → Meter → Type 0
 Fires (Step goal choice) old new = (new ≡ old) ⊎ (new ≡ fired old)
 Fires Nothing old new = new ≡ old
 Fires (Undo number) old new = new ≡ old
@@ -17,7 +17,7 @@ Fires Quit old new = new ≡ old
 Fires Unknown old new = new ≡ old
 
 -- how many firings a command may ask for
-abbrev pub firings_of : Command → ℕ
+abbrev pub firings_of : LineCommand → ℕ
 firings_of (Step goal choice) = 1
 firings_of Nothing = 0
 firings_of (Undo number) = 0

@@ -4,7 +4,7 @@ pub mod Lines
 pub mod Reading
 pub mod Words
 pub mod Commands
-pub mod Asked
+pub mod VariableNamed
 pub mod Finding
 pub mod Replies
 pub mod Session

@@ -19,10 +19,10 @@ use Rattle.ghc_core.specs.Proposes.{AttemptAnswers, IsCommitOf}
 use Rattle.ghc_core.specs.Reverses.{Undoes}
 use Rattle.ghc_trace.specs.Ports.{taken_ports}
 use Rattle.ghc_trace.specs.PortText.{ports_text}
-use Rattle.ghc_console.specs.Asked.{Names, IsAsked}
+use Rattle.ghc_console.specs.VariableNamed.{Names, IsVariableNamed}
 use Rattle.ghc_console.specs.Commands.{command_of}
-use Rattle.ghc_console.specs.declared.command.Command.{Command}
-use Rattle.ghc_console.specs.declared.command.Command.TheVariants.{Nothing as nothing, Step as step, Undo as undo, Show as show, Records as records, Quit as quit, Unknown as unknown}
+use Rattle.ghc_console.specs.declared.command.LineCommand.{LineCommand}
+use Rattle.ghc_console.specs.declared.command.LineCommand.TheVariants.{Nothing as nothing, Step as step, Undo as undo, Show as show, Records as records, Quit as quit, Unknown as unknown}
 use Rattle.ghc_console.specs.Reading.{line_limit}
 
 -- the text as a line
@@ -42,10 +42,10 @@ pub data Takes (w : World) (p : Proposal) : List ℕ → World → Type 0 where
   takes : (r : Record) → IsCommitOf w p r → Takes w p (ports_text (taken_ports r)) (with_step r w)
   full : IsFull w → Takes w p (refusal Fault.Full) w
 
--- Steps w g choice text v: an attempt at the goal named g, with a clause chosen or not, proposes a step, which is taken, or the attempt is refused.
-pub data Steps (w : World) (g : GoalName) (choice : Option ℕ) (text : List ℕ) (v : World) : Type 0 where
-  steps : (p : Proposal) → p.goal ≡ g → AttemptAnswers w g choice (proposes p.act p.effect) → Takes w p text v → Steps w g choice text v
-  fails : (f : Fault) → AttemptAnswers w g choice (refused f) → text ≡ refusal f → v ≡ w → Steps w g choice text v
+-- RepliesToStep w g choice text v: an attempt at the goal named g, with a clause chosen or not, proposes a step, which is taken, or the attempt is refused.
+pub data RepliesToStep (w : World) (g : GoalName) (choice : Option ℕ) (text : List ℕ) (v : World) : Type 0 where
+  steps : (p : Proposal) → p.goal ≡ g → AttemptAnswers w g choice (proposes p.act p.effect) → Takes w p text v → RepliesToStep w g choice text v
+  fails : (f : Fault) → AttemptAnswers w g choice (refused f) → text ≡ refusal f → v ≡ w → RepliesToStep w g choice text v
 
 -- the numbers with a comma between them, and `-` where there is none
 abbrev pub numbers_text : List ℕ → List ℕ
@@ -64,13 +64,13 @@ pub data IsToldAs : Reply → List ℕ → Type 0 where
 abbrev pub TakesBack : World → ℕ → List ℕ → World → Type 0
 TakesBack w n text v = (reply : Reply) × Undoes ⊥ w n reply v × IsToldAs reply text
 
--- Shows w names word text: the variable that the word names, and the term to which it leads; or the refusal where it names none, or the term is too long.
-pub data Shows (w : World) (names : Names) (word : List ℕ) : List ℕ → Type 0 where
-  shows : (x : VarName) (text : List ℕ) → IsAsked w names word x → IsTextOf (value_at w.state.store) (variable x) text → length text ≤ print_limit
-      → Shows w names word (lined (word ++ (codes " = " ++ text)))
-  too_long : (x : VarName) (text : List ℕ) → IsAsked w names word x → IsTextOf (value_at w.state.store) (variable x) text → print_limit < length text
-      → Shows w names word (refusal (Fault.Limit limit.Print))
-  no_variable : ((x : VarName) → ¬ IsAsked w names word x) → Shows w names word (refusal Fault.NoVariable)
+-- RepliesToShow w names word text: the variable that the word names, and the term to which it leads; or the refusal where it names none, or the term is too long.
+pub data RepliesToShow (w : World) (names : Names) (word : List ℕ) : List ℕ → Type 0 where
+  shows : (x : VarName) (text : List ℕ) → IsVariableNamed w names word x → IsTextOf (value_at w.state.store) (variable x) text → length text ≤ print_limit
+      → RepliesToShow w names word (lined (word ++ (codes " = " ++ text)))
+  too_long : (x : VarName) (text : List ℕ) → IsVariableNamed w names word x → IsTextOf (value_at w.state.store) (variable x) text → print_limit < length text
+      → RepliesToShow w names word (refusal (Fault.Limit limit.Print))
+  no_variable : ((x : VarName) → ¬ IsVariableNamed w names word x) → RepliesToShow w names word (refusal Fault.NoVariable)
 
 -- the records, a line each
 abbrev pub record_lines : List Record → List ℕ
@@ -83,17 +83,17 @@ records_text [] = lined (codes "none")
 records_text (r ∷ rs) = record_lines (r ∷ rs)
 
 -- Replies w names c text v: the reply to the command c in the world w is the text, and it leaves the world v.
-abbrev pub Replies : World → Names → Command → List ℕ → World → Type 0
+abbrev pub Replies : World → Names → LineCommand → List ℕ → World → Type 0
 Replies w names nothing text v = (text ≡ []) × (v ≡ w)
-Replies w names (step g choice) text v = Steps w g choice text v
+Replies w names (step g choice) text v = RepliesToStep w g choice text v
 Replies w names (undo n) text v = TakesBack w n text v
-Replies w names (show word) text v = Shows w names word text × (v ≡ w)
+Replies w names (show word) text v = RepliesToShow w names word text × (v ≡ w)
 Replies w names records text v = (text ≡ records_text w.kept) × (v ≡ w)
 Replies w names quit text v = (text ≡ []) × (v ≡ w)
 Replies w names unknown text v = (text ≡ refusal Fault.Command) × (v ≡ w)
 
 -- The command ends the session.
-abbrev pub quits : Command → Bool
+abbrev pub quits : LineCommand → Bool
 quits nothing = false
 quits (step g choice) = false
 quits (undo n) = false

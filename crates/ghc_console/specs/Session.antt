@@ -2,7 +2,7 @@
 use Rattle.std.specs.Prelude.{◌≡◌, ◌≤◌, ◌+◌, ℕ, Bool, true, false, List, [], ◌∷◌, ◌++◌, Option, Result, IfSome, MatchResult, take}
 use Rattle.std.specs.Io.KnownBytes.{Appends}
 use Rattle.ghc_core.specs.World.{World}
-use Rattle.ghc_console.specs.Asked.{Names}
+use Rattle.ghc_console.specs.VariableNamed.{Names}
 use Rattle.ghc_console.specs.Lines.{line_feeds, lines_of}
 use Rattle.ghc_console.specs.Replies.{IsReply}
 

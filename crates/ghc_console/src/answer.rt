@@ -5,37 +5,37 @@ ghost use Rattle.ghc_console.specs.Firing.{Fires};
 ghost use Rattle.ghc_console.specs.Reading.{LineSays, line_limit};
 ghost use Rattle.ghc_console.specs.Replies.{IsReply, Replies, quits, reply_bytes};
 
-use crate::command::{Command, parse};
+use crate::command::{LineCommand, parse};
 use crate::reading::Line;
 use crate::reply::{records, refused, show, step};
-use crate::reversal::undo;
+use crate::undo_reply::undo;
 use ghc_core::Core;
 use ghc_term::{Fault, Limit};
 use std::alloc::{AllocError, Global};
 
 // Carries a command out, and gives the reply. An error leaves the core as it was.
-fn execute(alloc: Global, core: &mut Core, command: &Command) -> Result<Vec<u8>, AllocError>
+fn execute(alloc: Global, core: &mut Core, command: &LineCommand) -> Result<Vec<u8>, AllocError>
     ensures reply { IfOk result (λ t. Replies core.old.world core.old.names command.now t.items core.new.world) }
     ensures err { OnErr result (core.new.world ≡ core.old.world) }
     ensures names { core.new.names ≡ core.old.names }
     ensures fires { Fires command.now core.old.meter core.new.meter }
 {
     match command {
-        Command::Nothing | Command::Quit => Ok(Vec::new(alloc)),
-        Command::Step(goal, choice) => step(alloc, core, *goal, *choice),
-        Command::Undo(number) => undo(alloc, core, *number),
-        Command::Show(word) => show(alloc, core, word.as_bytes()),
-        Command::Records => records(alloc, core),
-        Command::Unknown => refused(alloc, &Fault::Command),
+        LineCommand::Nothing | LineCommand::Quit => Ok(Vec::new(alloc)),
+        LineCommand::Step(goal, choice) => step(alloc, core, *goal, *choice),
+        LineCommand::Undo(number) => undo(alloc, core, *number),
+        LineCommand::Show(word) => show(alloc, core, word.as_bytes()),
+        LineCommand::Records => records(alloc, core),
+        LineCommand::Unknown => refused(alloc, &Fault::Command),
     }
 }
 
 // Whether the command ends the session.
-fn is_quit(command: &Command) -> bool
+fn is_quit(command: &LineCommand) -> bool
     ensures { result ≡ quits command.now }
 {
     match command {
-        Command::Quit => true,
+        LineCommand::Quit => true,
         _ => false,
     }
 }

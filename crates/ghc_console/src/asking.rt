@@ -5,7 +5,7 @@ ghost use Rattle.ghc_term.specs.Lists.{In};
 ghost use Rattle.ghc_term.specs.Variables.{variables_of_goals};
 ghost use Rattle.ghc_records.specs.Record.{Record};
 ghost use Rattle.ghc_records.specs.Replay.{IsVariableOf, MakesVariable};
-ghost use Rattle.ghc_console.specs.Asked.{IsAsked, IsGivenName, numbered_of, variable_numbered};
+ghost use Rattle.ghc_console.specs.VariableNamed.{IsVariableNamed, IsGivenName, numbered_of, variable_numbered};
 
 use crate::finding::in_goals;
 use crate::words::{first, number};
@@ -104,9 +104,9 @@ fn is_variable_of(core: &Core, x: VarName) -> bool
 
 /// The variable that the word names: one of the query by its name, but for `_`; or `_n_m`, where the query has it or a kept
 /// step made it. One look at each name and each symbol of the query, and one look-up in the record.
-pub fn asked(core: &Core, word: &[u8]) -> Option<VarName>
-    ensures found { IfSome result (IsAsked core.now.world core.now.names word.now) }
-    ensures none { IfNone result ((x : var_name) → ¬ IsAsked core.now.world core.now.names word.now x) }
+pub fn variable_named(core: &Core, word: &[u8]) -> Option<VarName>
+    ensures found { IfSome result (IsVariableNamed core.now.world core.now.names word.now) }
+    ensures none { IfNone result ((x : var_name) → ¬ IsVariableNamed core.now.world core.now.names word.now x) }
 {
     if let Some(x) = given_name(core.query(), word) {
         return Some(x);

@@ -2,7 +2,7 @@
 ghost use Rattle.std.specs.Prelude.{◌≡◌, map, IfOk};
 ghost use Rattle.std.specs.List.{list_all};
 ghost use Rattle.ghc_console.specs.Words.{is_printable};
-ghost use Rattle.ghc_console.specs.Commands.{bare_command, command_of, command_of_words, command_with, command_with_two};
+ghost use Rattle.ghc_console.specs.Commands.{command_of_one_word, command_of, command_of_words, command_of_two_words, command_of_three_words};
 
 use crate::word::Word;
 use crate::words::{goal_name, is_variable_word, number, words};
@@ -11,7 +11,7 @@ use std::alloc::{AllocError, Global};
 
 /// What a line asks for.
 #[derive(Drop)]
-pub enum Command {
+pub enum LineCommand {
     /// A line without words.
     Nothing,
     /// A step with the goal, by the clause of this number where one is named.
@@ -29,64 +29,68 @@ pub enum Command {
 }
 
 // The command of a word alone.
-fn bare(name: &[u8]) -> Command
-    ensures { result ≡ bare_command name.now }
+fn one_word_command(first_word: &[u8]) -> LineCommand
+    ensures { result ≡ command_of_one_word first_word.now }
 {
-    if name == b"records".as_slice() {
-        return Command::Records;
+    if first_word == b"records".as_slice() {
+        return LineCommand::Records;
     }
-    if name == b"quit".as_slice() {
-        return Command::Quit;
+    if first_word == b"quit".as_slice() {
+        return LineCommand::Quit;
     }
-    Command::Unknown
+    LineCommand::Unknown
 }
 
 // The command of a word and one more.
-fn with(alloc: Global, name: &[u8], word: &[u8]) -> Result<Command, AllocError>
-    ensures { IfOk result (λ command. command ≡ command_with name.now word.now) }
+fn two_word_command(
+    alloc: Global,
+    first_word: &[u8],
+    rest: &[u8],
+) -> Result<LineCommand, AllocError>
+    ensures { IfOk result (λ command. command ≡ command_of_two_words first_word.now rest.now) }
 {
-    if name == b"step".as_slice() {
-        return match goal_name(word) {
-            Some(goal) => Ok(Command::Step(goal, None)),
-            None => Ok(Command::Unknown),
+    if first_word == b"step".as_slice() {
+        return match goal_name(rest) {
+            Some(goal) => Ok(LineCommand::Step(goal, None)),
+            None => Ok(LineCommand::Unknown),
         };
     }
-    if name == b"undo".as_slice() {
-        return match number(word) {
-            Some(step) => Ok(Command::Undo(step)),
-            None => Ok(Command::Unknown),
+    if first_word == b"undo".as_slice() {
+        return match number(rest) {
+            Some(step) => Ok(LineCommand::Undo(step)),
+            None => Ok(LineCommand::Unknown),
         };
     }
-    if name == b"show".as_slice() && is_variable_word(word) {
-        let word = Word::new(alloc, word)?;
-        return Ok(Command::Show(word));
+    if first_word == b"show".as_slice() && is_variable_word(rest) {
+        let word = Word::new(alloc, rest)?;
+        return Ok(LineCommand::Show(word));
     }
-    Ok(Command::Unknown)
+    Ok(LineCommand::Unknown)
 }
 
 // The command of a word and two more.
-fn with_two(name: &[u8], goal: &[u8], clause: &[u8]) -> Command
-    ensures { result ≡ command_with_two name.now goal.now clause.now }
+fn three_word_command(first_word: &[u8], goal: &[u8], clause: &[u8]) -> LineCommand
+    ensures { result ≡ command_of_three_words first_word.now goal.now clause.now }
 {
-    if name == b"step".as_slice() {
+    if first_word == b"step".as_slice() {
         return match (goal_name(goal), number(clause)) {
-            (Some(goal), Some(clause)) => Command::Step(goal, Some(clause)),
-            _ => Command::Unknown,
+            (Some(goal), Some(clause)) => LineCommand::Step(goal, Some(clause)),
+            _ => LineCommand::Unknown,
         };
     }
-    Command::Unknown
+    LineCommand::Unknown
 }
 
 // The command that words say.
-fn of_words(alloc: Global, words: &[&[u8]]) -> Result<Command, AllocError>
+fn of_words(alloc: Global, words: &[&[u8]]) -> Result<LineCommand, AllocError>
     ensures { IfOk result (λ command. command ≡ command_of_words (map (λ w. w.now) words.now)) }
 {
     match words {
-        [] => Ok(Command::Nothing),
-        [name] => Ok(bare(name)),
-        [name, word] => with(alloc, name, word),
-        [name, goal, clause] => Ok(with_two(name, goal, clause)),
-        _ => Ok(Command::Unknown),
+        [] => Ok(LineCommand::Nothing),
+        [first_word] => Ok(one_word_command(first_word)),
+        [first_word, rest] => two_word_command(alloc, first_word, rest),
+        [first_word, goal, clause] => Ok(three_word_command(first_word, goal, clause)),
+        _ => Ok(LineCommand::Unknown),
     }
 }
 
@@ -97,11 +101,11 @@ fn is_plain(line: &[u8]) -> bool
 }
 
 /// The command that a line says; a line that says none is `Unknown`. It takes time and memory in proportion to the line.
-pub fn parse(alloc: Global, line: &[u8]) -> Result<Command, AllocError>
+pub fn parse(alloc: Global, line: &[u8]) -> Result<LineCommand, AllocError>
     ensures { IfOk result (λ command. command ≡ command_of line.now) }
 {
     if !is_plain(line) {
-        return Ok(Command::Unknown);
+        return Ok(LineCommand::Unknown);
     }
     let words = words(alloc, line)?;
     of_words(alloc, words.as_slice())

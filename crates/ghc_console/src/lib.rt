@@ -3,26 +3,26 @@
 
 mod answer;
 mod asking;
+mod call_counts;
 mod command;
 mod device;
 mod finding;
-mod gather;
+mod line_buffer;
 mod lines;
 mod reading;
 mod reply;
-mod reversal;
 mod script;
-mod serving;
-mod tally;
+mod session_loop;
+mod undo_reply;
 mod word;
 pub mod words;
 
-pub use asking::asked;
-pub use command::{Command, parse};
+pub use asking::variable_named;
+pub use command::{LineCommand, parse};
 pub use device::{Broken, Device, write_all};
-pub use gather::LINE_LIMIT;
+pub use line_buffer::LINE_LIMIT;
 pub use lines::Lines;
 pub use reading::{Ahead, Line};
 pub use script::Script;
-pub use serving::session;
+pub use session_loop::session;
 pub use word::Word;

@@ -5,8 +5,8 @@ ghost use Rattle.std.specs.Io.Buffered.{writer_buffer, writer_contents};
 ghost use Rattle.std.specs.Io.KnownBytes.{Keeps, ReadConsumes, WriteAppends};
 ghost use Rattle.ghc_console.specs.Device.{Counts, EndsWith};
 
+use crate::call_counts::CallCounts;
 use crate::device::{Broken, Device};
-use crate::tally::Tally;
 use std::io::{BufWriter, ErrorKind, Read, Write};
 use std::marker::Model;
 use std::sync::ledger::{Blank, Ledger};
@@ -16,7 +16,7 @@ use std::sync::ledger::{Blank, Ledger};
 pub struct Lines<R: Read, W: Write + Drop, L: Ledger> {
     reader: R,
     writer: BufWriter<W>,
-    calls: Tally<L>,
+    calls: CallCounts<L>,
 }
 
 impl<R: Read, W: Write + Drop, L: Ledger> Model for Lines<R, W, L> {
@@ -97,7 +97,7 @@ impl<R: Read, W: Write + Drop, L: Ledger> Lines<R, W, L> {
         Lines {
             reader,
             writer,
-            calls: Tally::new(blank),
+            calls: CallCounts::new(blank),
         }
     }
 

@@ -5,7 +5,8 @@ ghost use Rattle.ghc_console.specs.Device.{Counts};
 ghost use Rattle.ghc_console.specs.Reading.{AsksAtNeed, CountsGiven, HasGathered, IsMadeOf, IsNextLine, TakesFront};
 
 use crate::device::{Broken, Device};
-use crate::gather::{Gathered, LINE_LIMIT, State};
+use crate::line_buffer::{Gathered, LINE_LIMIT, State};
+use crate::words::first;
 use std::alloc::Global;
 use std::marker::Model;
 use std::sync::Wait;
@@ -37,16 +38,6 @@ impl Model for Ahead {
     ghost view = { λ a. take (a.end - a.start) (drop a.start a.buf) };
 
     ghost invariant = { λ a. (a.start ≤ a.end) × (a.end ≤ 4096) };
-}
-
-// Where the first line feed is.
-fn end_of_line(bytes: &[u8]) -> Option<usize>
-    ensures bound { IfSome result (λ i. i < length bytes.now) }
-    ensures found { IfSome result (λ i. bytes.now ≡ take i bytes.now ++ 10 ∷ drop (i + 1) bytes.now) }
-    ensures plain { IfSome result (λ i. All (λ b. b ≢ 10) (take i bytes.now)) }
-    ensures none { IfNone result (All (λ b. b ≢ 10) bytes.now) }
-{
-    bytes.iter().position(|b| *b == b'\n')
 }
 
 // What becomes of the bytes of a row; `ended` says whether a line feed ends it.
@@ -115,7 +106,7 @@ impl Ahead {
         ensures { TakesFront self.old self.new line.old line.new result }
     {
         let rest = &self.buf[self.start..self.end];
-        match end_of_line(rest) {
+        match first(rest, b'\n') {
             Some(i) => {
                 line.add(&rest[..i]);
                 self.start += i + 1;

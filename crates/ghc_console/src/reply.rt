@@ -5,9 +5,9 @@ ghost use Rattle.ghc_fire.specs.Meter.{fired};
 ghost use Rattle.ghc_core.specs.Proposes.{StillHolds};
 ghost use Rattle.ghc_trace.specs.Ports.{taken_ports};
 ghost use Rattle.ghc_trace.specs.PortText.{ports_text};
-ghost use Rattle.ghc_console.specs.Replies.{Takes, Steps, Shows, lined, record_lines, records_text, refusal};
+ghost use Rattle.ghc_console.specs.Replies.{Takes, RepliesToStep, RepliesToShow, lined, record_lines, records_text, refusal};
 
-use crate::asking::asked;
+use crate::asking::variable_named;
 use ghc_core::Core;
 use ghc_fire::{Meter, Proposal};
 use ghc_records::{Record, Records, push_record};
@@ -68,7 +68,7 @@ pub fn step(
     goal: GoalName,
     choice: Option<u32>,
 ) -> Result<Vec<u8>, AllocError>
-    ensures text { IfOk result (λ t. Steps core.old.world goal choice t.items core.new.world) }
+    ensures text { IfOk result (λ t. RepliesToStep core.old.world goal choice t.items core.new.world) }
     ensures err { OnErr result (core.new.world ≡ core.old.world) }
     ensures names { core.new.names ≡ core.old.names }
     ensures meter { (core.new.meter ≡ core.old.meter) ⊎ (core.new.meter ≡ fired core.old.meter) }
@@ -93,9 +93,9 @@ fn shown(alloc: Global, word: &[u8], term: &str) -> Result<Vec<u8>, AllocError>
 
 /// Tells the term to which the variable leads that the word names; or the refusal.
 pub fn show(alloc: Global, core: &Core, word: &[u8]) -> Result<Vec<u8>, AllocError>
-    ensures { IfOk result (λ t. Shows core.now.world core.now.names word.now t.items) }
+    ensures { IfOk result (λ t. RepliesToShow core.now.world core.now.names word.now t.items) }
 {
-    let Some(x) = asked(core, word) else {
+    let Some(x) = variable_named(core, word) else {
         return refused(alloc, &Fault::NoVariable);
     };
     let variable = Term::variable(x);

@@ -5,8 +5,8 @@ ghost use Rattle.std.specs.Io.KnownBytes.{Keeps, ReadConsumes, WriteAppends};
 ghost use Rattle.ghc_console.specs.Device.{Counts, EndsWith, Gives};
 ghost use Rattle.ghc_console.specs.Script.{after_call, fails_next};
 
+use crate::call_counts::CallCounts;
 use crate::device::{Broken, Device};
-use crate::tally::Tally;
 use std::alloc::Global;
 use std::marker::Model;
 use std::sync::ledger::{Blank, Ledger};
@@ -19,7 +19,7 @@ pub struct Script<L: Ledger> {
     at: usize,
     output: Vec<u8>,
     fails_after: Option<u64>,
-    calls: Tally<L>,
+    calls: CallCounts<L>,
 }
 
 impl<L: Ledger> Model for Script<L> {
@@ -81,7 +81,7 @@ impl<L: Ledger> Script<L> {
             at: 0,
             output: Vec::new(alloc),
             fails_after,
-            calls: Tally::new(blank),
+            calls: CallCounts::new(blank),
         }
     }
 

@@ -1,4 +1,4 @@
 -- Lemmas of this crate.
-mod Required
-mod Starting
-mod Told
+mod CommandLine
+mod IsStarted
+mod Tells

@@ -1,6 +1,6 @@
 -- The definitions of this crate.
 pub mod CommandLine
 pub mod Refusal
-pub mod Source
+pub mod RefusedPart
 pub mod Start
 pub mod Status

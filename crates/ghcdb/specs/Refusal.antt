@@ -1,7 +1,7 @@
 -- The lines of refusals.
 use Rattle.std.specs.Prelude.{ℕ, List, [], ◌∷◌, ◌++◌}
 use Rattle.ghc_term.specs.Fault.{fault_text}
-use Rattle.ghcdb.specs.Source.{prefix_of}
+use Rattle.ghcdb.specs.RefusedPart.{prefix_of}
 use Rattle.ghcdb.specs.declared.refusal.Refusal.{Refusal}
 
 abbrev pub line_feed : ℕ
@@ -9,4 +9,4 @@ line_feed = 10
 
 -- the line that tells of a refusal
 abbrev pub refusal_line : Refusal → List ℕ
-refusal_line refusal = prefix_of refusal.source ++ (fault_text refusal.fault ++ line_feed ∷ [])
+refusal_line refusal = prefix_of refusal.part ++ (fault_text refusal.fault ++ line_feed ∷ [])

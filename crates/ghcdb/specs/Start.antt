@@ -9,7 +9,7 @@ use Rattle.ghc_flat.specs.Checked.{HasClause, AreFaultless, IsAcceptedAs, IsProg
 use Rattle.ghc_flat.specs.declared.refused.Refused.{Refused}
 use Rattle.ghc_flat.specs.declared.refused.Refused.TheVariants as refused
 use Rattle.ghcdb.specs.declared.refusal.Refusal.{Refusal}
-use Rattle.ghcdb.specs.declared.source.Source.TheVariants as source
+use Rattle.ghcdb.specs.declared.refused_part.RefusedPart.TheVariants as part
 use Rattle.ghcdb.specs.declared.start.Started.{Started}
 
 -- The program's text is read as clauses, and the query's as the query; they are accepted, as the program.
@@ -22,7 +22,7 @@ pub record IsStarted (program_text : List ℕ) (query_text : List ℕ) (started 
 -- No memory is left, which is told of the program or of the query.
 pub record IsOutOfMemory (refusal : Refusal) : Type 0 where
   pub fault : refusal.fault ≡ Memory
-  pub source : (refusal.source ≡ source.Program) ⊎ (refusal.source ≡ source.Query)
+  pub part : (refusal.part ≡ part.Program) ⊎ (refusal.part ≡ part.Query)
 
 -- The texts are read as these clauses and this query.
 pub record AreRead (program_text : List ℕ) (query_text : List ℕ) (written : List WrittenClause) (query : WrittenQuery) : Type 0 where
@@ -31,28 +31,28 @@ pub record AreRead (program_text : List ℕ) (query_text : List ℕ) (written : 
 
 -- The refusal is the first of these: of the program's text; of the query's text, where the program's is read; for the fault of the program's clauses, where both texts are read; for the query's undefined call, where nothing is wrong with the program.
 pub data IsStartRefusal (program_text : List ℕ) (query_text : List ℕ) (refusal : Refusal) : Type 0 where
-  of_program : refusal.source ≡ source.Program → IsRefusal a_program program_text refusal.fault → IsStartRefusal program_text query_text refusal
+  of_program : refusal.part ≡ part.Program → IsRefusal a_program program_text refusal.fault → IsStartRefusal program_text query_text refusal
   of_query :
       (written : List WrittenClause)
       → IsReadProgram program_text written
-      → refusal.source ≡ source.Query
+      → refusal.part ≡ part.Query
       → IsRefusal a_query query_text refusal.fault
       → IsStartRefusal program_text query_text refusal
   of_clauses :
       (written : List WrittenClause) (query : WrittenQuery)
       → AreRead program_text query_text written query
-      → refusal.source ≡ source.Program
+      → refusal.part ≡ part.Program
       → IsProgramFault written refusal.fault
       → IsStartRefusal program_text query_text refusal
   of_calls :
       (written : List WrittenClause) (query : WrittenQuery)
       → AreRead program_text query_text written query
-      → refusal.source ≡ source.Query
+      → refusal.part ≡ part.Query
       → AreFaultless (HasClause written) written
       → IsQueryFault written query.goals refusal.fault
       → IsStartRefusal program_text query_text refusal
 
 -- what is told of a refusal by the checker: the fault, of the text at fault
 abbrev pub told_of : Refused → Refusal
-told_of (refused.Program e) = record { source = source.Program; fault = e }
-told_of (refused.Query e) = record { source = source.Query; fault = e }
+told_of (refused.Program e) = record { part = part.Program; fault = e }
+told_of (refused.Query e) = record { part = part.Query; fault = e }

@@ -8,11 +8,11 @@ ghost use Rattle.ghcdb.specs.Start.{IsOutOfMemory, IsStartRefusal, IsStarted};
 ghost use Rattle.ghcdb.specs.Status.{spare_fault, status_of};
 
 use crate::command_line::options;
+use crate::console::run_console;
 use crate::files::read_file;
-use crate::playing::play;
 use crate::refusal::{Refusal, push_line};
+use crate::refused_part::RefusedPart;
 use crate::settings::Options;
-use crate::source::Source;
 use crate::start::{Started, start};
 use crate::status::Status;
 use clap::Error;
@@ -59,10 +59,10 @@ fn debug<R: Wait + Files + Input + Print + Eprint + AllocGlobal>(
     rt: &R,
     options: Options<'_>,
 ) -> Status {
-    let source = Source::Program;
+    let part = RefusedPart::Program;
     let program = match read_file(rt, options.file) {
         Ok(program) => program,
-        Err(fault) => return tell(rt, &Refusal { source, fault }),
+        Err(fault) => return tell(rt, &Refusal { part, fault }),
     };
     match start_with(rt.alloc(), program.as_slice(), options) {
         Ok(started) => run_session(rt, started),
@@ -78,16 +78,16 @@ fn run_session<R: Wait + Input + Print + Eprint + AllocGlobal>(rt: &R, started: 
     let core = match Core::new(rt.alloc(), program, query) {
         Ok(core) => core,
         Err(_) => {
-            let source = Source::Program;
+            let part = RefusedPart::Program;
             let fault = Fault::Memory;
-            return tell(rt, &Refusal { source, fault });
+            return tell(rt, &Refusal { part, fault });
         }
     };
-    match play(rt, core) {
+    match run_console(rt, core) {
         Ok(()) => Status::Done,
         Err(fault) => {
-            let source = Source::Session;
-            tell(rt, &Refusal { source, fault })
+            let part = RefusedPart::Session;
+            tell(rt, &Refusal { part, fault })
         }
     }
 }
@@ -99,7 +99,7 @@ fn tell<R: Eprint + AllocGlobal>(rt: &R, refusal: &Refusal) -> Status
     let mut line = String::new(rt.alloc());
     let _ = match push_line(&mut line, refusal) {
         Ok(()) => rt.eprint(line),
-        Err(_) => eprintln!(rt; "{}{}", refusal.source.prefix(), spare_text(&refusal.fault)),
+        Err(_) => eprintln!(rt; "{}{}", refusal.part.prefix(), spare_text(&refusal.fault)),
     };
     Status::of(&refusal.fault)
 }

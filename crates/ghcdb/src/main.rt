@@ -2,12 +2,12 @@
 #![tactic(auto)]
 
 mod command_line;
+mod console;
 mod debugger;
 mod files;
-mod playing;
 mod refusal;
+mod refused_part;
 mod settings;
-mod source;
 mod start;
 mod status;
 

@@ -1,7 +1,7 @@
 // What a command line asks for.
 
 /// What the command line asks for.
-#[derive(Clone, Copy, Debug)]
+#[derive(Clone, Copy)]
 pub struct Options<'a> {
     /// The name of the program's file.
     pub file: &'a str,

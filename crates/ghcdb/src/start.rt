@@ -3,7 +3,7 @@ ghost use Rattle.std.specs.Prelude.{◌≡◌, ◌⊎◌, IfOk, IfErr, IsErrAnd,
 ghost use Rattle.ghcdb.specs.Start.{IsStarted, IsStartRefusal, IsOutOfMemory, told_of};
 
 use crate::refusal::Refusal;
-use crate::source::Source;
+use crate::refused_part::RefusedPart;
 use ghc_flat::{Program, Refused, judge};
 use ghc_reader::{Query, read_program, read_query};
 use std::alloc::Global;
@@ -29,15 +29,15 @@ pub fn start(alloc: Global, program: &[u8], query: &[u8]) -> Result<Started, Ref
     let written = match read_program(alloc, program) {
         Ok(written) => written,
         Err(fault) => {
-            let source = Source::Program;
-            return Err(Refusal { source, fault });
+            let part = RefusedPart::Program;
+            return Err(Refusal { part, fault });
         }
     };
     let query = match read_query(alloc, query) {
         Ok(query) => query,
         Err(fault) => {
-            let source = Source::Query;
-            return Err(Refusal { source, fault });
+            let part = RefusedPart::Query;
+            return Err(Refusal { part, fault });
         }
     };
     match judge(alloc, written, &query) {
@@ -52,12 +52,12 @@ fn refusal_of(refused: Refused) -> Refusal
 {
     match refused {
         Refused::Program(fault) => {
-            let source = Source::Program;
-            Refusal { source, fault }
+            let part = RefusedPart::Program;
+            Refusal { part, fault }
         }
         Refused::Query(fault) => {
-            let source = Source::Query;
-            Refusal { source, fault }
+            let part = RefusedPart::Query;
+            Refusal { part, fault }
         }
     }
 }

@@ -5,7 +5,7 @@ ghost use Rattle.ghcdb.specs.Status.{status_code, status_of};
 use ghc_term::Fault;
 
 /// How the program ends.
-#[derive(Clone, Copy, Debug, PartialEq, Eq)]
+#[derive(Clone, Copy)]
 pub enum Status {
     /// What was asked for is done.
     Done,

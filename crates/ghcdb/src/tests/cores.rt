@@ -8,7 +8,6 @@ use ghc_reader::{read_program, read_query};
 use ghc_records::Entry;
 use ghc_term::{Fault, GoalName, print};
 use std::alloc::{AllocError, Global};
-use std::process::Abort;
 use std::sync::{Arc, RwLock, Wait};
 use std::test::Fail;
 use std::thread;
@@ -16,9 +15,15 @@ use std::thread::Threads;
 
 // The core of a query under a program, where both are accepted.
 pub(crate) fn core_of(alloc: Global, program: &str, query: &str) -> Option<Core> {
-    let query = read_query(alloc, query.as_bytes()).ok()?;
-    let source = read_program(alloc, program.as_bytes()).ok()?;
-    let program = check(alloc, source, &query).ok()?;
+    let Ok(query) = read_query(alloc, query.as_bytes()) else {
+        return None;
+    };
+    let Ok(source) = read_program(alloc, program.as_bytes()) else {
+        return None;
+    };
+    let Ok(program) = check(alloc, source, &query) else {
+        return None;
+    };
     Core::new(alloc, program, query).ok()
 }
 
@@ -46,32 +51,35 @@ pub(crate) fn are_taken(alloc: Global, core: &mut Core, steps: &[(GoalName, u32)
     true
 }
 
-// Takes step 1 of the query's first goal: the proposal is stale then, and changes nothing but the meter.
-fn refuse_stale<R: Abort>(rt: &R, alloc: Global, core: &mut Core, proposal: &Proposal) {
-    assert!(rt; is_taken(alloc, core, goal(1), 1));
-    assert!(rt; matches!(core.commit(alloc, proposal), Err(Fault::Stale)));
-    assert!(rt; core.records().len() == 1);
-    assert!(rt; core.journal().len() == 1);
-    assert!(rt; core.meter().firings() == 2);
+// Whether the core has one record, of two firings.
+fn is_stepped_once(core: &Core) -> bool {
+    core.records().len() == 1 && core.journal().len() == 1 && core.meter().firings() == 2
+}
+
+// Takes step 1 of the query's first goal, and says whether the proposal is stale then, and changes nothing but the meter.
+fn is_refused(alloc: Global, core: &mut Core, proposal: &Proposal) -> bool {
+    is_taken(alloc, core, goal(1), 1)
+        && matches!(core.commit(alloc, proposal), Err(Fault::Stale))
+        && is_stepped_once(core)
 }
 
 // The same of a step of the goal at this place, proposed before.
-fn refuse_second<R: Abort>(rt: &R, alloc: Global, core: &mut Core, place: u32) {
+fn is_second_refused(alloc: Global, core: &mut Core, place: u32) -> bool {
     let mut meter = Meter::new();
     match core.attempt(alloc, &mut meter, goal(place), None) {
-        Ok(proposal) => refuse_stale(rt, alloc, core, &proposal),
-        Err(_) => panic!(rt; "no proposal"),
+        Ok(proposal) => is_refused(alloc, core, &proposal),
+        Err(_) => false,
     }
 }
 
-// The same in the core of a query, where one is given.
-fn try_second<R: Abort>(rt: &R, alloc: Global, core: Option<Core>, place: u32) {
-    match core {
+// The same in the core of the query.
+fn is_stale(alloc: Global, query: &str, place: u32) -> bool {
+    match core_of(alloc, "", query) {
         Some(core) => {
             let mut core = core;
-            refuse_second(rt, alloc, &mut core, place);
+            is_second_refused(alloc, &mut core, place)
         }
-        None => panic!(rt; "no core"),
+        None => false,
     }
 }
 
@@ -82,7 +90,7 @@ const STALE: &[(&str, u32)] = &[("X = 1", 1), ("X = Y, X = 3", 2), ("X = f(Y), Y
 #[test]
 fn the_second_of_two_proposals_is_stale(rt: HostRuntime) {
     for (query, place) in STALE {
-        try_second(&rt, rt.alloc(), core_of(rt.alloc(), "", query), *place);
+        assert!(rt; is_stale(rt.alloc(), query, *place), "{query}");
     }
 }
 
@@ -99,14 +107,18 @@ const APPENDS: &[(GoalName, u32)] = &[
     (GoalName { step: 3, place: 1 }, 4),
 ];
 
-// Undoes step 2, on which nothing depends: it is on the shelf and in the journal, nothing is fired, and no number moves.
-fn undo_second<R: Abort>(rt: &R, core: &mut Core) {
-    assert!(rt; core.undo(2).is_ok());
-    assert!(rt; core.shelf().get(2).is_some());
-    assert!(rt; matches!(core.journal().at(4), Some(Entry::Undid(2))));
-    assert!(rt; core.next() == 5);
-    assert!(rt; core.meter().firings() == 4);
-    assert!(rt; core.meter().tries() == 0);
+// Whether four steps were fired, and no number has moved.
+fn is_fired_four_times(core: &Core) -> bool {
+    core.next() == 5 && core.meter().firings() == 4 && core.meter().tries() == 0
+}
+
+// Undoes step 2, on which nothing depends, and says whether it is on the shelf and in the journal, nothing is fired, and no
+// number moves.
+fn is_second_undone(core: &mut Core) -> bool {
+    core.undo(2).is_ok()
+        && core.shelf().get(2).is_some()
+        && matches!(core.journal().at(4), Some(Entry::Undid(2)))
+        && is_fired_four_times(core)
 }
 
 // The steps, each with its consequences.
@@ -129,33 +141,40 @@ fn are_consequences(alloc: Global, core: &Core, number: u32, wanted: &[u32]) -> 
     }
 }
 
-// Looks at what the steps depend on.
-fn look_at_causes<R: Abort>(rt: &R, alloc: Global, core: &Core) {
+// Whether each step has its consequences.
+fn have_consequences(alloc: Global, core: &Core) -> bool {
     for (number, wanted) in CONSEQUENCES {
-        assert!(rt; are_consequences(alloc, core, *number, wanted), "{number}");
+        if !are_consequences(alloc, core, *number, wanted) {
+            return false;
+        }
     }
+    true
+}
+
+// Whether each of the pairs depends directly as is wanted.
+fn depend_directly(core: &Core) -> bool {
     for (later, earlier, wanted) in DIRECT {
         let made = direct(core.records(), *later, *earlier) == Some(Cause::Made);
-        assert!(rt; made == *wanted, "{later} {earlier}");
+        if made != *wanted {
+            return false;
+        }
     }
+    true
 }
 
 // Takes the steps of `append([1],[2],R)`, looks at what they depend on, and undoes one.
-fn run_append<R: Abort>(rt: &R, alloc: Global, core: &mut Core) {
-    assert!(rt; are_taken(alloc, core, APPENDS));
-    look_at_causes(rt, alloc, core);
-    undo_second(rt, core);
+fn is_appended_and_undone(alloc: Global, core: &mut Core) -> bool {
+    are_taken(alloc, core, APPENDS)
+        && have_consequences(alloc, core)
+        && depend_directly(core)
+        && is_second_undone(core)
 }
 
 #[test]
-fn append_is_run(rt: HostRuntime) {
-    match core_of(rt.alloc(), APPEND, "append([1],[2],R)") {
-        Some(core) => {
-            let mut core = core;
-            run_append(&rt, rt.alloc(), &mut core);
-        }
-        None => panic!(rt; "no core"),
-    }
+fn append_is_run(rt: HostRuntime) -> Result<(), Fail> {
+    let mut core = core_of(rt.alloc(), APPEND, "append([1],[2],R)").ok_or("a core")?;
+    assert!(rt; is_appended_and_undone(rt.alloc(), &mut core));
+    Ok(())
 }
 
 const WAKING: &str = "p(a,_) :- true | true. p(_,b) :- true | true.";
@@ -167,24 +186,19 @@ const WOKEN: &[(GoalName, u32)] = &[
     (GoalName { step: 0, place: 1 }, 3),
 ];
 
-// Takes the steps, of which the last was woken by the one before it.
-fn run_woken<R: Abort>(rt: &R, alloc: Global, core: &mut Core) {
-    assert!(rt; are_taken(alloc, core, WOKEN));
+// Whether step 3 was woken by step 2, and does not depend on step 1.
+fn is_woken(core: &Core) -> bool {
     let (variable, woke) = (query(2), true);
     let cause = direct(core.records(), 3, 2);
-    assert!(rt; cause == Some(Cause::Read { variable, woke }));
-    assert!(rt; direct(core.records(), 3, 1).is_none());
+    cause == Some(Cause::Read { variable, woke }) && direct(core.records(), 3, 1).is_none()
 }
 
 #[test]
-fn a_step_was_woken(rt: HostRuntime) {
-    match core_of(rt.alloc(), WAKING, "p(X,Y), X = c, Y = b") {
-        Some(core) => {
-            let mut core = core;
-            run_woken(&rt, rt.alloc(), &mut core);
-        }
-        None => panic!(rt; "no core"),
-    }
+fn a_step_was_woken(rt: HostRuntime) -> Result<(), Fail> {
+    let mut core = core_of(rt.alloc(), WAKING, "p(X,Y), X = c, Y = b").ok_or("a core")?;
+    assert!(rt; are_taken(rt.alloc(), &mut core, WOKEN));
+    assert!(rt; is_woken(&core));
+    Ok(())
 }
 
 // Whether there are four records, and R is `[1,2]`, read while others may read too.
@@ -196,7 +210,7 @@ fn is_appended<R: Wait>(rt: &R, alloc: Global, core: &RwLock<Core>) -> bool {
     }
 }
 
-// Whether two threads both read that.
+// Whether two threads both read that, this one and another.
 fn is_read_twice<R: Threads + Wait + Copy + Send + 'static>(
     rt: R,
     alloc: Global,
@@ -204,10 +218,9 @@ fn is_read_twice<R: Threads + Wait + Copy + Send + 'static>(
 ) -> Result<bool, AllocError> {
     let first = Arc::new(alloc, RwLock::new(core))?;
     let second = Arc::try_clone(&first)?;
-    let first = thread::spawn(&rt, move || is_appended(&rt, alloc, &first))?;
-    let second = thread::spawn(&rt, move || is_appended(&rt, alloc, &second));
-    let first = first.join(&rt);
-    Ok(second?.join(&rt) && first)
+    let other = thread::spawn(&rt, move || is_appended(&rt, alloc, &second))?;
+    let here = is_appended(&rt, alloc, &first);
+    Ok(other.join(&rt) && here)
 }
 
 #[test]

@@ -1,6 +1,6 @@
 // The texts that no row shows: of refusals, of the lines that tell of them, and of a goal that is to be tried again.
 use crate::refusal::{Refusal, push_line};
-use crate::source::Source;
+use crate::refused_part::RefusedPart;
 use crate::status::Status;
 use ghc_term::{Fault, GoalName, Limit};
 use ghc_trace::{Port, push_port};
@@ -61,16 +61,16 @@ fn refusals_have_texts(rt: HostRuntime) -> Result<(), Fail> {
     Ok(())
 }
 
-fn push_refusal(source: Source, fault: Fault, out: &mut String) -> Result<(), AllocError> {
-    push_line(out, &Refusal { source, fault })
+fn push_refusal(part: RefusedPart, fault: Fault, out: &mut String) -> Result<(), AllocError> {
+    push_line(out, &Refusal { part, fault })
 }
 
 // Refusals that no row can raise.
 fn push_refusals(out: &mut String) -> Result<(), AllocError> {
-    push_refusal(Source::Program, Fault::Memory, out)?;
-    push_refusal(Source::History, Fault::Device, out)?;
-    push_refusal(Source::Schedule, Fault::Device, out)?;
-    push_refusal(Source::Session, Fault::Memory, out)
+    push_refusal(RefusedPart::Program, Fault::Memory, out)?;
+    push_refusal(RefusedPart::History, Fault::Device, out)?;
+    push_refusal(RefusedPart::Schedule, Fault::Device, out)?;
+    push_refusal(RefusedPart::Session, Fault::Memory, out)
 }
 
 const LINES: &str = "\

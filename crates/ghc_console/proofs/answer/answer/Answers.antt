@@ -4,7 +4,7 @@ use Rattle.ghc_console.specs.Reading.{LineSays}
 use Rattle.ghc_console.specs.Replies.{IsReply, too_long, no_memory, refusal}
 use Rattle.ghc_console.specs.Commands.{command_of}
 use Rattle.ghc_console.specs.Firing.{Fires}
-use Rattle.ghc_console.proofs.Fired.{fires_nothing}
+use Rattle.ghc_console.proofs.SessionFirings.{fires_nothing}
 use Rattle.ghc_console.proofs.answer.answer.Goals as goal
 
 pub returns-in-Err-clause-reply : goal.returns-in-Err-clause-reply

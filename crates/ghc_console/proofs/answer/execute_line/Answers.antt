@@ -1,6 +1,6 @@
 use Rattle.std.proofs.Common.{refl, sym, subst, ap, ◌∙◌}
 use Rattle.ghc_console.specs.Firing.{Fires}
-use Rattle.ghc_console.proofs.Fired.{fires_nothing}
+use Rattle.ghc_console.proofs.SessionFirings.{fires_nothing}
 use Rattle.ghc_console.specs.Replies.{IsReply, replies, Replies, quits}
 use Rattle.ghc_console.proofs.answer.execute_line.Goals as goal
 

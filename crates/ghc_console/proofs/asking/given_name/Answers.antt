@@ -3,7 +3,7 @@ use Rattle.std.specs.Prelude.{All, HoldsAt, codes}
 use Rattle.ghc_term.specs.Variables.{variables_of_goals}
 use Rattle.ghc_term.proofs.ListsLemmas.{not_both}
 use Rattle.ghc_console.specs.Finding.{Finds}
-use Rattle.ghc_console.proofs.Queried.{given, none_given}
+use Rattle.ghc_console.proofs.QueryVariables.{given, none_given}
 use Rattle.ghc_console.proofs.asking.given_name.Goals as goal
 
 pub returns-in-Some-clause-found : goal.returns-in-Some-clause-found

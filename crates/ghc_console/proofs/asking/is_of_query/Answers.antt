@@ -1,5 +1,5 @@
 use Rattle.std.proofs.Common.{◌≤◌, length, ap, arith, rules}
-use Rattle.ghc_console.proofs.Queried.{in_query, of_query}
+use Rattle.ghc_console.proofs.QueryVariables.{in_query, of_query}
 use Rattle.ghc_console.proofs.asking.is_of_query.Goals as goal
 
 pub returns-then-x-eq0 : goal.returns-then-x-eq0

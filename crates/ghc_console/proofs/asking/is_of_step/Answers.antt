@@ -1,7 +1,7 @@
 use Rattle.std.proofs.Common.{◌≡◌, ◌≤◌, ◌∙◌, false, IsTrue, ap, sym, subst, arith}
 use Rattle.ghc_term.specs.Lists.{In}
 use Rattle.ghc_records.specs.Record.{Record}
-use Rattle.ghc_console.proofs.Queried.{made_by}
+use Rattle.ghc_console.proofs.QueryVariables.{made_by}
 use Rattle.ghc_console.proofs.asking.is_of_step.Goals as goal
 
 pub returns-in-Some : goal.returns-in-Some

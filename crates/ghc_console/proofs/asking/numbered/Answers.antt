@@ -1,8 +1,8 @@
 use Rattle.std.proofs.Common.{◌≡◌, ◌∙◌, ◌+◌, ◌∷◌, take, ap, sym}
 use Rattle.std.proofs.lemmas.List.{take_rest}
-use Rattle.ghc_console.specs.Asked.{numbered_of, variable_numbered}
+use Rattle.ghc_console.specs.VariableNamed.{numbered_of, variable_numbered}
 use Rattle.ghc_console.specs.Words.{number_of}
-use Rattle.ghc_console.proofs.Bars.{one_bar, two_bars}
+use Rattle.ghc_console.proofs.NumberedWords.{one_bar, two_bars}
 use Rattle.ghc_console.proofs.asking.numbered.Goals as goal
 
 pub returns-in-None : goal.returns-in-None

@@ -1,7 +1,7 @@
 use Rattle.std.proofs.Common.{◌≡◌, ◌≤◌, ℕ, List, [], ◌∷◌, length, map, refl, sym, subst, arith}
 use Rattle.std.proofs.lemmas.List.{length-map}
 use Rattle.ghc_console.specs.Commands.{command_of_words}
-use Rattle.ghc_console.specs.declared.command.Command.TheVariants.{Unknown}
+use Rattle.ghc_console.specs.declared.command.LineCommand.TheVariants.{Unknown}
 use Rattle.ghc_console.proofs.command.of_words.Goals as goal
 
 -- Four words or more are no command.

@@ -1,5 +1,5 @@
 use Rattle.std.proofs.Common.{◌∙◌}
-use Rattle.ghc_console.proofs.Progress.{front, onward}
+use Rattle.ghc_console.proofs.WriteLoop.{front, onward}
 use Rattle.ghc_console.proofs.device.write_all.Goals as goal
 
 pub loop-rest-preserved : goal.loop-rest-preserved

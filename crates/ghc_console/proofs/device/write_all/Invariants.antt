@@ -1,5 +1,5 @@
 use Rattle.std.proofs.Common.{◌≡◌, length}
-use Rattle.ghc_console.proofs.Progress.{Progress}
+use Rattle.ghc_console.proofs.WriteLoop.{Progress}
 use Rattle.ghc_console.proofs.device.write_all.Given as goal
 
 abbrev pub invariant-loop-rest : goal.invariant-loop-rest

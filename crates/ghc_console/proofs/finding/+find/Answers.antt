@@ -8,7 +8,7 @@ use Rattle.ghc_term.specs.View.{height, height_of_all}
 use Rattle.ghc_term.proofs.Trees.{height_item, height_last, height_front}
 use Rattle.ghc_flat.proofs.Counts.{node_variables, list_next, list_rest}
 use Rattle.ghc_console.specs.Finding.{Finds}
-use Rattle.ghc_console.proofs.Found.{finds_front, finds_behind, finds_rest}
+use Rattle.ghc_console.proofs.Finds.{finds_front, finds_behind, finds_rest}
 use Rattle.ghc_console.proofs.finding.+find.Goals as goal
 
 pub in_term-returns-in-Var : goal.in_term-returns-in-Var

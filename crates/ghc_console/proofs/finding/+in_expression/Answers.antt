@@ -3,7 +3,7 @@ use Rattle.std.specs.Prelude.{Some}
 use Rattle.ghc_term.specs.ExpressionView.{depth_of}
 use Rattle.ghc_term.specs.Variables.{variables_of_expression}
 use Rattle.ghc_console.specs.Finding.{Finds}
-use Rattle.ghc_console.proofs.Found.{finds_behind, finds_first}
+use Rattle.ghc_console.proofs.Finds.{finds_behind, finds_first}
 use Rattle.ghc_console.proofs.finding.+in_expression.Goals as goal
 
 pub returns-in-Leaf : goal.returns-in-Leaf

@@ -1,5 +1,5 @@
 use Rattle.ghc_term.specs.Variables.{variables, variables_of_expression}
-use Rattle.ghc_console.proofs.Found.{finds_front, finds_rest}
+use Rattle.ghc_console.proofs.Finds.{finds_front, finds_rest}
 use Rattle.ghc_console.proofs.finding.in_assigned.Goals as goal
 
 pub returns-in-Some : goal.returns-in-Some

@@ -1,5 +1,5 @@
 use Rattle.ghc_term.specs.Variables.{variables}
-use Rattle.ghc_console.proofs.Found.{finds_front, finds_rest}
+use Rattle.ghc_console.proofs.Finds.{finds_front, finds_rest}
 use Rattle.ghc_console.proofs.finding.in_both.Goals as goal
 
 pub returns-in-Some : goal.returns-in-Some

@@ -3,7 +3,7 @@ use Rattle.std.specs.Prelude.{Some, None}
 use Rattle.std.proofs.lemmas.List.{take_all}
 use Rattle.ghc_term.specs.Variables.{variables_of_goal, variables_of_goals}
 use Rattle.ghc_console.specs.Finding.{Finds}
-use Rattle.ghc_console.proofs.Found.{finds_front, finds_behind, finds_rest, goals_around, goals_next}
+use Rattle.ghc_console.proofs.Finds.{finds_front, finds_behind, finds_rest, goals_around, goals_next}
 use Rattle.ghc_console.proofs.finding.in_goals.Goals as goal
 
 pub returns-in-Some : goal.returns-in-Some

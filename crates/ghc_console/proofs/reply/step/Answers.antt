@@ -1,6 +1,6 @@
 use Rattle.std.proofs.Common.{inl, inr, refl}
 use Rattle.ghc_console.specs.Replies.{steps, fails}
-use Rattle.ghc_console.proofs.Told.{if_ok, proposed_holds}
+use Rattle.ghc_console.proofs.StepReplies.{if_ok, proposed_holds}
 use Rattle.ghc_console.proofs.reply.step.Goals as goal
 
 pub take-requires : goal.take-requires

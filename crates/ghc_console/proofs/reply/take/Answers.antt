@@ -1,7 +1,7 @@
 use Rattle.std.proofs.Common.{sym, subst, ap, ◌∙◌}
 use Rattle.ghc_core.specs.World.{World, with_step}
 use Rattle.ghc_core.specs.Proposes.{IsCommitOf}
-use Rattle.ghc_console.proofs.Told.{if_ok, refused_takes, step_taken}
+use Rattle.ghc_console.proofs.StepReplies.{if_ok, refused_takes, step_taken}
 use Rattle.ghc_console.proofs.reply.take.Goals as goal
 
 pub returns-in-Err-clause-taken : goal.returns-in-Err-clause-taken

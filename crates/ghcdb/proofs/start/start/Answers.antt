@@ -1,17 +1,17 @@
 use Rattle.std.proofs.Common.{◌≡◌, ◌⊎◌, sym, subst, inl, inr, refl}
 use Rattle.ghcdb.specs.Start.{IsStartRefusal, IsOutOfMemory, of_program, of_query}
-use Rattle.ghcdb.proofs.Starting.{told, started_alone, never_told, program_alone, query_alone, judged_alone, none_refused}
+use Rattle.ghcdb.proofs.IsStarted.{told, started_alone, never_told, program_alone, query_alone, judged_alone, none_refused}
 use Rattle.ghcdb.proofs.start.start.Goals as goal
 
 pub returns-in-Err-clause-refused : goal.returns-in-Err-clause-refused
 returns-in-Err-clause-refused c = elim c.in-Err.ensures.fault [
-  | inl m ↦ inl (record { fault = m; source = inl refl })
+  | inl m ↦ inl (record { fault = m; part = inl refl })
   | inr r ↦ inr (of_program refl r)
 ]
 
 pub returns-in-Err-read_query-clause-refused : goal.returns-in-Err-read_query-clause-refused
 returns-in-Err-read_query-clause-refused c = elim c.in-Err-read_query.ensures.fault [
-  | inl m ↦ inl (record { fault = m; source = inr refl })
+  | inl m ↦ inl (record { fault = m; part = inr refl })
   | inr r ↦ inr (of_query c.in-Ok.written c.in-Ok.ensures.found refl r)
 ]
 
@@ -21,10 +21,10 @@ returns-in-Err-judge-clause-refused c =
     (told c.args.program.now c.args.query.now c.in-Ok.written c.in-Ok-read_query.query c.in-Err-judge.refused c.in-Ok.ensures.found c.in-Ok-read_query.ensures.found c.in-Err-judge.ensures.refused)
 
 pub returns-in-Err-clause-only : goal.returns-in-Err-clause-only
-returns-in-Err-clause-only c = λ s h. record { fault = c.in-Err.ensures.only h.written h.reads_program; source = inl refl }
+returns-in-Err-clause-only c = λ s h. record { fault = c.in-Err.ensures.only h.written h.reads_program; part = inl refl }
 
 pub returns-in-Err-read_query-clause-only : goal.returns-in-Err-read_query-clause-only
-returns-in-Err-read_query-clause-only c = λ s h. record { fault = c.in-Err-read_query.ensures.only s.query h.reads_query; source = inr refl }
+returns-in-Err-read_query-clause-only c = λ s h. record { fault = c.in-Err-read_query.ensures.only s.query h.reads_query; part = inr refl }
 
 pub returns-in-Ok-judge-clause-only : goal.returns-in-Ok-judge-clause-only
 returns-in-Ok-judge-clause-only c = λ s h.

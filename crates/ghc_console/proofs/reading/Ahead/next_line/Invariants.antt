@@ -1,5 +1,5 @@
 use Rattle.std.proofs.Common.{◌+◌}
-use Rattle.ghc_console.proofs.NextLine.{Begun}
+use Rattle.ghc_console.proofs.ReadLoop.{Begun}
 use Rattle.ghc_console.proofs.reading.Ahead.next_line.Given as goal
 
 abbrev pub invariant-loop : goal.invariant-loop

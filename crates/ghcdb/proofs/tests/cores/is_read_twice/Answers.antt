@@ -7,6 +7,3 @@ use Rattle.ghcdb.proofs.tests.cores.is_read_twice.Goals as goal
 
 pub spawn-requires-send-F : goal.spawn-requires-send-F
 spawn-requires-send-F g c κs within = search (core_send, core_sync, lock.the_send, lock.the_sync, global.the_send, crosses, sendable) depth 60 fits 20000
-
-pub spawn-second-requires-send-F : goal.spawn-second-requires-send-F
-spawn-second-requires-send-F g c κs within = search (core_send, core_sync, lock.the_send, lock.the_sync, global.the_send, crosses, sendable) depth 60 fits 20000

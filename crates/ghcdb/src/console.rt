@@ -1,0 +1,74 @@
+// The session of the program, on its standard streams.
+ghost use Rattle.std.specs.Prelude.{◌≡◌, ◌⊎◌, ◌+◌, ◌-◌, ◌<◌, [], IfErr, OnOk};
+ghost use Rattle.ghc_console.specs.Session.{Session, Tells};
+
+use ghc_console::{Broken, Lines, session};
+use ghc_core::Core;
+use ghc_term::Fault;
+use std::alloc::Global;
+use std::io;
+use std::io::{BufWriter, Read, Write};
+use std::marker::Brand;
+use std::sync::Wait;
+use std::sync::ledger::{Blank, Ledger};
+
+// Runs a session on the device, and hands on what that holds back at the end.
+fn run_on_device<L: Ledger, R: Wait, I: Read, O: Write + Drop>(
+    rt: &R,
+    alloc: Global,
+    core: Core,
+    device: &mut Lines<I, O, L>,
+) -> (Core, Result<(), Fault>)
+    ensures told { OnOk result.1 (Tells (Session core.names) core.world device.old.unread device.old.written device.new.written
+        (device.new.earlier - (device.old.earlier + device.old.latest)) result.0.world) }
+    ensures held { OnOk result.1 (device.new.held ≡ []) }
+    ensures fault { IfErr result.1 (λ fault. fault ≡ Fault.Device) }
+{
+    let (core, result) = session(rt, alloc, core, device);
+    match result {
+        Err(fault) => (core, Err(fault)),
+        Ok(()) => match device.flush() {
+            Ok(()) => (core, Ok(())),
+            Err(Broken) => (core, Err(Fault::Device)),
+        },
+    }
+}
+
+// Runs a session from the reader to the writer, whose calls are counted in the ledger.
+fn run_between<L: Ledger, R: Wait + AllocGlobal, I: Read + Drop, O: Write + Drop>(
+    rt: &R,
+    core: Core,
+    reader: I,
+    writer: BufWriter<O>,
+    blank: Blank,
+) -> Result<(), Fault>
+    requires blank { (blank.name ≡ L.name) × (blank.parts ≡ L.parts) × (1 < L.parts) }
+    ensures { IfErr result (λ fault. fault ≡ Fault.Device) }
+{
+    let mut device: Lines<I, O, L> = Lines::new(reader, writer, blank);
+    let (_core, result) = run_on_device(rt, rt.alloc(), core, &mut device);
+    result
+}
+
+// Runs a session over the standard streams.
+fn run_counted<L: Ledger, R: Wait + Input + Print + AllocGlobal>(
+    rt: &R,
+    core: Core,
+    blank: Blank,
+) -> Result<(), Fault>
+    requires blank { (blank.name ≡ L.name) × (blank.parts ≡ L.parts) × (1 < L.parts) }
+    ensures { IfErr result (λ fault. (fault ≡ Fault.Memory) ⊎ (fault ≡ Fault.Device)) }
+{
+    let Ok(writer) = BufWriter::new(rt.alloc(), io::writer(rt)) else {
+        return Err(Fault::Memory);
+    };
+    run_between::<L, _, _, _>(rt, core, rt.reader(), writer, blank)
+}
+
+/// Runs a session over the standard streams, up to `quit` or the end of the input. `Device` where one of them fails, and
+/// `Memory` where there is none for the output that is gathered.
+pub fn run_console<R: Wait + Input + Print + AllocGlobal>(rt: &R, core: Core) -> Result<(), Fault>
+    ensures { IfErr result (λ fault. (fault ≡ Fault.Memory) ⊎ (fault ≡ Fault.Device)) }
+{
+    run_counted::<Brand, R>(rt, core, Blank::new(2))
+}
