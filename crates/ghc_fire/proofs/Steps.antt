@@ -30,8 +30,8 @@ use Rattle.ghc_unify.specs.Laws.{IsCutDown, BindsAndReads}
 use Rattle.ghc_unify.proofs.Locality.{by_value, comes_agree}
 use Rattle.ghc_unify.proofs.Extension.{passed_on, comes_reaches, leads_bound}
 use Rattle.ghc_unify.proofs.Ends.{comes_leads}
-use Rattle.ghc_unify.proofs.Acyclic.{binding_acyclic}
-use Rattle.ghc_unify.proofs.Bound.{by_answers}
+use Rattle.ghc_term.proofs.Bind.{binding_acyclic}
+use Rattle.ghc_term.proofs.Merged.{by_answers}
 use Rattle.ghc_unify.proofs.Once.{comes_end}
 use Rattle.ghc_unify.proofs.LawProofs.{is_local, one_ending, keeps_acyclic, binds_and_reads}
 use Rattle.ghc_fire.specs.Instance.{made, body_made}

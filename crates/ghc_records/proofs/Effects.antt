@@ -20,8 +20,8 @@ use Rattle.ghc_flat.specs.Clause.{Program}
 use Rattle.ghc_flat.specs.Variables.{variables, variables_of_expression, variables_of_list, variables_of_goal, variables_of_goals, fresh_variables}
 use Rattle.ghc_flat.specs.Flat.{is_stream, IsProgram}
 use Rattle.ghc_unify.specs.Unify.{Unifies}
-use Rattle.ghc_unify.proofs.Bound.{by_answers}
-use Rattle.ghc_unify.proofs.Members.{any_in}
+use Rattle.ghc_term.proofs.Merged.{by_answers}
+use Rattle.ghc_term.proofs.SetsLemmas.{any_in}
 use Rattle.ghc_fire.specs.Instance.{made, place_in, becomes, replace_in_goal}
 use Rattle.ghc_fire.specs.declared.act.Act.{Act}
 use Rattle.ghc_fire.specs.declared.act.Act.TheVariants.{ByClause as by_clause, Unified as unified, Assigned as assigned, Given as given, Closed as closed}

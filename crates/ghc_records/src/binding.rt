@@ -6,7 +6,7 @@ ghost use Rattle.ghc_term.specs.Bindings.{Reaches, IsAcyclic};
 ghost use Rattle.ghc_term.specs.Store.{value_at};
 ghost use Rattle.ghc_records.specs.Record.{with_binds};
 
-use ghc_term::{Bindings, Fault, Store, Term, VarName};
+use ghc_term::{Bindings, Store, Term, VarName};
 use std::alloc::AllocError;
 
 // Binds a variable to a term that does not reach it.
@@ -16,15 +16,8 @@ fn bind_shared(store: &mut Store, x: VarName, value: &Term) -> Result<(), AllocE
     ensures ok { OnOk result (store.new ≡ finite.insert store.old x value.now) }
     ensures err { OnErr result (store.new ≡ store.old) }
 {
-    let shared = match value.share() {
-        Ok(shared) => shared,
-        Err(error) => return Err(error),
-    };
-    match store.bind(x, shared) {
-        Ok(()) => Ok(()),
-        Err(Fault::Cycle) => unreachable!(),
-        Err(_) => Err(AllocError),
-    }
+    let shared = value.share()?;
+    store.bind_open(x, shared)
 }
 
 /// Unbinds each variable that the bindings bind: one look-up for each.
@@ -36,7 +29,8 @@ pub(crate) fn unbind_all(store: &mut Store, binds: &Bindings)
     }
 }
 
-/// Makes the bindings. None is made where memory is refused. It costs a search and two look-ups for each, and shares the terms.
+/// Makes the bindings. None is made where memory is refused. It costs two look-ups for each at most, and shares the
+/// terms.
 pub(crate) fn bind_all(store: &mut Store, binds: &Bindings) -> Result<(), AllocError>
     requires unbound { (x : VarName) → value_at binds.now x ≢ None → value_at store.old x ≡ None }
     requires acyclic { IsAcyclic (value_at (with_binds (finite.entries binds.now) store.old)) }

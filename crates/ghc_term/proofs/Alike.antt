@@ -4,7 +4,6 @@ use Rattle.std.specs.Prelude.{◌↔◌, IsTrue, not}
 use Rattle.std.specs.Borrow.{Bor}
 use Rattle.std.specs.Str.{bytes_eq}
 use Rattle.std.proofs.lemmas.Slice.Eq.{bytes_eq-Decides}
-use Rattle.std.proofs.lemmas.List.{drop_all}
 use Rattle.ghc_term.specs.declared.equality.Pair.{Pair}
 use Rattle.ghc_term.specs.declared.equality.Pair.TheVariants.{Terms}
 use Rattle.ghc_term.specs.declared.view.TermView.{TermView}
@@ -62,13 +61,6 @@ compared_as P Q m n old new b to from h c = record {
   yes = λ e. adds_as P Q m n old new to from h (c.yes e);
 }
 
--- behind the last arguments there is nothing
-pub arguments_end : (ls rs : List Tree) (old : List Pair) → length ls ≡ length rs → Adds (drop (length ls) ls ≡ drop (length ls) rs) (suc (nodes_of_all (trees (drop (length ls) ls)))) old old
-arguments_end ls rs old e =
-    let left = drop_all (length ls) ls (omega arith) in
-    let right = drop_all (length ls) rs (omega arith) in
-    record { added = []; behind = sym (append-nil old); decide = (λ _. tt, λ _. left ∙ sym right); fewer = omega arith }
-
 -- one pair of arguments more, from the right
 pub arguments_more : (ls rs : List Tree) (n : ℕ) (t u : Bor Tree) (d f : Tree) (old now new : List Pair) → 0 < n → n ≤ length ls → length ls ≡ length rs → t.now ≡ get_or ls (n - 1) d → u.now ≡ get_or rs (n - 1) f
     → new ≡ now ++ Terms t u ∷ [] → Adds (drop n ls ≡ drop n rs) (suc (nodes_of_all (trees (drop n ls)))) old now
@@ -93,16 +85,6 @@ arguments_more ls rs n t u d f old now new p h e a b pushed rest =
       );
       fewer = omega (arith, rest.fewer, nodes_join rest.added (Terms t u ∷ []), ap (λ l. nodes_of_all (trees l)) left);
     }
-
--- two pairs of expressions
-pub two_more : (P : Type 0) (n : ℕ) (p q : Pair) (old mid new : List Pair) → mid ≡ old ++ p ∷ [] → new ≡ mid ++ q ∷ [] → (P → IsAlike p) → (P → IsAlike q) → (IsAlike p → IsAlike q → P)
-    → left_nodes p + left_nodes q < n → Adds P n old new
-two_more P n p q old mid new e f first second back h = record {
-  added = p ∷ (q ∷ []);
-  behind = f ∙ ap (λ l. l ++ q ∷ []) e ∙ append_assoc old (p ∷ []) (q ∷ []);
-  decide = (λ x. (first x, (second x, tt)), λ l. back l.0 l.1.0);
-  fewer = omega (arith, h);
-}
 
 -- the last pair is compared: the answer stands for it
 pub goes_on : (p : Pair) (all rest new : List Pair) → all ≡ rest ++ p ∷ [] → Adds (IsAlike p) (left_nodes p) rest new → AreAlike new ↔ AreAlike all

@@ -39,3 +39,8 @@ module _ {S : VarName → Option Tree} where
   pub reaches_more : {S' : VarName → Option Tree} {t : Tree} {y : VarName} → Reaches S t y → ((x : VarName) (u : Tree) → S x ≡ Some u → S' x ≡ Some u) → Reaches S' t y
   reaches_more (here o) h = here o
   reaches_more (through {u = u} {y = y} o p r) h = through o (h y u p) (reaches_more r h)
+
+  -- what the value of a reached variable reaches is reached
+  pub reaches_on : {t u : Tree} {x y : VarName} → Reaches S t x → S x ≡ Some u → Reaches S u y → Reaches S t y
+  reaches_on (here o) e r = through o e r
+  reaches_on (through o p s) e r = through o p (reaches_on s e r)

@@ -9,7 +9,8 @@ pub mod Total
 pub mod Entries
 pub mod Walks
 pub mod Searches
-pub mod Progress
+pub mod Searching
+pub mod Merged
 pub mod Bind
 pub mod Weights
 pub mod Drops

@@ -1,5 +1,5 @@
 -- The texts of cells, of other structures, and of what ends a list.
-use Rattle.std.proofs.Common.{◌≡◌, ◌≢◌, ℕ, true, false, List, [], ◌∷◌, ◌++◌, length, get_or, refl, ap, arith}
+use Rattle.std.proofs.Common.{◌≡◌, ◌≢◌, ℕ, true, false, List, [], ◌∷◌, ◌++◌, length, refl, ap}
 use Rattle.std.specs.Prelude.{Option, None, codes, bytes_eq}
 use Rattle.std.proofs.lemmas.Slice.Eq.{bytes_eq-Decides}
 use Rattle.ghc_term.specs.declared.var_name.VarName.{VarName}
@@ -83,10 +83,3 @@ two_arguments f [] t u e = cc
 two_arguments f (v ∷ []) t u e = cc
 two_arguments f (v ∷ z ∷ []) t u e = refl
 two_arguments f (v ∷ z ∷ x ∷ ts) t u e = cc
-
--- two arguments by their places
-pub pair_of : (ts : List Tree) (t u : Tree) → length ts ≡ 2 → t ≡ get_or ts 0 t → u ≡ get_or ts 1 u → trees ts ≡ more t (more u none)
-pair_of [] t u n p q = absurd (omega arith)
-pair_of (v ∷ []) t u n p q = absurd (omega arith)
-pair_of (v ∷ z ∷ []) t u n p q = cc
-pair_of (v ∷ z ∷ x ∷ ts) t u n p q = absurd (omega arith)

@@ -12,25 +12,10 @@ OccursIn_push [] t y (inr n) = absurd n
 OccursIn_push (u ∷ ts) t y (inl o) = inl (inl o)
 OccursIn_push (u ∷ ts) t y (inr h) = elim (OccursIn_push ts t y h) [ inl i ↦ inl (inr i) | inr o ↦ inr o ]
 
-pub OccursIn_left : (ts : List Tree) (t : Tree) (y : VarName) → OccursIn y (trees ts) → OccursIn y (trees (ts ++ t ∷ []))
-OccursIn_left [] t y h = absurd h
-OccursIn_left (u ∷ ts) t y (inl o) = inl o
-OccursIn_left (u ∷ ts) t y (inr h) = inr (OccursIn_left ts t y h)
-
-pub OccursIn_right : (ts : List Tree) (t : Tree) (y : VarName) → Occurs y t → OccursIn y (trees (ts ++ t ∷ []))
-OccursIn_right [] t y o = inl o
-OccursIn_right (u ∷ ts) t y o = inr (OccursIn_right ts t y o)
-
 pub height_below : (ts : List Tree) (i : ℕ) (d : Tree) → i < length ts → height (get_or ts i d) < height_of_all (trees ts)
 height_below [] i d h = absurd (omega arith)
 height_below (t ∷ ts) zero d h = omega arith
 height_below (t ∷ ts) (suc i) d h = omega (arith, height_below ts i d (omega arith))
-
-pub OccursIn_take : (n : ℕ) (ts : List Tree) (y : VarName) → OccursIn y (trees (take n ts)) → OccursIn y (trees ts)
-OccursIn_take zero ts y h = absurd h
-OccursIn_take (suc n) [] y h = absurd h
-OccursIn_take (suc n) (t ∷ ts) y (inl o) = inl o
-OccursIn_take (suc n) (t ∷ ts) y (inr h) = inr (OccursIn_take n ts y h)
 
 pub height_item : (ts : List Tree) (i : ℕ) (t : Tree) → i < length ts → t ≡ get_or ts i t → height t < height_of_all (trees ts)
 height_item ts i t h e = subst (λ u. height u < height_of_all (trees ts)) (sym e) (height_below ts i t h)

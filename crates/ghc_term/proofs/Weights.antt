@@ -92,7 +92,3 @@ size_end S h (along {x = x} {t = u} p a) = omega (arith, size_variable S h x u p
 
 abbrev pub size_all : StoreValue → Trees → ℕ
 size_all S ts = weigh_all (behind (finite.len S) (value_at S)) ts
-
--- the arguments of a structure are together smaller than it
-pub size_node : (S : StoreValue) (f : List ℕ) (ts : Trees) → size S (node f ts) ≡ suc (size_all S ts)
-size_node S f ts = refl

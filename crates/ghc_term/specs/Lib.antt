@@ -14,7 +14,8 @@ pub mod Falls
 pub mod Bindings
 pub mod Store
 pub mod Shown
-pub mod Search
+pub mod Seen
+pub mod Overlay
 pub mod Limit
 pub mod Fault
 pub mod Text

@@ -1,5 +1,6 @@
 -- Stores as finite maps from variables to trees.
 use Rattle.std.specs.Prelude.{Option}
+use Rattle.std.specs.Option.{option_or}
 use Rattle.std.specs.FinMap as finite
 use Rattle.std.specs.Coded.{Coded}
 use Rattle.ghc_term.specs.declared.var_name.VarName.{VarName}
@@ -18,3 +19,7 @@ store_code = finite.code name_code tree_code
 -- what the store binds the variable to
 abbrev pub value_at : StoreValue → VarName → Option Tree
 value_at s x = finite.get s x
+
+-- the store with these bindings more
+abbrev pub with_bindings : StoreValue → (VarName → Option Tree) → VarName → Option Tree
+with_bindings binds S x = option_or (value_at binds x) (S x)

@@ -15,6 +15,7 @@ mod limit;
 mod measure;
 mod name;
 mod operator;
+mod overlay;
 mod printing;
 mod store;
 mod term;
@@ -34,6 +35,7 @@ pub use ground::Ground;
 pub use limit::Limit;
 pub use name::Name;
 pub use operator::Operator;
+pub use overlay::{Chain, Overlay};
 pub use printing::{
     PRINT_LIMIT, print, print_goal, print_goal_written, print_written, push_goal_written,
     push_written,

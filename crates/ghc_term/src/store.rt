@@ -1,12 +1,13 @@
 // The bindings of variables.
 ghost use Rattle.std.specs.Prelude.{◌≡◌, ◌↔◌, ◌⊎◌, IfOk, IfErr, OnOk, OnErr, IsTrue, None, Some};
-ghost use Rattle.indexmap.specs.IndexSet.{keys};
 
+use crate::bindings::Bindings;
 use crate::fault::Fault;
+use crate::overlay::Overlay;
 use crate::term::Term;
 use crate::var_name::VarName;
 use crate::view::TermView;
-use indexmap::{IndexMap, IndexSet};
+use indexmap::IndexMap;
 use std::alloc::{AllocError, Global};
 use std::marker::Model;
 
@@ -34,9 +35,8 @@ impl Store {
     ghost use Rattle.std.specs.Prelude.{option_copied, List};
     ghost use Rattle.std.specs.FinMap as finite;
     ghost use Rattle.ghc_term.specs.Store.{value_at};
-    ghost use Rattle.ghc_term.specs.Tree.{Tree, Occurs, OccursIn, trees};
+    ghost use Rattle.ghc_term.specs.Tree.{Tree};
     ghost use Rattle.ghc_term.specs.Bindings.{IsAcyclic, Leads, Reaches};
-    ghost use Rattle.ghc_term.specs.Search.{Searched};
     ghost use Rattle.ghc_term.specs.declared.var_name.VarName.{VarName};
 
     /// A store without bindings, which takes no memory.
@@ -79,114 +79,46 @@ impl Store {
         }
     }
 
-    /// The variables passed from the term by following bindings, an unbound last one included. One look-up for each.
-    pub fn chain<'a>(&'a self, alloc: Global, term: &'a Term) -> Result<Vec<VarName>, AllocError>
+    /// The variables passed from the term by following bindings, an unbound last one included. Two look-ups for each.
+    pub fn chain(&self, alloc: Global, term: &Term) -> Result<Vec<VarName>, AllocError>
         ensures { IfOk result (λ passed. (e : Tree) × Leads (value_at self.now) term.now passed.items e) }
     {
         self.acyclic();
-        let mut passed = Vec::new(alloc);
-        let mut place = term;
-        loop {
-            match place.view() {
-                TermView::Var(x) => {
-                    passed.push(x)?;
-                    match self.get(x) {
-                        Some(next) => place = next,
-                        None => return Ok(passed),
-                    }
-                }
-                _ => return Ok(passed),
-            }
-        }
+        let none = Bindings::new(alloc);
+        let overlay = Overlay {
+            store: self,
+            binds: &none,
+        };
+        let chain = overlay.chain(alloc, term)?;
+        Ok(chain.into_passed())
     }
 
-    // Whether `x` is `to`; if not, it is added to `seen` where it is bound.
-    fn meet(
-        &self,
-        x: VarName,
-        to: VarName,
-        seen: &mut IndexSet<VarName>,
-    ) -> Result<bool, AllocError>
-        ensures { IfOk result (λ found. Searched (value_at self.now) to (λ y. y ≡ x) seen.old.keys seen.new.keys found) }
-    {
-        if x == to {
-            return Ok(true);
-        }
-        if let Some(_value) = self.get(x) {
-            seen.insert(x)?;
-        }
-        Ok(false)
-    }
-
-    // Whether `to` stands in the term; if not, the term's bound variables are added to `seen`. It goes along the last arguments.
-    #[cycle(search)]
-    fn search(
-        &self,
-        term: &Term,
-        to: VarName,
-        seen: &mut IndexSet<VarName>,
-    ) -> Result<bool, AllocError>
-        ensures { IfOk result (λ found. Searched (value_at self.now) to (λ y. Occurs y term.now) seen.old.keys seen.new.keys found) }
-    {
-        let mut place = term;
-        loop {
-            if place.is_closed() {
-                return Ok(false);
-            }
-            match place.view() {
-                TermView::Var(x) => return self.meet(x, to, seen),
-                TermView::Struct(_, arguments) => {
-                    let Some((last, front)) = arguments.split_last() else {
-                        return Ok(false);
-                    };
-                    if self.search_all(front, to, seen)? {
-                        return Ok(true);
-                    }
-                    place = last;
-                }
-                _ => return Ok(false),
-            }
-        }
-    }
-
-    // The same for several terms.
-    #[cycle(search)]
-    fn search_all(
-        &self,
-        terms: &[Term],
-        to: VarName,
-        seen: &mut IndexSet<VarName>,
-    ) -> Result<bool, AllocError>
-        ensures { IfOk result (λ found. Searched (value_at self.now) to (λ y. OccursIn y (trees terms.now)) seen.old.keys seen.new.keys found) }
-    {
-        for argument in terms {
-            if self.search(argument, to, seen)? {
-                return Ok(true);
-            }
-        }
-        Ok(false)
-    }
-
-    /// Whether the variable stands in the term, or in the value of a variable that the term reaches. It goes once
-    /// through the term and through each value that it reaches, and past what is closed as written.
+    /// Whether the variable stands in the term, or in the value of a variable that the term reaches. It goes by a loop,
+    /// once through the term and through each value that it reaches, and past what is closed as written.
     pub fn reaches(&self, from: &Term, to: VarName) -> Result<bool, AllocError>
         ensures { IfOk result (λ yes. IsTrue yes ↔ Reaches (value_at self.now) from.now to) }
     {
         self.acyclic();
-        let mut seen = IndexSet::new(*self.map.allocator());
-        if self.search(from, to, &mut seen)? {
-            return Ok(true);
+        let alloc = *self.map.allocator();
+        let none = Bindings::new(alloc);
+        let overlay = Overlay {
+            store: self,
+            binds: &none,
+        };
+        overlay.reaches(alloc, from, to)
+    }
+
+    /// Binds an unbound variable to a value that does not reach it: one look-up. It fails for want of memory alone.
+    pub fn bind_open(&mut self, x: VarName, value: Term) -> Result<(), AllocError>
+        requires unbound { value_at self.old x ≡ None }
+        requires open { ¬ Reaches (value_at self.old) value x }
+        ensures ok { OnOk result (self.new ≡ finite.insert self.old x value) }
+        ensures err { OnErr result (self.new ≡ self.old) }
+    {
+        match self.map.insert(x, value) {
+            Ok(_) => Ok(()),
+            Err(_) => Err(AllocError),
         }
-        let mut next = 0;
-        while next < seen.len() {
-            let x = seen.as_slice()[next];
-            let value = self.get(x).unwrap();
-            if self.search(value, to, &mut seen)? {
-                return Ok(true);
-            }
-            next += 1;
-        }
-        Ok(false)
     }
 
     /// Binds an unbound variable, at the cost of `reaches`. `Fault::Cycle` exactly where the value reaches the
@@ -202,10 +134,8 @@ impl Store {
         if self.reaches(&value, x)? {
             return Err(Fault::Cycle);
         }
-        match self.map.insert(x, value) {
-            Ok(_) => Ok(()),
-            Err(_) => Err(Fault::Memory),
-        }
+        self.bind_open(x, value)?;
+        Ok(())
     }
 
     /// Takes a binding away and gives its value, if the variable was bound: one look-up.

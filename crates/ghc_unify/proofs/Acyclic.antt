@@ -1,51 +1,11 @@
 -- Each move keeps the store acyclic, where it binds a variable to what does not reach it.
-use Rattle.std.proofs.Common.{◌≡◌, true, false, cond, List, refl, sym, subst, inl, inr, ◌⊎◌}
-use Rattle.std.specs.Prelude.{Option, Some}
-use Rattle.std.specs.Ordering.{eq_by_cmp}
+use Rattle.std.proofs.Common.{List}
+use Rattle.std.specs.Prelude.{Option}
 use Rattle.ghc_term.specs.declared.var_name.VarName.{VarName}
-use Rattle.ghc_term.specs.Tree.{Tree, Occurs}
-use Rattle.ghc_term.specs.Bindings.{Reaches, here, through, IsAcyclic, name_cmp, with_binding}
-use Rattle.ghc_term.proofs.Total.{same_name}
-use Rattle.ghc_term.proofs.Progress.{reaches_on}
+use Rattle.ghc_term.specs.Tree.{Tree}
+use Rattle.ghc_term.specs.Bindings.{IsAcyclic}
+use Rattle.ghc_term.proofs.Bind.{binding_acyclic}
 use Rattle.ghc_unify.specs.Unify.{Move, shared, left, right, both, Moves, stay, go}
-
--- what a variable is bound to after a binding: the new one, or what it was
-after : (S : VarName → Option Tree) (x y : VarName) (t u : Tree) → with_binding S x t y ≡ Some u → (y ≡ x × t ≡ u) ⊎ (S y ≡ Some u)
-after S x y t u e =
-    elim (eq_by_cmp name_cmp y x) as (λ b. eq_by_cmp name_cmp y x ≡ b → cond b (Some t) (S y) ≡ Some u → (y ≡ x × t ≡ u) ⊎ (S y ≡ Some u)) [
-      | true ↦ λ p q. inl (same_name y x p, cc)
-      | false ↦ λ p q. inr q
-    ] refl e
-
-module _ (S : VarName → Option Tree) (x : VarName) (t : Tree) (open_end : ¬ Reaches S t x) where
-  -- what is reached after the binding was reached before it, or through it
-  reached_after : {u : Tree} {z : VarName} → Reaches (with_binding S x t) u z → Reaches S u z ⊎ (Reaches S u x × Reaches S t z)
-  reached_after (here o) = inl (here o)
-  reached_after {u = u} {z = z} (through {u = v} {y = y} o e r) =
-      let rest = reached_after r in
-      elim (after S x y t v e) [
-        | inl p ↦ elim rest [
-          | inl a ↦ inr (here (subst (λ w. Occurs w u) p.0 o), subst (λ w. Reaches S w z) (sym p.1) a)
-          | inr a ↦ absurd (open_end (subst (λ w. Reaches S w x) (sym p.1) a.0))
-        ]
-        | inr p ↦ elim rest [
-          | inl a ↦ inl (through o p a)
-          | inr a ↦ inr (through o p a.0, a.1)
-        ]
-      ]
-
-  pub binding_acyclic : IsAcyclic S → IsAcyclic (with_binding S x t)
-  binding_acyclic h y u e r =
-      elim (after S x y t u e) [
-        | inl p ↦ elim (reached_after r) [
-          | inl a ↦ open_end (subst (λ w. Reaches S w x) (sym p.1) (subst (λ w. Reaches S u w) p.0 a))
-          | inr a ↦ open_end (subst (λ w. Reaches S w x) (sym p.1) a.0)
-        ]
-        | inr p ↦ elim (reached_after r) [
-          | inl a ↦ h y u p a
-          | inr a ↦ open_end (reaches_on a.1 p a.0)
-        ]
-      ]
 
 pub move_acyclic : {S T U : VarName → Option Tree} {es fs : List (Tree × Tree)} {bs : List (VarName × Tree)} {rs : List VarName} → Move S T es U fs bs rs → IsAcyclic T → IsAcyclic U
 move_acyclic (shared p q first) h = h

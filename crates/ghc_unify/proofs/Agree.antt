@@ -7,7 +7,7 @@ use Rattle.ghc_term.specs.Tree.{Tree, Trees, Occurs, OccursIn}
 use Rattle.ghc_term.specs.Lists.{In}
 use Rattle.ghc_term.specs.Bindings.{Leads, at_integer, at_node, at_free, along, Reaches, here, through, Comes, now, on, name_cmp, with_binding}
 use Rattle.ghc_term.proofs.Chains.{leads_agree}
-use Rattle.ghc_term.proofs.Progress.{reaches_on}
+use Rattle.ghc_term.proofs.Chains.{reaches_on}
 use Rattle.ghc_unify.specs.Unify.{Pairs, no_more, one_more, Meets, integers, nodes, met, Move, shared, left, right, both, Moves, stay, go, IsClash, IsCycle, solved, clash, cycle}
 use Rattle.ghc_unify.specs.Laws.{UnificationLooksAtItsTerms}
 use Rattle.ghc_unify.proofs.Locality.{comes_agree, met_agree}

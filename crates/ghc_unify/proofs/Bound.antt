@@ -7,10 +7,10 @@ use Rattle.std.specs.FinMap as finite
 use Rattle.ghc_term.specs.declared.var_name.VarName.{VarName}
 use Rattle.ghc_term.specs.Tree.{Tree}
 use Rattle.ghc_term.specs.Bindings.{name_cmp, with_binding}
-use Rattle.ghc_term.proofs.Names.{name_total}
+use Rattle.ghc_term.proofs.Decided.{decided_either, name_decided}
+use Rattle.ghc_term.proofs.Merged.{by_answers}
+use Rattle.ghc_term.proofs.Names.{name_total, itself as found_itself}
 use Rattle.ghc_term.proofs.Total.{same_name, apart}
-use Rattle.ghc_term.proofs.Entries.{same, same_is}
-use Rattle.ghc_term.proofs.Searches.{same_itself}
 use Rattle.ghc_unify.specs.Unify.{Move, shared, left, right, both, Moves, stay, go, with_bindings}
 
 -- the store with these bindings more, one after another
@@ -29,7 +29,7 @@ Fresh [] T = Unit {0}
 Fresh (b ∷ bs) T = (T b.0 ≡ None) × Fresh bs (with_binding T b.0 b.1)
 
 pub itself : (x y : VarName) → x ≡ y → eq_by_cmp name_cmp x y ≡ true
-itself x y e = sym (same_is x y) ∙ ap (same x) (sym e) ∙ same_itself x
+itself x y e = ap (eq_by_cmp name_cmp x) (sym e) ∙ found_itself x
 
 pub is_bound : (x : VarName) (b : VarName × Tree) (T : VarName → Option Tree) → x ≡ b.0 → with_binding T b.0 b.1 x ≡ Some b.1
 is_bound x b T e = ap (λ c. cond c (Some b.1) (T x)) (itself x b.0 e)
@@ -37,20 +37,9 @@ is_bound x b T e = ap (λ c. cond c (Some b.1) (T x)) (itself x b.0 e)
 pub other : (x : VarName) (b : VarName × Tree) (T : VarName → Option Tree) → ¬ (x ≡ b.0) → with_binding T b.0 b.1 x ≡ T x
 other x b T n = ap (λ c. cond c (Some b.1) (T x)) (apart x b.0 n)
 
-pub is_it : (x y : VarName) → (x ≡ y) ⊎ (¬ (x ≡ y))
-is_it x y =
-    elim (eq_by_cmp name_cmp x y) as (λ c. eq_by_cmp name_cmp x y ≡ c → (x ≡ y) ⊎ (¬ (x ≡ y))) [
-      | true ↦ λ p. inl (same_name x y p)
-      | false ↦ λ p. inr (λ e. let clash : true ≡ false = sym (itself x y e) ∙ p in cc)
-    ] refl
-
 pub is_in : (bs : List (VarName × Tree)) (x : VarName) → IsBoundIn bs x ⊎ (¬ IsBoundIn bs x)
 is_in [] x = inr (λ i. i)
-is_in (b ∷ bs) x =
-    elim (is_it x b.0) [
-      | inl e ↦ inl (inl e)
-      | inr n ↦ elim (is_in bs x) [ inl i ↦ inl (inr i) | inr m ↦ inr (λ j. elim j [ inl e ↦ n e | inr i ↦ m i ]) ]
-    ]
+is_in (b ∷ bs) x = decided_either (name_decided x b.0) (is_in bs x)
 
 pub untouched : (bs : List (VarName × Tree)) (T : VarName → Option Tree) (x : VarName) → ¬ IsBoundIn bs x → bound_by bs T x ≡ T x
 untouched [] T x n = refl
@@ -73,7 +62,7 @@ unbound_before [] T x f i = absurd i
 unbound_before (b ∷ bs) T x f (inl e) = ap T e ∙ f.0
 unbound_before (b ∷ bs) T x f (inr i) =
     let later = unbound_before bs (with_binding T b.0 b.1) x f.1 i in
-    elim (is_it x b.0) [
+    elim (name_decided x b.0) [
       | inl e ↦ let clash : Some b.1 ≡ None = sym (is_bound x b T e) ∙ later in cc
       | inr n ↦ sym (other x b T n) ∙ later
     ]
@@ -122,10 +111,6 @@ bound_append (b ∷ bs) cs T = bound_append bs cs (with_binding T b.0 b.1)
 pub moves_bound : {S T V : VarName → Option Tree} {es gs : List (Tree × Tree)} {bs : List (VarName × Tree)} {rs : List VarName} → Moves S T es V gs bs rs → V ≡ bound_by bs T
 moves_bound stay = refl
 moves_bound {T = T} (go {bs = bs} {cs = cs} m ms) = moves_bound ms ∙ ap (bound_by cs) (move_fresh m).1 ∙ sym (bound_append bs cs T)
-
--- stores that answer alike are one
-pub by_answers : {S T : VarName → Option Tree} → ((x : VarName) → S x ≡ T x) → S ≡ T
-by_answers h i x = h x i
 
 found : (bs : List (VarName × Tree)) (T : VarName → Option Tree) (x : VarName) → Fresh bs T → option_or (finite.find name_cmp x bs) (T x) ≡ bound_by bs T x
 found [] T x f = refl

@@ -12,25 +12,18 @@ use Rattle.ghc_term.specs.Store.{StoreValue, value_at}
 use Rattle.ghc_term.specs.Lists.{In}
 use Rattle.ghc_term.specs.Bindings.{Leads, at_integer, at_node, at_free, along, Comes, now, on, Passes, IsAcyclic, name_cmp, with_binding}
 use Rattle.ghc_term.proofs.Names.{name_total, name_antisymmetric}
+use Rattle.ghc_term.proofs.Decided.{Decided, in_decided, name_decided}
 use Rattle.ghc_term.proofs.Total.{chain}
 use Rattle.ghc_unify.specs.Unify.{Pairs, no_more, one_more, Meets, integers, nodes, met, Move, shared, left, right, both, Moves, stay, go, IsClash, IsCycle, with_bindings, Ending, solved, clash, cycle, HasEnding}
 use Rattle.ghc_unify.specs.Laws.{EachUnificationHasAnEnding}
 use Rattle.ghc_unify.proofs.Acyclic.{moves_acyclic}
-use Rattle.ghc_unify.proofs.Bound.{is_it, moves_fresh}
+use Rattle.ghc_unify.proofs.Bound.{moves_fresh}
 use Rattle.ghc_unify.proofs.Ends.{left_end}
 use Rattle.ghc_unify.proofs.Falling.{one_more_move, weights, lighter}
-use Rattle.ghc_unify.proofs.Merged.{merged, merged_is, merged_acyclic, insert_is, unbound_below}
-use Rattle.ghc_unify.proofs.Reached.{Decided, reaches_decided}
+use Rattle.ghc_term.proofs.Merged.{merged, merged_is, merged_acyclic, insert_is, unbound_below}
+use Rattle.ghc_unify.proofs.Reached.{reaches_decided}
 use Rattle.ghc_unify.proofs.Runs.{Run, begins, falls_short}
 use Rattle.ghc_unify.proofs.Scope.{scope}
-
--- the variable is in the list, or not
-in_decided : (x : VarName) (ys : List VarName) → Decided (In x ys)
-in_decided x [] = inr (λ i. i)
-in_decided x (y ∷ ys) = elim (is_it x y) [
-  | inl e ↦ inl (inl e)
-  | inr n ↦ elim (in_decided x ys) [ inl i ↦ inl (inr i) | inr m ↦ inr (λ i. elim i [ inl e ↦ n e | inr j ↦ m j ]) ]
-]
 
 -- a chain passes just its variables
 on_chain : {T : VarName → Option Tree} {t e : Tree} {xs ys : List VarName} {x : VarName} → Leads T t xs e → Comes T t ys x → In x xs
@@ -62,11 +55,11 @@ Meeting T l r xs ys =
 meeting : {T : VarName → Option Tree} {l r e f : Tree} {xs ys : List VarName} → Leads T l xs e → Leads T r ys f → Meeting T l r xs ys
 meeting at_integer q = inr (λ x i. absurd i)
 meeting at_node q = inr (λ x i. absurd i)
-meeting {ys = ys} (at_free {x = z} p) q = elim (in_decided z ys) [
+meeting {ys = ys} (at_free {x = z} p) q = elim (in_decided name_decided z ys) [
   | inl i ↦ let c = come_to q i in inl ([], c.0, z, now, c.1, λ x j. absurd j)
   | inr n ↦ inr (λ x i j. elim i [ inl e ↦ n (subst (λ w. In w ys) e j) | inr k ↦ k ])
 ]
-meeting {ys = ys} (along {x = z} p a) q = elim (in_decided z ys) [
+meeting {ys = ys} (along {x = z} p a) q = elim (in_decided name_decided z ys) [
   | inl i ↦ let c = come_to q i in inl ([], c.0, z, now, c.1, λ x j. absurd j)
   | inr n ↦ elim (meeting a q) [
     | inl m ↦ inl (z ∷ m.0, m.1, m.2, on p m.3, m.4, λ x j c. elim j [ inl e ↦ n (subst (λ w. In w ys) e (on_chain q c.1)) | inr k ↦ m.5 x k c ])

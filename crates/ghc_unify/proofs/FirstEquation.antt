@@ -4,12 +4,12 @@ use Rattle.std.specs.Prelude.{Option, None}
 use Rattle.ghc_term.specs.declared.var_name.VarName.{VarName}
 use Rattle.ghc_term.specs.Tree.{Tree, variable, IsValue}
 use Rattle.ghc_term.specs.Lists.{In}
-use Rattle.ghc_term.specs.Bindings.{Leads, Comes, Passes, Reaches, with_binding}
+use Rattle.ghc_term.specs.Bindings.{Leads, Comes, Reaches, with_binding}
+use Rattle.ghc_term.proofs.ListsLemmas.{in_right}
 use Rattle.ghc_unify.specs.Unify.{Meets, met, Move, shared, left, right, both, IsClash, IsCycle}
 use Rattle.ghc_unify.specs.Parting.{Parts}
 use Rattle.ghc_unify.proofs.Ends.{left_end}
 use Rattle.ghc_unify.proofs.Growth.{met_unbound}
-use Rattle.ghc_unify.proofs.ReachSearch.{in_right}
 use Rattle.ghc_unify.proofs.Partings.{cut, parted, passes_in}
 
 first_of_list : (c : List VarName) → c ≢ [] → (m : VarName) × (rest : List VarName) × (c ≡ m ∷ rest)

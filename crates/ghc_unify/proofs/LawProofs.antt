@@ -17,7 +17,7 @@ use Rattle.ghc_term.proofs.Total.{same_name}
 use Rattle.ghc_term.proofs.Searches.{In_either}
 use Rattle.ghc_unify.proofs.Locality.{locality}
 use Rattle.ghc_unify.proofs.Bound.{bound_by, bound_is, moves_bound, moves_fresh, unbound_before, IsBoundIn, Fresh, has_value}
-use Rattle.ghc_unify.proofs.Members.{in_set, set_in}
+use Rattle.ghc_term.proofs.SetsLemmas.{in_set, set_in}
 use Rattle.ghc_unify.proofs.Acyclic.{moves_acyclic}
 use Rattle.ghc_unify.proofs.Once.{solved_once, solved_no_clash, solved_no_cycle, clash_no_cycle}
 use Rattle.ghc_unify.proofs.Commute.{commute}

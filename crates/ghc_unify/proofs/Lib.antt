@@ -4,7 +4,6 @@ pub mod Extension
 pub mod Bound
 pub mod Commute
 pub mod SolutionLemmas
-pub mod Members
 pub mod Acyclic
 pub mod Once
 pub mod LawProofs
@@ -14,8 +13,6 @@ pub mod Advancing
 pub mod Falling
 pub mod FirstEquation
 pub mod Growth
-pub mod Merged
-pub mod ReachSearch
 pub mod Partings
 pub mod Refusals
 pub mod Runs

@@ -1,5 +1,5 @@
 -- Where two chains come together.
-use Rattle.std.proofs.Common.{◌≡◌, ◌≢◌, ℕ, Bool, true, false, List, [], ◌∷◌, ◌++◌, refl, sym, ap, ◌∙◌, subst, inl, inr, ◌⊎◌, append_assoc, append-nil}
+use Rattle.std.proofs.Common.{◌≡◌, ◌≢◌, Bool, true, false, List, [], ◌∷◌, ◌++◌, refl, sym, ap, ◌∙◌, subst, append_assoc, append-nil}
 use Rattle.std.proofs.lemmas.List.{append_cancel_right}
 use Rattle.std.specs.Prelude.{Option, Some, None}
 use Rattle.ghc_term.specs.declared.var_name.VarName.{VarName}
@@ -7,7 +7,8 @@ use Rattle.ghc_term.specs.Tree.{Tree, variable}
 use Rattle.ghc_term.specs.Lists.{In}
 use Rattle.ghc_term.specs.Bindings.{Leads, at_integer, at_node, at_free, along, Comes, now, on, Passes}
 use Rattle.ghc_term.proofs.Chains.{leads_once}
-use Rattle.ghc_unify.specs.Parting.{EndAlike, Parts}
+use Rattle.ghc_term.proofs.ListsLemmas.{in_splits}
+use Rattle.ghc_unify.specs.Parting.{Parts}
 
 -- two lists, with an end of both taken off
 pub record Split (xs ys a b : List VarName) (shared : Bool) : Type 0 where
@@ -28,12 +29,6 @@ further xs ys a b c d x shared s p q = record {
   none = λ e. cc;
   some = λ _ e. cc;
 }
-
--- a list is cut at one of its elements
-at_element : (x : VarName) (xs : List VarName) → In x xs → (a b : List VarName) × (xs ≡ a ++ x ∷ b)
-at_element x [] i = absurd i
-at_element x (y ∷ ys) (inl e) = ([], ys, ap (λ z. z ∷ ys) (sym e))
-at_element x (y ∷ ys) (inr i) = let r = at_element x ys i in (y ∷ r.0, r.1, ap (λ l. y ∷ l) r.2)
 
 -- a list that is not empty has a last element
 last_of : (x : VarName) (xs : List VarName) → (w : List VarName) × (z : VarName) × (x ∷ xs ≡ w ++ z ∷ [])
@@ -75,7 +70,7 @@ module _ {T : VarName → Option Tree} where
   -- what a chain passes before the common end of both, the other does not pass
   pub parted : {l r e f : Tree} {xs ys a b : List VarName} (shared : Bool) → Leads T l xs e → Leads T r ys f → Parts xs ys a b shared → (x : VarName) → In x a → ¬ Passes T r x
   parted {xs = xs} {ys = ys} {a = a} {b = b} shared k h p x i c =
-      let p1 = at_element x a i in
+      let p1 = in_splits a x i in
       let here : xs ≡ p1.0 ++ x ∷ (p1.1 ++ p.common) = p.left ∙ ap (λ w. w ++ p.common) p1.2 ∙ append_assoc p1.0 (x ∷ p1.1) p.common in
       let rest = (cut p1.0 x (p1.1 ++ p.common) k here).1 in
       let other = after c.1 h in
@@ -93,4 +88,4 @@ module _ {T : VarName → Option Tree} where
 
   -- a chain passes what is on it
   pub passes_in : {t e : Tree} {xs : List VarName} {x : VarName} → Leads T t xs e → In x xs → Passes T t x
-  passes_in {x = x} l i = let q = at_element x _ i in (q.0, (cut q.0 x q.1 l q.2).0)
+  passes_in {x = x} l i = let q = in_splits _ x i in (q.0, (cut q.0 x q.1 l q.2).0)

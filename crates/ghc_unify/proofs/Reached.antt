@@ -1,5 +1,5 @@
 -- In an acyclic finite store it is decided whether a tree reaches a variable.
-use Rattle.std.proofs.Common.{◌≡◌, ℕ, zero, suc, ◌≤◌, refl, sym, ap, ◌∙◌, subst, inl, inr, ◌⊎◌}
+use Rattle.std.proofs.Common.{◌≡◌, ℕ, zero, suc, ◌≤◌, refl, sym, ap, ◌∙◌, subst, inl, inr}
 use Rattle.std.specs.Prelude.{ℤ, List, Option, Some, None}
 use Rattle.std.specs.FinMap as finite
 use Rattle.ghc_term.specs.declared.var_name.VarName.{VarName}
@@ -7,12 +7,8 @@ use Rattle.ghc_term.specs.Tree.{Tree, variable, integer, node, Trees, none, more
 use Rattle.ghc_term.specs.Store.{StoreValue, value_at}
 use Rattle.ghc_term.specs.Bindings.{Reaches, here, through, IsAcyclic}
 use Rattle.ghc_term.proofs.Chains.{reaches_more}
+use Rattle.ghc_term.proofs.Decided.{Decided, name_decided}
 use Rattle.ghc_term.proofs.Total.{removed_apart, removed_less, removed_acyclic, fewer, none_bound}
-use Rattle.ghc_unify.proofs.Bound.{is_it}
-
--- P is so, or is not
-abbrev pub Decided : Type 0 → Type 0
-Decided P = P ⊎ (¬ P)
 
 -- what a tree reaches without passing y, it reaches where y's binding is taken away
 around : (s : StoreValue) (y : VarName) {t : Tree} {x : VarName} → ¬ Reaches (value_at s) t y → Reaches (value_at s) t x → Reaches (value_at (finite.remove s y)) t x
@@ -50,7 +46,7 @@ module _ (S : VarName → Option Tree) (x : VarName) (of_value : (y : VarName) (
   no_more y n h (through {u = u} o e r) = h u (ap S (sym o) ∙ e) r
 
   of_variable : (y : VarName) → Decided (Reaches S (variable y) x)
-  of_variable y = elim (is_it x y) [
+  of_variable y = elim (name_decided x y) [
     | inl same ↦ inl (here same)
     | inr n ↦ elim (S y) as (λ o. S y ≡ o → Decided (Reaches S (variable y) x)) [
       | None ↦ λ e. inr (no_more y n (λ u p. let clash : None ≡ Some u = sym e ∙ p in cc))

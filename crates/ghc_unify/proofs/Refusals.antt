@@ -1,6 +1,6 @@
 -- Refusals that are handed on, and what a view that is no variable shows.
-use Rattle.std.proofs.Common.{◌≡◌, ◌≢◌, List, ℕ, refl, sym, ap, ◌∙◌, subst, ◌⊎◌, inl, inr}
-use Rattle.std.specs.Prelude.{Result, Ok, Err, IfOk, IfErr}
+use Rattle.std.proofs.Common.{◌≡◌, refl, sym, ◌∙◌, subst, ◌⊎◌}
+use Rattle.std.specs.Prelude.{Result, Err, IfOk, IfErr}
 use Rattle.ghc_term.specs.declared.fault.Fault.{Fault}
 use Rattle.ghc_term.specs.declared.fault.Fault.TheVariants.{Clash, Cycle, Memory}
 use Rattle.ghc_term.specs.declared.var_name.VarName.{VarName}

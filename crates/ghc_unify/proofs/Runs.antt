@@ -1,5 +1,5 @@
 -- A run of moves, as the code keeps it.
-use Rattle.std.proofs.Common.{◌≡◌, ℕ, ◌-◌, ◌+◌, ◌<◌, ◌≤◌, List, [], ◌∷◌, ◌++◌, length, refl, sym, ap, ◌∙◌, subst, inl, inr, ◌⊎◌, arith, append-nil}
+use Rattle.std.proofs.Common.{◌≡◌, ◌-◌, ◌<◌, List, [], ◌∷◌, ◌++◌, length, sym, ap, ◌∙◌, subst, inl, inr, ◌⊎◌, arith, append-nil}
 use Rattle.std.specs.Prelude.{Option, Some, None, Result, Ok, Err, IfOk, IfErr, reverse}
 use Rattle.std.specs.FinMap as finite
 use Rattle.std.specs.FinSet as set
@@ -19,7 +19,7 @@ use Rattle.ghc_unify.proofs.Bound.{moves_fresh}
 use Rattle.ghc_unify.proofs.Growth.{union_append, union_empty}
 use Rattle.ghc_unify.proofs.Falling.{one_more_move}
 use Rattle.ghc_unify.proofs.LawProofs.{one_ending}
-use Rattle.ghc_unify.proofs.Merged.{insert_is, none_more, unbound_below}
+use Rattle.ghc_term.proofs.Merged.{insert_is, none_more, unbound_below}
 use Rattle.ghc_unify.proofs.Scope.{scope, few_binds, one_bound}
 
 -- from the equation l = r a run has come to these bindings, reads and equations
@@ -32,7 +32,7 @@ pub record Run (S : VarName → Option Tree) (l r : Tree) (binds : StoreValue) (
 
 pub begins : (S : VarName → Option Tree) (l r : Tree) (binds : StoreValue) (reads : set.FinSet name_cmp) (es : List (Tree × Tree)) → binds ≡ finite.empty → reads ≡ set.empty → es ≡ (l, r) ∷ [] → Run S l r binds reads es
 begins S l r binds reads es b e q =
-    let none : with_bindings binds S ≡ S = ap (λ m. with_bindings m S) b ∙ none_more S in
+    let none : with_bindings binds S ≡ S = none_more binds S b in
     record {
       bound = [];
       read = [];

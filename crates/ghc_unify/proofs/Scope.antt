@@ -1,5 +1,5 @@
 -- All variables that a unification can bind: those of its two sides and of the values of the store.
-use Rattle.std.proofs.Common.{◌≡◌, ◌≢◌, ℕ, suc, ◌+◌, ◌-◌, ◌<◌, ◌≤◌, true, false, cond, List, [], ◌∷◌, ◌++◌, length, refl, sym, ap, ◌∙◌, subst, inl, inr, ◌⊎◌, arith}
+use Rattle.std.proofs.Common.{◌≡◌, suc, ◌+◌, ◌-◌, ◌≤◌, true, false, cond, List, [], ◌∷◌, ◌++◌, length, refl, sym, ap, ◌∙◌, subst, inl, inr, ◌⊎◌, arith}
 use Rattle.std.specs.Prelude.{Option, Some, None, is_some}
 use Rattle.std.specs.Ordering.{eq_by_cmp}
 use Rattle.std.specs.FinMap as finite
@@ -8,11 +8,12 @@ use Rattle.ghc_term.specs.Tree.{Tree, variable, integer, node, Trees, none, more
 use Rattle.ghc_term.specs.Store.{StoreValue, value_at}
 use Rattle.ghc_term.specs.Lists.{In}
 use Rattle.ghc_term.specs.Bindings.{name_cmp, Leads, at_integer, at_node, at_free, along, Comes, now, on, with_binding}
-use Rattle.ghc_term.proofs.Names.{name_total, name_antisymmetric}
-use Rattle.ghc_term.proofs.Total.{same_name, removed_apart, removed_less, fewer}
+use Rattle.ghc_term.proofs.Decided.{name_decided}
+use Rattle.ghc_term.proofs.ListsLemmas.{in_left, in_right, in_either}
+use Rattle.ghc_term.proofs.Names.{name_total, name_antisymmetric, itself}
+use Rattle.ghc_term.proofs.Total.{same_name, removed_less}
 use Rattle.ghc_unify.specs.Unify.{Pairs, no_more, one_more, Meets, integers, nodes, Move, shared, left, right, both, Moves, stay, go}
-use Rattle.ghc_unify.proofs.Bound.{is_it, itself, is_bound, other}
-use Rattle.ghc_unify.proofs.ReachSearch.{in_left, in_right, in_either}
+use Rattle.ghc_unify.proofs.Bound.{is_bound, other}
 
 abbrev mutual
   -- the variables of a tree
@@ -83,7 +84,7 @@ module _ {Q : VarName → Type 0} where
 
   more_values : (T : VarName → Option Tree) (x : VarName) (t : Tree) → ((x : VarName) (t : Tree) → T x ≡ Some t → (y : VarName) → Occurs y t → Q y) → ((y : VarName) → Occurs y t → Q y)
       → (z : VarName) (u : Tree) → with_binding T x t z ≡ Some u → (y : VarName) → Occurs y u → Q y
-  more_values T x t v h z u e y o = elim (is_it z x) [
+  more_values T x t v h z u e y o = elim (name_decided z x) [
     | inl same ↦ let value : Some u ≡ Some t = sym e ∙ is_bound z (x, t) T same in let one : u ≡ t = cc in h y (subst (Occurs y) one o)
     | inr apart ↦ v z u (sym (other z (x, t) T apart) ∙ e) y o
   ]
@@ -151,8 +152,8 @@ no_more_than [] m h =
     omega (arith, ap finite.len empty ∙ finite.len-empty name_cmp Tree)
 no_more_than (x ∷ xs) m h =
     let rest : finite.len (finite.remove m x) ≤ length xs = no_more_than xs (finite.remove m x) (λ y t e.
-    elim (is_it y x) [
-      | inl same ↦ let clash : None ≡ Some t = sym (finite.get-remove name_total m x x ∙ ap (λ b. cond b None (value_at m x)) (itself x x refl)) ∙ ap (value_at (finite.remove m x)) (sym same) ∙ e in cc
+    elim (name_decided y x) [
+      | inl same ↦ let clash : None ≡ Some t = sym (finite.get-remove name_total m x x ∙ ap (λ b. cond b None (value_at m x)) (itself x)) ∙ ap (value_at (finite.remove m x)) (sym same) ∙ e in cc
       | inr apart ↦ elim (h y t (removed_less m x y t e)) [ inl same ↦ absurd (apart same) | inr i ↦ i ]
     ]) in
     let len = finite.len-remove name_total m x in

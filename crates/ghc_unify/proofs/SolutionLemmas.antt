@@ -7,7 +7,8 @@ use Rattle.ghc_term.specs.Bindings.{Leads, at_integer, at_node, at_free, along, 
 use Rattle.ghc_unify.specs.Unify.{Pairs, no_more, one_more, Meets, integers, nodes, Move, shared, left, right, both, Moves, stay, go, with_bindings}
 use Rattle.ghc_unify.specs.Solutions.{replace, replace_all, Solves, Equates}
 use Rattle.ghc_unify.specs.Laws.{SolutionsAreKept}
-use Rattle.ghc_unify.proofs.Bound.{is_it, is_bound, other, moves_bound, moves_fresh, bound_is}
+use Rattle.ghc_term.proofs.Decided.{name_decided}
+use Rattle.ghc_unify.proofs.Bound.{is_bound, other, moves_bound, moves_fresh, bound_is}
 use Rattle.ghc_unify.proofs.Ends.{ends}
 
 abbrev EquatesAll : (VarName → Tree) → List (Tree × Tree) → Type 0
@@ -34,14 +35,14 @@ leads_solved h (along {x = z} {t = u} p a) = h z u p ∙ leads_solved h a
 
 solves_with : (s : VarName → Tree) (T : VarName → Option Tree) (x : VarName) (t : Tree) → Solves s T → s x ≡ replace s t → Solves s (with_binding T x t)
 solves_with s T x t h e y u b =
-    elim (is_it y x) [
+    elim (name_decided y x) [
       | inl p ↦ let same : Some t ≡ Some u = sym (is_bound y (x, t) T p) ∙ b in let v : t ≡ u = cc in ap s p ∙ e ∙ ap (replace s) v
       | inr n ↦ h y u (sym (other y (x, t) T n) ∙ b)
     ]
 
 solves_less : (s : VarName → Tree) (T : VarName → Option Tree) (x : VarName) (t : Tree) → T x ≡ None → Solves s (with_binding T x t) → Solves s T × (s x ≡ replace s t)
 solves_less s T x t n h = (
-  λ y u b. elim (is_it y x) [
+  λ y u b. elim (name_decided y x) [
     | inl p ↦ let clash : None ≡ Some u = sym n ∙ ap T (sym p) ∙ b in cc
     | inr m ↦ h y u (other y (x, t) T m ∙ b)
   ],

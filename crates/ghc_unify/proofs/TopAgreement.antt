@@ -1,5 +1,5 @@
 -- When two values agree at the top.
-use Rattle.std.proofs.Common.{◌≡◌, ◌≢◌, ℕ, suc, true, false, Bool, List, [], ◌∷◌, ◌++◌, length, refl, sym, ap, ◌∙◌, subst}
+use Rattle.std.proofs.Common.{◌≡◌, ◌≢◌, ℕ, suc, true, false, Bool, List, [], ◌∷◌, length, refl, sym, ap, ◌∙◌, subst}
 use Rattle.std.specs.Prelude.{ℤ, not}
 use Rattle.std.specs.Str.{bytes_eq}
 use Rattle.std.proofs.lemmas.Slice.Eq.{bytes_eq-Decides}
@@ -9,7 +9,7 @@ use mir.Syntax.{w64}
 use Rattle.std.specs.Borrow.{Bor}
 use Rattle.ghc_term.specs.declared.view.TermView.{TermView}
 use Rattle.ghc_term.specs.declared.view.TermView.TheVariants.{Var, Int, Atom, Struct}
-use Rattle.ghc_term.specs.Tree.{Tree, variable, integer, node, Trees, none, more, trees, list_of}
+use Rattle.ghc_term.specs.Tree.{Tree, variable, integer, node, Trees, none, more, trees}
 use Rattle.ghc_term.specs.Shown.{shown, HasArgument}
 use Rattle.ghc_unify.specs.Unify.{Pairs, no_more, one_more, Meets, integers, nodes}
 

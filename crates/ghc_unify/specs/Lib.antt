@@ -2,6 +2,5 @@ pub mod Unify
 pub mod Solutions
 pub mod Laws
 pub mod Parting
-pub mod Seen
 pub mod Steps
 pub mod Outcome

@@ -1,13 +1,13 @@
 -- Unification: the moves on a list of equations, and how a run of moves ends.
 use Rattle.std.specs.Prelude.{◌≡◌, ◌⊎◌, List, [], ◌∷◌, ◌++◌, filter, Option, None, is_some}
-use Rattle.std.specs.Option.{option_or}
 use Rattle.std.specs.FinMap as finite
 use Rattle.std.specs.FinSet as set
 use Rattle.ghc_term.specs.declared.var_name.VarName.{VarName}
 use Rattle.ghc_term.specs.Tree.{Tree, integer, node, Trees, none, more, IsValue}
 use Rattle.ghc_term.specs.Lists.{In}
 use Rattle.ghc_term.specs.Bindings.{Leads, Reaches, Comes, Passes, name_cmp, with_binding}
-use Rattle.ghc_term.specs.Store.{StoreValue, value_at}
+use Rattle.ghc_term.specs.Store.{StoreValue}
+pub use Rattle.ghc_term.specs.Store.{with_bindings}
 
 -- The arguments of two structures of one arity, side by side.
 pub data Pairs : Trees → Trees → List (Tree × Tree) → Type 0 where
@@ -95,7 +95,3 @@ abbrev pub HasEnding : (VarName → Option Tree) → Tree → Tree → Ending �
 HasEnding S l r (solved binds reads) = Unifies S l r binds reads
 HasEnding S l r clash = Clashes S l r
 HasEnding S l r cycle = Cycles S l r
-
--- The store with these bindings more.
-abbrev pub with_bindings : StoreValue → (VarName → Option Tree) → VarName → Option Tree
-with_bindings binds S x = option_or (value_at binds x) (S x)

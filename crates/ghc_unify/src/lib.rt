@@ -3,7 +3,6 @@
 
 mod chains;
 mod laws;
-mod occurs;
 mod parting;
 mod solve;
 mod step;

@@ -5,8 +5,7 @@ ghost use Rattle.ghc_term.specs.Store.{value_at};
 ghost use Rattle.ghc_unify.specs.Parting.{EndAlike, Parts};
 ghost use Rattle.ghc_unify.specs.Unify.{with_bindings};
 
-use crate::chains::{Chain, follow};
-use ghc_term::{Bindings, Store, Term, VarName};
+use ghc_term::{Bindings, Chain, Overlay, Store, Term, VarName};
 use std::alloc::{AllocError, Global};
 
 // The chains of two terms, up to where they come together, and whether they do.
@@ -64,8 +63,9 @@ pub fn both_chains<'a>(
         × Leads (with_bindings binds.now (value_at store.now)) right.now ys sides.right.end.now
         × Parts xs ys sides.left.passed.items sides.right.passed.items sides.shared) }
 {
-    let mut from_left = follow(alloc, store, binds, left)?;
-    let mut from_right = follow(alloc, store, binds, right)?;
+    let overlay = Overlay { store, binds };
+    let mut from_left = overlay.chain(alloc, left)?;
+    let mut from_right = overlay.chain(alloc, right)?;
     let shared = strip_common_tail(&mut from_left.passed, &mut from_right.passed);
     Ok(Sides {
         left: from_left,

@@ -7,9 +7,8 @@ ghost use Rattle.ghc_unify.specs.Unify.{Pairs, Meets, IsClash, IsCycle, with_bin
 ghost use Rattle.ghc_unify.specs.Steps.{Steps, Advances, FailsFrom};
 
 use crate::chains::add_bound_reads;
-use crate::occurs::reaches;
 use crate::parting::both_chains;
-use ghc_term::{Bindings, Fault, Store, Term, TermView, VarName, Variables};
+use ghc_term::{Bindings, Fault, Overlay, Store, Term, TermView, VarName, Variables};
 use std::alloc::{AllocError, Global};
 
 // A variable and what it is to be bound to.
@@ -73,7 +72,8 @@ fn binding(
     ensures cycle { result ≡ Err Fault.Cycle → Reaches (with_bindings binds.now (value_at store.now)) term.now x }
     ensures only { IfErr result (λ e. (e ≡ Fault.Cycle) ⊎ (e ≡ Fault.Memory)) }
 {
-    if reaches(alloc, store, binds, term, x)? {
+    let overlay = Overlay { store, binds };
+    if overlay.reaches(alloc, term, x)? {
         return Err(Fault::Cycle);
     }
     let value = term.share()?;

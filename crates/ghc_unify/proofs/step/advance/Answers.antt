@@ -3,7 +3,7 @@ use Rattle.std.specs.Prelude.{reverse}
 use Rattle.ghc_term.specs.Store.{value_at}
 use Rattle.ghc_unify.specs.Steps.{Steps}
 use Rattle.ghc_unify.specs.Unify.{with_bindings}
-use Rattle.ghc_unify.proofs.Merged.{merged, merged_is}
+use Rattle.ghc_term.proofs.Merged.{merged, merged_is}
 use Rattle.ghc_unify.proofs.Falling.{weights}
 use Rattle.ghc_unify.proofs.Advancing.{quiet, still_quiet, advanced, gets_lighter}
 use Rattle.ghc_unify.proofs.step.advance.Goals as goal

@@ -11,7 +11,7 @@ use Rattle.ghc_unify.specs.Unify.{with_bindings, met, Move}
 use Rattle.ghc_unify.specs.Parting.{Parts}
 use Rattle.ghc_unify.proofs.FirstEquation.{shared_move, left_move, left_cycle, right_move, right_cycle, both_move, both_clash}
 use Rattle.ghc_unify.proofs.Growth.{read_both}
-use Rattle.ghc_unify.proofs.Merged.{unbound_below}
+use Rattle.ghc_term.proofs.Merged.{unbound_below}
 use Rattle.ghc_unify.proofs.Refusals.{handed_on, value_of}
 use Rattle.ghc_unify.proofs.step.step.Goals as goal
 

@@ -1,28 +1,11 @@
-use Rattle.std.proofs.Common.{◌+◌, ◌<◌, [], ◌∷◌, sym, subst, append_assoc, append-nil}
-use Rattle.std.specs.FinMap as finite
-use Rattle.ghc_term.specs.Store.{value_at}
-use Rattle.ghc_term.specs.Bindings.{Leads, at_free, along}
-use Rattle.ghc_term.proofs.Total.{walk, walk_step}
-use Rattle.ghc_term.proofs.Walks.{at_value}
+use Rattle.std.proofs.Common.{sym, subst}
+use Rattle.ghc_term.specs.Bindings.{IsAcyclic, Leads}
+use Rattle.ghc_term.proofs.Merged.{none_more}
 use Rattle.ghc_term.proofs.store.Store.chain.Goals as goal
 
-pub loop-x-smaller : goal.loop-x-smaller
-loop-x-smaller c =
-    let s = c.args.self.now in
-    subst (λ p. walk (finite.len s + 1) s c.in-Some.next.now < walk (finite.len s + 1) s p) c.in-Var.ensures.shown
-    (walk_step s c.acyclic.ensures c.in-Var.x c.in-Some.next.now (sym c.in-Some.ensures))
+pub invariant_of-overlay : goal.invariant_of-overlay
+invariant_of-overlay c = record { acyclic = subst IsAcyclic (sym (none_more _ _ c.new-none.ensures)) c.acyclic.ensures }
 
-pub loop-x-preserved : goal.loop-x-preserved
-loop-x-preserved c xs e rest =
-    let here = subst (λ p. Leads (value_at c.args.self.now) p (c.in-Var.x ∷ xs) e) c.in-Var.ensures.shown (along (sym c.in-Some.ensures) rest) in
-    rw (c.in_ok-push-in-Var.ensures.items, append_assoc) (c.loop-x.invariant _ e here)
-
-pub returns-in-None : goal.returns-in-None
-returns-in-None c =
-    let here = subst (λ p. Leads (value_at c.args.self.now) p (c.in-Var.x ∷ []) p) c.in-Var.ensures.shown (at_free (sym c.in-None.ensures)) in
-    (c.loop-x.place.now, rw c.in_ok-push-in-Var.ensures.items (c.loop-x.invariant _ _ here))
-
-pub returns-in_default : goal.returns-in_default
-returns-in_default c =
-    let here = subst (λ p. Leads (value_at c.args.self.now) p [] p) c.view.ensures.shown (at_value c.view.result c.in_default.not-Var) in
-    (_, simp append-nil at (c.loop-x.invariant _ _ here))
+pub returns : goal.returns
+returns c =
+    (c.in_ok-chain.chain.«end».now, rw c.into_passed.ensures (subst (λ S. Leads S c.args.term.now c.in_ok-chain.chain.passed.items c.in_ok-chain.chain.«end».now) (none_more _ _ c.new-none.ensures) c.in_ok-chain.ensures))

@@ -1,30 +1,16 @@
 -- How far a search for a variable has come: which variables were seen, and which trees are still open.
-use Rattle.std.proofs.Common.{◌≡◌, ℕ, suc, ◌+◌, ◌<◌, ◌≤◌, Bool, true, false, cond, List, [], ◌∷◌, ◌++◌, length, refl, sym, ap, ◌∙◌, subst, inl, inr, ◌⊎◌, arith, append-nil}
-use Rattle.std.specs.Prelude.{Option, Some, None, not, map}
+use Rattle.std.proofs.Common.{◌≡◌, ℕ, ◌+◌, ◌<◌, List, [], ◌∷◌, ◌++◌, length, refl, sym, ap, ◌∙◌, subst, inl, inr, ◌⊎◌, arith, append-nil}
+use Rattle.std.specs.Prelude.{Option, Some, None, map}
 use Rattle.std.specs.Borrow.{Bor}
-use Rattle.std.specs.FinMap as finite
+use Rattle.std.proofs.lemmas.List.{map-append}
 use Rattle.ghc_term.specs.declared.var_name.VarName.{VarName}
-use Rattle.ghc_term.specs.Tree.{Tree, variable, integer, node, Trees, none, more, trees, Occurs, OccursIn}
+use Rattle.ghc_term.specs.Tree.{Tree, variable, integer, node, trees, Occurs, OccursIn}
 use Rattle.ghc_term.specs.Store.{StoreValue, value_at}
 use Rattle.ghc_term.specs.Lists.{In}
 use Rattle.ghc_term.specs.Bindings.{Reaches, here, through, IsAcyclic}
-use Rattle.ghc_unify.specs.Seen.{Sees, value_list}
+use Rattle.ghc_term.specs.Seen.{Sees, value_list}
+use Rattle.ghc_term.proofs.ListsLemmas.{in_left, in_right, in_either, in_last, in_more}
 use Rattle.ghc_term.proofs.Weights.{size, size_all, size_variable}
-
-module _ {X : Type 0} where
-  pub in_left : (xs ys : List X) (x : X) → In x xs → In x (xs ++ ys)
-  in_left [] ys x i = absurd i
-  in_left (y ∷ xs) ys x (inl e) = inl e
-  in_left (y ∷ xs) ys x (inr i) = inr (in_left xs ys x i)
-
-  pub in_right : (xs ys : List X) (x : X) → In x ys → In x (xs ++ ys)
-  in_right [] ys x i = i
-  in_right (y ∷ xs) ys x i = inr (in_right xs ys x i)
-
-  pub in_either : (xs ys : List X) (x : X) → In x (xs ++ ys) → In x xs ⊎ In x ys
-  in_either [] ys x i = inr i
-  in_either (y ∷ xs) ys x (inl e) = inl (inl e)
-  in_either (y ∷ xs) ys x (inr i) = elim (in_either xs ys x i) [ inl a ↦ inl (inr a) | inr b ↦ inr b ]
 
 -- the variable stands in one of the trees
 abbrev pub StandsIn : VarName → List Tree → Type 0
@@ -57,6 +43,16 @@ argument_reaches : {T : VarName → Option Tree} {t : Tree} {z : VarName} (f : L
 argument_reaches f ts i (here o) = here (among_occurs ts _ _ i o)
 argument_reaches f ts i (through o e r) = through (among_occurs ts _ _ i o) e r
 
+-- the value of a variable, if there is one, alone in a list
+value_in_list : (o : Option Tree) (t : Tree) → o ≡ Some t → In t (value_list o)
+value_in_list None t e = cc
+value_in_list (Some u) t e = inl (cc)
+
+list_is_value : (o : Option Tree) (t : Tree) → In t (value_list o) → o ≡ Some t
+list_is_value None t i = absurd i
+list_is_value (Some u) t (inl e) = ap Some (sym e)
+list_is_value (Some u) t (inr i) = absurd i
+
 -- the search from a tree for `to`
 pub record Searching (T : VarName → Option Tree) (to : VarName) (from : Tree) (seen : List VarName) (open_ones : List Tree) : Type 0 where
   pub first : (y : VarName) → Occurs y from → In y seen ⊎ StandsIn y open_ones
@@ -75,7 +71,7 @@ module _ {T : VarName → Option Tree} {to : VarName} {from : Tree} where
 
   -- a variable that was found
   pub found : (seen : List VarName) (rest : List Tree) → Searching T to from seen (rest ++ variable to ∷ []) → Reaches T from to
-  found seen rest s = s.reached (variable to) (in_right rest (variable to ∷ []) (variable to) (inl refl)) to (here refl)
+  found seen rest s = s.reached (variable to) (in_last rest (variable to)) to (here refl)
 
   -- a tree is taken from the end of the open ones, and others come in its place
   replaced : (seen : List VarName) (rest new : List Tree) (t : Tree) → Searching T to from seen (rest ++ t ∷ [])
@@ -96,70 +92,37 @@ module _ {T : VarName → Option Tree} {to : VarName} {from : Tree} where
         absent = s.absent;
         reached = λ u i z r. elim (in_either rest new u i) [
           | inl a ↦ s.reached u (in_left rest (t ∷ []) u a) z r
-          | inr b ↦ s.reached t (in_right rest (t ∷ []) t (inl refl)) z (back u b z r)
+          | inr b ↦ s.reached t (in_last rest t) z (back u b z r)
         ];
       }
 
   -- nothing that is not seen stands in the tree
   pub passed : (seen : List VarName) (rest : List Tree) (t : Tree) → Searching T to from seen (rest ++ t ∷ []) → ((y : VarName) → Occurs y t → In y seen) → Searching T to from seen rest
-  passed seen rest t s all = subst (Searching T to from seen) (append_nil rest) (replaced seen rest [] t s (λ y o. inl (all y o)) (λ u i. absurd i))
-    where
-      append_nil : (ts : List Tree) → ts ++ [] ≡ ts
-      append_nil [] = refl
-      append_nil (u ∷ ts) = ap (λ l. u ∷ l) (append_nil ts)
+  passed seen rest t s all = subst (Searching T to from seen) (append-nil rest) (replaced seen rest [] t s (λ y o. inl (all y o)) (λ u i. absurd i))
 
   -- a structure gives way to its arguments
   pub unfolded : (seen : List VarName) (rest ts : List Tree) (f : List ℕ) → Searching T to from seen (rest ++ node f (trees ts) ∷ []) → Searching T to from seen (rest ++ ts)
   unfolded seen rest ts f s = replaced seen rest ts (node f (trees ts)) s (λ y o. inr (occurs_among ts y o)) (λ u i z r. argument_reaches f ts i r)
 
-  -- a variable is seen, and its value comes in its place
-  pub met_bound : (seen : List VarName) (rest : List Tree) (x : VarName) (u : Tree) → ¬ (x ≡ to) → T x ≡ Some u → Searching T to from seen (rest ++ variable x ∷ []) → Searching T to from (seen ++ x ∷ []) (rest ++ u ∷ [])
-  met_bound seen rest x u n e s =
-      let on_ : (y : VarName) → In y seen ⊎ StandsIn y (rest ++ variable x ∷ []) → In y (seen ++ x ∷ []) ⊎ StandsIn y (rest ++ u ∷ []) = λ y c.
+  -- a variable is seen, and its value, if there is one, comes in its place
+  met : (seen : List VarName) (rest : List Tree) (x : VarName) → ¬ (x ≡ to) → Searching T to from seen (rest ++ variable x ∷ []) → Searching T to from (seen ++ x ∷ []) (rest ++ value_list (T x))
+  met seen rest x n s =
+      let on_ : (y : VarName) → In y seen ⊎ StandsIn y (rest ++ variable x ∷ []) → In y (seen ++ x ∷ []) ⊎ StandsIn y (rest ++ value_list (T x)) = λ y c.
       elim c [
         | inl i ↦ inl (in_left seen (x ∷ []) y i)
-        | inr st ↦ elim (stands_last rest (variable x) y st) [ inl a ↦ inr (stands_left rest (u ∷ []) y a) | inr o ↦ inl (in_right seen (x ∷ []) y (inl o)) ]
+        | inr st ↦ elim (stands_last rest (variable x) y st) [ inl a ↦ inr (stands_left rest (value_list (T x)) y a) | inr o ↦ inl (in_right seen (x ∷ []) y (inl o)) ]
       ] in
       record {
         first = λ y o. on_ y (s.first y o);
-        next = λ z i v b y o. elim (in_either seen (x ∷ []) z i) [
+        next = λ z i v b y o. elim (in_more seen x z i) [
           | inl j ↦ on_ y (s.next z j v b y o)
-          | inr j ↦ elim j [
-            | inl same ↦
-                let value : v ≡ u = let a : Some v ≡ Some u = sym b ∙ ap T same ∙ e in cc in
-                inr (stands_right rest (u ∷ []) y (u, inl refl, subst (Occurs y) value o))
-            | inr bad ↦ absurd bad
-          ]
+          | inr same ↦ inr (stands_right rest (value_list (T x)) y (v, value_in_list (T x) v (ap T (sym same) ∙ b), o))
         ];
-        absent = λ z i. elim (in_either seen (x ∷ []) z i) [ inl j ↦ s.absent z j | inr j ↦ elim j [ inl same ↦ λ q. n (sym same ∙ q) | inr bad ↦ absurd bad ] ];
-        reached = λ t i z r. elim (in_either rest (u ∷ []) t i) [
+        absent = λ z i. elim (in_more seen x z i) [ inl j ↦ s.absent z j | inr same ↦ λ q. n (sym same ∙ q) ];
+        reached = λ t i z r. elim (in_either rest (value_list (T x)) t i) [
           | inl a ↦ s.reached t (in_left rest (variable x ∷ []) t a) z r
-          | inr b ↦ elim b [
-            | inl same ↦ s.reached (variable x) (in_right rest (variable x ∷ []) (variable x) (inl refl)) z (through refl e (subst (λ w. Reaches T w z) same r))
-            | inr bad ↦ absurd bad
-          ]
+          | inr b ↦ s.reached (variable x) (in_last rest (variable x)) z (through refl (list_is_value (T x) t b) r)
         ];
-      }
-
-  -- a variable is seen that is unbound
-  pub met_free : (seen : List VarName) (rest : List Tree) (x : VarName) → ¬ (x ≡ to) → T x ≡ None → Searching T to from seen (rest ++ variable x ∷ []) → Searching T to from (seen ++ x ∷ []) rest
-  met_free seen rest x n e s =
-      let on_ : (y : VarName) → In y seen ⊎ StandsIn y (rest ++ variable x ∷ []) → In y (seen ++ x ∷ []) ⊎ StandsIn y rest = λ y c.
-      elim c [
-        | inl i ↦ inl (in_left seen (x ∷ []) y i)
-        | inr st ↦ elim (stands_last rest (variable x) y st) [ inl a ↦ inr a | inr o ↦ inl (in_right seen (x ∷ []) y (inl o)) ]
-      ] in
-      record {
-        first = λ y o. on_ y (s.first y o);
-        next = λ z i v b y o. elim (in_either seen (x ∷ []) z i) [
-          | inl j ↦ on_ y (s.next z j v b y o)
-          | inr j ↦ elim j [
-            | inl same ↦ let clash : Some v ≡ None = sym b ∙ ap T same ∙ e in cc
-            | inr bad ↦ absurd bad
-          ]
-        ];
-        absent = λ z i. elim (in_either seen (x ∷ []) z i) [ inl j ↦ s.absent z j | inr j ↦ elim j [ inl same ↦ λ q. n (sym same ∙ q) | inr bad ↦ absurd bad ] ];
-        reached = λ t i z r. s.reached t (in_left rest (variable x ∷ []) t i) z r;
       }
 
   closed_under : (seen : List VarName) → Searching T to from seen [] → {t : Tree} → ((y : VarName) → Occurs y t → In y seen) → ¬ Reaches T t to
@@ -172,10 +135,9 @@ module _ {T : VarName → Option Tree} {to : VarName} {from : Tree} where
 
 -- how large the open trees are
 abbrev pub sizes : StoreValue → List Tree → ℕ
-sizes s [] = 0
-sizes s (t ∷ ts) = size s t + sizes s ts
+sizes s ts = size_all s (trees ts)
 
-pub sizes_append : (s : StoreValue) (ts us : List Tree) → sizes s (ts ++ us) ≡ sizes s ts + sizes s us
+sizes_append : (s : StoreValue) (ts us : List Tree) → sizes s (ts ++ us) ≡ sizes s ts + sizes s us
 sizes_append s [] us = omega arith
 sizes_append s (t ∷ ts) us = let r = sizes_append s ts us in omega (arith, r)
 
@@ -184,33 +146,19 @@ size_positive s (variable x) = omega arith
 size_positive s (integer k) = omega arith
 size_positive s (node f ts) = omega arith
 
-pub sizes_are : (s : StoreValue) (ts : List Tree) → size_all s (trees ts) ≡ sizes s ts
-sizes_are s [] = refl
-sizes_are s (t ∷ ts) = ap (λ n. size s t + n) (sizes_are s ts)
-
-pub twice : (a b : Bool) → b ≡ not a → b ≡ false → a ≡ true
-twice true b e h = refl
-twice false b e h = let clash : false ≡ true = sym h ∙ e in cc
-
 -- a tree is taken from the end
 pub popped : (items rest : List (Bor Tree)) (t : Bor Tree) → items ≡ rest ++ t ∷ [] → map (λ (b : Bor Tree). b.now) items ≡ map (λ (b : Bor Tree). b.now) rest ++ t.now ∷ []
-popped items rest t e = ap (map (λ (b : Bor Tree). b.now)) e ∙ mapped rest
-  where
-    mapped : (l : List (Bor Tree)) → map (λ (b : Bor Tree). b.now) (l ++ t ∷ []) ≡ map (λ (b : Bor Tree). b.now) l ++ t.now ∷ []
-    mapped [] = refl
-    mapped (b ∷ l) = ap (λ k. b.now ∷ k) (mapped l)
+popped items rest t e = ap (map (λ (b : Bor Tree). b.now)) e ∙ map-append (λ (b : Bor Tree). b.now) rest (t ∷ [])
 
 -- others come in its place that are smaller
-pub falls : (s : StoreValue) (all rest new after : List Tree) (t : Tree) → all ≡ rest ++ t ∷ [] → after ≡ rest ++ new → sizes s new < size s t → sizes s after < sizes s all
+falls : (s : StoreValue) (all rest new after : List Tree) (t : Tree) → all ≡ rest ++ t ∷ [] → after ≡ rest ++ new → sizes s new < size s t → sizes s after < sizes s all
 falls s all rest new after t e f h =
     let a = ap (sizes s) e ∙ sizes_append s rest (t ∷ []) in
     let b = ap (sizes s) f ∙ sizes_append s rest new in
     omega (arith, a, b, h)
 
 pub falls_away : (s : StoreValue) (all rest : List Tree) (t : Tree) → all ≡ rest ++ t ∷ [] → sizes s rest < sizes s all
-falls_away s all rest t e =
-    let a = ap (sizes s) e ∙ sizes_append s rest (t ∷ []) in
-    omega (arith, a, size_positive s t)
+falls_away s all rest t e = falls s all rest [] rest t e (sym (append-nil rest)) (size_positive s t)
 
 -- a variable is seen
 pub sees : {T : VarName → Option Tree} {to : VarName} {from : Tree} (seen seen' : List VarName) (all rest after : List Tree) (x : VarName) (t : Tree) → variable x ≡ t → all ≡ rest ++ t ∷ [] → ¬ (x ≡ to)
@@ -219,11 +167,7 @@ sees {T = T} {to = to} {from = from} seen seen' all rest after x t is e n s d =
     let s' = subst (λ z. Searching T to from seen (rest ++ z ∷ [])) (sym is) (subst (Searching T to from seen) e s) in
     elim d [
       | inl p ↦ subst (λ z. Searching T to from z after) (sym p.1) (subst (Searching T to from seen) (sym p.2) (passed seen rest (variable x) s' (λ y o. subst (λ z. In z seen) (sym o) p.0)))
-      | inr p ↦ subst (λ z. Searching T to from z after) (sym p.0) (subst (Searching T to from (seen ++ x ∷ [])) (sym p.1)
-          (elim (T x) as (λ o. T x ≡ o → Searching T to from (seen ++ x ∷ []) (rest ++ value_list o)) [
-            | Some u ↦ λ b. met_bound seen rest x u n b s'
-            | None ↦ λ b. subst (Searching T to from (seen ++ x ∷ [])) (sym (append-nil rest)) (met_free seen rest x n b s')
-          ] refl))
+      | inr p ↦ subst (λ z. Searching T to from z after) (sym p.0) (subst (Searching T to from (seen ++ x ∷ [])) (sym p.1) (met seen rest x n s'))
     ]
 
 pub sees_falls : (s : StoreValue) (T : VarName → Option Tree) → IsAcyclic (value_at s) → value_at s ≡ T → (seen seen' : List VarName) (all rest after : List Tree) (x : VarName) (t : Tree) → variable x ≡ t → all ≡ rest ++ t ∷ []
@@ -245,10 +189,7 @@ unfolds {T = T} {to = to} {from = from} seen all rest after ts f t is e g s =
     subst (Searching T to from seen) (sym g) (unfolded seen rest ts f (subst (λ z. Searching T to from seen (rest ++ z ∷ [])) (sym is) (subst (Searching T to from seen) e s)))
 
 pub unfold_falls : (s : StoreValue) (all rest after ts : List Tree) (f : List ℕ) (t : Tree) → node f (trees ts) ≡ t → all ≡ rest ++ t ∷ [] → after ≡ rest ++ ts → sizes s after < sizes s all
-unfold_falls s all rest after ts f t is e g =
-    let a = sizes_are s ts in
-    let less : sizes s ts < size s (node f (trees ts)) = omega (arith, a) in
-    falls s all rest ts after t e g (subst (λ z. sizes s ts < size s z) is less)
+unfold_falls s all rest after ts f t is e g = falls s all rest ts after t e g (subst (λ z. sizes s ts < size s z) is (omega arith))
 
 pub nothing_open : (items : List (Bor Tree)) (n : ℕ) → n ≡ length items → n ≡ 0 → map (λ (b : Bor Tree). b.now) items ≡ []
 nothing_open [] n e z = refl

@@ -5,12 +5,16 @@ use Rattle.std.specs.Option.{option_or}
 use Rattle.std.specs.Ordering.{eq_by_cmp}
 use Rattle.std.specs.FinMap as finite
 use Rattle.ghc_term.specs.declared.var_name.VarName.{VarName}
+use Rattle.ghc_term.specs.declared.overlay.Overlay.{Overlay}
 use Rattle.ghc_term.specs.Tree.{Tree}
 use Rattle.ghc_term.specs.Bindings.{name_cmp, IsAcyclic, with_binding}
-use Rattle.ghc_term.specs.Store.{StoreValue, value_at}
+use Rattle.ghc_term.specs.Store.{StoreValue, value_at, with_bindings}
+use Rattle.ghc_term.specs.Overlay.{value_in}
 use Rattle.ghc_term.proofs.Names.{name_total}
-use Rattle.ghc_unify.specs.Unify.{with_bindings}
-use Rattle.ghc_unify.proofs.Bound.{by_answers}
+
+-- look-ups that answer alike are one
+pub by_answers : {S T : VarName → Option Tree} → ((x : VarName) → S x ≡ T x) → S ≡ T
+by_answers h i x = h x i
 
 abbrev pub merged : StoreValue → StoreValue → StoreValue
 merged B S = finite.from_entries (finite.entries B ++ finite.entries S)
@@ -34,9 +38,6 @@ merged_is B S = by_answers (merged_at B S)
 pub merged_acyclic : (B S : StoreValue) → IsAcyclic (with_bindings B (value_at S)) → IsAcyclic (value_at (merged B S))
 merged_acyclic B S h = subst IsAcyclic (sym (merged_is B S)) h
 
-pub merged_value : (B S : StoreValue) (x : VarName) (o : Option Tree) → o ≡ with_bindings B (value_at S) x → value_at (merged B S) x ≡ o
-merged_value B S x o e = merged_at B S x ∙ sym e
-
 -- one binding more
 insert_at : (B : StoreValue) (T : VarName → Option Tree) (x : VarName) (t : Tree) (y : VarName) → with_binding (with_bindings B T) x t y ≡ with_bindings (finite.insert B x t) T y
 insert_at B T x t y =
@@ -47,8 +48,8 @@ pub insert_is : (B : StoreValue) (T : VarName → Option Tree) (x : VarName) (t 
 insert_is B T x t = by_answers (insert_at B T x t)
 
 -- with no bindings more
-pub none_more : (T : VarName → Option Tree) → with_bindings finite.empty T ≡ T
-none_more T = by_answers (λ y. ap (λ o. option_or o (T y)) (finite.get-empty name_cmp y))
+pub none_more : (B : StoreValue) (T : VarName → Option Tree) → B ≡ finite.empty → with_bindings B T ≡ T
+none_more B T e = by_answers (λ y. ap (λ m. option_or (value_at m y) (T y)) e ∙ ap (λ o. option_or o (T y)) (finite.get-empty name_cmp y))
 
 -- what is unbound with the bindings is unbound in the store, and by them
 pub unbound_below : (B : StoreValue) (T : VarName → Option Tree) (x : VarName) → with_bindings B T x ≡ None → (value_at B x ≡ None) × (T x ≡ None)
@@ -57,3 +58,13 @@ unbound_below B T x e =
       | Some t ↦ λ p. let no : Some t ≡ None = p in cc
       | None ↦ λ p. (refl, p)
     ] e
+
+-- all that the overlay binds, as one finite map
+abbrev pub all_bound : Overlay → StoreValue
+all_bound o = merged o.binds.now o.store.now
+
+pub all_is : (o : Overlay) → value_at (all_bound o) ≡ value_in o
+all_is o = merged_is o.binds.now o.store.now
+
+pub all_acyclic : (o : Overlay) → IsAcyclic (value_at (all_bound o))
+all_acyclic o = merged_acyclic o.binds.now o.store.now o.acyclic

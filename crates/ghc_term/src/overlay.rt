@@ -1,0 +1,148 @@
+// A store with some bindings in front of it.
+ghost use Rattle.std.specs.Prelude.{◌≡◌, ◌↔◌, [], ◌++◌, map, IfOk, OnOk, IsTrue, option_copied};
+ghost use Rattle.ghc_term.specs.Bindings.{IsAcyclic, Leads, Reaches};
+ghost use Rattle.ghc_term.specs.Store.{value_at, with_bindings};
+
+use crate::bindings::Bindings;
+use crate::store::Store;
+use crate::term::Term;
+use crate::var_name::VarName;
+use crate::view::TermView;
+use indexmap::IndexSet;
+use std::alloc::{AllocError, Global};
+
+/// A store with some bindings in front of it, in which no value reaches its own variable.
+#[derive(Clone, Copy)]
+pub struct Overlay<'a> {
+    pub store: &'a Store,
+    pub binds: &'a Bindings,
+    pub ghost acyclic: { IsAcyclic (with_bindings binds.now (value_at store.now)) },
+}
+
+/// The variables passed from a term by following bindings, an unbound last one included, and the term to which they lead.
+pub struct Chain<'a> {
+    pub passed: Vec<VarName>,
+    pub end: &'a Term,
+}
+
+impl Drop for Chain<'_> {
+    fn drop(self) {
+        let Chain {
+            passed: _passed,
+            end: _,
+        } = self;
+    }
+}
+
+impl Chain<'_> {
+    /// The variables passed.
+    pub fn into_passed(self) -> Vec<VarName>
+        ensures { result ≡ self.entry.passed }
+    {
+        let Chain { passed, end: _ } = self;
+        passed
+    }
+}
+
+// Adds the terms to those that are still to be searched.
+fn push_all<'a>(terms: &'a [Term], waiting: &mut Vec<&'a Term>) -> Result<(), AllocError>
+    ensures { OnOk result (map (λ t. t.now) waiting.new.items ≡ map (λ t. t.now) waiting.old.items ++ terms.now) }
+{
+    for term in terms {
+        waiting.push(term)?;
+    }
+    Ok(())
+}
+
+impl<'a> Overlay<'a> {
+    ghost use Rattle.ghc_term.specs.Overlay.{value_in};
+    ghost use Rattle.ghc_term.specs.Seen.{Sees};
+
+    /// What the variable is bound to, in front or else in the store: two look-ups at most.
+    pub fn get(&self, x: VarName) -> Option<&'a Term>
+        ensures { option_copied result ≡ value_in self.now x }
+    {
+        match self.binds.get(x) {
+            Some(value) => Some(value),
+            None => self.store.get(x),
+        }
+    }
+
+    /// The chain of the term, as a loop. It costs `get` for each variable passed.
+    pub fn chain(&self, alloc: Global, term: &'a Term) -> Result<Chain<'a>, AllocError>
+        ensures { IfOk result (λ c. Leads (value_in self.now) term.now c.passed.items c.end.now) }
+    {
+        let mut passed = Vec::new(alloc);
+        let mut end = term;
+        loop {
+            match end.view() {
+                TermView::Var(x) => {
+                    passed.push(x)?;
+                    match self.get(x) {
+                        Some(value) => end = value,
+                        None => return Ok(Chain { passed, end }),
+                    }
+                }
+                _ => return Ok(Chain { passed, end }),
+            }
+        }
+    }
+
+    // Sees a variable: if it was not seen before, its value is still to be searched.
+    fn see(
+        &self,
+        x: VarName,
+        seen: &mut IndexSet<VarName>,
+        waiting: &mut Vec<&'a Term>,
+    ) -> Result<(), AllocError>
+        ensures { OnOk result (Sees (value_in self.now) x seen.old.keys seen.new.keys (map (λ t. t.now) waiting.old.items) (map (λ t. t.now) waiting.new.items)) }
+    {
+        if !seen.insert(x)? {
+            return Ok(());
+        }
+        if let Some(value) = self.get(x) {
+            waiting.push(value)?;
+        }
+        Ok(())
+    }
+
+    // The search of `reaches`, of which nothing is seen so far.
+    fn search(
+        &self,
+        alloc: Global,
+        from: &'a Term,
+        to: VarName,
+        seen: &mut IndexSet<VarName>,
+    ) -> Result<bool, AllocError>
+        requires { seen.old.keys ≡ [] }
+        ensures { IfOk result (λ yes. IsTrue yes ↔ Reaches (value_in self.now) from.now to) }
+    {
+        let mut waiting = Vec::new(alloc);
+        waiting.push(from)?;
+        while let Some(term) = waiting.pop() {
+            if term.is_closed() {
+                continue;
+            }
+            match term.view() {
+                TermView::Var(x) => {
+                    if x == to {
+                        return Ok(true);
+                    }
+                    self.see(x, seen, &mut waiting)?;
+                }
+                TermView::Struct(_, arguments) => push_all(arguments, &mut waiting)?,
+                _ => {}
+            }
+        }
+        Ok(false)
+    }
+
+    /// Whether the variable stands in the term, or in the value of a variable that the term reaches. It goes by a loop,
+    /// once through the term and through each value that it reaches, and past what is closed as written.
+    pub fn reaches(&self, alloc: Global, from: &'a Term, to: VarName) -> Result<bool, AllocError>
+        ensures { IfOk result (λ yes. IsTrue yes ↔ Reaches (value_in self.now) from.now to) }
+    {
+        let mut seen = IndexSet::new(alloc);
+        self.search(alloc, from, to, &mut seen)
+    }
+}
