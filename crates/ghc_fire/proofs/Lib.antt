@@ -6,6 +6,7 @@ pub mod Codes
 pub mod EachEffect
 pub mod EachAnswer
 pub mod Ordered
+pub mod Indexed
 pub mod GoalNames
 pub mod Rebuilding
 pub mod Walked
