@@ -9,11 +9,18 @@ use Rattle.ghc_core.specs.World.{no_hands, World, with_step}
 use Rattle.ghc_core.specs.Proposes.{IsCommitOf}
 use Rattle.ghc_core.specs.Legal.{IsReachable}
 
--- A core is the world that it is in, the names of the query's variables by number, and the counts of what it fired and tried.
+-- How many more entries the tables of a core take without memory.
+pub record Room : Type 0 where
+  pub goals : ℕ
+  pub shelf : ℕ
+  pub journal : ℕ
+
+-- A core is the world that it is in, the names of the query's variables by number, the counts of what it fired and tried, and its room, which no other clause speaks of.
 pub record Core : Type 0 where
   pub world : World
   pub names : List (List ℕ)
   pub meter : Meter
+  pub room : Room
 
 -- The world is one that a core can be in: events reach it.
 abbrev pub IsStanding : World → Type 0

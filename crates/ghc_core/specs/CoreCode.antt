@@ -6,7 +6,7 @@ use Rattle.ghc_records.specs.Record.{State, Record, Shelf}
 use Rattle.ghc_records.specs.Journal.{Opening, Entry}
 use Rattle.ghc_records.specs.RecordCode.{state_code, records_code, shelf_code, journal_code, opening_code}
 use Rattle.ghc_core.specs.World.{World}
-use Rattle.ghc_core.specs.Core.{Core}
+use Rattle.ghc_core.specs.Core.{Core, Room}
 
 abbrev pub world_code : Coded World
 world_code =
@@ -19,7 +19,10 @@ world_code =
 abbrev pub meter_code : Coded Meter
 meter_code = code_by (ℕ × ℕ) (coded× coded_ℕ coded_ℕ) (λ m. (m.firings, m.tries)) (λ p. record { firings = p.0; tries = p.1 }) (λ _. refl)
 
+abbrev pub room_code : Coded Room
+room_code = code_by (ℕ × (ℕ × ℕ)) (coded× coded_ℕ (coded× coded_ℕ coded_ℕ)) (λ r. (r.goals, (r.shelf, r.journal))) (λ p. record { goals = p.0; shelf = p.1.0; journal = p.1.1 }) (λ _. refl)
+
 abbrev pub core_code : Coded Core
 core_code =
-    code_by (World × (List (List ℕ) × Meter)) (coded× world_code (coded× (coded_list (coded_list coded_ℕ)) meter_code))
-    (λ c. (c.world, (c.names, c.meter))) (λ p. record { world = p.0; names = p.1.0; meter = p.1.1 }) (λ _. refl)
+    code_by (World × (List (List ℕ) × (Meter × Room))) (coded× world_code (coded× (coded_list (coded_list coded_ℕ)) (coded× meter_code room_code)))
+    (λ c. (c.world, (c.names, (c.meter, c.room)))) (λ p. record { world = p.0; names = p.1.0; meter = p.1.1.0; room = p.1.1.1 }) (λ _. refl)

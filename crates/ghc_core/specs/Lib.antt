@@ -12,3 +12,4 @@ pub mod Facts
 pub mod Load
 pub mod Core
 pub mod CoreCode
+pub mod Change

@@ -1,5 +1,5 @@
 // Steps of a core: proposals, the steps that they would take, and taking them.
-ghost use Rattle.std.specs.Prelude.{◌≡◌, ◌≢◌, ◌⊎◌, ◌∷◌, ◌++◌, [], true, false, Some, None, Err, List, option_copied, IfOk, IfErr, OnOk, OnErr, IsErrAnd, MatchResult, ⊤};
+ghost use Rattle.std.specs.Prelude.{◌≡◌, ◌≢◌, ◌<◌, ◌⊎◌, ◌∷◌, ◌++◌, [], true, false, Some, None, Err, List, option_copied, IfOk, IfErr, OnOk, OnErr, IsErrAnd, MatchResult, ⊤};
 ghost use Rattle.std.specs.FinMap as finite;
 ghost use Rattle.ghc_term.specs.Lists.{In};
 ghost use Rattle.ghc_term.specs.declared.fault.Fault.{Fault as fault_spec};
@@ -10,7 +10,8 @@ ghost use Rattle.ghc_fire.specs.Attempted.{IsProposed};
 ghost use Rattle.ghc_fire.specs.Meter.{fired};
 ghost use Rattle.ghc_fire.specs.Proposal.{Proposal as proposal_spec, under};
 ghost use Rattle.ghc_records.specs.Record.{Record as record_spec};
-ghost use Rattle.ghc_records.specs.Journal.{took, step_of, Entry as entry_spec};
+ghost use Rattle.ghc_records.specs.Journal.{took, step_of};
+ghost use Rattle.ghc_records.specs.EntryCode.{entry_of};
 ghost use Rattle.ghc_records.specs.Laws.{IsWellMade};
 ghost use Rattle.ghc_core.specs.World.{IsReplay, IsFull, HasRoom, with_step};
 ghost use Rattle.ghc_core.specs.Core.{IsCommitted, choice_of};
@@ -48,13 +49,6 @@ fn withdraw_record(records: &mut Records)
     let _ = records.pop();
 }
 
-// Takes the last entry away.
-pub(crate) fn withdraw_entry(journal: &mut Journal)
-    ensures { (es : List entry_spec) (e : entry_spec) → journal.old ≡ es ++ e ∷ [] → journal.new ≡ es }
-{
-    let _ = journal.pop();
-}
-
 // The last record.
 fn last_of(records: &Records) -> Option<&Record>
     ensures { (rs : List record_spec) (r : record_spec) → records.now ≡ rs ++ r ∷ [] → option_copied result ≡ Some r }
@@ -63,28 +57,28 @@ fn last_of(records: &Records) -> Option<&Record>
     records.at(last)
 }
 
-// Puts the step at the end of the record and of the journal, or into neither where memory is refused.
+// The entry of a step that is taken.
+fn entry_of_step(step: &Record) -> Result<Entry, AllocError>
+    ensures { IfOk result (λ e. entry_of e ≡ took (step_of step.now)) }
+{
+    match step.step() {
+        Ok(taken) => Ok(Entry::Took(taken)),
+        Err(error) => Err(error),
+    }
+}
+
+// Puts the step at the end of the record, and makes room for its entry. The record stays where memory is refused.
 fn enter(records: &mut Records, journal: &mut Journal, step: Record) -> Result<(), AllocError>
     requires { (r : record_spec) → In r records.old → r.number ≢ step.number }
     ensures records { OnOk result (records.new ≡ records.old ++ step ∷ []) }
-    ensures journal { OnOk result (journal.new ≡ journal.old ++ took (step_of step) ∷ []) }
+    ensures room { OnOk result (0 < journal.new.room) }
     ensures records_stay { OnErr result (records.new ≡ records.old) }
-    ensures journal_stays { OnErr result (journal.new ≡ journal.old) }
+    ensures journal_stays { journal.new.held ≡ journal.old.held }
 {
-    let entry = match step.step() {
-        Ok(entry) => Entry::Took(entry),
-        Err(error) => return Err(error),
-    };
-    if let Err(error) = journal.push(entry) {
+    if let Err(error) = journal.reserve(1) {
         return Err(error);
     }
-    match records.push(step) {
-        Ok(()) => Ok(()),
-        Err(error) => {
-            withdraw_entry(journal);
-            Err(error)
-        }
-    }
+    records.push(step)
 }
 
 impl Core {
@@ -205,18 +199,23 @@ impl Core {
         ensures replay { IsReplay self.new.world self.new.world.kept self.new.world.state }
         ensures well_made { IsWellMade self.new.world.opening.query self.new.world.kept self.new.world.state }
     {
+        self.stands();
+        let entry = match entry_of_step(&step) {
+            Ok(entry) => entry,
+            Err(error) => return Err(error),
+        };
         if let Err(error) = enter(&mut self.records, &mut self.journal, step) {
             return Err(error);
         }
         let taken = last_of(&self.records).unwrap();
         match self.state.take(alloc, taken) {
             Ok(()) => {
+                self.journal.put(entry);
                 self.next += 1;
                 Ok(())
             }
             Err(error) => {
                 withdraw_record(&mut self.records);
-                withdraw_entry(&mut self.journal);
                 Err(error)
             }
         }

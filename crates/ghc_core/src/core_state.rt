@@ -49,12 +49,13 @@ impl Model for Core {
     ghost coded = { core_code };
 
     ghost view = { λ c. record {
-      world = record { opening = fresh_opening c.program c.query.goals; state = c.state; kept = c.records; shelf = c.shelf; next = c.next; journal = c.journal };
+      world = record { opening = fresh_opening c.program c.query.goals; state = c.state.held; kept = c.records; shelf = c.shelf.held; next = c.next; journal = c.journal.held };
       names = c.query.variables;
       meter = c.meter;
+      room = record { goals = c.state.room; shelf = c.shelf.room; journal = c.journal.room };
     } };
 
-    ghost invariant = { λ c. IsStanding (record { opening = fresh_opening c.program c.query.goals; state = c.state; kept = c.records; shelf = c.shelf; next = c.next; journal = c.journal }) };
+    ghost invariant = { λ c. IsStanding (record { opening = fresh_opening c.program c.query.goals; state = c.state.held; kept = c.records; shelf = c.shelf.held; next = c.next; journal = c.journal.held }) };
 }
 
 impl Core {

@@ -1,6 +1,7 @@
 //! The core: worlds, events and replies, one relation for each event, and legal histories.
 #![tactic(auto)]
 
+mod change;
 mod commit;
 mod core_state;
 mod facts;
@@ -11,6 +12,7 @@ mod there;
 mod undo;
 mod undo_laws;
 
+pub use change::Change;
 pub use core_state::Core;
 pub use facts::{redo_is_changed, second_hand_is_stale};
 pub use history_laws::{

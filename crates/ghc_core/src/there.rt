@@ -46,7 +46,7 @@ impl Core {
 
     /// The goals of the state.
     pub fn goals(&self) -> &Goals
-        ensures { result.now ≡ self.now.world.state.goals }
+        ensures { result.now.held ≡ self.now.world.state.goals }
     {
         self.state.goals()
     }
@@ -67,7 +67,7 @@ impl Core {
 
     /// The records of the steps that were taken away and not redone.
     pub fn shelf(&self) -> &Shelf
-        ensures { result.now ≡ self.now.world.shelf }
+        ensures { result.now.held ≡ self.now.world.shelf }
     {
         &self.shelf
     }
@@ -81,7 +81,7 @@ impl Core {
 
     /// The journal.
     pub fn journal(&self) -> &Journal
-        ensures { result.now ≡ self.now.world.journal }
+        ensures { result.now.held ≡ self.now.world.journal }
     {
         &self.journal
     }

@@ -1,9 +1,10 @@
 -- The order of goal names.
-use Rattle.std.proofs.Common.{◌≡◌, refl, sym}
+use Rattle.std.proofs.Common.{◌≡◌, ℕ, Bool, ◌&&◌, refl, sym, ap, ◌∙◌, arith, nat_eq}
+use Rattle.std.proofs.lemmas.Bool.Decides.{nat_tests}
 use Rattle.std.specs.declared.cmp.Ordering.{Ordering}
 use Rattle.std.specs.declared.cmp.Ordering.TheVariants.{Less, Equal, Greater}
-use Rattle.std.specs.Ordering.{nat_cmp, ordering_then}
-use Rattle.std.specs.Cmp.{IsTotalOrder, ranked, nat_cmp_total}
+use Rattle.std.specs.Ordering.{nat_cmp, ordering_then, eq_by_cmp, is_eq}
+use Rattle.std.specs.Cmp.{IsTotalOrder, ranked, nat_cmp_total, tied_then}
 use Rattle.std.specs.FinMap.{IsAntisymmetric}
 use Rattle.std.proofs.lemmas.Cmp.{then_total, on_total}
 use Rattle.ghc_term.specs.declared.goal_name.GoalName.{GoalName}
@@ -23,3 +24,13 @@ goal_antisymmetric g h e =
     let steps : g.step ≡ h.step = ranked g.step h.step Equal (sym p.0) in
     let places : g.place ≡ h.place = ranked g.place h.place Equal (sym p.1) in
     λ i. record { step = steps i; place = places i }
+
+-- Equality of goal names, as the code has it.
+abbrev pub same : GoalName → GoalName → Bool
+same g h = nat_eq g.step h.step && nat_eq g.place h.place
+
+pub nat_same_is : (a b : ℕ) → nat_eq a b ≡ is_eq (nat_cmp a b)
+nat_same_is a b = grind (arith, nat_tests)
+
+pub same_is : (g h : GoalName) → same g h ≡ eq_by_cmp goal_cmp g h
+same_is g h = ap (λ b. b && nat_eq g.place h.place) (nat_same_is g.step h.step) ∙ ap (λ b. is_eq (nat_cmp g.step h.step) && b) (nat_same_is g.place h.place) ∙ tied_then (nat_cmp g.step h.step) (nat_cmp g.place h.place)

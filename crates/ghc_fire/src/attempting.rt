@@ -35,18 +35,18 @@ pub fn attempt(
     goal: GoalName,
     choice: Option<u32>,
 ) -> Result<Proposal, Fault>
-    ensures proposed { IfOk result (IsProposed program.now goals.now store.now goal choice) }
-    ensures fault { IfErr result (λ f. (f ≡ Fault.Memory) ⊎ AttemptsAt program.now goals.now store.now goal choice (refused f)) }
+    ensures proposed { IfOk result (IsProposed program.now goals.now.held store.now goal choice) }
+    ensures fault { IfErr result (λ f. (f ≡ Fault.Memory) ⊎ AttemptsAt program.now goals.now.held store.now goal choice (refused f)) }
 
     // There is one answer, unless memory is wanting.
-    ensures only { (a : act_spec) (e : effect_spec) → AttemptsAt program.now goals.now store.now goal choice (proposes a e)
+    ensures only { (a : act_spec) (e : effect_spec) → AttemptsAt program.now goals.now.held store.now goal choice (proposes a e)
         → MatchResult result (λ p. (p.act ≡ a) × (p.effect ≡ e)) (λ f. f ≡ Fault.Memory) }
-    ensures only_fault { (f : fault_spec) → AttemptsAt program.now goals.now store.now goal choice (refused f)
+    ensures only_fault { (f : fault_spec) → AttemptsAt program.now goals.now.held store.now goal choice (refused f)
         → IsErrAnd result (λ g. (g ≡ f) ⊎ (g ≡ Fault.Memory)) }
 
     // What look-ups refuse, no want of memory hides.
-    ensures no_goal { AttemptsAt program.now goals.now store.now goal choice (refused Fault.NoGoal) → result ≡ Err Fault.NoGoal }
-    ensures no_clause { AttemptsAt program.now goals.now store.now goal choice (refused Fault.NoClause) → result ≡ Err Fault.NoClause }
+    ensures no_goal { AttemptsAt program.now goals.now.held store.now goal choice (refused Fault.NoGoal) → result ≡ Err Fault.NoGoal }
+    ensures no_clause { AttemptsAt program.now goals.now.held store.now goal choice (refused Fault.NoClause) → result ≡ Err Fault.NoClause }
     ensures counted { meter.new ≡ fired meter.old }
 {
     meter.count_firing();
@@ -63,10 +63,10 @@ fn propose(
     goal: GoalName,
     choice: Option<u32>,
 ) -> Result<Proposal, Fault>
-    ensures proposed { IfOk result (IsProposed program.now goals.now store.now goal choice) }
-    ensures fault { IfErr result (λ f. (f ≡ Fault.Memory) ⊎ AttemptsAt program.now goals.now store.now goal choice (refused f)) }
-    ensures no_goal { AttemptsAt program.now goals.now store.now goal choice (refused Fault.NoGoal) → result ≡ Err Fault.NoGoal }
-    ensures no_clause { AttemptsAt program.now goals.now store.now goal choice (refused Fault.NoClause) → result ≡ Err Fault.NoClause }
+    ensures proposed { IfOk result (IsProposed program.now goals.now.held store.now goal choice) }
+    ensures fault { IfErr result (λ f. (f ≡ Fault.Memory) ⊎ AttemptsAt program.now goals.now.held store.now goal choice (refused f)) }
+    ensures no_goal { AttemptsAt program.now goals.now.held store.now goal choice (refused Fault.NoGoal) → result ≡ Err Fault.NoGoal }
+    ensures no_clause { AttemptsAt program.now goals.now.held store.now goal choice (refused Fault.NoClause) → result ≡ Err Fault.NoClause }
 {
     let Some(consumed) = goals.get(goal) else {
         return Err(Fault::NoGoal);

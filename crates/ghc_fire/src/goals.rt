@@ -1,15 +1,14 @@
 // The goals of a state.
-ghost use Rattle.std.specs.Prelude.{◌≡◌, OnOk, OnErr};
+ghost use Rattle.std.specs.Prelude.{◌≡◌, ◌<◌, ◌≤◌, ◌+◌, OnOk, OnErr};
 
 use ghc_term::{Goal, GoalName};
+use indexmap::IndexMap;
 use std::alloc::{AllocError, Global};
-use std::collections::BTreeMap;
-use std::collections::btree_map::Iter;
 use std::marker::Model;
 
 /// The goals of a state by their names.
 pub struct Goals {
-    map: BTreeMap<GoalName, Goal>,
+    map: IndexMap<GoalName, Goal>,
 }
 
 impl Drop for Goals {
@@ -19,51 +18,63 @@ impl Drop for Goals {
 }
 
 impl Model for Goals {
+    ghost use Rattle.std.specs.FinMap as finite;
+    ghost use Rattle.indexmap.specs.IndexMap.{spare};
+    ghost use Rattle.ghc_term.specs.Table.{Table, table_code};
     ghost use Rattle.ghc_fire.specs.Goals.{Goals};
     ghost use Rattle.ghc_fire.specs.GoalsCode.{goals_code};
-    ghost use Rattle.std.specs.FinMap as finite;
 
-    ghost Value = { Goals };
+    ghost Value = { Table Goals };
 
-    ghost coded = { goals_code };
+    ghost coded = { table_code goals_code };
 
-    ghost view = { λ g. finite.from_entries g.map.entries };
+    ghost view = { λ g. record { held = finite.from_entries g.map.entries; room = spare g.map } };
 }
 
 impl Goals {
     ghost use Rattle.std.specs.Prelude.{option_copied};
     ghost use Rattle.std.specs.FinMap as finite;
-    ghost use Rattle.std.specs.Map.Iter.{ShowsInOrder, deref_pair};
     ghost use Rattle.ghc_term.specs.Goal.{Goal};
     ghost use Rattle.ghc_term.specs.declared.goal_name.GoalName.{GoalName};
 
     /// No goals, which take no memory.
     pub fn new(alloc: Global) -> Goals
-        ensures { result ≡ finite.empty }
+        ensures { result.held ≡ finite.empty }
     {
         Goals {
-            map: BTreeMap::new(alloc),
+            map: IndexMap::new(alloc),
         }
     }
 
     /// The goal of this name: one look-up.
     pub fn get(&self, name: GoalName) -> Option<&Goal>
-        ensures { option_copied result ≡ finite.get self.now name }
+        ensures { option_copied result ≡ finite.get self.now.held name }
     {
         self.map.get(&name)
     }
 
-    /// How many goals there are.
-    pub fn len(&self) -> usize
-        ensures { result ≡ finite.len self.now }
+    /// Makes room for as many more goals. The goals stay, and so does the room where memory is refused.
+    pub fn reserve(&mut self, count: usize) -> Result<(), AllocError>
+        ensures held { self.new.held ≡ self.old.held }
+        ensures room { OnOk result (count ≤ self.new.room) }
+        ensures kept { self.old.room ≤ self.new.room }
     {
-        self.map.len()
+        self.map.reserve(count)
     }
 
-    /// Puts a goal under the name, in place of one that it had. It stays as it was where memory is refused.
+    /// Puts a goal under the name, in place of one that it had, where there is room: one look-up.
+    pub fn put(&mut self, name: GoalName, goal: Goal)
+        requires { 0 < self.old.room }
+        ensures held { self.new.held ≡ finite.insert self.old.held name goal }
+        ensures room { self.old.room ≤ self.new.room + 1 }
+    {
+        self.map.insert(name, goal).unwrap();
+    }
+
+    /// Puts a goal under the name, in place of one that it had. The goals stay as they were where memory is refused.
     pub fn insert(&mut self, name: GoalName, goal: Goal) -> Result<(), AllocError>
-        ensures ok { OnOk result (self.new ≡ finite.insert self.old name goal) }
-        ensures err { OnErr result (self.new ≡ self.old) }
+        ensures ok { OnOk result (self.new.held ≡ finite.insert self.old.held name goal) }
+        ensures err { OnErr result (self.new.held ≡ self.old.held) }
     {
         match self.map.insert(name, goal) {
             Ok(_) => Ok(()),
@@ -71,19 +82,12 @@ impl Goals {
         }
     }
 
-    /// Takes the goal of this name away and gives it, if there was one: one look-up.
+    /// Takes the goal of this name away and gives it, if there was one: one look-up. The room does not shrink.
     pub fn remove(&mut self, name: GoalName) -> Option<Goal>
-        ensures value { result ≡ finite.get self.old name }
-        ensures rest { self.new ≡ finite.remove self.old name }
+        ensures value { result ≡ finite.get self.old.held name }
+        ensures held { self.new.held ≡ finite.remove self.old.held name }
+        ensures room { self.old.room ≤ self.new.room }
     {
-        self.map.remove(&name)
-    }
-
-    /// The goals with their names, in the order of the names.
-    pub fn iter(&self) -> Iter<'_, GoalName, Goal>
-        ensures rest { result ≡ finite.entries self.now }
-        ensures runs { ShowsInOrder (deref_pair {K = GoalName} {X = Goal}) }
-    {
-        self.map.iter()
+        self.map.swap_remove(&name)
     }
 }

@@ -3,7 +3,6 @@
 use crate::step::Step;
 
 /// An entry: a step was taken, step n was undone, rolled back or redone, or the record was put into another order.
-#[derive(Drop)]
 pub enum Entry {
     /// A step was taken.
     Took(Step),
@@ -15,4 +14,14 @@ pub enum Entry {
     Redid(u32),
     /// The record was put into this order.
     Reordered(Vec<u32>),
+}
+
+impl Drop for Entry {
+    fn drop(self) {
+        match self {
+            Entry::Took(_step) => {}
+            Entry::Reordered(_order) => {}
+            Entry::Undid(_) | Entry::Rolled(_) | Entry::Redid(_) => {}
+        }
+    }
 }

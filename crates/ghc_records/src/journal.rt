@@ -1,5 +1,5 @@
 // The journal of a core: its accepted steps and commands.
-ghost use Rattle.std.specs.Prelude.{◌≡◌, length, [], ◌∷◌, ◌++◌, map, IfSome, IfNone, OnOk, OnErr, slice_get};
+ghost use Rattle.std.specs.Prelude.{◌≡◌, ◌+◌, ◌<◌, ◌≤◌, length, [], ◌∷◌, ◌++◌, map, OnOk, OnErr, slice_get};
 ghost use Rattle.ghc_records.specs.EntryCode.{entry_of};
 
 use crate::entry::Entry;
@@ -18,16 +18,17 @@ impl Drop for Journal {
 }
 
 impl Model for Journal {
-    ghost use Rattle.std.specs.Prelude.{map, List};
+    ghost use Rattle.std.specs.Prelude.{◌-◌, map, List, vec_len, vec_capacity};
+    ghost use Rattle.ghc_term.specs.Table.{Table, table_code};
     ghost use Rattle.ghc_records.specs.Journal.{Entry};
     ghost use Rattle.ghc_records.specs.EntryCode.{entry_of};
     ghost use Rattle.ghc_records.specs.RecordCode.{journal_code};
 
-    ghost Value = { List Entry };
+    ghost Value = { Table (List Entry) };
 
-    ghost coded = { journal_code };
+    ghost coded = { table_code journal_code };
 
-    ghost view = { λ j. map entry_of j.entries.items };
+    ghost view = { λ j. record { held = map entry_of j.entries.items; room = vec_capacity j.entries - vec_len j.entries } };
 }
 
 impl Journal {
@@ -35,7 +36,7 @@ impl Journal {
 
     /// No entries, which take no memory.
     pub fn new(alloc: Global) -> Journal
-        ensures { result ≡ [] }
+        ensures { result.held ≡ [] }
     {
         Journal {
             entries: Vec::new(alloc),
@@ -44,35 +45,33 @@ impl Journal {
 
     /// How many entries there are.
     pub fn len(&self) -> usize
-        ensures { result ≡ length self.now }
+        ensures { result ≡ length self.now.held }
     {
         self.entries.len()
     }
 
     /// The entry at this place, from 0 on: one step.
     pub fn at(&self, place: usize) -> Option<&Entry>
-        ensures { option_map (λ e. entry_of e.now) result ≡ slice_get self.now place }
+        ensures { option_map (λ e. entry_of e.now) result ≡ slice_get self.now.held place }
     {
         self.entries.get(place)
     }
 
-    /// Puts an entry at the end. The journal stays as it was where memory is refused.
-    pub fn push(&mut self, entry: Entry) -> Result<(), AllocError>
-        ensures ok { OnOk result (self.new ≡ self.old ++ entry_of entry ∷ []) }
-        ensures err { OnErr result (self.new ≡ self.old) }
+    /// Makes room for as many more entries. The entries stay, and so does the room where memory is refused.
+    pub fn reserve(&mut self, count: usize) -> Result<(), AllocError>
+        ensures held { self.new.held ≡ self.old.held }
+        ensures room { OnOk result (count ≤ self.new.room) }
+        ensures kept { self.old.room ≤ self.new.room }
     {
-        match self.entries.push(entry) {
-            Ok(()) => Ok(()),
-            Err(_) => Err(AllocError),
-        }
+        self.entries.reserve(count)
     }
 
-    /// Takes the last entry away, if there is one.
-    pub fn pop(&mut self) -> Option<Entry>
-        ensures last { IfSome result (λ e. self.old ≡ self.new ++ entry_of e ∷ []) }
-        ensures none { IfNone result (self.old ≡ []) }
-        ensures none_left { IfNone result (self.new ≡ []) }
+    /// Puts an entry at the end, where there is room.
+    pub fn put(&mut self, entry: Entry)
+        requires { 0 < self.old.room }
+        ensures held { self.new.held ≡ self.old.held ++ entry_of entry ∷ [] }
+        ensures room { self.old.room ≤ self.new.room + 1 }
     {
-        self.entries.pop()
+        self.entries.push(entry).unwrap();
     }
 }

@@ -1,15 +1,14 @@
 // The records of the steps that were taken away and not redone.
-ghost use Rattle.std.specs.Prelude.{◌≡◌, OnOk, OnErr};
+ghost use Rattle.std.specs.Prelude.{◌≡◌, ◌+◌, ◌<◌, ◌≤◌, OnOk, OnErr};
 
 use crate::record::Record;
+use indexmap::IndexMap;
 use std::alloc::{AllocError, Global};
-use std::collections::BTreeMap;
-use std::collections::btree_map::Iter;
 use std::marker::Model;
 
 /// Records by the numbers of their steps.
 pub struct Shelf {
-    map: BTreeMap<u32, Record>,
+    map: IndexMap<u32, Record>,
 }
 
 impl Drop for Shelf {
@@ -19,70 +18,63 @@ impl Drop for Shelf {
 }
 
 impl Model for Shelf {
+    ghost use Rattle.std.specs.FinMap as finite;
+    ghost use Rattle.indexmap.specs.IndexMap.{spare};
+    ghost use Rattle.ghc_term.specs.Table.{Table, table_code};
     ghost use Rattle.ghc_records.specs.Record.{Shelf};
     ghost use Rattle.ghc_records.specs.RecordCode.{shelf_code};
-    ghost use Rattle.std.specs.FinMap as finite;
 
-    ghost Value = { Shelf };
+    ghost Value = { Table Shelf };
 
-    ghost coded = { shelf_code };
+    ghost coded = { table_code shelf_code };
 
-    ghost view = { λ s. finite.from_entries s.map.entries };
+    ghost view = { λ s. record { held = finite.from_entries s.map.entries; room = spare s.map } };
 }
 
 impl Shelf {
-    ghost use Rattle.std.specs.Prelude.{option_copied, ℕ};
+    ghost use Rattle.std.specs.Prelude.{option_copied};
     ghost use Rattle.std.specs.FinMap as finite;
-    ghost use Rattle.std.specs.Map.Iter.{ShowsInOrder, deref_pair};
-    ghost use Rattle.ghc_records.specs.Record.{Record};
 
     /// An empty shelf, which takes no memory.
     pub fn new(alloc: Global) -> Shelf
-        ensures { result ≡ finite.empty }
+        ensures { result.held ≡ finite.empty }
     {
         Shelf {
-            map: BTreeMap::new(alloc),
+            map: IndexMap::new(alloc),
         }
     }
 
     /// The record of the step of this number: one look-up.
     pub fn get(&self, number: u32) -> Option<&Record>
-        ensures { option_copied result ≡ finite.get self.now number }
+        ensures { option_copied result ≡ finite.get self.now.held number }
     {
         self.map.get(&number)
     }
 
-    /// How many records there are.
-    pub fn len(&self) -> usize
-        ensures { result ≡ finite.len self.now }
+    /// Makes room for as many more records. The records stay, and so does the room where memory is refused.
+    pub fn reserve(&mut self, count: usize) -> Result<(), AllocError>
+        ensures held { self.new.held ≡ self.old.held }
+        ensures room { OnOk result (count ≤ self.new.room) }
+        ensures kept { self.old.room ≤ self.new.room }
     {
-        self.map.len()
+        self.map.reserve(count)
     }
 
-    /// Puts a record under the number, in place of one that it had. It stays as it was where memory is refused.
-    pub fn insert(&mut self, number: u32, record: Record) -> Result<(), AllocError>
-        ensures ok { OnOk result (self.new ≡ finite.insert self.old number «record») }
-        ensures err { OnErr result (self.new ≡ self.old) }
+    /// Puts a record under the number of its step, in place of one that it had, where there is room: one look-up.
+    pub fn put(&mut self, record: Record)
+        requires { 0 < self.old.room }
+        ensures held { self.new.held ≡ finite.insert self.old.held «record».number «record» }
+        ensures room { self.old.room ≤ self.new.room + 1 }
     {
-        match self.map.insert(number, record) {
-            Ok(_) => Ok(()),
-            Err(_) => Err(AllocError),
-        }
+        self.map.insert(record.number(), record).unwrap();
     }
 
-    /// Takes the record of this number away and gives it, if there was one: one look-up.
+    /// Takes the record of this number away and gives it, if there was one: one look-up. The room does not shrink.
     pub fn remove(&mut self, number: u32) -> Option<Record>
-        ensures value { result ≡ finite.get self.old number }
-        ensures rest { self.new ≡ finite.remove self.old number }
+        ensures value { result ≡ finite.get self.old.held number }
+        ensures held { self.new.held ≡ finite.remove self.old.held number }
+        ensures room { self.old.room ≤ self.new.room }
     {
-        self.map.remove(&number)
-    }
-
-    /// The records with their numbers, in the order of the numbers.
-    pub fn iter(&self) -> Iter<'_, u32, Record>
-        ensures rest { result ≡ finite.entries self.now }
-        ensures runs { ShowsInOrder (deref_pair {K = ℕ} {X = Record}) }
-    {
-        self.map.iter()
+        self.map.swap_remove(&number)
     }
 }

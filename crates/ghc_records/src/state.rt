@@ -1,9 +1,10 @@
 // States: the goals and the store.
-ghost use Rattle.std.specs.Prelude.{◌≡◌, IfOk, OnOk, OnErr};
+ghost use Rattle.std.specs.Prelude.{◌≡◌, ◌<◌, ◌≤◌, IfOk, OnOk, OnErr};
 
 use crate::binding::{bind_all, unbind_all};
-use crate::making::{consume_goal, give_back, make_goals, unmake_goals};
+use crate::making::{consume_goal, make_goals, restore_consumed, unmake_goals};
 use crate::record::Record;
+use crate::removal::Removal;
 use ghc_fire::Goals;
 use ghc_term::{Goal, Store};
 use std::alloc::{AllocError, Global};
@@ -25,14 +26,16 @@ impl Drop for State {
 }
 
 impl Model for State {
+    ghost use Rattle.ghc_term.specs.Table.{Table, table_code};
     ghost use Rattle.ghc_records.specs.Record.{State};
     ghost use Rattle.ghc_records.specs.RecordCode.{state_code};
 
-    ghost Value = { State };
+    ghost Value = { Table State };
 
-    ghost coded = { state_code };
+    ghost coded = { table_code state_code };
 
-    ghost view = { λ s. record { goals = s.goals; store = s.store } };
+    // The room is that of the goals.
+    ghost view = { λ s. record { held = record { goals = s.goals.held; store = s.store }; room = s.goals.room } };
 }
 
 impl State {
@@ -42,7 +45,7 @@ impl State {
 
     /// The state of a query before any step. It costs a look-up for each goal, and shares the goals.
     pub fn of_query(alloc: Global, query: &[Goal]) -> Result<State, AllocError>
-        ensures { IfOk result (λ s. s ≡ query_state query.now) }
+        ensures { IfOk result (λ s. s.held ≡ query_state query.now) }
     {
         let mut goals = Goals::new(alloc);
         match make_goals(&mut goals, 0, query) {
@@ -56,14 +59,14 @@ impl State {
 
     /// The goals.
     pub fn goals(&self) -> &Goals
-        ensures { result.now ≡ self.now.goals }
+        ensures { result.now.held ≡ self.now.held.goals }
     {
         &self.goals
     }
 
     /// The store.
     pub fn store(&self) -> &Store
-        ensures { result.now ≡ self.now.store }
+        ensures { result.now ≡ self.now.held.store }
     {
         &self.store
     }
@@ -72,9 +75,9 @@ impl State {
     /// stays as it was where memory is refused. It costs a look-up for each goal and each binding, and the search that each
     /// binding takes.
     pub fn take(&mut self, alloc: Global, record: &Record) -> Result<(), AllocError>
-        requires { CanTake self.old record.now }
-        ensures ok { OnOk result (self.new ≡ after self.old record.now) }
-        ensures err { OnErr result (self.new ≡ self.old) }
+        requires { CanTake self.old.held record.now }
+        ensures ok { OnOk result (self.new.held ≡ after self.old.held record.now) }
+        ensures err { OnErr result (self.new.held ≡ self.old.held) }
     {
         let effect = record.effect();
         let count = match make_goals(&mut self.goals, record.number(), effect.makes()) {
@@ -89,21 +92,26 @@ impl State {
         Ok(())
     }
 
-    /// Takes a step back: what it bound is unbound, the goals that it made are gone, and the goal that it consumed is there
-    /// again. The state stays as it was where memory is refused. It costs a look-up for each goal and each binding.
-    pub fn take_back(&mut self, step: &Record) -> Result<(), AllocError>
-        ensures ok { OnOk result (IsTakenBack step.now self.old self.new) }
-        ensures err { OnErr result (self.new ≡ self.old) }
+    /// Makes room for as many more goals. The state stays, and so does the room where memory is refused.
+    pub fn reserve(&mut self, goals: usize) -> Result<(), AllocError>
+        ensures held { self.new.held ≡ self.old.held }
+        ensures room { OnOk result (goals ≤ self.new.room) }
+        ensures kept { self.old.room ≤ self.new.room }
     {
-        let effect = step.effect();
-        let Ok(count) = u32::try_from(effect.makes().len()) else {
-            return Err(AllocError);
-        };
-        if let Err(error) = give_back(&mut self.goals, step.goal(), step.consumed()) {
-            return Err(error);
-        }
-        unmake_goals(&mut self.goals, step.number(), count);
-        unbind_all(&mut self.store, effect.binds());
-        Ok(())
+        self.goals.reserve(goals)
+    }
+
+    /// Takes a step back, where there is room for a goal: what it bound is unbound, the goals that it made are gone, and the goal
+    /// that it consumed is there again. It gives the record, and costs a look-up for each goal and each binding.
+    pub fn take_back(&mut self, removal: Removal) -> Record
+        requires { 0 < self.old.room }
+        ensures record { result ≡ removal }
+        ensures state { IsTakenBack removal self.old.held self.new.held }
+    {
+        let (step, consumed, made) = removal.into_parts();
+        restore_consumed(&mut self.goals, step.goal(), consumed);
+        unmake_goals(&mut self.goals, step.number(), made);
+        unbind_all(&mut self.store, step.effect().binds());
+        step
     }
 }

@@ -13,6 +13,7 @@ pub mod View
 pub mod Falls
 pub mod Bindings
 pub mod Store
+pub mod Table
 pub mod Shown
 pub mod Seen
 pub mod Overlay

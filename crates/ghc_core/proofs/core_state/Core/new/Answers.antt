@@ -10,11 +10,11 @@ use Rattle.ghc_core.proofs.core_state.Core.new.Goals as goal
 pub invariant_of-result : goal.invariant_of-result
 invariant_of-result c =
     let accepted : IsProgram c.args.program = c.clauses-clauses.ensures.program in
-    let state : c.in-Ok.state ≡ query_state c.args.query.goals = c.in-Ok.ensures ∙ ap query_state c.goals.ensures.same in
+    let state : c.in-Ok.state.held ≡ query_state c.args.query.goals = c.in-Ok.ensures ∙ ap query_state c.goals.ensures.same in
     let same : fresh_world c.args.program c.args.query.goals
-    ≡ record { opening = fresh_opening c.args.program c.args.query.goals; state = c.in-Ok.state; kept = c.new.result; shelf = c.new-2.result; next = 1; journal = c.new-3.result } =
+    ≡ record { opening = fresh_opening c.args.program c.args.query.goals; state = c.in-Ok.state.held; kept = c.new.result; shelf = c.new-2.result.held; next = 1; journal = c.new-3.result.held } =
     let kept : c.new.result ≡ [] = c.new.ensures in
-    let shelf : c.new-2.result ≡ finite.empty = c.new-2.ensures in
-    let journal : c.new-3.result ≡ [] = c.new-3.ensures in
+    let shelf : c.new-2.result.held ≡ finite.empty = c.new-2.ensures in
+    let journal : c.new-3.result.held ≡ [] = c.new-3.ensures in
     cc in
     subst IsStanding same (fresh_stands c.args.program c.args.query.goals accepted c.requires)

@@ -1,0 +1,32 @@
+-- Maps in the order of insertion, and the lists of their entries.
+use Rattle.std.proofs.Common.{◌≡◌, Bool, cond, List, [], ◌∷◌, refl, sym, ap, ◌∙◌}
+use Rattle.std.specs.Prelude.{Option, Some, None, Result, Ok, Err, IsOk, OnOk}
+use Rattle.std.specs.declared.cmp.Ordering.{Ordering}
+use Rattle.std.specs.Map.{lookup}
+use Rattle.std.specs.Ordering.{eq_by_cmp}
+use Rattle.std.specs.Cmp.{IsTotalOrder, eq_by_cmp_equiv}
+use Rattle.std.specs.FinMap as finite
+use Rattle.std.specs.FinMap.{IsAntisymmetric}
+
+-- what holds on success holds where it is known
+pub done : {A E P : Type 0} (r : Result A E) → IsOk r → OnOk r P → P
+done (Ok a) o h = h
+done (Err e) o h = cc
+
+module _ {K X : Type 0} {R : K → K → Ordering} (o : IsTotalOrder R) (alike : IsAntisymmetric R) (same : K → K → Bool) (same_is : (x y : K) → same x y ≡ eq_by_cmp R x y) where
+  found : (q : K) (es : List (K × X)) → lookup (same q) es ≡ finite.find R q es
+  found q [] = refl
+  found q (e ∷ es) = rw (same_is q e.0) (ap (cond (eq_by_cmp R q e.0) (Some e.1)) (found q es))
+
+  pub value_is : (q : K) (es : List (K × X)) → lookup (same q) es ≡ finite.get (finite.from_entries {R = R} es) q
+  value_is q es = found q es ∙ sym (finite.get-from_entries o es q)
+
+  pub inserted : (es new : List (K × X)) (k : K) (v : X) → ((q : K) → lookup (same q) new ≡ cond (same k q) (Some v) (lookup (same q) es)) → finite.from_entries new ≡ finite.insert (finite.from_entries {R = R} es) k v
+  inserted es new k v h = finite.same_map o alike _ _ (λ q.
+      sym (value_is q new) ∙ h q ∙ ap (λ b. cond b (Some v) (lookup (same q) es)) (same_is k q ∙ (eq_by_cmp_equiv o).symm k q) ∙ ap (cond (eq_by_cmp R q k) (Some v)) (value_is q es)
+      ∙ sym (finite.get-insert o (finite.from_entries es) k v q))
+
+  pub removed : (es new : List (K × X)) (k : K) → ((q : K) → lookup (same q) new ≡ cond (same k q) None (lookup (same q) es)) → finite.from_entries new ≡ finite.remove (finite.from_entries {R = R} es) k
+  removed es new k h = finite.same_map o alike _ _ (λ q.
+      sym (value_is q new) ∙ h q ∙ ap (λ b. cond b None (lookup (same q) es)) (same_is k q ∙ (eq_by_cmp_equiv o).symm k q) ∙ ap (cond (eq_by_cmp R q k) None) (value_is q es)
+      ∙ sym (finite.get-remove o (finite.from_entries es) k q))

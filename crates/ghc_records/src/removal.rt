@@ -1,0 +1,73 @@
+// Steps to be taken away, each with all that this takes.
+ghost use Rattle.std.specs.Prelude.{◌≡◌, length, option_copied, IfOk};
+
+use crate::record::Record;
+use ghc_term::Goal;
+use std::alloc::AllocError;
+use std::marker::Model;
+
+/// The record of a step that is to be taken away, a handle of the goal that it consumed, and how many goals it made. To take it
+/// away takes no memory but the room for an entry in each table.
+#[derive(Drop)]
+pub struct Removal {
+    step: Record,
+    consumed: Option<Goal>,
+    made: u32,
+}
+
+impl Model for Removal {
+    ghost use Rattle.std.specs.Prelude.{◌≡◌, length};
+    ghost use Rattle.ghc_records.specs.Record.{Record};
+    ghost use Rattle.ghc_records.specs.RecordCode.{record_code};
+
+    ghost Value = { Record };
+
+    ghost coded = { record_code };
+
+    ghost view = { λ r. r.step };
+
+    ghost invariant = { λ r. (r.consumed ≡ r.step.consumed) × (r.made ≡ length r.step.effect.makes) };
+}
+
+// The goal once more, if there is one.
+fn shared(goal: Option<&Goal>) -> Result<Option<Goal>, AllocError>
+    ensures { IfOk result (λ g. g ≡ option_copied goal.entry) }
+{
+    match goal {
+        Some(goal) => Ok(Some(goal.share()?)),
+        None => Ok(None),
+    }
+}
+
+impl Removal {
+    /// What it takes to take this step away, with handles of its own: one step. Fails where a count of handles is full.
+    pub fn of(step: &Record) -> Result<Removal, AllocError>
+        ensures { IfOk result (λ r. r ≡ step.now) }
+    {
+        let Ok(made) = u32::try_from(step.effect().makes().len()) else {
+            return Err(AllocError);
+        };
+        let consumed = shared(step.consumed())?;
+        Ok(Removal {
+            step: step.share()?,
+            consumed,
+            made,
+        })
+    }
+
+    /// The step.
+    pub fn step(&self) -> &Record
+        ensures { result.now ≡ self.now }
+    {
+        &self.step
+    }
+
+    // The record, the goal that its step consumed, and how many goals that made.
+    pub(crate) fn into_parts(self) -> (Record, Option<Goal>, u32)
+        ensures record { result.0 ≡ self }
+        ensures consumed { result.1 ≡ self.consumed }
+        ensures made { result.2 ≡ length self.effect.makes }
+    {
+        (self.step, self.consumed, self.made)
+    }
+}
