@@ -29,11 +29,7 @@ pub(crate) fn consume_goal(goals: &mut Goals, name: Option<GoalName>)
 }
 
 /// Puts the goal that a step consumed back under its name, if it consumed one: one look-up.
-pub(crate) fn restore_consumed(
-    goals: &mut Goals,
-    name: Option<GoalName>,
-    consumed: Option<Goal>,
-)
+pub(crate) fn restore_consumed(goals: &mut Goals, name: Option<GoalName>, consumed: Option<Goal>)
     requires { 0 < goals.old.room }
     ensures { goals.new.held ≡ with_goal name consumed goals.old.held }
 {
