@@ -14,20 +14,25 @@ fn undone(alloc: Global, number: u32) -> Result<Vec<u8>, AllocError>
     Ok(text.into_bytes())
 }
 
-/// Undoes the step of this number, and tells it; or its refusal, which changes nothing. The text is made first, so that an
-/// error leaves the core as it was. It costs what the core's undo costs.
+/// Undoes the step of this number, and tells it; or its refusal, which changes nothing. The change is found first, then the text
+/// is made, and then room; an error leaves the core as it was. It costs what the core's undo costs.
 pub fn undo(alloc: Global, core: &mut Core, number: u32) -> Result<Vec<u8>, AllocError>
     ensures text { IfOk result (λ t. TakesBack core.old.world number t.items core.new.world) }
     ensures err { OnErr result (core.new.world ≡ core.old.world) }
     ensures names { core.new.names ≡ core.old.names }
     ensures meter { core.new.meter ≡ core.old.meter }
 {
+    let change = match core.prepare_undo(number) {
+        Ok(change) => change,
+        Err(fault) => return refused(alloc, &fault),
+    };
     let text = match undone(alloc, number) {
         Ok(text) => text,
         Err(error) => return Err(error),
     };
-    match core.undo(number) {
-        Ok(()) => Ok(text),
-        Err(fault) => refused(alloc, &fault),
+    if let Err(error) = core.reserve(&change) {
+        return Err(error);
     }
+    core.apply(change);
+    Ok(text)
 }

@@ -13,7 +13,6 @@ pub mod Gathered
 pub mod Assigned
 pub mod Renamed
 pub mod Under
-pub mod Places
 pub mod FreshPlaces
 pub mod Calling
 pub mod Answering

@@ -11,5 +11,4 @@ pub mod GoalsCode
 pub mod Meter
 pub mod ActCode
 pub mod Attempted
-pub mod Places
 pub mod Calls

@@ -6,7 +6,6 @@ ghost use Rattle.ghc_fire.specs.Calls.{HasVerdict};
 
 use crate::act::Act;
 use crate::effect::{Effect, NO_STEP};
-use crate::fresh::count_fresh;
 use crate::instances::instance;
 use ghc_flat::{Clause, Program};
 use ghc_match::{Outcome, Tried, try_clause};
@@ -22,7 +21,7 @@ enum Verdict {
     Reduces(Effect),
 }
 
-// What the clause makes of a call with these arguments: it tries the clause, and where that accepts, goes twice through
+// What the clause makes of a call with these arguments: it tries the clause, and where that accepts, goes once through
 // its body.
 fn try_clause_as_step(
     alloc: Global,
@@ -41,7 +40,7 @@ fn try_clause_as_step(
         Outcome::Waits(_wanted) => Ok(Verdict::Waits),
         Outcome::Accepts(theta) => {
             let makes = instance(alloc, clause, head_variables, &theta, NO_STEP)?;
-            let fresh = count_fresh(clause);
+            let fresh = clause.fresh();
             let effect = Effect::new(looked, Bindings::new(alloc), makes, fresh);
             Ok(Verdict::Reduces(effect))
         }

@@ -8,7 +8,6 @@ mod effect;
 mod equations;
 mod expression_reads;
 mod facts;
-mod fresh;
 mod goals;
 mod instances;
 mod laws;

@@ -25,4 +25,4 @@ returns-in_ok-makes-in-Accepts c =
     let e = c.new-effect.ensures in
     let read = subst (λ reads. HasOutcome clause ts s (accepts theta reads)) (sym e.reads) o in
     let makes = e.makes ∙ c.in_ok-makes-in-Accepts.ensures in
-    (o.0, λ P f k ic is. (clause, theta, ic, is, read, e.binds ∙ c.new.ensures, makes, e.fresh ∙ c.count_fresh-fresh.ensures))
+    (o.0, λ P f k ic is. (clause, theta, ic, is, read, e.binds ∙ c.new.ensures, makes, e.fresh ∙ c.fresh-fresh.ensures))
