@@ -9,38 +9,27 @@ use Rattle.ghc_term.specs.declared.var_name.VarName.{VarName}
 use Rattle.ghc_term.specs.Tree.{variable}
 use Rattle.ghc_term.specs.Store.{value_at}
 use Rattle.ghc_term.specs.Resolved.{IsTextOf}
-use Rattle.ghc_fire.specs.Attempt as attempt
-use Rattle.ghc_fire.specs.Attempted.{IsProposed}
 use Rattle.ghc_fire.specs.Proposal.{Proposal}
 use Rattle.ghc_records.specs.Record.{Record}
 use Rattle.ghc_core.specs.World.{World, with_step}
-use Rattle.ghc_core.specs.Proposes.{StillHolds, IsCommitOf, CommitFails, stale, AttemptAnswers}
-use Rattle.ghc_core.specs.Proposes as proposing
-use Rattle.ghc_core.proofs.Committing.{answered_holds}
+use Rattle.ghc_core.specs.Proposes.{IsCommitOf, StepFails, refused_attempt, no_room}
 use Rattle.ghc_trace.specs.Ports.{taken_ports}
 use Rattle.ghc_trace.specs.PortText.{ports_text}
 use Rattle.ghc_console.specs.VariableNamed.{Names, IsVariableNamed}
-use Rattle.ghc_console.specs.Replies.{Takes, takes, full, RepliesToShow, too_long, refusal, print_limit}
+use Rattle.ghc_console.specs.Replies.{Takes, takes, full, RepliesToStep, steps, fails, RepliesToShow, too_long, refusal, print_limit}
 
 -- What is known of an answer leads to more about it.
 pub if_ok : {T E : Type 0} (r : Result T E) {P Q R : T → Type 0} → IfOk r P → IfOk r Q → ((t : T) → P t → Q t → R t) → IfOk r R
 if_ok (Ok t) p q f = f t p q
 if_ok (Err e) p q f = tt
 
--- A proposal that was just made still holds.
-pub proposed_holds : (w : World) (g : GoalName) (choice : Option ℕ) (p : Proposal)
-    → IsProposed w.opening.program w.state.goals w.state.store g choice p → StillHolds w p
-proposed_holds w g choice p made =
-    answered_holds w p choice p.consumed (subst (λ (h : GoalName). finite.get w.state.goals h ≡ Some p.consumed) (sym made.named) made.there)
-    (subst (λ (h : GoalName). AttemptAnswers w h choice (attempt.proposes p.act p.effect)) (sym made.named) made.proposed)
-
--- A step that was prepared is refused only where the world is full.
-pub refused_takes : (w v : World) (p : Proposal) (f : Fault) (text : List ℕ) → StillHolds w p → v ≡ w → (f ≡ fault.Memory) ⊎ CommitFails w p f
-    → text ≡ refusal f → f ≢ fault.Memory → Takes w p text v
-refused_takes w v p f text holds same (inl m) told kept = absurd (kept m)
-refused_takes w v p f text holds same (inr (stale n)) told kept = absurd (n holds)
-refused_takes w v p f text holds same (inr (proposing.full h i)) told kept =
-    subst (λ x. Takes w p x v) (sym told) (subst (Takes w p (refusal fault.Full)) (sym same) (full i))
+-- A step that is refused is told so.
+pub step_refused : (w v : World) (g : GoalName) (choice : Option ℕ) (f : Fault) (text : List ℕ) → v ≡ w → (f ≡ fault.Memory) ⊎ StepFails w g choice f → text ≡ refusal f → f ≢ fault.Memory
+    → RepliesToStep w g choice text v
+step_refused w v g choice f text same (inl m) told kept = absurd (kept m)
+step_refused w v g choice f text same (inr (refused_attempt q)) told kept = fails f q told same
+step_refused w v g choice f text same (inr (no_room p named answer is_full)) told kept =
+    steps p named answer (subst (λ x. Takes w p x v) (sym told) (subst (Takes w p (refusal fault.Full)) (sym same) (full is_full)))
 
 -- A step that was taken.
 pub step_taken : (w v : World) (p : Proposal) (r : Record) (text : List ℕ) → IsCommitOf w p r → text ≡ ports_text (taken_ports r) → v ≡ with_step r w → Takes w p text v

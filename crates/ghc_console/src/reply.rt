@@ -1,15 +1,13 @@
 // The replies to commands.
-ghost use Rattle.std.specs.Prelude.{◌≡◌, ◌≢◌, ◌⊎◌, ◌++◌, IfOk, OnErr, OnOk, codes, Some, string_bytes};
+ghost use Rattle.std.specs.Prelude.{◌≡◌, ◌≢◌, ◌++◌, IfOk, OnErr, OnOk, codes, Some, string_bytes};
 ghost use Rattle.std.specs.FinMap as finite;
 ghost use Rattle.ghc_fire.specs.Meter.{fired};
-ghost use Rattle.ghc_core.specs.Proposes.{StillHolds};
 ghost use Rattle.ghc_trace.specs.Ports.{taken_ports};
 ghost use Rattle.ghc_trace.specs.PortText.{ports_text};
-ghost use Rattle.ghc_console.specs.Replies.{Takes, RepliesToStep, RepliesToShow, lined, record_lines, records_text, refusal};
+ghost use Rattle.ghc_console.specs.Replies.{RepliesToStep, RepliesToShow, lined, record_lines, records_text, refusal};
 
 use crate::asking::variable_named;
 use ghc_core::Core;
-use ghc_fire::{Meter, Proposal};
 use ghc_records::{Record, Records, push_record};
 use ghc_term::{Fault, GoalName, Term, print};
 use ghc_trace::{ports, push_ports};
@@ -39,15 +37,20 @@ fn told(alloc: Global, taken: &Record) -> Result<Vec<u8>, AllocError>
     Ok(text.into_bytes())
 }
 
-// Takes the step that was proposed in this state. Its text is made first.
-fn take(alloc: Global, core: &mut Core, proposal: &Proposal) -> Result<Vec<u8>, AllocError>
-    requires { StillHolds core.old.world proposal.now }
-    ensures taken { IfOk result (λ t. Takes core.old.world proposal.now t.items core.new.world) }
+/// Takes a step of the goal, by the clause chosen or else by the least that accepts, and tells its ports; or its refusal. It is
+/// fired once, and its text is made before it is taken.
+pub fn step(
+    alloc: Global,
+    core: &mut Core,
+    goal: GoalName,
+    choice: Option<u32>,
+) -> Result<Vec<u8>, AllocError>
+    ensures text { IfOk result (λ t. RepliesToStep core.old.world goal choice t.items core.new.world) }
     ensures err { OnErr result (core.new.world ≡ core.old.world) }
     ensures names { core.new.names ≡ core.old.names }
     ensures meter { core.new.meter ≡ fired core.old.meter }
 {
-    let step = match core.prepare(alloc, proposal) {
+    let step = match core.prepare_step(alloc, goal, choice) {
         Ok(step) => step,
         Err(fault) => return refused(alloc, &fault),
     };
@@ -58,25 +61,6 @@ fn take(alloc: Global, core: &mut Core, proposal: &Proposal) -> Result<Vec<u8>, 
     match core.take(alloc, step) {
         Ok(()) => Ok(text),
         Err(error) => Err(error),
-    }
-}
-
-/// Takes a step of the goal, by the clause chosen or else by the least that accepts, and tells its ports; or its refusal.
-pub fn step(
-    alloc: Global,
-    core: &mut Core,
-    goal: GoalName,
-    choice: Option<u32>,
-) -> Result<Vec<u8>, AllocError>
-    ensures text { IfOk result (λ t. RepliesToStep core.old.world goal choice t.items core.new.world) }
-    ensures err { OnErr result (core.new.world ≡ core.old.world) }
-    ensures names { core.new.names ≡ core.old.names }
-    ensures meter { (core.new.meter ≡ core.old.meter) ⊎ (core.new.meter ≡ fired core.old.meter) }
-{
-    let mut meter = Meter::new();
-    match core.attempt(alloc, &mut meter, goal, choice) {
-        Ok(proposal) => take(alloc, core, &proposal),
-        Err(fault) => refused(alloc, &fault),
     }
 }
 

@@ -57,6 +57,15 @@ pub data CommitFails (w : World) (p : Proposal) : Fault → Type 0 where
 abbrev pub IsCommitOf : World → Proposal → Record → Type 0
 IsCommitOf w p r = StillHolds w p × IsNextStep w r × (r.goal ≡ Some p.goal) × (r.act ≡ p.act)
 
+-- The record is that of the step that an attempt at the goal named g, with a clause chosen or not, proposes, as the next step of the world.
+abbrev pub IsStepOf : World → GoalName → Option ℕ → Record → Type 0
+IsStepOf w g choice r = (p : Proposal) × (p.goal ≡ g) × AttemptAnswers w g choice (attempt.proposes p.act p.effect) × IsCommitOf w p r
+
+-- Why no step of the goal is taken: the attempt is refused, and else the world is full.
+pub data StepFails (w : World) (g : GoalName) (choice : Option ℕ) : Fault → Type 0 where
+  refused_attempt : {f : Fault} → AttemptAnswers w g choice (attempt.refused f) → StepFails w g choice f
+  no_room : (p : Proposal) → p.goal ≡ g → AttemptAnswers w g choice (attempt.proposes p.act p.effect) → IsFull w → StepFails w g choice Fault.Full
+
 -- Commits Starved w hands h reply v left: hand h commits what it holds, which leaves the world v, and hand h empty.
 pub data Commits (Starved : Type 0) (w : World) (hands : Hands) (h : ℕ) : Reply → World → Hands → Type 0 where
   takes : (p : Proposal) (r : Record) → IsHand hands h → finite.get hands.held h ≡ Some p → IsCommitOf w p r

@@ -1,8 +1,7 @@
 // Changes of a core: each is found, given room, and applied.
-ghost use Rattle.std.specs.Prelude.{◌≡◌, ◌∷◌, [], OnOk};
+ghost use Rattle.std.specs.Prelude.{◌≡◌, OnOk};
 ghost use Rattle.ghc_term.specs.Lists.{In};
 ghost use Rattle.ghc_records.specs.Record.{Record as record_spec};
-ghost use Rattle.ghc_depend.specs.Depend.{Follows};
 ghost use Rattle.ghc_depend.specs.Kept.{IsWithout};
 ghost use Rattle.ghc_core.specs.Core.{IsStanding};
 ghost use Rattle.ghc_core.specs.Change.{CanChange, HasRoomFor, Changes};

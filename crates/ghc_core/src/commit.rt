@@ -27,7 +27,7 @@ use std::alloc::{AllocError, Global};
 const KEPT_LIMIT: usize = 1_000_000;
 
 // The record of the proposal as the step of this number.
-fn record_of(alloc: Global, proposal: Proposal, number: u32) -> Result<Record, AllocError>
+pub(crate) fn record_of(alloc: Global, proposal: Proposal, number: u32) -> Result<Record, AllocError>
     ensures { IfOk result (λ r. r ≡ record { number = number; goal = Some proposal.goal; consumed = Some proposal.consumed; act = proposal.act; effect = under number proposal.effect }) }
 {
     let goal = proposal.goal();
@@ -128,9 +128,11 @@ impl Core {
         choice: Option<u32>,
     ) -> Result<Proposal, Fault>
         ensures proposed { IfOk result (IsProposed self.old.world.opening.program self.old.world.state.goals self.old.world.state.store goal choice) }
+        ensures fault { IfErr result (λ f. (f ≡ Fault.Memory) ⊎ AttemptAnswers self.old.world goal choice (refused f)) }
         ensures only { (a : act_spec) (e : effect_spec) → AttemptAnswers self.old.world goal choice (proposes a e)
             → MatchResult result (λ p. (p.act ≡ a) × (p.effect ≡ e)) (λ f. f ≡ Fault.Memory) }
         ensures no_goal { AttemptAnswers self.old.world goal choice (refused Fault.NoGoal) → result ≡ Err Fault.NoGoal }
+        ensures no_clause { AttemptAnswers self.old.world goal choice (refused Fault.NoClause) → result ≡ Err Fault.NoClause }
         ensures world { self.new.world ≡ self.old.world }
         ensures names { self.new.names ≡ self.old.names }
         ensures counted { self.new.meter ≡ fired self.old.meter }
@@ -147,7 +149,7 @@ impl Core {
     }
 
     // Whether a new step has no room.
-    fn is_full(&self) -> bool
+    pub(crate) fn is_full(&self) -> bool
         ensures full { result ≡ true → IsFull self.now.world }
         ensures room { result ≡ false → HasRoom self.now.world }
     {

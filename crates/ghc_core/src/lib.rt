@@ -8,6 +8,7 @@ mod facts;
 mod history_laws;
 mod laws;
 mod recheck;
+mod step;
 mod there;
 mod undo;
 mod undo_laws;

@@ -11,8 +11,8 @@ use Rattle.ghc_console.proofs.undo_reply.undo.Goals as goal
 undone_by : {w v : World} {n : ℕ} (change : Change) → TakesAwayStep n change → Changes w change v → Undoes ⊥ w n (undone (n ∷ [])) v
 undone_by {w} {v} (takes_away r) number changed = subst (λ n. Undoes ⊥ w n (undone (n ∷ [])) v) number changed
 
-pub returns-in_default-clause-text : goal.returns-in_default-clause-text
-returns-in_default-clause-text c =
+pub returns-clause-text : goal.returns-clause-text
+returns-clause-text c =
     (undone (c.args.number ∷ []), undone_by c.in-Ok.change c.in-Ok.ensures.step (subst (λ (w : World). Changes w c.in-Ok.change c.apply.new.self.world) c.reserve.ensures.world c.apply.ensures.changed), tells_steps c.in-Ok-undone.ensures)
 
 pub returns-in-Err-clause-text : goal.returns-in-Err-clause-text
