@@ -27,7 +27,11 @@ use std::alloc::{AllocError, Global};
 const KEPT_LIMIT: usize = 1_000_000;
 
 // The record of the proposal as the step of this number.
-pub(crate) fn record_of(alloc: Global, proposal: Proposal, number: u32) -> Result<Record, AllocError>
+pub(crate) fn record_of(
+    alloc: Global,
+    proposal: Proposal,
+    number: u32,
+) -> Result<Record, AllocError>
     ensures { IfOk result (λ r. r ≡ record { number = number; goal = Some proposal.goal; consumed = Some proposal.consumed; act = proposal.act; effect = under number proposal.effect }) }
 {
     let goal = proposal.goal();
