@@ -7,7 +7,7 @@ ghost use Rattle.ghc_trace.specs.PortText.{ports_text};
 ghost use Rattle.ghc_console.specs.Replies.{RepliesToStep, RepliesToShow, lined, record_lines, records_text, refusal};
 
 use crate::asking::variable_named;
-use ghc_core::Core;
+use ghc_core::{Change, Core};
 use ghc_records::{Record, Records, push_record};
 use ghc_term::{Fault, GoalName, Term, print};
 use ghc_trace::{ports, push_ports};
@@ -38,7 +38,7 @@ fn told(alloc: Global, taken: &Record) -> Result<Vec<u8>, AllocError>
 }
 
 /// Takes a step of the goal, by the clause chosen or else by the least that accepts, and tells its ports; or its refusal. It is
-/// fired once, and its text is made before it is taken.
+/// fired once. The change is found first, then the text is made, and then room; an error leaves the core as it was.
 pub fn step(
     alloc: Global,
     core: &mut Core,
@@ -50,18 +50,15 @@ pub fn step(
     ensures names { core.new.names ≡ core.old.names }
     ensures meter { core.new.meter ≡ fired core.old.meter }
 {
-    let step = match core.prepare_step(alloc, goal, choice) {
-        Ok(step) => step,
+    let addition = match core.prepare_step(alloc, goal, choice) {
+        Ok(addition) => addition,
         Err(fault) => return refused(alloc, &fault),
     };
-    let text = match told(alloc, &step) {
-        Ok(text) => text,
-        Err(error) => return Err(error),
-    };
-    match core.take(alloc, step) {
-        Ok(()) => Ok(text),
-        Err(error) => Err(error),
-    }
+    let text = told(alloc, addition.step())?;
+    let change = Change::Adds(addition);
+    core.reserve(&change)?;
+    core.apply(change);
+    Ok(text)
 }
 
 // The word, and the term to which its variable leads.
@@ -91,7 +88,7 @@ pub fn show(alloc: Global, core: &Core, word: &[u8]) -> Result<Vec<u8>, AllocErr
 
 // The records, a line each.
 fn lines(alloc: Global, records: &Records) -> Result<String, AllocError>
-    ensures { IfOk result (λ t. string_bytes t ≡ record_lines records.now) }
+    ensures { IfOk result (λ t. string_bytes t ≡ record_lines records.now.held) }
 {
     let mut text = String::new(alloc);
     for place in 0..records.len() {

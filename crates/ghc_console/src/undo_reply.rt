@@ -3,7 +3,7 @@ ghost use Rattle.std.specs.Prelude.{◌≡◌, ◌∷◌, [], IfOk, OnErr};
 ghost use Rattle.ghc_console.specs.Replies.{TakesBack, undone_text};
 
 use crate::reply::refused;
-use ghc_core::Core;
+use ghc_core::{Change, Core};
 use std::alloc::{AllocError, Global};
 
 // The line of a step that is undone.
@@ -22,17 +22,13 @@ pub fn undo(alloc: Global, core: &mut Core, number: u32) -> Result<Vec<u8>, Allo
     ensures names { core.new.names ≡ core.old.names }
     ensures meter { core.new.meter ≡ core.old.meter }
 {
-    let change = match core.prepare_undo(number) {
-        Ok(change) => change,
+    let removal = match core.prepare_undo(number) {
+        Ok(removal) => removal,
         Err(fault) => return refused(alloc, &fault),
     };
-    let text = match undone(alloc, number) {
-        Ok(text) => text,
-        Err(error) => return Err(error),
-    };
-    if let Err(error) = core.reserve(&change) {
-        return Err(error);
-    }
+    let text = undone(alloc, number)?;
+    let change = Change::TakesAway(removal);
+    core.reserve(&change)?;
     core.apply(change);
     Ok(text)
 }

@@ -1,5 +1,5 @@
 -- Proposals that hold: what an attempt would propose, the step that they become, and the one answer of a commit.
-use Rattle.std.proofs.Common.{◌≡◌, false, ℕ, refl, sym, ◌∙◌, subst, inl, inr, Some, None}
+use Rattle.std.proofs.Common.{◌≡◌, false, ℕ, refl, sym, ap, ◌∙◌, subst, inl, inr, Some, None}
 use Rattle.std.specs.Prelude.{Option}
 use Rattle.std.specs.FinMap as finite
 use Rattle.ghc_term.specs.declared.var_name.VarName.{VarName}
@@ -7,23 +7,29 @@ use Rattle.ghc_term.specs.declared.goal_name.GoalName.{GoalName}
 use Rattle.ghc_term.specs.declared.fault.Fault.{Fault}
 use Rattle.ghc_term.specs.Tree.{Tree}
 use Rattle.ghc_term.specs.Goal.{Goal, call, unify, assign, stream}
+use Rattle.ghc_term.specs.Bindings.{IsAcyclic}
 use Rattle.ghc_term.specs.Store.{value_at}
+use Rattle.ghc_term.proofs.Exact.{exact}
 use Rattle.ghc_flat.specs.Clause.{Program}
 use Rattle.ghc_flat.specs.Flat.{is_stream}
 use Rattle.ghc_fire.specs.declared.act.Act.{Act}
 use Rattle.ghc_fire.specs.declared.act.Act.TheVariants.{ByClause as by_clause, Unified as unified, Assigned as assigned, Given as given, Closed as closed}
 use Rattle.ghc_fire.specs.Effect.{Effect, HasEffect, no_step}
 use Rattle.ghc_fire.specs.Proposal.{Proposal, under}
-use Rattle.ghc_fire.specs.Attempt.{proposes, CallAnswers, ChoiceAnswers, UnificationAnswers, AssignmentAnswers, Attempts}
+use Rattle.ghc_fire.specs.Attempt.{Answer, proposes, refused, CallAnswers, ChoiceAnswers, UnificationAnswers, AssignmentAnswers, Attempts}
 use Rattle.ghc_fire.proofs.Steps.{effect_once}
+use Rattle.ghc_fire.proofs.Tries.{attempt_once}
 use Rattle.ghc_fire.proofs.Under.{effect_under}
+use Rattle.ghc_fire.proofs.Answering.{same_act, same_effect, same_fault, apart}
 use Rattle.ghc_records.specs.Record.{Record}
 use Rattle.ghc_core.specs.World.{World, HasRoom}
-use Rattle.ghc_core.specs.Proposes.{AttemptAnswers, IsReduction, StillHolds, CommitFails, IsCommitOf}
-use Rattle.ghc_core.specs.Core.{IsStanding, choice_of, next_record}
+use Rattle.ghc_core.specs.Proposes.{AttemptAnswers, IsReduction, StillHolds, full, IsCommitOf, IsStepOf, StepFails, refused_attempt, no_room}
+use Rattle.ghc_core.specs.Core.{IsStanding, choice_of}
+use Rattle.ghc_core.specs.Laws.{CommitIsExact, StepIsExact}
 use Rattle.ghc_core.proofs.Reversing.{value_once}
 use Rattle.ghc_core.proofs.Stepping as stepping
-use Rattle.ghc_core.proofs.Standing.{standing_well_made, standing_numbered}
+use Rattle.ghc_core.proofs.Reaching.{known}
+use Rattle.ghc_core.proofs.Standing.{standing_numbered}
 
 -- a reduction that has an effect on a goal is what an attempt at it proposes
 attempted : (P : Program) (S : VarName → Option Tree) (b : Goal) (a : Act) (e : Effect) → IsReduction a → HasEffect P b a no_step S e → Attempts P S (Some b) (choice_of a) (proposes a e)
@@ -85,18 +91,42 @@ next_step w p b s h there room =
     let then : HasEffect w.opening.program b p.act w.next (value_at w.state.store) (under w.next p.effect) = effect_under w.opening.program b p.act w.next (value_at w.state.store) p.effect plain (standing_numbered w s p.goal b there) now in
     (h, (refl, ((b, refl, there), then), room), refl, refl)
 
--- A proposal whose goal is there as written is committed, where there is room, as its next record.
-pub next_record_commits : (w : World) (p : Proposal) → IsStanding w → StillHolds w p → finite.get w.state.goals p.goal ≡ Some p.consumed → HasRoom w → IsCommitOf w p (next_record w p)
-next_record_commits w p s h there room = next_step w p p.consumed s h there room
+module _ (w : World) (acyclic : IsAcyclic (value_at w.state.store)) where
+  one_answer : (g : GoalName) (choice : Option ℕ) {a b : Answer} → AttemptAnswers w g choice a → AttemptAnswers w g choice b → a ≡ b
+  one_answer g choice {a} {b} t u = attempt_once w.opening.program (value_at w.state.store) (finite.get w.state.goals g) choice a b acyclic t u
 
--- A commit has one record.
-pub commit_is_one : (w : World) (p : Proposal) (r s : Record) → IsStanding w → IsCommitOf w p r → IsCommitOf w p s → r ≡ s
-commit_is_one w p r s stands c d = stepping.step_once effect_once w (standing_well_made w stands).acyclic r s p.goal c.1 d.1 c.2 d.2 (c.3 ∙ sym d.3)
+  -- a proposal that still holds is not refused to an attempt at its goal
+  pub not_refused : (p : Proposal) (f : Fault) → StillHolds w p → ¬ AttemptAnswers w p.goal (choice_of p.act) (refused f)
+  not_refused p f holds t = apart (one_answer p.goal (choice_of p.act) (still_proposed w p holds) t)
 
--- A commit is not both taken and refused.
-pub commit_does_not_fail : (w : World) (p : Proposal) (r : Record) (f : Fault) → IsCommitOf w p r → ¬ CommitFails w p f
-commit_does_not_fail w p r f c d = stepping.commit_or_fail w r c d
+  -- what an attempt at the goal of a proposal that still holds proposes is the act and the effect of the proposal
+  pub same_again : (p : Proposal) (a : Act) (e : Effect) → StillHolds w p → AttemptAnswers w p.goal (choice_of p.act) (proposes a e) → (a ≡ p.act) × (e ≡ p.effect)
+  same_again p a e holds t = let same = one_answer p.goal (choice_of p.act) t (still_proposed w p holds) in (same_act same, same_effect same)
 
--- A commit is refused for one reason.
-pub commit_fails_is_one : (w : World) (p : Proposal) (f g : Fault) → CommitFails w p f → CommitFails w p g → f ≡ g
-commit_fails_is_one w p f g c d = stepping.commit_fails_once w c d
+  one_commit : (p : Proposal) (r s : Record) → IsCommitOf w p r → IsCommitOf w p s → r ≡ s
+  one_commit p r s c d = stepping.step_once effect_once w acyclic r s p.goal c.1 d.1 c.2 d.2 (c.3 ∙ sym d.3)
+
+  one_step : (g : GoalName) (choice : Option ℕ) (r s : Record) → IsStepOf w g choice r → IsStepOf w g choice s → r ≡ s
+  one_step g choice r s (p, named, t, c) (q, called, u, d) =
+      stepping.step_once effect_once w acyclic r s g c.1 d.1 (c.2 ∙ ap Some named) (d.2 ∙ ap Some called) (c.3 ∙ same_act (one_answer g choice t u) ∙ sym d.3)
+
+  one_reason : (g : GoalName) (choice : Option ℕ) (e f : Fault) → StepFails w g choice e → StepFails w g choice f → e ≡ f
+  one_reason g choice e f (refused_attempt t) (refused_attempt u) = same_fault (one_answer g choice t u)
+  one_reason g choice e f (refused_attempt t) (no_room p named u more) = absurd (apart (one_answer g choice u t))
+  one_reason g choice e f (no_room p named t is_full) (refused_attempt u) = absurd (apart (one_answer g choice t u))
+  one_reason g choice e f (no_room p named t is_full) (no_room q called u more) = refl
+
+  step_or_fail : (g : GoalName) (choice : Option ℕ) (r : Record) (f : Fault) → IsStepOf w g choice r → ¬ StepFails w g choice f
+  step_or_fail g choice r f (p, named, t, c) (refused_attempt u) = apart (one_answer g choice t u)
+  step_or_fail g choice r f (p, named, t, c) (no_room q called u is_full) = stepping.commit_or_fail w {p = p} r c (full c.0 is_full)
+
+-- What is answered for a commit in a reachable world is exact.
+pub commit_exact : CommitIsExact
+commit_exact w hands p result reachable answer =
+    exact (one_commit w (known w hands reachable).acyclic p) (λ f g h k. stepping.commit_fails_once w h k) (λ r f c d. stepping.commit_or_fail w r c d) result answer
+
+-- What is answered for a step in a reachable world is exact.
+pub step_exact : StepIsExact
+step_exact w hands g choice result reachable answer =
+    let acyclic = (known w hands reachable).acyclic in
+    exact (one_step w acyclic g choice) (one_reason w acyclic g choice) (step_or_fail w acyclic g choice) result answer

@@ -1,31 +1,59 @@
--- The record that a prepared step has is that of a commit.
-use Rattle.std.proofs.Common.{◌≡◌, ℕ, List, subst, sym, Some}
+-- The step that is prepared of a proposal, and what it answers.
+use Rattle.std.proofs.Common.{◌≡◌, ◌⊎◌, ℕ, List, inl, inr, refl, subst, sym, ap, ◌∙◌, Option, Some, Result, Ok, Err, IfOk, IfErr}
 use Rattle.std.specs.FinMap as finite
 use Rattle.ghc_term.specs.declared.goal_name.GoalName.{GoalName}
+use Rattle.ghc_term.specs.declared.fault.Fault.{Fault}
+use Rattle.ghc_term.specs.declared.fault.Fault.TheVariants as fault
+use Rattle.ghc_term.specs.Answered.{Answered}
 use Rattle.ghc_fire.specs.declared.act.Act.{Act}
 use Rattle.ghc_fire.specs.Effect.{Effect}
+use Rattle.ghc_fire.specs.Attempt.{proposes}
 use Rattle.ghc_fire.specs.Proposal.{Proposal, under}
 use Rattle.ghc_records.specs.Record.{State, Record, Shelf}
 use Rattle.ghc_records.specs.Journal.{Opening, Entry}
-use Rattle.ghc_core.specs.World.{World, HasRoom}
-use Rattle.ghc_core.specs.Core.{IsStanding}
-use Rattle.ghc_core.specs.Proposes.{StillHolds, IsCommitOf}
-use Rattle.ghc_core.proofs.Committing.{next_step}
+use Rattle.ghc_core.specs.World.{World, IsFull, HasRoom}
+use Rattle.ghc_core.specs.Core.{IsStanding, next_record}
+use Rattle.ghc_core.specs.Proposes.{AttemptAnswers, IsProposedIn, StillHolds, IsCommitOf, CommitFails, full, IsStepOf, StepFails, no_room}
+use Rattle.ghc_core.proofs.Committing.{next_step, answered_holds}
 
--- the record of a proposal as step n
-abbrev pub record_as : ℕ → Proposal → Record
-record_as n p = record { number = n; goal = Some p.goal; consumed = Some p.consumed; act = p.act; effect = under n p.effect }
-
--- The record of a proposal that was made again, under the next number, is that of a commit of the proposal.
-pub prepared : (w : World) (p again : Proposal) (n : ℕ) → IsStanding w → StillHolds w p → finite.get w.state.goals again.goal ≡ Some again.consumed
-    → again.goal ≡ p.goal → again.act ≡ p.act → again.effect ≡ p.effect → HasRoom w → n ≡ w.next → IsCommitOf w p (record_as n again)
-prepared w p again n standing holds there goal act effect room number =
+-- The step of a proposal that was made again is that of a commit of the proposal.
+prepared : (w : World) (p again : Proposal) → IsStanding w → StillHolds w p → finite.get w.state.goals again.goal ≡ Some again.consumed
+    → again.goal ≡ p.goal → again.act ≡ p.act → again.effect ≡ p.effect → HasRoom w → IsCommitOf w p (next_record w again)
+prepared w p again standing holds there goal act effect room =
     let found : finite.get w.state.goals p.goal ≡ Some again.consumed = subst (λ (g : GoalName). finite.get w.state.goals g ≡ Some again.consumed) goal there in
-    subst (λ m. IsCommitOf w p (record_as m again)) (sym number)
-    (subst (λ (g : GoalName). IsCommitOf w p (record { number = w.next; goal = Some g; consumed = Some again.consumed; act = again.act; effect = under w.next again.effect })) (sym goal)
+    subst (λ (g : GoalName). IsCommitOf w p (record { number = w.next; goal = Some g; consumed = Some again.consumed; act = again.act; effect = under w.next again.effect })) (sym goal)
     (subst (λ (a : Act). IsCommitOf w p (record { number = w.next; goal = Some p.goal; consumed = Some again.consumed; act = a; effect = under w.next again.effect })) (sym act)
     (subst (λ (e : Effect). IsCommitOf w p (record { number = w.next; goal = Some p.goal; consumed = Some again.consumed; act = p.act; effect = under w.next e })) (sym effect)
-    (next_step w p again.consumed standing holds found room))))
+    (next_step w p again.consumed standing holds found room)))
+
+-- what is known of the next step of a proposal
+abbrev pub IsNext : World → Proposal → Result Record Fault → Type 0
+IsNext w p result = IfOk result (λ r. r ≡ next_record w p) × IfOk result (λ _. HasRoom w) × IfErr result (λ f. (f ≡ fault.Memory) ⊎ ((f ≡ fault.Full) × IsFull w))
+
+answered : (Gives : Record → Type 0) (Refuses : Fault → Type 0) (w : World) (p : Proposal) (result : Result Record Fault) → IsNext w p result
+    → (HasRoom w → Gives (next_record w p)) → (IsFull w → Refuses fault.Full) → Answered Gives Refuses result
+answered Gives Refuses w p (Ok r) next gives refuses = (subst Gives (sym next.0) (gives next.1), tt)
+answered Gives Refuses w p (Err f) next gives refuses = (
+  tt,
+  elim next.2 [
+    | inl m ↦ inl m
+    | inr q ↦ inr (subst Refuses (sym q.0) (refuses q.1))
+  ],
+)
+
+-- The next step of a proposal that was made again answers a commit of the proposal.
+pub commit_answered : (w : World) (p again : Proposal) (result : Result Record Fault) → IsStanding w → StillHolds w p → finite.get w.state.goals again.goal ≡ Some again.consumed
+    → (again.goal ≡ p.goal) × (again.act ≡ p.act) × (again.effect ≡ p.effect) → IsNext w again result → Answered (IsCommitOf w p) (CommitFails w p) result
+commit_answered w p again result standing holds there same next =
+    answered (IsCommitOf w p) (CommitFails w p) w again result next (prepared w p again standing holds there same.0 same.1 same.2) (full holds)
+
+-- The next step of what an attempt proposed answers for the step of its goal.
+pub step_answered : (w : World) (g : GoalName) (choice : Option ℕ) (p : Proposal) (result : Result Record Fault) → IsStanding w
+    → IsProposedIn w g choice p → IsNext w p result → Answered (IsStepOf w g choice) (StepFails w g choice) result
+step_answered w g choice p result standing made next =
+    let there : finite.get w.state.goals p.goal ≡ Some p.consumed = subst (λ (h : GoalName). finite.get w.state.goals h ≡ Some p.consumed) (sym made.named) made.there in
+    let holds = answered_holds w p choice p.consumed there (subst (λ (h : GoalName). AttemptAnswers w h choice (proposes p.act p.effect)) (sym made.named) made.proposed) in
+    answered (IsStepOf w g choice) (StepFails w g choice) w p result next (λ room. (p, made.named, made.proposed, prepared w p p standing holds there refl refl refl room)) (no_room p made.named made.proposed)
 
 -- Worlds are the same where their parts are.
 pub same_world : (o : Opening) {s t : State} {rs qs : List Record} {x y : Shelf} (n : ℕ) {es fs : List Entry} → s ≡ t → rs ≡ qs → x ≡ y → es ≡ fs

@@ -16,8 +16,6 @@ use Rattle.ghc_records.specs.Journal.{Opening, fresh_opening}
 use Rattle.ghc_records.specs.Laws.{IsWellMade}
 use Rattle.ghc_records.proofs.Replaying as replaying
 use Rattle.ghc_depend.specs.Kept.{Keeps}
-use Rattle.ghc_depend.proofs.Placing.{results_of}
-use Rattle.ghc_depend.proofs.Results.{is_old}
 use Rattle.ghc_core.specs.World.{no_hands, World, IsReplay, Opens}
 use Rattle.ghc_core.specs.Legal.{IsSound, at_opening}
 use Rattle.ghc_core.specs.Laws.{IsOrderly}
@@ -61,16 +59,6 @@ standing_numbered w s g b e =
       goal = λ x i. standing_apart w s x (well.goals g b x e i);
       values = λ y t p x o. standing_apart w s x (well.values y x t p o);
     }
-
--- In a standing world each goal's name has a step below the next one.
-pub standing_goal_below : (w : World) → IsStanding w → (g : GoalName) (b : Goal) → finite.get w.state.goals g ≡ Some b → g.step < w.next
-standing_goal_below w s g b e =
-    let good = reached_good s in
-    let results = results_of w.opening.program w.opening.query w.kept w.state (standing_replay w s) in
-    elim (is_old w.opening.query w.kept w.state results g b e) [
-      | inl zero ↦ let first = good.first in omega arith
-      | inr r ↦ let below = good.below r.0 r.1 in let step = r.2 in omega arith
-    ]
 
 -- A world that an opening makes stands, where program and query are accepted.
 pub opening_stands : (o : Opening) (w : World) → IsSound o → Opens o w → IsStanding w

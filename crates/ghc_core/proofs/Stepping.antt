@@ -17,6 +17,7 @@ use Rattle.ghc_fire.specs.declared.act.Act.TheVariants.{ByClause as by_clause, U
 use Rattle.ghc_fire.specs.Effect.{Effect, HasEffect}
 use Rattle.ghc_fire.specs.Attempt as attempt
 use Rattle.ghc_fire.specs.Laws.{EffectIsOne, AttemptHasOneAnswer}
+use Rattle.ghc_fire.proofs.Answering.{same_act, same_effect, same_fault, apart}
 use Rattle.ghc_records.specs.Record.{Record, HasStepEffect}
 use Rattle.ghc_core.specs.World.{Proposal, Hands, with_hand, World, IsFull, HasRoom, IsNextStep, with_step}
 use Rattle.ghc_core.specs.Events.{Reply, refused}
@@ -27,18 +28,6 @@ use Rattle.ghc_core.proofs.Reversing.{Same, value_once, has_not, finds}
 -- one reply, one world and the same hands
 abbrev pub AllSame : Reply → Reply → World → World → Hands → Hands → Type 0
 AllSame r s u v left other = (r ≡ s) × (u ≡ v) × (left ≡ other)
-
-same_act : {a b : Act} {e f : Effect} → attempt.proposes a e ≡ attempt.proposes b f → a ≡ b
-same_act p = cc
-
-same_effect : {a b : Act} {e f : Effect} → attempt.proposes a e ≡ attempt.proposes b f → e ≡ f
-same_effect p = cc
-
-same_fault : {f g : Fault} → attempt.refused f ≡ attempt.refused g → f ≡ g
-same_fault p = cc
-
-not_both : {a : Act} {e : Effect} {f : Fault} → attempt.proposes a e ≡ attempt.refused f → ⊥
-not_both p = cc
 
 -- a world has no room and is full at once
 room_or_full : (w : World) → HasRoom w → ¬ IsFull w
@@ -76,13 +65,13 @@ module _ (attempts : AttemptHasOneAnswer) (w : World) (hands : Hands) (acyclic :
       let answers = one t u in
       (refl, λ k. with_hand h (record { goal = g; consumed = goals k; act = same_act answers k; effect = same_effect answers k }) hands)
   propose_once (asking.Proposes.holds b act e i p t) (asking.Proposes.no_hand j) = absurd (j i)
-  propose_once (asking.Proposes.holds b act e i p t) (asking.Proposes.fails j u) = absurd (not_both (one t u))
+  propose_once (asking.Proposes.holds b act e i p t) (asking.Proposes.fails j u) = absurd (apart (one t u))
   propose_once (asking.Proposes.holds b act e i p t) (asking.Proposes.no_memory j) = absurd j
   propose_once (asking.Proposes.no_hand i) (asking.Proposes.holds b act e j p t) = absurd (i j)
   propose_once (asking.Proposes.no_hand i) (asking.Proposes.no_hand j) = (refl, refl)
   propose_once (asking.Proposes.no_hand i) (asking.Proposes.fails j u) = absurd (i j)
   propose_once (asking.Proposes.no_hand i) (asking.Proposes.no_memory j) = absurd j
-  propose_once (asking.Proposes.fails i t) (asking.Proposes.holds b act e j p u) = absurd (not_both (one u t))
+  propose_once (asking.Proposes.fails i t) (asking.Proposes.holds b act e j p u) = absurd (apart (one u t))
   propose_once (asking.Proposes.fails i t) (asking.Proposes.no_hand j) = absurd (j i)
   propose_once (asking.Proposes.fails i t) (asking.Proposes.fails j u) = (ap refused (same_fault (one t u)), refl)
   propose_once (asking.Proposes.fails i t) (asking.Proposes.no_memory j) = absurd j

@@ -5,13 +5,15 @@ use Rattle.ghc_fire.specs.declared.act.Act.TheVariants.{ByClause as by_clause, U
 use Rattle.ghc_fire.specs.Proposal.{Proposal, under}
 use Rattle.ghc_fire.specs.declared.meter.Meter.{Meter}
 use Rattle.ghc_records.specs.Record.{Record}
+use Rattle.ghc_records.specs.State.{StateRoom}
 use Rattle.ghc_core.specs.World.{no_hands, World, with_step}
 use Rattle.ghc_core.specs.Proposes.{IsCommitOf}
 use Rattle.ghc_core.specs.Legal.{IsReachable}
 
 -- How many more entries the tables of a core take without memory.
 pub record Room : Type 0 where
-  pub goals : ℕ
+  pub state : StateRoom
+  pub kept : ℕ
   pub shelf : ℕ
   pub journal : ℕ
 

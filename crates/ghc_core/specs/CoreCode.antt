@@ -4,7 +4,8 @@ use Rattle.std.specs.Coded.{Coded, code_by, coded×, coded_list, coded_ℕ}
 use Rattle.ghc_fire.specs.declared.meter.Meter.{Meter}
 use Rattle.ghc_records.specs.Record.{State, Record, Shelf}
 use Rattle.ghc_records.specs.Journal.{Opening, Entry}
-use Rattle.ghc_records.specs.RecordCode.{state_code, records_code, shelf_code, journal_code, opening_code}
+use Rattle.ghc_records.specs.State.{StateRoom}
+use Rattle.ghc_records.specs.RecordCode.{state_room_code, state_code, records_code, shelf_code, journal_code, opening_code}
 use Rattle.ghc_core.specs.World.{World}
 use Rattle.ghc_core.specs.Core.{Core, Room}
 
@@ -20,7 +21,9 @@ abbrev pub meter_code : Coded Meter
 meter_code = code_by (ℕ × ℕ) (coded× coded_ℕ coded_ℕ) (λ m. (m.firings, m.tries)) (λ p. record { firings = p.0; tries = p.1 }) (λ _. refl)
 
 abbrev pub room_code : Coded Room
-room_code = code_by (ℕ × (ℕ × ℕ)) (coded× coded_ℕ (coded× coded_ℕ coded_ℕ)) (λ r. (r.goals, (r.shelf, r.journal))) (λ p. record { goals = p.0; shelf = p.1.0; journal = p.1.1 }) (λ _. refl)
+room_code =
+    code_by (StateRoom × (ℕ × (ℕ × ℕ))) (coded× state_room_code (coded× coded_ℕ (coded× coded_ℕ coded_ℕ))) (λ r. (r.state, (r.kept, (r.shelf, r.journal))))
+    (λ p. record { state = p.0; kept = p.1.0; shelf = p.1.1.0; journal = p.1.1.1 }) (λ _. refl)
 
 abbrev pub core_code : Coded Core
 core_code =

@@ -1,22 +1,24 @@
 -- Laws of worlds and events.
-use Rattle.std.specs.Prelude.{◌≡◌, ◌≢◌, ◌↔◌, ℕ, List, Option, Some}
+use Rattle.std.specs.Prelude.{◌≡◌, ◌≢◌, ◌↔◌, ℕ, List, Option, Some, Result}
 use Rattle.std.specs.FinMap as finite
 use Rattle.ghc_term.specs.declared.var_name.VarName.{VarName}
 use Rattle.ghc_term.specs.declared.goal_name.GoalName.{GoalName}
+use Rattle.ghc_term.specs.declared.fault.Fault.{Fault}
+use Rattle.ghc_term.specs.Answered.{Answered, IsExact}
 use Rattle.ghc_term.specs.Bindings.{IsAcyclic}
 use Rattle.ghc_term.specs.Store.{value_at}
 use Rattle.ghc_term.specs.Tree.{Tree}
 use Rattle.ghc_term.specs.Tree.{IsClosed}
 use Rattle.ghc_fire.specs.Effect.{no_step}
 use Rattle.ghc_records.specs.Orders.{AreDistinct}
-use Rattle.ghc_records.specs.Record.{numbers}
+use Rattle.ghc_records.specs.Record.{Record, numbers}
 use Rattle.ghc_records.specs.Replay.{IsVariableOf}
 use Rattle.ghc_records.specs.Laws.{IsWellMade}
 use Rattle.ghc_depend.specs.Kept.{Keeps}
 use Rattle.ghc_core.specs.World.{Proposal, Hands, World}
 use Rattle.ghc_core.specs.Streams.{IsStreamAt, Inputs, Finishes}
 use Rattle.ghc_core.specs.Events.{Event, Reply}
-use Rattle.ghc_core.specs.Proposes.{Proposes, StillHolds, HoldsAsNext, Commits, Notes}
+use Rattle.ghc_core.specs.Proposes.{Proposes, StillHolds, HoldsAsNext, IsCommitOf, CommitFails, IsStepOf, StepFails, Commits, Notes}
 use Rattle.ghc_core.specs.Reverses.{Redoes, Arranges}
 use Rattle.ghc_core.specs.Answers.{Answers}
 use Rattle.ghc_core.specs.Legal.{IsReachable, IsProper}
@@ -76,6 +78,18 @@ ProposesHaveAnAnswer =
 -- In a reachable world a commit has an answer other than want of memory.
 abbrev pub CommitsHaveAnAnswer : Type 0
 CommitsHaveAnAnswer = (w : World) (hands : Hands) (h : ℕ) → IsReachable w hands → (reply : Reply) × (v : World) × (left : Hands) × Commits ⊥ w hands h reply v left
+
+-- In a reachable world, what is answered for a commit of a proposal is exact: its record as the next step, or why it is refused, unless memory was refused.
+abbrev pub CommitIsExact : Type 0
+CommitIsExact =
+    (w : World) (hands : Hands) (p : Proposal) (result : Result Record Fault) → IsReachable w hands
+    → Answered (IsCommitOf w p) (CommitFails w p) result → IsExact (IsCommitOf w p) (CommitFails w p) result
+
+-- In a reachable world, what is answered for a step of a goal is exact: the record of the next step, or why none is taken, unless memory was refused.
+abbrev pub StepIsExact : Type 0
+StepIsExact =
+    (w : World) (hands : Hands) (g : GoalName) (choice : Option ℕ) (result : Result Record Fault) → IsReachable w hands
+    → Answered (IsStepOf w g choice) (StepFails w g choice) result → IsExact (IsStepOf w g choice) (StepFails w g choice) result
 
 -- In a reachable world, what a hand holds still holds exactly where it holds as the next step: under no number and under the next one alike, its effect now is the one proposed.
 abbrev pub StillHoldsAsNext : Type 0

@@ -1,47 +1,31 @@
 // Changes of a core: each is found, given room, and applied.
 ghost use Rattle.std.specs.Prelude.{◌≡◌, OnOk};
 ghost use Rattle.ghc_term.specs.Lists.{In};
+ghost use Rattle.ghc_fire.specs.Proposal.{Proposal as proposal_spec};
 ghost use Rattle.ghc_records.specs.Record.{Record as record_spec};
 ghost use Rattle.ghc_depend.specs.Kept.{IsWithout};
+ghost use Rattle.ghc_core.specs.declared.change.Change.TheVariants.{Adds as adds, TakesAway as takes_away};
+ghost use Rattle.ghc_core.specs.World.{with_step};
 ghost use Rattle.ghc_core.specs.Core.{IsStanding};
+ghost use Rattle.ghc_core.specs.Proposes.{IsCommitOf};
 ghost use Rattle.ghc_core.specs.Change.{CanChange, HasRoomFor, Changes};
 
 use crate::core_state::Core;
-use ghc_records::{Entry, Records, Removal};
+use ghc_records::{Addition, Entry, Records, Removal};
 use std::alloc::AllocError;
-use std::marker::Model;
 
-/// A change of a core that was found: all that it takes is at hand, but for room in the tables, and nothing has moved. So far
-/// the one kind is that a step is taken away, and its record goes to the shelf.
+/// A change of a core that was found: all that it takes is at hand, but for room in the tables, and nothing has moved.
 #[derive(Drop)]
-pub struct Change {
-    removal: Removal,
-}
-
-impl Model for Change {
-    ghost use Rattle.ghc_core.specs.Change.{Change, takes_away, change_code};
-
-    ghost Value = { Change };
-
-    ghost coded = { change_code };
-
-    ghost view = { λ c. takes_away c.removal };
-}
-
-impl Change {
-    ghost use Rattle.ghc_core.specs.Change.{takes_away};
-
-    // The change that takes this step away.
-    pub(crate) fn taking_away(removal: Removal) -> Change
-        ensures { result ≡ takes_away removal }
-    {
-        Change { removal }
-    }
+pub enum Change {
+    /// A step is taken, and its record is the last.
+    Adds(Addition),
+    /// A step is taken away, and its record goes to the shelf.
+    TakesAway(Removal),
 }
 
 // Takes the step of this number out of the record.
 fn strike(records: &mut Records, number: u32)
-    ensures { (r : record_spec) → In r records.old → r.number ≡ number → IsWithout records.old r records.new }
+    ensures { (r : record_spec) → In r records.old.held → r.number ≡ number → IsWithout records.old.held r records.new.held }
 {
     let _ = records.remove(number);
 }
@@ -54,15 +38,51 @@ impl Core {
         ensures names { self.new.names ≡ self.old.names }
         ensures meter { self.new.meter ≡ self.old.meter }
     {
-        // What is to be taken away takes the place of one entry in each of these.
-        let _removal = &change.removal;
-        self.state.reserve(1)?;
-        self.shelf.reserve(1)?;
+        match change {
+            Change::Adds(addition) => {
+                let effect = addition.step().effect();
+                let bindings = effect.binds().len();
+                self.state.reserve(effect.makes().len(), bindings)?;
+                self.records.reserve(1)?;
+            }
+            Change::TakesAway(_) => {
+                self.state.reserve(1, 0)?;
+                self.shelf.reserve(1)?;
+            }
+        }
         self.journal.reserve(1)
     }
 
+    // Takes a step: one look-up for each of its goals and bindings.
+    fn add(&mut self, addition: Addition)
+        requires found { (p : proposal_spec) × IsCommitOf self.old.world p addition }
+        requires room { HasRoomFor self.old.room (adds addition) }
+        ensures world { self.new.world ≡ with_step addition self.old.world }
+        ensures names { self.new.names ≡ self.old.names }
+        ensures meter { self.new.meter ≡ self.old.meter }
+    {
+        let (step, entry) = self.state.take(addition);
+        self.records.put(step);
+        self.journal.put(entry);
+        self.next += 1;
+    }
+
+    // Takes a step away: one look-up for each of its goals and bindings, and a move of each record behind it.
+    fn take_away(&mut self, removal: Removal)
+        requires found { CanChange self.old.world (takes_away removal) }
+        requires room { HasRoomFor self.old.room (takes_away removal) }
+        ensures changed { Changes self.old.world (takes_away removal) self.new.world }
+        ensures names { self.new.names ≡ self.old.names }
+        ensures meter { self.new.meter ≡ self.old.meter }
+    {
+        let step = self.state.take_back(removal);
+        strike(&mut self.records, step.number());
+        self.journal.put(Entry::Undid(step.number()));
+        self.shelf.put(step);
+    }
+
     /// Makes a change that was found in this state, where there is room for it. It takes no memory, and cannot fail. To take a
-    /// step away costs a look-up for each of its goals and bindings, and moves each record behind it.
+    /// step costs a look-up for each of its goals and bindings; to take one away, a move of each record behind it as well.
     pub fn apply(&mut self, change: Change)
         requires found { CanChange self.old.world change }
         requires room { HasRoomFor self.old.room change }
@@ -71,9 +91,10 @@ impl Core {
         ensures meter { self.new.meter ≡ self.old.meter }
         ensures standing { IsStanding self.new.world }
     {
-        let step = self.state.take_back(change.removal);
-        strike(&mut self.records, step.number());
-        self.journal.put(Entry::Undid(step.number()));
-        self.shelf.put(step);
+        match change {
+            Change::Adds(addition) => self.add(addition),
+            Change::TakesAway(removal) => self.take_away(removal),
+        }
+        self.stands();
     }
 }

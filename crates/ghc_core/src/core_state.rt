@@ -49,13 +49,13 @@ impl Model for Core {
     ghost coded = { core_code };
 
     ghost view = { λ c. record {
-      world = record { opening = fresh_opening c.program c.query.goals; state = c.state.held; kept = c.records; shelf = c.shelf.held; next = c.next; journal = c.journal.held };
+      world = record { opening = fresh_opening c.program c.query.goals; state = c.state.held; kept = c.records.held; shelf = c.shelf.held; next = c.next; journal = c.journal.held };
       names = c.query.variables;
       meter = c.meter;
-      room = record { goals = c.state.room; shelf = c.shelf.room; journal = c.journal.room };
+      room = record { state = c.state.room; kept = c.records.room; shelf = c.shelf.room; journal = c.journal.room };
     } };
 
-    ghost invariant = { λ c. IsStanding (record { opening = fresh_opening c.program c.query.goals; state = c.state.held; kept = c.records; shelf = c.shelf.held; next = c.next; journal = c.journal.held }) };
+    ghost invariant = { λ c. IsStanding (record { opening = fresh_opening c.program c.query.goals; state = c.state.held; kept = c.records.held; shelf = c.shelf.held; next = c.next; journal = c.journal.held }) };
 }
 
 impl Core {
@@ -72,10 +72,7 @@ impl Core {
     {
         // Called for its clause that each clause of a program is accepted, which the proof cites.
         let _clauses = program.clauses();
-        let state = match State::of_query(alloc, query.goals()) {
-            Ok(state) => state,
-            Err(error) => return Err(error),
-        };
+        let state = State::of_query(alloc, query.goals())?;
         Ok(Core {
             program,
             query,

@@ -1,5 +1,5 @@
 // Laws about the definitions, each as the contract of a function.
-ghost use Rattle.ghc_core.specs.Laws.{ReachableIsOrderly, ReachableIsWellMade, ReachableKeeps, EventsHaveOneAnswer, InputsHaveAnAnswer, ClosesHaveAnAnswer, ArrangesHaveAnAnswer, ProposesHaveAnAnswer, CommitsHaveAnAnswer, NotesHaveAnAnswer, RedoesHaveAnAnswer, EventsHaveAnAnswer, StillHoldsAsNext};
+ghost use Rattle.ghc_core.specs.Laws.{ReachableIsOrderly, ReachableIsWellMade, ReachableKeeps, EventsHaveOneAnswer, InputsHaveAnAnswer, ClosesHaveAnAnswer, ArrangesHaveAnAnswer, ProposesHaveAnAnswer, CommitsHaveAnAnswer, CommitIsExact, StepIsExact, NotesHaveAnAnswer, RedoesHaveAnAnswer, EventsHaveAnAnswer, StillHoldsAsNext};
 
 /// A reachable world keeps no number twice, has an acyclic store, and one goal a stream.
 pub fn reachable_is_orderly()
@@ -44,6 +44,16 @@ pub fn proposes_have_an_answer()
 /// In a reachable world a commit has an answer other than want of memory.
 pub fn commits_have_an_answer()
     ensures { CommitsHaveAnAnswer }
+{}
+
+/// In a reachable world what is answered for a commit is exact, unless memory was refused.
+pub fn commit_is_exact()
+    ensures { CommitIsExact }
+{}
+
+/// In a reachable world what is answered for a step of a goal is exact, unless memory was refused.
+pub fn step_is_exact()
+    ensures { StepIsExact }
 {}
 
 /// In a reachable world, what a hand holds still holds exactly where it holds as the next step.

@@ -21,10 +21,10 @@ pub use history_laws::{
     reachable_is_one,
 };
 pub use laws::{
-    arranges_have_an_answer, closes_have_an_answer, commits_have_an_answer, events_have_an_answer,
-    events_have_one_answer, inputs_have_an_answer, notes_have_an_answer, proposes_have_an_answer,
-    reachable_is_orderly, reachable_is_well_made, reachable_keeps, redoes_have_an_answer,
-    still_holds_as_next,
+    arranges_have_an_answer, closes_have_an_answer, commit_is_exact, commits_have_an_answer,
+    events_have_an_answer, events_have_one_answer, inputs_have_an_answer, notes_have_an_answer,
+    proposes_have_an_answer, reachable_is_orderly, reachable_is_well_made, reachable_keeps,
+    redoes_have_an_answer, step_is_exact, still_holds_as_next,
 };
 pub use undo_laws::{
     reachable_is_replay, roll_takes_steps_away, rolls_have_an_answer, step_then_undo,

@@ -67,6 +67,7 @@ pub fn recheck(alloc: Global, core: &mut Core, proposal: &Proposal) -> Result<Pr
     ensures names { core.new.names ≡ core.old.names }
     ensures counted { core.new.meter ≡ fired core.old.meter }
 {
+    core.stands();
     let choice = clause_of(proposal.act());
     let again = match core.attempt_counted(alloc, proposal.goal(), choice) {
         Ok(again) => again,

@@ -1,17 +1,18 @@
 // A step that is proposed and prepared in one call, with one attempt.
-ghost use Rattle.std.specs.Prelude.{◌≡◌, ◌⊎◌, Err, IfOk, IfErr};
+ghost use Rattle.std.specs.Prelude.{◌≡◌, Err};
+ghost use Rattle.ghc_term.specs.Answered.{Answered};
 ghost use Rattle.ghc_fire.specs.Attempt.{refused};
 ghost use Rattle.ghc_fire.specs.Meter.{fired};
 ghost use Rattle.ghc_core.specs.Proposes.{AttemptAnswers, IsStepOf, StepFails};
 
-use crate::commit::record_of;
 use crate::core_state::Core;
-use ghc_records::Record;
+use ghc_records::Addition;
 use ghc_term::{Fault, GoalName};
 use std::alloc::Global;
 
 impl Core {
-    /// The record of a step of the goal of this name, with a clause chosen or not, as the next step, and counts a firing. The
+    /// Finds what it takes to take a step of the goal of this name, with a clause chosen or not, as the next step, and counts a
+    /// firing. The
     /// refusals are those of an attempt, in their order; else `Full` exactly where the numbers are used up or 1,000,000 steps are
     /// kept. But for the meter the core stays as it is. It is what `attempt` and `prepare` give together, with one attempt: since
     /// nothing came between, the proposal holds.
@@ -20,25 +21,18 @@ impl Core {
         alloc: Global,
         goal: GoalName,
         choice: Option<u32>,
-    ) -> Result<Record, Fault>
-        ensures record { IfOk result (IsStepOf self.old.world goal choice) }
-        ensures fault { IfErr result (λ f. (f ≡ Fault.Memory) ⊎ StepFails self.old.world goal choice f) }
+    ) -> Result<Addition, Fault>
+        ensures answer { Answered (IsStepOf self.old.world goal choice) (StepFails self.old.world goal choice) result }
         ensures no_goal { AttemptAnswers self.old.world goal choice (refused Fault.NoGoal) → result ≡ Err Fault.NoGoal }
         ensures no_clause { AttemptAnswers self.old.world goal choice (refused Fault.NoClause) → result ≡ Err Fault.NoClause }
         ensures world { self.new.world ≡ self.old.world }
         ensures names { self.new.names ≡ self.old.names }
         ensures counted { self.new.meter ≡ fired self.old.meter }
     {
-        let proposal = match self.attempt_counted(alloc, goal, choice) {
-            Ok(proposal) => proposal,
-            Err(fault) => return Err(fault),
-        };
-        if self.is_full() {
-            return Err(Fault::Full);
-        }
-        match record_of(alloc, proposal, self.next) {
-            Ok(step) => Ok(step),
-            Err(_) => Err(Fault::Memory),
+        self.stands();
+        match self.attempt_counted(alloc, goal, choice) {
+            Ok(proposal) => self.as_next(alloc, proposal),
+            Err(fault) => Err(fault),
         }
     }
 }

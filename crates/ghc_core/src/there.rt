@@ -53,14 +53,14 @@ impl Core {
 
     /// The store of the state.
     pub fn store(&self) -> &Store
-        ensures { result.now ≡ self.now.world.state.store }
+        ensures { result.now.held ≡ self.now.world.state.store }
     {
         self.state.store()
     }
 
     /// The records of the kept steps, in recorded order.
     pub fn records(&self) -> &Records
-        ensures { result.now ≡ self.now.world.kept }
+        ensures { result.now.held ≡ self.now.world.kept }
     {
         &self.records
     }

@@ -5,7 +5,8 @@ ghost use Rattle.ghc_records.specs.Laws.{IsWellMade};
 ghost use Rattle.ghc_core.specs.World.{IsReplay};
 ghost use Rattle.ghc_core.specs.Events.{undone};
 ghost use Rattle.ghc_core.specs.Reverses.{Undoes, UndoFails, CanUndo};
-ghost use Rattle.ghc_core.specs.Change.{CanChange, TakesAwayStep};
+ghost use Rattle.ghc_core.specs.declared.change.Change.TheVariants.{TakesAway as takes_away};
+ghost use Rattle.ghc_core.specs.Change.{CanChange};
 
 use crate::change::Change;
 use crate::core_state::Core;
@@ -14,12 +15,12 @@ use ghc_records::Removal;
 use ghc_term::Fault;
 
 impl Core {
-    /// Finds the change that undoes the step of this number: `NotKept` exactly where the step is not kept; else `HasConsequence`,
+    /// Finds what it takes to undo the step of this number: `NotKept` exactly where the step is not kept; else `HasConsequence`,
     /// with the first consequence in recorded order, exactly where it has one; else it fails for want of memory alone, where a
     /// count of handles is full. It goes over the records behind the step, with a look-up for each variable that they read.
-    pub fn prepare_undo(&self, number: u32) -> Result<Change, Fault>
-        ensures found { IfOk result (λ change. CanChange self.now.world change) }
-        ensures step { IfOk result (λ change. TakesAwayStep number change) }
+    pub fn prepare_undo(&self, number: u32) -> Result<Removal, Fault>
+        ensures found { IfOk result (λ removal. CanChange self.now.world (takes_away removal)) }
+        ensures step { IfOk result (λ removal. removal.number ≡ number) }
         ensures fault { IfErr result (λ f. ((f ≡ Fault.Memory) × CanUndo self.now.world.kept number) ⊎ UndoFails self.now.world.kept number f) }
     {
         let Some(kept) = self.records.get(number) else {
@@ -29,7 +30,7 @@ impl Core {
             return Err(Fault::HasConsequence { step });
         }
         match Removal::of(kept) {
-            Ok(removal) => Ok(Change::taking_away(removal)),
+            Ok(removal) => Ok(removal),
             Err(_) => Err(Fault::Memory),
         }
     }
@@ -54,16 +55,13 @@ impl Core {
         ensures well_made { IsWellMade self.new.world.opening.query self.new.world.kept self.new.world.state }
     {
         self.stands();
-        let change = match self.prepare_undo(number) {
-            Ok(change) => change,
+        let removal = match self.prepare_undo(number) {
+            Ok(removal) => removal,
             Err(fault) => return Err(fault),
         };
-        match self.reserve(&change) {
-            Ok(()) => {
-                self.apply(change);
-                Ok(())
-            }
-            Err(_) => Err(Fault::Memory),
-        }
+        let change = Change::TakesAway(removal);
+        self.reserve(&change)?;
+        self.apply(change);
+        Ok(())
     }
 }

@@ -53,7 +53,7 @@ fn add_bound(bound: &mut Variables, binds: &Bindings) -> Result<(), AllocError>
 
 // Whether the step consumed a goal that a step of one of these numbers made: two look-ups.
 fn takes_from(records: &Records, numbers: &IndexSet<u32>, taken: &Record) -> bool
-    ensures { IsTrue result ↔ TakesFrom records.now numbers.now.keys taken.now }
+    ensures { IsTrue result ↔ TakesFrom records.now.held numbers.now.keys taken.now }
 {
     let _count = records.len();
     let Some(name) = taken.goal() else {
@@ -82,7 +82,7 @@ impl Affected {
 
     /// Whether the step touches what is affected: a look-up for each variable that it read, and two.
     pub(crate) fn touches(&self, records: &Records, taken: &Record) -> bool
-        ensures { IsTrue result ↔ Touches records.now self.now.numbers.keys self.now.bound taken.now }
+        ensures { IsTrue result ↔ Touches records.now.held self.now.numbers.keys self.now.bound taken.now }
     {
         takes_from(records, &self.numbers, taken)
             || have_common(taken.effect().reads(), &self.bound)

@@ -102,7 +102,7 @@ fn can_wait(act: &Act) -> bool
 
 // Whether the goal that the later step consumed was made before the step at this place: one look-up.
 fn was_there_before(records: &Records, later: &Record, place: usize) -> bool
-    ensures { IfSome (slice_get records.now place) (λ a. IsTrue result ↔ WasThereBefore records.now later.now a) }
+    ensures { IfSome (slice_get records.now.held place) (λ a. IsTrue result ↔ WasThereBefore records.now.held later.now a) }
 {
     let _count = records.len();
     let Some(name) = later.goal() else {
@@ -119,8 +119,8 @@ fn was_there_before(records: &Records, later: &Record, place: usize) -> bool
 
 // Whether the later step read a variable that a step behind this place bound: a look-up for each that it read, at each step.
 fn reads_behind(records: &Records, later: &Record, place: usize) -> bool
-    requires { place < length records.now }
-    ensures { IfSome (slice_get records.now place) (λ a. IsTrue result ↔ ReadsBehind records.now later.now a) }
+    requires { place < length records.now.held }
+    ensures { IfSome (slice_get records.now.held place) (λ a. IsTrue result ↔ ReadsBehind records.now.held later.now a) }
 {
     let end = records.len();
     for index in place + 1..end {
@@ -133,8 +133,8 @@ fn reads_behind(records: &Records, later: &Record, place: usize) -> bool
 
 // Whether the step at this place woke the goal of the later one: it goes over the records behind that place at most once.
 fn is_woken_by(records: &Records, later: &Record, place: usize) -> bool
-    requires { place < length records.now }
-    ensures { IfSome (slice_get records.now place) (λ a. IsTrue result ↔ IsWokenBy records.now later.now a) }
+    requires { place < length records.now.held }
+    ensures { IfSome (slice_get records.now.held place) (λ a. IsTrue result ↔ IsWokenBy records.now.held later.now a) }
 {
     can_wait(later.act())
         && was_there_before(records, later, place)
@@ -145,7 +145,7 @@ fn is_woken_by(records: &Records, later: &Record, place: usize) -> bool
 /// the least variable. None where one of them is not kept. It costs two look-ups, and one for each variable that the later step
 /// read; for the mark `woke` it goes over the records behind the earlier step, with as many look-ups at each.
 pub fn direct(records: &Records, later: u32, earlier: u32) -> Option<Cause>
-    ensures { IsDirect records.now later earlier result }
+    ensures { IsDirect records.now.held later earlier result }
 {
     let _count = records.len();
     let place = records.place_of(earlier)?;

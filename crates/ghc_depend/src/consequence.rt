@@ -12,10 +12,10 @@ use std::alloc::{AllocError, Global};
 /// records, with a look-up for each variable that one behind the step read, or a consequence bound. It fails for want of memory
 /// alone, and never where the step is not kept.
 pub fn consequences(alloc: Global, records: &Records, number: u32) -> Result<Vec<u32>, AllocError>
-    ensures found { IfOk result (λ ns. (found : List Record) × AreConsequencesOf records.now number found × (numbers found ≡ ns.items)) }
+    ensures found { IfOk result (λ ns. (found : List Record) × AreConsequencesOf records.now.held number found × (numbers found ≡ ns.items)) }
 
     // No want of memory hides that the step is not kept.
-    ensures kept { OnErr result ((r : Record) × IsKeptAs records.now number r) }
+    ensures kept { OnErr result ((r : Record) × IsKeptAs records.now.held number r) }
 {
     let mut found = Vec::new(alloc);
     let Some(place) = records.place_of(number) else {
@@ -38,8 +38,8 @@ pub fn consequences(alloc: Global, records: &Records, number: u32) -> Result<Vec
 /// The number of the first consequence of the step of this number, if it is kept and has one. The first one always depends
 /// directly, so it goes over the records up to that one, with a look-up for each variable that they read.
 pub fn first_consequence(records: &Records, number: u32) -> Option<u32>
-    ensures found { IfSome result (λ n. (a b : Record) × IsKeptAs records.now number a × IsFirstConsequence records.now a b × (b.number ≡ n)) }
-    ensures none { IfNone result ((a b : Record) → IsKeptAs records.now number a → ¬ Follows records.now a b) }
+    ensures found { IfSome result (λ n. (a b : Record) × IsKeptAs records.now.held number a × IsFirstConsequence records.now.held a b × (b.number ≡ n)) }
+    ensures none { IfNone result ((a b : Record) → IsKeptAs records.now.held number a → ¬ Follows records.now.held a b) }
 {
     let end = records.len();
     let place = records.place_of(number)?;

@@ -5,7 +5,6 @@ pub mod Origins
 pub mod EachEffect
 pub mod EachAnswer
 pub mod Ordered
-pub mod Indexed
 pub mod GoalNames
 pub mod Rebuilding
 pub mod Walked

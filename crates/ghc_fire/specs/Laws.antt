@@ -1,7 +1,10 @@
 -- Laws of effects and of attempts.
-use Rattle.std.specs.Prelude.{◌≡◌, ◌≢◌, ◌≤◌, ◌⊎◌, ℕ, IsTrue, Option, Some, None, false}
+use Rattle.std.specs.Prelude.{◌≡◌, ◌≢◌, ◌≤◌, ◌⊎◌, ℕ, IsTrue, Option, Some, None, Result, false}
 use Rattle.std.specs.FinSet as set
+use Rattle.ghc_term.specs.declared.fault.Fault.{Fault}
+use Rattle.ghc_term.specs.declared.goal_name.GoalName.{GoalName}
 use Rattle.ghc_term.specs.declared.var_name.VarName.{VarName}
+use Rattle.ghc_term.specs.Answered.{Answered, IsExact}
 use Rattle.ghc_term.specs.Tree.{Tree, variable, Occurs}
 use Rattle.ghc_term.specs.Goal.{Goal, stream}
 use Rattle.ghc_term.specs.Bindings.{Reaches, IsAcyclic}
@@ -16,8 +19,10 @@ use Rattle.ghc_unify.specs.Laws.{IsCutDown, BindsAndReads}
 use Rattle.ghc_fire.specs.Instance.{made}
 use Rattle.ghc_fire.specs.declared.act.Act.{Act}
 use Rattle.ghc_fire.specs.Effect.{Effect, HasEffect, no_step}
-use Rattle.ghc_fire.specs.Attempt.{Answer, proposes, Attempts}
-use Rattle.ghc_fire.specs.Proposal.{under}
+use Rattle.ghc_fire.specs.Goals.{Goals}
+use Rattle.ghc_fire.specs.Attempt.{Answer, proposes, refused, Attempts}
+use Rattle.ghc_fire.specs.Attempted.{AttemptsAt, IsProposed}
+use Rattle.ghc_fire.specs.Proposal.{Proposal, under}
 
 -- An effect is the same where bindings of variables that it did not read are taken away.
 abbrev pub EffectIsLocal : Type 0
@@ -57,6 +62,12 @@ abbrev pub AttemptHasOneAnswer : Type 0
 AttemptHasOneAnswer =
     (P : Program) (S : VarName → Option Tree) (g : Option Goal) (choice : Option ℕ) (a b : Answer) → IsAcyclic S
     → Attempts P S g choice a → Attempts P S g choice b → a ≡ b
+
+-- In an acyclic store, what is answered for an attempt is exact: what it proposes, or why it is refused, unless memory was refused.
+abbrev pub AttemptIsExact : Type 0
+AttemptIsExact =
+    (P : Program) (G : Goals) (s : StoreValue) (g : GoalName) (choice : Option ℕ) (result : Result Proposal Fault) → IsAcyclic (value_at s)
+    → Answered (IsProposed P G s g choice) (λ f. AttemptsAt P G s g choice (refused f)) result → IsExact (IsProposed P G s g choice) (λ f. AttemptsAt P G s g choice (refused f)) result
 
 -- In an acyclic finite store, under an accepted program, each attempt has an answer.
 abbrev pub EachAttemptHasAnAnswer : Type 0

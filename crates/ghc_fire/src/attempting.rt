@@ -1,9 +1,7 @@
 // What a step of a goal would do, and what it does as a step of some number.
-ghost use Rattle.std.specs.Prelude.{◌≡◌, ◌⊎◌, Err, IfOk, IfErr, IsErrAnd, MatchResult};
+ghost use Rattle.std.specs.Prelude.{◌≡◌, ◌⊎◌, Err, IfOk, IfErr};
+ghost use Rattle.ghc_term.specs.Answered.{Answered};
 ghost use Rattle.ghc_term.specs.Store.{value_at};
-ghost use Rattle.ghc_term.specs.declared.fault.Fault.{Fault as fault_spec};
-ghost use Rattle.ghc_fire.specs.declared.act.Act.{Act as act_spec};
-ghost use Rattle.ghc_fire.specs.Effect.{Effect as effect_spec};
 ghost use Rattle.ghc_fire.specs.Attempt.{proposes, refused, Attempts};
 ghost use Rattle.ghc_fire.specs.Attempted.{AttemptsAt, IsProposed};
 ghost use Rattle.ghc_fire.specs.Meter.{fired};
@@ -35,22 +33,14 @@ pub fn attempt(
     goal: GoalName,
     choice: Option<u32>,
 ) -> Result<Proposal, Fault>
-    ensures proposed { IfOk result (IsProposed program.now goals.now.held store.now goal choice) }
-    ensures fault { IfErr result (λ f. (f ≡ Fault.Memory) ⊎ AttemptsAt program.now goals.now.held store.now goal choice (refused f)) }
-
-    // There is one answer, unless memory is wanting.
-    ensures only { (a : act_spec) (e : effect_spec) → AttemptsAt program.now goals.now.held store.now goal choice (proposes a e)
-        → MatchResult result (λ p. (p.act ≡ a) × (p.effect ≡ e)) (λ f. f ≡ Fault.Memory) }
-    ensures only_fault { (f : fault_spec) → AttemptsAt program.now goals.now.held store.now goal choice (refused f)
-        → IsErrAnd result (λ g. (g ≡ f) ⊎ (g ≡ Fault.Memory)) }
+    ensures answer { Answered (IsProposed program.now goals.now.held store.now.held goal choice) (λ f. AttemptsAt program.now goals.now.held store.now.held goal choice (refused f)) result }
 
     // What look-ups refuse, no want of memory hides.
-    ensures no_goal { AttemptsAt program.now goals.now.held store.now goal choice (refused Fault.NoGoal) → result ≡ Err Fault.NoGoal }
-    ensures no_clause { AttemptsAt program.now goals.now.held store.now goal choice (refused Fault.NoClause) → result ≡ Err Fault.NoClause }
+    ensures no_goal { AttemptsAt program.now goals.now.held store.now.held goal choice (refused Fault.NoGoal) → result ≡ Err Fault.NoGoal }
+    ensures no_clause { AttemptsAt program.now goals.now.held store.now.held goal choice (refused Fault.NoClause) → result ≡ Err Fault.NoClause }
     ensures counted { meter.new ≡ fired meter.old }
 {
     meter.count_firing();
-    store.acyclic();
     propose(alloc, program, goals, store, goal, choice)
 }
 
@@ -63,10 +53,10 @@ fn propose(
     goal: GoalName,
     choice: Option<u32>,
 ) -> Result<Proposal, Fault>
-    ensures proposed { IfOk result (IsProposed program.now goals.now.held store.now goal choice) }
-    ensures fault { IfErr result (λ f. (f ≡ Fault.Memory) ⊎ AttemptsAt program.now goals.now.held store.now goal choice (refused f)) }
-    ensures no_goal { AttemptsAt program.now goals.now.held store.now goal choice (refused Fault.NoGoal) → result ≡ Err Fault.NoGoal }
-    ensures no_clause { AttemptsAt program.now goals.now.held store.now goal choice (refused Fault.NoClause) → result ≡ Err Fault.NoClause }
+    ensures proposed { IfOk result (IsProposed program.now goals.now.held store.now.held goal choice) }
+    ensures fault { IfErr result (λ f. (f ≡ Fault.Memory) ⊎ AttemptsAt program.now goals.now.held store.now.held goal choice (refused f)) }
+    ensures no_goal { AttemptsAt program.now goals.now.held store.now.held goal choice (refused Fault.NoGoal) → result ≡ Err Fault.NoGoal }
+    ensures no_clause { AttemptsAt program.now goals.now.held store.now.held goal choice (refused Fault.NoClause) → result ≡ Err Fault.NoClause }
 {
     let Some(consumed) = goals.get(goal) else {
         return Err(Fault::NoGoal);
@@ -83,10 +73,10 @@ fn propose_act(
     goal: &Goal,
     choice: Option<u32>,
 ) -> Result<(Act, Effect), Fault>
-    ensures proposed { IfOk result (λ p. Attempts program.now (value_at store.now) (Some goal.now) choice (proposes p.0 p.1)) }
-    ensures fault { IfErr result (λ f. (f ≡ Fault.Memory) ⊎ Attempts program.now (value_at store.now) (Some goal.now) choice (refused f)) }
-    ensures no_goal { Attempts program.now (value_at store.now) (Some goal.now) choice (refused Fault.NoGoal) → result ≡ Err Fault.NoGoal }
-    ensures no_clause { Attempts program.now (value_at store.now) (Some goal.now) choice (refused Fault.NoClause) → result ≡ Err Fault.NoClause }
+    ensures proposed { IfOk result (λ p. Attempts program.now (value_at store.now.held) (Some goal.now) choice (proposes p.0 p.1)) }
+    ensures fault { IfErr result (λ f. (f ≡ Fault.Memory) ⊎ Attempts program.now (value_at store.now.held) (Some goal.now) choice (refused f)) }
+    ensures no_goal { Attempts program.now (value_at store.now.held) (Some goal.now) choice (refused Fault.NoGoal) → result ≡ Err Fault.NoGoal }
+    ensures no_clause { Attempts program.now (value_at store.now.held) (Some goal.now) choice (refused Fault.NoClause) → result ≡ Err Fault.NoClause }
 {
     match (goal.view(), choice) {
         (GoalView::Stream(_, _), _) => Err(Fault::NoGoal),

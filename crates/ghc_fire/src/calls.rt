@@ -30,7 +30,7 @@ fn try_clause_as_step(
     store: &Store,
 ) -> Result<Verdict, AllocError>
     requires { length clause.now.head ≡ length arguments.now }
-    ensures { IfOk result (HasVerdict clause.now arguments.now (value_at store.now)) }
+    ensures { IfOk result (HasVerdict clause.now arguments.now (value_at store.now.held)) }
 {
     store.acyclic();
     let head_variables = clause.head_variables();
@@ -56,8 +56,8 @@ pub fn attempt_call(
     name: &Name,
     arguments: &[Term],
 ) -> Result<(Act, Effect), Fault>
-    ensures proposed { IfOk result (λ p. CallAnswers program.now name.now arguments.now (value_at store.now) (proposes p.0 p.1)) }
-    ensures fault { IfErr result (λ f. (f ≡ Fault.Memory) ⊎ CallAnswers program.now name.now arguments.now (value_at store.now) (refused f)) }
+    ensures proposed { IfOk result (λ p. CallAnswers program.now name.now arguments.now (value_at store.now.held) (proposes p.0 p.1)) }
+    ensures fault { IfErr result (λ f. (f ≡ Fault.Memory) ⊎ CallAnswers program.now name.now arguments.now (value_at store.now.held) (refused f)) }
 {
     let mut waits = false;
     for number in program.clauses_for(name, arguments.len()) {
@@ -85,9 +85,9 @@ pub fn attempt_choice(
     arguments: &[Term],
     number: u32,
 ) -> Result<(Act, Effect), Fault>
-    ensures proposed { IfOk result (λ p. ChoiceAnswers program.now name.now arguments.now number (value_at store.now) (proposes p.0 p.1)) }
-    ensures fault { IfErr result (λ f. (f ≡ Fault.Memory) ⊎ ChoiceAnswers program.now name.now arguments.now number (value_at store.now) (refused f)) }
-    ensures no_clause { ChoiceAnswers program.now name.now arguments.now number (value_at store.now) (refused Fault.NoClause) → result ≡ Err Fault.NoClause }
+    ensures proposed { IfOk result (λ p. ChoiceAnswers program.now name.now arguments.now number (value_at store.now.held) (proposes p.0 p.1)) }
+    ensures fault { IfErr result (λ f. (f ≡ Fault.Memory) ⊎ ChoiceAnswers program.now name.now arguments.now number (value_at store.now.held) (refused f)) }
+    ensures no_clause { ChoiceAnswers program.now name.now arguments.now number (value_at store.now.held) (refused Fault.NoClause) → result ≡ Err Fault.NoClause }
 {
     let Some(clause) = program.clause(number) else {
         return Err(Fault::NoClause);

@@ -20,9 +20,9 @@ pub fn attempt_unification(
     left: &Term,
     right: &Term,
 ) -> Result<Effect, Fault>
-    ensures effect { IfOk result (Unites left.now right.now (value_at store.now)) }
+    ensures effect { IfOk result (Unites left.now right.now (value_at store.now.held)) }
     ensures fault { IfErr result (λ f. (f ≡ Fault.Memory)
-        ⊎ ((P : program_spec) → UnificationAnswers P left.now right.now (value_at store.now) (refused f))) }
+        ⊎ ((P : program_spec) → UnificationAnswers P left.now right.now (value_at store.now.held) (refused f))) }
 {
     let solved = unify(alloc, left, right, store)?;
     Ok(Effect::new(solved.reads, solved.binds, Vec::new(alloc), 0))
@@ -37,9 +37,9 @@ pub fn attempt_assignment(
     left: &Term,
     value: &Expr,
 ) -> Result<Effect, Fault>
-    ensures effect { IfOk result (Assigns left.now value.now (value_at store.now)) }
+    ensures effect { IfOk result (Assigns left.now value.now (value_at store.now.held)) }
     ensures fault { IfErr result (λ f. (f ≡ Fault.Memory)
-        ⊎ ((P : program_spec) → AssignmentAnswers P left.now value.now (value_at store.now) (refused f))) }
+        ⊎ ((P : program_spec) → AssignmentAnswers P left.now value.now (value_at store.now.held) (refused f))) }
 {
     let integer = match evaluate(alloc, value, store)? {
         Value::Number(integer) => integer,

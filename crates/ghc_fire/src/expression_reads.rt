@@ -26,7 +26,7 @@ fn add_chain(
     term: &Term,
     reads: &mut Variables,
 ) -> Result<(), AllocError>
-    ensures { OnOk result (Gains reads.old reads.new (IsOnChainsOf (value_at store.now) (leaf term.now))) }
+    ensures { OnOk result (Gains reads.old reads.new (IsOnChainsOf (value_at store.now.held) (leaf term.now))) }
 {
     let passed = store.chain(alloc, term)?;
     add_all(&passed, reads)
@@ -40,7 +40,7 @@ pub fn add_chains(
     expression: &Expr,
     reads: &mut Variables,
 ) -> Result<(), AllocError>
-    ensures { OnOk result (Gains reads.old reads.new (IsOnChainsOf (value_at store.now) expression.now)) }
+    ensures { OnOk result (Gains reads.old reads.new (IsOnChainsOf (value_at store.now.held) expression.now)) }
 {
     let mut waiting = Vec::new(alloc);
     waiting.push(expression)?;

@@ -1,5 +1,5 @@
 // The goals of a state.
-ghost use Rattle.std.specs.Prelude.{◌≡◌, ◌<◌, ◌≤◌, ◌+◌, OnOk, OnErr};
+ghost use Rattle.std.specs.Prelude.{◌≡◌, ◌<◌, ◌≤◌, ◌+◌, OnOk};
 
 use ghc_term::{Goal, GoalName};
 use indexmap::IndexMap;
@@ -69,17 +69,6 @@ impl Goals {
         ensures room { self.old.room ≤ self.new.room + 1 }
     {
         self.map.insert(name, goal).unwrap();
-    }
-
-    /// Puts a goal under the name, in place of one that it had. The goals stay as they were where memory is refused.
-    pub fn insert(&mut self, name: GoalName, goal: Goal) -> Result<(), AllocError>
-        ensures ok { OnOk result (self.new.held ≡ finite.insert self.old.held name goal) }
-        ensures err { OnErr result (self.new.held ≡ self.old.held) }
-    {
-        match self.map.insert(name, goal) {
-            Ok(_) => Ok(()),
-            Err(_) => Err(AllocError),
-        }
     }
 
     /// Takes the goal of this name away and gives it, if there was one: one look-up. The room does not shrink.

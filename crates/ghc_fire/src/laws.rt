@@ -1,5 +1,5 @@
 // Laws of effects and of attempts, each as the contract of a function.
-ghost use Rattle.ghc_fire.specs.Laws.{EffectIsLocal, EffectIsOne, EffectBindsAndReads, EffectUnderEachNumber, EffectKeepsAcyclic, EffectVariables, AttemptHasOneAnswer, EachAttemptHasAnAnswer, EachActHasAnEffectOrNone, EachEffectIsDecided, AttemptIsOfWhatIsLookedAt, EffectUnderANumber, ProposalIsEffect};
+ghost use Rattle.ghc_fire.specs.Laws.{EffectIsLocal, EffectIsOne, EffectBindsAndReads, EffectUnderEachNumber, EffectKeepsAcyclic, EffectVariables, AttemptHasOneAnswer, AttemptIsExact, EachAttemptHasAnAnswer, EachActHasAnEffectOrNone, EachEffectIsDecided, AttemptIsOfWhatIsLookedAt, EffectUnderANumber, ProposalIsEffect};
 
 /// Bindings of variables that a step did not read may be taken away.
 pub fn effect_is_local()
@@ -34,6 +34,11 @@ pub fn effect_variables()
 /// In an acyclic store an attempt has one answer at most.
 pub fn attempt_has_one_answer()
     ensures { AttemptHasOneAnswer }
+{}
+
+/// In an acyclic store what is answered for an attempt is exact, unless memory was refused.
+pub fn attempt_is_exact()
+    ensures { AttemptIsExact }
 {}
 
 /// In an acyclic finite store each attempt has an answer.

@@ -15,7 +15,7 @@ use std::alloc::{AllocError, Global};
 
 // The unbound variables at which the variables end. One look-up for each variable passed.
 fn unbound_ends(alloc: Global, store: &Store, names: &[VarName]) -> Result<Variables, AllocError>
-    ensures { IfOk result (λ xs. IsSetOf xs (Wants (EndsIn (value_at store.now)) names.now)) }
+    ensures { IfOk result (λ xs. IsSetOf xs (Wants (EndsIn (value_at store.now.held)) names.now)) }
 {
     let mut wanted = Variables::new(alloc);
     for name in names {
@@ -30,7 +30,7 @@ fn unbound_ends(alloc: Global, store: &Store, names: &[VarName]) -> Result<Varia
 /// else it is an integer, or there is none. One step for each part of the expression and one look-up for each variable
 /// passed, by loops.
 pub fn evaluate(alloc: Global, expression: &Expr, store: &Store) -> Result<Value, AllocError>
-    ensures { IfOk result (λ v. HasValue (value_at store.now) expression.now (value_of v)) }
+    ensures { IfOk result (λ v. HasValue (value_at store.now.held) expression.now (value_of v)) }
 {
     let mut names = Vec::new(alloc);
     push_leaves(alloc, expression, &mut names)?;

@@ -58,9 +58,9 @@ fn look_at(
     wanted: &mut Variables,
     looked: &mut Variables,
 ) -> Result<bool, AllocError>
-    ensures waits { IfOk result (λ waits. IsTrue waits ↔ ((x : VarName) × StandsAndEnds stands.now (value_at store.now) name (variable x))) }
-    ensures wanted { OnOk result (Gains wanted.old wanted.new (λ x. StandsAndEnds stands.now (value_at store.now) name (variable x))) }
-    ensures looked { OnOk result (Gains looked.old looked.new (StandsAndPasses stands.now (value_at store.now) name)) }
+    ensures waits { IfOk result (λ waits. IsTrue waits ↔ ((x : VarName) × StandsAndEnds stands.now (value_at store.now.held) name (variable x))) }
+    ensures wanted { OnOk result (Gains wanted.old wanted.new (λ x. StandsAndEnds stands.now (value_at store.now.held) name (variable x))) }
+    ensures looked { OnOk result (Gains looked.old looked.new (StandsAndPasses stands.now (value_at store.now.held) name)) }
 {
     let Some(term) = stands.get(name) else {
         return Ok(false);
@@ -81,9 +81,9 @@ fn look_at_all(
     wanted: &mut Variables,
     looked: &mut Variables,
 ) -> Result<bool, AllocError>
-    ensures waits { IfOk result (λ waits. IsTrue waits ↔ ((x : VarName) × Wants (StandsAndEnds stands.now (value_at store.now)) names.now x)) }
-    ensures wanted { OnOk result (Gains wanted.old wanted.new (Wants (StandsAndEnds stands.now (value_at store.now)) names.now)) }
-    ensures looked { OnOk result (Gains looked.old looked.new (PassedFrom stands.now (value_at store.now) names.now)) }
+    ensures waits { IfOk result (λ waits. IsTrue waits ↔ ((x : VarName) × Wants (StandsAndEnds stands.now (value_at store.now.held)) names.now x)) }
+    ensures wanted { OnOk result (Gains wanted.old wanted.new (Wants (StandsAndEnds stands.now (value_at store.now.held)) names.now)) }
+    ensures looked { OnOk result (Gains looked.old looked.new (PassedFrom stands.now (value_at store.now.held) names.now)) }
 {
     let mut waits = false;
     for name in names {
@@ -103,9 +103,9 @@ fn try_test(
     wanted: &mut Variables,
     looked: &mut Variables,
 ) -> Result<Says, AllocError>
-    ensures says { IfOk result (IsSaid (StandsAndEnds stands.now (value_at store.now)) test.now) }
-    ensures wanted { OnOk result (Gains wanted.old wanted.new (Wants (StandsAndEnds stands.now (value_at store.now)) (variables_of_test test.now))) }
-    ensures looked { OnOk result (Gains looked.old looked.new (PassedFrom stands.now (value_at store.now) (variables_of_test test.now))) }
+    ensures says { IfOk result (IsSaid (StandsAndEnds stands.now (value_at store.now.held)) test.now) }
+    ensures wanted { OnOk result (Gains wanted.old wanted.new (Wants (StandsAndEnds stands.now (value_at store.now.held)) (variables_of_test test.now))) }
+    ensures looked { OnOk result (Gains looked.old looked.new (PassedFrom stands.now (value_at store.now.held) (variables_of_test test.now))) }
 {
     let names = variables_of(alloc, test)?;
     if look_at_all(store, stands, &names, wanted, looked)? {
@@ -125,9 +125,9 @@ pub fn try_guard(
     tests: &[Test],
     looked: &mut Variables,
 ) -> Result<Said, AllocError>
-    ensures no { IfOk result (λ said. OneSaysNo (StandsAndEnds stands.now (value_at store.now)) tests.now said.says_no) }
-    ensures wanted { IfOk result (λ said. IsSetOf said.wanted (OneWants (StandsAndEnds stands.now (value_at store.now)) tests.now)) }
-    ensures looked { OnOk result (Gains looked.old looked.new (GuardLooksAt stands.now (value_at store.now) tests.now)) }
+    ensures no { IfOk result (λ said. OneSaysNo (StandsAndEnds stands.now (value_at store.now.held)) tests.now said.says_no) }
+    ensures wanted { IfOk result (λ said. IsSetOf said.wanted (OneWants (StandsAndEnds stands.now (value_at store.now.held)) tests.now)) }
+    ensures looked { OnOk result (Gains looked.old looked.new (GuardLooksAt stands.now (value_at store.now.held) tests.now)) }
 {
     let mut says_no = false;
     let mut wanted = Variables::new(alloc);

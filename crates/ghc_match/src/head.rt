@@ -51,11 +51,11 @@ fn visit<'a>(
     met: &mut Met,
     pending: &mut Pending<'a>,
 ) -> Result<(), AllocError>
-    ensures clashes { OnOk result (IsTrue met.new.clashes ↔ (IsTrue met.old.clashes ⊎ Clashes (value_at store.now) head.now term.now)) }
+    ensures clashes { OnOk result (IsTrue met.new.clashes ↔ (IsTrue met.old.clashes ⊎ Clashes (value_at store.now.held) head.now term.now)) }
     ensures stands { OnOk result (met.new.stands ≡ standing head.now term.now met.old.stands) }
-    ensures wanted { OnOk result (Gains met.old.wanted met.new.wanted (Asks (value_at store.now) head.now term.now)) }
-    ensures looked { OnOk result (Gains met.old.looked met.new.looked (Passed (value_at store.now) head.now term.now)) }
-    ensures opens { OnOk result (Opens (value_at store.now) head.now term.now (trees_of pending.old.items) (trees_of pending.new.items)) }
+    ensures wanted { OnOk result (Gains met.old.wanted met.new.wanted (Asks (value_at store.now.held) head.now term.now)) }
+    ensures looked { OnOk result (Gains met.old.looked met.new.looked (Passed (value_at store.now.held) head.now term.now)) }
+    ensures opens { OnOk result (Opens (value_at store.now.held) head.now term.now (trees_of pending.old.items) (trees_of pending.new.items)) }
 {
     store.acyclic();
     if let TermView::Var(y) = head.view() {
@@ -83,10 +83,10 @@ pub fn match_head(
     store: &Store,
 ) -> Result<Met, AllocError>
     requires { IsLinear clause.now }
-    ensures clashes { IfOk result (λ met. IsTrue met.clashes ↔ Mismatch clause.now arguments.now (value_at store.now)) }
-    ensures stands { IfOk result (λ met. (y : VarName) (t : Tree) → (value_at met.stands y ≡ Some t) ↔ StandsFor clause.now arguments.now (value_at store.now) y t) }
-    ensures wanted { IfOk result (λ met. IsSetOf met.wanted (HeadWants clause.now arguments.now (value_at store.now))) }
-    ensures looked { IfOk result (λ met. IsSetOf met.looked (HeadLooksAt clause.now arguments.now (value_at store.now))) }
+    ensures clashes { IfOk result (λ met. IsTrue met.clashes ↔ Mismatch clause.now arguments.now (value_at store.now.held)) }
+    ensures stands { IfOk result (λ met. (y : VarName) (t : Tree) → (value_at met.stands y ≡ Some t) ↔ StandsFor clause.now arguments.now (value_at store.now.held) y t) }
+    ensures wanted { IfOk result (λ met. IsSetOf met.wanted (HeadWants clause.now arguments.now (value_at store.now.held))) }
+    ensures looked { IfOk result (λ met. IsSetOf met.looked (HeadLooksAt clause.now arguments.now (value_at store.now.held))) }
 {
     let mut met = Met {
         clashes: false,

@@ -18,7 +18,7 @@ pub enum Task<'a> {
 
 // The integer at a leaf, if there is one.
 fn integer_at(store: &Store, scope: Scope<'_>, term: &Term) -> Option<i64>
-    ensures { IsWorth (EndsAt scope.entry store.now) (leaf term.now) result }
+    ensures { IsWorth (EndsAt scope.entry store.now.held) (leaf term.now) result }
 {
     match term.view() {
         TermView::Int(k) => Some(k),
@@ -50,7 +50,7 @@ fn find<'a>(
     tasks: &mut Vec<Task<'a>>,
     values: &mut Vec<i64>,
 ) -> Result<bool, AllocError>
-    ensures goes { IfOk result (GoesOn (EndsAt scope.entry store.now) (Task.Find expression.entry) tasks.old.items values.old.items tasks.new.items values.new.items) }
+    ensures goes { IfOk result (GoesOn (EndsAt scope.entry store.now.held) (Task.Find expression.entry) tasks.old.items values.old.items tasks.new.items values.new.items) }
     ensures shorter { OnOk result (steps (reverse tasks.new.items) < steps_of expression.now + steps (reverse tasks.old.items)) }
 {
     match expression.view() {
@@ -77,7 +77,7 @@ fn perform<'a>(
     tasks: &mut Vec<Task<'a>>,
     values: &mut Vec<i64>,
 ) -> Result<bool, AllocError>
-    ensures goes { IfOk result (GoesOn (EndsAt scope.entry store.now) task.entry tasks.old.items values.old.items tasks.new.items values.new.items) }
+    ensures goes { IfOk result (GoesOn (EndsAt scope.entry store.now.held) task.entry tasks.old.items values.old.items tasks.new.items values.new.items) }
     ensures shorter { OnOk result (steps (reverse tasks.new.items) < steps (task.entry ∷ reverse tasks.old.items)) }
 {
     match task {
@@ -99,7 +99,7 @@ pub fn integer_of(
     scope: Scope<'_>,
     expression: &Expr,
 ) -> Result<Option<i64>, AllocError>
-    ensures { IfOk result (IsWorth (EndsAt scope.entry store.now) expression.now) }
+    ensures { IfOk result (IsWorth (EndsAt scope.entry store.now.held) expression.now) }
 {
     let mut tasks = Vec::new(alloc);
     let mut values = Vec::new(alloc);

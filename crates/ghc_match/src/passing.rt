@@ -14,8 +14,8 @@ pub fn follow_noting<'a>(
     term: &'a Term,
     looked: &mut Variables,
 ) -> Result<&'a Term, AllocError>
-    ensures end { IfOk result (λ end. ChainEnds (value_at store.now) term.now end.now) }
-    ensures looked { OnOk result (Gains looked.old looked.new (Passes (value_at store.now) term.now)) }
+    ensures end { IfOk result (λ end. ChainEnds (value_at store.now.held) term.now end.now) }
+    ensures looked { OnOk result (Gains looked.old looked.new (Passes (value_at store.now.held) term.now)) }
 {
     store.acyclic();
     let mut place = term;

@@ -24,7 +24,7 @@ pub enum End<'a> {
 
 // The end of what the variable stands for. One look-up for each variable passed.
 pub fn end_of<'a>(store: &'a Store, scope: Scope<'a>, x: VarName) -> End<'a>
-    ensures { TellsEnd (EndsAt scope.entry store.now x) result }
+    ensures { TellsEnd (EndsAt scope.entry store.now.held x) result }
 {
     match scope {
         Scope::Goal => match store.get(x) {
@@ -40,7 +40,7 @@ pub fn end_of<'a>(store: &'a Store, scope: Scope<'a>, x: VarName) -> End<'a>
 
 // The end of the term's chain.
 fn end_of_term<'a>(store: &'a Store, term: &'a Term) -> End<'a>
-    ensures { TellsEnd (ChainEnds (value_at store.now) term.now) result }
+    ensures { TellsEnd (ChainEnds (value_at store.now.held) term.now) result }
 {
     let end = store.end(term);
     match end.view() {

@@ -15,7 +15,7 @@ use std::alloc::{AllocError, Global};
 
 // The value in which the variable ends, if it ends in one.
 fn value_of<'a>(store: &'a Store, stands: &'a Bindings, x: VarName) -> Option<&'a Term>
-    ensures { TellsValue (StandsAndEnds stands.now (value_at store.now) x) result }
+    ensures { TellsValue (StandsAndEnds stands.now (value_at store.now.held) x) result }
 {
     match end_of(store, Scope::Head(stands), x) {
         End::Value(value) => Some(value),
@@ -32,7 +32,7 @@ fn holds_between(
     left: &Expr,
     right: &Expr,
 ) -> Result<bool, AllocError>
-    ensures { IfOk result (λ yes. IsTrue yes ↔ HoldsBy (StandsAndEnds stands.now (value_at store.now)) (Test.Compare comparison left.now right.now)) }
+    ensures { IfOk result (λ yes. IsTrue yes ↔ HoldsBy (StandsAndEnds stands.now (value_at store.now.held)) (Test.Compare comparison left.now right.now)) }
 {
     let scope = Scope::Head(stands);
     let Some(x) = integer_of(alloc, store, scope, left)? else {
@@ -51,7 +51,7 @@ pub fn holds(
     stands: &Bindings,
     test: &Test,
 ) -> Result<bool, AllocError>
-    ensures { IfOk result (λ yes. IsTrue yes ↔ HoldsBy (StandsAndEnds stands.now (value_at store.now)) test.now) }
+    ensures { IfOk result (λ yes. IsTrue yes ↔ HoldsBy (StandsAndEnds stands.now (value_at store.now.held)) test.now) }
 {
     match test {
         Test::Wait(x) => Ok(value_of(store, stands, *x).is_some()),

@@ -88,8 +88,8 @@ pub fn try_clause(
     store: &Store,
 ) -> Result<Tried, AllocError>
     requires { IsLinear clause.now }
-    ensures outcome { IfOk result (λ tried. HasOutcome clause.now arguments.now (value_at store.now) (outcome_of tried)) }
-    ensures looked { IfOk result (λ tried. IsSetOf tried.looked (LooksAt clause.now arguments.now (value_at store.now))) }
+    ensures outcome { IfOk result (λ tried. HasOutcome clause.now arguments.now (value_at store.now.held) (outcome_of tried)) }
+    ensures looked { IfOk result (λ tried. IsSetOf tried.looked (LooksAt clause.now arguments.now (value_at store.now.held))) }
 {
     let mut met = match_head(alloc, clause, arguments, store)?;
     let said = try_guard(alloc, store, &met.stands, clause.tests(), &mut met.looked)?;

@@ -10,13 +10,13 @@ use Rattle.ghc_term.specs.Tree.{Tree}
 use Rattle.ghc_term.specs.Goal.{Goal}
 use Rattle.ghc_term.specs.Lists.{In}
 use Rattle.ghc_term.specs.Bindings.{name_cmp}
-use Rattle.ghc_term.specs.Store.{StoreValue, value_at}
+use Rattle.ghc_term.specs.Store.{StoreValue, value_at, with_binds}
 use Rattle.ghc_term.proofs.Names.{name_total}
 use Rattle.ghc_fire.specs.Goals.{goal_cmp, Goals}
-use Rattle.ghc_records.specs.Record.{with_makes, with_binds}
+use Rattle.ghc_records.specs.Record.{with_makes}
 use Rattle.ghc_records.proofs.Names.{goal_total, same_goal}
 
-bound_by_list : (bs : List (VarName × Tree)) (s : StoreValue) (y : VarName) → value_at (with_binds bs s) y ≡ option_or (finite.find name_cmp y bs) (value_at s y)
+pub bound_by_list : (bs : List (VarName × Tree)) (s : StoreValue) (y : VarName) → value_at (with_binds bs s) y ≡ option_or (finite.find name_cmp y bs) (value_at s y)
 bound_by_list [] s y = refl
 bound_by_list (b ∷ bs) s y =
     finite.get-insert name_total (with_binds bs s) b.0 b.1 y

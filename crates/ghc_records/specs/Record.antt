@@ -6,7 +6,7 @@ use Rattle.ghc_term.specs.declared.var_name.VarName.{VarName}
 use Rattle.ghc_term.specs.declared.goal_name.GoalName.{GoalName}
 use Rattle.ghc_term.specs.Tree.{Tree}
 use Rattle.ghc_term.specs.Goal.{Goal}
-use Rattle.ghc_term.specs.Store.{StoreValue, value_at}
+use Rattle.ghc_term.specs.Store.{StoreValue, value_at, with_binds}
 use Rattle.ghc_flat.specs.Clause.{Program}
 use Rattle.ghc_fire.specs.Goals.{Goals}
 use Rattle.ghc_fire.specs.declared.act.Act.{Act}
@@ -42,11 +42,6 @@ with_makes n i (g ∷ gs) m = finite.insert (with_makes n (i + 1) gs m) (record 
 abbrev pub without_goal : Option GoalName → Goals → Goals
 without_goal None m = m
 without_goal (Some g) m = finite.remove m g
-
--- the store, with these bindings added
-abbrev pub with_binds : List (VarName × Tree) → StoreValue → StoreValue
-with_binds [] s = s
-with_binds (b ∷ bs) s = finite.insert (with_binds bs s) b.0 b.1
 
 -- The state after a step: the goal that it consumed is gone, the goals that it made are there, and its bindings are in the store.
 abbrev pub after : State → Record → State

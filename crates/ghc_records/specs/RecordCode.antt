@@ -16,10 +16,17 @@ use Rattle.ghc_fire.specs.ActCode.{act_code}
 use Rattle.ghc_fire.specs.Effect.{Effect}
 use Rattle.ghc_fire.specs.EffectCode.{effect_code}
 use Rattle.ghc_records.specs.Record.{State, Record, Shelf}
+use Rattle.ghc_records.specs.State.{StateRoom, StateTables}
 use Rattle.ghc_records.specs.Journal.{Step, Entry, took, undid, rolled, redid, reordered, Opening}
 
 abbrev pub state_code : Coded State
 state_code = code_by (Goals × StoreValue) (coded× goals_code store_code) (λ s. (s.goals, s.store)) (λ p. record { goals = p.0; store = p.1 }) (λ _. refl)
+
+abbrev pub state_room_code : Coded StateRoom
+state_room_code = code_by (ℕ × ℕ) (coded× coded_ℕ coded_ℕ) (λ r. (r.goals, r.bindings)) (λ p. record { goals = p.0; bindings = p.1 }) (λ _. refl)
+
+abbrev pub tables_code : Coded StateTables
+tables_code = code_by (State × StateRoom) (coded× state_code state_room_code) (λ t. (t.held, t.room)) (λ p. record { held = p.0; room = p.1 }) (λ _. refl)
 
 abbrev pub record_code : Coded Record
 record_code =

@@ -1,18 +1,32 @@
--- What lets a state take a step.
-use Rattle.std.specs.Prelude.{◌≡◌, ◌≢◌, if◌then◌else◌, is_some, ℕ, zero, suc, Option, Some, None}
+-- What a state has room for, and how it takes a step and takes it back.
+use Rattle.std.specs.Prelude.{◌≡◌, ◌≤◌, if◌then◌else◌, is_some, ℕ, zero, suc, List, length, Option, Some, None}
 use Rattle.std.specs.FinMap as finite
 use Rattle.ghc_term.specs.declared.var_name.VarName.{VarName}
 use Rattle.ghc_term.specs.declared.goal_name.GoalName.{GoalName}
+use Rattle.ghc_term.specs.Tree.{Tree}
 use Rattle.ghc_term.specs.Goal.{Goal}
-use Rattle.ghc_term.specs.Bindings.{IsAcyclic}
-use Rattle.ghc_term.specs.Store.{value_at}
+use Rattle.ghc_term.specs.Store.{StoreValue, value_at}
 use Rattle.ghc_fire.specs.Goals.{Goals}
-use Rattle.ghc_records.specs.Record.{State, Record, after, IsThere}
+use Rattle.ghc_records.specs.Record.{State, Record}
 use Rattle.ghc_records.specs.Replay.{MakesGoal}
 
--- no goal has a name that step n gives
-abbrev pub AreFree : Goals → ℕ → Type 0
-AreFree m n = (i : ℕ) → finite.get m (record { step = n; place = i }) ≡ None
+-- How many more goals and bindings a state takes without memory.
+pub record StateRoom : Type 0 where
+  pub goals : ℕ
+  pub bindings : ℕ
+
+-- The tables of a state are what they hold, and their room.
+pub record StateTables : Type 0 where
+  pub held : State
+  pub room : StateRoom
+
+-- There is room for what the step makes and binds.
+abbrev pub HasRoomToTake : StateRoom → Record → Type 0
+HasRoomToTake room r = (length r.effect.makes ≤ room.goals) × (finite.len r.effect.binds ≤ room.bindings)
+
+-- The list has the bindings, each once.
+abbrev pub AreBindings : List (VarName × Tree) → StoreValue → Type 0
+AreBindings bs m = (finite.from_entries bs ≡ m) × (length bs ≡ finite.len m)
 
 -- the goals, with n.k, .., n.1 taken away
 abbrev pub without_makes : ℕ → ℕ → Goals → Goals
@@ -39,10 +53,3 @@ pub record GoalsTakenBack (r : Record) (m l : Goals) : Type 0 where
 pub record IsTakenBack (r : Record) (s t : State) : Type 0 where
   pub goals : GoalsTakenBack r s.goals t.goals
   pub store : (x : VarName) → value_at t.store x ≡ if is_some (value_at r.effect.binds x) then None else value_at s.store x
-
--- The state can take the step: the goal that it consumes is there, no goal has a name that it gives, what it binds is unbound, and the store stays acyclic.
-pub record CanTake (s : State) (r : Record) : Type 0 where
-  pub there : IsThere s.goals r.goal r.consumed
-  pub free : (i : ℕ) → finite.get s.goals (record { step = r.number; place = i }) ≡ None
-  pub unbound : (x : VarName) → value_at r.effect.binds x ≢ None → value_at s.store x ≡ None
-  pub acyclic : IsAcyclic (value_at (after s r).store)

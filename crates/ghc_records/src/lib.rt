@@ -1,6 +1,7 @@
 //! Records of steps, their replay, the journal, and the opening with which it begins.
 #![tactic(auto)]
 
+mod addition;
 mod binding;
 mod entry;
 mod journal;
@@ -14,6 +15,7 @@ mod state;
 mod step;
 mod step_text;
 
+pub use addition::Addition;
 pub use entry::Entry;
 pub use journal::Journal;
 pub use laws::{replay_is_one, replay_is_well_made};

@@ -1,27 +1,15 @@
-// Goals that a step makes: all are put there, or none.
-ghost use Rattle.std.specs.Prelude.{◌≡◌, ◌<◌, ◌≤◌, length, IfOk, OnOk, OnErr};
-ghost use Rattle.std.specs.FinMap as finite;
+// Goals that a step makes and consumes are put there and taken away.
+ghost use Rattle.std.specs.Prelude.{◌≡◌, ◌<◌, ◌≤◌, length};
 ghost use Rattle.ghc_records.specs.Record.{with_makes, without_goal};
-ghost use Rattle.ghc_records.specs.State.{with_goal, without_makes, AreFree};
+ghost use Rattle.ghc_records.specs.State.{with_goal, without_makes};
 
 use ghc_fire::Goals;
 use ghc_term::{Goal, GoalName};
-use std::alloc::AllocError;
-
-// Puts the goal once more under the name.
-fn insert_shared(goals: &mut Goals, name: GoalName, goal: &Goal) -> Result<(), AllocError>
-    ensures ok { OnOk result (goals.new.held ≡ finite.insert goals.old.held name goal.now) }
-    ensures err { OnErr result (goals.new.held ≡ goals.old.held) }
-{
-    match goal.share() {
-        Ok(shared) => goals.insert(name, shared),
-        Err(error) => Err(error),
-    }
-}
 
 /// Takes the goal of this name away, if one is named: one look-up.
 pub(crate) fn consume_goal(goals: &mut Goals, name: Option<GoalName>)
-    ensures { goals.new.held ≡ without_goal name goals.old.held }
+    ensures held { goals.new.held ≡ without_goal name goals.old.held }
+    ensures room { goals.old.room ≤ goals.new.room }
 {
     if let Some(name) = name {
         goals.remove(name);
@@ -49,23 +37,15 @@ pub(crate) fn unmake_goals(goals: &mut Goals, step: u32, count: u32)
     }
 }
 
-/// Puts the goals there as `n.1`, `n.2`, .., and tells how many they are. None is there where memory is refused, or where
-/// they are more than a `u32` counts. It costs a look-up for each, and shares the goals.
-pub(crate) fn make_goals(goals: &mut Goals, step: u32, makes: &[Goal]) -> Result<u32, AllocError>
-    requires { AreFree goals.old.held step }
-    ensures ok { OnOk result (goals.new.held ≡ with_makes step 1 makes.now goals.old.held) }
-    ensures count { IfOk result (λ count. count ≡ length makes.now) }
-    ensures err { OnErr result (goals.new.held ≡ goals.old.held) }
+/// Puts the goals there as `n.1`, `n.2`, .., of which there are as many as counted, where there is room: a look-up for each.
+pub(crate) fn make_goals(goals: &mut Goals, step: u32, mut makes: Vec<Goal>, count: u32)
+    requires count { count ≡ length makes.items }
+    requires room { length makes.items ≤ goals.old.room }
+    ensures { goals.new.held ≡ with_makes step 1 makes.items goals.old.held }
 {
-    let Ok(count) = u32::try_from(makes.len()) else {
-        return Err(AllocError);
-    };
-    for index in 0..count {
-        let place = index + 1;
-        if let Err(error) = insert_shared(goals, GoalName { step, place }, &makes[index as usize]) {
-            unmake_goals(goals, step, index);
-            return Err(error);
-        }
+    let mut place = count;
+    while let Some(goal) = makes.pop() {
+        goals.put(GoalName { step, place }, goal);
+        place -= 1;
     }
-    Ok(count)
 }

@@ -1,5 +1,5 @@
 // Records of steps.
-ghost use Rattle.std.specs.Prelude.{◌≡◌, IfOk, Some};
+ghost use Rattle.std.specs.Prelude.{◌≡◌, IfOk};
 
 use crate::step::Step;
 use ghc_fire::{Act, Effect};
@@ -50,21 +50,21 @@ impl Record {
     ghost use Rattle.std.specs.Prelude.{option_copied};
     ghost use Rattle.ghc_records.specs.Journal.{step_of};
 
-    /// The record of the step of this number that consumed a goal. It fails for want of memory alone.
+    /// The record of a step of these parts. It fails for want of memory alone.
     pub fn new(
         alloc: Global,
         number: u32,
-        goal: GoalName,
-        consumed: Goal,
+        goal: Option<GoalName>,
+        consumed: Option<Goal>,
         act: Act,
         effect: Effect,
     ) -> Result<Record, AllocError>
-        ensures { IfOk result (λ r. r ≡ record { number = number; goal = Some goal; consumed = Some consumed; act = act; effect = effect }) }
+        ensures { IfOk result (λ r. r ≡ record { number = number; goal = goal; consumed = consumed; act = act; effect = effect }) }
     {
         let parts = Parts {
             number,
-            goal: Some(goal),
-            consumed: Some(consumed),
+            goal,
+            consumed,
             act,
             effect,
         };

@@ -1,5 +1,5 @@
 // The records of the kept steps, in recorded order.
-ghost use Rattle.std.specs.Prelude.{◌≡◌, ◌≢◌, length, [], ◌∷◌, ◌++◌, IfSome, IfNone, OnOk, OnErr, slice_get};
+ghost use Rattle.std.specs.Prelude.{◌≡◌, ◌≢◌, ◌+◌, ◌<◌, ◌≤◌, length, [], ◌∷◌, ◌++◌, IfSome, IfNone, OnOk, slice_get};
 
 use crate::record::Record;
 use indexmap::IndexMap;
@@ -20,14 +20,16 @@ impl Drop for Records {
 impl Model for Records {
     ghost use Rattle.std.specs.Prelude.{◌≡◌, List};
     ghost use Rattle.std.specs.Map.{keys_of, values_of};
+    ghost use Rattle.indexmap.specs.IndexMap.{spare};
+    ghost use Rattle.ghc_term.specs.Table.{Table, table_code};
     ghost use Rattle.ghc_records.specs.Record.{Record, numbers};
     ghost use Rattle.ghc_records.specs.RecordCode.{records_code};
 
-    ghost Value = { List Record };
+    ghost Value = { Table (List Record) };
 
-    ghost coded = { records_code };
+    ghost coded = { table_code records_code };
 
-    ghost view = { λ r. values_of r.map.entries };
+    ghost view = { λ r. record { held = values_of r.map.entries; room = spare r.map } };
 
     ghost invariant = { λ r. keys_of r.map.entries ≡ numbers (values_of r.map.entries) };
 }
@@ -40,7 +42,7 @@ impl Records {
 
     /// No records, which take no memory.
     pub fn new(alloc: Global) -> Records
-        ensures { result ≡ [] }
+        ensures { result.held ≡ [] }
     {
         Records {
             map: IndexMap::new(alloc),
@@ -49,23 +51,23 @@ impl Records {
 
     /// How many records there are.
     pub fn len(&self) -> usize
-        ensures count { result ≡ length self.now }
-        ensures distinct { AreDistinct (numbers self.now) }
+        ensures count { result ≡ length self.now.held }
+        ensures distinct { AreDistinct (numbers self.now.held) }
     {
         self.map.len()
     }
 
     /// The record of the step of this number: one look-up.
     pub fn get(&self, number: u32) -> Option<&Record>
-        ensures found { IfSome result (λ r. In r.now self.now × (r.now.number ≡ number)) }
-        ensures none { IfNone result ((r : Record) → In r self.now → r.number ≢ number) }
+        ensures found { IfSome result (λ r. In r.now self.now.held × (r.now.number ≡ number)) }
+        ensures none { IfNone result ((r : Record) → In r self.now.held → r.number ≢ number) }
     {
         self.map.get(&number)
     }
 
     /// The record at this place in recorded order, from 0 on: one step.
     pub fn at(&self, place: usize) -> Option<&Record>
-        ensures { option_copied result ≡ slice_get self.now place }
+        ensures { option_copied result ≡ slice_get self.now.held place }
     {
         match self.map.get_index(place) {
             Some((_, record)) => Some(record),
@@ -75,43 +77,38 @@ impl Records {
 
     /// The place of the record of the step of this number in recorded order, from 0 on: one look-up.
     pub fn place_of(&self, number: u32) -> Option<usize>
-        ensures found { IfSome result (λ p. (r : Record) × (slice_get self.now p ≡ Some r) × (r.number ≡ number)) }
-        ensures none { IfNone result ((r : Record) → In r self.now → r.number ≢ number) }
+        ensures found { IfSome result (λ p. (r : Record) × (slice_get self.now.held p ≡ Some r) × (r.number ≡ number)) }
+        ensures none { IfNone result ((r : Record) → In r self.now.held → r.number ≢ number) }
     {
         self.map.get_index_of(&number)
     }
 
-    /// Puts a record at the end, whose number no other has. They stay as they were where memory is refused.
-    pub fn push(&mut self, record: Record) -> Result<(), AllocError>
-        requires { (r : Record) → In r self.old → r.number ≢ record.number }
-        ensures ok { OnOk result (self.new ≡ self.old ++ «record» ∷ []) }
-        ensures err { OnErr result (self.new ≡ self.old) }
+    /// Makes room for as many more records. The records stay, and so does the room where memory is refused.
+    pub fn reserve(&mut self, count: usize) -> Result<(), AllocError>
+        ensures held { self.new.held ≡ self.old.held }
+        ensures room { OnOk result (count ≤ self.new.room) }
+        ensures kept { self.old.room ≤ self.new.room }
     {
-        match self.map.insert(record.number(), record) {
-            Ok(_) => Ok(()),
-            Err(_) => Err(AllocError),
-        }
+        self.map.reserve(count)
     }
 
-    /// Takes the last record away, if there is one.
-    pub fn pop(&mut self) -> Option<Record>
-        ensures last { IfSome result (λ r. self.old ≡ self.new ++ r ∷ []) }
-        ensures none { IfNone result (self.old ≡ []) }
-        ensures none_left { IfNone result (self.new ≡ []) }
+    /// Puts a record at the end, whose number no other has, where there is room.
+    pub fn put(&mut self, record: Record)
+        requires room { 0 < self.old.room }
+        requires new { (r : Record) → In r self.old.held → r.number ≢ record.number }
+        ensures held { self.new.held ≡ self.old.held ++ «record» ∷ [] }
+        ensures room { self.old.room ≤ self.new.room + 1 }
     {
-        match self.map.pop() {
-            Some((_, record)) => Some(record),
-            None => None,
-        }
+        self.map.insert(record.number(), record).unwrap();
     }
 
     /// Takes the record of the step of this number away and gives it, if there was one; the others keep their order. It moves
     /// each record behind it.
     pub fn remove(&mut self, number: u32) -> Option<Record>
-        ensures found { IfSome result (λ r. In r self.old × (r.number ≡ number)) }
-        ensures rest { (r : Record) → In r self.old → r.number ≡ number → Picks (λ s. ¬ (s ≡ r)) self.old self.new }
-        ensures none { IfNone result ((r : Record) → In r self.old → r.number ≢ number) }
-        ensures none_left { IfNone result (self.new ≡ self.old) }
+        ensures found { IfSome result (λ r. In r self.old.held × (r.number ≡ number)) }
+        ensures rest { (r : Record) → In r self.old.held → r.number ≡ number → Picks (λ s. ¬ (s ≡ r)) self.old.held self.new.held }
+        ensures none { IfNone result ((r : Record) → In r self.old.held → r.number ≢ number) }
+        ensures none_left { IfNone result (self.new.held ≡ self.old.held) }
     {
         let _count = self.len();
         self.map.shift_remove(&number)

@@ -1,7 +1,9 @@
 // States: the goals and the store.
-ghost use Rattle.std.specs.Prelude.{◌≡◌, ◌<◌, ◌≤◌, IfOk, OnOk, OnErr};
+ghost use Rattle.std.specs.Prelude.{◌≡◌, ◌<◌, ◌≤◌, IfOk, OnOk};
 
-use crate::binding::{bind_all, unbind_all};
+use crate::addition::{Addition, share_goals};
+use crate::binding::unbind_all;
+use crate::entry::Entry;
 use crate::making::{consume_goal, make_goals, restore_consumed, unmake_goals};
 use crate::record::Record;
 use crate::removal::Removal;
@@ -26,35 +28,40 @@ impl Drop for State {
 }
 
 impl Model for State {
-    ghost use Rattle.ghc_term.specs.Table.{Table, table_code};
-    ghost use Rattle.ghc_records.specs.Record.{State};
-    ghost use Rattle.ghc_records.specs.RecordCode.{state_code};
+    ghost use Rattle.ghc_records.specs.State.{StateTables};
+    ghost use Rattle.ghc_records.specs.RecordCode.{tables_code};
 
-    ghost Value = { Table State };
+    ghost Value = { StateTables };
 
-    ghost coded = { table_code state_code };
+    ghost coded = { tables_code };
 
-    // The room is that of the goals.
-    ghost view = { λ s. record { held = record { goals = s.goals.held; store = s.store }; room = s.goals.room } };
+    ghost view = { λ s. record { held = record { goals = s.goals.held; store = s.store.held }; room = record { goals = s.goals.room; bindings = s.store.room } } };
 }
 
 impl State {
+    ghost use Rattle.ghc_term.specs.Bindings.{IsAcyclic};
+    ghost use Rattle.ghc_term.specs.Store.{value_at};
     ghost use Rattle.ghc_records.specs.Record.{after};
     ghost use Rattle.ghc_records.specs.Replay.{query_state};
-    ghost use Rattle.ghc_records.specs.State.{CanTake, IsTakenBack};
+    ghost use Rattle.ghc_records.specs.Journal.{took, step_of};
+    ghost use Rattle.ghc_records.specs.EntryCode.{entry_of};
+    ghost use Rattle.ghc_records.specs.State.{HasRoomToTake, IsTakenBack};
 
     /// The state of a query before any step. It costs a look-up for each goal, and shares the goals.
     pub fn of_query(alloc: Global, query: &[Goal]) -> Result<State, AllocError>
         ensures { IfOk result (λ s. s.held ≡ query_state query.now) }
     {
+        let Ok(count) = u32::try_from(query.len()) else {
+            return Err(AllocError);
+        };
+        let shared = share_goals(alloc, query)?;
         let mut goals = Goals::new(alloc);
-        match make_goals(&mut goals, 0, query) {
-            Ok(_) => Ok(State {
-                goals,
-                store: Store::new(alloc),
-            }),
-            Err(error) => Err(error),
-        }
+        goals.reserve(query.len())?;
+        make_goals(&mut goals, 0, shared, count);
+        Ok(State {
+            goals,
+            store: Store::new(alloc),
+        })
     }
 
     /// The goals.
@@ -66,45 +73,48 @@ impl State {
 
     /// The store.
     pub fn store(&self) -> &Store
-        ensures { result.now ≡ self.now.held.store }
+        ensures { result.now.held ≡ self.now.held.store }
     {
         &self.store
     }
 
-    /// Takes a step: its bindings are made, the goals that it makes are there, and the goal that it consumes is gone. The state
-    /// stays as it was where memory is refused. It costs a look-up for each goal and each binding, and the search that each
-    /// binding takes.
-    pub fn take(&mut self, alloc: Global, record: &Record) -> Result<(), AllocError>
-        requires { CanTake self.old.held record.now }
-        ensures ok { OnOk result (self.new.held ≡ after self.old.held record.now) }
-        ensures err { OnErr result (self.new.held ≡ self.old.held) }
+    /// Makes room for as many more goals and bindings. The state stays, and so does the room where memory is refused.
+    pub fn reserve(&mut self, goals: usize, bindings: usize) -> Result<(), AllocError>
+        ensures held { self.new.held ≡ self.old.held }
+        ensures goals { OnOk result (goals ≤ self.new.room.goals) }
+        ensures bindings { OnOk result (bindings ≤ self.new.room.bindings) }
     {
-        let effect = record.effect();
-        let count = match make_goals(&mut self.goals, record.number(), effect.makes()) {
-            Ok(count) => count,
-            Err(error) => return Err(error),
-        };
-        if let Err(error) = bind_all(&mut self.store, effect.binds()) {
-            unmake_goals(&mut self.goals, record.number(), count);
-            return Err(error);
-        }
-        consume_goal(&mut self.goals, record.goal());
-        Ok(())
+        self.goals.reserve(goals)?;
+        self.store.reserve(bindings)
     }
 
-    /// Makes room for as many more goals. The state stays, and so does the room where memory is refused.
-    pub fn reserve(&mut self, goals: usize) -> Result<(), AllocError>
-        ensures held { self.new.held ≡ self.old.held }
-        ensures room { OnOk result (goals ≤ self.new.room) }
-        ensures kept { self.old.room ≤ self.new.room }
+    /// Takes a step, where there is room for it and the store stays acyclic: the goal that it consumes is gone, the goals that
+    /// it makes are there, and its bindings are made. It cannot fail, gives the record and its entry, and costs a look-up for
+    /// each goal and each binding.
+    pub fn take(&mut self, addition: Addition) -> (Record, Entry)
+        requires room { HasRoomToTake self.old.room addition }
+        requires acyclic { IsAcyclic (value_at (after self.old.held addition).store) }
+        ensures record { result.0 ≡ addition }
+        ensures entry { entry_of result.1 ≡ took (step_of addition) }
+        ensures state { self.new.held ≡ after self.old.held addition }
     {
-        self.goals.reserve(goals)
+        let Addition {
+            step,
+            entry,
+            makes,
+            made,
+            binds,
+        } = addition;
+        consume_goal(&mut self.goals, step.goal());
+        make_goals(&mut self.goals, step.number(), makes, made);
+        self.store.put(binds);
+        (step, entry)
     }
 
     /// Takes a step back, where there is room for a goal: what it bound is unbound, the goals that it made are gone, and the goal
     /// that it consumed is there again. It gives the record, and costs a look-up for each goal and each binding.
     pub fn take_back(&mut self, removal: Removal) -> Record
-        requires { 0 < self.old.room }
+        requires { 0 < self.old.room.goals }
         ensures record { result ≡ removal }
         ensures state { IsTakenBack removal self.old.held self.new.held }
     {

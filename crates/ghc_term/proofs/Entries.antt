@@ -1,43 +1,33 @@
 -- A store and the entries of its map.
-use Rattle.std.proofs.Common.{◌≡◌, ℕ, arith, Bool, cond, ◌&&◌, List, [], ◌∷◌, refl, sym, ap, ◌∙◌, nat_eq}
+use Rattle.std.proofs.Common.{◌≡◌, ℕ, arith, Bool, cond, ◌&&◌, List, ap, ◌∙◌, nat_eq}
 use Rattle.std.specs.Prelude.{Some, None}
 use Rattle.std.proofs.lemmas.Bool.Decides.{nat_tests}
 use Rattle.std.specs.Map.{lookup}
 use Rattle.std.specs.Ordering.{eq_by_cmp, is_eq, nat_cmp}
-use Rattle.std.specs.Cmp.{tied_then, eq_by_cmp_equiv}
+use Rattle.std.specs.Cmp.{tied_then}
 use Rattle.std.specs.FinMap as finite
 use Rattle.ghc_term.specs.declared.var_name.VarName.{VarName}
 use Rattle.ghc_term.specs.Tree.{Tree}
 use Rattle.ghc_term.specs.Store.{value_at}
 use Rattle.ghc_term.specs.Bindings.{name_cmp}
+use Rattle.ghc_term.proofs.Indexed as indexed
 use Rattle.ghc_term.proofs.Names.{name_total, name_antisymmetric}
 
 abbrev pub same : VarName → VarName → Bool
 same x y = nat_eq x.step y.step && nat_eq x.place y.place
 
-tie : (a b : ℕ) → nat_eq a b ≡ is_eq (nat_cmp a b)
+pub tie : (a b : ℕ) → nat_eq a b ≡ is_eq (nat_cmp a b)
 tie a b = grind (arith, nat_tests)
 
 pub same_is : (x y : VarName) → same x y ≡ eq_by_cmp name_cmp x y
 same_is x y = ap (λ b. b && nat_eq x.place y.place) (tie x.step y.step) ∙ ap (λ b. is_eq (nat_cmp x.step y.step) && b) (tie x.place y.place) ∙ tied_then (nat_cmp x.step y.step) (nat_cmp x.place y.place)
 
-pub lookup_find : (x : VarName) (es : List (VarName × Tree)) → lookup (same x) es ≡ finite.find name_cmp x es
-lookup_find x [] = refl
-lookup_find x (e ∷ es) = rw (same_is x e.0) (ap (cond (eq_by_cmp name_cmp x e.0) (Some e.1)) (lookup_find x es))
-
 pub lookup_at : (x : VarName) (es : List (VarName × Tree)) → lookup (same x) es ≡ value_at (finite.from_entries es) x
-lookup_at x es = lookup_find x es ∙ sym (finite.get-from_entries name_total es x)
-
-same_either : (x y : VarName) → same x y ≡ same y x
-same_either x y = same_is x y ∙ (eq_by_cmp_equiv name_total).symm x y ∙ sym (same_is y x)
+lookup_at = indexed.value_is name_total name_antisymmetric same same_is
 
 -- a map with one entry more or less
 pub inserted : (es new : List (VarName × Tree)) (x : VarName) (t : Tree) → ((q : VarName) → lookup (same q) new ≡ cond (same x q) (Some t) (lookup (same q) es)) → finite.from_entries new ≡ finite.insert (finite.from_entries {R = name_cmp} es) x t
-inserted es new x t h = finite.same_map name_total name_antisymmetric _ _ (λ q.
-    sym (lookup_at q new) ∙ h q ∙ ap (λ b. cond b (Some t) (lookup (same q) es)) (same_either x q ∙ same_is q x) ∙ ap (cond (eq_by_cmp name_cmp q x) (Some t)) (lookup_at q es)
-    ∙ sym (finite.get-insert name_total (finite.from_entries es) x t q))
+inserted = indexed.inserted name_total name_antisymmetric same same_is
 
 pub removed : (es new : List (VarName × Tree)) (x : VarName) → ((q : VarName) → lookup (same q) new ≡ cond (same x q) None (lookup (same q) es)) → finite.from_entries new ≡ finite.remove (finite.from_entries {R = name_cmp} es) x
-removed es new x h = finite.same_map name_total name_antisymmetric _ _ (λ q.
-    sym (lookup_at q new) ∙ h q ∙ ap (λ b. cond b None (lookup (same q) es)) (same_either x q ∙ same_is q x) ∙ ap (cond (eq_by_cmp name_cmp q x) None) (lookup_at q es)
-    ∙ sym (finite.get-remove name_total (finite.from_entries es) x q))
+removed = indexed.removed name_total name_antisymmetric same same_is

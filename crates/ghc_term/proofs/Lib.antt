@@ -2,10 +2,12 @@ pub mod ListsLemmas
 pub mod SetsLemmas
 pub mod MapsLemmas
 pub mod Decided
+pub mod Exact
 pub mod Trees
 pub mod Names
 pub mod Chains
 pub mod Total
+pub mod Indexed
 pub mod Entries
 pub mod Walks
 pub mod Searches

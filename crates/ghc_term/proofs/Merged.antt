@@ -61,10 +61,10 @@ unbound_below B T x e =
 
 -- all that the overlay binds, as one finite map
 abbrev pub all_bound : Overlay → StoreValue
-all_bound o = merged o.binds.now o.store.now
+all_bound o = merged o.binds.now o.store.now.held
 
 pub all_is : (o : Overlay) → value_at (all_bound o) ≡ value_in o
-all_is o = merged_is o.binds.now o.store.now
+all_is o = merged_is o.binds.now o.store.now.held
 
 pub all_acyclic : (o : Overlay) → IsAcyclic (value_at (all_bound o))
-all_acyclic o = merged_acyclic o.binds.now o.store.now o.acyclic
+all_acyclic o = merged_acyclic o.binds.now o.store.now.held o.acyclic

@@ -19,6 +19,7 @@ pub mod Seen
 pub mod Overlay
 pub mod Limit
 pub mod Fault
+pub mod Answered
 pub mod Text
 pub mod GoalText
 pub mod Resolved

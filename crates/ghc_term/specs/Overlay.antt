@@ -7,4 +7,4 @@ use Rattle.ghc_term.specs.Store.{value_at, with_bindings}
 
 -- what the variable is bound to, in front or else in the store
 abbrev pub value_in : Overlay → VarName → Option Tree
-value_in o = with_bindings o.binds.now (value_at o.store.now)
+value_in o = with_bindings o.binds.now (value_at o.store.now.held)

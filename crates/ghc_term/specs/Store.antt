@@ -1,5 +1,5 @@
 -- Stores as finite maps from variables to trees.
-use Rattle.std.specs.Prelude.{Option}
+use Rattle.std.specs.Prelude.{List, [], ◌∷◌, Option}
 use Rattle.std.specs.Option.{option_or}
 use Rattle.std.specs.FinMap as finite
 use Rattle.std.specs.Coded.{Coded}
@@ -23,3 +23,8 @@ value_at s x = finite.get s x
 -- the store with these bindings more
 abbrev pub with_bindings : StoreValue → (VarName → Option Tree) → VarName → Option Tree
 with_bindings binds S x = option_or (value_at binds x) (S x)
+
+-- the store with the bindings of the list more, of each variable the first
+abbrev pub with_binds : List (VarName × Tree) → StoreValue → StoreValue
+with_binds [] s = s
+with_binds (b ∷ bs) s = finite.insert (with_binds bs s) b.0 b.1

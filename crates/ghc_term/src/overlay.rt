@@ -16,7 +16,7 @@ use std::alloc::{AllocError, Global};
 pub struct Overlay<'a> {
     pub store: &'a Store,
     pub binds: &'a Bindings,
-    pub ghost acyclic: { IsAcyclic (with_bindings binds.now (value_at store.now)) },
+    pub ghost acyclic: { IsAcyclic (with_bindings binds.now (value_at store.now.held)) },
 }
 
 /// The variables passed from a term by following bindings, an unbound last one included, and the term to which they lead.

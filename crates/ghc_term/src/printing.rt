@@ -30,10 +30,10 @@ fn write_pieces<'a>(
     mut pieces: Vec<Piece<'a>>,
     out: &mut String,
 ) -> Result<(), Fault>
-    ensures text { IfOk result (λ _. (r : Tree → Tree) → IsResolution (value_at store.now) r → string_bytes out.new ≡ string_bytes out.old ++ pieces_text r pieces.entry.items) }
+    ensures text { IfOk result (λ _. (r : Tree → Tree) → IsResolution (value_at store.now.held) r → string_bytes out.new ≡ string_bytes out.old ++ pieces_text r pieces.entry.items) }
     ensures short { IfOk result (λ _. length (string_bytes out.new) ≤ limit) }
     ensures refused { IfErr result (λ fault. (fault ≡ Fault.Memory) ⊎ (fault ≡ Fault.Limit Limit.Print)) }
-    ensures too_long { result ≡ Err (Fault.Limit Limit.Print) → (r : Tree → Tree) → IsResolution (value_at store.now) r → limit < length (string_bytes out.old) + length (pieces_text r pieces.entry.items) }
+    ensures too_long { result ≡ Err (Fault.Limit Limit.Print) → (r : Tree → Tree) → IsResolution (value_at store.now.held) r → limit < length (string_bytes out.old) + length (pieces_text r pieces.entry.items) }
 {
     store.acyclic();
     loop {
@@ -50,10 +50,10 @@ fn write_pieces<'a>(
 /// The text of a term with every variable replaced by what it leads to. One over `PRINT_LIMIT` bytes is
 /// refused by the limit `print`, as soon as so much is written. The cost is that of the text, times that of the chains.
 pub fn print(alloc: Global, term: &Term, store: &Store) -> Result<String, Fault>
-    ensures text { IfOk result (λ text. IsTextOf (value_at store.now) term.now (string_bytes text)) }
+    ensures text { IfOk result (λ text. IsTextOf (value_at store.now.held) term.now (string_bytes text)) }
     ensures short { IfOk result (λ text. length (string_bytes text) ≤ PRINT_LIMIT) }
     ensures refused { IfErr result (λ fault. (fault ≡ Fault.Memory) ⊎ (fault ≡ Fault.Limit Limit.Print)) }
-    ensures too_long { result ≡ Err (Fault.Limit Limit.Print) → (text : List ℕ) × (IsTextOf (value_at store.now) term.now text × (PRINT_LIMIT < length text)) }
+    ensures too_long { result ≡ Err (Fault.Limit Limit.Print) → (text : List ℕ) × (IsTextOf (value_at store.now.held) term.now text × (PRINT_LIMIT < length text)) }
 {
     store.acyclic();
     let mut pieces = Vec::new(alloc);
@@ -67,10 +67,10 @@ pub fn print(alloc: Global, term: &Term, store: &Store) -> Result<String, Fault>
 
 /// The text of a goal with every variable replaced by what it leads to, under the same limit as `print`.
 pub fn print_goal(alloc: Global, goal: &Goal, store: &Store) -> Result<String, Fault>
-    ensures text { IfOk result (λ text. IsGoalTextOf (value_at store.now) goal.now (string_bytes text)) }
+    ensures text { IfOk result (λ text. IsGoalTextOf (value_at store.now.held) goal.now (string_bytes text)) }
     ensures short { IfOk result (λ text. length (string_bytes text) ≤ PRINT_LIMIT) }
     ensures refused { IfErr result (λ fault. (fault ≡ Fault.Memory) ⊎ (fault ≡ Fault.Limit Limit.Print)) }
-    ensures too_long { result ≡ Err (Fault.Limit Limit.Print) → (text : List ℕ) × (IsGoalTextOf (value_at store.now) goal.now text × (PRINT_LIMIT < length text)) }
+    ensures too_long { result ≡ Err (Fault.Limit Limit.Print) → (text : List ℕ) × (IsGoalTextOf (value_at store.now.held) goal.now text × (PRINT_LIMIT < length text)) }
 {
     store.acyclic();
     let mut pieces = Vec::new(alloc);

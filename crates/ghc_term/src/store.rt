@@ -1,5 +1,8 @@
 // The bindings of variables.
-ghost use Rattle.std.specs.Prelude.{◌≡◌, ◌↔◌, ◌⊎◌, IfOk, IfErr, OnOk, OnErr, IsTrue, None, Some};
+ghost use Rattle.std.specs.Prelude.{◌≡◌, ◌≤◌, ◌↔◌, ◌⊎◌, length, IfOk, IfErr, OnOk, OnErr, IsTrue, None, Some};
+ghost use Rattle.std.specs.FinMap as finite;
+ghost use Rattle.indexmap.specs.IndexMap.{spare};
+ghost use Rattle.ghc_term.specs.Store.{with_binds};
 
 use crate::bindings::Bindings;
 use crate::fault::Fault;
@@ -17,23 +20,33 @@ pub struct Store {
 }
 
 impl Model for Store {
+    ghost use Rattle.std.specs.FinMap as finite;
+    ghost use Rattle.indexmap.specs.IndexMap.{spare};
     ghost use Rattle.ghc_term.specs.Store.{StoreValue, store_code, value_at};
+    ghost use Rattle.ghc_term.specs.Table.{Table, table_code};
     ghost use Rattle.ghc_term.specs.Bindings.{IsAcyclic};
 
-    ghost Value = { StoreValue };
+    ghost Value = { Table StoreValue };
 
-    ghost coded = { store_code };
+    ghost coded = { table_code store_code };
 
-    ghost use Rattle.std.specs.FinMap as finite;
-
-    ghost view = { λ s. finite.from_entries s.map.entries };
+    ghost view = { λ s. record { held = finite.from_entries s.map.entries; room = spare s.map } };
 
     ghost invariant = { λ s. IsAcyclic (value_at (finite.from_entries s.map.entries)) };
 }
 
+// Puts each entry of the list into the map, where there is room, the last first.
+fn put_each(map: &mut IndexMap<VarName, Term>, mut entries: Vec<(VarName, Term)>)
+    requires { length entries.items ≤ spare map.old }
+    ensures { finite.from_entries map.new.entries ≡ with_binds entries.items (finite.from_entries map.old.entries) }
+{
+    while let Some((x, value)) = entries.pop() {
+        map.insert(x, value).unwrap();
+    }
+}
+
 impl Store {
     ghost use Rattle.std.specs.Prelude.{option_copied, List};
-    ghost use Rattle.std.specs.FinMap as finite;
     ghost use Rattle.ghc_term.specs.Store.{value_at};
     ghost use Rattle.ghc_term.specs.Tree.{Tree};
     ghost use Rattle.ghc_term.specs.Bindings.{IsAcyclic, Leads, Reaches};
@@ -41,7 +54,7 @@ impl Store {
 
     /// A store without bindings, which takes no memory.
     pub fn new(alloc: Global) -> Store
-        ensures { result ≡ finite.empty }
+        ensures { result.held ≡ finite.empty }
     {
         Store {
             map: IndexMap::new(alloc),
@@ -50,21 +63,21 @@ impl Store {
 
     /// Every store is acyclic. This costs nothing.
     pub fn acyclic(&self)
-        ensures { IsAcyclic (value_at self.now) }
+        ensures { IsAcyclic (value_at self.now.held) }
     {
         let _map = &self.map;
     }
 
     /// What the variable is bound to: one look-up.
     pub fn get(&self, x: VarName) -> Option<&Term>
-        ensures { option_copied result ≡ value_at self.now x }
+        ensures { option_copied result ≡ value_at self.now.held x }
     {
         self.map.get(&x)
     }
 
     /// Where the chain of the term ends: an unbound variable or a value. One look-up for each variable passed.
     pub fn end<'a>(&'a self, term: &'a Term) -> &'a Term
-        ensures { (passed : List VarName) × Leads (value_at self.now) term.now passed result.now }
+        ensures { (passed : List VarName) × Leads (value_at self.now.held) term.now passed result.now }
     {
         self.acyclic();
         let mut place = term;
@@ -81,7 +94,7 @@ impl Store {
 
     /// The variables passed from the term by following bindings, an unbound last one included. Two look-ups for each.
     pub fn chain(&self, alloc: Global, term: &Term) -> Result<Vec<VarName>, AllocError>
-        ensures { IfOk result (λ passed. (e : Tree) × Leads (value_at self.now) term.now passed.items e) }
+        ensures { IfOk result (λ passed. (e : Tree) × Leads (value_at self.now.held) term.now passed.items e) }
     {
         self.acyclic();
         let none = Bindings::new(alloc);
@@ -96,7 +109,7 @@ impl Store {
     /// Whether the variable stands in the term, or in the value of a variable that the term reaches. It goes by a loop,
     /// once through the term and through each value that it reaches, and past what is closed as written.
     pub fn reaches(&self, from: &Term, to: VarName) -> Result<bool, AllocError>
-        ensures { IfOk result (λ yes. IsTrue yes ↔ Reaches (value_at self.now) from.now to) }
+        ensures { IfOk result (λ yes. IsTrue yes ↔ Reaches (value_at self.now.held) from.now to) }
     {
         self.acyclic();
         let alloc = *self.map.allocator();
@@ -108,40 +121,49 @@ impl Store {
         overlay.reaches(alloc, from, to)
     }
 
-    /// Binds an unbound variable to a value that does not reach it: one look-up. It fails for want of memory alone.
-    pub fn bind_open(&mut self, x: VarName, value: Term) -> Result<(), AllocError>
-        requires unbound { value_at self.old x ≡ None }
-        requires open { ¬ Reaches (value_at self.old) value x }
-        ensures ok { OnOk result (self.new ≡ finite.insert self.old x value) }
-        ensures err { OnErr result (self.new ≡ self.old) }
+    /// Makes room for as many more bindings. The bindings stay, and so does the room where memory is refused.
+    pub fn reserve(&mut self, count: usize) -> Result<(), AllocError>
+        ensures held { self.new.held ≡ self.old.held }
+        ensures room { OnOk result (count ≤ self.new.room) }
+        ensures kept { self.old.room ≤ self.new.room }
     {
-        match self.map.insert(x, value) {
-            Ok(_) => Ok(()),
-            Err(_) => Err(AllocError),
-        }
+        self.map.reserve(count)
+    }
+
+    /// Binds each variable of the list to its value, where there is room and the store stays acyclic. It cannot fail, and costs
+    /// a look-up for each.
+    pub fn put(&mut self, binds: Vec<(VarName, Term)>)
+        requires room { length binds.items ≤ self.old.room }
+        requires acyclic { IsAcyclic (value_at (with_binds binds.items self.old.held)) }
+        ensures { self.new.held ≡ with_binds binds.items self.old.held }
+    {
+        put_each(&mut self.map, binds);
     }
 
     /// Binds an unbound variable, at the cost of `reaches`. `Fault::Cycle` exactly where the value reaches the
     /// variable; otherwise it fails for want of memory alone.
     pub fn bind(&mut self, x: VarName, value: Term) -> Result<(), Fault>
-        requires { value_at self.old x ≡ None }
-        ensures ok { OnOk result (self.new ≡ finite.insert self.old x value) }
-        ensures open { OnOk result (¬ Reaches (value_at self.old) value x) }
-        ensures cycle { result ≡ Err Fault.Cycle → Reaches (value_at self.old) value x }
+        requires { value_at self.old.held x ≡ None }
+        ensures ok { OnOk result (self.new.held ≡ finite.insert self.old.held x value) }
+        ensures open { OnOk result (¬ Reaches (value_at self.old.held) value x) }
+        ensures cycle { result ≡ Err Fault.Cycle → Reaches (value_at self.old.held) value x }
         ensures only { IfErr result (λ e. (e ≡ Fault.Cycle) ⊎ (e ≡ Fault.Memory)) }
-        ensures err { OnErr result (self.new ≡ self.old) }
+        ensures err { OnErr result (self.new.held ≡ self.old.held) }
     {
         if self.reaches(&value, x)? {
             return Err(Fault::Cycle);
         }
-        self.bind_open(x, value)?;
-        Ok(())
+        match self.map.insert(x, value) {
+            Ok(_) => Ok(()),
+            Err(_) => Err(Fault::Memory),
+        }
     }
 
-    /// Takes a binding away and gives its value, if the variable was bound: one look-up.
+    /// Takes a binding away and gives its value, if the variable was bound: one look-up. The room does not shrink.
     pub fn unbind(&mut self, x: VarName) -> Option<Term>
-        ensures value { result ≡ value_at self.old x }
-        ensures rest { self.new ≡ finite.remove self.old x }
+        ensures value { result ≡ value_at self.old.held x }
+        ensures held { self.new.held ≡ finite.remove self.old.held x }
+        ensures room { self.old.room ≤ self.new.room }
     {
         self.map.swap_remove(&x)
     }

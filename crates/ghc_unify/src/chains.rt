@@ -13,7 +13,7 @@ pub fn add_bound_reads(
     passed: &[VarName],
     reads: &mut Variables,
 ) -> Result<(), AllocError>
-    ensures { OnOk result (reads.new ≡ set.union reads.old (set.from_list (met (value_at store.now) passed.now))) }
+    ensures { OnOk result (reads.new ≡ set.union reads.old (set.from_list (met (value_at store.now.held) passed.now))) }
 {
     for x in passed {
         if store.get(*x).is_some() {

@@ -57,10 +57,10 @@ pub fn both_chains<'a>(
     left: &'a Term,
     right: &'a Term,
 ) -> Result<Sides<'a>, AllocError>
-    requires { IsAcyclic (with_bindings binds.now (value_at store.now)) }
+    requires { IsAcyclic (with_bindings binds.now (value_at store.now.held)) }
     ensures { IfOk result (λ sides. (xs ys : List VarName)
-        × Leads (with_bindings binds.now (value_at store.now)) left.now xs sides.left.end.now
-        × Leads (with_bindings binds.now (value_at store.now)) right.now ys sides.right.end.now
+        × Leads (with_bindings binds.now (value_at store.now.held)) left.now xs sides.left.end.now
+        × Leads (with_bindings binds.now (value_at store.now.held)) right.now ys sides.right.end.now
         × Parts xs ys sides.left.passed.items sides.right.passed.items sides.shared) }
 {
     let overlay = Overlay { store, binds };

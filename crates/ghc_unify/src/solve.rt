@@ -38,12 +38,12 @@ fn solve(
     store: &Store,
     solved: &mut Solved,
 ) -> Result<(), Fault>
-    requires acyclic { IsAcyclic (value_at store.now) }
+    requires acyclic { IsAcyclic (value_at store.now.held) }
     requires unbound { solved.old.binds ≡ finite.empty }
     requires unread { solved.old.reads ≡ set.empty }
-    ensures solved { OnOk result (Unifies (value_at store.now) left.now right.now solved.new.binds solved.new.reads) }
-    ensures clash { result ≡ Err Fault.Clash → Clashes (value_at store.now) left.now right.now }
-    ensures cycle { result ≡ Err Fault.Cycle → Cycles (value_at store.now) left.now right.now }
+    ensures solved { OnOk result (Unifies (value_at store.now.held) left.now right.now solved.new.binds solved.new.reads) }
+    ensures clash { result ≡ Err Fault.Clash → Clashes (value_at store.now.held) left.now right.now }
+    ensures cycle { result ≡ Err Fault.Cycle → Cycles (value_at store.now.held) left.now right.now }
     ensures only { IfErr result (λ e. (e ≡ Fault.Clash) ⊎ (e ≡ Fault.Cycle) ⊎ (e ≡ Fault.Memory)) }
 {
     let mut equations = equation(alloc, left, right)?;
@@ -67,17 +67,17 @@ fn solve(
 /// any length take no stack. Each binding costs a search of the bound term. Terms that share parts are met once for each
 /// place where they stand: it ends, but no bound on the time is promised there.
 pub fn unify(alloc: Global, left: &Term, right: &Term, store: &Store) -> Result<Solved, Fault>
-    ensures solved { IfOk result (λ s. Unifies (value_at store.now) left.now right.now s.binds s.reads) }
-    ensures clash { result ≡ Err Fault.Clash → Clashes (value_at store.now) left.now right.now }
-    ensures cycle { result ≡ Err Fault.Cycle → Cycles (value_at store.now) left.now right.now }
+    ensures solved { IfOk result (λ s. Unifies (value_at store.now.held) left.now right.now s.binds s.reads) }
+    ensures clash { result ≡ Err Fault.Clash → Clashes (value_at store.now.held) left.now right.now }
+    ensures cycle { result ≡ Err Fault.Cycle → Cycles (value_at store.now.held) left.now right.now }
     ensures only { IfErr result (λ e. (e ≡ Fault.Clash) ⊎ (e ≡ Fault.Cycle) ⊎ (e ≡ Fault.Memory)) }
 
     // The answer is the one ending that the unification has, unless memory is wanting.
-    ensures exact { (e : Ending) → HasEnding (value_at store.now) left.now right.now e → (result ≡ Err Fault.Memory) ⊎ (ending_of result ≡ Some e) }
+    ensures exact { (e : Ending) → HasEnding (value_at store.now.held) left.now right.now e → (result ≡ Err Fault.Memory) ⊎ (ending_of result ≡ Some e) }
 
     // The solutions of the store and the equation are those of the store with the bindings; a clash or a cycle has none.
-    ensures kept { IfOk result (λ s. (a : VarName → Tree) → (Solves a (value_at store.now) × Equates a left.now right.now) ↔ Solves a (with_bindings s.binds (value_at store.now))) }
-    ensures none { (result ≡ Err Fault.Clash) ⊎ (result ≡ Err Fault.Cycle) → (a : VarName → Tree) → Solves a (value_at store.now) → ¬ Equates a left.now right.now }
+    ensures kept { IfOk result (λ s. (a : VarName → Tree) → (Solves a (value_at store.now.held) × Equates a left.now right.now) ↔ Solves a (with_bindings s.binds (value_at store.now.held))) }
+    ensures none { (result ≡ Err Fault.Clash) ⊎ (result ≡ Err Fault.Cycle) → (a : VarName → Tree) → Solves a (value_at store.now.held) → ¬ Equates a left.now right.now }
 {
     store.acyclic();
     let mut solved = Solved {

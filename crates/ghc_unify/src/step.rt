@@ -66,10 +66,10 @@ fn binding(
     x: VarName,
     term: &Term,
 ) -> Result<Binding, Fault>
-    requires { IsAcyclic (with_bindings binds.now (value_at store.now)) }
+    requires { IsAcyclic (with_bindings binds.now (value_at store.now.held)) }
     ensures ok { IfOk result (λ b. b ≡ (x, term.now)) }
-    ensures open { OnOk result (¬ Reaches (with_bindings binds.now (value_at store.now)) term.now x) }
-    ensures cycle { result ≡ Err Fault.Cycle → Reaches (with_bindings binds.now (value_at store.now)) term.now x }
+    ensures open { OnOk result (¬ Reaches (with_bindings binds.now (value_at store.now.held)) term.now x) }
+    ensures cycle { result ≡ Err Fault.Cycle → Reaches (with_bindings binds.now (value_at store.now.held)) term.now x }
     ensures only { IfErr result (λ e. (e ≡ Fault.Cycle) ⊎ (e ≡ Fault.Memory)) }
 {
     let overlay = Overlay { store, binds };
@@ -90,10 +90,10 @@ fn step<'a>(
     equations: &mut Equations,
     reads: &mut Variables,
 ) -> Result<Option<Binding>, Fault>
-    requires { IsAcyclic (with_bindings binds.now (value_at store.now)) }
-    ensures ok { IfOk result (Steps (value_at store.now) (with_bindings binds.now (value_at store.now)) left.now right.now equations.old.items equations.new.items reads.old reads.new) }
-    ensures clash { result ≡ Err Fault.Clash → IsClash (with_bindings binds.now (value_at store.now)) left.now right.now }
-    ensures cycle { result ≡ Err Fault.Cycle → IsCycle (with_bindings binds.now (value_at store.now)) left.now right.now }
+    requires { IsAcyclic (with_bindings binds.now (value_at store.now.held)) }
+    ensures ok { IfOk result (Steps (value_at store.now.held) (with_bindings binds.now (value_at store.now.held)) left.now right.now equations.old.items equations.new.items reads.old reads.new) }
+    ensures clash { result ≡ Err Fault.Clash → IsClash (with_bindings binds.now (value_at store.now.held)) left.now right.now }
+    ensures cycle { result ≡ Err Fault.Cycle → IsCycle (with_bindings binds.now (value_at store.now.held)) left.now right.now }
     ensures only { IfErr result (λ e. (e ≡ Fault.Clash) ⊎ (e ≡ Fault.Cycle) ⊎ (e ≡ Fault.Memory)) }
 {
     let sides = both_chains(alloc, store, binds, left, right)?;
@@ -122,10 +122,10 @@ pub fn advance(
     equations: &mut Equations,
     reads: &mut Variables,
 ) -> Result<Option<Binding>, Fault>
-    requires { IsAcyclic (with_bindings binds.now (value_at store.now)) }
-    ensures ok { IfOk result (Advances (value_at store.now) (with_bindings binds.now (value_at store.now)) equations.old.items equations.new.items reads.old reads.new) }
-    ensures clash { result ≡ Err Fault.Clash → FailsFrom IsClash (value_at store.now) (with_bindings binds.now (value_at store.now)) (reverse equations.old.items) }
-    ensures cycle { result ≡ Err Fault.Cycle → FailsFrom IsCycle (value_at store.now) (with_bindings binds.now (value_at store.now)) (reverse equations.old.items) }
+    requires { IsAcyclic (with_bindings binds.now (value_at store.now.held)) }
+    ensures ok { IfOk result (Advances (value_at store.now.held) (with_bindings binds.now (value_at store.now.held)) equations.old.items equations.new.items reads.old reads.new) }
+    ensures clash { result ≡ Err Fault.Clash → FailsFrom IsClash (value_at store.now.held) (with_bindings binds.now (value_at store.now.held)) (reverse equations.old.items) }
+    ensures cycle { result ≡ Err Fault.Cycle → FailsFrom IsCycle (value_at store.now.held) (with_bindings binds.now (value_at store.now.held)) (reverse equations.old.items) }
     ensures only { IfErr result (λ e. (e ≡ Fault.Clash) ⊎ (e ≡ Fault.Cycle) ⊎ (e ≡ Fault.Memory)) }
 {
     while let Some((left, right)) = equations.pop() {

@@ -22,7 +22,7 @@ fn push_stream<'a>(
     pieces: &mut Vec<Piece<'a>>,
     out: &mut String,
 ) -> Result<(), AllocError>
-    ensures { IfOk result (λ _. StartsIn (value_at store.now) (λ r. codes "instream " ++ (decimal number ++ (codes " " ++ term_text (r (variable tail))))) pieces.old.items pieces.new.items (string_bytes out.old) (string_bytes out.new)) }
+    ensures { IfOk result (λ _. StartsIn (value_at store.now.held) (λ r. codes "instream " ++ (decimal number ++ (codes " " ++ term_text (r (variable tail))))) pieces.old.items pieces.new.items (string_bytes out.old) (string_bytes out.new)) }
 {
     write!(out, "instream {number} ")?;
     match store.get(tail) {
@@ -41,7 +41,7 @@ pub(crate) fn push_goal<'a>(
     pieces: &mut Vec<Piece<'a>>,
     out: &mut String,
 ) -> Result<(), AllocError>
-    ensures { IfOk result (λ _. StartsIn (value_at store.now) (λ r. goal_text_by r goal.now) pieces.old.items pieces.new.items (string_bytes out.old) (string_bytes out.new)) }
+    ensures { IfOk result (λ _. StartsIn (value_at store.now.held) (λ r. goal_text_by r goal.now) pieces.old.items pieces.new.items (string_bytes out.old) (string_bytes out.new)) }
 {
     match goal.view() {
         GoalView::Call(name, arguments) => push_structure(name, arguments, pieces, out),

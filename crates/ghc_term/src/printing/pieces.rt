@@ -161,7 +161,7 @@ fn push_term<'a>(
     pieces: &mut Vec<Piece<'a>>,
     out: &mut String,
 ) -> Result<(), AllocError>
-    ensures { IfOk result (λ _. UnfoldsIn (value_at store.now) (λ r. term_text (r term.now)) (λ w. term_size w term.now) pieces.old.items pieces.new.items (string_bytes out.old) (string_bytes out.new)) }
+    ensures { IfOk result (λ _. UnfoldsIn (value_at store.now.held) (λ r. term_text (r term.now)) (λ w. term_size w term.now) pieces.old.items pieces.new.items (string_bytes out.old) (string_bytes out.new)) }
 {
     let end = store.end(term);
     if let Some((head, tail)) = cell(end) {
@@ -182,7 +182,7 @@ fn push_rest<'a>(
     pieces: &mut Vec<Piece<'a>>,
     out: &mut String,
 ) -> Result<(), AllocError>
-    ensures { IfOk result (λ _. UnfoldsIn (value_at store.now) (λ r. rest_text (r term.now)) (λ w. rest_size w term.now) pieces.old.items pieces.new.items (string_bytes out.old) (string_bytes out.new)) }
+    ensures { IfOk result (λ _. UnfoldsIn (value_at store.now.held) (λ r. rest_text (r term.now)) (λ w. rest_size w term.now) pieces.old.items pieces.new.items (string_bytes out.old) (string_bytes out.new)) }
 {
     let end = store.end(term);
     if is_nil(end) {
@@ -204,7 +204,7 @@ pub(crate) fn push_piece<'a>(
     pieces: &mut Vec<Piece<'a>>,
     out: &mut String,
 ) -> Result<(), AllocError>
-    ensures { IfOk result (λ _. UnfoldsIn (value_at store.now) (λ r. piece_text r piece.entry) (λ w. piece_size w piece.entry) pieces.old.items pieces.new.items (string_bytes out.old) (string_bytes out.new)) }
+    ensures { IfOk result (λ _. UnfoldsIn (value_at store.now.held) (λ r. piece_text r piece.entry) (λ w. piece_size w piece.entry) pieces.old.items pieces.new.items (string_bytes out.old) (string_bytes out.new)) }
 {
     match piece {
         Piece::Term(term) => push_term(term, store, pieces, out),

@@ -16,7 +16,7 @@ returns-in-Ok c = if_ok c.shown.result c.shown.ensures c.shown.ensures (λ t tol
     let w = c.args.core.now.world in
     let text : IsTextOf (value_at w.state.store) (variable c.in-Some.x) (string_bytes c.in-Ok.term) =
     subst (λ (s : StoreValue). IsTextOf (value_at s) (variable c.in-Some.x) (string_bytes c.in-Ok.term)) c.store.ensures
-    (subst (λ (u : Tree). IsTextOf (value_at c.store.result.now) u (string_bytes c.in-Ok.term)) c.variable-variable.ensures c.in-Ok.ensures.text) in
+    (subst (λ (u : Tree). IsTextOf (value_at c.store.result.now.held) u (string_bytes c.in-Ok.term)) c.variable-variable.ensures c.in-Ok.ensures.text) in
     let same : t.items ≡ lined (c.args.word.now ++ (codes " = " ++ string_bytes c.in-Ok.term)) =
     told ∙ ap (λ (l : List ℕ). lined (c.args.word.now ++ (codes " = " ++ l))) c.as_str.ensures.value in
     subst (RepliesToShow w c.args.core.now.names c.args.word.now) (sym same) (shows c.in-Some.x (string_bytes c.in-Ok.term) c.in-Some.ensures.found text c.in-Ok.ensures.short))
@@ -30,7 +30,7 @@ returns c = if_ok c.refused-in-Err.result c.refused-in-Err.ensures.text c.refuse
       long.0,
       (
         subst (λ (s : StoreValue). IsTextOf (value_at s) (variable c.in-Some.x) long.0) c.store.ensures
-            (subst (λ (u : Tree). IsTextOf (value_at c.store.result.now) u long.0) c.variable-variable.ensures long.1.0),
+            (subst (λ (u : Tree). IsTextOf (value_at c.store.result.now.held) u long.0) c.variable-variable.ensures long.1.0),
         long.1.1,
       ),
     ))

@@ -1,22 +1,20 @@
 use Rattle.std.proofs.Common.{◌≡◌, inl, inr, refl, subst, sym, ap, ◌∙◌, Some, Option, ℕ}
 use Rattle.std.specs.FinMap as finite
+use Rattle.ghc_term.specs.declared.fault.Fault.{Fault}
 use Rattle.ghc_term.specs.declared.goal_name.GoalName.{GoalName}
 use Rattle.ghc_fire.specs.declared.act.Act.{Act}
 use Rattle.ghc_fire.specs.Effect.{Effect}
-use Rattle.ghc_fire.specs.Attempt.{proposes}
+use Rattle.ghc_fire.specs.Attempt.{Answer, proposes, refused}
 use Rattle.ghc_fire.specs.Proposal.{Proposal}
 use Rattle.ghc_core.specs.World.{World}
 use Rattle.ghc_core.specs.Core.{choice_of}
 use Rattle.ghc_core.specs.Proposes.{AttemptAnswers, StillHolds, IsReduction}
-use Rattle.ghc_core.proofs.Committing.{still_proposed, answered_holds}
+use Rattle.ghc_core.proofs.Committing.{not_refused, same_again, answered_holds}
 use Rattle.ghc_core.proofs.recheck.recheck.Goals as goal
 
--- a proposal that still holds is what an attempt at its goal, under this name and choice, proposes
-proposed_as : (w : World) (p : Proposal) (g : GoalName) (choice : Option ℕ) → g ≡ p.goal → choice ≡ choice_of p.act → StillHolds w p
-    → AttemptAnswers w g choice (proposes p.act p.effect)
-proposed_as w p g choice named chosen holds =
-    subst (λ (h : GoalName). AttemptAnswers w h choice (proposes p.act p.effect)) (sym named)
-    (subst (λ (k : Option ℕ). AttemptAnswers w p.goal k (proposes p.act p.effect)) (sym chosen) (still_proposed w p holds))
+-- an answer under this name and choice is one at the goal of the proposal
+of_proposal : (w : World) (p : Proposal) (g : GoalName) (choice : Option ℕ) (a : Answer) → g ≡ p.goal → choice ≡ choice_of p.act → AttemptAnswers w g choice a → AttemptAnswers w p.goal (choice_of p.act) a
+of_proposal w p g choice a named chosen t = subst (λ (h : GoalName). AttemptAnswers w h (choice_of p.act) a) named (subst (λ (k : Option ℕ). AttemptAnswers w g k a) chosen t)
 
 pub returns-in-Err-clause-fault : goal.returns-in-Err-clause-fault
 returns-in-Err-clause-fault c = elim c.stale_unless_memory.ensures [
@@ -24,10 +22,13 @@ returns-in-Err-clause-fault c = elim c.stale_unless_memory.ensures [
   | inr q ↦ inr (
     q.1,
     λ holds.
+        let w = c.args.core.now.world in
         let p = c.args.proposal.now in
-        let memory = c.in-Err.ensures.only p.act p.effect
-        (proposed_as c.args.core.now.world p c.goal.result c.clause_of-choice.result c.goal.ensures (c.clause_of-choice.ensures ∙ ap choice_of c.act.ensures) holds) in
-        q.0 (cc),
+        elim c.in-Err.ensures.answer.1 [
+          | inl memory ↦ q.0 memory
+          | inr t ↦ not_refused w c.stands.ensures.orderly.acyclic p c.in-Err.fault holds
+              (of_proposal w p c.goal.result c.clause_of-choice.result (refused c.in-Err.fault) c.goal.ensures (c.clause_of-choice.ensures ∙ ap choice_of c.act.ensures) t)
+        ],
   )
 ]
 
@@ -35,24 +36,22 @@ pub returns-in-Ok-true-clause-holds : goal.returns-in-Ok-true-clause-holds
 returns-in-Ok-true-clause-holds c =
     let w = c.args.core.now.world in
     let p = c.args.proposal.now in
-    let again = c.in-Ok.again in
-    let proposed = c.in-Ok.ensures.proposed in
-    let act : again.act ≡ p.act = c.in-Ok-true.ensures.acts c.in-Ok-true.field-0-test in
-    let effect : again.effect ≡ p.effect = c.in-Ok-true.ensures.effects c.in-Ok-true.field-0-test in
-    let there : finite.get w.state.goals p.goal ≡ Some again.consumed =
-    subst (λ (g : GoalName). finite.get w.state.goals g ≡ Some again.consumed) c.goal.ensures proposed.there in
-    let answers : AttemptAnswers w p.goal c.clause_of-choice.result (proposes p.act p.effect) =
-    subst (λ (a : Act). AttemptAnswers w p.goal c.clause_of-choice.result (proposes a p.effect)) act
-    (subst (λ (e : Effect). AttemptAnswers w p.goal c.clause_of-choice.result (proposes again.act e)) effect
-    (subst (λ (g : GoalName). AttemptAnswers w g c.clause_of-choice.result (proposes again.act again.effect)) c.goal.ensures proposed.proposed)) in
-    answered_holds w p c.clause_of-choice.result again.consumed there answers
+    let act : c.in-Ok.again.act ≡ p.act = c.in-Ok-true.ensures.acts c.in-Ok-true.field-0-test in
+    let effect : c.in-Ok.again.effect ≡ p.effect = c.in-Ok-true.ensures.effects c.in-Ok-true.field-0-test in
+    let there : finite.get w.state.goals p.goal ≡ Some c.in-Ok.again.consumed = subst (λ (g : GoalName). finite.get w.state.goals g ≡ Some c.in-Ok.again.consumed) c.goal.ensures c.in-Ok.ensures.answer.0.there in
+    let answers : AttemptAnswers w p.goal (choice_of p.act) (proposes p.act p.effect) =
+    subst (λ (a : Act). AttemptAnswers w p.goal (choice_of p.act) (proposes a p.effect)) act
+    (subst (λ (e : Effect). AttemptAnswers w p.goal (choice_of p.act) (proposes c.in-Ok.again.act e)) effect
+    (of_proposal w p c.goal.result c.clause_of-choice.result (proposes c.in-Ok.again.act c.in-Ok.again.effect) c.goal.ensures (c.clause_of-choice.ensures ∙ ap choice_of c.act.ensures) c.in-Ok.ensures.answer.0.proposed)) in
+    answered_holds w p (choice_of p.act) c.in-Ok.again.consumed there answers
 
 pub returns-in-Ok-false-clause-fault : goal.returns-in-Ok-false-clause-fault
 returns-in-Ok-false-clause-fault c = inr (
   refl,
   λ holds.
+      let w = c.args.core.now.world in
       let p = c.args.proposal.now in
-      let same = c.in-Ok.ensures.only p.act p.effect
-      (proposed_as c.args.core.now.world p c.goal.result c.clause_of-choice.result c.goal.ensures (c.clause_of-choice.ensures ∙ ap choice_of c.act.ensures) holds) in
+      let same = same_again w c.stands.ensures.orderly.acyclic p c.in-Ok.again.act c.in-Ok.again.effect holds
+      (of_proposal w p c.goal.result c.clause_of-choice.result (proposes c.in-Ok.again.act c.in-Ok.again.effect) c.goal.ensures (c.clause_of-choice.ensures ∙ ap choice_of c.act.ensures) c.in-Ok.ensures.answer.0.proposed) in
       c.in-Ok-false.ensures.no c.in-Ok-false.field-0-test (subst IsReduction (sym same.0) holds.1) same.0 same.1,
 )

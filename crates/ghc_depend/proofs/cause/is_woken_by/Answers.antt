@@ -8,7 +8,7 @@ use Rattle.ghc_depend.proofs.cause.is_woken_by.Goals.{then-can_wait, else-can_wa
 
 pub returns-then-was_there_before : goal.returns-then-was_there_before
 returns-then-was_there_before c =
-    let rs = c.args.records.now in
+    let rs = c.args.records.now.held in
     let b = c.args.later.now in
     elim c.if-can_wait.branch [
       | then-can_wait w ↦ if_some (slice_get rs c.args.place) (λ a there.

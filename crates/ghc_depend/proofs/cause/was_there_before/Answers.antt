@@ -7,7 +7,7 @@ use Rattle.ghc_depend.proofs.cause.was_there_before.Goals as goal
 
 pub returns-in_default-place_of : goal.returns-in_default-place_of
 returns-in_default-place_of c =
-    let rs = c.args.records.now in
+    let rs = c.args.records.now.held in
     if_some (slice_get rs c.args.place) (λ a there. (
       λ _. before_none rs c.len-count.ensures.distinct c.args.later.now c.in-Some.name (sym c.goal.ensures ∙ c.in-Some.is) c.in_default-place_of.ensures.none a,
       λ _. refl,
@@ -15,7 +15,7 @@ returns-in_default-place_of c =
 
 pub returns-then-not-makes_goal : goal.returns-then-not-makes_goal
 returns-then-not-makes_goal c =
-    let rs = c.args.records.now in
+    let rs = c.args.records.now.held in
     let at = sym c.at.ensures ∙ ap option_copied c.unwrap.ensures in
     let maker = c.unwrap.result.now in
     if_some (slice_get rs c.args.place) (λ a there. (
@@ -27,7 +27,7 @@ returns-then-not-makes_goal c =
 
 pub returns : goal.returns
 returns c =
-    let rs = c.args.records.now in
+    let rs = c.args.records.now.held in
     let b = c.args.later.now in
     let name = c.in-Some.name in
     let made = c.in-Some-place_of.made in

@@ -16,7 +16,7 @@ where_kept (Err e) kept n a own = (a, own)
 pub loop-index-init : goal.loop-index-init
 loop-index-init c =
     let a = c.unwrap-first.result.now in
-    let kept = c.args.records.now in
+    let kept = c.args.records.now.held in
     let place = c.in-Some.place in
     let at = sym c.at.ensures ∙ ap option_copied c.unwrap-first.ensures in (
       a,
@@ -27,7 +27,7 @@ loop-index-init c =
 
 pub loop-index-preserved : goal.loop-index-preserved
 loop-index-preserved c =
-    let kept = c.args.records.now in
+    let kept = c.args.records.now.held in
     let a = c.loop-index.invariant.0 in
     let own = c.loop-index.invariant.1 in
     let walked = c.loop-index.invariant.2 in
@@ -51,7 +51,7 @@ pub returns-clause-found : goal.returns-clause-found
 returns-clause-found c =
     let a = c.loop-index.invariant.0 in
     let walked = c.loop-index.invariant.2 in
-    (walked.found, inr (a, c.loop-index.invariant.1, finished c.args.records.now c.len-end.ensures.distinct a c.loop-index.index c.loop-index.found.items c.loop-index.affected.numbers.keys c.loop-index.affected.bound walked (omega (arith, c.loop-index-test.false, c.len-end.ensures.count))), walked.numbered)
+    (walked.found, inr (a, c.loop-index.invariant.1, finished c.args.records.now.held c.len-end.ensures.distinct a c.loop-index.index c.loop-index.found.items c.loop-index.affected.numbers.keys c.loop-index.affected.bound walked (omega (arith, c.loop-index-test.false, c.len-end.ensures.count))), walked.numbered)
 
 pub returns-in_default-clause-found : goal.returns-in_default-clause-found
 returns-in_default-clause-found c = ([], inl (c.in_default.ensures.none, refl), sym c.new-found.ensures.items)
@@ -59,16 +59,16 @@ returns-in_default-clause-found c = ([], inl (c.in_default.ensures.none, refl), 
 pub returns-in_err-add-clause-kept : goal.returns-in_err-add-clause-kept
 returns-in_err-add-clause-kept c =
     let a = c.unwrap-first.result.now in
-    where_kept c.from_residual.result c.args.records.now c.args.number a (kept_at c.args.records.now c.in-Some.place c.args.number a c.in-Some.ensures.found (sym c.at.ensures ∙ ap option_copied c.unwrap-first.ensures))
+    where_kept c.from_residual.result c.args.records.now.held c.args.number a (kept_at c.args.records.now.held c.in-Some.place c.args.number a c.in-Some.ensures.found (sym c.at.ensures ∙ ap option_copied c.unwrap-first.ensures))
 
 pub returns-in_err-add-2-clause-kept : goal.returns-in_err-add-2-clause-kept
-returns-in_err-add-2-clause-kept c = where_kept c.from_residual-in_err-add-2.result c.args.records.now c.args.number c.loop-index.invariant.0 c.loop-index.invariant.1
+returns-in_err-add-2-clause-kept c = where_kept c.from_residual-in_err-add-2.result c.args.records.now.held c.args.number c.loop-index.invariant.0 c.loop-index.invariant.1
 
 pub returns-in_err-push-clause-kept : goal.returns-in_err-push-clause-kept
-returns-in_err-push-clause-kept c = where_kept c.from_residual-in_err-push.result c.args.records.now c.args.number c.loop-index.invariant.0 c.loop-index.invariant.1
+returns-in_err-push-clause-kept c = where_kept c.from_residual-in_err-push.result c.args.records.now.held c.args.number c.loop-index.invariant.0 c.loop-index.invariant.1
 
 pub overflow_step-index : goal.overflow_step-index
-overflow_step-index c = omega (arith, place_within c.args.records.now c.in-Some.place c.unwrap-first.result.now (sym c.at.ensures ∙ ap option_copied c.unwrap-first.ensures))
+overflow_step-index c = omega (arith, place_within c.args.records.now.held c.in-Some.place c.unwrap-first.result.now (sym c.at.ensures ∙ ap option_copied c.unwrap-first.ensures))
 
 pub unwrap-taken-requires : goal.unwrap-taken-requires
-unwrap-taken-requires c = some_within c.args.records.now c.loop-index.index c.at-in-loop-index.result (omega arith) c.at-in-loop-index.ensures
+unwrap-taken-requires c = some_within c.args.records.now.held c.loop-index.index c.at-in-loop-index.result (omega arith) c.at-in-loop-index.ensures

@@ -22,7 +22,7 @@ returns-in-Refuses-clause-fault c =
     let clause = c.in-Some.clause.now in
     let name : clause.name ≡ c.args.name.now = search rules in
     let arity : length clause.head ≡ length c.args.arguments.now = search rules in
-    let refuses = subst (HasVerdict clause c.args.arguments.now (value_at c.args.store.now)) c.in-Refuses.is c.in_ok-verdict.ensures in
+    let refuses = subst (HasVerdict clause c.args.arguments.now (value_at c.args.store.now.held)) c.in-Refuses.is c.in_ok-verdict.ensures in
     inr (ChoiceAnswers.no_match c.in-Some.ensures.found (name, arity) refuses)
 
 pub returns-in-Waits-clause-fault : goal.returns-in-Waits-clause-fault
@@ -30,7 +30,7 @@ returns-in-Waits-clause-fault c =
     let clause = c.in-Some.clause.now in
     let name : clause.name ≡ c.args.name.now = search rules in
     let arity : length clause.head ≡ length c.args.arguments.now = search rules in
-    let waits = subst (HasVerdict clause c.args.arguments.now (value_at c.args.store.now)) c.in-Waits.is c.in_ok-verdict.ensures in
+    let waits = subst (HasVerdict clause c.args.arguments.now (value_at c.args.store.now.held)) c.in-Waits.is c.in_ok-verdict.ensures in
     inr (ChoiceAnswers.waits c.in-Some.ensures.found (name, arity) waits.1)
 
 pub returns-in-Reduces-clause-no_clause : goal.returns-in-Reduces-clause-no_clause
@@ -38,14 +38,14 @@ returns-in-Reduces-clause-no_clause c none =
     let clause = c.in-Some.clause.now in
     let name : clause.name ≡ c.args.name.now = search rules in
     let arity : length clause.head ≡ length c.args.arguments.now = search rules in
-    absurd (has_clause c.args.program.now c.args.name.now c.args.arguments.now (value_at c.args.store.now) c.args.number clause c.in-Some.ensures.found (name, arity) none)
+    absurd (has_clause c.args.program.now c.args.name.now c.args.arguments.now (value_at c.args.store.now.held) c.args.number clause c.in-Some.ensures.found (name, arity) none)
 
 pub returns-in-Reduces-clause-proposed : goal.returns-in-Reduces-clause-proposed
 returns-in-Reduces-clause-proposed c =
     let clause = c.in-Some.clause.now in
     let f = c.args.name.now in
     let ts = c.args.arguments.now in
-    let s = value_at c.args.store.now in
+    let s = value_at c.args.store.now.held in
     let v = subst (HasVerdict clause ts s) c.in-Reduces.is c.in_ok-verdict.ensures in
     let is : IsClause c.args.program.now c.args.number clause = c.in-Some.ensures.found in
     let name : clause.name ≡ f = search rules in

@@ -10,7 +10,7 @@ pub instance-requires : goal.instance-requires
 instance-requires c =
     let clause = c.args.clause.now in
     let ts = c.args.arguments.now in
-    let s = c.args.store.now in
+    let s = c.args.store.now.held in
     let o = subst (λ o. HasOutcome clause ts (value_at s) (told o c.in_ok-outcome.field-0.looked)) c.in-Accepts.is c.in_ok-outcome.ensures.outcome in
     behind_head c.head_variables-head_variables.result clause c.head_variables-head_variables.ensures.fresh c.in-Accepts.theta
     (λ y i. let t = stands s c.acyclic.ensures clause ts c.requires o.0.0 y i in (t.0, (o.1 y t.0).1 t.1))
@@ -19,7 +19,7 @@ pub returns-in_ok-makes-in-Accepts : goal.returns-in_ok-makes-in-Accepts
 returns-in_ok-makes-in-Accepts c =
     let clause = c.args.clause.now in
     let ts = c.args.arguments.now in
-    let s = value_at c.args.store.now in
+    let s = value_at c.args.store.now.held in
     let theta = c.in-Accepts.theta in
     let o = subst (λ o. HasOutcome clause ts s (told o c.in_ok-outcome.field-0.looked)) c.in-Accepts.is c.in_ok-outcome.ensures.outcome in
     let e = c.new-effect.ensures in

@@ -16,18 +16,18 @@ use Rattle.ghc_fire.proofs.equations.attempt_assignment.Goals as goal
 
 pub returns-in-Waits-clause-fault : goal.returns-in-Waits-clause-fault
 returns-in-Waits-clause-fault c =
-    let S = value_at c.args.store.now in
+    let S = value_at c.args.store.now.held in
     let waits = subst (λ v. HasValue S c.args.value.now (value_of v)) c.in-Waits.is c.in_ok-integer.ensures in
     waiting S c.args.left.now c.args.value.now c.in-Waits.field-0 waits
 
 pub returns-in-Bad-clause-fault : goal.returns-in-Bad-clause-fault
 returns-in-Bad-clause-fault c =
-    let none = subst (λ v. HasValue (value_at c.args.store.now) c.args.value.now (value_of v)) c.in-Bad.is c.in_ok-integer.ensures in
+    let none = subst (λ v. HasValue (value_at c.args.store.now.held) c.args.value.now (value_of v)) c.in-Bad.is c.in_ok-integer.ensures in
     inr (λ P. AssignmentAnswers.has_no_value none)
 
 pub returns-clause-effect : goal.returns-clause-effect
 returns-clause-effect c =
-    let S = value_at c.args.store.now in
+    let S = value_at c.args.store.now.held in
     let v = c.in-Number.integer in
     let fits : SFits w64 v = search rules in
     let worth = subst (λ v. HasValue S c.args.value.now (value_of v)) c.in-Number.is c.in_ok-integer.ensures in
@@ -40,7 +40,7 @@ returns-clause-effect c =
 
 pub returns-in_err-binds-clause-fault : goal.returns-in_err-binds-clause-fault
 returns-in_err-binds-clause-fault c =
-    let S = value_at c.args.store.now in
+    let S = value_at c.args.store.now.held in
     let v = c.in-Number.integer in
     let fits : SFits w64 v = search rules in
     let worth = subst (λ v. HasValue S c.args.value.now (value_of v)) c.in-Number.is c.in_ok-integer.ensures in

@@ -10,7 +10,7 @@ use Rattle.ghc_fire.proofs.expression_reads.add_chains.Goals as goal
 
 pub loop-part-preserved-in-Continue-branch-2 : goal.loop-part-preserved-in-Continue-branch-2
 loop-part-preserved-in-Continue-branch-2 c x =
-    let S = value_at c.args.store.now in
+    let S = value_at c.args.store.now.held in
     let rest = leaves (reverse c.pop.new.self.items) in
     let part = c.in-Some.part in
     let opened : leaves (reverse c.loop-part.waiting.items) ≡ leaf_variables part.now ++ rest = ap (λ l. leaves (reverse l)) c.in-Some.ensures.items ∙ ap leaves (reverse-append c.pop.new.self.items (part ∷ [])) in
@@ -21,7 +21,7 @@ loop-part-preserved-in-Continue-branch-2 c x =
 
 pub loop-part-preserved : goal.loop-part-preserved
 loop-part-preserved c x =
-    let S = value_at c.args.store.now in
+    let S = value_at c.args.store.now.held in
     let left = c.in-Operation.left in
     let right = c.in-Operation.right in
     let part = c.in-Some.part in

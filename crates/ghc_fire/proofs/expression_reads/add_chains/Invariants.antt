@@ -8,7 +8,7 @@ use Rattle.ghc_fire.proofs.expression_reads.add_chains.Given as goal
 
 abbrev pub invariant-loop-part : goal.invariant-loop-part
 invariant-loop-part l =
-    (x : VarName) → Gathers (value_at l.store) l.reads (leaves (reverse l.waiting.items)) x ↔ Gathers (value_at l.store) l.initial.reads (leaf_variables l.expression) x
+    (x : VarName) → Gathers (value_at l.store.held) l.reads (leaves (reverse l.waiting.items)) x ↔ Gathers (value_at l.store.held) l.initial.reads (leaf_variables l.expression) x
 
 abbrev pub decreases-loop-part : goal.decreases-loop-part
 decreases-loop-part l = parts (reverse l.waiting.items)

@@ -11,7 +11,7 @@ use Rattle.ghc_match.proofs.evaluation.evaluate.Goals as goal
 
 pub returns-then-len-gt0 : goal.returns-then-len-gt0
 returns-then-len-gt0 c =
-    let S = value_at c.args.store.now in
+    let S = value_at c.args.store.now.held in
     let names = c.deref.ensures.value ∙ c.in_ok-push_leaves.ensures ∙ ap (λ l. l ++ leaf_variables c.args.expression.now) c.new-names.ensures.items in
     let all = subst (λ l. IsSetOf c.in_ok-wanted.wanted (Wants (EndsIn S) l)) names c.in_ok-wanted.ensures in
     let some = member c.in_ok-wanted.wanted (omega (arith, c.len.ensures, c.if-len-gt0.true)) in
@@ -19,7 +19,7 @@ returns-then-len-gt0 c =
 
 pub returns : goal.returns
 returns c =
-    let S = value_at c.args.store.now in
+    let S = value_at c.args.store.now.held in
     let names = c.deref.ensures.value ∙ c.in_ok-push_leaves.ensures ∙ ap (λ l. l ++ leaf_variables c.args.expression.now) c.new-names.ensures.items in
     let all = subst (λ l. IsSetOf c.in_ok-wanted.wanted (Wants (EndsIn S) l)) names c.in_ok-wanted.ensures in
     let none : set.len c.in_ok-wanted.wanted ≡ 0 = omega (arith, c.len.ensures, c.if-len-gt0.false) in

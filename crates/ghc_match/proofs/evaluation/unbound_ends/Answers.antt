@@ -17,7 +17,7 @@ loop-name-init c x = (λ h. absurd (holds_nothing c.new-wanted.result c.new-want
 
 pub loop-name-preserved : goal.loop-name-preserved
 loop-name-preserved c =
-    let S = value_at c.args.store.now in
+    let S = value_at c.args.store.now.held in
     let y = get_or c.args.names.now c.loop-name.name-index (record { step = 0; place = 0 }) in
     let goes = has_more (λ z x. EndsIn S z (variable x)) c.loop-name.wanted c.match-end_of.wanted (take c.loop-name.name-index c.args.names.now) y c.loop-name.invariant in
     subst (λ l. IsSetOf c.match-end_of.wanted (Wants (EndsIn S) l)) (sym (take_more c.args.names.now c.loop-name.name-index (record { step = 0; place = 0 }) c.loop-name-test.true))

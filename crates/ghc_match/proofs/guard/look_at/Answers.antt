@@ -9,14 +9,14 @@ use Rattle.ghc_match.proofs.guard.look_at.Goals as goal
 
 pub returns-in-Var-clause-wanted : goal.returns-in-Var-clause-wanted
 returns-in-Var-clause-wanted c =
-    let S = value_at c.args.store.now in
+    let S = value_at c.args.store.now.held in
     let m = c.args.stands.now in
     let l = subst (ChainEnds S c.in-Some.term.now) (sym c.in-Var.ensures.shown) c.in_ok-end.ensures.end in
     after_unbound (StandsAndEnds m S c.args.name) c.args.wanted.now c.insert.new.self c.in-Var.x (stands_ends_once m S c.args.name) (c.in-Some.term.now, sym c.in-Some.ensures, l) c.in_ok-insert.ensures.ok
 
 pub returns-clause-waits : goal.returns-clause-waits
 returns-clause-waits c =
-    let S = value_at c.args.store.now in
+    let S = value_at c.args.store.now.held in
     let m = c.args.stands.now in
     let v : IsValue c.in_ok-end.end.now = subst IsValue c.view.ensures.shown (shown_value c.view.result c.in_default-view.not-Var) in (
       λ h. absurd (let clash : false ≡ true = h in cc),
@@ -25,7 +25,7 @@ returns-clause-waits c =
 
 pub returns-clause-wanted : goal.returns-clause-wanted
 returns-clause-wanted c =
-    let S = value_at c.args.store.now in
+    let S = value_at c.args.store.now.held in
     let m = c.args.stands.now in
     let v : IsValue c.in_ok-end.end.now = subst IsValue c.view.ensures.shown (shown_value c.view.result c.in_default-view.not-Var) in
     after_other (StandsAndEnds m S c.args.name) c.args.wanted.now c.args.wanted.now

@@ -15,7 +15,7 @@ zero_name = record { step = 0; place = 0 }
 
 pub loop-name-preserved : goal.loop-name-preserved
 loop-name-preserved c =
-    let S = value_at c.args.store.now in
+    let S = value_at c.args.store.now.held in
     let m = c.args.stands.now in
     let ends = λ (y x : VarName). StandsAndEnds m S y (variable x) in
     let passes = λ (y x : VarName). StandsAndPasses m S y x in

@@ -19,13 +19,13 @@ pub loop-test-init : goal.loop-test-init
 loop-test-init c = record {
   no = λ g i. absurd i;
   wants = λ x. (λ h. absurd (holds_nothing c.new-wanted.result c.new-wanted.ensures x h), λ w. absurd w.1);
-  looks = gains_nothing (λ (g : Test) x. PassedFrom c.args.stands.now (value_at c.args.store.now) (variables_of_test g) x) c.args.looked.now;
+  looks = gains_nothing (λ (g : Test) x. PassedFrom c.args.stands.now (value_at c.args.store.now.held) (variables_of_test g) x) c.args.looked.now;
 }
 
 pub loop-test-preserved : goal.loop-test-preserved
 loop-test-preserved c =
     let m = c.args.stands.now in
-    let S = value_at c.args.store.now in
+    let S = value_at c.args.store.now.held in
     let E = StandsAndEnds m S in
     let wants_of = λ (g : Test) (x : VarName). Wants E (variables_of_test g) x in
     let passed_by = λ (g : Test) (x : VarName). PassedFrom m S (variables_of_test g) x in
@@ -44,5 +44,5 @@ loop-test-preserved c =
 
 pub returns-clause-no : goal.returns-clause-no
 returns-clause-no c =
-    let E = StandsAndEnds c.args.stands.now (value_at c.args.store.now) in
+    let E = StandsAndEnds c.args.stands.now (value_at c.args.store.now.held) in
     subst (λ l. OneSaysNo E l c.loop-test.says_no) (take_all c.loop-test.test-index c.args.tests.now (omega (arith, c.loop-test-test.false))) c.loop-test.invariant.no

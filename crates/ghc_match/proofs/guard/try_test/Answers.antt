@@ -9,16 +9,16 @@ use Rattle.ghc_match.proofs.guard.try_test.Goals as goal
 pub returns-then-branch-clause-wanted : goal.returns-then-branch-clause-wanted
 returns-then-branch-clause-wanted c =
     let names = c.deref.ensures.value ∙ c.in_ok-names.ensures in
-    subst (λ l. Gains c.args.wanted.now c.look_at_all.new.wanted (Wants (StandsAndEnds c.args.stands.now (value_at c.args.store.now)) l)) names c.in_ok-look_at_all.ensures.wanted
+    subst (λ l. Gains c.args.wanted.now c.look_at_all.new.wanted (Wants (StandsAndEnds c.args.stands.now (value_at c.args.store.now.held)) l)) names c.in_ok-look_at_all.ensures.wanted
 
 pub returns-then-branch-clause-looked : goal.returns-then-branch-clause-looked
 returns-then-branch-clause-looked c =
     let names = c.deref.ensures.value ∙ c.in_ok-names.ensures in
-    subst (λ l. Gains c.args.looked.now c.look_at_all.new.looked (PassedFrom c.args.stands.now (value_at c.args.store.now) l)) names c.in_ok-look_at_all.ensures.looked
+    subst (λ l. Gains c.args.looked.now c.look_at_all.new.looked (PassedFrom c.args.stands.now (value_at c.args.store.now.held) l)) names c.in_ok-look_at_all.ensures.looked
 
 pub returns-then-branch-2-clause-says : goal.returns-then-branch-2-clause-says
 returns-then-branch-2-clause-says c =
-    let E = StandsAndEnds c.args.stands.now (value_at c.args.store.now) in
+    let E = StandsAndEnds c.args.stands.now (value_at c.args.store.now.held) in
     let names = c.deref.ensures.value ∙ c.in_ok-names.ensures in (
       λ x w. let clash : false ≡ true = sym c.if-branch.false ∙ c.in_ok-look_at_all.ensures.waits.1 (x, subst (λ l. Wants E l x) (sym names) w) in cc,
       c.in_ok-holds.ensures.0 c.if-branch-2.true,
@@ -27,11 +27,11 @@ returns-then-branch-2-clause-says c =
 pub returns-then-branch-2-clause-looked : goal.returns-then-branch-2-clause-looked
 returns-then-branch-2-clause-looked c =
     let names = c.deref.ensures.value ∙ c.in_ok-names.ensures in
-    subst (λ l. Gains c.args.looked.now c.look_at_all.new.looked (PassedFrom c.args.stands.now (value_at c.args.store.now) l)) names c.in_ok-look_at_all.ensures.looked
+    subst (λ l. Gains c.args.looked.now c.look_at_all.new.looked (PassedFrom c.args.stands.now (value_at c.args.store.now.held) l)) names c.in_ok-look_at_all.ensures.looked
 
 pub returns-clause-says : goal.returns-clause-says
 returns-clause-says c =
-    let E = StandsAndEnds c.args.stands.now (value_at c.args.store.now) in
+    let E = StandsAndEnds c.args.stands.now (value_at c.args.store.now.held) in
     let names = c.deref.ensures.value ∙ c.in_ok-names.ensures in (
       λ x w. let clash : false ≡ true = sym c.if-branch.false ∙ c.in_ok-look_at_all.ensures.waits.1 (x, subst (λ l. Wants E l x) (sym names) w) in cc,
       λ h. let clash : false ≡ true = sym c.if-branch-2.false ∙ c.in_ok-holds.ensures.1 h in cc,
@@ -40,4 +40,4 @@ returns-clause-says c =
 pub returns-clause-looked : goal.returns-clause-looked
 returns-clause-looked c =
     let names = c.deref.ensures.value ∙ c.in_ok-names.ensures in
-    subst (λ l. Gains c.args.looked.now c.look_at_all.new.looked (PassedFrom c.args.stands.now (value_at c.args.store.now) l)) names c.in_ok-look_at_all.ensures.looked
+    subst (λ l. Gains c.args.looked.now c.look_at_all.new.looked (PassedFrom c.args.stands.now (value_at c.args.store.now.held) l)) names c.in_ok-look_at_all.ensures.looked

@@ -11,7 +11,7 @@ use Rattle.ghc_match.proofs.head.match_head.Goals as goal
 
 pub loop-head-init : goal.loop-head-init
 loop-head-init c =
-    let S = value_at c.args.store.now in
+    let S = value_at c.args.store.now.held in
     let hs = c.args.clause.now.head in
     let ts = c.args.arguments.now in
     let first : trees_of c.push_pairs.new.pending.items ≡ zip hs ts =
@@ -28,7 +28,7 @@ loop-head-smaller c =
     let last : List (Bor Tree × Bor Tree) = (c.in-Some.head, c.in-Some.term) ∷ [] in
     let popped = ap trees_of c.in-Some.ensures.items ∙ trees_append c.pop.new.self.items last in
     let less : head_parts (trees_of c.visit.new.pending.items) < head_parts (trees_of c.loop-head.pending.items) =
-    walk_ends (value_at c.args.store.now) (trees_of c.loop-head.pending.items) (trees_of c.pop.new.self.items) (trees_of c.visit.new.pending.items) (c.in-Some.head.now, c.in-Some.term.now) popped c.in_ok-visit.ensures.opens in
+    walk_ends (value_at c.args.store.now.held) (trees_of c.loop-head.pending.items) (trees_of c.pop.new.self.items) (trees_of c.visit.new.pending.items) (c.in-Some.head.now, c.in-Some.term.now) popped c.in_ok-visit.ensures.opens in
     less
 
 pub loop-head-preserved : goal.loop-head-preserved
@@ -37,13 +37,13 @@ loop-head-preserved c =
     let popped = ap trees_of c.in-Some.ensures.items ∙ trees_append c.pop.new.self.items last in
     let old = c.loop-head.met in
     let new = c.visit.new.met in
-    head_goes_on (value_at c.args.store.now) c.args.clause.now.head c.args.arguments.now old.clashes new.clashes old.stands new.stands old.wanted new.wanted old.looked new.looked
+    head_goes_on (value_at c.args.store.now.held) c.args.clause.now.head c.args.arguments.now old.clashes new.clashes old.stands new.stands old.wanted new.wanted old.looked new.looked
     (trees_of c.loop-head.pending.items) (trees_of c.pop.new.self.items) (trees_of c.visit.new.pending.items) (c.in-Some.head.now, c.in-Some.term.now)
     c.loop-head.invariant popped c.in_ok-visit.ensures.clashes c.in_ok-visit.ensures.stands c.in_ok-visit.ensures.wanted c.in_ok-visit.ensures.looked c.in_ok-visit.ensures.opens
 
 pub returns : goal.returns
 returns c =
-    let S = value_at c.args.store.now in
+    let S = value_at c.args.store.now.held in
     let met = c.loop-head.met in
     let none = nothing_ahead c.loop-head.pending.items _ c.loop-head.pending.ok.0 c.in_default.ensures.cases.0 in
     let end = subst (HeadSoFar S c.args.clause.now.head c.args.arguments.now met.clashes met.stands met.wanted met.looked) none c.loop-head.invariant in

@@ -16,13 +16,13 @@ use Rattle.ghc_match.proofs.head.visit.Goals.{then-not-are_alike, else-not-are_a
 
 pub returns-in-Var-clause-opens : goal.returns-in-Var-clause-opens
 returns-in-Var-clause-opens c =
-    let s = c.args.store.now in
+    let s = c.args.store.now.held in
     let ch = chains s c.acyclic.ensures c.args.term.now in
     opens_nothing (value_at s) c.args.head.now c.args.term.now ch.1 (trees_of c.args.pending.now.items) (ap arguments (sym c.in-Var.ensures.shown)) (ch.0, ch.2)
 
 pub returns-in-Var-view : goal.returns-in-Var-view
 returns-in-Var-view c =
-    let S = value_at c.args.store.now in
+    let S = value_at c.args.store.now.held in
     let h = c.args.head.now in
     let t = c.args.term.now in
     let x = c.in-Var-view.x in
@@ -39,7 +39,7 @@ returns-in-Var-view c =
 
 pub returns-clause-clashes : goal.returns-clause-clashes
 returns-clause-clashes c =
-    let S = value_at c.args.store.now in
+    let S = value_at c.args.store.now.held in
     let h = c.args.head.now in
     let t = c.args.term.now in
     let e = c.in_ok-end.end.now in
@@ -63,7 +63,7 @@ returns-clause-stands c =
 
 pub returns-clause-wanted : goal.returns-clause-wanted
 returns-clause-wanted c =
-    let S = value_at c.args.store.now in
+    let S = value_at c.args.store.now.held in
     let e = c.in_ok-end.end.now in
     let ve : IsValue e = subst IsValue c.view-2.ensures.shown (shown_value c.view-2.result c.in_default-view.not-Var) in
     let same = asks_not S c.args.head.now c.args.term.now c.args.met.now.wanted e c.in_ok-end.ensures.end ve in
@@ -75,7 +75,7 @@ returns-clause-wanted c =
 
 pub returns-clause-looked : goal.returns-clause-looked
 returns-clause-looked c =
-    let S = value_at c.args.store.now in
+    let S = value_at c.args.store.now.held in
     let vh : IsValue c.args.head.now = subst IsValue c.view.ensures.shown (shown_value c.view.result c.in_default.not-Var) in
     let same = passed_by S c.args.head.now c.args.term.now c.args.met.now.looked c.follow_noting.new.looked vh c.in_ok-end.ensures.looked in
     let goes = λ (s : Variables). Gains c.args.met.now.looked s (Passed S c.args.head.now c.args.term.now) in

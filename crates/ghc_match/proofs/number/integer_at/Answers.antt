@@ -11,25 +11,25 @@ use Rattle.ghc_match.proofs.number.integer_at.Goals as goal
 
 pub returns-in-Int : goal.returns-in-Int
 returns-in-Int c =
-    let E = EndsAt c.args.scope c.args.store.now in
+    let E = EndsAt c.args.scope c.args.store.now.held in
     let fits : SFits w64 c.in-Int.k = search rules in
     subst (Number E (leaf c.args.term.now)) (sym (to_z-of_z w64 c.in-Int.k fits)) (subst (λ t. Number E (leaf t) c.in-Int.k) c.in-Int.ensures.shown of_integer)
 
 pub returns-in-Int-view : goal.returns-in-Int-view
 returns-in-Int-view c =
-    let E = EndsAt c.args.scope c.args.store.now in
+    let E = EndsAt c.args.scope c.args.store.now.held in
     let fits : SFits w64 c.in-Int-view.k = search rules in
     subst (Number E (leaf c.args.term.now)) (sym (to_z-of_z w64 c.in-Int-view.k fits))
     (subst (λ t. Number E (leaf t) c.in-Int-view.k) c.in-Var.ensures.shown (of_variable (subst (E c.in-Var.x) (sym c.in-Int-view.ensures.shown) c.in-Value.ensures.0)))
 
 pub returns-in_default-view : goal.returns-in_default-view
 returns-in_default-view c k n =
-    let E = EndsAt c.args.scope c.args.store.now in
+    let E = EndsAt c.args.scope c.args.store.now.held in
     let at = leaf_number E c.in-Var.x c.args.term.now k c.in-Var.ensures.shown n in
-    shown_no_integer c.view-in-Value.result c.in_default-view.not-Int k (c.view-in-Value.ensures.shown ∙ once_at c.args.scope c.args.store.now c.in-Var.x c.in-Value.value.now (integer k) c.in-Value.ensures.0 at)
+    shown_no_integer c.view-in-Value.result c.in_default-view.not-Int k (c.view-in-Value.ensures.shown ∙ once_at c.args.scope c.args.store.now.held c.in-Var.x c.in-Value.value.now (integer k) c.in-Value.ensures.0 at)
 
 pub returns-in_default-end_of : goal.returns-in_default-end_of
 returns-in_default-end_of c k n =
-    let E = EndsAt c.args.scope c.args.store.now in
-    no_value (E c.in-Var.x) c.end_of.result (λ e f p q. once_at c.args.scope c.args.store.now c.in-Var.x e f p q) c.in_default-end_of.not-Value c.end_of.ensures k
+    let E = EndsAt c.args.scope c.args.store.now.held in
+    no_value (E c.in-Var.x) c.end_of.result (λ e f p q. once_at c.args.scope c.args.store.now.held c.in-Var.x e f p q) c.in_default-end_of.not-Value c.end_of.ensures k
     (leaf_number E c.in-Var.x c.args.term.now k c.in-Var.ensures.shown n)

@@ -6,7 +6,7 @@ use Rattle.ghc_match.specs.Tasks.{Makes, steps}
 use Rattle.ghc_match.proofs.number.integer_of.Given as goal
 
 abbrev pub invariant-loop-task : goal.invariant-loop-task
-invariant-loop-task l = (k : ℤ) → Number (EndsAt l.scope l.store) l.expression k ↔ Makes (EndsAt l.scope l.store) (reverse l.tasks.items) (reverse l.values.items) k
+invariant-loop-task l = (k : ℤ) → Number (EndsAt l.scope l.store.held) l.expression k ↔ Makes (EndsAt l.scope l.store.held) (reverse l.tasks.items) (reverse l.values.items) k
 
 abbrev pub decreases-loop-task : goal.decreases-loop-task
 decreases-loop-task l = steps (reverse l.tasks.items)

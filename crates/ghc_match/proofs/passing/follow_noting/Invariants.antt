@@ -12,9 +12,9 @@ use Rattle.ghc_match.proofs.passing.follow_noting.Given as goal
 
 abbrev pub invariant-loop-x : goal.invariant-loop-x
 invariant-loop-x l = record {
-  ends : (e : Tree) → ChainEnds (value_at l.store) l.place e → ChainEnds (value_at l.store) l.fn.term e;
-  looks : (x : VarName) → (IsTrue (set.contains l.looked x) ⊎ Passes (value_at l.store) l.place x) ↔ (IsTrue (set.contains l.initial.looked x) ⊎ Passes (value_at l.store) l.fn.term x);
+  ends : (e : Tree) → ChainEnds (value_at l.store.held) l.place e → ChainEnds (value_at l.store.held) l.fn.term e;
+  looks : (x : VarName) → (IsTrue (set.contains l.looked x) ⊎ Passes (value_at l.store.held) l.place x) ↔ (IsTrue (set.contains l.initial.looked x) ⊎ Passes (value_at l.store.held) l.fn.term x);
 }
 
 abbrev pub decreases-loop-x : goal.decreases-loop-x
-decreases-loop-x l = walk (finite.len l.store + 1) l.store l.place
+decreases-loop-x l = walk (finite.len l.store.held + 1) l.store.held l.place

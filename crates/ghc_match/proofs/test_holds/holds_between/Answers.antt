@@ -13,7 +13,7 @@ use Rattle.ghc_match.proofs.test_holds.holds_between.Goals as goal
 
 pub returns : goal.returns
 returns c =
-    let S = value_at c.args.store.now in
+    let S = value_at c.args.store.now.held in
     let m = c.args.stands.now in
     let once = stands_ends_once m S in
     let left = subst (IsWorth (StandsAndEnds m S) c.args.left.now) c.in-Some.is c.in_ok-x.ensures in

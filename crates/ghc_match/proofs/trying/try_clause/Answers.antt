@@ -23,7 +23,7 @@ pub returns-clause-outcome : goal.returns-clause-outcome
 returns-clause-outcome c =
     let k = c.args.clause.now in
     let ts = c.args.arguments.now in
-    let S = value_at c.args.store.now in
+    let S = value_at c.args.store.now.held in
     let met = c.in_ok-met.met in
     let said = c.in_ok-said.said in
     let stand = c.in_ok-met.ensures.stands in
@@ -56,7 +56,7 @@ returns-clause-outcome c =
 
 pub returns-clause-looked : goal.returns-clause-looked
 returns-clause-looked c =
-    let S = value_at c.args.store.now in
+    let S = value_at c.args.store.now.held in
     let met = c.in_ok-met.met in
     let looked = c.try_guard.new.looked in
     let gains = subst (λ gs. Gains met.looked looked (GuardLooksAt met.stands S gs)) c.tests.ensures c.in_ok-said.ensures.looked in

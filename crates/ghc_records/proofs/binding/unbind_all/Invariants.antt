@@ -2,4 +2,4 @@ use Rattle.ghc_records.proofs.Bound.{IsUnbound}
 use Rattle.ghc_records.proofs.binding.unbind_all.Given as goal
 
 abbrev pub invariant-loop-x : goal.invariant-loop-x
-invariant-loop-x l = IsUnbound l.binds l.initial.store l.store l.x-iterator
+invariant-loop-x l = IsUnbound l.binds l.initial.store.held l.store.held l.x-iterator

@@ -1,20 +1,22 @@
-use Rattle.std.proofs.Common.{◌+◌, ◌<◌, length, sym, ap, ◌∙◌, arith}
+use Rattle.std.proofs.Common.{◌≡◌, ◌≤◌, ◌+◌, ◌-◌, ℕ, List, [], ◌∷◌, ◌++◌, length, sym, ap, ◌∙◌, arith, length-append}
 use Rattle.std.specs.FinMap as finite
-use Rattle.ghc_records.specs.State.{without_makes}
-use Rattle.ghc_records.proofs.Allowed.{allowed}
-use Rattle.ghc_records.proofs.Made.{made_next, unmade}
+use Rattle.ghc_term.specs.Goal.{Goal}
+use Rattle.ghc_fire.specs.Goals.{Goals}
+use Rattle.ghc_records.specs.Record.{with_makes}
+use Rattle.ghc_records.proofs.Made.{name, last_first}
 use Rattle.ghc_records.proofs.making.make_goals.Goals as goal
 
-pub returns-in-Err-clause-err : goal.returns-in-Err-clause-err
-returns-in-Err-clause-err c =
-    c.unmake_goals.ensures ∙ ap (without_makes c.args.step c.loop-index.index) (c.in-Err.ensures.err ∙ c.loop-index.invariant)
-    ∙ unmade c.args.step c.args.makes.now c.args.goals.now.held c.loop-index.index c.requires (omega arith)
+-- where the last goal of a list was put there, the others are left to be put there
+next : (all left : List Goal) (g : Goal) (n place : ℕ) (m t last : Goals) → all ≡ left ++ g ∷ [] → place ≡ length all → t ≡ finite.insert m (name n place) g → with_makes n 1 all m ≡ last → with_makes n 1 left t ≡ last
+next all left g n place m t last split here made h =
+    let long = ap length split ∙ length-append left (g ∷ []) in
+    let behind : place ≡ 1 + length left = omega (arith, long, here) in
+    ap (with_makes n 1 left) (made ∙ ap (λ i. finite.insert m (name n i) g) behind) ∙ sym (last_first n 1 left g m) ∙ ap (λ l. with_makes n 1 l m) (sym split) ∙ h
 
-pub loop-index-preserved : goal.loop-index-preserved
-loop-index-preserved c =
-    let n = c.args.step in
-    let k = c.loop-index.index in
-    let item = c.index-makes-index.result in
-    let less : k < length c.args.makes.now = omega arith in
-    allowed c.insert_shared.result c.in_default-insert_shared.not-Err c.insert_shared.ensures.ok ∙ ap (λ m. finite.insert m (record { step = n; place = k + 1 }) item) c.loop-index.invariant
-    ∙ ap (finite.insert _ (record { step = n; place = k + 1 })) c.index-makes-index.is ∙ sym (made_next n c.args.makes.now c.args.goals.now.held k item less)
+pub loop-goal-preserved : goal.loop-goal-preserved
+loop-goal-preserved c =
+    let long = ap length c.in-Some.ensures.items ∙ length-append c.pop.new.self.items (c.in-Some.goal ∷ []) in (
+      omega (arith, long, c.loop-goal.invariant.0),
+      omega (arith, long, c.loop-goal.invariant.1, c.put.ensures.room),
+      next c.loop-goal.makes.items c.pop.new.self.items c.in-Some.goal c.args.step c.loop-goal.place c.loop-goal.goals.held c.put.new.self.held _ c.in-Some.ensures.items c.loop-goal.invariant.0 c.put.ensures.held c.loop-goal.invariant.2,
+    )

@@ -1,6 +1,11 @@
-use Rattle.std.proofs.Common.{◌≡◌, take}
+use Rattle.std.proofs.Common.{◌≡◌, ◌≤◌, length}
 use Rattle.ghc_records.specs.Record.{with_makes}
 use Rattle.ghc_records.proofs.making.make_goals.Given as goal
 
-abbrev pub invariant-loop-index : goal.invariant-loop-index
-invariant-loop-index l = l.goals.held ≡ with_makes l.step 1 (take l.index l.makes) l.initial.goals.held
+abbrev pub invariant-loop-goal : goal.invariant-loop-goal
+invariant-loop-goal l =
+    (l.place ≡ length l.makes.items) × (length l.makes.items ≤ l.goals.room)
+    × (with_makes l.step 1 l.makes.items l.goals.held ≡ with_makes l.step 1 l.initial.makes.items l.initial.goals.held)
+
+abbrev pub decreases-loop-goal : goal.decreases-loop-goal
+decreases-loop-goal l = length l.makes.items

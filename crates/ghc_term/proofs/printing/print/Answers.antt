@@ -9,7 +9,7 @@ use Rattle.ghc_term.proofs.printing.print.Goals as goal
 
 pub returns-in-Ok-clause-text : goal.returns-in-Ok-clause-text
 returns-in-Ok-clause-text c =
-    let known = resolution c.args.store.now c.acyclic.ensures in
+    let known = resolution c.args.store.now.held c.acyclic.ensures in
     let r = known.0 in
     is_text r known.1 c.args.term.now _ (
     c.in-Ok.ensures.text r known.1 ∙ ap (λ l. l ++ pieces_text r c.push.new.self.items) c.new-out.ensures.bytes
@@ -17,7 +17,7 @@ returns-in-Ok-clause-text c =
 
 pub returns-in-Err-clause-too_long : goal.returns-in-Err-clause-too_long
 returns-in-Err-clause-too_long c e =
-    let known = resolution c.args.store.now c.acyclic.ensures in
+    let known = resolution c.args.store.now.held c.acyclic.ensures in
     let r = known.0 in
     let limit : c.in-Err.fault ≡ Limit Print = cc in (
       term_text (r c.args.term.now),

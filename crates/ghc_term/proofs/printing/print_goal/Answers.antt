@@ -8,7 +8,7 @@ use Rattle.ghc_term.proofs.printing.print_goal.Goals as goal
 
 pub returns-in-Ok-clause-text : goal.returns-in-Ok-clause-text
 returns-in-Ok-clause-text c =
-    let known = resolution c.args.store.now c.acyclic.ensures in
+    let known = resolution c.args.store.now.held c.acyclic.ensures in
     let r = known.0 in
     let text = goal_text_by r c.args.goal.now in
     let begun = c.in_ok-push_goal.ensures r known.1 in
@@ -18,7 +18,7 @@ returns-in-Ok-clause-text c =
 
 pub returns-in-Err-clause-too_long : goal.returns-in-Err-clause-too_long
 returns-in-Err-clause-too_long c e =
-    let known = resolution c.args.store.now c.acyclic.ensures in
+    let known = resolution c.args.store.now.held c.acyclic.ensures in
     let r = known.0 in
     let text = goal_text_by r c.args.goal.now in
     let begun = c.in_ok-push_goal.ensures r known.1 in

@@ -13,14 +13,14 @@ returns-then-len-limit-clause-too_long c _ r g =
 
 pub loop-pieces-smaller : goal.loop-pieces-smaller
 loop-pieces-smaller c =
-    let known = resolution c.args.store.now c.acyclic.ensures in
-    let w = measure c.args.store.now in
-    (taken known.0 w c.in-Some.piece _ _ _ _ _ c.in-Some.ensures.items (c.in_ok-push_piece-in-Some.ensures known.0 w known.1 (is_measure c.args.store.now c.acyclic.ensures))).1
+    let known = resolution c.args.store.now.held c.acyclic.ensures in
+    let w = measure c.args.store.now.held in
+    (taken known.0 w c.in-Some.piece _ _ _ _ _ c.in-Some.ensures.items (c.in_ok-push_piece-in-Some.ensures known.0 w known.1 (is_measure c.args.store.now.held c.acyclic.ensures))).1
 
 pub loop-pieces-preserved : goal.loop-pieces-preserved
 loop-pieces-preserved c r g =
-    let w = measure c.args.store.now in
-    (taken r w c.in-Some.piece _ _ _ _ _ c.in-Some.ensures.items (c.in_ok-push_piece-in-Some.ensures r w g (is_measure c.args.store.now c.acyclic.ensures))).0 ∙ c.loop-pieces.invariant r g
+    let w = measure c.args.store.now.held in
+    (taken r w c.in-Some.piece _ _ _ _ _ c.in-Some.ensures.items (c.in_ok-push_piece-in-Some.ensures r w g (is_measure c.args.store.now.held c.acyclic.ensures))).0 ∙ c.loop-pieces.invariant r g
 
 pub returns-in-None-clause-text : goal.returns-in-None-clause-text
 returns-in-None-clause-text c r g =

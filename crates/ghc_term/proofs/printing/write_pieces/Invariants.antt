@@ -8,7 +8,7 @@ use Rattle.ghc_term.proofs.printing.write_pieces.Given as goal
 
 abbrev pub invariant-loop-pieces : goal.invariant-loop-pieces
 invariant-loop-pieces l =
-    (r : Tree → Tree) → IsResolution (value_at l.store) r → string_bytes l.out ++ pieces_text r l.pieces.items ≡ string_bytes l.initial.out ++ pieces_text r l.initial.pieces.items
+    (r : Tree → Tree) → IsResolution (value_at l.store.held) r → string_bytes l.out ++ pieces_text r l.pieces.items ≡ string_bytes l.initial.out ++ pieces_text r l.initial.pieces.items
 
 abbrev pub decreases-loop-pieces : goal.decreases-loop-pieces
-decreases-loop-pieces l = pieces_size (measure l.store) l.pieces.items
+decreases-loop-pieces l = pieces_size (measure l.store.held) l.pieces.items

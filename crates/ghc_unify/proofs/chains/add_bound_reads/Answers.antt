@@ -19,10 +19,10 @@ loop-x-preserved c =
       | then-is_some+in_ok-insert w ↦
           let bound = some_copied _ _ c.get.ensures ∙ sym c.is_some.ensures ∙ w.if-is_some.true in
           w.reads-is ∙ w.in_ok-insert.ensures.ok ∙ ap (λ s. set.insert s (get_or c.args.passed.now c.loop-x.x-index zero_name)) c.loop-x.invariant
-          ∙ union_push c.args.reads.now (met (value_at c.args.store.now) (take c.loop-x.x-index c.args.passed.now)) (get_or c.args.passed.now c.loop-x.x-index zero_name)
-          ∙ ap (λ l. set.union c.args.reads.now (set.from_list l)) (sym (met_bound (value_at c.args.store.now) c.args.passed.now c.loop-x.x-index zero_name c.loop-x-test.true bound))
+          ∙ union_push c.args.reads.now (met (value_at c.args.store.now.held) (take c.loop-x.x-index c.args.passed.now)) (get_or c.args.passed.now c.loop-x.x-index zero_name)
+          ∙ ap (λ l. set.union c.args.reads.now (set.from_list l)) (sym (met_bound (value_at c.args.store.now.held) c.args.passed.now c.loop-x.x-index zero_name c.loop-x-test.true bound))
       | else-is_some w ↦
           let unbound = some_copied _ _ c.get.ensures ∙ sym c.is_some.ensures ∙ w.if-is_some.false in
           w.reads-is ∙ c.loop-x.invariant
-          ∙ ap (λ l. set.union c.args.reads.now (set.from_list l)) (sym (met_skip (value_at c.args.store.now) c.args.passed.now c.loop-x.x-index zero_name c.loop-x-test.true unbound))
+          ∙ ap (λ l. set.union c.args.reads.now (set.from_list l)) (sym (met_skip (value_at c.args.store.now.held) c.args.passed.now c.loop-x.x-index zero_name c.loop-x-test.true unbound))
     ]

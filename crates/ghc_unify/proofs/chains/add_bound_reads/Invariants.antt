@@ -5,4 +5,4 @@ use Rattle.ghc_unify.specs.Unify.{met}
 use Rattle.ghc_unify.proofs.chains.add_bound_reads.Given as goal
 
 abbrev pub invariant-loop-x : goal.invariant-loop-x
-invariant-loop-x l = l.reads ≡ set.union l.initial.reads (set.from_list (met (value_at l.store) (take l.x-index l.passed)))
+invariant-loop-x l = l.reads ≡ set.union l.initial.reads (set.from_list (met (value_at l.store.held) (take l.x-index l.passed)))

@@ -12,7 +12,7 @@ use Rattle.ghc_unify.proofs.solve.solve.Goals as goal
 
 pub loop-equations-init : goal.loop-equations-init
 loop-equations-init c =
-    begins (value_at c.args.store.now) c.args.left.now c.args.right.now _ _ _ c.requires.unbound c.requires.unread (ap reverse c.in_ok-equations.ensures)
+    begins (value_at c.args.store.now.held) c.args.left.now c.args.right.now _ _ _ c.requires.unbound c.requires.unread (ap reverse c.in_ok-equations.ensures)
 
 pub advance-requires : goal.advance-requires
 advance-requires c = still_acyclic c.loop-equations.invariant c.requires.acyclic
@@ -33,19 +33,19 @@ returns-in_err-x-clause-cycle c e =
 
 pub loop-equations-smaller : goal.loop-equations-smaller
 loop-equations-smaller c =
-    let S = value_at c.args.store.now in
+    let S = value_at c.args.store.now.held in
     let old = c.loop-equations.equations.items in
     let new = c.advance.new.equations.items in
     let next = goes_on c.loop-equations.invariant old new c.advance.new.reads c.in-Some.x c.in-Some.value c.insert.new.self refl
     (subst (Advances S (with_bindings c.loop-equations.solved.binds S) old new c.loop-equations.solved.reads c.advance.new.reads) c.in-Some.is c.in_ok-x.ensures.ok) c.in_ok-insert.ensures.ok in
-    let all = scope c.args.store.now c.args.left.now c.args.right.now in
+    let all = scope c.args.store.now.held c.args.left.now c.args.right.now in
     let less : length all - finite.len c.insert.new.self < length all - finite.len c.loop-equations.solved.binds =
-    falls_short c.args.store.now c.args.left.now c.args.right.now c.loop-equations.solved.binds c.insert.new.self c.advance.new.reads (reverse new) c.in-Some.x c.in-Some.value next.0 c.in_ok-insert.ensures.ok next.1 in
+    falls_short c.args.store.now.held c.args.left.now c.args.right.now c.loop-equations.solved.binds c.insert.new.self c.advance.new.reads (reverse new) c.in-Some.x c.in-Some.value next.0 c.in_ok-insert.ensures.ok next.1 in
     less
 
 pub loop-equations-preserved : goal.loop-equations-preserved
 loop-equations-preserved c =
-    let S = value_at c.args.store.now in
+    let S = value_at c.args.store.now.held in
     let old = c.loop-equations.equations.items in
     let new = c.advance.new.equations.items in
     let next = goes_on c.loop-equations.invariant old new c.advance.new.reads c.in-Some.x c.in-Some.value c.insert.new.self refl
@@ -54,7 +54,7 @@ loop-equations-preserved c =
 
 pub returns-clause-solved : goal.returns-clause-solved
 returns-clause-solved c =
-    let S = value_at c.args.store.now in
+    let S = value_at c.args.store.now.held in
     let old = c.loop-equations.equations.items in
     let new = c.advance.new.equations.items in
     ends c.loop-equations.invariant old new c.advance.new.reads refl

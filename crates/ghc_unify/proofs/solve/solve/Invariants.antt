@@ -7,7 +7,7 @@ use Rattle.ghc_unify.proofs.Scope.{scope}
 use Rattle.ghc_unify.proofs.solve.solve.Given as goal
 
 abbrev pub invariant-loop-equations : goal.invariant-loop-equations
-invariant-loop-equations l = Run (value_at l.store) l.left l.right l.solved.binds l.solved.reads (reverse l.equations.items)
+invariant-loop-equations l = Run (value_at l.store.held) l.left l.right l.solved.binds l.solved.reads (reverse l.equations.items)
 
 abbrev pub decreases-loop-equations : goal.decreases-loop-equations
-decreases-loop-equations l = length (scope l.store l.left l.right) - finite.len l.solved.binds
+decreases-loop-equations l = length (scope l.store.held l.left l.right) - finite.len l.solved.binds

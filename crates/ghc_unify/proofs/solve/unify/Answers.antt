@@ -11,7 +11,7 @@ use Rattle.ghc_unify.proofs.solve.unify.Goals as goal
 
 pub returns-in_err-solve : goal.returns-in_err-solve
 returns-in_err-solve c =
-    let S = value_at c.args.store.now in
+    let S = value_at c.args.store.now.held in
     let l = c.args.left.now in
     let r = c.args.right.now in
     let out = c.from_residual in
@@ -32,9 +32,9 @@ returns-in_err-solve c =
 pub returns-clause-exact : goal.returns-clause-exact
 returns-clause-exact c e k =
     let s = c.solve.new.solved in
-    inr (ap Some (one_ending (value_at c.args.store.now) c.args.left.now c.args.right.now (solved s.binds s.reads) e c.acyclic.ensures c.in_ok-solve.ensures.solved k))
+    inr (ap Some (one_ending (value_at c.args.store.now.held) c.args.left.now c.args.right.now (solved s.binds s.reads) e c.acyclic.ensures c.in_ok-solve.ensures.solved k))
 
 pub returns-clause-kept : goal.returns-clause-kept
 returns-clause-kept c =
     let s = c.solve.new.solved in
-    (solutions (value_at c.args.store.now) c.args.left.now c.args.right.now).solved s.binds s.reads c.in_ok-solve.ensures.solved
+    (solutions (value_at c.args.store.now.held) c.args.left.now c.args.right.now).solved s.binds s.reads c.in_ok-solve.ensures.solved

@@ -17,7 +17,7 @@ use Rattle.ghc_unify.proofs.step.step.Goals as goal
 
 pub returns-then-shared-clause-ok : goal.returns-then-shared-clause-ok
 returns-then-shared-clause-ok c =
-    let S = value_at c.args.store.now in
+    let S = value_at c.args.store.now.held in
     let a = c.in_ok-sides.sides.left.passed.items in
     let b = c.in_ok-sides.sides.right.passed.items in
     let parts = subst (Parts c.in_ok-sides.ensures.0 c.in_ok-sides.ensures.1 a b) c.if-shared.true c.in_ok-sides.ensures.4 in (
@@ -30,7 +30,7 @@ returns-then-shared-clause-ok c =
 
 pub returns-in_err-binding-clause-cycle : goal.returns-in_err-binding-clause-cycle
 returns-in_err-binding-clause-cycle c e =
-    let S = value_at c.args.store.now in
+    let S = value_at c.args.store.now.held in
     let a = c.in_ok-sides.sides.left.passed.items in
     let b = c.in_ok-sides.sides.right.passed.items in
     let parts = subst (Parts c.in_ok-sides.ensures.0 c.in_ok-sides.ensures.1 a b) c.if-shared.false c.in_ok-sides.ensures.4 in
@@ -42,7 +42,7 @@ returns-in_err-binding-clause-cycle c e =
 
 pub returns-in-Var-clause-ok : goal.returns-in-Var-clause-ok
 returns-in-Var-clause-ok c =
-    let S = value_at c.args.store.now in
+    let S = value_at c.args.store.now.held in
     let T = with_bindings c.args.binds.now S in
     let l = c.args.left.now in
     let r = c.args.right.now in
@@ -58,7 +58,7 @@ returns-in-Var-clause-ok c =
 
 pub returns-in_err-binding-2 : goal.returns-in_err-binding-2
 returns-in_err-binding-2 c =
-    let S = value_at c.args.store.now in
+    let S = value_at c.args.store.now.held in
     let T = with_bindings c.args.binds.now S in
     let a = c.in_ok-sides.sides.left.passed.items in
     let b = c.in_ok-sides.sides.right.passed.items in
@@ -74,7 +74,7 @@ returns-in_err-binding-2 c =
 
 pub returns-in-Var-view : goal.returns-in-Var-view
 returns-in-Var-view c =
-    let S = value_at c.args.store.now in
+    let S = value_at c.args.store.now.held in
     let T = with_bindings c.args.binds.now S in
     let l = c.args.left.now in
     let r = c.args.right.now in
@@ -99,7 +99,7 @@ returns-in-Var-view c =
 
 pub returns-in_err-meet : goal.returns-in_err-meet
 returns-in_err-meet c =
-    let S = value_at c.args.store.now in
+    let S = value_at c.args.store.now.held in
     let T = with_bindings c.args.binds.now S in
     let a = c.in_ok-sides.sides.left.passed.items in
     let b = c.in_ok-sides.sides.right.passed.items in
@@ -115,7 +115,7 @@ returns-in_err-meet c =
 
 pub returns : goal.returns
 returns c =
-    let S = value_at c.args.store.now in
+    let S = value_at c.args.store.now.held in
     let T = with_bindings c.args.binds.now S in
     let l = c.args.left.now in
     let r = c.args.right.now in

@@ -1,18 +1,29 @@
-use Rattle.std.proofs.Common.{subst, sym, ap, ◌∙◌}
+use Rattle.std.proofs.Common.{inl, inr, refl, subst, sym, ap, ◌∙◌}
+use Rattle.ghc_records.specs.Record.{Record}
 use Rattle.ghc_core.specs.World.{World, IsReplay, with_step}
 use Rattle.ghc_core.specs.Proposes.{IsCommitOf}
+use Rattle.ghc_core.proofs.Standing.{standing_replay, standing_well_made}
 use Rattle.ghc_core.proofs.core_state.Core.commit.Goals as goal
 
-pub returns-in-Err-clause-replay : goal.returns-in-Err-clause-replay
-returns-in-Err-clause-replay c = subst (λ (w : World). IsReplay w w.kept w.state) (sym c.in-Err.ensures.world) c.stands.ensures.replay
+pub returns-in_err-addition-clause-replay : goal.returns-in_err-addition-clause-replay
+returns-in_err-addition-clause-replay c = subst (λ (w : World). IsReplay w w.kept w.state) (sym c.in_err-addition.ensures.world) c.stands.ensures.replay
 
-pub take-requires : goal.take-requires
-take-requires c = (c.args.proposal.now, subst (λ (w : World). IsCommitOf w c.args.proposal.now c.in-Ok.step) (sym c.in-Ok.ensures.world) c.in-Ok.ensures.record)
+pub returns-in_err-reserve-clause-replay : goal.returns-in_err-reserve-clause-replay
+returns-in_err-reserve-clause-replay c = subst (λ (w : World). IsReplay w w.kept w.state) (sym (c.in_err-reserve.ensures.world ∙ c.in_ok-addition.ensures.world)) c.stands.ensures.replay
 
-pub returns-in-Ok-take-clause-step : goal.returns-in-Ok-take-clause-step
-returns-in-Ok-take-clause-step c = (
-  c.in-Ok.step,
-  c.in-Ok.ensures.record,
-  c.number-number.ensures ∙ c.in-Ok.ensures.record.1.0,
-  c.in-Ok-take.ensures.ok ∙ ap (with_step c.in-Ok.step) c.in-Ok.ensures.world,
-)
+pub apply-requires-clause-found : goal.apply-requires-clause-found
+apply-requires-clause-found c =
+    (c.args.proposal.now, subst (λ (w : World). IsCommitOf w c.args.proposal.now c.in_ok-addition.addition) (sym (c.in_ok-reserve.ensures.world ∙ c.in_ok-addition.ensures.world)) c.in_ok-addition.ensures.answer.0)
+
+pub returns-clause-answer : goal.returns-clause-answer
+returns-clause-answer c =
+    let same = c.in_ok-reserve.ensures.world ∙ c.in_ok-addition.ensures.world in
+    let step = c.in_ok-addition.addition in
+    let number = c.number-number.ensures ∙ ap (λ (r : Record). r.number) c.step.ensures ∙ c.in_ok-addition.ensures.answer.0.1.0 in
+    ((step, c.in_ok-addition.ensures.answer.0, number, c.apply.ensures.changed ∙ ap (with_step step) same), tt)
+
+pub returns-clause-replay : goal.returns-clause-replay
+returns-clause-replay c = standing_replay c.apply.new.self.world c.apply.ensures.standing
+
+pub returns-clause-well_made : goal.returns-clause-well_made
+returns-clause-well_made c = standing_well_made c.apply.new.self.world c.apply.ensures.standing

@@ -12,7 +12,7 @@ pub returns-in-Some-first_consequence-clause-fault : goal.returns-in-Some-first_
 returns-in-Some-first_consequence-clause-fault c =
     let first = c.in-Some-first_consequence.ensures.found in
     inr (subst (λ (x : Core). UndoFails x.world.kept c.args.number (Fault.HasConsequence c.in-Some-first_consequence.step)) c.self.view_is
-    (subst (λ n. UndoFails c.self.inside.records c.args.number (Fault.HasConsequence n)) first.4 (has_consequence first.0 first.1 first.2 first.3)))
+    (subst (λ n. UndoFails c.self.inside.records.held c.args.number (Fault.HasConsequence n)) first.4 (has_consequence first.0 first.1 first.2 first.3)))
 
 pub returns-in-Err-clause-fault : goal.returns-in-Err-clause-fault
 returns-in-Err-clause-fault c =

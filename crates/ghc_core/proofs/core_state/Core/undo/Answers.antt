@@ -6,7 +6,8 @@ use Rattle.ghc_core.specs.World.{World, IsReplay}
 use Rattle.ghc_core.specs.Core.{IsStanding}
 use Rattle.ghc_core.specs.Events.{undone}
 use Rattle.ghc_core.specs.Reverses.{Undoes, UndoFails}
-use Rattle.ghc_core.specs.Change.{Change, takes_away, CanChange, TakesAwayStep, Changes}
+use Rattle.ghc_core.specs.declared.change.Change.TheVariants.{TakesAway as takes_away}
+use Rattle.ghc_core.specs.Change.{Changes}
 use Rattle.ghc_core.proofs.Reversing.{undo_fails_once, undo_or_fail}
 use Rattle.ghc_core.proofs.Standing.{standing_replay, standing_well_made, standing_orderly}
 use Rattle.ghc_core.proofs.core_state.Core.undo.Goals as goal
@@ -18,31 +19,25 @@ cannot w s {n} r k none fails = undo_or_fail w n (standing_orderly w s).kept_onc
 one_refusal : (w : World) → IsStanding w → {n : ℕ} {f g : Fault} → UndoFails w.kept n f → UndoFails w.kept n g → f ≡ g
 one_refusal w s {n} p q = undo_fails_once w n (standing_orderly w s).kept_once p q
 
--- a step that can be taken away is not refused
-found_free : (w : World) → IsStanding w → {n : ℕ} {f : Fault} (change : Change) → CanChange w change → TakesAwayStep n change → ¬ UndoFails w.kept n f
-found_free w s (takes_away r) can number = cannot w s r (can.0, number) can.1
-
--- what a change takes away is undone
-undone_by : {w v : World} {n : ℕ} (change : Change) → TakesAwayStep n change → Changes w change v → Undoes ⊥ w n (undone (n ∷ [])) v
-undone_by {w} {v} (takes_away r) number changed = subst (λ n. Undoes ⊥ w n (undone (n ∷ [])) v) number changed
-
 pub returns-in-Err-clause-refused : goal.returns-in-Err-clause-refused
 returns-in-Err-clause-refused c f fails = elim c.in-Err.ensures.fault [
   | inl memory ↦ absurd (cannot c.args.self.now.world c.stands.ensures.standing memory.1.0 memory.1.1 memory.1.2 fails)
   | inr other ↦ ap Err (one_refusal c.args.self.now.world c.stands.ensures.standing other fails)
 ]
 
-pub returns-in-Ok-reserve-clause-refused : goal.returns-in-Ok-reserve-clause-refused
-returns-in-Ok-reserve-clause-refused c f fails = absurd (found_free c.args.self.now.world c.stands.ensures.standing c.in-Ok.change c.in-Ok.ensures.found c.in-Ok.ensures.step fails)
+pub returns-clause-refused : goal.returns-clause-refused
+returns-clause-refused c f fails = absurd (cannot c.args.self.now.world c.stands.ensures.standing c.in-Ok.removal (c.in-Ok.ensures.found.0, c.in-Ok.ensures.step) c.in-Ok.ensures.found.1 fails)
 
-pub returns-in-Err-reserve-clause-refused : goal.returns-in-Err-reserve-clause-refused
-returns-in-Err-reserve-clause-refused c f fails = absurd (found_free c.args.self.now.world c.stands.ensures.standing c.in-Ok.change c.in-Ok.ensures.found c.in-Ok.ensures.step fails)
+pub returns-in_err-reserve-clause-refused : goal.returns-in_err-reserve-clause-refused
+returns-in_err-reserve-clause-refused c f fails = absurd (cannot c.args.self.now.world c.stands.ensures.standing c.in-Ok.removal (c.in-Ok.ensures.found.0, c.in-Ok.ensures.step) c.in-Ok.ensures.found.1 fails)
 
-pub returns-in-Ok-reserve-clause-ok : goal.returns-in-Ok-reserve-clause-ok
-returns-in-Ok-reserve-clause-ok c = undone_by c.in-Ok.change c.in-Ok.ensures.step (subst (λ (w : World). Changes w c.in-Ok.change c.apply.new.self.world) c.reserve.ensures.world c.apply.ensures.changed)
+pub returns-clause-ok : goal.returns-clause-ok
+returns-clause-ok c =
+    subst (λ n. Undoes ⊥ c.args.self.now.world n (undone (n ∷ [])) c.apply.new.self.world) c.in-Ok.ensures.step
+    (subst (λ (w : World). Changes w (takes_away c.in-Ok.removal) c.apply.new.self.world) c.reserve.ensures.world c.apply.ensures.changed)
 
-pub returns-in-Ok-reserve-clause-well_made : goal.returns-in-Ok-reserve-clause-well_made
-returns-in-Ok-reserve-clause-well_made c = standing_well_made c.apply.new.self.world c.apply.ensures.standing
+pub returns-clause-well_made : goal.returns-clause-well_made
+returns-clause-well_made c = standing_well_made c.apply.new.self.world c.apply.ensures.standing
 
-pub returns-in-Err-reserve-clause-replay : goal.returns-in-Err-reserve-clause-replay
-returns-in-Err-reserve-clause-replay c = subst (λ (w : World). IsReplay w w.kept w.state) (sym c.reserve.ensures.world) c.stands.ensures.replay
+pub returns-in_err-reserve-clause-replay : goal.returns-in_err-reserve-clause-replay
+returns-in_err-reserve-clause-replay c = subst (λ (w : World). IsReplay w w.kept w.state) (sym c.reserve.ensures.world) c.stands.ensures.replay

@@ -1,6 +1,6 @@
 use Rattle.std.proofs.Common.{◌∙◌, ap}
 use Rattle.std.specs.FinMap as finite
-use Rattle.ghc_fire.proofs.Indexed.{value_is}
+use Rattle.ghc_term.proofs.Indexed.{value_is}
 use Rattle.ghc_fire.proofs.GoalNames.{goal_total, goal_antisymmetric, same, same_is}
 use Rattle.ghc_fire.proofs.goals.Goals.get.Goals as goal
 

@@ -1,6 +1,6 @@
 use Rattle.std.proofs.Common.{◌<◌, ◌∙◌, ap, sym, subst}
 use Rattle.std.specs.FinMap as finite
-use Rattle.ghc_fire.proofs.Indexed.{inserted, done}
+use Rattle.ghc_term.proofs.Indexed.{inserted, done}
 use Rattle.ghc_fire.proofs.GoalNames.{goal_total, goal_antisymmetric, same, same_is}
 use Rattle.ghc_fire.proofs.goals.Goals.put.Goals as goal
 

@@ -1,4 +1,4 @@
-use Rattle.std.proofs.Common.{◌≡◌, ◌≢◌, refl, sym, ◌∙◌, subst}
+use Rattle.std.proofs.Common.{◌≡◌, ◌≢◌, refl, sym, ap, ◌∙◌, subst}
 use Rattle.std.specs.Prelude.{Option, Some, None, IfSome, IfNone, option_copied}
 use Rattle.std.specs.Borrow.{Bor}
 use Rattle.ghc_term.specs.Lists.{In}
@@ -15,10 +15,10 @@ if_none None P f = f refl
 if_none (Some r) P f = tt
 
 pub returns-clause-found : goal.returns-clause-found
-returns-clause-found c = if_some c.get.result (λ r. In r c.args.self.now × (r.number ≡ c.args.number)) (λ r e.
+returns-clause-found c = if_some c.get.result (λ r. In r c.args.self.now.held × (r.number ≡ c.args.number)) (λ r e.
     let f = found c.args.number r c.self.inside.map.entries c.self.invariant (sym c.get.ensures.value ∙ e) in
-    (subst (In r) c.self.view_is f.0, f.1))
+    (subst (In r) (ap (λ t. t.held) c.self.view_is) f.0, f.1))
 
 pub returns-clause-none : goal.returns-clause-none
-returns-clause-none c = if_none c.get.result ((r : Record) → In r c.args.self.now → r.number ≢ c.args.number) (λ e r i.
-    not_found c.args.number c.self.inside.map.entries c.self.invariant (sym c.get.ensures.value ∙ e) r (subst (In r) (sym c.self.view_is) i))
+returns-clause-none c = if_none c.get.result ((r : Record) → In r c.args.self.now.held → r.number ≢ c.args.number) (λ e r i.
+    not_found c.args.number c.self.inside.map.entries c.self.invariant (sym c.get.ensures.value ∙ e) r (subst (In r) (sym (ap (λ t. t.held) c.self.view_is)) i))

@@ -30,11 +30,11 @@ pub invariant_of-self : goal.invariant_of-self
 invariant_of-self c = subst AreNumbered (sym c.shift_remove.ensures.entries) (numbered_left c.args.number c.self.inside.map.entries c.self.invariant)
 
 pub returns-clause-found : goal.returns-clause-found
-returns-clause-found c = if_found c.shift_remove.result c.self.inside.map.entries c.args.self.now c.args.number c.self.invariant c.self.view_is c.shift_remove.ensures.value
+returns-clause-found c = if_found c.shift_remove.result c.self.inside.map.entries c.args.self.now.held c.args.number c.self.invariant (ap (λ t. t.held) c.self.view_is) c.shift_remove.ensures.value
 
 pub returns-clause-rest : goal.returns-clause-rest
 returns-clause-rest c =
-    others c.shift_remove.result c.self.inside.map.entries c.shift_remove.new.self.entries c.args.self.now c.args.number c.self.invariant c.self.view_is c.len-count.ensures.distinct c.shift_remove.ensures.value c.shift_remove.ensures.entries
+    others c.shift_remove.result c.self.inside.map.entries c.shift_remove.new.self.entries c.args.self.now.held c.args.number c.self.invariant (ap (λ t. t.held) c.self.view_is) c.len-count.ensures.distinct c.shift_remove.ensures.value c.shift_remove.ensures.entries
 
 pub returns-clause-none : goal.returns-clause-none
-returns-clause-none c = if_none c.shift_remove.result c.self.inside.map.entries c.args.self.now c.args.number c.self.invariant c.self.view_is c.shift_remove.ensures.value
+returns-clause-none c = if_none c.shift_remove.result c.self.inside.map.entries c.args.self.now.held c.args.number c.self.invariant (ap (λ t. t.held) c.self.view_is) c.shift_remove.ensures.value

@@ -2,7 +2,7 @@ use Rattle.std.proofs.Common.{◌<◌, ◌∙◌, ap, sym, subst, nat_eq}
 use Rattle.std.specs.Cmp.{nat_cmp_total}
 use Rattle.std.specs.FinMap as finite
 use Rattle.std.specs.FinMap.{nat_cmp-IsAntisymmetric as nat_antisymmetric}
-use Rattle.ghc_fire.proofs.Indexed.{inserted, done}
+use Rattle.ghc_term.proofs.Indexed.{inserted, done}
 use Rattle.ghc_fire.proofs.GoalNames.{nat_same_is}
 use Rattle.ghc_records.proofs.shelf.Shelf.put.Goals as goal
 

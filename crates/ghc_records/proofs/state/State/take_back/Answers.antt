@@ -1,7 +1,5 @@
 use Rattle.std.proofs.Common.{rules, ◌≡◌, length, sym, subst}
-use Rattle.ghc_term.specs.Table.{Table}
-use Rattle.ghc_records.specs.Record.{State}
-use Rattle.ghc_records.specs.State.{with_goal, without_makes, GoalsTakenBack}
+use Rattle.ghc_records.specs.State.{StateTables, with_goal, without_makes, GoalsTakenBack}
 use Rattle.ghc_records.proofs.TakenBack.{goals_back}
 use Rattle.ghc_records.proofs.state.State.take_back.Goals as goal
 
@@ -11,6 +9,6 @@ returns-clause-state c =
     let m = c.self.inside.goals.held in
     let left : c.unmake_goals.new.goals.held ≡ without_makes r.number (length r.effect.makes) (with_goal r.goal r.consumed m) = search rules in
     record {
-      goals = subst (λ (t : Table State). GoalsTakenBack r t.held.goals c.unmake_goals.new.goals.held) c.self.view_is (subst (GoalsTakenBack r m) (sym left) (goals_back r m));
+      goals = subst (λ (t : StateTables). GoalsTakenBack r t.held.goals c.unmake_goals.new.goals.held) c.self.view_is (subst (GoalsTakenBack r m) (sym left) (goals_back r m));
       store = search rules;
     }

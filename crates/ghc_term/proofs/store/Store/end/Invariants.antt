@@ -8,7 +8,7 @@ use Rattle.ghc_term.proofs.Total.{walk}
 use Rattle.ghc_term.proofs.store.Store.end.Given as goal
 
 abbrev pub invariant-loop-x : goal.invariant-loop-x
-invariant-loop-x l = (xs : List VarName) (e : Tree) → Leads (value_at l.self) l.place xs e → (ys : List VarName) × Leads (value_at l.self) l.fn.term ys e
+invariant-loop-x l = (xs : List VarName) (e : Tree) → Leads (value_at l.self.held) l.place xs e → (ys : List VarName) × Leads (value_at l.self.held) l.fn.term ys e
 
 abbrev pub decreases-loop-x : goal.decreases-loop-x
-decreases-loop-x l = walk (finite.len l.self + 1) l.self l.place
+decreases-loop-x l = walk (finite.len l.self.held + 1) l.self.held l.place

@@ -1,0 +1,45 @@
+use Rattle.std.proofs.Common.{◌≡◌, ◌+◌, [], ◌∷◌, ◌++◌, refl, subst, sym, ap, ◌∙◌, arith}
+use Rattle.ghc_records.specs.Record.{Record}
+use Rattle.ghc_records.specs.State.{HasRoomToTake}
+use Rattle.ghc_records.specs.Journal.{fresh_opening}
+use Rattle.ghc_core.specs.World.{World, with_step}
+use Rattle.ghc_core.specs.Core.{Core, IsStanding}
+use Rattle.ghc_core.specs.Proposes.{IsCommitOf}
+use Rattle.ghc_core.proofs.Standing.{standing_well_made, standing_below}
+use Rattle.ghc_core.proofs.Taking.{stands}
+use Rattle.ghc_core.proofs.Preparing.{same_world}
+use Rattle.ghc_core.proofs.core_state.Core.add.Goals as goal
+
+-- the world before the step
+abbrev before : goal.After-self-1 → World
+before c = record { opening = fresh_opening c.self.inside.program c.self.inside.query.goals; state = c.self.inside.state.held; kept = c.self.inside.records.held; shelf = c.self.inside.shelf.held; next = c.self.inside.next; journal = c.self.inside.journal.held }
+
+pub take-step-requires-clause-acyclic : goal.take-step-requires-clause-acyclic
+take-step-requires-clause-acyclic c =
+    let commit = subst (λ (x : Core). IsCommitOf x.world c.requires.found.0 c.args.addition) (sym c.self.view_is) c.requires.found.1 in
+    (standing_well_made _ (stands _ c.requires.found.0 c.args.addition c.self.invariant commit)).acyclic
+
+pub put-requires-clause-new : goal.put-requires-clause-new
+put-requires-clause-new c r i same =
+    let commit = subst (λ (x : Core). IsCommitOf x.world c.requires.found.0 c.args.addition) (sym c.self.view_is) c.requires.found.1 in
+    let below = standing_below _ c.self.invariant r i in
+    let number = commit.1.0 in
+    let taken : c.take-step.result.0.number ≡ c.args.addition.number = ap (λ (q : Record). q.number) c.take-step.ensures.record in
+    omega (arith, below, number, same, taken)
+
+-- the world that is left is the one with the step
+left : (c : goal.After-self-1)
+    → record { opening = fresh_opening c.self.inside.program c.self.inside.query.goals; state = c.take-step.new.self.held; kept = c.put.new.self.held; shelf = c.self.inside.shelf.held; next = c.self.inside.next + 1; journal = c.put-2.new.self.held }
+    ≡ with_step c.args.addition (before c)
+left c =
+    same_world (fresh_opening c.self.inside.program c.self.inside.query.goals) (c.self.inside.next + 1) c.take-step.ensures.state
+    (c.put.ensures.held ∙ ap (λ (r : Record). c.self.inside.records.held ++ r ∷ []) c.take-step.ensures.record) refl
+    (c.put-2.ensures.held ∙ ap (λ e. c.self.inside.journal.held ++ e ∷ []) c.take-step.ensures.entry)
+
+pub invariant_of-self : goal.invariant_of-self
+invariant_of-self c =
+    let commit = subst (λ (x : Core). IsCommitOf x.world c.requires.found.0 c.args.addition) (sym c.self.view_is) c.requires.found.1 in
+    subst IsStanding (sym (left c)) (stands _ c.requires.found.0 c.args.addition c.self.invariant commit)
+
+pub returns-clause-world : goal.returns-clause-world
+returns-clause-world c = left c ∙ ap (λ (x : Core). with_step c.args.addition x.world) c.self.view_is

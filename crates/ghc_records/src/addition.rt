@@ -1,0 +1,93 @@
+// Steps to be taken, each with all that this takes.
+ghost use Rattle.std.specs.Prelude.{◌≡◌, IfOk};
+ghost use Rattle.std.specs.FinMap as finite;
+ghost use Rattle.ghc_records.specs.State.{AreBindings};
+
+use crate::entry::Entry;
+use crate::record::Record;
+use ghc_term::{Bindings, Goal, Term, VarName};
+use std::alloc::{AllocError, Global};
+use std::marker::Model;
+
+/// The record of a step that is to be taken, its entry in the journal, and handles of the goals that it makes and of the terms
+/// to which it binds variables. To take it takes no memory but room in each table.
+#[derive(Drop)]
+pub struct Addition {
+    pub(crate) step: Record,
+    pub(crate) entry: Entry,
+    pub(crate) makes: Vec<Goal>,
+    pub(crate) made: u32,
+    pub(crate) binds: Vec<(VarName, Term)>,
+}
+
+impl Model for Addition {
+    ghost use Rattle.std.specs.Prelude.{◌≡◌, length};
+    ghost use Rattle.ghc_records.specs.Record.{Record};
+    ghost use Rattle.ghc_records.specs.RecordCode.{record_code};
+    ghost use Rattle.ghc_records.specs.Journal.{took, step_of};
+    ghost use Rattle.ghc_records.specs.EntryCode.{entry_of};
+    ghost use Rattle.ghc_records.specs.State.{AreBindings};
+
+    ghost Value = { Record };
+
+    ghost coded = { record_code };
+
+    ghost view = { λ a. a.step };
+
+    ghost invariant = { λ a. (entry_of a.entry ≡ took (step_of a.step)) × (a.makes.items ≡ a.step.effect.makes)
+        × (a.made ≡ length a.step.effect.makes) × AreBindings a.binds.items a.step.effect.binds };
+}
+
+// The goals once more.
+pub(crate) fn share_goals(alloc: Global, goals: &[Goal]) -> Result<Vec<Goal>, AllocError>
+    ensures { IfOk result (λ shared. shared.items ≡ goals.now) }
+{
+    let mut shared = Vec::new(alloc);
+    shared.reserve_exact(goals.len())?;
+    for goal in goals {
+        shared.push(goal.share()?)?;
+    }
+    Ok(shared)
+}
+
+// The bindings once more, in a list.
+fn share_binds(alloc: Global, binds: &Bindings) -> Result<Vec<(VarName, Term)>, AllocError>
+    ensures { IfOk result (λ shared. AreBindings shared.items binds.now) }
+{
+    let mut shared = Vec::new(alloc);
+    shared.reserve_exact(binds.len())?;
+    for (x, value) in binds.iter() {
+        shared.push((*x, value.share()?))?;
+    }
+    Ok(shared)
+}
+
+impl Addition {
+    /// What it takes to take this step, with handles of its own: one step for each goal and each binding. Fails for want of
+    /// memory, or where a count of handles is full.
+    pub fn of(alloc: Global, step: Record) -> Result<Addition, AllocError>
+        ensures { IfOk result (λ a. a ≡ step) }
+    {
+        let entry = Entry::Took(step.step()?);
+        let effect = step.effect();
+        let Ok(made) = u32::try_from(effect.makes().len()) else {
+            return Err(AllocError);
+        };
+        let makes = share_goals(alloc, effect.makes())?;
+        let binds = share_binds(alloc, effect.binds())?;
+        Ok(Addition {
+            step,
+            entry,
+            makes,
+            made,
+            binds,
+        })
+    }
+
+    /// The record of the step.
+    pub fn step(&self) -> &Record
+        ensures { result.now ≡ self.now }
+    {
+        &self.step
+    }
+}
