@@ -1,6 +1,5 @@
 -- A text is read as one tree, or refused in one way.
-use Rattle.std.proofs.Common.{◌≡◌, ◌≢◌, ◌⊎◌, ℕ, ◌+◌, ◌-◌, ◌<◌, ◌≤◌, List, [], ◌∷◌, ◌++◌, length, take, drop, Option, Some, None, Result, Ok, Err, IfOk, IfErr, MatchResult, refl, sym, ap, subst, ◌∙◌, inl, inr, arith, append_assoc}
-use Rattle.std.specs.Prelude.{slice_get, ⊤}
+use Rattle.std.proofs.Common.{◌≡◌, ◌⊎◌, ℕ, ◌+◌, ◌-◌, ◌<◌, ◌≤◌, List, [], ◌++◌, length, take, drop, Some, None, Result, Ok, Err, IfOk, IfErr, MatchResult, refl, sym, ap, subst, ◌∙◌, inl, inr, arith, append_assoc}
 use Rattle.std.specs.Result.{IsErrAnd}
 use Rattle.std.proofs.lemmas.Bool.{cases_lt}
 use Rattle.std.proofs.lemmas.List.{take-append-drop, take-take}
@@ -14,10 +13,10 @@ use Rattle.ghc_reader.specs.declared.token.Token.{Token}
 use Rattle.ghc_reader.specs.declared.place.Place.{Place}
 use Rattle.ghc_reader.specs.declared.lexer.value.Reserved.TheVariants.{Refused}
 use Rattle.ghc_reader.specs.Places.{fault_at}
-use Rattle.ghc_reader.specs.Lexed.{IsLexed, IsBadAt, IsLexFault, most_bytes}
+use Rattle.ghc_reader.specs.Lexed.{IsLexFault}
 use Rattle.ghc_reader.specs.Depth.{IsTooDeep}
 use Rattle.ghc_reader.specs.Viable.{Viable, FaultAt, IfSyntax}
-use Rattle.ghc_reader.specs.Tests.{Kind, a_term, HasTokens, IsShallow, IsDerived, IsRead, IsFaultAt, IsDeep, IsTokenRefusal, too_long, bad_byte, too_deep, IsSyntaxRefusal, IsPlaceRefusal, IsLimitRefusal, IsRefusal, IsAnsweredOnce, by_tokens, by_syntax, by_place, by_limit}
+use Rattle.ghc_reader.specs.Tests.{Kind, a_term, HasTokens, IsShallow, IsDerived, IsRead, IsFaultAt, IsTokenRefusal, too_long, bad_byte, too_deep, IsSyntaxRefusal, IsPlaceRefusal, IsLimitRefusal, IsRefusal, IsAnsweredOnce, by_tokens, by_syntax, by_place, by_limit}
 use Rattle.ghc_reader.proofs.OneLexing.{one_lexing, never_both, one_bad_byte}
 use Rattle.ghc_reader.specs.Reserved.{first_place}
 use Rattle.ghc_reader.specs.Source.{Tree}

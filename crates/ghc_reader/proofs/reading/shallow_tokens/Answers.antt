@@ -1,4 +1,3 @@
-use Rattle.std.proofs.Common.{◌≡◌, ◌⊎◌}
 use Rattle.std.proofs.lemmas.Result.{err_from_is_err_and}
 use Rattle.ghc_reader.proofs.OneReading.{lex_refusal}
 use Rattle.ghc_reader.proofs.reading.shallow_tokens.Goals as goal

@@ -1,7 +1,7 @@
 use Rattle.std.proofs.Common.{sym, ap, ◌∙◌}
 use Rattle.ghc_reader.specs.Lowered.{SaysAsked}
-use Rattle.ghc_reader.proofs.GoalsLowered.{asked_still, goals_skip, goals_step, GoalsSoFar}
-use Rattle.ghc_reader.proofs.Streams.{counted_more, counted_same, StreamsSoFar}
+use Rattle.ghc_reader.proofs.GoalsLowered.{asked_still, goals_skip, goals_step}
+use Rattle.ghc_reader.proofs.Streams.{counted_more, counted_same}
 use Rattle.ghc_reader.proofs.lowering.goals.lower_asked.Goals as goal
 use Rattle.ghc_reader.proofs.lowering.goals.lower_asked.Goals.{then-not-is_true+in_ok-lower_asked_goal+in_ok-push, else-not-is_true}
 
