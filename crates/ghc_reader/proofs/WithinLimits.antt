@@ -1,8 +1,9 @@
 -- What parse trees within the limits say is within them too.
-use Rattle.std.proofs.Common.{◌≡◌, ◌≢◌, ℕ, ◌+◌, ◌≤◌, List, [], ◌∷◌, ◌++◌, length, Bool, true, false, cond, Option, Some, None, refl, sym, ap, ◌∙◌, subst, inl, inr, arith, slice_get, append_assoc}
+use Rattle.std.proofs.Common.{◌≡◌, ◌≢◌, ℕ, ◌+◌, ◌<◌, ◌≤◌, List, [], ◌∷◌, ◌++◌, length, take, filter, Bool, true, false, cond, Option, Some, None, refl, sym, ap, ◌∙◌, subst, inl, inr, arith, slice_get, append_assoc}
 use Rattle.std.specs.Prelude.{◌||◌, not, max, MatchOption, bytes_eq, nat_lt}
 use Rattle.std.specs.List.{list_any}
-use Rattle.std.proofs.lemmas.List.{append-nil, length_push}
+use Rattle.std.proofs.lemmas.List.{append-nil, length_push, length-map, length-take-le}
+use Rattle.std.proofs.lemmas.List.Filters.{length-filter_both}
 use Rattle.std.proofs.lemmas.List.Folds.{list_any-append}
 use Rattle.std.proofs.lemmas.Slice.Eq.{bytes_eq-Decides}
 use Rattle.std.proofs.lemmas.Bool.Decides.{nat_tests}
@@ -11,11 +12,13 @@ use Rattle.ghc_term.specs.declared.var_name.VarName.{VarName}
 use Rattle.ghc_term.specs.Lists.{In}
 use Rattle.ghc_term.specs.Tree as term
 use Rattle.ghc_term.specs.Goal as goal
+use Rattle.ghc_reader.specs.declared.source.SourceGoal.{SourceGoal}
+use Rattle.ghc_reader.specs.Views.{goal_view, goal_views}
 use Rattle.ghc_reader.specs.Source.{Trees, none, some, Goal, call, unify, assign, Clause}
 use Rattle.ghc_reader.specs.Reserved.{count}
 use Rattle.ghc_reader.specs.Amounts.{largest, widest_goal, widest_goals, widest_clause, goals_of_clause, names_of_goals, names_of_clause, is_unnamed, variables}
 use Rattle.ghc_reader.specs.Limits.{first_exceeded, of_program, of_query}
-use Rattle.ghc_reader.specs.Written.{WrittenClause, WrittenQuery, IsWithinLimits, IsWellWritten, AreWellWritten, IsWellAsked}
+use Rattle.ghc_reader.specs.Written.{WrittenClause, WrittenQuery, is_stream, IsWithinLimits, IsWellWritten, AreWellWritten, IsWellAsked}
 use Rattle.ghc_reader.specs.Lowered.{Names, blank, IsCalled, AreNamed, Each, SaysAll, SaysGoal, SaysAsked, SaysClause, SaysQuery, is_true, doing, tail_of}
 use Rattle.ghc_reader.specs.Scope.{IsFresh}
 use Rattle.ghc_reader.proofs.Counting.{and_one, one_more}
@@ -99,12 +102,14 @@ each_length R (x ∷ xs) [] h = absurd h
 each_length R (x ∷ xs) (y ∷ ys) h = omega (arith, each_length R xs ys h.1)
 
 doing_length : (gs : List Goal) → length (doing gs) ≤ length gs
-doing_length [] = omega arith
-doing_length (g ∷ gs) = by_test (not (is_true g)) (doing_length gs)
-  where
-    by_test : (b : Bool) → length (doing gs) ≤ length gs → length (cond b (g ∷ doing gs) (doing gs)) ≤ length (g ∷ gs)
-    by_test true few = omega (arith, few)
-    by_test false few = omega (arith, few)
+doing_length gs = omega (arith, length-filter_both (λ g. not (is_true g)) (λ g. not (not (is_true g))) (λ g. refl) gs)
+
+-- There is room for one more stream while a goal is left.
+pub streams_below : (goals : List SourceGoal) (i n : ℕ) (names : Names) (us : List goal.Goal) → i < length goals → length goals ≤ 1000 → Each (SaysAsked names) (doing (goal_views (take i goals))) us → n ≡ length (filter is_stream us) → n < 1000
+streams_below goals i n names us less few says counted =
+    let so_far = goal_views (take i goals) in
+    let passed = length-take-le i goals (omega (arith, less)) in
+    omega (arith, counted, length-filter_both is_stream (λ u. not (is_stream u)) (λ u. refl) us, each_length (SaysAsked names) (doing so_far) us says, doing_length so_far, length-map (take i goals) goal_view, passed, less, few)
 
 doing_widest : (gs : List Goal) → widest_goals (doing gs) ≤ widest_goals gs
 doing_widest [] = omega arith
@@ -200,6 +205,13 @@ program_well_written cs ws within says =
           let r = each_has SaysClause cs ws w says i in
           clause_well_written r.0 w r.2 (omega (arith, largest_has goals_of_clause cs r.0 r.1, few_goals)) (omega (arith, largest_has (λ c. variables (names_of_clause c)) cs r.0 r.1, few_names)) (omega (arith, largest_has widest_clause cs r.0 r.1, narrow));
     }
+
+-- The goals of a query are no more than it may have.
+pub few_asked : (goals : List SourceGoal) → first_exceeded (of_query (goal_views goals)) ≡ None → length goals ≤ 1000
+few_asked goals within =
+    let gs = goal_views goals in
+    let passed = each_false false (nat_lt 255 (widest_goals gs)) (nat_lt 1000 (length gs)) (nat_lt 1000 (variables (names_of_goals gs))) within in
+    omega (arith, at_most 1000 (length gs) passed.2, length-map goals goal_view)
 
 pub query_well_asked : (gs : List Goal) (q : WrittenQuery) → first_exceeded (of_query gs) ≡ None → SaysQuery gs q → IsWellAsked q
 query_well_asked gs q within s =
