@@ -56,7 +56,7 @@ is_stream (stream _ _) = true
 abbrev pub AreNarrow : List Goal → Type 0
 AreNarrow gs = (f : List ℕ) (ts : List Tree) → In (call f ts) gs → length ts ≤ most limit.Arity
 
--- The goals are no more than a clause's body or a query may have, n is no more variables than a clause or a query may have, and no call among the goals has more arguments than a goal may have.
+-- The goals, and n variables, are no more than a clause or a query may have, and no call among the goals has more arguments than a goal may have.
 pub record IsWithinLimits (gs : List Goal) (n : ℕ) : Type 0 where
   pub goals : length gs ≤ most limit.Goals
   pub variables : n ≤ most limit.Variables
