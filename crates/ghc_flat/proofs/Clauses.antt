@@ -11,7 +11,7 @@ use Rattle.ghc_term.specs.declared.goal_view.GoalView.{GoalView}
 use Rattle.ghc_term.specs.declared.goal_view.GoalView.TheVariants.{Call, Unify, Assign, Stream}
 use Rattle.ghc_term.specs.GoalShown.{shown}
 use Rattle.ghc_reader.specs.declared.written.Guard.{Guard}
-use Rattle.ghc_reader.specs.Written.{WrittenClause, IsWellWritten, AreNumbered, variables_of_written, is_stream}
+use Rattle.ghc_reader.specs.Written.{WrittenClause, IsWellWritten, IsWithinLimits, AreNumbered, variables_of_written, is_stream}
 use Rattle.ghc_flat.specs.declared.test.Test.{Test}
 use Rattle.ghc_flat.specs.Clause.{Clause, Program}
 use Rattle.ghc_flat.specs.Flat.{IsWellMade, IsFlat, IsLinear, AreDistinct}
@@ -39,6 +39,7 @@ well_made w c n ok m r e among = record {
   linear = subst (λ h. AreDistinct (variables_of_list h)) (sym m.head) (rises_distinct (variables_of_list w.head) 0 r);
   numbered = subst AreNumbered (same_variables w c m) ok.numbered;
   closed = ap (λ b. filter is_stream b) m.body ∙ ok.closed;
+  limited = subst (IsWithinLimits c.body) (ok.named ∙ ap (λ l. length (firsts [] l)) (same_variables w c m)) (subst (λ b. IsWithinLimits b (length w.variables)) (sym m.body) ok.limited);
 }
 
 -- the clause of a written one and its tests

@@ -8,11 +8,11 @@ use Rattle.ghc_term.specs.Lists.{In}
 use Rattle.ghc_term.specs.Goal.{Goal, call, stream}
 use Rattle.ghc_reader.specs.declared.written.Guard.{Guard}
 use Rattle.ghc_flat.specs.declared.test.Test.{Test}
-use Rattle.ghc_reader.specs.Written.{WrittenClause, WrittenQuery, IsWellAsked, AreWellWritten, IsWellWritten, AreNumbered}
+use Rattle.ghc_reader.specs.Written.{WrittenClause, WrittenQuery, IsWellAsked, AreWellWritten, IsWellWritten, IsWithinLimits, AreNumbered}
 use Rattle.ghc_flat.specs.declared.index.Index.{Index}
 use Rattle.ghc_flat.specs.Clause.{Clause, Program, Query}
 use Rattle.ghc_flat.specs.Flat.{IsWellMade, AreDistinct, AreDefined, IsProgram, IsQuery}
-use Rattle.ghc_flat.specs.Variables.{variables_of_list, variables_of_test, variables_of_goals}
+use Rattle.ghc_flat.specs.Variables.{variables_of_list, variables_of_test, variables_of_goals, firsts}
 use Rattle.ghc_flat.specs.Checked.{IsMadeOf, AreMadeOf, IsAcceptedAs, IsFirstTwice, IsNamed, IsRepeated, HasClause, AllCalls, IsFirstCallWithout, IsFaultless, AreFaultless, IsClauseFault, IsFirstFault, IsProgramFault, IsQueryFault, IsFault, IsFlatGuard, MakeTests, QueryFaultsAreTold}
 use Rattle.ghc_flat.specs.declared.refused.Refused.{Refused}
 use Rattle.ghc_flat.specs.declared.refused.Refused.TheVariants as refused
@@ -143,10 +143,11 @@ program_of ws P i is m sound c j =
       defined = defined_of_has ws P c.body m (calls_as (Knows i) (HasClause ws) (known_has ws i is) (has_known ws i is) c.body s.1);
       numbered = s.0.numbered;
       closed = s.0.closed;
+      limited = s.0.limited;
     }
 
 pub query_of : (ws : List WrittenClause) (P : Program) (q : WrittenQuery) → IsWellAsked q → AreMadeOf ws P → AllCalls (HasClause ws) q.goals → IsQuery P q.goals
-query_of ws P q ok m all = record { defined = defined_of_has ws P q.goals m all; numbered = ok.numbered; streams = ok.streams }
+query_of ws P q ok m all = record { defined = defined_of_has ws P q.goals m all; numbered = ok.numbered; streams = ok.streams; limited = subst (IsWithinLimits q.goals) ok.named ok.limited }
 
 -- an accepted program has no fault
 accepted_faultless : (ws : List WrittenClause) (gs : Query) (P : Program) → IsAcceptedAs ws gs P → AreFaultless (HasClause ws) ws
@@ -233,11 +234,12 @@ make_clause D w ok s =
         linear = s.linear;
         numbered = subst (λ l. AreNumbered (variables_of_list w.head ++ l ++ variables_of_goals w.body)) same ok.numbered;
         closed = ok.closed;
+        limited = subst (λ l. IsWithinLimits w.body (length (firsts [] (variables_of_list w.head ++ l ++ variables_of_goals w.body)))) same (subst (IsWithinLimits w.body) ok.named ok.limited);
       },
       s.defined,
     )
 
-make_program : (D : List ℕ → ℕ → Type 0) (ws : List WrittenClause) → AreWellWritten ws → AreFaultless D ws → (P : Program) × AreMadeOf ws P × ((c : Clause) → In c P → IsWellMade c × AllCalls D c.body)
+make_program : (D : List ℕ → ℕ → Type 0) (ws : List WrittenClause) → ((w : WrittenClause) → In w ws → IsWellWritten w) → AreFaultless D ws → (P : Program) × AreMadeOf ws P × ((c : Clause) → In c P → IsWellMade c × AllCalls D c.body)
 make_program D [] ok s = ([], tt, λ c i. absurd i)
 make_program D (w ∷ ws) ok s =
     let first = make_clause D w (ok w (inl refl)) (s w (inl refl)) in
@@ -253,17 +255,18 @@ make_program D (w ∷ ws) ok s =
 -- clauses without fault are accepted with the empty query
 accepted_alone : (ws : List WrittenClause) → AreWellWritten ws → AreFaultless (HasClause ws) ws → (P : Program) × IsAcceptedAs ws [] P
 accepted_alone ws ok s =
-    let made = make_program (HasClause ws) ws ok s in (
+    let made = make_program (HasClause ws) ws ok.each s in (
       made.0,
       record {
         made = made.1;
         program = λ c i.
             let t = made.2 c i in
-            record { flat = t.0.flat; linear = t.0.linear; defined = defined_of_has ws made.0 c.body made.1 t.1; numbered = t.0.numbered; closed = t.0.closed };
+            record { flat = t.0.flat; linear = t.0.linear; defined = defined_of_has ws made.0 c.body made.1 t.1; numbered = t.0.numbered; closed = t.0.closed; limited = t.0.limited };
         query = record {
           defined = λ f ts i. absurd i;
           numbered = λ i x e. let clash : None ≡ Some x = e in cc;
           streams = λ i k x e. let clash : None ≡ Some (stream k x) = e in cc;
+          limited = record { goals = omega arith; variables = omega arith; arguments = λ f ts i. absurd i };
         };
       },
     )

@@ -1,7 +1,9 @@
 // The checker: from a written program and a query to the program, or the first fault.
-ghost use Rattle.std.specs.Prelude.{◌≡◌, ◌⊎◌, ◌-◌, ℕ, List, [], length, IfOk, IfErr, OnOk, MatchResult};
+ghost use Rattle.std.specs.Prelude.{◌≡◌, ◌⊎◌, ◌-◌, ◌≤◌, ℕ, List, [], length, IfOk, IfErr, OnOk, MatchResult};
 ghost use Rattle.ghc_term.specs.declared.fault.Fault.{Fault};
-ghost use Rattle.ghc_reader.specs.Written.{AreWellWritten, IsWellWritten};
+ghost use Rattle.ghc_term.specs.declared.limit.Limit.TheVariants.{Arity};
+ghost use Rattle.ghc_reader.specs.Limits.{most};
+ghost use Rattle.ghc_reader.specs.Written.{AreWellWritten, IsWellWritten, AreNarrow};
 ghost use Rattle.ghc_flat.specs.Clause.{Program};
 ghost use Rattle.ghc_flat.specs.Flat.{IsWellMade};
 ghost use Rattle.ghc_flat.specs.Variables.{variables_of_list};
@@ -22,8 +24,8 @@ use std::alloc::Global;
 
 /// The program that is written, where it and the query are accepted, or else the first fault, by clauses in order: a
 /// variable that stands twice in the head, a guard that is not flat, the first undefined call of the body; then the
-/// first undefined call of the query. `Memory` comes for want of memory alone, and for a number over 32 bits. Time and
-/// memory grow with the number of symbols.
+/// first undefined call of the query. `Memory` comes for want of memory alone. Time and memory grow with the number of
+/// symbols.
 pub fn check(alloc: Global, source: Source, query: &Query) -> Result<Program, Fault>
     ensures accepted { IfOk result (IsAcceptedAs source query.now.goals) }
     ensures refused { IfErr result (λ e. (e ≡ Fault.Memory) ⊎ IsFault source query.now.goals e) }
@@ -77,7 +79,7 @@ fn check_clauses(
     let mut clauses = Vec::new(alloc);
     let mut number: u32 = 0;
     for clause in written {
-        number = number.checked_add(1).ok_or(Fault::Memory)?;
+        number += 1;
         let checked = check_clause(alloc, clause, number, index)?;
         clauses.push(checked)?;
     }
@@ -98,7 +100,7 @@ fn check_clause(
     ensures refused { IfErr result (λ e. (e ≡ Fault.Memory) ⊎ IsClauseFault (Knows index.now) number written e) }
 {
     let head_variables = check_head(&written, number)?;
-    let fresh = count_fresh(&written, head_variables)?;
+    let fresh = count_fresh(&written, head_variables);
     let WrittenClause {
         name,
         head,
@@ -138,18 +140,17 @@ fn check_head(written: &WrittenClause, number: u32) -> Result<u32, Fault>
 }
 
 // How many of the clause's variables are left when so many stand in its head.
-fn count_fresh(written: &WrittenClause, head_variables: u32) -> Result<u32, Fault>
-    ensures count { IfOk result (λ n. n ≡ length written.now.variables - head_variables) }
-    ensures refused { IfErr result (λ e. e ≡ Fault.Memory) }
+fn count_fresh(written: &WrittenClause, head_variables: u32) -> u32
+    requires { IsWellWritten written.now }
+    ensures { result ≡ length written.now.variables - head_variables }
 {
-    match u32::try_from(written.variables.len()) {
-        Ok(all) => Ok(all.saturating_sub(head_variables)),
-        Err(_) => Err(Fault::Memory),
-    }
+    let all = written.variables.len() as u32;
+    all.saturating_sub(head_variables)
 }
 
 // Fails with the first of the goals, from the left, that is a call of which the index knows no clause.
 fn check_calls(goals: &[Goal], index: &Index) -> Result<(), Fault>
+    requires { AreNarrow goals.now }
     ensures defined { OnOk result (AllCalls (Knows index.now) goals.now) }
     ensures refused { IfErr result (λ e. (e ≡ Fault.Memory) ⊎ ((f : List ℕ) × (n : ℕ) × IsFirstCallWithout (Knows index.now) goals.now f n × (e ≡ Fault.Undefined f n))) }
 {
@@ -165,11 +166,10 @@ fn check_calls(goals: &[Goal], index: &Index) -> Result<(), Fault>
 
 // The fault of a call of this name with so many arguments.
 fn undefined(name: &Name, arity: usize) -> Fault
+    requires { arity ≤ most Arity }
     ensures { (result ≡ Fault.Memory) ⊎ (result ≡ Fault.Undefined name.now arity) }
 {
-    let Ok(arity) = u32::try_from(arity) else {
-        return Fault::Memory;
-    };
+    let arity = arity as u32;
     match name.share() {
         Ok(name) => Fault::Undefined { name, arity },
         Err(_) => Fault::Memory,

@@ -7,7 +7,8 @@ use ghc_term::{Goal, Name, Term};
 use std::marker::Model;
 
 /// A clause `name(head) :- tests | body.`; the i-th of its variables, by first occurrence, is `_0_i`. A goal `true` of the
-/// body is left out. No variable stands twice in its head, and each variable of its tests stands there.
+/// body is left out. No variable stands twice in its head, and each variable of its tests stands there. It has at most
+/// 1,000 goals, 1,000 variables, and 255 arguments of a goal; `head_variables` says so, as a part of `IsWellMade`.
 pub struct Clause {
     pub(crate) name: Name,
     pub(crate) head: Vec<Term>,

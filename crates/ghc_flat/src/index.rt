@@ -1,5 +1,6 @@
 // The index of a program: which clauses are for the calls of a name and arity.
 ghost use Rattle.std.specs.Prelude.{◌≡◌, ◌++◌, ℕ, List, [], ◌∷◌, OnOk, IfOk, if◌then◌else◌};
+ghost use Rattle.ghc_reader.specs.Written.{AreWellWritten};
 
 use ghc_reader::WrittenClause;
 use ghc_term::Name;
@@ -73,6 +74,7 @@ impl Index {
 
     // The index of the clauses, which are numbered from 1: a look-up for each of them.
     pub(crate) fn of(alloc: Global, clauses: &[WrittenClause]) -> Result<Index, AllocError>
+        requires { AreWellWritten clauses.now }
         ensures { IfOk result (IsIndexOf (keys_of_written clauses.now)) }
     {
         let mut index = Index {
@@ -80,7 +82,7 @@ impl Index {
         };
         let mut number: u32 = 0;
         for clause in clauses {
-            number = number.checked_add(1).ok_or(AllocError)?;
+            number += 1;
             index.add(alloc, &clause.name, clause.head.len(), number)?;
         }
         Ok(index)

@@ -1,27 +1,24 @@
 -- What guards, clauses and queries say, and which variables they meet.
-use Rattle.std.proofs.Common.{◌≡◌, ◌⊎◌, ℕ, ◌+◌, ◌<◌, List, [], ◌∷◌, ◌++◌, length, map, take, get_or, refl, sym, ap, ◌∙◌, subst, append_assoc, inl, inr}
+use Rattle.std.proofs.Common.{◌≡◌, ℕ, ◌+◌, ◌<◌, List, [], ◌∷◌, ◌++◌, length, map, take, get_or, refl, sym, ap, ◌∙◌, subst, append_assoc}
 use Rattle.std.proofs.lemmas.List.{append-nil}
 use Rattle.ghc_term.specs.declared.comparison.Comparison.{Comparison}
-use Rattle.ghc_term.specs.Lists.{In}
-use Rattle.ghc_term.specs.Expression.{Expression, leaf, operation}
-use Rattle.ghc_term.specs.Goal as goal
+use Rattle.ghc_term.specs.Expression.{Expression}
 use Rattle.ghc_term.specs.Tree as term
 use Rattle.ghc_term.specs.Variables.{variables_of_list, variables_of_expression, leaf_variables, variables_of_goals}
 use Rattle.ghc_reader.specs.declared.source.SourceExpression.{SourceExpression}
 use Rattle.ghc_reader.specs.declared.source.SourceTest.{SourceTest}
 use Rattle.ghc_reader.specs.declared.source.SourceTest.TheVariants as source
 use Rattle.ghc_reader.specs.declared.written.Guard.{Guard}
-use Rattle.ghc_reader.specs.declared.written.Guard.TheVariants.{Item as item, Comparison as comparison}
+use Rattle.ghc_reader.specs.declared.written.Guard.TheVariants.{Comparison as comparison}
 use Rattle.ghc_reader.specs.Source.{Tree, Trees, variable, integer, structure, empty, cell, none, some, Value, number, named, product, sum, Test, plain, compare, Goal, Clause}
 use Rattle.ghc_reader.specs.Views.{value_view, test_view, test_views}
-use Rattle.ghc_reader.specs.Written.{WrittenClause, variables_of_guard, variables_of_guards, variables_of_written, IsWellWritten, AreWellWritten, WrittenQuery, IsWellAsked}
+use Rattle.ghc_reader.specs.Written.{WrittenClause, variables_of_guard, variables_of_guards, variables_of_written, WrittenQuery}
 use Rattle.ghc_reader.specs.Lowered.{Names, Says, SaysAll, SaysValue, SaysGuard, SaysGoal, SaysAsked, SaysQuery, SaysClause, Each, IsClosed, AreClosed, AreNamed, doing, AreCounted}
 use Rattle.ghc_reader.specs.Scope.{MeetsAll}
 use Rattle.ghc_reader.proofs.Scopes.{Grows, grows, grows_twice, met_also}
 use Rattle.ghc_reader.proofs.TermsLowered.{says_all_still}
 use Rattle.ghc_reader.proofs.ExpressionsLowered.{value_still, mapped_more}
 use Rattle.ghc_reader.proofs.Numbered.{met_are_named}
-use Rattle.ghc_reader.proofs.Streams.{no_streams}
 use Rattle.ghc_reader.proofs.GoalsLowered.{goal_still, each_still, each_push}
 
 pub leaves_are_all : (v : Value) (names : Names) (e : Expression) → SaysValue names v e → leaf_variables e ≡ variables_of_expression e
@@ -60,14 +57,6 @@ variables_guard_push (h ∷ gs) g = ap (λ xs. variables_of_guard h ++ xs) (vari
 pub guards_meet : (first a b : Names) (us new : List Guard) (u : Guard) → new ≡ us ++ u ∷ [] → MeetsAll first (variables_of_guards us) a → MeetsAll a (variables_of_guard u) b → MeetsAll first (variables_of_guards new) b
 guards_meet first a b us new u grown m n = subst (λ xs. MeetsAll first xs b) (sym (ap variables_of_guards grown ∙ variables_guard_push us u)) (met_also (variables_of_guards us) (variables_of_guard u) first a b m n)
 
--- one clause more
-pub well_written_more : (us new : List WrittenClause) (u : WrittenClause) → new ≡ us ++ u ∷ [] → AreWellWritten us → IsWellWritten u → AreWellWritten new
-well_written_more us new u grown all one = subst AreWellWritten (sym grown) (by_list us all)
-  where
-    by_list : (ws : List WrittenClause) → AreWellWritten ws → AreWellWritten (ws ++ u ∷ [])
-    by_list [] h = λ c i. elim i [ inl here ↦ subst IsWellWritten (sym here) one | inr there ↦ absurd there ]
-    by_list (w ∷ ws) h = λ c i. elim i [ inl here ↦ h c (inl here) | inr there ↦ by_list ws (λ d j. h d (inr j)) c there ]
-
 mutual
   -- a closed term says the same under any names
   pub closed_says : (t : Tree) (names : Names) (u : term.Tree) → IsClosed t → Says names t u → Says [] t u
@@ -97,9 +86,6 @@ clause_said c w start one two all is_start names name head head_met guards guard
       variables = subst (λ l. AreNamed l (variables_of_written w)) (sym names) (met_are_named (variables_of_written w) all from_nothing);
     }
 
-pub clause_well_written : (c : Clause) (w : WrittenClause) → SaysClause c w → IsWellWritten w
-clause_well_written c w s = record { numbered = s.variables.numbered; named = s.variables.named; closed = no_streams (doing c.body) w.variables w.body s.body }
-
 -- a query in its parts
 pub query_said : (gs : List Goal) (q : WrittenQuery) (start all : Names) → start ≡ [] → q.variables ≡ all → Each (SaysAsked all) (doing gs) q.goals → MeetsAll start (variables_of_goals q.goals) all → AreCounted q.goals → SaysQuery gs q
 query_said gs q start all is_start names goals met streams = record {
@@ -107,6 +93,3 @@ query_said gs q start all is_start names goals met streams = record {
   streams = streams;
   variables = subst (λ l. AreNamed l (variables_of_goals q.goals)) (sym names) (met_are_named (variables_of_goals q.goals) all (subst (λ l. MeetsAll l (variables_of_goals q.goals) all) is_start met));
 }
-
-pub query_well_asked : (gs : List Goal) (q : WrittenQuery) → SaysQuery gs q → IsWellAsked q
-query_well_asked gs q s = record { numbered = s.variables.numbered; named = s.variables.named; apart = s.variables.apart; streams = s.streams }

@@ -2,7 +2,7 @@
 use Rattle.std.proofs.Common.{◌≡◌, ℕ, ◌+◌, ◌<◌, List, [], ◌∷◌, ◌++◌, length, map, take, get_or, refl, sym, ap, ◌∙◌, subst, Box, Global, Vec}
 use Rattle.std.proofs.lemmas.List.{map_push, take_more}
 use Rattle.ghc_term.specs.declared.operator.Operator.{Operator}
-use Rattle.ghc_term.specs.Expression.{Expression, leaf, operation}
+use Rattle.ghc_term.specs.Expression.{Expression, operation}
 use Rattle.ghc_term.specs.Variables.{variables_of_expression}
 use Rattle.ghc_reader.specs.declared.source.SourceExpression.{SourceExpression}
 use Rattle.ghc_reader.specs.declared.source.SourceExpression.TheViews as w

@@ -1,7 +1,7 @@
 -- What goals say, and which variables they meet.
-use Rattle.std.proofs.Common.{◌≡◌, ℕ, ◌+◌, ◌<◌, List, [], ◌∷◌, ◌++◌, length, map, take, get_or, refl, sym, ap, ◌∙◌, subst, append_assoc, Bool, true, false, cond, Option, Some, None, Box, Global, Vec, vec_len, arith, inl, inr, ◌⊎◌, filter, slice_get}
+use Rattle.std.proofs.Common.{◌≡◌, ℕ, ◌+◌, ◌<◌, List, [], ◌∷◌, ◌++◌, length, take, get_or, refl, sym, ap, ◌∙◌, subst, append_assoc, Bool, true, false, cond, Option, Some, None, Box, Global, Vec, vec_len, arith, inl, inr, ◌⊎◌}
 use Rattle.std.specs.Prelude.{◌==◌, ◌&&◌, not, MatchOption, bytes_eq, nat_eq, codes}
-use Rattle.std.proofs.lemmas.List.{append-nil, length_push}
+use Rattle.std.proofs.lemmas.List.{append-nil}
 use Rattle.std.proofs.lemmas.List.Elements.{filter-append}
 use Rattle.std.proofs.lemmas.Bool.Decides.{nat_tests}
 use Rattle.ghc_term.specs.declared.var_name.VarName.{VarName}
@@ -17,12 +17,10 @@ use Rattle.ghc_reader.specs.declared.source.SourceGoal.{SourceGoal}
 use Rattle.ghc_reader.specs.declared.source.SourceGoal.TheVariants as source
 use Rattle.ghc_reader.specs.Source.{Goal, call, unify, assign, cells}
 use Rattle.ghc_reader.specs.Views.{view, views, value_view, goal_view, goal_views}
-use Rattle.ghc_reader.specs.Written.{is_stream}
-use Rattle.ghc_reader.specs.Lowered.{Names, IsCalled, Says, SaysValue, SaysGoal, SaysAsked, Each, AreCounted, is_true, doing, variable_of, first_variable, tail_of}
+use Rattle.ghc_reader.specs.Lowered.{Names, IsCalled, Says, SaysValue, SaysGoal, SaysAsked, Each, is_true, doing, variable_of, first_variable, tail_of}
 use Rattle.ghc_reader.specs.Reserved.{count}
 use Rattle.ghc_reader.proofs.Misplaced.{count_views}
-use Rattle.ghc_reader.specs.Scope.{MeetsAll, Counts}
-use Rattle.ghc_reader.proofs.Names.{get_push}
+use Rattle.ghc_reader.specs.Scope.{MeetsAll}
 use Rattle.ghc_reader.proofs.Scopes.{Grows, grows, met_also, called_still}
 use Rattle.ghc_reader.proofs.TermsLowered.{says_still, says_all_still}
 use Rattle.ghc_reader.proofs.ExpressionsLowered.{value_still, mapped_more}

@@ -51,6 +51,7 @@ pub mod TokenBytes
 pub mod ReadTerms
 pub mod NamesIn
 pub mod OneSaying
+pub mod WithinLimits
 pub mod OneMeaning
 pub mod MarkPieces
 pub mod TokenTexts

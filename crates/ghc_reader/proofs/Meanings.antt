@@ -1,9 +1,8 @@
 -- The one term that a parse tree without variables says.
-use Rattle.std.proofs.Common.{◌≡◌, ℕ, ◌+◌, ◌≤◌, max, List, [], ◌∷◌, length, Some, None, true, false, refl, sym, ap, ◌∙◌, subst, inl, inr, arith, FitsSigned, w64}
-use Rattle.std.specs.Prelude.{codes, bytes_eq, IsTrue}
+use Rattle.std.proofs.Common.{◌≡◌, ℕ, ◌≤◌, List, [], ◌∷◌, length, true, false, refl, sym, ap, ◌∙◌, subst, inl, inr, arith, FitsSigned, w64}
+use Rattle.std.specs.Prelude.{bytes_eq, IsTrue}
 use Rattle.std.specs.Char.{is_ascii_lowercase}
 use Rattle.std.proofs.lemmas.Slice.Eq.{bytes_eq-Decides}
-use Rattle.std.proofs.lemmas.Bool.Decides.{nat_tests}
 use Rattle.ghc_term.specs.Tree as term
 use Rattle.ghc_term.specs.Tree.{node, trees, nil, cons, list_of}
 use Rattle.ghc_term.specs.Text.{is_cell, is_nil}

@@ -1,5 +1,5 @@
 -- What is misplaced stands in the text: at its place no more tokens are left than the text has.
-use Rattle.std.proofs.Common.{◌≡◌, ℕ, ◌+◌, ◌-◌, ◌≤◌, Bool, true, false, List, [], ◌∷◌, ◌++◌, length, length-append, Option, Some, None, refl, sym, ap, subst, ◌∙◌, arith}
+use Rattle.std.proofs.Common.{◌≡◌, ℕ, ◌≤◌, Bool, true, false, List, [], ◌∷◌, ◌++◌, length, length-append, Some, refl, sym, ap, subst, ◌∙◌, arith}
 use Rattle.ghc_reader.specs.declared.token.Mark.TheVariants.{Comma, Bar, Define, Stop}
 use Rattle.ghc_reader.specs.declared.token.Token.{Token}
 use Rattle.ghc_reader.specs.declared.token.Token.TheVariants as token
@@ -10,7 +10,7 @@ use Rattle.ghc_reader.specs.Derived.{call_of, item_of, goals_of, right_of, claus
 use Rattle.ghc_reader.specs.Reserved.{is_stream, is_reserved, starts_with_variable, place_if, misplaced_goal, misplaced_query_goal, misplaced_body, misplaced_query, misplaced_clause, misplaced_program, first_place}
 use Rattle.std.specs.Prelude.{◌&&◌, not}
 use Rattle.std.specs.List.{flat_map}
-use Rattle.ghc_reader.proofs.Append.{arguments_append, item_append, tests_append, body_append, right_append, clause_append}
+use Rattle.ghc_reader.proofs.Append.{arguments_append, item_append, tests_append, body_append, clause_append}
 
 -- the first of the places is at most m
 abbrev pub StartsWithin : ℕ → List ℕ → Type 0

@@ -1,8 +1,9 @@
 -- The names that stand in a parse tree, in order; and what says the tree has variables that are called so, in order.
-use Rattle.std.proofs.Common.{◌≡◌, ℕ, List, [], ◌∷◌, ◌++◌, Option, Some, None, refl, sym, ap, ◌∙◌, subst}
-use Rattle.std.specs.Prelude.{MatchOption}
+use Rattle.std.proofs.Common.{◌≡◌, ℕ, List, [], ◌∷◌, ◌++◌, Bool, true, false, cond, Option, Some, None, refl, sym, ap, ◌∙◌, subst, arith}
+use Rattle.std.specs.Prelude.{MatchOption, ◌&&◌, not, bytes_eq, nat_eq, codes}
 use Rattle.std.specs.List.{flat_map}
 use Rattle.std.proofs.lemmas.List.{append-nil}
+use Rattle.std.proofs.lemmas.Bool.Decides.{nat_tests}
 use Rattle.ghc_term.specs.declared.var_name.VarName.{VarName}
 use Rattle.ghc_term.specs.Tree as term
 use Rattle.ghc_term.specs.Expression.{Expression}
@@ -11,56 +12,54 @@ use Rattle.ghc_term.specs.Variables.{variables, variables_of_list, variables_of_
 use Rattle.ghc_reader.specs.declared.written.Guard.{Guard}
 use Rattle.ghc_reader.specs.Source.{Tree, Trees, variable, integer, structure, empty, cell, none, some, Value, number, named, product, sum, Goal, call, unify, assign, Test, plain, compare, Clause}
 use Rattle.ghc_reader.specs.Written.{WrittenClause, WrittenQuery, variables_of_guard, variables_of_guards, variables_of_written}
-use Rattle.ghc_reader.specs.Lowered.{Names, IsCalled, Says, SaysAll, SaysValue, SaysGoal, SaysAsked, SaysGuard, SaysClause, SaysQuery, Each, tail_of, doing}
+use Rattle.ghc_reader.specs.Lowered.{Names, IsCalled, Says, SaysAll, SaysValue, SaysGoal, SaysAsked, SaysGuard, SaysClause, SaysQuery, Each, first_variable, tail_of, is_true, doing}
+use Rattle.ghc_reader.specs.Reserved.{count, is_stream}
+use Rattle.ghc_reader.specs.Amounts.{names as names_in, names_of as names_in_all, names_in as names_in_value, names_of_goal as names_in_goal, names_of_goals, names_of_test as names_in_test, names_of_clause}
 use Rattle.ghc_reader.proofs.TermsLowered.{variables_of_trees}
 use Rattle.ghc_reader.proofs.ClausesLowered.{leaves_are_all}
 
--- ---- the names
+-- ---- the names of the goals that do something are those of all
 
-abbrev mutual
-  -- the names in a term, in order
-  pub names_in : Tree → Names
-  names_in (variable v) = v ∷ []
-  names_in (integer n) = []
-  names_in (structure f ts) = names_in_all ts
-  names_in empty = []
-  names_in (cell t rest) = names_in t ++ names_in rest
+second : (a b : Bool) → (a && b) ≡ true → b ≡ true
+second true b e = e
+second false b e = cc
 
-  -- the names in terms, in order
-  pub names_in_all : Trees → Names
-  names_in_all none = []
-  names_in_all (some t ts) = names_in t ++ names_in_all ts
+no_arguments : (ts : Trees) → nat_eq (count ts) 0 ≡ true → names_in_all ts ≡ []
+no_arguments none e = refl
+no_arguments (some t ts) e = absurd (grind (arith, nat_tests, e))
 
--- the names in an expression, in order
-abbrev pub names_in_value : Value → Names
-names_in_value (number n) = []
-names_in_value (named v) = v ∷ []
-names_in_value (product o a b) = names_in_value a ++ names_in_value b
-names_in_value (sum o a b) = names_in_value a ++ names_in_value b
+-- `true` has no variables
+true_names : (g : Goal) → is_true g ≡ true → names_in_goal g ≡ []
+true_names (call c) e = no_arguments c.arguments (second (bytes_eq c.name (codes "true")) (nat_eq (count c.arguments) 0) e)
+true_names (unify s t) e = cc
+true_names (assign v a) e = cc
 
--- the names in a goal, in order
-abbrev pub names_in_goal : Goal → Names
-names_in_goal (call c) = names_in_all c.arguments
-names_in_goal (unify s t) = names_in s ++ names_in t
-names_in_goal (assign v e) = v ∷ names_in_value e
+doing_names : (gs : List Goal) → flat_map names_in_goal (doing gs) ≡ names_of_goals gs
+doing_names [] = refl
+doing_names (g ∷ gs) = by_test (is_true g) refl (doing_names gs)
+  where
+    by_test : (b : Bool) → is_true g ≡ b → flat_map names_in_goal (doing gs) ≡ names_of_goals gs → flat_map names_in_goal (cond (not b) (g ∷ doing gs) (doing gs)) ≡ names_in_goal g ++ names_of_goals gs
+    by_test true e same = same ∙ ap (λ l. l ++ names_of_goals gs) (sym (true_names g e))
+    by_test false e same = ap (λ l. names_in_goal g ++ l) same
 
--- the names in a goal of a query: the tail where it is a stream
-abbrev pub names_with_tail : Option (List ℕ) → Goal → Names
-names_with_tail None g = names_in_goal g
-names_with_tail (Some v) g = v ∷ []
+one_argument : (ts : Trees) (v : List ℕ) → nat_eq (count ts) 1 ≡ true → first_variable ts ≡ Some v → names_in_all ts ≡ v ∷ []
+one_argument none v n e = cc
+one_argument (some (variable w) none) v n e = let same : w ≡ v = cc in ap (λ x. x ∷ []) same
+one_argument (some (variable w) (some t ts)) v n e = absurd (grind (arith, nat_tests, n))
+one_argument (some (integer i) ts) v n e = cc
+one_argument (some (structure f us) ts) v n e = cc
+one_argument (some empty ts) v n e = cc
+one_argument (some (cell t u) ts) v n e = cc
 
--- the names in a guard, in order
-abbrev pub names_in_test : Test → Names
-names_in_test (plain g) = names_in_goal g
-names_in_test (compare a o b) = names_in_value a ++ names_in_value b
-
--- the names in goals of a query, in order
-abbrev pub names_in_asked : List Goal → Names
-names_in_asked gs = flat_map (λ g. names_with_tail (tail_of g) g) gs
-
--- the names in a clause, in order: head, guards, body
-abbrev pub names_in_clause : Clause → Names
-names_in_clause c = names_in_all c.head.arguments ++ flat_map names_in_test c.guard ++ flat_map names_in_goal (doing c.body)
+-- a stream has the variable of its tail
+tail_names : (g : Goal) (v : List ℕ) → tail_of g ≡ Some v → names_in_goal g ≡ v ∷ []
+tail_names (call c) v e = by_test (is_stream c) refl e
+  where
+    by_test : (b : Bool) → is_stream c ≡ b → cond b (first_variable c.arguments) None ≡ Some v → names_in_all c.arguments ≡ v ∷ []
+    by_test true s e = one_argument c.arguments v (second (bytes_eq c.name (codes "instream")) (nat_eq (count c.arguments) 1) s) e
+    by_test false s e = cc
+tail_names (unify s t) v e = cc
+tail_names (assign w a) v e = cc
 
 -- ---- the variables are called so
 
@@ -119,9 +118,9 @@ module _ (names : Names) where
       (join (names_in s) (names_in t) (variables h.0) (variables h.1) (called_term s h.0 h.3) (called_term t h.1 h.4))
   called_goal (assign v e) w h = subst (λ x. AreCalled (v ∷ names_in_value e) (variables_of_goal x)) (sym h.2) (h.3, called_value e h.1 h.4)
 
-  called_with_tail : (o : Option (List ℕ)) (g : Goal) (w : goal.Goal) → MatchOption o (SaysGoal names g w) (λ v. (k : ℕ) × (x : VarName) × (w ≡ goal.stream k x) × IsCalled names v x) → AreCalled (names_with_tail o g) (variables_of_goal w)
-  called_with_tail None g w h = called_goal g w h
-  called_with_tail (Some v) g w h = subst (λ x. AreCalled (v ∷ []) (variables_of_goal x)) (sym h.2) (h.3, tt)
+  called_by_tail : (o : Option (List ℕ)) (g : Goal) (w : goal.Goal) → tail_of g ≡ o → MatchOption o (SaysGoal names g w) (λ v. (k : ℕ) × (x : VarName) × (w ≡ goal.stream k x) × IsCalled names v x) → AreCalled (names_in_goal g) (variables_of_goal w)
+  called_by_tail None g w e h = called_goal g w h
+  called_by_tail (Some v) g w e h = subst (λ x. AreCalled (names_in_goal g) (variables_of_goal x)) (sym h.2) (subst (λ vs. AreCalled vs (h.1 ∷ [])) (sym (tail_names g v e)) (h.3, tt))
 
   called_guard : (t : Test) (w : Guard) → SaysGuard names t w → AreCalled (names_in_test t) (variables_of_guard w)
   called_guard (plain g) w h = subst (λ x. AreCalled (names_in_goal g) (variables_of_guard x)) (sym h.1) (called_goal g h.0 h.2)
@@ -145,21 +144,21 @@ module _ (names : Names) where
   called_guards : (ts : List Test) (ws : List Guard) → Each (SaysGuard names) ts ws → AreCalled (flat_map names_in_test ts) (variables_of_guards ws)
   called_guards ts ws h = subst (AreCalled (flat_map names_in_test ts)) (variables_of_guards_are ws) (called_each (SaysGuard names) names_in_test variables_of_guard called_guard ts ws h)
 
-  called_asked : (gs : List Goal) (ws : List goal.Goal) → Each (SaysAsked names) gs ws → AreCalled (names_in_asked gs) (variables_of_goals ws)
+  called_asked : (gs : List Goal) (ws : List goal.Goal) → Each (SaysAsked names) gs ws → AreCalled (flat_map names_in_goal gs) (variables_of_goals ws)
   called_asked gs ws h =
-      subst (AreCalled (names_in_asked gs)) (variables_of_goals_are ws)
-      (called_each (SaysAsked names) (λ g. names_with_tail (tail_of g) g) variables_of_goal (λ g w s. called_with_tail (tail_of g) g w s) gs ws h)
+      subst (AreCalled (flat_map names_in_goal gs)) (variables_of_goals_are ws)
+      (called_each (SaysAsked names) names_in_goal variables_of_goal (λ g w s. called_by_tail (tail_of g) g w refl s) gs ws h)
 
 -- The variables of a written clause are called as the names in its parse tree.
-pub clause_called : (c : Clause) (w : WrittenClause) → SaysClause c w → Each (IsCalled w.variables) (names_in_clause c) (variables_of_written w)
+pub clause_called : (c : Clause) (w : WrittenClause) → SaysClause c w → Each (IsCalled w.variables) (names_of_clause c) (variables_of_written w)
 clause_called c w s =
     let n = w.variables in
     let head = called_terms n c.head.arguments w.head s.head in
     let guards = called_guards n c.guard w.guards s.guards in
-    let body = called_goals n (doing c.body) w.body s.body in
+    let body = subst (λ vs. Each (IsCalled n) vs (variables_of_goals w.body)) (doing_names c.body) (called_goals n (doing c.body) w.body s.body) in
     let front = join n (names_in_all c.head.arguments) (flat_map names_in_test c.guard) (variables_of_list w.head) (variables_of_guards w.guards) head guards in
-    join n (names_in_all c.head.arguments ++ flat_map names_in_test c.guard) (flat_map names_in_goal (doing c.body)) (variables_of_list w.head ++ variables_of_guards w.guards) (variables_of_goals w.body) front body
+    join n (names_in_all c.head.arguments ++ flat_map names_in_test c.guard) (names_of_goals c.body) (variables_of_list w.head ++ variables_of_guards w.guards) (variables_of_goals w.body) front body
 
 -- The variables of a written query are called as the names in its parse trees.
-pub query_called : (gs : List Goal) (q : WrittenQuery) → SaysQuery gs q → Each (IsCalled q.variables) (names_in_asked (doing gs)) (variables_of_goals q.goals)
-query_called gs q s = called_asked q.variables (doing gs) q.goals s.goals
+pub query_called : (gs : List Goal) (q : WrittenQuery) → SaysQuery gs q → Each (IsCalled q.variables) (names_of_goals gs) (variables_of_goals q.goals)
+query_called gs q s = subst (λ vs. Each (IsCalled q.variables) vs (variables_of_goals q.goals)) (doing_names gs) (called_asked q.variables (doing gs) q.goals s.goals)

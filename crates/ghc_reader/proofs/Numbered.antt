@@ -1,5 +1,5 @@
 -- Variables that are met from no names on are numbered by first occurrence, each with its name.
-use Rattle.std.proofs.Common.{◌≡◌, ◌≢◌, ◌⊎◌, ℕ, ◌+◌, ◌<◌, zero, suc, List, [], ◌∷◌, ◌++◌, length, Bool, true, false, cond, Option, Some, None, refl, sym, ap, ◌∙◌, subst, inl, inr, arith, slice_get}
+use Rattle.std.proofs.Common.{◌≡◌, ◌≢◌, ◌⊎◌, ℕ, ◌+◌, ◌<◌, zero, suc, List, [], ◌∷◌, ◌++◌, length, Bool, true, false, cond, Some, refl, sym, ap, ◌∙◌, subst, inl, inr, arith, slice_get}
 use Rattle.std.specs.List.{list_any}
 use Rattle.std.specs.Prelude.{◌||◌}
 use Rattle.std.specs.declared.cmp.Ordering.{Ordering}
@@ -14,7 +14,7 @@ use Rattle.ghc_term.specs.Bindings.{name_cmp}
 use Rattle.ghc_term.specs.Variables.{firsts}
 use Rattle.ghc_term.proofs.Names.{name_total, name_antisymmetric}
 use Rattle.ghc_reader.specs.Lowered.{Names, blank, IsCalled, AreNamed}
-use Rattle.ghc_reader.specs.Scope.{IsFresh, IsKnown, IsNext, Meets, MeetsAll}
+use Rattle.ghc_reader.specs.Scope.{IsFresh, IsKnown, Meets, MeetsAll}
 use Rattle.ghc_reader.proofs.Names.{get_left, get_last, get_push}
 use Rattle.ghc_reader.proofs.Scopes.{grows, grows_met, grows_twice, called_still}
 

@@ -11,13 +11,14 @@ use Rattle.ghc_reader.proofs.Whole.{one_query}
 use Rattle.ghc_reader.proofs.OneReading.{answered_once, one_program_tree, one_input_tree}
 use Rattle.ghc_reader.proofs.OneNaming.{one_naming}
 use Rattle.ghc_reader.proofs.Meanings.{said}
-use Rattle.ghc_reader.proofs.NamesIn.{names_in_clause, names_in_asked, clause_called, query_called}
+use Rattle.ghc_reader.specs.Amounts.{names_of_clause, names_of_goals}
+use Rattle.ghc_reader.proofs.NamesIn.{clause_called, query_called}
 use Rattle.ghc_reader.proofs.OneSaying.{one_list, one_guards, one_body, one_question}
 
 -- a parse tree of a clause says one clause
 one_clause : (c : Clause) (w z : WrittenClause) → SaysClause c w → SaysClause c z → w ≡ z
 one_clause c w z s t =
-    let naming = one_naming (names_in_clause c) (variables_of_written w) (variables_of_written z) w.variables z.variables s.variables t.variables (clause_called c w s) (clause_called c z t) in
+    let naming = one_naming (names_of_clause c) (variables_of_written w) (variables_of_written z) w.variables z.variables s.variables t.variables (clause_called c w s) (clause_called c z t) in
     let behind = sym (append_assoc (variables_of_list w.head) (variables_of_guards w.guards) (variables_of_goals w.body)) ∙ naming.0 ∙ append_assoc (variables_of_list z.head) (variables_of_guards z.guards) (variables_of_goals z.body) in
     let head = one_list w.variables z.variables c.head.arguments w.head z.head (variables_of_guards w.guards ++ variables_of_goals w.body) (variables_of_guards z.guards ++ variables_of_goals z.body) s.head t.head behind in
     let guards = one_guards w.variables z.variables c.guard w.guards z.guards (variables_of_goals w.body) (variables_of_goals z.body) s.guards t.guards head.1 in
@@ -40,7 +41,7 @@ one_source (c ∷ cs) (w ∷ ws) (z ∷ zs) h k =
 -- parse trees of goals say one query
 one_asking : (gs : List Goal) (q r : WrittenQuery) → SaysQuery gs q → SaysQuery gs r → q ≡ r
 one_asking gs q r s t =
-    let naming = one_naming (names_in_asked (doing gs)) (variables_of_goals q.goals) (variables_of_goals r.goals) q.variables r.variables s.variables t.variables (query_called gs q s) (query_called gs r t) in
+    let naming = one_naming (names_of_goals gs) (variables_of_goals q.goals) (variables_of_goals r.goals) q.variables r.variables s.variables t.variables (query_called gs q s) (query_called gs r t) in
     let goals = one_question q.variables r.variables (doing gs) q.goals r.goals s.goals t.goals s.streams t.streams naming.0 in
     λ i. record { goals = goals i; variables = naming.1 i }
 

@@ -10,16 +10,16 @@ use Rattle.ghc_term.specs.Bindings.{name_cmp}
 use Rattle.ghc_term.specs.Variables.{firsts}
 use Rattle.ghc_reader.specs.Lowered.{Names, blank, IsCalled, AreNamed, Each}
 use Rattle.ghc_reader.specs.Scope.{IsFresh}
-use Rattle.ghc_reader.proofs.Names.{get_left, get_last, get_push}
-use Rattle.ghc_reader.proofs.Numbered.{number, is_seen, Seen, seen_none, seen_next, one_name, test_cases, Apart, apart_next, called_one}
+use Rattle.ghc_reader.proofs.Names.{get_left}
+use Rattle.ghc_reader.proofs.Numbered.{number, is_seen, Seen, seen_none, seen_next, one_name, test_cases, Apart, apart_next}
 
 -- Where a variable called v is met, it is x, and the names become the later ones.
-abbrev MeetsCalled : Names → List ℕ → VarName → Names → Type 0
+abbrev pub MeetsCalled : Names → List ℕ → VarName → Names → Type 0
 MeetsCalled names v x later =
     ((i : ℕ) × (slice_get names i ≡ Some v) × (v ≢ blank) × (x ≡ number (i + 1)) × (later ≡ names)) ⊎ (IsFresh names v × (x ≡ number (length names + 1)) × (later ≡ names ++ v ∷ []))
 
 -- Where variables called vs are met in order, they are xs, and the names become the later ones.
-abbrev MeetsEach : Names → List (List ℕ) → List VarName → Names → Type 0
+abbrev pub MeetsEach : Names → List (List ℕ) → List VarName → Names → Type 0
 MeetsEach names [] xs later = (xs ≡ []) × (later ≡ names)
 MeetsEach names (v ∷ vs) xs later = (x : VarName) × (rest : List VarName) × (between : Names) × (xs ≡ x ∷ rest) × MeetsCalled names v x between × MeetsEach between vs rest later
 
@@ -138,7 +138,7 @@ run_is (v ∷ vs) (x ∷ xs) names prefix seen apart r h = elim (test_cases (is_
 ]
 
 -- Variables that are named are met in one way.
-named_are_met : (vs : List (List ℕ)) (xs : List VarName) (names : Names) → AreNamed names xs → Each (IsCalled names) vs xs → MeetsEach [] vs xs names
+pub named_are_met : (vs : List (List ℕ)) (xs : List VarName) (names : Names) → AreNamed names xs → Each (IsCalled names) vs xs → MeetsEach [] vs xs names
 named_are_met vs xs names n h = run_is vs xs names [] [] n.apart (record {
   rest = names;
   whole = refl;

@@ -1,6 +1,5 @@
 -- A text is read as one tree, or refused in one way.
-use Rattle.std.proofs.Common.{◌≡◌, ◌≢◌, ◌⊎◌, ℕ, ◌+◌, ◌-◌, ◌<◌, ◌≤◌, List, [], ◌∷◌, ◌++◌, length, take, drop, Option, Some, None, Result, Ok, Err, IfOk, IfErr, MatchResult, refl, sym, ap, subst, ◌∙◌, inl, inr, arith, append_assoc}
-use Rattle.std.specs.Prelude.{slice_get, ⊤}
+use Rattle.std.proofs.Common.{◌≡◌, ◌⊎◌, ℕ, ◌+◌, ◌-◌, ◌<◌, ◌≤◌, List, [], ◌++◌, length, take, drop, Some, None, Result, Ok, Err, IfOk, IfErr, MatchResult, refl, sym, ap, subst, ◌∙◌, inl, inr, arith, append_assoc}
 use Rattle.std.specs.Result.{IsErrAnd}
 use Rattle.std.proofs.lemmas.Bool.{cases_lt}
 use Rattle.std.proofs.lemmas.List.{take-append-drop, take-take}
@@ -8,16 +7,16 @@ use Rattle.ghc_term.specs.declared.fault.Fault.{Fault}
 use Rattle.ghc_term.specs.declared.fault.Fault.TheVariants as fault
 use Rattle.ghc_term.specs.declared.limit.Limit.{Limit}
 use Rattle.ghc_term.specs.declared.limit.Limit.TheVariants as limit
-use Rattle.ghc_reader.specs.declared.halt.Halt.{Halt}
-use Rattle.ghc_reader.specs.declared.halt.Halt.TheVariants as halt
+use Rattle.ghc_reader.specs.declared.parse_error.ParseError.{ParseError}
+use Rattle.ghc_reader.specs.declared.parse_error.ParseError.TheVariants as parse_error
 use Rattle.ghc_reader.specs.declared.token.Token.{Token}
 use Rattle.ghc_reader.specs.declared.place.Place.{Place}
 use Rattle.ghc_reader.specs.declared.lexer.value.Reserved.TheVariants.{Refused}
 use Rattle.ghc_reader.specs.Places.{fault_at}
-use Rattle.ghc_reader.specs.Lexed.{IsLexed, IsBadAt, IsLexFault, most_bytes}
+use Rattle.ghc_reader.specs.Lexed.{IsLexFault}
 use Rattle.ghc_reader.specs.Depth.{IsTooDeep}
 use Rattle.ghc_reader.specs.Viable.{Viable, FaultAt, IfSyntax}
-use Rattle.ghc_reader.specs.Tests.{Kind, a_term, HasTokens, IsShallow, IsDerived, IsRead, IsFaultAt, IsDeep, IsTokenRefusal, too_long, bad_byte, too_deep, IsSyntaxRefusal, IsPlaceRefusal, IsLimitRefusal, IsRefusal, IsAnsweredOnce, by_tokens, by_syntax, by_place, by_limit}
+use Rattle.ghc_reader.specs.Tests.{Kind, a_term, HasTokens, IsShallow, IsDerived, IsRead, IsFaultAt, IsTokenRefusal, too_long, bad_byte, too_deep, IsSyntaxRefusal, IsPlaceRefusal, IsLimitRefusal, IsRefusal, IsAnsweredOnce, by_tokens, by_syntax, by_place, by_limit}
 use Rattle.ghc_reader.proofs.OneLexing.{one_lexing, never_both, one_bad_byte}
 use Rattle.ghc_reader.specs.Reserved.{first_place}
 use Rattle.ghc_reader.specs.Source.{Tree}
@@ -95,9 +94,9 @@ one_fault_at ps n f g (p, at, is) (q, at', is') =
 
 module _ (K : Kind) where
   -- where a parse stopped is a refusal of the text
-  pub halt_refusal : (text : List ℕ) (ts : List Token) (ps qs : List Place) → IsShallow text ts ps → qs ≡ ps → (h : Halt) → IfSyntax h (FaultAt K.Derivation K.spell ts) → (f : Fault) → (h ≡ halt.Memory → f ≡ fault.Memory) → IfSyntax h (λ n. IsFaultAt qs n f) → (f ≡ fault.Memory) ⊎ IsRefusal K text f
-  halt_refusal text ts ps qs s same halt.Memory stuck f memory at = inl (memory refl)
-  halt_refusal text ts ps qs s same (halt.Syntax n) stuck f memory at =
+  pub parse_refusal : (text : List ℕ) (ts : List Token) (ps qs : List Place) → IsShallow text ts ps → qs ≡ ps → (h : ParseError) → IfSyntax h (FaultAt K.Derivation K.spell ts) → (f : Fault) → (h ≡ parse_error.Memory → f ≡ fault.Memory) → IfSyntax h (λ n. IsFaultAt qs n f) → (f ≡ fault.Memory) ⊎ IsRefusal K text f
+  parse_refusal text ts ps qs s same parse_error.Memory stuck f memory at = inl (memory refl)
+  parse_refusal text ts ps qs s same (parse_error.Syntax n) stuck f memory at =
       inr (by_syntax (record { tokens = ts; places = ps; scanned = s; front = n; stuck = stuck; refused = subst (λ l. IsFaultAt l n f) same at }))
 
   -- where one of the first three tests refuses a text, that is its refusal

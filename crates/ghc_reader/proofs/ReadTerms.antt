@@ -1,5 +1,5 @@
 -- What is read as an input term is one: in the grammar, and within the limits.
-use Rattle.std.proofs.Common.{◌≡◌, ℕ, ◌≤◌, ◌<◌, Bool, true, false, List, [], ◌∷◌, length, Option, Some, None, refl, sym, ap, ◌∙◌, subst, arith, cond}
+use Rattle.std.proofs.Common.{◌≡◌, ℕ, ◌≤◌, Bool, true, false, List, [], ◌∷◌, length, Some, None, refl, sym, ap, ◌∙◌, subst, arith, cond}
 use Rattle.std.specs.Prelude.{nat_lt}
 use Rattle.std.proofs.lemmas.Bool.Decides.{nat_tests}
 use Rattle.ghc_term.specs.Tree as term
@@ -17,10 +17,9 @@ use Rattle.ghc_reader.specs.Derived.{tree_of, trees_of, cells_of}
 use Rattle.ghc_reader.specs.Depth.{IsTooDeep}
 use Rattle.ghc_reader.specs.Lexed.{IsLexed, most_bytes}
 use Rattle.ghc_reader.specs.Amounts.{widest, nodes}
-use Rattle.ghc_reader.specs.Limits.{first_exceeded, of_term}
 use Rattle.ghc_reader.specs.Lowered.{Says}
 use Rattle.ghc_reader.specs.Read.{IsReadTerm}
-use Rattle.ghc_reader.proofs.Meanings.{meaning, said, nodes_of_meaning, IsSound, AreSound, meaning_in_grammar}
+use Rattle.ghc_reader.proofs.Meanings.{said, nodes_of_meaning, IsSound, AreSound, meaning_in_grammar}
 use Rattle.ghc_reader.proofs.InputSizes.{weights, most_open, term_bytes, term_deep, shallow_opens}
 use Rattle.ghc_reader.proofs.TokenBytes.{AreGood, good_tokens, tokens_bytes}
 

@@ -11,8 +11,8 @@ use Rattle.ghc_reader.specs.Derived.{tree_of, arguments_of, list_of, trees_of, c
 use Rattle.ghc_reader.specs.declared.source.SourceTerm.{SourceTerm}
 use Rattle.ghc_reader.specs.declared.source.SourceTerm.TheVariants as v
 use Rattle.ghc_reader.specs.declared.source.SourceTerm.TheViews as w
-use Rattle.ghc_reader.specs.declared.halt.Halt.{Halt}
-use Rattle.ghc_reader.specs.declared.halt.Halt.TheVariants as halt
+use Rattle.ghc_reader.specs.declared.parse_error.ParseError.{ParseError}
+use Rattle.ghc_reader.specs.declared.parse_error.ParseError.TheVariants as parse_error
 use Rattle.ghc_reader.specs.Viable.{IfSyntax}
 use Rattle.ghc_reader.specs.Source as tree
 use Rattle.ghc_reader.specs.Source.{Tree, Trees, Goal, Value, cells}
@@ -22,12 +22,12 @@ use Rattle.ghc_reader.proofs.Loops.{TermsSoFar, ends_at_last}
 use Rattle.ghc_reader.proofs.TermFaults as faults
 
 -- a fault that `?` hands on
-pub passes : {T : Type 0} (r : Result T Halt) (e y : Halt) (P Q : ℕ → Type 0) → r ≡ Err y → y ≡ e → ((n : ℕ) → P n → Q n) → IfSyntax e P → IfErr r (λ y. IfSyntax y Q)
+pub passes : {T : Type 0} (r : Result T ParseError) (e y : ParseError) (P Q : ℕ → Type 0) → r ≡ Err y → y ≡ e → ((n : ℕ) → P n → Q n) → IfSyntax e P → IfErr r (λ y. IfSyntax y Q)
 passes r e y P Q was same f h = subst (λ q. IfErr q (λ y. IfSyntax y Q)) (sym was) (subst (λ y. IfSyntax y Q) (sym same) (there e h))
   where
-    there : (e : Halt) → IfSyntax e P → IfSyntax e Q
-    there halt.Memory h = tt
-    there (halt.Syntax n) h = f n h
+    there : (e : ParseError) → IfSyntax e P → IfSyntax e Q
+    there parse_error.Memory h = tt
+    there (parse_error.Syntax n) h = f n h
 
 abbrev pub TermFound : List Token → Tree → List Token → Type 0
 TermFound = Found Term Tree term tree_of EndsTerm
@@ -131,7 +131,7 @@ pub found_terms : (ts behind : List Token) (a : Trees) → TermsSoFar ts a behin
 found_terms ts behind a x n = record { derivation = x.so_far; spelled = x.spelled; sees = x.sees; stops = ends_at_last x.so_far (first behind) x.stops n }
 
 -- a fault that is handed on
-pub hands_on : {T : Type 0} (r : Result T Halt) (P Q : ℕ → Type 0) → ((n : ℕ) → P n → Q n) → IfErr r (λ e. IfSyntax e P) → IfErr r (λ e. IfSyntax e Q)
+pub hands_on : {T : Type 0} (r : Result T ParseError) (P Q : ℕ → Type 0) → ((n : ℕ) → P n → Q n) → IfErr r (λ e. IfSyntax e P) → IfErr r (λ e. IfSyntax e Q)
 hands_on (Ok x) P Q f h = tt
-hands_on (Err halt.Memory) P Q f h = tt
-hands_on (Err (halt.Syntax n)) P Q f h = f n h
+hands_on (Err parse_error.Memory) P Q f h = tt
+hands_on (Err (parse_error.Syntax n)) P Q f h = f n h

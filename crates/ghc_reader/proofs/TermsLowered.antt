@@ -1,7 +1,6 @@
 -- What terms say, and which variables they meet.
 use Rattle.std.proofs.Common.{◌≡◌, ℕ, ◌+◌, ◌<◌, List, [], ◌∷◌, ◌++◌, length, map, take, get_or, refl, sym, ap, ◌∙◌, subst, append_assoc, Box, Global, Vec}
 use Rattle.std.proofs.lemmas.List.{append-nil, map_push, take_more}
-use Rattle.ghc_term.specs.declared.var_name.VarName.{VarName}
 use Rattle.ghc_term.specs.Tree as term
 use Rattle.ghc_term.specs.Tree.{node, trees, cons, nil}
 use Rattle.ghc_term.specs.Variables.{variables, variables_of_all, variables_of_list}

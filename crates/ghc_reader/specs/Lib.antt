@@ -12,10 +12,10 @@ pub mod Pieces
 pub mod Places
 pub mod Lexed
 pub mod Depth
-pub mod Written
-pub mod WrittenCode
 pub mod Amounts
 pub mod Limits
+pub mod Written
+pub mod WrittenCode
 pub mod Tests
 pub mod Lowered
 pub mod Scope

@@ -1,5 +1,5 @@
 -- What it means that terms, goals, a written clause or a query say what the parse tree says.
-use Rattle.std.specs.Prelude.{◌≡◌, ◌≢◌, ℕ, ◌+◌, List, [], ◌∷◌, Bool, true, false, not, cond, length, filter, Option, Some, None, MatchOption, slice_get, codes}
+use Rattle.std.specs.Prelude.{◌≡◌, ℕ, ◌+◌, List, [], ◌∷◌, Bool, false, not, cond, length, filter, Option, Some, None, MatchOption, slice_get, codes}
 use Rattle.ghc_term.specs.declared.var_name.VarName.{VarName}
 use Rattle.ghc_term.specs.declared.operator.Operator.{Operator}
 use Rattle.ghc_term.specs.declared.operator.Operator.TheVariants as operator

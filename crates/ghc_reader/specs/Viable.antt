@@ -1,8 +1,8 @@
 -- Where a list of tokens stops being the beginning of a text.
 use Rattle.std.specs.Prelude.{◌≡◌, ◌≢◌, ℕ, ◌+◌, ◌<◌, ◌≤◌, List, [], ◌++◌, take, length, ⊤}
 use Rattle.ghc_reader.specs.declared.token.Token.{Token}
-use Rattle.ghc_reader.specs.declared.halt.Halt.{Halt}
-use Rattle.ghc_reader.specs.declared.halt.Halt.TheVariants as halt
+use Rattle.ghc_reader.specs.declared.parse_error.ParseError.{ParseError}
+use Rattle.ghc_reader.specs.declared.parse_error.ParseError.TheVariants as parse_error
 
 -- the tokens begin a text: C are the derivations of its grammar, and `spell c []` the tokens of one
 abbrev pub Viable : (C : Type 0) → (C → List Token → List Token) → List Token → Type 0
@@ -16,6 +16,6 @@ pub record FaultAt (C : Type 0) (spell : C → List Token → List Token) (ts : 
   pub end : n ≡ length ts → (c : C) → spell c [] ≢ ts
 
 -- what holds of the place of a fault
-abbrev pub IfSyntax : Halt → (ℕ → Type 0) → Type 0
-IfSyntax halt.Memory P = ⊤
-IfSyntax (halt.Syntax n) P = P n
+abbrev pub IfSyntax : ParseError → (ℕ → Type 0) → Type 0
+IfSyntax parse_error.Memory P = ⊤
+IfSyntax (parse_error.Syntax n) P = P n

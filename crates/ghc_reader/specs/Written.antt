@@ -1,10 +1,12 @@
 -- Programs and queries as they are written, in the terms of the language.
-use Rattle.std.specs.Prelude.{◌≡◌, ◌≢◌, ℕ, ◌+◌, List, [], ◌∷◌, ◌++◌, Bool, true, false, length, filter, Some, slice_get, codes}
+use Rattle.std.specs.Prelude.{◌≡◌, ◌≢◌, ℕ, ◌+◌, ◌≤◌, List, [], ◌∷◌, ◌++◌, Bool, true, false, length, filter, Some, slice_get, codes}
+use Rattle.ghc_term.specs.declared.limit.Limit.TheVariants as limit
 use Rattle.ghc_term.specs.declared.var_name.VarName.{VarName}
 use Rattle.ghc_term.specs.Lists.{In}
 use Rattle.ghc_term.specs.Tree.{Tree}
 use Rattle.ghc_term.specs.Goal.{Goal, call, unify, assign, stream}
 use Rattle.ghc_term.specs.Variables.{variables_of_list, leaf_variables, variables_of_goal, variables_of_goals, firsts}
+use Rattle.ghc_reader.specs.Limits.{most}
 use Rattle.ghc_reader.specs.declared.written.Guard.{Guard}
 use Rattle.ghc_reader.specs.declared.written.Guard.TheVariants.{Item as item, Comparison as comparison}
 
@@ -50,19 +52,33 @@ is_stream (unify _ _) = false
 is_stream (assign _ _) = false
 is_stream (stream _ _) = true
 
--- The variables of a clause are numbered and each has its name, and no stream stands in its body.
+-- No call among the goals has more arguments than a goal may have.
+abbrev pub AreNarrow : List Goal → Type 0
+AreNarrow gs = (f : List ℕ) (ts : List Tree) → In (call f ts) gs → length ts ≤ most limit.Arity
+
+-- The goals, and n variables, are no more than a clause or a query may have, and no call among the goals has more arguments than a goal may have.
+pub record IsWithinLimits (gs : List Goal) (n : ℕ) : Type 0 where
+  pub goals : length gs ≤ most limit.Goals
+  pub variables : n ≤ most limit.Variables
+  pub arguments : AreNarrow gs
+
+-- The variables of a clause are numbered and each has its name, no stream stands in its body, and its head, its body and its variables are within the limits.
 pub record IsWellWritten (c : WrittenClause) : Type 0 where
   pub numbered : AreNumbered (variables_of_written c)
   pub named : length c.variables ≡ length (firsts [] (variables_of_written c))
   pub closed : filter is_stream c.body ≡ []
+  pub narrow : length c.head ≤ most limit.Arity
+  pub limited : IsWithinLimits c.body (length c.variables)
 
--- Each clause is well written.
-abbrev pub AreWellWritten : List WrittenClause → Type 0
-AreWellWritten cs = (c : WrittenClause) → In c cs → IsWellWritten c
+-- There are no more clauses than a program may have, and each is well written.
+pub record AreWellWritten (cs : List WrittenClause) : Type 0 where
+  pub few : length cs ≤ most limit.Clauses
+  pub each : (c : WrittenClause) → In c cs → IsWellWritten c
 
--- The variables of a query are numbered and each has a name of its own, or `_`, and its k-th stream goal is stream k.
+-- The variables of a query are numbered and each has a name of its own, or `_`, its k-th stream goal is stream k, and its goals and variables are within the limits.
 pub record IsWellAsked (q : WrittenQuery) : Type 0 where
   pub numbered : AreNumbered (variables_of_goals q.goals)
   pub named : length q.variables ≡ length (firsts [] (variables_of_goals q.goals))
   pub apart : AreApart q.variables
   pub streams : (i k : ℕ) (x : VarName) → slice_get (filter is_stream q.goals) i ≡ Some (stream k x) → k ≡ i + 1
+  pub limited : IsWithinLimits q.goals (length q.variables)

@@ -10,7 +10,7 @@ ghost use Rattle.ghc_reader.specs.Viable.{IfSyntax};
 use crate::expression_parser::expression;
 use crate::front::{eat, item_like, name, next_comparison};
 use crate::goal_parser::{body, item};
-use crate::halt::Halt;
+use crate::parse_error::ParseError;
 use crate::source::{SourceCall, SourceClause, SourceGoal, SourceTest};
 use crate::term_parser::arguments;
 use crate::token::{Mark, Token};
@@ -24,13 +24,13 @@ struct SourceRight {
 }
 
 /// The clause that the tokens begin with, and the tokens after it.
-pub fn clause(alloc: Global, tokens: &[Token]) -> Result<(SourceClause, &[Token]), Halt>
+pub fn clause(alloc: Global, tokens: &[Token]) -> Result<(SourceClause, &[Token]), ParseError>
     ensures found { IfOk result (λ x. FoundAt Clause ClauseTree clause clause_of EndsClause tokens.now (clause_view x.0) x.1.now) }
     ensures shorter { IfOk result (λ x. length x.1.now < length tokens.now) }
     ensures fault { IfErr result (λ e. IfSyntax e (λ left. Fault Clause clause EndsClause tokens.now left)) }
 {
     let Some((name, behind)) = name(tokens) else {
-        return Err(Halt::Syntax(tokens.len()));
+        return Err(ParseError::Syntax(tokens.len()));
     };
     let (arguments, rest) = arguments(alloc, behind)?;
     let name = name.share()?;
@@ -46,7 +46,7 @@ pub fn clause(alloc: Global, tokens: &[Token]) -> Result<(SourceClause, &[Token]
         return Ok((SourceClause { head, guard, body }, after));
     }
     let Some(inside) = eat(Mark::Define, rest) else {
-        return Err(Halt::Syntax(rest.len()));
+        return Err(ParseError::Syntax(rest.len()));
     };
     let (right, after) = right(alloc, inside)?;
     let SourceRight { guard, body } = right;
@@ -54,7 +54,7 @@ pub fn clause(alloc: Global, tokens: &[Token]) -> Result<(SourceClause, &[Token]
 }
 
 // What stands after the mark that follows a head. Tests and goals are read as tests, and what ends them tells which they are.
-fn right(alloc: Global, tokens: &[Token]) -> Result<(SourceRight, &[Token]), Halt>
+fn right(alloc: Global, tokens: &[Token]) -> Result<(SourceRight, &[Token]), ParseError>
     ensures found { IfOk result (λ x. FoundAt Right RightTree right right_of EndsRight tokens.now (right_view x.0) x.1.now) }
     ensures shorter { IfOk result (λ x. length x.1.now < length tokens.now) }
     ensures fault { IfErr result (λ e. IfSyntax e (λ left. Fault Right right EndsRight tokens.now left)) }
@@ -62,17 +62,17 @@ fn right(alloc: Global, tokens: &[Token]) -> Result<(SourceRight, &[Token]), Hal
     let (tests, rest) = tests(alloc, tokens)?;
     if let Some(after) = eat(Mark::Stop, rest) {
         let Some(body) = as_body(alloc, tests)? else {
-            return Err(Halt::Syntax(rest.len()));
+            return Err(ParseError::Syntax(rest.len()));
         };
         let guard = Vec::new(alloc);
         return Ok((SourceRight { guard, body }, after));
     }
     let Some(behind) = eat(Mark::Bar, rest) else {
-        return Err(Halt::Syntax(rest.len()));
+        return Err(ParseError::Syntax(rest.len()));
     };
     let (body, rest) = body(alloc, behind)?;
     match eat(Mark::Stop, rest) {
-        None => Err(Halt::Syntax(rest.len())),
+        None => Err(ParseError::Syntax(rest.len())),
         Some(after) => Ok((SourceRight { guard: tests, body }, after)),
     }
 }
@@ -93,7 +93,7 @@ fn as_body(alloc: Global, tests: Vec<SourceTest>) -> Result<Option<Vec<SourceGoa
     Ok(Some(goals))
 }
 
-fn tests(alloc: Global, tokens: &[Token]) -> Result<(Vec<SourceTest>, &[Token]), Halt>
+fn tests(alloc: Global, tokens: &[Token]) -> Result<(Vec<SourceTest>, &[Token]), ParseError>
     ensures found { IfOk result (λ x. FoundAt Tests (List Test) tests tests_of EndsTests tokens.now (test_views x.0.items) x.1.now) }
     ensures shorter { IfOk result (λ x. length x.1.now < length tokens.now) }
     ensures fault { IfErr result (λ e. IfSyntax e (λ left. Fault Tests tests EndsTests tokens.now left)) }
@@ -109,7 +109,7 @@ fn tests(alloc: Global, tokens: &[Token]) -> Result<(Vec<SourceTest>, &[Token]),
     Ok((all, rest))
 }
 
-fn test(alloc: Global, tokens: &[Token]) -> Result<(SourceTest, &[Token]), Halt>
+fn test(alloc: Global, tokens: &[Token]) -> Result<(SourceTest, &[Token]), ParseError>
     ensures found { IfOk result (λ x. FoundAt TestDerivation Test test test_of EndsTest tokens.now (test_view x.0) x.1.now) }
     ensures shorter { IfOk result (λ x. length x.1.now < length tokens.now) }
     ensures fault { IfErr result (λ e. IfSyntax e (λ left. Fault TestDerivation test EndsTest tokens.now left)) }
@@ -120,7 +120,7 @@ fn test(alloc: Global, tokens: &[Token]) -> Result<(SourceTest, &[Token]), Halt>
     }
     let (left, rest) = expression(alloc, tokens)?;
     let Some((operator, after)) = next_comparison(rest) else {
-        return Err(Halt::Syntax(rest.len()));
+        return Err(ParseError::Syntax(rest.len()));
     };
     let (right, rest) = expression(alloc, after)?;
     Ok((SourceTest::Compare(left, operator, right), rest))

@@ -8,14 +8,17 @@ ghost use Rattle.ghc_reader.specs.Parts.{EndsOperand, EndsProduct, EndsExpressio
 ghost use Rattle.ghc_reader.specs.Viable.{IfSyntax};
 
 use crate::front::{eat, next, next_product, next_sum};
-use crate::halt::Halt;
+use crate::parse_error::ParseError;
 use crate::source::SourceExpression;
 use crate::token::{Mark, Product, Sum, Token};
 use std::alloc::Global;
 
 /// The expression that the tokens begin with, and the tokens after it.
 #[cycle(expression)]
-pub fn expression(alloc: Global, tokens: &[Token]) -> Result<(SourceExpression, &[Token]), Halt>
+pub fn expression(
+    alloc: Global,
+    tokens: &[Token],
+) -> Result<(SourceExpression, &[Token]), ParseError>
     ensures found { IfOk result (λ x. Found Expression Value expression value_of EndsExpression tokens.now (value_view x.0) x.1.now) }
     ensures shorter { IfOk result (λ x. length x.1.now < length tokens.now) }
     ensures fault { IfErr result (λ e. IfSyntax e (λ left. Fault Expression expression EndsExpression tokens.now left)) }
@@ -31,7 +34,7 @@ pub fn expression(alloc: Global, tokens: &[Token]) -> Result<(SourceExpression, 
 }
 
 #[cycle(expression)]
-fn factors(alloc: Global, tokens: &[Token]) -> Result<(SourceExpression, &[Token]), Halt>
+fn factors(alloc: Global, tokens: &[Token]) -> Result<(SourceExpression, &[Token]), ParseError>
     ensures found { IfOk result (λ x. Found Factors Value product product_of EndsProduct tokens.now (value_view x.0) x.1.now) }
     ensures shorter { IfOk result (λ x. length x.1.now < length tokens.now) }
     ensures fault { IfErr result (λ e. IfSyntax e (λ left. Fault Factors product EndsProduct tokens.now left)) }
@@ -47,28 +50,28 @@ fn factors(alloc: Global, tokens: &[Token]) -> Result<(SourceExpression, &[Token
 }
 
 #[cycle(expression)]
-fn operand(alloc: Global, tokens: &[Token]) -> Result<(SourceExpression, &[Token]), Halt>
+fn operand(alloc: Global, tokens: &[Token]) -> Result<(SourceExpression, &[Token]), ParseError>
     ensures found { IfOk result (λ x. Found Operand Value operand operand_of EndsOperand tokens.now (value_view x.0) x.1.now) }
     ensures shorter { IfOk result (λ x. length x.1.now < length tokens.now) }
     ensures fault { IfErr result (λ e. IfSyntax e (λ left. Fault Operand operand EndsOperand tokens.now left)) }
 {
     let Some((token, behind)) = next(tokens) else {
-        return Err(Halt::Syntax(0));
+        return Err(ParseError::Syntax(0));
     };
     match token {
         Token::Variable(variable) => Ok((SourceExpression::Variable(variable.share()?), behind)),
         Token::Integer(integer) => Ok((SourceExpression::Integer(*integer), behind)),
-        Token::Name(_) => Err(Halt::Syntax(tokens.len())),
-        Token::Comparison(_) => Err(Halt::Syntax(tokens.len())),
-        Token::Sum(_) => Err(Halt::Syntax(tokens.len())),
-        Token::Product(_) => Err(Halt::Syntax(tokens.len())),
+        Token::Name(_) => Err(ParseError::Syntax(tokens.len())),
+        Token::Comparison(_) => Err(ParseError::Syntax(tokens.len())),
+        Token::Sum(_) => Err(ParseError::Syntax(tokens.len())),
+        Token::Product(_) => Err(ParseError::Syntax(tokens.len())),
         Token::Mark(_) => {
             let Some(inside) = eat(Mark::Open, tokens) else {
-                return Err(Halt::Syntax(tokens.len()));
+                return Err(ParseError::Syntax(tokens.len()));
             };
             let (value, rest) = expression(alloc, inside)?;
             match eat(Mark::Close, rest) {
-                None => Err(Halt::Syntax(rest.len())),
+                None => Err(ParseError::Syntax(rest.len())),
                 Some(after) => Ok((value, after)),
             }
         }
@@ -80,9 +83,9 @@ fn sums(
     alloc: Global,
     first: SourceExpression,
     others: Vec<(Sum, SourceExpression)>,
-) -> Result<SourceExpression, Halt>
+) -> Result<SourceExpression, ParseError>
     ensures value { IfOk result (λ x. value_view x ≡ sums (value_view first) (summand_views others.items)) }
-    ensures memory { IfErr result (λ e. e ≡ Halt.Memory) }
+    ensures memory { IfErr result (λ e. e ≡ ParseError.Memory) }
 {
     if others.is_empty() {
         return Ok(first);
@@ -95,9 +98,9 @@ fn products(
     alloc: Global,
     first: SourceExpression,
     others: Vec<(Product, SourceExpression)>,
-) -> Result<SourceExpression, Halt>
+) -> Result<SourceExpression, ParseError>
     ensures value { IfOk result (λ x. value_view x ≡ products (value_view first) (factor_views others.items)) }
-    ensures memory { IfErr result (λ e. e ≡ Halt.Memory) }
+    ensures memory { IfErr result (λ e. e ≡ ParseError.Memory) }
 {
     if others.is_empty() {
         return Ok(first);

@@ -9,14 +9,14 @@ ghost use Rattle.ghc_reader.specs.Viable.{IfSyntax};
 
 use crate::expression_parser::expression;
 use crate::front::{assigned, eat, name};
-use crate::halt::Halt;
+use crate::parse_error::ParseError;
 use crate::source::{SourceCall, SourceGoal, SourceTerm};
 use crate::term_parser::{arguments, term};
 use crate::token::{Mark, Token};
 use std::alloc::Global;
 
 /// The goals that the tokens begin with, and the tokens after them.
-pub fn body(alloc: Global, tokens: &[Token]) -> Result<(Vec<SourceGoal>, &[Token]), Halt>
+pub fn body(alloc: Global, tokens: &[Token]) -> Result<(Vec<SourceGoal>, &[Token]), ParseError>
     ensures found { IfOk result (λ x. FoundAt Body (List Goal) body goals_of EndsBody tokens.now (goal_views x.0.items) x.1.now) }
     ensures shorter { IfOk result (λ x. length x.1.now < length tokens.now) }
     ensures fault { IfErr result (λ e. IfSyntax e (λ left. Fault Body body EndsBody tokens.now left)) }
@@ -33,7 +33,7 @@ pub fn body(alloc: Global, tokens: &[Token]) -> Result<(Vec<SourceGoal>, &[Token
 }
 
 /// The goal that the tokens begin with, and the tokens after it.
-pub fn item(alloc: Global, tokens: &[Token]) -> Result<(SourceGoal, &[Token]), Halt>
+pub fn item(alloc: Global, tokens: &[Token]) -> Result<(SourceGoal, &[Token]), ParseError>
     ensures found { IfOk result (λ x. FoundAt Item Goal item item_of EndsItem tokens.now (goal_view x.0) x.1.now) }
     ensures shorter { IfOk result (λ x. length x.1.now < length tokens.now) }
     ensures fault { IfErr result (λ e. IfSyntax e (λ left. Fault Item item EndsItem tokens.now left)) }
@@ -66,7 +66,7 @@ pub fn item(alloc: Global, tokens: &[Token]) -> Result<(SourceGoal, &[Token]), H
     }
     let (left, rest) = term(alloc, tokens)?;
     match eat(Mark::Equals, rest) {
-        None => Err(Halt::Syntax(rest.len())),
+        None => Err(ParseError::Syntax(rest.len())),
         Some(after) => {
             let (right, rest) = term(alloc, after)?;
             Ok((SourceGoal::Unify(left, right), rest))

@@ -7,7 +7,7 @@ ghost use Rattle.ghc_reader.specs.Parts.{ClosedFront, EndsWhole, Fault};
 ghost use Rattle.ghc_reader.specs.Viable.{FaultAt, IfSyntax};
 
 use crate::front::next;
-use crate::halt::Halt;
+use crate::parse_error::ParseError;
 use crate::source::SourceTerm;
 use crate::term_parser::term;
 use crate::token::Token;
@@ -16,20 +16,20 @@ use std::alloc::Global;
 /// The term that the tokens are, all of the tokens, in which no variable stands. Where they aren't the tokens of such
 /// a term, `Syntax` has the number of tokens in front of the first one with which they begin none; that is the first
 /// variable, if nothing in front of it is amiss. Time and memory grow with the number of tokens.
-pub fn parse_term(alloc: Global, tokens: &[Token]) -> Result<SourceTerm, Halt>
+pub fn parse_term(alloc: Global, tokens: &[Token]) -> Result<SourceTerm, ParseError>
     ensures found { IfOk result (λ t. (i : Input) × (tokens.now ≡ input i []) × (tree_of i.term ≡ view t)) }
-    ensures only { (i : Input) → tokens.now ≡ input i [] → MatchResult result (λ t. tree_of i.term ≡ view t) (λ e. e ≡ Halt.Memory) }
+    ensures only { (i : Input) → tokens.now ≡ input i [] → MatchResult result (λ t. tree_of i.term ≡ view t) (λ e. e ≡ ParseError.Memory) }
     ensures fault { IfErr result (λ e. IfSyntax e (λ n. FaultAt Input input tokens.now n)) }
 {
     let closed = closed_front(tokens);
     match whole_term(alloc, closed) {
-        Err(Halt::Memory) => Err(Halt::Memory),
-        Err(Halt::Syntax(left)) => Err(Halt::Syntax(closed.len() - left)),
+        Err(ParseError::Memory) => Err(ParseError::Memory),
+        Err(ParseError::Syntax(left)) => Err(ParseError::Syntax(closed.len() - left)),
         Ok(term) => {
             if closed.len() == tokens.len() {
                 Ok(term)
             } else {
-                Err(Halt::Syntax(closed.len()))
+                Err(ParseError::Syntax(closed.len()))
             }
         }
     }
@@ -50,7 +50,7 @@ fn closed_front(tokens: &[Token]) -> &[Token]
     tokens
 }
 
-fn whole_term(alloc: Global, tokens: &[Token]) -> Result<SourceTerm, Halt>
+fn whole_term(alloc: Global, tokens: &[Token]) -> Result<SourceTerm, ParseError>
     ensures found { IfOk result (λ t. (d : Term) × (tokens.now ≡ term d []) × (tree_of d ≡ view t)) }
     ensures fault { IfErr result (λ e. IfSyntax e (λ left. Fault Term term EndsWhole tokens.now left)) }
 {
@@ -58,6 +58,6 @@ fn whole_term(alloc: Global, tokens: &[Token]) -> Result<SourceTerm, Halt>
     if rest.is_empty() {
         Ok(term)
     } else {
-        Err(Halt::Syntax(rest.len()))
+        Err(ParseError::Syntax(rest.len()))
     }
 }

@@ -8,7 +8,7 @@ ghost use Rattle.ghc_term.specs.Tree.{Tree};
 ghost use Rattle.ghc_reader.specs.Read.{IsReadProgram, IsReadQuery, IsReadTerm};
 
 use crate::lowering::{lower_closed, lower_program, lower_query};
-use crate::reading::{parsed_program, parsed_query, parsed_term};
+use crate::parse_trees::{parsed_program, parsed_query, parsed_term};
 use crate::written::{Query, Source};
 use ghc_term::{Fault, Ground};
 use std::alloc::Global;

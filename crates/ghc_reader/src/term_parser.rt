@@ -8,20 +8,20 @@ ghost use Rattle.ghc_reader.specs.Parts.{EndsTerm, EndsArguments, EndsTerms, End
 ghost use Rattle.ghc_reader.specs.Viable.{IfSyntax};
 
 use crate::front::{eat, next};
-use crate::halt::Halt;
+use crate::parse_error::ParseError;
 use crate::source::SourceTerm;
 use crate::token::{Mark, Token};
 use std::alloc::Global;
 
 /// The term that the tokens begin with, and the tokens after it.
 #[cycle(term)]
-pub fn term(alloc: Global, tokens: &[Token]) -> Result<(SourceTerm, &[Token]), Halt>
+pub fn term(alloc: Global, tokens: &[Token]) -> Result<(SourceTerm, &[Token]), ParseError>
     ensures found { IfOk result (λ x. Found Term Tree term tree_of EndsTerm tokens.now (view x.0) x.1.now) }
     ensures shorter { IfOk result (λ x. length x.1.now < length tokens.now) }
     ensures fault { IfErr result (λ e. IfSyntax e (λ left. Fault Term term EndsTerm tokens.now left)) }
 {
     let Some((token, behind)) = next(tokens) else {
-        return Err(Halt::Syntax(0));
+        return Err(ParseError::Syntax(0));
     };
     match token {
         Token::Variable(variable) => Ok((SourceTerm::Variable(variable.share()?), behind)),
@@ -30,11 +30,11 @@ pub fn term(alloc: Global, tokens: &[Token]) -> Result<(SourceTerm, &[Token]), H
             let (args, rest) = arguments(alloc, behind)?;
             Ok((SourceTerm::Structure(name.share()?, args), rest))
         }
-        Token::Comparison(_) => Err(Halt::Syntax(tokens.len())),
-        Token::Sum(_) => Err(Halt::Syntax(tokens.len())),
-        Token::Product(_) => Err(Halt::Syntax(tokens.len())),
+        Token::Comparison(_) => Err(ParseError::Syntax(tokens.len())),
+        Token::Sum(_) => Err(ParseError::Syntax(tokens.len())),
+        Token::Product(_) => Err(ParseError::Syntax(tokens.len())),
         Token::Mark(_) => match eat(Mark::OpenList, tokens) {
-            None => Err(Halt::Syntax(tokens.len())),
+            None => Err(ParseError::Syntax(tokens.len())),
             Some(inside) => list(alloc, inside),
         },
     }
@@ -42,7 +42,7 @@ pub fn term(alloc: Global, tokens: &[Token]) -> Result<(SourceTerm, &[Token]), H
 
 /// What stands in the brackets after a name, where there are any, and the tokens after them.
 #[cycle(term)]
-pub fn arguments(alloc: Global, tokens: &[Token]) -> Result<(Vec<SourceTerm>, &[Token]), Halt>
+pub fn arguments(alloc: Global, tokens: &[Token]) -> Result<(Vec<SourceTerm>, &[Token]), ParseError>
     ensures found { IfOk result (λ x. Found Arguments Trees arguments arguments_of EndsArguments tokens.now (views x.0.items) x.1.now) }
     ensures shorter { IfOk result (λ x. length x.1.now ≤ length tokens.now) }
     ensures fault { IfErr result (λ e. IfSyntax e (λ left. Fault Arguments arguments EndsArguments tokens.now left)) }
@@ -52,13 +52,13 @@ pub fn arguments(alloc: Global, tokens: &[Token]) -> Result<(Vec<SourceTerm>, &[
     };
     let (args, rest) = terms(alloc, inside)?;
     match eat(Mark::Close, rest) {
-        None => Err(Halt::Syntax(rest.len())),
+        None => Err(ParseError::Syntax(rest.len())),
         Some(after) => Ok((args, after)),
     }
 }
 
 #[cycle(term)]
-fn terms(alloc: Global, tokens: &[Token]) -> Result<(Vec<SourceTerm>, &[Token]), Halt>
+fn terms(alloc: Global, tokens: &[Token]) -> Result<(Vec<SourceTerm>, &[Token]), ParseError>
     ensures found { IfOk result (λ x. Found Terms Trees terms trees_of EndsTerms tokens.now (views x.0.items) x.1.now) }
     ensures shorter { IfOk result (λ x. length x.1.now < length tokens.now) }
     ensures fault { IfErr result (λ e. IfSyntax e (λ left. Fault Terms terms EndsTerms tokens.now left)) }
@@ -76,7 +76,7 @@ fn terms(alloc: Global, tokens: &[Token]) -> Result<(Vec<SourceTerm>, &[Token]),
 
 // What stands after the bracket that opens a list.
 #[cycle(term)]
-fn list(alloc: Global, tokens: &[Token]) -> Result<(SourceTerm, &[Token]), Halt>
+fn list(alloc: Global, tokens: &[Token]) -> Result<(SourceTerm, &[Token]), ParseError>
     ensures found { IfOk result (λ x. Found Rest Tree rest list_of EndsRest tokens.now (view x.0) x.1.now) }
     ensures shorter { IfOk result (λ x. length x.1.now < length tokens.now) }
     ensures fault { IfErr result (λ e. IfSyntax e (λ left. Fault Rest rest EndsRest tokens.now left)) }
@@ -90,11 +90,11 @@ fn list(alloc: Global, tokens: &[Token]) -> Result<(SourceTerm, &[Token]), Halt>
         return Ok((SourceTerm::List(items, end), after));
     }
     let Some(behind) = eat(Mark::Bar, rest) else {
-        return Err(Halt::Syntax(rest.len()));
+        return Err(ParseError::Syntax(rest.len()));
     };
     let (tail, rest) = term(alloc, behind)?;
     match eat(Mark::CloseList, rest) {
-        None => Err(Halt::Syntax(rest.len())),
+        None => Err(ParseError::Syntax(rest.len())),
         Some(after) => Ok((SourceTerm::List(items, Box::new(alloc, tail)?), after)),
     }
 }

@@ -36,7 +36,7 @@ impl Model for WrittenClause {
     ghost view = { λ c. record { name = c.name; head = c.head.items; guards = c.guards.items; body = c.body.items; variables = c.variables.items } };
 }
 
-/// A program as it is written: its clauses in order.
+/// A program as it is written: its clauses in order, at most 10,000, and each within the limits of a clause.
 pub struct Source {
     pub(crate) clauses: Vec<WrittenClause>,
 }
@@ -83,7 +83,7 @@ impl Source {
 }
 
 /// A query as it is written: its goals in order, and the names of its variables. The i-th of them, by first occurrence,
-/// is `_0_i`. A goal `true` is left out, and the k-th goal `instream(S)` is stream k.
+/// is `_0_i`. A goal `true` is left out, and the k-th goal `instream(S)` is stream k. It is within the limits of a query.
 pub struct Query {
     pub(crate) goals: Vec<Goal>,
     pub(crate) variables: Vec<Name>,

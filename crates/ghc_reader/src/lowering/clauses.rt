@@ -1,7 +1,7 @@
 // From the parse trees of clauses to a program as it is written.
-ghost use Rattle.std.specs.Prelude.{IfOk};
+ghost use Rattle.std.specs.Prelude.{◌≡◌, IfOk, None};
+ghost use Rattle.ghc_reader.specs.Limits.{first_exceeded, of_program};
 ghost use Rattle.ghc_reader.specs.Views.{clause_view, clause_views};
-ghost use Rattle.ghc_reader.specs.Written.{IsWellWritten};
 ghost use Rattle.ghc_reader.specs.Lowered.{Each, SaysClause};
 
 use crate::lowering::goals::lower_body;
@@ -13,9 +13,10 @@ use crate::source::SourceClause;
 use crate::written::{Source, WrittenClause};
 use std::alloc::{AllocError, Global};
 
-/// The program that parse trees say, clause by clause. It fails where memory is refused, or where the variables of a
-/// clause are more than a number of 32 bits counts. Time grows with the size of the trees.
+/// The program that parse trees within the limits say, clause by clause. It fails where memory is refused. Time grows
+/// with the size of the trees.
 pub(crate) fn lower_program(alloc: Global, clauses: &[SourceClause]) -> Result<Source, AllocError>
+    requires { first_exceeded (of_program (clause_views clauses.now)) ≡ None }
     ensures { IfOk result (λ s. Each SaysClause (clause_views clauses.now) s) }
 {
     let lists = Lists::new(alloc)?;
@@ -27,8 +28,7 @@ pub(crate) fn lower_program(alloc: Global, clauses: &[SourceClause]) -> Result<S
 }
 
 fn lower_clause(lists: &Lists, clause: &SourceClause) -> Result<WrittenClause, AllocError>
-    ensures says { IfOk result (λ w. SaysClause (clause_view clause.now) w) }
-    ensures well_written { IfOk result (λ w. IsWellWritten w) }
+    ensures { IfOk result (λ w. SaysClause (clause_view clause.now) w) }
 {
     let mut scope = Scope::new(lists.alloc());
     let name = clause.head.name.share()?;

@@ -1,6 +1,8 @@
 // From the parse trees of goals to goals.
-ghost use Rattle.std.specs.Prelude.{◌≡◌, IfOk, option_copied};
+ghost use Rattle.std.specs.Prelude.{◌≡◌, ◌<◌, ◌≤◌, length, IfOk, option_copied};
+ghost use Rattle.ghc_term.specs.declared.limit.Limit.TheVariants.{Goals};
 ghost use Rattle.ghc_term.specs.Variables.{variables_of_goal, variables_of_goals};
+ghost use Rattle.ghc_reader.specs.Limits.{most};
 ghost use Rattle.ghc_reader.specs.Views.{view, goal_view, goal_views};
 ghost use Rattle.ghc_reader.specs.Lowered.{Each, SaysGoal, SaysAsked, is_true, doing, variable_of, tail_of, AreCounted};
 ghost use Rattle.ghc_reader.specs.Scope.{MeetsAll, Counts};
@@ -58,12 +60,13 @@ pub(crate) fn lower_body(
     Ok(lowered)
 }
 
-/// The goals of a query, but `true`.
+/// The goals of a query, no more than it may have, but `true`.
 pub(crate) fn lower_asked(
     lists: &Lists,
     goals: &[SourceGoal],
     scope: &mut Scope,
 ) -> Result<Vec<Goal>, AllocError>
+    requires { length goals.now ≤ most Goals }
     ensures says { IfOk result (λ ws. Each (SaysAsked scope.new) (doing (goal_views goals.now)) ws.items) }
     ensures met { IfOk result (λ ws. MeetsAll scope.old (variables_of_goals ws.items) scope.new) }
     ensures streams { IfOk result (λ ws. AreCounted ws.items) }
@@ -85,6 +88,7 @@ fn lower_asked_goal(
     streams: &mut u32,
     scope: &mut Scope,
 ) -> Result<Goal, AllocError>
+    requires { streams.old < most Goals }
     ensures says { IfOk result (λ w. SaysAsked scope.new (goal_view goal.now) w) }
     ensures met { IfOk result (λ w. MeetsAll scope.old (variables_of_goal w) scope.new) }
     ensures counted { IfOk result (λ w. Counts streams.old w streams.new) }
@@ -92,11 +96,8 @@ fn lower_asked_goal(
     let Some(tail) = tail_of(goal) else {
         return lower_goal(lists, goal, scope);
     };
-    let Some(number) = streams.checked_add(1) else {
-        return Err(AllocError);
-    };
-    *streams = number;
-    Ok(Goal::stream(number, scope.variable(tail)?))
+    *streams += 1;
+    Ok(Goal::stream(*streams, scope.variable(tail)?))
 }
 
 // Whether the goal is `true`.

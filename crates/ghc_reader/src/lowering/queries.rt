@@ -1,5 +1,6 @@
 // From the parse trees of a query to the query as it is written, and from a closed parse tree to its term.
-ghost use Rattle.std.specs.Prelude.{[], IfOk};
+ghost use Rattle.std.specs.Prelude.{◌≡◌, [], IfOk, None};
+ghost use Rattle.ghc_reader.specs.Limits.{first_exceeded, of_query};
 ghost use Rattle.ghc_reader.specs.Views.{view, goal_views};
 ghost use Rattle.ghc_reader.specs.Lowered.{Says, SaysQuery, IsClosed};
 
@@ -12,9 +13,10 @@ use crate::written::Query;
 use ghc_term::Term;
 use std::alloc::{AllocError, Global};
 
-/// The query that parse trees say. It fails where memory is refused, or where its variables or its streams are more than
-/// a number of 32 bits counts. Time grows with the size of the trees.
+/// The query that parse trees within the limits say. It fails where memory is refused. Time grows with the size of the
+/// trees.
 pub(crate) fn lower_query(alloc: Global, goals: &[SourceGoal]) -> Result<Query, AllocError>
+    requires { first_exceeded (of_query (goal_views goals.now)) ≡ None }
     ensures { IfOk result (λ q. SaysQuery (goal_views goals.now) q) }
 {
     let lists = Lists::new(alloc)?;

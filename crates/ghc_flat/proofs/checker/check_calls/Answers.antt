@@ -1,9 +1,15 @@
-use Rattle.std.proofs.Common.{◌≡◌, ◌∙◌, sym, inl, inr, length, []}
+use Rattle.std.proofs.Common.{◌≡◌, ◌∙◌, sym, subst, inl, inr, length, []}
 use Rattle.ghc_flat.specs.Index.{Knows, numbers_at}
 use Rattle.ghc_flat.proofs.Clauses.{calls_next, first_undefined, same_call, not_a_call}
-use Rattle.ghc_term.proofs.ListsLemmas.{is_nothing, is_something}
+use Rattle.ghc_term.specs.Lists.{In}
+use Rattle.ghc_term.proofs.ListsLemmas.{in_place, is_nothing, is_something}
 use Rattle.ghc_flat.proofs.checker.check_calls.Goals as goal
 use Rattle.ghc_flat.proofs.checker.check_calls.Goals.{in-Call+else-is_empty, in_default}
+
+pub undefined-requires : goal.undefined-requires
+undefined-requires c =
+    let stands = in_place c.args.goals.now c.loop-goal.goal-index c.goal-item.result c.loop-goal-test.true c.goal-item.is in
+    c.requires c.in-Call.name.now c.in-Call.arguments.now (subst (λ g. In g c.args.goals.now) (sym c.in-Call.ensures) stands)
 
 pub returns-then-is_empty-clause-refused : goal.returns-then-is_empty-clause-refused
 returns-then-is_empty-clause-refused c =

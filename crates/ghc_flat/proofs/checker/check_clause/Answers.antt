@@ -3,7 +3,7 @@ use Rattle.std.proofs.lemmas.Result.{err_from_is_err_and}
 use Rattle.ghc_term.specs.declared.fault.Fault.TheVariants.{Memory}
 use Rattle.ghc_term.specs.Lists.{In}
 use Rattle.ghc_reader.specs.declared.written.Guard.{Guard}
-use Rattle.ghc_reader.specs.Written.{WrittenClause}
+use Rattle.ghc_reader.specs.Written.{WrittenClause, AreNarrow}
 use Rattle.ghc_flat.specs.declared.test.Test.{Test}
 use Rattle.ghc_flat.specs.Variables.{variables_of_list}
 use Rattle.std.proofs.Common.{◌⊎◌}
@@ -26,6 +26,9 @@ returns-in_err-tests-clause-refused c =
           let bad = subst (λ (w : WrittenClause). (g : Guard) × In g w.guards × ((ts : List Test) → ¬ MakesAmong n g ts)) c.written.view_is q.1 in
           inr (inr (inl (linear_written c.args.written rising, not_flat_written c.args.written n rising count bad, q.0)))
     ])
+
+pub check_calls-requires : goal.check_calls-requires
+check_calls-requires c = subst AreNarrow (sym (c.deref.ensures.value ∙ ap (λ (w : WrittenClause). w.body) c.written.view_is)) c.requires.limited.arguments
 
 pub returns-in_err-check_calls-clause-refused : goal.returns-in_err-check_calls-clause-refused
 returns-in_err-check_calls-clause-refused c =
@@ -51,7 +54,7 @@ invariant_of-result c =
       clause_of _ c.args.written c.in_ok-tests.tests.items n c.written.view_is c.requires c.in_ok-tests.ensures.made c.in_ok-head_variables.ensures.rising c.in_ok-head_variables.ensures.count c.in_ok-tests.ensures.among,
       c.in_ok-head_variables.ensures.count ∙ ap (λ (w : WrittenClause). length (variables_of_list w.head)) (sym c.written.view_is),
       subst (λ (w : WrittenClause). Rises 0 (variables_of_list w.head)) (sym c.written.view_is) c.in_ok-head_variables.ensures.rising,
-      fresh_of _ c.args.written c.in_ok-tests.tests.items n c.written.view_is c.requires c.in_ok-tests.ensures.made c.in_ok-head_variables.ensures.rising c.in_ok-head_variables.ensures.count c.in_ok-tests.ensures.among c.in_ok-fresh.fresh c.in_ok-fresh.ensures.count,
+      fresh_of _ c.args.written c.in_ok-tests.tests.items n c.written.view_is c.requires c.in_ok-tests.ensures.made c.in_ok-head_variables.ensures.rising c.in_ok-head_variables.ensures.count c.in_ok-tests.ensures.among c.count_fresh-fresh.result c.count_fresh-fresh.ensures,
     )
 
 pub returns-clause-well_made : goal.returns-clause-well_made

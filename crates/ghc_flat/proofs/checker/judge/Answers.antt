@@ -1,5 +1,5 @@
 use Rattle.std.proofs.Common.{sym, subst, inl, inr, refl}
-use Rattle.ghc_reader.specs.Written.{AreWellWritten}
+use Rattle.ghc_reader.specs.Written.{AreWellWritten, AreNarrow}
 use Rattle.ghc_flat.specs.Checked.{IsFirstFault, AreMadeOf, HasClause, AllCalls, IsFirstCallWithout}
 use Rattle.ghc_flat.specs.Refused.{IsRefusedAs, refused_of_query}
 use Rattle.ghc_flat.specs.Numbers.{keys_of_written}
@@ -11,6 +11,9 @@ use Rattle.ghc_flat.proofs.checker.judge.Goals as goal
 
 pub check_clauses-requires : goal.check_clauses-requires
 check_clauses-requires c = subst AreWellWritten (sym c.into_clauses.ensures.same) c.into_clauses.ensures.well_written
+
+pub check_calls-requires : goal.check_calls-requires
+check_calls-requires c = subst AreNarrow (sym c.goals.ensures.same) c.goals.ensures.well_asked.limited.arguments
 
 pub returns-in-Err-check_clauses-clause-refused : goal.returns-in-Err-check_clauses-clause-refused
 returns-in-Err-check_clauses-clause-refused c =

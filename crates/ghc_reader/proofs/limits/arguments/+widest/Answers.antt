@@ -1,4 +1,4 @@
-use Rattle.std.proofs.Common.{◌≡◌, sym, ap, ◌∙◌, vec_len}
+use Rattle.std.proofs.Common.{sym, ap, ◌∙◌, vec_len}
 use Rattle.std.specs.Prelude.{max}
 use Rattle.ghc_reader.specs.Views.{view, views}
 use Rattle.ghc_reader.specs.Amounts.{widest, widest_of}

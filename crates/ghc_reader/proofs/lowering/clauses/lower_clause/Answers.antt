@@ -1,12 +1,11 @@
 use Rattle.std.proofs.Common.{subst}
 use Rattle.ghc_reader.specs.Views.{clause_view, views, test_views, goal_views}
-use Rattle.ghc_reader.specs.Written.{WrittenClause}
-use Rattle.ghc_reader.specs.Lowered.{SaysAll, SaysClause, SaysGuard, SaysGoal, Each, doing}
-use Rattle.ghc_reader.proofs.ClausesLowered.{clause_said, clause_well_written}
+use Rattle.ghc_reader.specs.Lowered.{SaysAll, SaysGuard, SaysGoal, Each, doing}
+use Rattle.ghc_reader.proofs.ClausesLowered.{clause_said}
 use Rattle.ghc_reader.proofs.lowering.clauses.lower_clause.Goals as goal
 
-pub returns-clause-says : goal.returns-clause-says
-returns-clause-says c =
+pub returns : goal.returns
+returns c =
     let head = c.in_ok-head.head.items in
     let guards = c.in_ok-guards.guards.items in
     let body = c.in_ok-body.body.items in
@@ -14,6 +13,3 @@ returns-clause-says c =
     (subst (λ l. SaysAll c.lower_terms.new.scope (views l) head) c.deref.ensures.value c.in_ok-head.ensures.says) c.in_ok-head.ensures.met
     (subst (λ l. Each (SaysGuard c.lower_guards.new.scope) (test_views l) guards) c.deref-2.ensures.value c.in_ok-guards.ensures.says) c.in_ok-guards.ensures.met
     (subst (λ l. Each (SaysGoal c.lower_body.new.scope) (doing (goal_views l)) body) c.deref-3.ensures.value c.in_ok-body.ensures.says) c.in_ok-body.ensures.met
-
-pub returns-clause-well_written : goal.returns-clause-well_written
-returns-clause-well_written c = clause_well_written (clause_view c.args.clause.now) _ (returns-clause-says c)

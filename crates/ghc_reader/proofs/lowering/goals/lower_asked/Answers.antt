@@ -1,9 +1,14 @@
 use Rattle.std.proofs.Common.{sym, ap, ◌∙◌}
 use Rattle.ghc_reader.specs.Lowered.{SaysAsked}
-use Rattle.ghc_reader.proofs.GoalsLowered.{asked_still, goals_skip, goals_step, GoalsSoFar}
-use Rattle.ghc_reader.proofs.Streams.{counted_more, counted_same, StreamsSoFar}
+use Rattle.ghc_reader.proofs.GoalsLowered.{asked_still, goals_skip, goals_step}
+use Rattle.ghc_reader.proofs.Streams.{counted_more, counted_same}
+use Rattle.ghc_reader.proofs.WithinLimits.{streams_below}
 use Rattle.ghc_reader.proofs.lowering.goals.lower_asked.Goals as goal
 use Rattle.ghc_reader.proofs.lowering.goals.lower_asked.Goals.{then-not-is_true+in_ok-lower_asked_goal+in_ok-push, else-not-is_true}
+
+pub lower_asked_goal-requires : goal.lower_asked_goal-requires
+lower_asked_goal-requires c =
+    streams_below c.args.goals.now c.loop-goal.goal-index c.loop-goal.streams c.loop-goal.scope c.loop-goal.lowered.items c.loop-goal-test.true c.requires c.loop-goal.invariant.says c.loop-goal.invariant.count
 
 pub loop-goal-preserved : goal.loop-goal-preserved
 loop-goal-preserved c =

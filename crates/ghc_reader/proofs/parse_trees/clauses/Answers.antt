@@ -2,8 +2,8 @@ use Rattle.std.proofs.Common.{arith}
 use Rattle.std.proofs.lemmas.Result.{err_from_is_err_and}
 use Rattle.ghc_reader.specs.Tests.{a_program}
 use Rattle.ghc_reader.proofs.MisplacedWithin.{misplaced_in_tokens}
-use Rattle.ghc_reader.proofs.OneReading.{halt_refusal, token_refusal}
-use Rattle.ghc_reader.proofs.reading.clauses.Goals as goal
+use Rattle.ghc_reader.proofs.OneReading.{parse_refusal, token_refusal}
+use Rattle.ghc_reader.proofs.parse_trees.clauses.Goals as goal
 
 pub returns-in_err-lexed-clause-fault : goal.returns-in_err-lexed-clause-fault
 returns-in_err-lexed-clause-fault c =
@@ -12,7 +12,7 @@ returns-in_err-lexed-clause-fault c =
 
 pub returns-in-Err-clause-fault : goal.returns-in-Err-clause-fault
 returns-in-Err-clause-fault c =
-    halt_refusal a_program c.args.text.now _ _ _ c.in_ok-lexed.ensures.found c.deref-in-Err.ensures.value c.in-Err.halt (rw c.deref.ensures.value at c.in-Err.ensures.fault) c.fault_of.result c.fault_of.ensures.memory c.fault_of.ensures.syntax
+    parse_refusal a_program c.args.text.now _ _ _ c.in_ok-lexed.ensures.found c.deref-in-Err.ensures.value c.in-Err.error (rw c.deref.ensures.value at c.in-Err.ensures.fault) c.fault_of.result c.fault_of.ensures.memory c.fault_of.ensures.syntax
 
 pub overflow_sub-len : goal.overflow_sub-len
 overflow_sub-len c =

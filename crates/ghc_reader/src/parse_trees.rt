@@ -1,4 +1,4 @@
-// From the bytes of a text to its tree: the tests that a text has to pass, one after the other.
+// From the bytes of a text to its parse tree: the tests that a text has to pass, one after the other.
 ghost use Rattle.std.specs.Prelude.{◌≡◌, ◌⊎◌, List, ◌+◌, ◌<◌, length, IfOk, IfErr, IsErrAnd, MatchResult};
 ghost use Rattle.ghc_reader.specs.Source.{Tree, Goal, Clause};
 ghost use Rattle.ghc_reader.specs.Views.{view, goal_views, clause_views};
@@ -9,11 +9,11 @@ ghost use Rattle.ghc_reader.specs.Tests.{a_program, a_query, a_term, IsShallow, 
 pub(crate) mod laws;
 
 use crate::depth::is_too_deep;
-use crate::halt::Halt;
 use crate::input_parser::parse_term;
 use crate::lexer::value::Reserved;
 use crate::lexer::{Lexed, tokens};
 use crate::limits::{program_limit, query_limit, term_limit};
+use crate::parse_error::ParseError;
 use crate::parser::{parse_program, parse_query};
 use crate::place::Place;
 use crate::reserved::{misplaced_in_program, misplaced_in_query};
@@ -44,14 +44,14 @@ fn fault_at(places: &[Place], front: usize) -> Fault
 }
 
 // The refusal where a parse stopped.
-fn fault_of(halt: Halt, places: &[Place]) -> Fault
-    requires { IfSyntax halt (λ front. front < length places.now) }
-    ensures memory { halt ≡ Halt.Memory → result ≡ Fault.Memory }
-    ensures syntax { IfSyntax halt (λ front. IsFaultAt places.now front result) }
+fn fault_of(error: ParseError, places: &[Place]) -> Fault
+    requires { IfSyntax error (λ front. front < length places.now) }
+    ensures memory { error ≡ ParseError.Memory → result ≡ Fault.Memory }
+    ensures syntax { IfSyntax error (λ front. IsFaultAt places.now front result) }
 {
-    match halt {
-        Halt::Memory => Fault::Memory,
-        Halt::Syntax(front) => fault_at(places, front),
+    match error {
+        ParseError::Memory => Fault::Memory,
+        ParseError::Syntax(front) => fault_at(places, front),
     }
 }
 
@@ -64,7 +64,7 @@ fn clauses(alloc: Global, text: &[u8]) -> Result<Vec<SourceClause>, Fault>
     let lexed = shallow_tokens(alloc, text)?;
     let clauses = match parse_program(alloc, &lexed.tokens) {
         Ok(clauses) => clauses,
-        Err(halt) => return Err(fault_of(halt, &lexed.places)),
+        Err(error) => return Err(fault_of(error, &lexed.places)),
     };
     if let Some(left) = misplaced_in_program(&clauses) {
         return Err(fault_at(&lexed.places, lexed.tokens.len() - left));
@@ -100,7 +100,7 @@ fn goals(alloc: Global, text: &[u8]) -> Result<Vec<SourceGoal>, Fault>
     let lexed = shallow_tokens(alloc, text)?;
     let goals = match parse_query(alloc, &lexed.tokens) {
         Ok(goals) => goals,
-        Err(halt) => return Err(fault_of(halt, &lexed.places)),
+        Err(error) => return Err(fault_of(error, &lexed.places)),
     };
     if let Some(left) = misplaced_in_query(&goals) {
         return Err(fault_at(&lexed.places, lexed.tokens.len() - left));
@@ -135,7 +135,7 @@ fn term(alloc: Global, text: &[u8]) -> Result<SourceTerm, Fault>
     let lexed = shallow_tokens(alloc, text)?;
     let term = match parse_term(alloc, &lexed.tokens) {
         Ok(term) => term,
-        Err(halt) => return Err(fault_of(halt, &lexed.places)),
+        Err(error) => return Err(fault_of(error, &lexed.places)),
     };
     if let Some(limit) = term_limit(&term) {
         return Err(Fault::Limit(limit));

@@ -1,7 +1,7 @@
 use Rattle.ghc_reader.specs.Views.{view}
 use Rattle.ghc_reader.specs.Tests.{a_term}
 use Rattle.ghc_reader.proofs.OneReading.{one_input_tree, only_read, only_refusal}
-use Rattle.ghc_reader.proofs.reading.parsed_term.Goals as goal
+use Rattle.ghc_reader.proofs.parse_trees.parsed_term.Goals as goal
 
 pub returns-clause-only : goal.returns-clause-only
 returns-clause-only c = only_read a_term one_input_tree _ view c.args.text.now c.term.result c.term.ensures.found c.term.ensures.fault

@@ -3,7 +3,7 @@ use std::alloc::{AllocError, AllocFailed};
 
 /// No memory, or a fault.
 #[derive(Clone, Copy)]
-pub enum Halt {
+pub enum ParseError {
     /// Memory was refused.
     Memory,
     /// The first token with which the tokens begin no text. `parse_program`, `parse_query` and `parse_term` count the
@@ -11,24 +11,24 @@ pub enum Halt {
     Syntax(usize),
 }
 
-impl From<AllocError> for Halt {
+impl From<AllocError> for ParseError {
     ghost use Rattle.std.specs.Prelude.{◌≡◌};
-    ghost use Rattle.ghc_reader.specs.declared.halt.Halt.TheVariants.{Memory};
+    ghost use Rattle.ghc_reader.specs.declared.parse_error.ParseError.TheVariants.{Memory};
 
     ghost from_gives = { λ _ e. e ≡ Memory };
 
     fn from(_error: AllocError) -> Self {
-        Halt::Memory
+        ParseError::Memory
     }
 }
 
-impl<T: Drop> From<AllocFailed<T>> for Halt {
+impl<T: Drop> From<AllocFailed<T>> for ParseError {
     ghost use Rattle.std.specs.Prelude.{◌≡◌};
-    ghost use Rattle.ghc_reader.specs.declared.halt.Halt.TheVariants.{Memory};
+    ghost use Rattle.ghc_reader.specs.declared.parse_error.ParseError.TheVariants.{Memory};
 
     ghost from_gives = { λ _ e. e ≡ Memory };
 
     fn from(_error: AllocFailed<T>) -> Self {
-        Halt::Memory
+        ParseError::Memory
     }
 }

@@ -1,7 +1,6 @@
-use Rattle.std.proofs.Common.{◌≡◌, ◌⊎◌}
 use Rattle.std.proofs.lemmas.Result.{err_from_is_err_and}
 use Rattle.ghc_reader.proofs.OneReading.{lex_refusal}
-use Rattle.ghc_reader.proofs.reading.shallow_tokens.Goals as goal
+use Rattle.ghc_reader.proofs.parse_trees.shallow_tokens.Goals as goal
 
 pub returns-in_err-lexed-clause-fault : goal.returns-in_err-lexed-clause-fault
 returns-in_err-lexed-clause-fault c =
