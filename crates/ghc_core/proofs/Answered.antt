@@ -23,7 +23,7 @@ use Rattle.ghc_term.specs.Tree.{IsClosed}
 use Rattle.ghc_fire.specs.Goals.{goal_cmp, Goals}
 use Rattle.ghc_records.specs.Numbers.{number_limit, kept_limit}
 use Rattle.ghc_records.specs.Record.{Record}
-use Rattle.ghc_records.proofs.Names.{same_goal}
+use Rattle.ghc_fire.proofs.GoalNames.{same_goal}
 use Rattle.ghc_core.specs.World.{World, IsFull, HasRoom, with_step}
 use Rattle.ghc_core.specs.Events.{Reply, stepped, arranged, refused}
 use Rattle.ghc_core.specs.Reverses as by

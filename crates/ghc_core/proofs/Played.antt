@@ -21,7 +21,7 @@ use Rattle.ghc_records.specs.Orders.{nothing, leave}
 use Rattle.ghc_fire.specs.Goals.{Goals}
 use Rattle.ghc_records.specs.Record.{Record, Fires}
 use Rattle.ghc_records.specs.Journal.{undid}
-use Rattle.ghc_records.proofs.Names.{goal_total}
+use Rattle.ghc_fire.proofs.GoalNames.{goal_total}
 use Rattle.ghc_records.proofs.States.{bound_at}
 use Rattle.std.specs.Option.{option_or}
 use Rattle.ghc_records.proofs.OrderLemmas.{is_before}

@@ -14,7 +14,7 @@ use Rattle.ghc_flat.specs.Clause.{Program, Query}
 use Rattle.ghc_fire.specs.Goals.{goal_cmp}
 use Rattle.ghc_records.specs.Record.{State, Record}
 use Rattle.ghc_records.specs.Replay.{query_state, Replays}
-use Rattle.ghc_records.proofs.Names.{goal_total, same_goal}
+use Rattle.ghc_fire.proofs.GoalNames.{goal_total, same_goal}
 use Rattle.ghc_depend.specs.Depend.{Binds}
 use Rattle.ghc_depend.specs.Deletion.{IsBoundIn, IsMadeIn, IsConsumedIn, IsWithoutSteps}
 use Rattle.ghc_depend.specs.Laws.{WithoutStepsIsOne}

@@ -10,7 +10,7 @@ use Rattle.ghc_term.specs.Goal.{Goal}
 use Rattle.ghc_term.specs.Lists.{In}
 use Rattle.ghc_fire.specs.Goals.{goal_cmp, Goals}
 use Rattle.ghc_records.specs.Record.{Record, with_makes, without_goal}
-use Rattle.ghc_records.proofs.Names.{goal_total, same_goal, same_parts}
+use Rattle.ghc_fire.proofs.GoalNames.{goal_total, same_goal, same_parts}
 use Rattle.ghc_records.proofs.OrderLemmas.{is_before, before_in}
 use Rattle.ghc_depend.specs.Depend.{MakesGoal, DependsOn}
 

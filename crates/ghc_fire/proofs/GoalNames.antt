@@ -1,13 +1,14 @@
 -- The order of goal names.
-use Rattle.std.proofs.Common.{◌≡◌, ℕ, Bool, ◌&&◌, refl, sym, ap, ◌∙◌, arith, nat_eq}
-use Rattle.std.proofs.lemmas.Bool.Decides.{nat_tests}
+use Rattle.std.proofs.Common.{◌≡◌, Bool, true, ◌&&◌, refl, sym, ap, ◌∙◌, nat_eq}
 use Rattle.std.specs.declared.cmp.Ordering.{Ordering}
 use Rattle.std.specs.declared.cmp.Ordering.TheVariants.{Less, Equal, Greater}
 use Rattle.std.specs.Ordering.{nat_cmp, ordering_then, eq_by_cmp, is_eq}
 use Rattle.std.specs.Cmp.{IsTotalOrder, ranked, nat_cmp_total, tied_then}
 use Rattle.std.specs.FinMap.{IsAntisymmetric}
 use Rattle.std.proofs.lemmas.Cmp.{then_total, on_total}
+use Rattle.std.proofs.lemmas.Map.Views.{tells_apart}
 use Rattle.ghc_term.specs.declared.goal_name.GoalName.{GoalName}
+use Rattle.ghc_term.proofs.Entries.{tie}
 use Rattle.ghc_fire.specs.Goals.{goal_cmp}
 
 pub goal_total : IsTotalOrder goal_cmp
@@ -25,12 +26,17 @@ goal_antisymmetric g h e =
     let places : g.place ≡ h.place = ranked g.place h.place Equal (sym p.1) in
     λ i. record { step = steps i; place = places i }
 
+-- names of the same parts are one
+pub same_parts : (g h : GoalName) → g.step ≡ h.step → g.place ≡ h.place → g ≡ h
+same_parts g h p q i = record { step = p i; place = q i }
+
+-- the test of names tells whether they are one
+pub same_goal : (g h : GoalName) → eq_by_cmp goal_cmp g h ≡ true → g ≡ h
+same_goal = tells_apart goal_antisymmetric
+
 -- Equality of goal names, as the code has it.
 abbrev pub same : GoalName → GoalName → Bool
 same g h = nat_eq g.step h.step && nat_eq g.place h.place
 
-pub nat_same_is : (a b : ℕ) → nat_eq a b ≡ is_eq (nat_cmp a b)
-nat_same_is a b = grind (arith, nat_tests)
-
 pub same_is : (g h : GoalName) → same g h ≡ eq_by_cmp goal_cmp g h
-same_is g h = ap (λ b. b && nat_eq g.place h.place) (nat_same_is g.step h.step) ∙ ap (λ b. is_eq (nat_cmp g.step h.step) && b) (nat_same_is g.place h.place) ∙ tied_then (nat_cmp g.step h.step) (nat_cmp g.place h.place)
+same_is g h = ap (λ b. b && nat_eq g.place h.place) (tie g.step h.step) ∙ ap (λ b. is_eq (nat_cmp g.step h.step) && b) (tie g.place h.place) ∙ tied_then (nat_cmp g.step h.step) (nat_cmp g.place h.place)

@@ -1,5 +1,6 @@
 // What a step reads, binds and makes.
-ghost use Rattle.std.specs.Prelude.{◌≡◌, ◌↔◌, IfOk, IsTrue};
+ghost use Rattle.std.specs.Prelude.{◌≡◌, ◌≤◌, ◌↔◌, length, IfOk, IsTrue};
+ghost use Rattle.ghc_flat.specs.Flat.{most_goals};
 
 use ghc_term::{Bindings, Goal, Variables};
 use std::alloc::{AllocError, Global};
@@ -8,8 +9,8 @@ use std::marker::Model;
 // The number that no step has. The variables that a step makes have it in its effect under any number.
 pub const NO_STEP: u32 = 4_294_967_295;
 
-/// The effect of a step: the variables that it reads, what it binds, the goals that it makes in order, and how many
-/// variables it makes.
+/// The effect of a step: the variables that it reads, what it binds, the goals that it makes in order, at most 1,000, and how
+/// many variables it makes.
 pub struct Effect {
     reads: Variables,
     binds: Bindings,
@@ -36,7 +37,12 @@ impl Model for Effect {
 
     ghost coded = { effect_code };
 
+    ghost use Rattle.std.specs.Prelude.{◌≤◌, length};
+    ghost use Rattle.ghc_flat.specs.Flat.{most_goals};
+
     ghost view = { λ e. record { reads = e.reads; binds = e.binds; makes = e.makes.items; fresh = e.fresh } };
+
+    ghost invariant = { λ e. length e.makes.items ≤ most_goals };
 }
 
 // Whether the lists have the same goals in the same order.
@@ -55,8 +61,9 @@ fn same_goals(alloc: Global, lefts: &[Goal], rights: &[Goal]) -> Result<bool, Al
 }
 
 impl Effect {
-    /// The effect of these parts.
+    /// The effect of these parts, with no more goals than a body may have.
     pub fn new(reads: Variables, binds: Bindings, makes: Vec<Goal>, fresh: u32) -> Effect
+        requires { length makes.items ≤ most_goals }
         ensures reads { result.reads ≡ reads }
         ensures binds { result.binds ≡ binds }
         ensures makes { result.makes ≡ makes.items }
@@ -91,6 +98,13 @@ impl Effect {
         &self.makes
     }
 
+    /// How many goals the step makes.
+    pub fn made(&self) -> u32
+        ensures { result ≡ length self.now.makes }
+    {
+        self.makes.len() as u32
+    }
+
     /// How many variables the step makes.
     pub fn fresh(&self) -> u32
         ensures { result ≡ self.now.fresh }
@@ -103,6 +117,7 @@ impl Effect {
         ensures reads { result.0 ≡ self.reads }
         ensures binds { result.1 ≡ self.binds }
         ensures makes { result.2.items ≡ self.makes }
+        ensures few { length self.makes ≤ most_goals }
         ensures fresh { result.3 ≡ self.fresh }
     {
         let Effect {

@@ -143,11 +143,10 @@ program_of ws P i is m sound c j =
       defined = defined_of_has ws P c.body m (calls_as (Knows i) (HasClause ws) (known_has ws i is) (has_known ws i is) c.body s.1);
       numbered = s.0.numbered;
       closed = s.0.closed;
-      limited = s.0.limited;
     }
 
 pub query_of : (ws : List WrittenClause) (P : Program) (q : WrittenQuery) → IsWellAsked q → AreMadeOf ws P → AllCalls (HasClause ws) q.goals → IsQuery P q.goals
-query_of ws P q ok m all = record { defined = defined_of_has ws P q.goals m all; numbered = ok.numbered; streams = ok.streams; limited = subst (IsWithinLimits q.goals) ok.named ok.limited }
+query_of ws P q ok m all = record { defined = defined_of_has ws P q.goals m all; numbered = ok.numbered; streams = ok.streams }
 
 -- an accepted program has no fault
 accepted_faultless : (ws : List WrittenClause) (gs : Query) (P : Program) → IsAcceptedAs ws gs P → AreFaultless (HasClause ws) ws
@@ -261,12 +260,11 @@ accepted_alone ws ok s =
         made = made.1;
         program = λ c i.
             let t = made.2 c i in
-            record { flat = t.0.flat; linear = t.0.linear; defined = defined_of_has ws made.0 c.body made.1 t.1; numbered = t.0.numbered; closed = t.0.closed; limited = t.0.limited };
+            record { flat = t.0.flat; linear = t.0.linear; defined = defined_of_has ws made.0 c.body made.1 t.1; numbered = t.0.numbered; closed = t.0.closed };
         query = record {
           defined = λ f ts i. absurd i;
           numbered = λ i x e. let clash : None ≡ Some x = e in cc;
           streams = λ i k x e. let clash : None ≡ Some (stream k x) = e in cc;
-          limited = record { goals = omega arith; variables = omega arith; arguments = λ f ts i. absurd i };
         };
       },
     )

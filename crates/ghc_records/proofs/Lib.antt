@@ -1,5 +1,4 @@
 pub mod OrderLemmas
-pub mod Names
 pub mod States
 pub mod Inside
 pub mod Heads

@@ -9,7 +9,7 @@ use Rattle.ghc_term.specs.declared.goal_name.GoalName.{GoalName}
 use Rattle.ghc_term.specs.Goal.{Goal}
 use Rattle.ghc_fire.specs.Goals.{goal_cmp, Goals}
 use Rattle.ghc_records.specs.Record.{with_makes}
-use Rattle.ghc_records.proofs.Names.{same_goal}
+use Rattle.ghc_fire.proofs.GoalNames.{same_goal}
 
 -- the name that step n gives at the place i
 abbrev pub name : ℕ → ℕ → GoalName

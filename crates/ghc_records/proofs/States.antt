@@ -14,7 +14,7 @@ use Rattle.ghc_term.specs.Store.{StoreValue, value_at, with_binds}
 use Rattle.ghc_term.proofs.Names.{name_total}
 use Rattle.ghc_fire.specs.Goals.{goal_cmp, Goals}
 use Rattle.ghc_records.specs.Record.{with_makes}
-use Rattle.ghc_records.proofs.Names.{goal_total, same_goal}
+use Rattle.ghc_fire.proofs.GoalNames.{goal_total, same_goal}
 
 pub bound_by_list : (bs : List (VarName × Tree)) (s : StoreValue) (y : VarName) → value_at (with_binds bs s) y ≡ option_or (finite.find name_cmp y bs) (value_at s y)
 bound_by_list [] s y = refl

@@ -19,7 +19,7 @@ use Rattle.ghc_fire.specs.Effect.{Effect, HasEffect}
 use Rattle.ghc_fire.specs.Goals.{goal_cmp, Goals}
 use Rattle.ghc_records.specs.Record.{State, Record, with_makes, without_goal, after, Fires, IsThere, HasStepEffect}
 use Rattle.ghc_records.specs.Replay.{query_state, Runs}
-use Rattle.ghc_records.proofs.Names.{goal_total, same_goal, same_parts}
+use Rattle.ghc_fire.proofs.GoalNames.{goal_total, same_goal, same_parts}
 use Rattle.ghc_records.proofs.States.{old_apart}
 use Rattle.ghc_records.proofs.Effects.{mapped, not_stream}
 

@@ -12,7 +12,7 @@ use Rattle.ghc_fire.specs.Goals.{goal_cmp, Goals}
 use Rattle.ghc_records.specs.Record.{Record}
 use Rattle.ghc_records.specs.State.{with_goal, without_makes, GoalsTakenBack}
 use Rattle.ghc_records.proofs.Made.{name, apart}
-use Rattle.ghc_records.proofs.Names.{goal_total, same_parts}
+use Rattle.ghc_fire.proofs.GoalNames.{goal_total, same_parts}
 
 -- what is there of the goals without one of them
 of_rest : (m : Goals) (h g : GoalName) → finite.get (finite.remove m h) g ≡ cond (eq_by_cmp goal_cmp g h) None (finite.get m g)

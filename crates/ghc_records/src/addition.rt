@@ -70,9 +70,7 @@ impl Addition {
     {
         let entry = Entry::Took(step.step()?);
         let effect = step.effect();
-        let Ok(made) = u32::try_from(effect.makes().len()) else {
-            return Err(AllocError);
-        };
+        let made = effect.made();
         let makes = share_goals(alloc, effect.makes())?;
         let binds = share_binds(alloc, effect.binds())?;
         Ok(Addition {

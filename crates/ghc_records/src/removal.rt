@@ -44,9 +44,7 @@ impl Removal {
     pub fn of(step: &Record) -> Result<Removal, AllocError>
         ensures { IfOk result (λ r. r ≡ step.now) }
     {
-        let Ok(made) = u32::try_from(step.effect().makes().len()) else {
-            return Err(AllocError);
-        };
+        let made = step.effect().made();
         let consumed = shared(step.consumed())?;
         Ok(Removal {
             step: step.share()?,

@@ -1,5 +1,6 @@
 // States: the goals and the store.
-ghost use Rattle.std.specs.Prelude.{◌≡◌, ◌<◌, ◌≤◌, IfOk, OnOk};
+ghost use Rattle.std.specs.Prelude.{◌≡◌, ◌<◌, ◌≤◌, length, IfOk, OnOk};
+ghost use Rattle.ghc_flat.specs.Flat.{most_goals};
 
 use crate::addition::{Addition, share_goals};
 use crate::binding::unbind_all;
@@ -47,17 +48,16 @@ impl State {
     ghost use Rattle.ghc_records.specs.EntryCode.{entry_of};
     ghost use Rattle.ghc_records.specs.State.{HasRoomToTake, IsTakenBack};
 
-    /// The state of a query before any step. It costs a look-up for each goal, and shares the goals.
+    /// The state of a query before any step, of no more goals than a query may have. It costs a look-up for each goal, and
+    /// shares the goals.
     pub fn of_query(alloc: Global, query: &[Goal]) -> Result<State, AllocError>
+        requires { length query.now ≤ most_goals }
         ensures { IfOk result (λ s. s.held ≡ query_state query.now) }
     {
-        let Ok(count) = u32::try_from(query.len()) else {
-            return Err(AllocError);
-        };
         let shared = share_goals(alloc, query)?;
         let mut goals = Goals::new(alloc);
         goals.reserve(query.len())?;
-        make_goals(&mut goals, 0, shared, count);
+        make_goals(&mut goals, 0, shared, query.len() as u32);
         Ok(State {
             goals,
             store: Store::new(alloc),

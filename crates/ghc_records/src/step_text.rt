@@ -8,8 +8,8 @@ ghost use Rattle.ghc_records.specs.StepText.{goal_name_text, act_text, consumed_
 
 use crate::record::Record;
 use crate::step::Step;
-use ghc_fire::Act;
-use ghc_term::{Bindings, Goal, GoalName, Term, VarName, Variables, push_written};
+use ghc_fire::{Act, Effect};
+use ghc_term::{Bindings, GoalName, Term, VarName, Variables, push_written};
 use std::alloc::{AllocError, Global};
 use std::collections::{BTreeMap, BTreeSet};
 
@@ -178,12 +178,10 @@ fn push_bindings(binds: &Bindings, out: &mut String) -> Result<(), AllocError>
 }
 
 // Writes the names of the goals that step `number` makes at the end of `out`, as `1.1,1.2`, and `-` where there is none.
-fn push_makes(number: u32, goals: &[Goal], out: &mut String) -> Result<(), AllocError>
-    ensures { OnOk result (string_bytes out.new ≡ string_bytes out.old ++ makes_text number goals.now) }
+fn push_makes(number: u32, effect: &Effect, out: &mut String) -> Result<(), AllocError>
+    ensures { OnOk result (string_bytes out.new ≡ string_bytes out.old ++ makes_text number effect.now.makes) }
 {
-    let Ok(count) = u32::try_from(goals.len()) else {
-        return Err(AllocError);
-    };
+    let count = effect.made();
     if count == 0 {
         return out.push_str("-");
     }
@@ -214,13 +212,13 @@ fn text_of_record(alloc: Global, taken: &Record) -> Result<String, AllocError>
     text.push_str(" binds ")?;
     push_bindings(effect.binds(), &mut text)?;
     text.push_str(" makes ")?;
-    push_makes(taken.number(), effect.makes(), &mut text)?;
+    push_makes(taken.number(), effect, &mut text)?;
     Ok(text)
 }
 
 /// Writes a record at the end of `out`, which stays as it was where memory is refused, as
 /// `1 0.1 by 2 reads - binds - makes 1.1,1.2`. The cost is that of the text, and what it takes to put its variables in
-/// order. Fails also where the step makes 2^32 goals or more.
+/// order.
 pub fn push_record(taken: &Record, out: &mut String) -> Result<(), AllocError>
     ensures { string_bytes out.new ≡ (if is_ok result then string_bytes out.old ++ record_text taken.now else string_bytes out.old) }
 {

@@ -7,7 +7,7 @@ use Rattle.ghc_records.proofs.step_text.push_makes.Goals as goal
 
 pub loop-index-init : goal.loop-index-init
 loop-index-init c =
-    (search rules, ap (λ l. string_bytes c.args.out.now ++ l) (led_all (codes ",") goal_name_text (names_given c.args.number 1 c.args.goals.now) (as_many_named c.args.number 1 c.args.goals.now (λ none. c.if-count-eq0.false (c.in-Ok.ensures.1 ∙ none)))))
+    (search rules, ap (λ l. string_bytes c.args.out.now ++ l) (led_all (codes ",") goal_name_text (names_given c.args.number 1 c.args.effect.now.makes) (as_many_named c.args.number 1 c.args.effect.now.makes (λ none. c.if-count-eq0.false (c.made-count.ensures ∙ none)))))
 
 pub loop-index-preserved : goal.loop-index-preserved
 loop-index-preserved c =
@@ -15,7 +15,7 @@ loop-index-preserved c =
     let i = c.loop-index.index in
     let here = string_bytes c.loop-index.out in (
       search rules,
-      led_next (codes ",") c.loop-index.mark.now (goal_name_text (record { step = n; place = i + 1 })) (map goal_name_text (names_given n (i + 1 + 1) (drop (i + 1) c.args.goals.now)))
+      led_next (codes ",") c.loop-index.mark.now (goal_name_text (record { step = n; place = i + 1 })) (map goal_name_text (names_given n (i + 1 + 1) (drop (i + 1) c.args.effect.now.makes)))
           here (string_bytes c.push_str-in-loop-index.new.self) (string_bytes c.push_goal_name.new.out) _ c.in_ok-push_str.ensures.bytes c.in_ok-push_goal_name.ensures
-          (ap (λ names. here ++ led (codes ",") c.loop-index.mark.now (map goal_name_text names)) (sym (named_next n i c.args.goals.now (omega (arith, c.loop-index-test.true, c.in-Ok.ensures.1)))) ∙ c.loop-index.invariant.1),
+          (ap (λ names. here ++ led (codes ",") c.loop-index.mark.now (map goal_name_text names)) (sym (named_next n i c.args.effect.now.makes (omega (arith, c.loop-index-test.true, c.made-count.ensures)))) ∙ c.loop-index.invariant.1),
     )

@@ -9,5 +9,5 @@ use Rattle.ghc_records.proofs.step_text.push_makes.Given as goal
 abbrev pub invariant-loop-index : goal.invariant-loop-index
 invariant-loop-index l =
     shadow (Utf8 l.mark)
-    × (string_bytes l.out ++ led (codes ",") l.mark (map goal_name_text (names_given l.number (l.index + 1) (drop l.index l.goals)))
-    ≡ string_bytes l.fn.out ++ makes_text l.number l.goals)
+    × (string_bytes l.out ++ led (codes ",") l.mark (map goal_name_text (names_given l.number (l.index + 1) (drop l.index l.effect.makes)))
+    ≡ string_bytes l.fn.out ++ makes_text l.number l.effect.makes)

@@ -3,8 +3,8 @@ use Rattle.std.specs.Cmp.{nat_cmp_total}
 use Rattle.std.specs.FinMap as finite
 use Rattle.std.specs.FinMap.{nat_cmp-IsAntisymmetric as nat_antisymmetric}
 use Rattle.ghc_term.proofs.Indexed.{value_is}
-use Rattle.ghc_fire.proofs.GoalNames.{nat_same_is}
+use Rattle.ghc_term.proofs.Entries.{tie}
 use Rattle.ghc_records.proofs.shelf.Shelf.get.Goals as goal
 
 pub returns : goal.returns
-returns c = c.get.ensures.value ∙ value_is nat_cmp_total nat_antisymmetric nat_eq nat_same_is c.args.number c.self.inside.map.entries ∙ ap (λ t. finite.get t.held c.args.number) c.self.view_is
+returns c = c.get.ensures.value ∙ value_is nat_cmp_total nat_antisymmetric nat_eq tie c.args.number c.self.inside.map.entries ∙ ap (λ t. finite.get t.held c.args.number) c.self.view_is

@@ -3,11 +3,11 @@ use Rattle.std.specs.Cmp.{nat_cmp_total}
 use Rattle.std.specs.FinMap as finite
 use Rattle.std.specs.FinMap.{nat_cmp-IsAntisymmetric as nat_antisymmetric}
 use Rattle.ghc_term.proofs.Indexed.{inserted, done}
-use Rattle.ghc_fire.proofs.GoalNames.{nat_same_is}
+use Rattle.ghc_term.proofs.Entries.{tie}
 use Rattle.ghc_records.proofs.shelf.Shelf.put.Goals as goal
 
 pub returns-clause-held : goal.returns-clause-held
 returns-clause-held c =
     let room = subst (λ t. 0 < t.room) (sym c.self.view_is) c.requires in
-    inserted nat_cmp_total nat_antisymmetric nat_eq nat_same_is c.self.inside.map.entries c.insert.new.self.entries c.number.result c.args.record (done c.insert.result (c.insert.ensures.succeeds room) c.insert.ensures.updates).0
+    inserted nat_cmp_total nat_antisymmetric nat_eq tie c.self.inside.map.entries c.insert.new.self.entries c.number.result c.args.record (done c.insert.result (c.insert.ensures.succeeds room) c.insert.ensures.updates).0
     ∙ ap (λ n. finite.insert (finite.from_entries c.self.inside.map.entries) n c.args.record) c.number.ensures ∙ ap (λ t. finite.insert t.held c.args.record.number c.args.record) c.self.view_is

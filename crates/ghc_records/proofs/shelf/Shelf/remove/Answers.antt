@@ -3,13 +3,13 @@ use Rattle.std.specs.Cmp.{nat_cmp_total}
 use Rattle.std.specs.FinMap as finite
 use Rattle.std.specs.FinMap.{nat_cmp-IsAntisymmetric as nat_antisymmetric}
 use Rattle.ghc_term.proofs.Indexed.{value_is, removed}
-use Rattle.ghc_fire.proofs.GoalNames.{nat_same_is}
+use Rattle.ghc_term.proofs.Entries.{tie}
 use Rattle.ghc_records.proofs.shelf.Shelf.remove.Goals as goal
 
 pub returns-clause-value : goal.returns-clause-value
-returns-clause-value c = c.swap_remove.ensures.value ∙ value_is nat_cmp_total nat_antisymmetric nat_eq nat_same_is c.args.number c.self.inside.map.entries ∙ ap (λ t. finite.get t.held c.args.number) c.self.view_is
+returns-clause-value c = c.swap_remove.ensures.value ∙ value_is nat_cmp_total nat_antisymmetric nat_eq tie c.args.number c.self.inside.map.entries ∙ ap (λ t. finite.get t.held c.args.number) c.self.view_is
 
 pub returns-clause-held : goal.returns-clause-held
 returns-clause-held c =
-    removed nat_cmp_total nat_antisymmetric nat_eq nat_same_is c.self.inside.map.entries c.swap_remove.new.self.entries c.args.number c.swap_remove.ensures.updates.0
+    removed nat_cmp_total nat_antisymmetric nat_eq tie c.self.inside.map.entries c.swap_remove.new.self.entries c.args.number c.swap_remove.ensures.updates.0
     ∙ ap (λ t. finite.remove t.held c.args.number) c.self.view_is
