@@ -1,5 +1,5 @@
 -- Proposals that hold: what an attempt would propose, the step that they become, and the one answer of a commit.
-use Rattle.std.proofs.Common.{◌≡◌, false, ℕ, refl, sym, ap, ◌∙◌, subst, inl, inr, Some, None}
+use Rattle.std.proofs.Common.{◌≡◌, false, ℕ, refl, sym, ap, ◌∙◌, subst, Some, None}
 use Rattle.std.specs.Prelude.{Option}
 use Rattle.std.specs.FinMap as finite
 use Rattle.ghc_term.specs.declared.var_name.VarName.{VarName}

@@ -1,19 +1,16 @@
 -- A kept step that nothing depends on is taken away, and the world that is left stands.
-use Rattle.std.proofs.Common.{◌≡◌, ℕ, List, [], ◌∷◌, ◌++◌, refl, sym, ap, ◌∙◌, subst, Some, None}
-use Rattle.std.specs.Cmp.{nat_cmp_total}
+use Rattle.std.proofs.Common.{◌≡◌, ℕ, List, [], ◌∷◌, ◌++◌, refl, sym, subst}
 use Rattle.std.specs.FinMap as finite
 use Rattle.ghc_term.specs.Lists.{In}
 use Rattle.ghc_records.specs.Record.{State, Record, Shelf}
 use Rattle.ghc_records.specs.State.{IsTakenBack}
 use Rattle.ghc_records.specs.Journal.{Entry, undid}
-use Rattle.ghc_records.proofs.OrderLemmas.{picks_once, number_in, record_once}
-use Rattle.ghc_records.proofs.Made.{remove_inserted}
-use Rattle.ghc_depend.specs.Depend.{Follows, IsKeptAs}
+use Rattle.ghc_records.proofs.OrderLemmas.{picks_once}
+use Rattle.ghc_depend.specs.Depend.{Follows}
 use Rattle.ghc_depend.specs.Kept.{IsWithout}
 use Rattle.ghc_depend.proofs.Undoing as undoing
 use Rattle.ghc_depend.proofs.TakingBack.{is_without}
 use Rattle.ghc_depend.proofs.Comparing.{without_once}
-use Rattle.ghc_depend.proofs.KeptOnce.{same_number}
 use Rattle.ghc_core.specs.World.{World, IsReplay}
 use Rattle.ghc_core.specs.Events.{Reply, undo, command, undone}
 use Rattle.ghc_core.specs.Reverses.{Undoes}

@@ -1,5 +1,5 @@
 -- An attempt has no other answer than the one that is given.
-use Rattle.std.proofs.Common.{◌≡◌, ℕ, sym, ap, ◌∙◌, subst, Some}
+use Rattle.std.proofs.Common.{◌≡◌, ℕ, sym, ◌∙◌, Some}
 use Rattle.std.specs.Prelude.{Option}
 use Rattle.ghc_term.specs.declared.fault.Fault.{Fault}
 use Rattle.ghc_term.specs.declared.goal_name.GoalName.{GoalName}

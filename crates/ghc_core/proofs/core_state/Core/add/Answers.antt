@@ -1,6 +1,5 @@
 use Rattle.std.proofs.Common.{◌≡◌, ◌+◌, [], ◌∷◌, ◌++◌, refl, subst, sym, ap, ◌∙◌, arith}
 use Rattle.ghc_records.specs.Record.{Record}
-use Rattle.ghc_records.specs.State.{HasRoomToTake}
 use Rattle.ghc_records.specs.Journal.{fresh_opening}
 use Rattle.ghc_core.specs.World.{World, with_step}
 use Rattle.ghc_core.specs.Core.{Core, IsStanding}

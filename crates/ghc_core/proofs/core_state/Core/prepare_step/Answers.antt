@@ -1,6 +1,4 @@
-use Rattle.std.proofs.Common.{inl, inr, subst, sym, ap}
-use Rattle.ghc_core.specs.World.{World}
-use Rattle.ghc_core.specs.Core.{Core, IsStanding}
+use Rattle.std.proofs.Common.{inl, inr, subst}
 use Rattle.ghc_core.specs.Proposes.{refused_attempt}
 use Rattle.ghc_core.proofs.Preparing.{IsNext, step_answered}
 use Rattle.ghc_core.proofs.core_state.Core.prepare_step.Goals as goal

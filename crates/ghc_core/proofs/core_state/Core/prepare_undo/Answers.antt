@@ -1,6 +1,5 @@
-use Rattle.std.proofs.Common.{refl, subst, ap, inl, inr, ◌≡◌}
+use Rattle.std.proofs.Common.{refl, subst, inl, inr}
 use Rattle.ghc_term.specs.declared.fault.Fault.{Fault}
-use Rattle.ghc_records.specs.Record.{Record}
 use Rattle.ghc_core.specs.Core.{Core}
 use Rattle.ghc_core.specs.Reverses.{CanUndo, UndoFails, not_kept, has_consequence}
 use Rattle.ghc_core.proofs.core_state.Core.prepare_undo.Goals as goal

@@ -9,7 +9,7 @@ use Rattle.ghc_core.specs.Reverses.{Undoes, UndoFails}
 use Rattle.ghc_core.specs.declared.change.Change.TheVariants.{TakesAway as takes_away}
 use Rattle.ghc_core.specs.Change.{Changes}
 use Rattle.ghc_core.proofs.Reversing.{undo_fails_once, undo_or_fail}
-use Rattle.ghc_core.proofs.Standing.{standing_replay, standing_well_made, standing_orderly}
+use Rattle.ghc_core.proofs.Standing.{standing_well_made, standing_orderly}
 use Rattle.ghc_core.proofs.core_state.Core.undo.Goals as goal
 
 -- in a standing world a step that can be undone is not refused, and there is one refusal

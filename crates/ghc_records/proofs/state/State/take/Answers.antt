@@ -1,6 +1,6 @@
 use Rattle.std.proofs.Common.{◌≡◌, sym, ap, ◌∙◌, subst}
 use Rattle.ghc_term.specs.Bindings.{IsAcyclic}
-use Rattle.ghc_term.specs.Store.{StoreValue, value_at, with_binds}
+use Rattle.ghc_term.specs.Store.{StoreValue, value_at}
 use Rattle.ghc_fire.specs.Goals.{Goals}
 use Rattle.ghc_records.specs.Record.{State, Record, with_makes, without_goal, after}
 use Rattle.ghc_records.specs.State.{StateTables}
