@@ -7,5 +7,4 @@ mod SessionFirings
 pub mod StepReplies
 pub mod RecordLines
 pub mod NumberedWords
-pub mod Finds
 pub mod QueryVariables

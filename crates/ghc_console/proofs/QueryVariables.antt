@@ -1,9 +1,9 @@
 -- Lemmas on the variables of a query and of its kept steps.
-use Rattle.std.proofs.Common.{◌≡◌, ◌≢◌, ℕ, ◌+◌, ◌-◌, ◌<◌, ◌≤◌, List, [], ◌∷◌, length, cond, true, false, Some, None, get_or, refl, sym, ap, ◌∙◌, subst, inl, inr, arith, slice_get}
+use Rattle.std.proofs.Common.{◌≡◌, ◌≢◌, ℕ, ◌+◌, ◌-◌, ◌<◌, ◌≤◌, List, [], ◌∷◌, length, cond, true, false, Some, get_or, refl, sym, ap, ◌∙◌, subst, inl, inr, arith}
 use Rattle.std.proofs.lemmas.Option.{slice_get_within, slice_get-get_or, get_or_from_slice_get}
 use Rattle.std.specs.List.{list_any}
 use Rattle.std.specs.Ordering.{eq_by_cmp}
-use Rattle.std.specs.Prelude.{All, HoldsAt, IfSome, IfNone, Option, codes}
+use Rattle.std.specs.Prelude.{All, HoldsAt, codes}
 use Rattle.ghc_term.specs.declared.var_name.VarName.{VarName}
 use Rattle.ghc_term.specs.Bindings.{name_cmp}
 use Rattle.ghc_term.specs.Lists.{In}
@@ -18,7 +18,6 @@ use Rattle.ghc_records.specs.Replay.{MakesVariable}
 use Rattle.ghc_records.proofs.Heads.{first_in}
 use Rattle.ghc_records.proofs.OrderLemmas.{record_once}
 use Rattle.ghc_console.specs.VariableNamed.{Names, IsGivenName}
-use Rattle.ghc_console.specs.Finding.{Finds}
 
 -- what stands among the first occurrences stands in the list
 of_firsts : (seen xs : List VarName) (x : VarName) → In x (firsts seen xs) → In x xs
@@ -60,24 +59,10 @@ module _ (q : WrittenQuery) (well : IsWellAsked q) where
       let below : n.0 < length (firsts [] (variables_of_goals q.goals)) = n.2 in
       (step, omega (arith, place), omega (arith, place, below, named))
 
-  -- the variable that was found at the place of a name
-  pub named_at : (word : List ℕ) (i : ℕ) (x : VarName) → slice_get q.variables i ≡ Some word → word ≢ codes "_" → Finds (i + 1) (variables_of_goals q.goals) (Some x) → IsGivenName q.variables word x
-  named_at word i x at named f =
-      let step : x.step ≡ 0 = (of_query x f.0).0 in
-      (i, at, named, same_parts x (asked (i + 1)) step f.1)
-
-  -- at the place of a name one is found
-  pub found_at : (word : List ℕ) (i : ℕ) → slice_get q.variables i ≡ Some word → Finds (i + 1) (variables_of_goals q.goals) None → ⊥
-  found_at word i at none =
-      let below = slice_get_within q.variables i word at in
-      let named = well.named in
-      none (asked (i + 1)) (in_of_number (variables_of_goals q.goals) i well.numbered (omega (arith, below, named))) refl
-
-  -- what is found at the place of a name is the variable that it names
-  pub given : (word : List ℕ) (i : ℕ) (r : Option VarName) → i < length q.variables → HoldsAt (λ name. name ≡ word) q.variables i → word ≢ codes "_"
-      → Finds (i + 1) (variables_of_goals q.goals) r → IfSome r (IsGivenName q.variables word) × IfNone r ((x : VarName) → ¬ IsGivenName q.variables word x)
-  given word i (Some x) low at named f = (named_at word i x (slice_get-get_or q.variables i word low ∙ ap Some (at word)) named f, tt)
-  given word i None low at named f = (tt, absurd (found_at word i (slice_get-get_or q.variables i word low ∙ ap Some (at word)) f))
+-- the word at a place of the names names the variable of that place
+pub given : (names : Names) (word : List ℕ) (i place : ℕ) → i < length names → HoldsAt (λ name. name ≡ word) names i → word ≢ codes "_" → place ≡ i + 1
+    → IsGivenName names word (record { step = 0; place = place })
+given names word i place low at named here = (i, slice_get-get_or names i word low ∙ ap Some (at word), named, same_parts (record { step = 0; place = place }) (asked (i + 1)) refl here)
 
 -- a word that is no name names nothing
 pub none_given : (names : Names) (word : List ℕ) → All (λ name. name ≢ word) names → (x : VarName) → ¬ IsGivenName names word x

@@ -1,6 +1,5 @@
 -- What the texts of replies say.
-use Rattle.std.proofs.Common.{◌≡◌, ◌≢◌, ◌⊎◌, ◌<◌, inl, inr, sym, subst, ap, ◌∙◌, List, ℕ, length, Result, Ok, Err, IfOk, Option, Some}
-use Rattle.std.specs.FinMap as finite
+use Rattle.std.proofs.Common.{◌≡◌, ◌≢◌, ◌⊎◌, ◌<◌, inl, inr, sym, subst, ap, ◌∙◌, List, ℕ, length, Result, Ok, Err, IfOk, Option}
 use Rattle.ghc_term.specs.declared.fault.Fault.{Fault}
 use Rattle.ghc_term.specs.declared.fault.Fault.TheVariants as fault
 use Rattle.ghc_term.specs.declared.goal_name.GoalName.{GoalName}

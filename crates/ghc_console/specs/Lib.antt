@@ -5,7 +5,6 @@ pub mod Reading
 pub mod Words
 pub mod Commands
 pub mod VariableNamed
-pub mod Finding
 pub mod Replies
 pub mod Session
 pub mod Firing

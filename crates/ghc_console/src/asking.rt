@@ -7,7 +7,6 @@ ghost use Rattle.ghc_records.specs.Record.{Record};
 ghost use Rattle.ghc_records.specs.Replay.{IsVariableOf, MakesVariable};
 ghost use Rattle.ghc_console.specs.VariableNamed.{IsVariableNamed, IsGivenName, numbered_of, variable_numbered};
 
-use crate::finding::in_goals;
 use crate::words::{first, number};
 use ghc_core::Core;
 use ghc_reader::Query;
@@ -31,8 +30,7 @@ fn is_blank(word: &[u8]) -> bool
     word == b"_".as_slice()
 }
 
-// The variable of the query to which it gives the name, but for `_`. It is searched for among the goals, where its number
-// has 32 bits: names alone are not known to be so few.
+// The variable of the query to which it gives the name, but for `_`.
 fn given_name(query: &Query, word: &[u8]) -> Option<VarName>
     ensures found { IfSome result (IsGivenName query.now.variables word.now) }
     ensures none { IfNone result ((x : var_name) → ¬ IsGivenName query.now.variables word.now x) }
@@ -40,8 +38,13 @@ fn given_name(query: &Query, word: &[u8]) -> Option<VarName>
     if is_blank(word) {
         return None;
     }
+    // Called for its clause that a query is within the limits, which the proof cites.
+    let _goals = query.goals();
     match index_of(query.variables(), word) {
-        Some(index) => in_goals(query.goals(), index + 1),
+        Some(index) => Some(VarName {
+            step: 0,
+            place: index as u32 + 1,
+        }),
         None => None,
     }
 }
@@ -103,7 +106,7 @@ fn is_variable_of(core: &Core, x: VarName) -> bool
 }
 
 /// The variable that the word names: one of the query by its name, but for `_`; or `_n_m`, where the query has it or a kept
-/// step made it. One look at each name and each symbol of the query, and one look-up in the record.
+/// step made it. One look at each name of the query, and one look-up in the record.
 pub fn variable_named(core: &Core, word: &[u8]) -> Option<VarName>
     ensures found { IfSome result (IsVariableNamed core.now.world core.now.names word.now) }
     ensures none { IfNone result ((x : var_name) → ¬ IsVariableNamed core.now.world core.now.names word.now x) }

@@ -6,7 +6,6 @@ mod asking;
 mod call_counts;
 mod command;
 mod device;
-mod finding;
 mod line_buffer;
 mod lines;
 mod reading;

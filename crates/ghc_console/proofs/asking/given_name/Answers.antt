@@ -1,8 +1,6 @@
-use Rattle.std.proofs.Common.{◌≡◌, ◌≢◌, ◌+◌, ◌<◌, length, subst}
+use Rattle.std.proofs.Common.{◌≡◌, ◌≢◌, ◌<◌, length, subst, refl}
 use Rattle.std.specs.Prelude.{All, HoldsAt, codes}
-use Rattle.ghc_term.specs.Variables.{variables_of_goals}
 use Rattle.ghc_term.proofs.ListsLemmas.{not_both}
-use Rattle.ghc_console.specs.Finding.{Finds}
 use Rattle.ghc_console.proofs.QueryVariables.{given, none_given}
 use Rattle.ghc_console.proofs.asking.given_name.Goals as goal
 
@@ -12,17 +10,7 @@ returns-in-Some-clause-found c =
     let low : c.in-Some.index < length c.args.query.now.variables = subst (λ l. c.in-Some.index < length l) names c.in-Some.ensures.bound in
     let at = subst (λ l. HoldsAt (λ name. name ≡ c.args.word.now) l c.in-Some.index) names c.in-Some.ensures.found in
     let named : c.args.word.now ≢ codes "_" = λ e. not_both c.is_blank.result c.if-is_blank.false (c.is_blank.ensures.1 e) in
-    let found = subst (λ l. Finds (c.in-Some.index + 1) (variables_of_goals l) c.in_goals.result) c.goals.ensures.same c.in_goals.ensures in
-    (given c.args.query.now c.goals.ensures.well_asked c.args.word.now c.in-Some.index c.in_goals.result low at named found).0
-
-pub returns-in-Some-clause-none : goal.returns-in-Some-clause-none
-returns-in-Some-clause-none c =
-    let names = c.variables.ensures in
-    let low : c.in-Some.index < length c.args.query.now.variables = subst (λ l. c.in-Some.index < length l) names c.in-Some.ensures.bound in
-    let at = subst (λ l. HoldsAt (λ name. name ≡ c.args.word.now) l c.in-Some.index) names c.in-Some.ensures.found in
-    let named : c.args.word.now ≢ codes "_" = λ e. not_both c.is_blank.result c.if-is_blank.false (c.is_blank.ensures.1 e) in
-    let found = subst (λ l. Finds (c.in-Some.index + 1) (variables_of_goals l) c.in_goals.result) c.goals.ensures.same c.in_goals.ensures in
-    (given c.args.query.now c.goals.ensures.well_asked c.args.word.now c.in-Some.index c.in_goals.result low at named found).1
+    given c.args.query.now.variables c.args.word.now c.in-Some.index _ low at named refl
 
 pub returns-in-None-clause-none : goal.returns-in-None-clause-none
 returns-in-None-clause-none c = none_given c.args.query.now.variables c.args.word.now (subst (λ l. All (λ name. name ≢ c.args.word.now) l) c.variables.ensures c.in-None.ensures.none)

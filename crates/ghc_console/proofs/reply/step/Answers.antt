@@ -1,4 +1,4 @@
-use Rattle.std.proofs.Common.{sym, subst, ap, ◌∙◌, inl, inr, refl}
+use Rattle.std.proofs.Common.{sym, subst, ap, ◌∙◌}
 use Rattle.ghc_core.specs.World.{World, with_step}
 use Rattle.ghc_core.specs.Proposes.{IsCommitOf}
 use Rattle.ghc_trace.specs.Ports.{taken_ports}
