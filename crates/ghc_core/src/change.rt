@@ -31,7 +31,8 @@ fn strike(records: &mut Records, number: u32)
 }
 
 impl Core {
-    /// Makes room for the change. The core stays as it is, also where memory is refused.
+    /// Makes room for the change. The core stays as it is, also where memory is refused. It costs nothing where there is room; a
+    /// table that is full moves to one of about twice its size.
     pub fn reserve(&mut self, change: &Change) -> Result<(), AllocError>
         ensures room { OnOk result (HasRoomFor self.new.room change.now) }
         ensures world { self.new.world ≡ self.old.world }
