@@ -4,16 +4,18 @@ use Rattle.std.specs.FinMap as finite
 use Rattle.ghc_term.specs.declared.goal_name.GoalName.{GoalName}
 use Rattle.ghc_term.specs.declared.fault.Fault.{Fault}
 use Rattle.ghc_term.specs.declared.fault.Fault.TheVariants as fault
+use Rattle.ghc_term.specs.Store.{value_at}
 use Rattle.ghc_term.specs.Answered.{Answered}
 use Rattle.ghc_fire.specs.declared.act.Act.{Act}
 use Rattle.ghc_fire.specs.Effect.{Effect}
-use Rattle.ghc_fire.specs.Attempt.{proposes}
+use Rattle.ghc_fire.specs.Attempt.{proposes, AttemptsAs, Attempts}
 use Rattle.ghc_fire.specs.Proposal.{Proposal, under}
+use Rattle.ghc_fire.proofs.Under.{proposal_as}
 use Rattle.ghc_records.specs.Record.{State, Record, Shelf}
 use Rattle.ghc_records.specs.Journal.{Opening, Entry}
 use Rattle.ghc_core.specs.World.{World, IsFull, HasRoom}
-use Rattle.ghc_core.specs.Core.{IsStanding, next_record}
-use Rattle.ghc_core.specs.Proposes.{AttemptAnswers, IsProposedIn, StillHolds, IsCommitOf, CommitFails, full, IsStepOf, StepFails, no_room}
+use Rattle.ghc_core.specs.Core.{IsStanding, record_as, next_record}
+use Rattle.ghc_core.specs.Proposes.{AttemptAnswers, IsProposedAsNext, StillHolds, IsCommitOf, CommitFails, full, IsStepOf, StepFails, no_room}
 use Rattle.ghc_core.proofs.Committing.{next_step, answered_holds}
 
 -- The step of a proposal that was made again is that of a commit of the proposal.
@@ -26,14 +28,14 @@ prepared w p again standing holds there goal act effect room =
     (subst (λ (e : Effect). IsCommitOf w p (record { number = w.next; goal = Some p.goal; consumed = Some again.consumed; act = p.act; effect = under w.next e })) (sym effect)
     (next_step w p again.consumed standing holds found room)))
 
--- what is known of the next step of a proposal
-abbrev pub IsNext : World → Proposal → Result Record Fault → Type 0
-IsNext w p result = IfOk result (λ r. r ≡ next_record w p) × IfOk result (λ _. HasRoom w) × IfErr result (λ f. (f ≡ fault.Memory) ⊎ ((f ≡ fault.Full) × IsFull w))
+-- what is known of a next step that has this record
+abbrev pub IsNext : World → Record → Result Record Fault → Type 0
+IsNext w r result = IfOk result (λ q. q ≡ r) × IfOk result (λ _. HasRoom w) × IfErr result (λ f. (f ≡ fault.Memory) ⊎ ((f ≡ fault.Full) × IsFull w))
 
-answered : (Gives : Record → Type 0) (Refuses : Fault → Type 0) (w : World) (p : Proposal) (result : Result Record Fault) → IsNext w p result
-    → (HasRoom w → Gives (next_record w p)) → (IsFull w → Refuses fault.Full) → Answered Gives Refuses result
-answered Gives Refuses w p (Ok r) next gives refuses = (subst Gives (sym next.0) (gives next.1), tt)
-answered Gives Refuses w p (Err f) next gives refuses = (
+answered : (Gives : Record → Type 0) (Refuses : Fault → Type 0) (w : World) (r : Record) (result : Result Record Fault) → IsNext w r result
+    → (HasRoom w → Gives r) → (IsFull w → Refuses fault.Full) → Answered Gives Refuses result
+answered Gives Refuses w r (Ok q) next gives refuses = (subst Gives (sym next.0) (gives next.1), tt)
+answered Gives Refuses w r (Err f) next gives refuses = (
   tt,
   elim next.2 [
     | inl m ↦ inl m
@@ -43,17 +45,24 @@ answered Gives Refuses w p (Err f) next gives refuses = (
 
 -- The next step of a proposal that was made again answers a commit of the proposal.
 pub commit_answered : (w : World) (p again : Proposal) (result : Result Record Fault) → IsStanding w → StillHolds w p → finite.get w.state.goals again.goal ≡ Some again.consumed
-    → (again.goal ≡ p.goal) × (again.act ≡ p.act) × (again.effect ≡ p.effect) → IsNext w again result → Answered (IsCommitOf w p) (CommitFails w p) result
+    → (again.goal ≡ p.goal) × (again.act ≡ p.act) × (again.effect ≡ p.effect) → IsNext w (next_record w again) result → Answered (IsCommitOf w p) (CommitFails w p) result
 commit_answered w p again result standing holds there same next =
-    answered (IsCommitOf w p) (CommitFails w p) w again result next (prepared w p again standing holds there same.0 same.1 same.2) (full holds)
+    answered (IsCommitOf w p) (CommitFails w p) w (next_record w again) result next (prepared w p again standing holds there same.0 same.1 same.2) (full holds)
 
--- The next step of what an attempt proposed answers for the step of its goal.
-pub step_answered : (w : World) (g : GoalName) (choice : Option ℕ) (p : Proposal) (result : Result Record Fault) → IsStanding w
-    → IsProposedIn w g choice p → IsNext w p result → Answered (IsStepOf w g choice) (StepFails w g choice) result
-step_answered w g choice p result standing made next =
+-- The next step, which an attempt proposed as that step, answers for the step of its goal.
+pub step_answered : (w : World) (g : GoalName) (choice : Option ℕ) (p : Proposal) (result : Result Record Fault) → IsProposedAsNext w g choice p
+    → IsNext w (record_as w.next p) result → Answered (IsStepOf w g choice) (StepFails w g choice) result
+step_answered w g choice p result made next =
+    let P = w.opening.program in
+    let S = value_at w.state.store in
     let there : finite.get w.state.goals p.goal ≡ Some p.consumed = subst (λ (h : GoalName). finite.get w.state.goals h ≡ Some p.consumed) (sym made.named) made.there in
-    let holds = answered_holds w p choice p.consumed there (subst (λ (h : GoalName). AttemptAnswers w h choice (proposes p.act p.effect)) (sym made.named) made.proposed) in
-    answered (IsStepOf w g choice) (StepFails w g choice) w p result next (λ room. (p, made.named, made.proposed, prepared w p p standing holds there refl refl refl room)) (no_room p made.named made.proposed)
+    let attempted : AttemptsAs w.next P S (Some p.consumed) choice (proposes p.act p.effect) = subst (λ o. AttemptsAs w.next P S o choice (proposes p.act p.effect)) made.there made.proposed in
+    let effect = proposal_as P p.consumed choice p.act w.next S p.effect attempted in
+    let q : Proposal = record { goal = p.goal; consumed = p.consumed; act = p.act; effect = effect.1.0 } in
+    let proposed : AttemptAnswers w g choice (proposes q.act q.effect) = subst (λ o. Attempts P S o choice (proposes q.act q.effect)) (sym made.there) effect.1.1 in
+    let holds : StillHolds w q = answered_holds w q choice p.consumed there (subst (λ (h : GoalName). AttemptAnswers w h choice (proposes q.act q.effect)) (sym made.named) proposed) in
+    answered (IsStepOf w g choice) (StepFails w g choice) w (record_as w.next p) result next
+    (λ room. (q, made.named, proposed, (holds, (refl, ((p.consumed, refl, there), effect.0), room), refl, refl))) (no_room q made.named proposed)
 
 -- Worlds are the same where their parts are.
 pub same_world : (o : Opening) {s t : State} {rs qs : List Record} {x y : Shelf} (n : ℕ) {es fs : List Entry} → s ≡ t → rs ≡ qs → x ≡ y → es ≡ fs

@@ -40,6 +40,10 @@ choice_of assigned = None
 choice_of (given u) = None
 choice_of closed = None
 
+-- the record of the proposal as step n, where its effect is as step n has it
+abbrev pub record_as : ℕ → Proposal → Record
+record_as n p = record { number = n; goal = Some p.goal; consumed = Some p.consumed; act = p.act; effect = p.effect }
+
 -- the record of the proposal as the next step of the world
 abbrev pub next_record : World → Proposal → Record
 next_record w p = record { number = w.next; goal = Some p.goal; consumed = Some p.consumed; act = p.act; effect = under w.next p.effect }

@@ -11,7 +11,7 @@ use Rattle.ghc_fire.specs.declared.act.Act.TheVariants.{ByClause as by_clause, U
 use Rattle.ghc_fire.specs.Effect.{Effect, HasEffect, no_step}
 use Rattle.ghc_fire.specs.Proposal.{under}
 use Rattle.ghc_fire.specs.Attempt as attempt
-use Rattle.ghc_fire.specs.Attempted.{IsProposed}
+use Rattle.ghc_fire.specs.Attempted.{IsProposedAs, IsProposed}
 use Rattle.ghc_records.specs.Record.{Record}
 use Rattle.ghc_hooks.specs.Status.{Status, HasStatus}
 use Rattle.ghc_core.specs.World.{Proposal, Hands, IsHand, with_hand, emptied, World, IsFull, IsNextStep, with_step}
@@ -24,6 +24,10 @@ AttemptAnswers w g choice a = attempt.Attempts w.opening.program (value_at w.sta
 -- The proposal is what an attempt at the goal named g proposes, in the present state.
 abbrev pub IsProposedIn : World → GoalName → Option ℕ → Proposal → Type 0
 IsProposedIn w g choice p = IsProposed w.opening.program w.state.goals w.state.store g choice p
+
+-- The proposal is what an attempt at the goal named g, as the next step, proposes in the present state.
+abbrev pub IsProposedAsNext : World → GoalName → Option ℕ → Proposal → Type 0
+IsProposedAsNext w g choice p = IsProposedAs w.next w.opening.program w.state.goals w.state.store g choice p
 
 -- Proposes Starved w hands h g choice reply left: hand h asks for a step of the goal named g, and the hands left differ in hand h alone.
 pub data Proposes (Starved : Type 0) (w : World) (hands : Hands) (h : ℕ) (g : GoalName) (choice : Option ℕ) : Reply → Hands → Type 0 where

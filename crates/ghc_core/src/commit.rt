@@ -7,28 +7,37 @@ ghost use Rattle.ghc_fire.specs.Meter.{fired};
 ghost use Rattle.ghc_fire.specs.Proposal.{under};
 ghost use Rattle.ghc_records.specs.Laws.{IsWellMade};
 ghost use Rattle.ghc_core.specs.World.{IsReplay, IsFull, HasRoom};
-ghost use Rattle.ghc_core.specs.Core.{IsCommitted, next_record};
-ghost use Rattle.ghc_core.specs.Proposes.{AttemptAnswers, IsProposedIn, IsCommitOf, CommitFails};
+ghost use Rattle.ghc_core.specs.Core.{IsCommitted, record_as, next_record};
+ghost use Rattle.ghc_core.specs.Proposes.{AttemptAnswers, IsProposedIn, IsProposedAsNext, IsCommitOf, CommitFails};
 
 use crate::change::Change;
 use crate::core_state::Core;
 use crate::recheck::recheck;
-use ghc_fire::{Meter, Proposal, attempt, finish};
+use ghc_fire::{Meter, Proposal, attempt, attempt_as, finish};
 use ghc_records::{Addition, Record};
 use ghc_term::{Fault, GoalName};
 use std::alloc::{AllocError, Global};
 
 const KEPT_LIMIT: usize = 1_000_000;
 
-// The record of the proposal as the step of this number.
-fn record_of(alloc: Global, proposal: Proposal, number: u32) -> Result<Record, AllocError>
-    ensures { IfOk result (λ r. r ≡ record { number = number; goal = Some proposal.goal; consumed = Some proposal.consumed; act = proposal.act; effect = under number proposal.effect }) }
+// The proposal with its effect as the step of this number has it.
+fn numbered(alloc: Global, proposal: Proposal, number: u32) -> Result<Proposal, AllocError>
+    ensures { IfOk result (λ p. p ≡ record { goal = proposal.goal; consumed = proposal.consumed; act = proposal.act; effect = under number proposal.effect }) }
 {
     let goal = proposal.goal();
-    let act = proposal.act().share()?;
-    let (consumed, effect) = proposal.into_parts();
+    let (consumed, act, effect) = proposal.into_parts();
     let effect = finish(alloc, effect, number)?;
-    Record::new(alloc, number, Some(goal), Some(consumed), act, effect)
+    Ok(Proposal::new(goal, consumed, act, effect))
+}
+
+// The step of this number that was proposed as that step, with all that it takes to take it.
+fn addition_of(alloc: Global, proposal: Proposal, number: u32) -> Result<Addition, AllocError>
+    ensures { IfOk result (λ step. step ≡ record_as number proposal) }
+{
+    let goal = proposal.goal();
+    let (consumed, act, effect) = proposal.into_parts();
+    let step = Record::new(alloc, number, Some(goal), Some(consumed), act, effect)?;
+    Addition::of(alloc, step)
 }
 
 impl Core {
@@ -88,6 +97,32 @@ impl Core {
         )
     }
 
+    // The same, made under the number of the next step.
+    pub(crate) fn attempt_as_next(
+        &mut self,
+        alloc: Global,
+        goal: GoalName,
+        choice: Option<u32>,
+    ) -> Result<Proposal, Fault>
+        ensures answer { Answered (IsProposedAsNext self.old.world goal choice) (λ f. AttemptAnswers self.old.world goal choice (refused f)) result }
+        ensures no_goal { AttemptAnswers self.old.world goal choice (refused Fault.NoGoal) → result ≡ Err Fault.NoGoal }
+        ensures no_clause { AttemptAnswers self.old.world goal choice (refused Fault.NoClause) → result ≡ Err Fault.NoClause }
+        ensures world { self.new.world ≡ self.old.world }
+        ensures names { self.new.names ≡ self.old.names }
+        ensures counted { self.new.meter ≡ fired self.old.meter }
+    {
+        attempt_as(
+            alloc,
+            &mut self.meter,
+            &self.program,
+            self.state.goals(),
+            self.state.store(),
+            goal,
+            choice,
+            self.next,
+        )
+    }
+
     // Whether a new step has no room.
     fn is_full(&self) -> bool
         ensures full { result ≡ true → IsFull self.now.world }
@@ -105,8 +140,24 @@ impl Core {
         if self.is_full() {
             return Err(Fault::Full);
         }
-        let step = record_of(alloc, proposal, self.next)?;
-        Ok(Addition::of(alloc, step)?)
+        let proposal = numbered(alloc, proposal, self.next)?;
+        Ok(addition_of(alloc, proposal, self.next)?)
+    }
+
+    // The next step, which was proposed as that step, with all that it takes to take it, where a new step has room.
+    pub(crate) fn proposed_as_next(
+        &self,
+        alloc: Global,
+        proposal: Proposal,
+    ) -> Result<Addition, Fault>
+        ensures step { IfOk result (λ step. step ≡ record_as self.now.world.next proposal) }
+        ensures room { IfOk result (λ _. HasRoom self.now.world) }
+        ensures fault { IfErr result (λ f. (f ≡ Fault.Memory) ⊎ ((f ≡ Fault.Full) × IsFull self.now.world)) }
+    {
+        if self.is_full() {
+            return Err(Fault::Full);
+        }
+        Ok(addition_of(alloc, proposal, self.next)?)
     }
 
     /// Finds what it takes to take the step that was proposed, as the next step, and counts a firing. `Stale` exactly where the

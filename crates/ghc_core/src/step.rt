@@ -12,10 +12,10 @@ use std::alloc::Global;
 
 impl Core {
     /// Finds what it takes to take a step of the goal of this name, with a clause chosen or not, as the next step, and counts a
-    /// firing. The
-    /// refusals are those of an attempt, in their order; else `Full` exactly where the numbers are used up or 1,000,000 steps are
-    /// kept. But for the meter the core stays as it is. It is what `attempt` and `prepare` give together, with one attempt: since
-    /// nothing came between, the proposal holds.
+    /// firing. The refusals are those of an attempt, in their order; else `Full` exactly where the numbers are used up or
+    /// 1,000,000 steps are kept. But for the meter the core stays as it is. It is what `attempt` and `prepare` give together,
+    /// with one attempt, made under the number of the next step: since nothing comes between, the proposal holds, and its goals
+    /// need no second walk.
     pub fn prepare_step(
         &mut self,
         alloc: Global,
@@ -29,9 +29,8 @@ impl Core {
         ensures names { self.new.names ≡ self.old.names }
         ensures counted { self.new.meter ≡ fired self.old.meter }
     {
-        self.stands();
-        match self.attempt_counted(alloc, goal, choice) {
-            Ok(proposal) => self.as_next(alloc, proposal),
+        match self.attempt_as_next(alloc, goal, choice) {
+            Ok(proposal) => self.proposed_as_next(alloc, proposal),
             Err(fault) => Err(fault),
         }
     }

@@ -15,7 +15,7 @@ use Rattle.ghc_match.specs.Match.{Accepts, Refuses, WaitsFor}
 use Rattle.ghc_match.proofs.Outcomes.{refuses_waits, accepts_refuses, accepts_waits}
 use Rattle.ghc_fire.specs.declared.act.Act.TheVariants.{ByClause as by_clause}
 use Rattle.ghc_fire.specs.declared.calls.Verdict.TheVariants as verdict
-use Rattle.ghc_fire.specs.Effect.{Effect}
+use Rattle.ghc_fire.specs.Effect.{Effect, no_step}
 use Rattle.ghc_fire.specs.Attempt.{proposes, refused, SomeAccepts, CallAnswers, ChoiceAnswers}
 use Rattle.ghc_fire.specs.Calls.{HasVerdict}
 use Rattle.ghc_fire.proofs.Steps.{clause_once}
@@ -74,31 +74,31 @@ module _ (P : Program) (f : List ℕ) (ts : List Tree) (S : VarName → Option T
   nobody : (ks : List ℕ) (w : Bool) → AreNumbersFor P f (length ts) ks → NoneTaken ks w → ¬ SomeAccepts P f ts S
   nobody ks w numbers n a = n.none a.0 a.1 ((numbers.«exactly» a.0).1 (a.1, a.2, a.3.0, a.3.1)) a.2 a.4
 
-  pub all_wait : (ks : List ℕ) → AreNumbersFor P f (length ts) ks → NoneTaken ks true → CallAnswers P f ts S (refused Waits)
+  pub all_wait : (ks : List ℕ) → AreNumbersFor P f (length ts) ks → NoneTaken ks true → CallAnswers no_step P f ts S (refused Waits)
   all_wait ks numbers n =
       let o = n.waits refl in
       let found = (numbers.«exactly» o.0).0 o.2 in
       let is : IsFor f ts o.1 = subst (IsFor f ts) (clause_once P found.1 o.3) (found.2, found.3) in
       CallAnswers.waits (nobody ks true numbers n) (o.0, o.1, o.3, is, o.4.1)
 
-  pub all_refuse : (ks : List ℕ) → AreNumbersFor P f (length ts) ks → NoneTaken ks false → CallAnswers P f ts S (refused NoMatch)
+  pub all_refuse : (ks : List ℕ) → AreNumbersFor P f (length ts) ks → NoneTaken ks false → CallAnswers no_step P f ts S (refused NoMatch)
   all_refuse ks numbers n =
       CallAnswers.no_match (nobody ks false numbers n) (λ x s. n.idle refl (s.0, s.1, (numbers.«exactly» s.0).1 (s.1, s.2, s.3.0, s.3.1), s.2, (x, s.4)))
 
   -- where none before it is taken, the clause that accepts is the least
-  pub least_reduces : (ks : List ℕ) (w : Bool) (i k : ℕ) (c : Clause) (e : Effect) → AreNumbersFor P f (length ts) ks → NoneTaken (take i ks) w → i < length ks → slice_index_or ks i 0 ≡ k → IsClause P k c → IsFor f ts c
-      → HasVerdict c ts S (verdict.Reduces e) → CallAnswers P f ts S (proposes (by_clause k) e)
-  least_reduces ks w i k c e numbers n l at ic is v =
+  pub least_reduces : (m : ℕ) (ks : List ℕ) (w : Bool) (i k : ℕ) (c : Clause) (e : Effect) → AreNumbersFor P f (length ts) ks → NoneTaken (take i ks) w → i < length ks → slice_index_or ks i 0 ≡ k → IsClause P k c → IsFor f ts c
+      → HasVerdict m c ts S (verdict.Reduces e) → CallAnswers m P f ts S (proposes (by_clause k) e)
+  least_reduces m ks w i k c e numbers n l at ic is v =
       CallAnswers.by_least
       ((c, ic, is, v.0), λ j d less id for a. n.none j d (lower_before ks numbers.increasing i k j l at less ((numbers.«exactly» j).1 (d, id, for.0, for.1))) id a)
       (v.1 P f k ic is)
 
   -- a clause that is chosen reduces the call
-  pub chosen_reduces : (k : ℕ) (c : Clause) (e : Effect) → IsClause P k c → IsFor f ts c → HasVerdict c ts S (verdict.Reduces e) → ChoiceAnswers P f ts k S (proposes (by_clause k) e)
-  chosen_reduces k c e ic is v = ChoiceAnswers.by_choice (v.1 P f k ic is)
+  pub chosen_reduces : (m k : ℕ) (c : Clause) (e : Effect) → IsClause P k c → IsFor f ts c → HasVerdict m c ts S (verdict.Reduces e) → ChoiceAnswers m P f ts k S (proposes (by_clause k) e)
+  chosen_reduces m k c e ic is v = ChoiceAnswers.by_choice (v.1 P f k ic is)
 
 -- where a clause has the number chosen and is for the call, the answer is not that there is none
-pub has_clause : (P : Program) (f : List ℕ) (ts : List Tree) (S : VarName → Option Tree) (k : ℕ) (c : Clause) → IsClause P k c → IsFor f ts c → ¬ ChoiceAnswers P f ts k S (refused NoClause)
+pub has_clause : (P : Program) (f : List ℕ) (ts : List Tree) (S : VarName → Option Tree) (k : ℕ) (c : Clause) → IsClause P k c → IsFor f ts c → ¬ ChoiceAnswers no_step P f ts k S (refused NoClause)
 has_clause P f ts S k c ic is (ChoiceAnswers.no_clause none) = none c ic is
 
 -- a number in the index is that of a clause for the call

@@ -146,7 +146,7 @@ module _ (P : Program) (accepted : IsProgram P) (s : StoreValue) (acyclic : IsAc
       by (waits xs) h = absurd (accepts_waits c ts S a h.1.0 h.1.1)
       by (accepts theta reads) h = reduced P no_step s acyclic f ts k c theta reads ic is h
 
-    call_answer : (a : Answer) × CallAnswers P f ts S a
+    call_answer : (a : Answer) × CallAnswers no_step P f ts S a
     call_answer = elim (least AcceptsAt accepts_at (suc (length P))) [
       | inl k ↦
           let c = k.1 in
@@ -160,12 +160,12 @@ module _ (P : Program) (accepted : IsProgram P) (s : StoreValue) (acyclic : IsAc
           ]
     ]
 
-    choice_answer : (k : ℕ) → (a : Answer) × ChoiceAnswers P f ts k S a
+    choice_answer : (k : ℕ) → (a : Answer) × ChoiceAnswers no_step P f ts k S a
     choice_answer k = elim (clause_decided P f ts k) [
       | inr none ↦ (refused NoClause, ChoiceAnswers.no_clause (λ c ic is. none (c, ic, is)))
       | inl c ↦ let o = outcome c.0 ts k c.1 in by c.0 c.1 c.2 o.0 o.1
     ] where
-      by : (c : Clause) → IsClause P k c → IsFor f ts c → (o : Outcome) → HasOutcome c ts S o → (a : Answer) × ChoiceAnswers P f ts k S a
+      by : (c : Clause) → IsClause P k c → IsFor f ts c → (o : Outcome) → HasOutcome c ts S o → (a : Answer) × ChoiceAnswers no_step P f ts k S a
       by c ic is refuses h = (refused NoMatch, ChoiceAnswers.no_match ic is h)
       by c ic is (waits xs) h = (refused Waits, ChoiceAnswers.waits ic is h.1.1)
       by c ic is (accepts theta reads) h = let e = reduced P no_step s acyclic f ts k c theta reads ic is h in (proposes (by_clause k) e.0, ChoiceAnswers.by_choice e.1)

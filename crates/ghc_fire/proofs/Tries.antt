@@ -49,7 +49,7 @@ module _ (P : Program) (f : List ℕ) (ts : List Tree) (S : VarName → Option T
       ap (λ i. proposes (by_clause i) d) same
       ∙ one_proposal P (call f ts) (by_clause k) S d e h (subst (λ i. HasEffect P (call f ts) (by_clause i) no_step S d) same p) q
 
-  call_once : (a b : Answer) → CallAnswers P f ts S a → CallAnswers P f ts S b → a ≡ b
+  call_once : (a b : Answer) → CallAnswers no_step P f ts S a → CallAnswers no_step P f ts S b → a ≡ b
   call_once a b (CallAnswers.by_least {k = j} {e = d} l p) (CallAnswers.by_least {k = k} {e = e} m q) = least_proposal j k d e (least_once P f ts S j k l m) p q
   call_once a b (CallAnswers.by_least {k = k} l p) (CallAnswers.waits n w) = absurd (n (some k l))
   call_once a b (CallAnswers.by_least {k = k} l p) (CallAnswers.no_match n w) = absurd (n (some k l))
@@ -64,7 +64,7 @@ module _ (P : Program) (f : List ℕ) (ts : List Tree) (S : VarName → Option T
   effect_accepts : (k : ℕ) (c : Clause) (e : Effect) → IsClause P k c → HasEffect P (call f ts) (by_clause k) no_step S e → Accepts c ts S
   effect_accepts k c e ic d = subst (λ z. Accepts z ts S) (clause_once P d.2 ic) d.4.0
 
-  choice_once : (k : ℕ) (a b : Answer) → ChoiceAnswers P f ts k S a → ChoiceAnswers P f ts k S b → a ≡ b
+  choice_once : (k : ℕ) (a b : Answer) → ChoiceAnswers no_step P f ts k S a → ChoiceAnswers no_step P f ts k S b → a ≡ b
   choice_once k a b (ChoiceAnswers.no_clause n) (ChoiceAnswers.no_clause m) = refl
   choice_once k a b (ChoiceAnswers.no_clause n) (ChoiceAnswers.by_choice p) = absurd (n p.0 p.2 p.3)
   choice_once k a b (ChoiceAnswers.no_clause n) (ChoiceAnswers.waits {c = c} ic is w) = absurd (n c ic is)
@@ -155,13 +155,13 @@ module _ (P : Program) (f : List ℕ) (ts : List Tree) (S S' : VarName → Optio
         λ j d less id i a. l.1 j d less id i (accepts_there d ts S' S (at_clause P f ts S' S (call_back P f ts S S' h) j d id i) a),
       )
 
-  call_there : (a : Answer) → CallAnswers P f ts S a → CallAnswers P f ts S' a
+  call_there : (a : Answer) → CallAnswers no_step P f ts S a → CallAnswers no_step P f ts S' a
   call_there a (CallAnswers.by_least {k = k} {e = e} l d) = CallAnswers.by_least (least_there k l) (reduction_there P f ts S S' h k no_step e d)
   call_there a (CallAnswers.waits {x = x} n w) = CallAnswers.waits (λ s. n (some_accepts_there P f ts S' S (call_back P f ts S S' h) s)) (some_waits_there P f ts S S' h x w)
   call_there a (CallAnswers.no_match n idle) =
       CallAnswers.no_match (λ s. n (some_accepts_there P f ts S' S (call_back P f ts S S' h) s)) (λ x w. idle x (some_waits_there P f ts S' S (call_back P f ts S S' h) x w))
 
-  choice_there : (k : ℕ) (a : Answer) → ChoiceAnswers P f ts k S a → ChoiceAnswers P f ts k S' a
+  choice_there : (k : ℕ) (a : Answer) → ChoiceAnswers no_step P f ts k S a → ChoiceAnswers no_step P f ts k S' a
   choice_there k a (ChoiceAnswers.no_clause n) = ChoiceAnswers.no_clause n
   choice_there k a (ChoiceAnswers.by_choice {e = e} d) = ChoiceAnswers.by_choice (reduction_there P f ts S S' h k no_step e d)
   choice_there k a (ChoiceAnswers.waits {c = c} {x = x} ic is w) = ChoiceAnswers.waits ic is (waits_there c ts S S' (at_clause P f ts S S' h k c ic is) x w)

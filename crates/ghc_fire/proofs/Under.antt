@@ -15,8 +15,9 @@ use Rattle.ghc_fire.specs.declared.act.Act.TheVariants.{ByClause as by_clause, U
 use Rattle.ghc_fire.specs.Effect.{no_step}
 use Rattle.ghc_fire.specs.Attempt.{CallAnswers, ChoiceAnswers, UnificationAnswers, AssignmentAnswers}
 use Rattle.ghc_fire.specs.Proposal.{numbered, under}
-use Rattle.ghc_fire.specs.Laws.{EffectUnderANumber, ProposalIsEffect}
+use Rattle.ghc_fire.specs.Laws.{EffectUnderANumber, ProposalIsEffect, ProposalAsAStep}
 use Rattle.ghc_fire.proofs.Origins.{Inside, at_inside}
+use Rattle.ghc_fire.proofs.Steps.{effect_each}
 
 -- the variable is not of a step
 abbrev IsNotOf : ℕ → VarName → Type 0
@@ -104,3 +105,12 @@ proposal_under P (unify l r) (Some k) a n S e h p = cc
 proposal_under P (assign t b) None a n S e h (AssignmentAnswers.assigns d) = effect_under P (assign t b) assigned n S e refl h d
 proposal_under P (assign t b) (Some k) a n S e h p = cc
 proposal_under P (stream k x) choice a n S e h p = cc
+
+pub proposal_as : ProposalAsAStep
+proposal_as P (call f ts) None a n S e (CallAnswers.by_least {k = k} l d) = let u = effect_each P (call f ts) (by_clause k) n no_step S e d in (d, (u.0, CallAnswers.by_least l u.1))
+proposal_as P (call f ts) (Some k) a n S e (ChoiceAnswers.by_choice d) = let u = effect_each P (call f ts) (by_clause k) n no_step S e d in (d, (u.0, ChoiceAnswers.by_choice u.1))
+proposal_as P (unify l r) None a n S e (UnificationAnswers.solves d) = (d, (e, UnificationAnswers.solves d))
+proposal_as P (unify l r) (Some k) a n S e p = cc
+proposal_as P (assign t b) None a n S e (AssignmentAnswers.assigns d) = (d, (e, AssignmentAnswers.assigns d))
+proposal_as P (assign t b) (Some k) a n S e p = cc
+proposal_as P (stream k x) choice a n S e p = cc

@@ -20,7 +20,7 @@ use Rattle.ghc_fire.specs.Instance.{made}
 use Rattle.ghc_fire.specs.declared.act.Act.{Act}
 use Rattle.ghc_fire.specs.Effect.{Effect, HasEffect, no_step}
 use Rattle.ghc_fire.specs.Goals.{Goals}
-use Rattle.ghc_fire.specs.Attempt.{Answer, proposes, refused, Attempts}
+use Rattle.ghc_fire.specs.Attempt.{Answer, proposes, refused, AttemptsAs, Attempts}
 use Rattle.ghc_fire.specs.Attempted.{AttemptsAt, IsProposed}
 use Rattle.ghc_fire.specs.Proposal.{Proposal, under}
 
@@ -128,3 +128,9 @@ abbrev pub ProposalIsEffect : Type 0
 ProposalIsEffect =
     (P : Program) (g : Goal) (choice : Option ℕ) (a : Act) (n : ℕ) (S : VarName → Option Tree) (e : Effect) → HasNoVariableOf no_step g S
     → Attempts P S (Some g) choice (proposes a e) → HasEffect P g a n S (under n e)
+
+-- What an attempt proposes as step n is the effect of the act as step n, and an attempt under any number proposes the same act.
+abbrev pub ProposalAsAStep : Type 0
+ProposalAsAStep =
+    (P : Program) (g : Goal) (choice : Option ℕ) (a : Act) (n : ℕ) (S : VarName → Option Tree) (e : Effect) → AttemptsAs n P S (Some g) choice (proposes a e)
+    → HasEffect P g a n S e × ((f : Effect) × Attempts P S (Some g) choice (proposes a f))

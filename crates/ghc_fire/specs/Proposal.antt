@@ -8,7 +8,7 @@ use Rattle.ghc_fire.specs.declared.act.Act.{Act}
 use Rattle.ghc_fire.specs.Instance.{made, replace_in_goal}
 use Rattle.ghc_fire.specs.Effect.{Effect, no_step}
 
--- A proposal is a goal, by name and as written, the act on it, and the effect under any number.
+-- A proposal is a goal, by name and as written, the act on it, and the effect, under any number or as the step of some number.
 pub record Proposal : Type 0 where
   pub goal : GoalName
   pub consumed : Goal

@@ -2,14 +2,14 @@
 ghost use Rattle.std.specs.Prelude.{◌≡◌, ◌⊎◌, Err, IfOk, IfErr};
 ghost use Rattle.ghc_term.specs.Answered.{Answered};
 ghost use Rattle.ghc_term.specs.Store.{value_at};
-ghost use Rattle.ghc_fire.specs.Attempt.{proposes, refused, Attempts};
-ghost use Rattle.ghc_fire.specs.Attempted.{AttemptsAt, IsProposed};
+ghost use Rattle.ghc_fire.specs.Attempt.{proposes, refused, AttemptsAs, Attempts};
+ghost use Rattle.ghc_fire.specs.Attempted.{AttemptsAt, IsProposedAs, IsProposed};
 ghost use Rattle.ghc_fire.specs.Meter.{fired};
 ghost use Rattle.ghc_fire.specs.Proposal.{under};
 
 use crate::act::Act;
 use crate::calls::{attempt_call, attempt_choice};
-use crate::effect::Effect;
+use crate::effect::{Effect, NO_STEP};
 use crate::equations::{attempt_assignment, attempt_unification};
 use crate::goals::Goals;
 use crate::instances::number_goals;
@@ -41,10 +41,32 @@ pub fn attempt(
     ensures counted { meter.new ≡ fired meter.old }
 {
     meter.count_firing();
-    propose(alloc, program, goals, store, goal, choice)
+    propose(alloc, program, goals, store, goal, choice, NO_STEP)
 }
 
-// Proposes a step of the goal of this name.
+/// The same, where the effect is as the step of this number has it: it needs no `finish`. The refusals are those of `attempt`.
+pub fn attempt_as(
+    alloc: Global,
+    meter: &mut Meter,
+    program: &Program,
+    goals: &Goals,
+    store: &Store,
+    goal: GoalName,
+    choice: Option<u32>,
+    step: u32,
+) -> Result<Proposal, Fault>
+    ensures answer { Answered (IsProposedAs step program.now goals.now.held store.now.held goal choice) (λ f. AttemptsAt program.now goals.now.held store.now.held goal choice (refused f)) result }
+
+    // What look-ups refuse, no want of memory hides.
+    ensures no_goal { AttemptsAt program.now goals.now.held store.now.held goal choice (refused Fault.NoGoal) → result ≡ Err Fault.NoGoal }
+    ensures no_clause { AttemptsAt program.now goals.now.held store.now.held goal choice (refused Fault.NoClause) → result ≡ Err Fault.NoClause }
+    ensures counted { meter.new ≡ fired meter.old }
+{
+    meter.count_firing();
+    propose(alloc, program, goals, store, goal, choice, step)
+}
+
+// Proposes the step of this number of the goal of this name.
 fn propose(
     alloc: Global,
     program: &Program,
@@ -52,8 +74,9 @@ fn propose(
     store: &Store,
     goal: GoalName,
     choice: Option<u32>,
+    step: u32,
 ) -> Result<Proposal, Fault>
-    ensures proposed { IfOk result (IsProposed program.now goals.now.held store.now.held goal choice) }
+    ensures proposed { IfOk result (IsProposedAs step program.now goals.now.held store.now.held goal choice) }
     ensures fault { IfErr result (λ f. (f ≡ Fault.Memory) ⊎ AttemptsAt program.now goals.now.held store.now.held goal choice (refused f)) }
     ensures no_goal { AttemptsAt program.now goals.now.held store.now.held goal choice (refused Fault.NoGoal) → result ≡ Err Fault.NoGoal }
     ensures no_clause { AttemptsAt program.now goals.now.held store.now.held goal choice (refused Fault.NoClause) → result ≡ Err Fault.NoClause }
@@ -61,19 +84,20 @@ fn propose(
     let Some(consumed) = goals.get(goal) else {
         return Err(Fault::NoGoal);
     };
-    let (act, effect) = propose_act(alloc, program, store, consumed, choice)?;
+    let (act, effect) = propose_act(alloc, program, store, consumed, choice, step)?;
     Ok(Proposal::new(goal, consumed.share()?, act, effect))
 }
 
-// The act of a step of the goal, with its effect.
+// The act of the step of this number of the goal, with its effect.
 fn propose_act(
     alloc: Global,
     program: &Program,
     store: &Store,
     goal: &Goal,
     choice: Option<u32>,
+    step: u32,
 ) -> Result<(Act, Effect), Fault>
-    ensures proposed { IfOk result (λ p. Attempts program.now (value_at store.now.held) (Some goal.now) choice (proposes p.0 p.1)) }
+    ensures proposed { IfOk result (λ p. AttemptsAs step program.now (value_at store.now.held) (Some goal.now) choice (proposes p.0 p.1)) }
     ensures fault { IfErr result (λ f. (f ≡ Fault.Memory) ⊎ Attempts program.now (value_at store.now.held) (Some goal.now) choice (refused f)) }
     ensures no_goal { Attempts program.now (value_at store.now.held) (Some goal.now) choice (refused Fault.NoGoal) → result ≡ Err Fault.NoGoal }
     ensures no_clause { Attempts program.now (value_at store.now.held) (Some goal.now) choice (refused Fault.NoClause) → result ≡ Err Fault.NoClause }
@@ -81,10 +105,10 @@ fn propose_act(
     match (goal.view(), choice) {
         (GoalView::Stream(_, _), _) => Err(Fault::NoGoal),
         (GoalView::Call(name, arguments), None) => {
-            attempt_call(alloc, program, store, name, arguments)
+            attempt_call(alloc, program, store, name, arguments, step)
         }
         (GoalView::Call(name, arguments), Some(number)) => {
-            attempt_choice(alloc, program, store, name, arguments, number)
+            attempt_choice(alloc, program, store, name, arguments, number, step)
         }
         (GoalView::Unify(left, right), None) => {
             match attempt_unification(alloc, store, left, right) {

@@ -2,10 +2,11 @@
 ghost use Rattle.std.specs.Prelude.{◌≡◌, ◌⊎◌, length, Err, IfOk, IfErr};
 ghost use Rattle.ghc_term.specs.Store.{value_at};
 ghost use Rattle.ghc_fire.specs.Attempt.{proposes, refused, CallAnswers, ChoiceAnswers};
+ghost use Rattle.ghc_fire.specs.Effect.{no_step};
 ghost use Rattle.ghc_fire.specs.Calls.{HasVerdict};
 
 use crate::act::Act;
-use crate::effect::{Effect, NO_STEP};
+use crate::effect::Effect;
 use crate::instances::instance;
 use ghc_flat::{Clause, Program};
 use ghc_match::{Outcome, Tried, try_clause};
@@ -17,20 +18,21 @@ use std::alloc::{AllocError, Global};
 enum Verdict {
     Refuses,
     Waits,
-    // It accepts the call, and a step by it has this effect.
+    // It accepts the call, and the step by it has this effect.
     Reduces(Effect),
 }
 
-// What the clause makes of a call with these arguments: it tries the clause, and where that accepts, goes once through
-// its body.
+// What the clause makes of a call with these arguments as the step of this number: it tries the clause, and where that
+// accepts, goes once through its body.
 fn try_clause_as_step(
     alloc: Global,
     clause: &Clause,
     arguments: &[Term],
     store: &Store,
+    step: u32,
 ) -> Result<Verdict, AllocError>
     requires { length clause.now.head ≡ length arguments.now }
-    ensures { IfOk result (HasVerdict clause.now arguments.now (value_at store.now.held)) }
+    ensures { IfOk result (HasVerdict step clause.now arguments.now (value_at store.now.held)) }
 {
     store.acyclic();
     let head_variables = clause.head_variables();
@@ -39,7 +41,7 @@ fn try_clause_as_step(
         Outcome::Refuses => Ok(Verdict::Refuses),
         Outcome::Waits(_wanted) => Ok(Verdict::Waits),
         Outcome::Accepts(theta) => {
-            let makes = instance(alloc, clause, head_variables, &theta, NO_STEP)?;
+            let makes = instance(alloc, clause, head_variables, &theta, step)?;
             let fresh = clause.fresh();
             let effect = Effect::new(looked, Bindings::new(alloc), makes, fresh);
             Ok(Verdict::Reduces(effect))
@@ -47,7 +49,7 @@ fn try_clause_as_step(
     }
 }
 
-/// The step of a call by the least of its clauses that accepts it; where none does, `Waits` if one waits, and else
+/// The step of this number of a call, by the least of its clauses that accepts it; where none does, `Waits` if one waits, and else
 /// `NoMatch`. It tries the clauses in order up to the one that it takes.
 pub fn attempt_call(
     alloc: Global,
@@ -55,14 +57,15 @@ pub fn attempt_call(
     store: &Store,
     name: &Name,
     arguments: &[Term],
+    step: u32,
 ) -> Result<(Act, Effect), Fault>
-    ensures proposed { IfOk result (λ p. CallAnswers program.now name.now arguments.now (value_at store.now.held) (proposes p.0 p.1)) }
-    ensures fault { IfErr result (λ f. (f ≡ Fault.Memory) ⊎ CallAnswers program.now name.now arguments.now (value_at store.now.held) (refused f)) }
+    ensures proposed { IfOk result (λ p. CallAnswers step program.now name.now arguments.now (value_at store.now.held) (proposes p.0 p.1)) }
+    ensures fault { IfErr result (λ f. (f ≡ Fault.Memory) ⊎ CallAnswers no_step program.now name.now arguments.now (value_at store.now.held) (refused f)) }
 {
     let mut waits = false;
     for number in program.clauses_for(name, arguments.len()) {
         let clause = program.clause(*number).unwrap();
-        match try_clause_as_step(alloc, clause, arguments, store)? {
+        match try_clause_as_step(alloc, clause, arguments, store, step)? {
             Verdict::Refuses => {}
             Verdict::Waits => waits = true,
             Verdict::Reduces(effect) => return Ok((Act::ByClause(*number), effect)),
@@ -76,7 +79,7 @@ pub fn attempt_call(
 }
 
 /// The step of a call by the clause of this number, or `NoClause` where that is not for the call, or else `Waits` or
-/// `NoMatch`. It tries no other clause.
+/// `NoMatch`. The number of the step is `step`. It tries no other clause.
 pub fn attempt_choice(
     alloc: Global,
     program: &Program,
@@ -84,10 +87,11 @@ pub fn attempt_choice(
     name: &Name,
     arguments: &[Term],
     number: u32,
+    step: u32,
 ) -> Result<(Act, Effect), Fault>
-    ensures proposed { IfOk result (λ p. ChoiceAnswers program.now name.now arguments.now number (value_at store.now.held) (proposes p.0 p.1)) }
-    ensures fault { IfErr result (λ f. (f ≡ Fault.Memory) ⊎ ChoiceAnswers program.now name.now arguments.now number (value_at store.now.held) (refused f)) }
-    ensures no_clause { ChoiceAnswers program.now name.now arguments.now number (value_at store.now.held) (refused Fault.NoClause) → result ≡ Err Fault.NoClause }
+    ensures proposed { IfOk result (λ p. ChoiceAnswers step program.now name.now arguments.now number (value_at store.now.held) (proposes p.0 p.1)) }
+    ensures fault { IfErr result (λ f. (f ≡ Fault.Memory) ⊎ ChoiceAnswers no_step program.now name.now arguments.now number (value_at store.now.held) (refused f)) }
+    ensures no_clause { ChoiceAnswers no_step program.now name.now arguments.now number (value_at store.now.held) (refused Fault.NoClause) → result ≡ Err Fault.NoClause }
 {
     let Some(clause) = program.clause(number) else {
         return Err(Fault::NoClause);
@@ -95,7 +99,7 @@ pub fn attempt_choice(
     if clause.name() != name || clause.head().len() != arguments.len() {
         return Err(Fault::NoClause);
     }
-    let verdict = try_clause_as_step(alloc, clause, arguments, store)?;
+    let verdict = try_clause_as_step(alloc, clause, arguments, store, step)?;
     match verdict {
         Verdict::Refuses => Err(Fault::NoMatch),
         Verdict::Waits => Err(Fault::Waits),

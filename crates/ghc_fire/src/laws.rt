@@ -1,5 +1,5 @@
 // Laws of effects and of attempts, each as the contract of a function.
-ghost use Rattle.ghc_fire.specs.Laws.{EffectIsLocal, EffectIsOne, EffectBindsAndReads, EffectUnderEachNumber, EffectKeepsAcyclic, EffectVariables, AttemptHasOneAnswer, AttemptIsExact, EachAttemptHasAnAnswer, EachActHasAnEffectOrNone, EachEffectIsDecided, AttemptIsOfWhatIsLookedAt, EffectUnderANumber, ProposalIsEffect};
+ghost use Rattle.ghc_fire.specs.Laws.{EffectIsLocal, EffectIsOne, EffectBindsAndReads, EffectUnderEachNumber, EffectKeepsAcyclic, EffectVariables, AttemptHasOneAnswer, AttemptIsExact, EachAttemptHasAnAnswer, EachActHasAnEffectOrNone, EachEffectIsDecided, AttemptIsOfWhatIsLookedAt, EffectUnderANumber, ProposalIsEffect, ProposalAsAStep};
 
 /// Bindings of variables that a step did not read may be taken away.
 pub fn effect_is_local()
@@ -69,4 +69,10 @@ pub fn effect_under_a_number()
 /// What an attempt proposes is, as step n has it, the effect of the act as step n.
 pub fn proposal_is_effect()
     ensures { ProposalIsEffect }
+{}
+
+/// What an attempt proposes as step n is the effect of the act as step n, and an attempt under any number proposes the same
+/// act.
+pub fn proposal_as_a_step()
+    ensures { ProposalAsAStep }
 {}

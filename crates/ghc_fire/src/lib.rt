@@ -15,7 +15,7 @@ mod meter;
 mod proposal;
 
 pub use act::Act;
-pub use attempting::{attempt, finish};
+pub use attempting::{attempt, attempt_as, finish};
 pub use effect::Effect;
 pub use facts::{append_run, bound_tail_takes_nothing, input_and_close, input_reads_alias};
 pub use goals::Goals;
@@ -24,7 +24,8 @@ pub use laws::{
     attempt_has_one_answer, attempt_is_exact, attempt_is_of_what_is_looked_at,
     each_act_has_an_effect_or_none, each_attempt_has_an_answer, each_effect_is_decided,
     effect_binds_and_reads, effect_is_local, effect_is_one, effect_keeps_acyclic,
-    effect_under_a_number, effect_under_each_number, effect_variables, proposal_is_effect,
+    effect_under_a_number, effect_under_each_number, effect_variables, proposal_as_a_step,
+    proposal_is_effect,
 };
 pub use meter::Meter;
 pub use proposal::Proposal;

@@ -6,8 +6,8 @@ use crate::effect::Effect;
 use ghc_term::{Goal, GoalName};
 use std::marker::Model;
 
-/// A step that was possible when it was proposed: a goal, by name and as written, the act on it, and its effect under any
-/// number.
+/// A step that was possible when it was proposed: a goal, by name and as written, the act on it, and its effect, under any
+/// number or as the step of the number under which it was attempted has it.
 pub struct Proposal {
     goal: GoalName,
     consumed: Goal,
@@ -74,24 +74,25 @@ impl Proposal {
         &self.act
     }
 
-    /// The effect under any number.
+    /// The effect.
     pub fn effect(&self) -> &Effect
         ensures { result.now ≡ self.now.effect }
     {
         &self.effect
     }
 
-    /// Its goal as written and the effect under any number, given up.
-    pub fn into_parts(self) -> (Goal, Effect)
+    /// Its goal as written, the act on it and the effect, given up.
+    pub fn into_parts(self) -> (Goal, Act, Effect)
         ensures consumed { result.0 ≡ self.consumed }
-        ensures effect { result.1 ≡ self.effect }
+        ensures act { result.1 ≡ self.act }
+        ensures effect { result.2 ≡ self.effect }
     {
         let Proposal {
             goal: _,
             consumed,
-            act: _act,
+            act,
             effect,
         } = self;
-        (consumed, effect)
+        (consumed, act, effect)
     }
 }

@@ -41,8 +41,8 @@ returns-in-Reduces-clause-proposed c =
     let n = numbered_for P f (length ts) ks numbers i k c.loop-number-test.true refl in
     let is = MatchOption-at_some _ _ c.unwrap-clause.result c.unwrap-clause.ensures c.clause.ensures.found in
     let same = clause_once P n.1 is in
-    let v = subst (HasVerdict d ts s) c.in-Reduces.is c.in_ok-try_clause_as_step.ensures in
-    least_reduces P f ts s ks c.loop-number.waits i k d c.in-Reduces.effect numbers c.loop-number.invariant c.loop-number-test.true refl is (subst (λ a. (a.name ≡ f) × (length a.head ≡ length ts)) same (n.2, n.3)) v
+    let v = subst (HasVerdict c.args.step d ts s) c.in-Reduces.is c.in_ok-try_clause_as_step.ensures in
+    least_reduces P f ts s c.args.step ks c.loop-number.waits i k d c.in-Reduces.effect numbers c.loop-number.invariant c.loop-number-test.true refl is (subst (λ a. (a.name ≡ f) × (length a.head ≡ length ts)) same (n.2, n.3)) v
 
 pub loop-number-preserved : goal.loop-number-preserved
 loop-number-preserved c =
@@ -59,10 +59,10 @@ loop-number-preserved c =
     (elim c.match-branch-2.branch [
       | in-Refuses w ↦
           subst (NoneTaken P f ts s (take i ks ++ k ∷ [])) (sym w.waits-is)
-          (one_refuses P f ts s (take i ks) c.loop-number.waits k d c.loop-number.invariant is (subst (HasVerdict d ts s) w.in-Refuses.is c.in_ok-try_clause_as_step.ensures))
+          (one_refuses P f ts s (take i ks) c.loop-number.waits k d c.loop-number.invariant is (subst (HasVerdict c.args.step d ts s) w.in-Refuses.is c.in_ok-try_clause_as_step.ensures))
       | in-Waits w ↦
           subst (NoneTaken P f ts s (take i ks ++ k ∷ [])) (sym w.waits-is)
-          (one_waits P f ts s (take i ks) c.loop-number.waits k d c.loop-number.invariant is (subst (HasVerdict d ts s) w.in-Waits.is c.in_ok-try_clause_as_step.ensures))
+          (one_waits P f ts s (take i ks) c.loop-number.waits k d c.loop-number.invariant is (subst (HasVerdict c.args.step d ts s) w.in-Waits.is c.in_ok-try_clause_as_step.ensures))
     ])
 
 pub returns-then-waits-clause-fault : goal.returns-then-waits-clause-fault

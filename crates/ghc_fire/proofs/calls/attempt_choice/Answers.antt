@@ -22,7 +22,7 @@ returns-in-Refuses-clause-fault c =
     let clause = c.in-Some.clause.now in
     let name : clause.name ≡ c.args.name.now = search rules in
     let arity : length clause.head ≡ length c.args.arguments.now = search rules in
-    let refuses = subst (HasVerdict clause c.args.arguments.now (value_at c.args.store.now.held)) c.in-Refuses.is c.in_ok-verdict.ensures in
+    let refuses = subst (HasVerdict c.args.step clause c.args.arguments.now (value_at c.args.store.now.held)) c.in-Refuses.is c.in_ok-verdict.ensures in
     inr (ChoiceAnswers.no_match c.in-Some.ensures.found (name, arity) refuses)
 
 pub returns-in-Waits-clause-fault : goal.returns-in-Waits-clause-fault
@@ -30,7 +30,7 @@ returns-in-Waits-clause-fault c =
     let clause = c.in-Some.clause.now in
     let name : clause.name ≡ c.args.name.now = search rules in
     let arity : length clause.head ≡ length c.args.arguments.now = search rules in
-    let waits = subst (HasVerdict clause c.args.arguments.now (value_at c.args.store.now.held)) c.in-Waits.is c.in_ok-verdict.ensures in
+    let waits = subst (HasVerdict c.args.step clause c.args.arguments.now (value_at c.args.store.now.held)) c.in-Waits.is c.in_ok-verdict.ensures in
     inr (ChoiceAnswers.waits c.in-Some.ensures.found (name, arity) waits.1)
 
 pub returns-in-Reduces-clause-no_clause : goal.returns-in-Reduces-clause-no_clause
@@ -46,8 +46,8 @@ returns-in-Reduces-clause-proposed c =
     let f = c.args.name.now in
     let ts = c.args.arguments.now in
     let s = value_at c.args.store.now.held in
-    let v = subst (HasVerdict clause ts s) c.in-Reduces.is c.in_ok-verdict.ensures in
+    let v = subst (HasVerdict c.args.step clause ts s) c.in-Reduces.is c.in_ok-verdict.ensures in
     let is : IsClause c.args.program.now c.args.number clause = c.in-Some.ensures.found in
     let name : clause.name ≡ f = search rules in
     let arity : length clause.head ≡ length ts = search rules in
-    chosen_reduces c.args.program.now f ts s c.args.number clause c.in-Reduces.effect is (name, arity) v
+    chosen_reduces c.args.program.now f ts s c.args.step c.args.number clause c.in-Reduces.effect is (name, arity) v
