@@ -41,6 +41,7 @@ fn replace_goals(alloc: Global, goals: &[Goal], by: Renaming<'_>) -> Result<Vec<
     ensures { IfOk result (λ gs. gs.items ≡ map (replace_in_goal (replacement by.entry)) goals.now) }
 {
     let mut replaced = Vec::new(alloc);
+    replaced.reserve_exact(goals.len())?;
     for goal in goals {
         replaced.push(replace_goal(alloc, goal, by)?)?;
     }

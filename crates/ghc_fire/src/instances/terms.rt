@@ -7,7 +7,7 @@ use crate::instances::renaming::{Renaming, replace_variable};
 use ghc_term::{Name, Term, TermView};
 use std::alloc::{AllocError, Global};
 
-// A structure whose last argument is still to come.
+// A structure whose last argument is still to come, with room for it.
 #[derive(Drop)]
 pub struct Front {
     name: Name,
@@ -78,7 +78,12 @@ fn replace_open(alloc: Global, term: &Term, by: Renaming<'_>) -> Result<Option<T
             }
             TermView::Struct(name, arguments) => {
                 let (last, front) = arguments.split_last().unwrap();
-                let Replaced { arguments, changed } = replace_each(alloc, front, by)?;
+                let Replaced { arguments, changed } = replace_each(
+                    alloc,
+                    front,
+                    by,
+                    arguments.len(),
+                )?;
                 let name = name.share()?;
                 fronts.push(Front { name, arguments })?;
                 place = last;
@@ -92,13 +97,19 @@ fn replace_open(alloc: Global, term: &Term, by: Renaming<'_>) -> Result<Option<T
     }
 }
 
-// The terms with their variables replaced. Those that stay are shared.
+// The terms with their variables replaced, in a list with room for so many. Those that stay are shared.
 #[cycle(replace)]
-fn replace_each(alloc: Global, terms: &[Term], by: Renaming<'_>) -> Result<Replaced, AllocError>
+fn replace_each(
+    alloc: Global,
+    terms: &[Term],
+    by: Renaming<'_>,
+    room: usize,
+) -> Result<Replaced, AllocError>
     ensures arguments { IfOk result (λ r. r.arguments.items ≡ map (replace (replacement by.entry)) terms.now) }
     ensures changed { IfOk result (λ r. r.changed ≡ false → map (replace (replacement by.entry)) terms.now ≡ terms.now) }
 {
     let mut arguments = Vec::new(alloc);
+    arguments.reserve_exact(room)?;
     let mut changed = false;
     for term in terms {
         match replace_open(alloc, term, by)? {
@@ -130,6 +141,6 @@ pub fn replace_terms(
 ) -> Result<Vec<Term>, AllocError>
     ensures { IfOk result (λ ts. ts.items ≡ map (replace (replacement by.entry)) terms.now) }
 {
-    let replaced = replace_each(alloc, terms, by)?;
+    let replaced = replace_each(alloc, terms, by, terms.len())?;
     Ok(replaced.arguments)
 }
