@@ -20,7 +20,6 @@ use Rattle.ghc_records.specs.contracts.record.Record as taken
 use Rattle.ghc_records.specs.contracts.records.Records as records
 use Rattle.ghc_records.specs.contracts.shelf.Shelf as shelf
 use Rattle.ghc_records.specs.contracts.state.State as state
-use Rattle.ghc_records.specs.contracts.step.Step as step
 use Rattle.ghc_records.specs.contracts.journal.Journal as journal
 use Rattle.ghc_flat.specs.contracts.test.Test as test
 use Rattle.ghc_flat.specs.contracts.clause.Clause as clause
@@ -112,17 +111,11 @@ state_send = search (goals_send, store_send, crosses, sendable) depth 60 fits 20
 state_sync : IsSync state.the_row
 state_sync = search (goals_sync, store_sync, crosses, sendable) depth 60 fits 20000
 
-step_send : IsSend step.the_row
-step_send = search (act_send, goal_name.the_send, crosses, sendable) depth 60 fits 20000
-
-step_sync : IsSync step.the_row
-step_sync = search (act_sync, goal_name.the_sync, crosses, sendable) depth 60 fits 20000
-
 journal_send : IsSend journal.the_row
-journal_send = search (step_send, crosses, sendable) depth 60 fits 20000
+journal_send = search (taken_send, crosses, sendable) depth 60 fits 20000
 
 journal_sync : IsSync journal.the_row
-journal_sync = search (step_sync, crosses, sendable) depth 60 fits 20000
+journal_sync = search (taken_sync, crosses, sendable) depth 60 fits 20000
 
 test_send : IsSend test.the_row
 test_send = search (of_terms.crosses, of_expressions.crosses, crosses, sendable) depth 60 fits 20000

@@ -68,7 +68,7 @@ impl Addition {
     pub fn of(alloc: Global, step: Record) -> Result<Addition, AllocError>
         ensures { IfOk result (λ a. a ≡ step) }
     {
-        let entry = Entry::Took(step.step()?);
+        let entry = Entry::Took(step.share()?);
         let effect = step.effect();
         let made = effect.made();
         let makes = share_goals(alloc, effect.makes())?;

@@ -1,11 +1,11 @@
 // Entries of a journal.
 
-use crate::step::Step;
+use crate::record::Record;
 
 /// An entry: a step was taken, step n was undone, rolled back or redone, or the record was put into another order.
 pub enum Entry {
-    /// A step was taken.
-    Took(Step),
+    /// A step was taken: a handle of its record.
+    Took(Record),
     /// The step of this number was undone.
     Undid(u32),
     /// The step of this number was rolled back.
@@ -19,7 +19,7 @@ pub enum Entry {
 impl Drop for Entry {
     fn drop(self) {
         match self {
-            Entry::Took(_step) => {}
+            Entry::Took(_record) => {}
             Entry::Reordered(_order) => {}
             Entry::Undid(_) | Entry::Rolled(_) | Entry::Redid(_) => {}
         }
