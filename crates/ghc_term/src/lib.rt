@@ -1,6 +1,7 @@
 //! Terms of Flat GHC: names, terms, expressions, goals, the store of bindings, refusals and their texts.
 #![tactic(auto)]
 
+mod appending;
 mod bindings;
 mod comparison;
 mod equality;
@@ -23,6 +24,7 @@ mod var_name;
 mod variables;
 mod view;
 
+pub use appending::{end_of, or_cut_back, push_number, push_variable};
 pub use bindings::Bindings;
 pub use comparison::Comparison;
 pub use expr::Expr;

@@ -1,5 +1,7 @@
 // The texts of terms and goals, as they are written or with their variables replaced.
-ghost use Rattle.std.specs.Prelude.{◌≡◌, ◌++◌, ◌+◌, ◌<◌, ◌≤◌, ◌⊎◌, List, ℕ, length, IfOk, IfErr, is_ok, if◌then◌else◌, string_bytes};
+ghost use Rattle.std.specs.Prelude.{◌≡◌, ◌++◌, ◌+◌, ◌<◌, ◌≤◌, ◌⊎◌, List, ℕ, length, IfOk, IfErr, OnOk, is_ok, if◌then◌else◌, string_bytes};
+ghost use Rattle.std.specs.FinMap as finite;
+ghost use Rattle.std.specs.Io.{StartsWith};
 ghost use Rattle.ghc_term.specs.Store.{value_at};
 ghost use Rattle.ghc_term.specs.Tree.{Tree};
 ghost use Rattle.ghc_term.specs.Text.{term_text};
@@ -11,6 +13,7 @@ mod expressions;
 mod goals;
 mod pieces;
 
+use crate::appending::{end_of, or_cut_back};
 use crate::fault::Fault;
 use crate::goal::Goal;
 use crate::limit::Limit;
@@ -31,6 +34,7 @@ fn write_pieces<'a>(
     out: &mut String,
 ) -> Result<(), Fault>
     ensures text { IfOk result (λ _. (r : Tree → Tree) → IsResolution (value_at store.now.held) r → string_bytes out.new ≡ string_bytes out.old ++ pieces_text r pieces.entry.items) }
+    ensures begun { StartsWith (string_bytes out.new) (string_bytes out.old) }
     ensures short { IfOk result (λ _. length (string_bytes out.new) ≤ limit) }
     ensures refused { IfErr result (λ fault. (fault ≡ Fault.Memory) ⊎ (fault ≡ Fault.Limit Limit.Print)) }
     ensures too_long { result ≡ Err (Fault.Limit Limit.Print) → (r : Tree → Tree) → IsResolution (value_at store.now.held) r → limit < length (string_bytes out.old) + length (pieces_text r pieces.entry.items) }
@@ -44,6 +48,21 @@ fn write_pieces<'a>(
             Some(piece) => push_piece(piece, store, &mut pieces, out)?,
             None => return Ok(()),
         }
+    }
+}
+
+// Writes pieces, of which the last one comes first, as they are written. Where memory is refused a part may stand there.
+fn write_written<'a>(
+    nothing: &'a Store,
+    pieces: Vec<Piece<'a>>,
+    out: &mut String,
+) -> Result<(), AllocError>
+    ensures text { IfOk result (λ _. nothing.now.held ≡ finite.empty → string_bytes out.new ≡ string_bytes out.old ++ pieces_text (λ t. t) pieces.entry.items) }
+    ensures begun { StartsWith (string_bytes out.new) (string_bytes out.old) }
+{
+    match write_pieces(nothing, usize::MAX, pieces, out) {
+        Ok(()) => Ok(()),
+        Err(_fault) => Err(AllocError),
     }
 }
 
@@ -82,48 +101,62 @@ pub fn print_goal(alloc: Global, goal: &Goal, store: &Store) -> Result<String, F
     }
 }
 
+// Writes a term as it is written. Where memory is refused a part of it may stand there.
+fn write_term(term: &Term, out: &mut String) -> Result<(), AllocError>
+    ensures text { OnOk result (string_bytes out.new ≡ string_bytes out.old ++ term_text term.now) }
+    ensures begun { StartsWith (string_bytes out.new) (string_bytes out.old) }
+{
+    let nothing = Store::new(*out.allocator());
+    let mut pieces = Vec::new(*out.allocator());
+    push_piece(Piece::Term(term), &nothing, &mut pieces, out)?;
+    write_written(&nothing, pieces, out)
+}
+
+// Writes a goal as it is written. Where memory is refused a part of it may stand there.
+fn write_goal(goal: &Goal, out: &mut String) -> Result<(), AllocError>
+    ensures text { OnOk result (string_bytes out.new ≡ string_bytes out.old ++ goal_text goal.now) }
+    ensures begun { StartsWith (string_bytes out.new) (string_bytes out.old) }
+{
+    let nothing = Store::new(*out.allocator());
+    let mut pieces = Vec::new(*out.allocator());
+    push_goal(goal, &nothing, &mut pieces, out)?;
+    write_written(&nothing, pieces, out)
+}
+
+/// Writes a term as it is written at the end of `out`, which stays as it was where memory is refused. The cost is that of
+/// the text.
+pub fn push_written(term: &Term, out: &mut String) -> Result<(), AllocError>
+    ensures { string_bytes out.new ≡ (if is_ok result then string_bytes out.old ++ term_text term.now else string_bytes out.old) }
+{
+    let length = end_of(out);
+    let written = write_term(term, out);
+    or_cut_back(out, length, written)
+}
+
+/// Writes a goal as it is written at the end of `out`, which stays as it was where memory is refused. The cost is that of
+/// the text.
+pub fn push_goal_written(goal: &Goal, out: &mut String) -> Result<(), AllocError>
+    ensures { string_bytes out.new ≡ (if is_ok result then string_bytes out.old ++ goal_text goal.now else string_bytes out.old) }
+{
+    let length = end_of(out);
+    let written = write_goal(goal, out);
+    or_cut_back(out, length, written)
+}
+
 /// The text of a term as it is written, without a limit.
 pub fn print_written(alloc: Global, term: &Term) -> Result<String, AllocError>
     ensures { IfOk result (λ text. string_bytes text ≡ term_text term.now) }
 {
-    let mut pieces = Vec::new(alloc);
-    pieces.push(Piece::Term(term))?;
-    let nothing = Store::new(alloc);
     let mut out = String::new(alloc);
-    match write_pieces(&nothing, usize::MAX, pieces, &mut out) {
-        Ok(()) => Ok(out),
-        Err(_fault) => Err(AllocError),
-    }
+    push_written(term, &mut out)?;
+    Ok(out)
 }
 
 /// The text of a goal as it is written, without a limit.
 pub fn print_goal_written(alloc: Global, goal: &Goal) -> Result<String, AllocError>
     ensures { IfOk result (λ text. string_bytes text ≡ goal_text goal.now) }
 {
-    let nothing = Store::new(alloc);
-    let mut pieces = Vec::new(alloc);
     let mut out = String::new(alloc);
-    push_goal(goal, &nothing, &mut pieces, &mut out)?;
-    match write_pieces(&nothing, usize::MAX, pieces, &mut out) {
-        Ok(()) => Ok(out),
-        Err(_fault) => Err(AllocError),
-    }
-}
-
-/// Writes a term as it is written at the end of `out`, which stays as it was where memory is refused.
-pub fn push_written(term: &Term, out: &mut String) -> Result<(), AllocError>
-    ensures { string_bytes out.new ≡ (if is_ok result then string_bytes out.old ++ term_text term.now else string_bytes out.old) }
-{
-    let text = print_written(*out.allocator(), term)?;
-    out.push_str(text.as_str())?;
-    Ok(())
-}
-
-/// Writes a goal as it is written at the end of `out`, which stays as it was where memory is refused.
-pub fn push_goal_written(goal: &Goal, out: &mut String) -> Result<(), AllocError>
-    ensures { string_bytes out.new ≡ (if is_ok result then string_bytes out.old ++ goal_text goal.now else string_bytes out.old) }
-{
-    let text = print_goal_written(*out.allocator(), goal)?;
-    out.push_str(text.as_str())?;
-    Ok(())
+    push_goal_written(goal, &mut out)?;
+    Ok(out)
 }

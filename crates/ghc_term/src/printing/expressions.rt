@@ -1,5 +1,6 @@
 // The pieces of expressions.
 ghost use Rattle.std.specs.Prelude.{◌≡◌, ◌+◌, [], IfOk, string_bytes};
+ghost use Rattle.std.specs.Io.{StartsWith};
 ghost use Rattle.ghc_term.specs.GoalText.{operator_text, expression_text_by, operand};
 ghost use Rattle.ghc_term.specs.Pieces.{Unfolds, expression_size};
 
@@ -47,7 +48,8 @@ pub(crate) fn push_operand<'a>(
     pieces: &mut Vec<Piece<'a>>,
     out: &mut String,
 ) -> Result<(), AllocError>
-    ensures { IfOk result (λ _. Unfolds (λ r. operand expression.now (expression_text_by r expression.now)) (λ w. expression_size w expression.now + 3) pieces.old.items pieces.new.items (string_bytes out.old) (string_bytes out.new)) }
+    ensures text { IfOk result (λ _. Unfolds (λ r. operand expression.now (expression_text_by r expression.now)) (λ w. expression_size w expression.now + 3) pieces.old.items pieces.new.items (string_bytes out.old) (string_bytes out.new)) }
+    ensures begun { StartsWith (string_bytes out.new) (string_bytes out.old) }
 {
     match expression.view() {
         ExprView::Leaf(term) => {

@@ -1,18 +1,18 @@
 // What is still to be written of a text, in pieces. They stand in a list, so that no depth of a term takes stack.
-ghost use Rattle.std.specs.Prelude.{◌≡◌, ◌≢◌, ◌↔◌, ◌++◌, ◌+◌, [], ℕ, suc, List, IfOk, OnOk, IsTrue, MatchOption, string_bytes};
-ghost use Rattle.std.specs.Fmt.{signed_decimal};
+ghost use Rattle.std.specs.Prelude.{◌≡◌, ◌≢◌, ◌↔◌, ◌++◌, ◌+◌, [], ℕ, suc, List, IfOk, IsTrue, MatchOption, string_bytes};
+ghost use Rattle.std.specs.Io.{StartsWith};
 ghost use Rattle.ghc_term.specs.Store.{value_at};
 ghost use Rattle.ghc_term.specs.Tree.{Tree, node, trees, cons, nil};
-ghost use Rattle.ghc_term.specs.Text.{IsNoCell, term_text, rest_text, arguments_text, further_text, variable_text};
+ghost use Rattle.ghc_term.specs.Text.{IsNoCell, term_text, rest_text, arguments_text, further_text};
 ghost use Rattle.ghc_term.specs.Resolved.{all_resolved};
 ghost use Rattle.ghc_term.specs.Pieces.{Unfolds, UnfoldsIn, piece_text, piece_size, term_size, rest_size, arguments_size};
 
+use crate::appending::{push_integer, push_variable};
 use crate::expr::Expr;
 use crate::name::Name;
 use crate::printing::expressions::{push_expression, push_operand};
 use crate::store::Store;
 use crate::term::Term;
-use crate::var_name::VarName;
 use crate::view::TermView;
 use std::alloc::AllocError;
 
@@ -71,7 +71,8 @@ fn push_cell<'a>(
     pieces: &mut Vec<Piece<'a>>,
     out: &mut String,
 ) -> Result<(), AllocError>
-    ensures { IfOk result (λ _. Unfolds (λ r. mark.now ++ (term_text (r head.now) ++ rest_text (r tail.now))) (λ w. suc (term_size w head.now + rest_size w tail.now)) pieces.old.items pieces.new.items (string_bytes out.old) (string_bytes out.new)) }
+    ensures text { IfOk result (λ _. Unfolds (λ r. mark.now ++ (term_text (r head.now) ++ rest_text (r tail.now))) (λ w. suc (term_size w head.now + rest_size w tail.now)) pieces.old.items pieces.new.items (string_bytes out.old) (string_bytes out.new)) }
+    ensures begun { StartsWith (string_bytes out.new) (string_bytes out.old) }
 {
     out.push_str(mark)?;
     pieces.push(Piece::Rest(tail))?;
@@ -87,7 +88,8 @@ fn push_argument<'a>(
     pieces: &mut Vec<Piece<'a>>,
     out: &mut String,
 ) -> Result<(), AllocError>
-    ensures { IfOk result (λ _. Unfolds (λ r. mark.now ++ (term_text (r argument.now) ++ further_text (all_resolved r further.now))) (λ w. suc (term_size w argument.now + arguments_size w further.now)) pieces.old.items pieces.new.items (string_bytes out.old) (string_bytes out.new)) }
+    ensures text { IfOk result (λ _. Unfolds (λ r. mark.now ++ (term_text (r argument.now) ++ further_text (all_resolved r further.now))) (λ w. suc (term_size w argument.now + arguments_size w further.now)) pieces.old.items pieces.new.items (string_bytes out.old) (string_bytes out.new)) }
+    ensures begun { StartsWith (string_bytes out.new) (string_bytes out.old) }
 {
     out.push_str(mark)?;
     pieces.push(Piece::Further(further))?;
@@ -117,7 +119,8 @@ pub(crate) fn push_structure<'a>(
     pieces: &mut Vec<Piece<'a>>,
     out: &mut String,
 ) -> Result<(), AllocError>
-    ensures { IfOk result (λ _. Unfolds (λ r. name.now ++ arguments_text (all_resolved r arguments.now)) (λ w. arguments_size w arguments.now) pieces.old.items pieces.new.items (string_bytes out.old) (string_bytes out.new)) }
+    ensures text { IfOk result (λ _. Unfolds (λ r. name.now ++ arguments_text (all_resolved r arguments.now)) (λ w. arguments_size w arguments.now) pieces.old.items pieces.new.items (string_bytes out.old) (string_bytes out.new)) }
+    ensures begun { StartsWith (string_bytes out.new) (string_bytes out.old) }
 {
     out.push_str(name.as_str())?;
     match arguments {
@@ -132,26 +135,13 @@ fn push_further<'a>(
     pieces: &mut Vec<Piece<'a>>,
     out: &mut String,
 ) -> Result<(), AllocError>
-    ensures { IfOk result (λ _. Unfolds (λ r. further_text (all_resolved r arguments.now)) (λ w. arguments_size w arguments.now) pieces.old.items pieces.new.items (string_bytes out.old) (string_bytes out.new)) }
+    ensures text { IfOk result (λ _. Unfolds (λ r. further_text (all_resolved r arguments.now)) (λ w. arguments_size w arguments.now) pieces.old.items pieces.new.items (string_bytes out.old) (string_bytes out.new)) }
+    ensures begun { StartsWith (string_bytes out.new) (string_bytes out.old) }
 {
     match arguments {
         [next, further @ ..] => push_argument(",", next, further, pieces, out),
         [] => out.push_str(")"),
     }
-}
-
-// Writes a variable.
-pub(crate) fn push_variable(x: VarName, out: &mut String) -> Result<(), AllocError>
-    ensures { OnOk result (string_bytes out.new ≡ string_bytes out.old ++ variable_text x) }
-{
-    write!(out, "_{}_{}", x.step, x.place)
-}
-
-// Writes an integer.
-fn push_integer(k: i64, out: &mut String) -> Result<(), AllocError>
-    ensures { OnOk result (string_bytes out.new ≡ string_bytes out.old ++ signed_decimal k) }
-{
-    write!(out, "{k}")
 }
 
 // Writes the beginning of a term.
@@ -161,7 +151,8 @@ fn push_term<'a>(
     pieces: &mut Vec<Piece<'a>>,
     out: &mut String,
 ) -> Result<(), AllocError>
-    ensures { IfOk result (λ _. UnfoldsIn (value_at store.now.held) (λ r. term_text (r term.now)) (λ w. term_size w term.now) pieces.old.items pieces.new.items (string_bytes out.old) (string_bytes out.new)) }
+    ensures text { IfOk result (λ _. UnfoldsIn (value_at store.now.held) (λ r. term_text (r term.now)) (λ w. term_size w term.now) pieces.old.items pieces.new.items (string_bytes out.old) (string_bytes out.new)) }
+    ensures begun { StartsWith (string_bytes out.new) (string_bytes out.old) }
 {
     let end = store.end(term);
     if let Some((head, tail)) = cell(end) {
@@ -182,7 +173,8 @@ fn push_rest<'a>(
     pieces: &mut Vec<Piece<'a>>,
     out: &mut String,
 ) -> Result<(), AllocError>
-    ensures { IfOk result (λ _. UnfoldsIn (value_at store.now.held) (λ r. rest_text (r term.now)) (λ w. rest_size w term.now) pieces.old.items pieces.new.items (string_bytes out.old) (string_bytes out.new)) }
+    ensures text { IfOk result (λ _. UnfoldsIn (value_at store.now.held) (λ r. rest_text (r term.now)) (λ w. rest_size w term.now) pieces.old.items pieces.new.items (string_bytes out.old) (string_bytes out.new)) }
+    ensures begun { StartsWith (string_bytes out.new) (string_bytes out.old) }
 {
     let end = store.end(term);
     if is_nil(end) {
@@ -204,7 +196,8 @@ pub(crate) fn push_piece<'a>(
     pieces: &mut Vec<Piece<'a>>,
     out: &mut String,
 ) -> Result<(), AllocError>
-    ensures { IfOk result (λ _. UnfoldsIn (value_at store.now.held) (λ r. piece_text r piece.entry) (λ w. piece_size w piece.entry) pieces.old.items pieces.new.items (string_bytes out.old) (string_bytes out.new)) }
+    ensures text { IfOk result (λ _. UnfoldsIn (value_at store.now.held) (λ r. piece_text r piece.entry) (λ w. piece_size w piece.entry) pieces.old.items pieces.new.items (string_bytes out.old) (string_bytes out.new)) }
+    ensures begun { StartsWith (string_bytes out.new) (string_bytes out.old) }
 {
     match piece {
         Piece::Term(term) => push_term(term, store, pieces, out),

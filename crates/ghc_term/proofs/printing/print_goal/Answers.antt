@@ -11,7 +11,7 @@ returns-in-Ok-clause-text c =
     let known = resolution c.args.store.now.held c.acyclic.ensures in
     let r = known.0 in
     let text = goal_text_by r c.args.goal.now in
-    let begun = c.in_ok-push_goal.ensures r known.1 in
+    let begun = c.in_ok-push_goal.ensures.text r known.1 in
     is_goal_text r known.1 c.args.goal.now _ (
     c.in-Ok.ensures.text r known.1 ∙ begun ∙ ap (λ l. l ++ (text ++ pieces_text r c.new-pieces.result.items)) c.new-out.ensures.bytes
     ∙ ap (λ ps. text ++ pieces_text r ps) c.new-pieces.ensures.items ∙ append-nil text)
@@ -21,7 +21,7 @@ returns-in-Err-clause-too_long c e =
     let known = resolution c.args.store.now.held c.acyclic.ensures in
     let r = known.0 in
     let text = goal_text_by r c.args.goal.now in
-    let begun = c.in_ok-push_goal.ensures r known.1 in
+    let begun = c.in_ok-push_goal.ensures.text r known.1 in
     let whole = begun ∙ ap (λ l. l ++ (text ++ pieces_text r c.new-pieces.result.items)) c.new-out.ensures.bytes ∙ ap (λ ps. text ++ pieces_text r ps) c.new-pieces.ensures.items ∙ append-nil text in
     let limit : c.in-Err.fault ≡ Limit Print = cc in (
       text,

@@ -4,14 +4,14 @@ use Rattle.ghc_term.specs.GoalText.{goal_text_by}
 use Rattle.ghc_term.proofs.Pieces.{starts, anywhere}
 use Rattle.ghc_term.proofs.printing.goals.push_goal.Goals as goal
 
-pub returns-in-Call : goal.returns-in-Call
-returns-in-Call c =
-    IfOk-weaker c.push_structure.result _ _ (λ _ u r g. starts r (λ _. 0) _ _ _ _ _ _ _ (ap (goal_text_by r) (sym c.in-Call.ensures)) (u r (λ _. 0))) c.push_structure.ensures
+pub returns-in-Call-clause-text : goal.returns-in-Call-clause-text
+returns-in-Call-clause-text c =
+    IfOk-weaker c.push_structure.result _ _ (λ _ u r g. starts r (λ _. 0) _ _ _ _ _ _ _ (ap (goal_text_by r) (sym c.in-Call.ensures)) (u r (λ _. 0))) c.push_structure.ensures.text
 
-pub returns-in-Unify : goal.returns-in-Unify
-returns-in-Unify c =
+pub returns-in-Unify-clause-text : goal.returns-in-Unify-clause-text
+returns-in-Unify-clause-text c =
     IfOk-weaker c.push_sides.result _ _ (λ _ u r g. starts r (λ _. 0) _ _ _ _ _ _ _ (ap (goal_text_by r) (sym c.in-Unify.ensures)) (anywhere r (λ _. 0) _ _ _ _ _ (u r (λ _. 0)))) c.push_sides.ensures
 
-pub returns-in-Assign : goal.returns-in-Assign
-returns-in-Assign c =
+pub returns-in-Assign-clause-text : goal.returns-in-Assign-clause-text
+returns-in-Assign-clause-text c =
     IfOk-weaker c.push_sides-in-Assign.result _ _ (λ _ u r g. starts r (λ _. 0) _ _ _ _ _ _ _ (ap (goal_text_by r) (sym c.in-Assign.ensures)) (anywhere r (λ _. 0) _ _ _ _ _ (u r (λ _. 0)))) c.push_sides-in-Assign.ensures

@@ -8,23 +8,23 @@ use Rattle.ghc_term.proofs.Texts.{rest_barred, no_new_nil, no_new_cell}
 use Rattle.ghc_term.proofs.Resolving.{same_end, same_node, same_cell, cell_room, end_free}
 use Rattle.ghc_term.proofs.printing.pieces.push_rest.Goals as goal
 
-pub returns-then-is_nil : goal.returns-then-is_nil
-returns-then-is_nil c =
+pub returns-then-is_nil-clause-text : goal.returns-then-is_nil-clause-text
+returns-then-is_nil-clause-text c =
     let l = c.end-end.ensures.1 in
     let is : c.end-end.result.now ≡ nil = c.if-is_nil.ensures.0 refl in
     IfOk-weaker c.push_str.result _ _ (λ _ e r w g m.
     let said = same_end r g l ∙ ap r is ∙ same_node r g (codes "[]") [] in
     as_said r w _ _ _ _ _ _ _ _ (ap rest_text said) (omega arith) (wrote r w (codes "]") 1 _ _ _ e (omega arith))) (if_written c.push_str.result _ _ _ c.push_str.ensures.bytes)
 
-pub returns-in-Some : goal.returns-in-Some
-returns-in-Some c =
+pub returns-in-Some-clause-text : goal.returns-in-Some-clause-text
+returns-in-Some-clause-text c =
     let l = c.end-end.ensures.1 in
     IfOk-weaker c.push_cell.result _ _ (λ _ u r w g m.
     as_said r w _ _ _ _ _ _ _ _ (ap rest_text (same_cell r g l c.in-Some.head.now c.in-Some.tail.now c.in-Some.ensures))
-    (omega (arith, cell_room w m l c.in-Some.head.now c.in-Some.tail.now c.in-Some.ensures)) (u r w)) c.push_cell.ensures
+    (omega (arith, cell_room w m l c.in-Some.head.now c.in-Some.tail.now c.in-Some.ensures)) (u r w)) c.push_cell.ensures.text
 
-pub returns : goal.returns
-returns c r w g m =
+pub returns-clause-text : goal.returns-clause-text
+returns-clause-text c r w g m =
     let l = c.end-end.ensures.1 in
     let last = c.end-end.result.now in
     let open_end : r last ≢ nil = λ e. absurd (let clash : false ≡ true = c.if-is_nil.ensures.1 (no_new_nil (g last) (end_free l) e) in cc) in

@@ -1,0 +1,15 @@
+use Rattle.std.proofs.Common.{◌++◌, append-nil, ap, ◌∙◌, string_bytes}
+use Rattle.std.proofs.lemmas.Result.{IfOk-weaker}
+use Rattle.ghc_term.specs.GoalText.{goal_text}
+use Rattle.ghc_term.specs.Pieces.{pieces_text}
+use Rattle.ghc_term.proofs.Resolving.{each_itself}
+use Rattle.ghc_term.proofs.printing.write_goal.Goals as goal
+
+pub returns-clause-text : goal.returns-clause-text
+returns-clause-text c =
+    let nothing = c.new-nothing.result.held in
+    let free = c.new-nothing.ensures in
+    let text = goal_text c.args.goal.now in
+    let before = string_bytes c.args.out.now in
+    let begun = c.in_ok-push_goal.ensures.text (λ t. t) (each_itself nothing free) in
+    IfOk-weaker c.write_written.result _ _ (λ _ e. e free ∙ begun ∙ ap (λ ps. before ++ (text ++ pieces_text (λ t. t) ps)) c.new-pieces.ensures.items ∙ ap (λ l. before ++ l) (append-nil text)) c.write_written.ensures.text

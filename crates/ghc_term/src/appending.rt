@@ -1,0 +1,62 @@
+// Writing at the end of a text, which stays as it was where memory is refused.
+ghost use Rattle.std.specs.Prelude.{◌≡◌, ◌++◌, length, take, is_ok, if◌then◌else◌, OnOk, IsTrue, string_bytes};
+ghost use Rattle.std.specs.Fmt.{decimal, signed_decimal};
+ghost use Rattle.std.specs.Io.{StartsWith};
+ghost use Rattle.std.specs.Str.{is_utf8};
+ghost use Rattle.ghc_term.specs.Text.{variable_text};
+
+use crate::var_name::VarName;
+use itoa::Buffer;
+use std::alloc::AllocError;
+
+/// How long a text is, in bytes. What is written behind it can be cut back to there.
+pub fn end_of(out: &String) -> usize
+    ensures length { result ≡ length (string_bytes out.now) }
+    ensures text { IsTrue (is_utf8 (string_bytes out.now)) }
+{
+    out.len()
+}
+
+/// The answer of what wrote behind the first `length` bytes of `out`. Where it was refused, `out` is cut back to those.
+pub fn or_cut_back(
+    out: &mut String,
+    length: usize,
+    written: Result<(), AllocError>,
+) -> Result<(), AllocError>
+    requires { IsTrue (is_utf8 (take length (string_bytes out.old))) }
+    ensures answer { result ≡ written }
+    ensures bytes { string_bytes out.new ≡ (if is_ok written then string_bytes out.old else take length (string_bytes out.old)) }
+{
+    if written.is_err() {
+        out.truncate(length);
+    }
+    written
+}
+
+/// Writes a number at the end of `out`, which stays as it was where memory is refused.
+pub fn push_number(number: u32, out: &mut String) -> Result<(), AllocError>
+    ensures { string_bytes out.new ≡ (if is_ok result then string_bytes out.old ++ decimal number else string_bytes out.old) }
+{
+    let mut digits = Buffer::new();
+    out.push_str(digits.format(number))
+}
+
+// Writes an integer at the end of `out`, which stays as it was where memory is refused.
+pub(crate) fn push_integer(k: i64, out: &mut String) -> Result<(), AllocError>
+    ensures text { OnOk result (string_bytes out.new ≡ string_bytes out.old ++ signed_decimal k) }
+    ensures begun { StartsWith (string_bytes out.new) (string_bytes out.old) }
+{
+    let mut digits = Buffer::new();
+    out.push_str(digits.format(k))
+}
+
+/// Writes a variable at the end of `out`, as `_0_1`. Where memory is refused a part of it may stand there.
+pub fn push_variable(x: VarName, out: &mut String) -> Result<(), AllocError>
+    ensures text { OnOk result (string_bytes out.new ≡ string_bytes out.old ++ variable_text x) }
+    ensures begun { StartsWith (string_bytes out.new) (string_bytes out.old) }
+{
+    out.push_str("_")?;
+    push_number(x.step, out)?;
+    out.push_str("_")?;
+    push_number(x.place, out)
+}
