@@ -43,7 +43,7 @@ fn have_common(reads: &Variables, bound: &Variables) -> bool
 fn add_bound(bound: &mut Variables, binds: &Bindings) -> Result<(), AllocError>
     ensures { OnOk result ((x : VarName) → IsTrue (set.contains bound.new x) ↔ (IsTrue (set.contains bound.old x) ⊎ IsTrue (finite.contains_key binds.now x))) }
 {
-    for (x, _) in binds.iter() {
+    for (x, _) in binds.entries() {
         if let Err(error) = bound.insert(*x) {
             return Err(error);
         }

@@ -56,7 +56,7 @@ fn share_binds(alloc: Global, binds: &Bindings) -> Result<Vec<(VarName, Term)>, 
 {
     let mut shared = Vec::new(alloc);
     shared.reserve_exact(binds.len())?;
-    for (x, value) in binds.iter() {
+    for (x, value) in binds.entries() {
         shared.push((*x, value.share()?))?;
     }
     Ok(shared)

@@ -9,7 +9,7 @@ use ghc_term::{Bindings, Store};
 pub(crate) fn unbind_all(store: &mut Store, binds: &Bindings)
     ensures { (y : VarName) → value_at store.new.held y ≡ if is_some (value_at binds.now y) then None else value_at store.old.held y }
 {
-    for (x, _) in binds.iter() {
+    for (x, _) in binds.entries() {
         store.unbind(*x);
     }
 }

@@ -144,7 +144,7 @@ fn by_variable<'a>(
     ensures { IfOk result (λ m. map (λ b. (b.0, b.1.now)) m.entries ≡ finite.entries binds.now) }
 {
     let mut ordered = BTreeMap::new(alloc);
-    for (x, value) in binds.iter() {
+    for (x, value) in binds.entries() {
         ordered.insert(*x, value)?;
     }
     let _count = ordered.len();

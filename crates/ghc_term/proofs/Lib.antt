@@ -29,3 +29,5 @@ pub mod Collections
 pub mod Sets
 pub mod Alike
 pub mod Members
+pub mod VariableLists
+pub mod BindingLists

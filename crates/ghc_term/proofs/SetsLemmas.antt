@@ -93,7 +93,7 @@ any_same x (k ∷ ks) = ap (λ b. b || list_any (same x) ks) (same_is x k) ∙ a
 pub has_at : (x : VarName) (ks : List VarName) → list_any (same x) ks ≡ set.contains (set.from_list {R = name_cmp} ks) x
 has_at x ks = any_same x ks ∙ sym (set.contains-from_list name_total ks x)
 
-absorbed : (s : Variables) (x : VarName) → IsTrue (set.contains s x) → s ≡ set.insert s x
+pub absorbed : (s : Variables) (x : VarName) → IsTrue (set.contains s x) → s ≡ set.insert s x
 absorbed s x h = same_held s (set.insert s x) (λ q i. (one_inserted s x q).1 (inl i)) (λ q i. elim ((one_inserted s x q).0 i) [
   | inl c ↦ c
   | inr e ↦ ap (set.contains s) e ∙ h

@@ -14,6 +14,7 @@ pub mod Falls
 pub mod Bindings
 pub mod Store
 pub mod Table
+pub mod VariableList
 pub mod Shown
 pub mod Seen
 pub mod Overlay

@@ -1,19 +1,22 @@
 // What a step binds.
-ghost use Rattle.std.specs.Prelude.{◌≡◌, ◌↔◌, length, IfOk, IsTrue, OnOk, OnErr, None, Some};
+ghost use Rattle.std.specs.Prelude.{◌≡◌, ◌↔◌, ◌<◌, length, IfOk, IsTrue, OnOk, OnErr, None, Some, vec_len, vec_capacity};
 
 use crate::term::Term;
 use crate::var_name::VarName;
-use indexmap::IndexMap;
-use indexmap::map::Iter;
+use crate::variable_list::VariableList;
 use std::alloc::{AllocError, Global};
 use std::marker::Model;
 
-/// Some variables, each with the term to which it is bound as written.
+/// Some variables, each with the term to which it is bound as written. A few are searched one after another, and more by a
+/// look-up.
 pub struct Bindings {
-    map: IndexMap<VarName, Term>,
+    names: VariableList,
+    entries: Vec<(VarName, Term)>,
 }
 
 impl Model for Bindings {
+    ghost use Rattle.std.specs.Prelude.{◌≡◌};
+    ghost use Rattle.std.specs.Map.{keys_of};
     ghost use Rattle.ghc_term.specs.Store.{StoreValue, store_code};
     ghost use Rattle.std.specs.FinMap as finite;
 
@@ -21,24 +24,36 @@ impl Model for Bindings {
 
     ghost coded = { store_code };
 
-    ghost view = { λ b. finite.from_entries b.map.entries };
+    ghost view = { λ b. finite.from_entries b.entries.items };
+
+    ghost invariant = { λ b. keys_of b.entries.items ≡ b.names };
+}
+
+// Makes room for one more entry, and for no others where it is the first.
+fn make_room(entries: &mut Vec<(VarName, Term)>) -> Result<(), AllocError>
+    ensures items { entries.new.items ≡ entries.old.items }
+    ensures room { OnOk result (vec_len entries.new < vec_capacity entries.new) }
+{
+    if entries.is_empty() {
+        entries.reserve_exact(1)
+    } else {
+        entries.reserve(1)
+    }
 }
 
 impl Bindings {
     ghost use Rattle.std.specs.Prelude.{option_copied};
     ghost use Rattle.std.specs.FinMap as finite;
-    ghost use Rattle.std.specs.Map.Iter.{ShowsInOrder, deref_pair};
     ghost use Rattle.ghc_term.specs.Store.{value_at};
-    ghost use Rattle.ghc_term.specs.Tree.{Tree};
     ghost use Rattle.ghc_term.specs.Equality.{IsWithin};
-    ghost use Rattle.ghc_term.specs.declared.var_name.VarName.{VarName};
 
     /// No bindings, which take no memory.
     pub fn new(alloc: Global) -> Bindings
         ensures { result ≡ finite.empty }
     {
         Bindings {
-            map: IndexMap::new(alloc),
+            names: VariableList::new(alloc),
+            entries: Vec::new(alloc),
         }
     }
 
@@ -46,14 +61,17 @@ impl Bindings {
     pub fn get(&self, x: VarName) -> Option<&Term>
         ensures { option_copied result ≡ value_at self.now x }
     {
-        self.map.get(&x)
+        match self.names.place_of(x) {
+            Some(place) => Some(&self.entries[place].1),
+            None => None,
+        }
     }
 
     /// How many variables are bound.
     pub fn len(&self) -> usize
         ensures { result ≡ finite.len self.now }
     {
-        self.map.len()
+        self.entries().len()
     }
 
     /// Binds a variable that was not bound here.
@@ -61,19 +79,28 @@ impl Bindings {
         ensures ok { OnOk result (self.new ≡ finite.insert self.old x value) }
         ensures err { OnErr result (self.new ≡ self.old) }
     {
-        match self.map.insert(x, value) {
-            Ok(_) => Ok(()),
-            Err(_) => Err(AllocError),
+        match self.names.place_of(x) {
+            Some(place) => {
+                self.entries[place] = (x, value);
+                Ok(())
+            }
+            None => {
+                make_room(&mut self.entries)?;
+                self.names.push(x)?;
+                self.entries.push((x, value)).unwrap();
+                Ok(())
+            }
         }
     }
 
     /// The bindings, each once.
-    pub fn iter(&self) -> Iter<'_, VarName, Term>
-        ensures all { finite.from_entries result ≡ self.now }
-        ensures once { length result ≡ finite.len self.now }
-        ensures runs { ShowsInOrder (deref_pair {K = VarName} {X = Tree}) }
+    pub fn entries(&self) -> &[(VarName, Term)]
+        ensures all { finite.from_entries result.now ≡ self.now }
+        ensures once { length result.now ≡ finite.len self.now }
     {
-        self.map.iter()
+        // Called for its clause that no variable stands twice, which the proof cites.
+        let _names = self.names.as_slice();
+        self.entries.as_slice()
     }
 
     // Whether the variable is bound to the term here.
@@ -90,8 +117,9 @@ impl Bindings {
     fn is_within(&self, alloc: Global, other: &Bindings) -> Result<bool, AllocError>
         ensures { IfOk result (λ yes. IsTrue yes ↔ IsWithin self.now other.now) }
     {
-        for place in 0..self.map.len() {
-            let (x, value) = self.map.get_index(place).unwrap();
+        // Called for its clause that no variable stands twice, which the proof cites.
+        let _names = self.names.as_slice();
+        for (x, value) in &self.entries {
             if !other.binds(alloc, *x, value)? {
                 return Ok(false);
             }
@@ -112,6 +140,9 @@ impl Bindings {
 
 impl Drop for Bindings {
     fn drop(self) {
-        let Bindings { map: _map } = self;
+        let Bindings {
+            names: _names,
+            entries: _entries,
+        } = self;
     }
 }

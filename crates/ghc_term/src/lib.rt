@@ -21,6 +21,7 @@ mod printing;
 mod store;
 mod term;
 mod var_name;
+mod variable_list;
 mod variables;
 mod view;
 

@@ -2,13 +2,13 @@
 ghost use Rattle.std.specs.Prelude.{◌≡◌, ◌↔◌, length, IsTrue, OnOk, OnErr};
 
 use crate::var_name::VarName;
-use indexmap::IndexSet;
+use crate::variable_list::VariableList;
 use std::alloc::{AllocError, Global};
 use std::marker::Model;
 
-/// A set of variables.
+/// A set of variables. One takes no memory; a few are searched one after another, and more by a look-up.
 pub struct Variables {
-    members: IndexSet<VarName>,
+    members: VariableList,
 }
 
 impl Model for Variables {
@@ -20,7 +20,7 @@ impl Model for Variables {
 
     ghost coded = { set.code name_code };
 
-    ghost view = { λ v. set.from_list v.members.keys };
+    ghost view = { λ v. set.from_list v.members };
 }
 
 impl Variables {
@@ -33,7 +33,7 @@ impl Variables {
         ensures { result ≡ set.empty }
     {
         Variables {
-            members: IndexSet::new(alloc),
+            members: VariableList::new(alloc),
         }
     }
 
@@ -41,14 +41,14 @@ impl Variables {
     pub fn contains(&self, x: VarName) -> bool
         ensures { result ≡ set.contains self.now x }
     {
-        self.members.contains(&x)
+        self.members.place_of(x).is_some()
     }
 
     /// How many variables are in the set.
     pub fn len(&self) -> usize
         ensures { result ≡ set.len self.now }
     {
-        self.members.len()
+        self.members().len()
     }
 
     /// Adds the variable.
@@ -56,10 +56,10 @@ impl Variables {
         ensures ok { OnOk result (self.new ≡ set.insert self.old x) }
         ensures err { OnErr result (self.new ≡ self.old) }
     {
-        match self.members.insert(x) {
-            Ok(_) => Ok(()),
-            Err(_) => Err(AllocError),
+        if self.contains(x) {
+            return Ok(());
         }
+        self.members.push(x)
     }
 
     /// The variables of the set, each once.

@@ -1,6 +1,5 @@
-use Rattle.std.proofs.Common.{◌++◌}
-use Rattle.ghc_records.specs.State.{AreBindings}
+use Rattle.std.proofs.Common.{◌≡◌, take}
 use Rattle.ghc_records.proofs.addition.share_binds.Given as goal
 
 abbrev pub invariant-loop-x : goal.invariant-loop-x
-invariant-loop-x l = AreBindings (l.shared.items ++ l.x-iterator) l.binds
+invariant-loop-x l = l.shared.items ≡ take l.x-index l.x-items

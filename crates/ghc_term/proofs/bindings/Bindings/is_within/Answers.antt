@@ -1,22 +1,39 @@
-use Rattle.std.proofs.Common.{◌≡◌, true, false, sym, ap, ◌∙◌, refl, arith}
+use Rattle.std.proofs.Common.{◌≡◌, true, false, sym, ap, ◌∙◌, subst, refl, length}
 use Rattle.std.specs.Prelude.{Some}
-use Rattle.std.specs.Map.{lookup}
+use Rattle.std.specs.FinMap as finite
+use Rattle.std.proofs.lemmas.List.{take_all}
+use Rattle.std.proofs.lemmas.Option.{slice_get_read}
+use Rattle.std.specs.Map.{keys_of}
+use Rattle.ghc_term.specs.Lists.{In}
 use Rattle.ghc_term.specs.Store.{value_at}
-use Rattle.ghc_term.proofs.Entries.{same, lookup_at}
-use Rattle.ghc_term.proofs.MapsLemmas.{within_by_places, at_some}
+use Rattle.ghc_term.specs.VariableList.{AreDifferent}
+use Rattle.ghc_term.proofs.BindingLists.{value_there}
+use Rattle.ghc_term.proofs.ListsLemmas.{each_next, in_at, not_both}
+use Rattle.ghc_term.proofs.MapsLemmas.{place_of}
+use Rattle.ghc_term.proofs.Names.{name_total}
 use Rattle.ghc_term.proofs.bindings.Bindings.is_within.Goals as goal
 
 pub returns-then-not-branch : goal.returns-then-not-branch
 returns-then-not-branch c =
-    let es = c.self.inside.map.entries in
-    let x = c.unwrap.result.0.now in
-    let t = c.unwrap.result.1.now in
-    let there : lookup (same x) es ≡ Some t = at_some (λ p. lookup (same p.0.now) es ≡ Some p.1.now) c.get_index.result c.unwrap.result c.unwrap.ensures c.get_index.ensures.value in
-    let here : value_at c.args.self.now x ≡ Some t = sym (lookup_at x es ∙ ap (λ m. value_at m x) c.self.view_is) ∙ there in (
+    let es = c.deref-x-items.result.now in
+    let b = c.loop-x-item.result in
+    let different : AreDifferent (keys_of es) = subst AreDifferent (sym (ap keys_of c.deref-x-items.ensures.value ∙ c.self.invariant)) c.as_slice-names.ensures.different in
+    let here = value_there es c.loop-x.x-index b different (slice_get_read es (length es) c.loop-x.x-index b refl c.loop-x-test.true c.loop-x-item.is) in (
       λ h. absurd (let clash : false ≡ true = h in cc),
-      λ w. absurd (let clash : false ≡ true = sym c.if-not-branch.true ∙ c.in_ok-binds.ensures.1 (w x t here) in cc),
+      λ w. absurd (not_both c.in_ok-binds.field-0 c.if-not-branch.true (c.in_ok-binds.ensures.1 (w b.0 b.1 (sym (ap (λ l. value_at (finite.from_entries l) b.0) c.deref-x-items.ensures.value ∙ ap (λ m. value_at m b.0) c.self.view_is) ∙ here)))),
     )
 
+pub loop-x-preserved : goal.loop-x-preserved
+loop-x-preserved c =
+    let b = c.loop-x-item.result in
+    each_next (λ b. value_at c.args.other.now b.0 ≡ Some b.1) c.deref-x-items.result.now c.loop-x.x-index b c.loop-x-test.true c.loop-x.invariant
+    (subst (λ b. value_at c.args.other.now b.0 ≡ Some b.1) c.loop-x-item.is (c.in_ok-binds.ensures.0 c.if-not-branch.false))
+
 pub returns : goal.returns
-returns c =
-    (λ _. within_by_places c.args.self.now c.args.other.now c.self.inside.map.entries c.self.view_is (λ i p h e. c.loop-place.invariant i p (omega (arith, c.len-place-end.ensures.len, c.loop-place-test.false)) e), λ _. refl)
+returns c = (
+  λ h x t g.
+      let es = c.deref-x-items.result.now in
+      let found = place_of x t es (sym (finite.get-from_entries name_total es x) ∙ ap (λ l. value_at (finite.from_entries l) x) c.deref-x-items.ensures.value ∙ ap (λ m. value_at m x) c.self.view_is ∙ g) in
+      c.loop-x.invariant (x, t) (subst (In (x, t)) (sym (take_all c.loop-x.x-index es c.loop-x-test.false)) (in_at es found.0 (x, t) found.2)),
+  λ w. refl,
+)
