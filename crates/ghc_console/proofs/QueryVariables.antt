@@ -17,7 +17,7 @@ use Rattle.ghc_records.specs.Record.{Record, numbers}
 use Rattle.ghc_records.specs.Replay.{MakesVariable}
 use Rattle.ghc_records.proofs.Heads.{first_in}
 use Rattle.ghc_records.proofs.OrderLemmas.{record_once}
-use Rattle.ghc_console.specs.VariableNamed.{Names, IsGivenName}
+use Rattle.ghc_console.specs.VariableNamed.{IsGivenName}
 
 -- what stands among the first occurrences stands in the list
 of_firsts : (seen xs : List VarName) (x : VarName) → In x (firsts seen xs) → In x xs
@@ -60,12 +60,12 @@ module _ (q : WrittenQuery) (well : IsWellAsked q) where
       (step, omega (arith, place), omega (arith, place, below, named))
 
 -- the word at a place of the names names the variable of that place
-pub given : (names : Names) (word : List ℕ) (i place : ℕ) → i < length names → HoldsAt (λ name. name ≡ word) names i → word ≢ codes "_" → place ≡ i + 1
+pub given : (names : List (List ℕ)) (word : List ℕ) (i place : ℕ) → i < length names → HoldsAt (λ name. name ≡ word) names i → word ≢ codes "_" → place ≡ i + 1
     → IsGivenName names word (record { step = 0; place = place })
 given names word i place low at named here = (i, slice_get-get_or names i word low ∙ ap Some (at word), named, same_parts (record { step = 0; place = place }) (asked (i + 1)) refl here)
 
 -- a word that is no name names nothing
-pub none_given : (names : Names) (word : List ℕ) → All (λ name. name ≢ word) names → (x : VarName) → ¬ IsGivenName names word x
+pub none_given : (names : List (List ℕ)) (word : List ℕ) → All (λ name. name ≢ word) names → (x : VarName) → ¬ IsGivenName names word x
 none_given names word none x g = none g.0 word (slice_get_within names g.0 word g.1) (get_or_from_slice_get names g.0 word word g.1)
 
 -- what a step made is seen by the record of its number

@@ -14,7 +14,7 @@ use Rattle.ghc_core.specs.World.{World, with_step}
 use Rattle.ghc_core.specs.Proposes.{IsCommitOf, StepFails, refused_attempt, no_room}
 use Rattle.ghc_trace.specs.Ports.{taken_ports}
 use Rattle.ghc_trace.specs.PortText.{ports_text}
-use Rattle.ghc_console.specs.VariableNamed.{Names, IsVariableNamed}
+use Rattle.ghc_console.specs.VariableNamed.{IsVariableNamed}
 use Rattle.ghc_console.specs.Replies.{Takes, takes, full, RepliesToStep, steps, fails, RepliesToShow, too_long, refusal, print_limit}
 
 -- What is known of an answer leads to more about it.
@@ -35,10 +35,10 @@ pub step_taken : (w v : World) (p : Proposal) (r : Record) (text : List ℕ) →
 step_taken w v p r text commit told same = subst (λ x. Takes w p x v) (sym told) (subst (Takes w p (ports_text (taken_ports r))) (sym same) (takes r commit))
 
 -- A refusal by a printed term says that it is too long.
-pub printed_refused : (w : World) (names : Names) (word : List ℕ) (x : VarName) (f : Fault) (text : List ℕ) → IsVariableNamed w names word x → (f ≡ fault.Memory) ⊎ (f ≡ fault.Limit limit.Print)
+pub printed_refused : (w : World) (word : List ℕ) (x : VarName) (f : Fault) (text : List ℕ) → IsVariableNamed w word x → (f ≡ fault.Memory) ⊎ (f ≡ fault.Limit limit.Print)
     → (f ≡ fault.Limit limit.Print → (long : List ℕ) × (IsTextOf (value_at w.state.store) (variable x) long × (print_limit < length long)))
-    → text ≡ refusal f → f ≢ fault.Memory → RepliesToShow w names word text
-printed_refused w names word x f text named (inl m) past told kept = absurd (kept m)
-printed_refused w names word x f text named (inr q) past told kept =
+    → text ≡ refusal f → f ≢ fault.Memory → RepliesToShow w word text
+printed_refused w word x f text named (inl m) past told kept = absurd (kept m)
+printed_refused w word x f text named (inr q) past told kept =
     let long = past q in
-    subst (RepliesToShow w names word) (sym (told ∙ ap refusal q)) (too_long x long.0 named long.1.0 long.1.1)
+    subst (RepliesToShow w word) (sym (told ∙ ap refusal q)) (too_long x long.0 named long.1.0 long.1.1)

@@ -19,7 +19,7 @@ use Rattle.ghc_core.specs.Proposes.{AttemptAnswers, IsCommitOf}
 use Rattle.ghc_core.specs.Reverses.{Undoes}
 use Rattle.ghc_trace.specs.Ports.{taken_ports}
 use Rattle.ghc_trace.specs.PortText.{ports_text}
-use Rattle.ghc_console.specs.VariableNamed.{Names, IsVariableNamed}
+use Rattle.ghc_console.specs.VariableNamed.{IsVariableNamed}
 use Rattle.ghc_console.specs.Commands.{command_of}
 use Rattle.ghc_console.specs.declared.command.LineCommand.{LineCommand}
 use Rattle.ghc_console.specs.declared.command.LineCommand.TheVariants.{Nothing as nothing, Step as step, Undo as undo, Show as show, Records as records, Quit as quit, Unknown as unknown}
@@ -64,13 +64,13 @@ pub data IsToldAs : Reply → List ℕ → Type 0 where
 abbrev pub TakesBack : World → ℕ → List ℕ → World → Type 0
 TakesBack w n text v = (reply : Reply) × Undoes ⊥ w n reply v × IsToldAs reply text
 
--- RepliesToShow w names word text: the variable that the word names, and the term to which it leads; or the refusal where it names none, or the term is too long.
-pub data RepliesToShow (w : World) (names : Names) (word : List ℕ) : List ℕ → Type 0 where
-  shows : (x : VarName) (text : List ℕ) → IsVariableNamed w names word x → IsTextOf (value_at w.state.store) (variable x) text → length text ≤ print_limit
-      → RepliesToShow w names word (lined (word ++ (codes " = " ++ text)))
-  too_long : (x : VarName) (text : List ℕ) → IsVariableNamed w names word x → IsTextOf (value_at w.state.store) (variable x) text → print_limit < length text
-      → RepliesToShow w names word (refusal (Fault.Limit limit.Print))
-  no_variable : ((x : VarName) → ¬ IsVariableNamed w names word x) → RepliesToShow w names word (refusal Fault.NoVariable)
+-- RepliesToShow w word text: the variable that the word names, and the term to which it leads; or the refusal where it names none, or the term is too long.
+pub data RepliesToShow (w : World) (word : List ℕ) : List ℕ → Type 0 where
+  shows : (x : VarName) (text : List ℕ) → IsVariableNamed w word x → IsTextOf (value_at w.state.store) (variable x) text → length text ≤ print_limit
+      → RepliesToShow w word (lined (word ++ (codes " = " ++ text)))
+  too_long : (x : VarName) (text : List ℕ) → IsVariableNamed w word x → IsTextOf (value_at w.state.store) (variable x) text → print_limit < length text
+      → RepliesToShow w word (refusal (Fault.Limit limit.Print))
+  no_variable : ((x : VarName) → ¬ IsVariableNamed w word x) → RepliesToShow w word (refusal Fault.NoVariable)
 
 -- the records, a line each
 abbrev pub record_lines : List Record → List ℕ
@@ -82,15 +82,15 @@ abbrev pub records_text : List Record → List ℕ
 records_text [] = lined (codes "none")
 records_text (r ∷ rs) = record_lines (r ∷ rs)
 
--- Replies w names c text v: the reply to the command c in the world w is the text, and it leaves the world v.
-abbrev pub Replies : World → Names → LineCommand → List ℕ → World → Type 0
-Replies w names nothing text v = (text ≡ []) × (v ≡ w)
-Replies w names (step g choice) text v = RepliesToStep w g choice text v
-Replies w names (undo n) text v = TakesBack w n text v
-Replies w names (show word) text v = RepliesToShow w names word text × (v ≡ w)
-Replies w names records text v = (text ≡ records_text w.kept) × (v ≡ w)
-Replies w names quit text v = (text ≡ []) × (v ≡ w)
-Replies w names unknown text v = (text ≡ refusal Fault.Command) × (v ≡ w)
+-- Replies w c text v: the reply to the command c in the world w is the text, and it leaves the world v.
+abbrev pub Replies : World → LineCommand → List ℕ → World → Type 0
+Replies w nothing text v = (text ≡ []) × (v ≡ w)
+Replies w (step g choice) text v = RepliesToStep w g choice text v
+Replies w (undo n) text v = TakesBack w n text v
+Replies w (show word) text v = RepliesToShow w word text × (v ≡ w)
+Replies w records text v = (text ≡ records_text w.kept) × (v ≡ w)
+Replies w quit text v = (text ≡ []) × (v ≡ w)
+Replies w unknown text v = (text ≡ refusal Fault.Command) × (v ≡ w)
 
 -- The command ends the session.
 abbrev pub quits : LineCommand → Bool
@@ -102,12 +102,12 @@ quits records = false
 quits quit = true
 quits unknown = false
 
--- IsReply w names line text v ended: the text is the reply to the line in the world w, which leaves the world v, and the session ends or goes on. A line past the limit is refused; and each line may find no memory, which changes nothing.
-pub data IsReply (w : World) (names : Names) (line : List ℕ) : List ℕ → World → Bool → Type 0 where
-  replies : {text : List ℕ} {v : World} → length line ≤ line_limit → Replies w names (command_of line) text v
-      → IsReply w names line text v (quits (command_of line))
-  too_long : line_limit < length line → IsReply w names line (refusal (Fault.Limit limit.Line)) w false
-  no_memory : IsReply w names line (refusal Fault.Memory) w false
+-- IsReply w line text v ended: the text is the reply to the line in the world w, which leaves the world v, and the session ends or goes on. A line past the limit is refused; and each line may find no memory, which changes nothing.
+pub data IsReply (w : World) (line : List ℕ) : List ℕ → World → Bool → Type 0 where
+  replies : {text : List ℕ} {v : World} → length line ≤ line_limit → Replies w (command_of line) text v
+      → IsReply w line text v (quits (command_of line))
+  too_long : line_limit < length line → IsReply w line (refusal (Fault.Limit limit.Line)) w false
+  no_memory : IsReply w line (refusal Fault.Memory) w false
 
 -- the bytes of a reply; there is none for want of memory, which is told
 abbrev pub reply_bytes : Option (List ℕ) → List ℕ

@@ -2,41 +2,40 @@
 use Rattle.std.specs.Prelude.{◌≡◌, ◌≤◌, ◌+◌, ℕ, Bool, true, false, List, [], ◌∷◌, ◌++◌, Option, Result, IfSome, MatchResult, take}
 use Rattle.std.specs.Io.KnownBytes.{Appends}
 use Rattle.ghc_core.specs.World.{World}
-use Rattle.ghc_console.specs.VariableNamed.{Names}
 use Rattle.ghc_console.specs.Lines.{line_feeds, lines_of}
 use Rattle.ghc_console.specs.Replies.{IsReply}
 
--- Session names count w lines out v: out are the replies to the lines, in order, from the world w on, and they leave the world v. After `count` lines there is none, or one that ends the session.
-pub data Session (names : Names) : ℕ → World → List (List ℕ) → List ℕ → World → Type 0 where
-  at_end : {w : World} → Session names 0 w [] [] w
+-- Session count w lines out v: out are the replies to the lines, in order, from the world w on, and they leave the world v. After `count` lines there is none, or one that ends the session.
+pub data Session : ℕ → World → List (List ℕ) → List ℕ → World → Type 0 where
+  at_end : {w : World} → Session 0 w [] [] w
   ends :
       {w v : World} {line text : List ℕ} {lines : List (List ℕ)}
-      → IsReply w names line text v true
-      → Session names 0 w (line ∷ lines) text v
+      → IsReply w line text v true
+      → Session 0 w (line ∷ lines) text v
   goes_on :
       {count : ℕ} {w u v : World} {line text rest : List ℕ} {lines : List (List ℕ)}
-      → IsReply w names line text u false
-      → Session names count u lines rest v
-      → Session names (count + 1) w (line ∷ lines) (text ++ rest) v
+      → IsReply w line text u false
+      → Session count u lines rest v
+      → Session (count + 1) w (line ∷ lines) (text ++ rest) v
 
--- Began names count w lines out v: the same of a session that was broken off. After `count` lines a read failed, or a write of a reply, of which a beginning was written.
-pub data Began (names : Names) : ℕ → World → List (List ℕ) → List ℕ → World → Type 0 where
-  nothing_yet : {w : World} {lines : List (List ℕ)} → Began names 0 w lines [] w
+-- Began count w lines out v: the same of a session that was broken off. After `count` lines a read failed, or a write of a reply, of which a beginning was written.
+pub data Began : ℕ → World → List (List ℕ) → List ℕ → World → Type 0 where
+  nothing_yet : {w : World} {lines : List (List ℕ)} → Began 0 w lines [] w
   broken :
       {w v : World} {line text : List ℕ} {lines : List (List ℕ)} {ended : Bool} (n : ℕ)
-      → IsReply w names line text v ended
-      → Began names 0 w (line ∷ lines) (take n text) v
+      → IsReply w line text v ended
+      → Began 0 w (line ∷ lines) (take n text) v
   went_on :
       {count : ℕ} {w u v : World} {line text rest : List ℕ} {lines : List (List ℕ)}
-      → IsReply w names line text u false
-      → Began names count u lines rest v
-      → Began names (count + 1) w (line ∷ lines) (text ++ rest) v
+      → IsReply w line text u false
+      → Began count u lines rest v
+      → Began (count + 1) w (line ∷ lines) (text ++ rest) v
 
 -- One line was served: its reply was written, or a beginning of it where a call failed.
-pub record Served {E : Type 0} (names : Names) (w : World) (line : List ℕ) (v : World) (old new : Option (List ℕ)) (result : Result Bool E) : Type 0 where
+pub record Served {E : Type 0} (w : World) (line : List ℕ) (v : World) (old new : Option (List ℕ)) (result : Result Bool E) : Type 0 where
   pub text : List ℕ
   pub ended : Bool
-  pub reply : IsReply w names line text v ended
+  pub reply : IsReply w line text v ended
   pub written : MatchResult result (λ b. (b ≡ ended) × Appends old new text) (λ _. (n : ℕ) × Appends old new (take n text))
 
 -- What was written is that of such a run over the lines of the input; and the bytes that were there when the last read was made, `before` of them, had no more whole lines than those after which the session went on.

@@ -6,12 +6,8 @@ use Rattle.ghc_records.specs.Replay.{IsVariableOf}
 use Rattle.ghc_core.specs.World.{World}
 use Rattle.ghc_console.specs.Words.{number_of}
 
--- The names of the variables of a query, by number.
-abbrev pub Names : Type 0
-Names = List (List ℕ)
-
--- The word is the name that the query gives to the variable x. (`_` is no name.)
-abbrev pub IsGivenName : Names → List ℕ → VarName → Type 0
+-- The word is the name that the query gives to the variable x, where the names of its variables are these, by number. (`_` is no name.)
+abbrev pub IsGivenName : List (List ℕ) → List ℕ → VarName → Type 0
 IsGivenName names word x = (i : ℕ) × (slice_get names i ≡ Some word) × (word ≢ codes "_") × (x ≡ record { step = 0; place = i + 1 })
 
 -- The variable of a step and a place, where both are there.
@@ -30,5 +26,5 @@ abbrev pub numbered_of : List ℕ → Option VarName
 numbered_of word = variable_of_parts (slice_split (λ byte. byte == 95) word)
 
 -- The word names the variable x of the world: one of the query by its name, or by its numbers one of the query or of a kept step.
-abbrev pub IsVariableNamed : World → Names → List ℕ → VarName → Type 0
-IsVariableNamed w names word x = IsGivenName names word x ⊎ ((numbered_of word ≡ Some x) × IsVariableOf w.opening.query w.kept x)
+abbrev pub IsVariableNamed : World → List ℕ → VarName → Type 0
+IsVariableNamed w word x = IsGivenName w.opening.names word x ⊎ ((numbered_of word ≡ Some x) × IsVariableOf w.opening.query w.kept x)

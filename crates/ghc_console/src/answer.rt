@@ -15,9 +15,9 @@ use std::alloc::{AllocError, Global};
 
 // Carries a command out, and gives the reply. An error leaves the core as it was.
 fn execute(alloc: Global, core: &mut Core, command: &LineCommand) -> Result<Vec<u8>, AllocError>
-    ensures reply { IfOk result (λ t. Replies core.old.world core.old.names command.now t.items core.new.world) }
+    ensures reply { IfOk result (λ t. Replies core.old.world command.now t.items core.new.world) }
     ensures err { OnErr result (core.new.world ≡ core.old.world) }
-    ensures names { core.new.names ≡ core.old.names }
+    ensures opening { core.new.world.opening ≡ core.old.world.opening }
     ensures fires { Fires command.now core.old.meter core.new.meter }
 {
     match command {
@@ -42,9 +42,9 @@ fn is_quit(command: &LineCommand) -> bool
 
 // Carries a whole line out, and says whether the session ends.
 fn execute_line(alloc: Global, core: &mut Core, line: &[u8]) -> Result<(Vec<u8>, bool), AllocError>
-    ensures ok { length line.now ≤ line_limit → IfOk result (λ r. IsReply core.old.world core.old.names line.now r.0.items core.new.world r.1) }
+    ensures ok { length line.now ≤ line_limit → IfOk result (λ r. IsReply core.old.world line.now r.0.items core.new.world r.1) }
     ensures err { OnErr result (core.new.world ≡ core.old.world) }
-    ensures names { core.new.names ≡ core.old.names }
+    ensures opening { core.new.world.opening ≡ core.old.world.opening }
     ensures fires { Fires (command_of line.now) core.old.meter core.new.meter }
 {
     let command = match parse(alloc, line) {
@@ -61,8 +61,8 @@ fn execute_line(alloc: Global, core: &mut Core, line: &[u8]) -> Result<(Vec<u8>,
 /// The reply to a line, none for want of memory, and whether the session ends.
 pub fn answer(alloc: Global, core: &mut Core, line: &Line) -> (Option<Vec<u8>>, bool)
     ensures reply { (bytes : List ℕ) → LineSays line.now bytes
-        → IsReply core.old.world core.old.names bytes (reply_bytes (option_map (λ t. t.items) result.0)) core.new.world result.1 }
-    ensures names { core.new.names ≡ core.old.names }
+        → IsReply core.old.world bytes (reply_bytes (option_map (λ t. t.items) result.0)) core.new.world result.1 }
+    ensures opening { core.new.world.opening ≡ core.old.world.opening }
     ensures fires { (bytes : List ℕ) → LineSays line.now bytes → Fires (command_of bytes) core.old.meter core.new.meter }
 {
     match line {

@@ -108,8 +108,8 @@ fn is_variable_of(core: &Core, x: VarName) -> bool
 /// The variable that the word names: one of the query by its name, but for `_`; or `_n_m`, where the query has it or a kept
 /// step made it. One look at each name of the query, and one look-up in the record.
 pub fn variable_named(core: &Core, word: &[u8]) -> Option<VarName>
-    ensures found { IfSome result (IsVariableNamed core.now.world core.now.names word.now) }
-    ensures none { IfNone result ((x : var_name) → ¬ IsVariableNamed core.now.world core.now.names word.now x) }
+    ensures found { IfSome result (IsVariableNamed core.now.world word.now) }
+    ensures none { IfNone result ((x : var_name) → ¬ IsVariableNamed core.now.world word.now x) }
 {
     if let Some(x) = given_name(core.query(), word) {
         return Some(x);

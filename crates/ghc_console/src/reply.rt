@@ -47,7 +47,6 @@ pub fn step(
 ) -> Result<Vec<u8>, AllocError>
     ensures text { IfOk result (λ t. RepliesToStep core.old.world goal choice t.items core.new.world) }
     ensures err { OnErr result (core.new.world ≡ core.old.world) }
-    ensures names { core.new.names ≡ core.old.names }
     ensures meter { core.new.meter ≡ fired core.old.meter }
 {
     let addition = match core.prepare_step(alloc, goal, choice) {
@@ -74,7 +73,7 @@ fn shown(alloc: Global, word: &[u8], term: &str) -> Result<Vec<u8>, AllocError>
 
 /// Tells the term to which the variable leads that the word names; or the refusal.
 pub fn show(alloc: Global, core: &Core, word: &[u8]) -> Result<Vec<u8>, AllocError>
-    ensures { IfOk result (λ t. RepliesToShow core.now.world core.now.names word.now t.items) }
+    ensures { IfOk result (λ t. RepliesToShow core.now.world word.now t.items) }
 {
     let Some(x) = variable_named(core, word) else {
         return refused(alloc, &Fault::NoVariable);

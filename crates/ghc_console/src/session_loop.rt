@@ -24,8 +24,8 @@ fn serve<D: Device>(
     line: Line,
 ) -> Result<bool, Broken>
     ensures served { (bytes : List ℕ) → LineSays line bytes
-        → Served core.old.names core.old.world bytes core.new.world (D.written device.old) (D.written device.new) result }
-    ensures names { core.new.names ≡ core.old.names }
+        → Served core.old.world bytes core.new.world (D.written device.old) (D.written device.new) result }
+    ensures opening { core.new.world.opening ≡ core.old.world.opening }
     ensures fires { (bytes : List ℕ) → LineSays line bytes → Fires (command_of bytes) core.old.meter core.new.meter }
     ensures unread { Keeps (D.unread device.old) (D.unread device.new) }
     ensures count { Counts (D.failures device.old) (D.failures device.new) result }
@@ -50,11 +50,11 @@ pub fn session<R: Wait, D: Device>(
     // What is written is the replies to the lines, or a beginning of them where the device failed; and no read is made
     // where a line that ends the session is there.
     ensures text { MatchResult result.1
-        (λ _. Tells (Session core.names) core.world (D.unread device.old) (D.written device.old) (D.written device.new)
+        (λ _. Tells Session core.world (D.unread device.old) (D.written device.old) (D.written device.new)
         (D.earlier device.new - (D.earlier device.old + D.latest device.old)) result.0.world)
-        (λ _. Tells (Began core.names) core.world (D.unread device.old) (D.written device.old) (D.written device.new)
+        (λ _. Tells Began core.world (D.unread device.old) (D.written device.old) (D.written device.new)
         (D.earlier device.new - (D.earlier device.old + D.latest device.old)) result.0.world) }
-    ensures names { result.0.names ≡ core.names }
+    ensures opening { result.0.world.opening ≡ core.world.opening }
 
     // Where the bytes are known, each step of the lines fires at most once, and nothing else does.
     ensures fires { IfSome (D.unread device.old) (λ input. FiresAtMost (firings_in (lines_of input)) core.meter result.0.meter) }

@@ -19,7 +19,6 @@ fn undone(alloc: Global, number: u32) -> Result<Vec<u8>, AllocError>
 pub fn undo(alloc: Global, core: &mut Core, number: u32) -> Result<Vec<u8>, AllocError>
     ensures text { IfOk result (λ t. TakesBack core.old.world number t.items core.new.world) }
     ensures err { OnErr result (core.new.world ≡ core.old.world) }
-    ensures names { core.new.names ≡ core.old.names }
     ensures meter { core.new.meter ≡ core.old.meter }
 {
     let removal = match core.prepare_undo(number) {

@@ -13,7 +13,7 @@ use Rattle.ghc_fire.specs.declared.act.Act.TheVariants.{Given as given, Closed a
 use Rattle.ghc_records.specs.Orders.{AreDistinct}
 use Rattle.ghc_records.specs.Record.{State, Record, numbers, after, Fires}
 use Rattle.ghc_records.specs.Replay.{query_state, IsVariableOf}
-use Rattle.ghc_records.specs.Journal.{Entry}
+use Rattle.ghc_records.specs.Journal.{Opening, Entry}
 use Rattle.ghc_records.proofs.OrderLemmas.{number_in, number_of, record_once, numbers_append}
 use Rattle.ghc_records.proofs.Effects.{HasOnly, has_more, after_has, after_acyclic}
 use Rattle.ghc_records.proofs.Replaying.{of_query, replay_well}
@@ -28,7 +28,7 @@ use Rattle.ghc_core.specs.Proposes as asking
 use Rattle.ghc_core.specs.Streams as streams
 use Rattle.ghc_core.specs.Reverses as by
 use Rattle.ghc_core.specs.Answers.{Obeys, Answers, to_propose, to_commit, to_note, to_command}
-use Rattle.ghc_core.specs.Legal.{IsSound, IsReachable, at_opening, by_event, with_other_hands}
+use Rattle.ghc_core.specs.Legal.{AreNamesOf, IsSound, IsReachable, at_opening, by_event, with_other_hands}
 use Rattle.ghc_core.specs.Laws as laws
 
 -- what is known of a shelved step
@@ -39,6 +39,7 @@ OnShelf w n r = (r.number ≡ n) × (1 ≤ n) × (n < w.next) × (¬ In n (numbe
 pub record Good (w : World) : Type 0 where
   pub accepted : IsProgram w.opening.program
   pub asked : IsQuery w.opening.program w.opening.query
+  pub named : AreNamesOf w.opening.query w.opening.names
   pub kept_once : AreDistinct (numbers w.kept)
   pub positive : (r : Record) → In r w.kept → 1 ≤ r.number
   pub below : (r : Record) → In r w.kept → r.number < w.next
@@ -96,6 +97,7 @@ module _ (w : World) (good : Good w) where
       record {
         accepted = good.accepted;
         asked = good.asked;
+        named = good.named;
         kept_once = records_push w.kept r good.kept_once new;
         positive = push_positive r n.1 positive new;
         below = push_below r n.1 positive new (w.next + 1) (omega arith) (omega (arith, n.0));
@@ -114,6 +116,7 @@ module _ (w : World) (good : Good w) where
       record {
         accepted = good.accepted;
         asked = good.asked;
+        named = good.named;
         kept_once = records_push w.kept r good.kept_once new;
         positive = push_positive r fires positive new;
         below = push_below r fires positive new w.next (omega arith) (subst (λ m. m < w.next) (sym on.0) on.2);
@@ -131,6 +134,7 @@ module _ (w : World) (good : Good w) where
       record {
         accepted = good.accepted;
         asked = good.asked;
+        named = good.named;
         kept_once = replay.0.1;
         positive = λ r i. (replay.0.0 r i).0;
         below = λ r i. good.below r (of_left r i);
@@ -153,6 +157,7 @@ module _ (w : World) (good : Good w) where
   arranged_good order new journal lawful o = record {
     accepted = good.accepted;
     asked = good.asked;
+    named = good.named;
     kept_once = subst AreDistinct (sym o.0) lawful.0.0.1;
     positive = λ r i. good.positive r ((o.1 r).0 i);
     below = λ r i. good.below r ((o.1 r).0 i);
@@ -221,6 +226,7 @@ opened_good {w} sound opens =
     record {
       accepted = accepted;
       asked = asked;
+      named = subst (λ (p : Opening). AreNamesOf p.query p.names) (sym opens.opening) sound.2;
       kept_once = opens.state.0.1;
       positive = λ r i. (opens.state.0.0 r i).0;
       below = λ r i. subst (λ n. r.number < n) (sym opens.next) (opens.below r i);

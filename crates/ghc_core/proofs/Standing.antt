@@ -1,5 +1,5 @@
 -- What is known of a world that a core can be in, and which worlds are so from the start.
-use Rattle.std.proofs.Common.{◌≡◌, ◌≢◌, ◌<◌, [], refl, inl, inr, arith, Some}
+use Rattle.std.proofs.Common.{◌≡◌, ◌≢◌, ◌<◌, ℕ, List, [], refl, inl, inr, arith, Some}
 use Rattle.std.specs.FinMap as finite
 use Rattle.ghc_term.specs.declared.var_name.VarName.{VarName}
 use Rattle.ghc_term.specs.declared.goal_name.GoalName.{GoalName}
@@ -17,7 +17,7 @@ use Rattle.ghc_records.specs.Laws.{IsWellMade}
 use Rattle.ghc_records.proofs.Replaying as replaying
 use Rattle.ghc_depend.specs.Kept.{Keeps}
 use Rattle.ghc_core.specs.World.{no_hands, World, IsReplay, Opens}
-use Rattle.ghc_core.specs.Legal.{IsSound, at_opening}
+use Rattle.ghc_core.specs.Legal.{AreNamesOf, IsSound, at_opening}
 use Rattle.ghc_core.specs.Laws.{IsOrderly}
 use Rattle.ghc_core.specs.Core.{IsStanding}
 use Rattle.ghc_core.proofs.Reaching.{reached_good, reached, known}
@@ -32,6 +32,10 @@ standing_replay w s = reachable_replay w no_hands s
 pub standing_well_made : (w : World) → IsStanding w → IsWellMade w.opening.query w.kept w.state
 standing_well_made w s = known w no_hands s
 
+-- In a standing world the names are those of the query's variables.
+pub standing_named : (w : World) → IsStanding w → AreNamesOf w.opening.query w.opening.names
+standing_named w s = (reached_good s).named
+
 -- A standing world is orderly: no number is kept twice, and each stream has one goal at most.
 pub standing_orderly : (w : World) → IsStanding w → IsOrderly w
 standing_orderly w s = reached w no_hands s
@@ -40,9 +44,9 @@ standing_orderly w s = reached w no_hands s
 pub standing_keeps : (w : World) → IsStanding w → Keeps w.opening w.journal w.kept w.shelf
 standing_keeps w s = reachable_keeps w no_hands s
 
--- The program and the query of a standing world are accepted.
+-- The program and the query of a standing world are accepted, and the names are those of the query's variables.
 pub standing_sound : (w : World) → IsStanding w → IsSound w.opening
-standing_sound w s = let good = reached_good s in (good.accepted, good.asked)
+standing_sound w s = let good = reached_good s in (good.accepted, good.asked, good.named)
 
 -- No variable of a standing world is one of `no_step`.
 pub standing_apart : (w : World) → IsStanding w → (x : VarName) → IsVariableOf w.opening.query w.kept x → x.step ≢ no_step
@@ -65,12 +69,12 @@ pub opening_stands : (o : Opening) (w : World) → IsSound o → Opens o w → I
 opening_stands o w sound opens = at_opening sound opens refl
 
 -- the world of a query where nothing was loaded
-abbrev pub fresh_world : Program → Query → World
-fresh_world P query = record { opening = fresh_opening P query; state = query_state query; kept = []; shelf = finite.empty; next = 1; journal = [] }
+abbrev pub fresh_world : Program → Query → List (List ℕ) → World
+fresh_world P query names = record { opening = fresh_opening P query names; state = query_state query; kept = []; shelf = finite.empty; next = 1; journal = [] }
 
--- The fresh opening of a program and a query makes their fresh world.
-pub fresh_opens : (P : Program) (query : Query) → Opens (fresh_opening P query) (fresh_world P query)
-fresh_opens P query = record {
+-- The fresh opening of a program, a query and names makes their fresh world.
+pub fresh_opens : (P : Program) (query : Query) (names : List (List ℕ)) → Opens (fresh_opening P query names) (fresh_world P query names)
+fresh_opens P query names = record {
   opening = refl;
   steps = refl;
   state = (((λ r i. absurd i), tt), refl);
@@ -82,9 +86,9 @@ fresh_opens P query = record {
   journal = refl;
 }
 
--- The fresh world of an accepted program and query stands.
-pub fresh_stands : (P : Program) (query : Query) → IsProgram P → IsQuery P query → IsStanding (fresh_world P query)
-fresh_stands P query accepted asked = opening_stands (fresh_opening P query) (fresh_world P query) (accepted, asked) (fresh_opens P query)
+-- The fresh world of an accepted program and query, and of names of the query's variables, stands.
+pub fresh_stands : (P : Program) (query : Query) (names : List (List ℕ)) → IsProgram P → IsQuery P query → AreNamesOf query names → IsStanding (fresh_world P query names)
+fresh_stands P query names accepted asked named = opening_stands (fresh_opening P query names) (fresh_world P query names) (accepted, asked, named) (fresh_opens P query names)
 
 -- Each kept step of a standing world has a number below the next one.
 pub standing_below : (w : World) → IsStanding w → (r : Record) → In r w.kept → r.number < w.next

@@ -1,5 +1,5 @@
 -- What a core is.
-use Rattle.std.specs.Prelude.{◌≡◌, ℕ, List, Option, Some, None}
+use Rattle.std.specs.Prelude.{◌≡◌, ℕ, Option, Some, None}
 use Rattle.ghc_fire.specs.declared.act.Act.{Act}
 use Rattle.ghc_fire.specs.declared.act.Act.TheVariants.{ByClause as by_clause, Unified as unified, Assigned as assigned, Given as given, Closed as closed}
 use Rattle.ghc_fire.specs.Proposal.{Proposal, under}
@@ -17,10 +17,9 @@ pub record Room : Type 0 where
   pub shelf : ℕ
   pub journal : ℕ
 
--- A core is the world that it is in, the names of the query's variables by number, the counts of what it fired and tried, and its room, which no other clause speaks of.
+-- A core is the world that it is in, the counts of what it fired and tried, and its room, which no other clause speaks of.
 pub record Core : Type 0 where
   pub world : World
-  pub names : List (List ℕ)
   pub meter : Meter
   pub room : Room
 

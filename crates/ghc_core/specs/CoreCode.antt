@@ -1,6 +1,6 @@
 -- Two worlds, or two cores, with one code are one.
 use Rattle.std.specs.Prelude.{ℕ, List, refl}
-use Rattle.std.specs.Coded.{Coded, code_by, coded×, coded_list, coded_ℕ}
+use Rattle.std.specs.Coded.{Coded, code_by, coded×, coded_ℕ}
 use Rattle.ghc_fire.specs.declared.meter.Meter.{Meter}
 use Rattle.ghc_records.specs.Record.{State, Record, Shelf}
 use Rattle.ghc_records.specs.Journal.{Opening, Entry}
@@ -27,5 +27,5 @@ room_code =
 
 abbrev pub core_code : Coded Core
 core_code =
-    code_by (World × (List (List ℕ) × (Meter × Room))) (coded× world_code (coded× (coded_list (coded_list coded_ℕ)) (coded× meter_code room_code)))
-    (λ c. (c.world, (c.names, (c.meter, c.room)))) (λ p. record { world = p.0; names = p.1.0; meter = p.1.1.0; room = p.1.1.1 }) (λ _. refl)
+    code_by (World × (Meter × Room)) (coded× world_code (coded× meter_code room_code)) (λ c. (c.world, (c.meter, c.room)))
+    (λ p. record { world = p.0; meter = p.1.0; room = p.1.1 }) (λ _. refl)

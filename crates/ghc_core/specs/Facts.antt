@@ -13,7 +13,7 @@ use Rattle.ghc_core.specs.Answers.{Plays}
 
 -- The world of a query under no program.
 abbrev pub query_world : List Goal → World
-query_world query = record { opening = fresh_opening [] query; state = query_state query; kept = []; shelf = finite.empty; next = 1; journal = [] }
+query_world query = record { opening = fresh_opening [] query []; state = query_state query; kept = []; shelf = finite.empty; next = 1; journal = [] }
 
 -- Two empty hands.
 abbrev pub two_hands : Hands

@@ -21,7 +21,7 @@ use Rattle.ghc_core.specs.Events.{Event, Reply}
 use Rattle.ghc_core.specs.Proposes.{Proposes, StillHolds, HoldsAsNext, IsCommitOf, CommitFails, IsStepOf, StepFails, Commits, Notes}
 use Rattle.ghc_core.specs.Reverses.{Redoes, Arranges}
 use Rattle.ghc_core.specs.Answers.{Answers}
-use Rattle.ghc_core.specs.Legal.{IsReachable, IsProper}
+use Rattle.ghc_core.specs.Legal.{AreNamesOf, IsReachable, IsProper}
 
 -- The world is orderly: no number is kept twice, the store is acyclic, and each stream has one goal at most.
 pub record IsOrderly (w : World) : Type 0 where
@@ -40,6 +40,10 @@ ReachableIsOrderly = (w : World) (hands : Hands) → IsReachable w hands → IsO
 -- In a reachable world the store is acyclic, and each variable of goals and store is the query's or made by a kept step.
 abbrev pub ReachableIsWellMade : Type 0
 ReachableIsWellMade = (w : World) (hands : Hands) → IsReachable w hands → IsWellMade w.opening.query w.kept w.state
+
+-- In a reachable world each variable of the query has a name, and no two have one name, but for `_`.
+abbrev pub ReachableIsNamed : Type 0
+ReachableIsNamed = (w : World) (hands : Hands) → IsReachable w hands → AreNamesOf w.opening.query w.opening.names
 
 -- In a reachable world the journal, in which loaded steps stand as taken, tells what is kept and what is on the shelf.
 abbrev pub ReachableKeeps : Type 0

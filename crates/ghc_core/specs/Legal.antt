@@ -1,8 +1,11 @@
 -- Legal histories, receipts, fronts and reachable worlds.
-use Rattle.std.specs.Prelude.{◌≡◌, ℕ, ◌+◌, List, [], ◌∷◌, ◌++◌}
+use Rattle.std.specs.Prelude.{◌≡◌, ℕ, ◌+◌, List, [], ◌∷◌, ◌++◌, length}
 use Rattle.std.specs.FinMap as finite
 use Rattle.ghc_flat.specs.Flat.{IsProgram, IsQuery}
 use Rattle.ghc_term.specs.Tree.{IsClosed}
+use Rattle.ghc_term.specs.Variables.{variables_of_goals, firsts}
+use Rattle.ghc_reader.specs.Written.{AreApart}
+use Rattle.ghc_flat.specs.Clause.{Query}
 use Rattle.ghc_records.specs.Record.{numbers}
 use Rattle.ghc_records.specs.Journal.{Opening, Entry, Item, opened, entered, history, opening_journal}
 use Rattle.ghc_core.specs.World.{Hands, World, Opens}
@@ -14,11 +17,16 @@ abbrev pub Enters : World → Entry → Reply → World → Type 0
 Enters w entry reply v =
     (hands left : Hands) × (e : Event) × Answers ⊥ w hands e reply v left × (v.journal ≡ w.journal ++ entry ∷ [])
 
--- The opening's program and query are accepted.
-abbrev pub IsSound : Opening → Type 0
-IsSound o = IsProgram o.program × IsQuery o.program o.query
+-- Each variable of the query has a name, and no two have one name, but for `_`.
+pub record AreNamesOf (query : Query) (names : List (List ℕ)) : Type 0 where
+  pub named : length names ≡ length (firsts [] (variables_of_goals query))
+  pub apart : AreApart names
 
--- Leaves items w: the list is a legal history, from the opening of an accepted program and query on, and leaves the world w.
+-- The opening's program and query are accepted, and its names are those of the query's variables.
+abbrev pub IsSound : Opening → Type 0
+IsSound o = IsProgram o.program × IsQuery o.program o.query × AreNamesOf o.query o.names
+
+-- Leaves items w: the list is a legal history, from a sound opening on, and leaves the world w.
 pub data Leaves : List Item → World → Type 0 where
   the_opening : {o : Opening} {w : World} → IsSound o → Opens o w → Leaves (history o (opening_journal o)) w
   and_entry : {items : List Item} {w v : World} (entry : Entry) (reply : Reply) → Leaves items w → Enters w entry reply v → Leaves (items ++ entered entry ∷ []) v
@@ -89,7 +97,7 @@ IsProper (command (roll n)) = Unit {0}
 IsProper (command (redo n)) = Unit {0}
 IsProper (command (arrange order)) = Unit {0}
 
--- A world and its hands are reachable: from the opening of an accepted program and query, with empty hands, by proper events, whether or not memory was refused; and a reachable world is so with any other hands that hold nothing.
+-- A world and its hands are reachable: from a sound opening, with empty hands, by proper events, whether or not memory was refused; and a reachable world is so with any other hands that hold nothing.
 pub data IsReachable : World → Hands → Type 0 where
   at_opening : {o : Opening} {w : World} {hands : Hands} → IsSound o → Opens o w → hands.held ≡ finite.empty → IsReachable w hands
   by_event : {w v : World} {hands left : Hands} (e : Event) (reply : Reply) → IsReachable w hands → IsProper e → Answers (Unit {0}) w hands e reply v left → IsReachable v left

@@ -25,8 +25,8 @@ pub record StopsAt (P : Program) (query : Query) (h : History) (line : ℕ) : Ty
   pub impossible : (r : Record) → step_of r ≡ stopped → ¬ Fires P state r
   pub line_is : line ≡ line_of_step (length before)
 
--- Loads Starved P query h answer: the history is loaded on the program and the query, or the first step that is not possible is told by its line.
-pub data Loads (Starved : Type 0) (P : Program) (query : Query) (h : History) : Result World Fault → Type 0 where
-  loads : (w : World) → Opens (loaded_opening P query h) w → Loads Starved P query h (Ok w)
-  stops : {line : ℕ} → StopsAt P query h line → Loads Starved P query h (Err (Fault.History line))
-  no_memory : Starved → Loads Starved P query h (Err Fault.Memory)
+-- Loads Starved P query names h answer: the history is loaded on the program and the query, whose variables have these names, or the first step that is not possible is told by its line.
+pub data Loads (Starved : Type 0) (P : Program) (query : Query) (names : List (List ℕ)) (h : History) : Result World Fault → Type 0 where
+  loads : (w : World) → Opens (loaded_opening P query names h) w → Loads Starved P query names h (Ok w)
+  stops : {line : ℕ} → StopsAt P query h line → Loads Starved P query names h (Err (Fault.History line))
+  no_memory : Starved → Loads Starved P query names h (Err Fault.Memory)

@@ -36,7 +36,6 @@ impl Core {
     pub fn reserve(&mut self, change: &Change) -> Result<(), AllocError>
         ensures room { OnOk result (HasRoomFor self.new.room change.now) }
         ensures world { self.new.world ≡ self.old.world }
-        ensures names { self.new.names ≡ self.old.names }
         ensures meter { self.new.meter ≡ self.old.meter }
     {
         match change {
@@ -59,7 +58,6 @@ impl Core {
         requires found { (p : proposal_spec) × IsCommitOf self.old.world p addition }
         requires room { HasRoomFor self.old.room (adds addition) }
         ensures world { self.new.world ≡ with_step addition self.old.world }
-        ensures names { self.new.names ≡ self.old.names }
         ensures meter { self.new.meter ≡ self.old.meter }
     {
         let (step, entry) = self.state.take(addition);
@@ -73,7 +71,6 @@ impl Core {
         requires found { CanChange self.old.world (takes_away removal) }
         requires room { HasRoomFor self.old.room (takes_away removal) }
         ensures changed { Changes self.old.world (takes_away removal) self.new.world }
-        ensures names { self.new.names ≡ self.old.names }
         ensures meter { self.new.meter ≡ self.old.meter }
     {
         let step = self.state.take_back(removal);
@@ -88,7 +85,6 @@ impl Core {
         requires found { CanChange self.old.world change }
         requires room { HasRoomFor self.old.room change }
         ensures changed { Changes self.old.world change self.new.world }
-        ensures names { self.new.names ≡ self.old.names }
         ensures meter { self.new.meter ≡ self.old.meter }
         ensures standing { IsStanding self.new.world }
     {

@@ -83,7 +83,6 @@ impl Core {
         ensures no_goal { AttemptAnswers self.old.world goal choice (refused Fault.NoGoal) → result ≡ Err Fault.NoGoal }
         ensures no_clause { AttemptAnswers self.old.world goal choice (refused Fault.NoClause) → result ≡ Err Fault.NoClause }
         ensures world { self.new.world ≡ self.old.world }
-        ensures names { self.new.names ≡ self.old.names }
         ensures counted { self.new.meter ≡ fired self.old.meter }
     {
         attempt(
@@ -170,7 +169,6 @@ impl Core {
         // No want of memory hides that the goal is not there any more.
         ensures gone { finite.get self.old.world.state.goals proposal.now.goal ≡ None → result ≡ Err Fault.Stale }
         ensures world { self.new.world ≡ self.old.world }
-        ensures names { self.new.names ≡ self.old.names }
         ensures counted { self.new.meter ≡ fired self.old.meter }
     {
         self.stands();
@@ -189,7 +187,6 @@ impl Core {
         // No want of memory hides that the goal is not there any more.
         ensures gone { finite.get self.old.world.state.goals proposal.now.goal ≡ None → result ≡ Err Fault.Stale }
         ensures err { OnErr result (self.new.world ≡ self.old.world) }
-        ensures names { self.new.names ≡ self.old.names }
         ensures counted { self.new.meter ≡ fired self.old.meter }
 
         // Goals and store are the replay of the record, and their variables are the query's or made by its steps.

@@ -49,13 +49,12 @@ impl Model for Core {
     ghost coded = { core_code };
 
     ghost view = { λ c. record {
-      world = record { opening = fresh_opening c.program c.query.goals; state = c.state.held; kept = c.records.held; shelf = c.shelf.held; next = c.next; journal = c.journal.held };
-      names = c.query.variables;
+      world = record { opening = fresh_opening c.program c.query.goals c.query.variables; state = c.state.held; kept = c.records.held; shelf = c.shelf.held; next = c.next; journal = c.journal.held };
       meter = c.meter;
       room = record { state = c.state.room; kept = c.records.room; shelf = c.shelf.room; journal = c.journal.room };
     } };
 
-    ghost invariant = { λ c. IsStanding (record { opening = fresh_opening c.program c.query.goals; state = c.state.held; kept = c.records.held; shelf = c.shelf.held; next = c.next; journal = c.journal.held }) };
+    ghost invariant = { λ c. IsStanding (record { opening = fresh_opening c.program c.query.goals c.query.variables; state = c.state.held; kept = c.records.held; shelf = c.shelf.held; next = c.next; journal = c.journal.held }) };
 }
 
 impl Core {
@@ -66,8 +65,7 @@ impl Core {
     /// The core of a query before any step. It costs a look-up for each goal of the query.
     pub fn new(alloc: Global, program: Program, query: Query) -> Result<Core, AllocError>
         requires { IsQuery program query.goals }
-        ensures opens { IfOk result (λ core. Opens (fresh_opening program query.goals) core.world) }
-        ensures names { IfOk result (λ core. core.names ≡ query.variables) }
+        ensures opens { IfOk result (λ core. Opens (fresh_opening program query.goals query.variables) core.world) }
         ensures meter { IfOk result (λ core. (core.meter.firings ≡ 0) × (core.meter.tries ≡ 0)) }
     {
         // Called for its clause that each clause of a program is accepted, which the proof cites.

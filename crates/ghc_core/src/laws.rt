@@ -1,5 +1,5 @@
 // Laws about the definitions, each as the contract of a function.
-ghost use Rattle.ghc_core.specs.Laws.{ReachableIsOrderly, ReachableIsWellMade, ReachableKeeps, EventsHaveOneAnswer, InputsHaveAnAnswer, ClosesHaveAnAnswer, ArrangesHaveAnAnswer, ProposesHaveAnAnswer, CommitsHaveAnAnswer, CommitIsExact, StepIsExact, NotesHaveAnAnswer, RedoesHaveAnAnswer, EventsHaveAnAnswer, StillHoldsAsNext};
+ghost use Rattle.ghc_core.specs.Laws.{ReachableIsOrderly, ReachableIsWellMade, ReachableIsNamed, ReachableKeeps, EventsHaveOneAnswer, InputsHaveAnAnswer, ClosesHaveAnAnswer, ArrangesHaveAnAnswer, ProposesHaveAnAnswer, CommitsHaveAnAnswer, CommitIsExact, StepIsExact, NotesHaveAnAnswer, RedoesHaveAnAnswer, EventsHaveAnAnswer, StillHoldsAsNext};
 
 /// A reachable world keeps no number twice, has an acyclic store, and one goal a stream.
 pub fn reachable_is_orderly()
@@ -9,6 +9,11 @@ pub fn reachable_is_orderly()
 /// In a reachable world each variable is the query's or made by a kept step.
 pub fn reachable_is_well_made()
     ensures { ReachableIsWellMade }
+{}
+
+/// In a reachable world each variable of the query has a name, and no two have one name, but for `_`.
+pub fn reachable_is_named()
+    ensures { ReachableIsNamed }
 {}
 
 /// In a reachable world the journal tells what is kept and what is on the shelf.

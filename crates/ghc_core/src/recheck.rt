@@ -64,7 +64,6 @@ pub fn recheck(alloc: Global, core: &mut Core, proposal: &Proposal) -> Result<Pr
     ensures fault { IfErr result (λ f. (f ≡ Fault.Memory) ⊎ ((f ≡ Fault.Stale) × ¬ StillHolds core.old.world proposal.now)) }
     ensures gone { finite.get core.old.world.state.goals proposal.now.goal ≡ None → result ≡ Err Fault.Stale }
     ensures world { core.new.world ≡ core.old.world }
-    ensures names { core.new.names ≡ core.old.names }
     ensures counted { core.new.meter ≡ fired core.old.meter }
 {
     core.stands();

@@ -12,16 +12,19 @@ impl Core {
     ghost use Rattle.ghc_records.specs.Laws.{IsWellMade};
     ghost use Rattle.ghc_depend.specs.Kept.{Keeps};
     ghost use Rattle.ghc_core.specs.World.{IsReplay};
+    ghost use Rattle.ghc_core.specs.Legal.{AreNamesOf};
     ghost use Rattle.ghc_core.specs.Laws.{IsOrderly, NoStepIsFree};
     ghost use Rattle.ghc_core.specs.Core.{IsStanding};
 
     /// In each core, goals and store are the replay of the kept steps; the store is acyclic, and each variable of goals and
-    /// store is the query's or made by a kept step, and none is of the number that no step has; the journal tells what is kept
-    /// and what is on the shelf. This costs nothing.
+    /// store is the query's or made by a kept step, and none is of the number that no step has; each variable of the query has
+    /// a name, and no two have one name, but for `_`; the journal tells what is kept and what is on the shelf. This costs
+    /// nothing.
     pub fn stands(&self)
         ensures standing { IsStanding self.now.world }
         ensures replay { IsReplay self.now.world self.now.world.kept self.now.world.state }
         ensures well_made { IsWellMade self.now.world.opening.query self.now.world.kept self.now.world.state }
+        ensures named { AreNamesOf self.now.world.opening.query self.now.world.opening.names }
         ensures orderly { IsOrderly self.now.world }
         ensures no_step { NoStepIsFree self.now.world }
         ensures keeps { Keeps self.now.world.opening self.now.world.journal self.now.world.kept self.now.world.shelf }
@@ -39,7 +42,7 @@ impl Core {
     /// The query, with the names of its variables.
     pub fn query(&self) -> &Query
         ensures goals { result.now.goals ≡ self.now.world.opening.query }
-        ensures names { result.now.variables ≡ self.now.names }
+        ensures names { result.now.variables ≡ self.now.world.opening.names }
     {
         &self.query
     }

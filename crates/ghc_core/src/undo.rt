@@ -47,7 +47,6 @@ impl Core {
         ensures fault { IfErr result (λ f. (f ≡ Fault.Memory) ⊎ UndoFails self.old.world.kept number f) }
         ensures refused { (f : fault_spec) → UndoFails self.old.world.kept number f → result ≡ Err f }
         ensures err { OnErr result (self.new.world ≡ self.old.world) }
-        ensures names { self.new.names ≡ self.old.names }
         ensures meter { self.new.meter ≡ self.old.meter }
 
         // Goals and store are the replay of the record, and their variables are the query's or made by its steps.

@@ -23,5 +23,5 @@ pub record IsHistory (h : History) : Type 0 where
   pub next_number : (1 ≤ h.next) × (h.next ≤ number_limit)
 
 -- The opening of a query on which a history was loaded.
-abbrev pub loaded_opening : Program → Query → History → Opening
-loaded_opening P query h = record { program = P; query = query; steps = h.steps; next = h.next }
+abbrev pub loaded_opening : Program → Query → List (List ℕ) → History → Opening
+loaded_opening P query names h = record { program = P; query = query; names = names; steps = h.steps; next = h.next }

@@ -23,16 +23,17 @@ pub data Entry : Type 0 where
   redid : ℕ → Entry
   reordered : List ℕ → Entry
 
--- An opening: the program, the query, the steps that were loaded, and the number that the next step gets.
+-- An opening: the program, the query, the names of the query's variables by number, the steps that were loaded, and the number that the next step gets.
 pub record Opening : Type 0 where
   pub program : Program
   pub query : Query
+  pub names : List (List ℕ)
   pub steps : List Step
   pub next : ℕ
 
 -- The opening of a query where nothing was loaded.
-abbrev pub fresh_opening : Program → Query → Opening
-fresh_opening P query = record { program = P; query = query; steps = []; next = 1 }
+abbrev pub fresh_opening : Program → Query → List (List ℕ) → Opening
+fresh_opening P query names = record { program = P; query = query; names = names; steps = []; next = 1 }
 
 -- The journal that an opening begins with: an entry for each loaded step.
 abbrev pub opening_journal : Opening → List Entry

@@ -82,5 +82,8 @@ journal_code = coded_list entry_code
 
 abbrev pub opening_code : Coded Opening
 opening_code =
-    code_by (Program × (Query × (List Step × ℕ))) (coded× program_code (coded× (coded_list goal_code) (coded× (coded_list step_code) coded_ℕ)))
-    (λ o. (o.program, (o.query, (o.steps, o.next)))) (λ p. record { program = p.0; query = p.1.0; steps = p.1.1.0; next = p.1.1.1 }) (λ _. refl)
+    code_by (Program × (Query × (List (List ℕ) × (List Step × ℕ))))
+    (coded× program_code (coded× (coded_list goal_code) (coded× (coded_list (coded_list coded_ℕ)) (coded× (coded_list step_code) coded_ℕ))))
+    (λ o. (o.program, (o.query, (o.names, (o.steps, o.next)))))
+    (λ p. record { program = p.0; query = p.1.0; names = p.1.1.0; steps = p.1.1.1.0; next = p.1.1.1.1 })
+    (λ _. refl)

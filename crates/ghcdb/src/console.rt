@@ -19,7 +19,7 @@ fn run_on_device<L: Ledger, R: Wait, I: Read, O: Write + Drop>(
     core: Core,
     device: &mut Lines<I, O, L>,
 ) -> (Core, Result<(), Fault>)
-    ensures told { OnOk result.1 (Tells (Session core.names) core.world device.old.unread device.old.written device.new.written
+    ensures told { OnOk result.1 (Tells Session core.world device.old.unread device.old.written device.new.written
         (device.new.earlier - (device.old.earlier + device.old.latest)) result.0.world) }
     ensures held { OnOk result.1 (device.new.held ≡ []) }
     ensures fault { IfErr result.1 (λ fault. fault ≡ Fault.Device) }

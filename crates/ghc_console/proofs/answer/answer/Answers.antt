@@ -9,11 +9,11 @@ use Rattle.ghc_console.proofs.answer.answer.Goals as goal
 
 pub returns-in-Err-clause-reply : goal.returns-in-Err-clause-reply
 returns-in-Err-clause-reply c bytes says =
-    subst (λ v. IsReply c.args.core.now.world c.args.core.now.names bytes (refusal fault.Memory) v false) (sym c.in-Err.ensures.err) no_memory
+    subst (λ v. IsReply c.args.core.now.world bytes (refusal fault.Memory) v false) (sym c.in-Err.ensures.err) no_memory
 
 pub returns-in-Ok-refused-clause-reply : goal.returns-in-Ok-refused-clause-reply
 returns-in-Ok-refused-clause-reply c bytes says =
-    subst (λ t. IsReply c.args.core.now.world c.args.core.now.names bytes t c.args.core.now.world false) (sym c.in-Ok-refused.ensures.text)
+    subst (λ t. IsReply c.args.core.now.world bytes t c.args.core.now.world false) (sym c.in-Ok-refused.ensures.text)
     (too_long (subst (λ l. LineSays l bytes) c.in-TooLong.is says))
 
 pub returns-in-Err-refused-clause-reply : goal.returns-in-Err-refused-clause-reply

@@ -7,9 +7,8 @@ use Rattle.ghc_console.proofs.answer.execute_line.Goals as goal
 pub returns-in-Ok-execute-clause-ok : goal.returns-in-Ok-execute-clause-ok
 returns-in-Ok-execute-clause-ok c short =
     let w = c.args.core.now.world in
-    let names = c.args.core.now.names in
-    subst (IsReply w names c.args.line.now c.in-Ok-execute.text.items c.execute.new.core.world) (sym (c.is_quit-ended.ensures ∙ ap quits c.in-Ok.ensures))
-    (replies short (subst (λ k. Replies w names k c.in-Ok-execute.text.items c.execute.new.core.world) c.in-Ok.ensures c.in-Ok-execute.ensures.reply))
+    subst (IsReply w c.args.line.now c.in-Ok-execute.text.items c.execute.new.core.world) (sym (c.is_quit-ended.ensures ∙ ap quits c.in-Ok.ensures))
+    (replies short (subst (λ k. Replies w k c.in-Ok-execute.text.items c.execute.new.core.world) c.in-Ok.ensures c.in-Ok-execute.ensures.reply))
 
 pub returns-in-Err-clause-fires : goal.returns-in-Err-clause-fires
 returns-in-Err-clause-fires c = fires_nothing _ _ _ refl

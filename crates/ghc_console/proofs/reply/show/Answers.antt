@@ -9,7 +9,7 @@ use Rattle.ghc_console.proofs.reply.show.Goals as goal
 
 pub returns-in_default : goal.returns-in_default
 returns-in_default c = if_ok c.refused.result c.refused.ensures.text c.refused.ensures.memory (λ t told kept.
-    subst (RepliesToShow c.args.core.now.world c.args.core.now.names c.args.word.now) (sym told) (no_variable c.in_default.ensures.none))
+    subst (RepliesToShow c.args.core.now.world c.args.word.now) (sym told) (no_variable c.in_default.ensures.none))
 
 pub returns-in-Ok : goal.returns-in-Ok
 returns-in-Ok c = if_ok c.shown.result c.shown.ensures c.shown.ensures (λ t told _.
@@ -19,12 +19,12 @@ returns-in-Ok c = if_ok c.shown.result c.shown.ensures c.shown.ensures (λ t tol
     (subst (λ (u : Tree). IsTextOf (value_at c.store.result.now.held) u (string_bytes c.in-Ok.term)) c.variable-variable.ensures c.in-Ok.ensures.text) in
     let same : t.items ≡ lined (c.args.word.now ++ (codes " = " ++ string_bytes c.in-Ok.term)) =
     told ∙ ap (λ (l : List ℕ). lined (c.args.word.now ++ (codes " = " ++ l))) c.as_str.ensures.value in
-    subst (RepliesToShow w c.args.core.now.names c.args.word.now) (sym same) (shows c.in-Some.x (string_bytes c.in-Ok.term) c.in-Some.ensures.found text c.in-Ok.ensures.short))
+    subst (RepliesToShow w c.args.word.now) (sym same) (shows c.in-Some.x (string_bytes c.in-Ok.term) c.in-Some.ensures.found text c.in-Ok.ensures.short))
 
 pub returns : goal.returns
 returns c = if_ok c.refused-in-Err.result c.refused-in-Err.ensures.text c.refused-in-Err.ensures.memory (λ t told kept.
     let w = c.args.core.now.world in
-    printed_refused w c.args.core.now.names c.args.word.now c.in-Some.x c.in-Err.fault t.items c.in-Some.ensures.found c.in-Err.ensures.refused
+    printed_refused w c.args.word.now c.in-Some.x c.in-Err.fault t.items c.in-Some.ensures.found c.in-Err.ensures.refused
     (λ q.
     let long = c.print.ensures.too_long (c.in-Err.is ∙ ap Err q) in (
       long.0,

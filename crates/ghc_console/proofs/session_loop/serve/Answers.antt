@@ -9,6 +9,6 @@ returns-clause-served g c = λ bytes says.
     record {
       text = c.bytes_of.result.now;
       ended = ended;
-      reply = subst (λ t. IsReply c.args.core.now.world c.args.core.now.names bytes t c.answer-reply.new.core.world ended) (sym c.bytes_of.ensures) reply;
+      reply = subst (λ t. IsReply c.args.core.now.world bytes t c.answer-reply.new.core.world ended) (sym c.bytes_of.ensures) reply;
       written = c.in-Err.ensures.bytes;
     }

@@ -1,4 +1,4 @@
-use Rattle.std.proofs.Common.{◌∙◌, arith, refl, rules, sym, subst, true, false}
+use Rattle.std.proofs.Common.{◌∙◌, arith, refl, rules, sym, subst}
 use Rattle.ghc_console.specs.Replies.{IsReply}
 use Rattle.std.proofs.KnownBytes.{prepend_known-nil}
 use Rattle.ghc_console.proofs.SessionFirings.{fired_start, fired_on, fired_end}
@@ -6,40 +6,38 @@ use Rattle.ghc_console.proofs.SessionLoop.{going_asked, going_on, going_end, goi
 use Rattle.ghc_console.proofs.session_loop.session.Goals as goal
 
 pub loop-init : goal.loop-init
-loop-init g c = (tt, tt, rw c.new-ahead.ensures (going_start _ _ _ _ _ (omega arith)), refl, refl, rw (c.new-ahead.ensures, prepend_known-nil _) (fired_start _ _), given_start _ _)
+loop-init g c = (tt, tt, rw c.new-ahead.ensures (going_start _ _ _ _ (omega arith)), refl, refl, rw (c.new-ahead.ensures, prepend_known-nil _) (fired_start _ _), given_start _ _)
 
 pub returns-in-Err-clause-text : goal.returns-in-Err-clause-text
 returns-in-Err-clause-text g c =
     let read = c.in-Err.ensures in
-    broken_read _ _ _ _ _ _ _ _ _ (going_asked _ _ _ _ _ _ _ _ _ _ _ _ c.loop.invariant.2 c.loop.invariant.6 read.asks) read.written
+    broken_read _ _ _ _ _ _ _ _ (going_asked _ _ _ _ _ _ _ _ _ _ _ c.loop.invariant.2 c.loop.invariant.6 read.asks) read.written
 
 pub returns-in-Ok-None-clause-text : goal.returns-in-Ok-None-clause-text
 returns-in-Ok-None-clause-text g c =
     let read = c.in-Ok-None.ensures in
     let end = rw c.in-Ok-None.field-0-is at read.line in
-    let so_far = going_asked _ _ _ _ _ _ _ _ _ _ _ _ c.loop.invariant.2 c.loop.invariant.6 read.asks in
-    going_end _ _ _ _ _ _ _ _ _ so_far end.0 read.written
+    let so_far = going_asked _ _ _ _ _ _ _ _ _ _ _ c.loop.invariant.2 c.loop.invariant.6 read.asks in
+    going_end _ _ _ _ _ _ _ _ so_far end.0 read.written
 
 pub returns-in-Err-serve-clause-text : goal.returns-in-Err-serve-clause-text
 returns-in-Err-serve-clause-text g c =
     let d = g.D.Device in
     let read = c.in-Ok-Some.ensures in
     let taken = rw c.in-Ok-Some.field-0-is at read.line in
-    let names = c.loop.invariant.4 in
-    let so_far = going_asked _ _ _ _ _ _ _ _ _ _ _ _ c.loop.invariant.2 c.loop.invariant.6 read.asks in
-    rw c.in-Err-serve.ensures.earlier (broken_write _ _ _ _ _ _ _ _ _ _ _ _ so_far taken (λ bytes says.
+    let so_far = going_asked _ _ _ _ _ _ _ _ _ _ _ c.loop.invariant.2 c.loop.invariant.6 read.asks in
+    rw c.in-Err-serve.ensures.earlier (broken_write _ _ _ _ _ _ _ _ _ _ _ so_far taken (λ bytes says.
     let s = c.in-Err-serve.ensures.served bytes says in
-    (s.text, s.ended, subst (λ n. IsReply c.loop.core.world n bytes s.text c.serve.new.core.world s.ended) names s.reply, (s.written.0, kept_then _ _ _ _ read.written s.written.1))))
+    (s.text, s.ended, s.reply, (s.written.0, kept_then _ _ _ _ read.written s.written.1))))
 
 pub returns-in-Ok-true-clause-text : goal.returns-in-Ok-true-clause-text
 returns-in-Ok-true-clause-text g c =
     let read = c.in-Ok-Some.ensures in
     let taken = rw c.in-Ok-Some.field-0-is at read.line in
-    let names = c.loop.invariant.4 in
-    let so_far = going_asked _ _ _ _ _ _ _ _ _ _ _ _ c.loop.invariant.2 c.loop.invariant.6 read.asks in
-    rw c.in-Ok-true.ensures.earlier (going_quit _ _ _ _ _ _ _ _ _ _ _ _ so_far taken (λ bytes says.
+    let so_far = going_asked _ _ _ _ _ _ _ _ _ _ _ c.loop.invariant.2 c.loop.invariant.6 read.asks in
+    rw c.in-Ok-true.ensures.earlier (going_quit _ _ _ _ _ _ _ _ _ _ _ so_far taken (λ bytes says.
     let s = c.in-Ok-true.ensures.served bytes says in
-    (s.text, subst (λ n. IsReply c.loop.core.world n bytes s.text c.serve.new.core.world true) names (subst (λ b. IsReply c.loop.core.world c.loop.core.names bytes s.text c.serve.new.core.world b) (sym s.written.0 ∙ c.in-Ok-true.field-0-test) s.reply), kept_then _ _ _ _ read.written s.written.1)))
+    (s.text, subst (IsReply c.loop.core.world bytes s.text c.serve.new.core.world) (sym s.written.0 ∙ c.in-Ok-true.field-0-test) s.reply, kept_then _ _ _ _ read.written s.written.1)))
 
 pub loop-preserved : goal.loop-preserved
 loop-preserved g c =
@@ -47,16 +45,15 @@ loop-preserved g c =
     let read = c.in-Ok-Some.ensures in
     let taken = rw c.in-Ok-Some.field-0-is at read.line in
     let served = c.in-Ok-false.ensures in
-    let names = c.loop.invariant.4 in
-    let so_far = going_asked _ _ _ _ _ _ _ _ _ _ _ _ c.loop.invariant.2 c.loop.invariant.6 read.asks in
+    let so_far = going_asked _ _ _ _ _ _ _ _ _ _ _ c.loop.invariant.2 c.loop.invariant.6 read.asks in
     let given = given_kept _ _ _ _ _ (given_then _ _ _ _ _ _ c.loop.invariant.6 read.given) served.unread in (
       tt,
       tt,
-      rw served.earlier (going_on _ _ _ _ _ _ _ _ _ _ _ _ so_far (taken_kept _ c.next_line.new.self _ _ _ taken served.unread) (λ bytes says.
+      rw served.earlier (going_on _ _ _ _ _ _ _ _ _ _ _ so_far (taken_kept _ c.next_line.new.self _ _ _ taken served.unread) (λ bytes says.
           let s = served.served bytes says in
-          (s.text, subst (λ n. IsReply c.loop.core.world n bytes s.text c.serve.new.core.world false) names (subst (λ b. IsReply c.loop.core.world c.loop.core.names bytes s.text c.serve.new.core.world b) (sym s.written.0 ∙ c.in-Ok-false.field-0-test) s.reply), kept_then _ _ _ _ read.written s.written.1))),
+          (s.text, subst (IsReply c.loop.core.world bytes s.text c.serve.new.core.world) (sym s.written.0 ∙ c.in-Ok-false.field-0-test) s.reply, kept_then _ _ _ _ read.written s.written.1))),
       search rules,
-      served.names ∙ names,
+      served.opening ∙ c.loop.invariant.4,
       fired_on _ _ _ _ _ _ _ c.loop.invariant.5 (taken_kept _ c.next_line.new.self _ _ _ taken served.unread) served.fires,
       rw (served.earlier, served.latest) given,
     )

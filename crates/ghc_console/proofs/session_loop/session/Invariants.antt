@@ -11,8 +11,8 @@ invariant-loop g l =
     let it = goal.iterator-loop g in
     let first = d.earlier l.initial.device + d.latest l.initial.device in
     it.can_next l.iterator' × it.is_finite l.iterator'
-    × Going l.initial.core.names l.initial.core.world l.core.world (d.unread l.initial.device) (prepend_known l.ahead (d.unread l.device)) (d.written l.initial.device) (d.written l.device)
+    × Going l.initial.core.world l.core.world (d.unread l.initial.device) (prepend_known l.ahead (d.unread l.device)) (d.written l.initial.device) (d.written l.device)
     (d.earlier l.device - first)
-    × (d.failures l.device ≡ d.failures l.initial.device) × (l.core.names ≡ l.initial.core.names)
+    × (d.failures l.device ≡ d.failures l.initial.device) × (l.core.world.opening ≡ l.initial.core.world.opening)
     × FiredSo (d.unread l.initial.device) (prepend_known l.ahead (d.unread l.device)) l.initial.core.meter l.core.meter
     × CountsGiven (d.unread l.initial.device) (d.unread l.device) first (d.earlier l.device + d.latest l.device)

@@ -11,7 +11,7 @@ use Rattle.ghc_core.proofs.core_state.Core.add.Goals as goal
 
 -- the world before the step
 abbrev before : goal.After-self-1 → World
-before c = record { opening = fresh_opening c.self.inside.program c.self.inside.query.goals; state = c.self.inside.state.held; kept = c.self.inside.records.held; shelf = c.self.inside.shelf.held; next = c.self.inside.next; journal = c.self.inside.journal.held }
+before c = record { opening = fresh_opening c.self.inside.program c.self.inside.query.goals c.self.inside.query.variables; state = c.self.inside.state.held; kept = c.self.inside.records.held; shelf = c.self.inside.shelf.held; next = c.self.inside.next; journal = c.self.inside.journal.held }
 
 pub take-step-requires-clause-acyclic : goal.take-step-requires-clause-acyclic
 take-step-requires-clause-acyclic c =
@@ -28,10 +28,10 @@ put-requires-clause-new c r i same =
 
 -- the world that is left is the one with the step
 left : (c : goal.After-self-1)
-    → record { opening = fresh_opening c.self.inside.program c.self.inside.query.goals; state = c.take-step.new.self.held; kept = c.put.new.self.held; shelf = c.self.inside.shelf.held; next = c.self.inside.next + 1; journal = c.put-2.new.self.held }
+    → record { opening = fresh_opening c.self.inside.program c.self.inside.query.goals c.self.inside.query.variables; state = c.take-step.new.self.held; kept = c.put.new.self.held; shelf = c.self.inside.shelf.held; next = c.self.inside.next + 1; journal = c.put-2.new.self.held }
     ≡ with_step c.args.addition (before c)
 left c =
-    same_world (fresh_opening c.self.inside.program c.self.inside.query.goals) (c.self.inside.next + 1) c.take-step.ensures.state
+    same_world (fresh_opening c.self.inside.program c.self.inside.query.goals c.self.inside.query.variables) (c.self.inside.next + 1) c.take-step.ensures.state
     (c.put.ensures.held ∙ ap (λ (r : Record). c.self.inside.records.held ++ r ∷ []) c.take-step.ensures.record) refl
     (c.put-2.ensures.held ∙ ap (λ e. c.self.inside.journal.held ++ e ∷ []) c.take-step.ensures.entry)
 

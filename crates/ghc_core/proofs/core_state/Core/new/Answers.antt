@@ -11,10 +11,10 @@ pub invariant_of-result : goal.invariant_of-result
 invariant_of-result c =
     let accepted : IsProgram c.args.program = c.clauses-clauses.ensures.program in
     let state : c.in_ok-state.state.held ≡ query_state c.args.query.goals = c.in_ok-state.ensures ∙ ap query_state c.goals.ensures.same in
-    let same : fresh_world c.args.program c.args.query.goals
-    ≡ record { opening = fresh_opening c.args.program c.args.query.goals; state = c.in_ok-state.state.held; kept = c.new.result.held; shelf = c.new-2.result.held; next = 1; journal = c.new-3.result.held } =
+    let same : fresh_world c.args.program c.args.query.goals c.args.query.variables
+    ≡ record { opening = fresh_opening c.args.program c.args.query.goals c.args.query.variables; state = c.in_ok-state.state.held; kept = c.new.result.held; shelf = c.new-2.result.held; next = 1; journal = c.new-3.result.held } =
     let kept : c.new.result.held ≡ [] = c.new.ensures in
     let shelf : c.new-2.result.held ≡ finite.empty = c.new-2.ensures in
     let journal : c.new-3.result.held ≡ [] = c.new-3.ensures in
     cc in
-    subst IsStanding same (fresh_stands c.args.program c.args.query.goals accepted c.requires)
+    subst IsStanding same (fresh_stands c.args.program c.args.query.goals c.args.query.variables accepted c.requires (record { named = c.goals.ensures.well_asked.named; apart = c.goals.ensures.well_asked.apart }))

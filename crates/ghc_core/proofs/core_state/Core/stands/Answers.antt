@@ -1,6 +1,6 @@
 use Rattle.std.proofs.Common.{subst}
 use Rattle.ghc_core.specs.Core.{Core, IsStanding}
-use Rattle.ghc_core.proofs.Standing.{standing_replay, standing_well_made, standing_orderly, standing_apart, standing_keeps}
+use Rattle.ghc_core.proofs.Standing.{standing_replay, standing_well_made, standing_named, standing_orderly, standing_apart, standing_keeps}
 use Rattle.ghc_core.proofs.core_state.Core.stands.Goals as goal
 
 pub returns-clause-standing : goal.returns-clause-standing
@@ -11,6 +11,9 @@ returns-clause-replay c = standing_replay c.args.self.now.world (returns-clause-
 
 pub returns-clause-well_made : goal.returns-clause-well_made
 returns-clause-well_made c = standing_well_made c.args.self.now.world (returns-clause-standing c)
+
+pub returns-clause-named : goal.returns-clause-named
+returns-clause-named c = standing_named c.args.self.now.world (returns-clause-standing c)
 
 pub returns-clause-orderly : goal.returns-clause-orderly
 returns-clause-orderly c = standing_orderly c.args.self.now.world (returns-clause-standing c)
