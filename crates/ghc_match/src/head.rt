@@ -90,7 +90,7 @@ pub fn match_head(
 {
     let mut met = Met {
         clashes: false,
-        stands: Bindings::new(alloc),
+        stands: Bindings::with_capacity(alloc, clause.head_variables() as usize)?,
         wanted: Variables::new(alloc),
         looked: Variables::new(alloc),
     };

@@ -77,6 +77,11 @@ equivalence = record {
 pub one_more : (xs ys : List VarName) (x : VarName) → AreDifferent xs → ¬ In x xs → ys ≡ xs ++ x ∷ [] → AreDifferent ys
 one_more xs ys x a n e = subst AreDifferent (sym e) (IsDistinct-push equivalence xs x a (not_any xs x n))
 
+pub nothing : (xs : List VarName) → xs ≡ [] → AreDifferent xs
+unfolding IsDistinct
+nothing [] e = tt
+nothing (x ∷ xs) e = cc
+
 pub one_alone : (x : VarName) → AreDifferent (x ∷ [])
 unfolding IsDistinct
 one_alone x = (tt, tt)

@@ -57,6 +57,16 @@ impl Bindings {
         }
     }
 
+    /// No bindings, with room for so many.
+    pub fn with_capacity(alloc: Global, count: usize) -> Result<Bindings, AllocError>
+        ensures { IfOk result (λ b. b ≡ finite.empty) }
+    {
+        Ok(Bindings {
+            names: VariableList::with_capacity(alloc, count)?,
+            entries: Vec::with_capacity(alloc, count)?,
+        })
+    }
+
     /// What the variable is bound to: one look-up.
     pub fn get(&self, x: VarName) -> Option<&Term>
         ensures { option_copied result ≡ value_at self.now x }

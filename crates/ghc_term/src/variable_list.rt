@@ -68,6 +68,19 @@ impl VariableList {
         }
     }
 
+    // No variables, with room for a few.
+    pub fn with_capacity(alloc: Global, count: usize) -> Result<VariableList, AllocError>
+        ensures { IfOk result (λ list. list ≡ []) }
+    {
+        if count < 2 {
+            return Ok(VariableList::new(alloc));
+        }
+        let list = Vec::with_capacity(alloc, count.min(MOST_LISTED))?;
+        Ok(VariableList {
+            held: Held::Listed(list),
+        })
+    }
+
     // The variables.
     pub fn as_slice(&self) -> &[VarName]
         ensures variables { result.now ≡ self.now }
