@@ -94,3 +94,7 @@ placed None xs x f n =
       | true ↦ λ e. absurd (n (set_in x xs e))
       | false ↦ λ e. refl
     ] refl
+
+pub is_there : (o : Option ℕ) (xs : List VarName) (x : VarName) → is_some o ≡ true → IfSome o (λ i. slice_get xs i ≡ Some x) → In x xs
+is_there None xs x e f = cc
+is_there (Some i) xs x e f = in_at xs i x f

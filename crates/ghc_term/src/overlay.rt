@@ -7,8 +7,8 @@ use crate::bindings::Bindings;
 use crate::store::Store;
 use crate::term::Term;
 use crate::var_name::VarName;
+use crate::variable_list::VariableList;
 use crate::view::TermView;
-use indexmap::IndexSet;
 use std::alloc::{AllocError, Global};
 
 /// A store with some bindings in front of it, in which no value reaches its own variable.
@@ -92,14 +92,15 @@ impl<'a> Overlay<'a> {
     fn see(
         &self,
         x: VarName,
-        seen: &mut IndexSet<VarName>,
+        seen: &mut VariableList,
         waiting: &mut Vec<&'a Term>,
     ) -> Result<(), AllocError>
-        ensures { OnOk result (Sees (value_in self.now) x seen.old.keys seen.new.keys (map (λ t. t.now) waiting.old.items) (map (λ t. t.now) waiting.new.items)) }
+        ensures { OnOk result (Sees (value_in self.now) x seen.old seen.new (map (λ t. t.now) waiting.old.items) (map (λ t. t.now) waiting.new.items)) }
     {
-        if !seen.insert(x)? {
+        if seen.place_of(x).is_some() {
             return Ok(());
         }
+        seen.push(x)?;
         if let Some(value) = self.get(x) {
             waiting.push(value)?;
         }
@@ -112,9 +113,9 @@ impl<'a> Overlay<'a> {
         alloc: Global,
         from: &'a Term,
         to: VarName,
-        seen: &mut IndexSet<VarName>,
+        seen: &mut VariableList,
     ) -> Result<bool, AllocError>
-        requires { seen.old.keys ≡ [] }
+        requires { seen.old ≡ [] }
         ensures { IfOk result (λ yes. IsTrue yes ↔ Reaches (value_in self.now) from.now to) }
     {
         let mut waiting = Vec::new(alloc);
@@ -142,7 +143,7 @@ impl<'a> Overlay<'a> {
     pub fn reaches(&self, alloc: Global, from: &'a Term, to: VarName) -> Result<bool, AllocError>
         ensures { IfOk result (λ yes. IsTrue yes ↔ Reaches (value_in self.now) from.now to) }
     {
-        let mut seen = IndexSet::new(alloc);
+        let mut seen = VariableList::new(alloc);
         self.search(alloc, from, to, &mut seen)
     }
 }

@@ -5,7 +5,7 @@ use Rattle.ghc_term.proofs.Searching.{Searching, sizes}
 use Rattle.ghc_term.proofs.overlay.Overlay.search.Given as goal
 
 abbrev pub invariant-loop-term : goal.invariant-loop-term
-invariant-loop-term l = Searching (value_in l.self) l.to l.from l.seen.keys (map (λ t. t.now) l.waiting.items)
+invariant-loop-term l = Searching (value_in l.self) l.to l.from l.seen (map (λ t. t.now) l.waiting.items)
 
 abbrev pub decreases-loop-term : goal.decreases-loop-term
 decreases-loop-term l = sizes (all_bound l.self) (map (λ t. t.now) l.waiting.items)
