@@ -1,6 +1,8 @@
 // Steps to be taken, each with all that this takes.
-ghost use Rattle.std.specs.Prelude.{◌≡◌, IfOk};
+ghost use Rattle.std.specs.Prelude.{◌≡◌, length, IfOk};
 ghost use Rattle.std.specs.FinMap as finite;
+ghost use Rattle.ghc_records.specs.Journal.{took, step_of};
+ghost use Rattle.ghc_records.specs.EntryCode.{entry_of};
 ghost use Rattle.ghc_records.specs.State.{AreBindings};
 
 use crate::entry::Entry;
@@ -11,13 +13,24 @@ use std::marker::Model;
 
 /// The record of a step that is to be taken, its entry in the journal, and handles of the goals that it makes and of the terms
 /// to which it binds variables. To take it takes no memory but room in each table.
-#[derive(Drop)]
 pub struct Addition {
-    pub(crate) step: Record,
-    pub(crate) entry: Entry,
-    pub(crate) makes: Vec<Goal>,
-    pub(crate) made: u32,
-    pub(crate) binds: Vec<(VarName, Term)>,
+    step: Record,
+    entry: Entry,
+    makes: Vec<Goal>,
+    made: u32,
+    binds: Vec<(VarName, Term)>,
+}
+
+impl Drop for Addition {
+    fn drop(self) {
+        let Addition {
+            step: _step,
+            entry: _entry,
+            makes: _makes,
+            made: _,
+            binds: _binds,
+        } = self;
+    }
 }
 
 impl Model for Addition {
@@ -87,5 +100,23 @@ impl Addition {
         ensures { result.now ≡ self.now }
     {
         &self.step
+    }
+
+    // The record, its entry, the goals that the step makes, how many they are, and its bindings.
+    pub(crate) fn into_parts(self) -> (Record, Entry, Vec<Goal>, u32, Vec<(VarName, Term)>)
+        ensures record { result.0 ≡ self }
+        ensures entry { entry_of result.1 ≡ took (step_of self) }
+        ensures makes { result.2.items ≡ self.effect.makes }
+        ensures made { result.3 ≡ length self.effect.makes }
+        ensures binds { AreBindings result.4.items self.effect.binds }
+    {
+        let Addition {
+            step,
+            entry,
+            makes,
+            made,
+            binds,
+        } = self;
+        (step, entry, makes, made, binds)
     }
 }

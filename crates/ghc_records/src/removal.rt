@@ -8,11 +8,20 @@ use std::marker::Model;
 
 /// The record of a step that is to be taken away, a handle of the goal that it consumed, and how many goals it made. To take it
 /// away takes no memory but the room for an entry in each table.
-#[derive(Drop)]
 pub struct Removal {
     step: Record,
     consumed: Option<Goal>,
     made: u32,
+}
+
+impl Drop for Removal {
+    fn drop(self) {
+        let Removal {
+            step: _step,
+            consumed: _consumed,
+            made: _,
+        } = self;
+    }
 }
 
 impl Model for Removal {
@@ -59,6 +68,11 @@ impl Removal {
         ensures consumed { result.1 ≡ self.consumed }
         ensures made { result.2 ≡ length self.effect.makes }
     {
-        (self.step, self.consumed, self.made)
+        let Removal {
+            step,
+            consumed,
+            made,
+        } = self;
+        (step, consumed, made)
     }
 }

@@ -98,13 +98,7 @@ impl State {
         ensures entry { entry_of result.1 ≡ took (step_of addition) }
         ensures state { self.new.held ≡ after self.old.held addition }
     {
-        let Addition {
-            step,
-            entry,
-            makes,
-            made,
-            binds,
-        } = addition;
+        let (step, entry, makes, made, binds) = addition.into_parts();
         consume_goal(&mut self.goals, step.goal());
         make_goals(&mut self.goals, step.number(), makes, made);
         self.store.put(binds);

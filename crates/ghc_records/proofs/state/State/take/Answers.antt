@@ -13,17 +13,19 @@ same_state g h s t p q i = record { goals = p i; store = q i }
 
 pub put-requires-clause-acyclic : goal.put-requires-clause-acyclic
 put-requires-clause-acyclic c =
-    let step = c.addition.inside.step in
-    let acyclic = subst (λ (r : Record). IsAcyclic (value_at (after (record { goals = c.self.inside.goals.held; store = c.self.inside.store.held }) r).store)) (sym c.addition.view_is)
-    (subst (λ (t : StateTables). IsAcyclic (value_at (after t.held c.args.addition).store)) (sym c.self.view_is) c.requires.acyclic) in
-    subst (λ s. IsAcyclic (value_at s)) (sym (as_entries c.addition.inside.binds.items step.effect.binds c.self.inside.store.held c.addition.invariant.3.0)) acyclic
+    let parts = c.into_parts-step.ensures in
+    let acyclic = subst (λ (t : StateTables). IsAcyclic (value_at (after t.held c.args.addition).store)) (sym c.self.view_is) c.requires.acyclic in
+    subst (λ s. IsAcyclic (value_at s)) (sym (as_entries c.into_parts-step.result.4.items c.args.addition.effect.binds c.self.inside.store.held parts.binds.0)) acyclic
 
 pub returns-clause-state : goal.returns-clause-state
 returns-clause-state c =
-    let step = c.addition.inside.step in
-    let goals : c.make_goals.new.goals.held ≡ with_makes step.number 1 step.effect.makes (without_goal step.goal c.self.inside.goals.held) =
-    c.make_goals.ensures ∙ ap (λ n. with_makes n 1 c.addition.inside.makes.items c.consume_goal.new.goals.held) c.number.ensures
-    ∙ ap (λ l. with_makes step.number 1 l c.consume_goal.new.goals.held) c.addition.invariant.1
-    ∙ ap (with_makes step.number 1 step.effect.makes) (c.consume_goal.ensures.held ∙ ap (λ o. without_goal o c.self.inside.goals.held) c.goal.ensures) in
-    let store = c.put.ensures ∙ as_entries c.addition.inside.binds.items step.effect.binds c.self.inside.store.held c.addition.invariant.3.0 in
-    same_state _ _ _ _ goals store ∙ ap (λ (t : StateTables). after t.held step) c.self.view_is ∙ ap (after c.args.self.now.held) c.addition.view_is
+    let parts = c.into_parts-step.ensures in
+    let r = c.args.addition in
+    let number = c.number.ensures ∙ ap (λ (q : Record). q.number) parts.record in
+    let goal = c.goal.ensures ∙ ap (λ (q : Record). q.goal) parts.record in
+    let goals : c.make_goals.new.goals.held ≡ with_makes r.number 1 r.effect.makes (without_goal r.goal c.self.inside.goals.held) =
+    c.make_goals.ensures ∙ ap (λ n. with_makes n 1 c.into_parts-step.result.2.items c.consume_goal.new.goals.held) number
+    ∙ ap (λ l. with_makes r.number 1 l c.consume_goal.new.goals.held) parts.makes
+    ∙ ap (with_makes r.number 1 r.effect.makes) (c.consume_goal.ensures.held ∙ ap (λ o. without_goal o c.self.inside.goals.held) goal) in
+    let store = c.put.ensures ∙ as_entries c.into_parts-step.result.4.items r.effect.binds c.self.inside.store.held parts.binds.0 in
+    same_state _ _ _ _ goals store ∙ ap (λ (t : StateTables). after t.held r) c.self.view_is
