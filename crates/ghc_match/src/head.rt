@@ -88,9 +88,10 @@ pub fn match_head(
     ensures wanted { IfOk result (λ met. IsSetOf met.wanted (HeadWants clause.now arguments.now (value_at store.now.held))) }
     ensures looked { IfOk result (λ met. IsSetOf met.looked (HeadLooksAt clause.now arguments.now (value_at store.now.held))) }
 {
+    let stands = Bindings::with_capacity(alloc, clause.head_variables() as usize)?;
     let mut met = Met {
         clashes: false,
-        stands: Bindings::with_capacity(alloc, clause.head_variables() as usize)?,
+        stands,
         wanted: Variables::new(alloc),
         looked: Variables::new(alloc),
     };

@@ -19,8 +19,8 @@ loop-head-init c =
     record {
       done = [];
       walked = subst (Walked S hs ts []) (sym first) (walk_begins S hs ts);
-      seen = seen_nothing S c.new.result c.new-2.result c.new-3.result c.new.ensures c.new-2.ensures c.new-3.ensures;
-      fresh = subst (IsFresh c.new.result) (sym first) (fresh_first hs ts c.new.result c.requires c.new.ensures);
+      seen = seen_nothing S c.in_ok-stands.stands c.new.result c.new-2.result c.in_ok-stands.ensures c.new.ensures c.new-2.ensures;
+      fresh = subst (IsFresh c.in_ok-stands.stands) (sym first) (fresh_first hs ts c.in_ok-stands.stands c.requires c.in_ok-stands.ensures);
     }
 
 pub loop-head-smaller : goal.loop-head-smaller
