@@ -1,39 +1,50 @@
-// The texts of steps and of records.
+// The texts of steps and of records. Where memory is refused, what `write_..` writes may be a part of its text.
 ghost use Rattle.std.specs.Prelude.{◌≡◌, ◌++◌, List, ℕ, map, IfOk, OnOk, is_ok, if◌then◌else◌, string_bytes};
 ghost use Rattle.std.specs.FinSet as set;
 ghost use Rattle.std.specs.FinMap as finite;
-ghost use Rattle.ghc_term.specs.Text.{variable_text};
+ghost use Rattle.std.specs.Io.{StartsWith};
 ghost use Rattle.ghc_records.specs.Journal.{step_of};
 ghost use Rattle.ghc_records.specs.StepText.{goal_name_text, act_text, consumed_text, step_text, by_name, variables_text, binding_text, bindings_text, makes_text, record_text};
 
 use crate::record::Record;
 use crate::step::Step;
 use ghc_fire::{Act, Effect};
-use ghc_term::{Bindings, GoalName, Term, VarName, Variables, push_written};
+use ghc_term::{
+    Bindings, GoalName, Term, VarName, Variables, end_of, or_cut_back, push_number, push_variable,
+    push_written,
+};
 use std::alloc::{AllocError, Global};
 use std::collections::{BTreeMap, BTreeSet};
 
-// Puts the text at the end of `out`, which stays as it was where memory is refused.
-fn append(text: String, out: &mut String) -> Result<(), AllocError>
-    ensures { string_bytes out.new ≡ (if is_ok result then string_bytes out.old ++ string_bytes text else string_bytes out.old) }
+// Writes the name of a goal.
+fn write_goal_name(name: GoalName, out: &mut String) -> Result<(), AllocError>
+    ensures text { OnOk result (string_bytes out.new ≡ string_bytes out.old ++ goal_name_text name) }
+    ensures begun { StartsWith (string_bytes out.new) (string_bytes out.old) }
 {
-    out.push_str(text.as_str())
+    push_number(name.step, out)?;
+    out.push_str(".")?;
+    push_number(name.place, out)
 }
 
 /// Writes the name of a goal at the end of `out`, `n.m`, which stays as it was where memory is refused: one step.
 pub fn push_goal_name(name: GoalName, out: &mut String) -> Result<(), AllocError>
     ensures { string_bytes out.new ≡ (if is_ok result then string_bytes out.old ++ goal_name_text name else string_bytes out.old) }
 {
-    let text = format!(in *out.allocator(); "{}.{}", name.step, name.place)?;
-    append(text, out)
+    let length = end_of(out);
+    let written = write_goal_name(name, out);
+    or_cut_back(out, length, written)
 }
 
-// Writes an act at the end of `out`.
+// Writes an act.
 fn write_act(act: &Act, out: &mut String) -> Result<(), AllocError>
-    ensures { OnOk result (string_bytes out.new ≡ string_bytes out.old ++ act_text act.now) }
+    ensures text { OnOk result (string_bytes out.new ≡ string_bytes out.old ++ act_text act.now) }
+    ensures begun { StartsWith (string_bytes out.new) (string_bytes out.old) }
 {
     match act {
-        Act::ByClause(number) => write!(out, "by {number}"),
+        Act::ByClause(number) => {
+            out.push_str("by ")?;
+            push_number(*number, out)
+        }
         Act::Unified => out.push_str("eq"),
         Act::Assigned => out.push_str("is"),
         Act::Given(input) => {
@@ -49,37 +60,39 @@ fn write_act(act: &Act, out: &mut String) -> Result<(), AllocError>
 pub fn push_act(act: &Act, out: &mut String) -> Result<(), AllocError>
     ensures { string_bytes out.new ≡ (if is_ok result then string_bytes out.old ++ act_text act.now else string_bytes out.old) }
 {
-    let mut text = String::new(*out.allocator());
-    write_act(act, &mut text)?;
-    append(text, out)
+    let length = end_of(out);
+    let written = write_act(act, out);
+    or_cut_back(out, length, written)
 }
 
 // Writes the name of the goal that a step consumed, or `-` where it consumed none, and a space behind it.
-fn push_consumed(goal: Option<GoalName>, out: &mut String) -> Result<(), AllocError>
-    ensures { OnOk result (string_bytes out.new ≡ string_bytes out.old ++ consumed_text goal) }
+fn write_consumed(goal: Option<GoalName>, out: &mut String) -> Result<(), AllocError>
+    ensures text { OnOk result (string_bytes out.new ≡ string_bytes out.old ++ consumed_text goal) }
+    ensures begun { StartsWith (string_bytes out.new) (string_bytes out.old) }
 {
     match goal {
         Some(name) => {
-            push_goal_name(name, out)?;
+            write_goal_name(name, out)?;
             out.push_str(" ")
         }
         None => out.push_str("- "),
     }
 }
 
-// The text of the step of these parts.
-fn parts_text(
-    alloc: Global,
+// Writes the step of these parts.
+fn write_step(
     number: u32,
     goal: Option<GoalName>,
     act: &Act,
-) -> Result<String, AllocError>
-    ensures { IfOk result (λ text. string_bytes text ≡ step_text (record { number = number; goal = goal; act = act.now })) }
+    out: &mut String,
+) -> Result<(), AllocError>
+    ensures text { OnOk result (string_bytes out.new ≡ string_bytes out.old ++ step_text (record { number = number; goal = goal; act = act.now })) }
+    ensures begun { StartsWith (string_bytes out.new) (string_bytes out.old) }
 {
-    let mut text = format!(in alloc; "{number} ")?;
-    push_consumed(goal, &mut text)?;
-    write_act(act, &mut text)?;
-    Ok(text)
+    push_number(number, out)?;
+    out.push_str(" ")?;
+    write_consumed(goal, out)?;
+    write_act(act, out)
 }
 
 /// Writes a step at the end of `out`, which stays as it was where memory is refused, as `1 0.1 by 2`. The cost is that of
@@ -87,8 +100,9 @@ fn parts_text(
 pub fn push_journal_step(step: &Step, out: &mut String) -> Result<(), AllocError>
     ensures { string_bytes out.new ≡ (if is_ok result then string_bytes out.old ++ step_text step.now else string_bytes out.old) }
 {
-    let text = parts_text(*out.allocator(), step.number(), step.goal(), step.act())?;
-    append(text, out)
+    let length = end_of(out);
+    let written = write_step(step.number(), step.goal(), step.act(), out);
+    or_cut_back(out, length, written)
 }
 
 /// Writes the step of a record at the end of `out`, which stays as it was where memory is refused, as `1 0.1 by 2`. The
@@ -96,15 +110,9 @@ pub fn push_journal_step(step: &Step, out: &mut String) -> Result<(), AllocError
 pub fn push_step(taken: &Record, out: &mut String) -> Result<(), AllocError>
     ensures { string_bytes out.new ≡ (if is_ok result then string_bytes out.old ++ step_text (step_of taken.now) else string_bytes out.old) }
 {
-    let text = parts_text(*out.allocator(), taken.number(), taken.goal(), taken.act())?;
-    append(text, out)
-}
-
-// Writes a variable at the end of `out`: `_n_m`.
-fn push_variable(x: VarName, out: &mut String) -> Result<(), AllocError>
-    ensures { OnOk result (string_bytes out.new ≡ string_bytes out.old ++ variable_text x) }
-{
-    write!(out, "_{}_{}", x.step, x.place)
+    let length = end_of(out);
+    let written = write_step(taken.number(), taken.goal(), taken.act(), out);
+    or_cut_back(out, length, written)
 }
 
 // The variables of a set by step, then place.
@@ -119,9 +127,10 @@ fn in_order(alloc: Global, xs: &Variables) -> Result<BTreeSet<VarName>, AllocErr
     Ok(names)
 }
 
-// Writes the variables of a set at the end of `out`, as `_0_1,_0_2`, and `-` where there is none.
-fn push_variables(xs: &Variables, out: &mut String) -> Result<(), AllocError>
-    ensures { OnOk result (string_bytes out.new ≡ string_bytes out.old ++ variables_text xs.now) }
+// Writes the variables of a set, as `_0_1,_0_2`, and `-` where there is none.
+fn write_variables(xs: &Variables, out: &mut String) -> Result<(), AllocError>
+    ensures text { OnOk result (string_bytes out.new ≡ string_bytes out.old ++ variables_text xs.now) }
+    ensures begun { StartsWith (string_bytes out.new) (string_bytes out.old) }
 {
     let names = in_order(*out.allocator(), xs)?;
     if names.is_empty() {
@@ -151,18 +160,20 @@ fn by_variable<'a>(
     Ok(ordered)
 }
 
-// Writes a binding at the end of `out`, as `_0_1=[1|_1_1]`.
-fn push_binding(x: VarName, value: &Term, out: &mut String) -> Result<(), AllocError>
-    ensures { OnOk result (string_bytes out.new ≡ string_bytes out.old ++ binding_text (x, value.now)) }
+// Writes a binding, as `_0_1=[1|_1_1]`.
+fn write_binding(x: VarName, value: &Term, out: &mut String) -> Result<(), AllocError>
+    ensures text { OnOk result (string_bytes out.new ≡ string_bytes out.old ++ binding_text (x, value.now)) }
+    ensures begun { StartsWith (string_bytes out.new) (string_bytes out.old) }
 {
     push_variable(x, out)?;
     out.push_str("=")?;
     push_written(value, out)
 }
 
-// Writes bindings at the end of `out`, as `_0_1=a;_0_2=b`, and `-` where there is none.
-fn push_bindings(binds: &Bindings, out: &mut String) -> Result<(), AllocError>
-    ensures { OnOk result (string_bytes out.new ≡ string_bytes out.old ++ bindings_text binds.now) }
+// Writes bindings, as `_0_1=a;_0_2=b`, and `-` where there is none.
+fn write_bindings(binds: &Bindings, out: &mut String) -> Result<(), AllocError>
+    ensures text { OnOk result (string_bytes out.new ≡ string_bytes out.old ++ bindings_text binds.now) }
+    ensures begun { StartsWith (string_bytes out.new) (string_bytes out.old) }
 {
     let ordered = by_variable(*out.allocator(), binds)?;
     if ordered.is_empty() {
@@ -171,15 +182,16 @@ fn push_bindings(binds: &Bindings, out: &mut String) -> Result<(), AllocError>
     let mut mark = "";
     for (x, value) in &ordered {
         out.push_str(mark)?;
-        push_binding(*x, *value, out)?;
+        write_binding(*x, *value, out)?;
         mark = ";";
     }
     Ok(())
 }
 
-// Writes the names of the goals that step `number` makes at the end of `out`, as `1.1,1.2`, and `-` where there is none.
-fn push_makes(number: u32, effect: &Effect, out: &mut String) -> Result<(), AllocError>
-    ensures { OnOk result (string_bytes out.new ≡ string_bytes out.old ++ makes_text number effect.now.makes) }
+// Writes the names of the goals that step `number` makes, as `1.1,1.2`, and `-` where there is none.
+fn write_makes(number: u32, effect: &Effect, out: &mut String) -> Result<(), AllocError>
+    ensures text { OnOk result (string_bytes out.new ≡ string_bytes out.old ++ makes_text number effect.now.makes) }
+    ensures begun { StartsWith (string_bytes out.new) (string_bytes out.old) }
 {
     let count = effect.made();
     if count == 0 {
@@ -189,7 +201,7 @@ fn push_makes(number: u32, effect: &Effect, out: &mut String) -> Result<(), Allo
     for index in 0..count {
         let place = index + 1;
         out.push_str(mark)?;
-        push_goal_name(
+        write_goal_name(
             GoalName {
                 step: number,
                 place,
@@ -201,19 +213,19 @@ fn push_makes(number: u32, effect: &Effect, out: &mut String) -> Result<(), Allo
     Ok(())
 }
 
-// The text of a record.
-fn text_of_record(alloc: Global, taken: &Record) -> Result<String, AllocError>
-    ensures { IfOk result (λ text. string_bytes text ≡ record_text taken.now) }
+// Writes a record.
+fn write_record(taken: &Record, out: &mut String) -> Result<(), AllocError>
+    ensures text { OnOk result (string_bytes out.new ≡ string_bytes out.old ++ record_text taken.now) }
+    ensures begun { StartsWith (string_bytes out.new) (string_bytes out.old) }
 {
-    let mut text = parts_text(alloc, taken.number(), taken.goal(), taken.act())?;
+    write_step(taken.number(), taken.goal(), taken.act(), out)?;
     let effect = taken.effect();
-    text.push_str(" reads ")?;
-    push_variables(effect.reads(), &mut text)?;
-    text.push_str(" binds ")?;
-    push_bindings(effect.binds(), &mut text)?;
-    text.push_str(" makes ")?;
-    push_makes(taken.number(), effect, &mut text)?;
-    Ok(text)
+    out.push_str(" reads ")?;
+    write_variables(effect.reads(), out)?;
+    out.push_str(" binds ")?;
+    write_bindings(effect.binds(), out)?;
+    out.push_str(" makes ")?;
+    write_makes(taken.number(), effect, out)
 }
 
 /// Writes a record at the end of `out`, which stays as it was where memory is refused, as
@@ -222,6 +234,7 @@ fn text_of_record(alloc: Global, taken: &Record) -> Result<String, AllocError>
 pub fn push_record(taken: &Record, out: &mut String) -> Result<(), AllocError>
     ensures { string_bytes out.new ≡ (if is_ok result then string_bytes out.old ++ record_text taken.now else string_bytes out.old) }
 {
-    let text = text_of_record(*out.allocator(), taken)?;
-    append(text, out)
+    let length = end_of(out);
+    let written = write_record(taken, out);
+    or_cut_back(out, length, written)
 }

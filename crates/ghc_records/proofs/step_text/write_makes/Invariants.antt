@@ -2,12 +2,14 @@ use Rattle.std.proofs.Common.{◌≡◌, ◌+◌, ◌++◌, map, drop, string_by
 use Rattle.std.specs.Prelude.{codes}
 use denote.Text.{Utf8}
 use denote.Shadow.{shadow}
+use Rattle.std.specs.Io.{StartsWith}
 use Rattle.ghc_records.specs.StepText.{goal_name_text, names_given, makes_text}
 use Rattle.ghc_records.proofs.Listing.{led}
-use Rattle.ghc_records.proofs.step_text.push_makes.Given as goal
+use Rattle.ghc_records.proofs.step_text.write_makes.Given as goal
 
 abbrev pub invariant-loop-index : goal.invariant-loop-index
 invariant-loop-index l =
     shadow (Utf8 l.mark)
     × (string_bytes l.out ++ led (codes ",") l.mark (map goal_name_text (names_given l.number (l.index + 1) (drop l.index l.effect.makes)))
     ≡ string_bytes l.fn.out ++ makes_text l.number l.effect.makes)
+    × StartsWith (string_bytes l.out) (string_bytes l.fn.out)

@@ -1,15 +1,17 @@
-use Rattle.std.proofs.Common.{rules, ◌++◌, map, sym, ap, ◌∙◌, string_bytes}
+use Rattle.std.proofs.Common.{rules, ◌++◌, map, sym, ap, ◌∙◌, arith, string_bytes}
 use Rattle.std.specs.Prelude.{codes}
+use Rattle.std.proofs.lemmas.Grind.{common_steps}
 use Rattle.ghc_records.specs.StepText.{binding_text}
 use Rattle.ghc_records.proofs.Listing.{led, led_next}
 use Rattle.ghc_records.proofs.BindingOrder.{shown}
-use Rattle.ghc_records.proofs.step_text.push_bindings.Goals as goal
+use Rattle.ghc_records.proofs.step_text.write_bindings.Goals as goal
 
 pub loop-x-preserved : goal.loop-x-preserved
 loop-x-preserved c =
     let here = string_bytes c.loop-x.out in (
       search rules,
       led_next (codes ";") c.loop-x.mark.now (binding_text (c.in-Some.x.now, c.in-Some.value.now.now)) (map binding_text (shown (λ t. t.now) c.next.new.self)) here
-          (string_bytes c.push_str-in-loop-x.new.self) (string_bytes c.push_binding.new.out) _ c.in_ok-push_str.ensures.bytes c.in_ok-push_binding.ensures
+          (string_bytes c.push_str-in-loop-x.new.self) (string_bytes c.write_binding.new.out) _ c.in_ok-push_str.ensures.bytes c.in_ok-write_binding.ensures.text
           (ap (λ es. here ++ led (codes ";") c.loop-x.mark.now (map binding_text (shown (λ t. t.now) es))) (sym c.in-Some.ensures.steps) ∙ c.loop-x.invariant.1),
+      grind (arith, common_steps),
     )
