@@ -5,4 +5,4 @@ mod port;
 mod step_ports;
 
 pub use port::{Port, push_port, push_ports};
-pub use step_ports::ports;
+pub use step_ports::{ports, push_ports_of};
