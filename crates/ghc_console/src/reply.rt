@@ -10,7 +10,7 @@ use crate::asking::variable_named;
 use ghc_core::{Change, Core};
 use ghc_records::{Record, Records, push_record};
 use ghc_term::{Fault, GoalName, Term, print};
-use ghc_trace::{ports, push_ports};
+use ghc_trace::push_ports_of;
 use std::alloc::{AllocError, Global};
 
 /// The line of a refusal. Fails for want of memory, and where that is the refusal.
@@ -21,8 +21,7 @@ pub fn refused(alloc: Global, fault: &Fault) -> Result<Vec<u8>, AllocError>
     if let Fault::Memory = fault {
         return Err(AllocError);
     }
-    let mut text = String::new(alloc);
-    fault.push_text(&mut text)?;
+    let mut text = fault.text(alloc)?;
     text.push_str("\n")?;
     Ok(text.into_bytes())
 }
@@ -31,9 +30,8 @@ pub fn refused(alloc: Global, fault: &Fault) -> Result<Vec<u8>, AllocError>
 fn told(alloc: Global, taken: &Record) -> Result<Vec<u8>, AllocError>
     ensures { IfOk result (λ t. t.items ≡ ports_text (taken_ports taken.now)) }
 {
-    let ports = ports(alloc, taken)?;
     let mut text = String::new(alloc);
-    push_ports(ports.as_slice(), &mut text)?;
+    push_ports_of(taken, &mut text)?;
     Ok(text.into_bytes())
 }
 
