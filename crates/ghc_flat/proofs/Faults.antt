@@ -1,9 +1,9 @@
 -- A written program and a query are accepted as one program alone, or have one fault alone.
-use Rattle.std.proofs.Common.{◌≡◌, ℕ, ◌+◌, List, [], ◌∷◌, ◌++◌, length, ◌⊎◌, inl, inr, refl, sym, ap, ◌∙◌, subst, arith}
-use Rattle.std.specs.Prelude.{Some, None, slice_get, Result, Ok, Err, IfOk, IfErr, MatchResult}
+use Rattle.std.proofs.Common.{◌≡◌, ℕ, ◌+◌, List, [], ◌∷◌, ◌++◌, length, inl, inr, refl, sym, ap, ◌∙◌, subst, arith}
+use Rattle.std.specs.Prelude.{Some, None, slice_get}
 use Rattle.ghc_term.specs.declared.var_name.VarName.{VarName}
 use Rattle.ghc_term.specs.declared.fault.Fault.{Fault}
-use Rattle.ghc_term.specs.declared.fault.Fault.TheVariants.{Repeated, Undefined, Memory}
+use Rattle.ghc_term.specs.declared.fault.Fault.TheVariants.{Repeated, Undefined}
 use Rattle.ghc_term.specs.Lists.{In}
 use Rattle.ghc_term.specs.Goal.{Goal, call, stream}
 use Rattle.ghc_reader.specs.declared.written.Guard.{Guard}
@@ -13,12 +13,10 @@ use Rattle.ghc_flat.specs.declared.index.Index.{Index}
 use Rattle.ghc_flat.specs.Clause.{Clause, Program, Query}
 use Rattle.ghc_flat.specs.Flat.{IsWellMade, AreDistinct, AreDefined, IsProgram, IsQuery}
 use Rattle.ghc_flat.specs.Variables.{variables_of_list, variables_of_test, variables_of_goals, firsts}
-use Rattle.ghc_flat.specs.Checked.{IsMadeOf, AreMadeOf, IsAcceptedAs, IsFirstTwice, IsNamed, IsRepeated, HasClause, AllCalls, IsFirstCallWithout, IsFaultless, AreFaultless, IsClauseFault, IsFirstFault, IsProgramFault, IsQueryFault, IsFault, IsFlatGuard, MakeTests, QueryFaultsAreTold}
-use Rattle.ghc_flat.specs.declared.refused.Refused.{Refused}
-use Rattle.ghc_flat.specs.declared.refused.Refused.TheVariants as refused
-use Rattle.ghc_flat.specs.Refused.{IsRefusedAs, fault_of}
+use Rattle.ghc_flat.specs.Checked.{IsMadeOf, AreMadeOf, IsAcceptedAs, IsFirstTwice, IsNamed, IsRepeated, HasClause, AllCalls, IsFirstCallWithout, IsFaultless, AreFaultless, IsClauseFault, IsFirstFault, IsFault, IsFlatGuard, MakeTests, CheckIsExact, QueryFaultsAreTold}
 use Rattle.ghc_flat.specs.Numbers.{keys_of_written}
 use Rattle.ghc_flat.specs.Index.{Knows, IsIndexOf, AreSound}
+use Rattle.ghc_term.proofs.Exact.{exact}
 use Rattle.ghc_term.proofs.ListsLemmas.{in_at, at_of_in, in_middle, in_either, compare_splits}
 use Rattle.ghc_flat.proofs.DistinctLemmas.{distinct_split}
 use Rattle.ghc_flat.proofs.Tests.{make_once, all_variables_made}
@@ -90,7 +88,7 @@ module _ (D : List ℕ → ℕ → Type 0) where
         ]
       ]
 
-  first_fault_no : (ws : List WrittenClause) (e : Fault) → AreFaultless D ws → ¬ IsFirstFault D ws e
+  pub first_fault_no : (ws : List WrittenClause) (e : Fault) → AreFaultless D ws → ¬ IsFirstFault D ws e
   first_fault_no ws e all p = clause_fault_no (length p.front + 1) p.clause e (all p.clause (subst (In p.clause) (sym p.splits) (in_middle p.front p.clause p.back))) p.fault
 
 -- the same, where another word says which calls are defined
@@ -155,7 +153,7 @@ accepted_faultless ws gs P a w i =
     let s = a.program r.0 r.1 in
     faultless (HasClause ws) w r.0 r.2 s.flat s.linear (has_of_defined ws P r.0.body a.made s.defined)
 
-accepted_no_fault : (ws : List WrittenClause) (gs : Query) (P : Program) (e : Fault) → IsAcceptedAs ws gs P → ¬ IsFault ws gs e
+pub accepted_no_fault : (ws : List WrittenClause) (gs : Query) (P : Program) (e : Fault) → IsAcceptedAs ws gs P → ¬ IsFault ws gs e
 accepted_no_fault ws gs P e a (inl p) = first_fault_no (HasClause ws) ws e (accepted_faultless ws gs P a) p
 accepted_no_fault ws gs P e a (inr p) = no_call (HasClause ws) gs p.1.0 p.1.1 (has_of_defined ws P gs a.made a.query.defined) p.1.2
 
@@ -177,7 +175,7 @@ clause_once w c d p q =
     let body = p.body ∙ sym q.body in
     λ i. record { name = name i; head = head i; tests = tests i; body = body i }
 
-program_once : (ws : List WrittenClause) (P Q : Program) → AreMadeOf ws P → AreMadeOf ws Q → P ≡ Q
+pub program_once : (ws : List WrittenClause) (P Q : Program) → AreMadeOf ws P → AreMadeOf ws Q → P ≡ Q
 program_once [] [] [] p q = refl
 program_once [] [] (d ∷ Q) p q = absurd q
 program_once [] (c ∷ P) Q p q = absurd p
@@ -189,29 +187,9 @@ program_once (w ∷ ws) (c ∷ P) (d ∷ Q) p q =
     λ i. first i ∷ rest i
 
 -- so the answer is the only one
-pub only_accepted : (ws : List WrittenClause) (gs : Query) (r : Result Program Fault) → IfOk r (IsAcceptedAs ws gs) → IfErr r (λ e. (e ≡ Memory) ⊎ IsFault ws gs e)
-    → (P : Program) → IsAcceptedAs ws gs P → MatchResult r (λ p. p ≡ P) (λ e. e ≡ Memory)
-only_accepted ws gs (Ok Q) a f P p = program_once ws Q P a.made p.made
-only_accepted ws gs (Err e) a (inl m) P p = m
-only_accepted ws gs (Err e) a (inr f) P p = absurd (accepted_no_fault ws gs P e p f)
-
-pub only_refused : (ws : List WrittenClause) (gs : Query) (r : Result Program Fault) → IfOk r (IsAcceptedAs ws gs) → IfErr r (λ e. (e ≡ Memory) ⊎ IsFault ws gs e)
-    → (d : Fault) → IsFault ws gs d → MatchResult r (λ _. ⊥) (λ e. (e ≡ Memory) ⊎ (e ≡ d))
-only_refused ws gs (Ok Q) a f d q = accepted_no_fault ws gs Q d a q
-only_refused ws gs (Err e) a (inl m) d q = inl m
-only_refused ws gs (Err e) a (inr f) d q = inr (fault_once ws gs e d f q)
-
--- of the checker's refusals, that for the program's fault is the only one where there is one, and so is that for the query's
-pub program_refused_once : (ws : List WrittenClause) (gs : Query) (r : Refused) (d : Fault) → IsRefusedAs ws gs r → IsProgramFault ws d → (r ≡ refused.Program d) ⊎ (fault_of r ≡ Memory)
-program_refused_once ws gs (refused.Program e) d (inl m) q = inr m
-program_refused_once ws gs (refused.Program e) d (inr p) q = inl (ap refused.Program (first_fault_once (HasClause ws) ws e d p q))
-program_refused_once ws gs (refused.Query e) d p q = absurd (first_fault_no (HasClause ws) ws d p.0 q)
-
-pub query_refused_once : (ws : List WrittenClause) (gs : Query) (r : Refused) (d : Fault) → IsRefusedAs ws gs r → AreFaultless (HasClause ws) ws → IsQueryFault ws gs d
-    → (r ≡ refused.Query d) ⊎ (fault_of r ≡ Memory)
-query_refused_once ws gs (refused.Program e) d (inl m) clean q = inr m
-query_refused_once ws gs (refused.Program e) d (inr p) clean q = absurd (first_fault_no (HasClause ws) ws e clean p)
-query_refused_once ws gs (refused.Query e) d p clean q = inl (ap refused.Query (fault_once ws gs e d (inr p) (inr (clean, q))))
+-- what is answered is exact
+pub check_exact : CheckIsExact
+check_exact ws gs result = exact (λ P Q p q. program_once ws P Q p.made q.made) (fault_once ws gs) (λ P e p f. accepted_no_fault ws gs P e p f) result
 
 -- guards that are all flat make tests
 tests_of : (xs : List VarName) (gs : List Guard) → ((g : Guard) → In g gs → IsFlatGuard xs g) → (ts : List Test) × MakeTests gs ts × ((t : Test) (x : VarName) → In t ts → In x (variables_of_test t) → In x xs)

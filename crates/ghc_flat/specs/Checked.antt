@@ -1,8 +1,9 @@
 -- What the checker answers on a written program and a query: the program that they are accepted as, or their first fault.
-use Rattle.std.specs.Prelude.{◌≡◌, ◌↔◌, ◌⊎◌, ℕ, ◌+◌, List, [], ◌∷◌, ◌++◌, length, Some, slice_get}
+use Rattle.std.specs.Prelude.{◌≡◌, ◌↔◌, ◌⊎◌, ℕ, ◌+◌, List, [], ◌∷◌, ◌++◌, length, Some, slice_get, Result}
 use Rattle.ghc_term.specs.declared.var_name.VarName.{VarName}
 use Rattle.ghc_term.specs.declared.fault.Fault.{Fault}
 use Rattle.ghc_term.specs.declared.fault.Fault.TheVariants.{NotFlat, Repeated, Undefined}
+use Rattle.ghc_term.specs.Answered.{Answered, IsExact}
 use Rattle.ghc_term.specs.Tree.{Tree}
 use Rattle.ghc_term.specs.Goal.{Goal, call}
 use Rattle.ghc_term.specs.Lists.{In}
@@ -129,6 +130,12 @@ IsQueryFault ws gs e = (f : List ℕ) × (n : ℕ) × IsUndefined ws gs f n × (
 -- The fault of a written program and a query: the program's; else the query's.
 abbrev pub IsFault : List WrittenClause → Query → Fault → Type 0
 IsFault ws gs e = IsProgramFault ws e ⊎ (AreFaultless (HasClause ws) ws × IsQueryFault ws gs e)
+
+-- What is answered for a written program and a query is exact: the program that they are accepted as, or their fault, unless memory was refused.
+abbrev pub CheckIsExact : Type 0
+CheckIsExact =
+    (ws : List WrittenClause) (gs : Query) (result : Result Program Fault)
+    → Answered (IsAcceptedAs ws gs) (IsFault ws gs) result → IsExact (IsAcceptedAs ws gs) (IsFault ws gs) result
 
 -- The fault of a well written program and a query is the query's just where the same program is accepted with the query `true`, which has no goals.
 abbrev pub QueryFaultsAreTold : Type 0

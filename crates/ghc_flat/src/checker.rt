@@ -1,10 +1,9 @@
 // The checker: from a written program and a query to the program, or the first fault.
-ghost use Rattle.std.specs.Prelude.{◌≡◌, ◌⊎◌, ◌-◌, ◌≤◌, ℕ, List, [], length, IfOk, IfErr, OnOk, MatchResult};
-ghost use Rattle.ghc_term.specs.declared.fault.Fault.{Fault};
+ghost use Rattle.std.specs.Prelude.{◌≡◌, ◌⊎◌, ◌-◌, ◌≤◌, ℕ, List, [], length, IfOk, IfErr, OnOk};
+ghost use Rattle.ghc_term.specs.Answered.{Answered};
 ghost use Rattle.ghc_term.specs.declared.limit.Limit.TheVariants.{Arity};
 ghost use Rattle.ghc_reader.specs.Limits.{most};
 ghost use Rattle.ghc_reader.specs.Written.{AreWellWritten, IsWellWritten, AreNarrow};
-ghost use Rattle.ghc_flat.specs.Clause.{Program};
 ghost use Rattle.ghc_flat.specs.Flat.{IsWellMade};
 ghost use Rattle.ghc_flat.specs.Variables.{variables_of_list};
 ghost use Rattle.ghc_flat.specs.Checked.{IsMadeOf, AreMadeOf, IsAcceptedAs, IsRepeated, AllCalls, IsFirstCallWithout, IsClauseFault, IsFirstFault, IsFault};
@@ -27,18 +26,7 @@ use std::alloc::Global;
 /// first undefined call of the query. `Memory` comes for want of memory alone. Time and memory grow with the number of
 /// symbols.
 pub fn check(alloc: Global, source: Source, query: &Query) -> Result<Program, Fault>
-    ensures accepted { IfOk result (IsAcceptedAs source query.now.goals) }
-    ensures refused { IfErr result (λ e. (e ≡ Fault.Memory) ⊎ IsFault source query.now.goals e) }
-    ensures only_accepted { (P : Program) → IsAcceptedAs source query.now.goals P → MatchResult result (λ p. p ≡ P) (λ e. e ≡ Fault.Memory) }
-    ensures only_refused { (e : Fault) → IsFault source query.now.goals e → MatchResult result (λ _. ⊥) (λ f. (f ≡ Fault.Memory) ⊎ (f ≡ e)) }
-{
-    answer(alloc, source, query)
-}
-
-// The program, or the first fault.
-fn answer(alloc: Global, source: Source, query: &Query) -> Result<Program, Fault>
-    ensures accepted { IfOk result (IsAcceptedAs source query.now.goals) }
-    ensures refused { IfErr result (λ e. (e ≡ Fault.Memory) ⊎ IsFault source query.now.goals e) }
+    ensures answer { Answered (IsAcceptedAs source query.now.goals) (IsFault source query.now.goals) result }
 {
     match judge(alloc, source, query) {
         Ok(program) => Ok(program),

@@ -13,7 +13,7 @@ mod test;
 
 pub use checker::{check, judge};
 pub use clause::Clause;
-pub use laws::query_faults_are_told;
+pub use laws::{check_is_exact, query_faults_are_told};
 pub use program::Program;
 pub use refused::Refused;
 pub use test::Test;

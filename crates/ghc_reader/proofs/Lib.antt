@@ -53,6 +53,7 @@ pub mod NamesIn
 pub mod OneSaying
 pub mod WithinLimits
 pub mod OneMeaning
+pub mod ExactReading
 pub mod MarkPieces
 pub mod TokenTexts
 pub mod Derivations

@@ -1,6 +1,5 @@
 -- A text is read as one tree, or refused in one way.
-use Rattle.std.proofs.Common.{◌≡◌, ◌⊎◌, ℕ, ◌+◌, ◌-◌, ◌<◌, ◌≤◌, List, [], ◌++◌, length, take, drop, Some, None, Result, Ok, Err, IfOk, IfErr, MatchResult, refl, sym, ap, subst, ◌∙◌, inl, inr, arith, append_assoc}
-use Rattle.std.specs.Result.{IsErrAnd}
+use Rattle.std.proofs.Common.{◌≡◌, ◌⊎◌, ℕ, ◌+◌, ◌-◌, ◌<◌, ◌≤◌, List, [], ◌++◌, length, take, drop, Some, None, refl, sym, ap, subst, ◌∙◌, inl, inr, arith, append_assoc}
 use Rattle.std.proofs.lemmas.Bool.{cases_lt}
 use Rattle.std.proofs.lemmas.List.{take-append-drop, take-take}
 use Rattle.ghc_term.specs.declared.fault.Fault.{Fault}
@@ -176,18 +175,6 @@ module _ (K : Kind) (one : (d e : K.Derivation) → K.spell d [] ≡ K.spell e [
       absurd (no_syntax_refusal text x.tokens x.places x.seen g x.derived y)
   one_refusal text f g (by_limit x) (by_place y) = absurd (no_limit_refusal text g f y x)
   one_refusal text f g (by_limit x) (by_limit y) = one_limit_refusal text f g x y
-
-  -- so what is found, or why nothing is, tells what every other reading would be
-  pub only_read : (X : Type 0) (seen : X → K.Seen) (text : List ℕ) (r : Result X Fault) → IfOk r (λ x. IsRead K text (seen x)) → IfErr r (λ f. (f ≡ fault.Memory) ⊎ IsRefusal K text f) → (a : K.Seen) → IsRead K text a → MatchResult r (λ x. seen x ≡ a) (λ f. f ≡ fault.Memory)
-  only_read X seen text (Ok x) found fails a other =
-      one_tree text found.tokens other.tokens found.places other.places (seen x) a found.derived other.derived
-  only_read X seen text (Err f) found (inl memory) a other = memory
-  only_read X seen text (Err f) found (inr refused) a other = absurd (never_refused text a f other refused)
-
-  pub only_refusal : (X : Type 0) (seen : X → K.Seen) (text : List ℕ) (r : Result X Fault) → IfOk r (λ x. IsRead K text (seen x)) → IfErr r (λ f. (f ≡ fault.Memory) ⊎ IsRefusal K text f) → (f : Fault) → IsRefusal K text f → IsErrAnd r (λ g. (g ≡ f) ⊎ (g ≡ fault.Memory))
-  only_refusal X seen text (Ok x) found fails f refused = absurd (never_refused text (seen x) f found refused)
-  only_refusal X seen text (Err g) found (inl memory) f refused = inr memory
-  only_refusal X seen text (Err g) found (inr other) f refused = inl (one_refusal text g f other refused)
 
   pub answered_once : (text : List ℕ) → IsAnsweredOnce K text
   answered_once text = record {

@@ -1,6 +1,8 @@
--- A law of reading and printing.
-use Rattle.std.specs.Prelude.{◌≡◌, ℕ, ◌≤◌, List, [], length, Option}
+-- Laws of reading and printing.
+use Rattle.std.specs.Prelude.{◌≡◌, ℕ, ◌≤◌, List, [], length, Option, Result}
 use Rattle.ghc_term.specs.declared.var_name.VarName.{VarName}
+use Rattle.ghc_term.specs.declared.fault.Fault.{Fault}
+use Rattle.ghc_term.specs.Answered.{Answered, IsExact}
 use Rattle.ghc_term.specs.Tree.{Tree}
 use Rattle.ghc_term.specs.Text.{term_text}
 use Rattle.ghc_term.specs.Resolved.{IsTextOf}
@@ -12,7 +14,27 @@ use Rattle.ghc_reader.specs.Lexed.{IsLexed}
 use Rattle.ghc_reader.specs.Grammar.{Input, input}
 use Rattle.ghc_reader.specs.Derived.{tree_of}
 use Rattle.ghc_reader.specs.Lowered.{Says}
-use Rattle.ghc_reader.specs.Read.{IsReadTerm}
+use Rattle.ghc_reader.specs.Tests.{a_program, a_query, a_term, IsRefusal}
+use Rattle.ghc_reader.specs.Written.{WrittenClause, WrittenQuery}
+use Rattle.ghc_reader.specs.Read.{IsReadProgram, IsReadQuery, IsReadTerm}
+
+-- What is answered for the text of a program is exact: the program that it says, or its refusal, unless memory was refused.
+abbrev pub ReadProgramIsExact : Type 0
+ReadProgramIsExact =
+    (text : List ℕ) (result : Result (List WrittenClause) Fault)
+    → Answered (IsReadProgram text) (IsRefusal a_program text) result → IsExact (IsReadProgram text) (IsRefusal a_program text) result
+
+-- What is answered for the text of a query is exact: the query that it says, or its refusal, unless memory was refused.
+abbrev pub ReadQueryIsExact : Type 0
+ReadQueryIsExact =
+    (text : List ℕ) (result : Result WrittenQuery Fault)
+    → Answered (IsReadQuery text) (IsRefusal a_query text) result → IsExact (IsReadQuery text) (IsRefusal a_query text) result
+
+-- What is answered for the text of an input term is exact: the term that it says, or its refusal, unless memory was refused.
+abbrev pub ReadTermIsExact : Type 0
+ReadTermIsExact =
+    (text : List ℕ) (result : Result Tree Fault)
+    → Answered (IsReadTerm text) (IsRefusal a_term text) result → IsExact (IsReadTerm text) (IsRefusal a_term text) result
 
 -- The tokens of the text are those of a derivation that says the term, whatever the limits on input terms.
 pub record IsSpelledBy (text : List ℕ) (u : Tree) : Type 0 where

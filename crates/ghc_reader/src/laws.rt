@@ -1,5 +1,20 @@
-// A law of reading and printing, as the contract of a function.
-ghost use Rattle.ghc_reader.specs.Laws.{PrintedTermsAreReadAgain};
+// Laws of reading and printing, each as the contract of a function.
+ghost use Rattle.ghc_reader.specs.Laws.{ReadProgramIsExact, ReadQueryIsExact, ReadTermIsExact, PrintedTermsAreReadAgain};
+
+/// What is answered for the text of a program is exact, unless memory was refused.
+pub fn read_program_is_exact()
+    ensures { ReadProgramIsExact }
+{}
+
+/// What is answered for the text of a query is exact, unless memory was refused.
+pub fn read_query_is_exact()
+    ensures { ReadQueryIsExact }
+{}
+
+/// What is answered for the text of an input term is exact, unless memory was refused.
+pub fn read_ground_term_is_exact()
+    ensures { ReadTermIsExact }
+{}
 
 /// What was read as an input term is, printed, read again as itself.
 pub fn printed_terms_are_read_again()

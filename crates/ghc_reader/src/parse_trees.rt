@@ -1,6 +1,5 @@
 // From the bytes of a text to its parse tree: the tests that a text has to pass, one after the other.
-ghost use Rattle.std.specs.Prelude.{◌≡◌, ◌⊎◌, List, ◌+◌, ◌<◌, length, IfOk, IfErr, IsErrAnd, MatchResult};
-ghost use Rattle.ghc_reader.specs.Source.{Tree, Goal, Clause};
+ghost use Rattle.std.specs.Prelude.{◌≡◌, ◌⊎◌, ◌+◌, ◌<◌, length, IfOk, IfErr};
 ghost use Rattle.ghc_reader.specs.Views.{view, goal_views, clause_views};
 ghost use Rattle.ghc_reader.specs.Lexed.{most_bytes};
 ghost use Rattle.ghc_reader.specs.Viable.{IfSyntax};
@@ -55,8 +54,9 @@ fn fault_of(error: ParseError, places: &[Place]) -> Fault
     }
 }
 
-// The clauses of a program, or its refusal.
-fn clauses(alloc: Global, text: &[u8]) -> Result<Vec<SourceClause>, Fault>
+/// The clauses that the text of a program says. Else its refusal: the first of the tests of a text that it does not pass
+/// says which and where; or `Memory`. Time and memory grow with the text.
+pub(crate) fn parsed_program(alloc: Global, text: &[u8]) -> Result<Vec<SourceClause>, Fault>
     ensures found { IfOk result (λ clauses. IsRead a_program text.now (clause_views clauses.items)) }
     ensures fault { IfErr result (λ fault. (fault ≡ Fault.Memory) ⊎ IsRefusal a_program text.now fault) }
     ensures too_long { most_bytes < length text.now → result ≡ Err (Fault.Limit Limit.Text) }
@@ -75,24 +75,8 @@ fn clauses(alloc: Global, text: &[u8]) -> Result<Vec<SourceClause>, Fault>
     Ok(clauses)
 }
 
-/// The clauses that the text of a program says. Else its refusal: the first of the tests of a text that it does not pass
-/// says which and where; or `Memory`. Time and memory grow with the text.
-pub(crate) fn parsed_program(alloc: Global, text: &[u8]) -> Result<Vec<SourceClause>, Fault>
-    ensures found { IfOk result (λ clauses. IsRead a_program text.now (clause_views clauses.items)) }
-    ensures fault { IfErr result (λ fault. (fault ≡ Fault.Memory) ⊎ IsRefusal a_program text.now fault) }
-    ensures too_long { most_bytes < length text.now → result ≡ Err (Fault.Limit Limit.Text) }
-
-    // No other tree is that of the text, and no other refusal.
-    ensures only { (seen : List Clause) → IsRead a_program text.now seen
-        → MatchResult result (λ clauses. clause_views clauses.items ≡ seen) (λ fault. fault ≡ Fault.Memory) }
-    ensures only_fault { (refusal : Fault) → IsRefusal a_program text.now refusal
-        → IsErrAnd result (λ fault. (fault ≡ refusal) ⊎ (fault ≡ Fault.Memory)) }
-{
-    clauses(alloc, text)
-}
-
-// The goals of a query, or its refusal.
-fn goals(alloc: Global, text: &[u8]) -> Result<Vec<SourceGoal>, Fault>
+/// The goals that the text of a query says, or its refusal, as `parsed_program`.
+pub(crate) fn parsed_query(alloc: Global, text: &[u8]) -> Result<Vec<SourceGoal>, Fault>
     ensures found { IfOk result (λ goals. IsRead a_query text.now (goal_views goals.items)) }
     ensures fault { IfErr result (λ fault. (fault ≡ Fault.Memory) ⊎ IsRefusal a_query text.now fault) }
     ensures too_long { most_bytes < length text.now → result ≡ Err (Fault.Limit Limit.Text) }
@@ -111,23 +95,8 @@ fn goals(alloc: Global, text: &[u8]) -> Result<Vec<SourceGoal>, Fault>
     Ok(goals)
 }
 
-/// The goals that the text of a query says, or its refusal, as `parsed_program`.
-pub(crate) fn parsed_query(alloc: Global, text: &[u8]) -> Result<Vec<SourceGoal>, Fault>
-    ensures found { IfOk result (λ goals. IsRead a_query text.now (goal_views goals.items)) }
-    ensures fault { IfErr result (λ fault. (fault ≡ Fault.Memory) ⊎ IsRefusal a_query text.now fault) }
-    ensures too_long { most_bytes < length text.now → result ≡ Err (Fault.Limit Limit.Text) }
-
-    // No other tree is that of the text, and no other refusal.
-    ensures only { (seen : List Goal) → IsRead a_query text.now seen
-        → MatchResult result (λ goals. goal_views goals.items ≡ seen) (λ fault. fault ≡ Fault.Memory) }
-    ensures only_fault { (refusal : Fault) → IsRefusal a_query text.now refusal
-        → IsErrAnd result (λ fault. (fault ≡ refusal) ⊎ (fault ≡ Fault.Memory)) }
-{
-    goals(alloc, text)
-}
-
-// The input term, or its refusal.
-fn term(alloc: Global, text: &[u8]) -> Result<SourceTerm, Fault>
+/// The input term that the text says, or its refusal, as `parsed_program`.
+pub(crate) fn parsed_term(alloc: Global, text: &[u8]) -> Result<SourceTerm, Fault>
     ensures found { IfOk result (λ term. IsRead a_term text.now (view term)) }
     ensures fault { IfErr result (λ fault. (fault ≡ Fault.Memory) ⊎ IsRefusal a_term text.now fault) }
     ensures too_long { most_bytes < length text.now → result ≡ Err (Fault.Limit Limit.Text) }
@@ -141,19 +110,4 @@ fn term(alloc: Global, text: &[u8]) -> Result<SourceTerm, Fault>
         return Err(Fault::Limit(limit));
     }
     Ok(term)
-}
-
-/// The input term that the text says, or its refusal, as `parsed_program`.
-pub(crate) fn parsed_term(alloc: Global, text: &[u8]) -> Result<SourceTerm, Fault>
-    ensures found { IfOk result (λ term. IsRead a_term text.now (view term)) }
-    ensures fault { IfErr result (λ fault. (fault ≡ Fault.Memory) ⊎ IsRefusal a_term text.now fault) }
-    ensures too_long { most_bytes < length text.now → result ≡ Err (Fault.Limit Limit.Text) }
-
-    // No other tree is that of the text, and no other refusal.
-    ensures only { (seen : Tree) → IsRead a_term text.now seen
-        → MatchResult result (λ term. view term ≡ seen) (λ fault. fault ≡ Fault.Memory) }
-    ensures only_fault { (refusal : Fault) → IsRefusal a_term text.now refusal
-        → IsErrAnd result (λ fault. (fault ≡ refusal) ⊎ (fault ≡ Fault.Memory)) }
-{
-    term(alloc, text)
 }

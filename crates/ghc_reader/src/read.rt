@@ -1,10 +1,9 @@
 // The reader's calls: from the bytes of a text to what it says, in the terms of the language.
-ghost use Rattle.std.specs.Prelude.{◌≡◌, ◌<◌, ◌⊎◌, List, length, IfOk, IfErr, IsErrAnd, MatchResult};
+ghost use Rattle.std.specs.Prelude.{◌≡◌, ◌<◌, length};
+ghost use Rattle.ghc_term.specs.Answered.{Answered};
 ghost use Rattle.ghc_term.specs.declared.limit.Limit.TheVariants.{Text};
 ghost use Rattle.ghc_reader.specs.Lexed.{most_bytes};
 ghost use Rattle.ghc_reader.specs.Tests.{a_program, a_query, a_term, IsRefusal};
-ghost use Rattle.ghc_reader.specs.Written.{WrittenClause, WrittenQuery};
-ghost use Rattle.ghc_term.specs.Tree.{Tree};
 ghost use Rattle.ghc_reader.specs.Read.{IsReadProgram, IsReadQuery, IsReadTerm};
 
 use crate::lowering::{lower_closed, lower_program, lower_query};
@@ -18,14 +17,8 @@ use std::alloc::Global;
 /// token with which no program goes on; at a head or goal that is reserved; `Limit::Clauses`, `Arity`, `Goals` and
 /// `Variables`; or `Memory`. Time and memory grow with the text.
 pub fn read_program(alloc: Global, text: &[u8]) -> Result<Source, Fault>
-    ensures found { IfOk result (IsReadProgram text.now) }
-    ensures fault { IfErr result (λ fault. (fault ≡ Fault.Memory) ⊎ IsRefusal a_program text.now fault) }
+    ensures answer { Answered (IsReadProgram text.now) (IsRefusal a_program text.now) result }
     ensures too_long { most_bytes < length text.now → result ≡ Err (Fault.Limit Text) }
-
-    // A text that can be read is read as nothing else, and not refused; one that is refused is not read, nor refused in another way.
-    ensures only { (source : List WrittenClause) → IsReadProgram text.now source → MatchResult result (λ read. read ≡ source) (λ fault. fault ≡ Fault.Memory) }
-    ensures only_fault { (refusal : Fault) → IsRefusal a_program text.now refusal
-        → IsErrAnd result (λ fault. (fault ≡ refusal) ⊎ (fault ≡ Fault.Memory)) }
 {
     let clauses = match parsed_program(alloc, text) {
         Ok(clauses) => clauses,
@@ -37,14 +30,8 @@ pub fn read_program(alloc: Global, text: &[u8]) -> Result<Source, Fault>
 
 /// The query that a text says, or its refusal, as `read_program`; there is no `Limit::Clauses`.
 pub fn read_query(alloc: Global, text: &[u8]) -> Result<Query, Fault>
-    ensures found { IfOk result (IsReadQuery text.now) }
-    ensures fault { IfErr result (λ fault. (fault ≡ Fault.Memory) ⊎ IsRefusal a_query text.now fault) }
+    ensures answer { Answered (IsReadQuery text.now) (IsRefusal a_query text.now) result }
     ensures too_long { most_bytes < length text.now → result ≡ Err (Fault.Limit Text) }
-
-    // A text that can be read is read as nothing else, and not refused; one that is refused is not read, nor refused in another way.
-    ensures only { (query : WrittenQuery) → IsReadQuery text.now query → MatchResult result (λ read. read ≡ query) (λ fault. fault ≡ Fault.Memory) }
-    ensures only_fault { (refusal : Fault) → IsRefusal a_query text.now refusal
-        → IsErrAnd result (λ fault. (fault ≡ refusal) ⊎ (fault ≡ Fault.Memory)) }
 {
     let goals = match parsed_query(alloc, text) {
         Ok(goals) => goals,
@@ -57,14 +44,8 @@ pub fn read_query(alloc: Global, text: &[u8]) -> Result<Query, Fault>
 /// The input term that a text says, or its refusal, as `read_program`; in place of `Limit::Clauses`, `Goals` and `Variables`
 /// there is `Limit::Term` past 10,000 nodes.
 pub fn read_ground_term(alloc: Global, text: &[u8]) -> Result<Ground, Fault>
-    ensures found { IfOk result (IsReadTerm text.now) }
-    ensures fault { IfErr result (λ fault. (fault ≡ Fault.Memory) ⊎ IsRefusal a_term text.now fault) }
+    ensures answer { Answered (IsReadTerm text.now) (IsRefusal a_term text.now) result }
     ensures too_long { most_bytes < length text.now → result ≡ Err (Fault.Limit Text) }
-
-    // A text that can be read is read as nothing else, and not refused; one that is refused is not read, nor refused in another way.
-    ensures only { (term : Tree) → IsReadTerm text.now term → MatchResult result (λ read. read ≡ term) (λ fault. fault ≡ Fault.Memory) }
-    ensures only_fault { (refusal : Fault) → IsRefusal a_term text.now refusal
-        → IsErrAnd result (λ fault. (fault ≡ refusal) ⊎ (fault ≡ Fault.Memory)) }
 {
     let parsed = match parsed_term(alloc, text) {
         Ok(parsed) => parsed,

@@ -1,7 +1,7 @@
 -- What the texts of a program and a query start: both of them, read and checked, or a refusal.
-use Rattle.std.specs.Prelude.{◌≡◌, ◌⊎◌, ℕ, List}
-use Rattle.ghc_term.specs.declared.fault.Fault.{Fault}
+use Rattle.std.specs.Prelude.{◌≡◌, ◌⊎◌, ℕ, List, Result}
 use Rattle.ghc_term.specs.declared.fault.Fault.TheVariants.{Memory}
+use Rattle.ghc_term.specs.Answered.{AnsweredUnless, IsExactUnless}
 use Rattle.ghc_reader.specs.Written.{WrittenClause, WrittenQuery}
 use Rattle.ghc_reader.specs.Read.{IsReadProgram, IsReadQuery}
 use Rattle.ghc_reader.specs.Tests.{a_program, a_query, IsRefusal}
@@ -51,6 +51,13 @@ pub data IsStartRefusal (program_text : List ℕ) (query_text : List ℕ) (refus
       → AreFaultless (HasClause written) written
       → IsQueryFault written query.goals refusal.fault
       → IsStartRefusal program_text query_text refusal
+
+-- What is answered for the texts is exact: what they start, or the first refusal, unless memory was refused.
+abbrev pub StartIsExact : Type 0
+StartIsExact =
+    (program_text query_text : List ℕ) (result : Result Started Refusal)
+    → AnsweredUnless IsOutOfMemory (IsStarted program_text query_text) (IsStartRefusal program_text query_text) result
+    → IsExactUnless IsOutOfMemory (IsStarted program_text query_text) (IsStartRefusal program_text query_text) result
 
 -- what is told of a refusal by the checker: the fault, of the text at fault
 abbrev pub told_of : Refused → Refusal

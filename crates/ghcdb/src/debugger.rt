@@ -1,7 +1,8 @@
 // What the program does with the words of its command line.
-ghost use Rattle.std.specs.Prelude.{◌≡◌, ◌≢◌, ◌⊎◌, IfErr, IfOk};
+ghost use Rattle.std.specs.Prelude.{◌≡◌, ◌≢◌};
 ghost use Rattle.clap.specs.Words.{kind_of};
 ghost use Rattle.clap.specs.declared.error.kind.ErrorKind.{ErrorKind};
+ghost use Rattle.ghc_term.specs.Answered.{AnsweredUnless};
 ghost use Rattle.ghc_term.specs.Fault.{fault_text};
 ghost use Rattle.ghc_flat.specs.Flat.{IsQuery};
 ghost use Rattle.ghcdb.specs.Start.{IsOutOfMemory, IsStartRefusal, IsStarted};
@@ -48,8 +49,7 @@ fn answer<R: Print + Eprint>(rt: &R, error: &Error) -> Status
 
 // What the bytes of FILE and the options start: the program is in the file, and the query in the options.
 fn start_with(alloc: Global, file: &[u8], options: Options<'_>) -> Result<Started, Refusal>
-    ensures started { IfOk result (IsStarted file.now options.entry.query.now) }
-    ensures refused { IfErr result (λ refusal. IsOutOfMemory refusal ⊎ IsStartRefusal file.now options.entry.query.now refusal) }
+    ensures answer { AnsweredUnless IsOutOfMemory (IsStarted file.now options.entry.query.now) (IsStartRefusal file.now options.entry.query.now) result }
 {
     start(alloc, file, options.query.as_bytes())
 }

@@ -5,6 +5,7 @@ mod command_line;
 mod console;
 mod debugger;
 mod files;
+mod laws;
 mod refusal;
 mod refused_part;
 mod settings;

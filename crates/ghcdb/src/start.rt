@@ -1,5 +1,6 @@
 // The start of a session: from the texts of a program and a query to both, read and checked.
-ghost use Rattle.std.specs.Prelude.{◌≡◌, ◌⊎◌, IfOk, IfErr, IsErrAnd, MatchResult};
+ghost use Rattle.std.specs.Prelude.{◌≡◌};
+ghost use Rattle.ghc_term.specs.Answered.{AnsweredUnless};
 ghost use Rattle.ghcdb.specs.Start.{IsStarted, IsStartRefusal, IsOutOfMemory, told_of};
 
 use crate::refusal::Refusal;
@@ -19,12 +20,7 @@ pub struct Started {
 /// the program's text, else that of the query's text, else the fault of the program, else that of the query; or want
 /// of memory. Time and memory grow with the texts.
 pub fn start(alloc: Global, program: &[u8], query: &[u8]) -> Result<Started, Refusal>
-    ensures started { IfOk result (IsStarted program.now query.now) }
-    ensures refused { IfErr result (λ refusal. IsOutOfMemory refusal ⊎ IsStartRefusal program.now query.now refusal) }
-
-    // Texts of a program and a query that are accepted start these alone, and are not refused; others are refused in one way.
-    ensures only { (started : Started) → IsStarted program.now query.now started → MatchResult result (λ s. s ≡ started) IsOutOfMemory }
-    ensures only_refusal { (refusal : Refusal) → IsStartRefusal program.now query.now refusal → IsErrAnd result (λ r. (r ≡ refusal) ⊎ IsOutOfMemory r) }
+    ensures answer { AnsweredUnless IsOutOfMemory (IsStarted program.now query.now) (IsStartRefusal program.now query.now) result }
 {
     let written = match read_program(alloc, program) {
         Ok(written) => written,

@@ -1,10 +1,21 @@
+use Rattle.std.proofs.Common.{sym, inr}
 use Rattle.ghc_reader.specs.Views.{view}
+use Rattle.std.proofs.lemmas.Result.{err_from_is_err_and}
 use Rattle.ghc_reader.specs.Tests.{a_term}
-use Rattle.ghc_reader.proofs.OneReading.{one_input_tree, only_read, only_refusal}
+use Rattle.ghc_reader.proofs.OneReading.{parse_refusal, token_refusal, term_limit_refusal, term_read}
 use Rattle.ghc_reader.proofs.parse_trees.parsed_term.Goals as goal
 
-pub returns-clause-only : goal.returns-clause-only
-returns-clause-only c = only_read a_term one_input_tree _ view c.args.text.now c.term.result c.term.ensures.found c.term.ensures.fault
+pub returns-in_err-lexed-clause-fault : goal.returns-in_err-lexed-clause-fault
+returns-in_err-lexed-clause-fault c =
+    let passed = err_from_is_err_and c.from_residual.result c.from_residual.ensures.1 in
+    rw (passed.1, passed.2) (token_refusal a_term c.args.text.now _ c.in_err-lexed.ensures.fault)
 
-pub returns-clause-only_fault : goal.returns-clause-only_fault
-returns-clause-only_fault c = only_refusal a_term one_input_tree _ view c.args.text.now c.term.result c.term.ensures.found c.term.ensures.fault
+pub returns-in-Err-clause-fault : goal.returns-in-Err-clause-fault
+returns-in-Err-clause-fault c =
+    parse_refusal a_term c.args.text.now _ _ _ c.in_ok-lexed.ensures.found c.deref-in-Err.ensures.value c.in-Err.error (rw c.deref.ensures.value at c.in-Err.ensures.fault) c.fault_of.result c.fault_of.ensures.memory c.fault_of.ensures.syntax
+
+pub returns-in-Some-clause-fault : goal.returns-in-Some-clause-fault
+returns-in-Some-clause-fault c = inr (term_limit_refusal c.args.text.now _ _ (view c.in-Ok.term) c.in_ok-lexed.ensures.found (rw c.deref.ensures.value at c.in-Ok.ensures.found) c.in-Some.limit (sym c.in-Some.ensures))
+
+pub returns-clause-found : goal.returns-clause-found
+returns-clause-found c = term_read c.args.text.now _ _ (view c.in-Ok.term) c.in_ok-lexed.ensures.found (rw c.deref.ensures.value at c.in-Ok.ensures.found) (sym c.in_default.ensures)
