@@ -13,6 +13,9 @@ use ghc_term::{Fault, GoalName, Term, print};
 use ghc_trace::push_ports_of;
 use std::alloc::{AllocError, Global};
 
+// Few replies to a step have more bytes than this; for those the buffer grows.
+const USUAL_REPLY: usize = 128;
+
 /// The line of a refusal. Fails for want of memory, and where that is the refusal.
 pub fn refused(alloc: Global, fault: &Fault) -> Result<Vec<u8>, AllocError>
     ensures text { IfOk result (λ t. t.items ≡ refusal fault.now) }
@@ -30,7 +33,7 @@ pub fn refused(alloc: Global, fault: &Fault) -> Result<Vec<u8>, AllocError>
 fn told(alloc: Global, taken: &Record) -> Result<Vec<u8>, AllocError>
     ensures { IfOk result (λ t. t.items ≡ ports_text (taken_ports taken.now)) }
 {
-    let mut text = String::new(alloc);
+    let mut text = String::with_capacity(alloc, USUAL_REPLY)?;
     push_ports_of(taken, &mut text)?;
     Ok(text.into_bytes())
 }
