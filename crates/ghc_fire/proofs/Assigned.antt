@@ -1,9 +1,9 @@
 -- Why a unification is refused; what an assignment does, or why it is refused, by the value of its expression.
-use Rattle.std.proofs.Common.{◌≡◌, ℤ, [], sym, subst, inl, inr, ◌⊎◌}
+use Rattle.std.proofs.Common.{◌≡◌, ℤ, [], inl, inr, ◌⊎◌}
 use Rattle.std.specs.Prelude.{Option}
 use Rattle.ghc_term.specs.declared.var_name.VarName.{VarName}
 use Rattle.ghc_term.specs.declared.fault.Fault.{Fault}
-use Rattle.ghc_term.specs.declared.fault.Fault.TheVariants.{Memory, Waits, Clash, Cycle}
+use Rattle.ghc_term.specs.declared.fault.Fault.TheVariants.{Memory, Waits}
 use Rattle.ghc_term.specs.Tree.{Tree, integer}
 use Rattle.ghc_term.specs.Expression.{Expression}
 use Rattle.ghc_term.specs.Sets.{Variables}
@@ -11,17 +11,19 @@ use Rattle.ghc_flat.specs.Clause.{Program}
 use Rattle.ghc_match.specs.Position.{EndsIn}
 use Rattle.ghc_match.specs.Value.{Number, waits, HasValue}
 use Rattle.ghc_match.specs.Meeting.{Gains}
-use Rattle.ghc_unify.specs.Unify.{Unifies, Clashes, Cycles}
+use Rattle.ghc_unify.specs.Unify.{Unifies, UnifyFails, clashes, cycles}
 use Rattle.ghc_fire.specs.Effect.{Effect, IsOnChainsOf, Assigns}
 use Rattle.ghc_fire.specs.Attempt.{refused, UnificationAnswers, AssignmentAnswers}
 use Rattle.ghc_fire.proofs.EachAnswer.{no_cycle}
 
 -- a unification that is not solved
-pub not_solved : (S : VarName → Option Tree) (l r : Tree) (f : Fault) → (f ≡ Clash → Clashes S l r) → (f ≡ Cycle → Cycles S l r) → (f ≡ Clash) ⊎ (f ≡ Cycle) ⊎ (f ≡ Memory)
-    → (f ≡ Memory) ⊎ ((P : Program) → UnificationAnswers P l r S (refused f))
-not_solved S l r f clash cycle (inl e) = inr (λ P. subst (λ z. UnificationAnswers P l r S (refused z)) (sym e) (UnificationAnswers.clashes (clash e)))
-not_solved S l r f clash cycle (inr (inl e)) = inr (λ P. subst (λ z. UnificationAnswers P l r S (refused z)) (sym e) (UnificationAnswers.cycles (cycle e)))
-not_solved S l r f clash cycle (inr (inr e)) = inl e
+failed : (S : VarName → Option Tree) (l r : Tree) (f : Fault) (P : Program) → UnifyFails S l r f → UnificationAnswers P l r S (refused f)
+failed S l r f P (clashes c) = UnificationAnswers.clashes c
+failed S l r f P (cycles c) = UnificationAnswers.cycles c
+
+pub not_solved : (S : VarName → Option Tree) (l r : Tree) (f : Fault) → (f ≡ Memory) ⊎ UnifyFails S l r f → (f ≡ Memory) ⊎ ((P : Program) → UnificationAnswers P l r S (refused f))
+not_solved S l r f (inl e) = inl e
+not_solved S l r f (inr why) = inr (λ P. failed S l r f P why)
 
 module _ (S : VarName → Option Tree) (t : Tree) (b : Expression) where
   -- the fault is want of memory, or the answer to the assignment
@@ -33,10 +35,10 @@ module _ (S : VarName → Option Tree) (t : Tree) (b : Expression) where
 
   module _ (v : ℤ) (worth : Number (EndsIn S) b v) where
     -- the unification with the value is refused
-    pub not_unified : (f : Fault) → (f ≡ Clash → Clashes S t (integer v)) → (f ≡ Cycle → Cycles S t (integer v)) → (f ≡ Clash) ⊎ (f ≡ Cycle) ⊎ (f ≡ Memory) → IsAnswer f
-    not_unified f clash cycle (inl e) = inr (λ P. subst (λ z. AssignmentAnswers P t b S (refused z)) (sym e) (AssignmentAnswers.clashes v worth (clash e)))
-    not_unified f clash cycle (inr (inl e)) = absurd (no_cycle S t v (cycle e))
-    not_unified f clash cycle (inr (inr e)) = inl e
+    pub not_unified : (f : Fault) → (f ≡ Memory) ⊎ UnifyFails S t (integer v) f → IsAnswer f
+    not_unified f (inl e) = inl e
+    not_unified f (inr (clashes c)) = inr (λ P. AssignmentAnswers.clashes v worth c)
+    not_unified f (inr (cycles c)) = absurd (no_cycle S t v c)
 
     -- it is solved, and the chains of the expression are read too
     pub unified : (e : Effect) (rest : Variables) → Unifies S t (integer v) e.binds rest → Gains rest e.reads (IsOnChainsOf S b) → e.makes ≡ [] → e.fresh ≡ 0 → Assigns t b S e

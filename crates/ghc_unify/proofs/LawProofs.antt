@@ -6,12 +6,15 @@ use Rattle.std.specs.Ordering.{eq_by_cmp}
 use Rattle.std.specs.FinMap as finite
 use Rattle.std.specs.FinSet as set
 use Rattle.ghc_term.specs.declared.var_name.VarName.{VarName}
+use Rattle.ghc_term.specs.declared.fault.Fault.{Fault}
 use Rattle.ghc_term.specs.Tree.{Tree}
+use Rattle.ghc_term.proofs.Exact.{exact}
 use Rattle.ghc_term.specs.Lists.{In}
 use Rattle.ghc_term.specs.Bindings.{IsAcyclic, name_cmp}
 use Rattle.ghc_term.specs.Store.{value_at}
-use Rattle.ghc_unify.specs.Unify.{Solved, solved, clash, cycle, with_bindings, met, Move, shared, left, right, both, Moves, stay, go}
-use Rattle.ghc_unify.specs.Laws.{UnificationIsLocal, UnificationBindsAndReads, UnificationKeepsAcyclic, UnificationHasOneEnding, UnificationsCommute}
+use Rattle.ghc_unify.specs.Unify.{Unifies, UnifyFails, clashes, cycles, Solved, solved, clash, cycle, with_bindings, met, Move, shared, left, right, both, Moves, stay, go}
+use Rattle.ghc_unify.specs.declared.solve.Solved.{Solved as Answer}
+use Rattle.ghc_unify.specs.Laws.{UnificationIsLocal, UnificationBindsAndReads, UnificationKeepsAcyclic, UnificationHasOneEnding, UnifyIsExact, UnificationsCommute}
 use Rattle.ghc_term.proofs.Names.{name_total}
 use Rattle.ghc_term.proofs.Total.{same_name}
 use Rattle.ghc_term.proofs.Searches.{In_either}
@@ -114,3 +117,24 @@ change_places S l r l' r' binds binds' reads reads' u v none acyclic =
       (bs, u.1, subst (λ T. Solved T l r bs u.1) other c.1, u.3, u.4),
       λ x. sym (ap (λ T. T x) back) ∙ c.2 x ∙ ap (λ T. T x) is',
     )
+
+-- what is answered is exact
+one_solved : (S : VarName → Option Tree) (l r : Tree) → IsAcyclic S → (s t : Answer) → Unifies S l r s.binds s.reads → Unifies S l r t.binds t.reads → s ≡ t
+one_solved S l r acyclic s t u v =
+    let same : solved s.binds s.reads ≡ solved t.binds t.reads = one_ending S l r (solved s.binds s.reads) (solved t.binds t.reads) acyclic u v in
+    let binds : s.binds ≡ t.binds = cc in
+    let reads : s.reads ≡ t.reads = cc in
+    λ i. record { binds = binds i; reads = reads i }
+
+one_failure : (S : VarName → Option Tree) (l r : Tree) → IsAcyclic S → (f g : Fault) → UnifyFails S l r f → UnifyFails S l r g → f ≡ g
+one_failure S l r acyclic f g (clashes a) (clashes b) = refl
+one_failure S l r acyclic f g (clashes a) (cycles b) = let same : clash ≡ cycle = one_ending S l r clash cycle acyclic a b in cc
+one_failure S l r acyclic f g (cycles a) (clashes b) = let same : cycle ≡ clash = one_ending S l r cycle clash acyclic a b in cc
+one_failure S l r acyclic f g (cycles a) (cycles b) = refl
+
+never_fails : (S : VarName → Option Tree) (l r : Tree) → IsAcyclic S → (s : Answer) (f : Fault) → Unifies S l r s.binds s.reads → ¬ UnifyFails S l r f
+never_fails S l r acyclic s f u (clashes a) = let same : solved s.binds s.reads ≡ clash = one_ending S l r (solved s.binds s.reads) clash acyclic u a in cc
+never_fails S l r acyclic s f u (cycles a) = let same : solved s.binds s.reads ≡ cycle = one_ending S l r (solved s.binds s.reads) cycle acyclic u a in cc
+
+pub unify_exact : UnifyIsExact
+unify_exact S l r result acyclic = exact (one_solved S l r acyclic) (one_failure S l r acyclic) (never_fails S l r acyclic) result

@@ -1,24 +1,23 @@
 -- A run of moves, as the code keeps it.
-use Rattle.std.proofs.Common.{◌≡◌, ◌-◌, ◌<◌, List, [], ◌∷◌, ◌++◌, length, sym, ap, ◌∙◌, subst, inl, inr, ◌⊎◌, arith, append-nil}
-use Rattle.std.specs.Prelude.{Option, Some, None, Result, Ok, Err, IfOk, IfErr, reverse}
+use Rattle.std.proofs.Common.{◌≡◌, ◌-◌, ◌<◌, List, [], ◌∷◌, ◌++◌, length, sym, ap, ◌∙◌, subst, inl, inr, arith, append-nil}
+use Rattle.std.specs.Prelude.{Option, Some, None, Result, Ok, Err, reverse}
 use Rattle.std.specs.FinMap as finite
 use Rattle.std.specs.FinSet as set
 use Rattle.ghc_term.specs.declared.var_name.VarName.{VarName}
 use Rattle.ghc_term.specs.declared.fault.Fault.{Fault}
-use Rattle.ghc_term.specs.declared.fault.Fault.TheVariants.{Clash, Cycle, Memory}
+use Rattle.ghc_term.specs.Answered.{Answered}
 use Rattle.ghc_term.specs.Tree.{Tree}
 use Rattle.ghc_term.specs.Store.{StoreValue, value_at}
 use Rattle.ghc_term.specs.Bindings.{IsAcyclic, name_cmp, with_binding}
 use Rattle.ghc_term.proofs.Names.{name_total, name_antisymmetric}
-use Rattle.ghc_unify.specs.Unify.{Moves, stay, with_bindings, Unifies, Clashes, Cycles, ComesTo, Ending, solved, clash, cycle, HasEnding}
+use Rattle.ghc_unify.specs.Unify.{Moves, stay, with_bindings, Unifies, Clashes, Cycles, ComesTo, UnifyFails, clashes, cycles}
 use Rattle.ghc_unify.specs.Steps.{Advances, FailsFrom}
-use Rattle.ghc_unify.specs.Outcome.{ending_of, refused}
 use Rattle.ghc_unify.specs.declared.solve.Solved.{Solved}
 use Rattle.ghc_unify.proofs.Acyclic.{moves_acyclic}
 use Rattle.ghc_unify.proofs.Bound.{moves_fresh}
 use Rattle.ghc_unify.proofs.Growth.{union_append, union_empty}
 use Rattle.ghc_unify.proofs.Falling.{one_more_move}
-use Rattle.ghc_unify.proofs.LawProofs.{one_ending}
+use Rattle.ghc_unify.proofs.Refusals.{HandedOn}
 use Rattle.ghc_term.proofs.Merged.{insert_is, none_more, unbound_below}
 use Rattle.ghc_unify.proofs.Scope.{scope, few_binds, one_bound}
 
@@ -89,15 +88,17 @@ falls_short s l r binds after reads es x t run i n =
     let more = ap finite.len i ∙ one_bound binds x t n in
     omega (arith, most, more)
 
--- the answer is the ending
-pub exactly : (S : VarName → Option Tree) (l r : Tree) (result : Result Solved Fault) → IsAcyclic S → IfOk result (λ s. Unifies S l r s.binds s.reads) → (result ≡ Err Clash → Clashes S l r) → (result ≡ Err Cycle → Cycles S l r)
-    → IfErr result (λ e. (e ≡ Clash) ⊎ (e ≡ Cycle) ⊎ (e ≡ Memory)) → (e : Ending) → HasEnding S l r e → (result ≡ Err Memory) ⊎ (ending_of result ≡ Some e)
-exactly S l r (Ok s) h u c d o e k = inr (ap Some (one_ending S l r (solved s.binds s.reads) e h u k))
-exactly S l r (Err f) h u c d o e k =
-    elim o [
-      | inl p ↦ inr (ap refused p ∙ ap Some (one_ending S l r clash e h (c (ap Err p)) k))
-      | inr q ↦ elim q [
-        | inl p ↦ inr (ap refused p ∙ ap Some (one_ending S l r cycle e h (d (ap Err p)) k))
-        | inr p ↦ inl (ap Err p)
-      ]
+-- the answer of a unification, or why it fails
+pub answered : (S : VarName → Option Tree) (l r : Tree) (result : Result Solved Fault) → HandedOn (λ (s : Solved). Unifies S l r s.binds s.reads) (Clashes S l r) (Cycles S l r) result
+    → Answered (λ (s : Solved). Unifies S l r s.binds s.reads) (UnifyFails S l r) result
+answered S l r (Ok s) h = (h.ok, tt)
+answered S l r (Err f) h = (
+  tt,
+  elim h.only [
+    | inl e ↦ inr (subst (UnifyFails S l r) (sym e) (clashes (h.clash (ap Err e))))
+    | inr q ↦ elim q [
+      | inl e ↦ inr (subst (UnifyFails S l r) (sym e) (cycles (h.cycle (ap Err e))))
+      | inr e ↦ inl e
     ]
+  ],
+)

@@ -1,11 +1,14 @@
 -- Laws of unification.
-use Rattle.std.specs.Prelude.{◌≡◌, ◌⊎◌, ◌↔◌, Option, Some, None, IsTrue}
+use Rattle.std.specs.Prelude.{◌≡◌, ◌⊎◌, ◌↔◌, Option, Some, None, Result, IsTrue}
 use Rattle.std.specs.FinSet as set
 use Rattle.ghc_term.specs.declared.var_name.VarName.{VarName}
+use Rattle.ghc_term.specs.declared.fault.Fault.{Fault}
+use Rattle.ghc_term.specs.Answered.{Answered, IsExact}
 use Rattle.ghc_term.specs.Tree.{Tree}
 use Rattle.ghc_term.specs.Bindings.{Reaches, IsAcyclic, name_cmp}
 use Rattle.ghc_term.specs.Store.{StoreValue, value_at}
-use Rattle.ghc_unify.specs.Unify.{Unifies, Clashes, Cycles, Ending, HasEnding, with_bindings}
+use Rattle.ghc_unify.specs.Unify.{Unifies, UnifyFails, Clashes, Cycles, Ending, HasEnding, with_bindings}
+use Rattle.ghc_unify.specs.declared.solve.Solved.{Solved}
 use Rattle.ghc_unify.specs.Solutions.{Solves, Equates}
 
 -- S' comes from S by taking bindings away from variables of which P does not hold.
@@ -38,6 +41,12 @@ UnificationKeepsAcyclic =
 -- In an acyclic store a unification has one end.
 abbrev pub UnificationHasOneEnding : Type 0
 UnificationHasOneEnding = (S : VarName → Option Tree) (l r : Tree) (e f : Ending) → IsAcyclic S → HasEnding S l r e → HasEnding S l r f → e ≡ f
+
+-- In an acyclic store what is answered for a unification is exact: what it binds and reads, or why it fails, unless memory was refused.
+abbrev pub UnifyIsExact : Type 0
+UnifyIsExact =
+    (S : VarName → Option Tree) (l r : Tree) (result : Result Solved Fault) → IsAcyclic S
+    → Answered (λ s. Unifies S l r s.binds s.reads) (UnifyFails S l r) result → IsExact (λ s. Unifies S l r s.binds s.reads) (UnifyFails S l r) result
 
 -- In an acyclic finite store each unification has an end: it is solved, clashes, or comes to a cycle.
 abbrev pub EachUnificationHasAnEnding : Type 0

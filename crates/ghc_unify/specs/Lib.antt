@@ -3,4 +3,3 @@ pub mod Solutions
 pub mod Laws
 pub mod Parting
 pub mod Steps
-pub mod Outcome

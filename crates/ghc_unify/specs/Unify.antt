@@ -3,6 +3,7 @@ use Rattle.std.specs.Prelude.{◌≡◌, ◌⊎◌, List, [], ◌∷◌, ◌++�
 use Rattle.std.specs.FinMap as finite
 use Rattle.std.specs.FinSet as set
 use Rattle.ghc_term.specs.declared.var_name.VarName.{VarName}
+use Rattle.ghc_term.specs.declared.fault.Fault.{Fault}
 use Rattle.ghc_term.specs.Tree.{Tree, integer, node, Trees, none, more, IsValue}
 use Rattle.ghc_term.specs.Lists.{In}
 use Rattle.ghc_term.specs.Bindings.{Leads, Reaches, Comes, Passes, name_cmp, with_binding}
@@ -83,6 +84,11 @@ Clashes S l r = ComesTo IsClash S l r
 -- In the store S the unification of l and r comes to a cycle.
 abbrev pub Cycles : (VarName → Option Tree) → Tree → Tree → Type 0
 Cycles S l r = ComesTo IsCycle S l r
+
+-- Why two sides are not unified: a clash, or a cycle.
+pub data UnifyFails (S : VarName → Option Tree) (l r : Tree) : Fault → Type 0 where
+  clashes : Clashes S l r → UnifyFails S l r Fault.Clash
+  cycles : Cycles S l r → UnifyFails S l r Fault.Cycle
 
 -- The end of a unification: solved by bindings and reads, a clash, or a cycle.
 pub data Ending : Type 0 where

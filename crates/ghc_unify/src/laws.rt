@@ -1,5 +1,5 @@
 // Laws of unification, each as the contract of a function.
-ghost use Rattle.ghc_unify.specs.Laws.{UnificationIsLocal, UnificationBindsAndReads, UnificationKeepsAcyclic, UnificationHasOneEnding, EachUnificationHasAnEnding, UnificationLooksAtItsTerms, UnificationsCommute, UnificationKeepsSolutions};
+ghost use Rattle.ghc_unify.specs.Laws.{UnificationIsLocal, UnificationBindsAndReads, UnificationKeepsAcyclic, UnificationHasOneEnding, UnifyIsExact, EachUnificationHasAnEnding, UnificationLooksAtItsTerms, UnificationsCommute, UnificationKeepsSolutions};
 
 /// Bindings of variables that a unification did not read may be taken away.
 pub fn unification_is_local()
@@ -19,6 +19,11 @@ pub fn unification_keeps_acyclic()
 /// A unification is solved, clashes or comes to a cycle, only one of these and only in one way.
 pub fn unification_has_one_ending()
     ensures { UnificationHasOneEnding }
+{}
+
+/// In an acyclic store what is answered for a unification is exact, unless memory was refused.
+pub fn unify_is_exact()
+    ensures { UnifyIsExact }
 {}
 
 /// In an acyclic finite store each unification is solved, clashes or comes to a cycle.

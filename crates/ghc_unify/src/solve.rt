@@ -1,14 +1,14 @@
 // Unification.
-ghost use Rattle.std.specs.Prelude.{◌≡◌, ◌⊎◌, ◌↔◌, [], ◌∷◌, IfOk, IfErr, OnOk, Err, Some};
+ghost use Rattle.std.specs.Prelude.{◌≡◌, ◌⊎◌, ◌↔◌, [], ◌∷◌, IfOk, IfErr, OnOk, Err};
 ghost use Rattle.std.specs.FinMap as finite;
 ghost use Rattle.std.specs.FinSet as set;
+ghost use Rattle.ghc_term.specs.Answered.{Answered};
 ghost use Rattle.ghc_term.specs.Store.{value_at};
 ghost use Rattle.ghc_term.specs.Tree.{Tree};
 ghost use Rattle.ghc_term.specs.declared.var_name.VarName.{VarName};
 ghost use Rattle.ghc_term.specs.Bindings.{IsAcyclic};
-ghost use Rattle.ghc_unify.specs.Unify.{Unifies, Clashes, Cycles, Ending, HasEnding, with_bindings};
+ghost use Rattle.ghc_unify.specs.Unify.{Unifies, UnifyFails, Clashes, Cycles, with_bindings};
 ghost use Rattle.ghc_unify.specs.Solutions.{Solves, Equates};
-ghost use Rattle.ghc_unify.specs.Outcome.{ending_of};
 
 use crate::step::{Equations, advance};
 use ghc_term::{Bindings, Fault, Store, Term, Variables};
@@ -67,13 +67,7 @@ fn solve(
 /// any length take no stack. Each binding costs a search of the bound term. Terms that share parts are met once for each
 /// place where they stand: it ends, but no bound on the time is promised there.
 pub fn unify(alloc: Global, left: &Term, right: &Term, store: &Store) -> Result<Solved, Fault>
-    ensures solved { IfOk result (λ s. Unifies (value_at store.now.held) left.now right.now s.binds s.reads) }
-    ensures clash { result ≡ Err Fault.Clash → Clashes (value_at store.now.held) left.now right.now }
-    ensures cycle { result ≡ Err Fault.Cycle → Cycles (value_at store.now.held) left.now right.now }
-    ensures only { IfErr result (λ e. (e ≡ Fault.Clash) ⊎ (e ≡ Fault.Cycle) ⊎ (e ≡ Fault.Memory)) }
-
-    // The answer is the one ending that the unification has, unless memory is wanting.
-    ensures exact { (e : Ending) → HasEnding (value_at store.now.held) left.now right.now e → (result ≡ Err Fault.Memory) ⊎ (ending_of result ≡ Some e) }
+    ensures answer { Answered (λ s. Unifies (value_at store.now.held) left.now right.now s.binds s.reads) (UnifyFails (value_at store.now.held) left.now right.now) result }
 
     // The solutions of the store and the equation are those of the store with the bindings; a clash or a cycle has none.
     ensures kept { IfOk result (λ s. (a : VarName → Tree) → (Solves a (value_at store.now.held) × Equates a left.now right.now) ↔ Solves a (with_bindings s.binds (value_at store.now.held))) }

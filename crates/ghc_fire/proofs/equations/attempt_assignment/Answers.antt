@@ -1,14 +1,15 @@
-use Rattle.std.proofs.Common.{◌≡◌, rules, Err, sym, ap, ◌∙◌, subst, inr}
+use Rattle.std.proofs.Common.{◌≡◌, ◌⊎◌, rules, sym, ap, ◌∙◌, subst, inr}
 use Rattle.std.proofs.lemmas.Int.{to_z-of_z}
 use Rattle.std.proofs.lemmas.Result.{err_from_is_err_and}
 use mir.Val.{SFits}
 use mir.Syntax.{w64}
+use Rattle.ghc_term.specs.declared.fault.Fault.TheVariants.{Memory}
 use Rattle.ghc_term.specs.Tree.{integer}
 use Rattle.ghc_term.specs.Store.{value_at}
 use Rattle.ghc_match.specs.Value.{HasValue}
 use Rattle.ghc_match.specs.Told.{value_of}
 use Rattle.ghc_match.specs.Meeting.{Gains}
-use Rattle.ghc_unify.specs.Unify.{Unifies, Clashes, Cycles}
+use Rattle.ghc_unify.specs.Unify.{Unifies, UnifyFails}
 use Rattle.ghc_fire.specs.Effect.{IsOnChainsOf}
 use Rattle.ghc_fire.specs.Attempt.{AssignmentAnswers}
 use Rattle.ghc_fire.proofs.Assigned.{waiting, not_unified, unified}
@@ -34,7 +35,7 @@ returns-clause-effect c =
     let right : c.integer.result ≡ integer v = c.integer.ensures ∙ ap integer (to_z-of_z w64 v fits) in
     let e = c.new-2.result in
     let rest = c.in_ok-binds.field-0.reads in
-    let solved = subst (λ u. Unifies S c.args.left.now u e.binds rest) right (subst (λ b. Unifies S c.args.left.now c.integer.result b rest) (sym c.new-2.ensures.binds) c.in_ok-binds.ensures.solved) in
+    let solved = subst (λ u. Unifies S c.args.left.now u e.binds rest) right (subst (λ b. Unifies S c.args.left.now c.integer.result b rest) (sym c.new-2.ensures.binds) c.in_ok-binds.ensures.answer.0) in
     let read = subst (λ r. Gains rest r (IsOnChainsOf S c.args.value.now)) (sym c.new-2.ensures.reads) c.in_ok-add_chains.ensures in
     unified S c.args.left.now c.args.value.now v worth e rest solved read (c.new-2.ensures.makes ∙ c.new.ensures.items) c.new-2.ensures.fresh
 
@@ -46,7 +47,5 @@ returns-in_err-binds-clause-fault c =
     let worth = subst (λ v. HasValue S c.args.value.now (value_of v)) c.in-Number.is c.in_ok-integer.ensures in
     let right : c.integer.result ≡ integer v = c.integer.ensures ∙ ap integer (to_z-of_z w64 v fits) in
     let p = err_from_is_err_and c.from_residual-in_err-binds.result c.from_residual-in_err-binds.ensures.1 in
-    let clashes = subst (Clashes S c.args.left.now) right in
-    let cycles = subst (Cycles S c.args.left.now) right in
-    rw (p.1, p.2)
-    (not_unified S c.args.left.now c.args.value.now v worth c.in_err-binds.field-0.0 (λ e. clashes (c.in_err-binds.ensures.clash (ap Err e))) (λ e. cycles (c.in_err-binds.ensures.cycle (ap Err e))) c.in_err-binds.ensures.only)
+    let f = c.in_err-binds.field-0.0 in
+    rw (p.1, p.2) (not_unified S c.args.left.now c.args.value.now v worth f (subst (λ u. (f ≡ Memory) ⊎ UnifyFails S c.args.left.now u f) right c.in_err-binds.ensures.answer.1))

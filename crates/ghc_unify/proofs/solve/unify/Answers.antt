@@ -1,11 +1,10 @@
 use Rattle.std.proofs.Common.{ap, ◌∙◌, inl, inr}
-use Rattle.std.specs.Prelude.{Err, Some}
+use Rattle.std.specs.Prelude.{Err}
 use Rattle.std.proofs.lemmas.Result.{err_from_is_err_and}
 use Rattle.ghc_term.specs.Store.{value_at}
-use Rattle.ghc_unify.specs.Unify.{Unifies, Clashes, Cycles, solved}
-use Rattle.ghc_unify.proofs.LawProofs.{one_ending}
+use Rattle.ghc_unify.specs.Unify.{Unifies, Clashes, Cycles}
 use Rattle.ghc_unify.proofs.Refusals.{HandedOn, handed_on, no_answer}
-use Rattle.ghc_unify.proofs.Runs.{exactly}
+use Rattle.ghc_unify.proofs.Runs.{answered}
 use Rattle.ghc_unify.proofs.SolutionLemmas.{solutions}
 use Rattle.ghc_unify.proofs.solve.unify.Goals as goal
 
@@ -20,19 +19,13 @@ returns-in_err-solve c =
     handed_on out.result c.in_err-solve.field-0.0 (p.1 ∙ ap Err p.2) (λ is. c.in_err-solve.ensures.clash (ap Err is)) (λ is. c.in_err-solve.ensures.cycle (ap Err is)) c.in_err-solve.ensures.only in
     let all = solutions S l r in
     record {
-      solved = h.ok;
-      clash = h.clash;
-      cycle = h.cycle;
-      only = h.only;
-      exact = exactly S l r out.result c.acyclic.ensures h.ok h.clash h.cycle h.only;
+      answer = answered S l r out.result h;
       kept = no_answer _ out.result c.in_err-solve.field-0.0 (p.1 ∙ ap Err p.2);
       none = λ e. elim e [ inl q ↦ all.clash (h.clash q) | inr q ↦ all.cycle (h.cycle q) ];
     }
 
-pub returns-clause-exact : goal.returns-clause-exact
-returns-clause-exact c e k =
-    let s = c.solve.new.solved in
-    inr (ap Some (one_ending (value_at c.args.store.now.held) c.args.left.now c.args.right.now (solved s.binds s.reads) e c.acyclic.ensures c.in_ok-solve.ensures.solved k))
+pub returns-clause-answer : goal.returns-clause-answer
+returns-clause-answer c = (c.in_ok-solve.ensures.solved, tt)
 
 pub returns-clause-kept : goal.returns-clause-kept
 returns-clause-kept c =
