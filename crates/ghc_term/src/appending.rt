@@ -33,7 +33,8 @@ pub fn or_cut_back(
     written
 }
 
-/// Writes a number at the end of `out`, which stays as it was where memory is refused.
+/// Writes a number at the end of `out`, which stays as it was where memory is refused. It costs a step for each digit.
+#[inline(never)]
 pub fn push_number(number: u32, out: &mut String) -> Result<(), AllocError>
     ensures { string_bytes out.new ≡ (if is_ok result then string_bytes out.old ++ decimal number else string_bytes out.old) }
 {
@@ -41,7 +42,9 @@ pub fn push_number(number: u32, out: &mut String) -> Result<(), AllocError>
     out.push_str(digits.format(number))
 }
 
-// Writes an integer at the end of `out`, which stays as it was where memory is refused.
+// Writes an integer at the end of `out`, which stays as it was where memory is refused. Its buffer is no part of the caller's
+// frame, which is paid for at each entry.
+#[inline(never)]
 pub(crate) fn push_integer(k: i64, out: &mut String) -> Result<(), AllocError>
     ensures text { OnOk result (string_bytes out.new ≡ string_bytes out.old ++ signed_decimal k) }
     ensures begun { StartsWith (string_bytes out.new) (string_bytes out.old) }
