@@ -1,18 +1,24 @@
 -- Lists of bindings of distinct variables.
-use Rattle.std.proofs.Common.{◌≡◌, ℕ, zero, suc, true, false, cond, List, [], ◌∷◌, get_or, slice_get, slice_set, Some, None, is_some, refl, sym, ap, ◌∙◌, subst}
+use Rattle.std.proofs.Common.{◌≡◌, ◌≢◌, ℕ, zero, suc, ◌+◌, ◌<◌, true, false, cond, List, [], ◌∷◌, ◌++◌, length, get_or, drop, take, slice_get, slice_set, Some, None, is_some, All, inl, inr, refl, sym, ap, ◌∙◌, subst}
 use Rattle.std.specs.List.{AllByRecursion, IsDistinct}
 use Rattle.std.specs.Map.{keys_of, lookup}
 use Rattle.std.specs.FinMap as finite
-use Rattle.std.proofs.lemmas.Map.Entries.{lookup_from_place}
+use Rattle.std.proofs.lemmas.List.{drop_more, map-append, take-map, get_or-map}
+use Rattle.std.proofs.lemmas.List.Elements.{All-contains}
+use Rattle.std.proofs.lemmas.Map.Entries.{lookup_from_place, length-keys_of}
 use Rattle.ghc_term.specs.declared.var_name.VarName.{VarName}
 use Rattle.ghc_term.specs.Bindings.{name_cmp}
+use Rattle.ghc_term.specs.BindingTable.{Entries, AreOnce, map_of}
 use Rattle.ghc_term.specs.Lists.{In}
 use Rattle.ghc_term.specs.Store.{value_at}
 use Rattle.ghc_term.specs.Tree.{Tree}
 use Rattle.ghc_term.specs.VariableList.{AreDifferent, is_same}
-use Rattle.ghc_term.proofs.Entries.{lookup_at, inserted}
+use Rattle.ghc_term.proofs.Entries.{lookup_at, inserted, same_is}
+use Rattle.ghc_term.proofs.ListsLemmas.{in_contains}
 use Rattle.ghc_term.proofs.MapsLemmas.{key_in}
-use Rattle.ghc_term.proofs.VariableLists.{equivalence}
+use Rattle.ghc_term.proofs.Names.{name_total, name_antisymmetric}
+use Rattle.ghc_term.proofs.VariableLists as names
+use Rattle.ghc_term.proofs.VariableLists.{equivalence, one_more}
 
 at : (P : VarName → Type 0) (ks : List VarName) (i : ℕ) (x : VarName) → AllByRecursion P ks → slice_get ks i ≡ Some x → P x
 at P [] i x a e = cc
@@ -66,3 +72,35 @@ found_changed (b ∷ es) (suc i) x v d e q =
 
 pub changed : (es : List (VarName × Tree)) (i : ℕ) (x : VarName) (v : Tree) → AreDifferent (keys_of es) → slice_get (keys_of es) i ≡ Some x → finite.from_entries (slice_set es i (x, v)) ≡ finite.insert (finite.from_entries {R = name_cmp} es) x v
 changed es i x v d e = inserted es (slice_set es i (x, v)) x v (found_changed es i x v d e)
+
+pub still_once : (es : Entries) (i : ℕ) (x : VarName) (v : Tree) → AreOnce es → slice_get (keys_of es) i ≡ Some x → AreOnce (slice_set es i (x, v))
+still_once es i x v d e = subst AreDifferent (sym (same_keys es i x v e)) d
+
+-- an entry more
+pub once_more : (es new : Entries) (x : VarName) (v : Tree) → AreOnce es → ¬ In x (keys_of es) → new ≡ es ++ (x, v) ∷ [] → AreOnce new
+once_more es new x v d n e = one_more (keys_of es) (keys_of new) x d n (ap keys_of e ∙ map-append (λ (b : VarName × Tree). b.0) es ((x, v) ∷ []))
+
+pub added : (es new : Entries) (x : VarName) (v : Tree) → ¬ In x (keys_of es) → new ≡ es ++ (x, v) ∷ [] → map_of new ≡ finite.insert (map_of es) x v
+added es new x v n e = ap map_of e ∙ finite.from_entries_push name_total name_antisymmetric es x v (no_value es x n)
+
+-- what no test finds is not there
+entry_of : (es : Entries) (x : VarName) → In x (keys_of es) → (e : VarName × Tree) × In e es × (e.0 ≡ x)
+entry_of [] x i = absurd i
+entry_of (e ∷ es) x (inl s) = (e, inl refl, sym s)
+entry_of (e ∷ es) x (inr i) = let r = entry_of es x i in (r.0, inr r.1, r.2)
+
+pub no_key : (es : Entries) (x : VarName) → All (λ (e : VarName × Tree). e.0 ≢ x) es → ¬ In x (keys_of es)
+no_key es x a i = let r = entry_of es x i in All-contains (λ (e : VarName × Tree). e.0 ≢ x) es r.0 a (in_contains es r.0 r.1) r.2
+
+-- a search comes to the next entry
+pub next : (es : Entries) (i : ℕ) (e : VarName × Tree) (x : VarName) → i < length es → e ≡ get_or es i e → finite.find name_cmp x es ≡ finite.find name_cmp x (drop i es)
+    → finite.find name_cmp x es ≡ cond (is_same x e.0) (Some e.1) (finite.find name_cmp x (drop (i + 1) es))
+next es i e x h is before =
+    before ∙ ap (finite.find name_cmp x) (drop_more es i e h ∙ ap (λ u. u ∷ drop (i + 1) es) (sym is))
+    ∙ ap (λ b. cond b (Some e.1) (finite.find name_cmp x (drop (i + 1) es))) (sym (same_is x e.0))
+
+-- the name of an entry stands nowhere before
+pub not_before : (es : Entries) (i : ℕ) (e : VarName × Tree) → AreOnce es → i < length es → e ≡ get_or es i e → ¬ In e.0 (keys_of (take i es))
+not_before es i e d h is n =
+    names.not_before (keys_of es) i e.0 d (subst (λ k. i < k) (sym (length-keys_of es)) h)
+    (subst (λ x. In x (take i (keys_of es))) (ap (λ b. b.0) is ∙ sym (get_or-map (λ (b : VarName × Tree). b.0) es i e e.0 h)) (subst (In e.0) (sym (take-map (λ (b : VarName × Tree). b.0) i es)) n))

@@ -15,6 +15,8 @@ pub mod Bindings
 pub mod Store
 pub mod Table
 pub mod VariableList
+pub mod BindingTable
+pub mod BindingList
 pub mod Shown
 pub mod Seen
 pub mod Overlay

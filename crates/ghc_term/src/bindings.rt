@@ -1,50 +1,124 @@
 // What a step binds.
-ghost use Rattle.std.specs.Prelude.{◌≡◌, ◌↔◌, ◌<◌, length, IfOk, IsTrue, OnOk, OnErr, None, Some, vec_len, vec_capacity};
+ghost use Rattle.std.specs.Prelude.{◌≡◌, ◌≢◌, ◌↔◌, [], ◌∷◌, length, IfOk, IfSome, IfNone, IsTrue, OnOk, OnErr, option_copied, Some, All, slice_get};
+ghost use Rattle.std.specs.FinMap as finite;
+ghost use Rattle.std.specs.Map.{keys_of};
+ghost use Rattle.ghc_term.specs.BindingTable.{AreOnce, map_of};
+ghost use Rattle.ghc_term.specs.Store.{value_at};
 
+use crate::binding_table::{BindingTable, tabled};
 use crate::term::Term;
 use crate::var_name::VarName;
-use crate::variable_list::VariableList;
 use std::alloc::{AllocError, Global};
 use std::marker::Model;
+use std::{mem, slice};
 
-/// Some variables, each with the term to which it is bound as written. A few are searched one after another, and more by a
-/// look-up.
+// How many bindings are searched one after another.
+const MOST_LISTED: usize = 8;
+
+/// Some variables, each with the term to which it is bound as written. One takes no memory; a few are searched one after
+/// another, and more by a look-up.
 pub struct Bindings {
-    names: VariableList,
-    entries: Vec<(VarName, Term)>,
+    held: Held,
+}
+
+enum Held {
+    Nothing(Global),
+    One(Global, (VarName, Term)),
+    Listed(Vec<(VarName, Term)>),
+    Tabled(Box<BindingTable>),
+}
+
+impl Drop for Held {
+    fn drop(self) {
+        match self {
+            Held::Nothing(_) => {}
+            Held::One(_, _entry) => {}
+            Held::Listed(_list) => {}
+            Held::Tabled(_table) => {}
+        }
+    }
 }
 
 impl Model for Bindings {
-    ghost use Rattle.std.specs.Prelude.{◌≡◌};
-    ghost use Rattle.std.specs.Map.{keys_of};
     ghost use Rattle.ghc_term.specs.Store.{StoreValue, store_code};
-    ghost use Rattle.std.specs.FinMap as finite;
+    ghost use Rattle.ghc_term.specs.BindingList.{in_order};
+    ghost use Rattle.ghc_term.specs.BindingTable.{AreOnce, map_of};
 
     ghost Value = { StoreValue };
 
     ghost coded = { store_code };
 
-    ghost view = { λ b. finite.from_entries b.entries.items };
+    ghost view = { λ b. map_of (in_order b.held) };
 
-    ghost invariant = { λ b. keys_of b.entries.items ≡ b.names };
+    ghost invariant = { λ b. AreOnce (in_order b.held) };
 }
 
-// Makes room for one more entry, and for no others where it is the first.
-fn make_room(entries: &mut Vec<(VarName, Term)>) -> Result<(), AllocError>
-    ensures items { entries.new.items ≡ entries.old.items }
-    ensures room { OnOk result (vec_len entries.new < vec_capacity entries.new) }
+// What the list binds the variable to: one comparison for each that stands before it.
+fn value_in(list: &[(VarName, Term)], x: VarName) -> Option<&Term>
+    ensures { option_copied result ≡ value_at (map_of list.now) x }
 {
-    if entries.is_empty() {
-        entries.reserve_exact(1)
-    } else {
-        entries.reserve(1)
+    for (y, value) in list {
+        if x == *y {
+            return Some(value);
+        }
+    }
+    None
+}
+
+// Where the variable stands in the list: one comparison for each that stands before it.
+fn place_in(list: &[(VarName, Term)], x: VarName) -> Option<usize>
+    ensures found { IfSome result (λ place. slice_get (keys_of list.now) place ≡ Some x) }
+    ensures none { IfNone result (All (λ e. e.0 ≢ x) list.now) }
+{
+    list.iter().position(|(y, _)| *y == x)
+}
+
+// A list of the entry, which is taken, with room for one more.
+fn listed(alloc: Global, entry: &mut (VarName, Term)) -> Result<Vec<(VarName, Term)>, AllocError>
+    ensures ok { IfOk result (λ list. list.items ≡ entry.old ∷ []) }
+    ensures err { OnErr result (entry.new ≡ entry.old) }
+{
+    let mut list = Vec::with_capacity(alloc, 2)?;
+    let none = (entry.0, Term::integer(0));
+    list.push_reserved(mem::replace(entry, none));
+    Ok(list)
+}
+
+// Binds the variable in the list.
+fn put(list: &mut Vec<(VarName, Term)>, x: VarName, value: Term) -> Result<(), AllocError>
+    requires { AreOnce list.old.items }
+    ensures once { AreOnce list.new.items }
+    ensures ok { OnOk result (map_of list.new.items ≡ finite.insert (map_of list.old.items) x value) }
+    ensures err { OnErr result (list.new.items ≡ list.old.items) }
+{
+    match place_in(list, x) {
+        Some(place) => {
+            list[place] = (x, value);
+        }
+        None => {
+            list.push((x, value))?;
+        }
+    }
+    Ok(())
+}
+
+impl Held {
+    ghost use Rattle.ghc_term.specs.BindingList.{in_order};
+
+    // The bindings.
+    fn entries(&self) -> &[(VarName, Term)]
+        ensures { result.now ≡ in_order self.now }
+    {
+        match self {
+            Held::Nothing(_) => &[],
+            Held::One(_, entry) => slice::from_ref(entry),
+            Held::Listed(list) => list.as_slice(),
+            Held::Tabled(table) => table.entries(),
+        }
     }
 }
 
 impl Bindings {
-    ghost use Rattle.std.specs.Prelude.{option_copied};
-    ghost use Rattle.std.specs.FinMap as finite;
-    ghost use Rattle.ghc_term.specs.Store.{value_at};
     ghost use Rattle.ghc_term.specs.Equality.{IsWithin};
 
     /// No bindings, which take no memory.
@@ -52,8 +126,7 @@ impl Bindings {
         ensures { result ≡ finite.empty }
     {
         Bindings {
-            names: VariableList::new(alloc),
-            entries: Vec::new(alloc),
+            held: Held::Nothing(alloc),
         }
     }
 
@@ -61,19 +134,22 @@ impl Bindings {
     pub fn with_capacity(alloc: Global, count: usize) -> Result<Bindings, AllocError>
         ensures { IfOk result (λ b. b ≡ finite.empty) }
     {
+        if count < 2 {
+            return Ok(Bindings::new(alloc));
+        }
+        let list = Vec::with_capacity(alloc, count)?;
         Ok(Bindings {
-            names: VariableList::with_capacity(alloc, count)?,
-            entries: Vec::with_capacity(alloc, count)?,
+            held: Held::Listed(list),
         })
     }
 
-    /// What the variable is bound to: one look-up.
+    /// What the variable is bound to: eight comparisons at most, or one look-up.
     pub fn get(&self, x: VarName) -> Option<&Term>
         ensures { option_copied result ≡ value_at self.now x }
     {
-        match self.names.place_of(x) {
-            Some(place) => Some(&self.entries[place].1),
-            None => None,
+        match &self.held {
+            Held::Tabled(table) => table.get(x),
+            held => value_in(held.entries(), x),
         }
     }
 
@@ -89,17 +165,27 @@ impl Bindings {
         ensures ok { OnOk result (self.new ≡ finite.insert self.old x value) }
         ensures err { OnErr result (self.new ≡ self.old) }
     {
-        match self.names.place_of(x) {
-            Some(place) => {
-                self.entries[place] = (x, value);
+        match &mut self.held {
+            Held::Nothing(alloc) => {
+                self.held = Held::One(*alloc, (x, value));
                 Ok(())
             }
-            None => {
-                make_room(&mut self.entries)?;
-                self.names.push(x)?;
-                self.entries.push((x, value)).unwrap();
-                Ok(())
+            Held::One(alloc, entry) => {
+                let mut list = listed(*alloc, entry)?;
+                let done = put(&mut list, x, value);
+                self.held = Held::Listed(list);
+                done
             }
+            Held::Listed(list) => {
+                if list.len() < MOST_LISTED {
+                    return put(list, x, value);
+                }
+                let mut table = tabled(list)?;
+                let done = table.insert(x, value);
+                self.held = Held::Tabled(table);
+                done
+            }
+            Held::Tabled(table) => table.insert(x, value),
         }
     }
 
@@ -108,9 +194,7 @@ impl Bindings {
         ensures all { finite.from_entries result.now ≡ self.now }
         ensures once { length result.now ≡ finite.len self.now }
     {
-        // Called for its clause that no variable stands twice, which the proof cites.
-        let _names = self.names.as_slice();
-        self.entries.as_slice()
+        self.held.entries()
     }
 
     // Whether the variable is bound to the term here.
@@ -127,9 +211,7 @@ impl Bindings {
     fn is_within(&self, alloc: Global, other: &Bindings) -> Result<bool, AllocError>
         ensures { IfOk result (λ yes. IsTrue yes ↔ IsWithin self.now other.now) }
     {
-        // Called for its clause that no variable stands twice, which the proof cites.
-        let _names = self.names.as_slice();
-        for (x, value) in &self.entries {
+        for (x, value) in self.held.entries() {
             if !other.binds(alloc, *x, value)? {
                 return Ok(false);
             }
@@ -150,9 +232,6 @@ impl Bindings {
 
 impl Drop for Bindings {
     fn drop(self) {
-        let Bindings {
-            names: _names,
-            entries: _entries,
-        } = self;
+        let Bindings { held: _held } = self;
     }
 }

@@ -2,6 +2,7 @@
 #![tactic(auto)]
 
 mod appending;
+mod binding_table;
 mod bindings;
 mod comparison;
 mod equality;

@@ -3,10 +3,9 @@ use Rattle.std.specs.Prelude.{Some}
 use Rattle.std.specs.FinMap as finite
 use Rattle.std.proofs.lemmas.List.{take_all}
 use Rattle.std.proofs.lemmas.Option.{slice_get_read}
-use Rattle.std.specs.Map.{keys_of}
+use Rattle.ghc_term.specs.BindingTable.{AreOnce}
 use Rattle.ghc_term.specs.Lists.{In}
 use Rattle.ghc_term.specs.Store.{value_at}
-use Rattle.ghc_term.specs.VariableList.{AreDifferent}
 use Rattle.ghc_term.proofs.BindingLists.{value_there}
 use Rattle.ghc_term.proofs.ListsLemmas.{each_next, in_at, not_both}
 use Rattle.ghc_term.proofs.MapsLemmas.{place_of}
@@ -15,25 +14,25 @@ use Rattle.ghc_term.proofs.bindings.Bindings.is_within.Goals as goal
 
 pub returns-then-not-branch : goal.returns-then-not-branch
 returns-then-not-branch c =
-    let es = c.deref-x-items.result.now in
+    let es = c.entries-x-items.result.now in
     let b = c.loop-x-item.result in
-    let different : AreDifferent (keys_of es) = subst AreDifferent (sym (ap keys_of c.deref-x-items.ensures.value ∙ c.self.invariant)) c.as_slice-names.ensures.different in
+    let different : AreOnce es = subst AreOnce (sym c.entries-x-items.ensures) c.self.invariant in
     let here = value_there es c.loop-x.x-index b different (slice_get_read es (length es) c.loop-x.x-index b refl c.loop-x-test.true c.loop-x-item.is) in (
       λ h. absurd (let clash : false ≡ true = h in cc),
-      λ w. absurd (not_both c.in_ok-binds.field-0 c.if-not-branch.true (c.in_ok-binds.ensures.1 (w b.0 b.1 (sym (ap (λ l. value_at (finite.from_entries l) b.0) c.deref-x-items.ensures.value ∙ ap (λ m. value_at m b.0) c.self.view_is) ∙ here)))),
+      λ w. absurd (not_both c.in_ok-binds.field-0 c.if-not-branch.true (c.in_ok-binds.ensures.1 (w b.0 b.1 (sym (ap (λ l. value_at (finite.from_entries l) b.0) c.entries-x-items.ensures ∙ ap (λ m. value_at m b.0) c.self.view_is) ∙ here)))),
     )
 
 pub loop-x-preserved : goal.loop-x-preserved
 loop-x-preserved c =
     let b = c.loop-x-item.result in
-    each_next (λ b. value_at c.args.other.now b.0 ≡ Some b.1) c.deref-x-items.result.now c.loop-x.x-index b c.loop-x-test.true c.loop-x.invariant
+    each_next (λ b. value_at c.args.other.now b.0 ≡ Some b.1) c.entries-x-items.result.now c.loop-x.x-index b c.loop-x-test.true c.loop-x.invariant
     (subst (λ b. value_at c.args.other.now b.0 ≡ Some b.1) c.loop-x-item.is (c.in_ok-binds.ensures.0 c.if-not-branch.false))
 
 pub returns : goal.returns
 returns c = (
   λ h x t g.
-      let es = c.deref-x-items.result.now in
-      let found = place_of x t es (sym (finite.get-from_entries name_total es x) ∙ ap (λ l. value_at (finite.from_entries l) x) c.deref-x-items.ensures.value ∙ ap (λ m. value_at m x) c.self.view_is ∙ g) in
+      let es = c.entries-x-items.result.now in
+      let found = place_of x t es (sym (finite.get-from_entries name_total es x) ∙ ap (λ l. value_at (finite.from_entries l) x) c.entries-x-items.ensures ∙ ap (λ m. value_at m x) c.self.view_is ∙ g) in
       c.loop-x.invariant (x, t) (subst (In (x, t)) (sym (take_all c.loop-x.x-index es c.loop-x-test.false)) (in_at es found.0 (x, t) found.2)),
   λ w. refl,
 )

@@ -1,12 +1,13 @@
 use Rattle.std.proofs.Common.{sym, ap, ◌∙◌, subst}
 use Rattle.std.specs.Prelude.{Some, slice_get}
 use Rattle.std.specs.FinMap as finite
+use Rattle.ghc_term.specs.BindingTable.{map_of}
 use Rattle.ghc_term.specs.Lists.{In}
 use Rattle.ghc_term.specs.Store.{value_at}
 use Rattle.ghc_term.specs.VariableList.{AreDifferent}
 use Rattle.ghc_term.proofs.BindingLists.{entry_there, value_there, no_value}
 use Rattle.ghc_term.proofs.Names.{name_total}
-use Rattle.ghc_term.proofs.bindings.Bindings.get.Goals as goal
+use Rattle.ghc_term.proofs.binding_table.BindingTable.get.Goals as goal
 
 pub returns-in-Some : goal.returns-in-Some
 returns-in-Some c =
@@ -14,9 +15,9 @@ returns-in-Some c =
     let t = entry_there es c.in-Some.place c.args.x c.index.result.now (ap (λ l. slice_get l c.in-Some.place) c.self.invariant ∙ c.in-Some.ensures.found) in
     ap (λ p. Some p.1) c.index.ensures
     ∙ sym (value_there es c.in-Some.place _ (subst AreDifferent (sym c.self.invariant) c.place_of.ensures.different) t.0)
-    ∙ ap (value_at (finite.from_entries es)) t.1 ∙ ap (λ m. value_at m c.args.x) c.self.view_is
+    ∙ ap (value_at (map_of es)) t.1 ∙ ap (λ l. value_at (map_of l) c.args.x) c.self.view_is
 
 pub returns-in-None : goal.returns-in-None
 returns-in-None c =
     sym (finite.get-from_entries name_total c.self.inside.entries.items c.args.x ∙ no_value c.self.inside.entries.items c.args.x (λ i. c.in-None.ensures.none (subst (In c.args.x) c.self.invariant i)))
-    ∙ ap (λ m. value_at m c.args.x) c.self.view_is
+    ∙ ap (λ l. value_at (map_of l) c.args.x) c.self.view_is

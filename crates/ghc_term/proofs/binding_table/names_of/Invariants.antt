@@ -1,0 +1,6 @@
+use Rattle.std.proofs.Common.{◌≡◌, take}
+use Rattle.std.specs.Map.{keys_of}
+use Rattle.ghc_term.proofs.binding_table.names_of.Given as goal
+
+abbrev pub invariant-loop-x : goal.invariant-loop-x
+invariant-loop-x l = l.names ≡ keys_of (take l.x-index l.entries)
