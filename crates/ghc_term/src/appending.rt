@@ -1,5 +1,5 @@
 // Writing at the end of a text, which stays as it was where memory is refused.
-ghost use Rattle.std.specs.Prelude.{◌≡◌, ◌++◌, length, take, is_ok, if◌then◌else◌, OnOk, IsTrue, string_bytes};
+ghost use Rattle.std.specs.Prelude.{◌≡◌, ◌<◌, [], ◌∷◌, ◌++◌, length, take, is_ok, if◌then◌else◌, OnOk, IsTrue, string_bytes};
 ghost use Rattle.std.specs.Fmt.{decimal, signed_decimal};
 ghost use Rattle.std.specs.Io.{StartsWith};
 ghost use Rattle.std.specs.Str.{is_utf8};
@@ -33,13 +33,31 @@ pub fn or_cut_back(
     written
 }
 
-/// Writes a number at the end of `out`, which stays as it was where memory is refused. It costs a step for each digit.
+// Writes a character of ASCII at the end of `out`, which stays as it was where memory is refused.
+pub(crate) fn push_mark(mark: char, out: &mut String) -> Result<(), AllocError>
+    requires { mark < 128 }
+    ensures { string_bytes out.new ≡ (if is_ok result then string_bytes out.old ++ mark ∷ [] else string_bytes out.old) }
+{
+    out.push(mark)
+}
+
+// Writes the digits of a number. Its buffer is no part of the caller's frame, which is paid for at each entry.
 #[inline(never)]
-pub fn push_number(number: u32, out: &mut String) -> Result<(), AllocError>
+fn push_digits(number: u32, out: &mut String) -> Result<(), AllocError>
     ensures { string_bytes out.new ≡ (if is_ok result then string_bytes out.old ++ decimal number else string_bytes out.old) }
 {
     let mut digits = Buffer::new();
     out.push_str(digits.format(number))
+}
+
+/// Writes a number at the end of `out`, which stays as it was where memory is refused. It costs a step for each digit.
+pub fn push_number(number: u32, out: &mut String) -> Result<(), AllocError>
+    ensures { string_bytes out.new ≡ (if is_ok result then string_bytes out.old ++ decimal number else string_bytes out.old) }
+{
+    if number < 10 {
+        return push_mark((b'0' + number as u8) as char, out);
+    }
+    push_digits(number, out)
 }
 
 // Writes an integer at the end of `out`, which stays as it was where memory is refused. Its buffer is no part of the caller's
@@ -58,8 +76,8 @@ pub fn push_variable(x: VarName, out: &mut String) -> Result<(), AllocError>
     ensures text { OnOk result (string_bytes out.new ≡ string_bytes out.old ++ variable_text x) }
     ensures begun { StartsWith (string_bytes out.new) (string_bytes out.old) }
 {
-    out.push_str("_")?;
+    push_mark('_', out)?;
     push_number(x.step, out)?;
-    out.push_str("_")?;
+    push_mark('_', out)?;
     push_number(x.place, out)
 }

@@ -49,8 +49,9 @@ pub(crate) fn push_goal<'a>(
     ensures text { IfOk result (λ _. StartsIn (value_at store.now.held) (λ r. goal_text_by r goal.now) pieces.old.items pieces.new.items (string_bytes out.old) (string_bytes out.new)) }
     ensures begun { StartsWith (string_bytes out.new) (string_bytes out.old) }
 {
+    store.acyclic();
     match goal.view() {
-        GoalView::Call(name, arguments) => push_structure(name, arguments, pieces, out),
+        GoalView::Call(name, arguments) => push_structure(name, arguments, store, pieces, out),
         GoalView::Unify(left, right) => {
             push_sides(Piece::Term(left), " = ", Piece::Term(right), pieces)
         }

@@ -1,5 +1,5 @@
 // What is still to be written of a text, in pieces. They stand in a list, so that no depth of a term takes stack.
-ghost use Rattle.std.specs.Prelude.{◌≡◌, ◌≢◌, ◌↔◌, ◌++◌, ◌+◌, [], ℕ, suc, List, IfOk, IsTrue, MatchOption, string_bytes};
+ghost use Rattle.std.specs.Prelude.{◌≡◌, ◌≢◌, ◌↔◌, ◌<◌, ◌∷◌, ◌++◌, ◌+◌, [], ℕ, suc, List, IfOk, IsTrue, MatchOption, string_bytes};
 ghost use Rattle.std.specs.Io.{StartsWith};
 ghost use Rattle.ghc_term.specs.Store.{value_at};
 ghost use Rattle.ghc_term.specs.Tree.{Tree, node, trees, cons, nil};
@@ -7,7 +7,7 @@ ghost use Rattle.ghc_term.specs.Text.{IsNoCell, term_text, rest_text, arguments_
 ghost use Rattle.ghc_term.specs.Resolved.{all_resolved};
 ghost use Rattle.ghc_term.specs.Pieces.{Unfolds, UnfoldsIn, piece_text, piece_size, term_size, rest_size, arguments_size};
 
-use crate::appending::{push_integer, push_variable};
+use crate::appending::{push_integer, push_mark, push_variable};
 use crate::expr::Expr;
 use crate::name::Name;
 use crate::printing::expressions::{push_expression, push_operand};
@@ -63,38 +63,62 @@ fn is_nil(term: &Term) -> bool
     }
 }
 
-// Writes the mark in front of a list's head. The head and the rest of the list are left.
-fn push_cell<'a>(
-    mark: &str,
-    head: &'a Term,
-    tail: &'a Term,
+// Writes a term inside another one, if it leads to a variable, an integer or an atom. A structure is left.
+fn push_inner<'a>(
+    term: &'a Term,
+    store: &'a Store,
     pieces: &mut Vec<Piece<'a>>,
     out: &mut String,
 ) -> Result<(), AllocError>
-    ensures text { IfOk result (λ _. Unfolds (λ r. mark.now ++ (term_text (r head.now) ++ rest_text (r tail.now))) (λ w. suc (term_size w head.now + rest_size w tail.now)) pieces.old.items pieces.new.items (string_bytes out.old) (string_bytes out.new)) }
+    ensures text { IfOk result (λ _. UnfoldsIn (value_at store.now.held) (λ r. term_text (r term.now)) (λ w. suc (term_size w term.now)) pieces.old.items pieces.new.items (string_bytes out.old) (string_bytes out.new)) }
     ensures begun { StartsWith (string_bytes out.new) (string_bytes out.old) }
 {
-    out.push_str(mark)?;
-    pieces.push(Piece::Rest(tail))?;
-    pieces.push(Piece::Term(head))?;
-    Ok(())
+    let last = store.end(term);
+    match last.view() {
+        TermView::Var(x) => push_variable(x, out),
+        TermView::Int(k) => push_integer(k, out),
+        TermView::Atom(name) => out.push_str(name.as_str()),
+        TermView::Struct(_, _) => {
+            pieces.push(Piece::Term(last))?;
+            Ok(())
+        }
+    }
 }
 
-// Writes the mark in front of an argument. The argument and the further ones are left.
-fn push_argument<'a>(
-    mark: &str,
-    argument: &'a Term,
-    further: &'a [Term],
+// Writes the mark in front of a list's head, and the head. What is left of the head is left, and the rest of the list.
+fn push_cell<'a>(
+    mark: char,
+    head: &'a Term,
+    tail: &'a Term,
+    store: &'a Store,
     pieces: &mut Vec<Piece<'a>>,
     out: &mut String,
 ) -> Result<(), AllocError>
-    ensures text { IfOk result (λ _. Unfolds (λ r. mark.now ++ (term_text (r argument.now) ++ further_text (all_resolved r further.now))) (λ w. suc (term_size w argument.now + arguments_size w further.now)) pieces.old.items pieces.new.items (string_bytes out.old) (string_bytes out.new)) }
+    requires { mark < 128 }
+    ensures text { IfOk result (λ _. UnfoldsIn (value_at store.now.held) (λ r. mark ∷ (term_text (r head.now) ++ rest_text (r tail.now))) (λ w. suc (term_size w head.now + rest_size w tail.now)) pieces.old.items pieces.new.items (string_bytes out.old) (string_bytes out.new)) }
     ensures begun { StartsWith (string_bytes out.new) (string_bytes out.old) }
 {
-    out.push_str(mark)?;
+    push_mark(mark, out)?;
+    pieces.push(Piece::Rest(tail))?;
+    push_inner(head, store, pieces, out)
+}
+
+// Writes the mark in front of an argument, and the argument. What is left of it is left, and the further ones.
+fn push_argument<'a>(
+    mark: char,
+    argument: &'a Term,
+    further: &'a [Term],
+    store: &'a Store,
+    pieces: &mut Vec<Piece<'a>>,
+    out: &mut String,
+) -> Result<(), AllocError>
+    requires { mark < 128 }
+    ensures text { IfOk result (λ _. UnfoldsIn (value_at store.now.held) (λ r. mark ∷ (term_text (r argument.now) ++ further_text (all_resolved r further.now))) (λ w. suc (term_size w argument.now + arguments_size w further.now)) pieces.old.items pieces.new.items (string_bytes out.old) (string_bytes out.new)) }
+    ensures begun { StartsWith (string_bytes out.new) (string_bytes out.old) }
+{
+    push_mark(mark, out)?;
     pieces.push(Piece::Further(further))?;
-    pieces.push(Piece::Term(argument))?;
-    Ok(())
+    push_inner(argument, store, pieces, out)
 }
 
 // Leaves two sides with a mark between them.
@@ -116,15 +140,16 @@ pub(crate) fn push_sides<'a>(
 pub(crate) fn push_structure<'a>(
     name: &Name,
     arguments: &'a [Term],
+    store: &'a Store,
     pieces: &mut Vec<Piece<'a>>,
     out: &mut String,
 ) -> Result<(), AllocError>
-    ensures text { IfOk result (λ _. Unfolds (λ r. name.now ++ arguments_text (all_resolved r arguments.now)) (λ w. arguments_size w arguments.now) pieces.old.items pieces.new.items (string_bytes out.old) (string_bytes out.new)) }
+    ensures text { IfOk result (λ _. UnfoldsIn (value_at store.now.held) (λ r. name.now ++ arguments_text (all_resolved r arguments.now)) (λ w. arguments_size w arguments.now) pieces.old.items pieces.new.items (string_bytes out.old) (string_bytes out.new)) }
     ensures begun { StartsWith (string_bytes out.new) (string_bytes out.old) }
 {
     out.push_str(name.as_str())?;
     match arguments {
-        [first, further @ ..] => push_argument("(", first, further, pieces, out),
+        [first, further @ ..] => push_argument('(', first, further, store, pieces, out),
         [] => Ok(()),
     }
 }
@@ -132,15 +157,16 @@ pub(crate) fn push_structure<'a>(
 // Writes what stands in front of the next argument, or the closing parenthesis.
 fn push_further<'a>(
     arguments: &'a [Term],
+    store: &'a Store,
     pieces: &mut Vec<Piece<'a>>,
     out: &mut String,
 ) -> Result<(), AllocError>
-    ensures text { IfOk result (λ _. Unfolds (λ r. further_text (all_resolved r arguments.now)) (λ w. arguments_size w arguments.now) pieces.old.items pieces.new.items (string_bytes out.old) (string_bytes out.new)) }
+    ensures text { IfOk result (λ _. UnfoldsIn (value_at store.now.held) (λ r. further_text (all_resolved r arguments.now)) (λ w. arguments_size w arguments.now) pieces.old.items pieces.new.items (string_bytes out.old) (string_bytes out.new)) }
     ensures begun { StartsWith (string_bytes out.new) (string_bytes out.old) }
 {
     match arguments {
-        [next, further @ ..] => push_argument(",", next, further, pieces, out),
-        [] => out.push_str(")"),
+        [next, further @ ..] => push_argument(',', next, further, store, pieces, out),
+        [] => push_mark(')', out),
     }
 }
 
@@ -156,13 +182,13 @@ fn push_term<'a>(
 {
     let end = store.end(term);
     if let Some((head, tail)) = cell(end) {
-        return push_cell("[", head, tail, pieces, out);
+        return push_cell('[', head, tail, store, pieces, out);
     }
     match end.view() {
         TermView::Var(x) => push_variable(x, out),
         TermView::Int(k) => push_integer(k, out),
-        TermView::Atom(name) => push_structure(name, &[], pieces, out),
-        TermView::Struct(name, arguments) => push_structure(name, arguments, pieces, out),
+        TermView::Atom(name) => out.push_str(name.as_str()),
+        TermView::Struct(name, arguments) => push_structure(name, arguments, store, pieces, out),
     }
 }
 
@@ -178,12 +204,12 @@ fn push_rest<'a>(
 {
     let end = store.end(term);
     if is_nil(end) {
-        return out.push_str("]");
+        return push_mark(']', out);
     }
     if let Some((head, tail)) = cell(end) {
-        return push_cell(",", head, tail, pieces, out);
+        return push_cell(',', head, tail, store, pieces, out);
     }
-    out.push_str("|")?;
+    push_mark('|', out)?;
     pieces.push(Piece::Mark("]"))?;
     pieces.push(Piece::Term(end))?;
     Ok(())
@@ -202,7 +228,7 @@ pub(crate) fn push_piece<'a>(
     match piece {
         Piece::Term(term) => push_term(term, store, pieces, out),
         Piece::Rest(term) => push_rest(term, store, pieces, out),
-        Piece::Further(arguments) => push_further(arguments, pieces, out),
+        Piece::Further(arguments) => push_further(arguments, store, pieces, out),
         Piece::Mark(mark) => out.push_str(mark),
         Piece::Expr(expression) => push_expression(expression, pieces),
         Piece::Operand(expression) => push_operand(expression, pieces, out),

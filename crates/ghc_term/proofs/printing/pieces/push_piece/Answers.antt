@@ -17,7 +17,7 @@ returns-in-Rest-clause-text c =
 pub returns-in-Further-clause-text : goal.returns-in-Further-clause-text
 returns-in-Further-clause-text c =
     IfOk-weaker c.push_further.result _ _ (λ _ u r w g m.
-    as_said r w _ _ _ _ _ _ _ _ (ap (piece_text r) c.in-Further.is) (omega (arith, ap (piece_size w) c.in-Further.is)) (u r w)) c.push_further.ensures.text
+    as_said r w _ _ _ _ _ _ _ _ (ap (piece_text r) c.in-Further.is) (omega (arith, ap (piece_size w) c.in-Further.is)) (u r w g m)) c.push_further.ensures.text
 
 pub returns-in-Mark-clause-text : goal.returns-in-Mark-clause-text
 returns-in-Mark-clause-text c =

@@ -1,10 +1,10 @@
-use Rattle.std.proofs.Common.{rules, ◌≡◌, ◌++◌, [], sym, ap, ◌∙◌, arith, string_bytes}
+use Rattle.std.proofs.Common.{rules, ◌≡◌, ◌++◌, [], append-nil, sym, ap, ◌∙◌, arith, string_bytes}
 use Rattle.std.proofs.lemmas.Result.{IfOk-weaker}
-use Rattle.std.specs.Prelude.{OnOk}
+use Rattle.std.specs.Prelude.{OnOk, is_ok, if◌then◌else◌}
 use Rattle.std.specs.Fmt.{signed_decimal}
 use Rattle.ghc_term.specs.Text.{term_text, variable_text}
 use Rattle.ghc_term.specs.Resolved.{all_resolved}
-use Rattle.ghc_term.proofs.Pieces.{as_said, wrote}
+use Rattle.ghc_term.proofs.Pieces.{as_said, wrote, if_written}
 use Rattle.ghc_term.proofs.Texts.{structure_text, no_new_cell}
 use Rattle.ghc_term.proofs.Resolving.{same_end, same_free, same_integer, same_node, same_cell, cell_room, end_free}
 use Rattle.ghc_term.proofs.printing.pieces.push_term.Goals as goal
@@ -14,7 +14,7 @@ returns-in-Some-clause-text c =
     let l = c.end-end.ensures.1 in
     IfOk-weaker c.push_cell.result _ _ (λ _ u r w g m.
     as_said r w _ _ _ _ _ _ _ _ (ap term_text (same_cell r g l c.in-Some.head.now c.in-Some.tail.now c.in-Some.ensures))
-    (omega (arith, cell_room w m l c.in-Some.head.now c.in-Some.tail.now c.in-Some.ensures)) (u r w)) c.push_cell.ensures.text
+    (omega (arith, cell_room w m l c.in-Some.head.now c.in-Some.tail.now c.in-Some.ensures)) (u r w g m)) c.push_cell.ensures.text
 
 pub returns-in-Var-clause-text : goal.returns-in-Var-clause-text
 returns-in-Var-clause-text c =
@@ -34,17 +34,19 @@ returns-in-Int-clause-text c =
 pub returns-in-Atom-clause-text : goal.returns-in-Atom-clause-text
 returns-in-Atom-clause-text c =
     let l = c.end-end.ensures.1 in
-    IfOk-weaker c.push_structure.result _ _ (λ _ u r w g m.
-    let said = same_end r g l ∙ ap r (sym c.in-Atom.ensures.shown) ∙ same_node r g c.in-Atom.name.now [] in
-    as_said r w _ _ _ _ _ _ _ _ (ap term_text said) (omega arith) (u r w)) c.push_structure.ensures.text
+    let f = c.in-Atom.name.now in
+    let name = c.push_str.ensures.bytes ∙ ap (λ n. if is_ok c.push_str.result then string_bytes c.args.out.now ++ n else string_bytes c.args.out.now) c.as_str.ensures.bytes in
+    IfOk-weaker c.push_str.result _ _ (λ _ e r w g m.
+    let said = same_end r g l ∙ ap r (sym c.in-Atom.ensures.shown) ∙ same_node r g f [] in
+    as_said r w _ _ _ _ _ _ _ _ (ap term_text said ∙ append-nil f) (omega arith) (wrote r w f 1 _ _ _ e (omega arith))) (if_written c.push_str.result _ _ _ name)
 
 pub returns-in-Struct-clause-text : goal.returns-in-Struct-clause-text
 returns-in-Struct-clause-text c =
     let l = c.end-end.ensures.1 in
     let f = c.in-Struct.name.now in
     let ts = c.in-Struct.arguments.now in
-    IfOk-weaker c.push_structure-in-Struct.result _ _ (λ _ u r w g m.
+    IfOk-weaker c.push_structure.result _ _ (λ _ u r w g m.
     let there = ap r (sym c.in-Struct.ensures.shown) ∙ same_node r g f ts in
     let apart = no_new_cell (g c.end-end.result.now) (end_free l) c.in_default.ensures in
     as_said r w _ _ _ _ _ _ _ _ (ap term_text (same_end r g l ∙ there) ∙ structure_text f (all_resolved r ts) (λ t v e. apart t v (there ∙ e)))
-    (omega (arith, m.along l, m.below f ts, ap w c.in-Struct.ensures.shown)) (u r w)) c.push_structure-in-Struct.ensures.text
+    (omega (arith, m.along l, m.below f ts, ap w c.in-Struct.ensures.shown)) (u r w g m)) c.push_structure.ensures.text
