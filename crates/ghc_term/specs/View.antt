@@ -1,21 +1,29 @@
 -- What one level of a term stands for, and how high a tree is.
-use Rattle.std.specs.Prelude.{◌≢◌, ◌↔◌, ℕ, ◌+◌, [], max, IsTrue}
+use Rattle.std.specs.Prelude.{◌≢◌, ◌↔◌, ℕ, List, ◌+◌, [], max, IsTrue}
 use Rattle.ghc_term.specs.declared.term.Shape.{Shape}
 use Rattle.ghc_term.specs.declared.term.Shape.TheVariants.{Var, Int, Atom, Struct}
+use Rattle.ghc_term.specs.declared.arguments.Arguments.{Arguments}
+use Rattle.ghc_term.specs.declared.arguments.Arguments.TheVariants.{Two, Three, Others}
 use Rattle.ghc_term.specs.Tree.{Tree, variable, integer, node, Trees, none, more, trees, atom, AreClosed}
+
+-- the arguments in order
+abbrev pub items_of : Arguments → List Tree
+items_of (Two ts) = ts
+items_of (Three ts) = ts
+items_of (Others ts) = ts.items
 
 abbrev pub tree_of : Shape → Tree
 tree_of (Var x) = variable x
 tree_of (Int k) = integer k
 tree_of (Atom f) = atom f
-tree_of (Struct s) = node s.value.name (trees s.value.arguments.items)
+tree_of (Struct s) = node s.value.name (trees (items_of s.value.arguments))
 
 -- a structure has at least one argument, and knows whether a variable stands in it
 abbrev pub IsWellMade : Shape → Type 0
 IsWellMade (Var x) = Unit {0}
 IsWellMade (Int k) = Unit {0}
 IsWellMade (Atom f) = Unit {0}
-IsWellMade (Struct s) = (s.value.arguments.items ≢ []) × (IsTrue s.value.is_closed ↔ AreClosed (trees s.value.arguments.items))
+IsWellMade (Struct s) = (items_of s.value.arguments ≢ []) × (IsTrue s.value.is_closed ↔ AreClosed (trees (items_of s.value.arguments)))
 
 abbrev mutual
   pub height : Tree → ℕ

@@ -2,6 +2,7 @@
 #![tactic(auto)]
 
 mod appending;
+mod arguments;
 mod binding_table;
 mod bindings;
 mod comparison;

@@ -1,7 +1,9 @@
 // Terms: trees whose inner parts are shared.
-ghost use Rattle.std.specs.Prelude.{◌≡◌, ◌≢◌, ◌↔◌, [], IfOk, IsTrue};
+ghost use Rattle.std.specs.Prelude.{◌≡◌, ◌≢◌, ◌↔◌, [], ◌∷◌, IfOk, IsTrue};
 ghost use Rattle.ghc_term.specs.Tree.{variable, integer, atom, node, trees, IsClosed, AreClosed};
+ghost use Rattle.ghc_term.specs.View.{items_of};
 
+use crate::arguments::{Arguments, give_up, parts_of_three, parts_of_two};
 use crate::name::Name;
 use crate::var_name::VarName;
 use crate::view::TermView;
@@ -27,7 +29,7 @@ enum Shape {
 #[cycle(term)]
 struct Structure {
     name: Name,
-    arguments: Vec<Term>,
+    arguments: Arguments,
     is_closed: bool,
 }
 
@@ -87,7 +89,35 @@ impl Term {
         requires { arguments.items ≢ [] }
         ensures { IfOk result (λ t. t ≡ node name (trees arguments.items)) }
     {
-        let is_closed = are_closed(&arguments);
+        Term::over(alloc, name, Arguments::of(arguments))
+    }
+
+    /// A structure of two arguments, as a list cell is, in one piece of memory.
+    pub fn pair(alloc: Global, name: Name, first: Term, second: Term) -> Result<Term, AllocError>
+        ensures { IfOk result (λ t. t ≡ node name (trees (first ∷ second ∷ []))) }
+    {
+        Term::over(alloc, name, Arguments::Two([first, second]))
+    }
+
+    /// A structure of three arguments, in one piece of memory.
+    pub fn triple(
+        alloc: Global,
+        name: Name,
+        first: Term,
+        second: Term,
+        third: Term,
+    ) -> Result<Term, AllocError>
+        ensures { IfOk result (λ t. t ≡ node name (trees (first ∷ second ∷ third ∷ []))) }
+    {
+        Term::over(alloc, name, Arguments::Three([first, second, third]))
+    }
+
+    // A name over these arguments, of which there is one at least.
+    fn over(alloc: Global, name: Name, arguments: Arguments) -> Result<Term, AllocError>
+        requires { items_of arguments ≢ [] }
+        ensures { IfOk result (λ t. t ≡ node name (trees (items_of arguments))) }
+    {
+        let is_closed = are_closed(arguments.as_slice());
         let structure = Structure {
             name,
             arguments,
@@ -100,9 +130,10 @@ impl Term {
             Err(failed) => {
                 let Structure {
                     name: _name,
-                    arguments: _arguments,
+                    arguments,
                     is_closed: _,
                 } = failed.value;
+                give_up(arguments);
                 Err(AllocError)
             }
         }
@@ -143,7 +174,9 @@ impl Term {
             Shape::Var(x) => TermView::Var(*x),
             Shape::Int(k) => TermView::Int(*k),
             Shape::Atom(name) => TermView::Atom(name),
-            Shape::Struct(structure) => TermView::Struct(&structure.name, &structure.arguments),
+            Shape::Struct(structure) => {
+                TermView::Struct(&structure.name, structure.arguments.as_slice())
+            },
         }
     }
 }
@@ -175,11 +208,24 @@ impl Drop for Term {
                     };
                     let Structure {
                         name: _name,
-                        mut arguments,
+                        arguments,
                         is_closed: _,
                     } = structure;
-                    let Some(last) = arguments.pop() else {
-                        return;
+                    let last = match arguments {
+                        Arguments::Two(terms) => {
+                            let (_first, last) = parts_of_two(terms);
+                            last
+                        }
+                        Arguments::Three(terms) => {
+                            let (_first, _second, last) = parts_of_three(terms);
+                            last
+                        }
+                        Arguments::Others(mut list) => {
+                            let Some(last) = list.pop() else {
+                                return;
+                            };
+                            last
+                        }
                     };
                     self = last;
                 }
