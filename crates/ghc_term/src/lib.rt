@@ -17,6 +17,7 @@ mod ground;
 mod limit;
 mod measure;
 mod name;
+mod name_hasher;
 mod operator;
 mod overlay;
 mod printing;

@@ -6,17 +6,22 @@ ghost use Rattle.ghc_term.specs.Store.{with_binds};
 
 use crate::bindings::Bindings;
 use crate::fault::Fault;
+use crate::name_hasher::NameHasher;
 use crate::overlay::Overlay;
 use crate::term::Term;
 use crate::var_name::VarName;
 use crate::view::TermView;
 use indexmap::IndexMap;
 use std::alloc::{AllocError, Global};
+use std::hash::BuildHasherDefault;
 use std::marker::Model;
+
+// Bindings by their variables. Those of near steps are kept near each other.
+type Table = IndexMap<VarName, Term, BuildHasherDefault<NameHasher>>;
 
 /// What variables are bound to: a finite map in which no value reaches its own variable.
 pub struct Store {
-    map: IndexMap<VarName, Term>,
+    map: Table,
 }
 
 impl Model for Store {
@@ -36,7 +41,7 @@ impl Model for Store {
 }
 
 // Puts each entry of the list into the map, where there is room, the last first.
-fn put_each(map: &mut IndexMap<VarName, Term>, mut entries: Vec<(VarName, Term)>)
+fn put_each(map: &mut Table, mut entries: Vec<(VarName, Term)>)
     requires { length entries.items ≤ spare map.old }
     ensures { finite.from_entries map.new.entries ≡ with_binds entries.items (finite.from_entries map.old.entries) }
 {
@@ -57,7 +62,7 @@ impl Store {
         ensures { result.held ≡ finite.empty }
     {
         Store {
-            map: IndexMap::new(alloc),
+            map: IndexMap::with_hasher(alloc, BuildHasherDefault::new()),
         }
     }
 
