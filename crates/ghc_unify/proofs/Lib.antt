@@ -21,3 +21,4 @@ pub mod Stacks
 pub mod TopAgreement
 pub mod Reached
 pub mod Endings
+mod Gaps

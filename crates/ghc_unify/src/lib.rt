@@ -1,6 +1,7 @@
 //! Unification: the call, the relation that it meets, and laws about it.
 #![tactic(auto)]
 
+mod apart;
 mod chains;
 mod laws;
 mod parting;

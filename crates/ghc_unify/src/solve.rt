@@ -1,5 +1,5 @@
 // Unification.
-ghost use Rattle.std.specs.Prelude.{◌≡◌, ◌⊎◌, ◌↔◌, [], ◌∷◌, IfOk, IfErr, OnOk, Err};
+ghost use Rattle.std.specs.Prelude.{◌≡◌, true, false, ◌⊎◌, ◌↔◌, [], ◌∷◌, IfOk, IfErr, OnOk, Err};
 ghost use Rattle.std.specs.FinMap as finite;
 ghost use Rattle.std.specs.FinSet as set;
 ghost use Rattle.ghc_term.specs.Answered.{Answered};
@@ -10,8 +10,9 @@ ghost use Rattle.ghc_term.specs.Bindings.{IsAcyclic};
 ghost use Rattle.ghc_unify.specs.Unify.{Unifies, UnifyFails, Clashes, Cycles, with_bindings};
 ghost use Rattle.ghc_unify.specs.Solutions.{Solves, Equates};
 
+use crate::apart::is_apart;
 use crate::step::{Equations, advance};
-use ghc_term::{Bindings, Fault, Store, Term, Variables};
+use ghc_term::{Bindings, Fault, Store, Term, TermView, Variables};
 use std::alloc::{AllocError, Global};
 
 /// What a unification binds, as written, and which variables it reads.
@@ -31,7 +32,8 @@ fn equation(alloc: Global, left: &Term, right: &Term) -> Result<Equations, Alloc
 }
 
 // Makes the moves on the equation of the two terms, from no bindings and no reads on.
-fn solve(
+#[inline(never)]
+fn make_moves(
     alloc: Global,
     left: &Term,
     right: &Term,
@@ -57,6 +59,50 @@ fn solve(
         solved.binds.insert(x, value)?;
     }
     Ok(())
+}
+
+// Binds the left side to the right one, where it is an unbound variable that the right side is seen not to reach: the
+// only move then, and nothing is read. Else it binds nothing.
+fn bind_at_once(
+    left: &Term,
+    right: &Term,
+    store: &Store,
+    binds: &mut Bindings,
+) -> Result<bool, AllocError>
+    requires { binds.old ≡ finite.empty }
+    ensures bound { IfOk result (λ done. done ≡ true → Unifies (value_at store.now.held) left.now right.now binds.new set.empty) }
+    ensures unbound { IfOk result (λ done. done ≡ false → binds.new ≡ binds.old) }
+{
+    let TermView::Var(x) = left.view() else {
+        return Ok(false);
+    };
+    if store.get(x).is_some() || !is_apart(store, right, x) {
+        return Ok(false);
+    }
+    binds.insert(x, right.share()?)?;
+    Ok(true)
+}
+
+// Solves the equation of the two terms, from no bindings and no reads on.
+fn solve(
+    alloc: Global,
+    left: &Term,
+    right: &Term,
+    store: &Store,
+    solved: &mut Solved,
+) -> Result<(), Fault>
+    requires acyclic { IsAcyclic (value_at store.now.held) }
+    requires unbound { solved.old.binds ≡ finite.empty }
+    requires unread { solved.old.reads ≡ set.empty }
+    ensures solved { OnOk result (Unifies (value_at store.now.held) left.now right.now solved.new.binds solved.new.reads) }
+    ensures clash { result ≡ Err Fault.Clash → Clashes (value_at store.now.held) left.now right.now }
+    ensures cycle { result ≡ Err Fault.Cycle → Cycles (value_at store.now.held) left.now right.now }
+    ensures only { IfErr result (λ e. (e ≡ Fault.Clash) ⊎ (e ≡ Fault.Cycle) ⊎ (e ≡ Fault.Memory)) }
+{
+    if bind_at_once(left, right, store, &mut solved.binds)? {
+        return Ok(());
+    }
+    make_moves(alloc, left, right, store, solved)
 }
 
 /// Unifies two terms: gives what is bound beside the store, and which bound variables were read. `Fault::Clash` exactly

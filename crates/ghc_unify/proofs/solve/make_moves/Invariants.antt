@@ -4,7 +4,7 @@ use Rattle.std.specs.FinMap as finite
 use Rattle.ghc_term.specs.Store.{value_at}
 use Rattle.ghc_unify.proofs.Runs.{Run}
 use Rattle.ghc_unify.proofs.Scope.{scope}
-use Rattle.ghc_unify.proofs.solve.solve.Given as goal
+use Rattle.ghc_unify.proofs.solve.make_moves.Given as goal
 
 abbrev pub invariant-loop-equations : goal.invariant-loop-equations
 invariant-loop-equations l = Run (value_at l.store.held) l.left l.right l.solved.binds l.solved.reads (reverse l.equations.items)

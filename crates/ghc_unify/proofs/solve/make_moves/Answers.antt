@@ -8,7 +8,7 @@ use Rattle.ghc_unify.specs.Steps.{Advances}
 use Rattle.ghc_unify.specs.Unify.{with_bindings, IsClash, IsCycle}
 use Rattle.ghc_unify.proofs.Runs.{begins, still_acyclic, goes_on, ends, fails, falls_short}
 use Rattle.ghc_unify.proofs.Scope.{scope}
-use Rattle.ghc_unify.proofs.solve.solve.Goals as goal
+use Rattle.ghc_unify.proofs.solve.make_moves.Goals as goal
 
 pub loop-equations-init : goal.loop-equations-init
 loop-equations-init c =

@@ -1,0 +1,44 @@
+-- What does not reach a variable, as is seen at a glance.
+use Rattle.std.proofs.Common.{◌≡◌, ℕ, List, [], ◌∷◌, ◌++◌, sym, ap, ◌∙◌, refl, subst, ◌⊎◌, inl, inr}
+use Rattle.std.specs.Prelude.{Option, Some, None}
+use Rattle.ghc_term.specs.declared.var_name.VarName.{VarName}
+use Rattle.ghc_term.specs.Tree.{Tree, variable, node, trees, Occurs, OccursIn, IsClosed}
+use Rattle.std.specs.FinMap as finite
+use Rattle.std.specs.FinSet as set
+use Rattle.ghc_term.specs.Bindings.{Reaches, here, through, now, with_binding}
+use Rattle.ghc_term.specs.Store.{StoreValue}
+use Rattle.ghc_unify.specs.Unify.{Unifies, left, go, stay}
+
+occurs_more : (ts : List Tree) (t : Tree) (y : VarName) → OccursIn y (trees (ts ++ t ∷ [])) → OccursIn y (trees ts) ⊎ Occurs y t
+occurs_more [] t y (inl o) = inr o
+occurs_more [] t y (inr o) = absurd o
+occurs_more (u ∷ ts) t y (inl o) = inl (inl o)
+occurs_more (u ∷ ts) t y (inr o) = elim (occurs_more ts t y o) [ inl p ↦ inl (inr p) | inr p ↦ inr p ]
+
+module _ {S : VarName → Option Tree} {x : VarName} where
+  pub closed_apart : {t : Tree} → IsClosed t → ¬ Reaches S t x
+  closed_apart h (here o) = h _ o
+  closed_apart h (through o e r) = h _ o
+
+  pub free_apart : {y : VarName} → ¬ (y ≡ x) → S y ≡ None → ¬ Reaches S (variable y) x
+  free_apart n e (here o) = n (sym o)
+  free_apart n e (through {u = u} o p r) = let clash : None ≡ Some u = sym e ∙ ap S (sym o) ∙ p in cc
+
+  pub bound_apart : {y : VarName} {v : Tree} → ¬ (y ≡ x) → S y ≡ Some v → IsClosed v → ¬ Reaches S (variable y) x
+  bound_apart n e h (here o) = n (sym o)
+  bound_apart {v = v} n e h (through {u = u} o p r) =
+      let both : Some v ≡ Some u = sym e ∙ ap S (sym o) ∙ p in
+      let same : v ≡ u = cc in
+      closed_apart h (subst (λ t. Reaches S t x) (sym same) r)
+
+  pub none_apart : (f : List ℕ) → ¬ Reaches S (node f (trees [])) x
+  none_apart f = closed_apart (λ y o. o)
+
+  pub one_more_apart : (f : List ℕ) (ts : List Tree) (t : Tree) → ¬ Reaches S (node f (trees ts)) x → ¬ Reaches S t x → ¬ Reaches S (node f (trees (ts ++ t ∷ []))) x
+  one_more_apart f ts t n m (here o) = elim (occurs_more ts t _ o) [ inl p ↦ n (here p) | inr p ↦ m (here p) ]
+  one_more_apart f ts t n m (through o e r) = elim (occurs_more ts t _ o) [ inl p ↦ n (through p e r) | inr p ↦ m (through p e r) ]
+
+-- the one move where the left side is an unbound variable that the right side does not reach
+pub bound_at_once : (S : VarName → Option Tree) (x : VarName) (l r : Tree) (binds : StoreValue) → variable x ≡ l → S x ≡ None → ¬ Reaches S r x → binds ≡ finite.insert finite.empty x r → Unifies S l r binds set.empty
+bound_at_once S x l r binds is e n b =
+    subst (λ t. Unifies S t r binds set.empty) is ((x, r) ∷ [], [], (with_binding S x r, go (left now e n) stay), b, refl)
