@@ -22,3 +22,4 @@ pub mod MeetingLemmas
 pub mod MatchHead
 pub mod GuardingLemmas
 pub mod TryClause
+pub mod FirstClash

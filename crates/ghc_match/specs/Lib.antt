@@ -9,3 +9,4 @@ pub mod Guarding
 pub mod Told
 pub mod Laws
 pub mod Facts
+pub mod First

@@ -1,5 +1,6 @@
 // What is seen of a value at its top.
 ghost use Rattle.std.specs.Prelude.{◌≡◌, ◌↔◌, IsTrue};
+ghost use Rattle.ghc_term.specs.Tree.{IsValue};
 ghost use Rattle.ghc_match.specs.Match.{AreAlike, IsInteger, IsAtom, IsList};
 ghost use Rattle.ghc_match.specs.Meeting.{arguments};
 
@@ -27,6 +28,13 @@ pub fn are_alike(left: &Term, right: &Term) -> bool
         }
         _ => false,
     }
+}
+
+// Whether the term is no variable.
+pub fn is_value(term: &Term) -> bool
+    ensures { IsTrue result ↔ IsValue term.now }
+{
+    !matches!(term.view(), TermView::Var(_))
 }
 
 // Whether the term is an integer.

@@ -5,6 +5,7 @@ mod alike;
 mod arithmetic;
 mod evaluation;
 mod facts;
+mod first;
 mod guard;
 mod head;
 mod laws;
@@ -18,6 +19,7 @@ mod value;
 
 pub use evaluation::evaluate;
 pub use facts::{structure_is_no_number, waits_on_two};
+pub use first::{first_end, refuses_at_first};
 pub use laws::{
     each_clause_has_an_outcome, each_expression_has_a_value, outcome_is_of_what_is_looked_at,
     outcomes_exclude, value_looks_at_its_terms, values_exclude,
