@@ -9,7 +9,7 @@ use crate::act::Act;
 use crate::effect::Effect;
 use crate::instances::instance;
 use ghc_flat::{Clause, Program};
-use ghc_match::{Outcome, Tried, try_clause};
+use ghc_match::{Outcome, Tried, first_end, refuses_at_first, try_clause};
 use ghc_term::{Bindings, Fault, Name, Store, Term};
 use std::alloc::{AllocError, Global};
 
@@ -50,7 +50,8 @@ fn try_clause_as_step(
 }
 
 /// The step of this number of a call, by the least of its clauses that accepts it; where none does, `Waits` if one waits, and else
-/// `NoMatch`. It tries the clauses in order up to the one that it takes.
+/// `NoMatch`. It tries the clauses in order up to the one that it takes, but for those that refuse the call for its first
+/// argument, whose chain it follows once more.
 pub fn attempt_call(
     alloc: Global,
     program: &Program,
@@ -62,9 +63,13 @@ pub fn attempt_call(
     ensures proposed { IfOk result (λ p. CallAnswers step program.now name.now arguments.now (value_at store.now.held) (proposes p.0 p.1)) }
     ensures fault { IfErr result (λ f. (f ≡ Fault.Memory) ⊎ CallAnswers no_step program.now name.now arguments.now (value_at store.now.held) (refused f)) }
 {
+    let first = first_end(arguments, store);
     let mut waits = false;
     for number in program.clauses_for(name, arguments.len()) {
         let clause = program.clause(*number).unwrap();
+        if refuses_at_first(clause, first) {
+            continue;
+        }
         match try_clause_as_step(alloc, clause, arguments, store, step)? {
             Verdict::Refuses => {}
             Verdict::Waits => waits = true,

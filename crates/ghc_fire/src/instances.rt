@@ -5,6 +5,7 @@ ghost use Rattle.ghc_fire.specs.Proposal.{numbered};
 ghost use Rattle.ghc_fire.specs.Renaming.{AreBehindHead, replacement};
 
 mod expressions;
+mod leaves;
 mod renaming;
 mod terms;
 

@@ -3,6 +3,7 @@ ghost use Rattle.std.specs.Prelude.{◌≡◌, map, take, IfOk, MatchOption, fal
 ghost use Rattle.ghc_unify.specs.Solutions.{replace};
 ghost use Rattle.ghc_fire.specs.Renaming.{replacement, plugged};
 
+use crate::instances::leaves::replace_at_once;
 use crate::instances::renaming::{Renaming, replace_variable};
 use ghc_term::{Name, Term, TermView};
 use std::alloc::{AllocError, Global};
@@ -58,6 +59,7 @@ fn rebuild_some(
 // others by calls. Behind the first `count` structures, of which the last has another argument, comes `rest`, in which
 // nothing has become another term so far.
 #[cycle(replace)]
+#[inline(never)]
 fn replace_open(alloc: Global, term: &Term, by: Renaming<'_>) -> Result<Option<Term>, AllocError>
     ensures { IfOk result (λ o. MatchOption o (replace (replacement by.entry) term.now ≡ term.now) (λ t. t ≡ replace (replacement by.entry) term.now)) }
 {
@@ -97,6 +99,20 @@ fn replace_open(alloc: Global, term: &Term, by: Renaming<'_>) -> Result<Option<T
     }
 }
 
+// The same, at once where no structure below the term has variables; it is seen by its arguments, up to the first such one.
+#[cycle(replace)]
+fn replace_part(alloc: Global, term: &Term, by: Renaming<'_>) -> Result<Option<Term>, AllocError>
+    ensures { IfOk result (λ o. MatchOption o (replace (replacement by.entry) term.now ≡ term.now) (λ t. t ≡ replace (replacement by.entry) term.now)) }
+{
+    if term.is_closed() {
+        return Ok(None);
+    }
+    match replace_at_once(alloc, term, by)? {
+        Some(other) => Ok(Some(other)),
+        None => replace_open(alloc, term, by),
+    }
+}
+
 // The terms with their variables replaced, in a list with room for so many. Those that stay are shared.
 #[cycle(replace)]
 fn replace_each(
@@ -112,7 +128,7 @@ fn replace_each(
     arguments.reserve_exact(room)?;
     let mut changed = false;
     for term in terms {
-        match replace_open(alloc, term, by)? {
+        match replace_part(alloc, term, by)? {
             Some(other) => {
                 arguments.push(other)?;
                 changed = true;
@@ -127,7 +143,7 @@ fn replace_each(
 pub fn replace_term(alloc: Global, term: &Term, by: Renaming<'_>) -> Result<Term, AllocError>
     ensures { IfOk result (λ t. t ≡ replace (replacement by.entry) term.now) }
 {
-    match replace_open(alloc, term, by)? {
+    match replace_part(alloc, term, by)? {
         Some(other) => Ok(other),
         None => term.share(),
     }

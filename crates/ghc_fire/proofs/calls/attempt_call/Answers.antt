@@ -44,6 +44,20 @@ returns-in-Reduces-clause-proposed c =
     let v = subst (HasVerdict c.args.step d ts s) c.in-Reduces.is c.in_ok-try_clause_as_step.ensures in
     least_reduces P f ts s c.args.step ks c.loop-number.waits i k d c.in-Reduces.effect numbers c.loop-number.invariant c.loop-number-test.true refl is (subst (λ a. (a.name ≡ f) × (length a.head ≡ length ts)) same (n.2, n.3)) v
 
+pub loop-number-preserved-then-refuses_at_first : goal.loop-number-preserved-then-refuses_at_first
+loop-number-preserved-then-refuses_at_first c =
+    let P = c.args.program.now in
+    let f = c.args.name.now in
+    let ts = c.args.arguments.now in
+    let s = value_at c.args.store.now.held in
+    let ks = c.clauses_for-number-items.result.now in
+    let i = c.loop-number.number-index in
+    let k = slice_index_or ks i 0 in
+    let d = c.unwrap-clause.result.now in
+    let is = MatchOption-at_some _ _ c.unwrap-clause.result c.unwrap-clause.ensures c.clause.ensures.found in
+    let refuses = c.refuses_at_first.ensures c.if-refuses_at_first.true ts s c.first_end-first.ensures in
+    subst (λ l. NoneTaken P f ts s l c.loop-number.waits) (take_number ks i c.loop-number-test.true) (one_refuses P f ts s (take i ks) c.loop-number.waits k d c.loop-number.invariant is refuses)
+
 pub loop-number-preserved : goal.loop-number-preserved
 loop-number-preserved c =
     let P = c.args.program.now in

@@ -13,10 +13,13 @@ use Rattle.ghc_fire.proofs.instances.terms.+replace.Goals as goal
 last_lower : (f : List ℕ) (whole front : List Tree) (last place : Tree) → node f (trees whole) ≡ place → whole ≡ front ++ last ∷ [] → height last < height place
 last_lower f whole front last place e w = let seen = ap height e in let all = ap (λ l. height_of_all (trees l)) w in omega (arith, height_last front last, all, seen)
 
-pub replace_each-replace_open-requires : goal.replace_each-replace_open-requires
-replace_each-replace_open-requires t c =
+pub replace_each-replace_part-requires : goal.replace_each-replace_part-requires
+replace_each-replace_part-requires t c =
     let falls = height_item c.args.terms.now c.loop-term.term-index c.term-item.result c.loop-term-test.true c.term-item.is in
     (omega (arith, falls, c.decreases), tt)
+
+pub replace_part-returns-then-is_closed : goal.replace_part-returns-then-is_closed
+replace_part-returns-then-is_closed t c = replace_closed (replacement c.args.by) c.args.term.now (c.is_closed.ensures.0 c.if-is_closed.true)
 
 pub replace_open-returns-then-is_closed : goal.replace_open-returns-then-is_closed
 replace_open-returns-then-is_closed t c =

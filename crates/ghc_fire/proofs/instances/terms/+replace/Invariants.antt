@@ -7,10 +7,13 @@ use Rattle.ghc_fire.proofs.Walked.{Walked}
 use Rattle.ghc_fire.proofs.instances.terms.+replace.Given as goal
 
 abbrev pub decreases-replace_open : goal.decreases-replace_open
-decreases-replace_open l = 2 * height l.term.now + 1
+decreases-replace_open l = 3 * height l.term.now + 1
+
+abbrev pub decreases-replace_part : goal.decreases-replace_part
+decreases-replace_part l = 3 * height l.term.now + 2
 
 abbrev pub decreases-replace_each : goal.decreases-replace_each
-decreases-replace_each l = 2 * height_of_all (trees l.terms.now)
+decreases-replace_each l = 3 * height_of_all (trees l.terms.now)
 
 abbrev pub invariant-replace_open-loop-place : goal.invariant-replace_open-loop-place
 invariant-replace_open-loop-place l = record { lower : height l.place ≤ height l.term; walked : Walked (replacement l.by) l.term l.fronts.items l.place l.count l.rest }
