@@ -1,14 +1,14 @@
 -- Tasks, one after another.
 use Rattle.std.proofs.Common.{◌≡◌, ℤ, List, [], ◌∷◌, ◌++◌, sym, ap, ◌∙◌, subst}
-use Rattle.std.specs.Prelude.{◌↔◌, reverse}
+use Rattle.std.specs.Prelude.{◌↔◌, reverse, Option, Some, None, MatchOption}
 use Rattle.std.specs.Borrow.{Bor}
 use Rattle.std.proofs.lemmas.List.{reverse-append}
 use Rattle.ghc_term.specs.declared.var_name.VarName.{VarName}
 use Rattle.ghc_term.specs.declared.operator.Operator.{Operator}
 use Rattle.ghc_term.specs.Tree.{Tree}
 use Rattle.ghc_term.specs.Expression.{Expression, operation}
-use Rattle.ghc_match.specs.Value.{Number, computed}
-use Rattle.ghc_match.specs.Tasks.{Makes}
+use Rattle.ghc_match.specs.Value.{Computes, Number, computed}
+use Rattle.ghc_match.specs.Tasks.{Makes, IsWorth}
 use Rattle.ghc_match.specs.declared.number.Task.{Task}
 use Rattle.ghc_match.specs.declared.number.Task.TheVariants.{Find, Apply}
 use Rattle.ghc_match.proofs.Values.{number_once, sides}
@@ -33,3 +33,10 @@ module _ {E : VarName → Tree → Type 0} (once : (x : VarName) (e f : Tree) �
         (s.0, s.2, (s.1, s.3, (m.0, s.4, m.2))),
     λ m. (m.2.2.0, subst (λ c. Number E c m.2.2.0) is (computed m.1 m.2.1 m.2.2.1), m.2.2.2),
   )
+
+  -- what an operator makes of the values of two expressions is what the operation is worth
+  pub operated : (o : Operator) (a b : Expression) (x y : ℤ) (r : Option ℤ) → Number E a x → Number E b y → MatchOption r ((z : ℤ) → ¬ Computes o x y z) (Computes o x y) → IsWorth E (operation o a b) r
+  operated o a b x y None n m e = λ k q.
+      let s = sides q in
+      e k (subst (λ i. Computes o i y k) (number_once once s.2 n) (subst (λ i. Computes o s.0 i k) (number_once once s.3 m) s.4))
+  operated o a b x y (Some z) n m e = computed n m e

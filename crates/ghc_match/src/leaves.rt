@@ -1,9 +1,20 @@
 // The variables of expressions and tests.
 ghost use Rattle.std.specs.Prelude.{◌≡◌, ◌++◌, OnOk};
+ghost use Rattle.ghc_term.specs.Expression.{leaf};
 ghost use Rattle.ghc_flat.specs.Variables.{leaf_variables};
 
-use ghc_term::{Expr, ExprView, TermView, VarName};
+use ghc_term::{Expr, ExprView, Term, TermView, VarName};
 use std::alloc::{AllocError, Global};
+
+// Adds the leaf, where it is a variable.
+fn push_leaf(term: &Term, names: &mut Vec<VarName>) -> Result<(), AllocError>
+    ensures { OnOk result (names.new.items ≡ names.old.items ++ leaf_variables (leaf term.now)) }
+{
+    if let TermView::Var(x) = term.view() {
+        names.push(x)?;
+    }
+    Ok(())
+}
 
 // Adds the leaves of the expression that are variables, from left to right. One step for each part of the expression.
 pub fn push_leaves(
@@ -13,15 +24,14 @@ pub fn push_leaves(
 ) -> Result<(), AllocError>
     ensures { OnOk result (names.new.items ≡ names.old.items ++ leaf_variables expression.now) }
 {
+    if let ExprView::Leaf(term) = expression.view() {
+        return push_leaf(term, names);
+    }
     let mut waiting = Vec::new(alloc);
     waiting.push(expression)?;
     while let Some(part) = waiting.pop() {
         match part.view() {
-            ExprView::Leaf(term) => {
-                if let TermView::Var(x) = term.view() {
-                    names.push(x)?;
-                }
-            }
+            ExprView::Leaf(term) => push_leaf(term, names)?,
             ExprView::Operation(_, left, right) => {
                 waiting.push(right)?;
                 waiting.push(left)?;

@@ -1,6 +1,6 @@
 // The integer that an expression is worth.
 ghost use Rattle.std.specs.Prelude.{◌+◌, ◌<◌, ◌∷◌, IfOk, OnOk, reverse};
-ghost use Rattle.ghc_term.specs.Expression.{leaf};
+ghost use Rattle.ghc_term.specs.Expression.{leaf, operation};
 ghost use Rattle.ghc_match.specs.Ends.{EndsAt};
 ghost use Rattle.ghc_match.specs.Tasks.{IsWorth, AppliesToLast, GoesOn, steps_of, steps};
 
@@ -92,8 +92,28 @@ fn perform<'a>(
     }
 }
 
-// The integer that the expression is worth, if there is one: one step for each part of the expression, by a loop.
-pub fn integer_of(
+// What the operator makes of the integers at two leaves, if there is such an integer.
+fn operate(
+    store: &Store,
+    scope: Scope<'_>,
+    operator: Operator,
+    left: &Term,
+    right: &Term,
+) -> Option<i64>
+    ensures { IsWorth (EndsAt scope.entry store.now.held) (operation operator (leaf left.now) (leaf right.now)) result }
+{
+    let Some(x) = integer_at(store, scope, left) else {
+        return None;
+    };
+    let Some(y) = integer_at(store, scope, right) else {
+        return None;
+    };
+    apply(operator, x, y)
+}
+
+// The integer that the expression is worth, by a list of tasks.
+#[inline(never)]
+fn compute(
     alloc: Global,
     store: &Store,
     scope: Scope<'_>,
@@ -110,4 +130,23 @@ pub fn integer_of(
         }
     }
     Ok(values.pop())
+}
+
+// The integer that the expression is worth, if there is one: one step for each part of the expression, by a loop. A leaf, or one
+// operation on leaves, takes no memory.
+pub fn integer_of(
+    alloc: Global,
+    store: &Store,
+    scope: Scope<'_>,
+    expression: &Expr,
+) -> Result<Option<i64>, AllocError>
+    ensures { IfOk result (IsWorth (EndsAt scope.entry store.now.held) expression.now) }
+{
+    match expression.view() {
+        ExprView::Leaf(term) => Ok(integer_at(store, scope, term)),
+        ExprView::Operation(operator, left, right) => match (left.view(), right.view()) {
+            (ExprView::Leaf(x), ExprView::Leaf(y)) => Ok(operate(store, scope, operator, x, y)),
+            _ => compute(alloc, store, scope, expression),
+        },
+    }
 }

@@ -3,7 +3,7 @@ use Rattle.std.specs.Prelude.{◌↔◌, reverse}
 use Rattle.ghc_match.specs.Ends.{EndsAt}
 use Rattle.ghc_match.specs.Value.{Number}
 use Rattle.ghc_match.specs.Tasks.{Makes, steps}
-use Rattle.ghc_match.proofs.number.integer_of.Given as goal
+use Rattle.ghc_match.proofs.number.compute.Given as goal
 
 abbrev pub invariant-loop-task : goal.invariant-loop-task
 invariant-loop-task l = (k : ℤ) → Number (EndsAt l.scope l.store.held) l.expression k ↔ Makes (EndsAt l.scope l.store.held) (reverse l.tasks.items) (reverse l.values.items) k
