@@ -23,3 +23,4 @@ pub mod MatchHead
 pub mod GuardingLemmas
 pub mod TryClause
 pub mod FirstClash
+pub mod Ahead

@@ -1,8 +1,7 @@
 -- The walk over a head: which positions are done, and which are ahead.
-use Rattle.std.proofs.Common.{◌≡◌, ℕ, zero, suc, ◌+◌, ◌<◌, ◌≤◌, List, [], ◌∷◌, ◌++◌, length, refl, sym, ap, ◌∙◌, subst, inl, inr, ◌⊎◌, arith}
+use Rattle.std.proofs.Common.{◌≡◌, ℕ, zero, suc, ◌+◌, ◌<◌, ◌≤◌, List, [], ◌∷◌, ◌++◌, refl, sym, ap, ◌∙◌, subst, inl, inr, ◌⊎◌, arith}
 use Rattle.std.specs.Prelude.{Option, Some, None, slice_get}
 use Rattle.std.specs.List.{zip}
-use Rattle.std.specs.Borrow.{Bor}
 use Rattle.std.proofs.lemmas.List.{append-nil}
 use Rattle.ghc_term.specs.declared.var_name.VarName.{VarName}
 use Rattle.ghc_term.specs.Tree.{Tree, variable, integer, node, Trees, none, more, list_of}
@@ -12,16 +11,8 @@ use Rattle.ghc_term.proofs.Chains.{leads_once}
 use Rattle.ghc_term.proofs.ListsLemmas.{in_left, in_right, in_either, in_more}
 use Rattle.ghc_match.specs.Position.{At, here, down, unbound}
 use Rattle.ghc_match.specs.Ends.{ChainEnds}
-use Rattle.ghc_match.specs.Meeting.{arguments, trees_of, Opens}
+use Rattle.ghc_match.specs.Meeting.{arguments, Opens}
 use Rattle.ghc_match.proofs.Chains.{written}
-
-pub trees_append : (ps qs : List (Bor Tree × Bor Tree)) → trees_of (ps ++ qs) ≡ trees_of ps ++ trees_of qs
-trees_append [] qs = refl
-trees_append (p ∷ ps) qs = ap (λ l. (p.0.now, p.1.now) ∷ l) (trees_append ps qs)
-
-pub nothing_ahead : (ps : List (Bor Tree × Bor Tree)) (n : ℕ) → n ≡ length ps → n ≡ 0 → trees_of ps ≡ []
-nothing_ahead [] n e z = refl
-nothing_ahead (p ∷ ps) n e z = absurd (omega (arith, e, z))
 
 -- what stands at one place of two lists
 in_zip : (hs ts : List Tree) (i : ℕ) (h t : Tree) → slice_get hs i ≡ Some h → slice_get ts i ≡ Some t → In {X = Tree × Tree} (h, t) (zip hs ts)
@@ -127,6 +118,10 @@ opens_no_terms S h t e old n l = (e, l, sym (ap (λ us. old ++ zip (arguments h)
   no_terms : (hs : List Tree) → zip {X = Tree} hs [] ≡ []
   no_terms [] = refl
   no_terms (h ∷ hs) = refl
+
+-- what comes to no pairs comes to others too
+pub opens_more : (S : VarName → Option Tree) (h t : Tree) (rest new below : List (Tree × Tree)) → Opens S h t [] below → new ≡ rest ++ below → Opens S h t rest new
+opens_more S h t rest new below o e = (o.0, o.1, e ∙ ap (λ l. rest ++ l) o.2)
 
 abbrev mutual
   -- how many parts a tree has

@@ -10,3 +10,4 @@ pub mod Told
 pub mod Laws
 pub mod Facts
 pub mod First
+pub mod Places

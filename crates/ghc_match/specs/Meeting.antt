@@ -1,6 +1,5 @@
 -- What a head and a call show where they meet: at each position the head's tree, and the goal's.
-use Rattle.std.specs.Prelude.{◌≡◌, ◌↔◌, ◌⊎◌, ◌++◌, ℕ, List, [], map, Option, IsTrue}
-use Rattle.std.specs.Borrow.{Bor}
+use Rattle.std.specs.Prelude.{◌≡◌, ◌↔◌, ◌⊎◌, ◌++◌, ℕ, List, [], Option, IsTrue}
 use Rattle.std.specs.List.{zip}
 use Rattle.std.specs.FinMap as finite
 use Rattle.std.specs.FinSet as set
@@ -41,10 +40,6 @@ abbrev pub standing : Tree → Tree → StoreValue → StoreValue
 standing (variable y) t stands = finite.insert stands y t
 standing (integer _) t stands = stands
 standing (node _ _) t stands = stands
-
--- the trees of pairs of terms
-abbrev pub trees_of : List (Bor Tree × Bor Tree) → List (Tree × Tree)
-trees_of es = map (λ (p : Bor Tree × Bor Tree). (p.0.now, p.1.now)) es
 
 -- To the pairs come those just below the pair of h and t: the arguments of h beside those of the end of t.
 abbrev pub Opens : (VarName → Option Tree) → Tree → Tree → List (Tree × Tree) → List (Tree × Tree) → Type 0

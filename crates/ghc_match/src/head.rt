@@ -1,17 +1,18 @@
 // The head of a clause meets the arguments of a call.
-ghost use Rattle.std.specs.Prelude.{◌≡◌, ◌↔◌, ◌⊎◌, ◌++◌, IfOk, OnOk, IsTrue};
-ghost use Rattle.std.specs.List.{zip};
+ghost use Rattle.std.specs.Prelude.{◌≡◌, ◌↔◌, ◌⊎◌, [], IfOk, OnOk, IsTrue};
 ghost use Rattle.ghc_term.specs.Store.{value_at};
 ghost use Rattle.ghc_term.specs.Sets.{IsSetOf};
 ghost use Rattle.ghc_flat.specs.Flat.{IsLinear};
 ghost use Rattle.ghc_match.specs.Match.{StandsFor, Mismatch, HeadWants};
-ghost use Rattle.ghc_match.specs.Meeting.{Gains, Clashes, Asks, Passed, standing, trees_of, Opens, HeadLooksAt};
+ghost use Rattle.ghc_match.specs.Meeting.{Gains, Clashes, Asks, Passed, standing, Opens, HeadLooksAt};
+ghost use Rattle.ghc_match.specs.Places.{ahead_in};
 ghost use Rattle.ghc_term.specs.declared.var_name.VarName.{VarName};
 ghost use Rattle.ghc_term.specs.Tree.{Tree};
 ghost use Rattle.std.specs.Prelude.{Some};
 
 use crate::alike::{are_alike, arguments_of};
 use crate::passing::follow_noting;
+use crate::places::{Places, go_below, next_pair};
 use ghc_flat::Clause;
 use ghc_term::{Bindings, Store, Term, TermView, Variables};
 use std::alloc::{AllocError, Global};
@@ -26,52 +27,33 @@ pub struct Met {
     pub looked: Variables,
 }
 
-// Terms of a head, each with the goal's at its position.
-pub type Pending<'a> = Vec<(&'a Term, &'a Term)>;
-
-// Adds the pairs that stand at one place of both lists.
-fn push_pairs<'a>(
-    heads: &'a [Term],
-    terms: &'a [Term],
-    pending: &mut Pending<'a>,
-) -> Result<(), AllocError>
-    ensures { OnOk result (trees_of pending.new.items ≡ trees_of pending.old.items ++ zip heads.now terms.now) }
-{
-    for (head, term) in heads.iter().zip(terms) {
-        pending.push((head, term))?;
-    }
-    Ok(())
-}
-
-// Sees the pair at one position, and adds those just below it.
+// Sees the pair at one position, and gives the places just below it.
 fn visit<'a>(
     store: &'a Store,
     head: &'a Term,
     term: &'a Term,
     met: &mut Met,
-    pending: &mut Pending<'a>,
-) -> Result<(), AllocError>
+) -> Result<Places<'a>, AllocError>
     ensures clashes { OnOk result (IsTrue met.new.clashes ↔ (IsTrue met.old.clashes ⊎ Clashes (value_at store.now.held) head.now term.now)) }
     ensures stands { OnOk result (met.new.stands ≡ standing head.now term.now met.old.stands) }
     ensures wanted { OnOk result (Gains met.old.wanted met.new.wanted (Asks (value_at store.now.held) head.now term.now)) }
     ensures looked { OnOk result (Gains met.old.looked met.new.looked (Passed (value_at store.now.held) head.now term.now)) }
-    ensures opens { OnOk result (Opens (value_at store.now.held) head.now term.now (trees_of pending.old.items) (trees_of pending.new.items)) }
+    ensures opens { IfOk result (λ below. Opens (value_at store.now.held) head.now term.now [] (ahead_in below)) }
 {
     store.acyclic();
     if let TermView::Var(y) = head.view() {
         met.stands.insert(y, term.share()?)?;
-        return Ok(());
+        return Ok(Places::none());
     }
     let end = follow_noting(store, term, &mut met.looked)?;
     if let TermView::Var(x) = end.view() {
         met.wanted.insert(x)?;
-        return Ok(());
+        return Ok(Places::none());
     }
     if !are_alike(head, end) {
         met.clashes = true;
     }
-    push_pairs(arguments_of(head), arguments_of(end), pending)?;
-    Ok(())
+    Ok(Places::all(arguments_of(head), arguments_of(end)))
 }
 
 // What the positions of the clause's head show. It goes once to each of them, by a loop, also below one that clashes;
@@ -95,10 +77,11 @@ pub fn match_head(
         wanted: Variables::new(alloc),
         looked: Variables::new(alloc),
     };
+    let mut here = Places::all(clause.head(), arguments);
     let mut pending = Vec::new(alloc);
-    push_pairs(clause.head(), arguments, &mut pending)?;
-    while let Some((head, term)) = pending.pop() {
-        visit(store, head, term, &mut met, &mut pending)?;
+    while let Some((head, term)) = next_pair(&mut here, &mut pending) {
+        let below = visit(store, head, term, &mut met)?;
+        go_below(below, &mut here, &mut pending)?;
     }
     Ok(met)
 }

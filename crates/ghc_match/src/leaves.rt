@@ -16,17 +16,11 @@ fn push_leaf(term: &Term, names: &mut Vec<VarName>) -> Result<(), AllocError>
     Ok(())
 }
 
-// Adds the leaves of the expression that are variables, from left to right. One step for each part of the expression.
-pub fn push_leaves(
-    alloc: Global,
-    expression: &Expr,
-    names: &mut Vec<VarName>,
-) -> Result<(), AllocError>
+// Adds the leaves of the expression that are variables, by a list of the parts that wait.
+#[inline(never)]
+fn push_parts(alloc: Global, expression: &Expr, names: &mut Vec<VarName>) -> Result<(), AllocError>
     ensures { OnOk result (names.new.items ≡ names.old.items ++ leaf_variables expression.now) }
 {
-    if let ExprView::Leaf(term) = expression.view() {
-        return push_leaf(term, names);
-    }
     let mut waiting = Vec::new(alloc);
     waiting.push(expression)?;
     while let Some(part) = waiting.pop() {
@@ -39,4 +33,25 @@ pub fn push_leaves(
         }
     }
     Ok(())
+}
+
+// Adds the leaves of the expression that are variables, from left to right. One step for each part of the expression. A leaf, or
+// one operation on leaves, takes no more memory than the variables do.
+pub fn push_leaves(
+    alloc: Global,
+    expression: &Expr,
+    names: &mut Vec<VarName>,
+) -> Result<(), AllocError>
+    ensures { OnOk result (names.new.items ≡ names.old.items ++ leaf_variables expression.now) }
+{
+    match expression.view() {
+        ExprView::Leaf(term) => push_leaf(term, names),
+        ExprView::Operation(_, left, right) => match (left.view(), right.view()) {
+            (ExprView::Leaf(x), ExprView::Leaf(y)) => {
+                push_leaf(x, names)?;
+                push_leaf(y, names)
+            }
+            _ => push_parts(alloc, expression, names),
+        },
+    }
 }

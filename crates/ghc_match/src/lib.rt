@@ -12,6 +12,7 @@ mod laws;
 mod leaves;
 mod number;
 mod passing;
+mod places;
 mod scope;
 mod test_holds;
 mod trying;

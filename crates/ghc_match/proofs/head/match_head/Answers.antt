@@ -1,10 +1,8 @@
-use Rattle.std.proofs.Common.{◌≡◌, ◌<◌, [], ◌∷◌, ◌++◌, List, sym, ap, ◌∙◌, subst}
+use Rattle.std.proofs.Common.{◌≡◌, ◌<◌, [], ◌++◌, sym, ap, ◌∙◌, subst}
 use Rattle.std.specs.List.{zip}
-use Rattle.std.specs.Borrow.{Bor}
 use Rattle.ghc_term.specs.Store.{value_at}
-use Rattle.ghc_term.specs.Tree.{Tree}
-use Rattle.ghc_match.specs.Meeting.{trees_of}
-use Rattle.ghc_match.proofs.WalkedPositions.{Walked, walk_begins, walk_ends, head_parts, trees_append, nothing_ahead}
+use Rattle.ghc_match.specs.Places.{ahead_in, ahead_of, all_ahead}
+use Rattle.ghc_match.proofs.WalkedPositions.{Walked, walk_begins, walk_ends, head_parts, opens_more}
 use Rattle.ghc_match.proofs.MeetingLemmas.{IsFresh, seen_nothing, fresh_first}
 use Rattle.ghc_match.proofs.MatchHead.{HeadSoFar, head_goes_on, all_clashes, all_stands, all_wanted, all_looked}
 use Rattle.ghc_match.proofs.head.match_head.Goals as goal
@@ -14,8 +12,8 @@ loop-head-init c =
     let S = value_at c.args.store.now.held in
     let hs = c.args.clause.now.head in
     let ts = c.args.arguments.now in
-    let first : trees_of c.push_pairs.new.pending.items ≡ zip hs ts =
-    c.in_ok-push_pairs.ensures ∙ ap (λ l. trees_of l ++ zip c.head.result.now ts) c.new-pending.ensures.items ∙ ap (λ l. zip l ts) c.head.ensures in
+    let here = c.all-here.result in
+    let first : all_ahead here c.new-pending.result.items ≡ zip hs ts = ap (λ l. ahead_of l ++ ahead_in here) c.new-pending.ensures.items ∙ c.all-here.ensures ∙ ap (λ l. zip l ts) c.head.ensures in
     record {
       done = [];
       walked = subst (Walked S hs ts []) (sym first) (walk_begins S hs ts);
@@ -25,28 +23,34 @@ loop-head-init c =
 
 pub loop-head-smaller : goal.loop-head-smaller
 loop-head-smaller c =
-    let last : List (Bor Tree × Bor Tree) = (c.in-Some.head, c.in-Some.term) ∷ [] in
-    let popped = ap trees_of c.in-Some.ensures.items ∙ trees_append c.pop.new.self.items last in
-    let less : head_parts (trees_of c.visit.new.pending.items) < head_parts (trees_of c.loop-head.pending.items) =
-    walk_ends (value_at c.args.store.now.held) (trees_of c.loop-head.pending.items) (trees_of c.pop.new.self.items) (trees_of c.visit.new.pending.items) (c.in-Some.head.now, c.in-Some.term.now) popped c.in_ok-visit.ensures.opens in
+    let S = value_at c.args.store.now.held in
+    let h = c.in-Some.head.now in
+    let t = c.in-Some.term.now in
+    let old = all_ahead c.loop-head.here c.loop-head.pending.items in
+    let rest = all_ahead c.next_pair.new.here c.next_pair.new.pending.items in
+    let new = all_ahead c.go_below.new.here c.go_below.new.pending.items in
+    let less : head_parts new < head_parts old = walk_ends S old rest new (h, t) c.in-Some.ensures (opens_more S h t rest new (ahead_in c.in_ok-below.below) c.in_ok-below.ensures.opens c.in_ok-go_below.ensures) in
     less
 
 pub loop-head-preserved : goal.loop-head-preserved
 loop-head-preserved c =
-    let last : List (Bor Tree × Bor Tree) = (c.in-Some.head, c.in-Some.term) ∷ [] in
-    let popped = ap trees_of c.in-Some.ensures.items ∙ trees_append c.pop.new.self.items last in
+    let S = value_at c.args.store.now.held in
+    let h = c.in-Some.head.now in
+    let t = c.in-Some.term.now in
+    let rest = all_ahead c.next_pair.new.here c.next_pair.new.pending.items in
+    let after = all_ahead c.go_below.new.here c.go_below.new.pending.items in
     let old = c.loop-head.met in
     let new = c.visit.new.met in
-    head_goes_on (value_at c.args.store.now.held) c.args.clause.now.head c.args.arguments.now old.clashes new.clashes old.stands new.stands old.wanted new.wanted old.looked new.looked
-    (trees_of c.loop-head.pending.items) (trees_of c.pop.new.self.items) (trees_of c.visit.new.pending.items) (c.in-Some.head.now, c.in-Some.term.now)
-    c.loop-head.invariant popped c.in_ok-visit.ensures.clashes c.in_ok-visit.ensures.stands c.in_ok-visit.ensures.wanted c.in_ok-visit.ensures.looked c.in_ok-visit.ensures.opens
+    let said = c.in_ok-below.ensures in
+    head_goes_on S c.args.clause.now.head c.args.arguments.now old.clashes new.clashes old.stands new.stands old.wanted new.wanted old.looked new.looked
+    (all_ahead c.loop-head.here c.loop-head.pending.items) rest after (h, t) c.loop-head.invariant c.in-Some.ensures said.clashes said.stands said.wanted said.looked
+    (opens_more S h t rest after (ahead_in c.in_ok-below.below) said.opens c.in_ok-go_below.ensures)
 
 pub returns : goal.returns
 returns c =
     let S = value_at c.args.store.now.held in
     let met = c.loop-head.met in
-    let none = nothing_ahead c.loop-head.pending.items _ c.loop-head.pending.ok.0 c.in_default.ensures.cases.0 in
-    let end = subst (HeadSoFar S c.args.clause.now.head c.args.arguments.now met.clashes met.stands met.wanted met.looked) none c.loop-head.invariant in
+    let end = subst (HeadSoFar S c.args.clause.now.head c.args.arguments.now met.clashes met.stands met.wanted met.looked) c.in_default.ensures c.loop-head.invariant in
     record {
       clashes = all_clashes c.args.clause.now c.args.arguments.now S met.clashes met.stands met.wanted met.looked end;
       stands = all_stands c.args.clause.now c.args.arguments.now S met.clashes met.stands met.wanted met.looked end;

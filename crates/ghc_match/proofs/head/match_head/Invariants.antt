@@ -1,11 +1,11 @@
 use Rattle.ghc_term.specs.Store.{value_at}
-use Rattle.ghc_match.specs.Meeting.{trees_of}
+use Rattle.ghc_match.specs.Places.{all_ahead}
 use Rattle.ghc_match.proofs.WalkedPositions.{head_parts}
 use Rattle.ghc_match.proofs.MatchHead.{HeadSoFar}
 use Rattle.ghc_match.proofs.head.match_head.Given as goal
 
 abbrev pub invariant-loop-head : goal.invariant-loop-head
-invariant-loop-head l = HeadSoFar (value_at l.store.held) l.clause.head l.arguments l.met.clashes l.met.stands l.met.wanted l.met.looked (trees_of l.pending.items)
+invariant-loop-head l = HeadSoFar (value_at l.store.held) l.clause.head l.arguments l.met.clashes l.met.stands l.met.wanted l.met.looked (all_ahead l.here l.pending.items)
 
 abbrev pub decreases-loop-head : goal.decreases-loop-head
-decreases-loop-head l = head_parts (trees_of l.pending.items)
+decreases-loop-head l = head_parts (all_ahead l.here l.pending.items)

@@ -1,4 +1,4 @@
-use Rattle.std.proofs.Common.{◌≡◌, ◌⊎◌, Bool, sym, ap, ◌∙◌, subst, refl, ◌++◌, true, false}
+use Rattle.std.proofs.Common.{◌≡◌, ◌⊎◌, Bool, sym, ap, ◌∙◌, subst, refl, [], true, false}
 use Rattle.std.specs.Prelude.{IsTrue, ◌↔◌}
 use Rattle.std.specs.List.{zip}
 use Rattle.ghc_term.specs.Store.{value_at}
@@ -6,7 +6,7 @@ use Rattle.ghc_term.specs.Tree.{IsValue, variable}
 use Rattle.ghc_match.proofs.Chains.{chains}
 use Rattle.ghc_match.specs.Ends.{ChainEnds}
 use Rattle.ghc_term.specs.Sets.{Variables}
-use Rattle.ghc_match.specs.Meeting.{trees_of, arguments, Clashes, Asks, Passed, Gains}
+use Rattle.ghc_match.specs.Meeting.{arguments, Opens, Clashes, Asks, Passed, Gains}
 use Rattle.ghc_match.specs.declared.head.Met.{Met}
 use Rattle.ghc_match.proofs.AlikeLemmas.{shown_value}
 use Rattle.ghc_match.proofs.WalkedPositions.{opens_nothing, opens_no_terms}
@@ -18,7 +18,7 @@ pub returns-in-Var-clause-opens : goal.returns-in-Var-clause-opens
 returns-in-Var-clause-opens c =
     let s = c.args.store.now.held in
     let ch = chains s c.acyclic.ensures c.args.term.now in
-    opens_nothing (value_at s) c.args.head.now c.args.term.now ch.1 (trees_of c.args.pending.now.items) (ap arguments (sym c.in-Var.ensures.shown)) (ch.0, ch.2)
+    subst (Opens (value_at s) c.args.head.now c.args.term.now []) (sym c.none.ensures) (opens_nothing (value_at s) c.args.head.now c.args.term.now ch.1 [] (ap arguments (sym c.in-Var.ensures.shown)) (ch.0, ch.2))
 
 pub returns-in-Var-view : goal.returns-in-Var-view
 returns-in-Var-view c =
@@ -34,7 +34,7 @@ returns-in-Var-view c =
       stands = standing_value h t old.stands vh;
       wanted = asks_new S h t old.wanted c.insert-in-Var-view.new.self x vh l c.in_ok-insert-2.ensures.ok;
       looked = passed_by S h t old.looked c.follow_noting.new.looked vh c.in_ok-end.ensures.looked;
-      opens = opens_no_terms S h t (variable x) (trees_of c.args.pending.now.items) refl l;
+      opens = subst (Opens S h t []) (sym c.none-in-Var-view.ensures) (opens_no_terms S h t (variable x) [] refl l);
     }
 
 pub returns-clause-clashes : goal.returns-clause-clashes
@@ -85,9 +85,8 @@ returns-clause-looked c =
     ]
 
 pub returns-clause-opens : goal.returns-clause-opens
-returns-clause-opens c =
-    let old = trees_of c.args.pending.now.items in (
-      c.in_ok-end.end.now,
-      c.in_ok-end.ensures.end,
-      c.in_ok-push_pairs.ensures ∙ ap (λ l. old ++ zip l c.arguments_of-2.result.now) c.arguments_of.ensures ∙ ap (λ l. old ++ zip (arguments c.args.head.now) l) c.arguments_of-2.ensures,
-    )
+returns-clause-opens c = (
+  c.in_ok-end.end.now,
+  c.in_ok-end.ensures.end,
+  c.all.ensures ∙ ap (λ l. zip l c.arguments_of-2.result.now) c.arguments_of.ensures ∙ ap (λ l. zip (arguments c.args.head.now) l) c.arguments_of-2.ensures,
+)

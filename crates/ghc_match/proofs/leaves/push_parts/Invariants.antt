@@ -2,7 +2,7 @@ use Rattle.std.proofs.Common.{◌≡◌, ◌++◌}
 use Rattle.std.specs.Prelude.{reverse}
 use Rattle.ghc_flat.specs.Variables.{leaf_variables}
 use Rattle.ghc_match.proofs.PushLeaves.{leaves, parts}
-use Rattle.ghc_match.proofs.leaves.push_leaves.Given as goal
+use Rattle.ghc_match.proofs.leaves.push_parts.Given as goal
 
 abbrev pub invariant-loop-part : goal.invariant-loop-part
 invariant-loop-part l = l.names.items ++ leaves (reverse l.waiting.items) ≡ l.initial.names.items ++ leaf_variables l.expression
