@@ -1,5 +1,5 @@
 -- What the texts of replies say.
-use Rattle.std.proofs.Common.{◌≡◌, ◌≢◌, ◌⊎◌, ◌<◌, inl, inr, sym, subst, ap, ◌∙◌, List, ℕ, length, Result, Ok, Err, IfOk, Option}
+use Rattle.std.proofs.Common.{◌≡◌, ◌≢◌, ◌⊎◌, ◌<◌, inl, inr, sym, subst, ap, ◌∙◌, List, ℕ, length, Result, Ok, Err, IfOk, OnErr, MatchResult, Option}
 use Rattle.ghc_term.specs.declared.fault.Fault.{Fault}
 use Rattle.ghc_term.specs.declared.fault.Fault.TheVariants as fault
 use Rattle.ghc_term.specs.declared.goal_name.GoalName.{GoalName}
@@ -21,6 +21,11 @@ use Rattle.ghc_console.specs.Replies.{Takes, takes, full, RepliesToStep, steps, 
 pub if_ok : {T E : Type 0} (r : Result T E) {P Q R : T → Type 0} → IfOk r P → IfOk r Q → ((t : T) → P t → Q t → R t) → IfOk r R
 if_ok (Ok t) p q f = f t p q
 if_ok (Err e) p q f = tt
+
+-- What holds in each case leads to more about both.
+pub either : {T E : Type 0} (r : Result T E) {P R : T → Type 0} {Q S : Type 0} → IfOk r P → OnErr r Q → ((t : T) → P t → R t) → (Q → S) → MatchResult r R (λ _. S)
+either (Ok t) p q f g = f t p
+either (Err e) p q f g = g q
 
 -- A step that is refused is told so.
 pub step_refused : (w v : World) (g : GoalName) (choice : Option ℕ) (f : Fault) (text : List ℕ) → v ≡ w → (f ≡ fault.Memory) ⊎ StepFails w g choice f → text ≡ refusal f → f ≢ fault.Memory

@@ -1,12 +1,15 @@
 -- Lemmas on words, numbers and names of goals.
-use Rattle.std.proofs.Common.{◌≡◌, ◌≢◌, ℕ, ◌+◌, ◌*◌, ◌≤◌, Bool, true, false, cond, eqb, All, Option, Some, None, inl, inr, ◌⊎◌, List, [], ◌&&◌, ◌<◌, not, leb, suc, length, filter, append_assoc, get_or, take, drop, ◌∷◌, ◌++◌, refl, sym, ap, ◌∙◌, arith, rules}
-use Rattle.std.proofs.lemmas.Bool.{eq-eqb, eqb-true, ne_eqb}
+use Rattle.std.proofs.Common.{◌≡◌, ◌≢◌, ℕ, ◌+◌, ◌-◌, ◌*◌, ◌≤◌, Bool, true, false, cond, eqb, All, Option, Some, None, inl, inr, ◌⊎◌, List, [], ◌&&◌, ◌<◌, not, leb, zero, suc, length, filter, get_or, take, drop, ◌∷◌, ◌++◌, refl, sym, ap, ◌∙◌, arith, rules}
+use Rattle.std.proofs.lemmas.Bool.{eq-eqb, eqb-true, false≢true, ne_eqb}
+use Rattle.std.proofs.lemmas.List.{take_rest, drop-drop}
 use Rattle.std.proofs.lemmas.List.Splits.{slice_split-cons_no, slice_split-cons_yes, slice_split_at, slice_split_none}
 use Rattle.std.specs.Char.{digit_value, is_ascii_digit}
 use Rattle.std.specs.List.{list_all, slice_split, onto_first}
 use Rattle.std.specs.Str.Parse.{digits_value, digits_value_after}
+use Rattle.std.specs.Str.{IsAscii}
+use Rattle.ghc_term.specs.InputTerm.{is_name_byte}
 use Rattle.std.proofs.Math.Seq.{drop-cons}
-use Rattle.ghc_console.specs.Words.{goal_name_of, goal_named, goal_of_parts, number_of, words_of}
+use Rattle.ghc_console.specs.Words.{goal_name_of, goal_named, goal_of_parts, is_variable, number_of, words_of}
 
 -- the test that finds a byte says no of every other
 pub none_passes : (wanted : ℕ) (bytes : List ℕ) → All (λ b. b ≢ wanted) bytes → All (λ b. eqb b wanted ≡ false) bytes
@@ -49,16 +52,23 @@ filled word = not (eqb (length word) 0)
 front_word : (word : List ℕ) (words : List (List ℕ)) → filter filled (word ∷ words) ≡ filter filled (word ∷ []) ++ filter filled words
 front_word word words = elim (filled word) as (λ b. cond b (word ∷ filter filled words) (filter filled words) ≡ cond b (word ∷ []) [] ++ filter filled words) [ true ↦ refl | false ↦ refl ]
 
--- one word on
-pub words_step : (held : List (List ℕ)) (rest line : List ℕ) (i : ℕ) → rest ≡ take i rest ++ 32 ∷ drop (i + 1) rest → All (λ b. b ≢ 32) (take i rest) → held ++ words_of rest ≡ words_of line
-    → (held ++ filter filled (take i rest ∷ [])) ++ words_of (drop (i + 1) rest) ≡ words_of line
-words_step held rest line i e plain h =
-    let split = ap words_of e ∙ ap (filter filled) (split-first 32 (take i rest) (drop (i + 1) rest) plain) ∙ front_word (take i rest) (slice_split (λ b. eqb b 32) (drop (i + 1) rest)) in
-    append_assoc held (filter filled (take i rest ∷ [])) (words_of (drop (i + 1) rest)) ∙ ap (λ l. held ++ l) (sym split) ∙ h
+-- a word alone counts where it is not empty
+one_word : (word : List ℕ) (empty : Bool) → eqb (length word) 0 ≡ empty → filter filled (word ∷ []) ≡ cond empty [] (word ∷ [])
+one_word word true e = ap (λ b. cond (not b) (word ∷ []) []) e
+one_word word false e = ap (λ b. cond (not b) (word ∷ []) []) e
 
--- the last word
-pub words_last : (held : List (List ℕ)) (rest line : List ℕ) → All (λ b. b ≢ 32) rest → held ++ words_of rest ≡ words_of line → held ++ filter filled (rest ∷ []) ≡ words_of line
-words_last held rest line plain h = ap (λ l. held ++ filter filled l) (sym (split-last 32 rest plain)) ∙ h
+-- The words of a line that are left in the rest: the first part of it, where it is one, and those behind the blank.
+pub words_on : (rest line word behind : List ℕ) (i : ℕ) (empty : Bool) → rest ≡ take i rest ++ 32 ∷ drop (i + 1) rest → All (λ b. b ≢ 32) (take i rest) → words_of rest ≡ words_of line
+    → word ≡ take i rest → behind ≡ drop i rest → eqb (length word) 0 ≡ empty → words_of line ≡ cond empty [] (word ∷ []) ++ words_of (take (length behind - 1) (drop 1 behind))
+words_on rest line word behind i empty e plain h front back is =
+    let later : take (length behind - 1) (drop 1 behind) ≡ drop (i + 1) rest = take_rest behind 1 ∙ ap (drop 1) back ∙ drop-drop 1 i rest in
+    let split = ap words_of e ∙ ap (filter filled) (split-first 32 (take i rest) (drop (i + 1) rest) plain) ∙ front_word (take i rest) (slice_split (λ b. eqb b 32) (drop (i + 1) rest)) in
+    sym h ∙ split ∙ ap (λ w. filter filled (w ∷ []) ++ words_of (drop (i + 1) rest)) (sym front)
+    ∙ ap (λ l. l ++ words_of (drop (i + 1) rest)) (one_word word empty is) ∙ ap (λ l. cond empty [] (word ∷ []) ++ words_of l) (sym later)
+
+-- where the rest has no blank, it is the last word, or none is left
+pub last_word : (rest line : List ℕ) (empty : Bool) → All (λ b. b ≢ 32) rest → words_of rest ≡ words_of line → eqb (length rest) 0 ≡ empty → words_of line ≡ cond empty [] (rest ∷ [])
+last_word rest line empty plain h is = sym h ∙ ap (filter filled) (split-last 32 rest plain) ∙ one_word rest empty is
 
 -- Bytes are one part, or they have the wanted byte and are no number.
 abbrev pub IsOnePartOrNone : ℕ → List ℕ → Type 0
@@ -113,3 +123,18 @@ goal_at_point word i e plain =
 -- without a point there is no goal
 pub no_point : (word : List ℕ) → All (λ b. b ≢ 46) word → goal_name_of word ≡ None
 no_point word plain = ap goal_of_parts (split-last 46 word plain)
+
+-- the bytes of names are ASCII
+ascii_name : (b : ℕ) → is_name_byte b ≡ true → b < 128
+ascii_name b e = grind (arith, e)
+
+ascii_names : (bytes : List ℕ) → list_all is_name_byte bytes ≡ true → IsAscii bytes
+ascii_names [] e i = omega arith
+ascii_names (b ∷ bytes) e zero = ascii_name b (grind (arith, e))
+ascii_names (b ∷ bytes) e (suc i) = ascii_names bytes (grind (arith, e)) i
+
+-- and so are those of a variable
+pub ascii_variable : (word : List ℕ) → is_variable word ≡ true → IsAscii word
+ascii_variable [] e i = absurd (false≢true e)
+ascii_variable (b ∷ bytes) e zero = grind (arith, e)
+ascii_variable (b ∷ bytes) e (suc i) = ascii_names bytes (grind (arith, e)) i

@@ -1,5 +1,5 @@
 -- The replies to lines: what is written for each, and which world it leaves.
-use Rattle.std.specs.Prelude.{◌≡◌, ◌<◌, ◌≤◌, ℕ, Bool, true, false, List, [], ◌∷◌, ◌++◌, codes, length, map, Option, None, Some}
+use Rattle.std.specs.Prelude.{◌≡◌, ◌<◌, ◌≤◌, ℕ, Bool, true, false, List, [], ◌∷◌, ◌++◌, codes, length, map, Option}
 use Rattle.std.specs.Fmt.{decimal}
 use Rattle.ghc_term.specs.declared.var_name.VarName.{VarName}
 use Rattle.ghc_term.specs.declared.goal_name.GoalName.{GoalName}
@@ -108,8 +108,3 @@ pub data IsReply (w : World) (line : List ℕ) : List ℕ → World → Bool →
       → IsReply w line text v (quits (command_of line))
   too_long : line_limit < length line → IsReply w line (refusal (Fault.Limit limit.Line)) w false
   no_memory : IsReply w line (refusal Fault.Memory) w false
-
--- the bytes of a reply; there is none for want of memory, which is told
-abbrev pub reply_bytes : Option (List ℕ) → List ℕ
-reply_bytes None = refusal Fault.Memory
-reply_bytes (Some text) = text

@@ -1,9 +1,9 @@
-// The replies to lines.
-ghost use Rattle.std.specs.Prelude.{◌≡◌, ◌≤◌, List, ℕ, length, IfOk, OnErr, option_map};
+// The replies to lines, each written into a text of the session.
+ghost use Rattle.std.specs.Prelude.{◌≡◌, ◌≤◌, false, [], List, ℕ, length, IfOk, MatchResult, OnErr, OnOk, string_bytes};
 ghost use Rattle.ghc_console.specs.Commands.{command_of};
 ghost use Rattle.ghc_console.specs.Firing.{Fires};
 ghost use Rattle.ghc_console.specs.Reading.{LineSays, line_limit};
-ghost use Rattle.ghc_console.specs.Replies.{IsReply, Replies, quits, reply_bytes};
+ghost use Rattle.ghc_console.specs.Replies.{IsReply, Replies, quits, refusal};
 
 use crate::command::{LineCommand, parse};
 use crate::reading::Line;
@@ -13,20 +13,26 @@ use ghc_core::Core;
 use ghc_term::{Fault, Limit};
 use std::alloc::{AllocError, Global};
 
-// Carries a command out, and gives the reply. An error leaves the core as it was.
-fn execute(alloc: Global, core: &mut Core, command: &LineCommand) -> Result<Vec<u8>, AllocError>
-    ensures reply { IfOk result (λ t. Replies core.old.world command.now t.items core.new.world) }
+// Carries a command out, and writes the reply. An error leaves the core as it was.
+fn execute(
+    alloc: Global,
+    core: &mut Core,
+    command: &LineCommand,
+    reply: &mut String,
+) -> Result<(), AllocError>
+    requires { string_bytes reply.old ≡ [] }
+    ensures reply { OnOk result (Replies core.old.world command.now (string_bytes reply.new) core.new.world) }
     ensures err { OnErr result (core.new.world ≡ core.old.world) }
     ensures opening { core.new.world.opening ≡ core.old.world.opening }
     ensures fires { Fires command.now core.old.meter core.new.meter }
 {
     match command {
-        LineCommand::Nothing | LineCommand::Quit => Ok(Vec::new(alloc)),
-        LineCommand::Step(goal, choice) => step(alloc, core, *goal, *choice),
-        LineCommand::Undo(number) => undo(alloc, core, *number),
-        LineCommand::Show(word) => show(alloc, core, word.as_bytes()),
-        LineCommand::Records => records(alloc, core),
-        LineCommand::Unknown => refused(alloc, &Fault::Command),
+        LineCommand::Nothing | LineCommand::Quit => Ok(()),
+        LineCommand::Step(goal, choice) => step(alloc, core, *goal, *choice, reply),
+        LineCommand::Undo(number) => undo(core, *number, reply),
+        LineCommand::Show(word) => show(alloc, core, word.as_str(), reply),
+        LineCommand::Records => records(core, reply),
+        LineCommand::Unknown => refused(&Fault::Command, reply),
     }
 }
 
@@ -40,9 +46,15 @@ fn is_quit(command: &LineCommand) -> bool
     }
 }
 
-// Carries a whole line out, and says whether the session ends.
-fn execute_line(alloc: Global, core: &mut Core, line: &[u8]) -> Result<(Vec<u8>, bool), AllocError>
-    ensures ok { length line.now ≤ line_limit → IfOk result (λ r. IsReply core.old.world line.now r.0.items core.new.world r.1) }
+// Carries a whole line out, writes the reply, and says whether the session ends.
+fn execute_line(
+    alloc: Global,
+    core: &mut Core,
+    line: &[u8],
+    reply: &mut String,
+) -> Result<bool, AllocError>
+    requires { string_bytes reply.old ≡ [] }
+    ensures ok { length line.now ≤ line_limit → IfOk result (λ ended. IsReply core.old.world line.now (string_bytes reply.new) core.new.world ended) }
     ensures err { OnErr result (core.new.world ≡ core.old.world) }
     ensures opening { core.new.world.opening ≡ core.old.world.opening }
     ensures fires { Fires (command_of line.now) core.old.meter core.new.meter }
@@ -52,38 +64,33 @@ fn execute_line(alloc: Global, core: &mut Core, line: &[u8]) -> Result<(Vec<u8>,
         Err(error) => return Err(error),
     };
     let ended = is_quit(&command);
-    match execute(alloc, core, &command) {
-        Ok(text) => Ok((text, ended)),
+    match execute(alloc, core, &command, reply) {
+        Ok(()) => Ok(ended),
         Err(error) => Err(error),
     }
 }
 
-/// The reply to a line, none for want of memory, and whether the session ends.
-pub fn answer(alloc: Global, core: &mut Core, line: &Line) -> (Option<Vec<u8>>, bool)
-    ensures reply { (bytes : List ℕ) → LineSays line.now bytes
-        → IsReply core.old.world bytes (reply_bytes (option_map (λ t. t.items) result.0)) core.new.world result.1 }
+/// Writes the reply to a line in place of what stood in the text, and says whether the session ends. An error says that memory
+/// was refused, which is the reply then.
+pub fn answer(
+    alloc: Global,
+    core: &mut Core,
+    line: &Line,
+    reply: &mut String,
+) -> Result<bool, AllocError>
+    ensures reply { (bytes : List ℕ) → LineSays line.now bytes → MatchResult result
+        (λ ended. IsReply core.old.world bytes (string_bytes reply.new) core.new.world ended)
+        (λ _. IsReply core.old.world bytes (refusal Fault.Memory) core.new.world false) }
     ensures opening { core.new.world.opening ≡ core.old.world.opening }
     ensures fires { (bytes : List ℕ) → LineSays line.now bytes → Fires (command_of bytes) core.old.meter core.new.meter }
 {
+    reply.clear();
     match line {
-        Line::Whole(bytes) => match execute_line(alloc, core, bytes.as_slice()) {
-            Ok((text, ended)) => (Some(text), ended),
-            Err(_) => (None, false),
+        Line::Whole(bytes) => execute_line(alloc, core, bytes.as_slice(), reply),
+        Line::TooLong => match refused(&Fault::Limit(Limit::Line), reply) {
+            Ok(()) => Ok(false),
+            Err(error) => Err(error),
         },
-        Line::TooLong => match refused(alloc, &Fault::Limit(Limit::Line)) {
-            Ok(text) => (Some(text), false),
-            Err(_) => (None, false),
-        },
-        Line::NoMemory => (None, false),
-    }
-}
-
-/// The bytes of a reply.
-pub fn bytes_of(reply: &Option<Vec<u8>>) -> &[u8]
-    ensures { result.now ≡ reply_bytes (option_map (λ t. t.items) reply.now) }
-{
-    match reply {
-        Some(text) => text.as_slice(),
-        None => b"F1 no memory\n",
+        Line::NoMemory => Err(AllocError),
     }
 }

@@ -1,11 +1,11 @@
 // The command of a line.
-ghost use Rattle.std.specs.Prelude.{◌≡◌, map, IfOk};
+ghost use Rattle.std.specs.Prelude.{◌≡◌, true, IfOk};
 ghost use Rattle.std.specs.List.{list_all};
-ghost use Rattle.ghc_console.specs.Words.{is_printable};
+ghost use Rattle.ghc_console.specs.Words.{is_printable, is_variable, words_of};
 ghost use Rattle.ghc_console.specs.Commands.{command_of_one_word, command_of, command_of_words, command_of_two_words, command_of_three_words};
 
 use crate::word::Word;
-use crate::words::{goal_name, is_variable_word, number, words};
+use crate::words::{goal_name, is_variable_word, next_word, number};
 use ghc_term::GoalName;
 use std::alloc::{AllocError, Global};
 
@@ -41,6 +41,17 @@ fn one_word_command(first_word: &[u8]) -> LineCommand
     LineCommand::Unknown
 }
 
+// The value of the variable that is written so.
+fn show_of(alloc: Global, word: &[u8]) -> Result<LineCommand, AllocError>
+    requires { is_variable word.now ≡ true }
+    ensures { IfOk result (λ command. command ≡ LineCommand.Show word.now) }
+{
+    match str::from_utf8(word) {
+        Ok(text) => Ok(LineCommand::Show(Word::new(alloc, text)?)),
+        Err(_) => unreachable!(),
+    }
+}
+
 // The command of a word and one more.
 fn two_word_command(
     alloc: Global,
@@ -62,8 +73,7 @@ fn two_word_command(
         };
     }
     if first_word == b"show".as_slice() && is_variable_word(rest) {
-        let word = Word::new(alloc, rest)?;
-        return Ok(LineCommand::Show(word));
+        return show_of(alloc, rest);
     }
     Ok(LineCommand::Unknown)
 }
@@ -81,16 +91,22 @@ fn three_word_command(first_word: &[u8], goal: &[u8], clause: &[u8]) -> LineComm
     LineCommand::Unknown
 }
 
-// The command that words say.
-fn of_words(alloc: Global, words: &[&[u8]]) -> Result<LineCommand, AllocError>
-    ensures { IfOk result (λ command. command ≡ command_of_words (map (λ w. w.now) words.now)) }
+// The command of a line of printable bytes.
+fn of_line(alloc: Global, line: &[u8]) -> Result<LineCommand, AllocError>
+    ensures { IfOk result (λ command. command ≡ command_of_words (words_of line.now)) }
 {
-    match words {
-        [] => Ok(LineCommand::Nothing),
-        [first_word] => Ok(one_word_command(first_word)),
-        [first_word, rest] => two_word_command(alloc, first_word, rest),
-        [first_word, goal, clause] => Ok(three_word_command(first_word, goal, clause)),
-        _ => Ok(LineCommand::Unknown),
+    let Some((name, behind)) = next_word(line) else {
+        return Ok(LineCommand::Nothing);
+    };
+    let Some((second, behind)) = next_word(behind) else {
+        return Ok(one_word_command(name));
+    };
+    let Some((third, behind)) = next_word(behind) else {
+        return two_word_command(alloc, name, second);
+    };
+    match next_word(behind) {
+        None => Ok(three_word_command(name, second, third)),
+        Some(_) => Ok(LineCommand::Unknown),
     }
 }
 
@@ -100,13 +116,13 @@ fn is_plain(line: &[u8]) -> bool
     line.iter().all(|byte| *byte >= 32 && *byte <= 126)
 }
 
-/// The command that a line says; a line that says none is `Unknown`. It takes time and memory in proportion to the line.
+/// The command that a line says; a line that says none is `Unknown`. It takes time in proportion to the
+/// line, and memory for the word of `show` alone.
 pub fn parse(alloc: Global, line: &[u8]) -> Result<LineCommand, AllocError>
     ensures { IfOk result (λ command. command ≡ command_of line.now) }
 {
     if !is_plain(line) {
         return Ok(LineCommand::Unknown);
     }
-    let words = words(alloc, line)?;
-    of_words(alloc, words.as_slice())
+    of_line(alloc, line)
 }

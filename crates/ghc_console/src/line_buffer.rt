@@ -2,8 +2,6 @@
 ghost use Rattle.std.specs.Prelude.{◌≡◌, ℕ, List, [], ◌++◌, IfOk};
 ghost use Rattle.ghc_console.specs.Reading.{HasGathered};
 
-use std::alloc::Global;
-
 /// The most bytes of a line, its line feed and a carriage return before it left out.
 pub const LINE_LIMIT: usize = 1_048_576;
 
@@ -26,12 +24,14 @@ pub struct Gathered {
 }
 
 impl Gathered {
-    /// No bytes yet.
-    pub fn new(alloc: Global) -> Gathered
+    /// No bytes yet. Those that come take the place of what stood in `spare`, and its memory.
+    pub fn new(spare: Vec<u8>) -> Gathered
         ensures { HasGathered result [] }
     {
+        let mut bytes = spare;
+        bytes.clear();
         Gathered {
-            bytes: Vec::new(alloc),
+            bytes,
             state: State::Whole,
         }
     }

@@ -22,6 +22,19 @@ pub enum Line {
     NoMemory,
 }
 
+// The memory of a line that takes more than so many bytes is given back.
+const KEPT_LINE: usize = 4096;
+
+impl Line {
+    /// What held the bytes of the line, for the next one; the memory of a long line is given back.
+    pub fn into_spare(self, alloc: Global) -> Vec<u8> {
+        match self {
+            Line::Whole(bytes) if bytes.capacity() <= KEPT_LINE => bytes,
+            _ => Vec::new(alloc),
+        }
+    }
+}
+
 /// Bytes that were read, and that no line has taken yet. Contracts see these bytes.
 #[derive(Drop)]
 pub struct Ahead {
@@ -121,11 +134,12 @@ impl Ahead {
     }
 
     /// Reads the next line, none at the end of the input. It fails only where a read does, which is then the last
-    /// call; what was read of the line is lost. Each byte is copied twice, whatever the length of the line.
+    /// call; what was read of the line is lost. Each byte is copied twice, whatever the length of the line. The line takes
+    /// the place of what stood in `spare`, and its memory.
     pub fn next_line<R: Wait, D: Device>(
         &mut self,
         rt: &R,
-        alloc: Global,
+        spare: Vec<u8>,
         device: &mut D,
     ) -> Result<Option<Line>, Broken>
         ensures line { IfOk result (λ line. IsNextLine line
@@ -139,7 +153,7 @@ impl Ahead {
         ensures given { OnOk result (CountsGiven (D.unread device.old) (D.unread device.new)
             (D.earlier device.old + D.latest device.old) (D.earlier device.new + D.latest device.new)) }
     {
-        let mut line = Gathered::new(alloc);
+        let mut line = Gathered::new(spare);
         for _ in rt.forever() {
             if self.is_empty() {
                 match self.fill(device) {

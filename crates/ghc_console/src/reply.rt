@@ -1,41 +1,48 @@
-// The replies to commands.
-ghost use Rattle.std.specs.Prelude.{◌≡◌, ◌≢◌, ◌++◌, IfOk, OnErr, OnOk, codes, Some, string_bytes};
-ghost use Rattle.std.specs.FinMap as finite;
+// The replies to commands, each written into a text that is empty before. Where one gives up, what stands there is no reply.
+ghost use Rattle.std.specs.Prelude.{◌≡◌, ◌≢◌, ◌++◌, [], OnErr, OnOk, codes, string_bytes};
 ghost use Rattle.ghc_fire.specs.Meter.{fired};
+ghost use Rattle.ghc_core.specs.Proposes.{IsCommitOf};
+ghost use Rattle.ghc_core.specs.World.{with_step};
+ghost use Rattle.ghc_fire.specs.Proposal.{Proposal as proposal_spec};
 ghost use Rattle.ghc_trace.specs.Ports.{taken_ports};
 ghost use Rattle.ghc_trace.specs.PortText.{ports_text};
 ghost use Rattle.ghc_console.specs.Replies.{RepliesToStep, RepliesToShow, lined, record_lines, records_text, refusal};
 
 use crate::asking::variable_named;
 use ghc_core::{Change, Core};
-use ghc_records::{Record, Records, push_record};
+use ghc_records::{Addition, Records, push_record};
 use ghc_term::{Fault, GoalName, Term, print};
 use ghc_trace::push_ports_of;
 use std::alloc::{AllocError, Global};
 
-// Few replies to a step have more bytes than this; for those the buffer grows.
-const USUAL_REPLY: usize = 128;
-
 /// The line of a refusal. Fails for want of memory, and where that is the refusal.
-pub fn refused(alloc: Global, fault: &Fault) -> Result<Vec<u8>, AllocError>
-    ensures text { IfOk result (λ t. t.items ≡ refusal fault.now) }
+#[inline(never)]
+pub fn refused(fault: &Fault, reply: &mut String) -> Result<(), AllocError>
+    requires { string_bytes reply.old ≡ [] }
+    ensures text { OnOk result (string_bytes reply.new ≡ refusal fault.now) }
     ensures memory { OnOk result (fault.now ≢ Fault.Memory) }
 {
     if let Fault::Memory = fault {
         return Err(AllocError);
     }
-    let mut text = fault.text(alloc)?;
-    text.push_str("\n")?;
-    Ok(text.into_bytes())
+    fault.push_text(reply)?;
+    reply.push_str("\n")
 }
 
-// The ports of a step, a line each.
-fn told(alloc: Global, taken: &Record) -> Result<Vec<u8>, AllocError>
-    ensures { IfOk result (λ t. t.items ≡ ports_text (taken_ports taken.now)) }
+// Tells the ports of the step, makes room for it, and takes it.
+fn take(core: &mut Core, addition: Addition, reply: &mut String) -> Result<(), AllocError>
+    requires empty { string_bytes reply.old ≡ [] }
+    requires found { (p : proposal_spec) × IsCommitOf core.old.world p addition }
+    ensures text { OnOk result (string_bytes reply.new ≡ ports_text (taken_ports addition)) }
+    ensures world { OnOk result (core.new.world ≡ with_step addition core.old.world) }
+    ensures err { OnErr result (core.new.world ≡ core.old.world) }
+    ensures meter { core.new.meter ≡ core.old.meter }
 {
-    let mut text = String::with_capacity(alloc, USUAL_REPLY)?;
-    push_ports_of(taken, &mut text)?;
-    Ok(text.into_bytes())
+    push_ports_of(addition.step(), reply)?;
+    let change = Change::Adds(addition);
+    core.reserve(&change)?;
+    core.apply(change);
+    Ok(())
 }
 
 /// Takes a step of the goal, by the clause chosen or else by the least that accepts, and tells its ports; or its refusal. It is
@@ -45,68 +52,66 @@ pub fn step(
     core: &mut Core,
     goal: GoalName,
     choice: Option<u32>,
-) -> Result<Vec<u8>, AllocError>
-    ensures text { IfOk result (λ t. RepliesToStep core.old.world goal choice t.items core.new.world) }
+    reply: &mut String,
+) -> Result<(), AllocError>
+    requires { string_bytes reply.old ≡ [] }
+    ensures text { OnOk result (RepliesToStep core.old.world goal choice (string_bytes reply.new) core.new.world) }
     ensures err { OnErr result (core.new.world ≡ core.old.world) }
     ensures meter { core.new.meter ≡ fired core.old.meter }
 {
-    let addition = match core.prepare_step(alloc, goal, choice) {
-        Ok(addition) => addition,
-        Err(fault) => return refused(alloc, &fault),
-    };
-    let text = told(alloc, addition.step())?;
-    let change = Change::Adds(addition);
-    core.reserve(&change)?;
-    core.apply(change);
-    Ok(text)
+    match core.prepare_step(alloc, goal, choice) {
+        Ok(addition) => take(core, addition, reply),
+        Err(fault) => refused(&fault, reply),
+    }
 }
 
 // The word, and the term to which its variable leads.
-fn shown(alloc: Global, word: &[u8], term: &str) -> Result<Vec<u8>, AllocError>
-    ensures { IfOk result (λ t. t.items ≡ lined (word.now ++ (codes " = " ++ term.now))) }
+fn shown(word: &str, term: &str, reply: &mut String) -> Result<(), AllocError>
+    requires { string_bytes reply.old ≡ [] }
+    ensures { OnOk result (string_bytes reply.new ≡ lined (word.now ++ (codes " = " ++ term.now))) }
 {
-    let mut text = Vec::from_slice(alloc, word)?;
-    text.extend_from_slice(b" = ")?;
-    text.extend_from_slice(term.as_bytes())?;
-    text.extend_from_slice(b"\n")?;
-    Ok(text)
+    reply.push_str(word)?;
+    reply.push_str(" = ")?;
+    reply.push_str(term)?;
+    reply.push_str("\n")
 }
 
 /// Tells the term to which the variable leads that the word names; or the refusal.
-pub fn show(alloc: Global, core: &Core, word: &[u8]) -> Result<Vec<u8>, AllocError>
-    ensures { IfOk result (λ t. RepliesToShow core.now.world word.now t.items) }
+#[inline(never)]
+pub fn show(alloc: Global, core: &Core, word: &str, reply: &mut String) -> Result<(), AllocError>
+    requires { string_bytes reply.old ≡ [] }
+    ensures { OnOk result (RepliesToShow core.now.world word.now (string_bytes reply.new)) }
 {
-    let Some(x) = variable_named(core, word) else {
-        return refused(alloc, &Fault::NoVariable);
+    let Some(x) = variable_named(core, word.as_bytes()) else {
+        return refused(&Fault::NoVariable, reply);
     };
     let variable = Term::variable(x);
     match print(alloc, &variable, core.store()) {
-        Ok(term) => shown(alloc, word, term.as_str()),
-        Err(fault) => refused(alloc, &fault),
+        Ok(term) => shown(word, term.as_str(), reply),
+        Err(fault) => refused(&fault, reply),
     }
 }
 
 // The records, a line each.
-fn lines(alloc: Global, records: &Records) -> Result<String, AllocError>
-    ensures { IfOk result (λ t. string_bytes t ≡ record_lines records.now.held) }
+fn lines(records: &Records, reply: &mut String) -> Result<(), AllocError>
+    requires { string_bytes reply.old ≡ [] }
+    ensures { OnOk result (string_bytes reply.new ≡ record_lines records.now.held) }
 {
-    let mut text = String::new(alloc);
     for place in 0..records.len() {
-        push_record(records.at(place).unwrap(), &mut text)?;
-        text.push_str("\n")?;
+        push_record(records.at(place).unwrap(), reply)?;
+        reply.push_str("\n")?;
     }
-    Ok(text)
+    Ok(())
 }
 
 /// The records, a line each, or `none`.
-pub fn records(alloc: Global, core: &Core) -> Result<Vec<u8>, AllocError>
-    ensures { IfOk result (λ t. t.items ≡ records_text core.now.world.kept) }
+#[inline(never)]
+pub fn records(core: &Core, reply: &mut String) -> Result<(), AllocError>
+    requires { string_bytes reply.old ≡ [] }
+    ensures { OnOk result (string_bytes reply.new ≡ records_text core.now.world.kept) }
 {
     if core.records().len() == 0 {
-        return Vec::from_slice(alloc, b"none\n");
+        return reply.push_str("none\n");
     }
-    match lines(alloc, core.records()) {
-        Ok(text) => Ok(text.into_bytes()),
-        Err(error) => Err(error),
-    }
+    lines(core.records(), reply)
 }

@@ -8,7 +8,7 @@ ghost use Rattle.ghc_console.specs.Lines.{lines_of};
 ghost use Rattle.ghc_console.specs.Reading.{LineSays};
 ghost use Rattle.ghc_console.specs.Session.{Began, Served, Session, Tells};
 
-use crate::answer::{answer, bytes_of};
+use crate::answer::answer;
 use crate::device::{Broken, Device, write_all};
 use crate::reading::{Ahead, Line};
 use ghc_core::Core;
@@ -16,26 +16,42 @@ use ghc_term::Fault;
 use std::alloc::Global;
 use std::sync::Wait;
 
+// Replies that take more than so many bytes give their memory back.
+const KEPT_REPLY: usize = 65_536;
+
+// Gives the memory of a large reply back.
+fn cut_down(alloc: Global, reply: &mut String) {
+    if reply.capacity() > KEPT_REPLY {
+        *reply = String::new(alloc);
+    }
+}
+
 // Carries a line out and writes its reply. It says whether the session ends.
 fn serve<D: Device>(
     alloc: Global,
     core: &mut Core,
     device: &mut D,
-    line: Line,
+    line: &Line,
+    reply: &mut String,
 ) -> Result<bool, Broken>
-    ensures served { (bytes : List ℕ) → LineSays line bytes
+    ensures served { (bytes : List ℕ) → LineSays line.now bytes
         → Served core.old.world bytes core.new.world (D.written device.old) (D.written device.new) result }
     ensures opening { core.new.world.opening ≡ core.old.world.opening }
-    ensures fires { (bytes : List ℕ) → LineSays line bytes → Fires (command_of bytes) core.old.meter core.new.meter }
+    ensures fires { (bytes : List ℕ) → LineSays line.now bytes → Fires (command_of bytes) core.old.meter core.new.meter }
     ensures unread { Keeps (D.unread device.old) (D.unread device.new) }
     ensures count { Counts (D.failures device.old) (D.failures device.new) result }
     ensures earlier { D.earlier device.new ≡ D.earlier device.old }
     ensures latest { D.latest device.new ≡ D.latest device.old }
 {
-    let (reply, ended) = answer(alloc, core, &line);
-    match write_all(device, bytes_of(&reply)) {
-        Ok(()) => Ok(ended),
-        Err(Broken) => Err(Broken),
+    match answer(alloc, core, line, reply) {
+        Ok(ended) => match write_all(device, reply.as_bytes()) {
+            Ok(()) => Ok(ended),
+            Err(Broken) => Err(Broken),
+        },
+        Err(_) => match write_all(device, b"F1 no memory\n") {
+            Ok(()) => Ok(false),
+            Err(Broken) => Err(Broken),
+        },
     }
 }
 
@@ -65,14 +81,19 @@ pub fn session<R: Wait, D: Device>(
 {
     let mut core = core;
     let mut ahead = Ahead::new();
+    let mut spare = Vec::new(alloc);
+    let mut reply = String::new(alloc);
     for _ in rt.forever() {
-        match ahead.next_line(rt, alloc, device) {
+        match ahead.next_line(rt, spare, device) {
             Err(Broken) => return (core, Err(Fault::Device)),
             Ok(None) => return (core, Ok(())),
-            Ok(Some(line)) => match serve(alloc, &mut core, device, line) {
+            Ok(Some(line)) => match serve(alloc, &mut core, device, &line, &mut reply) {
                 Err(Broken) => return (core, Err(Fault::Device)),
                 Ok(true) => return (core, Ok(())),
-                Ok(false) => {}
+                Ok(false) => {
+                    spare = line.into_spare(alloc);
+                    cut_down(alloc, &mut reply);
+                }
             },
         }
     }

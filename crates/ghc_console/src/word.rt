@@ -4,33 +4,33 @@ ghost use Rattle.std.specs.Prelude.{◌≡◌, IfOk};
 use std::alloc::{AllocError, Global};
 use std::marker::Model;
 
-/// A word of a line. Contracts see its bytes.
+/// A word of a line, which is text. Contracts see its bytes.
 #[derive(Drop)]
 pub struct Word {
-    bytes: Vec<u8>,
+    text: String,
 }
 
 impl Model for Word {
-    ghost use Rattle.std.specs.Prelude.{List, ℕ};
+    ghost use Rattle.std.specs.Prelude.{List, ℕ, string_bytes};
 
     ghost Value = { List ℕ };
 
-    ghost view = { λ word. word.bytes.items };
+    ghost view = { λ word. string_bytes word.text };
 }
 
 impl Word {
     /// A word of these bytes, which are copied.
-    pub fn new(alloc: Global, bytes: &[u8]) -> Result<Word, AllocError>
-        ensures { IfOk result (λ word. word ≡ bytes.now) }
+    pub fn new(alloc: Global, text: &str) -> Result<Word, AllocError>
+        ensures { IfOk result (λ word. word ≡ text.now) }
     {
-        let bytes = Vec::from_slice(alloc, bytes)?;
-        Ok(Word { bytes })
+        let text = String::from_str(alloc, text)?;
+        Ok(Word { text })
     }
 
-    /// Its bytes.
-    pub fn as_bytes(&self) -> &[u8]
+    /// Its text.
+    pub fn as_str(&self) -> &str
         ensures { result.now ≡ self.now }
     {
-        self.bytes.as_slice()
+        self.text.as_str()
     }
 }

@@ -1,11 +1,10 @@
 // The words of a line, and the numbers and goals that they name.
-ghost use Rattle.std.specs.Prelude.{◌≡◌, ◌≢◌, ◌==◌, ◌∷◌, ◌++◌, ◌+◌, ◌<◌, All, [], not, length, filter, map, take, drop, IfOk, IfSome, IfNone, OnOk};
+ghost use Rattle.std.specs.Prelude.{◌≡◌, ◌≢◌, ◌∷◌, ◌++◌, ◌+◌, ◌<◌, All, [], length, take, drop, IfSome, IfNone};
 ghost use Rattle.std.specs.List.{list_all};
 ghost use Rattle.ghc_term.specs.InputTerm.{is_name_byte};
 ghost use Rattle.ghc_console.specs.Words.{begins_variable, goal_name_of, goal_named, is_variable, number_of, words_of};
 
 use ghc_term::GoalName;
-use std::alloc::{AllocError, Global};
 
 // Where the first of these bytes is.
 pub(crate) fn first(bytes: &[u8], wanted: u8) -> Option<usize>
@@ -17,29 +16,24 @@ pub(crate) fn first(bytes: &[u8], wanted: u8) -> Option<usize>
     bytes.iter().position(|b| *b == wanted)
 }
 
-// Adds a word, where it is one.
-fn push_word<'a>(words: &mut Vec<&'a [u8]>, word: &'a [u8]) -> Result<(), AllocError>
-    ensures { OnOk result (map (λ w. w.now) words.new.items ≡ map (λ w. w.now) words.old.items ++ filter (λ w. not (length w == 0)) (word.entry.now ∷ [])) }
+/// The first word of a line, and what stands behind it; none where the line has no word. It takes time in proportion to what it
+/// goes over, and no memory.
+pub fn next_word(line: &[u8]) -> Option<(&[u8], &[u8])>
+    ensures found { IfSome result (λ parts. words_of line.now ≡ parts.0.now ∷ words_of parts.1.now) }
+    ensures none { IfNone result (words_of line.now ≡ []) }
 {
-    if !word.is_empty() {
-        words.push(word)?;
-    }
-    Ok(())
-}
-
-/// The words of a line, in order. It takes time and memory in proportion to the line, and copies no word.
-pub fn words(alloc: Global, line: &[u8]) -> Result<Vec<&[u8]>, AllocError>
-    ensures { IfOk result (λ words. map (λ w. w.now) words.items ≡ words_of line.now) }
-{
-    let mut words = Vec::new(alloc);
     let mut rest = line;
     while let Some(i) = first(rest, b' ') {
         let (word, behind) = rest.split_at(i);
-        push_word(&mut words, word)?;
         rest = &behind[1..];
+        if !word.is_empty() {
+            return Some((word, rest));
+        }
     }
-    push_word(&mut words, rest)?;
-    Ok(words)
+    if rest.is_empty() {
+        return None;
+    }
+    Some((rest, &[]))
 }
 
 /// The number that a word says: digits with a value of at most 4,294,967,295. It takes no memory.

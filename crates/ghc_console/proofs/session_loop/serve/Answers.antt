@@ -1,14 +1,36 @@
-use Rattle.std.proofs.Common.{sym, subst}
-use Rattle.ghc_console.specs.Replies.{IsReply}
+use Rattle.std.proofs.Common.{false, refl, sym, subst}
+use Rattle.ghc_term.specs.declared.fault.Fault.TheVariants as fault
+use Rattle.ghc_console.specs.Replies.{IsReply, refusal}
 use Rattle.ghc_console.proofs.session_loop.serve.Goals as goal
 
-pub returns-clause-served : goal.returns-clause-served
-returns-clause-served g c = λ bytes says.
-    let ended = c.answer-reply.result.1 in
-    let reply = c.answer-reply.ensures.reply bytes says in
-    record {
-      text = c.bytes_of.result.now;
-      ended = ended;
-      reply = subst (λ t. IsReply c.args.core.now.world bytes t c.answer-reply.new.core.world ended) (sym c.bytes_of.ensures) reply;
-      written = c.in-Err.ensures.bytes;
-    }
+pub returns-in-Ok-write_all-clause-served : goal.returns-in-Ok-write_all-clause-served
+returns-in-Ok-write_all-clause-served g c = λ bytes says. record {
+  text = c.as_bytes.result.now;
+  ended = c.in-Ok.ended;
+  reply = subst (λ t. IsReply c.args.core.now.world bytes t c.answer.new.core.world c.in-Ok.ended) (sym c.as_bytes.ensures.value) (c.in-Ok.ensures.reply bytes says);
+  written = (refl, c.in-Ok-write_all.ensures.bytes);
+}
+
+pub returns-in-Err-write_all-clause-served : goal.returns-in-Err-write_all-clause-served
+returns-in-Err-write_all-clause-served g c = λ bytes says. record {
+  text = c.as_bytes.result.now;
+  ended = c.in-Ok.ended;
+  reply = subst (λ t. IsReply c.args.core.now.world bytes t c.answer.new.core.world c.in-Ok.ended) (sym c.as_bytes.ensures.value) (c.in-Ok.ensures.reply bytes says);
+  written = c.in-Err-write_all.ensures.bytes;
+}
+
+pub returns-in-Ok-write_all-2-clause-served : goal.returns-in-Ok-write_all-2-clause-served
+returns-in-Ok-write_all-2-clause-served g c = λ bytes says. record {
+  text = refusal fault.Memory;
+  ended = false;
+  reply = c.in-Err.ensures.reply bytes says;
+  written = (refl, c.in-Ok-write_all-2.ensures.bytes);
+}
+
+pub returns-in-Err-write_all-2-clause-served : goal.returns-in-Err-write_all-2-clause-served
+returns-in-Err-write_all-2-clause-served g c = λ bytes says. record {
+  text = refusal fault.Memory;
+  ended = false;
+  reply = c.in-Err.ensures.reply bytes says;
+  written = c.in-Err-write_all-2.ensures.bytes;
+}

@@ -11,7 +11,7 @@ use Rattle.ghc_console.proofs.undo_reply.undo.Goals as goal
 pub returns-clause-text : goal.returns-clause-text
 returns-clause-text c =
     let changed = subst (λ (w : World). Changes w (takes_away c.in-Ok.removal) c.apply.new.self.world) c.reserve.ensures.world c.apply.ensures.changed in
-    (undone (c.args.number ∷ []), subst (λ n. Undoes ⊥ c.args.core.now.world n (undone (n ∷ [])) c.apply.new.self.world) c.in-Ok.ensures.step changed, tells_steps c.in_ok-text.ensures)
+    (undone (c.args.number ∷ []), subst (λ n. Undoes ⊥ c.args.core.now.world n (undone (n ∷ [])) c.apply.new.self.world) c.in-Ok.ensures.step changed, tells_steps c.in_ok-undone.ensures)
 
 pub returns-in-Err-clause-text : goal.returns-in-Err-clause-text
 returns-in-Err-clause-text c = if_ok c.refused.result c.refused.ensures.text c.refused.ensures.memory (λ t told kept.
