@@ -6,11 +6,11 @@ use ghc_console::{Broken, Lines, session};
 use ghc_core::Core;
 use ghc_term::Fault;
 use std::alloc::Global;
-use std::io;
 use std::io::{BufWriter, Read, Write};
 use std::marker::Brand;
 use std::sync::Wait;
 use std::sync::ledger::{Blank, Ledger};
+use std::{io, mem};
 
 // Runs a session on the device, and hands on what that holds back at the end.
 fn run_on_device<L: Ledger, R: Wait, I: Read, O: Write + Drop>(
@@ -46,7 +46,9 @@ fn run_between<L: Ledger, R: Wait + AllocGlobal, I: Read + Drop, O: Write + Drop
     ensures { IfErr result (λ fault. fault ≡ Fault.Device) }
 {
     let mut device: Lines<I, O, L> = Lines::new(reader, writer, blank);
-    let (_core, result) = run_on_device(rt, rt.alloc(), core, &mut device);
+    let (core, result) = run_on_device(rt, rt.alloc(), core, &mut device);
+    // The program ends next, and the system takes all memory back at once: the core is not taken apart goal by goal.
+    mem::forget(core);
     result
 }
 
