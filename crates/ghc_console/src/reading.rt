@@ -27,7 +27,7 @@ const KEPT_LINE: usize = 4096;
 
 impl Line {
     /// What held the bytes of the line, for the next one; the memory of a long line is given back.
-    pub fn into_spare(self, alloc: Global) -> Vec<u8> {
+    pub(crate) fn into_spare(self, alloc: Global) -> Vec<u8> {
         match self {
             Line::Whole(bytes) if bytes.capacity() <= KEPT_LINE => bytes,
             _ => Vec::new(alloc),
