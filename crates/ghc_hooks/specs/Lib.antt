@@ -2,3 +2,8 @@ pub mod Status
 pub mod Face
 pub mod Notes
 pub mod Laws
+pub mod Tries
+pub mod Verdict
+pub mod Looks
+pub mod FaultCode
+pub mod TriesCode

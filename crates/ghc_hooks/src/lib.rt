@@ -1,6 +1,13 @@
 //! The status of goals, the face of a state, noted outcomes and untried goals.
 #![tactic(auto)]
 
+mod goal_set;
 mod laws;
+mod looks;
+mod note;
+mod notes;
+mod tries;
 
 pub use laws::{each_goal_has_a_status, status_is_of_what_is_looked_at, status_is_one};
+pub use note::{Note, Verdict};
+pub use tries::Tries;

@@ -1,0 +1,90 @@
+-- Tries whose parts fit each other still do after a goal was added, noted, dropped or woken.
+use Rattle.std.proofs.Common.{◌≡◌, ◌<◌, ◌≤◌, ◌+◌, List, sym, ap, subst, ◌∙◌, inl, inr, arith}
+use Rattle.std.specs.Prelude.{◌↔◌, Some, None, IsTrue}
+use Rattle.std.specs.FinMap as finite
+use Rattle.std.specs.FinSet as set
+use Rattle.ghc_term.specs.declared.var_name.VarName.{VarName}
+use Rattle.ghc_term.specs.declared.goal_name.GoalName.{GoalName}
+use Rattle.ghc_term.specs.Bindings.{name_cmp}
+use Rattle.ghc_term.specs.Table.{Table}
+use Rattle.ghc_hooks.specs.Face.{GoalNames}
+use Rattle.ghc_hooks.specs.Notes.{Note, NotesByGoal}
+use Rattle.ghc_hooks.specs.Verdict.{AwaitsWhatItLooksAt}
+use Rattle.ghc_hooks.specs.Looks.{GoalsByVariable, looks, FitEachOther}
+use Rattle.ghc_hooks.proofs.Looking.{goal_put, goal_taken, goal_cases}
+use Rattle.ghc_hooks.proofs.LookingAll.{HasBesides, HasWithout}
+use Rattle.ghc_hooks.proofs.Fitting.{put_here, put_elsewhere, gone_here, gone_elsewhere, nothing_gone, one_more_note, one_note_less, same_note, follows_put, follows_gone}
+
+-- a note of what is left is one of what there was
+pub still_noted : (m : NotesByGoal) (g h : GoalName) (n : Note) → finite.get (finite.remove m g) h ≡ Some n → finite.get m h ≡ Some n
+still_noted m g h n there = elim (goal_cases h g) as (λ _. finite.get m h ≡ Some n) [
+  | inl p ↦ let clash : None ≡ Some n = sym (gone_here m g) ∙ ap (finite.get (finite.remove m g)) (sym p) ∙ there in absurd (cc)
+  | inr d ↦ sym (gone_elsewhere m g h d) ∙ there
+]
+
+pub still_none : (m : NotesByGoal) (g h : GoalName) → finite.get m h ≡ None → finite.get (finite.remove m g) h ≡ None
+still_none m g h none = elim (goal_cases h g) as (λ _. finite.get (finite.remove m g) h ≡ None) [
+  | inl p ↦ ap (finite.get (finite.remove m g)) p ∙ gone_here m g
+  | inr d ↦ gone_elsewhere m g h d ∙ none
+]
+
+module _ (m m' : NotesByGoal) (u u' : Table GoalNames) (b b' : GoalsByVariable) (g : GoalName) (fit : FitEachOther m u b) where
+  pub fit_same : m' ≡ m → u'.held ≡ u.held → u.room ≤ u'.room → ((y : VarName) (h : GoalName) → IsTrue (looks b' y h) ↔ IsTrue (looks b y h)) → FitEachOther m' u' b'
+  fit_same e held room same = subst (λ z. FitEachOther z u' b') (sym e) (record {
+    apart = λ h there. fit.apart h (ap (λ s. set.contains s h) (sym held) ∙ there);
+    follows = λ y h. (λ k. (fit.follows y h).0 ((same y h).0 k), λ k. (same y h).1 ((fit.follows y h).1 k));
+    awaits = fit.awaits;
+    room = let before = fit.room in omega (arith, before, room);
+  })
+
+  pub fit_added : finite.get m g ≡ None → u'.held ≡ set.insert u.held g → u.room ≤ u'.room + 1 → finite.len m < u.room → FitEachOther m u' b
+  fit_added none held room more = record {
+    apart = λ h there. elim ((goal_put u.held g h).0 (ap (λ s. set.contains s h) (sym held) ∙ there)) [ inl k ↦ fit.apart h k | inr p ↦ ap (finite.get m) p ∙ none ];
+    follows = fit.follows;
+    awaits = fit.awaits;
+    room = omega (arith, room, more);
+  }
+
+  pub fit_unmarked : finite.get m g ≡ None → m' ≡ finite.remove m g → u'.held ≡ set.remove u.held g → u.room ≤ u'.room → FitEachOther m' u' b
+  fit_unmarked none e held room = subst (λ z. FitEachOther z u' b) (sym (e ∙ nothing_gone m g none)) (record {
+    apart = λ h there. fit.apart h ((goal_taken u.held g h).0 (ap (λ s. set.contains s h) (sym held) ∙ there)).0;
+    follows = fit.follows;
+    awaits = fit.awaits;
+    room = let before = fit.room in omega (arith, before, room);
+  })
+
+  module _ (n : Note) (xs : List VarName) (all : set.from_list {R = name_cmp} xs ≡ n.looked) where
+    pub fit_noted : IsTrue (set.contains u.held g) → AwaitsWhatItLooksAt n → m' ≡ finite.insert m g n → u'.held ≡ set.remove u.held g → finite.len m + 1 ≤ u'.room → HasBesides b xs g b' → FitEachOther m' u' b'
+    fit_noted marked awaits e held room besides =
+        let none : finite.get m g ≡ None = fit.apart g marked in
+        subst (λ z. FitEachOther z u' b') (sym e) (record {
+          apart = λ h there.
+              let k = (goal_taken u.held g h).0 (ap (λ s. set.contains s h) (sym held) ∙ there) in
+              elim (goal_cases h g) as (λ _. finite.get (finite.insert m g n) h ≡ None) [ inl p ↦ absurd (k.1 p) | inr d ↦ put_elsewhere m g n h d ∙ fit.apart h k.0 ];
+          follows = follows_put m b b' g n xs all fit.follows none besides;
+          awaits = λ h note there. elim (goal_cases h g) as (λ _. AwaitsWhatItLooksAt note) [
+            | inl p ↦ subst AwaitsWhatItLooksAt (same_note (sym (put_here m g n) ∙ ap (finite.get (finite.insert m g n)) (sym p) ∙ there)) awaits
+            | inr d ↦ fit.awaits h note (sym (put_elsewhere m g n h d) ∙ there)
+          ];
+          room = let count = one_more_note m g n none in omega (arith, count, room);
+        })
+
+    module _ (there : finite.get m g ≡ Some n) (e : m' ≡ finite.remove m g) (without : HasWithout b xs g b') where
+      pub fit_dropped : u'.held ≡ set.remove u.held g → u.room ≤ u'.room → FitEachOther m' u' b'
+      fit_dropped held room = subst (λ z. FitEachOther z u' b') (sym e) (record {
+        apart = λ h k. still_none m g h (fit.apart h ((goal_taken u.held g h).0 (ap (λ s. set.contains s h) (sym held) ∙ k)).0);
+        follows = follows_gone m b b' g n xs all fit.follows there without;
+        awaits = λ h note k. fit.awaits h note (still_noted m g h note k);
+        room = let before = fit.room in let count = one_note_less m g n there in omega (arith, before, count, room);
+      })
+
+      pub fit_woken : u'.held ≡ set.insert u.held g → u.room ≤ u'.room + 1 → FitEachOther m' u' b'
+      fit_woken held room = subst (λ z. FitEachOther z u' b') (sym e) (record {
+        apart = λ h k. elim ((goal_put u.held g h).0 (ap (λ s. set.contains s h) (sym held) ∙ k)) [
+          | inl l ↦ still_none m g h (fit.apart h l)
+          | inr p ↦ ap (finite.get (finite.remove m g)) p ∙ gone_here m g
+        ];
+        follows = follows_gone m b b' g n xs all fit.follows there without;
+        awaits = λ h note k. fit.awaits h note (still_noted m g h note k);
+        room = let before = fit.room in let count = one_note_less m g n there in omega (arith, before, count, room);
+      })

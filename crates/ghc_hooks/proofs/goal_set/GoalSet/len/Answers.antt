@@ -1,0 +1,8 @@
+use Rattle.std.proofs.Common.{◌∙◌, ap, sym}
+use Rattle.std.specs.FinSet as set
+use Rattle.ghc_fire.proofs.GoalNames.{goal_total, goal_antisymmetric, same, same_is}
+use Rattle.ghc_hooks.proofs.Tables.{count_of_keys}
+use Rattle.ghc_hooks.proofs.goal_set.GoalSet.len.Goals as goal
+
+pub returns : goal.returns
+returns c = c.len.ensures.len ∙ sym (count_of_keys goal_total goal_antisymmetric same same_is c.self.inside.table.keys c.len.ensures.unique) ∙ ap (λ t. set.len t.held) c.self.view_is

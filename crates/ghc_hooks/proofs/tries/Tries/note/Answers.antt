@@ -1,0 +1,39 @@
+use Rattle.std.proofs.Common.{◌≡◌, ◌+◌, ◌∙◌, ap, arith}
+use Rattle.std.specs.Prelude.{IsTrue}
+use Rattle.std.specs.FinMap as finite
+use Rattle.std.specs.FinSet as set
+use Rattle.ghc_hooks.proofs.Fitting.{one_more_note}
+use Rattle.ghc_hooks.proofs.Changing.{fit_same, fit_noted}
+use Rattle.ghc_hooks.proofs.tries.Tries.note.Goals as goal
+
+pub invariant_of-self-in_err-reserve-2 : goal.invariant_of-self-in_err-reserve-2
+invariant_of-self-in_err-reserve-2 c =
+    let t = c.self.inside in
+    fit_same t.notes.held c.reserve.new.self.held t.untried c.reserve-2.new.self t.looks t.looks c.args.goal c.self.invariant c.reserve.ensures.held c.reserve-2.ensures.held c.reserve-2.ensures.kept (λ y h. (λ k. k, λ k. k))
+
+pub invariant_of-self-in_err-add_all : goal.invariant_of-self-in_err-add_all
+invariant_of-self-in_err-add_all c =
+    let t = c.self.inside in
+    fit_same t.notes.held c.reserve.new.self.held t.untried c.reserve-2.new.self t.looks c.add_all.new.self c.args.goal c.self.invariant c.reserve.ensures.held c.reserve-2.ensures.held c.reserve-2.ensures.kept
+    c.in_err-add_all.ensures.err
+
+pub invariant_of-self-2 : goal.invariant_of-self-2
+invariant_of-self-2 c =
+    let t = c.self.inside in
+    let count : c.len.result ≡ finite.len t.notes.held = c.len.ensures.count ∙ ap (λ m. finite.len m) c.reserve.ensures.held in
+    let reserved = c.in_ok-reserve-2.ensures.room in
+    let kept = c.remove.ensures.room in
+    fit_noted t.notes.held c.put.new.self.held t.untried c.remove.new.self t.looks c.add_all.new.self c.args.goal c.self.invariant c.args.note c.members.result.now (c.members.ensures.all ∙ c.looked.ensures)
+    (ap (λ v. set.contains v.untried c.args.goal) c.self.view_is ∙ c.requires) c.waits_for_what_it_looked_at.ensures (c.put.ensures ∙ ap (λ m. finite.insert m c.args.goal c.args.note) c.reserve.ensures.held)
+    (c.remove.ensures.held ∙ ap (λ s. set.remove s c.args.goal) c.reserve-2.ensures.held) (omega (arith, count, reserved, kept)) c.in_ok-add_all.ensures.ok
+
+pub returns-clause-room : goal.returns-clause-room
+returns-clause-room c =
+    let t = c.self.inside in
+    let room = ap (λ v. v.room) c.self.view_is in
+    let kept = c.remove.ensures.room in
+    let reserved = c.reserve-2.ensures.kept in
+    let marked : IsTrue (set.contains t.untried.held c.args.goal) = ap (λ v. set.contains v.untried c.args.goal) c.self.view_is ∙ c.requires in
+    let more : finite.len c.put.new.self.held ≡ finite.len t.notes.held + 1 =
+    ap (λ m. finite.len m) (c.put.ensures ∙ ap (λ m. finite.insert m c.args.goal c.args.note) c.reserve.ensures.held) ∙ one_more_note t.notes.held c.args.goal c.args.note (c.self.invariant.apart c.args.goal marked) in
+    omega (arith, room, kept, reserved, more)

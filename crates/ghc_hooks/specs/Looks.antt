@@ -1,0 +1,31 @@
+-- For each variable the goals whose notes looked at it.
+use Rattle.std.specs.Prelude.{◌≡◌, ◌↔◌, ◌≤◌, Bool, Option, Some, None, IsTrue}
+use Rattle.std.specs.FinMap as finite
+use Rattle.std.specs.FinSet as set
+use Rattle.ghc_term.specs.declared.var_name.VarName.{VarName}
+use Rattle.ghc_term.specs.declared.goal_name.GoalName.{GoalName}
+use Rattle.ghc_term.specs.Bindings.{name_cmp}
+use Rattle.ghc_term.specs.Table.{Table}
+use Rattle.ghc_hooks.specs.Face.{GoalNames}
+use Rattle.ghc_hooks.specs.Notes.{Note, NotesByGoal}
+use Rattle.ghc_hooks.specs.Tries.{HasLookedAt}
+use Rattle.ghc_hooks.specs.Verdict.{AwaitsWhatItLooksAt}
+
+-- goals by variable; a set of goals knows the room that it has
+abbrev pub GoalsByVariable : Type 0
+GoalsByVariable = finite.FinMap name_cmp (Table GoalNames)
+
+abbrev pub goals_in : Option (Table GoalNames) → GoalNames
+goals_in None = set.empty
+goals_in (Some t) = t.held
+
+-- whether the goal g stands under the variable x
+abbrev pub looks : GoalsByVariable → VarName → GoalName → Bool
+looks m x g = set.contains (goals_in (finite.get m x)) g
+
+-- The parts of tries fit each other: no goal is both noted and untried, under each variable stand just the goals whose notes looked at it, each note awaits only what it looked at, and there is room to mark each noted goal untried.
+pub record FitEachOther (notes : NotesByGoal) (untried : Table GoalNames) (by_variable : GoalsByVariable) : Type 0 where
+  pub apart : (g : GoalName) → IsTrue (set.contains untried.held g) → finite.get notes g ≡ None
+  pub follows : (x : VarName) (g : GoalName) → IsTrue (looks by_variable x g) ↔ HasLookedAt notes x g
+  pub awaits : (g : GoalName) (note : Note) → finite.get notes g ≡ Some note → AwaitsWhatItLooksAt note
+  pub room : finite.len notes ≤ untried.room

@@ -1,0 +1,241 @@
+// The noted outcomes of goals, and the goals that are still to be tried.
+ghost use Rattle.std.specs.Prelude.{◌≡◌, ◌≢◌, ◌↔◌, ◌+◌, ◌<◌, ◌≤◌, length, IfOk, IfSome, IfNone, IsTrue, OnOk, OnErr, None, Some};
+ghost use Rattle.std.specs.FinMap as finite;
+ghost use Rattle.std.specs.FinSet as set;
+
+use crate::goal_set::GoalSet;
+use crate::looks::Looks;
+use crate::note::Note;
+use crate::notes::Notes;
+use ghc_term::{GoalName, VarName};
+use std::alloc::{AllocError, Global};
+use std::marker::Model;
+
+/// The notes of goals and the untried goals, with the goals that looked at each variable. No goal is both noted and untried.
+#[derive(Drop)]
+pub struct Tries {
+    notes: Notes,
+    untried: GoalSet,
+    looks: Looks,
+}
+
+impl Model for Tries {
+    ghost use Rattle.std.specs.Prelude.{◌-◌};
+    ghost use Rattle.std.specs.FinMap as finite;
+    ghost use Rattle.ghc_hooks.specs.Tries.{Tries};
+    ghost use Rattle.ghc_hooks.specs.TriesCode.{tries_code};
+    ghost use Rattle.ghc_hooks.specs.Looks.{FitEachOther};
+
+    ghost Value = { Tries };
+
+    ghost coded = { tries_code };
+
+    ghost view = { λ t. record { notes = t.notes.held; untried = t.untried.held; room = t.untried.room - finite.len t.notes.held } };
+
+    ghost invariant = { λ t. FitEachOther t.notes.held t.untried t.looks };
+}
+
+impl Tries {
+    ghost use Rattle.std.specs.Prelude.{option_copied};
+    ghost use Rattle.ghc_term.specs.Lists.{In};
+    ghost use Rattle.ghc_term.specs.declared.goal_name.GoalName.{GoalName};
+    ghost use Rattle.ghc_hooks.specs.Notes.{Note, IsNotedOn};
+    ghost use Rattle.ghc_hooks.specs.Verdict.{AwaitsWhatItLooksAt};
+    ghost use Rattle.ghc_hooks.specs.Tries.{HasLookedAt, AreSpared, AreWoken};
+    ghost use Rattle.ghc_fire.specs.Goals.{goal_cmp};
+    ghost use Rattle.ghc_term.specs.declared.var_name.VarName.{VarName};
+
+    /// No goals, which take no memory.
+    pub fn new(alloc: Global) -> Tries
+        ensures notes { result.notes ≡ finite.empty }
+        ensures untried { result.untried ≡ set.empty }
+    {
+        Tries {
+            notes: Notes::new(alloc),
+            untried: GoalSet::new(alloc),
+            looks: Looks::new(alloc),
+        }
+    }
+
+    /// The note of the goal, if it has one: one look-up.
+    pub fn get(&self, goal: GoalName) -> Option<&Note>
+        ensures { option_copied result ≡ finite.get self.now.notes goal }
+    {
+        self.notes.get(goal)
+    }
+
+    /// Whether the goal is untried: one look-up.
+    pub fn is_untried(&self, goal: GoalName) -> bool
+        ensures { result ≡ set.contains self.now.untried goal }
+    {
+        self.untried.contains(goal)
+    }
+
+    /// How many goals are untried: one step.
+    pub fn untried_count(&self) -> usize
+        ensures { result ≡ set.len self.now.untried }
+    {
+        self.untried.len()
+    }
+
+    /// A goal that is untried, if there is one: one step.
+    pub fn next_untried(&self) -> Option<GoalName>
+        ensures some { IfSome result (λ g. IsTrue (set.contains self.now.untried g)) }
+        ensures none { IfNone result (self.now.untried ≡ set.empty) }
+    {
+        self.untried.any()
+    }
+
+    /// An untried goal has no note. This costs nothing.
+    pub fn apart(&self)
+        ensures { (g : GoalName) → IsTrue (set.contains self.now.untried g) → finite.get self.now.notes g ≡ None }
+    {
+        let _notes = &self.notes;
+    }
+
+    /// No goal waits for a variable that it did not look at. This costs nothing.
+    pub fn notes_await_what_they_looked_at(&self)
+        ensures { (g : GoalName) (note : Note) → finite.get self.now.notes g ≡ Some note → AwaitsWhatItLooksAt note }
+    {
+        let _notes = &self.notes;
+    }
+
+    /// The goals whose notes looked at the variable, each once: one look-up.
+    pub fn looking_at(&self, x: VarName) -> &[GoalName]
+        ensures each { (g : GoalName) → In g result.now ↔ HasLookedAt self.now.notes x g }
+        ensures once { length result.now ≡ set.len (set.from_list {R = goal_cmp} result.now) }
+    {
+        match self.looks.at(x) {
+            Some(goals) => goals.members(),
+            None => &[],
+        }
+    }
+
+    // Whether the goal waits for the variable by its note: two look-ups.
+    fn awaits(&self, goal: GoalName, x: VarName) -> bool
+        ensures { IsTrue result ↔ IsNotedOn self.now.notes x goal }
+    {
+        match self.get(goal) {
+            Some(note) => note.awaits(x),
+            None => false,
+        }
+    }
+
+    /// The goals that by their notes wait for the variable, each once: a few look-ups for each goal that looked at it.
+    pub fn waiting_on(&self, alloc: Global, x: VarName) -> Result<Vec<GoalName>, AllocError>
+        ensures { IfOk result (λ goals. (g : GoalName) → In g goals.items ↔ IsNotedOn self.now.notes x g) }
+    {
+        self.notes_await_what_they_looked_at();
+        let mut waiting = Vec::new(alloc);
+        for goal in self.looking_at(x) {
+            if self.awaits(*goal, x) {
+                waiting.push(*goal)?;
+            }
+        }
+        Ok(waiting)
+    }
+
+    // A goal whose note looked at the variable, if there is one: one look-up.
+    fn first_looking_at(&self, x: VarName) -> Option<GoalName>
+        ensures some { IfSome result (λ g. HasLookedAt self.now.notes x g) }
+        ensures none { IfNone result ((g : GoalName) → ¬ HasLookedAt self.now.notes x g) }
+    {
+        self.looking_at(x).first().copied()
+    }
+
+    /// Makes room for as many more goals. Notes and marks stay, and so does the room where memory is refused.
+    pub fn reserve(&mut self, count: usize) -> Result<(), AllocError>
+        ensures notes { self.new.notes ≡ self.old.notes }
+        ensures untried { self.new.untried ≡ self.old.untried }
+        ensures room { OnOk result (count ≤ self.new.room) }
+        ensures kept { self.old.room ≤ self.new.room }
+    {
+        match self.notes.len().checked_add(count) {
+            Some(wanted) => self.untried.reserve(wanted),
+            None => Err(AllocError),
+        }
+    }
+
+    /// Marks a goal that has no note as untried, where there is room: one look-up.
+    pub fn add_goal(&mut self, goal: GoalName)
+        requires room { 0 < self.old.room }
+        requires new { finite.get self.old.notes goal ≡ None }
+        ensures notes { self.new.notes ≡ self.old.notes }
+        ensures untried { self.new.untried ≡ set.insert self.old.untried goal }
+        ensures room { self.old.room ≤ self.new.room + 1 }
+    {
+        self.untried.put(goal);
+    }
+
+    /// Gives an untried goal its note: a look-up for each variable that it looked at. Where memory is refused the goal stays
+    /// untried. It may use up the room of one goal.
+    pub fn note(&mut self, goal: GoalName, note: Note) -> Result<(), AllocError>
+        requires { IsTrue (set.contains self.old.untried goal) }
+        ensures notes { OnOk result (self.new.notes ≡ finite.insert self.old.notes goal «note») }
+        ensures untried { OnOk result (self.new.untried ≡ set.remove self.old.untried goal) }
+        ensures notes_stay { OnErr result (self.new.notes ≡ self.old.notes) }
+        ensures untried_stay { OnErr result (self.new.untried ≡ self.old.untried) }
+        ensures room { self.old.room ≤ self.new.room + 1 }
+    {
+        note.waits_for_what_it_looked_at();
+        self.notes.reserve(1)?;
+        self.untried.reserve(self.notes.len() + 1)?;
+        self.looks.add_all(note.looked().members(), goal)?;
+        self.untried.remove(goal);
+        self.notes.put(goal, note);
+        Ok(())
+    }
+
+    /// Takes away the note or the mark of a goal: a look-up or two for each variable that it looked at. The room does not
+    /// shrink.
+    pub fn drop_goal(&mut self, goal: GoalName)
+        ensures notes { self.new.notes ≡ finite.remove self.old.notes goal }
+        ensures untried { self.new.untried ≡ set.remove self.old.untried goal }
+        ensures room { self.old.room ≤ self.new.room }
+    {
+        if let Some(note) = self.notes.remove(goal) {
+            self.looks.remove_all(note.looked().members(), goal);
+            self.untried.remove(goal);
+            return;
+        }
+        self.untried.remove(goal);
+    }
+
+    // Makes a noted goal untried: a look-up or two for each variable that it looked at.
+    fn wake_goal(&mut self, goal: GoalName)
+        requires { finite.get self.old.notes goal ≢ None }
+        ensures notes { self.new.notes ≡ finite.remove self.old.notes goal }
+        ensures untried { self.new.untried ≡ set.insert self.old.untried goal }
+        ensures room { self.old.room ≤ self.new.room }
+    {
+        let Some(note) = self.notes.remove(goal) else {
+            return;
+        };
+        self.looks.remove_all(note.looked().members(), goal);
+        self.untried.put(goal);
+    }
+
+    /// The variable was bound or freed: each goal whose note looked at it loses the note and is untried again. It costs some
+    /// look-ups for each of these goals and each variable that they looked at, and takes no memory.
+    pub fn wake_at(&mut self, x: VarName)
+        ensures notes { AreSpared (λ y. y ≡ x) self.old.notes self.new.notes }
+        ensures untried { AreWoken (λ y. y ≡ x) self.old.notes self.old.untried self.new.untried }
+        ensures room { self.old.room ≤ self.new.room }
+    {
+        while let Some(goal) = self.first_looking_at(x) {
+            self.wake_goal(goal);
+        }
+    }
+
+    /// These variables were bound or freed: each goal whose note looked at one of them loses the note and is untried again, at
+    /// the cost of `wake_at` for each.
+    pub fn wake(&mut self, xs: &[VarName])
+        ensures notes { AreSpared (λ y. In y xs.now) self.old.notes self.new.notes }
+        ensures untried { AreWoken (λ y. In y xs.now) self.old.notes self.old.untried self.new.untried }
+        ensures room { self.old.room ≤ self.new.room }
+    {
+        for x in xs {
+            self.wake_at(*x);
+        }
+    }
+}
