@@ -6,3 +6,4 @@ pub mod LookingAll
 pub mod Fitting
 pub mod Changing
 pub mod Waking
+pub mod LookedAt

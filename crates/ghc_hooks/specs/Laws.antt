@@ -1,5 +1,5 @@
 -- Laws of statuses.
-use Rattle.std.specs.Prelude.{◌≡◌, Option}
+use Rattle.std.specs.Prelude.{◌≡◌, ◌↔◌, Option}
 use Rattle.ghc_term.specs.declared.var_name.VarName.{VarName}
 use Rattle.ghc_term.specs.Tree.{Tree}
 use Rattle.ghc_term.specs.Goal.{Goal}
@@ -7,8 +7,10 @@ use Rattle.ghc_term.specs.Bindings.{IsAcyclic}
 use Rattle.ghc_term.specs.Store.{StoreValue, value_at}
 use Rattle.ghc_flat.specs.Clause.{Program}
 use Rattle.ghc_flat.specs.Flat.{IsProgram}
-use Rattle.ghc_hooks.specs.Status.{Status, HasStatus}
-use Rattle.ghc_hooks.specs.Notes.{AgreeOnLooked}
+use Rattle.ghc_match.specs.Looked.{GoalLooksAt}
+use Rattle.ghc_hooks.specs.Status.{Status, Awaits, HasStatus}
+use Rattle.ghc_hooks.specs.Notes.{Note, IsExact, AgreeOnLooked}
+use Rattle.ghc_hooks.specs.Verdict.{AwaitsWhatItLooksAt}
 
 -- In an acyclic store a goal has one status at most.
 abbrev pub StatusIsOne : Type 0
@@ -23,3 +25,20 @@ EachGoalHasAStatus = (P : Program) (s : StoreValue) (g : Goal) → IsProgram P �
 abbrev pub StatusIsOfWhatIsLookedAt : Type 0
 StatusIsOfWhatIsLookedAt =
     (P : Program) (S S' : VarName → Option Tree) (g : Goal) (s : Status) → HasStatus P S g s → AgreeOnLooked P g S S' → HasStatus P S' g s
+
+-- A goal waits only for variables that it looks at.
+abbrev pub GoalsWaitForWhatTheyLookAt : Type 0
+GoalsWaitForWhatTheyLookAt = (P : Program) (S : VarName → Option Tree) (g : Goal) (x : VarName) → Awaits P S g x → GoalLooksAt P S g x
+
+-- So does an exact note.
+abbrev pub ExactNotesAwaitWhatIsLookedAt : Type 0
+ExactNotesAwaitWhatIsLookedAt = (P : Program) (S : VarName → Option Tree) (g : Goal) (note : Note) → IsExact P S g note → AwaitsWhatItLooksAt note
+
+-- In stores that agree on what a goal looks at it looks at the same.
+abbrev pub LookedIsOfWhatIsLookedAt : Type 0
+LookedIsOfWhatIsLookedAt =
+    (P : Program) (S S' : VarName → Option Tree) (g : Goal) → AgreeOnLooked P g S S' → (x : VarName) → GoalLooksAt P S g x ↔ GoalLooksAt P S' g x
+
+-- So a note that is exact in the one is exact in the other.
+abbrev pub ExactNotesStayExact : Type 0
+ExactNotesStayExact = (P : Program) (S S' : VarName → Option Tree) (g : Goal) (note : Note) → IsExact P S g note → AgreeOnLooked P g S S' → IsExact P S' g note
