@@ -7,3 +7,4 @@ pub mod Fitting
 pub mod Changing
 pub mod Waking
 pub mod LookedAt
+pub mod Few

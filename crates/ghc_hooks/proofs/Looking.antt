@@ -9,7 +9,6 @@ use Rattle.std.proofs.lemmas.Bool.{or_cases, or_right}
 use Rattle.ghc_term.specs.declared.var_name.VarName.{VarName}
 use Rattle.ghc_term.specs.declared.goal_name.GoalName.{GoalName}
 use Rattle.ghc_term.specs.Bindings.{name_cmp}
-use Rattle.ghc_term.specs.Table.{Table}
 use Rattle.std.proofs.lemmas.Map.Views.{list_any-from_Contains, Contains-from_any}
 use Rattle.ghc_term.specs.Lists.{In}
 use Rattle.ghc_term.proofs.ListsLemmas.{not_both, in_contains, contains_in}
@@ -61,17 +60,17 @@ goal_taken s g h =
       λ k. is ∙ ap (λ b. not b && set.contains s h) (elim (goal_cases h g) as (λ _. eq_by_cmp goal_cmp h g ≡ false) [ inl e ↦ absurd (k.1 e) | inr e ↦ e ]) ∙ k.0,
     )
 
-module _ (m : GoalsByVariable) (x : VarName) (t : Table GoalNames) where
+module _ (m : GoalsByVariable) (x : VarName) (t : GoalNames) where
   abbrev put : GoalsByVariable
   put = finite.insert m x t
 
-  here : (h : GoalName) → looks put x h ≡ set.contains t.held h
+  here : (h : GoalName) → looks put x h ≡ set.contains t h
   here h = ap (λ o. set.contains (goals_in o) h) (finite.get-insert name_total m x t x ∙ ap (λ b. cond b (Some t) (finite.get m x)) (itself x))
 
   elsewhere : (y : VarName) (h : GoalName) → eq_by_cmp name_cmp y x ≡ false → looks put y h ≡ looks m y h
   elsewhere y h d = ap (λ o. set.contains (goals_in o) h) (finite.get-insert name_total m x t y ∙ ap (λ b. cond b (Some t) (finite.get m y)) d)
 
-  pub one_put : (g : GoalName) → t.held ≡ set.insert (goals_in (finite.get m x)) g → (y : VarName) (h : GoalName) → IsTrue (looks put y h) ↔ (IsTrue (looks m y h) ⊎ ((y ≡ x) × (h ≡ g)))
+  pub one_put : (g : GoalName) → t ≡ set.insert (goals_in (finite.get m x)) g → (y : VarName) (h : GoalName) → IsTrue (looks put y h) ↔ (IsTrue (looks m y h) ⊎ ((y ≡ x) × (h ≡ g)))
   one_put g e y h = elim (name_cases y x) [
     | inl p ↦
         let now : looks put y h ≡ set.contains (set.insert (goals_in (finite.get m x)) g) h = ap (λ z. looks put z h) p ∙ here h ∙ ap (λ s. set.contains s h) e in
@@ -86,7 +85,7 @@ module _ (m : GoalsByVariable) (x : VarName) (t : Table GoalNames) where
     )
   ]
 
-  pub one_taken : (g : GoalName) → t.held ≡ set.remove (goals_in (finite.get m x)) g → (y : VarName) (h : GoalName) → IsTrue (looks put y h) ↔ (IsTrue (looks m y h) × ¬ ((y ≡ x) × (h ≡ g)))
+  pub one_taken : (g : GoalName) → t ≡ set.remove (goals_in (finite.get m x)) g → (y : VarName) (h : GoalName) → IsTrue (looks put y h) ↔ (IsTrue (looks m y h) × ¬ ((y ≡ x) × (h ≡ g)))
   one_taken g e y h = elim (name_cases y x) [
     | inl p ↦
         let now : looks put y h ≡ set.contains (set.remove (goals_in (finite.get m x)) g) h = ap (λ z. looks put z h) p ∙ here h ∙ ap (λ s. set.contains s h) e in
@@ -101,7 +100,7 @@ module _ (m : GoalsByVariable) (x : VarName) (t : Table GoalNames) where
     )
   ]
 
-  pub same_put : t.held ≡ goals_in (finite.get m x) → (y : VarName) (h : GoalName) → looks put y h ≡ looks m y h
+  pub same_put : t ≡ goals_in (finite.get m x) → (y : VarName) (h : GoalName) → looks put y h ≡ looks m y h
   same_put e y h = elim (name_cases y x) [
     | inl p ↦ ap (λ z. looks put z h) p ∙ here h ∙ ap (λ s. set.contains s h) e ∙ sym (ap (λ z. looks m z h) p)
     | inr d ↦ elsewhere y h d
@@ -126,29 +125,29 @@ pub set_in_goals : (g : GoalName) (gs : List GoalName) → IsTrue (set.contains 
 set_in_goals g gs c = contains_in gs g (Contains-from_any same_goal g gs (sym (set.contains-from_list goal_total gs g) ∙ c))
 
 -- the value under x, which was old, is w from now on
-module _ (es new : List (VarName × Table GoalNames)) (m : GoalsByVariable) (is : finite.from_entries es ≡ m) (x : VarName) (old w : Table GoalNames)
+module _ (es new : List (VarName × GoalNames)) (m : GoalsByVariable) (is : finite.from_entries es ≡ m) (x : VarName) (old w : GoalNames)
     (had : Some old ≡ lookup (same x) es) (written : (q : VarName) → lookup (same q) new ≡ cond (same x q) (Some w) (lookup (same q) es)) where
   now : finite.from_entries new ≡ finite.insert m x w
   now = inserted name_total name_antisymmetric same same_is es new x w written ∙ ap (λ z. finite.insert z x w) is
 
-  under : old.held ≡ goals_in (finite.get m x)
+  under : old ≡ goals_in (finite.get m x)
   under = ap goals_in (had ∙ value_is name_total name_antisymmetric same same_is x es ∙ ap (λ z. finite.get z x) is)
 
-  pub put_through : (g : GoalName) → w.held ≡ set.insert old.held g → (y : VarName) (h : GoalName) → IsTrue (looks (finite.from_entries new) y h) ↔ (IsTrue (looks m y h) ⊎ ((y ≡ x) × (h ≡ g)))
+  pub put_through : (g : GoalName) → w ≡ set.insert old g → (y : VarName) (h : GoalName) → IsTrue (looks (finite.from_entries new) y h) ↔ (IsTrue (looks m y h) ⊎ ((y ≡ x) × (h ≡ g)))
   put_through g e y h = subst (λ z. IsTrue (looks z y h) ↔ (IsTrue (looks m y h) ⊎ ((y ≡ x) × (h ≡ g)))) (sym now) (one_put m x w g (e ∙ ap (λ s. set.insert s g) under) y h)
 
-  pub take_through : (g : GoalName) → w.held ≡ set.remove old.held g → (y : VarName) (h : GoalName) → IsTrue (looks (finite.from_entries new) y h) ↔ (IsTrue (looks m y h) × ¬ ((y ≡ x) × (h ≡ g)))
+  pub take_through : (g : GoalName) → w ≡ set.remove old g → (y : VarName) (h : GoalName) → IsTrue (looks (finite.from_entries new) y h) ↔ (IsTrue (looks m y h) × ¬ ((y ≡ x) × (h ≡ g)))
   take_through g e y h = subst (λ z. IsTrue (looks z y h) ↔ (IsTrue (looks m y h) × ¬ ((y ≡ x) × (h ≡ g)))) (sym now) (one_taken m x w g (e ∙ ap (λ s. set.remove s g) under) y h)
 
-  pub keep_through : w.held ≡ old.held → (y : VarName) (h : GoalName) → looks (finite.from_entries new) y h ≡ looks m y h
+  pub keep_through : w ≡ old → (y : VarName) (h : GoalName) → looks (finite.from_entries new) y h ≡ looks m y h
   keep_through e y h = ap (λ z. looks z y h) now ∙ same_put m x w (e ∙ under) y h
 
-  pub none_through : w.held ≡ set.empty → goals_in (finite.get (finite.from_entries {R = name_cmp} new) x) ≡ set.empty
+  pub none_through : w ≡ set.empty → goals_in (finite.get (finite.from_entries {R = name_cmp} new) x) ≡ set.empty
   none_through e = ap (λ z. goals_in (finite.get z x)) now ∙ ap goals_in (finite.get-insert name_total m x w x ∙ ap (λ b. cond b (Some w) (finite.get m x)) (itself x)) ∙ e
 
 -- the first goal under a variable
-pub put_first : (es new : List (VarName × Table GoalNames)) (m : GoalsByVariable) (x : VarName) (w : Table GoalNames) (g : GoalName) → finite.from_entries es ≡ m → lookup (same x) es ≡ None
-    → ((q : VarName) → lookup (same q) new ≡ cond (same x q) (Some w) (lookup (same q) es)) → w.held ≡ set.insert set.empty g
+pub put_first : (es new : List (VarName × GoalNames)) (m : GoalsByVariable) (x : VarName) (w : GoalNames) (g : GoalName) → finite.from_entries es ≡ m → lookup (same x) es ≡ None
+    → ((q : VarName) → lookup (same q) new ≡ cond (same x q) (Some w) (lookup (same q) es)) → w ≡ set.insert set.empty g
     → (y : VarName) (h : GoalName) → IsTrue (looks (finite.from_entries new) y h) ↔ (IsTrue (looks m y h) ⊎ ((y ≡ x) × (h ≡ g)))
 put_first es new m x w g is none written e y h =
     let now : finite.from_entries new ≡ finite.insert m x w = inserted name_total name_antisymmetric same same_is es new x w written ∙ ap (λ z. finite.insert z x w) is in
@@ -156,7 +155,7 @@ put_first es new m x w g is none written e y h =
     subst (λ z. IsTrue (looks z y h) ↔ (IsTrue (looks m y h) ⊎ ((y ≡ x) × (h ≡ g)))) (sym now) (one_put m x w g (e ∙ ap (λ s. set.insert s g) empty) y h)
 
 -- under a variable that has no goals there is none to take
-pub take_none : (es new : List (VarName × Table GoalNames)) (m : GoalsByVariable) (x : VarName) (g : GoalName) → finite.from_entries es ≡ m → None ≡ lookup (same x) es → new ≡ es
+pub take_none : (es new : List (VarName × GoalNames)) (m : GoalsByVariable) (x : VarName) (g : GoalName) → finite.from_entries es ≡ m → None ≡ lookup (same x) es → new ≡ es
     → (y : VarName) (h : GoalName) → IsTrue (looks (finite.from_entries new) y h) ↔ (IsTrue (looks m y h) × ¬ ((y ≡ x) × (h ≡ g)))
 take_none es new m x g is none kept y h =
     let now : finite.from_entries new ≡ m = ap (λ l. finite.from_entries l) kept ∙ is in

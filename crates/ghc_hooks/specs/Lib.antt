@@ -5,5 +5,6 @@ pub mod Laws
 pub mod Tries
 pub mod Verdict
 pub mod Looks
+pub mod FewGoals
 pub mod FaultCode
 pub mod TriesCode

@@ -11,13 +11,13 @@ use Rattle.ghc_hooks.specs.Notes.{Note, NotesByGoal}
 use Rattle.ghc_hooks.specs.Tries.{HasLookedAt}
 use Rattle.ghc_hooks.specs.Verdict.{AwaitsWhatItLooksAt}
 
--- goals by variable; a set of goals knows the room that it has
+-- goals by variable
 abbrev pub GoalsByVariable : Type 0
-GoalsByVariable = finite.FinMap name_cmp (Table GoalNames)
+GoalsByVariable = finite.FinMap name_cmp GoalNames
 
-abbrev pub goals_in : Option (Table GoalNames) → GoalNames
+abbrev pub goals_in : Option GoalNames → GoalNames
 goals_in None = set.empty
-goals_in (Some t) = t.held
+goals_in (Some gs) = gs
 
 -- whether the goal g stands under the variable x
 abbrev pub looks : GoalsByVariable → VarName → GoalName → Bool

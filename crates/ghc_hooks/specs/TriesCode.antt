@@ -7,7 +7,6 @@ use Rattle.std.specs.FinSet as set
 use Rattle.std.specs.Prelude.{Bool, true, false}
 use Rattle.ghc_term.specs.Code.{name_code}
 use Rattle.ghc_term.specs.Sets.{Variables}
-use Rattle.ghc_term.specs.Table.{table_code}
 use Rattle.ghc_term.specs.declared.fault.Fault.{Fault}
 use Rattle.ghc_fire.specs.GoalsCode.{goal_name_code}
 use Rattle.ghc_hooks.specs.Status.{Status, ready, waiting, failed, streaming}
@@ -55,7 +54,7 @@ abbrev pub notes_code : Coded NotesByGoal
 notes_code = finite.code goal_name_code note_code
 
 abbrev pub goals_by_variable_code : Coded GoalsByVariable
-goals_by_variable_code = finite.code name_code (table_code goal_names_code)
+goals_by_variable_code = finite.code name_code goal_names_code
 
 abbrev pub tries_code : Coded Tries
 tries_code =

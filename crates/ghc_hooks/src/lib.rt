@@ -1,6 +1,7 @@
 //! The status of goals, the face of a state, noted outcomes and untried goals.
 #![tactic(auto)]
 
+mod few_goals;
 mod goal_set;
 mod laws;
 mod looks;

@@ -1,8 +1,8 @@
 // For each variable the goals whose notes looked at it.
-ghost use Rattle.std.specs.Prelude.{◌≡◌, ◌↔◌, ◌⊎◌, IfOk, IsTrue, OnOk, OnErr};
+ghost use Rattle.std.specs.Prelude.{◌≡◌, ◌↔◌, ◌⊎◌, IsTrue, OnOk, OnErr};
 ghost use Rattle.std.specs.FinSet as set;
 
-use crate::goal_set::GoalSet;
+use crate::few_goals::FewGoals;
 use ghc_term::{GoalName, VarName};
 use indexmap::IndexMap;
 use std::alloc::{AllocError, Global};
@@ -11,7 +11,7 @@ use std::marker::Model;
 // The goals that stand under each variable.
 #[derive(Drop)]
 pub struct Looks {
-    map: IndexMap<VarName, GoalSet>,
+    map: IndexMap<VarName, FewGoals>,
 }
 
 impl Model for Looks {
@@ -24,15 +24,6 @@ impl Model for Looks {
     ghost coded = { goals_by_variable_code };
 
     ghost view = { λ l. finite.from_entries l.map.entries };
-}
-
-// No goals but the one.
-fn only(alloc: Global, goal: GoalName) -> Result<GoalSet, AllocError>
-    ensures { IfOk result (λ s. s.held ≡ set.insert set.empty goal) }
-{
-    let mut goals = GoalSet::new(alloc);
-    goals.insert(goal)?;
-    Ok(goals)
 }
 
 impl Looks {
@@ -53,7 +44,7 @@ impl Looks {
     }
 
     // The goals under the variable: one look-up.
-    pub fn at(&self, x: VarName) -> Option<&GoalSet>
+    pub fn at(&self, x: VarName) -> Option<&FewGoals>
         ensures { option_copied result ≡ finite.get self.now x }
     {
         self.map.get(&x)
@@ -68,8 +59,7 @@ impl Looks {
         if let Some(goals) = self.map.get_mut(&x) {
             return goals.insert(goal);
         }
-        let goals = only(alloc, goal)?;
-        self.map.insert(x, goals)?;
+        self.map.insert(x, FewGoals::one(alloc, goal))?;
         Ok(())
     }
 

@@ -26,5 +26,5 @@ returns-in-Some-clause-err c =
 pub returns-clause-ok : goal.returns-clause-ok
 returns-clause-ok c =
     let same = ap (λ t. t.entries) c.get_mut.follows.holds-at-none in
-    put_first c.get_mut.follows.lender-at-none.entries c.insert-2.new.self.entries c.args.self.now c.args.x c.in_ok-goals.goals c.args.goal
-    (ap (λ l. finite.from_entries l) same ∙ c.self.view_is) (ap (λ l. lookup (names c.args.x) l) same ∙ sym c.in_default.ensures.value) c.in_ok-insert.ensures.updates.0 c.in_ok-goals.ensures
+    put_first c.get_mut.follows.lender-at-none.entries c.insert-2.new.self.entries c.args.self.now c.args.x c.one.result c.args.goal
+    (ap (λ l. finite.from_entries l) same ∙ c.self.view_is) (ap (λ l. lookup (names c.args.x) l) same ∙ sym c.in_default.ensures.value) c.in_ok-insert.ensures.updates.0 c.one.ensures

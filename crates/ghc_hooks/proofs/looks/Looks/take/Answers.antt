@@ -7,7 +7,7 @@ pub returns-in-Some-clause-left : goal.returns-in-Some-clause-left
 returns-in-Some-clause-left c =
     let w = c.remove.new.self in
     let updates = (c.get_mut.follows.holds w).3 (subst IsSome c.in-Some.ensures.value refl) in
-    take_through c.self.inside.map.entries (c.get_mut.follows.lender w).entries c.args.self.now c.self.view_is c.args.x c.in-Some.goals.now w c.in-Some.ensures.value updates.0 c.args.goal c.remove.ensures.held
+    take_through c.self.inside.map.entries (c.get_mut.follows.lender w).entries c.args.self.now c.self.view_is c.args.x c.in-Some.goals.now w c.in-Some.ensures.value updates.0 c.args.goal c.remove.ensures
 
 pub returns-in-Some-clause-none : goal.returns-in-Some-clause-none
 returns-in-Some-clause-none c emptied =

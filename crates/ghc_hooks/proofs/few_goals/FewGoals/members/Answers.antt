@@ -1,0 +1,12 @@
+use Rattle.std.proofs.Common.{◌∙◌, ap, sym}
+use Rattle.std.specs.FinSet as set
+use Rattle.ghc_fire.specs.Goals.{goal_cmp}
+use Rattle.ghc_hooks.specs.FewGoals.{goals_held}
+use Rattle.ghc_hooks.proofs.Few.{one_counted}
+use Rattle.ghc_hooks.proofs.few_goals.FewGoals.members.Goals as goal
+
+pub returns-in-Nothing-clause-once : goal.returns-in-Nothing-clause-once
+returns-in-Nothing-clause-once c = sym (set.len-empty goal_cmp) ∙ ap set.len (ap goals_held (sym c.in-Nothing.is) ∙ c.self.view_is)
+
+pub returns-in-One-clause-once : goal.returns-in-One-clause-once
+returns-in-One-clause-once c = c.from_ref.ensures.len ∙ one_counted c.in-One.goal ∙ ap set.len (ap goals_held (sym c.in-One.is) ∙ c.self.view_is)

@@ -1,0 +1,115 @@
+// The goals under a variable, of which there is mostly one.
+ghost use Rattle.std.specs.Prelude.{◌≡◌, ◌∷◌, [], length, IfOk, IsTrue, OnOk, OnErr};
+ghost use Rattle.std.specs.FinSet as set;
+
+use crate::goal_set::GoalSet;
+use ghc_term::GoalName;
+use std::alloc::{AllocError, Global};
+use std::marker::Model;
+use std::slice;
+
+// A set of goals: one goal takes no memory, more are found by a look-up.
+#[derive(Drop)]
+pub struct FewGoals {
+    held: Few,
+}
+
+#[derive(Drop)]
+enum Few {
+    Nothing(Global),
+    One(Global, GoalName),
+    More(Box<GoalSet>),
+}
+
+impl Model for FewGoals {
+    ghost use Rattle.ghc_hooks.specs.Face.{GoalNames};
+    ghost use Rattle.ghc_hooks.specs.TriesCode.{goal_names_code};
+
+    ghost Value = { GoalNames };
+
+    ghost coded = { goal_names_code };
+
+    ghost use Rattle.ghc_hooks.specs.FewGoals.{goals_held};
+
+    ghost view = { λ f. goals_held f.held };
+}
+
+// The two goals.
+fn two(alloc: Global, first: GoalName, second: GoalName) -> Result<Box<GoalSet>, AllocError>
+    ensures { IfOk result (λ goals. goals.value.held ≡ set.insert (set.insert set.empty first) second) }
+{
+    let mut goals = GoalSet::new(alloc);
+    goals.insert(first)?;
+    goals.insert(second)?;
+    Ok(Box::new(alloc, goals)?)
+}
+
+impl FewGoals {
+    // One goal, which takes no memory.
+    pub fn one(alloc: Global, goal: GoalName) -> FewGoals
+        ensures { result ≡ set.insert set.empty goal }
+    {
+        FewGoals {
+            held: Few::One(alloc, goal),
+        }
+    }
+
+    // The goals of the set, each once.
+    pub fn members(&self) -> &[GoalName]
+        ensures all { set.from_list result.now ≡ self.now }
+        ensures once { length result.now ≡ set.len self.now }
+    {
+        match &self.held {
+            Few::Nothing(_) => &[],
+            Few::One(_, goal) => slice::from_ref(goal),
+            Few::More(goals) => goals.members(),
+        }
+    }
+
+    // Whether no goal is in the set: one step.
+    pub fn is_empty(&self) -> bool
+        ensures { IsTrue result → self.now ≡ set.empty }
+    {
+        match &self.held {
+            Few::Nothing(_) => true,
+            Few::One(_, _) => false,
+            Few::More(goals) => goals.is_empty(),
+        }
+    }
+
+    // Adds the goal: one comparison or one look-up.
+    pub fn insert(&mut self, goal: GoalName) -> Result<(), AllocError>
+        ensures ok { OnOk result (self.new ≡ set.insert self.old goal) }
+        ensures err { OnErr result (self.new ≡ self.old) }
+    {
+        match &mut self.held {
+            Few::Nothing(alloc) => {
+                self.held = Few::One(*alloc, goal);
+            }
+            Few::One(alloc, other) => {
+                if *other != goal {
+                    self.held = Few::More(two(*alloc, *other, goal)?);
+                }
+            }
+            Few::More(goals) => {
+                goals.insert(goal)?;
+            }
+        }
+        Ok(())
+    }
+
+    // Takes the goal out: one comparison or one look-up.
+    pub fn remove(&mut self, goal: GoalName)
+        ensures { self.new ≡ set.remove self.old goal }
+    {
+        match &mut self.held {
+            Few::Nothing(_) => {}
+            Few::One(alloc, other) => {
+                if *other == goal {
+                    self.held = Few::Nothing(*alloc);
+                }
+            }
+            Few::More(goals) => goals.remove(goal),
+        }
+    }
+}
