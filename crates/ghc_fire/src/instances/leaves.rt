@@ -1,5 +1,5 @@
 // Variables replaced at once: in a variable, and in a structure in which no open structure stands.
-ghost use Rattle.std.specs.Prelude.{◌≡◌, ◌≢◌, [], IfOk, IfSome};
+ghost use Rattle.std.specs.Prelude.{◌≡◌, ◌≢◌, [], ◌∷◌, IfOk, IfSome};
 ghost use Rattle.ghc_term.specs.Tree.{node, trees};
 ghost use Rattle.ghc_unify.specs.Solutions.{replace};
 ghost use Rattle.ghc_fire.specs.Renaming.{replacement};
@@ -19,6 +19,49 @@ fn replace_leaf(term: &Term, by: Renaming<'_>) -> Result<Option<Term>, AllocErro
         return Ok(Some(term.share()?));
     }
     Ok(None)
+}
+
+// The structure of this name over the two arguments with their variables replaced, where both are such leaves.
+fn replace_pair(
+    alloc: Global,
+    name: &Name,
+    first: &Term,
+    second: &Term,
+    by: Renaming<'_>,
+) -> Result<Option<Term>, AllocError>
+    ensures { IfOk result (λ o. IfSome o (λ t. t ≡ replace (replacement by.entry) (node name.now (trees (first.now ∷ second.now ∷ []))))) }
+{
+    let Some(left) = replace_leaf(first, by)? else {
+        return Ok(None);
+    };
+    let Some(right) = replace_leaf(second, by)? else {
+        return Ok(None);
+    };
+    Ok(Some(Term::pair(alloc, name.share()?, left, right)?))
+}
+
+// The same with three arguments.
+fn replace_triple(
+    alloc: Global,
+    name: &Name,
+    first: &Term,
+    second: &Term,
+    third: &Term,
+    by: Renaming<'_>,
+) -> Result<Option<Term>, AllocError>
+    ensures { IfOk result (λ o. IfSome o (λ t. t ≡ replace (replacement by.entry) (node name.now (trees (first.now ∷ second.now ∷ third.now ∷ []))))) }
+{
+    let Some(left) = replace_leaf(first, by)? else {
+        return Ok(None);
+    };
+    let Some(middle) = replace_leaf(second, by)? else {
+        return Ok(None);
+    };
+    let Some(right) = replace_leaf(third, by)? else {
+        return Ok(None);
+    };
+    let name = name.share()?;
+    Ok(Some(Term::triple(alloc, name, left, middle, right)?))
 }
 
 // The structure of this name over the arguments with their variables replaced, where each of them is such a leaf.
@@ -53,6 +96,10 @@ pub fn replace_at_once(
 {
     match term.view() {
         TermView::Var(x) => replace_variable(x, by),
+        TermView::Struct(name, [first, second]) => replace_pair(alloc, name, first, second, by),
+        TermView::Struct(name, [first, second, third]) => {
+            replace_triple(alloc, name, first, second, third, by)
+        }
         TermView::Struct(name, arguments) => replace_flat(alloc, name, arguments, by),
         _ => Ok(None),
     }
