@@ -8,3 +8,7 @@ pub mod Changing
 pub mod Waking
 pub mod LookedAt
 pub mod Few
+pub mod Reaching
+pub mod Leaves
+pub mod Hearing
+pub mod Trying

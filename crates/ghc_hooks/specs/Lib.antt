@@ -8,3 +8,4 @@ pub mod Looks
 pub mod FewGoals
 pub mod FaultCode
 pub mod TriesCode
+pub mod Reached

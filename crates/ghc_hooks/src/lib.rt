@@ -3,10 +3,13 @@
 
 mod few_goals;
 mod goal_set;
+mod heard;
 mod laws;
 mod looks;
 mod note;
 mod notes;
+mod reached;
+mod trial;
 mod tries;
 
 pub use laws::{
@@ -15,4 +18,5 @@ pub use laws::{
     status_is_of_what_is_looked_at, status_is_one,
 };
 pub use note::{Note, Verdict};
+pub use trial::try_goal;
 pub use tries::Tries;

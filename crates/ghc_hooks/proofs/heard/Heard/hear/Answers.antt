@@ -1,0 +1,38 @@
+use Rattle.std.proofs.Common.{sym, subst}
+use Rattle.std.proofs.lemmas.Result.{on_ok_weaker}
+use Rattle.ghc_term.specs.Store.{value_at}
+use Rattle.ghc_match.specs.Match.{LooksAt, HasOutcome}
+use Rattle.ghc_match.specs.Meeting.{Gains}
+use Rattle.ghc_match.specs.Told.{told}
+use Rattle.ghc_hooks.proofs.Hearing.{HeardToo, refusal_heard, wait_heard, acceptance_heard, gains_as}
+use Rattle.ghc_hooks.proofs.heard.Heard.hear.Goals as goal
+use Rattle.ghc_hooks.proofs.heard.Heard.hear.Goals.{in-Refuses, in-Waits+in_ok-join-in-Waits, in-Accepts}
+
+said : (c : goal.After-join-2) → HeardToo c.args.clause.now c.args.arguments.now (value_at c.args.store.now.held) c.args.self.now c.match-outcome.self
+said c =
+    let clause = c.args.clause.now in
+    let ts = c.args.arguments.now in
+    let S = value_at c.args.store.now.held in
+    let h = c.args.self.now in
+    let tried = c.in_ok-outcome.field-0 in
+    elim c.match-outcome.branch [
+      | in-Refuses w ↦
+          subst (HeardToo clause ts S h) (sym w.self-is) (refusal_heard clause ts S h (subst (λ o. HasOutcome clause ts S (told o tried.looked)) w.in-Refuses.is c.in_ok-outcome.ensures.outcome))
+      | in-Waits+in_ok-join-in-Waits w ↦
+          subst (HeardToo clause ts S h) (sym w.self-is)
+          (wait_heard clause ts S h w.in-Waits.awaited w.join.new.gathered (subst (λ o. HasOutcome clause ts S (told o tried.looked)) w.in-Waits.is c.in_ok-outcome.ensures.outcome) w.in_ok-join-in-Waits.ensures)
+      | in-Accepts w ↦
+          subst (HeardToo clause ts S h) (sym w.self-is) (acceptance_heard clause ts S h (subst (λ o. HasOutcome clause ts S (told o tried.looked)) w.in-Accepts.is c.in_ok-outcome.ensures.outcome).0)
+    ]
+
+pub returns-clause-accepts : goal.returns-clause-accepts
+returns-clause-accepts c = on_ok_weaker c.join-2.result (λ g. (said c).0) c.join-2.ensures
+
+pub returns-clause-awaited : goal.returns-clause-awaited
+returns-clause-awaited c = on_ok_weaker c.join-2.result (λ g. (said c).1) c.join-2.ensures
+
+pub returns-clause-looked : goal.returns-clause-looked
+returns-clause-looked c =
+    let looks = LooksAt c.args.clause.now c.args.arguments.now (value_at c.args.store.now.held) in
+    let tried = c.in_ok-outcome.field-0 in
+    on_ok_weaker c.join-2.result (λ g. subst (λ s. Gains s c.join-2.new.gathered looks) (said c).2 (gains_as c.match-outcome.self.looked c.join-2.new.gathered tried.looked looks c.in_ok-outcome.ensures.looked g)) c.join-2.ensures

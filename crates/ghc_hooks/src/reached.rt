@@ -1,0 +1,116 @@
+// All variables that terms reach.
+ghost use Rattle.std.specs.Prelude.{◌≡◌, ◌⊎◌, ◌++◌, map, IfOk, OnOk};
+ghost use Rattle.ghc_term.specs.Bindings.{Reaches};
+ghost use Rattle.ghc_term.specs.Store.{value_at};
+ghost use Rattle.ghc_term.specs.Sets.{IsSetOf};
+ghost use Rattle.ghc_hooks.specs.Reached.{leaves, OneReaches, TakesUp};
+ghost use Rattle.ghc_match.specs.Looked.{ExpressionReaches};
+
+use ghc_term::{Expr, ExprView, Store, Term, TermView, VarName, Variables};
+use std::alloc::{AllocError, Global};
+
+// Adds the leaves of the expression, from left to right. One step for each part of the expression, by a list of the parts that wait.
+pub fn push_leaves<'a>(
+    alloc: Global,
+    expression: &'a Expr,
+    terms: &mut Vec<&'a Term>,
+) -> Result<(), AllocError>
+    ensures { OnOk result (map (λ t. t.now) terms.new.items ≡ map (λ t. t.now) terms.old.items ++ leaves expression.now) }
+{
+    let mut waiting = Vec::new(alloc);
+    waiting.push(expression)?;
+    while let Some(part) = waiting.pop() {
+        match part.view() {
+            ExprView::Leaf(term) => terms.push(term)?,
+            ExprView::Operation(_, left, right) => {
+                waiting.push(right)?;
+                waiting.push(left)?;
+            }
+        }
+    }
+    Ok(())
+}
+
+// Adds the terms to those that are still to be gone through.
+fn push_all<'a>(terms: &'a [Term], waiting: &mut Vec<&'a Term>) -> Result<(), AllocError>
+    ensures { OnOk result (map (λ t. t.now) waiting.new.items ≡ map (λ t. t.now) waiting.old.items ++ terms.now) }
+{
+    for term in terms {
+        waiting.push(term)?;
+    }
+    Ok(())
+}
+
+// Takes up a variable: if it was not reached before, its value is still to be gone through.
+fn take_up<'a>(
+    store: &'a Store,
+    x: VarName,
+    reached: &mut Variables,
+    waiting: &mut Vec<&'a Term>,
+) -> Result<(), AllocError>
+    ensures { OnOk result (TakesUp (value_at store.now.held) x reached.old reached.new (map (λ t. t.now) waiting.old.items) (map (λ t. t.now) waiting.new.items)) }
+{
+    if reached.contains(x) {
+        return Ok(());
+    }
+    reached.insert(x)?;
+    if let Some(value) = store.get(x) {
+        waiting.push(value)?;
+    }
+    Ok(())
+}
+
+// All variables that the terms reach in the store. It goes by a loop, once through each term and through the value of each variable,
+// and past what is closed as written.
+pub fn reached_from<'a>(
+    alloc: Global,
+    store: &'a Store,
+    terms: Vec<&'a Term>,
+) -> Result<Variables, AllocError>
+    ensures { IfOk result (λ xs. IsSetOf xs (OneReaches (value_at store.now.held) (map (λ t. t.now) terms.entry.items))) }
+{
+    store.acyclic();
+    let mut reached = Variables::new(alloc);
+    let mut waiting = terms;
+    while let Some(term) = waiting.pop() {
+        if term.is_closed() {
+            continue;
+        }
+        match term.view() {
+            TermView::Var(x) => take_up(store, x, &mut reached, &mut waiting)?,
+            TermView::Struct(_, arguments) => push_all(arguments, &mut waiting)?,
+            _ => {}
+        }
+    }
+    Ok(reached)
+}
+
+// All variables that the two terms reach in the store.
+pub fn reached_by_both(
+    alloc: Global,
+    store: &Store,
+    left: &Term,
+    right: &Term,
+) -> Result<Variables, AllocError>
+    ensures { IfOk result (λ xs. IsSetOf xs (λ x. Reaches (value_at store.now.held) left.now x ⊎ Reaches (value_at store.now.held) right.now x)) }
+{
+    let mut terms = Vec::new(alloc);
+    terms.push(left)?;
+    terms.push(right)?;
+    reached_from(alloc, store, terms)
+}
+
+// All variables that the term and the expression reach in the store.
+pub fn reached_with_leaves(
+    alloc: Global,
+    store: &Store,
+    term: &Term,
+    expression: &Expr,
+) -> Result<Variables, AllocError>
+    ensures { IfOk result (λ xs. IsSetOf xs (λ x. Reaches (value_at store.now.held) term.now x ⊎ ExpressionReaches (value_at store.now.held) expression.now x)) }
+{
+    let mut terms = Vec::new(alloc);
+    terms.push(term)?;
+    push_leaves(alloc, expression, &mut terms)?;
+    reached_from(alloc, store, terms)
+}
