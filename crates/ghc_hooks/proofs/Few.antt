@@ -60,3 +60,7 @@ one_counted g =
     let grown = set.len-insert goal_total (set.empty {R = goal_cmp}) g ∙ ap (λ b. cond b (set.len (set.empty {R = goal_cmp})) (set.len (set.empty {R = goal_cmp}) + 1)) (set.contains-empty goal_cmp g) in
     let none = set.len-empty goal_cmp in
     omega (arith, grown, none)
+
+-- one goal is something
+pub one_is_something : (g : GoalName) → ¬ (set.insert (set.empty {R = goal_cmp}) g ≡ set.empty)
+one_is_something g e = nothing_there g (ap (λ s. set.contains s g) (sym e) ∙ in_one g)

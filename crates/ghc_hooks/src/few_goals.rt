@@ -1,5 +1,5 @@
 // The goals under a variable, of which there is mostly one.
-ghost use Rattle.std.specs.Prelude.{◌≡◌, ◌∷◌, [], length, IfOk, IsTrue, OnOk, OnErr};
+ghost use Rattle.std.specs.Prelude.{◌≡◌, ◌∷◌, ◌↔◌, [], length, IfOk, IsTrue, OnOk, OnErr};
 ghost use Rattle.std.specs.FinSet as set;
 
 use crate::goal_set::GoalSet;
@@ -68,7 +68,7 @@ impl FewGoals {
 
     // Whether no goal is in the set: one step.
     pub fn is_empty(&self) -> bool
-        ensures { IsTrue result → self.now ≡ set.empty }
+        ensures { IsTrue result ↔ (self.now ≡ set.empty) }
     {
         match &self.held {
             Few::Nothing(_) => true,

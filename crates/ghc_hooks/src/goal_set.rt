@@ -1,5 +1,5 @@
 // Sets of goals by name.
-ghost use Rattle.std.specs.Prelude.{◌≡◌, ◌+◌, ◌<◌, ◌≤◌, length, IfSome, IfNone, IsTrue, OnOk, OnErr};
+ghost use Rattle.std.specs.Prelude.{◌≡◌, ◌↔◌, ◌+◌, ◌<◌, ◌≤◌, length, IfSome, IfNone, IsTrue, OnOk, OnErr};
 ghost use Rattle.std.specs.FinSet as set;
 
 use ghc_term::GoalName;
@@ -53,7 +53,7 @@ impl GoalSet {
 
     // Whether no goal is in the set: one step.
     pub fn is_empty(&self) -> bool
-        ensures { IsTrue result → self.now.held ≡ set.empty }
+        ensures { IsTrue result ↔ (self.now.held ≡ set.empty) }
     {
         self.len() == 0
     }

@@ -13,7 +13,7 @@ pub returns-in-Some-clause-none : goal.returns-in-Some-clause-none
 returns-in-Some-clause-none c emptied =
     let w = c.remove.new.self in
     let updates = (c.get_mut.follows.holds w).3 (subst IsSome c.in-Some.ensures.value refl) in
-    none_through c.self.inside.map.entries (c.get_mut.follows.lender w).entries c.args.self.now c.self.view_is c.args.x c.in-Some.goals.now w c.in-Some.ensures.value updates.0 (c.is_empty.ensures emptied)
+    none_through c.self.inside.map.entries (c.get_mut.follows.lender w).entries c.args.self.now c.self.view_is c.args.x c.in-Some.goals.now w c.in-Some.ensures.value updates.0 (c.is_empty.ensures.0 emptied)
 
 pub returns-clause-left : goal.returns-clause-left
 returns-clause-left c =
