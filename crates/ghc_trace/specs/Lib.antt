@@ -2,3 +2,8 @@ pub mod Ports
 pub mod PortText
 pub mod PortCode
 pub mod Binders
+pub mod News
+pub mod Disturbed
+pub mod NewsCode
+pub mod DisturbedCode
+pub mod Laws
