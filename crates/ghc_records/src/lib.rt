@@ -25,4 +25,6 @@ pub use removal::Removal;
 pub use shelf::Shelf;
 pub use state::State;
 pub use step::Step;
-pub use step_text::{push_act, push_goal_name, push_journal_step, push_record, push_step};
+pub use step_text::{
+    push_act, push_goal_name, push_journal_step, push_record, push_step, push_variables,
+};

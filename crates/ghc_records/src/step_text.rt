@@ -145,6 +145,16 @@ fn write_variables(xs: &Variables, out: &mut String) -> Result<(), AllocError>
     Ok(())
 }
 
+/// Writes the variables of a set at the end of `out`, which stays as it was where memory is refused, as `_0_1,_0_2` by step,
+/// then place, and `-` where there is none. The cost is that of the text, and what it takes to put them in order.
+pub fn push_variables(xs: &Variables, out: &mut String) -> Result<(), AllocError>
+    ensures { string_bytes out.new ≡ (if is_ok result then string_bytes out.old ++ variables_text xs.now else string_bytes out.old) }
+{
+    let length = end_of(out);
+    let written = write_variables(xs, out);
+    or_cut_back(out, length, written)
+}
+
 // Bindings by their variables, by step, then place.
 fn by_variable<'a>(
     alloc: Global,

@@ -12,5 +12,6 @@ mod stuck;
 pub use disturbed::Disturbed;
 pub use laws::{notes_tell_news, notes_tell_ports};
 pub use port::{Port, push_port, push_ports};
+pub use status_text::push_status;
 pub use step_ports::{ports, push_ports_of};
 pub use stuck::Stuck;

@@ -1,7 +1,0 @@
-use Rattle.std.proofs.Common.{◌≡◌, ◌||◌, drop}
-use Rattle.ghc_term.specs.declared.var_name.VarName.{VarName}
-use Rattle.ghc_records.proofs.NameOrder.{has}
-use Rattle.ghc_trace.proofs.status_text.in_order.Given as goal
-
-abbrev pub invariant-loop-x : goal.invariant-loop-x
-invariant-loop-x l = (q : VarName) → (has q l.names.keys || has q (drop l.x-index l.x-items)) ≡ has q l.x-items
