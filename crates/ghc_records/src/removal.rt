@@ -62,6 +62,13 @@ impl Removal {
         })
     }
 
+    /// The record of the step.
+    pub fn step(&self) -> &Record
+        ensures { result.now ≡ self.now }
+    {
+        &self.step
+    }
+
     // The record, the goal that its step consumed, and how many goals that made.
     pub(crate) fn into_parts(self) -> (Record, Option<Goal>, u32)
         ensures record { result.0 ≡ self }
