@@ -1,9 +1,8 @@
--- Why goals fail: one of four refusals, told by its number.
-use Rattle.std.proofs.Common.{◌≡◌, ◌≢◌, false, ◌⊎◌, List, ℕ, refl, sym, ap, ◌∙◌, subst, inl, inr, arith}
+-- Goals that are stuck in one way have one status: a goal fails for a refusal that tells nothing but its number.
+use Rattle.std.proofs.Common.{◌≡◌, false, List, [], ℕ, refl, sym, ap, ◌∙◌, subst}
 use Rattle.std.specs.Prelude.{Option, Some, None}
 use Rattle.ghc_term.specs.declared.var_name.VarName.{VarName}
 use Rattle.ghc_term.specs.declared.fault.Fault.{Fault}
-use Rattle.ghc_term.specs.declared.fault.Fault.TheVariants.{Waits, NoMatch, Clash, Cycle, Arithmetic}
 use Rattle.ghc_term.specs.Fault.{fault_number}
 use Rattle.ghc_term.specs.Tree.{Tree}
 use Rattle.ghc_term.specs.Expression.{Expression}
@@ -13,32 +12,35 @@ use Rattle.ghc_flat.specs.Flat.{is_stream}
 use Rattle.ghc_fire.specs.Effect.{no_step}
 use Rattle.ghc_fire.specs.Attempt.{Answer, proposes, refused, Attempts, CallAnswers, UnificationAnswers, AssignmentAnswers}
 use Rattle.ghc_hooks.specs.Status.{Status, ready, waiting, failed, streaming, HasStatus, is_ready, is_waiting, is_failed, is_stream_goal}
+use Rattle.ghc_hooks.specs.FaultCode.{told_by, fault_at, fault_back}
 use Rattle.ghc_trace.specs.News.{IsStuck}
 use Rattle.ghc_trace.specs.Disturbed.{stuck_of}
+use Rattle.ghc_trace.specs.declared.stuck.Stuck.{Stuck}
+use Rattle.ghc_trace.specs.declared.stuck.Stuck.TheVariants.{Waiting, Failed}
 
--- Goals fail for these.
-abbrev IsCause : Fault → Type 0
-IsCause f = (f ≡ NoMatch) ⊎ ((f ≡ Clash) ⊎ ((f ≡ Cycle) ⊎ (f ≡ Arithmetic)))
+-- The refusal tells nothing but its number.
+abbrev IsBare : Fault → Type 0
+IsBare f = told_by f ≡ (0, (0, []))
 
--- An answer other than waiting is a proposal, or a refusal for one of these.
+-- The answer is a proposal or such a refusal.
 abbrev IsPlain : Answer → Type 0
 IsPlain (proposes a e) = Unit {0}
-IsPlain (refused f) = f ≢ Waits → IsCause f
+IsPlain (refused f) = IsBare f
 
 call_plain : (P : Program) (S : VarName → Option Tree) (f : List ℕ) (ts : List Tree) (a : Answer) → CallAnswers no_step P f ts S a → IsPlain a
 call_plain P S f ts a (CallAnswers.by_least l h) = tt
-call_plain P S f ts a (CallAnswers.waits n w) = λ d. absurd (d refl)
-call_plain P S f ts a (CallAnswers.no_match n m) = λ d. inl refl
+call_plain P S f ts a (CallAnswers.waits n w) = refl
+call_plain P S f ts a (CallAnswers.no_match n m) = refl
 
 unification_plain : (P : Program) (S : VarName → Option Tree) (l r : Tree) (a : Answer) → UnificationAnswers P l r S a → IsPlain a
 unification_plain P S l r a (UnificationAnswers.solves h) = tt
-unification_plain P S l r a (UnificationAnswers.clashes c) = λ d. inr (inl refl)
-unification_plain P S l r a (UnificationAnswers.cycles c) = λ d. inr (inr (inl refl))
+unification_plain P S l r a (UnificationAnswers.clashes c) = refl
+unification_plain P S l r a (UnificationAnswers.cycles c) = refl
 
 assignment_plain : (P : Program) (S : VarName → Option Tree) (t : Tree) (b : Expression) (a : Answer) → AssignmentAnswers P t b S a → IsPlain a
-assignment_plain P S t b a (AssignmentAnswers.waits xs h) = λ d. absurd (d refl)
-assignment_plain P S t b a (AssignmentAnswers.has_no_value h) = λ d. inr (inr (inr refl))
-assignment_plain P S t b a (AssignmentAnswers.clashes v h c) = λ d. inr (inl refl)
+assignment_plain P S t b a (AssignmentAnswers.waits xs h) = refl
+assignment_plain P S t b a (AssignmentAnswers.has_no_value h) = refl
+assignment_plain P S t b a (AssignmentAnswers.clashes v h c) = refl
 assignment_plain P S t b a (AssignmentAnswers.assigns h) = tt
 
 goal_plain : (P : Program) (S : VarName → Option Tree) (b : Goal) (a : Answer) → is_stream b ≡ false → Attempts P S (Some b) None a → IsPlain a
@@ -47,52 +49,40 @@ goal_plain P S (unify l r) a n h = unification_plain P S l r a h
 goal_plain P S (assign t e) a n h = assignment_plain P S t e a h
 goal_plain P S (stream k x) a n h = cc
 
--- a goal that has failed has failed for one of them
-failed_for : (P : Program) (S : VarName → Option Tree) (b : Goal) (s : Status) (f : Fault) → s ≡ failed f → HasStatus P S b s → IsCause f
+-- a goal fails for such a refusal
+failed_for : (P : Program) (S : VarName → Option Tree) (b : Goal) (s : Status) (f : Fault) → s ≡ failed f → HasStatus P S b s → IsBare f
 failed_for P S b s f e (is_ready a d p) = cc
 failed_for P S b s f e (is_waiting p m) = cc
 failed_for P S b s f e (is_failed {f = g} n p d) =
     let same : g ≡ f = cc in
-    let plain : IsPlain (refused f) = goal_plain P S b (refused f) n (subst (λ h. Attempts P S (Some b) None (refused h)) same p) in
-    plain (λ w. d (same ∙ w))
+    subst IsBare same (goal_plain P S b (refused g) n p)
 failed_for P S b s f e (is_stream_goal n) = cc
 
--- of which the number tells them apart
-one_cause : (f g : Fault) → IsCause f → IsCause g → fault_number f ≡ fault_number g → f ≡ g
-one_cause f g (inl p) (inl q) e = p ∙ sym q
-one_cause f g (inl p) (inr (inl q)) e = absurd (let n : 10 ≡ 11 = sym (ap fault_number p) ∙ e ∙ ap fault_number q in omega (arith, n))
-one_cause f g (inl p) (inr (inr (inl q))) e = absurd (let n : 10 ≡ 12 = sym (ap fault_number p) ∙ e ∙ ap fault_number q in omega (arith, n))
-one_cause f g (inl p) (inr (inr (inr q))) e = absurd (let n : 10 ≡ 13 = sym (ap fault_number p) ∙ e ∙ ap fault_number q in omega (arith, n))
-one_cause f g (inr (inl p)) (inl q) e = absurd (let n : 11 ≡ 10 = sym (ap fault_number p) ∙ e ∙ ap fault_number q in omega (arith, n))
-one_cause f g (inr (inl p)) (inr (inl q)) e = p ∙ sym q
-one_cause f g (inr (inl p)) (inr (inr (inl q))) e = absurd (let n : 11 ≡ 12 = sym (ap fault_number p) ∙ e ∙ ap fault_number q in omega (arith, n))
-one_cause f g (inr (inl p)) (inr (inr (inr q))) e = absurd (let n : 11 ≡ 13 = sym (ap fault_number p) ∙ e ∙ ap fault_number q in omega (arith, n))
-one_cause f g (inr (inr (inl p))) (inl q) e = absurd (let n : 12 ≡ 10 = sym (ap fault_number p) ∙ e ∙ ap fault_number q in omega (arith, n))
-one_cause f g (inr (inr (inl p))) (inr (inl q)) e = absurd (let n : 12 ≡ 11 = sym (ap fault_number p) ∙ e ∙ ap fault_number q in omega (arith, n))
-one_cause f g (inr (inr (inl p))) (inr (inr (inl q))) e = p ∙ sym q
-one_cause f g (inr (inr (inl p))) (inr (inr (inr q))) e = absurd (let n : 12 ≡ 13 = sym (ap fault_number p) ∙ e ∙ ap fault_number q in omega (arith, n))
-one_cause f g (inr (inr (inr p))) (inl q) e = absurd (let n : 13 ≡ 10 = sym (ap fault_number p) ∙ e ∙ ap fault_number q in omega (arith, n))
-one_cause f g (inr (inr (inr p))) (inr (inl q)) e = absurd (let n : 13 ≡ 11 = sym (ap fault_number p) ∙ e ∙ ap fault_number q in omega (arith, n))
-one_cause f g (inr (inr (inr p))) (inr (inr (inl q))) e = absurd (let n : 13 ≡ 12 = sym (ap fault_number p) ∙ e ∙ ap fault_number q in omega (arith, n))
-one_cause f g (inr (inr (inr p))) (inr (inr (inr q))) e = p ∙ sym q
+-- the status of a goal that is stuck so
+abbrev status_from : Option Stuck → Status
+status_from None = ready
+status_from (Some (Waiting xs)) = waiting xs
+status_from (Some (Failed n)) = failed (fault_at n (0, (0, [])))
+
+back : (P : Program) (S : VarName → Option Tree) (b : Goal) (s : Status) → HasStatus P S b s → IsStuck s → status_from (stuck_of s) ≡ s
+back P S b ready h i = absurd i
+back P S b (waiting xs) h i = refl
+back P S b (failed f) h i = ap (λ t. failed (fault_at (fault_number f) t)) (sym (failed_for P S b (failed f) f refl h)) ∙ ap failed (fault_back f)
+back P S b streaming h i = absurd i
+
+-- what is stuck is stuck in some way
+pub some_stuck : (s : Status) → IsStuck s → None ≡ stuck_of s → ⊥
+some_stuck ready i e = i
+some_stuck (waiting xs) i e = cc
+some_stuck (failed f) i e = cc
+some_stuck streaming i e = i
+
+stuck_too : (s t : Status) → stuck_of s ≡ stuck_of t → IsStuck t → IsStuck s
+stuck_too ready t e i = some_stuck t i e
+stuck_too (waiting xs) t e i = tt
+stuck_too (failed f) t e i = tt
+stuck_too streaming t e i = some_stuck t i e
 
 -- statuses of goals that are stuck in one way are one
 pub stuck_once : (P Q : Program) (S T : VarName → Option Tree) (a b : Goal) (s t : Status) → HasStatus P S a s → HasStatus Q T b t → IsStuck t → stuck_of s ≡ stuck_of t → s ≡ t
-stuck_once P Q S T a b ready ready h k i e = refl
-stuck_once P Q S T a b ready (waiting ys) h k i e = cc
-stuck_once P Q S T a b ready (failed g) h k i e = cc
-stuck_once P Q S T a b ready streaming h k i e = absurd i
-stuck_once P Q S T a b (waiting xs) ready h k i e = absurd i
-stuck_once P Q S T a b (waiting xs) (waiting ys) h k i e = cc
-stuck_once P Q S T a b (waiting xs) (failed g) h k i e = cc
-stuck_once P Q S T a b (waiting xs) streaming h k i e = absurd i
-stuck_once P Q S T a b (failed f) ready h k i e = absurd i
-stuck_once P Q S T a b (failed f) (waiting ys) h k i e = cc
-stuck_once P Q S T a b (failed f) (failed g) h k i e =
-    let number : fault_number f ≡ fault_number g = cc in
-    ap failed (one_cause f g (failed_for P S a (failed f) f refl h) (failed_for Q T b (failed g) g refl k) number)
-stuck_once P Q S T a b (failed f) streaming h k i e = absurd i
-stuck_once P Q S T a b streaming ready h k i e = absurd i
-stuck_once P Q S T a b streaming (waiting ys) h k i e = cc
-stuck_once P Q S T a b streaming (failed g) h k i e = cc
-stuck_once P Q S T a b streaming streaming h k i e = absurd i
+stuck_once P Q S T a b s t h k i e = sym (back P S a s h (stuck_too s t e i)) ∙ ap status_from e ∙ back Q T b t k i

@@ -3,16 +3,21 @@ use Rattle.std.proofs.Common.{◌≡◌, ℕ, ◌+◌, ◌≤◌, true, false, c
 use Rattle.std.proofs.lemmas.Bool.{cases_eq}
 use Rattle.std.specs.Prelude.{◌↔◌, Option, Some, None, is_some, IsTrue, option_copied}
 use Rattle.std.specs.Borrow.{Bor}
+use Rattle.std.specs.List.{list_any}
+use Rattle.std.specs.Map.{keys_of}
 use Rattle.std.specs.Ordering.{eq_by_cmp}
 use Rattle.std.specs.FinMap as finite
+use Rattle.std.specs.FinMap.Entries.{is_some-find}
 use Rattle.ghc_term.specs.declared.goal_name.GoalName.{GoalName}
 use Rattle.ghc_term.specs.declared.var_name.VarName.{VarName}
 use Rattle.ghc_term.specs.Lists.{In}
 use Rattle.ghc_term.specs.Bindings.{name_cmp}
 use Rattle.ghc_term.specs.Tree.{Tree}
-use Rattle.ghc_term.proofs.Names.{name_total, same_name, itself}
+use Rattle.ghc_term.proofs.Names.{name_total}
+use Rattle.ghc_term.proofs.ListsLemmas.{not_both, in_map}
+use Rattle.ghc_term.proofs.SetsLemmas.{in_any, any_in}
 use Rattle.ghc_records.specs.Record.{Record}
-use Rattle.ghc_term.proofs.ListsLemmas.{not_both}
+use Rattle.ghc_records.proofs.Effects.{mapped}
 use Rattle.ghc_fire.specs.Goals.{goal_cmp}
 use Rattle.ghc_fire.proofs.GoalNames.{goal_total, same_goal, same_parts}
 use Rattle.ghc_hooks.specs.Notes.{NotesByGoal}
@@ -81,31 +86,17 @@ none_noted notes d e g before f = let clash : None ≡ Some before = sym (ap (λ
 abbrev pub LooksAtOneOf : NotesByGoal → List (VarName × Tree) → GoalName → Type 0
 LooksAtOneOf notes bs g = (b : VarName × Tree) × In b bs × HasLookedAt notes b.0 g
 
-binding_found : (es : List (VarName × Tree)) (x : VarName) → IsTrue (is_some (finite.find name_cmp x es)) → (b : VarName × Tree) × In b es × (b.0 ≡ x)
-binding_found [] x h = absurd (let clash : false ≡ true = h in cc)
-binding_found (b ∷ bs) x h = elim (eq_by_cmp name_cmp x b.0) as (λ t. eq_by_cmp name_cmp x b.0 ≡ t → IsTrue (is_some (cond t (Some b.1) (finite.find name_cmp x bs))) → (d : VarName × Tree) × In d (b ∷ bs) × (d.0 ≡ x)) [
-  | true ↦ λ t k. (b, inl refl, sym (same_name x b.0 t))
-  | false ↦ λ t k. let p = binding_found bs x k in (p.0, inr p.1, p.2)
-] refl h
-
-found_binding : (es : List (VarName × Tree)) (b : VarName × Tree) → In b es → IsTrue (is_some (finite.find name_cmp b.0 es))
-found_binding [] b i = absurd i
-found_binding (d ∷ es) b (inl e) = ap (λ t. is_some (cond t (Some d.1) (finite.find name_cmp b.0 es))) (sym (ap (λ z. eq_by_cmp name_cmp b.0 z.0) e) ∙ itself b.0)
-found_binding (d ∷ es) b (inr i) = elim (eq_by_cmp name_cmp b.0 d.0) as (λ t. IsTrue (is_some (cond t (Some d.1) (finite.find name_cmp b.0 es)))) [
-  | true ↦ refl
-  | false ↦ found_binding es b i
-]
+-- a variable has a value in a map where it is among the keys
+is_key : (es : List (VarName × Tree)) (x : VarName) → finite.contains_key (finite.from_entries {R = name_cmp} es) x ≡ list_any (eq_by_cmp name_cmp x) (keys_of es)
+is_key es x = ap is_some (finite.get-from_entries name_total es x) ∙ is_some-find name_cmp x es
 
 -- all that look at one of the bindings of a step look where it binds
 pub looks_where_bound : (notes : NotesByGoal) (r : Record) (es : List (VarName × Tree)) → finite.from_entries es ≡ r.effect.binds → (g : GoalName) → LooksAtOneOf notes es g ↔ LooksWhereBound notes r g
 looks_where_bound notes r es e g = (
-  λ l.
-      let bound : IsTrue (finite.contains_key r.effect.binds l.0.0) = ap (λ m. is_some (finite.get m l.0.0)) (sym e) ∙ ap is_some (finite.get-from_entries name_total es l.0.0) ∙ found_binding es l.0 l.1 in
-      (l.0.0, bound, l.2),
+  λ l. (l.0.0, ap (λ m. finite.contains_key m l.0.0) (sym e) ∙ is_key es l.0.0 ∙ in_any l.0.0 (keys_of es) (in_map (λ (b : VarName × Tree). b.0) es l.0 l.1), l.2),
   λ w.
-      let there : IsTrue (is_some (finite.find name_cmp w.0 es)) = ap is_some (sym (finite.get-from_entries name_total es w.0)) ∙ ap (λ m. is_some (finite.get m w.0)) e ∙ w.1 in
-      let b = binding_found es w.0 there in
-      (b.0, b.1, subst (λ z. HasLookedAt notes z g) (sym b.2) w.2),
+      let b = mapped (λ (b : VarName × Tree). b.0) es w.0 (any_in w.0 (keys_of es) (sym (is_key es w.0) ∙ ap (λ m. finite.contains_key m w.0) e ∙ w.1)) in
+      (b.0, b.1, subst (λ z. HasLookedAt notes z g) b.2 w.2),
 )
 
 -- a place up to the next is one up to here, or the next

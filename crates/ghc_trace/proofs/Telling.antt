@@ -40,7 +40,7 @@ use Rattle.ghc_trace.proofs.Changed.{changed_from}
 use Rattle.ghc_trace.specs.Disturbed.{stuck_of, stuck_by, Disturbed, IsOneOf, AreDisturbed, WaitsWhereBound, AreResumedBy, IsStuckOtherwise, AreStuckOtherwise, status_by}
 use Rattle.ghc_trace.specs.declared.stuck.Stuck.{Stuck}
 use Rattle.ghc_trace.specs.declared.stuck.Stuck.TheVariants.{Waiting}
-use Rattle.ghc_trace.proofs.Causes.{stuck_once}
+use Rattle.ghc_trace.proofs.Causes.{some_stuck, stuck_once}
 
 -- a value that is found, or nothing
 found : {X : Type 0} (o : Option X) → ((x : X) × (o ≡ Some x)) ⊎ (o ≡ None)
@@ -61,16 +61,12 @@ no_stream_stuck P S b s c h i = elim (is_stream b) as (λ t. is_stream b ≡ t �
 
 -- Notes that fit the goals and the store, with nothing untried.
 pub record Settled (P : Program) (G : Goals) (store : StoreValue) (notes : NotesByGoal) : Type 0 where
-  pub untried : GoalNames
-  pub exact : AreExact P G store notes untried
-  pub none : untried ≡ set.empty
+  pub exact : AreExact P G store notes set.empty
   pub acyclic : IsAcyclic (value_at store)
 
 module _ (P : Program) (G : Goals) (store : StoreValue) (notes : NotesByGoal) (settled : Settled P G store notes) where
   none_untried : (g : GoalName) → ¬ IsUntried G notes g
-  none_untried g u =
-      let marked : IsTrue (set.contains settled.untried g) = (settled.exact.marked g).1 u in
-      not_both (set.contains settled.untried g) (ap (λ s. set.contains s g) settled.none ∙ set.contains-empty goal_cmp g) marked
+  none_untried g u = not_both (set.contains set.empty g) (set.contains-empty goal_cmp g) ((settled.exact.marked g).1 u)
 
   -- a note is the status
   note_stands : (g : GoalName) (note : Note) → finite.get notes g ≡ Some note → StandsAs P G store g note.status
@@ -158,10 +154,7 @@ module _ (P : Program) (G H : Goals) (store after : StoreValue) (old mid new : N
 
   -- a goal that was stuck so, by its note
   was_stuck : (o : Option Note) (s : Status) → IsStuck s → stuck_by o ≡ stuck_of s → (note : Note) × (o ≡ Some note) × (stuck_of note.status ≡ stuck_of s)
-  was_stuck None ready i e = absurd i
-  was_stuck None (waiting xs) i e = absurd (some_none (sym e))
-  was_stuck None (failed f) i e = absurd (some_none (sym e))
-  was_stuck None streaming i e = absurd i
+  was_stuck None s i e = absurd (some_stuck s i e)
   was_stuck (Some note) s i e = (note, refl, e)
 
   -- the news told are those of the change
@@ -201,7 +194,7 @@ undo_opening (by.Undoes.fails f) = refl
 undo_opening (by.Undoes.no_memory m) = refl
 
 settled_in : {w : World} {notes : NotesByGoal} → IsSettled w notes → Settled w.opening.program w.state.goals w.state.store notes
-settled_in s = record { untried = s.untried; exact = s.exact; none = s.none; acyclic = (reached_good s.standing).acyclic }
+settled_in s = record { exact = s.exact; acyclic = (reached_good s.standing).acyclic }
 
 pub ports_told : NotesTellPorts
 ports_told w change notes d names settled disturbed named =

@@ -6,7 +6,6 @@ use Rattle.ghc_term.specs.declared.goal_name.GoalName.{GoalName}
 use Rattle.ghc_records.specs.Record.{Record}
 use Rattle.ghc_records.specs.Replay.{MakesGoal}
 use Rattle.ghc_depend.specs.Depend.{Binds}
-use Rattle.ghc_hooks.specs.Face.{GoalNames}
 use Rattle.ghc_hooks.specs.Notes.{Note, NotesByGoal, AreExact, AreLeft}
 use Rattle.ghc_core.specs.World.{World}
 use Rattle.ghc_core.specs.Core.{IsStanding}
@@ -20,9 +19,7 @@ use Rattle.ghc_trace.specs.Disturbed.{Disturbed, AreDisturbed, AreResumedBy, Are
 -- The world stands, each note is what a trial from scratch says there, and no goal is untried.
 pub record IsSettled (w : World) (notes : NotesByGoal) : Type 0 where
   pub standing : IsStanding w
-  pub untried : GoalNames
-  pub exact : AreExact w.opening.program w.state.goals w.state.store notes untried
-  pub none : untried ≡ set.empty
+  pub exact : AreExact w.opening.program w.state.goals w.state.store notes set.empty
 
 -- the step that a change adds or takes away
 abbrev pub step_in : Change → Record

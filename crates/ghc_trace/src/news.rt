@@ -14,10 +14,11 @@ ghost use Rattle.ghc_trace.specs.Disturbed.{WaitsWhereBound, AreResumedBy, IsStu
 ghost use Rattle.ghc_trace.specs.NewsCode.{AddsResumed, AddsNews};
 
 use crate::disturbed::Disturbed;
+use crate::port::{Port, push_port};
 use crate::status_text::write_news;
 use crate::stuck::{Stuck, stands_so};
 use ghc_hooks::{Tries, Verdict};
-use ghc_records::{Record, push_goal_name};
+use ghc_records::Record;
 use ghc_term::{Bindings, GoalName, Variables, end_of, or_cut_back};
 use std::alloc::AllocError;
 use std::collections::BTreeMap;
@@ -49,8 +50,7 @@ fn write_resumed(goal: GoalName, out: &mut String) -> Result<(), AllocError>
     ensures text { OnOk result (string_bytes out.new ≡ string_bytes out.old ++ ports_text (resumed goal ∷ [])) }
     ensures begun { StartsWith (string_bytes out.new) (string_bytes out.old) }
 {
-    out.push_str("RESU ")?;
-    push_goal_name(goal, out)?;
+    push_port(&Port::Resumed(goal), out)?;
     out.push_str("\n")
 }
 
@@ -71,7 +71,8 @@ fn write_each_resumed(
     Ok(())
 }
 
-// The verdict of a goal that was stuck so, if it was, where it is stuck otherwise by its note.
+// The verdict of the goal by its note, where the goal is stuck and was not stuck so before: a look-up, and two for each variable
+// for which it waits.
 fn news_of<'a>(tries: &'a Tries, goal: GoalName, before: &Option<Stuck>) -> Option<&'a Verdict>
     ensures some { IfSome result (λ v. IsStuckOtherwise before.now (finite.get tries.now.notes goal)) }
     ensures status { IfSome result (λ v. status_of v.now ≡ status_by (finite.get tries.now.notes goal)) }
