@@ -20,7 +20,7 @@ use Rattle.ghc_fire.specs.Goals.{goal_cmp, Goals}
 use Rattle.ghc_records.specs.Record.{Record}
 use Rattle.ghc_depend.specs.Depend.{Binds}
 use Rattle.ghc_hooks.specs.Status.{Status, ready, waiting, failed, streaming, HasStatus, is_stream_goal}
-use Rattle.ghc_hooks.specs.Face.{GoalNames, StandsAs, IsHookedOn}
+use Rattle.ghc_hooks.specs.Face.{StandsAs, IsHookedOn}
 use Rattle.ghc_hooks.specs.Notes.{Note, NotesByGoal, AreExact, AreLeft, IsUntried}
 use Rattle.ghc_hooks.specs.Verdict.{awaits}
 use Rattle.ghc_hooks.proofs.Statuses.{status_once}
