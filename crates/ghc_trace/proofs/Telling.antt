@@ -59,15 +59,16 @@ no_stream_stuck P S b s c h i = elim (is_stream b) as (λ t. is_stream b ≡ t �
   | false ↦ λ e. refl
 ] refl
 
+-- where the set of untried goals is empty, no goal is untried
+pub none_untried : {P : Program} {G : Goals} {store : StoreValue} {notes : NotesByGoal} → AreExact P G store notes set.empty → (g : GoalName) → ¬ IsUntried G notes g
+none_untried exact g u = not_both (set.contains set.empty g) (set.contains-empty goal_cmp g) ((exact.marked g).1 u)
+
 -- Notes that fit the goals and the store, with nothing untried.
 pub record Settled (P : Program) (G : Goals) (store : StoreValue) (notes : NotesByGoal) : Type 0 where
   pub exact : AreExact P G store notes set.empty
   pub acyclic : IsAcyclic (value_at store)
 
 module _ (P : Program) (G : Goals) (store : StoreValue) (notes : NotesByGoal) (settled : Settled P G store notes) where
-  none_untried : (g : GoalName) → ¬ IsUntried G notes g
-  none_untried g u = not_both (set.contains set.empty g) (set.contains-empty goal_cmp g) ((settled.exact.marked g).1 u)
-
   -- a note is the status
   note_stands : (g : GoalName) (note : Note) → finite.get notes g ≡ Some note → StandsAs P G store g note.status
   note_stands g note e = let n = settled.exact.noted g note e in (n.0, n.1, n.3.0)
@@ -79,7 +80,7 @@ module _ (P : Program) (G : Goals) (store : StoreValue) (notes : NotesByGoal) (s
         let k = settled.exact.noted g n.0 n.1 in
         let same : k.0 ≡ st.0 = some_once (sym k.1 ∙ st.1) in
         (n.0, n.1, status_once P (value_at store) st.0 n.0.status s settled.acyclic (subst (λ b. HasStatus P (value_at store) b n.0.status) same k.3.0) st.2)
-    | inr e ↦ absurd (none_untried g (st.0, st.1, no_stream_stuck P (value_at store) st.0 s settled.acyclic st.2 i, e))
+    | inr e ↦ absurd (none_untried settled.exact g (st.0, st.1, no_stream_stuck P (value_at store) st.0 s settled.acyclic st.2 i, e))
   ]
 
   module _ (r : Record) (Brought : GoalName → Type 0) (d : Disturbed) (disturbed : AreDisturbed notes r Brought d) where
@@ -143,7 +144,7 @@ module _ (P : Program) (G H : Goals) (store after : StoreValue) (old mid new : N
           absurd (new_status (subst (StandsAs P G store g) (ap (λ z. z.status) same ∙ now.2) (note_stands P G store old before g n.0 n.1)))
     ]
     | inr e ↦ elim (from g st.0 st.1) [
-      | inl there ↦ absurd (none_untried P G store old before g (st.0, there, no_stream_stuck P (value_at after) st.0 s behind.acyclic st.2 i, e))
+      | inl there ↦ absurd (none_untried before.exact g (st.0, there, no_stream_stuck P (value_at after) st.0 s behind.acyclic st.2 i, e))
       | inr b ↦ (disturbed.members g).1 (inr b)
     ]
   ]

@@ -98,8 +98,9 @@ impl Disturbed {
         Ok(())
     }
 
-    /// The goals that the step disturbs as it is taken: those whose notes looked at what it binds, and those that it makes. A
-    /// look-up for each, and a copy of the variables for which each waits.
+    /// The goals that the step disturbs as it is taken: those whose notes looked at what it binds, and those that it makes. For
+    /// each goal made, and each variable bound with each goal that looked at it: a look-up, and a copy of the variables for which
+    /// the goal waits.
     pub fn by_taking(alloc: Global, tries: &Tries, step: &Record) -> Result<Disturbed, AllocError>
         ensures { IfOk result (λ d. AreDisturbed tries.now.notes step.now (MakesGoal step.now) d) }
     {
@@ -110,7 +111,8 @@ impl Disturbed {
     }
 
     /// The goals that the step disturbs as it is taken away: those whose notes looked at what it bound, and the one that it
-    /// consumed. A look-up for each, and a copy of the variables for which each waits.
+    /// consumed. For this one, and each variable bound with each goal that looked at it: a look-up, and a copy of the variables
+    /// for which the goal waits.
     pub fn by_taking_back(
         alloc: Global,
         tries: &Tries,
