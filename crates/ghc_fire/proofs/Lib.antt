@@ -5,6 +5,7 @@ pub mod Origins
 pub mod EachEffect
 pub mod EachAnswer
 pub mod Ordered
+pub mod Gathering
 pub mod GoalNames
 pub mod Rebuilding
 pub mod Walked

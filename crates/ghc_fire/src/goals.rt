@@ -1,9 +1,10 @@
 // The goals of a state.
-ghost use Rattle.std.specs.Prelude.{◌≡◌, ◌<◌, ◌≤◌, ◌+◌, OnOk};
+ghost use Rattle.std.specs.Prelude.{◌≡◌, ◌<◌, ◌≤◌, ◌+◌, map, IfOk, OnOk};
 
 use ghc_term::{Goal, GoalName};
 use indexmap::IndexMap;
 use std::alloc::{AllocError, Global};
+use std::collections::BTreeMap;
 use std::marker::Model;
 
 /// The goals of a state by their names.
@@ -51,6 +52,19 @@ impl Goals {
         ensures { option_copied result ≡ finite.get self.now.held name }
     {
         self.map.get(&name)
+    }
+
+    /// The goals with their names, by step, then place. Each is put in its place in the order, and no goal is copied.
+    pub fn by_name(&self, alloc: Global) -> Result<BTreeMap<GoalName, &Goal>, AllocError>
+        ensures { IfOk result (λ goals. map (λ e. (e.0, e.1.now)) goals.entries ≡ finite.entries self.now.held) }
+    {
+        let mut goals = BTreeMap::new(alloc);
+        // Of two of one name the first would count, so it is put last.
+        for (name, goal) in self.map.iter().rev() {
+            goals.insert(*name, goal)?;
+        }
+        let _count = goals.len();
+        Ok(goals)
     }
 
     /// Makes room for as many more goals. The goals stay, and so does the room where memory is refused.
