@@ -26,6 +26,11 @@ use Rattle.ghc_flat.specs.contracts.test.Test as test
 use Rattle.ghc_flat.specs.contracts.clause.Clause as clause
 use Rattle.ghc_flat.specs.contracts.program.Program as program
 use Rattle.ghc_reader.specs.contracts.written.Query as query
+use Rattle.ghc_hooks.specs.contracts.note.Note as note
+use Rattle.ghc_hooks.specs.contracts.notes.Notes as notes
+use Rattle.ghc_hooks.specs.contracts.goal_set.GoalSet as goal_set
+use Rattle.ghc_hooks.specs.contracts.looks.Looks as looks
+use Rattle.ghc_hooks.specs.contracts.tries.Tries as tries
 use Rattle.ghc_core.specs.contracts.core_state.Core as core
 
 term_send : IsSend term.the_row
@@ -142,8 +147,38 @@ query_send = search (goal_send, crosses, sendable) depth 60 fits 20000
 query_sync : IsSync query.the_row
 query_sync = search (goal_sync, crosses, sendable) depth 60 fits 20000
 
+note_send : IsSend note.the_row
+note_send = search (variables_send, crosses, sendable) depth 60 fits 20000
+
+note_sync : IsSync note.the_row
+note_sync = search (variables_sync, crosses, sendable) depth 60 fits 20000
+
+notes_send : IsSend notes.the_row
+notes_send = search (note_send, maps.crosses, crosses, sendable) depth 60 fits 20000
+
+notes_sync : IsSync notes.the_row
+notes_sync = search (note_sync, maps.crosses, crosses, sendable) depth 60 fits 20000
+
+goal_set_send : IsSend goal_set.the_row
+goal_set_send = search (goal_name.the_send, maps.crosses, crosses, sendable) depth 60 fits 20000
+
+goal_set_sync : IsSync goal_set.the_row
+goal_set_sync = search (goal_name.the_sync, maps.crosses, crosses, sendable) depth 60 fits 20000
+
+looks_send : IsSend looks.the_row
+looks_send = search (goal_set_send, maps.crosses, crosses, sendable) depth 60 fits 20000
+
+looks_sync : IsSync looks.the_row
+looks_sync = search (goal_set_sync, maps.crosses, crosses, sendable) depth 60 fits 20000
+
+tries_send : IsSend tries.the_row
+tries_send = search (notes_send, goal_set_send, looks_send, crosses, sendable) depth 60 fits 20000
+
+tries_sync : IsSync tries.the_row
+tries_sync = search (notes_sync, goal_set_sync, looks_sync, crosses, sendable) depth 60 fits 20000
+
 pub core_send : IsSend core.the_row
-core_send = search (program_send, query_send, state_send, records_send, shelf_send, journal_send, crosses, sendable) depth 60 fits 20000
+core_send = search (program_send, query_send, state_send, records_send, shelf_send, journal_send, tries_send, crosses, sendable) depth 60 fits 20000
 
 pub core_sync : IsSync core.the_row
-core_sync = search (program_sync, query_sync, state_sync, records_sync, shelf_sync, journal_sync, crosses, sendable) depth 60 fits 20000
+core_sync = search (program_sync, query_sync, state_sync, records_sync, shelf_sync, journal_sync, tries_sync, crosses, sendable) depth 60 fits 20000

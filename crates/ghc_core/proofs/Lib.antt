@@ -17,3 +17,5 @@ pub mod Preparing
 pub mod TakenAway
 pub mod Crosses
 pub mod Histories
+pub mod Carried
+pub mod Exactness

@@ -6,6 +6,8 @@ use Rattle.ghc_fire.specs.Proposal.{Proposal, under}
 use Rattle.ghc_fire.specs.declared.meter.Meter.{Meter}
 use Rattle.ghc_records.specs.Record.{Record}
 use Rattle.ghc_records.specs.State.{StateRoom}
+use Rattle.ghc_hooks.specs.Face.{GoalNames}
+use Rattle.ghc_hooks.specs.Notes.{NotesByGoal, AreExact}
 use Rattle.ghc_core.specs.World.{no_hands, World, with_step}
 use Rattle.ghc_core.specs.Proposes.{IsCommitOf}
 use Rattle.ghc_core.specs.Legal.{IsReachable}
@@ -16,16 +18,28 @@ pub record Room : Type 0 where
   pub kept : ℕ
   pub shelf : ℕ
   pub journal : ℕ
+  pub tries : ℕ
 
--- A core is the world that it is in, the counts of what it fired and tried, and its room, which no other clause speaks of.
+-- A core is the world that it is in, the noted outcomes of its goals, the goals that are untried, the counts of what it fired and tried, and its room, which no other clause speaks of.
 pub record Core : Type 0 where
   pub world : World
+  pub notes : NotesByGoal
+  pub untried : GoalNames
   pub meter : Meter
   pub room : Room
 
 -- The world is one that a core can be in: events reach it.
 abbrev pub IsStanding : World → Type 0
 IsStanding w = IsReachable w no_hands
+
+-- In the world, each noted outcome is the one from scratch, and the untried goals are those without a note.
+abbrev pub AreExactIn : World → NotesByGoal → GoalNames → Type 0
+AreExactIn w notes untried = AreExact w.opening.program w.state.goals w.state.store notes untried
+
+-- What holds in each core: its world is one that a core can be in, and its notes and untried goals are exact there.
+pub record IsConsistent (w : World) (notes : NotesByGoal) (untried : GoalNames) : Type 0 where
+  pub standing : IsStanding w
+  pub exact : AreExactIn w notes untried
 
 -- A commit of the proposal in the world w takes step n, which leaves the world v.
 abbrev pub IsCommitted : World → Proposal → World → ℕ → Type 0

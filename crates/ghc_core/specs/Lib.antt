@@ -12,4 +12,6 @@ pub mod Facts
 pub mod Load
 pub mod Core
 pub mod CoreCode
+pub mod Carried
+pub mod Settling
 pub mod Change

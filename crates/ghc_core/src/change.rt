@@ -1,6 +1,7 @@
 // Changes of a core: each is found, given room, and applied.
 ghost use Rattle.std.specs.Prelude.{◌≡◌, OnOk};
 ghost use Rattle.ghc_term.specs.Lists.{In};
+ghost use Rattle.ghc_hooks.specs.Notes.{AreLeft};
 ghost use Rattle.ghc_fire.specs.Proposal.{Proposal as proposal_spec};
 ghost use Rattle.ghc_records.specs.Record.{Record as record_spec};
 ghost use Rattle.ghc_depend.specs.Kept.{IsWithout};
@@ -8,8 +9,9 @@ ghost use Rattle.ghc_core.specs.declared.change.Change.TheVariants.{Adds as adds
 ghost use Rattle.ghc_core.specs.World.{with_step};
 ghost use Rattle.ghc_core.specs.Core.{IsStanding};
 ghost use Rattle.ghc_core.specs.Proposes.{IsCommitOf};
-ghost use Rattle.ghc_core.specs.Change.{CanChange, HasRoomFor, Changes};
+ghost use Rattle.ghc_core.specs.Change.{CanChange, HasRoomFor, Changes, IsBoundBy};
 
+use crate::carrying::{carry_back, carry_over};
 use crate::core_state::Core;
 use ghc_records::{Addition, Entry, Records, Removal};
 use std::alloc::AllocError;
@@ -31,26 +33,49 @@ fn strike(records: &mut Records, number: u32)
 }
 
 impl Core {
+    // Makes room to take the step.
+    fn reserve_to_add(&mut self, addition: &Addition) -> Result<(), AllocError>
+        ensures room { OnOk result (HasRoomFor self.new.room (adds addition.now)) }
+        ensures world { self.new.world ≡ self.old.world }
+        ensures notes { self.new.notes ≡ self.old.notes }
+        ensures untried { self.new.untried ≡ self.old.untried }
+        ensures meter { self.new.meter ≡ self.old.meter }
+    {
+        let effect = addition.step().effect();
+        let goals = effect.makes().len();
+        self.state.reserve(goals, effect.binds().len())?;
+        self.tries.reserve(goals)?;
+        self.journal.reserve(1)?;
+        self.records.reserve(1)
+    }
+
+    // Makes room to take a step away.
+    fn reserve_to_take_away(&mut self, removal: &Removal) -> Result<(), AllocError>
+        ensures room { OnOk result (HasRoomFor self.new.room (takes_away removal.now)) }
+        ensures world { self.new.world ≡ self.old.world }
+        ensures notes { self.new.notes ≡ self.old.notes }
+        ensures untried { self.new.untried ≡ self.old.untried }
+        ensures meter { self.new.meter ≡ self.old.meter }
+    {
+        self.state.reserve(1, 0)?;
+        self.tries.reserve(1)?;
+        self.shelf.reserve(1)?;
+        self.journal.reserve(1)
+    }
+
     /// Makes room for the change. The core stays as it is, also where memory is refused. It costs nothing where there is room; a
     /// table that is full moves to one of about twice its size.
     pub fn reserve(&mut self, change: &Change) -> Result<(), AllocError>
         ensures room { OnOk result (HasRoomFor self.new.room change.now) }
         ensures world { self.new.world ≡ self.old.world }
+        ensures notes { self.new.notes ≡ self.old.notes }
+        ensures untried { self.new.untried ≡ self.old.untried }
         ensures meter { self.new.meter ≡ self.old.meter }
     {
         match change {
-            Change::Adds(addition) => {
-                let effect = addition.step().effect();
-                let bindings = effect.binds().len();
-                self.state.reserve(effect.makes().len(), bindings)?;
-                self.records.reserve(1)?;
-            }
-            Change::TakesAway(_) => {
-                self.state.reserve(1, 0)?;
-                self.shelf.reserve(1)?;
-            }
+            Change::Adds(addition) => self.reserve_to_add(addition),
+            Change::TakesAway(removal) => self.reserve_to_take_away(removal),
         }
-        self.journal.reserve(1)
     }
 
     // Takes a step: one look-up for each of its goals and bindings.
@@ -58,9 +83,11 @@ impl Core {
         requires found { (p : proposal_spec) × IsCommitOf self.old.world p addition }
         requires room { HasRoomFor self.old.room (adds addition) }
         ensures world { self.new.world ≡ with_step addition self.old.world }
+        ensures notes { AreLeft self.new.world.state.goals (IsBoundBy (adds addition)) self.old.notes self.new.notes }
         ensures meter { self.new.meter ≡ self.old.meter }
     {
         let (step, entry) = self.state.take(addition);
+        carry_over(&mut self.tries, &step);
         self.records.put(step);
         self.journal.put(entry);
         self.next += 1;
@@ -71,20 +98,25 @@ impl Core {
         requires found { CanChange self.old.world (takes_away removal) }
         requires room { HasRoomFor self.old.room (takes_away removal) }
         ensures changed { Changes self.old.world (takes_away removal) self.new.world }
+        ensures notes { AreLeft self.new.world.state.goals (IsBoundBy (takes_away removal)) self.old.notes self.new.notes }
         ensures meter { self.new.meter ≡ self.old.meter }
     {
         let step = self.state.take_back(removal);
+        carry_back(&mut self.tries, &step);
         strike(&mut self.records, step.number());
         self.journal.put(Entry::Undid(step.number()));
         self.shelf.put(step);
     }
 
-    /// Makes a change that was found in this state, where there is room for it. It takes no memory, and cannot fail. To take a
-    /// step costs a look-up for each of its goals and bindings; to take one away, a move of each record behind it as well.
+    /// Makes a change that was found in this state, where there is room for it: a note stays just where its goal is still there
+    /// and did not look at what the step binds, and nothing is tried. It takes no memory, and cannot fail. To take a step costs a
+    /// look-up for each of its goals and bindings, and some for each goal that looked at what it binds; to take one away, a move
+    /// of each record behind it as well.
     pub fn apply(&mut self, change: Change)
         requires found { CanChange self.old.world change }
         requires room { HasRoomFor self.old.room change }
         ensures changed { Changes self.old.world change self.new.world }
+        ensures notes { AreLeft self.new.world.state.goals (IsBoundBy change) self.old.notes self.new.notes }
         ensures meter { self.new.meter ≡ self.old.meter }
         ensures standing { IsStanding self.new.world }
     {

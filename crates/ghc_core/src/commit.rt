@@ -1,13 +1,17 @@
 // Steps of a core: proposals, the steps that they would take, and taking them.
-ghost use Rattle.std.specs.Prelude.{◌≡◌, ◌⊎◌, true, false, Some, None, Err, IfOk, IfErr, OnErr};
+ghost use Rattle.std.specs.Prelude.{◌≡◌, ◌⊎◌, true, false, Some, None, Err, IfOk, IfErr, OnOk, OnErr};
 ghost use Rattle.std.specs.FinMap as finite;
 ghost use Rattle.ghc_term.specs.Answered.{Answered};
 ghost use Rattle.ghc_fire.specs.Attempt.{refused};
 ghost use Rattle.ghc_fire.specs.Meter.{fired};
 ghost use Rattle.ghc_fire.specs.Proposal.{under};
+ghost use Rattle.ghc_hooks.specs.Notes.{AreLeft};
+ghost use Rattle.ghc_records.specs.Record.{Record as record_spec};
 ghost use Rattle.ghc_records.specs.Laws.{IsWellMade};
 ghost use Rattle.ghc_core.specs.World.{IsReplay, IsFull, HasRoom};
 ghost use Rattle.ghc_core.specs.Core.{IsCommitted, record_as, next_record};
+ghost use Rattle.ghc_core.specs.declared.change.Change.TheVariants.{Adds as adds};
+ghost use Rattle.ghc_core.specs.Change.{IsBoundBy};
 ghost use Rattle.ghc_core.specs.Proposes.{AttemptAnswers, IsProposedIn, IsProposedAsNext, IsCommitOf, CommitFails};
 
 use crate::change::Change;
@@ -83,6 +87,8 @@ impl Core {
         ensures no_goal { AttemptAnswers self.old.world goal choice (refused Fault.NoGoal) → result ≡ Err Fault.NoGoal }
         ensures no_clause { AttemptAnswers self.old.world goal choice (refused Fault.NoClause) → result ≡ Err Fault.NoClause }
         ensures world { self.new.world ≡ self.old.world }
+        ensures notes { self.new.notes ≡ self.old.notes }
+        ensures untried { self.new.untried ≡ self.old.untried }
         ensures counted { self.new.meter ≡ fired self.old.meter }
     {
         attempt(
@@ -107,6 +113,8 @@ impl Core {
         ensures no_goal { AttemptAnswers self.old.world goal choice (refused Fault.NoGoal) → result ≡ Err Fault.NoGoal }
         ensures no_clause { AttemptAnswers self.old.world goal choice (refused Fault.NoClause) → result ≡ Err Fault.NoClause }
         ensures world { self.new.world ≡ self.old.world }
+        ensures notes { self.new.notes ≡ self.old.notes }
+        ensures untried { self.new.untried ≡ self.old.untried }
         ensures counted { self.new.meter ≡ fired self.old.meter }
     {
         attempt_as(
@@ -168,6 +176,8 @@ impl Core {
         // No want of memory hides that the goal is not there any more.
         ensures gone { finite.get self.old.world.state.goals proposal.now.goal ≡ None → result ≡ Err Fault.Stale }
         ensures world { self.new.world ≡ self.old.world }
+        ensures notes { self.new.notes ≡ self.old.notes }
+        ensures untried { self.new.untried ≡ self.old.untried }
         ensures counted { self.new.meter ≡ fired self.old.meter }
     {
         self.stands();
@@ -178,15 +188,21 @@ impl Core {
     }
 
     /// Takes the step that was proposed, under the next number, and gives that number: what it binds is in the store, the goals
-    /// that it makes are there, the goal that it consumes is gone, and the record and the journal have it. The refusals are
-    /// those of `prepare`. A refused commit changes nothing but the meter. It costs what preparing and applying the step cost.
+    /// that it makes are there, the goal that it consumes is gone, and the record and the journal have it. The goals that it makes
+    /// are untried, and so are those that looked at what it binds. The refusals are those of `prepare`. A refused commit changes
+    /// nothing but the meter. It costs what preparing and applying the step cost.
     pub fn commit(&mut self, alloc: Global, proposal: &Proposal) -> Result<u32, Fault>
         ensures answer { Answered (IsCommitted self.old.world proposal.now self.new.world) (CommitFails self.old.world proposal.now) result }
 
         // No want of memory hides that the goal is not there any more.
         ensures gone { finite.get self.old.world.state.goals proposal.now.goal ≡ None → result ≡ Err Fault.Stale }
         ensures err { OnErr result (self.new.world ≡ self.old.world) }
+        ensures notes_stay { OnErr result (self.new.notes ≡ self.old.notes) }
+        ensures untried_stay { OnErr result (self.new.untried ≡ self.old.untried) }
         ensures counted { self.new.meter ≡ fired self.old.meter }
+
+        // A note stays just where its goal is still there and did not look at what the step binds.
+        ensures notes { OnOk result ((r : record_spec) × IsCommitOf self.old.world proposal.now r × AreLeft self.new.world.state.goals (IsBoundBy (adds r)) self.old.notes self.new.notes) }
 
         // Goals and store are the replay of the record, and their variables are the query's or made by its steps.
         ensures replay { IsReplay self.new.world self.new.world.kept self.new.world.state }

@@ -4,15 +4,18 @@ ghost use Rattle.ghc_core.specs.World.{World};
 ghost use Rattle.ghc_core.specs.Core.{IsCommitted};
 ghost use Rattle.ghc_core.specs.Proposes.{AttemptAnswers, IsCommitOf, CommitFails};
 
-use ghc_fire::{Goals, Meter, Proposal, attempt};
+use crate::carrying::mark_made;
+use ghc_fire::Meter;
 use ghc_flat::Program;
+use ghc_hooks::Tries;
 use ghc_reader::Query;
 use ghc_records::{Journal, Records, Shelf, State};
 use ghc_term::{Fault, GoalName, Store};
 use std::alloc::{AllocError, Global};
 use std::marker::Model;
 
-/// A core: in each state of its run, goals and store are the replay of the steps that it keeps.
+/// A core: in each state of its run, goals and store are the replay of the steps that it keeps, each noted outcome of a goal is
+/// the one from scratch, and each goal without one, but for stream goals, is marked untried.
 pub struct Core {
     pub(crate) program: Program,
     pub(crate) query: Query,
@@ -22,6 +25,7 @@ pub struct Core {
     pub(crate) next: u32,
     pub(crate) journal: Journal,
     pub(crate) meter: Meter,
+    pub(crate) tries: Tries,
 }
 
 impl Drop for Core {
@@ -35,13 +39,14 @@ impl Drop for Core {
             next: _next,
             journal: _journal,
             meter: _meter,
+            tries: _tries,
         } = self;
     }
 }
 
 impl Model for Core {
     ghost use Rattle.ghc_records.specs.Journal.{fresh_opening};
-    ghost use Rattle.ghc_core.specs.Core.{Core, IsStanding};
+    ghost use Rattle.ghc_core.specs.Core.{Core, IsConsistent};
     ghost use Rattle.ghc_core.specs.CoreCode.{core_code};
 
     ghost Value = { Core };
@@ -50,27 +55,36 @@ impl Model for Core {
 
     ghost view = { λ c. record {
       world = record { opening = fresh_opening c.program c.query.goals c.query.variables; state = c.state.held; kept = c.records.held; shelf = c.shelf.held; next = c.next; journal = c.journal.held };
+      notes = c.tries.notes;
+      untried = c.tries.untried;
       meter = c.meter;
-      room = record { state = c.state.room; kept = c.records.room; shelf = c.shelf.room; journal = c.journal.room };
+      room = record { state = c.state.room; kept = c.records.room; shelf = c.shelf.room; journal = c.journal.room; tries = c.tries.room };
     } };
 
-    ghost invariant = { λ c. IsStanding (record { opening = fresh_opening c.program c.query.goals c.query.variables; state = c.state.held; kept = c.records.held; shelf = c.shelf.held; next = c.next; journal = c.journal.held }) };
+    ghost invariant = { λ c. IsConsistent (record { opening = fresh_opening c.program c.query.goals c.query.variables; state = c.state.held; kept = c.records.held; shelf = c.shelf.held; next = c.next; journal = c.journal.held }) c.tries.notes c.tries.untried };
 }
 
 impl Core {
     ghost use Rattle.ghc_flat.specs.Flat.{IsQuery};
     ghost use Rattle.ghc_records.specs.Journal.{fresh_opening};
+    ghost use Rattle.std.specs.FinMap as finite;
     ghost use Rattle.ghc_core.specs.World.{Opens};
 
-    /// The core of a query before any step. It costs a look-up for each goal of the query.
+    /// The core of a query before any step: no goal is noted, and each is untried but for stream goals. It costs a look-up or two
+    /// for each goal of the query.
     pub fn new(alloc: Global, program: Program, query: Query) -> Result<Core, AllocError>
         requires { IsQuery program query.goals }
         ensures opens { IfOk result (λ core. Opens (fresh_opening program query.goals query.variables) core.world) }
+        ensures notes { IfOk result (λ core. core.notes ≡ finite.empty) }
         ensures meter { IfOk result (λ core. (core.meter.firings ≡ 0) × (core.meter.tries ≡ 0)) }
     {
         // Called for its clause that each clause of a program is accepted, which the proof cites.
         let _clauses = program.clauses();
-        let state = State::of_query(alloc, query.goals())?;
+        let goals = query.goals();
+        let state = State::of_query(alloc, goals)?;
+        let mut tries = Tries::new(alloc);
+        tries.reserve(goals.len())?;
+        mark_made(&mut tries, 0, goals, goals.len() as u32);
         Ok(Core {
             program,
             query,
@@ -80,6 +94,7 @@ impl Core {
             next: 1,
             journal: Journal::new(alloc),
             meter: Meter::new(),
+            tries,
         })
     }
 }

@@ -1,6 +1,7 @@
 //! The core: worlds, events and replies, one relation for each event, and legal histories.
 #![tactic(auto)]
 
+mod carrying;
 mod change;
 mod commit;
 mod core_state;

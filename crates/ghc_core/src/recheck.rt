@@ -64,6 +64,8 @@ pub fn recheck(alloc: Global, core: &mut Core, proposal: &Proposal) -> Result<Pr
     ensures fault { IfErr result (λ f. (f ≡ Fault.Memory) ⊎ ((f ≡ Fault.Stale) × ¬ StillHolds core.old.world proposal.now)) }
     ensures gone { finite.get core.old.world.state.goals proposal.now.goal ≡ None → result ≡ Err Fault.Stale }
     ensures world { core.new.world ≡ core.old.world }
+    ensures notes { core.new.notes ≡ core.old.notes }
+    ensures untried { core.new.untried ≡ core.old.untried }
     ensures counted { core.new.meter ≡ fired core.old.meter }
 {
     core.stands();

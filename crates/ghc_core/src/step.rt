@@ -26,6 +26,8 @@ impl Core {
         ensures no_goal { AttemptAnswers self.old.world goal choice (refused Fault.NoGoal) → result ≡ Err Fault.NoGoal }
         ensures no_clause { AttemptAnswers self.old.world goal choice (refused Fault.NoClause) → result ≡ Err Fault.NoClause }
         ensures world { self.new.world ≡ self.old.world }
+        ensures notes { self.new.notes ≡ self.old.notes }
+        ensures untried { self.new.untried ≡ self.old.untried }
         ensures counted { self.new.meter ≡ fired self.old.meter }
     {
         match self.attempt_as_next(alloc, goal, choice) {

@@ -4,6 +4,7 @@ ghost use Rattle.std.specs.Prelude.{◌≡◌};
 use crate::core_state::Core;
 use ghc_fire::{Goals, Meter};
 use ghc_flat::Program;
+use ghc_hooks::Tries;
 use ghc_reader::Query;
 use ghc_records::{Journal, Records, Shelf};
 use ghc_term::Store;
@@ -14,12 +15,12 @@ impl Core {
     ghost use Rattle.ghc_core.specs.World.{IsReplay};
     ghost use Rattle.ghc_core.specs.Legal.{AreNamesOf};
     ghost use Rattle.ghc_core.specs.Laws.{IsOrderly, NoStepIsFree};
-    ghost use Rattle.ghc_core.specs.Core.{IsStanding};
+    ghost use Rattle.ghc_core.specs.Core.{IsStanding, AreExactIn};
 
     /// In each core, goals and store are the replay of the kept steps; the store is acyclic, and each variable of goals and
     /// store is the query's or made by a kept step, and none is of the number that no step has; each variable of the query has
-    /// a name, and no two have one name, but for `_`; the journal tells what is kept and what is on the shelf. This costs
-    /// nothing.
+    /// a name, and no two have one name, but for `_`; each noted outcome is the one from scratch, and the goals without one, but
+    /// for stream goals, are untried; the journal tells what is kept and what is on the shelf. This costs nothing.
     pub fn stands(&self)
         ensures standing { IsStanding self.now.world }
         ensures replay { IsReplay self.now.world self.now.world.kept self.now.world.state }
@@ -27,6 +28,7 @@ impl Core {
         ensures named { AreNamesOf self.now.world.opening.query self.now.world.opening.names }
         ensures orderly { IsOrderly self.now.world }
         ensures no_step { NoStepIsFree self.now.world }
+        ensures exact { AreExactIn self.now.world self.now.notes self.now.untried }
         ensures keeps { Keeps self.now.world.opening self.now.world.journal self.now.world.kept self.now.world.shelf }
     {
         let _program = &self.program;
@@ -87,6 +89,14 @@ impl Core {
         ensures { result.now.held ≡ self.now.world.journal }
     {
         &self.journal
+    }
+
+    /// The noted outcomes of goals, and the untried goals.
+    pub fn tries(&self) -> &Tries
+        ensures notes { result.now.notes ≡ self.now.notes }
+        ensures untried { result.now.untried ≡ self.now.untried }
+    {
+        &self.tries
     }
 
     /// How many firings and tries the core counted.

@@ -1,12 +1,15 @@
 // Undoing a step that nothing depends on.
 ghost use Rattle.std.specs.Prelude.{◌≡◌, ◌⊎◌, ◌∷◌, [], IfOk, IfErr, OnOk, OnErr, Err};
 ghost use Rattle.ghc_term.specs.declared.fault.Fault.{Fault as fault_spec};
+ghost use Rattle.ghc_hooks.specs.Notes.{AreLeft};
+ghost use Rattle.ghc_records.specs.Record.{Record as record_spec};
 ghost use Rattle.ghc_records.specs.Laws.{IsWellMade};
+ghost use Rattle.ghc_depend.specs.Depend.{IsKeptAs};
 ghost use Rattle.ghc_core.specs.World.{IsReplay};
 ghost use Rattle.ghc_core.specs.Events.{undone};
 ghost use Rattle.ghc_core.specs.Reverses.{Undoes, UndoFails, CanUndo};
 ghost use Rattle.ghc_core.specs.declared.change.Change.TheVariants.{TakesAway as takes_away};
-ghost use Rattle.ghc_core.specs.Change.{CanChange};
+ghost use Rattle.ghc_core.specs.Change.{CanChange, IsBoundBy};
 
 use crate::change::Change;
 use crate::core_state::Core;
@@ -36,7 +39,8 @@ impl Core {
     }
 
     /// Undoes the step of this number: what it bound is unbound, the goals that it made are gone, the goal that it consumed is
-    /// there again, and its record goes to the shelf. `NotKept` exactly where the step is not kept; else `HasConsequence`, with
+    /// there again, and its record goes to the shelf. Untried are then the goal put back and those that looked at what is unbound,
+    /// beside those that were. `NotKept` exactly where the step is not kept; else `HasConsequence`, with
     /// the first consequence in recorded order, exactly where it has one; these come before memory is asked for, whose want is the
     /// one refusal else. A refused undo changes nothing. It goes over the records behind the step, with a look-up for each
     /// variable that they read.
@@ -47,7 +51,12 @@ impl Core {
         ensures fault { IfErr result (λ f. (f ≡ Fault.Memory) ⊎ UndoFails self.old.world.kept number f) }
         ensures refused { (f : fault_spec) → UndoFails self.old.world.kept number f → result ≡ Err f }
         ensures err { OnErr result (self.new.world ≡ self.old.world) }
+        ensures notes_stay { OnErr result (self.new.notes ≡ self.old.notes) }
+        ensures untried_stay { OnErr result (self.new.untried ≡ self.old.untried) }
         ensures meter { self.new.meter ≡ self.old.meter }
+
+        // A note stays just where its goal is still there and did not look at what the step had bound.
+        ensures notes { OnOk result ((r : record_spec) × IsKeptAs self.old.world.kept number r × AreLeft self.new.world.state.goals (IsBoundBy (takes_away r)) self.old.notes self.new.notes) }
 
         // Goals and store are the replay of the record, and their variables are the query's or made by its steps.
         ensures replay { IsReplay self.new.world self.new.world.kept self.new.world.state }

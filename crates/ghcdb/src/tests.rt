@@ -4,6 +4,7 @@ mod cores;
 mod matching;
 mod reading;
 mod session;
+mod settling;
 mod terms;
 mod texts;
 mod unifying;

@@ -1,12 +1,16 @@
 use Rattle.std.proofs.Common.{◌≡◌, ◌+◌, [], ◌∷◌, ◌++◌, refl, subst, sym, ap, ◌∙◌, arith}
 use Rattle.ghc_records.specs.Record.{Record}
 use Rattle.ghc_records.specs.Journal.{fresh_opening}
-use Rattle.ghc_core.specs.World.{World, with_step}
-use Rattle.ghc_core.specs.Core.{Core, IsStanding}
+use Rattle.ghc_hooks.specs.Notes.{AreLeft}
+use Rattle.ghc_depend.specs.Depend.{MakesGoal, Binds}
+use Rattle.ghc_core.specs.World.{World, IsNextStep, with_step}
+use Rattle.ghc_core.specs.Core.{Core, IsConsistent}
+use Rattle.ghc_core.specs.Carried.{AreCarriedOver}
 use Rattle.ghc_core.specs.Proposes.{IsCommitOf}
 use Rattle.ghc_core.proofs.Standing.{standing_well_made, standing_below}
 use Rattle.ghc_core.proofs.Taking.{stands}
 use Rattle.ghc_core.proofs.Preparing.{same_world}
+use Rattle.ghc_core.proofs.Exactness.{unnoted, not_there, over_exact, over_left}
 use Rattle.ghc_core.proofs.core_state.Core.add.Goals as goal
 
 -- the world before the step
@@ -16,12 +20,12 @@ before c = record { opening = fresh_opening c.self.inside.program c.self.inside.
 pub take-step-requires-clause-acyclic : goal.take-step-requires-clause-acyclic
 take-step-requires-clause-acyclic c =
     let commit = subst (λ (x : Core). IsCommitOf x.world c.requires.found.0 c.args.addition) (sym c.self.view_is) c.requires.found.1 in
-    (standing_well_made _ (stands _ c.requires.found.0 c.args.addition c.self.invariant commit)).acyclic
+    (standing_well_made _ (stands _ c.requires.found.0 c.args.addition c.self.invariant.standing commit)).acyclic
 
 pub put-requires-clause-new : goal.put-requires-clause-new
 put-requires-clause-new c r i same =
     let commit = subst (λ (x : Core). IsCommitOf x.world c.requires.found.0 c.args.addition) (sym c.self.view_is) c.requires.found.1 in
-    let below = standing_below _ c.self.invariant r i in
+    let below = standing_below _ c.self.invariant.standing r i in
     let number = commit.1.0 in
     let taken : c.take-step.result.0.number ≡ c.args.addition.number = ap (λ (q : Record). q.number) c.take-step.ensures.record in
     omega (arith, below, number, same, taken)
@@ -35,10 +39,32 @@ left c =
     (c.put.ensures.held ∙ ap (λ (r : Record). c.self.inside.records.held ++ r ∷ []) c.take-step.ensures.record) refl
     (c.put-2.ensures.held ∙ ap (λ e. c.self.inside.journal.held ++ e ∷ []) c.take-step.ensures.entry)
 
+-- notes and marks were carried over the step
+carried : (c : goal.After-self-1) → AreCarriedOver c.args.addition c.self.inside.tries c.carry_over.new.tries
+carried c = subst (λ r. AreCarriedOver r c.self.inside.tries c.carry_over.new.tries) c.take-step.ensures.record c.carry_over.ensures
+
+-- the step is the next one
+next : (c : goal.After-self-1) → IsNextStep (before c) c.args.addition
+next c = (subst (λ (x : Core). IsCommitOf x.world c.requires.found.0 c.args.addition) (sym c.self.view_is) c.requires.found.1).1
+
+pub carry_over-requires-clause-new : goal.carry_over-requires-clause-new
+carry_over-requires-clause-new c g made =
+    let commit = subst (λ (x : Core). IsCommitOf x.world c.requires.found.0 c.args.addition) (sym c.self.view_is) c.requires.found.1 in
+    unnoted c.self.invariant.exact g (not_there _ c.self.invariant.standing c.args.addition commit.1 g (subst (λ r. MakesGoal r g) c.take-step.ensures.record made))
+
 pub invariant_of-self : goal.invariant_of-self
 invariant_of-self c =
     let commit = subst (λ (x : Core). IsCommitOf x.world c.requires.found.0 c.args.addition) (sym c.self.view_is) c.requires.found.1 in
-    subst IsStanding (sym (left c)) (stands _ c.requires.found.0 c.args.addition c.self.invariant commit)
+    subst (λ w. IsConsistent w c.carry_over.new.tries.notes c.carry_over.new.tries.untried) (sym (left c)) (record {
+      standing = stands _ c.requires.found.0 c.args.addition c.self.invariant.standing commit;
+      exact = over_exact (before c) c.self.invariant.standing c.args.addition (next c) c.self.inside.tries c.carry_over.new.tries c.self.invariant.exact (carried c);
+    })
 
 pub returns-clause-world : goal.returns-clause-world
 returns-clause-world c = left c ∙ ap (λ (x : Core). with_step c.args.addition x.world) c.self.view_is
+
+pub returns-clause-notes : goal.returns-clause-notes
+returns-clause-notes c =
+    subst (λ (x : Core). AreLeft c.take-step.new.self.held.goals (Binds c.args.addition) x.notes c.carry_over.new.tries.notes) c.self.view_is
+    (subst (λ (w : World). AreLeft w.state.goals (Binds c.args.addition) c.self.inside.tries.notes c.carry_over.new.tries.notes) (sym (left c))
+    (over_left (before c) c.self.invariant.standing c.args.addition (next c) c.self.inside.tries c.carry_over.new.tries c.self.invariant.exact (carried c)))

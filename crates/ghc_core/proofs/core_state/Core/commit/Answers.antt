@@ -1,5 +1,7 @@
 use Rattle.std.proofs.Common.{subst, sym, ap, ◌∙◌}
+use Rattle.ghc_hooks.specs.Notes.{AreLeft}
 use Rattle.ghc_records.specs.Record.{Record}
+use Rattle.ghc_depend.specs.Depend.{Binds}
 use Rattle.ghc_core.specs.World.{World, IsReplay, with_step}
 use Rattle.ghc_core.specs.Proposes.{IsCommitOf}
 use Rattle.ghc_core.proofs.Standing.{standing_replay, standing_well_made}
@@ -27,3 +29,9 @@ returns-clause-replay c = standing_replay c.apply.new.self.world c.apply.ensures
 
 pub returns-clause-well_made : goal.returns-clause-well_made
 returns-clause-well_made c = standing_well_made c.apply.new.self.world c.apply.ensures.standing
+
+pub returns-clause-notes : goal.returns-clause-notes
+returns-clause-notes c =
+    let step = c.in_ok-addition.addition in
+    let same = c.in_ok-reserve.ensures.notes ∙ c.in_ok-addition.ensures.notes in
+    (step, c.in_ok-addition.ensures.answer.0, subst (λ notes. AreLeft c.apply.new.self.world.state.goals (Binds step) notes c.apply.new.self.notes) same c.apply.ensures.notes)

@@ -3,18 +3,29 @@ use Rattle.std.specs.FinMap as finite
 use Rattle.ghc_flat.specs.Flat.{IsProgram}
 use Rattle.ghc_records.specs.Journal.{fresh_opening}
 use Rattle.ghc_records.specs.Replay.{query_state}
-use Rattle.ghc_core.specs.Core.{IsStanding}
+use Rattle.ghc_fire.specs.Goals.{goal_cmp}
+use Rattle.ghc_core.specs.Carried.{IsToTry, AreMarked}
+use Rattle.ghc_core.specs.Core.{IsConsistent}
 use Rattle.ghc_core.proofs.Standing.{fresh_world, fresh_stands}
+use Rattle.ghc_core.proofs.Exactness.{opened_exact}
 use Rattle.ghc_core.proofs.core_state.Core.new.Goals as goal
 
 pub invariant_of-result : goal.invariant_of-result
 invariant_of-result c =
     let accepted : IsProgram c.args.program = c.clauses-clauses.ensures.program in
-    let state : c.in_ok-state.state.held ≡ query_state c.args.query.goals = c.in_ok-state.ensures ∙ ap query_state c.goals.ensures.same in
+    let state : c.in_ok-state.state.held ≡ query_state c.args.query.goals = c.in_ok-state.ensures ∙ ap query_state c.goals-goals.ensures.same in
     let same : fresh_world c.args.program c.args.query.goals c.args.query.variables
     ≡ record { opening = fresh_opening c.args.program c.args.query.goals c.args.query.variables; state = c.in_ok-state.state.held; kept = c.new.result.held; shelf = c.new-2.result.held; next = 1; journal = c.new-3.result.held } =
     let kept : c.new.result.held ≡ [] = c.new.ensures in
     let shelf : c.new-2.result.held ≡ finite.empty = c.new-2.ensures in
     let journal : c.new-3.result.held ≡ [] = c.new-3.ensures in
     cc in
-    subst IsStanding same (fresh_stands c.args.program c.args.query.goals c.args.query.variables accepted c.requires (record { named = c.goals.ensures.well_asked.named; apart = c.goals.ensures.well_asked.apart }))
+    let opened = opened_exact c.args.program c.args.query.goals c.reserve.new.self c.mark_made.new.tries (c.in_ok-reserve.ensures.notes ∙ c.new-tries.ensures.notes) (c.in_ok-reserve.ensures.untried ∙ c.new-tries.ensures.untried)
+    (subst (λ gs. AreMarked (IsToTry 0 gs) c.reserve.new.self c.mark_made.new.tries) c.goals-goals.ensures.same c.mark_made.ensures) in
+    subst (λ w. IsConsistent w c.mark_made.new.tries.notes c.mark_made.new.tries.untried) same (record {
+      standing = fresh_stands c.args.program c.args.query.goals c.args.query.variables accepted c.requires (record { named = c.goals-goals.ensures.well_asked.named; apart = c.goals-goals.ensures.well_asked.apart });
+      exact = opened;
+    })
+
+pub mark_made-requires-clause-new : goal.mark_made-requires-clause-new
+mark_made-requires-clause-new c g given = ap (λ m. finite.get m g) (c.in_ok-reserve.ensures.notes ∙ c.new-tries.ensures.notes) ∙ finite.get-empty goal_cmp g

@@ -1,10 +1,13 @@
 use Rattle.std.proofs.Common.{subst}
-use Rattle.ghc_core.specs.Core.{Core, IsStanding}
+use Rattle.ghc_core.specs.Core.{Core, IsStanding, AreExactIn}
 use Rattle.ghc_core.proofs.Standing.{standing_replay, standing_well_made, standing_named, standing_orderly, standing_apart, standing_keeps}
 use Rattle.ghc_core.proofs.core_state.Core.stands.Goals as goal
 
 pub returns-clause-standing : goal.returns-clause-standing
-returns-clause-standing c = subst (λ (x : Core). IsStanding x.world) c.self.view_is c.self.invariant
+returns-clause-standing c = subst (λ (x : Core). IsStanding x.world) c.self.view_is c.self.invariant.standing
+
+pub returns-clause-exact : goal.returns-clause-exact
+returns-clause-exact c = subst (λ (x : Core). AreExactIn x.world x.notes x.untried) c.self.view_is c.self.invariant.exact
 
 pub returns-clause-replay : goal.returns-clause-replay
 returns-clause-replay c = standing_replay c.args.self.now.world (returns-clause-standing c)

@@ -1,15 +1,19 @@
-use Rattle.std.proofs.Common.{◌≡◌, ℕ, List, [], ◌∷◌, ◌++◌, refl, subst, sym, ap, ◌∙◌}
+use Rattle.std.proofs.Common.{◌≡◌, ℕ, List, [], ◌∷◌, ◌++◌, Some, refl, subst, sym, ap, ◌∙◌}
 use Rattle.std.specs.FinMap as finite
 use Rattle.ghc_term.specs.Lists.{In}
 use Rattle.ghc_records.specs.Record.{State, Record, Shelf}
 use Rattle.ghc_records.specs.State.{IsTakenBack}
 use Rattle.ghc_records.specs.Journal.{Entry, fresh_opening, undid}
+use Rattle.ghc_hooks.specs.Notes.{AreLeft}
+use Rattle.ghc_depend.specs.Depend.{Binds}
 use Rattle.ghc_depend.specs.Kept.{IsWithout}
 use Rattle.ghc_core.specs.World.{World}
 use Rattle.ghc_core.specs.Core.{Core, IsStanding}
+use Rattle.ghc_core.specs.Carried.{AreCarriedBack}
 use Rattle.ghc_core.specs.declared.change.Change.TheVariants.{TakesAway as takes_away}
 use Rattle.ghc_core.specs.Change.{CanChange, Changes}
 use Rattle.ghc_core.proofs.TakenAway.{taken_away, undone_stands}
+use Rattle.ghc_core.proofs.Exactness.{unnoted, consumed_gone, back_exact, back_left}
 use Rattle.ghc_core.proofs.core_state.Core.take_away.Goals as goal
 
 -- Where the step was taken back from the state and out of the record, and put into the journal and on the shelf, it was taken away.
@@ -32,11 +36,31 @@ left c = record { opening = fresh_opening c.self.inside.program c.self.inside.qu
 changed : (c : goal.After-put-2) → Changes (before c) (takes_away c.args.removal) (left c)
 changed c =
     let can : CanChange (before c) (takes_away c.args.removal) = subst (λ (x : Core). CanChange x.world (takes_away c.args.removal)) (sym c.self.view_is) c.requires.found in
-    taken (before c) c.self.invariant c.args.removal c.take_back-step.result c.strike.new.records.held c.take_back-step.new.self.held c.put-2.new.self.held c.put.new.self.held c.number.result c.number-2.result
+    taken (before c) c.self.invariant.standing c.args.removal c.take_back-step.result c.strike.new.records.held c.take_back-step.new.self.held c.put-2.new.self.held c.put.new.self.held c.number.result c.number-2.result
     can c.take_back-step.ensures.record c.number.ensures c.number-2.ensures c.strike.ensures c.take_back-step.ensures.state c.put-2.ensures.held c.put.ensures.held
 
 pub returns-clause-changed : goal.returns-clause-changed
 returns-clause-changed c = subst (λ (x : Core). Changes x.world (takes_away c.args.removal) (left c)) c.self.view_is (changed c)
 
+-- what was taken back, from the state and in notes and marks
+can : (c : goal.After-put-2) → CanChange (before c) (takes_away c.args.removal)
+can c = subst (λ (x : Core). CanChange x.world (takes_away c.args.removal)) (sym c.self.view_is) c.requires.found
+
+carried : (c : goal.After-put-2) → AreCarriedBack c.args.removal c.self.inside.tries c.carry_back.new.tries
+carried c = subst (λ r. AreCarriedBack r c.self.inside.tries c.carry_back.new.tries) c.take_back-step.ensures.record c.carry_back.ensures
+
+pub carry_back-requires-clause-new : goal.carry_back-requires-clause-new
+carry_back-requires-clause-new c g used =
+    let found = subst (λ (x : Core). CanChange x.world (takes_away c.args.removal)) (sym c.self.view_is) c.requires.found in
+    unnoted c.self.invariant.exact g (consumed_gone _ c.self.invariant.standing c.args.removal found.0 _ c.take_back-step.ensures.state g (subst (λ (r : Record). r.goal ≡ Some g) c.take_back-step.ensures.record used))
+
 pub invariant_of-self : goal.invariant_of-self
-invariant_of-self c = undone_stands c.self.invariant (changed c) refl
+invariant_of-self c = record {
+  standing = undone_stands c.self.invariant.standing (changed c) refl;
+  exact = back_exact (before c) c.self.invariant.standing c.args.removal (can c).0 _ c.take_back-step.ensures.state c.self.inside.tries c.carry_back.new.tries c.self.invariant.exact (carried c);
+}
+
+pub returns-clause-notes : goal.returns-clause-notes
+returns-clause-notes c =
+    subst (λ (x : Core). AreLeft c.take_back-step.new.self.held.goals (Binds c.args.removal) x.notes c.carry_back.new.tries.notes) c.self.view_is
+    (back_left (before c) c.self.invariant.standing c.args.removal (can c).0 _ c.take_back-step.ensures.state c.self.inside.tries c.carry_back.new.tries c.self.invariant.exact (carried c))

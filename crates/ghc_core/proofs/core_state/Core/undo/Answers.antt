@@ -1,7 +1,8 @@
 use Rattle.std.proofs.Common.{◌≡◌, ℕ, [], ◌∷◌, subst, sym, ap, inl, inr, Err}
 use Rattle.ghc_term.specs.declared.fault.Fault.{Fault}
 use Rattle.ghc_records.specs.Record.{Record}
-use Rattle.ghc_depend.specs.Depend.{Follows, IsKeptAs}
+use Rattle.ghc_hooks.specs.Notes.{AreLeft}
+use Rattle.ghc_depend.specs.Depend.{Follows, Binds, IsKeptAs}
 use Rattle.ghc_core.specs.World.{World, IsReplay}
 use Rattle.ghc_core.specs.Core.{IsStanding}
 use Rattle.ghc_core.specs.Events.{undone}
@@ -41,3 +42,10 @@ returns-clause-well_made c = standing_well_made c.apply.new.self.world c.apply.e
 
 pub returns-in_err-reserve-clause-replay : goal.returns-in_err-reserve-clause-replay
 returns-in_err-reserve-clause-replay c = subst (λ (w : World). IsReplay w w.kept w.state) (sym c.reserve.ensures.world) c.stands.ensures.replay
+
+pub returns-clause-notes : goal.returns-clause-notes
+returns-clause-notes c = (
+  c.in-Ok.removal,
+  (c.in-Ok.ensures.found.0, c.in-Ok.ensures.step),
+  subst (λ notes. AreLeft c.apply.new.self.world.state.goals (Binds c.in-Ok.removal) notes c.apply.new.self.notes) c.reserve.ensures.notes c.apply.ensures.notes,
+)

@@ -1,0 +1,26 @@
+use Rattle.std.proofs.Common.{◌≡◌, Some, length, ap, subst, ◌∙◌, arith}
+use Rattle.ghc_term.specs.Store.{StoreValue}
+use Rattle.ghc_hooks.specs.Tries.{AreSpared, AreWoken}
+use Rattle.ghc_fire.specs.Effect.{Effect}
+use Rattle.ghc_depend.specs.Depend.{Binds}
+use Rattle.ghc_core.specs.Carried.{Consumed, MadeToTry, IsBound, IsToTry, AreDropped, AreMarked}
+use Rattle.ghc_core.proofs.Carried.{carried, none_stays}
+use Rattle.ghc_core.proofs.carrying.carry_over.Goals as goal
+
+pub mark_made-requires-clause-new : goal.mark_made-requires-clause-new
+mark_made-requires-clause-new c g given =
+    let made = c.made.ensures ∙ ap (λ (e : Effect). length e.makes) c.effect-effect.ensures in
+    let place = given.2 in
+    none_stays (λ h. c.goal.result ≡ Some h) (IsBound c.binds.result.now) c.args.tries.now c.drop_named.new.tries c.wake_at_bound.new.tries c.drop_named.ensures.dropped c.wake_at_bound.ensures.notes g
+    (c.requires.new g (given.0 ∙ c.number.ensures, given.1, omega (arith, place, made)))
+
+pub returns : goal.returns
+returns c =
+    let binds = c.binds.ensures ∙ ap (λ (e : Effect). e.binds) c.effect-effect.ensures in
+    let makes = c.makes.ensures ∙ ap (λ (e : Effect). e.makes) c.effect-effect.ensures in
+    carried (Consumed c.args.step.now) (Binds c.args.step.now) (MadeToTry c.args.step.now) c.args.tries.now c.drop_named.new.tries c.wake_at_bound.new.tries c.mark_made.new.tries
+    (subst (λ o. AreDropped (λ g. o ≡ Some g) c.args.tries.now c.drop_named.new.tries) c.goal.ensures c.drop_named.ensures.dropped)
+    (subst (λ (b : StoreValue). AreSpared (IsBound b) c.drop_named.new.tries.notes c.wake_at_bound.new.tries.notes) binds c.wake_at_bound.ensures.notes)
+    (subst (λ (b : StoreValue). AreWoken (IsBound b) c.drop_named.new.tries.notes c.drop_named.new.tries.untried c.wake_at_bound.new.tries.untried) binds c.wake_at_bound.ensures.untried)
+    (subst (λ n. AreMarked (IsToTry n c.args.step.now.effect.makes) c.wake_at_bound.new.tries c.mark_made.new.tries) c.number.ensures
+    (subst (λ gs. AreMarked (IsToTry c.number.result gs) c.wake_at_bound.new.tries c.mark_made.new.tries) makes c.mark_made.ensures))
