@@ -19,3 +19,4 @@ pub mod Crosses
 pub mod Histories
 pub mod Carried
 pub mod Exactness
+pub mod Settling

@@ -9,6 +9,7 @@ mod facts;
 mod history_laws;
 mod laws;
 mod recheck;
+mod settle;
 mod step;
 mod there;
 mod undo;

@@ -1,0 +1,117 @@
+-- Goals are tried and noted one after another.
+use Rattle.std.proofs.Common.{◌≡◌, ℕ, zero, suc, ◌+◌, ◌-◌, ◌<◌, ◌≤◌, false, cond, refl, sym, ap, subst, ◌∙◌, inl, inr, arith}
+use Rattle.std.specs.Prelude.{Some, None, IsTrue}
+use Rattle.std.specs.Ordering.{eq_by_cmp}
+use Rattle.std.specs.FinMap as finite
+use Rattle.std.specs.FinSet as set
+use Rattle.ghc_term.specs.declared.goal_name.GoalName.{GoalName}
+use Rattle.ghc_term.specs.Goal.{Goal}
+use Rattle.ghc_term.specs.Store.{StoreValue, value_at}
+use Rattle.ghc_term.proofs.ListsLemmas.{not_both}
+use Rattle.ghc_flat.specs.Clause.{Program}
+use Rattle.ghc_flat.specs.Flat.{is_stream}
+use Rattle.ghc_fire.specs.Goals.{goal_cmp, Goals}
+use Rattle.ghc_fire.specs.Meter.{tried}
+use Rattle.ghc_fire.specs.declared.meter.Meter.{Meter}
+use Rattle.ghc_fire.proofs.GoalNames.{goal_total, goal_antisymmetric}
+use Rattle.ghc_hooks.specs.Face.{GoalNames}
+use Rattle.ghc_hooks.specs.Notes.{Note, NotesByGoal, IsExact, AreExact}
+use Rattle.ghc_hooks.proofs.Looking.{goal_itself, goal_cases, goal_taken}
+use Rattle.ghc_hooks.proofs.Fitting.{put_here, put_elsewhere, same_note}
+use Rattle.ghc_core.specs.World.{World}
+use Rattle.ghc_core.specs.Core.{IsConsistent, AreExactIn}
+use Rattle.ghc_core.specs.Proposes.{tells}
+use Rattle.ghc_core.specs.Settling.{IsNoteOf, AreKept, IsNoted, AreNoted, tried_often}
+
+module _ (m : NotesByGoal) (g : GoalName) (n : Note) where
+  -- a note that is there is put again in vain
+  pub put_again : finite.get m g ≡ Some n → m ≡ finite.insert m g n
+  put_again there = finite.same_map goal_total goal_antisymmetric m (finite.insert m g n) (λ h. elim (goal_cases h g) as (λ _. finite.get m h ≡ finite.get (finite.insert m g n) h) [
+    | inl p ↦ ap (finite.get m) p ∙ there ∙ sym (put_here m g n) ∙ ap (finite.get (finite.insert m g n)) (sym p)
+    | inr d ↦ sym (put_elsewhere m g n h d)
+  ])
+
+  -- one that is put where there was none takes the place of none
+  pub kept_put : finite.get m g ≡ None → AreKept m (finite.insert m g n)
+  kept_put none h k there = elim (goal_cases h g) as (λ _. finite.get (finite.insert m g n) h ≡ Some k) [
+    | inl p ↦ let clash : None ≡ Some k = sym none ∙ ap (finite.get m) (sym p) ∙ there in absurd (cc)
+    | inr d ↦ put_elsewhere m g n h d ∙ there
+  ]
+
+module _ {P : Program} {G : Goals} {S : StoreValue} {m : NotesByGoal} {u : GoalNames} (exact : AreExact P G S m u) (g : GoalName) (b : Goal) (there : finite.get G g ≡ Some b) (not : is_stream b ≡ false) where
+  -- notes stay exact where an untried goal gets the note of its trial
+  pub noted_exact : (n : Note) → IsExact P (value_at S) b n → AreExact P G S (finite.insert m g n) (set.remove u g)
+  noted_exact n is = record {
+    noted = λ h k at. elim (goal_cases h g) as (λ _. (c : Goal) × (finite.get G h ≡ Some c) × (is_stream c ≡ false) × IsExact P (value_at S) c k) [
+      | inl p ↦
+          let same : n ≡ k = same_note (sym (put_here m g n) ∙ ap (finite.get (finite.insert m g n)) (sym p) ∙ at) in
+          (b, ap (finite.get G) p ∙ there, not, subst (IsExact P (value_at S) b) same is)
+      | inr d ↦ exact.noted h k (sym (put_elsewhere m g n h d) ∙ at)
+    ];
+    marked = λ h. (
+      λ k.
+          let r = (goal_taken u g h).0 k in
+          let q = (exact.marked h).0 r.0 in
+          (q.0, q.1, q.2, elim (goal_cases h g) as (λ _. finite.get (finite.insert m g n) h ≡ None) [ inl p ↦ absurd (r.1 p) | inr d ↦ put_elsewhere m g n h d ∙ q.3 ]),
+      λ q. elim (goal_cases h g) as (λ _. IsTrue (set.contains (set.remove u g) h)) [
+        | inl p ↦ let clash : Some n ≡ None = sym (put_here m g n) ∙ ap (finite.get (finite.insert m g n)) (sym p) ∙ q.3 in absurd (cc)
+        | inr d ↦ (goal_taken u g h).1 (
+          (exact.marked h).1 (q.0, q.1, q.2, sym (put_elsewhere m g n h d) ∙ q.3),
+          λ e. not_both (eq_by_cmp goal_cmp h g) d (ap (λ z. eq_by_cmp goal_cmp z g) e ∙ goal_itself g),
+        )
+      ],
+    );
+  }
+
+  -- a goal that can be tried and is not untried has a note
+  pub has_note : ¬ IsTrue (set.contains u g) → (n : Note) × (finite.get m g ≡ Some n)
+  has_note tried = elim (finite.get m g) as (λ o. finite.get m g ≡ o → (n : Note) × (finite.get m g ≡ Some n)) [
+    | None ↦ λ e. absurd (tried ((exact.marked g).1 (b, there, not, e)))
+    | Some n ↦ λ e. (n, e)
+  ] refl
+
+-- a goal that can be tried and has a note keeps it, and one that was untried has the note of its trial
+pub noted_before : (w : World) (m : NotesByGoal) (u : GoalNames) (g : GoalName) (n : Note) → AreExactIn w m u → IsNoteOf w g n → ¬ IsTrue (set.contains u g) → IsNoted w g m m
+noted_before w m u g n exact q tried =
+    let had = has_note exact g q.0 q.1.0 q.1.1 tried in
+    let is = exact.noted g had.0 had.1 in
+    record { note = had.0; told = tells is.0 is.1 is.2 is.3.0; put = put_again m g had.0 had.1 }
+
+pub noted_now : (w : World) (m new : NotesByGoal) (g : GoalName) (n : Note) → IsNoteOf w g n → new ≡ finite.insert m g n → IsNoted w g m new
+noted_now w m new g n q put = record { note = n; told = tells q.0 q.1.0 q.1.1 q.2.0; put = put }
+
+pub consistent_now : (w : World) (m new : NotesByGoal) (u left : GoalNames) (g : GoalName) (n : Note) → IsConsistent w m u → IsNoteOf w g n → new ≡ finite.insert m g n → left ≡ set.remove u g → IsConsistent w new left
+consistent_now w m new u left g n c q put taken =
+    subst (λ v. IsConsistent w v left) (sym put) (subst (IsConsistent w (finite.insert m g n)) (sym taken) (record { standing = c.standing; exact = noted_exact c.exact g q.0 q.1.0 q.1.1 n q.2 }))
+
+-- an untried goal is taken out
+pub one_less : (u : GoalNames) (g : GoalName) → IsTrue (set.contains u g) → set.len (set.remove u g) + 1 ≡ set.len u
+one_less u g there =
+    let less : set.len (set.remove u g) ≡ set.len u - 1 = set.len-remove goal_total u g ∙ ap (λ b. cond b (set.len u - 1) (set.len u)) there in
+    let some : 0 < set.len u = by (set.len u) refl in
+    omega (arith, less, some)
+  where
+    by : (k : ℕ) → set.len u ≡ k → 0 < k
+    by zero z = absurd (not_both (set.contains u g) (ap (λ s. set.contains s g) (set.empty_of_len u z) ∙ set.contains-empty goal_cmp g) there)
+    by (suc k) z = omega arith
+
+-- counts of tries
+abbrev counted : Meter → ℕ → Meter
+counted m t = record { firings = m.firings; tries = t }
+
+pub tried_none : (m : Meter) → m.tries ≤ 18446744073709551615 → m ≡ tried_often 0 m
+tried_none m most = ap (counted m) (omega arith)
+
+pub tried_more : (k : ℕ) (m : Meter) → tried (tried_often k m) ≡ tried_often (k + 1) m
+tried_more k m = ap (counted m) (omega arith)
+
+-- nothing was tried
+pub none_noted : (m : NotesByGoal) (u : GoalNames) → AreNoted 0 m u m u
+none_noted m u = record { kept = λ g n there. there; fewer = omega arith }
+
+-- one more was
+pub one_noted : {k : ℕ} {old now new : NotesByGoal} {u left : GoalNames} (g : GoalName) → AreNoted k old u now left → IsTrue (set.contains left g) → AreKept now new → AreNoted (k + 1) old u new (set.remove left g)
+one_noted {left = left} g before there kept = record {
+  kept = λ h n at. kept h n (before.kept h n at);
+  fewer = let was = before.fewer in let less = one_less left g there in omega (arith, was, less);
+}
