@@ -1,25 +1,24 @@
 -- Laws of what is told of goals.
 use Rattle.std.specs.Prelude.{◌≡◌, List, ◌++◌, map, Some}
-use Rattle.std.specs.FinMap as finite
 use Rattle.std.specs.FinSet as set
 use Rattle.ghc_term.specs.declared.goal_name.GoalName.{GoalName}
 use Rattle.ghc_records.specs.Record.{Record}
 use Rattle.ghc_records.specs.Replay.{MakesGoal}
 use Rattle.ghc_depend.specs.Depend.{Binds}
-use Rattle.ghc_hooks.specs.Notes.{Note, NotesByGoal, AreExact, AreLeft}
+use Rattle.ghc_hooks.specs.Notes.{NotesByGoal, AreLeft}
 use Rattle.ghc_core.specs.World.{World}
-use Rattle.ghc_core.specs.Core.{IsStanding}
+use Rattle.ghc_core.specs.Core.{IsConsistent}
 use Rattle.ghc_core.specs.declared.change.Change.{Change}
 use Rattle.ghc_core.specs.declared.change.Change.TheVariants.{Adds as adds, TakesAway as takes_away}
 use Rattle.ghc_core.specs.Change.{CanChange, Changes}
+use Rattle.ghc_core.specs.Settling.{AreKept}
 use Rattle.ghc_trace.specs.Ports.{resumed, taken_ports, ArePorts}
 use Rattle.ghc_trace.specs.News.{Standing, AreNews}
 use Rattle.ghc_trace.specs.Disturbed.{Disturbed, AreDisturbed, AreResumedBy, AreStuckOtherwise}
 
 -- The world stands, each note is what a trial from scratch says there, and no goal is untried.
-pub record IsSettled (w : World) (notes : NotesByGoal) : Type 0 where
-  pub standing : IsStanding w
-  pub exact : AreExact w.opening.program w.state.goals w.state.store notes set.empty
+abbrev pub IsSettled : World → NotesByGoal → Type 0
+IsSettled w notes = IsConsistent w notes set.empty
 
 -- the step that a change adds or takes away
 abbrev pub step_in : Change → Record
@@ -30,10 +29,6 @@ step_in (takes_away r) = r
 abbrev pub Brings : Change → GoalName → Type 0
 Brings (adds r) g = MakesGoal r g
 Brings (takes_away r) g = r.goal ≡ Some g
-
--- Each note is still there.
-abbrev pub AreStillThere : NotesByGoal → NotesByGoal → Type 0
-AreStillThere old new = (g : GoalName) (note : Note) → finite.get old g ≡ Some note → finite.get new g ≡ Some note
 
 -- Where no goal is untried, those that by their notes waited for what the step binds are those that it resumes.
 abbrev pub NotesTellPorts : Type 0
@@ -46,5 +41,5 @@ NotesTellPorts =
 abbrev pub NotesTellNews : Type 0
 NotesTellNews =
     (w v : World) (change : Change) (old left new : NotesByGoal) (d : Disturbed) (news : List Standing) → IsSettled w old → CanChange w change → Changes w change v
-    → AreLeft v.state.goals (Binds (step_in change)) old left → AreStillThere left new → IsSettled v new
+    → AreLeft v.state.goals (Binds (step_in change)) old left → AreKept left new → IsSettled v new
     → AreDisturbed old (step_in change) (Brings change) d → AreStuckOtherwise new d news → AreNews w v news
