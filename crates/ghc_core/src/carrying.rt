@@ -11,8 +11,8 @@ use ghc_hooks::Tries;
 use ghc_records::Record;
 use ghc_term::{Bindings, Goal, GoalName, GoalView};
 
-// Whether it is a stream goal.
-fn is_stream(goal: &Goal) -> bool
+/// Whether it is a stream goal, which nobody tries.
+pub fn is_stream(goal: &Goal) -> bool
     ensures { result ≡ is_stream goal.now }
 {
     matches!(goal.view(), GoalView::Stream(_, _))

@@ -15,6 +15,7 @@ mod there;
 mod undo;
 mod undo_laws;
 
+pub use carrying::is_stream;
 pub use change::Change;
 pub use core_state::Core;
 pub use facts::{redo_is_changed, second_hand_is_stale};

@@ -5,3 +5,5 @@ pub mod Writing
 pub mod Causes
 pub mod Changed
 pub mod Telling
+pub mod Lines
+pub mod GoalTelling

@@ -7,3 +7,6 @@ pub mod Disturbed
 pub mod NewsCode
 pub mod DisturbedCode
 pub mod Laws
+pub mod GoalLines
+pub mod GoalLinesCode
+pub mod GoalLaws

@@ -2,6 +2,8 @@
 #![tactic(auto)]
 
 mod disturbed;
+mod goal_laws;
+mod goal_lines;
 mod laws;
 mod news;
 mod port;
@@ -10,6 +12,8 @@ mod step_ports;
 mod stuck;
 
 pub use disturbed::Disturbed;
+pub use goal_laws::{lines_are_of_goals, notes_tell_goals};
+pub use goal_lines::push_goals;
 pub use laws::{notes_tell_news, notes_tell_ports};
 pub use port::{Port, push_port, push_ports};
 pub use status_text::push_status;
