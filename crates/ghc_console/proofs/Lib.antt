@@ -5,6 +5,7 @@ pub mod WordLemmas
 pub mod SessionLoop
 mod SessionFirings
 pub mod StepReplies
+pub mod Settling
 pub mod RecordLines
 pub mod NumberedWords
 pub mod QueryVariables

@@ -1,5 +1,5 @@
 -- What the texts of replies say.
-use Rattle.std.proofs.Common.{◌≡◌, ◌≢◌, ◌⊎◌, ◌<◌, inl, inr, sym, subst, ap, ◌∙◌, List, ℕ, length, Result, Ok, Err, IfOk, OnErr, MatchResult, Option}
+use Rattle.std.proofs.Common.{◌≡◌, ◌≢◌, ◌⊎◌, ◌<◌, inl, inr, refl, sym, subst, ap, ◌∙◌, List, [], ◌∷◌, ◌++◌, append_assoc, ℕ, length, codes, Result, Ok, Err, IfOk, OnOk, OnErr, MatchResult, Option}
 use Rattle.ghc_term.specs.declared.fault.Fault.{Fault}
 use Rattle.ghc_term.specs.declared.fault.Fault.TheVariants as fault
 use Rattle.ghc_term.specs.declared.goal_name.GoalName.{GoalName}
@@ -12,15 +12,21 @@ use Rattle.ghc_fire.specs.Proposal.{Proposal}
 use Rattle.ghc_records.specs.Record.{Record}
 use Rattle.ghc_core.specs.World.{World, with_step}
 use Rattle.ghc_core.specs.Proposes.{IsCommitOf, StepFails, refused_attempt, no_room}
-use Rattle.ghc_trace.specs.Ports.{taken_ports}
-use Rattle.ghc_trace.specs.PortText.{ports_text}
+use Rattle.ghc_trace.specs.Ports.{Port, ArePorts}
+use Rattle.ghc_trace.specs.PortText.{port_text, ports_text}
+use Rattle.ghc_trace.specs.GoalLaws.{LinesAreOfGoals}
+use Rattle.ghc_trace.specs.GoalLines.{AreGoalLines, HasTooLong}
 use Rattle.ghc_console.specs.VariableNamed.{IsVariableNamed}
-use Rattle.ghc_console.specs.Replies.{Takes, takes, full, RepliesToStep, steps, fails, RepliesToShow, too_long, refusal, print_limit}
+use Rattle.ghc_console.specs.Replies.{Settled, Takes, takes, full, RepliesToStep, steps, fails, RepliesToShow, too_long, RepliesToGoals, no_goals, lists, goal_too_long, lined, refusal, print_limit}
 
 -- What is known of an answer leads to more about it.
 pub if_ok : {T E : Type 0} (r : Result T E) {P Q R : T → Type 0} → IfOk r P → IfOk r Q → ((t : T) → P t → Q t → R t) → IfOk r R
 if_ok (Ok t) p q f = f t p q
 if_ok (Err e) p q f = tt
+
+pub on_ok : {T E : Type 0} (r : Result T E) {P Q : Type 0} → OnOk r P → (P → Q) → OnOk r Q
+on_ok (Ok t) p f = f p
+on_ok (Err e) p f = tt
 
 -- What holds in each case leads to more about both.
 pub either : {T E : Type 0} (r : Result T E) {P R : T → Type 0} {Q S : Type 0} → IfOk r P → OnErr r Q → ((t : T) → P t → R t) → (Q → S) → MatchResult r R (λ _. S)
@@ -36,8 +42,14 @@ step_refused w v g choice f text same (inr (no_room p named answer is_full)) tol
     steps p named answer (subst (λ x. Takes w p x v) (sym told) (subst (Takes w p (refusal fault.Full)) (sym same) (full is_full)))
 
 -- A step that was taken.
-pub step_taken : (w v : World) (p : Proposal) (r : Record) (text : List ℕ) → IsCommitOf w p r → text ≡ ports_text (taken_ports r) → v ≡ with_step r w → Takes w p text v
-step_taken w v p r text commit told same = subst (λ x. Takes w p x v) (sym told) (subst (Takes w p (ports_text (taken_ports r))) (sym same) (takes r commit))
+pub step_taken : (w v : World) (p : Proposal) (r : Record) (ports : List Port) (text : List ℕ) → IsCommitOf w p r → ArePorts w r ports → v ≡ with_step r w → Settled w v (ports_text ports) text
+    → Takes w p text v
+step_taken w v p r ports text commit are same told = subst (Takes w p text) (sym same) (takes r commit are (subst (λ u. Settled w u (ports_text ports) text) same told))
+
+-- Ports stand one behind another.
+pub ports_joined : (ps qs : List Port) → ports_text (ps ++ qs) ≡ ports_text ps ++ ports_text qs
+ports_joined [] qs = refl
+ports_joined (p ∷ ps) qs = ap (λ l. port_text p ++ (codes "\n" ++ l)) (ports_joined ps qs) ∙ sym (append_assoc (port_text p) (codes "\n" ++ ports_text ps) (ports_text qs))
 
 -- A refusal by a printed term says that it is too long.
 pub printed_refused : (w : World) (word : List ℕ) (x : VarName) (f : Fault) (text : List ℕ) → IsVariableNamed w word x → (f ≡ fault.Memory) ⊎ (f ≡ fault.Limit limit.Print)
@@ -47,3 +59,17 @@ printed_refused w word x f text named (inl m) past told kept = absurd (kept m)
 printed_refused w word x f text named (inr q) past told kept =
     let long = past q in
     subst (RepliesToShow w word) (sym (told ∙ ap refusal q)) (too_long x long.0 named long.1.0 long.1.1)
+
+-- Lines of goals are told, and `none` where there is no line.
+pub goals_told : LinesAreOfGoals → (w : World) (lines text : List ℕ) → AreGoalLines w lines → ¬ HasTooLong w.state.goals w.state.store → (lines ≡ [] → text ≡ lined (codes "none")) → (lines ≢ [] → text ≡ lines)
+    → RepliesToGoals w text
+goals_told law w [] text are short none some = subst (RepliesToGoals w) (sym (none refl)) (no_goals ((law w [] are).0 refl))
+goals_told law w (b ∷ bs) text are short none some =
+    let line : ¬ (b ∷ bs ≡ []) = λ e. cc in
+    subst (RepliesToGoals w) (sym (some line)) (lists (λ e. line ((law w (b ∷ bs) are).1 e)) are short)
+
+-- A refusal of goals says that one is too long.
+pub goals_refused : (w : World) (f : Fault) (text : List ℕ) → (f ≡ fault.Memory) ⊎ (f ≡ fault.Limit limit.Print) → (f ≡ fault.Limit limit.Print → HasTooLong w.state.goals w.state.store)
+    → text ≡ refusal f → f ≢ fault.Memory → RepliesToGoals w text
+goals_refused w f text (inl m) past told kept = absurd (kept m)
+goals_refused w f text (inr q) past told kept = subst (RepliesToGoals w) (sym (told ∙ ap refusal q)) (goal_too_long (past q))

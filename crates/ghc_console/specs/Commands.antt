@@ -5,7 +5,7 @@ use Rattle.std.specs.Str.{bytes_eq}
 use Rattle.ghc_term.specs.declared.goal_name.GoalName.{GoalName}
 use Rattle.ghc_console.specs.Words.{goal_name_of, is_printable, is_variable, number_of, words_of}
 use Rattle.ghc_console.specs.declared.command.LineCommand.{LineCommand}
-use Rattle.ghc_console.specs.declared.command.LineCommand.TheVariants.{Nothing, Step, Undo, Show, Records, Quit, Unknown}
+use Rattle.ghc_console.specs.declared.command.LineCommand.TheVariants.{Nothing, Step, Undo, Show, Records, Goals, Quit, Unknown}
 
 -- A step with the goal, by the least clause that accepts, where the word named one.
 abbrev pub step_with : Option GoalName → LineCommand
@@ -23,9 +23,11 @@ abbrev pub undo_with : Option ℕ → LineCommand
 undo_with (Some number) = Undo number
 undo_with None = Unknown
 
--- The command of a word alone: `records` or `quit`.
+-- The command of a word alone: `records`, `goals` or `quit`.
 abbrev pub command_of_one_word : List ℕ → LineCommand
-command_of_one_word name = if bytes_eq name (codes "records") then Records else (if bytes_eq name (codes "quit") then Quit else Unknown)
+command_of_one_word name = if bytes_eq name (codes "records") then Records
+    else (if bytes_eq name (codes "goals") then Goals
+    else (if bytes_eq name (codes "quit") then Quit else Unknown))
 
 -- The command of a word and one more: `step G`, `undo N` or `show X`.
 abbrev pub command_of_two_words : List ℕ → List ℕ → LineCommand

@@ -1,18 +1,18 @@
 -- What lines fire in the core as they are carried out.
-use Rattle.std.specs.Prelude.{◌≡◌, ◌≤◌, ◌⊎◌, ◌+◌, ℕ, List, sum_by}
-use Rattle.ghc_fire.specs.Meter.{fired}
-use Rattle.ghc_fire.specs.declared.meter.Meter.{Meter}
+use Rattle.std.specs.Prelude.{◌≡◌, ◌⊎◌, ℕ, List, sum_by}
+use Rattle.ghc_fire.specs.Meter.{one_more}
 use Rattle.ghc_console.specs.Commands.{command_of}
 use Rattle.ghc_console.specs.declared.command.LineCommand.{LineCommand}
-use Rattle.ghc_console.specs.declared.command.LineCommand.TheVariants.{Nothing, Step, Undo, Show, Records, Quit, Unknown}
+use Rattle.ghc_console.specs.declared.command.LineCommand.TheVariants.{Nothing, Step, Undo, Show, Records, Goals, Quit, Unknown}
 
--- A step fires once in the core, or not at all where it is refused before; no other command fires.
-abbrev pub Fires : LineCommand → Meter → Meter → Type 0
-Fires (Step goal choice) old new = (new ≡ old) ⊎ (new ≡ fired old)
+-- Fires c old new: carrying out the command c takes the count of firings from old to new. A step fires once in the core, or not at all where it is refused before; no other command fires.
+abbrev pub Fires : LineCommand → ℕ → ℕ → Type 0
+Fires (Step goal choice) old new = (new ≡ old) ⊎ (new ≡ one_more old)
 Fires Nothing old new = new ≡ old
 Fires (Undo number) old new = new ≡ old
 Fires (Show word) old new = new ≡ old
 Fires Records old new = new ≡ old
+Fires Goals old new = new ≡ old
 Fires Quit old new = new ≡ old
 Fires Unknown old new = new ≡ old
 
@@ -23,14 +23,10 @@ firings_of Nothing = 0
 firings_of (Undo number) = 0
 firings_of (Show word) = 0
 firings_of Records = 0
+firings_of Goals = 0
 firings_of Quit = 0
 firings_of Unknown = 0
 
 -- how many firings the lines of an input may ask for: one for each step
 abbrev pub firings_in : List (List ℕ) → ℕ
 firings_in lines = sum_by (λ line. firings_of (command_of line)) lines
-
--- At most n firings were counted, and no try.
-pub record FiresAtMost (n : ℕ) (old new : Meter) : Type 0 where
-  pub firings : new.firings ≤ old.firings + n
-  pub tries : new.tries ≡ old.tries

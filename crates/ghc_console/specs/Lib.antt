@@ -6,5 +6,6 @@ pub mod Words
 pub mod Commands
 pub mod VariableNamed
 pub mod Replies
+pub mod Told
 pub mod Session
 pub mod Firing

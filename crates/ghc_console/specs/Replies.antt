@@ -1,6 +1,7 @@
 -- The replies to lines: what is written for each, and which world it leaves.
-use Rattle.std.specs.Prelude.{◌≡◌, ◌<◌, ◌≤◌, ℕ, Bool, true, false, List, [], ◌∷◌, ◌++◌, codes, length, map, Option}
+use Rattle.std.specs.Prelude.{◌≡◌, ◌≢◌, ◌<◌, ◌≤◌, ℕ, Bool, true, false, List, [], ◌∷◌, ◌++◌, codes, length, map, Option}
 use Rattle.std.specs.Fmt.{decimal}
+use Rattle.std.specs.FinMap as finite
 use Rattle.ghc_term.specs.declared.var_name.VarName.{VarName}
 use Rattle.ghc_term.specs.declared.goal_name.GoalName.{GoalName}
 use Rattle.ghc_term.specs.declared.fault.Fault.{Fault}
@@ -17,12 +18,14 @@ use Rattle.ghc_core.specs.World.{World, IsFull, with_step}
 use Rattle.ghc_core.specs.Events.{Reply, undone, refused as event_refused}
 use Rattle.ghc_core.specs.Proposes.{AttemptAnswers, IsCommitOf}
 use Rattle.ghc_core.specs.Reverses.{Undoes}
-use Rattle.ghc_trace.specs.Ports.{taken_ports}
+use Rattle.ghc_trace.specs.Ports.{Port, ArePorts}
 use Rattle.ghc_trace.specs.PortText.{ports_text}
+use Rattle.ghc_trace.specs.News.{Standing, AreNews, news_text}
+use Rattle.ghc_trace.specs.GoalLines.{AreGoalLines, HasTooLong}
 use Rattle.ghc_console.specs.VariableNamed.{IsVariableNamed}
 use Rattle.ghc_console.specs.Commands.{command_of}
 use Rattle.ghc_console.specs.declared.command.LineCommand.{LineCommand}
-use Rattle.ghc_console.specs.declared.command.LineCommand.TheVariants.{Nothing as nothing, Step as step, Undo as undo, Show as show, Records as records, Quit as quit, Unknown as unknown}
+use Rattle.ghc_console.specs.declared.command.LineCommand.TheVariants.{Nothing as nothing, Step as step, Undo as undo, Show as show, Records as records, Goals as goals, Quit as quit, Unknown as unknown}
 use Rattle.ghc_console.specs.Reading.{line_limit}
 
 -- the text as a line
@@ -37,9 +40,15 @@ refusal f = lined (fault_text f)
 abbrev pub print_limit : ℕ
 print_limit = 1048576
 
--- Takes w p text v: the step that was proposed is taken, and its ports are told; or the world is full, which refuses it.
+-- Settled w v front text: the world w was changed to the world v, of which the front of the text tells. Behind it come the lines of the goals that are stuck now in a way in which they were not before, or that memory was refused for them.
+pub data Settled (w v : World) (front : List ℕ) : List ℕ → Type 0 where
+  settled : {news : List Standing} → AreNews w v news → Settled w v front (front ++ news_text news)
+  unsettled : Settled w v front (front ++ refusal Fault.Memory)
+
+-- Takes w p text v: the step that was proposed is taken; its ports are told, and what is stuck then. Or the world is full, which refuses it.
 pub data Takes (w : World) (p : Proposal) : List ℕ → World → Type 0 where
-  takes : (r : Record) → IsCommitOf w p r → Takes w p (ports_text (taken_ports r)) (with_step r w)
+  takes : (r : Record) {ports : List Port} {text : List ℕ} → IsCommitOf w p r → ArePorts w r ports → Settled w (with_step r w) (ports_text ports) text
+      → Takes w p text (with_step r w)
   full : IsFull w → Takes w p (refusal Fault.Full) w
 
 -- RepliesToStep w g choice text v: an attempt at the goal named g, with a clause chosen or not, proposes a step, which is taken, or the attempt is refused.
@@ -55,14 +64,14 @@ numbers_text numbers = listed (codes ",") (map decimal numbers)
 abbrev pub undone_text : List ℕ → List ℕ
 undone_text numbers = lined (codes "undone " ++ numbers_text numbers)
 
--- IsToldAs reply text: the text tells which steps were undone, or why none was.
-pub data IsToldAs : Reply → List ℕ → Type 0 where
-  tells_steps : {steps text : List ℕ} → text ≡ undone_text steps → IsToldAs (undone steps) text
-  tells_why : {f : Fault} {text : List ℕ} → text ≡ refusal f → IsToldAs (event_refused f) text
+-- IsToldAs w v reply text: the text tells which steps were undone, and what is stuck then; or why none was undone.
+pub data IsToldAs (w v : World) : Reply → List ℕ → Type 0 where
+  tells_steps : {steps text : List ℕ} → Settled w v (undone_text steps) text → IsToldAs w v (undone steps) text
+  tells_why : {f : Fault} {text : List ℕ} → text ≡ refusal f → IsToldAs w v (event_refused f) text
 
 -- TakesBack w n text v: the text tells the reply to undoing step n, which leaves the world v.
 abbrev pub TakesBack : World → ℕ → List ℕ → World → Type 0
-TakesBack w n text v = (reply : Reply) × Undoes ⊥ w n reply v × IsToldAs reply text
+TakesBack w n text v = (reply : Reply) × Undoes ⊥ w n reply v × IsToldAs w v reply text
 
 -- RepliesToShow w word text: the variable that the word names, and the term to which it leads; or the refusal where it names none, or the term is too long.
 pub data RepliesToShow (w : World) (word : List ℕ) : List ℕ → Type 0 where
@@ -82,6 +91,12 @@ abbrev pub records_text : List Record → List ℕ
 records_text [] = lined (codes "none")
 records_text (r ∷ rs) = record_lines (r ∷ rs)
 
+-- RepliesToGoals w text: each goal with its status, by name, and `none` where there is no goal; or the refusal where the text of a goal is too long.
+pub data RepliesToGoals (w : World) : List ℕ → Type 0 where
+  no_goals : w.state.goals ≡ finite.empty → RepliesToGoals w (lined (codes "none"))
+  lists : {text : List ℕ} → w.state.goals ≢ finite.empty → AreGoalLines w text → ¬ HasTooLong w.state.goals w.state.store → RepliesToGoals w text
+  goal_too_long : HasTooLong w.state.goals w.state.store → RepliesToGoals w (refusal (Fault.Limit limit.Print))
+
 -- Replies w c text v: the reply to the command c in the world w is the text, and it leaves the world v.
 abbrev pub Replies : World → LineCommand → List ℕ → World → Type 0
 Replies w nothing text v = (text ≡ []) × (v ≡ w)
@@ -89,6 +104,7 @@ Replies w (step g choice) text v = RepliesToStep w g choice text v
 Replies w (undo n) text v = TakesBack w n text v
 Replies w (show word) text v = RepliesToShow w word text × (v ≡ w)
 Replies w records text v = (text ≡ records_text w.kept) × (v ≡ w)
+Replies w goals text v = RepliesToGoals w text × (v ≡ w)
 Replies w quit text v = (text ≡ []) × (v ≡ w)
 Replies w unknown text v = (text ≡ refusal Fault.Command) × (v ≡ w)
 
@@ -99,6 +115,7 @@ quits (step g choice) = false
 quits (undo n) = false
 quits (show word) = false
 quits records = false
+quits goals = false
 quits quit = true
 quits unknown = false
 

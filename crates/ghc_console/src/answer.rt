@@ -7,13 +7,13 @@ ghost use Rattle.ghc_console.specs.Replies.{IsReply, Replies, quits, refusal};
 
 use crate::command::{LineCommand, parse};
 use crate::reading::Line;
-use crate::reply::{records, refused, show, step};
+use crate::reply::{goals, records, refused, show, step};
 use crate::undo_reply::undo;
 use ghc_core::Core;
 use ghc_term::{Fault, Limit};
 use std::alloc::{AllocError, Global};
 
-// Carries a command out, and writes the reply. An error leaves the core as it was.
+// Carries a command out, and writes the reply. An error leaves the world as it was.
 fn execute(
     alloc: Global,
     core: &mut Core,
@@ -24,14 +24,15 @@ fn execute(
     ensures reply { OnOk result (Replies core.old.world command.now (string_bytes reply.new) core.new.world) }
     ensures err { OnErr result (core.new.world ≡ core.old.world) }
     ensures opening { core.new.world.opening ≡ core.old.world.opening }
-    ensures fires { Fires command.now core.old.meter core.new.meter }
+    ensures fires { Fires command.now core.old.meter.firings core.new.meter.firings }
 {
     match command {
         LineCommand::Nothing | LineCommand::Quit => Ok(()),
         LineCommand::Step(goal, choice) => step(alloc, core, *goal, *choice, reply),
-        LineCommand::Undo(number) => undo(core, *number, reply),
+        LineCommand::Undo(number) => undo(alloc, core, *number, reply),
         LineCommand::Show(word) => show(alloc, core, word.as_str(), reply),
         LineCommand::Records => records(core, reply),
+        LineCommand::Goals => goals(alloc, core, reply),
         LineCommand::Unknown => refused(&Fault::Command, reply),
     }
 }
@@ -57,7 +58,7 @@ fn execute_line(
     ensures ok { length line.now ≤ line_limit → IfOk result (λ ended. IsReply core.old.world line.now (string_bytes reply.new) core.new.world ended) }
     ensures err { OnErr result (core.new.world ≡ core.old.world) }
     ensures opening { core.new.world.opening ≡ core.old.world.opening }
-    ensures fires { Fires (command_of line.now) core.old.meter core.new.meter }
+    ensures fires { Fires (command_of line.now) core.old.meter.firings core.new.meter.firings }
 {
     let command = match parse(alloc, line) {
         Ok(command) => command,
@@ -82,7 +83,7 @@ pub fn answer(
         (λ ended. IsReply core.old.world bytes (string_bytes reply.new) core.new.world ended)
         (λ _. IsReply core.old.world bytes (refusal Fault.Memory) core.new.world false) }
     ensures opening { core.new.world.opening ≡ core.old.world.opening }
-    ensures fires { (bytes : List ℕ) → LineSays line.now bytes → Fires (command_of bytes) core.old.meter core.new.meter }
+    ensures fires { (bytes : List ℕ) → LineSays line.now bytes → Fires (command_of bytes) core.old.meter.firings core.new.meter.firings }
 {
     reply.clear();
     match line {

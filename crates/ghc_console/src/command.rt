@@ -22,6 +22,8 @@ pub enum LineCommand {
     Show(Word),
     /// The record.
     Records,
+    /// The goals with their statuses.
+    Goals,
     /// The end of the session.
     Quit,
     /// No command that is known.
@@ -34,6 +36,9 @@ fn one_word_command(first_word: &[u8]) -> LineCommand
 {
     if first_word == b"records".as_slice() {
         return LineCommand::Records;
+    }
+    if first_word == b"goals".as_slice() {
+        return LineCommand::Goals;
     }
     if first_word == b"quit".as_slice() {
         return LineCommand::Quit;

@@ -12,6 +12,7 @@ mod reading;
 mod reply;
 mod script;
 mod session_loop;
+mod settled;
 mod undo_reply;
 mod word;
 pub mod words;

@@ -1,18 +1,23 @@
 // The replies to commands, each written into a text that is empty before. Where one gives up, what stands there is no reply.
-ghost use Rattle.std.specs.Prelude.{◌≡◌, ◌≢◌, ◌++◌, [], OnErr, OnOk, codes, string_bytes};
-ghost use Rattle.ghc_fire.specs.Meter.{fired};
-ghost use Rattle.ghc_core.specs.Proposes.{IsCommitOf};
-ghost use Rattle.ghc_core.specs.World.{with_step};
+ghost use Rattle.std.specs.Prelude.{◌≡◌, ◌≢◌, ◌⊎◌, ◌++◌, [], List, OnErr, OnOk, codes, string_bytes};
+ghost use Rattle.ghc_fire.specs.Meter.{one_more};
 ghost use Rattle.ghc_fire.specs.Proposal.{Proposal as proposal_spec};
-ghost use Rattle.ghc_trace.specs.Ports.{taken_ports};
+ghost use Rattle.ghc_records.specs.Replay.{MakesGoal};
+ghost use Rattle.ghc_core.specs.Proposes.{IsCommitOf};
+ghost use Rattle.ghc_trace.specs.Disturbed.{AreDisturbed};
+ghost use Rattle.ghc_trace.specs.Laws.{IsSettled};
+ghost use Rattle.ghc_trace.specs.Ports.{Port, ArePorts};
 ghost use Rattle.ghc_trace.specs.PortText.{ports_text};
-ghost use Rattle.ghc_console.specs.Replies.{RepliesToStep, RepliesToShow, lined, record_lines, records_text, refusal};
+ghost use Rattle.ghc_console.specs.Replies.{RepliesToStep, RepliesToShow, RepliesToGoals, Takes, lined, record_lines, records_text, refusal};
 
 use crate::asking::variable_named;
+use crate::settled::{make, settle};
 use ghc_core::{Change, Core};
-use ghc_records::{Addition, Records, push_record};
+use ghc_records::{Addition, Record, Records, push_record};
 use ghc_term::{Fault, GoalName, Term, print};
-use ghc_trace::push_ports_of;
+use ghc_trace::{
+    Disturbed, lines_are_of_goals, notes_tell_goals, notes_tell_ports, push_goals, push_ports_of,
+};
 use std::alloc::{AllocError, Global};
 
 /// The line of a refusal. Fails for want of memory, and where that is the refusal.
@@ -29,24 +34,48 @@ pub fn refused(fault: &Fault, reply: &mut String) -> Result<(), AllocError>
     reply.push_str("\n")
 }
 
-// Tells the ports of the step, makes room for it, and takes it.
-fn take(core: &mut Core, addition: Addition, reply: &mut String) -> Result<(), AllocError>
+// Tells the ports of a step that is about to be taken: that it is taken, the goals that it makes, the goals that it resumes.
+fn push_ports(
+    disturbed: &Disturbed,
+    core: &Core,
+    step: &Record,
+    reply: &mut String,
+) -> Result<(), AllocError>
     requires empty { string_bytes reply.old ≡ [] }
-    requires found { (p : proposal_spec) × IsCommitOf core.old.world p addition }
-    ensures text { OnOk result (string_bytes reply.new ≡ ports_text (taken_ports addition)) }
-    ensures world { OnOk result (core.new.world ≡ with_step addition core.old.world) }
-    ensures err { OnErr result (core.new.world ≡ core.old.world) }
-    ensures meter { core.new.meter ≡ core.old.meter }
+    requires settled { IsSettled core.now.world core.now.notes }
+    requires disturbed { AreDisturbed core.now.notes step.now (MakesGoal step.now) disturbed.now }
+    ensures { OnOk result ((ports : List Port) × ArePorts core.now.world step.now ports × (string_bytes reply.new ≡ ports_text ports)) }
 {
-    push_ports_of(addition.step(), reply)?;
-    let change = Change::Adds(addition);
-    core.reserve(&change)?;
-    core.apply(change);
+    push_ports_of(step, reply)?;
+    disturbed.push_resumed(step, reply)?;
+    // Called for its clause that the notes tell the ports, which the proof cites.
+    notes_tell_ports();
     Ok(())
 }
 
-/// Takes a step of the goal, by the clause chosen or else by the least that accepts, and tells its ports; or its refusal. It is
-/// fired once. The change is found first, then the text is made, and then room; an error leaves the core as it was.
+// Tells the ports of the step, takes it, and tells what is stuck then.
+fn take(
+    alloc: Global,
+    core: &mut Core,
+    addition: Addition,
+    reply: &mut String,
+) -> Result<(), AllocError>
+    requires empty { string_bytes reply.old ≡ [] }
+    requires settled { IsSettled core.old.world core.old.notes }
+    requires found { (p : proposal_spec) × IsCommitOf core.old.world p addition }
+    ensures text { OnOk result ((p : proposal_spec) → IsCommitOf core.old.world p addition → Takes core.old.world p (string_bytes reply.new) core.new.world) }
+    ensures err { OnErr result (core.new.world ≡ core.old.world) }
+    ensures firings { core.new.meter.firings ≡ core.old.meter.firings }
+{
+    let step = addition.step();
+    let disturbed = Disturbed::by_taking(alloc, core.tries(), step)?;
+    push_ports(&disturbed, core, step, reply)?;
+    make(alloc, core, Change::Adds(addition), &disturbed, reply)
+}
+
+/// Takes a step of the goal, by the clause chosen or else by the least that accepts, and tells its ports and what is stuck
+/// then; or its refusal. What is untried is tried first, so that it is known what waits; the step is then fired at most once.
+/// The change is found, then the text of its ports is made, and then room; an error leaves the world as it was.
 pub fn step(
     alloc: Global,
     core: &mut Core,
@@ -57,10 +86,11 @@ pub fn step(
     requires { string_bytes reply.old ≡ [] }
     ensures text { OnOk result (RepliesToStep core.old.world goal choice (string_bytes reply.new) core.new.world) }
     ensures err { OnErr result (core.new.world ≡ core.old.world) }
-    ensures meter { core.new.meter ≡ fired core.old.meter }
+    ensures firings { (core.new.meter.firings ≡ core.old.meter.firings) ⊎ (core.new.meter.firings ≡ one_more core.old.meter.firings) }
 {
+    settle(alloc, core)?;
     match core.prepare_step(alloc, goal, choice) {
-        Ok(addition) => take(core, addition, reply),
+        Ok(addition) => take(alloc, core, addition, reply),
         Err(fault) => refused(&fault, reply),
     }
 }
@@ -102,6 +132,36 @@ fn lines(records: &Records, reply: &mut String) -> Result<(), AllocError>
         reply.push_str("\n")?;
     }
     Ok(())
+}
+
+// What is told of no goals.
+fn or_none(reply: &mut String) -> Result<(), AllocError>
+    ensures none { OnOk result (string_bytes reply.old ≡ [] → string_bytes reply.new ≡ lined (codes "none")) }
+    ensures some { OnOk result (string_bytes reply.old ≢ [] → string_bytes reply.new ≡ string_bytes reply.old) }
+{
+    if reply.is_empty() {
+        return reply.push_str("none\n");
+    }
+    Ok(())
+}
+
+/// Tells each goal with its status, by name, or `none`; or the refusal where one is too long to print. What is untried is tried
+/// first. Some look-ups for each goal, and the cost of printing each.
+#[inline(never)]
+pub fn goals(alloc: Global, core: &mut Core, reply: &mut String) -> Result<(), AllocError>
+    requires { string_bytes reply.old ≡ [] }
+    ensures text { OnOk result (RepliesToGoals core.old.world (string_bytes reply.new)) }
+    ensures world { core.new.world ≡ core.old.world }
+    ensures firings { core.new.meter.firings ≡ core.old.meter.firings }
+{
+    settle(alloc, core)?;
+    // Called for their clauses on the lines of goals, which the proof cites.
+    notes_tell_goals();
+    lines_are_of_goals();
+    match push_goals(alloc, core.goals(), core.tries(), core.store(), reply) {
+        Ok(()) => or_none(reply),
+        Err(fault) => refused(&fault, reply),
+    }
 }
 
 /// The records, a line each, or `none`.

@@ -1,9 +1,9 @@
 // The session: lines are read, and their replies written.
-ghost use Rattle.std.specs.Prelude.{◌≡◌, ◌+◌, ◌-◌, ℕ, List, IfErr, IfSome, OnOk, MatchResult};
+ghost use Rattle.std.specs.Prelude.{◌≡◌, ◌+◌, ◌-◌, ◌≤◌, ℕ, List, IfErr, IfSome, OnOk, MatchResult};
 ghost use Rattle.std.specs.Io.KnownBytes.{Keeps};
 ghost use Rattle.ghc_console.specs.Commands.{command_of};
 ghost use Rattle.ghc_console.specs.Device.{Counts};
-ghost use Rattle.ghc_console.specs.Firing.{Fires, FiresAtMost, firings_in};
+ghost use Rattle.ghc_console.specs.Firing.{Fires, firings_in};
 ghost use Rattle.ghc_console.specs.Lines.{lines_of};
 ghost use Rattle.ghc_console.specs.Reading.{LineSays};
 ghost use Rattle.ghc_console.specs.Session.{Began, Served, Session, Tells};
@@ -11,6 +11,7 @@ ghost use Rattle.ghc_console.specs.Session.{Began, Served, Session, Tells};
 use crate::answer::answer;
 use crate::device::{Broken, Device, write_all};
 use crate::reading::{Ahead, Line};
+use crate::settled::settle;
 use ghc_core::Core;
 use ghc_term::Fault;
 use std::alloc::Global;
@@ -37,7 +38,7 @@ fn serve<D: Device>(
     ensures served { (bytes : List ℕ) → LineSays line.now bytes
         → Served core.old.world bytes core.new.world (D.written device.old) (D.written device.new) result }
     ensures opening { core.new.world.opening ≡ core.old.world.opening }
-    ensures fires { (bytes : List ℕ) → LineSays line.now bytes → Fires (command_of bytes) core.old.meter core.new.meter }
+    ensures fires { (bytes : List ℕ) → LineSays line.now bytes → Fires (command_of bytes) core.old.meter.firings core.new.meter.firings }
     ensures unread { Keeps (D.unread device.old) (D.unread device.new) }
     ensures count { Counts (D.failures device.old) (D.failures device.new) result }
     ensures earlier { D.earlier device.new ≡ D.earlier device.old }
@@ -55,8 +56,8 @@ fn serve<D: Device>(
     }
 }
 
-/// Answers the lines of the device, up to `quit` or the end of the input. Where a call of the device fails it ends with
-/// `Device`, and the core is that after the last line executed. Each line costs what its command costs.
+/// Settles, and answers the lines of the device, up to `quit` or the end of the input. Where a call of the device fails it ends
+/// with `Device`, and the core is that after the last line executed. Each line costs what its command costs.
 pub fn session<R: Wait, D: Device>(
     rt: &R,
     alloc: Global,
@@ -73,13 +74,15 @@ pub fn session<R: Wait, D: Device>(
     ensures opening { result.0.world.opening ≡ core.world.opening }
 
     // Where the bytes are known, each step of the lines fires at most once, and nothing else does.
-    ensures fires { IfSome (D.unread device.old) (λ input. FiresAtMost (firings_in (lines_of input)) core.meter result.0.meter) }
+    ensures fires { IfSome (D.unread device.old) (λ input. result.0.meter.firings ≤ core.meter.firings + firings_in (lines_of input)) }
 
     // It fails only where the device did.
     ensures failed { IfErr result.1 (λ e. (e ≡ Fault.Device) × (D.failures device.new ≡ D.failures device.old + 1)) }
     ensures ok { OnOk result.1 (D.failures device.new ≡ D.failures device.old) }
 {
     let mut core = core;
+    // Where memory is refused, the first line that asks for a change settles.
+    let _ = settle(alloc, &mut core);
     let mut ahead = Ahead::new();
     let mut spare = Vec::new(alloc);
     let mut reply = String::new(alloc);

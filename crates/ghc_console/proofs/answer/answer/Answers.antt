@@ -32,7 +32,7 @@ returns-in-NoMemory-clause-reply c bytes says = no_memory
 pub returns-in-Whole-clause-fires : goal.returns-in-Whole-clause-fires
 returns-in-Whole-clause-fires c bytes says =
     let whole = subst (λ l. LineSays l bytes) c.in-Whole.is says in
-    subst (λ l. Fires (command_of l) c.args.core.now.meter c.execute_line.new.core.meter) (c.as_slice.ensures.value ∙ whole.0) c.execute_line.ensures.fires
+    subst (λ l. Fires (command_of l) c.args.core.now.meter.firings c.execute_line.new.core.meter.firings) (c.as_slice.ensures.value ∙ whole.0) c.execute_line.ensures.fires
 
 pub returns-in-Ok-clause-fires : goal.returns-in-Ok-clause-fires
 returns-in-Ok-clause-fires c bytes says = fires_nothing _ _ _ refl

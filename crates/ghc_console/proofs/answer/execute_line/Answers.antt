@@ -14,4 +14,4 @@ pub returns-in-Err-clause-fires : goal.returns-in-Err-clause-fires
 returns-in-Err-clause-fires c = fires_nothing _ _ _ refl
 
 pub returns-in-Ok-execute-clause-fires : goal.returns-in-Ok-execute-clause-fires
-returns-in-Ok-execute-clause-fires c = subst (λ k. Fires k c.args.core.now.meter c.execute.new.core.meter) c.in-Ok.ensures c.in-Ok-execute.ensures.fires
+returns-in-Ok-execute-clause-fires c = subst (λ k. Fires k c.args.core.now.meter.firings c.execute.new.core.meter.firings) c.in-Ok.ensures c.in-Ok-execute.ensures.fires

@@ -1,9 +1,23 @@
-use Rattle.std.proofs.Common.{sym, subst}
-use Rattle.ghc_core.specs.World.{World}
-use Rattle.ghc_core.specs.Proposes.{IsCommitOf}
+use Rattle.std.proofs.Common.{subst, string_bytes}
+use Rattle.ghc_hooks.specs.Notes.{NotesByGoal}
+use Rattle.ghc_records.specs.Record.{Record}
+use Rattle.ghc_records.specs.Replay.{MakesGoal}
+use Rattle.ghc_trace.specs.Disturbed.{AreDisturbed}
+use Rattle.ghc_trace.specs.Ports.{ArePorts}
+use Rattle.ghc_console.specs.Replies.{Settled}
+use Rattle.ghc_console.proofs.StepReplies.{if_ok, step_taken}
 use Rattle.ghc_console.proofs.reply.take.Goals as goal
 
-pub apply-requires-clause-found : goal.apply-requires-clause-found
-apply-requires-clause-found c =
-    let p = c.requires.found in
-    (p.0, subst (λ (w : World). IsCommitOf w p.0 c.args.addition) (sym c.reserve.ensures.world) p.1)
+pub make-requires-clause-disturbed : goal.make-requires-clause-disturbed
+make-requires-clause-disturbed c =
+    let d = c.in_ok-disturbed.disturbed in
+    subst (λ (r : Record). AreDisturbed c.args.core.now.notes r (MakesGoal r) d) c.step-step.ensures
+    (subst (λ (n : NotesByGoal). AreDisturbed n c.step-step.result.now (MakesGoal c.step-step.result.now) d) c.tries.ensures.notes c.in_ok-disturbed.ensures)
+
+pub returns-clause-text : goal.returns-clause-text
+returns-clause-text c = if_ok c.make.result c.make.ensures.changed c.make.ensures.told (λ _ same told p commit.
+    let w = c.args.core.now.world in
+    let v = c.make.new.core.world in
+    let text = string_bytes c.make.new.reply in
+    let ports = c.in_ok-push_ports.ensures in
+    step_taken w v p c.args.addition ports.0 text commit (subst (λ (r : Record). ArePorts w r ports.0) c.step-step.ensures ports.1) same (subst (λ front. Settled w v front text) ports.2 told))

@@ -6,19 +6,19 @@ use Rattle.ghc_console.proofs.SessionLoop.{going_asked, going_on, going_end, goi
 use Rattle.ghc_console.proofs.session_loop.session.Goals as goal
 
 pub loop-init : goal.loop-init
-loop-init g c = (tt, tt, rw c.new-ahead.ensures (going_start _ _ _ _ (omega arith)), refl, refl, rw (c.new-ahead.ensures, prepend_known-nil _) (fired_start _ _), given_start _ _)
+loop-init g c = (tt, tt, rw c.new-ahead.ensures (going_start _ _ _ _ (omega arith)), refl, refl, rw (c.new-ahead.ensures, prepend_known-nil _) (fired_start _ _ _ refl), given_start _ _)
 
 pub returns-in-Err-clause-text : goal.returns-in-Err-clause-text
 returns-in-Err-clause-text g c =
     let read = c.in-Err.ensures in
-    broken_read _ _ _ _ _ _ _ _ (going_asked _ _ _ _ _ _ _ _ _ _ _ c.loop.invariant.2 c.loop.invariant.6 read.asks) read.written
+    rw (sym c.settle.ensures.world) (broken_read _ _ _ _ _ _ _ _ (going_asked _ _ _ _ _ _ _ _ _ _ _ c.loop.invariant.2 c.loop.invariant.6 read.asks) read.written)
 
 pub returns-in-Ok-None-clause-text : goal.returns-in-Ok-None-clause-text
 returns-in-Ok-None-clause-text g c =
     let read = c.in-Ok-None.ensures in
     let end = rw c.in-Ok-None.field-0-is at read.line in
     let so_far = going_asked _ _ _ _ _ _ _ _ _ _ _ c.loop.invariant.2 c.loop.invariant.6 read.asks in
-    going_end _ _ _ _ _ _ _ _ so_far end.0 read.written
+    rw (sym c.settle.ensures.world) (going_end _ _ _ _ _ _ _ _ so_far end.0 read.written)
 
 pub returns-in-Err-serve-clause-text : goal.returns-in-Err-serve-clause-text
 returns-in-Err-serve-clause-text g c =
@@ -26,7 +26,7 @@ returns-in-Err-serve-clause-text g c =
     let read = c.in-Ok-Some.ensures in
     let taken = rw c.in-Ok-Some.field-0-is at read.line in
     let so_far = going_asked _ _ _ _ _ _ _ _ _ _ _ c.loop.invariant.2 c.loop.invariant.6 read.asks in
-    rw c.in-Err-serve.ensures.earlier (broken_write _ _ _ _ _ _ _ _ _ _ _ so_far taken (λ bytes says.
+    rw (sym c.settle.ensures.world, c.in-Err-serve.ensures.earlier) (broken_write _ _ _ _ _ _ _ _ _ _ _ so_far taken (λ bytes says.
     let s = c.in-Err-serve.ensures.served bytes says in
     (s.text, s.ended, s.reply, (s.written.0, kept_then _ _ _ _ read.written s.written.1))))
 
@@ -35,7 +35,7 @@ returns-in-Ok-true-clause-text g c =
     let read = c.in-Ok-Some.ensures in
     let taken = rw c.in-Ok-Some.field-0-is at read.line in
     let so_far = going_asked _ _ _ _ _ _ _ _ _ _ _ c.loop.invariant.2 c.loop.invariant.6 read.asks in
-    rw c.in-Ok-true.ensures.earlier (going_quit _ _ _ _ _ _ _ _ _ _ _ so_far taken (λ bytes says.
+    rw (sym c.settle.ensures.world, c.in-Ok-true.ensures.earlier) (going_quit _ _ _ _ _ _ _ _ _ _ _ so_far taken (λ bytes says.
     let s = c.in-Ok-true.ensures.served bytes says in
     (s.text, subst (IsReply c.loop.core.world bytes s.text c.serve.new.core.world) (sym s.written.0 ∙ c.in-Ok-true.field-0-test) s.reply, kept_then _ _ _ _ read.written s.written.1)))
 
@@ -59,17 +59,17 @@ loop-preserved g c =
     )
 
 pub returns-in-Err-clause-fires : goal.returns-in-Err-clause-fires
-returns-in-Err-clause-fires g c = fired_end _ _ _ _ c.loop.invariant.5
+returns-in-Err-clause-fires g c = rw (sym c.settle.ensures.firings) (fired_end _ _ _ _ c.loop.invariant.5)
 
 pub returns-in-Ok-None-clause-fires : goal.returns-in-Ok-None-clause-fires
-returns-in-Ok-None-clause-fires g c = fired_end _ _ _ _ c.loop.invariant.5
+returns-in-Ok-None-clause-fires g c = rw (sym c.settle.ensures.firings) (fired_end _ _ _ _ c.loop.invariant.5)
 
 pub returns-in-Err-serve-clause-fires : goal.returns-in-Err-serve-clause-fires
 returns-in-Err-serve-clause-fires g c =
     let taken = rw c.in-Ok-Some.field-0-is at c.in-Ok-Some.ensures.line in
-    fired_end _ _ _ _ (fired_on _ _ _ _ _ _ _ c.loop.invariant.5 taken c.in-Err-serve.ensures.fires)
+    rw (sym c.settle.ensures.firings) (fired_end _ _ _ _ (fired_on _ _ _ _ _ _ _ c.loop.invariant.5 taken c.in-Err-serve.ensures.fires))
 
 pub returns-in-Ok-true-clause-fires : goal.returns-in-Ok-true-clause-fires
 returns-in-Ok-true-clause-fires g c =
     let taken = rw c.in-Ok-Some.field-0-is at c.in-Ok-Some.ensures.line in
-    fired_end _ _ _ _ (fired_on _ _ _ _ _ _ _ c.loop.invariant.5 taken c.in-Ok-true.ensures.fires)
+    rw (sym c.settle.ensures.firings) (fired_end _ _ _ _ (fired_on _ _ _ _ _ _ _ c.loop.invariant.5 taken c.in-Ok-true.ensures.fires))

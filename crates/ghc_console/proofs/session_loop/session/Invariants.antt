@@ -14,5 +14,5 @@ invariant-loop g l =
     × Going l.initial.core.world l.core.world (d.unread l.initial.device) (prepend_known l.ahead (d.unread l.device)) (d.written l.initial.device) (d.written l.device)
     (d.earlier l.device - first)
     × (d.failures l.device ≡ d.failures l.initial.device) × (l.core.world.opening ≡ l.initial.core.world.opening)
-    × FiredSo (d.unread l.initial.device) (prepend_known l.ahead (d.unread l.device)) l.initial.core.meter l.core.meter
+    × FiredSo (d.unread l.initial.device) (prepend_known l.ahead (d.unread l.device)) l.initial.core.meter.firings l.core.meter.firings
     × CountsGiven (d.unread l.initial.device) (d.unread l.device) first (d.earlier l.device + d.latest l.device)

@@ -1,0 +1,17 @@
+use Rattle.std.proofs.Common.{◌++◌, sym, ap, subst, ◌∙◌, string_bytes}
+use Rattle.ghc_trace.specs.Disturbed.{AreStuckOtherwise}
+use Rattle.ghc_trace.specs.News.{news_text}
+use Rattle.ghc_console.specs.Told.{IsJustChanged}
+use Rattle.ghc_console.proofs.Settling.{appended, told_by_notes}
+use Rattle.ghc_console.proofs.settled.push_stuck.Goals as goal
+
+pub returns-clause-told : goal.returns-clause-told
+returns-clause-told c = appended c.push_str.result (string_bytes c.push_str.new.self) (string_bytes c.args.reply.now) c.as_str.result.now c.push_str.ensures.bytes (λ is w change notes j.
+    let d = c.args.disturbed.now in
+    let front = string_bytes c.args.reply.now in
+    let after = c.in_ok-settle.ensures in
+    let stuck = c.in_ok-push_news.ensures.ok in
+    let lines = c.as_str.ensures.value ∙ stuck.2 ∙ ap (λ l. l ++ news_text stuck.0) c.new-lines.ensures.bytes in
+    told_by_notes c.notes_tell_news.ensures w c.settle.new.core.world change notes c.args.core.now.notes c.settle.new.core.notes d front (string_bytes c.push_str.new.self)
+    (subst (λ v. IsJustChanged w change notes v c.args.core.now.notes d) (sym after.world) j) after.kept after.settled
+    (stuck.0, subst (λ n. AreStuckOtherwise n d stuck.0) c.tries.ensures.notes stuck.1, is ∙ ap (λ l. front ++ l) lines))
