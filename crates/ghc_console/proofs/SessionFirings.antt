@@ -1,7 +1,6 @@
 -- How many firings a session has come to.
 use Rattle.std.proofs.Common.{◌≡◌, ◌≤◌, ◌+◌, ◌∙◌, ℕ, Option, None, Some, IfSome, List, [], ◌∷◌, inl, inr, ap, arith}
 use Rattle.std.proofs.lemmas.List.Sums.{sum_by-append}
-use Rattle.ghc_fire.specs.Meter.{one_more}
 use Rattle.ghc_console.specs.Commands.{command_of}
 use Rattle.ghc_console.specs.Firing.{Fires, firings_in, firings_of}
 use Rattle.ghc_console.specs.Lines.{lines_of}

@@ -1,6 +1,5 @@
 -- What is told behind a change.
 use Rattle.std.proofs.Common.{◌≡◌, ℕ, List, ◌++◌, Result, Ok, Err, OnOk, OnErr, IsOk, is_ok, false, if◌then◌else◌, sym, subst}
-use Rattle.std.specs.FinMap as finite
 use Rattle.ghc_fire.specs.Goals.{Goals}
 use Rattle.ghc_hooks.specs.Notes.{NotesByGoal, AreLeft}
 use Rattle.ghc_depend.specs.Depend.{Binds}

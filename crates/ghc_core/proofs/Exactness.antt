@@ -1,5 +1,5 @@
 -- Notes and marks that were carried over a step are exact in the world that it leaves.
-use Rattle.std.proofs.Common.{◌≡◌, ◌≢◌, ℕ, ◌≤◌, ◌<◌, ◌⊎◌, true, false, List, refl, sym, ap, subst, ◌∙◌, inl, inr, arith}
+use Rattle.std.proofs.Common.{◌≡◌, ◌⊎◌, true, false, refl, sym, ap, subst, ◌∙◌, inl, inr, arith}
 use Rattle.std.specs.Prelude.{Option, Some, None, is_some, if◌then◌else◌, IsTrue}
 use Rattle.std.specs.Option.{option_or}
 use Rattle.std.specs.FinMap as finite
@@ -21,8 +21,8 @@ use Rattle.ghc_hooks.specs.Notes.{Note, NotesByGoal, IsExact, AreExact, AreLeft}
 use Rattle.ghc_hooks.specs.Tries.{Tries}
 use Rattle.ghc_hooks.proofs.LookedAt.{exact_stays}
 use Rattle.ghc_depend.specs.Depend.{MakesGoal, Binds}
-use Rattle.ghc_depend.proofs.Finding.{by_option, not_both, same_value, named_or_not, own, makes_at, own_made, made_own, without_it, without_other}
-use Rattle.ghc_depend.proofs.Results.{taken, Taken, Results, IsOld, is_old}
+use Rattle.ghc_depend.proofs.Finding.{by_option, not_both, same_value, named_or_not, own, makes_at, own_made, without_it, without_other}
+use Rattle.ghc_depend.proofs.Results.{taken, Taken, Results, is_old}
 use Rattle.ghc_depend.proofs.Placing.{Place, results_of, place_of, apart_at}
 use Rattle.ghc_core.specs.World.{World, IsReplay, IsNextStep, with_step}
 use Rattle.ghc_core.specs.Core.{IsStanding, AreExactIn}

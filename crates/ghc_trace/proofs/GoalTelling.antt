@@ -1,18 +1,14 @@
 -- By notes that are exact, where no goal is untried, the lines of goals are those of the world.
-use Rattle.std.proofs.Common.{◌≡◌, ◌≢◌, ℕ, true, false, List, [], ◌∷◌, ◌++◌, length, refl, sym, ap, ◌∙◌, subst, arith}
-use Rattle.std.specs.Prelude.{◌↔◌, Some, IsTrue, codes}
+use Rattle.std.proofs.Common.{◌≡◌, ◌≢◌, ℕ, List, [], ◌∷◌, ◌++◌, length, refl, sym, ap, ◌∙◌, arith}
 use Rattle.std.specs.List.{AllZip, concat}
 use Rattle.std.specs.FinMap as finite
-use Rattle.std.specs.FinSet as set
-use Rattle.ghc_term.specs.declared.goal_name.GoalName.{GoalName}
 use Rattle.ghc_term.specs.Goal.{Goal}
 use Rattle.ghc_term.specs.Lists.{In}
 use Rattle.ghc_term.specs.Store.{StoreValue}
-use Rattle.ghc_term.proofs.ListsLemmas.{not_both}
-use Rattle.ghc_fire.specs.Goals.{goal_cmp, Goals}
+use Rattle.ghc_fire.specs.Goals.{goal_cmp}
 use Rattle.ghc_records.specs.StepText.{goal_name_text}
 use Rattle.ghc_hooks.specs.Status.{Status, is_stream_goal}
-use Rattle.ghc_hooks.specs.Notes.{NotesByGoal, IsUntried}
+use Rattle.ghc_hooks.specs.Notes.{NotesByGoal}
 use Rattle.ghc_core.specs.World.{World}
 use Rattle.ghc_trace.specs.News.{Stands}
 use Rattle.ghc_trace.specs.Laws.{IsSettled}

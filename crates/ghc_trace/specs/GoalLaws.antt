@@ -1,8 +1,7 @@
 -- Laws of the lines of goals.
 use Rattle.std.specs.Prelude.{◌≡◌, ◌↔◌, ℕ, List, []}
 use Rattle.std.specs.FinMap as finite
-use Rattle.ghc_term.specs.declared.goal_name.GoalName.{GoalName}
-use Rattle.ghc_hooks.specs.Notes.{NotesByGoal, IsUntried}
+use Rattle.ghc_hooks.specs.Notes.{NotesByGoal}
 use Rattle.ghc_core.specs.World.{World}
 use Rattle.ghc_trace.specs.Laws.{IsSettled}
 use Rattle.ghc_trace.specs.GoalLines.{AreGoalLines, AreLinesByNotes}

@@ -1,8 +1,4 @@
 use Rattle.std.proofs.Common.{◌≡◌, ◌++◌, sym, ap, subst, ◌∙◌, string_bytes, Err}
-use Rattle.ghc_term.specs.Store.{StoreValue}
-use Rattle.ghc_fire.specs.Goals.{Goals}
-use Rattle.ghc_hooks.specs.Notes.{NotesByGoal}
-use Rattle.ghc_trace.specs.GoalLines.{AreLinesByNotes, HasTooLong}
 use Rattle.ghc_trace.proofs.Telling.{none_untried}
 use Rattle.ghc_console.specs.Replies.{RepliesToGoals}
 use Rattle.ghc_console.proofs.StepReplies.{if_ok, goals_told, goals_refused}

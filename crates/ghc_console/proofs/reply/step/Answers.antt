@@ -1,5 +1,4 @@
-use Rattle.std.proofs.Common.{sym, subst, ap, ◌∙◌, string_bytes, inr}
-use Rattle.ghc_fire.specs.Meter.{one_more}
+use Rattle.std.proofs.Common.{sym, subst, string_bytes}
 use Rattle.ghc_core.specs.World.{World}
 use Rattle.ghc_core.specs.Proposes.{IsCommitOf}
 use Rattle.ghc_console.specs.Replies.{RepliesToStep, Takes, steps}

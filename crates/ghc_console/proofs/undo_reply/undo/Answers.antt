@@ -1,4 +1,4 @@
-use Rattle.std.proofs.Common.{sym, subst, inl, inr, ◌∙◌, string_bytes}
+use Rattle.std.proofs.Common.{subst, inl, inr, string_bytes}
 use Rattle.ghc_core.specs.Events.{refused}
 use Rattle.ghc_core.specs.Reverses.{fails}
 use Rattle.ghc_console.specs.Replies.{TakesBack, tells_why}

@@ -1,4 +1,4 @@
-use Rattle.std.proofs.Common.{◌≡◌, ◌++◌, [], ◌∷◌, refl, sym, ap, ◌∙◌, arith, append_assoc, append-nil, subst, string_bytes}
+use Rattle.std.proofs.Common.{◌≡◌, ◌++◌, [], ◌∷◌, sym, ap, ◌∙◌, arith, append_assoc, append-nil, subst, string_bytes}
 use Rattle.std.proofs.lemmas.Grind.{common_steps}
 use Rattle.ghc_trace.specs.GoalLines.{Named}
 use Rattle.ghc_trace.specs.GoalLinesCode.{AddsLines, lent}
