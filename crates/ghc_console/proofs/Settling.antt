@@ -1,15 +1,11 @@
 -- What is told behind a change.
 use Rattle.std.proofs.Common.{◌≡◌, ℕ, List, ◌++◌, Result, Ok, Err, OnOk, OnErr, IsOk, is_ok, false, if◌then◌else◌, sym, subst}
-use Rattle.ghc_fire.specs.Goals.{Goals}
-use Rattle.ghc_hooks.specs.Notes.{NotesByGoal, AreLeft}
-use Rattle.ghc_depend.specs.Depend.{Binds}
+use Rattle.ghc_hooks.specs.Notes.{NotesByGoal}
 use Rattle.ghc_core.specs.World.{World}
 use Rattle.ghc_core.specs.Settling.{AreKept}
 use Rattle.ghc_core.specs.declared.change.Change.{Change}
-use Rattle.ghc_core.specs.declared.change.Change.TheVariants.{Adds as adds, TakesAway as takes_away}
-use Rattle.ghc_core.specs.Change.{IsBoundBy}
 use Rattle.ghc_trace.specs.Disturbed.{Disturbed, AreStuckOtherwise}
-use Rattle.ghc_trace.specs.Laws.{IsSettled, NotesTellNews, step_in}
+use Rattle.ghc_trace.specs.Laws.{IsSettled, NotesTellNews}
 use Rattle.ghc_trace.specs.News.{Standing, news_text}
 use Rattle.ghc_console.specs.Replies.{Settled, settled}
 use Rattle.ghc_console.specs.Told.{IsJustChanged}
@@ -29,14 +25,8 @@ pub where_refused : {T E : Type 0} (r : Result T E) {Q : Type 0} → is_ok r ≡
 where_refused (Ok t) e q = cc
 where_refused (Err x) e q = q
 
--- what the change binds is what its step binds
-pub left_by : (change : Change) (H : Goals) (old new : NotesByGoal) → AreLeft H (IsBoundBy change) old new → AreLeft H (Binds (step_in change)) old new
-left_by (adds r) H old new l = l
-left_by (takes_away r) H old new l = l
-
 -- what is stuck otherwise by the notes, once no goal is untried, is the news of the change
 pub told_by_notes : NotesTellNews → (w v : World) (change : Change) (old left new : NotesByGoal) (d : Disturbed) (front text : List ℕ) → IsJustChanged w change old v left d
     → AreKept left new → IsSettled v new → (news : List Standing) × AreStuckOtherwise new d news × (text ≡ front ++ news_text news) → Settled w v front text
 told_by_notes law w v change old left new d front text j kept all told =
-    let front_left = left_by change v.state.goals old left j.notes_left in
-    subst (Settled w v front) (sym told.2) (settled (law w v change old left new d told.0 j.settled j.possible j.changed front_left kept all j.disturbed told.1))
+    subst (Settled w v front) (sym told.2) (settled (law w v change old left new d told.0 j.settled j.possible j.changed j.notes_left kept all j.disturbed told.1))

@@ -3,6 +3,7 @@ ghost use Rattle.std.specs.Prelude.{◌≡◌, ◌≢◌, ◌⊎◌, ◌++◌, [
 ghost use Rattle.ghc_fire.specs.Meter.{one_more};
 ghost use Rattle.ghc_fire.specs.Proposal.{Proposal as proposal_spec};
 ghost use Rattle.ghc_records.specs.Replay.{MakesGoal};
+ghost use Rattle.ghc_depend.specs.Depend.{Binds};
 ghost use Rattle.ghc_core.specs.Proposes.{IsCommitOf};
 ghost use Rattle.ghc_trace.specs.Disturbed.{AreDisturbed};
 ghost use Rattle.ghc_trace.specs.Laws.{IsSettled};
@@ -43,7 +44,7 @@ fn push_ports(
 ) -> Result<(), AllocError>
     requires empty { string_bytes reply.old ≡ [] }
     requires settled { IsSettled core.now.world core.now.notes }
-    requires disturbed { AreDisturbed core.now.notes step.now (MakesGoal step.now) disturbed.now }
+    requires disturbed { AreDisturbed core.now.notes (Binds step.now) (MakesGoal step.now) disturbed.now }
     ensures { OnOk result ((ports : List Port) × ArePorts core.now.world step.now ports × (string_bytes reply.new ≡ ports_text ports)) }
 {
     push_ports_of(step, reply)?;

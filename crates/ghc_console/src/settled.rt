@@ -4,9 +4,9 @@ ghost use Rattle.ghc_hooks.specs.Notes.{NotesByGoal};
 ghost use Rattle.ghc_core.specs.World.{World};
 ghost use Rattle.ghc_core.specs.Settling.{AreKept};
 ghost use Rattle.ghc_core.specs.declared.change.Change.{Change as change_spec};
-ghost use Rattle.ghc_core.specs.Change.{CanChange, Changes};
+ghost use Rattle.ghc_core.specs.Change.{CanChange, Changes, IsBoundBy};
 ghost use Rattle.ghc_trace.specs.Disturbed.{AreDisturbed};
-ghost use Rattle.ghc_trace.specs.Laws.{IsSettled, Brings, step_in};
+ghost use Rattle.ghc_trace.specs.Laws.{IsSettled, Brings};
 ghost use Rattle.ghc_console.specs.Replies.{Settled};
 ghost use Rattle.ghc_console.specs.Told.{IsJustChanged};
 
@@ -80,7 +80,7 @@ pub fn make(
 ) -> Result<(), AllocError>
     requires found { CanChange core.old.world change }
     requires settled { IsSettled core.old.world core.old.notes }
-    requires disturbed { AreDisturbed core.old.notes (step_in change) (Brings change) disturbed.now }
+    requires disturbed { AreDisturbed core.old.notes (IsBoundBy change) (Brings change) disturbed.now }
     ensures changed { OnOk result (Changes core.old.world change core.new.world) }
     ensures told { OnOk result (Settled core.old.world core.new.world (string_bytes reply.old) (string_bytes reply.new)) }
     ensures err { OnErr result (core.new.world ≡ core.old.world) }

@@ -23,7 +23,8 @@ use Rattle.ghc_fire.proofs.GoalNames.{goal_total, same_goal, same_parts}
 use Rattle.ghc_hooks.specs.Notes.{NotesByGoal}
 use Rattle.ghc_hooks.specs.Tries.{HasLookedAt}
 use Rattle.ghc_hooks.proofs.Looking.{goal_itself}
-use Rattle.ghc_trace.specs.Disturbed.{stuck_by, Disturbed, IsOneOf, AreAsNoted, LooksWhereBound}
+use Rattle.ghc_depend.specs.Depend.{Binds}
+use Rattle.ghc_trace.specs.Disturbed.{stuck_by, Disturbed, IsOneOf, AreAsNoted, LooksWhere}
 use Rattle.ghc_trace.specs.declared.stuck.Stuck.{Stuck}
 
 -- one goal more is among them
@@ -91,7 +92,7 @@ is_key : (es : List (VarName × Tree)) (x : VarName) → finite.contains_key (fi
 is_key es x = ap is_some (finite.get-from_entries name_total es x) ∙ is_some-find name_cmp x es
 
 -- all that look at one of the bindings of a step look where it binds
-pub looks_where_bound : (notes : NotesByGoal) (r : Record) (es : List (VarName × Tree)) → finite.from_entries es ≡ r.effect.binds → (g : GoalName) → LooksAtOneOf notes es g ↔ LooksWhereBound notes r g
+pub looks_where_bound : (notes : NotesByGoal) (r : Record) (es : List (VarName × Tree)) → finite.from_entries es ≡ r.effect.binds → (g : GoalName) → LooksAtOneOf notes es g ↔ LooksWhere notes (Binds r) g
 looks_where_bound notes r es e g = (
   λ l. (l.0.0, ap (λ m. finite.contains_key m l.0.0) (sym e) ∙ is_key es l.0.0 ∙ in_any l.0.0 (keys_of es) (in_map (λ (b : VarName × Tree). b.0) es l.0 l.1), l.2),
   λ w.

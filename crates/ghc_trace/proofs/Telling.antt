@@ -18,6 +18,7 @@ use Rattle.ghc_flat.specs.Clause.{Program}
 use Rattle.ghc_flat.specs.Flat.{is_stream}
 use Rattle.ghc_fire.specs.Goals.{goal_cmp, Goals}
 use Rattle.ghc_records.specs.Record.{Record}
+use Rattle.ghc_records.specs.Replay.{MakesGoal}
 use Rattle.ghc_depend.specs.Depend.{Binds}
 use Rattle.ghc_hooks.specs.Status.{Status, ready, waiting, failed, streaming, HasStatus, is_stream_goal}
 use Rattle.ghc_hooks.specs.Face.{StandsAs, IsHookedOn}
@@ -32,12 +33,12 @@ use Rattle.ghc_core.specs.Reverses as by
 use Rattle.ghc_core.specs.Reverses.{Undoes}
 use Rattle.ghc_core.specs.declared.change.Change.{Change}
 use Rattle.ghc_core.specs.declared.change.Change.TheVariants.{Adds as adds, TakesAway as takes_away}
-use Rattle.ghc_core.specs.Change.{CanChange, Changes}
+use Rattle.ghc_core.specs.Change.{CanChange, Changes, IsBoundBy}
 use Rattle.ghc_core.proofs.Reaching.{reached_good}
 use Rattle.ghc_trace.specs.News.{IsStuck, Standing}
-use Rattle.ghc_trace.specs.Laws.{IsSettled, step_in, Brings, NotesTellPorts, NotesTellNews}
+use Rattle.ghc_trace.specs.Laws.{IsSettled, Brings, NotesTellPorts, NotesTellNews}
 use Rattle.ghc_trace.proofs.Changed.{changed_from}
-use Rattle.ghc_trace.specs.Disturbed.{stuck_of, stuck_by, Disturbed, IsOneOf, AreDisturbed, WaitsWhereBound, AreResumedBy, IsStuckOtherwise, AreStuckOtherwise, status_by}
+use Rattle.ghc_trace.specs.Disturbed.{stuck_of, stuck_by, Disturbed, IsOneOf, AreAsNoted, AreDisturbed, WaitsWhereBound, AreResumedBy, IsStuckOtherwise, AreStuckOtherwise, status_by}
 use Rattle.ghc_trace.specs.declared.stuck.Stuck.{Stuck}
 use Rattle.ghc_trace.specs.declared.stuck.Stuck.TheVariants.{Waiting}
 use Rattle.ghc_trace.proofs.Causes.{some_stuck, stuck_once}
@@ -83,14 +84,14 @@ module _ (P : Program) (G : Goals) (store : StoreValue) (notes : NotesByGoal) (s
     | inr e ↦ absurd (none_untried settled.exact g (st.0, st.1, no_stream_stuck P (value_at store) st.0 s settled.acyclic st.2 i, e))
   ]
 
-  module _ (r : Record) (Brought : GoalName → Type 0) (d : Disturbed) (disturbed : AreDisturbed notes r Brought d) where
-    -- what is disturbed was stuck as its note says
-    was : (g : GoalName) → IsOneOf d g → finite.get d g ≡ Some (stuck_by (finite.get notes g))
-    was g i = elim (found (finite.get d g)) [
-      | inl f ↦ f.1 ∙ ap Some (disturbed.as_noted g f.0 f.1)
-      | inr e ↦ absurd (not_both (is_some (finite.get d g)) (ap is_some e) i)
-    ]
+  -- what is disturbed was stuck as its note says
+  was : (d : Disturbed) → AreAsNoted notes d → (g : GoalName) → IsOneOf d g → finite.get d g ≡ Some (stuck_by (finite.get notes g))
+  was d noted g i = elim (found (finite.get d g)) [
+    | inl f ↦ f.1 ∙ ap Some (noted g f.0 f.1)
+    | inr e ↦ absurd (not_both (is_some (finite.get d g)) (ap is_some e) i)
+  ]
 
+  module _ (r : Record) (Brought : GoalName → Type 0) (d : Disturbed) (disturbed : AreDisturbed notes (Binds r) Brought d) where
     waits_in : (note : Note) (s : Status) → note.status ≡ s → WaitsWhereBound r (stuck_of s)
         → (n : Note) × (xs : Variables) × (x : VarName) × (Some note ≡ Some n) × (n.status ≡ waiting xs) × IsTrue (set.contains xs x) × Binds r x
     waits_in note ready e w = absurd w
@@ -116,19 +117,19 @@ module _ (P : Program) (G : Goals) (store : StoreValue) (notes : NotesByGoal) (s
           let looked : IsTrue (set.contains n.0.looked h.0) = exact_awaits P (value_at store) k.0 n.0 k.3 h.0 (ap (λ s. awaits s h.0) n.2 ∙ h.1.2) in
           let among : IsOneOf d g = (disturbed.members g).1 (inl (h.0, h.2, (n.0, n.1, looked))) in
           let before : stuck_by (finite.get notes g) ≡ Some (Waiting h.1.0) = ap stuck_by n.1 ∙ ap stuck_of n.2 in
-          (named.each g).1 (Some (Waiting h.1.0), was g among ∙ ap Some before, (h.0, h.1.2, h.2)),
+          (named.each g).1 (Some (Waiting h.1.0), was d disturbed.as_noted g among ∙ ap Some before, (h.0, h.1.2, h.2)),
     )
 
--- After a change that binds or frees what the step binds, the goals of H are those of G, or were brought.
-module _ (P : Program) (G H : Goals) (store after : StoreValue) (old mid new : NotesByGoal) (before : Settled P G store old) (behind : Settled P H after new) (r : Record)
-    (left : AreLeft H (Binds r) old mid) (kept : (g : GoalName) (note : Note) → finite.get mid g ≡ Some note → finite.get new g ≡ Some note)
+-- After a change that binds or frees what is touched, the goals of H are those of G, or were brought.
+module _ (P : Program) (G H : Goals) (store after : StoreValue) (old mid new : NotesByGoal) (before : Settled P G store old) (behind : Settled P H after new)
+    (Touched : VarName → Type 0) (touched_or_not : (x : VarName) → Decided (Touched x)) (left : AreLeft H Touched old mid) (kept : (g : GoalName) (note : Note) → finite.get mid g ≡ Some note → finite.get new g ≡ Some note)
     (Brought : GoalName → Type 0) (from : (g : GoalName) (b : Goal) → finite.get H g ≡ Some b → (finite.get G g ≡ Some b) ⊎ Brought g)
-    (d : Disturbed) (disturbed : AreDisturbed old r Brought d) where
-  looks_or_not : (note : Note) → Decided ((x : VarName) × In x (set.items note.looked) × Binds r x)
-  looks_or_not note = some_decided (set.items note.looked) (Binds r) (λ x i. true_decided (finite.contains_key r.effect.binds x))
+    (d : Disturbed) (disturbed : AreDisturbed old Touched Brought d) where
+  looks_or_not : (note : Note) → Decided ((x : VarName) × In x (set.items note.looked) × Touched x)
+  looks_or_not note = some_decided (set.items note.looked) Touched (λ x i. touched_or_not x)
 
-  -- a goal that was noted and did not look where the step binds keeps its note
-  stays : (g : GoalName) (note : Note) (b : Goal) → finite.get old g ≡ Some note → finite.get H g ≡ Some b → ¬ ((x : VarName) × In x (set.items note.looked) × Binds r x)
+  -- a goal that was noted and did not look at what is touched keeps its note
+  stays : (g : GoalName) (note : Note) (b : Goal) → finite.get old g ≡ Some note → finite.get H g ≡ Some b → ¬ ((x : VarName) × In x (set.items note.looked) × Touched x)
       → finite.get new g ≡ Some note
   stays g note b e there n =
       kept g note ((left g note).1 (e, (λ none. some_none (sym there ∙ none)), λ x bound looked. n (x, any_in x (set.items note.looked) (sym (set.contains-items note.looked x) ∙ looked), bound)))
@@ -177,7 +178,7 @@ module _ (P : Program) (G H : Goals) (store after : StoreValue) (old mid new : N
         let among = news_disturbed g s h.0 h.1 h.2 in
         (told.each g s).1 (
           stuck_by (finite.get old g),
-          was P G store old before r Brought d disturbed g among,
+          was P G store old before d disturbed.as_noted g among,
           subst (IsStuckOtherwise (stuck_by (finite.get old g))) (sym now.1) (
             subst IsStuck (sym now.2) h.1,
             λ e.
@@ -198,18 +199,23 @@ settled_in : {w : World} {notes : NotesByGoal} → IsSettled w notes → Settled
 settled_in s = record { exact = s.exact; acyclic = (reached_good s.standing).acyclic }
 
 pub ports_told : NotesTellPorts
-ports_told w change notes d names settled disturbed named =
-    (names, resumed_right w.opening.program w.state.goals w.state.store notes (settled_in settled) (step_in change) (Brings change) d disturbed names named, named.ordered, refl)
+ports_told w r notes d names settled disturbed named =
+    (names, resumed_right w.opening.program w.state.goals w.state.store notes (settled_in settled) r (MakesGoal r) d disturbed names named, named.ordered, refl)
 
 one_opening : (w v : World) (change : Change) → CanChange w change → Changes w change v → v.opening ≡ w.opening
 one_opening w v (adds r) can e = ap (λ (z : World). z.opening) e
 one_opening w v (takes_away r) can e = undo_opening e
 
+-- a change binds or frees a variable, or does not
+bound_or_not : (change : Change) (x : VarName) → Decided (IsBoundBy change x)
+bound_or_not (adds r) x = true_decided (finite.contains_key r.effect.binds x)
+bound_or_not (takes_away r) x = true_decided (finite.contains_key r.effect.binds x)
+
 pub news_told : NotesTellNews
 news_told w v change old left new d news before can changes are_left still behind disturbed told =
     let program : v.opening.program ≡ w.opening.program = ap (λ (o : Opening). o.program) (one_opening w v change can changes) in
     let after : Settled w.opening.program v.state.goals v.state.store new = subst (λ P. Settled P v.state.goals v.state.store new) program (settled_in behind) in
-    let right = news_right w.opening.program w.state.goals v.state.goals w.state.store v.state.store old left new (settled_in before) after (step_in change) are_left still
+    let right = news_right w.opening.program w.state.goals v.state.goals w.state.store v.state.store old left new (settled_in before) after (IsBoundBy change) (bound_or_not change) are_left still
     (Brings change) (changed_from w v change before.standing can changes) d disturbed news told in
     record {
       each = λ g s. (

@@ -42,13 +42,13 @@ IsOneOf d g = IsTrue (finite.contains_key d g)
 abbrev pub AreAsNoted : NotesByGoal → Disturbed → Type 0
 AreAsNoted notes d = (g : GoalName) (before : Option Stuck) → finite.get d g ≡ Some before → before ≡ stuck_by (finite.get notes g)
 
--- The note of the goal named g looked at a variable that the step binds.
-abbrev pub LooksWhereBound : NotesByGoal → Record → GoalName → Type 0
-LooksWhereBound notes r g = (x : VarName) × Binds r x × HasLookedAt notes x g
+-- The note of the goal named g looked at one of the variables of which Touched holds.
+abbrev pub LooksWhere : NotesByGoal → (VarName → Type 0) → GoalName → Type 0
+LooksWhere notes Touched g = (x : VarName) × Touched x × HasLookedAt notes x g
 
--- These are the goals that by these notes looked where the step binds, and those that a change brings, each with how it is stuck by its note.
-pub record AreDisturbed (notes : NotesByGoal) (r : Record) (Brought : GoalName → Type 0) (d : Disturbed) : Type 0 where
-  pub members : (g : GoalName) → IsOneOf d g ↔ (LooksWhereBound notes r g ⊎ Brought g)
+-- A change binds or frees the variables of which Touched holds, and brings the goals Brought. These are the goals that by these notes looked at one of the variables, and those brought, each with how it is stuck by its note.
+pub record AreDisturbed (notes : NotesByGoal) (Touched : VarName → Type 0) (Brought : GoalName → Type 0) (d : Disturbed) : Type 0 where
+  pub members : (g : GoalName) → IsOneOf d g ↔ (LooksWhere notes Touched g ⊎ Brought g)
   pub as_noted : AreAsNoted notes d
 
 -- Being stuck so, a goal waits for a variable that the step binds.

@@ -10,7 +10,7 @@ use Rattle.ghc_core.specs.World.{World}
 use Rattle.ghc_core.specs.Core.{IsConsistent}
 use Rattle.ghc_core.specs.declared.change.Change.{Change}
 use Rattle.ghc_core.specs.declared.change.Change.TheVariants.{Adds as adds, TakesAway as takes_away}
-use Rattle.ghc_core.specs.Change.{CanChange, Changes}
+use Rattle.ghc_core.specs.Change.{CanChange, Changes, IsBoundBy}
 use Rattle.ghc_core.specs.Settling.{AreKept}
 use Rattle.ghc_trace.specs.Ports.{resumed, taken_ports, ArePorts}
 use Rattle.ghc_trace.specs.News.{Standing, AreNews}
@@ -20,26 +20,20 @@ use Rattle.ghc_trace.specs.Disturbed.{Disturbed, AreDisturbed, AreResumedBy, Are
 abbrev pub IsSettled : World → NotesByGoal → Type 0
 IsSettled w notes = IsConsistent w notes set.empty
 
--- the step that a change adds or takes away
-abbrev pub step_in : Change → Record
-step_in (adds r) = r
-step_in (takes_away r) = r
-
 -- The change brings the goal named g: its step makes it, or is taken away and consumed it.
 abbrev pub Brings : Change → GoalName → Type 0
 Brings (adds r) g = MakesGoal r g
 Brings (takes_away r) g = r.goal ≡ Some g
 
--- Where no goal is untried, those that by their notes waited for what the step binds are those that it resumes.
+-- Where no goal is untried, those that by their notes waited for what a step binds are those that it resumes.
 abbrev pub NotesTellPorts : Type 0
 NotesTellPorts =
-    (w : World) (change : Change) (notes : NotesByGoal) (d : Disturbed) (names : List GoalName) → IsSettled w notes
-    → AreDisturbed notes (step_in change) (Brings change) d → AreResumedBy (step_in change) d names
-    → ArePorts w (step_in change) (taken_ports (step_in change) ++ map resumed names)
+    (w : World) (r : Record) (notes : NotesByGoal) (d : Disturbed) (names : List GoalName) → IsSettled w notes
+    → AreDisturbed notes (Binds r) (MakesGoal r) d → AreResumedBy r d names → ArePorts w r (taken_ports r ++ map resumed names)
 
 -- Where no goal is untried before a change, nor when the goals were tried that the change left untried, those that are stuck otherwise by their notes are the news.
 abbrev pub NotesTellNews : Type 0
 NotesTellNews =
     (w v : World) (change : Change) (old left new : NotesByGoal) (d : Disturbed) (news : List Standing) → IsSettled w old → CanChange w change → Changes w change v
-    → AreLeft v.state.goals (Binds (step_in change)) old left → AreKept left new → IsSettled v new
-    → AreDisturbed old (step_in change) (Brings change) d → AreStuckOtherwise new d news → AreNews w v news
+    → AreLeft v.state.goals (IsBoundBy change) old left → AreKept left new → IsSettled v new
+    → AreDisturbed old (IsBoundBy change) (Brings change) d → AreStuckOtherwise new d news → AreNews w v news

@@ -1,6 +1,7 @@
 // The goals to which a change of the state may give another status.
 ghost use Rattle.std.specs.Prelude.{◌≡◌, Some, IfOk, OnOk};
 ghost use Rattle.ghc_records.specs.Replay.{MakesGoal};
+ghost use Rattle.ghc_depend.specs.Depend.{Binds};
 ghost use Rattle.ghc_trace.specs.Disturbed.{AreDisturbed};
 
 use crate::stuck::{Stuck, stuck_now};
@@ -35,7 +36,7 @@ impl Disturbed {
     ghost use Rattle.std.specs.FinMap as finite;
     ghost use Rattle.ghc_term.specs.Lists.{In};
     ghost use Rattle.ghc_term.specs.declared.goal_name.GoalName.{GoalName};
-    ghost use Rattle.ghc_trace.specs.Disturbed.{stuck_by, IsOneOf, AreAsNoted, LooksWhereBound};
+    ghost use Rattle.ghc_trace.specs.Disturbed.{stuck_by, IsOneOf, AreAsNoted, LooksWhere};
 
     // No goals, which take no memory.
     fn new(alloc: Global) -> Disturbed
@@ -73,7 +74,7 @@ impl Disturbed {
 
     // Adds the goals whose notes looked at a variable that the step binds.
     fn add_looking(&mut self, alloc: Global, tries: &Tries, step: &Record) -> Result<(), AllocError>
-        ensures members { OnOk result ((g : GoalName) → IsOneOf self.new g ↔ (IsOneOf self.old g ⊎ LooksWhereBound tries.now.notes step.now g)) }
+        ensures members { OnOk result ((g : GoalName) → IsOneOf self.new g ↔ (IsOneOf self.old g ⊎ LooksWhere tries.now.notes (Binds step.now) g)) }
         ensures as_noted { OnOk result (AreAsNoted tries.now.notes self.old → AreAsNoted tries.now.notes self.new) }
     {
         for (x, _value) in step.effect().binds().entries() {
@@ -102,7 +103,7 @@ impl Disturbed {
     /// each goal made, and each variable bound with each goal that looked at it: a look-up, and a copy of the variables for which
     /// the goal waits.
     pub fn by_taking(alloc: Global, tries: &Tries, step: &Record) -> Result<Disturbed, AllocError>
-        ensures { IfOk result (λ d. AreDisturbed tries.now.notes step.now (MakesGoal step.now) d) }
+        ensures { IfOk result (λ d. AreDisturbed tries.now.notes (Binds step.now) (MakesGoal step.now) d) }
     {
         let mut disturbed = Disturbed::new(alloc);
         disturbed.add_looking(alloc, tries, step)?;
@@ -118,7 +119,7 @@ impl Disturbed {
         tries: &Tries,
         step: &Record,
     ) -> Result<Disturbed, AllocError>
-        ensures { IfOk result (λ d. AreDisturbed tries.now.notes step.now (λ g. step.now.goal ≡ Some g) d) }
+        ensures { IfOk result (λ d. AreDisturbed tries.now.notes (Binds step.now) (λ g. step.now.goal ≡ Some g) d) }
     {
         let mut disturbed = Disturbed::new(alloc);
         disturbed.add_looking(alloc, tries, step)?;

@@ -1,5 +1,4 @@
 use Rattle.std.proofs.Common.{◌++◌, map, sym, ap, ◌∙◌}
-use Rattle.ghc_core.specs.declared.change.Change.TheVariants.{Adds as adds}
 use Rattle.ghc_trace.specs.Ports.{resumed, taken_ports}
 use Rattle.ghc_trace.specs.PortText.{ports_text}
 use Rattle.ghc_console.proofs.StepReplies.{ports_joined}
@@ -12,6 +11,6 @@ returns c =
     let woken = c.in_ok-push_resumed.ensures.ok in
     let names = map resumed woken.0 in (
       first ++ names,
-      c.notes_tell_ports.ensures c.args.core.now.world (adds r) c.args.core.now.notes c.args.disturbed.now woken.0 c.requires.settled c.requires.disturbed woken.1,
+      c.notes_tell_ports.ensures c.args.core.now.world r c.args.core.now.notes c.args.disturbed.now woken.0 c.requires.settled c.requires.disturbed woken.1,
       woken.2 ∙ ap (λ l. l ++ ports_text names) (c.in_ok-push_ports_of.ensures ∙ ap (λ l. l ++ ports_text first) c.requires.empty) ∙ sym (ports_joined first names),
     )

@@ -2,6 +2,7 @@ use Rattle.std.proofs.Common.{subst, string_bytes}
 use Rattle.ghc_hooks.specs.Notes.{NotesByGoal}
 use Rattle.ghc_records.specs.Record.{Record}
 use Rattle.ghc_records.specs.Replay.{MakesGoal}
+use Rattle.ghc_depend.specs.Depend.{Binds}
 use Rattle.ghc_trace.specs.Disturbed.{AreDisturbed}
 use Rattle.ghc_trace.specs.Ports.{ArePorts}
 use Rattle.ghc_console.specs.Replies.{Settled}
@@ -11,8 +12,8 @@ use Rattle.ghc_console.proofs.reply.take.Goals as goal
 pub make-requires-clause-disturbed : goal.make-requires-clause-disturbed
 make-requires-clause-disturbed c =
     let d = c.in_ok-disturbed.disturbed in
-    subst (λ (r : Record). AreDisturbed c.args.core.now.notes r (MakesGoal r) d) c.step-step.ensures
-    (subst (λ (n : NotesByGoal). AreDisturbed n c.step-step.result.now (MakesGoal c.step-step.result.now) d) c.tries.ensures.notes c.in_ok-disturbed.ensures)
+    subst (λ (r : Record). AreDisturbed c.args.core.now.notes (Binds r) (MakesGoal r) d) c.step-step.ensures
+    (subst (λ (n : NotesByGoal). AreDisturbed n (Binds c.step-step.result.now) (MakesGoal c.step-step.result.now) d) c.tries.ensures.notes c.in_ok-disturbed.ensures)
 
 pub returns-clause-text : goal.returns-clause-text
 returns-clause-text c = if_ok c.make.result c.make.ensures.changed c.make.ensures.told (λ _ same told p commit.

@@ -1,6 +1,7 @@
 use Rattle.std.proofs.Common.{◌≡◌, sym, ap, subst, ◌∙◌, inl, inr}
 use Rattle.std.specs.Prelude.{Some}
 use Rattle.std.specs.FinMap as finite
+use Rattle.ghc_depend.specs.Depend.{Binds}
 use Rattle.ghc_trace.specs.Disturbed.{stuck_by, AreAsNoted, AreDisturbed}
 use Rattle.ghc_trace.proofs.Disturbing.{none_yet, none_noted, one_more, one_more_noted, one_name}
 use Rattle.ghc_trace.proofs.disturbed.Disturbed.by_taking_back.Goals.{in-Some+in_ok-add, in_default}
@@ -17,7 +18,7 @@ returns c =
           let h = w.in-Some.goal in
           let named : r.goal ≡ Some h = sym c.goal.ensures ∙ w.in-Some.is in
           let put = one_more mid h (stuck_by (finite.get notes h)) in
-          subst (AreDisturbed notes r (λ g. r.goal ≡ Some g)) (sym (w.disturbed-is ∙ w.in_ok-add.ensures)) (record {
+          subst (AreDisturbed notes (Binds r) (λ g. r.goal ≡ Some g)) (sym (w.disturbed-is ∙ w.in_ok-add.ensures)) (record {
             members = λ g. (
               λ k. elim ((put g).0 k) [
                 | inl o ↦ elim ((c.in_ok-add_looking.ensures.members g).0 o) [ inl n ↦ absurd (none_yet c.new-disturbed.result c.new-disturbed.ensures g n) | inr l ↦ inl l ]
@@ -28,7 +29,7 @@ returns c =
             as_noted = one_more_noted notes mid h noted;
           })
       | in_default w ↦
-          subst (AreDisturbed notes r (λ g. r.goal ≡ Some g)) (sym w.disturbed-is) (record {
+          subst (AreDisturbed notes (Binds r) (λ g. r.goal ≡ Some g)) (sym w.disturbed-is) (record {
             members = λ g. (
               λ k. elim ((c.in_ok-add_looking.ensures.members g).0 k) [ inl n ↦ absurd (none_yet c.new-disturbed.result c.new-disturbed.ensures g n) | inr l ↦ inl l ],
               λ k. (c.in_ok-add_looking.ensures.members g).1 (elim k [ inl l ↦ inr l | inr e ↦ absurd (w.in_default.not-Some g (c.goal.ensures ∙ e)) ]),
