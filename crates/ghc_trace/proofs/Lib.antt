@@ -7,3 +7,4 @@ pub mod Changed
 pub mod Telling
 pub mod Lines
 pub mod GoalTelling
+pub mod Reasoning

@@ -10,3 +10,4 @@ pub mod Laws
 pub mod GoalLines
 pub mod GoalLinesCode
 pub mod GoalLaws
+pub mod Why
