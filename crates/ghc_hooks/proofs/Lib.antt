@@ -12,3 +12,4 @@ pub mod Reaching
 pub mod Leaves
 pub mod Hearing
 pub mod Trying
+pub mod NotedFaces

@@ -1,5 +1,6 @@
 -- Laws of statuses.
 use Rattle.std.specs.Prelude.{◌≡◌, ◌↔◌, Option}
+use Rattle.std.specs.FinSet as set
 use Rattle.ghc_term.specs.declared.var_name.VarName.{VarName}
 use Rattle.ghc_term.specs.Tree.{Tree}
 use Rattle.ghc_term.specs.Goal.{Goal}
@@ -8,8 +9,11 @@ use Rattle.ghc_term.specs.Store.{StoreValue, value_at}
 use Rattle.ghc_flat.specs.Clause.{Program}
 use Rattle.ghc_flat.specs.Flat.{IsProgram}
 use Rattle.ghc_match.specs.Looked.{GoalLooksAt}
+use Rattle.ghc_fire.specs.Goals.{Goals}
 use Rattle.ghc_hooks.specs.Status.{Status, Awaits, HasStatus}
-use Rattle.ghc_hooks.specs.Notes.{Note, IsExact, AgreeOnLooked}
+use Rattle.ghc_hooks.specs.Face.{Face, GoalNames, IsFace}
+use Rattle.ghc_hooks.specs.Notes.{Note, NotesByGoal, IsExact, AreExact, AgreeOnLooked}
+use Rattle.ghc_hooks.specs.NotedFace.{IsNotedFace}
 use Rattle.ghc_hooks.specs.Verdict.{AwaitsWhatItLooksAt}
 
 -- In an acyclic store a goal has one status at most.
@@ -42,3 +46,9 @@ LookedIsOfWhatIsLookedAt =
 -- So a note that is exact in the one is exact in the other.
 abbrev pub ExactNotesStayExact : Type 0
 ExactNotesStayExact = (P : Program) (S S' : VarName → Option Tree) (g : Goal) (note : Note) → IsExact P S g note → AgreeOnLooked P g S S' → IsExact P S' g note
+
+-- In an acyclic store, where notes are exact and no goal is untried, what the notes show is the face of the state.
+abbrev pub SettledNotesShowTheFace : Type 0
+SettledNotesShowTheFace =
+    (P : Program) (G : Goals) (s : StoreValue) (notes : NotesByGoal) (untried : GoalNames) (face : Face)
+    → IsAcyclic (value_at s) → AreExact P G s notes untried → untried ≡ set.empty → IsNotedFace P G s notes face ↔ IsFace P G s face

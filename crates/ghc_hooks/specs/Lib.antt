@@ -1,6 +1,7 @@
 pub mod Status
 pub mod Face
 pub mod Notes
+pub mod NotedFace
 pub mod Laws
 pub mod Tries
 pub mod Verdict

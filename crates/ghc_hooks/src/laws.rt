@@ -1,5 +1,5 @@
 // Laws about the definitions, each as the contract of a function.
-ghost use Rattle.ghc_hooks.specs.Laws.{StatusIsOne, EachGoalHasAStatus, StatusIsOfWhatIsLookedAt, GoalsWaitForWhatTheyLookAt, ExactNotesAwaitWhatIsLookedAt, LookedIsOfWhatIsLookedAt, ExactNotesStayExact};
+ghost use Rattle.ghc_hooks.specs.Laws.{StatusIsOne, EachGoalHasAStatus, StatusIsOfWhatIsLookedAt, GoalsWaitForWhatTheyLookAt, ExactNotesAwaitWhatIsLookedAt, LookedIsOfWhatIsLookedAt, ExactNotesStayExact, SettledNotesShowTheFace};
 
 /// A goal has one status in an acyclic store.
 pub fn status_is_one()
@@ -34,4 +34,10 @@ pub fn looked_is_of_what_is_looked_at()
 /// A note stays exact where no variable that its goal looks at is bound or freed.
 pub fn exact_notes_stay_exact()
     ensures { ExactNotesStayExact }
+{}
+
+/// In an acyclic store, where notes are exact and no goal is untried, what the notes show is the face of the state, and the
+/// other way round.
+pub fn settled_notes_show_the_face()
+    ensures { SettledNotesShowTheFace }
 {}

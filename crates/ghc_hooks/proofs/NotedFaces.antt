@@ -1,0 +1,114 @@
+-- Where notes are exact and no goal is untried, what the notes show is the face of the state.
+use Rattle.std.proofs.Common.{◌≡◌, Bool, true, false, Some, None, refl, sym, subst, ap, ◌∙◌, inl, inr, ◌⊎◌}
+use Rattle.std.specs.Prelude.{◌↔◌, ◌≢◌, Option, IsTrue}
+use Rattle.std.specs.FinMap as finite
+use Rattle.std.specs.FinSet as set
+use Rattle.ghc_term.specs.declared.var_name.VarName.{VarName}
+use Rattle.ghc_term.specs.declared.goal_name.GoalName.{GoalName}
+use Rattle.ghc_term.specs.declared.fault.Fault.{Fault}
+use Rattle.ghc_term.specs.Goal.{Goal}
+use Rattle.ghc_term.specs.Tree.{Tree}
+use Rattle.ghc_term.specs.Bindings.{IsAcyclic}
+use Rattle.ghc_term.specs.Store.{StoreValue, value_at}
+use Rattle.ghc_term.specs.Sets.{Variables}
+use Rattle.ghc_term.proofs.ListsLemmas.{not_both}
+use Rattle.ghc_flat.specs.Clause.{Program}
+use Rattle.ghc_flat.specs.Flat.{is_stream}
+use Rattle.ghc_fire.specs.Goals.{goal_cmp, Goals}
+use Rattle.ghc_hooks.specs.Status.{Status, ready, waiting, failed, streaming, HasStatus, is_stream_goal}
+use Rattle.ghc_hooks.specs.Face.{Face, GoalNames, IsFace, StandsAs, IsHookedOn}
+use Rattle.ghc_hooks.specs.Notes.{Note, NotesByGoal, AreExact, IsNotedOn}
+use Rattle.ghc_hooks.specs.NotedFace.{IsNotedFace, IsNotedAs, IsStreamGoal}
+use Rattle.ghc_hooks.specs.Laws.{SettledNotesShowTheFace}
+use Rattle.ghc_hooks.proofs.Statuses.{status_once}
+
+-- equivalences in a row
+pub through : {A B C : Type 0} → A ↔ B → B ↔ C → A ↔ C
+through p q = (λ a. q.0 (p.0 a), λ k. p.1 (q.1 k))
+
+pub turned : {A B : Type 0} → A ↔ B → B ↔ A
+turned p = (p.1, p.0)
+
+streams_stream : (P : Program) (S : VarName → Option Tree) (b : Goal) → HasStatus P S b streaming → is_stream b ≡ true
+streams_stream P S b (is_stream_goal e) = e
+
+same_found : {A : Type 0} {o : Option A} {a b : A} → o ≡ Some a → o ≡ Some b → a ≡ b
+same_found p q = cc
+
+module _ (P : Program) (G : Goals) (s : StoreValue) (notes : NotesByGoal) (untried : GoalNames) (acyclic : IsAcyclic (value_at s)) (exact : AreExact P G s notes untried) (settled : untried ≡ set.empty) where
+  noted_stands : (g : GoalName) (t : Status) → IsNotedAs notes g t → StandsAs P G s g t
+  noted_stands g t n =
+      let e = exact.noted g n.0 n.1 in
+      (e.0, e.1, subst (HasStatus P (value_at s) e.0) n.2 e.3.0)
+
+  none_untried : (g : GoalName) → ¬ IsTrue (set.contains untried g)
+  none_untried g h = not_both (set.contains untried g) (ap (λ u. set.contains u g) settled ∙ set.contains-empty goal_cmp g) h
+
+  -- a goal that is there and no stream goal has a note
+  noted_by : (g : GoalName) (b : Goal) (t : Status) → finite.get G g ≡ Some b → is_stream b ≡ false → HasStatus P (value_at s) b t → (o : Option Note) → finite.get notes g ≡ o → IsNotedAs notes g t
+  noted_by g b t there calm has None e = absurd (none_untried g ((exact.marked g).1 (b, there, calm, e)))
+  noted_by g b t there calm has (Some note) e =
+      let n = exact.noted g note e in
+      let one : n.0 ≡ b = same_found n.1 there in
+      (note, e, status_once P (value_at s) b note.status t acyclic (subst (λ c. HasStatus P (value_at s) c note.status) one n.3.0) has)
+
+  stands_by : (g : GoalName) (b : Goal) (t : Status) → finite.get G g ≡ Some b → HasStatus P (value_at s) b t → (k : Bool) → is_stream b ≡ k → IsNotedAs notes g t ⊎ (IsStreamGoal G g × (t ≡ streaming))
+  stands_by g b t there has true e = inr ((b, there, e), status_once P (value_at s) b t streaming acyclic has (is_stream_goal e))
+  stands_by g b t there has false e = inl (noted_by g b t there e has (finite.get notes g) refl)
+
+  -- a goal stands as it is noted, or is a stream goal
+  stands : (g : GoalName) (t : Status) → (IsNotedAs notes g t ⊎ (IsStreamGoal G g × (t ≡ streaming))) ↔ StandsAs P G s g t
+  stands g t = (
+    λ k. elim k [
+      | inl n ↦ noted_stands g t n
+      | inr m ↦ (m.0.0, m.0.1, subst (HasStatus P (value_at s) m.0.0) (sym m.1) (is_stream_goal m.0.2))
+    ],
+    λ h. stands_by g h.0 t h.1 h.2 (is_stream h.0) refl,
+  )
+
+  noted : (g : GoalName) (t : Status) → t ≢ streaming → IsNotedAs notes g t ↔ StandsAs P G s g t
+  noted g t other = (noted_stands g t, λ h. elim ((stands g t).1 h) [ inl n ↦ n | inr m ↦ absurd (other m.1) ])
+
+  noted_waiting : (g : GoalName) → ((xs : Variables) × IsNotedAs notes g (waiting xs)) ↔ ((xs : Variables) × StandsAs P G s g (waiting xs))
+  noted_waiting g = (λ w. (w.0, (noted g (waiting w.0) (λ e. cc)).0 w.1), λ w. (w.0, (noted g (waiting w.0) (λ e. cc)).1 w.1))
+
+  noted_failed : (g : GoalName) → ((f : Fault) × IsNotedAs notes g (failed f)) ↔ ((f : Fault) × StandsAs P G s g (failed f))
+  noted_failed g = (λ w. (w.0, (noted g (failed w.0) (λ e. cc)).0 w.1), λ w. (w.0, (noted g (failed w.0) (λ e. cc)).1 w.1))
+
+  stream_goals : (g : GoalName) → IsStreamGoal G g ↔ StandsAs P G s g streaming
+  stream_goals g = (λ m. (m.0, m.1, is_stream_goal m.2), λ h. (h.0, h.1, streams_stream P (value_at s) h.0 h.2))
+
+  hooked : (x : VarName) (g : GoalName) → IsNotedOn notes x g ↔ IsHookedOn P G s x g
+  hooked x g = (
+    λ n. (n.1, noted_stands g (waiting n.1) (n.0, n.2, n.3), n.4),
+    λ h. let n = (noted g (waiting h.0) (λ e. cc)).1 h.1 in (n.0, h.0, n.1, n.2, h.2),
+  )
+
+  shown : (face : Face) → IsNotedFace P G s notes face → IsFace P G s face
+  shown face f = record {
+    same_goals = f.same_goals;
+    same_store = f.same_store;
+    outcomes = f.outcomes;
+    statuses = λ g t. through (f.statuses g t) (stands g t);
+    hooks = λ x g. through (f.hooks x g) (hooked x g);
+    ready_pool = λ g. through (f.ready_pool g) (noted g ready (λ e. cc));
+    waiting_pool = λ g. through (f.waiting_pool g) (noted_waiting g);
+    failed_pool = λ g. through (f.failed_pool g) (noted_failed g);
+    streams = λ g. through (f.streams g) (stream_goals g);
+  }
+
+  shown_back : (face : Face) → IsFace P G s face → IsNotedFace P G s notes face
+  shown_back face f = record {
+    same_goals = f.same_goals;
+    same_store = f.same_store;
+    outcomes = f.outcomes;
+    statuses = λ g t. through (f.statuses g t) (turned (stands g t));
+    hooks = λ x g. through (f.hooks x g) (turned (hooked x g));
+    ready_pool = λ g. through (f.ready_pool g) (turned (noted g ready (λ e. cc)));
+    waiting_pool = λ g. through (f.waiting_pool g) (turned (noted_waiting g));
+    failed_pool = λ g. through (f.failed_pool g) (turned (noted_failed g));
+    streams = λ g. through (f.streams g) (turned (stream_goals g));
+  }
+
+pub settled_notes : SettledNotesShowTheFace
+settled_notes P G s notes untried face acyclic exact settled = (shown P G s notes untried acyclic exact settled face, shown_back P G s notes untried acyclic exact settled face)
