@@ -13,3 +13,7 @@ pub mod Leaves
 pub mod Hearing
 pub mod Trying
 pub mod NotedFaces
+pub mod Pairs
+pub mod Finding
+pub mod FoundFace
+pub mod WholeFace

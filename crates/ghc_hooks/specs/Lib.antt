@@ -2,6 +2,10 @@ pub mod Status
 pub mod Face
 pub mod Notes
 pub mod NotedFace
+pub mod Found
+pub mod Kinds
+pub mod FaceCode
+pub mod Parts
 pub mod Laws
 pub mod Tries
 pub mod Verdict

@@ -1,6 +1,7 @@
 //! The status of goals, the face of a state, noted outcomes and untried goals.
 #![tactic(auto)]
 
+mod face;
 mod few_goals;
 mod goal_set;
 mod heard;
@@ -12,6 +13,7 @@ mod reached;
 mod trial;
 mod tries;
 
+pub use face::{Face, Status};
 pub use laws::{
     each_goal_has_a_status, exact_notes_await_what_is_looked_at, exact_notes_stay_exact,
     goals_wait_for_what_they_look_at, looked_is_of_what_is_looked_at, settled_notes_show_the_face,
