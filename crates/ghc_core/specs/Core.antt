@@ -6,8 +6,9 @@ use Rattle.ghc_fire.specs.Proposal.{Proposal, under}
 use Rattle.ghc_fire.specs.declared.meter.Meter.{Meter}
 use Rattle.ghc_records.specs.Record.{Record}
 use Rattle.ghc_records.specs.State.{StateRoom}
-use Rattle.ghc_hooks.specs.Face.{GoalNames}
+use Rattle.ghc_hooks.specs.Face.{Face, GoalNames, IsFace}
 use Rattle.ghc_hooks.specs.Notes.{NotesByGoal, AreExact}
+use Rattle.ghc_hooks.specs.NotedFace.{IsNotedFace}
 use Rattle.ghc_core.specs.World.{no_hands, World, with_step}
 use Rattle.ghc_core.specs.Proposes.{IsCommitOf}
 use Rattle.ghc_core.specs.Legal.{IsReachable}
@@ -35,6 +36,14 @@ IsStanding w = IsReachable w no_hands
 -- In the world, each noted outcome is the one from scratch, and the untried goals are those without a note.
 abbrev pub AreExactIn : World → NotesByGoal → GoalNames → Type 0
 AreExactIn w notes untried = AreExact w.opening.program w.state.goals w.state.store notes untried
+
+-- The face shows the state of the world, found from scratch.
+abbrev pub IsFaceOf : World → Face → Type 0
+IsFaceOf w = IsFace w.opening.program w.state.goals w.state.store
+
+-- The face shows the state of the world as the notes have it.
+abbrev pub IsNotedFaceOf : World → NotesByGoal → Face → Type 0
+IsNotedFaceOf w = IsNotedFace w.opening.program w.state.goals w.state.store
 
 -- What holds in each core: its world is one that a core can be in, and its notes and untried goals are exact there.
 pub record IsConsistent (w : World) (notes : NotesByGoal) (untried : GoalNames) : Type 0 where

@@ -5,6 +5,7 @@ mod carrying;
 mod change;
 mod commit;
 mod core_state;
+mod face;
 mod facts;
 mod history_laws;
 mod laws;
