@@ -11,7 +11,7 @@ use std::marker::Model;
 
 // The kinds of status, one for each pool.
 #[derive(Clone, Copy, Drop, PartialEq, Eq)]
-pub enum Kind {
+pub(crate) enum Kind {
     Ready,
     Waiting,
     Failed,
@@ -43,7 +43,7 @@ impl Status {
     ghost use Rattle.ghc_hooks.specs.Kinds.{kind_of, IsNoWait};
 
     // The status of the goal, which costs what `try_goal` does.
-    pub fn of(
+    pub(crate) fn of(
         alloc: Global,
         program: &Program,
         store: &Store,
@@ -70,7 +70,7 @@ impl Status {
     }
 
     // The variables for which the goal waits, if it does.
-    pub fn awaited(&self) -> Option<&Variables>
+    pub(crate) fn awaited(&self) -> Option<&Variables>
         ensures some { IfSome result (λ xs. self.now ≡ waiting xs.now) }
         ensures none { IfNone result (IsNoWait self.now) }
     {
@@ -81,7 +81,7 @@ impl Status {
     }
 
     // Which kind of status it is.
-    pub fn kind(&self) -> Kind
+    pub(crate) fn kind(&self) -> Kind
         ensures { result ≡ kind_of self.now }
     {
         match self.verdict() {
