@@ -1,5 +1,5 @@
 -- The parts of a face, as far as they have been found.
-use Rattle.std.proofs.Common.{◌≡◌, ℕ, ◌+◌, ◌<◌, Bool, Bor, List, [], ◌∷◌, map, length, get_or, take, refl, sym, ap, subst, ◌∙◌, inl, inr, ◌⊎◌}
+use Rattle.std.proofs.Common.{◌≡◌, ℕ, ◌+◌, ◌<◌, Bor, List, [], ◌∷◌, map, length, get_or, take, refl, sym, ap, subst, ◌∙◌, inl, inr, ◌⊎◌}
 use Rattle.std.specs.Prelude.{◌↔◌, Option, Some, None, IsTrue, IfSome, IfNone, option_copied}
 use Rattle.std.specs.Option.{option_map}
 use Rattle.std.specs.Ordering.{nat_cmp}
@@ -27,7 +27,6 @@ use Rattle.ghc_hooks.specs.declared.face.status.Kind.{Kind}
 use Rattle.ghc_hooks.specs.Status.{Status, waiting, HasStatus}
 use Rattle.ghc_hooks.specs.Face.{GoalNames, StandsAs, ClauseSays, pair_cmp}
 use Rattle.ghc_hooks.specs.FaceCode.{StatusesByGoal, HookPairs, OutcomesByClause}
-use Rattle.ghc_hooks.specs.Kinds.{kind_of}
 use Rattle.ghc_hooks.specs.Parts.{SaysToCall, HaveOnly, HaveBesides, HooksBesides, TellsOutcomes, TellsStatuses, WaitsBy, TellsHooks, IsOfKind, TellsPool}
 use Rattle.ghc_hooks.proofs.Statuses.{status_once}
 use Rattle.ghc_hooks.proofs.Pairs.{hook_total, hook_antisymmetric, clause_total, clause_antisymmetric}

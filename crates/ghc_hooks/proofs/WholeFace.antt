@@ -1,5 +1,5 @@
 -- A face whose parts tell of all goals shows the state.
-use Rattle.std.proofs.Common.{◌≡◌, Bool, true, false, cond, List, [], ◌∷◌, map, refl, sym, ap, subst, ◌∙◌, inl, inr}
+use Rattle.std.proofs.Common.{◌≡◌, true, false, cond, List, [], ◌∷◌, map, refl, sym, subst, ◌∙◌, inl, inr}
 use Rattle.std.specs.Prelude.{◌↔◌, Some, IsTrue}
 use Rattle.std.specs.Ordering.{eq_by_cmp}
 use Rattle.std.specs.FinMap as finite
@@ -16,7 +16,7 @@ use Rattle.ghc_fire.proofs.GoalNames.{same_goal}
 use Rattle.ghc_hooks.specs.declared.face.status.Kind.{Kind}
 use Rattle.ghc_hooks.specs.declared.face.status.Kind.TheVariants.{Ready, Waiting, Failed, Stream}
 use Rattle.ghc_hooks.specs.Status.{Status, ready, waiting, failed, streaming}
-use Rattle.ghc_hooks.specs.Face.{Face, GoalNames, ClauseSays, StandsAs, IsFace}
+use Rattle.ghc_hooks.specs.Face.{Face, GoalNames, StandsAs, IsFace}
 use Rattle.ghc_hooks.specs.Kinds.{kind_of}
 use Rattle.ghc_hooks.specs.Parts.{TellsOutcomes, TellsStatuses, TellsHooks, TellsPool}
 

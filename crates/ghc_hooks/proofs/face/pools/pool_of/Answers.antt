@@ -1,4 +1,4 @@
-use Rattle.std.proofs.Common.{◌+◌, take, take_all, sym, subst}
+use Rattle.std.proofs.Common.{◌+◌, take, sym, subst}
 use Rattle.ghc_term.proofs.ListsLemmas.{not_both}
 use Rattle.ghc_hooks.specs.Parts.{TellsPool}
 use Rattle.ghc_hooks.proofs.FoundFace.{no_pool, pooled, not_pooled}

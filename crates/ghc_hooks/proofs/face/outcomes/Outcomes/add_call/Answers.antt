@@ -1,4 +1,4 @@
-use Rattle.std.proofs.Common.{length, take, take_all, slice_index_or, get_or, refl, subst, arith, ◌≤◌}
+use Rattle.std.proofs.Common.{length, take_all, slice_index_or, refl, subst, arith, ◌≤◌}
 use Rattle.std.proofs.lemmas.Option.{MatchOption-at_some}
 use Rattle.ghc_term.proofs.ListsLemmas.{in_at}
 use Rattle.ghc_flat.specs.Clause.{IsClause}
