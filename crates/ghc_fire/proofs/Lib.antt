@@ -16,3 +16,5 @@ pub mod Under
 pub mod FreshPlaces
 pub mod Calling
 pub mod Answering
+pub mod FoundEffects
+pub mod OpenTails

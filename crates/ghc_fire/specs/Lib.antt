@@ -12,3 +12,4 @@ pub mod Meter
 pub mod ActCode
 pub mod Attempted
 pub mod Calls
+pub mod Tail

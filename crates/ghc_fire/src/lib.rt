@@ -13,6 +13,8 @@ mod instances;
 mod laws;
 mod meter;
 mod proposal;
+mod recorded;
+mod streams;
 
 pub use act::Act;
 pub use attempting::{attempt, attempt_as, finish};
@@ -29,3 +31,5 @@ pub use laws::{
 };
 pub use meter::Meter;
 pub use proposal::Proposal;
+pub use recorded::has_effect;
+pub use streams::{close, feed};

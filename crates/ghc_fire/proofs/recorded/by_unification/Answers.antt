@@ -1,0 +1,9 @@
+use Rattle.ghc_term.specs.Store.{value_at}
+use Rattle.ghc_fire.proofs.FoundEffects.{not_united, none_where}
+use Rattle.ghc_fire.proofs.recorded.by_unification.Goals as goal
+
+pub returns-in-Err-clause-none : goal.returns-in-Err-clause-none
+returns-in-Err-clause-none c =
+    none_where c.none_but_memory.result (λ no_memory.
+    not_united (value_at c.args.store.now.held) c.acyclic.ensures c.in-Err.fault no_memory c.args.left.now c.args.right.now c.in-Err.ensures.fault)
+    c.none_but_memory.ensures.none

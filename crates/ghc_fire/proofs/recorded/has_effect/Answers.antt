@@ -1,0 +1,13 @@
+use Rattle.std.proofs.Common.{subst}
+use Rattle.std.specs.Prelude.{IfSome}
+use Rattle.ghc_term.specs.Store.{value_at}
+use Rattle.ghc_fire.specs.Effect.{HasEffect}
+use Rattle.ghc_fire.proofs.FoundEffects.{same_or_not}
+use Rattle.ghc_fire.proofs.recorded.has_effect.Goals as goal
+
+pub returns-in-Some-clause-answer : goal.returns-in-Some-clause-answer
+returns-in-Some-clause-answer c =
+    let a = c.args in
+    let S = value_at a.store.now.held in
+    let has = subst (λ o. IfSome o (HasEffect a.program.now a.goal.now a.act.now a.number S)) c.in-Some.is c.in_ok-found.ensures.some in
+    same_or_not c.same.result a.program.now a.goal.now a.act.now a.number S c.in-Some.found a.effect.now c.acyclic.ensures has c.same.ensures

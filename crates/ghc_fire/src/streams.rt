@@ -1,0 +1,76 @@
+// What a step of a stream goal would do: an input, or the close.
+ghost use Rattle.std.specs.Prelude.{◌≡◌, IfOk, IfSome, IfNone};
+ghost use Rattle.ghc_term.specs.Store.{value_at};
+ghost use Rattle.ghc_fire.specs.Effect.{Feeds, Closes};
+ghost use Rattle.ghc_fire.specs.Tail.{IsOpenAt, IsTailBound};
+
+use crate::effect::Effect;
+use ghc_term::{Bindings, Goal, Ground, Name, Store, Term, TermView, VarName, Variables};
+use std::alloc::{AllocError, Global};
+
+// The unbound variable at which the chain of the tail ends, with those that stand before it; none where the chain ends in
+// a value. One look-up for each variable of the chain.
+fn open_end(
+    alloc: Global,
+    store: &Store,
+    tail: VarName,
+) -> Result<Option<(VarName, Variables)>, AllocError>
+    ensures open { IfOk result (λ found. IfSome found (λ p. IsOpenAt tail (value_at store.now.held) p.0 p.1)) }
+    ensures bound { IfOk result (λ found. IfNone found (IsTailBound tail (value_at store.now.held))) }
+{
+    store.acyclic();
+    let mut before = Variables::new(alloc);
+    let mut end = tail;
+    while let Some(value) = store.get(end) {
+        match value.view() {
+            TermView::Var(next) => {
+                before.insert(end)?;
+                end = next;
+            }
+            _ => return Ok(None),
+        }
+    }
+    Ok(Some((end, before)))
+}
+
+/// The effect of an input of the stream of this number as this step: the end of the stream's tail is bound to a list cell of
+/// the input and a fresh tail, with which the stream goes on. None exactly where the chain of the tail ends in a value; it
+/// fails for want of memory alone. It costs a look-up for each variable of the chain.
+pub fn feed(
+    alloc: Global,
+    store: &Store,
+    stream: u32,
+    tail: VarName,
+    input: &Ground,
+    step: u32,
+) -> Result<Option<Effect>, AllocError>
+    ensures fed { IfOk result (λ found. IfSome found (Feeds stream tail input.now step (value_at store.now.held))) }
+    ensures bound { IfOk result (λ found. IfNone found (IsTailBound tail (value_at store.now.held))) }
+{
+    let Some((end, before)) = open_end(alloc, store, tail)? else {
+        return Ok(None);
+    };
+    let goes_on = VarName { step, place: 1 };
+    let given = input.as_term().share()?;
+    let cell_name = Name::new(alloc, ".")?;
+    let cell = Term::pair(alloc, cell_name, given, Term::variable(goes_on))?;
+    let mut binds = Bindings::new(alloc);
+    binds.insert(end, cell)?;
+    let mut makes = Vec::new(alloc);
+    makes.push(Goal::stream(stream, goes_on))?;
+    Ok(Some(Effect::new(before, binds, makes, 1)))
+}
+
+/// The effect of the close of a stream: the end of its tail is bound to `[]`. None exactly where the chain of the tail ends
+/// in a value; it fails for want of memory alone. It costs a look-up for each variable of the chain.
+pub fn close(alloc: Global, store: &Store, tail: VarName) -> Result<Option<Effect>, AllocError>
+    ensures closed { IfOk result (λ found. IfSome found (Closes tail (value_at store.now.held))) }
+    ensures bound { IfOk result (λ found. IfNone found (IsTailBound tail (value_at store.now.held))) }
+{
+    let Some((end, before)) = open_end(alloc, store, tail)? else {
+        return Ok(None);
+    };
+    let mut binds = Bindings::new(alloc);
+    binds.insert(end, Term::atom(Name::new(alloc, "[]")?))?;
+    Ok(Some(Effect::new(before, binds, Vec::new(alloc), 0)))
+}
