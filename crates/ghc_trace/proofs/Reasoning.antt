@@ -1,5 +1,5 @@
 -- The steps on which a kept step depends are found one after another.
-use Rattle.std.proofs.Common.{◌≡◌, ℕ, ◌+◌, ◌≤◌, ◌⊎◌, List, [], ◌∷◌, ◌++◌, length, map, take, refl, sym, ap, ◌∙◌, subst, inl, inr}
+use Rattle.std.proofs.Common.{◌≡◌, ℕ, ◌+◌, ◌≤◌, List, [], ◌∷◌, ◌++◌, length, map, take, refl, sym, ap, ◌∙◌, subst, inl, inr}
 use Rattle.std.specs.Prelude.{Some, None, slice_get}
 use Rattle.std.proofs.lemmas.List.{map-append, take_all}
 use Rattle.ghc_term.specs.Lists.{In}
@@ -9,7 +9,7 @@ use Rattle.ghc_records.specs.Record.{Record, numbers}
 use Rattle.ghc_records.proofs.OrderLemmas.{record_once}
 use Rattle.ghc_depend.specs.declared.cause.Cause.{Cause}
 use Rattle.ghc_depend.specs.Depend.{DependsOn, IsKeptAs}
-use Rattle.ghc_depend.specs.Cause.{HasCause, by_making, by_reading, IsDirect, AreReasons}
+use Rattle.ghc_depend.specs.Cause.{HasCause, by_making, by_reading, IsDirect}
 use Rattle.ghc_depend.proofs.AffectedSteps.{at_split, pick_last, leave_last}
 use Rattle.ghc_trace.specs.declared.reasons.Reason.{Reason}
 use Rattle.ghc_trace.specs.Why.{reason_of, AreReasonsTold}

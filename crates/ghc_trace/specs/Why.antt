@@ -1,10 +1,7 @@
 -- Why a step was possible, as it is told.
-use Rattle.std.specs.Prelude.{◌≡◌, ℕ, List, [], ◌∷◌, ◌++◌, map, codes, Bool, true, false}
-use Rattle.std.specs.Fmt.{decimal}
-use Rattle.ghc_term.specs.Text.{variable_text}
+use Rattle.std.specs.Prelude.{◌≡◌, ℕ, List, map}
 use Rattle.ghc_records.specs.Record.{Record}
 use Rattle.ghc_depend.specs.declared.cause.Cause.{Cause}
-use Rattle.ghc_depend.specs.declared.cause.Cause.TheVariants.{Made as made, Read as read}
 use Rattle.ghc_depend.specs.Cause.{AreReasonsOf}
 use Rattle.ghc_trace.specs.declared.reasons.Reason.{Reason}
 

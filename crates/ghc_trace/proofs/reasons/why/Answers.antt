@@ -1,10 +1,8 @@
-use Rattle.std.proofs.Common.{◌≡◌, ◌+◌, [], ◌∷◌, ◌++◌, sym, ap, ◌∙◌, subst, refl, inl, inr, arith}
+use Rattle.std.proofs.Common.{◌+◌, [], ◌∷◌, ◌++◌, refl, sym, ap, ◌∙◌, subst, inr, arith}
 use Rattle.std.specs.Option.{option_copied}
-use Rattle.ghc_records.specs.Record.{Record}
-use Rattle.ghc_depend.specs.Depend.{IsKeptAs}
 use Rattle.ghc_depend.specs.Cause.{IsDirect}
 use Rattle.ghc_depend.proofs.Causes.{some_within}
-use Rattle.ghc_trace.proofs.Reasoning.{Gathered, begin, gathered, passed, finished}
+use Rattle.ghc_trace.proofs.Reasoning.{begin, gathered, passed, finished}
 use Rattle.ghc_trace.proofs.reasons.why.Goals as goal
 use Rattle.ghc_trace.proofs.reasons.why.Goals.{in-Some-direct+in_ok-push, in_default-direct}
 
