@@ -14,3 +14,4 @@ pub mod NameOrder
 pub mod BindingOrder
 pub mod Makes
 pub mod TakenBack
+pub mod InOrder

@@ -1,5 +1,5 @@
 -- Records in a map, each under its own number.
-use Rattle.std.proofs.Common.{◌≡◌, ◌≢◌, ℕ, true, false, cond, List, [], ◌∷◌, ◌++◌, refl, sym, ap, ◌∙◌, subst, inl, inr, nat_eq}
+use Rattle.std.proofs.Common.{◌≡◌, ◌≢◌, ℕ, Bool, true, false, cond, filter, List, [], ◌∷◌, ◌++◌, refl, sym, ap, ◌∙◌, subst, inl, inr, nat_eq}
 use Rattle.std.specs.Prelude.{Some, None}
 use Rattle.std.specs.Map.{keys_of, values_of, lookup}
 use Rattle.std.specs.List.{IsDistinct, AllByRecursion}
@@ -95,3 +95,22 @@ numbered_left n (x ∷ es) h = elim (nat_eq n x.0) as (λ b. AreNumbered (cond b
   | true ↦ rest x es h
   | false ↦ let same = numbered_left n es (rest x es h) in let head = first x es h in cc
 ]
+
+-- those whose numbers pass a test are still numbered
+pub numbered_passed : (test : ℕ → Bool) (es : List (ℕ × Record)) → AreNumbered es → AreNumbered (filter (λ e. test e.0) es)
+numbered_passed test [] h = refl
+numbered_passed test (x ∷ es) h = elim (test x.0) as (λ b. AreNumbered (cond b (x ∷ filter (λ e. test e.0) es) (filter (λ e. test e.0) es))) [
+  | true ↦ let same = numbered_passed test es (rest x es h) in let head = first x es h in cc
+  | false ↦ numbered_passed test es (rest x es h)
+]
+
+-- and they are the records that pass it
+pub passed : (test : ℕ → Bool) (P : Record → Type 0) (in_it : (r : Record) → test r.number ≡ true → P r) (out : (r : Record) → test r.number ≡ false → ¬ P r) (es : List (ℕ × Record)) → AreNumbered es
+    → Picks P (values_of es) (values_of (filter (λ e. test e.0) es))
+passed test P in_it out [] h = nothing
+passed test P in_it out (x ∷ es) h =
+    let number = ap test (first x es h) in
+    elim (test x.0) as (λ b. test x.0 ≡ b → Picks P (x.1 ∷ values_of es) (values_of (cond b (x ∷ filter (λ e. test e.0) es) (filter (λ e. test e.0) es)))) [
+      | true ↦ λ e. take (in_it x.1 (sym number ∙ e)) (passed test P in_it out es (rest x es h))
+      | false ↦ λ e. leave (out x.1 (sym number ∙ e)) (passed test P in_it out es (rest x es h))
+    ] refl

@@ -1,5 +1,5 @@
 -- What a state has room for, and how it takes a step and takes it back.
-use Rattle.std.specs.Prelude.{◌≡◌, ◌≤◌, if◌then◌else◌, is_some, ℕ, zero, suc, List, length, Option, Some, None}
+use Rattle.std.specs.Prelude.{◌≡◌, ◌≤◌, if◌then◌else◌, is_some, ℕ, zero, suc, List, [], ◌∷◌, length, Option, Some, None}
 use Rattle.std.specs.FinMap as finite
 use Rattle.ghc_term.specs.declared.var_name.VarName.{VarName}
 use Rattle.ghc_term.specs.declared.goal_name.GoalName.{GoalName}
@@ -53,3 +53,8 @@ pub record GoalsTakenBack (r : Record) (m l : Goals) : Type 0 where
 pub record IsTakenBack (r : Record) (s t : State) : Type 0 where
   pub goals : GoalsTakenBack r s.goals t.goals
   pub store : (x : VarName) → value_at t.store x ≡ if is_some (value_at r.effect.binds x) then None else value_at s.store x
+
+-- The steps are taken back from the state s, the last one first, which leaves t.
+abbrev pub AreTakenBack : List Record → State → State → Type 0
+AreTakenBack [] s t = t ≡ s
+AreTakenBack (r ∷ rs) s t = (m : State) × AreTakenBack rs s m × IsTakenBack r m t

@@ -1,5 +1,5 @@
 // Goals that a step makes and consumes are put there and taken away.
-ghost use Rattle.std.specs.Prelude.{◌≡◌, ◌<◌, ◌≤◌, length};
+ghost use Rattle.std.specs.Prelude.{◌≡◌, ◌+◌, ◌<◌, ◌≤◌, length};
 ghost use Rattle.ghc_records.specs.Record.{with_makes, without_goal};
 ghost use Rattle.ghc_records.specs.State.{with_goal, without_makes};
 
@@ -19,7 +19,8 @@ pub(crate) fn consume_goal(goals: &mut Goals, name: Option<GoalName>)
 /// Puts the goal that a step consumed back under its name, if it consumed one: one look-up.
 pub(crate) fn restore_consumed(goals: &mut Goals, name: Option<GoalName>, consumed: Option<Goal>)
     requires { 0 < goals.old.room }
-    ensures { goals.new.held ≡ with_goal name consumed goals.old.held }
+    ensures held { goals.new.held ≡ with_goal name consumed goals.old.held }
+    ensures room { goals.old.room ≤ goals.new.room + 1 }
 {
     if let (Some(name), Some(goal)) = (name, consumed) {
         goals.put(name, goal);
@@ -28,7 +29,8 @@ pub(crate) fn restore_consumed(goals: &mut Goals, name: Option<GoalName>, consum
 
 /// Takes the goals `n.k`, .., `n.1` away: one look-up for each.
 pub(crate) fn unmake_goals(goals: &mut Goals, step: u32, count: u32)
-    ensures { goals.new.held ≡ without_makes step count goals.old.held }
+    ensures held { goals.new.held ≡ without_makes step count goals.old.held }
+    ensures room { goals.old.room ≤ goals.new.room }
 {
     let mut place = count;
     while place > 0 {

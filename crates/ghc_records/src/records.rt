@@ -1,7 +1,9 @@
 // The records of the kept steps, in recorded order.
-ghost use Rattle.std.specs.Prelude.{◌≡◌, ◌≢◌, ◌+◌, ◌<◌, ◌≤◌, length, [], ◌∷◌, ◌++◌, IfSome, IfNone, OnOk, slice_get};
+ghost use Rattle.std.specs.Prelude.{◌≡◌, ◌≢◌, ◌+◌, ◌<◌, ◌≤◌, ℕ, length, [], ◌∷◌, ◌++◌, IfSome, IfNone, IfOk, OnOk, None, is_none, slice_get};
+ghost use Rattle.std.specs.FinMap as finite;
 
 use crate::record::Record;
+use crate::shelf::Shelf;
 use indexmap::IndexMap;
 use std::alloc::{AllocError, Global};
 use std::marker::Model;
@@ -83,6 +85,25 @@ impl Records {
         self.map.get_index_of(&number)
     }
 
+    /// The records of these numbers in this order, shared with these. It fails for want of memory alone, and goes once over the
+    /// order, with two look-ups for each number.
+    pub fn in_order(&self, alloc: Global, order: &[u32]) -> Result<Records, AllocError>
+        requires kept { (n : ℕ) → In n order.now → In n (numbers self.now.held) }
+        requires distinct { AreDistinct order.now }
+        ensures numbers { IfOk result (λ new. numbers new.held ≡ order.now) }
+        ensures kept { IfOk result (λ new. (r : Record) → In r new.held → In r self.now.held) }
+    {
+        let mut new = Records::new(alloc);
+        new.reserve(order.len())?;
+        for number in order {
+            match self.get(*number).unwrap().share() {
+                Ok(record) => new.put(record),
+                Err(error) => return Err(error),
+            }
+        }
+        Ok(new)
+    }
+
     /// Makes room for as many more records. The records stay, and so does the room where memory is refused.
     pub fn reserve(&mut self, count: usize) -> Result<(), AllocError>
         ensures held { self.new.held ≡ self.old.held }
@@ -112,5 +133,13 @@ impl Records {
     {
         let _count = self.len();
         self.map.shift_remove(&number)
+    }
+
+    /// Takes the records away whose numbers are on the shelf; the others keep their order. It takes no memory, cannot fail, and
+    /// goes once over the records, with a look-up for each.
+    pub fn remove_shelved(&mut self, shelf: &Shelf)
+        ensures { Picks (λ r. finite.get shelf.now.held r.number ≡ None) self.old.held self.new.held }
+    {
+        self.map.retain(|number: &u32, _: &mut Record| shelf.get(*number).is_none());
     }
 }

@@ -1,9 +1,10 @@
 // The records of the steps that were taken away and not redone.
-ghost use Rattle.std.specs.Prelude.{◌≡◌, ◌+◌, ◌<◌, ◌≤◌, OnOk, OnErr};
+ghost use Rattle.std.specs.Prelude.{◌≡◌, ◌+◌, ◌<◌, ◌≤◌, map, IfOk, OnOk, OnErr};
 
 use crate::record::Record;
 use indexmap::IndexMap;
 use std::alloc::{AllocError, Global};
+use std::collections::BTreeMap;
 use std::marker::Model;
 
 /// Records by the numbers of their steps.
@@ -49,6 +50,20 @@ impl Shelf {
         ensures { option_copied result ≡ finite.get self.now.held number }
     {
         self.map.get(&number)
+    }
+
+    /// The records by the numbers of their steps, in the order of the numbers. Each is put in its place in the order, and no
+    /// record is copied.
+    pub fn by_number(&self, alloc: Global) -> Result<BTreeMap<u32, &Record>, AllocError>
+        ensures { IfOk result (λ ordered. map (λ e. (e.0, e.1.now)) ordered.entries ≡ finite.entries self.now.held) }
+    {
+        let mut ordered = BTreeMap::new(alloc);
+        // Of two of one number the first would count, so it is put last.
+        for (number, taken) in self.map.iter().rev() {
+            ordered.insert(*number, taken)?;
+        }
+        let _count = ordered.len();
+        Ok(ordered)
     }
 
     /// Makes room for as many more records. The records stay, and so does the room where memory is refused.

@@ -1,5 +1,5 @@
 // States: the goals and the store.
-ghost use Rattle.std.specs.Prelude.{◌≡◌, ◌<◌, ◌≤◌, length, IfOk, OnOk};
+ghost use Rattle.std.specs.Prelude.{◌≡◌, ◌+◌, ◌<◌, ◌≤◌, length, IfOk, OnOk};
 ghost use Rattle.ghc_flat.specs.Flat.{most_goals};
 
 use crate::addition::{Addition, share_goals};
@@ -111,6 +111,7 @@ impl State {
         requires { 0 < self.old.room.goals }
         ensures record { result ≡ removal }
         ensures state { IsTakenBack removal self.old.held self.new.held }
+        ensures room { self.old.room.goals ≤ self.new.room.goals + 1 }
     {
         let (step, consumed, made) = removal.into_parts();
         restore_consumed(&mut self.goals, step.goal(), consumed);

@@ -1,0 +1,7 @@
+use Rattle.std.proofs.Common.{◌≡◌, ◌++◌}
+use Rattle.std.specs.FinMap as finite
+use Rattle.ghc_fire.proofs.Gathering.{shown_by}
+use Rattle.ghc_records.proofs.shelf.Shelf.by_number.Given as goal
+
+abbrev pub invariant-loop-number : goal.invariant-loop-number
+invariant-loop-number l = finite.from_entries (l.number-iterator.iter ++ shown_by (λ t. t.now) l.ordered.entries) ≡ l.self.held
