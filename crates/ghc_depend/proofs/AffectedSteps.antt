@@ -163,12 +163,12 @@ module _ (kept : List Record) (distinct : AreDistinct (numbers kept)) (a : Recor
       ]
 
 -- a number is in a list as the look-up says
-any_number : (n : ℕ) (ks : List ℕ) → In n ks → list_any (nat_eq n) ks ≡ true
+pub any_number : (n : ℕ) (ks : List ℕ) → In n ks → list_any (nat_eq n) ks ≡ true
 any_number n [] i = absurd i
 any_number n (k ∷ ks) (inl e) = ap (λ b. b || list_any (nat_eq n) ks) (eq-eqb n k e)
 any_number n (k ∷ ks) (inr i) = elim (nat_eq n k) as (λ b. (b || list_any (nat_eq n) ks) ≡ true) [ true ↦ refl | false ↦ any_number n ks i ]
 
-number_any : (n : ℕ) (ks : List ℕ) → list_any (nat_eq n) ks ≡ true → In n ks
+pub number_any : (n : ℕ) (ks : List ℕ) → list_any (nat_eq n) ks ≡ true → In n ks
 number_any n [] e = cc
 number_any n (k ∷ ks) e =
     elim (nat_eq n k) as (λ b. nat_eq n k ≡ b → (b || list_any (nat_eq n) ks) ≡ true → In n (k ∷ ks)) [

@@ -20,3 +20,6 @@ pub mod Arranging
 pub mod Undoing
 pub mod ComingBack
 pub mod KeptOnce
+pub mod TakenTogether
+pub mod OrderWalks
+pub mod InTime

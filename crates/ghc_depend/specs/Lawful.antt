@@ -1,5 +1,5 @@
 -- Lawful orders of a record, and why an order is not lawful.
-use Rattle.std.specs.Prelude.{◌≡◌, ◌⊎◌, ◌↔◌, ℕ, List, ◌∷◌, ◌++◌}
+use Rattle.std.specs.Prelude.{◌≡◌, ◌⊎◌, ◌↔◌, ◌<◌, ℕ, List, ◌∷◌, ◌++◌, Some, slice_get}
 use Rattle.ghc_term.specs.Lists.{In}
 use Rattle.ghc_records.specs.Orders.{Precedes, AreDistinct}
 use Rattle.ghc_records.specs.Record.{Record, numbers}
@@ -20,6 +20,22 @@ IsTooEarly kept order a b = DependsOn kept b a × Precedes order b.number a.numb
 -- A lawful order has each kept number once, and nothing stands before a step on which it depends.
 abbrev pub IsLawful : List Record → List ℕ → Type 0
 IsLawful kept order = IsOrderOf kept order × ((a b : Record) → ¬ IsTooEarly kept order a b)
+
+-- In the order, the number stands behind this place.
+abbrev pub StandsBehind : List ℕ → ℕ → ℕ → Type 0
+StandsBehind order place n = (own : ℕ) × (slice_get order own ≡ Some n) × (place < own)
+
+-- The step of this number does not stand before one on which it depends.
+abbrev pub IsInTime : List Record → List ℕ → ℕ → Type 0
+IsInTime kept order n = (a b : Record) → b.number ≡ n → ¬ IsTooEarly kept order a b
+
+-- So it is for the first steps of the order, as many as this.
+abbrev pub AreInTime : List Record → List ℕ → ℕ → Type 0
+AreInTime kept order count = (place n : ℕ) → place < count → slice_get order place ≡ Some n → IsInTime kept order n
+
+-- a is the first step, in recorded order, before which b stands too early.
+abbrev pub IsFirstNeeded : List Record → List ℕ → Record → Record → Type 0
+IsFirstNeeded kept order b a = IsTooEarly kept order a b × ((c : Record) → IsTooEarly kept order c b → (c ≡ a) ⊎ Precedes kept a c)
 
 -- The records in the order of these numbers.
 abbrev pub IsInOrder : List Record → List ℕ → List Record → Type 0

@@ -5,11 +5,14 @@ mod affected;
 mod cause;
 mod consequence;
 mod facts;
+mod lawful_order;
 mod laws;
+mod places;
 
 pub use cause::{Cause, direct};
 pub use consequence::{consequences, first_consequence};
 pub use facts::{append_depends, append_orders, waking_depends};
+pub use lawful_order::lawful;
 pub use laws::{
     consequences_have_one_answer, gone_come_back, keeps_is_one, law_of_deletion,
     lawful_order_keeps_replay, neighbours_change_places, orders_are_decided,

@@ -1,6 +1,5 @@
 use Rattle.std.proofs.Common.{◌+◌, drop, get_or, sym, ap, ◌∙◌, subst}
 use Rattle.std.proofs.lemmas.List.{drop_all, drop_more}
-use Rattle.std.specs.FinMap as finite
 use Rattle.std.specs.FinSet as set
 use Rattle.ghc_records.proofs.Allowed.{allowed}
 use Rattle.ghc_depend.proofs.AffectedSteps.{IsAdding, adds_begin, adds_next, adds_all}

@@ -1,0 +1,147 @@
+-- Which step of an order is the first that stands too early.
+use Rattle.std.proofs.Common.{◌≡◌, ℕ, zero, suc, ◌+◌, ◌<◌, ◌≤◌, List, [], ◌∷◌, length, take, refl, sym, ap, ◌∙◌, subst, inl, inr, arith}
+use Rattle.std.specs.Prelude.{Some, IsTrue, slice_get}
+use Rattle.std.specs.FinSet as set
+use Rattle.std.proofs.lemmas.Bool.{cases_lt}
+use Rattle.std.proofs.Math.Nat.{eq-or-lt_of_le}
+use Rattle.ghc_term.specs.declared.var_name.VarName.{VarName}
+use Rattle.ghc_term.specs.Lists.{In}
+use Rattle.ghc_term.specs.Sets.{Variables}
+use Rattle.ghc_term.proofs.ListsLemmas.{in_at}
+use Rattle.ghc_records.specs.Orders.{AreDistinct}
+use Rattle.ghc_records.specs.Record.{Record, numbers}
+use Rattle.ghc_records.proofs.OrderLemmas.{is_before, before_is, before_in, record_once, records_distinct}
+use Rattle.ghc_depend.specs.Depend.{Binds, Uses}
+use Rattle.ghc_depend.specs.Affected.{Touches}
+use Rattle.ghc_depend.specs.Lawful.{IsTooEarly, StandsBehind, IsInTime, AreInTime, IsFirstNeeded, IsFirstTooEarly}
+use Rattle.ghc_depend.proofs.Finding.{same_value, ends}
+use Rattle.ghc_depend.proofs.AffectedSteps.{at_split, AddsNumber, AddsBound}
+use Rattle.ghc_depend.proofs.Causes.{places_before, before_places, place_at, place_within}
+
+-- what stands in front of a place has an earlier one
+pub place_in_front : {X : Type 0} (xs : List X) (count : ℕ) (x : X) → In x (take count xs) → (i : ℕ) × (i < count) × (slice_get xs i ≡ Some x)
+place_in_front [] zero x i = absurd i
+place_in_front [] (suc count) x i = absurd i
+place_in_front (y ∷ xs) zero x i = absurd i
+place_in_front (y ∷ xs) (suc count) x (inl e) = (0, omega arith, ap Some (sym e))
+place_in_front (y ∷ xs) (suc count) x (inr i) = let p = place_in_front xs count x i in (suc p.0, omega (arith, p.1), p.2)
+
+-- one place more is in time
+pub time_next : (kept : List Record) (order : List ℕ) (i n : ℕ) → slice_get order i ≡ Some n → AreInTime kept order i → IsInTime kept order n → AreInTime kept order (i + 1)
+time_next kept order i n at h here place m low there = elim (cases_lt place i) [
+  | inl l ↦ h place m l there
+  | inr l ↦ let e : i ≡ place = omega arith in subst (IsInTime kept order) (same_value at (ap (slice_get order) e ∙ there)) here
+]
+
+-- a number that is not kept is of no step that stands too early
+pub not_kept_in_time : (kept : List Record) (order : List ℕ) (n : ℕ) → ((r : Record) → In r kept → ¬ (r.number ≡ n)) → IsInTime kept order n
+not_kept_in_time kept order n none a b e t = none b (ends kept b a t.0).1 e
+
+-- all are in time, where each place is
+pub all_in_time : (kept : List Record) (order : List ℕ) (count : ℕ) → length order ≤ count → AreInTime kept order count → (a b : Record) → ¬ IsTooEarly kept order a b
+all_in_time kept order count long h a b t =
+    let p = place_at order b.number (before_in order b.number a.number (is_before order b.number a.number t.1)).0 in
+    let within = place_within order p.0 b.number p.1 in
+    h p.0 b.number (omega arith) p.1 a b refl t
+
+-- of the records in front of this one, none was used by b and stands behind it in the order
+abbrev pub NoneNeeded : List Record → List ℕ → ℕ → Record → ℕ → Type 0
+NoneNeeded kept order place b i = (k : ℕ) (c : Record) → k < i → slice_get kept k ≡ Some c → ¬ (StandsBehind order place c.number × Uses b c)
+
+pub none_needed_more : (kept : List Record) (order : List ℕ) (place : ℕ) (b : Record) (i : ℕ) (a : Record) → slice_get kept i ≡ Some a → NoneNeeded kept order place b i → ¬ (StandsBehind order place a.number × Uses b a) → NoneNeeded kept order place b (i + 1)
+none_needed_more kept order place b i a at none not_it k c low there = elim (cases_lt k i) [
+  | inl l ↦ none k c l there
+  | inr l ↦ let e : i ≡ k = omega arith in subst (λ (z : Record). ¬ (StandsBehind order place z.number × Uses b z)) (same_value at (ap (slice_get kept) e ∙ there)) not_it
+]
+
+module _ (kept : List Record) (distinct : AreDistinct (numbers kept)) (order : List ℕ) (once : AreDistinct order) (place : ℕ) (b : Record) (at : slice_get order place ≡ Some b.number) where
+  -- a step before which b stands too early stands behind it
+  pub stands_later : (c : Record) → IsTooEarly kept order c b → StandsBehind order place c.number
+  stands_later c t =
+      let before = is_before order b.number c.number t.1 in
+      let p = place_at order c.number (before_in order b.number c.number before).1 in
+      (p.0, p.1, before_places order once place p.0 b.number c.number at p.1 before)
+
+  pub first_step : (end_place i : ℕ) (a : Record) → slice_get kept end_place ≡ Some b → slice_get kept i ≡ Some a → i < end_place → StandsBehind order place a.number → Uses b a → NoneNeeded kept order place b i → IsFirstNeeded kept order b a
+  first_step end_place i a there here low behind used none = (
+    (
+      (before_is kept a b (places_before kept i end_place a b here there low), used),
+      before_is order b.number a.number (places_before order place behind.0 b.number a.number at behind.1 behind.2),
+    ),
+    λ c t.
+        let p = place_at kept c (ends kept b c t.0).0 in
+        elim (cases_lt p.0 i) [
+          | inl l ↦ absurd (none p.0 c l p.1 (stands_later c t, t.0.1))
+          | inr l ↦ elim (eq-or-lt_of_le l) [
+            | inl e ↦ inl (same_value p.1 (ap (slice_get kept) (sym e) ∙ here))
+            | inr m ↦ inr (before_is kept a c (places_before kept i p.0 a c here p.1 m))
+          ]
+        ],
+  )
+
+  pub no_step : (end_place : ℕ) → slice_get kept end_place ≡ Some b → NoneNeeded kept order place b end_place → IsInTime kept order b.number
+  no_step end_place there none c d e t =
+      let same : d ≡ b = record_once kept d b distinct (ends kept d c t.0).1 (in_at kept end_place b there) e in
+      let early : IsTooEarly kept order c b = subst (IsTooEarly kept order c) same t in
+      let p = place_at kept c (ends kept b c early.0).0 in
+      let low = before_places kept (records_distinct kept distinct) p.0 end_place c b p.1 there (is_before kept c b early.0.0) in
+      none p.0 c low p.1 (stands_later c early, early.0.1)
+
+  -- those at and behind a place have these numbers, and bound these variables
+  module _ (ns : List ℕ) (bound : Variables) where
+    pub untouched_in_time : In b kept → ((c : Record) → In c kept → StandsBehind order place c.number → In c.number ns × ((x : VarName) → Binds c x → IsTrue (set.contains bound x)))
+        → ¬ Touches kept ns bound b → IsInTime kept order b.number
+    untouched_in_time there has apart c d e t =
+        let same : d ≡ b = record_once kept d b distinct (ends kept d c t.0).1 there e in
+        let early : IsTooEarly kept order c b = subst (IsTooEarly kept order c) same t in
+        let own = (ends kept b c early.0).0 in
+        let h = has c own (stands_later c early) in
+        apart (elim early.0.1 [
+          | inl k ↦ inl (c, own, h.0, k)
+          | inr r ↦ inr (r.0, r.1.0, h.1 r.0 r.1.1)
+        ])
+
+-- the steps at the places from this one on have their numbers here, and their bindings
+abbrev pub HasAllFrom : List Record → List ℕ → ℕ → List ℕ → Variables → Type 0
+HasAllFrom kept order from ns bound =
+    (c : Record) (own : ℕ) → In c kept → from ≤ own → slice_get order own ≡ Some c.number → In c.number ns × ((x : VarName) → Binds c x → IsTrue (set.contains bound x))
+
+pub none_from : (kept : List Record) (order : List ℕ) (from : ℕ) (ns : List ℕ) (bound : Variables) → length order ≤ from → HasAllFrom kept order from ns bound
+none_from kept order from ns bound long c own i low at = let within = place_within order own c.number at in absurd (omega arith)
+
+pub one_more_from : (kept : List Record) (order : List ℕ) (place : ℕ) (b : Record) (ns new : List ℕ) (bound more : Variables) → AreDistinct (numbers kept) → In b kept → slice_get order place ≡ Some b.number
+    → HasAllFrom kept order (place + 1) ns bound → AddsNumber ns new b.number → AddsBound bound more b → HasAllFrom kept order place new more
+one_more_from kept order place b ns new bound more distinct there at h f g c own i low here = elim (eq-or-lt_of_le low) [
+  | inl e ↦
+      let same : c ≡ b = record_once kept c b distinct i there (same_value here (ap (slice_get order) (sym e) ∙ at)) in
+      ((f c.number).1 (inr (ap (λ (z : Record). z.number) same)), λ x k. (g x).1 (inr (subst (λ z. Binds z x) same k)))
+  | inr l ↦
+      let p = h c own i (omega arith) here in
+      ((f c.number).1 (inl p.0), λ x k. (g x).1 (inl (p.1 x k)))
+]
+
+-- the places from this one on up to the other are in time
+abbrev pub AreInTimeFrom : List Record → List ℕ → ℕ → ℕ → Type 0
+AreInTimeFrom kept order from count = (place n : ℕ) → from ≤ place → place < count → slice_get order place ≡ Some n → IsInTime kept order n
+
+pub one_more_in_time : (kept : List Record) (order : List ℕ) (from count n : ℕ) → slice_get order from ≡ Some n → AreInTimeFrom kept order (from + 1) count → IsInTime kept order n → AreInTimeFrom kept order from count
+one_more_in_time kept order from count n at h here place m low high there = elim (eq-or-lt_of_le low) [
+  | inl e ↦ subst (IsInTime kept order) (same_value at (ap (slice_get order) e ∙ there)) here
+  | inr l ↦ h place m (omega arith) high there
+]
+
+pub begins_here : (kept : List Record) (order : List ℕ) (from : ℕ) → AreInTimeFrom kept order from from
+begins_here kept order from place n low high at = absurd (omega arith)
+
+-- the first that stands too early
+pub is_too_early : (kept : List Record) (order : List ℕ) (place : ℕ) (a b : Record) → slice_get order place ≡ Some b.number → AreInTime kept order place → IsFirstNeeded kept order b a → IsFirstTooEarly kept order a b
+is_too_early kept order place a b at time needed =
+    let s = at_split order place b.number at in
+    record {
+      front = take place order;
+      behind = s.0;
+      splits = s.1;
+      before = λ c d i t. let p = place_in_front order place d.number i in time p.0 d.number p.1 p.2 c d refl t;
+      early = needed.0;
+      first = needed.1;
+    }

@@ -1,0 +1,104 @@
+-- Walks over an order and over the record: which number is wrong, and which is missing.
+use Rattle.std.proofs.Common.{◌≡◌, ℕ, ◌+◌, ◌⊎◌, Bool, true, false, not, List, [], ◌∷◌, ◌++◌, take, get_or, refl, sym, ap, ◌∙◌, subst, inl, inr, nat_eq}
+use Rattle.std.specs.Prelude.{Option, Some, None, IfSome, IfNone, IsSome, slice_get}
+use Rattle.std.specs.Borrow.{Bor}
+use Rattle.std.specs.List.{list_any, position}
+use Rattle.std.proofs.lemmas.Bool.{eqb-true, cases_order}
+use Rattle.std.proofs.lemmas.List.Quantifiers.{position-Some}
+use Rattle.std.proofs.lemmas.Option.{slice_get-get_or}
+use Rattle.indexmap.specs.IndexSet.{insert_key}
+use Rattle.ghc_term.specs.Lists.{In}
+use Rattle.ghc_term.proofs.ListsLemmas.{in_more}
+use Rattle.ghc_term.proofs.MapsLemmas.{at_some}
+use Rattle.ghc_records.specs.Orders.{AreDistinct}
+use Rattle.ghc_records.specs.Record.{Record, numbers}
+use Rattle.ghc_records.proofs.OrderLemmas.{before_once, number_of}
+use Rattle.ghc_depend.specs.Lawful.{IsOfKept, IsFirstWrong, IsFirstMissing}
+use Rattle.ghc_depend.proofs.AffectedSteps.{at_split, any_number, number_any}
+use Rattle.ghc_depend.proofs.Causes.{places_before}
+use Rattle.ghc_depend.proofs.Picking.{distinct_push}
+
+-- no number is of kept records alone, and none twice
+pub none_of_kept : (kept : List Record) → IsOfKept kept []
+none_of_kept kept = ((λ n i. absurd i), tt)
+
+-- and one number more
+pub one_of_kept : (kept : List Record) (done : List ℕ) (n : ℕ) → IsOfKept kept done → In n (numbers kept) → ¬ In n done → IsOfKept kept (done ++ n ∷ [])
+one_of_kept kept done n k there new = (
+  (λ m i. elim (in_more done n m i) [ inl j ↦ k.0 m j | inr same ↦ subst (λ z. In z (numbers kept)) (sym same) there ]),
+  distinct_push done n k.1 new,
+)
+
+module _ (kept : List Record) (order : List ℕ) (i : ℕ) (n : ℕ) (at : slice_get order i ≡ Some n) where
+  -- one number more of the order
+  pub next_of_kept : IsOfKept kept (take i order) → In n (numbers kept) → ¬ In n (take i order) → IsOfKept kept (take (i + 1) order)
+  next_of_kept k there new = subst (IsOfKept kept) (sym (at_split order i n at).2) (one_of_kept kept (take i order) n k there new)
+
+  pub is_wrong : IsOfKept kept (take i order) → (¬ In n (numbers kept)) ⊎ In n (take i order) → IsFirstWrong kept order n
+  is_wrong k wrong = let s = at_split order i n at in record { front = take i order; behind = s.0; splits = s.1; before = k; not_new = wrong }
+
+-- the records so far have places, and so has one more
+abbrev pub HavePlaces : List Record → ℕ → List ℕ → Type 0
+HavePlaces kept i keys = (r : Record) → In r (take i kept) → In r.number keys
+
+pub places_next : (kept : List Record) (keys : List ℕ) (i : ℕ) (r : Record) → slice_get kept i ≡ Some r → HavePlaces kept i keys → In r.number keys → HavePlaces kept (i + 1) keys
+places_next kept keys i r at h here s j = elim (in_more (take i kept) r s (subst (In s) (at_split kept i r at).2 j)) [
+  | inl k ↦ h s k
+  | inr same ↦ subst (λ (z : Record). In z.number keys) (sym same) here
+]
+
+pub is_missing : (kept : List Record) (keys : List ℕ) (i : ℕ) (r : Record) → slice_get kept i ≡ Some r → HavePlaces kept i keys → ¬ In r.number keys → IsFirstMissing kept keys r
+is_missing kept keys i r at h absent =
+    let s = at_split kept i r at in
+    record {
+      front = take i kept;
+      behind = s.0;
+      splits = s.1;
+      before = λ n j. let q = number_of (take i kept) n j in subst (λ m. In m keys) q.2 (h q.0 q.1);
+      absent = absent;
+    }
+
+pub none_missing : (kept : List Record) (keys : List ℕ) → ((r : Record) → In r kept → In r.number keys) → (n : ℕ) → In n (numbers kept) → In n keys
+none_missing kept keys h n i = let q = number_of kept n i in subst (λ m. In m keys) q.2 (h q.0 q.1)
+
+pub when_new : (a b : Bool) → a ≡ not b → a ≡ true → b ≡ false
+when_new a false e t = refl
+when_new a true e t = let clash : false ≡ true = sym e ∙ t in cc
+
+pub when_old : (a b : Bool) → a ≡ not b → a ≡ false → b ≡ true
+when_old a true e t = refl
+when_old a false e t = let clash : true ≡ false = sym e ∙ t in cc
+
+-- distinct elements have one place
+pub one_place : {X : Type 0} (xs : List X) (i j : ℕ) (x : X) → AreDistinct xs → slice_get xs i ≡ Some x → slice_get xs j ≡ Some x → i ≡ j
+one_place xs i j x distinct p q = elim (cases_order i j) [
+  | inl e ↦ e
+  | inr (inl l) ↦ let h = places_before xs i j x x p q l in absurd (before_once xs x x distinct h h)
+  | inr (inr l) ↦ let h = places_before xs j i x x q p l in absurd (before_once xs x x distinct h h)
+]
+
+-- a look-up says whether a number is there
+pub not_any : (n : ℕ) (ks : List ℕ) → list_any (nat_eq n) ks ≡ false → ¬ In n ks
+not_any n ks e i = let clash : true ≡ false = sym (any_number n ks i) ∙ e in cc
+
+pub is_any : (n : ℕ) (ks : List ℕ) (b : Bool) → b ≡ list_any (nat_eq n) ks → b ≡ true → In n ks
+is_any n ks b e t = number_any n ks (sym e ∙ t)
+
+-- a number that was new goes to the end
+pub goes_last : (ks : List ℕ) (n : ℕ) → list_any (nat_eq n) ks ≡ false → insert_key nat_eq ks n ≡ ks ++ n ∷ []
+goes_last ks n e = rw e refl
+
+-- the place that a look-up gives
+pub place_found : (ks : List ℕ) (n i : ℕ) → position (nat_eq n) ks ≡ Some i → slice_get ks i ≡ Some n
+place_found ks n i e =
+    let p = position-Some (nat_eq n) ks i n e in
+    slice_get-get_or ks i n p.0 ∙ ap Some (sym (eqb-true n (get_or ks i n) p.1))
+
+-- a kept number is found
+pub is_found : (o : Option (Bor Record)) (kept : List Record) (n : ℕ) → In n (numbers kept) → IfNone o ((r : Record) → In r kept → ¬ (r.number ≡ n)) → IsSome o
+is_found (Some r) kept n i f = λ _. true
+is_found None kept n i f = let q = number_of kept n i in absurd (f q.0 q.1 q.2)
+
+-- and what is found is kept under it
+pub found_as : (o : Option (Bor Record)) (found : Bor Record) (kept : List Record) (n : ℕ) → o ≡ Some found → IfSome o (λ s. In s.now kept × (s.now.number ≡ n)) → In found.now kept × (found.now.number ≡ n)
+found_as o found kept n is has = at_some (λ s. In s.now kept × (s.now.number ≡ n)) o found is has

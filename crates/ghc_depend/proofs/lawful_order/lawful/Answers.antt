@@ -1,0 +1,31 @@
+use Rattle.std.proofs.Common.{refl, subst, subst₂, inl, inr}
+use Rattle.ghc_term.specs.Lists.{In}
+use Rattle.ghc_depend.specs.Lawful.{IsOrderOf, IsFirstMissing, IsUnlawful, wrong, missing, too_early}
+use Rattle.ghc_depend.proofs.lawful_order.lawful.Goals as goal
+
+pub returns-in-Err-clause-fault : goal.returns-in-Err-clause-fault
+returns-in-Err-clause-fault c = elim c.in-Err.ensures.fault [ inl memory ↦ inl memory | inr w ↦ inr (w.0, w.0, w.1, wrong w.2) ]
+
+pub returns-in-Some-clause-fault : goal.returns-in-Some-clause-fault
+returns-in-Some-clause-fault c =
+    let kept = c.args.records.now.held in
+    let order = c.args.order.now in
+    let m = c.in-Some.ensures.missing in
+    inr (c.in-Some.number, 0, refl, subst (λ n. IsUnlawful kept order n 0) m.2 (missing c.in-Ok.ensures.kept (subst (λ o. IsFirstMissing kept o m.0) c.in-Ok.ensures.places m.1)))
+
+pub count_in_time-requires : goal.count_in_time-requires
+count_in_time-requires c = (c.in-Ok.ensures.kept, λ n i. subst (In n) c.in-Ok.ensures.places (c.in_default.ensures.all n i))
+
+pub first_too_early-requires-clause-of_kept : goal.first_too_early-requires-clause-of_kept
+first_too_early-requires-clause-of_kept c = (c.in-Ok.ensures.kept, λ n i. subst (In n) c.in-Ok.ensures.places (c.in_default.ensures.all n i))
+
+pub returns-in-Some-first_too_early-clause-fault : goal.returns-in-Some-first_too_early-clause-fault
+returns-in-Some-first_too_early-clause-fault c =
+    let kept = c.args.records.now.held in
+    let order = c.args.order.now in
+    let f = c.in-Some-first_too_early.ensures.found in
+    let whole : IsOrderOf kept order = (c.in-Ok.ensures.kept, λ n i. subst (In n) c.in-Ok.ensures.places (c.in_default.ensures.all n i)) in
+    inr (c.in-Some-first_too_early.earlier, c.in-Some-first_too_early.later, refl, subst₂ (IsUnlawful kept order) f.2 f.3 (too_early whole f.4))
+
+pub returns-clause-ok : goal.returns-clause-ok
+returns-clause-ok c = ((c.in-Ok.ensures.kept, λ n i. subst (In n) c.in-Ok.ensures.places (c.in_default.ensures.all n i)), c.in-None.ensures.none)

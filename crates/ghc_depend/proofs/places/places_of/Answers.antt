@@ -1,0 +1,39 @@
+use Rattle.std.proofs.Common.{◌++◌, ◌∷◌, [], get_or, refl, sym, ap, ◌∙◌, subst, inl, inr, arith}
+use Rattle.std.proofs.lemmas.List.{take_all}
+use Rattle.std.proofs.lemmas.Option.{slice_get-get_or}
+use Rattle.ghc_term.specs.Lists.{In}
+use Rattle.ghc_depend.specs.Lawful.{IsOfKept}
+use Rattle.ghc_depend.proofs.AffectedSteps.{at_split}
+use Rattle.ghc_depend.proofs.OrderWalks.{next_of_kept, is_wrong}
+use Rattle.ghc_depend.proofs.places.places_of.Goals as goal
+
+pub returns-in-Ok-false-clause-fault : goal.returns-in-Ok-false-clause-fault
+returns-in-Ok-false-clause-fault c =
+    let order = c.args.order.now in
+    let i = c.loop-number.number-index in
+    let n = get_or order i 0 in
+    let at = slice_get-get_or order i 0 c.loop-number-test.true in
+    inr (
+      n,
+      refl,
+      is_wrong c.args.records.now.held order i n at c.loop-number.invariant.kept (elim (c.in-Ok-false.ensures.wrong c.in-Ok-false.field-0-test) [
+        | inl none ↦ inl none
+        | inr there ↦ inr (subst (In n) c.loop-number.invariant.numbers there)
+      ]),
+    )
+
+pub loop-number-preserved : goal.loop-number-preserved
+loop-number-preserved c =
+    let order = c.args.order.now in
+    let i = c.loop-number.number-index in
+    let n = get_or order i 0 in
+    let at = slice_get-get_or order i 0 c.loop-number-test.true in
+    let so_far = c.loop-number.invariant.numbers in
+    let yes = c.in-Ok-true.field-0-test in
+    record {
+      numbers = c.in-Ok-true.ensures.keys yes ∙ ap (λ l. l ++ n ∷ []) so_far ∙ sym (at_split order i n at).2;
+      kept = next_of_kept c.args.records.now.held order i n at c.loop-number.invariant.kept (c.in-Ok-true.ensures.kept yes) (λ j. c.in-Ok-true.ensures.new yes (subst (In n) (sym so_far) j));
+    }
+
+pub returns-clause-kept : goal.returns-clause-kept
+returns-clause-kept c = subst (IsOfKept c.args.records.now.held) (take_all c.loop-number.number-index c.args.order.now (omega (arith, c.loop-number-test.false))) c.loop-number.invariant.kept

@@ -1,0 +1,103 @@
+// Whether an order of the record is lawful, and what tells why not.
+ghost use Rattle.std.specs.Prelude.{◌≡◌, ◌⊎◌, ◌≤◌, ℕ, length, IfOk, IfErr, OnOk, IfSome, IfNone, Some, slice_get};
+ghost use Rattle.ghc_term.specs.declared.fault.Fault.{Fault};
+ghost use Rattle.ghc_records.specs.Orders.{AreDistinct};
+ghost use Rattle.ghc_records.specs.Record.{Record};
+ghost use Rattle.ghc_depend.specs.Lawful.{IsOrderOf, IsTooEarly, IsLawful, AreInTime, IsInTime, IsFirstNeeded, IsFirstTooEarly, IsUnlawful};
+
+use crate::affected::Affected;
+use crate::cause::uses;
+use crate::places::{first_missing, places_of, stands_behind};
+use ghc_records::Records;
+use ghc_term::Fault;
+use indexmap::IndexSet;
+use std::alloc::{AllocError, Global};
+
+// How many steps of the order stand in front of the first that used what one behind it gave: all of these are in time. It goes
+// over the order from its end, with a look-up for each variable that a step read or bound.
+fn count_in_time(alloc: Global, records: &Records, order: &[u32]) -> Result<usize, AllocError>
+    requires { IsOrderOf records.now.held order.now }
+    ensures { IfOk result (AreInTime records.now.held order.now) }
+{
+    let _count = records.len();
+    let mut behind = Affected::new(alloc);
+    let mut in_time = order.len();
+    for index in (0..order.len()).rev() {
+        let taken = records.get(order[index]).unwrap();
+        if behind.touches(records, taken) {
+            in_time = index;
+        }
+        if let Err(error) = behind.add(taken) {
+            return Err(error);
+        }
+    }
+    Ok(in_time)
+}
+
+// The number of the first step, in recorded order, on which the step of this number and this place in the order depends directly
+// and which stands behind it in the order. It goes over the records in front of that step, with a look-up at each, and one for each
+// variable that it read where the record stands behind.
+fn first_needed(records: &Records, places: &IndexSet<u32>, number: u32, place: usize) -> Option<u32>
+    requires distinct { AreDistinct places.now.keys }
+    requires there { slice_get places.now.keys place ≡ Some number }
+    ensures found { IfSome result (λ n. (a b : Record) × (a.number ≡ n) × (b.number ≡ number) × IsFirstNeeded records.now.held places.now.keys b a) }
+    ensures none { IfNone result (IsInTime records.now.held places.now.keys number) }
+{
+    let _count = records.len();
+    let end = records.place_of(number)?;
+    let later = records.at(end).unwrap();
+    for index in 0..end {
+        let earlier = records.at(index).unwrap();
+        if stands_behind(places, earlier.number(), place) && uses(later, earlier) {
+            return Some(earlier.number());
+        }
+    }
+    None
+}
+
+// The pair that tells the first step of the order that stands too early, where those in front of the start are in time.
+fn first_too_early(
+    records: &Records,
+    places: &IndexSet<u32>,
+    order: &[u32],
+    start: usize,
+) -> Option<(u32, u32)>
+    requires places { places.now.keys ≡ order.now }
+    requires of_kept { IsOrderOf records.now.held order.now }
+    requires in_time { AreInTime records.now.held order.now start }
+    ensures found { IfSome result (λ pair. (a b : Record) × (a.number ≡ pair.0) × (b.number ≡ pair.1) × IsFirstTooEarly records.now.held order.now a b) }
+    ensures none { IfNone result ((a b : Record) → ¬ IsTooEarly records.now.held order.now a b) }
+{
+    for place in start..order.len() {
+        if let Some(earlier) = first_needed(records, places, order[place], place) {
+            return Some((earlier, order[place]));
+        }
+    }
+    None
+}
+
+/// Whether the order is lawful: it has each kept number once and nothing else, and no step stands before one on which it depends
+/// directly. Else `NotLawful`, with the pair that tells why: twice the first number that is not kept or stood before; or else the
+/// first that is missing, and 0; or else the two first steps of which the earlier in the order depends on the later. Beside these
+/// it fails for want of memory alone. In a record that replays it goes once over order and record, with a look-up for each
+/// variable that a step read or bound, and where a step stands too early once more over the record.
+pub fn lawful(alloc: Global, records: &Records, order: &[u32]) -> Result<(), Fault>
+    ensures ok { OnOk result (IsLawful records.now.held order.now) }
+    ensures fault { IfErr result (λ f. (f ≡ Fault.Memory) ⊎ ((a b : ℕ) × (f ≡ Fault.NotLawful a b) × IsUnlawful records.now.held order.now a b)) }
+{
+    let places = match places_of(alloc, records, order) {
+        Ok(places) => places,
+        Err(fault) => return Err(fault),
+    };
+    if let Some(number) = first_missing(records, &places) {
+        return Err(Fault::NotLawful {
+            earlier: number,
+            later: 0,
+        });
+    }
+    let start = count_in_time(alloc, records, order)?;
+    match first_too_early(records, &places, order, start) {
+        Some((earlier, later)) => Err(Fault::NotLawful { earlier, later }),
+        None => Ok(()),
+    }
+}
