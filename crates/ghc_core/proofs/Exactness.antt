@@ -13,9 +13,10 @@ use Rattle.ghc_flat.specs.Clause.{Program, Query}
 use Rattle.ghc_flat.specs.Flat.{is_stream}
 use Rattle.ghc_fire.specs.Goals.{goal_cmp, Goals}
 use Rattle.ghc_records.specs.Orders.{AreDistinct}
-use Rattle.ghc_records.specs.Record.{State, Record, numbers, after, without_goal}
+use Rattle.ghc_records.specs.Record.{State, Record, numbers, after, without_goal, Fires}
 use Rattle.ghc_records.specs.Replay.{query_state}
 use Rattle.ghc_records.specs.State.{ConsumesGoal, IsTakenBack}
+use Rattle.ghc_records.proofs.OrderLemmas.{number_in}
 use Rattle.ghc_records.proofs.States.{bound_at}
 use Rattle.ghc_hooks.specs.Notes.{Note, NotesByGoal, IsExact, AreExact, AreLeft}
 use Rattle.ghc_hooks.specs.Tries.{Tries}
@@ -24,7 +25,7 @@ use Rattle.ghc_depend.specs.Depend.{MakesGoal, Binds}
 use Rattle.ghc_depend.proofs.Finding.{by_option, not_both, same_value, named_or_not, own, makes_at, own_made, without_it, without_other}
 use Rattle.ghc_depend.proofs.Results.{taken, Taken, Results, is_old}
 use Rattle.ghc_depend.proofs.Placing.{Place, results_of, place_of, apart_at}
-use Rattle.ghc_core.specs.World.{World, IsReplay, IsNextStep, with_step}
+use Rattle.ghc_core.specs.World.{World, IsReplay, IsNextStep}
 use Rattle.ghc_core.specs.Core.{IsStanding, AreExactIn}
 use Rattle.ghc_core.specs.Carried.{IsToTry, Consumed, MadeToTry, ConsumedToTry, AreMarked, AreCarried, AreCarriedOver, AreCarriedBack}
 use Rattle.ghc_core.proofs.Reaching.{Good, reached_good}
@@ -106,23 +107,37 @@ module _ (P : Program) (G H : Goals) (s t : StoreValue) (Gone : GoalName → Typ
 no_value : (r : Record) (x : VarName) → ¬ Binds r x → value_at r.effect.binds x ≡ None
 no_value r x never = by_option (value_at r.effect.binds x) (λ e. e) (λ v e. absurd (never (ap is_some e)))
 
--- A step is taken.
-module _ (w : World) (stands : IsStanding w) (r : Record) (next : IsNextStep w r) where
+-- No goal that is there has the number of the step.
+abbrev pub IsNumberNew : World → Record → Type 0
+IsNumberNew w r = (g : GoalName) (b : Goal) → finite.get w.state.goals g ≡ Some b → ¬ (g.step ≡ r.number)
+
+module _ (w : World) (stands : IsStanding w) where
   good : Good w
   good = reached_good stands
 
   results : Results w.opening.query w.kept w.state
   results = results_of w.opening.program w.opening.query w.kept w.state (standing_replay w stands)
 
-  of_goal : Taken w.opening.program w.state r
-  of_goal = taken w.opening.program w.state r next.1
-
-  -- no goal that is there has the number of the step
-  not_new : (g : GoalName) (b : Goal) → finite.get w.state.goals g ≡ Some b → ¬ (g.step ≡ r.number)
-  not_new g b there same = elim (is_old w.opening.query w.kept w.state results g b there) [
+  -- of the next step
+  pub next_is_new : (r : Record) → IsNextStep w r → IsNumberNew w r
+  next_is_new r next g b there same = elim (is_old w.opening.query w.kept w.state results g b there) [
     | inl zero ↦ let first = good.first in let number = next.0 in omega (arith, zero, same, first, number)
     | inr m ↦ let below = standing_below w stands m.0 m.1 in let number = next.0 in let of = m.2 in omega (arith, below, number, same, of)
   ]
+
+  -- of a step on the shelf
+  pub shelved_is_new : (r : Record) → finite.get w.shelf r.number ≡ Some r → IsNumberNew w r
+  shelved_is_new r on g b there same =
+      let shelved = good.shelf r.number r on in
+      elim (is_old w.opening.query w.kept w.state results g b there) [
+        | inl zero ↦ let positive = shelved.1 in omega (arith, zero, same, positive)
+        | inr m ↦ shelved.3 (subst (λ n. In n (numbers w.kept)) (sym m.2 ∙ same) (number_in w.kept m.0 m.1))
+      ]
+
+-- A step is taken that is possible, and no goal that is there has its number.
+module _ (w : World) (r : Record) (fires : Fires w.opening.program w.state r) (not_new : IsNumberNew w r) where
+  of_goal : Taken w.opening.program w.state r
+  of_goal = taken w.opening.program w.state r fires
 
   unmade : (g : GoalName) (b : Goal) → finite.get w.state.goals g ≡ Some b → own r g ≡ None
   unmade g b there = by_option (own r g) (λ e. e) (λ c e. absurd (not_new g b there (own_made r g c e).0))
@@ -158,10 +173,10 @@ module _ (w : World) (stands : IsStanding w) (r : Record) (next : IsNextStep w r
     agree = λ x free. sym (bound_at r.effect.binds w.state.store x ∙ ap (λ o. option_or o (value_at w.state.store x)) (no_value r x free));
   }
 
-  pub over_exact : (old new : Tries) → AreExactIn w old.notes old.untried → AreCarriedOver r old new → AreExactIn (with_step r w) new.notes new.untried
+  pub over_exact : (old new : Tries) → AreExactIn w old.notes old.untried → AreCarriedOver r old new → AreExact w.opening.program (after w.state r).goals (after w.state r).store new.notes new.untried
   over_exact old new exact c = are_exact w.opening.program _ _ _ _ (Consumed r) (Binds r) (MadeToTry r) old new exact passes_over c
 
-  pub over_left : (old new : Tries) → AreExactIn w old.notes old.untried → AreCarriedOver r old new → AreLeft (with_step r w).state.goals (Binds r) old.notes new.notes
+  pub over_left : (old new : Tries) → AreExactIn w old.notes old.untried → AreCarriedOver r old new → AreLeft (after w.state r).goals (Binds r) old.notes new.notes
   over_left old new exact c = are_left w.opening.program _ _ _ _ (Consumed r) (Binds r) (MadeToTry r) old new exact passes_over c
 
 -- A kept step is taken back.

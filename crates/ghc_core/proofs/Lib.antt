@@ -20,3 +20,6 @@ pub mod Histories
 pub mod Carried
 pub mod Exactness
 pub mod Settling
+pub mod Redone
+pub mod RolledBack
+pub mod Arranged

@@ -1,5 +1,5 @@
 -- What becomes of noted outcomes and untried goals where a step is taken or taken away.
-use Rattle.std.specs.Prelude.{◌≡◌, ◌↔◌, ◌⊎◌, ◌<◌, ◌≤◌, false, ℕ, List, Some, IsTrue}
+use Rattle.std.specs.Prelude.{◌≡◌, ◌↔◌, ◌⊎◌, ◌<◌, ◌≤◌, false, ℕ, List, [], ◌∷◌, Some, IsTrue}
 use Rattle.std.specs.FinMap as finite
 use Rattle.std.specs.FinSet as set
 use Rattle.ghc_term.specs.declared.var_name.VarName.{VarName}
@@ -61,3 +61,8 @@ AreCarriedOver r = AreCarried (Consumed r) (Binds r) (MadeToTry r)
 -- The step was taken away: the goals that it made went, the one that it consumed came, and what it binds was freed.
 abbrev pub AreCarriedBack : Record → Tries → Tries → Type 0
 AreCarriedBack r = AreCarried (MakesGoal r) (Binds r) (ConsumedToTry r)
+
+-- The steps were taken away, the last one first.
+abbrev pub AreAllCarriedBack : List Record → Tries → Tries → Type 0
+AreAllCarriedBack [] old new = new ≡ old
+AreAllCarriedBack (r ∷ rs) old new = (mid : Tries) × AreAllCarriedBack rs old mid × AreCarriedBack r mid new

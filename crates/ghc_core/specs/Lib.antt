@@ -14,4 +14,5 @@ pub mod Core
 pub mod CoreCode
 pub mod Carried
 pub mod Settling
+pub mod Arrangement
 pub mod Change

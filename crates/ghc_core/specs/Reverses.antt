@@ -3,6 +3,7 @@ use Rattle.std.specs.Prelude.{◌≡◌, ◌≢◌, ℕ, ◌<◌, ◌≤◌, Lis
 use Rattle.std.specs.FinMap as finite
 use Rattle.ghc_term.specs.declared.goal_name.GoalName.{GoalName}
 use Rattle.ghc_term.specs.declared.fault.Fault.{Fault}
+use Rattle.ghc_fire.specs.Goals.{Goals}
 use Rattle.ghc_records.specs.Numbers.{kept_limit}
 use Rattle.ghc_records.specs.Record.{State, Record, numbers, after, Fires}
 use Rattle.ghc_records.specs.Journal.{Entry, undid, rolled, redid, reordered}
@@ -47,6 +48,10 @@ with_redone r n w = record w {
   shelf = finite.remove w.shelf n;
   journal = w.journal ++ redid n ∷ [];
 }
+
+-- The step consumed a goal that is not there now.
+abbrev pub LacksGoal : Goals → Record → Type 0
+LacksGoal goals r = (g : GoalName) × (r.goal ≡ Some g) × (finite.get goals g ≡ None)
 
 -- The goal that the step consumed, if it consumed one, is there now.
 abbrev pub IsGoalThere : World → Record → Type 0

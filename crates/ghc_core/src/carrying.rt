@@ -84,7 +84,8 @@ pub(crate) fn mark_made(tries: &mut Tries, step: u32, makes: &[Goal], count: u32
 fn mark_consumed(tries: &mut Tries, step: &Record)
     requires room { 0 < tries.old.room }
     requires new { (g : GoalName) → Consumed step.now g → finite.get tries.old.notes g ≡ None }
-    ensures { AreMarked (ConsumedToTry step.now) tries.old tries.new }
+    ensures marked { AreMarked (ConsumedToTry step.now) tries.old tries.new }
+    ensures room { tries.old.room ≤ tries.new.room + 1 }
 {
     if let (Some(name), Some(goal)) = (step.goal(), step.consumed()) {
         mark(tries, name, goal);
@@ -108,7 +109,8 @@ pub(crate) fn carry_over(tries: &mut Tries, step: &Record)
 pub(crate) fn carry_back(tries: &mut Tries, step: &Record)
     requires room { 0 < tries.old.room }
     requires new { (g : GoalName) → Consumed step.now g → finite.get tries.old.notes g ≡ None }
-    ensures { AreCarriedBack step.now tries.old tries.new }
+    ensures carried { AreCarriedBack step.now tries.old tries.new }
+    ensures room { tries.old.room ≤ tries.new.room + 1 }
 {
     drop_made(tries, step.number(), step.effect().made());
     wake_at_bound(tries, step.effect().binds());

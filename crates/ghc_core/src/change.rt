@@ -11,8 +11,10 @@ ghost use Rattle.ghc_core.specs.Core.{IsStanding};
 ghost use Rattle.ghc_core.specs.Proposes.{IsCommitOf};
 ghost use Rattle.ghc_core.specs.Change.{CanChange, HasRoomFor, Changes, IsBoundBy};
 
+use crate::arrange::Arrangement;
 use crate::carrying::{carry_back, carry_over};
 use crate::core_state::Core;
+use crate::rollback::Rollback;
 use ghc_records::{Addition, Entry, Records, Removal};
 use std::alloc::AllocError;
 
@@ -21,8 +23,14 @@ use std::alloc::AllocError;
 pub enum Change {
     /// A step is taken, and its record is the last.
     Adds(Addition),
+    /// A shelved step is taken again under its old number, and its record is the last.
+    PutsBack(Addition),
     /// A step is taken away, and its record goes to the shelf.
     TakesAway(Removal),
+    /// A step and its consequences are taken away, and their records go to the shelf.
+    TakesAll(Rollback),
+    /// The record is put into another order.
+    Reorders(Arrangement),
 }
 
 // Takes the step of this number out of the record.
@@ -74,7 +82,10 @@ impl Core {
     {
         match change {
             Change::Adds(addition) => self.reserve_to_add(addition),
+            Change::PutsBack(addition) => self.reserve_to_add(addition),
             Change::TakesAway(removal) => self.reserve_to_take_away(removal),
+            Change::TakesAll(rollback) => self.reserve_to_roll(rollback),
+            Change::Reorders(_) => self.reserve_to_arrange(),
         }
     }
 
@@ -94,6 +105,7 @@ impl Core {
     }
 
     // Takes a step away: one look-up for each of its goals and bindings, and a move of each record behind it.
+    #[inline(never)]
     fn take_away(&mut self, removal: Removal)
         requires found { CanChange self.old.world (takes_away removal) }
         requires room { HasRoomFor self.old.room (takes_away removal) }
@@ -111,7 +123,8 @@ impl Core {
     /// Makes a change that was found in this state, where there is room for it: a note stays just where its goal is still there
     /// and did not look at what the step binds, and nothing is tried. It takes no memory, and cannot fail. To take a step costs a
     /// look-up for each of its goals and bindings, and some for each goal that looked at what it binds; to take one away, a move
-    /// of each record behind it as well.
+    /// of each record behind it as well; to take away a step with its consequences, as much for each, and one pass over the record;
+    /// to put the record into another order, the letting go of the old one.
     pub fn apply(&mut self, change: Change)
         requires found { CanChange self.old.world change }
         requires room { HasRoomFor self.old.room change }
@@ -122,7 +135,10 @@ impl Core {
     {
         match change {
             Change::Adds(addition) => self.add(addition),
+            Change::PutsBack(addition) => self.put_back(addition),
             Change::TakesAway(removal) => self.take_away(removal),
+            Change::TakesAll(rollback) => self.take_all_away(rollback),
+            Change::Reorders(arrangement) => self.put_in_order(arrangement),
         }
         self.stands();
     }

@@ -22,7 +22,7 @@ use ghc_records::{Addition, Record};
 use ghc_term::{Fault, GoalName};
 use std::alloc::{AllocError, Global};
 
-const KEPT_LIMIT: usize = 1_000_000;
+pub(crate) const KEPT_LIMIT: usize = 1_000_000;
 
 // The proposal with its effect as the step of this number has it.
 fn numbered(alloc: Global, proposal: Proposal, number: u32) -> Result<Proposal, AllocError>

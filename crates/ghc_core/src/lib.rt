@@ -1,6 +1,7 @@
 //! The core: worlds, events and replies, one relation for each event, and legal histories.
 #![tactic(auto)]
 
+mod arrange;
 mod carrying;
 mod change;
 mod commit;
@@ -10,12 +11,16 @@ mod facts;
 mod history_laws;
 mod laws;
 mod recheck;
+mod redo;
+mod rollback;
+mod rolling;
 mod settle;
 mod step;
 mod there;
 mod undo;
 mod undo_laws;
 
+pub use arrange::Arrangement;
 pub use carrying::is_stream;
 pub use change::Change;
 pub use core_state::Core;
@@ -30,6 +35,7 @@ pub use laws::{
     proposes_have_an_answer, reachable_is_orderly, reachable_is_well_made, reachable_keeps,
     redoes_have_an_answer, step_is_exact, still_holds_as_next,
 };
+pub use rollback::Rollback;
 pub use undo_laws::{
     reachable_is_replay, roll_takes_steps_away, rolls_have_an_answer, step_then_undo,
     undo_takes_step_away, undoes_have_an_answer, undone_then_redone,

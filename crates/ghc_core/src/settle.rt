@@ -80,6 +80,7 @@ impl Core {
     }
 
     // Tries an untried goal and notes the outcome. Where memory is refused, it stays untried.
+    #[inline(never)]
     fn try_untried(&mut self, alloc: Global, goal: GoalName) -> Result<(), AllocError>
         requires { IsTrue (set.contains self.old.untried goal) }
         ensures world { self.new.world ≡ self.old.world }

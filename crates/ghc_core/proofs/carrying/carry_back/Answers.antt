@@ -13,8 +13,8 @@ mark_consumed-requires-clause-new c g consumed =
     none_stays (IsGiven c.number.result 0 c.made.result) (IsBound c.binds.result.now) c.args.tries.now c.drop_made.new.tries c.wake_at_bound.new.tries c.drop_made.ensures.dropped c.wake_at_bound.ensures.notes g
     (c.requires.new g consumed)
 
-pub returns : goal.returns
-returns c =
+pub returns-clause-carried : goal.returns-clause-carried
+returns-clause-carried c =
     let r = c.args.step.now in
     let binds = c.binds.ensures ∙ ap (λ (e : Effect). e.binds) c.effect-2.ensures in
     let made = c.made.ensures ∙ ap (λ (e : Effect). length e.makes) c.effect.ensures in
@@ -23,4 +23,4 @@ returns c =
     (subst (λ k. AreDropped (IsGiven c.number.result 0 k) c.args.tries.now c.drop_made.new.tries) made c.drop_made.ensures.dropped))
     (subst (λ (b : StoreValue). AreSpared (IsBound b) c.drop_made.new.tries.notes c.wake_at_bound.new.tries.notes) binds c.wake_at_bound.ensures.notes)
     (subst (λ (b : StoreValue). AreWoken (IsBound b) c.drop_made.new.tries.notes c.drop_made.new.tries.untried c.wake_at_bound.new.tries.untried) binds c.wake_at_bound.ensures.untried)
-    c.mark_consumed.ensures
+    c.mark_consumed.ensures.marked

@@ -10,7 +10,7 @@ use Rattle.ghc_core.specs.Proposes.{IsCommitOf}
 use Rattle.ghc_core.proofs.Standing.{standing_well_made, standing_below}
 use Rattle.ghc_core.proofs.Taking.{stands}
 use Rattle.ghc_core.proofs.Preparing.{same_world}
-use Rattle.ghc_core.proofs.Exactness.{unnoted, not_there, over_exact, over_left}
+use Rattle.ghc_core.proofs.Exactness.{unnoted, next_is_new, not_there, over_exact, over_left}
 use Rattle.ghc_core.proofs.core_state.Core.add.Goals as goal
 
 -- the world before the step
@@ -50,14 +50,15 @@ next c = (subst (λ (x : Core). IsCommitOf x.world c.requires.found.0 c.args.add
 pub carry_over-requires-clause-new : goal.carry_over-requires-clause-new
 carry_over-requires-clause-new c g made =
     let commit = subst (λ (x : Core). IsCommitOf x.world c.requires.found.0 c.args.addition) (sym c.self.view_is) c.requires.found.1 in
-    unnoted c.self.invariant.exact g (not_there _ c.self.invariant.standing c.args.addition commit.1 g (subst (λ r. MakesGoal r g) c.take-step.ensures.record made))
+    let w : World = record { opening = fresh_opening c.self.inside.program c.self.inside.query.goals c.self.inside.query.variables; state = c.self.inside.state.held; kept = c.self.inside.records.held; shelf = c.self.inside.shelf.held; next = c.self.inside.next; journal = c.self.inside.journal.held } in
+    unnoted c.self.invariant.exact g (not_there w c.args.addition commit.1.1 (next_is_new w c.self.invariant.standing c.args.addition commit.1) g (subst (λ r. MakesGoal r g) c.take-step.ensures.record made))
 
 pub invariant_of-self : goal.invariant_of-self
 invariant_of-self c =
     let commit = subst (λ (x : Core). IsCommitOf x.world c.requires.found.0 c.args.addition) (sym c.self.view_is) c.requires.found.1 in
     subst (λ w. IsConsistent w c.carry_over.new.tries.notes c.carry_over.new.tries.untried) (sym (left c)) (record {
       standing = stands _ c.requires.found.0 c.args.addition c.self.invariant.standing commit;
-      exact = over_exact (before c) c.self.invariant.standing c.args.addition (next c) c.self.inside.tries c.carry_over.new.tries c.self.invariant.exact (carried c);
+      exact = over_exact (before c) c.args.addition (next c).1 (next_is_new (before c) c.self.invariant.standing c.args.addition (next c)) c.self.inside.tries c.carry_over.new.tries c.self.invariant.exact (carried c);
     })
 
 pub returns-clause-world : goal.returns-clause-world
@@ -67,4 +68,4 @@ pub returns-clause-notes : goal.returns-clause-notes
 returns-clause-notes c =
     subst (λ (x : Core). AreLeft c.take-step.new.self.held.goals (Binds c.args.addition) x.notes c.carry_over.new.tries.notes) c.self.view_is
     (subst (λ (w : World). AreLeft w.state.goals (Binds c.args.addition) c.self.inside.tries.notes c.carry_over.new.tries.notes) (sym (left c))
-    (over_left (before c) c.self.invariant.standing c.args.addition (next c) c.self.inside.tries c.carry_over.new.tries c.self.invariant.exact (carried c)))
+    (over_left (before c) c.args.addition (next c).1 (next_is_new (before c) c.self.invariant.standing c.args.addition (next c)) c.self.inside.tries c.carry_over.new.tries c.self.invariant.exact (carried c)))

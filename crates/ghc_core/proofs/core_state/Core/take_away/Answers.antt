@@ -47,7 +47,7 @@ can : (c : goal.After-put-2) → CanChange (before c) (takes_away c.args.removal
 can c = subst (λ (x : Core). CanChange x.world (takes_away c.args.removal)) (sym c.self.view_is) c.requires.found
 
 carried : (c : goal.After-put-2) → AreCarriedBack c.args.removal c.self.inside.tries c.carry_back.new.tries
-carried c = subst (λ r. AreCarriedBack r c.self.inside.tries c.carry_back.new.tries) c.take_back-step.ensures.record c.carry_back.ensures
+carried c = subst (λ r. AreCarriedBack r c.self.inside.tries c.carry_back.new.tries) c.take_back-step.ensures.record c.carry_back.ensures.carried
 
 pub carry_back-requires-clause-new : goal.carry_back-requires-clause-new
 carry_back-requires-clause-new c g used =

@@ -1,0 +1,237 @@
+-- A kept step and its consequences are taken away, the last one first, and the world that is left stands.
+use Rattle.std.proofs.Common.{◌≡◌, ◌≢◌, ◌⊎◌, ℕ, List, [], ◌∷◌, ◌++◌, refl, sym, ap, ◌∙◌, subst, inl, inr, append_assoc}
+use Rattle.std.specs.Prelude.{Option, Some, None, IsSome, IfSome, IfNone}
+use Rattle.std.specs.FinMap as finite
+use Rattle.ghc_term.specs.declared.var_name.VarName.{VarName}
+use Rattle.ghc_term.specs.declared.goal_name.GoalName.{GoalName}
+use Rattle.ghc_term.specs.Lists.{In}
+use Rattle.ghc_term.proofs.ListsLemmas.{in_right}
+use Rattle.ghc_fire.specs.Goals.{Goals}
+use Rattle.ghc_records.specs.Orders.{Picks, AreDistinct}
+use Rattle.ghc_records.specs.Record.{State, Record, numbers, Shelf}
+use Rattle.ghc_records.specs.State.{IsTakenBack, AreTakenBack}
+use Rattle.ghc_records.specs.Journal.{Entry, undid, rolled}
+use Rattle.ghc_records.proofs.OrderLemmas.{number_in, number_of}
+use Rattle.ghc_hooks.specs.Notes.{Note, NotesByGoal, AreLeft}
+use Rattle.ghc_hooks.specs.Tries.{Tries}
+use Rattle.ghc_depend.specs.Depend.{IsKeptAs, Binds}
+use Rattle.ghc_depend.specs.Deletion.{IsBoundIn}
+use Rattle.ghc_depend.specs.Kept.{with_shelved, IsSplitAt}
+use Rattle.ghc_depend.proofs.Finding.{by_option, not_both}
+use Rattle.ghc_depend.proofs.Following.{alone}
+use Rattle.ghc_depend.proofs.Picking.{picks_has}
+use Rattle.ghc_depend.proofs.Placing.{results_of}
+use Rattle.ghc_depend.proofs.TakenTogether.{apart_behind, picks_all, picks_within, first_gone, alone_left, rest_left, gone_kept, gone_distinct, off_shelf}
+use Rattle.ghc_core.specs.World.{World, IsReplay}
+use Rattle.ghc_core.specs.Events.{roll, command, undone}
+use Rattle.ghc_core.specs.Reverses.{Undoes, Rolls}
+use Rattle.ghc_core.specs.Reverses as by
+use Rattle.ghc_core.specs.Answers.{to_command}
+use Rattle.ghc_core.specs.Legal.{by_event}
+use Rattle.ghc_core.specs.Core.{IsStanding, AreExactIn}
+use Rattle.ghc_core.specs.Change.{CanRoll, RollsAway}
+use Rattle.ghc_core.specs.Carried.{Consumed, AreCarriedBack, AreAllCarriedBack}
+use Rattle.ghc_core.proofs.Exactness.{back_exact, back_left}
+use Rattle.ghc_core.proofs.Preparing.{same_world}
+use Rattle.ghc_core.proofs.Reaching.{reached_good}
+use Rattle.ghc_core.proofs.Standing.{standing_replay}
+use Rattle.ghc_core.proofs.TakenAway.{taken_away, undone_stands}
+
+-- two changes, one after the other: a note stays just where it stays in both
+left_twice : (H K : Goals) (T U V : VarName → Type 0) (a b c : NotesByGoal) → AreLeft H T a b → AreLeft K U b c
+    → ((g : GoalName) (note : Note) → finite.get a g ≡ Some note → finite.get K g ≢ None → finite.get H g ≢ None)
+    → ((x : VarName) → V x → U x ⊎ T x) → ((x : VarName) → T x → V x) → ((x : VarName) → U x → V x) → AreLeft K V a c
+left_twice H K T U V a b c first second stays parts of_first of_second g note = (
+  λ k.
+      let s = (second g note).0 k in
+      let f = (first g note).0 s.0 in
+      (f.0, s.1, λ x v. elim (parts x v) [ inl u ↦ s.2 x u | inr t ↦ f.2 x t ]),
+  λ k. (second g note).1 ((first g note).1 (k.0, stays g note k.0 k.1, λ x t. k.2 x (of_first x t)), k.1, λ x u. k.2 x (of_second x u)),
+)
+
+bound_parts : (r : Record) (rs : List Record) (x : VarName) → IsBoundIn (r ∷ rs) x → Binds r x ⊎ IsBoundIn rs x
+bound_parts r rs x (c, inl same, b) = inl (subst (λ z. Binds z x) same b)
+bound_parts r rs x (c, inr i, b) = inr (c, i, b)
+
+-- a goal that a kept step consumed is gone
+used_up : (w : World) → IsStanding w → (r : Record) → In r w.kept → (g : GoalName) → Consumed r g → finite.get w.state.goals g ≡ None
+used_up w s r i g e = (results_of w.opening.program w.opening.query w.kept w.state (standing_replay w s)).consumed r g i e
+
+-- The goals that the steps gone consumed have no note.
+pub unnoted_gone : (w : World) → IsStanding w → (notes : NotesByGoal) (untried : _) → AreExactIn w notes untried → (gone : List Record) → ((r : Record) → In r gone → In r w.kept)
+    → (r : Record) → In r gone → (g : GoalName) → Consumed r g → finite.get notes g ≡ None
+unnoted_gone w s notes untried exact gone of_gone r i g e = by_option (finite.get notes g) (λ n. n) (λ n there.
+    let at = exact.noted g n there in
+    absurd (not_both at.1 (used_up w s r (of_gone r i) g e)))
+
+-- a goal without a note has none after steps were taken back
+pub none_again : (gone : List Record) (old new : Tries) → AreAllCarriedBack gone old new → (g : GoalName) → finite.get old.notes g ≡ None → finite.get new.notes g ≡ None
+none_again [] old new c g e = ap (λ (t : Tries). finite.get t.notes g) c ∙ e
+none_again (r ∷ rs) old new c g e =
+    let before = none_again rs old c.0 c.1 g e in
+    by_option (finite.get new.notes g) (λ n. n) (λ n there. absurd (not_both ((c.2.notes g n).0 there).0 before))
+
+-- What is known where steps behind were taken back: a world that stands has the state, the steps left are kept there, and notes and marks are exact.
+pub record Undone (w : World) (back : List Record) (t : State) (old new : Tries) : Type 0 where
+  pub world : World
+  pub standing : IsStanding world
+  pub opening : world.opening ≡ w.opening
+  pub state : world.state ≡ t
+  pub kept : Picks (λ s. ¬ In s back) w.kept world.kept
+  pub exact : AreExactIn world new.notes new.untried
+  pub notes : AreLeft world.state.goals (IsBoundIn back) old.notes new.notes
+
+module _ (w : World) (stands : IsStanding w) (a : Record) (kept_a : In a w.kept) (gone left : List Record) (split : IsSplitAt w.kept a gone left)
+    (old : Tries) (exact : AreExactIn w old.notes old.untried) where
+  distinct : AreDistinct (numbers w.kept)
+  distinct = (reached_good stands).kept_once
+
+  of_gone : (r : Record) → In r gone → In r w.kept
+  of_gone = gone_kept w.kept distinct a kept_a gone left split
+
+  at_first : (t : State) (new : Tries) → t ≡ w.state → new ≡ old → Undone w [] t old new
+  at_first t new e f = record {
+    world = w;
+    standing = stands;
+    opening = refl;
+    state = sym e;
+    kept = picks_all w.kept (λ s i. i);
+    exact = subst (λ (z : Tries). AreExactIn w z.notes z.untried) (sym f) exact;
+    notes = λ g note. (
+      λ k.
+          let here : finite.get old.notes g ≡ Some note = subst (λ (z : Tries). finite.get z.notes g ≡ Some note) f k in
+          let at = exact.noted g note here in
+          (here, (λ none. not_both at.1 none), λ x b. absurd b.1),
+      λ k. subst (λ (z : Tries). finite.get z.notes g ≡ Some note) (sym f) k.0,
+    );
+  }
+
+  -- one step more is taken back
+  module _ (front rest : List Record) (r : Record) (ends : gone ≡ front ++ r ∷ rest) (m t : State) (mid new : Tries) (before : Undone w rest m old mid)
+      (taken : IsTakenBack r m t) (carried : AreCarriedBack r mid new) where
+    abbrev v : World
+    v = before.world
+
+    here : In r gone
+    here = subst (In r) (sym ends) (in_right front (r ∷ rest) r (inl refl))
+
+    kept_r : In r v.kept
+    kept_r = elim (picks_has w.kept v.kept r before.kept (of_gone r here)) [
+      | inl i ↦ i
+      | inr n ↦ absurd (n (apart_behind front rest r (subst AreDistinct ends (gone_distinct w.kept distinct a kept_a gone left split))))
+    ]
+
+    back : IsTakenBack r v.state t
+    back = subst (λ z. IsTakenBack r z t) (sym before.state) taken
+
+    others : (some : List Record) × Picks (λ s. ¬ (s ≡ r)) v.kept some
+    others = let p = alone v.kept (reached_good before.standing).kept_once r kept_r in (p.0, p.1.1)
+
+    abbrev after : World
+    after = record { opening = v.opening; state = t; kept = others.0; shelf = finite.insert v.shelf r.number r; next = v.next; journal = v.journal ++ undid r.number ∷ [] }
+
+    undoes : Undoes ⊥ v r.number (undone (r.number ∷ [])) after
+    undoes = taken_away v before.standing r others.0 t after.shelf after.journal kept_r (alone_left w.kept distinct a kept_a gone left split front rest v.kept r ends before.kept) others.1 back refl refl
+
+    stayed : (g : GoalName) (note : Note) → finite.get old.notes g ≡ Some note → finite.get t.goals g ≢ None → finite.get v.state.goals g ≢ None
+    stayed g note noted there none =
+        let at = exact.noted g note noted in
+        there (back.goals.others g (λ made. there (back.goals.unmade g made)) (λ b h. not_both at.1 (used_up w stands r (of_gone r here) g h.0)) ∙ none)
+
+    pub one_more : Undone w (r ∷ rest) t old new
+    one_more = record {
+      world = after;
+      standing = undone_stands before.standing undoes refl;
+      opening = before.opening;
+      state = refl;
+      kept = picks_within w.kept v.kept others.0 (λ s p q i. elim i [ inl e ↦ q e | inr j ↦ p j ]) (λ s n i. n (λ j. i (inr j))) (λ s n i. n (λ e. i (inl e))) before.kept others.1;
+      exact = back_exact v before.standing r kept_r t back mid new before.exact carried;
+      notes = left_twice v.state.goals t.goals (IsBoundIn rest) (Binds r) (IsBoundIn (r ∷ rest)) old.notes mid.notes new.notes before.notes
+          (back_left v before.standing r kept_r t back mid new before.exact carried) stayed (bound_parts r rest) (λ x b. (b.0, inr b.1, b.2)) (λ x b. (r, inl refl, b));
+    }
+
+  -- all steps behind are taken back
+  each : (front rest : List Record) (t : State) (new : Tries) → gone ≡ front ++ rest → AreTakenBack rest w.state t → AreAllCarriedBack rest old new → Undone w rest t old new
+  each front [] t new e p q = at_first t new p q
+  each front (r ∷ rest) t new e p q =
+      one_more front rest r e p.0 t q.0 new (each (front ++ r ∷ []) rest p.0 q.0 (e ∙ sym (append_assoc front (r ∷ []) rest)) p.1 q.1) p.2 q.2
+
+  module _ (t : State) (new : Tries) (p : AreTakenBack gone w.state t) (q : AreAllCarriedBack gone old new) (some : List Record) (shelf : Shelf) (es : List Entry)
+      (put : shelf ≡ with_shelved gone w.shelf) (picked : Picks (λ s. finite.get shelf s.number ≡ None) w.kept some) (told : es ≡ w.journal ++ rolled a.number ∷ []) where
+    all : Undone w gone t old new
+    all = each [] gone t new refl p q
+
+    of_world : all.world.kept ≡ left
+    of_world = rest_left w.kept distinct a kept_a gone left split all.world.kept all.kept
+
+    free : (s : Record) → In s w.kept → finite.get w.shelf s.number ≡ None
+    free s i = by_option (finite.get w.shelf s.number) (λ e. e) (λ r e. absurd (((reached_good stands).shelf s.number r e).3 (number_in w.kept s i)))
+
+    of_records : some ≡ left
+    of_records = rest_left w.kept distinct a kept_a gone left split some
+        (off_shelf w.kept distinct gone some w.shelf of_gone free (subst (λ z. Picks (λ s. finite.get z s.number ≡ None) w.kept some) put picked))
+
+    replay : IsReplay w left t
+    replay = subst (λ s. IsReplay w left s) all.state (subst (λ rs. IsReplay w rs all.world.state) of_world (subst (λ o. IsReplay (record w { opening = o }) all.world.kept all.world.state) all.opening (standing_replay all.world all.standing)))
+
+    -- that is the rollback of the first step
+    pub rolls : {Starved : Type 0} → Rolls Starved w a.number (undone (numbers gone)) (record w { state = t; kept = some; shelf = shelf; journal = es })
+    rolls {Starved} = subst (Rolls Starved w a.number (undone (numbers gone))) (same_world w.opening w.next refl (sym of_records) (sym put) (sym told)) (by.Rolls.takes_away a gone left t (kept_a, refl) split replay)
+
+    pub rolled_stands : IsStanding (record w { state = t; kept = some; shelf = shelf; journal = es })
+    rolled_stands = by_event (command (roll a.number)) (undone (numbers gone)) stands tt (to_command rolls)
+
+    pub rolled_exact : AreExactIn (record w { state = t; kept = some; shelf = shelf; journal = es }) new.notes new.untried
+    rolled_exact = subst (λ s. AreExactIn (record w { state = s }) new.notes new.untried) all.state (subst (λ o. AreExactIn (record all.world { opening = o }) new.notes new.untried) all.opening all.exact)
+
+    pub rolled_left : AreLeft t.goals (IsBoundIn gone) old.notes new.notes
+    rolled_left = subst (λ (s : State). AreLeft s.goals (IsBoundIn gone) old.notes new.notes) all.state all.notes
+
+-- the records gone of a kept step can be rolled back
+pub can_roll : (kept : List Record) → AreDistinct (numbers kept) → (r : Record) → In r kept → (gone left : List Record) → IsSplitAt kept r gone left → CanRoll kept gone
+can_roll kept distinct r i gone left split =
+    let first = first_gone kept r gone left distinct i split in
+    subst (CanRoll kept) (sym first.1) (i, (left, subst (λ z. IsSplitAt kept r z left) first.1 split))
+
+-- what rolls the first of the records gone back, rolls the step back with which they go
+pub rolls_first : (w v : World) → IsStanding w → (n : ℕ) (r : Record) → IsKeptAs w.kept n r → (gone left : List Record) → IsSplitAt w.kept r gone left → RollsAway w gone v
+    → Rolls ⊥ w n (undone (numbers gone)) v
+rolls_first w v s n r own gone left split away =
+    let first = first_gone w.kept r gone left (reached_good s).kept_once own.0 split in
+    let whole : Rolls ⊥ w r.number (undone (numbers (r ∷ first.0))) v = subst (λ z. RollsAway w z v) first.1 away in
+    subst (λ m. Rolls ⊥ w m (undone (numbers gone)) v) own.1 (subst (λ z. Rolls ⊥ w r.number (undone (numbers z)) v) (sym first.1) whole)
+
+-- The goals that the steps of a rollback consumed have no note.
+pub unnoted_roll : (w : World) → IsStanding w → (notes : NotesByGoal) (untried : _) → AreExactIn w notes untried → (a : Record) (rs : List Record) → CanRoll w.kept (a ∷ rs)
+    → (r : Record) → In r (a ∷ rs) → (g : GoalName) → Consumed r g → finite.get notes g ≡ None
+unnoted_roll w s notes untried exact a rs can =
+    unnoted_gone w s notes untried exact (a ∷ rs) (gone_kept w.kept (reached_good s).kept_once a can.0 (a ∷ rs) can.1.0 can.1.1)
+
+-- What is known where the steps gone were taken away.
+pub record RolledAway (w : World) (gone : List Record) (old new : Tries) (v : World) : Type 0 where
+  pub rolls : RollsAway w gone v
+  pub standing : IsStanding v
+  pub exact : AreExactIn v new.notes new.untried
+  pub notes : AreLeft v.state.goals (IsBoundIn gone) old.notes new.notes
+
+-- A step and its consequences were taken back, put on the shelf, struck from the record, and entered: that is the rollback of the step.
+pub rolled_away : (w : World) → IsStanding w → (a : Record) (rs : List Record) → CanRoll w.kept (a ∷ rs) → (old new : Tries) → AreExactIn w old.notes old.untried → (t : State)
+    → AreTakenBack (a ∷ rs) w.state t → AreAllCarriedBack (a ∷ rs) old new → (some : List Record) (shelf : Shelf) (es : List Entry) (n : ℕ) → shelf ≡ with_shelved (a ∷ rs) w.shelf
+    → Picks (λ s. finite.get shelf s.number ≡ None) w.kept some → n ≡ a.number → es ≡ w.journal ++ rolled n ∷ []
+    → RolledAway w (a ∷ rs) old new (record w { state = t; kept = some; shelf = shelf; journal = es })
+rolled_away w s a rs can old new exact t p q some shelf es n put picked number told =
+    let entered : es ≡ w.journal ++ rolled a.number ∷ [] = told ∙ ap (λ k. w.journal ++ rolled k ∷ []) number in
+    record {
+      rolls = rolls w s a can.0 (a ∷ rs) can.1.0 can.1.1 old exact t new p q some shelf es put picked entered;
+      standing = rolled_stands w s a can.0 (a ∷ rs) can.1.0 can.1.1 old exact t new p q some shelf es put picked entered;
+      exact = rolled_exact w s a can.0 (a ∷ rs) can.1.0 can.1.1 old exact t new p q some shelf es put picked entered;
+      notes = rolled_left w s a can.0 (a ∷ rs) can.1.0 can.1.1 old exact t new p q some shelf es put picked entered;
+    }
+
+-- where a record of the number is kept, one is found
+pub found_there : {X : Type 0} (o : Option X) (rs : List Record) (n : ℕ) → In n (numbers rs) → IfNone o ((r : Record) → In r rs → r.number ≢ n) → IsSome o
+found_there (Some x) rs n i none = refl
+found_there None rs n i none = let at = number_of rs n i in absurd (none at.0 at.1 at.2)
+
+pub found_is : {X : Type 0} (o : Option X) (x : X) (P : X → Type 0) → IfSome o P → o ≡ Some x → P x
+found_is o x P p e = subst (λ q. IfSome q P) e p

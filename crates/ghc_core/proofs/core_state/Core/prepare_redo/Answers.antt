@@ -1,0 +1,69 @@
+use Rattle.std.proofs.Common.{◌≡◌, refl, inr, ap, sym, subst, ◌∙◌, Some, arith}
+use Rattle.std.specs.FinMap as finite
+use Rattle.ghc_term.specs.declared.fault.Fault.{Fault}
+use Rattle.ghc_term.proofs.ListsLemmas.{not_both}
+use Rattle.ghc_records.specs.Record.{Record}
+use Rattle.ghc_records.specs.Journal.{fresh_opening}
+use Rattle.ghc_depend.proofs.Finding.{same_value, not_both as both_found}
+use Rattle.ghc_core.specs.Core.{Core}
+use Rattle.ghc_core.specs.Reverses.{RedoFails, LacksGoal, not_shelved, no_goal, changed, full}
+use Rattle.ghc_core.specs.declared.change.Change.TheVariants.{PutsBack as puts_back}
+use Rattle.ghc_core.specs.Change.{CanChange}
+use Rattle.ghc_core.proofs.Reaching.{reached_good}
+use Rattle.ghc_core.proofs.Redone.{said_not_shelved, said_no_goal}
+use Rattle.ghc_core.proofs.core_state.Core.prepare_redo.Goals as goal
+
+pub returns-in_default-clause-fault : goal.returns-in_default-clause-fault
+returns-in_default-clause-fault c = inr (subst (λ (x : Core). RedoFails x.world c.args.number Fault.NotShelved) c.self.view_is (not_shelved (sym c.in_default.ensures)))
+
+pub returns-in_default-clause-fired : goal.returns-in_default-clause-fired
+returns-in_default-clause-fired c shelved there = absurd (shelved (subst (λ (x : Core). RedoFails x.world c.args.number Fault.NotShelved) c.self.view_is (not_shelved (sym c.in_default.ensures))))
+
+pub returns-then-lacks_goal-clause-fault : goal.returns-then-lacks_goal-clause-fault
+returns-then-lacks_goal-clause-fault c =
+    let lacks = subst (λ m. LacksGoal m c.in-Some.shelved.now) c.goals.ensures (c.lacks_goal.ensures.0 c.if-lacks_goal.true) in
+    inr (subst (λ (x : Core). RedoFails x.world c.args.number Fault.NoGoal) c.self.view_is (no_goal c.in-Some.shelved.now lacks.0 (sym c.in-Some.ensures) lacks.1 lacks.2))
+
+pub returns-then-lacks_goal-clause-fired : goal.returns-then-lacks_goal-clause-fired
+returns-then-lacks_goal-clause-fired c shelved there =
+    let lacks = subst (λ m. LacksGoal m c.in-Some.shelved.now) c.goals.ensures (c.lacks_goal.ensures.0 c.if-lacks_goal.true) in
+    absurd (there (subst (λ (x : Core). RedoFails x.world c.args.number Fault.NoGoal) c.self.view_is (no_goal c.in-Some.shelved.now lacks.0 (sym c.in-Some.ensures) lacks.1 lacks.2)))
+
+pub returns-then-not-branch-clause-fault : goal.returns-then-not-branch-clause-fault
+returns-then-not-branch-clause-fault c =
+    let r = c.in-Some.shelved.now in
+    inr (subst (λ (x : Core). RedoFails x.world c.args.number Fault.Changed) c.self.view_is (changed r (sym c.in-Some.ensures)
+    (λ g named none. not_both c.lacks_goal.result c.if-lacks_goal.false (c.lacks_goal.ensures.1 (subst (λ m. LacksGoal m r) (sym c.goals.ensures) (g, named, none))))
+    (λ fires. not_both c.in_ok-fires.field-0 c.if-not-branch.true (c.in_ok-fires.ensures.answer.1 fires))))
+
+pub returns-then-len-ge-KEPT_LIMIT-clause-fault : goal.returns-then-len-ge-KEPT_LIMIT-clause-fault
+returns-then-len-ge-KEPT_LIMIT-clause-fault c =
+    let count = c.len.ensures.count in
+    let many = c.if-len-ge-KEPT_LIMIT.true in
+    inr (subst (λ (x : Core). RedoFails x.world c.args.number Fault.Full) c.self.view_is (full c.in-Some.shelved.now (sym c.in-Some.ensures) (c.in_ok-fires.ensures.answer.0 c.if-not-branch.false) (omega (arith, count, many))))
+
+pub returns-clause-found : goal.returns-clause-found
+returns-clause-found c =
+    let r = c.in-Some.shelved.now in
+    let number = ((reached_good c.self.invariant.standing).shelf c.args.number r (sym c.in-Some.ensures)).0 in
+    let count = c.len.ensures.count in
+    let few = c.if-len-ge-KEPT_LIMIT.false in
+    let same : c.in_ok-of.field-0 ≡ r = c.in_ok-of.ensures ∙ c.in_ok-share.ensures in
+    subst (λ (x : Core). CanChange x.world (puts_back c.in_ok-of.field-0)) c.self.view_is
+    (subst (λ (q : Record). CanChange (record { opening = fresh_opening c.self.inside.program c.self.inside.query.goals c.self.inside.query.variables; state = c.self.inside.state.held; kept = c.self.inside.records.held; shelf = c.self.inside.shelf.held; next = c.self.inside.next; journal = c.self.inside.journal.held }) (puts_back q)) (sym same)
+    (subst (λ n. finite.get c.self.inside.shelf.held n ≡ Some r) (sym number) (sym c.in-Some.ensures), c.in_ok-fires.ensures.answer.0 c.if-not-branch.false, omega (arith, count, few)))
+
+pub returns-clause-step : goal.returns-clause-step
+returns-clause-step c =
+    ap (λ (q : Record). q.number) (c.in_ok-of.ensures ∙ c.in_ok-share.ensures) ∙ ((reached_good c.self.invariant.standing).shelf c.args.number c.in-Some.shelved.now (sym c.in-Some.ensures)).0
+
+pub returns-clause-not_shelved : goal.returns-clause-not_shelved
+returns-clause-not_shelved c fails =
+    let none = said_not_shelved (subst (λ (x : Core). RedoFails x.world c.args.number Fault.NotShelved) (sym c.self.view_is) fails) refl in
+    absurd (both_found (sym c.in-Some.ensures) none)
+
+pub returns-clause-no_goal : goal.returns-clause-no_goal
+returns-clause-no_goal c fails =
+    let said = said_no_goal (subst (λ (x : Core). RedoFails x.world c.args.number Fault.NoGoal) (sym c.self.view_is) fails) refl in
+    let lacks = subst (λ (q : Record). LacksGoal c.self.inside.state.held.goals q) (same_value said.1 (sym c.in-Some.ensures)) said.2 in
+    absurd (not_both c.lacks_goal.result c.if-lacks_goal.false (c.lacks_goal.ensures.1 (subst (λ m. LacksGoal m c.in-Some.shelved.now) (sym c.goals.ensures) lacks)))

@@ -1,0 +1,74 @@
+use Rattle.std.proofs.Common.{◌≡◌, [], ◌∷◌, ◌++◌, subst, sym, ap, ◌∙◌}
+use Rattle.std.specs.FinMap as finite
+use Rattle.ghc_term.specs.Lists.{In}
+use Rattle.ghc_records.specs.Record.{Record, numbers}
+use Rattle.ghc_records.specs.Journal.{fresh_opening, redid}
+use Rattle.ghc_records.proofs.OrderLemmas.{number_in}
+use Rattle.ghc_hooks.specs.Notes.{AreLeft}
+use Rattle.ghc_depend.specs.Depend.{MakesGoal, Binds}
+use Rattle.ghc_core.specs.World.{World}
+use Rattle.ghc_core.specs.Core.{Core, IsConsistent}
+use Rattle.ghc_core.specs.Carried.{AreCarriedOver}
+use Rattle.ghc_core.specs.Reverses.{with_redone}
+use Rattle.ghc_core.specs.declared.change.Change.TheVariants.{PutsBack as puts_back}
+use Rattle.ghc_core.specs.Change.{CanChange}
+use Rattle.ghc_core.proofs.Reaching.{reached_good}
+use Rattle.ghc_core.proofs.Standing.{standing_well_made}
+use Rattle.ghc_core.proofs.Preparing.{same_world}
+use Rattle.ghc_core.proofs.Redone.{redone_stands}
+use Rattle.ghc_core.proofs.Exactness.{unnoted, shelved_is_new, not_there, over_exact, over_left}
+use Rattle.ghc_core.proofs.core_state.Core.put_back.Goals as goal
+
+-- the world before the change, in which it is possible
+abbrev before : goal.After-drop-entry → World
+before c = record { opening = fresh_opening c.self.inside.program c.self.inside.query.goals c.self.inside.query.variables; state = c.self.inside.state.held; kept = c.self.inside.records.held; shelf = c.self.inside.shelf.held; next = c.self.inside.next; journal = c.self.inside.journal.held }
+
+can : (c : goal.After-drop-entry) → CanChange (before c) (puts_back c.args.addition)
+can c = subst (λ (x : Core). CanChange x.world (puts_back c.args.addition)) (sym c.self.view_is) c.requires.found
+
+pub take-step-requires-clause-acyclic : goal.take-step-requires-clause-acyclic
+take-step-requires-clause-acyclic c =
+    let found = subst (λ (x : Core). CanChange x.world (puts_back c.args.addition)) (sym c.self.view_is) c.requires.found in
+    (standing_well_made _ (redone_stands _ c.self.invariant.standing c.args.addition found)).acyclic
+
+pub put-requires-clause-new : goal.put-requires-clause-new
+put-requires-clause-new c r i same =
+    let found = subst (λ (x : Core). CanChange x.world (puts_back c.args.addition)) (sym c.self.view_is) c.requires.found in
+    ((reached_good c.self.invariant.standing).shelf c.args.addition.number c.args.addition found.0).3
+    (subst (λ n. In n (numbers c.self.inside.records.held)) (same ∙ ap (λ (q : Record). q.number) c.take-step.ensures.record) (number_in _ r i))
+
+pub carry_over-requires-clause-new : goal.carry_over-requires-clause-new
+carry_over-requires-clause-new c g made =
+    let found = subst (λ (x : Core). CanChange x.world (puts_back c.args.addition)) (sym c.self.view_is) c.requires.found in
+    let w : World = record { opening = fresh_opening c.self.inside.program c.self.inside.query.goals c.self.inside.query.variables; state = c.self.inside.state.held; kept = c.self.inside.records.held; shelf = c.self.inside.shelf.held; next = c.self.inside.next; journal = c.self.inside.journal.held } in
+    unnoted c.self.invariant.exact g (not_there w c.args.addition found.1 (shelved_is_new w c.self.invariant.standing c.args.addition found.0) g (subst (λ r. MakesGoal r g) c.take-step.ensures.record made))
+
+-- the world that is left is the one with the step redone
+left : (c : goal.After-drop-entry)
+    → record { opening = fresh_opening c.self.inside.program c.self.inside.query.goals c.self.inside.query.variables; state = c.take-step.new.self.held; kept = c.put.new.self.held; shelf = c.remove.new.self.held; next = c.self.inside.next; journal = c.put-2.new.self.held }
+    ≡ with_redone c.args.addition c.args.addition.number (before c)
+left c =
+    let number = c.number-number.ensures ∙ ap (λ (r : Record). r.number) c.take-step.ensures.record in
+    same_world (fresh_opening c.self.inside.program c.self.inside.query.goals c.self.inside.query.variables) c.self.inside.next c.take-step.ensures.state
+    (c.put.ensures.held ∙ ap (λ (r : Record). c.self.inside.records.held ++ r ∷ []) c.take-step.ensures.record)
+    (c.remove.ensures.held ∙ ap (finite.remove c.self.inside.shelf.held) number)
+    (c.put-2.ensures.held ∙ ap (λ n. c.self.inside.journal.held ++ redid n ∷ []) number)
+
+carried : (c : goal.After-drop-entry) → AreCarriedOver c.args.addition c.self.inside.tries c.carry_over.new.tries
+carried c = subst (λ r. AreCarriedOver r c.self.inside.tries c.carry_over.new.tries) c.take-step.ensures.record c.carry_over.ensures
+
+pub invariant_of-self : goal.invariant_of-self
+invariant_of-self c =
+    subst (λ w. IsConsistent w c.carry_over.new.tries.notes c.carry_over.new.tries.untried) (sym (left c)) (record {
+      standing = redone_stands (before c) c.self.invariant.standing c.args.addition (can c);
+      exact = over_exact (before c) c.args.addition (can c).1 (shelved_is_new (before c) c.self.invariant.standing c.args.addition (can c).0) c.self.inside.tries c.carry_over.new.tries c.self.invariant.exact (carried c);
+    })
+
+pub returns-clause-world : goal.returns-clause-world
+returns-clause-world c = left c ∙ ap (λ (x : Core). with_redone c.args.addition c.args.addition.number x.world) c.self.view_is
+
+pub returns-clause-notes : goal.returns-clause-notes
+returns-clause-notes c =
+    subst (λ (x : Core). AreLeft c.take-step.new.self.held.goals (Binds c.args.addition) x.notes c.carry_over.new.tries.notes) c.self.view_is
+    (subst (λ (w : World). AreLeft w.state.goals (Binds c.args.addition) c.self.inside.tries.notes c.carry_over.new.tries.notes) (sym (left c))
+    (over_left (before c) c.args.addition (can c).1 (shelved_is_new (before c) c.self.invariant.standing c.args.addition (can c).0) c.self.inside.tries c.carry_over.new.tries c.self.invariant.exact (carried c)))

@@ -1,0 +1,37 @@
+use Rattle.std.proofs.Common.{subst, sym}
+use Rattle.ghc_records.specs.Journal.{fresh_opening}
+use Rattle.ghc_hooks.specs.Notes.{AreLeft}
+use Rattle.ghc_core.specs.World.{World}
+use Rattle.ghc_core.specs.Core.{Core}
+use Rattle.ghc_core.specs.Arrangement.{Arrangement}
+use Rattle.ghc_core.specs.declared.change.Change.TheVariants.{Reorders as reorders}
+use Rattle.ghc_core.specs.Change.{CanChange, Changes}
+use Rattle.ghc_core.proofs.Arranged.{put_in_order, arranged_stands, all_left}
+use Rattle.ghc_core.proofs.core_state.Core.put_in_order.Goals as goal
+
+-- the world before the change, what it takes, and the world that is left
+abbrev before : goal.After-put → World
+before c = record { opening = fresh_opening c.self.inside.program c.self.inside.query.goals c.self.inside.query.variables; state = c.self.inside.state.held; kept = c.self.inside.records.held; shelf = c.self.inside.shelf.held; next = c.self.inside.next; journal = c.self.inside.journal.held }
+
+abbrev taken : goal.After-put → Arrangement
+taken c = record { records = c.arrangement.inside.records.held; order = c.arrangement.inside.order.items }
+
+abbrev left : goal.After-put → World
+left c = record { opening = fresh_opening c.self.inside.program c.self.inside.query.goals c.self.inside.query.variables; state = c.self.inside.state.held; kept = c.arrangement.inside.records.held; shelf = c.self.inside.shelf.held; next = c.self.inside.next; journal = c.put.new.self.held }
+
+can : (c : goal.After-put) → CanChange (before c) (reorders (taken c))
+can c = subst (λ (a : Arrangement). CanChange (before c) (reorders a)) (sym c.arrangement.view_is) (subst (λ (x : Core). CanChange x.world (reorders c.args.arrangement)) (sym c.self.view_is) c.requires.found)
+
+-- the change took the one to the other
+changed : (c : goal.After-put) → Changes (before c) (reorders (taken c)) (left c)
+changed c = put_in_order (before c) (taken c) c.put.new.self.held (can c) c.put.ensures.held
+
+pub invariant_of-self : goal.invariant_of-self
+invariant_of-self c = record { standing = arranged_stands c.self.invariant.standing (changed c); exact = c.self.invariant.exact }
+
+pub returns-clause-changed : goal.returns-clause-changed
+returns-clause-changed c =
+    subst (λ (a : Arrangement). Changes c.args.self.now.world (reorders a) (left c)) c.arrangement.view_is (subst (λ (x : Core). Changes x.world (reorders (taken c)) (left c)) c.self.view_is (changed c))
+
+pub returns-clause-left : goal.returns-clause-left
+returns-clause-left c = subst (λ (x : Core). AreLeft c.self.inside.state.held.goals (λ v. ⊥) x.notes c.self.inside.tries.notes) c.self.view_is (all_left c.self.invariant.exact)

@@ -1,0 +1,53 @@
+use Rattle.std.proofs.Common.{◌∷◌, refl, ap, ◌∙◌, sym, subst, inl, inr}
+use Rattle.std.specs.FinMap as finite
+use Rattle.ghc_records.specs.Record.{Record}
+use Rattle.ghc_records.specs.Journal.{fresh_opening}
+use Rattle.ghc_hooks.specs.Notes.{AreLeft}
+use Rattle.ghc_depend.specs.Deletion.{IsBoundIn}
+use Rattle.ghc_core.specs.World.{World}
+use Rattle.ghc_core.specs.Core.{Core}
+use Rattle.ghc_core.specs.Change.{CanRoll, RollsAway}
+use Rattle.ghc_core.proofs.RolledBack.{none_again, unnoted_roll, RolledAway, rolled_away}
+use Rattle.ghc_core.proofs.core_state.Core.take_all_away.Goals as goal
+
+pub take_all_back-requires-clause-new : goal.take_all_back-requires-clause-new
+take_all_back-requires-clause-new c r i =
+    let can = subst (λ gone. CanRoll c.self.inside.records.held gone) (sym c.rollback.view_is) (subst (λ (x : Core). CanRoll x.world.kept c.args.rollback) (sym c.self.view_is) c.requires.found) in
+    unnoted_roll _ c.self.invariant.standing c.self.inside.tries.notes c.self.inside.tries.untried c.self.invariant.exact c.rollback.inside.step c.rollback.inside.consequences.items can r (inr i)
+
+pub take_one_back-requires-clause-new : goal.take_one_back-requires-clause-new
+take_one_back-requires-clause-new c g used =
+    let can = subst (λ gone. CanRoll c.self.inside.records.held gone) (sym c.rollback.view_is) (subst (λ (x : Core). CanRoll x.world.kept c.args.rollback) (sym c.self.view_is) c.requires.found) in
+    none_again c.rollback.inside.consequences.items c.self.inside.tries c.take_all_back.new.tries c.take_all_back.ensures.tries g
+    (unnoted_roll _ c.self.invariant.standing c.self.inside.tries.notes c.self.inside.tries.untried c.self.invariant.exact c.rollback.inside.step c.rollback.inside.consequences.items can c.rollback.inside.step (inl refl) g used)
+
+-- the world before the change, and the world that is left
+abbrev before : goal.After-put → World
+before c = record { opening = fresh_opening c.self.inside.program c.self.inside.query.goals c.self.inside.query.variables; state = c.self.inside.state.held; kept = c.self.inside.records.held; shelf = c.self.inside.shelf.held; next = c.self.inside.next; journal = c.self.inside.journal.held }
+
+abbrev left : goal.After-put → World
+left c = record { opening = fresh_opening c.self.inside.program c.self.inside.query.goals c.self.inside.query.variables; state = c.take_one_back.new.state.held; kept = c.remove_shelved.new.self.held; shelf = c.take_one_back.new.shelf.held; next = c.self.inside.next; journal = c.put.new.self.held }
+
+-- the change took the one to the other
+all : (c : goal.After-put) → RolledAway (before c) (c.rollback.inside.step ∷ c.rollback.inside.consequences.items) c.self.inside.tries c.take_one_back.new.tries (left c)
+all c =
+    let a = c.rollback.inside.step in
+    let can = subst (λ gone. CanRoll c.self.inside.records.held gone) (sym c.rollback.view_is) (subst (λ (x : Core). CanRoll x.world.kept c.args.rollback) (sym c.self.view_is) c.requires.found) in
+    rolled_away (before c) c.self.invariant.standing a c.rollback.inside.consequences.items can c.self.inside.tries c.take_one_back.new.tries c.self.invariant.exact c.take_one_back.new.state.held
+    (c.take_all_back.new.state.held, c.take_all_back.ensures.state, c.take_one_back.ensures.state)
+    (c.take_all_back.new.tries, c.take_all_back.ensures.tries, c.take_one_back.ensures.tries)
+    c.remove_shelved.new.self.held c.take_one_back.new.shelf.held c.put.new.self.held c.number-number.result
+    (c.take_one_back.ensures.shelf ∙ ap (λ s. finite.insert s a.number a) c.take_all_back.ensures.shelf)
+    c.remove_shelved.ensures (c.number-number.ensures ∙ ap (λ (r : Record). r.number) c.step.ensures) c.put.ensures.held
+
+pub invariant_of-self : goal.invariant_of-self
+invariant_of-self c = record { standing = (all c).standing; exact = (all c).exact }
+
+pub returns-clause-changed : goal.returns-clause-changed
+returns-clause-changed c =
+    subst (λ (x : Core). RollsAway x.world c.args.rollback (left c)) c.self.view_is (subst (λ gone. RollsAway (before c) gone (left c)) c.rollback.view_is (all c).rolls)
+
+pub returns-clause-notes : goal.returns-clause-notes
+returns-clause-notes c =
+    subst (λ (x : Core). AreLeft c.take_one_back.new.state.held.goals (IsBoundIn c.args.rollback) x.notes c.take_one_back.new.tries.notes) c.self.view_is
+    (subst (λ gone. AreLeft c.take_one_back.new.state.held.goals (IsBoundIn gone) c.self.inside.tries.notes c.take_one_back.new.tries.notes) c.rollback.view_is (all c).notes)

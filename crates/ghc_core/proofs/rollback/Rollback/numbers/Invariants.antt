@@ -1,0 +1,6 @@
+use Rattle.std.proofs.Common.{◌≡◌, ◌++◌, take}
+use Rattle.ghc_records.specs.Record.{numbers}
+use Rattle.ghc_core.proofs.rollback.Rollback.numbers.Given as goal
+
+abbrev pub invariant-loop-removal : goal.invariant-loop-removal
+invariant-loop-removal l = l.ns.items ≡ l.initial.ns.items ++ numbers (take l.removal-index l.removal-items)

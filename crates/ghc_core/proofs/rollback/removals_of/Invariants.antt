@@ -1,0 +1,7 @@
+use Rattle.std.proofs.Common.{◌≡◌, take}
+use Rattle.ghc_term.specs.Lists.{In}
+use Rattle.ghc_records.specs.Record.{Record, numbers}
+use Rattle.ghc_core.proofs.rollback.removals_of.Given as goal
+
+abbrev pub invariant-loop-number : goal.invariant-loop-number
+invariant-loop-number l = (numbers l.removals.items ≡ take l.number-index l.ns) × ((r : Record) → In r l.removals.items → In r l.records.held)

@@ -1,0 +1,21 @@
+use Rattle.std.proofs.Common.{◌≡◌, ◌≤◌, ◌+◌, List, ◌++◌, length}
+use Rattle.ghc_records.specs.Record.{Record}
+use Rattle.ghc_records.specs.State.{AreTakenBack}
+use Rattle.ghc_depend.specs.Kept.{with_shelved}
+use Rattle.ghc_core.specs.Carried.{AreAllCarriedBack}
+use Rattle.ghc_core.proofs.rolling.take_all_back.Given as goal
+
+abbrev pub invariant-loop-removal : goal.invariant-loop-removal
+invariant-loop-removal l = record {
+  back : List Record;
+  split : l.initial.removals.items ≡ l.removals.items ++ back;
+  state : AreTakenBack back l.initial.state.held l.state.held;
+  tries : AreAllCarriedBack back l.initial.tries l.tries;
+  shelf : l.shelf.held ≡ with_shelved back l.initial.shelf.held;
+  of_goals : l.initial.state.room.goals + length l.removals.items ≤ l.state.room.goals + length l.initial.removals.items;
+  of_tries : l.initial.tries.room + length l.removals.items ≤ l.tries.room + length l.initial.removals.items;
+  of_shelf : l.initial.shelf.room + length l.removals.items ≤ l.shelf.room + length l.initial.removals.items;
+}
+
+abbrev pub decreases-loop-removal : goal.decreases-loop-removal
+decreases-loop-removal l = length l.removals.items

@@ -1,0 +1,109 @@
+// Putting the record into another order.
+ghost use Rattle.std.specs.Prelude.{◌≡◌, ◌⊎◌, ◌<◌, ℕ, IfOk, IfErr, OnOk, OnErr};
+ghost use Rattle.ghc_term.specs.declared.fault.Fault.{Fault};
+ghost use Rattle.ghc_hooks.specs.Notes.{AreLeft};
+ghost use Rattle.ghc_records.specs.Laws.{IsWellMade};
+ghost use Rattle.ghc_depend.specs.Lawful.{IsUnlawful};
+ghost use Rattle.ghc_core.specs.World.{IsReplay};
+ghost use Rattle.ghc_core.specs.Events.{arranged};
+ghost use Rattle.ghc_core.specs.Reverses.{Arranges};
+ghost use Rattle.ghc_core.specs.declared.change.Change.TheVariants.{Reorders as reorders};
+ghost use Rattle.ghc_core.specs.Change.{CanChange, HasRoomFor, Changes, IsBoundBy};
+
+use crate::core_state::Core;
+use ghc_depend::lawful;
+use ghc_records::{Entry, Records};
+use ghc_term::Fault;
+use std::alloc::{AllocError, Global};
+use std::marker::Model;
+
+/// A lawful order of the record that was found, and the records in it.
+#[derive(Drop)]
+pub struct Arrangement {
+    records: Records,
+    order: Vec<u32>,
+}
+
+impl Model for Arrangement {
+    ghost use Rattle.ghc_core.specs.Arrangement.{Arrangement};
+    ghost use Rattle.ghc_core.specs.CoreCode.{arrangement_code};
+
+    ghost Value = { Arrangement };
+
+    ghost coded = { arrangement_code };
+
+    ghost view = { λ a. record { records = a.records.held; order = a.order.items } };
+}
+
+impl Core {
+    /// Finds what it takes to put the record into this order: `NotLawful` exactly where the order is not lawful, with the pair
+    /// that tells why, unless memory was refused before that was known; else it fails for want of memory alone. It goes over order
+    /// and record, with a look-up for each variable that a step read or bound.
+    pub fn prepare_arrange(&self, alloc: Global, order: &[u32]) -> Result<Arrangement, Fault>
+        ensures found { IfOk result (λ arrangement. CanChange self.now.world (reorders arrangement)) }
+        ensures order { IfOk result (λ arrangement. arrangement.order ≡ order.now) }
+        ensures fault { IfErr result (λ f. (f ≡ Fault.Memory) ⊎ ((a b : ℕ) × (f ≡ Fault.NotLawful a b) × IsUnlawful self.now.world.kept order.now a b)) }
+    {
+        let _count = self.records.len();
+        match lawful(alloc, &self.records, order) {
+            Ok(()) => {}
+            Err(fault) => return Err(fault),
+        }
+        let records = self.records.in_order(alloc, order)?;
+        let order = order.to_vec(alloc)?;
+        Ok(Arrangement { records, order })
+    }
+
+    // Makes room to put the record into another order.
+    pub(crate) fn reserve_to_arrange(&mut self) -> Result<(), AllocError>
+        ensures room { OnOk result (0 < self.new.room.journal) }
+        ensures world { self.new.world ≡ self.old.world }
+        ensures notes { self.new.notes ≡ self.old.notes }
+        ensures untried { self.new.untried ≡ self.old.untried }
+        ensures meter { self.new.meter ≡ self.old.meter }
+    {
+        self.journal.reserve(1)
+    }
+
+    // Puts the record into another order, and lets the old one go.
+    pub(crate) fn put_in_order(&mut self, arrangement: Arrangement)
+        requires found { CanChange self.old.world (reorders arrangement) }
+        requires room { HasRoomFor self.old.room (reorders arrangement) }
+        ensures changed { Changes self.old.world (reorders arrangement) self.new.world }
+        ensures left { AreLeft self.new.world.state.goals (IsBoundBy (reorders arrangement)) self.old.notes self.new.notes }
+        ensures notes { self.new.notes ≡ self.old.notes }
+        ensures untried { self.new.untried ≡ self.old.untried }
+        ensures meter { self.new.meter ≡ self.old.meter }
+    {
+        let Arrangement { records, order } = arrangement;
+        self.records = records;
+        self.journal.put(Entry::Reordered(order));
+    }
+
+    /// Puts the record into this order, also where that is the present one: goals, store, shelf, notes and untried goals stay as
+    /// they are, and the journal has the order. `NotLawful`, with the pair that tells why, where the order is not lawful; else it
+    /// fails for want of memory alone. A refused order changes nothing. It goes over order and record, with a look-up for each
+    /// variable that a step read or bound, and fires and tries nothing.
+    pub fn arrange(&mut self, alloc: Global, order: &[u32]) -> Result<(), Fault>
+        ensures ok { OnOk result (Arranges ⊥ self.old.world order.now arranged self.new.world) }
+        ensures fault { IfErr result (λ f. (f ≡ Fault.Memory) ⊎ ((a b : ℕ) × (f ≡ Fault.NotLawful a b) × IsUnlawful self.old.world.kept order.now a b)) }
+        ensures err { OnErr result (self.new.world ≡ self.old.world) }
+        ensures notes { self.new.notes ≡ self.old.notes }
+        ensures untried { self.new.untried ≡ self.old.untried }
+        ensures meter { self.new.meter ≡ self.old.meter }
+
+        // Goals and store are the replay of the record, and their variables are the query's or made by its steps.
+        ensures replay { IsReplay self.new.world self.new.world.kept self.new.world.state }
+        ensures well_made { IsWellMade self.new.world.opening.query self.new.world.kept self.new.world.state }
+    {
+        self.stands();
+        let arrangement = match self.prepare_arrange(alloc, order) {
+            Ok(arrangement) => arrangement,
+            Err(fault) => return Err(fault),
+        };
+        self.reserve_to_arrange()?;
+        self.put_in_order(arrangement);
+        self.stands();
+        Ok(())
+    }
+}

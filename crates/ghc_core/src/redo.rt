@@ -1,0 +1,165 @@
+// Taking a shelved step again.
+ghost use Rattle.std.specs.Prelude.{◌≡◌, ◌⊎◌, ◌↔◌, true, false, None, Some, IfOk, IfErr, OnOk, OnErr, Err, IsTrue};
+ghost use Rattle.std.specs.FinMap as finite;
+ghost use Rattle.ghc_term.specs.declared.goal_name.GoalName.{GoalName as goal_name};
+ghost use Rattle.ghc_fire.specs.Meter.{fired};
+ghost use Rattle.ghc_hooks.specs.Notes.{AreLeft};
+ghost use Rattle.ghc_records.specs.Record.{Record as record_spec, IsThere, Fires};
+ghost use Rattle.ghc_records.specs.Laws.{IsWellMade};
+ghost use Rattle.ghc_core.specs.World.{IsReplay};
+ghost use Rattle.ghc_core.specs.Events.{stepped};
+ghost use Rattle.ghc_core.specs.Reverses.{Redoes, RedoFails, with_redone, LacksGoal};
+ghost use Rattle.ghc_core.specs.declared.change.Change.TheVariants.{PutsBack as puts_back};
+ghost use Rattle.ghc_core.specs.Change.{CanChange, HasRoomFor, IsBoundBy};
+
+use crate::carrying::carry_over;
+use crate::change::Change;
+use crate::commit::KEPT_LIMIT;
+use crate::core_state::Core;
+use ghc_fire::{Goals, Meter, has_effect};
+use ghc_flat::Program;
+use ghc_records::{Addition, Entry, Record, State};
+use ghc_term::{Fault, Goal};
+use std::alloc::{AllocError, Global};
+
+// Whether the step names a goal that is not there: one look-up.
+fn lacks_goal(goals: &Goals, step: &Record) -> bool
+    ensures { IsTrue result ↔ LacksGoal goals.now.held step.now }
+{
+    match step.goal() {
+        Some(name) => goals.get(name).is_none(),
+        None => false,
+    }
+}
+
+// Whether the goal that the step consumed is there, as written: one look-up, and a comparison.
+fn is_there(
+    alloc: Global,
+    goals: &Goals,
+    step: &Record,
+    consumed: &Goal,
+) -> Result<bool, AllocError>
+    requires { step.now.consumed ≡ Some consumed.now }
+    ensures { IfOk result (λ there. IsTrue there ↔ IsThere goals.now.held step.now.goal step.now.consumed) }
+{
+    let Some(name) = step.goal() else {
+        return Ok(false);
+    };
+    match goals.get(name) {
+        Some(goal) => goal.same(alloc, consumed),
+        None => Ok(false),
+    }
+}
+
+// Whether the step is possible in the state, with the effect recorded. A firing is counted.
+fn fires(
+    alloc: Global,
+    meter: &mut Meter,
+    program: &Program,
+    state: &State,
+    step: &Record,
+) -> Result<bool, AllocError>
+    ensures answer { IfOk result (λ yes. IsTrue yes ↔ Fires program.now state.now.held step.now) }
+    ensures counted { meter.new ≡ fired meter.old }
+{
+    let Some(consumed) = step.consumed() else {
+        meter.count_firing();
+        return Ok(false);
+    };
+    let has = has_effect(
+        alloc,
+        meter,
+        program,
+        state.store(),
+        consumed,
+        step.act(),
+        step.number(),
+        step.effect(),
+    )?;
+    if !has {
+        return Ok(false);
+    }
+    is_there(alloc, state.goals(), step, consumed)
+}
+
+impl Core {
+    /// Finds what it takes to take the shelved step of this number again, at the end of the record, with the effect recorded:
+    /// `NotShelved` exactly where it is not on the shelf; else `NoGoal` exactly where the goal that it consumed is not there;
+    /// these are told before memory is asked for, and fire nothing. Then it is fired once: `Changed` exactly where it would not do
+    /// now what was recorded; else `Full` exactly where 1,000,000 steps are kept; else it fails for want of memory alone. But for
+    /// the meter the core stays as it is.
+    pub fn prepare_redo(&mut self, alloc: Global, number: u32) -> Result<Addition, Fault>
+        ensures found { IfOk result (λ step. CanChange self.old.world (puts_back step)) }
+        ensures step { IfOk result (λ step. step.number ≡ number) }
+        ensures fault { IfErr result (λ f. (f ≡ Fault.Memory) ⊎ RedoFails self.old.world number f) }
+        ensures not_shelved { RedoFails self.old.world number Fault.NotShelved → (result ≡ Err Fault.NotShelved) × (self.new.meter ≡ self.old.meter) }
+        ensures no_goal { RedoFails self.old.world number Fault.NoGoal → (result ≡ Err Fault.NoGoal) × (self.new.meter ≡ self.old.meter) }
+        ensures fired { (¬ RedoFails self.old.world number Fault.NotShelved) → (¬ RedoFails self.old.world number Fault.NoGoal) → self.new.meter ≡ fired self.old.meter }
+        ensures world { self.new.world ≡ self.old.world }
+        ensures notes { self.new.notes ≡ self.old.notes }
+        ensures untried { self.new.untried ≡ self.old.untried }
+    {
+        let Some(shelved) = self.shelf.get(number) else {
+            return Err(Fault::NotShelved);
+        };
+        if lacks_goal(self.state.goals(), shelved) {
+            return Err(Fault::NoGoal);
+        }
+        if !fires(alloc, &mut self.meter, &self.program, &self.state, shelved)? {
+            return Err(Fault::Changed);
+        }
+        if self.records.len() >= KEPT_LIMIT {
+            return Err(Fault::Full);
+        }
+        Ok(Addition::of(alloc, shelved.share()?)?)
+    }
+
+    // Takes a shelved step again: one look-up for each of its goals and bindings, and some for each goal that looked at what it binds.
+    #[inline(never)]
+    pub(crate) fn put_back(&mut self, addition: Addition)
+        requires found { CanChange self.old.world (puts_back addition) }
+        requires room { HasRoomFor self.old.room (puts_back addition) }
+        ensures world { self.new.world ≡ with_redone addition «addition».number self.old.world }
+        ensures notes { AreLeft self.new.world.state.goals (IsBoundBy (puts_back addition)) self.old.notes self.new.notes }
+        ensures meter { self.new.meter ≡ self.old.meter }
+    {
+        let (step, _entry) = self.state.take(addition);
+        let number = step.number();
+        carry_over(&mut self.tries, &step);
+        self.records.put(step);
+        let _ = self.shelf.remove(number);
+        self.journal.put(Entry::Redid(number));
+    }
+
+    /// Takes the shelved step of this number again, at the end of the record and under its number, with the effect recorded:
+    /// what it binds is in the store, the goals that it makes are there, the goal that it consumes is gone, and the shelf has it
+    /// no more. Untried are then the goals that it makes and those that looked at what it binds. The refusals are those of
+    /// `prepare_redo`. A refused redo changes nothing but the meter. It costs what preparing and applying the step cost.
+    pub fn redo(&mut self, alloc: Global, number: u32) -> Result<(), Fault>
+        ensures ok { OnOk result (Redoes ⊥ self.old.world number (stepped number) self.new.world) }
+        ensures fault { IfErr result (λ f. (f ≡ Fault.Memory) ⊎ RedoFails self.old.world number f) }
+        ensures not_shelved { RedoFails self.old.world number Fault.NotShelved → (result ≡ Err Fault.NotShelved) × (self.new.meter ≡ self.old.meter) }
+        ensures no_goal { RedoFails self.old.world number Fault.NoGoal → (result ≡ Err Fault.NoGoal) × (self.new.meter ≡ self.old.meter) }
+        ensures fired { (¬ RedoFails self.old.world number Fault.NotShelved) → (¬ RedoFails self.old.world number Fault.NoGoal) → self.new.meter ≡ fired self.old.meter }
+        ensures err { OnErr result (self.new.world ≡ self.old.world) }
+        ensures notes_stay { OnErr result (self.new.notes ≡ self.old.notes) }
+        ensures untried_stay { OnErr result (self.new.untried ≡ self.old.untried) }
+
+        // A note stays just where its goal is still there and did not look at what the step binds.
+        ensures notes { OnOk result ((r : record_spec) × (finite.get self.old.world.shelf number ≡ Some r) × AreLeft self.new.world.state.goals (IsBoundBy (puts_back r)) self.old.notes self.new.notes) }
+
+        // Goals and store are the replay of the record, and their variables are the query's or made by its steps.
+        ensures replay { IsReplay self.new.world self.new.world.kept self.new.world.state }
+        ensures well_made { IsWellMade self.new.world.opening.query self.new.world.kept self.new.world.state }
+    {
+        self.stands();
+        let addition = match self.prepare_redo(alloc, number) {
+            Ok(addition) => addition,
+            Err(fault) => return Err(fault),
+        };
+        let change = Change::PutsBack(addition);
+        self.reserve(&change)?;
+        self.apply(change);
+        Ok(())
+    }
+}

@@ -1,0 +1,186 @@
+// Rolling back: a step and its consequences are taken away, all or none.
+ghost use Rattle.std.specs.Prelude.{◌≡◌, ◌⊎◌, ◌∷◌, ℕ, List, IfOk, IfErr, OnOk, OnErr, Err};
+ghost use Rattle.ghc_term.specs.Lists.{In};
+ghost use Rattle.ghc_term.specs.declared.fault.Fault.{Fault as fault_spec};
+ghost use Rattle.ghc_hooks.specs.Notes.{AreLeft};
+ghost use Rattle.ghc_records.specs.Record.{Record as record_spec, numbers};
+ghost use Rattle.ghc_records.specs.Laws.{IsWellMade};
+ghost use Rattle.ghc_depend.specs.Depend.{IsKeptAs, IsNotKept};
+ghost use Rattle.ghc_depend.specs.Deletion.{IsBoundIn};
+ghost use Rattle.ghc_depend.specs.Kept.{IsSplitAt};
+ghost use Rattle.ghc_core.specs.World.{IsReplay};
+ghost use Rattle.ghc_core.specs.Events.{undone};
+ghost use Rattle.ghc_core.specs.Reverses.{Rolls};
+ghost use Rattle.ghc_core.specs.declared.change.Change.TheVariants.{TakesAll as takes_all};
+ghost use Rattle.ghc_core.specs.Change.{CanChange, HasRoomFor, Changes, IsBoundBy};
+
+use crate::change::Change;
+use crate::core_state::Core;
+use crate::rolling::{take_all_back, take_one_back};
+use ghc_depend::consequences;
+use ghc_records::{Entry, Records, Removal};
+use ghc_term::Fault;
+use std::alloc::{AllocError, Global};
+use std::marker::Model;
+
+/// What it takes to take a step away with its consequences, in recorded order: no memory, but room in some tables.
+#[derive(Drop)]
+pub struct Rollback {
+    step: Removal,
+    consequences: Vec<Removal>,
+}
+
+impl Model for Rollback {
+    ghost use Rattle.std.specs.Prelude.{List, ◌∷◌};
+    ghost use Rattle.ghc_records.specs.Record.{Record};
+    ghost use Rattle.ghc_records.specs.RecordCode.{records_code};
+
+    ghost Value = { List Record };
+
+    ghost coded = { records_code };
+
+    ghost view = { λ r. r.step ∷ r.consequences.items };
+}
+
+// What it takes to take away the kept steps of these numbers: a look-up and one step for each.
+fn removals_of(alloc: Global, records: &Records, ns: &[u32]) -> Result<Vec<Removal>, AllocError>
+    requires kept { (n : ℕ) → In n ns.now → In n (numbers records.now.held) }
+    ensures numbers { IfOk result (λ removals. numbers removals.items ≡ ns.now) }
+    ensures kept { IfOk result (λ removals. (r : record_spec) → In r removals.items → In r records.now.held) }
+{
+    let mut removals = Vec::new(alloc);
+    removals.reserve_exact(ns.len())?;
+    for number in ns {
+        let kept = records.get(*number).unwrap();
+        removals.push(Removal::of(kept)?)?;
+    }
+    Ok(removals)
+}
+
+impl Rollback {
+    // What it takes to roll this kept step back. It goes once over the record, with a look-up for each variable that a step behind
+    // this one read, or a consequence bound. It fails for want of memory alone.
+    fn of(alloc: Global, records: &Records, step: Removal) -> Result<Rollback, AllocError>
+        requires kept { In step records.now.held }
+        ensures { IfOk result (λ gone. (left : List record_spec) × IsSplitAt records.now.held step gone left) }
+    {
+        let _count = records.len();
+        let found = consequences(alloc, records, step.step().number())?;
+        let consequences = removals_of(alloc, records, &found)?;
+        Ok(Rollback { step, consequences })
+    }
+
+    /// The step itself, and its consequences in recorded order.
+    pub fn parts(&self) -> (&Removal, &[Removal])
+        ensures { self.now ≡ result.0.now ∷ result.1.now }
+    {
+        let consequences: &[Removal] = &self.consequences;
+        (&self.step, consequences)
+    }
+
+    /// The numbers of the steps, in recorded order: one step for each.
+    pub fn numbers(&self, alloc: Global) -> Result<Vec<u32>, AllocError>
+        ensures { IfOk result (λ ns. ns.items ≡ numbers self.now) }
+    {
+        let mut ns = Vec::new(alloc);
+        ns.push(self.step.step().number())?;
+        for removal in &self.consequences {
+            ns.push(removal.step().number())?;
+        }
+        Ok(ns)
+    }
+}
+
+impl Core {
+    // Makes room to take steps away.
+    pub(crate) fn reserve_to_roll(&mut self, rollback: &Rollback) -> Result<(), AllocError>
+        ensures room { OnOk result (HasRoomFor self.new.room (takes_all rollback.now)) }
+        ensures world { self.new.world ≡ self.old.world }
+        ensures notes { self.new.notes ≡ self.old.notes }
+        ensures untried { self.new.untried ≡ self.old.untried }
+        ensures meter { self.new.meter ≡ self.old.meter }
+    {
+        let count = rollback.consequences.len() + 1;
+        self.state.reserve(count, 0)?;
+        self.tries.reserve(count)?;
+        self.shelf.reserve(count)?;
+        self.journal.reserve(1)
+    }
+
+    // Takes steps away: a look-up for each of their goals and bindings, and one pass over the record.
+    pub(crate) fn take_all_away(&mut self, rollback: Rollback)
+        requires found { CanChange self.old.world (takes_all rollback) }
+        requires room { HasRoomFor self.old.room (takes_all rollback) }
+        ensures changed { Changes self.old.world (takes_all rollback) self.new.world }
+        ensures notes { AreLeft self.new.world.state.goals (IsBoundBy (takes_all rollback)) self.old.notes self.new.notes }
+        ensures meter { self.new.meter ≡ self.old.meter }
+    {
+        let Rollback { step, consequences } = rollback;
+        let number = step.step().number();
+        take_all_back(
+            &mut self.state,
+            &mut self.tries,
+            &mut self.shelf,
+            consequences,
+        );
+        take_one_back(&mut self.state, &mut self.tries, &mut self.shelf, step);
+        self.records.remove_shelved(&self.shelf);
+        self.journal.put(Entry::Rolled(number));
+    }
+
+    /// Finds what it takes to roll the step of this number back: `NotKept` exactly where the step is not kept, which is told before
+    /// memory is asked for; else it fails for want of memory alone. It goes once over the record, with a look-up for each variable
+    /// that a step behind this one read, or a consequence bound.
+    pub fn prepare_rollback(&self, alloc: Global, number: u32) -> Result<Rollback, Fault>
+        ensures found { IfOk result (λ gone. CanChange self.now.world (takes_all gone)) }
+        ensures split { IfOk result (λ gone. (r : record_spec) × (left : List record_spec) × IsKeptAs self.now.world.kept number r × IsSplitAt self.now.world.kept r gone left) }
+        ensures fault { IfErr result (λ f. ((f ≡ Fault.Memory) × ((r : record_spec) × IsKeptAs self.now.world.kept number r)) ⊎ ((f ≡ Fault.NotKept) × IsNotKept self.now.world.kept number)) }
+    {
+        let Some(kept) = self.records.get(number) else {
+            return Err(Fault::NotKept);
+        };
+        let step = match Removal::of(kept) {
+            Ok(step) => step,
+            Err(_) => return Err(Fault::Memory),
+        };
+        match Rollback::of(alloc, &self.records, step) {
+            Ok(rollback) => Ok(rollback),
+            Err(_) => Err(Fault::Memory),
+        }
+    }
+
+    /// Rolls the step of this number back: it and its consequences are taken away, all or none, and their records go to the shelf.
+    /// What they bound is unbound, the goals that they made are gone, and those that they consumed and did not make are there again.
+    /// The reply is their numbers in recorded order. Nothing is fired or tried. `NotKept` exactly where the step is not kept, which
+    /// is told before memory is asked for, whose want is the one refusal else. A refused rollback changes nothing. It costs a
+    /// look-up for each goal and binding of the steps that are taken away, and two passes over the record, one to find these steps
+    /// and one to strike them.
+    pub fn rollback(&mut self, alloc: Global, number: u32) -> Result<Vec<u32>, Fault>
+        ensures ok { IfOk result (λ ns. Rolls ⊥ self.old.world number (undone ns.items) self.new.world) }
+        ensures fault { IfErr result (λ f. (f ≡ Fault.Memory) ⊎ ((f ≡ Fault.NotKept) × IsNotKept self.old.world.kept number)) }
+        ensures refused { IsNotKept self.old.world.kept number → result ≡ Err Fault.NotKept }
+        ensures err { OnErr result (self.new.world ≡ self.old.world) }
+        ensures notes_stay { OnErr result (self.new.notes ≡ self.old.notes) }
+        ensures untried_stay { OnErr result (self.new.untried ≡ self.old.untried) }
+        ensures meter { self.new.meter ≡ self.old.meter }
+
+        // A note stays just where its goal is still there and did not look at what the steps had bound.
+        ensures notes { OnOk result ((r : record_spec) × (gone left : List record_spec) × IsKeptAs self.old.world.kept number r × IsSplitAt self.old.world.kept r gone left
+            × AreLeft self.new.world.state.goals (IsBoundIn gone) self.old.notes self.new.notes) }
+
+        // Goals and store are the replay of the record, and their variables are the query's or made by its steps.
+        ensures replay { IsReplay self.new.world self.new.world.kept self.new.world.state }
+        ensures well_made { IsWellMade self.new.world.opening.query self.new.world.kept self.new.world.state }
+    {
+        self.stands();
+        let rollback = match self.prepare_rollback(alloc, number) {
+            Ok(rollback) => rollback,
+            Err(fault) => return Err(fault),
+        };
+        let ns = rollback.numbers(alloc)?;
+        let change = Change::TakesAll(rollback);
+        self.reserve(&change)?;
+        self.apply(change);
+        Ok(ns)
+    }
+}
