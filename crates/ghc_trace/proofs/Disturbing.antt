@@ -1,5 +1,5 @@
 -- Goals that are put one after another among those that a change disturbs.
-use Rattle.std.proofs.Common.{◌≡◌, ℕ, ◌+◌, ◌≤◌, true, false, cond, ◌⊎◌, List, refl, sym, ap, ◌∙◌, subst, inl, inr, arith}
+use Rattle.std.proofs.Common.{◌≡◌, ℕ, ◌+◌, ◌≤◌, true, false, cond, ◌⊎◌, List, [], ◌∷◌, ◌++◌, refl, sym, ap, ◌∙◌, subst, inl, inr, arith}
 use Rattle.std.proofs.lemmas.Bool.{cases_eq}
 use Rattle.std.specs.Prelude.{◌↔◌, Option, Some, None, is_some, IsTrue, option_copied}
 use Rattle.std.specs.Borrow.{Bor}
@@ -14,7 +14,7 @@ use Rattle.ghc_term.specs.Lists.{In}
 use Rattle.ghc_term.specs.Bindings.{name_cmp}
 use Rattle.ghc_term.specs.Tree.{Tree}
 use Rattle.ghc_term.proofs.Names.{name_total}
-use Rattle.ghc_term.proofs.ListsLemmas.{not_both, in_map}
+use Rattle.ghc_term.proofs.ListsLemmas.{not_both, in_map, in_left, in_last, in_more}
 use Rattle.ghc_term.proofs.SetsLemmas.{in_any, any_in}
 use Rattle.ghc_records.specs.Record.{Record}
 use Rattle.ghc_records.proofs.Effects.{mapped}
@@ -24,7 +24,8 @@ use Rattle.ghc_hooks.specs.Notes.{NotesByGoal}
 use Rattle.ghc_hooks.specs.Tries.{HasLookedAt}
 use Rattle.ghc_hooks.proofs.Looking.{goal_itself}
 use Rattle.ghc_depend.specs.Depend.{Binds}
-use Rattle.ghc_trace.specs.Disturbed.{stuck_by, Disturbed, IsOneOf, AreAsNoted, LooksWhere}
+use Rattle.ghc_depend.specs.Deletion.{IsBoundIn, IsConsumedIn}
+use Rattle.ghc_trace.specs.Disturbed.{stuck_by, Disturbed, IsOneOf, AreAsNoted, LooksWhere, AreDisturbed}
 use Rattle.ghc_trace.specs.declared.stuck.Stuck.{Stuck}
 
 -- one goal more is among them
@@ -114,3 +115,44 @@ handled (Some b) = refl
 
 pub one_name : {g h : GoalName} → Some g ≡ Some h → g ≡ h
 one_name e = cc
+
+-- what one step disturbs as it is taken away, it disturbs as the only one
+pub alone_disturbed : (notes : NotesByGoal) (r : Record) (d : Disturbed) → AreDisturbed notes (Binds r) (λ g. r.goal ≡ Some g) d → AreDisturbed notes (IsBoundIn (r ∷ [])) (IsConsumedIn (r ∷ [])) d
+alone_disturbed notes r d by_one = record {
+  members = λ g. (
+    λ h. elim ((by_one.members g).0 h) [ inl l ↦ inl (l.0, (r, inl refl, l.1), l.2) | inr e ↦ inr (r, inl refl, e) ],
+    λ h. (by_one.members g).1 (elim h [
+      | inl l ↦ inl (l.0, elim l.1.1 [ inl same ↦ subst (λ z. Binds z l.0) same l.1.2 | inr i ↦ absurd i ], l.2)
+      | inr k ↦ inr (elim k.1 [ inl same ↦ subst (λ (z : Record). z.goal ≡ Some g) same k.2 | inr i ↦ absurd i ])
+    ]),
+  );
+  as_noted = by_one.as_noted;
+}
+
+-- and one step more is taken away
+pub more_disturbed : (notes : NotesByGoal) (gone : List Record) (r : Record) (old new : Disturbed) → AreDisturbed notes (IsBoundIn gone) (IsConsumedIn gone) old
+    → ((g : GoalName) → IsOneOf new g ↔ (IsOneOf old g ⊎ (LooksWhere notes (Binds r) g ⊎ (r.goal ≡ Some g)))) → (AreAsNoted notes old → AreAsNoted notes new)
+    → AreDisturbed notes (IsBoundIn (gone ++ r ∷ [])) (IsConsumedIn (gone ++ r ∷ [])) new
+more_disturbed notes gone r old new before step noted = record {
+  members = λ g. (
+    λ h. elim ((step g).0 h) [
+      | inl o ↦ elim ((before.members g).0 o) [
+        | inl l ↦ inl (l.0, (l.1.0, in_left gone (r ∷ []) l.1.0 l.1.1, l.1.2), l.2)
+        | inr k ↦ inr (k.0, in_left gone (r ∷ []) k.0 k.1, k.2)
+      ]
+      | inr (inl l) ↦ inl (l.0, (r, in_last gone r, l.1), l.2)
+      | inr (inr e) ↦ inr (r, in_last gone r, e)
+    ],
+    λ h. (step g).1 (elim h [
+      | inl l ↦ elim (in_more gone r l.1.0 l.1.1) [
+        | inl j ↦ inl ((before.members g).1 (inl (l.0, (l.1.0, j, l.1.2), l.2)))
+        | inr same ↦ inr (inl (l.0, subst (λ z. Binds z l.0) same l.1.2, l.2))
+      ]
+      | inr k ↦ elim (in_more gone r k.0 k.1) [
+        | inl j ↦ inl ((before.members g).1 (inr (k.0, j, k.2)))
+        | inr same ↦ inr (inr (subst (λ (z : Record). z.goal ≡ Some g) same k.2))
+      ]
+    ]),
+  );
+  as_noted = noted before.as_noted;
+}

@@ -8,3 +8,4 @@ pub mod Telling
 pub mod Lines
 pub mod GoalTelling
 pub mod Reasoning
+pub mod BoundChain

@@ -1,5 +1,5 @@
 -- By notes that are exact, where nothing is untried, goals are told to be resumed or stuck as they are.
-use Rattle.std.proofs.Common.{◌≡◌, ◌≢◌, ℕ, true, false, ◌⊎◌, List, refl, sym, ap, ◌∙◌, subst, inl, inr}
+use Rattle.std.proofs.Common.{◌≡◌, ◌≢◌, ℕ, true, false, ◌⊎◌, List, [], ◌∷◌, refl, sym, ap, ◌∙◌, subst, inl, inr}
 use Rattle.std.specs.Prelude.{◌↔◌, Option, Some, None, is_some, IsTrue}
 use Rattle.std.specs.FinMap as finite
 use Rattle.std.specs.FinSet as set
@@ -30,9 +30,9 @@ use Rattle.ghc_records.specs.Journal.{Opening}
 use Rattle.ghc_core.specs.World.{World}
 use Rattle.ghc_core.specs.Events.{Reply}
 use Rattle.ghc_core.specs.Reverses as by
-use Rattle.ghc_core.specs.Reverses.{Undoes}
+use Rattle.ghc_core.specs.Reverses.{Undoes, Rolls, Arranges}
 use Rattle.ghc_core.specs.declared.change.Change.{Change}
-use Rattle.ghc_core.specs.declared.change.Change.TheVariants.{Adds as adds, TakesAway as takes_away}
+use Rattle.ghc_core.specs.declared.change.Change.TheVariants.{Adds as adds, PutsBack as puts_back, TakesAway as takes_away, TakesAll as takes_all, Reorders as reorders}
 use Rattle.ghc_core.specs.Change.{CanChange, Changes, IsBoundBy}
 use Rattle.ghc_core.proofs.Reaching.{reached_good}
 use Rattle.ghc_trace.specs.News.{IsStuck, Standing}
@@ -195,6 +195,11 @@ undo_opening (by.Undoes.takes_away r left t kept none without replay) = refl
 undo_opening (by.Undoes.fails f) = refl
 undo_opening (by.Undoes.no_memory m) = refl
 
+roll_opening : {w v : World} {n : ℕ} {y : Reply} → Rolls ⊥ w n y v → v.opening ≡ w.opening
+roll_opening (by.Rolls.takes_away r gone left t kept split replay) = refl
+roll_opening (by.Rolls.not_kept f) = refl
+roll_opening (by.Rolls.no_memory m) = refl
+
 settled_in : {w : World} {notes : NotesByGoal} → IsSettled w notes → Settled w.opening.program w.state.goals w.state.store notes
 settled_in s = record { exact = s.exact; acyclic = (reached_good s.standing).acyclic }
 
@@ -202,14 +207,26 @@ pub ports_told : NotesTellPorts
 ports_told w r notes d names settled disturbed named =
     (names, resumed_right w.opening.program w.state.goals w.state.store notes (settled_in settled) r (MakesGoal r) d disturbed names named, named.ordered, refl)
 
+arrange_opening : {w v : World} {order : List ℕ} {y : Reply} → Arranges ⊥ w order y v → v.opening ≡ w.opening
+arrange_opening (by.Arranges.puts new lawful put) = refl
+arrange_opening (by.Arranges.fails f) = refl
+arrange_opening (by.Arranges.no_memory m) = refl
+
 one_opening : (w v : World) (change : Change) → CanChange w change → Changes w change v → v.opening ≡ w.opening
 one_opening w v (adds r) can e = ap (λ (z : World). z.opening) e
+one_opening w v (puts_back r) can e = ap (λ (z : World). z.opening) e
 one_opening w v (takes_away r) can e = undo_opening e
+one_opening w v (takes_all []) can e = absurd e
+one_opening w v (takes_all (r ∷ rs)) can e = roll_opening e
+one_opening w v (reorders a) can e = arrange_opening e
 
 -- a change binds or frees a variable, or does not
 bound_or_not : (change : Change) (x : VarName) → Decided (IsBoundBy change x)
 bound_or_not (adds r) x = true_decided (finite.contains_key r.effect.binds x)
+bound_or_not (puts_back r) x = true_decided (finite.contains_key r.effect.binds x)
 bound_or_not (takes_away r) x = true_decided (finite.contains_key r.effect.binds x)
+bound_or_not (takes_all gone) x = some_decided gone (λ r. Binds r x) (λ r i. true_decided (finite.contains_key r.effect.binds x))
+bound_or_not (reorders a) x = inr (λ b. b)
 
 pub news_told : NotesTellNews
 news_told w v change old left new d news before can changes are_left still behind disturbed told =

@@ -5,11 +5,12 @@ use Rattle.ghc_term.specs.declared.goal_name.GoalName.{GoalName}
 use Rattle.ghc_records.specs.Record.{Record}
 use Rattle.ghc_records.specs.Replay.{MakesGoal}
 use Rattle.ghc_depend.specs.Depend.{Binds}
+use Rattle.ghc_depend.specs.Deletion.{IsConsumedIn}
 use Rattle.ghc_hooks.specs.Notes.{NotesByGoal, AreLeft}
 use Rattle.ghc_core.specs.World.{World}
 use Rattle.ghc_core.specs.Core.{IsConsistent}
 use Rattle.ghc_core.specs.declared.change.Change.{Change}
-use Rattle.ghc_core.specs.declared.change.Change.TheVariants.{Adds as adds, TakesAway as takes_away}
+use Rattle.ghc_core.specs.declared.change.Change.TheVariants.{Adds as adds, PutsBack as puts_back, TakesAway as takes_away, TakesAll as takes_all, Reorders as reorders}
 use Rattle.ghc_core.specs.Change.{CanChange, Changes, IsBoundBy}
 use Rattle.ghc_core.specs.Settling.{AreKept}
 use Rattle.ghc_trace.specs.Ports.{resumed, taken_ports, ArePorts}
@@ -20,10 +21,13 @@ use Rattle.ghc_trace.specs.Disturbed.{Disturbed, AreDisturbed, AreResumedBy, Are
 abbrev pub IsSettled : World → NotesByGoal → Type 0
 IsSettled w notes = IsConsistent w notes set.empty
 
--- The change brings the goal named g: its step makes it, or is taken away and consumed it.
+-- The change brings the goal named g: its step makes it, or a step that is taken away consumed it; another order brings none.
 abbrev pub Brings : Change → GoalName → Type 0
 Brings (adds r) g = MakesGoal r g
+Brings (puts_back r) g = MakesGoal r g
 Brings (takes_away r) g = r.goal ≡ Some g
+Brings (takes_all gone) g = IsConsumedIn gone g
+Brings (reorders a) g = ⊥
 
 -- Where no goal is untried, those that by their notes waited for what a step binds are those that it resumes.
 abbrev pub NotesTellPorts : Type 0

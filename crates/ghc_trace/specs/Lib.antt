@@ -11,3 +11,5 @@ pub mod GoalLines
 pub mod GoalLinesCode
 pub mod GoalLaws
 pub mod Why
+pub mod ReasonText
+pub mod Who

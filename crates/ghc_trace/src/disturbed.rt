@@ -1,10 +1,13 @@
 // The goals to which a change of the state may give another status.
 ghost use Rattle.std.specs.Prelude.{◌≡◌, Some, IfOk, OnOk};
+ghost use Rattle.ghc_hooks.specs.Notes.{NotesByGoal};
 ghost use Rattle.ghc_records.specs.Replay.{MakesGoal};
 ghost use Rattle.ghc_depend.specs.Depend.{Binds};
+ghost use Rattle.ghc_depend.specs.Deletion.{IsBoundIn, IsConsumedIn};
 ghost use Rattle.ghc_trace.specs.Disturbed.{AreDisturbed};
 
 use crate::stuck::{Stuck, stuck_now};
+use ghc_core::Rollback;
 use ghc_hooks::Tries;
 use ghc_records::Record;
 use ghc_term::GoalName;
@@ -45,6 +48,13 @@ impl Disturbed {
         Disturbed {
             goals: BTreeMap::new(alloc),
         }
+    }
+
+    /// The goals that another order of the record disturbs: none. They take no memory.
+    pub fn by_arranging(alloc: Global) -> Disturbed
+        ensures { (notes : NotesByGoal) → AreDisturbed notes (λ x. ⊥) (λ g. ⊥) result }
+    {
+        Disturbed::new(alloc)
     }
 
     // Adds the goal, with how it is stuck by its note: one look-up.
@@ -99,6 +109,24 @@ impl Disturbed {
         Ok(())
     }
 
+    // Adds the goals that the step disturbs as it is taken away: those whose notes looked at what it bound, and the one that it
+    // consumed.
+    fn add_taken_back(
+        &mut self,
+        alloc: Global,
+        tries: &Tries,
+        step: &Record,
+    ) -> Result<(), AllocError>
+        ensures members { OnOk result ((g : GoalName) → IsOneOf self.new g ↔ (IsOneOf self.old g ⊎ (LooksWhere tries.now.notes (Binds step.now) g ⊎ (step.now.goal ≡ Some g)))) }
+        ensures as_noted { OnOk result (AreAsNoted tries.now.notes self.old → AreAsNoted tries.now.notes self.new) }
+    {
+        self.add_looking(alloc, tries, step)?;
+        if let Some(goal) = step.goal() {
+            self.add(alloc, tries, goal)?;
+        }
+        Ok(())
+    }
+
     /// The goals that the step disturbs as it is taken: those whose notes looked at what it binds, and those that it makes. For
     /// each goal made, and each variable bound with each goal that looked at it: a look-up, and a copy of the variables for which
     /// the goal waits.
@@ -122,9 +150,23 @@ impl Disturbed {
         ensures { IfOk result (λ d. AreDisturbed tries.now.notes (Binds step.now) (λ g. step.now.goal ≡ Some g) d) }
     {
         let mut disturbed = Disturbed::new(alloc);
-        disturbed.add_looking(alloc, tries, step)?;
-        if let Some(goal) = step.goal() {
-            disturbed.add(alloc, tries, goal)?;
+        disturbed.add_taken_back(alloc, tries, step)?;
+        Ok(disturbed)
+    }
+
+    /// The goals that a step and its consequences disturb as they are taken away: those whose notes looked at what one of them
+    /// bound, and those that one of them consumed. It costs as much for each as for one alone.
+    pub fn by_rolling_back(
+        alloc: Global,
+        tries: &Tries,
+        rollback: &Rollback,
+    ) -> Result<Disturbed, AllocError>
+        ensures { IfOk result (λ d. AreDisturbed tries.now.notes (IsBoundIn rollback.now) (IsConsumedIn rollback.now) d) }
+    {
+        let (first, others) = rollback.parts();
+        let mut disturbed = Disturbed::by_taking_back(alloc, tries, first.step())?;
+        for removal in others {
+            disturbed.add_taken_back(alloc, tries, removal.step())?;
         }
         Ok(disturbed)
     }

@@ -1,4 +1,4 @@
-use Rattle.std.proofs.Common.{◌+◌, [], ◌∷◌, ◌++◌, refl, sym, ap, ◌∙◌, subst, inr, arith}
+use Rattle.std.proofs.Common.{[], ◌∷◌, ◌++◌, refl, sym, ap, ◌∙◌, subst, inr, arith}
 use Rattle.std.specs.Option.{option_copied}
 use Rattle.ghc_depend.specs.Cause.{IsDirect}
 use Rattle.ghc_depend.proofs.Causes.{some_within}
