@@ -9,3 +9,5 @@ pub mod Settling
 pub mod RecordLines
 pub mod NumberedWords
 pub mod QueryVariables
+pub mod CauseReplies
+pub mod Ordering

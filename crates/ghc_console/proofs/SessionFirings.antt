@@ -6,16 +6,22 @@ use Rattle.ghc_console.specs.Firing.{Fires, firings_in, firings_of}
 use Rattle.ghc_console.specs.Lines.{lines_of}
 use Rattle.ghc_console.specs.Reading.{TakesLine}
 use Rattle.ghc_console.specs.declared.command.LineCommand.{LineCommand}
-use Rattle.ghc_console.specs.declared.command.LineCommand.TheVariants.{Nothing, Step, Undo, Show, Records, Goals, Quit, Unknown}
+use Rattle.ghc_console.specs.declared.command.LineCommand.TheVariants.{Nothing, Step, Undo, Redo, Roll, Arrange, Show, Records, Goals, Why, Who, Shelf, Quit, Unknown}
 
 -- a command may fire nothing
 pub fires_nothing : (c : LineCommand) (m n : ℕ) → n ≡ m → Fires c m n
 fires_nothing (Step goal choice) m n e = inl e
+fires_nothing (Redo number) m n e = inl e
 fires_nothing Nothing m n e = e
 fires_nothing (Undo number) m n e = e
+fires_nothing (Roll number) m n e = e
+fires_nothing (Arrange order) m n e = e
 fires_nothing (Show word) m n e = e
 fires_nothing Records m n e = e
 fires_nothing Goals m n e = e
+fires_nothing (Why number) m n e = e
+fires_nothing (Who word) m n e = e
+fires_nothing Shelf m n e = e
 fires_nothing Quit m n e = e
 fires_nothing Unknown m n e = e
 
@@ -23,11 +29,18 @@ fires_nothing Unknown m n e = e
 fires_few : (c : LineCommand) (m n : ℕ) → Fires c m n → n ≤ m + firings_of c
 fires_few (Step goal choice) m n (inl e) = omega (arith, e)
 fires_few (Step goal choice) m n (inr e) = omega (arith, e)
+fires_few (Redo number) m n (inl e) = omega (arith, e)
+fires_few (Redo number) m n (inr e) = omega (arith, e)
 fires_few Nothing m n e = omega (arith, e)
 fires_few (Undo number) m n e = omega (arith, e)
+fires_few (Roll number) m n e = omega (arith, e)
+fires_few (Arrange order) m n e = omega (arith, e)
 fires_few (Show word) m n e = omega (arith, e)
 fires_few Records m n e = omega (arith, e)
 fires_few Goals m n e = omega (arith, e)
+fires_few (Why number) m n e = omega (arith, e)
+fires_few (Who word) m n e = omega (arith, e)
+fires_few Shelf m n e = omega (arith, e)
 fires_few Quit m n e = omega (arith, e)
 fires_few Unknown m n e = omega (arith, e)
 

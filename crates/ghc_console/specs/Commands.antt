@@ -3,9 +3,9 @@ use Rattle.std.specs.Prelude.{ℕ, Option, None, Some, if◌then◌else◌, List
 use Rattle.std.specs.List.{list_all}
 use Rattle.std.specs.Str.{bytes_eq}
 use Rattle.ghc_term.specs.declared.goal_name.GoalName.{GoalName}
-use Rattle.ghc_console.specs.Words.{goal_name_of, is_printable, is_variable, number_of, words_of}
+use Rattle.ghc_console.specs.Words.{goal_name_of, is_printable, is_variable, number_of, numbers_of, words_of}
 use Rattle.ghc_console.specs.declared.command.LineCommand.{LineCommand}
-use Rattle.ghc_console.specs.declared.command.LineCommand.TheVariants.{Nothing, Step, Undo, Show, Records, Goals, Quit, Unknown}
+use Rattle.ghc_console.specs.declared.command.LineCommand.TheVariants.{Nothing, Step, Undo, Redo, Roll, Arrange, Show, Records, Goals, Why, Who, Shelf, Quit, Unknown}
 
 -- A step with the goal, by the least clause that accepts, where the word named one.
 abbrev pub step_with : Option GoalName → LineCommand
@@ -18,34 +18,55 @@ step_by (Some goal) (Some clause) = Step goal (Some clause)
 step_by (Some goal) None = Unknown
 step_by None clause = Unknown
 
--- The undoing of the step of this number, where the word said one.
-abbrev pub undo_with : Option ℕ → LineCommand
-undo_with (Some number) = Undo number
-undo_with None = Unknown
-
--- The command of a word alone: `records`, `goals` or `quit`.
+-- The command of a word alone: `records`, `goals`, `shelf` or `quit`.
 abbrev pub command_of_one_word : List ℕ → LineCommand
 command_of_one_word name = if bytes_eq name (codes "records") then Records
     else (if bytes_eq name (codes "goals") then Goals
-    else (if bytes_eq name (codes "quit") then Quit else Unknown))
+    else (if bytes_eq name (codes "shelf") then Shelf
+    else (if bytes_eq name (codes "quit") then Quit else Unknown)))
 
--- The command of a word and one more: `step G`, `undo N` or `show X`.
+-- The command of a word with a number: `undo N`, `redo N`, `roll N` or `why N`.
+abbrev pub command_with_number : List ℕ → ℕ → LineCommand
+command_with_number name number = if bytes_eq name (codes "undo") then Undo number
+    else (if bytes_eq name (codes "redo") then Redo number
+    else (if bytes_eq name (codes "roll") then Roll number
+    else (if bytes_eq name (codes "why") then Why number else Unknown)))
+
+-- The same, where the word behind said a number.
+abbrev pub numbered : List ℕ → Option ℕ → LineCommand
+numbered name (Some number) = command_with_number name number
+numbered name None = Unknown
+
+-- The command of a word with a variable: `show X` or `who X`.
+abbrev pub command_with_variable : List ℕ → List ℕ → LineCommand
+command_with_variable name word = if bytes_eq name (codes "show") then Show word
+    else (if bytes_eq name (codes "who") then Who word else Unknown)
+
+-- The command of a word and one more: `step G`, or one with a variable or a number.
 abbrev pub command_of_two_words : List ℕ → List ℕ → LineCommand
 command_of_two_words name word = if bytes_eq name (codes "step") then step_with (goal_name_of word)
-    else (if bytes_eq name (codes "undo") then undo_with (number_of word)
-    else (if bytes_eq name (codes "show") then (if is_variable word then Show word else Unknown) else Unknown))
+    else (if is_variable word then command_with_variable name word else numbered name (number_of word))
 
 -- The command of a word and two more: `step G C`.
 abbrev pub command_of_three_words : List ℕ → List ℕ → List ℕ → LineCommand
 command_of_three_words name goal clause = if bytes_eq name (codes "step") then step_by (goal_name_of goal) (number_of clause) else Unknown
 
--- The command of these words.
+-- The command of a word and those behind it, by how many these are.
+abbrev pub command_by_count : List ℕ → List (List ℕ) → LineCommand
+command_by_count name [] = command_of_one_word name
+command_by_count name (word ∷ []) = command_of_two_words name word
+command_by_count name (first ∷ second ∷ []) = command_of_three_words name first second
+command_by_count name (first ∷ second ∷ third ∷ rest) = Unknown
+
+-- The arranging of the record in the order of these numbers, where the words said them.
+abbrev pub arrange_with : Option (List ℕ) → LineCommand
+arrange_with (Some order) = Arrange order
+arrange_with None = Unknown
+
+-- The command of these words: `arrange` takes any number of words behind it.
 abbrev pub command_of_words : List (List ℕ) → LineCommand
 command_of_words [] = Nothing
-command_of_words (name ∷ []) = command_of_one_word name
-command_of_words (name ∷ word ∷ []) = command_of_two_words name word
-command_of_words (name ∷ first ∷ second ∷ []) = command_of_three_words name first second
-command_of_words (name ∷ first ∷ second ∷ third ∷ rest) = Unknown
+command_of_words (name ∷ words) = if bytes_eq name (codes "arrange") then arrange_with (numbers_of words) else command_by_count name words
 
 -- The command that a line says. With a byte that is not printable it says none that is known.
 abbrev pub command_of : List ℕ → LineCommand

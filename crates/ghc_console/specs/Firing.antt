@@ -3,30 +3,42 @@ use Rattle.std.specs.Prelude.{◌≡◌, ◌⊎◌, ℕ, List, sum_by}
 use Rattle.ghc_fire.specs.Meter.{one_more}
 use Rattle.ghc_console.specs.Commands.{command_of}
 use Rattle.ghc_console.specs.declared.command.LineCommand.{LineCommand}
-use Rattle.ghc_console.specs.declared.command.LineCommand.TheVariants.{Nothing, Step, Undo, Show, Records, Goals, Quit, Unknown}
+use Rattle.ghc_console.specs.declared.command.LineCommand.TheVariants.{Nothing, Step, Undo, Redo, Roll, Arrange, Show, Records, Goals, Why, Who, Shelf, Quit, Unknown}
 
--- Fires c old new: carrying out the command c takes the count of firings from old to new. A step fires once in the core, or not at all where it is refused before; no other command fires.
+-- Fires c old new: carrying out the command c takes the count of firings from old to new. A step or a redo fires once in the core, or not at all where it is refused before; no other command fires.
 abbrev pub Fires : LineCommand → ℕ → ℕ → Type 0
 Fires (Step goal choice) old new = (new ≡ old) ⊎ (new ≡ one_more old)
+Fires (Redo number) old new = (new ≡ old) ⊎ (new ≡ one_more old)
 Fires Nothing old new = new ≡ old
 Fires (Undo number) old new = new ≡ old
+Fires (Roll number) old new = new ≡ old
+Fires (Arrange order) old new = new ≡ old
 Fires (Show word) old new = new ≡ old
 Fires Records old new = new ≡ old
 Fires Goals old new = new ≡ old
+Fires (Why number) old new = new ≡ old
+Fires (Who word) old new = new ≡ old
+Fires Shelf old new = new ≡ old
 Fires Quit old new = new ≡ old
 Fires Unknown old new = new ≡ old
 
 -- how many firings a command may ask for
 abbrev pub firings_of : LineCommand → ℕ
 firings_of (Step goal choice) = 1
+firings_of (Redo number) = 1
 firings_of Nothing = 0
 firings_of (Undo number) = 0
+firings_of (Roll number) = 0
+firings_of (Arrange order) = 0
 firings_of (Show word) = 0
 firings_of Records = 0
 firings_of Goals = 0
+firings_of (Why number) = 0
+firings_of (Who word) = 0
+firings_of Shelf = 0
 firings_of Quit = 0
 firings_of Unknown = 0
 
--- how many firings the lines of an input may ask for: one for each step
+-- how many firings the lines of an input may ask for: one for each step and each redo
 abbrev pub firings_in : List (List ℕ) → ℕ
 firings_in lines = sum_by (λ line. firings_of (command_of line)) lines

@@ -1,5 +1,5 @@
 -- The replies to lines: what is written for each, and which world it leaves.
-use Rattle.std.specs.Prelude.{◌≡◌, ◌≢◌, ◌<◌, ◌≤◌, ℕ, Bool, true, false, List, [], ◌∷◌, ◌++◌, codes, length, map, Option}
+use Rattle.std.specs.Prelude.{◌≡◌, ◌≢◌, ◌<◌, ◌≤◌, ℕ, Bool, true, false, List, [], ◌∷◌, ◌++◌, codes, length, map, Option, Some}
 use Rattle.std.specs.Fmt.{decimal}
 use Rattle.std.specs.FinMap as finite
 use Rattle.ghc_term.specs.declared.var_name.VarName.{VarName}
@@ -12,20 +12,27 @@ use Rattle.ghc_term.specs.Store.{value_at}
 use Rattle.ghc_term.specs.Resolved.{IsTextOf}
 use Rattle.ghc_fire.specs.Attempt.{proposes, refused}
 use Rattle.ghc_fire.specs.Proposal.{Proposal}
-use Rattle.ghc_records.specs.Record.{Record}
-use Rattle.ghc_records.specs.StepText.{listed, record_text}
+use Rattle.ghc_records.specs.Record.{Record, Shelf}
+use Rattle.ghc_records.specs.Journal.{step_of}
+use Rattle.ghc_records.specs.StepText.{listed, record_text, step_text}
+use Rattle.ghc_depend.specs.Depend.{IsNotKept}
 use Rattle.ghc_core.specs.World.{World, IsFull, with_step}
-use Rattle.ghc_core.specs.Events.{Reply, undone, refused as event_refused}
+use Rattle.ghc_core.specs.Events.{Reply, stepped, undone, arranged, refused as event_refused}
 use Rattle.ghc_core.specs.Proposes.{AttemptAnswers, IsCommitOf}
-use Rattle.ghc_core.specs.Reverses.{Undoes}
+use Rattle.ghc_core.specs.Reverses.{Undoes, Redoes, Rolls, Arranges}
 use Rattle.ghc_trace.specs.Ports.{Port, ArePorts}
 use Rattle.ghc_trace.specs.PortText.{ports_text}
 use Rattle.ghc_trace.specs.News.{Standing, AreNews, news_text}
 use Rattle.ghc_trace.specs.GoalLines.{AreGoalLines, HasTooLong}
+use Rattle.ghc_trace.specs.declared.reasons.Reason.{Reason}
+use Rattle.ghc_trace.specs.ReasonText.{reason_text}
+use Rattle.ghc_trace.specs.Why.{AreReasonsTold}
+use Rattle.ghc_trace.specs.declared.who_bound.Binder.{Binder}
+use Rattle.ghc_trace.specs.Who.{AreBindersTold, binder_text}
 use Rattle.ghc_console.specs.VariableNamed.{IsVariableNamed}
 use Rattle.ghc_console.specs.Commands.{command_of}
 use Rattle.ghc_console.specs.declared.command.LineCommand.{LineCommand}
-use Rattle.ghc_console.specs.declared.command.LineCommand.TheVariants.{Nothing as nothing, Step as step, Undo as undo, Show as show, Records as records, Goals as goals, Quit as quit, Unknown as unknown}
+use Rattle.ghc_console.specs.declared.command.LineCommand.TheVariants.{Nothing as nothing, Step as step, Undo as undo, Redo as redo, Roll as roll, Arrange as arrange, Show as show, Records as records, Goals as goals, Why as why, Who as who, Shelf as shelf, Quit as quit, Unknown as unknown}
 use Rattle.ghc_console.specs.Reading.{line_limit}
 
 -- the text as a line
@@ -64,14 +71,28 @@ numbers_text numbers = listed (codes ",") (map decimal numbers)
 abbrev pub undone_text : List ℕ → List ℕ
 undone_text numbers = lined (codes "undone " ++ numbers_text numbers)
 
--- IsToldAs w v reply text: the text tells which steps were undone, and what is stuck then; or why none was undone.
+-- IsToldAs w v reply text: the text tells which steps were undone, or the ports of the step that was put back, or that the record was arranged, and what is stuck then; or why nothing was done.
 pub data IsToldAs (w v : World) : Reply → List ℕ → Type 0 where
   tells_steps : {steps text : List ℕ} → Settled w v (undone_text steps) text → IsToldAs w v (undone steps) text
+  tells_ports : {n : ℕ} {r : Record} {ports : List Port} {text : List ℕ} → finite.get w.shelf n ≡ Some r → ArePorts w r ports → Settled w v (ports_text ports) text → IsToldAs w v (stepped n) text
+  tells_order : {text : List ℕ} → Settled w v (lined (codes "arranged")) text → IsToldAs w v arranged text
   tells_why : {f : Fault} {text : List ℕ} → text ≡ refusal f → IsToldAs w v (event_refused f) text
 
 -- TakesBack w n text v: the text tells the reply to undoing step n, which leaves the world v.
 abbrev pub TakesBack : World → ℕ → List ℕ → World → Type 0
 TakesBack w n text v = (reply : Reply) × Undoes ⊥ w n reply v × IsToldAs w v reply text
+
+-- RollsBack w n text v: the text tells the reply to rolling step n back, which leaves the world v.
+abbrev pub RollsBack : World → ℕ → List ℕ → World → Type 0
+RollsBack w n text v = (reply : Reply) × Rolls ⊥ w n reply v × IsToldAs w v reply text
+
+-- PutsBack w n text v: the text tells the reply to redoing step n, which leaves the world v.
+abbrev pub PutsBack : World → ℕ → List ℕ → World → Type 0
+PutsBack w n text v = (reply : Reply) × Redoes ⊥ w n reply v × IsToldAs w v reply text
+
+-- Reorders w order text v: the text tells the reply to putting the record into the order, which leaves the world v.
+abbrev pub Reorders : World → List ℕ → List ℕ → World → Type 0
+Reorders w order text v = (reply : Reply) × Arranges ⊥ w order reply v × IsToldAs w v reply text
 
 -- RepliesToShow w word text: the variable that the word names, and the term to which it leads; or the refusal where it names none, or the term is too long.
 pub data RepliesToShow (w : World) (word : List ℕ) : List ℕ → Type 0 where
@@ -97,14 +118,48 @@ pub data RepliesToGoals (w : World) : List ℕ → Type 0 where
   lists : {text : List ℕ} → w.state.goals ≢ finite.empty → AreGoalLines w text → ¬ HasTooLong w.state.goals w.state.store → RepliesToGoals w text
   goal_too_long : HasTooLong w.state.goals w.state.store → RepliesToGoals w (refusal (Fault.Limit limit.Print))
 
+-- texts, a line each
+abbrev pub text_lines : List (List ℕ) → List ℕ
+text_lines [] = []
+text_lines (t ∷ ts) = t ++ (codes "\n" ++ text_lines ts)
+
+-- texts, a line each, and `none` where there is none
+abbrev pub lines_or_none : List (List ℕ) → List ℕ
+lines_or_none [] = lined (codes "none")
+lines_or_none (t ∷ ts) = text_lines (t ∷ ts)
+
+-- the texts of the steps of records
+abbrev pub steps_told : List (ℕ × Record) → List (List ℕ)
+steps_told rs = map (λ e. step_text (step_of e.1)) rs
+
+-- the steps on the shelf, a line each by number, and `none` where there is none
+abbrev pub shelf_text : Shelf → List ℕ
+shelf_text held = lines_or_none (steps_told (finite.entries held))
+
+-- RepliesToWhy w n text: each step on which the kept step n depends directly, in recorded order, with its cause, and `none` where there is none; or the refusal where no such step is kept.
+pub data RepliesToWhy (w : World) (n : ℕ) : List ℕ → Type 0 where
+  tells_reasons : (reasons : List Reason) → AreReasonsTold w.kept n reasons → RepliesToWhy w n (lines_or_none (map reason_text reasons))
+  not_kept : IsNotKept w.kept n → RepliesToWhy w n (refusal Fault.NotKept)
+
+-- RepliesToWho w word text: the bound variables of the chain of the variable that the word names, in its order, each with the kept step that bound it, and `none` where there is none; or the refusal where the word names none.
+pub data RepliesToWho (w : World) (word : List ℕ) : List ℕ → Type 0 where
+  tells_binders : (x : VarName) (binders : List Binder) → IsVariableNamed w word x → AreBindersTold w x binders → RepliesToWho w word (lines_or_none (map binder_text binders))
+  names_nothing : ((x : VarName) → ¬ IsVariableNamed w word x) → RepliesToWho w word (refusal Fault.NoVariable)
+
 -- Replies w c text v: the reply to the command c in the world w is the text, and it leaves the world v.
 abbrev pub Replies : World → LineCommand → List ℕ → World → Type 0
 Replies w nothing text v = (text ≡ []) × (v ≡ w)
 Replies w (step g choice) text v = RepliesToStep w g choice text v
 Replies w (undo n) text v = TakesBack w n text v
+Replies w (redo n) text v = PutsBack w n text v
+Replies w (roll n) text v = RollsBack w n text v
+Replies w (arrange order) text v = Reorders w order text v
 Replies w (show word) text v = RepliesToShow w word text × (v ≡ w)
 Replies w records text v = (text ≡ records_text w.kept) × (v ≡ w)
 Replies w goals text v = RepliesToGoals w text × (v ≡ w)
+Replies w (why n) text v = RepliesToWhy w n text × (v ≡ w)
+Replies w (who word) text v = RepliesToWho w word text × (v ≡ w)
+Replies w shelf text v = (text ≡ shelf_text w.shelf) × (v ≡ w)
 Replies w quit text v = (text ≡ []) × (v ≡ w)
 Replies w unknown text v = (text ≡ refusal Fault.Command) × (v ≡ w)
 
@@ -113,9 +168,15 @@ abbrev pub quits : LineCommand → Bool
 quits nothing = false
 quits (step g choice) = false
 quits (undo n) = false
+quits (redo n) = false
+quits (roll n) = false
+quits (arrange order) = false
 quits (show word) = false
 quits records = false
 quits goals = false
+quits (why n) = false
+quits (who word) = false
+quits shelf = false
 quits quit = true
 quits unknown = false
 

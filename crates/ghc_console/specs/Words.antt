@@ -51,3 +51,14 @@ begins_variable byte = is_ascii_uppercase byte || byte == 95
 abbrev pub is_variable : List ℕ → Bool
 is_variable [] = false
 is_variable (byte ∷ bytes) = begins_variable byte && list_all is_name_byte bytes
+
+-- The numbers with one more in front, where all of them are there.
+abbrev pub in_front : Option ℕ → Option (List ℕ) → Option (List ℕ)
+in_front (Some number) (Some numbers) = Some (number ∷ numbers)
+in_front (Some number) None = None
+in_front None numbers = None
+
+-- The numbers that the words say, in their order, where each of them says one.
+abbrev pub numbers_of : List (List ℕ) → Option (List ℕ)
+numbers_of [] = Some []
+numbers_of (word ∷ words) = in_front (number_of word) (numbers_of words)

@@ -5,9 +5,14 @@ ghost use Rattle.ghc_console.specs.Firing.{Fires};
 ghost use Rattle.ghc_console.specs.Reading.{LineSays, line_limit};
 ghost use Rattle.ghc_console.specs.Replies.{IsReply, Replies, quits, refusal};
 
+use crate::arrange_reply::arrange;
+use crate::causes::{who, why};
 use crate::command::{LineCommand, parse};
 use crate::reading::Line;
+use crate::redo_reply::redo;
 use crate::reply::{goals, records, refused, show, step};
+use crate::roll_reply::roll;
+use crate::shelf_reply::shelf;
 use crate::undo_reply::undo;
 use ghc_core::Core;
 use ghc_term::{Fault, Limit};
@@ -30,9 +35,15 @@ fn execute(
         LineCommand::Nothing | LineCommand::Quit => Ok(()),
         LineCommand::Step(goal, choice) => step(alloc, core, *goal, *choice, reply),
         LineCommand::Undo(number) => undo(alloc, core, *number, reply),
+        LineCommand::Redo(number) => redo(alloc, core, *number, reply),
+        LineCommand::Roll(number) => roll(alloc, core, *number, reply),
+        LineCommand::Arrange(order) => arrange(alloc, core, order.as_slice(), reply),
         LineCommand::Show(word) => show(alloc, core, word.as_str(), reply),
         LineCommand::Records => records(core, reply),
         LineCommand::Goals => goals(alloc, core, reply),
+        LineCommand::Why(number) => why(alloc, core, *number, reply),
+        LineCommand::Who(word) => who(alloc, core, word.as_str(), reply),
+        LineCommand::Shelf => shelf(alloc, core, reply),
         LineCommand::Unknown => refused(&Fault::Command, reply),
     }
 }

@@ -1,9 +1,10 @@
 // The command of a line.
 ghost use Rattle.std.specs.Prelude.{◌≡◌, true, IfOk};
 ghost use Rattle.std.specs.List.{list_all};
-ghost use Rattle.ghc_console.specs.Words.{is_printable, is_variable, words_of};
-ghost use Rattle.ghc_console.specs.Commands.{command_of_one_word, command_of, command_of_words, command_of_two_words, command_of_three_words};
+ghost use Rattle.ghc_console.specs.Words.{is_printable, is_variable, numbers_of, words_of};
+ghost use Rattle.ghc_console.specs.Commands.{arrange_with, command_by_count, command_of, command_of_one_word, command_of_three_words, command_of_two_words, command_of_words, command_with_number, command_with_variable};
 
+use crate::order::Order;
 use crate::word::Word;
 use crate::words::{goal_name, is_variable_word, next_word, number};
 use ghc_term::GoalName;
@@ -18,12 +19,24 @@ pub enum LineCommand {
     Step(GoalName, Option<u32>),
     /// The undoing of the step of this number.
     Undo(u32),
+    /// The redoing of the step of this number.
+    Redo(u32),
+    /// The rollback of the step of this number and its consequences.
+    Roll(u32),
+    /// The arranging of the record in the order of these numbers.
+    Arrange(Order),
     /// The value of the variable that is written so.
     Show(Word),
     /// The record.
     Records,
     /// The goals with their statuses.
     Goals,
+    /// The steps on which the step of this number depends.
+    Why(u32),
+    /// The steps that bound the chain of the variable that is written so.
+    Who(Word),
+    /// The steps that were taken back.
+    Shelf,
     /// The end of the session.
     Quit,
     /// No command that is known.
@@ -40,47 +53,84 @@ fn one_word_command(first_word: &[u8]) -> LineCommand
     if first_word == b"goals".as_slice() {
         return LineCommand::Goals;
     }
+    if first_word == b"shelf".as_slice() {
+        return LineCommand::Shelf;
+    }
     if first_word == b"quit".as_slice() {
         return LineCommand::Quit;
     }
     LineCommand::Unknown
 }
 
-// The value of the variable that is written so.
-fn show_of(alloc: Global, word: &[u8]) -> Result<LineCommand, AllocError>
+// The word of a variable, which is kept.
+fn variable_word(alloc: Global, word: &[u8]) -> Result<Word, AllocError>
     requires { is_variable word.now ≡ true }
-    ensures { IfOk result (λ command. command ≡ LineCommand.Show word.now) }
+    ensures { IfOk result (λ kept. kept ≡ word.now) }
 {
     match str::from_utf8(word) {
-        Ok(text) => Ok(LineCommand::Show(Word::new(alloc, text)?)),
+        Ok(text) => Word::new(alloc, text),
         Err(_) => unreachable!(),
     }
+}
+
+// The command of a word with a number.
+fn number_command(first_word: &[u8], step: u32) -> LineCommand
+    ensures { result ≡ command_with_number first_word.now step }
+{
+    if first_word == b"undo".as_slice() {
+        return LineCommand::Undo(step);
+    }
+    if first_word == b"redo".as_slice() {
+        return LineCommand::Redo(step);
+    }
+    if first_word == b"roll".as_slice() {
+        return LineCommand::Roll(step);
+    }
+    if first_word == b"why".as_slice() {
+        return LineCommand::Why(step);
+    }
+    LineCommand::Unknown
+}
+
+// The command of a word with a variable.
+fn variable_command(
+    alloc: Global,
+    first_word: &[u8],
+    word: &[u8],
+) -> Result<LineCommand, AllocError>
+    requires { is_variable word.now ≡ true }
+    ensures { IfOk result (λ command. command ≡ command_with_variable first_word.now word.now) }
+{
+    if first_word == b"show".as_slice() {
+        return Ok(LineCommand::Show(variable_word(alloc, word)?));
+    }
+    if first_word == b"who".as_slice() {
+        return Ok(LineCommand::Who(variable_word(alloc, word)?));
+    }
+    Ok(LineCommand::Unknown)
 }
 
 // The command of a word and one more.
 fn two_word_command(
     alloc: Global,
     first_word: &[u8],
-    rest: &[u8],
+    word: &[u8],
 ) -> Result<LineCommand, AllocError>
-    ensures { IfOk result (λ command. command ≡ command_of_two_words first_word.now rest.now) }
+    ensures { IfOk result (λ command. command ≡ command_of_two_words first_word.now word.now) }
 {
     if first_word == b"step".as_slice() {
-        return match goal_name(rest) {
+        return match goal_name(word) {
             Some(goal) => Ok(LineCommand::Step(goal, None)),
             None => Ok(LineCommand::Unknown),
         };
     }
-    if first_word == b"undo".as_slice() {
-        return match number(rest) {
-            Some(step) => Ok(LineCommand::Undo(step)),
-            None => Ok(LineCommand::Unknown),
-        };
+    if is_variable_word(word) {
+        return variable_command(alloc, first_word, word);
     }
-    if first_word == b"show".as_slice() && is_variable_word(rest) {
-        return show_of(alloc, rest);
+    match number(word) {
+        Some(step) => Ok(number_command(first_word, step)),
+        None => Ok(LineCommand::Unknown),
     }
-    Ok(LineCommand::Unknown)
 }
 
 // The command of a word and two more.
@@ -96,6 +146,38 @@ fn three_word_command(first_word: &[u8], goal: &[u8], clause: &[u8]) -> LineComm
     LineCommand::Unknown
 }
 
+// The command of a word and those behind it, by how many these are.
+fn counted_command(alloc: Global, first_word: &[u8], rest: &[u8]) -> Result<LineCommand, AllocError>
+    ensures { IfOk result (λ command. command ≡ command_by_count first_word.now (words_of rest.now)) }
+{
+    let Some((second, behind)) = next_word(rest) else {
+        return Ok(one_word_command(first_word));
+    };
+    let Some((third, behind)) = next_word(behind) else {
+        return two_word_command(alloc, first_word, second);
+    };
+    match next_word(behind) {
+        None => Ok(three_word_command(first_word, second, third)),
+        Some(_) => Ok(LineCommand::Unknown),
+    }
+}
+
+// The arranging of the record in the order of the numbers that the words say, if each says one.
+fn arrange_command(alloc: Global, words: &[u8]) -> Result<LineCommand, AllocError>
+    ensures { IfOk result (λ command. command ≡ arrange_with (numbers_of (words_of words.now))) }
+{
+    let mut order = Order::new(alloc);
+    let mut rest = words;
+    while let Some((word, behind)) = next_word(rest) {
+        let Some(step) = number(word) else {
+            return Ok(LineCommand::Unknown);
+        };
+        order.push(step)?;
+        rest = behind;
+    }
+    Ok(LineCommand::Arrange(order))
+}
+
 // The command of a line of printable bytes.
 fn of_line(alloc: Global, line: &[u8]) -> Result<LineCommand, AllocError>
     ensures { IfOk result (λ command. command ≡ command_of_words (words_of line.now)) }
@@ -103,16 +185,10 @@ fn of_line(alloc: Global, line: &[u8]) -> Result<LineCommand, AllocError>
     let Some((name, behind)) = next_word(line) else {
         return Ok(LineCommand::Nothing);
     };
-    let Some((second, behind)) = next_word(behind) else {
-        return Ok(one_word_command(name));
-    };
-    let Some((third, behind)) = next_word(behind) else {
-        return two_word_command(alloc, name, second);
-    };
-    match next_word(behind) {
-        None => Ok(three_word_command(name, second, third)),
-        Some(_) => Ok(LineCommand::Unknown),
+    if name == b"arrange".as_slice() {
+        return arrange_command(alloc, behind);
     }
+    counted_command(alloc, name, behind)
 }
 
 fn is_plain(line: &[u8]) -> bool
@@ -122,7 +198,8 @@ fn is_plain(line: &[u8]) -> bool
 }
 
 /// The command that a line says; a line that says none is `Unknown`. It takes time in proportion to the
-/// line, and memory for the word of `show` alone.
+/// line, and memory for the word of `show` or `who` and for the
+/// numbers of `arrange` alone.
 pub fn parse(alloc: Global, line: &[u8]) -> Result<LineCommand, AllocError>
     ensures { IfOk result (λ command. command ≡ command_of line.now) }
 {

@@ -35,8 +35,8 @@ pub fn refused(fault: &Fault, reply: &mut String) -> Result<(), AllocError>
     reply.push_str("\n")
 }
 
-// Tells the ports of a step that is about to be taken: that it is taken, the goals that it makes, the goals that it resumes.
-fn push_ports(
+/// Tells the ports of a step that is about to be taken: that it is taken, the goals that it makes, the goals that it resumes.
+pub fn push_ports(
     disturbed: &Disturbed,
     core: &Core,
     step: &Record,
@@ -135,8 +135,8 @@ fn lines(records: &Records, reply: &mut String) -> Result<(), AllocError>
     Ok(())
 }
 
-// What is told of no goals.
-fn or_none(reply: &mut String) -> Result<(), AllocError>
+/// What is told where nothing was told.
+pub(crate) fn or_none(reply: &mut String) -> Result<(), AllocError>
     ensures none { OnOk result (string_bytes reply.old ≡ [] → string_bytes reply.new ≡ lined (codes "none")) }
     ensures some { OnOk result (string_bytes reply.old ≢ [] → string_bytes reply.new ≡ string_bytes reply.old) }
 {

@@ -1,0 +1,7 @@
+use Rattle.std.proofs.Common.{◌≡◌, ◌++◌, map, drop, string_bytes}
+use Rattle.ghc_trace.specs.ReasonText.{reason_text}
+use Rattle.ghc_console.specs.Replies.{text_lines}
+use Rattle.ghc_console.proofs.causes.reason_lines.Given as goal
+
+abbrev pub invariant-loop-reason : goal.invariant-loop-reason
+invariant-loop-reason l = string_bytes l.reply ++ text_lines (map reason_text (drop l.reason-index l.reasons)) ≡ string_bytes l.fn.reply ++ text_lines (map reason_text l.reasons)

@@ -1,0 +1,31 @@
+use Rattle.std.proofs.Common.{sym, subst, string_bytes}
+use Rattle.ghc_hooks.specs.Notes.{NotesByGoal}
+use Rattle.ghc_records.specs.Record.{Record}
+use Rattle.ghc_records.specs.Replay.{MakesGoal}
+use Rattle.ghc_depend.specs.Depend.{Binds}
+use Rattle.ghc_core.specs.Events.{stepped}
+use Rattle.ghc_core.specs.Reverses.{Redoes, puts_back as redone}
+use Rattle.ghc_trace.specs.Disturbed.{AreDisturbed}
+use Rattle.ghc_trace.specs.Ports.{ArePorts}
+use Rattle.ghc_console.specs.Replies.{Settled, tells_ports}
+use Rattle.ghc_console.proofs.StepReplies.{if_ok}
+use Rattle.ghc_console.proofs.redo_reply.put_back.Goals as goal
+
+pub make-requires-clause-disturbed : goal.make-requires-clause-disturbed
+make-requires-clause-disturbed c =
+    let d = c.in_ok-disturbed.disturbed in
+    subst (λ (r : Record). AreDisturbed c.args.core.now.notes (Binds r) (MakesGoal r) d) c.step-step.ensures
+    (subst (λ (n : NotesByGoal). AreDisturbed n (Binds c.step-step.result.now) (MakesGoal c.step-step.result.now) d) c.tries.ensures.notes c.in_ok-disturbed.ensures)
+
+pub returns-clause-text : goal.returns-clause-text
+returns-clause-text c = if_ok c.make.result c.make.ensures.changed c.make.ensures.told (λ _ same told.
+    let w = c.args.core.now.world in
+    let r = c.args.addition in
+    let v = c.make.new.core.world in
+    let text = string_bytes c.make.new.reply in
+    let ports = c.in_ok-push_ports.ensures in
+    let found = c.requires.found in (
+      stepped r.number,
+      subst (Redoes ⊥ w r.number (stepped r.number)) (sym same) (redone r found.0 found.1 found.2),
+      tells_ports found.0 (subst (λ (q : Record). ArePorts w q ports.0) c.step-step.ensures ports.1) (subst (λ front. Settled w v front text) ports.2 told),
+    ))

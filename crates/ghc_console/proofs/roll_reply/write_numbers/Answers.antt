@@ -1,0 +1,18 @@
+use Rattle.std.proofs.Common.{rules, ◌+◌, ◌++◌, map, drop, get_or, sym, ap, ◌∙◌, string_bytes}
+use Rattle.std.specs.Prelude.{codes}
+use Rattle.std.specs.Fmt.{decimal}
+use Rattle.std.proofs.lemmas.List.{drop_more}
+use Rattle.ghc_term.proofs.ListsLemmas.{is_something}
+use Rattle.ghc_records.proofs.Listing.{led, led_all, led_next}
+use Rattle.ghc_console.proofs.roll_reply.write_numbers.Goals as goal
+
+pub loop-number-preserved : goal.loop-number-preserved
+loop-number-preserved c =
+    let ns = c.args.numbers.now in
+    let i = c.loop-number.number-index in
+    let here = string_bytes c.loop-number.out in (
+      search rules,
+      led_next (codes ",") c.loop-number.mark.now (decimal (get_or ns i 0)) (map decimal (drop (i + 1) ns)) here (string_bytes c.push_str-in-loop-number.new.self) (string_bytes c.push_number.new.out) _
+          c.in_ok-push_str.ensures.bytes c.in_ok-push_number.ensures
+          (ap (λ rest. here ++ led (codes ",") c.loop-number.mark.now (map decimal rest)) (sym (drop_more ns i 0 c.loop-number-test.true)) ∙ c.loop-number.invariant.1),
+    )

@@ -1,0 +1,13 @@
+use Rattle.std.proofs.Common.{◌≡◌, ◌++◌, map, drop, string_bytes}
+use Rattle.std.specs.Prelude.{codes}
+use Rattle.std.specs.Fmt.{decimal}
+use denote.Text.{Utf8}
+use denote.Shadow.{shadow}
+use Rattle.ghc_records.proofs.Listing.{led}
+use Rattle.ghc_console.specs.Replies.{numbers_text}
+use Rattle.ghc_console.proofs.roll_reply.write_numbers.Given as goal
+
+abbrev pub invariant-loop-number : goal.invariant-loop-number
+invariant-loop-number l =
+    shadow (Utf8 l.mark)
+    × (string_bytes l.out ++ led (codes ",") l.mark (map decimal (drop l.number-index l.numbers)) ≡ string_bytes l.fn.out ++ numbers_text l.numbers)

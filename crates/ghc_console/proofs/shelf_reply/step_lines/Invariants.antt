@@ -1,0 +1,6 @@
+use Rattle.std.proofs.Common.{◌≡◌, ◌++◌, map, string_bytes}
+use Rattle.ghc_console.specs.Replies.{steps_told, text_lines}
+use Rattle.ghc_console.proofs.shelf_reply.step_lines.Given as goal
+
+abbrev pub invariant-loop-taken : goal.invariant-loop-taken
+invariant-loop-taken l = string_bytes l.reply ++ text_lines (steps_told (map (λ e. (e.0, e.1.now)) l.taken-iterator)) ≡ string_bytes l.fn.reply ++ text_lines (steps_told (map (λ e. (e.0, e.1.now)) l.ordered.entries))
