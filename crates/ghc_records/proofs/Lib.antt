@@ -15,3 +15,10 @@ pub mod BindingOrder
 pub mod Makes
 pub mod TakenBack
 pub mod InOrder
+pub mod NumberSets
+pub mod StepUsers
+pub mod VariableBinders
+pub mod Giving
+pub mod PickLemmas
+pub mod IndexOf
+pub mod TakingOut

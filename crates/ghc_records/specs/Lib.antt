@@ -2,6 +2,9 @@ pub mod Orders
 pub mod Numbers
 pub mod Record
 pub mod Replay
+pub mod Uses
+pub mod NumberSet
+pub mod UseIndex
 pub mod Journal
 pub mod Laws
 pub mod History

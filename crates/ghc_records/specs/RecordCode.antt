@@ -4,6 +4,8 @@ use Rattle.std.specs.Coded.{Coded, code_by, coded×, coded_list, coded_option, c
 use Rattle.std.specs.FinMap as finite
 use Rattle.ghc_term.specs.declared.goal_name.GoalName.{GoalName}
 use Rattle.ghc_term.specs.Goal.{Goal}
+use Rattle.ghc_term.specs.Table.{Table, table_code}
+use Rattle.ghc_term.specs.Code.{name_code}
 use Rattle.ghc_term.specs.GoalCode.{goal_code}
 use Rattle.ghc_term.specs.Store.{StoreValue, store_code}
 use Rattle.ghc_flat.specs.Clause.{Program, Query}
@@ -17,6 +19,7 @@ use Rattle.ghc_fire.specs.Effect.{Effect}
 use Rattle.ghc_fire.specs.EffectCode.{effect_code}
 use Rattle.ghc_records.specs.Record.{State, Record, Shelf}
 use Rattle.ghc_records.specs.State.{StateRoom, StateTables}
+use Rattle.ghc_records.specs.UseIndex.{UsersByStep, BindersByVariable, Index, RecordsRoom, RecordsTables}
 use Rattle.ghc_records.specs.Journal.{Step, Entry, took, undid, rolled, redid, reordered, Opening}
 
 abbrev pub state_code : Coded State
@@ -38,6 +41,27 @@ record_code =
 
 abbrev pub records_code : Coded (List Record)
 records_code = coded_list record_code
+
+abbrev pub numbers_code : Coded (List ℕ)
+numbers_code = coded_list coded_ℕ
+
+abbrev pub users_code : Coded UsersByStep
+users_code = finite.code coded_ℕ (table_code numbers_code)
+
+abbrev pub binders_code : Coded BindersByVariable
+binders_code = finite.code name_code coded_ℕ
+
+abbrev pub index_code : Coded Index
+index_code = code_by (UsersByStep × Table BindersByVariable) (coded× users_code (table_code binders_code)) (λ i. (i.users, i.binders)) (λ p. record { users = p.0; binders = p.1 }) (λ _. refl)
+
+abbrev pub records_room_code : Coded RecordsRoom
+records_room_code =
+    code_by (ℕ × (ℕ × UsersByStep)) (coded× coded_ℕ (coded× coded_ℕ users_code)) (λ r. (r.records, (r.binders, r.users)))
+    (λ p. record { records = p.0; binders = p.1.0; users = p.1.1 }) (λ _. refl)
+
+abbrev pub records_tables_code : Coded RecordsTables
+records_tables_code =
+    code_by (List Record × RecordsRoom) (coded× records_code records_room_code) (λ t. (t.held, t.room)) (λ p. record { held = p.0; room = p.1 }) (λ _. refl)
 
 abbrev pub shelf_code : Coded Shelf
 shelf_code = finite.code coded_ℕ record_code

@@ -2,11 +2,13 @@
 #![tactic(auto)]
 
 mod addition;
+mod binders;
 mod binding;
 mod entry;
 mod journal;
 mod laws;
 mod making;
+mod number_set;
 mod record;
 mod records;
 mod removal;
@@ -14,6 +16,8 @@ mod shelf;
 mod state;
 mod step;
 mod step_text;
+mod use_index;
+mod users;
 
 pub use addition::Addition;
 pub use entry::Entry;

@@ -1,39 +1,49 @@
 // The records of the kept steps, in recorded order.
-ghost use Rattle.std.specs.Prelude.{◌≡◌, ◌≢◌, ◌+◌, ◌<◌, ◌≤◌, ℕ, length, [], ◌∷◌, ◌++◌, IfSome, IfNone, IfOk, OnOk, None, is_none, slice_get};
+ghost use Rattle.std.specs.Prelude.{◌≡◌, ◌≢◌, ◌↔◌, ℕ, length, [], ◌∷◌, ◌++◌, IfSome, IfNone, IfOk, OnOk, Some, None, is_none, slice_get};
 ghost use Rattle.std.specs.FinMap as finite;
+ghost use Rattle.ghc_term.specs.declared.var_name.VarName.{VarName};
+ghost use Rattle.ghc_records.specs.Uses.{Binds};
+ghost use Rattle.ghc_records.specs.UseIndex.{StepDependsOn, StepBinds, HasRoomToKeep, IsMakerFor};
 
 use crate::record::Record;
 use crate::shelf::Shelf;
+use crate::use_index::UseIndex;
+use ghc_term::VarName;
 use indexmap::IndexMap;
 use std::alloc::{AllocError, Global};
 use std::marker::Model;
 
-/// Records in recorded order, no two of one number, each found by its number.
+/// Records in recorded order, no two of one number, each found by its number, with the steps that depend directly on each, and
+/// the step that bound each variable.
 pub struct Records {
     map: IndexMap<u32, Record>,
+    index: UseIndex,
 }
 
 impl Drop for Records {
     fn drop(self) {
-        let Records { map: _map } = self;
+        let Records {
+            map: _map,
+            index: _index,
+        } = self;
     }
 }
 
 impl Model for Records {
-    ghost use Rattle.std.specs.Prelude.{◌≡◌, List};
+    ghost use Rattle.std.specs.Prelude.{◌≡◌};
     ghost use Rattle.std.specs.Map.{keys_of, values_of};
     ghost use Rattle.indexmap.specs.IndexMap.{spare};
-    ghost use Rattle.ghc_term.specs.Table.{Table, table_code};
-    ghost use Rattle.ghc_records.specs.Record.{Record, numbers};
-    ghost use Rattle.ghc_records.specs.RecordCode.{records_code};
+    ghost use Rattle.ghc_records.specs.Record.{numbers};
+    ghost use Rattle.ghc_records.specs.UseIndex.{RecordsTables, IsIndexOf};
+    ghost use Rattle.ghc_records.specs.RecordCode.{records_tables_code};
 
-    ghost Value = { Table (List Record) };
+    ghost Value = { RecordsTables };
 
-    ghost coded = { table_code records_code };
+    ghost coded = { records_tables_code };
 
-    ghost view = { λ r. record { held = values_of r.map.entries; room = spare r.map } };
+    ghost view = { λ r. record { held = values_of r.map.entries; room = record { records = spare r.map; binders = r.index.binders.room; users = r.index.users } } };
 
-    ghost invariant = { λ r. keys_of r.map.entries ≡ numbers (values_of r.map.entries) };
+    ghost invariant = { λ r. (keys_of r.map.entries ≡ numbers (values_of r.map.entries)) × IsIndexOf (values_of r.map.entries) r.index.users r.index.binders.held };
 }
 
 impl Records {
@@ -48,6 +58,7 @@ impl Records {
     {
         Records {
             map: IndexMap::new(alloc),
+            index: UseIndex::new(alloc),
         }
     }
 
@@ -86,45 +97,82 @@ impl Records {
     }
 
     /// The records of these numbers in this order, shared with these. It fails for want of memory alone, and goes once over the
-    /// order, with two look-ups for each number.
+    /// order, with some look-ups for each number, and for each variable that its step read or bound.
     pub fn in_order(&self, alloc: Global, order: &[u32]) -> Result<Records, AllocError>
         requires kept { (n : ℕ) → In n order.now → In n (numbers self.now.held) }
         requires distinct { AreDistinct order.now }
         ensures numbers { IfOk result (λ new. numbers new.held ≡ order.now) }
         ensures kept { IfOk result (λ new. (r : Record) → In r new.held → In r self.now.held) }
     {
+        let _count = self.map.len();
         let mut new = Records::new(alloc);
-        new.reserve(order.len())?;
         for number in order {
-            match self.get(*number).unwrap().share() {
-                Ok(record) => new.put(record),
-                Err(error) => return Err(error),
-            }
+            let step = self.get(*number).unwrap().share()?;
+            new.reserve_for(&step)?;
+            new.put(step);
         }
         Ok(new)
     }
 
-    /// Makes room for as many more records. The records stay, and so does the room where memory is refused.
-    pub fn reserve(&mut self, count: usize) -> Result<(), AllocError>
+    /// The numbers of the steps that depend directly on the step of this number, in no order that is promised: one look-up.
+    pub fn users_of(&self, number: u32) -> &[u32]
+        ensures { (n : ℕ) → In n result.now ↔ StepDependsOn self.now.held n number }
+    {
+        self.index.users_of(number)
+    }
+
+    /// The number of the step that bound the variable, if one did: one look-up.
+    pub fn binder_of(&self, x: VarName) -> Option<u32>
+        ensures { (n : ℕ) → (result ≡ Some n) ↔ StepBinds self.now.held n x }
+    {
+        self.index.binder_of(x)
+    }
+
+    // The number of the step that made the goal that the step consumed, if it consumed one that a step of the record made: one
+    // look-up.
+    fn maker_for(&self, step: &Record) -> Option<u32>
+        ensures { (m : ℕ) → (result ≡ Some m) ↔ IsMakerFor self.now.held step.now m }
+    {
+        let _count = self.len();
+        let Some(name) = step.goal() else {
+            return None;
+        };
+        let Some(maker) = self.get(name.step) else {
+            return None;
+        };
+        if name.place == 0 || name.place > maker.effect().made() {
+            return None;
+        }
+        Some(name.step)
+    }
+
+    /// Makes room to put this step, at the cost of some look-ups for each variable that it read. The records stay, and so does
+    /// the room for any step, where memory is refused too.
+    pub fn reserve_for(&mut self, step: &Record) -> Result<(), AllocError>
         ensures held { self.new.held ≡ self.old.held }
-        ensures room { OnOk result (count ≤ self.new.room) }
-        ensures kept { self.old.room ≤ self.new.room }
+        ensures room { OnOk result (HasRoomToKeep self.new.held self.new.room step.now) }
+        ensures kept { (r : Record) → HasRoomToKeep self.old.held self.old.room r → HasRoomToKeep self.new.held self.new.room r }
     {
-        self.map.reserve(count)
+        let maker = self.maker_for(step);
+        self.index.reserve(maker, step.effect())?;
+        self.map.reserve(1)
     }
 
-    /// Puts a record at the end, whose number no other has, where there is room.
-    pub fn put(&mut self, record: Record)
-        requires room { 0 < self.old.room }
-        requires new { (r : Record) → In r self.old.held → r.number ≢ record.number }
-        ensures held { self.new.held ≡ self.old.held ++ «record» ∷ [] }
-        ensures room { self.old.room ≤ self.new.room + 1 }
+    /// Puts a step at the end, whose number no other has, and which binds no variable that another bound, where there is room:
+    /// some look-ups for each variable that it read, and one for each that it bound.
+    pub fn put(&mut self, step: Record)
+        requires room { HasRoomToKeep self.old.held self.old.room step }
+        requires new { (r : Record) → In r self.old.held → r.number ≢ step.number }
+        requires unbound { (r : Record) (x : VarName) → In r self.old.held → Binds r x → ¬ Binds step x }
+        ensures { self.new.held ≡ self.old.held ++ step ∷ [] }
     {
-        self.map.insert(record.number(), record).unwrap();
+        let maker = self.maker_for(&step);
+        self.index.put(maker, &step);
+        self.map.insert(step.number(), step).unwrap();
     }
 
-    /// Takes the record of the step of this number away and gives it, if there was one; the others keep their order. It moves
-    /// each record behind it.
+    /// Takes the record of the step of this number away and gives it, if there was one; the others keep their order. It costs
+    /// some look-ups for each variable that the step read or bound, and moves each record behind it.
     pub fn remove(&mut self, number: u32) -> Option<Record>
         ensures found { IfSome result (λ r. In r self.old.held × (r.number ≡ number)) }
         ensures rest { (r : Record) → In r self.old.held → r.number ≡ number → Picks (λ s. ¬ (s ≡ r)) self.old.held self.new.held }
@@ -132,14 +180,20 @@ impl Records {
         ensures none_left { IfNone result (self.new.held ≡ self.old.held) }
     {
         let _count = self.len();
-        self.map.shift_remove(&number)
+        let Some(removed) = self.map.shift_remove(&number) else {
+            return None;
+        };
+        self.index.remove(&removed);
+        Some(removed)
     }
 
     /// Takes the records away whose numbers are on the shelf; the others keep their order. It takes no memory, cannot fail, and
-    /// goes once over the records, with a look-up for each.
+    /// goes twice over the records, with a look-up for each, and some look-ups for each variable that one that goes read or bound.
     pub fn remove_shelved(&mut self, shelf: &Shelf)
         ensures { Picks (λ r. finite.get shelf.now.held r.number ≡ None) self.old.held self.new.held }
     {
+        let _count = self.len();
+        self.index.remove_shelved(&self.map, shelf);
         self.map.retain(|number: &u32, _: &mut Record| shelf.get(*number).is_none());
     }
 }

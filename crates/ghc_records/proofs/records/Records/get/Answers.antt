@@ -16,9 +16,9 @@ if_none (Some r) P f = tt
 
 pub returns-clause-found : goal.returns-clause-found
 returns-clause-found c = if_some c.get.result (λ r. In r c.args.self.now.held × (r.number ≡ c.args.number)) (λ r e.
-    let f = found c.args.number r c.self.inside.map.entries c.self.invariant (sym c.get.ensures.value ∙ e) in
+    let f = found c.args.number r c.self.inside.map.entries c.self.invariant.0 (sym c.get.ensures.value ∙ e) in
     (subst (In r) (ap (λ t. t.held) c.self.view_is) f.0, f.1))
 
 pub returns-clause-none : goal.returns-clause-none
 returns-clause-none c = if_none c.get.result ((r : Record) → In r c.args.self.now.held → r.number ≢ c.args.number) (λ e r i.
-    not_found c.args.number c.self.inside.map.entries c.self.invariant (sym c.get.ensures.value ∙ e) r (subst (In r) (sym (ap (λ t. t.held) c.self.view_is)) i))
+    not_found c.args.number c.self.inside.map.entries c.self.invariant.0 (sym c.get.ensures.value ∙ e) r (subst (In r) (sym (ap (λ t. t.held) c.self.view_is)) i))

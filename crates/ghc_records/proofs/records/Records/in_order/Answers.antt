@@ -1,11 +1,14 @@
-use Rattle.std.proofs.Common.{◌≡◌, ◌≢◌, ℕ, List, get_or, sym, ap, ◌∙◌, subst, arith}
+use Rattle.std.proofs.Common.{◌≡◌, ◌≢◌, ℕ, List, ◌∷◌, ◌++◌, [], get_or, sym, ap, ◌∙◌, subst}
 use Rattle.std.specs.Prelude.{Option, Some, None, IfSome, IfNone, IsSome, true}
 use Rattle.std.specs.Borrow.{Bor}
+use Rattle.std.specs.Map.{values_of}
 use Rattle.ghc_term.specs.Lists.{In}
 use Rattle.ghc_term.proofs.ListsLemmas.{in_get}
 use Rattle.ghc_term.proofs.MapsLemmas.{at_some}
 use Rattle.ghc_records.specs.Record.{Record, numbers}
+use Rattle.ghc_records.specs.UseIndex.{RecordsTables}
 use Rattle.ghc_records.proofs.OrderLemmas.{number_of}
+use Rattle.ghc_records.proofs.IndexOf.{bound_once}
 use Rattle.ghc_records.proofs.InOrder.{one_more, is_new, still_of}
 use Rattle.ghc_records.proofs.records.Records.in_order.Goals as goal
 
@@ -24,21 +27,34 @@ unwrap-requires c =
     some_found c.get.result c.args.self.now.held (get_or order i 0) (c.requires.kept (get_or order i 0) (in_get order i 0 c.loop-number-test.true)) c.get.ensures.none
 
 pub put-requires-clause-new : goal.put-requires-clause-new
-put-requires-clause-new c =
+put-requires-clause-new c r j =
     let order = c.args.order.now in
     let i = c.loop-number.number-index in
-    let own = shared c.get.result c.unwrap.result c.args.self.now.held (get_or order i 0) c.in-Ok.record c.unwrap.ensures c.get.ensures.found c.in-Ok.ensures in
-    is_new order i c.loop-number.new.held c.in-Ok.record c.loop-number-test.true c.loop-number.invariant.numbered own.1 c.requires.distinct
+    let mine = shared c.get.result c.unwrap.result c.args.self.now.held (get_or order i 0) c.in_ok-step.step c.unwrap.ensures c.get.ensures.found c.in_ok-step.ensures in
+    is_new order i c.loop-number.new.held c.in_ok-step.step c.loop-number-test.true c.loop-number.invariant.numbered mine.1 c.requires.distinct r (subst (In r) c.reserve_for.ensures.held j)
+
+pub put-requires-clause-unbound : goal.put-requires-clause-unbound
+put-requires-clause-unbound c r x j p q =
+    let order = c.args.order.now in
+    let i = c.loop-number.number-index in
+    let step = c.in_ok-step.step in
+    let mine = shared c.get.result c.unwrap.result c.args.self.now.held (get_or order i 0) step c.unwrap.ensures c.get.ensures.found c.in_ok-step.ensures in
+    let before = subst (In r) c.reserve_for.ensures.held j in
+    let same = sym (ap (λ (t : RecordsTables). t.held) c.self.view_is) in
+    let first = subst (In r) same (c.loop-number.invariant.kept r before) in
+    let second = subst (In step) same mine.0 in
+    let one = bound_once (values_of c.self.inside.map.entries) c.self.inside.index.users c.self.inside.index.binders.held c.self.invariant.1 r step x first second p q in
+    is_new order i c.loop-number.new.held step c.loop-number-test.true c.loop-number.invariant.numbered mine.1 c.requires.distinct r before one
 
 pub loop-number-preserved : goal.loop-number-preserved
 loop-number-preserved c =
     let order = c.args.order.now in
     let i = c.loop-number.number-index in
     let rs = c.loop-number.new.held in
-    let r = c.in-Ok.record in
-    let own = shared c.get.result c.unwrap.result c.args.self.now.held (get_or order i 0) r c.unwrap.ensures c.get.ensures.found c.in-Ok.ensures in
+    let r = c.in_ok-step.step in
+    let mine = shared c.get.result c.unwrap.result c.args.self.now.held (get_or order i 0) r c.unwrap.ensures c.get.ensures.found c.in_ok-step.ensures in
+    let now = c.put.ensures ∙ ap (λ l. l ++ r ∷ []) c.reserve_for.ensures.held in
     record {
-      numbered = ap numbers c.put.ensures.held ∙ one_more order i rs r c.loop-number-test.true c.loop-number.invariant.numbered own.1;
-      kept = subst (λ l. (s : Record) → In s l → In s c.args.self.now.held) (sym c.put.ensures.held) (still_of c.args.self.now.held rs r c.loop-number.invariant.kept own.0);
-      room = omega (arith, c.put.ensures.room, c.loop-number.invariant.room);
+      numbered = ap numbers now ∙ one_more order i rs r c.loop-number-test.true c.loop-number.invariant.numbered mine.1;
+      kept = subst (λ l. (s : Record) → In s l → In s c.args.self.now.held) (sym now) (still_of c.args.self.now.held rs r c.loop-number.invariant.kept mine.0);
     }

@@ -1,4 +1,4 @@
-use Rattle.std.proofs.Common.{◌≡◌, ◌+◌, ◌≤◌, length, take}
+use Rattle.std.proofs.Common.{◌≡◌, take}
 use Rattle.ghc_term.specs.Lists.{In}
 use Rattle.ghc_records.specs.Record.{Record, numbers}
 use Rattle.ghc_records.proofs.records.Records.in_order.Given as goal
@@ -7,5 +7,4 @@ abbrev pub invariant-loop-number : goal.invariant-loop-number
 invariant-loop-number l = record {
   numbered : numbers l.new.held ≡ take l.number-index l.order;
   kept : (r : Record) → In r l.new.held → In r l.self.held;
-  room : length l.order ≤ l.new.room + l.number-index;
 }

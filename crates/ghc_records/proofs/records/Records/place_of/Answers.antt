@@ -26,7 +26,7 @@ no_place (Some p) es rs n h e s = tt
 
 pub returns-clause-found : goal.returns-clause-found
 returns-clause-found c =
-    at_place c.get_index_of.result c.self.inside.map.entries c.args.self.now.held c.args.number c.self.invariant (ap (λ t. t.held) c.self.view_is) c.get_index_of.ensures.found c.get_index_of.ensures.value
+    at_place c.get_index_of.result c.self.inside.map.entries c.args.self.now.held c.args.number c.self.invariant.0 (ap (λ t. t.held) c.self.view_is) c.get_index_of.ensures.found c.get_index_of.ensures.value
 
 pub returns-clause-none : goal.returns-clause-none
-returns-clause-none c = no_place c.get_index_of.result c.self.inside.map.entries c.args.self.now.held c.args.number c.self.invariant (ap (λ t. t.held) c.self.view_is) c.get_index_of.ensures.found
+returns-clause-none c = no_place c.get_index_of.result c.self.inside.map.entries c.args.self.now.held c.args.number c.self.invariant.0 (ap (λ t. t.held) c.self.view_is) c.get_index_of.ensures.found

@@ -1,0 +1,195 @@
+-- The index of a record, with one step more or less.
+use Rattle.std.proofs.Common.{◌≡◌, ◌≢◌, ℕ, Bool, true, false, cond, List, [], ◌∷◌, ◌++◌, refl, sym, ap, ◌∙◌, subst, inl, inr, ◌⊎◌}
+use Rattle.std.specs.Prelude.{◌↔◌, Option, Some, None, is_some}
+use Rattle.std.specs.Ordering.{nat_cmp}
+use Rattle.std.specs.FinMap as finite
+use Rattle.ghc_term.specs.declared.var_name.VarName.{VarName}
+use Rattle.ghc_term.specs.Lists.{In}
+use Rattle.ghc_term.specs.Bindings.{name_cmp}
+use Rattle.ghc_term.specs.Store.{value_at}
+use Rattle.ghc_term.proofs.ListsLemmas.{in_left, in_last, in_more}
+use Rattle.ghc_records.specs.Orders.{Picks, AreDistinct}
+use Rattle.ghc_records.specs.Record.{Record, numbers}
+use Rattle.ghc_term.specs.declared.goal_name.GoalName.{GoalName}
+use Rattle.ghc_records.specs.Uses.{MakesGoal, Binds, Uses}
+use Rattle.ghc_records.specs.UseIndex.{UsersByStep, BindersByVariable, numbers_in, users_at, IsUser, CanTake, Gave, step_named, StepDependsOn, StepBinds, IsIndexOf, IsMakerFor}
+use Rattle.ghc_records.proofs.OrderLemmas.{is_before, before_is, before_in, record_once, records_distinct}
+use Rattle.ghc_records.proofs.PickLemmas.{before_left, before_across, before_last, picks_in, picks_has, picks_order, picks_keep}
+
+some_is : {k m : ℕ} → Some k ≡ Some m → k ≡ m
+some_is e = cc
+
+not_none : {k : ℕ} → ¬ (None ≡ Some k)
+not_none {k} e = let clash : None ≡ Some k = e in cc
+
+-- a value is there or it is not
+case_of : (b : Bool) → (b ≡ true) ⊎ (b ≡ false)
+case_of true = inl refl
+case_of false = inr refl
+
+clash : {b : Bool} → b ≡ false → b ≡ true → ⊥
+clash {b} f t = let never : true ≡ false = sym t ∙ f in cc
+
+-- what gave something to a step that is put behind the others is what the step uses
+module _ (rs : List Record) (users : UsersByStep) (binders : BindersByVariable) (is : IsIndexOf rs users binders) (r : Record) (maker : Option ℕ)
+    (made : (m : ℕ) → (maker ≡ Some m) ↔ IsMakerFor rs r m) where
+  pub gave_is : (m : ℕ) → Gave binders maker r.effect.reads m ↔ ((a : Record) × In a rs × (a.number ≡ m) × Uses r a)
+  gave_is m = (
+    λ g. elim g [
+      | inl e ↦ let a = (made m).0 e in (a.0, a.1, a.2, inl a.3)
+      | inr b ↦ let a = (is.bound b.0 m).0 b.2 in (a.0, a.1, a.2, inr (b.0, (b.1, a.3)))
+    ],
+    λ a. elim a.3 [
+      | inl c ↦ inl ((made m).1 (a.0, a.1, a.2, c))
+      | inr x ↦ inr (x.0, x.1.0, (is.bound x.0 m).1 (a.0, a.1, a.2, x.1.1))
+    ],
+  )
+
+  pub room_given : ((a : Record) → In a rs → Uses r a → CanTake users a.number r.number) → (m : ℕ) → Gave binders maker r.effect.reads m → CanTake users m r.number
+  room_given h m g = let a = (gave_is m).0 g in subst (λ n. CanTake users n r.number) a.2 (h a.0 a.1 a.3)
+
+  module _ (users' : UsersByStep) (binders' : BindersByVariable)
+      (put : (m n : ℕ) → IsUser users' m n ↔ (IsUser users m n ⊎ (Gave binders maker r.effect.reads m × (n ≡ r.number))))
+      (bound : (x : VarName) → finite.get binders' x ≡ cond (is_some (value_at r.effect.binds x)) (Some r.number) (finite.get binders x))
+      (fresh : (a : Record) (x : VarName) → In a rs → Binds a x → ¬ Binds r x) where
+    used_put : (m n : ℕ) → IsUser users' m n ↔ StepDependsOn (rs ++ r ∷ []) n m
+    used_put m n = (
+      λ i. elim ((put m n).0 i) [
+        | inl o ↦
+            let d = (is.used m n).0 o in
+            (d.0, d.1, d.2, d.3, (before_is (rs ++ r ∷ []) d.0 d.1 (before_left rs (r ∷ []) d.0 d.1 (is_before rs d.0 d.1 d.4.0)), d.4.1))
+        | inr g ↦
+            let a = (gave_is m).0 g.0 in
+            (a.0, r, a.2, sym g.1, (before_is (rs ++ r ∷ []) a.0 r (before_across rs (r ∷ []) a.0 r a.1 (inl refl)), a.3))
+      ],
+      λ d. (put m n).1 (elim (before_last rs r d.0 d.1 (is_before (rs ++ r ∷ []) d.0 d.1 d.4.0)) [
+        | inl before ↦ inl ((is.used m n).1 (d.0, d.1, d.2, d.3, (before_is rs d.0 d.1 before, d.4.1)))
+        | inr last ↦ inr ((gave_is m).1 (d.0, last.0, d.2, subst (λ z. Uses z d.0) last.1 d.4.1), sym d.3 ∙ ap (λ z. z.number) last.1)
+      ]),
+    )
+
+    bound_put : (x : VarName) (n : ℕ) → (finite.get binders' x ≡ Some n) ↔ StepBinds (rs ++ r ∷ []) n x
+    bound_put x n = elim (case_of (is_some (value_at r.effect.binds x))) [
+      | inl here ↦
+          let now : finite.get binders' x ≡ Some r.number = bound x ∙ ap (λ b. cond b (Some r.number) (finite.get binders x)) here in (
+            λ e. (r, in_last rs r, some_is (sym now ∙ e), here),
+            λ s. elim (in_more rs r s.0 s.1) [
+              | inl i ↦ absurd (fresh s.0 x i s.3 here)
+              | inr same ↦ now ∙ ap Some (ap (λ z. z.number) (sym same) ∙ s.2)
+            ],
+          )
+      | inr other ↦
+          let now : finite.get binders' x ≡ finite.get binders x = bound x ∙ ap (λ b. cond b (Some r.number) (finite.get binders x)) other in (
+            λ e. let s = (is.bound x n).0 (sym now ∙ e) in (s.0, in_left rs (r ∷ []) s.0 s.1, s.2, s.3),
+            λ s. elim (in_more rs r s.0 s.1) [
+              | inl i ↦ now ∙ (is.bound x n).1 (s.0, i, s.2, s.3)
+              | inr same ↦ absurd (clash other (subst (λ z. Binds z x) same s.3))
+            ],
+          )
+    ]
+
+    pub index_put : IsIndexOf (rs ++ r ∷ []) users' binders'
+    index_put = record { used = used_put; bound = bound_put }
+
+-- a step is taken out
+module _ (rs left : List Record) (users : UsersByStep) (binders : BindersByVariable) (is : IsIndexOf rs users binders) (r : Record) (there : In r rs) (distinct : AreDistinct (numbers rs))
+    (rest : Picks (λ s. ¬ (s ≡ r)) rs left) (users' : UsersByStep) (binders' : BindersByVariable)
+    (taken : (m n : ℕ) → IsUser users' m n ↔ ((IsUser users m n × ¬ (Gave binders (step_named r.goal) r.effect.reads m × (n ≡ r.number))) × (m ≢ r.number)))
+    (unbound : (x : VarName) → finite.get binders' x ≡ cond (is_some (value_at r.effect.binds x)) None (finite.get binders x)) where
+  once : (a : Record) → In a rs → a.number ≡ r.number → a ≡ r
+  once a i e = record_once rs a r distinct i there e
+
+  still : (a : Record) → In a rs → ¬ (a ≡ r) → In a left
+  still a i other = elim (picks_has rs left a rest i) [ inl j ↦ j | inr never ↦ absurd (never other) ]
+
+  -- what the step used gave it something
+  gave_to : (a : Record) (m : ℕ) → In a rs → a.number ≡ m → Uses r a → Gave binders (step_named r.goal) r.effect.reads m
+  gave_to a m i e (inl c) = inl (ap step_named c.1 ∙ ap Some (c.2.0 ∙ e))
+  gave_to a m i e (inr x) = inr (x.0, x.1.0, (is.bound x.0 m).1 (a, i, e, x.1.1))
+
+  used_taken : (m n : ℕ) → IsUser users' m n ↔ StepDependsOn left n m
+  used_taken m n = (
+    λ i.
+        let t = (taken m n).0 i in
+        let d = (is.used m n).0 t.0.0 in
+        let before = is_before rs d.0 d.1 d.4.0 in
+        let both = before_in rs d.0 d.1 before in
+        let first : ¬ (d.0 ≡ r) = λ same. t.1 (sym d.2 ∙ ap (λ z. z.number) same) in
+        let second : ¬ (d.1 ≡ r) = λ same. t.0.1 (gave_to d.0 m both.0 d.2 (subst (λ z. Uses z d.0) same d.4.1), sym d.3 ∙ ap (λ z. z.number) same) in
+        (d.0, d.1, d.2, d.3, (before_is left d.0 d.1 (picks_keep rs left d.0 d.1 (records_distinct rs distinct) rest (still d.0 both.0 first) (still d.1 both.1 second) before), d.4.1)),
+    λ d.
+        let before = is_before left d.0 d.1 d.4.0 in
+        let both = before_in left d.0 d.1 before in
+        let first = picks_in rs left d.0 rest both.0 in
+        let second = picks_in rs left d.1 rest both.1 in
+        (taken m n).1 (
+          ((is.used m n).1 (d.0, d.1, d.2, d.3, (before_is rs d.0 d.1 (picks_order rs left d.0 d.1 rest before), d.4.1)), λ g. second.1 (once d.1 second.0 (d.3 ∙ g.1))),
+          λ e. first.1 (once d.0 first.0 (d.2 ∙ e)),
+        ),
+  )
+
+  bound_taken : (x : VarName) (n : ℕ) → (finite.get binders' x ≡ Some n) ↔ StepBinds left n x
+  bound_taken x n = elim (case_of (is_some (value_at r.effect.binds x))) [
+    | inl here ↦
+        let now : finite.get binders' x ≡ None = unbound x ∙ ap (λ b. cond b None (finite.get binders x)) here in (
+          λ e. absurd (not_none (sym now ∙ e)),
+          λ s.
+              let i = picks_in rs left s.0 rest s.1 in
+              let mine = (is.bound x r.number).1 (r, there, refl, here) in
+              let its = (is.bound x n).1 (s.0, i.0, s.2, s.3) in
+              absurd (i.1 (once s.0 i.0 (s.2 ∙ some_is (sym its ∙ mine)))),
+        )
+    | inr other ↦
+        let now : finite.get binders' x ≡ finite.get binders x = unbound x ∙ ap (λ b. cond b None (finite.get binders x)) other in (
+          λ e. let s = (is.bound x n).0 (sym now ∙ e) in (s.0, still s.0 s.1 (λ same. clash other (subst (λ z. Binds z x) same s.3)), s.2, s.3),
+          λ s. let i = picks_in rs left s.0 rest s.1 in now ∙ (is.bound x n).1 (s.0, i.0, s.2, s.3),
+        )
+  ]
+
+  pub index_taken : IsIndexOf left users' binders'
+  index_taken = record { used = used_taken; bound = bound_taken }
+
+-- two steps that bound one variable are one step, by its number
+pub bound_once : (rs : List Record) (users : UsersByStep) (binders : BindersByVariable) → IsIndexOf rs users binders → (a b : Record) (x : VarName) → In a rs → In b rs → Binds a x → Binds b x → a.number ≡ b.number
+bound_once rs users binders is a b x i j p q = some_is (sym ((is.bound x a.number).1 (a, i, refl, p)) ∙ (is.bound x b.number).1 (b, j, refl, q))
+
+-- no steps
+pub index_none : (users : UsersByStep) (binders : BindersByVariable) → users ≡ finite.empty → binders ≡ finite.empty → IsIndexOf [] users binders
+index_none users binders e f =
+    let nobody : (m : ℕ) → finite.get users m ≡ None = λ m. ap (λ z. finite.get z m) e ∙ finite.get-empty nat_cmp m in
+    let nothing : (x : VarName) → finite.get binders x ≡ None = λ x. ap (λ z. finite.get z x) f ∙ finite.get-empty name_cmp x in record {
+      used = λ m n. (λ i. absurd (subst (λ o. In n (numbers_in o)) (nobody m) i), λ d. absurd (is_before [] d.0 d.1 d.4.0));
+      bound = λ x n. (λ q. absurd (not_none (sym (nothing x) ∙ q)), λ s. absurd s.1);
+    }
+
+-- the index of a record is that of one that is the same, and the users of a step are the same where they are listed anew
+pub index_same : (rs : List Record) (users users' : UsersByStep) (binders binders' : BindersByVariable) → IsIndexOf rs users binders → ((m : ℕ) → users_at users' m ≡ users_at users m) → binders' ≡ binders → IsIndexOf rs users' binders'
+index_same rs users users' binders binders' is same alike = record {
+  used = λ m n. subst (λ l. In n l ↔ StepDependsOn rs n m) (sym (same m)) (is.used m n);
+  bound = λ x n. subst (λ z. (finite.get z x ≡ Some n) ↔ StepBinds rs n x) (sym alike) (is.bound x n);
+}
+
+-- the maker of the goal that a step consumed
+same_goal : {g h : GoalName} → Some g ≡ Some h → g ≡ h
+same_goal e = cc
+
+pub consumes_none : (rs : List Record) (r : Record) → r.goal ≡ None → (m : ℕ) → (None ≡ Some m) ↔ IsMakerFor rs r m
+consumes_none rs r e m = (λ q. absurd (not_none q), λ a. let never : None ≡ Some a.3.0 = sym e ∙ a.3.1 in cc)
+
+pub none_made : (rs : List Record) (r : Record) (name : GoalName) → r.goal ≡ Some name → ((a : Record) → In a rs → a.number ≡ name.step → ¬ MakesGoal a name) → (m : ℕ) → (None ≡ Some m) ↔ IsMakerFor rs r m
+none_made rs r name e h m = (
+  λ q. absurd (not_none q),
+  λ a.
+      let makes = subst (MakesGoal a.0) (same_goal (sym a.3.1 ∙ e)) a.3.2 in
+      absurd (h a.0 a.1 (sym makes.0) makes),
+)
+
+pub one_made : (rs : List Record) (r maker : Record) (name : GoalName) → r.goal ≡ Some name → In maker rs → MakesGoal maker name → (m : ℕ) → (Some name.step ≡ Some m) ↔ IsMakerFor rs r m
+one_made rs r maker name e i makes m = (
+  λ q. (maker, i, sym makes.0 ∙ some_is q, (name, e, makes)),
+  λ a. ap Some ((subst (MakesGoal a.0) (same_goal (sym a.3.1 ∙ e)) a.3.2).0 ∙ a.2),
+)
+
+-- the one record of the number did not make the goal
+pub not_by_it : (rs : List Record) (maker : Record) (name : GoalName) → AreDistinct (numbers rs) → In maker rs → maker.number ≡ name.step → ¬ MakesGoal maker name → (a : Record) → In a rs → a.number ≡ name.step → ¬ MakesGoal a name
+not_by_it rs maker name d i e not a j f makes = not (subst (λ z. MakesGoal z name) (record_once rs a maker d j i (f ∙ sym e)) makes)

@@ -1,0 +1,144 @@
+-- Numbers in a list or in a table of keys.
+use Rattle.std.proofs.Common.{◌≡◌, ◌≢◌, ℕ, Bool, true, false, cond, ◌||◌, List, [], ◌∷◌, refl, sym, ap, ◌∙◌, subst, inl, inr, ◌⊎◌, ◌<◌, nat_eq, not, ◌++◌}
+use Rattle.std.specs.Prelude.{◌↔◌, Result, Ok, Err, IsOk, OnErr}
+use Rattle.std.specs.List.{list_any}
+use Rattle.std.proofs.lemmas.Bool.{eqb-true, eq-eqb}
+use Rattle.std.specs.List.{filter}
+use Rattle.indexmap.specs.IndexSet.{insert_key}
+use Rattle.ghc_term.specs.Lists.{In}
+use Rattle.ghc_term.proofs.ListsLemmas.{in_left, in_right, in_either}
+use Rattle.ghc_records.specs.Orders.{AreDistinct}
+
+-- numbers are one or they are not
+pub one_or_not : (n k : ℕ) → (n ≡ k) ⊎ (n ≢ k)
+one_or_not n k = elim (nat_eq n k) as (λ b. nat_eq n k ≡ b → (n ≡ k) ⊎ (n ≢ k)) [
+  | true ↦ λ p. inl (eqb-true n k p)
+  | false ↦ λ p. inr (λ e. let clash : true ≡ false = sym (eq-eqb n k e) ∙ p in cc)
+] refl
+
+turned : (k n : ℕ) → nat_eq k n ≡ nat_eq n k
+turned k n = elim (nat_eq k n) as (λ b. nat_eq k n ≡ b → b ≡ nat_eq n k) [
+  | true ↦ λ e. sym (eq-eqb n k (sym (eqb-true k n e)))
+  | false ↦ λ e. elim (nat_eq n k) as (λ b. nat_eq n k ≡ b → false ≡ b) [
+    | true ↦ λ f. sym e ∙ eq-eqb k n (sym (eqb-true n k f))
+    | false ↦ λ f. refl
+  ] refl
+] refl
+
+or_true : (b : Bool) → (b || true) ≡ true
+or_true true = refl
+or_true false = refl
+
+-- a test that finds a number, and the number in the list
+pub number_any : (n : ℕ) (ks : List ℕ) → list_any (nat_eq n) ks ≡ true → In n ks
+number_any n [] e = cc
+number_any n (k ∷ ks) e = elim (nat_eq n k) as (λ b. nat_eq n k ≡ b → (b || list_any (nat_eq n) ks) ≡ true → In n (k ∷ ks)) [
+  | true ↦ λ p q. inl (eqb-true n k p)
+  | false ↦ λ p q. inr (number_any n ks q)
+] refl e
+
+pub any_number : (n : ℕ) (ks : List ℕ) → In n ks → list_any (nat_eq n) ks ≡ true
+any_number n [] i = absurd i
+any_number n (k ∷ ks) (inl e) = ap (λ b. b || list_any (nat_eq n) ks) (eq-eqb n k e)
+any_number n (k ∷ ks) (inr i) = ap (λ b. nat_eq n k || b) (any_number n ks i) ∙ or_true (nat_eq n k)
+
+-- a table with one number more or less
+module _ (ks new : List ℕ) (k : ℕ) where
+  same_case : (b c : Bool) (n : ℕ) → n ≡ k → list_any (nat_eq n) new ≡ cond (nat_eq k n) b c → list_any (nat_eq n) new ≡ b
+  same_case b c n e h = h ∙ ap (λ t. cond t b c) (eq-eqb k n (sym e))
+
+  other_case : (b : Bool) (n : ℕ) → n ≢ k → list_any (nat_eq n) new ≡ cond (nat_eq k n) b (list_any (nat_eq n) ks) → list_any (nat_eq n) new ≡ list_any (nat_eq n) ks
+  other_case b n other h = elim (nat_eq k n) as (λ t. nat_eq k n ≡ t → list_any (nat_eq n) new ≡ cond t b (list_any (nat_eq n) ks) → list_any (nat_eq n) new ≡ list_any (nat_eq n) ks) [
+    | true ↦ λ p q. absurd (other (sym (eqb-true k n p)))
+    | false ↦ λ p q. q
+  ] refl h
+
+  pub number_put : ((n : ℕ) → list_any (nat_eq n) new ≡ cond (nat_eq k n) true (list_any (nat_eq n) ks)) → (n : ℕ) → In n new ↔ (In n ks ⊎ (n ≡ k))
+  number_put h n = elim (one_or_not n k) [
+    | inl e ↦ (λ i. inr e, λ d. number_any n new (same_case true (list_any (nat_eq n) ks) n e (h n)))
+    | inr other ↦
+        let is = other_case true n other (h n) in (
+          λ i. inl (number_any n ks (sym is ∙ any_number n new i)),
+          λ d. elim d [ inl i ↦ number_any n new (is ∙ any_number n ks i) | inr e ↦ absurd (other e) ],
+        )
+  ]
+
+  pub number_taken : ((n : ℕ) → list_any (nat_eq n) new ≡ cond (nat_eq k n) false (list_any (nat_eq n) ks)) → (n : ℕ) → In n new ↔ (In n ks × (n ≢ k))
+  number_taken h n = elim (one_or_not n k) [
+    | inl e ↦ (
+      λ i. let clash : true ≡ false = sym (any_number n new i) ∙ same_case false (list_any (nat_eq n) ks) n e (h n) in cc,
+      λ d. absurd (d.1 e),
+    )
+    | inr other ↦
+        let is = other_case false n other (h n) in (
+          λ i. (number_any n ks (sym is ∙ any_number n new i), other),
+          λ d. number_any n new (is ∙ any_number n ks d.0),
+        )
+  ]
+
+-- what fails only where a test fails succeeds where it does not
+pub succeeds : {A E : Type 0} (r : Result A E) (b : Bool) → OnErr r (b ≡ false) → b ≡ true → IsOk r
+succeeds (Ok a) b h e = refl
+succeeds (Err x) b h e = let clash : true ≡ false = sym e ∙ h in cc
+
+-- a number that is not there goes to the end of the keys
+pub not_any : (ks : List ℕ) (n : ℕ) → ¬ In n ks → list_any (nat_eq n) ks ≡ false
+not_any ks n not_in = elim (list_any (nat_eq n) ks) as (λ b. list_any (nat_eq n) ks ≡ b → b ≡ false) [
+  | true ↦ λ e. absurd (not_in (number_any n ks e))
+  | false ↦ λ e. refl
+] refl
+
+pub pushed : (ks : List ℕ) (n : ℕ) → ¬ In n ks → insert_key nat_eq ks n ≡ ks ++ n ∷ []
+pushed ks n not_in = ap (λ b. cond b ks (ks ++ n ∷ [])) (not_any ks n not_in)
+
+-- the test the other way round
+pub any_turned : (n : ℕ) (ks : List ℕ) → list_any (λ y. nat_eq y n) ks ≡ list_any (nat_eq n) ks
+any_turned n [] = refl
+any_turned n (k ∷ ks) = ap (λ b. b || list_any (λ y. nat_eq y n) ks) (turned k n) ∙ ap (λ b. nat_eq n k || b) (any_turned n ks)
+
+-- a number that the test does not find
+pub not_found : (ks : List ℕ) (n : ℕ) → list_any (λ y. nat_eq y n) ks ≡ false → ¬ In n ks
+not_found ks n e i = let clash : true ≡ false = sym (any_number n ks i) ∙ sym (any_turned n ks) ∙ e in cc
+
+pub found : (ks : List ℕ) (n : ℕ) → list_any (λ y. nat_eq y n) ks ≡ true → In n ks
+found ks n e = number_any n ks (sym (any_turned n ks) ∙ e)
+
+-- one more at the end of a list without it
+pub in_pushed : (ks : List ℕ) (k n : ℕ) → In n (ks ++ k ∷ []) ↔ (In n ks ⊎ (n ≡ k))
+in_pushed ks k n = (
+  λ i. elim (in_either ks (k ∷ []) n i) [ inl j ↦ inl j | inr (inl e) ↦ inr e | inr (inr never) ↦ absurd never ],
+  λ d. elim d [ inl i ↦ in_left ks (k ∷ []) n i | inr e ↦ in_right ks (k ∷ []) n (inl e) ],
+)
+
+pub distinct_pushed : (ks : List ℕ) (k : ℕ) → AreDistinct ks → ¬ In k ks → AreDistinct (ks ++ k ∷ [])
+distinct_pushed [] k d n = ((λ never. never), tt)
+distinct_pushed (x ∷ ks) k d n = (
+  (λ i. elim ((in_pushed ks k x).0 i) [ inl j ↦ d.0 j | inr e ↦ n (inl (sym e)) ]),
+  distinct_pushed ks k d.1 (λ i. n (inr i)),
+)
+
+-- the others of a list
+pub in_others : (ks : List ℕ) (k n : ℕ) → In n (filter (λ m. not (nat_eq m k)) ks) ↔ (In n ks × (n ≢ k))
+in_others [] k n = ((λ never. absurd never), λ c. c.0)
+in_others (x ∷ ks) k n = elim (nat_eq x k) as (λ b. nat_eq x k ≡ b → In n (cond (not b) (x ∷ filter (λ m. not (nat_eq m k)) ks) (filter (λ m. not (nat_eq m k)) ks)) ↔ (In n (x ∷ ks) × (n ≢ k))) [
+  | true ↦ λ e. let same = eqb-true x k e in (
+    (λ i. let c = (in_others ks k n).0 i in (inr c.0, c.1)),
+    λ c. elim c.0 [ inl here ↦ absurd (c.1 (here ∙ same)) | inr i ↦ (in_others ks k n).1 (i, c.1) ],
+  )
+  | false ↦ λ e. (
+    (λ i. elim i [ inl here ↦ (inl here, λ f. let clash : true ≡ false = sym (eq-eqb x k (sym here ∙ f)) ∙ e in cc) | inr j ↦ let c = (in_others ks k n).0 j in (inr c.0, c.1) ]),
+    λ c. elim c.0 [ inl here ↦ inl here | inr i ↦ inr ((in_others ks k n).1 (i, c.1)) ],
+  )
+] refl
+
+pub distinct_others : (ks : List ℕ) (k : ℕ) → AreDistinct ks → AreDistinct (filter (λ m. not (nat_eq m k)) ks)
+distinct_others [] k d = tt
+distinct_others (x ∷ ks) k d = elim (nat_eq x k) as (λ b. AreDistinct (cond (not b) (x ∷ filter (λ m. not (nat_eq m k)) ks) (filter (λ m. not (nat_eq m k)) ks))) [
+  | true ↦ distinct_others ks k d.1
+  | false ↦ ((λ i. d.0 ((in_others ks k x).0 i).0), distinct_others ks k d.1)
+]
+
+-- so does what has room, or the number already
+pub succeeds_with : {A E : Type 0} {room : ℕ} (r : Result A E) (ks held : List ℕ) (n : ℕ) → ks ≡ held → (0 < room → IsOk r) → OnErr r (list_any (nat_eq n) ks ≡ false) → (0 < room) ⊎ In n held → IsOk r
+succeeds_with r ks held n here by_room absent (inl room) = by_room room
+succeeds_with r ks held n here by_room absent (inr i) = succeeds r (list_any (nat_eq n) ks) absent (any_number n ks (subst (In n) (sym here) i))

@@ -1,0 +1,26 @@
+use Rattle.std.proofs.Common.{ℕ, ◌∙◌, sym, subst}
+use Rattle.std.specs.Prelude.{Result, Ok, Err, OnOk}
+use Rattle.ghc_records.specs.UseIndex.{Index, CanTake, Gave}
+use Rattle.ghc_records.proofs.Giving.{can_both}
+use Rattle.ghc_records.proofs.use_index.UseIndex.reserve.Goals as goal
+
+pub returns-in_err-reserve_at-clause-users_kept : goal.returns-in_err-reserve_at-clause-users_kept
+returns-in_err-reserve_at-clause-users_kept c m n can = c.reserve_at.ensures.kept m n (subst (λ (t : Index). CanTake t.users m n) (sym c.self.view_is) can)
+
+pub returns-in_err-reserve_under-clause-users_kept : goal.returns-in_err-reserve_under-clause-users_kept
+returns-in_err-reserve_under-clause-users_kept c m n can = c.reserve_under.ensures.kept m n (c.reserve_at.ensures.kept m n (subst (λ (t : Index). CanTake t.users m n) (sym c.self.view_is) can))
+
+pub returns-clause-users_kept : goal.returns-clause-users_kept
+returns-clause-users_kept c m n can = c.reserve_under.ensures.kept m n (c.reserve_at.ensures.kept m n (subst (λ (t : Index). CanTake t.users m n) (sym c.self.view_is) can))
+
+on_ok : {X E P : Type 0} (r : Result X E) → P → OnOk r P
+on_ok (Ok v) p = p
+on_ok (Err e) p = tt
+
+pub returns-clause-taking : goal.returns-clause-taking
+returns-clause-taking c =
+    let all = c.members.ensures.all ∙ c.reads.ensures in
+    let reads = c.args.effect.now.reads in
+    on_ok c.reserve.result
+    (subst (λ (t : Index). (m n : ℕ) → Gave t.binders.held c.args.maker reads m → CanTake c.reserve_under.new.users m n) c.self.view_is
+    (can_both c.self.inside.binders.held c.args.maker reads c.members.result.now all c.reserve_under.new.users (λ m n e. c.reserve_under.ensures.kept m n (c.in_ok-reserve_at.ensures.room m n e)) c.in_ok-reserve_under.ensures.room))

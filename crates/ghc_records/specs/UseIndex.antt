@@ -1,0 +1,95 @@
+-- The index of a record: which steps used what a step gave, and which step bound a variable.
+use Rattle.std.specs.Prelude.{◌≡◌, ◌⊎◌, ◌↔◌, ◌<◌, ◌≤◌, ℕ, List, [], Option, Some, None, IsTrue}
+use Rattle.std.specs.Ordering.{nat_cmp}
+use Rattle.std.specs.FinMap as finite
+use Rattle.std.specs.FinSet as set
+use Rattle.ghc_term.specs.declared.var_name.VarName.{VarName}
+use Rattle.ghc_term.specs.declared.goal_name.GoalName.{GoalName}
+use Rattle.ghc_term.specs.Bindings.{name_cmp}
+use Rattle.ghc_term.specs.Lists.{In}
+use Rattle.ghc_term.specs.Sets.{Variables}
+use Rattle.ghc_term.specs.Table.{Table}
+use Rattle.ghc_records.specs.Record.{Record}
+use Rattle.ghc_records.specs.Uses.{Binds, Consumes, Uses, DependsOn}
+
+-- The numbers of steps by the number of the step that they used, each with the room for more.
+abbrev pub UsersByStep : Type 0
+UsersByStep = finite.FinMap nat_cmp (Table (List ℕ))
+
+-- The numbers of the steps that bound variables, by variable.
+abbrev pub BindersByVariable : Type 0
+BindersByVariable = finite.FinMap name_cmp ℕ
+
+abbrev pub numbers_in : Option (Table (List ℕ)) → List ℕ
+numbers_in None = []
+numbers_in (Some t) = t.held
+
+abbrev pub room_in : Option (Table (List ℕ)) → ℕ
+room_in None = 0
+room_in (Some t) = t.room
+
+-- the numbers that stand under m
+abbrev pub users_at : UsersByStep → ℕ → List ℕ
+users_at users m = numbers_in (finite.get users m)
+
+-- how many more numbers m takes without memory
+abbrev pub room_at : UsersByStep → ℕ → ℕ
+room_at users m = room_in (finite.get users m)
+
+-- n stands under m
+abbrev pub IsUser : UsersByStep → ℕ → ℕ → Type 0
+IsUser users m n = In n (users_at users m)
+
+-- n stands under m, or there is room for it
+abbrev pub CanTake : UsersByStep → ℕ → ℕ → Type 0
+CanTake users m n = (0 < room_at users m) ⊎ IsUser users m n
+
+-- An index is the users of each step, and the binder of each variable.
+pub record Index : Type 0 where
+  pub users : UsersByStep
+  pub binders : Table BindersByVariable
+
+-- the step numbered m bound one of the variables of the list
+abbrev pub BoundOneOf : BindersByVariable → List VarName → ℕ → Type 0
+BoundOneOf binders xs m = (x : VarName) × In x xs × (finite.get binders x ≡ Some m)
+
+-- The step numbered m gave what is used: it is the maker of the goal, or bound a variable that was read.
+abbrev pub Gave : BindersByVariable → Option ℕ → Variables → ℕ → Type 0
+Gave binders maker reads m = (maker ≡ Some m) ⊎ ((x : VarName) × IsTrue (set.contains reads x) × (finite.get binders x ≡ Some m))
+
+-- the number of the step that made the goal of this name, by the name
+abbrev pub step_named : Option GoalName → Option ℕ
+step_named None = None
+step_named (Some g) = Some g.step
+
+-- The step numbered n of the record depends directly on the step numbered m.
+abbrev pub StepDependsOn : List Record → ℕ → ℕ → Type 0
+StepDependsOn rs n m = (a b : Record) × (a.number ≡ m) × (b.number ≡ n) × DependsOn rs b a
+
+-- The step numbered n of the record bound x.
+abbrev pub StepBinds : List Record → ℕ → VarName → Type 0
+StepBinds rs n x = (a : Record) × In a rs × (a.number ≡ n) × Binds a x
+
+-- The index is that of the record: under each step stand the steps that depend directly on it, and under each variable the step that bound it.
+pub record IsIndexOf (rs : List Record) (users : UsersByStep) (binders : BindersByVariable) : Type 0 where
+  pub used : (m n : ℕ) → IsUser users m n ↔ StepDependsOn rs n m
+  pub bound : (x : VarName) (n : ℕ) → (finite.get binders x ≡ Some n) ↔ StepBinds rs n x
+
+-- How many more records and bindings a record takes without memory, and how many more users each of its steps takes.
+pub record RecordsRoom : Type 0 where
+  pub records : ℕ
+  pub binders : ℕ
+  pub users : UsersByStep
+
+-- A record in recorded order, and its room.
+pub record RecordsTables : Type 0 where
+  pub held : List Record
+  pub room : RecordsRoom
+
+-- There is room for the step behind the others: for its record, for what it binds, and for its number under each step that it used.
+abbrev pub HasRoomToKeep : List Record → RecordsRoom → Record → Type 0
+HasRoomToKeep rs room r = (0 < room.records) × (finite.len r.effect.binds ≤ room.binders) × ((a : Record) → In a rs → Uses r a → CanTake room.users a.number r.number)
+
+-- The step numbered m of the record made the goal that r consumed.
+abbrev pub IsMakerFor : List Record → Record → ℕ → Type 0
+IsMakerFor rs r m = (a : Record) × In a rs × (a.number ≡ m) × Consumes r a

@@ -1,0 +1,122 @@
+// Sets of the numbers of steps.
+ghost use Rattle.std.specs.Prelude.{◌≡◌, ◌≢◌, ◌↔◌, ◌⊎◌, ◌<◌, ◌≤◌, [], ℕ, IfOk, OnOk};
+ghost use Rattle.indexmap.specs.IndexSet.{spare};
+ghost use Rattle.ghc_term.specs.Lists.{In};
+ghost use Rattle.ghc_records.specs.Orders.{AreDistinct};
+
+use indexmap::IndexSet;
+use std::alloc::{AllocError, Global};
+use std::marker::Model;
+
+// How many numbers are searched one after another.
+const MOST_LISTED: usize = 8;
+
+// Numbers of steps: a few in a list, more in a table that finds each by a look-up.
+#[derive(Drop)]
+pub(crate) struct NumberSet {
+    held: Held,
+}
+
+#[derive(Drop)]
+enum Held {
+    Listed(Vec<u32>),
+    Tabled(Box<IndexSet<u32>>),
+}
+
+impl Model for NumberSet {
+    ghost use Rattle.std.specs.Prelude.{ℕ, List};
+    ghost use Rattle.ghc_term.specs.Table.{Table, table_code};
+    ghost use Rattle.ghc_records.specs.NumberSet.{numbers_of, room_of, IsListedOnce};
+    ghost use Rattle.ghc_records.specs.RecordCode.{numbers_code};
+
+    ghost Value = { Table (List ℕ) };
+
+    ghost coded = { table_code numbers_code };
+
+    ghost view = { λ s. record { held = numbers_of s.held; room = room_of s.held } };
+
+    ghost invariant = { λ s. IsListedOnce s.held };
+}
+
+// A table of the numbers, with room for more.
+fn tabled(list: &Vec<u32>) -> Result<Box<IndexSet<u32>>, AllocError>
+    requires { AreDistinct list.now.items }
+    ensures held { IfOk result (λ table. table.value.keys ≡ list.now.items) }
+    ensures room { IfOk result (λ table. 0 < spare table.value) }
+{
+    let alloc = *list.allocator();
+    let mut table = IndexSet::new(alloc);
+    for number in list {
+        table.insert(*number)?;
+    }
+    table.reserve(1)?;
+    Ok(Box::new(alloc, table)?)
+}
+
+impl NumberSet {
+    // No numbers, which take no memory.
+    pub(crate) fn new(alloc: Global) -> NumberSet
+        ensures { result.held ≡ [] }
+    {
+        NumberSet {
+            held: Held::Listed(Vec::new(alloc)),
+        }
+    }
+
+    // The numbers of the set, in no order that is promised.
+    pub(crate) fn members(&self) -> &[u32]
+        ensures { result.now ≡ self.now.held }
+    {
+        match &self.held {
+            Held::Listed(list) => list.as_slice(),
+            Held::Tabled(table) => table.as_slice(),
+        }
+    }
+
+    // Makes room for one more number.
+    pub(crate) fn reserve(&mut self) -> Result<(), AllocError>
+        ensures held { self.new.held ≡ self.old.held }
+        ensures room { OnOk result (0 < self.new.room) }
+        ensures kept { self.old.room ≤ self.new.room }
+    {
+        match &mut self.held {
+            Held::Listed(list) => {
+                if list.len() < MOST_LISTED || list.len() < list.capacity() {
+                    return list.reserve(1);
+                }
+                self.held = Held::Tabled(tabled(list)?);
+                Ok(())
+            }
+            Held::Tabled(table) => table.reserve(1),
+        }
+    }
+
+    // Adds a number that is there already, or for which there is room: eight comparisons at most, or one look-up.
+    pub(crate) fn put(&mut self, number: u32)
+        requires { (0 < self.old.room) ⊎ In number self.old.held }
+        ensures { (n : ℕ) → In n self.new.held ↔ (In n self.old.held ⊎ (n ≡ number)) }
+    {
+        match &mut self.held {
+            Held::Listed(list) => {
+                if !list.contains(&number) {
+                    list.push(number).unwrap();
+                }
+            }
+            Held::Tabled(table) => {
+                table.insert(number).unwrap();
+            }
+        }
+    }
+
+    // Takes a number out: eight comparisons at most, or one look-up.
+    pub(crate) fn remove(&mut self, number: u32)
+        ensures { (n : ℕ) → In n self.new.held ↔ (In n self.old.held × (n ≢ number)) }
+    {
+        match &mut self.held {
+            Held::Listed(list) => list.retain(|m: &u32| *m != number),
+            Held::Tabled(table) => {
+                table.swap_remove(&number);
+            }
+        }
+    }
+}
