@@ -60,11 +60,14 @@ swap_distinct (r ∷ front) back a b d = (
   swap_distinct front back a b d.1,
 )
 
-pub neighbours : NeighboursChangePlaces
-neighbours P query front back a b t accepted asked replay apart =
+-- where they do not depend on each other, the record with them the other way round is in a lawful order
+pub neighbours_lawful : (front back : List Record) (a b : Record) → AreDistinct (numbers (front ++ a ∷ b ∷ back)) → ¬ DependsOn (front ++ a ∷ b ∷ back) b a
+                      → IsLawful (front ++ a ∷ b ∷ back) (numbers (front ++ b ∷ a ∷ back))
+                      × IsInOrder (front ++ a ∷ b ∷ back) (numbers (front ++ b ∷ a ∷ back)) (front ++ b ∷ a ∷ back)
+neighbours_lawful front back a b once apart =
     let kept = front ++ a ∷ b ∷ back in
     let new = front ++ b ∷ a ∷ back in
-    let distinct = swap_distinct front back a b replay.0.1 in
+    let distinct = swap_distinct front back a b once in
     let same : (r : Record) → In r new ↔ In r kept = λ r. (swap_in front back b a r, swap_in front back a b r) in
     let of_kept : (n : ℕ) → In n (numbers new) → In n (numbers kept) = λ n i.
     let q = number_of new n i in
@@ -72,14 +75,21 @@ neighbours P query front back a b t accepted asked replay apart =
     let all : (n : ℕ) → In n (numbers kept) → In n (numbers new) = λ n i.
     let q = number_of kept n i in
     subst (λ z. In z (numbers new)) q.2 (number_in new q.0 ((same q.0).1 q.1)) in
-    arranged P query kept t (numbers new) new accepted asked replay (
-      ((of_kept, distinct), all),
-      λ x y early.
-          let ends = is_before kept x y early.0.0 in
-          let i = before_in kept x y ends in
-          elim (swap_before front back a b y x (by_records new y x distinct ((same y).1 i.1) ((same x).1 i.0) (is_before (numbers new) y.number x.number early.1))) [
-            | inl turned ↦ before_once kept x y (records_distinct kept replay.0.1) ends turned
-            | inr p ↦ apart (subst (λ z. DependsOn kept z a) p.0 (subst (DependsOn kept y) p.1 early.0))
-          ],
+    (
+      (
+        ((of_kept, distinct), all),
+        λ x y early.
+            let ends = is_before kept x y early.0.0 in
+            let i = before_in kept x y ends in
+            elim (swap_before front back a b y x (by_records new y x distinct ((same y).1 i.1) ((same x).1 i.0) (is_before (numbers new) y.number x.number early.1))) [
+              | inl turned ↦ before_once kept x y (records_distinct kept once) ends turned
+              | inr p ↦ apart (subst (λ z. DependsOn kept z a) p.0 (subst (DependsOn kept y) p.1 early.0))
+            ],
+      ),
+      (refl, same),
     )
-    (refl, same)
+
+pub neighbours : NeighboursChangePlaces
+neighbours P query front back a b t accepted asked replay apart =
+    let l = neighbours_lawful front back a b replay.0.1 apart in
+    arranged P query (front ++ a ∷ b ∷ back) t (numbers (front ++ b ∷ a ∷ back)) (front ++ b ∷ a ∷ back) accepted asked replay l.0 l.1

@@ -1,11 +1,11 @@
 -- Why a step depends directly on an earlier one: places in recorded order, the least variable, and what woke a goal.
-use Rattle.std.proofs.Common.{◌≡◌, ℕ, zero, suc, ◌+◌, ◌<◌, ◌≤◌, ◌⊎◌, Bool, true, false, not, cond, List, [], ◌∷◌, ◌++◌, length, refl, sym, ap, ◌∙◌, subst, subst₂, inl, inr, arith}
+use Rattle.std.proofs.Common.{◌≡◌, ℕ, zero, suc, ◌+◌, ◌<◌, ◌≤◌, ◌⊎◌, Bool, true, false, not, cond, List, [], ◌∷◌, ◌++◌, length, take, refl, sym, ap, ◌∙◌, subst, subst₂, inl, inr, arith}
 use Rattle.std.specs.Prelude.{◌↔◌, Option, Some, None, IsTrue, IfSome, IfNone, IsSome, option_copied, slice_get}
 use Rattle.std.specs.Borrow.{Bor}
 use Rattle.std.specs.declared.cmp.Ordering.TheVariants.{Less, Equal, Greater}
 use Rattle.std.specs.Ordering.{is_lt, ord_min, ordering_reverse}
 use Rattle.std.specs.FinSet as set
-use Rattle.std.proofs.lemmas.Bool.{cases_lt, cases_order}
+use Rattle.std.proofs.lemmas.Bool.{cases_order}
 use Rattle.ghc_term.specs.declared.var_name.VarName.{VarName}
 use Rattle.ghc_term.specs.declared.goal_name.GoalName.{GoalName}
 use Rattle.ghc_term.specs.Lists.{In}
@@ -17,11 +17,11 @@ use Rattle.ghc_term.proofs.SetsLemmas.{is_member}
 use Rattle.ghc_records.specs.Orders.{Precedes, AreDistinct}
 use Rattle.ghc_records.specs.Record.{Record, numbers}
 use Rattle.ghc_records.proofs.OrderLemmas.{Before, is_before, before_is, before_in, before_once, record_once, records_distinct}
+use Rattle.ghc_records.specs.UseIndex.{StepBinds}
 use Rattle.ghc_depend.specs.Depend.{MakesGoal, Consumes, Binds, ReadsFrom, IsKeptAs}
 use Rattle.ghc_depend.specs.declared.cause.Cause.TheVariants.{Made as made, Read as read}
-use Rattle.ghc_depend.specs.Cause.{CanWait, WasThereBefore, ReadsBehind, IsWokenBy, IsLeastRead, by_making, by_reading, IsDirect}
+use Rattle.ghc_depend.specs.Cause.{CanWait, WasThereBefore, IsBoundBehind, ReadsBehind, IsWokenBy, IsLeastRead, by_making, by_reading, IsDirect}
 use Rattle.ghc_depend.proofs.Finding.{same_value}
-use Rattle.ghc_depend.proofs.Walking.{kept_at}
 
 module _ {X : Type 0} where
   -- what stands at an earlier place stands before
@@ -62,6 +62,32 @@ module _ {X : Type 0} where
   pub if_some : {P : X → Type 0} (o : Option X) → ((a : X) → o ≡ Some a → P a) → IfSome o P
   if_some None f = tt
   if_some (Some a) f = f a refl
+
+-- an element of a list, and the lists in front of it and behind it
+pub at_split : {X : Type 0} (xs : List X) (i : ℕ) (b : X) → slice_get xs i ≡ Some b → (rest : List X) × (xs ≡ take i xs ++ b ∷ rest) × (take (i + 1) xs ≡ take i xs ++ b ∷ [])
+at_split [] zero b e = cc
+at_split [] (suc i) b e = cc
+at_split (x ∷ xs) zero b e = let same : x ≡ b = cc in (xs, ap (λ z. z ∷ xs) same, ap (λ z. z ∷ []) same)
+at_split (x ∷ xs) (suc i) b e =
+    let s = at_split xs i b e in
+    let next : suc i + 1 ≡ suc (i + 1) = omega arith in
+    (s.0, ap (λ l. x ∷ l) s.1, ap (λ k. take k (x ∷ xs)) next ∙ ap (λ l. x ∷ l) s.2)
+
+-- the record at the place of a number
+pub kept_at : (kept : List Record) (place n : ℕ) (a : Record) → ((r : Record) × (slice_get kept place ≡ Some r) × (r.number ≡ n)) → slice_get kept place ≡ Some a → IsKeptAs kept n a
+kept_at kept place n a p at = (in_at kept place a at, ap (λ (z : Record). z.number) (same_value at p.1) ∙ p.2)
+
+-- the record of this number stands at this place
+abbrev pub StandsAt : List Record → ℕ → ℕ → Type 0
+StandsAt rs n place = (r : Record) × (slice_get rs place ≡ Some r) × (r.number ≡ n)
+
+-- a step stands before another exactly where its place is less
+module _ (rs : List Record) (i j : ℕ) (a b : Record) (at : slice_get rs i ≡ Some a) (at_other : slice_get rs j ≡ Some b) where
+  pub stands_before : i < j → Precedes rs a b
+  stands_before low = before_is rs a b (places_before rs i j a b at at_other low)
+
+  pub place_before : AreDistinct (numbers rs) → Precedes rs a b → i < j
+  place_before distinct h = before_places rs (records_distinct rs distinct) i j a b at at_other (is_before rs a b h)
 
 -- of these variables, this is the least that the step bound, or it bound none
 abbrev pub IsLeastOf : Record → List VarName → Option VarName → Type 0
@@ -155,24 +181,14 @@ module _ (rs : List Record) (distinct : AreDistinct (numbers rs)) (b : Record) w
 
       module _ (makes : MakesGoal maker name) (a : Record) (place : ℕ) (there : slice_get rs place ≡ Some a) where
         pub was_there : made < place → WasThereBefore rs b a
-        was_there h m i c = subst (λ z. Precedes rs z a) (sym (only_maker m i c)) (before_is rs maker a (places_before rs made place maker a at there h))
+        was_there h m i c = subst (λ z. Precedes rs z a) (sym (only_maker m i c)) (stands_before rs made place maker a at there h)
 
         pub place_there : WasThereBefore rs b a → made < place
-        place_there h = before_places rs (records_distinct rs distinct) made place maker a at there (is_before rs maker a (h maker (in_at rs made maker at) (name, e, makes)))
+        place_there h = place_before rs made place maker a at there distinct (h maker (in_at rs made maker at) (name, e, makes))
 
 -- P holds of none of the steps behind this place and in front of the other
 abbrev pub NoneBetween : (Record → Type 0) → List Record → ℕ → ℕ → Type 0
 NoneBetween P rs place end_place = (k : ℕ) (c : Record) → place < k → k < end_place → slice_get rs k ≡ Some c → ¬ P c
-
--- at first there are none, and then one more
-pub none_between : (P : Record → Type 0) (rs : List Record) (place : ℕ) → NoneBetween P rs place (place + 1)
-none_between P rs place k c low high at p = absurd (omega arith)
-
-pub none_more : (P : Record → Type 0) (rs : List Record) (place i : ℕ) (b : Record) → slice_get rs i ≡ Some b → ¬ P b → NoneBetween P rs place i → NoneBetween P rs place (i + 1)
-none_more P rs place i b at n none k c low high there p = elim (cases_lt k i) [
-  | inl h ↦ none k c low h there p
-  | inr h ↦ let e : i ≡ k = omega arith in n (subst P (same_value (ap (slice_get rs) e ∙ there) at) p)
-]
 
 -- an element of a list has a place
 pub place_at : {X : Type 0} (xs : List X) (x : X) → In x xs → (i : ℕ) × (slice_get xs i ≡ Some x)
@@ -180,27 +196,32 @@ place_at [] x i = absurd i
 place_at (y ∷ xs) x (inl e) = (0, ap Some (sym e))
 place_at (y ∷ xs) x (inr i) = let p = place_at xs x i in (suc p.0, p.1)
 
-module _ (rs : List Record) (b a : Record) (place : ℕ) (there : slice_get rs place ≡ Some a) where
-  -- a step that stands behind
-  pub one_behind : (i : ℕ) (c : Record) (x : VarName) → slice_get rs i ≡ Some c → place < i → ReadsFrom b c x → ReadsBehind rs b a
-  one_behind i c x at low r = (c, x, before_is rs a c (places_before rs place i a c there at low), r)
+-- the step that bound a variable, by the look-up of its number
+module _ (rs : List Record) (distinct : AreDistinct (numbers rs)) (x : VarName) (o : Option ℕ) (bound : (n : ℕ) → (o ≡ Some n) ↔ StepBinds rs n x) where
+  pub binder_kept : (n : ℕ) → o ≡ Some n → ¬ ((r : Record) → In r rs → ¬ (r.number ≡ n))
+  binder_kept n e none = let b = (bound n).0 e in none b.0 b.1 b.2
 
-  -- or no step at all
-  pub none_behind : AreDistinct (numbers rs) → (i : ℕ) → length rs ≤ i → NoneBetween (λ c. (x : VarName) × ReadsFrom b c x) rs place i → ¬ ReadsBehind rs b a
-  none_behind distinct i long h t =
-      let before = is_before rs a t.0 t.2 in
-      let at = place_at rs t.0 (before_in rs a t.0 before).1 in
-      let within = place_within rs at.0 t.0 at.1 in
-      h at.0 t.0 (before_places rs (records_distinct rs distinct) place at.0 a t.0 there at.1 before) (omega arith) at.1 (t.1, t.3)
+  module _ (a : Record) where
+    kept_behind : (c : Record) → Precedes rs a c → In c rs
+    kept_behind c h = (before_in rs a c (is_before rs a c h)).1
+
+    pub not_bound : o ≡ None → ¬ IsBoundBehind rs a x
+    not_bound e t = let clash : None ≡ Some t.0.number = sym e ∙ (bound t.0.number).1 (t.0, kept_behind t.0 t.1, refl, t.2) in cc
+
+    module _ (n : ℕ) (e : o ≡ Some n) (place behind : ℕ) (there : slice_get rs place ≡ Some a) (stands : StandsAt rs n behind) where
+      one_binder : (c : Record) → In c rs → Binds c x → c ≡ stands.0
+      one_binder c i b = record_once rs c stands.0 distinct i (in_at rs behind stands.0 stands.1) (same_value ((bound c.number).1 (c, i, refl, b)) e ∙ sym stands.2)
+
+      pub bound_behind : place < behind → IsBoundBehind rs a x
+      bound_behind low = let b = (bound n).0 e in (stands.0, stands_before rs place behind a stands.0 there stands.1 low, subst (λ z. Binds z x) (one_binder b.0 b.1 b.3) b.3)
+
+      pub place_behind : IsBoundBehind rs a x → place < behind
+      place_behind t = place_before rs place behind a stands.0 there stands.1 distinct (subst (Precedes rs a) (one_binder t.0 (kept_behind t.0 t.1) t.2) t.1)
 
 -- the mark woke
 pub woken : (rs : List Record) (b a : Record) (read : Bool) → CanWait b.act → WasThereBefore rs b a → (IsTrue read ↔ ReadsBehind rs b a) → IsTrue (not read) ↔ IsWokenBy rs b a
 woken rs b a true can was h = (λ e. cc, λ w. absurd (w.2 (h.0 refl)))
 woken rs b a false can was h = (λ _. (can, was, λ r. let clash : false ≡ true = h.1 r in cc), λ _. refl)
-
--- the record of this number stands at this place
-abbrev pub StandsAt : List Record → ℕ → ℕ → Type 0
-StandsAt rs n place = (r : Record) × (slice_get rs place ≡ Some r) × (r.number ≡ n)
 
 pub placed : (rs : List Record) (n place : ℕ) (a : Record) → AreDistinct (numbers rs) → StandsAt rs n place → IsKeptAs rs n a → slice_get rs place ≡ Some a
 placed rs n place a distinct p k = subst (λ z. slice_get rs place ≡ Some z) (record_once rs p.0 a distinct (in_at rs place p.0 p.1) k.0 (p.2 ∙ sym k.1)) p.1
@@ -209,18 +230,15 @@ module _ (rs : List Record) (later earlier place behind : ℕ) (first : StandsAt
   -- a step that does not stand behind does not depend
   pub not_behind : AreDistinct (numbers rs) → behind ≤ place → IsDirect rs later earlier None
   not_behind distinct high b a kb ka d =
-      let low = before_places rs (records_distinct rs distinct) place behind a b (placed rs earlier place a distinct first ka) (placed rs later behind b distinct second kb) (is_before rs a b d.0) in
+      let low = place_before rs place behind a b (placed rs earlier place a distinct first ka) (placed rs later behind b distinct second kb) distinct d.0 in
       omega arith
 
   module _ (b a : Record) (at : slice_get rs place ≡ Some a) (at_behind : slice_get rs behind ≡ Some b) where
-    precedes : place < behind → Precedes rs a b
-    precedes low = before_is rs a b (places_before rs place behind a b at at_behind low)
-
     pub is_made : place < behind → Consumes b a → IsDirect rs later earlier (Some made)
-    is_made low c = (b, a, kept_at rs behind later b second at_behind, kept_at rs place earlier a first at, by_making (precedes low) c)
+    is_made low c = (b, a, kept_at rs behind later b second at_behind, kept_at rs place earlier a first at, by_making (stands_before rs place behind a b at at_behind low) c)
 
     pub is_read : (x : VarName) (woke : Bool) → place < behind → ¬ Consumes b a → IsLeastRead b a x → (IsTrue woke ↔ IsWokenBy rs b a) → IsDirect rs later earlier (Some (read x woke))
-    is_read x woke low n least marked = (b, a, kept_at rs behind later b second at_behind, kept_at rs place earlier a first at, by_reading (precedes low) n least marked)
+    is_read x woke low n least marked = (b, a, kept_at rs behind later b second at_behind, kept_at rs place earlier a first at, by_reading (stands_before rs place behind a b at at_behind low) n least marked)
 
     pub is_none : AreDistinct (numbers rs) → ¬ Consumes b a → ((x : VarName) → ¬ ReadsFrom b a x) → IsDirect rs later earlier None
     is_none distinct n none c d kc kd depends =

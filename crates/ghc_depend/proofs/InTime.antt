@@ -1,22 +1,18 @@
 -- Which step of an order is the first that stands too early.
-use Rattle.std.proofs.Common.{◌≡◌, ℕ, zero, suc, ◌+◌, ◌<◌, ◌≤◌, List, [], ◌∷◌, length, take, refl, sym, ap, ◌∙◌, subst, inl, inr, arith}
-use Rattle.std.specs.Prelude.{Some, IsTrue, slice_get}
-use Rattle.std.specs.FinSet as set
+use Rattle.std.proofs.Common.{◌≡◌, ℕ, zero, suc, ◌+◌, ◌<◌, ◌≤◌, List, [], ◌∷◌, ◌++◌, length, take, refl, sym, ap, ◌∙◌, subst, inl, inr, arith}
+use Rattle.std.specs.Prelude.{Some, slice_get}
 use Rattle.std.proofs.lemmas.Bool.{cases_lt}
 use Rattle.std.proofs.Math.Nat.{eq-or-lt_of_le}
-use Rattle.ghc_term.specs.declared.var_name.VarName.{VarName}
 use Rattle.ghc_term.specs.Lists.{In}
-use Rattle.ghc_term.specs.Sets.{Variables}
-use Rattle.ghc_term.proofs.ListsLemmas.{in_at}
+use Rattle.ghc_term.proofs.ListsLemmas.{in_at, in_more}
 use Rattle.ghc_records.specs.Orders.{AreDistinct}
 use Rattle.ghc_records.specs.Record.{Record, numbers}
+use Rattle.ghc_records.specs.UseIndex.{StepDependsOn}
 use Rattle.ghc_records.proofs.OrderLemmas.{is_before, before_is, before_in, record_once, records_distinct}
-use Rattle.ghc_depend.specs.Depend.{Binds, Uses}
-use Rattle.ghc_depend.specs.Affected.{Touches}
-use Rattle.ghc_depend.specs.Lawful.{IsTooEarly, StandsBehind, IsInTime, AreInTime, IsFirstNeeded, IsFirstTooEarly}
+use Rattle.ghc_depend.specs.Depend.{Uses}
+use Rattle.ghc_depend.specs.Lawful.{IsTooEarly, StandsBehind, IsNoFurther, IsInTime, AreInTime, IsFirstNeeded, IsFirstTooEarly}
 use Rattle.ghc_depend.proofs.Finding.{same_value, ends}
-use Rattle.ghc_depend.proofs.AffectedSteps.{at_split, AddsNumber, AddsBound}
-use Rattle.ghc_depend.proofs.Causes.{places_before, before_places, place_at, place_within}
+use Rattle.ghc_depend.proofs.Causes.{at_split, places_before, before_places, place_at, place_within}
 
 -- what stands in front of a place has an earlier one
 pub place_in_front : {X : Type 0} (xs : List X) (count : ℕ) (x : X) → In x (take count xs) → (i : ℕ) × (i < count) × (slice_get xs i ≡ Some x)
@@ -87,51 +83,41 @@ module _ (kept : List Record) (distinct : AreDistinct (numbers kept)) (order : L
       let low = before_places kept (records_distinct kept distinct) p.0 end_place c b p.1 there (is_before kept c b early.0.0) in
       none p.0 c low p.1 (stands_later c early, early.0.1)
 
-  -- those at and behind a place have these numbers, and bound these variables
-  module _ (ns : List ℕ) (bound : Variables) where
-    pub untouched_in_time : In b kept → ((c : Record) → In c kept → StandsBehind order place c.number → In c.number ns × ((x : VarName) → Binds c x → IsTrue (set.contains bound x)))
-        → ¬ Touches kept ns bound b → IsInTime kept order b.number
-    untouched_in_time there has apart c d e t =
-        let same : d ≡ b = record_once kept d b distinct (ends kept d c t.0).1 there e in
-        let early : IsTooEarly kept order c b = subst (IsTooEarly kept order c) same t in
-        let own = (ends kept b c early.0).0 in
-        let h = has c own (stands_later c early) in
-        apart (elim early.0.1 [
-          | inl k ↦ inl (c, own, h.0, k)
-          | inr r ↦ inr (r.0, r.1.0, h.1 r.0 r.1.1)
-        ])
+-- of the steps that depend directly on one of these first of the order, those that stand in front of it are no nearer than this
+abbrev pub NoneInFront : List Record → List ℕ → ℕ → ℕ → Type 0
+NoneInFront kept order count first = (place m n : ℕ) → place < count → slice_get order place ≡ Some m → StepDependsOn kept n m → IsNoFurther order place n first
 
--- the steps at the places from this one on have their numbers here, and their bindings
-abbrev pub HasAllFrom : List Record → List ℕ → ℕ → List ℕ → Variables → Type 0
-HasAllFrom kept order from ns bound =
-    (c : Record) (own : ℕ) → In c kept → from ≤ own → slice_get order own ≡ Some c.number → In c.number ns × ((x : VarName) → Binds c x → IsTrue (set.contains bound x))
-
-pub none_from : (kept : List Record) (order : List ℕ) (from : ℕ) (ns : List ℕ) (bound : Variables) → length order ≤ from → HasAllFrom kept order from ns bound
-none_from kept order from ns bound long c own i low at = let within = place_within order own c.number at in absurd (omega arith)
-
-pub one_more_from : (kept : List Record) (order : List ℕ) (place : ℕ) (b : Record) (ns new : List ℕ) (bound more : Variables) → AreDistinct (numbers kept) → In b kept → slice_get order place ≡ Some b.number
-    → HasAllFrom kept order (place + 1) ns bound → AddsNumber ns new b.number → AddsBound bound more b → HasAllFrom kept order place new more
-one_more_from kept order place b ns new bound more distinct there at h f g c own i low here = elim (eq-or-lt_of_le low) [
-  | inl e ↦
-      let same : c ≡ b = record_once kept c b distinct i there (same_value here (ap (slice_get order) (sym e) ∙ at)) in
-      ((f c.number).1 (inr (ap (λ (z : Record). z.number) same)), λ x k. (g x).1 (inr (subst (λ z. Binds z x) same k)))
+pub none_in_front_more : (kept : List Record) (order : List ℕ) (i m first new : ℕ) → slice_get order i ≡ Some m → NoneInFront kept order i first → new ≤ first → ((n : ℕ) → StepDependsOn kept n m → IsNoFurther order i n new) → NoneInFront kept order (i + 1) new
+none_in_front_more kept order i m first new at h less here place k n low there d own stands front = elim (cases_lt place i) [
+  | inl l ↦ let g = h place k n l there d own stands front in omega (arith, g, less)
   | inr l ↦
-      let p = h c own i (omega arith) here in
-      ((f c.number).1 (inl p.0), λ x k. (g x).1 (inl (p.1 x k)))
+      let e : i ≡ place = omega arith in
+      let same : k ≡ m = same_value there (ap (slice_get order) (sym e) ∙ at) in
+      here n (subst (StepDependsOn kept n) same d) own stands (omega (arith, front, e))
 ]
 
--- the places from this one on up to the other are in time
-abbrev pub AreInTimeFrom : List Record → List ℕ → ℕ → ℕ → Type 0
-AreInTimeFrom kept order from count = (place n : ℕ) → from ≤ place → place < count → slice_get order place ≡ Some n → IsInTime kept order n
+pub none_in_front_all : (kept : List Record) (order : List ℕ) → AreDistinct order → (count first : ℕ) → length order ≤ count → NoneInFront kept order count first → AreInTime kept order first
+none_in_front_all kept order once count first long h place n low at a b e t =
+    let before = is_before order b.number a.number t.1 in
+    let here : slice_get order place ≡ Some b.number = at ∙ ap Some (sym e) in
+    let p = place_at order a.number (before_in order b.number a.number before).1 in
+    let within = place_within order p.0 a.number p.1 in
+    let front = before_places order once place p.0 b.number a.number here p.1 before in
+    let far = h p.0 a.number b.number (omega (arith, within, long)) p.1 (a, b, refl, refl, t.0) place here front in
+    omega (arith, far, low)
 
-pub one_more_in_time : (kept : List Record) (order : List ℕ) (from count n : ℕ) → slice_get order from ≡ Some n → AreInTimeFrom kept order (from + 1) count → IsInTime kept order n → AreInTimeFrom kept order from count
-one_more_in_time kept order from count n at h here place m low high there = elim (eq-or-lt_of_le low) [
-  | inl e ↦ subst (IsInTime kept order) (same_value at (ap (slice_get order) e ∙ there)) here
-  | inr l ↦ h place m (omega arith) high there
-]
+-- the users so far are no nearer, and so is one more
+abbrev pub AreNoFurther : List ℕ → ℕ → List ℕ → ℕ → ℕ → Type 0
+AreNoFurther order place ns first least = (least ≤ first) × ((n : ℕ) → In n ns → IsNoFurther order place n least)
 
-pub begins_here : (kept : List Record) (order : List ℕ) (from : ℕ) → AreInTimeFrom kept order from from
-begins_here kept order from place n low high at = absurd (omega arith)
+pub no_further_more : (order : List ℕ) (place : ℕ) (ns : List ℕ) (n first least new : ℕ) → AreNoFurther order place ns first least → new ≤ least → IsNoFurther order place n new → AreNoFurther order place (ns ++ n ∷ []) first new
+no_further_more order place ns n first least new h less here = (
+  (let g = h.0 in omega (arith, g, less)),
+  λ m i own at front. elim (in_more ns n m i) [
+    | inl j ↦ let g = h.1 m j own at front in omega (arith, g, less)
+    | inr e ↦ here own (subst (λ k. slice_get order own ≡ Some k) e at) front
+  ],
+)
 
 -- the first that stands too early
 pub is_too_early : (kept : List Record) (order : List ℕ) (place : ℕ) (a b : Record) → slice_get order place ≡ Some b.number → AreInTime kept order place → IsFirstNeeded kept order b a → IsFirstTooEarly kept order a b

@@ -11,10 +11,10 @@ pub mod Picking
 pub mod Comparing
 pub mod Deleting
 pub mod Following
-pub mod AffectedSteps
-pub mod Walking
 pub mod Causes
 pub mod Nearest
+pub mod FirstPlace
+pub mod Ahead
 pub mod TakingBack
 pub mod Arranging
 pub mod Undoing

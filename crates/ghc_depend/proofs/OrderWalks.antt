@@ -1,9 +1,9 @@
 -- Walks over an order and over the record: which number is wrong, and which is missing.
-use Rattle.std.proofs.Common.{◌≡◌, ℕ, ◌+◌, ◌⊎◌, Bool, true, false, not, List, [], ◌∷◌, ◌++◌, take, get_or, refl, sym, ap, ◌∙◌, subst, inl, inr, nat_eq}
+use Rattle.std.proofs.Common.{◌≡◌, ℕ, ◌+◌, ◌⊎◌, Bool, true, false, not, List, [], ◌∷◌, ◌++◌, take, get_or, refl, sym, ap, ◌∙◌, subst, inl, inr, nat_eq, ◌||◌}
 use Rattle.std.specs.Prelude.{Option, Some, None, IfSome, IfNone, IsSome, slice_get}
 use Rattle.std.specs.Borrow.{Bor}
 use Rattle.std.specs.List.{list_any, position}
-use Rattle.std.proofs.lemmas.Bool.{eqb-true, cases_order}
+use Rattle.std.proofs.lemmas.Bool.{eqb-true, eq-eqb, cases_order}
 use Rattle.std.proofs.lemmas.List.Quantifiers.{position-Some}
 use Rattle.std.proofs.lemmas.Option.{slice_get-get_or}
 use Rattle.indexmap.specs.IndexSet.{insert_key}
@@ -14,9 +14,22 @@ use Rattle.ghc_records.specs.Orders.{AreDistinct}
 use Rattle.ghc_records.specs.Record.{Record, numbers}
 use Rattle.ghc_records.proofs.OrderLemmas.{before_once, number_of}
 use Rattle.ghc_depend.specs.Lawful.{IsOfKept, IsFirstWrong, IsFirstMissing}
-use Rattle.ghc_depend.proofs.AffectedSteps.{at_split, any_number, number_any}
-use Rattle.ghc_depend.proofs.Causes.{places_before}
+use Rattle.ghc_depend.proofs.Causes.{at_split, places_before}
 use Rattle.ghc_depend.proofs.Picking.{distinct_push}
+
+-- a number is in a list as the look-up says
+pub any_number : (n : ℕ) (ks : List ℕ) → In n ks → list_any (nat_eq n) ks ≡ true
+any_number n [] i = absurd i
+any_number n (k ∷ ks) (inl e) = ap (λ b. b || list_any (nat_eq n) ks) (eq-eqb n k e)
+any_number n (k ∷ ks) (inr i) = elim (nat_eq n k) as (λ b. (b || list_any (nat_eq n) ks) ≡ true) [ true ↦ refl | false ↦ any_number n ks i ]
+
+pub number_any : (n : ℕ) (ks : List ℕ) → list_any (nat_eq n) ks ≡ true → In n ks
+number_any n [] e = cc
+number_any n (k ∷ ks) e =
+    elim (nat_eq n k) as (λ b. nat_eq n k ≡ b → (b || list_any (nat_eq n) ks) ≡ true → In n (k ∷ ks)) [
+      | true ↦ λ p _. inl (eqb-true n k p)
+      | false ↦ λ p q. inr (number_any n ks q)
+    ] refl e
 
 -- no number is of kept records alone, and none twice
 pub none_of_kept : (kept : List Record) → IsOfKept kept []

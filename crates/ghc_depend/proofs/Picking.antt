@@ -5,6 +5,7 @@ use Rattle.ghc_term.specs.Lists.{In}
 use Rattle.ghc_term.proofs.ListsLemmas.{in_left, in_right, in_either, in_splits, in_more}
 use Rattle.ghc_records.specs.Orders.{Picks, nothing, take, leave, AreDistinct}
 use Rattle.ghc_records.specs.Record.{Record, numbers}
+pub use Rattle.ghc_records.proofs.PickLemmas.{before_left, before_right, before_across, picks_in, picks_has, picks_order, picks_keep, picks_distinct, pick_last, leave_last}
 use Rattle.ghc_records.proofs.OrderLemmas.{Before, before_in, before_once, number_in, number_of, numbers_append}
 
 module _ {X : Type 0} where
@@ -24,28 +25,6 @@ module _ {X : Type 0} where
     | inr (inl same) ↦ let again = subst (λ z. Before xs z r) same before in absurd (before_once xs r r distinct again again)
     | inr (inr i) ↦ absurd (before_once xs a r distinct before (subst (λ z. Before z r a) (sym e) (behind_before front back r a i)))
   ]
-
-  -- of two elements one stands before the other, or they are one
-  either_before : (xs : List X) (a b : X) → In a xs → In b xs → Before xs a b ⊎ (Before xs b a ⊎ (a ≡ b))
-  either_before [] a b i j = absurd i
-  either_before (x ∷ xs) a b (inl e) (inl f) = inr (inr (e ∙ sym f))
-  either_before (x ∷ xs) a b (inl e) (inr j) = inl (inl (e, j))
-  either_before (x ∷ xs) a b (inr i) (inl f) = inr (inl (inl (f, i)))
-  either_before (x ∷ xs) a b (inr i) (inr j) = elim (either_before xs a b i j) [ inl h ↦ inl (inr h) | inr (inl h) ↦ inr (inl (inr h)) | inr (inr e) ↦ inr (inr e) ]
-
-  pub before_left : (xs ys : List X) (a b : X) → Before xs a b → Before (xs ++ ys) a b
-  before_left [] ys a b h = absurd h
-  before_left (x ∷ xs) ys a b (inl h) = inl (h.0, in_left xs ys b h.1)
-  before_left (x ∷ xs) ys a b (inr h) = inr (before_left xs ys a b h)
-
-  pub before_right : (xs ys : List X) (a b : X) → Before ys a b → Before (xs ++ ys) a b
-  before_right [] ys a b h = h
-  before_right (x ∷ xs) ys a b h = inr (before_right xs ys a b h)
-
-  pub before_across : (xs ys : List X) (a b : X) → In a xs → In b ys → Before (xs ++ ys) a b
-  before_across [] ys a b i j = absurd i
-  before_across (x ∷ xs) ys a b (inl e) j = inl (e, in_right xs ys b j)
-  before_across (x ∷ xs) ys a b (inr i) j = inr (before_across xs ys a b i j)
 
   kept_in : (before behind : List X) (x y : X) → In y (before ++ x ∷ behind) → ¬ (y ≡ x) → In y (before ++ behind)
   kept_in before behind x y i n = elim (in_either before (x ∷ behind) y i) [
@@ -95,33 +74,6 @@ module _ {X : Type 0} where
   distinct_push (y ∷ xs) x d new = ((λ i. elim (in_more xs x y i) [ inl j ↦ d.0 j | inr e ↦ new (inl (sym e)) ]), distinct_push xs x d.1 (λ i. new (inr i)))
 
 module _ {X : Type 0} {P : X → Type 0} where
-  pub picks_in : (xs ys : List X) (y : X) → Picks P xs ys → In y ys → In y xs × P y
-  picks_in [] ys y nothing i = absurd i
-  picks_in (x ∷ xs) ys y (take p k) (inl e) = (inl e, subst P (sym e) p)
-  picks_in (x ∷ xs) ys y (take p k) (inr i) = let q = picks_in xs _ y k i in (inr q.0, q.1)
-  picks_in (x ∷ xs) ys y (leave p k) i = let q = picks_in xs _ y k i in (inr q.0, q.1)
-
-  pub picks_has : (xs ys : List X) (x : X) → Picks P xs ys → In x xs → In x ys ⊎ (¬ P x)
-  picks_has [] ys x nothing i = absurd i
-  picks_has (y ∷ xs) ys x (take p k) (inl e) = inl (inl e)
-  picks_has (y ∷ xs) ys x (take p k) (inr i) = elim (picks_has xs _ x k i) [ inl j ↦ inl (inr j) | inr n ↦ inr n ]
-  picks_has (y ∷ xs) ys x (leave p k) (inl e) = inr (λ q. p (subst P e q))
-  picks_has (y ∷ xs) ys x (leave p k) (inr i) = picks_has xs _ x k i
-
-  pub picks_order : (xs ys : List X) (a b : X) → Picks P xs ys → Before ys a b → Before xs a b
-  picks_order [] ys a b nothing h = absurd h
-  picks_order (x ∷ xs) ys a b (take p k) (inl h) = inl (h.0, (picks_in xs _ b k h.1).0)
-  picks_order (x ∷ xs) ys a b (take p k) (inr h) = inr (picks_order xs _ a b k h)
-  picks_order (x ∷ xs) ys a b (leave p k) h = inr (picks_order xs _ a b k h)
-
-  -- the elements picked keep their order
-  pub picks_keep : (xs ys : List X) (a b : X) → AreDistinct xs → Picks P xs ys → In a ys → In b ys → Before xs a b → Before ys a b
-  picks_keep xs ys a b distinct k i j before = elim (either_before ys a b i j) [
-    | inl h ↦ h
-    | inr (inl h) ↦ absurd (before_once xs a b distinct before (picks_order xs ys b a k h))
-    | inr (inr same) ↦ let again = subst (λ z. Before xs z b) same before in absurd (before_once xs b b distinct again again)
-  ]
-
   -- where it is known of each element whether P holds of it, the elements can be picked
   pub pick : (xs : List X) → ((x : X) → In x xs → P x ⊎ (¬ P x)) → (ys : List X) × Picks P xs ys
   pick [] known = ([], nothing)
@@ -131,12 +83,6 @@ module _ {X : Type 0} {P : X → Type 0} where
         | inl p ↦ (x ∷ rest.0, take p rest.1)
         | inr n ↦ (rest.0, leave n rest.1)
       ]
-
-pub picks_distinct : {P : Record → Type 0} (rs left : List Record) → Picks P rs left → AreDistinct (numbers rs) → AreDistinct (numbers left)
-picks_distinct [] left nothing d = tt
-picks_distinct (r ∷ rs) left (take {ys = ys} p k) d =
-    ((λ i. let q = number_of ys r.number i in d.0 (subst (λ n. In n (numbers rs)) q.2 (number_in rs q.0 (picks_in rs ys q.0 k q.1).0))), picks_distinct rs ys k d.1)
-picks_distinct (r ∷ rs) left (leave p k) d = picks_distinct rs left k d.1
 
 -- a record more, of a new number
 pub records_push : (rs : List Record) (r : Record) → AreDistinct (numbers rs) → ¬ In r.number (numbers rs) → AreDistinct (numbers (rs ++ r ∷ []))

@@ -12,7 +12,7 @@ use Rattle.ghc_term.proofs.Total.{same_name}
 use Rattle.ghc_records.specs.Orders.{Precedes}
 use Rattle.ghc_records.specs.Record.{Record}
 use Rattle.ghc_records.proofs.OrderLemmas.{before_in, is_before, precedes_rises, Rises}
-use Rattle.ghc_depend.specs.Depend.{Consumes, Binds, ReadsFrom}
+use Rattle.ghc_depend.specs.Depend.{Consumes, Binds}
 use Rattle.ghc_depend.specs.Cause.{by_reading}
 use Rattle.ghc_depend.specs.Facts.{first_wake, second_wake, third_wake, wake, WakingDepends}
 
@@ -49,13 +49,13 @@ makes_nothing m (inr (inr (inr i))) = absurd i
 binds_nothing : (x : VarName) → ¬ Binds third_wake x
 binds_nothing x b = let e : true ≡ false = sym b ∙ ap is_some (finite.get-empty name_cmp x) in cc
 
-not_later : (c : Record) (x : VarName) → Precedes wake second_wake c → ¬ ReadsFrom third_wake c x
-not_later c x p r =
+not_later : (c : Record) (x : VarName) → Precedes wake second_wake c → ¬ Binds c x
+not_later c x p b =
     let n = precedes_rises number wake second_wake c rising p in
     elim (before_in wake second_wake c (is_before wake second_wake c p)).1 [
       | inl e ↦ let m : c.number ≡ 1 = ap number e in omega arith
       | inr (inl e) ↦ let m : c.number ≡ 2 = ap number e in omega arith
-      | inr (inr (inl e)) ↦ binds_nothing x (subst (λ d. Binds d x) e r.1)
+      | inr (inr (inl e)) ↦ binds_nothing x (subst (λ d. Binds d x) e b)
       | inr (inr (inr i)) ↦ absurd i
     ]
 
@@ -68,6 +68,6 @@ not_made m i c = let n : length m.effect.makes ≡ 0 = ap length (makes_nothing 
 pub waking : WakingDepends
 waking = record {
   woken = by_reading (first_wake ∷ [], [], [], refl) (not_made second_wake (inr (inl refl))) ((reads_y, binds_y), λ x r. inl (reads_alone x r.0))
-      (λ _. (tt, (λ m i c. absurd (not_made m i c)), λ r. not_later r.0 r.1 r.2 r.3), λ _. refl);
+      (λ _. (tt, (λ m i c. absurd (not_made m i c)), λ r. not_later r.2.0 r.0 r.2.1 r.2.2), λ _. refl);
   apart = λ d. elim d.1 [ inl c ↦ not_made first_wake (inl refl) c | inr r ↦ not_first (subst (Binds first_wake) (reads_alone r.0 r.1.0) r.1.1) ];
 }

@@ -1,5 +1,6 @@
 -- Why a step depends on an earlier one.
 use Rattle.std.specs.Prelude.{◌≡◌, ◌⊎◌, ◌↔◌, ℕ, List, map, Option, Some, None, IsTrue, Bool}
+use Rattle.std.specs.FinSet as set
 use Rattle.std.specs.declared.cmp.Ordering.TheVariants.{Less}
 use Rattle.ghc_term.specs.declared.var_name.VarName.{VarName}
 use Rattle.ghc_term.specs.Lists.{In}
@@ -10,7 +11,7 @@ use Rattle.ghc_records.specs.Orders.{Precedes, Picks}
 use Rattle.ghc_records.specs.Record.{Record}
 use Rattle.ghc_depend.specs.declared.cause.Cause.{Cause}
 use Rattle.ghc_depend.specs.declared.cause.Cause.TheVariants.{Made as made, Read as read}
-use Rattle.ghc_depend.specs.Depend.{Consumes, ReadsFrom, DependsOn, IsKeptAs}
+use Rattle.ghc_depend.specs.Depend.{Consumes, Binds, ReadsFrom, DependsOn, IsKeptAs}
 
 -- The act reduces a call or assigns, so that its goal can have waited.
 abbrev pub CanWait : Act → Type 0
@@ -24,9 +25,13 @@ CanWait closed = ⊥
 abbrev pub WasThereBefore : List Record → Record → Record → Type 0
 WasThereBefore rs b a = (m : Record) → In m rs → Consumes b m → Precedes rs m a
 
+-- A step after a bound the variable x.
+abbrev pub IsBoundBehind : List Record → Record → VarName → Type 0
+IsBoundBehind rs a x = (c : Record) × Precedes rs a c × Binds c x
+
 -- The step b read a variable that a step after a bound.
 abbrev pub ReadsBehind : List Record → Record → Record → Type 0
-ReadsBehind rs b a = (c : Record) × (x : VarName) × Precedes rs a c × ReadsFrom b c x
+ReadsBehind rs b a = (x : VarName) × IsTrue (set.contains b.effect.reads x) × IsBoundBehind rs a x
 
 -- The step a woke the goal of b: that goal can have waited and was there before a, and no step after a bound a variable that b read.
 abbrev pub IsWokenBy : List Record → Record → Record → Type 0

@@ -1,33 +1,10 @@
 -- Dependence and consequences.
-use Rattle.std.specs.Prelude.{◌≡◌, ◌⊎◌, ℕ, List, [], Some, IsTrue}
-use Rattle.std.specs.FinMap as finite
-use Rattle.std.specs.FinSet as set
-use Rattle.ghc_term.specs.declared.var_name.VarName.{VarName}
+use Rattle.std.specs.Prelude.{◌≡◌, ◌⊎◌, ℕ, List, [], Some}
 use Rattle.ghc_term.specs.declared.goal_name.GoalName.{GoalName}
 use Rattle.ghc_term.specs.Lists.{In}
 use Rattle.ghc_records.specs.Orders.{Precedes, Picks}
 use Rattle.ghc_records.specs.Record.{Record}
-pub use Rattle.ghc_records.specs.Replay.{MakesGoal}
-
--- The step b consumed a goal that the step a made.
-abbrev pub Consumes : Record → Record → Type 0
-Consumes b a = (g : GoalName) × (b.goal ≡ Some g) × MakesGoal a g
-
--- The step bound the variable x.
-abbrev pub Binds : Record → VarName → Type 0
-Binds r x = IsTrue (finite.contains_key r.effect.binds x)
-
--- The step b read the variable x, which the step a bound.
-abbrev pub ReadsFrom : Record → Record → VarName → Type 0
-ReadsFrom b a x = IsTrue (set.contains b.effect.reads x) × Binds a x
-
--- The step b used what the step a gave: it consumed a goal that a made, or read a variable that a bound.
-abbrev pub Uses : Record → Record → Type 0
-Uses b a = Consumes b a ⊎ ((x : VarName) × ReadsFrom b a x)
-
--- In the record, b depends directly on the earlier a, whose goals or bindings it used.
-abbrev pub DependsOn : List Record → Record → Record → Type 0
-DependsOn rs b a = Precedes rs a b × Uses b a
+pub use Rattle.ghc_records.specs.Uses.{MakesGoal, Consumes, Binds, ReadsFrom, Uses, DependsOn}
 
 -- Follows rs a b: b is a consequence of a, by a chain of direct dependence.
 pub data Follows (rs : List Record) (a : Record) : Record → Type 0 where

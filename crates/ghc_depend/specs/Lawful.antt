@@ -1,5 +1,5 @@
 -- Lawful orders of a record, and why an order is not lawful.
-use Rattle.std.specs.Prelude.{◌≡◌, ◌⊎◌, ◌↔◌, ◌<◌, ℕ, List, ◌∷◌, ◌++◌, Some, slice_get}
+use Rattle.std.specs.Prelude.{◌≡◌, ◌⊎◌, ◌↔◌, ◌<◌, ◌≤◌, ℕ, List, ◌∷◌, ◌++◌, Some, slice_get}
 use Rattle.ghc_term.specs.Lists.{In}
 use Rattle.ghc_records.specs.Orders.{Precedes, AreDistinct}
 use Rattle.ghc_records.specs.Record.{Record, numbers}
@@ -24,6 +24,10 @@ IsLawful kept order = IsOrderOf kept order × ((a b : Record) → ¬ IsTooEarly 
 -- In the order, the number stands behind this place.
 abbrev pub StandsBehind : List ℕ → ℕ → ℕ → Type 0
 StandsBehind order place n = (own : ℕ) × (slice_get order own ≡ Some n) × (place < own)
+
+-- Where the number stands in the order in front of this place, `first` is no further.
+abbrev pub IsNoFurther : List ℕ → ℕ → ℕ → ℕ → Type 0
+IsNoFurther order place n first = (own : ℕ) → slice_get order own ≡ Some n → own < place → first ≤ own
 
 -- The step of this number does not stand before one on which it depends.
 abbrev pub IsInTime : List Record → List ℕ → ℕ → Type 0

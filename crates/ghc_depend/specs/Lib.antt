@@ -1,5 +1,5 @@
 pub mod Depend
-pub mod Affected
+pub mod Places
 pub mod Cause
 pub mod Deletion
 pub mod Lawful

@@ -1,11 +1,11 @@
 // Why a step depends directly on an earlier one.
-ghost use Rattle.std.specs.Prelude.{◌≡◌, ◌<◌, ◌↔◌, length, slice_get, Some, IsTrue, IfSome, IfNone};
+ghost use Rattle.std.specs.Prelude.{◌≡◌, ◌↔◌, slice_get, Some, IsTrue, IfSome, IfNone};
 ghost use Rattle.std.specs.Ordering.{ord_min};
 ghost use Rattle.ghc_term.specs.Bindings.{name_cmp};
 ghost use Rattle.ghc_term.specs.declared.var_name.VarName.{VarName};
 ghost use Rattle.ghc_records.specs.Record.{Record};
 ghost use Rattle.ghc_depend.specs.Depend.{MakesGoal, Consumes, Binds, ReadsFrom, Uses};
-ghost use Rattle.ghc_depend.specs.Cause.{CanWait, WasThereBefore, ReadsBehind, IsWokenBy, IsLeastRead, IsDirect};
+ghost use Rattle.ghc_depend.specs.Cause.{CanWait, WasThereBefore, IsBoundBehind, ReadsBehind, IsWokenBy, IsLeastRead, IsDirect};
 
 use ghc_fire::Act;
 use ghc_records::{Record, Records};
@@ -117,23 +117,34 @@ fn was_there_before(records: &Records, later: &Record, place: usize) -> bool
     made < place
 }
 
-// Whether the later step read a variable that a step behind this place bound: a look-up for each that it read, at each step.
+// Whether the step that bound the variable, if one did, stands behind this place: two look-ups.
+fn is_bound_behind(records: &Records, x: VarName, place: usize) -> bool
+    ensures { IfSome (slice_get records.now.held place) (λ a. IsTrue result ↔ IsBoundBehind records.now.held a x) }
+{
+    let _count = records.len();
+    let Some(binder) = records.binder_of(x) else {
+        return false;
+    };
+    match records.place_of(binder) {
+        Some(behind) => place < behind,
+        None => false,
+    }
+}
+
+// Whether the later step read a variable that a step behind this place bound: two look-ups for each that it read.
 fn reads_behind(records: &Records, later: &Record, place: usize) -> bool
-    requires { place < length records.now.held }
     ensures { IfSome (slice_get records.now.held place) (λ a. IsTrue result ↔ ReadsBehind records.now.held later.now a) }
 {
-    let end = records.len();
-    for index in place + 1..end {
-        if reads_from(later, records.at(index).unwrap()) {
+    for x in later.effect().reads().members() {
+        if is_bound_behind(records, *x, place) {
             return true;
         }
     }
     false
 }
 
-// Whether the step at this place woke the goal of the later one: it goes over the records behind that place at most once.
+// Whether the step at this place woke the goal of the later one: one look-up, and two for each variable that the later step read.
 fn is_woken_by(records: &Records, later: &Record, place: usize) -> bool
-    requires { place < length records.now.held }
     ensures { IfSome (slice_get records.now.held place) (λ a. IsTrue result ↔ IsWokenBy records.now.held later.now a) }
 {
     can_wait(later.act())
@@ -143,7 +154,7 @@ fn is_woken_by(records: &Records, later: &Record, place: usize) -> bool
 
 /// Why the step numbered `later` depends directly on the one numbered `earlier`, if it does: for a goal that it made, and else for
 /// the least variable. None where one of them is not kept. It costs two look-ups, and one for each variable that the later step
-/// read; for the mark `woke` it goes over the records behind the earlier step, with as many look-ups at each.
+/// read; the mark `woke` costs one more, and two for each variable.
 pub fn direct(records: &Records, later: u32, earlier: u32) -> Option<Cause>
     ensures { IsDirect records.now.held later earlier result }
 {

@@ -1,37 +1,50 @@
 // Whether an order of the record is lawful, and what tells why not.
-ghost use Rattle.std.specs.Prelude.{◌≡◌, ◌⊎◌, ◌≤◌, ℕ, length, IfOk, IfErr, OnOk, IfSome, IfNone, Some, slice_get};
+ghost use Rattle.std.specs.Prelude.{◌≡◌, ◌⊎◌, ◌≤◌, ℕ, IfErr, OnOk, IfSome, IfNone, Some, slice_get};
 ghost use Rattle.ghc_term.specs.declared.fault.Fault.{Fault};
 ghost use Rattle.ghc_records.specs.Orders.{AreDistinct};
 ghost use Rattle.ghc_records.specs.Record.{Record};
-ghost use Rattle.ghc_depend.specs.Lawful.{IsOrderOf, IsTooEarly, IsLawful, AreInTime, IsInTime, IsFirstNeeded, IsFirstTooEarly, IsUnlawful};
+ghost use Rattle.ghc_records.specs.UseIndex.{StepDependsOn};
+ghost use Rattle.ghc_depend.specs.Lawful.{IsOrderOf, IsTooEarly, IsLawful, IsNoFurther, AreInTime, IsInTime, IsFirstNeeded, IsFirstTooEarly, IsUnlawful};
 
-use crate::affected::Affected;
 use crate::cause::uses;
-use crate::places::{first_missing, places_of, stands_behind};
+use crate::places::{first_missing, no_further, places_of, stands_behind};
 use ghc_records::Records;
 use ghc_term::Fault;
 use indexmap::IndexSet;
-use std::alloc::{AllocError, Global};
+use std::alloc::Global;
 
-// How many steps of the order stand in front of the first that used what one behind it gave: all of these are in time. It goes
-// over the order from its end, with a look-up for each variable that a step read or bound.
-fn count_in_time(alloc: Global, records: &Records, order: &[u32]) -> Result<usize, AllocError>
-    requires { IsOrderOf records.now.held order.now }
-    ensures { IfOk result (AreInTime records.now.held order.now) }
+// The least of `first` and the places in front of `place` where steps stand that depend directly on the one of this number: one
+// look-up, and one for each of these steps.
+fn first_user(
+    records: &Records,
+    places: &IndexSet<u32>,
+    number: u32,
+    place: usize,
+    first: usize,
+) -> usize
+    requires { AreDistinct places.now.keys }
+    ensures within { result ≤ first }
+    ensures users { (n : ℕ) → StepDependsOn records.now.held n number → IsNoFurther places.now.keys place n result }
 {
-    let _count = records.len();
-    let mut behind = Affected::new(alloc);
-    let mut in_time = order.len();
-    for index in (0..order.len()).rev() {
-        let taken = records.get(order[index]).unwrap();
-        if behind.touches(records, taken) {
-            in_time = index;
-        }
-        if let Err(error) = behind.add(taken) {
-            return Err(error);
-        }
+    let mut least = first;
+    for user in records.users_of(number) {
+        least = no_further(places, *user, place, least);
     }
-    Ok(in_time)
+    least
+}
+
+// How many steps of the order surely stand in time: those in front of the first that stands before a step on which it depends. It
+// goes once over the order, with a look-up for each step, and one for each direct dependence.
+fn count_in_time(records: &Records, places: &IndexSet<u32>, order: &[u32]) -> usize
+    requires places { places.now.keys ≡ order.now }
+    requires distinct { AreDistinct order.now }
+    ensures { AreInTime records.now.held order.now result }
+{
+    let mut in_time = order.len();
+    for place in 0..order.len() {
+        in_time = first_user(records, places, order[place], place, in_time);
+    }
+    in_time
 }
 
 // The number of the first step, in recorded order, on which the step of this number and this place in the order depends directly
@@ -79,8 +92,8 @@ fn first_too_early(
 /// Whether the order is lawful: it has each kept number once and nothing else, and no step stands before one on which it depends
 /// directly. Else `NotLawful`, with the pair that tells why: twice the first number that is not kept or stood before; or else the
 /// first that is missing, and 0; or else the two first steps of which the earlier in the order depends on the later. Beside these
-/// it fails for want of memory alone. In a record that replays it goes once over order and record, with a look-up for each
-/// variable that a step read or bound, and where a step stands too early once more over the record.
+/// it fails for want of memory alone. It goes once over order and record, with some look-ups for each step, and one for each direct
+/// dependence; where a step stands too early, it goes once more over the record.
 pub fn lawful(alloc: Global, records: &Records, order: &[u32]) -> Result<(), Fault>
     ensures ok { OnOk result (IsLawful records.now.held order.now) }
     ensures fault { IfErr result (λ f. (f ≡ Fault.Memory) ⊎ ((a b : ℕ) × (f ≡ Fault.NotLawful a b) × IsUnlawful records.now.held order.now a b)) }
@@ -95,7 +108,7 @@ pub fn lawful(alloc: Global, records: &Records, order: &[u32]) -> Result<(), Fau
             later: 0,
         });
     }
-    let start = count_in_time(alloc, records, order)?;
+    let start = count_in_time(records, &places, order);
     match first_too_early(records, &places, order, start) {
         Some((earlier, later)) => Err(Fault::NotLawful { earlier, later }),
         None => Ok(()),

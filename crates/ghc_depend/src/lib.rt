@@ -1,7 +1,6 @@
 //! Dependence between kept steps, consequences, deletion, lawful orders, and the kept list of a journal.
 #![tactic(auto)]
 
-mod affected;
 mod cause;
 mod consequence;
 mod facts;

@@ -1,10 +1,10 @@
 // The numbers of an order with their places, where each is kept and none stands twice.
-ghost use Rattle.std.specs.Prelude.{◌≡◌, ◌⊎◌, ◌↔◌, ◌<◌, ◌++◌, ◌∷◌, [], ℕ, true, false, IfOk, IfErr, OnOk, IfSome, IfNone, Some, slice_get, IsTrue};
+ghost use Rattle.std.specs.Prelude.{◌≡◌, ◌⊎◌, ◌↔◌, ◌<◌, ◌≤◌, ◌++◌, ◌∷◌, [], ℕ, true, false, IfOk, IfErr, OnOk, IfSome, IfNone, Some, IsTrue};
 ghost use Rattle.ghc_term.specs.Lists.{In};
 ghost use Rattle.ghc_term.specs.declared.fault.Fault.{Fault};
 ghost use Rattle.ghc_records.specs.Orders.{AreDistinct};
 ghost use Rattle.ghc_records.specs.Record.{Record, numbers};
-ghost use Rattle.ghc_depend.specs.Lawful.{IsOfKept, IsFirstWrong, IsFirstMissing, StandsBehind};
+ghost use Rattle.ghc_depend.specs.Lawful.{IsOfKept, IsFirstWrong, IsFirstMissing, StandsBehind, IsNoFurther};
 
 use ghc_records::Records;
 use ghc_term::Fault;
@@ -76,5 +76,17 @@ pub(crate) fn stands_behind(places: &IndexSet<u32>, number: u32, place: usize) -
     match places.get_index_of(&number) {
         Some(own) => place < own,
         None => false,
+    }
+}
+
+/// The lesser of `first` and the place of the number, where that is in front of `place`; else `first`: one look-up.
+pub(crate) fn no_further(places: &IndexSet<u32>, number: u32, place: usize, first: usize) -> usize
+    requires { AreDistinct places.now.keys }
+    ensures within { result ≤ first }
+    ensures found { IsNoFurther places.now.keys place number result }
+{
+    match places.get_index_of(&number) {
+        Some(own) => { if own < place { first.min(own) } else { first } }
+        None => first,
     }
 }

@@ -1,7 +1,7 @@
 use Rattle.std.proofs.Common.{◌≡◌, true, false, sym, ap, ◌∙◌, arith}
 use Rattle.std.specs.Prelude.{option_copied}
 use Rattle.ghc_term.proofs.Members.{at_some}
-use Rattle.ghc_depend.proofs.Causes.{place_within, none_earlier, none_later, not_behind, is_made, is_read, is_none}
+use Rattle.ghc_depend.proofs.Causes.{none_earlier, none_later, not_behind, is_made, is_read, is_none}
 use Rattle.ghc_depend.proofs.cause.direct.Goals as goal
 
 pub returns-in_err-place : goal.returns-in_err-place
@@ -24,9 +24,6 @@ returns-in_err-variable c = rw c.from_residual-in_err-variable.ensures (
     is_none c.args.records.now.held c.args.later c.args.earlier c.in_ok-place.place c.in_ok-behind.behind c.in_ok-place.ensures.found c.in_ok-behind.ensures.found c.unwrap-taken.result.now c.unwrap-maker.result.now
     (sym c.at.ensures ∙ ap option_copied c.unwrap-maker.ensures) (sym c.at-2.ensures ∙ ap option_copied c.unwrap-taken.ensures) c.len-count.ensures.distinct
     (λ m. let clash : true ≡ false = sym (c.consumes.ensures.1 m) ∙ c.if-consumes.false in cc) c.in_err-variable.ensures.none)
-
-pub is_woken_by-woke-requires : goal.is_woken_by-woke-requires
-is_woken_by-woke-requires c = place_within c.args.records.now.held c.in_ok-place.place c.unwrap-maker.result.now (sym c.at.ensures ∙ ap option_copied c.unwrap-maker.ensures)
 
 pub returns : goal.returns
 returns c =

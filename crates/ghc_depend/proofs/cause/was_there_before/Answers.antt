@@ -1,8 +1,7 @@
 use Rattle.std.proofs.Common.{◌≡◌, true, false, refl, sym, ap, ◌∙◌}
 use Rattle.std.specs.Prelude.{slice_get, option_copied}
 use Rattle.std.proofs.lemmas.Bool.{ltb-true, lt-ltb}
-use Rattle.ghc_depend.proofs.Causes.{if_some, before_none, before_other, was_there, place_there}
-use Rattle.ghc_depend.proofs.Walking.{kept_at}
+use Rattle.ghc_depend.proofs.Causes.{kept_at, if_some, before_none, before_other, was_there, place_there}
 use Rattle.ghc_depend.proofs.cause.was_there_before.Goals as goal
 
 pub returns-in_default-place_of : goal.returns-in_default-place_of

@@ -1,9 +1,8 @@
 use Rattle.std.proofs.Common.{sym, ap, ◌∙◌, subst, arith}
 use Rattle.std.specs.Prelude.{Some, option_copied}
 use Rattle.ghc_depend.specs.Lawful.{StandsBehind, IsInTime}
-use Rattle.ghc_depend.proofs.Causes.{place_within, some_within}
+use Rattle.ghc_depend.proofs.Causes.{kept_at, place_within, some_within}
 use Rattle.ghc_depend.proofs.InTime.{not_kept_in_time, first_step, no_step}
-use Rattle.ghc_depend.proofs.Walking.{kept_at}
 use Rattle.ghc_depend.proofs.lawful_order.first_needed.Goals as goal
 
 pub returns-in_err-end-clause-none : goal.returns-in_err-end-clause-none

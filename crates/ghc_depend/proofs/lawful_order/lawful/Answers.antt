@@ -13,9 +13,6 @@ returns-in-Some-clause-fault c =
     let m = c.in-Some.ensures.missing in
     inr (c.in-Some.number, 0, refl, subst (λ n. IsUnlawful kept order n 0) m.2 (missing c.in-Ok.ensures.kept (subst (λ o. IsFirstMissing kept o m.0) c.in-Ok.ensures.places m.1)))
 
-pub count_in_time-requires : goal.count_in_time-requires
-count_in_time-requires c = (c.in-Ok.ensures.kept, λ n i. subst (In n) c.in-Ok.ensures.places (c.in_default.ensures.all n i))
-
 pub first_too_early-requires-clause-of_kept : goal.first_too_early-requires-clause-of_kept
 first_too_early-requires-clause-of_kept c = (c.in-Ok.ensures.kept, λ n i. subst (In n) c.in-Ok.ensures.places (c.in_default.ensures.all n i))
 

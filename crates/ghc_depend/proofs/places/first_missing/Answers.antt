@@ -2,8 +2,7 @@ use Rattle.std.proofs.Common.{sym, ap, ◌∙◌, subst, arith}
 use Rattle.std.specs.Prelude.{option_copied}
 use Rattle.std.proofs.lemmas.List.{take_all}
 use Rattle.ghc_term.specs.Lists.{In}
-use Rattle.ghc_depend.proofs.AffectedSteps.{number_any}
-use Rattle.ghc_depend.proofs.OrderWalks.{places_next, is_missing, none_missing, not_any}
+use Rattle.ghc_depend.proofs.OrderWalks.{number_any, places_next, is_missing, none_missing, not_any}
 use Rattle.ghc_depend.proofs.places.first_missing.Goals as goal
 
 pub returns-then-not-contains-clause-missing : goal.returns-then-not-contains-clause-missing

@@ -3,7 +3,7 @@ use Rattle.std.proofs.lemmas.List.{take_all}
 use Rattle.std.proofs.lemmas.Option.{slice_get-get_or}
 use Rattle.ghc_term.specs.Lists.{In}
 use Rattle.ghc_depend.specs.Lawful.{IsOfKept}
-use Rattle.ghc_depend.proofs.AffectedSteps.{at_split}
+use Rattle.ghc_depend.proofs.Causes.{at_split}
 use Rattle.ghc_depend.proofs.OrderWalks.{next_of_kept, is_wrong}
 use Rattle.ghc_depend.proofs.places.places_of.Goals as goal
 

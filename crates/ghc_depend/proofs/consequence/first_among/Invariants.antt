@@ -1,0 +1,6 @@
+use Rattle.std.proofs.Common.{take}
+use Rattle.ghc_depend.specs.Places.{IsFirstAmong}
+use Rattle.ghc_depend.proofs.consequence.first_among.Given as goal
+
+abbrev pub invariant-loop-n : goal.invariant-loop-n
+invariant-loop-n l = IsFirstAmong l.records.held (take l.n-index l.ns) l.first
