@@ -10,10 +10,12 @@ use Rattle.ghc_fire.specs.declared.act.Act.{Act}
 use Rattle.ghc_fire.specs.declared.act.Act.TheVariants.{Given as given, Closed as closed}
 use Rattle.ghc_records.specs.Orders.{nothing, take, leave, AreDistinct}
 use Rattle.ghc_records.specs.Record.{Record, numbers}
-use Rattle.ghc_records.specs.Journal.{undid, rolled}
+use Rattle.ghc_records.specs.Journal.{undid, rolled, reordered}
 use Rattle.ghc_records.proofs.OrderLemmas.{Before, is_before, before_in, before_once, number_in, number_of, records_distinct}
-use Rattle.ghc_depend.specs.Depend.{Follows, directly, further}
+use Rattle.ghc_depend.specs.Depend.{DependsOn, Follows, directly, further}
 use Rattle.ghc_depend.specs.Kept.{IsWithout}
+use Rattle.ghc_depend.specs.Lawful.{IsLawful, IsInOrder}
+use Rattle.ghc_depend.proofs.Arranging.{neighbours_lawful}
 use Rattle.ghc_depend.proofs.Following.{first_or_none}
 use Rattle.ghc_depend.proofs.Picking.{before_front, records_push}
 use Rattle.ghc_depend.proofs.Undoing as undoing
@@ -150,3 +152,11 @@ module _ (w : World) (good : Good w) (replay : IsReplay w w.kept w.state) where
 
 pub step_then_undo : laws.StepThenUndo
 step_then_undo w v hands left e n reach a = undo_answered w (reached_good reach) (reachable_replay w hands reach) hands left e (stepped n) v a n refl
+
+-- two neighbours that do not depend on each other are in a lawful order the other way round
+pub neighbours_arranged : laws.NeighboursAreArranged
+neighbours_arranged w hands front back a b reach splits apart =
+    let new = front ++ b ∷ a ∷ back in
+    let l = neighbours_lawful front back a b (subst (λ ks. AreDistinct (numbers ks)) splits (reached_good reach).kept_once) (λ d. apart (subst (λ ks. DependsOn ks b a) (sym splits) d)) in
+    let here = subst (λ ks. IsLawful ks (numbers new) × IsInOrder ks (numbers new) new) (sym splits) l in
+    (record w { kept = new; journal = w.journal ++ reordered (numbers new) ∷ [] }, by.Arranges.puts new here.0 here.1, refl, refl)

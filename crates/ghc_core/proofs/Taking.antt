@@ -1,9 +1,21 @@
--- A commit leaves a world that a core can be in.
-use Rattle.std.proofs.Common.{◌≡◌, refl, arith, Some}
+-- A commit leaves a world that a core can be in, and binds what no kept step bound.
+use Rattle.std.proofs.Common.{◌≡◌, List, true, refl, arith, Option, Some, None}
+use Rattle.std.specs.Prelude.{is_some}
 use Rattle.std.specs.FinMap as finite
 use Rattle.std.specs.Cmp.{nat_cmp_total}
+use Rattle.ghc_term.specs.declared.var_name.VarName.{VarName}
+use Rattle.ghc_term.specs.Tree.{Tree}
+use Rattle.ghc_term.specs.Lists.{In}
+use Rattle.ghc_term.specs.Store.{value_at}
+use Rattle.ghc_flat.specs.Clause.{Program, Query}
+use Rattle.ghc_fire.proofs.Steps.{effect_binds}
 use Rattle.ghc_fire.specs.Proposal.{Proposal}
-use Rattle.ghc_records.specs.Record.{Record}
+use Rattle.ghc_records.specs.Record.{State, Record, Fires}
+use Rattle.ghc_records.specs.Replay.{Replays}
+use Rattle.ghc_depend.specs.Depend.{Binds}
+use Rattle.ghc_depend.proofs.Finding.{not_both}
+use Rattle.ghc_depend.proofs.Placing.{results_of}
+use Rattle.ghc_depend.proofs.Results.{taken}
 use Rattle.ghc_core.specs.World.{Hands, IsHand, with_hand, emptied, World, with_step}
 use Rattle.ghc_core.specs.Events.{propose, commit, held, stepped}
 use Rattle.ghc_core.specs.Proposes.{IsCommitOf}
@@ -28,3 +40,15 @@ stands w p r s c =
     let proposed : IsReachable w full = by_event (propose 1 p.goal (choice_of p.act)) (held 1) (with_other_hands s refl) tt (to_propose (asking.Proposes.holds h.0 p.act p.effect is_hand h.2 (still_proposed w p h))) in
     let committed : IsReachable (with_step r w) (emptied 1 full) = by_event (commit 1) (stepped w.next) proposed tt (to_commit (asking.Commits.takes asked r is_hand in_hand c)) in
     with_other_hands committed refl
+
+there : (o : Option Tree) → is_some o ≡ true → (t : Tree) × (o ≡ Some t)
+there (Some t) e = (t, refl)
+there None e = cc
+
+-- Of steps whose replay is a state none bound what a step binds that is possible there.
+pub unbound_there : (P : Program) (query : Query) (rs : List Record) (s : State) → Replays P query rs s → (r : Record) → Fires P s r → (a : Record) (x : VarName) → In a rs → Binds a x → ¬ Binds r x
+unbound_there P query rs s replay r fires a x i bound again =
+    let first = there (value_at a.effect.binds x) bound in
+    let second = there (value_at r.effect.binds x) again in
+    let t = taken P s r fires in
+    not_both ((results_of P query rs s replay).bound a x first.0 i first.1) ((effect_binds P t.goal r.act r.number (value_at s.store) r.effect t.effect).binds_new x second.0 second.1)

@@ -7,6 +7,7 @@ use Rattle.ghc_fire.specs.Proposal.{Proposal}
 use Rattle.ghc_records.specs.Numbers.{kept_limit}
 use Rattle.ghc_records.specs.Record.{Record, numbers, Fires}
 use Rattle.ghc_records.specs.State.{HasRoomToTake}
+use Rattle.ghc_records.specs.UseIndex.{HasRoomToKeep}
 use Rattle.ghc_depend.specs.Depend.{Follows, Binds}
 use Rattle.ghc_depend.specs.Deletion.{IsBoundIn}
 use Rattle.ghc_depend.specs.Kept.{IsSplitAt}
@@ -37,13 +38,13 @@ CanChange w (takes_away r) = In r w.kept × ((b : Record) → ¬ Follows w.kept 
 CanChange w (takes_all gone) = CanRoll w.kept gone
 CanChange w (reorders a) = IsLawful w.kept a.order × IsInOrder w.kept a.order a.records
 
--- There is room for the change.
-abbrev pub HasRoomFor : Room → Change → Type 0
-HasRoomFor room (adds r) = HasRoomToTake room.state r × (0 < room.kept) × (0 < room.journal) × (length r.effect.makes ≤ room.tries)
-HasRoomFor room (puts_back r) = HasRoomToTake room.state r × (0 < room.kept) × (0 < room.journal) × (length r.effect.makes ≤ room.tries)
-HasRoomFor room (takes_away r) = (0 < room.state.goals) × (0 < room.shelf) × (0 < room.journal) × (0 < room.tries)
-HasRoomFor room (takes_all gone) = (length gone ≤ room.state.goals) × (length gone ≤ room.shelf) × (0 < room.journal) × (length gone ≤ room.tries)
-HasRoomFor room (reorders a) = 0 < room.journal
+-- In the world there is room for the change.
+abbrev pub HasRoomFor : World → Room → Change → Type 0
+HasRoomFor w room (adds r) = HasRoomToTake room.state r × HasRoomToKeep w.kept room.kept r × (0 < room.journal) × (length r.effect.makes ≤ room.tries)
+HasRoomFor w room (puts_back r) = HasRoomToTake room.state r × HasRoomToKeep w.kept room.kept r × (0 < room.journal) × (length r.effect.makes ≤ room.tries)
+HasRoomFor w room (takes_away r) = (0 < room.state.goals) × (0 < room.shelf) × (0 < room.journal) × (0 < room.tries)
+HasRoomFor w room (takes_all gone) = (length gone ≤ room.state.goals) × (length gone ≤ room.shelf) × (0 < room.journal) × (length gone ≤ room.tries)
+HasRoomFor w room (reorders a) = 0 < room.journal
 
 -- Changes w change v: the change takes the world w to v.
 abbrev pub Changes : World → Change → World → Type 0

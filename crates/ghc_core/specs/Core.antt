@@ -6,6 +6,7 @@ use Rattle.ghc_fire.specs.Proposal.{Proposal, under}
 use Rattle.ghc_fire.specs.declared.meter.Meter.{Meter}
 use Rattle.ghc_records.specs.Record.{Record}
 use Rattle.ghc_records.specs.State.{StateRoom}
+use Rattle.ghc_records.specs.UseIndex.{RecordsRoom}
 use Rattle.ghc_hooks.specs.Face.{Face, GoalNames, IsFace}
 use Rattle.ghc_hooks.specs.Notes.{NotesByGoal, AreExact}
 use Rattle.ghc_hooks.specs.NotedFace.{IsNotedFace}
@@ -13,10 +14,10 @@ use Rattle.ghc_core.specs.World.{no_hands, World, with_step}
 use Rattle.ghc_core.specs.Proposes.{IsCommitOf}
 use Rattle.ghc_core.specs.Legal.{IsReachable}
 
--- How many more entries the tables of a core take without memory.
+-- How much more the tables of a core take without memory.
 pub record Room : Type 0 where
   pub state : StateRoom
-  pub kept : ℕ
+  pub kept : RecordsRoom
   pub shelf : ℕ
   pub journal : ℕ
   pub tries : ℕ

@@ -1,12 +1,12 @@
 -- Laws of taking steps away, and of taking them again, in reachable worlds.
-use Rattle.std.specs.Prelude.{◌≡◌, ℕ, List, [], ◌∷◌, map}
+use Rattle.std.specs.Prelude.{◌≡◌, ℕ, List, [], ◌∷◌, ◌++◌, map}
 use Rattle.ghc_records.specs.Record.{Record, numbers}
-use Rattle.ghc_depend.specs.Depend.{Follows, IsKeptAs}
+use Rattle.ghc_depend.specs.Depend.{DependsOn, Follows, IsKeptAs}
 use Rattle.ghc_depend.specs.Deletion.{IsWithoutSteps}
 use Rattle.ghc_depend.specs.Kept.{IsWithout, IsSplitAt}
 use Rattle.ghc_core.specs.World.{Hands, World, IsReplay}
-use Rattle.ghc_core.specs.Events.{Command, redo, Event, command, Reply, stepped, undone}
-use Rattle.ghc_core.specs.Reverses.{Undoes, Rolls}
+use Rattle.ghc_core.specs.Events.{Command, redo, Event, command, Reply, stepped, undone, arranged}
+use Rattle.ghc_core.specs.Reverses.{Undoes, Rolls, Arranges}
 use Rattle.ghc_core.specs.Answers.{Obeys, Answers, AnswersEach}
 use Rattle.ghc_core.specs.Legal.{IsReachable}
 
@@ -45,3 +45,9 @@ abbrev pub UndoneThenRedone : Type 0
 UndoneThenRedone =
     (w v : World) (hands : Hands) (c : Command) (ns : List ℕ) → IsReachable w hands → Obeys (Unit {0}) w c (undone ns) v
     → (u : World) × AnswersEach (λ i. ⊥) v hands (map (λ n. command (redo n)) ns) (map stepped ns) u hands × (u.state ≡ w.state)
+
+-- In a reachable world two neighbouring steps, of which the later one does not depend on the earlier one, can be arranged the other way round, and that leaves the state.
+abbrev pub NeighboursAreArranged : Type 0
+NeighboursAreArranged =
+    (w : World) (hands : Hands) (front back : List Record) (a b : Record) → IsReachable w hands → w.kept ≡ front ++ a ∷ b ∷ back → ¬ DependsOn w.kept b a
+    → (v : World) × Arranges ⊥ w (numbers (front ++ b ∷ a ∷ back)) arranged v × (v.kept ≡ front ++ b ∷ a ∷ back) × (v.state ≡ w.state)

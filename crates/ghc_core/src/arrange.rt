@@ -68,7 +68,7 @@ impl Core {
     // Puts the record into another order, and lets the old one go.
     pub(crate) fn put_in_order(&mut self, arrangement: Arrangement)
         requires found { CanChange self.old.world (reorders arrangement) }
-        requires room { HasRoomFor self.old.room (reorders arrangement) }
+        requires room { HasRoomFor self.old.world self.old.room (reorders arrangement) }
         ensures changed { Changes self.old.world (reorders arrangement) self.new.world }
         ensures left { AreLeft self.new.world.state.goals (IsBoundBy (reorders arrangement)) self.old.notes self.new.notes }
         ensures notes { self.new.notes ≡ self.old.notes }

@@ -43,7 +43,7 @@ fn strike(records: &mut Records, number: u32)
 impl Core {
     // Makes room to take the step.
     fn reserve_to_add(&mut self, addition: &Addition) -> Result<(), AllocError>
-        ensures room { OnOk result (HasRoomFor self.new.room (adds addition.now)) }
+        ensures room { OnOk result (HasRoomFor self.new.world self.new.room (adds addition.now)) }
         ensures world { self.new.world ≡ self.old.world }
         ensures notes { self.new.notes ≡ self.old.notes }
         ensures untried { self.new.untried ≡ self.old.untried }
@@ -54,12 +54,12 @@ impl Core {
         self.state.reserve(goals, effect.binds().len())?;
         self.tries.reserve(goals)?;
         self.journal.reserve(1)?;
-        self.records.reserve(1)
+        self.records.reserve_for(addition.step())
     }
 
     // Makes room to take a step away.
     fn reserve_to_take_away(&mut self, removal: &Removal) -> Result<(), AllocError>
-        ensures room { OnOk result (HasRoomFor self.new.room (takes_away removal.now)) }
+        ensures room { OnOk result (HasRoomFor self.new.world self.new.room (takes_away removal.now)) }
         ensures world { self.new.world ≡ self.old.world }
         ensures notes { self.new.notes ≡ self.old.notes }
         ensures untried { self.new.untried ≡ self.old.untried }
@@ -74,7 +74,7 @@ impl Core {
     /// Makes room for the change. The core stays as it is, also where memory is refused. It costs nothing where there is room; a
     /// table that is full moves to one of about twice its size.
     pub fn reserve(&mut self, change: &Change) -> Result<(), AllocError>
-        ensures room { OnOk result (HasRoomFor self.new.room change.now) }
+        ensures room { OnOk result (HasRoomFor self.new.world self.new.room change.now) }
         ensures world { self.new.world ≡ self.old.world }
         ensures notes { self.new.notes ≡ self.old.notes }
         ensures untried { self.new.untried ≡ self.old.untried }
@@ -92,7 +92,7 @@ impl Core {
     // Takes a step: one look-up for each of its goals and bindings.
     fn add(&mut self, addition: Addition)
         requires found { (p : proposal_spec) × IsCommitOf self.old.world p addition }
-        requires room { HasRoomFor self.old.room (adds addition) }
+        requires room { HasRoomFor self.old.world self.old.room (adds addition) }
         ensures world { self.new.world ≡ with_step addition self.old.world }
         ensures notes { AreLeft self.new.world.state.goals (IsBoundBy (adds addition)) self.old.notes self.new.notes }
         ensures meter { self.new.meter ≡ self.old.meter }
@@ -108,7 +108,7 @@ impl Core {
     #[inline(never)]
     fn take_away(&mut self, removal: Removal)
         requires found { CanChange self.old.world (takes_away removal) }
-        requires room { HasRoomFor self.old.room (takes_away removal) }
+        requires room { HasRoomFor self.old.world self.old.room (takes_away removal) }
         ensures changed { Changes self.old.world (takes_away removal) self.new.world }
         ensures notes { AreLeft self.new.world.state.goals (IsBoundBy (takes_away removal)) self.old.notes self.new.notes }
         ensures meter { self.new.meter ≡ self.old.meter }
@@ -127,7 +127,7 @@ impl Core {
     /// to put the record into another order, the letting go of the old one.
     pub fn apply(&mut self, change: Change)
         requires found { CanChange self.old.world change }
-        requires room { HasRoomFor self.old.room change }
+        requires room { HasRoomFor self.old.world self.old.room change }
         ensures changed { Changes self.old.world change self.new.world }
         ensures notes { AreLeft self.new.world.state.goals (IsBoundBy change) self.old.notes self.new.notes }
         ensures meter { self.new.meter ≡ self.old.meter }

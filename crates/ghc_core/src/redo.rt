@@ -118,7 +118,7 @@ impl Core {
     #[inline(never)]
     pub(crate) fn put_back(&mut self, addition: Addition)
         requires found { CanChange self.old.world (puts_back addition) }
-        requires room { HasRoomFor self.old.room (puts_back addition) }
+        requires room { HasRoomFor self.old.world self.old.room (puts_back addition) }
         ensures world { self.new.world ≡ with_redone addition «addition».number self.old.world }
         ensures notes { AreLeft self.new.world.state.goals (IsBoundBy (puts_back addition)) self.old.notes self.new.notes }
         ensures meter { self.new.meter ≡ self.old.meter }

@@ -94,7 +94,7 @@ impl Rollback {
 impl Core {
     // Makes room to take steps away.
     pub(crate) fn reserve_to_roll(&mut self, rollback: &Rollback) -> Result<(), AllocError>
-        ensures room { OnOk result (HasRoomFor self.new.room (takes_all rollback.now)) }
+        ensures room { OnOk result (HasRoomFor self.new.world self.new.room (takes_all rollback.now)) }
         ensures world { self.new.world ≡ self.old.world }
         ensures notes { self.new.notes ≡ self.old.notes }
         ensures untried { self.new.untried ≡ self.old.untried }
@@ -110,7 +110,7 @@ impl Core {
     // Takes steps away: a look-up for each of their goals and bindings, and one pass over the record.
     pub(crate) fn take_all_away(&mut self, rollback: Rollback)
         requires found { CanChange self.old.world (takes_all rollback) }
-        requires room { HasRoomFor self.old.room (takes_all rollback) }
+        requires room { HasRoomFor self.old.world self.old.room (takes_all rollback) }
         ensures changed { Changes self.old.world (takes_all rollback) self.new.world }
         ensures notes { AreLeft self.new.world.state.goals (IsBoundBy (takes_all rollback)) self.old.notes self.new.notes }
         ensures meter { self.new.meter ≡ self.old.meter }

@@ -1,5 +1,5 @@
-// Laws of taking steps away, and of taking them again, each as the contract of a function.
-ghost use Rattle.ghc_core.specs.Returns.{ReachableIsReplay, UndoesHaveAnAnswer, RollsHaveAnAnswer, UndoTakesStepAway, RollTakesStepsAway, StepThenUndo, UndoneThenRedone};
+// Laws of taking steps away, of taking them again, and of neighbours that change places, each as the contract of a function.
+ghost use Rattle.ghc_core.specs.Returns.{ReachableIsReplay, UndoesHaveAnAnswer, RollsHaveAnAnswer, UndoTakesStepAway, RollTakesStepsAway, StepThenUndo, UndoneThenRedone, NeighboursAreArranged};
 
 /// The state of a reachable world is the replay of its kept steps.
 pub fn reachable_is_replay()
@@ -34,4 +34,10 @@ pub fn step_then_undo()
 /// What an undo or a rollback took away can be redone in the order of its list, and that gives back the old state.
 pub fn undone_then_redone()
     ensures { UndoneThenRedone }
+{}
+
+/// Two neighbouring steps, of which the later one does not depend on the earlier one, can be arranged the other way round, which
+/// leaves the state.
+pub fn neighbours_are_arranged()
+    ensures { NeighboursAreArranged }
 {}

@@ -1,5 +1,6 @@
 use Rattle.std.proofs.Common.{◌≡◌, ◌+◌, [], ◌∷◌, ◌++◌, refl, subst, sym, ap, ◌∙◌, arith}
 use Rattle.ghc_records.specs.Record.{Record}
+use Rattle.ghc_records.specs.UseIndex.{HasRoomToKeep}
 use Rattle.ghc_records.specs.Journal.{fresh_opening}
 use Rattle.ghc_hooks.specs.Notes.{AreLeft}
 use Rattle.ghc_depend.specs.Depend.{MakesGoal, Binds}
@@ -7,8 +8,8 @@ use Rattle.ghc_core.specs.World.{World, IsNextStep, with_step}
 use Rattle.ghc_core.specs.Core.{Core, IsConsistent}
 use Rattle.ghc_core.specs.Carried.{AreCarriedOver}
 use Rattle.ghc_core.specs.Proposes.{IsCommitOf}
-use Rattle.ghc_core.proofs.Standing.{standing_well_made, standing_below}
-use Rattle.ghc_core.proofs.Taking.{stands}
+use Rattle.ghc_core.proofs.Standing.{standing_replay, standing_well_made, standing_below}
+use Rattle.ghc_core.proofs.Taking.{stands, unbound_there}
 use Rattle.ghc_core.proofs.Preparing.{same_world}
 use Rattle.ghc_core.proofs.Exactness.{unnoted, next_is_new, not_there, over_exact, over_left}
 use Rattle.ghc_core.proofs.core_state.Core.add.Goals as goal
@@ -30,13 +31,23 @@ put-requires-clause-new c r i same =
     let taken : c.take-step.result.0.number ≡ c.args.addition.number = ap (λ (q : Record). q.number) c.take-step.ensures.record in
     omega (arith, below, number, same, taken)
 
+pub put-requires-clause-room : goal.put-requires-clause-room
+put-requires-clause-room c =
+    let room = subst (λ (x : Core). HasRoomToKeep x.world.kept x.room.kept c.args.addition) (sym c.self.view_is) c.requires.room.1 in
+    subst (HasRoomToKeep c.self.inside.records.held c.self.inside.records.room) (sym c.take-step.ensures.record) room
+
+pub put-requires-clause-unbound : goal.put-requires-clause-unbound
+put-requires-clause-unbound c a x i bound again =
+    let commit = subst (λ (x : Core). IsCommitOf x.world c.requires.found.0 c.args.addition) (sym c.self.view_is) c.requires.found.1 in
+    unbound_there _ _ _ _ (standing_replay _ c.self.invariant.standing) c.args.addition commit.1.1 a x i bound (subst (λ r. Binds r x) c.take-step.ensures.record again)
+
 -- the world that is left is the one with the step
 left : (c : goal.After-self-1)
     → record { opening = fresh_opening c.self.inside.program c.self.inside.query.goals c.self.inside.query.variables; state = c.take-step.new.self.held; kept = c.put.new.self.held; shelf = c.self.inside.shelf.held; next = c.self.inside.next + 1; journal = c.put-2.new.self.held }
     ≡ with_step c.args.addition (before c)
 left c =
     same_world (fresh_opening c.self.inside.program c.self.inside.query.goals c.self.inside.query.variables) (c.self.inside.next + 1) c.take-step.ensures.state
-    (c.put.ensures.held ∙ ap (λ (r : Record). c.self.inside.records.held ++ r ∷ []) c.take-step.ensures.record) refl
+    (c.put.ensures ∙ ap (λ (r : Record). c.self.inside.records.held ++ r ∷ []) c.take-step.ensures.record) refl
     (c.put-2.ensures.held ∙ ap (λ e. c.self.inside.journal.held ++ e ∷ []) c.take-step.ensures.entry)
 
 -- notes and marks were carried over the step

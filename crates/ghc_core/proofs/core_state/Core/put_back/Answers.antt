@@ -2,6 +2,7 @@ use Rattle.std.proofs.Common.{◌≡◌, [], ◌∷◌, ◌++◌, subst, sym, ap
 use Rattle.std.specs.FinMap as finite
 use Rattle.ghc_term.specs.Lists.{In}
 use Rattle.ghc_records.specs.Record.{Record, numbers}
+use Rattle.ghc_records.specs.UseIndex.{HasRoomToKeep}
 use Rattle.ghc_records.specs.Journal.{fresh_opening, redid}
 use Rattle.ghc_records.proofs.OrderLemmas.{number_in}
 use Rattle.ghc_hooks.specs.Notes.{AreLeft}
@@ -13,7 +14,8 @@ use Rattle.ghc_core.specs.Reverses.{with_redone}
 use Rattle.ghc_core.specs.declared.change.Change.TheVariants.{PutsBack as puts_back}
 use Rattle.ghc_core.specs.Change.{CanChange}
 use Rattle.ghc_core.proofs.Reaching.{reached_good}
-use Rattle.ghc_core.proofs.Standing.{standing_well_made}
+use Rattle.ghc_core.proofs.Standing.{standing_replay, standing_well_made}
+use Rattle.ghc_core.proofs.Taking.{unbound_there}
 use Rattle.ghc_core.proofs.Preparing.{same_world}
 use Rattle.ghc_core.proofs.Redone.{redone_stands}
 use Rattle.ghc_core.proofs.Exactness.{unnoted, shelved_is_new, not_there, over_exact, over_left}
@@ -37,6 +39,16 @@ put-requires-clause-new c r i same =
     ((reached_good c.self.invariant.standing).shelf c.args.addition.number c.args.addition found.0).3
     (subst (λ n. In n (numbers c.self.inside.records.held)) (same ∙ ap (λ (q : Record). q.number) c.take-step.ensures.record) (number_in _ r i))
 
+pub put-requires-clause-room : goal.put-requires-clause-room
+put-requires-clause-room c =
+    let room = subst (λ (x : Core). HasRoomToKeep x.world.kept x.room.kept c.args.addition) (sym c.self.view_is) c.requires.room.1 in
+    subst (HasRoomToKeep c.self.inside.records.held c.self.inside.records.room) (sym c.take-step.ensures.record) room
+
+pub put-requires-clause-unbound : goal.put-requires-clause-unbound
+put-requires-clause-unbound c a x i bound again =
+    let found = subst (λ (x : Core). CanChange x.world (puts_back c.args.addition)) (sym c.self.view_is) c.requires.found in
+    unbound_there _ _ _ _ (standing_replay _ c.self.invariant.standing) c.args.addition found.1 a x i bound (subst (λ r. Binds r x) c.take-step.ensures.record again)
+
 pub carry_over-requires-clause-new : goal.carry_over-requires-clause-new
 carry_over-requires-clause-new c g made =
     let found = subst (λ (x : Core). CanChange x.world (puts_back c.args.addition)) (sym c.self.view_is) c.requires.found in
@@ -50,7 +62,7 @@ left : (c : goal.After-drop-entry)
 left c =
     let number = c.number-number.ensures ∙ ap (λ (r : Record). r.number) c.take-step.ensures.record in
     same_world (fresh_opening c.self.inside.program c.self.inside.query.goals c.self.inside.query.variables) c.self.inside.next c.take-step.ensures.state
-    (c.put.ensures.held ∙ ap (λ (r : Record). c.self.inside.records.held ++ r ∷ []) c.take-step.ensures.record)
+    (c.put.ensures ∙ ap (λ (r : Record). c.self.inside.records.held ++ r ∷ []) c.take-step.ensures.record)
     (c.remove.ensures.held ∙ ap (finite.remove c.self.inside.shelf.held) number)
     (c.put-2.ensures.held ∙ ap (λ n. c.self.inside.journal.held ++ redid n ∷ []) number)
 
