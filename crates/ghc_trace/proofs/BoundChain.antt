@@ -1,6 +1,6 @@
 -- The steps that bound the variables of a chain, one variable after another.
-use Rattle.std.proofs.Common.{◌≡◌, ℕ, ◌+◌, ◌≤◌, List, [], ◌∷◌, ◌++◌, length, map, take, drop, refl, sym, ap, ◌∙◌, subst, inl, inr, append_assoc, append-nil, drop_of_length-le}
-use Rattle.std.specs.Prelude.{Option, Some, None, is_some, IsTrue, slice_get}
+use Rattle.std.proofs.Common.{◌≡◌, ℕ, ◌+◌, ◌≤◌, List, [], ◌∷◌, ◌++◌, length, map, drop, refl, sym, ap, ◌∙◌, subst, inl, inr, append_assoc, append-nil, drop_of_length-le}
+use Rattle.std.specs.Prelude.{Option, Some, None, is_some, IsTrue}
 use Rattle.std.specs.Option.{option_or}
 use Rattle.std.specs.FinMap as finite
 use Rattle.std.proofs.lemmas.List.{map-append}
@@ -9,13 +9,11 @@ use Rattle.ghc_term.specs.Lists.{In}
 use Rattle.ghc_term.specs.Bindings.{name_cmp}
 use Rattle.ghc_term.specs.Tree.{Tree}
 use Rattle.ghc_term.specs.Store.{value_at}
-use Rattle.ghc_term.proofs.ListsLemmas.{in_either}
 use Rattle.ghc_flat.specs.Clause.{Program}
 use Rattle.ghc_records.specs.Record.{State, Record, after}
 use Rattle.ghc_records.specs.Replay.{Runs, query_state}
 use Rattle.ghc_records.proofs.States.{bound_at}
 use Rattle.ghc_depend.specs.Depend.{Binds}
-use Rattle.ghc_depend.proofs.AffectedSteps.{at_split}
 use Rattle.ghc_core.specs.World.{World, IsReplay}
 use Rattle.ghc_trace.specs.declared.who_bound.Binder.{Binder}
 use Rattle.ghc_trace.specs.Binders.{Bound, no_more, free, bound}
@@ -36,16 +34,6 @@ stays_unbound P s (r ∷ rs) t x run none never =
 -- what no kept step bound is unbound
 pub unbound : (w : World) (x : VarName) → IsReplay w w.kept w.state → ((r : Record) → In r w.kept → ¬ Binds r x) → value_at w.state.store x ≡ None
 unbound w x replay never = stays_unbound w.opening.program (query_state w.opening.query) w.kept w.state x replay.1 (finite.get-empty name_cmp x) never
-
--- none of the first i records bound x, and the next one did not either
-pub none_further : (rs : List Record) (x : VarName) (i : ℕ) (r : Record) → slice_get rs i ≡ Some r → ((q : Record) → In q (take i rs) → ¬ Binds q x) → ¬ Binds r x
-    → (q : Record) → In q (take (i + 1) rs) → ¬ Binds q x
-none_further rs x i r at none unbinding q k =
-    elim (in_either (take i rs) (r ∷ []) q (subst (In q) (at_split rs i r at).2 k)) [
-      | inl j ↦ none q j
-      | inr (inl e) ↦ subst (λ s. ¬ Binds s x) (sym e) unbinding
-      | inr (inr j) ↦ absurd j
-    ]
 
 -- the first i variables are paired so that what pairs the rest pairs all
 pub record Paired (w : World) (xs : List VarName) (i : ℕ) (items : List Binder) : Type 0 where

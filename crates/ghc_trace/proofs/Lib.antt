@@ -7,5 +7,9 @@ pub mod Changed
 pub mod Telling
 pub mod Lines
 pub mod GoalTelling
+pub mod InQuestion
+pub mod QueryVariables
 pub mod Reasoning
 pub mod BoundChain
+pub mod WayUp
+pub mod Spied

@@ -1,5 +1,5 @@
 -- The steps on which a kept step depends are found one after another.
-use Rattle.std.proofs.Common.{◌≡◌, ℕ, ◌+◌, ◌≤◌, List, [], ◌∷◌, ◌++◌, length, map, take, refl, sym, ap, ◌∙◌, subst, inl, inr}
+use Rattle.std.proofs.Common.{◌≡◌, ℕ, zero, suc, ◌+◌, ◌-◌, ◌<◌, ◌≤◌, arith, List, [], ◌∷◌, ◌++◌, length, map, take, refl, sym, ap, ◌∙◌, subst, inl, inr}
 use Rattle.std.specs.Prelude.{Some, None, slice_get}
 use Rattle.std.proofs.lemmas.List.{map-append, take_all}
 use Rattle.ghc_term.specs.Lists.{In}
@@ -10,9 +10,11 @@ use Rattle.ghc_records.proofs.OrderLemmas.{record_once}
 use Rattle.ghc_depend.specs.declared.cause.Cause.{Cause}
 use Rattle.ghc_depend.specs.Depend.{DependsOn, IsKeptAs}
 use Rattle.ghc_depend.specs.Cause.{HasCause, by_making, by_reading, IsDirect}
-use Rattle.ghc_depend.proofs.AffectedSteps.{at_split, pick_last, leave_last}
+use Rattle.ghc_depend.proofs.Picking.{pick_last, leave_last}
+use Rattle.ghc_depend.proofs.Causes.{at_split}
 use Rattle.ghc_trace.specs.declared.reasons.Reason.{Reason}
-use Rattle.ghc_trace.specs.Why.{reason_of, AreReasonsTold}
+use Rattle.ghc_records.specs.Uses.{Uses}
+use Rattle.ghc_trace.specs.Why.{reason_of, AreReasonsTold, AreInQuestion}
 
 -- of the first i records, found are those on which b depends, as told
 pub record Gathered (kept : List Record) (b : Record) (i : ℕ) (items : List Reason) : Type 0 where
@@ -27,10 +29,6 @@ depends (by_making p c) = (p, inl c)
 depends (by_reading {x = x} p n l w) = (p, inr (x, l.0))
 
 module _ (kept : List Record) (distinct : AreDistinct (numbers kept)) (n : ℕ) (b : Record) (own : IsKeptAs kept n b) where
-  -- at first there is none
-  pub begin : (items : List Reason) → items ≡ [] → Gathered kept b 0 items
-  begin items e = record { found = []; picked = nothing; caused = λ p i. absurd i; told = e }
-
   module _ (i : ℕ) (items : List Reason) (g : Gathered kept b i items) where
     -- at the end all are found
     pub finished : length kept ≤ i → AreReasonsTold kept n items
@@ -69,3 +67,70 @@ module _ (kept : List Record) (distinct : AreDistinct (numbers kept)) (n : ℕ) 
         caused = g.caused;
         told = g.told;
       }
+
+-- nothing between is one
+some_at : (xs : List Record) (i : ℕ) → i < length xs → (x : Record) × (slice_get xs i ≡ Some x)
+some_at [] i h = absurd (omega (arith, h))
+some_at (x ∷ xs) zero h = (x, refl)
+some_at (x ∷ xs) (suc i) h = some_at xs i (omega (arith, h))
+
+module _ (kept : List Record) (b : Record) (far : ℕ) (items : List Reason) where
+  none_between : Gathered kept b far items → (d : ℕ) → far + d ≤ length kept → ((a : Record) (p : ℕ) → slice_get kept p ≡ Some a → far ≤ p → p < far + d → ¬ Uses b a) → Gathered kept b (far + d) items
+  none_between g zero within none = subst (λ k. Gathered kept b k items) (let e : far ≡ far + 0 = omega arith in e) g
+  none_between g (suc d) within none =
+      let before = none_between g d (omega (arith, within)) (λ a p at near high. none a p at near (omega (arith, high))) in
+      let a = some_at kept (far + d) (omega (arith, within)) in
+      subst (λ k. Gathered kept b k items) (let e : (far + d) + 1 ≡ far + suc d = omega arith in e) (record {
+        found = before.found;
+        picked = subst (λ l. Picks (DependsOn kept b) l (map (λ p. p.0) before.found)) (sym (at_split kept (far + d) a.0 a.1).2)
+            (leave_last (take (far + d) kept) (map (λ p. p.0) before.found) a.0 before.picked (λ depends. none a.0 (far + d) a.1 (omega arith) (omega arith) depends.1));
+        caused = before.caused;
+        told = before.told;
+      })
+
+  pub skipped : Gathered kept b far items → (place : ℕ) → far ≤ place → place ≤ length kept → ((a : Record) (p : ℕ) → slice_get kept p ≡ Some a → far ≤ p → p < place → ¬ Uses b a) → Gathered kept b place items
+  skipped g place near within none =
+      let same : far + (place - far) ≡ place = omega (arith, near) in
+      subst (λ k. Gathered kept b k items) same (none_between g (place - far) (omega (arith, near, within)) (λ a p at l h. none a p at l (omega (arith, near, h))))
+
+-- of the first records up to some place all reasons are found, and the places of others are ahead
+pub record IsSearched (kept : List Record) (b : Record) (ahead : List ℕ) (items : List Reason) : Type 0 where
+  pub far : ℕ
+  pub so_far : Gathered kept b far items
+  pub short : far ≤ length kept
+  pub within : (p : ℕ) → In p ahead → p < length kept
+  pub near : (p : ℕ) → In p ahead → far ≤ p
+  pub all : (a : Record) (p : ℕ) → slice_get kept p ≡ Some a → far ≤ p → Uses b a → In p ahead
+
+module _ (kept : List Record) (b : Record) (ahead : List ℕ) (items : List Reason) (s : IsSearched kept b ahead items) where
+  -- up to the first place ahead there is no other
+  pub up_to : (place : ℕ) (rest : List ℕ) → ahead ≡ place ∷ rest → ((p : ℕ) → In p rest → place < p) → Gathered kept b place items
+  up_to place rest e behind =
+      skipped kept b s.far items s.so_far place (s.near place (subst (In place) (sym e) (inl refl))) (let w = s.within place (subst (In place) (sym e) (inl refl)) in omega (arith, w))
+      (λ a p at l high u. elim (subst (In p) e (s.all a p at l u)) [ inl same ↦ omega (arith, same, high) | inr j ↦ let k = behind p j in omega (arith, k, high) ])
+
+  -- and the others are behind it
+  pub behind_it : (place : ℕ) (rest : List ℕ) (new : List Reason) → ahead ≡ place ∷ rest → ((p : ℕ) → In p rest → place < p) → Gathered kept b (place + 1) new → IsSearched kept b rest new
+  behind_it place rest new e behind g = record {
+    far = place + 1;
+    so_far = g;
+    short = let w = s.within place (subst (In place) (sym e) (inl refl)) in omega (arith, w);
+    within = λ p i. s.within p (subst (In p) (sym e) (inr i));
+    near = λ p i. let h = behind p i in omega (arith, h);
+    all = λ a p at l u. elim (subst (In p) e (s.all a p at (let h = s.near place (subst (In place) (sym e) (inl refl)) in omega (arith, h, l)) u)) [ inl same ↦ absurd (omega (arith, same, l)) | inr j ↦ j ];
+  }
+
+  -- where none is ahead, all are found
+  pub none_ahead : ahead ≡ [] → Gathered kept b (length kept) items
+  none_ahead e = skipped kept b s.far items s.so_far (length kept) s.short (omega arith) (λ a p at l high u. subst (In p) e (s.all a p at l u))
+
+-- at first the places in question are ahead
+pub search : (kept : List Record) (b : Record) (ahead : List ℕ) (items : List Reason) → AreInQuestion kept b ahead → items ≡ [] → IsSearched kept b ahead items
+search kept b ahead items q e = record {
+  far = 0;
+  so_far = record { found = []; picked = nothing; caused = λ p i. absurd i; told = e };
+  short = omega arith;
+  within = q.0;
+  near = λ p i. omega arith;
+  all = λ a p at l u. q.1 a p at u;
+}

@@ -13,3 +13,6 @@ pub mod GoalLaws
 pub mod Why
 pub mod ReasonText
 pub mod Who
+pub mod Spies
+pub mod SpiesCode
+pub mod SpyKeys

@@ -1,6 +1,8 @@
-//! What a step shows as it is taken, what a change tells of goals that are stuck, and what bound the variables of a chain.
+//! What a step shows as it is taken, what a change tells of goals that are stuck, why a step was possible, what bound the variables of
+//! a chain, which goals descend from a goal, and which predicates are spied.
 #![tactic(auto)]
 
+mod descent;
 mod disturbed;
 mod goal_laws;
 mod goal_lines;
@@ -9,11 +11,14 @@ mod news;
 mod port;
 mod reason_text;
 mod reasons;
+mod spies;
 mod status_text;
 mod step_ports;
 mod stuck;
+mod variables;
 mod who_bound;
 
+pub use descent::descends;
 pub use disturbed::Disturbed;
 pub use goal_laws::{lines_are_of_goals, notes_tell_goals};
 pub use goal_lines::push_goals;
@@ -21,7 +26,9 @@ pub use laws::{notes_tell_news, notes_tell_ports};
 pub use port::{Port, push_port, push_ports};
 pub use reason_text::push_reason;
 pub use reasons::{Reason, why};
+pub use spies::SpySet;
 pub use status_text::push_status;
 pub use step_ports::{ports, push_ports_of};
 pub use stuck::Stuck;
-pub use who_bound::{Binder, binders, push_binder};
+pub use variables::is_variable_of;
+pub use who_bound::{Binder, binders, push_binder, who};

@@ -1,16 +1,13 @@
 // Which kept steps bound the variables of a chain.
-ghost use Rattle.std.specs.Prelude.{◌≡◌, ◌++◌, ◌↔◌, ℕ, List, IsTrue, IfOk, IfSome, IfNone, OnOk, is_ok, if◌then◌else◌, map, string_bytes};
+ghost use Rattle.std.specs.Prelude.{◌≡◌, ◌⊎◌, ◌++◌, ℕ, List, IfOk, IfErr, OnOk, Err, is_ok, if◌then◌else◌, map, string_bytes};
 ghost use Rattle.std.specs.Io.{StartsWith};
 ghost use Rattle.ghc_term.specs.declared.var_name.VarName.{VarName as var_name};
-ghost use Rattle.ghc_term.specs.Lists.{In};
-ghost use Rattle.ghc_records.specs.Record.{Record as record_spec};
-ghost use Rattle.ghc_depend.specs.Depend.{Binds};
-ghost use Rattle.ghc_trace.specs.Binders.{Bound};
+ghost use Rattle.ghc_trace.specs.Binders.{Bound, IsNoVariable};
 ghost use Rattle.ghc_trace.specs.Who.{AreBindersTold, binder_of, binder_text};
 
+use crate::variables::is_variable_of;
 use ghc_core::Core;
-use ghc_records::{Record, Records};
-use ghc_term::{Term, VarName, end_of, or_cut_back, push_number, push_variable};
+use ghc_term::{Fault, Term, VarName, end_of, or_cut_back, push_number, push_variable};
 use std::alloc::{AllocError, Global};
 
 /// A variable, and the number of the kept step that bound it.
@@ -20,27 +17,6 @@ pub struct Binder {
     pub step: u32,
 }
 
-// Whether the step bound the variable: one look-up.
-fn binds(taken: &Record, x: VarName) -> bool
-    ensures { IsTrue result ↔ Binds taken.now x }
-{
-    taken.effect().binds().get(x).is_some()
-}
-
-// The number of the kept step that bound the variable, if one did: a look-up at each step of the record.
-fn step_that_bound(records: &Records, x: VarName) -> Option<u32>
-    ensures found { IfSome result (λ n. (r : record_spec) × In r records.now.held × Binds r x × (r.number ≡ n)) }
-    ensures none { IfNone result ((r : record_spec) → In r records.now.held → ¬ Binds r x) }
-{
-    for place in 0..records.len() {
-        let taken = records.at(place).unwrap();
-        if binds(taken, x) {
-            return Some(taken.number());
-        }
-    }
-    None
-}
-
 // The variables that are bound, in their order, each with the step that bound it.
 fn binders_of(alloc: Global, core: &Core, chain: &[VarName]) -> Result<Vec<Binder>, AllocError>
     ensures { IfOk result (λ told. (pairs : List (var_name × ℕ)) × Bound core.now.world chain.now pairs × (told.items ≡ map binder_of pairs)) }
@@ -48,7 +24,7 @@ fn binders_of(alloc: Global, core: &Core, chain: &[VarName]) -> Result<Vec<Binde
     core.stands();
     let mut binders = Vec::new(alloc);
     for variable in chain {
-        if let Some(step) = step_that_bound(core.records(), *variable) {
+        if let Some(step) = core.records().binder_of(*variable) {
             binders.push(Binder {
                 variable: *variable,
                 step,
@@ -59,13 +35,27 @@ fn binders_of(alloc: Global, core: &Core, chain: &[VarName]) -> Result<Vec<Binde
 }
 
 /// The variables of the chain of `x` that are bound, in its order, each with the kept step that bound it; none where `x` is
-/// unbound. It goes along the chain, and once over the record for each of its variables, with a look-up at each step.
+/// unbound. It goes along the chain, with a look-up for each of its variables.
 pub fn binders(alloc: Global, core: &Core, x: VarName) -> Result<Vec<Binder>, AllocError>
     ensures { IfOk result (λ told. AreBindersTold core.now.world x told.items) }
 {
     let variable = Term::variable(x);
     let chain = core.store().chain(alloc, &variable)?;
     binders_of(alloc, core, chain.as_slice())
+}
+
+/// The variables of the chain of `x` that are bound, in its order, each with the kept step that bound it; none where `x` is
+/// unbound. `NoVariable` exactly where `x` is neither a variable of the query nor one that a kept step made, which is told before
+/// memory is asked for; else it fails for want of memory alone. It costs what `binders` costs, and a look-up.
+pub fn who(alloc: Global, core: &Core, x: VarName) -> Result<Vec<Binder>, Fault>
+    ensures found { IfOk result (λ told. AreBindersTold core.now.world x told.items) }
+    ensures no_variable { IsNoVariable core.now.world x → result ≡ Err Fault.NoVariable }
+    ensures fault { IfErr result (λ f. (f ≡ Fault.Memory) ⊎ ((f ≡ Fault.NoVariable) × IsNoVariable core.now.world x)) }
+{
+    if !is_variable_of(core, x) {
+        return Err(Fault::NoVariable);
+    }
+    Ok(binders(alloc, core, x)?)
 }
 
 // Writes a variable and the step that bound it.

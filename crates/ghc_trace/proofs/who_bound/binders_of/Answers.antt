@@ -1,4 +1,4 @@
-use Rattle.std.proofs.Common.{◌+◌, get_or, sym, subst}
+use Rattle.std.proofs.Common.{get_or, refl, sym, subst}
 use Rattle.std.proofs.lemmas.List.{drop_more}
 use Rattle.ghc_term.specs.Lists.{In}
 use Rattle.ghc_term.specs.declared.var_name.VarName.{VarName}
@@ -19,12 +19,12 @@ loop-variable-preserved c =
     let nothing : VarName = record { step = 0; place = 0 } in
     let x = get_or xs i nothing in
     let at = drop_more xs i nothing c.loop-variable-test.true in
-    elim c.match-step_that_bound.branch [
+    elim c.match-binder_of.branch [
       | in-Some+in_ok-push b ↦ rw b.binders-is (
-          let by = b.in-Some.ensures.found in
-          paired w xs i items front x at b.in-Some.step b.push.new.self.items (by.0, subst (In by.0) c.records.ensures by.1, by.2, by.3) b.in_ok-push.ensures.items)
+          let by = (c.binder_of.ensures b.in-Some.step).0 b.in-Some.is in
+          paired w xs i items front x at b.in-Some.step b.push.new.self.items (by.0, subst (In by.0) c.records.ensures by.1, by.3, by.2) b.in_ok-push.ensures.items)
       | in_default b ↦ rw b.binders-is (
-          passed w xs i items front x at (unbound w x c.stands.ensures.replay (λ r k. b.in_default.ensures.none r (subst (In r) (sym c.records.ensures) k))))
+          passed w xs i items front x at (unbound w x c.stands.ensures.replay (λ r k bound. b.in_default.not-Some r.number ((c.binder_of.ensures r.number).1 (r, subst (In r) (sym c.records.ensures) k, refl, bound)))))
     ]
 
 pub returns : goal.returns

@@ -1,0 +1,64 @@
+-- Lemmas on the variables of a query and of its kept steps.
+use Rattle.std.proofs.Common.{◌≡◌, ℕ, ◌+◌, ◌-◌, ◌<◌, ◌≤◌, List, [], ◌∷◌, length, cond, true, false, get_or, refl, sym, ap, ◌∙◌, subst, inl, inr, arith}
+use Rattle.std.proofs.lemmas.Option.{slice_get_within, slice_get-get_or}
+use Rattle.std.specs.List.{list_any}
+use Rattle.std.specs.Ordering.{eq_by_cmp}
+use Rattle.ghc_term.specs.declared.var_name.VarName.{VarName}
+use Rattle.ghc_term.specs.Bindings.{name_cmp}
+use Rattle.ghc_term.specs.Lists.{In}
+use Rattle.ghc_term.specs.Variables.{firsts, variables_of_goals}
+use Rattle.ghc_reader.specs.Written.{WrittenQuery, IsWellAsked, AreNumbered}
+use Rattle.ghc_term.proofs.ListsLemmas.{in_at, at_of_in}
+use Rattle.ghc_term.specs.Code.{var_inj as same_parts}
+use Rattle.ghc_flat.specs.Samples.{asked}
+use Rattle.ghc_records.specs.Orders.{AreDistinct}
+use Rattle.ghc_records.specs.Record.{Record, numbers}
+use Rattle.ghc_records.specs.Replay.{MakesVariable}
+use Rattle.ghc_records.proofs.Heads.{first_in}
+use Rattle.ghc_records.proofs.OrderLemmas.{record_once}
+
+-- what stands among the first occurrences stands in the list
+of_firsts : (seen xs : List VarName) (x : VarName) → In x (firsts seen xs) → In x xs
+of_firsts seen [] x i = i
+of_firsts seen (y ∷ xs) x i =
+    elim (list_any (eq_by_cmp name_cmp y) seen) as (λ b. In x (cond b (firsts seen xs) (y ∷ firsts (y ∷ seen) xs)) → In x (y ∷ xs)) [
+      | true ↦ λ j. inr (of_firsts seen xs x j)
+      | false ↦ λ j. elim j [ inl e ↦ inl e | inr k ↦ inr (of_firsts (y ∷ seen) xs x k) ]
+    ] i
+
+-- a variable of a numbered list is one of its first occurrences, by number
+pub number_of_in : (xs : List VarName) (x : VarName) → AreNumbered xs → In x xs → (i : ℕ) × (x ≡ asked (i + 1)) × (i < length (firsts [] xs))
+number_of_in xs x numbered i =
+    let p = at_of_in (firsts [] xs) x (first_in [] xs x i refl) in
+    (p.0, numbered p.0 x p.1, slice_get_within (firsts [] xs) p.0 x p.1)
+
+-- and each number up to that of first occurrences is a variable's
+pub in_of_number : (xs : List VarName) (i : ℕ) → AreNumbered xs → i < length (firsts [] xs) → In (asked (i + 1)) xs
+in_of_number xs i numbered h =
+    let x = get_or (firsts [] xs) i (asked 0) in
+    let e = slice_get-get_or (firsts [] xs) i (asked 0) h in
+    subst (λ y. In y xs) (numbered i x e) (of_firsts [] xs x (in_at (firsts [] xs) i x e))
+
+module _ (q : WrittenQuery) (well : IsWellAsked q) where
+  -- a variable of the query is known by its step and its place
+  pub in_query : (x : VarName) → x.step ≡ 0 → 1 ≤ x.place → x.place ≤ length q.variables → In x (variables_of_goals q.goals)
+  in_query x step low high =
+      let named = well.named in
+      let place : (x.place - 1) + 1 ≡ x.place = omega (arith, low) in
+      let same : asked ((x.place - 1) + 1) ≡ x = same_parts (asked ((x.place - 1) + 1)) x (sym step) place in
+      subst (λ y. In y (variables_of_goals q.goals)) same (in_of_number (variables_of_goals q.goals) (x.place - 1) well.numbered (omega (arith, low, high, named)))
+
+  pub of_query : (x : VarName) → In x (variables_of_goals q.goals) → (x.step ≡ 0) × (1 ≤ x.place) × (x.place ≤ length q.variables)
+  of_query x i =
+      let n = number_of_in (variables_of_goals q.goals) x well.numbered i in
+      let step : x.step ≡ 0 = ap (λ (y : VarName). y.step) n.1 in
+      let place : x.place ≡ n.0 + 1 = ap (λ (y : VarName). y.place) n.1 in
+      let named = well.named in
+      let below : n.0 < length (firsts [] (variables_of_goals q.goals)) = n.2 in
+      (step, omega (arith, place), omega (arith, place, below, named))
+
+-- what a step made is seen by the record of its number
+pub made_by : (rs : List Record) (r : Record) (x : VarName) → AreDistinct (numbers rs) → In r rs → r.number ≡ x.step → (s : Record) × In s rs × MakesVariable s x → (1 ≤ x.place) × (x.place ≤ r.effect.fresh)
+made_by rs r x distinct i e m =
+    let same : m.0 ≡ r = record_once rs m.0 r distinct m.1 i (sym m.2.0 ∙ sym e) in
+    (m.2.1, subst (λ (s : Record). x.place ≤ s.effect.fresh) same m.2.2)

@@ -1,0 +1,11 @@
+use Rattle.std.proofs.Common.{◌∙◌, ap}
+use Rattle.std.specs.FinSet as set
+use Rattle.ghc_hooks.proofs.Tables.{key_taken}
+use Rattle.ghc_trace.specs.Spies.{predicate}
+use Rattle.ghc_trace.proofs.Spied.{predicate_total, predicate_antisymmetric, same, same_is}
+use Rattle.ghc_trace.proofs.spies.SpySet.remove.Goals as goal
+
+pub returns : goal.returns
+returns c =
+    let p = predicate c.args.name.now c.args.arity in
+    key_taken predicate_total predicate_antisymmetric same same_is c.self.inside.table.keys c.swap_remove.new.self.keys p c.swap_remove.ensures.updates.0 ∙ ap (λ t. set.remove t p) c.self.view_is
