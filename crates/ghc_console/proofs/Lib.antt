@@ -8,6 +8,6 @@ pub mod StepReplies
 pub mod Settling
 pub mod RecordLines
 pub mod NumberedWords
-pub mod QueryVariables
+pub mod GivenNames
 pub mod CauseReplies
 pub mod Ordering

@@ -50,7 +50,7 @@ fn binder_lines(told: &[Binder], reply: &mut String) -> Result<(), AllocError>
 }
 
 /// Tells the bound variables of the chain of the variable that the word names, in its order, a line each with the kept step
-/// that bound it, or `none`; or the refusal. It goes once over the record for each variable of the chain.
+/// that bound it, or `none`; or the refusal. It costs what `binders` costs, and the text.
 #[inline(never)]
 pub fn who(alloc: Global, core: &Core, word: &str, reply: &mut String) -> Result<(), AllocError>
     requires { string_bytes reply.old ≡ [] }

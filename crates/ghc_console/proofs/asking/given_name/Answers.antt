@@ -1,7 +1,7 @@
 use Rattle.std.proofs.Common.{◌≡◌, ◌≢◌, ◌<◌, length, subst, refl}
 use Rattle.std.specs.Prelude.{All, HoldsAt, codes}
 use Rattle.ghc_term.proofs.ListsLemmas.{not_both}
-use Rattle.ghc_console.proofs.QueryVariables.{given, none_given}
+use Rattle.ghc_console.proofs.GivenNames.{given, none_given}
 use Rattle.ghc_console.proofs.asking.given_name.Goals as goal
 
 pub returns-in-Some-clause-found : goal.returns-in-Some-clause-found

@@ -2,8 +2,7 @@ use Rattle.std.proofs.Common.{rules, ◌+◌, ◌++◌, map, drop, get_or, sym, 
 use Rattle.std.specs.Prelude.{codes}
 use Rattle.std.specs.Fmt.{decimal}
 use Rattle.std.proofs.lemmas.List.{drop_more}
-use Rattle.ghc_term.proofs.ListsLemmas.{is_something}
-use Rattle.ghc_records.proofs.Listing.{led, led_all, led_next}
+use Rattle.ghc_records.proofs.Listing.{led, led_next}
 use Rattle.ghc_console.proofs.roll_reply.write_numbers.Goals as goal
 
 pub loop-number-preserved : goal.loop-number-preserved
