@@ -62,8 +62,8 @@ swap_distinct (r ∷ front) back a b d = (
 
 -- where they do not depend on each other, the record with them the other way round is in a lawful order
 pub neighbours_lawful : (front back : List Record) (a b : Record) → AreDistinct (numbers (front ++ a ∷ b ∷ back)) → ¬ DependsOn (front ++ a ∷ b ∷ back) b a
-                      → IsLawful (front ++ a ∷ b ∷ back) (numbers (front ++ b ∷ a ∷ back))
-                      × IsInOrder (front ++ a ∷ b ∷ back) (numbers (front ++ b ∷ a ∷ back)) (front ++ b ∷ a ∷ back)
+    → IsLawful (front ++ a ∷ b ∷ back) (numbers (front ++ b ∷ a ∷ back))
+    × IsInOrder (front ++ a ∷ b ∷ back) (numbers (front ++ b ∷ a ∷ back)) (front ++ b ∷ a ∷ back)
 neighbours_lawful front back a b once apart =
     let kept = front ++ a ∷ b ∷ back in
     let new = front ++ b ∷ a ∷ back in
@@ -74,8 +74,7 @@ neighbours_lawful front back a b once apart =
     subst (λ z. In z (numbers kept)) q.2 (number_in kept q.0 ((same q.0).0 q.1)) in
     let all : (n : ℕ) → In n (numbers kept) → In n (numbers new) = λ n i.
     let q = number_of kept n i in
-    subst (λ z. In z (numbers new)) q.2 (number_in new q.0 ((same q.0).1 q.1)) in
-    (
+    subst (λ z. In z (numbers new)) q.2 (number_in new q.0 ((same q.0).1 q.1)) in (
       (
         ((of_kept, distinct), all),
         λ x y early.
