@@ -1,9 +1,12 @@
 -- The lines of records, one more at a time.
-use Rattle.std.proofs.Common.{◌≡◌, ℕ, suc, ◌+◌, List, [], ◌∷◌, ◌++◌, drop, drop-cons, Some, sym, ap, ◌∙◌, slice_get, append_assoc, arith}
+use Rattle.std.proofs.Common.{◌≡◌, ℕ, suc, ◌+◌, List, [], ◌∷◌, ◌++◌, drop, drop-cons, refl, sym, ap, ◌∙◌, subst, inl, inr, slice_get, append_assoc, append-nil, arith}
+use Rattle.std.specs.Prelude.{Some}
 use Rattle.std.proofs.lemmas.Option.{slice_get_within, get_or_from_slice_get}
 use Rattle.ghc_records.specs.Record.{Record}
+use Rattle.ghc_records.specs.Slots.{SlotList, held_in}
+use Rattle.ghc_records.proofs.SlotRanks.{rank, rank_stands, rank_next, rank_gap}
 use Rattle.ghc_records.specs.StepText.{record_text}
-use Rattle.ghc_console.specs.Replies.{lined, record_lines}
+use Rattle.ghc_console.specs.Replies.{lined, record_lines, TellsSlot}
 
 -- What is left from a place on is the record there and the rest.
 drop_at : (rs : List Record) (i : ℕ) (r : Record) → slice_get rs i ≡ Some r → drop i rs ≡ r ∷ drop (i + 1) rs
@@ -12,9 +15,21 @@ drop_at rs i r e =
     drop-cons rs i r (slice_get_within rs i r e) ∙ (λ k. get_or_from_slice_get rs i r r e k ∷ drop (more k) rs)
 
 -- Where a text and the lines from a place on are all lines, so are the text with the line there and the lines behind it.
-pub lines_on : (rs : List Record) (i : ℕ) (r : Record) (before mid later : List ℕ) → slice_get rs i ≡ Some r → before ++ record_lines (drop i rs) ≡ record_lines rs
-    → mid ≡ before ++ record_text r → later ≡ mid ++ 10 ∷ [] → later ++ record_lines (drop (i + 1) rs) ≡ record_lines rs
-lines_on rs i r before mid later there whole wrote ended =
+line_on : (rs : List Record) (i : ℕ) (r : Record) (before later : List ℕ) → slice_get rs i ≡ Some r → before ++ record_lines (drop i rs) ≡ record_lines rs
+    → later ≡ before ++ record_lines (r ∷ []) → later ++ record_lines (drop (i + 1) rs) ≡ record_lines rs
+line_on rs i r before later there whole wrote =
     let rest = record_lines (drop (i + 1) rs) in
-    let line : later ≡ before ++ lined (record_text r) = ended ∙ ap (λ l. l ++ 10 ∷ []) wrote ∙ append_assoc before (record_text r) (10 ∷ []) in
-    ap (λ l. l ++ rest) line ∙ append_assoc before (lined (record_text r)) rest ∙ ap (λ l. before ++ record_lines l) (sym (drop_at rs i r there)) ∙ whole
+    ap (λ l. l ++ rest) wrote ∙ append_assoc before (lined (record_text r) ++ []) rest ∙ ap (λ l. before ++ l) (append_assoc (lined (record_text r)) [] rest)
+    ∙ ap (λ l. before ++ record_lines l) (sym (drop_at rs i r there)) ∙ whole
+
+-- So it is slot by slot.
+pub slot_on : (ss : SlotList) (i : ℕ) (before later : List ℕ) → TellsSlot ss i before later → before ++ record_lines (drop (rank ss i) (held_in ss)) ≡ record_lines (held_in ss)
+    → later ++ record_lines (drop (rank ss (i + 1)) (held_in ss)) ≡ record_lines (held_in ss)
+slot_on ss i before later (inl t) whole =
+    subst (λ k. later ++ record_lines (drop k (held_in ss)) ≡ record_lines (held_in ss)) (sym (rank_next ss i t.0 t.1)) (line_on (held_in ss) (rank ss i) t.0 before later (rank_stands ss i t.0 t.1) whole t.2)
+slot_on ss i before later (inr t) whole =
+    subst (λ k. later ++ record_lines (drop k (held_in ss)) ≡ record_lines (held_in ss)) (sym (rank_gap ss i t.0)) (subst (λ l. l ++ record_lines (drop (rank ss i) (held_in ss)) ≡ record_lines (held_in ss)) (sym t.1) whole)
+
+-- the line of a record
+pub one_line : (r : Record) (before mid after : List ℕ) → mid ≡ before ++ record_text r → after ≡ mid ++ 10 ∷ [] → after ≡ before ++ record_lines (r ∷ [])
+one_line r before mid after wrote ended = ended ∙ ap (λ l. l ++ 10 ∷ []) wrote ∙ append_assoc before (record_text r) (10 ∷ []) ∙ ap (λ l. before ++ l) (sym (append-nil (lined (record_text r))))

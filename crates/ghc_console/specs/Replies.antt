@@ -1,5 +1,5 @@
 -- The replies to lines: what is written for each, and which world it leaves.
-use Rattle.std.specs.Prelude.{◌≡◌, ◌≢◌, ◌<◌, ◌≤◌, ℕ, Bool, true, false, List, [], ◌∷◌, ◌++◌, codes, length, map, Option, Some}
+use Rattle.std.specs.Prelude.{◌≡◌, ◌≢◌, ◌⊎◌, ◌<◌, ◌≤◌, ℕ, Bool, true, false, List, [], ◌∷◌, ◌++◌, codes, length, map, Option, Some}
 use Rattle.std.specs.Fmt.{decimal}
 use Rattle.std.specs.FinMap as finite
 use Rattle.ghc_term.specs.declared.var_name.VarName.{VarName}
@@ -12,6 +12,7 @@ use Rattle.ghc_term.specs.Store.{value_at}
 use Rattle.ghc_term.specs.Resolved.{IsTextOf}
 use Rattle.ghc_fire.specs.Attempt.{proposes, refused}
 use Rattle.ghc_fire.specs.Proposal.{Proposal}
+use Rattle.ghc_records.specs.Slots.{SlotList, StandsIn}
 use Rattle.ghc_records.specs.Record.{Record, Shelf}
 use Rattle.ghc_records.specs.Journal.{step_of}
 use Rattle.ghc_records.specs.StepText.{listed, record_text, step_text}
@@ -106,6 +107,10 @@ pub data RepliesToShow (w : World) (word : List ℕ) : List ℕ → Type 0 where
 abbrev pub record_lines : List Record → List ℕ
 record_lines [] = []
 record_lines (r ∷ rs) = lined (record_text r) ++ record_lines rs
+
+-- The text behind is that in front and the line of the record in the slot; the same text, where that is a gap.
+abbrev pub TellsSlot : SlotList → ℕ → List ℕ → List ℕ → Type 0
+TellsSlot ss place before after = ((r : Record) × StandsIn ss place r × (after ≡ before ++ record_lines (r ∷ []))) ⊎ (((r : Record) → ¬ StandsIn ss place r) × (after ≡ before))
 
 -- the text of all records, and `none` where there is none
 abbrev pub records_text : List Record → List ℕ

@@ -9,7 +9,7 @@ ghost use Rattle.ghc_trace.specs.Disturbed.{AreDisturbed};
 ghost use Rattle.ghc_trace.specs.Laws.{IsSettled};
 ghost use Rattle.ghc_trace.specs.Ports.{Port, ArePorts};
 ghost use Rattle.ghc_trace.specs.PortText.{ports_text};
-ghost use Rattle.ghc_console.specs.Replies.{RepliesToStep, RepliesToShow, RepliesToGoals, Takes, lined, record_lines, records_text, refusal};
+ghost use Rattle.ghc_console.specs.Replies.{RepliesToStep, RepliesToShow, RepliesToGoals, Takes, lined, record_lines, TellsSlot, records_text, refusal};
 
 use crate::asking::variable_named;
 use crate::settled::{make, settle};
@@ -123,14 +123,26 @@ pub fn show(alloc: Global, core: &Core, word: &str, reply: &mut String) -> Resul
     }
 }
 
+// The record at this place on a line, if there is one.
+fn line(records: &Records, place: usize, reply: &mut String) -> Result<(), AllocError>
+    ensures { OnOk result (TellsSlot records.now.slots place (string_bytes reply.old) (string_bytes reply.new)) }
+{
+    let Some(record) = records.at(place) else {
+        return Ok(());
+    };
+    push_record(record, reply)?;
+    reply.push_str("\n")?;
+    Ok(())
+}
+
 // The records, a line each.
 fn lines(records: &Records, reply: &mut String) -> Result<(), AllocError>
     requires { string_bytes reply.old ≡ [] }
     ensures { OnOk result (string_bytes reply.new ≡ record_lines records.now.held) }
 {
-    for place in 0..records.len() {
-        push_record(records.at(place).unwrap(), reply)?;
-        reply.push_str("\n")?;
+    let _count = records.len();
+    for place in 0..records.places() {
+        line(records, place, reply)?;
     }
     Ok(())
 }

@@ -25,10 +25,10 @@ use Rattle.ghc_records.specs.Record.{Record}
 use Rattle.ghc_core.specs.World.{World, HasRoom}
 use Rattle.ghc_core.specs.Proposes.{AttemptAnswers, IsReduction, StillHolds, full, IsCommitOf, IsStepOf, StepFails, refused_attempt, no_room}
 use Rattle.ghc_core.specs.Core.{IsStanding, choice_of}
-use Rattle.ghc_core.specs.Laws.{CommitIsExact, StepIsExact}
+use Rattle.ghc_core.specs.Laws.{CommitIsExact, StepIsExact, StreamStepIsExact}
 use Rattle.ghc_core.proofs.Reversing.{value_once}
 use Rattle.ghc_core.proofs.Stepping as stepping
-use Rattle.ghc_core.proofs.Reaching.{known}
+use Rattle.ghc_core.proofs.Reaching.{known, reached}
 use Rattle.ghc_core.proofs.Standing.{standing_numbered}
 
 -- a reduction that has an effect on a goal is what an attempt at it proposes
@@ -130,3 +130,10 @@ pub step_exact : StepIsExact
 step_exact w hands g choice result reachable answer =
     let acyclic = (known w hands reachable).acyclic in
     exact (one_step w acyclic g choice) (one_reason w acyclic g choice) (step_or_fail w acyclic g choice) result answer
+
+-- What is answered for an act on a stream in a reachable world is exact.
+pub stream_step_exact : StreamStepIsExact
+stream_step_exact w hands k act result reachable answer =
+    let ordered = reached w hands reachable in
+    exact (stepping.one_stream_step effect_once w ordered.acyclic ordered.streams_once k act) (λ f g h q. stepping.stream_fails_once effect_once w ordered.acyclic ordered.streams_once k act h q)
+    (λ r f t q. stepping.stream_step_or_fail effect_once w ordered.acyclic ordered.streams_once k act r t q) result answer

@@ -19,6 +19,8 @@ use Rattle.ghc_fire.specs.contracts.effect.Effect as effect
 use Rattle.ghc_fire.specs.contracts.goals.Goals as goals
 use Rattle.ghc_records.specs.contracts.record.Record as taken
 use Rattle.ghc_records.specs.contracts.records.Records as records
+use Rattle.ghc_records.specs.contracts.slots.Slots as slots
+use Rattle.ghc_records.specs.contracts.use_index.UseIndex as use_index
 use Rattle.ghc_records.specs.contracts.shelf.Shelf as shelf
 use Rattle.ghc_records.specs.contracts.state.State as state
 use Rattle.ghc_records.specs.contracts.journal.Journal as journal
@@ -99,11 +101,23 @@ taken_send = search (goal_send, goal_sync, act_send, act_sync, effect_send, effe
 taken_sync : IsSync taken.the_row
 taken_sync = search (goal_sync, goal_send, act_sync, act_send, effect_sync, effect_send, goal_name.the_sync, goal_name.the_send, crosses, sendable) depth 60 fits 20000
 
+slots_send : IsSend slots.the_row
+slots_send = search (taken_send, crosses, sendable) depth 60 fits 20000
+
+slots_sync : IsSync slots.the_row
+slots_sync = search (taken_sync, crosses, sendable) depth 60 fits 20000
+
+use_index_send : IsSend use_index.the_row
+use_index_send = search (crosses, sendable) depth 60 fits 20000
+
+use_index_sync : IsSync use_index.the_row
+use_index_sync = search (crosses, sendable) depth 60 fits 20000
+
 records_send : IsSend records.the_row
-records_send = search (taken_send, crosses, sendable) depth 60 fits 20000
+records_send = search (slots_send, use_index_send, crosses, sendable) depth 60 fits 20000
 
 records_sync : IsSync records.the_row
-records_sync = search (taken_sync, crosses, sendable) depth 60 fits 20000
+records_sync = search (slots_sync, use_index_sync, crosses, sendable) depth 60 fits 20000
 
 shelf_send : IsSend shelf.the_row
 shelf_send = search (taken_send, maps.crosses, crosses, sendable) depth 60 fits 20000

@@ -204,19 +204,32 @@ module _ (w : World) (stands : IsStanding w) (r : Record) (kept : In r w.kept) (
         | inr q ↦ apart_at place.before place.behind r (subst (λ z. AreDistinct (numbers z)) place.split (reached_good stands).kept_once) q.0 q.1 (sym m.0 ∙ q.2)
       ]
 
+  -- what it consumed is there again
+  pub consumed_again : (g : GoalName) × (b : Goal) × ConsumesGoal r g b × (finite.get v.goals g ≡ Some b)
+  consumed_again =
+      let of : ConsumesGoal r used.name used.goal = (used.named, used.consumed) in
+      (used.name, used.goal, of, back.goals.given_back used.name used.goal of (not_own used.name used.named))
+
+  -- A goal that is there was there, and is not the one that it consumed; or it is that one.
+  pub come_back : (g : GoalName) (b : Goal) → finite.get v.goals g ≡ Some b → ((finite.get w.state.goals g ≡ Some b) × ¬ (r.goal ≡ Some g)) ⊎ ConsumesGoal r g b
+  come_back g b there = elim (named_or_not r.goal g) [
+    | inl e ↦
+        let of : ConsumesGoal r g used.goal = (e, used.consumed) in
+        let same : used.goal ≡ b = same_value (back.goals.given_back g used.goal of (not_own g e)) there in
+        inr (e, used.consumed ∙ ap Some same)
+    | inr other ↦
+        let free : ¬ MakesGoal r g = λ m. not_both there (back.goals.unmade g m) in
+        inl (sym (back.goals.others g free (λ c h. other h.0)) ∙ there, other)
+  ]
+
   pub passes_back : Passes w.state.goals v.goals w.state.store v.store (MakesGoal r) (Binds r) (ConsumedToTry r)
   passes_back = record {
     stays = λ g b there stayed. back.goals.others g stayed (λ c h. not_both there (consumed_gone g h.0)) ∙ there;
     went = λ g made. back.goals.unmade g made;
     came = λ g c. (c.0, back.goals.given_back g c.0 c.1 (not_own g c.1.0), c.2, consumed_gone g c.1.0);
-    origin = λ g b there. elim (named_or_not r.goal g) [
-      | inl e ↦
-          let of : ConsumesGoal r g used.goal = (e, used.consumed) in
-          let same : used.goal ≡ b = same_value (back.goals.given_back g used.goal of (not_own g e)) there in
-          inr (λ plain. (b, (e, used.consumed ∙ ap Some same), plain))
-      | inr other ↦
-          let free : ¬ MakesGoal r g = λ m. not_both there (back.goals.unmade g m) in
-          inl (sym (back.goals.others g free (λ c h. other h.0)) ∙ there, free)
+    origin = λ g b there. elim (come_back g b there) [
+      | inl old ↦ inl (old.0, λ made. not_both there (back.goals.unmade g made))
+      | inr of ↦ inr (λ plain. (b, of, plain))
     ];
     agree = λ x free. sym (back.store x ∙ ap (λ (o : Option _). if is_some o then None else value_at w.state.store x) (no_value r x free));
   }

@@ -23,3 +23,5 @@ pub mod Settling
 pub mod Redone
 pub mod RolledBack
 pub mod Arranged
+pub mod StreamNames
+pub mod StreamSteps

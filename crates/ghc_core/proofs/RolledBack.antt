@@ -5,12 +5,12 @@ use Rattle.std.specs.FinMap as finite
 use Rattle.ghc_term.specs.declared.var_name.VarName.{VarName}
 use Rattle.ghc_term.specs.declared.goal_name.GoalName.{GoalName}
 use Rattle.ghc_term.specs.Lists.{In}
-use Rattle.ghc_term.proofs.ListsLemmas.{in_right}
+use Rattle.ghc_term.proofs.ListsLemmas.{in_left, in_right, in_more, in_last}
 use Rattle.ghc_fire.specs.Goals.{Goals}
 use Rattle.ghc_records.specs.Orders.{Picks, AreDistinct}
 use Rattle.ghc_records.specs.Record.{State, Record, numbers, Shelf}
 use Rattle.ghc_records.specs.State.{IsTakenBack, AreTakenBack}
-use Rattle.ghc_records.specs.Journal.{Entry, undid, rolled}
+use Rattle.ghc_records.specs.Journal.{Opening, Entry, undid, rolled}
 use Rattle.ghc_records.proofs.OrderLemmas.{number_in, number_of}
 use Rattle.ghc_hooks.specs.Notes.{Note, NotesByGoal, AreLeft}
 use Rattle.ghc_hooks.specs.Tries.{Tries}
@@ -21,7 +21,7 @@ use Rattle.ghc_depend.proofs.Finding.{by_option, not_both}
 use Rattle.ghc_depend.proofs.Following.{alone}
 use Rattle.ghc_depend.proofs.Picking.{picks_has}
 use Rattle.ghc_depend.proofs.Placing.{results_of}
-use Rattle.ghc_depend.proofs.TakenTogether.{apart_behind, picks_all, picks_within, first_gone, alone_left, rest_left, gone_kept, gone_distinct, off_shelf}
+use Rattle.ghc_depend.proofs.TakenTogether.{apart_behind, picks_all, picks_within, first_gone, alone_left, rest_left, gone_kept, gone_distinct}
 use Rattle.ghc_core.specs.World.{World, IsReplay}
 use Rattle.ghc_core.specs.Events.{roll, command, undone}
 use Rattle.ghc_core.specs.Reverses.{Undoes, Rolls}
@@ -31,10 +31,12 @@ use Rattle.ghc_core.specs.Legal.{by_event}
 use Rattle.ghc_core.specs.Core.{IsStanding, AreExactIn}
 use Rattle.ghc_core.specs.Change.{CanRoll, RollsAway}
 use Rattle.ghc_core.specs.Carried.{Consumed, AreCarriedBack, AreAllCarriedBack}
+use Rattle.ghc_core.specs.StreamGoals.{told_back, all_told_back, TellStreams}
 use Rattle.ghc_core.proofs.Exactness.{back_exact, back_left}
 use Rattle.ghc_core.proofs.Preparing.{same_world}
 use Rattle.ghc_core.proofs.Reaching.{reached_good}
 use Rattle.ghc_core.proofs.Standing.{standing_replay}
+use Rattle.ghc_core.proofs.StreamNames.{stands_back}
 use Rattle.ghc_core.proofs.TakenAway.{taken_away, undone_stands}
 
 -- two changes, one after the other: a note stays just where it stays in both
@@ -71,6 +73,25 @@ none_again (r ∷ rs) old new c g e =
     let before = none_again rs old c.0 c.1 g e in
     by_option (finite.get new.notes g) (λ n. n) (λ n there. absurd (not_both ((c.2.notes g n).0 there).0 before))
 
+-- records that are taken out one after another
+pub struck_none : (kept : List Record) → Picks (λ s. ¬ In s []) kept kept
+struck_none kept = picks_all kept (λ s i. i)
+
+pub struck_next : (kept some new gone : List Record) (r : Record) → In r kept → ¬ In r gone → Picks (λ s. ¬ In s gone) kept some → (In r some → Picks (λ s. ¬ (s ≡ r)) some new) → Picks (λ s. ¬ In s (gone ++ r ∷ [])) kept new
+struck_next kept some new gone r there fresh before next =
+    let here : In r some = elim (picks_has kept some r before there) [ inl i ↦ i | inr n ↦ absurd (n fresh) ] in
+    picks_within kept some new
+    (λ s p q i. elim (in_more gone r s i) [ inl j ↦ p j | inr e ↦ q e ])
+    (λ s n i. n (λ j. i (in_left gone (r ∷ []) s j)))
+    (λ s n i. n (λ e. i (subst (λ z. In z (gone ++ r ∷ [])) (sym e) (in_last gone r))))
+    before (next here)
+
+-- and the first of them last
+pub struck_first : (kept some new gone : List Record) (r : Record) → AreDistinct (r ∷ gone) → In r kept → Picks (λ s. ¬ In s gone) kept some → (In r some → Picks (λ s. ¬ (s ≡ r)) some new) → Picks (λ s. ¬ In s (r ∷ gone)) kept new
+struck_first kept some new gone r once there before next =
+    let here : In r some = elim (picks_has kept some r before there) [ inl i ↦ i | inr n ↦ absurd (n once.0) ] in
+    picks_within kept some new (λ s p q i. elim i [ inl e ↦ q e | inr j ↦ p j ]) (λ s n i. n (λ j. i (inr j))) (λ s n i. n (λ e. i (inl e))) before (next here)
+
 -- What is known where steps behind were taken back: a world that stands has the state, the steps left are kept there, and notes and marks are exact.
 pub record Undone (w : World) (back : List Record) (t : State) (old new : Tries) : Type 0 where
   pub world : World
@@ -80,6 +101,7 @@ pub record Undone (w : World) (back : List Record) (t : State) (old new : Tries)
   pub kept : Picks (λ s. ¬ In s back) w.kept world.kept
   pub exact : AreExactIn world new.notes new.untried
   pub notes : AreLeft world.state.goals (IsBoundIn back) old.notes new.notes
+  pub streams : (names : List GoalName) → TellStreams w.opening.query w.state.goals names → TellStreams w.opening.query world.state.goals (all_told_back back names)
 
 module _ (w : World) (stands : IsStanding w) (a : Record) (kept_a : In a w.kept) (gone left : List Record) (split : IsSplitAt w.kept a gone left)
     (old : Tries) (exact : AreExactIn w old.notes old.untried) where
@@ -104,6 +126,7 @@ module _ (w : World) (stands : IsStanding w) (a : Record) (kept_a : In a w.kept)
           (here, (λ none. not_both at.1 none), λ x b. absurd b.1),
       λ k. subst (λ (z : Tries). finite.get z.notes g ≡ Some note) (sym f) k.0,
     );
+    streams = λ names tell. tell;
   }
 
   -- one step more is taken back
@@ -148,6 +171,9 @@ module _ (w : World) (stands : IsStanding w) (a : Record) (kept_a : In a w.kept)
       exact = back_exact v before.standing r kept_r t back mid new before.exact carried;
       notes = left_twice v.state.goals t.goals (IsBoundIn rest) (Binds r) (IsBoundIn (r ∷ rest)) old.notes mid.notes new.notes before.notes
           (back_left v before.standing r kept_r t back mid new before.exact carried) stayed (bound_parts r rest) (λ x b. (b.0, inr b.1, b.2)) (λ x b. (r, inl refl, b));
+      streams = λ names tell. subst (λ (o : Opening). TellStreams o.query t.goals (told_back r (all_told_back rest names))) before.opening
+          (stands_back v before.standing r kept_r after (undone_stands before.standing undoes refl) refl back (all_told_back rest names) (told_back r (all_told_back rest names)) refl
+          (subst (λ (o : Opening). TellStreams o.query v.state.goals (all_told_back rest names)) (sym before.opening) (before.streams names tell)));
     }
 
   -- all steps behind are taken back
@@ -157,19 +183,15 @@ module _ (w : World) (stands : IsStanding w) (a : Record) (kept_a : In a w.kept)
       one_more front rest r e p.0 t q.0 new (each (front ++ r ∷ []) rest p.0 q.0 (e ∙ sym (append_assoc front (r ∷ []) rest)) p.1 q.1) p.2 q.2
 
   module _ (t : State) (new : Tries) (p : AreTakenBack gone w.state t) (q : AreAllCarriedBack gone old new) (some : List Record) (shelf : Shelf) (es : List Entry)
-      (put : shelf ≡ with_shelved gone w.shelf) (picked : Picks (λ s. finite.get shelf s.number ≡ None) w.kept some) (told : es ≡ w.journal ++ rolled a.number ∷ []) where
+      (put : shelf ≡ with_shelved gone w.shelf) (picked : Picks (λ s. ¬ In s gone) w.kept some) (told : es ≡ w.journal ++ rolled a.number ∷ []) where
     all : Undone w gone t old new
     all = each [] gone t new refl p q
 
     of_world : all.world.kept ≡ left
     of_world = rest_left w.kept distinct a kept_a gone left split all.world.kept all.kept
 
-    free : (s : Record) → In s w.kept → finite.get w.shelf s.number ≡ None
-    free s i = by_option (finite.get w.shelf s.number) (λ e. e) (λ r e. absurd (((reached_good stands).shelf s.number r e).3 (number_in w.kept s i)))
-
     of_records : some ≡ left
-    of_records = rest_left w.kept distinct a kept_a gone left split some
-        (off_shelf w.kept distinct gone some w.shelf of_gone free (subst (λ z. Picks (λ s. finite.get z s.number ≡ None) w.kept some) put picked))
+    of_records = rest_left w.kept distinct a kept_a gone left split some picked
 
     replay : IsReplay w left t
     replay = subst (λ s. IsReplay w left s) all.state (subst (λ rs. IsReplay w rs all.world.state) of_world (subst (λ o. IsReplay (record w { opening = o }) all.world.kept all.world.state) all.opening (standing_replay all.world all.standing)))
@@ -183,6 +205,9 @@ module _ (w : World) (stands : IsStanding w) (a : Record) (kept_a : In a w.kept)
 
     pub rolled_exact : AreExactIn (record w { state = t; kept = some; shelf = shelf; journal = es }) new.notes new.untried
     rolled_exact = subst (λ s. AreExactIn (record w { state = s }) new.notes new.untried) all.state (subst (λ o. AreExactIn (record all.world { opening = o }) new.notes new.untried) all.opening all.exact)
+
+    pub rolled_streams : (names : List GoalName) → TellStreams w.opening.query w.state.goals names → TellStreams w.opening.query t.goals (all_told_back gone names)
+    rolled_streams names tell = subst (λ (s : State). TellStreams w.opening.query s.goals (all_told_back gone names)) all.state (all.streams names tell)
 
     pub rolled_left : AreLeft t.goals (IsBoundIn gone) old.notes new.notes
     rolled_left = subst (λ (s : State). AreLeft s.goals (IsBoundIn gone) old.notes new.notes) all.state all.notes
@@ -213,11 +238,12 @@ pub record RolledAway (w : World) (gone : List Record) (old new : Tries) (v : Wo
   pub standing : IsStanding v
   pub exact : AreExactIn v new.notes new.untried
   pub notes : AreLeft v.state.goals (IsBoundIn gone) old.notes new.notes
+  pub streams : (names : List GoalName) → TellStreams w.opening.query w.state.goals names → TellStreams w.opening.query v.state.goals (all_told_back gone names)
 
 -- A step and its consequences were taken back, put on the shelf, struck from the record, and entered: that is the rollback of the step.
 pub rolled_away : (w : World) → IsStanding w → (a : Record) (rs : List Record) → CanRoll w.kept (a ∷ rs) → (old new : Tries) → AreExactIn w old.notes old.untried → (t : State)
     → AreTakenBack (a ∷ rs) w.state t → AreAllCarriedBack (a ∷ rs) old new → (some : List Record) (shelf : Shelf) (es : List Entry) (n : ℕ) → shelf ≡ with_shelved (a ∷ rs) w.shelf
-    → Picks (λ s. finite.get shelf s.number ≡ None) w.kept some → n ≡ a.number → es ≡ w.journal ++ rolled n ∷ []
+    → Picks (λ s. ¬ In s (a ∷ rs)) w.kept some → n ≡ a.number → es ≡ w.journal ++ rolled n ∷ []
     → RolledAway w (a ∷ rs) old new (record w { state = t; kept = some; shelf = shelf; journal = es })
 rolled_away w s a rs can old new exact t p q some shelf es n put picked number told =
     let entered : es ≡ w.journal ++ rolled a.number ∷ [] = told ∙ ap (λ k. w.journal ++ rolled k ∷ []) number in
@@ -226,6 +252,7 @@ rolled_away w s a rs can old new exact t p q some shelf es n put picked number t
       standing = rolled_stands w s a can.0 (a ∷ rs) can.1.0 can.1.1 old exact t new p q some shelf es put picked entered;
       exact = rolled_exact w s a can.0 (a ∷ rs) can.1.0 can.1.1 old exact t new p q some shelf es put picked entered;
       notes = rolled_left w s a can.0 (a ∷ rs) can.1.0 can.1.1 old exact t new p q some shelf es put picked entered;
+      streams = rolled_streams w s a can.0 (a ∷ rs) can.1.0 can.1.1 old exact t new p q some shelf es put picked entered;
     }
 
 -- where a record of the number is kept, one is found

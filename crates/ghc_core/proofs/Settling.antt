@@ -1,5 +1,5 @@
 -- Goals are tried and noted one after another.
-use Rattle.std.proofs.Common.{◌≡◌, ℕ, zero, suc, ◌+◌, ◌-◌, ◌<◌, ◌≤◌, false, cond, refl, sym, ap, subst, ◌∙◌, inl, inr, arith}
+use Rattle.std.proofs.Common.{◌≡◌, ℕ, zero, suc, ◌+◌, ◌-◌, ◌<◌, ◌≤◌, List, false, cond, refl, sym, ap, subst, ◌∙◌, inl, inr, arith}
 use Rattle.std.specs.Prelude.{Some, None, IsTrue}
 use Rattle.std.specs.Ordering.{eq_by_cmp}
 use Rattle.std.specs.FinMap as finite
@@ -80,9 +80,11 @@ noted_before w m u g n exact q tried =
 pub noted_now : (w : World) (m new : NotesByGoal) (g : GoalName) (n : Note) → IsNoteOf w g n → new ≡ finite.insert m g n → IsNoted w g m new
 noted_now w m new g n q put = record { note = n; told = tells q.0 q.1.0 q.1.1 q.2.0; put = put }
 
-pub consistent_now : (w : World) (m new : NotesByGoal) (u left : GoalNames) (g : GoalName) (n : Note) → IsConsistent w m u → IsNoteOf w g n → new ≡ finite.insert m g n → left ≡ set.remove u g → IsConsistent w new left
-consistent_now w m new u left g n c q put taken =
-    subst (λ v. IsConsistent w v left) (sym put) (subst (IsConsistent w (finite.insert m g n)) (sym taken) (record { standing = c.standing; exact = noted_exact c.exact g q.0 q.1.0 q.1.1 n q.2 }))
+pub consistent_now : (w : World) (m new : NotesByGoal) (u left : GoalNames) (names : List GoalName) (g : GoalName) (n : Note) → IsConsistent w m u names → IsNoteOf w g n → new ≡ finite.insert m g n → left ≡ set.remove u g
+    → IsConsistent w new left names
+consistent_now w m new u left names g n c q put taken =
+    subst (λ v. IsConsistent w v left names) (sym put)
+    (subst (λ v. IsConsistent w (finite.insert m g n) v names) (sym taken) (record { standing = c.standing; exact = noted_exact c.exact g q.0 q.1.0 q.1.1 n q.2; streams = c.streams }))
 
 -- an untried goal is taken out
 pub one_less : (u : GoalNames) (g : GoalName) → IsTrue (set.contains u g) → set.len (set.remove u g) + 1 ≡ set.len u

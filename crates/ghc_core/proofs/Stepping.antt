@@ -157,18 +157,18 @@ module _ (effects : EffectIsOne) (w : World) (acyclic : IsAcyclic (value_at w.st
   not_value : (s x : VarName) (xs ys : List VarName) (e : Tree) → Leads (value_at w.state.store) (variable s) xs (variable x) → Leads (value_at w.state.store) (variable s) ys e → ¬ IsValue e
   not_value s x xs ys e p q v = subst IsValue (sym (leads_once p q).1) v
 
-  step_or_fail : {f : Fault} (r : Record) → streams.IsStreamStep w k act r → ¬ streams.StreamFails w k f
-  step_or_fail r t (streams.StreamFails.no_stream p) = p t.0 t.1 (at_stream r t)
-  step_or_fail r t (streams.StreamFails.tail_bound g s e at ends v) =
+  pub stream_step_or_fail : {f : Fault} (r : Record) → streams.IsStreamStep w k act r → ¬ streams.StreamFails w k f
+  stream_step_or_fail r t (streams.StreamFails.no_stream p) = p t.0 t.1 (at_stream r t)
+  stream_step_or_fail r t (streams.StreamFails.tail_bound g s e at ends v) =
       let o = opens r t in
       not_value s o.0 o.1 ends.0 e (subst (λ z. Leads (value_at w.state.store) (variable z) o.1 (variable o.0)) (one_tail t.0 g t.1 s (at_stream r t) at) o.2) ends.1 v
-  step_or_fail r t (streams.StreamFails.full g s x at ends full) = room_or_full w t.5.2 full
+  stream_step_or_fail r t (streams.StreamFails.full g s x at ends full) = room_or_full w t.5.2 full
 
   bound_or_open : (g h : GoalName) (s u x : VarName) (e : Tree) → streams.IsStreamAt w k g s → EndsIn (value_at w.state.store) s e → IsValue e → streams.IsStreamAt w k h u → EndsIn (value_at w.state.store) u (variable x) → ⊥
   bound_or_open g h s u x e at ends v here open_end =
       not_value s x open_end.0 ends.0 e (subst (λ z. Leads (value_at w.state.store) (variable z) open_end.0 (variable x)) (one_tail h g u s here at) open_end.1) ends.1 v
 
-  stream_fails_once : {f g : Fault} → streams.StreamFails w k f → streams.StreamFails w k g → f ≡ g
+  pub stream_fails_once : {f g : Fault} → streams.StreamFails w k f → streams.StreamFails w k g → f ≡ g
   stream_fails_once (streams.StreamFails.no_stream p) (streams.StreamFails.no_stream q) = refl
   stream_fails_once (streams.StreamFails.no_stream p) (streams.StreamFails.tail_bound g s e at ends v) = absurd (p g s at)
   stream_fails_once (streams.StreamFails.no_stream p) (streams.StreamFails.full g s x at ends full) = absurd (p g s at)
@@ -179,14 +179,16 @@ module _ (effects : EffectIsOne) (w : World) (acyclic : IsAcyclic (value_at w.st
   stream_fails_once (streams.StreamFails.full g s x at ends full) (streams.StreamFails.tail_bound h u e here reached v) = absurd (bound_or_open h g u s x e here reached v at ends)
   stream_fails_once (streams.StreamFails.full g s x at ends full) (streams.StreamFails.full h u y here reached more) = refl
 
-  pub act_once : {r s : Reply} {u v : World} → streams.ActsOnStream ⊥ w k act r u → streams.ActsOnStream ⊥ w k act s v → Same r s u v
-  act_once (streams.ActsOnStream.takes r t) (streams.ActsOnStream.takes s q) =
+  pub one_stream_step : (r s : Record) → streams.IsStreamStep w k act r → streams.IsStreamStep w k act s → r ≡ s
+  one_stream_step r s t q =
       let names : t.0 ≡ q.0 = once k t.0 q.0 t.1 q.1 (at_stream r t) (at_stream s q) in
-      let steps : r ≡ s = step_once effects w acyclic r s q.0 t.5 q.5 (t.2 ∙ ap Some names) q.2 (t.4 ∙ sym q.4) in
-      (refl, ap (λ x. with_step x w) steps)
-  act_once (streams.ActsOnStream.takes r t) (streams.ActsOnStream.fails f) = absurd (step_or_fail r t f)
+      step_once effects w acyclic r s q.0 t.5 q.5 (t.2 ∙ ap Some names) q.2 (t.4 ∙ sym q.4)
+
+  pub act_once : {r s : Reply} {u v : World} → streams.ActsOnStream ⊥ w k act r u → streams.ActsOnStream ⊥ w k act s v → Same r s u v
+  act_once (streams.ActsOnStream.takes r t) (streams.ActsOnStream.takes s q) = (refl, ap (λ x. with_step x w) (one_stream_step r s t q))
+  act_once (streams.ActsOnStream.takes r t) (streams.ActsOnStream.fails f) = absurd (stream_step_or_fail r t f)
   act_once (streams.ActsOnStream.takes r t) (streams.ActsOnStream.no_memory f) = absurd f
-  act_once (streams.ActsOnStream.fails f) (streams.ActsOnStream.takes r t) = absurd (step_or_fail r t f)
+  act_once (streams.ActsOnStream.fails f) (streams.ActsOnStream.takes r t) = absurd (stream_step_or_fail r t f)
   act_once (streams.ActsOnStream.fails f) (streams.ActsOnStream.fails g) = (ap refused (stream_fails_once f g), refl)
   act_once (streams.ActsOnStream.fails f) (streams.ActsOnStream.no_memory g) = absurd g
   act_once (streams.ActsOnStream.no_memory f) q = absurd f

@@ -3,7 +3,6 @@ use Rattle.std.specs.Prelude.{◌≡◌, ◌<◌, ◌≤◌, List, [], ◌∷◌
 use Rattle.std.specs.FinMap as finite
 use Rattle.ghc_term.specs.declared.var_name.VarName.{VarName}
 use Rattle.ghc_term.specs.Lists.{In}
-use Rattle.ghc_fire.specs.Proposal.{Proposal}
 use Rattle.ghc_records.specs.Numbers.{kept_limit}
 use Rattle.ghc_records.specs.Record.{Record, numbers, Fires}
 use Rattle.ghc_records.specs.State.{HasRoomToTake}
@@ -14,10 +13,9 @@ use Rattle.ghc_depend.specs.Kept.{IsSplitAt}
 use Rattle.ghc_depend.specs.Lawful.{IsLawful, IsInOrder}
 use Rattle.ghc_core.specs.declared.change.Change.{Change}
 use Rattle.ghc_core.specs.declared.change.Change.TheVariants.{Adds as adds, PutsBack as puts_back, TakesAway as takes_away, TakesAll as takes_all, Reorders as reorders}
-use Rattle.ghc_core.specs.World.{World, with_step}
+use Rattle.ghc_core.specs.World.{World, IsNextStep, with_step}
 use Rattle.ghc_core.specs.Core.{Room}
 use Rattle.ghc_core.specs.Events.{undone, arranged}
-use Rattle.ghc_core.specs.Proposes.{IsCommitOf}
 use Rattle.ghc_core.specs.Reverses.{Undoes, Rolls, Arranges, with_redone}
 
 -- The steps gone are a kept step and its consequences, in recorded order.
@@ -30,9 +28,9 @@ abbrev pub RollsAway : World → List Record → World → Type 0
 RollsAway w [] v = ⊥
 RollsAway w (r ∷ rs) v = Rolls ⊥ w r.number (undone (numbers (r ∷ rs))) v
 
--- The change can be made in the world: the step that it adds is that of a proposal, as the next step; the step that it puts back is on the shelf and possible now, and one more can be kept; the step that it takes away is kept, and nothing follows it; the steps that it takes away together are a kept one and its consequences; the order into which it puts the record is lawful.
+-- The change can be made in the world: the step that it adds is possible now, as the next step; the step that it puts back is on the shelf and possible now, and one more can be kept; the step that it takes away is kept, and nothing follows it; the steps that it takes away together are a kept one and its consequences; the order into which it puts the record is lawful.
 abbrev pub CanChange : World → Change → Type 0
-CanChange w (adds r) = (p : Proposal) × IsCommitOf w p r
+CanChange w (adds r) = IsNextStep w r
 CanChange w (puts_back r) = (finite.get w.shelf r.number ≡ Some r) × Fires w.opening.program w.state r × (length w.kept < kept_limit)
 CanChange w (takes_away r) = In r w.kept × ((b : Record) → ¬ Follows w.kept r b)
 CanChange w (takes_all gone) = CanRoll w.kept gone

@@ -1,5 +1,6 @@
 -- What a core is.
-use Rattle.std.specs.Prelude.{◌≡◌, ℕ, Option, Some, None}
+use Rattle.std.specs.Prelude.{◌≡◌, ℕ, List, Option, Some, None}
+use Rattle.ghc_term.specs.declared.goal_name.GoalName.{GoalName}
 use Rattle.ghc_fire.specs.declared.act.Act.{Act}
 use Rattle.ghc_fire.specs.declared.act.Act.TheVariants.{ByClause as by_clause, Unified as unified, Assigned as assigned, Given as given, Closed as closed}
 use Rattle.ghc_fire.specs.Proposal.{Proposal, under}
@@ -13,6 +14,7 @@ use Rattle.ghc_hooks.specs.NotedFace.{IsNotedFace}
 use Rattle.ghc_core.specs.World.{no_hands, World, with_step}
 use Rattle.ghc_core.specs.Proposes.{IsCommitOf}
 use Rattle.ghc_core.specs.Legal.{IsReachable}
+use Rattle.ghc_core.specs.StreamGoals.{TellStreams}
 
 -- How much more the tables of a core take without memory.
 pub record Room : Type 0 where
@@ -46,10 +48,11 @@ IsFaceOf w = IsFace w.opening.program w.state.goals w.state.store
 abbrev pub IsNotedFaceOf : World → NotesByGoal → Face → Type 0
 IsNotedFaceOf w = IsNotedFace w.opening.program w.state.goals w.state.store
 
--- What holds in each core: its world is one that a core can be in, and its notes and untried goals are exact there.
-pub record IsConsistent (w : World) (notes : NotesByGoal) (untried : GoalNames) : Type 0 where
+-- What holds in each core: its world is one that a core can be in, its notes and untried goals are exact there, and the names tell where its stream goals are.
+pub record IsConsistent (w : World) (notes : NotesByGoal) (untried : GoalNames) (names : List GoalName) : Type 0 where
   pub standing : IsStanding w
   pub exact : AreExactIn w notes untried
+  pub streams : TellStreams w.opening.query w.state.goals names
 
 -- A commit of the proposal in the world w takes step n, which leaves the world v.
 abbrev pub IsCommitted : World → Proposal → World → ℕ → Type 0

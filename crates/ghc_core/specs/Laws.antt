@@ -9,6 +9,7 @@ use Rattle.ghc_term.specs.Bindings.{IsAcyclic}
 use Rattle.ghc_term.specs.Store.{value_at}
 use Rattle.ghc_term.specs.Tree.{Tree}
 use Rattle.ghc_term.specs.Tree.{IsClosed}
+use Rattle.ghc_fire.specs.declared.act.Act.{Act}
 use Rattle.ghc_fire.specs.Effect.{no_step}
 use Rattle.ghc_records.specs.Orders.{AreDistinct}
 use Rattle.ghc_records.specs.Record.{Record, numbers}
@@ -16,7 +17,7 @@ use Rattle.ghc_records.specs.Replay.{IsVariableOf}
 use Rattle.ghc_records.specs.Laws.{IsWellMade}
 use Rattle.ghc_depend.specs.Kept.{Keeps}
 use Rattle.ghc_core.specs.World.{Proposal, Hands, World}
-use Rattle.ghc_core.specs.Streams.{IsStreamAt, Inputs, Finishes}
+use Rattle.ghc_core.specs.Streams.{IsStreamAt, StreamFails, IsStreamStep, Inputs, Finishes}
 use Rattle.ghc_core.specs.Events.{Event, Reply}
 use Rattle.ghc_core.specs.Proposes.{Proposes, StillHolds, HoldsAsNext, IsCommitOf, CommitFails, IsStepOf, StepFails, Commits, Notes}
 use Rattle.ghc_core.specs.Reverses.{Redoes, Arranges}
@@ -94,6 +95,12 @@ abbrev pub StepIsExact : Type 0
 StepIsExact =
     (w : World) (hands : Hands) (g : GoalName) (choice : Option ℕ) (result : Result Record Fault) → IsReachable w hands
     → Answered (IsStepOf w g choice) (StepFails w g choice) result → IsExact (IsStepOf w g choice) (StepFails w g choice) result
+
+-- In a reachable world, what is answered for an act on a stream is exact: the record of the next step, or why none is taken, unless memory was refused.
+abbrev pub StreamStepIsExact : Type 0
+StreamStepIsExact =
+    (w : World) (hands : Hands) (k : ℕ) (act : Act) (result : Result Record Fault) → IsReachable w hands
+    → Answered (IsStreamStep w k act) (StreamFails w k) result → IsExact (IsStreamStep w k act) (StreamFails w k) result
 
 -- In a reachable world, what a hand holds still holds exactly where it holds as the next step: under no number and under the next one alike, its effect now is the one proposed.
 abbrev pub StillHoldsAsNext : Type 0

@@ -16,3 +16,5 @@ pub mod Carried
 pub mod Settling
 pub mod Arrangement
 pub mod Change
+pub mod StreamGoals
+pub mod CommandCode

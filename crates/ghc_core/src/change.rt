@@ -2,13 +2,11 @@
 ghost use Rattle.std.specs.Prelude.{◌≡◌, OnOk};
 ghost use Rattle.ghc_term.specs.Lists.{In};
 ghost use Rattle.ghc_hooks.specs.Notes.{AreLeft};
-ghost use Rattle.ghc_fire.specs.Proposal.{Proposal as proposal_spec};
 ghost use Rattle.ghc_records.specs.Record.{Record as record_spec};
 ghost use Rattle.ghc_depend.specs.Kept.{IsWithout};
 ghost use Rattle.ghc_core.specs.declared.change.Change.TheVariants.{Adds as adds, TakesAway as takes_away};
 ghost use Rattle.ghc_core.specs.World.{with_step};
 ghost use Rattle.ghc_core.specs.Core.{IsStanding};
-ghost use Rattle.ghc_core.specs.Proposes.{IsCommitOf};
 ghost use Rattle.ghc_core.specs.Change.{CanChange, HasRoomFor, Changes, IsBoundBy};
 
 use crate::arrange::Arrangement;
@@ -33,8 +31,8 @@ pub enum Change {
     Reorders(Arrangement),
 }
 
-// Takes the step of this number out of the record.
-fn strike(records: &mut Records, number: u32)
+/// Takes the step of this number out of the record: what `Records::remove` costs.
+pub(crate) fn strike(records: &mut Records, number: u32)
     ensures { (r : record_spec) → In r records.old.held → r.number ≡ number → IsWithout records.old.held r records.new.held }
 {
     let _ = records.remove(number);
@@ -91,7 +89,7 @@ impl Core {
 
     // Takes a step: one look-up for each of its goals and bindings.
     fn add(&mut self, addition: Addition)
-        requires found { (p : proposal_spec) × IsCommitOf self.old.world p addition }
+        requires found { CanChange self.old.world (adds addition) }
         requires room { HasRoomFor self.old.world self.old.room (adds addition) }
         ensures world { self.new.world ≡ with_step addition self.old.world }
         ensures notes { AreLeft self.new.world.state.goals (IsBoundBy (adds addition)) self.old.notes self.new.notes }
@@ -99,6 +97,7 @@ impl Core {
     {
         let (step, entry) = self.state.take(addition);
         carry_over(&mut self.tries, &step);
+        self.streams.tell(&step);
         self.records.put(step);
         self.journal.put(entry);
         self.next += 1;
@@ -115,6 +114,7 @@ impl Core {
     {
         let step = self.state.take_back(removal);
         carry_back(&mut self.tries, &step);
+        self.streams.tell_back(&step);
         strike(&mut self.records, step.number());
         self.journal.put(Entry::Undid(step.number()));
         self.shelf.put(step);

@@ -130,7 +130,7 @@ impl Core {
     }
 
     // Whether a new step has no room.
-    fn is_full(&self) -> bool
+    pub(crate) fn is_full(&self) -> bool
         ensures full { result ≡ true → IsFull self.now.world }
         ensures room { result ≡ false → HasRoom self.now.world }
     {

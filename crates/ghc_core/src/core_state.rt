@@ -5,6 +5,7 @@ ghost use Rattle.ghc_core.specs.Core.{IsCommitted};
 ghost use Rattle.ghc_core.specs.Proposes.{AttemptAnswers, IsCommitOf, CommitFails};
 
 use crate::carrying::mark_made;
+use crate::stream_goals::StreamGoals;
 use ghc_fire::Meter;
 use ghc_flat::Program;
 use ghc_hooks::Tries;
@@ -26,6 +27,7 @@ pub struct Core {
     pub(crate) journal: Journal,
     pub(crate) meter: Meter,
     pub(crate) tries: Tries,
+    pub(crate) streams: StreamGoals,
 }
 
 impl Drop for Core {
@@ -40,6 +42,7 @@ impl Drop for Core {
             journal: _journal,
             meter: _meter,
             tries: _tries,
+            streams: _streams,
         } = self;
     }
 }
@@ -61,7 +64,7 @@ impl Model for Core {
       room = record { state = c.state.room; kept = c.records.room; shelf = c.shelf.room; journal = c.journal.room; tries = c.tries.room };
     } };
 
-    ghost invariant = { λ c. IsConsistent (record { opening = fresh_opening c.program c.query.goals c.query.variables; state = c.state.held; kept = c.records.held; shelf = c.shelf.held; next = c.next; journal = c.journal.held }) c.tries.notes c.tries.untried };
+    ghost invariant = { λ c. IsConsistent (record { opening = fresh_opening c.program c.query.goals c.query.variables; state = c.state.held; kept = c.records.held; shelf = c.shelf.held; next = c.next; journal = c.journal.held }) c.tries.notes c.tries.untried c.streams };
 }
 
 impl Core {
@@ -82,6 +85,7 @@ impl Core {
         let _clauses = program.clauses();
         let goals = query.goals();
         let state = State::of_query(alloc, goals)?;
+        let streams = StreamGoals::of_query(alloc, goals, goals.len() as u32)?;
         let mut tries = Tries::new(alloc);
         tries.reserve(goals.len())?;
         mark_made(&mut tries, 0, goals, goals.len() as u32);
@@ -95,6 +99,7 @@ impl Core {
             journal: Journal::new(alloc),
             meter: Meter::new(),
             tries,
+            streams,
         })
     }
 }

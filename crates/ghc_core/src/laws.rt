@@ -1,5 +1,5 @@
 // Laws about the definitions, each as the contract of a function.
-ghost use Rattle.ghc_core.specs.Laws.{ReachableIsOrderly, ReachableIsWellMade, ReachableIsNamed, ReachableKeeps, EventsHaveOneAnswer, InputsHaveAnAnswer, ClosesHaveAnAnswer, ArrangesHaveAnAnswer, ProposesHaveAnAnswer, CommitsHaveAnAnswer, CommitIsExact, StepIsExact, NotesHaveAnAnswer, RedoesHaveAnAnswer, EventsHaveAnAnswer, StillHoldsAsNext};
+ghost use Rattle.ghc_core.specs.Laws.{ReachableIsOrderly, ReachableIsWellMade, ReachableIsNamed, ReachableKeeps, EventsHaveOneAnswer, InputsHaveAnAnswer, ClosesHaveAnAnswer, ArrangesHaveAnAnswer, ProposesHaveAnAnswer, CommitsHaveAnAnswer, CommitIsExact, StepIsExact, StreamStepIsExact, NotesHaveAnAnswer, RedoesHaveAnAnswer, EventsHaveAnAnswer, StillHoldsAsNext};
 
 /// A reachable world keeps no number twice, has an acyclic store, and one goal a stream.
 pub fn reachable_is_orderly()
@@ -59,6 +59,11 @@ pub fn commit_is_exact()
 /// In a reachable world what is answered for a step of a goal is exact, unless memory was refused.
 pub fn step_is_exact()
     ensures { StepIsExact }
+{}
+
+/// In a reachable world what is answered for an input or a close of a stream is exact, unless memory was refused.
+pub fn stream_step_is_exact()
+    ensures { StreamStepIsExact }
 {}
 
 /// In a reachable world, what a hand holds still holds exactly where it holds as the next step.

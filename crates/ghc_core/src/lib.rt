@@ -4,10 +4,13 @@
 mod arrange;
 mod carrying;
 mod change;
+mod command;
 mod commit;
 mod core_state;
 mod face;
 mod facts;
+mod feeding;
+mod foresee;
 mod history_laws;
 mod laws;
 mod recheck;
@@ -16,6 +19,7 @@ mod rollback;
 mod rolling;
 mod settle;
 mod step;
+mod stream_goals;
 mod there;
 mod undo;
 mod undo_laws;
@@ -23,6 +27,7 @@ mod undo_laws;
 pub use arrange::Arrangement;
 pub use carrying::is_stream;
 pub use change::Change;
+pub use command::Command;
 pub use core_state::Core;
 pub use facts::{redo_is_changed, second_hand_is_stale};
 pub use history_laws::{
@@ -33,7 +38,7 @@ pub use laws::{
     arranges_have_an_answer, closes_have_an_answer, commit_is_exact, commits_have_an_answer,
     events_have_an_answer, events_have_one_answer, inputs_have_an_answer, notes_have_an_answer,
     proposes_have_an_answer, reachable_is_orderly, reachable_is_well_made, reachable_keeps,
-    redoes_have_an_answer, step_is_exact, still_holds_as_next,
+    redoes_have_an_answer, step_is_exact, still_holds_as_next, stream_step_is_exact,
 };
 pub use rollback::Rollback;
 pub use undo_laws::{

@@ -126,6 +126,7 @@ impl Core {
         let (step, _entry) = self.state.take(addition);
         let number = step.number();
         carry_over(&mut self.tries, &step);
+        self.streams.tell(&step);
         self.records.put(step);
         let _ = self.shelf.remove(number);
         self.journal.put(Entry::Redid(number));

@@ -14,9 +14,9 @@ ghost use Rattle.ghc_core.specs.Reverses.{Rolls};
 ghost use Rattle.ghc_core.specs.declared.change.Change.TheVariants.{TakesAll as takes_all};
 ghost use Rattle.ghc_core.specs.Change.{CanChange, HasRoomFor, Changes, IsBoundBy};
 
-use crate::change::Change;
+use crate::change::{Change, strike};
 use crate::core_state::Core;
-use crate::rolling::{take_all_back, take_one_back};
+use crate::rolling::{strike_all, take_all_back, take_one_back};
 use ghc_depend::consequences;
 use ghc_records::{Entry, Records, Removal};
 use ghc_term::Fault;
@@ -107,7 +107,7 @@ impl Core {
         self.journal.reserve(1)
     }
 
-    // Takes steps away: a look-up for each of their goals and bindings, and one pass over the record.
+    // Takes steps away: a look-up for each of their goals and bindings, and what `Records::remove` costs for each.
     pub(crate) fn take_all_away(&mut self, rollback: Rollback)
         requires found { CanChange self.old.world (takes_all rollback) }
         requires room { HasRoomFor self.old.world self.old.room (takes_all rollback) }
@@ -117,14 +117,22 @@ impl Core {
     {
         let Rollback { step, consequences } = rollback;
         let number = step.step().number();
+        strike_all(&mut self.records, consequences.as_slice());
+        strike(&mut self.records, number);
         take_all_back(
             &mut self.state,
             &mut self.tries,
             &mut self.shelf,
+            &mut self.streams,
             consequences,
         );
-        take_one_back(&mut self.state, &mut self.tries, &mut self.shelf, step);
-        self.records.remove_shelved(&self.shelf);
+        take_one_back(
+            &mut self.state,
+            &mut self.tries,
+            &mut self.shelf,
+            &mut self.streams,
+            step,
+        );
         self.journal.put(Entry::Rolled(number));
     }
 

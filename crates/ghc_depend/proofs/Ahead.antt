@@ -1,5 +1,5 @@
 -- From a step one goes to its users and to theirs, always to the first that is ahead: so its consequences come in recorded order.
-use Rattle.std.proofs.Common.{◌≡◌, ℕ, zero, suc, ◌+◌, ◌-◌, ◌<◌, ◌≤◌, ◌⊎◌, List, [], ◌∷◌, ◌++◌, length, take, refl, sym, ap, ◌∙◌, subst, inl, inr, arith}
+use Rattle.std.proofs.Common.{◌≡◌, ℕ, zero, suc, ◌+◌, ◌-◌, ◌<◌, ◌≤◌, ◌⊎◌, List, [], ◌∷◌, ◌++◌, length, map, take, refl, sym, ap, ◌∙◌, subst, inl, inr, arith}
 use Rattle.std.specs.Prelude.{◌↔◌, Some, All, slice_get}
 use Rattle.std.specs.declared.cmp.Ordering.{Ordering}
 use Rattle.std.specs.declared.cmp.Ordering.TheVariants.{Less, Equal, Greater}
@@ -14,15 +14,18 @@ use Rattle.ghc_term.specs.Lists.{In}
 use Rattle.ghc_term.proofs.ListsLemmas.{in_contains, in_left, in_more, in_last, in_at}
 use Rattle.ghc_records.specs.Orders.{Picks, nothing, take as taken, leave, AreDistinct}
 use Rattle.ghc_records.specs.Record.{Record, numbers}
+use Rattle.ghc_records.specs.Slots.{SlotList, held_in, StandsIn}
 use Rattle.ghc_records.specs.UseIndex.{StepDependsOn}
-use Rattle.ghc_records.proofs.OrderLemmas.{is_before, before_in, record_once, records_distinct, numbers_append}
+use Rattle.ghc_records.proofs.SlotLemmas.{stands_held}
+use Rattle.ghc_records.proofs.SlotClosing.{once_of}
+use Rattle.ghc_records.proofs.SlotRanks.{rank, rank_stands, rank_back, rank_less, of_map, map_of}
+use Rattle.ghc_records.proofs.OrderLemmas.{is_before, before_in, record_once, numbers_append}
 use Rattle.ghc_records.proofs.PickLemmas.{picks_in, picks_has, pick_last, leave_last}
 use Rattle.ghc_depend.specs.Depend.{DependsOn, Follows, directly, further}
 use Rattle.ghc_depend.specs.Places.{IsPlaceOfUser}
 use Rattle.ghc_depend.proofs.Finding.{same_value}
 use Rattle.ghc_depend.proofs.Following.{follows_in}
-use Rattle.ghc_depend.proofs.FirstPlace.{place_once}
-use Rattle.ghc_depend.proofs.Causes.{at_split, place_at, place_within, before_places}
+use Rattle.ghc_depend.proofs.Causes.{at_split, place_at, place_within, place_before}
 
 -- a place more, in its order
 pub in_inserted : (ks : List ℕ) (k p : ℕ) → In p (insert_key nat_cmp ks k) ↔ (In p ks ⊎ (p ≡ k))
@@ -44,42 +47,62 @@ all_behind place rest all p i =
     subst (λ o. MatchOrdering o (place < p) (place ≡ p) (p < place)) (All-contains (IsLtBy nat_cmp place) rest p all (in_contains rest p i)) (ranks place p)
 
 -- the places of the records of these numbers were put to the old ones
-abbrev pub HasPlacesOf : List Record → List ℕ → List ℕ → List ℕ → Type 0
-HasPlacesOf rs ns old new = (p : ℕ) → In p new ↔ (In p old ⊎ ((b : Record) × (slice_get rs p ≡ Some b) × In b.number ns))
+abbrev pub HasPlacesOf : SlotList → List ℕ → List ℕ → List ℕ → Type 0
+HasPlacesOf ss ns old new = (p : ℕ) → In p new ↔ (In p old ⊎ ((b : Record) × StandsIn ss p b × In b.number ns))
 
-pub places_none : (rs : List Record) (old : List ℕ) → HasPlacesOf rs [] old old
-places_none rs old p = (λ i. inl i, λ c. elim c [ inl i ↦ i | inr b ↦ absurd b.2 ])
+pub places_none : (ss : SlotList) (old : List ℕ) → HasPlacesOf ss [] old old
+places_none ss old p = (λ i. inl i, λ c. elim c [ inl i ↦ i | inr b ↦ absurd b.2 ])
 
-module _ (rs : List Record) (ns : List ℕ) (n : ℕ) (old ks : List ℕ) (has : HasPlacesOf rs ns old ks) where
-  pub places_still : ((r : Record) → In r rs → ¬ (r.number ≡ n)) → HasPlacesOf rs (ns ++ n ∷ []) old ks
+module _ (ss : SlotList) (ns : List ℕ) (n : ℕ) (old ks : List ℕ) (has : HasPlacesOf ss ns old ks) where
+  pub places_still : ((r : Record) → In r (held_in ss) → ¬ (r.number ≡ n)) → HasPlacesOf ss (ns ++ n ∷ []) old ks
   places_still none p = (
     λ i. elim ((has p).0 i) [ inl j ↦ inl j | inr b ↦ inr (b.0, b.1, in_left ns (n ∷ []) b.0.number b.2) ],
     λ c. (has p).1 (elim c [
       | inl j ↦ inl j
-      | inr b ↦ elim (in_more ns n b.0.number b.2) [ inl k ↦ inr (b.0, b.1, k) | inr e ↦ absurd (none b.0 (in_at rs p b.0 b.1) e) ]
+      | inr b ↦ elim (in_more ns n b.0.number b.2) [ inl k ↦ inr (b.0, b.1, k) | inr e ↦ absurd (none b.0 (stands_held ss p b.0 b.1) e) ]
     ]),
   )
 
-  pub places_more : AreDistinct (numbers rs) → (place : ℕ) (r : Record) → slice_get rs place ≡ Some r → r.number ≡ n → HasPlacesOf rs (ns ++ n ∷ []) old (insert_key nat_cmp ks place)
+  pub places_more : AreDistinct (numbers (held_in ss)) → (place : ℕ) (r : Record) → StandsIn ss place r → r.number ≡ n → HasPlacesOf ss (ns ++ n ∷ []) old (insert_key nat_cmp ks place)
   places_more distinct place r at number p = (
     λ i. elim ((in_inserted ks place p).0 i) [
       | inl j ↦ elim ((has p).0 j) [ inl k ↦ inl k | inr b ↦ inr (b.0, b.1, in_left ns (n ∷ []) b.0.number b.2) ]
-      | inr e ↦ inr (r, ap (slice_get rs) e ∙ at, subst (λ m. In m (ns ++ n ∷ [])) (sym number) (in_last ns n))
+      | inr e ↦ inr (r, subst (λ k. StandsIn ss k r) (sym e) at, subst (λ m. In m (ns ++ n ∷ [])) (sym number) (in_last ns n))
     ],
     λ c. (in_inserted ks place p).1 (elim c [
       | inl j ↦ inl ((has p).1 (inl j))
       | inr b ↦ elim (in_more ns n b.0.number b.2) [
         | inl k ↦ inl ((has p).1 (inr (b.0, b.1, k)))
-        | inr e ↦ inr (sym (place_once rs distinct place p r b.0 at b.1 (number ∙ sym e)))
+        | inr e ↦ inr (sym (once_of ss distinct place p r b.0 at b.1 (number ∙ sym e)))
       ]
     ]),
   )
 
-pub places_all : (rs : List Record) (ns : List ℕ) (number : ℕ) (old new : List ℕ) → ((n : ℕ) → In n ns ↔ StepDependsOn rs n number) → HasPlacesOf rs ns old new → (p : ℕ) → In p new ↔ (In p old ⊎ IsPlaceOfUser rs number p)
-places_all rs ns number old new users has p = (
+pub places_all : (ss : SlotList) (ns : List ℕ) (number : ℕ) (old new : List ℕ) → ((n : ℕ) → In n ns ↔ StepDependsOn (held_in ss) n number) → HasPlacesOf ss ns old new → (p : ℕ) → In p new ↔ (In p old ⊎ IsPlaceOfUser ss number p)
+places_all ss ns number old new users has p = (
   λ i. elim ((has p).0 i) [ inl j ↦ inl j | inr b ↦ inr (b.0, b.1, (users b.0.number).0 b.2) ],
   λ c. (has p).1 (elim c [ inl j ↦ inl j | inr b ↦ inr (b.0, b.1, (users b.0.number).1 b.2) ]),
 )
+
+-- at this place of the record stands a step that depends directly on the step numbered n
+abbrev pub IsUserAt : List Record → ℕ → ℕ → Type 0
+IsUserAt kept n p = (b : Record) × (slice_get kept p ≡ Some b) × StepDependsOn kept b.number n
+
+-- the ranks of the users' slots are their places in the record
+pub users_ranked : (ss : SlotList) (n : ℕ) (old new : List ℕ) → ((p : ℕ) → In p new ↔ (In p old ⊎ IsPlaceOfUser ss n p)) → (q : ℕ) → In q (map (rank ss) new) ↔ (In q (map (rank ss) old) ⊎ IsUserAt (held_in ss) n q)
+users_ranked ss n old new h q = (
+  λ i. let w = of_map (rank ss) new q i in elim ((h w.0).0 w.1) [
+    | inl j ↦ inl (subst (λ k. In k (map (rank ss) old)) w.2 (map_of (rank ss) old w.0 j))
+    | inr u ↦ inr (u.0, subst (λ k. slice_get (held_in ss) k ≡ Some u.0) w.2 (rank_stands ss w.0 u.0 u.1), u.2)
+  ],
+  λ c. elim c [
+    | inl j ↦ let w = of_map (rank ss) old q j in subst (λ k. In k (map (rank ss) new)) w.2 (map_of (rank ss) new w.0 ((h w.0).1 (inl w.1)))
+    | inr u ↦ let w = rank_back ss q u.0 u.1 in subst (λ k. In k (map (rank ss) new)) w.2 (map_of (rank ss) new w.0 ((h w.0).1 (inr (u.0, w.1, u.2))))
+  ],
+)
+
+pub behind_ranked : (ss : SlotList) (place : ℕ) (b : Record) → StandsIn ss place b → (rest : List ℕ) → ((p : ℕ) → In p rest → place < p) → (q : ℕ) → In q (map (rank ss) rest) → rank ss place < q
+behind_ranked ss place b stands rest behind q i = let w = of_map (rank ss) rest q i in let l = rank_less ss place w.0 b stands (behind w.0 w.1) in omega (arith, l, w.2)
 
 -- what stands at a place among the first
 in_taken : {X : Type 0} (xs : List X) (i q : ℕ) (x : X) → slice_get xs i ≡ Some x → i < q → In x (take q xs)
@@ -99,10 +122,10 @@ pub record IsGathered (kept : List Record) (a : Record) (ahead items : List ℕ)
 
 module _ (kept : List Record) (distinct : AreDistinct (numbers kept)) (a : Record) where
   low : (i j : ℕ) (c b : Record) → slice_get kept i ≡ Some c → slice_get kept j ≡ Some b → DependsOn kept b c → i < j
-  low i j c b at behind d = before_places kept (records_distinct kept distinct) i j c b at behind (is_before kept c b d.0)
+  low i j c b at behind d = place_before kept i j c b at behind distinct d.0
 
   -- a place of a user is that of a step that depends on it
-  user_at : (c : Record) (p : ℕ) → In c kept → IsPlaceOfUser kept c.number p → (b : Record) × (slice_get kept p ≡ Some b) × DependsOn kept b c
+  user_at : (c : Record) (p : ℕ) → In c kept → IsUserAt kept c.number p → (b : Record) × (slice_get kept p ≡ Some b) × DependsOn kept b c
   user_at c p i u =
       let d = u.2 in
       let both = before_in kept d.0 d.1 (is_before kept d.0 d.1 d.4.0) in
@@ -110,7 +133,7 @@ module _ (kept : List Record) (distinct : AreDistinct (numbers kept)) (a : Recor
       let second : d.1 ≡ u.0 = record_once kept d.1 u.0 distinct both.1 (in_at kept p u.0 u.1) d.3 in
       (u.0, u.1, subst (λ z. DependsOn kept u.0 z) first (subst (λ z. DependsOn kept z d.0) second d.4))
 
-  place_of_user : (c b : Record) (p : ℕ) → slice_get kept p ≡ Some b → DependsOn kept b c → IsPlaceOfUser kept c.number p
+  place_of_user : (c b : Record) (p : ℕ) → slice_get kept p ≡ Some b → DependsOn kept b c → IsUserAt kept c.number p
   place_of_user c b p at d = (b, at, (c, b, refl, refl, d))
 
   -- nothing follows up to a place, where nothing ahead stands before it
@@ -151,7 +174,7 @@ module _ (kept : List Record) (distinct : AreDistinct (numbers kept)) (a : Recor
   none_taken (x ∷ xs) = refl
 
   -- one begins with the users of the step itself
-  pub gather_begin : In a kept → (ahead : List ℕ) → ((p : ℕ) → In p ahead ↔ (In p [] ⊎ IsPlaceOfUser kept a.number p)) → IsGathered kept a ahead []
+  pub gather_begin : In a kept → (ahead : List ℕ) → ((p : ℕ) → In p ahead ↔ (In p [] ⊎ IsUserAt kept a.number p)) → IsGathered kept a ahead []
   gather_begin i ahead users = record {
     far = 0;
     found = [];
@@ -163,7 +186,7 @@ module _ (kept : List Record) (distinct : AreDistinct (numbers kept)) (a : Recor
         | inr u ↦ let w = user_at a p i u in (omega arith, w.0, a, w.1, inl refl, w.2)
       ],
       λ h. (users p).1 (elim h.4 [
-        | inl same ↦ inr (subst (λ z. IsPlaceOfUser kept z.number p) same (place_of_user h.2 h.1 p h.3 h.5))
+        | inl same ↦ inr (subst (λ z. IsUserAt kept z.number p) same (place_of_user h.2 h.1 p h.3 h.5))
         | inr k ↦ absurd k
       ]),
     );
@@ -186,7 +209,7 @@ module _ (kept : List Record) (distinct : AreDistinct (numbers kept)) (a : Recor
     ])
 
     -- and goes on with the users of the first that is ahead
-    pub gather_next : (new : List ℕ) → ((p : ℕ) → In p new ↔ (In p rest ⊎ IsPlaceOfUser kept b.number p)) → IsGathered kept a new (items ++ b.number ∷ [])
+    pub gather_next : (new : List ℕ) → ((p : ℕ) → In p new ↔ (In p rest ⊎ IsUserAt kept b.number p)) → IsGathered kept a new (items ++ b.number ∷ [])
     gather_next new users = record {
       far = place + 1;
       found = g.found ++ b ∷ [];
@@ -208,7 +231,7 @@ module _ (kept : List Record) (distinct : AreDistinct (numbers kept)) (a : Recor
             | inl same ↦ let far = h.0 in absurd (omega (arith, far, same))
             | inr j ↦ (users p).1 (inl j)
           ]
-          | inr same ↦ (users p).1 (inr (subst (λ z. IsPlaceOfUser kept z.number p) same (place_of_user h.2 h.1 p h.3 h.5)))
+          | inr same ↦ (users p).1 (inr (subst (λ z. IsUserAt kept z.number p) same (place_of_user h.2 h.1 p h.3 h.5)))
         ],
       );
     }

@@ -1,78 +1,86 @@
 -- The first place where one of some records stands, and the first consequence of a step.
 use Rattle.std.proofs.Common.{◌≡◌, ℕ, ◌<◌, ◌≤◌, ◌⊎◌, List, [], ◌∷◌, ◌++◌, length, refl, sym, ap, ◌∙◌, subst, inl, inr, arith}
-use Rattle.std.specs.Prelude.{◌↔◌, Option, Some, None, IfSome, slice_get}
+use Rattle.std.specs.Prelude.{◌↔◌, Option, Some, None, IfSome, slice_get, option_map}
 use Rattle.std.proofs.lemmas.Bool.{cases_order}
 use Rattle.ghc_term.specs.Lists.{In}
 use Rattle.ghc_term.proofs.ListsLemmas.{in_at, in_more, in_left, in_last}
-use Rattle.ghc_records.specs.Orders.{AreDistinct}
+use Rattle.ghc_records.specs.Orders.{Precedes, AreDistinct}
 use Rattle.ghc_records.specs.Record.{Record, numbers}
+use Rattle.ghc_records.specs.Slots.{SlotList, held_in, StandsIn}
 use Rattle.ghc_records.specs.UseIndex.{StepDependsOn}
-use Rattle.ghc_records.proofs.OrderLemmas.{Before, is_before, before_is, before_in, before_once, record_once, records_distinct}
+use Rattle.ghc_records.proofs.SlotLemmas.{stands_held}
+use Rattle.ghc_records.proofs.SlotClosing.{once_of}
+use Rattle.ghc_records.proofs.SlotRanks.{rank, rank_stands, rank_back, rank_least}
+use Rattle.ghc_records.proofs.OrderLemmas.{Before, is_before, before_in, before_once, record_once, records_distinct}
 use Rattle.ghc_depend.specs.Depend.{Uses, Follows, IsKeptAs, IsFirstConsequence}
 use Rattle.ghc_depend.specs.Places.{IsFirstAmong}
 use Rattle.ghc_depend.proofs.Finding.{same_value}
-use Rattle.ghc_depend.proofs.Causes.{NoneBetween, place_at, places_before, before_places}
+use Rattle.ghc_depend.proofs.Causes.{NoneBetween, place_at, places_before, stands_before, place_before}
 use Rattle.ghc_depend.proofs.Nearest.{is_first, none_of_it}
 
+-- the first place in the record where one of these numbers stands
+abbrev pub IsFirstOf : List Record → List ℕ → Option ℕ → Type 0
+IsFirstOf rs ns None = (r : Record) → In r rs → ¬ In r.number ns
+IsFirstOf rs ns (Some p) = ((b : Record) × (slice_get rs p ≡ Some b) × In b.number ns) × ((c : Record) (q : ℕ) → slice_get rs q ≡ Some c → In c.number ns → p ≤ q)
+
+-- the first slot has the first rank
+pub first_ranked : (ss : SlotList) (ns : List ℕ) (first : Option ℕ) → IsFirstAmong ss ns first → IsFirstOf (held_in ss) ns (option_map (rank ss) first)
+first_ranked ss ns None h = h
+first_ranked ss ns (Some p) h = (
+  (h.0.0, rank_stands ss p h.0.0 h.0.1, h.0.2),
+  λ c q at j.
+      let w = rank_back ss q c at in
+      let l = rank_least ss p w.0 (h.1 c w.0 w.1 j) in
+      omega (arith, l, w.2),
+)
+
+module _ (ss : SlotList) (distinct : AreDistinct (numbers (held_in ss))) (ns : List ℕ) (n : ℕ) (first : Option ℕ) (h : IsFirstAmong ss ns first) where
+  -- of this number no record is kept
+  pub first_still : ((r : Record) → In r (held_in ss) → ¬ (r.number ≡ n)) → IsFirstAmong ss (ns ++ n ∷ []) first
+  first_still none = still first h
+    where
+      still : (first : Option ℕ) → IsFirstAmong ss ns first → IsFirstAmong ss (ns ++ n ∷ []) first
+      still None h = λ r i j. elim (in_more ns n r.number j) [ inl k ↦ h r i k | inr e ↦ none r i e ]
+      still (Some p) h = (
+        (h.0.0, h.0.1, in_left ns (n ∷ []) h.0.0.number h.0.2),
+        λ c q at j. elim (in_more ns n c.number j) [ inl k ↦ h.1 c q at k | inr e ↦ absurd (none c (stands_held ss q c at) e) ],
+      )
+
+  -- a record of this number stands there
+  pub first_more : (place next : ℕ) (r : Record) → StandsIn ss place r → r.number ≡ n → next ≤ place → IfSome first (λ p. next ≤ p) → ((next ≡ place) ⊎ (first ≡ Some next)) → IsFirstAmong ss (ns ++ n ∷ []) (Some next)
+  first_more place next r at number low least one = (
+    elim one [
+      | inl e ↦ (r, subst (λ k. StandsIn ss k r) (sym e) at, subst (λ m. In m (ns ++ n ∷ [])) (sym number) (in_last ns n))
+      | inr e ↦ let b = (subst (IsFirstAmong ss ns) e h).0 in (b.0, b.1, in_left ns (n ∷ []) b.0.number b.2)
+    ],
+    λ c q there j. elim (in_more ns n c.number j) [
+      | inl k ↦ below first h least c q there k
+      | inr e ↦ let same : place ≡ q = once_of ss distinct place q r c at there (number ∙ sym e) in omega (arith, low, same)
+    ],
+  )
+    where
+      below : (first : Option ℕ) → IsFirstAmong ss ns first → IfSome first (λ p. next ≤ p) → (c : Record) (q : ℕ) → StandsIn ss q c → In c.number ns → next ≤ q
+      below None h least c q there k = absurd (h c (stands_held ss q c there) k)
+      below (Some p) h least c q there k = let l = h.1 c q there k in omega (arith, l, least)
+
 module _ (rs : List Record) (distinct : AreDistinct (numbers rs)) where
-  -- a number has one place
-  pub place_once : (i j : ℕ) (a b : Record) → slice_get rs i ≡ Some a → slice_get rs j ≡ Some b → a.number ≡ b.number → i ≡ j
-  place_once i j a b p q e =
-      let same : a ≡ b = record_once rs a b distinct (in_at rs i a p) (in_at rs j b q) e in
-      let apart = records_distinct rs distinct in
-      elim (cases_order i j) [
-        | inl e ↦ e
-        | inr (inl l) ↦ let before = subst (λ z. Before rs z b) same (places_before rs i j a b p q l) in absurd (before_once rs b b apart before before)
-        | inr (inr l) ↦ let before = subst (λ z. Before rs b z) same (places_before rs j i b a q p l) in absurd (before_once rs b b apart before before)
-      ]
-
-  module _ (ns : List ℕ) (n : ℕ) (first : Option ℕ) (h : IsFirstAmong rs ns first) where
-    -- of this number no record is kept
-    pub first_still : ((r : Record) → In r rs → ¬ (r.number ≡ n)) → IsFirstAmong rs (ns ++ n ∷ []) first
-    first_still none = still first h
-      where
-        still : (first : Option ℕ) → IsFirstAmong rs ns first → IsFirstAmong rs (ns ++ n ∷ []) first
-        still None h = λ r i j. elim (in_more ns n r.number j) [ inl k ↦ h r i k | inr e ↦ none r i e ]
-        still (Some p) h = (
-          (h.0.0, h.0.1, in_left ns (n ∷ []) h.0.0.number h.0.2),
-          λ c q at j. elim (in_more ns n c.number j) [ inl k ↦ h.1 c q at k | inr e ↦ absurd (none c (in_at rs q c at) e) ],
-        )
-
-    -- a record of this number stands there
-    pub first_more : (place next : ℕ) (r : Record) → slice_get rs place ≡ Some r → r.number ≡ n → next ≤ place → IfSome first (λ p. next ≤ p) → ((next ≡ place) ⊎ (first ≡ Some next)) → IsFirstAmong rs (ns ++ n ∷ []) (Some next)
-    first_more place next r at number low least one = (
-      elim one [
-        | inl e ↦ (r, ap (slice_get rs) e ∙ at, subst (λ m. In m (ns ++ n ∷ [])) (sym number) (in_last ns n))
-        | inr e ↦ let b = (subst (IsFirstAmong rs ns) e h).0 in (b.0, b.1, in_left ns (n ∷ []) b.0.number b.2)
-      ],
-      λ c q there j. elim (in_more ns n c.number j) [
-        | inl k ↦ below first h least c q there k
-        | inr e ↦ let same : place ≡ q = place_once place q r c at there (number ∙ sym e) in omega (arith, low, same)
-      ],
-    )
-      where
-        below : (first : Option ℕ) → IsFirstAmong rs ns first → IfSome first (λ p. next ≤ p) → (c : Record) (q : ℕ) → slice_get rs q ≡ Some c → In c.number ns → next ≤ q
-        below None h least c q there k = absurd (h c (in_at rs q c there) k)
-        below (Some p) h least c q there k = let l = h.1 c q there k in omega (arith, l, least)
-
   module _ (ns : List ℕ) (number : ℕ) (users : (n : ℕ) → In n ns ↔ StepDependsOn rs n number) where
     -- a step that uses this one, behind it, is among its users
     among : (a c : Record) (i j : ℕ) → a.number ≡ number → slice_get rs i ≡ Some a → slice_get rs j ≡ Some c → i < j → Uses c a → In c.number ns
-    among a c i j e p q l used = (users c.number).1 (a, c, e, refl, (before_is rs a c (places_before rs i j a c p q l), used))
+    among a c i j e p q l used = (users c.number).1 (a, c, e, refl, (stands_before rs i j a c p q l, used))
 
-    pub first_is : (p : ℕ) → IsFirstAmong rs ns (Some p) → (b : Record) → slice_get rs p ≡ Some b → (a : Record) × IsKeptAs rs number a × IsFirstConsequence rs a b
+    pub first_is : (p : ℕ) → IsFirstOf rs ns (Some p) → (b : Record) → slice_get rs p ≡ Some b → (a : Record) × IsKeptAs rs number a × IsFirstConsequence rs a b
     first_is p h b at =
         let d = (users h.0.0.number).0 h.0.2 in
         let a = d.0 in
         let both = before_in rs a d.1 (is_before rs a d.1 d.4.0) in
         let own : d.1 ≡ b = record_once rs d.1 b distinct both.1 (in_at rs p b at) (d.3 ∙ ap (λ (z : Record). z.number) (same_value h.0.1 at)) in
         let there = place_at rs a both.0 in
-        let before = subst (λ z. Before rs a z) own (is_before rs a d.1 d.4.0) in
-        let behind : there.0 < p = before_places rs (records_distinct rs distinct) there.0 p a b there.1 at before in
+        let behind : there.0 < p = place_before rs there.0 p a b there.1 at distinct (subst (Precedes rs a) own d.4.0) in
         let none : NoneBetween (λ c. Uses c a) rs there.0 p = λ k c low high at used. let l = h.1 c k at (among a c there.0 k d.2 there.1 at low used) in omega (arith, l, high) in
         (a, (both.0, d.2), is_first rs distinct a there.0 there.1 p none b at behind (subst (λ z. Uses z a) own d.4.1))
 
-    pub first_none : IsFirstAmong rs ns None → (a b : Record) → IsKeptAs rs number a → ¬ Follows rs a b
+    pub first_none : IsFirstOf rs ns None → (a b : Record) → IsKeptAs rs number a → ¬ Follows rs a b
     first_none h a b kept follows =
         let there = place_at rs a kept.0 in
         let none : NoneBetween (λ c. Uses c a) rs there.0 (length rs) = λ k c low high at used. h c (in_at rs k c at) (among a c there.0 k kept.1 there.1 at low used) in

@@ -7,20 +7,15 @@ use Rattle.ghc_term.specs.Lists.{In}
 use Rattle.ghc_term.proofs.ListsLemmas.{in_at, in_more}
 use Rattle.ghc_records.specs.Orders.{AreDistinct}
 use Rattle.ghc_records.specs.Record.{Record, numbers}
+use Rattle.ghc_records.specs.Slots.{SlotList, held_in, StandsIn}
 use Rattle.ghc_records.specs.UseIndex.{StepDependsOn}
-use Rattle.ghc_records.proofs.OrderLemmas.{is_before, before_is, before_in, record_once, records_distinct}
+use Rattle.ghc_records.proofs.SlotRanks.{rank, rank_back, rank_least}
+use Rattle.ghc_records.proofs.OrderLemmas.{is_before, before_is, before_in, record_once}
 use Rattle.ghc_depend.specs.Depend.{Uses}
 use Rattle.ghc_depend.specs.Lawful.{IsTooEarly, StandsBehind, IsNoFurther, IsInTime, AreInTime, IsFirstNeeded, IsFirstTooEarly}
 use Rattle.ghc_depend.proofs.Finding.{same_value, ends}
-use Rattle.ghc_depend.proofs.Causes.{at_split, places_before, before_places, place_at, place_within}
-
--- what stands in front of a place has an earlier one
-pub place_in_front : {X : Type 0} (xs : List X) (count : ℕ) (x : X) → In x (take count xs) → (i : ℕ) × (i < count) × (slice_get xs i ≡ Some x)
-place_in_front [] zero x i = absurd i
-place_in_front [] (suc count) x i = absurd i
-place_in_front (y ∷ xs) zero x i = absurd i
-place_in_front (y ∷ xs) (suc count) x (inl e) = (0, omega arith, ap Some (sym e))
-place_in_front (y ∷ xs) (suc count) x (inr i) = let p = place_in_front xs count x i in (suc p.0, omega (arith, p.1), p.2)
+use Rattle.ghc_depend.proofs.OrderWalks.{place_in_front}
+use Rattle.ghc_depend.proofs.Causes.{at_split, stands_before, place_before, places_before, before_places, place_at, place_within}
 
 -- one place more is in time
 pub time_next : (kept : List Record) (order : List ℕ) (i n : ℕ) → slice_get order i ≡ Some n → AreInTime kept order i → IsInTime kept order n → AreInTime kept order (i + 1)
@@ -44,11 +39,20 @@ all_in_time kept order count long h a b t =
 abbrev pub NoneNeeded : List Record → List ℕ → ℕ → Record → ℕ → Type 0
 NoneNeeded kept order place b i = (k : ℕ) (c : Record) → k < i → slice_get kept k ≡ Some c → ¬ (StandsBehind order place c.number × Uses b c)
 
-pub none_needed_more : (kept : List Record) (order : List ℕ) (place : ℕ) (b : Record) (i : ℕ) (a : Record) → slice_get kept i ≡ Some a → NoneNeeded kept order place b i → ¬ (StandsBehind order place a.number × Uses b a) → NoneNeeded kept order place b (i + 1)
-none_needed_more kept order place b i a at none not_it k c low there = elim (cases_lt k i) [
+-- the same of the records in the first slots
+abbrev pub NoneNeededIn : SlotList → List ℕ → ℕ → Record → ℕ → Type 0
+NoneNeededIn ss order place b i = (k : ℕ) (c : Record) → k < i → StandsIn ss k c → ¬ (StandsBehind order place c.number × Uses b c)
+
+pub none_needed_more : (ss : SlotList) (order : List ℕ) (place : ℕ) (b : Record) (i : ℕ) → NoneNeededIn ss order place b i → ((a : Record) → StandsIn ss i a → ¬ (StandsBehind order place a.number × Uses b a)) → NoneNeededIn ss order place b (i + 1)
+none_needed_more ss order place b i none not_it k c low there = elim (cases_lt k i) [
   | inl l ↦ none k c l there
-  | inr l ↦ let e : i ≡ k = omega arith in subst (λ (z : Record). ¬ (StandsBehind order place z.number × Uses b z)) (same_value at (ap (slice_get kept) e ∙ there)) not_it
+  | inr l ↦ let e : k ≡ i = omega (arith, low, l) in not_it c (subst (λ p. StandsIn ss p c) e there)
 ]
+
+pub none_ranked : (ss : SlotList) (order : List ℕ) (place : ℕ) (b : Record) (i : ℕ) → NoneNeededIn ss order place b i → NoneNeeded (held_in ss) order place b (rank ss i)
+none_ranked ss order place b i none k c low there =
+    let w = rank_back ss k c there in
+    none w.0 c (elim (cases_lt w.0 i) [ inl before ↦ before | inr behind ↦ let l = rank_least ss i w.0 behind in absurd (omega (arith, l, w.2, low)) ]) w.1
 
 module _ (kept : List Record) (distinct : AreDistinct (numbers kept)) (order : List ℕ) (once : AreDistinct order) (place : ℕ) (b : Record) (at : slice_get order place ≡ Some b.number) where
   -- a step before which b stands too early stands behind it
@@ -61,7 +65,7 @@ module _ (kept : List Record) (distinct : AreDistinct (numbers kept)) (order : L
   pub first_step : (end_place i : ℕ) (a : Record) → slice_get kept end_place ≡ Some b → slice_get kept i ≡ Some a → i < end_place → StandsBehind order place a.number → Uses b a → NoneNeeded kept order place b i → IsFirstNeeded kept order b a
   first_step end_place i a there here low behind used none = (
     (
-      (before_is kept a b (places_before kept i end_place a b here there low), used),
+      (stands_before kept i end_place a b here there low, used),
       before_is order b.number a.number (places_before order place behind.0 b.number a.number at behind.1 behind.2),
     ),
     λ c t.
@@ -70,7 +74,7 @@ module _ (kept : List Record) (distinct : AreDistinct (numbers kept)) (order : L
           | inl l ↦ absurd (none p.0 c l p.1 (stands_later c t, t.0.1))
           | inr l ↦ elim (eq-or-lt_of_le l) [
             | inl e ↦ inl (same_value p.1 (ap (slice_get kept) (sym e) ∙ here))
-            | inr m ↦ inr (before_is kept a c (places_before kept i p.0 a c here p.1 m))
+            | inr m ↦ inr (stands_before kept i p.0 a c here p.1 m)
           ]
         ],
   )
@@ -80,7 +84,7 @@ module _ (kept : List Record) (distinct : AreDistinct (numbers kept)) (order : L
       let same : d ≡ b = record_once kept d b distinct (ends kept d c t.0).1 (in_at kept end_place b there) e in
       let early : IsTooEarly kept order c b = subst (IsTooEarly kept order c) same t in
       let p = place_at kept c (ends kept b c early.0).0 in
-      let low = before_places kept (records_distinct kept distinct) p.0 end_place c b p.1 there (is_before kept c b early.0.0) in
+      let low = place_before kept p.0 end_place c b p.1 there distinct early.0.0 in
       none p.0 c low p.1 (stands_later c early, early.0.1)
 
 -- of the steps that depend directly on one of these first of the order, those that stand in front of it are no nearer than this

@@ -5,16 +5,15 @@ use Rattle.std.proofs.lemmas.Bool.{cases_lt}
 use Rattle.std.proofs.Math.Nat.{eq-or-lt_of_le}
 use Rattle.ghc_records.specs.Orders.{AreDistinct}
 use Rattle.ghc_records.specs.Record.{Record, numbers}
-use Rattle.ghc_records.proofs.OrderLemmas.{is_before, before_is, records_distinct}
 use Rattle.ghc_depend.specs.Depend.{Uses, DependsOn, Follows, directly, further, IsKeptAs, IsFirstConsequence}
 use Rattle.ghc_depend.proofs.Finding.{same_value}
 use Rattle.ghc_depend.proofs.Following.{follows_in}
-use Rattle.ghc_depend.proofs.Causes.{NoneBetween, StandsAt, placed, place_at, place_within, places_before, before_places}
+use Rattle.ghc_depend.proofs.Causes.{NoneBetween, StandsAt, placed, place_at, place_within, stands_before, place_before}
 
 module _ (rs : List Record) (distinct : AreDistinct (numbers rs)) (a : Record) (place : ℕ) (there : slice_get rs place ≡ Some a) where
   -- a step stands behind each on which it depends
   low : (i j : ℕ) (c b : Record) → slice_get rs i ≡ Some c → slice_get rs j ≡ Some b → DependsOn rs b c → i < j
-  low i j c b at behind d = before_places rs (records_distinct rs distinct) i j c b at behind (is_before rs c b d.0)
+  low i j c b at behind d = place_before rs i j c b at behind distinct d.0
 
   module _ (i : ℕ) (none : NoneBetween (λ c. Uses c a) rs place i) where
     -- no consequence stands in front of the first step that uses this one
@@ -31,12 +30,12 @@ module _ (rs : List Record) (distinct : AreDistinct (numbers rs)) (a : Record) (
 
     pub is_first : (b : Record) → slice_get rs i ≡ Some b → place < i → Uses b a → IsFirstConsequence rs a b
     is_first b at behind used = (
-      directly (before_is rs a b (places_before rs place i a b there at behind), used),
+      directly (stands_before rs place i a b there at behind, used),
       λ c f.
           let p = place_at rs c (follows_in f) in
           elim (eq-or-lt_of_le (not_before f p.0 p.1)) [
             | inl e ↦ inl (same_value (ap (slice_get rs) e ∙ p.1) at)
-            | inr l ↦ inr (before_is rs b c (places_before rs i p.0 b c at p.1 l))
+            | inr l ↦ inr (stands_before rs i p.0 b c at p.1 l)
           ],
     )
 

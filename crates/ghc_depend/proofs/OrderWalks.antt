@@ -1,18 +1,21 @@
 -- Walks over an order and over the record: which number is wrong, and which is missing.
-use Rattle.std.proofs.Common.{◌≡◌, ℕ, ◌+◌, ◌⊎◌, Bool, true, false, not, List, [], ◌∷◌, ◌++◌, take, get_or, refl, sym, ap, ◌∙◌, subst, inl, inr, nat_eq, ◌||◌}
+use Rattle.std.proofs.Common.{◌≡◌, ℕ, zero, suc, ◌+◌, ◌<◌, ◌≤◌, length, arith, ◌⊎◌, Bool, true, false, not, List, [], ◌∷◌, ◌++◌, take, get_or, refl, sym, ap, ◌∙◌, subst, inl, inr, nat_eq, ◌||◌}
 use Rattle.std.specs.Prelude.{Option, Some, None, IfSome, IfNone, IsSome, slice_get}
 use Rattle.std.specs.Borrow.{Bor}
 use Rattle.std.specs.List.{list_any, position}
-use Rattle.std.proofs.lemmas.Bool.{eqb-true, eq-eqb, cases_order}
+use Rattle.std.proofs.lemmas.Bool.{eqb-true, eq-eqb, cases_order, cases_lt}
 use Rattle.std.proofs.lemmas.List.Quantifiers.{position-Some}
-use Rattle.std.proofs.lemmas.Option.{slice_get-get_or}
+use Rattle.std.proofs.lemmas.Option.{slice_get-get_or, slice_get_within}
 use Rattle.indexmap.specs.IndexSet.{insert_key}
 use Rattle.ghc_term.specs.Lists.{In}
 use Rattle.ghc_term.proofs.ListsLemmas.{in_more}
 use Rattle.ghc_term.proofs.MapsLemmas.{at_some}
 use Rattle.ghc_records.specs.Orders.{AreDistinct}
 use Rattle.ghc_records.specs.Record.{Record, numbers}
+use Rattle.ghc_records.specs.Slots.{SlotList, held_in, StandsIn}
 use Rattle.ghc_records.proofs.OrderLemmas.{before_once, number_of}
+use Rattle.ghc_records.proofs.SlotLemmas.{held_stands}
+use Rattle.ghc_records.proofs.SlotRanks.{rank, rank_back, rank_least}
 use Rattle.ghc_depend.specs.Lawful.{IsOfKept, IsFirstWrong, IsFirstMissing}
 use Rattle.ghc_depend.proofs.Causes.{at_split, places_before}
 use Rattle.ghc_depend.proofs.Picking.{distinct_push}
@@ -50,15 +53,39 @@ module _ (kept : List Record) (order : List ℕ) (i : ℕ) (n : ℕ) (at : slice
   pub is_wrong : IsOfKept kept (take i order) → (¬ In n (numbers kept)) ⊎ In n (take i order) → IsFirstWrong kept order n
   is_wrong k wrong = let s = at_split order i n at in record { front = take i order; behind = s.0; splits = s.1; before = k; not_new = wrong }
 
+-- what stands in front of a place has an earlier one
+pub place_in_front : {X : Type 0} (xs : List X) (count : ℕ) (x : X) → In x (take count xs) → (i : ℕ) × (i < count) × (slice_get xs i ≡ Some x)
+place_in_front [] zero x i = absurd i
+place_in_front [] (suc count) x i = absurd i
+place_in_front (y ∷ xs) zero x i = absurd i
+place_in_front (y ∷ xs) (suc count) x (inl e) = (0, omega arith, ap Some (sym e))
+place_in_front (y ∷ xs) (suc count) x (inr i) = let p = place_in_front xs count x i in (suc p.0, omega (arith, p.1), p.2)
+
 -- the records so far have places, and so has one more
 abbrev pub HavePlaces : List Record → ℕ → List ℕ → Type 0
 HavePlaces kept i keys = (r : Record) → In r (take i kept) → In r.number keys
 
-pub places_next : (kept : List Record) (keys : List ℕ) (i : ℕ) (r : Record) → slice_get kept i ≡ Some r → HavePlaces kept i keys → In r.number keys → HavePlaces kept (i + 1) keys
-places_next kept keys i r at h here s j = elim (in_more (take i kept) r s (subst (In s) (at_split kept i r at).2 j)) [
-  | inl k ↦ h s k
-  | inr same ↦ subst (λ (z : Record). In z.number keys) (sym same) here
+-- so have those of the first slots
+abbrev pub HaveSlots : SlotList → ℕ → List ℕ → Type 0
+HaveSlots ss i keys = (p : ℕ) (r : Record) → p < i → StandsIn ss p r → In r.number keys
+
+pub slots_next : (ss : SlotList) (keys : List ℕ) (i : ℕ) → HaveSlots ss i keys → ((r : Record) → StandsIn ss i r → In r.number keys) → HaveSlots ss (i + 1) keys
+slots_next ss keys i h here p r l at = elim (cases_lt p i) [
+  | inl before ↦ h p r before at
+  | inr behind ↦ let same : p ≡ i = omega (arith, l, behind) in here r (subst (λ k. StandsIn ss k r) same at)
 ]
+
+pub have_ranked : (ss : SlotList) (keys : List ℕ) (i : ℕ) → HaveSlots ss i keys → HavePlaces (held_in ss) (rank ss i) keys
+have_ranked ss keys i h r j =
+    let k = place_in_front (held_in ss) (rank ss i) r j in
+    let w = rank_back ss k.0 r k.2 in
+    h w.0 r (elim (cases_lt w.0 i) [ inl before ↦ before | inr behind ↦ let l = rank_least ss i w.0 behind in absurd (omega (arith, l, w.2, k.1)) ]) w.1
+
+pub all_slots : (ss : SlotList) (keys : List ℕ) (i : ℕ) → length ss ≤ i → HaveSlots ss i keys → (r : Record) → In r (held_in ss) → In r.number keys
+all_slots ss keys i long h r j =
+    let w = held_stands ss r j in
+    let within = slice_get_within ss w.0 (Some r) w.1 in
+    h w.0 r (omega (arith, within, long)) w.1
 
 pub is_missing : (kept : List Record) (keys : List ℕ) (i : ℕ) (r : Record) → slice_get kept i ≡ Some r → HavePlaces kept i keys → ¬ In r.number keys → IsFirstMissing kept keys r
 is_missing kept keys i r at h absent =

@@ -5,7 +5,7 @@ use Rattle.ghc_term.specs.Lists.{In}
 use Rattle.ghc_term.proofs.ListsLemmas.{in_left, in_right, in_either, in_splits, in_more}
 use Rattle.ghc_records.specs.Orders.{Picks, nothing, take, leave, AreDistinct}
 use Rattle.ghc_records.specs.Record.{Record, numbers}
-pub use Rattle.ghc_records.proofs.PickLemmas.{before_left, before_right, before_across, picks_in, picks_has, picks_order, picks_keep, picks_distinct, pick_last, leave_last}
+pub use Rattle.ghc_records.proofs.PickLemmas.{before_left, before_right, before_across, picks_in, picks_has, picks_order, picks_keep, picks_distinct, pick_last, leave_last, no_longer}
 use Rattle.ghc_records.proofs.OrderLemmas.{Before, before_in, before_once, number_in, number_of, numbers_append}
 
 module _ {X : Type 0} where
@@ -25,23 +25,6 @@ module _ {X : Type 0} where
     | inr (inl same) ↦ let again = subst (λ z. Before xs z r) same before in absurd (before_once xs r r distinct again again)
     | inr (inr i) ↦ absurd (before_once xs a r distinct before (subst (λ z. Before z r a) (sym e) (behind_before front back r a i)))
   ]
-
-  kept_in : (before behind : List X) (x y : X) → In y (before ++ x ∷ behind) → ¬ (y ≡ x) → In y (before ++ behind)
-  kept_in before behind x y i n = elim (in_either before (x ∷ behind) y i) [
-    | inl j ↦ in_left before behind y j
-    | inr (inl e) ↦ absurd (n e)
-    | inr (inr j) ↦ in_right before behind y j
-  ]
-
-  -- a list without repetitions is no longer than one that has all its elements
-  pub no_longer : (xs ys : List X) → AreDistinct xs → ((x : X) → In x xs → In x ys) → length xs ≤ length ys
-  no_longer [] ys d h = omega arith
-  no_longer (x ∷ xs) ys d h =
-      let s = in_splits ys x (h x (inl refl)) in
-      let rest = no_longer xs (s.0 ++ s.1) d.1 (λ y i. kept_in s.0 s.1 x y (subst (In y) s.2 (h y (inr i))) (λ e. d.0 (subst (λ z. In z xs) e i))) in
-      let whole : length ys ≡ length s.0 + length (x ∷ s.1) = ap length s.2 ∙ length-append s.0 (x ∷ s.1) in
-      let parts : length (s.0 ++ s.1) ≡ length s.0 + length s.1 = length-append s.0 s.1 in
-      omega arith
 
   pub never_nothing : (xs : List X) (x : X) → ¬ (xs ++ x ∷ [] ≡ [])
   never_nothing [] x e = cc

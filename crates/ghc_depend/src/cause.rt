@@ -4,6 +4,7 @@ ghost use Rattle.std.specs.Ordering.{ord_min};
 ghost use Rattle.ghc_term.specs.Bindings.{name_cmp};
 ghost use Rattle.ghc_term.specs.declared.var_name.VarName.{VarName};
 ghost use Rattle.ghc_records.specs.Record.{Record};
+ghost use Rattle.ghc_records.specs.Slots.{StandsIn};
 ghost use Rattle.ghc_depend.specs.Depend.{MakesGoal, Consumes, Binds, ReadsFrom, Uses};
 ghost use Rattle.ghc_depend.specs.Cause.{CanWait, WasThereBefore, IsBoundBehind, ReadsBehind, IsWokenBy, IsLeastRead, IsDirect};
 
@@ -102,7 +103,7 @@ fn can_wait(act: &Act) -> bool
 
 // Whether the goal that the later step consumed was made before the step at this place: one look-up.
 fn was_there_before(records: &Records, later: &Record, place: usize) -> bool
-    ensures { IfSome (slice_get records.now.held place) (λ a. IsTrue result ↔ WasThereBefore records.now.held later.now a) }
+    ensures { (a : Record) → StandsIn records.now.slots place a → (IsTrue result ↔ WasThereBefore records.now.held later.now a) }
 {
     let _count = records.len();
     let Some(name) = later.goal() else {
@@ -119,7 +120,7 @@ fn was_there_before(records: &Records, later: &Record, place: usize) -> bool
 
 // Whether the step that bound the variable, if one did, stands behind this place: two look-ups.
 fn is_bound_behind(records: &Records, x: VarName, place: usize) -> bool
-    ensures { IfSome (slice_get records.now.held place) (λ a. IsTrue result ↔ IsBoundBehind records.now.held a x) }
+    ensures { (a : Record) → StandsIn records.now.slots place a → (IsTrue result ↔ IsBoundBehind records.now.held a x) }
 {
     let _count = records.len();
     let Some(binder) = records.binder_of(x) else {
@@ -133,7 +134,7 @@ fn is_bound_behind(records: &Records, x: VarName, place: usize) -> bool
 
 // Whether the later step read a variable that a step behind this place bound: two look-ups for each that it read.
 fn reads_behind(records: &Records, later: &Record, place: usize) -> bool
-    ensures { IfSome (slice_get records.now.held place) (λ a. IsTrue result ↔ ReadsBehind records.now.held later.now a) }
+    ensures { (a : Record) → StandsIn records.now.slots place a → (IsTrue result ↔ ReadsBehind records.now.held later.now a) }
 {
     for x in later.effect().reads().members() {
         if is_bound_behind(records, *x, place) {
@@ -145,7 +146,7 @@ fn reads_behind(records: &Records, later: &Record, place: usize) -> bool
 
 // Whether the step at this place woke the goal of the later one: one look-up, and two for each variable that the later step read.
 fn is_woken_by(records: &Records, later: &Record, place: usize) -> bool
-    ensures { IfSome (slice_get records.now.held place) (λ a. IsTrue result ↔ IsWokenBy records.now.held later.now a) }
+    ensures { (a : Record) → StandsIn records.now.slots place a → (IsTrue result ↔ IsWokenBy records.now.held later.now a) }
 {
     can_wait(later.act())
         && was_there_before(records, later, place)

@@ -23,7 +23,7 @@ fn sooner(first: Option<usize>, place: usize) -> usize
 
 // The first place where a record of one of these numbers stands, if one is kept: one look-up for each number.
 fn first_among(records: &Records, ns: &[u32]) -> Option<usize>
-    ensures { IsFirstAmong records.now.held ns.now result }
+    ensures { IsFirstAmong records.now.slots ns.now result }
 {
     let _count = records.len();
     let mut first = None;
@@ -37,7 +37,7 @@ fn first_among(records: &Records, ns: &[u32]) -> Option<usize>
 
 // Adds the places of the steps that depend directly on the step of this number: one look-up for each.
 fn add_users(ahead: &mut BTreeSet<usize>, records: &Records, number: u32) -> Result<(), AllocError>
-    ensures { OnOk result ((p : ℕ) → In p ahead.new.keys ↔ (In p ahead.old.keys ⊎ IsPlaceOfUser records.now.held number p)) }
+    ensures { OnOk result ((p : ℕ) → In p ahead.new.keys ↔ (In p ahead.old.keys ⊎ IsPlaceOfUser records.now.slots number p)) }
 {
     let _count = records.len();
     for user in records.users_of(number) {

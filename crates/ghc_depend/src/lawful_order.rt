@@ -3,12 +3,14 @@ ghost use Rattle.std.specs.Prelude.{◌≡◌, ◌⊎◌, ◌≤◌, ℕ, IfErr,
 ghost use Rattle.ghc_term.specs.declared.fault.Fault.{Fault};
 ghost use Rattle.ghc_records.specs.Orders.{AreDistinct};
 ghost use Rattle.ghc_records.specs.Record.{Record};
+ghost use Rattle.ghc_records.specs.Slots.{StandsIn};
 ghost use Rattle.ghc_records.specs.UseIndex.{StepDependsOn};
-ghost use Rattle.ghc_depend.specs.Lawful.{IsOrderOf, IsTooEarly, IsLawful, IsNoFurther, AreInTime, IsInTime, IsFirstNeeded, IsFirstTooEarly, IsUnlawful};
+ghost use Rattle.ghc_depend.specs.Depend.{Uses};
+ghost use Rattle.ghc_depend.specs.Lawful.{IsOrderOf, IsTooEarly, IsLawful, IsNoFurther, StandsBehind, AreInTime, IsInTime, IsFirstNeeded, IsFirstTooEarly, IsUnlawful};
 
 use crate::cause::uses;
 use crate::places::{first_missing, no_further, places_of, stands_behind};
-use ghc_records::Records;
+use ghc_records::{Record, Records};
 use ghc_term::Fault;
 use indexmap::IndexSet;
 use std::alloc::Global;
@@ -47,6 +49,28 @@ fn count_in_time(records: &Records, places: &IndexSet<u32>, order: &[u32]) -> us
     in_time
 }
 
+// The number of the record in this slot, if it has one that stands behind this place in the order, and the later step used what
+// it gave: two look-ups, and one for each variable that the later step read.
+fn needed_at(
+    records: &Records,
+    places: &IndexSet<u32>,
+    later: &Record,
+    place: usize,
+    slot: usize,
+) -> Option<u32>
+    requires { AreDistinct places.now.keys }
+    ensures found { IfSome result (λ n. (a : Record) × StandsIn records.now.slots slot a × (a.number ≡ n) × StandsBehind places.now.keys place n × Uses later.now a) }
+    ensures none { IfNone result ((a : Record) → StandsIn records.now.slots slot a → ¬ (StandsBehind places.now.keys place a.number × Uses later.now a)) }
+{
+    let Some(earlier) = records.at(slot) else {
+        return None;
+    };
+    if stands_behind(places, earlier.number(), place) && uses(later, earlier) {
+        return Some(earlier.number());
+    }
+    None
+}
+
 // The number of the first step, in recorded order, on which the step of this number and this place in the order depends directly
 // and which stands behind it in the order. It goes over the records in front of that step, with a look-up at each, and one for each
 // variable that it read where the record stands behind.
@@ -59,10 +83,9 @@ fn first_needed(records: &Records, places: &IndexSet<u32>, number: u32, place: u
     let _count = records.len();
     let end = records.place_of(number)?;
     let later = records.at(end).unwrap();
-    for index in 0..end {
-        let earlier = records.at(index).unwrap();
-        if stands_behind(places, earlier.number(), place) && uses(later, earlier) {
-            return Some(earlier.number());
+    for slot in 0..end {
+        if let Some(earlier) = needed_at(records, places, later, place, slot) {
+            return Some(earlier);
         }
     }
     None

@@ -4,6 +4,7 @@ ghost use Rattle.ghc_term.specs.Lists.{In};
 ghost use Rattle.ghc_term.specs.declared.fault.Fault.{Fault};
 ghost use Rattle.ghc_records.specs.Orders.{AreDistinct};
 ghost use Rattle.ghc_records.specs.Record.{Record, numbers};
+ghost use Rattle.ghc_records.specs.Slots.{StandsIn};
 ghost use Rattle.ghc_depend.specs.Lawful.{IsOfKept, IsFirstWrong, IsFirstMissing, StandsBehind, IsNoFurther};
 
 use ghc_records::Records;
@@ -54,14 +55,29 @@ pub(crate) fn places_of(
     Ok(places)
 }
 
+// The number of the record in this slot, if it has one without a place: one look-up.
+fn missing_at(records: &Records, places: &IndexSet<u32>, slot: usize) -> Option<u32>
+    ensures missing { IfSome result (λ n. (r : Record) × StandsIn records.now.slots slot r × (r.number ≡ n) × ¬ In n places.now.keys) }
+    ensures none { IfNone result ((r : Record) → StandsIn records.now.slots slot r → In r.number places.now.keys) }
+{
+    let Some(record) = records.at(slot) else {
+        return None;
+    };
+    let number = record.number();
+    if places.contains(&number) {
+        return None;
+    }
+    Some(number)
+}
+
 /// The number of the first kept record, in recorded order, that has no place. One look-up for each record.
 pub(crate) fn first_missing(records: &Records, places: &IndexSet<u32>) -> Option<u32>
     ensures missing { IfSome result (λ n. (r : Record) × IsFirstMissing records.now.held places.now.keys r × (r.number ≡ n)) }
     ensures all { IfNone result ((n : ℕ) → In n (numbers records.now.held) → In n places.now.keys) }
 {
-    for index in 0..records.len() {
-        let number = records.at(index).unwrap().number();
-        if !places.contains(&number) {
+    let _count = records.len();
+    for slot in 0..records.places() {
+        if let Some(number) = missing_at(records, places, slot) {
             return Some(number);
         }
     }

@@ -21,4 +21,7 @@ pub mod VariableBinders
 pub mod Giving
 pub mod PickLemmas
 pub mod IndexOf
-pub mod TakingOut
+pub mod SlotLemmas
+pub mod SlotPlaces
+pub mod SlotClosing
+pub mod SlotRanks

@@ -1,7 +1,8 @@
 -- What stands before what in a list, in a longer one, and in a part of it.
-use Rattle.std.proofs.Common.{◌≡◌, ◌⊎◌, List, [], ◌∷◌, ◌++◌, refl, sym, ◌∙◌, subst, inl, inr}
+use Rattle.std.proofs.Common.{◌≡◌, ◌+◌, ◌≤◌, ◌⊎◌, List, [], ◌∷◌, ◌++◌, length, refl, sym, ap, ◌∙◌, subst, inl, inr, arith}
+use Rattle.std.proofs.lemmas.List.{length-append}
 use Rattle.ghc_term.specs.Lists.{In}
-use Rattle.ghc_term.proofs.ListsLemmas.{in_left, in_right, in_more}
+use Rattle.ghc_term.proofs.ListsLemmas.{in_left, in_right, in_more, in_either, in_splits}
 use Rattle.ghc_records.specs.Orders.{Picks, nothing, take, leave, AreDistinct}
 use Rattle.ghc_records.specs.Record.{Record, numbers}
 use Rattle.ghc_records.proofs.OrderLemmas.{Before, before_once, number_in, number_of}
@@ -35,6 +36,23 @@ module _ {X : Type 0} where
   before_last [] z a b (inr h) = absurd h
   before_last (x ∷ xs) z a b (inl h) = elim (in_more xs z b h.1) [ inl j ↦ inl (inl (h.0, j)) | inr e ↦ inr (inl h.0, e) ]
   before_last (x ∷ xs) z a b (inr h) = elim (before_last xs z a b h) [ inl j ↦ inl (inr j) | inr p ↦ inr (inr p.0, p.1) ]
+
+  kept_in : (before behind : List X) (x y : X) → In y (before ++ x ∷ behind) → ¬ (y ≡ x) → In y (before ++ behind)
+  kept_in before behind x y i n = elim (in_either before (x ∷ behind) y i) [
+    | inl j ↦ in_left before behind y j
+    | inr (inl e) ↦ absurd (n e)
+    | inr (inr j) ↦ in_right before behind y j
+  ]
+
+  -- a list without repetitions is no longer than one that has all its elements
+  pub no_longer : (xs ys : List X) → AreDistinct xs → ((x : X) → In x xs → In x ys) → length xs ≤ length ys
+  no_longer [] ys d h = omega arith
+  no_longer (x ∷ xs) ys d h =
+      let s = in_splits ys x (h x (inl refl)) in
+      let rest = no_longer xs (s.0 ++ s.1) d.1 (λ y i. kept_in s.0 s.1 x y (subst (In y) s.2 (h y (inr i))) (λ e. d.0 (subst (λ z. In z xs) e i))) in
+      let whole : length ys ≡ length s.0 + length (x ∷ s.1) = ap length s.2 ∙ length-append s.0 (x ∷ s.1) in
+      let parts : length (s.0 ++ s.1) ≡ length s.0 + length s.1 = length-append s.0 s.1 in
+      omega arith
 
 module _ {X : Type 0} {P : X → Type 0} where
   pub picks_in : (xs ys : List X) (y : X) → Picks P xs ys → In y ys → In y xs × P y

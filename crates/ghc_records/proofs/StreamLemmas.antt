@@ -28,10 +28,10 @@ abbrev pub OneEach : State → Type 0
 OneEach s = (k : ℕ) (g h : GoalName) (x y : VarName) → finite.get s.goals g ≡ Some (stream k x) → finite.get s.goals h ≡ Some (stream k y) → g ≡ h
 
 -- a goal of the state after a step was made by it at a place, or was there
-abbrev MadeAt : ℕ → ℕ → List Goal → GoalName → Goal → Type 0
+abbrev pub MadeAt : ℕ → ℕ → List Goal → GoalName → Goal → Type 0
 MadeAt n i gs h b = (j : ℕ) × (slice_get gs j ≡ Some b) × (h.step ≡ n) × (h.place ≡ i + j)
 
-made_at : (n i : ℕ) (gs : List Goal) (m : Goals) (h : GoalName) (b : Goal) → finite.get (with_makes n i gs m) h ≡ Some b → MadeAt n i gs h b ⊎ (finite.get m h ≡ Some b)
+pub made_at : (n i : ℕ) (gs : List Goal) (m : Goals) (h : GoalName) (b : Goal) → finite.get (with_makes n i gs m) h ≡ Some b → MadeAt n i gs h b ⊎ (finite.get m h ≡ Some b)
 made_at n i [] m h b e = inr e
 made_at n i (g ∷ gs) m h b e =
     elim (eq_by_cmp goal_cmp h (record { step = n; place = i })) as (λ c. eq_by_cmp goal_cmp h (record { step = n; place = i }) ≡ c → cond c (Some g) (finite.get (with_makes n (i + 1) gs m) h) ≡ Some b → MadeAt n i (g ∷ gs) h b ⊎ (finite.get m h ≡ Some b)) [
@@ -56,7 +56,7 @@ none_made : (gs : List Goal) (j : ℕ) (b : Goal) → gs ≡ [] → slice_get gs
 none_made gs j b e p = let clash : None ≡ Some b = ap (λ l. slice_get l j) (sym e) ∙ p in cc
 
 -- a step makes a stream goal only of one, and at its first place
-stream_made : (P : Program) (g : Goal) (a : Act) (n : ℕ) (S : VarName → Option Tree) (e : Effect) → IsProgram P → HasEffect P g a n S e → (j k : ℕ) (x : VarName) → slice_get e.makes j ≡ Some (stream k x)
+pub stream_made : (P : Program) (g : Goal) (a : Act) (n : ℕ) (S : VarName → Option Tree) (e : Effect) → IsProgram P → HasEffect P g a n S e → (j k : ℕ) (x : VarName) → slice_get e.makes j ≡ Some (stream k x)
     → (j ≡ 0) × ((tail : VarName) × (g ≡ stream k tail))
 stream_made P (call f ts) (by_clause c) n S e accepted d j k x p =
     let b = mapped (replace_in_goal (becomes d.0 d.1 n)) d.0.body (stream k x) (subst (In (stream k x)) d.6 (in_at e.makes j (stream k x) p)) in

@@ -5,6 +5,7 @@ pub mod Replay
 pub mod Uses
 pub mod NumberSet
 pub mod UseIndex
+pub mod Slots
 pub mod Journal
 pub mod Laws
 pub mod History

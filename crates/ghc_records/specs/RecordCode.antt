@@ -20,6 +20,7 @@ use Rattle.ghc_fire.specs.EffectCode.{effect_code}
 use Rattle.ghc_records.specs.Record.{State, Record, Shelf}
 use Rattle.ghc_records.specs.State.{StateRoom, StateTables}
 use Rattle.ghc_records.specs.UseIndex.{UsersByStep, BindersByVariable, Index, RecordsRoom, RecordsTables}
+use Rattle.ghc_records.specs.Slots.{SlotList}
 use Rattle.ghc_records.specs.Journal.{Step, Entry, took, undid, rolled, redid, reordered, Opening}
 
 abbrev pub state_code : Coded State
@@ -42,6 +43,9 @@ record_code =
 abbrev pub records_code : Coded (List Record)
 records_code = coded_list record_code
 
+abbrev pub slots_code : Coded SlotList
+slots_code = coded_list (coded_option record_code)
+
 abbrev pub numbers_code : Coded (List ℕ)
 numbers_code = coded_list coded_ℕ
 
@@ -61,7 +65,8 @@ records_room_code =
 
 abbrev pub records_tables_code : Coded RecordsTables
 records_tables_code =
-    code_by (List Record × RecordsRoom) (coded× records_code records_room_code) (λ t. (t.held, t.room)) (λ p. record { held = p.0; room = p.1 }) (λ _. refl)
+    code_by (List Record × (SlotList × RecordsRoom)) (coded× records_code (coded× slots_code records_room_code)) (λ t. (t.held, (t.slots, t.room)))
+    (λ p. record { held = p.0; slots = p.1.0; room = p.1.1 }) (λ _. refl)
 
 abbrev pub shelf_code : Coded Shelf
 shelf_code = finite.code coded_ℕ record_code

@@ -10,6 +10,7 @@ use Rattle.ghc_term.specs.Lists.{In}
 use Rattle.ghc_term.specs.Sets.{Variables}
 use Rattle.ghc_term.specs.Table.{Table}
 use Rattle.ghc_records.specs.Record.{Record}
+use Rattle.ghc_records.specs.Slots.{SlotList}
 use Rattle.ghc_records.specs.Uses.{Binds, Consumes, Uses, DependsOn}
 
 -- The numbers of steps by the number of the step that they used, each with the room for more.
@@ -81,9 +82,10 @@ pub record RecordsRoom : Type 0 where
   pub binders : ℕ
   pub users : UsersByStep
 
--- A record in recorded order, and its room.
+-- A record in recorded order, the slots in which its steps stand, and its room.
 pub record RecordsTables : Type 0 where
   pub held : List Record
+  pub slots : SlotList
   pub room : RecordsRoom
 
 -- There is room for the step behind the others: for its record, for what it binds, and for its number under each step that it used.

@@ -13,6 +13,7 @@ mod record;
 mod records;
 mod removal;
 mod shelf;
+mod slots;
 mod state;
 mod step;
 mod step_text;

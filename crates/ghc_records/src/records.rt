@@ -1,39 +1,27 @@
 // The records of the kept steps, in recorded order.
-ghost use Rattle.std.specs.Prelude.{◌≡◌, ◌≢◌, ◌↔◌, ℕ, length, [], ◌∷◌, ◌++◌, IfSome, IfNone, IfOk, OnOk, Some, None, is_none, slice_get};
-ghost use Rattle.std.specs.FinMap as finite;
+ghost use Rattle.std.specs.Prelude.{◌≡◌, ◌≢◌, ◌↔◌, ℕ, length, [], ◌∷◌, ◌++◌, IfSome, IfNone, IfOk, OnOk, Some};
 ghost use Rattle.ghc_term.specs.declared.var_name.VarName.{VarName};
 ghost use Rattle.ghc_records.specs.Uses.{Binds};
 ghost use Rattle.ghc_records.specs.UseIndex.{StepDependsOn, StepBinds, HasRoomToKeep, IsMakerFor};
 
 use crate::record::Record;
-use crate::shelf::Shelf;
+use crate::slots::Slots;
 use crate::use_index::UseIndex;
 use ghc_term::VarName;
-use indexmap::IndexMap;
 use std::alloc::{AllocError, Global};
 use std::marker::Model;
 
 /// Records in recorded order, no two of one number, each found by its number, with the steps that depend directly on each, and
-/// the step that bound each variable.
+/// the step that bound each variable. A place is that of a slot: of two records that one stands before the other whose place is
+/// less. Places are compared, never counted: a record that is taken out leaves a gap, which may be closed up at a later removal.
+#[derive(Drop)]
 pub struct Records {
-    map: IndexMap<u32, Record>,
+    slots: Slots,
     index: UseIndex,
 }
 
-impl Drop for Records {
-    fn drop(self) {
-        let Records {
-            map: _map,
-            index: _index,
-        } = self;
-    }
-}
-
 impl Model for Records {
-    ghost use Rattle.std.specs.Prelude.{◌≡◌};
-    ghost use Rattle.std.specs.Map.{keys_of, values_of};
-    ghost use Rattle.indexmap.specs.IndexMap.{spare};
-    ghost use Rattle.ghc_records.specs.Record.{numbers};
+    ghost use Rattle.ghc_records.specs.Slots.{held_in};
     ghost use Rattle.ghc_records.specs.UseIndex.{RecordsTables, IsIndexOf};
     ghost use Rattle.ghc_records.specs.RecordCode.{records_tables_code};
 
@@ -41,9 +29,9 @@ impl Model for Records {
 
     ghost coded = { records_tables_code };
 
-    ghost view = { λ r. record { held = values_of r.map.entries; room = record { records = spare r.map; binders = r.index.binders.room; users = r.index.users } } };
+    ghost view = { λ r. record { held = held_in r.slots.held; slots = r.slots.held; room = record { records = r.slots.room; binders = r.index.binders.room; users = r.index.users } } };
 
-    ghost invariant = { λ r. (keys_of r.map.entries ≡ numbers (values_of r.map.entries)) × IsIndexOf (values_of r.map.entries) r.index.users r.index.binders.held };
+    ghost invariant = { λ r. IsIndexOf (held_in r.slots.held) r.index.users r.index.binders.held };
 }
 
 impl Records {
@@ -51,13 +39,14 @@ impl Records {
     ghost use Rattle.ghc_term.specs.Lists.{In};
     ghost use Rattle.ghc_records.specs.Record.{Record, numbers};
     ghost use Rattle.ghc_records.specs.Orders.{AreDistinct, Picks};
+    ghost use Rattle.ghc_records.specs.Slots.{held_in, StandsIn, HasNumberIn};
 
     /// No records, which take no memory.
     pub fn new(alloc: Global) -> Records
         ensures { result.held ≡ [] }
     {
         Records {
-            map: IndexMap::new(alloc),
+            slots: Slots::new(alloc),
             index: UseIndex::new(alloc),
         }
     }
@@ -66,8 +55,16 @@ impl Records {
     pub fn len(&self) -> usize
         ensures count { result ≡ length self.now.held }
         ensures distinct { AreDistinct (numbers self.now.held) }
+        ensures slots { self.now.held ≡ held_in self.now.slots }
     {
-        self.map.len()
+        self.slots.len()
+    }
+
+    /// The number of slots: all places are less. No more than half of them, and one, are gaps.
+    pub fn places(&self) -> usize
+        ensures { result ≡ length self.now.slots }
+    {
+        self.slots.slot_count()
     }
 
     /// The record of the step of this number: one look-up.
@@ -75,25 +72,22 @@ impl Records {
         ensures found { IfSome result (λ r. In r.now self.now.held × (r.now.number ≡ number)) }
         ensures none { IfNone result ((r : Record) → In r self.now.held → r.number ≢ number) }
     {
-        self.map.get(&number)
+        self.slots.get(number)
     }
 
-    /// The record at this place in recorded order, from 0 on: one step.
+    /// The record at this place; none where there is a gap, or no such place: one step.
     pub fn at(&self, place: usize) -> Option<&Record>
-        ensures { option_copied result ≡ slice_get self.now.held place }
+        ensures { (r : Record) → (option_copied result ≡ Some r) ↔ StandsIn self.now.slots place r }
     {
-        match self.map.get_index(place) {
-            Some((_, record)) => Some(record),
-            None => None,
-        }
+        self.slots.at(place)
     }
 
-    /// The place of the record of the step of this number in recorded order, from 0 on: one look-up.
+    /// The place of the record of the step of this number: one look-up.
     pub fn place_of(&self, number: u32) -> Option<usize>
-        ensures found { IfSome result (λ p. (r : Record) × (slice_get self.now.held p ≡ Some r) × (r.number ≡ number)) }
+        ensures found { IfSome result (λ p. HasNumberIn self.now.slots p number) }
         ensures none { IfNone result ((r : Record) → In r self.now.held → r.number ≢ number) }
     {
-        self.map.get_index_of(&number)
+        self.slots.place_of(number)
     }
 
     /// The records of these numbers in this order, shared with these. It fails for want of memory alone, and goes once over the
@@ -104,7 +98,7 @@ impl Records {
         ensures numbers { IfOk result (λ new. numbers new.held ≡ order.now) }
         ensures kept { IfOk result (λ new. (r : Record) → In r new.held → In r self.now.held) }
     {
-        let _count = self.map.len();
+        let _count = self.slots.len();
         let mut new = Records::new(alloc);
         for number in order {
             let step = self.get(*number).unwrap().share()?;
@@ -155,7 +149,7 @@ impl Records {
     {
         let maker = self.maker_for(step);
         self.index.reserve(maker, step.effect())?;
-        self.map.reserve(1)
+        self.slots.reserve()
     }
 
     /// Puts a step at the end, whose number no other has, and which binds no variable that another bound, where there is room:
@@ -168,11 +162,11 @@ impl Records {
     {
         let maker = self.maker_for(&step);
         self.index.put(maker, &step);
-        self.map.insert(step.number(), step).unwrap();
+        self.slots.put(step);
     }
 
-    /// Takes the record of the step of this number away and gives it, if there was one; the others keep their order. It costs
-    /// some look-ups for each variable that the step read or bound, and moves each record behind it.
+    /// Takes the record of the step of this number away and gives it, if there was one; the others keep their order. It costs some
+    /// look-ups, and some for each variable that the step read or bound; the records behind it stay where they are.
     pub fn remove(&mut self, number: u32) -> Option<Record>
         ensures found { IfSome result (λ r. In r self.old.held × (r.number ≡ number)) }
         ensures rest { (r : Record) → In r self.old.held → r.number ≡ number → Picks (λ s. ¬ (s ≡ r)) self.old.held self.new.held }
@@ -180,20 +174,10 @@ impl Records {
         ensures none_left { IfNone result (self.new.held ≡ self.old.held) }
     {
         let _count = self.len();
-        let Some(removed) = self.map.shift_remove(&number) else {
+        let Some(removed) = self.slots.remove(number) else {
             return None;
         };
         self.index.remove(&removed);
         Some(removed)
-    }
-
-    /// Takes the records away whose numbers are on the shelf; the others keep their order. It takes no memory, cannot fail, and
-    /// goes twice over the records, with a look-up for each, and some look-ups for each variable that one that goes read or bound.
-    pub fn remove_shelved(&mut self, shelf: &Shelf)
-        ensures { Picks (λ r. finite.get shelf.now.held r.number ≡ None) self.old.held self.new.held }
-    {
-        let _count = self.len();
-        self.index.remove_shelved(&self.map, shelf);
-        self.map.retain(|number: &u32, _: &mut Record| shelf.get(*number).is_none());
     }
 }

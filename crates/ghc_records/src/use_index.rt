@@ -1,20 +1,15 @@
 // The index of a record: which steps used what a step gave, and which step bound a variable.
-ghost use Rattle.std.specs.Prelude.{◌≡◌, ◌≢◌, ◌↔◌, ◌⊎◌, ◌≤◌, if◌then◌else◌, is_some, ℕ, List, OnOk, Some, None};
+ghost use Rattle.std.specs.Prelude.{◌≡◌, ◌≢◌, ◌↔◌, ◌⊎◌, ◌≤◌, if◌then◌else◌, is_some, ℕ, OnOk, Some, None};
 ghost use Rattle.std.specs.FinMap as finite;
 ghost use Rattle.ghc_term.specs.declared.var_name.VarName.{VarName};
 ghost use Rattle.ghc_term.specs.Store.{value_at};
-ghost use Rattle.std.specs.Map.{values_of};
-ghost use Rattle.ghc_records.specs.Orders.{AreDistinct, Picks};
-ghost use Rattle.ghc_records.specs.Record.{Record, numbers};
-ghost use Rattle.ghc_records.specs.UseIndex.{users_at, IsUser, CanTake, BoundOneOf, Gave, step_named, IsIndexOf};
+ghost use Rattle.ghc_records.specs.UseIndex.{users_at, IsUser, CanTake, BoundOneOf, Gave, step_named};
 
 use crate::binders::Binders;
 use crate::record::Record;
-use crate::shelf::Shelf;
 use crate::users::Users;
 use ghc_fire::Effect;
 use ghc_term::{GoalName, VarName};
-use indexmap::IndexMap;
 use std::alloc::{AllocError, Global};
 use std::marker::Model;
 
@@ -153,19 +148,5 @@ impl UseIndex {
         );
         self.users.forget(number);
         self.binders.remove_all(effect.binds());
-    }
-
-    // Takes the steps of these records out whose numbers are on the shelf: a look-up for each record, and for each that goes some
-    // look-ups for each variable that it read or bound.
-    pub(crate) fn remove_shelved(&mut self, records: &IndexMap<u32, Record>, shelf: &Shelf)
-        requires index { IsIndexOf (values_of records.now.entries) self.old.users self.old.binders.held }
-        requires distinct { AreDistinct (numbers (values_of records.now.entries)) }
-        ensures { (left : List Record) → Picks (λ r. finite.get shelf.now.held r.number ≡ None) (values_of records.now.entries) left → IsIndexOf left self.new.users self.new.binders.held }
-    {
-        for step in records.values() {
-            if shelf.get(step.number()).is_some() {
-                self.remove(step);
-            }
-        }
     }
 }

@@ -2,11 +2,14 @@
 use Rattle.std.proofs.Common.{◌≡◌, ℕ, zero, suc, ◌+◌, ◌-◌, ◌<◌, ◌≤◌, arith, List, [], ◌∷◌, ◌++◌, length, map, take, refl, sym, ap, ◌∙◌, subst, inl, inr}
 use Rattle.std.specs.Prelude.{Some, None, slice_get}
 use Rattle.std.proofs.lemmas.List.{map-append, take_all}
+use Rattle.std.proofs.lemmas.Option.{slice_get_within}
 use Rattle.ghc_term.specs.Lists.{In}
 use Rattle.ghc_term.proofs.ListsLemmas.{in_at, in_either}
 use Rattle.ghc_records.specs.Orders.{Picks, nothing, AreDistinct}
 use Rattle.ghc_records.specs.Record.{Record, numbers}
 use Rattle.ghc_records.proofs.OrderLemmas.{record_once}
+use Rattle.ghc_records.specs.Slots.{SlotList, held_in}
+use Rattle.ghc_records.proofs.SlotRanks.{rank, rank_stands, rank_back, of_map, map_of}
 use Rattle.ghc_depend.specs.declared.cause.Cause.{Cause}
 use Rattle.ghc_depend.specs.Depend.{DependsOn, IsKeptAs}
 use Rattle.ghc_depend.specs.Cause.{HasCause, by_making, by_reading, IsDirect}
@@ -125,12 +128,15 @@ module _ (kept : List Record) (b : Record) (ahead : List ℕ) (items : List Reas
   none_ahead e = skipped kept b s.far items s.so_far (length kept) s.short (omega arith) (λ a p at l high u. subst (In p) e (s.all a p at l u))
 
 -- at first the places in question are ahead
-pub search : (kept : List Record) (b : Record) (ahead : List ℕ) (items : List Reason) → AreInQuestion kept b ahead → items ≡ [] → IsSearched kept b ahead items
-search kept b ahead items q e = record {
+pub search : (ss : SlotList) (b : Record) (ahead : List ℕ) (items : List Reason) → AreInQuestion ss b ahead → items ≡ [] → IsSearched (held_in ss) b (map (rank ss) ahead) items
+search ss b ahead items q e = record {
   far = 0;
   so_far = record { found = []; picked = nothing; caused = λ p i. absurd i; told = e };
   short = omega arith;
-  within = q.0;
+  within = λ i j.
+      let w = of_map (rank ss) ahead i j in
+      let a = q.0 w.0 w.1 in
+      subst (λ k. k < length (held_in ss)) w.2 (slice_get_within (held_in ss) (rank ss w.0) a.0 (rank_stands ss w.0 a.0 a.1));
   near = λ p i. omega arith;
-  all = λ a p at l u. q.1 a p at u;
+  all = λ a i at l u. let w = rank_back ss i a at in subst (λ k. In k (map (rank ss) ahead)) w.2 (map_of (rank ss) ahead w.0 (q.1 a w.0 w.1 u));
 }

@@ -8,7 +8,7 @@ use Rattle.ghc_depend.specs.Depend.{Binds}
 use Rattle.ghc_depend.specs.Deletion.{IsConsumedIn}
 use Rattle.ghc_hooks.specs.Notes.{NotesByGoal, AreLeft}
 use Rattle.ghc_core.specs.World.{World}
-use Rattle.ghc_core.specs.Core.{IsConsistent}
+use Rattle.ghc_core.specs.Core.{IsStanding, AreExactIn}
 use Rattle.ghc_core.specs.declared.change.Change.{Change}
 use Rattle.ghc_core.specs.declared.change.Change.TheVariants.{Adds as adds, PutsBack as puts_back, TakesAway as takes_away, TakesAll as takes_all, Reorders as reorders}
 use Rattle.ghc_core.specs.Change.{CanChange, Changes, IsBoundBy}
@@ -18,8 +18,9 @@ use Rattle.ghc_trace.specs.News.{Standing, AreNews}
 use Rattle.ghc_trace.specs.Disturbed.{Disturbed, AreDisturbed, AreResumedBy, AreStuckOtherwise}
 
 -- The world stands, each note is what a trial from scratch says there, and no goal is untried.
-abbrev pub IsSettled : World → NotesByGoal → Type 0
-IsSettled w notes = IsConsistent w notes set.empty
+pub record IsSettled (w : World) (notes : NotesByGoal) : Type 0 where
+  pub standing : IsStanding w
+  pub exact : AreExactIn w notes set.empty
 
 -- The change brings the goal named g: its step makes it, or a step that is taken away consumed it; another order brings none.
 abbrev pub Brings : Change → GoalName → Type 0

@@ -1,8 +1,9 @@
 // Why a kept step was possible: the steps on which it depends.
 ghost use Rattle.std.specs.Prelude.{◌≡◌, ◌⊎◌, ◌↔◌, ℕ, IfOk, OnOk, IfErr, Err};
 ghost use Rattle.ghc_term.specs.Lists.{In};
+ghost use Rattle.ghc_records.specs.Slots.{HasNumberIn};
 ghost use Rattle.ghc_depend.specs.Depend.{IsNotKept};
-ghost use Rattle.ghc_trace.specs.Why.{AreReasonsTold, IsPlaceOf, IsPlaceOfBinder, AreInQuestion};
+ghost use Rattle.ghc_trace.specs.Why.{AreReasonsTold, IsPlaceOfBinder, AreInQuestion};
 
 use ghc_depend::{Cause, direct};
 use ghc_records::{Record, Records};
@@ -19,7 +20,7 @@ pub struct Reason {
 
 // Adds the place of the step of this number, if it is kept: one look-up.
 fn add_place(places: &mut BTreeSet<usize>, records: &Records, number: u32) -> Result<(), AllocError>
-    ensures { OnOk result ((p : ℕ) → In p places.new.keys ↔ (In p places.old.keys ⊎ IsPlaceOf records.now.held number p)) }
+    ensures { OnOk result ((p : ℕ) → In p places.new.keys ↔ (In p places.old.keys ⊎ HasNumberIn records.now.slots p number)) }
 {
     let _count = records.len();
     let Some(place) = records.place_of(number) else {
@@ -37,7 +38,7 @@ fn add_binders(
     records: &Records,
     xs: &[VarName],
 ) -> Result<(), AllocError>
-    ensures { OnOk result ((p : ℕ) → In p places.new.keys ↔ (In p places.old.keys ⊎ IsPlaceOfBinder records.now.held xs.now p)) }
+    ensures { OnOk result ((p : ℕ) → In p places.new.keys ↔ (In p places.old.keys ⊎ IsPlaceOfBinder records.now.slots xs.now p)) }
 {
     let _count = records.len();
     for x in xs {
@@ -54,7 +55,7 @@ fn in_question(
     records: &Records,
     step: &Record,
 ) -> Result<BTreeSet<usize>, AllocError>
-    ensures { IfOk result (λ places. AreInQuestion records.now.held step.now places.keys) }
+    ensures { IfOk result (λ places. AreInQuestion records.now.slots step.now places.keys) }
 {
     let _count = records.len();
     let mut places = BTreeSet::new(alloc);

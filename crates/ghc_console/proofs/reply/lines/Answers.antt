@@ -1,23 +1,21 @@
-use Rattle.std.proofs.Common.{◌≡◌, [], sym, ap, ◌∙◌, ◌++◌, drop, string_bytes, append-nil, drop_of_length-le, arith}
-use Rattle.std.specs.Option.{option_copied}
-use Rattle.ghc_depend.proofs.Causes.{some_within}
+use Rattle.std.proofs.Common.{◌≡◌, ◌≤◌, [], length, sym, ap, ◌∙◌, ◌++◌, drop, string_bytes, append-nil, drop_of_length-le, arith}
+use Rattle.ghc_records.specs.Slots.{held_in}
+use Rattle.ghc_records.proofs.SlotRanks.{rank, rank_zero, rank_end}
 use Rattle.ghc_console.specs.Replies.{record_lines}
-use Rattle.ghc_console.proofs.RecordLines.{lines_on}
+use Rattle.ghc_console.proofs.RecordLines.{slot_on}
 use Rattle.ghc_console.proofs.reply.lines.Goals as goal
 
-pub loop-place-preserved : goal.loop-place-preserved
-loop-place-preserved c =
-    lines_on c.args.records.now.held c.loop-place.place c.unwrap.result.now (string_bytes c.loop-place.reply) (string_bytes c.push_record.new.out) (string_bytes c.push_str.new.self)
-    (sym c.at.ensures ∙ ap option_copied c.unwrap.ensures) c.loop-place.invariant c.in_ok-push_record.ensures c.in_ok-push_str.ensures.bytes
-
 pub loop-place-init : goal.loop-place-init
-loop-place-init c = ap (λ l. l ++ record_lines c.args.records.now.held) c.requires
+loop-place-init c = let ss = c.args.records.now.slots in
+    ap (λ l. l ++ record_lines (drop (rank ss 0) (held_in ss))) c.requires ∙ ap (λ k. record_lines (drop k (held_in ss))) (rank_zero ss)
+
+pub loop-place-preserved : goal.loop-place-preserved
+loop-place-preserved c = slot_on c.args.records.now.slots c.loop-place.place (string_bytes c.loop-place.reply) (string_bytes c.line.new.reply) c.in_ok-line.ensures c.loop-place.invariant
 
 pub returns : goal.returns
 returns c =
-    let held = c.args.records.now.held in
-    let none : record_lines (drop c.loop-place.place held) ≡ [] = ap record_lines (drop_of_length-le held {i = c.loop-place.place} (omega (arith, c.loop-place-test.false, c.len-place-end.ensures.count))) in
-    sym (append-nil (string_bytes c.loop-place.reply)) ∙ ap (λ l. string_bytes c.loop-place.reply ++ l) (sym none) ∙ c.loop-place.invariant
-
-pub unwrap-requires : goal.unwrap-requires
-unwrap-requires c = some_within c.args.records.now.held c.loop-place.place c.at.result (omega arith) c.at.ensures
+    let ss = c.args.records.now.slots in
+    let held = held_in ss in
+    let behind = rank_end ss c.loop-place.place (omega (arith, c.loop-place-test.false, c.places-place-end.ensures)) in
+    let none : record_lines (drop (rank ss c.loop-place.place) held) ≡ [] = ap record_lines (drop_of_length-le held {i = rank ss c.loop-place.place} (omega (arith, behind))) in
+    sym (append-nil (string_bytes c.loop-place.reply)) ∙ ap (λ l. string_bytes c.loop-place.reply ++ l) (sym none) ∙ c.loop-place.invariant ∙ ap record_lines (sym c.len-count.ensures.slots)

@@ -9,6 +9,9 @@ use Rattle.ghc_console.specs.Replies.{Settled}
 use Rattle.ghc_console.proofs.StepReplies.{if_ok, step_taken}
 use Rattle.ghc_console.proofs.reply.take.Goals as goal
 
+pub make-requires-clause-found : goal.make-requires-clause-found
+make-requires-clause-found c = c.requires.found.1.1
+
 pub make-requires-clause-disturbed : goal.make-requires-clause-disturbed
 make-requires-clause-disturbed c =
     let d = c.in_ok-disturbed.disturbed in

@@ -2,6 +2,7 @@ use Rattle.std.proofs.Common.{[], ◌∷◌, ◌++◌, length, sym, ap, ◌∙�
 use Rattle.std.specs.FinMap as finite
 use Rattle.ghc_term.specs.Lists.{In}
 use Rattle.ghc_term.proofs.ListsLemmas.{in_left, in_right}
+use Rattle.ghc_core.specs.StreamGoals.{told_back}
 use Rattle.ghc_core.proofs.RolledBack.{none_again}
 use Rattle.ghc_core.proofs.rolling.take_all_back.Goals as goal
 
@@ -23,6 +24,7 @@ loop-removal-preserved c =
       state = (c.loop-removal.state.held, before.state, c.take_one_back.ensures.state);
       tries = (c.loop-removal.tries, before.tries, c.take_one_back.ensures.tries);
       shelf = c.take_one_back.ensures.shelf ∙ ap (λ s. finite.insert s r.number r) before.shelf;
+      streams = c.take_one_back.ensures.streams ∙ ap (told_back r) before.streams;
       of_goals = omega (arith, long, before.of_goals, c.take_one_back.ensures.room_of_goals);
       of_tries = omega (arith, long, before.of_tries, c.take_one_back.ensures.room_of_tries);
       of_shelf = omega (arith, long, before.of_shelf, c.take_one_back.ensures.room_of_shelf);

@@ -3,6 +3,7 @@ use Rattle.ghc_records.specs.Record.{Record}
 use Rattle.ghc_records.specs.State.{AreTakenBack}
 use Rattle.ghc_depend.specs.Kept.{with_shelved}
 use Rattle.ghc_core.specs.Carried.{AreAllCarriedBack}
+use Rattle.ghc_core.specs.StreamGoals.{all_told_back}
 use Rattle.ghc_core.proofs.rolling.take_all_back.Given as goal
 
 abbrev pub invariant-loop-removal : goal.invariant-loop-removal
@@ -12,6 +13,7 @@ invariant-loop-removal l = record {
   state : AreTakenBack back l.initial.state.held l.state.held;
   tries : AreAllCarriedBack back l.initial.tries l.tries;
   shelf : l.shelf.held ≡ with_shelved back l.initial.shelf.held;
+  streams : l.streams ≡ all_told_back back l.initial.streams;
   of_goals : l.initial.state.room.goals + length l.removals.items ≤ l.state.room.goals + length l.initial.removals.items;
   of_tries : l.initial.tries.room + length l.removals.items ≤ l.tries.room + length l.initial.removals.items;
   of_shelf : l.initial.shelf.room + length l.removals.items ≤ l.shelf.room + length l.initial.removals.items;

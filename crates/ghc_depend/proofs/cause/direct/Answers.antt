@@ -1,6 +1,6 @@
-use Rattle.std.proofs.Common.{◌≡◌, true, false, sym, ap, ◌∙◌, arith}
+use Rattle.std.proofs.Common.{◌≡◌, ◌<◌, true, false, sym, ap, ◌∙◌, arith}
 use Rattle.std.specs.Prelude.{option_copied}
-use Rattle.ghc_term.proofs.Members.{at_some}
+use Rattle.ghc_records.proofs.SlotRanks.{rank, rank_less, rank_least, ranked, ranked_at, some_of}
 use Rattle.ghc_depend.proofs.Causes.{none_earlier, none_later, not_behind, is_made, is_read, is_none}
 use Rattle.ghc_depend.proofs.cause.direct.Goals as goal
 
@@ -12,22 +12,57 @@ returns-in_err-behind c = rw c.from_residual-in_err-behind.ensures (none_later c
 
 pub returns-then-behind-place : goal.returns-then-behind-place
 returns-then-behind-place c =
-    not_behind c.args.records.now.held c.args.later c.args.earlier c.in_ok-place.place c.in_ok-behind.behind c.in_ok-place.ensures.found c.in_ok-behind.ensures.found c.len-count.ensures.distinct c.if-behind-place.true
+    let rs = c.args.records.now.held in
+    let ss = c.args.records.now.slots in
+    let is = c.len-count.ensures.slots in
+    not_behind rs c.args.later c.args.earlier (rank ss c.in_ok-place.place) (rank ss c.in_ok-behind.behind) (ranked rs ss is c.in_ok-place.place c.args.earlier c.in_ok-place.ensures.found)
+    (ranked rs ss is c.in_ok-behind.behind c.args.later c.in_ok-behind.ensures.found) c.len-count.ensures.distinct (rank_least ss c.in_ok-behind.behind c.in_ok-place.place (omega arith))
+
+pub unwrap-maker-requires : goal.unwrap-maker-requires
+unwrap-maker-requires c = let f = c.in_ok-place.ensures.found in some_of c.at.result f.0 ((c.at.ensures f.0).1 f.1)
+
+pub unwrap-taken-requires : goal.unwrap-taken-requires
+unwrap-taken-requires c = let f = c.in_ok-behind.ensures.found in some_of c.at-2.result f.0 ((c.at-2.ensures f.0).1 f.1)
 
 pub returns-then-consumes : goal.returns-then-consumes
 returns-then-consumes c =
-    is_made c.args.records.now.held c.args.later c.args.earlier c.in_ok-place.place c.in_ok-behind.behind c.in_ok-place.ensures.found c.in_ok-behind.ensures.found c.unwrap-taken.result.now c.unwrap-maker.result.now
-    (sym c.at.ensures ∙ ap option_copied c.unwrap-maker.ensures) (sym c.at-2.ensures ∙ ap option_copied c.unwrap-taken.ensures) (omega arith) (c.consumes.ensures.0 c.if-consumes.true)
+    let rs = c.args.records.now.held in
+    let ss = c.args.records.now.slots in
+    let is = c.len-count.ensures.slots in
+    let maker = c.unwrap-maker.result.now in
+    let taken = c.unwrap-taken.result.now in
+    let first = (c.at.ensures maker).0 (ap option_copied c.unwrap-maker.ensures) in
+    let second = (c.at-2.ensures taken).0 (ap option_copied c.unwrap-taken.ensures) in
+    let low : c.in_ok-place.place < c.in_ok-behind.behind = omega arith in
+    is_made rs c.args.later c.args.earlier (rank ss c.in_ok-place.place) (rank ss c.in_ok-behind.behind) (ranked rs ss is c.in_ok-place.place c.args.earlier c.in_ok-place.ensures.found)
+    (ranked rs ss is c.in_ok-behind.behind c.args.later c.in_ok-behind.ensures.found) taken maker (ranked_at rs ss is c.in_ok-place.place maker first) (ranked_at rs ss is c.in_ok-behind.behind taken second)
+    (rank_less ss c.in_ok-place.place c.in_ok-behind.behind maker first low) (c.consumes.ensures.0 c.if-consumes.true)
 
 pub returns-in_err-variable : goal.returns-in_err-variable
-returns-in_err-variable c = rw c.from_residual-in_err-variable.ensures (
-    is_none c.args.records.now.held c.args.later c.args.earlier c.in_ok-place.place c.in_ok-behind.behind c.in_ok-place.ensures.found c.in_ok-behind.ensures.found c.unwrap-taken.result.now c.unwrap-maker.result.now
-    (sym c.at.ensures ∙ ap option_copied c.unwrap-maker.ensures) (sym c.at-2.ensures ∙ ap option_copied c.unwrap-taken.ensures) c.len-count.ensures.distinct
-    (λ m. let clash : true ≡ false = sym (c.consumes.ensures.1 m) ∙ c.if-consumes.false in cc) c.in_err-variable.ensures.none)
+returns-in_err-variable c =
+    let rs = c.args.records.now.held in
+    let ss = c.args.records.now.slots in
+    let is = c.len-count.ensures.slots in
+    let maker = c.unwrap-maker.result.now in
+    let taken = c.unwrap-taken.result.now in
+    let first = (c.at.ensures maker).0 (ap option_copied c.unwrap-maker.ensures) in
+    let second = (c.at-2.ensures taken).0 (ap option_copied c.unwrap-taken.ensures) in
+    rw c.from_residual-in_err-variable.ensures (
+    is_none rs c.args.later c.args.earlier (rank ss c.in_ok-place.place) (rank ss c.in_ok-behind.behind) (ranked rs ss is c.in_ok-place.place c.args.earlier c.in_ok-place.ensures.found)
+    (ranked rs ss is c.in_ok-behind.behind c.args.later c.in_ok-behind.ensures.found) taken maker (ranked_at rs ss is c.in_ok-place.place maker first) (ranked_at rs ss is c.in_ok-behind.behind taken second)
+    c.len-count.ensures.distinct (λ m. let clash : true ≡ false = sym (c.consumes.ensures.1 m) ∙ c.if-consumes.false in cc) c.in_err-variable.ensures.none)
 
 pub returns : goal.returns
 returns c =
-    let at = sym c.at.ensures ∙ ap option_copied c.unwrap-maker.ensures in
-    is_read c.args.records.now.held c.args.later c.args.earlier c.in_ok-place.place c.in_ok-behind.behind c.in_ok-place.ensures.found c.in_ok-behind.ensures.found c.unwrap-taken.result.now c.unwrap-maker.result.now
-    at (sym c.at-2.ensures ∙ ap option_copied c.unwrap-taken.ensures) c.in_ok-variable.variable c.is_woken_by-woke.result (omega arith)
-    (λ m. let clash : true ≡ false = sym (c.consumes.ensures.1 m) ∙ c.if-consumes.false in cc) c.in_ok-variable.ensures.some (at_some _ _ c.unwrap-maker.result.now at c.is_woken_by-woke.ensures)
+    let rs = c.args.records.now.held in
+    let ss = c.args.records.now.slots in
+    let is = c.len-count.ensures.slots in
+    let maker = c.unwrap-maker.result.now in
+    let taken = c.unwrap-taken.result.now in
+    let first = (c.at.ensures maker).0 (ap option_copied c.unwrap-maker.ensures) in
+    let second = (c.at-2.ensures taken).0 (ap option_copied c.unwrap-taken.ensures) in
+    let low : c.in_ok-place.place < c.in_ok-behind.behind = omega arith in
+    is_read rs c.args.later c.args.earlier (rank ss c.in_ok-place.place) (rank ss c.in_ok-behind.behind) (ranked rs ss is c.in_ok-place.place c.args.earlier c.in_ok-place.ensures.found)
+    (ranked rs ss is c.in_ok-behind.behind c.args.later c.in_ok-behind.ensures.found) taken maker (ranked_at rs ss is c.in_ok-place.place maker first) (ranked_at rs ss is c.in_ok-behind.behind taken second)
+    c.in_ok-variable.variable c.is_woken_by-woke.result (rank_less ss c.in_ok-place.place c.in_ok-behind.behind maker first low)
+    (λ m. let clash : true ≡ false = sym (c.consumes.ensures.1 m) ∙ c.if-consumes.false in cc) c.in_ok-variable.ensures.some (c.is_woken_by-woke.ensures maker first)

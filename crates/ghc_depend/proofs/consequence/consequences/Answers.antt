@@ -1,14 +1,16 @@
-use Rattle.std.proofs.Common.{◌≡◌, ℕ, ◌+◌, ◌<◌, ◌⊎◌, true, false, List, [], ◌∷◌, ◌++◌, length, Result, Ok, Err, refl, sym, ap, ◌∙◌, subst, inl, inr, arith, length-append}
+use Rattle.std.proofs.Common.{◌≡◌, ℕ, ◌+◌, ◌<◌, ◌⊎◌, true, false, List, [], ◌∷◌, ◌++◌, length, map, Result, Ok, Err, refl, sym, ap, ◌∙◌, subst, inl, inr, arith, length-append}
 use Rattle.std.specs.Prelude.{◌↔◌}
 use Rattle.std.specs.Option.{option_copied}
 use Rattle.std.specs.Result.{OnErr}
 use Rattle.ghc_term.specs.Lists.{In}
-use Rattle.ghc_term.proofs.ListsLemmas.{in_at}
-use Rattle.ghc_records.specs.Record.{Record}
-use Rattle.ghc_depend.specs.Depend.{IsKeptAs}
+use Rattle.ghc_records.specs.Orders.{AreDistinct}
+use Rattle.ghc_records.specs.Record.{Record, numbers}
+use Rattle.ghc_records.specs.Slots.{held_in}
+use Rattle.ghc_records.proofs.SlotLemmas.{stands_held}
+use Rattle.ghc_records.proofs.SlotRanks.{rank, rank_stands, some_of}
+use Rattle.ghc_depend.specs.Depend.{IsKeptAs, AreConsequencesOf}
 use Rattle.ghc_depend.specs.Places.{IsPlaceOfUser}
-use Rattle.ghc_depend.proofs.Causes.{place_within, some_within}
-use Rattle.ghc_depend.proofs.Ahead.{IsGathered, gather_begin, gather_next, gather_fewer, gather_end, all_behind}
+use Rattle.ghc_depend.proofs.Ahead.{IsGathered, users_ranked, behind_ranked, gather_begin, gather_next, gather_fewer, gather_end, all_behind}
 use Rattle.ghc_depend.proofs.consequence.consequences.Goals as goal
 
 -- where the step is kept, an error is of a kept step
@@ -22,56 +24,74 @@ returns-in_default-clause-found c = ([], inl (c.in_default.ensures.none, refl), 
 pub returns-in_err-add_users-clause-kept : goal.returns-in_err-add_users-clause-kept
 returns-in_err-add_users-clause-kept c =
     let f = c.in-Some.ensures.found in
-    where_kept c.from_residual.result c.args.records.now.held c.args.number f.0 (in_at c.args.records.now.held c.in-Some.field-0 f.0 f.1, f.2)
+    where_kept c.from_residual.result c.args.records.now.held c.args.number f.0 (subst (In f.0) (sym c.len-count.ensures.slots) (stands_held c.args.records.now.slots c.in-Some.field-0 f.0 f.1), f.2)
 
 pub loop-place-init : goal.loop-place-init
 loop-place-init c =
-    let kept = c.args.records.now.held in
+    let ss = c.args.records.now.slots in
+    let kept = held_in ss in
+    let distinct = subst (λ l. AreDistinct (numbers l)) c.len-count.ensures.slots c.len-count.ensures.distinct in
     let f = c.in-Some.ensures.found in
-    let i = in_at kept c.in-Some.field-0 f.0 f.1 in
+    let i = stands_held ss c.in-Some.field-0 f.0 f.1 in
     let new = c.add_users.new.ahead.keys in
-    let users = subst (λ ks. (p : ℕ) → In p new ↔ (In p ks ⊎ IsPlaceOfUser kept f.0.number p)) c.new-ahead.ensures.empty
-    (subst (λ n. (p : ℕ) → In p new ↔ (In p c.new-ahead.result.keys ⊎ IsPlaceOfUser kept n p)) (sym f.2) c.in_ok-add_users.ensures) in
-    (f.0, (i, f.2), subst (λ l. IsGathered kept f.0 new l) (sym c.new-found.ensures.items) (gather_begin kept c.len-count.ensures.distinct f.0 i new users))
+    let users = subst (λ ks. (p : ℕ) → In p new ↔ (In p ks ⊎ IsPlaceOfUser ss f.0.number p)) c.new-ahead.ensures.empty
+    (subst (λ n. (p : ℕ) → In p new ↔ (In p c.new-ahead.result.keys ⊎ IsPlaceOfUser ss n p)) (sym f.2) c.in_ok-add_users.ensures) in (
+      f.0,
+      (i, f.2),
+      subst (λ l. IsGathered kept f.0 (map (rank ss) new) l) (sym c.new-found.ensures.items) (gather_begin kept distinct f.0 i (map (rank ss) new) (users_ranked ss f.0.number [] new users)),
+      λ p j. elim ((users p).0 j) [ inl never ↦ absurd never | inr u ↦ (u.0, u.1) ],
+    )
 
 pub unwrap-requires : goal.unwrap-requires
 unwrap-requires c =
-    let kept = c.args.records.now.held in
     let place = c.in-Some-pop_first.place in
-    let r = (c.loop-place.invariant.2.next place).0 (subst (In place) (sym c.in-Some-pop_first.ensures.removal) (inl refl)) in
-    some_within kept place c.at.result (place_within kept place r.1 r.3) c.at.ensures
+    let b = c.loop-place.invariant.3 place (subst (In place) (sym c.in-Some-pop_first.ensures.removal) (inl refl)) in
+    some_of c.at.result b.0 ((c.at.ensures b.0).1 b.1)
 
 pub returns-in_err-add_users-2-clause-kept : goal.returns-in_err-add_users-2-clause-kept
-returns-in_err-add_users-2-clause-kept c = where_kept c.from_residual-in_err-add_users-2.result c.args.records.now.held c.args.number c.loop-place.invariant.0 c.loop-place.invariant.1
+returns-in_err-add_users-2-clause-kept c =
+    where_kept c.from_residual-in_err-add_users-2.result c.args.records.now.held c.args.number c.loop-place.invariant.0 (subst (λ l. IsKeptAs l c.args.number c.loop-place.invariant.0) (sym c.len-count.ensures.slots) c.loop-place.invariant.1)
 
 pub returns-in_err-push-clause-kept : goal.returns-in_err-push-clause-kept
-returns-in_err-push-clause-kept c = where_kept c.from_residual-in_err-push.result c.args.records.now.held c.args.number c.loop-place.invariant.0 c.loop-place.invariant.1
+returns-in_err-push-clause-kept c =
+    where_kept c.from_residual-in_err-push.result c.args.records.now.held c.args.number c.loop-place.invariant.0 (subst (λ l. IsKeptAs l c.args.number c.loop-place.invariant.0) (sym c.len-count.ensures.slots) c.loop-place.invariant.1)
 
 pub loop-place-smaller : goal.loop-place-smaller
 loop-place-smaller c =
-    let kept = c.args.records.now.held in
+    let ss = c.args.records.now.slots in
+    let kept = held_in ss in
+    let distinct = subst (λ l. AreDistinct (numbers l)) c.len-count.ensures.slots c.len-count.ensures.distinct in
+    let place = c.in-Some-pop_first.place in
+    let rest = c.pop_first.new.self.keys in
     let b = c.unwrap.result.now in
-    let at = sym c.at.ensures ∙ ap option_copied c.unwrap.ensures in
-    let removal = c.in-Some-pop_first.ensures.removal in
-    let behind = all_behind c.in-Some-pop_first.place c.pop_first.new.self.keys c.in-Some-pop_first.ensures.all_above in
-    let fewer = gather_fewer kept c.len-count.ensures.distinct c.loop-place.invariant.0 c.loop-place.ahead.keys c.pop_first.new.self.keys c.loop-place.found.items c.loop-place.invariant.2 c.in-Some-pop_first.place b removal behind at in
+    let stands = (c.at.ensures b).0 (ap option_copied c.unwrap.ensures) in
+    let removal = ap (λ l. map (rank ss) l) c.in-Some-pop_first.ensures.removal in
+    let behind = behind_ranked ss place b stands rest (all_behind place rest c.in-Some-pop_first.ensures.all_above) in
+    let fewer = gather_fewer kept distinct c.loop-place.invariant.0 (map (rank ss) c.loop-place.ahead.keys) (map (rank ss) rest) c.loop-place.found.items c.loop-place.invariant.2 (rank ss place) b removal behind (rank_stands ss place b stands) in
     let longer : length c.push.new.self.items ≡ length c.loop-place.found.items + 1 = ap (λ l. length l) c.in_ok-push.ensures.items ∙ length-append c.loop-place.found.items (c.number-next.result ∷ []) in
-    omega (arith, fewer, longer)
+    let same : length c.args.records.now.held ≡ length kept = ap (λ l. length l) c.len-count.ensures.slots in
+    omega (arith, fewer, longer, same)
 
 pub loop-place-preserved : goal.loop-place-preserved
 loop-place-preserved c =
-    let kept = c.args.records.now.held in
+    let ss = c.args.records.now.slots in
+    let kept = held_in ss in
+    let distinct = subst (λ l. AreDistinct (numbers l)) c.len-count.ensures.slots c.len-count.ensures.distinct in
     let a = c.loop-place.invariant.0 in
+    let place = c.in-Some-pop_first.place in
+    let rest = c.pop_first.new.self.keys in
     let b = c.unwrap.result.now in
-    let at = sym c.at.ensures ∙ ap option_copied c.unwrap.ensures in
-    let removal = c.in-Some-pop_first.ensures.removal in
-    let behind = all_behind c.in-Some-pop_first.place c.pop_first.new.self.keys c.in-Some-pop_first.ensures.all_above in
+    let stands = (c.at.ensures b).0 (ap option_copied c.unwrap.ensures) in
+    let removal = ap (λ l. map (rank ss) l) c.in-Some-pop_first.ensures.removal in
+    let behind = behind_ranked ss place b stands rest (all_behind place rest c.in-Some-pop_first.ensures.all_above) in
     let new = c.add_users-in-Some-pop_first.new.ahead.keys in
-    let users = subst (λ n. (p : ℕ) → In p new ↔ (In p c.pop_first.new.self.keys ⊎ IsPlaceOfUser kept n p)) c.number-next.ensures c.in_ok-add_users-2.ensures in
+    let users = subst (λ n. (p : ℕ) → In p new ↔ (In p rest ⊎ IsPlaceOfUser ss n p)) c.number-next.ensures c.in_ok-add_users-2.ensures in
     let items : c.push.new.self.items ≡ c.loop-place.found.items ++ b.number ∷ [] = c.in_ok-push.ensures.items ∙ ap (λ n. c.loop-place.found.items ++ n ∷ []) c.number-next.ensures in (
       a,
       c.loop-place.invariant.1,
-      subst (λ l. IsGathered kept a new l) (sym items) (gather_next kept c.len-count.ensures.distinct a c.loop-place.ahead.keys c.pop_first.new.self.keys c.loop-place.found.items c.loop-place.invariant.2 c.in-Some-pop_first.place b removal behind at new users),
+      subst (λ l. IsGathered kept a (map (rank ss) new) l) (sym items)
+          (gather_next kept distinct a (map (rank ss) c.loop-place.ahead.keys) (map (rank ss) rest) c.loop-place.found.items c.loop-place.invariant.2 (rank ss place) b removal behind (rank_stands ss place b stands) (map (rank ss) new) (users_ranked ss b.number rest new users)),
+      λ p j. elim ((users p).0 j) [ inl k ↦ c.loop-place.invariant.3 p (subst (In p) (sym c.in-Some-pop_first.ensures.removal) (inr k)) | inr u ↦ (u.0, u.1) ],
     )
 
 nothing_left : (ks : List ℕ) → (0 < length ks → false ≡ true) → ks ≡ []
@@ -80,7 +100,10 @@ nothing_left (k ∷ ks) h = absurd (let clash : false ≡ true = h (omega arith)
 
 pub returns-clause-found : goal.returns-clause-found
 returns-clause-found c =
+    let ss = c.args.records.now.slots in
+    let kept = held_in ss in
+    let distinct = subst (λ l. AreDistinct (numbers l)) c.len-count.ensures.slots c.len-count.ensures.distinct in
     let a = c.loop-place.invariant.0 in
-    let none = nothing_left c.loop-place.ahead.keys c.in_default-pop_first.ensures.variant.1 in
-    let end = gather_end c.args.records.now.held c.len-count.ensures.distinct a c.loop-place.ahead.keys c.loop-place.found.items c.loop-place.invariant.2 none in
-    (end.0, inr (a, c.loop-place.invariant.1, end.1), end.2)
+    let none = ap (λ l. map (rank ss) l) (nothing_left c.loop-place.ahead.keys c.in_default-pop_first.ensures.variant.1) in
+    let end = gather_end kept distinct a (map (rank ss) c.loop-place.ahead.keys) c.loop-place.found.items c.loop-place.invariant.2 none in
+    subst (λ l. (found : List Record) × AreConsequencesOf l c.args.number found × (numbers found ≡ c.loop-place.found.items)) (sym c.len-count.ensures.slots) (end.0, inr (a, c.loop-place.invariant.1, end.1), end.2)

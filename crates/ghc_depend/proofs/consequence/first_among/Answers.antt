@@ -1,5 +1,8 @@
-use Rattle.std.proofs.Common.{take, get_or, Some, sym, subst}
+use Rattle.std.proofs.Common.{◌≡◌, take, get_or, Some, sym, subst}
 use Rattle.std.proofs.lemmas.List.{take_more, take_all}
+use Rattle.ghc_term.specs.Lists.{In}
+use Rattle.ghc_records.specs.Orders.{AreDistinct}
+use Rattle.ghc_records.specs.Record.{Record, numbers}
 use Rattle.ghc_depend.specs.Places.{IsFirstAmong}
 use Rattle.ghc_depend.proofs.FirstPlace.{first_still, first_more}
 use Rattle.ghc_depend.proofs.consequence.first_among.Goals.{in-Some, in_default}
@@ -7,7 +10,9 @@ use Rattle.ghc_depend.proofs.consequence.first_among.Goals as goal
 
 pub loop-n-preserved : goal.loop-n-preserved
 loop-n-preserved c =
-    let rs = c.args.records.now.held in
+    let ss = c.args.records.now.slots in
+    let is = c.len-count.ensures.slots in
+    let distinct = subst (λ l. AreDistinct (numbers l)) is c.len-count.ensures.distinct in
     let ns = c.args.ns.now in
     let i = c.loop-n.n-index in
     let n = get_or ns i 0 in
@@ -15,10 +20,12 @@ loop-n-preserved c =
     elim c.match-place_of.branch [
       | in-Some w ↦
           let f = w.in-Some.ensures.found in
-          rw w.first-is (subst (λ l. IsFirstAmong rs l (Some w.sooner.result)) more
-          (first_more rs c.len-count.ensures.distinct (take i ns) n c.loop-n.first c.loop-n.invariant w.in-Some.place w.sooner.result f.0 f.1 f.2 w.sooner.ensures.place w.sooner.ensures.first w.sooner.ensures.one))
-      | in_default w ↦ rw w.first-is (subst (λ l. IsFirstAmong rs l c.loop-n.first) more (first_still rs c.len-count.ensures.distinct (take i ns) n c.loop-n.first c.loop-n.invariant w.in_default.ensures.none))
+          rw w.first-is (subst (λ l. IsFirstAmong ss l (Some w.sooner.result)) more
+          (first_more ss distinct (take i ns) n c.loop-n.first c.loop-n.invariant w.in-Some.place w.sooner.result f.0 f.1 f.2 w.sooner.ensures.place w.sooner.ensures.first w.sooner.ensures.one))
+      | in_default w ↦
+          let none = subst (λ l. (r : Record) → In r l → ¬ (r.number ≡ n)) is w.in_default.ensures.none in
+          rw w.first-is (subst (λ l. IsFirstAmong ss l c.loop-n.first) more (first_still ss distinct (take i ns) n c.loop-n.first c.loop-n.invariant none))
     ]
 
 pub returns : goal.returns
-returns c = subst (λ l. IsFirstAmong c.args.records.now.held l c.loop-n.first) (take_all c.loop-n.n-index c.args.ns.now c.loop-n-test.false) c.loop-n.invariant
+returns c = subst (λ l. IsFirstAmong c.args.records.now.slots l c.loop-n.first) (take_all c.loop-n.n-index c.args.ns.now c.loop-n-test.false) c.loop-n.invariant

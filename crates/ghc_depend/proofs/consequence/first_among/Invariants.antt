@@ -3,4 +3,4 @@ use Rattle.ghc_depend.specs.Places.{IsFirstAmong}
 use Rattle.ghc_depend.proofs.consequence.first_among.Given as goal
 
 abbrev pub invariant-loop-n : goal.invariant-loop-n
-invariant-loop-n l = IsFirstAmong l.records.held (take l.n-index l.ns) l.first
+invariant-loop-n l = IsFirstAmong l.records.slots (take l.n-index l.ns) l.first

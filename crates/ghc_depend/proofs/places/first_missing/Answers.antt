@@ -1,27 +1,26 @@
-use Rattle.std.proofs.Common.{sym, ap, ◌∙◌, subst, arith}
-use Rattle.std.specs.Prelude.{option_copied}
-use Rattle.std.proofs.lemmas.List.{take_all}
+use Rattle.std.proofs.Common.{◌≡◌, sym, ap, subst, arith}
 use Rattle.ghc_term.specs.Lists.{In}
-use Rattle.ghc_depend.proofs.OrderWalks.{number_any, places_next, is_missing, none_missing, not_any}
+use Rattle.ghc_records.specs.Record.{numbers}
+use Rattle.ghc_records.specs.Slots.{held_in}
+use Rattle.ghc_records.proofs.SlotRanks.{rank, rank_stands}
+use Rattle.ghc_depend.specs.Lawful.{IsFirstMissing}
+use Rattle.ghc_depend.proofs.OrderWalks.{slots_next, have_ranked, is_missing, all_slots, none_missing}
 use Rattle.ghc_depend.proofs.places.first_missing.Goals as goal
 
-pub returns-then-not-contains-clause-missing : goal.returns-then-not-contains-clause-missing
-returns-then-not-contains-clause-missing c =
+pub returns-in-Some-clause-missing : goal.returns-in-Some-clause-missing
+returns-in-Some-clause-missing c =
+    let ss = c.args.records.now.slots in
     let keys = c.args.places.now.keys in
-    let r = c.unwrap.result.now in
-    let absent = not_any c.number-number.result keys (sym c.contains.ensures ∙ c.if-not-contains.true) in (
-      r,
-      is_missing c.args.records.now.held keys c.loop-index.index r (sym c.at.ensures ∙ ap option_copied c.unwrap.ensures) c.loop-index.invariant (subst (λ n. ¬ In n keys) c.number-number.ensures absent),
-      sym c.number-number.ensures,
-    )
+    let m = c.in-Some.ensures.missing in
+    let first = is_missing (held_in ss) keys (rank ss c.loop-slot.slot) m.0 (rank_stands ss c.loop-slot.slot m.0 m.1) (have_ranked ss keys c.loop-slot.slot c.loop-slot.invariant) (λ i. m.3 (subst (λ n. In n keys) m.2 i)) in
+    (m.0, subst (λ l. IsFirstMissing l keys m.0) (sym c.len-count.ensures.slots) first, m.2)
 
-pub loop-index-preserved : goal.loop-index-preserved
-loop-index-preserved c =
-    let keys = c.args.places.now.keys in
-    places_next c.args.records.now.held keys c.loop-index.index c.unwrap.result.now (sym c.at.ensures ∙ ap option_copied c.unwrap.ensures) c.loop-index.invariant
-    (subst (λ n. In n keys) c.number-number.ensures (number_any c.number-number.result keys (sym c.contains.ensures ∙ c.if-not-contains.false)))
+pub loop-slot-preserved : goal.loop-slot-preserved
+loop-slot-preserved c = slots_next c.args.records.now.slots c.args.places.now.keys c.loop-slot.slot c.loop-slot.invariant c.in_default.ensures.none
 
 pub returns-clause-all : goal.returns-clause-all
 returns-clause-all c =
-    let kept = c.args.records.now.held in
-    none_missing kept c.args.places.now.keys (λ r j. c.loop-index.invariant r (subst (In r) (sym (take_all c.loop-index.index kept (omega (arith, c.loop-index-test.false, c.len-index-end.ensures.count)))) j))
+    let ss = c.args.records.now.slots in
+    let keys = c.args.places.now.keys in
+    subst (λ l. (n : _) → In n (numbers l) → In n keys) (sym c.len-count.ensures.slots)
+    (none_missing (held_in ss) keys (all_slots ss keys c.loop-slot.slot (omega (arith, c.loop-slot-test.false, c.places-slot-end.ensures)) c.loop-slot.invariant))

@@ -3,4 +3,4 @@ use Rattle.ghc_trace.proofs.InQuestion.{HasBindersOf}
 use Rattle.ghc_trace.proofs.reasons.add_binders.Given as goal
 
 abbrev pub invariant-loop-x : goal.invariant-loop-x
-invariant-loop-x l = HasBindersOf l.records.held (take l.x-index l.xs) l.initial.places.keys l.places.keys
+invariant-loop-x l = HasBindersOf l.records.slots (take l.x-index l.xs) l.initial.places.keys l.places.keys

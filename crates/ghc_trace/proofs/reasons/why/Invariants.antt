@@ -1,11 +1,16 @@
-use Rattle.std.proofs.Common.{length}
+use Rattle.std.proofs.Common.{ℕ, length, map}
+use Rattle.ghc_term.specs.Lists.{In}
 use Rattle.ghc_records.specs.Record.{Record}
+use Rattle.ghc_records.specs.Slots.{held_in, StandsIn}
+use Rattle.ghc_records.proofs.SlotRanks.{rank}
 use Rattle.ghc_depend.specs.Depend.{IsKeptAs}
 use Rattle.ghc_trace.proofs.Reasoning.{IsSearched}
 use Rattle.ghc_trace.proofs.reasons.why.Given as goal
 
 abbrev pub invariant-loop-place : goal.invariant-loop-place
-invariant-loop-place l = (b : Record) × IsKeptAs l.records.held l.number b × IsSearched l.records.held b l.ahead.keys l.reasons.items
+invariant-loop-place l =
+    (b : Record) × IsKeptAs (held_in l.records.slots) l.number b × IsSearched (held_in l.records.slots) b (map (rank l.records.slots) l.ahead.keys) l.reasons.items
+    × ((p : ℕ) → In p l.ahead.keys → (a : Record) × StandsIn l.records.slots p a)
 
 abbrev pub decreases-loop-place : goal.decreases-loop-place
 decreases-loop-place l = length l.ahead.keys

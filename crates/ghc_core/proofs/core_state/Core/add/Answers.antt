@@ -7,10 +7,11 @@ use Rattle.ghc_depend.specs.Depend.{MakesGoal, Binds}
 use Rattle.ghc_core.specs.World.{World, IsNextStep, with_step}
 use Rattle.ghc_core.specs.Core.{Core, IsConsistent}
 use Rattle.ghc_core.specs.Carried.{AreCarriedOver}
-use Rattle.ghc_core.specs.Proposes.{IsCommitOf}
+use Rattle.ghc_core.specs.StreamGoals.{told}
 use Rattle.ghc_core.proofs.Standing.{standing_replay, standing_well_made, standing_below}
-use Rattle.ghc_core.proofs.Taking.{stands, unbound_there}
+use Rattle.ghc_core.proofs.Taking.{next_stands, unbound_there}
 use Rattle.ghc_core.proofs.Preparing.{same_world}
+use Rattle.ghc_core.proofs.StreamNames.{stands_over}
 use Rattle.ghc_core.proofs.Exactness.{unnoted, next_is_new, not_there, over_exact, over_left}
 use Rattle.ghc_core.proofs.core_state.Core.add.Goals as goal
 
@@ -20,14 +21,14 @@ before c = record { opening = fresh_opening c.self.inside.program c.self.inside.
 
 pub take-step-requires-clause-acyclic : goal.take-step-requires-clause-acyclic
 take-step-requires-clause-acyclic c =
-    let commit = subst (λ (x : Core). IsCommitOf x.world c.requires.found.0 c.args.addition) (sym c.self.view_is) c.requires.found.1 in
-    (standing_well_made _ (stands _ c.requires.found.0 c.args.addition c.self.invariant.standing commit)).acyclic
+    let next = subst (λ (x : Core). IsNextStep x.world c.args.addition) (sym c.self.view_is) c.requires.found in
+    (standing_well_made _ (next_stands _ c.args.addition c.self.invariant.standing next)).acyclic
 
 pub put-requires-clause-new : goal.put-requires-clause-new
 put-requires-clause-new c r i same =
-    let commit = subst (λ (x : Core). IsCommitOf x.world c.requires.found.0 c.args.addition) (sym c.self.view_is) c.requires.found.1 in
+    let next = subst (λ (x : Core). IsNextStep x.world c.args.addition) (sym c.self.view_is) c.requires.found in
     let below = standing_below _ c.self.invariant.standing r i in
-    let number = commit.1.0 in
+    let number = next.0 in
     let taken : c.take-step.result.0.number ≡ c.args.addition.number = ap (λ (q : Record). q.number) c.take-step.ensures.record in
     omega (arith, below, number, same, taken)
 
@@ -38,8 +39,8 @@ put-requires-clause-room c =
 
 pub put-requires-clause-unbound : goal.put-requires-clause-unbound
 put-requires-clause-unbound c a x i bound again =
-    let commit = subst (λ (x : Core). IsCommitOf x.world c.requires.found.0 c.args.addition) (sym c.self.view_is) c.requires.found.1 in
-    unbound_there _ _ _ _ (standing_replay _ c.self.invariant.standing) c.args.addition commit.1.1 a x i bound (subst (λ r. Binds r x) c.take-step.ensures.record again)
+    let next = subst (λ (x : Core). IsNextStep x.world c.args.addition) (sym c.self.view_is) c.requires.found in
+    unbound_there _ _ _ _ (standing_replay _ c.self.invariant.standing) c.args.addition next.1 a x i bound (subst (λ r. Binds r x) c.take-step.ensures.record again)
 
 -- the world that is left is the one with the step
 left : (c : goal.After-self-1)
@@ -56,20 +57,21 @@ carried c = subst (λ r. AreCarriedOver r c.self.inside.tries c.carry_over.new.t
 
 -- the step is the next one
 next : (c : goal.After-self-1) → IsNextStep (before c) c.args.addition
-next c = (subst (λ (x : Core). IsCommitOf x.world c.requires.found.0 c.args.addition) (sym c.self.view_is) c.requires.found.1).1
+next c = subst (λ (x : Core). IsNextStep x.world c.args.addition) (sym c.self.view_is) c.requires.found
 
 pub carry_over-requires-clause-new : goal.carry_over-requires-clause-new
 carry_over-requires-clause-new c g made =
-    let commit = subst (λ (x : Core). IsCommitOf x.world c.requires.found.0 c.args.addition) (sym c.self.view_is) c.requires.found.1 in
+    let next = subst (λ (x : Core). IsNextStep x.world c.args.addition) (sym c.self.view_is) c.requires.found in
     let w : World = record { opening = fresh_opening c.self.inside.program c.self.inside.query.goals c.self.inside.query.variables; state = c.self.inside.state.held; kept = c.self.inside.records.held; shelf = c.self.inside.shelf.held; next = c.self.inside.next; journal = c.self.inside.journal.held } in
-    unnoted c.self.invariant.exact g (not_there w c.args.addition commit.1.1 (next_is_new w c.self.invariant.standing c.args.addition commit.1) g (subst (λ r. MakesGoal r g) c.take-step.ensures.record made))
+    unnoted c.self.invariant.exact g (not_there w c.args.addition next.1 (next_is_new w c.self.invariant.standing c.args.addition next) g (subst (λ r. MakesGoal r g) c.take-step.ensures.record made))
 
 pub invariant_of-self : goal.invariant_of-self
 invariant_of-self c =
-    let commit = subst (λ (x : Core). IsCommitOf x.world c.requires.found.0 c.args.addition) (sym c.self.view_is) c.requires.found.1 in
-    subst (λ w. IsConsistent w c.carry_over.new.tries.notes c.carry_over.new.tries.untried) (sym (left c)) (record {
-      standing = stands _ c.requires.found.0 c.args.addition c.self.invariant.standing commit;
+    subst (λ w. IsConsistent w c.carry_over.new.tries.notes c.carry_over.new.tries.untried c.tell.new.self) (sym (left c)) (record {
+      standing = next_stands (before c) c.args.addition c.self.invariant.standing (next c);
       exact = over_exact (before c) c.args.addition (next c).1 (next_is_new (before c) c.self.invariant.standing c.args.addition (next c)) c.self.inside.tries c.carry_over.new.tries c.self.invariant.exact (carried c);
+      streams = stands_over (before c) c.self.invariant.standing c.args.addition (next c).1 c.self.inside.streams c.tell.new.self
+          (c.tell.ensures ∙ ap (λ (r : Record). told r c.self.inside.streams) c.take-step.ensures.record) c.self.invariant.streams;
     })
 
 pub returns-clause-world : goal.returns-clause-world

@@ -2,8 +2,7 @@ use Rattle.std.proofs.Common.{subst, sym, ap, ◌∙◌}
 use Rattle.ghc_hooks.specs.Notes.{AreLeft}
 use Rattle.ghc_records.specs.Record.{Record}
 use Rattle.ghc_depend.specs.Depend.{Binds}
-use Rattle.ghc_core.specs.World.{World, IsReplay, with_step}
-use Rattle.ghc_core.specs.Proposes.{IsCommitOf}
+use Rattle.ghc_core.specs.World.{World, IsReplay, IsNextStep, with_step}
 use Rattle.ghc_core.proofs.Standing.{standing_replay, standing_well_made}
 use Rattle.ghc_core.proofs.core_state.Core.commit.Goals as goal
 
@@ -15,7 +14,7 @@ returns-in_err-reserve-clause-replay c = subst (λ (w : World). IsReplay w w.kep
 
 pub apply-requires-clause-found : goal.apply-requires-clause-found
 apply-requires-clause-found c =
-    (c.args.proposal.now, subst (λ (w : World). IsCommitOf w c.args.proposal.now c.in_ok-addition.addition) (sym (c.in_ok-reserve.ensures.world ∙ c.in_ok-addition.ensures.world)) c.in_ok-addition.ensures.answer.0)
+    subst (λ (w : World). IsNextStep w c.in_ok-addition.addition) (sym (c.in_ok-reserve.ensures.world ∙ c.in_ok-addition.ensures.world)) c.in_ok-addition.ensures.answer.0.1
 
 pub returns-clause-answer : goal.returns-clause-answer
 returns-clause-answer c =

@@ -4,7 +4,7 @@ use Rattle.std.specs.FinMap as finite
 use Rattle.std.specs.FinSet as set
 use Rattle.ghc_term.proofs.ListsLemmas.{not_both}
 use Rattle.ghc_hooks.proofs.Few.{take_absent}
-use Rattle.ghc_core.specs.Core.{Core, IsConsistent}
+use Rattle.ghc_core.specs.Core.{Core, AreExactIn}
 use Rattle.ghc_core.specs.Settling.{IsNoteOf, AreKept}
 use Rattle.ghc_core.proofs.Settling.{noted_before, noted_now, consistent_now, kept_put}
 use Rattle.ghc_core.proofs.core_state.Core.enter.Goals as goal
@@ -15,8 +15,8 @@ tried c = not_both (set.contains c.args.self.now.untried c.args.goal) (ap (λ (x
 
 pub returns-then-not-is_untried-clause-noted : goal.returns-then-not-is_untried-clause-noted
 returns-then-not-is_untried-clause-noted c =
-    let consistent = subst (λ (x : Core). IsConsistent x.world x.notes x.untried) c.self.view_is c.self.invariant in
-    noted_before c.args.self.now.world c.args.self.now.notes c.args.self.now.untried c.args.goal c.args.note consistent.exact c.requires (tried c)
+    let exact = subst (λ (x : Core). AreExactIn x.world x.notes x.untried) c.self.view_is c.self.invariant.exact in
+    noted_before c.args.self.now.world c.args.self.now.notes c.args.self.now.untried c.args.goal c.args.note exact c.requires (tried c)
 
 pub returns-then-not-is_untried-clause-untried : goal.returns-then-not-is_untried-clause-untried
 returns-then-not-is_untried-clause-untried c = take_absent c.args.self.now.untried c.args.goal (tried c)
@@ -25,7 +25,7 @@ pub invariant_of-self-2 : goal.invariant_of-self-2
 invariant_of-self-2 c =
     let found = subst (λ (x : Core). IsNoteOf x.world c.args.goal c.args.note) (sym c.self.view_is) c.requires in
     let t = c.self.inside.tries in
-    consistent_now _ t.notes c.note-2.new.self.notes t.untried c.note-2.new.self.untried c.args.goal c.args.note c.self.invariant found c.in_ok-note.ensures.notes c.in_ok-note.ensures.untried
+    consistent_now _ t.notes c.note-2.new.self.notes t.untried c.note-2.new.self.untried c.self.inside.streams c.args.goal c.args.note c.self.invariant found c.in_ok-note.ensures.notes c.in_ok-note.ensures.untried
 
 pub returns-clause-noted : goal.returns-clause-noted
 returns-clause-noted c =

@@ -1,4 +1,4 @@
-use Rattle.std.proofs.Common.{◌≡◌, [], subst, ap, ◌∙◌}
+use Rattle.std.proofs.Common.{◌≡◌, [], subst, sym, ap, ◌∙◌}
 use Rattle.std.specs.FinMap as finite
 use Rattle.ghc_flat.specs.Flat.{IsProgram}
 use Rattle.ghc_records.specs.Journal.{fresh_opening}
@@ -6,8 +6,10 @@ use Rattle.ghc_records.specs.Replay.{query_state}
 use Rattle.ghc_fire.specs.Goals.{goal_cmp}
 use Rattle.ghc_core.specs.Carried.{IsToTry, AreMarked}
 use Rattle.ghc_core.specs.Core.{IsConsistent}
+use Rattle.ghc_core.specs.StreamGoals.{TellStreams, opened as names_of}
 use Rattle.ghc_core.proofs.Standing.{fresh_world, fresh_stands}
 use Rattle.ghc_core.proofs.Exactness.{opened_exact}
+use Rattle.ghc_core.proofs.StreamNames.{opened_tells}
 use Rattle.ghc_core.proofs.core_state.Core.new.Goals as goal
 
 pub invariant_of-result : goal.invariant_of-result
@@ -22,9 +24,11 @@ invariant_of-result c =
     cc in
     let opened = opened_exact c.args.program c.args.query.goals c.reserve.new.self c.mark_made.new.tries (c.in_ok-reserve.ensures.notes ∙ c.new-tries.ensures.notes) (c.in_ok-reserve.ensures.untried ∙ c.new-tries.ensures.untried)
     (subst (λ gs. AreMarked (IsToTry 0 gs) c.reserve.new.self c.mark_made.new.tries) c.goals-goals.ensures.same c.mark_made.ensures) in
-    subst (λ w. IsConsistent w c.mark_made.new.tries.notes c.mark_made.new.tries.untried) same (record {
+    let names : c.in_ok-streams.streams ≡ names_of 1 c.args.query.goals = c.in_ok-streams.ensures ∙ ap (names_of 1) c.goals-goals.ensures.same in
+    subst (λ w. IsConsistent w c.mark_made.new.tries.notes c.mark_made.new.tries.untried c.in_ok-streams.streams) same (record {
       standing = fresh_stands c.args.program c.args.query.goals c.args.query.variables accepted c.requires (record { named = c.goals-goals.ensures.well_asked.named; apart = c.goals-goals.ensures.well_asked.apart });
       exact = opened;
+      streams = subst (TellStreams c.args.query.goals (query_state c.args.query.goals).goals) (sym names) (opened_tells c.args.program c.args.query.goals c.requires);
     })
 
 pub mark_made-requires-clause-new : goal.mark_made-requires-clause-new

@@ -11,12 +11,14 @@ use Rattle.ghc_core.specs.World.{World}
 use Rattle.ghc_core.specs.Core.{Core, IsConsistent}
 use Rattle.ghc_core.specs.Carried.{AreCarriedOver}
 use Rattle.ghc_core.specs.Reverses.{with_redone}
+use Rattle.ghc_core.specs.StreamGoals.{told}
 use Rattle.ghc_core.specs.declared.change.Change.TheVariants.{PutsBack as puts_back}
 use Rattle.ghc_core.specs.Change.{CanChange}
 use Rattle.ghc_core.proofs.Reaching.{reached_good}
 use Rattle.ghc_core.proofs.Standing.{standing_replay, standing_well_made}
 use Rattle.ghc_core.proofs.Taking.{unbound_there}
 use Rattle.ghc_core.proofs.Preparing.{same_world}
+use Rattle.ghc_core.proofs.StreamNames.{stands_over}
 use Rattle.ghc_core.proofs.Redone.{redone_stands}
 use Rattle.ghc_core.proofs.Exactness.{unnoted, shelved_is_new, not_there, over_exact, over_left}
 use Rattle.ghc_core.proofs.core_state.Core.put_back.Goals as goal
@@ -71,9 +73,11 @@ carried c = subst (λ r. AreCarriedOver r c.self.inside.tries c.carry_over.new.t
 
 pub invariant_of-self : goal.invariant_of-self
 invariant_of-self c =
-    subst (λ w. IsConsistent w c.carry_over.new.tries.notes c.carry_over.new.tries.untried) (sym (left c)) (record {
+    subst (λ w. IsConsistent w c.carry_over.new.tries.notes c.carry_over.new.tries.untried c.tell.new.self) (sym (left c)) (record {
       standing = redone_stands (before c) c.self.invariant.standing c.args.addition (can c);
       exact = over_exact (before c) c.args.addition (can c).1 (shelved_is_new (before c) c.self.invariant.standing c.args.addition (can c).0) c.self.inside.tries c.carry_over.new.tries c.self.invariant.exact (carried c);
+      streams = stands_over (before c) c.self.invariant.standing c.args.addition (can c).1 c.self.inside.streams c.tell.new.self
+          (c.tell.ensures ∙ ap (λ (r : Record). told r c.self.inside.streams) c.take-step.ensures.record) c.self.invariant.streams;
     })
 
 pub returns-clause-world : goal.returns-clause-world

@@ -27,7 +27,7 @@ changed : (c : goal.After-put) → Changes (before c) (reorders (taken c)) (left
 changed c = put_in_order (before c) (taken c) c.put.new.self.held (can c) c.put.ensures.held
 
 pub invariant_of-self : goal.invariant_of-self
-invariant_of-self c = record { standing = arranged_stands c.self.invariant.standing (changed c); exact = c.self.invariant.exact }
+invariant_of-self c = record { standing = arranged_stands c.self.invariant.standing (changed c); exact = c.self.invariant.exact; streams = c.self.invariant.streams }
 
 pub returns-clause-changed : goal.returns-clause-changed
 returns-clause-changed c =

@@ -1,19 +1,36 @@
-use Rattle.std.proofs.Common.{◌∷◌, refl, ap, ◌∙◌, sym, subst, inl, inr}
+use Rattle.std.proofs.Common.{◌≡◌, ◌∷◌, refl, ap, ◌∙◌, sym, subst, inl, inr}
 use Rattle.std.specs.FinMap as finite
+use Rattle.ghc_term.specs.Lists.{In}
+use Rattle.ghc_records.specs.Orders.{AreDistinct, Picks}
 use Rattle.ghc_records.specs.Record.{Record}
 use Rattle.ghc_records.specs.Journal.{fresh_opening}
 use Rattle.ghc_hooks.specs.Notes.{AreLeft}
 use Rattle.ghc_depend.specs.Deletion.{IsBoundIn}
 use Rattle.ghc_core.specs.World.{World}
 use Rattle.ghc_core.specs.Core.{Core}
+use Rattle.ghc_core.specs.StreamGoals.{told_back, TellStreams}
 use Rattle.ghc_core.specs.Change.{CanRoll, RollsAway}
-use Rattle.ghc_core.proofs.RolledBack.{none_again, unnoted_roll, RolledAway, rolled_away}
+use Rattle.ghc_depend.proofs.TakenTogether.{gone_kept, gone_distinct}
+use Rattle.ghc_core.proofs.Reaching.{reached_good}
+use Rattle.ghc_core.proofs.RolledBack.{struck_first, none_again, unnoted_roll, RolledAway, rolled_away}
 use Rattle.ghc_core.proofs.core_state.Core.take_all_away.Goals as goal
 
 pub take_all_back-requires-clause-new : goal.take_all_back-requires-clause-new
 take_all_back-requires-clause-new c r i =
     let can = subst (λ gone. CanRoll c.self.inside.records.held gone) (sym c.rollback.view_is) (subst (λ (x : Core). CanRoll x.world.kept c.args.rollback) (sym c.self.view_is) c.requires.found) in
     unnoted_roll _ c.self.invariant.standing c.self.inside.tries.notes c.self.inside.tries.untried c.self.invariant.exact c.rollback.inside.step c.rollback.inside.consequences.items can r (inr i)
+
+pub strike_all-requires-clause-kept : goal.strike_all-requires-clause-kept
+strike_all-requires-clause-kept c r i =
+    let can = subst (λ gone. CanRoll c.self.inside.records.held gone) (sym c.rollback.view_is) (subst (λ (x : Core). CanRoll x.world.kept c.args.rollback) (sym c.self.view_is) c.requires.found) in
+    let a = c.rollback.inside.step in
+    gone_kept c.self.inside.records.held (reached_good c.self.invariant.standing).kept_once a can.0 (a ∷ c.rollback.inside.consequences.items) can.1.0 can.1.1 r (inr (subst (In r) c.as_slice.ensures.value i))
+
+pub strike_all-requires-clause-distinct : goal.strike_all-requires-clause-distinct
+strike_all-requires-clause-distinct c =
+    let can = subst (λ gone. CanRoll c.self.inside.records.held gone) (sym c.rollback.view_is) (subst (λ (x : Core). CanRoll x.world.kept c.args.rollback) (sym c.self.view_is) c.requires.found) in
+    let a = c.rollback.inside.step in
+    subst AreDistinct (sym c.as_slice.ensures.value) (gone_distinct c.self.inside.records.held (reached_good c.self.invariant.standing).kept_once a can.0 (a ∷ c.rollback.inside.consequences.items) can.1.0 can.1.1).1
 
 pub take_one_back-requires-clause-new : goal.take_one_back-requires-clause-new
 take_one_back-requires-clause-new c g used =
@@ -26,7 +43,18 @@ abbrev before : goal.After-put → World
 before c = record { opening = fresh_opening c.self.inside.program c.self.inside.query.goals c.self.inside.query.variables; state = c.self.inside.state.held; kept = c.self.inside.records.held; shelf = c.self.inside.shelf.held; next = c.self.inside.next; journal = c.self.inside.journal.held }
 
 abbrev left : goal.After-put → World
-left c = record { opening = fresh_opening c.self.inside.program c.self.inside.query.goals c.self.inside.query.variables; state = c.take_one_back.new.state.held; kept = c.remove_shelved.new.self.held; shelf = c.take_one_back.new.shelf.held; next = c.self.inside.next; journal = c.put.new.self.held }
+left c = record { opening = fresh_opening c.self.inside.program c.self.inside.query.goals c.self.inside.query.variables; state = c.take_one_back.new.state.held; kept = c.strike.new.records.held; shelf = c.take_one_back.new.shelf.held; next = c.self.inside.next; journal = c.put.new.self.held }
+
+-- the records that are left
+struck : (c : goal.After-put) → CanRoll c.self.inside.records.held (c.rollback.inside.step ∷ c.rollback.inside.consequences.items)
+    → Picks (λ s. ¬ In s (c.rollback.inside.step ∷ c.rollback.inside.consequences.items)) c.self.inside.records.held c.strike.new.records.held
+struck c can =
+    let kept = c.self.inside.records.held in
+    let a = c.rollback.inside.step in
+    let rs = c.rollback.inside.consequences.items in
+    let once = (reached_good c.self.invariant.standing).kept_once in
+    struck_first kept c.strike_all.new.records.held c.strike.new.records.held rs a (gone_distinct kept once a can.0 (a ∷ rs) can.1.0 can.1.1) can.0
+    (subst (λ l. Picks (λ s. ¬ In s l) kept c.strike_all.new.records.held) c.as_slice.ensures.value c.strike_all.ensures) (λ here. c.strike.ensures a here (sym (c.number-number.ensures ∙ ap (λ (r : Record). r.number) c.step.ensures)))
 
 -- the change took the one to the other
 all : (c : goal.After-put) → RolledAway (before c) (c.rollback.inside.step ∷ c.rollback.inside.consequences.items) c.self.inside.tries c.take_one_back.new.tries (left c)
@@ -36,12 +64,19 @@ all c =
     rolled_away (before c) c.self.invariant.standing a c.rollback.inside.consequences.items can c.self.inside.tries c.take_one_back.new.tries c.self.invariant.exact c.take_one_back.new.state.held
     (c.take_all_back.new.state.held, c.take_all_back.ensures.state, c.take_one_back.ensures.state)
     (c.take_all_back.new.tries, c.take_all_back.ensures.tries, c.take_one_back.ensures.tries)
-    c.remove_shelved.new.self.held c.take_one_back.new.shelf.held c.put.new.self.held c.number-number.result
+    c.strike.new.records.held c.take_one_back.new.shelf.held c.put.new.self.held c.number-number.result
     (c.take_one_back.ensures.shelf ∙ ap (λ s. finite.insert s a.number a) c.take_all_back.ensures.shelf)
-    c.remove_shelved.ensures (c.number-number.ensures ∙ ap (λ (r : Record). r.number) c.step.ensures) c.put.ensures.held
+    (struck c can) (c.number-number.ensures ∙ ap (λ (r : Record). r.number) c.step.ensures) c.put.ensures.held
 
 pub invariant_of-self : goal.invariant_of-self
-invariant_of-self c = record { standing = (all c).standing; exact = (all c).exact }
+invariant_of-self c =
+    let a = c.rollback.inside.step in
+    let names = c.take_one_back.ensures.streams ∙ ap (told_back a) c.take_all_back.ensures.streams in
+    record {
+      standing = (all c).standing;
+      exact = (all c).exact;
+      streams = subst (TellStreams c.self.inside.query.goals c.take_one_back.new.state.held.goals) (sym names) ((all c).streams c.self.inside.streams c.self.invariant.streams);
+    }
 
 pub returns-clause-changed : goal.returns-clause-changed
 returns-clause-changed c =

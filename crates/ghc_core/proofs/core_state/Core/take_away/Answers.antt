@@ -10,10 +10,12 @@ use Rattle.ghc_depend.specs.Kept.{IsWithout}
 use Rattle.ghc_core.specs.World.{World}
 use Rattle.ghc_core.specs.Core.{Core, IsStanding}
 use Rattle.ghc_core.specs.Carried.{AreCarriedBack}
+use Rattle.ghc_core.specs.StreamGoals.{told_back}
 use Rattle.ghc_core.specs.declared.change.Change.TheVariants.{TakesAway as takes_away}
 use Rattle.ghc_core.specs.Change.{CanChange, Changes}
 use Rattle.ghc_core.proofs.TakenAway.{taken_away, undone_stands}
 use Rattle.ghc_core.proofs.Exactness.{unnoted, consumed_gone, back_exact, back_left}
+use Rattle.ghc_core.proofs.StreamNames.{stands_back}
 use Rattle.ghc_core.proofs.core_state.Core.take_away.Goals as goal
 
 -- Where the step was taken back from the state and out of the record, and put into the journal and on the shelf, it was taken away.
@@ -58,6 +60,8 @@ pub invariant_of-self : goal.invariant_of-self
 invariant_of-self c = record {
   standing = undone_stands c.self.invariant.standing (changed c) refl;
   exact = back_exact (before c) c.self.invariant.standing c.args.removal (can c).0 _ c.take_back-step.ensures.state c.self.inside.tries c.carry_back.new.tries c.self.invariant.exact (carried c);
+  streams = stands_back (before c) c.self.invariant.standing c.args.removal (can c).0 (left c) (undone_stands c.self.invariant.standing (changed c) refl) refl c.take_back-step.ensures.state c.self.inside.streams
+      c.tell_back.new.self (c.tell_back.ensures ∙ ap (λ (r : Record). told_back r c.self.inside.streams) c.take_back-step.ensures.record) c.self.invariant.streams;
 }
 
 pub returns-clause-notes : goal.returns-clause-notes

@@ -1,11 +1,11 @@
 use Rattle.std.proofs.Common.{◌≡◌, ◌≢◌, ℕ, List, ◌∷◌, ◌++◌, [], get_or, sym, ap, ◌∙◌, subst}
 use Rattle.std.specs.Prelude.{Option, Some, None, IfSome, IfNone, IsSome, true}
 use Rattle.std.specs.Borrow.{Bor}
-use Rattle.std.specs.Map.{values_of}
 use Rattle.ghc_term.specs.Lists.{In}
 use Rattle.ghc_term.proofs.ListsLemmas.{in_get}
 use Rattle.ghc_term.proofs.MapsLemmas.{at_some}
 use Rattle.ghc_records.specs.Record.{Record, numbers}
+use Rattle.ghc_records.specs.Slots.{held_in}
 use Rattle.ghc_records.specs.UseIndex.{RecordsTables}
 use Rattle.ghc_records.proofs.OrderLemmas.{number_of}
 use Rattle.ghc_records.proofs.IndexOf.{bound_once}
@@ -43,7 +43,7 @@ put-requires-clause-unbound c r x j p q =
     let same = sym (ap (λ (t : RecordsTables). t.held) c.self.view_is) in
     let first = subst (In r) same (c.loop-number.invariant.kept r before) in
     let second = subst (In step) same mine.0 in
-    let one = bound_once (values_of c.self.inside.map.entries) c.self.inside.index.users c.self.inside.index.binders.held c.self.invariant.1 r step x first second p q in
+    let one = bound_once (held_in c.self.inside.slots.held) c.self.inside.index.users c.self.inside.index.binders.held c.self.invariant r step x first second p q in
     is_new order i c.loop-number.new.held step c.loop-number-test.true c.loop-number.invariant.numbered mine.1 c.requires.distinct r before one
 
 pub loop-number-preserved : goal.loop-number-preserved

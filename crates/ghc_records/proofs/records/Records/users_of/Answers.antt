@@ -6,4 +6,4 @@ use Rattle.ghc_records.proofs.records.Records.users_of.Goals as goal
 
 pub returns : goal.returns
 returns c n = subst (λ l. In n l ↔ StepDependsOn c.args.self.now.held n c.args.number) (sym c.users_of.ensures)
-    (subst (λ t. IsUser c.self.inside.index.users c.args.number n ↔ StepDependsOn t.held n c.args.number) c.self.view_is (c.self.invariant.1.used c.args.number n))
+    (subst (λ t. IsUser c.self.inside.index.users c.args.number n ↔ StepDependsOn t.held n c.args.number) c.self.view_is (c.self.invariant.used c.args.number n))

@@ -1,0 +1,7 @@
+use Rattle.std.proofs.Common.{take}
+use Rattle.ghc_term.specs.Lists.{In}
+use Rattle.ghc_records.specs.Orders.{Picks}
+use Rattle.ghc_core.proofs.rolling.strike_all.Given as goal
+
+abbrev pub invariant-loop-removal : goal.invariant-loop-removal
+invariant-loop-removal l = Picks (λ s. ¬ In s (take l.removal-index l.removals)) l.initial.records.held l.records.held

@@ -1,0 +1,41 @@
+// Foreseeing what an input or a close of a stream would do.
+ghost use Rattle.std.specs.Prelude.{◌≡◌, ◌⊎◌, Ok, Err, IfOk, IfErr};
+ghost use Rattle.ghc_term.specs.declared.fault.Fault.{Fault as fault_spec};
+ghost use Rattle.ghc_term.specs.Answered.{Answered};
+ghost use Rattle.ghc_core.specs.CommandCode.{command_of};
+ghost use Rattle.ghc_core.specs.Streams.{Foresees, adds, refuses};
+
+use crate::command::Command;
+use crate::core_state::Core;
+use ghc_records::{Addition, Record};
+use ghc_term::Fault;
+use std::alloc::Global;
+
+// The record of the step that was found, or why none was.
+fn record_of(found: Result<Addition, Fault>) -> Result<Record, Fault>
+    ensures ok { IfOk result (λ r. found ≡ Ok r) }
+    ensures fault { IfErr result (λ f. (f ≡ Fault.Memory) ⊎ (found ≡ Err f)) }
+    ensures refused { (f : fault_spec) → found ≡ Err f → result ≡ Err f }
+{
+    match found {
+        Ok(addition) => Ok(addition.step().share()?),
+        Err(fault) => Err(fault),
+    }
+}
+
+impl Core {
+    /// The record that the command would add now, where it gives a stream an input or closes it; the refusals are those of
+    /// `prepare_input` and `prepare_close`. `Command` exactly where it is another command, which is told before memory is asked
+    /// for. Nothing is taken, and nothing is fired. It costs what preparing the step costs.
+    pub fn foresee(&self, alloc: Global, command: &Command) -> Result<Record, Fault>
+        ensures answer { Answered (λ r. Foresees self.now.world (command_of command.now) (adds r)) (λ f. Foresees self.now.world (command_of command.now) (refuses f)) result }
+        ensures no_stream { Foresees self.now.world (command_of command.now) (refuses Fault.NoStream) → result ≡ Err Fault.NoStream }
+        ensures other { Foresees self.now.world (command_of command.now) (refuses Fault.Command) → result ≡ Err Fault.Command }
+    {
+        match command {
+            Command::Input(stream, input) => record_of(self.prepare_input(alloc, *stream, input)),
+            Command::Close(stream) => record_of(self.prepare_close(alloc, *stream)),
+            _ => Err(Fault::Command),
+        }
+    }
+}

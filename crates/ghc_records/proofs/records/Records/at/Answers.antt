@@ -1,0 +1,8 @@
+use Rattle.std.proofs.Common.{◌≡◌, subst}
+use Rattle.std.specs.Prelude.{◌↔◌, Some}
+use Rattle.std.specs.Option.{option_copied}
+use Rattle.ghc_records.specs.Slots.{StandsIn}
+use Rattle.ghc_records.proofs.records.Records.at.Goals as goal
+
+pub returns : goal.returns
+returns c r = subst (λ t. (option_copied c.at.result ≡ Some r) ↔ StandsIn t.slots c.args.place r) c.self.view_is (c.at.ensures r)

@@ -1,0 +1,39 @@
+-- Records in slots, in recorded order, with a gap in each slot whose record was taken out.
+use Rattle.std.specs.Prelude.{◌≡◌, ◌↔◌, ℕ, List, [], ◌∷◌, Option, Some, None, slice_get}
+use Rattle.std.specs.Ordering.{nat_cmp}
+use Rattle.std.specs.FinMap as finite
+use Rattle.ghc_term.specs.Lists.{In}
+use Rattle.ghc_records.specs.Record.{Record, numbers}
+
+-- What each slot has: a record, or nothing.
+abbrev pub SlotList : Type 0
+SlotList = List (Option Record)
+
+-- The records in the slots, gaps left out.
+abbrev pub held_in : SlotList → List Record
+held_in [] = []
+held_in (None ∷ slots) = held_in slots
+held_in (Some r ∷ slots) = r ∷ held_in slots
+
+-- The slot of this place has the record. Places are compared, never counted.
+abbrev pub StandsIn : SlotList → ℕ → Record → Type 0
+StandsIn slots place r = slice_get slots place ≡ Some (Some r)
+
+-- No two slots have records of one number.
+abbrev pub AreOnceIn : SlotList → Type 0
+AreOnceIn slots = (p q : ℕ) (a b : Record) → StandsIn slots p a → StandsIn slots q b → a.number ≡ b.number → p ≡ q
+
+-- The slot of this place has the record of the step of this number.
+abbrev pub HasNumberIn : SlotList → ℕ → ℕ → Type 0
+HasNumberIn slots place n = (r : Record) × StandsIn slots place r × (r.number ≡ n)
+
+-- The places of a list of slots: under each number the place of its record.
+abbrev pub PlacesByNumber : Type 0
+PlacesByNumber = finite.FinMap nat_cmp ℕ
+
+abbrev pub ArePlacesOf : SlotList → PlacesByNumber → Type 0
+ArePlacesOf slots places = (n p : ℕ) → (finite.get places n ≡ Some p) ↔ HasNumberIn slots p n
+
+-- The numbers under which a place stands are those of the records.
+abbrev pub AreNumbersOf : List Record → PlacesByNumber → Type 0
+AreNumbersOf rs places = (n : ℕ) → ((p : ℕ) × (finite.get places n ≡ Some p)) ↔ In n (numbers rs)

@@ -1,0 +1,173 @@
+// Records in slots, in recorded order: one that is taken out leaves a gap, and those behind stay where they are.
+ghost use Rattle.std.specs.Prelude.{◌≡◌, ◌≢◌, ◌↔◌, ◌<◌, ◌≤◌, ◌++◌, ◌∷◌, [], length, slice_set, ℕ, IfSome, IfNone, OnOk, Some, None};
+ghost use Rattle.ghc_term.specs.Lists.{In};
+ghost use Rattle.std.specs.FinMap as finite;
+ghost use Rattle.std.specs.Option.{option_copied};
+ghost use Rattle.ghc_records.specs.Orders.{AreDistinct};
+ghost use Rattle.ghc_records.specs.Record.{Record as record_spec, numbers};
+ghost use Rattle.ghc_records.specs.Slots.{held_in, StandsIn, HasNumberIn, ArePlacesOf, AreNumbersOf};
+
+use crate::record::Record;
+use indexmap::IndexMap;
+use std::alloc::{AllocError, Global};
+use std::marker::Model;
+use std::mem;
+
+// Records in slots, no two of one number, each with the place of its slot under its number. No more than half of the slots, and one,
+// are gaps.
+#[derive(Drop)]
+pub(crate) struct Slots {
+    slots: Vec<Option<Record>>,
+    places: IndexMap<u32, usize>,
+}
+
+impl Model for Slots {
+    ghost use Rattle.std.specs.Prelude.{◌-◌, min, vec_len, vec_capacity};
+    ghost use Rattle.std.specs.FinMap as finite;
+    ghost use Rattle.indexmap.specs.IndexMap.{spare};
+    ghost use Rattle.ghc_term.specs.Table.{Table, table_code};
+    ghost use Rattle.ghc_records.specs.Slots.{SlotList, ArePlacesOf};
+    ghost use Rattle.ghc_records.specs.RecordCode.{slots_code};
+
+    ghost Value = { Table SlotList };
+
+    ghost coded = { table_code slots_code };
+
+    ghost view = { λ s. record { held = s.slots.items; room = min (vec_capacity s.slots - vec_len s.slots) (spare s.places) } };
+
+    ghost invariant = { λ s. ArePlacesOf s.slots.items (finite.from_entries s.places.entries) };
+}
+
+// The record in the slot of this place, if it has one: one step.
+fn record_in(slots: &[Option<Record>], place: usize) -> Option<&Record>
+    ensures { (r : record_spec) → (option_copied result ≡ Some r) ↔ StandsIn slots.now place r }
+{
+    match slots.get(place) {
+        Some(slot) => slot.as_ref(),
+        None => None,
+    }
+}
+
+// Puts the place of each record under its number, where no other numbers stand: one look-up for each.
+fn put_places(slots: &[Option<Record>], places: &mut IndexMap<u32, usize>)
+    requires distinct { AreDistinct (numbers (held_in slots.now)) }
+    requires numbers { AreNumbersOf (held_in slots.now) (finite.from_entries places.old.entries) }
+    ensures { ArePlacesOf slots.now (finite.from_entries places.new.entries) }
+{
+    for place in 0..slots.len() {
+        if let Some(record) = record_in(slots, place) {
+            places.insert(record.number(), place).unwrap();
+        }
+    }
+}
+
+impl Slots {
+    ghost use Rattle.ghc_records.specs.Record.{Record};
+    ghost use Rattle.ghc_records.specs.Orders.{Picks};
+
+    // No slots, which take no memory.
+    pub(crate) fn new(alloc: Global) -> Slots
+        ensures { result.held ≡ [] }
+    {
+        Slots {
+            slots: Vec::new(alloc),
+            places: IndexMap::new(alloc),
+        }
+    }
+
+    // How many slots there are, gaps among them.
+    pub(crate) fn slot_count(&self) -> usize
+        ensures { result ≡ length self.now.held }
+    {
+        self.slots.len()
+    }
+
+    // How many records there are.
+    pub(crate) fn len(&self) -> usize
+        ensures count { result ≡ length (held_in self.now.held) }
+        ensures distinct { AreDistinct (numbers (held_in self.now.held)) }
+    {
+        self.places.len()
+    }
+
+    // The place of the record of the step of this number: one look-up.
+    pub(crate) fn place_of(&self, number: u32) -> Option<usize>
+        ensures { (p : ℕ) → (result ≡ Some p) ↔ HasNumberIn self.now.held p number }
+    {
+        self.places.get(&number).copied()
+    }
+
+    // The record in the slot of this place, if it has one: one step.
+    pub(crate) fn at(&self, place: usize) -> Option<&Record>
+        ensures { (r : Record) → (option_copied result ≡ Some r) ↔ StandsIn self.now.held place r }
+    {
+        record_in(self.slots.as_slice(), place)
+    }
+
+    // The record of the step of this number: one look-up.
+    pub(crate) fn get(&self, number: u32) -> Option<&Record>
+        ensures found { IfSome result (λ r. In r.now (held_in self.now.held) × (r.now.number ≡ number)) }
+        ensures none { IfNone result ((r : Record) → In r (held_in self.now.held) → r.number ≢ number) }
+    {
+        match self.place_of(number) {
+            Some(place) => self.at(place),
+            None => None,
+        }
+    }
+
+    // Makes room for one more record. The records stay, and so does the room where memory is refused.
+    pub(crate) fn reserve(&mut self) -> Result<(), AllocError>
+        ensures held { self.new.held ≡ self.old.held }
+        ensures room { OnOk result (0 < self.new.room) }
+        ensures kept { self.old.room ≤ self.new.room }
+    {
+        self.slots.reserve(1)?;
+        self.places.reserve(1)
+    }
+
+    // Puts a record in a slot behind the others, whose number no other has, where there is room: one look-up.
+    pub(crate) fn put(&mut self, step: Record)
+        requires room { 0 < self.old.room }
+        requires new { (r : Record) → In r (held_in self.old.held) → r.number ≢ step.number }
+        ensures { self.new.held ≡ self.old.held ++ Some step ∷ [] }
+    {
+        let place = self.slots.len();
+        self.places.insert(step.number(), place).unwrap();
+        self.slots.push_reserved(Some(step));
+    }
+
+    // Takes the record of the step of this number out, if there is one, and leaves a gap: two look-ups.
+    fn take_out(&mut self, number: u32) -> Option<Record>
+        ensures taken { IfSome result (λ r. (p : ℕ) × StandsIn self.old.held p r × (r.number ≡ number)) }
+        ensures gap { (p : ℕ) → HasNumberIn self.old.held p number → self.new.held ≡ slice_set self.old.held p None }
+        ensures none { IfNone result ((r : Record) → In r (held_in self.old.held) → r.number ≢ number) }
+        ensures none_left { IfNone result (self.new.held ≡ self.old.held) }
+    {
+        let place = self.places.swap_remove(&number)?;
+        mem::replace(&mut self.slots[place], None)
+    }
+
+    // Closes the gaps up: one pass over the slots, with a look-up for each record. It takes no memory.
+    fn close_up(&mut self)
+        ensures { held_in self.new.held ≡ held_in self.old.held }
+    {
+        self.slots.retain(|slot: &Option<Record>| slot.is_some());
+        put_places(self.slots.as_slice(), &mut self.places);
+    }
+
+    // Takes the record of the step of this number out, if there is one; the others keep their order. Two look-ups; where then more
+    // than half of the slots are gaps, these are closed up: so it is as if each removal cost two look-ups more.
+    pub(crate) fn remove(&mut self, number: u32) -> Option<Record>
+        ensures found { IfSome result (λ r. In r (held_in self.old.held) × (r.number ≡ number)) }
+        ensures rest { (r : Record) → In r (held_in self.old.held) → r.number ≡ number → Picks (λ s. ¬ (s ≡ r)) (held_in self.old.held) (held_in self.new.held) }
+        ensures none { IfNone result ((r : Record) → In r (held_in self.old.held) → r.number ≢ number) }
+        ensures none_left { IfNone result (held_in self.new.held ≡ held_in self.old.held) }
+    {
+        let _count = self.len();
+        let removed = self.take_out(number);
+        if self.slots.len() / 2 > self.places.len() {
+            self.close_up();
+        }
+        removed
+    }
+}
