@@ -103,7 +103,7 @@ impl Core {
         self.next += 1;
     }
 
-    // Takes a step away: one look-up for each of its goals and bindings, and a move of each record behind it.
+    // Takes a step away: one look-up for each of its goals and bindings, and what `Records::remove` costs.
     #[inline(never)]
     fn take_away(&mut self, removal: Removal)
         requires found { CanChange self.old.world (takes_away removal) }
@@ -122,9 +122,9 @@ impl Core {
 
     /// Makes a change that was found in this state, where there is room for it: a note stays just where its goal is still there
     /// and did not look at what the step binds, and nothing is tried. It takes no memory, and cannot fail. To take a step costs a
-    /// look-up for each of its goals and bindings, and some for each goal that looked at what it binds; to take one away, a move
-    /// of each record behind it as well; to take away a step with its consequences, as much for each, and one pass over the record;
-    /// to put the record into another order, the letting go of the old one.
+    /// look-up for each of its goals and bindings, and some for each goal that looked at what it binds; to take one away, and what
+    /// `Records::remove` costs; to take away a step with its consequences, as much for each; to put the record into another order,
+    /// the letting go of the old one.
     pub fn apply(&mut self, change: Change)
         requires found { CanChange self.old.world change }
         requires room { HasRoomFor self.old.world self.old.room change }

@@ -58,8 +58,7 @@ fn removals_of(alloc: Global, records: &Records, ns: &[u32]) -> Result<Vec<Remov
 }
 
 impl Rollback {
-    // What it takes to roll this kept step back. It goes once over the record, with a look-up for each variable that a step behind
-    // this one read, or a consequence bound. It fails for want of memory alone.
+    // What it takes to roll this kept step back: what `consequences` costs. It fails for want of memory alone.
     fn of(alloc: Global, records: &Records, step: Removal) -> Result<Rollback, AllocError>
         requires kept { In step records.now.held }
         ensures { IfOk result (λ gone. (left : List record_spec) × IsSplitAt records.now.held step gone left) }
@@ -137,8 +136,8 @@ impl Core {
     }
 
     /// Finds what it takes to roll the step of this number back: `NotKept` exactly where the step is not kept, which is told before
-    /// memory is asked for; else it fails for want of memory alone. It goes once over the record, with a look-up for each variable
-    /// that a step behind this one read, or a consequence bound.
+    /// memory is asked for; else it fails for want of memory alone. It costs a look-up for each direct dependence on the step or
+    /// on a consequence, and puts the consequences in order.
     pub fn prepare_rollback(&self, alloc: Global, number: u32) -> Result<Rollback, Fault>
         ensures found { IfOk result (λ gone. CanChange self.now.world (takes_all gone)) }
         ensures split { IfOk result (λ gone. (r : record_spec) × (left : List record_spec) × IsKeptAs self.now.world.kept number r × IsSplitAt self.now.world.kept r gone left) }
@@ -160,9 +159,8 @@ impl Core {
     /// Rolls the step of this number back: it and its consequences are taken away, all or none, and their records go to the shelf.
     /// What they bound is unbound, the goals that they made are gone, and those that they consumed and did not make are there again.
     /// The reply is their numbers in recorded order. Nothing is fired or tried. `NotKept` exactly where the step is not kept, which
-    /// is told before memory is asked for, whose want is the one refusal else. A refused rollback changes nothing. It costs a
-    /// look-up for each goal and binding of the steps that are taken away, and two passes over the record, one to find these steps
-    /// and one to strike them.
+    /// is told before memory is asked for, whose want is the one refusal else. A refused rollback changes nothing. It costs some
+    /// look-ups for each goal, read and binding of the steps that are taken away, however many steps are kept.
     pub fn rollback(&mut self, alloc: Global, number: u32) -> Result<Vec<u32>, Fault>
         ensures ok { IfOk result (λ ns. Rolls ⊥ self.old.world number (undone ns.items) self.new.world) }
         ensures fault { IfErr result (λ f. (f ≡ Fault.Memory) ⊎ ((f ≡ Fault.NotKept) × IsNotKept self.old.world.kept number)) }

@@ -20,7 +20,7 @@ use ghc_term::Fault;
 impl Core {
     /// Finds what it takes to undo the step of this number: `NotKept` exactly where the step is not kept; else `HasConsequence`,
     /// with the first consequence in recorded order, exactly where it has one; else it fails for want of memory alone, where a
-    /// count of handles is full. It goes over the records behind the step, with a look-up for each variable that they read.
+    /// count of handles is full. It costs a look-up for each step that depends directly on this one.
     pub fn prepare_undo(&self, number: u32) -> Result<Removal, Fault>
         ensures found { IfOk result (λ removal. CanChange self.now.world (takes_away removal)) }
         ensures step { IfOk result (λ removal. removal.number ≡ number) }
@@ -42,8 +42,8 @@ impl Core {
     /// there again, and its record goes to the shelf. Untried are then the goal put back and those that looked at what is unbound,
     /// beside those that were. `NotKept` exactly where the step is not kept; else `HasConsequence`, with
     /// the first consequence in recorded order, exactly where it has one; these come before memory is asked for, whose want is the
-    /// one refusal else. A refused undo changes nothing. It goes over the records behind the step, with a look-up for each
-    /// variable that they read.
+    /// one refusal else. A refused undo changes nothing. It costs some look-ups for each goal, read and binding of the step,
+    /// however many steps are kept: what `prepare_undo` and `apply` cost.
     ///
     /// The rule is that of Danos and Krivine (2004): an action may be undone exactly when all its consequences have been.
     pub fn undo(&mut self, number: u32) -> Result<(), Fault>
