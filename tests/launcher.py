@@ -1,0 +1,127 @@
+#!/usr/bin/env python3
+"""Tries the launcher ./ghcdb, on a copy of it with stubs of `rt`, of the program and of `rlwrap`, in pipes and at a terminal.
+
+    python3 tests/launcher.py
+
+Nothing is proved and nothing of the repository is run but the launcher. The last line is `N passed, M failed`; the exit
+status is 1 where a case failed.
+"""
+
+import os
+import pty
+import shutil
+import subprocess
+import sys
+import tempfile
+from pathlib import Path
+
+ROOT = Path(__file__).resolve().parent.parent
+SECONDS = 20
+TOOLS = ("bash", "env", "dirname", "readlink", "find", "sed", "touch", "cp", "mkdir", "basename")
+
+PROGRAM = """#!/usr/bin/env bash
+printf '%s\\n' "the program: $*"
+exit 3
+"""
+RT = """#!/usr/bin/env bash
+here=$(basename "$PWD")
+echo "rt $* in $here" >> "$ASKED"
+echo "what rt says of $here"
+[ "$here" != "${REFUSED:-}" ] || exit 1
+[ "$1" = lib ] || { mkdir -p out; cp "$STUB" out/ghcdb; }
+"""
+RLWRAP = """#!/usr/bin/env bash
+printf '%s\\n' "rlwrap: $*"
+exit 5
+"""
+
+
+class Copy:
+    """A copy of the launcher in a folder of its own, with no program yet."""
+
+    def __init__(self, folder):
+        self.folder = Path(folder)
+        for name in ("ghcdb", "crates.txt", "commands.txt"):
+            shutil.copy(ROOT / name, self.folder)
+        lines = (ROOT / "crates.txt").read_text().splitlines()
+        self.crates = [line.partition(":")[0].split()[0] for line in lines if ":" in line and not line.startswith("#")]
+        for name in self.crates:
+            (self.folder / "crates" / name / "src").mkdir(parents=True)
+            (self.folder / "crates" / name / "src" / "lib.rt").touch()
+        for name in TOOLS:
+            self.tool("tools", name).symlink_to(shutil.which(name))
+        self.write(self.folder / "stub", PROGRAM)
+        self.write(self.tool("rt", "rt"), RT)
+        self.write(self.tool("rlwrap", "rlwrap"), RLWRAP)
+
+    def tool(self, folder, name):
+        """The path of a program in a folder that can stand on the PATH."""
+        (self.folder / "bin" / folder).mkdir(parents=True, exist_ok=True)
+        return self.folder / "bin" / folder / name
+
+    def write(self, path, text):
+        """Writes a program."""
+        path.write_text(text)
+        path.chmod(0o755)
+
+    def run(self, *words, path=("rt", "rlwrap"), refused="", **streams):
+        """What the launcher writes to pipes, and its status; `streams` puts others in the place of pipes."""
+        places = [str(self.folder / "bin" / name) for name in ("tools", *path)]
+        known = {"PATH": ":".join(places), "ASKED": str(self.folder / "asked"), "STUB": str(self.folder / "stub"), "REFUSED": refused}
+        streams = {"stdin": subprocess.DEVNULL, "stdout": subprocess.PIPE, "stderr": subprocess.PIPE} | streams
+        ended = subprocess.run([self.folder / "ghcdb", *words], env=known, timeout=SECONDS, text=True, **streams)
+        return ended.stdout, ended.stderr, ended.returncode
+
+    def run_at_terminal(self, *words, **given):
+        """What is written at a terminal, and the status."""
+        ours, theirs = pty.openpty()
+        _, _, status = self.run(*words, **({"stdin": theirs, "stdout": theirs, "stderr": theirs} | given))
+        os.write(theirs, b"|")
+        os.close(theirs)
+        written = b""
+        while not written.endswith(b"|"):
+            written += os.read(ours, 4096)
+        os.close(ours)
+        return written[:-1].decode().replace("\r\n", "\n"), status
+
+
+def cases(copy):
+    """The cases in their order: a name, what came, what is wanted."""
+    program = copy.folder / "crates" / "ghcdb" / "out" / "ghcdb"
+    begin = f"ghcdb: proving and building {program} (the first time takes long)\n"
+    told = [f"ghcdb: proving {name} ({k} of {len(copy.crates)})\n" for k, name in enumerate(copy.crates, 1)]
+    written = "the program: a b c\n"
+
+    no_rt = "ghcdb: the proved program is missing or older than its sources, and there is no `rt` on the PATH to build it\n"
+    yield "no rt", copy.run("a", path=()), ("", no_rt, 127)
+    third = copy.crates[2]
+    said = f"what rt says of {third}\nghcdb: {third} was not proved: see above\n"
+    yield "a crate is refused", copy.run("a", refused=third), ("", begin + "".join(told[:3]) + said, 70)
+    (copy.folder / "asked").unlink()
+    yield "it builds, crate by crate", copy.run("a", "b c"), (written, begin + "".join(told), 3)
+    asked = [f"rt lib in {name}\n" for name in copy.crates[:-1]] + [f"rt run -- --help in {copy.crates[-1]}\n"]
+    yield "what it asked of rt", (copy.folder / "asked").read_text(), "".join(asked)
+    yield "it does not build again", copy.run("a", "b c", path=()), (written, "", 3)
+
+    wrapped = f"rlwrap: --substitute-prompt >  --file {copy.folder}/commands.txt {program} a b c\n"
+    yield "at a terminal with rlwrap", copy.run_at_terminal("a", "b c"), (wrapped, 5)
+    yield "at a terminal without it", copy.run_at_terminal("a", "b c", path=()), (written, 3)
+    for name in ("stdin", "stdout", "stderr"):
+        status = copy.run_at_terminal("a", **{name: subprocess.DEVNULL})[1]
+        yield f"at a terminal, but for {name}", status, 3
+    os.utime(copy.folder / "crates" / third / "src" / "lib.rt", (2**33, 2**33))
+    yield "a source is newer", copy.run("a", path=()), ("", no_rt, 127)
+
+
+def main():
+    with tempfile.TemporaryDirectory(prefix="ghcdb-launcher-") as folder:
+        tried = [(name, got, wanted) for name, got, wanted in cases(Copy(folder))]
+    failed = [case for case in tried if case[1] != case[2]]
+    for name, got, wanted in failed:
+        print(f"failed: {name}\n  is to be {wanted!r}\n  is       {got!r}")
+    print(f"{len(tried) - len(failed)} passed, {len(failed)} failed")
+    return 1 if failed else 0
+
+
+if __name__ == "__main__":
+    sys.exit(main())
