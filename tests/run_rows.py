@@ -1,5 +1,5 @@
 #!/usr/bin/env python3
-"""Runs the rows and tables of tests/rows/, and the examples of two pages, on the proved program, crates/ghcdb/out/ghcdb.
+"""Runs the rows and tables of tests/rows/, and the examples of three pages, on the proved program, crates/ghcdb/out/ghcdb.
 
     python3 tests/run_rows.py [WORD..]     the files whose names hold one of the words; without words, all
 
@@ -31,6 +31,8 @@ What the program is given:
     query          the text of the query; the option is left out where this entry is
     options        further words, one a line
     words          all words, one a line, in place of FILE, the query and the options
+    example        a file of examples/: its text is the program, and where there is no `query` it is the one named in the
+                   file's comment, on the line that begins with `% Query:`
     file NAME      the text of a further file of that name
     input          standard input
     to PATH        no value: standard output goes to PATH, as /dev/full
@@ -51,9 +53,9 @@ tab, the text with its braces, a tab, and the line on standard error, with which
 with which the session begins and, without input, ends with status 0. KIND is `program`, and then the query is `true`, or
 `query`, and then the program is empty. Lines that begin with `#` and empty lines are left out.
 
-The examples of docs/LANGUAGE.md and docs/FORMATS.md are rows too: each block that begins with `program` and `query`, and
-then has a session; one that begins with `continued` goes on with the session of the block before it, and one that begins
-with `after the first run` with that of the page's first.
+The examples of docs/LANGUAGE.md, docs/FORMATS.md and docs/TUTORIAL.md are rows too: each block that begins with `program`
+and `query`, and then has a session; one that begins with `continued` goes on with the session of the block before it, and
+one that begins with `after the first run` with that of the page's first.
 """
 
 import os
@@ -67,13 +69,16 @@ from contextlib import ExitStack
 from pathlib import Path
 
 TESTS = Path(__file__).resolve().parent
+EXAMPLES = TESTS.parent / "examples"
 PROGRAM = TESTS.parent / "crates" / "ghcdb" / "out" / "ghcdb"
 SECONDS = 60
 TURN_SECONDS = 10
 PROMPT = b"> "
-PAGES = ("LANGUAGE.md", "FORMATS.md")
+PAGES = ("LANGUAGE.md", "FORMATS.md", "TUTORIAL.md")
 
-SINGLE = {"program", "file", "query", "options", "words", "input", "in turns", "left open", "session", "output", "errors", "status"}
+SINGLE = {
+    "program", "example", "file", "query", "options", "words", "input", "in turns", "left open", "session", "output", "errors", "status",
+}
 LISTED = {"output contains", "errors contain"}
 NAMED = {"file ", "to ", "errors to "}
 
@@ -146,9 +151,24 @@ def read_row(path):
             row[key] = value
         else:
             raise BadRow(f"`{key}` is no key")
+    if "example" in row:
+        take_example(row)
     if "session" in row:
         split_session(row)
     return row
+
+
+def take_example(row):
+    """Puts the text of an example, and its query, into the row."""
+    if "program" in row:
+        raise BadRow("an example stands in the place of a program")
+    try:
+        row["program"] = (EXAMPLES / row["example"].decode()).read_bytes()
+    except OSError as error:
+        raise BadRow(f"no such example: {error}") from None
+    query = re.search(rb"^% Query: +(.+)$", row["program"], re.MULTILINE)
+    if "query" not in row and query:
+        row["query"] = query[1]
 
 
 def read_table(path):
