@@ -9,6 +9,7 @@ status is 1 where a case failed.
 
 import os
 import pty
+import re
 import shutil
 import subprocess
 import sys
@@ -85,6 +86,13 @@ class Copy:
         return written[:-1].decode().replace("\r\n", "\n"), status
 
 
+def commands():
+    """The first words of the commands in the table of docs/FORMATS.md."""
+    section = (ROOT / "docs" / "FORMATS.md").read_text().partition("## 10. Commands\n")[2].partition("\n## ")[0]
+    table = [line.split("|")[1] for line in section.splitlines() if line.startswith("| `")]
+    return sorted({word for cell in table for word in re.findall(r"`([a-z]+)", cell)})
+
+
 def cases(copy):
     """The cases in their order: a name, what came, what is wanted."""
     program = copy.folder / "crates" / "ghcdb" / "out" / "ghcdb"
@@ -109,6 +117,7 @@ def cases(copy):
     for name in ("stdin", "stdout", "stderr"):
         status = copy.run_at_terminal("a", **{name: subprocess.DEVNULL})[1]
         yield f"at a terminal, but for {name}", status, 3
+    yield "the words that are completed", (copy.folder / "commands.txt").read_text().split(), commands()
     os.utime(copy.folder / "crates" / third / "src" / "lib.rt", (2**33, 2**33))
     yield "a source is newer", copy.run("a", path=()), ("", no_rt, 127)
 
