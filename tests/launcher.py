@@ -65,10 +65,11 @@ class Copy:
         path.write_text(text)
         path.chmod(0o755)
 
-    def run(self, *words, path=("rt", "rlwrap"), refused="", **streams):
+    def run(self, *words, path=("rt", "rlwrap"), refused="", terminal="xterm", **streams):
         """What the launcher writes to pipes, and its status; `streams` puts others in the place of pipes."""
         places = [str(self.folder / "bin" / name) for name in ("tools", *path)]
-        known = {"PATH": ":".join(places), "ASKED": str(self.folder / "asked"), "STUB": str(self.folder / "stub"), "REFUSED": refused}
+        known = {"PATH": ":".join(places), "ASKED": str(self.folder / "asked"), "STUB": str(self.folder / "stub")}
+        known |= {"REFUSED": refused, "TERM": terminal}
         streams = {"stdin": subprocess.DEVNULL, "stdout": subprocess.PIPE, "stderr": subprocess.PIPE} | streams
         ended = subprocess.run([self.folder / "ghcdb", *words], env=known, timeout=SECONDS, text=True, **streams)
         return ended.stdout, ended.stderr, ended.returncode
@@ -114,6 +115,7 @@ def cases(copy):
     wrapped = f"rlwrap: --substitute-prompt >  --file {copy.folder}/commands.txt {program} a b c\n"
     yield "at a terminal with rlwrap", copy.run_at_terminal("a", "b c"), (wrapped, 5)
     yield "at a terminal without it", copy.run_at_terminal("a", "b c", path=()), (written, 3)
+    yield "at a dumb terminal", copy.run_at_terminal("a", "b c", terminal="dumb"), (written, 3)
     for name in ("stdin", "stdout", "stderr"):
         status = copy.run_at_terminal("a", **{name: subprocess.DEVNULL})[1]
         yield f"at a terminal, but for {name}", status, 3
