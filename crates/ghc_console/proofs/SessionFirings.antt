@@ -6,7 +6,7 @@ use Rattle.ghc_console.specs.Firing.{Fires, firings_in, firings_of}
 use Rattle.ghc_console.specs.Lines.{lines_of}
 use Rattle.ghc_console.specs.Reading.{TakesLine}
 use Rattle.ghc_console.specs.declared.command.LineCommand.{LineCommand}
-use Rattle.ghc_console.specs.declared.command.LineCommand.TheVariants.{Nothing, Step, Undo, Redo, Roll, Arrange, Show, Records, Goals, Why, Who, Shelf, Quit, Unknown}
+use Rattle.ghc_console.specs.declared.command.LineCommand.TheVariants.{Nothing, Step, Undo, Redo, Roll, Arrange, Show, Records, Goals, Why, Who, Shelf, Spy, Unspy, Input, Close, Quit, Unknown}
 
 -- a command may fire nothing
 pub fires_nothing : (c : LineCommand) (m n : ℕ) → n ≡ m → Fires c m n
@@ -22,6 +22,10 @@ fires_nothing Goals m n e = e
 fires_nothing (Why number) m n e = e
 fires_nothing (Who word) m n e = e
 fires_nothing Shelf m n e = e
+fires_nothing (Spy name arity) m n e = e
+fires_nothing (Unspy name arity) m n e = e
+fires_nothing (Input stream given) m n e = e
+fires_nothing (Close stream) m n e = e
 fires_nothing Quit m n e = e
 fires_nothing Unknown m n e = e
 
@@ -41,6 +45,10 @@ fires_few Goals m n e = omega (arith, e)
 fires_few (Why number) m n e = omega (arith, e)
 fires_few (Who word) m n e = omega (arith, e)
 fires_few Shelf m n e = omega (arith, e)
+fires_few (Spy name arity) m n e = omega (arith, e)
+fires_few (Unspy name arity) m n e = omega (arith, e)
+fires_few (Input stream given) m n e = omega (arith, e)
+fires_few (Close stream) m n e = omega (arith, e)
 fires_few Quit m n e = omega (arith, e)
 fires_few Unknown m n e = omega (arith, e)
 

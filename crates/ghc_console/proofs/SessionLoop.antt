@@ -3,20 +3,20 @@ use Rattle.std.proofs.Common.{◌≡◌, ◌≤◌, ◌+◌, ◌-◌, ℕ, Bool,
 use Rattle.std.proofs.Math.Seq.{take-append_seam}
 use Rattle.std.specs.Io.KnownBytes.{Appends, IsAtEnd, Keeps, prepend_known}
 use Rattle.std.proofs.KnownBytes.{Appends-trans, Appends-kept, Appends-nil}
-use Rattle.ghc_core.specs.World.{World}
 use Rattle.ghc_console.specs.Lines.{line_feeds, lines_of}
 use Rattle.ghc_console.specs.Reading.{AsksAtNeed, CountsGiven, TakesFirst, TakesLine}
 use Rattle.ghc_console.specs.Replies.{IsReply}
+use Rattle.ghc_console.specs.SessionState.{SessionState}
 use Rattle.ghc_console.specs.Session.{Session, Began, Tells, at_end, ends, goes_on, nothing_yet, broken, went_on}
 use Rattle.ghc_console.proofs.Rows.{feeds_append, feeds_plain}
 
 -- what the rest gives, behind `count` lines and what was done, is what the whole gives
-pub record Onward (count : ℕ) (first now : World) (all rest : List (List ℕ)) (done : List ℕ) : Type 0 where
-  pub whole : (more : ℕ) (out : List ℕ) (later : World) → Session more now rest out later → Session (more + count) first all (done ++ out) later
-  pub begun : (more : ℕ) (out : List ℕ) (later : World) → Began more now rest out later → Began (more + count) first all (done ++ out) later
+pub record Onward (count : ℕ) (first now : SessionState) (all rest : List (List ℕ)) (done : List ℕ) : Type 0 where
+  pub whole : (more : ℕ) (out : List ℕ) (later : SessionState) → Session more now rest out later → Session (more + count) first all (done ++ out) later
+  pub begun : (more : ℕ) (out : List ℕ) (later : SessionState) → Began more now rest out later → Began (more + count) first all (done ++ out) later
 
 -- a front of the input was answered, and it has no fewer lines than line feeds were there when the last read was made
-pub record Gone (first now : World) (input rest : List ℕ) (written held : Option (List ℕ)) (before : ℕ) : Type 0 where
+pub record Gone (first now : SessionState) (input rest : List ℕ) (written held : Option (List ℕ)) (before : ℕ) : Type 0 where
   pub count : ℕ
   pub front : List ℕ
   pub done : List ℕ
@@ -26,12 +26,12 @@ pub record Gone (first now : World) (input rest : List ℕ) (written held : Opti
   pub appended : Appends written held done
   pub onward : Onward count first now (lines_of input) (lines_of rest) done
 
-abbrev pub Going : World → World → Option (List ℕ) → Option (List ℕ) → Option (List ℕ) → Option (List ℕ) → ℕ → Type 0
+abbrev pub Going : SessionState → SessionState → Option (List ℕ) → Option (List ℕ) → Option (List ℕ) → Option (List ℕ) → ℕ → Type 0
 Going first now None left written held before = Unit {0}
 Going first now (Some input) None written held before = ⊥
 Going first now (Some input) (Some rest) written held before = Gone first now input rest written held before
 
-pub going_start : (s : World) (unread written : Option (List ℕ)) (before : ℕ) → before ≡ 0 → Going s s unread (prepend_known [] unread) written written before
+pub going_start : (s : SessionState) (unread written : Option (List ℕ)) (before : ℕ) → before ≡ 0 → Going s s unread (prepend_known [] unread) written written before
 going_start s None written before none = tt
 going_start s (Some input) written before none = record {
   count = 0;
@@ -51,7 +51,7 @@ going_start s (Some input) written before none = record {
     none_more m = omega arith
 
 -- a read was made where it was needed
-pub going_asked : (s now : World) (unread left : Option (List ℕ)) (ahead : List ℕ) (written held : Option (List ℕ)) (first given before asked : ℕ)
+pub going_asked : (s now : SessionState) (unread left : Option (List ℕ)) (ahead : List ℕ) (written held : Option (List ℕ)) (first given before asked : ℕ)
     → Going s now unread (prepend_known ahead left) written held (before - first) → CountsGiven unread left first given
     → AsksAtNeed ahead (prepend_known ahead left) given before asked
     → Going s now unread (prepend_known ahead left) written held (asked - first)
@@ -94,7 +94,7 @@ going_asked s now (Some input) (Some rest) ahead written held first given before
         omega (arith, both, none, few)
 
 -- one line on
-pub going_on : (first now next : World) (old left left' written held held' : Option (List ℕ)) (before : ℕ) (P : List ℕ → Type 0)
+pub going_on : (first now next : SessionState) (old left left' written held held' : Option (List ℕ)) (before : ℕ) (P : List ℕ → Type 0)
     → Going first now old left written held before → TakesLine left left' P
     → ((bytes : List ℕ) → P bytes → (text : List ℕ) × IsReply now bytes text next false × Appends held held' text)
     → Going first next old left' written held' before
@@ -130,7 +130,7 @@ going_on first now next (Some input) (Some rest) (Some rest') written held held'
     counts m n = omega arith
 
 -- the input is at its end
-pub going_end : (first now : World) (old left written held held' : Option (List ℕ)) (before : ℕ) → Going first now old left written held before → IsAtEnd left → Keeps held held' → Tells Session first old written held' before now
+pub going_end : (first now : SessionState) (old left written held held' : Option (List ℕ)) (before : ℕ) → Going first now old left written held before → IsAtEnd left → Keeps held held' → Tells Session first old written held' before now
 going_end first now None left written held held' before g e k = tt
 going_end first now (Some input) None written held held' before g e k = absurd g
 going_end first now (Some input) (Some rest) written held held' before g e k =
@@ -144,7 +144,7 @@ going_end first now (Some input) (Some rest) written held held' before g e k =
     }
 
 -- a line ended the session
-pub going_quit : (first now next : World) (old left left' written held held' : Option (List ℕ)) (before : ℕ) (P : List ℕ → Type 0)
+pub going_quit : (first now next : SessionState) (old left left' written held held' : Option (List ℕ)) (before : ℕ) (P : List ℕ → Type 0)
     → Going first now old left written held before → TakesLine left left' P
     → ((bytes : List ℕ) → P bytes → (text : List ℕ) × IsReply now bytes text next true × Appends held held' text)
     → Tells Session first old written held' before next
@@ -164,7 +164,7 @@ going_quit first now next (Some input) (Some rest) (Some rest') written held hel
     }
 
 -- a read failed
-pub broken_read : (first now : World) (old left written held held' : Option (List ℕ)) (before : ℕ) → Going first now old left written held before → Keeps held held' → Tells Began first old written held' before now
+pub broken_read : (first now : SessionState) (old left written held held' : Option (List ℕ)) (before : ℕ) → Going first now old left written held before → Keeps held held' → Tells Began first old written held' before now
 broken_read first now None left written held held' before g k = tt
 broken_read first now (Some input) None written held held' before g k = absurd g
 broken_read first now (Some input) (Some rest) written held held' before g k =
@@ -178,7 +178,7 @@ broken_read first now (Some input) (Some rest) written held held' before g k =
     }
 
 -- a write failed
-pub broken_write : (first now next : World) (old left left' written held held' : Option (List ℕ)) (before : ℕ) (P : List ℕ → Type 0)
+pub broken_write : (first now next : SessionState) (old left left' written held held' : Option (List ℕ)) (before : ℕ) (P : List ℕ → Type 0)
     → Going first now old left written held before → TakesLine left left' P
     → ((bytes : List ℕ) → P bytes → (text : List ℕ) × (ended : Bool) × IsReply now bytes text next ended × ((n : ℕ) × Appends held held' (take n text)))
     → Tells Began first old written held' before next

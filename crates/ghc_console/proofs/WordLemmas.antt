@@ -128,7 +128,7 @@ no_point word plain = ap goal_of_parts (split-last 46 word plain)
 ascii_name : (b : ℕ) → is_name_byte b ≡ true → b < 128
 ascii_name b e = grind (arith, e)
 
-ascii_names : (bytes : List ℕ) → list_all is_name_byte bytes ≡ true → IsAscii bytes
+pub ascii_names : (bytes : List ℕ) → list_all is_name_byte bytes ≡ true → IsAscii bytes
 ascii_names [] e i = omega arith
 ascii_names (b ∷ bytes) e zero = ascii_name b (grind (arith, e))
 ascii_names (b ∷ bytes) e (suc i) = ascii_names bytes (grind (arith, e)) i

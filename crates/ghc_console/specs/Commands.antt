@@ -3,9 +3,10 @@ use Rattle.std.specs.Prelude.{ℕ, Option, None, Some, if◌then◌else◌, List
 use Rattle.std.specs.List.{list_all}
 use Rattle.std.specs.Str.{bytes_eq}
 use Rattle.ghc_term.specs.declared.goal_name.GoalName.{GoalName}
-use Rattle.ghc_console.specs.Words.{goal_name_of, is_printable, is_variable, number_of, numbers_of, words_of}
+use Rattle.ghc_console.specs.Words.{behind, goal_name_of, is_printable, is_variable, number_of, numbers_of, words_of}
+use Rattle.ghc_console.specs.PredicateWords.{predicate_of}
 use Rattle.ghc_console.specs.declared.command.LineCommand.{LineCommand}
-use Rattle.ghc_console.specs.declared.command.LineCommand.TheVariants.{Nothing, Step, Undo, Redo, Roll, Arrange, Show, Records, Goals, Why, Who, Shelf, Quit, Unknown}
+use Rattle.ghc_console.specs.declared.command.LineCommand.TheVariants.{Nothing, Step, Undo, Redo, Roll, Arrange, Show, Records, Goals, Why, Who, Shelf, Spy, Unspy, Input, Close, Quit, Unknown}
 
 -- A step with the goal, by the least clause that accepts, where the word named one.
 abbrev pub step_with : Option GoalName → LineCommand
@@ -25,12 +26,13 @@ command_of_one_word name = if bytes_eq name (codes "records") then Records
     else (if bytes_eq name (codes "shelf") then Shelf
     else (if bytes_eq name (codes "quit") then Quit else Unknown)))
 
--- The command of a word with a number: `undo N`, `redo N`, `roll N` or `why N`.
+-- The command of a word with a number: `undo N`, `redo N`, `roll N`, `why N` or `end K`.
 abbrev pub command_with_number : List ℕ → ℕ → LineCommand
 command_with_number name number = if bytes_eq name (codes "undo") then Undo number
     else (if bytes_eq name (codes "redo") then Redo number
     else (if bytes_eq name (codes "roll") then Roll number
-    else (if bytes_eq name (codes "why") then Why number else Unknown)))
+    else (if bytes_eq name (codes "why") then Why number
+    else (if bytes_eq name (codes "end") then Close number else Unknown))))
 
 -- The same, where the word behind said a number.
 abbrev pub numbered : List ℕ → Option ℕ → LineCommand
@@ -42,10 +44,22 @@ abbrev pub command_with_variable : List ℕ → List ℕ → LineCommand
 command_with_variable name word = if bytes_eq name (codes "show") then Show word
     else (if bytes_eq name (codes "who") then Who word else Unknown)
 
--- The command of a word and one more: `step G`, or one with a variable or a number.
+-- The spying of the predicate, where the word named one.
+abbrev pub spy_with : Option (List ℕ × ℕ) → LineCommand
+spy_with (Some named) = Spy named.0 named.1
+spy_with None = Unknown
+
+-- The spying of the predicate no more, where the word named one.
+abbrev pub unspy_with : Option (List ℕ × ℕ) → LineCommand
+unspy_with (Some named) = Unspy named.0 named.1
+unspy_with None = Unknown
+
+-- The command of a word and one more: `step G`, one with a predicate, or one with a variable or a number.
 abbrev pub command_of_two_words : List ℕ → List ℕ → LineCommand
 command_of_two_words name word = if bytes_eq name (codes "step") then step_with (goal_name_of word)
-    else (if is_variable word then command_with_variable name word else numbered name (number_of word))
+    else (if bytes_eq name (codes "spy") then spy_with (predicate_of word)
+    else (if bytes_eq name (codes "nospy") then unspy_with (predicate_of word)
+    else (if is_variable word then command_with_variable name word else numbered name (number_of word))))
 
 -- The command of a word and two more: `step G C`.
 abbrev pub command_of_three_words : List ℕ → List ℕ → List ℕ → LineCommand
@@ -63,11 +77,23 @@ abbrev pub arrange_with : Option (List ℕ) → LineCommand
 arrange_with (Some order) = Arrange order
 arrange_with None = Unknown
 
--- The command of these words: `arrange` takes any number of words behind it.
-abbrev pub command_of_words : List (List ℕ) → LineCommand
-command_of_words [] = Nothing
-command_of_words (name ∷ words) = if bytes_eq name (codes "arrange") then arrange_with (numbers_of words) else command_by_count name words
+-- An input of the text to the stream of this number, where the word said one, and there is a text.
+abbrev pub input_with : Option ℕ → List ℕ → LineCommand
+input_with (Some stream) (byte ∷ bytes) = Input stream (byte ∷ bytes)
+input_with (Some stream) [] = Unknown
+input_with None text = Unknown
+
+-- An input of the text to the stream that the first of the words says.
+abbrev pub input_to : List (List ℕ) → List ℕ → LineCommand
+input_to [] text = Unknown
+input_to (stream ∷ words) text = input_with (number_of stream) text
+
+-- The command of these words, with the text that stands behind the first two: `arrange` takes any number of words behind it, and `in K T` a number and that text.
+abbrev pub command_of_words : List (List ℕ) → List ℕ → LineCommand
+command_of_words [] text = Nothing
+command_of_words (name ∷ words) text = if bytes_eq name (codes "arrange") then arrange_with (numbers_of words)
+    else (if bytes_eq name (codes "in") then input_to words text else command_by_count name words)
 
 -- The command that a line says. With a byte that is not printable it says none that is known.
 abbrev pub command_of : List ℕ → LineCommand
-command_of line = if list_all is_printable line then command_of_words (words_of line) else Unknown
+command_of line = if list_all is_printable line then command_of_words (words_of line) (behind 2 line) else Unknown

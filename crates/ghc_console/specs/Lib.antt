@@ -3,8 +3,10 @@ pub mod Script
 pub mod Lines
 pub mod Reading
 pub mod Words
+pub mod PredicateWords
 pub mod Commands
 pub mod VariableNamed
+pub mod SessionState
 pub mod Replies
 pub mod Told
 pub mod Session

@@ -1,4 +1,4 @@
--- The replies to lines: what is written for each, and which world it leaves.
+-- The replies to lines: what is written for each, and which state it leaves.
 use Rattle.std.specs.Prelude.{◌≡◌, ◌≢◌, ◌⊎◌, ◌<◌, ◌≤◌, ℕ, Bool, true, false, List, [], ◌∷◌, ◌++◌, codes, length, map, Option, Some}
 use Rattle.std.specs.Fmt.{decimal}
 use Rattle.std.specs.FinMap as finite
@@ -7,9 +7,12 @@ use Rattle.ghc_term.specs.declared.goal_name.GoalName.{GoalName}
 use Rattle.ghc_term.specs.declared.fault.Fault.{Fault}
 use Rattle.ghc_term.specs.declared.limit.Limit.TheVariants as limit
 use Rattle.ghc_term.specs.Fault.{fault_text}
-use Rattle.ghc_term.specs.Tree.{variable}
+use Rattle.ghc_term.specs.Tree.{Tree, variable}
 use Rattle.ghc_term.specs.Store.{value_at}
 use Rattle.ghc_term.specs.Resolved.{IsTextOf}
+use Rattle.ghc_flat.specs.Clause.{Program}
+use Rattle.ghc_reader.specs.Tests.{a_term, IsRefusal}
+use Rattle.ghc_reader.specs.Read.{IsReadTerm}
 use Rattle.ghc_fire.specs.Attempt.{proposes, refused}
 use Rattle.ghc_fire.specs.Proposal.{Proposal}
 use Rattle.ghc_records.specs.Slots.{SlotList, StandsIn}
@@ -21,6 +24,7 @@ use Rattle.ghc_core.specs.World.{World, IsFull, with_step}
 use Rattle.ghc_core.specs.Events.{Reply, stepped, undone, arranged, refused as event_refused}
 use Rattle.ghc_core.specs.Proposes.{AttemptAnswers, IsCommitOf}
 use Rattle.ghc_core.specs.Reverses.{Undoes, Redoes, Rolls, Arranges}
+use Rattle.ghc_core.specs.Streams.{Inputs, Finishes}
 use Rattle.ghc_trace.specs.Ports.{Port, ArePorts}
 use Rattle.ghc_trace.specs.PortText.{ports_text}
 use Rattle.ghc_trace.specs.News.{Standing, AreNews, news_text}
@@ -33,8 +37,9 @@ use Rattle.ghc_trace.specs.Who.{AreBindersTold, binder_text}
 use Rattle.ghc_console.specs.VariableNamed.{IsVariableNamed}
 use Rattle.ghc_console.specs.Commands.{command_of}
 use Rattle.ghc_console.specs.declared.command.LineCommand.{LineCommand}
-use Rattle.ghc_console.specs.declared.command.LineCommand.TheVariants.{Nothing as nothing, Step as step, Undo as undo, Redo as redo, Roll as roll, Arrange as arrange, Show as show, Records as records, Goals as goals, Why as why, Who as who, Shelf as shelf, Quit as quit, Unknown as unknown}
+use Rattle.ghc_console.specs.declared.command.LineCommand.TheVariants.{Nothing as nothing, Step as step, Undo as undo, Redo as redo, Roll as roll, Arrange as arrange, Show as show, Records as records, Goals as goals, Why as why, Who as who, Shelf as shelf, Spy as spy, Unspy as unspy, Input as input, Close as close, Quit as quit, Unknown as unknown}
 use Rattle.ghc_console.specs.Reading.{line_limit}
+use Rattle.ghc_console.specs.SessionState.{SessionState, HasClauseFor, LeavesSpies, predicate_text}
 
 -- the text as a line
 abbrev pub lined : List ℕ → List ℕ
@@ -72,10 +77,15 @@ numbers_text numbers = listed (codes ",") (map decimal numbers)
 abbrev pub undone_text : List ℕ → List ℕ
 undone_text numbers = lined (codes "undone " ++ numbers_text numbers)
 
--- IsToldAs w v reply text: the text tells which steps were undone, or the ports of the step that was put back, or that the record was arranged, and what is stuck then; or why nothing was done.
+-- TellsStep w r text v: the step r is taken, which leaves the world v; the text tells its ports, and what is stuck then.
+abbrev pub TellsStep : World → Record → List ℕ → World → Type 0
+TellsStep w r text v = (ports : List Port) × ArePorts w r ports × (v ≡ with_step r w) × Settled w v (ports_text ports) text
+
+-- IsToldAs w v reply text: the text tells which steps were undone, or the ports of the step that was put back or is new, or that the record was arranged, and what is stuck then; or why nothing was done.
 pub data IsToldAs (w v : World) : Reply → List ℕ → Type 0 where
   tells_steps : {steps text : List ℕ} → Settled w v (undone_text steps) text → IsToldAs w v (undone steps) text
   tells_ports : {n : ℕ} {r : Record} {ports : List Port} {text : List ℕ} → finite.get w.shelf n ≡ Some r → ArePorts w r ports → Settled w v (ports_text ports) text → IsToldAs w v (stepped n) text
+  tells_new : (r : Record) {n : ℕ} {text : List ℕ} → TellsStep w r text v → IsToldAs w v (stepped n) text
   tells_order : {text : List ℕ} → Settled w v (lined (codes "arranged")) text → IsToldAs w v arranged text
   tells_why : {f : Fault} {text : List ℕ} → text ≡ refusal f → IsToldAs w v (event_refused f) text
 
@@ -94,6 +104,19 @@ PutsBack w n text v = (reply : Reply) × Redoes ⊥ w n reply v × IsToldAs w v 
 -- Reorders w order text v: the text tells the reply to putting the record into the order, which leaves the world v.
 abbrev pub Reorders : World → List ℕ → List ℕ → World → Type 0
 Reorders w order text v = (reply : Reply) × Arranges ⊥ w order reply v × IsToldAs w v reply text
+
+-- Gives w k u text v: the text tells the reply to giving stream k the input u, which leaves the world v.
+abbrev pub Gives : World → ℕ → Tree → List ℕ → World → Type 0
+Gives w k u text v = (reply : Reply) × Inputs ⊥ w k u reply v × IsToldAs w v reply text
+
+-- Closes w k text v: the text tells the reply to closing stream k, which leaves the world v.
+abbrev pub Closes : World → ℕ → List ℕ → World → Type 0
+Closes w k text v = (reply : Reply) × Finishes ⊥ w k reply v × IsToldAs w v reply text
+
+-- RepliesToInput w k given text v: a test of the reader refuses what is given, whatever stream k is; or it is read as a term, which the stream gets.
+pub data RepliesToInput (w : World) (k : ℕ) (given : List ℕ) : List ℕ → World → Type 0 where
+  unread : {f : Fault} → IsRefusal a_term given f → RepliesToInput w k given (refusal f) w
+  reads : (u : Tree) {text : List ℕ} {v : World} → IsReadTerm given u → Gives w k u text v → RepliesToInput w k given text v
 
 -- RepliesToShow w word text: the variable that the word names, and the term to which it leads; or the refusal where it names none, or the term is too long.
 pub data RepliesToShow (w : World) (word : List ℕ) : List ℕ → Type 0 where
@@ -151,6 +174,11 @@ pub data RepliesToWho (w : World) (word : List ℕ) : List ℕ → Type 0 where
   tells_binders : (x : VarName) (binders : List Binder) → IsVariableNamed w word x → AreBindersTold w x binders → RepliesToWho w word (lines_or_none (map binder_text binders))
   names_nothing : ((x : VarName) → ¬ IsVariableNamed w word x) → RepliesToWho w word (refusal Fault.NoVariable)
 
+-- RepliesToSpy P f n text: the text says that the predicate is spied; or it is the refusal, where the program has no clause for it.
+pub data RepliesToSpy (P : Program) (f : List ℕ) (n : ℕ) : List ℕ → Type 0 where
+  is_spied : HasClauseFor P f n → RepliesToSpy P f n (lined (codes "spying " ++ predicate_text f n))
+  is_undefined : ¬ HasClauseFor P f n → RepliesToSpy P f n (refusal (Fault.Undefined f n))
+
 -- Replies w c text v: the reply to the command c in the world w is the text, and it leaves the world v.
 abbrev pub Replies : World → LineCommand → List ℕ → World → Type 0
 Replies w nothing text v = (text ≡ []) × (v ≡ w)
@@ -165,6 +193,10 @@ Replies w goals text v = RepliesToGoals w text × (v ≡ w)
 Replies w (why n) text v = RepliesToWhy w n text × (v ≡ w)
 Replies w (who word) text v = RepliesToWho w word text × (v ≡ w)
 Replies w shelf text v = (text ≡ shelf_text w.shelf) × (v ≡ w)
+Replies w (spy f n) text v = RepliesToSpy w.opening.program f n text × (v ≡ w)
+Replies w (unspy f n) text v = (text ≡ lined (codes "not spying " ++ predicate_text f n)) × (v ≡ w)
+Replies w (input k given) text v = RepliesToInput w k given text v
+Replies w (close k) text v = Closes w k text v
 Replies w quit text v = (text ≡ []) × (v ≡ w)
 Replies w unknown text v = (text ≡ refusal Fault.Command) × (v ≡ w)
 
@@ -182,12 +214,21 @@ quits goals = false
 quits (why n) = false
 quits (who word) = false
 quits shelf = false
+quits (spy f n) = false
+quits (unspy f n) = false
+quits (input k given) = false
+quits (close k) = false
 quits quit = true
 quits unknown = false
 
--- IsReply w line text v ended: the text is the reply to the line in the world w, which leaves the world v, and the session ends or goes on. A line past the limit is refused; and each line may find no memory, which changes nothing.
-pub data IsReply (w : World) (line : List ℕ) : List ℕ → World → Bool → Type 0 where
-  replies : {text : List ℕ} {v : World} → length line ≤ line_limit → Replies w (command_of line) text v
-      → IsReply w line text v (quits (command_of line))
-  too_long : line_limit < length line → IsReply w line (refusal (Fault.Limit limit.Line)) w false
-  no_memory : IsReply w line (refusal Fault.Memory) w false
+-- Answers s c text t: the reply to the command c in the state s is the text, and it leaves the state t.
+pub record Answers (s : SessionState) (c : LineCommand) (text : List ℕ) (t : SessionState) : Type 0 where
+  pub told : Replies s.world c text t.world
+  pub spies : LeavesSpies s.world.opening.program s.spies c t.spies
+
+-- IsReply s line text t ended: the text is the reply to the line in the state s, which leaves the state t, and the session ends or goes on. A line past the limit is refused; and each line may find no memory, which changes nothing.
+pub data IsReply (s : SessionState) (line : List ℕ) : List ℕ → SessionState → Bool → Type 0 where
+  replies : {text : List ℕ} {t : SessionState} → length line ≤ line_limit → Answers s (command_of line) text t
+      → IsReply s line text t (quits (command_of line))
+  too_long : line_limit < length line → IsReply s line (refusal (Fault.Limit limit.Line)) s false
+  no_memory : IsReply s line (refusal Fault.Memory) s false

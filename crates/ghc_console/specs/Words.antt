@@ -1,5 +1,5 @@
 -- The words of a line, and the forms that words have.
-use Rattle.std.specs.Prelude.{ℕ, ◌&&◌, ◌||◌, ◌==◌, Bool, false, not, nat_le, if◌then◌else◌, Option, None, Some, List, [], ◌∷◌, filter, length}
+use Rattle.std.specs.Prelude.{ℕ, zero, suc, ◌&&◌, ◌||◌, ◌==◌, Bool, false, not, nat_le, if◌then◌else◌, Option, None, Some, List, [], ◌∷◌, filter, length}
 use Rattle.std.specs.Char.{is_ascii_digit, is_ascii_uppercase}
 use Rattle.std.specs.List.{list_all, slice_split}
 use Rattle.std.specs.Str.Parse.{digits_value}
@@ -13,6 +13,21 @@ is_printable byte = nat_le 32 byte && nat_le byte 126
 -- The words of a line, which stand apart by one or more spaces.
 abbrev pub words_of : List ℕ → List (List ℕ)
 words_of line = filter (λ word. not (length word == 0)) (slice_split (λ byte. byte == 32) line)
+
+-- The line from its first byte on that is no space.
+abbrev pub unindented : List ℕ → List ℕ
+unindented [] = []
+unindented (byte ∷ bytes) = if byte == 32 then unindented bytes else byte ∷ bytes
+
+-- The line from its first space on.
+abbrev pub from_space : List ℕ → List ℕ
+from_space [] = []
+from_space (byte ∷ bytes) = if byte == 32 then byte ∷ bytes else from_space bytes
+
+-- What stands behind the first n words of a line, from the first byte on that is no space, to the end of the line.
+abbrev pub behind : ℕ → List ℕ → List ℕ
+behind zero line = unindented line
+behind (suc n) line = behind n (from_space (unindented line))
 
 -- The greatest number that a word may say.
 abbrev pub greatest_number : ℕ

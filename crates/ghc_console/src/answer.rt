@@ -4,46 +4,66 @@ ghost use Rattle.ghc_console.specs.Commands.{command_of};
 ghost use Rattle.ghc_console.specs.Firing.{Fires};
 ghost use Rattle.ghc_console.specs.Reading.{LineSays, line_limit};
 ghost use Rattle.ghc_console.specs.Replies.{IsReply, Replies, quits, refusal};
+ghost use Rattle.ghc_console.specs.SessionState.{LeavesSpies, state_of};
 
 use crate::arrange_reply::arrange;
 use crate::causes::{who, why};
 use crate::command::{LineCommand, parse};
+use crate::debugger::Debugger;
+use crate::feed_reply::{close, input};
 use crate::reading::Line;
 use crate::redo_reply::redo;
 use crate::reply::{goals, records, refused, show, step};
 use crate::roll_reply::roll;
 use crate::shelf_reply::shelf;
+use crate::spy_reply::{spy, unspy};
 use crate::undo_reply::undo;
-use ghc_core::Core;
 use ghc_term::{Fault, Limit};
 use std::alloc::{AllocError, Global};
 
-// Carries a command out, and writes the reply. An error leaves the world as it was.
+// Carries a command out, and writes the reply. An error leaves the state as it was.
 fn execute(
     alloc: Global,
-    core: &mut Core,
+    debugger: &mut Debugger,
     command: &LineCommand,
     reply: &mut String,
 ) -> Result<(), AllocError>
     requires { string_bytes reply.old ≡ [] }
-    ensures reply { OnOk result (Replies core.old.world command.now (string_bytes reply.new) core.new.world) }
-    ensures err { OnErr result (core.new.world ≡ core.old.world) }
-    ensures opening { core.new.world.opening ≡ core.old.world.opening }
-    ensures fires { Fires command.now core.old.meter.firings core.new.meter.firings }
+    ensures reply { OnOk result (Replies debugger.old.core.world command.now (string_bytes reply.new) debugger.new.core.world) }
+    ensures spies { OnOk result (LeavesSpies debugger.old.core.world.opening.program debugger.old.spies command.now debugger.new.spies) }
+    ensures world { OnErr result (debugger.new.core.world ≡ debugger.old.core.world) }
+    ensures kept { OnErr result (debugger.new.spies ≡ debugger.old.spies) }
+    ensures opening { debugger.new.core.world.opening ≡ debugger.old.core.world.opening }
+    ensures fires { Fires command.now debugger.old.core.meter.firings debugger.new.core.meter.firings }
 {
     match command {
         LineCommand::Nothing | LineCommand::Quit => Ok(()),
-        LineCommand::Step(goal, choice) => step(alloc, core, *goal, *choice, reply),
-        LineCommand::Undo(number) => undo(alloc, core, *number, reply),
-        LineCommand::Redo(number) => redo(alloc, core, *number, reply),
-        LineCommand::Roll(number) => roll(alloc, core, *number, reply),
-        LineCommand::Arrange(order) => arrange(alloc, core, order.as_slice(), reply),
-        LineCommand::Show(word) => show(alloc, core, word.as_str(), reply),
-        LineCommand::Records => records(core, reply),
-        LineCommand::Goals => goals(alloc, core, reply),
-        LineCommand::Why(number) => why(alloc, core, *number, reply),
-        LineCommand::Who(word) => who(alloc, core, word.as_str(), reply),
-        LineCommand::Shelf => shelf(alloc, core, reply),
+        LineCommand::Step(goal, choice) => step(alloc, &mut debugger.core, *goal, *choice, reply),
+        LineCommand::Undo(number) => undo(alloc, &mut debugger.core, *number, reply),
+        LineCommand::Redo(number) => redo(alloc, &mut debugger.core, *number, reply),
+        LineCommand::Roll(number) => roll(alloc, &mut debugger.core, *number, reply),
+        LineCommand::Arrange(order) => arrange(alloc, &mut debugger.core, order.as_slice(), reply),
+        LineCommand::Show(word) => show(alloc, &debugger.core, word.as_str(), reply),
+        LineCommand::Records => records(&debugger.core, reply),
+        LineCommand::Goals => goals(alloc, &mut debugger.core, reply),
+        LineCommand::Why(number) => why(alloc, &debugger.core, *number, reply),
+        LineCommand::Who(word) => who(alloc, &debugger.core, word.as_str(), reply),
+        LineCommand::Shelf => shelf(alloc, &debugger.core, reply),
+        LineCommand::Spy(name, arity) => {
+            spy(
+                alloc,
+                &debugger.core,
+                &mut debugger.spies,
+                name,
+                *arity,
+                reply,
+            )
+        }
+        LineCommand::Unspy(name, arity) => unspy(alloc, &mut debugger.spies, name, *arity, reply),
+        LineCommand::Input(stream, text) => {
+            input(alloc, &mut debugger.core, *stream, text.as_slice(), reply)
+        }
+        LineCommand::Close(stream) => close(alloc, &mut debugger.core, *stream, reply),
         LineCommand::Unknown => refused(&Fault::Command, reply),
     }
 }
@@ -61,22 +81,22 @@ fn is_quit(command: &LineCommand) -> bool
 // Carries a whole line out, writes the reply, and says whether the session ends.
 fn execute_line(
     alloc: Global,
-    core: &mut Core,
+    debugger: &mut Debugger,
     line: &[u8],
     reply: &mut String,
 ) -> Result<bool, AllocError>
     requires { string_bytes reply.old ≡ [] }
-    ensures ok { length line.now ≤ line_limit → IfOk result (λ ended. IsReply core.old.world line.now (string_bytes reply.new) core.new.world ended) }
-    ensures err { OnErr result (core.new.world ≡ core.old.world) }
-    ensures opening { core.new.world.opening ≡ core.old.world.opening }
-    ensures fires { Fires (command_of line.now) core.old.meter.firings core.new.meter.firings }
+    ensures ok { length line.now ≤ line_limit → IfOk result (λ ended. IsReply (state_of debugger.old) line.now (string_bytes reply.new) (state_of debugger.new) ended) }
+    ensures err { OnErr result (state_of debugger.new ≡ state_of debugger.old) }
+    ensures opening { debugger.new.core.world.opening ≡ debugger.old.core.world.opening }
+    ensures fires { Fires (command_of line.now) debugger.old.core.meter.firings debugger.new.core.meter.firings }
 {
     let command = match parse(alloc, line) {
         Ok(command) => command,
         Err(error) => return Err(error),
     };
     let ended = is_quit(&command);
-    match execute(alloc, core, &command, reply) {
+    match execute(alloc, debugger, &command, reply) {
         Ok(()) => Ok(ended),
         Err(error) => Err(error),
     }
@@ -86,19 +106,19 @@ fn execute_line(
 /// was refused, which is the reply then.
 pub fn answer(
     alloc: Global,
-    core: &mut Core,
+    debugger: &mut Debugger,
     line: &Line,
     reply: &mut String,
 ) -> Result<bool, AllocError>
     ensures reply { (bytes : List ℕ) → LineSays line.now bytes → MatchResult result
-        (λ ended. IsReply core.old.world bytes (string_bytes reply.new) core.new.world ended)
-        (λ _. IsReply core.old.world bytes (refusal Fault.Memory) core.new.world false) }
-    ensures opening { core.new.world.opening ≡ core.old.world.opening }
-    ensures fires { (bytes : List ℕ) → LineSays line.now bytes → Fires (command_of bytes) core.old.meter.firings core.new.meter.firings }
+        (λ ended. IsReply (state_of debugger.old) bytes (string_bytes reply.new) (state_of debugger.new) ended)
+        (λ _. IsReply (state_of debugger.old) bytes (refusal Fault.Memory) (state_of debugger.new) false) }
+    ensures opening { debugger.new.core.world.opening ≡ debugger.old.core.world.opening }
+    ensures fires { (bytes : List ℕ) → LineSays line.now bytes → Fires (command_of bytes) debugger.old.core.meter.firings debugger.new.core.meter.firings }
 {
     reply.clear();
     match line {
-        Line::Whole(bytes) => execute_line(alloc, core, bytes.as_slice(), reply),
+        Line::Whole(bytes) => execute_line(alloc, debugger, bytes.as_slice(), reply),
         Line::TooLong => match refused(&Fault::Limit(Limit::Line), reply) {
             Ok(()) => Ok(false),
             Err(error) => Err(error),

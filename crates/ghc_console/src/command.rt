@@ -1,13 +1,15 @@
 // The command of a line.
 ghost use Rattle.std.specs.Prelude.{◌≡◌, true, IfOk};
 ghost use Rattle.std.specs.List.{list_all};
-ghost use Rattle.ghc_console.specs.Words.{is_printable, is_variable, numbers_of, words_of};
-ghost use Rattle.ghc_console.specs.Commands.{arrange_with, command_by_count, command_of, command_of_one_word, command_of_three_words, command_of_two_words, command_of_words, command_with_number, command_with_variable};
+ghost use Rattle.ghc_console.specs.Words.{behind, is_printable, is_variable, numbers_of, words_of};
+ghost use Rattle.ghc_console.specs.Commands.{arrange_with, command_by_count, command_of, command_of_one_word, command_of_three_words, command_of_two_words, command_of_words, command_with_number, command_with_variable, input_to};
 
+use crate::input_text::InputText;
 use crate::order::Order;
+use crate::predicate_words::{spy_command, unspy_command};
 use crate::word::Word;
-use crate::words::{goal_name, is_variable_word, next_word, number};
-use ghc_term::GoalName;
+use crate::words::{goal_name, is_variable_word, next_word, number, unindented};
+use ghc_term::{GoalName, Name};
 use std::alloc::{AllocError, Global};
 
 /// What a line asks for.
@@ -37,6 +39,14 @@ pub enum LineCommand {
     Who(Word),
     /// The steps that were taken back.
     Shelf,
+    /// The spying of the predicate of this name and arity.
+    Spy(Name, u32),
+    /// The spying no more of the predicate of this name and arity.
+    Unspy(Name, u32),
+    /// The input of what the text says to the stream of this number.
+    Input(u32, InputText),
+    /// The closing of the stream of this number.
+    Close(u32),
     /// The end of the session.
     Quit,
     /// No command that is known.
@@ -89,6 +99,9 @@ fn number_command(first_word: &[u8], step: u32) -> LineCommand
     if first_word == b"why".as_slice() {
         return LineCommand::Why(step);
     }
+    if first_word == b"end".as_slice() {
+        return LineCommand::Close(step);
+    }
     LineCommand::Unknown
 }
 
@@ -123,6 +136,12 @@ fn two_word_command(
             Some(goal) => Ok(LineCommand::Step(goal, None)),
             None => Ok(LineCommand::Unknown),
         };
+    }
+    if first_word == b"spy".as_slice() {
+        return spy_command(alloc, word);
+    }
+    if first_word == b"nospy".as_slice() {
+        return unspy_command(alloc, word);
     }
     if is_variable_word(word) {
         return variable_command(alloc, first_word, word);
@@ -178,15 +197,35 @@ fn arrange_command(alloc: Global, words: &[u8]) -> Result<LineCommand, AllocErro
     Ok(LineCommand::Arrange(order))
 }
 
+// The input to the stream that the first word says, of all that stands behind the spaces behind it.
+fn input_command(alloc: Global, words: &[u8]) -> Result<LineCommand, AllocError>
+    ensures { IfOk result (λ command. command ≡ input_to (words_of words.now) (behind 1 words.now)) }
+{
+    let Some((stream, rest)) = next_word(words) else {
+        return Ok(LineCommand::Unknown);
+    };
+    let Some(stream) = number(stream) else {
+        return Ok(LineCommand::Unknown);
+    };
+    let text = unindented(rest);
+    if text.is_empty() {
+        return Ok(LineCommand::Unknown);
+    }
+    Ok(LineCommand::Input(stream, InputText::new(alloc, text)?))
+}
+
 // The command of a line of printable bytes.
 fn of_line(alloc: Global, line: &[u8]) -> Result<LineCommand, AllocError>
-    ensures { IfOk result (λ command. command ≡ command_of_words (words_of line.now)) }
+    ensures { IfOk result (λ command. command ≡ command_of_words (words_of line.now) (behind 2 line.now)) }
 {
     let Some((name, behind)) = next_word(line) else {
         return Ok(LineCommand::Nothing);
     };
     if name == b"arrange".as_slice() {
         return arrange_command(alloc, behind);
+    }
+    if name == b"in".as_slice() {
+        return input_command(alloc, behind);
     }
     counted_command(alloc, name, behind)
 }
@@ -198,8 +237,8 @@ fn is_plain(line: &[u8]) -> bool
 }
 
 /// The command that a line says; a line that says none is `Unknown`. It takes time in proportion to the
-/// line, and memory for the word of `show` or `who` and for the
-/// numbers of `arrange` alone.
+/// line, and memory for the word of `show` or `who`, for the name of `spy` or `nospy`, for the numbers of `arrange` and for the
+/// text of `in` alone.
 pub fn parse(alloc: Global, line: &[u8]) -> Result<LineCommand, AllocError>
     ensures { IfOk result (λ command. command ≡ command_of line.now) }
 {

@@ -1,15 +1,14 @@
 // The replies to commands, each written into a text that is empty before. Where one gives up, what stands there is no reply.
 ghost use Rattle.std.specs.Prelude.{◌≡◌, ◌≢◌, ◌⊎◌, ◌++◌, [], List, OnErr, OnOk, codes, string_bytes};
 ghost use Rattle.ghc_fire.specs.Meter.{one_more};
-ghost use Rattle.ghc_fire.specs.Proposal.{Proposal as proposal_spec};
 ghost use Rattle.ghc_records.specs.Replay.{MakesGoal};
 ghost use Rattle.ghc_depend.specs.Depend.{Binds};
-ghost use Rattle.ghc_core.specs.Proposes.{IsCommitOf};
+ghost use Rattle.ghc_core.specs.World.{IsNextStep};
 ghost use Rattle.ghc_trace.specs.Disturbed.{AreDisturbed};
 ghost use Rattle.ghc_trace.specs.Laws.{IsSettled};
 ghost use Rattle.ghc_trace.specs.Ports.{Port, ArePorts};
 ghost use Rattle.ghc_trace.specs.PortText.{ports_text};
-ghost use Rattle.ghc_console.specs.Replies.{RepliesToStep, RepliesToShow, RepliesToGoals, Takes, lined, record_lines, TellsSlot, records_text, refusal};
+ghost use Rattle.ghc_console.specs.Replies.{RepliesToStep, RepliesToShow, RepliesToGoals, TellsStep, lined, record_lines, TellsSlot, records_text, refusal};
 
 use crate::asking::variable_named;
 use crate::settled::{make, settle};
@@ -54,8 +53,8 @@ pub fn push_ports(
     Ok(())
 }
 
-// Tells the ports of the step, takes it, and tells what is stuck then.
-fn take(
+/// Tells the ports of the step, takes it, and tells what is stuck then. An error leaves the world as it was.
+pub(crate) fn take(
     alloc: Global,
     core: &mut Core,
     addition: Addition,
@@ -63,8 +62,8 @@ fn take(
 ) -> Result<(), AllocError>
     requires empty { string_bytes reply.old ≡ [] }
     requires settled { IsSettled core.old.world core.old.notes }
-    requires found { (p : proposal_spec) × IsCommitOf core.old.world p addition }
-    ensures text { OnOk result ((p : proposal_spec) → IsCommitOf core.old.world p addition → Takes core.old.world p (string_bytes reply.new) core.new.world) }
+    requires found { IsNextStep core.old.world addition }
+    ensures told { OnOk result (TellsStep core.old.world addition (string_bytes reply.new) core.new.world) }
     ensures err { OnErr result (core.new.world ≡ core.old.world) }
     ensures firings { core.new.meter.firings ≡ core.old.meter.firings }
 {

@@ -7,12 +7,13 @@ ghost use Rattle.ghc_console.specs.Firing.{Fires, firings_in};
 ghost use Rattle.ghc_console.specs.Lines.{lines_of};
 ghost use Rattle.ghc_console.specs.Reading.{LineSays};
 ghost use Rattle.ghc_console.specs.Session.{Began, Served, Session, Tells};
+ghost use Rattle.ghc_console.specs.SessionState.{state_of};
 
 use crate::answer::answer;
+use crate::debugger::Debugger;
 use crate::device::{Broken, Device, write_all};
 use crate::reading::{Ahead, Line};
 use crate::settled::settle;
-use ghc_core::Core;
 use ghc_term::Fault;
 use std::alloc::Global;
 use std::sync::Wait;
@@ -30,21 +31,21 @@ fn cut_down(alloc: Global, reply: &mut String) {
 // Carries a line out and writes its reply. It says whether the session ends.
 fn serve<D: Device>(
     alloc: Global,
-    core: &mut Core,
+    debugger: &mut Debugger,
     device: &mut D,
     line: &Line,
     reply: &mut String,
 ) -> Result<bool, Broken>
     ensures served { (bytes : List ℕ) → LineSays line.now bytes
-        → Served core.old.world bytes core.new.world (D.written device.old) (D.written device.new) result }
-    ensures opening { core.new.world.opening ≡ core.old.world.opening }
-    ensures fires { (bytes : List ℕ) → LineSays line.now bytes → Fires (command_of bytes) core.old.meter.firings core.new.meter.firings }
+        → Served (state_of debugger.old) bytes (state_of debugger.new) (D.written device.old) (D.written device.new) result }
+    ensures opening { debugger.new.core.world.opening ≡ debugger.old.core.world.opening }
+    ensures fires { (bytes : List ℕ) → LineSays line.now bytes → Fires (command_of bytes) debugger.old.core.meter.firings debugger.new.core.meter.firings }
     ensures unread { Keeps (D.unread device.old) (D.unread device.new) }
     ensures count { Counts (D.failures device.old) (D.failures device.new) result }
     ensures earlier { D.earlier device.new ≡ D.earlier device.old }
     ensures latest { D.latest device.new ≡ D.latest device.old }
 {
-    match answer(alloc, core, line, reply) {
+    match answer(alloc, debugger, line, reply) {
         Ok(ended) => match write_all(device, reply.as_bytes()) {
             Ok(()) => Ok(ended),
             Err(Broken) => Err(Broken),
@@ -57,42 +58,42 @@ fn serve<D: Device>(
 }
 
 /// Settles, and answers the lines of the device, up to `quit` or the end of the input. Where a call of the device fails it ends
-/// with `Device`, and the core is that after the last line executed. Each line costs what its command costs.
+/// with `Device`, and the debugger is that after the last line executed. Each line costs what its command costs.
 pub fn session<R: Wait, D: Device>(
     rt: &R,
     alloc: Global,
-    core: Core,
+    debugger: Debugger,
     device: &mut D,
-) -> (Core, Result<(), Fault>)
+) -> (Debugger, Result<(), Fault>)
     // What is written is the replies to the lines, or a beginning of them where the device failed; and no read is made
     // where a line that ends the session is there.
     ensures text { MatchResult result.1
-        (λ _. Tells Session core.world (D.unread device.old) (D.written device.old) (D.written device.new)
-        (D.earlier device.new - (D.earlier device.old + D.latest device.old)) result.0.world)
-        (λ _. Tells Began core.world (D.unread device.old) (D.written device.old) (D.written device.new)
-        (D.earlier device.new - (D.earlier device.old + D.latest device.old)) result.0.world) }
-    ensures opening { result.0.world.opening ≡ core.world.opening }
+        (λ _. Tells Session (state_of debugger) (D.unread device.old) (D.written device.old) (D.written device.new)
+        (D.earlier device.new - (D.earlier device.old + D.latest device.old)) (state_of result.0))
+        (λ _. Tells Began (state_of debugger) (D.unread device.old) (D.written device.old) (D.written device.new)
+        (D.earlier device.new - (D.earlier device.old + D.latest device.old)) (state_of result.0)) }
+    ensures opening { result.0.core.world.opening ≡ debugger.core.world.opening }
 
     // Where the bytes are known, each step of the lines fires at most once, and nothing else does.
-    ensures fires { IfSome (D.unread device.old) (λ input. result.0.meter.firings ≤ core.meter.firings + firings_in (lines_of input)) }
+    ensures fires { IfSome (D.unread device.old) (λ input. result.0.core.meter.firings ≤ debugger.core.meter.firings + firings_in (lines_of input)) }
 
     // It fails only where the device did.
     ensures failed { IfErr result.1 (λ e. (e ≡ Fault.Device) × (D.failures device.new ≡ D.failures device.old + 1)) }
     ensures ok { OnOk result.1 (D.failures device.new ≡ D.failures device.old) }
 {
-    let mut core = core;
+    let mut debugger = debugger;
     // Where memory is refused, the first line that asks for a change settles.
-    let _ = settle(alloc, &mut core);
+    let _ = settle(alloc, &mut debugger.core);
     let mut ahead = Ahead::new();
     let mut spare = Vec::new(alloc);
     let mut reply = String::new(alloc);
     for _ in rt.forever() {
         match ahead.next_line(rt, spare, device) {
-            Err(Broken) => return (core, Err(Fault::Device)),
-            Ok(None) => return (core, Ok(())),
-            Ok(Some(line)) => match serve(alloc, &mut core, device, &line, &mut reply) {
-                Err(Broken) => return (core, Err(Fault::Device)),
-                Ok(true) => return (core, Ok(())),
+            Err(Broken) => return (debugger, Err(Fault::Device)),
+            Ok(None) => return (debugger, Ok(())),
+            Ok(Some(line)) => match serve(alloc, &mut debugger, device, &line, &mut reply) {
+                Err(Broken) => return (debugger, Err(Fault::Device)),
+                Ok(true) => return (debugger, Ok(())),
                 Ok(false) => {
                     spare = line.into_spare(alloc);
                     cut_down(alloc, &mut reply);

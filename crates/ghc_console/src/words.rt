@@ -2,7 +2,7 @@
 ghost use Rattle.std.specs.Prelude.{◌≡◌, ◌≢◌, ◌∷◌, ◌++◌, ◌+◌, ◌<◌, All, [], length, take, drop, IfSome, IfNone};
 ghost use Rattle.std.specs.List.{list_all};
 ghost use Rattle.ghc_term.specs.InputTerm.{is_name_byte};
-ghost use Rattle.ghc_console.specs.Words.{begins_variable, goal_name_of, goal_named, is_variable, number_of, words_of};
+ghost use Rattle.ghc_console.specs.Words.{begins_variable, behind, goal_name_of, goal_named, is_variable, number_of, unindented as unindented_of, words_of};
 
 use ghc_term::GoalName;
 
@@ -21,6 +21,7 @@ pub(crate) fn first(bytes: &[u8], wanted: u8) -> Option<usize>
 pub fn next_word(line: &[u8]) -> Option<(&[u8], &[u8])>
     ensures found { IfSome result (λ parts. words_of line.now ≡ parts.0.now ∷ words_of parts.1.now) }
     ensures none { IfNone result (words_of line.now ≡ []) }
+    ensures rest { IfSome result (λ parts. unindented_of parts.1.now ≡ behind 1 line.now) }
 {
     let mut rest = line;
     while let Some(i) = first(rest, b' ') {
@@ -34,6 +35,20 @@ pub fn next_word(line: &[u8]) -> Option<(&[u8], &[u8])>
         return None;
     }
     Some((rest, &[]))
+}
+
+/// What stands in a line from its first byte on that is no space; nothing, where there is none. It takes time in proportion to
+/// the spaces in front, and no memory.
+pub fn unindented(line: &[u8]) -> &[u8]
+    ensures { result.now ≡ unindented_of line.now }
+{
+    let mut rest = line;
+    while let [first, behind @ ..] = rest
+        && *first == b' '
+    {
+        rest = behind;
+    }
+    rest
 }
 
 /// The number that a word says: digits with a value of at most 4,294,967,295. It takes no memory.
@@ -90,7 +105,7 @@ fn goes_on(byte: u8) -> bool
     byte.is_ascii_lowercase() || byte.is_ascii_uppercase() || byte.is_ascii_digit() || byte == b'_'
 }
 
-fn all_go_on(bytes: &[u8]) -> bool
+pub(crate) fn all_go_on(bytes: &[u8]) -> bool
     ensures { result ≡ list_all is_name_byte bytes.now }
 {
     bytes.iter().all(|byte| goes_on(*byte))

@@ -2,16 +2,16 @@
 use Rattle.std.proofs.Common.{ℕ, Option, None, Some, List}
 use Rattle.std.specs.Io.KnownBytes.{Keeps}
 use Rattle.std.proofs.KnownBytes.{Appends-kept}
-use Rattle.ghc_core.specs.World.{World}
 use Rattle.ghc_console.specs.Session.{Tells}
+use Rattle.ghc_console.specs.SessionState.{SessionState}
 
-pub told_kept : (Run : ℕ → World → List (List ℕ) → List ℕ → World → Type 0) (w v : World) (unread written now later : Option (List ℕ)) (before : ℕ)
-    → Tells Run w unread written now before v → Keeps now later → Tells Run w unread written later before v
-told_kept Run w v None written now later before t k = tt
-told_kept Run w v (Some input) written now later before t k = record {
-  count = t.count;
-  out = t.out;
-  appended = Appends-kept _ _ _ t.out t.appended k;
-  run = t.run;
-  asked = t.asked;
+pub told_kept : (Run : ℕ → SessionState → List (List ℕ) → List ℕ → SessionState → Type 0) (s t : SessionState) (unread written now later : Option (List ℕ)) (before : ℕ)
+    → Tells Run s unread written now before t → Keeps now later → Tells Run s unread written later before t
+told_kept Run s t None written now later before told k = tt
+told_kept Run s t (Some input) written now later before told k = record {
+  count = told.count;
+  out = told.out;
+  appended = Appends-kept _ _ _ told.out told.appended k;
+  run = told.run;
+  asked = told.asked;
 }

@@ -1,8 +1,9 @@
 // The session of the program, on its standard streams.
 ghost use Rattle.std.specs.Prelude.{◌≡◌, ◌⊎◌, ◌+◌, ◌-◌, ◌<◌, [], IfErr, OnOk};
 ghost use Rattle.ghc_console.specs.Session.{Session, Tells};
+ghost use Rattle.ghc_console.specs.SessionState.{state_of};
 
-use ghc_console::{Broken, Lines, session};
+use ghc_console::{Broken, Debugger, Lines, session};
 use ghc_core::Core;
 use ghc_term::Fault;
 use std::alloc::Global;
@@ -16,20 +17,20 @@ use std::{io, mem};
 fn run_on_device<L: Ledger, R: Wait, I: Read, O: Write + Drop>(
     rt: &R,
     alloc: Global,
-    core: Core,
+    debugger: Debugger,
     device: &mut Lines<I, O, L>,
-) -> (Core, Result<(), Fault>)
-    ensures told { OnOk result.1 (Tells Session core.world device.old.unread device.old.written device.new.written
-        (device.new.earlier - (device.old.earlier + device.old.latest)) result.0.world) }
+) -> (Debugger, Result<(), Fault>)
+    ensures told { OnOk result.1 (Tells Session (state_of debugger) device.old.unread device.old.written device.new.written
+        (device.new.earlier - (device.old.earlier + device.old.latest)) (state_of result.0)) }
     ensures held { OnOk result.1 (device.new.held ≡ []) }
     ensures fault { IfErr result.1 (λ fault. fault ≡ Fault.Device) }
 {
-    let (core, result) = session(rt, alloc, core, device);
+    let (debugger, result) = session(rt, alloc, debugger, device);
     match result {
-        Err(fault) => (core, Err(fault)),
+        Err(fault) => (debugger, Err(fault)),
         Ok(()) => match device.flush() {
-            Ok(()) => (core, Ok(())),
-            Err(Broken) => (core, Err(Fault::Device)),
+            Ok(()) => (debugger, Ok(())),
+            Err(Broken) => (debugger, Err(Fault::Device)),
         },
     }
 }
@@ -46,9 +47,10 @@ fn run_between<L: Ledger, R: Wait + AllocGlobal, I: Read + Drop, O: Write + Drop
     ensures { IfErr result (λ fault. fault ≡ Fault.Device) }
 {
     let mut device: Lines<I, O, L> = Lines::new(reader, writer, blank);
-    let (core, result) = run_on_device(rt, rt.alloc(), core, &mut device);
+    let debugger = Debugger::new(rt.alloc(), core);
+    let (debugger, result) = run_on_device(rt, rt.alloc(), debugger, &mut device);
     // The program ends next, and the system takes all memory back at once: the core is not taken apart goal by goal.
-    mem::forget(core);
+    mem::forget(debugger);
     result
 }
 

@@ -2,7 +2,7 @@
 ghost use Rattle.std.specs.Prelude.{◌≡◌, ◌<◌};
 
 use crate::tests::cores::core_of;
-use ghc_console::{Device, Script, session};
+use ghc_console::{Debugger, Device, Script, session};
 use ghc_core::Core;
 use std::alloc::Global;
 use std::marker::Brand;
@@ -19,8 +19,8 @@ type Served = (Option<usize>, usize, bool);
 
 // Runs a session, and says how many steps the core has then, and whether it was broken off.
 fn serve<R: Wait, D: Device>(rt: &R, alloc: Global, core: Core, device: &mut D) -> (usize, bool) {
-    let (core, ended) = session(rt, alloc, core, device);
-    (core.records().len(), ended.is_err())
+    let (debugger, ended) = session(rt, alloc, Debugger::new(alloc, core), device);
+    (debugger.core.records().len(), ended.is_err())
 }
 
 // How many bytes of the output were written, where nothing else was.

@@ -3,6 +3,7 @@ use Rattle.ghc_console.specs.Reading.{LineSays, line_limit}
 use Rattle.ghc_console.specs.Replies.{IsReply, too_long, no_memory, refusal}
 use Rattle.ghc_term.specs.declared.fault.Fault.TheVariants as fault
 use Rattle.ghc_console.specs.Commands.{command_of}
+use Rattle.ghc_console.specs.SessionState.{state_of}
 use Rattle.ghc_console.specs.Firing.{Fires}
 use Rattle.ghc_console.proofs.SessionFirings.{fires_nothing}
 use Rattle.ghc_console.proofs.StepReplies.{either}
@@ -10,9 +11,9 @@ use Rattle.ghc_console.proofs.answer.answer.Goals as goal
 
 pub returns-in-Whole-clause-reply : goal.returns-in-Whole-clause-reply
 returns-in-Whole-clause-reply c bytes says =
-    let w = c.args.core.now.world in
+    let w = state_of c.args.debugger.now in
     let r = c.execute_line.result in
-    let v = c.execute_line.new.core.world in
+    let v = state_of c.execute_line.new.debugger in
     let text = string_bytes c.execute_line.new.reply in
     let whole = subst (λ l. LineSays l bytes) c.in-Whole.is says in
     let replied = subst (λ l. length l ≤ line_limit → IfOk r (λ ended. IsReply w l text v ended)) (c.as_slice.ensures.value ∙ whole.0) c.execute_line.ensures.ok whole.1 in
@@ -20,7 +21,7 @@ returns-in-Whole-clause-reply c bytes says =
 
 pub returns-in-Ok-clause-reply : goal.returns-in-Ok-clause-reply
 returns-in-Ok-clause-reply c bytes says =
-    subst (λ t. IsReply c.args.core.now.world bytes t c.args.core.now.world false) (sym c.in-Ok.ensures.text)
+    subst (λ t. IsReply (state_of c.args.debugger.now) bytes t (state_of c.args.debugger.now) false) (sym c.in-Ok.ensures.text)
     (too_long (subst (λ l. LineSays l bytes) c.in-TooLong.is says))
 
 pub returns-in-Err-clause-reply : goal.returns-in-Err-clause-reply
@@ -32,7 +33,7 @@ returns-in-NoMemory-clause-reply c bytes says = no_memory
 pub returns-in-Whole-clause-fires : goal.returns-in-Whole-clause-fires
 returns-in-Whole-clause-fires c bytes says =
     let whole = subst (λ l. LineSays l bytes) c.in-Whole.is says in
-    subst (λ l. Fires (command_of l) c.args.core.now.meter.firings c.execute_line.new.core.meter.firings) (c.as_slice.ensures.value ∙ whole.0) c.execute_line.ensures.fires
+    subst (λ l. Fires (command_of l) c.args.debugger.now.core.meter.firings c.execute_line.new.debugger.core.meter.firings) (c.as_slice.ensures.value ∙ whole.0) c.execute_line.ensures.fires
 
 pub returns-in-Ok-clause-fires : goal.returns-in-Ok-clause-fires
 returns-in-Ok-clause-fires c bytes says = fires_nothing _ _ _ refl

@@ -1,5 +1,6 @@
 use Rattle.std.proofs.Common.{◌∙◌, arith, refl, rules, sym, subst}
 use Rattle.ghc_console.specs.Replies.{IsReply}
+use Rattle.ghc_console.specs.SessionState.{state_of}
 use Rattle.std.proofs.KnownBytes.{prepend_known-nil}
 use Rattle.ghc_console.proofs.SessionFirings.{fired_start, fired_on, fired_end}
 use Rattle.ghc_console.proofs.SessionLoop.{going_asked, going_on, going_end, going_quit, broken_read, broken_write, kept_then, taken_kept, going_start, given_start, given_then, given_kept}
@@ -37,7 +38,7 @@ returns-in-Ok-true-clause-text g c =
     let so_far = going_asked _ _ _ _ _ _ _ _ _ _ _ c.loop.invariant.2 c.loop.invariant.6 read.asks in
     rw (sym c.settle.ensures.world, c.in-Ok-true.ensures.earlier) (going_quit _ _ _ _ _ _ _ _ _ _ _ so_far taken (λ bytes says.
     let s = c.in-Ok-true.ensures.served bytes says in
-    (s.text, subst (IsReply c.loop.core.world bytes s.text c.serve.new.core.world) (sym s.written.0 ∙ c.in-Ok-true.field-0-test) s.reply, kept_then _ _ _ _ read.written s.written.1)))
+    (s.text, subst (IsReply (state_of c.loop.debugger) bytes s.text (state_of c.serve.new.debugger)) (sym s.written.0 ∙ c.in-Ok-true.field-0-test) s.reply, kept_then _ _ _ _ read.written s.written.1)))
 
 pub loop-preserved : goal.loop-preserved
 loop-preserved g c =
@@ -51,7 +52,7 @@ loop-preserved g c =
       tt,
       rw served.earlier (going_on _ _ _ _ _ _ _ _ _ _ _ so_far (taken_kept _ c.next_line.new.self _ _ _ taken served.unread) (λ bytes says.
           let s = served.served bytes says in
-          (s.text, subst (IsReply c.loop.core.world bytes s.text c.serve.new.core.world) (sym s.written.0 ∙ c.in-Ok-false.field-0-test) s.reply, kept_then _ _ _ _ read.written s.written.1))),
+          (s.text, subst (IsReply (state_of c.loop.debugger) bytes s.text (state_of c.serve.new.debugger)) (sym s.written.0 ∙ c.in-Ok-false.field-0-test) s.reply, kept_then _ _ _ _ read.written s.written.1))),
       search rules,
       served.opening ∙ c.loop.invariant.4,
       fired_on _ _ _ _ _ _ _ c.loop.invariant.5 (taken_kept _ c.next_line.new.self _ _ _ taken served.unread) served.fires,

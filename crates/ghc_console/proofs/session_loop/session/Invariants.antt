@@ -1,6 +1,7 @@
 use Rattle.std.proofs.Common.{◌≡◌, ◌+◌, ◌-◌}
 use Rattle.std.specs.Io.KnownBytes.{prepend_known}
 use Rattle.ghc_console.specs.Reading.{CountsGiven}
+use Rattle.ghc_console.specs.SessionState.{state_of}
 use Rattle.ghc_console.proofs.SessionFirings.{FiredSo}
 use Rattle.ghc_console.proofs.SessionLoop.{Going}
 use Rattle.ghc_console.proofs.session_loop.session.Given as goal
@@ -11,8 +12,8 @@ invariant-loop g l =
     let it = goal.iterator-loop g in
     let first = d.earlier l.initial.device + d.latest l.initial.device in
     it.can_next l.iterator' × it.is_finite l.iterator'
-    × Going l.initial.core.world l.core.world (d.unread l.initial.device) (prepend_known l.ahead (d.unread l.device)) (d.written l.initial.device) (d.written l.device)
+    × Going (state_of l.initial.debugger) (state_of l.debugger) (d.unread l.initial.device) (prepend_known l.ahead (d.unread l.device)) (d.written l.initial.device) (d.written l.device)
     (d.earlier l.device - first)
-    × (d.failures l.device ≡ d.failures l.initial.device) × (l.core.world.opening ≡ l.initial.core.world.opening)
-    × FiredSo (d.unread l.initial.device) (prepend_known l.ahead (d.unread l.device)) l.initial.core.meter.firings l.core.meter.firings
+    × (d.failures l.device ≡ d.failures l.initial.device) × (l.debugger.core.world.opening ≡ l.initial.debugger.core.world.opening)
+    × FiredSo (d.unread l.initial.device) (prepend_known l.ahead (d.unread l.device)) l.initial.debugger.core.meter.firings l.debugger.core.meter.firings
     × CountsGiven (d.unread l.initial.device) (d.unread l.device) first (d.earlier l.device + d.latest l.device)
