@@ -3,5 +3,5 @@ use Rattle.ghcdb.proofs.console.run_on_device.Goals as goal
 
 pub returns-in-Ok-flush-clause-told : goal.returns-in-Ok-flush-clause-told
 returns-in-Ok-flush-clause-told g c =
-    let told = rw c.in-Ok.is at c.session-core.ensures.text in
+    let told = rw c.in-Ok.is at c.session-debugger.ensures.text in
     rw c.flush.ensures.earlier (told_kept _ _ _ _ _ _ _ _ told c.flush.ensures.written)
