@@ -129,8 +129,8 @@ impl Core {
         )
     }
 
-    // Whether a new step has no room.
-    pub(crate) fn is_full(&self) -> bool
+    /// Whether a new step has no room: the numbers are used up, or 1,000,000 steps are kept. It looks at two numbers.
+    pub fn is_full(&self) -> bool
         ensures full { result ≡ true → IsFull self.now.world }
         ensures room { result ≡ false → HasRoom self.now.world }
     {
