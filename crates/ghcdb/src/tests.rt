@@ -3,6 +3,7 @@ mod building;
 mod cores;
 mod matching;
 mod reading;
+mod runs;
 mod session;
 mod settling;
 mod terms;

@@ -1,0 +1,7 @@
+pub mod AtTheEnd
+pub mod Asked
+pub mod Noting
+pub mod Spied
+pub mod Sorting
+pub mod Surveyed
+pub mod Taking

@@ -1,0 +1,9 @@
+use Rattle.std.proofs.Common.{◌≡◌}
+use Rattle.std.specs.FinSet as set
+use Rattle.ghc_pool.proofs.drain.among_untried.Given as goal
+
+abbrev pub invariant-loop-goal : goal.invariant-loop-goal
+invariant-loop-goal l = l.core.world ≡ l.initial.core.world
+
+abbrev pub decreases-loop-goal : goal.decreases-loop-goal
+decreases-loop-goal l = set.len l.core.untried

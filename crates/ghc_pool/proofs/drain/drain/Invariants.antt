@@ -1,0 +1,13 @@
+use Rattle.std.proofs.Common.{◌≡◌, List, length}
+use Rattle.ghc_records.specs.Record.{Record}
+use Rattle.ghc_pool.specs.Runs.{Takes}
+use Rattle.ghc_pool.specs.Meeting.{TookInQuestion}
+use Rattle.ghc_pool.proofs.drain.drain.Given as goal
+
+abbrev pub invariant-loop-taken : goal.invariant-loop-taken
+invariant-loop-taken l = record {
+  steps : List Record;
+  taken : Takes l.spies l.root l.initial.core.world steps l.core.world;
+  count : l.taken ≡ length steps;
+  asked : TookInQuestion l.root l.core.world.kept l.since;
+}

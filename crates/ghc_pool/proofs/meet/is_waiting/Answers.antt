@@ -1,0 +1,6 @@
+use Rattle.std.proofs.Common.{refl, ap}
+use Rattle.ghc_hooks.specs.Verdict.{status_of}
+use Rattle.ghc_pool.proofs.meet.is_waiting.Goals as goal
+
+pub returns-in-Waiting : goal.returns-in-Waiting
+returns-in-Waiting c = (λ holds. (c.in-Waiting.field-0, ap status_of c.in-Waiting.is), λ k. refl)

@@ -1,0 +1,16 @@
+use Rattle.std.proofs.Common.{◌≡◌, ◌≤◌, ◌-◌, List, length}
+use Rattle.ghc_records.specs.Record.{Record}
+use Rattle.ghc_pool.specs.Runs.{Takes, CanGoOn}
+use Rattle.ghc_pool.proofs.running.go_on.Given as goal
+
+abbrev pub invariant-loop-added : goal.invariant-loop-added
+invariant-loop-added l = record {
+  steps : List Record;
+  taken : Takes l.spies l.root l.initial.core.world steps l.core.world;
+  count : l.added ≡ length steps;
+  few : l.added ≤ l.limit;
+  goes_on : CanGoOn l.spies l.root l.core.world;
+}
+
+abbrev pub decreases-loop-added : goal.decreases-loop-added
+decreases-loop-added l = l.limit - l.added

@@ -1,0 +1,27 @@
+-- Laws of runs.
+use Rattle.std.specs.Prelude.{◌≡◌, ◌+◌, List, ◌++◌, length, map, Option, Some}
+use Rattle.ghc_term.specs.Lists.{In}
+use Rattle.ghc_term.specs.declared.goal_name.GoalName.{GoalName}
+use Rattle.ghc_records.specs.Record.{Record}
+use Rattle.ghc_records.specs.Journal.{took, step_of}
+use Rattle.ghc_core.specs.World.{World}
+use Rattle.ghc_core.specs.Proposes.{IsReduction}
+use Rattle.ghc_trace.specs.Spies.{Spies}
+use Rattle.ghc_pool.specs.Runs.{IsInQuestion, Takes}
+
+-- What a run adds stands at the end of the record and of the journal, under the next numbers, and it changes nothing on the shelf.
+pub record AddsAtTheEnd (w : World) (steps : List Record) (v : World) : Type 0 where
+  pub kept : v.kept ≡ w.kept ++ steps
+  pub journal : v.journal ≡ w.journal ++ map (λ r. took (step_of r)) steps
+  pub next : v.next ≡ w.next + length steps
+  pub shelf : v.shelf ≡ w.shelf
+  pub opening : v.opening ≡ w.opening
+
+abbrev pub RunsAddAtTheEnd : Type 0
+RunsAddAtTheEnd = (spies : Spies) (root : Option GoalName) (w v : World) (steps : List Record) → Takes spies root w steps v → AddsAtTheEnd w steps v
+
+-- Each step of a run is a reduction of a goal that is in question by the record that is left.
+abbrev pub RunsReduce : Type 0
+RunsReduce =
+    (spies : Spies) (root : Option GoalName) (w v : World) (steps : List Record) → Takes spies root w steps v
+    → (r : Record) → In r steps → IsReduction r.act × ((g : GoalName) × (r.goal ≡ Some g) × IsInQuestion root v.kept g)

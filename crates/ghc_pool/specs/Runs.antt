@@ -1,0 +1,81 @@
+-- Runs: steps taken one after another, until there is a reason to stop.
+use Rattle.std.specs.Prelude.{◌≡◌, ◌≤◌, ℕ, List, [], ◌∷◌, ◌++◌, length, Option, Some, None}
+use Rattle.std.specs.FinMap as finite
+use Rattle.ghc_term.specs.declared.goal_name.GoalName.{GoalName}
+use Rattle.ghc_term.specs.Goal.{Goal}
+use Rattle.ghc_term.specs.declared.fault.Fault.{Fault}
+use Rattle.ghc_records.specs.Record.{Record}
+use Rattle.ghc_depend.specs.Depend.{Descends}
+use Rattle.ghc_hooks.specs.Status.{ready, failed}
+use Rattle.ghc_hooks.specs.Notes.{NotesByGoal, IsUntried}
+use Rattle.ghc_core.specs.World.{World, IsFull, with_step}
+use Rattle.ghc_core.specs.Proposes.{IsStepOf}
+use Rattle.ghc_trace.specs.News.{Stands}
+use Rattle.ghc_trace.specs.Spies.{Spies, IsSpied}
+use Rattle.ghc_pool.specs.declared.stop.Stop.{Stop}
+use Rattle.ghc_pool.specs.declared.stop.Report.{Report}
+
+-- With these steps kept, the goal named g is in question: any goal is, or where a root is named, those that descend from it.
+abbrev pub IsInQuestion : Option GoalName → List Record → GoalName → Type 0
+IsInQuestion None kept g = Unit {0}
+IsInQuestion (Some root) kept g = Descends kept root g
+
+-- The goal named g is there, and is a call of a spied predicate.
+abbrev pub IsSpiedIn : Spies → World → GoalName → Type 0
+IsSpiedIn spies w g = (b : Goal) × (finite.get w.state.goals g ≡ Some b) × IsSpied spies b
+
+-- A run may take the step in the world w: it reduces a goal in question that is no call of a spied predicate, a call by the least clause that accepts it.
+pub record IsRunStep (spies : Spies) (root : Option GoalName) (w : World) (r : Record) : Type 0 where
+  pub goal : GoalName
+  pub taken : IsStepOf w goal None r
+  pub asked : IsInQuestion root w.kept goal
+  pub unspied : ¬ IsSpiedIn spies w goal
+
+-- Takes spies root w steps v: from the world w a run took these steps, one after another, which left the world v.
+pub data Takes (spies : Spies) (root : Option GoalName) (w : World) : List Record → World → Type 0 where
+  at_start : Takes spies root w [] w
+  and_step : {steps : List Record} {v : World} (r : Record) → Takes spies root w steps v → IsRunStep spies root v r
+      → Takes spies root w (steps ++ r ∷ []) (with_step r v)
+
+-- The goal named g is in question, and has failed.
+abbrev pub HasFailed : Option GoalName → World → GoalName → Type 0
+HasFailed root w g = IsInQuestion root w.kept g × ((f : Fault) × Stands w g (failed f))
+
+-- The goal named g is in question, and is ready.
+abbrev pub IsReady : Option GoalName → World → GoalName → Type 0
+IsReady root w g = IsInQuestion root w.kept g × Stands w g ready
+
+-- Nothing in question asks for a stop: no goal has failed, and none that is ready is a call of a spied predicate.
+pub record AsksForNoStop (spies : Spies) (root : Option GoalName) (w : World) : Type 0 where
+  pub unfailed : (g : GoalName) → ¬ HasFailed root w g
+  pub unspied : (g : GoalName) → IsReady root w g → ¬ IsSpiedIn spies w g
+
+-- A run can go on: nothing asks for a stop, a new step has room, and a goal in question is ready.
+pub record CanGoOn (spies : Spies) (root : Option GoalName) (w : World) : Type 0 where
+  pub unstopped : AsksForNoStop spies root w
+  pub room : ¬ IsFull w
+  pub goal : GoalName
+  pub is_ready : IsReady root w goal
+
+-- In the world w, with these notes, nothing in question is left to do: no goal in question is untried, ready or failed.
+pub record IsQuiet (root : Option GoalName) (w : World) (notes : NotesByGoal) : Type 0 where
+  pub tried : (g : GoalName) → IsInQuestion root w.kept g → ¬ IsUntried w.state.goals notes g
+  pub unready : (g : GoalName) → ¬ IsReady root w g
+  pub unfailed : (g : GoalName) → ¬ HasFailed root w g
+
+-- The reason to stop holds in the world w, with these notes, where so many steps were taken of as many as the limit allows; of several that hold it is the first. Starved says that memory was refused.
+pub data Holds (Starved : Type 0) (spies : Spies) (root : Option GoalName) (limit taken : ℕ) (w : World) (notes : NotesByGoal) : Stop → Type 0 where
+  has_failed : (g : GoalName) → HasFailed root w g → Holds Starved spies root limit taken w notes (Stop.Clash g)
+  is_spied : (g : GoalName) → ((h : GoalName) → ¬ HasFailed root w h) → IsReady root w g → IsSpiedIn spies w g → Holds Starved spies root limit taken w notes (Stop.Spied g)
+  starved : Starved → Holds Starved spies root limit taken w notes Stop.Memory
+  is_full : AsksForNoStop spies root w → IsFull w → Holds Starved spies root limit taken w notes Stop.Full
+  is_quiet : ¬ IsFull w → IsQuiet root w notes → Holds Starved spies root limit taken w notes Stop.Quiet
+  all_taken : CanGoOn spies root w → taken ≡ limit → Holds Starved spies root limit taken w notes Stop.Limit
+
+-- From the world w a run left the world v, with these notes: it took as many steps as it reports, at most the limit, and the reason that it reports holds of what is left.
+pub record Runs (Starved : Type 0) (spies : Spies) (root : Option GoalName) (limit : ℕ) (w v : World) (notes : NotesByGoal) (report : Report) : Type 0 where
+  pub steps : List Record
+  pub taken : Takes spies root w steps v
+  pub count : report.added ≡ length steps
+  pub few : report.added ≤ limit
+  pub reason : Holds Starved spies root limit report.added v notes report.stop

@@ -1,0 +1,150 @@
+// A stretch of a run: steps taken one after another, as long as a goal is met that can be stepped.
+ghost use Rattle.std.specs.Prelude.{◌≡◌, ◌≤◌, true, false, List, length, OnOk, OnErr};
+ghost use Rattle.ghc_records.specs.Record.{Record as record_spec};
+ghost use Rattle.ghc_core.specs.World.{IsNextStep, with_step};
+ghost use Rattle.ghc_pool.specs.Runs.{IsRunStep, Takes};
+ghost use Rattle.ghc_pool.specs.Meeting.{TookInQuestion, IsFound};
+
+use crate::meet::{Met, is_to_meet, meet};
+use ghc_core::{Change, Core};
+use ghc_records::Addition;
+use ghc_term::GoalName;
+use ghc_trace::SpySet;
+use std::alloc::{AllocError, Global};
+
+// Meets the goals that are listed and still untried or noted as ready, the last one first, up to one that the run does not go by.
+fn among_listed(
+    core: &mut Core,
+    alloc: Global,
+    spies: &SpySet,
+    root: Option<GoalName>,
+    since: u32,
+    listed: &mut Vec<GoalName>,
+) -> Met
+    requires { TookInQuestion root core.old.world.kept since }
+    ensures world { core.new.world ≡ core.old.world }
+    ensures found { IsFound spies.now root core.old.world result }
+{
+    while let Some(goal) = listed.pop() {
+        core.stands();
+        if is_to_meet(core, goal) {
+            match meet(core, alloc, spies, root, since, goal) {
+                Met::Passed => {}
+                met => return met,
+            }
+        }
+    }
+    Met::Passed
+}
+
+// Meets the untried goals, up to one that the run does not go by.
+fn among_untried(
+    core: &mut Core,
+    alloc: Global,
+    spies: &SpySet,
+    root: Option<GoalName>,
+    since: u32,
+) -> Met
+    requires { TookInQuestion root core.old.world.kept since }
+    ensures world { core.new.world ≡ core.old.world }
+    ensures found { IsFound spies.now root core.old.world result }
+{
+    while let Some(goal) = core.tries().next_untried() {
+        core.stands();
+        match meet(core, alloc, spies, root, since, goal) {
+            Met::Passed => {}
+            met => return met,
+        }
+    }
+    Met::Passed
+}
+
+// Finds the next step of a run: the goals that are listed come before the others that are untried, which were woken.
+fn find(
+    core: &mut Core,
+    alloc: Global,
+    spies: &SpySet,
+    root: Option<GoalName>,
+    since: u32,
+    listed: &mut Vec<GoalName>,
+) -> Met
+    requires { TookInQuestion root core.old.world.kept since }
+    ensures world { core.new.world ≡ core.old.world }
+    ensures found { IsFound spies.now root core.old.world result }
+{
+    match among_listed(core, alloc, spies, root, since, listed) {
+        Met::Passed => among_untried(core, alloc, spies, root, since),
+        met => met,
+    }
+}
+
+// Lists the goals that a step made, the first one last, as far as memory is found: the others are met behind all that are listed.
+fn list_made(step: u32, count: u32, listed: &mut Vec<GoalName>) {
+    for index in 0..count {
+        let place = count - index;
+        if listed.push(GoalName { step, place }).is_err() {
+            return;
+        }
+    }
+}
+
+// Takes a step that was found; where memory is refused for it nothing changes.
+fn take(core: &mut Core, addition: Addition) -> Result<(), AllocError>
+    requires { IsNextStep core.old.world addition }
+    ensures ok { OnOk result (core.new.world ≡ with_step addition core.old.world) }
+    ensures err { OnErr result (core.new.world ≡ core.old.world) }
+{
+    let change = Change::Adds(addition);
+    core.reserve(&change)?;
+    core.apply(change);
+    Ok(())
+}
+
+// Finds and takes one step, lists the goals that it makes, and says whether one was taken.
+fn advance(
+    core: &mut Core,
+    alloc: Global,
+    spies: &SpySet,
+    root: Option<GoalName>,
+    since: u32,
+    listed: &mut Vec<GoalName>,
+) -> bool
+    requires { TookInQuestion root core.old.world.kept since }
+    ensures step { result ≡ true → (r : record_spec) × IsRunStep spies.now root core.old.world r × (core.new.world ≡ with_step r core.old.world) }
+    ensures none { result ≡ false → core.new.world ≡ core.old.world }
+{
+    let Met::Step(addition) = find(core, alloc, spies, root, since, listed) else {
+        return false;
+    };
+    let (step, count) = (addition.step().number(), addition.step().effect().made());
+    match take(core, addition) {
+        Ok(()) => {}
+        Err(_) => return false,
+    }
+    list_made(step, count, listed);
+    true
+}
+
+// Takes steps of goals that are listed or untried, at most as many as it may, and says how many: one attempt each. The last one
+// listed comes first, and what a step makes is listed. It ends at a goal that may be a reason to stop, where memory is refused,
+// or where none of the goals is left.
+pub fn drain(
+    core: &mut Core,
+    alloc: Global,
+    spies: &SpySet,
+    root: Option<GoalName>,
+    most: usize,
+    listed: &mut Vec<GoalName>,
+) -> usize
+    ensures taken { (steps : List record_spec) × Takes spies.now root core.old.world steps core.new.world × (result ≡ length steps) }
+    ensures few { result ≤ most }
+{
+    core.stands();
+    let since = core.next();
+    for taken in 0..most {
+        if !advance(core, alloc, spies, root, since, listed) {
+            return taken;
+        }
+    }
+    most
+}

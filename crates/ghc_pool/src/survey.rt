@@ -1,0 +1,119 @@
+// What the goals in question are to a run, by the notes of a core where no goal is untried.
+ghost use Rattle.std.specs.Prelude.{◌≡◌, ℕ, IfOk, IfErr, IfSome, IfNone};
+ghost use Rattle.std.specs.FinSet as set;
+ghost use Rattle.ghc_term.specs.Lists.{In};
+ghost use Rattle.ghc_term.specs.declared.goal_name.GoalName.{GoalName as goal_name};
+ghost use Rattle.ghc_trace.specs.GoalLinesCode.{lent};
+ghost use Rattle.ghc_pool.specs.Runs.{IsSpiedIn, CanGoOn, Holds};
+ghost use Rattle.ghc_pool.specs.Survey.{IsSort, AreListed, IsStopped};
+
+use crate::question::{is_in_question, is_spied_in};
+use crate::stop::Stop;
+use ghc_core::Core;
+use ghc_hooks::Verdict;
+use ghc_term::{Goal, GoalName};
+use ghc_trace::SpySet;
+use std::alloc::Global;
+use std::collections::BTreeMap;
+
+// What a goal is to a run.
+#[derive(Drop)]
+pub enum Sort {
+    // It is not in question, or neither ready nor failed.
+    Idle,
+    // It is in question and ready.
+    Ready,
+    // It is in question and has failed.
+    Failed,
+}
+
+// What the goal is to a run: a look-up, and whether it is in question, where it is noted as ready or failed.
+fn sort_of(core: &Core, root: Option<GoalName>, goal: GoalName) -> Sort
+    requires { core.now.untried ≡ set.empty }
+    ensures { IsSort root core.now.world goal result }
+{
+    core.stands();
+    let Some(note) = core.tries().get(goal) else {
+        return Sort::Idle;
+    };
+    let sort = match note.verdict() {
+        Verdict::Waiting(_) => return Sort::Idle,
+        Verdict::Ready => Sort::Ready,
+        Verdict::Failed(_) => Sort::Failed,
+    };
+    if is_in_question(core, root, goal) {
+        return sort;
+    }
+    Sort::Idle
+}
+
+// Those of the goals that are in question and ready, in their order; or a goal in question that has failed, as a reason to stop.
+fn ready_ones(
+    core: &Core,
+    alloc: Global,
+    root: Option<GoalName>,
+    goals: &BTreeMap<GoalName, &Goal>,
+) -> Result<Vec<GoalName>, Stop>
+    requires { core.now.untried ≡ set.empty }
+    ensures listed { IfOk result (λ ready. AreListed root core.now.world (lent goals.now.entries) ready.items) }
+    ensures stop { IfErr result (λ stop. IsStopped root core.now.world stop) }
+{
+    let mut ready = Vec::new(alloc);
+    for (name, _goal) in goals {
+        match sort_of(core, root, *name) {
+            Sort::Idle => {}
+            Sort::Failed => return Err(Stop::Clash(*name)),
+            Sort::Ready => match ready.push(*name) {
+                Ok(()) => {}
+                Err(_) => return Err(Stop::Memory),
+            },
+        }
+    }
+    Ok(ready)
+}
+
+// The first of the goals that is a call of a spied predicate, if one is: two look-ups for each.
+fn first_spied(core: &Core, spies: &SpySet, goals: &[GoalName]) -> Option<GoalName>
+    ensures some { IfSome result (λ g. In g goals.now × IsSpiedIn spies.now core.now.world g) }
+    ensures none { IfNone result ((g : goal_name) → In g goals.now → ¬ IsSpiedIn spies.now core.now.world g) }
+{
+    for goal in goals {
+        if is_spied_in(core, spies, *goal) {
+            return Some(*goal);
+        }
+    }
+    None
+}
+
+// The goals in question that are ready, by step, then place, where a run can go on; or else the reason to stop. Each goal is put
+// in its place in the order and has a look-up; those that are ready have two more, and whether it is in question is asked of
+// those that are ready or have failed.
+pub fn survey(
+    core: &Core,
+    alloc: Global,
+    spies: &SpySet,
+    root: Option<GoalName>,
+) -> Result<Vec<GoalName>, Stop>
+    requires { core.now.untried ≡ set.empty }
+    ensures ready { IfOk result (λ _. CanGoOn spies.now root core.now.world) }
+    ensures stop { IfErr result (λ stop. (limit taken : ℕ) → Holds (Unit {0}) spies.now root limit taken core.now.world core.now.notes stop) }
+{
+    core.stands();
+    let Ok(goals) = core.goals().by_name(alloc) else {
+        return Err(Stop::Memory);
+    };
+    let ready = match ready_ones(core, alloc, root, &goals) {
+        Ok(ready) => ready,
+        Err(stop) => return Err(stop),
+    };
+    if let Some(goal) = first_spied(core, spies, &ready) {
+        return Err(Stop::Spied(goal));
+    }
+    if core.is_full() {
+        return Err(Stop::Full);
+    }
+    if ready.is_empty() {
+        return Err(Stop::Quiet);
+    }
+    Ok(ready)
+}
