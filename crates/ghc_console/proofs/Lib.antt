@@ -15,3 +15,5 @@ pub mod GivenNames
 pub mod CauseReplies
 pub mod Ordering
 pub mod Spying
+pub mod RunLines
+pub mod RunCommands

@@ -1,5 +1,5 @@
 -- The lines of records, one more at a time.
-use Rattle.std.proofs.Common.{◌≡◌, ℕ, suc, ◌+◌, List, [], ◌∷◌, ◌++◌, drop, drop-cons, refl, sym, ap, ◌∙◌, subst, inl, inr, slice_get, append_assoc, append-nil, arith}
+use Rattle.std.proofs.Common.{◌≡◌, ℕ, suc, ◌+◌, List, [], ◌∷◌, ◌++◌, drop, drop-cons, sym, ap, ◌∙◌, subst, inl, inr, slice_get, append_assoc, append-nil, arith}
 use Rattle.std.specs.Prelude.{Some}
 use Rattle.std.proofs.lemmas.Option.{slice_get_within, get_or_from_slice_get}
 use Rattle.ghc_records.specs.Record.{Record}
@@ -9,7 +9,7 @@ use Rattle.ghc_records.specs.StepText.{record_text}
 use Rattle.ghc_console.specs.Replies.{lined, record_lines, TellsSlot}
 
 -- What is left from a place on is the record there and the rest.
-drop_at : (rs : List Record) (i : ℕ) (r : Record) → slice_get rs i ≡ Some r → drop i rs ≡ r ∷ drop (i + 1) rs
+pub drop_at : (rs : List Record) (i : ℕ) (r : Record) → slice_get rs i ≡ Some r → drop i rs ≡ r ∷ drop (i + 1) rs
 drop_at rs i r e =
     let more : suc i ≡ i + 1 = omega arith in
     drop-cons rs i r (slice_get_within rs i r e) ∙ (λ k. get_or_from_slice_get rs i r r e k ∷ drop (more k) rs)

@@ -2,16 +2,18 @@
 use Rattle.std.proofs.Common.{◌≡◌, ◌≤◌, ◌+◌, ◌∙◌, ℕ, Option, None, Some, IfSome, List, [], ◌∷◌, inl, inr, ap, arith}
 use Rattle.std.proofs.lemmas.List.Sums.{sum_by-append}
 use Rattle.ghc_console.specs.Commands.{command_of}
-use Rattle.ghc_console.specs.Firing.{Fires, firings_in, firings_of}
+use Rattle.ghc_console.specs.Firing.{Fires, firings_in, firings_of, runs_in, runs_of}
 use Rattle.ghc_console.specs.Lines.{lines_of}
 use Rattle.ghc_console.specs.Reading.{TakesLine}
 use Rattle.ghc_console.specs.declared.command.LineCommand.{LineCommand}
-use Rattle.ghc_console.specs.declared.command.LineCommand.TheVariants.{Nothing, Step, Undo, Redo, Roll, Arrange, Show, Records, Goals, Why, Who, Shelf, Spy, Unspy, Input, Close, Quit, Unknown}
+use Rattle.ghc_console.specs.declared.command.LineCommand.TheVariants.{Nothing, Step, Undo, Redo, Roll, Arrange, Show, Records, Goals, Why, Who, Shelf, Spy, Unspy, Input, Close, Leap, Skip, Quit, Unknown}
 
 -- a command may fire nothing
 pub fires_nothing : (c : LineCommand) (m n : ℕ) → n ≡ m → Fires c m n
 fires_nothing (Step goal choice) m n e = inl e
 fires_nothing (Redo number) m n e = inl e
+fires_nothing (Leap limit) m n e = tt
+fires_nothing (Skip goal limit) m n e = tt
 fires_nothing Nothing m n e = e
 fires_nothing (Undo number) m n e = e
 fires_nothing (Roll number) m n e = e
@@ -29,42 +31,49 @@ fires_nothing (Close stream) m n e = e
 fires_nothing Quit m n e = e
 fires_nothing Unknown m n e = e
 
--- and no more than it asks for
-fires_few : (c : LineCommand) (m n : ℕ) → Fires c m n → n ≤ m + firings_of c
-fires_few (Step goal choice) m n (inl e) = omega (arith, e)
-fires_few (Step goal choice) m n (inr e) = omega (arith, e)
-fires_few (Redo number) m n (inl e) = omega (arith, e)
-fires_few (Redo number) m n (inr e) = omega (arith, e)
-fires_few Nothing m n e = omega (arith, e)
-fires_few (Undo number) m n e = omega (arith, e)
-fires_few (Roll number) m n e = omega (arith, e)
-fires_few (Arrange order) m n e = omega (arith, e)
-fires_few (Show word) m n e = omega (arith, e)
-fires_few Records m n e = omega (arith, e)
-fires_few Goals m n e = omega (arith, e)
-fires_few (Why number) m n e = omega (arith, e)
-fires_few (Who word) m n e = omega (arith, e)
-fires_few Shelf m n e = omega (arith, e)
-fires_few (Spy name arity) m n e = omega (arith, e)
-fires_few (Unspy name arity) m n e = omega (arith, e)
-fires_few (Input stream given) m n e = omega (arith, e)
-fires_few (Close stream) m n e = omega (arith, e)
-fires_few Quit m n e = omega (arith, e)
-fires_few Unknown m n e = omega (arith, e)
+-- and where it is no run, no more than it asks for
+fires_few : (c : LineCommand) (m n : ℕ) → runs_of c ≡ 0 → Fires c m n → n ≤ m + firings_of c
+fires_few (Step goal choice) m n none (inl e) = omega (arith, e)
+fires_few (Step goal choice) m n none (inr e) = omega (arith, e)
+fires_few (Redo number) m n none (inl e) = omega (arith, e)
+fires_few (Redo number) m n none (inr e) = omega (arith, e)
+fires_few (Leap limit) m n none e = absurd (omega (arith, none))
+fires_few (Skip goal limit) m n none e = absurd (omega (arith, none))
+fires_few Nothing m n none e = omega (arith, e)
+fires_few (Undo number) m n none e = omega (arith, e)
+fires_few (Roll number) m n none e = omega (arith, e)
+fires_few (Arrange order) m n none e = omega (arith, e)
+fires_few (Show word) m n none e = omega (arith, e)
+fires_few Records m n none e = omega (arith, e)
+fires_few Goals m n none e = omega (arith, e)
+fires_few (Why number) m n none e = omega (arith, e)
+fires_few (Who word) m n none e = omega (arith, e)
+fires_few Shelf m n none e = omega (arith, e)
+fires_few (Spy name arity) m n none e = omega (arith, e)
+fires_few (Unspy name arity) m n none e = omega (arith, e)
+fires_few (Input stream given) m n none e = omega (arith, e)
+fires_few (Close stream) m n none e = omega (arith, e)
+fires_few Quit m n none e = omega (arith, e)
+fires_few Unknown m n none e = omega (arith, e)
 
--- with the lines that are left no more was fired than the lines ask for
+-- where no line is a run, none that is left is one, and with those no more was fired than the lines ask for
 abbrev pub FiredSo : Option (List ℕ) → Option (List ℕ) → ℕ → ℕ → Type 0
 FiredSo None left m n = Unit {0}
 FiredSo (Some input) None m n = ⊥
-FiredSo (Some input) (Some rest) m n = n + firings_in (lines_of rest) ≤ m + firings_in (lines_of input)
+FiredSo (Some input) (Some rest) m n = runs_in (lines_of input) ≡ 0 → (runs_in (lines_of rest) ≡ 0) × (n + firings_in (lines_of rest) ≤ m + firings_in (lines_of input))
 
 pub fired_start : (unread : Option (List ℕ)) (m n : ℕ) → n ≡ m → FiredSo unread unread m n
 fired_start None m n e = tt
-fired_start (Some input) m n e = omega (arith, e)
+fired_start (Some input) m n e = λ none. (none, omega (arith, e))
 
 firings_more : (line : List ℕ) (lines : List (List ℕ)) → firings_in (line ∷ lines) ≡ firings_of (command_of line) + firings_in lines
 firings_more line lines =
     let both = sum_by-append (λ (l : List ℕ). firings_of (command_of l)) (line ∷ []) lines in
+    omega (arith, both)
+
+runs_more : (line : List ℕ) (lines : List (List ℕ)) → runs_in (line ∷ lines) ≡ runs_of (command_of line) + runs_in lines
+runs_more line lines =
+    let both = sum_by-append (λ (l : List ℕ). runs_of (command_of l)) (line ∷ []) lines in
     omega (arith, both)
 
 -- one line on
@@ -73,13 +82,17 @@ pub fired_on : (unread left left' : Option (List ℕ)) (m n n' : ℕ) (P : List 
 fired_on None left left' m n n' P f t r = tt
 fired_on (Some input) None left' m n n' P f t r = absurd f
 fired_on (Some input) (Some rest) None m n n' P f t r = absurd t
-fired_on (Some input) (Some rest) (Some rest') m n n' P f t r =
-    let few = fires_few (command_of t.bytes) n n' (r t.bytes t.says) in
+fired_on (Some input) (Some rest) (Some rest') m n n' P f t r = λ none.
+    let before = f none in
+    let runs : runs_in (lines_of rest) ≡ runs_of (command_of t.bytes) + runs_in (lines_of rest') = ap runs_in t.lines ∙ runs_more t.bytes (lines_of rest') in
+    let no_run = before.0 in
+    let fired = before.1 in
+    let few = fires_few (command_of t.bytes) n n' (omega (arith, runs, no_run)) (r t.bytes t.says) in
     let lines : firings_in (lines_of rest) ≡ firings_of (command_of t.bytes) + firings_in (lines_of rest') = ap firings_in t.lines ∙ firings_more t.bytes (lines_of rest') in
-    omega (arith, few, f, lines)
+    (omega (arith, runs, no_run), omega (arith, few, fired, lines))
 
 -- what was fired by the end
-pub fired_end : (unread left : Option (List ℕ)) (m n : ℕ) → FiredSo unread left m n → IfSome unread (λ input. n ≤ m + firings_in (lines_of input))
+pub fired_end : (unread left : Option (List ℕ)) (m n : ℕ) → FiredSo unread left m n → IfSome unread (λ input. runs_in (lines_of input) ≡ 0 → n ≤ m + firings_in (lines_of input))
 fired_end None left m n f = tt
 fired_end (Some input) None m n f = absurd f
-fired_end (Some input) (Some rest) m n f = omega (arith, f)
+fired_end (Some input) (Some rest) m n f = λ none. let fired = (f none).1 in omega (arith, fired)

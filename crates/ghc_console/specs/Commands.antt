@@ -1,12 +1,12 @@
 -- The command that a line says.
-use Rattle.std.specs.Prelude.{ℕ, Option, None, Some, if◌then◌else◌, List, [], ◌∷◌, codes}
+use Rattle.std.specs.Prelude.{ℕ, ◌==◌, Option, None, Some, if◌then◌else◌, List, [], ◌∷◌, codes}
 use Rattle.std.specs.List.{list_all}
 use Rattle.std.specs.Str.{bytes_eq}
 use Rattle.ghc_term.specs.declared.goal_name.GoalName.{GoalName}
 use Rattle.ghc_console.specs.Words.{behind, goal_name_of, is_printable, is_variable, number_of, numbers_of, words_of}
 use Rattle.ghc_console.specs.PredicateWords.{predicate_of}
 use Rattle.ghc_console.specs.declared.command.LineCommand.{LineCommand}
-use Rattle.ghc_console.specs.declared.command.LineCommand.TheVariants.{Nothing, Step, Undo, Redo, Roll, Arrange, Show, Records, Goals, Why, Who, Shelf, Spy, Unspy, Input, Close, Quit, Unknown}
+use Rattle.ghc_console.specs.declared.command.LineCommand.TheVariants.{Nothing, Step, Undo, Redo, Roll, Arrange, Show, Records, Goals, Why, Who, Shelf, Spy, Unspy, Input, Close, Leap, Skip, Quit, Unknown}
 
 -- A step with the goal, by the least clause that accepts, where the word named one.
 abbrev pub step_with : Option GoalName → LineCommand
@@ -19,20 +19,40 @@ step_by (Some goal) (Some clause) = Step goal (Some clause)
 step_by (Some goal) None = Unknown
 step_by None clause = Unknown
 
--- The command of a word alone: `records`, `goals`, `shelf` or `quit`.
+-- The most steps of a run, where a line says no number.
+abbrev pub run_limit : ℕ
+run_limit = 1000000
+
+-- A run of at most so many steps, which are one or more.
+abbrev pub leap_of : ℕ → LineCommand
+leap_of limit = if limit == 0 then Unknown else Leap limit
+
+-- A run of at most so many steps, which are one or more, of the goals that descend from the goal.
+abbrev pub skip_of : GoalName → ℕ → LineCommand
+skip_of goal limit = if limit == 0 then Unknown else Skip goal limit
+
+-- The same, where the words said both.
+abbrev pub skip_by : Option GoalName → Option ℕ → LineCommand
+skip_by (Some goal) (Some limit) = skip_of goal limit
+skip_by (Some goal) None = Unknown
+skip_by None limit = Unknown
+
+-- The command of a word alone: `records`, `goals`, `shelf`, `leap` or `quit`.
 abbrev pub command_of_one_word : List ℕ → LineCommand
 command_of_one_word name = if bytes_eq name (codes "records") then Records
     else (if bytes_eq name (codes "goals") then Goals
     else (if bytes_eq name (codes "shelf") then Shelf
-    else (if bytes_eq name (codes "quit") then Quit else Unknown)))
+    else (if bytes_eq name (codes "leap") then Leap run_limit
+    else (if bytes_eq name (codes "quit") then Quit else Unknown))))
 
--- The command of a word with a number: `undo N`, `redo N`, `roll N`, `why N` or `end K`.
+-- The command of a word with a number: `undo N`, `redo N`, `roll N`, `why N`, `end K` or `leap K`.
 abbrev pub command_with_number : List ℕ → ℕ → LineCommand
 command_with_number name number = if bytes_eq name (codes "undo") then Undo number
     else (if bytes_eq name (codes "redo") then Redo number
     else (if bytes_eq name (codes "roll") then Roll number
     else (if bytes_eq name (codes "why") then Why number
-    else (if bytes_eq name (codes "end") then Close number else Unknown))))
+    else (if bytes_eq name (codes "end") then Close number
+    else (if bytes_eq name (codes "leap") then leap_of number else Unknown)))))
 
 -- The same, where the word behind said a number.
 abbrev pub numbered : List ℕ → Option ℕ → LineCommand
@@ -54,16 +74,18 @@ abbrev pub unspy_with : Option (List ℕ × ℕ) → LineCommand
 unspy_with (Some named) = Unspy named.0 named.1
 unspy_with None = Unknown
 
--- The command of a word and one more: `step G`, one with a predicate, or one with a variable or a number.
+-- The command of a word and one more: `step G` or `skip G`, one with a predicate, or one with a variable or a number.
 abbrev pub command_of_two_words : List ℕ → List ℕ → LineCommand
 command_of_two_words name word = if bytes_eq name (codes "step") then step_with (goal_name_of word)
+    else (if bytes_eq name (codes "skip") then skip_by (goal_name_of word) (Some run_limit)
     else (if bytes_eq name (codes "spy") then spy_with (predicate_of word)
     else (if bytes_eq name (codes "nospy") then unspy_with (predicate_of word)
-    else (if is_variable word then command_with_variable name word else numbered name (number_of word))))
+    else (if is_variable word then command_with_variable name word else numbered name (number_of word)))))
 
--- The command of a word and two more: `step G C`.
+-- The command of a word and two more: `step G C` or `skip G K`.
 abbrev pub command_of_three_words : List ℕ → List ℕ → List ℕ → LineCommand
-command_of_three_words name goal clause = if bytes_eq name (codes "step") then step_by (goal_name_of goal) (number_of clause) else Unknown
+command_of_three_words name goal number = if bytes_eq name (codes "step") then step_by (goal_name_of goal) (number_of number)
+    else (if bytes_eq name (codes "skip") then skip_by (goal_name_of goal) (number_of number) else Unknown)
 
 -- The command of a word and those behind it, by how many these are.
 abbrev pub command_by_count : List ℕ → List (List ℕ) → LineCommand

@@ -3,12 +3,14 @@ use Rattle.std.specs.Prelude.{◌≡◌, ◌⊎◌, ℕ, List, sum_by}
 use Rattle.ghc_fire.specs.Meter.{one_more}
 use Rattle.ghc_console.specs.Commands.{command_of}
 use Rattle.ghc_console.specs.declared.command.LineCommand.{LineCommand}
-use Rattle.ghc_console.specs.declared.command.LineCommand.TheVariants.{Nothing, Step, Undo, Redo, Roll, Arrange, Show, Records, Goals, Why, Who, Shelf, Spy, Unspy, Input, Close, Quit, Unknown}
+use Rattle.ghc_console.specs.declared.command.LineCommand.TheVariants.{Nothing, Step, Undo, Redo, Roll, Arrange, Show, Records, Goals, Why, Who, Shelf, Spy, Unspy, Input, Close, Leap, Skip, Quit, Unknown}
 
--- Fires c old new: carrying out the command c takes the count of firings from old to new. A step or a redo fires once in the core, or not at all where it is refused before; no other command fires.
+-- Fires c old new: carrying out the command c takes the count of firings from old to new. A step or a redo fires once in the core, or not at all where it is refused before; of a run nothing is said; no other command fires.
 abbrev pub Fires : LineCommand → ℕ → ℕ → Type 0
 Fires (Step goal choice) old new = (new ≡ old) ⊎ (new ≡ one_more old)
 Fires (Redo number) old new = (new ≡ old) ⊎ (new ≡ one_more old)
+Fires (Leap limit) old new = Unit {0}
+Fires (Skip goal limit) old new = Unit {0}
 Fires Nothing old new = new ≡ old
 Fires (Undo number) old new = new ≡ old
 Fires (Roll number) old new = new ≡ old
@@ -26,10 +28,12 @@ Fires (Close stream) old new = new ≡ old
 Fires Quit old new = new ≡ old
 Fires Unknown old new = new ≡ old
 
--- how many firings a command may ask for
+-- how many firings a command that is no run may ask for
 abbrev pub firings_of : LineCommand → ℕ
 firings_of (Step goal choice) = 1
 firings_of (Redo number) = 1
+firings_of (Leap limit) = 0
+firings_of (Skip goal limit) = 0
 firings_of Nothing = 0
 firings_of (Undo number) = 0
 firings_of (Roll number) = 0
@@ -47,6 +51,16 @@ firings_of (Close stream) = 0
 firings_of Quit = 0
 firings_of Unknown = 0
 
--- how many firings the lines of an input may ask for: one for each step and each redo
+-- how many runs a command asks for
+abbrev pub runs_of : LineCommand → ℕ
+runs_of (Leap limit) = 1
+runs_of (Skip goal limit) = 1
+runs_of c = 0
+
+-- how many runs the lines of an input ask for
+abbrev pub runs_in : List (List ℕ) → ℕ
+runs_in lines = sum_by (λ line. runs_of (command_of line)) lines
+
+-- how many firings the lines of an input may ask for, where none is a run: one for each step and each redo
 abbrev pub firings_in : List (List ℕ) → ℕ
 firings_in lines = sum_by (λ line. firings_of (command_of line)) lines

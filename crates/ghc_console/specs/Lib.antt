@@ -7,7 +7,11 @@ pub mod PredicateWords
 pub mod Commands
 pub mod VariableNamed
 pub mod SessionState
+pub mod TextLines
+pub mod RunReplies
+pub mod WritesTold
 pub mod Replies
+pub mod Answered
 pub mod Told
 pub mod Session
 pub mod Firing

@@ -1,12 +1,11 @@
 -- The replies to lines: what is written for each, and which state it leaves.
-use Rattle.std.specs.Prelude.{◌≡◌, ◌≢◌, ◌⊎◌, ◌<◌, ◌≤◌, ℕ, Bool, true, false, List, [], ◌∷◌, ◌++◌, codes, length, map, Option, Some}
+use Rattle.std.specs.Prelude.{◌≡◌, ◌≢◌, ◌⊎◌, ◌<◌, ◌≤◌, ℕ, Bool, true, false, List, [], ◌∷◌, ◌++◌, codes, length, map, Option, Some, None}
 use Rattle.std.specs.Fmt.{decimal}
 use Rattle.std.specs.FinMap as finite
 use Rattle.ghc_term.specs.declared.var_name.VarName.{VarName}
 use Rattle.ghc_term.specs.declared.goal_name.GoalName.{GoalName}
 use Rattle.ghc_term.specs.declared.fault.Fault.{Fault}
 use Rattle.ghc_term.specs.declared.limit.Limit.TheVariants as limit
-use Rattle.ghc_term.specs.Fault.{fault_text}
 use Rattle.ghc_term.specs.Tree.{Tree, variable}
 use Rattle.ghc_term.specs.Store.{value_at}
 use Rattle.ghc_term.specs.Resolved.{IsTextOf}
@@ -34,20 +33,15 @@ use Rattle.ghc_trace.specs.ReasonText.{reason_text}
 use Rattle.ghc_trace.specs.Why.{AreReasonsTold}
 use Rattle.ghc_trace.specs.declared.who_bound.Binder.{Binder}
 use Rattle.ghc_trace.specs.Who.{AreBindersTold, binder_text}
+use Rattle.ghc_trace.specs.Spies.{Spies}
+pub use Rattle.ghc_console.specs.TextLines.{lined, refusal}
+use Rattle.ghc_console.specs.RunReplies.{TellsRun, RepliesToSkip}
 use Rattle.ghc_console.specs.VariableNamed.{IsVariableNamed}
 use Rattle.ghc_console.specs.Commands.{command_of}
 use Rattle.ghc_console.specs.declared.command.LineCommand.{LineCommand}
-use Rattle.ghc_console.specs.declared.command.LineCommand.TheVariants.{Nothing as nothing, Step as step, Undo as undo, Redo as redo, Roll as roll, Arrange as arrange, Show as show, Records as records, Goals as goals, Why as why, Who as who, Shelf as shelf, Spy as spy, Unspy as unspy, Input as input, Close as close, Quit as quit, Unknown as unknown}
+use Rattle.ghc_console.specs.declared.command.LineCommand.TheVariants.{Nothing as nothing, Step as step, Undo as undo, Redo as redo, Roll as roll, Arrange as arrange, Show as show, Records as records, Goals as goals, Why as why, Who as who, Shelf as shelf, Spy as spy, Unspy as unspy, Input as input, Close as close, Leap as leap, Skip as skip, Quit as quit, Unknown as unknown}
 use Rattle.ghc_console.specs.Reading.{line_limit}
 use Rattle.ghc_console.specs.SessionState.{SessionState, HasClauseFor, LeavesSpies, predicate_text}
-
--- the text as a line
-abbrev pub lined : List ℕ → List ℕ
-lined text = text ++ codes "\n"
-
--- the line of a refusal
-abbrev pub refusal : Fault → List ℕ
-refusal f = lined (fault_text f)
 
 -- the most bytes of a printed term
 abbrev pub print_limit : ℕ
@@ -179,26 +173,28 @@ pub data RepliesToSpy (P : Program) (f : List ℕ) (n : ℕ) : List ℕ → Type
   is_spied : HasClauseFor P f n → RepliesToSpy P f n (lined (codes "spying " ++ predicate_text f n))
   is_undefined : ¬ HasClauseFor P f n → RepliesToSpy P f n (refusal (Fault.Undefined f n))
 
--- Replies w c text v: the reply to the command c in the world w is the text, and it leaves the world v.
-abbrev pub Replies : World → LineCommand → List ℕ → World → Type 0
-Replies w nothing text v = (text ≡ []) × (v ≡ w)
-Replies w (step g choice) text v = RepliesToStep w g choice text v
-Replies w (undo n) text v = TakesBack w n text v
-Replies w (redo n) text v = PutsBack w n text v
-Replies w (roll n) text v = RollsBack w n text v
-Replies w (arrange order) text v = Reorders w order text v
-Replies w (show word) text v = RepliesToShow w word text × (v ≡ w)
-Replies w records text v = (text ≡ records_text w.kept) × (v ≡ w)
-Replies w goals text v = RepliesToGoals w text × (v ≡ w)
-Replies w (why n) text v = RepliesToWhy w n text × (v ≡ w)
-Replies w (who word) text v = RepliesToWho w word text × (v ≡ w)
-Replies w shelf text v = (text ≡ shelf_text w.shelf) × (v ≡ w)
-Replies w (spy f n) text v = RepliesToSpy w.opening.program f n text × (v ≡ w)
-Replies w (unspy f n) text v = (text ≡ lined (codes "not spying " ++ predicate_text f n)) × (v ≡ w)
-Replies w (input k given) text v = RepliesToInput w k given text v
-Replies w (close k) text v = Closes w k text v
-Replies w quit text v = (text ≡ []) × (v ≡ w)
-Replies w unknown text v = (text ≡ refusal Fault.Command) × (v ≡ w)
+-- Replies spies w c text v: where these predicates are spied, the reply to the command c in the world w is the text, and it leaves the world v.
+abbrev pub Replies : Spies → World → LineCommand → List ℕ → World → Type 0
+Replies spies w nothing text v = (text ≡ []) × (v ≡ w)
+Replies spies w (step g choice) text v = RepliesToStep w g choice text v
+Replies spies w (undo n) text v = TakesBack w n text v
+Replies spies w (redo n) text v = PutsBack w n text v
+Replies spies w (roll n) text v = RollsBack w n text v
+Replies spies w (arrange order) text v = Reorders w order text v
+Replies spies w (show word) text v = RepliesToShow w word text × (v ≡ w)
+Replies spies w records text v = (text ≡ records_text w.kept) × (v ≡ w)
+Replies spies w goals text v = RepliesToGoals w text × (v ≡ w)
+Replies spies w (why n) text v = RepliesToWhy w n text × (v ≡ w)
+Replies spies w (who word) text v = RepliesToWho w word text × (v ≡ w)
+Replies spies w shelf text v = (text ≡ shelf_text w.shelf) × (v ≡ w)
+Replies spies w (spy f n) text v = RepliesToSpy w.opening.program f n text × (v ≡ w)
+Replies spies w (unspy f n) text v = (text ≡ lined (codes "not spying " ++ predicate_text f n)) × (v ≡ w)
+Replies spies w (input k given) text v = RepliesToInput w k given text v
+Replies spies w (close k) text v = Closes w k text v
+Replies spies w (leap limit) text v = TellsRun spies None limit w text v
+Replies spies w (skip g limit) text v = RepliesToSkip spies w g limit text v
+Replies spies w quit text v = (text ≡ []) × (v ≡ w)
+Replies spies w unknown text v = (text ≡ refusal Fault.Command) × (v ≡ w)
 
 -- The command ends the session.
 abbrev pub quits : LineCommand → Bool
@@ -218,12 +214,14 @@ quits (spy f n) = false
 quits (unspy f n) = false
 quits (input k given) = false
 quits (close k) = false
+quits (leap limit) = false
+quits (skip g limit) = false
 quits quit = true
 quits unknown = false
 
 -- Answers s c text t: the reply to the command c in the state s is the text, and it leaves the state t.
 pub record Answers (s : SessionState) (c : LineCommand) (text : List ℕ) (t : SessionState) : Type 0 where
-  pub told : Replies s.world c text t.world
+  pub told : Replies s.spies s.world c text t.world
   pub spies : LeavesSpies s.world.opening.program s.spies c t.spies
 
 -- IsReply s line text t ended: the text is the reply to the line in the state s, which leaves the state t, and the session ends or goes on. A line past the limit is refused; and each line may find no memory, which changes nothing.

@@ -1,11 +1,13 @@
 // The replies to lines, each written into a text of the session.
 ghost use Rattle.std.specs.Prelude.{◌≡◌, ◌≤◌, false, [], List, ℕ, length, IfOk, MatchResult, OnErr, OnOk, string_bytes};
 ghost use Rattle.ghc_console.specs.Commands.{command_of};
-ghost use Rattle.ghc_console.specs.Firing.{Fires};
+ghost use Rattle.ghc_console.specs.Firing.{Fires, runs_of};
 ghost use Rattle.ghc_console.specs.Reading.{LineSays, line_limit};
-ghost use Rattle.ghc_console.specs.Replies.{IsReply, Replies, quits, refusal};
+ghost use Rattle.ghc_console.specs.Answered.{HasAdded, IsAnsweredBy, IsCarriedOut};
+ghost use Rattle.ghc_console.specs.Replies.{IsReply, Replies, refusal};
 ghost use Rattle.ghc_console.specs.SessionState.{LeavesSpies, state_of};
 
+use crate::answered::Answered;
 use crate::arrange_reply::arrange;
 use crate::causes::{who, why};
 use crate::command::{LineCommand, parse};
@@ -15,21 +17,23 @@ use crate::reading::Line;
 use crate::redo_reply::redo;
 use crate::reply::{goals, records, refused, show, step};
 use crate::roll_reply::roll;
+use crate::run_reply::{leap, skip};
 use crate::shelf_reply::shelf;
 use crate::spy_reply::{spy, unspy};
 use crate::undo_reply::undo;
 use ghc_term::{Fault, Limit};
 use std::alloc::{AllocError, Global};
 
-// Carries a command out, and writes the reply. An error leaves the state as it was.
-fn execute(
+// Carries a command out that is no run, and writes the reply. An error leaves the state as it was.
+fn tell(
     alloc: Global,
     debugger: &mut Debugger,
     command: &LineCommand,
     reply: &mut String,
 ) -> Result<(), AllocError>
-    requires { string_bytes reply.old ≡ [] }
-    ensures reply { OnOk result (Replies debugger.old.core.world command.now (string_bytes reply.new) debugger.new.core.world) }
+    requires empty { string_bytes reply.old ≡ [] }
+    requires told { runs_of command.now ≡ 0 }
+    ensures reply { OnOk result (Replies debugger.old.spies debugger.old.core.world command.now (string_bytes reply.new) debugger.new.core.world) }
     ensures spies { OnOk result (LeavesSpies debugger.old.core.world.opening.program debugger.old.spies command.now debugger.new.spies) }
     ensures world { OnErr result (debugger.new.core.world ≡ debugger.old.core.world) }
     ensures kept { OnErr result (debugger.new.spies ≡ debugger.old.spies) }
@@ -65,54 +69,74 @@ fn execute(
         }
         LineCommand::Close(stream) => close(alloc, &mut debugger.core, *stream, reply),
         LineCommand::Unknown => refused(&Fault::Command, reply),
+        LineCommand::Leap(_) | LineCommand::Skip(_, _) => unreachable!(),
     }
 }
 
-// Whether the command ends the session.
-fn is_quit(command: &LineCommand) -> bool
-    ensures { result ≡ quits command.now }
+// Carries a command out, and writes the reply, but that of a run. An error leaves the state as it was.
+fn execute(
+    alloc: Global,
+    debugger: &mut Debugger,
+    command: &LineCommand,
+    reply: &mut String,
+) -> Result<Answered, AllocError>
+    requires { string_bytes reply.old ≡ [] }
+    ensures answered { IfOk result (IsCarriedOut (state_of debugger.old) command.now (string_bytes reply.new) (state_of debugger.new)) }
+    ensures added { IfOk result (HasAdded debugger.new.core.world) }
+    ensures err { OnErr result (state_of debugger.new ≡ state_of debugger.old) }
+    ensures opening { debugger.new.core.world.opening ≡ debugger.old.core.world.opening }
+    ensures fires { Fires command.now debugger.old.core.meter.firings debugger.new.core.meter.firings }
 {
     match command {
-        LineCommand::Quit => true,
-        _ => false,
+        LineCommand::Leap(limit) => {
+            let report = leap(alloc, &mut debugger.core, &debugger.spies, None, *limit);
+            Ok(Answered::Ran(report))
+        }
+        LineCommand::Skip(goal, limit) => {
+            let Debugger { core, spies } = debugger;
+            skip(alloc, core, spies, *goal, *limit, reply)
+        }
+        LineCommand::Quit => Ok(Answered::Ends),
+        _ => match tell(alloc, debugger, command, reply) {
+            Ok(()) => Ok(Answered::Told),
+            Err(error) => Err(error),
+        },
     }
 }
 
-// Carries a whole line out, writes the reply, and says whether the session ends.
+// Carries a whole line out, and writes the reply, but that of a run.
 fn execute_line(
     alloc: Global,
     debugger: &mut Debugger,
     line: &[u8],
     reply: &mut String,
-) -> Result<bool, AllocError>
+) -> Result<Answered, AllocError>
     requires { string_bytes reply.old ≡ [] }
-    ensures ok { length line.now ≤ line_limit → IfOk result (λ ended. IsReply (state_of debugger.old) line.now (string_bytes reply.new) (state_of debugger.new) ended) }
+    ensures ok { length line.now ≤ line_limit → IfOk result (IsAnsweredBy (state_of debugger.old) line.now (string_bytes reply.new) (state_of debugger.new)) }
+    ensures added { IfOk result (HasAdded debugger.new.core.world) }
     ensures err { OnErr result (state_of debugger.new ≡ state_of debugger.old) }
     ensures opening { debugger.new.core.world.opening ≡ debugger.old.core.world.opening }
     ensures fires { Fires (command_of line.now) debugger.old.core.meter.firings debugger.new.core.meter.firings }
 {
-    let command = match parse(alloc, line) {
-        Ok(command) => command,
-        Err(error) => return Err(error),
-    };
-    let ended = is_quit(&command);
-    match execute(alloc, debugger, &command, reply) {
-        Ok(()) => Ok(ended),
+    match parse(alloc, line) {
+        Ok(command) => execute(alloc, debugger, &command, reply),
         Err(error) => Err(error),
     }
 }
 
-/// Writes the reply to a line in place of what stood in the text, and says whether the session ends. An error says that memory
-/// was refused, which is the reply then.
+/// Carries a line out, and writes the reply in place of what stood in the text, but for a run: its lines are to be told, and the
+/// text is to be taken for nothing. It says too whether the session ends. An error says that memory was refused, which is the
+/// reply then.
 pub fn answer(
     alloc: Global,
     debugger: &mut Debugger,
     line: &Line,
     reply: &mut String,
-) -> Result<bool, AllocError>
+) -> Result<Answered, AllocError>
     ensures reply { (bytes : List ℕ) → LineSays line.now bytes → MatchResult result
-        (λ ended. IsReply (state_of debugger.old) bytes (string_bytes reply.new) (state_of debugger.new) ended)
+        (IsAnsweredBy (state_of debugger.old) bytes (string_bytes reply.new) (state_of debugger.new))
         (λ _. IsReply (state_of debugger.old) bytes (refusal Fault.Memory) (state_of debugger.new) false) }
+    ensures added { IfOk result (HasAdded debugger.new.core.world) }
     ensures opening { debugger.new.core.world.opening ≡ debugger.old.core.world.opening }
     ensures fires { (bytes : List ℕ) → LineSays line.now bytes → Fires (command_of bytes) debugger.old.core.meter.firings debugger.new.core.meter.firings }
 {
@@ -120,7 +144,7 @@ pub fn answer(
     match line {
         Line::Whole(bytes) => execute_line(alloc, debugger, bytes.as_slice(), reply),
         Line::TooLong => match refused(&Fault::Limit(Limit::Line), reply) {
-            Ok(()) => Ok(false),
+            Ok(()) => Ok(Answered::Told),
             Err(error) => Err(error),
         },
         Line::NoMemory => Err(AllocError),

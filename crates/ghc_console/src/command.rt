@@ -2,7 +2,7 @@
 ghost use Rattle.std.specs.Prelude.{◌≡◌, true, IfOk};
 ghost use Rattle.std.specs.List.{list_all};
 ghost use Rattle.ghc_console.specs.Words.{behind, is_printable, is_variable, numbers_of, words_of};
-ghost use Rattle.ghc_console.specs.Commands.{arrange_with, command_by_count, command_of, command_of_one_word, command_of_three_words, command_of_two_words, command_of_words, command_with_number, command_with_variable, input_to};
+ghost use Rattle.ghc_console.specs.Commands.{arrange_with, command_by_count, command_of, command_of_one_word, command_of_three_words, command_of_two_words, command_of_words, command_with_number, command_with_variable, input_to, leap_of, run_limit, skip_by, skip_of};
 
 use crate::input_text::InputText;
 use crate::order::Order;
@@ -11,6 +11,9 @@ use crate::word::Word;
 use crate::words::{goal_name, is_variable_word, next_word, number, unindented};
 use ghc_term::{GoalName, Name};
 use std::alloc::{AllocError, Global};
+
+// The most steps of a run, where a line says no number.
+const RUN_LIMIT: u32 = 1_000_000;
 
 /// What a line asks for.
 #[derive(Drop)]
@@ -47,10 +50,37 @@ pub enum LineCommand {
     Input(u32, InputText),
     /// The closing of the stream of this number.
     Close(u32),
+    /// A run of as many steps as this at most.
+    Leap(u32),
+    /// A run of as many steps as this at most, of the goals that descend from this one.
+    Skip(GoalName, u32),
     /// The end of the session.
     Quit,
     /// No command that is known.
     Unknown,
+}
+
+// A run of so many steps at most, which are one or more.
+fn leap_command(limit: u32) -> LineCommand
+    ensures { result ≡ leap_of limit }
+{
+    if limit == 0 {
+        return LineCommand::Unknown;
+    }
+    LineCommand::Leap(limit)
+}
+
+// The same of the goals that descend from a goal, where both are there.
+fn skip_command(goal: Option<GoalName>, limit: Option<u32>) -> LineCommand
+    ensures { result ≡ skip_by goal limit }
+{
+    let (Some(goal), Some(limit)) = (goal, limit) else {
+        return LineCommand::Unknown;
+    };
+    if limit == 0 {
+        return LineCommand::Unknown;
+    }
+    LineCommand::Skip(goal, limit)
 }
 
 // The command of a word alone.
@@ -65,6 +95,9 @@ fn one_word_command(first_word: &[u8]) -> LineCommand
     }
     if first_word == b"shelf".as_slice() {
         return LineCommand::Shelf;
+    }
+    if first_word == b"leap".as_slice() {
+        return LineCommand::Leap(RUN_LIMIT);
     }
     if first_word == b"quit".as_slice() {
         return LineCommand::Quit;
@@ -102,6 +135,9 @@ fn number_command(first_word: &[u8], step: u32) -> LineCommand
     if first_word == b"end".as_slice() {
         return LineCommand::Close(step);
     }
+    if first_word == b"leap".as_slice() {
+        return leap_command(step);
+    }
     LineCommand::Unknown
 }
 
@@ -137,6 +173,9 @@ fn two_word_command(
             None => Ok(LineCommand::Unknown),
         };
     }
+    if first_word == b"skip".as_slice() {
+        return Ok(skip_command(goal_name(word), Some(RUN_LIMIT)));
+    }
     if first_word == b"spy".as_slice() {
         return spy_command(alloc, word);
     }
@@ -153,14 +192,17 @@ fn two_word_command(
 }
 
 // The command of a word and two more.
-fn three_word_command(first_word: &[u8], goal: &[u8], clause: &[u8]) -> LineCommand
-    ensures { result ≡ command_of_three_words first_word.now goal.now clause.now }
+fn three_word_command(first_word: &[u8], goal: &[u8], word: &[u8]) -> LineCommand
+    ensures { result ≡ command_of_three_words first_word.now goal.now word.now }
 {
     if first_word == b"step".as_slice() {
-        return match (goal_name(goal), number(clause)) {
+        return match (goal_name(goal), number(word)) {
             (Some(goal), Some(clause)) => LineCommand::Step(goal, Some(clause)),
             _ => LineCommand::Unknown,
         };
+    }
+    if first_word == b"skip".as_slice() {
+        return skip_command(goal_name(goal), number(word));
     }
     LineCommand::Unknown
 }

@@ -2,6 +2,7 @@
 #![tactic(auto)]
 
 mod answer;
+mod answered;
 mod arrange_reply;
 mod asking;
 mod call_counts;
@@ -19,6 +20,8 @@ mod reading;
 mod redo_reply;
 mod reply;
 mod roll_reply;
+mod run_lines;
+mod run_reply;
 mod script;
 mod session_loop;
 mod settled;

@@ -3,16 +3,18 @@ ghost use Rattle.std.specs.Prelude.{◌≡◌, ◌+◌, ◌-◌, ◌≤◌, ℕ,
 ghost use Rattle.std.specs.Io.KnownBytes.{Keeps};
 ghost use Rattle.ghc_console.specs.Commands.{command_of};
 ghost use Rattle.ghc_console.specs.Device.{Counts};
-ghost use Rattle.ghc_console.specs.Firing.{Fires, firings_in};
+ghost use Rattle.ghc_console.specs.Firing.{Fires, firings_in, runs_in};
 ghost use Rattle.ghc_console.specs.Lines.{lines_of};
 ghost use Rattle.ghc_console.specs.Reading.{LineSays};
 ghost use Rattle.ghc_console.specs.Session.{Began, Served, Session, Tells};
 ghost use Rattle.ghc_console.specs.SessionState.{state_of};
 
 use crate::answer::answer;
+use crate::answered::Answered;
 use crate::debugger::Debugger;
 use crate::device::{Broken, Device, write_all};
 use crate::reading::{Ahead, Line};
+use crate::run_lines::write_run;
 use crate::settled::settle;
 use ghc_term::Fault;
 use std::alloc::Global;
@@ -46,8 +48,16 @@ fn serve<D: Device>(
     ensures latest { D.latest device.new ≡ D.latest device.old }
 {
     match answer(alloc, debugger, line, reply) {
-        Ok(ended) => match write_all(device, reply.as_bytes()) {
-            Ok(()) => Ok(ended),
+        Ok(Answered::Told) => match write_all(device, reply.as_bytes()) {
+            Ok(()) => Ok(false),
+            Err(Broken) => Err(Broken),
+        },
+        Ok(Answered::Ends) => match write_all(device, reply.as_bytes()) {
+            Ok(()) => Ok(true),
+            Err(Broken) => Err(Broken),
+        },
+        Ok(Answered::Ran(report)) => match write_run(device, &debugger.core, report, reply) {
+            Ok(()) => Ok(false),
             Err(Broken) => Err(Broken),
         },
         Err(_) => match write_all(device, b"F1 no memory\n") {
@@ -74,8 +84,8 @@ pub fn session<R: Wait, D: Device>(
         (D.earlier device.new - (D.earlier device.old + D.latest device.old)) (state_of result.0)) }
     ensures opening { result.0.core.world.opening ≡ debugger.core.world.opening }
 
-    // Where the bytes are known, each step of the lines fires at most once, and nothing else does.
-    ensures fires { IfSome (D.unread device.old) (λ input. result.0.core.meter.firings ≤ debugger.core.meter.firings + firings_in (lines_of input)) }
+    // Where the bytes are known and no line is a run, each step of the lines fires at most once, and nothing else does.
+    ensures fires { IfSome (D.unread device.old) (λ input. runs_in (lines_of input) ≡ 0 → result.0.core.meter.firings ≤ debugger.core.meter.firings + firings_in (lines_of input)) }
 
     // It fails only where the device did.
     ensures failed { IfErr result.1 (λ e. (e ≡ Fault.Device) × (D.failures device.new ≡ D.failures device.old + 1)) }

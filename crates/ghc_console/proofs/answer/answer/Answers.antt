@@ -1,5 +1,6 @@
 use Rattle.std.proofs.Common.{◌≤◌, length, string_bytes, refl, sym, subst, ◌∙◌, false, IfOk}
 use Rattle.ghc_console.specs.Reading.{LineSays, line_limit}
+use Rattle.ghc_console.specs.Answered.{IsAnsweredBy}
 use Rattle.ghc_console.specs.Replies.{IsReply, too_long, no_memory, refusal}
 use Rattle.ghc_term.specs.declared.fault.Fault.TheVariants as fault
 use Rattle.ghc_console.specs.Commands.{command_of}
@@ -16,7 +17,7 @@ returns-in-Whole-clause-reply c bytes says =
     let v = state_of c.execute_line.new.debugger in
     let text = string_bytes c.execute_line.new.reply in
     let whole = subst (λ l. LineSays l bytes) c.in-Whole.is says in
-    let replied = subst (λ l. length l ≤ line_limit → IfOk r (λ ended. IsReply w l text v ended)) (c.as_slice.ensures.value ∙ whole.0) c.execute_line.ensures.ok whole.1 in
+    let replied = subst (λ l. length l ≤ line_limit → IfOk r (IsAnsweredBy w l text v)) (c.as_slice.ensures.value ∙ whole.0) c.execute_line.ensures.ok whole.1 in
     either r replied c.execute_line.ensures.err (λ _ told. told) (λ same. subst (λ u. IsReply w bytes (refusal fault.Memory) u false) (sym same) no_memory)
 
 pub returns-in-Ok-clause-reply : goal.returns-in-Ok-clause-reply

@@ -1,4 +1,4 @@
-use Rattle.std.proofs.Common.{◌∙◌, ◌+◌, Some, ap, drop, sym, take}
+use Rattle.std.proofs.Common.{◌∙◌, ◌+◌, ap, drop, sym, take}
 use Rattle.std.proofs.lemmas.List.{take_rest}
 use Rattle.ghc_console.specs.PredicateWords.{predicate_named}
 use Rattle.ghc_console.specs.Words.{number_of}

@@ -1,4 +1,4 @@
-use Rattle.std.proofs.Common.{◌≡◌, ◌≤◌, [], length, sym, ap, ◌∙◌, ◌++◌, drop, string_bytes, append-nil, drop_of_length-le, arith}
+use Rattle.std.proofs.Common.{◌≡◌, [], sym, ap, ◌∙◌, ◌++◌, drop, string_bytes, append-nil, drop_of_length-le, arith}
 use Rattle.ghc_records.specs.Slots.{held_in}
 use Rattle.ghc_records.proofs.SlotRanks.{rank, rank_zero, rank_end}
 use Rattle.ghc_console.specs.Replies.{record_lines}
