@@ -25,3 +25,14 @@ pub mod SlotLemmas
 pub mod SlotPlaces
 pub mod SlotClosing
 pub mod SlotRanks
+pub mod CutLemmas
+pub mod Saying
+pub mod TellingSteps
+pub mod HistoryLines
+pub mod TellingHistories
+pub mod PlainTexts
+pub mod WrittenTexts
+pub mod CutTexts
+pub mod ToldHistories
+pub mod OneStep
+pub mod ExactTexts

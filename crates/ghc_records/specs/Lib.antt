@@ -13,3 +13,6 @@ pub mod RecordCode
 pub mod EntryCode
 pub mod State
 pub mod StepText
+pub mod HistoryText
+pub mod HistoryCode
+pub mod HistoryLaws

@@ -4,7 +4,14 @@
 mod addition;
 mod binders;
 mod binding;
+mod cutting;
 mod entry;
+mod history;
+mod history_laws;
+mod history_lines;
+mod history_range;
+mod history_reading;
+mod history_writing;
 mod journal;
 mod laws;
 mod making;
@@ -16,12 +23,20 @@ mod shelf;
 mod slots;
 mod state;
 mod step;
+mod step_reading;
 mod step_text;
 mod use_index;
 mod users;
 
 pub use addition::Addition;
 pub use entry::Entry;
+pub use history::History;
+pub use history_laws::{
+    cut_texts_are_refused, read_history_is_exact, written_histories_are_read_again,
+};
+pub use history_range::history_is_in_range;
+pub use history_reading::read_history;
+pub use history_writing::write_history;
 pub use journal::Journal;
 pub use laws::{replay_is_one, replay_is_well_made};
 pub use record::Record;

@@ -1,6 +1,7 @@
 // What no clause says and no row shows, of all crates: great sizes, failing devices, calls that no command reaches, threads.
 mod building;
 mod cores;
+mod histories;
 mod matching;
 mod reading;
 mod runs;

@@ -1,0 +1,139 @@
+-- A text tells one history, or has one first wrong line, and never both.
+use Rattle.std.proofs.Common.{◌≡◌, ℕ, zero, suc, ◌+◌, ◌<◌, ◌≤◌, inl, inr, List, [], ◌∷◌, ◌++◌, take, drop, length, refl, sym, ap, ◌∙◌, subst, arith, decimal, Some, Result, Ok, Err, slice_get}
+use Rattle.std.specs.Prelude.{codes}
+use Rattle.std.proofs.lemmas.List.{append_cancel_left, take_all}
+use Rattle.ghc_term.specs.declared.fault.Fault.{Fault}
+use Rattle.ghc_term.specs.Answered.{Answered, IsExact}
+use Rattle.ghc_term.specs.Lists.{In}
+use Rattle.ghc_term.specs.Tree.{Tree}
+use Rattle.ghc_reader.specs.Read.{IsReadTerm}
+use Rattle.ghc_records.specs.Journal.{Step}
+use Rattle.ghc_records.specs.History.{History}
+use Rattle.ghc_records.specs.HistoryText.{IsFirstWrongLine, IsHistoryRefusal, TellsCount, TellsHistory, TellsNext, TellsNoMore, TellsSteps, behind_count, count_line, more, no_count, no_end, no_heading, no_step, pieces_of}
+use Rattle.ghc_records.proofs.CutLemmas.{one_number}
+use Rattle.ghc_records.proofs.CutTexts.{distinct_taken, less_or, taken_at}
+use Rattle.ghc_records.proofs.OneStep.{one_at, one_line}
+use Rattle.ghc_records.proofs.TellingHistories.{one_next}
+
+-- lists that agree at each place begin alike
+begin_alike : {X : Type 0} (xs ys : List X) → ((i : ℕ) (x y : X) → slice_get xs i ≡ Some x → slice_get ys i ≡ Some y → x ≡ y) → length xs ≤ length ys → xs ≡ take (length xs) ys
+begin_alike [] ys same low = refl
+begin_alike (x ∷ xs) [] same low = absurd (omega (arith, low))
+begin_alike (x ∷ xs) (y ∷ ys) same low =
+    ap (λ z. z ∷ xs) (same 0 x y refl refl) ∙ ap (λ l. y ∷ l) (begin_alike xs ys (λ i a b e f. same (suc i) a b e f) (omega (arith, low)))
+
+one_longer : {X : Type 0} (xs : List X) (n : ℕ) → n < length xs → (x : X) × (take (suc n) xs ≡ take n xs ++ x ∷ [])
+one_longer [] n low = absurd (omega (arith, low))
+one_longer (x ∷ xs) zero low = (x, refl)
+one_longer (x ∷ xs) (suc n) low = let (y, e) = one_longer xs n (omega (arith, low)) in (y, ap (λ l. x ∷ l) e)
+
+in_front : {X : Type 0} (n : ℕ) (xs : List X) (x : X) → In x (take n xs) → In x xs
+in_front zero xs x i = absurd i
+in_front (suc n) [] x i = absurd i
+in_front (suc n) (y ∷ xs) x (inl e) = inl e
+in_front (suc n) (y ∷ xs) x (inr i) = inr (in_front n xs x i)
+
+-- fewer steps are told too
+fewer_told : (pieces : List (List ℕ)) (count n : ℕ) (steps : List Step) → TellsSteps pieces count steps → TellsSteps pieces count (take n steps)
+fewer_told pieces count n steps told = record {
+  each = λ i s e. told.each i s (taken_at n steps i s e).1;
+  distinct = distinct_taken n steps told.distinct;
+  below = λ next s ends i. told.below next s ends (in_front n steps s i);
+}
+
+one_count : (text : List ℕ) (m n : ℕ) → TellsCount text m → TellsCount text n → m ≡ n
+one_count text m n h k =
+    let same : count_line m ≡ count_line n = one_line (pieces_of text) 1 (count_line m) (count_line n) h.0 k.0 in
+    one_number m n (omega (arith, h.1)) (omega (arith, k.1)) (append_cancel_left (codes "steps ") (decimal m) (decimal n) same)
+
+module _ (one_term : (text : List ℕ) (u other : Tree) → IsReadTerm text u → IsReadTerm text other → u ≡ other) where
+  alike : (pieces : List (List ℕ)) (count n : ℕ) (steps others : List Step) → TellsSteps pieces count steps → TellsSteps pieces n others → length steps ≤ length others → steps ≡ take (length steps) others
+  alike pieces count n steps others h k low = begin_alike steps others (one_at one_term pieces count n steps others h k) low
+
+  -- no more steps are told than where no further one is
+  not_longer : (pieces : List (List ℕ)) (count : ℕ) (stopped steps : List Step) → TellsNoMore pieces count stopped → TellsSteps pieces count steps → length steps ≤ length stopped
+  not_longer pieces count stopped steps h told = elim (less_or (length stopped) (length steps)) [
+    | inl low ↦
+        let (s, e) = one_longer steps (length stopped) low in
+        let begins : stopped ≡ take (length stopped) steps = alike pieces count count stopped steps h.0 told (omega (arith, low)) in
+        absurd (h.2 s (subst (TellsSteps pieces count) (e ∙ ap (λ l. l ++ s ∷ []) (sym begins)) (fewer_told pieces count (suc (length stopped)) steps told)))
+    | inr far ↦ far
+  ]
+
+  pub one_history : (text : List ℕ) (h k : History) → TellsHistory text h → TellsHistory text k → h ≡ k
+  one_history text h k told other =
+      let lengths : length h.steps ≡ length k.steps = one_count text (length h.steps) (length k.steps) told.count other.count in
+      let begins = alike (behind_count text) (length h.steps) (length k.steps) h.steps k.steps told.steps other.steps (omega (arith, lengths)) in
+      let steps : h.steps ≡ k.steps = begins ∙ take_all (length h.steps) k.steps (omega (arith, lengths)) in
+      let next : h.next ≡ k.next = one_next (behind_count text) (length h.steps) h.next k.next told.next (subst (λ n. TellsNext (behind_count text) n k.next) (sym lengths) other.next) in
+      ap (λ l. record { steps = l; next = h.next }) steps ∙ ap (λ n. record { steps = k.steps; next = n }) next
+
+  module _ (text : List ℕ) where
+    -- the line behind those that tell steps is one
+    one_stop : (m n : ℕ) (steps others : List Step) → TellsCount text m → TellsCount text n → TellsNoMore (behind_count text) m steps → TellsNoMore (behind_count text) n others → length steps + 3 ≡ length others + 3
+    one_stop m n steps others c d h k =
+        let same = one_count text m n c d in
+        let k2 = subst (λ j. TellsNoMore (behind_count text) j others) (sym same) k in
+        let less = not_longer (behind_count text) m others steps k2 h.0 in
+        let more = not_longer (behind_count text) m steps others h k2.0 in
+        omega (arith, less, more)
+
+    -- where all steps are told, none stops them
+    no_stop : (m n : ℕ) (steps others : List Step) → TellsCount text m → TellsCount text n → TellsNoMore (behind_count text) m steps → TellsSteps (behind_count text) n others → length others ≡ n → ⊥
+    no_stop m n steps others c d h k all =
+        let same = one_count text m n c d in
+        let least = not_longer (behind_count text) m steps others h (subst (λ j. TellsSteps (behind_count text) j others) (sym same) k) in
+        omega (arith, least, h.1, same, all)
+
+    counts_alike : (m n j : ℕ) → TellsCount text m → TellsCount text n → m + j ≡ n + j
+    counts_alike m n j c d = ap (λ k. k + j) (one_count text m n c d)
+
+    other_next : (m n next : ℕ) → TellsCount text m → TellsCount text n → ((k : ℕ) → ¬ TellsNext (behind_count text) m k) → ¬ TellsNext (behind_count text) n next
+    other_next m n next c d none told = none next (subst (λ j. TellsNext (behind_count text) j next) (sym (one_count text m n c d)) told)
+
+    pub never_both : (h : History) (line : ℕ) → TellsHistory text h → ¬ IsFirstWrongLine text line
+    never_both h line told (no_heading none) = none told.begins
+    never_both h line told (no_count begins none) = none (length h.steps) told.count
+    never_both h line told (no_step {count = m} {steps = steps} begins c stop) = no_stop m (length h.steps) steps h.steps c told.count stop told.steps refl
+    never_both h line told (no_end {count = m} begins c steps all none) = other_next m (length h.steps) h.next c told.count none told.next
+    never_both h line told (more {count = m} begins c steps all ends some) = some (ap (λ k. drop (k + 3) (pieces_of text)) (one_count text m (length h.steps) c told.count) ∙ told.whole)
+
+    pub one_wrong_line : (i j : ℕ) → IsFirstWrongLine text i → IsFirstWrongLine text j → i ≡ j
+    one_wrong_line i j (no_heading none) (no_heading other) = refl
+    one_wrong_line i j (no_heading none) (no_count begins other) = absurd (none begins)
+    one_wrong_line i j (no_heading none) (no_step begins c stop) = absurd (none begins)
+    one_wrong_line i j (no_heading none) (no_end begins c steps all other) = absurd (none begins)
+    one_wrong_line i j (no_heading none) (more begins c steps all ends some) = absurd (none begins)
+    one_wrong_line i j (no_count begins none) (no_heading other) = absurd (other begins)
+    one_wrong_line i j (no_count begins none) (no_count starts other) = refl
+    one_wrong_line i j (no_count begins none) (no_step {count = n} starts d stop) = absurd (none n d)
+    one_wrong_line i j (no_count begins none) (no_end {count = n} starts d steps all other) = absurd (none n d)
+    one_wrong_line i j (no_count begins none) (more {count = n} starts d steps all ends some) = absurd (none n d)
+    one_wrong_line i j (no_step begins c stop) (no_heading other) = absurd (other begins)
+    one_wrong_line i j (no_step {count = m} begins c stop) (no_count starts other) = absurd (other m c)
+    one_wrong_line i j (no_step {count = m} {steps = steps} begins c stop) (no_step {count = n} {steps = others} starts d rest) = one_stop m n steps others c d stop rest
+    one_wrong_line i j (no_step {count = m} {steps = steps} begins c stop) (no_end {count = n} {steps = others} starts d told all other) = absurd (no_stop m n steps others c d stop told all)
+    one_wrong_line i j (no_step {count = m} {steps = steps} begins c stop) (more {count = n} {steps = others} starts d told all ends some) = absurd (no_stop m n steps others c d stop told all)
+    one_wrong_line i j (no_end begins c told all none) (no_heading other) = absurd (other begins)
+    one_wrong_line i j (no_end {count = m} begins c told all none) (no_count starts other) = absurd (other m c)
+    one_wrong_line i j (no_end {count = m} {steps = steps} begins c told all none) (no_step {count = n} {steps = others} starts d stop) = absurd (no_stop n m others steps d c stop told all)
+    one_wrong_line i j (no_end {count = m} begins c told all none) (no_end {count = n} starts d others every other) = counts_alike m n 3 c d
+    one_wrong_line i j (no_end {count = m} begins c told all none) (more {count = n} {next = next} starts d others every ends some) = absurd (other_next m n next c d none ends)
+    one_wrong_line i j (more begins c told all ends some) (no_heading other) = absurd (other begins)
+    one_wrong_line i j (more {count = m} begins c told all ends some) (no_count starts other) = absurd (other m c)
+    one_wrong_line i j (more {count = m} {steps = steps} begins c told all ends some) (no_step {count = n} {steps = others} starts d stop) = absurd (no_stop n m others steps d c stop told all)
+    one_wrong_line i j (more {count = m} {next = next} begins c told all ends some) (no_end {count = n} starts d others every other) = absurd (other_next n m next d c other ends)
+    one_wrong_line i j (more {count = m} begins c told all ends some) (more {count = n} starts d others every stops rest) = counts_alike m n 4 c d
+
+  refused_once : (text : List ℕ) (d e : Fault) → IsHistoryRefusal text d → IsHistoryRefusal text e → d ≡ e
+  refused_once text d e (i, is, wrong) (j, other, also) = is ∙ ap Fault.History (one_wrong_line text i j wrong also) ∙ sym other
+
+  pub exact : (text : List ℕ) (result : Result History Fault) → Answered (TellsHistory text) (IsHistoryRefusal text) result → IsExact (TellsHistory text) (IsHistoryRefusal text) result
+  exact text (Ok h) told = record {
+    gives = λ k other. one_history text h k told.0 other;
+    refuses = λ e refused. absurd (never_both text h refused.0 told.0 refused.2);
+  }
+  exact text (Err d) told = record {
+    gives = λ k other. elim told.1 [ inl memory ↦ memory | inr refused ↦ absurd (never_both text k refused.0 other refused.2) ];
+    refuses = λ e refused. elim told.1 [ inl memory ↦ inr memory | inr first ↦ inl (refused_once text d e first refused) ];
+  }

@@ -1,0 +1,100 @@
+-- No line feed stands in the text of an input term, nor in that of a step or in another line of a history.
+use Rattle.std.proofs.Common.{◌≡◌, ◌≢◌, ℕ, suc, ◌<◌, ◌^◌, inl, inr, Bool, true, false, All, List, [], ◌∷◌, ◌++◌, refl, sym, ◌∙◌, subst, arith, decimal, ℤ, pos, negsuc, FitsSigned, w64}
+use Rattle.std.specs.Prelude.{codes, if◌then◌else◌, IsTrue, ◌&&◌}
+use Rattle.std.specs.Fmt.{signed_decimal}
+use Rattle.std.specs.Char.{is_ascii_lowercase}
+use Rattle.std.specs.List.{list_all}
+use Rattle.std.proofs.lemmas.List.Elements.{All-nil, All-cons, All-append}
+use Rattle.std.proofs.lemmas.Fmt.{decimal_is_IsNumeral}
+use Rattle.std.proofs.lemmas.Slice.Eq.{bytes_eq-Decides}
+use Rattle.ghc_term.specs.Tree.{Tree, variable, integer, node, Trees, none, more}
+use Rattle.ghc_term.specs.Text.{is_cell, is_nil, term_text, cell_text, rest_text, arguments_text, further_text, barred}
+use Rattle.ghc_term.specs.InputTerm.{is_name_byte, IsNameText, IsHead, IsInGrammar, AllInGrammar}
+use Rattle.ghc_records.proofs.CutLemmas.{digits_plain}
+
+-- no byte is a line feed
+abbrev pub HasNoFeed : List ℕ → Type 0
+HasNoFeed bytes = All (λ b. b ≢ 10) bytes
+
+pub nothing : HasNoFeed []
+nothing = All-nil (λ b. b ≢ 10)
+
+pub byte_first : (b : ℕ) (bs : List ℕ) → b ≢ 10 → HasNoFeed bs → HasNoFeed (b ∷ bs)
+byte_first b bs other h = All-cons (λ b. b ≢ 10) b bs other h
+
+pub both : (xs ys : List ℕ) → HasNoFeed xs → HasNoFeed ys → HasNoFeed (xs ++ ys)
+both xs ys p q = All-append (λ b. b ≢ 10) xs ys p q
+
+name_byte : (b : ℕ) → IsTrue (is_name_byte b) → b ≢ 10
+name_byte b h e = let clash : false ≡ true = subst (λ c. IsTrue (is_name_byte c)) e h in cc
+
+small_letter : (b : ℕ) → IsTrue (is_ascii_lowercase b) → b ≢ 10
+small_letter b h e = let clash : false ≡ true = subst (λ c. IsTrue (is_ascii_lowercase c)) e h in cc
+
+and_parts : (a b : Bool) → IsTrue (a && b) → IsTrue a × IsTrue b
+and_parts true b h = (refl, h)
+and_parts false b h = cc
+
+name_bytes : (bs : List ℕ) → IsTrue (list_all is_name_byte bs) → HasNoFeed bs
+name_bytes [] h = nothing
+name_bytes (b ∷ bs) h = let p = and_parts (is_name_byte b) (list_all is_name_byte bs) h in byte_first b bs (name_byte b p.0) (name_bytes bs p.1)
+
+name_text : (f : List ℕ) → IsNameText f → HasNoFeed f
+name_text [] h = absurd h
+name_text (b ∷ bs) h = byte_first b bs (small_letter b h.0) (name_bytes bs h.1)
+
+pub decimal_text : (n : ℕ) → n < 2 ^ 64 → HasNoFeed (decimal n)
+decimal_text n h = digits_plain 10 refl (decimal n) (decimal_is_IsNumeral n h).0.1
+
+integer_text : (z : ℤ) → FitsSigned w64 z → HasNoFeed (signed_decimal z)
+integer_text (pos n) h = decimal_text n (omega (arith, h.sfits))
+integer_text (negsuc n) h = byte_first 45 (decimal (suc n)) (λ e. omega (arith, e)) (decimal_text (suc n) (omega (arith, h.sfits)))
+
+closed : (xs : List ℕ) → HasNoFeed xs → HasNoFeed (barred xs)
+closed xs p = byte_first 124 (xs ++ codes "]") (λ e. omega (arith, e)) (both xs (codes "]") p (byte_first 93 [] (λ e. omega (arith, e)) nothing))
+
+choose : (b : Bool) (xs ys : List ℕ) → (b ≡ true → HasNoFeed xs) → (b ≡ false → HasNoFeed ys) → HasNoFeed (if b then xs else ys)
+choose true xs ys p q = p refl
+choose false xs ys p q = q refl
+
+nil_head : (f : List ℕ) (ts : Trees) → is_nil f ts ≡ true → HasNoFeed f
+nil_head f none e = subst HasNoFeed (sym ((bytes_eq-Decides f (codes "[]")).0 e)) (byte_first 91 (codes "]") (λ e. omega (arith, e)) (byte_first 93 [] (λ e. omega (arith, e)) nothing))
+nil_head f (more t ts) e = cc
+
+head_text : (f : List ℕ) (ts : Trees) → is_cell f ts ≡ false → IsHead f ts → HasNoFeed f
+head_text f ts e (inl z) = nil_head f ts z
+head_text f ts e (inr (inl z)) = let clash : true ≡ false = sym z ∙ e in cc
+head_text f ts e (inr (inr p)) = name_text f p.0
+
+mutual
+  pub term_plain : (t : Tree) → IsInGrammar t → HasNoFeed (term_text t)
+  term_plain (variable x) g = absurd g
+  term_plain (integer k) g = integer_text k g
+  term_plain (node f ts) g =
+      choose (is_cell f ts) (codes "[" ++ cell_text ts) (f ++ arguments_text ts)
+      (λ e. byte_first 91 (cell_text ts) (λ e. omega (arith, e)) (cell_plain ts g.1))
+      (λ e. both f (arguments_text ts) (head_text f ts e g.0) (arguments_plain ts g.1))
+
+  cell_plain : (ts : Trees) → AllInGrammar ts → HasNoFeed (cell_text ts)
+  cell_plain none g = nothing
+  cell_plain (more t none) g = nothing
+  cell_plain (more t (more u none)) g = both (term_text t) (rest_text u) (term_plain t g.0) (rest_plain u g.1.0)
+  cell_plain (more t (more u (more v vs))) g = nothing
+
+  rest_plain : (t : Tree) → IsInGrammar t → HasNoFeed (rest_text t)
+  rest_plain (variable x) g = absurd g
+  rest_plain (integer k) g = closed (signed_decimal k) (integer_text k g)
+  rest_plain (node f ts) g =
+      choose (is_nil f ts) (codes "]") (if is_cell f ts then codes "," ++ cell_text ts else barred (f ++ arguments_text ts))
+      (λ n. byte_first 93 [] (λ e. omega (arith, e)) nothing)
+      (λ n. choose (is_cell f ts) (codes "," ++ cell_text ts) (barred (f ++ arguments_text ts))
+      (λ e. byte_first 44 (cell_text ts) (λ e. omega (arith, e)) (cell_plain ts g.1))
+      (λ e. closed (f ++ arguments_text ts) (both f (arguments_text ts) (head_text f ts e g.0) (arguments_plain ts g.1))))
+
+  arguments_plain : (ts : Trees) → AllInGrammar ts → HasNoFeed (arguments_text ts)
+  arguments_plain none g = nothing
+  arguments_plain (more t ts) g = byte_first 40 (term_text t ++ further_text ts) (λ e. omega (arith, e)) (both (term_text t) (further_text ts) (term_plain t g.0) (further_plain ts g.1))
+
+  further_plain : (ts : Trees) → AllInGrammar ts → HasNoFeed (further_text ts)
+  further_plain none g = byte_first 41 [] (λ e. omega (arith, e)) nothing
+  further_plain (more t ts) g = byte_first 44 (term_text t ++ further_text ts) (λ e. omega (arith, e)) (both (term_text t) (further_text ts) (term_plain t g.0) (further_plain ts g.1))

@@ -1,0 +1,6 @@
+use Rattle.std.proofs.Common.{◌≡◌, drop}
+use Rattle.ghc_records.specs.HistoryText.{pieces_of}
+use Rattle.ghc_records.proofs.history_lines.skip_lines.Given as goal
+
+abbrev pub invariant-loop-index : goal.invariant-loop-index
+invariant-loop-index l = drop l._index (pieces_of l.text) ≡ pieces_of l.rest
