@@ -24,6 +24,8 @@ use Rattle.ghc_records.specs.contracts.use_index.UseIndex as use_index
 use Rattle.ghc_records.specs.contracts.shelf.Shelf as shelf
 use Rattle.ghc_records.specs.contracts.state.State as state
 use Rattle.ghc_records.specs.contracts.journal.Journal as journal
+use Rattle.ghc_records.specs.contracts.step.Step as step
+use Rattle.ghc_records.specs.contracts.history.History as history
 use Rattle.ghc_flat.specs.contracts.test.Test as test
 use Rattle.ghc_flat.specs.contracts.clause.Clause as clause
 use Rattle.ghc_flat.specs.contracts.program.Program as program
@@ -137,6 +139,18 @@ journal_send = search (taken_send, crosses, sendable) depth 60 fits 20000
 journal_sync : IsSync journal.the_row
 journal_sync = search (taken_sync, crosses, sendable) depth 60 fits 20000
 
+step_send : IsSend step.the_row
+step_send = search (goal_name.the_send, act_send, crosses, sendable) depth 60 fits 20000
+
+step_sync : IsSync step.the_row
+step_sync = search (goal_name.the_sync, act_sync, crosses, sendable) depth 60 fits 20000
+
+history_send : IsSend history.the_row
+history_send = search (step_send, crosses, sendable) depth 60 fits 20000
+
+history_sync : IsSync history.the_row
+history_sync = search (step_sync, crosses, sendable) depth 60 fits 20000
+
 test_send : IsSend test.the_row
 test_send = search (expression_send, comparison.the_send, crosses, sendable) depth 60 fits 20000
 
@@ -192,7 +206,7 @@ tries_sync : IsSync tries.the_row
 tries_sync = search (notes_sync, goal_set_sync, looks_sync, crosses, sendable) depth 60 fits 20000
 
 pub core_send : IsSend core.the_row
-core_send = search (program_send, query_send, state_send, records_send, shelf_send, journal_send, tries_send, crosses, sendable) depth 60 fits 20000
+core_send = search (program_send, query_send, state_send, records_send, shelf_send, journal_send, history_send, tries_send, crosses, sendable) depth 60 fits 20000
 
 pub core_sync : IsSync core.the_row
-core_sync = search (program_sync, query_sync, state_sync, records_sync, shelf_sync, journal_sync, tries_sync, crosses, sendable) depth 60 fits 20000
+core_sync = search (program_sync, query_sync, state_sync, records_sync, shelf_sync, journal_sync, history_sync, tries_sync, crosses, sendable) depth 60 fits 20000

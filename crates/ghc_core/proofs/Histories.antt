@@ -125,7 +125,7 @@ not_longer : (es : List Entry) (e : Entry) → ¬ (es ≡ es ++ e ∷ [])
 not_longer es e p = let q : length es ≡ length es + 1 = ap length p ∙ length-append es (e ∷ []) in omega (arith, q)
 
 -- what is given to a stream is closed
-given_closed : (w : World) (k : ℕ) (t : Tree) (r : Record) → streams.IsStreamStep w k (given t) r → IsClosed t
+pub given_closed : (w : World) (k : ℕ) (t : Tree) (r : Record) → streams.IsStreamStep w k (given t) r → IsClosed t
 given_closed w k t r s = (subst₂ (λ c a. HasStepEffect w.opening.program c a r.number (value_at w.state.store) r.effect) s.3 s.4 s.5.1.1).1
 
 -- an event that left an entry was proper

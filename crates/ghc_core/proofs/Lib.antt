@@ -25,3 +25,10 @@ pub mod RolledBack
 pub mod Arranged
 pub mod StreamNames
 pub mod StreamSteps
+pub mod Replying
+pub mod Playable
+pub mod CertainRefusals
+pub mod Counted
+pub mod Loading
+pub mod SavedSteps
+pub mod LoadedAgain

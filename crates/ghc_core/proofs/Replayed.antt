@@ -32,10 +32,10 @@ pub record Replayed (w : World) : Type 0 where
   pub few : length w.kept ≤ kept_limit
 
 -- a step more is within the limit where there is room
-one_more : (kept : List Record) (r : Record) → length kept < kept_limit → length (kept ++ r ∷ []) ≤ kept_limit
+pub one_more : (kept : List Record) (r : Record) → length kept < kept_limit → length (kept ++ r ∷ []) ≤ kept_limit
 one_more kept r l = let e : length (kept ++ r ∷ []) ≡ length kept + 1 = length-append kept (r ∷ []) in omega arith
 
-runs_push : (P : Program) (rs : List Record) (r : Record) (s t : State) → Runs P s rs t → Fires P t r → Runs P s (rs ++ r ∷ []) (after t r)
+pub runs_push : (P : Program) (rs : List Record) (r : Record) (s t : State) → Runs P s rs t → Fires P t r → Runs P s (rs ++ r ∷ []) (after t r)
 runs_push P [] r s t run f = (subst (λ z. Fires P z r) run f, ap (λ z. after z r) run)
 runs_push P (q ∷ rs) r s t run f = (run.0, runs_push P rs r (after s q) t run.1 f)
 
@@ -45,7 +45,7 @@ not_next w good r e i = not_kept_next w good (subst (λ m. In m (numbers w.kept)
 
 module _ (w : World) (good : Good w) (h : Replayed w) where
   -- a step more at the end
-  pushed : (r : Record) → Fires w.opening.program w.state r → IsStepNumber r.number → ¬ In r.number (numbers w.kept) → IsReplay w (w.kept ++ r ∷ []) (after w.state r)
+  pub pushed : (r : Record) → Fires w.opening.program w.state r → IsStepNumber r.number → ¬ In r.number (numbers w.kept) → IsReplay w (w.kept ++ r ∷ []) (after w.state r)
   pushed r f n new = (
     (
       λ s i. elim (in_either w.kept (r ∷ []) s i) [

@@ -11,7 +11,7 @@ use Rattle.ghc_records.specs.Orders.{Picks, AreDistinct}
 use Rattle.ghc_records.specs.Record.{State, Record, numbers, Shelf}
 use Rattle.ghc_records.specs.State.{IsTakenBack, AreTakenBack}
 use Rattle.ghc_records.specs.Journal.{Opening, Entry, undid, rolled}
-use Rattle.ghc_records.proofs.OrderLemmas.{number_in, number_of}
+use Rattle.ghc_records.proofs.OrderLemmas.{number_of}
 use Rattle.ghc_hooks.specs.Notes.{Note, NotesByGoal, AreLeft}
 use Rattle.ghc_hooks.specs.Tries.{Tries}
 use Rattle.ghc_depend.specs.Depend.{IsKeptAs, Binds}

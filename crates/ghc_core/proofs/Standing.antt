@@ -1,5 +1,5 @@
 -- What is known of a world that a core can be in, and which worlds are so from the start.
-use Rattle.std.proofs.Common.{◌≡◌, ◌≢◌, ◌<◌, ℕ, List, [], refl, inl, inr, arith, Some}
+use Rattle.std.proofs.Common.{◌≡◌, ◌≢◌, ◌<◌, ◌≤◌, ℕ, List, [], refl, sym, inl, inr, arith, Some}
 use Rattle.std.specs.FinMap as finite
 use Rattle.ghc_term.specs.declared.var_name.VarName.{VarName}
 use Rattle.ghc_term.specs.declared.goal_name.GoalName.{GoalName}
@@ -10,9 +10,11 @@ use Rattle.ghc_flat.specs.Flat.{IsProgram, IsQuery}
 use Rattle.ghc_fire.specs.Effect.{no_step}
 use Rattle.ghc_fire.specs.Laws.{HasNoVariableOf}
 use Rattle.ghc_term.specs.Lists.{In}
-use Rattle.ghc_records.specs.Record.{Record}
+use Rattle.ghc_records.specs.Record.{State, Record, Shelf}
 use Rattle.ghc_records.specs.Replay.{query_state, IsVariableOf}
-use Rattle.ghc_records.specs.Journal.{Opening, fresh_opening}
+use Rattle.ghc_records.specs.Numbers.{number_limit}
+use Rattle.ghc_records.specs.Journal.{Opening, Entry}
+use Rattle.ghc_records.specs.History.{History, loaded_opening}
 use Rattle.ghc_records.specs.Laws.{IsWellMade}
 use Rattle.ghc_records.proofs.Replaying as replaying
 use Rattle.ghc_depend.specs.Kept.{Keeps}
@@ -68,27 +70,40 @@ standing_numbered w s g b e =
 pub opening_stands : (o : Opening) (w : World) → IsSound o → Opens o w → IsStanding w
 opening_stands o w sound opens = at_opening sound opens refl
 
--- the world of a query where nothing was loaded
-abbrev pub fresh_world : Program → Query → List (List ℕ) → World
-fresh_world P query names = record { opening = fresh_opening P query names; state = query_state query; kept = []; shelf = finite.empty; next = 1; journal = [] }
+-- the opening of a query on which no step was loaded, and behind which a step gets the number n
+abbrev pub empty_opening : Program → Query → List (List ℕ) → ℕ → Opening
+empty_opening P query names n = loaded_opening P query names (record { steps = []; next = n })
 
--- The fresh opening of a program, a query and names makes their fresh world.
-pub fresh_opens : (P : Program) (query : Query) (names : List (List ℕ)) → Opens (fresh_opening P query names) (fresh_world P query names)
-fresh_opens P query names = record {
+-- the world of a query where no step was loaded
+abbrev pub empty_world : Program → Query → List (List ℕ) → ℕ → World
+empty_world P query names n = record { opening = empty_opening P query names n; state = query_state query; kept = []; shelf = finite.empty; next = n; journal = [] }
+
+-- A world of these parts is the world of a query where no step was loaded.
+pub same_empty : (P : Program) (query : Query) (names : List (List ℕ)) (n : ℕ) {loaded : History} {s : State} {rs : List Record} {shelf : Shelf} {es : List Entry}
+    → loaded ≡ record { steps = []; next = n } → s ≡ query_state query → rs ≡ [] → shelf ≡ finite.empty → es ≡ []
+    → empty_world P query names n ≡ record { opening = loaded_opening P query names loaded; state = s; kept = rs; shelf = shelf; next = n; journal = es }
+same_empty P query names n loaded state kept shelf journal i =
+    record { opening = loaded_opening P query names (sym loaded i); state = sym state i; kept = sym kept i; shelf = sym shelf i; next = n; journal = sym journal i }
+
+-- The opening of a program, a query, names and a number makes their world before any step.
+pub empty_opens : (P : Program) (query : Query) (names : List (List ℕ)) (n : ℕ) → 1 ≤ n → n ≤ number_limit → Opens (empty_opening P query names n) (empty_world P query names n)
+empty_opens P query names n first small = record {
   opening = refl;
   steps = refl;
   state = (((λ r i. absurd i), tt), refl);
   below = λ r i. absurd i;
-  numbered = (omega arith, omega arith);
+  numbered = (first, small);
   few = omega arith;
   shelf = refl;
   next = refl;
   journal = refl;
 }
 
--- The fresh world of an accepted program and query, and of names of the query's variables, stands.
-pub fresh_stands : (P : Program) (query : Query) (names : List (List ℕ)) → IsProgram P → IsQuery P query → AreNamesOf query names → IsStanding (fresh_world P query names)
-fresh_stands P query names accepted asked named = opening_stands (fresh_opening P query names) (fresh_world P query names) (accepted, asked, named) (fresh_opens P query names)
+-- The world before any step of an accepted program and query, and of names of the query's variables, stands.
+pub empty_stands : (P : Program) (query : Query) (names : List (List ℕ)) (n : ℕ) → 1 ≤ n → n ≤ number_limit → IsProgram P → IsQuery P query → AreNamesOf query names
+    → IsStanding (empty_world P query names n)
+empty_stands P query names n first small accepted asked named =
+    opening_stands (empty_opening P query names n) (empty_world P query names n) (accepted, asked, named) (empty_opens P query names n first small)
 
 -- Each kept step of a standing world has a number below the next one.
 pub standing_below : (w : World) → IsStanding w → (r : Record) → In r w.kept → r.number < w.next

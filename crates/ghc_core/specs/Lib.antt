@@ -10,6 +10,7 @@ pub mod HistoryLaws
 pub mod Returns
 pub mod Facts
 pub mod Load
+pub mod LoadLaws
 pub mod Core
 pub mod CoreCode
 pub mod Carried
@@ -18,3 +19,7 @@ pub mod Arrangement
 pub mod Change
 pub mod StreamGoals
 pub mod CommandCode
+pub mod EventCode
+pub mod Playing
+pub mod Anyway
+pub mod Counting

@@ -1,8 +1,5 @@
 // The core of a debugger: a program and a query, the state of the run, and its record.
-ghost use Rattle.std.specs.Prelude.{◌≡◌, ◌⊎◌, IfOk, IfErr, OnErr, IsErrAnd, MatchResult, ⊤};
-ghost use Rattle.ghc_core.specs.World.{World};
-ghost use Rattle.ghc_core.specs.Core.{IsCommitted};
-ghost use Rattle.ghc_core.specs.Proposes.{AttemptAnswers, IsCommitOf, CommitFails};
+ghost use Rattle.std.specs.Prelude.{◌≡◌, ◌≤◌, [], IfOk};
 
 use crate::carrying::mark_made;
 use crate::stream_goals::StreamGoals;
@@ -10,8 +7,7 @@ use ghc_fire::Meter;
 use ghc_flat::Program;
 use ghc_hooks::Tries;
 use ghc_reader::Query;
-use ghc_records::{Journal, Records, Shelf, State};
-use ghc_term::{Fault, GoalName, Store};
+use ghc_records::{History, Journal, Records, Shelf, State};
 use std::alloc::{AllocError, Global};
 use std::marker::Model;
 
@@ -25,6 +21,7 @@ pub struct Core {
     pub(crate) shelf: Shelf,
     pub(crate) next: u32,
     pub(crate) journal: Journal,
+    pub(crate) loaded: History,
     pub(crate) meter: Meter,
     pub(crate) tries: Tries,
     pub(crate) streams: StreamGoals,
@@ -40,6 +37,7 @@ impl Drop for Core {
             shelf: _shelf,
             next: _next,
             journal: _journal,
+            loaded: _loaded,
             meter: _meter,
             tries: _tries,
             streams: _streams,
@@ -48,7 +46,7 @@ impl Drop for Core {
 }
 
 impl Model for Core {
-    ghost use Rattle.ghc_records.specs.Journal.{fresh_opening};
+    ghost use Rattle.ghc_records.specs.History.{loaded_opening};
     ghost use Rattle.ghc_core.specs.Core.{Core, IsConsistent};
     ghost use Rattle.ghc_core.specs.CoreCode.{core_code};
 
@@ -57,19 +55,20 @@ impl Model for Core {
     ghost coded = { core_code };
 
     ghost view = { λ c. record {
-      world = record { opening = fresh_opening c.program c.query.goals c.query.variables; state = c.state.held; kept = c.records.held; shelf = c.shelf.held; next = c.next; journal = c.journal.held };
+      world = record { opening = loaded_opening c.program c.query.goals c.query.variables c.loaded; state = c.state.held; kept = c.records.held; shelf = c.shelf.held; next = c.next; journal = c.journal.held };
       notes = c.tries.notes;
       untried = c.tries.untried;
       meter = c.meter;
       room = record { state = c.state.room; kept = c.records.room; shelf = c.shelf.room; journal = c.journal.room; tries = c.tries.room };
     } };
 
-    ghost invariant = { λ c. IsConsistent (record { opening = fresh_opening c.program c.query.goals c.query.variables; state = c.state.held; kept = c.records.held; shelf = c.shelf.held; next = c.next; journal = c.journal.held }) c.tries.notes c.tries.untried c.streams };
+    ghost invariant = { λ c. IsConsistent (record { opening = loaded_opening c.program c.query.goals c.query.variables c.loaded; state = c.state.held; kept = c.records.held; shelf = c.shelf.held; next = c.next; journal = c.journal.held }) c.tries.notes c.tries.untried c.streams };
 }
 
 impl Core {
     ghost use Rattle.ghc_flat.specs.Flat.{IsQuery};
     ghost use Rattle.ghc_records.specs.Journal.{fresh_opening};
+    ghost use Rattle.ghc_records.specs.History.{loaded_opening};
     ghost use Rattle.std.specs.FinMap as finite;
     ghost use Rattle.ghc_core.specs.World.{Opens};
 
@@ -78,6 +77,22 @@ impl Core {
     pub fn new(alloc: Global, program: Program, query: Query) -> Result<Core, AllocError>
         requires { IsQuery program query.goals }
         ensures opens { IfOk result (λ core. Opens (fresh_opening program query.goals query.variables) core.world) }
+        ensures notes { IfOk result (λ core. core.notes ≡ finite.empty) }
+        ensures meter { IfOk result (λ core. (core.meter.firings ≡ 0) × (core.meter.tries ≡ 0)) }
+    {
+        Core::numbered_from(alloc, program, query, 1)
+    }
+
+    // The same, where the first step gets the number given.
+    pub(crate) fn numbered_from(
+        alloc: Global,
+        program: Program,
+        query: Query,
+        next: u32,
+    ) -> Result<Core, AllocError>
+        requires query { IsQuery program query.goals }
+        requires first { 1 ≤ next }
+        ensures opens { IfOk result (λ core. Opens (loaded_opening program query.goals query.variables (record { steps = []; next = next })) core.world) }
         ensures notes { IfOk result (λ core. core.notes ≡ finite.empty) }
         ensures meter { IfOk result (λ core. (core.meter.firings ≡ 0) × (core.meter.tries ≡ 0)) }
     {
@@ -95,8 +110,9 @@ impl Core {
             state,
             records: Records::new(alloc),
             shelf: Shelf::new(alloc),
-            next: 1,
+            next,
             journal: Journal::new(alloc),
+            loaded: History::empty(alloc, next),
             meter: Meter::new(),
             tries,
             streams,

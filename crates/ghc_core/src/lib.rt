@@ -6,30 +6,42 @@ mod carrying;
 mod change;
 mod command;
 mod commit;
+mod copies;
 mod core_state;
+mod event;
 mod face;
 mod facts;
 mod feeding;
 mod foresee;
+mod hands;
 mod history_laws;
 mod laws;
+mod load;
+mod load_laws;
+mod obeying;
 mod recheck;
 mod redo;
+mod reply;
 mod rollback;
 mod rolling;
+mod saving;
 mod settle;
 mod step;
 mod stream_goals;
 mod there;
 mod undo;
 mod undo_laws;
+mod world;
+mod world_laws;
 
 pub use arrange::Arrangement;
 pub use carrying::is_stream;
 pub use change::Change;
 pub use command::Command;
 pub use core_state::Core;
+pub use event::Event;
 pub use facts::{redo_is_changed, second_hand_is_stale};
+pub use hands::Hands;
 pub use history_laws::{
     journal_tells_what_is_kept, leaves_is_one, legal_is_reachable, reachable_is_legal,
     reachable_is_one,
@@ -40,8 +52,12 @@ pub use laws::{
     proposes_have_an_answer, reachable_is_orderly, reachable_is_well_made, reachable_keeps,
     redoes_have_an_answer, step_is_exact, still_holds_as_next, stream_step_is_exact,
 };
+pub use load_laws::{load_is_exact, saved_is_loaded_again};
+pub use reply::Reply;
 pub use rollback::Rollback;
 pub use undo_laws::{
     reachable_is_replay, roll_takes_steps_away, rolls_have_an_answer, step_then_undo,
     undo_takes_step_away, undoes_have_an_answer, undone_then_redone,
 };
+pub use world::World;
+pub use world_laws::play_stays_reachable;

@@ -31,5 +31,5 @@ pub use laws::{
 };
 pub use meter::Meter;
 pub use proposal::Proposal;
-pub use recorded::has_effect;
+pub use recorded::{effect_as, has_effect};
 pub use streams::{close, feed};

@@ -1,4 +1,4 @@
-// Whether an act on a goal has an effect that was recorded.
+// The effect of an act on a goal, and whether it is one that was recorded.
 ghost use Rattle.std.specs.Prelude.{◌≡◌, ◌≢◌, ◌↔◌, IfOk, IfSome, IfNone, IsTrue};
 ghost use Rattle.ghc_term.specs.Store.{value_at};
 ghost use Rattle.ghc_fire.specs.Effect.{Effect as effect_spec, Reduces, Unites, Assigns, HasEffect};
@@ -104,6 +104,26 @@ fn effect_of(
         (GoalView::Stream(_, tail), Act::Closed) => close(alloc, store, tail),
         _ => Ok(None),
     }
+}
+
+/// The effect of the act on the goal as the step of this number, if it has one, and counts a firing; an act of another kind
+/// than the goal has none. It fails for want of memory alone. It costs what an attempt at the goal with this act costs, or for a
+/// stream a look-up for each variable of its tail's chain.
+pub fn effect_as(
+    alloc: Global,
+    meter: &mut Meter,
+    program: &Program,
+    store: &Store,
+    goal: &Goal,
+    act: &Act,
+    number: u32,
+) -> Result<Option<Effect>, AllocError>
+    ensures some { IfOk result (λ found. IfSome found (HasEffect program.now goal.now act.now number (value_at store.now.held))) }
+    ensures none { IfOk result (λ found. IfNone found ((e : effect_spec) → ¬ HasEffect program.now goal.now act.now number (value_at store.now.held) e)) }
+    ensures counted { meter.new ≡ fired meter.old }
+{
+    meter.count_firing();
+    effect_of(alloc, program, store, goal, act, number)
 }
 
 /// Whether the act on the goal has this effect as the step of this number, and counts a firing. It fails for want of memory

@@ -1,8 +1,9 @@
 // Histories: what a save tells of a run.
-ghost use Rattle.std.specs.Prelude.{◌≡◌, ◌≤◌, length};
+ghost use Rattle.std.specs.Prelude.{◌≡◌, ◌<◌, ◌≤◌, ◌++◌, ◌∷◌, [], length, OnErr, OnOk};
 ghost use Rattle.ghc_records.specs.Numbers.{kept_limit};
 
 use crate::step::Step;
+use std::alloc::{AllocError, Global};
 use std::marker::Model;
 
 /// A history: the kept steps in recorded order, a million at most, and the number that the next step gets.
@@ -36,6 +37,16 @@ impl Model for History {
 }
 
 impl History {
+    /// The history of no steps, behind which a step gets the number `next`. It takes no memory.
+    pub fn empty(alloc: Global, next: u32) -> History
+        ensures { result ≡ record { steps = []; next = next } }
+    {
+        History {
+            steps: Vec::new(alloc),
+            next,
+        }
+    }
+
     /// The history of these steps, a million at most, behind which a step gets the number `next`.
     pub fn new(steps: Vec<Step>, next: u32) -> History
         requires { length steps.items ≤ kept_limit }
@@ -57,5 +68,15 @@ impl History {
         ensures { result ≡ self.now.next }
     {
         self.next
+    }
+
+    /// Puts a step behind the others, which are fewer than a million. It stays as it was where memory is refused.
+    pub fn push(&mut self, step: Step) -> Result<(), AllocError>
+        requires few { length self.old.steps < kept_limit }
+        ensures ok { OnOk result (self.new ≡ record { steps = self.old.steps ++ step ∷ []; next = self.old.next }) }
+        ensures err { OnErr result (self.new ≡ self.old) }
+    {
+        self.steps.push(step)?;
+        Ok(())
     }
 }

@@ -1,7 +1,7 @@
 use Rattle.std.proofs.Common.{◌≡◌, ◌+◌, [], ◌∷◌, ◌++◌, refl, subst, sym, ap, ◌∙◌, arith}
 use Rattle.ghc_records.specs.Record.{Record}
 use Rattle.ghc_records.specs.UseIndex.{HasRoomToKeep}
-use Rattle.ghc_records.specs.Journal.{fresh_opening}
+use Rattle.ghc_records.specs.History.{loaded_opening}
 use Rattle.ghc_hooks.specs.Notes.{AreLeft}
 use Rattle.ghc_depend.specs.Depend.{MakesGoal, Binds}
 use Rattle.ghc_core.specs.World.{World, IsNextStep, with_step}
@@ -17,7 +17,7 @@ use Rattle.ghc_core.proofs.core_state.Core.add.Goals as goal
 
 -- the world before the step
 abbrev before : goal.After-self-1 → World
-before c = record { opening = fresh_opening c.self.inside.program c.self.inside.query.goals c.self.inside.query.variables; state = c.self.inside.state.held; kept = c.self.inside.records.held; shelf = c.self.inside.shelf.held; next = c.self.inside.next; journal = c.self.inside.journal.held }
+before c = record { opening = loaded_opening c.self.inside.program c.self.inside.query.goals c.self.inside.query.variables c.self.inside.loaded; state = c.self.inside.state.held; kept = c.self.inside.records.held; shelf = c.self.inside.shelf.held; next = c.self.inside.next; journal = c.self.inside.journal.held }
 
 pub take-step-requires-clause-acyclic : goal.take-step-requires-clause-acyclic
 take-step-requires-clause-acyclic c =
@@ -44,10 +44,10 @@ put-requires-clause-unbound c a x i bound again =
 
 -- the world that is left is the one with the step
 left : (c : goal.After-self-1)
-    → record { opening = fresh_opening c.self.inside.program c.self.inside.query.goals c.self.inside.query.variables; state = c.take-step.new.self.held; kept = c.put.new.self.held; shelf = c.self.inside.shelf.held; next = c.self.inside.next + 1; journal = c.put-2.new.self.held }
+    → record { opening = loaded_opening c.self.inside.program c.self.inside.query.goals c.self.inside.query.variables c.self.inside.loaded; state = c.take-step.new.self.held; kept = c.put.new.self.held; shelf = c.self.inside.shelf.held; next = c.self.inside.next + 1; journal = c.put-2.new.self.held }
     ≡ with_step c.args.addition (before c)
 left c =
-    same_world (fresh_opening c.self.inside.program c.self.inside.query.goals c.self.inside.query.variables) (c.self.inside.next + 1) c.take-step.ensures.state
+    same_world (loaded_opening c.self.inside.program c.self.inside.query.goals c.self.inside.query.variables c.self.inside.loaded) (c.self.inside.next + 1) c.take-step.ensures.state
     (c.put.ensures ∙ ap (λ (r : Record). c.self.inside.records.held ++ r ∷ []) c.take-step.ensures.record) refl
     (c.put-2.ensures.held ∙ ap (λ e. c.self.inside.journal.held ++ e ∷ []) c.take-step.ensures.entry)
 
@@ -62,7 +62,7 @@ next c = subst (λ (x : Core). IsNextStep x.world c.args.addition) (sym c.self.v
 pub carry_over-requires-clause-new : goal.carry_over-requires-clause-new
 carry_over-requires-clause-new c g made =
     let next = subst (λ (x : Core). IsNextStep x.world c.args.addition) (sym c.self.view_is) c.requires.found in
-    let w : World = record { opening = fresh_opening c.self.inside.program c.self.inside.query.goals c.self.inside.query.variables; state = c.self.inside.state.held; kept = c.self.inside.records.held; shelf = c.self.inside.shelf.held; next = c.self.inside.next; journal = c.self.inside.journal.held } in
+    let w : World = record { opening = loaded_opening c.self.inside.program c.self.inside.query.goals c.self.inside.query.variables c.self.inside.loaded; state = c.self.inside.state.held; kept = c.self.inside.records.held; shelf = c.self.inside.shelf.held; next = c.self.inside.next; journal = c.self.inside.journal.held } in
     unnoted c.self.invariant.exact g (not_there w c.args.addition next.1 (next_is_new w c.self.invariant.standing c.args.addition next) g (subst (λ r. MakesGoal r g) c.take-step.ensures.record made))
 
 pub invariant_of-self : goal.invariant_of-self

@@ -3,7 +3,7 @@ use Rattle.std.specs.FinMap as finite
 use Rattle.ghc_term.specs.declared.fault.Fault.{Fault}
 use Rattle.ghc_term.proofs.ListsLemmas.{not_both}
 use Rattle.ghc_records.specs.Record.{Record}
-use Rattle.ghc_records.specs.Journal.{fresh_opening}
+use Rattle.ghc_records.specs.History.{loaded_opening}
 use Rattle.ghc_depend.proofs.Finding.{same_value, not_both as both_found}
 use Rattle.ghc_core.specs.Core.{Core}
 use Rattle.ghc_core.specs.Reverses.{RedoFails, LacksGoal, not_shelved, no_goal, changed, full}
@@ -50,7 +50,7 @@ returns-clause-found c =
     let few = c.if-len-ge-KEPT_LIMIT.false in
     let same : c.in_ok-of.field-0 ≡ r = c.in_ok-of.ensures ∙ c.in_ok-share.ensures in
     subst (λ (x : Core). CanChange x.world (puts_back c.in_ok-of.field-0)) c.self.view_is
-    (subst (λ (q : Record). CanChange (record { opening = fresh_opening c.self.inside.program c.self.inside.query.goals c.self.inside.query.variables; state = c.self.inside.state.held; kept = c.self.inside.records.held; shelf = c.self.inside.shelf.held; next = c.self.inside.next; journal = c.self.inside.journal.held }) (puts_back q)) (sym same)
+    (subst (λ (q : Record). CanChange (record { opening = loaded_opening c.self.inside.program c.self.inside.query.goals c.self.inside.query.variables c.self.inside.loaded; state = c.self.inside.state.held; kept = c.self.inside.records.held; shelf = c.self.inside.shelf.held; next = c.self.inside.next; journal = c.self.inside.journal.held }) (puts_back q)) (sym same)
     (subst (λ n. finite.get c.self.inside.shelf.held n ≡ Some r) (sym number) (sym c.in-Some.ensures), c.in_ok-fires.ensures.answer.0 c.if-not-branch.false, omega (arith, count, few)))
 
 pub returns-clause-step : goal.returns-clause-step

@@ -3,7 +3,8 @@ use Rattle.std.specs.FinMap as finite
 use Rattle.ghc_term.specs.Lists.{In}
 use Rattle.ghc_records.specs.Record.{Record, numbers}
 use Rattle.ghc_records.specs.UseIndex.{HasRoomToKeep}
-use Rattle.ghc_records.specs.Journal.{fresh_opening, redid}
+use Rattle.ghc_records.specs.Journal.{redid}
+use Rattle.ghc_records.specs.History.{loaded_opening}
 use Rattle.ghc_records.proofs.OrderLemmas.{number_in}
 use Rattle.ghc_hooks.specs.Notes.{AreLeft}
 use Rattle.ghc_depend.specs.Depend.{MakesGoal, Binds}
@@ -25,7 +26,7 @@ use Rattle.ghc_core.proofs.core_state.Core.put_back.Goals as goal
 
 -- the world before the change, in which it is possible
 abbrev before : goal.After-drop-entry → World
-before c = record { opening = fresh_opening c.self.inside.program c.self.inside.query.goals c.self.inside.query.variables; state = c.self.inside.state.held; kept = c.self.inside.records.held; shelf = c.self.inside.shelf.held; next = c.self.inside.next; journal = c.self.inside.journal.held }
+before c = record { opening = loaded_opening c.self.inside.program c.self.inside.query.goals c.self.inside.query.variables c.self.inside.loaded; state = c.self.inside.state.held; kept = c.self.inside.records.held; shelf = c.self.inside.shelf.held; next = c.self.inside.next; journal = c.self.inside.journal.held }
 
 can : (c : goal.After-drop-entry) → CanChange (before c) (puts_back c.args.addition)
 can c = subst (λ (x : Core). CanChange x.world (puts_back c.args.addition)) (sym c.self.view_is) c.requires.found
@@ -54,16 +55,16 @@ put-requires-clause-unbound c a x i bound again =
 pub carry_over-requires-clause-new : goal.carry_over-requires-clause-new
 carry_over-requires-clause-new c g made =
     let found = subst (λ (x : Core). CanChange x.world (puts_back c.args.addition)) (sym c.self.view_is) c.requires.found in
-    let w : World = record { opening = fresh_opening c.self.inside.program c.self.inside.query.goals c.self.inside.query.variables; state = c.self.inside.state.held; kept = c.self.inside.records.held; shelf = c.self.inside.shelf.held; next = c.self.inside.next; journal = c.self.inside.journal.held } in
+    let w : World = record { opening = loaded_opening c.self.inside.program c.self.inside.query.goals c.self.inside.query.variables c.self.inside.loaded; state = c.self.inside.state.held; kept = c.self.inside.records.held; shelf = c.self.inside.shelf.held; next = c.self.inside.next; journal = c.self.inside.journal.held } in
     unnoted c.self.invariant.exact g (not_there w c.args.addition found.1 (shelved_is_new w c.self.invariant.standing c.args.addition found.0) g (subst (λ r. MakesGoal r g) c.take-step.ensures.record made))
 
 -- the world that is left is the one with the step redone
 left : (c : goal.After-drop-entry)
-    → record { opening = fresh_opening c.self.inside.program c.self.inside.query.goals c.self.inside.query.variables; state = c.take-step.new.self.held; kept = c.put.new.self.held; shelf = c.remove.new.self.held; next = c.self.inside.next; journal = c.put-2.new.self.held }
+    → record { opening = loaded_opening c.self.inside.program c.self.inside.query.goals c.self.inside.query.variables c.self.inside.loaded; state = c.take-step.new.self.held; kept = c.put.new.self.held; shelf = c.remove.new.self.held; next = c.self.inside.next; journal = c.put-2.new.self.held }
     ≡ with_redone c.args.addition c.args.addition.number (before c)
 left c =
     let number = c.number-number.ensures ∙ ap (λ (r : Record). r.number) c.take-step.ensures.record in
-    same_world (fresh_opening c.self.inside.program c.self.inside.query.goals c.self.inside.query.variables) c.self.inside.next c.take-step.ensures.state
+    same_world (loaded_opening c.self.inside.program c.self.inside.query.goals c.self.inside.query.variables c.self.inside.loaded) c.self.inside.next c.take-step.ensures.state
     (c.put.ensures ∙ ap (λ (r : Record). c.self.inside.records.held ++ r ∷ []) c.take-step.ensures.record)
     (c.remove.ensures.held ∙ ap (finite.remove c.self.inside.shelf.held) number)
     (c.put-2.ensures.held ∙ ap (λ n. c.self.inside.journal.held ++ redid n ∷ []) number)

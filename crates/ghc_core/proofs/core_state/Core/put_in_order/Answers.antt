@@ -1,5 +1,5 @@
 use Rattle.std.proofs.Common.{subst, sym}
-use Rattle.ghc_records.specs.Journal.{fresh_opening}
+use Rattle.ghc_records.specs.History.{loaded_opening}
 use Rattle.ghc_hooks.specs.Notes.{AreLeft}
 use Rattle.ghc_core.specs.World.{World}
 use Rattle.ghc_core.specs.Core.{Core}
@@ -11,13 +11,13 @@ use Rattle.ghc_core.proofs.core_state.Core.put_in_order.Goals as goal
 
 -- the world before the change, what it takes, and the world that is left
 abbrev before : goal.After-put → World
-before c = record { opening = fresh_opening c.self.inside.program c.self.inside.query.goals c.self.inside.query.variables; state = c.self.inside.state.held; kept = c.self.inside.records.held; shelf = c.self.inside.shelf.held; next = c.self.inside.next; journal = c.self.inside.journal.held }
+before c = record { opening = loaded_opening c.self.inside.program c.self.inside.query.goals c.self.inside.query.variables c.self.inside.loaded; state = c.self.inside.state.held; kept = c.self.inside.records.held; shelf = c.self.inside.shelf.held; next = c.self.inside.next; journal = c.self.inside.journal.held }
 
 abbrev taken : goal.After-put → Arrangement
 taken c = record { records = c.arrangement.inside.records.held; order = c.arrangement.inside.order.items }
 
 abbrev left : goal.After-put → World
-left c = record { opening = fresh_opening c.self.inside.program c.self.inside.query.goals c.self.inside.query.variables; state = c.self.inside.state.held; kept = c.arrangement.inside.records.held; shelf = c.self.inside.shelf.held; next = c.self.inside.next; journal = c.put.new.self.held }
+left c = record { opening = loaded_opening c.self.inside.program c.self.inside.query.goals c.self.inside.query.variables c.self.inside.loaded; state = c.self.inside.state.held; kept = c.arrangement.inside.records.held; shelf = c.self.inside.shelf.held; next = c.self.inside.next; journal = c.put.new.self.held }
 
 can : (c : goal.After-put) → CanChange (before c) (reorders (taken c))
 can c = subst (λ (a : Arrangement). CanChange (before c) (reorders a)) (sym c.arrangement.view_is) (subst (λ (x : Core). CanChange x.world (reorders c.args.arrangement)) (sym c.self.view_is) c.requires.found)

@@ -1,9 +1,9 @@
-use Rattle.std.proofs.Common.{◌≡◌, ◌∷◌, refl, ap, ◌∙◌, sym, subst, inl, inr}
+use Rattle.std.proofs.Common.{◌∷◌, refl, ap, ◌∙◌, sym, subst, inl, inr}
 use Rattle.std.specs.FinMap as finite
 use Rattle.ghc_term.specs.Lists.{In}
 use Rattle.ghc_records.specs.Orders.{AreDistinct, Picks}
 use Rattle.ghc_records.specs.Record.{Record}
-use Rattle.ghc_records.specs.Journal.{fresh_opening}
+use Rattle.ghc_records.specs.History.{loaded_opening}
 use Rattle.ghc_hooks.specs.Notes.{AreLeft}
 use Rattle.ghc_depend.specs.Deletion.{IsBoundIn}
 use Rattle.ghc_core.specs.World.{World}
@@ -40,10 +40,10 @@ take_one_back-requires-clause-new c g used =
 
 -- the world before the change, and the world that is left
 abbrev before : goal.After-put → World
-before c = record { opening = fresh_opening c.self.inside.program c.self.inside.query.goals c.self.inside.query.variables; state = c.self.inside.state.held; kept = c.self.inside.records.held; shelf = c.self.inside.shelf.held; next = c.self.inside.next; journal = c.self.inside.journal.held }
+before c = record { opening = loaded_opening c.self.inside.program c.self.inside.query.goals c.self.inside.query.variables c.self.inside.loaded; state = c.self.inside.state.held; kept = c.self.inside.records.held; shelf = c.self.inside.shelf.held; next = c.self.inside.next; journal = c.self.inside.journal.held }
 
 abbrev left : goal.After-put → World
-left c = record { opening = fresh_opening c.self.inside.program c.self.inside.query.goals c.self.inside.query.variables; state = c.take_one_back.new.state.held; kept = c.strike.new.records.held; shelf = c.take_one_back.new.shelf.held; next = c.self.inside.next; journal = c.put.new.self.held }
+left c = record { opening = loaded_opening c.self.inside.program c.self.inside.query.goals c.self.inside.query.variables c.self.inside.loaded; state = c.take_one_back.new.state.held; kept = c.strike.new.records.held; shelf = c.take_one_back.new.shelf.held; next = c.self.inside.next; journal = c.put.new.self.held }
 
 -- the records that are left
 struck : (c : goal.After-put) → CanRoll c.self.inside.records.held (c.rollback.inside.step ∷ c.rollback.inside.consequences.items)

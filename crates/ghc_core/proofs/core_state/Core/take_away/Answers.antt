@@ -3,7 +3,8 @@ use Rattle.std.specs.FinMap as finite
 use Rattle.ghc_term.specs.Lists.{In}
 use Rattle.ghc_records.specs.Record.{State, Record, Shelf}
 use Rattle.ghc_records.specs.State.{IsTakenBack}
-use Rattle.ghc_records.specs.Journal.{Entry, fresh_opening, undid}
+use Rattle.ghc_records.specs.Journal.{Entry, undid}
+use Rattle.ghc_records.specs.History.{loaded_opening}
 use Rattle.ghc_hooks.specs.Notes.{AreLeft}
 use Rattle.ghc_depend.specs.Depend.{Binds}
 use Rattle.ghc_depend.specs.Kept.{IsWithout}
@@ -29,10 +30,10 @@ taken w s r q left t shelf es n m can same at here out back put told =
 
 -- the world before the change, and the world that is left
 abbrev before : goal.After-put-2 → World
-before c = record { opening = fresh_opening c.self.inside.program c.self.inside.query.goals c.self.inside.query.variables; state = c.self.inside.state.held; kept = c.self.inside.records.held; shelf = c.self.inside.shelf.held; next = c.self.inside.next; journal = c.self.inside.journal.held }
+before c = record { opening = loaded_opening c.self.inside.program c.self.inside.query.goals c.self.inside.query.variables c.self.inside.loaded; state = c.self.inside.state.held; kept = c.self.inside.records.held; shelf = c.self.inside.shelf.held; next = c.self.inside.next; journal = c.self.inside.journal.held }
 
 abbrev left : goal.After-put-2 → World
-left c = record { opening = fresh_opening c.self.inside.program c.self.inside.query.goals c.self.inside.query.variables; state = c.take_back-step.new.self.held; kept = c.strike.new.records.held; shelf = c.put-2.new.self.held; next = c.self.inside.next; journal = c.put.new.self.held }
+left c = record { opening = loaded_opening c.self.inside.program c.self.inside.query.goals c.self.inside.query.variables c.self.inside.loaded; state = c.take_back-step.new.self.held; kept = c.strike.new.records.held; shelf = c.put-2.new.self.held; next = c.self.inside.next; journal = c.put.new.self.held }
 
 -- the change took the one to the other
 changed : (c : goal.After-put-2) → Changes (before c) (takes_away c.args.removal) (left c)

@@ -1,36 +1,26 @@
-use Rattle.std.proofs.Common.{◌≡◌, ℕ, [], ◌∷◌, subst, sym, ap, inl, inr, Err}
-use Rattle.ghc_term.specs.declared.fault.Fault.{Fault}
-use Rattle.ghc_records.specs.Record.{Record}
+use Rattle.std.proofs.Common.{[], ◌∷◌, subst, sym, ap, inl, inr, Err}
 use Rattle.ghc_hooks.specs.Notes.{AreLeft}
-use Rattle.ghc_depend.specs.Depend.{Follows, Binds, IsKeptAs}
+use Rattle.ghc_depend.specs.Depend.{Binds}
 use Rattle.ghc_core.specs.World.{World, IsReplay}
-use Rattle.ghc_core.specs.Core.{IsStanding}
 use Rattle.ghc_core.specs.Events.{undone}
-use Rattle.ghc_core.specs.Reverses.{Undoes, UndoFails}
+use Rattle.ghc_core.specs.Reverses.{Undoes}
 use Rattle.ghc_core.specs.declared.change.Change.TheVariants.{TakesAway as takes_away}
 use Rattle.ghc_core.specs.Change.{Changes}
-use Rattle.ghc_core.proofs.Reversing.{undo_fails_once, undo_or_fail}
-use Rattle.ghc_core.proofs.Standing.{standing_well_made, standing_orderly}
+use Rattle.ghc_core.proofs.CertainRefusals.{undo_cannot_fail, one_undo_refusal}
+use Rattle.ghc_core.proofs.Standing.{standing_well_made}
 use Rattle.ghc_core.proofs.core_state.Core.undo.Goals as goal
-
--- in a standing world a step that can be undone is not refused, and there is one refusal
-cannot : (w : World) → IsStanding w → {n : ℕ} {f : Fault} (r : Record) → IsKeptAs w.kept n r → ((b : Record) → ¬ Follows w.kept r b) → ¬ UndoFails w.kept n f
-cannot w s {n} r k none fails = undo_or_fail w n (standing_orderly w s).kept_once r k none fails
-
-one_refusal : (w : World) → IsStanding w → {n : ℕ} {f g : Fault} → UndoFails w.kept n f → UndoFails w.kept n g → f ≡ g
-one_refusal w s {n} p q = undo_fails_once w n (standing_orderly w s).kept_once p q
 
 pub returns-in-Err-clause-refused : goal.returns-in-Err-clause-refused
 returns-in-Err-clause-refused c f fails = elim c.in-Err.ensures.fault [
-  | inl memory ↦ absurd (cannot c.args.self.now.world c.stands.ensures.standing memory.1.0 memory.1.1 memory.1.2 fails)
-  | inr other ↦ ap Err (one_refusal c.args.self.now.world c.stands.ensures.standing other fails)
+  | inl memory ↦ absurd (undo_cannot_fail c.args.self.now.world c.stands.ensures.standing memory.1.0 memory.1.1 memory.1.2 fails)
+  | inr other ↦ ap Err (one_undo_refusal c.args.self.now.world c.stands.ensures.standing other fails)
 ]
 
 pub returns-clause-refused : goal.returns-clause-refused
-returns-clause-refused c f fails = absurd (cannot c.args.self.now.world c.stands.ensures.standing c.in-Ok.removal (c.in-Ok.ensures.found.0, c.in-Ok.ensures.step) c.in-Ok.ensures.found.1 fails)
+returns-clause-refused c f fails = absurd (undo_cannot_fail c.args.self.now.world c.stands.ensures.standing c.in-Ok.removal (c.in-Ok.ensures.found.0, c.in-Ok.ensures.step) c.in-Ok.ensures.found.1 fails)
 
 pub returns-in_err-reserve-clause-refused : goal.returns-in_err-reserve-clause-refused
-returns-in_err-reserve-clause-refused c f fails = absurd (cannot c.args.self.now.world c.stands.ensures.standing c.in-Ok.removal (c.in-Ok.ensures.found.0, c.in-Ok.ensures.step) c.in-Ok.ensures.found.1 fails)
+returns-in_err-reserve-clause-refused c f fails = absurd (undo_cannot_fail c.args.self.now.world c.stands.ensures.standing c.in-Ok.removal (c.in-Ok.ensures.found.0, c.in-Ok.ensures.step) c.in-Ok.ensures.found.1 fails)
 
 pub returns-clause-ok : goal.returns-clause-ok
 returns-clause-ok c =

@@ -1,35 +1,35 @@
-use Rattle.std.proofs.Common.{◌≡◌, [], subst, sym, ap, ◌∙◌}
+use Rattle.std.proofs.Common.{◌≡◌, subst, sym, ap, ◌∙◌, arith}
 use Rattle.std.specs.FinMap as finite
 use Rattle.ghc_flat.specs.Flat.{IsProgram}
-use Rattle.ghc_records.specs.Journal.{fresh_opening}
 use Rattle.ghc_records.specs.Replay.{query_state}
 use Rattle.ghc_fire.specs.Goals.{goal_cmp}
 use Rattle.ghc_core.specs.Carried.{IsToTry, AreMarked}
+use Rattle.ghc_core.specs.World.{Opens}
 use Rattle.ghc_core.specs.Core.{IsConsistent}
 use Rattle.ghc_core.specs.StreamGoals.{TellStreams, opened as names_of}
-use Rattle.ghc_core.proofs.Standing.{fresh_world, fresh_stands}
+use Rattle.ghc_core.proofs.Standing.{empty_opening, same_empty, empty_opens, empty_stands}
 use Rattle.ghc_core.proofs.Exactness.{opened_exact}
 use Rattle.ghc_core.proofs.StreamNames.{opened_tells}
-use Rattle.ghc_core.proofs.core_state.Core.new.Goals as goal
+use Rattle.ghc_core.proofs.core_state.Core.numbered_from.Goals as goal
 
 pub invariant_of-result : goal.invariant_of-result
 invariant_of-result c =
     let accepted : IsProgram c.args.program = c.clauses-clauses.ensures.program in
-    let state : c.in_ok-state.state.held ≡ query_state c.args.query.goals = c.in_ok-state.ensures ∙ ap query_state c.goals-goals.ensures.same in
-    let same : fresh_world c.args.program c.args.query.goals c.args.query.variables
-    ≡ record { opening = fresh_opening c.args.program c.args.query.goals c.args.query.variables; state = c.in_ok-state.state.held; kept = c.new.result.held; shelf = c.new-2.result.held; next = 1; journal = c.new-3.result.held } =
-    let kept : c.new.result.held ≡ [] = c.new.ensures in
-    let shelf : c.new-2.result.held ≡ finite.empty = c.new-2.ensures in
-    let journal : c.new-3.result.held ≡ [] = c.new-3.ensures in
-    cc in
+    let same = same_empty c.args.program c.args.query.goals c.args.query.variables c.args.next c.empty.ensures (c.in_ok-state.ensures ∙ ap query_state c.goals-goals.ensures.same) c.new.ensures c.new-2.ensures c.new-3.ensures in
     let opened = opened_exact c.args.program c.args.query.goals c.reserve.new.self c.mark_made.new.tries (c.in_ok-reserve.ensures.notes ∙ c.new-tries.ensures.notes) (c.in_ok-reserve.ensures.untried ∙ c.new-tries.ensures.untried)
     (subst (λ gs. AreMarked (IsToTry 0 gs) c.reserve.new.self c.mark_made.new.tries) c.goals-goals.ensures.same c.mark_made.ensures) in
     let names : c.in_ok-streams.streams ≡ names_of 1 c.args.query.goals = c.in_ok-streams.ensures ∙ ap (names_of 1) c.goals-goals.ensures.same in
     subst (λ w. IsConsistent w c.mark_made.new.tries.notes c.mark_made.new.tries.untried c.in_ok-streams.streams) same (record {
-      standing = fresh_stands c.args.program c.args.query.goals c.args.query.variables accepted c.requires (record { named = c.goals-goals.ensures.well_asked.named; apart = c.goals-goals.ensures.well_asked.apart });
+      standing = empty_stands c.args.program c.args.query.goals c.args.query.variables c.args.next c.requires.first (omega arith) accepted c.requires.query (record { named = c.goals-goals.ensures.well_asked.named; apart = c.goals-goals.ensures.well_asked.apart });
       exact = opened;
-      streams = subst (TellStreams c.args.query.goals (query_state c.args.query.goals).goals) (sym names) (opened_tells c.args.program c.args.query.goals c.requires);
+      streams = subst (TellStreams c.args.query.goals (query_state c.args.query.goals).goals) (sym names) (opened_tells c.args.program c.args.query.goals c.requires.query);
     })
+
+pub returns-clause-opens : goal.returns-clause-opens
+returns-clause-opens c =
+    let same = same_empty c.args.program c.args.query.goals c.args.query.variables c.args.next c.empty.ensures (c.in_ok-state.ensures ∙ ap query_state c.goals-goals.ensures.same) c.new.ensures c.new-2.ensures c.new-3.ensures in
+    subst (Opens (empty_opening c.args.program c.args.query.goals c.args.query.variables c.args.next)) same
+    (empty_opens c.args.program c.args.query.goals c.args.query.variables c.args.next c.requires.first (omega arith))
 
 pub mark_made-requires-clause-new : goal.mark_made-requires-clause-new
 mark_made-requires-clause-new c g given = ap (λ m. finite.get m g) (c.in_ok-reserve.ensures.notes ∙ c.new-tries.ensures.notes) ∙ finite.get-empty goal_cmp g

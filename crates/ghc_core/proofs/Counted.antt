@@ -1,0 +1,74 @@
+-- A redo counts a firing or none, and a note a try or none.
+use Rattle.std.proofs.Common.{◌≡◌, ℕ, true, false, Bool, refl, sym, ap, ◌∙◌, inl, inr, Some, None}
+use Rattle.std.specs.Prelude.{Option}
+use Rattle.std.specs.FinMap as finite
+use Rattle.ghc_term.specs.declared.goal_name.GoalName.{GoalName}
+use Rattle.ghc_term.specs.declared.fault.Fault.{Fault}
+use Rattle.ghc_term.specs.Goal.{Goal}
+use Rattle.ghc_flat.specs.Flat.{is_stream}
+use Rattle.ghc_fire.specs.declared.meter.Meter.{Meter}
+use Rattle.ghc_fire.specs.Meter.{fired, tried}
+use Rattle.ghc_records.specs.Record.{Record}
+use Rattle.ghc_core.specs.World.{World}
+use Rattle.ghc_core.specs.Proposes.{IsNoCandidate}
+use Rattle.ghc_core.specs.Reverses.{RedoFails}
+use Rattle.ghc_core.specs.Counting.{FiresOnce, TriesOnce}
+use Rattle.ghc_core.proofs.Redone.{said_not_shelved, said_no_goal}
+
+module _ (w : World) (m k : Meter) where
+  -- a note tries where there is a goal to try
+  module _ (g : GoalName) (none : IsNoCandidate w g → k ≡ m) (some : (¬ IsNoCandidate w g) → k ≡ tried m) where
+    of_kind : (b : Goal) (kind : Bool) → finite.get w.state.goals g ≡ Some b → is_stream b ≡ kind → TriesOnce m k
+    of_kind b true at kind = inl (none (inr (b, at, kind)))
+    of_kind b false at kind = inr (some (λ n. elim n [
+      | inl e ↦ let clash : None ≡ Some b = sym e ∙ at in cc
+      | inr q ↦
+          let same : Some q.0 ≡ Some b = sym q.1 ∙ at in
+          let one : q.0 ≡ b = cc in
+          let clash : true ≡ false = sym q.2 ∙ ap is_stream one ∙ kind in
+          cc
+    ]))
+
+    of_goal : (o : Option Goal) → finite.get w.state.goals g ≡ o → TriesOnce m k
+    of_goal None at = inl (none (inl at))
+    of_goal (Some b) at = of_kind b (is_stream b) at refl
+
+    pub note_counted : TriesOnce m k
+    note_counted = of_goal (finite.get w.state.goals g) refl
+
+  -- a redo fires where its step is on the shelf and its goal is there
+  module _ (n : ℕ) (off : RedoFails w n Fault.NotShelved → k ≡ m) (gone : RedoFails w n Fault.NoGoal → k ≡ m)
+      (both : (¬ RedoFails w n Fault.NotShelved) → (¬ RedoFails w n Fault.NoGoal) → k ≡ fired m) where
+    on_shelf : (r : Record) → finite.get w.shelf n ≡ Some r → ¬ RedoFails w n Fault.NotShelved
+    on_shelf r on f = let clash : None ≡ Some r = sym (said_not_shelved f refl) ∙ on in cc
+
+    same_record : (r s : Record) → finite.get w.shelf n ≡ Some r → finite.get w.shelf n ≡ Some s → s ≡ r
+    same_record r s on at = let same : Some s ≡ Some r = sym at ∙ on in cc
+
+    of_none : (r : Record) → finite.get w.shelf n ≡ Some r → r.goal ≡ None → FiresOnce m k
+    of_none r on named = inr (both (on_shelf r on) (λ f.
+        let said = said_no_goal f refl in
+        let one = same_record r said.0 on said.1 in
+        let clash : Some said.2.0 ≡ None = sym said.2.1 ∙ ap (λ (q : Record). q.goal) one ∙ named in
+        cc))
+
+    of_name : (r : Record) (g : GoalName) (o : Option Goal) → finite.get w.shelf n ≡ Some r → r.goal ≡ Some g → finite.get w.state.goals g ≡ o → FiresOnce m k
+    of_name r g None on named at = inl (gone (RedoFails.no_goal r g on named at))
+    of_name r g (Some b) on named at = inr (both (on_shelf r on) (λ f.
+        let said = said_no_goal f refl in
+        let one = same_record r said.0 on said.1 in
+        let names : Some said.2.0 ≡ Some g = sym said.2.1 ∙ ap (λ (q : Record). q.goal) one ∙ named in
+        let name : said.2.0 ≡ g = cc in
+        let clash : None ≡ Some b = sym said.2.2 ∙ ap (finite.get w.state.goals) name ∙ at in
+        cc))
+
+    of_record : (r : Record) (o : Option GoalName) → finite.get w.shelf n ≡ Some r → r.goal ≡ o → FiresOnce m k
+    of_record r None on named = of_none r on named
+    of_record r (Some g) on named = of_name r g (finite.get w.state.goals g) on named refl
+
+    of_shelf : (o : Option Record) → finite.get w.shelf n ≡ o → FiresOnce m k
+    of_shelf None on = inl (off (RedoFails.not_shelved on))
+    of_shelf (Some r) on = of_record r r.goal on refl
+
+    pub redo_counted : FiresOnce m k
+    redo_counted = of_shelf (finite.get w.shelf n) refl

@@ -1,0 +1,195 @@
+-- What a core replies to commands and notes is the answer of the definitions.
+use Rattle.std.proofs.Common.{◌≡◌, ◌⊎◌, ℕ, List, refl, sym, ap, ◌∙◌, subst, subst₂, inl, inr, Some, None}
+use Rattle.std.specs.Prelude.{Option, false}
+use Rattle.std.specs.FinMap as finite
+use Rattle.ghc_term.specs.declared.goal_name.GoalName.{GoalName}
+use Rattle.ghc_term.specs.declared.fault.Fault.{Fault}
+use Rattle.ghc_term.specs.Goal.{Goal, call, unify, assign, stream}
+use Rattle.ghc_term.specs.Store.{value_at}
+use Rattle.ghc_flat.specs.Flat.{is_stream}
+use Rattle.ghc_fire.specs.declared.act.Act.{Act}
+use Rattle.ghc_fire.specs.Attempt as attempt
+use Rattle.ghc_hooks.specs.Status.{Status, failed, HasStatus}
+use Rattle.ghc_hooks.specs.Notes.{Note, NotesByGoal}
+use Rattle.ghc_hooks.proofs.Fitting.{put_here}
+use Rattle.ghc_records.specs.Journal.{took, undid, rolled, redid, reordered, step_of}
+use Rattle.ghc_depend.specs.Depend.{IsNotKept}
+use Rattle.ghc_depend.specs.Lawful.{IsUnlawful}
+use Rattle.ghc_core.specs.World.{Proposal, Hands, IsHand, with_hand, emptied, World}
+use Rattle.ghc_core.specs.Core.{IsCommitted}
+use Rattle.ghc_core.specs.Events.{Command, input, finish, undo, roll, redo, arrange, Reply, held, stepped, noted, refused}
+use Rattle.ghc_core.specs.Proposes as asking
+use Rattle.ghc_core.specs.Streams as streams
+use Rattle.ghc_core.specs.Reverses as by
+use Rattle.ghc_core.specs.Settling.{IsNoted}
+use Rattle.ghc_core.specs.Answers.{Obeys}
+use Rattle.ghc_core.specs.Playing.{AddsOneAtMost, IsCauseOfFailure}
+
+-- Memory was refused, or not: nothing is known of it.
+abbrev pub Unknown : Type 0
+Unknown = Unit {0}
+
+-- why a call of a core is refused: for want of memory, or for what is told
+abbrev pub Why : (Fault → Type 0) → Fault → Type 0
+Why Fails f = (f ≡ Fault.Memory) ⊎ Fails f
+
+module _ (w : World) where
+  pub stream_taken : (k : ℕ) (act : Act) (reply : Reply) (v : World) → streams.ActsOnStream ⊥ w k act reply v → streams.ActsOnStream Unknown w k act reply v
+  stream_taken k act reply v (streams.ActsOnStream.takes r t) = streams.ActsOnStream.takes r t
+  stream_taken k act reply v (streams.ActsOnStream.fails f) = streams.ActsOnStream.fails f
+  stream_taken k act reply v (streams.ActsOnStream.no_memory f) = absurd f
+
+  pub stream_refused : (k : ℕ) (act : Act) (f : Fault) (v : World) → Why (streams.StreamFails w k) f → v ≡ w → streams.ActsOnStream Unknown w k act (refused f) v
+  stream_refused k act f v why same = subst (streams.ActsOnStream Unknown w k act (refused f)) (sym same) (elim why [
+    | inl m ↦ subst (λ g. streams.ActsOnStream Unknown w k act (refused g) w) (sym m) (streams.ActsOnStream.no_memory tt)
+    | inr s ↦ streams.ActsOnStream.fails s
+  ])
+
+  pub undo_taken : (n : ℕ) (reply : Reply) (v : World) → by.Undoes ⊥ w n reply v → by.Undoes Unknown w n reply v
+  undo_taken n reply v (by.Undoes.takes_away r left t k none out run) = by.Undoes.takes_away r left t k none out run
+  undo_taken n reply v (by.Undoes.fails f) = by.Undoes.fails f
+  undo_taken n reply v (by.Undoes.no_memory f) = absurd f
+
+  pub undo_refused : (n : ℕ) (f : Fault) (v : World) → Why (by.UndoFails w.kept n) f → v ≡ w → by.Undoes Unknown w n (refused f) v
+  undo_refused n f v why same = subst (by.Undoes Unknown w n (refused f)) (sym same) (elim why [
+    | inl m ↦ subst (λ g. by.Undoes Unknown w n (refused g) w) (sym m) (by.Undoes.no_memory tt)
+    | inr s ↦ by.Undoes.fails s
+  ])
+
+  pub roll_taken : (n : ℕ) (reply : Reply) (v : World) → by.Rolls ⊥ w n reply v → by.Rolls Unknown w n reply v
+  roll_taken n reply v (by.Rolls.takes_away r gone left t k split run) = by.Rolls.takes_away r gone left t k split run
+  roll_taken n reply v (by.Rolls.not_kept f) = by.Rolls.not_kept f
+  roll_taken n reply v (by.Rolls.no_memory f) = absurd f
+
+  pub roll_refused : (n : ℕ) (f : Fault) (v : World) → (f ≡ Fault.Memory) ⊎ ((f ≡ Fault.NotKept) × IsNotKept w.kept n) → v ≡ w → by.Rolls Unknown w n (refused f) v
+  roll_refused n f v why same = subst (by.Rolls Unknown w n (refused f)) (sym same) (elim why [
+    | inl m ↦ subst (λ g. by.Rolls Unknown w n (refused g) w) (sym m) (by.Rolls.no_memory tt)
+    | inr s ↦ subst (λ g. by.Rolls Unknown w n (refused g) w) (sym s.0) (by.Rolls.not_kept s.1)
+  ])
+
+  pub redo_taken : (n : ℕ) (reply : Reply) (v : World) → by.Redoes ⊥ w n reply v → by.Redoes Unknown w n reply v
+  redo_taken n reply v (by.Redoes.puts_back r e f l) = by.Redoes.puts_back r e f l
+  redo_taken n reply v (by.Redoes.fails f) = by.Redoes.fails f
+  redo_taken n reply v (by.Redoes.no_memory f) = absurd f
+
+  pub redo_refused : (n : ℕ) (f : Fault) (v : World) → Why (by.RedoFails w n) f → v ≡ w → by.Redoes Unknown w n (refused f) v
+  redo_refused n f v why same = subst (by.Redoes Unknown w n (refused f)) (sym same) (elim why [
+    | inl m ↦ subst (λ g. by.Redoes Unknown w n (refused g) w) (sym m) (by.Redoes.no_memory tt)
+    | inr s ↦ by.Redoes.fails s
+  ])
+
+  pub arrange_taken : (order : List ℕ) (reply : Reply) (v : World) → by.Arranges ⊥ w order reply v → by.Arranges Unknown w order reply v
+  arrange_taken order reply v (by.Arranges.puts new l o) = by.Arranges.puts new l o
+  arrange_taken order reply v (by.Arranges.fails f) = by.Arranges.fails f
+  arrange_taken order reply v (by.Arranges.no_memory f) = absurd f
+
+  pub arrange_refused : (order : List ℕ) (f : Fault) (v : World) → (f ≡ Fault.Memory) ⊎ ((a b : ℕ) × (f ≡ Fault.NotLawful a b) × IsUnlawful w.kept order a b) → v ≡ w
+      → by.Arranges Unknown w order (refused f) v
+  arrange_refused order f v why same = subst (by.Arranges Unknown w order (refused f)) (sym same) (elim why [
+    | inl m ↦ subst (λ g. by.Arranges Unknown w order (refused g) w) (sym m) (by.Arranges.no_memory tt)
+    | inr s ↦ subst (λ g. by.Arranges Unknown w order (refused g) w) (sym s.2) (by.Arranges.fails s.3)
+  ])
+
+  -- a command adds one entry at most
+  pub obeyed_grows : (c : Command) (reply : Reply) (v : World) → Obeys Unknown w c reply v → AddsOneAtMost w v
+  obeyed_grows (input k t) reply v (streams.ActsOnStream.takes r s) = inr (took (step_of r), refl)
+  obeyed_grows (input k t) reply v (streams.ActsOnStream.fails f) = inl refl
+  obeyed_grows (input k t) reply v (streams.ActsOnStream.no_memory f) = inl refl
+  obeyed_grows (finish k) reply v (streams.ActsOnStream.takes r s) = inr (took (step_of r), refl)
+  obeyed_grows (finish k) reply v (streams.ActsOnStream.fails f) = inl refl
+  obeyed_grows (finish k) reply v (streams.ActsOnStream.no_memory f) = inl refl
+  obeyed_grows (undo n) reply v (by.Undoes.takes_away r left t k none out run) = inr (undid n, refl)
+  obeyed_grows (undo n) reply v (by.Undoes.fails f) = inl refl
+  obeyed_grows (undo n) reply v (by.Undoes.no_memory f) = inl refl
+  obeyed_grows (roll n) reply v (by.Rolls.takes_away r gone left t k split run) = inr (rolled n, refl)
+  obeyed_grows (roll n) reply v (by.Rolls.not_kept f) = inl refl
+  obeyed_grows (roll n) reply v (by.Rolls.no_memory f) = inl refl
+  obeyed_grows (redo n) reply v (by.Redoes.puts_back r e f l) = inr (redid n, refl)
+  obeyed_grows (redo n) reply v (by.Redoes.fails f) = inl refl
+  obeyed_grows (redo n) reply v (by.Redoes.no_memory f) = inl refl
+  obeyed_grows (arrange order) reply v (by.Arranges.puts new l o) = inr (reordered order, refl)
+  obeyed_grows (arrange order) reply v (by.Arranges.fails f) = inl refl
+  obeyed_grows (arrange order) reply v (by.Arranges.no_memory f) = inl refl
+
+  -- a goal that is no stream goal and of which an attempt with no clause chosen is refused waits, or that is why it fails
+  refusal_is : (f : Fault) (b : Goal) → is_stream b ≡ false → attempt.Attempts w.opening.program (value_at w.state.store) (Some b) None (attempt.refused f) → (f ≡ Fault.Waits) ⊎ IsCauseOfFailure f
+  refusal_is f (call name ts) plain (attempt.CallAnswers.waits n s) = inl refl
+  refusal_is f (call name ts) plain (attempt.CallAnswers.no_match n s) = inr (inl refl)
+  refusal_is f (unify l r) plain (attempt.UnificationAnswers.clashes c) = inr (inr (inl refl))
+  refusal_is f (unify l r) plain (attempt.UnificationAnswers.cycles c) = inr (inr (inr (inl refl)))
+  refusal_is f (assign t a) plain (attempt.AssignmentAnswers.waits xs h) = inl refl
+  refusal_is f (assign t a) plain (attempt.AssignmentAnswers.has_no_value h) = inr (inr (inr (inr refl)))
+  refusal_is f (assign t a) plain (attempt.AssignmentAnswers.clashes v h c) = inr (inr (inl refl))
+  refusal_is f (stream k s) plain a = cc
+
+  failure_is : (f : Fault) (b : Goal) (s : Status) → is_stream b ≡ false → HasStatus w.opening.program (value_at w.state.store) b s → s ≡ failed f → IsCauseOfFailure f
+  failure_is f b s plain (HasStatus.is_ready act e t) same = cc
+  failure_is f b s plain (HasStatus.is_waiting t is) same = cc
+  failure_is f b s plain (HasStatus.is_failed {f = g} not t waits) same =
+      let one : g ≡ f = cc in
+      subst IsCauseOfFailure one (elim (refusal_is g b plain t) [ inl e ↦ absurd (waits e) | inr c ↦ c ])
+  failure_is f b s plain (HasStatus.is_stream_goal e) same = cc
+
+  told_so : (g : GoalName) (s : Status) (reply : Reply) → asking.Notes ⊥ w g reply → reply ≡ noted g s → (f : Fault) → s ≡ failed f → IsCauseOfFailure f
+  told_so g s reply (asking.Notes.tells b {s = t} there plain has) e f same = let one : t ≡ s = cc in failure_is f b t plain has (one ∙ same)
+  told_so g s reply (asking.Notes.no_goal n) e f same = cc
+  told_so g s reply (asking.Notes.no_memory m) e f same = absurd m
+
+  -- what is told of a goal that fails is why it can fail
+  pub told_failure : (g : GoalName) (s : Status) → asking.Notes ⊥ w g (noted g s) → (f : Fault) → s ≡ failed f → IsCauseOfFailure f
+  told_failure g s told f same = told_so g s (noted g s) told refl f same
+
+  note_told : (g : GoalName) (reply : Reply) → asking.Notes ⊥ w g reply → asking.Notes Unknown w g reply
+  note_told g reply (asking.Notes.tells b there plain has) = asking.Notes.tells b there plain has
+  note_told g reply (asking.Notes.no_goal n) = asking.Notes.no_goal n
+  note_told g reply (asking.Notes.no_memory m) = absurd m
+
+  -- the note that a goal has, where it was noted
+  pub note_here : (g : GoalName) (old new m : NotesByGoal) (n : Note) → (found : IsNoted w g old new) → m ≡ new → Some n ≡ finite.get m g → found.note ≡ n
+  note_here g old new m n found same there = let p : Some n ≡ Some found.note = there ∙ ap (λ k. finite.get k g) (same ∙ found.put) ∙ put_here old g found.note in cc
+
+  pub note_is_there : (g : GoalName) (old new m : NotesByGoal) → (found : IsNoted w g old new) → m ≡ new → ¬ (None ≡ finite.get m g)
+  note_is_there g old new m found same none = let p : None ≡ Some found.note = none ∙ ap (λ k. finite.get k g) (same ∙ found.put) ∙ put_here old g found.note in cc
+
+  -- the status is told, or memory was refused
+  pub noted_or_not : (g : GoalName) (s : Status) (reply : Reply) → asking.Notes ⊥ w g (noted g s) → (reply ≡ noted g s) ⊎ (reply ≡ refused Fault.Memory) → asking.Notes Unknown w g reply
+  noted_or_not g s reply told (inl e) = subst (asking.Notes Unknown w g) (sym e) (note_told g (noted g s) told)
+  noted_or_not g s reply told (inr e) = subst (asking.Notes Unknown w g) (sym e) (asking.Notes.no_memory tt)
+
+  pub note_refused : (g : GoalName) (f : Fault) → Why (λ f. asking.Notes ⊥ w g (refused f)) f → asking.Notes Unknown w g (refused f)
+  note_refused g f (inl m) = subst (λ h. asking.Notes Unknown w g (refused h)) (sym m) (asking.Notes.no_memory tt)
+  note_refused g f (inr n) = note_told g (refused f) n
+
+  module _ (hands : Hands) (h : ℕ) where
+    -- the hand holds what an attempt proposes
+    pub hand_holds : (g : GoalName) (choice : Option ℕ) (p : Proposal) (left : Hands) → IsHand hands h → asking.IsProposedIn w g choice p → left ≡ with_hand h p hands
+        → asking.Proposes Unknown w hands h g choice (held h) left
+    hand_holds g choice p left i is same =
+        subst (asking.Proposes Unknown w hands h g choice (held h)) (sym same)
+        (subst (λ (n : GoalName). asking.Proposes Unknown w hands h g choice (held h) (with_hand h (record { goal = n; consumed = p.consumed; act = p.act; effect = p.effect }) hands)) (sym is.named)
+        (asking.Proposes.holds p.consumed p.act p.effect i is.there is.proposed))
+
+    -- the attempt was refused
+    pub hand_refused : (g : GoalName) (choice : Option ℕ) (f : Fault) → IsHand hands h → Why (λ f. asking.AttemptAnswers w g choice (attempt.refused f)) f
+        → asking.Proposes Unknown w hands h g choice (refused f) hands
+    hand_refused g choice f i (inl m) = subst (λ e. asking.Proposes Unknown w hands h g choice (refused e) hands) (sym m) (asking.Proposes.no_memory tt)
+    hand_refused g choice f i (inr a) = asking.Proposes.fails i a
+
+    -- the hand commits what it held
+    pub hand_commits : (p : Proposal) (n : ℕ) (v : World) (left : Hands) → IsHand hands h → finite.get hands.held h ≡ Some p → IsCommitted w p v n → left ≡ emptied h hands
+        → asking.Commits Unknown w hands h (stepped n) v left
+    hand_commits p n v left i there (r, c, number, after) same =
+        subst₂ (λ m u. asking.Commits Unknown w hands h (stepped m) u left) (sym number) (sym after)
+        (subst (asking.Commits Unknown w hands h (stepped w.next) _) (sym same) (asking.Commits.takes p r i there c))
+
+    -- the hand is empty, for nothing was held, or the commit was refused
+    pub hand_was_empty : (left : Hands) → IsHand hands h → finite.get hands.held h ≡ None → left ≡ emptied h hands → asking.Commits Unknown w hands h (refused Fault.Stale) w left
+    hand_was_empty left i none same = subst (asking.Commits Unknown w hands h (refused Fault.Stale) w) (sym same) (asking.Commits.empty i none)
+
+    pub hand_gives_up : (p : Proposal) (f : Fault) (v : World) (left : Hands) → IsHand hands h → finite.get hands.held h ≡ Some p → Why (asking.CommitFails w p) f → v ≡ w → left ≡ emptied h hands
+        → asking.Commits Unknown w hands h (refused f) v left
+    hand_gives_up p f v left i there why stays same =
+        subst₂ (λ u l. asking.Commits Unknown w hands h (refused f) u l) (sym stays) (sym same) (elim why [
+          | inl m ↦ subst (λ e. asking.Commits Unknown w hands h (refused e) w (emptied h hands)) (sym m) (asking.Commits.no_memory tt)
+          | inr c ↦ asking.Commits.fails p i there c
+        ])

@@ -1,0 +1,87 @@
+-- The steps of the records, one slot more at a time; and the history of a standing world is of the form.
+use Rattle.std.proofs.Common.{◌≡◌, ℕ, suc, ◌+◌, ◌<◌, ◌≤◌, List, [], ◌∷◌, ◌++◌, drop, drop-cons, length, map, sym, ap, ◌∙◌, subst, inl, inr, slice_get, append_assoc, refl, arith}
+use Rattle.std.specs.Prelude.{Option, Some}
+use Rattle.std.proofs.lemmas.Option.{slice_get_within, get_or_from_slice_get}
+use Rattle.ghc_term.specs.declared.var_name.VarName.{VarName}
+use Rattle.ghc_term.specs.Tree.{Tree}
+use Rattle.ghc_term.specs.Goal.{Goal, call, unify, assign, stream}
+use Rattle.ghc_term.specs.Lists.{In}
+use Rattle.ghc_term.specs.Store.{value_at}
+use Rattle.ghc_flat.specs.Clause.{Program}
+use Rattle.ghc_fire.specs.declared.act.Act.TheVariants.{ByClause as by_clause}
+use Rattle.ghc_fire.specs.Effect.{Effect, HasEffect}
+use Rattle.ghc_records.specs.Orders.{AreDistinct}
+use Rattle.ghc_records.specs.Record.{Record, numbers}
+use Rattle.ghc_records.specs.History.{IsHistory}
+use Rattle.ghc_records.specs.Journal.{Step, step_of}
+use Rattle.ghc_records.specs.Slots.{SlotList, held_in}
+use Rattle.ghc_records.proofs.SlotRanks.{rank, rank_stands, rank_next, rank_gap}
+use Rattle.ghc_depend.proofs.Results.{taken}
+use Rattle.ghc_depend.proofs.Placing.{Place, place_of}
+use Rattle.ghc_core.specs.World.{World}
+use Rattle.ghc_core.specs.Core.{IsStanding}
+use Rattle.ghc_core.specs.Load.{KeepsSlot, history_of}
+use Rattle.ghc_core.proofs.Reaching.{reached_good}
+use Rattle.ghc_core.proofs.Replayed.{replayed}
+
+-- What is left from a place on is the record there and the rest.
+drop_at : (rs : List Record) (i : ℕ) (r : Record) → slice_get rs i ≡ Some r → drop i rs ≡ r ∷ drop (i + 1) rs
+drop_at rs i r e =
+    let more : suc i ≡ i + 1 = omega arith in
+    drop-cons rs i r (slice_get_within rs i r e) ∙ (λ k. get_or_from_slice_get rs i r r e k ∷ drop (more k) rs)
+
+-- Where the steps found and those from a place on are all steps, so are those found with the one there and those behind it.
+step_on : (rs : List Record) (i : ℕ) (r : Record) (before later : List Step) → slice_get rs i ≡ Some r → before ++ map step_of (drop i rs) ≡ map step_of rs
+    → later ≡ before ++ step_of r ∷ [] → later ++ map step_of (drop (i + 1) rs) ≡ map step_of rs
+step_on rs i r before later there whole put =
+    let rest = map step_of (drop (i + 1) rs) in
+    ap (λ l. l ++ rest) put ∙ append_assoc before (step_of r ∷ []) rest ∙ ap (λ l. before ++ map step_of l) (sym (drop_at rs i r there)) ∙ whole
+
+-- So it is slot by slot.
+pub slot_on : (ss : SlotList) (i : ℕ) (before later : List Step) → KeepsSlot ss i before later → before ++ map step_of (drop (rank ss i) (held_in ss)) ≡ map step_of (held_in ss)
+    → later ++ map step_of (drop (rank ss (i + 1)) (held_in ss)) ≡ map step_of (held_in ss)
+slot_on ss i before later (inl t) whole =
+    subst (λ k. later ++ map step_of (drop k (held_in ss)) ≡ map step_of (held_in ss)) (sym (rank_next ss i t.0 t.1)) (step_on (held_in ss) (rank ss i) t.0 before later (rank_stands ss i t.0 t.1) whole t.2)
+slot_on ss i before later (inr t) whole =
+    subst (λ k. later ++ map step_of (drop k (held_in ss)) ≡ map step_of (held_in ss)) (sym (rank_gap ss i t.0)) (subst (λ l. l ++ map step_of (drop (rank ss i) (held_in ss)) ≡ map step_of (held_in ss)) (sym t.1) whole)
+
+-- a step of the records is that of one of them
+step_back : (rs : List Record) (s : Step) → In s (map step_of rs) → (r : Record) × In r rs × (step_of r ≡ s)
+step_back [] s i = absurd i
+step_back (r ∷ rs) s (inl e) = (r, inl refl, sym e)
+step_back (r ∷ rs) s (inr i) = let q = step_back rs s i in (q.0, inr q.1, q.2)
+
+-- a clause by which a goal is reduced has a number from 1 on
+clause_number : (P : Program) (b : Goal) (k n : ℕ) (S : VarName → Option Tree) (e : Effect) → HasEffect P b (by_clause k) n S e → 1 ≤ k
+clause_number P (call f ts) k n S e h = let same = h.2.1 in omega (arith, same)
+clause_number P (unify l r) k n S e h = absurd h
+clause_number P (assign t a) k n S e h = absurd h
+clause_number P (stream j s) k n S e h = absurd h
+
+step_numbers : (rs : List Record) → map (λ (s : Step). s.number) (map step_of rs) ≡ numbers rs
+step_numbers [] = refl
+step_numbers (r ∷ rs) = ap (λ ns. r.number ∷ ns) (step_numbers rs)
+
+step_count : (rs : List Record) → length (map step_of rs) ≡ length rs
+step_count [] = refl
+step_count (r ∷ rs) = ap suc (step_count rs)
+
+-- The history of a standing world is of the form.
+pub saved_form : (w : World) → IsStanding w → IsHistory (history_of w)
+saved_form w stands =
+    let good = reached_good stands in
+    let played = replayed stands in
+    let few = played.few in
+    let count = step_count w.kept in
+    let used : (s : Step) → In s (map step_of w.kept) → (r : Record) × In r w.kept × (step_of r ≡ s) = step_back w.kept in
+    let place : (r : Record) → In r w.kept → Place w.opening.program w.opening.query w.kept r = place_of w.opening.program w.opening.query w.kept w.state played.replay in
+    record {
+      few = omega (arith, few, count);
+      numbered = λ s i. let r = used s i in subst (λ (q : Step). (1 ≤ q.number) × (q.number < w.next)) r.2 (good.positive r.0 r.1, good.below r.0 r.1);
+      of_goals = λ s i. let r = used s i in let at = place r.0 r.1 in let firing = taken w.opening.program at.state r.0 at.fires in (firing.name, sym (ap (λ (q : Step). q.goal) r.2) ∙ firing.named);
+      of_clauses = λ s k i by. let r = used s i in let at = place r.0 r.1 in let firing = taken w.opening.program at.state r.0 at.fires in
+          clause_number w.opening.program firing.goal k r.0.number (value_at at.state.store) r.0.effect
+          (subst (λ a. HasEffect w.opening.program firing.goal a r.0.number (value_at at.state.store) r.0.effect) (ap (λ (q : Step). q.act) r.2 ∙ by) firing.effect);
+      distinct = subst AreDistinct (sym (step_numbers w.kept)) good.kept_once;
+      next_number = (good.first, played.within);
+    }

@@ -1,0 +1,38 @@
+use Rattle.std.proofs.Common.{get_or, ap, sym, subst, ◌∙◌, inl, inr}
+use Rattle.std.specs.FinSet as set
+use Rattle.std.proofs.lemmas.List.{take_all}
+use Rattle.ghc_term.specs.declared.var_name.VarName.{VarName}
+use Rattle.ghc_term.specs.Lists.{In}
+use Rattle.ghc_term.proofs.SetsLemmas.{holds_nothing, one_inserted, same_held, has_member, is_member}
+use Rattle.ghc_hooks.proofs.LookingAll.{so_far, earlier, latest}
+use Rattle.ghc_core.proofs.copies.variables_again.Goals as goal
+
+pub loop-x-init : goal.loop-x-init
+loop-x-init c y = (
+  λ h. absurd (holds_nothing _ c.new-again.ensures y h),
+  λ i. absurd i,
+)
+
+pub loop-x-preserved : goal.loop-x-preserved
+loop-x-preserved c y =
+    let none : VarName = record { step = 0; place = 0 } in
+    let xs = c.members-x-items.result.now in
+    let i = c.loop-x.x-index in
+    let put = one_inserted c.loop-x.again (get_or xs i none) y in (
+      λ h. elim (put.0 (ap (λ s. set.contains s y) (sym c.in_ok-insert.ensures.ok) ∙ h)) [
+        | inl o ↦ earlier xs i none c.loop-x-test.true y ((c.loop-x.invariant y).0 o)
+        | inr e ↦ latest xs i none c.loop-x-test.true y e
+      ],
+      λ k. ap (λ s. set.contains s y) c.in_ok-insert.ensures.ok ∙ put.1 (elim (so_far xs i none c.loop-x-test.true y k) [
+        | inl o ↦ inl ((c.loop-x.invariant y).1 o)
+        | inr e ↦ inr e
+      ]),
+    )
+
+pub returns : goal.returns
+returns c =
+    let xs = c.members-x-items.result.now in
+    let all = take_all c.loop-x.x-index xs c.loop-x-test.false in
+    same_held c.loop-x.again c.args.xs.now
+    (λ y h. has_member c.args.xs.now xs c.members-x-items.ensures.all y (subst (In y) all ((c.loop-x.invariant y).0 h)))
+    (λ y h. (c.loop-x.invariant y).1 (subst (In y) (sym all) (is_member c.args.xs.now xs c.members-x-items.ensures.all y h)))

@@ -1,0 +1,6 @@
+use Rattle.std.proofs.Common.{ap}
+use Rattle.ghc_hooks.specs.Verdict.{status_of}
+use Rattle.ghc_core.proofs.copies.verdict_again.Goals as goal
+
+pub cause_again-requires : goal.cause_again-requires
+cause_again-requires c = c.requires c.in-Failed.cause (ap status_of c.in-Failed.is)

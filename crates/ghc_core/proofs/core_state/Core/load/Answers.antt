@@ -1,0 +1,66 @@
+use Rattle.std.proofs.Common.{◌≡◌, ℕ, ◌+◌, ◌<◌, List, [], length, get_or, slice_get, refl, ap, subst, ◌∙◌, inr, arith, Some}
+use Rattle.std.proofs.lemmas.Option.{slice_get_read}
+use Rattle.ghc_records.specs.History.{loaded_opening}
+use Rattle.ghc_core.specs.World.{Opens}
+use Rattle.ghc_core.proofs.Loading.{nothing_loaded, own_step, one_more_loaded, stopped_at, all_loaded}
+use Rattle.ghc_fire.specs.declared.meter.Meter.{Meter}
+use Rattle.ghc_fire.specs.Meter.{fired}
+use Rattle.ghc_records.specs.Journal.{Step}
+use Rattle.ghc_core.proofs.core_state.Core.load.Goals as goal
+
+-- A firing more is counted, far below the greatest count.
+fired_once : (old new : Meter) (i : ℕ) → new ≡ fired old → old.firings ≡ i → i < 1000000 → new.firings ≡ i + 1
+fired_once old new i is count few = ap (λ m. m.firings) is ∙ omega (arith, count, few)
+
+-- the step at the place that the loop is at
+at_place : (steps all : List Step) (i : ℕ) (s : Step) → steps ≡ all → i < length steps → s ≡ get_or steps i s → slice_get all i ≡ Some s
+at_place steps all i s same less is = subst (λ ss. slice_get ss i ≡ Some s) same (slice_get_read steps (length steps) i s refl less is)
+
+pub loop-index-init : goal.loop-index-init
+loop-index-init c = record {
+  loaded = nothing_loaded c.args.program c.args.query.goals c.args.query.variables c.args.history.now c.in_ok-core.core.world (subst (λ n. Opens (loaded_opening c.args.program c.args.query.goals c.args.query.variables (record { steps = []; next = n })) c.in_ok-core.core.world) c.next.ensures c.in_ok-core.ensures.opens);
+  notes = c.in_ok-core.ensures.notes;
+  firings = c.in_ok-core.ensures.meter.0;
+  tries = c.in_ok-core.ensures.meter.1;
+}
+
+pub load_step-requires-clause-own : goal.load_step-requires-clause-own
+load_step-requires-clause-own c r possible =
+    let h = c.args.history.now in
+    let i = c.loop-index.index in
+    own_step c.args.program c.args.query.goals c.args.query.variables h i c.loop-index.core.world c.loop-index.invariant.loaded c.index-steps-index.result
+    (at_place c.steps-steps.result.now c.args.history.now.steps c.loop-index.index c.index-steps-index.result c.steps-steps.ensures.steps c.loop-index-test.true c.index-steps-index.is) r c.requires.history possible
+
+pub returns-in-Ok-false-clause-answer : goal.returns-in-Ok-false-clause-answer
+returns-in-Ok-false-clause-answer c =
+    let h = c.args.history.now in
+    let i = c.loop-index.index in (
+      tt,
+      inr (stopped_at c.args.program c.args.query.goals c.args.query.variables h i c.loop-index.core.world c.loop-index.invariant.loaded c.index-steps-index.result (at_place c.steps-steps.result.now c.args.history.now.steps c.loop-index.index c.index-steps-index.result c.steps-steps.ensures.steps c.loop-index-test.true c.index-steps-index.is) (i + 3)
+          (c.in-Ok-false.ensures.no c.in-Ok-false.field-0-test) refl),
+    )
+
+pub loop-index-preserved : goal.loop-index-preserved
+loop-index-preserved c =
+    let h = c.args.history.now in
+    let i = c.loop-index.index in
+    let before = c.loop-index.invariant in
+    let yes = c.in-Ok-true.field-0-test in
+    let taken = c.in-Ok-true.ensures.yes yes in
+    let firings = before.firings in
+    let few = c.requires.history.few in
+    let more = c.loop-index-test.true in
+    let same : length c.steps-steps.result.now ≡ length h.steps = ap length c.steps-steps.ensures.steps in
+    record {
+      loaded = one_more_loaded c.args.program c.args.query.goals c.args.query.variables h i c.loop-index.core.world before.loaded c.index-steps-index.result (at_place c.steps-steps.result.now c.args.history.now.steps c.loop-index.index c.index-steps-index.result c.steps-steps.ensures.steps c.loop-index-test.true c.index-steps-index.is)
+          c.load_step.new.self.world taken.0 taken.1 taken.2 (c.in-Ok-true.ensures.opens yes);
+      notes = c.in-Ok-true.ensures.notes before.notes yes;
+      firings = fired_once c.loop-index.core.meter c.load_step.new.self.meter i (c.in-Ok-true.ensures.meter yes) before.firings (omega (arith, few, more, same));
+      tries = ap (λ m. m.tries) (c.in-Ok-true.ensures.meter yes) ∙ before.tries;
+    }
+
+pub returns-clause-answer : goal.returns-clause-answer
+returns-clause-answer c =
+    let most = c.loop-index-test.false in
+    let same : length c.steps-steps.result.now ≡ length c.args.history.now.steps = ap length c.steps-steps.ensures.steps in
+    (all_loaded c.args.program c.args.query.goals c.args.query.variables c.args.history.now c.loop-index.index c.loop-index.core.world c.loop-index.invariant.loaded (omega (arith, most, same)), tt)

@@ -1,0 +1,46 @@
+use Rattle.std.proofs.Common.{◌≡◌, sym, subst, ◌∙◌, ap}
+use Rattle.std.specs.Prelude.{IfSome, IfNone}
+use Rattle.ghc_fire.specs.Meter.{fired}
+use Rattle.ghc_records.specs.Journal.{step_of}
+use Rattle.ghc_core.specs.World.{World, Opens}
+use Rattle.ghc_core.specs.Load.{CanLoad, IsPossibleAs, IsImpossible, with_loaded}
+use Rattle.ghc_core.proofs.core_state.Core.load_step.Goals as goal
+
+pub returns-in_default-clause-no : goal.returns-in_default-clause-no
+returns-in_default-clause-no c _ =
+    let w : World = c.args.self.now.world in
+    subst (λ o. IfNone o (IsImpossible w.opening.program w.state c.args.step.now)) c.in_default.is c.in_ok-found.ensures.none
+
+pub add_loaded-requires-clause-opened : goal.add_loaded-requires-clause-opened
+add_loaded-requires-clause-opened c = subst (λ (w : World). Opens w.opening w) (sym (c.in_ok-reserve_to_add.ensures.world ∙ c.in_ok-found.ensures.world)) c.requires.opened
+
+pub add_loaded-requires-clause-found : goal.add_loaded-requires-clause-found
+add_loaded-requires-clause-found c =
+    let w : World = c.args.self.now.world in
+    let r = c.in-Some.record in
+    let possible : IsPossibleAs w.opening.program w.state c.args.step.now r =
+    subst (λ o. IfSome o (IsPossibleAs w.opening.program w.state c.args.step.now)) c.in-Some.is c.in_ok-found.ensures.some in
+    subst (λ v. CanLoad v c.in_ok-addition.addition) (sym (c.in_ok-reserve_to_add.ensures.world ∙ c.in_ok-found.ensures.world))
+    (subst (CanLoad w) (sym c.in_ok-addition.ensures) (c.requires.own r possible))
+
+pub add_loaded-requires-clause-step : goal.add_loaded-requires-clause-step
+add_loaded-requires-clause-step c = c.in_ok-loaded.ensures ∙ ap step_of (sym c.in_ok-addition.ensures)
+
+pub returns-clause-yes : goal.returns-clause-yes
+returns-clause-yes c _ =
+    let w : World = c.args.self.now.world in
+    let r = c.in-Some.record in
+    let possible : IsPossibleAs w.opening.program w.state c.args.step.now r =
+    subst (λ o. IfSome o (IsPossibleAs w.opening.program w.state c.args.step.now)) c.in-Some.is c.in_ok-found.ensures.some in
+    let same = c.in_ok-reserve_to_add.ensures.world ∙ c.in_ok-found.ensures.world in (
+      c.in_ok-addition.addition,
+      subst (IsPossibleAs w.opening.program w.state c.args.step.now) (sym c.in_ok-addition.ensures) possible,
+      c.in_ok-add_loaded.ensures.world ∙ ap (with_loaded c.in_ok-addition.addition) same,
+    )
+
+pub returns-clause-notes : goal.returns-clause-notes
+returns-clause-notes c none _ = c.in_ok-add_loaded.ensures.notes (c.in_ok-reserve_to_add.ensures.notes ∙ c.in_ok-found.ensures.notes ∙ none)
+
+pub returns-clause-meter : goal.returns-clause-meter
+returns-clause-meter c _ =
+    c.in_ok-add_loaded.ensures.meter ∙ c.in_ok-reserve_to_add.ensures.meter ∙ subst (λ o. IfSome o (λ _. c.fire_counted.new.self.meter ≡ fired c.args.self.now.meter)) c.in-Some.is c.in_ok-found.ensures.counted

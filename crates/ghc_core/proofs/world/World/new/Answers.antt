@@ -1,0 +1,7 @@
+use Rattle.std.proofs.Common.{ap}
+use Rattle.ghc_core.specs.World.{Hands}
+use Rattle.ghc_core.specs.Legal.{with_other_hands}
+use Rattle.ghc_core.proofs.world.World.new.Goals as goal
+
+pub returns-in-Ok-clause-reachable : goal.returns-in-Ok-clause-reachable
+returns-in-Ok-clause-reachable c = with_other_hands c.stands.ensures.standing (ap (λ (h : Hands). h.held) c.in-Ok.ensures)

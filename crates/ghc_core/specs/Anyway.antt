@@ -1,0 +1,40 @@
+-- What an event is refused for whatever memory is left.
+use Rattle.std.specs.Prelude.{◌≡◌, ◌⊎◌, ℕ, Option, Some, None}
+use Rattle.std.specs.FinMap as finite
+use Rattle.ghc_term.specs.declared.goal_name.GoalName.{GoalName}
+use Rattle.ghc_term.specs.declared.fault.Fault.{Fault}
+use Rattle.ghc_fire.specs.Attempt as attempt
+use Rattle.ghc_depend.specs.Depend.{IsNotKept}
+use Rattle.ghc_core.specs.World.{Proposal, Hands, IsHand, World}
+use Rattle.ghc_core.specs.Events.{Command, input, finish, undo, roll, redo, arrange, Event, propose, commit, note, command}
+use Rattle.ghc_core.specs.Proposes.{AttemptAnswers, IsNoCandidate}
+use Rattle.ghc_core.specs.Streams.{StreamFails}
+use Rattle.ghc_core.specs.Reverses.{UndoFails, RedoFails}
+
+-- A hand is not given a proposal: there is no such hand, no such goal, or no such clause of the goal's predicate.
+pub data IsNotProposedAnyway (w : World) (hands : Hands) (h : ℕ) (g : GoalName) (choice : Option ℕ) : Fault → Type 0 where
+  no_hand : ¬ IsHand hands h → IsNotProposedAnyway w hands h g choice Fault.Command
+  no_goal : IsHand hands h → AttemptAnswers w g choice (attempt.refused Fault.NoGoal) → IsNotProposedAnyway w hands h g choice Fault.NoGoal
+  no_clause : IsHand hands h → AttemptAnswers w g choice (attempt.refused Fault.NoClause) → IsNotProposedAnyway w hands h g choice Fault.NoClause
+
+-- What a hand holds is not committed: there is no such hand, it holds nothing, or the goal of what it holds is not there any more.
+pub data IsNotCommittedAnyway (w : World) (hands : Hands) (h : ℕ) : Fault → Type 0 where
+  no_hand : ¬ IsHand hands h → IsNotCommittedAnyway w hands h Fault.Command
+  empty : IsHand hands h → finite.get hands.held h ≡ None → IsNotCommittedAnyway w hands h Fault.Stale
+  gone : (p : Proposal) → IsHand hands h → finite.get hands.held h ≡ Some p → finite.get w.state.goals p.goal ≡ None → IsNotCommittedAnyway w hands h Fault.Stale
+
+-- A command is not obeyed: there is no such stream; the step cannot be undone; it is not kept; it is not on the shelf, or its goal is not there.
+abbrev pub IsNotObeyedAnyway : World → Command → Fault → Type 0
+IsNotObeyedAnyway w (input k t) f = (f ≡ Fault.NoStream) × StreamFails w k Fault.NoStream
+IsNotObeyedAnyway w (finish k) f = (f ≡ Fault.NoStream) × StreamFails w k Fault.NoStream
+IsNotObeyedAnyway w (undo n) f = UndoFails w.kept n f
+IsNotObeyedAnyway w (roll n) f = (f ≡ Fault.NotKept) × IsNotKept w.kept n
+IsNotObeyedAnyway w (redo n) f = ((f ≡ Fault.NotShelved) × RedoFails w n Fault.NotShelved) ⊎ ((f ≡ Fault.NoGoal) × RedoFails w n Fault.NoGoal)
+IsNotObeyedAnyway w (arrange order) f = ⊥
+
+-- The event is refused for this, whatever memory is left.
+abbrev pub IsRefusedAnyway : World → Hands → Event → Fault → Type 0
+IsRefusedAnyway w hands (propose h g choice) f = IsNotProposedAnyway w hands h g choice f
+IsRefusedAnyway w hands (commit h) f = IsNotCommittedAnyway w hands h f
+IsRefusedAnyway w hands (note g) f = (f ≡ Fault.NoGoal) × IsNoCandidate w g
+IsRefusedAnyway w hands (command c) f = IsNotObeyedAnyway w c f

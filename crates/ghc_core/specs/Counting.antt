@@ -1,0 +1,29 @@
+-- What events count as fired and tried.
+use Rattle.std.specs.Prelude.{◌≡◌, ◌⊎◌}
+use Rattle.ghc_fire.specs.declared.meter.Meter.{Meter}
+use Rattle.ghc_fire.specs.Meter.{fired, tried}
+use Rattle.ghc_core.specs.Events.{Command, input, finish, undo, roll, redo, arrange, Event, propose, commit, note, command}
+
+-- One firing was counted, or none.
+abbrev pub FiresOnce : Meter → Meter → Type 0
+FiresOnce m n = (n ≡ m) ⊎ (n ≡ fired m)
+
+-- One try was counted, or none.
+abbrev pub TriesOnce : Meter → Meter → Type 0
+TriesOnce m n = (n ≡ m) ⊎ (n ≡ tried m)
+
+-- Obeying the command takes the counts from m to n: a redo fires once, or not at all where it is refused before; no other command fires or tries.
+abbrev pub CountsInObeying : Command → Meter → Meter → Type 0
+CountsInObeying (input k t) m n = n ≡ m
+CountsInObeying (finish k) m n = n ≡ m
+CountsInObeying (undo k) m n = n ≡ m
+CountsInObeying (roll k) m n = n ≡ m
+CountsInObeying (redo k) m n = FiresOnce m n
+CountsInObeying (arrange order) m n = n ≡ m
+
+-- Meeting the event takes the counts from m to n: a proposal and a commit fire once, and a note tries once, or not at all where they are refused before.
+abbrev pub Counts : Event → Meter → Meter → Type 0
+Counts (propose h g choice) m n = FiresOnce m n
+Counts (commit h) m n = FiresOnce m n
+Counts (note g) m n = TriesOnce m n
+Counts (command c) m n = CountsInObeying c m n

@@ -1,0 +1,46 @@
+// The history that tells what a core keeps.
+ghost use Rattle.std.specs.Prelude.{◌≡◌, map, IfOk, OnOk};
+ghost use Rattle.ghc_records.specs.History.{IsHistory};
+ghost use Rattle.ghc_records.specs.Journal.{step_of};
+ghost use Rattle.ghc_core.specs.Load.{KeepsSlot, history_of};
+
+use crate::core_state::Core;
+use ghc_records::{History, Records, Step};
+use std::alloc::{AllocError, Global};
+
+// Puts the step of the record at this place behind the others, if there is one.
+fn push_at(records: &Records, place: usize, steps: &mut Vec<Step>) -> Result<(), AllocError>
+    ensures { OnOk result (KeepsSlot records.now.slots place steps.old.items steps.new.items) }
+{
+    let Some(record) = records.at(place) else {
+        return Ok(());
+    };
+    steps.push(record.step()?)?;
+    Ok(())
+}
+
+// The steps of the records, in their order: one step for each place.
+fn steps_of(alloc: Global, records: &Records) -> Result<Vec<Step>, AllocError>
+    ensures { IfOk result (λ steps. steps.items ≡ map step_of records.now.held) }
+{
+    let count = records.len();
+    let mut steps = Vec::new(alloc);
+    steps.reserve_exact(count)?;
+    for place in 0..records.places() {
+        push_at(records, place, &mut steps)?;
+    }
+    Ok(steps)
+}
+
+impl Core {
+    /// The history of the steps that the core keeps: one step for each place of the record. It fails for want of memory, or where
+    /// a count of handles is full.
+    pub fn history(&self, alloc: Global) -> Result<History, AllocError>
+        ensures history { IfOk result (λ history. history ≡ history_of self.now.world) }
+        ensures form { IsHistory (history_of self.now.world) }
+    {
+        self.stands();
+        let steps = steps_of(alloc, &self.records)?;
+        Ok(History::new(steps, self.next))
+    }
+}
