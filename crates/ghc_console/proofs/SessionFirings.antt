@@ -6,7 +6,7 @@ use Rattle.ghc_console.specs.Firing.{Fires, firings_in, firings_of, runs_in, run
 use Rattle.ghc_console.specs.Lines.{lines_of}
 use Rattle.ghc_console.specs.Reading.{TakesLine}
 use Rattle.ghc_console.specs.declared.command.LineCommand.{LineCommand}
-use Rattle.ghc_console.specs.declared.command.LineCommand.TheVariants.{Nothing, Step, Undo, Redo, Roll, Arrange, Show, Records, Goals, Why, Who, Shelf, Spy, Unspy, Input, Close, Leap, Skip, Quit, Unknown}
+use Rattle.ghc_console.specs.declared.command.LineCommand.TheVariants.{Nothing, Step, Undo, Redo, Roll, Arrange, Show, Records, Goals, Why, Who, Shelf, Save, Spy, Unspy, Input, Close, Leap, Skip, Quit, Unknown}
 
 -- a command may fire nothing
 pub fires_nothing : (c : LineCommand) (m n : ℕ) → n ≡ m → Fires c m n
@@ -24,6 +24,7 @@ fires_nothing Goals m n e = e
 fires_nothing (Why number) m n e = e
 fires_nothing (Who word) m n e = e
 fires_nothing Shelf m n e = e
+fires_nothing Save m n e = e
 fires_nothing (Spy name arity) m n e = e
 fires_nothing (Unspy name arity) m n e = e
 fires_nothing (Input stream given) m n e = e
@@ -49,6 +50,7 @@ fires_few Goals m n none e = omega (arith, e)
 fires_few (Why number) m n none e = omega (arith, e)
 fires_few (Who word) m n none e = omega (arith, e)
 fires_few Shelf m n none e = omega (arith, e)
+fires_few Save m n none e = omega (arith, e)
 fires_few (Spy name arity) m n none e = omega (arith, e)
 fires_few (Unspy name arity) m n none e = omega (arith, e)
 fires_few (Input stream given) m n none e = omega (arith, e)

@@ -6,7 +6,7 @@ use Rattle.ghc_term.specs.declared.goal_name.GoalName.{GoalName}
 use Rattle.ghc_console.specs.Words.{behind, goal_name_of, is_printable, is_variable, number_of, numbers_of, words_of}
 use Rattle.ghc_console.specs.PredicateWords.{predicate_of}
 use Rattle.ghc_console.specs.declared.command.LineCommand.{LineCommand}
-use Rattle.ghc_console.specs.declared.command.LineCommand.TheVariants.{Nothing, Step, Undo, Redo, Roll, Arrange, Show, Records, Goals, Why, Who, Shelf, Spy, Unspy, Input, Close, Leap, Skip, Quit, Unknown}
+use Rattle.ghc_console.specs.declared.command.LineCommand.TheVariants.{Nothing, Step, Undo, Redo, Roll, Arrange, Show, Records, Goals, Why, Who, Shelf, Save, Spy, Unspy, Input, Close, Leap, Skip, Quit, Unknown}
 
 -- A step with the goal, by the least clause that accepts, where the word named one.
 abbrev pub step_with : Option GoalName → LineCommand
@@ -37,13 +37,14 @@ skip_by (Some goal) (Some limit) = skip_of goal limit
 skip_by (Some goal) None = Unknown
 skip_by None limit = Unknown
 
--- The command of a word alone: `records`, `goals`, `shelf`, `leap` or `quit`.
+-- The command of a word alone: `records`, `goals`, `shelf`, `save`, `leap` or `quit`.
 abbrev pub command_of_one_word : List ℕ → LineCommand
 command_of_one_word name = if bytes_eq name (codes "records") then Records
     else (if bytes_eq name (codes "goals") then Goals
     else (if bytes_eq name (codes "shelf") then Shelf
+    else (if bytes_eq name (codes "save") then Save
     else (if bytes_eq name (codes "leap") then Leap run_limit
-    else (if bytes_eq name (codes "quit") then Quit else Unknown))))
+    else (if bytes_eq name (codes "quit") then Quit else Unknown)))))
 
 -- The command of a word with a number: `undo N`, `redo N`, `roll N`, `why N`, `end K` or `leap K`.
 abbrev pub command_with_number : List ℕ → ℕ → LineCommand

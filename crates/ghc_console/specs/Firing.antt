@@ -3,7 +3,7 @@ use Rattle.std.specs.Prelude.{◌≡◌, ◌⊎◌, ℕ, List, sum_by}
 use Rattle.ghc_fire.specs.Meter.{one_more}
 use Rattle.ghc_console.specs.Commands.{command_of}
 use Rattle.ghc_console.specs.declared.command.LineCommand.{LineCommand}
-use Rattle.ghc_console.specs.declared.command.LineCommand.TheVariants.{Nothing, Step, Undo, Redo, Roll, Arrange, Show, Records, Goals, Why, Who, Shelf, Spy, Unspy, Input, Close, Leap, Skip, Quit, Unknown}
+use Rattle.ghc_console.specs.declared.command.LineCommand.TheVariants.{Nothing, Step, Undo, Redo, Roll, Arrange, Show, Records, Goals, Why, Who, Shelf, Save, Spy, Unspy, Input, Close, Leap, Skip, Quit, Unknown}
 
 -- Fires c old new: carrying out the command c takes the count of firings from old to new. A step or a redo fires once in the core, or not at all where it is refused before; of a run nothing is said; no other command fires.
 abbrev pub Fires : LineCommand → ℕ → ℕ → Type 0
@@ -21,6 +21,7 @@ Fires Goals old new = new ≡ old
 Fires (Why number) old new = new ≡ old
 Fires (Who word) old new = new ≡ old
 Fires Shelf old new = new ≡ old
+Fires Save old new = new ≡ old
 Fires (Spy name arity) old new = new ≡ old
 Fires (Unspy name arity) old new = new ≡ old
 Fires (Input stream given) old new = new ≡ old
@@ -44,6 +45,7 @@ firings_of Goals = 0
 firings_of (Why number) = 0
 firings_of (Who word) = 0
 firings_of Shelf = 0
+firings_of Save = 0
 firings_of (Spy name arity) = 0
 firings_of (Unspy name arity) = 0
 firings_of (Input stream given) = 0

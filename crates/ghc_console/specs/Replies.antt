@@ -18,12 +18,14 @@ use Rattle.ghc_records.specs.Slots.{SlotList, StandsIn}
 use Rattle.ghc_records.specs.Record.{Record, Shelf}
 use Rattle.ghc_records.specs.Journal.{step_of}
 use Rattle.ghc_records.specs.StepText.{listed, record_text, step_text}
+use Rattle.ghc_records.specs.HistoryText.{history_text}
 use Rattle.ghc_depend.specs.Depend.{IsNotKept}
 use Rattle.ghc_core.specs.World.{World, IsFull, with_step}
 use Rattle.ghc_core.specs.Events.{Reply, stepped, undone, arranged, refused as event_refused}
 use Rattle.ghc_core.specs.Proposes.{AttemptAnswers, IsCommitOf}
 use Rattle.ghc_core.specs.Reverses.{Undoes, Redoes, Rolls, Arranges}
 use Rattle.ghc_core.specs.Streams.{Inputs, Finishes}
+use Rattle.ghc_core.specs.Load.{history_of}
 use Rattle.ghc_trace.specs.Ports.{Port, ArePorts}
 use Rattle.ghc_trace.specs.PortText.{ports_text}
 use Rattle.ghc_trace.specs.News.{Standing, AreNews, news_text}
@@ -39,7 +41,7 @@ use Rattle.ghc_console.specs.RunReplies.{TellsRun, RepliesToSkip}
 use Rattle.ghc_console.specs.VariableNamed.{IsVariableNamed}
 use Rattle.ghc_console.specs.Commands.{command_of}
 use Rattle.ghc_console.specs.declared.command.LineCommand.{LineCommand}
-use Rattle.ghc_console.specs.declared.command.LineCommand.TheVariants.{Nothing as nothing, Step as step, Undo as undo, Redo as redo, Roll as roll, Arrange as arrange, Show as show, Records as records, Goals as goals, Why as why, Who as who, Shelf as shelf, Spy as spy, Unspy as unspy, Input as input, Close as close, Leap as leap, Skip as skip, Quit as quit, Unknown as unknown}
+use Rattle.ghc_console.specs.declared.command.LineCommand.TheVariants.{Nothing as nothing, Step as step, Undo as undo, Redo as redo, Roll as roll, Arrange as arrange, Show as show, Records as records, Goals as goals, Why as why, Who as who, Shelf as shelf, Save as save, Spy as spy, Unspy as unspy, Input as input, Close as close, Leap as leap, Skip as skip, Quit as quit, Unknown as unknown}
 use Rattle.ghc_console.specs.Reading.{line_limit}
 use Rattle.ghc_console.specs.SessionState.{SessionState, HasClauseFor, LeavesSpies, predicate_text}
 
@@ -187,6 +189,7 @@ Replies spies w goals text v = RepliesToGoals w text × (v ≡ w)
 Replies spies w (why n) text v = RepliesToWhy w n text × (v ≡ w)
 Replies spies w (who word) text v = RepliesToWho w word text × (v ≡ w)
 Replies spies w shelf text v = (text ≡ shelf_text w.shelf) × (v ≡ w)
+Replies spies w save text v = (text ≡ history_text (history_of w)) × (v ≡ w)
 Replies spies w (spy f n) text v = RepliesToSpy w.opening.program f n text × (v ≡ w)
 Replies spies w (unspy f n) text v = (text ≡ lined (codes "not spying " ++ predicate_text f n)) × (v ≡ w)
 Replies spies w (input k given) text v = RepliesToInput w k given text v
@@ -210,6 +213,7 @@ quits goals = false
 quits (why n) = false
 quits (who word) = false
 quits shelf = false
+quits save = false
 quits (spy f n) = false
 quits (unspy f n) = false
 quits (input k given) = false

@@ -18,6 +18,7 @@ use crate::redo_reply::redo;
 use crate::reply::{goals, records, refused, show, step};
 use crate::roll_reply::roll;
 use crate::run_reply::{leap, skip};
+use crate::save_reply::save;
 use crate::shelf_reply::shelf;
 use crate::spy_reply::{spy, unspy};
 use crate::undo_reply::undo;
@@ -53,6 +54,7 @@ fn tell(
         LineCommand::Why(number) => why(alloc, &debugger.core, *number, reply),
         LineCommand::Who(word) => who(alloc, &debugger.core, word.as_str(), reply),
         LineCommand::Shelf => shelf(alloc, &debugger.core, reply),
+        LineCommand::Save => save(alloc, &debugger.core, reply),
         LineCommand::Spy(name, arity) => {
             spy(
                 alloc,

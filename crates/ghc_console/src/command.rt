@@ -42,6 +42,8 @@ pub enum LineCommand {
     Who(Word),
     /// The steps that were taken back.
     Shelf,
+    /// The history of the steps that are kept.
+    Save,
     /// The spying of the predicate of this name and arity.
     Spy(Name, u32),
     /// The spying no more of the predicate of this name and arity.
@@ -95,6 +97,9 @@ fn one_word_command(first_word: &[u8]) -> LineCommand
     }
     if first_word == b"shelf".as_slice() {
         return LineCommand::Shelf;
+    }
+    if first_word == b"save".as_slice() {
+        return LineCommand::Save;
     }
     if first_word == b"leap".as_slice() {
         return LineCommand::Leap(RUN_LIMIT);

@@ -22,6 +22,7 @@ mod reply;
 mod roll_reply;
 mod run_lines;
 mod run_reply;
+mod save_reply;
 mod script;
 mod session_loop;
 mod settled;
