@@ -1,4 +1,5 @@
 -- Lemmas of this crate.
 mod CommandLine
 mod IsStarted
+mod Opened
 mod Tells

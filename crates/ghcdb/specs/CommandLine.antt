@@ -1,7 +1,10 @@
 -- What the command line gives.
-use Rattle.std.specs.Prelude.{◌≡◌, ℕ, List, [], ◌∷◌, Some, false, codes}
+use Rattle.std.specs.Prelude.{◌≡◌, ◌≤◌, ℕ, List, [], ◌∷◌, None, Some, false, codes, option_map}
 use Rattle.clap.specs.Words.{AddsArg, AddsInTurn, HasMatchesOf, app_of, IsParsedFrom, IsPlainArg, args_of, first_value, found_of, groups_of}
 use Rattle.clap.specs.Built.{TakesValue}
+use Rattle.clap.specs.Facts.{least_values}
+use Rattle.clap.specs.Texts.{items_of}
+use Rattle.clap.specs.declared.builder.action.ArgAction.TheVariants.{Set}
 use Rattle.clap.specs.declared.builder.arg.Arg.{Arg}
 use Rattle.clap.specs.declared.builder.command.Command.{Command}
 use Rattle.clap.specs.declared.builder.command.Command.TheViews.{out-Command}
@@ -15,6 +18,15 @@ pub record IsRequiredValue (id : List ℕ) (argument : Arg) : Type 0 where
   pub local : argument.global ≡ false
   pub value : TakesValue argument
 
+-- an argument that need not be given, has no value then and else one, and excludes no other
+pub record IsOptionalValue (id : List ℕ) (argument : Arg) : Type 0 where
+  pub id_is : argument.id.now ≡ id
+  pub plain : IsPlainArg argument
+  pub local : argument.global ≡ false
+  pub free : argument.required ≡ false
+  pub no_default : items_of argument.default_vals ≡ []
+  pub value : (argument.action ≡ Some Set) × (argument.val_delim ≡ None) × (1 ≤ least_values argument)
+
 -- a command with no argument yet
 pub record IsEmptyCommand (command : Command) : Type 0 where
   pub arguments : args_of command ≡ []
@@ -22,17 +34,19 @@ pub record IsEmptyCommand (command : Command) : Type 0 where
   pub local : (out-Command command).has_globals ≡ false
   pub negates : (out-Command command).subcommand_negates_reqs ≡ false
 
--- the command that takes FILE and the query, and needs both
+-- the command that takes FILE and the query, and needs both, and may take a file to load
 pub record IsGhcdb (command : Command) : Type 0 where
   pub start : Command
   pub file : Arg
   pub query : Arg
+  pub load : Arg
   pub empty : IsEmptyCommand start
   pub file_is : IsRequiredValue (codes "FILE") file
   pub query_is : IsRequiredValue (codes "query") query
-  pub chain : AddsInTurn AddsArg start (file ∷ query ∷ []) command
+  pub load_is : IsOptionalValue (codes "load") load
+  pub chain : AddsInTurn AddsArg start (file ∷ query ∷ load ∷ []) command
 
--- the options are the values that a parse of that command found for FILE and for the query
+-- the options are the values that a parse of that command found for FILE, for the query, and for the file to load, if there is one
 pub record IsGivenBy (words : List (List ℕ)) (options : Options) : Type 0 where
   pub command : Command
   pub matches : ArgMatches
@@ -41,3 +55,4 @@ pub record IsGivenBy (words : List (List ℕ)) (options : Options) : Type 0 wher
   pub given : HasMatchesOf (app_of command) words matches
   pub file : first_value (found_of matches) (codes "FILE") ≡ Some options.file.now
   pub query : first_value (found_of matches) (codes "query") ≡ Some options.query.now
+  pub load : first_value (found_of matches) (codes "load") ≡ option_map (λ name. name.now) options.load

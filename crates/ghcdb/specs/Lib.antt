@@ -3,4 +3,6 @@ pub mod CommandLine
 pub mod Refusal
 pub mod RefusedPart
 pub mod Start
+pub mod Opening
 pub mod Status
+pub mod Texts

@@ -1,6 +1,6 @@
 // The command line, read by `clap`.
 ghost use Rattle.std.specs.Prelude.{◌≡◌, IfOk, codes, map, string_bytes};
-ghost use Rattle.ghcdb.specs.CommandLine.{IsGhcdb, IsGivenBy, IsRequiredValue};
+ghost use Rattle.ghcdb.specs.CommandLine.{IsGhcdb, IsGivenBy, IsOptionalValue, IsRequiredValue};
 
 use crate::settings::Options;
 use clap::{Arg, ArgAction, Command, Error};
@@ -12,10 +12,12 @@ const FILE_HELP: &str = "The program, a file of Flat GHC clauses";
 
 const QUERY_HELP: &str = "The goals to start from, such as 'append([1],[2],R)'";
 
+const LOAD_HELP: &str = "A history to start from, as the command save writes it";
+
 const AFTER_HELP: &str = "Example: ghcdb append.ghc --query 'append([1],[2],R)'
 
-The exit status is 0 at the end of the session; 1 where the program or the
-query is refused, or no memory is left; 2 where the command line is refused;
+The exit status is 0 at the end of the session; 1 where the program, the query
+or the history is refused, or no memory is left; 2 where the command line is refused;
 3 where a file cannot be read or a device fails.";
 
 fn file_argument<'a>(alloc: Global) -> Arg<'a>
@@ -40,6 +42,16 @@ fn query_argument<'a>(alloc: Global) -> Arg<'a>
         .help(QUERY_HELP)
 }
 
+fn load_argument<'a>(alloc: Global) -> Arg<'a>
+    ensures { IsOptionalValue (codes "load") result }
+{
+    Arg::new(alloc, "load")
+        .long("load")
+        .value_name("FILE")
+        .action(ArgAction::Set)
+        .help(LOAD_HELP)
+}
+
 fn command<'a>(alloc: Global) -> Result<Command<'a>, AllocError>
     ensures { IfOk result IsGhcdb }
 {
@@ -47,7 +59,8 @@ fn command<'a>(alloc: Global) -> Result<Command<'a>, AllocError>
         .about(ABOUT)
         .after_help(AFTER_HELP)
         .arg(file_argument(alloc))?
-        .arg(query_argument(alloc))?;
+        .arg(query_argument(alloc))?
+        .arg(load_argument(alloc))?;
     Ok(command)
 }
 
@@ -60,5 +73,6 @@ pub fn options<'a>(alloc: Global, words: &'a [String]) -> Result<Options<'a>, Er
     let matches = command.try_get_matches_from(words)?;
     let file = matches.get_str("FILE").unwrap();
     let query = matches.get_str("query").unwrap();
-    Ok(Options { file, query })
+    let load = matches.get_str("load");
+    Ok(Options { file, query, load })
 }

@@ -4,17 +4,17 @@ ghost use Rattle.clap.specs.Words.{kind_of};
 ghost use Rattle.clap.specs.declared.error.kind.ErrorKind.{ErrorKind};
 ghost use Rattle.ghc_term.specs.Answered.{AnsweredUnless};
 ghost use Rattle.ghc_term.specs.Fault.{fault_text};
-ghost use Rattle.ghc_flat.specs.Flat.{IsQuery};
-ghost use Rattle.ghcdb.specs.Start.{IsOutOfMemory, IsStartRefusal, IsStarted};
+ghost use Rattle.ghcdb.specs.Opening.{IsOpened, IsOpenRefusal, IsWithoutMemory};
+ghost use Rattle.ghcdb.specs.Texts.{history_in};
 ghost use Rattle.ghcdb.specs.Status.{spare_fault, status_of};
 
 use crate::command_line::options;
 use crate::console::run_console;
-use crate::files::read_file;
+use crate::files::{Texts, read_texts};
+use crate::opening::open;
 use crate::refusal::{Refusal, push_line};
 use crate::refused_part::RefusedPart;
 use crate::settings::Options;
-use crate::start::{Started, start};
 use crate::status::Status;
 use clap::Error;
 use ghc_core::Core;
@@ -47,11 +47,18 @@ fn answer<R: Print + Eprint>(rt: &R, error: &Error) -> Status
     }
 }
 
-// What the bytes of FILE and the options start: the program is in the file, and the query in the options.
-fn start_with(alloc: Global, file: &[u8], options: Options<'_>) -> Result<Started, Refusal>
-    ensures answer { AnsweredUnless IsOutOfMemory (IsStarted file.now options.entry.query.now) (IsStartRefusal file.now options.entry.query.now) result }
+// The core that the texts of the files and the options start: the program and the history are in the files, and the query in the
+// options.
+fn open_with(alloc: Global, texts: &Texts, options: Options<'_>) -> Result<Core, Refusal>
+    ensures answer { AnsweredUnless (IsWithoutMemory (history_in texts.now)) (IsOpened texts.now.program.items options.entry.query.now (history_in texts.now))
+        (IsOpenRefusal texts.now.program.items options.entry.query.now (history_in texts.now)) result }
 {
-    start(alloc, file, options.query.as_bytes())
+    let program = texts.program.as_slice();
+    let query = options.query.as_bytes();
+    match &texts.history {
+        Some(history) => open(alloc, program, query, Some(history.as_slice())),
+        None => open(alloc, program, query, None),
+    }
 }
 
 // Reads the files, all of them before anything is judged, starts, and runs the session.
@@ -59,30 +66,18 @@ fn debug<R: Wait + Files + Input + Print + Eprint + AllocGlobal>(
     rt: &R,
     options: Options<'_>,
 ) -> Status {
-    let part = RefusedPart::Program;
-    let program = match read_file(rt, options.file) {
-        Ok(program) => program,
-        Err(fault) => return tell(rt, &Refusal { part, fault }),
+    let texts = match read_texts(rt, options) {
+        Ok(texts) => texts,
+        Err(refusal) => return tell(rt, &refusal),
     };
-    match start_with(rt.alloc(), program.as_slice(), options) {
-        Ok(started) => run_session(rt, started),
+    match open_with(rt.alloc(), &texts, options) {
+        Ok(core) => run_session(rt, core),
         Err(refusal) => tell(rt, &refusal),
     }
 }
 
-// Runs the session on a program and a query that are accepted together.
-fn run_session<R: Wait + Input + Print + Eprint + AllocGlobal>(rt: &R, started: Started) -> Status
-    requires { IsQuery started.program started.query.goals }
-{
-    let Started { program, query } = started;
-    let core = match Core::new(rt.alloc(), program, query) {
-        Ok(core) => core,
-        Err(_) => {
-            let part = RefusedPart::Program;
-            let fault = Fault::Memory;
-            return tell(rt, &Refusal { part, fault });
-        }
-    };
+// Runs the session on the core that was started.
+fn run_session<R: Wait + Input + Print + Eprint + AllocGlobal>(rt: &R, core: Core) -> Status {
     match run_console(rt, core) {
         Ok(()) => Status::Done,
         Err(fault) => {

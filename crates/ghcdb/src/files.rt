@@ -1,7 +1,11 @@
 // The files that the command line names.
+ghost use Rattle.ghcdb.specs.Texts.{IsReadRefusal, HasHistory};
 ghost use Rattle.std.specs.Prelude.{◌≡◌, ◌⊎◌, IfErr, IfOk, Ok, false, is_ok};
 ghost use Rattle.ghc_term.specs.declared.fault.Fault.{Fault};
 
+use crate::refusal::Refusal;
+use crate::refused_part::RefusedPart;
+use crate::settings::Options;
 use ghc_term::Fault;
 use std::io::ErrorKind;
 use std::rt::Files;
@@ -25,4 +29,42 @@ pub fn read_file<R: Files + AllocGlobal>(rt: &R, name: &str) -> Result<Vec<u8>, 
     ensures { IfErr result (λ fault. (fault ≡ Fault.Memory) ⊎ (fault ≡ Fault.Device)) }
 {
     received(fs::read(rt, name))
+}
+
+/// What stands in the files that the command line names.
+#[derive(Drop)]
+pub struct Texts {
+    /// The text of the program.
+    pub program: Vec<u8>,
+    /// The text of the history, where one is named.
+    pub history: Option<Vec<u8>>,
+}
+
+/// The texts of the files that the options name, all of them. The refusal is that of the first file that cannot be read, the
+/// program's before the history's.
+pub fn read_texts<R: Files + AllocGlobal>(rt: &R, options: Options<'_>) -> Result<Texts, Refusal>
+    ensures history { IfOk result (λ texts. HasHistory options.entry texts) }
+    ensures refused { IfErr result (IsReadRefusal options.entry) }
+{
+    let program = match read_file(rt, options.file) {
+        Ok(program) => program,
+        Err(fault) => {
+            let part = RefusedPart::Program;
+            return Err(Refusal { part, fault });
+        }
+    };
+    let Some(name) = options.load else {
+        let history = None;
+        return Ok(Texts { program, history });
+    };
+    match read_file(rt, name) {
+        Ok(text) => {
+            let history = Some(text);
+            Ok(Texts { program, history })
+        }
+        Err(fault) => {
+            let part = RefusedPart::History;
+            Err(Refusal { part, fault })
+        }
+    }
 }

@@ -6,6 +6,7 @@ mod console;
 mod debugger;
 mod files;
 mod laws;
+mod opening;
 mod refusal;
 mod refused_part;
 mod settings;

@@ -7,4 +7,6 @@ pub struct Options<'a> {
     pub file: &'a str,
     /// The text of the query.
     pub query: &'a str,
+    /// The name of the file of the history from which the session starts, if one is named.
+    pub load: Option<&'a str>,
 }

@@ -10,3 +10,4 @@ mod settling;
 mod terms;
 mod texts;
 mod unifying;
+mod worlds;

@@ -1,4 +1,4 @@
-use Rattle.std.proofs.Common.{rules}
+use Rattle.std.proofs.Common.{rules, sym}
 use Rattle.clap.proofs.CallerLemmas.{some_of_text}
 use Rattle.ghcdb.proofs.CommandLine.{file_found, query_found}
 use Rattle.ghcdb.proofs.command_line.options.Goals as goal
@@ -18,4 +18,5 @@ returns c = record {
   given = c.in_ok-matches.ensures.matches;
   file = search rules;
   query = search rules;
+  load = sym c.get_str-load.ensures;
 }
