@@ -50,8 +50,9 @@ What it has to do:
 
 A table is a file NAME.table of many small rows on texts that are refused or accepted. Each of its lines is a row: KIND, a
 tab, the text with its braces, a tab, and the line on standard error, with which the status is 1, or the word `accepted`,
-with which the session begins and, without input, ends with status 0. KIND is `program`, and then the query is `true`, or
-`query`, and then the program is empty. Lines that begin with `#` and empty lines are left out.
+with which the session begins and, without input, ends with status 0. KIND is `program`, and then the query is `true`;
+`query`, and then the program is empty; or `history`, and then program and query are those of examples/append.ghc. Lines
+that begin with `#` and empty lines are left out.
 
 The examples of docs/LANGUAGE.md, docs/FORMATS.md and docs/TUTORIAL.md are rows too: each block that begins with `program`
 and `query`, and then has a session; one that begins with `continued` goes on with the session of the block before it, and
@@ -183,11 +184,15 @@ def read_table(path):
 def table_row(line):
     """A row of a table, or what is wrong with it."""
     columns = line.split(b"\t")
-    if len(columns) != 3 or columns[0] not in (b"program", b"query"):
+    if len(columns) != 3 or columns[0] not in (b"program", b"query", b"history"):
         return BadRow(f"a line of a table is not of the form: {line!r}")
     try:
         row = {key: [] for key in LISTED}
-        row |= {"program": b"", "query": b"true", columns[0].decode(): expand(columns[1])}
+        if columns[0] == b"history":
+            row |= {"example": b"append.ghc", "file run.history": expand(columns[1]), "options": b"--load\nrun.history\n"}
+            take_example(row)
+        else:
+            row |= {"program": b"", "query": b"true", columns[0].decode(): expand(columns[1])}
         if columns[2] == b"accepted":
             return row
         return row | {"errors": expand(columns[2]) + b"\n", "status": b"1"}
