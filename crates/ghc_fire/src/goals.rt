@@ -1,15 +1,16 @@
 // The goals of a state.
 ghost use Rattle.std.specs.Prelude.{◌≡◌, ◌<◌, ◌≤◌, ◌+◌, map, IfOk, OnOk};
 
-use ghc_term::{Goal, GoalName};
+use ghc_term::{Goal, GoalName, NameMap};
 use indexmap::IndexMap;
 use std::alloc::{AllocError, Global};
 use std::collections::BTreeMap;
+use std::hash::BuildHasherDefault;
 use std::marker::Model;
 
 /// The goals of a state by their names.
 pub struct Goals {
-    map: IndexMap<GoalName, Goal>,
+    map: NameMap<GoalName, Goal>,
 }
 
 impl Drop for Goals {
@@ -43,7 +44,7 @@ impl Goals {
         ensures { result.held ≡ finite.empty }
     {
         Goals {
-            map: IndexMap::new(alloc),
+            map: IndexMap::with_hasher(alloc, BuildHasherDefault::new()),
         }
     }
 

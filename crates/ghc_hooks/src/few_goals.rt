@@ -109,7 +109,9 @@ impl FewGoals {
                     self.held = Few::Nothing(*alloc);
                 }
             }
-            Few::More(goals) => goals.remove(goal),
+            Few::More(goals) => {
+                goals.remove(goal);
+            }
         }
     }
 }

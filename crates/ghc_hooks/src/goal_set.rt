@@ -2,15 +2,16 @@
 ghost use Rattle.std.specs.Prelude.{◌≡◌, ◌↔◌, ◌+◌, ◌<◌, ◌≤◌, length, IfSome, IfNone, IsTrue, OnOk, OnErr};
 ghost use Rattle.std.specs.FinSet as set;
 
-use ghc_term::GoalName;
+use ghc_term::{GoalName, NameSet};
 use indexmap::IndexSet;
 use std::alloc::{AllocError, Global};
+use std::hash::BuildHasherDefault;
 use std::marker::Model;
 
 // A set of goals, each found by a look-up.
 #[derive(Drop)]
 pub struct GoalSet {
-    table: IndexSet<GoalName>,
+    table: NameSet<GoalName>,
 }
 
 impl Model for GoalSet {
@@ -33,7 +34,7 @@ impl GoalSet {
         ensures { result.held ≡ set.empty }
     {
         GoalSet {
-            table: IndexSet::new(alloc),
+            table: IndexSet::with_hasher(alloc, BuildHasherDefault::new()),
         }
     }
 
@@ -105,11 +106,12 @@ impl GoalSet {
         Ok(())
     }
 
-    // Takes the goal out: one look-up. The room does not shrink.
-    pub fn remove(&mut self, goal: GoalName)
+    // Takes the goal out, and says whether it was in the set: one look-up. The room does not shrink.
+    pub fn remove(&mut self, goal: GoalName) -> bool
+        ensures there { result ≡ set.contains self.old.held goal }
         ensures held { self.new.held ≡ set.remove self.old.held goal }
         ensures room { self.old.room ≤ self.new.room }
     {
-        self.table.swap_remove(&goal);
+        self.table.swap_remove(&goal)
     }
 }

@@ -3,15 +3,16 @@ ghost use Rattle.std.specs.Prelude.{◌≡◌, ◌↔◌, ◌⊎◌, IsTrue, OnO
 ghost use Rattle.std.specs.FinSet as set;
 
 use crate::few_goals::FewGoals;
-use ghc_term::{GoalName, VarName};
+use ghc_term::{GoalName, NameMap, VarName};
 use indexmap::IndexMap;
 use std::alloc::{AllocError, Global};
+use std::hash::BuildHasherDefault;
 use std::marker::Model;
 
 // The goals that stand under each variable.
 #[derive(Drop)]
 pub struct Looks {
-    map: IndexMap<VarName, FewGoals>,
+    map: NameMap<VarName, FewGoals>,
 }
 
 impl Model for Looks {
@@ -39,7 +40,7 @@ impl Looks {
         ensures { result ≡ finite.empty }
     {
         Looks {
-            map: IndexMap::new(alloc),
+            map: IndexMap::with_hasher(alloc, BuildHasherDefault::new()),
         }
     }
 

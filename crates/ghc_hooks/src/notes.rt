@@ -2,15 +2,16 @@
 ghost use Rattle.std.specs.Prelude.{◌≡◌, ◌<◌, ◌≤◌, ◌+◌, ◌^◌, OnOk};
 
 use crate::note::Note;
-use ghc_term::GoalName;
+use ghc_term::{GoalName, NameMap};
 use indexmap::IndexMap;
 use std::alloc::{AllocError, Global};
+use std::hash::BuildHasherDefault;
 use std::marker::Model;
 
 // Notes by the names of their goals.
 #[derive(Drop)]
 pub struct Notes {
-    map: IndexMap<GoalName, Note>,
+    map: NameMap<GoalName, Note>,
 }
 
 impl Model for Notes {
@@ -36,7 +37,7 @@ impl Notes {
         ensures { result.held ≡ finite.empty }
     {
         Notes {
-            map: IndexMap::new(alloc),
+            map: IndexMap::with_hasher(alloc, BuildHasherDefault::new()),
         }
     }
 

@@ -186,19 +186,19 @@ impl Tries {
         Ok(())
     }
 
-    /// Takes away the note or the mark of a goal: a look-up or two for each variable that it looked at. The room does not
-    /// shrink.
+    /// Takes away the note or the mark of a goal: one look-up for a mark, two for a note, and a look-up or two for each variable
+    /// that it looked at. The room does not shrink.
     pub fn drop_goal(&mut self, goal: GoalName)
         ensures notes { self.new.notes ≡ finite.remove self.old.notes goal }
         ensures untried { self.new.untried ≡ set.remove self.old.untried goal }
         ensures room { self.old.room ≤ self.new.room }
     {
-        if let Some(note) = self.notes.remove(goal) {
-            self.looks.remove_all(note.looked().members(), goal);
-            self.untried.remove(goal);
+        if self.untried.remove(goal) {
             return;
         }
-        self.untried.remove(goal);
+        if let Some(note) = self.notes.remove(goal) {
+            self.looks.remove_all(note.looked().members(), goal);
+        }
     }
 
     // Makes a noted goal untried: a look-up or two for each variable that it looked at.

@@ -1,13 +1,21 @@
 -- Whether a goal is spied.
-use Rattle.std.proofs.Common.{◌≡◌, Bool, subst, Some, None}
+use Rattle.std.proofs.Common.{◌≡◌, ◌∙◌, Bool, true, false, length, sym, subst, Some, None}
 use Rattle.std.specs.Prelude.{◌↔◌, IsTrue}
 use Rattle.std.specs.FinMap as finite
+use Rattle.std.specs.FinSet as set
 use Rattle.ghc_term.specs.declared.goal_name.GoalName.{GoalName}
-use Rattle.ghc_term.specs.Goal.{Goal}
+use Rattle.ghc_term.specs.Goal.{Goal, call, unify, assign, stream}
 use Rattle.ghc_depend.proofs.Finding.{same_value, not_both as some_or_none}
 use Rattle.ghc_core.specs.World.{World}
-use Rattle.ghc_trace.specs.Spies.{Spies, IsSpied}
+use Rattle.ghc_trace.specs.Spies.{Spies, IsSpied, predicate, predicate_cmp}
 use Rattle.ghc_pool.specs.Runs.{IsSpiedIn}
+
+-- no goal is a call of a predicate of no set
+unspied : (b : Goal) → ¬ IsSpied set.empty b
+unspied (call f ts) there = let clash : false ≡ true = sym (set.contains-empty predicate_cmp (predicate f (length ts))) ∙ there in cc
+unspied (unify l r) there = there
+unspied (assign t e) there = there
+unspied (stream k x) there = there
 
 module _ (spies : Spies) (w : World) (g : GoalName) where
   -- whether a goal that is there is spied
@@ -16,3 +24,6 @@ module _ (spies : Spies) (w : World) (g : GoalName) where
 
   pub none_spied : finite.get w.state.goals g ≡ None → ¬ IsSpiedIn spies w g
   none_spied none s = some_or_none s.1 none
+
+  pub nothing_spied : spies ≡ set.empty → ¬ IsSpiedIn spies w g
+  nothing_spied none s = unspied s.0 (subst (λ z. IsSpied z s.0) none s.2)

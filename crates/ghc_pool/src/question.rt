@@ -39,10 +39,13 @@ pub(crate) fn is_in_question_since(
     is_in_question(core, root, goal)
 }
 
-// Whether the goal is there, and is a call of a spied predicate: two look-ups.
+// Whether the goal is there, and is a call of a spied predicate: two look-ups, or none where nothing is spied.
 pub(crate) fn is_spied_in(core: &Core, spies: &SpySet, goal: GoalName) -> bool
     ensures { IsTrue result ↔ IsSpiedIn spies.now core.now.world goal }
 {
+    if spies.is_empty() {
+        return false;
+    }
     match core.goals().get(goal) {
         Some(found) => spies.is_spied(found),
         None => false,

@@ -4,15 +4,16 @@ ghost use Rattle.std.specs.FinMap as finite;
 ghost use Rattle.ghc_term.specs.declared.var_name.VarName.{VarName};
 ghost use Rattle.ghc_term.specs.Store.{value_at};
 
-use ghc_term::{Bindings, VarName};
+use ghc_term::{Bindings, NameMap, VarName};
 use indexmap::IndexMap;
 use std::alloc::{AllocError, Global};
+use std::hash::BuildHasherDefault;
 use std::marker::Model;
 
 // The numbers of the steps that bound variables, by variable.
 #[derive(Drop)]
 pub(crate) struct Binders {
-    map: IndexMap<VarName, u32>,
+    map: NameMap<VarName, u32>,
 }
 
 impl Model for Binders {
@@ -35,7 +36,7 @@ impl Binders {
         ensures { result.held ≡ finite.empty }
     {
         Binders {
-            map: IndexMap::new(alloc),
+            map: IndexMap::with_hasher(alloc, BuildHasherDefault::new()),
         }
     }
 

@@ -4,8 +4,10 @@ ghost use Rattle.indexmap.specs.IndexSet.{spare};
 ghost use Rattle.ghc_term.specs.Lists.{In};
 ghost use Rattle.ghc_records.specs.Orders.{AreDistinct};
 
+use ghc_term::NameSet;
 use indexmap::IndexSet;
 use std::alloc::{AllocError, Global};
+use std::hash::BuildHasherDefault;
 use std::marker::Model;
 
 // How many numbers are searched one after another.
@@ -20,7 +22,7 @@ pub(crate) struct NumberSet {
 #[derive(Drop)]
 enum Held {
     Listed(Vec<u32>),
-    Tabled(Box<IndexSet<u32>>),
+    Tabled(Box<NameSet<u32>>),
 }
 
 impl Model for NumberSet {
@@ -39,13 +41,13 @@ impl Model for NumberSet {
 }
 
 // A table of the numbers, with room for more.
-fn tabled(list: &Vec<u32>) -> Result<Box<IndexSet<u32>>, AllocError>
+fn tabled(list: &Vec<u32>) -> Result<Box<NameSet<u32>>, AllocError>
     requires { AreDistinct list.now.items }
     ensures held { IfOk result (λ table. table.value.keys ≡ list.now.items) }
     ensures room { IfOk result (λ table. 0 < spare table.value) }
 {
     let alloc = *list.allocator();
-    let mut table = IndexSet::new(alloc);
+    let mut table = IndexSet::with_hasher(alloc, BuildHasherDefault::new());
     for number in list {
         table.insert(*number)?;
     }

@@ -8,8 +8,10 @@ ghost use Rattle.ghc_records.specs.Record.{Record as record_spec, numbers};
 ghost use Rattle.ghc_records.specs.Slots.{held_in, StandsIn, HasNumberIn, ArePlacesOf, AreNumbersOf};
 
 use crate::record::Record;
+use ghc_term::NameMap;
 use indexmap::IndexMap;
 use std::alloc::{AllocError, Global};
+use std::hash::BuildHasherDefault;
 use std::marker::Model;
 use std::mem;
 
@@ -18,7 +20,7 @@ use std::mem;
 #[derive(Drop)]
 pub(crate) struct Slots {
     slots: Vec<Option<Record>>,
-    places: IndexMap<u32, usize>,
+    places: NameMap<u32, usize>,
 }
 
 impl Model for Slots {
@@ -49,7 +51,7 @@ fn record_in(slots: &[Option<Record>], place: usize) -> Option<&Record>
 }
 
 // Puts the place of each record under its number, where no other numbers stand: one look-up for each.
-fn put_places(slots: &[Option<Record>], places: &mut IndexMap<u32, usize>)
+fn put_places(slots: &[Option<Record>], places: &mut NameMap<u32, usize>)
     requires distinct { AreDistinct (numbers (held_in slots.now)) }
     requires numbers { AreNumbersOf (held_in slots.now) (finite.from_entries places.old.entries) }
     ensures { ArePlacesOf slots.now (finite.from_entries places.new.entries) }
@@ -71,7 +73,7 @@ impl Slots {
     {
         Slots {
             slots: Vec::new(alloc),
-            places: IndexMap::new(alloc),
+            places: IndexMap::with_hasher(alloc, BuildHasherDefault::new()),
         }
     }
 
@@ -90,11 +92,27 @@ impl Slots {
         self.places.len()
     }
 
-    // The place of the record of the step of this number: one look-up.
+    // The place just below the number, where the record of the step of this number mostly stands, if it does: one step.
+    fn likely_place_of(&self, number: u32) -> Option<usize>
+        ensures { IfSome result (λ p. HasNumberIn self.now.held p number) }
+    {
+        let place = (number as usize).checked_sub(1)?;
+        let record = self.at(place)?;
+        if record.number() == number {
+            return Some(place);
+        }
+        None
+    }
+
+    // The place of the record of the step of this number: one step where it is the likely one, or else one look-up.
     pub(crate) fn place_of(&self, number: u32) -> Option<usize>
         ensures { (p : ℕ) → (result ≡ Some p) ↔ HasNumberIn self.now.held p number }
     {
-        self.places.get(&number).copied()
+        let places = &self.places;
+        if let Some(place) = self.likely_place_of(number) {
+            return Some(place);
+        }
+        places.get(&number).copied()
     }
 
     // The record in the slot of this place, if it has one: one step.

@@ -4,14 +4,16 @@ ghost use Rattle.std.specs.FinMap as finite;
 ghost use Rattle.ghc_records.specs.UseIndex.{users_at, IsUser, CanTake};
 
 use crate::number_set::NumberSet;
+use ghc_term::NameMap;
 use indexmap::IndexMap;
 use std::alloc::{AllocError, Global};
+use std::hash::BuildHasherDefault;
 use std::marker::Model;
 
 // The numbers of steps by the number of the step that they used.
 #[derive(Drop)]
 pub(crate) struct Users {
-    map: IndexMap<u32, NumberSet>,
+    map: NameMap<u32, NumberSet>,
 }
 
 impl Model for Users {
@@ -32,7 +34,7 @@ impl Users {
         ensures { result ≡ finite.empty }
     {
         Users {
-            map: IndexMap::new(alloc),
+            map: IndexMap::with_hasher(alloc, BuildHasherDefault::new()),
         }
     }
 

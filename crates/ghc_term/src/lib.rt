@@ -40,6 +40,7 @@ pub use goal_view::GoalView;
 pub use ground::Ground;
 pub use limit::Limit;
 pub use name::Name;
+pub use name_hasher::{NameMap, NameSet};
 pub use operator::Operator;
 pub use overlay::{Chain, Overlay};
 pub use printing::{

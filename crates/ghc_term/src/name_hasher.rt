@@ -1,13 +1,24 @@
-// The hashes of variables: those of near steps are near, so that a table keeps together what was made together.
+// The hashes of names and numbers: those of near steps are near, so that a table keeps together what was made together.
 ghost use Rattle.std.specs.Prelude.{◌≡◌};
 ghost use Rattle.ghc_term.specs.NameHash.{number_of, near_hash, far_hash, hash_of};
 
-use std::hash::Hasher;
+use indexmap::{IndexMap, IndexSet};
+use std::hash::{BuildHasherDefault, Hasher};
+
+/// A table by names of variables or goals, or by numbers of steps.
+pub type NameMap<K, V> = IndexMap<K, V, BuildHasherDefault<NameHasher>>;
+
+/// A set of names of variables or goals, or of numbers of steps.
+pub type NameSet<K> = IndexSet<K, BuildHasherDefault<NameHasher>>;
 
 // An odd number whose products spread over all bits.
 const MULTIPLIER: u64 = 0x9e37_79b9_7f4a_7c15;
 
-// A hasher of names, that keeps the last two numbers written.
+// A tenth of five less the root of five, in parts of 2^32. Its multiples, and those of its multiples, go round a table evenly: fewer
+// than four numbers in a row have one place, and a table that is full has three rounds of them at most.
+const STRIDE: u64 = 1_187_099_765;
+
+/// A hasher of names and numbers, that keeps the last two numbers written.
 #[derive(Clone, Copy)]
 pub struct NameHasher {
     step: u32,
@@ -52,15 +63,14 @@ fn number(bytes: &[u8]) -> u32
     }
 }
 
-// The hash of one of the first variables of a step: eight names in a row have one place, and different tags.
+// The hash of a number: near numbers have near places, and those of one place have different tags.
 fn near(number: u64) -> u64
     ensures { result ≡ near_hash number }
 {
-    let block = (number / 512).wrapping_mul(MULTIPLIER) / 1_099_511_627_776;
-    number % 256 * 16_777_216 + (block + number / 8) % 16_777_216
+    number % 256 * 16_777_216 + number.wrapping_mul(STRIDE) / 4_294_967_296 % 16_777_216
 }
 
-// The hash of a variable that is one of many of its step.
+// The hash of a name that is one of many of its step.
 fn far(step: u32, place: u32) -> u64
     ensures { result ≡ far_hash step place }
 {
@@ -68,10 +78,13 @@ fn far(step: u32, place: u32) -> u64
     number.wrapping_mul(MULTIPLIER) / 4_294_967_296
 }
 
-// The hash of a variable.
+// The hash of a name, or of a number, which stands as a place of no step.
 fn hash(step: u32, place: u32) -> u64
     ensures { result ≡ hash_of step place }
 {
+    if step == 0 {
+        return near(u64::from(place));
+    }
     if place < 4 {
         return near(u64::from(step) * 4 + u64::from(place));
     }

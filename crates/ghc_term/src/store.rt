@@ -6,7 +6,7 @@ ghost use Rattle.ghc_term.specs.Store.{with_binds};
 
 use crate::bindings::Bindings;
 use crate::fault::Fault;
-use crate::name_hasher::NameHasher;
+use crate::name_hasher::NameMap;
 use crate::overlay::Overlay;
 use crate::term::Term;
 use crate::var_name::VarName;
@@ -16,8 +16,8 @@ use std::alloc::{AllocError, Global};
 use std::hash::BuildHasherDefault;
 use std::marker::Model;
 
-// Bindings by their variables. Those of near steps are kept near each other.
-type Table = IndexMap<VarName, Term, BuildHasherDefault<NameHasher>>;
+// Bindings by their variables.
+type Table = NameMap<VarName, Term>;
 
 /// What variables are bound to: a finite map in which no value reaches its own variable.
 pub struct Store {

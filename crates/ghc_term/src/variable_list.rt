@@ -48,11 +48,11 @@ fn place_in(list: &[VarName], x: VarName) -> Option<usize>
     list.iter().position(|y| *y == x)
 }
 
-// A list of the two.
+// A list of the two, with room for one more, which costs no more memory.
 fn listed(alloc: Global, first: VarName, second: VarName) -> Result<Vec<VarName>, AllocError>
     ensures { IfOk result (λ list. list.items ≡ first ∷ second ∷ []) }
 {
-    let mut list = Vec::with_capacity(alloc, 2)?;
+    let mut list = Vec::with_capacity(alloc, 3)?;
     list.push(first)?;
     list.push(second)?;
     Ok(list)

@@ -66,6 +66,13 @@ impl SpySet {
         }
     }
 
+    /// Whether no predicate is in the set: one step.
+    pub fn is_empty(&self) -> bool
+        ensures { IsTrue result ↔ (self.now ≡ set.empty) }
+    {
+        self.table.len() == 0
+    }
+
     /// Whether the predicate of this name and arity is in the set: one look-up.
     pub fn has(&self, name: &Name, arity: usize) -> bool
         ensures { IsTrue result ↔ HasPredicate self.now name.now arity }

@@ -1,8 +1,12 @@
 use Rattle.std.proofs.Common.{◌≡◌, true, false, sym, ap, ◌∙◌}
 use Rattle.std.specs.FinMap as finite
 use Rattle.ghc_fire.specs.Goals.{Goals}
-use Rattle.ghc_pool.proofs.Spied.{spied_there, none_spied}
+use Rattle.ghc_pool.proofs.Spied.{spied_there, none_spied, nothing_spied}
 use Rattle.ghc_pool.proofs.question.is_spied_in.Goals as goal
+
+pub returns-then-is_empty : goal.returns-then-is_empty
+returns-then-is_empty c =
+    (λ no. absurd (let clash : false ≡ true = no in cc), λ s. absurd (nothing_spied c.args.spies.now c.args.core.now.world c.args.goal (c.is_empty.ensures.0 c.if-is_empty.true) s))
 
 pub returns-in-Some : goal.returns-in-Some
 returns-in-Some c =
