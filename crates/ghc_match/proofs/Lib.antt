@@ -21,6 +21,7 @@ pub mod FollowNoting
 pub mod MeetingLemmas
 pub mod MatchHead
 pub mod GuardingLemmas
+pub mod SmallLemmas
 pub mod TryClause
 pub mod FirstClash
 pub mod Ahead

@@ -6,6 +6,7 @@ pub mod Ends
 pub mod Tasks
 pub mod Meeting
 pub mod Guarding
+pub mod Small
 pub mod Told
 pub mod Laws
 pub mod Facts

@@ -12,6 +12,7 @@ ghost use Rattle.ghc_match.specs.Guarding.{StandsAndPasses, PassedFrom, IsSaid, 
 
 use crate::leaves::push_leaves;
 use crate::passing::follow_noting;
+use crate::small::{compare_small, small_sides};
 use crate::test_holds::holds;
 use ghc_flat::Test;
 use ghc_term::{Bindings, Store, TermView, VarName, Variables};
@@ -107,6 +108,9 @@ fn try_test(
     ensures wanted { OnOk result (Gains wanted.old wanted.new (Wants (StandsAndEnds stands.now (value_at store.now.held)) (variables_of_test test.now))) }
     ensures looked { OnOk result (Gains looked.old looked.new (PassedFrom stands.now (value_at store.now.held) (variables_of_test test.now))) }
 {
+    if let Some((comparison, left, right)) = small_sides(test) {
+        return compare_small(store, stands, comparison, left, right, wanted, looked);
+    }
     let names = variables_of(alloc, test)?;
     if look_at_all(store, stands, &names, wanted, looked)? {
         return Ok(Says::Waits);

@@ -14,6 +14,7 @@ mod number;
 mod passing;
 mod places;
 mod scope;
+mod small;
 mod test_holds;
 mod trying;
 mod value;

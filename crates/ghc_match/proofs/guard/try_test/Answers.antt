@@ -1,10 +1,15 @@
 use Rattle.std.proofs.Common.{◌≡◌, true, false, sym, ◌∙◌, subst}
+use Rattle.std.specs.Prelude.{IfOk}
 use Rattle.ghc_term.specs.Store.{value_at}
 use Rattle.ghc_match.specs.Value.{Wants}
 use Rattle.ghc_match.specs.Ends.{StandsAndEnds}
 use Rattle.ghc_match.specs.Meeting.{Gains}
-use Rattle.ghc_match.specs.Guarding.{PassedFrom}
+use Rattle.ghc_match.specs.Guarding.{PassedFrom, IsSaid}
 use Rattle.ghc_match.proofs.guard.try_test.Goals as goal
+
+pub returns-in-Some-clause-says : goal.returns-in-Some-clause-says
+returns-in-Some-clause-says c =
+    subst (λ t. IfOk c.compare_small.result (IsSaid (StandsAndEnds c.args.stands.now (value_at c.args.store.now.held)) t)) c.in-Some.ensures c.compare_small.ensures.says
 
 pub returns-then-branch-clause-wanted : goal.returns-then-branch-clause-wanted
 returns-then-branch-clause-wanted c =

@@ -1,0 +1,104 @@
+-- Small expressions, asked one leaf after another.
+use Rattle.std.proofs.Common.{◌≡◌, ◌≢◌, ℤ, List, [], ◌++◌, refl, ap, subst, inl, inr}
+use Rattle.std.specs.Prelude.{◌↔◌, Option, Some, None, MatchOption}
+use Rattle.ghc_term.specs.declared.var_name.VarName.{VarName}
+use Rattle.ghc_term.specs.declared.view.TermView.{TermView}
+use Rattle.ghc_term.specs.declared.view.TermView.TheVariants.{Var, Int, Atom, Struct}
+use Rattle.ghc_term.specs.declared.operator.Operator.{Operator}
+use Rattle.ghc_term.specs.declared.comparison.Comparison.{Comparison}
+use Rattle.ghc_term.specs.Tree.{Tree, variable, integer, IsValue}
+use Rattle.ghc_term.specs.Shown.{shown}
+use Rattle.ghc_term.specs.Expression.{Expression, leaf, operation}
+use Rattle.ghc_term.specs.Sets.{Variables}
+use Rattle.ghc_term.proofs.ListsLemmas.{in_left, in_right, in_either}
+use Rattle.ghc_flat.specs.declared.test.Test.TheVariants.{Compare}
+use Rattle.ghc_flat.specs.Variables.{leaf_variables}
+use Rattle.ghc_match.specs.Value.{Number, of_variable, computed, Wants}
+use Rattle.ghc_match.specs.Match.{HoldsBy}
+use Rattle.ghc_match.specs.Meeting.{Gains}
+use Rattle.ghc_match.specs.Tasks.{IsWorth}
+use Rattle.ghc_match.specs.Small.{IsAsked, ComputesOf, ComparesOf}
+use Rattle.ghc_match.specs.declared.small.Asked.{Asked}
+use Rattle.ghc_match.specs.declared.small.Asked.TheVariants.{Waits, Worth}
+use Rattle.ghc_match.proofs.Positions.{value_not}
+use Rattle.ghc_match.proofs.Values.{number_once, sides, variable_is, no_structure}
+use Rattle.ghc_match.proofs.GainsLemmas.{OneHas}
+
+-- a set that gains what the elements of one list have, and then what those of another have
+pub gains_both : {X : Type 0} (R : X → VarName → Type 0) (old mid new : Variables) (xs ys : List X) → Gains old mid (OneHas R xs) → Gains mid new (OneHas R ys) → Gains old new (OneHas R (xs ++ ys))
+gains_both R old mid new xs ys f g x = (
+  λ c. elim ((g x).0 c) [
+    | inl d ↦ elim ((f x).0 d) [ inl a ↦ inl a | inr w ↦ inr (w.0, in_left xs ys w.0 w.1, w.2) ]
+    | inr w ↦ inr (w.0, in_right xs ys w.0 w.1, w.2)
+  ],
+  λ c. (g x).1 (elim c [
+    | inl a ↦ inl ((f x).1 (inl a))
+    | inr w ↦ elim (in_either xs ys w.0 w.1) [ inl i ↦ inl ((f x).1 (inr (w.0, i, w.2))) | inr i ↦ inr (w.0, i, w.2) ]
+  ]),
+)
+
+-- a leaf that is no variable has none
+pub without_variables : (v : TermView) → ((x : VarName) → v ≢ Var x) → leaf_variables (leaf (shown v)) ≡ []
+without_variables (Var x) n = absurd (n x refl)
+without_variables (Int k) n = refl
+without_variables (Atom f) n = refl
+without_variables (Struct f ts) n = refl
+
+module _ (E : VarName → Tree → Type 0) where
+  -- neither list wants a variable
+  pub wants_none : (xs ys : List VarName) → ((x : VarName) → ¬ Wants E xs x) → ((x : VarName) → ¬ Wants E ys x) → (x : VarName) → ¬ Wants E (xs ++ ys) x
+  wants_none xs ys n m x w = elim (in_either xs ys w.0 w.1) [ inl i ↦ n x (w.0, i, w.2) | inr i ↦ m x (w.0, i, w.2) ]
+
+  -- an expression that is worth nothing told waits
+  pub waits_then : (a : Expression) (r : Asked) → ((k : Option ℤ) → r ≢ Worth k) → IsAsked E a r → (x : VarName) × Wants E (leaf_variables a) x
+  waits_then a Waits n h = h
+  waits_then a (Worth k) n h = absurd (n k refl)
+
+  -- a leaf that is neither a variable nor an integer
+  pub other_leaf : (v : TermView) → ((x : VarName) → v ≢ Var x) → ((k : ℤ) → v ≢ Int k) → IsAsked E (leaf (shown v)) (Worth None)
+  other_leaf (Var x) n m = absurd (n x refl)
+  other_leaf (Int k) n m = absurd (m k refl)
+  other_leaf (Atom f) n m = ((λ x w. absurd w.1), λ k q. no_structure q)
+  other_leaf (Struct f ts) n m = ((λ x w. absurd w.1), λ k q. no_structure q)
+
+  -- a variable that ends nowhere
+  pub ends_nowhere : (y : VarName) → ((e : Tree) → ¬ E y e) → IsAsked E (leaf (variable y)) (Worth None)
+  ends_nowhere y n = (
+    λ x w. elim w.1 [ inl e ↦ n (variable x) (subst (λ z. E z (variable x)) e w.2) | inr never ↦ absurd never ],
+    λ k q. n (integer k) (variable_is q),
+  )
+
+-- where E gives each variable one end
+module _ {E : VarName → Tree → Type 0} (once : (x : VarName) (e f : Tree) → E x e → E x f → e ≡ f) where
+  -- a variable that ends in a value waits for nothing
+  not_unbound : (y : VarName) (e : Tree) → E y e → IsValue e → (x : VarName) → ¬ Wants E (leaf_variables (leaf (variable y))) x
+  not_unbound y e p v x w = elim w.1 [
+    | inl s ↦ value_not (once y e (variable x) p (subst (λ z. E z (variable x)) s w.2)) v
+    | inr never ↦ absurd never
+  ]
+
+  pub ends_in_integer : (y : VarName) (k : ℤ) → E y (integer k) → IsAsked E (leaf (variable y)) (Worth (Some k))
+  ends_in_integer y k p = (not_unbound y (integer k) p tt, of_variable p)
+
+  pub ends_in_other : (y : VarName) (v : TermView) → ((x : VarName) → v ≢ Var x) → ((k : ℤ) → v ≢ Int k) → E y (shown v) → IsAsked E (leaf (variable y)) (Worth None)
+  ends_in_other y (Var x) n m p = absurd (n x refl)
+  ends_in_other y (Int k) n m p = absurd (m k refl)
+  ends_in_other y (Atom f) n m p = (not_unbound y (shown (Atom f)) p tt, λ k q. let same : shown (Atom f) ≡ integer k = once y (shown (Atom f)) (integer k) p (variable_is q) in cc)
+  ends_in_other y (Struct f ts) n m p = (not_unbound y (shown (Struct f ts)) p tt, λ k q. let same : shown (Struct f ts) ≡ integer k = once y (shown (Struct f ts)) (integer k) p (variable_is q) in cc)
+
+  -- what an expression is worth is its value
+  worth_is : (a : Expression) (x : Option ℤ) (j : ℤ) → IsWorth E a x → Number E a j → x ≡ Some j
+  worth_is a None j w n = absurd (w j n)
+  worth_is a (Some i) j w n = ap Some (number_once once w n)
+
+  -- what an operator makes of what two expressions are worth is what the operation is worth
+  pub operated_of : (o : Operator) (a b : Expression) (x y r : Option ℤ) → IsWorth E a x → IsWorth E b y → MatchOption r ((z : ℤ) → ¬ ComputesOf o x y z) (ComputesOf o x y) → IsWorth E (operation o a b) r
+  operated_of o a b x y None u v h = λ k q. let s = sides q in h k (s.0, s.1, worth_is a x s.0 u s.2, worth_is b y s.1 v s.3, s.4)
+  operated_of o a b x y (Some z) u v h = computed (subst (IsWorth E a) h.2 u) (subst (IsWorth E b) h.3 v) h.4
+
+  -- a comparison holds between what its sides are worth
+  pub compared_of : (c : Comparison) (a b : Expression) (x y : Option ℤ) → IsWorth E a x → IsWorth E b y → ComparesOf c x y ↔ HoldsBy E (Compare c a b)
+  compared_of c a b x y u v = (
+    λ h. (h.0, h.1, subst (IsWorth E a) h.2 u, subst (IsWorth E b) h.3 v, h.4),
+    λ w. (w.0, w.1, worth_is a x w.0 u w.2, worth_is b y w.1 v w.3, w.4),
+  )
