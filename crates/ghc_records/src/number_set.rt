@@ -4,16 +4,14 @@ ghost use Rattle.indexmap.specs.IndexSet.{spare};
 ghost use Rattle.ghc_term.specs.Lists.{In};
 ghost use Rattle.ghc_records.specs.Orders.{AreDistinct};
 
+use arrayvec::ArrayVec;
 use ghc_term::NameSet;
 use indexmap::IndexSet;
 use std::alloc::{AllocError, Global};
 use std::hash::BuildHasherDefault;
 use std::marker::Model;
 
-// How many numbers are searched one after another.
-const MOST_LISTED: usize = 8;
-
-// Numbers of steps: a few in a list, more in a table that finds each by a look-up.
+// Numbers of steps: up to four in the set itself, more in a table that finds each by a look-up.
 #[derive(Drop)]
 pub(crate) struct NumberSet {
     held: Held,
@@ -21,14 +19,14 @@ pub(crate) struct NumberSet {
 
 #[derive(Drop)]
 enum Held {
-    Listed(Vec<u32>),
+    Few(Global, ArrayVec<u32, 4>),
     Tabled(Box<NameSet<u32>>),
 }
 
 impl Model for NumberSet {
     ghost use Rattle.std.specs.Prelude.{ℕ, List};
     ghost use Rattle.ghc_term.specs.Table.{Table, table_code};
-    ghost use Rattle.ghc_records.specs.NumberSet.{numbers_of, room_of, IsListedOnce};
+    ghost use Rattle.ghc_records.specs.NumberSet.{numbers_of, room_of, HoldsEachOnce};
     ghost use Rattle.ghc_records.specs.RecordCode.{numbers_code};
 
     ghost Value = { Table (List ℕ) };
@@ -37,18 +35,17 @@ impl Model for NumberSet {
 
     ghost view = { λ s. record { held = numbers_of s.held; room = room_of s.held } };
 
-    ghost invariant = { λ s. IsListedOnce s.held };
+    ghost invariant = { λ s. HoldsEachOnce s.held };
 }
 
 // A table of the numbers, with room for more.
-fn tabled(list: &Vec<u32>) -> Result<Box<NameSet<u32>>, AllocError>
-    requires { AreDistinct list.now.items }
-    ensures held { IfOk result (λ table. table.value.keys ≡ list.now.items) }
+fn tabled(alloc: Global, numbers: &[u32]) -> Result<Box<NameSet<u32>>, AllocError>
+    requires { AreDistinct numbers.now }
+    ensures held { IfOk result (λ table. table.value.keys ≡ numbers.now) }
     ensures room { IfOk result (λ table. 0 < spare table.value) }
 {
-    let alloc = *list.allocator();
     let mut table = IndexSet::with_hasher(alloc, BuildHasherDefault::new());
-    for number in list {
+    for number in numbers {
         table.insert(*number)?;
     }
     table.reserve(1)?;
@@ -61,7 +58,7 @@ impl NumberSet {
         ensures { result.held ≡ [] }
     {
         NumberSet {
-            held: Held::Listed(Vec::new(alloc)),
+            held: Held::Few(alloc, ArrayVec::new()),
         }
     }
 
@@ -70,7 +67,7 @@ impl NumberSet {
         ensures { result.now ≡ self.now.held }
     {
         match &self.held {
-            Held::Listed(list) => list.as_slice(),
+            Held::Few(_, few) => few.as_slice(),
             Held::Tabled(table) => table.as_slice(),
         }
     }
@@ -82,26 +79,25 @@ impl NumberSet {
         ensures kept { self.old.room ≤ self.new.room }
     {
         match &mut self.held {
-            Held::Listed(list) => {
-                if list.len() < MOST_LISTED || list.len() < list.capacity() {
-                    return list.reserve(1);
+            Held::Few(alloc, few) => {
+                if few.is_full() {
+                    self.held = Held::Tabled(tabled(*alloc, few.as_slice())?);
                 }
-                self.held = Held::Tabled(tabled(list)?);
                 Ok(())
             }
             Held::Tabled(table) => table.reserve(1),
         }
     }
 
-    // Adds a number that is there already, or for which there is room: eight comparisons at most, or one look-up.
+    // Adds a number that is there already, or for which there is room: four comparisons at most, or one look-up.
     pub(crate) fn put(&mut self, number: u32)
         requires { (0 < self.old.room) ⊎ In number self.old.held }
         ensures { (n : ℕ) → In n self.new.held ↔ (In n self.old.held ⊎ (n ≡ number)) }
     {
         match &mut self.held {
-            Held::Listed(list) => {
-                if !list.contains(&number) {
-                    list.push(number).unwrap();
+            Held::Few(_, few) => {
+                if !few.contains(&number) {
+                    few.push(number);
                 }
             }
             Held::Tabled(table) => {
@@ -110,12 +106,12 @@ impl NumberSet {
         }
     }
 
-    // Takes a number out: eight comparisons at most, or one look-up.
+    // Takes a number out: four comparisons at most, or one look-up.
     pub(crate) fn remove(&mut self, number: u32)
         ensures { (n : ℕ) → In n self.new.held ↔ (In n self.old.held × (n ≢ number)) }
     {
         match &mut self.held {
-            Held::Listed(list) => list.retain(|m: &u32| *m != number),
+            Held::Few(_, few) => few.retain(|m: &mut u32| *m != number),
             Held::Tabled(table) => {
                 table.swap_remove(&number);
             }

@@ -1,18 +1,15 @@
-use Rattle.std.proofs.Common.{◌≡◌, ◌+◌, ◌++◌, ◌∷◌, [], get_or, take, sym, ap, ◌∙◌, subst}
+use Rattle.std.proofs.Common.{◌++◌, ◌∷◌, [], get_or, sym, ap, ◌∙◌, subst}
 use Rattle.std.proofs.lemmas.List.{take_more}
 use Rattle.ghc_term.specs.Lists.{In}
-use Rattle.ghc_records.specs.Orders.{AreDistinct}
 use Rattle.ghc_records.proofs.InOrder.{not_again}
 use Rattle.ghc_records.proofs.NumberSets.{pushed}
 use Rattle.ghc_records.proofs.number_set.tabled.Goals as goal
 
 pub loop-number-preserved : goal.loop-number-preserved
 loop-number-preserved c =
-    let xs = c.deref-number-items.result.now in
-    let same : xs ≡ c.args.list.now.items = c.deref-number-items.ensures.value in
+    let xs = c.args.numbers.now in
     let i = c.loop-number.number-index in
-    let before = c.loop-number.invariant ∙ ap (take i) (sym same) in
     let n = get_or xs i 0 in
     c.in_ok-insert.ensures.keys
-    ∙ pushed c.loop-number.table.keys n (λ j. not_again xs i 0 (subst AreDistinct (sym same) c.requires) c.loop-number-test.true (subst (In n) before j))
-    ∙ ap (λ l. l ++ n ∷ []) before ∙ sym (take_more xs i 0 c.loop-number-test.true) ∙ ap (take (i + 1)) same
+    ∙ pushed c.loop-number.table.keys n (λ j. not_again xs i 0 c.requires c.loop-number-test.true (subst (In n) c.loop-number.invariant j))
+    ∙ ap (λ l. l ++ n ∷ []) c.loop-number.invariant ∙ sym (take_more xs i 0 c.loop-number-test.true)
