@@ -76,12 +76,12 @@ impl Shelf {
     }
 
     /// Puts a record under the number of its step, in place of one that it had, where there is room: one look-up.
-    pub fn put(&mut self, record: Record)
+    pub fn put(&mut self, step: Record)
         requires { 0 < self.old.room }
-        ensures held { self.new.held ≡ finite.insert self.old.held «record».number «record» }
+        ensures held { self.new.held ≡ finite.insert self.old.held step.number step }
         ensures room { self.old.room ≤ self.new.room + 1 }
     {
-        self.map.insert(record.number(), record).unwrap();
+        self.map.insert(step.number(), step).unwrap();
     }
 
     /// Takes the record of this number away and gives it, if there was one: one look-up. The room does not shrink.

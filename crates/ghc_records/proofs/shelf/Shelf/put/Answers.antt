@@ -9,5 +9,5 @@ use Rattle.ghc_records.proofs.shelf.Shelf.put.Goals as goal
 pub returns-clause-held : goal.returns-clause-held
 returns-clause-held c =
     let room = subst (λ t. 0 < t.room) (sym c.self.view_is) c.requires in
-    inserted nat_cmp_total nat_antisymmetric nat_eq tie c.self.inside.map.entries c.insert.new.self.entries c.number.result c.args.record (done c.insert.result (c.insert.ensures.succeeds room) c.insert.ensures.updates).0
-    ∙ ap (λ n. finite.insert (finite.from_entries c.self.inside.map.entries) n c.args.record) c.number.ensures ∙ ap (λ t. finite.insert t.held c.args.record.number c.args.record) c.self.view_is
+    inserted nat_cmp_total nat_antisymmetric nat_eq tie c.self.inside.map.entries c.insert.new.self.entries c.number.result c.args.step (done c.insert.result (c.insert.ensures.succeeds room) c.insert.ensures.updates).0
+    ∙ ap (λ n. finite.insert (finite.from_entries c.self.inside.map.entries) n c.args.step) c.number.ensures ∙ ap (λ t. finite.insert t.held c.args.step.number c.args.step) c.self.view_is
