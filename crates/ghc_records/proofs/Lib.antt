@@ -17,6 +17,7 @@ pub mod TakenBack
 pub mod InOrder
 pub mod NumberSets
 pub mod StepUsers
+pub mod NearUsers
 pub mod VariableBinders
 pub mod Giving
 pub mod PickLemmas

@@ -1,5 +1,5 @@
 -- The index of a record: which steps used what a step gave, and which step bound a variable.
-use Rattle.std.specs.Prelude.{◌≡◌, ◌⊎◌, ◌↔◌, ◌<◌, ◌≤◌, ℕ, List, [], Option, Some, None, IsTrue}
+use Rattle.std.specs.Prelude.{◌≡◌, ◌⊎◌, ◌↔◌, ◌<◌, ◌≤◌, ◌+◌, ℕ, List, [], ◌∷◌, ◌++◌, Option, Some, None, IsTrue}
 use Rattle.std.specs.Ordering.{nat_cmp}
 use Rattle.std.specs.FinMap as finite
 use Rattle.std.specs.FinSet as set
@@ -20,6 +20,23 @@ UsersByStep = finite.FinMap nat_cmp (Table (List ℕ))
 -- The numbers of the steps that bound variables, by variable.
 abbrev pub BindersByVariable : Type 0
 BindersByVariable = finite.FinMap name_cmp ℕ
+
+-- Sets in the order of the steps, each with the number of its step, where the first step has the number n.
+abbrev pub numbered : ℕ → List (Table (List ℕ)) → List (ℕ × Table (List ℕ))
+numbered n [] = []
+numbered n (t ∷ ts) = (n, t) ∷ numbered (n + 1) ts
+
+-- Under the number of each place of the list stand the numbers that the list has there, and under the others what the entries have.
+abbrev pub users_in : List (Table (List ℕ)) → List (ℕ × Table (List ℕ)) → UsersByStep
+users_in near far = finite.from_entries (numbered 0 near ++ far)
+
+-- No set has a number.
+abbrev pub AreAllEmpty : List (Table (List ℕ)) → Type 0
+AreAllEmpty ts = (t : Table (List ℕ)) → In t ts → t.held ≡ []
+
+-- The list has grown by sets of no numbers, and is else what it was.
+abbrev pub HasGrown : List (Table (List ℕ)) → List (Table (List ℕ)) → Type 0
+HasGrown old new = (more : List (Table (List ℕ))) × (new ≡ old ++ more) × AreAllEmpty more
 
 abbrev pub numbers_in : Option (Table (List ℕ)) → List ℕ
 numbers_in None = []

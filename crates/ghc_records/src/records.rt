@@ -148,7 +148,8 @@ impl Records {
         ensures kept { (r : Record) → HasRoomToKeep self.old.held self.old.room r → HasRoomToKeep self.new.held self.new.room r }
     {
         let maker = self.maker_for(step);
-        self.index.reserve(maker, step.effect())?;
+        let slots = self.slots.slot_count();
+        self.index.reserve(maker, step.effect(), slots)?;
         self.slots.reserve()
     }
 

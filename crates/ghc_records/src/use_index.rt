@@ -31,14 +31,20 @@ impl Model for UseIndex {
     ghost view = { λ i. record { users = i.users; binders = i.binders } };
 }
 
-// Makes room for one more number under each step that bound one of the variables: some look-ups for each.
-fn reserve_under(users: &mut Users, binders: &Binders, xs: &[VarName]) -> Result<(), AllocError>
+// Makes room for one more number under each step that bound one of the variables, of a record of so many slots: some look-ups for
+// each.
+fn reserve_under(
+    users: &mut Users,
+    binders: &Binders,
+    xs: &[VarName],
+    slots: usize,
+) -> Result<(), AllocError>
     ensures held { (m : ℕ) → users_at users.new m ≡ users_at users.old m }
     ensures room { OnOk result ((m n : ℕ) → BoundOneOf binders.now.held xs.now m → CanTake users.new m n) }
     ensures kept { (m n : ℕ) → CanTake users.old m n → CanTake users.new m n }
 {
     for x in xs {
-        users.reserve_at(binders.get(*x))?;
+        users.reserve_at(binders.get(*x), slots)?;
     }
     Ok(())
 }
@@ -98,8 +104,14 @@ impl UseIndex {
         self.binders.get(x)
     }
 
-    // Makes room for a step of this effect, whose goal the maker made, if one did: some look-ups for each variable that it reads.
-    pub(crate) fn reserve(&mut self, maker: Option<u32>, effect: &Effect) -> Result<(), AllocError>
+    // Makes room for a step of this effect, whose goal the maker made, if one did, of a record of so many slots: some look-ups for
+    // each variable that it reads.
+    pub(crate) fn reserve(
+        &mut self,
+        maker: Option<u32>,
+        effect: &Effect,
+        slots: usize,
+    ) -> Result<(), AllocError>
         ensures users { (m : ℕ) → users_at self.new.users m ≡ users_at self.old.users m }
         ensures binders { self.new.binders.held ≡ self.old.binders.held }
         ensures taking { OnOk result ((m n : ℕ) → Gave self.old.binders.held maker effect.now.reads m → CanTake self.new.users m n) }
@@ -107,8 +119,13 @@ impl UseIndex {
         ensures users_kept { (m n : ℕ) → CanTake self.old.users m n → CanTake self.new.users m n }
         ensures binders_kept { self.old.binders.room ≤ self.new.binders.room }
     {
-        self.users.reserve_at(maker)?;
-        reserve_under(&mut self.users, &self.binders, effect.reads().members())?;
+        self.users.reserve_at(maker, slots)?;
+        reserve_under(
+            &mut self.users,
+            &self.binders,
+            effect.reads().members(),
+            slots,
+        )?;
         self.binders.reserve(effect.binds().len())
     }
 

@@ -1,7 +1,7 @@
 // Which steps used what a step gave.
-ghost use Rattle.std.specs.Prelude.{◌≡◌, ◌≢◌, ◌↔◌, ◌⊎◌, [], ℕ, OnOk, Some};
+ghost use Rattle.std.specs.Prelude.{◌≡◌, ◌≢◌, ◌↔◌, ◌⊎◌, ◌<◌, [], ℕ, length, OnOk, Some};
 ghost use Rattle.std.specs.FinMap as finite;
-ghost use Rattle.ghc_records.specs.UseIndex.{users_at, IsUser, CanTake};
+ghost use Rattle.ghc_records.specs.UseIndex.{users_at, IsUser, CanTake, HasGrown};
 
 use crate::number_set::NumberSet;
 use ghc_term::NameMap;
@@ -10,22 +10,38 @@ use std::alloc::{AllocError, Global};
 use std::hash::BuildHasherDefault;
 use std::marker::Model;
 
-// The numbers of steps by the number of the step that they used.
+// How far past the slots of a record a number may be, and its step still stands in the list.
+const MOST_AHEAD: usize = 16;
+
+// The numbers of steps by the number of the step that they used: a list by number for the steps of the first numbers, and a table
+// for the others.
 #[derive(Drop)]
 pub(crate) struct Users {
-    map: NameMap<u32, NumberSet>,
+    near: Vec<NumberSet>,
+    far: NameMap<u32, NumberSet>,
 }
 
 impl Model for Users {
-    ghost use Rattle.std.specs.FinMap as finite;
-    ghost use Rattle.ghc_records.specs.UseIndex.{UsersByStep};
+    ghost use Rattle.ghc_records.specs.UseIndex.{UsersByStep, users_in};
     ghost use Rattle.ghc_records.specs.RecordCode.{users_code};
 
     ghost Value = { UsersByStep };
 
     ghost coded = { users_code };
 
-    ghost view = { λ u. finite.from_entries u.map.entries };
+    ghost view = { λ u. users_in u.near.items u.far.entries };
+}
+
+// Makes the list longer, by sets of no numbers, until it has this place. What it grew by stays where memory is refused.
+fn grow(sets: &mut Vec<NumberSet>, place: usize) -> Result<(), AllocError>
+    ensures grown { HasGrown sets.old.items sets.new.items }
+    ensures place { OnOk result (place < length sets.new.items) }
+{
+    let alloc = *sets.allocator();
+    for _ in sets.len()..=place {
+        sets.push(NumberSet::new(alloc))?;
+    }
+    Ok(())
 }
 
 impl Users {
@@ -34,73 +50,107 @@ impl Users {
         ensures { result ≡ finite.empty }
     {
         Users {
-            map: IndexMap::with_hasher(alloc, BuildHasherDefault::new()),
+            near: Vec::new(alloc),
+            far: IndexMap::with_hasher(alloc, BuildHasherDefault::new()),
         }
     }
 
-    // The numbers under the step of this number: one look-up.
+    // The numbers under the step of this number: one step, or one look-up.
     pub(crate) fn at(&self, step: u32) -> &[u32]
         ensures { result.now ≡ users_at self.now step }
     {
-        match self.map.get(&step) {
+        if let Some(users) = self.near.get(step as usize) {
+            return users.members();
+        }
+        match self.far.get(&step) {
             Some(users) => users.members(),
             None => &[],
         }
     }
 
-    // Makes room for one more number under the step: one look-up or two.
-    fn reserve(&mut self, step: u32) -> Result<(), AllocError>
+    // Makes the list longer until it has the step, of a record of so many slots: one step for each place that it grows by. Where the
+    // table has a step, or the number is more than a few past the slots, the list stays, so that no number makes it large.
+    fn widen(&mut self, step: u32, slots: usize) -> Result<(), AllocError>
+        ensures held { (m : ℕ) → users_at self.new m ≡ users_at self.old m }
+        ensures kept { (m n : ℕ) → CanTake self.old m n → CanTake self.new m n }
+    {
+        if !self.far.is_empty() || step as usize > slots.saturating_add(MOST_AHEAD) {
+            return Ok(());
+        }
+        grow(&mut self.near, step as usize)
+    }
+
+    // Makes room for one more number under the step, of a record of so many slots: one step, and one for each place that the list
+    // grows by, or some look-ups.
+    fn reserve(&mut self, step: u32, slots: usize) -> Result<(), AllocError>
         ensures held { (m : ℕ) → users_at self.new m ≡ users_at self.old m }
         ensures room { OnOk result ((n : ℕ) → CanTake self.new step n) }
         ensures kept { (m n : ℕ) → CanTake self.old m n → CanTake self.new m n }
     {
-        let alloc = *self.map.allocator();
-        if let Some(users) = self.map.get_mut(&step) {
+        self.widen(step, slots)?;
+        let alloc = *self.far.allocator();
+        if let Some(users) = self.near.get_mut(step as usize) {
+            return users.reserve();
+        }
+        if let Some(users) = self.far.get_mut(&step) {
             return users.reserve();
         }
         let mut users = NumberSet::new(alloc);
         users.reserve()?;
-        self.map.insert(step, users)?;
+        self.far.insert(step, users)?;
         Ok(())
     }
 
-    // Puts a number under the step, where it stands already or there is room: two look-ups.
+    // Puts a number under the step, where it stands already or there is room: one step, or two look-ups.
     fn put(&mut self, step: u32, user: u32)
         requires { CanTake self.old step user }
         ensures users { (m n : ℕ) → IsUser self.new m n ↔ (IsUser self.old m n ⊎ ((m ≡ step) × (n ≡ user))) }
         ensures room { (m : ℕ) → CanTake self.old m user → CanTake self.new m user }
     {
-        let Some(users) = self.map.get_mut(&step) else {
+        if let Some(users) = self.near.get_mut(step as usize) {
+            users.put(user);
+            return;
+        }
+        let Some(users) = self.far.get_mut(&step) else {
             return;
         };
         users.put(user);
     }
 
-    // Takes a number from under the step: two look-ups.
+    // Takes a number from under the step: one step, or two look-ups.
     fn take(&mut self, step: u32, user: u32)
         ensures { (m n : ℕ) → IsUser self.new m n ↔ (IsUser self.old m n × ¬ ((m ≡ step) × (n ≡ user))) }
     {
-        let Some(users) = self.map.get_mut(&step) else {
+        if let Some(users) = self.near.get_mut(step as usize) {
+            users.remove(user);
+            return;
+        }
+        let Some(users) = self.far.get_mut(&step) else {
             return;
         };
         users.remove(user);
     }
 
-    // Takes all numbers from under the step: one look-up.
+    // Takes all numbers from under the step, and their memory: one step, or one look-up.
     pub(crate) fn forget(&mut self, step: u32)
         ensures { (m n : ℕ) → IsUser self.new m n ↔ (IsUser self.old m n × (m ≢ step)) }
     {
-        self.map.swap_remove(&step);
+        let alloc = *self.near.allocator();
+        if let Some(users) = self.near.get_mut(step as usize) {
+            *users = NumberSet::new(alloc);
+            return;
+        }
+        self.far.swap_remove(&step);
     }
 
-    // Makes room for one more number under the step, if one is named.
-    pub(crate) fn reserve_at(&mut self, step: Option<u32>) -> Result<(), AllocError>
+    // Makes room for one more number under the step, if one is named, of a record of so many slots.
+    pub(crate) fn reserve_at(&mut self, step: Option<u32>, slots: usize) -> Result<(), AllocError>
         ensures held { (m : ℕ) → users_at self.new m ≡ users_at self.old m }
         ensures room { OnOk result ((m n : ℕ) → step ≡ Some m → CanTake self.new m n) }
         ensures kept { (m n : ℕ) → CanTake self.old m n → CanTake self.new m n }
     {
         match step {
-            Some(step) => self.reserve(step),
+            Some(step) => self.reserve(step, slots),
             None => Ok(()),
         }
     }
