@@ -10,7 +10,7 @@ use std::alloc::{AllocError, Global};
 use std::hash::BuildHasherDefault;
 use std::marker::Model;
 
-// How far past the slots of a record a number may be, and its step still stands in the list.
+// How far a number may be past the list and past the slots of a record, and its step still stands in the list.
 const MOST_AHEAD: usize = 16;
 
 // The numbers of steps by the number of the step that they used: a list by number for the steps of the first numbers, and a table
@@ -69,12 +69,13 @@ impl Users {
     }
 
     // Makes the list longer until it has the step, of a record of so many slots: one step for each place that it grows by. Where the
-    // table has a step, or the number is more than a few past the slots, the list stays, so that no number makes it large.
+    // table has a step, or the number is more than a few past list and slots, the list stays, so that no number makes it large.
     fn widen(&mut self, step: u32, slots: usize) -> Result<(), AllocError>
         ensures held { (m : ℕ) → users_at self.new m ≡ users_at self.old m }
         ensures kept { (m n : ℕ) → CanTake self.old m n → CanTake self.new m n }
     {
-        if !self.far.is_empty() || step as usize > slots.saturating_add(MOST_AHEAD) {
+        let most = slots.max(self.near.len()).saturating_add(MOST_AHEAD);
+        if !self.far.is_empty() || step as usize > most {
             return Ok(());
         }
         grow(&mut self.near, step as usize)
