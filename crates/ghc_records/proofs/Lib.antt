@@ -25,6 +25,7 @@ pub mod IndexOf
 pub mod SlotLemmas
 pub mod SlotPlaces
 pub mod SlotClosing
+pub mod SlotStrays
 pub mod SlotRanks
 pub mod CutLemmas
 pub mod Saying

@@ -1,12 +1,14 @@
 -- Records in slots: what is held, in which order, and what a slot more, a gap, or the gaps closed up leave.
-use Rattle.std.proofs.Common.{◌≡◌, ◌≢◌, ◌<◌, ◌⊎◌, ℕ, zero, suc, [], ◌∷◌, ◌++◌, length, refl, sym, ap, subst, inl, inr, arith, filter}
-use Rattle.std.specs.Prelude.{Option, Some, None, slice_set, is_some}
+use Rattle.std.proofs.Common.{◌≡◌, ◌≢◌, ◌+◌, ◌<◌, ◌≤◌, ◌⊎◌, ℕ, zero, suc, [], ◌∷◌, ◌++◌, length, refl, sym, ap, ◌∙◌, subst, inl, inr, arith, filter}
+use Rattle.std.specs.Prelude.{Some, None, slice_set, is_some}
+use Rattle.std.proofs.lemmas.List.{length-append}
 use Rattle.ghc_term.specs.Lists.{In}
+use Rattle.ghc_term.proofs.ListsLemmas.{in_more}
 use Rattle.ghc_records.specs.Orders.{Picks, take, leave, AreDistinct}
 use Rattle.ghc_records.specs.Record.{Record, numbers}
-use Rattle.ghc_records.specs.Slots.{SlotList, held_in, StandsIn, AreOnceIn}
-use Rattle.ghc_records.proofs.OrderLemmas.{Before, number_of}
-use Rattle.ghc_records.proofs.PickLemmas.{others_all}
+use Rattle.ghc_records.specs.Slots.{SlotList, held_in, StandsIn}
+use Rattle.ghc_records.proofs.OrderLemmas.{Before, number_in, number_of, records_distinct}
+use Rattle.ghc_records.proofs.PickLemmas.{others_all, picks_distinct}
 
 -- a record in a slot is held
 pub stands_held : (ss : SlotList) (p : ℕ) (r : Record) → StandsIn ss p r → In r (held_in ss)
@@ -38,18 +40,28 @@ held_last [] r = refl
 held_last (Some s ∷ ss) r = ap (λ l. s ∷ l) (held_last ss r)
 held_last (None ∷ ss) r = held_last ss r
 
-once_rest : (s : Option Record) (ss : SlotList) → AreOnceIn (s ∷ ss) → AreOnceIn ss
-once_rest s ss once p q a b h k e = let same = once (suc p) (suc q) a b h k e in omega (arith, same)
-
--- the numbers are distinct where each has one slot
-pub held_distinct : (ss : SlotList) → AreOnceIn ss → AreDistinct (numbers (held_in ss))
-held_distinct [] once = tt
-held_distinct (None ∷ ss) once = held_distinct ss (once_rest None ss once)
-held_distinct (Some s ∷ ss) once = (
-  (λ i. let q = number_of (held_in ss) s.number i in let p = held_stands ss q.0 q.1 in
-      absurd (let same = once 0 (suc p.0) s q.0 refl p.1 (sym q.2) in omega (arith, same))),
-  held_distinct ss (once_rest (Some s) ss once),
+-- and the numbers stay distinct where its number is new
+pub more_distinct : (ss : SlotList) (r : Record) → AreDistinct (numbers (held_in ss)) → ((a : Record) → In a (held_in ss) → a.number ≢ r.number) → AreDistinct (numbers (held_in (ss ++ Some r ∷ [])))
+more_distinct [] r d fresh = ((λ i. i), tt)
+more_distinct (None ∷ ss) r d fresh = more_distinct ss r d fresh
+more_distinct (Some s ∷ ss) r d fresh = (
+  (λ i.
+      let a = number_of (held_in (ss ++ Some r ∷ [])) s.number i in
+      elim (in_more (held_in ss) r a.0 (subst (In a.0) (held_last ss r) a.1)) [
+        | inl j ↦ d.0 (subst (λ n. In n (numbers (held_in ss))) a.2 (number_in (held_in ss) a.0 j))
+        | inr e ↦ fresh s (inl refl) (sym a.2 ∙ ap (λ (z : Record). z.number) e)
+      ]),
+  more_distinct ss r d.1 (λ a i. fresh a (inr i)),
 )
+
+pub held_more : (ss : SlotList) (r : Record) → length (held_in (ss ++ Some r ∷ [])) ≡ length (held_in ss) + 1
+held_more ss r = ap length (held_last ss r) ∙ length-append (held_in ss) (r ∷ [])
+
+-- no more records than slots
+pub held_few : (ss : SlotList) → length (held_in ss) ≤ length ss
+held_few [] = omega arith
+held_few (Some s ∷ ss) = omega (arith, held_few ss)
+held_few (None ∷ ss) = omega (arith, held_few ss)
 
 -- a gap where a record stood takes just that one out
 pub held_without : (ss : SlotList) (p : ℕ) (r : Record) → AreDistinct (held_in ss) → StandsIn ss p r → Picks (λ s. ¬ (s ≡ r)) (held_in ss) (held_in (slice_set ss p None))
@@ -58,6 +70,16 @@ held_without (Some s ∷ ss) zero r d h = let same : s ≡ r = cc in leave (λ k
 held_without (None ∷ ss) zero r d h = cc
 held_without (Some s ∷ ss) (suc p) r d h = take (λ e. d.0 (subst (λ z. In z (held_in ss)) (sym e) (stands_held ss p r h))) (held_without ss p r d.1 h)
 held_without (None ∷ ss) (suc p) r d h = held_without ss p r d h
+
+pub without_distinct : (ss : SlotList) (p : ℕ) (r : Record) → AreDistinct (numbers (held_in ss)) → StandsIn ss p r → AreDistinct (numbers (held_in (slice_set ss p None)))
+without_distinct ss p r d h = picks_distinct (held_in ss) (held_in (slice_set ss p None)) (held_without ss p r (records_distinct (held_in ss) d) h) d
+
+pub held_fewer : (ss : SlotList) (p : ℕ) (r : Record) → StandsIn ss p r → length (held_in ss) ≡ length (held_in (slice_set ss p None)) + 1
+held_fewer [] p r h = cc
+held_fewer (Some s ∷ ss) zero r h = omega arith
+held_fewer (None ∷ ss) zero r h = cc
+held_fewer (Some s ∷ ss) (suc p) r h = omega (arith, held_fewer ss p r h)
+held_fewer (None ∷ ss) (suc p) r h = held_fewer ss p r h
 
 -- and the other slots are as they were
 pub stands_without : (ss : SlotList) (p q : ℕ) (r : Record) → StandsIn (slice_set ss p None) q r → StandsIn ss q r × (q ≢ p)

@@ -1,9 +1,8 @@
 -- Records in slots, in recorded order, with a gap in each slot whose record was taken out.
-use Rattle.std.specs.Prelude.{◌≡◌, ◌↔◌, ℕ, List, [], ◌∷◌, Option, Some, None, slice_get}
+use Rattle.std.specs.Prelude.{◌≡◌, ◌≢◌, ◌↔◌, ◌+◌, ℕ, List, [], ◌∷◌, Option, Some, None, slice_get}
 use Rattle.std.specs.Ordering.{nat_cmp}
 use Rattle.std.specs.FinMap as finite
-use Rattle.ghc_term.specs.Lists.{In}
-use Rattle.ghc_records.specs.Record.{Record, numbers}
+use Rattle.ghc_records.specs.Record.{Record}
 
 -- What each slot has: a record, or nothing.
 abbrev pub SlotList : Type 0
@@ -27,13 +26,13 @@ AreOnceIn slots = (p q : ℕ) (a b : Record) → StandsIn slots p a → StandsIn
 abbrev pub HasNumberIn : SlotList → ℕ → ℕ → Type 0
 HasNumberIn slots place n = (r : Record) × StandsIn slots place r × (r.number ≡ n)
 
--- The places of a list of slots: under each number the place of its record.
+-- The slot of this place has the record of the step of this number, which is not the number just above the place.
+abbrev pub HasStrayIn : SlotList → ℕ → ℕ → Type 0
+HasStrayIn slots place n = HasNumberIn slots place n × (place + 1 ≢ n)
+
+-- The strays of a list of slots: under the number of each record that does not stand just below it, its place.
 abbrev pub PlacesByNumber : Type 0
 PlacesByNumber = finite.FinMap nat_cmp ℕ
 
-abbrev pub ArePlacesOf : SlotList → PlacesByNumber → Type 0
-ArePlacesOf slots places = (n p : ℕ) → (finite.get places n ≡ Some p) ↔ HasNumberIn slots p n
-
--- The numbers under which a place stands are those of the records.
-abbrev pub AreNumbersOf : List Record → PlacesByNumber → Type 0
-AreNumbersOf rs places = (n : ℕ) → ((p : ℕ) × (finite.get places n ≡ Some p)) ↔ In n (numbers rs)
+abbrev pub AreStraysOf : SlotList → PlacesByNumber → Type 0
+AreStraysOf slots strays = (n p : ℕ) → (finite.get strays n ≡ Some p) ↔ HasStrayIn slots p n

@@ -60,7 +60,7 @@ impl Records {
         self.slots.len()
     }
 
-    /// The number of slots: all places are less. No more than half of them, and one, are gaps.
+    /// The number of slots: all places are less. Where memory allows, no more than half of them, and one, are gaps.
     pub fn places(&self) -> usize
         ensures { result ≡ length self.now.slots }
     {

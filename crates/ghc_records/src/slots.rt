@@ -1,11 +1,11 @@
 // Records in slots, in recorded order: one that is taken out leaves a gap, and those behind stay where they are.
-ghost use Rattle.std.specs.Prelude.{◌≡◌, ◌≢◌, ◌↔◌, ◌<◌, ◌≤◌, ◌++◌, ◌∷◌, [], length, slice_set, ℕ, IfSome, IfNone, OnOk, Some, None};
+ghost use Rattle.std.specs.Prelude.{◌≡◌, ◌≢◌, ◌↔◌, ◌+◌, ◌<◌, ◌≤◌, ◌++◌, ◌∷◌, [], length, slice_set, filter, is_some, ℕ, IsTrue, IfSome, IfNone, IfOk, OnOk, Some, None};
 ghost use Rattle.ghc_term.specs.Lists.{In};
 ghost use Rattle.std.specs.FinMap as finite;
 ghost use Rattle.std.specs.Option.{option_copied};
 ghost use Rattle.ghc_records.specs.Orders.{AreDistinct};
 ghost use Rattle.ghc_records.specs.Record.{Record as record_spec, numbers};
-ghost use Rattle.ghc_records.specs.Slots.{held_in, StandsIn, HasNumberIn, ArePlacesOf, AreNumbersOf};
+ghost use Rattle.ghc_records.specs.Slots.{held_in, StandsIn, HasNumberIn, AreStraysOf};
 
 use crate::record::Record;
 use ghc_term::NameMap;
@@ -15,29 +15,33 @@ use std::hash::BuildHasherDefault;
 use std::marker::Model;
 use std::mem;
 
-// Records in slots, no two of one number, each with the place of its slot under its number. No more than half of the slots, and one,
-// are gaps.
+// Records in slots, no two of one number, and how many these are. The record of a step mostly stands at the place just below its
+// number; of each other one, a stray, the place stands under its number. Where memory allows, no more than half of the slots, and
+// one, are gaps.
 #[derive(Drop)]
 pub(crate) struct Slots {
     slots: Vec<Option<Record>>,
-    places: NameMap<u32, usize>,
+    strays: NameMap<u32, usize>,
+    count: usize,
 }
 
 impl Model for Slots {
-    ghost use Rattle.std.specs.Prelude.{◌-◌, min, vec_len, vec_capacity};
+    ghost use Rattle.std.specs.Prelude.{◌≡◌, ◌-◌, min, length, vec_len, vec_capacity};
     ghost use Rattle.std.specs.FinMap as finite;
     ghost use Rattle.indexmap.specs.IndexMap.{spare};
     ghost use Rattle.ghc_term.specs.Table.{Table, table_code};
-    ghost use Rattle.ghc_records.specs.Slots.{SlotList, ArePlacesOf};
+    ghost use Rattle.ghc_records.specs.Record.{numbers};
+    ghost use Rattle.ghc_records.specs.Orders.{AreDistinct};
+    ghost use Rattle.ghc_records.specs.Slots.{SlotList, held_in, AreStraysOf};
     ghost use Rattle.ghc_records.specs.RecordCode.{slots_code};
 
     ghost Value = { Table SlotList };
 
     ghost coded = { table_code slots_code };
 
-    ghost view = { λ s. record { held = s.slots.items; room = min (vec_capacity s.slots - vec_len s.slots) (spare s.places) } };
+    ghost view = { λ s. record { held = s.slots.items; room = min (vec_capacity s.slots - vec_len s.slots) (spare s.strays) } };
 
-    ghost invariant = { λ s. ArePlacesOf s.slots.items (finite.from_entries s.places.entries) };
+    ghost invariant = { λ s. AreDistinct (numbers (held_in s.slots.items)) × (s.count ≡ length (held_in s.slots.items)) × AreStraysOf s.slots.items (finite.from_entries s.strays.entries) };
 }
 
 // The record in the slot of this place, if it has one: one step.
@@ -50,17 +54,33 @@ fn record_in(slots: &[Option<Record>], place: usize) -> Option<&Record>
     }
 }
 
-// Puts the place of each record under its number, where no other numbers stand: one look-up for each.
-fn put_places(slots: &[Option<Record>], places: &mut NameMap<u32, usize>)
-    requires distinct { AreDistinct (numbers (held_in slots.now)) }
-    requires numbers { AreNumbersOf (held_in slots.now) (finite.from_entries places.old.entries) }
-    ensures { ArePlacesOf slots.now (finite.from_entries places.new.entries) }
+// Whether the place is just below the number.
+fn is_just_below(place: usize, number: u32) -> bool
+    ensures { IsTrue result ↔ (place + 1 ≡ number) }
 {
-    for place in 0..slots.len() {
-        if let Some(record) = record_in(slots, place) {
-            places.insert(record.number(), place).unwrap();
+    (number as usize).checked_sub(place) == Some(1)
+}
+
+// The strays among the records of these slots as they will stand when the gaps are closed up: one pass, with a look-up for each
+// stray. It fails for want of memory alone.
+fn strays_when_closed(
+    alloc: Global,
+    slots: &[Option<Record>],
+) -> Result<NameMap<u32, usize>, AllocError>
+    requires { AreDistinct (numbers (held_in slots.now)) }
+    ensures { IfOk result (λ strays. AreStraysOf (filter is_some slots.now) (finite.from_entries strays.entries)) }
+{
+    let mut strays = IndexMap::with_hasher(alloc, BuildHasherDefault::new());
+    let mut place = 0;
+    for slot in slots {
+        if let Some(record) = slot {
+            if !is_just_below(place, record.number()) {
+                strays.insert(record.number(), place)?;
+            }
+            place += 1;
         }
     }
+    Ok(strays)
 }
 
 impl Slots {
@@ -73,7 +93,8 @@ impl Slots {
     {
         Slots {
             slots: Vec::new(alloc),
-            places: IndexMap::with_hasher(alloc, BuildHasherDefault::new()),
+            strays: IndexMap::with_hasher(alloc, BuildHasherDefault::new()),
+            count: 0,
         }
     }
 
@@ -89,12 +110,12 @@ impl Slots {
         ensures count { result ≡ length (held_in self.now.held) }
         ensures distinct { AreDistinct (numbers (held_in self.now.held)) }
     {
-        self.places.len()
+        self.count
     }
 
     // The place just below the number, where the record of the step of this number mostly stands, if it does: one step.
     fn likely_place_of(&self, number: u32) -> Option<usize>
-        ensures { IfSome result (λ p. HasNumberIn self.now.held p number) }
+        ensures { (p : ℕ) → (result ≡ Some p) ↔ (HasNumberIn self.now.held p number × (p + 1 ≡ number)) }
     {
         let place = (number as usize).checked_sub(1)?;
         let record = self.at(place)?;
@@ -108,11 +129,11 @@ impl Slots {
     pub(crate) fn place_of(&self, number: u32) -> Option<usize>
         ensures { (p : ℕ) → (result ≡ Some p) ↔ HasNumberIn self.now.held p number }
     {
-        let places = &self.places;
+        let strays = &self.strays;
         if let Some(place) = self.likely_place_of(number) {
             return Some(place);
         }
-        places.get(&number).copied()
+        strays.get(&number).copied()
     }
 
     // The record in the slot of this place, if it has one: one step.
@@ -140,41 +161,57 @@ impl Slots {
         ensures kept { self.old.room ≤ self.new.room }
     {
         self.slots.reserve(1)?;
-        self.places.reserve(1)
+        self.strays.reserve(1)
     }
 
-    // Puts a record in a slot behind the others, whose number no other has, where there is room: one look-up.
+    // Puts a record in a slot behind the others, whose number no other has, where there is room: one look-up if it is
+    // a stray.
     pub(crate) fn put(&mut self, step: Record)
         requires room { 0 < self.old.room }
         requires new { (r : Record) → In r (held_in self.old.held) → r.number ≢ step.number }
         ensures { self.new.held ≡ self.old.held ++ Some step ∷ [] }
     {
         let place = self.slots.len();
-        self.places.insert(step.number(), place).unwrap();
+        if !is_just_below(place, step.number()) {
+            self.strays.insert(step.number(), place).unwrap();
+        }
+        self.count += 1;
         self.slots.push_reserved(Some(step));
     }
 
-    // Takes the record of the step of this number out, if there is one, and leaves a gap: two look-ups.
+    // Takes the record of the step of this number out, if there is one, and leaves a gap: two look-ups if it
+    // was a stray.
     fn take_out(&mut self, number: u32) -> Option<Record>
         ensures taken { IfSome result (λ r. (p : ℕ) × StandsIn self.old.held p r × (r.number ≡ number)) }
         ensures gap { (p : ℕ) → HasNumberIn self.old.held p number → self.new.held ≡ slice_set self.old.held p None }
         ensures none { IfNone result ((r : Record) → In r (held_in self.old.held) → r.number ≢ number) }
         ensures none_left { IfNone result (self.new.held ≡ self.old.held) }
     {
-        let place = self.places.swap_remove(&number)?;
-        mem::replace(&mut self.slots[place], None)
+        let place = self.place_of(number)?;
+        let removed = mem::replace(&mut self.slots[place], None);
+        if !is_just_below(place, number) {
+            self.strays.swap_remove(&number);
+        }
+        self.count -= 1;
+        removed
     }
 
-    // Closes the gaps up: one pass over the slots, with a look-up for each record. It takes no memory.
+    // Closes the gaps up, where there is memory for the strays that this leaves: two passes over the slots, with a look-up for each
+    // stray. Where memory is refused, the gaps stay, and the next removal tries again.
     fn close_up(&mut self)
         ensures { held_in self.new.held ≡ held_in self.old.held }
     {
+        let alloc = *self.slots.allocator();
+        let Ok(strays) = strays_when_closed(alloc, self.slots.as_slice()) else {
+            return;
+        };
         self.slots.retain(|slot: &Option<Record>| slot.is_some());
-        put_places(self.slots.as_slice(), &mut self.places);
+        self.strays = strays;
     }
 
-    // Takes the record of the step of this number out, if there is one; the others keep their order. Two look-ups; where then more
-    // than half of the slots are gaps, these are closed up: so it is as if each removal cost two look-ups more.
+    // Takes the record of the step of this number out, if there is one; the others keep their order. Two look-ups at most; where
+    // then more than half of the slots are gaps, these are closed up, if memory allows: so it is as if each removal cost two look-ups
+    // more.
     pub(crate) fn remove(&mut self, number: u32) -> Option<Record>
         ensures found { IfSome result (λ r. In r (held_in self.old.held) × (r.number ≡ number)) }
         ensures rest { (r : Record) → In r (held_in self.old.held) → r.number ≡ number → Picks (λ s. ¬ (s ≡ r)) (held_in self.old.held) (held_in self.new.held) }
@@ -183,7 +220,7 @@ impl Slots {
     {
         let _count = self.len();
         let removed = self.take_out(number);
-        if self.slots.len() / 2 > self.places.len() {
+        if self.slots.len() / 2 > self.count {
             self.close_up();
         }
         removed

@@ -1,4 +1,3 @@
-use Rattle.std.proofs.Common.{◌≡◌, ◌≢◌, refl}
 use Rattle.ghc_records.proofs.SlotClosing.{found_in, found_none, none_in}
 use Rattle.ghc_records.proofs.slots.Slots.get.Goals as goal
 

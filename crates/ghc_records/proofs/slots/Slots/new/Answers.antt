@@ -1,5 +1,13 @@
-use Rattle.ghc_records.proofs.SlotPlaces.{places_none}
+use Rattle.std.proofs.Common.{◌≡◌, length, sym, subst, refl}
+use Rattle.ghc_records.specs.Orders.{AreDistinct}
+use Rattle.ghc_records.specs.Record.{numbers}
+use Rattle.ghc_records.specs.Slots.{held_in}
+use Rattle.ghc_records.proofs.SlotStrays.{strays_none}
 use Rattle.ghc_records.proofs.slots.Slots.new.Goals as goal
 
 pub invariant_of-result : goal.invariant_of-result
-invariant_of-result c = places_none c.new.result.items c.with_hasher.result.entries c.new.ensures.items c.with_hasher.ensures.empty
+invariant_of-result c = (
+  subst (λ l. AreDistinct (numbers (held_in l))) (sym c.new.ensures.items) tt,
+  subst (λ l. 0 ≡ length (held_in l)) (sym c.new.ensures.items) refl,
+  strays_none c.new.result.items c.with_hasher.result.entries c.new.ensures.items c.with_hasher.ensures.empty,
+)

@@ -1,0 +1,129 @@
+-- The strays of slots, where a slot is put behind the others, where a record is taken out, and where gaps are closed up.
+use Rattle.std.proofs.Common.{◌≡◌, ◌≢◌, ◌+◌, ◌<◌, ◌≤◌, ℕ, zero, suc, cond, List, [], ◌∷◌, ◌++◌, length, take, filter, get_or, refl, sym, ap, ◌∙◌, subst, inl, inr, nat_eq, arith}
+use Rattle.std.specs.Prelude.{◌↔◌, Option, Some, None, is_some, slice_set}
+use Rattle.std.specs.FinMap as finite
+use Rattle.std.specs.Map.{lookup}
+use Rattle.std.proofs.lemmas.List.Elements.{filter_more}
+use Rattle.ghc_term.specs.Lists.{In}
+use Rattle.ghc_records.specs.Orders.{AreDistinct}
+use Rattle.ghc_records.specs.Record.{Record, numbers}
+use Rattle.ghc_records.specs.Slots.{SlotList, PlacesByNumber, held_in, StandsIn, HasNumberIn, HasStrayIn, AreStraysOf}
+use Rattle.ghc_records.proofs.NumberSets.{one_or_not}
+use Rattle.ghc_records.proofs.SlotLemmas.{stands_held, held_stands, held_closed, stands_more, stands_still, stands_last, stands_without, still_stands}
+use Rattle.ghc_records.proofs.SlotPlaces.{places_in, place_is, at_key, at_other, one_record}
+use Rattle.ghc_records.proofs.SlotClosing.{once_of}
+
+-- under the number stands this now, and under each other one what stood there
+abbrev Changes : PlacesByNumber → PlacesByNumber → ℕ → Option ℕ → Type 0
+Changes old new k o = (finite.get new k ≡ o) × ((n : ℕ) → n ≢ k → finite.get new n ≡ finite.get old n)
+
+changed : (es new : List (ℕ × ℕ)) (k : ℕ) (o : Option ℕ) → ((q : ℕ) → lookup (nat_eq q) new ≡ cond (nat_eq k q) o (lookup (nat_eq q) es)) → Changes (places_in es) (places_in new) k o
+changed es new k o u = (at_key es new k o u k refl, at_other es new k o u)
+
+-- nothing stands under the number of no stray
+none_there : (ss : SlotList) (strays : PlacesByNumber) (k : ℕ) → AreStraysOf ss strays → ((p : ℕ) → ¬ HasStrayIn ss p k) → Changes strays strays k None
+none_there ss strays k h none = (
+  elim (finite.get strays k) as (λ o. finite.get strays k ≡ o → o ≡ None) [
+    | None ↦ λ e. refl
+    | Some p ↦ λ e. absurd (none p ((h k p).0 e))
+  ] refl,
+  λ n d. refl,
+)
+
+pub strays_none : (ss : SlotList) (es : List (ℕ × ℕ)) → ss ≡ [] → es ≡ [] → AreStraysOf ss (places_in es)
+strays_none ss es s e = subst (λ l. AreStraysOf l (places_in es)) (sym s) (subst (λ l. AreStraysOf [] (places_in l)) (sym e) (λ n p. (
+  λ g. absurd (let clash : None ≡ Some p = place_is [] n ∙ g in cc),
+  λ w. absurd (let clash : None ≡ Some (Some w.0.0) = w.0.1 in cc),
+)))
+
+-- one slot more
+strays_more : (ss : SlotList) (old new : PlacesByNumber) (s : Record) (o : Option ℕ) → AreStraysOf ss old → ((r : Record) → In r (held_in ss) → r.number ≢ s.number)
+    → Changes old new s.number o → ((p : ℕ) → (o ≡ Some p) ↔ ((p ≡ length ss) × (p + 1 ≢ s.number))) → AreStraysOf (ss ++ Some s ∷ []) new
+strays_more ss old new s o h fresh change here n p = elim (one_or_not n s.number) [
+  | inl e ↦
+      let there = ap (finite.get new) e ∙ change.0 in (
+        λ g. let w = (here p).0 (sym there ∙ g) in ((s, subst (λ i. StandsIn (ss ++ Some s ∷ []) i s) (sym w.0) (stands_last ss s), sym e), λ q. w.1 (q ∙ e)),
+        λ w. there ∙ (here p).1 (elim (stands_more ss p s w.0.0 w.0.1) [ inl k ↦ absurd (fresh w.0.0 (stands_held ss p w.0.0 k) (w.0.2 ∙ e)) | inr k ↦ (k.0, λ q. w.1 (q ∙ sym e)) ]),
+      )
+  | inr d ↦
+      let there = change.1 n d in (
+        λ g. let w = (h n p).0 (sym there ∙ g) in ((w.0.0, stands_still ss p s w.0.0 w.0.1, w.0.2), w.1),
+        λ w. there ∙ (h n p).1 (elim (stands_more ss p s w.0.0 w.0.1) [ inl k ↦ ((w.0.0, k, w.0.2), w.1) | inr k ↦ absurd (d (sym w.0.2 ∙ ap (λ (z : Record). z.number) k.1)) ]),
+      )
+]
+
+-- with a record just below its number
+pub strays_same : (ss : SlotList) (strays : PlacesByNumber) (s : Record) → AreStraysOf ss strays → ((r : Record) → In r (held_in ss) → r.number ≢ s.number)
+    → length ss + 1 ≡ s.number → AreStraysOf (ss ++ Some s ∷ []) strays
+strays_same ss strays s h fresh below = strays_more ss strays strays s None h fresh (none_there ss strays s.number h (λ p w. fresh w.0.0 (stands_held ss p w.0.0 w.0.1) w.0.2)) (λ p. (
+  λ e. absurd (let clash : None ≡ Some p = e in cc),
+  λ w. absurd (w.1 (ap (λ i. i + 1) w.0 ∙ below)),
+))
+
+-- with a stray
+pub strays_one : (ss : SlotList) (es new : List (ℕ × ℕ)) (s : Record) → AreStraysOf ss (places_in es) → ((r : Record) → In r (held_in ss) → r.number ≢ s.number)
+    → length ss + 1 ≢ s.number → ((q : ℕ) → lookup (nat_eq q) new ≡ cond (nat_eq s.number q) (Some (length ss)) (lookup (nat_eq q) es)) → AreStraysOf (ss ++ Some s ∷ []) (places_in new)
+strays_one ss es new s h fresh other u = strays_more ss (places_in es) (places_in new) s (Some (length ss)) h fresh (changed es new s.number (Some (length ss)) u) (λ p. (
+  λ e. let same : length ss ≡ p = cc in (sym same, λ q. other (ap (λ i. i + 1) same ∙ q)),
+  λ w. ap Some (sym w.0),
+))
+
+-- a gap more
+strays_without : (ss : SlotList) (old new : PlacesByNumber) (place k : ℕ) → AreDistinct (numbers (held_in ss)) → AreStraysOf ss old → HasNumberIn ss place k
+    → Changes old new k None → AreStraysOf (slice_set ss place None) new
+strays_without ss old new place k distinct h stood change n p = elim (one_or_not n k) [
+  | inl e ↦ (
+    λ g. absurd (let clash : None ≡ Some p = sym (ap (finite.get new) e ∙ change.0) ∙ g in cc),
+    λ w. let s = stands_without ss place p w.0.0 w.0.1 in absurd (s.1 (once_of ss distinct p place w.0.0 stood.0 s.0 stood.1 (w.0.2 ∙ e ∙ sym stood.2))),
+  )
+  | inr d ↦
+      let there = change.1 n d in (
+        λ g. let w = (h n p).0 (sym there ∙ g) in ((w.0.0, still_stands ss place p w.0.0 w.0.1 (λ same. d (sym w.0.2 ∙ ap (λ (z : Record). z.number) (one_record ss p place w.0.0 stood.0 w.0.1 stood.1 same) ∙ stood.2)), w.0.2), w.1),
+        λ w. let s = stands_without ss place p w.0.0 w.0.1 in there ∙ (h n p).1 ((w.0.0, s.0, w.0.2), w.1),
+      )
+]
+
+-- where a record stood just below its number
+pub gap_same : (ss : SlotList) (strays : PlacesByNumber) (place k : ℕ) → AreDistinct (numbers (held_in ss)) → AreStraysOf ss strays → HasNumberIn ss place k
+    → place + 1 ≡ k → AreStraysOf (slice_set ss place None) strays
+gap_same ss strays place k distinct h stood below = strays_without ss strays strays place k distinct h stood
+    (none_there ss strays k h (λ p w. w.1 (ap (λ i. i + 1) (once_of ss distinct p place w.0.0 stood.0 w.0.1 stood.1 (w.0.2 ∙ sym stood.2)) ∙ below)))
+
+-- where a stray stood
+pub gap_one : (ss : SlotList) (es new : List (ℕ × ℕ)) (place k : ℕ) → AreDistinct (numbers (held_in ss)) → AreStraysOf ss (places_in es) → HasNumberIn ss place k
+    → ((q : ℕ) → lookup (nat_eq q) new ≡ cond (nat_eq k q) None (lookup (nat_eq q) es)) → AreStraysOf (slice_set ss place None) (places_in new)
+gap_one ss es new place k distinct h stood u = strays_without ss (places_in es) (places_in new) place k distinct h stood (changed es new k None u)
+
+-- what the look-ups find, just below the number or else among the strays
+pub found_below : (ss : SlotList) (place n : ℕ) → AreDistinct (numbers (held_in ss)) → HasNumberIn ss place n → (p : ℕ) → (Some place ≡ Some p) ↔ HasNumberIn ss p n
+found_below ss place n distinct here p = (
+  λ e. subst (λ q. HasNumberIn ss q n) (cc) here,
+  λ w. ap Some (once_of ss distinct place p here.0 w.0 here.1 w.1 (here.2 ∙ sym w.2)),
+)
+
+pub found_stray : (ss : SlotList) (strays : PlacesByNumber) (n : ℕ) → AreStraysOf ss strays → ((p : ℕ) → p + 1 ≡ n → ¬ HasNumberIn ss p n) → (p : ℕ) → (finite.get strays n ≡ Some p) ↔ HasNumberIn ss p n
+found_stray ss strays n h none p = (λ g. ((h n p).0 g).0, λ w. (h n p).1 (w, λ below. none p below w))
+
+-- the slots in front of a place, gaps closed up, with one slot more
+pub closed_more : (ss : SlotList) (i : ℕ) (o : Option Record) → i < length ss → o ≡ get_or ss i o → filter is_some (take (i + 1) ss) ≡ filter is_some (take i ss) ++ cond (is_some o) (o ∷ []) []
+closed_more ss i o low is = filter_more is_some ss i o low ∙ ap (λ x. filter is_some (take i ss) ++ cond (is_some x) (x ∷ []) []) (sym is)
+
+pub closed_few : (ss : SlotList) (i : ℕ) → length (filter is_some (take i ss)) ≤ i
+closed_few ss zero = omega arith
+closed_few [] (suc i) = omega arith
+closed_few (Some s ∷ ss) (suc i) = omega (arith, closed_few ss i)
+closed_few (None ∷ ss) (suc i) = omega (arith, closed_few ss i)
+
+front_stands : (ss : SlotList) (i q : ℕ) (a : Record) → StandsIn (take i ss) q a → StandsIn ss q a × (q < i)
+front_stands ss zero q a h = cc
+front_stands [] (suc i) q a h = cc
+front_stands (s ∷ ss) (suc i) zero a h = (h, omega arith)
+front_stands (s ∷ ss) (suc i) (suc q) a h = let k = front_stands ss i q a h in (k.0, omega (arith, k.1))
+
+-- whose records have other numbers than the one that is next
+pub front_apart : (ss : SlotList) (i : ℕ) (s : Record) → AreDistinct (numbers (held_in ss)) → StandsIn ss i s → (a : Record) → In a (held_in (filter is_some (take i ss))) → a.number ≢ s.number
+front_apart ss i s distinct here a j e =
+    let w = held_stands (take i ss) a (subst (In a) (held_closed (take i ss)) j) in
+    let k = front_stands ss i w.0 a w.1 in
+    let same = once_of ss distinct w.0 i a s k.0 here e in
+    omega (arith, k.1, same)

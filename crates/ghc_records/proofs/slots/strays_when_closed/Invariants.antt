@@ -1,0 +1,10 @@
+use Rattle.std.proofs.Common.{◌≡◌, filter, length, take}
+use Rattle.std.specs.Prelude.{is_some}
+use Rattle.ghc_records.specs.Slots.{AreStraysOf}
+use Rattle.ghc_records.proofs.SlotPlaces.{places_in}
+use Rattle.ghc_records.proofs.slots.strays_when_closed.Given as goal
+
+abbrev pub invariant-loop-slot : goal.invariant-loop-slot
+invariant-loop-slot l =
+    let seen = filter is_some (take l.slot-index l.slots) in
+    (l.place ≡ length seen) × AreStraysOf seen (places_in l.strays.entries)
