@@ -1,5 +1,5 @@
 // Which steps used what a step gave.
-ghost use Rattle.std.specs.Prelude.{◌≡◌, ◌≢◌, ◌↔◌, ◌⊎◌, ◌<◌, [], ℕ, length, OnOk, Some};
+ghost use Rattle.std.specs.Prelude.{◌≡◌, ◌≢◌, ◌↔◌, ◌⊎◌, ◌+◌, ◌<◌, ◌≤◌, [], ℕ, length, max, OnOk, Some};
 ghost use Rattle.std.specs.FinMap as finite;
 ghost use Rattle.ghc_records.specs.UseIndex.{users_at, IsUser, CanTake, HasGrown};
 
@@ -32,10 +32,11 @@ impl Model for Users {
     ghost view = { λ u. users_in u.near.items u.far.entries };
 }
 
-// Makes the list longer, by sets of no numbers, until it has this place. What it grew by stays where memory is refused.
+// Makes the list longer, by sets of no numbers, until it has this place, and no further. What it grew by stays where memory is refused.
 fn grow(sets: &mut Vec<NumberSet>, place: usize) -> Result<(), AllocError>
     ensures grown { HasGrown sets.old.items sets.new.items }
     ensures place { OnOk result (place < length sets.new.items) }
+    ensures no_further { length sets.new.items ≤ max (length sets.old.items) (place + 1) }
 {
     let alloc = *sets.allocator();
     for _ in sets.len()..=place {
