@@ -75,11 +75,13 @@ impl Users {
         ensures held { (m : ℕ) → users_at self.new m ≡ users_at self.old m }
         ensures kept { (m n : ℕ) → CanTake self.old m n → CanTake self.new m n }
     {
+        let place = step as usize;
+        let is_there = place < self.near.len();
         let most = slots.max(self.near.len()).saturating_add(MOST_AHEAD);
-        if !self.far.is_empty() || step as usize > most {
+        if is_there || !self.far.is_empty() || place > most {
             return Ok(());
         }
-        grow(&mut self.near, step as usize)
+        grow(&mut self.near, place)
     }
 
     // Makes room for one more number under the step, of a record of so many slots: one step, and one for each place that the list
