@@ -21,7 +21,7 @@ use std::marker::Model;
 #[derive(Drop)]
 pub struct Arrangement {
     records: Records,
-    order: Vec<u32>,
+    order: Box<Vec<u32>>,
 }
 
 impl Model for Arrangement {
@@ -32,7 +32,15 @@ impl Model for Arrangement {
 
     ghost coded = { arrangement_code };
 
-    ghost view = { λ a. record { records = a.records.held; order = a.order.items } };
+    ghost view = { λ a. record { records = a.records.held; order = a.order.value.items } };
+}
+
+// A copy of the order, in memory of its own.
+fn boxed(alloc: Global, order: &[u32]) -> Result<Box<Vec<u32>>, AllocError>
+    ensures { IfOk result (λ copy. copy.value.items ≡ order.now) }
+{
+    let copy = order.to_vec(alloc)?;
+    Ok(Box::new(alloc, copy)?)
 }
 
 impl Core {
@@ -50,7 +58,7 @@ impl Core {
             Err(fault) => return Err(fault),
         }
         let records = self.records.in_order(alloc, order)?;
-        let order = order.to_vec(alloc)?;
+        let order = boxed(alloc, order)?;
         Ok(Arrangement { records, order })
     }
 

@@ -9,4 +9,4 @@ entry_of (Took r) = journal.took (journal.step_of r)
 entry_of (Undid n) = journal.undid n
 entry_of (Rolled n) = journal.rolled n
 entry_of (Redid n) = journal.redid n
-entry_of (Reordered order) = journal.reordered order.items
+entry_of (Reordered order) = journal.reordered order.value.items

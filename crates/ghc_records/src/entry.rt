@@ -12,8 +12,8 @@ pub enum Entry {
     Rolled(u32),
     /// The step of this number was redone.
     Redid(u32),
-    /// The record was put into this order.
-    Reordered(Vec<u32>),
+    /// The record was put into this order. It stands in memory of its own, so that an entry is two words.
+    Reordered(Box<Vec<u32>>),
 }
 
 impl Drop for Entry {

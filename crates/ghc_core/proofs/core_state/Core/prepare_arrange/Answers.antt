@@ -8,8 +8,8 @@ pub returns-clause-found : goal.returns-clause-found
 returns-clause-found c =
     let kept = c.self.inside.records.held in
     let new = c.in_ok-records.records.held in
-    let items = c.in_ok-order.order.items in
-    let same : items ≡ c.args.order.now = c.in_ok-order.ensures.items_if_clones_equal (λ x y e. e) in
+    let items = c.in_ok-order.order.value.items in
+    let same : items ≡ c.args.order.now = c.in_ok-order.ensures in
     let lawful = c.in-Ok.ensures.ok in
     subst (λ (x : Core). IsLawful x.world.kept items × IsInOrder x.world.kept items new) c.self.view_is
     (subst (λ (o : List ℕ). IsLawful kept o × IsInOrder kept o new) (sym same)

@@ -14,7 +14,7 @@ abbrev before : goal.After-put → World
 before c = record { opening = loaded_opening c.self.inside.program c.self.inside.query.goals c.self.inside.query.variables c.self.inside.loaded; state = c.self.inside.state.held; kept = c.self.inside.records.held; shelf = c.self.inside.shelf.held; next = c.self.inside.next; journal = c.self.inside.journal.held }
 
 abbrev taken : goal.After-put → Arrangement
-taken c = record { records = c.arrangement.inside.records.held; order = c.arrangement.inside.order.items }
+taken c = record { records = c.arrangement.inside.records.held; order = c.arrangement.inside.order.value.items }
 
 abbrev left : goal.After-put → World
 left c = record { opening = loaded_opening c.self.inside.program c.self.inside.query.goals c.self.inside.query.variables c.self.inside.loaded; state = c.self.inside.state.held; kept = c.arrangement.inside.records.held; shelf = c.self.inside.shelf.held; next = c.self.inside.next; journal = c.put.new.self.held }
