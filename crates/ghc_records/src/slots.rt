@@ -164,8 +164,7 @@ impl Slots {
         self.strays.reserve(1)
     }
 
-    // Puts a record in a slot behind the others, whose number no other has, where there is room: one look-up if it is
-    // a stray.
+    // Puts a record in a slot behind the others, whose number no other has, where there is room: one look-up if it is a stray.
     pub(crate) fn put(&mut self, step: Record)
         requires room { 0 < self.old.room }
         requires new { (r : Record) → In r (held_in self.old.held) → r.number ≢ step.number }
@@ -179,8 +178,7 @@ impl Slots {
         self.slots.push_reserved(Some(step));
     }
 
-    // Takes the record of the step of this number out, if there is one, and leaves a gap: two look-ups if it
-    // was a stray.
+    // Takes the record of the step of this number out, if there is one, and leaves a gap: two look-ups if it was a stray.
     fn take_out(&mut self, number: u32) -> Option<Record>
         ensures taken { IfSome result (λ r. (p : ℕ) × StandsIn self.old.held p r × (r.number ≡ number)) }
         ensures gap { (p : ℕ) → HasNumberIn self.old.held p number → self.new.held ≡ slice_set self.old.held p None }

@@ -1,4 +1,4 @@
-use Rattle.std.proofs.Common.{ap, sym, subst}
+use Rattle.std.proofs.Common.{sym, subst}
 use Rattle.ghc_records.specs.Slots.{held_in}
 use Rattle.ghc_records.specs.UseIndex.{IsIndexOf}
 use Rattle.ghc_records.proofs.IndexOf.{index_none}

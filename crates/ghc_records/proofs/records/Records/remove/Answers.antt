@@ -1,4 +1,4 @@
-use Rattle.std.proofs.Common.{◌≡◌, ◌≢◌, Some, ap, sym, subst}
+use Rattle.std.proofs.Common.{◌≢◌, ap, sym, subst}
 use Rattle.ghc_term.specs.Lists.{In}
 use Rattle.ghc_records.specs.Orders.{AreDistinct}
 use Rattle.ghc_records.specs.Record.{Record, numbers}
