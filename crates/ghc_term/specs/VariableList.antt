@@ -4,7 +4,7 @@ use Rattle.std.specs.Coded.{Coded, coded_list}
 use Rattle.std.specs.List.{IsDistinct}
 use Rattle.ghc_term.specs.declared.var_name.VarName.{VarName}
 use Rattle.ghc_term.specs.declared.variable_list.Held.{Held}
-use Rattle.ghc_term.specs.declared.variable_list.Held.TheVariants.{Nothing, One, Listed, Tabled}
+use Rattle.ghc_term.specs.declared.variable_list.Held.TheVariants.{Nothing, One, Two, Three, Listed, Tabled}
 use Rattle.ghc_term.specs.Code.{name_code}
 
 -- whether the two are one variable
@@ -19,6 +19,8 @@ AreDifferent xs = IsDistinct is_same xs
 abbrev pub in_order : Held → List VarName
 in_order (Nothing a) = []
 in_order (One a x) = x ∷ []
+in_order (Two a xs) = xs
+in_order (Three a xs) = xs
 in_order (Listed v) = v.items
 in_order (Tabled b) = b.value.keys
 

@@ -12,7 +12,7 @@ use std::slice;
 // How many variables are searched one after another.
 const MOST_LISTED: usize = 8;
 
-// Variables, each once: one without memory, a few in a list, more in a table.
+// Variables, each once: up to three without memory of their own, a few in a list, more in a table.
 #[derive(Drop)]
 pub struct VariableList {
     held: Held,
@@ -22,6 +22,8 @@ pub struct VariableList {
 enum Held {
     Nothing(Global),
     One(Global, VarName),
+    Two(Global, [VarName; 2]),
+    Three(Global, [VarName; 3]),
     Listed(Vec<VarName>),
     Tabled(Box<IndexSet<VarName>>),
 }
@@ -48,14 +50,51 @@ fn place_in(list: &[VarName], x: VarName) -> Option<usize>
     list.iter().position(|y| *y == x)
 }
 
-// A list of the two, with room for one more, which costs no more memory.
-fn listed(alloc: Global, first: VarName, second: VarName) -> Result<Vec<VarName>, AllocError>
-    ensures { IfOk result (λ list. list.items ≡ first ∷ second ∷ []) }
+// The three.
+fn with_third(two: &[VarName; 2], third: VarName) -> [VarName; 3]
+    ensures { result ≡ two.now ++ third ∷ [] }
 {
-    let mut list = Vec::with_capacity(alloc, 3)?;
-    list.push(first)?;
-    list.push(second)?;
+    [two[0], two[1], third]
+}
+
+// A list of the four, with no more room.
+fn listed(alloc: Global, three: &[VarName], fourth: VarName) -> Result<Vec<VarName>, AllocError>
+    ensures { IfOk result (λ list. list.items ≡ three.now ++ fourth ∷ []) }
+{
+    let mut list = Vec::with_capacity(alloc, 4)?;
+    list.extend_from_slice(three)?;
+    list.push(fourth)?;
     Ok(list)
+}
+
+impl Held {
+    ghost use Rattle.ghc_term.specs.VariableList.{in_order};
+
+    // The allocator.
+    fn allocator(&self) -> Global {
+        match self {
+            Held::Nothing(alloc) => *alloc,
+            Held::One(alloc, _) => *alloc,
+            Held::Two(alloc, _) => *alloc,
+            Held::Three(alloc, _) => *alloc,
+            Held::Listed(list) => *list.allocator(),
+            Held::Tabled(table) => *table.allocator(),
+        }
+    }
+
+    // The variables.
+    fn as_slice(&self) -> &[VarName]
+        ensures { result.now ≡ in_order self.now }
+    {
+        match self {
+            Held::Nothing(_) => &[],
+            Held::One(_, x) => slice::from_ref(x),
+            Held::Two(_, xs) => xs,
+            Held::Three(_, xs) => xs,
+            Held::Listed(list) => list.as_slice(),
+            Held::Tabled(table) => table.as_slice(),
+        }
+    }
 }
 
 impl VariableList {
@@ -72,7 +111,7 @@ impl VariableList {
     pub fn with_capacity(alloc: Global, count: usize) -> Result<VariableList, AllocError>
         ensures { IfOk result (λ list. list ≡ []) }
     {
-        if count < 2 {
+        if count < 4 {
             return Ok(VariableList::new(alloc));
         }
         let list = Vec::with_capacity(alloc, count.min(MOST_LISTED))?;
@@ -86,12 +125,7 @@ impl VariableList {
         ensures variables { result.now ≡ self.now }
         ensures different { AreDifferent self.now }
     {
-        match &self.held {
-            Held::Nothing(_) => &[],
-            Held::One(_, x) => slice::from_ref(x),
-            Held::Listed(list) => list.as_slice(),
-            Held::Tabled(table) => table.as_slice(),
-        }
+        self.held.as_slice()
     }
 
     // Where the variable stands, from 0 on: eight comparisons at most, or one look-up.
@@ -101,10 +135,8 @@ impl VariableList {
         ensures different { AreDifferent self.now }
     {
         match &self.held {
-            Held::Nothing(_) => None,
-            Held::One(_, y) => if *y == x { Some(0) } else { None },
-            Held::Listed(list) => place_in(list, x),
             Held::Tabled(table) => table.get_index_of(&x),
+            held => place_in(held.as_slice(), x),
         }
     }
 
@@ -114,12 +146,21 @@ impl VariableList {
         ensures ok { OnOk result (self.new ≡ self.old ++ x ∷ []) }
         ensures err { OnErr result (self.new ≡ self.old) }
     {
+        let alloc = self.held.allocator();
         match &mut self.held {
-            Held::Nothing(alloc) => {
-                self.held = Held::One(*alloc, x);
+            Held::Nothing(_) => {
+                self.held = Held::One(alloc, x);
             }
-            Held::One(alloc, y) => {
-                self.held = Held::Listed(listed(*alloc, *y, x)?);
+            Held::One(_, y) => {
+                self.held = Held::Two(alloc, [*y, x]);
+            }
+            Held::Two(_, two) => {
+                let three = with_third(two, x);
+                self.held = Held::Three(alloc, three);
+            }
+            Held::Three(_, three) => {
+                let list = listed(alloc, three, x)?;
+                self.held = Held::Listed(list);
             }
             Held::Listed(list) => {
                 if list.len() < MOST_LISTED {

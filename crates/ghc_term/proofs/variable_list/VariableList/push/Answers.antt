@@ -1,4 +1,4 @@
-use Rattle.std.proofs.Common.{◌++◌, ◌∷◌, [], sym, ap, ◌∙◌, subst}
+use Rattle.std.proofs.Common.{◌++◌, ◌∷◌, [], refl, sym, ap, ◌∙◌, subst}
 use Rattle.ghc_term.specs.Lists.{In}
 use Rattle.ghc_term.specs.VariableList.{AreDifferent, in_order}
 use Rattle.ghc_term.proofs.VariableLists.{pushed, one_alone, one_more}
@@ -7,9 +7,19 @@ use Rattle.ghc_term.proofs.variable_list.VariableList.push.Goals as goal
 pub invariant_of-self-in-Nothing-3 : goal.invariant_of-self-in-Nothing-3
 invariant_of-self-in-Nothing-3 c = one_alone c.args.x
 
-pub invariant_of-self-in_ok-listed-in-One-3 : goal.invariant_of-self-in_ok-listed-in-One-3
-invariant_of-self-in_ok-listed-in-One-3 c =
-    one_more (c.in-One.y ∷ []) c.in_ok-listed-in-One.field-0.items c.args.x (one_alone c.in-One.y) (λ i. c.requires (subst (In c.args.x) (ap in_order (sym c.in-One.is) ∙ c.self.view_is) i)) c.in_ok-listed-in-One.ensures
+pub invariant_of-self-in-One-3 : goal.invariant_of-self-in-One-3
+invariant_of-self-in-One-3 c =
+    one_more (c.in-One.y ∷ []) (c.in-One.y ∷ c.args.x ∷ []) c.args.x (one_alone c.in-One.y) (λ i. c.requires (subst (In c.args.x) (ap in_order (sym c.in-One.is) ∙ c.self.view_is) i)) refl
+
+pub invariant_of-self-in-Two-3 : goal.invariant_of-self-in-Two-3
+invariant_of-self-in-Two-3 c =
+    one_more c.in-Two.two c.with_third-three.result c.args.x (subst AreDifferent (ap in_order c.in-Two.is) c.self.invariant)
+    (λ i. c.requires (subst (In c.args.x) (ap in_order (sym c.in-Two.is) ∙ c.self.view_is) i)) c.with_third-three.ensures
+
+pub invariant_of-self-in_ok-list-in-Three-3 : goal.invariant_of-self-in_ok-list-in-Three-3
+invariant_of-self-in_ok-list-in-Three-3 c =
+    one_more c.in-Three.three c.in_ok-list-in-Three.list.items c.args.x (subst AreDifferent (ap in_order c.in-Three.is) c.self.invariant)
+    (λ i. c.requires (subst (In c.args.x) (ap in_order (sym c.in-Three.is) ∙ c.self.view_is) i)) c.in_ok-list-in-Three.ensures
 
 pub invariant_of-self-in_ok-push-in-Listed : goal.invariant_of-self-in_ok-push-in-Listed
 invariant_of-self-in_ok-push-in-Listed c =
