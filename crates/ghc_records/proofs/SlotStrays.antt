@@ -36,6 +36,13 @@ strays_none ss es s e = subst (λ l. AreStraysOf l (places_in es)) (sym s) (subs
   λ w. absurd (let clash : None ≡ Some (Some w.0.0) = w.0.1 in cc),
 )))
 
+-- where there are no strays, each record stands just below its number
+pub just_below : (ss : SlotList) (es : List (ℕ × ℕ)) (p : ℕ) (r : Record) → AreStraysOf ss (places_in es) → es ≡ [] → StandsIn ss p r → p + 1 ≡ r.number
+just_below ss es p r h e stands = elim (one_or_not (p + 1) r.number) [
+  | inl same ↦ same
+  | inr d ↦ absurd (let clash : None ≡ Some p = place_is [] r.number ∙ (subst (λ l. AreStraysOf ss (places_in l)) e h r.number p).1 ((r, stands, refl), d) in cc)
+]
+
 -- one slot more
 strays_more : (ss : SlotList) (old new : PlacesByNumber) (s : Record) (o : Option ℕ) → AreStraysOf ss old → ((r : Record) → In r (held_in ss) → r.number ≢ s.number)
     → Changes old new s.number o → ((p : ℕ) → (o ≡ Some p) ↔ ((p ≡ length ss) × (p + 1 ≢ s.number))) → AreStraysOf (ss ++ Some s ∷ []) new

@@ -117,8 +117,13 @@ impl Slots {
     fn likely_place_of(&self, number: u32) -> Option<usize>
         ensures { (p : ℕ) → (result ≡ Some p) ↔ (HasNumberIn self.now.held p number × (p + 1 ≡ number)) }
     {
+        let strays = &self.strays;
         let place = (number as usize).checked_sub(1)?;
         let record = self.at(place)?;
+        if strays.is_empty() {
+            // Each record stands just below its number, so there is no need to look at this one.
+            return Some(place);
+        }
         if record.number() == number {
             return Some(place);
         }

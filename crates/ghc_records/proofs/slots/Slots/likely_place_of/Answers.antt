@@ -1,9 +1,11 @@
-use Rattle.std.proofs.Common.{◌≡◌, ℕ, sym, ap, ◌∙◌, subst, arith}
+use Rattle.std.proofs.Common.{◌≡◌, ◌+◌, ℕ, sym, ap, ◌∙◌, subst, arith}
 use Rattle.std.specs.Prelude.{◌↔◌, Option, Some, None}
 use Rattle.std.specs.Borrow.{Bor}
 use Rattle.std.specs.Option.{option_copied}
 use Rattle.ghc_records.specs.Record.{Record}
 use Rattle.ghc_records.specs.Slots.{SlotList, StandsIn, HasNumberIn}
+use Rattle.ghc_records.proofs.NearUsers.{no_entries}
+use Rattle.ghc_records.proofs.SlotStrays.{just_below}
 use Rattle.ghc_records.proofs.slots.Slots.likely_place_of.Goals as goal
 
 -- what stands at the place that is looked at is found
@@ -17,6 +19,19 @@ returns-in_err-record c p = (
       let there = seen c.args.self.now.held c.in_ok-place.place p c.at.result w.0.0 c.at.ensures (let below = w.1 in omega (arith, below, c.in_ok-place.ensures)) w.0.1 in
       absurd (let clash : None ≡ Some w.0.0 = sym (ap option_copied c.in_err-record.was) ∙ there in cc),
 )
+
+pub returns-then-is_empty : goal.returns-then-is_empty
+returns-then-is_empty c p =
+    let ss = c.args.self.now.held in
+    let r = c.in_ok-record.record.now in
+    let stands = (c.at.ensures r).0 (ap option_copied c.in_ok-record.was) in
+    let empty = no_entries c.self.inside.strays.entries (c.is_empty.ensures.0 c.if-is_empty.true) in
+    let below : c.in_ok-place.place + 1 ≡ r.number =
+    just_below c.self.inside.slots.items c.self.inside.strays.entries c.in_ok-place.place r c.self.invariant.2 empty (subst (λ l. StandsIn l c.in_ok-place.place r) (sym (ap (λ t. t.held) c.self.view_is)) stands) in
+    let here : HasNumberIn ss c.in_ok-place.place c.args.number = (r, stands, omega (arith, below, c.in_ok-place.ensures)) in (
+      λ e. let same : c.in_ok-place.place ≡ p = cc in (subst (λ q. HasNumberIn ss q c.args.number) same here, omega (arith, same, c.in_ok-place.ensures)),
+      λ w. ap Some (let below = w.1 in omega (arith, below, c.in_ok-place.ensures)),
+    )
 
 pub returns-then-number : goal.returns-then-number
 returns-then-number c p =
