@@ -1,18 +1,17 @@
 -- What is refused whatever memory is left.
-use Rattle.std.proofs.Common.{◌≡◌, ◌⊎◌, ℕ, refl, sym, ap, ◌∙◌, inl, inr, Some, None, Result, Err}
+use Rattle.std.proofs.Common.{◌≡◌, ℕ, refl, sym, ap, ◌∙◌, Some, None, Result, Err}
 use Rattle.std.specs.Prelude.{Option}
 use Rattle.std.specs.FinMap as finite
 use Rattle.ghc_term.specs.declared.goal_name.GoalName.{GoalName}
 use Rattle.ghc_term.specs.declared.fault.Fault.{Fault}
 use Rattle.ghc_fire.specs.Attempt as attempt
 use Rattle.ghc_records.specs.Record.{Record}
-use Rattle.ghc_depend.specs.Depend.{Follows, IsKeptAs, IsNotKept}
+use Rattle.ghc_depend.specs.Depend.{Follows, IsKeptAs}
 use Rattle.ghc_core.specs.World.{Proposal, Hands, IsHand, World}
 use Rattle.ghc_core.specs.Core.{IsStanding}
 use Rattle.ghc_core.specs.Events.{Reply, refused}
 use Rattle.ghc_core.specs.Proposes.{AttemptAnswers, IsNoCandidate}
-use Rattle.ghc_core.specs.Streams.{StreamFails}
-use Rattle.ghc_core.specs.Reverses.{UndoFails, RedoFails}
+use Rattle.ghc_core.specs.Reverses.{UndoFails}
 use Rattle.ghc_core.specs.Anyway.{IsNotProposedAnyway, IsNotCommittedAnyway}
 use Rattle.ghc_core.proofs.Reversing.{undo_fails_once, undo_or_fail}
 use Rattle.ghc_core.proofs.Standing.{standing_orderly}
@@ -25,18 +24,7 @@ pub one_undo_refusal : (w : World) → IsStanding w → {n : ℕ} {f g : Fault} 
 one_undo_refusal w s {n} p q = undo_fails_once w n (standing_orderly w s).kept_once p q
 
 module _ (w : World) where
-  -- what a stream or a step is refused for is told
-  pub stream_refused_anyway : (k : ℕ) (f : Fault) (reply : Reply) → (StreamFails w k Fault.NoStream → reply ≡ refused Fault.NoStream) → (f ≡ Fault.NoStream) × StreamFails w k Fault.NoStream → reply ≡ refused f
-  stream_refused_anyway k f reply said (e, fails) = said fails ∙ ap refused (sym e)
-
-  pub roll_refused_anyway : (n : ℕ) (f : Fault) (reply : Reply) → (IsNotKept w.kept n → reply ≡ refused Fault.NotKept) → (f ≡ Fault.NotKept) × IsNotKept w.kept n → reply ≡ refused f
-  roll_refused_anyway n f reply said (e, fails) = said fails ∙ ap refused (sym e)
-
-  pub redo_refused_anyway : (n : ℕ) (f : Fault) (reply : Reply) → (RedoFails w n Fault.NotShelved → reply ≡ refused Fault.NotShelved) → (RedoFails w n Fault.NoGoal → reply ≡ refused Fault.NoGoal)
-      → ((f ≡ Fault.NotShelved) × RedoFails w n Fault.NotShelved) ⊎ ((f ≡ Fault.NoGoal) × RedoFails w n Fault.NoGoal) → reply ≡ refused f
-  redo_refused_anyway n f reply shelved there (inl (e, fails)) = shelved fails ∙ ap refused (sym e)
-  redo_refused_anyway n f reply shelved there (inr (e, fails)) = there fails ∙ ap refused (sym e)
-
+  -- what a note is refused for is told
   pub note_refused_anyway : (g : GoalName) (f : Fault) (reply : Reply) → (IsNoCandidate w g → reply ≡ refused Fault.NoGoal) → (f ≡ Fault.NoGoal) × IsNoCandidate w g → reply ≡ refused f
   note_refused_anyway g f reply said (e, none) = said none ∙ ap refused (sym e)
 

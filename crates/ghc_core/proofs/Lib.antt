@@ -25,6 +25,7 @@ pub mod RolledBack
 pub mod Arranged
 pub mod StreamNames
 pub mod StreamSteps
+pub mod Asking
 pub mod Replying
 pub mod Playable
 pub mod CertainRefusals

@@ -8,6 +8,7 @@ use Rattle.ghc_term.specs.Goal.{Goal, call, unify, assign, stream}
 use Rattle.ghc_term.specs.Store.{value_at}
 use Rattle.ghc_flat.specs.Flat.{is_stream}
 use Rattle.ghc_fire.specs.declared.act.Act.{Act}
+use Rattle.ghc_fire.specs.declared.act.Act.TheVariants.{Given as given, Closed as closed}
 use Rattle.ghc_fire.specs.Attempt as attempt
 use Rattle.ghc_hooks.specs.Status.{Status, failed, HasStatus}
 use Rattle.ghc_hooks.specs.Notes.{Note, NotesByGoal}
@@ -23,6 +24,7 @@ use Rattle.ghc_core.specs.Streams as streams
 use Rattle.ghc_core.specs.Reverses as by
 use Rattle.ghc_core.specs.Settling.{IsNoted}
 use Rattle.ghc_core.specs.Answers.{Obeys}
+use Rattle.ghc_core.specs.Asked.{IsNotObeyed}
 use Rattle.ghc_core.specs.Playing.{AddsOneAtMost, IsCauseOfFailure}
 
 -- Memory was refused, or not: nothing is known of it.
@@ -34,60 +36,54 @@ abbrev pub Why : (Fault → Type 0) → Fault → Type 0
 Why Fails f = (f ≡ Fault.Memory) ⊎ Fails f
 
 module _ (w : World) where
-  pub stream_taken : (k : ℕ) (act : Act) (reply : Reply) (v : World) → streams.ActsOnStream ⊥ w k act reply v → streams.ActsOnStream Unknown w k act reply v
+  stream_taken : (k : ℕ) (act : Act) (reply : Reply) (v : World) → streams.ActsOnStream ⊥ w k act reply v → streams.ActsOnStream Unknown w k act reply v
   stream_taken k act reply v (streams.ActsOnStream.takes r t) = streams.ActsOnStream.takes r t
   stream_taken k act reply v (streams.ActsOnStream.fails f) = streams.ActsOnStream.fails f
   stream_taken k act reply v (streams.ActsOnStream.no_memory f) = absurd f
 
-  pub stream_refused : (k : ℕ) (act : Act) (f : Fault) (v : World) → Why (streams.StreamFails w k) f → v ≡ w → streams.ActsOnStream Unknown w k act (refused f) v
-  stream_refused k act f v why same = subst (streams.ActsOnStream Unknown w k act (refused f)) (sym same) (elim why [
-    | inl m ↦ subst (λ g. streams.ActsOnStream Unknown w k act (refused g) w) (sym m) (streams.ActsOnStream.no_memory tt)
-    | inr s ↦ streams.ActsOnStream.fails s
-  ])
-
-  pub undo_taken : (n : ℕ) (reply : Reply) (v : World) → by.Undoes ⊥ w n reply v → by.Undoes Unknown w n reply v
+  undo_taken : (n : ℕ) (reply : Reply) (v : World) → by.Undoes ⊥ w n reply v → by.Undoes Unknown w n reply v
   undo_taken n reply v (by.Undoes.takes_away r left t k none out run) = by.Undoes.takes_away r left t k none out run
   undo_taken n reply v (by.Undoes.fails f) = by.Undoes.fails f
   undo_taken n reply v (by.Undoes.no_memory f) = absurd f
 
-  pub undo_refused : (n : ℕ) (f : Fault) (v : World) → Why (by.UndoFails w.kept n) f → v ≡ w → by.Undoes Unknown w n (refused f) v
-  undo_refused n f v why same = subst (by.Undoes Unknown w n (refused f)) (sym same) (elim why [
-    | inl m ↦ subst (λ g. by.Undoes Unknown w n (refused g) w) (sym m) (by.Undoes.no_memory tt)
-    | inr s ↦ by.Undoes.fails s
-  ])
-
-  pub roll_taken : (n : ℕ) (reply : Reply) (v : World) → by.Rolls ⊥ w n reply v → by.Rolls Unknown w n reply v
+  roll_taken : (n : ℕ) (reply : Reply) (v : World) → by.Rolls ⊥ w n reply v → by.Rolls Unknown w n reply v
   roll_taken n reply v (by.Rolls.takes_away r gone left t k split run) = by.Rolls.takes_away r gone left t k split run
   roll_taken n reply v (by.Rolls.not_kept f) = by.Rolls.not_kept f
   roll_taken n reply v (by.Rolls.no_memory f) = absurd f
 
-  pub roll_refused : (n : ℕ) (f : Fault) (v : World) → (f ≡ Fault.Memory) ⊎ ((f ≡ Fault.NotKept) × IsNotKept w.kept n) → v ≡ w → by.Rolls Unknown w n (refused f) v
-  roll_refused n f v why same = subst (by.Rolls Unknown w n (refused f)) (sym same) (elim why [
-    | inl m ↦ subst (λ g. by.Rolls Unknown w n (refused g) w) (sym m) (by.Rolls.no_memory tt)
-    | inr s ↦ subst (λ g. by.Rolls Unknown w n (refused g) w) (sym s.0) (by.Rolls.not_kept s.1)
-  ])
-
-  pub redo_taken : (n : ℕ) (reply : Reply) (v : World) → by.Redoes ⊥ w n reply v → by.Redoes Unknown w n reply v
+  redo_taken : (n : ℕ) (reply : Reply) (v : World) → by.Redoes ⊥ w n reply v → by.Redoes Unknown w n reply v
   redo_taken n reply v (by.Redoes.puts_back r e f l) = by.Redoes.puts_back r e f l
   redo_taken n reply v (by.Redoes.fails f) = by.Redoes.fails f
   redo_taken n reply v (by.Redoes.no_memory f) = absurd f
 
-  pub redo_refused : (n : ℕ) (f : Fault) (v : World) → Why (by.RedoFails w n) f → v ≡ w → by.Redoes Unknown w n (refused f) v
-  redo_refused n f v why same = subst (by.Redoes Unknown w n (refused f)) (sym same) (elim why [
-    | inl m ↦ subst (λ g. by.Redoes Unknown w n (refused g) w) (sym m) (by.Redoes.no_memory tt)
-    | inr s ↦ by.Redoes.fails s
-  ])
-
-  pub arrange_taken : (order : List ℕ) (reply : Reply) (v : World) → by.Arranges ⊥ w order reply v → by.Arranges Unknown w order reply v
+  arrange_taken : (order : List ℕ) (reply : Reply) (v : World) → by.Arranges ⊥ w order reply v → by.Arranges Unknown w order reply v
   arrange_taken order reply v (by.Arranges.puts new l o) = by.Arranges.puts new l o
   arrange_taken order reply v (by.Arranges.fails f) = by.Arranges.fails f
   arrange_taken order reply v (by.Arranges.no_memory f) = absurd f
 
-  pub arrange_refused : (order : List ℕ) (f : Fault) (v : World) → (f ≡ Fault.Memory) ⊎ ((a b : ℕ) × (f ≡ Fault.NotLawful a b) × IsUnlawful w.kept order a b) → v ≡ w
-      → by.Arranges Unknown w order (refused f) v
-  arrange_refused order f v why same = subst (by.Arranges Unknown w order (refused f)) (sym same) (elim why [
-    | inl m ↦ subst (λ g. by.Arranges Unknown w order (refused g) w) (sym m) (by.Arranges.no_memory tt)
-    | inr s ↦ subst (λ g. by.Arranges Unknown w order (refused g) w) (sym s.2) (by.Arranges.fails s.3)
+  -- what a command does, whether or not memory was refused
+  pub obeyed : (c : Command) (reply : Reply) (v : World) → Obeys ⊥ w c reply v → Obeys Unknown w c reply v
+  obeyed (input k t) reply v o = stream_taken k (given t) reply v o
+  obeyed (finish k) reply v o = stream_taken k closed reply v o
+  obeyed (undo n) reply v o = undo_taken n reply v o
+  obeyed (roll n) reply v o = roll_taken n reply v o
+  obeyed (redo n) reply v o = redo_taken n reply v o
+  obeyed (arrange order) reply v o = arrange_taken order reply v o
+
+  -- a command that found no memory
+  pub out_of_memory : (c : Command) → Obeys Unknown w c (refused Fault.Memory) w
+  out_of_memory (input k t) = streams.ActsOnStream.no_memory tt
+  out_of_memory (finish k) = streams.ActsOnStream.no_memory tt
+  out_of_memory (undo n) = by.Undoes.no_memory tt
+  out_of_memory (roll n) = by.Rolls.no_memory tt
+  out_of_memory (redo n) = by.Redoes.no_memory tt
+  out_of_memory (arrange order) = by.Arranges.no_memory tt
+
+  -- a command that is refused, for want of memory or for what is told
+  pub not_obeyed : (c : Command) (f : Fault) (v : World) → Why (IsNotObeyed w c) f → v ≡ w → Obeys Unknown w c (refused f) v
+  not_obeyed c f v why same = subst (Obeys Unknown w c (refused f)) (sym same) (elim why [
+    | inl m ↦ subst (λ g. Obeys Unknown w c (refused g) w) (sym m) (out_of_memory c)
+    | inr o ↦ obeyed c (refused f) w o
   ])
 
   -- a command adds one entry at most

@@ -10,4 +10,4 @@ command_of (Close k) = events.finish k
 command_of (Undo n) = events.undo n
 command_of (Roll n) = events.roll n
 command_of (Redo n) = events.redo n
-command_of (Arrange order) = events.arrange order.items
+command_of (Arrange order) = events.arrange order

@@ -17,6 +17,7 @@ pub mod Carried
 pub mod Settling
 pub mod Arrangement
 pub mod Change
+pub mod Asked
 pub mod StreamGoals
 pub mod CommandCode
 pub mod EventCode

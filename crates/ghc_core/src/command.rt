@@ -1,5 +1,6 @@
 // Commands to a core.
 
+use crate::order::Order;
 use ghc_term::Ground;
 
 /// A command gives a stream an input or closes it, undoes, rolls back or redoes a step, or puts the record into another order.
@@ -15,7 +16,7 @@ pub enum Command {
     /// The step of this number is redone.
     Redo(u32),
     /// The record is put into this order.
-    Arrange(Vec<u32>),
+    Arrange(Order),
 }
 
 impl Drop for Command {

@@ -19,6 +19,8 @@ mod laws;
 mod load;
 mod load_laws;
 mod obeying;
+mod order;
+mod prepared;
 mod recheck;
 mod redo;
 mod reply;
@@ -53,6 +55,7 @@ pub use laws::{
     redoes_have_an_answer, step_is_exact, still_holds_as_next, stream_step_is_exact,
 };
 pub use load_laws::{load_is_exact, saved_is_loaded_again};
+pub use order::Order;
 pub use reply::Reply;
 pub use rollback::Rollback;
 pub use undo_laws::{

@@ -1,6 +1,6 @@
 // Worlds in use: hands that propose and commit in turn, what goes stale between, and commands and notes as events.
 use crate::tests::cores::core_of;
-use ghc_core::{Command, Core, Event, Reply, World};
+use ghc_core::{Command, Core, Event, Order, Reply, World};
 use ghc_hooks::Verdict;
 use ghc_reader::read_ground_term;
 use ghc_term::GoalName;
@@ -46,7 +46,7 @@ fn command_of(alloc: Global, asked: &Asked) -> Option<Command> {
         Asked::Undo(number) => Command::Undo(*number),
         Asked::Roll(number) => Command::Roll(*number),
         Asked::Redo(number) => Command::Redo(*number),
-        Asked::Arrange(order) => Command::Arrange(order.to_vec(alloc).ok()?),
+        Asked::Arrange(order) => Command::Arrange(Order::of(order.to_vec(alloc).ok()?)),
         _ => return None,
     };
     Some(command)

@@ -1,0 +1,128 @@
+use Rattle.std.proofs.Common.{sym, ap, ◌∙◌, subst, inl, inr, Err}
+use Rattle.ghc_core.specs.Anyway.{IsNotObeyedAnyway}
+use Rattle.ghc_core.specs.Asked.{IsAskedFor, IsNotObeyed}
+use Rattle.ghc_core.specs.CommandCode.{command_of}
+use Rattle.ghc_core.specs.Events.{roll, arrange}
+use Rattle.ghc_core.specs.Streams as streams
+use Rattle.ghc_core.specs.Reverses as by
+use Rattle.ghc_core.specs.declared.change.Change.TheVariants.{Adds as adds, PutsBack as puts_back, TakesAll as takes_all}
+use Rattle.ghc_core.proofs.Asking.{asked_input, asked_close, asked_roll, asked_redo}
+use Rattle.ghc_core.proofs.CertainRefusals.{undo_cannot_fail, one_undo_refusal}
+use Rattle.ghc_core.proofs.Replying.{Why}
+use Rattle.ghc_core.proofs.core_state.Core.prepare_command.Goals as goal
+
+pub returns-in-Ok-clause-answer : goal.returns-in-Ok-clause-answer
+returns-in-Ok-clause-answer c =
+    let w = c.args.self.now.world in
+    (subst (λ m. IsAskedFor w (command_of m) (adds c.in-Ok.addition)) (sym c.in-Input.is) (asked_input w c.in-Input.stream c.in-Input.input c.in-Ok.addition c.in-Ok.ensures.answer.0), tt)
+
+pub returns-in-Err-clause-answer : goal.returns-in-Err-clause-answer
+returns-in-Err-clause-answer c =
+    let w = c.args.self.now.world in (
+      tt,
+      subst (λ m. Why (IsNotObeyed w (command_of m)) c.in-Err.fault) (sym c.in-Input.is) (elim c.in-Err.ensures.answer.1 [
+        | inl memory ↦ inl memory
+        | inr fails ↦ inr (streams.ActsOnStream.fails fails)
+      ]),
+    )
+
+pub returns-in-Ok-prepare_close-clause-answer : goal.returns-in-Ok-prepare_close-clause-answer
+returns-in-Ok-prepare_close-clause-answer c =
+    let w = c.args.self.now.world in
+    let r = c.in-Ok-prepare_close.addition in
+    (subst (λ m. IsAskedFor w (command_of m) (adds r)) (sym c.in-Close.is) (asked_close w c.in-Close.stream r c.in-Ok-prepare_close.ensures.answer.0), tt)
+
+pub returns-in-Err-prepare_close-clause-answer : goal.returns-in-Err-prepare_close-clause-answer
+returns-in-Err-prepare_close-clause-answer c =
+    let w = c.args.self.now.world in (
+      tt,
+      subst (λ m. Why (IsNotObeyed w (command_of m)) c.in-Err-prepare_close.fault) (sym c.in-Close.is) (elim c.in-Err-prepare_close.ensures.answer.1 [
+        | inl memory ↦ inl memory
+        | inr fails ↦ inr (streams.ActsOnStream.fails fails)
+      ]),
+    )
+
+pub returns-in-Ok-prepare_undo-clause-anyway : goal.returns-in-Ok-prepare_undo-clause-anyway
+returns-in-Ok-prepare_undo-clause-anyway c f fails =
+    let w = c.args.self.now.world in
+    let found = c.in-Ok-prepare_undo.ensures.found in
+    absurd (undo_cannot_fail w c.stands.ensures.standing c.in-Ok-prepare_undo.removal (found.0, c.in-Ok-prepare_undo.ensures.step) found.1 (subst (λ m. IsNotObeyedAnyway w (command_of m) f) c.in-Undo.is fails))
+
+pub returns-in-Err-prepare_undo-clause-answer : goal.returns-in-Err-prepare_undo-clause-answer
+returns-in-Err-prepare_undo-clause-answer c =
+    let w = c.args.self.now.world in (
+      tt,
+      subst (λ m. Why (IsNotObeyed w (command_of m)) c.in-Err-prepare_undo.fault) (sym c.in-Undo.is) (elim c.in-Err-prepare_undo.ensures.fault [
+        | inl memory ↦ inl memory.0
+        | inr fails ↦ inr (by.Undoes.fails fails)
+      ]),
+    )
+
+pub returns-in-Err-prepare_undo-clause-anyway : goal.returns-in-Err-prepare_undo-clause-anyway
+returns-in-Err-prepare_undo-clause-anyway c f fails =
+    let w = c.args.self.now.world in
+    let standing = c.stands.ensures.standing in
+    let why = subst (λ m. IsNotObeyedAnyway w (command_of m) f) c.in-Undo.is fails in
+    elim c.in-Err-prepare_undo.ensures.fault [
+      | inl memory ↦ absurd (undo_cannot_fail w standing memory.1.0 memory.1.1 memory.1.2 why)
+      | inr other ↦ ap Err (one_undo_refusal w standing other why)
+    ]
+
+pub returns-in-Ok-prepare_rollback-clause-answer : goal.returns-in-Ok-prepare_rollback-clause-answer
+returns-in-Ok-prepare_rollback-clause-answer c =
+    let w = c.args.self.now.world in
+    let gone = c.in-Ok-prepare_rollback.rollback in
+    let found = c.in-Ok-prepare_rollback.ensures in
+    (subst (λ m. IsAskedFor w (command_of m) (takes_all gone)) (sym c.in-Roll.is) (asked_roll w c.stands.ensures.standing c.in-Roll.number gone found.found found.split), tt)
+
+pub returns-in-Ok-prepare_rollback-clause-anyway : goal.returns-in-Ok-prepare_rollback-clause-anyway
+returns-in-Ok-prepare_rollback-clause-anyway c f fails =
+    let split = c.in-Ok-prepare_rollback.ensures.split in
+    let why = subst (λ m. IsNotObeyedAnyway c.args.self.now.world (command_of m) f) c.in-Roll.is fails in
+    absurd (why.1 split.0 split.2.0 split.2.1)
+
+pub returns-in-Err-prepare_rollback-clause-answer : goal.returns-in-Err-prepare_rollback-clause-answer
+returns-in-Err-prepare_rollback-clause-answer c =
+    let w = c.args.self.now.world in
+    let n = c.in-Roll.number in (
+      tt,
+      subst (λ m. Why (IsNotObeyed w (command_of m)) c.in-Err-prepare_rollback.fault) (sym c.in-Roll.is) (elim c.in-Err-prepare_rollback.ensures.fault [
+        | inl memory ↦ inl memory.0
+        | inr none ↦ inr (subst (IsNotObeyed w (roll n)) (sym none.0) (by.Rolls.not_kept none.1))
+      ]),
+    )
+
+pub returns-in-Err-prepare_rollback-clause-anyway : goal.returns-in-Err-prepare_rollback-clause-anyway
+returns-in-Err-prepare_rollback-clause-anyway c f fails =
+    let why = subst (λ m. IsNotObeyedAnyway c.args.self.now.world (command_of m) f) c.in-Roll.is fails in
+    elim c.in-Err-prepare_rollback.ensures.fault [
+      | inl memory ↦ absurd (why.1 memory.1.0 memory.1.1.0 memory.1.1.1)
+      | inr none ↦ ap Err (none.0 ∙ sym why.0)
+    ]
+
+pub returns-in-Ok-prepare_redo-clause-answer : goal.returns-in-Ok-prepare_redo-clause-answer
+returns-in-Ok-prepare_redo-clause-answer c =
+    let w = c.args.self.now.world in
+    let r = c.in-Ok-prepare_redo.addition in
+    let found = c.in-Ok-prepare_redo.ensures in
+    (subst (λ m. IsAskedFor w (command_of m) (puts_back r)) (sym c.in-Redo.is) (asked_redo w c.in-Redo.number r found.found found.step), tt)
+
+pub returns-in-Err-prepare_redo-clause-answer : goal.returns-in-Err-prepare_redo-clause-answer
+returns-in-Err-prepare_redo-clause-answer c =
+    let w = c.args.self.now.world in (
+      tt,
+      subst (λ m. Why (IsNotObeyed w (command_of m)) c.in-Err-prepare_redo.fault) (sym c.in-Redo.is) (elim c.in-Err-prepare_redo.ensures.fault [
+        | inl memory ↦ inl memory
+        | inr fails ↦ inr (by.Redoes.fails fails)
+      ]),
+    )
+
+pub returns-in-Err-prepare_arrange-clause-answer : goal.returns-in-Err-prepare_arrange-clause-answer
+returns-in-Err-prepare_arrange-clause-answer c =
+    let w = c.args.self.now.world in (
+      tt,
+      subst (λ m. Why (IsNotObeyed w (command_of m)) c.in-Err-prepare_arrange.fault) (sym c.in-Arrange.is) (elim c.in-Err-prepare_arrange.ensures.fault [
+        | inl memory ↦ inl memory
+        | inr q ↦ inr (subst (λ o. IsNotObeyed w (arrange o) c.in-Err-prepare_arrange.fault) c.as_slice.ensures (subst (IsNotObeyed w (arrange c.as_slice.result.now)) (sym q.2) (by.Arranges.fails q.3)))
+      ]),
+    )

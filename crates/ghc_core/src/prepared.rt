@@ -1,0 +1,58 @@
+// The change for which a command asks, found before anything moves.
+ghost use Rattle.std.specs.Prelude.{◌≡◌, Err};
+ghost use Rattle.ghc_term.specs.declared.fault.Fault.{Fault as fault_spec};
+ghost use Rattle.ghc_term.specs.Answered.{Answered};
+ghost use Rattle.ghc_core.specs.Anyway.{IsNotObeyedAnyway};
+ghost use Rattle.ghc_core.specs.Asked.{IsAskedFor, IsNotObeyed};
+ghost use Rattle.ghc_core.specs.CommandCode.{command_of};
+ghost use Rattle.ghc_core.specs.Counting.{CountsInObeying};
+
+use crate::change::Change;
+use crate::command::Command;
+use crate::core_state::Core;
+use ghc_term::Fault;
+use std::alloc::Global;
+
+impl Core {
+    /// Finds the change for which the command asks, as the call for it does, with its refusals, their order and its cost:
+    /// `prepare_input`, `prepare_close`, `prepare_undo`, `prepare_rollback`, `prepare_redo` or `prepare_arrange`. But for the meter
+    /// the core stays as it is.
+    pub fn prepare_command(&mut self, alloc: Global, command: &Command) -> Result<Change, Fault>
+        ensures answer { Answered (IsAskedFor self.old.world (command_of command.now)) (IsNotObeyed self.old.world (command_of command.now)) result }
+
+        // No want of memory hides that the stream or the step is not there, that the step has a consequence, or that its goal is not there.
+        ensures anyway { (f : fault_spec) → IsNotObeyedAnyway self.old.world (command_of command.now) f → result ≡ Err f }
+        ensures world { self.new.world ≡ self.old.world }
+        ensures notes { self.new.notes ≡ self.old.notes }
+        ensures untried { self.new.untried ≡ self.old.untried }
+        ensures counted { CountsInObeying (command_of command.now) self.old.meter self.new.meter }
+    {
+        self.stands();
+        match command {
+            Command::Input(stream, input) => match self.prepare_input(alloc, *stream, input) {
+                Ok(addition) => Ok(Change::Adds(addition)),
+                Err(fault) => Err(fault),
+            },
+            Command::Close(stream) => match self.prepare_close(alloc, *stream) {
+                Ok(addition) => Ok(Change::Adds(addition)),
+                Err(fault) => Err(fault),
+            },
+            Command::Undo(number) => match self.prepare_undo(*number) {
+                Ok(removal) => Ok(Change::TakesAway(removal)),
+                Err(fault) => Err(fault),
+            },
+            Command::Roll(number) => match self.prepare_rollback(alloc, *number) {
+                Ok(rollback) => Ok(Change::TakesAll(rollback)),
+                Err(fault) => Err(fault),
+            },
+            Command::Redo(number) => match self.prepare_redo(alloc, *number) {
+                Ok(addition) => Ok(Change::PutsBack(addition)),
+                Err(fault) => Err(fault),
+            },
+            Command::Arrange(order) => match self.prepare_arrange(alloc, order.as_slice()) {
+                Ok(arrangement) => Ok(Change::Reorders(arrangement)),
+                Err(fault) => Err(fault),
+            },
+        }
+    }
+}
