@@ -2,6 +2,9 @@
 ghost use Rattle.std.specs.Prelude.{◌≡◌, ◌⊎◌, ◌<◌, ℕ, IfOk, IfErr, OnOk, OnErr};
 ghost use Rattle.ghc_term.specs.declared.fault.Fault.{Fault};
 ghost use Rattle.ghc_hooks.specs.Notes.{AreLeft};
+ghost use Rattle.ghc_term.specs.Lists.{In};
+ghost use Rattle.ghc_records.specs.Record.{Record, numbers};
+ghost use Rattle.ghc_records.specs.Orders.{AreDistinct};
 ghost use Rattle.ghc_records.specs.Laws.{IsWellMade};
 ghost use Rattle.ghc_depend.specs.Lawful.{IsUnlawful};
 ghost use Rattle.ghc_core.specs.World.{IsReplay};
@@ -17,10 +20,11 @@ use ghc_term::Fault;
 use std::alloc::{AllocError, Global};
 use std::marker::Model;
 
-/// A lawful order of the record that was found, and the records in it.
+/// A lawful order of the record that was found, and the records in it, which stand in memory of their own: a change is handed on
+/// with each step, and is small by this.
 #[derive(Drop)]
 pub struct Arrangement {
-    records: Records,
+    records: Box<Records>,
     order: Box<Vec<u32>>,
 }
 
@@ -32,7 +36,7 @@ impl Model for Arrangement {
 
     ghost coded = { arrangement_code };
 
-    ghost view = { λ a. record { records = a.records.held; order = a.order.value.items } };
+    ghost view = { λ a. record { records = a.records.value.held; order = a.order.value.items } };
 }
 
 // A copy of the order, in memory of its own.
@@ -41,6 +45,21 @@ fn boxed(alloc: Global, order: &[u32]) -> Result<Box<Vec<u32>>, AllocError>
 {
     let copy = order.to_vec(alloc)?;
     Ok(Box::new(alloc, copy)?)
+}
+
+// The records of these numbers in this order, shared with these, in memory of their own.
+fn boxed_in_order(
+    alloc: Global,
+    records: &Records,
+    order: &[u32],
+) -> Result<Box<Records>, AllocError>
+    requires kept { (n : ℕ) → In n order.now → In n (numbers records.now.held) }
+    requires distinct { AreDistinct order.now }
+    ensures numbers { IfOk result (λ new. numbers new.value.held ≡ order.now) }
+    ensures kept { IfOk result (λ new. (r : Record) → In r new.value.held → In r records.now.held) }
+{
+    let new = records.in_order(alloc, order)?;
+    Ok(Box::new(alloc, new)?)
 }
 
 impl Core {
@@ -57,7 +76,7 @@ impl Core {
             Ok(()) => {}
             Err(fault) => return Err(fault),
         }
-        let records = self.records.in_order(alloc, order)?;
+        let records = boxed_in_order(alloc, &self.records, order)?;
         let order = boxed(alloc, order)?;
         Ok(Arrangement { records, order })
     }
@@ -84,7 +103,7 @@ impl Core {
         ensures meter { self.new.meter ≡ self.old.meter }
     {
         let Arrangement { records, order } = arrangement;
-        self.records = records;
+        self.records = Box::into_inner(records);
         self.journal.put(Entry::Reordered(order));
     }
 

@@ -7,7 +7,7 @@ use Rattle.ghc_core.proofs.core_state.Core.prepare_arrange.Goals as goal
 pub returns-clause-found : goal.returns-clause-found
 returns-clause-found c =
     let kept = c.self.inside.records.held in
-    let new = c.in_ok-records.records.held in
+    let new = c.in_ok-records.records.value.held in
     let items = c.in_ok-order.order.value.items in
     let same : items ≡ c.args.order.now = c.in_ok-order.ensures in
     let lawful = c.in-Ok.ensures.ok in

@@ -1,5 +1,6 @@
-use Rattle.std.proofs.Common.{subst, sym}
+use Rattle.std.proofs.Common.{◌≡◌, ◌∙◌, ap, subst, sym}
 use Rattle.ghc_records.specs.History.{loaded_opening}
+use Rattle.ghc_records.specs.UseIndex.{RecordsTables}
 use Rattle.ghc_hooks.specs.Notes.{AreLeft}
 use Rattle.ghc_core.specs.World.{World}
 use Rattle.ghc_core.specs.Core.{Core}
@@ -14,13 +15,16 @@ abbrev before : goal.After-put → World
 before c = record { opening = loaded_opening c.self.inside.program c.self.inside.query.goals c.self.inside.query.variables c.self.inside.loaded; state = c.self.inside.state.held; kept = c.self.inside.records.held; shelf = c.self.inside.shelf.held; next = c.self.inside.next; journal = c.self.inside.journal.held }
 
 abbrev taken : goal.After-put → Arrangement
-taken c = record { records = c.arrangement.inside.records.held; order = c.arrangement.inside.order.value.items }
+taken c = record { records = c.into_inner.result.held; order = c.arrangement.inside.order.value.items }
 
 abbrev left : goal.After-put → World
-left c = record { opening = loaded_opening c.self.inside.program c.self.inside.query.goals c.self.inside.query.variables c.self.inside.loaded; state = c.self.inside.state.held; kept = c.arrangement.inside.records.held; shelf = c.self.inside.shelf.held; next = c.self.inside.next; journal = c.put.new.self.held }
+left c = record { opening = loaded_opening c.self.inside.program c.self.inside.query.goals c.self.inside.query.variables c.self.inside.loaded; state = c.self.inside.state.held; kept = c.into_inner.result.held; shelf = c.self.inside.shelf.held; next = c.self.inside.next; journal = c.put.new.self.held }
+
+is_taken : (c : goal.After-put) → taken c ≡ c.args.arrangement
+is_taken c = ap (λ (x : RecordsTables). record { records = x.held; order = c.arrangement.inside.order.value.items }) c.into_inner.ensures ∙ c.arrangement.view_is
 
 can : (c : goal.After-put) → CanChange (before c) (reorders (taken c))
-can c = subst (λ (a : Arrangement). CanChange (before c) (reorders a)) (sym c.arrangement.view_is) (subst (λ (x : Core). CanChange x.world (reorders c.args.arrangement)) (sym c.self.view_is) c.requires.found)
+can c = subst (λ (a : Arrangement). CanChange (before c) (reorders a)) (sym (is_taken c)) (subst (λ (x : Core). CanChange x.world (reorders c.args.arrangement)) (sym c.self.view_is) c.requires.found)
 
 -- the change took the one to the other
 changed : (c : goal.After-put) → Changes (before c) (reorders (taken c)) (left c)
@@ -31,7 +35,7 @@ invariant_of-self c = record { standing = arranged_stands c.self.invariant.stand
 
 pub returns-clause-changed : goal.returns-clause-changed
 returns-clause-changed c =
-    subst (λ (a : Arrangement). Changes c.args.self.now.world (reorders a) (left c)) c.arrangement.view_is (subst (λ (x : Core). Changes x.world (reorders (taken c)) (left c)) c.self.view_is (changed c))
+    subst (λ (a : Arrangement). Changes c.args.self.now.world (reorders a) (left c)) (is_taken c) (subst (λ (x : Core). Changes x.world (reorders (taken c)) (left c)) c.self.view_is (changed c))
 
 pub returns-clause-left : goal.returns-clause-left
 returns-clause-left c = subst (λ (x : Core). AreLeft c.self.inside.state.held.goals (λ v. ⊥) x.notes c.self.inside.tries.notes) c.self.view_is (all_left c.self.invariant.exact)

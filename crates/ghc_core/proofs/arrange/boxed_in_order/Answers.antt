@@ -1,0 +1,7 @@
+use Rattle.std.proofs.Common.{subst}
+use Rattle.ghc_term.specs.Lists.{In}
+use Rattle.ghc_records.specs.UseIndex.{RecordsTables}
+use Rattle.ghc_core.proofs.arrange.boxed_in_order.Goals as goal
+
+pub returns-clause-kept : goal.returns-clause-kept
+returns-clause-kept c r i = c.in_ok-new.ensures.kept r (subst (λ (x : RecordsTables). In r x.held) c.in_ok-new-2.ensures.ok i)
