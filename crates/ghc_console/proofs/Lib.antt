@@ -6,7 +6,7 @@ pub mod TextBehind
 pub mod SessionLoop
 mod SessionFirings
 pub mod StepReplies
-pub mod FeedReplies
+pub mod ObeyReplies
 pub mod Settling
 pub mod RecordLines
 pub mod NumberedWords

@@ -1,23 +1,42 @@
 -- How many firings a session has come to.
 use Rattle.std.proofs.Common.{◌≡◌, ◌≤◌, ◌+◌, ◌∙◌, ℕ, Option, None, Some, IfSome, List, [], ◌∷◌, inl, inr, ap, arith}
 use Rattle.std.proofs.lemmas.List.Sums.{sum_by-append}
+use Rattle.ghc_core.specs.CommandCode.{command_of as core_command_of}
+use Rattle.ghc_core.specs.Events.{Command}
+use Rattle.ghc_core.specs.Events as command
 use Rattle.ghc_console.specs.Commands.{command_of}
-use Rattle.ghc_console.specs.Firing.{Fires, firings_in, firings_of, runs_in, runs_of}
+use Rattle.ghc_console.specs.Firing.{Fires, FiresInObeying, firings_in, firings_of, firings_of_obeying, runs_in, runs_of}
 use Rattle.ghc_console.specs.Lines.{lines_of}
 use Rattle.ghc_console.specs.Reading.{TakesLine}
 use Rattle.ghc_console.specs.declared.command.LineCommand.{LineCommand}
-use Rattle.ghc_console.specs.declared.command.LineCommand.TheVariants.{Nothing, Step, Undo, Redo, Roll, Arrange, Show, Records, Goals, Why, Who, Shelf, Save, Spy, Unspy, Input, Close, Leap, Skip, Quit, Unknown}
+use Rattle.ghc_console.specs.declared.command.LineCommand.TheVariants.{Nothing, Step, Obey, Show, Records, Goals, Why, Who, Shelf, Save, Spy, Unspy, Input, Leap, Skip, Quit, Unknown}
+
+-- obeying a command of the core may fire nothing
+pub obeys_nothing : (c : Command) (m n : ℕ) → n ≡ m → FiresInObeying c m n
+obeys_nothing (command.input k t) m n e = e
+obeys_nothing (command.finish k) m n e = e
+obeys_nothing (command.undo k) m n e = e
+obeys_nothing (command.roll k) m n e = e
+obeys_nothing (command.redo k) m n e = inl e
+obeys_nothing (command.arrange order) m n e = e
+
+-- and no more than it asks for
+obeys_few : (c : Command) (m n : ℕ) → FiresInObeying c m n → n ≤ m + firings_of_obeying c
+obeys_few (command.input k t) m n e = omega (arith, e)
+obeys_few (command.finish k) m n e = omega (arith, e)
+obeys_few (command.undo k) m n e = omega (arith, e)
+obeys_few (command.roll k) m n e = omega (arith, e)
+obeys_few (command.redo k) m n (inl e) = omega (arith, e)
+obeys_few (command.redo k) m n (inr e) = omega (arith, e)
+obeys_few (command.arrange order) m n e = omega (arith, e)
 
 -- a command may fire nothing
 pub fires_nothing : (c : LineCommand) (m n : ℕ) → n ≡ m → Fires c m n
 fires_nothing (Step goal choice) m n e = inl e
-fires_nothing (Redo number) m n e = inl e
+fires_nothing (Obey c) m n e = obeys_nothing (core_command_of c) m n e
 fires_nothing (Leap limit) m n e = tt
 fires_nothing (Skip goal limit) m n e = tt
 fires_nothing Nothing m n e = e
-fires_nothing (Undo number) m n e = e
-fires_nothing (Roll number) m n e = e
-fires_nothing (Arrange order) m n e = e
 fires_nothing (Show word) m n e = e
 fires_nothing Records m n e = e
 fires_nothing Goals m n e = e
@@ -28,7 +47,6 @@ fires_nothing Save m n e = e
 fires_nothing (Spy name arity) m n e = e
 fires_nothing (Unspy name arity) m n e = e
 fires_nothing (Input stream given) m n e = e
-fires_nothing (Close stream) m n e = e
 fires_nothing Quit m n e = e
 fires_nothing Unknown m n e = e
 
@@ -36,14 +54,10 @@ fires_nothing Unknown m n e = e
 fires_few : (c : LineCommand) (m n : ℕ) → runs_of c ≡ 0 → Fires c m n → n ≤ m + firings_of c
 fires_few (Step goal choice) m n none (inl e) = omega (arith, e)
 fires_few (Step goal choice) m n none (inr e) = omega (arith, e)
-fires_few (Redo number) m n none (inl e) = omega (arith, e)
-fires_few (Redo number) m n none (inr e) = omega (arith, e)
+fires_few (Obey c) m n none fires = obeys_few (core_command_of c) m n fires
 fires_few (Leap limit) m n none e = absurd (omega (arith, none))
 fires_few (Skip goal limit) m n none e = absurd (omega (arith, none))
 fires_few Nothing m n none e = omega (arith, e)
-fires_few (Undo number) m n none e = omega (arith, e)
-fires_few (Roll number) m n none e = omega (arith, e)
-fires_few (Arrange order) m n none e = omega (arith, e)
 fires_few (Show word) m n none e = omega (arith, e)
 fires_few Records m n none e = omega (arith, e)
 fires_few Goals m n none e = omega (arith, e)
@@ -54,7 +68,6 @@ fires_few Save m n none e = omega (arith, e)
 fires_few (Spy name arity) m n none e = omega (arith, e)
 fires_few (Unspy name arity) m n none e = omega (arith, e)
 fires_few (Input stream given) m n none e = omega (arith, e)
-fires_few (Close stream) m n none e = omega (arith, e)
 fires_few Quit m n none e = omega (arith, e)
 fires_few Unknown m n none e = omega (arith, e)
 

@@ -1,5 +1,5 @@
 -- What the texts of replies say.
-use Rattle.std.proofs.Common.{◌≡◌, ◌≢◌, ◌⊎◌, ◌<◌, inl, inr, refl, sym, subst, ap, ◌∙◌, List, [], ◌∷◌, ◌++◌, append_assoc, ℕ, length, codes, Result, Ok, Err, IfOk, OnOk, OnErr, MatchResult, Option}
+use Rattle.std.proofs.Common.{◌≡◌, ◌≢◌, ◌⊎◌, ◌<◌, inl, inr, refl, sym, subst, subst₂, ap, ◌∙◌, List, [], ◌∷◌, ◌++◌, append_assoc, ℕ, length, codes, Result, Ok, Err, IfOk, OnOk, OnErr, MatchResult, Option}
 use Rattle.ghc_term.specs.declared.fault.Fault.{Fault}
 use Rattle.ghc_term.specs.declared.fault.Fault.TheVariants as fault
 use Rattle.ghc_term.specs.declared.goal_name.GoalName.{GoalName}
@@ -11,13 +11,14 @@ use Rattle.ghc_term.specs.Resolved.{IsTextOf}
 use Rattle.ghc_fire.specs.Proposal.{Proposal}
 use Rattle.ghc_records.specs.Record.{Record}
 use Rattle.ghc_core.specs.World.{World}
+use Rattle.ghc_core.specs.declared.change.Change.TheVariants.{Adds as adds}
 use Rattle.ghc_core.specs.Proposes.{IsCommitOf, StepFails, refused_attempt, no_room}
 use Rattle.ghc_trace.specs.Ports.{Port}
 use Rattle.ghc_trace.specs.PortText.{port_text, ports_text}
 use Rattle.ghc_trace.specs.GoalLaws.{LinesAreOfGoals}
 use Rattle.ghc_trace.specs.GoalLines.{AreGoalLines, HasTooLong}
 use Rattle.ghc_console.specs.VariableNamed.{IsVariableNamed}
-use Rattle.ghc_console.specs.Replies.{Settled, TellsStep, Takes, takes, full, RepliesToStep, steps, fails, RepliesToShow, too_long, RepliesToGoals, no_goals, lists, goal_too_long, lined, refusal, print_limit}
+use Rattle.ghc_console.specs.Replies.{Settled, TellsChange, Takes, takes, full, RepliesToStep, steps, fails, RepliesToShow, too_long, RepliesToGoals, no_goals, lists, goal_too_long, lined, refusal, print_limit}
 
 -- What is known of an answer leads to more about it.
 pub if_ok : {T E : Type 0} (r : Result T E) {P Q R : T → Type 0} → IfOk r P → IfOk r Q → ((t : T) → P t → Q t → R t) → IfOk r R
@@ -42,8 +43,9 @@ step_refused w v g choice f text same (inr (no_room p named answer is_full)) tol
     steps p named answer (subst (λ x. Takes w p x v) (sym told) (subst (Takes w p (refusal fault.Full)) (sym same) (full is_full)))
 
 -- A step that was taken.
-pub step_taken : (w v : World) (p : Proposal) (r : Record) (text : List ℕ) → IsCommitOf w p r → TellsStep w r text v → Takes w p text v
-step_taken w v p r text commit told = subst (Takes w p text) (sym told.2) (takes r commit told.1 (subst (λ u. Settled w u (ports_text told.0) text) told.2 told.3))
+pub step_taken : (w v : World) (p : Proposal) (r : Record) (text : List ℕ) → IsCommitOf w p r → TellsChange w (adds r) text v → Takes w p text v
+step_taken w v p r text commit told =
+    subst (Takes w p text) (sym told.2) (takes r commit told.1.1 (subst₂ (λ u front. Settled w u front text) told.2 told.1.2 told.3))
 
 -- Ports stand one behind another.
 pub ports_joined : (ps qs : List Port) → ports_text (ps ++ qs) ≡ ports_text ps ++ ports_text qs

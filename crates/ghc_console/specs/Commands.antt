@@ -3,10 +3,11 @@ use Rattle.std.specs.Prelude.{ℕ, ◌==◌, Option, None, Some, if◌then◌els
 use Rattle.std.specs.List.{list_all}
 use Rattle.std.specs.Str.{bytes_eq}
 use Rattle.ghc_term.specs.declared.goal_name.GoalName.{GoalName}
+use Rattle.ghc_core.specs.declared.command.Command.TheVariants.{Undo, Redo, Roll, Arrange, Close}
 use Rattle.ghc_console.specs.Words.{behind, goal_name_of, is_printable, is_variable, number_of, numbers_of, words_of}
 use Rattle.ghc_console.specs.PredicateWords.{predicate_of}
 use Rattle.ghc_console.specs.declared.command.LineCommand.{LineCommand}
-use Rattle.ghc_console.specs.declared.command.LineCommand.TheVariants.{Nothing, Step, Undo, Redo, Roll, Arrange, Show, Records, Goals, Why, Who, Shelf, Save, Spy, Unspy, Input, Close, Leap, Skip, Quit, Unknown}
+use Rattle.ghc_console.specs.declared.command.LineCommand.TheVariants.{Nothing, Step, Obey, Show, Records, Goals, Why, Who, Shelf, Save, Spy, Unspy, Input, Leap, Skip, Quit, Unknown}
 
 -- A step with the goal, by the least clause that accepts, where the word named one.
 abbrev pub step_with : Option GoalName → LineCommand
@@ -48,11 +49,11 @@ command_of_one_word name = if bytes_eq name (codes "records") then Records
 
 -- The command of a word with a number: `undo N`, `redo N`, `roll N`, `why N`, `end K` or `leap K`.
 abbrev pub command_with_number : List ℕ → ℕ → LineCommand
-command_with_number name number = if bytes_eq name (codes "undo") then Undo number
-    else (if bytes_eq name (codes "redo") then Redo number
-    else (if bytes_eq name (codes "roll") then Roll number
+command_with_number name number = if bytes_eq name (codes "undo") then Obey (Undo number)
+    else (if bytes_eq name (codes "redo") then Obey (Redo number)
+    else (if bytes_eq name (codes "roll") then Obey (Roll number)
     else (if bytes_eq name (codes "why") then Why number
-    else (if bytes_eq name (codes "end") then Close number
+    else (if bytes_eq name (codes "end") then Obey (Close number)
     else (if bytes_eq name (codes "leap") then leap_of number else Unknown)))))
 
 -- The same, where the word behind said a number.
@@ -97,7 +98,7 @@ command_by_count name (first ∷ second ∷ third ∷ rest) = Unknown
 
 -- The arranging of the record in the order of these numbers, where the words said them.
 abbrev pub arrange_with : Option (List ℕ) → LineCommand
-arrange_with (Some order) = Arrange order
+arrange_with (Some order) = Obey (Arrange order)
 arrange_with None = Unknown
 
 -- An input of the text to the stream of this number, where the word said one, and there is a text.

@@ -1,20 +1,28 @@
 -- What lines fire in the core as they are carried out.
 use Rattle.std.specs.Prelude.{◌≡◌, ◌⊎◌, ℕ, List, sum_by}
 use Rattle.ghc_fire.specs.Meter.{one_more}
+use Rattle.ghc_core.specs.Events.{Command, input, finish, undo, roll, redo, arrange}
+use Rattle.ghc_core.specs.CommandCode.{command_of as core_command_of}
 use Rattle.ghc_console.specs.Commands.{command_of}
 use Rattle.ghc_console.specs.declared.command.LineCommand.{LineCommand}
-use Rattle.ghc_console.specs.declared.command.LineCommand.TheVariants.{Nothing, Step, Undo, Redo, Roll, Arrange, Show, Records, Goals, Why, Who, Shelf, Save, Spy, Unspy, Input, Close, Leap, Skip, Quit, Unknown}
+use Rattle.ghc_console.specs.declared.command.LineCommand.TheVariants.{Nothing, Step, Obey, Show, Records, Goals, Why, Who, Shelf, Save, Spy, Unspy, Input, Leap, Skip, Quit, Unknown}
+
+-- FiresInObeying c old new: obeying the command c of the core takes the count of firings from old to new: a redo fires once, or not at all where it is refused before; no other command fires.
+abbrev pub FiresInObeying : Command → ℕ → ℕ → Type 0
+FiresInObeying (redo n) old new = (new ≡ old) ⊎ (new ≡ one_more old)
+FiresInObeying (input k t) old new = new ≡ old
+FiresInObeying (finish k) old new = new ≡ old
+FiresInObeying (undo n) old new = new ≡ old
+FiresInObeying (roll n) old new = new ≡ old
+FiresInObeying (arrange order) old new = new ≡ old
 
 -- Fires c old new: carrying out the command c takes the count of firings from old to new. A step or a redo fires once in the core, or not at all where it is refused before; of a run nothing is said; no other command fires.
 abbrev pub Fires : LineCommand → ℕ → ℕ → Type 0
 Fires (Step goal choice) old new = (new ≡ old) ⊎ (new ≡ one_more old)
-Fires (Redo number) old new = (new ≡ old) ⊎ (new ≡ one_more old)
+Fires (Obey c) old new = FiresInObeying (core_command_of c) old new
 Fires (Leap limit) old new = Unit {0}
 Fires (Skip goal limit) old new = Unit {0}
 Fires Nothing old new = new ≡ old
-Fires (Undo number) old new = new ≡ old
-Fires (Roll number) old new = new ≡ old
-Fires (Arrange order) old new = new ≡ old
 Fires (Show word) old new = new ≡ old
 Fires Records old new = new ≡ old
 Fires Goals old new = new ≡ old
@@ -25,20 +33,25 @@ Fires Save old new = new ≡ old
 Fires (Spy name arity) old new = new ≡ old
 Fires (Unspy name arity) old new = new ≡ old
 Fires (Input stream given) old new = new ≡ old
-Fires (Close stream) old new = new ≡ old
 Fires Quit old new = new ≡ old
 Fires Unknown old new = new ≡ old
+
+-- how many firings a command of the core may ask for
+abbrev pub firings_of_obeying : Command → ℕ
+firings_of_obeying (redo n) = 1
+firings_of_obeying (input k t) = 0
+firings_of_obeying (finish k) = 0
+firings_of_obeying (undo n) = 0
+firings_of_obeying (roll n) = 0
+firings_of_obeying (arrange order) = 0
 
 -- how many firings a command that is no run may ask for
 abbrev pub firings_of : LineCommand → ℕ
 firings_of (Step goal choice) = 1
-firings_of (Redo number) = 1
+firings_of (Obey c) = firings_of_obeying (core_command_of c)
 firings_of (Leap limit) = 0
 firings_of (Skip goal limit) = 0
 firings_of Nothing = 0
-firings_of (Undo number) = 0
-firings_of (Roll number) = 0
-firings_of (Arrange order) = 0
 firings_of (Show word) = 0
 firings_of Records = 0
 firings_of Goals = 0
@@ -49,7 +62,6 @@ firings_of Save = 0
 firings_of (Spy name arity) = 0
 firings_of (Unspy name arity) = 0
 firings_of (Input stream given) = 0
-firings_of (Close stream) = 0
 firings_of Quit = 0
 firings_of Unknown = 0
 

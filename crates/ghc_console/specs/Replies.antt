@@ -1,5 +1,5 @@
 -- The replies to lines: what is written for each, and which state it leaves.
-use Rattle.std.specs.Prelude.{◌≡◌, ◌≢◌, ◌⊎◌, ◌<◌, ◌≤◌, ℕ, Bool, true, false, List, [], ◌∷◌, ◌++◌, codes, length, map, Option, Some, None}
+use Rattle.std.specs.Prelude.{◌≡◌, ◌≢◌, ◌⊎◌, ◌<◌, ◌≤◌, ℕ, Bool, true, false, List, [], ◌∷◌, ◌++◌, codes, length, map, Option, None}
 use Rattle.std.specs.Fmt.{decimal}
 use Rattle.std.specs.FinMap as finite
 use Rattle.ghc_term.specs.declared.var_name.VarName.{VarName}
@@ -15,16 +15,20 @@ use Rattle.ghc_reader.specs.Read.{IsReadTerm}
 use Rattle.ghc_fire.specs.Attempt.{proposes, refused}
 use Rattle.ghc_fire.specs.Proposal.{Proposal}
 use Rattle.ghc_records.specs.Slots.{SlotList, StandsIn}
-use Rattle.ghc_records.specs.Record.{Record, Shelf}
+use Rattle.ghc_records.specs.Record.{Record, Shelf, numbers}
 use Rattle.ghc_records.specs.Journal.{step_of}
 use Rattle.ghc_records.specs.StepText.{listed, record_text, step_text}
 use Rattle.ghc_records.specs.HistoryText.{history_text}
 use Rattle.ghc_depend.specs.Depend.{IsNotKept}
 use Rattle.ghc_core.specs.World.{World, IsFull, with_step}
-use Rattle.ghc_core.specs.Events.{Reply, stepped, undone, arranged, refused as event_refused}
+use Rattle.ghc_core.specs.Events.{Command}
+use Rattle.ghc_core.specs.Events as command
+use Rattle.ghc_core.specs.CommandCode.{command_of as core_command_of}
 use Rattle.ghc_core.specs.Proposes.{AttemptAnswers, IsCommitOf}
-use Rattle.ghc_core.specs.Reverses.{Undoes, Redoes, Rolls, Arranges}
-use Rattle.ghc_core.specs.Streams.{Inputs, Finishes}
+use Rattle.ghc_core.specs.declared.change.Change.{Change}
+use Rattle.ghc_core.specs.declared.change.Change.TheVariants.{Adds as adds, PutsBack as puts_back, TakesAway as takes_away, TakesAll as takes_all, Reorders as reorders}
+use Rattle.ghc_core.specs.Change.{Changes}
+use Rattle.ghc_core.specs.Asked.{IsAskedFor, IsNotObeyed}
 use Rattle.ghc_core.specs.Load.{history_of}
 use Rattle.ghc_trace.specs.Ports.{Port, ArePorts}
 use Rattle.ghc_trace.specs.PortText.{ports_text}
@@ -41,7 +45,7 @@ use Rattle.ghc_console.specs.RunReplies.{TellsRun, RepliesToSkip}
 use Rattle.ghc_console.specs.VariableNamed.{IsVariableNamed}
 use Rattle.ghc_console.specs.Commands.{command_of}
 use Rattle.ghc_console.specs.declared.command.LineCommand.{LineCommand}
-use Rattle.ghc_console.specs.declared.command.LineCommand.TheVariants.{Nothing as nothing, Step as step, Undo as undo, Redo as redo, Roll as roll, Arrange as arrange, Show as show, Records as records, Goals as goals, Why as why, Who as who, Shelf as shelf, Save as save, Spy as spy, Unspy as unspy, Input as input, Close as close, Leap as leap, Skip as skip, Quit as quit, Unknown as unknown}
+use Rattle.ghc_console.specs.declared.command.LineCommand.TheVariants.{Nothing as nothing, Step as step, Obey as obey, Show as show, Records as records, Goals as goals, Why as why, Who as who, Shelf as shelf, Save as save, Spy as spy, Unspy as unspy, Input as input, Leap as leap, Skip as skip, Quit as quit, Unknown as unknown}
 use Rattle.ghc_console.specs.Reading.{line_limit}
 use Rattle.ghc_console.specs.SessionState.{SessionState, HasClauseFor, LeavesSpies, predicate_text}
 
@@ -73,46 +77,27 @@ numbers_text numbers = listed (codes ",") (map decimal numbers)
 abbrev pub undone_text : List ℕ → List ℕ
 undone_text numbers = lined (codes "undone " ++ numbers_text numbers)
 
--- TellsStep w r text v: the step r is taken, which leaves the world v; the text tells its ports, and what is stuck then.
-abbrev pub TellsStep : World → Record → List ℕ → World → Type 0
-TellsStep w r text v = (ports : List Port) × ArePorts w r ports × (v ≡ with_step r w) × Settled w v (ports_text ports) text
+-- IsFrontOf w change front: the front of a text tells the change of the world w: the ports of the step that is taken, which steps are undone, or that the record is arranged.
+abbrev pub IsFrontOf : World → Change → List ℕ → Type 0
+IsFrontOf w (adds r) front = (ports : List Port) × ArePorts w r ports × (front ≡ ports_text ports)
+IsFrontOf w (puts_back r) front = (ports : List Port) × ArePorts w r ports × (front ≡ ports_text ports)
+IsFrontOf w (takes_away r) front = front ≡ undone_text (r.number ∷ [])
+IsFrontOf w (takes_all gone) front = front ≡ undone_text (numbers gone)
+IsFrontOf w (reorders a) front = front ≡ lined (codes "arranged")
 
--- IsToldAs w v reply text: the text tells which steps were undone, or the ports of the step that was put back or is new, or that the record was arranged, and what is stuck then; or why nothing was done.
-pub data IsToldAs (w v : World) : Reply → List ℕ → Type 0 where
-  tells_steps : {steps text : List ℕ} → Settled w v (undone_text steps) text → IsToldAs w v (undone steps) text
-  tells_ports : {n : ℕ} {r : Record} {ports : List Port} {text : List ℕ} → finite.get w.shelf n ≡ Some r → ArePorts w r ports → Settled w v (ports_text ports) text → IsToldAs w v (stepped n) text
-  tells_new : (r : Record) {n : ℕ} {text : List ℕ} → TellsStep w r text v → IsToldAs w v (stepped n) text
-  tells_order : {text : List ℕ} → Settled w v (lined (codes "arranged")) text → IsToldAs w v arranged text
-  tells_why : {f : Fault} {text : List ℕ} → text ≡ refusal f → IsToldAs w v (event_refused f) text
+-- TellsChange w change text v: the change is made, which leaves the world v; the text tells it, and what is stuck then.
+abbrev pub TellsChange : World → Change → List ℕ → World → Type 0
+TellsChange w change text v = (front : List ℕ) × IsFrontOf w change front × Changes w change v × Settled w v front text
 
--- TakesBack w n text v: the text tells the reply to undoing step n, which leaves the world v.
-abbrev pub TakesBack : World → ℕ → List ℕ → World → Type 0
-TakesBack w n text v = (reply : Reply) × Undoes ⊥ w n reply v × IsToldAs w v reply text
-
--- RollsBack w n text v: the text tells the reply to rolling step n back, which leaves the world v.
-abbrev pub RollsBack : World → ℕ → List ℕ → World → Type 0
-RollsBack w n text v = (reply : Reply) × Rolls ⊥ w n reply v × IsToldAs w v reply text
-
--- PutsBack w n text v: the text tells the reply to redoing step n, which leaves the world v.
-abbrev pub PutsBack : World → ℕ → List ℕ → World → Type 0
-PutsBack w n text v = (reply : Reply) × Redoes ⊥ w n reply v × IsToldAs w v reply text
-
--- Reorders w order text v: the text tells the reply to putting the record into the order, which leaves the world v.
-abbrev pub Reorders : World → List ℕ → List ℕ → World → Type 0
-Reorders w order text v = (reply : Reply) × Arranges ⊥ w order reply v × IsToldAs w v reply text
-
--- Gives w k u text v: the text tells the reply to giving stream k the input u, which leaves the world v.
-abbrev pub Gives : World → ℕ → Tree → List ℕ → World → Type 0
-Gives w k u text v = (reply : Reply) × Inputs ⊥ w k u reply v × IsToldAs w v reply text
-
--- Closes w k text v: the text tells the reply to closing stream k, which leaves the world v.
-abbrev pub Closes : World → ℕ → List ℕ → World → Type 0
-Closes w k text v = (reply : Reply) × Finishes ⊥ w k reply v × IsToldAs w v reply text
+-- IsObeyed w c text v: the change for which the command c asks is made and told, which leaves the world v; or it is told why the command is refused, which changes nothing.
+pub data IsObeyed (w : World) (c : Command) (text : List ℕ) (v : World) : Type 0 where
+  obeys : (change : Change) → IsAskedFor w c change → TellsChange w change text v → IsObeyed w c text v
+  refuses : (f : Fault) → IsNotObeyed w c f → text ≡ refusal f → v ≡ w → IsObeyed w c text v
 
 -- RepliesToInput w k given text v: a test of the reader refuses what is given, whatever stream k is; or it is read as a term, which the stream gets.
 pub data RepliesToInput (w : World) (k : ℕ) (given : List ℕ) : List ℕ → World → Type 0 where
   unread : {f : Fault} → IsRefusal a_term given f → RepliesToInput w k given (refusal f) w
-  reads : (u : Tree) {text : List ℕ} {v : World} → IsReadTerm given u → Gives w k u text v → RepliesToInput w k given text v
+  reads : (u : Tree) {text : List ℕ} {v : World} → IsReadTerm given u → IsObeyed w (command.input k u) text v → RepliesToInput w k given text v
 
 -- RepliesToShow w word text: the variable that the word names, and the term to which it leads; or the refusal where it names none, or the term is too long.
 pub data RepliesToShow (w : World) (word : List ℕ) : List ℕ → Type 0 where
@@ -179,10 +164,7 @@ pub data RepliesToSpy (P : Program) (f : List ℕ) (n : ℕ) : List ℕ → Type
 abbrev pub Replies : Spies → World → LineCommand → List ℕ → World → Type 0
 Replies spies w nothing text v = (text ≡ []) × (v ≡ w)
 Replies spies w (step g choice) text v = RepliesToStep w g choice text v
-Replies spies w (undo n) text v = TakesBack w n text v
-Replies spies w (redo n) text v = PutsBack w n text v
-Replies spies w (roll n) text v = RollsBack w n text v
-Replies spies w (arrange order) text v = Reorders w order text v
+Replies spies w (obey c) text v = IsObeyed w (core_command_of c) text v
 Replies spies w (show word) text v = RepliesToShow w word text × (v ≡ w)
 Replies spies w records text v = (text ≡ records_text w.kept) × (v ≡ w)
 Replies spies w goals text v = RepliesToGoals w text × (v ≡ w)
@@ -193,7 +175,6 @@ Replies spies w save text v = (text ≡ history_text (history_of w)) × (v ≡ w
 Replies spies w (spy f n) text v = RepliesToSpy w.opening.program f n text × (v ≡ w)
 Replies spies w (unspy f n) text v = (text ≡ lined (codes "not spying " ++ predicate_text f n)) × (v ≡ w)
 Replies spies w (input k given) text v = RepliesToInput w k given text v
-Replies spies w (close k) text v = Closes w k text v
 Replies spies w (leap limit) text v = TellsRun spies None limit w text v
 Replies spies w (skip g limit) text v = RepliesToSkip spies w g limit text v
 Replies spies w quit text v = (text ≡ []) × (v ≡ w)
@@ -203,10 +184,7 @@ Replies spies w unknown text v = (text ≡ refusal Fault.Command) × (v ≡ w)
 abbrev pub quits : LineCommand → Bool
 quits nothing = false
 quits (step g choice) = false
-quits (undo n) = false
-quits (redo n) = false
-quits (roll n) = false
-quits (arrange order) = false
+quits (obey c) = false
 quits (show word) = false
 quits records = false
 quits goals = false
@@ -217,7 +195,6 @@ quits save = false
 quits (spy f n) = false
 quits (unspy f n) = false
 quits (input k given) = false
-quits (close k) = false
 quits (leap limit) = false
 quits (skip g limit) = false
 quits quit = true

@@ -8,20 +8,16 @@ ghost use Rattle.ghc_console.specs.Replies.{IsReply, Replies, refusal};
 ghost use Rattle.ghc_console.specs.SessionState.{LeavesSpies, state_of};
 
 use crate::answered::Answered;
-use crate::arrange_reply::arrange;
 use crate::causes::{who, why};
 use crate::command::{LineCommand, parse};
 use crate::debugger::Debugger;
-use crate::feed_reply::{close, input};
+use crate::obey_reply::{input, obey};
 use crate::reading::Line;
-use crate::redo_reply::redo;
 use crate::reply::{goals, records, refused, show, step};
-use crate::roll_reply::roll;
 use crate::run_reply::{leap, skip};
 use crate::save_reply::save;
 use crate::shelf_reply::shelf;
 use crate::spy_reply::{spy, unspy};
-use crate::undo_reply::undo;
 use ghc_term::{Fault, Limit};
 use std::alloc::{AllocError, Global};
 
@@ -44,10 +40,7 @@ fn tell(
     match command {
         LineCommand::Nothing | LineCommand::Quit => Ok(()),
         LineCommand::Step(goal, choice) => step(alloc, &mut debugger.core, *goal, *choice, reply),
-        LineCommand::Undo(number) => undo(alloc, &mut debugger.core, *number, reply),
-        LineCommand::Redo(number) => redo(alloc, &mut debugger.core, *number, reply),
-        LineCommand::Roll(number) => roll(alloc, &mut debugger.core, *number, reply),
-        LineCommand::Arrange(order) => arrange(alloc, &mut debugger.core, order.as_slice(), reply),
+        LineCommand::Obey(command) => obey(alloc, &mut debugger.core, command, reply),
         LineCommand::Show(word) => show(alloc, &debugger.core, word.as_str(), reply),
         LineCommand::Records => records(&debugger.core, reply),
         LineCommand::Goals => goals(alloc, &mut debugger.core, reply),
@@ -69,7 +62,6 @@ fn tell(
         LineCommand::Input(stream, text) => {
             input(alloc, &mut debugger.core, *stream, text.as_slice(), reply)
         }
-        LineCommand::Close(stream) => close(alloc, &mut debugger.core, *stream, reply),
         LineCommand::Unknown => refused(&Fault::Command, reply),
         LineCommand::Leap(_) | LineCommand::Skip(_, _) => unreachable!(),
     }

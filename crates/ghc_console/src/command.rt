@@ -5,10 +5,10 @@ ghost use Rattle.ghc_console.specs.Words.{behind, is_printable, is_variable, num
 ghost use Rattle.ghc_console.specs.Commands.{arrange_with, command_by_count, command_of, command_of_one_word, command_of_three_words, command_of_two_words, command_of_words, command_with_number, command_with_variable, input_to, leap_of, run_limit, skip_by, skip_of};
 
 use crate::input_text::InputText;
-use crate::order::Order;
 use crate::predicate_words::{spy_command, unspy_command};
 use crate::word::Word;
 use crate::words::{goal_name, is_variable_word, next_word, number, unindented};
+use ghc_core::{Command, Order};
 use ghc_term::{GoalName, Name};
 use std::alloc::{AllocError, Global};
 
@@ -22,14 +22,8 @@ pub enum LineCommand {
     Nothing,
     /// A step with the goal, by the clause of this number where one is named.
     Step(GoalName, Option<u32>),
-    /// The undoing of the step of this number.
-    Undo(u32),
-    /// The redoing of the step of this number.
-    Redo(u32),
-    /// The rollback of the step of this number and its consequences.
-    Roll(u32),
-    /// The arranging of the record in the order of these numbers.
-    Arrange(Order),
+    /// A command to the core, but an input.
+    Obey(Command),
     /// The value of the variable that is written so.
     Show(Word),
     /// The record.
@@ -50,8 +44,6 @@ pub enum LineCommand {
     Unspy(Name, u32),
     /// The input of what the text says to the stream of this number.
     Input(u32, InputText),
-    /// The closing of the stream of this number.
-    Close(u32),
     /// A run of as many steps as this at most.
     Leap(u32),
     /// A run of as many steps as this at most, of the goals that descend from this one.
@@ -126,19 +118,19 @@ fn number_command(first_word: &[u8], step: u32) -> LineCommand
     ensures { result ≡ command_with_number first_word.now step }
 {
     if first_word == b"undo".as_slice() {
-        return LineCommand::Undo(step);
+        return LineCommand::Obey(Command::Undo(step));
     }
     if first_word == b"redo".as_slice() {
-        return LineCommand::Redo(step);
+        return LineCommand::Obey(Command::Redo(step));
     }
     if first_word == b"roll".as_slice() {
-        return LineCommand::Roll(step);
+        return LineCommand::Obey(Command::Roll(step));
     }
     if first_word == b"why".as_slice() {
         return LineCommand::Why(step);
     }
     if first_word == b"end".as_slice() {
-        return LineCommand::Close(step);
+        return LineCommand::Obey(Command::Close(step));
     }
     if first_word == b"leap".as_slice() {
         return leap_command(step);
@@ -241,7 +233,7 @@ fn arrange_command(alloc: Global, words: &[u8]) -> Result<LineCommand, AllocErro
         order.push(step)?;
         rest = behind;
     }
-    Ok(LineCommand::Arrange(order))
+    Ok(LineCommand::Obey(Command::Arrange(order)))
 }
 
 // The input to the stream that the first word says, of all that stands behind the spaces behind it.

@@ -3,17 +3,17 @@ ghost use Rattle.std.specs.Prelude.{◌≡◌, ◌≢◌, ◌⊎◌, ◌++◌, [
 ghost use Rattle.ghc_fire.specs.Meter.{one_more};
 ghost use Rattle.ghc_records.specs.Replay.{MakesGoal};
 ghost use Rattle.ghc_depend.specs.Depend.{Binds};
-ghost use Rattle.ghc_core.specs.World.{IsNextStep};
 ghost use Rattle.ghc_trace.specs.Disturbed.{AreDisturbed};
 ghost use Rattle.ghc_trace.specs.Laws.{IsSettled};
 ghost use Rattle.ghc_trace.specs.Ports.{Port, ArePorts};
 ghost use Rattle.ghc_trace.specs.PortText.{ports_text};
-ghost use Rattle.ghc_console.specs.Replies.{RepliesToStep, RepliesToShow, RepliesToGoals, TellsStep, lined, record_lines, TellsSlot, records_text, refusal};
+ghost use Rattle.ghc_console.specs.Replies.{RepliesToStep, RepliesToShow, RepliesToGoals, lined, record_lines, TellsSlot, records_text, refusal};
 
 use crate::asking::variable_named;
-use crate::settled::{make, settle};
+use crate::obey_reply::carry_out;
+use crate::settled::settle;
 use ghc_core::{Change, Core};
-use ghc_records::{Addition, Record, Records, push_record};
+use ghc_records::{Record, Records, push_record};
 use ghc_term::{Fault, GoalName, Term, print};
 use ghc_trace::{
     Disturbed, lines_are_of_goals, notes_tell_goals, notes_tell_ports, push_goals, push_ports_of,
@@ -53,26 +53,6 @@ pub fn push_ports(
     Ok(())
 }
 
-/// Tells the ports of the step, takes it, and tells what is stuck then. An error leaves the world as it was.
-pub(crate) fn take(
-    alloc: Global,
-    core: &mut Core,
-    addition: Addition,
-    reply: &mut String,
-) -> Result<(), AllocError>
-    requires empty { string_bytes reply.old ≡ [] }
-    requires settled { IsSettled core.old.world core.old.notes }
-    requires found { IsNextStep core.old.world addition }
-    ensures told { OnOk result (TellsStep core.old.world addition (string_bytes reply.new) core.new.world) }
-    ensures err { OnErr result (core.new.world ≡ core.old.world) }
-    ensures firings { core.new.meter.firings ≡ core.old.meter.firings }
-{
-    let step = addition.step();
-    let disturbed = Disturbed::by_taking(alloc, core.tries(), step)?;
-    push_ports(&disturbed, core, step, reply)?;
-    make(alloc, core, Change::Adds(addition), &disturbed, reply)
-}
-
 /// Takes a step of the goal, by the clause chosen or else by the least that accepts, and tells its ports and what is stuck
 /// then; or its refusal. What is untried is tried first, so that it is known what waits; the step is then fired at most once.
 /// The change is found, then the text of its ports is made, and then room; an error leaves the world as it was.
@@ -90,7 +70,7 @@ pub fn step(
 {
     settle(alloc, core)?;
     match core.prepare_step(alloc, goal, choice) {
-        Ok(addition) => take(alloc, core, addition, reply),
+        Ok(addition) => carry_out(alloc, core, Change::Adds(addition), reply),
         Err(fault) => refused(&fault, reply),
     }
 }

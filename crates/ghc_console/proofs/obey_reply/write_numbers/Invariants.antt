@@ -5,7 +5,7 @@ use denote.Text.{Utf8}
 use denote.Shadow.{shadow}
 use Rattle.ghc_records.proofs.Listing.{led}
 use Rattle.ghc_console.specs.Replies.{numbers_text}
-use Rattle.ghc_console.proofs.roll_reply.write_numbers.Given as goal
+use Rattle.ghc_console.proofs.obey_reply.write_numbers.Given as goal
 
 abbrev pub invariant-loop-number : goal.invariant-loop-number
 invariant-loop-number l =

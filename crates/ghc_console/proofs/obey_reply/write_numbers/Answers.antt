@@ -3,7 +3,7 @@ use Rattle.std.specs.Prelude.{codes}
 use Rattle.std.specs.Fmt.{decimal}
 use Rattle.std.proofs.lemmas.List.{drop_more}
 use Rattle.ghc_records.proofs.Listing.{led, led_next}
-use Rattle.ghc_console.proofs.roll_reply.write_numbers.Goals as goal
+use Rattle.ghc_console.proofs.obey_reply.write_numbers.Goals as goal
 
 pub loop-number-preserved : goal.loop-number-preserved
 loop-number-preserved c =

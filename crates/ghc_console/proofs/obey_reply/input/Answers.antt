@@ -1,11 +1,11 @@
 use Rattle.std.proofs.Common.{string_bytes}
 use Rattle.ghc_console.specs.Replies.{reads}
-use Rattle.ghc_console.proofs.FeedReplies.{text_refused}
+use Rattle.ghc_console.proofs.ObeyReplies.{text_refused}
 use Rattle.ghc_console.proofs.StepReplies.{if_ok, on_ok}
-use Rattle.ghc_console.proofs.feed_reply.input.Goals as goal
+use Rattle.ghc_console.proofs.obey_reply.input.Goals as goal
 
 pub returns-in-Ok-clause-text : goal.returns-in-Ok-clause-text
-returns-in-Ok-clause-text c = on_ok c.give.result c.give.ensures.text (λ gives. reads c.in-Ok.input c.in-Ok.ensures.answer.0 gives)
+returns-in-Ok-clause-text c = on_ok c.obey.result c.obey.ensures.text (λ obeyed. reads c.in-Ok.input c.in-Ok.ensures.answer.0 obeyed)
 
 pub returns-in-Err-clause-text : goal.returns-in-Err-clause-text
 returns-in-Err-clause-text c = if_ok c.refused.result c.refused.ensures.text c.refused.ensures.memory (λ _ told kept.

@@ -1,0 +1,15 @@
+use Rattle.std.proofs.Common.{IfOk, sym, subst}
+use Rattle.ghc_core.specs.Change.{IsBoundBy}
+use Rattle.ghc_core.specs.declared.change.Change.{Change}
+use Rattle.ghc_trace.specs.Disturbed.{AreDisturbed}
+use Rattle.ghc_trace.specs.Laws.{Brings}
+use Rattle.ghc_console.proofs.obey_reply.disturbed_by.Goals as goal
+
+pub returns-in-TakesAll : goal.returns-in-TakesAll
+returns-in-TakesAll c =
+    subst (λ (change : Change). IfOk c.by_rolling_back.result (λ d. AreDisturbed c.args.tries.now.notes (IsBoundBy change) (Brings change) d)) (sym c.in-TakesAll.is) c.by_rolling_back.ensures
+
+pub returns-in-Reorders : goal.returns-in-Reorders
+returns-in-Reorders c =
+    let notes = c.args.tries.now.notes in
+    subst (λ (change : Change). AreDisturbed notes (IsBoundBy change) (Brings change) c.by_arranging.result) (sym c.in-Reorders.is) (c.by_arranging.ensures notes)

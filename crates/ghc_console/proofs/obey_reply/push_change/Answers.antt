@@ -1,0 +1,22 @@
+use Rattle.std.proofs.Common.{◌≡◌, List, sym, subst, string_bytes}
+use Rattle.ghc_records.specs.Record.{Record}
+use Rattle.ghc_core.specs.declared.change.Change.{Change}
+use Rattle.ghc_trace.specs.Ports.{Port, ArePorts}
+use Rattle.ghc_trace.specs.PortText.{ports_text}
+use Rattle.ghc_console.specs.Replies.{IsFrontOf}
+use Rattle.ghc_console.proofs.StepReplies.{on_ok}
+use Rattle.ghc_console.proofs.obey_reply.push_change.Goals as goal
+
+pub returns-in-Adds : goal.returns-in-Adds
+returns-in-Adds c = on_ok c.push_ports.result c.push_ports.ensures (λ told.
+    let w = c.args.core.now.world in
+    let text = string_bytes c.push_ports.new.reply in
+    subst (λ (change : Change). IsFrontOf w change text) (sym c.in-Adds.is)
+    (subst (λ (r : Record). (ports : List Port) × ArePorts w r ports × (text ≡ ports_text ports)) c.step.ensures told))
+
+pub returns-in-PutsBack : goal.returns-in-PutsBack
+returns-in-PutsBack c = on_ok c.push_ports-in-PutsBack.result c.push_ports-in-PutsBack.ensures (λ told.
+    let w = c.args.core.now.world in
+    let text = string_bytes c.push_ports-in-PutsBack.new.reply in
+    subst (λ (change : Change). IsFrontOf w change text) (sym c.in-PutsBack.is)
+    (subst (λ (r : Record). (ports : List Port) × ArePorts w r ports × (text ≡ ports_text ports)) c.step-in-PutsBack.ensures told))
