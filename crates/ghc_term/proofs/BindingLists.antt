@@ -2,6 +2,8 @@
 use Rattle.std.proofs.Common.{◌≡◌, ◌≢◌, ℕ, zero, suc, ◌+◌, ◌<◌, true, false, cond, List, [], ◌∷◌, ◌++◌, length, get_or, drop, take, slice_get, slice_set, Some, None, is_some, All, inl, inr, refl, sym, ap, ◌∙◌, subst}
 use Rattle.std.specs.List.{AllByRecursion, IsDistinct}
 use Rattle.std.specs.Map.{keys_of, lookup}
+use Rattle.std.specs.Ordering.{eq_by_cmp}
+use Rattle.std.specs.Cmp.{eq_by_cmp_equiv}
 use Rattle.std.specs.FinMap as finite
 use Rattle.std.proofs.lemmas.List.{drop_more, map-append, take-map, get_or-map}
 use Rattle.std.proofs.lemmas.List.Elements.{All-contains}
@@ -40,6 +42,19 @@ no_value es x n =
     elim (finite.find name_cmp x es) as (λ o. finite.find name_cmp x es ≡ o → o ≡ None) [
       | None ↦ λ e. refl
       | Some t ↦ λ e. absurd (n (key_in es x (ap is_some e)))
+    ] refl
+
+-- a name without a value is not there
+pub not_there : (es : Entries) (x : VarName) → finite.find name_cmp x es ≡ None → ¬ In x (keys_of es)
+not_there [] x n i = absurd i
+not_there (b ∷ es) x n i =
+    let rest = finite.find name_cmp x es in
+    elim (eq_by_cmp name_cmp x b.0) as (λ c. eq_by_cmp name_cmp x b.0 ≡ c → ⊥) [
+      | true ↦ λ p. let clash : Some b.1 ≡ None = ap (λ c. cond c (Some b.1) rest) (sym p) ∙ n in cc
+      | false ↦ λ p. elim i [
+        | inl s ↦ let clash : true ≡ false = sym ((eq_by_cmp_equiv name_total).refl x) ∙ ap (eq_by_cmp name_cmp x) s ∙ p in cc
+        | inr j ↦ not_there es x (ap (λ c. cond c (Some b.1) rest) (sym p) ∙ n) j
+      ]
     ] refl
 
 -- the entry at a place is changed

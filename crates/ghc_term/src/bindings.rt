@@ -1,5 +1,5 @@
 // What a step binds.
-ghost use Rattle.std.specs.Prelude.{◌≡◌, ◌≢◌, ◌↔◌, [], ◌∷◌, length, IfOk, IfSome, IfNone, IsTrue, OnOk, OnErr, option_copied, Some, All, slice_get};
+ghost use Rattle.std.specs.Prelude.{◌≡◌, ◌≢◌, ◌↔◌, [], ◌∷◌, length, IfOk, IfSome, IfNone, IsTrue, OnOk, OnErr, option_copied, Some, None, All, slice_get};
 ghost use Rattle.std.specs.FinMap as finite;
 ghost use Rattle.std.specs.Map.{keys_of};
 ghost use Rattle.ghc_term.specs.BindingTable.{AreOnce, map_of};
@@ -102,6 +102,18 @@ fn put(list: &mut Vec<(VarName, Term)>, x: VarName, value: Term) -> Result<(), A
     Ok(())
 }
 
+// Binds a variable in the list that is not bound there.
+fn push_new(list: &mut Vec<(VarName, Term)>, x: VarName, value: Term) -> Result<(), AllocError>
+    requires once { AreOnce list.old.items }
+    requires new { value_at (map_of list.old.items) x ≡ None }
+    ensures once { AreOnce list.new.items }
+    ensures ok { OnOk result (map_of list.new.items ≡ finite.insert (map_of list.old.items) x value) }
+    ensures err { OnErr result (list.new.items ≡ list.old.items) }
+{
+    list.push((x, value))?;
+    Ok(())
+}
+
 impl Held {
     ghost use Rattle.ghc_term.specs.BindingList.{in_order};
 
@@ -187,6 +199,23 @@ impl Bindings {
             }
             Held::Tabled(table) => table.insert(x, value),
         }
+    }
+
+    /// Binds a variable that is not bound here: one step, where a few are bound and there is room.
+    pub fn add(&mut self, x: VarName, value: Term) -> Result<(), AllocError>
+        requires { value_at self.old x ≡ None }
+        ensures ok { OnOk result (self.new ≡ finite.insert self.old x value) }
+        ensures err { OnErr result (self.new ≡ self.old) }
+    {
+        match &mut self.held {
+            Held::Listed(list) => {
+                if list.len() < MOST_LISTED {
+                    return push_new(list, x, value);
+                }
+            }
+            _ => {}
+        }
+        self.insert(x, value)
     }
 
     /// The bindings, each once.

@@ -1,6 +1,8 @@
 // Goals: calls, unifications, assignments and streams.
-ghost use Rattle.std.specs.Prelude.{◌≡◌, IfOk};
+ghost use Rattle.std.specs.Prelude.{◌≡◌, ◌≢◌, ℕ, List, IfOk, IfSome, IfNone};
 ghost use Rattle.ghc_term.specs.Goal.{call, unify, assign, stream};
+ghost use Rattle.ghc_term.specs.GoalShape.{IsCall, call_of};
+ghost use Rattle.ghc_term.specs.Tree.{Tree};
 
 use crate::expr::Expr;
 use crate::goal_view::GoalView;
@@ -57,6 +59,16 @@ impl Goal {
         })
     }
 
+    /// The call that is written as the term, an atom or a structure.
+    pub fn written_as(term: Term) -> Goal
+        requires { IsCall term }
+        ensures { result ≡ call_of term }
+    {
+        Goal {
+            shape: Shape::Call(term),
+        }
+    }
+
     /// A unification, `left = right`.
     pub fn unify(left: Term, right: Term) -> Goal
         ensures { result ≡ unify left right }
@@ -95,6 +107,19 @@ impl Goal {
             Shape::Stream(number, tail) => Shape::Stream(*number, *tail),
         };
         Ok(Goal { shape })
+    }
+
+    /// The atom or the structure as which the goal is written, if it is a call: one step.
+    pub fn as_term(&self) -> Option<&Term>
+        ensures call { IfSome result (λ t. IsCall t.now × (self.now ≡ call_of t.now)) }
+        ensures other { IfNone result ((f : List ℕ) (ts : List Tree) → self.now ≢ call f ts) }
+    {
+        match &self.shape {
+            Shape::Call(term) => Some(term),
+            Shape::Unify(_, _) => None,
+            Shape::Assign(_, _) => None,
+            Shape::Stream(_, _) => None,
+        }
     }
 
     /// The goal lent in parts: one step.

@@ -1,10 +1,10 @@
 // Names of atoms and functors: texts that are shared.
-ghost use Rattle.std.specs.Prelude.{◌≡◌, IfOk, Some, refl, bytes_eq, string_bytes};
+ghost use Rattle.std.specs.Prelude.{◌≡◌, IfOk, Some, refl, bytes_eq, nat_eq, string_bytes};
 ghost use Rattle.std.proofs.Common.{rules};
 ghost use Rattle.std.specs.Ordering.{nat_cmp};
 ghost use Rattle.std.specs.Hash as fed;
 ghost use Rattle.std.specs.Cmp.{partial_equiv_from_equiv};
-ghost use Rattle.std.specs.Cmp.Lexicographic.{slice_cmp, nat_list_eq_equiv, nat_list_cmp_total, texts_ties, texts_po};
+ghost use Rattle.std.specs.Cmp.Lexicographic.{pointwise, slice_cmp, nat_list_eq_equiv, nat_list_cmp_total, texts_ties, texts_po};
 ghost use Rattle.std.specs.Cmp.Rules.{hashing};
 
 use std::alloc::{AllocError, Global};
@@ -71,13 +71,23 @@ impl AsStr for Name {
     }
 }
 
+// Whether the texts are the same. Most names that are compared are of one byte, as that of a list cell is.
+fn are_same(left: &[u8], right: &[u8]) -> bool
+    ensures { result ≡ pointwise nat_eq left.now right.now }
+{
+    match (left, right) {
+        ([x], [y]) => x == y,
+        _ => left == right,
+    }
+}
+
 impl PartialEq for Name {
     ghost eq = { bytes_eq };
 
     ghost laws = { partial_equiv_from_equiv nat_list_eq_equiv };
 
     fn eq(&self, other: &Name) -> bool {
-        self.as_str() == other.as_str()
+        are_same(self.as_str().as_bytes(), other.as_str().as_bytes())
     }
 }
 
