@@ -1,6 +1,6 @@
 -- A store and the entries of its map.
 use Rattle.std.proofs.Common.{◌≡◌, ℕ, arith, Bool, cond, ◌&&◌, List, ap, ◌∙◌, nat_eq}
-use Rattle.std.specs.Prelude.{Some, None}
+use Rattle.std.specs.Prelude.{Some}
 use Rattle.std.proofs.lemmas.Bool.Decides.{nat_tests}
 use Rattle.std.specs.Map.{lookup}
 use Rattle.std.specs.Ordering.{eq_by_cmp, is_eq, nat_cmp}
@@ -25,9 +25,6 @@ same_is x y = ap (λ b. b && nat_eq x.place y.place) (tie x.step y.step) ∙ ap 
 pub lookup_at : (x : VarName) (es : List (VarName × Tree)) → lookup (same x) es ≡ value_at (finite.from_entries es) x
 lookup_at = indexed.value_is name_total name_antisymmetric same same_is
 
--- a map with one entry more or less
+-- a map with one entry more
 pub inserted : (es new : List (VarName × Tree)) (x : VarName) (t : Tree) → ((q : VarName) → lookup (same q) new ≡ cond (same x q) (Some t) (lookup (same q) es)) → finite.from_entries new ≡ finite.insert (finite.from_entries {R = name_cmp} es) x t
 inserted = indexed.inserted name_total name_antisymmetric same same_is
-
-pub removed : (es new : List (VarName × Tree)) (x : VarName) → ((q : VarName) → lookup (same q) new ≡ cond (same x q) None (lookup (same q) es)) → finite.from_entries new ≡ finite.remove (finite.from_entries {R = name_cmp} es) x
-removed = indexed.removed name_total name_antisymmetric same same_is

@@ -31,3 +31,4 @@ pub mod Alike
 pub mod Members
 pub mod VariableLists
 pub mod BindingLists
+pub mod VariableMaps

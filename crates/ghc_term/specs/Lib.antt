@@ -14,6 +14,7 @@ pub mod Falls
 pub mod Bindings
 pub mod Store
 pub mod Table
+pub mod VariableMap
 pub mod NameHash
 pub mod VariableList
 pub mod BindingTable

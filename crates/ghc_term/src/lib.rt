@@ -25,6 +25,7 @@ mod store;
 mod term;
 mod var_name;
 mod variable_list;
+mod variable_map;
 mod variables;
 mod view;
 
@@ -50,5 +51,6 @@ pub use printing::{
 pub use store::Store;
 pub use term::Term;
 pub use var_name::VarName;
+pub use variable_map::VariableMap;
 pub use variables::Variables;
 pub use view::TermView;

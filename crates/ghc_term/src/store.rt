@@ -1,32 +1,24 @@
 // The bindings of variables.
 ghost use Rattle.std.specs.Prelude.{◌≡◌, ◌≤◌, ◌↔◌, ◌⊎◌, length, IfOk, IfErr, OnOk, OnErr, IsTrue, None, Some};
 ghost use Rattle.std.specs.FinMap as finite;
-ghost use Rattle.indexmap.specs.IndexMap.{spare};
 ghost use Rattle.ghc_term.specs.Store.{with_binds};
 
 use crate::bindings::Bindings;
 use crate::fault::Fault;
-use crate::name_hasher::NameMap;
 use crate::overlay::Overlay;
 use crate::term::Term;
 use crate::var_name::VarName;
+use crate::variable_map::VariableMap;
 use crate::view::TermView;
-use indexmap::IndexMap;
 use std::alloc::{AllocError, Global};
-use std::hash::BuildHasherDefault;
 use std::marker::Model;
-
-// Bindings by their variables.
-type Table = NameMap<VarName, Term>;
 
 /// What variables are bound to: a finite map in which no value reaches its own variable.
 pub struct Store {
-    map: Table,
+    map: VariableMap<Term>,
 }
 
 impl Model for Store {
-    ghost use Rattle.std.specs.FinMap as finite;
-    ghost use Rattle.indexmap.specs.IndexMap.{spare};
     ghost use Rattle.ghc_term.specs.Store.{StoreValue, store_code, value_at};
     ghost use Rattle.ghc_term.specs.Table.{Table, table_code};
     ghost use Rattle.ghc_term.specs.Bindings.{IsAcyclic};
@@ -35,18 +27,18 @@ impl Model for Store {
 
     ghost coded = { table_code store_code };
 
-    ghost view = { λ s. record { held = finite.from_entries s.map.entries; room = spare s.map } };
+    ghost view = { λ s. s.map };
 
-    ghost invariant = { λ s. IsAcyclic (value_at (finite.from_entries s.map.entries)) };
+    ghost invariant = { λ s. IsAcyclic (value_at s.map.held) };
 }
 
 // Puts each entry of the list into the map, where there is room, the last first.
-fn put_each(map: &mut Table, mut entries: Vec<(VarName, Term)>)
-    requires { length entries.items ≤ spare map.old }
-    ensures { finite.from_entries map.new.entries ≡ with_binds entries.items (finite.from_entries map.old.entries) }
+fn put_each(map: &mut VariableMap<Term>, mut entries: Vec<(VarName, Term)>)
+    requires { length entries.items ≤ map.old.room }
+    ensures { map.new.held ≡ with_binds entries.items map.old.held }
 {
     while let Some((x, value)) = entries.pop() {
-        map.insert(x, value).unwrap();
+        map.put(x, value);
     }
 }
 
@@ -62,7 +54,7 @@ impl Store {
         ensures { result.held ≡ finite.empty }
     {
         Store {
-            map: IndexMap::with_hasher(alloc, BuildHasherDefault::new()),
+            map: VariableMap::new(alloc),
         }
     }
 
@@ -77,7 +69,7 @@ impl Store {
     pub fn get(&self, x: VarName) -> Option<&Term>
         ensures { option_copied result ≡ value_at self.now.held x }
     {
-        self.map.get(&x)
+        self.map.get(x)
     }
 
     /// Where the chain of the term ends: an unbound variable or a value. One look-up for each variable passed.
@@ -117,7 +109,7 @@ impl Store {
         ensures { IfOk result (λ yes. IsTrue yes ↔ Reaches (value_at self.now.held) from.now to) }
     {
         self.acyclic();
-        let alloc = *self.map.allocator();
+        let alloc = self.map.allocator();
         let none = Bindings::new(alloc);
         let overlay = Overlay {
             store: self,
@@ -158,10 +150,9 @@ impl Store {
         if self.reaches(&value, x)? {
             return Err(Fault::Cycle);
         }
-        match self.map.insert(x, value) {
-            Ok(_) => Ok(()),
-            Err(_) => Err(Fault::Memory),
-        }
+        self.map.reserve(1)?;
+        self.map.put(x, value);
+        Ok(())
     }
 
     /// Takes a binding away and gives its value, if the variable was bound: one look-up. The room does not shrink.
@@ -170,7 +161,7 @@ impl Store {
         ensures held { self.new.held ≡ finite.remove self.old.held x }
         ensures room { self.old.room ≤ self.new.room }
     {
-        self.map.swap_remove(&x)
+        self.map.remove(x)
     }
 }
 

@@ -3,8 +3,6 @@ use Rattle.std.specs.FinMap as finite
 use Rattle.ghc_term.specs.declared.var_name.VarName.{VarName}
 use Rattle.ghc_term.specs.Tree.{Tree}
 use Rattle.ghc_term.specs.Store.{StoreValue, with_binds}
-use Rattle.ghc_term.proofs.Indexed.{done}
-use Rattle.ghc_term.proofs.Entries.{inserted}
 use Rattle.ghc_term.proofs.store.put_each.Goals as goal
 
 -- the last binding of a list is made first
@@ -22,18 +20,11 @@ some_room all left b room split within = let long = ap length split ∙ length-a
 fewer : (all left : List (VarName × Tree)) (b : VarName × Tree) (room after : ℕ) → all ≡ left ++ b ∷ [] → length all ≤ room → room ≤ after + 1 → length left ≤ after
 fewer all left b room after split within room_left = let long = ap length split ∙ length-append left (b ∷ []) in omega (arith, long, within, room_left)
 
-pub loop-x-preserved-in-Some : goal.loop-x-preserved-in-Some
-loop-x-preserved-in-Some c =
-    let room = some_room c.loop-x.entries.items c.pop.new.self.items (c.in-Some.x, c.in-Some.value) _ c.in-Some.ensures.items c.loop-x.invariant.0 in
-    let made = inserted c.loop-x.map.entries c.insert.new.self.entries c.in-Some.x c.in-Some.value (done c.insert.result (c.insert.ensures.succeeds room) c.insert.ensures.updates).0 in (
-      fewer c.loop-x.entries.items c.pop.new.self.items (c.in-Some.x, c.in-Some.value) _ _ c.in-Some.ensures.items c.loop-x.invariant.0 c.insert.ensures.spare,
-      next c.loop-x.entries.items c.pop.new.self.items (c.in-Some.x, c.in-Some.value) _ _ _ c.in-Some.ensures.items made c.loop-x.invariant.1,
-    )
+pub put-requires : goal.put-requires
+put-requires c = some_room c.loop-x.entries.items c.pop.new.self.items (c.in-Some.x, c.in-Some.value) _ c.in-Some.ensures.items c.loop-x.invariant.0
 
 pub loop-x-preserved : goal.loop-x-preserved
-loop-x-preserved c =
-    let room = some_room c.loop-x.entries.items c.pop.new.self.items (c.in-Some.x, c.in-Some.value) _ c.in-Some.ensures.items c.loop-x.invariant.0 in
-    let made = inserted c.loop-x.map.entries c.insert.new.self.entries c.in-Some.x c.in-Some.value (done c.insert.result (c.insert.ensures.succeeds room) c.insert.ensures.updates).0 in (
-      fewer c.loop-x.entries.items c.pop.new.self.items (c.in-Some.x, c.in-Some.value) _ _ c.in-Some.ensures.items c.loop-x.invariant.0 c.insert.ensures.spare,
-      next c.loop-x.entries.items c.pop.new.self.items (c.in-Some.x, c.in-Some.value) _ _ _ c.in-Some.ensures.items made c.loop-x.invariant.1,
-    )
+loop-x-preserved c = (
+  fewer c.loop-x.entries.items c.pop.new.self.items (c.in-Some.x, c.in-Some.value) _ _ c.in-Some.ensures.items c.loop-x.invariant.0 c.put.ensures.room,
+  next c.loop-x.entries.items c.pop.new.self.items (c.in-Some.x, c.in-Some.value) _ _ _ c.in-Some.ensures.items c.put.ensures.held c.loop-x.invariant.1,
+)

@@ -1,0 +1,21 @@
+use Rattle.std.proofs.Common.{sym, ap, ◌∙◌}
+use Rattle.std.specs.Option.{option_or}
+use Rattle.std.specs.FinMap as finite
+use Rattle.ghc_term.specs.VariableMap.{values_in, first_at}
+use Rattle.ghc_term.proofs.VariableMaps.{value_first, value_other}
+use Rattle.ghc_term.proofs.variable_map.VariableMap.get.Goals as goal
+
+pub returns-then-x-ne1 : goal.returns-then-x-ne1
+returns-then-x-ne1 g c = c.other.ensures ∙ sym (value_other c.self.inside.firsts.items c.self.inside.others.entries c.args.x c.if-x-ne1.true) ∙ ap (λ t. finite.get t.held c.args.x) c.self.view_is
+
+pub returns-in-Some : goal.returns-in-Some
+returns-in-Some g c =
+    let i = c.self.inside in
+    ap (λ o. option_or o (finite.get (values_in i.others.entries) c.args.x)) (c.in-Some.ensures ∙ ap (λ l. first_at l c.args.x.step) c.deref.ensures.value)
+    ∙ sym (value_first i.firsts.items i.others.entries c.args.x c.if-x-ne1.false) ∙ ap (λ t. finite.get t.held c.args.x) c.self.view_is
+
+pub returns-in-None : goal.returns-in-None
+returns-in-None g c =
+    let i = c.self.inside in
+    c.other-in-None.ensures ∙ ap (λ o. option_or o (finite.get (values_in i.others.entries) c.args.x)) (c.in-None.ensures ∙ ap (λ l. first_at l c.args.x.step) c.deref.ensures.value)
+    ∙ sym (value_first i.firsts.items i.others.entries c.args.x c.if-x-ne1.false) ∙ ap (λ t. finite.get t.held c.args.x) c.self.view_is

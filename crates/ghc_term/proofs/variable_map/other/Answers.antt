@@ -1,0 +1,8 @@
+use Rattle.std.proofs.Common.{◌∙◌}
+use Rattle.ghc_term.proofs.Indexed.{value_is}
+use Rattle.ghc_term.proofs.Entries.{same, same_is}
+use Rattle.ghc_term.proofs.Names.{name_total, name_antisymmetric}
+use Rattle.ghc_term.proofs.variable_map.other.Goals as goal
+
+pub returns : goal.returns
+returns g c = c.get.ensures.value ∙ value_is name_total name_antisymmetric same same_is c.args.x c.args.others.now.entries
