@@ -1,5 +1,5 @@
 -- Values under variables, of which those under the first variables of steps stand in a list by step.
-use Rattle.std.proofs.Common.{◌≡◌, ◌≢◌, ◌<◌, ◌≤◌, ◌+◌, ℕ, zero, suc, cond, true, false, List, [], ◌∷◌, ◌++◌, length, refl, sym, ap, ◌∙◌, subst, nat_eq, arith}
+use Rattle.std.proofs.Common.{◌≡◌, ◌≢◌, ◌<◌, ◌≤◌, ◌+◌, ℕ, zero, suc, cond, Bool, true, false, List, [], ◌∷◌, ◌++◌, length, refl, sym, ap, ◌∙◌, subst, nat_eq, arith}
 use Rattle.std.specs.Prelude.{Option, Some, None, slice_set}
 use Rattle.std.specs.Option.{option_or}
 use Rattle.std.specs.Ordering.{eq_by_cmp}
@@ -18,12 +18,19 @@ past_none [] x h = refl
 past_none (o ∷ vs) zero h = absurd (omega (arith, h))
 past_none (o ∷ vs) (suc x) h = past_none vs x (omega (arith, h))
 
--- a list that has grown by a place without a value
-pub one_more : {V : Type 0} (vs : List (Option V)) (x : ℕ) → first_at (vs ++ None ∷ []) x ≡ first_at vs x
-one_more [] zero = refl
-one_more [] (suc x) = refl
-one_more (o ∷ vs) zero = refl
-one_more (o ∷ vs) (suc x) = one_more vs x
+still_none : {V : Type 0} {o : Option V} (b : Bool) → None ≡ o → None ≡ cond b None o
+still_none true e = refl
+still_none false e = e
+
+-- where there are no entries, there is no value
+pub none_in : {V : Type 0} (es : List (VarName × V)) (x : VarName) → length es ≡ 0 → None ≡ finite.get (values_in es) x
+none_in [] x e = sym (finite.get-empty name_cmp x)
+none_in (d ∷ es) x e = absurd (omega (arith, e))
+
+pub none_fewer : {V : Type 0} (es : List (VarName × V)) (x : VarName) → length es ≡ 0 → values_in es ≡ finite.remove (values_in es) x
+none_fewer es x e = finite.same_map name_total name_antisymmetric _ _ (λ q.
+    let none = none_in es q e in
+    sym none ∙ still_none (eq_by_cmp name_cmp q x) none ∙ sym (finite.get-remove name_total (values_in es) x q))
 
 first_is : (x : VarName) → x.place ≡ 1 → x ≡ first_of x.step
 first_is x h = var_inj x (first_of x.step) refl h

@@ -10,6 +10,7 @@ mod equality;
 mod expr;
 mod expr_view;
 mod fault;
+mod first_values;
 mod goal;
 mod goal_name;
 mod goal_view;

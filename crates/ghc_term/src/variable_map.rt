@@ -1,18 +1,16 @@
 // Values under variables: those of the first variables of steps in a list by step, and the others in a table.
-ghost use Rattle.std.specs.Prelude.{◌≡◌, ◌≤◌, ◌+◌, ◌<◌, Some, length, slice_set, option_copied, OnOk};
+ghost use Rattle.std.specs.Prelude.{◌≡◌, ◌≤◌, ◌+◌, ◌<◌, option_copied, OnOk};
 ghost use Rattle.std.specs.FinMap as finite;
 ghost use Rattle.indexmap.specs.IndexMap.{spare};
-ghost use Rattle.ghc_term.specs.VariableMap.{values_in, first_at, HasSameValues};
+ghost use Rattle.ghc_term.specs.VariableMap.{values_in};
 
+use crate::first_values::{first, put_first, widen};
 use crate::name_hasher::NameMap;
 use crate::var_name::VarName;
 use indexmap::IndexMap;
 use std::alloc::{AllocError, Global};
 use std::hash::BuildHasherDefault;
 use std::marker::Model;
-
-// The list is no longer than four places for each value that was put under the first variable of a step, and as many as this.
-const MOST_AHEAD: usize = 1024;
 
 /// Values under variables, which takes a step to find one under the first variable of a step, and else a look-up.
 #[derive(Drop)]
@@ -37,48 +35,14 @@ impl<V> Model for VariableMap<V> {
     ghost view = { λ m. record { held = values_of m.firsts.items m.others.entries; room = spare m.others } };
 }
 
-// Makes the list longer, by places without a value, until it has this place. What it grew by stays where memory is refused.
-#[inline(never)]
-fn grow<V: Drop>(firsts: &mut Vec<Option<V>>, place: usize) -> Result<(), AllocError>
-    ensures values { HasSameValues firsts.old.items firsts.new.items }
-    ensures place { OnOk result (place < length firsts.new.items) }
-{
-    for _ in firsts.len()..=place {
-        firsts.push(None)?;
-    }
-    Ok(())
-}
-
-// Makes the list longer until it has this place, if it may be so long after so many puts, and memory is not refused.
-fn widen<V: Drop>(firsts: &mut Vec<Option<V>>, place: usize, puts: usize)
-    ensures { HasSameValues firsts.old.items firsts.new.items }
-{
-    if place < firsts.len() || place > puts.saturating_mul(4).saturating_add(MOST_AHEAD) {
-        return;
-    }
-    let _refused = grow(firsts, place);
-}
-
-// The value at the place of the list, if it has one there: one step.
-fn first<V: Drop>(firsts: &[Option<V>], place: usize) -> Option<&V>
-    ensures { option_copied result ≡ first_at firsts.now place }
-{
-    firsts.get(place)?.as_ref()
-}
-
-// Puts the value at the place, which the list has: one step.
-fn put_first<V: Drop>(firsts: &mut Vec<Option<V>>, place: usize, value: V)
-    requires { place < length firsts.old.items }
-    ensures { firsts.new.items ≡ slice_set firsts.old.items place (Some value) }
-{
-    firsts[place] = Some(value);
-}
-
-// The value in the table: one look-up.
+// The value in the table: one look-up, and none in a table without values.
 #[inline(never)]
 fn other<V: Drop>(others: &NameMap<VarName, V>, x: VarName) -> Option<&V>
     ensures { option_copied result ≡ finite.get (values_in others.now.entries) x }
 {
+    if others.is_empty() {
+        return None;
+    }
     others.get(&x)
 }
 
@@ -92,13 +56,16 @@ fn put_other<V: Drop>(others: &mut NameMap<VarName, V>, x: VarName, value: V)
     others.insert(x, value).unwrap();
 }
 
-// Takes the value out of the table: one look-up.
+// Takes the value out of the table: one look-up, and none in a table without values.
 #[inline(never)]
 fn remove_other<V: Drop>(others: &mut NameMap<VarName, V>, x: VarName) -> Option<V>
     ensures value { result ≡ finite.get (values_in others.old.entries) x }
     ensures held { values_in others.new.entries ≡ finite.remove (values_in others.old.entries) x }
     ensures room { spare others.old ≤ spare others.new }
 {
+    if others.is_empty() {
+        return None;
+    }
     others.swap_remove(&x)
 }
 
