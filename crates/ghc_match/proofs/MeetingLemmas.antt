@@ -190,6 +190,11 @@ fresh_on S rest new q stands stands' f o e =
       in_own (integer k) us z is = cc
       in_own (node f ts) us z is = cc
 
+-- a variable of the last pair ahead stands for nothing yet
+pub fresh_last : (rest : List (Tree × Tree)) (q : Tree × Tree) (stands : StoreValue) → IsFresh stands (rest ++ q ∷ []) → (y : VarName) → q.0 ≡ variable y → value_at stands y ≡ None
+fresh_last rest q stands f y e =
+    f.free y (subst (In y) (sym (names_append rest (q ∷ []))) (in_right (names rest) (variables q.0 ++ []) y (in_left (variables q.0) [] y (subst (λ h. In y (variables h)) (sym e) (inl refl)))))
+
 pub fresh_first : (hs ts : List Tree) (stands : StoreValue) → AreDistinct (variables_of_list hs) → stands ≡ finite.empty → IsFresh stands (zip hs ts)
 fresh_first hs ts stands d e =
     let r = zip_names hs ts in

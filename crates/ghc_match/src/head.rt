@@ -1,5 +1,5 @@
 // The head of a clause meets the arguments of a call.
-ghost use Rattle.std.specs.Prelude.{◌≡◌, ◌↔◌, ◌⊎◌, [], IfOk, OnOk, IsTrue};
+ghost use Rattle.std.specs.Prelude.{◌≡◌, ◌↔◌, ◌⊎◌, [], Some, None, IfOk, OnOk, IsTrue};
 ghost use Rattle.ghc_term.specs.Store.{value_at};
 ghost use Rattle.ghc_term.specs.Sets.{IsSetOf};
 ghost use Rattle.ghc_flat.specs.Flat.{IsLinear};
@@ -7,8 +7,7 @@ ghost use Rattle.ghc_match.specs.Match.{StandsFor, Mismatch, HeadWants};
 ghost use Rattle.ghc_match.specs.Meeting.{Gains, Clashes, Asks, Passed, standing, Opens, HeadLooksAt};
 ghost use Rattle.ghc_match.specs.Places.{ahead_in};
 ghost use Rattle.ghc_term.specs.declared.var_name.VarName.{VarName};
-ghost use Rattle.ghc_term.specs.Tree.{Tree};
-ghost use Rattle.std.specs.Prelude.{Some};
+ghost use Rattle.ghc_term.specs.Tree.{Tree, variable};
 
 use crate::alike::{are_alike, arguments_of};
 use crate::passing::follow_noting;
@@ -27,13 +26,14 @@ pub struct Met {
     pub looked: Variables,
 }
 
-// Sees the pair at one position, and gives the places just below it.
+// Sees the pair at one position, where a variable of the head does not stand for anything yet, and gives the places just below it.
 fn visit<'a>(
     store: &'a Store,
     head: &'a Term,
     term: &'a Term,
     met: &mut Met,
 ) -> Result<Places<'a>, AllocError>
+    requires { (y : VarName) → head.now ≡ variable y → value_at met.old.stands y ≡ None }
     ensures clashes { OnOk result (IsTrue met.new.clashes ↔ (IsTrue met.old.clashes ⊎ Clashes (value_at store.now.held) head.now term.now)) }
     ensures stands { OnOk result (met.new.stands ≡ standing head.now term.now met.old.stands) }
     ensures wanted { OnOk result (Gains met.old.wanted met.new.wanted (Asks (value_at store.now.held) head.now term.now)) }
@@ -42,7 +42,7 @@ fn visit<'a>(
 {
     store.acyclic();
     if let TermView::Var(y) = head.view() {
-        met.stands.insert(y, term.share()?)?;
+        met.stands.add(y, term.share()?)?;
         return Ok(Places::none());
     }
     let end = follow_noting(store, term, &mut met.looked)?;

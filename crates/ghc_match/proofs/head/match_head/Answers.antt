@@ -1,9 +1,10 @@
 use Rattle.std.proofs.Common.{◌≡◌, ◌<◌, [], ◌++◌, sym, ap, ◌∙◌, subst}
 use Rattle.std.specs.List.{zip}
 use Rattle.ghc_term.specs.Store.{value_at}
+use Rattle.ghc_term.specs.Tree.{Tree}
 use Rattle.ghc_match.specs.Places.{ahead_in, ahead_of, all_ahead}
 use Rattle.ghc_match.proofs.WalkedPositions.{Walked, walk_begins, walk_ends, head_parts, opens_more}
-use Rattle.ghc_match.proofs.MeetingLemmas.{IsFresh, seen_nothing, fresh_first}
+use Rattle.ghc_match.proofs.MeetingLemmas.{IsFresh, seen_nothing, fresh_first, fresh_last}
 use Rattle.ghc_match.proofs.MatchHead.{HeadSoFar, head_goes_on, all_clashes, all_stands, all_wanted, all_looked}
 use Rattle.ghc_match.proofs.head.match_head.Goals as goal
 
@@ -20,6 +21,11 @@ loop-head-init c =
       seen = seen_nothing S c.in_ok-stands.stands c.new.result c.new-2.result c.in_ok-stands.ensures c.new.ensures c.new-2.ensures;
       fresh = subst (IsFresh c.in_ok-stands.stands) (sym first) (fresh_first hs ts c.in_ok-stands.stands c.requires c.in_ok-stands.ensures);
     }
+
+pub visit-requires : goal.visit-requires
+visit-requires c =
+    let pair : Tree × Tree = (c.in-Some.head.now, c.in-Some.term.now) in
+    fresh_last (all_ahead c.next_pair.new.here c.next_pair.new.pending.items) pair c.loop-head.met.stands (subst (IsFresh c.loop-head.met.stands) c.in-Some.ensures c.loop-head.invariant.fresh)
 
 pub loop-head-smaller : goal.loop-head-smaller
 loop-head-smaller c =

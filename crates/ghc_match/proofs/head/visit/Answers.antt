@@ -32,7 +32,7 @@ returns-in-Var-view c =
     record {
       clashes = clash_not S h t old.clashes x l;
       stands = standing_value h t old.stands vh;
-      wanted = asks_new S h t old.wanted c.insert-in-Var-view.new.self x vh l c.in_ok-insert-2.ensures.ok;
+      wanted = asks_new S h t old.wanted c.insert.new.self x vh l c.in_ok-insert.ensures.ok;
       looked = passed_by S h t old.looked c.follow_noting.new.looked vh c.in_ok-end.ensures.looked;
       opens = subst (Opens S h t []) (sym c.none-in-Var-view.ensures) (opens_no_terms S h t (variable x) [] refl l);
     }
