@@ -7,9 +7,12 @@ use Rattle.ghc_term.specs.declared.operator.Operator.{Operator}
 use Rattle.ghc_term.specs.declared.view.TermView.{TermView}
 use Rattle.ghc_term.specs.declared.view.TermView.TheVariants.{Var, Int, Atom, Struct}
 use Rattle.ghc_term.specs.Shown.{shown}
-use Rattle.ghc_term.specs.Tree.{Tree, variable, integer, node, Trees, none, more, trees, IsClosed, AreClosed}
+use Rattle.ghc_term.specs.Tree.{Tree, variable, integer, node, Trees, none, more, trees, list_of, IsClosed, AreClosed}
 use Rattle.ghc_term.specs.Expression.{Expression, operation}
+use Rattle.ghc_term.specs.Goal.{call}
+use Rattle.ghc_term.specs.GoalShape.{IsCall, call_of}
 use Rattle.ghc_unify.specs.Solutions.{replace, replace_all}
+use Rattle.ghc_fire.specs.Instance.{replace_in_goal}
 use Rattle.ghc_fire.specs.Renaming.{plugged, operated}
 use Rattle.ghc_fire.specs.declared.instances.terms.Front.{Front}
 
@@ -41,6 +44,16 @@ module _ (s : VarName → Tree) where
     replace_all_closed : (ts : Trees) → AreClosed ts → replace_all s ts ≡ ts
     replace_all_closed none h = refl
     replace_all_closed (more t ts) h = λ i. more (replace_closed t (λ x o. h x (inl o)) i) (replace_all_closed ts (λ x o. h x (inr o)) i)
+
+  list_replaced : (ts : Trees) → list_of (replace_all s ts) ≡ map (replace s) (list_of ts)
+  list_replaced none = refl
+  list_replaced (more t ts) = ap (λ us. replace s t ∷ us) (list_replaced ts)
+
+  -- the tree as which a call is written
+  pub call_replaced : (t : Tree) → IsCall t → IsCall (replace s t) × (call_of (replace s t) ≡ replace_in_goal s (call_of t))
+  call_replaced (variable x) h = absurd h
+  call_replaced (integer k) h = absurd h
+  call_replaced (node f ts) h = (tt, ap (call f) (list_replaced ts))
 
   -- one structure further in
   pub further_in : (fs : List Front) (g : Front) (f : List ℕ) (whole front : List Tree) (last place : Tree) → node f (trees whole) ≡ place → whole ≡ front ++ last ∷ [] → g.name ≡ f → g.arguments.items ≡ map (replace s) front

@@ -1,5 +1,7 @@
 // The goals that a clause's body makes in a step, and goals of an effect as the step of some number has them.
-ghost use Rattle.std.specs.Prelude.{◌≡◌, map, IfOk};
+ghost use Rattle.std.specs.Prelude.{◌≡◌, ℕ, List, map, IfOk};
+ghost use Rattle.ghc_term.specs.Goal.{call};
+ghost use Rattle.ghc_term.specs.Tree.{Tree};
 ghost use Rattle.ghc_fire.specs.Instance.{replace_in_goal, body_made};
 ghost use Rattle.ghc_fire.specs.Proposal.{numbered};
 ghost use Rattle.ghc_fire.specs.Renaming.{AreBehindHead, replacement};
@@ -11,20 +13,28 @@ mod terms;
 
 use crate::instances::expressions::replace_expression;
 use crate::instances::renaming::Renaming;
-use crate::instances::terms::{replace_term, replace_terms};
+use crate::instances::terms::replace_term;
 use ghc_flat::Clause;
 use ghc_term::{Bindings, Goal, GoalView};
 use std::alloc::{AllocError, Global};
+
+// The call with its variables replaced, as the term that it is written as.
+fn replace_call(alloc: Global, goal: &Goal, by: Renaming<'_>) -> Result<Goal, AllocError>
+    requires { (f : List ℕ) × (ts : List Tree) × (goal.now ≡ call f ts) }
+    ensures { IfOk result (λ g. g ≡ replace_in_goal (replacement by.entry) goal.now) }
+{
+    let Some(term) = goal.as_term() else {
+        unreachable!();
+    };
+    Ok(Goal::written_as(replace_term(alloc, term, by)?))
+}
 
 // The goal with its variables replaced.
 fn replace_goal(alloc: Global, goal: &Goal, by: Renaming<'_>) -> Result<Goal, AllocError>
     ensures { IfOk result (λ g. g ≡ replace_in_goal (replacement by.entry) goal.now) }
 {
     match goal.view() {
-        GoalView::Call(name, arguments) => {
-            let arguments = replace_terms(alloc, arguments, by)?;
-            Goal::call(alloc, name.share()?, arguments)
-        }
+        GoalView::Call(_, _) => replace_call(alloc, goal, by),
         GoalView::Unify(left, right) => {
             let left = replace_term(alloc, left, by)?;
             Ok(Goal::unify(left, replace_term(alloc, right, by)?))

@@ -148,15 +148,3 @@ pub fn replace_term(alloc: Global, term: &Term, by: Renaming<'_>) -> Result<Term
         None => term.share(),
     }
 }
-
-// The terms with their variables replaced. It goes once through them, and shares each part that stays.
-pub fn replace_terms(
-    alloc: Global,
-    terms: &[Term],
-    by: Renaming<'_>,
-) -> Result<Vec<Term>, AllocError>
-    ensures { IfOk result (λ ts. ts.items ≡ map (replace (replacement by.entry)) terms.now) }
-{
-    let replaced = replace_each(alloc, terms, by, terms.len())?;
-    Ok(replaced.arguments)
-}
