@@ -15,11 +15,12 @@ pub struct Record {
     parts: Arc<Parts>,
 }
 
+// What a line of the step tells stands in front, so that it is told from one place in memory.
 struct Parts {
     number: u32,
     goal: Option<GoalName>,
-    consumed: Option<Goal>,
     act: Act,
+    consumed: Option<Goal>,
     effect: Effect,
 }
 
@@ -28,8 +29,8 @@ impl Drop for Parts {
         let Parts {
             number: _,
             goal: _,
-            consumed: _consumed,
             act: _act,
+            consumed: _consumed,
             effect: _effect,
         } = self;
     }
@@ -64,8 +65,8 @@ impl Record {
         let parts = Parts {
             number,
             goal,
-            consumed,
             act,
+            consumed,
             effect,
         };
         match Arc::new(alloc, parts) {
