@@ -1,9 +1,9 @@
 -- Numbers in a list or in a table of keys.
-use Rattle.std.proofs.Common.{◌≡◌, ◌≢◌, ℕ, Bool, true, false, cond, ◌||◌, List, [], ◌∷◌, refl, sym, ap, ◌∙◌, subst, inl, inr, ◌⊎◌, ◌<◌, nat_eq, not, ◌++◌}
+use Rattle.std.proofs.Common.{◌≡◌, ◌≢◌, ℕ, Bool, true, false, cond, ◌||◌, List, [], ◌∷◌, refl, sym, ap, ◌∙◌, subst, inl, inr, ◌⊎◌, ◌<◌, ◌+◌, nat_eq, ◌++◌, length, take, get_or}
 use Rattle.std.specs.Prelude.{◌↔◌, Result, Ok, Err, IsOk, OnErr}
 use Rattle.std.specs.List.{list_any}
 use Rattle.std.proofs.lemmas.Bool.{eqb-true, eq-eqb}
-use Rattle.std.specs.List.{filter}
+use Rattle.std.proofs.lemmas.List.{take_more}
 use Rattle.indexmap.specs.IndexSet.{insert_key}
 use Rattle.ghc_term.specs.Lists.{In}
 use Rattle.ghc_term.proofs.ListsLemmas.{in_left, in_right, in_either}
@@ -96,10 +96,6 @@ pub any_turned : (n : ℕ) (ks : List ℕ) → list_any (λ y. nat_eq y n) ks �
 any_turned n [] = refl
 any_turned n (k ∷ ks) = ap (λ b. b || list_any (λ y. nat_eq y n) ks) (turned k n) ∙ ap (λ b. nat_eq n k || b) (any_turned n ks)
 
--- a number that the test does not find
-pub not_found : (ks : List ℕ) (n : ℕ) → list_any (λ y. nat_eq y n) ks ≡ false → ¬ In n ks
-not_found ks n e i = let clash : true ≡ false = sym (any_number n ks i) ∙ sym (any_turned n ks) ∙ e in cc
-
 pub found : (ks : List ℕ) (n : ℕ) → list_any (λ y. nat_eq y n) ks ≡ true → In n ks
 found ks n e = number_any n ks (sym (any_turned n ks) ∙ e)
 
@@ -117,26 +113,31 @@ distinct_pushed (x ∷ ks) k d n = (
   distinct_pushed ks k d.1 (λ i. n (inr i)),
 )
 
--- the others of a list
-pub in_others : (ks : List ℕ) (k n : ℕ) → In n (filter (λ m. not (nat_eq m k)) ks) ↔ (In n ks × (n ≢ k))
-in_others [] k n = ((λ never. absurd never), λ c. c.0)
-in_others (x ∷ ks) k n = elim (nat_eq x k) as (λ b. nat_eq x k ≡ b → In n (cond (not b) (x ∷ filter (λ m. not (nat_eq m k)) ks) (filter (λ m. not (nat_eq m k)) ks)) ↔ (In n (x ∷ ks) × (n ≢ k))) [
-  | true ↦ λ e. let same = eqb-true x k e in (
-    (λ i. let c = (in_others ks k n).0 i in (inr c.0, c.1)),
-    λ c. elim c.0 [ inl here ↦ absurd (c.1 (here ∙ same)) | inr i ↦ (in_others ks k n).1 (i, c.1) ],
-  )
-  | false ↦ λ e. (
-    (λ i. elim i [ inl here ↦ (inl here, λ f. let clash : true ≡ false = sym (eq-eqb x k (sym here ∙ f)) ∙ e in cc) | inr j ↦ let c = (in_others ks k n).0 j in (inr c.0, c.1) ]),
-    λ c. elim c.0 [ inl here ↦ inl here | inr i ↦ inr ((in_others ks k n).1 (i, c.1)) ],
-  )
-] refl
+-- the numbers of a list so far, but for one, and the next of them
+module _ (xs : List ℕ) (i k : ℕ) (within : i < length xs) (held : List ℕ) (so_far : (n : ℕ) → In n held ↔ (In n (take i xs) × (n ≢ k))) where
+  next_is : (n : ℕ) → In n (take (i + 1) xs) ↔ (In n (take i xs) ⊎ (n ≡ get_or xs i 0))
+  next_is n = subst (λ l. In n l ↔ (In n (take i xs) ⊎ (n ≡ get_or xs i 0))) (sym (take_more xs i 0 within)) (in_pushed (take i xs) (get_or xs i 0) n)
 
-pub distinct_others : (ks : List ℕ) (k : ℕ) → AreDistinct ks → AreDistinct (filter (λ m. not (nat_eq m k)) ks)
-distinct_others [] k d = tt
-distinct_others (x ∷ ks) k d = elim (nat_eq x k) as (λ b. AreDistinct (cond (not b) (x ∷ filter (λ m. not (nat_eq m k)) ks) (filter (λ m. not (nat_eq m k)) ks))) [
-  | true ↦ distinct_others ks k d.1
-  | false ↦ ((λ i. d.0 ((in_others ks k x).0 i).0), distinct_others ks k d.1)
-]
+  pub next_is_put : (new : List ℕ) → get_or xs i 0 ≢ k → ((n : ℕ) → In n new ↔ (In n held ⊎ (n ≡ get_or xs i 0))) → (n : ℕ) → In n new ↔ (In n (take (i + 1) xs) × (n ≢ k))
+  next_is_put new other put n = (
+    λ j. elim ((put n).0 j) [
+      | inl h ↦ let c = (so_far n).0 h in ((next_is n).1 (inl c.0), c.1)
+      | inr e ↦ ((next_is n).1 (inr e), λ f. other (sym e ∙ f))
+    ],
+    λ c. elim ((next_is n).0 c.0) [
+      | inl j ↦ (put n).1 (inl ((so_far n).1 (j, c.1)))
+      | inr e ↦ (put n).1 (inr e)
+    ],
+  )
+
+  pub next_is_left : get_or xs i 0 ≡ k → (n : ℕ) → In n held ↔ (In n (take (i + 1) xs) × (n ≢ k))
+  next_is_left same n = (
+    λ h. let c = (so_far n).0 h in ((next_is n).1 (inl c.0), c.1),
+    λ c. elim ((next_is n).0 c.0) [
+      | inl j ↦ (so_far n).1 (j, c.1)
+      | inr e ↦ absurd (c.1 (e ∙ same))
+    ],
+  )
 
 -- so does what has room, or the number already
 pub succeeds_with : {A E : Type 0} {room : ℕ} (r : Result A E) (ks held : List ℕ) (n : ℕ) → ks ≡ held → (0 < room → IsOk r) → OnErr r (list_any (nat_eq n) ks ≡ false) → (0 < room) ⊎ In n held → IsOk r

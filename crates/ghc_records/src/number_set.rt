@@ -1,17 +1,18 @@
 // Sets of the numbers of steps.
-ghost use Rattle.std.specs.Prelude.{◌≡◌, ◌≢◌, ◌↔◌, ◌⊎◌, ◌<◌, ◌≤◌, [], ℕ, IfOk, OnOk};
+ghost use Rattle.std.specs.Prelude.{◌≡◌, ◌≢◌, ◌↔◌, ◌⊎◌, ◌+◌, ◌<◌, ◌≤◌, [], ◌∷◌, ◌++◌, ℕ, length, IfOk, OnOk};
 ghost use Rattle.indexmap.specs.IndexSet.{spare};
 ghost use Rattle.ghc_term.specs.Lists.{In};
 ghost use Rattle.ghc_records.specs.Orders.{AreDistinct};
 
-use arrayvec::ArrayVec;
 use ghc_term::NameSet;
 use indexmap::IndexSet;
 use std::alloc::{AllocError, Global};
 use std::hash::BuildHasherDefault;
 use std::marker::Model;
+use std::mem::size_of;
+use std::slice;
 
-// Numbers of steps: up to four in the set itself, more in a table that finds each by a look-up.
+// Numbers of steps: up to three in the set itself, more in a table that finds each by a look-up.
 #[derive(Drop)]
 pub(crate) struct NumberSet {
     held: Held,
@@ -19,9 +20,15 @@ pub(crate) struct NumberSet {
 
 #[derive(Drop)]
 enum Held {
-    Few(Global, ArrayVec<u32, 4>),
+    Nothing(Global),
+    One(Global, u32),
+    Two(Global, [u32; 2]),
+    Three(Global, [u32; 3]),
     Tabled(Box<NameSet<u32>>),
 }
+
+// There is a set for each step.
+const _: () = prove!(size_of::<NumberSet>() <= 16);
 
 impl Model for NumberSet {
     ghost use Rattle.std.specs.Prelude.{ℕ, List};
@@ -52,13 +59,50 @@ fn tabled(alloc: Global, numbers: &[u32]) -> Result<Box<NameSet<u32>>, AllocErro
     Ok(Box::new(alloc, table)?)
 }
 
+// The three.
+fn with_third(two: &[u32; 2], third: u32) -> [u32; 3]
+    ensures { result ≡ two.now ++ third ∷ [] }
+{
+    [two[0], two[1], third]
+}
+
+impl Held {
+    ghost use Rattle.ghc_records.specs.NumberSet.{numbers_of, IsFew};
+
+    // The allocator.
+    fn allocator(&self) -> Global {
+        match self {
+            Held::Nothing(alloc) => *alloc,
+            Held::One(alloc, _) => *alloc,
+            Held::Two(alloc, _) => *alloc,
+            Held::Three(alloc, _) => *alloc,
+            Held::Tabled(table) => *table.allocator(),
+        }
+    }
+
+    // The numbers.
+    fn as_slice(&self) -> &[u32]
+        ensures numbers { result.now ≡ numbers_of self.now }
+        ensures few { IsFew self.now → length result.now ≤ 3 }
+    {
+        match self {
+            Held::Nothing(_) => &[],
+            Held::One(_, number) => slice::from_ref(number),
+            Held::Two(_, numbers) => numbers,
+            Held::Three(_, numbers) => numbers,
+            Held::Tabled(table) => table.as_slice(),
+        }
+    }
+}
+
 impl NumberSet {
-    // No numbers, which take no memory.
+    // No numbers, which take no memory, and room for three.
     pub(crate) fn new(alloc: Global) -> NumberSet
-        ensures { result.held ≡ [] }
+        ensures held { result.held ≡ [] }
+        ensures room { result.room ≡ 3 }
     {
         NumberSet {
-            held: Held::Few(alloc, ArrayVec::new()),
+            held: Held::Nothing(alloc),
         }
     }
 
@@ -66,55 +110,69 @@ impl NumberSet {
     pub(crate) fn members(&self) -> &[u32]
         ensures { result.now ≡ self.now.held }
     {
-        match &self.held {
-            Held::Few(_, few) => few.as_slice(),
-            Held::Tabled(table) => table.as_slice(),
-        }
+        self.held.as_slice()
     }
 
-    // Makes room for one more number.
+    // Makes room for one more number: only a fourth one needs memory, and each after it may.
     pub(crate) fn reserve(&mut self) -> Result<(), AllocError>
         ensures held { self.new.held ≡ self.old.held }
         ensures room { OnOk result (0 < self.new.room) }
         ensures kept { self.old.room ≤ self.new.room }
     {
+        let alloc = self.held.allocator();
         match &mut self.held {
-            Held::Few(alloc, few) => {
-                if few.is_full() {
-                    self.held = Held::Tabled(tabled(*alloc, few.as_slice())?);
-                }
+            Held::Nothing(_) | Held::One(_, _) | Held::Two(_, _) => Ok(()),
+            Held::Three(_, three) => {
+                self.held = Held::Tabled(tabled(alloc, three)?);
                 Ok(())
             }
             Held::Tabled(table) => table.reserve(1),
         }
     }
 
-    // Adds a number that is there already, or for which there is room: four comparisons at most, or one look-up.
+    // Adds a number that is there already, or for which there is room: two comparisons at most, or one look-up.
     pub(crate) fn put(&mut self, number: u32)
         requires { (0 < self.old.room) ⊎ In number self.old.held }
-        ensures { (n : ℕ) → In n self.new.held ↔ (In n self.old.held ⊎ (n ≡ number)) }
+        ensures numbers { (n : ℕ) → In n self.new.held ↔ (In n self.old.held ⊎ (n ≡ number)) }
+        ensures room { self.old.room ≤ self.new.room + 1 }
     {
+        let alloc = self.held.allocator();
         match &mut self.held {
-            Held::Few(_, few) => {
-                if !few.contains(&number) {
-                    few.push(number);
+            Held::Nothing(_) => {
+                self.held = Held::One(alloc, number);
+            }
+            Held::One(_, one) => {
+                if *one != number {
+                    self.held = Held::Two(alloc, [*one, number]);
                 }
             }
+            Held::Two(_, two) => {
+                if !two.contains(&number) {
+                    self.held = Held::Three(alloc, with_third(two, number));
+                }
+            }
+            // Three have no room for a fourth, so that the number is one of them.
+            Held::Three(_, _) => {}
             Held::Tabled(table) => {
                 table.insert(number).unwrap();
             }
         }
     }
 
-    // Takes a number out: four comparisons at most, or one look-up.
+    // Takes a number out: three comparisons at most, or one look-up.
     pub(crate) fn remove(&mut self, number: u32)
         ensures { (n : ℕ) → In n self.new.held ↔ (In n self.old.held × (n ≢ number)) }
     {
-        match &mut self.held {
-            Held::Few(_, few) => few.retain(|m: &mut u32| *m != number),
-            Held::Tabled(table) => {
-                table.swap_remove(&number);
+        if let Held::Tabled(table) = &mut self.held {
+            table.swap_remove(&number);
+            return;
+        }
+        let mut left = NumberSet::new(self.held.allocator());
+        for one in self.held.as_slice() {
+            if *one != number {
+                left.put(*one);
             }
         }
+        *self = left;
     }
 }

@@ -1,4 +1,4 @@
-use Rattle.std.proofs.Common.{All, List, [], ◌∷◌, inl, inr, sym, subst}
+use Rattle.std.proofs.Common.{List, [], ◌∷◌, inl, inr, sym, subst}
 use Rattle.std.specs.List.{AllByRecursion}
 use Rattle.std.proofs.lemmas.List.Elements.{recursion_from_All}
 use Rattle.ghc_term.specs.Lists.{In}

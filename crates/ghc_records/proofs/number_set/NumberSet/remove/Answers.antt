@@ -1,34 +1,40 @@
-use Rattle.std.proofs.Common.{rules, ◌≡◌, ◌≢◌, nat_eq, not, sym, ap, ◌∙◌, subst}
+use Rattle.std.proofs.Common.{◌≢◌, ◌+◌, ◌≤◌, ℕ, List, take, sym, ap, ◌∙◌, subst, arith}
 use Rattle.std.specs.Prelude.{◌↔◌}
-use Rattle.std.specs.List.{filter}
-use Rattle.arrayvec.proofs.ArrayVecLemmas.{filter-from_retain}
+use Rattle.std.proofs.lemmas.List.{take_all}
 use Rattle.ghc_term.specs.Lists.{In}
-use Rattle.ghc_records.specs.Orders.{AreDistinct}
-use Rattle.ghc_records.specs.NumberSet.{numbers_of, HoldsEachOnce}
-use Rattle.ghc_records.proofs.NumberSets.{in_others, distinct_others, number_taken}
+use Rattle.ghc_term.specs.Table.{Table}
+use Rattle.ghc_records.specs.NumberSet.{numbers_of}
+use Rattle.ghc_records.proofs.NumberSets.{number_taken, next_is_put, next_is_left}
 use Rattle.ghc_records.proofs.number_set.NumberSet.remove.Goals as goal
-use Rattle.ghc_records.proofs.number_set.NumberSet.remove.Goals.{in-Few, in-Tabled}
+use Rattle.ghc_records.proofs.number_set.NumberSet.remove.Goals.{then-one-number, else-one-number}
 
-pub invariant_of-self : goal.invariant_of-self
-invariant_of-self c = elim c.match-self.branch [
-  | in-Few w ↦
-      let left : w.retain.new.self.items ≡ filter (λ m. not (nat_eq m c.args.number)) w.in-Few.few.items = filter-from_retain _ _ _ (λ x b f y k. search rules) _ _ w.retain.ensures.filtered in
-      subst (λ s. HoldsEachOnce s.held) (sym w.self-inside-is)
-      (subst AreDistinct (sym left) (distinct_others w.in-Few.few.items c.args.number (subst HoldsEachOnce w.in-Few.is c.self.invariant)))
-  | in-Tabled w ↦ subst (λ s. HoldsEachOnce s.held) (sym w.self-inside-is) tt
-]
+-- what is left of the numbers in front of this place, and room for those from it on
+abbrev IsLeft : List ℕ → ℕ → ℕ → Table (List ℕ) → Type 0
+IsLeft xs i k left = ((n : ℕ) → In n left.held ↔ (In n (take i xs) × (n ≢ k))) × (3 ≤ left.room + i)
+
+pub returns-in-Tabled : goal.returns-in-Tabled
+returns-in-Tabled c n =
+    let table = c.deref_mut.result.now in
+    let here = ap (λ t. t.keys) c.deref_mut.ensures.value ∙ ap numbers_of (sym c.in-Tabled.is) ∙ ap (λ t. t.held) c.self.view_is in
+    subst (λ l. In n c.swap_remove.new.self.keys ↔ (In n l × (n ≢ c.args.number))) here (number_taken table.keys c.swap_remove.new.self.keys c.args.number c.swap_remove.ensures.updates.0 n)
+
+pub loop-one-preserved : goal.loop-one-preserved
+loop-one-preserved c =
+    let xs = c.as_slice-one-items.result.now in
+    let i = c.loop-one.one-index in
+    let held = c.loop-one.left.held in
+    elim c.if-one-number.branch [
+      | then-one-number w ↦
+          subst (IsLeft xs (i + 1) c.args.number) (sym w.left-is)
+          (next_is_put xs i c.args.number c.loop-one-test.true held c.loop-one.invariant.0 w.put.new.self.held w.if-one-number.true w.put.ensures.numbers, omega (arith, c.loop-one.invariant.1, w.put.ensures.room))
+      | else-one-number w ↦
+          subst (IsLeft xs (i + 1) c.args.number) (sym w.left-is)
+          (next_is_left xs i c.args.number c.loop-one-test.true held c.loop-one.invariant.0 w.if-one-number.false, omega (arith, c.loop-one.invariant.1))
+    ]
 
 pub returns : goal.returns
-returns c n = elim c.match-self.branch [
-  | in-Few w ↦
-      let left : w.retain.new.self.items ≡ filter (λ m. not (nat_eq m c.args.number)) w.in-Few.few.items = filter-from_retain _ _ _ (λ x b f y k. search rules) _ _ w.retain.ensures.filtered in
-      let here = ap numbers_of (sym w.in-Few.is) ∙ ap (λ t. t.held) c.self.view_is in
-      subst (λ s. In n (numbers_of s.held) ↔ (In n c.args.self.now.held × (n ≢ c.args.number))) (sym w.self-inside-is)
-      (subst (λ l. In n l ↔ (In n c.args.self.now.held × (n ≢ c.args.number))) (sym left)
-      (subst (λ l. In n (filter (λ m. not (nat_eq m c.args.number)) w.in-Few.few.items) ↔ (In n l × (n ≢ c.args.number))) here (in_others w.in-Few.few.items c.args.number n)))
-  | in-Tabled w ↦
-      let table = w.deref_mut.result.now in
-      let here = ap (λ t. t.keys) w.deref_mut.ensures.value ∙ ap numbers_of (sym w.in-Tabled.is) ∙ ap (λ t. t.held) c.self.view_is in
-      subst (λ s. In n (numbers_of s.held) ↔ (In n c.args.self.now.held × (n ≢ c.args.number))) (sym w.self-inside-is)
-      (subst (λ l. In n w.swap_remove.new.self.keys ↔ (In n l × (n ≢ c.args.number))) here (number_taken table.keys w.swap_remove.new.self.keys c.args.number w.swap_remove.ensures.updates.0 n))
-]
+returns c n =
+    let xs = c.as_slice-one-items.result.now in
+    let whole = take_all c.loop-one.one-index xs c.loop-one-test.false ∙ c.as_slice-one-items.ensures.numbers ∙ ap (λ t. t.held) c.self.view_is in
+    subst (λ l. In n l ↔ (In n c.args.self.now.held × (n ≢ c.args.number))) (sym (ap (λ t. t.held) c.left.view_is))
+    (subst (λ l. In n c.loop-one.left.held ↔ (In n l × (n ≢ c.args.number))) whole (c.loop-one.invariant.0 n))

@@ -11,7 +11,7 @@ pub returns-in-Some : goal.returns-in-Some
 returns-in-Some c =
     let w = c.new.result in
     let d = near_written c.self.inside.near.items c.self.inside.far.entries c.args.self.now c.args.step c.self.view_is c.in-Some.users.now w (omega (arith, c.in-Some.ensures.variant.0 refl, c.self.inside.near.ok.0)) c.in-Some.ensures.value in
-    users_forgotten c.args.self.now (users_in (slice_set c.self.inside.near.items c.args.step w) c.self.inside.far.entries) c.args.step (Some c.in-Some.users.now) (Some w) d (λ k i. subst (In k) c.new.ensures i)
+    users_forgotten c.args.self.now (users_in (slice_set c.self.inside.near.items c.args.step w) c.self.inside.far.entries) c.args.step (Some c.in-Some.users.now) (Some w) d (λ k i. subst (In k) c.new.ensures.held i)
 
 pub returns : goal.returns
 returns c =

@@ -15,13 +15,13 @@ pub returns-in-Some-clause-users : goal.returns-in-Some-clause-users
 returns-in-Some-clause-users c =
     let w = c.put.new.self in
     let d = near_written c.self.inside.near.items c.self.inside.far.entries c.args.self.now c.args.step c.self.view_is c.in-Some.users.now w (omega (arith, c.in-Some.ensures.variant.0 refl, c.self.inside.near.ok.0)) c.in-Some.ensures.value in
-    user_put c.args.self.now (users_in (slice_set c.self.inside.near.items c.args.step w) c.self.inside.far.entries) c.args.step (Some c.in-Some.users.now) (Some w) d c.args.user c.put.ensures
+    user_put c.args.self.now (users_in (slice_set c.self.inside.near.items c.args.step w) c.self.inside.far.entries) c.args.step (Some c.in-Some.users.now) (Some w) d c.args.user c.put.ensures.numbers
 
 pub returns-in-Some-clause-room : goal.returns-in-Some-clause-room
 returns-in-Some-clause-room c =
     let w = c.put.new.self in
     let d = near_written c.self.inside.near.items c.self.inside.far.entries c.args.self.now c.args.step c.self.view_is c.in-Some.users.now w (omega (arith, c.in-Some.ensures.variant.0 refl, c.self.inside.near.ok.0)) c.in-Some.ensures.value in
-    can_still c.args.self.now (users_in (slice_set c.self.inside.near.items c.args.step w) c.self.inside.far.entries) c.args.step (Some c.in-Some.users.now) (Some w) d c.args.user ((c.put.ensures c.args.user).1 (inr refl))
+    can_still c.args.self.now (users_in (slice_set c.self.inside.near.items c.args.step w) c.self.inside.far.entries) c.args.step (Some c.in-Some.users.now) (Some w) d c.args.user ((c.put.ensures.numbers c.args.user).1 (inr refl))
 
 pub returns-in_default-get_mut-clause-users : goal.returns-in_default-get_mut-clause-users
 returns-in_default-get_mut-clause-users c =
@@ -39,7 +39,7 @@ returns-clause-users c =
     let updates = (c.get_mut-2.follows.holds w).3 (subst IsSome c.in-Some-get_mut.ensures.value refl) in
     let es = (c.get_mut-2.follows.lender w).entries in
     let d = far_written c.self.inside.near.items c.self.inside.far.entries c.args.self.now c.args.step c.self.view_is es (past c.args.step (vec_len c.self.inside.near) c.self.inside.near.items c.self.inside.near.ok.0 c.in_default.ensures.variant.1) (Some c.in-Some-get_mut.users.now) w c.in-Some-get_mut.ensures.value updates.0 in
-    user_put c.args.self.now (users_in c.self.inside.near.items es) c.args.step (Some c.in-Some-get_mut.users.now) (Some w) d c.args.user c.put-2.ensures
+    user_put c.args.self.now (users_in c.self.inside.near.items es) c.args.step (Some c.in-Some-get_mut.users.now) (Some w) d c.args.user c.put-2.ensures.numbers
 
 pub returns-clause-room : goal.returns-clause-room
 returns-clause-room c =
@@ -47,4 +47,4 @@ returns-clause-room c =
     let updates = (c.get_mut-2.follows.holds w).3 (subst IsSome c.in-Some-get_mut.ensures.value refl) in
     let es = (c.get_mut-2.follows.lender w).entries in
     let d = far_written c.self.inside.near.items c.self.inside.far.entries c.args.self.now c.args.step c.self.view_is es (past c.args.step (vec_len c.self.inside.near) c.self.inside.near.items c.self.inside.near.ok.0 c.in_default.ensures.variant.1) (Some c.in-Some-get_mut.users.now) w c.in-Some-get_mut.ensures.value updates.0 in
-    can_still c.args.self.now (users_in c.self.inside.near.items es) c.args.step (Some c.in-Some-get_mut.users.now) (Some w) d c.args.user ((c.put-2.ensures c.args.user).1 (inr refl))
+    can_still c.args.self.now (users_in c.self.inside.near.items es) c.args.step (Some c.in-Some-get_mut.users.now) (Some w) d c.args.user ((c.put-2.ensures.numbers c.args.user).1 (inr refl))

@@ -73,7 +73,7 @@ returns-clause-held c =
     let new = users_in c.self.inside.near.items es in
     let updates = subst (λ l. (q : ℕ) → lookup (nat_eq q) es ≡ cond (nat_eq c.args.step q) (Some w) (lookup (nat_eq q) l)) same c.in_ok-insert.ensures.updates.0 in
     let d = far_written c.self.inside.near.items c.self.inside.far.entries c.widen.new.self c.args.step c.self.view_is es (past c.args.step (vec_len c.self.inside.near) c.self.inside.near.items c.self.inside.near.ok.0 c.in_default.ensures.variant.1) None w c.in_default-get_mut.ensures.value updates in
-    λ m. users_kept c.widen.new.self new c.args.step None (Some w) d (c.reserve-2.ensures.held ∙ c.new-users.ensures) m ∙ c.in_ok-widen.ensures.held m
+    λ m. users_kept c.widen.new.self new c.args.step None (Some w) d (c.reserve-2.ensures.held ∙ c.new-users.ensures.held) m ∙ c.in_ok-widen.ensures.held m
 
 pub returns-clause-room : goal.returns-clause-room
 returns-clause-room c =
@@ -93,4 +93,4 @@ returns-clause-kept c =
     let new = users_in c.self.inside.near.items es in
     let updates = subst (λ l. (q : ℕ) → lookup (nat_eq q) es ≡ cond (nat_eq c.args.step q) (Some w) (lookup (nat_eq q) l)) same c.in_ok-insert.ensures.updates.0 in
     let d = far_written c.self.inside.near.items c.self.inside.far.entries c.widen.new.self c.args.step c.self.view_is es (past c.args.step (vec_len c.self.inside.near) c.self.inside.near.items c.self.inside.near.ok.0 c.in_default.ensures.variant.1) None w c.in_default-get_mut.ensures.value updates in
-    λ m n can. can_kept c.widen.new.self new c.args.step None (Some w) d (c.reserve-2.ensures.held ∙ c.new-users.ensures) (omega arith) m n (c.in_ok-widen.ensures.kept m n can)
+    λ m n can. can_kept c.widen.new.self new c.args.step None (Some w) d (c.reserve-2.ensures.held ∙ c.new-users.ensures.held) (omega arith) m n (c.in_ok-widen.ensures.kept m n can)
