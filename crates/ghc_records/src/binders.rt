@@ -4,21 +4,17 @@ ghost use Rattle.std.specs.FinMap as finite;
 ghost use Rattle.ghc_term.specs.declared.var_name.VarName.{VarName};
 ghost use Rattle.ghc_term.specs.Store.{value_at};
 
-use ghc_term::{Bindings, NameMap, VarName};
-use indexmap::IndexMap;
+use ghc_term::{Bindings, VarName, VariableMap};
 use std::alloc::{AllocError, Global};
-use std::hash::BuildHasherDefault;
 use std::marker::Model;
 
 // The numbers of the steps that bound variables, by variable.
 #[derive(Drop)]
 pub(crate) struct Binders {
-    map: NameMap<VarName, u32>,
+    map: VariableMap<u32>,
 }
 
 impl Model for Binders {
-    ghost use Rattle.std.specs.FinMap as finite;
-    ghost use Rattle.indexmap.specs.IndexMap.{spare};
     ghost use Rattle.ghc_term.specs.Table.{Table, table_code};
     ghost use Rattle.ghc_records.specs.UseIndex.{BindersByVariable};
     ghost use Rattle.ghc_records.specs.RecordCode.{binders_code};
@@ -27,7 +23,7 @@ impl Model for Binders {
 
     ghost coded = { table_code binders_code };
 
-    ghost view = { λ b. record { held = finite.from_entries b.map.entries; room = spare b.map } };
+    ghost view = { λ b. b.map };
 }
 
 impl Binders {
@@ -36,7 +32,7 @@ impl Binders {
         ensures { result.held ≡ finite.empty }
     {
         Binders {
-            map: IndexMap::with_hasher(alloc, BuildHasherDefault::new()),
+            map: VariableMap::new(alloc),
         }
     }
 
@@ -44,7 +40,7 @@ impl Binders {
     pub(crate) fn get(&self, x: VarName) -> Option<u32>
         ensures { result ≡ finite.get self.now.held x }
     {
-        self.map.get(&x).copied()
+        self.map.get(x).copied()
     }
 
     // Makes room for as many more variables.
@@ -62,7 +58,7 @@ impl Binders {
         ensures { (y : VarName) → finite.get self.new.held y ≡ if is_some (value_at binds.now y) then Some number else finite.get self.old.held y }
     {
         for (x, _) in binds.entries() {
-            self.map.insert(*x, number).unwrap();
+            self.map.put(*x, number);
         }
     }
 
@@ -71,7 +67,7 @@ impl Binders {
         ensures { (y : VarName) → finite.get self.new.held y ≡ if is_some (value_at binds.now y) then None else finite.get self.old.held y }
     {
         for (x, _) in binds.entries() {
-            self.map.swap_remove(x);
+            self.map.remove(*x);
         }
     }
 }

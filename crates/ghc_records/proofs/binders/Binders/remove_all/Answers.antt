@@ -2,32 +2,28 @@ use Rattle.std.proofs.Common.{◌+◌, drop, get_or, ap, ◌∙◌, subst}
 use Rattle.std.specs.Prelude.{None}
 use Rattle.std.proofs.lemmas.List.{drop_all, drop_more}
 use Rattle.std.specs.FinMap as finite
-use Rattle.ghc_term.specs.Bindings.{name_cmp}
-use Rattle.ghc_term.proofs.Indexed.{removed}
-use Rattle.ghc_term.proofs.Entries.{same, same_is}
-use Rattle.ghc_term.proofs.Names.{name_total, name_antisymmetric}
+use Rattle.ghc_term.proofs.Names.{name_total}
 use Rattle.ghc_records.proofs.VariableBinders.{IsBeingSet, IsSetTo, set_begin, set_next}
 use Rattle.ghc_records.proofs.binders.Binders.remove_all.Goals as goal
 
 pub loop-x-init : goal.loop-x-init
-loop-x-init c = set_begin None c.args.binds.now (finite.from_entries c.self.inside.map.entries) c.entries-x-items.result.now c.entries-x-items.ensures.all
+loop-x-init c = set_begin None c.args.binds.now c.self.inside.map.held c.entries-x-items.result.now c.entries-x-items.ensures.all
 
 pub loop-x-preserved : goal.loop-x-preserved
 loop-x-preserved c =
     let es = c.entries-x-items.result.now in
     let b = c.loop-x-item.result in
     let i = c.loop-x.x-index in
-    let old = finite.from_entries {R = name_cmp} c.self.inside.map.entries in
-    let now = finite.from_entries {R = name_cmp} c.loop-x.self-inside.map.entries in
-    let x = (get_or es i b).0 in
+    let old = c.self.inside.map.held in
+    let now = c.loop-x.self-inside.map.held in
     let before = subst (IsBeingSet None c.args.binds.now old now) (drop_more es i b c.loop-x-test.true) c.loop-x.invariant in
-    let new = removed name_total name_antisymmetric same same_is c.loop-x.self-inside.map.entries c.swap_remove.new.self.entries b.0 c.swap_remove.ensures.updates.0 ∙ ap (λ a. finite.remove now a.0) c.loop-x-item.is in
-    set_next None c.args.binds.now old now (finite.from_entries c.swap_remove.new.self.entries) (get_or es i b) (drop (i + 1) es) before
-    (λ y. ap (λ m. finite.get m y) new ∙ finite.get-remove name_total now x y)
+    let new = c.remove.ensures.held ∙ ap (λ a. finite.remove now a.0) c.loop-x-item.is in
+    set_next None c.args.binds.now old now c.remove.new.self.held (get_or es i b) (drop (i + 1) es) before
+    (λ y. ap (λ m. finite.get m y) new ∙ finite.get-remove name_total now (get_or es i b).0 y)
 
 pub returns : goal.returns
 returns c =
-    let old = finite.from_entries {R = name_cmp} c.self.inside.map.entries in
-    let now = finite.from_entries {R = name_cmp} c.loop-x.self-inside.map.entries in
+    let old = c.self.inside.map.held in
+    let now = c.loop-x.self-inside.map.held in
     subst (λ t. IsSetTo None c.args.binds.now t.held now) c.self.view_is
     (subst (IsBeingSet None c.args.binds.now old now) (drop_all c.loop-x.x-index c.entries-x-items.result.now c.loop-x-test.false) c.loop-x.invariant)
