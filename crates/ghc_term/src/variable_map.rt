@@ -12,11 +12,15 @@ use std::alloc::{AllocError, Global};
 use std::hash::BuildHasherDefault;
 use std::marker::Model;
 
-/// Values under variables, which takes a step to find one under the first variable of a step, and else a look-up.
+/// A map from variables to values. The value of the first variable that a step made is mostly found in one step, and another one by
+/// a look-up.
 #[derive(Drop)]
 pub struct VariableMap<V> {
+    // the values of first variables, by the numbers of the steps that made them
     firsts: Vec<Option<V>>,
+    // those of other variables, and of first ones that the list has no place for
     others: NameMap<VarName, V>,
+    // how many values of first variables were put, which says how long the list may be
     puts: usize,
 }
 
