@@ -14,8 +14,6 @@ use Rattle.ghc_hooks.specs.Status.{Status, failed, HasStatus}
 use Rattle.ghc_hooks.specs.Notes.{Note, NotesByGoal}
 use Rattle.ghc_hooks.proofs.Fitting.{put_here}
 use Rattle.ghc_records.specs.Journal.{took, undid, rolled, redid, reordered, step_of}
-use Rattle.ghc_depend.specs.Depend.{IsNotKept}
-use Rattle.ghc_depend.specs.Lawful.{IsUnlawful}
 use Rattle.ghc_core.specs.World.{Proposal, Hands, IsHand, with_hand, emptied, World}
 use Rattle.ghc_core.specs.Core.{IsCommitted}
 use Rattle.ghc_core.specs.Events.{Command, input, finish, undo, roll, redo, arrange, Reply, held, stepped, noted, refused}
