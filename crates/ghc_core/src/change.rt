@@ -47,12 +47,11 @@ impl Core {
         ensures untried { self.new.untried ≡ self.old.untried }
         ensures meter { self.new.meter ≡ self.old.meter }
     {
-        let effect = addition.step().effect();
-        let goals = effect.makes().len();
-        self.state.reserve(goals, effect.binds().len())?;
-        self.tries.reserve(goals)?;
+        let step = addition.step();
+        self.state.reserve_for(step)?;
+        self.tries.reserve(step.effect().makes().len())?;
         self.journal.reserve(1)?;
-        self.records.reserve_for(addition.step())
+        self.records.reserve_for(step)
     }
 
     // Makes room to take a step away.
@@ -63,7 +62,7 @@ impl Core {
         ensures untried { self.new.untried ≡ self.old.untried }
         ensures meter { self.new.meter ≡ self.old.meter }
     {
-        self.state.reserve(1, 0)?;
+        self.state.reserve_goals(1)?;
         self.tries.reserve(1)?;
         self.shelf.reserve(1)?;
         self.journal.reserve(1)

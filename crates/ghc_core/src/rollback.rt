@@ -100,7 +100,7 @@ impl Core {
         ensures meter { self.new.meter ≡ self.old.meter }
     {
         let count = rollback.consequences.len() + 1;
-        self.state.reserve(count, 0)?;
+        self.state.reserve_goals(count)?;
         self.tries.reserve(count)?;
         self.shelf.reserve(count)?;
         self.journal.reserve(1)

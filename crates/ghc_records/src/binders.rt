@@ -43,13 +43,13 @@ impl Binders {
         self.map.get(x).copied()
     }
 
-    // Makes room for as many more variables.
-    pub(crate) fn reserve(&mut self, count: usize) -> Result<(), AllocError>
+    // Makes room for as many more variables, which steps up to this number made.
+    pub(crate) fn reserve(&mut self, count: usize, newest: u32) -> Result<(), AllocError>
         ensures held { self.new.held ≡ self.old.held }
         ensures room { OnOk result (count ≤ self.new.room) }
         ensures kept { self.old.room ≤ self.new.room }
     {
-        self.map.reserve(count)
+        self.map.reserve(count, newest)
     }
 
     // Puts the step under each variable that it bound, where there is room: one look-up for each.

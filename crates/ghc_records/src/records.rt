@@ -149,7 +149,7 @@ impl Records {
     {
         let maker = self.maker_for(step);
         let slots = self.slots.slot_count();
-        self.index.reserve(maker, step.effect(), slots)?;
+        self.index.reserve(maker, step, slots)?;
         self.slots.reserve()
     }
 

@@ -78,14 +78,22 @@ impl State {
         &self.store
     }
 
-    /// Makes room for as many more goals and bindings. The state stays, and so does the room where memory is refused.
-    pub fn reserve(&mut self, goals: usize, bindings: usize) -> Result<(), AllocError>
+    /// Makes room for as many more goals. The state stays, and so does the room where memory is refused.
+    pub fn reserve_goals(&mut self, count: usize) -> Result<(), AllocError>
         ensures held { self.new.held ≡ self.old.held }
-        ensures goals { OnOk result (goals ≤ self.new.room.goals) }
-        ensures bindings { OnOk result (bindings ≤ self.new.room.bindings) }
+        ensures room { OnOk result (count ≤ self.new.room.goals) }
     {
-        self.goals.reserve(goals)?;
-        self.store.reserve(bindings)
+        self.goals.reserve(count)
+    }
+
+    /// Makes room to take this step. The state stays, and so does the room where memory is refused.
+    pub fn reserve_for(&mut self, step: &Record) -> Result<(), AllocError>
+        ensures held { self.new.held ≡ self.old.held }
+        ensures room { OnOk result (HasRoomToTake self.new.room step.now) }
+    {
+        let effect = step.effect();
+        self.goals.reserve(effect.makes().len())?;
+        self.store.reserve(effect.binds().len(), step.number())
     }
 
     /// Takes a step, where there is room for it and the store stays acyclic: the goal that it consumes is gone, the goals that

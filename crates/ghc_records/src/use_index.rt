@@ -8,7 +8,6 @@ ghost use Rattle.ghc_records.specs.UseIndex.{users_at, IsUser, CanTake, BoundOne
 use crate::binders::Binders;
 use crate::record::Record;
 use crate::users::Users;
-use ghc_fire::Effect;
 use ghc_term::{GoalName, VarName};
 use std::alloc::{AllocError, Global};
 use std::marker::Model;
@@ -104,21 +103,22 @@ impl UseIndex {
         self.binders.get(x)
     }
 
-    // Makes room for a step of this effect, whose goal the maker made, if one did, of a record of so many slots: some look-ups for
-    // each variable that it reads.
+    // Makes room for a step, whose goal the maker made, if one did, of a record of so many slots: some look-ups for each variable
+    // that it reads.
     pub(crate) fn reserve(
         &mut self,
         maker: Option<u32>,
-        effect: &Effect,
+        step: &Record,
         slots: usize,
     ) -> Result<(), AllocError>
         ensures users { (m : ℕ) → users_at self.new.users m ≡ users_at self.old.users m }
         ensures binders { self.new.binders.held ≡ self.old.binders.held }
-        ensures taking { OnOk result ((m n : ℕ) → Gave self.old.binders.held maker effect.now.reads m → CanTake self.new.users m n) }
-        ensures binding { OnOk result (finite.len effect.now.binds ≤ self.new.binders.room) }
+        ensures taking { OnOk result ((m n : ℕ) → Gave self.old.binders.held maker step.now.effect.reads m → CanTake self.new.users m n) }
+        ensures binding { OnOk result (finite.len step.now.effect.binds ≤ self.new.binders.room) }
         ensures users_kept { (m n : ℕ) → CanTake self.old.users m n → CanTake self.new.users m n }
         ensures binders_kept { self.old.binders.room ≤ self.new.binders.room }
     {
+        let effect = step.effect();
         self.users.reserve_at(maker, slots)?;
         reserve_under(
             &mut self.users,
@@ -126,7 +126,7 @@ impl UseIndex {
             effect.reads().members(),
             slots,
         )?;
-        self.binders.reserve(effect.binds().len())
+        self.binders.reserve(effect.binds().len(), step.number())
     }
 
     // Puts a step in whose goal the maker made, if one did, where there is room: some look-ups for each variable that it reads,

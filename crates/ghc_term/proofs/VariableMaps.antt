@@ -9,7 +9,7 @@ use Rattle.std.proofs.lemmas.List.{get_or-set_same, get_or-set_other}
 use Rattle.ghc_term.specs.declared.var_name.VarName.{VarName}
 use Rattle.ghc_term.specs.Bindings.{name_cmp}
 use Rattle.ghc_term.specs.Code.{var_inj}
-use Rattle.ghc_term.specs.VariableMap.{first_of, first_variables, values_in, values_of, first_at, HasSameValues}
+use Rattle.ghc_term.specs.VariableMap.{first_of, first_variables, values_in, values_of, first_at, HasSameValues, HasNoFirsts}
 use Rattle.ghc_term.proofs.Names.{name_total, name_antisymmetric, same_name, itself, apart}
 
 -- a list has nothing at a place that it has not
@@ -17,6 +17,11 @@ pub past_none : {V : Type 0} (vs : List (Option V)) (x : ℕ) → length vs ≤ 
 past_none [] x h = refl
 past_none (o ∷ vs) zero h = absurd (omega (arith, h))
 past_none (o ∷ vs) (suc x) h = past_none vs x (omega (arith, h))
+
+cleared : {V : Type 0} (vs : List (Option V)) (x : ℕ) → first_at (slice_set vs x None) x ≡ None
+cleared [] x = refl
+cleared (o ∷ vs) zero = refl
+cleared (o ∷ vs) (suc x) = cleared vs x
 
 still_none : {V : Type 0} {o : Option V} (b : Bool) → None ≡ o → None ≡ cond b None o
 still_none true e = refl
@@ -147,11 +152,22 @@ module _ {V : Type 0} where
     pub removed_other : (vs : List (Option V)) → x.place ≢ 1 → values_in fs ≡ finite.remove (values_in es) x → values_of vs fs ≡ finite.remove (values_of vs es) x
     removed_other vs h = removed vs vs (own_other 0 vs x h) (λ q n. refl)
 
-    pub removed_past : (vs : List (Option V)) → x.place ≡ 1 → length vs ≤ x.step → values_in fs ≡ finite.remove (values_in es) x → values_of vs fs ≡ finite.remove (values_of vs es) x
-    removed_past vs h past = removed vs vs (own_first vs x h ∙ past_none vs x.step past) (λ q n. refl)
+    pub removed_first : (vs : List (Option V)) → x.place ≡ 1 → values_in fs ≡ finite.remove (values_in es) x → values_of (slice_set vs x.step None) fs ≡ finite.remove (values_of vs es) x
+    removed_first vs h = removed vs (slice_set vs x.step None) (own_first (slice_set vs x.step None) x h ∙ cleared vs x.step) (λ q n. own_kept vs x None q h n)
 
-    pub removed_first : (vs : List (Option V)) → x.place ≡ 1 → x.step < length vs → values_in fs ≡ finite.remove (values_in es) x → values_of (slice_set vs x.step None) fs ≡ finite.remove (values_of vs es) x
-    removed_first vs h within = removed vs (slice_set vs x.step None) (own_first (slice_set vs x.step None) x h ∙ get_or-set_same vs x.step None None within) (λ q n. own_kept vs x None q h n)
+    -- entries that are none of the first variable of a step
+    pub firsts_put : (v : V) → x.place ≢ 1 → values_in fs ≡ finite.insert (values_in es) x v → HasNoFirsts es → HasNoFirsts fs
+    firsts_put v n h none q first = still_put v h q (λ e. n (ap (λ y. y.place) (sym e) ∙ first)) ∙ none q first
+
+    pub firsts_gone : values_in fs ≡ finite.remove (values_in es) x → HasNoFirsts es → HasNoFirsts fs
+    firsts_gone h none q first = ap (λ m. finite.get m q) h ∙ finite.get-remove name_total (values_in es) x q ∙ sym (still_none (eq_by_cmp name_cmp q x) (sym (none q first)))
+
+  -- a place of the list that is taken away, where the entries are none of the first variable of a step
+  pub removed_listed : (vs : List (Option V)) (es : List (VarName × V)) (x : VarName) → x.place ≡ 1 → HasNoFirsts es → values_of (slice_set vs x.step None) es ≡ finite.remove (values_of vs es) x
+  removed_listed vs es x h none = finite.same_map name_total name_antisymmetric _ _ (λ q.
+      changed vs (slice_set vs x.step None) es es x None (λ r n. own_kept vs x None r h n) (λ r n. refl)
+      (ap (λ o. option_or o (finite.get (values_in es) x)) (own_first (slice_set vs x.step None) x h ∙ cleared vs x.step) ∙ none x h) q
+      ∙ sym (finite.get-remove name_total (values_of vs es) x q))
 
   -- a place of the list that is written
   pub put_first : (vs : List (Option V)) (es : List (VarName × V)) (x : VarName) (v : V) → x.place ≡ 1 → x.step < length vs → values_of (slice_set vs x.step (Some v)) es ≡ finite.insert (values_of vs es) x v

@@ -29,3 +29,7 @@ first_at vs x = slice_index_or vs x None
 -- At each place the one list has the value that the other has, or neither has one.
 abbrev pub HasSameValues : {V : Type 0} → List (Option V) → List (Option V) → Type 0
 HasSameValues vs ws = (x : ℕ) → first_at ws x ≡ first_at vs x
+
+-- No entry is that of the first variable of a step.
+abbrev pub HasNoFirsts : {V : Type 0} → List (VarName × V) → Type 0
+HasNoFirsts es = (x : VarName) → x.place ≡ 1 → finite.get (values_in es) x ≡ None

@@ -118,13 +118,14 @@ impl Store {
         overlay.reaches(alloc, from, to)
     }
 
-    /// Makes room for as many more bindings. The bindings stay, and so does the room where memory is refused.
-    pub fn reserve(&mut self, count: usize) -> Result<(), AllocError>
+    /// Makes room for as many more bindings of variables that steps up to this number made. The bindings stay, and so does the room
+    /// where memory is refused.
+    pub fn reserve(&mut self, count: usize, newest: u32) -> Result<(), AllocError>
         ensures held { self.new.held ≡ self.old.held }
         ensures room { OnOk result (count ≤ self.new.room) }
         ensures kept { self.old.room ≤ self.new.room }
     {
-        self.map.reserve(count)
+        self.map.reserve(count, newest)
     }
 
     /// Binds each variable of the list to its value, where there is room and the store stays acyclic. It cannot fail, and costs
@@ -150,7 +151,7 @@ impl Store {
         if self.reaches(&value, x)? {
             return Err(Fault::Cycle);
         }
-        self.map.reserve(1)?;
+        self.map.reserve(1, x.step)?;
         self.map.put(x, value);
         Ok(())
     }

@@ -4,7 +4,7 @@ ghost use Rattle.std.specs.FinMap as finite;
 ghost use Rattle.indexmap.specs.IndexMap.{spare};
 ghost use Rattle.ghc_term.specs.VariableMap.{values_in};
 
-use crate::first_values::{first, put_first, widen};
+use crate::first_values::{first, grow, put_first, take_first};
 use crate::name_hasher::NameMap;
 use crate::var_name::VarName;
 use indexmap::IndexMap;
@@ -12,31 +12,34 @@ use std::alloc::{AllocError, Global};
 use std::hash::BuildHasherDefault;
 use std::marker::Model;
 
-/// A map from variables to values. The value of the first variable that a step made is mostly found in one step, and another one by
-/// a look-up.
+/// A map from variables to values. That the first variable of a step has a value or none is mostly found in one step, and of another
+/// variable by a look-up.
 #[derive(Drop)]
 pub struct VariableMap<V> {
     // the values of first variables, by the numbers of the steps that made them
     firsts: Vec<Option<V>>,
     // those of other variables, and of first ones that the list has no place for
     others: NameMap<VarName, V>,
-    // how many values of first variables were put, which says how long the list may be
-    puts: usize,
+    // whether the table may have a value of a first variable
+    has_strays: bool,
 }
 
 impl<V> Model for VariableMap<V> {
+    ghost use Rattle.std.specs.Prelude.{◌≡◌, false};
     ghost use Rattle.std.specs.FinMap as finite;
     ghost use Rattle.indexmap.specs.IndexMap.{spare};
     ghost use Rattle.ghc_term.specs.Bindings.{name_cmp};
     ghost use Rattle.ghc_term.specs.Code.{name_code};
     ghost use Rattle.ghc_term.specs.Table.{Table, table_code};
-    ghost use Rattle.ghc_term.specs.VariableMap.{values_of};
+    ghost use Rattle.ghc_term.specs.VariableMap.{values_of, HasNoFirsts};
 
     ghost Value = { Table (finite.FinMap name_cmp V) };
 
     ghost coded = { table_code (finite.code name_code V.code) };
 
     ghost view = { λ m. record { held = values_of m.firsts.items m.others.entries; room = spare m.others } };
+
+    ghost invariant = { λ m. m.has_strays ≡ false → HasNoFirsts m.others.entries };
 }
 
 // The value in the table: one look-up, and none in a table without values.
@@ -81,7 +84,7 @@ impl<V: Drop> VariableMap<V> {
         VariableMap {
             firsts: Vec::new(alloc),
             others: IndexMap::with_hasher(alloc, BuildHasherDefault::new()),
-            puts: 0,
+            has_strays: false,
         }
     }
 
@@ -90,7 +93,7 @@ impl<V: Drop> VariableMap<V> {
         *self.firsts.allocator()
     }
 
-    /// The value under the variable: one step where it is the first of its step and has a value in the list, else one look-up.
+    /// The value under the variable: one step where it is the first of its step and the list goes so far, else one look-up.
     pub fn get(&self, x: VarName) -> Option<&V>
         ensures { option_copied result ≡ finite.get self.now.held x }
     {
@@ -99,21 +102,27 @@ impl<V: Drop> VariableMap<V> {
         }
         match first(&self.firsts, x.step as usize) {
             Some(value) => Some(value),
-            None => other(&self.others, x),
+            None => {
+                if !self.has_strays {
+                    return None;
+                }
+                other(&self.others, x)
+            }
         }
     }
 
-    /// Makes room for as many more values. The values stay, and so does the room where memory is refused.
-    pub fn reserve(&mut self, count: usize) -> Result<(), AllocError>
+    /// Makes room for as many more values under variables that steps up to this number made. The list grows towards it, by some places
+    /// at most, so that no number makes it large. The values stay, and so does the room where memory is refused.
+    pub fn reserve(&mut self, count: usize, newest: u32) -> Result<(), AllocError>
         ensures held { self.new.held ≡ self.old.held }
         ensures room { OnOk result (count ≤ self.new.room) }
         ensures kept { self.old.room ≤ self.new.room }
     {
+        grow(&mut self.firsts, newest as usize)?;
         self.others.reserve(count)
     }
 
-    /// Puts the value under the variable, where there is room. It cannot fail, and costs a step, and one for each place that the list
-    /// grows by, or a look-up.
+    /// Puts the value under the variable, where there is room. It takes no memory, cannot fail, and costs a step or a look-up.
     pub fn put(&mut self, x: VarName, value: V)
         requires { 0 < self.old.room }
         ensures held { self.new.held ≡ finite.insert self.old.held x value }
@@ -124,9 +133,8 @@ impl<V: Drop> VariableMap<V> {
             return;
         }
         let place = x.step as usize;
-        self.puts = self.puts.saturating_add(1);
-        widen(&mut self.firsts, place, self.puts);
         if place >= self.firsts.len() {
+            self.has_strays = true;
             put_other(&mut self.others, x, value);
             return;
         }
@@ -139,13 +147,13 @@ impl<V: Drop> VariableMap<V> {
         ensures held { self.new.held ≡ finite.remove self.old.held x }
         ensures room { self.old.room ≤ self.new.room }
     {
-        let other = remove_other(&mut self.others, x);
         if x.place != 1 {
-            return other;
+            return remove_other(&mut self.others, x);
         }
-        match self.firsts.get_mut(x.step as usize) {
-            Some(first) => first.take().or(other),
-            None => other,
+        if self.has_strays {
+            let hidden = remove_other(&mut self.others, x);
+            return take_first(&mut self.firsts, x.step as usize).or(hidden);
         }
+        take_first(&mut self.firsts, x.step as usize)
     }
 }

@@ -1,10 +1,9 @@
-use Rattle.std.proofs.Common.{◌≡◌, ◌≤◌, ℕ, refl, sym, ap, subst, arith}
+use Rattle.std.proofs.Common.{◌≡◌, ℕ, refl, sym, ap, subst, arith}
 use Rattle.std.proofs.lemmas.Result.{on_ok_weaker}
-use Rattle.std.specs.FinMap as finite
 use Rattle.ghc_term.specs.Lists.{In}
 use Rattle.std.specs.Prelude.{◌↔◌, Some}
 use Rattle.ghc_records.specs.Slots.{held_in}
-use Rattle.ghc_records.specs.UseIndex.{RecordsTables, IsIndexOf, HasRoomToKeep, IsMakerFor, Gave, CanTake}
+use Rattle.ghc_records.specs.UseIndex.{RecordsTables, IsIndexOf, HasRoomToKeep, IsMakerFor}
 use Rattle.ghc_records.proofs.IndexOf.{index_same, gave_is}
 use Rattle.ghc_records.proofs.records.Records.reserve_for.Goals as goal
 
@@ -35,10 +34,8 @@ returns-clause-room c =
     let made = subst (λ l. (m : ℕ) → (c.maker_for-maker.result ≡ Some m) ↔ IsMakerFor l c.args.step.now m) (sym same) c.maker_for-maker.ensures in
     let rs = held_in c.self.inside.slots.held in
     let given = gave_is rs c.self.inside.index.users c.self.inside.index.binders.held c.self.invariant c.args.step.now c.maker_for-maker.result made in
-    let taking = subst (λ e. (m n : ℕ) → Gave c.self.inside.index.binders.held c.maker_for-maker.result e.reads m → CanTake c.reserve.new.self.users m n) c.effect.ensures c.in_ok-reserve.ensures.taking in
-    let binding = subst (λ e. finite.len e.binds ≤ c.reserve.new.self.binders.room) c.effect.ensures c.in_ok-reserve.ensures.binding in
     on_ok_weaker c.reserve-2.result (λ fits. (
       omega (arith, fits),
-      binding,
-      λ a i u. taking a.number c.args.step.now.number ((given a.number).1 (a, subst (λ ss. In a (held_in ss)) c.reserve-2.ensures.held i, refl, u)),
+      c.in_ok-reserve.ensures.binding,
+      λ a i u. c.in_ok-reserve.ensures.taking a.number c.args.step.now.number ((given a.number).1 (a, subst (λ ss. In a (held_in ss)) c.reserve-2.ensures.held i, refl, u)),
     )) c.reserve-2.ensures.room

@@ -1,5 +1,6 @@
-use Rattle.std.proofs.Common.{ℕ, ◌∙◌, sym, subst}
+use Rattle.std.proofs.Common.{ℕ, ◌∙◌, sym, ap, subst}
 use Rattle.std.specs.Prelude.{Result, Ok, Err, OnOk}
+use Rattle.ghc_fire.specs.Effect.{Effect}
 use Rattle.ghc_records.specs.UseIndex.{Index, CanTake, Gave}
 use Rattle.ghc_records.proofs.Giving.{can_both}
 use Rattle.ghc_records.proofs.use_index.UseIndex.reserve.Goals as goal
@@ -19,8 +20,8 @@ on_ok (Err e) p = tt
 
 pub returns-clause-taking : goal.returns-clause-taking
 returns-clause-taking c =
-    let all = c.members.ensures.all ∙ c.reads.ensures in
-    let reads = c.args.effect.now.reads in
+    let all = c.members.ensures.all ∙ c.reads.ensures ∙ ap (λ (e : Effect). e.reads) c.effect-effect.ensures in
+    let reads = c.args.step.now.effect.reads in
     on_ok c.reserve.result
     (subst (λ (t : Index). (m n : ℕ) → Gave t.binders.held c.args.maker reads m → CanTake c.reserve_under.new.users m n) c.self.view_is
     (can_both c.self.inside.binders.held c.args.maker reads c.members.result.now all c.reserve_under.new.users (λ m n e. c.reserve_under.ensures.kept m n (c.in_ok-reserve_at.ensures.room m n e)) c.in_ok-reserve_under.ensures.room))
