@@ -16,6 +16,7 @@ pub mod Makes
 pub mod TakenBack
 pub mod InOrder
 pub mod NumberSets
+pub mod RisingNumbers
 pub mod StepUsers
 pub mod NearUsers
 pub mod VariableBinders

@@ -19,6 +19,7 @@ mod number_set;
 mod record;
 mod records;
 mod removal;
+mod rising;
 mod shelf;
 mod slots;
 mod state;

@@ -1,9 +1,10 @@
 // Sets of the numbers of steps.
-ghost use Rattle.std.specs.Prelude.{◌≡◌, ◌≢◌, ◌↔◌, ◌⊎◌, ◌+◌, ◌<◌, ◌≤◌, [], ◌∷◌, ◌++◌, ℕ, length, IfOk, OnOk};
+ghost use Rattle.std.specs.Prelude.{◌≡◌, ◌≢◌, ◌↔◌, ◌⊎◌, ◌+◌, ◌<◌, ◌≤◌, [], ℕ, length, vec_len, vec_capacity, IfOk, OnOk};
 ghost use Rattle.indexmap.specs.IndexSet.{spare};
 ghost use Rattle.ghc_term.specs.Lists.{In};
 ghost use Rattle.ghc_records.specs.Orders.{AreDistinct};
 
+use crate::rising::{put_rising, rising_three, rising_two, take_rising};
 use ghc_term::NameSet;
 use indexmap::IndexSet;
 use std::alloc::{AllocError, Global};
@@ -12,7 +13,14 @@ use std::marker::Model;
 use std::mem::size_of;
 use std::slice;
 
-// Numbers of steps: up to three in the set itself, more in a table that finds each by a look-up.
+// How many numbers a new list has room for.
+const FIRST_ROOM: usize = 8;
+
+// How many numbers a list takes at most, so that no more of them are ever moved.
+const MOST_LISTED: usize = 1024;
+
+// Numbers of steps: up to three in the set itself and up to 1,024 in a list, both in ascending order, and more in a table that finds
+// each by a look-up.
 #[derive(Drop)]
 pub(crate) struct NumberSet {
     held: Held,
@@ -24,6 +32,7 @@ enum Held {
     One(Global, u32),
     Two(Global, [u32; 2]),
     Three(Global, [u32; 3]),
+    Listed(Box<Vec<u32>>),
     Tabled(Box<NameSet<u32>>),
 }
 
@@ -45,6 +54,17 @@ impl Model for NumberSet {
     ghost invariant = { λ s. HoldsEachOnce s.held };
 }
 
+// A list of the numbers, with room for more.
+fn listed(alloc: Global, numbers: &[u32]) -> Result<Box<Vec<u32>>, AllocError>
+    ensures held { IfOk result (λ list. list.value.items ≡ numbers.now) }
+    ensures room { IfOk result (λ list. vec_len list.value < vec_capacity list.value) }
+{
+    let mut list = Vec::with_capacity(alloc, FIRST_ROOM)?;
+    list.extend_from_slice(numbers)?;
+    list.reserve(1)?;
+    Ok(Box::new(alloc, list)?)
+}
+
 // A table of the numbers, with room for more.
 fn tabled(alloc: Global, numbers: &[u32]) -> Result<Box<NameSet<u32>>, AllocError>
     requires { AreDistinct numbers.now }
@@ -59,13 +79,6 @@ fn tabled(alloc: Global, numbers: &[u32]) -> Result<Box<NameSet<u32>>, AllocErro
     Ok(Box::new(alloc, table)?)
 }
 
-// The three.
-fn with_third(two: &[u32; 2], third: u32) -> [u32; 3]
-    ensures { result ≡ two.now ++ third ∷ [] }
-{
-    [two[0], two[1], third]
-}
-
 impl Held {
     ghost use Rattle.ghc_records.specs.NumberSet.{numbers_of, IsFew};
 
@@ -76,6 +89,7 @@ impl Held {
             Held::One(alloc, _) => *alloc,
             Held::Two(alloc, _) => *alloc,
             Held::Three(alloc, _) => *alloc,
+            Held::Listed(list) => *list.allocator(),
             Held::Tabled(table) => *table.allocator(),
         }
     }
@@ -90,6 +104,7 @@ impl Held {
             Held::One(_, number) => slice::from_ref(number),
             Held::Two(_, numbers) => numbers,
             Held::Three(_, numbers) => numbers,
+            Held::Listed(list) => list.as_slice(),
             Held::Tabled(table) => table.as_slice(),
         }
     }
@@ -113,7 +128,8 @@ impl NumberSet {
         self.held.as_slice()
     }
 
-    // Makes room for one more number: only a fourth one needs memory, and each after it may.
+    // Makes room for one more number: only a fourth one needs memory, and each after it may. A list of 1,024
+    // becomes a table, by a look-up for each of them, and stays one.
     pub(crate) fn reserve(&mut self) -> Result<(), AllocError>
         ensures held { self.new.held ≡ self.old.held }
         ensures room { OnOk result (0 < self.new.room) }
@@ -123,14 +139,22 @@ impl NumberSet {
         match &mut self.held {
             Held::Nothing(_) | Held::One(_, _) | Held::Two(_, _) => Ok(()),
             Held::Three(_, three) => {
-                self.held = Held::Tabled(tabled(alloc, three)?);
+                self.held = Held::Listed(listed(alloc, three)?);
+                Ok(())
+            }
+            Held::Listed(list) => {
+                if list.len() < MOST_LISTED {
+                    return list.reserve(1);
+                }
+                self.held = Held::Tabled(tabled(alloc, list)?);
                 Ok(())
             }
             Held::Tabled(table) => table.reserve(1),
         }
     }
 
-    // Adds a number that is there already, or for which there is room: two comparisons at most, or one look-up.
+    // Adds a number that is there already, or for which there is room: one step where it is greater than all others, else a search by
+    // halves and a move of those behind it, of 1,024 at most, or one look-up.
     pub(crate) fn put(&mut self, number: u32)
         requires { (0 < self.old.room) ⊎ In number self.old.held }
         ensures numbers { (n : ℕ) → In n self.new.held ↔ (In n self.old.held ⊎ (n ≡ number)) }
@@ -143,26 +167,32 @@ impl NumberSet {
             }
             Held::One(_, one) => {
                 if *one != number {
-                    self.held = Held::Two(alloc, [*one, number]);
+                    self.held = Held::Two(alloc, rising_two(*one, number));
                 }
             }
             Held::Two(_, two) => {
                 if !two.contains(&number) {
-                    self.held = Held::Three(alloc, with_third(two, number));
+                    self.held = Held::Three(alloc, rising_three(two, number));
                 }
             }
             // Three have no room for a fourth, so that the number is one of them.
             Held::Three(_, _) => {}
+            Held::Listed(list) => put_rising(list, number),
             Held::Tabled(table) => {
                 table.insert(number).unwrap();
             }
         }
     }
 
-    // Takes a number out: three comparisons at most, or one look-up.
+    // Takes a number out: three comparisons at most, or a search by halves and a move of those behind it, of 1,024 at most, or one
+    // look-up.
     pub(crate) fn remove(&mut self, number: u32)
         ensures { (n : ℕ) → In n self.new.held ↔ (In n self.old.held × (n ≢ number)) }
     {
+        if let Held::Listed(list) = &mut self.held {
+            take_rising(list, number);
+            return;
+        }
         if let Held::Tabled(table) = &mut self.held {
             table.swap_remove(&number);
             return;

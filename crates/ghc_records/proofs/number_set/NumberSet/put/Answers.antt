@@ -1,4 +1,4 @@
-use Rattle.std.proofs.Common.{◌≡◌, ◌⊎◌, ◌<◌, is_ok, sym, ap, ◌∙◌, subst, inl, inr}
+use Rattle.std.proofs.Common.{◌≡◌, ◌⊎◌, ◌<◌, [], ◌∷◌, is_ok, sym, ap, ◌∙◌, subst, inl, inr}
 use Rattle.std.specs.Prelude.{◌↔◌}
 use Rattle.indexmap.specs.IndexSet.{spare}
 use Rattle.ghc_term.specs.Lists.{In}
@@ -6,12 +6,13 @@ use Rattle.ghc_term.proofs.Indexed.{done}
 use Rattle.ghc_records.specs.NumberSet.{numbers_of, room_of}
 use Rattle.ghc_records.proofs.NumberSets.{found, succeeds_with, number_put}
 use Rattle.ghc_records.proofs.number_set.NumberSet.put.Goals as goal
+use Rattle.ghc_records.proofs.number_set.NumberSet.put.Goals.{in-Listed-2, in-Tabled-2, in-Nothing-2, in-Listed-3, in-Tabled-3, in-Nothing-3}
 
 pub unwrap-requires : goal.unwrap-requires
 unwrap-requires c =
-    let table = c.deref_mut.result.now in
-    let here = ap (λ t. t.keys) c.deref_mut.ensures.value ∙ ap numbers_of (sym c.in-Tabled.is) ∙ ap (λ t. t.held) c.self.view_is in
-    let room = ap spare c.deref_mut.ensures.value ∙ ap room_of (sym c.in-Tabled.is) ∙ ap (λ t. t.room) c.self.view_is in
+    let table = c.deref_mut-in-Tabled.result.now in
+    let here = ap (λ t. t.keys) c.deref_mut-in-Tabled.ensures.value ∙ ap numbers_of (sym c.in-Tabled.is) ∙ ap (λ t. t.held) c.self.view_is in
+    let room = ap spare c.deref_mut-in-Tabled.ensures.value ∙ ap room_of (sym c.in-Tabled.is) ∙ ap (λ t. t.room) c.self.view_is in
     succeeds_with c.insert.result table.keys c.args.self.now.held c.args.number here (λ r. c.insert.ensures.succeeds (subst (λ k. 0 < k) (sym room) r)) c.insert.ensures.absent c.requires
 
 pub returns-else-not-contains-clause-numbers : goal.returns-else-not-contains-clause-numbers
@@ -23,7 +24,38 @@ returns-else-not-contains-clause-numbers c n =
 
 pub returns-in-Tabled-clause-numbers : goal.returns-in-Tabled-clause-numbers
 returns-in-Tabled-clause-numbers c n =
-    let table = c.deref_mut.result.now in
-    let here = ap (λ t. t.keys) c.deref_mut.ensures.value ∙ ap numbers_of (sym c.in-Tabled.is) ∙ ap (λ t. t.held) c.self.view_is in
+    let table = c.deref_mut-in-Tabled.result.now in
+    let here = ap (λ t. t.keys) c.deref_mut-in-Tabled.ensures.value ∙ ap numbers_of (sym c.in-Tabled.is) ∙ ap (λ t. t.held) c.self.view_is in
     subst (λ l. In n c.insert.new.self.keys ↔ (In n l ⊎ (n ≡ c.args.number))) here
     (number_put table.keys c.insert.new.self.keys c.args.number (done c.insert.result (ap is_ok c.unwrap.ensures) c.insert.ensures.updates).0 n)
+
+pub returns-then-one-number-clause-numbers : goal.returns-then-one-number-clause-numbers
+returns-then-one-number-clause-numbers c n =
+    let here : c.in-One.one ∷ [] ≡ c.args.self.now.held = ap numbers_of (sym c.in-One.is) ∙ ap (λ t. t.held) c.self.view_is in
+    let new : c.match-self-3.self.held ≡ c.rising_two.result = elim c.match-self-3.branch [
+      | in-Listed-2 w ↦ ap (λ t. t.held) w.self-is
+      | in-Tabled-2 w ↦ ap (λ t. t.held) w.self-is
+      | in-Nothing-2 w ↦ ap (λ t. t.held) w.self-is
+    ] in
+    let is = c.rising_two.ensures.numbers n in
+    subst (λ l. In n l ↔ (In n c.args.self.now.held ⊎ (n ≡ c.args.number))) (sym new)
+    (subst (λ l. In n c.rising_two.result ↔ (In n l ⊎ (n ≡ c.args.number))) here (
+      λ i. elim (is.0 i) [ inl e ↦ inl (inl e) | inr e ↦ inr e ],
+      λ d. elim d [ inl (inl e) ↦ is.1 (inl e) | inl (inr never) ↦ absurd never | inr e ↦ is.1 (inr e) ],
+    ))
+
+pub returns-then-not-contains-clause-numbers : goal.returns-then-not-contains-clause-numbers
+returns-then-not-contains-clause-numbers c n =
+    let here : c.in-Two.two ≡ c.args.self.now.held = ap numbers_of (sym c.in-Two.is) ∙ ap (λ t. t.held) c.self.view_is in
+    let new : c.match-self-4.self.held ≡ c.rising_three.result = elim c.match-self-4.branch [
+      | in-Listed-3 w ↦ ap (λ t. t.held) w.self-is
+      | in-Tabled-3 w ↦ ap (λ t. t.held) w.self-is
+      | in-Nothing-3 w ↦ ap (λ t. t.held) w.self-is
+    ] in
+    subst (λ l. In n l ↔ (In n c.args.self.now.held ⊎ (n ≡ c.args.number))) (sym new)
+    (subst (λ l. In n c.rising_three.result ↔ (In n l ⊎ (n ≡ c.args.number))) here (c.rising_three.ensures.numbers n))
+
+pub returns-in-Listed-clause-numbers : goal.returns-in-Listed-clause-numbers
+returns-in-Listed-clause-numbers c n =
+    let here = ap (λ v. v.items) c.deref_mut.ensures.value ∙ ap numbers_of (sym c.in-Listed.is) ∙ ap (λ t. t.held) c.self.view_is in
+    subst (λ l. In n c.put_rising.new.list.items ↔ (In n l ⊎ (n ≡ c.args.number))) here (c.put_rising.ensures.numbers n)

@@ -12,10 +12,15 @@ use Rattle.ghc_records.proofs.number_set.NumberSet.remove.Goals.{then-one-number
 abbrev IsLeft : List ℕ → ℕ → ℕ → Table (List ℕ) → Type 0
 IsLeft xs i k left = ((n : ℕ) → In n left.held ↔ (In n (take i xs) × (n ≢ k))) × (3 ≤ left.room + i)
 
+pub returns-in-Listed : goal.returns-in-Listed
+returns-in-Listed c n =
+    let here = ap (λ v. v.items) c.deref_mut.ensures.value ∙ ap numbers_of (sym c.in-Listed.is) ∙ ap (λ t. t.held) c.self.view_is in
+    subst (λ l. In n c.take_rising.new.list.items ↔ (In n l × (n ≢ c.args.number))) here (c.take_rising.ensures.numbers n)
+
 pub returns-in-Tabled : goal.returns-in-Tabled
 returns-in-Tabled c n =
-    let table = c.deref_mut.result.now in
-    let here = ap (λ t. t.keys) c.deref_mut.ensures.value ∙ ap numbers_of (sym c.in-Tabled.is) ∙ ap (λ t. t.held) c.self.view_is in
+    let table = c.deref_mut-in-Tabled.result.now in
+    let here = ap (λ t. t.keys) c.deref_mut-in-Tabled.ensures.value ∙ ap numbers_of (sym c.in-Tabled.is) ∙ ap (λ t. t.held) c.self.view_is in
     subst (λ l. In n c.swap_remove.new.self.keys ↔ (In n l × (n ≢ c.args.number))) here (number_taken table.keys c.swap_remove.new.self.keys c.args.number c.swap_remove.ensures.updates.0 n)
 
 pub loop-one-preserved : goal.loop-one-preserved
