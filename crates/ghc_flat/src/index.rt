@@ -1,11 +1,15 @@
 // The index of a program: which clauses are for the calls of a name and arity.
-ghost use Rattle.std.specs.Prelude.{◌≡◌, ◌++◌, ℕ, List, [], ◌∷◌, OnOk, IfOk, if◌then◌else◌};
+ghost use Rattle.std.specs.Prelude.{◌≡◌, ◌++◌, ℕ, List, [], ◌∷◌, OnOk, IfOk, if◌then◌else◌, option_copied, bytes_eq};
+ghost use Rattle.std.specs.Map.{lookup};
 ghost use Rattle.ghc_reader.specs.Written.{AreWellWritten};
 
 use ghc_reader::WrittenClause;
 use ghc_term::Name;
 use indexmap::IndexMap;
 use std::alloc::{AllocError, Global};
+
+// How many names are searched one after another.
+const MOST_LISTED: usize = 8;
 
 // The numbers of the clauses of one name, by arity.
 pub(crate) struct Arities {
@@ -68,6 +72,28 @@ impl Drop for Index {
     }
 }
 
+// What the table has under the name: one comparison for each that stands before it.
+fn among<'a>(names: &'a IndexMap<Name, Arities>, name: &Name) -> Option<&'a Arities>
+    ensures { option_copied result ≡ lookup (bytes_eq name.now) names.now.entries }
+{
+    for (other, arities) in names.iter() {
+        if name == other {
+            return Some(arities);
+        }
+    }
+    None
+}
+
+// The same: eight comparisons at most, or one look-up.
+fn found<'a>(names: &'a IndexMap<Name, Arities>, name: &Name) -> Option<&'a Arities>
+    ensures { option_copied result ≡ lookup (bytes_eq name.now) names.now.entries }
+{
+    if names.len() <= MOST_LISTED {
+        return among(names, name);
+    }
+    names.get(name)
+}
+
 impl Index {
     ghost use Rattle.ghc_flat.specs.Index.{numbers_at, IsIndexOf};
     ghost use Rattle.ghc_flat.specs.Numbers.{is_same_key, keys_of_written};
@@ -88,11 +114,11 @@ impl Index {
         Ok(index)
     }
 
-    // The numbers at the name and the arity, in order: two look-ups.
+    // The numbers at the name and the arity, in order: some comparisons, or a look-up, and a look-up.
     pub(crate) fn numbers(&self, name: &Name, arity: usize) -> &[u32]
         ensures { result.now ≡ numbers_at self.now name.now arity }
     {
-        match self.names.get(name) {
+        match found(&self.names, name) {
             Some(arities) => arities.numbers(arity),
             None => &[],
         }
