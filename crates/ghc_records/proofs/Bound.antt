@@ -1,20 +1,13 @@
--- Bindings are taken away one after another; and a list of bindings, in any order.
+-- Bindings are taken away one after another.
 use Rattle.std.proofs.Common.{◌≡◌, true, false, cond, List, ◌∷◌, refl, sym, ap, ◌∙◌}
 use Rattle.std.specs.Prelude.{Option, Some, None, is_some}
-use Rattle.std.specs.Option.{option_or}
 use Rattle.std.specs.Ordering.{eq_by_cmp}
 use Rattle.std.specs.FinMap as finite
 use Rattle.ghc_term.specs.declared.var_name.VarName.{VarName}
 use Rattle.ghc_term.specs.Tree.{Tree}
 use Rattle.ghc_term.specs.Bindings.{name_cmp}
-use Rattle.ghc_term.specs.Store.{StoreValue, value_at, with_binds}
-use Rattle.ghc_term.proofs.Names.{name_total, name_antisymmetric}
-use Rattle.ghc_records.proofs.States.{bound_by_list, bound_at}
-
--- a store with the bindings of a list is that with the bindings of its map
-pub as_entries : (es : List (VarName × Tree)) (m s : StoreValue) → finite.from_entries es ≡ m → with_binds es s ≡ with_binds (finite.entries m) s
-as_entries es m s all = finite.same_map name_total name_antisymmetric _ _ (λ y.
-    bound_by_list es s y ∙ ap (λ o. option_or o (value_at s y)) (sym (finite.get-from_entries name_total es y) ∙ ap (λ e. value_at e y) all) ∙ sym (bound_at m s y))
+use Rattle.ghc_term.specs.Store.{StoreValue, value_at}
+use Rattle.ghc_term.proofs.Names.{name_total}
 
 -- what is found at y among the bindings of the list
 abbrev pub found : VarName → List (VarName × Tree) → Option Tree

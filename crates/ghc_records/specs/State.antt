@@ -3,9 +3,8 @@ use Rattle.std.specs.Prelude.{◌≡◌, ◌≤◌, if◌then◌else◌, is_some
 use Rattle.std.specs.FinMap as finite
 use Rattle.ghc_term.specs.declared.var_name.VarName.{VarName}
 use Rattle.ghc_term.specs.declared.goal_name.GoalName.{GoalName}
-use Rattle.ghc_term.specs.Tree.{Tree}
 use Rattle.ghc_term.specs.Goal.{Goal}
-use Rattle.ghc_term.specs.Store.{StoreValue, value_at}
+use Rattle.ghc_term.specs.Store.{value_at}
 use Rattle.ghc_fire.specs.Goals.{Goals}
 use Rattle.ghc_records.specs.Record.{State, Record}
 use Rattle.ghc_records.specs.Replay.{MakesGoal}
@@ -23,10 +22,6 @@ pub record StateTables : Type 0 where
 -- There is room for what the step makes and binds.
 abbrev pub HasRoomToTake : StateRoom → Record → Type 0
 HasRoomToTake room r = (length r.effect.makes ≤ room.goals) × (finite.len r.effect.binds ≤ room.bindings)
-
--- The list has the bindings, each once.
-abbrev pub AreBindings : List (VarName × Tree) → StoreValue → Type 0
-AreBindings bs m = (finite.from_entries bs ≡ m) × (length bs ≡ finite.len m)
 
 -- the goals, with n.k, .., n.1 taken away
 abbrev pub without_makes : ℕ → ℕ → Goals → Goals

@@ -1,13 +1,11 @@
 // Steps to be taken, each with all that this takes.
 ghost use Rattle.std.specs.Prelude.{◌≡◌, length, IfOk};
-ghost use Rattle.std.specs.FinMap as finite;
 ghost use Rattle.ghc_records.specs.Journal.{took, step_of};
 ghost use Rattle.ghc_records.specs.EntryCode.{entry_of};
-ghost use Rattle.ghc_records.specs.State.{AreBindings};
 
 use crate::entry::Entry;
 use crate::record::Record;
-use ghc_term::{Bindings, Goal, Term, VarName};
+use ghc_term::{Bindings, Goal};
 use std::alloc::{AllocError, Global};
 use std::marker::Model;
 
@@ -18,7 +16,7 @@ pub struct Addition {
     entry: Entry,
     makes: Vec<Goal>,
     made: u32,
-    binds: Vec<(VarName, Term)>,
+    binds: Bindings,
 }
 
 impl Drop for Addition {
@@ -39,7 +37,6 @@ impl Model for Addition {
     ghost use Rattle.ghc_records.specs.RecordCode.{record_code};
     ghost use Rattle.ghc_records.specs.Journal.{took, step_of};
     ghost use Rattle.ghc_records.specs.EntryCode.{entry_of};
-    ghost use Rattle.ghc_records.specs.State.{AreBindings};
 
     ghost Value = { Record };
 
@@ -48,7 +45,7 @@ impl Model for Addition {
     ghost view = { λ a. a.step };
 
     ghost invariant = { λ a. (entry_of a.entry ≡ took (step_of a.step)) × (a.makes.items ≡ a.step.effect.makes)
-        × (a.made ≡ length a.step.effect.makes) × AreBindings a.binds.items a.step.effect.binds };
+        × (a.made ≡ length a.step.effect.makes) × (a.binds ≡ a.step.effect.binds) };
 }
 
 // The goals once more.
@@ -63,18 +60,6 @@ pub(crate) fn share_goals(alloc: Global, goals: &[Goal]) -> Result<Vec<Goal>, Al
     Ok(shared)
 }
 
-// The bindings once more, in a list.
-fn share_binds(alloc: Global, binds: &Bindings) -> Result<Vec<(VarName, Term)>, AllocError>
-    ensures { IfOk result (λ shared. AreBindings shared.items binds.now) }
-{
-    let mut shared = Vec::new(alloc);
-    shared.reserve_exact(binds.len())?;
-    for (x, value) in binds.entries() {
-        shared.push((*x, value.share()?))?;
-    }
-    Ok(shared)
-}
-
 impl Addition {
     /// What it takes to take this step, with handles of its own: one step for each goal and each binding. Fails for want of
     /// memory, or where a count of handles is full.
@@ -85,7 +70,7 @@ impl Addition {
         let effect = step.effect();
         let made = effect.made();
         let makes = share_goals(alloc, effect.makes())?;
-        let binds = share_binds(alloc, effect.binds())?;
+        let binds = effect.binds().share()?;
         Ok(Addition {
             step,
             entry,
@@ -103,12 +88,12 @@ impl Addition {
     }
 
     // The record, its entry, the goals that the step makes, how many they are, and its bindings.
-    pub(crate) fn into_parts(self) -> (Record, Entry, Vec<Goal>, u32, Vec<(VarName, Term)>)
+    pub(crate) fn into_parts(self) -> (Record, Entry, Vec<Goal>, u32, Bindings)
         ensures record { result.0 ≡ self }
         ensures entry { entry_of result.1 ≡ took (step_of self) }
         ensures makes { result.2.items ≡ self.effect.makes }
         ensures made { result.3 ≡ length self.effect.makes }
-        ensures binds { AreBindings result.4.items self.effect.binds }
+        ensures binds { result.4 ≡ self.effect.binds }
     {
         let Addition {
             step,

@@ -32,3 +32,4 @@ pub mod Members
 pub mod VariableLists
 pub mod BindingLists
 pub mod VariableMaps
+pub mod WithBinds

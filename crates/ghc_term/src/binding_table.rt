@@ -5,6 +5,7 @@ ghost use Rattle.std.specs.Map.{keys_of};
 ghost use Rattle.ghc_term.specs.BindingTable.{AreOnce, map_of};
 ghost use Rattle.ghc_term.specs.Store.{value_at};
 
+use crate::entry_list::share_entries;
 use crate::term::Term;
 use crate::var_name::VarName;
 use crate::variable_list::VariableList;
@@ -81,8 +82,17 @@ impl BindingTable {
         self.entries.as_slice()
     }
 
+    // The bindings once more, in a table of their own: one step and one look-up for each.
+    pub fn share(&self) -> Result<Box<BindingTable>, AllocError>
+        requires { AreOnce self.now }
+        ensures { IfOk result (λ table. table.value ≡ self.now) }
+    {
+        let mut list = share_entries(*self.entries.allocator(), &self.entries)?;
+        tabled(&mut list)
+    }
+
     // The entries alone.
-    fn into_entries(self) -> Vec<(VarName, Term)>
+    pub fn into_entries(self) -> Vec<(VarName, Term)>
         ensures { result.items ≡ self }
     {
         let BindingTable {

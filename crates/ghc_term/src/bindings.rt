@@ -1,13 +1,14 @@
 // What a step binds.
-ghost use Rattle.std.specs.Prelude.{◌≡◌, ◌≢◌, ◌↔◌, [], ◌∷◌, length, IfOk, IfSome, IfNone, IsTrue, OnOk, OnErr, option_copied, Some, None, All, slice_get};
+ghost use Rattle.std.specs.Prelude.{◌≡◌, ◌≤◌, ◌↔◌, [], ◌∷◌, length, IfOk, IsTrue, OnOk, OnErr, option_copied, Some, None};
 ghost use Rattle.std.specs.FinMap as finite;
-ghost use Rattle.std.specs.Map.{keys_of};
 ghost use Rattle.ghc_term.specs.BindingTable.{AreOnce, map_of};
-ghost use Rattle.ghc_term.specs.Store.{value_at};
+ghost use Rattle.ghc_term.specs.Store.{value_at, with_binds};
 
 use crate::binding_table::{BindingTable, tabled};
+use crate::entry_list::{place_in, put_each, share_entries, value_in};
 use crate::term::Term;
 use crate::var_name::VarName;
+use crate::variable_map::VariableMap;
 use std::alloc::{AllocError, Global};
 use std::marker::Model;
 use std::{mem, slice};
@@ -51,26 +52,6 @@ impl Model for Bindings {
     ghost view = { λ b. map_of (in_order b.held) };
 
     ghost invariant = { λ b. AreOnce (in_order b.held) };
-}
-
-// What the list binds the variable to: one comparison for each that stands before it.
-fn value_in(list: &[(VarName, Term)], x: VarName) -> Option<&Term>
-    ensures { option_copied result ≡ value_at (map_of list.now) x }
-{
-    for (y, value) in list {
-        if x == *y {
-            return Some(value);
-        }
-    }
-    None
-}
-
-// Where the variable stands in the list: one comparison for each that stands before it.
-fn place_in(list: &[(VarName, Term)], x: VarName) -> Option<usize>
-    ensures found { IfSome result (λ place. slice_get (keys_of list.now) place ≡ Some x) }
-    ensures none { IfNone result (All (λ e. e.0 ≢ x) list.now) }
-{
-    list.iter().position(|(y, _)| *y == x)
 }
 
 // A list of the entry, which is taken, with room for one more.
@@ -126,6 +107,32 @@ impl Held {
             Held::One(_, entry) => slice::from_ref(entry),
             Held::Listed(list) => list.as_slice(),
             Held::Tabled(table) => table.entries(),
+        }
+    }
+
+    // The bindings once more, in the same form.
+    fn share(&self) -> Result<Held, AllocError>
+        requires { AreOnce (in_order self.now) }
+        ensures { IfOk result (λ again. in_order again ≡ in_order self.now) }
+    {
+        match self {
+            Held::Nothing(alloc) => Ok(Held::Nothing(*alloc)),
+            Held::One(alloc, (x, value)) => Ok(Held::One(*alloc, (*x, value.share()?))),
+            Held::Listed(list) => Ok(Held::Listed(share_entries(*list.allocator(), list)?)),
+            Held::Tabled(table) => Ok(Held::Tabled(table.share()?)),
+        }
+    }
+
+    // Puts each binding into the map, where there is room. It cannot fail, and costs a step or a look-up for each.
+    fn put_into(self, map: &mut VariableMap<Term>)
+        requires { length (in_order self) ≤ map.old.room }
+        ensures { map.new.held ≡ with_binds (in_order self) map.old.held }
+    {
+        match self {
+            Held::Nothing(_) => {}
+            Held::One(_, (x, value)) => map.put(x, value),
+            Held::Listed(list) => put_each(map, list),
+            Held::Tabled(table) => put_each(map, Box::into_inner(table).into_entries()),
         }
     }
 }
@@ -224,6 +231,25 @@ impl Bindings {
         ensures once { length result.now ≡ finite.len self.now }
     {
         self.held.entries()
+    }
+
+    /// The bindings once more, with handles of their own: one step for each, and a look-up where they are many. One that stands here
+    /// without a list takes no memory. Fails for want of memory, or where a count of handles is full.
+    pub fn share(&self) -> Result<Bindings, AllocError>
+        ensures { IfOk result (λ again. again ≡ self.now) }
+    {
+        Ok(Bindings {
+            held: self.held.share()?,
+        })
+    }
+
+    // Puts each binding into the map, where there is room. It cannot fail, and costs a step or a look-up for each.
+    pub(crate) fn put_into(self, map: &mut VariableMap<Term>)
+        requires { finite.len self ≤ map.old.room }
+        ensures { map.new.held ≡ with_binds (finite.entries self) map.old.held }
+    {
+        let Bindings { held } = self;
+        held.put_into(map);
     }
 
     // Whether the variable is bound to the term here.

@@ -6,6 +6,7 @@ mod arguments;
 mod binding_table;
 mod bindings;
 mod comparison;
+mod entry_list;
 mod equality;
 mod expr;
 mod expr_view;

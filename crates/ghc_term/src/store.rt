@@ -1,5 +1,5 @@
 // The bindings of variables.
-ghost use Rattle.std.specs.Prelude.{◌≡◌, ◌≤◌, ◌↔◌, ◌⊎◌, length, IfOk, IfErr, OnOk, OnErr, IsTrue, None, Some};
+ghost use Rattle.std.specs.Prelude.{◌≡◌, ◌≤◌, ◌↔◌, ◌⊎◌, IfOk, IfErr, OnOk, OnErr, IsTrue, None, Some};
 ghost use Rattle.std.specs.FinMap as finite;
 ghost use Rattle.ghc_term.specs.Store.{with_binds};
 
@@ -30,16 +30,6 @@ impl Model for Store {
     ghost view = { λ s. s.map };
 
     ghost invariant = { λ s. IsAcyclic (value_at s.map.held) };
-}
-
-// Puts each entry of the list into the map, where there is room, the last first.
-fn put_each(map: &mut VariableMap<Term>, mut entries: Vec<(VarName, Term)>)
-    requires { length entries.items ≤ map.old.room }
-    ensures { map.new.held ≡ with_binds entries.items map.old.held }
-{
-    while let Some((x, value)) = entries.pop() {
-        map.put(x, value);
-    }
 }
 
 impl Store {
@@ -128,14 +118,14 @@ impl Store {
         self.map.reserve(count, newest)
     }
 
-    /// Binds each variable of the list to its value, where there is room and the store stays acyclic. It cannot fail, and costs
-    /// a look-up for each.
-    pub fn put(&mut self, binds: Vec<(VarName, Term)>)
-        requires room { length binds.items ≤ self.old.room }
-        requires acyclic { IsAcyclic (value_at (with_binds binds.items self.old.held)) }
-        ensures { self.new.held ≡ with_binds binds.items self.old.held }
+    /// Binds each variable to its value, where there is room and the store stays acyclic. It cannot fail, and costs a look-up for
+    /// each.
+    pub fn put(&mut self, binds: Bindings)
+        requires room { finite.len binds ≤ self.old.room }
+        requires acyclic { IsAcyclic (value_at (with_binds (finite.entries binds) self.old.held)) }
+        ensures { self.new.held ≡ with_binds (finite.entries binds) self.old.held }
     {
-        put_each(&mut self.map, binds);
+        binds.put_into(&mut self.map);
     }
 
     /// Binds an unbound variable, at the cost of `reaches`. `Fault::Cycle` exactly where the value reaches the

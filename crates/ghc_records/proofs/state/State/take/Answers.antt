@@ -1,10 +1,10 @@
 use Rattle.std.proofs.Common.{◌≡◌, sym, ap, ◌∙◌, subst}
+use Rattle.std.specs.FinMap as finite
 use Rattle.ghc_term.specs.Bindings.{IsAcyclic}
-use Rattle.ghc_term.specs.Store.{StoreValue, value_at}
+use Rattle.ghc_term.specs.Store.{StoreValue, value_at, with_binds}
 use Rattle.ghc_fire.specs.Goals.{Goals}
 use Rattle.ghc_records.specs.Record.{State, Record, with_makes, without_goal, after}
 use Rattle.ghc_records.specs.State.{StateTables}
-use Rattle.ghc_records.proofs.Bound.{as_entries}
 use Rattle.ghc_records.proofs.state.State.take.Goals as goal
 
 -- a state of equal parts
@@ -13,9 +13,8 @@ same_state g h s t p q i = record { goals = p i; store = q i }
 
 pub put-requires-clause-acyclic : goal.put-requires-clause-acyclic
 put-requires-clause-acyclic c =
-    let parts = c.into_parts-step.ensures in
     let acyclic = subst (λ (t : StateTables). IsAcyclic (value_at (after t.held c.args.addition).store)) (sym c.self.view_is) c.requires.acyclic in
-    subst (λ s. IsAcyclic (value_at s)) (sym (as_entries c.into_parts-step.result.4.items c.args.addition.effect.binds c.self.inside.store.held parts.binds.0)) acyclic
+    subst (λ m. IsAcyclic (value_at (with_binds (finite.entries m) c.self.inside.store.held))) (sym c.into_parts-step.ensures.binds) acyclic
 
 pub returns-clause-state : goal.returns-clause-state
 returns-clause-state c =
@@ -27,5 +26,5 @@ returns-clause-state c =
     c.make_goals.ensures ∙ ap (λ n. with_makes n 1 c.into_parts-step.result.2.items c.consume_goal.new.goals.held) number
     ∙ ap (λ l. with_makes r.number 1 l c.consume_goal.new.goals.held) parts.makes
     ∙ ap (with_makes r.number 1 r.effect.makes) (c.consume_goal.ensures.held ∙ ap (λ o. without_goal o c.self.inside.goals.held) goal) in
-    let store = c.put.ensures ∙ as_entries c.into_parts-step.result.4.items r.effect.binds c.self.inside.store.held parts.binds.0 in
+    let store = c.put.ensures ∙ ap (λ m. with_binds (finite.entries m) c.self.inside.store.held) parts.binds in
     same_state _ _ _ _ goals store ∙ ap (λ (t : StateTables). after t.held r) c.self.view_is

@@ -1,7 +1,7 @@
 use Rattle.std.proofs.Common.{◌≡◌, drop}
 use Rattle.std.specs.FinMap as finite
 use Rattle.ghc_term.specs.Bindings.{name_cmp}
-use Rattle.ghc_term.proofs.bindings.value_in.Given as goal
+use Rattle.ghc_term.proofs.entry_list.value_in.Given as goal
 
 abbrev pub invariant-loop-y : goal.invariant-loop-y
 invariant-loop-y l = finite.find name_cmp l.x l.list ≡ finite.find name_cmp l.x (drop l.y-index l.list)

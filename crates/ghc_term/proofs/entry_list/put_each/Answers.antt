@@ -3,7 +3,7 @@ use Rattle.std.specs.FinMap as finite
 use Rattle.ghc_term.specs.declared.var_name.VarName.{VarName}
 use Rattle.ghc_term.specs.Tree.{Tree}
 use Rattle.ghc_term.specs.Store.{StoreValue, with_binds}
-use Rattle.ghc_term.proofs.store.put_each.Goals as goal
+use Rattle.ghc_term.proofs.entry_list.put_each.Goals as goal
 
 -- the last binding of a list is made first
 last_first : (bs : List (VarName × Tree)) (b : VarName × Tree) (s : StoreValue) → with_binds (bs ++ b ∷ []) s ≡ with_binds bs (finite.insert s b.0 b.1)

@@ -1,6 +1,6 @@
 use Rattle.std.proofs.Common.{◌≡◌, ◌≤◌, length}
 use Rattle.ghc_term.specs.Store.{with_binds}
-use Rattle.ghc_term.proofs.store.put_each.Given as goal
+use Rattle.ghc_term.proofs.entry_list.put_each.Given as goal
 
 abbrev pub invariant-loop-x : goal.invariant-loop-x
 invariant-loop-x l = (length l.entries.items ≤ l.map.room) × (with_binds l.entries.items l.map.held ≡ with_binds l.initial.entries.items l.initial.map.held)

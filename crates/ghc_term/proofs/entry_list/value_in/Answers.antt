@@ -5,7 +5,7 @@ use Rattle.std.proofs.lemmas.List.{drop_all}
 use Rattle.ghc_term.specs.Bindings.{name_cmp}
 use Rattle.ghc_term.proofs.BindingLists.{next}
 use Rattle.ghc_term.proofs.Names.{name_total}
-use Rattle.ghc_term.proofs.bindings.value_in.Goals as goal
+use Rattle.ghc_term.proofs.entry_list.value_in.Goals as goal
 
 pub returns-then-eq : goal.returns-then-eq
 returns-then-eq c =
