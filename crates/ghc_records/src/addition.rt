@@ -61,8 +61,8 @@ pub(crate) fn share_goals(alloc: Global, goals: &[Goal]) -> Result<Vec<Goal>, Al
 }
 
 impl Addition {
-    /// What it takes to take this step, with handles of its own: one step for each goal and each binding. Fails for want of
-    /// memory, or where a count of handles is full.
+    /// What it takes to take this step, with handles of its own: one step for each goal, and what it costs to share the bindings.
+    /// Fails for want of memory, or where a count of handles is full.
     pub fn of(alloc: Global, step: Record) -> Result<Addition, AllocError>
         ensures { IfOk result (λ a. a ≡ step) }
     {
