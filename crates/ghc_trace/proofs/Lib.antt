@@ -1,4 +1,5 @@
 pub mod Entries
+pub mod Gathering
 pub mod Disturbing
 pub mod Naming
 pub mod Writing

@@ -38,15 +38,11 @@ use Rattle.ghc_core.proofs.Reaching.{reached_good}
 use Rattle.ghc_trace.specs.News.{IsStuck, Standing}
 use Rattle.ghc_trace.specs.Laws.{IsSettled, Brings, NotesTellPorts, NotesTellNews}
 use Rattle.ghc_trace.proofs.Changed.{changed_from}
+use Rattle.ghc_trace.proofs.Entries.{found}
 use Rattle.ghc_trace.specs.Disturbed.{stuck_of, stuck_by, Disturbed, IsOneOf, AreAsNoted, AreDisturbed, WaitsWhereBound, AreResumedBy, IsStuckOtherwise, AreStuckOtherwise, status_by}
 use Rattle.ghc_trace.specs.declared.stuck.Stuck.{Stuck}
 use Rattle.ghc_trace.specs.declared.stuck.Stuck.TheVariants.{Waiting}
 use Rattle.ghc_trace.proofs.Causes.{some_stuck, stuck_once}
-
--- a value that is found, or nothing
-found : {X : Type 0} (o : Option X) → ((x : X) × (o ≡ Some x)) ⊎ (o ≡ None)
-found None = inr refl
-found (Some x) = inl (x, refl)
 
 some_once : {X : Type 0} {x y : X} → Some x ≡ Some y → x ≡ y
 some_once e = cc

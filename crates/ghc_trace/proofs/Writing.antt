@@ -1,8 +1,13 @@
--- What is written of some of the goals of a map, one after another.
-use Rattle.std.proofs.Common.{◌≡◌, true, ℕ, ◌++◌, List, [], ◌∷◌, refl, sym, ap, subst, ◌∙◌, append_assoc, append-nil}
+-- What is written of some of the goals of a list, one after another.
+use Rattle.std.proofs.Common.{◌≡◌, true, ℕ, ◌+◌, ◌<◌, ◌++◌, List, [], ◌∷◌, length, get_or, drop, refl, sym, ap, subst, ◌∙◌, append_assoc, append-nil}
+use Rattle.std.proofs.lemmas.List.{drop_more}
 use Rattle.std.specs.Prelude.{Result, Ok, Err, is_ok, OnOk}
 use Rattle.ghc_records.specs.Orders.{Picks, nothing, take, leave}
 use Rattle.ghc_trace.specs.NewsCode.{Former}
+
+-- the next of the goals left
+pub next_left : (es : List Former) (i : ℕ) (e : Former) → i < length es → e ≡ get_or es i e → drop i es ≡ e ∷ drop (i + 1) es
+next_left es i e within is = drop_more es i e within ∙ ap (λ d. d ∷ drop (i + 1) es) (sym is)
 
 module _ (P : Former → Type 0) (text : List Former → List ℕ) (es : List Former) where
   -- Whatever is picked out of the goals left, with it the texts of all that are picked out are written behind the old text.

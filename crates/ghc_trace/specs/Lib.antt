@@ -6,6 +6,7 @@ pub mod News
 pub mod Disturbed
 pub mod NewsCode
 pub mod DisturbedCode
+pub mod Gathering
 pub mod Laws
 pub mod GoalLines
 pub mod GoalLinesCode

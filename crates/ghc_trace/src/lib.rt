@@ -4,6 +4,7 @@
 
 mod descent;
 mod disturbed;
+mod gathered;
 mod goal_laws;
 mod goal_lines;
 mod laws;

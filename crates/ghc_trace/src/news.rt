@@ -21,7 +21,6 @@ use ghc_hooks::{Tries, Verdict};
 use ghc_records::Record;
 use ghc_term::{Bindings, GoalName, Variables, end_of, or_cut_back};
 use std::alloc::AllocError;
-use std::collections::BTreeMap;
 
 // Whether one of the variables is bound here: one look-up for each.
 fn binds_one_of(binds: &Bindings, xs: &Variables) -> bool
@@ -56,11 +55,11 @@ fn write_resumed(goal: GoalName, out: &mut String) -> Result<(), AllocError>
 
 // Writes of each goal that it is resumed, where it waits for a variable that the step binds.
 fn write_each_resumed(
-    goals: &BTreeMap<GoalName, Option<Stuck>>,
+    goals: &[(GoalName, Option<Stuck>)],
     step: &Record,
     out: &mut String,
 ) -> Result<(), AllocError>
-    ensures text { OnOk result (AddsResumed step.now goals.now.entries (string_bytes out.old) (string_bytes out.new)) }
+    ensures text { OnOk result (AddsResumed step.now goals.now (string_bytes out.old) (string_bytes out.new)) }
     ensures begun { StartsWith (string_bytes out.new) (string_bytes out.old) }
 {
     for (goal, before) in goals {
@@ -90,11 +89,11 @@ fn news_of<'a>(tries: &'a Tries, goal: GoalName, before: &Option<Stuck>) -> Opti
 
 // Writes of each goal how it is stuck, where it is stuck otherwise by its note.
 fn write_each_news(
-    goals: &BTreeMap<GoalName, Option<Stuck>>,
+    goals: &[(GoalName, Option<Stuck>)],
     tries: &Tries,
     out: &mut String,
 ) -> Result<(), AllocError>
-    ensures text { OnOk result (AddsNews tries.now.notes goals.now.entries (string_bytes out.old) (string_bytes out.new)) }
+    ensures text { OnOk result (AddsNews tries.now.notes goals.now (string_bytes out.old) (string_bytes out.new)) }
     ensures begun { StartsWith (string_bytes out.new) (string_bytes out.old) }
 {
     for (goal, before) in goals {
@@ -113,7 +112,6 @@ impl Disturbed {
         ensures ok { OnOk result ((names : List goal_name) × AreResumedBy step.now self.now names × (string_bytes out.new ≡ string_bytes out.old ++ ports_text (map resumed names))) }
         ensures err { OnErr result (string_bytes out.new ≡ string_bytes out.old) }
     {
-        let _count = self.goals.len();
         let length = end_of(out);
         let written = write_each_resumed(&self.goals, step, out);
         or_cut_back(out, length, written)
@@ -126,7 +124,6 @@ impl Disturbed {
         ensures ok { OnOk result ((news : List Standing) × AreStuckOtherwise tries.now.notes self.now news × (string_bytes out.new ≡ string_bytes out.old ++ news_text news)) }
         ensures err { OnErr result (string_bytes out.new ≡ string_bytes out.old) }
     {
-        let _count = self.goals.len();
         let length = end_of(out);
         let written = write_each_news(&self.goals, tries, out);
         or_cut_back(out, length, written)

@@ -1,4 +1,4 @@
-use Rattle.std.proofs.Common.{string_bytes}
+use Rattle.std.proofs.Common.{drop, string_bytes}
 use Rattle.std.specs.Io.{StartsWith}
 use Rattle.ghc_trace.specs.NewsCode.{IsNewsBy, standings_text}
 use Rattle.ghc_trace.proofs.Writing.{IsWritten}
@@ -6,6 +6,6 @@ use Rattle.ghc_trace.proofs.news.write_each_news.Given as goal
 
 abbrev pub invariant-loop-goal : goal.invariant-loop-goal
 invariant-loop-goal l = record {
-  rest : IsWritten (IsNewsBy l.tries.notes) (standings_text l.tries.notes) l.goals.entries l.goal-iterator (string_bytes l.out) (string_bytes l.fn.out);
+  rest : IsWritten (IsNewsBy l.tries.notes) (standings_text l.tries.notes) l.goals (drop l.goal-index l.goals) (string_bytes l.out) (string_bytes l.fn.out);
   begun : StartsWith (string_bytes l.out) (string_bytes l.fn.out);
 }

@@ -1,4 +1,4 @@
-use Rattle.std.proofs.Common.{string_bytes}
+use Rattle.std.proofs.Common.{drop, string_bytes}
 use Rattle.std.specs.Io.{StartsWith}
 use Rattle.ghc_trace.specs.Disturbed.{WaitsWhereBound}
 use Rattle.ghc_trace.specs.NewsCode.{resumed_text}
@@ -7,6 +7,6 @@ use Rattle.ghc_trace.proofs.news.write_each_resumed.Given as goal
 
 abbrev pub invariant-loop-goal : goal.invariant-loop-goal
 invariant-loop-goal l = record {
-  rest : IsWritten (λ e. WaitsWhereBound l.fn.step e.1) (resumed_text) l.goals.entries l.goal-iterator (string_bytes l.out) (string_bytes l.fn.out);
+  rest : IsWritten (λ e. WaitsWhereBound l.fn.step e.1) (resumed_text) l.goals (drop l.goal-index l.goals) (string_bytes l.out) (string_bytes l.fn.out);
   begun : StartsWith (string_bytes l.out) (string_bytes l.fn.out);
 }

@@ -1,12 +1,12 @@
-use Rattle.std.proofs.Common.{inl, inr}
-use Rattle.ghc_trace.proofs.Disturbing.{none_yet, none_noted}
+use Rattle.std.proofs.Common.{◌⊎◌, subst, inl, inr}
+use Rattle.ghc_trace.specs.Disturbed.{LooksWhere}
+use Rattle.ghc_trace.specs.Gathering.{Gathers}
+use Rattle.ghc_trace.proofs.Gathering.{gathers_none}
+use Rattle.ghc_trace.proofs.Disturbing.{gathered_disturbed}
 use Rattle.ghc_trace.proofs.disturbed.Disturbed.by_arranging.Goals as goal
 
 pub returns : goal.returns
-returns c notes = record {
-  members = λ g. (
-    λ h. absurd (none_yet c.new.result c.new.ensures g h),
-    λ h. elim h [ inl l ↦ absurd l.1 | inr b ↦ absurd b ],
-  );
-  as_noted = none_noted notes c.new.result c.new.ensures;
-}
+returns c notes =
+    let es = c.new.result.goals.items in
+    let none : Gathers notes (λ g. LooksWhere notes (λ x. ⊥) g ⊎ ⊥) es es = gathers_none notes (λ g. LooksWhere notes (λ x. ⊥) g ⊎ ⊥) es (λ g h. elim h [ inl l ↦ l.1 | inr never ↦ never ]) in
+    gathered_disturbed notes (λ x. ⊥) (λ g. ⊥) es c.of.result (subst (λ old. Gathers notes (λ g. LooksWhere notes (λ x. ⊥) g ⊎ ⊥) old es) c.new.ensures none) c.of.ensures.members c.of.ensures.gathered

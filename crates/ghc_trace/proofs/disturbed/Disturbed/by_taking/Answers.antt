@@ -1,15 +1,17 @@
-use Rattle.std.proofs.Common.{inl, inr}
-use Rattle.ghc_trace.proofs.Disturbing.{none_yet, none_noted}
+use Rattle.std.proofs.Common.{◌⊎◌, [], subst}
+use Rattle.ghc_records.specs.Replay.{MakesGoal}
+use Rattle.ghc_depend.specs.Depend.{Binds}
+use Rattle.ghc_trace.specs.Disturbed.{LooksWhere}
+use Rattle.ghc_trace.specs.Gathering.{Gathers}
+use Rattle.ghc_trace.proofs.Gathering.{gathers_both}
+use Rattle.ghc_trace.proofs.Disturbing.{gathered_disturbed}
 use Rattle.ghc_trace.proofs.disturbed.Disturbed.by_taking.Goals as goal
 
 pub returns : goal.returns
-returns c = record {
-  members = λ g. (
-    λ h. elim ((c.in_ok-add_made.ensures.members g).0 h) [
-      | inl o ↦ elim ((c.in_ok-add_looking.ensures.members g).0 o) [ inl n ↦ absurd (none_yet c.new-disturbed.result c.new-disturbed.ensures g n) | inr l ↦ inl l ]
-      | inr m ↦ inr m
-    ],
-    λ h. (c.in_ok-add_made.ensures.members g).1 (elim h [ inl l ↦ inl ((c.in_ok-add_looking.ensures.members g).1 (inr l)) | inr m ↦ inr m ]),
-  );
-  as_noted = c.in_ok-add_made.ensures.as_noted (c.in_ok-add_looking.ensures.as_noted (none_noted c.args.tries.now.notes c.new-disturbed.result c.new-disturbed.ensures));
-}
+returns c =
+    let notes = c.args.tries.now.notes in
+    let r = c.args.step.now in
+    let made : Gathers notes (λ g. LooksWhere notes (Binds r) g ⊎ MakesGoal r g) [] c.add_made.new.self.goals.items =
+    subst (λ es. Gathers notes (λ g. LooksWhere notes (Binds r) g ⊎ MakesGoal r g) es c.add_made.new.self.goals.items) c.new-gathered.ensures
+    (gathers_both notes (LooksWhere notes (Binds r)) (MakesGoal r) (λ g. LooksWhere notes (Binds r) g ⊎ MakesGoal r g) c.new-gathered.result.goals.items c.add_looking.new.self.goals.items c.add_made.new.self.goals.items (λ g. (λ h. h, λ h. h)) c.in_ok-add_looking.ensures c.in_ok-add_made.ensures) in
+    gathered_disturbed notes (Binds r) (MakesGoal r) c.add_made.new.self.goals.items c.of.result made c.of.ensures.members c.of.ensures.gathered

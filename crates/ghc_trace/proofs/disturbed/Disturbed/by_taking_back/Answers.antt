@@ -1,12 +1,13 @@
-use Rattle.std.proofs.Common.{inl, inr}
-use Rattle.ghc_trace.proofs.Disturbing.{none_yet, none_noted}
+use Rattle.std.proofs.Common.{◌≡◌, subst}
+use Rattle.std.specs.Prelude.{Some}
+use Rattle.ghc_depend.specs.Depend.{Binds}
+use Rattle.ghc_trace.specs.Gathering.{Gathers}
+use Rattle.ghc_trace.proofs.Disturbing.{IsOf, gathered_disturbed}
 use Rattle.ghc_trace.proofs.disturbed.Disturbed.by_taking_back.Goals as goal
 
 pub returns : goal.returns
-returns c = record {
-  members = λ g. (
-    λ k. elim ((c.in_ok-add_taken_back.ensures.members g).0 k) [ inl n ↦ absurd (none_yet c.new-disturbed.result c.new-disturbed.ensures g n) | inr l ↦ l ],
-    λ k. (c.in_ok-add_taken_back.ensures.members g).1 (inr k),
-  );
-  as_noted = c.in_ok-add_taken_back.ensures.as_noted (none_noted c.args.tries.now.notes c.new-disturbed.result c.new-disturbed.ensures);
-}
+returns c =
+    let notes = c.args.tries.now.notes in
+    let r = c.args.step.now in
+    let new = c.add_taken_back.new.self.goals.items in
+    gathered_disturbed notes (Binds r) (λ g. r.goal ≡ Some g) new c.of.result (subst (λ es. Gathers notes (IsOf notes r) es new) c.new-gathered.ensures c.in_ok-add_taken_back.ensures) c.of.ensures.members c.of.ensures.gathered
