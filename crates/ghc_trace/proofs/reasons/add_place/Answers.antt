@@ -1,4 +1,4 @@
-use Rattle.std.proofs.Common.{◌≡◌, ◌⊎◌, ℕ, sym, subst, inl, inr}
+use Rattle.std.proofs.Common.{◌⊎◌, sym, subst, inl, inr}
 use Rattle.std.specs.Prelude.{◌↔◌}
 use Rattle.ghc_term.specs.Lists.{In}
 use Rattle.ghc_records.specs.Orders.{AreDistinct}
