@@ -41,6 +41,7 @@ fn drop_made(tries: &mut Tries, step: u32, count: u32)
 }
 
 // What the bindings bind was bound or freed: each goal whose note looked at it loses the note and is untried again.
+#[inline(always)]
 fn wake_at_bound(tries: &mut Tries, binds: &Bindings)
     ensures notes { AreSpared (IsBound binds.now) tries.old.notes tries.new.notes }
     ensures untried { AreWoken (IsBound binds.now) tries.old.notes tries.old.untried tries.new.untried }
@@ -65,6 +66,7 @@ fn mark(tries: &mut Tries, name: GoalName, goal: &Goal)
 
 /// Marks the goals `n.1`, `n.2`, .., of which there are as many as counted, untried, but for stream goals, where there is
 /// room: a look-up for each.
+#[inline(always)]
 pub(crate) fn mark_made(tries: &mut Tries, step: u32, makes: &[Goal], count: u32)
     requires count { count ≡ length makes.now }
     requires room { length makes.now ≤ tries.old.room }
@@ -94,6 +96,7 @@ fn mark_consumed(tries: &mut Tries, step: &Record)
 
 /// Carries notes and marks over a step that was taken, where there is room for the goals that it made. It costs a look-up for
 /// each goal and each binding, and some for each goal that looked at what was bound.
+#[inline(always)]
 pub(crate) fn carry_over(tries: &mut Tries, step: &Record)
     requires room { length step.now.effect.makes ≤ tries.old.room }
     requires new { (g : GoalName) → MakesGoal step.now g → finite.get tries.old.notes g ≡ None }

@@ -40,6 +40,7 @@ pub(crate) fn strike(records: &mut Records, number: u32)
 
 impl Core {
     // Makes room to take the step.
+    #[inline(always)]
     pub(crate) fn reserve_to_add(&mut self, addition: &Addition) -> Result<(), AllocError>
         ensures room { OnOk result (HasRoomFor self.new.world self.new.room (adds addition.now)) }
         ensures world { self.new.world ≡ self.old.world }

@@ -109,6 +109,7 @@ impl StreamGoals {
 
     /// Keeps in step with a step that was taken: where it consumed the goal of a stream, the stream goes on with the goal that
     /// the step made, if it made one. One step.
+    #[inline(always)]
     pub fn tell(&mut self, step: &Record)
         ensures { self.new ≡ told step.now self.old }
     {

@@ -49,6 +49,7 @@ impl Goals {
     }
 
     /// The goal of this name: one look-up.
+    #[inline(always)]
     pub fn get(&self, name: GoalName) -> Option<&Goal>
         ensures { option_copied result ≡ finite.get self.now.held name }
     {
@@ -78,6 +79,7 @@ impl Goals {
     }
 
     /// Puts a goal under the name, in place of one that it had, where there is room: one look-up.
+    #[inline(always)]
     pub fn put(&mut self, name: GoalName, goal: Goal)
         requires { 0 < self.old.room }
         ensures held { self.new.held ≡ finite.insert self.old.held name goal }
@@ -87,6 +89,7 @@ impl Goals {
     }
 
     /// Takes the goal of this name away and gives it, if there was one: one look-up. The room does not shrink.
+    #[inline(always)]
     pub fn remove(&mut self, name: GoalName) -> Option<Goal>
         ensures value { result ≡ finite.get self.old.held name }
         ensures held { self.new.held ≡ finite.remove self.old.held name }

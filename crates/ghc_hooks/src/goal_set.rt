@@ -39,6 +39,7 @@ impl GoalSet {
     }
 
     // Whether the goal is in the set: one look-up.
+    #[inline(always)]
     pub fn contains(&self, goal: GoalName) -> bool
         ensures { result ≡ set.contains self.now.held goal }
     {
@@ -88,6 +89,7 @@ impl GoalSet {
     }
 
     // Adds the goal, where there is room: one look-up.
+    #[inline(always)]
     pub fn put(&mut self, goal: GoalName)
         requires { 0 < self.old.room }
         ensures held { self.new.held ≡ set.insert self.old.held goal }
@@ -107,6 +109,7 @@ impl GoalSet {
     }
 
     // Takes the goal out, and says whether it was in the set: one look-up. The room does not shrink.
+    #[inline(always)]
     pub fn remove(&mut self, goal: GoalName) -> bool
         ensures there { result ≡ set.contains self.old.held goal }
         ensures held { self.new.held ≡ set.remove self.old.held goal }

@@ -188,6 +188,7 @@ impl Tries {
 
     /// Takes away the note or the mark of a goal: one look-up for a mark, two for a note, and a look-up or two for each variable
     /// that it looked at. The room does not shrink.
+    #[inline(always)]
     pub fn drop_goal(&mut self, goal: GoalName)
         ensures notes { self.new.notes ≡ finite.remove self.old.notes goal }
         ensures untried { self.new.untried ≡ set.remove self.old.untried goal }

@@ -17,6 +17,7 @@ pub fn arguments_of(term: &Term) -> &[Term]
 }
 
 // Whether both are one integer, or both have one name and as many arguments: one step.
+#[inline(always)]
 pub fn are_alike(left: &Term, right: &Term) -> bool
     ensures { IsTrue result ↔ AreAlike left.now right.now }
 {

@@ -86,6 +86,7 @@ fn ask_variable(
 }
 
 // What a leaf says, with what it wants and looks at.
+#[inline(always)]
 fn ask_leaf(
     store: &Store,
     stands: &Bindings,
@@ -137,6 +138,7 @@ fn ask_operation(
 }
 
 // What a small expression says, with what it wants and looks at.
+#[inline(always)]
 fn ask(
     store: &Store,
     stands: &Bindings,

@@ -40,6 +40,7 @@ pub(crate) fn is_in_question_since(
 }
 
 // Whether the goal is there, and is a call of a spied predicate: two look-ups, or none where nothing is spied.
+#[inline(always)]
 pub(crate) fn is_spied_in(core: &Core, spies: &SpySet, goal: GoalName) -> bool
     ensures { IsTrue result ↔ IsSpiedIn spies.now core.now.world goal }
 {

@@ -49,6 +49,7 @@ impl Model for Addition {
 }
 
 // The goals once more.
+#[inline(always)]
 pub(crate) fn share_goals(alloc: Global, goals: &[Goal]) -> Result<Vec<Goal>, AllocError>
     ensures { IfOk result (λ shared. shared.items ≡ goals.now) }
 {
@@ -63,6 +64,7 @@ pub(crate) fn share_goals(alloc: Global, goals: &[Goal]) -> Result<Vec<Goal>, Al
 impl Addition {
     /// What it takes to take this step, with handles of its own: one step for each goal, and what it costs to share the bindings.
     /// Fails for want of memory, or where a count of handles is full.
+    #[inline(always)]
     pub fn of(alloc: Global, step: Record) -> Result<Addition, AllocError>
         ensures { IfOk result (λ a. a ≡ step) }
     {

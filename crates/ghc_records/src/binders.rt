@@ -37,6 +37,7 @@ impl Binders {
     }
 
     // The number of the step that bound the variable, if one did: one look-up.
+    #[inline(always)]
     pub(crate) fn get(&self, x: VarName) -> Option<u32>
         ensures { result ≡ finite.get self.now.held x }
     {

@@ -130,6 +130,7 @@ impl NumberSet {
 
     // Makes room for one more number: only a fourth one needs memory, and each after it may. A list of 1,024
     // becomes a table, by a look-up for each of them, and stays one.
+    #[inline(always)]
     pub(crate) fn reserve(&mut self) -> Result<(), AllocError>
         ensures held { self.new.held ≡ self.old.held }
         ensures room { OnOk result (0 < self.new.room) }
@@ -155,6 +156,7 @@ impl NumberSet {
 
     // Adds a number that is there already, or for which there is room: one step where it is greater than all others, else a search by
     // halves and a move of those behind it, of 1,024 at most, or one look-up.
+    #[inline(always)]
     pub(crate) fn put(&mut self, number: u32)
         requires { (0 < self.old.room) ⊎ In number self.old.held }
         ensures numbers { (n : ℕ) → In n self.new.held ↔ (In n self.old.held ⊎ (n ≡ number)) }

@@ -142,6 +142,7 @@ impl Records {
 
     /// Makes room to put this step, at the cost of some look-ups for each variable that it read. The records stay, and so does
     /// the room for any step, where memory is refused too.
+    #[inline(always)]
     pub fn reserve_for(&mut self, step: &Record) -> Result<(), AllocError>
         ensures held { self.new.held ≡ self.old.held }
         ensures room { OnOk result (HasRoomToKeep self.new.held self.new.room step.now) }
@@ -155,6 +156,7 @@ impl Records {
 
     /// Puts a step at the end, whose number no other has, and which binds no variable that another bound, where there is room:
     /// some look-ups for each variable that it read, and one for each that it bound.
+    #[inline(always)]
     pub fn put(&mut self, step: Record)
         requires room { HasRoomToKeep self.old.held self.old.room step }
         requires new { (r : Record) → In r self.old.held → r.number ≢ step.number }

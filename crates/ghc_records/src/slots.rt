@@ -114,6 +114,7 @@ impl Slots {
     }
 
     // The place just below the number, where the record of the step of this number mostly stands, if it does: one step.
+    #[inline(always)]
     fn likely_place_of(&self, number: u32) -> Option<usize>
         ensures { (p : ℕ) → (result ≡ Some p) ↔ (HasNumberIn self.now.held p number × (p + 1 ≡ number)) }
     {
@@ -131,6 +132,7 @@ impl Slots {
     }
 
     // The place of the record of the step of this number: one step where it is the likely one, or else one look-up.
+    #[inline(always)]
     pub(crate) fn place_of(&self, number: u32) -> Option<usize>
         ensures { (p : ℕ) → (result ≡ Some p) ↔ HasNumberIn self.now.held p number }
     {
@@ -142,6 +144,7 @@ impl Slots {
     }
 
     // The record in the slot of this place, if it has one: one step.
+    #[inline(always)]
     pub(crate) fn at(&self, place: usize) -> Option<&Record>
         ensures { (r : Record) → (option_copied result ≡ Some r) ↔ StandsIn self.now.held place r }
     {

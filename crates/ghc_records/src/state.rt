@@ -99,6 +99,7 @@ impl State {
     /// Takes a step, where there is room for it and the store stays acyclic: the goal that it consumes is gone, the goals that
     /// it makes are there, and its bindings are made. It cannot fail, gives the record and its entry, and costs a look-up for
     /// each goal and each binding.
+    #[inline(always)]
     pub fn take(&mut self, addition: Addition) -> (Record, Entry)
         requires room { HasRoomToTake self.old.room addition }
         requires acyclic { IsAcyclic (value_at (after self.old.held addition).store) }

@@ -17,6 +17,7 @@ use std::alloc::{AllocError, Global};
 use std::collections::{BTreeMap, BTreeSet};
 
 // Writes the name of a goal.
+#[inline(always)]
 fn write_goal_name(name: GoalName, out: &mut String) -> Result<(), AllocError>
     ensures text { OnOk result (string_bytes out.new ≡ string_bytes out.old ++ goal_name_text name) }
     ensures begun { StartsWith (string_bytes out.new) (string_bytes out.old) }

@@ -148,6 +148,7 @@ impl Users {
     }
 
     // Makes room for one more number under the step, if one is named, of a record of so many slots.
+    #[inline(always)]
     pub(crate) fn reserve_at(&mut self, step: Option<u32>, slots: usize) -> Result<(), AllocError>
         ensures held { (m : ℕ) → users_at self.new m ≡ users_at self.old m }
         ensures room { OnOk result ((m n : ℕ) → step ≡ Some m → CanTake self.new m n) }

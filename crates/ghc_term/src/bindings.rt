@@ -180,6 +180,7 @@ impl Bindings {
     }
 
     /// Binds a variable that was not bound here.
+    #[inline(always)]
     pub fn insert(&mut self, x: VarName, value: Term) -> Result<(), AllocError>
         ensures ok { OnOk result (self.new ≡ finite.insert self.old x value) }
         ensures err { OnErr result (self.new ≡ self.old) }

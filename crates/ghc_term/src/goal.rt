@@ -97,6 +97,7 @@ impl Goal {
     }
 
     /// The same goal once more, with its parts shared: one step. Fails where a count of handles is full.
+    #[inline(always)]
     pub fn share(&self) -> Result<Goal, AllocError>
         ensures { IfOk result (λ g. g ≡ self.now) }
     {

@@ -56,6 +56,7 @@ impl Store {
     }
 
     /// What the variable is bound to: one look-up.
+    #[inline(always)]
     pub fn get(&self, x: VarName) -> Option<&Term>
         ensures { option_copied result ≡ value_at self.now.held x }
     {

@@ -93,6 +93,7 @@ impl Term {
     }
 
     /// A structure of two arguments, as a list cell is, in one piece of memory.
+    #[inline(always)]
     pub fn pair(alloc: Global, name: Name, first: Term, second: Term) -> Result<Term, AllocError>
         ensures { IfOk result (λ t. t ≡ node name (trees (first ∷ second ∷ []))) }
     {
@@ -100,6 +101,7 @@ impl Term {
     }
 
     /// A structure of three arguments, in one piece of memory.
+    #[inline(always)]
     pub fn triple(
         alloc: Global,
         name: Name,
@@ -113,6 +115,7 @@ impl Term {
     }
 
     // A name over these arguments, of which there is one at least.
+    #[inline(always)]
     fn over(alloc: Global, name: Name, arguments: Arguments) -> Result<Term, AllocError>
         requires { items_of arguments ≢ [] }
         ensures { IfOk result (λ t. t ≡ node name (trees (items_of arguments))) }
@@ -140,6 +143,7 @@ impl Term {
     }
 
     /// The same term once more, with its parts shared: one step. Fails where a count of handles is full.
+    #[inline(always)]
     pub fn share(&self) -> Result<Term, AllocError>
         ensures { IfOk result (λ t. t ≡ self.now) }
     {
@@ -154,6 +158,7 @@ impl Term {
     }
 
     /// Whether no variable stands in the term as written: one step.
+    #[inline(always)]
     pub fn is_closed(&self) -> bool
         ensures { IsTrue result ↔ IsClosed self.now }
     {

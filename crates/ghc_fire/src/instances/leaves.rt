@@ -9,6 +9,7 @@ use ghc_term::{Name, Term, TermView};
 use std::alloc::{AllocError, Global};
 
 // The argument with its variables replaced, where it is closed or a variable that becomes a term.
+#[inline(always)]
 fn replace_leaf(term: &Term, by: Renaming<'_>) -> Result<Option<Term>, AllocError>
     ensures { IfOk result (λ o. IfSome o (λ t. t ≡ replace (replacement by.entry) term.now)) }
 {

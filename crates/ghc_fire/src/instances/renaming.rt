@@ -21,6 +21,7 @@ pub enum Renaming<'a> {
 }
 
 // What the variable becomes, if that may be another term: one look-up at most.
+#[inline(always)]
 pub fn replace_variable(x: VarName, by: Renaming<'_>) -> Result<Option<Term>, AllocError>
     ensures { IfOk result (λ o. MatchOption o (replacement by.entry x ≡ variable x) (λ t. t ≡ replacement by.entry x)) }
 {
