@@ -4,10 +4,9 @@ ghost use Rattle.ghc_term.specs.declared.var_name.VarName.{VarName as var_name};
 ghost use Rattle.ghc_console.specs.VariableNamed.{IsVariableNamed, IsGivenName, numbered_of, variable_numbered};
 
 use crate::words::{first, number};
-use ghc_core::Core;
+use ghc_core::{Core, is_variable_of};
 use ghc_reader::Query;
 use ghc_term::{Name, VarName};
-use ghc_trace::is_variable_of;
 
 // Where the word stands among the names.
 fn index_of(names: &[Name], word: &[u8]) -> Option<usize>

@@ -87,8 +87,7 @@ pub fn make(
     ensures firings { core.new.meter.firings ≡ core.old.meter.firings }
 {
     reply.reserve(UNTOLD.len())?;
-    core.reserve(&change)?;
-    core.apply(change);
+    core.make(change)?;
     tell_stuck(alloc, core, disturbed, reply);
     Ok(())
 }

@@ -49,10 +49,10 @@ expression_send = search (term_send, term_sync, operator.the_send, operator.the_
 expression_sync : IsSync expression.the_row
 expression_sync = search (term_sync, term_send, operator.the_send, operator.the_sync, of_expressions.crosses, crosses, sendable) depth 60 fits 20000
 
-goal_send : IsSend goal.the_row
+pub goal_send : IsSend goal.the_row
 goal_send = search (term_send, expression_send, crosses, sendable) depth 60 fits 20000
 
-goal_sync : IsSync goal.the_row
+pub goal_sync : IsSync goal.the_row
 goal_sync = search (term_sync, expression_sync, crosses, sendable) depth 60 fits 20000
 
 store_send : IsSend store.the_row
@@ -61,34 +61,34 @@ store_send = search (term_send, crosses, sendable) depth 60 fits 20000
 store_sync : IsSync store.the_row
 store_sync = search (term_sync, crosses, sendable) depth 60 fits 20000
 
-ground_send : IsSend ground.the_row
+pub ground_send : IsSend ground.the_row
 ground_send = search (term_send, crosses, sendable) depth 60 fits 20000
 
-ground_sync : IsSync ground.the_row
+pub ground_sync : IsSync ground.the_row
 ground_sync = search (term_sync, crosses, sendable) depth 60 fits 20000
 
-bindings_send : IsSend bindings.the_row
+pub bindings_send : IsSend bindings.the_row
 bindings_send = search (term_send, crosses, sendable) depth 60 fits 20000
 
-bindings_sync : IsSync bindings.the_row
+pub bindings_sync : IsSync bindings.the_row
 bindings_sync = search (term_sync, crosses, sendable) depth 60 fits 20000
 
-variables_send : IsSend variables.the_row
+pub variables_send : IsSend variables.the_row
 variables_send = search (crosses, sendable) depth 60 fits 20000
 
-variables_sync : IsSync variables.the_row
+pub variables_sync : IsSync variables.the_row
 variables_sync = search (crosses, sendable) depth 60 fits 20000
 
-act_send : IsSend act.the_field.row
+pub act_send : IsSend act.the_field.row
 act_send = search (ground_send, crosses, sendable) depth 60 fits 20000
 
-act_sync : IsSync act.the_field.row
+pub act_sync : IsSync act.the_field.row
 act_sync = search (ground_sync, crosses, sendable) depth 60 fits 20000
 
-effect_send : IsSend effect.the_row
+pub effect_send : IsSend effect.the_row
 effect_send = search (goal_send, bindings_send, variables_send, crosses, sendable) depth 60 fits 20000
 
-effect_sync : IsSync effect.the_row
+pub effect_sync : IsSync effect.the_row
 effect_sync = search (goal_sync, bindings_sync, variables_sync, crosses, sendable) depth 60 fits 20000
 
 goals_send : IsSend goals.the_row
@@ -97,10 +97,10 @@ goals_send = search (goal_send, maps.crosses, crosses, sendable) depth 60 fits 2
 goals_sync : IsSync goals.the_row
 goals_sync = search (goal_sync, maps.crosses, crosses, sendable) depth 60 fits 20000
 
-taken_send : IsSend taken.the_row
+pub taken_send : IsSend taken.the_row
 taken_send = search (goal_send, goal_sync, act_send, act_sync, effect_send, effect_sync, goal_name.the_send, goal_name.the_sync, crosses, sendable) depth 60 fits 20000
 
-taken_sync : IsSync taken.the_row
+pub taken_sync : IsSync taken.the_row
 taken_sync = search (goal_sync, goal_send, act_sync, act_send, effect_sync, effect_send, goal_name.the_sync, goal_name.the_send, crosses, sendable) depth 60 fits 20000
 
 slots_send : IsSend slots.the_row
@@ -175,10 +175,10 @@ query_send = search (goal_send, crosses, sendable) depth 60 fits 20000
 query_sync : IsSync query.the_row
 query_sync = search (goal_sync, crosses, sendable) depth 60 fits 20000
 
-note_send : IsSend note.the_row
+pub note_send : IsSend note.the_row
 note_send = search (variables_send, crosses, sendable) depth 60 fits 20000
 
-note_sync : IsSync note.the_row
+pub note_sync : IsSync note.the_row
 note_sync = search (variables_sync, crosses, sendable) depth 60 fits 20000
 
 notes_send : IsSend notes.the_row

@@ -32,4 +32,6 @@ pub mod CertainRefusals
 pub mod Counted
 pub mod Loading
 pub mod SavedSteps
+pub mod QueryVariables
+pub mod Telling
 pub mod LoadedAgain

@@ -11,7 +11,10 @@ use Rattle.ghc_core.specs.Proposes as asking
 use Rattle.ghc_core.specs.Streams as streams
 use Rattle.ghc_core.specs.Answers.{Answers, to_propose, to_commit, to_note, to_command}
 use Rattle.ghc_core.specs.Legal.{IsReachable, by_event}
+use Rattle.ghc_core.specs.Core.{Core, Stays}
+use Rattle.ghc_core.specs.Meets.{Meets, MeetsEach}
 use Rattle.ghc_core.specs.Playing.{AddsOneAtMost, ArePlayed, PlayStaysReachable}
+use Rattle.ghc_core.specs.declared.world.World.{World as Played}
 use Rattle.ghc_core.specs.EventCode.{event_of, reply_of}
 use Rattle.ghc_core.specs.declared.event.Event as met
 use Rattle.ghc_core.specs.declared.reply.Reply as given
@@ -65,20 +68,30 @@ play_reachable w v hands left (e ∷ es) (s ∷ rs) r (u, next, a, rest) = play_
 play_reachable w v hands left [] (_ ∷ _) r a = absurd a
 play_reachable w v hands left (_ ∷ _) [] r a = absurd a
 
+-- a core that is as it was
+pub core_stays : (old new : Core) → new ≡ old → Stays old new
+core_stays old new same = record { world = ap (λ (c : Core). c.world) same; notes = ap (λ (c : Core). c.notes) same; untried = ap (λ (c : Core). c.untried) same }
+
+-- events that are met are answered
+pub met_played : (old new : Played) (es : List Event) (rs : List Reply) → MeetsEach old es rs new → ArePlayed old.core.world old.hands es rs new.core.world new.hands
+met_played old new [] [] same = (ap (λ (p : Played). p.core.world) same, ap (λ (p : Played). p.hands) same)
+met_played old new (e ∷ es) (r ∷ rs) (mid, met, rest) = (mid.core.world, mid.hands, met.answer, met_played mid new es rs rest)
+met_played old new [] (_ ∷ _) met = absurd met
+met_played old new (_ ∷ _) [] met = absurd met
+
 -- one more event, at the end
-pub played_more : (w u v : World) (hands next left : Hands) (es : List Event) (rs : List Reply) (e : Event) (r : Reply) → ArePlayed w hands es rs u next → Answers Unknown u next e r v left
-    → ArePlayed w hands (es ++ e ∷ []) (rs ++ r ∷ []) v left
-played_more w u v hands next left [] [] e r (same, kept) a = (v, left, subst₂ (λ x y. Answers Unknown x y e r v left) same kept a, (refl, refl))
-played_more w u v hands next left (f ∷ es) (s ∷ rs) e r (x, y, b, rest) a = (x, y, b, played_more x u v y next left es rs e r rest a)
-played_more w u v hands next left [] (_ ∷ _) e r b a = absurd b
-played_more w u v hands next left (_ ∷ _) [] e r b a = absurd b
+met_more : (old mid new : Played) (es : List Event) (rs : List Reply) (e : Event) (r : Reply) → MeetsEach old es rs mid → Meets mid e r new → MeetsEach old (es ++ e ∷ []) (rs ++ r ∷ []) new
+met_more old mid new [] [] e r same met = (new, subst (λ p. Meets p e r new) same met, refl)
+met_more old mid new (f ∷ es) (s ∷ rs) e r (first, one, rest) met = (first, one, met_more first mid new es rs e r rest met)
+met_more old mid new [] (_ ∷ _) e r none met = absurd none
+met_more old mid new (_ ∷ _) [] e r none met = absurd none
 
 -- the same, of what the code has
-pub played_next : (w u v : World) (hands next left : Hands) (events : List met.Event) (i : ℕ) (event : met.Event) (replies after : List given.Reply) (reply : given.Reply)
-    → slice_get events i ≡ Some event → after ≡ replies ++ reply ∷ [] → ArePlayed w hands (map event_of (take i events)) (map reply_of replies) u next
-    → Answers Unknown u next (event_of event) (reply_of reply) v left → ArePlayed w hands (map event_of (take (i + 1) events)) (map reply_of after) v left
-played_next w u v hands next left events i event replies after reply at more before a =
-    subst₂ (λ es rs. ArePlayed w hands es rs v left)
+pub met_next : (old mid new : Played) (events : List met.Event) (i : ℕ) (event : met.Event) (replies after : List given.Reply) (reply : given.Reply)
+    → slice_get events i ≡ Some event → after ≡ replies ++ reply ∷ [] → MeetsEach old (map event_of (take i events)) (map reply_of replies) mid
+    → Meets mid (event_of event) (reply_of reply) new → MeetsEach old (map event_of (take (i + 1) events)) (map reply_of after) new
+met_next old mid new events i event replies after reply at more before meets =
+    subst₂ (λ es rs. MeetsEach old es rs new)
     (sym (ap (map event_of) (at_split events i event at).2 ∙ map-append event_of (take i events) (event ∷ [])))
     (sym (ap (map reply_of) more ∙ map-append reply_of replies (reply ∷ [])))
-    (played_more w u v hands next left (map event_of (take i events)) (map reply_of replies) (event_of event) (reply_of reply) before a)
+    (met_more old mid new (map event_of (take i events)) (map reply_of replies) (event_of event) (reply_of reply) before meets)

@@ -1,5 +1,5 @@
 -- What a core replies to commands and notes is the answer of the definitions.
-use Rattle.std.proofs.Common.{◌≡◌, ◌⊎◌, ℕ, List, refl, sym, ap, ◌∙◌, subst, subst₂, inl, inr, Some, None}
+use Rattle.std.proofs.Common.{◌≡◌, ◌⊎◌, ℕ, List, refl, sym, subst, subst₂, inl, inr, Some, None}
 use Rattle.std.specs.Prelude.{Option, false}
 use Rattle.std.specs.FinMap as finite
 use Rattle.ghc_term.specs.declared.goal_name.GoalName.{GoalName}
@@ -11,8 +11,7 @@ use Rattle.ghc_fire.specs.declared.act.Act.{Act}
 use Rattle.ghc_fire.specs.declared.act.Act.TheVariants.{Given as given, Closed as closed}
 use Rattle.ghc_fire.specs.Attempt as attempt
 use Rattle.ghc_hooks.specs.Status.{Status, failed, HasStatus}
-use Rattle.ghc_hooks.specs.Notes.{Note, NotesByGoal}
-use Rattle.ghc_hooks.proofs.Fitting.{put_here}
+use Rattle.ghc_hooks.specs.Notes.{Note}
 use Rattle.ghc_records.specs.Journal.{took, undid, rolled, redid, reordered, step_of}
 use Rattle.ghc_core.specs.World.{Proposal, Hands, IsHand, with_hand, emptied, World}
 use Rattle.ghc_core.specs.Core.{IsCommitted}
@@ -20,7 +19,7 @@ use Rattle.ghc_core.specs.Events.{Command, input, finish, undo, roll, redo, arra
 use Rattle.ghc_core.specs.Proposes as asking
 use Rattle.ghc_core.specs.Streams as streams
 use Rattle.ghc_core.specs.Reverses as by
-use Rattle.ghc_core.specs.Settling.{IsNoted}
+use Rattle.ghc_core.specs.Settling.{IsNoteOf}
 use Rattle.ghc_core.specs.Answers.{Obeys}
 use Rattle.ghc_core.specs.Asked.{IsNotObeyed}
 use Rattle.ghc_core.specs.Playing.{AddsOneAtMost, IsCauseOfFailure}
@@ -124,31 +123,17 @@ module _ (w : World) where
       subst IsCauseOfFailure one (elim (refusal_is g b plain t) [ inl e ↦ absurd (waits e) | inr c ↦ c ])
   failure_is f b s plain (HasStatus.is_stream_goal e) same = cc
 
-  told_so : (g : GoalName) (s : Status) (reply : Reply) → asking.Notes ⊥ w g reply → reply ≡ noted g s → (f : Fault) → s ≡ failed f → IsCauseOfFailure f
-  told_so g s reply (asking.Notes.tells b {s = t} there plain has) e f same = let one : t ≡ s = cc in failure_is f b t plain has (one ∙ same)
-  told_so g s reply (asking.Notes.no_goal n) e f same = cc
-  told_so g s reply (asking.Notes.no_memory m) e f same = absurd m
+  -- what a note says of why its goal fails, and what is told of it
+  pub note_failure : (g : GoalName) (n : Note) → IsNoteOf w g n → (f : Fault) → n.status ≡ failed f → IsCauseOfFailure f
+  note_failure g n (b, candidate, exact) f same = failure_is f b n.status candidate.1 exact.0 same
 
-  -- what is told of a goal that fails is why it can fail
-  pub told_failure : (g : GoalName) (s : Status) → asking.Notes ⊥ w g (noted g s) → (f : Fault) → s ≡ failed f → IsCauseOfFailure f
-  told_failure g s told f same = told_so g s (noted g s) told refl f same
+  pub note_told_so : (g : GoalName) (n : Note) (s : Status) → IsNoteOf w g n → s ≡ n.status → asking.Notes Unknown w g (noted g s)
+  note_told_so g n s (b, candidate, exact) same = asking.Notes.tells b candidate.0 candidate.1 (subst (HasStatus w.opening.program (value_at w.state.store) b) (sym same) exact.0)
 
   note_told : (g : GoalName) (reply : Reply) → asking.Notes ⊥ w g reply → asking.Notes Unknown w g reply
   note_told g reply (asking.Notes.tells b there plain has) = asking.Notes.tells b there plain has
   note_told g reply (asking.Notes.no_goal n) = asking.Notes.no_goal n
   note_told g reply (asking.Notes.no_memory m) = absurd m
-
-  -- the note that a goal has, where it was noted
-  pub note_here : (g : GoalName) (old new m : NotesByGoal) (n : Note) → (found : IsNoted w g old new) → m ≡ new → Some n ≡ finite.get m g → found.note ≡ n
-  note_here g old new m n found same there = let p : Some n ≡ Some found.note = there ∙ ap (λ k. finite.get k g) (same ∙ found.put) ∙ put_here old g found.note in cc
-
-  pub note_is_there : (g : GoalName) (old new m : NotesByGoal) → (found : IsNoted w g old new) → m ≡ new → ¬ (None ≡ finite.get m g)
-  note_is_there g old new m found same none = let p : None ≡ Some found.note = none ∙ ap (λ k. finite.get k g) (same ∙ found.put) ∙ put_here old g found.note in cc
-
-  -- the status is told, or memory was refused
-  pub noted_or_not : (g : GoalName) (s : Status) (reply : Reply) → asking.Notes ⊥ w g (noted g s) → (reply ≡ noted g s) ⊎ (reply ≡ refused Fault.Memory) → asking.Notes Unknown w g reply
-  noted_or_not g s reply told (inl e) = subst (asking.Notes Unknown w g) (sym e) (note_told g (noted g s) told)
-  noted_or_not g s reply told (inr e) = subst (asking.Notes Unknown w g) (sym e) (asking.Notes.no_memory tt)
 
   pub note_refused : (g : GoalName) (f : Fault) → Why (λ f. asking.Notes ⊥ w g (refused f)) f → asking.Notes Unknown w g (refused f)
   note_refused g f (inl m) = subst (λ h. asking.Notes Unknown w g (refused h)) (sym m) (asking.Notes.no_memory tt)

@@ -1,5 +1,5 @@
--- The steps of the records, one slot more at a time; and the history of a standing world is of the form.
-use Rattle.std.proofs.Common.{◌≡◌, ℕ, suc, ◌+◌, ◌<◌, ◌≤◌, List, [], ◌∷◌, ◌++◌, drop, drop-cons, length, map, sym, ap, ◌∙◌, subst, inl, inr, slice_get, append_assoc, refl, arith}
+-- A part of each record, one slot more at a time; and the history of a standing world is of the form.
+use Rattle.std.proofs.Common.{◌≡◌, ℕ, suc, ◌+◌, ◌<◌, ◌≤◌, List, [], ◌∷◌, ◌++◌, drop, drop-cons, length, map, sym, ap, ◌∙◌, subst, inl, inr, slice_get, append_assoc, append-nil, drop_of_length-le, refl, arith}
 use Rattle.std.specs.Prelude.{Option, Some}
 use Rattle.std.proofs.lemmas.Option.{slice_get_within, get_or_from_slice_get}
 use Rattle.ghc_term.specs.declared.var_name.VarName.{VarName}
@@ -15,7 +15,7 @@ use Rattle.ghc_records.specs.Record.{Record, numbers}
 use Rattle.ghc_records.specs.History.{IsHistory}
 use Rattle.ghc_records.specs.Journal.{Step, step_of}
 use Rattle.ghc_records.specs.Slots.{SlotList, held_in}
-use Rattle.ghc_records.proofs.SlotRanks.{rank, rank_stands, rank_next, rank_gap}
+use Rattle.ghc_records.proofs.SlotRanks.{rank, rank_zero, rank_end, rank_stands, rank_next, rank_gap}
 use Rattle.ghc_depend.proofs.Results.{taken}
 use Rattle.ghc_depend.proofs.Placing.{Place, place_of}
 use Rattle.ghc_core.specs.World.{World}
@@ -30,20 +30,31 @@ drop_at rs i r e =
     let more : suc i ≡ i + 1 = omega arith in
     drop-cons rs i r (slice_get_within rs i r e) ∙ (λ k. get_or_from_slice_get rs i r r e k ∷ drop (more k) rs)
 
--- Where the steps found and those from a place on are all steps, so are those found with the one there and those behind it.
-step_on : (rs : List Record) (i : ℕ) (r : Record) (before later : List Step) → slice_get rs i ≡ Some r → before ++ map step_of (drop i rs) ≡ map step_of rs
-    → later ≡ before ++ step_of r ∷ [] → later ++ map step_of (drop (i + 1) rs) ≡ map step_of rs
-step_on rs i r before later there whole put =
-    let rest = map step_of (drop (i + 1) rs) in
-    ap (λ l. l ++ rest) put ∙ append_assoc before (step_of r ∷ []) rest ∙ ap (λ l. before ++ map step_of l) (sym (drop_at rs i r there)) ∙ whole
+module _ {A : Type 0} (part : Record → A) where
+  -- Where the parts found and those from a place on are all parts, so are those found with the one there and those behind it.
+  part_on : (rs : List Record) (i : ℕ) (r : Record) (before later : List A) → slice_get rs i ≡ Some r → before ++ map part (drop i rs) ≡ map part rs
+      → later ≡ before ++ part r ∷ [] → later ++ map part (drop (i + 1) rs) ≡ map part rs
+  part_on rs i r before later there whole put =
+      let rest = map part (drop (i + 1) rs) in
+      ap (λ l. l ++ rest) put ∙ append_assoc before (part r ∷ []) rest ∙ ap (λ l. before ++ map part l) (sym (drop_at rs i r there)) ∙ whole
 
--- So it is slot by slot.
-pub slot_on : (ss : SlotList) (i : ℕ) (before later : List Step) → KeepsSlot ss i before later → before ++ map step_of (drop (rank ss i) (held_in ss)) ≡ map step_of (held_in ss)
-    → later ++ map step_of (drop (rank ss (i + 1)) (held_in ss)) ≡ map step_of (held_in ss)
-slot_on ss i before later (inl t) whole =
-    subst (λ k. later ++ map step_of (drop k (held_in ss)) ≡ map step_of (held_in ss)) (sym (rank_next ss i t.0 t.1)) (step_on (held_in ss) (rank ss i) t.0 before later (rank_stands ss i t.0 t.1) whole t.2)
-slot_on ss i before later (inr t) whole =
-    subst (λ k. later ++ map step_of (drop k (held_in ss)) ≡ map step_of (held_in ss)) (sym (rank_gap ss i t.0)) (subst (λ l. l ++ map step_of (drop (rank ss i) (held_in ss)) ≡ map step_of (held_in ss)) (sym t.1) whole)
+  -- So it is slot by slot.
+  pub slot_on : (ss : SlotList) (i : ℕ) (before later : List A) → KeepsSlot part ss i before later → before ++ map part (drop (rank ss i) (held_in ss)) ≡ map part (held_in ss)
+      → later ++ map part (drop (rank ss (i + 1)) (held_in ss)) ≡ map part (held_in ss)
+  slot_on ss i before later (inl t) whole =
+      subst (λ k. later ++ map part (drop k (held_in ss)) ≡ map part (held_in ss)) (sym (rank_next ss i t.0 t.1)) (part_on (held_in ss) (rank ss i) t.0 before later (rank_stands ss i t.0 t.1) whole t.2)
+  slot_on ss i before later (inr t) whole =
+      subst (λ k. later ++ map part (drop k (held_in ss)) ≡ map part (held_in ss)) (sym (rank_gap ss i t.0)) (subst (λ l. l ++ map part (drop (rank ss i) (held_in ss)) ≡ map part (held_in ss)) (sym t.1) whole)
+
+  -- at the start, and past the last slot
+  pub none_yet : (ss : SlotList) (found : List A) → found ≡ [] → found ++ map part (drop (rank ss 0) (held_in ss)) ≡ map part (held_in ss)
+  none_yet ss found none = ap (λ l. l ++ map part (drop (rank ss 0) (held_in ss))) none ∙ ap (λ k. map part (drop k (held_in ss))) (rank_zero ss)
+
+  pub all_found : (ss : SlotList) (places : ℕ) (found : List A) → length ss ≤ places → found ++ map part (drop (rank ss places) (held_in ss)) ≡ map part (held_in ss) → found ≡ map part (held_in ss)
+  all_found ss places found past whole =
+      let behind = rank_end ss places past in
+      let none : map part (drop (rank ss places) (held_in ss)) ≡ [] = ap (map part) (drop_of_length-le (held_in ss) {i = rank ss places} (omega (arith, behind))) in
+      sym (append-nil found) ∙ ap (λ l. found ++ l) (sym none) ∙ whole
 
 -- a step of the records is that of one of them
 step_back : (rs : List Record) (s : Step) → In s (map step_of rs) → (r : Record) × In r rs × (step_of r ≡ s)

@@ -164,7 +164,7 @@ module _ (effects : EffectIsOne) (w : World) (acyclic : IsAcyclic (value_at w.st
       not_value s o.0 o.1 ends.0 e (subst (λ z. Leads (value_at w.state.store) (variable z) o.1 (variable o.0)) (one_tail t.0 g t.1 s (at_stream r t) at) o.2) ends.1 v
   stream_step_or_fail r t (streams.StreamFails.full g s x at ends full) = room_or_full w t.5.2 full
 
-  bound_or_open : (g h : GoalName) (s u x : VarName) (e : Tree) → streams.IsStreamAt w k g s → EndsIn (value_at w.state.store) s e → IsValue e → streams.IsStreamAt w k h u → EndsIn (value_at w.state.store) u (variable x) → ⊥
+  pub bound_or_open : (g h : GoalName) (s u x : VarName) (e : Tree) → streams.IsStreamAt w k g s → EndsIn (value_at w.state.store) s e → IsValue e → streams.IsStreamAt w k h u → EndsIn (value_at w.state.store) u (variable x) → ⊥
   bound_or_open g h s u x e at ends v here open_end =
       not_value s x open_end.0 ends.0 e (subst (λ z. Leads (value_at w.state.store) (variable z) open_end.0 (variable x)) (one_tail h g u s here at) open_end.1) ends.1 v
 

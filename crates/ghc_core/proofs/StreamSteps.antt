@@ -1,18 +1,25 @@
 -- The step of a stream that is prepared, and why none is.
-use Rattle.std.proofs.Common.{◌≡◌, ℕ, refl, sym, subst, [], ◌∷◌, ◌++◌, Some, None}
+use Rattle.std.proofs.Common.{◌≡◌, ◌≢◌, ℕ, refl, ap, ◌∙◌, sym, subst, inl, inr, [], ◌∷◌, ◌++◌, Some, None, Result, Err}
 use Rattle.std.specs.Prelude.{Option, IfSome, IfNone}
 use Rattle.ghc_term.specs.declared.var_name.VarName.{VarName}
 use Rattle.ghc_term.specs.declared.goal_name.GoalName.{GoalName}
 use Rattle.ghc_term.specs.declared.fault.Fault.{Fault}
+use Rattle.ghc_term.specs.Tree.{variable}
 use Rattle.ghc_term.specs.Goal.{stream}
 use Rattle.ghc_term.specs.Store.{StoreValue, value_at}
 use Rattle.ghc_unify.proofs.Ends.{comes_leads}
+use Rattle.ghc_match.specs.Position.{EndsIn}
 use Rattle.ghc_fire.specs.declared.act.Act.{Act}
+use Rattle.ghc_fire.specs.declared.act.Act.TheVariants.{Closed as closed}
+use Rattle.ghc_fire.proofs.Steps.{effect_once}
 use Rattle.ghc_fire.specs.Effect.{Effect, HasEffect, ReadsTail}
 use Rattle.ghc_fire.specs.Tail.{IsTailBound}
 use Rattle.ghc_records.specs.Record.{Record}
 use Rattle.ghc_core.specs.World.{World, IsFull, HasRoom, with_step}
+use Rattle.ghc_core.specs.Laws.{IsOrderly}
 use Rattle.ghc_core.specs.Events.{stepped}
+use Rattle.ghc_core.specs.Anyway.{TakesNothingAnyway}
+use Rattle.ghc_core.proofs.Stepping.{stream_fails_once, bound_or_open}
 use Rattle.ghc_core.specs.Streams.{IsStreamAt, StreamFails, no_stream, tail_bound, full, IsStreamStep, ActsOnStream, takes}
 
 -- what is known of what was found, where it was found, and where not
@@ -47,3 +54,26 @@ stream_step w k act g s e r at has room same = subst (IsStreamStep w k act) (sym
 -- The step was taken, which does the act on the stream.
 pub acted : (w v : World) (k : ℕ) (act : Act) (r : Record) (n : ℕ) → IsStreamStep w k act r → n ≡ w.next → v ≡ with_step r w → ActsOnStream ⊥ w k act (stepped n) v
 acted w v k act r n step number same = subst (λ m. ActsOnStream ⊥ w k act (stepped m) v) (sym number) (subst (ActsOnStream ⊥ w k act (stepped w.next)) (sym same) (takes r step))
+
+module _ (w : World) (ordered : IsOrderly w) (k : ℕ) where
+  -- a stream takes nothing for one reason
+  pub one_refusal : {f g : Fault} → StreamFails w k f → StreamFails w k g → f ≡ g
+  one_refusal p q = stream_fails_once effect_once w ordered.acyclic ordered.streams_once k closed p q
+
+  one_anyway : {f g : Fault} → StreamFails w k f → TakesNothingAnyway w k g → f ≡ g
+  one_anyway p (inl (e, q)) = one_refusal p q ∙ sym e
+  one_anyway p (inr (e, q)) = one_refusal p q ∙ sym e
+
+  -- what is told where it takes nothing is why
+  pub refused_anyway : {A : Type 0} (f g : Fault) → StreamFails w k f → TakesNothingAnyway w k g → ◌≡◌ {A = Result A Fault} (Err f) (Err g)
+  refused_anyway f g p q = ap Err (one_anyway p q)
+
+  no_refusal : (g : GoalName) (s x : VarName) {f : Fault} → IsStreamAt w k g s → EndsIn (value_at w.state.store) s (variable x) → f ≢ Fault.Full → ¬ StreamFails w k f
+  no_refusal g s x at ends not (no_stream n) = n g s at
+  no_refusal g s x at ends not (tail_bound h u e here bound v) = bound_or_open effect_once w ordered.acyclic ordered.streams_once k closed h g u s x e here bound v at ends
+  no_refusal g s x at ends not (full h u y here reached more) = not refl
+
+  -- a stream whose tail ends in an unbound variable takes what it is given, where there is room
+  pub takes_something : (g : GoalName) (s x : VarName) {f : Fault} → IsStreamAt w k g s → EndsIn (value_at w.state.store) s (variable x) → ¬ TakesNothingAnyway w k f
+  takes_something g s x at ends (inl (e, q)) = no_refusal g s x at ends (λ same. let clash : Fault.NoStream ≡ Fault.Full = same in cc) q
+  takes_something g s x at ends (inr (e, q)) = no_refusal g s x at ends (λ same. let clash : Fault.TailBound ≡ Fault.Full = same in cc) q

@@ -23,10 +23,14 @@ pub data IsNotCommittedAnyway (w : World) (hands : Hands) (h : ℕ) : Fault → 
   empty : IsHand hands h → finite.get hands.held h ≡ None → IsNotCommittedAnyway w hands h Fault.Stale
   gone : (p : Proposal) → IsHand hands h → finite.get hands.held h ≡ Some p → finite.get w.state.goals p.goal ≡ None → IsNotCommittedAnyway w hands h Fault.Stale
 
--- A command is not obeyed: there is no such stream; the step cannot be undone; it is not kept; it is not on the shelf, or its goal is not there.
+-- A stream takes neither input nor close: there is no such stream, or it is closed; or its tail ends in a value.
+abbrev pub TakesNothingAnyway : World → ℕ → Fault → Type 0
+TakesNothingAnyway w k f = ((f ≡ Fault.NoStream) × StreamFails w k Fault.NoStream) ⊎ ((f ≡ Fault.TailBound) × StreamFails w k Fault.TailBound)
+
+-- A command is not obeyed: there is no such stream, or its tail ends in a value; the step cannot be undone; it is not kept; it is not on the shelf, or its goal is not there.
 abbrev pub IsNotObeyedAnyway : World → Command → Fault → Type 0
-IsNotObeyedAnyway w (input k t) f = (f ≡ Fault.NoStream) × StreamFails w k Fault.NoStream
-IsNotObeyedAnyway w (finish k) f = (f ≡ Fault.NoStream) × StreamFails w k Fault.NoStream
+IsNotObeyedAnyway w (input k t) f = TakesNothingAnyway w k f
+IsNotObeyedAnyway w (finish k) f = TakesNothingAnyway w k f
 IsNotObeyedAnyway w (undo n) f = UndoFails w.kept n f
 IsNotObeyedAnyway w (roll n) f = (f ≡ Fault.NotKept) × IsNotKept w.kept n
 IsNotObeyedAnyway w (redo n) f = ((f ≡ Fault.NotShelved) × RedoFails w n Fault.NotShelved) ⊎ ((f ≡ Fault.NoGoal) × RedoFails w n Fault.NoGoal)

@@ -32,6 +32,12 @@ pub record Core : Type 0 where
   pub meter : Meter
   pub room : Room
 
+-- The world, the notes and the untried goals are as they were.
+pub record Stays (old new : Core) : Type 0 where
+  pub world : new.world ≡ old.world
+  pub notes : new.notes ≡ old.notes
+  pub untried : new.untried ≡ old.untried
+
 -- The world is one that a core can be in: events reach it.
 abbrev pub IsStanding : World → Type 0
 IsStanding w = IsReachable w no_hands

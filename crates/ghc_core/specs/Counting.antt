@@ -21,9 +21,16 @@ CountsInObeying (roll k) m n = n ≡ m
 CountsInObeying (redo k) m n = FiresOnce m n
 CountsInObeying (arrange order) m n = n ≡ m
 
--- Meeting the event takes the counts from m to n: a proposal and a commit fire once, and a note tries once, or not at all where they are refused before.
+-- Meeting the event takes the core's counts from m to n: a commit fires once, and a note tries once, or not at all where they are refused before; a proposal does not count here.
 abbrev pub Counts : Event → Meter → Meter → Type 0
-Counts (propose h g choice) m n = FiresOnce m n
+Counts (propose h g choice) m n = n ≡ m
 Counts (commit h) m n = FiresOnce m n
 Counts (note g) m n = TriesOnce m n
 Counts (command c) m n = CountsInObeying c m n
+
+-- Meeting the event takes the counts of what hands proposed from m to n: a proposal fires once, or not at all where it is refused before.
+abbrev pub CountsProposal : Event → Meter → Meter → Type 0
+CountsProposal (propose h g choice) m n = FiresOnce m n
+CountsProposal (commit h) m n = n ≡ m
+CountsProposal (note g) m n = n ≡ m
+CountsProposal (command c) m n = n ≡ m

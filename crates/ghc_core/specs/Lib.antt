@@ -24,3 +24,4 @@ pub mod EventCode
 pub mod Playing
 pub mod Anyway
 pub mod Counting
+pub mod Meets

@@ -44,10 +44,10 @@ IsImpossible P t s = (r : Record) → ¬ IsPossibleAs P t s r
 abbrev pub history_of : World → History
 history_of w = record { steps = map step_of w.kept; next = w.next }
 
--- KeepsSlot slots i before after: the step of the record at place i was put behind the others, or there is a gap, and none was.
-abbrev pub KeepsSlot : SlotList → ℕ → List Step → List Step → Type 0
-KeepsSlot slots i before after =
-    ((r : Record) × StandsIn slots i r × (after ≡ before ++ step_of r ∷ [])) ⊎ (((r : Record) → ¬ StandsIn slots i r) × (after ≡ before))
+-- KeepsSlot part slots i before after: the part of the record at place i was put behind the others, or there is a gap, and none was.
+abbrev pub KeepsSlot : {A : Type 0} → (Record → A) → SlotList → ℕ → List A → List A → Type 0
+KeepsSlot part slots i before after =
+    ((r : Record) × StandsIn slots i r × (after ≡ before ++ part r ∷ [])) ⊎ (((r : Record) → ¬ StandsIn slots i r) × (after ≡ before))
 
 -- These steps were run from the query, and left the state t; the next step of the history, s, is not possible there.
 pub record StopsAt (P : Program) (query : Query) (h : History) (line : ℕ) : Type 0 where

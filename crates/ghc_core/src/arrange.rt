@@ -5,13 +5,12 @@ ghost use Rattle.ghc_hooks.specs.Notes.{AreLeft};
 ghost use Rattle.ghc_term.specs.Lists.{In};
 ghost use Rattle.ghc_records.specs.Record.{Record, numbers};
 ghost use Rattle.ghc_records.specs.Orders.{AreDistinct};
-ghost use Rattle.ghc_records.specs.Laws.{IsWellMade};
 ghost use Rattle.ghc_depend.specs.Lawful.{IsUnlawful};
-ghost use Rattle.ghc_core.specs.World.{IsReplay};
 ghost use Rattle.ghc_core.specs.Events.{arranged};
 ghost use Rattle.ghc_core.specs.Reverses.{Arranges};
 ghost use Rattle.ghc_core.specs.declared.change.Change.TheVariants.{Reorders as reorders};
 ghost use Rattle.ghc_core.specs.Change.{CanChange, HasRoomFor, Changes, IsBoundBy};
+ghost use Rattle.ghc_core.specs.Core.{Stays};
 
 use crate::core_state::Core;
 use ghc_depend::lawful;
@@ -84,9 +83,7 @@ impl Core {
     // Makes room to put the record into another order.
     pub(crate) fn reserve_to_arrange(&mut self) -> Result<(), AllocError>
         ensures room { OnOk result (0 < self.new.room.journal) }
-        ensures world { self.new.world ≡ self.old.world }
-        ensures notes { self.new.notes ≡ self.old.notes }
-        ensures untried { self.new.untried ≡ self.old.untried }
+        ensures stays { Stays self.old self.new }
         ensures meter { self.new.meter ≡ self.old.meter }
     {
         self.journal.reserve(1)
@@ -114,23 +111,17 @@ impl Core {
     pub fn arrange(&mut self, alloc: Global, order: &[u32]) -> Result<(), Fault>
         ensures ok { OnOk result (Arranges ⊥ self.old.world order.now arranged self.new.world) }
         ensures fault { IfErr result (λ f. (f ≡ Fault.Memory) ⊎ ((a b : ℕ) × (f ≡ Fault.NotLawful a b) × IsUnlawful self.old.world.kept order.now a b)) }
-        ensures err { OnErr result (self.new.world ≡ self.old.world) }
+        ensures stays { OnErr result (Stays self.old self.new) }
         ensures notes { self.new.notes ≡ self.old.notes }
         ensures untried { self.new.untried ≡ self.old.untried }
         ensures meter { self.new.meter ≡ self.old.meter }
-
-        // Goals and store are the replay of the record, and their variables are the query's or made by its steps.
-        ensures replay { IsReplay self.new.world self.new.world.kept self.new.world.state }
-        ensures well_made { IsWellMade self.new.world.opening.query self.new.world.kept self.new.world.state }
     {
-        self.stands();
         let arrangement = match self.prepare_arrange(alloc, order) {
             Ok(arrangement) => arrangement,
             Err(fault) => return Err(fault),
         };
         self.reserve_to_arrange()?;
         self.put_in_order(arrangement);
-        self.stands();
         Ok(())
     }
 }

@@ -1,12 +1,12 @@
-// Changes of a core: each is found, given room, and applied.
-ghost use Rattle.std.specs.Prelude.{◌≡◌, OnOk};
+// Changes of a core: each is found, and then made.
+ghost use Rattle.std.specs.Prelude.{◌≡◌, OnOk, OnErr};
 ghost use Rattle.ghc_term.specs.Lists.{In};
 ghost use Rattle.ghc_hooks.specs.Notes.{AreLeft};
 ghost use Rattle.ghc_records.specs.Record.{Record as record_spec};
 ghost use Rattle.ghc_depend.specs.Kept.{IsWithout};
 ghost use Rattle.ghc_core.specs.declared.change.Change.TheVariants.{Adds as adds, TakesAway as takes_away};
 ghost use Rattle.ghc_core.specs.World.{with_step};
-ghost use Rattle.ghc_core.specs.Core.{IsStanding};
+ghost use Rattle.ghc_core.specs.Core.{Stays};
 ghost use Rattle.ghc_core.specs.Change.{CanChange, HasRoomFor, Changes, IsBoundBy};
 
 use crate::arrange::Arrangement;
@@ -43,9 +43,7 @@ impl Core {
     #[inline(always)]
     pub(crate) fn reserve_to_add(&mut self, addition: &Addition) -> Result<(), AllocError>
         ensures room { OnOk result (HasRoomFor self.new.world self.new.room (adds addition.now)) }
-        ensures world { self.new.world ≡ self.old.world }
-        ensures notes { self.new.notes ≡ self.old.notes }
-        ensures untried { self.new.untried ≡ self.old.untried }
+        ensures stays { Stays self.old self.new }
         ensures meter { self.new.meter ≡ self.old.meter }
     {
         let step = addition.step();
@@ -58,9 +56,7 @@ impl Core {
     // Makes room to take a step away.
     fn reserve_to_take_away(&mut self, removal: &Removal) -> Result<(), AllocError>
         ensures room { OnOk result (HasRoomFor self.new.world self.new.room (takes_away removal.now)) }
-        ensures world { self.new.world ≡ self.old.world }
-        ensures notes { self.new.notes ≡ self.old.notes }
-        ensures untried { self.new.untried ≡ self.old.untried }
+        ensures stays { Stays self.old self.new }
         ensures meter { self.new.meter ≡ self.old.meter }
     {
         self.state.reserve_goals(1)?;
@@ -69,13 +65,10 @@ impl Core {
         self.journal.reserve(1)
     }
 
-    /// Makes room for the change. The core stays as it is, also where memory is refused. It costs nothing where there is room; a
-    /// table that is full moves to one of about twice its size.
-    pub fn reserve(&mut self, change: &Change) -> Result<(), AllocError>
+    // Makes room for the change. It costs nothing where there is room; a table that is full moves to one of about twice its size.
+    fn reserve(&mut self, change: &Change) -> Result<(), AllocError>
         ensures room { OnOk result (HasRoomFor self.new.world self.new.room change.now) }
-        ensures world { self.new.world ≡ self.old.world }
-        ensures notes { self.new.notes ≡ self.old.notes }
-        ensures untried { self.new.untried ≡ self.old.untried }
+        ensures stays { Stays self.old self.new }
         ensures meter { self.new.meter ≡ self.old.meter }
     {
         match change {
@@ -120,18 +113,13 @@ impl Core {
         self.shelf.put(step);
     }
 
-    /// Makes a change that was found in this state, where there is room for it: a note stays just where its goal is still there
-    /// and did not look at what the step binds, and nothing is tried. It takes no memory, and cannot fail. To take a step costs a
-    /// look-up for each of its goals and bindings, and some for each goal that looked at what it binds; to take one away, and what
-    /// `Records::remove` costs; to take away a step with its consequences, as much for each; to put the record into another order,
-    /// the letting go of the old one.
-    pub fn apply(&mut self, change: Change)
+    // Makes a change where there is room for it, which cannot fail.
+    fn apply(&mut self, change: Change)
         requires found { CanChange self.old.world change }
         requires room { HasRoomFor self.old.world self.old.room change }
         ensures changed { Changes self.old.world change self.new.world }
         ensures notes { AreLeft self.new.world.state.goals (IsBoundBy change) self.old.notes self.new.notes }
         ensures meter { self.new.meter ≡ self.old.meter }
-        ensures standing { IsStanding self.new.world }
     {
         match change {
             Change::Adds(addition) => self.add(addition),
@@ -140,6 +128,24 @@ impl Core {
             Change::TakesAll(rollback) => self.take_all_away(rollback),
             Change::Reorders(arrangement) => self.put_in_order(arrangement),
         }
-        self.stands();
+    }
+
+    /// Makes a change that was found in this state: a note stays just where its goal is still there and did not look at what the
+    /// steps of the change bind, and nothing is tried. Room in the tables is made first, and where memory for it is refused
+    /// nothing changes; then nothing can fail. To take a step costs a look-up for each of its goals and bindings, and some for
+    /// each goal that looked at what it binds; to take one away, and what `Records::remove` costs; to take away a step with its
+    /// consequences, as much for each; to put the record into another order, the letting go of the old one. A table that is full
+    /// moves to one of about twice its size.
+    #[inline(always)]
+    pub fn make(&mut self, change: Change) -> Result<(), AllocError>
+        requires found { CanChange self.old.world change }
+        ensures changed { OnOk result (Changes self.old.world change self.new.world) }
+        ensures notes { OnOk result (AreLeft self.new.world.state.goals (IsBoundBy change) self.old.notes self.new.notes) }
+        ensures stays { OnErr result (Stays self.old self.new) }
+        ensures meter { self.new.meter ≡ self.old.meter }
+    {
+        self.reserve(&change)?;
+        self.apply(change);
+        Ok(())
     }
 }

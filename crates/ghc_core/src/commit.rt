@@ -7,9 +7,8 @@ ghost use Rattle.ghc_fire.specs.Meter.{fired};
 ghost use Rattle.ghc_fire.specs.Proposal.{under};
 ghost use Rattle.ghc_hooks.specs.Notes.{AreLeft};
 ghost use Rattle.ghc_records.specs.Record.{Record as record_spec};
-ghost use Rattle.ghc_records.specs.Laws.{IsWellMade};
-ghost use Rattle.ghc_core.specs.World.{IsReplay, IsFull, HasRoom};
-ghost use Rattle.ghc_core.specs.Core.{IsCommitted, record_as, next_record};
+ghost use Rattle.ghc_core.specs.World.{IsReplay, IsFull, HasRoom, IsNextStep, with_step};
+ghost use Rattle.ghc_core.specs.Core.{IsCommitted, record_as, next_record, Stays};
 ghost use Rattle.ghc_core.specs.declared.change.Change.TheVariants.{Adds as adds};
 ghost use Rattle.ghc_core.specs.Change.{IsBoundBy};
 ghost use Rattle.ghc_core.specs.Proposes.{AttemptAnswers, IsProposedIn, IsProposedAsNext, IsCommitOf, CommitFails};
@@ -86,9 +85,7 @@ impl Core {
         ensures answer { Answered (IsProposedIn self.old.world goal choice) (λ f. AttemptAnswers self.old.world goal choice (refused f)) result }
         ensures no_goal { AttemptAnswers self.old.world goal choice (refused Fault.NoGoal) → result ≡ Err Fault.NoGoal }
         ensures no_clause { AttemptAnswers self.old.world goal choice (refused Fault.NoClause) → result ≡ Err Fault.NoClause }
-        ensures world { self.new.world ≡ self.old.world }
-        ensures notes { self.new.notes ≡ self.old.notes }
-        ensures untried { self.new.untried ≡ self.old.untried }
+        ensures stays { Stays self.old self.new }
         ensures counted { self.new.meter ≡ fired self.old.meter }
     {
         attempt(
@@ -112,9 +109,7 @@ impl Core {
         ensures answer { Answered (IsProposedAsNext self.old.world goal choice) (λ f. AttemptAnswers self.old.world goal choice (refused f)) result }
         ensures no_goal { AttemptAnswers self.old.world goal choice (refused Fault.NoGoal) → result ≡ Err Fault.NoGoal }
         ensures no_clause { AttemptAnswers self.old.world goal choice (refused Fault.NoClause) → result ≡ Err Fault.NoClause }
-        ensures world { self.new.world ≡ self.old.world }
-        ensures notes { self.new.notes ≡ self.old.notes }
-        ensures untried { self.new.untried ≡ self.old.untried }
+        ensures stays { Stays self.old self.new }
         ensures counted { self.new.meter ≡ fired self.old.meter }
     {
         attempt_as(
@@ -175,9 +170,7 @@ impl Core {
 
         // No want of memory hides that the goal is not there any more.
         ensures gone { finite.get self.old.world.state.goals proposal.now.goal ≡ None → result ≡ Err Fault.Stale }
-        ensures world { self.new.world ≡ self.old.world }
-        ensures notes { self.new.notes ≡ self.old.notes }
-        ensures untried { self.new.untried ≡ self.old.untried }
+        ensures stays { Stays self.old self.new }
         ensures counted { self.new.meter ≡ fired self.old.meter }
     {
         self.stands();
@@ -185,6 +178,19 @@ impl Core {
             Ok(again) => self.as_next(alloc, again),
             Err(fault) => Err(fault),
         }
+    }
+
+    // Takes a step that was found as the next one, and gives its number.
+    pub(crate) fn take_next(&mut self, addition: Addition) -> Result<u32, AllocError>
+        requires found { IsNextStep self.old.world addition }
+        ensures ok { IfOk result (λ n. (n ≡ self.old.world.next) × (self.new.world ≡ with_step addition self.old.world)) }
+        ensures notes { OnOk result (AreLeft self.new.world.state.goals (IsBoundBy (adds addition)) self.old.notes self.new.notes) }
+        ensures stays { OnErr result (Stays self.old self.new) }
+        ensures meter { self.new.meter ≡ self.old.meter }
+    {
+        let number = addition.step().number();
+        self.make(Change::Adds(addition))?;
+        Ok(number)
     }
 
     /// Takes the step that was proposed, under the next number, and gives that number: what it binds is in the store, the goals
@@ -196,24 +202,19 @@ impl Core {
 
         // No want of memory hides that the goal is not there any more.
         ensures gone { finite.get self.old.world.state.goals proposal.now.goal ≡ None → result ≡ Err Fault.Stale }
-        ensures err { OnErr result (self.new.world ≡ self.old.world) }
-        ensures notes_stay { OnErr result (self.new.notes ≡ self.old.notes) }
-        ensures untried_stay { OnErr result (self.new.untried ≡ self.old.untried) }
+        ensures stays { OnErr result (Stays self.old self.new) }
         ensures counted { self.new.meter ≡ fired self.old.meter }
 
         // A note stays just where its goal is still there and did not look at what the step binds.
-        ensures notes { OnOk result ((r : record_spec) × IsCommitOf self.old.world proposal.now r × AreLeft self.new.world.state.goals (IsBoundBy (adds r)) self.old.notes self.new.notes) }
+        ensures notes { OnOk result ((r : record_spec) × IsCommitOf self.old.world proposal.now r × (self.new.world ≡ with_step r self.old.world) × AreLeft self.new.world.state.goals (IsBoundBy (adds r)) self.old.notes self.new.notes) }
 
-        // Goals and store are the replay of the record, and their variables are the query's or made by its steps.
+        // Goals and store are the replay of the record.
         ensures replay { IsReplay self.new.world self.new.world.kept self.new.world.state }
-        ensures well_made { IsWellMade self.new.world.opening.query self.new.world.kept self.new.world.state }
     {
         self.stands();
         let addition = self.prepare(alloc, proposal)?;
-        let number = addition.step().number();
-        let change = Change::Adds(addition);
-        self.reserve(&change)?;
-        self.apply(change);
+        let number = self.take_next(addition)?;
+        self.stands();
         Ok(number)
     }
 }

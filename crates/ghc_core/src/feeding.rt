@@ -1,5 +1,6 @@
 // Inputs and closes of streams.
-ghost use Rattle.std.specs.Prelude.{◌≡◌, ◌≢◌, Some, Err, IfOk, IfSome, IfNone, OnOk, OnErr};
+ghost use Rattle.std.specs.Prelude.{◌≡◌, ◌≢◌, Some, Err, IfOk, IfErr, IfSome, IfNone, OnOk, OnErr};
+ghost use Rattle.ghc_term.specs.declared.fault.Fault.{Fault as fault_spec};
 ghost use Rattle.ghc_term.specs.Answered.{Answered};
 ghost use Rattle.ghc_term.specs.declared.goal_name.GoalName.{GoalName as goal_name};
 ghost use Rattle.ghc_term.specs.declared.var_name.VarName.{VarName as var_name};
@@ -7,19 +8,18 @@ ghost use Rattle.ghc_term.specs.Goal.{stream as stream_goal};
 ghost use Rattle.ghc_fire.specs.declared.act.Act.TheVariants.{Given as given, Closed as closed};
 ghost use Rattle.ghc_hooks.specs.Notes.{AreLeft};
 ghost use Rattle.ghc_records.specs.Record.{Record as record_spec};
-ghost use Rattle.ghc_records.specs.Laws.{IsWellMade};
 ghost use Rattle.ghc_core.specs.declared.change.Change.TheVariants.{Adds as adds};
-ghost use Rattle.ghc_core.specs.World.{IsReplay, IsNextStep, with_step};
 ghost use Rattle.ghc_core.specs.Events.{stepped};
-ghost use Rattle.ghc_core.specs.Core.{IsStanding};
+ghost use Rattle.ghc_core.specs.Core.{Stays};
 ghost use Rattle.ghc_core.specs.Change.{IsBoundBy};
+ghost use Rattle.ghc_core.specs.Anyway.{TakesNothingAnyway};
 ghost use Rattle.ghc_core.specs.Streams.{IsStreamAt, StreamFails, IsStreamStep, Inputs, Finishes};
 
 use crate::change::Change;
 use crate::core_state::Core;
 use ghc_fire::{Act, Effect, close, feed};
 use ghc_records::{Addition, Record};
-use ghc_term::{Fault, Goal, GoalName, GoalView, Ground, VarName};
+use ghc_term::{Fault, Goal, GoalName, GoalView, Ground, Term, TermView, VarName};
 use std::alloc::{AllocError, Global};
 
 // The step of this number, an act on the goal of a stream, with all that it takes to take it.
@@ -66,8 +66,26 @@ impl Core {
         }
     }
 
+    // The name of the goal of this stream, and its tail, where that ends in an unbound variable; else why the stream takes neither
+    // input nor close: a look-up for each variable of the tail's chain.
+    fn open_stream(&self, stream: u32) -> Result<(GoalName, VarName), Fault>
+        ensures found { IfOk result (λ p. IsStreamAt self.now.world stream p.0 p.1) }
+        ensures fault { IfErr result (StreamFails self.now.world stream) }
+        ensures anyway { (f : fault_spec) → TakesNothingAnyway self.now.world stream f → result ≡ Err f }
+    {
+        self.stands();
+        let Some((name, tail)) = self.stream_goal(stream) else {
+            return Err(Fault::NoStream);
+        };
+        let tail_term = Term::variable(tail);
+        match self.state.store().end(&tail_term).view() {
+            TermView::Var(_) => Ok((name, tail)),
+            _ => Err(Fault::TailBound),
+        }
+    }
+
     /// Finds what it takes to give the stream this input, as the next step: `NoStream` exactly where there is no such stream or it
-    /// is closed, which is told before memory is asked for; else `TailBound` exactly where its tail ends in a value; else `Full`
+    /// is closed, else `TailBound` exactly where its tail ends in a value, which are told before memory is asked for; else `Full`
     /// exactly where the numbers are used up or 1,000,000 steps are kept; else it fails for want of memory alone. Nothing is fired.
     /// It costs a look-up for each variable of the tail's chain.
     pub fn prepare_input(
@@ -77,10 +95,11 @@ impl Core {
         input: &Ground,
     ) -> Result<Addition, Fault>
         ensures answer { Answered (IsStreamStep self.now.world stream (given input.now)) (StreamFails self.now.world stream) result }
-        ensures no_stream { StreamFails self.now.world stream Fault.NoStream → result ≡ Err Fault.NoStream }
+        ensures anyway { (f : fault_spec) → TakesNothingAnyway self.now.world stream f → result ≡ Err f }
     {
-        let Some((name, tail)) = self.stream_goal(stream) else {
-            return Err(Fault::NoStream);
+        let (name, tail) = match self.open_stream(stream) {
+            Ok(open) => open,
+            Err(fault) => return Err(fault),
         };
         let effect = match feed(alloc, self.state.store(), stream, tail, input, self.next) {
             Ok(Some(effect)) => effect,
@@ -98,10 +117,11 @@ impl Core {
     /// Finds what it takes to close the stream, as the next step. Refusals and cost are those of `prepare_input`.
     pub fn prepare_close(&self, alloc: Global, stream: u32) -> Result<Addition, Fault>
         ensures answer { Answered (IsStreamStep self.now.world stream closed) (StreamFails self.now.world stream) result }
-        ensures no_stream { StreamFails self.now.world stream Fault.NoStream → result ≡ Err Fault.NoStream }
+        ensures anyway { (f : fault_spec) → TakesNothingAnyway self.now.world stream f → result ≡ Err f }
     {
-        let Some((name, tail)) = self.stream_goal(stream) else {
-            return Err(Fault::NoStream);
+        let (name, tail) = match self.open_stream(stream) {
+            Ok(open) => open,
+            Err(fault) => return Err(fault),
         };
         let effect = match close(alloc, self.state.store(), tail) {
             Ok(Some(effect)) => effect,
@@ -115,50 +135,24 @@ impl Core {
         Ok(stream_addition(alloc, self.next, name, goal, Act::Closed, effect)?)
     }
 
-    // Takes a step of a stream that was found, and gives its number.
-    fn take_stream_step(&mut self, addition: Addition) -> Result<u32, AllocError>
-        requires found { IsNextStep self.old.world addition }
-        ensures ok { IfOk result (λ n. (n ≡ self.old.world.next) × (self.new.world ≡ with_step addition self.old.world)) }
-        ensures err { OnErr result (self.new.world ≡ self.old.world) }
-        ensures notes { OnOk result (AreLeft self.new.world.state.goals (IsBoundBy (adds addition)) self.old.notes self.new.notes) }
-        ensures notes_stay { OnErr result (self.new.notes ≡ self.old.notes) }
-        ensures untried_stay { OnErr result (self.new.untried ≡ self.old.untried) }
-        ensures meter { self.new.meter ≡ self.old.meter }
-        ensures standing { IsStanding self.new.world }
-    {
-        self.stands();
-        let number = addition.step().number();
-        let change = Change::Adds(addition);
-        self.reserve(&change)?;
-        self.apply(change);
-        Ok(number)
-    }
-
     /// Gives the stream this input, under the next number, and gives that number: the end of the stream's tail is bound to a list
     /// cell of the input and a fresh tail, with which the stream goes on as the goal that the step makes. Untried are then also the
     /// goals that looked at the end. The refusals are those of `prepare_input`; a refused input changes nothing. Nothing is fired.
     /// It costs what preparing and applying the step cost.
     pub fn input(&mut self, alloc: Global, stream: u32, input: &Ground) -> Result<u32, Fault>
         ensures answer { Answered (λ n. Inputs ⊥ self.old.world stream input.now (stepped n) self.new.world) (StreamFails self.old.world stream) result }
-        ensures no_stream { StreamFails self.old.world stream Fault.NoStream → result ≡ Err Fault.NoStream }
-        ensures err { OnErr result (self.new.world ≡ self.old.world) }
-        ensures notes_stay { OnErr result (self.new.notes ≡ self.old.notes) }
-        ensures untried_stay { OnErr result (self.new.untried ≡ self.old.untried) }
+        ensures anyway { (f : fault_spec) → TakesNothingAnyway self.old.world stream f → result ≡ Err f }
+        ensures stays { OnErr result (Stays self.old self.new) }
         ensures meter { self.new.meter ≡ self.old.meter }
 
         // A note stays just where its goal is still there and did not look at what the step binds.
         ensures notes { OnOk result ((r : record_spec) × IsStreamStep self.old.world stream (given input.now) r × AreLeft self.new.world.state.goals (IsBoundBy (adds r)) self.old.notes self.new.notes) }
-
-        // Goals and store are the replay of the record, and their variables are the query's or made by its steps.
-        ensures replay { IsReplay self.new.world self.new.world.kept self.new.world.state }
-        ensures well_made { IsWellMade self.new.world.opening.query self.new.world.kept self.new.world.state }
     {
-        self.stands();
         let addition = match self.prepare_input(alloc, stream, input) {
             Ok(addition) => addition,
             Err(fault) => return Err(fault),
         };
-        Ok(self.take_stream_step(addition)?)
+        Ok(self.take_next(addition)?)
     }
 
     /// Closes the stream, under the next number, and gives that number: the end of the stream's tail is bound to `[]`, and its goal
@@ -166,24 +160,17 @@ impl Core {
     /// preparing and applying the step cost.
     pub fn close(&mut self, alloc: Global, stream: u32) -> Result<u32, Fault>
         ensures answer { Answered (λ n. Finishes ⊥ self.old.world stream (stepped n) self.new.world) (StreamFails self.old.world stream) result }
-        ensures no_stream { StreamFails self.old.world stream Fault.NoStream → result ≡ Err Fault.NoStream }
-        ensures err { OnErr result (self.new.world ≡ self.old.world) }
-        ensures notes_stay { OnErr result (self.new.notes ≡ self.old.notes) }
-        ensures untried_stay { OnErr result (self.new.untried ≡ self.old.untried) }
+        ensures anyway { (f : fault_spec) → TakesNothingAnyway self.old.world stream f → result ≡ Err f }
+        ensures stays { OnErr result (Stays self.old self.new) }
         ensures meter { self.new.meter ≡ self.old.meter }
 
         // A note stays just where its goal is still there and did not look at what the step binds.
         ensures notes { OnOk result ((r : record_spec) × IsStreamStep self.old.world stream closed r × AreLeft self.new.world.state.goals (IsBoundBy (adds r)) self.old.notes self.new.notes) }
-
-        // Goals and store are the replay of the record, and their variables are the query's or made by its steps.
-        ensures replay { IsReplay self.new.world self.new.world.kept self.new.world.state }
-        ensures well_made { IsWellMade self.new.world.opening.query self.new.world.kept self.new.world.state }
     {
-        self.stands();
         let addition = match self.prepare_close(alloc, stream) {
             Ok(addition) => addition,
             Err(fault) => return Err(fault),
         };
-        Ok(self.take_stream_step(addition)?)
+        Ok(self.take_next(addition)?)
     }
 }

@@ -30,6 +30,7 @@ impl Core {
     pub fn foresee(&self, alloc: Global, command: &Command) -> Result<Record, Fault>
         ensures answer { Answered (λ r. Foresees self.now.world (command_of command.now) (adds r)) (λ f. Foresees self.now.world (command_of command.now) (refuses f)) result }
         ensures no_stream { Foresees self.now.world (command_of command.now) (refuses Fault.NoStream) → result ≡ Err Fault.NoStream }
+        ensures tail_bound { Foresees self.now.world (command_of command.now) (refuses Fault.TailBound) → result ≡ Err Fault.TailBound }
         ensures other { Foresees self.now.world (command_of command.now) (refuses Fault.Command) → result ≡ Err Fault.Command }
     {
         match command {

@@ -1,25 +1,27 @@
 // A core that replies to commands, and to notes of goals.
 ghost use Rattle.std.specs.Prelude.{◌≡◌, ◌⊎◌, [], ◌∷◌, IfOk, OnOk, OnErr};
+ghost use Rattle.std.specs.FinSet as set;
 ghost use Rattle.ghc_term.specs.declared.fault.Fault.{Fault as fault_spec};
-ghost use Rattle.ghc_hooks.specs.Status.{failed};
+ghost use Rattle.ghc_hooks.specs.Notes.{AreLeft};
 ghost use Rattle.ghc_core.specs.Answers.{Obeys};
 ghost use Rattle.ghc_core.specs.Anyway.{IsNotObeyedAnyway};
 ghost use Rattle.ghc_core.specs.Asked.{told_of};
-ghost use Rattle.ghc_core.specs.Change.{CanChange, Changes};
+ghost use Rattle.ghc_core.specs.Change.{CanChange, Changes, IsBoundBy};
 ghost use Rattle.ghc_core.specs.CommandCode.{command_of};
+ghost use Rattle.ghc_core.specs.Core.{Stays};
 ghost use Rattle.ghc_core.specs.Counting.{TriesOnce, CountsInObeying};
 ghost use Rattle.ghc_core.specs.EventCode.{reply_of};
-ghost use Rattle.ghc_core.specs.Events.{noted, refused};
-ghost use Rattle.ghc_core.specs.Playing.{AddsOneAtMost, IsCauseOfFailure, IsRefusal};
+ghost use Rattle.ghc_core.specs.Events.{refused};
+ghost use Rattle.ghc_core.specs.Meets.{Moves};
+ghost use Rattle.ghc_core.specs.Playing.{AddsOneAtMost, IsRefusal};
 ghost use Rattle.ghc_core.specs.Proposes.{Notes, IsNoCandidate};
-ghost use Rattle.ghc_core.specs.Settling.{AreKept};
+ghost use Rattle.ghc_core.specs.Settling.{IsNoted, AreKept};
 
 use crate::change::Change;
 use crate::command::Command;
 use crate::copies::verdict_again;
 use crate::core_state::Core;
 use crate::reply::Reply;
-use ghc_hooks::Note;
 use ghc_term::{Fault, GoalName};
 use std::alloc::{AllocError, Global};
 
@@ -45,31 +47,18 @@ fn change_told(alloc: Global, change: &Change) -> Result<Reply, AllocError>
     }
 }
 
-// What is told of the goal with this note: a copy of the variables for which it waits, for which memory may be refused.
-fn told(alloc: Global, goal: GoalName, note: &Note) -> Reply
-    requires { (f : fault_spec) → note.now.status ≡ failed f → IsCauseOfFailure f }
-    ensures { (reply_of result ≡ noted goal note.now.status) ⊎ (reply_of result ≡ refused Fault.Memory) }
-{
-    match verdict_again(alloc, note.verdict()) {
-        Ok(verdict) => Reply::Noted(goal, verdict),
-        Err(_) => Reply::Refused(Fault::Memory),
-    }
-}
-
 impl Core {
     // Makes the change, and tells it. The memory for the reply is taken first, then room; an error leaves the core as it was.
     fn carry_out(&mut self, alloc: Global, change: Change) -> Result<Reply, AllocError>
         requires { CanChange self.old.world change }
         ensures told { IfOk result (λ reply. reply_of reply ≡ told_of change) }
         ensures changed { OnOk result (Changes self.old.world change self.new.world) }
-        ensures err { OnErr result (self.new.world ≡ self.old.world) }
-        ensures notes_stay { OnErr result (self.new.notes ≡ self.old.notes) }
-        ensures untried_stay { OnErr result (self.new.untried ≡ self.old.untried) }
+        ensures notes { OnOk result (AreLeft self.new.world.state.goals (IsBoundBy change) self.old.notes self.new.notes) }
+        ensures stays { OnErr result (Stays self.old self.new) }
         ensures meter { self.new.meter ≡ self.old.meter }
     {
         let reply = change_told(alloc, &change)?;
-        self.reserve(&change)?;
-        self.apply(change);
+        self.make(change)?;
         Ok(reply)
     }
 
@@ -82,7 +71,10 @@ impl Core {
 
         // No want of memory hides that the stream or the step is not there, that the step has a consequence, or that its goal is not there.
         ensures anyway { (f : fault_spec) → IsNotObeyedAnyway self.old.world (command_of command.now) f → reply_of result ≡ refused f }
-        ensures stays { IsRefusal (reply_of result) → (self.new.notes ≡ self.old.notes) × (self.new.untried ≡ self.old.untried) }
+        ensures stays { IsRefusal (reply_of result) → Stays self.old self.new }
+
+        // A note stays just where its goal is still there and did not look at what the steps of the change bind.
+        ensures moves { IsRefusal (reply_of result) ⊎ Moves self.old self.new }
         ensures counted { CountsInObeying (command_of command.now) self.old.meter self.new.meter }
     {
         let change = match self.prepare_command(alloc, command) {
@@ -95,22 +87,28 @@ impl Core {
         }
     }
 
-    /// Tries the goal and notes what was found, as `note` does, and tells it. Where memory is refused when the note is copied for
-    /// the reply, the note stays.
+    /// Tries the goal and notes what was found, as `note` does, and tells its status. The memory for the reply is taken before the
+    /// note is put; a refused note changes nothing but the meter.
     pub fn reply_to_note(&mut self, alloc: Global, goal: GoalName) -> Reply
         ensures answer { Notes (Unit {0}) self.old.world goal (reply_of result) }
         ensures no_goal { IsNoCandidate self.old.world goal → reply_of result ≡ refused Fault.NoGoal }
         ensures world { self.new.world ≡ self.old.world }
+        ensures noted { IsRefusal (reply_of result) ⊎ (IsNoted self.old.world goal self.old.notes self.new.notes × (self.new.untried ≡ set.remove self.old.untried goal)) }
         ensures kept { AreKept self.old.notes self.new.notes }
+        ensures stays { IsRefusal (reply_of result) → Stays self.old self.new }
         ensures counted { TriesOnce self.old.meter self.new.meter }
     {
-        match self.note(alloc, goal) {
-            Ok(()) => {}
+        let note = match self.try_named(alloc, goal) {
+            Ok(note) => note,
             Err(fault) => return Reply::Refused(fault),
-        }
-        match self.tries().get(goal) {
-            Some(note) => told(alloc, goal, note),
-            None => Reply::Refused(Fault::NoGoal),
+        };
+        let verdict = match verdict_again(alloc, note.verdict()) {
+            Ok(verdict) => verdict,
+            Err(_) => return Reply::Refused(Fault::Memory),
+        };
+        match self.enter(goal, note) {
+            Ok(()) => Reply::Noted(goal, verdict),
+            Err(_) => Reply::Refused(Fault::Memory),
         }
     }
 }

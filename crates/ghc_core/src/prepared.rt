@@ -6,6 +6,7 @@ ghost use Rattle.ghc_core.specs.Anyway.{IsNotObeyedAnyway};
 ghost use Rattle.ghc_core.specs.Asked.{IsAskedFor, IsNotObeyed};
 ghost use Rattle.ghc_core.specs.CommandCode.{command_of};
 ghost use Rattle.ghc_core.specs.Counting.{CountsInObeying};
+ghost use Rattle.ghc_core.specs.Core.{Stays};
 
 use crate::change::Change;
 use crate::command::Command;
@@ -22,9 +23,7 @@ impl Core {
 
         // No want of memory hides that the stream or the step is not there, that the step has a consequence, or that its goal is not there.
         ensures anyway { (f : fault_spec) → IsNotObeyedAnyway self.old.world (command_of command.now) f → result ≡ Err f }
-        ensures world { self.new.world ≡ self.old.world }
-        ensures notes { self.new.notes ≡ self.old.notes }
-        ensures untried { self.new.untried ≡ self.old.untried }
+        ensures stays { Stays self.old self.new }
         ensures counted { CountsInObeying (command_of command.now) self.old.meter self.new.meter }
     {
         self.stands();

@@ -2,8 +2,7 @@
 ghost use Rattle.std.specs.Prelude.{◌≡◌, ◌≢◌, ◌⊎◌, true, false, Some, None, Err, IfOk, IfErr};
 ghost use Rattle.std.specs.FinMap as finite;
 ghost use Rattle.ghc_fire.specs.Meter.{fired};
-ghost use Rattle.ghc_fire.specs.Proposal.{Proposal as proposal_spec};
-ghost use Rattle.ghc_core.specs.Core.{choice_of};
+ghost use Rattle.ghc_core.specs.Core.{choice_of, Stays};
 ghost use Rattle.ghc_core.specs.Proposes.{StillHolds, IsReduction};
 
 use crate::core_state::Core;
@@ -63,9 +62,7 @@ pub fn recheck(alloc: Global, core: &mut Core, proposal: &Proposal) -> Result<Pr
     ensures same { IfOk result (λ p. (p.goal ≡ proposal.now.goal) × (p.act ≡ proposal.now.act) × (p.effect ≡ proposal.now.effect)) }
     ensures fault { IfErr result (λ f. (f ≡ Fault.Memory) ⊎ ((f ≡ Fault.Stale) × ¬ StillHolds core.old.world proposal.now)) }
     ensures gone { finite.get core.old.world.state.goals proposal.now.goal ≡ None → result ≡ Err Fault.Stale }
-    ensures world { core.new.world ≡ core.old.world }
-    ensures notes { core.new.notes ≡ core.old.notes }
-    ensures untried { core.new.untried ≡ core.old.untried }
+    ensures stays { Stays core.old core.new }
     ensures counted { core.new.meter ≡ fired core.old.meter }
 {
     core.stands();

@@ -1,16 +1,14 @@
 // Taking a shelved step again.
-ghost use Rattle.std.specs.Prelude.{◌≡◌, ◌⊎◌, ◌↔◌, true, false, None, Some, IfOk, IfErr, OnOk, OnErr, Err, IsTrue};
+ghost use Rattle.std.specs.Prelude.{◌≡◌, ◌⊎◌, ◌↔◌, false, None, Some, IfOk, IfErr, OnOk, OnErr, Err, IsTrue};
 ghost use Rattle.std.specs.FinMap as finite;
-ghost use Rattle.ghc_term.specs.declared.goal_name.GoalName.{GoalName as goal_name};
 ghost use Rattle.ghc_fire.specs.Meter.{fired};
 ghost use Rattle.ghc_hooks.specs.Notes.{AreLeft};
 ghost use Rattle.ghc_records.specs.Record.{Record as record_spec, IsThere, Fires};
-ghost use Rattle.ghc_records.specs.Laws.{IsWellMade};
-ghost use Rattle.ghc_core.specs.World.{IsReplay};
 ghost use Rattle.ghc_core.specs.Events.{stepped};
 ghost use Rattle.ghc_core.specs.Reverses.{Redoes, RedoFails, with_redone, LacksGoal};
 ghost use Rattle.ghc_core.specs.declared.change.Change.TheVariants.{PutsBack as puts_back};
 ghost use Rattle.ghc_core.specs.Change.{CanChange, HasRoomFor, IsBoundBy};
+ghost use Rattle.ghc_core.specs.Core.{Stays};
 
 use crate::carrying::carry_over;
 use crate::change::Change;
@@ -95,9 +93,7 @@ impl Core {
         ensures not_shelved { RedoFails self.old.world number Fault.NotShelved → (result ≡ Err Fault.NotShelved) × (self.new.meter ≡ self.old.meter) }
         ensures no_goal { RedoFails self.old.world number Fault.NoGoal → (result ≡ Err Fault.NoGoal) × (self.new.meter ≡ self.old.meter) }
         ensures fired { (¬ RedoFails self.old.world number Fault.NotShelved) → (¬ RedoFails self.old.world number Fault.NoGoal) → self.new.meter ≡ fired self.old.meter }
-        ensures world { self.new.world ≡ self.old.world }
-        ensures notes { self.new.notes ≡ self.old.notes }
-        ensures untried { self.new.untried ≡ self.old.untried }
+        ensures stays { Stays self.old self.new }
     {
         let Some(shelved) = self.shelf.get(number) else {
             return Err(Fault::NotShelved);
@@ -142,25 +138,17 @@ impl Core {
         ensures not_shelved { RedoFails self.old.world number Fault.NotShelved → (result ≡ Err Fault.NotShelved) × (self.new.meter ≡ self.old.meter) }
         ensures no_goal { RedoFails self.old.world number Fault.NoGoal → (result ≡ Err Fault.NoGoal) × (self.new.meter ≡ self.old.meter) }
         ensures fired { (¬ RedoFails self.old.world number Fault.NotShelved) → (¬ RedoFails self.old.world number Fault.NoGoal) → self.new.meter ≡ fired self.old.meter }
-        ensures err { OnErr result (self.new.world ≡ self.old.world) }
-        ensures notes_stay { OnErr result (self.new.notes ≡ self.old.notes) }
-        ensures untried_stay { OnErr result (self.new.untried ≡ self.old.untried) }
+        ensures stays { OnErr result (Stays self.old self.new) }
 
         // A note stays just where its goal is still there and did not look at what the step binds.
         ensures notes { OnOk result ((r : record_spec) × (finite.get self.old.world.shelf number ≡ Some r) × AreLeft self.new.world.state.goals (IsBoundBy (puts_back r)) self.old.notes self.new.notes) }
-
-        // Goals and store are the replay of the record, and their variables are the query's or made by its steps.
-        ensures replay { IsReplay self.new.world self.new.world.kept self.new.world.state }
-        ensures well_made { IsWellMade self.new.world.opening.query self.new.world.kept self.new.world.state }
     {
         self.stands();
         let addition = match self.prepare_redo(alloc, number) {
             Ok(addition) => addition,
             Err(fault) => return Err(fault),
         };
-        let change = Change::PutsBack(addition);
-        self.reserve(&change)?;
-        self.apply(change);
+        self.make(Change::PutsBack(addition))?;
         Ok(())
     }
 }

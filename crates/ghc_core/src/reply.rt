@@ -19,3 +19,16 @@ pub enum Reply {
     /// The event was refused.
     Refused(Fault),
 }
+
+impl Reply {
+    ghost use Rattle.std.specs.Prelude.{◌≡◌};
+    ghost use Rattle.ghc_core.specs.EventCode.{reply_of};
+    ghost use Rattle.ghc_core.specs.Playing.{tells_change};
+
+    /// Whether the reply tells of a change: a step was taken or taken again, steps were undone, or the record was arranged.
+    pub fn tells_change(&self) -> bool
+        ensures { result ≡ tells_change (reply_of self.now) }
+    {
+        matches!(self, Reply::Stepped(_) | Reply::Undone(_) | Reply::Arranged)
+    }
+}

@@ -1,18 +1,16 @@
 // Rolling back: a step and its consequences are taken away, all or none.
 ghost use Rattle.std.specs.Prelude.{◌≡◌, ◌⊎◌, ◌∷◌, ℕ, List, IfOk, IfErr, OnOk, OnErr, Err};
 ghost use Rattle.ghc_term.specs.Lists.{In};
-ghost use Rattle.ghc_term.specs.declared.fault.Fault.{Fault as fault_spec};
 ghost use Rattle.ghc_hooks.specs.Notes.{AreLeft};
 ghost use Rattle.ghc_records.specs.Record.{Record as record_spec, numbers};
-ghost use Rattle.ghc_records.specs.Laws.{IsWellMade};
 ghost use Rattle.ghc_depend.specs.Depend.{IsKeptAs, IsNotKept};
 ghost use Rattle.ghc_depend.specs.Deletion.{IsBoundIn};
 ghost use Rattle.ghc_depend.specs.Kept.{IsSplitAt};
-ghost use Rattle.ghc_core.specs.World.{IsReplay};
 ghost use Rattle.ghc_core.specs.Events.{undone};
 ghost use Rattle.ghc_core.specs.Reverses.{Rolls};
 ghost use Rattle.ghc_core.specs.declared.change.Change.TheVariants.{TakesAll as takes_all};
 ghost use Rattle.ghc_core.specs.Change.{CanChange, HasRoomFor, Changes, IsBoundBy};
+ghost use Rattle.ghc_core.specs.Core.{Stays};
 
 use crate::change::{Change, strike};
 use crate::core_state::Core;
@@ -94,9 +92,7 @@ impl Core {
     // Makes room to take steps away.
     pub(crate) fn reserve_to_roll(&mut self, rollback: &Rollback) -> Result<(), AllocError>
         ensures room { OnOk result (HasRoomFor self.new.world self.new.room (takes_all rollback.now)) }
-        ensures world { self.new.world ≡ self.old.world }
-        ensures notes { self.new.notes ≡ self.old.notes }
-        ensures untried { self.new.untried ≡ self.old.untried }
+        ensures stays { Stays self.old self.new }
         ensures meter { self.new.meter ≡ self.old.meter }
     {
         let count = rollback.consequences.len() + 1;
@@ -165,18 +161,12 @@ impl Core {
         ensures ok { IfOk result (λ ns. Rolls ⊥ self.old.world number (undone ns.items) self.new.world) }
         ensures fault { IfErr result (λ f. (f ≡ Fault.Memory) ⊎ ((f ≡ Fault.NotKept) × IsNotKept self.old.world.kept number)) }
         ensures refused { IsNotKept self.old.world.kept number → result ≡ Err Fault.NotKept }
-        ensures err { OnErr result (self.new.world ≡ self.old.world) }
-        ensures notes_stay { OnErr result (self.new.notes ≡ self.old.notes) }
-        ensures untried_stay { OnErr result (self.new.untried ≡ self.old.untried) }
+        ensures stays { OnErr result (Stays self.old self.new) }
         ensures meter { self.new.meter ≡ self.old.meter }
 
         // A note stays just where its goal is still there and did not look at what the steps had bound.
         ensures notes { OnOk result ((r : record_spec) × (gone left : List record_spec) × IsKeptAs self.old.world.kept number r × IsSplitAt self.old.world.kept r gone left
             × AreLeft self.new.world.state.goals (IsBoundIn gone) self.old.notes self.new.notes) }
-
-        // Goals and store are the replay of the record, and their variables are the query's or made by its steps.
-        ensures replay { IsReplay self.new.world self.new.world.kept self.new.world.state }
-        ensures well_made { IsWellMade self.new.world.opening.query self.new.world.kept self.new.world.state }
     {
         self.stands();
         let rollback = match self.prepare_rollback(alloc, number) {
@@ -184,9 +174,7 @@ impl Core {
             Err(fault) => return Err(fault),
         };
         let ns = rollback.numbers(alloc)?;
-        let change = Change::TakesAll(rollback);
-        self.reserve(&change)?;
-        self.apply(change);
+        self.make(Change::TakesAll(rollback))?;
         Ok(ns)
     }
 }

@@ -1,7 +1,8 @@
-// The history that tells what a core keeps.
+// The history that tells what a core keeps, and the numbers of the kept steps.
 ghost use Rattle.std.specs.Prelude.{◌≡◌, map, IfOk, OnOk};
 ghost use Rattle.ghc_records.specs.History.{IsHistory};
 ghost use Rattle.ghc_records.specs.Journal.{step_of};
+ghost use Rattle.ghc_records.specs.Record.{numbers};
 ghost use Rattle.ghc_core.specs.Load.{KeepsSlot, history_of};
 
 use crate::core_state::Core;
@@ -10,7 +11,7 @@ use std::alloc::{AllocError, Global};
 
 // Puts the step of the record at this place behind the others, if there is one.
 fn push_at(records: &Records, place: usize, steps: &mut Vec<Step>) -> Result<(), AllocError>
-    ensures { OnOk result (KeepsSlot records.now.slots place steps.old.items steps.new.items) }
+    ensures { OnOk result (KeepsSlot step_of records.now.slots place steps.old.items steps.new.items) }
 {
     let Some(record) = records.at(place) else {
         return Ok(());
@@ -32,7 +33,31 @@ fn steps_of(alloc: Global, records: &Records) -> Result<Vec<Step>, AllocError>
     Ok(steps)
 }
 
+// Puts the number of the record at this place behind the others, if there is one.
+fn push_number_at(records: &Records, place: usize, numbers: &mut Vec<u32>) -> Result<(), AllocError>
+    ensures { OnOk result (KeepsSlot (λ r. r.number) records.now.slots place numbers.old.items numbers.new.items) }
+{
+    let Some(record) = records.at(place) else {
+        return Ok(());
+    };
+    numbers.push(record.number())?;
+    Ok(())
+}
+
 impl Core {
+    /// The numbers of the kept steps, in recorded order: one step for each place of the record. It fails for want of memory alone.
+    pub fn kept_numbers(&self, alloc: Global) -> Result<Vec<u32>, AllocError>
+        ensures { IfOk result (λ ns. ns.items ≡ numbers self.now.world.kept) }
+    {
+        let count = self.records.len();
+        let mut kept = Vec::new(alloc);
+        kept.reserve_exact(count)?;
+        for place in 0..self.records.places() {
+            push_number_at(&self.records, place, &mut kept)?;
+        }
+        Ok(kept)
+    }
+
     /// The history of the steps that the core keeps: one step for each place of the record. It fails for want of memory, or where
     /// a count of handles is full.
     pub fn history(&self, alloc: Global) -> Result<History, AllocError>

@@ -6,6 +6,7 @@ ghost use Rattle.ghc_fire.specs.Meter.{tried};
 ghost use Rattle.ghc_core.specs.Events.{refused};
 ghost use Rattle.ghc_core.specs.Proposes.{Notes, IsNoCandidate};
 ghost use Rattle.ghc_core.specs.Settling.{IsCandidate, IsNoteOf, IsNoted, AreKept, AreNoted, tried_often};
+ghost use Rattle.ghc_core.specs.Core.{Stays};
 
 use crate::core_state::Core;
 use ghc_hooks::{Note, try_goal};
@@ -26,12 +27,10 @@ impl Core {
     }
 
     // Tries the goal of this name from scratch, and counts that, where it can be tried.
-    fn try_named(&mut self, alloc: Global, goal: GoalName) -> Result<Note, Fault>
+    pub(crate) fn try_named(&mut self, alloc: Global, goal: GoalName) -> Result<Note, Fault>
         ensures answer { Answered (IsNoteOf self.old.world goal) (λ f. Notes ⊥ self.old.world goal (refused f)) result }
         ensures no_goal { IsNoCandidate self.old.world goal → (result ≡ Err Fault.NoGoal) × (self.new.meter ≡ self.old.meter) }
-        ensures world { self.new.world ≡ self.old.world }
-        ensures notes { self.new.notes ≡ self.old.notes }
-        ensures untried { self.new.untried ≡ self.old.untried }
+        ensures stays { Stays self.old self.new }
         ensures counted { (¬ IsNoCandidate self.old.world goal) → self.new.meter ≡ tried self.old.meter }
     {
         let Some(found) = self.candidate(goal) else {
@@ -44,14 +43,13 @@ impl Core {
 
     // Gives the goal the note of a trial from scratch, if it is untried; else it has one already. Where memory is refused it stays
     // untried.
-    fn enter(&mut self, goal: GoalName, note: Note) -> Result<(), AllocError>
+    pub(crate) fn enter(&mut self, goal: GoalName, note: Note) -> Result<(), AllocError>
         requires { IsNoteOf self.old.world goal «note» }
         ensures world { self.new.world ≡ self.old.world }
         ensures noted { OnOk result (IsNoted self.old.world goal self.old.notes self.new.notes) }
         ensures untried { OnOk result (self.new.untried ≡ set.remove self.old.untried goal) }
         ensures kept { AreKept self.old.notes self.new.notes }
-        ensures notes_stay { OnErr result (self.new.notes ≡ self.old.notes) }
-        ensures untried_stay { OnErr result (self.new.untried ≡ self.old.untried) }
+        ensures stays { OnErr result (Stays self.old self.new) }
         ensures meter { self.new.meter ≡ self.old.meter }
     {
         if !self.tries.is_untried(goal) {
@@ -70,8 +68,7 @@ impl Core {
         ensures world { self.new.world ≡ self.old.world }
         ensures untried { OnOk result (self.new.untried ≡ set.remove self.old.untried goal) }
         ensures kept { AreKept self.old.notes self.new.notes }
-        ensures notes_stay { OnErr result (self.new.notes ≡ self.old.notes) }
-        ensures untried_stay { OnErr result (self.new.untried ≡ self.old.untried) }
+        ensures stays { OnErr result (Stays self.old self.new) }
         ensures counted { (¬ IsNoCandidate self.old.world goal) → self.new.meter ≡ tried self.old.meter }
     {
         let note = self.try_named(alloc, goal)?;

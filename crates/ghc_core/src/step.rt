@@ -4,6 +4,7 @@ ghost use Rattle.ghc_term.specs.Answered.{Answered};
 ghost use Rattle.ghc_fire.specs.Attempt.{refused};
 ghost use Rattle.ghc_fire.specs.Meter.{fired};
 ghost use Rattle.ghc_core.specs.Proposes.{AttemptAnswers, IsStepOf, StepFails};
+ghost use Rattle.ghc_core.specs.Core.{Stays};
 
 use crate::core_state::Core;
 use ghc_records::Addition;
@@ -25,9 +26,7 @@ impl Core {
         ensures answer { Answered (IsStepOf self.old.world goal choice) (StepFails self.old.world goal choice) result }
         ensures no_goal { AttemptAnswers self.old.world goal choice (refused Fault.NoGoal) → result ≡ Err Fault.NoGoal }
         ensures no_clause { AttemptAnswers self.old.world goal choice (refused Fault.NoClause) → result ≡ Err Fault.NoClause }
-        ensures world { self.new.world ≡ self.old.world }
-        ensures notes { self.new.notes ≡ self.old.notes }
-        ensures untried { self.new.untried ≡ self.old.untried }
+        ensures stays { Stays self.old self.new }
         ensures counted { self.new.meter ≡ fired self.old.meter }
     {
         match self.attempt_as_next(alloc, goal, choice) {

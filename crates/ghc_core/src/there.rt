@@ -13,14 +13,16 @@ impl Core {
     ghost use Rattle.ghc_records.specs.Laws.{IsWellMade};
     ghost use Rattle.ghc_depend.specs.Kept.{Keeps};
     ghost use Rattle.ghc_core.specs.World.{IsReplay};
-    ghost use Rattle.ghc_core.specs.Legal.{AreNamesOf};
+    ghost use Rattle.ghc_records.specs.Journal.{history};
+    ghost use Rattle.ghc_core.specs.Legal.{AreNamesOf, Leaves};
     ghost use Rattle.ghc_core.specs.Laws.{IsOrderly, NoStepIsFree};
     ghost use Rattle.ghc_core.specs.Core.{IsStanding, AreExactIn};
 
     /// In each core, goals and store are the replay of the kept steps; the store is acyclic, and each variable of goals and
     /// store is the query's or made by a kept step, and none is of the number that no step has; each variable of the query has
     /// a name, and no two have one name, but for `_`; each noted outcome is the one from scratch, and the goals without one, but
-    /// for stream goals, are untried; the journal tells what is kept and what is on the shelf. This costs nothing.
+    /// for stream goals, are untried; the journal tells what is kept and what is on the shelf,
+    /// and it is a legal history that leaves this world. This costs nothing.
     pub fn stands(&self)
         ensures standing { IsStanding self.now.world }
         ensures replay { IsReplay self.now.world self.now.world.kept self.now.world.state }
@@ -29,6 +31,7 @@ impl Core {
         ensures orderly { IsOrderly self.now.world }
         ensures no_step { NoStepIsFree self.now.world }
         ensures exact { AreExactIn self.now.world self.now.notes self.now.untried }
+        ensures legal { Leaves (history self.now.world.opening self.now.world.journal) self.now.world }
         ensures keeps { Keeps self.now.world.opening self.now.world.journal self.now.world.kept self.now.world.shelf }
     {
         let _program = &self.program;

@@ -3,13 +3,12 @@ ghost use Rattle.std.specs.Prelude.{◌≡◌, ◌⊎◌, ◌∷◌, [], IfOk, I
 ghost use Rattle.ghc_term.specs.declared.fault.Fault.{Fault as fault_spec};
 ghost use Rattle.ghc_hooks.specs.Notes.{AreLeft};
 ghost use Rattle.ghc_records.specs.Record.{Record as record_spec};
-ghost use Rattle.ghc_records.specs.Laws.{IsWellMade};
 ghost use Rattle.ghc_depend.specs.Depend.{IsKeptAs};
-ghost use Rattle.ghc_core.specs.World.{IsReplay};
 ghost use Rattle.ghc_core.specs.Events.{undone};
 ghost use Rattle.ghc_core.specs.Reverses.{Undoes, UndoFails, CanUndo};
 ghost use Rattle.ghc_core.specs.declared.change.Change.TheVariants.{TakesAway as takes_away};
 ghost use Rattle.ghc_core.specs.Change.{CanChange, IsBoundBy};
+ghost use Rattle.ghc_core.specs.Core.{Stays};
 
 use crate::change::Change;
 use crate::core_state::Core;
@@ -50,26 +49,18 @@ impl Core {
         ensures ok { OnOk result (Undoes ⊥ self.old.world number (undone (number ∷ [])) self.new.world) }
         ensures fault { IfErr result (λ f. (f ≡ Fault.Memory) ⊎ UndoFails self.old.world.kept number f) }
         ensures refused { (f : fault_spec) → UndoFails self.old.world.kept number f → result ≡ Err f }
-        ensures err { OnErr result (self.new.world ≡ self.old.world) }
-        ensures notes_stay { OnErr result (self.new.notes ≡ self.old.notes) }
-        ensures untried_stay { OnErr result (self.new.untried ≡ self.old.untried) }
+        ensures stays { OnErr result (Stays self.old self.new) }
         ensures meter { self.new.meter ≡ self.old.meter }
 
         // A note stays just where its goal is still there and did not look at what the step had bound.
         ensures notes { OnOk result ((r : record_spec) × IsKeptAs self.old.world.kept number r × AreLeft self.new.world.state.goals (IsBoundBy (takes_away r)) self.old.notes self.new.notes) }
-
-        // Goals and store are the replay of the record, and their variables are the query's or made by its steps.
-        ensures replay { IsReplay self.new.world self.new.world.kept self.new.world.state }
-        ensures well_made { IsWellMade self.new.world.opening.query self.new.world.kept self.new.world.state }
     {
         self.stands();
         let removal = match self.prepare_undo(number) {
             Ok(removal) => removal,
             Err(fault) => return Err(fault),
         };
-        let change = Change::TakesAway(removal);
-        self.reserve(&change)?;
-        self.apply(change);
+        self.make(Change::TakesAway(removal))?;
         Ok(())
     }
 }

@@ -1,13 +1,15 @@
 // A core with hands, and events played on it.
-ghost use Rattle.std.specs.Prelude.{◌≡◌, ◌+◌, ◌<◌, ◌≤◌, [], ◌∷◌, ◌++◌, map, vec_len, vec_capacity, IfOk, IfErr, OnErr, Some};
+ghost use Rattle.std.specs.Prelude.{◌≡◌, ◌⊎◌, ◌+◌, ◌<◌, ◌≤◌, [], ◌∷◌, ◌++◌, map, vec_len, vec_capacity, IfOk, IfErr, OnErr, Some};
 ghost use Rattle.ghc_term.specs.declared.fault.Fault.{Fault as fault_spec};
-ghost use Rattle.ghc_core.specs.Answers.{Answers, Plays};
-ghost use Rattle.ghc_core.specs.Anyway.{IsNotProposedAnyway, IsNotCommittedAnyway, IsRefusedAnyway};
-ghost use Rattle.ghc_core.specs.Counting.{FiresOnce, Counts};
+ghost use Rattle.ghc_core.specs.Answers.{Plays};
+ghost use Rattle.ghc_core.specs.Anyway.{IsNotProposedAnyway, IsNotCommittedAnyway};
+ghost use Rattle.ghc_core.specs.Core.{Stays};
+ghost use Rattle.ghc_core.specs.Counting.{FiresOnce};
 ghost use Rattle.ghc_core.specs.EventCode.{event_of, reply_of};
 ghost use Rattle.ghc_core.specs.Events.{refused};
 ghost use Rattle.ghc_core.specs.Legal.{IsReachable};
-ghost use Rattle.ghc_core.specs.Playing.{empty_hands, AddsOneAtMost, IsRefusal, IsNoNote};
+ghost use Rattle.ghc_core.specs.Meets.{Moves, Meets, MeetsEach};
+ghost use Rattle.ghc_core.specs.Playing.{empty_hands, AddsOneAtMost, IsRefusal};
 ghost use Rattle.ghc_core.specs.Proposes.{Proposes, Commits};
 ghost use Rattle.ghc_core.specs.World.{IsReplay};
 
@@ -15,14 +17,16 @@ use crate::core_state::Core;
 use crate::event::Event;
 use crate::hands::Hands;
 use crate::reply::Reply;
+use ghc_fire::Meter;
 use ghc_term::{Fault, GoalName};
 use std::alloc::{AllocError, Global};
 
-/// A core, and hands that hold proposals of steps of its goals.
+/// A core, hands that hold proposals of steps of its goals, and counts of what they proposed.
 #[derive(Drop)]
 pub struct World {
     core: Core,
     hands: Hands,
+    meter: Meter,
 }
 
 // Puts the reply behind the others, where there is room for it.
@@ -41,6 +45,7 @@ impl World {
     pub fn new(alloc: Global, core: Core, hands: u32) -> Result<World, Core>
         ensures core { IfOk result (λ world. world.core ≡ core) }
         ensures hands { IfOk result (λ world. world.hands ≡ empty_hands hands) }
+        ensures meter { IfOk result (λ world. (world.meter.firings ≡ 0) × (world.meter.tries ≡ 0)) }
         ensures back { IfErr result (λ back. back ≡ core) }
 
         // From here on the laws of reachable worlds hold of what is played.
@@ -48,7 +53,11 @@ impl World {
     {
         core.stands();
         match Hands::new(alloc, hands) {
-            Ok(hands) => Ok(World { core, hands }),
+            Ok(hands) => Ok(World {
+                core,
+                hands,
+                meter: Meter::new(),
+            }),
             Err(_) => Err(core),
         }
     }
@@ -67,6 +76,13 @@ impl World {
         &self.hands
     }
 
+    /// How many firings the proposals of hands counted; what the core fires and tries stands on the core's meter.
+    pub fn meter(&self) -> &Meter
+        ensures { result.now ≡ self.now.meter }
+    {
+        &self.meter
+    }
+
     /// The core. What the hands hold is let go.
     pub fn into_core(self) -> Core
         ensures { result ≡ self.core }
@@ -74,23 +90,22 @@ impl World {
         let World {
             core,
             hands: _hands,
+            meter: _meter,
         } = self;
         core
     }
 
-    // The hand asks for a step of the goal: an attempt, counted on the core's meter. A refusal leaves the hand as it was.
+    // The hand asks for a step of the goal: an attempt, counted beside the core. A refusal leaves the hand as it was.
     fn propose(&mut self, alloc: Global, hand: u32, goal: GoalName, choice: Option<u32>) -> Reply
         ensures answer { Proposes (Unit {0}) self.old.core.world self.old.hands hand goal choice (reply_of result) self.new.hands }
         ensures anyway { (f : fault_spec) → IsNotProposedAnyway self.old.core.world self.old.hands hand goal choice f → reply_of result ≡ refused f }
-        ensures world { self.new.core.world ≡ self.old.core.world }
-        ensures notes { self.new.core.notes ≡ self.old.core.notes }
-        ensures untried { self.new.core.untried ≡ self.old.core.untried }
-        ensures counted { FiresOnce self.old.core.meter self.new.core.meter }
+        ensures core { self.new.core ≡ self.old.core }
+        ensures counted { FiresOnce self.old.meter self.new.meter }
     {
         if !self.hands.has(hand) {
             return Reply::Refused(Fault::Command);
         }
-        let proposal = match self.core.attempt_counted(alloc, goal, choice) {
+        let proposal = match self.core.attempt(alloc, &mut self.meter, goal, choice) {
             Ok(proposal) => proposal,
             Err(fault) => return Reply::Refused(fault),
         };
@@ -104,8 +119,10 @@ impl World {
     fn commit(&mut self, alloc: Global, hand: u32) -> Reply
         ensures answer { Commits (Unit {0}) self.old.core.world self.old.hands hand (reply_of result) self.new.core.world self.new.hands }
         ensures anyway { (f : fault_spec) → IsNotCommittedAnyway self.old.core.world self.old.hands hand f → reply_of result ≡ refused f }
-        ensures stays { IsRefusal (reply_of result) → (self.new.core.notes ≡ self.old.core.notes) × (self.new.core.untried ≡ self.old.core.untried) }
+        ensures moves { IsRefusal (reply_of result) ⊎ Moves self.old.core self.new.core }
+        ensures stays { IsRefusal (reply_of result) → Stays self.old.core self.new.core }
         ensures counted { FiresOnce self.old.core.meter self.new.core.meter }
+        ensures meter { self.new.meter ≡ self.old.meter }
     {
         if !self.hands.has(hand) {
             return Reply::Refused(Fault::Command);
@@ -119,17 +136,13 @@ impl World {
         }
     }
 
-    /// Meets the event, and replies: the world and the hands that are left are those that the event leaves by its definition,
-    /// and the journal has one entry more at most. `Command` is told where a hand is asked that is not there, `Stale` where one
+    /// Meets the event, and replies: the world and the hands that are left are those that the event leaves by its definition, the
+    /// notes those that it leaves, and the journal has one entry more at most. A refused event changes nothing but the counts, and
+    /// the hand of a commit. `Command` is told where a hand is asked that is not there, `Stale` where one
     /// commits that holds nothing. It costs what the call of the core costs, and a look-up for the hand.
     pub fn answer(&mut self, alloc: Global, event: &Event) -> Reply
-        ensures answer { Answers (Unit {0}) self.old.core.world self.old.hands (event_of event.now) (reply_of result) self.new.core.world self.new.hands }
+        ensures met { Meets self.old (event_of event.now) (reply_of result) self.new }
         ensures entry { AddsOneAtMost self.old.core.world self.new.core.world }
-
-        // No want of memory hides that the hand, the goal, the clause, the stream or the step is not there.
-        ensures anyway { (f : fault_spec) → IsRefusedAnyway self.old.core.world self.old.hands (event_of event.now) f → reply_of result ≡ refused f }
-        ensures stays { IsNoNote (event_of event.now) → IsRefusal (reply_of result) → (self.new.core.notes ≡ self.old.core.notes) × (self.new.core.untried ≡ self.old.core.untried) }
-        ensures counted { Counts (event_of event.now) self.old.core.meter self.new.core.meter }
     {
         match event {
             Event::Propose { hand, goal, choice } => self.propose(alloc, *hand, *goal, *choice),
@@ -142,6 +155,7 @@ impl World {
     /// Plays the events, one after another, and gives the reply to each, in their order. Room for all replies is taken first; where
     /// it is refused, nothing is played. It costs what the events cost.
     pub fn play(&mut self, alloc: Global, events: &[Event]) -> Result<Vec<Reply>, AllocError>
+        ensures met { IfOk result (λ replies. MeetsEach self.old (map event_of events.now) (map reply_of replies.items) self.new) }
         ensures played { IfOk result (λ replies. Plays ⊥ (λ _. Unit {0}) self.old.core.world self.old.hands (map event_of events.now) (Some (map reply_of replies.items)) self.new.core.world self.new.hands) }
         ensures no_room { OnErr result (self.new ≡ self.old) }
 

@@ -94,10 +94,7 @@ fn take(core: &mut Core, addition: Addition) -> Result<(), AllocError>
     ensures ok { OnOk result (core.new.world ≡ with_step addition core.old.world) }
     ensures err { OnErr result (core.new.world ≡ core.old.world) }
 {
-    let change = Change::Adds(addition);
-    core.reserve(&change)?;
-    core.apply(change);
-    Ok(())
+    core.make(Change::Adds(addition))
 }
 
 // Finds and takes one step, lists the goals that it makes, and says whether one was taken.

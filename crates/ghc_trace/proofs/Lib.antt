@@ -9,7 +9,6 @@ pub mod Telling
 pub mod Lines
 pub mod GoalTelling
 pub mod InQuestion
-pub mod QueryVariables
 pub mod Reasoning
 pub mod BoundChain
 pub mod WayUp

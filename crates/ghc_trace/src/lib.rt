@@ -16,7 +16,6 @@ mod spies;
 mod status_text;
 mod step_ports;
 mod stuck;
-mod variables;
 mod who_bound;
 
 pub use descent::descends;
@@ -31,5 +30,4 @@ pub use spies::SpySet;
 pub use status_text::push_status;
 pub use step_ports::{ports, push_ports_of};
 pub use stuck::Stuck;
-pub use variables::is_variable_of;
 pub use who_bound::{Binder, binders, push_binder, who};

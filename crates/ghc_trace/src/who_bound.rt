@@ -5,8 +5,7 @@ ghost use Rattle.ghc_term.specs.declared.var_name.VarName.{VarName as var_name};
 ghost use Rattle.ghc_trace.specs.Binders.{Bound, IsNoVariable};
 ghost use Rattle.ghc_trace.specs.Who.{AreBindersTold, binder_of, binder_text};
 
-use crate::variables::is_variable_of;
-use ghc_core::Core;
+use ghc_core::{Core, is_variable_of};
 use ghc_term::{Fault, Term, VarName, end_of, or_cut_back, push_number, push_variable};
 use std::alloc::{AllocError, Global};
 

@@ -1,11 +1,8 @@
 use Rattle.std.proofs.Common.{sym, subst}
-use Rattle.ghc_core.specs.World.{World, IsReplay}
+use Rattle.ghc_core.specs.World.{World}
 use Rattle.ghc_core.specs.declared.change.Change.TheVariants.{Reorders as reorders}
 use Rattle.ghc_core.specs.Change.{CanChange}
 use Rattle.ghc_core.proofs.core_state.Core.arrange.Goals as goal
 
-pub returns-in_err-reserve_to_arrange-clause-replay : goal.returns-in_err-reserve_to_arrange-clause-replay
-returns-in_err-reserve_to_arrange-clause-replay c = subst (λ (w : World). IsReplay w w.kept w.state) (sym c.reserve_to_arrange.ensures.world) c.stands.ensures.replay
-
 pub put_in_order-requires-clause-found : goal.put_in_order-requires-clause-found
-put_in_order-requires-clause-found c = subst (λ (w : World). CanChange w (reorders c.in-Ok.arrangement)) (sym c.reserve_to_arrange.ensures.world) c.in-Ok.ensures.found
+put_in_order-requires-clause-found c = subst (λ (w : World). CanChange w (reorders c.in-Ok.arrangement)) (sym c.reserve_to_arrange.ensures.stays.world) c.in-Ok.ensures.found

@@ -12,7 +12,7 @@ returns-in_default-clause-no c _ =
     subst (λ o. IfNone o (IsImpossible w.opening.program w.state c.args.step.now)) c.in_default.is c.in_ok-found.ensures.none
 
 pub add_loaded-requires-clause-opened : goal.add_loaded-requires-clause-opened
-add_loaded-requires-clause-opened c = subst (λ (w : World). Opens w.opening w) (sym (c.in_ok-reserve_to_add.ensures.world ∙ c.in_ok-found.ensures.world)) c.requires.opened
+add_loaded-requires-clause-opened c = subst (λ (w : World). Opens w.opening w) (sym (c.in_ok-reserve_to_add.ensures.stays.world ∙ c.in_ok-found.ensures.world)) c.requires.opened
 
 pub add_loaded-requires-clause-found : goal.add_loaded-requires-clause-found
 add_loaded-requires-clause-found c =
@@ -20,7 +20,7 @@ add_loaded-requires-clause-found c =
     let r = c.in-Some.record in
     let possible : IsPossibleAs w.opening.program w.state c.args.step.now r =
     subst (λ o. IfSome o (IsPossibleAs w.opening.program w.state c.args.step.now)) c.in-Some.is c.in_ok-found.ensures.some in
-    subst (λ v. CanLoad v c.in_ok-addition.addition) (sym (c.in_ok-reserve_to_add.ensures.world ∙ c.in_ok-found.ensures.world))
+    subst (λ v. CanLoad v c.in_ok-addition.addition) (sym (c.in_ok-reserve_to_add.ensures.stays.world ∙ c.in_ok-found.ensures.world))
     (subst (CanLoad w) (sym c.in_ok-addition.ensures) (c.requires.own r possible))
 
 pub add_loaded-requires-clause-step : goal.add_loaded-requires-clause-step
@@ -32,14 +32,14 @@ returns-clause-yes c _ =
     let r = c.in-Some.record in
     let possible : IsPossibleAs w.opening.program w.state c.args.step.now r =
     subst (λ o. IfSome o (IsPossibleAs w.opening.program w.state c.args.step.now)) c.in-Some.is c.in_ok-found.ensures.some in
-    let same = c.in_ok-reserve_to_add.ensures.world ∙ c.in_ok-found.ensures.world in (
+    let same = c.in_ok-reserve_to_add.ensures.stays.world ∙ c.in_ok-found.ensures.world in (
       c.in_ok-addition.addition,
       subst (IsPossibleAs w.opening.program w.state c.args.step.now) (sym c.in_ok-addition.ensures) possible,
       c.in_ok-add_loaded.ensures.world ∙ ap (with_loaded c.in_ok-addition.addition) same,
     )
 
 pub returns-clause-notes : goal.returns-clause-notes
-returns-clause-notes c none _ = c.in_ok-add_loaded.ensures.notes (c.in_ok-reserve_to_add.ensures.notes ∙ c.in_ok-found.ensures.notes ∙ none)
+returns-clause-notes c none _ = c.in_ok-add_loaded.ensures.notes (c.in_ok-reserve_to_add.ensures.stays.notes ∙ c.in_ok-found.ensures.notes ∙ none)
 
 pub returns-clause-meter : goal.returns-clause-meter
 returns-clause-meter c _ =

@@ -1,23 +1,42 @@
-use Rattle.std.proofs.Common.{◌∙◌, refl, sym, subst, inl}
+use Rattle.std.proofs.Common.{◌∙◌, refl, sym, subst, inl, inr}
 use Rattle.ghc_term.specs.declared.fault.Fault.TheVariants as fault
+use Rattle.ghc_hooks.specs.Notes.{AreLeft}
 use Rattle.ghc_core.specs.World.{World}
 use Rattle.ghc_core.specs.Answers.{Obeys}
-use Rattle.ghc_core.specs.Change.{Changes}
+use Rattle.ghc_core.specs.Change.{Changes, IsBoundBy}
 use Rattle.ghc_core.specs.CommandCode.{command_of}
 use Rattle.ghc_core.specs.EventCode.{reply_of}
+use Rattle.ghc_core.specs.Meets.{Moves}
 use Rattle.ghc_core.proofs.Replying.{obeyed, not_obeyed, obeyed_grows}
 use Rattle.ghc_core.proofs.core_state.Core.obey.Goals as goal
 
 pub returns-in-Err-clause-answer : goal.returns-in-Err-clause-answer
-returns-in-Err-clause-answer c = not_obeyed c.args.self.now.world (command_of c.args.command.now) c.in-Err.refusal c.prepare_command.new.self.world c.in-Err.ensures.answer.1 c.in-Err.ensures.world
+returns-in-Err-clause-answer c = not_obeyed c.args.self.now.world (command_of c.args.command.now) c.in-Err.refusal c.prepare_command.new.self.world c.in-Err.ensures.answer.1 c.in-Err.ensures.stays.world
+
+pub returns-in-Err-clause-moves : goal.returns-in-Err-clause-moves
+returns-in-Err-clause-moves c = inl (c.in-Err.refusal, refl)
+
+-- the change was made in the world in which it was found
+abbrev moved : (c : goal.In-Ok-carry_out) → Moves c.args.self.now c.carry_out.new.self
+moved c =
+    let stays = c.in-Ok.ensures.stays in
+    let left = c.in-Ok-carry_out.ensures in
+    record {
+      change = c.in-Ok.change;
+      possible = c.in-Ok.ensures.answer.0.0;
+      changed = subst (λ (w : World). Changes w c.in-Ok.change c.carry_out.new.self.world) stays.world left.changed;
+      notes = subst (λ notes. AreLeft c.carry_out.new.self.world.state.goals (IsBoundBy c.in-Ok.change) notes c.carry_out.new.self.notes) stays.notes left.notes;
+    }
+
+pub returns-in-Ok-carry_out-clause-moves : goal.returns-in-Ok-carry_out-clause-moves
+returns-in-Ok-carry_out-clause-moves c = inr (moved c)
 
 pub returns-in-Ok-carry_out-clause-answer : goal.returns-in-Ok-carry_out-clause-answer
 returns-in-Ok-carry_out-clause-answer c =
     let w = c.args.self.now.world in
     let command = command_of c.args.command.now in
     let v = c.carry_out.new.self.world in
-    let changed = subst (λ (u : World). Changes u c.in-Ok.change v) c.in-Ok.ensures.world c.in-Ok-carry_out.ensures.changed in
-    obeyed w command (reply_of c.in-Ok-carry_out.reply) v (subst (λ r. Obeys ⊥ w command r v) (sym c.in-Ok-carry_out.ensures.told) (c.in-Ok.ensures.answer.0.1 v changed))
+    obeyed w command (reply_of c.in-Ok-carry_out.reply) v (subst (λ r. Obeys ⊥ w command r v) (sym c.in-Ok-carry_out.ensures.told) (c.in-Ok.ensures.answer.0.1 v (moved c).changed))
 
 pub returns-in-Ok-carry_out-clause-entry : goal.returns-in-Ok-carry_out-clause-entry
 returns-in-Ok-carry_out-clause-entry c =
@@ -25,4 +44,7 @@ returns-in-Ok-carry_out-clause-entry c =
 
 pub returns-in-Err-carry_out-clause-answer : goal.returns-in-Err-carry_out-clause-answer
 returns-in-Err-carry_out-clause-answer c =
-    not_obeyed c.args.self.now.world (command_of c.args.command.now) fault.Memory c.carry_out.new.self.world (inl refl) (c.in-Err-carry_out.ensures.err ∙ c.in-Ok.ensures.world)
+    not_obeyed c.args.self.now.world (command_of c.args.command.now) fault.Memory c.carry_out.new.self.world (inl refl) (c.in-Err-carry_out.ensures.stays.world ∙ c.in-Ok.ensures.stays.world)
+
+pub returns-in-Err-carry_out-clause-moves : goal.returns-in-Err-carry_out-clause-moves
+returns-in-Err-carry_out-clause-moves c = inl (fault.Memory, refl)

@@ -1,4 +1,4 @@
-use Rattle.std.proofs.Common.{sym, ap, ◌∙◌, subst, inl, inr, Err}
+use Rattle.std.proofs.Common.{◌≡◌, sym, ap, ◌∙◌, subst, inl, inr, Ok, Err}
 use Rattle.ghc_core.specs.Anyway.{IsNotObeyedAnyway}
 use Rattle.ghc_core.specs.Asked.{IsAskedFor, IsNotObeyed}
 use Rattle.ghc_core.specs.CommandCode.{command_of}
@@ -126,3 +126,19 @@ returns-in-Err-prepare_arrange-clause-answer c =
         | inr q ↦ inr (subst (λ o. IsNotObeyed w (arrange o) c.in-Err-prepare_arrange.fault) c.as_slice.ensures (subst (IsNotObeyed w (arrange c.as_slice.result.now)) (sym q.2) (by.Arranges.fails q.3)))
       ]),
     )
+
+pub returns-in-Ok-clause-anyway : goal.returns-in-Ok-clause-anyway
+returns-in-Ok-clause-anyway c f fails =
+    let no : Ok c.in-Ok.addition ≡ Err f = c.in-Ok.ensures.anyway f (subst (λ m. IsNotObeyedAnyway c.args.self.now.world (command_of m) f) c.in-Input.is fails) in cc
+
+pub returns-in-Err-clause-anyway : goal.returns-in-Err-clause-anyway
+returns-in-Err-clause-anyway c f fails =
+    let same : Err c.in-Err.fault ≡ Err f = c.in-Err.ensures.anyway f (subst (λ m. IsNotObeyedAnyway c.args.self.now.world (command_of m) f) c.in-Input.is fails) in cc
+
+pub returns-in-Ok-prepare_close-clause-anyway : goal.returns-in-Ok-prepare_close-clause-anyway
+returns-in-Ok-prepare_close-clause-anyway c f fails =
+    let no : Ok c.in-Ok-prepare_close.addition ≡ Err f = c.in-Ok-prepare_close.ensures.anyway f (subst (λ m. IsNotObeyedAnyway c.args.self.now.world (command_of m) f) c.in-Close.is fails) in cc
+
+pub returns-in-Err-prepare_close-clause-anyway : goal.returns-in-Err-prepare_close-clause-anyway
+returns-in-Err-prepare_close-clause-anyway c f fails =
+    let same : Err c.in-Err-prepare_close.fault ≡ Err f = c.in-Err-prepare_close.ensures.anyway f (subst (λ m. IsNotObeyedAnyway c.args.self.now.world (command_of m) f) c.in-Close.is fails) in cc

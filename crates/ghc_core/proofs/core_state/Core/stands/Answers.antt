@@ -1,6 +1,8 @@
 use Rattle.std.proofs.Common.{subst}
 use Rattle.ghc_core.specs.Core.{Core, IsStanding, AreExactIn}
 use Rattle.ghc_core.proofs.Standing.{standing_replay, standing_well_made, standing_named, standing_orderly, standing_apart, standing_keeps}
+use Rattle.ghc_core.specs.World.{no_hands}
+use Rattle.ghc_core.proofs.Histories.{reachable_legal}
 use Rattle.ghc_core.proofs.core_state.Core.stands.Goals as goal
 
 pub returns-clause-standing : goal.returns-clause-standing
@@ -26,3 +28,6 @@ returns-clause-no_step c = standing_apart c.args.self.now.world (returns-clause-
 
 pub returns-clause-keeps : goal.returns-clause-keeps
 returns-clause-keeps c = standing_keeps c.args.self.now.world (returns-clause-standing c)
+
+pub returns-clause-legal : goal.returns-clause-legal
+returns-clause-legal c = reachable_legal c.args.self.now.world no_hands (returns-clause-standing c)

@@ -3,6 +3,9 @@ use Rattle.ghc_term.proofs.ListsLemmas.{not_both}
 use Rattle.ghc_core.specs.Proposes.{Commits}
 use Rattle.ghc_core.proofs.Replying.{hand_commits, hand_gives_up, hand_was_empty}
 use Rattle.ghc_core.proofs.CertainRefusals.{no_hand_committed, empty_hand_committed, commit_refused_anyway}
+use Rattle.ghc_term.specs.declared.fault.Fault.{Fault}
+use Rattle.ghc_core.specs.declared.change.Change.TheVariants.{Adds as adds}
+use Rattle.ghc_core.proofs.Playable.{core_stays}
 use Rattle.ghc_core.proofs.world.World.commit.Goals as goal
 
 pub returns-then-not-has-clause-answer : goal.returns-then-not-has-clause-answer
@@ -19,7 +22,7 @@ returns-in-Ok-clause-answer c =
 pub returns-clause-answer : goal.returns-clause-answer
 returns-clause-answer c =
     hand_gives_up c.args.self.now.core.world c.args.self.now.hands c.args.hand c.in-Some.proposal c.in-Err.fault c.commit.new.self.world c.release.new.self (c.has.ensures.0 c.if-not-has.false) (sym c.in-Some.ensures.value)
-    c.in-Err.ensures.answer.1 c.in-Err.ensures.err c.in-Some.ensures.left
+    c.in-Err.ensures.answer.1 c.in-Err.ensures.stays.world c.in-Some.ensures.left
 
 pub returns-then-not-has-clause-anyway : goal.returns-then-not-has-clause-anyway
 returns-then-not-has-clause-anyway c f fails = no_hand_committed c.args.self.now.core.world c.args.self.now.hands c.args.hand (λ i. not_both c.has.result c.if-not-has.true (c.has.ensures.1 i)) fails
@@ -48,13 +51,25 @@ pub returns-clause-counted : goal.returns-clause-counted
 returns-clause-counted c = inr c.in-Err.ensures.counted
 
 pub returns-then-not-has-clause-stays : goal.returns-then-not-has-clause-stays
-returns-then-not-has-clause-stays c said = (refl, refl)
+returns-then-not-has-clause-stays c said = core_stays _ _ refl
 
 pub returns-in_default-clause-stays : goal.returns-in_default-clause-stays
-returns-in_default-clause-stays c said = (refl, refl)
+returns-in_default-clause-stays c said = core_stays _ _ refl
 
 pub returns-in-Ok-clause-stays : goal.returns-in-Ok-clause-stays
 returns-in-Ok-clause-stays c said = let e = said.1 in cc
 
 pub returns-clause-stays : goal.returns-clause-stays
-returns-clause-stays c said = (c.in-Err.ensures.notes_stay, c.in-Err.ensures.untried_stay)
+returns-clause-stays c said = c.in-Err.ensures.stays
+
+pub returns-then-not-has-clause-moves : goal.returns-then-not-has-clause-moves
+returns-then-not-has-clause-moves c = inl (Fault.Command, refl)
+
+pub returns-in_default-clause-moves : goal.returns-in_default-clause-moves
+returns-in_default-clause-moves c = inl (Fault.Stale, refl)
+
+pub returns-in-Ok-clause-moves : goal.returns-in-Ok-clause-moves
+returns-in-Ok-clause-moves c = let moved = c.in-Ok.ensures.notes in inr (record { change = adds moved.0; possible = moved.1.1; changed = moved.2; notes = moved.3 })
+
+pub returns-clause-moves : goal.returns-clause-moves
+returns-clause-moves c = inl (c.in-Err.fault, refl)

@@ -3,8 +3,8 @@ use Rattle.std.proofs.lemmas.List.{take_all}
 use Rattle.std.proofs.lemmas.Option.{slice_get-get_or}
 use Rattle.ghc_core.specs.Answers.{Plays}
 use Rattle.ghc_core.specs.EventCode.{event_of, reply_of}
-use Rattle.ghc_core.specs.Playing.{ArePlayed}
-use Rattle.ghc_core.proofs.Playable.{played_next}
+use Rattle.ghc_core.specs.Meets.{MeetsEach}
+use Rattle.ghc_core.proofs.Playable.{met_next, met_played}
 use Rattle.ghc_core.proofs.world.World.play.Goals as goal
 
 pub put_reply-requires : goal.put_reply-requires
@@ -19,11 +19,13 @@ loop-event-preserved c =
     let at = slice_get-get_or c.args.events.now i c.event-item.result c.loop-event-test.true ∙ ap Some (sym c.event-item.is) in (
       omega (arith, before.0, room),
       omega (arith, before.1, one_more),
-      played_next c.args.self.now.core.world c.loop-event.self.core.world c.answer-reply.new.self.core.world c.args.self.now.hands c.loop-event.self.hands c.answer-reply.new.self.hands
-          c.args.events.now i c.event-item.result c.loop-event.replies.items c.put_reply.new.replies.items c.answer-reply.result at c.put_reply.ensures.items before.2 c.answer-reply.ensures.answer,
+      met_next c.args.self.now c.loop-event.self c.answer-reply.new.self c.args.events.now i c.event-item.result c.loop-event.replies.items c.put_reply.new.replies.items c.answer-reply.result at c.put_reply.ensures.items before.2
+          c.answer-reply.ensures.met,
     )
 
+pub returns-clause-met : goal.returns-clause-met
+returns-clause-met c =
+    subst (λ es. MeetsEach c.args.self.now (map event_of es) (map reply_of c.loop-event.replies.items) c.loop-event.self) (take_all c.loop-event.event-index c.args.events.now c.loop-event-test.false) c.loop-event.invariant.2
+
 pub returns-clause-played : goal.returns-clause-played
-returns-clause-played c =
-    Plays.played (subst (λ es. ArePlayed c.args.self.now.core.world c.args.self.now.hands (map event_of es) (map reply_of c.loop-event.replies.items) c.loop-event.self.core.world c.loop-event.self.hands)
-    (take_all c.loop-event.event-index c.args.events.now c.loop-event-test.false) c.loop-event.invariant.2)
+returns-clause-played c = Plays.played (met_played c.args.self.now c.loop-event.self (map event_of c.args.events.now) (map reply_of c.loop-event.replies.items) (returns-clause-met c))

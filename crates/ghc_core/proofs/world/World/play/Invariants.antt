@@ -1,10 +1,10 @@
 use Rattle.std.proofs.Common.{◌≡◌, ◌≤◌, length, map, take}
 use Rattle.std.specs.Prelude.{vec_len, vec_capacity}
 use Rattle.ghc_core.specs.EventCode.{event_of, reply_of}
-use Rattle.ghc_core.specs.Playing.{ArePlayed}
+use Rattle.ghc_core.specs.Meets.{MeetsEach}
 use Rattle.ghc_core.proofs.world.World.play.Given as goal
 
 abbrev pub invariant-loop-event : goal.invariant-loop-event
 invariant-loop-event l =
     (length l.events ≤ vec_capacity l.replies) × (vec_len l.replies ≡ l.event-index)
-    × ArePlayed l.initial.self.core.world l.initial.self.hands (map event_of (take l.event-index l.events)) (map reply_of l.replies.items) l.self.core.world l.self.hands
+    × MeetsEach l.initial.self (map event_of (take l.event-index l.events)) (map reply_of l.replies.items) l.self

@@ -1,8 +1,8 @@
 use Rattle.std.proofs.Common.{◌≡◌, ◌≤◌, ◌∙◌, false, IsTrue, ap, sym, subst, arith}
 use Rattle.ghc_term.specs.Lists.{In}
 use Rattle.ghc_records.specs.Record.{Record}
-use Rattle.ghc_trace.proofs.QueryVariables.{made_by}
-use Rattle.ghc_trace.proofs.variables.is_of_step.Goals as goal
+use Rattle.ghc_core.proofs.QueryVariables.{made_by}
+use Rattle.ghc_core.proofs.variables.is_of_step.Goals as goal
 
 pub returns-in-Some : goal.returns-in-Some
 returns-in-Some c =

@@ -1,6 +1,6 @@
 use Rattle.std.proofs.Common.{◌≤◌, length, ap, arith, rules}
-use Rattle.ghc_trace.proofs.QueryVariables.{in_query, of_query}
-use Rattle.ghc_trace.proofs.variables.is_of_query.Goals as goal
+use Rattle.ghc_core.proofs.QueryVariables.{in_query, of_query}
+use Rattle.ghc_core.proofs.variables.is_of_query.Goals as goal
 
 pub returns-then-x-eq0 : goal.returns-then-x-eq0
 returns-then-x-eq0 c =

@@ -5,7 +5,7 @@ ghost use Rattle.ghc_term.specs.Variables.{variables_of_goals};
 ghost use Rattle.ghc_records.specs.Record.{Record};
 ghost use Rattle.ghc_records.specs.Replay.{IsVariableOf, MakesVariable};
 
-use ghc_core::Core;
+use crate::core_state::Core;
 use ghc_reader::Query;
 use ghc_term::VarName;
 

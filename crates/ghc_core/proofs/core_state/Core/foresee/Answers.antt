@@ -1,0 +1,21 @@
+use Rattle.std.proofs.Common.{refl, subst, inl, inr}
+use Rattle.ghc_term.specs.declared.fault.Fault.{Fault}
+use Rattle.ghc_core.specs.CommandCode.{command_of}
+use Rattle.ghc_core.specs.Streams.{Foresees, refuses}
+use Rattle.ghc_core.proofs.core_state.Core.foresee.Goals as goal
+
+pub returns-in-Input-clause-no_stream : goal.returns-in-Input-clause-no_stream
+returns-in-Input-clause-no_stream c fails =
+    c.record_of.ensures.refused Fault.NoStream (c.prepare_input.ensures.anyway Fault.NoStream (inl (refl, subst (λ m. Foresees c.args.self.now.world (command_of m) (refuses Fault.NoStream)) c.in-Input.is fails)))
+
+pub returns-in-Input-clause-tail_bound : goal.returns-in-Input-clause-tail_bound
+returns-in-Input-clause-tail_bound c fails =
+    c.record_of.ensures.refused Fault.TailBound (c.prepare_input.ensures.anyway Fault.TailBound (inr (refl, subst (λ m. Foresees c.args.self.now.world (command_of m) (refuses Fault.TailBound)) c.in-Input.is fails)))
+
+pub returns-in-Close-clause-no_stream : goal.returns-in-Close-clause-no_stream
+returns-in-Close-clause-no_stream c fails =
+    c.record_of-in-Close.ensures.refused Fault.NoStream (c.prepare_close.ensures.anyway Fault.NoStream (inl (refl, subst (λ m. Foresees c.args.self.now.world (command_of m) (refuses Fault.NoStream)) c.in-Close.is fails)))
+
+pub returns-in-Close-clause-tail_bound : goal.returns-in-Close-clause-tail_bound
+returns-in-Close-clause-tail_bound c fails =
+    c.record_of-in-Close.ensures.refused Fault.TailBound (c.prepare_close.ensures.anyway Fault.TailBound (inr (refl, subst (λ m. Foresees c.args.self.now.world (command_of m) (refuses Fault.TailBound)) c.in-Close.is fails)))

@@ -1,0 +1,10 @@
+use Rattle.std.proofs.Common.{◌≡◌, ◌++◌, drop, map}
+use Rattle.ghc_records.specs.Record.{Record}
+use Rattle.ghc_records.specs.Slots.{held_in}
+use Rattle.ghc_records.proofs.SlotRanks.{rank}
+use Rattle.ghc_core.proofs.core_state.Core.kept_numbers.Given as goal
+
+abbrev pub invariant-loop-place : goal.invariant-loop-place
+invariant-loop-place l =
+    let slots = l.self-inside.records.slots in
+    l.kept.items ++ map (λ (r : Record). r.number) (drop (rank slots l.place) (held_in slots)) ≡ map (λ (r : Record). r.number) (held_in slots)

@@ -1,0 +1,7 @@
+use Rattle.std.proofs.Common.{subst}
+use Rattle.ghc_hooks.specs.Notes.{AreLeft}
+use Rattle.ghc_core.specs.Change.{IsBoundBy}
+use Rattle.ghc_core.proofs.core_state.Core.make.Goals as goal
+
+pub returns-clause-notes : goal.returns-clause-notes
+returns-clause-notes c = subst (λ notes. AreLeft c.apply.new.self.world.state.goals (IsBoundBy c.args.change) notes c.apply.new.self.notes) c.reserve.ensures.stays.notes c.apply.ensures.notes

@@ -1,0 +1,34 @@
+use Rattle.std.proofs.Common.{◌∙◌, ap, sym, subst, subst₂}
+use Rattle.ghc_term.specs.Tree.{IsValue}
+use Rattle.ghc_term.specs.Store.{value_at}
+use Rattle.ghc_term.specs.Bindings.{Leads}
+use Rattle.ghc_term.specs.declared.fault.Fault.{Fault}
+use Rattle.ghc_match.specs.Position.{EndsIn}
+use Rattle.ghc_match.proofs.AlikeLemmas.{shown_value}
+use Rattle.ghc_core.specs.Core.{Core}
+use Rattle.ghc_core.specs.Streams.{no_stream, tail_bound}
+use Rattle.ghc_core.proofs.StreamSteps.{refused_anyway, takes_something}
+use Rattle.ghc_core.proofs.core_state.Core.open_stream.Goals as goal
+
+pub returns-in_default-clause-fault : goal.returns-in_default-clause-fault
+returns-in_default-clause-fault c = no_stream c.in_default.ensures.none
+
+pub returns-in_default-clause-anyway : goal.returns-in_default-clause-anyway
+returns-in_default-clause-anyway c f fails = refused_anyway c.args.self.now.world c.stands.ensures.orderly c.args.stream Fault.NoStream f (no_stream c.in_default.ensures.none) fails
+
+pub returns-in-Var-clause-anyway : goal.returns-in-Var-clause-anyway
+returns-in-Var-clause-anyway c f fails =
+    let w = c.args.self.now.world in
+    let store = c.store.ensures ∙ ap (λ (x : Core). x.world.state.store) c.self.view_is in
+    let ends : EndsIn (value_at w.state.store) c.in-Some.tail c.end.result.now =
+    (c.end.ensures.0, subst₂ (λ t m. Leads (value_at m) t c.end.ensures.0 c.end.result.now) c.variable-tail_term.ensures store c.end.ensures.1) in
+    absurd (takes_something w c.stands.ensures.orderly c.args.stream c.in-Some.name c.in-Some.tail c.in-Var.field-0 c.in-Some.ensures.some (subst (EndsIn (value_at w.state.store) c.in-Some.tail) (sym c.in-Var.ensures.shown) ends) fails)
+
+pub returns : goal.returns
+returns c =
+    let w = c.args.self.now.world in
+    let store = c.store.ensures ∙ ap (λ (x : Core). x.world.state.store) c.self.view_is in
+    let ends : EndsIn (value_at w.state.store) c.in-Some.tail c.end.result.now =
+    (c.end.ensures.0, subst₂ (λ t m. Leads (value_at m) t c.end.ensures.0 c.end.result.now) c.variable-tail_term.ensures store c.end.ensures.1) in
+    let bound = tail_bound c.in-Some.name c.in-Some.tail c.end.result.now c.in-Some.ensures.some ends (subst IsValue c.view.ensures.shown (shown_value c.view.result c.in_default-view.not-Var)) in
+    record { found = tt; fault = bound; anyway = λ f fails. refused_anyway w c.stands.ensures.orderly c.args.stream Fault.TailBound f bound fails }
