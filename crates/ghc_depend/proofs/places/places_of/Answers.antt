@@ -12,14 +12,11 @@ returns-in-Ok-false-clause-fault c =
     let i = c.loop-number.number-index in
     let n = get_or order i 0 in
     let at = slice_get-get_or order i 0 c.loop-number-test.true in
-    inr (
-      n,
-      refl,
-      is_wrong c.args.records.now.held order i n at c.loop-number.invariant.kept (elim (c.in-Ok-false.ensures.wrong c.in-Ok-false.field-0-test) [
-        | inl none ↦ inl none
-        | inr there ↦ inr (rw c.loop-number.invariant.numbers at there)
-      ]),
-    )
+    let wrong = is_wrong c.args.records.now.held order i n at c.loop-number.invariant.kept (elim (c.in-Ok-false.ensures.wrong c.in-Ok-false.field-0-test) [
+      | inl none ↦ inl none
+      | inr there ↦ inr (rw c.loop-number.invariant.numbers at there)
+    ]) in
+    inr (n, refl, wrong)
 
 pub returns-in-Ok-false-clause-first : goal.returns-in-Ok-false-clause-first
 returns-in-Ok-false-clause-first c s rest begins none =
