@@ -50,9 +50,6 @@ all_behind place rest all p i =
 abbrev pub HasPlacesOf : SlotList → List ℕ → List ℕ → List ℕ → Type 0
 HasPlacesOf ss ns old new = (p : ℕ) → In p new ↔ (In p old ⊎ ((b : Record) × StandsIn ss p b × In b.number ns))
 
-pub places_none : (ss : SlotList) (old : List ℕ) → HasPlacesOf ss [] old old
-places_none ss old p = (λ i. inl i, λ c. elim c [ inl i ↦ i | inr b ↦ absurd b.2 ])
-
 module _ (ss : SlotList) (ns : List ℕ) (n : ℕ) (old ks : List ℕ) (has : HasPlacesOf ss ns old ks) where
   pub places_still : ((r : Record) → In r (held_in ss) → ¬ (r.number ≡ n)) → HasPlacesOf ss (ns ++ n ∷ []) old ks
   places_still none p = (

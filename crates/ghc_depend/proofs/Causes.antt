@@ -1,7 +1,6 @@
 -- Why a step depends directly on an earlier one: places in recorded order, the least variable, and what woke a goal.
 use Rattle.std.proofs.Common.{◌≡◌, ℕ, zero, suc, ◌+◌, ◌<◌, ◌≤◌, ◌⊎◌, Bool, true, false, not, cond, List, [], ◌∷◌, ◌++◌, length, take, refl, sym, ap, ◌∙◌, subst, subst₂, inl, inr, arith}
-use Rattle.std.specs.Prelude.{◌↔◌, Option, Some, None, IsTrue, IfSome, IfNone, IsSome, option_copied, slice_get}
-use Rattle.std.specs.Borrow.{Bor}
+use Rattle.std.specs.Prelude.{◌↔◌, Option, Some, None, IsTrue, IfSome, IfNone, slice_get}
 use Rattle.std.specs.declared.cmp.Ordering.TheVariants.{Less, Equal, Greater}
 use Rattle.std.specs.Ordering.{is_lt, ord_min, ordering_reverse}
 use Rattle.std.specs.FinSet as set
@@ -50,14 +49,6 @@ module _ {X : Type 0} where
   place_within [] (suc i) a p = cc
   place_within (x ∷ xs) zero a p = omega arith
   place_within (x ∷ xs) (suc i) a p = let h = place_within xs i a p in omega arith
-
-  -- and within the list there is something at each place
-  pub some_within : (xs : List X) (i : ℕ) (o : Option (Bor X)) → i < length xs → option_copied o ≡ slice_get xs i → IsSome o
-  some_within xs i (Some a) h e = refl
-  some_within [] zero None h e = absurd (omega arith)
-  some_within [] (suc i) None h e = absurd (omega arith)
-  some_within (x ∷ xs) zero None h e = cc
-  some_within (x ∷ xs) (suc i) None h e = some_within xs i None (omega arith) e
 
   pub if_some : {P : X → Type 0} (o : Option X) → ((a : X) → o ≡ Some a → P a) → IfSome o P
   if_some None f = tt
@@ -164,10 +155,6 @@ pub goal_made : (b m : Record) (name : GoalName) → b.goal ≡ Some name → Co
 goal_made b m name e c = subst (MakesGoal m) (same_value c.1 e) c.2
 
 module _ (rs : List Record) (distinct : AreDistinct (numbers rs)) (b : Record) where
-  -- a goal of the query was made before every step
-  pub before_all : b.goal ≡ None → (a : Record) → WasThereBefore rs b a
-  before_all e a m i c = let clash : Some c.0 ≡ None = sym c.1 ∙ e in cc
-
   module _ (name : GoalName) (e : b.goal ≡ Some name) where
     pub before_none : ((r : Record) → In r rs → ¬ (r.number ≡ name.step)) → (a : Record) → WasThereBefore rs b a
     before_none none a m i c = absurd (none m i (sym (goal_made b m name e c).0))

@@ -1,15 +1,13 @@
 -- Walks over an order and over the record: which number is wrong, and which is missing.
 use Rattle.std.proofs.Common.{◌≡◌, ℕ, zero, suc, ◌+◌, ◌<◌, ◌≤◌, length, arith, ◌⊎◌, Bool, true, false, not, List, [], ◌∷◌, ◌++◌, take, get_or, refl, sym, ap, ◌∙◌, subst, inl, inr, nat_eq, ◌||◌}
-use Rattle.std.specs.Prelude.{Option, Some, None, IfSome, IfNone, IsSome, slice_get}
+use Rattle.std.specs.Prelude.{Option, Some, None, IfNone, IsSome, slice_get}
 use Rattle.std.specs.Borrow.{Bor}
 use Rattle.std.specs.List.{list_any, position}
 use Rattle.std.proofs.lemmas.Bool.{eqb-true, eq-eqb, cases_order, cases_lt}
 use Rattle.std.proofs.lemmas.List.Quantifiers.{position-Some}
 use Rattle.std.proofs.lemmas.Option.{slice_get-get_or, slice_get_within}
-use Rattle.indexmap.specs.IndexSet.{insert_key}
 use Rattle.ghc_term.specs.Lists.{In}
 use Rattle.ghc_term.proofs.ListsLemmas.{in_more}
-use Rattle.ghc_term.proofs.MapsLemmas.{at_some}
 use Rattle.ghc_records.specs.Orders.{AreDistinct}
 use Rattle.ghc_records.specs.Record.{Record, numbers}
 use Rattle.ghc_records.specs.Slots.{SlotList, held_in, StandsIn}
@@ -34,10 +32,6 @@ number_any n (k ∷ ks) e =
       | false ↦ λ p q. inr (number_any n ks q)
     ] refl e
 
--- no number is of kept records alone, and none twice
-pub none_of_kept : (kept : List Record) → IsOfKept kept []
-none_of_kept kept = ((λ n i. absurd i), tt)
-
 -- and one number more
 pub one_of_kept : (kept : List Record) (done : List ℕ) (n : ℕ) → IsOfKept kept done → In n (numbers kept) → ¬ In n done → IsOfKept kept (done ++ n ∷ [])
 one_of_kept kept done n k there new = (
@@ -52,6 +46,11 @@ module _ (kept : List Record) (order : List ℕ) (i : ℕ) (n : ℕ) (at : slice
 
   pub is_wrong : IsOfKept kept (take i order) → (¬ In n (numbers kept)) ⊎ In n (take i order) → IsFirstWrong kept order n
   is_wrong k wrong = let s = at_split order i n at in record { front = take i order; behind = s.0; splits = s.1; before = k; not_new = wrong }
+
+-- a number that is not kept is not behind kept ones
+pub first_unkept : (kept : List Record) (order rest : List ℕ) (i n s : ℕ) → slice_get order i ≡ Some n → IsOfKept kept (take i order) → order ≡ s ∷ rest → ¬ In s (numbers kept) → n ≡ s
+first_unkept kept order rest zero n s at k e none = let same : Some n ≡ Some s = sym at ∙ ap (λ l. slice_get l 0) e in cc
+first_unkept kept order rest (suc i) n s at k e none = absurd (none (k.0 s (rw e (inl refl))))
 
 -- what stands in front of a place has an earlier one
 pub place_in_front : {X : Type 0} (xs : List X) (count : ℕ) (x : X) → In x (take count xs) → (i : ℕ) × (i < count) × (slice_get xs i ≡ Some x)
@@ -121,13 +120,6 @@ one_place xs i j x distinct p q = elim (cases_order i j) [
 pub not_any : (n : ℕ) (ks : List ℕ) → list_any (nat_eq n) ks ≡ false → ¬ In n ks
 not_any n ks e i = let clash : true ≡ false = sym (any_number n ks i) ∙ e in cc
 
-pub is_any : (n : ℕ) (ks : List ℕ) (b : Bool) → b ≡ list_any (nat_eq n) ks → b ≡ true → In n ks
-is_any n ks b e t = number_any n ks (sym e ∙ t)
-
--- a number that was new goes to the end
-pub goes_last : (ks : List ℕ) (n : ℕ) → list_any (nat_eq n) ks ≡ false → insert_key nat_eq ks n ≡ ks ++ n ∷ []
-goes_last ks n e = rw e refl
-
 -- the place that a look-up gives
 pub place_found : (ks : List ℕ) (n i : ℕ) → position (nat_eq n) ks ≡ Some i → slice_get ks i ≡ Some n
 place_found ks n i e =
@@ -138,7 +130,3 @@ place_found ks n i e =
 pub is_found : (o : Option (Bor Record)) (kept : List Record) (n : ℕ) → In n (numbers kept) → IfNone o ((r : Record) → In r kept → ¬ (r.number ≡ n)) → IsSome o
 is_found (Some r) kept n i f = λ _. true
 is_found None kept n i f = let q = number_of kept n i in absurd (f q.0 q.1 q.2)
-
--- and what is found is kept under it
-pub found_as : (o : Option (Bor Record)) (found : Bor Record) (kept : List Record) (n : ℕ) → o ≡ Some found → IfSome o (λ s. In s.now kept × (s.now.number ≡ n)) → In found.now kept × (found.now.number ≡ n)
-found_as o found kept n is has = at_some (λ s. In s.now kept × (s.now.number ≡ n)) o found is has

@@ -10,9 +10,7 @@ use Rattle.ghc_records.specs.Record.{Record, numbers, Shelf}
 use Rattle.ghc_records.proofs.OrderLemmas.{Before, is_before, before_is, before_in, before_once, number_in, number_of, record_once, records_distinct, picks_once}
 use Rattle.ghc_depend.specs.Depend.{DependsOn, Follows, directly, further, GoesWith, AreConsequencesOf}
 use Rattle.ghc_depend.specs.Kept.{with_shelved, IsSplitAt}
-use Rattle.ghc_depend.proofs.Finding.{by_option, not_both}
 use Rattle.ghc_depend.proofs.Following.{split_closed, known_follows}
-use Rattle.ghc_depend.proofs.KeptOnce.{shelved}
 use Rattle.ghc_depend.proofs.Once.{same_records}
 use Rattle.ghc_depend.proofs.Picking.{before_front, picks_in, picks_has, picks_order, picks_keep, picks_distinct, pick}
 
@@ -155,14 +153,3 @@ on_shelf (s ∷ gone) shelf r i e =
         | inr j ↦ on_shelf gone shelf r j q
       ]
     ] refl (sym (finite.get-insert nat_cmp_total (with_shelved gone shelf) s.number s r.number) ∙ e)
-
--- Of kept records none of which was on the shelf, those are not on it now that are not gone.
-pub off_shelf : (kept : List Record) (distinct : AreDistinct (numbers kept)) (gone some : List Record) (shelf : Shelf) → ((r : Record) → In r gone → In r kept)
-    → ((s : Record) → In s kept → finite.get shelf s.number ≡ None)
-    → Picks (λ s. finite.get (with_shelved gone shelf) s.number ≡ None) kept some → Picks (λ s. ¬ In s gone) kept some
-off_shelf kept distinct gone some shelf of_gone free k = picks_as kept some
-    (λ s i e j. on_shelf gone shelf s j e)
-    (λ s i full out. full (by_option (finite.get (with_shelved gone shelf) s.number) (λ e. e) (λ r e. elim (shelved gone shelf s.number r e) [
-      | inl p ↦ absurd (out (subst (λ z. In z gone) (record_once kept r s distinct (of_gone r p.0) i p.1) p.0))
-      | inr q ↦ absurd (not_both q (free s i))
-    ]))) k

@@ -1,8 +1,9 @@
 // Whether an order of the record is lawful, and what tells why not.
-ghost use Rattle.std.specs.Prelude.{◌≡◌, ◌⊎◌, ◌≤◌, ℕ, IfErr, OnOk, IfSome, IfNone, Some, slice_get};
+ghost use Rattle.std.specs.Prelude.{◌≡◌, ◌≢◌, ◌⊎◌, ◌≤◌, ◌∷◌, [], ℕ, List, Err, IfErr, OnOk, IfSome, IfNone, Some, slice_get};
+ghost use Rattle.ghc_term.specs.Lists.{In};
 ghost use Rattle.ghc_term.specs.declared.fault.Fault.{Fault};
 ghost use Rattle.ghc_records.specs.Orders.{AreDistinct};
-ghost use Rattle.ghc_records.specs.Record.{Record};
+ghost use Rattle.ghc_records.specs.Record.{Record, numbers};
 ghost use Rattle.ghc_records.specs.Slots.{StandsIn};
 ghost use Rattle.ghc_records.specs.UseIndex.{StepDependsOn};
 ghost use Rattle.ghc_depend.specs.Depend.{Uses};
@@ -115,11 +116,14 @@ fn first_too_early(
 /// Whether the order is lawful: it has each kept number once and nothing else, and no step stands before one on which it depends
 /// directly. Else `NotLawful`, with the pair that tells why: twice the first number that is not kept or stood before; or else the
 /// first that is missing, and 0; or else the two first steps of which the earlier in the order depends on the later. Beside these
-/// it fails for want of memory alone. It goes once over order and record, with some look-ups for each step, and one for each direct
-/// dependence; where a step stands too early, it goes once more over the record.
+/// it fails for want of memory alone, and never so for an order that is empty or begins with a number that is not kept. It goes
+/// once over order and record, with some look-ups for each step, and one for each direct dependence; where a step stands too early,
+/// it goes once more over the record.
 pub fn lawful(alloc: Global, records: &Records, order: &[u32]) -> Result<(), Fault>
     ensures ok { OnOk result (IsLawful records.now.held order.now) }
     ensures fault { IfErr result (λ f. (f ≡ Fault.Memory) ⊎ ((a b : ℕ) × (f ≡ Fault.NotLawful a b) × IsUnlawful records.now.held order.now a b)) }
+    ensures first { (s : ℕ) (rest : List ℕ) → order.now ≡ s ∷ rest → ¬ In s (numbers records.now.held) → result ≡ Err (Fault.NotLawful s s) }
+    ensures empty { order.now ≡ [] → result ≢ Err Fault.Memory }
 {
     let places = match places_of(alloc, records, order) {
         Ok(places) => places,

@@ -1,5 +1,5 @@
 // The numbers of an order with their places, where each is kept and none stands twice.
-ghost use Rattle.std.specs.Prelude.{◌≡◌, ◌⊎◌, ◌↔◌, ◌<◌, ◌≤◌, ◌++◌, ◌∷◌, [], ℕ, true, false, IfOk, IfErr, OnOk, IfSome, IfNone, Some, IsTrue};
+ghost use Rattle.std.specs.Prelude.{◌≡◌, ◌⊎◌, ◌↔◌, ◌<◌, ◌≤◌, ◌++◌, ◌∷◌, [], ℕ, List, true, false, Ok, Err, IfOk, IfErr, IsOk, OnOk, IfSome, IfNone, Some, IsTrue};
 ghost use Rattle.ghc_term.specs.Lists.{In};
 ghost use Rattle.ghc_term.specs.declared.fault.Fault.{Fault};
 ghost use Rattle.ghc_records.specs.Orders.{AreDistinct};
@@ -18,6 +18,7 @@ fn is_added(places: &mut IndexSet<u32>, records: &Records, number: u32) -> Resul
     ensures new { IfOk result (λ added. added ≡ true → ¬ In number places.old.keys) }
     ensures keys { IfOk result (λ added. added ≡ true → places.new.keys ≡ places.old.keys ++ number ∷ []) }
     ensures wrong { IfOk result (λ added. added ≡ false → (¬ In number (numbers records.now.held)) ⊎ In number places.old.keys) }
+    ensures unkept { ¬ In number (numbers records.now.held) → result ≡ Ok false }
 {
     let Some(_kept) = records.get(number) else {
         return Ok(false);
@@ -29,7 +30,8 @@ fn is_added(places: &mut IndexSet<u32>, records: &Records, number: u32) -> Resul
 }
 
 /// The numbers of the order with their places. `NotLawful`, with its number twice, for the first that is not kept or stood before;
-/// else it fails for want of memory alone. Two look-ups for each number.
+/// else it fails for want of memory alone, and takes none for an order that is empty or begins with a number that is not kept. Two
+/// look-ups for each number.
 pub(crate) fn places_of(
     alloc: Global,
     records: &Records,
@@ -38,6 +40,8 @@ pub(crate) fn places_of(
     ensures places { IfOk result (λ places. places.keys ≡ order.now) }
     ensures kept { OnOk result (IsOfKept records.now.held order.now) }
     ensures fault { IfErr result (λ f. (f ≡ Fault.Memory) ⊎ ((s : ℕ) × (f ≡ Fault.NotLawful s s) × IsFirstWrong records.now.held order.now s)) }
+    ensures first { (s : ℕ) (rest : List ℕ) → order.now ≡ s ∷ rest → ¬ In s (numbers records.now.held) → result ≡ Err (Fault.NotLawful s s) }
+    ensures empty { order.now ≡ [] → IsOk result }
 {
     let mut places = IndexSet::new(alloc);
     for number in order {

@@ -9,11 +9,10 @@ use Rattle.ghc_term.specs.Bindings.{name_cmp}
 use Rattle.ghc_term.specs.Table.{Table}
 use Rattle.ghc_hooks.specs.Face.{GoalNames}
 use Rattle.ghc_hooks.specs.Notes.{Note, NotesByGoal}
-use Rattle.ghc_hooks.specs.Verdict.{AwaitsWhatItLooksAt}
 use Rattle.ghc_hooks.specs.Looks.{GoalsByVariable, looks, FitEachOther}
 use Rattle.ghc_hooks.proofs.Looking.{goal_put, goal_taken, goal_cases}
 use Rattle.ghc_hooks.proofs.LookingAll.{HasBesides, HasWithout}
-use Rattle.ghc_hooks.proofs.Fitting.{put_here, put_elsewhere, gone_here, gone_elsewhere, nothing_gone, one_more_note, one_note_less, same_note, follows_put, follows_gone}
+use Rattle.ghc_hooks.proofs.Fitting.{put_elsewhere, gone_here, gone_elsewhere, nothing_gone, one_more_note, one_note_less, follows_put, follows_gone}
 
 -- a note of what is left is one of what there was
 pub still_noted : (m : NotesByGoal) (g h : GoalName) (n : Note) → finite.get (finite.remove m g) h ≡ Some n → finite.get m h ≡ Some n
@@ -33,7 +32,6 @@ module _ (m m' : NotesByGoal) (u u' : Table GoalNames) (b b' : GoalsByVariable) 
   fit_same e held room same = subst (λ z. FitEachOther z u' b') (sym e) (record {
     apart = λ h there. fit.apart h (ap (λ s. set.contains s h) (sym held) ∙ there);
     follows = λ y h. (λ k. (fit.follows y h).0 ((same y h).0 k), λ k. (same y h).1 ((fit.follows y h).1 k));
-    awaits = fit.awaits;
     room = let before = fit.room in omega (arith, before, room);
   })
 
@@ -41,7 +39,6 @@ module _ (m m' : NotesByGoal) (u u' : Table GoalNames) (b b' : GoalsByVariable) 
   fit_added none held room more = record {
     apart = λ h there. elim ((goal_put u.held g h).0 (ap (λ s. set.contains s h) (sym held) ∙ there)) [ inl k ↦ fit.apart h k | inr p ↦ ap (finite.get m) p ∙ none ];
     follows = fit.follows;
-    awaits = fit.awaits;
     room = omega (arith, room, more);
   }
 
@@ -49,23 +46,18 @@ module _ (m m' : NotesByGoal) (u u' : Table GoalNames) (b b' : GoalsByVariable) 
   fit_unmarked none e held room = subst (λ z. FitEachOther z u' b) (sym (e ∙ nothing_gone m g none)) (record {
     apart = λ h there. fit.apart h ((goal_taken u.held g h).0 (ap (λ s. set.contains s h) (sym held) ∙ there)).0;
     follows = fit.follows;
-    awaits = fit.awaits;
     room = let before = fit.room in omega (arith, before, room);
   })
 
   module _ (n : Note) (xs : List VarName) (all : set.from_list {R = name_cmp} xs ≡ n.looked) where
-    pub fit_noted : IsTrue (set.contains u.held g) → AwaitsWhatItLooksAt n → m' ≡ finite.insert m g n → u'.held ≡ set.remove u.held g → finite.len m + 1 ≤ u'.room → HasBesides b xs g b' → FitEachOther m' u' b'
-    fit_noted marked awaits e held room besides =
+    pub fit_noted : IsTrue (set.contains u.held g) → m' ≡ finite.insert m g n → u'.held ≡ set.remove u.held g → finite.len m + 1 ≤ u'.room → HasBesides b xs g b' → FitEachOther m' u' b'
+    fit_noted marked e held room besides =
         let none : finite.get m g ≡ None = fit.apart g marked in
         subst (λ z. FitEachOther z u' b') (sym e) (record {
           apart = λ h there.
               let k = (goal_taken u.held g h).0 (ap (λ s. set.contains s h) (sym held) ∙ there) in
               elim (goal_cases h g) as (λ _. finite.get (finite.insert m g n) h ≡ None) [ inl p ↦ absurd (k.1 p) | inr d ↦ put_elsewhere m g n h d ∙ fit.apart h k.0 ];
           follows = follows_put m b b' g n xs all fit.follows none besides;
-          awaits = λ h note there. elim (goal_cases h g) as (λ _. AwaitsWhatItLooksAt note) [
-            | inl p ↦ subst AwaitsWhatItLooksAt (same_note (sym (put_here m g n) ∙ ap (finite.get (finite.insert m g n)) (sym p) ∙ there)) awaits
-            | inr d ↦ fit.awaits h note (sym (put_elsewhere m g n h d) ∙ there)
-          ];
           room = let count = one_more_note m g n none in omega (arith, count, room);
         })
 
@@ -74,7 +66,6 @@ module _ (m m' : NotesByGoal) (u u' : Table GoalNames) (b b' : GoalsByVariable) 
       fit_dropped held room = subst (λ z. FitEachOther z u' b') (sym e) (record {
         apart = λ h k. still_none m g h (fit.apart h ((goal_taken u.held g h).0 (ap (λ s. set.contains s h) (sym held) ∙ k)).0);
         follows = follows_gone m b b' g n xs all fit.follows there without;
-        awaits = λ h note k. fit.awaits h note (still_noted m g h note k);
         room = let before = fit.room in let count = one_note_less m g n there in omega (arith, before, count, room);
       })
 
@@ -85,6 +76,5 @@ module _ (m m' : NotesByGoal) (u u' : Table GoalNames) (b b' : GoalsByVariable) 
           | inr p ↦ ap (finite.get (finite.remove m g)) p ∙ gone_here m g
         ];
         follows = follows_gone m b b' g n xs all fit.follows there without;
-        awaits = λ h note k. fit.awaits h note (still_noted m g h note k);
         room = let before = fit.room in let count = one_note_less m g n there in omega (arith, before, count, room);
       })

@@ -1,5 +1,5 @@
 -- Sets of one goal, and goals that are put in where they are, or taken out where they are not.
-use Rattle.std.proofs.Common.{◌≡◌, ◌+◌, Bool, true, false, cond, [], ◌∷◌, refl, sym, ap, ◌∙◌, inl, inr, arith}
+use Rattle.std.proofs.Common.{◌≡◌, ◌+◌, Bool, true, false, cond, refl, sym, ap, ◌∙◌, inl, inr, arith}
 use Rattle.std.specs.Prelude.{◌↔◌, IsTrue}
 use Rattle.std.specs.FinSet as set
 use Rattle.ghc_term.specs.declared.goal_name.GoalName.{GoalName}
@@ -50,10 +50,6 @@ take_the_one g = same_goals set.empty (set.remove (set.insert set.empty g) g) (�
 
 pub take_another : (o g : GoalName) → ¬ (o ≡ g) → set.insert (set.empty {R = goal_cmp}) o ≡ set.remove (set.insert set.empty o) g
 take_another o g apart = take_absent (set.insert set.empty o) g (λ k. apart (sym (only_one o g k)))
-
--- the one as a list
-pub one_listed : (g : GoalName) → set.from_list {R = goal_cmp} (g ∷ []) ≡ set.insert set.empty g
-one_listed g = set.from_list_push goal_total goal_antisymmetric [] g
 
 pub one_counted : (g : GoalName) → 1 ≡ set.len (set.insert (set.empty {R = goal_cmp}) g)
 one_counted g =

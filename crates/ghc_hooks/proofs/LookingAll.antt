@@ -59,26 +59,3 @@ taken_back old now now' new xs i g fresh before same after y h = (
       elim ((before y h).0 (sym (same y h) ∙ a.0)) [ inl o ↦ o | inr p ↦ absurd (a.1 (in_front xs i y p.0, p.1)) ],
   λ k. (after y h).1 (same y h ∙ (before y h).1 (inl k), λ p. fresh y (subst (λ z. IsTrue (looks old y z)) p.1 k)),
 )
-
--- the elements so far for which P holds
-abbrev pub ArePicked : {X : Type 0} → (X → Type 0) → List X → List X → Type 0
-ArePicked {X} P xs out = (y : X) → In y out ↔ (In y xs × P y)
-
-module _ {X : Type 0} (P : X → Type 0) (xs out : List X) (i : ℕ) (d : X) (within : i < length xs) where
-  pub picked : ArePicked P (take i xs) out → P (get_or xs i d) → ArePicked P (take (i + 1) xs) (out ++ get_or xs i d ∷ [])
-  picked before here y = (
-    λ k. elim (in_more out (get_or xs i d) y k) [
-      | inl o ↦ let b = (before y).0 o in (earlier xs i d within y b.0, b.1)
-      | inr e ↦ (latest xs i d within y e, subst P (sym e) here)
-    ],
-    λ k. elim (so_far xs i d within y k.0) [
-      | inl t ↦ in_left out (get_or xs i d ∷ []) y ((before y).1 (t, k.1))
-      | inr e ↦ subst (λ z. In z (out ++ get_or xs i d ∷ [])) (sym e) (in_last out (get_or xs i d))
-    ],
-  )
-
-  pub passed : ArePicked P (take i xs) out → ¬ P (get_or xs i d) → ArePicked P (take (i + 1) xs) out
-  passed before not y = (
-    λ k. let b = (before y).0 k in (earlier xs i d within y b.0, b.1),
-    λ k. elim (so_far xs i d within y k.0) [ inl t ↦ (before y).1 (t, k.1) | inr e ↦ absurd (not (subst P e k.1)) ],
-  )

@@ -8,9 +8,7 @@ use Rattle.ghc_term.specs.declared.goal_name.GoalName.{GoalName}
 use Rattle.ghc_term.specs.Sets.{Variables}
 use Rattle.ghc_term.specs.Lists.{In}
 use Rattle.ghc_term.proofs.ListsLemmas.{in_at, not_both}
-use Rattle.ghc_hooks.specs.Status.{Status, ready, waiting, failed, streaming}
-use Rattle.ghc_hooks.specs.Notes.{Note, NotesByGoal, IsNotedOn}
-use Rattle.ghc_hooks.specs.Verdict.{awaits}
+use Rattle.ghc_hooks.specs.Notes.{Note, NotesByGoal}
 use Rattle.ghc_hooks.specs.Tries.{Tries, HasLookedAt, AreSpared, AreWoken}
 use Rattle.ghc_hooks.proofs.Looking.{goal_put, goal_cases}
 use Rattle.ghc_hooks.proofs.LookingAll.{so_far, earlier, latest}
@@ -26,19 +24,6 @@ pub first_is_none : (P : GoalName → Type 0) (gs : List GoalName) → ((g : Goa
 first_is_none P gs h (Some g) e = tt
 first_is_none P [] h None e = λ g p. h g p
 first_is_none P (k ∷ gs) h None e = let clash : None ≡ Some k = e in absurd (cc)
-
--- a note tells what its goal waits for
-waits_for : (s : Status) (x : VarName) → IsTrue (awaits s x) → (xs : Variables) × (s ≡ waiting xs) × IsTrue (set.contains xs x)
-waits_for ready x h = let clash : false ≡ true = h in cc
-waits_for (waiting xs) x h = (xs, refl, h)
-waits_for (failed f) x h = let clash : false ≡ true = h in cc
-waits_for streaming x h = let clash : false ≡ true = h in cc
-
-pub noted_on : (m : NotesByGoal) (x : VarName) (g : GoalName) (n : Note) → Some n ≡ finite.get m g → IsTrue (awaits n.status x) ↔ IsNotedOn m x g
-noted_on m x g n there = (
-  λ h. let w = waits_for n.status x h in (n, w.0, sym there, w.1, w.2),
-  λ k. ap (λ s. awaits s x) (ap (λ z. z.status) (same_note (there ∙ k.2)) ∙ k.3) ∙ k.4,
-)
 
 -- what has become of the tries old when some goals that looked at x lost their notes
 pub record IsWaking (x : VarName) (old now : Tries) : Type 0 where

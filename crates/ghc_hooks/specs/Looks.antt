@@ -7,9 +7,8 @@ use Rattle.ghc_term.specs.declared.goal_name.GoalName.{GoalName}
 use Rattle.ghc_term.specs.Bindings.{name_cmp}
 use Rattle.ghc_term.specs.Table.{Table}
 use Rattle.ghc_hooks.specs.Face.{GoalNames}
-use Rattle.ghc_hooks.specs.Notes.{Note, NotesByGoal}
+use Rattle.ghc_hooks.specs.Notes.{NotesByGoal}
 use Rattle.ghc_hooks.specs.Tries.{HasLookedAt}
-use Rattle.ghc_hooks.specs.Verdict.{AwaitsWhatItLooksAt}
 
 -- goals by variable
 abbrev pub GoalsByVariable : Type 0
@@ -23,9 +22,8 @@ goals_in (Some gs) = gs
 abbrev pub looks : GoalsByVariable → VarName → GoalName → Bool
 looks m x g = set.contains (goals_in (finite.get m x)) g
 
--- The parts of tries fit each other: no goal is both noted and untried, under each variable stand just the goals whose notes looked at it, each note awaits only what it looked at, and there is room to mark each noted goal untried.
+-- The parts of tries fit each other: no goal is both noted and untried, under each variable stand just the goals whose notes looked at it, and there is room to mark each noted goal untried.
 pub record FitEachOther (notes : NotesByGoal) (untried : Table GoalNames) (by_variable : GoalsByVariable) : Type 0 where
   pub apart : (g : GoalName) → IsTrue (set.contains untried.held g) → finite.get notes g ≡ None
   pub follows : (x : VarName) (g : GoalName) → IsTrue (looks by_variable x g) ↔ HasLookedAt notes x g
-  pub awaits : (g : GoalName) (note : Note) → finite.get notes g ≡ Some note → AwaitsWhatItLooksAt note
   pub room : finite.len notes ≤ untried.room

@@ -1,5 +1,5 @@
 // The noted outcomes of goals, and the goals that are still to be tried.
-ghost use Rattle.std.specs.Prelude.{◌≡◌, ◌≢◌, ◌↔◌, ◌+◌, ◌<◌, ◌≤◌, length, IfOk, IfSome, IfNone, IsTrue, OnOk, OnErr, None, Some};
+ghost use Rattle.std.specs.Prelude.{◌≡◌, ◌≢◌, ◌↔◌, ◌+◌, ◌<◌, ◌≤◌, length, IfSome, IfNone, IsTrue, OnOk, OnErr, None, Some};
 ghost use Rattle.std.specs.FinMap as finite;
 ghost use Rattle.std.specs.FinSet as set;
 
@@ -39,8 +39,7 @@ impl Tries {
     ghost use Rattle.std.specs.Prelude.{option_copied};
     ghost use Rattle.ghc_term.specs.Lists.{In};
     ghost use Rattle.ghc_term.specs.declared.goal_name.GoalName.{GoalName};
-    ghost use Rattle.ghc_hooks.specs.Notes.{Note, IsNotedOn};
-    ghost use Rattle.ghc_hooks.specs.Verdict.{AwaitsWhatItLooksAt};
+    ghost use Rattle.ghc_hooks.specs.Notes.{Note};
     ghost use Rattle.ghc_hooks.specs.Tries.{HasLookedAt, AreSpared, AreWoken};
     ghost use Rattle.ghc_fire.specs.Goals.{goal_cmp};
     ghost use Rattle.ghc_term.specs.declared.var_name.VarName.{VarName};
@@ -93,13 +92,6 @@ impl Tries {
         let _notes = &self.notes;
     }
 
-    /// No goal waits for a variable that it did not look at. This costs nothing.
-    pub fn notes_await_what_they_looked_at(&self)
-        ensures { (g : GoalName) (note : Note) → finite.get self.now.notes g ≡ Some note → AwaitsWhatItLooksAt note }
-    {
-        let _notes = &self.notes;
-    }
-
     /// The goals whose notes looked at the variable, each once: one look-up.
     pub fn looking_at(&self, x: VarName) -> &[GoalName]
         ensures each { (g : GoalName) → In g result.now ↔ HasLookedAt self.now.notes x g }
@@ -109,30 +101,6 @@ impl Tries {
             Some(goals) => goals.members(),
             None => &[],
         }
-    }
-
-    // Whether the goal waits for the variable by its note: two look-ups.
-    fn awaits(&self, goal: GoalName, x: VarName) -> bool
-        ensures { IsTrue result ↔ IsNotedOn self.now.notes x goal }
-    {
-        match self.get(goal) {
-            Some(note) => note.awaits(x),
-            None => false,
-        }
-    }
-
-    /// The goals that by their notes wait for the variable, each once: a few look-ups for each goal that looked at it.
-    pub fn waiting_on(&self, alloc: Global, x: VarName) -> Result<Vec<GoalName>, AllocError>
-        ensures { IfOk result (λ goals. (g : GoalName) → In g goals.items ↔ IsNotedOn self.now.notes x g) }
-    {
-        self.notes_await_what_they_looked_at();
-        let mut waiting = Vec::new(alloc);
-        for goal in self.looking_at(x) {
-            if self.awaits(*goal, x) {
-                waiting.push(*goal)?;
-            }
-        }
-        Ok(waiting)
     }
 
     // A goal whose note looked at the variable, if there is one: one look-up.
@@ -177,7 +145,6 @@ impl Tries {
         ensures untried_stay { OnErr result (self.new.untried ≡ self.old.untried) }
         ensures room { self.old.room ≤ self.new.room + 1 }
     {
-        note.waits_for_what_it_looked_at();
         self.notes.reserve(1)?;
         self.untried.reserve(self.notes.len() + 1)?;
         self.looks.add_all(note.looked().members(), goal)?;
@@ -225,18 +192,6 @@ impl Tries {
     {
         while let Some(goal) = self.first_looking_at(x) {
             self.wake_goal(goal);
-        }
-    }
-
-    /// These variables were bound or freed: each goal whose note looked at one of them loses the note and is untried again, at
-    /// the cost of `wake_at` for each.
-    pub fn wake(&mut self, xs: &[VarName])
-        ensures notes { AreSpared (λ y. In y xs.now) self.old.notes self.new.notes }
-        ensures untried { AreWoken (λ y. In y xs.now) self.old.notes self.old.untried self.new.untried }
-        ensures room { self.old.room ≤ self.new.room }
-    {
-        for x in xs {
-            self.wake_at(*x);
         }
     }
 }

@@ -94,9 +94,6 @@ distinct_taken (suc n) (s ∷ steps) d = ((λ i. d.0 (in_taken n steps s.number 
 
 -- the lines in front of the cut tell the first steps
 module _ (lines : List (List ℕ)) (x last : List ℕ) (others : List (List ℕ)) (count : ℕ) (steps : List Step) (told : TellsSteps (lines ++ x ∷ others) count steps) (all : length steps ≡ count) (low : length lines ≤ count) where
-  first_steps : List Step
-  first_steps = take (length lines) steps
-
   pub first_length : length (take (length lines) steps) ≡ length lines
   first_length = length-take-le (length lines) steps (omega (arith, all, low))
 

@@ -41,7 +41,7 @@ fewer_told pieces count n steps told = record {
   below = λ next s ends i. told.below next s ends (in_front n steps s i);
 }
 
-one_count : (text : List ℕ) (m n : ℕ) → TellsCount text m → TellsCount text n → m ≡ n
+pub one_count : (text : List ℕ) (m n : ℕ) → TellsCount text m → TellsCount text n → m ≡ n
 one_count text m n h k =
     let same : count_line m ≡ count_line n = one_line (pieces_of text) 1 (count_line m) (count_line n) h.0 k.0 in
     one_number m n (omega (arith, h.1)) (omega (arith, k.1)) (append_cancel_left (codes "steps ") (decimal m) (decimal n) same)

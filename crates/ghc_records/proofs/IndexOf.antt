@@ -173,9 +173,6 @@ index_same rs users users' binders binders' is same alike = record {
 same_goal : {g h : GoalName} → Some g ≡ Some h → g ≡ h
 same_goal e = cc
 
-pub consumes_none : (rs : List Record) (r : Record) → r.goal ≡ None → (m : ℕ) → (None ≡ Some m) ↔ IsMakerFor rs r m
-consumes_none rs r e m = (λ q. absurd (not_none q), λ a. let never : None ≡ Some a.3.0 = sym e ∙ a.3.1 in cc)
-
 pub none_made : (rs : List Record) (r : Record) (name : GoalName) → r.goal ≡ Some name → ((a : Record) → In a rs → a.number ≡ name.step → ¬ MakesGoal a name) → (m : ℕ) → (None ≡ Some m) ↔ IsMakerFor rs r m
 none_made rs r name e h m = (
   λ q. absurd (not_none q),

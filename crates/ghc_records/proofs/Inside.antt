@@ -36,11 +36,6 @@ mutual
   in_occurs_all none y i = absurd i
   in_occurs_all (more t ts) y i = elim (in_either (variables t) (variables_of_all ts) y i) [ inl j ↦ inl (in_occurs t y j) | inr j ↦ inr (in_occurs_all ts y j) ]
 
-all_of_list : (ts : Trees) (y : VarName) → OccursIn y ts → In y (variables_of_list (list_of ts))
-all_of_list none y o = absurd o
-all_of_list (more t ts) y (inl o) = in_left (variables t) (variables_of_list (list_of ts)) y (occurs_in t y o)
-all_of_list (more t ts) y (inr o) = in_right (variables t) (variables_of_list (list_of ts)) y (all_of_list ts y o)
-
 list_to_all : (ts : Trees) (y : VarName) → In y (variables_of_list (list_of ts)) → OccursIn y ts
 list_to_all none y i = absurd i
 list_to_all (more t ts) y i = elim (in_either (variables t) (variables_of_list (list_of ts)) y i) [ inl j ↦ inl (in_occurs t y j) | inr j ↦ inr (list_to_all ts y j) ]

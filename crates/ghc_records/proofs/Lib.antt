@@ -5,10 +5,8 @@ pub mod Heads
 pub mod Effects
 pub mod Replaying
 pub mod StreamLemmas
-pub mod Numbered
 pub mod Made
 pub mod Bound
-pub mod Allowed
 pub mod Listing
 pub mod NameOrder
 pub mod BindingOrder

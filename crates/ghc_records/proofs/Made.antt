@@ -1,9 +1,6 @@
 -- Goals are put there one after another, and taken away again.
-use Rattle.std.proofs.Common.{◌≡◌, ◌≢◌, ℕ, ◌+◌, true, false, cond, List, [], ◌∷◌, ◌++◌, length, refl, sym, ap, ◌∙◌, arith}
-use Rattle.std.specs.Prelude.{None, Some}
-use Rattle.std.specs.declared.cmp.Ordering.{Ordering}
+use Rattle.std.proofs.Common.{◌≡◌, ◌≢◌, ℕ, ◌+◌, true, false, List, [], ◌∷◌, ◌++◌, length, refl, ap, ◌∙◌, arith}
 use Rattle.std.specs.Ordering.{eq_by_cmp}
-use Rattle.std.specs.Cmp.{IsTotalOrder}
 use Rattle.std.specs.FinMap as finite
 use Rattle.ghc_term.specs.declared.goal_name.GoalName.{GoalName}
 use Rattle.ghc_term.specs.Goal.{Goal}
@@ -28,13 +25,3 @@ last_first n i [] g m = let here : i ≡ i + 0 = omega arith in ap (λ j. finite
 last_first n i (h ∷ gs) g m =
     let here : i + 1 + length gs ≡ i + length (h ∷ gs) = omega arith in
     ap (λ x. finite.insert x (name n i) h) (last_first n (i + 1) gs g m ∙ ap (λ j. with_makes n (i + 1) gs (finite.insert m (name n j) g)) here)
-
--- what was put where nothing was is taken away again
-pub remove_inserted : {K X : Type 0} {R : K → K → Ordering} (o : IsTotalOrder R) → finite.IsAntisymmetric R → (m : finite.FinMap R X) (k : K) (v : X)
-    → ((q : K) → eq_by_cmp R q k ≡ true → q ≡ k) → finite.get m k ≡ None → finite.remove (finite.insert m k v) k ≡ m
-remove_inserted {R = R} o a m k v same free = finite.same_map o a _ _ (λ q.
-    finite.get-remove o (finite.insert m k v) k q ∙ ap (cond (eq_by_cmp R q k) None) (finite.get-insert o m k v q)
-    ∙ elim (eq_by_cmp R q k) as (λ b. eq_by_cmp R q k ≡ b → cond b None (cond b (Some v) (finite.get m q)) ≡ finite.get m q) [
-      | true ↦ λ p. sym (ap (finite.get m) (same q p) ∙ free)
-      | false ↦ λ p. refl
-    ] refl)

@@ -4,7 +4,7 @@ use Rattle.std.proofs.lemmas.Bool.{eqb-true, eq-eqb, ne_eqb}
 use Rattle.std.specs.Prelude.{Option, Some, None, slice_set}
 use Rattle.std.specs.Map.{lookup}
 use Rattle.std.specs.FinMap as finite
-use Rattle.std.proofs.lemmas.List.{append_assoc, append-nil}
+use Rattle.std.proofs.lemmas.List.{append_assoc}
 use Rattle.ghc_term.specs.Lists.{In}
 use Rattle.ghc_term.proofs.ListsLemmas.{in_either}
 use Rattle.ghc_term.specs.Table.{Table}
@@ -100,9 +100,6 @@ no_entries [] e = refl
 no_entries (x ∷ es) e = absurd (omega (arith, e))
 
 -- a list that has grown by sets of no numbers
-pub not_grown : (ts : Sets) → HasGrown ts ts
-not_grown ts = ([], sym (append-nil ts), λ t i. absurd i)
-
 pub grown_once : (old ts : Sets) (t : Table (List ℕ)) → HasGrown old ts → t.held ≡ [] → HasGrown old (ts ++ t ∷ [])
 grown_once old ts t g e = (
   g.0 ++ t ∷ [],

@@ -98,11 +98,6 @@ module _ {X : Type 0} where
   others_all x [] out = nothing
   others_all x (y ∷ ys) out = take (λ e. out (inl (sym e))) (others_all x ys (λ i. out (inr i)))
 
-  -- all elements but one are picked, wherever that stands
-  pub others_around : (xs ys : List X) (x : X) → AreDistinct (xs ++ x ∷ ys) → Picks (λ s. ¬ (s ≡ x)) (xs ++ x ∷ ys) (xs ++ ys)
-  others_around [] ys x d = leave (λ other. other refl) (others_all x ys d.0)
-  others_around (y ∷ xs) ys x d = take (λ e. d.0 (subst (λ z. In z (xs ++ x ∷ ys)) (sym e) (in_right xs (x ∷ ys) x (inl refl)))) (others_around xs ys x d.1)
-
 -- records that are picked have distinct numbers where all have
 pub picks_distinct : {P : Record → Type 0} (rs left : List Record) → Picks P rs left → AreDistinct (numbers rs) → AreDistinct (numbers left)
 picks_distinct [] left nothing d = tt

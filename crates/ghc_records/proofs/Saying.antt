@@ -1,5 +1,5 @@
 -- Lemmas on what lines say of steps.
-use Rattle.std.proofs.Common.{◌≡◌, ◌≢◌, ℕ, zero, suc, ◌≤◌, All, List, [], ◌∷◌, ◌++◌, get_or, refl, sym, ap, ◌∙◌, arith, decimal, Some, subst}
+use Rattle.std.proofs.Common.{◌≡◌, ◌≢◌, ℕ, zero, suc, ◌≤◌, All, List, [], ◌∷◌, ◌++◌, get_or, refl, sym, ap, ◌∙◌, arith, decimal, subst}
 use Rattle.std.specs.Prelude.{codes}
 use Rattle.std.proofs.lemmas.List.{append_cancel_left}
 use Rattle.std.proofs.lemmas.List.Elements.{All-cons}
@@ -31,10 +31,6 @@ goal_apart word a b g cut plain small e = cut_once 46 a b (decimal g.step) (deci
 pub no_goal : (word : List ℕ) → All (λ c. c ≢ 46) word → (g : GoalName) → g.step ≤ greatest_number → g.place ≤ greatest_number → word ≢ goal_name_text g
 no_goal word plain g step place e = no_cut 46 (decimal g.step) (decimal g.place) word (number_plain 46 g.step refl step) plain e
 
--- where the goal is said, so it is
-pub goal_said : (word a b : List ℕ) (step : ℕ) (g : GoalName) → word ≡ a ++ 46 ∷ b → a ≡ decimal step → g.step ≡ step → b ≡ decimal g.place → word ≡ goal_name_text g
-goal_said word a b step g cut first is second = cut ∙ ap (λ l. l ++ 46 ∷ b) (first ∙ ap decimal (sym is)) ∙ ap (λ l. decimal g.step ++ 46 ∷ l) second
-
 -- a line is cut at its first blank in one way
 pub line_apart : (line a b : List ℕ) (s : Step) → line ≡ a ++ 32 ∷ b → All (λ c. c ≢ 32) a → (h : SaysStep line s) → (a ≡ decimal s.number) × (b ≡ goal_name_text h.goal ++ 32 ∷ h.act)
 line_apart line a b s cut plain h = cut_once 32 a b (decimal s.number) (goal_name_text h.goal ++ 32 ∷ h.act) plain (number_plain 32 s.number refl h.number.1) (sym cut ∙ h.parts)
@@ -56,19 +52,6 @@ act_apart step bytes a b s small cut plain h =
 pub no_act : (step : ℕ) (bytes : List ℕ) → step ≤ greatest_number → All (λ c. c ≢ 32) bytes → (s : Step) → ¬ SaysStep (decimal step ++ 32 ∷ bytes) s
 no_act step bytes small plain s h = no_cut 32 (goal_name_text h.goal) h.act bytes (goal_plain h.goal h.goal_numbers.0 h.goal_numbers.1) plain (number_apart step bytes s small h).1
 
--- number, goal and act make a step
-pub step_said : (step : ℕ) (goal : GoalName) (bytes word act : List ℕ) (s : Step) → (1 ≤ step) × (step ≤ greatest_number) → (goal.step ≤ greatest_number) × (goal.place ≤ greatest_number)
-    → bytes ≡ word ++ 32 ∷ act → word ≡ goal_name_text goal → s.number ≡ step → s.goal ≡ Some goal → SaysAct act s.act → SaysStep (decimal step ++ 32 ∷ bytes) s
-step_said step goal bytes word act s number goal_numbers cut named is of_goal says = record {
-  goal = goal;
-  act = act;
-  parts = ap (λ l. decimal step ++ 32 ∷ l) (cut ∙ ap (λ l. l ++ 32 ∷ act) named) ∙ ap (λ n. decimal n ++ 32 ∷ (goal_name_text goal ++ 32 ∷ act)) (sym is);
-  number = (omega (arith, number.0, is), omega (arith, number.1, is));
-  goal_numbers = goal_numbers;
-  of_goal = of_goal;
-  says = says;
-}
-
 -- a line says steps of one number
 pub one_step_number : (line : List ℕ) (s t : Step) → SaysStep line s → SaysStep line t → s.number ≡ t.number
 one_step_number line s t h k =
@@ -82,14 +65,6 @@ differ i a b other e = other (ap (λ l. get_or l i 0) e)
 -- what begins with the one begins with the other
 begun : (bytes front word begins : List ℕ) → front ≡ begins → bytes ≡ front ++ word → begins ++ word ≡ bytes
 begun bytes front word begins at cut = ap (λ l. l ++ word) (sym at) ∙ sym cut
-
--- bytes that say an act by a clause
-pub by_only : (bytes front word : List ℕ) → front ≡ codes "by " → bytes ≡ front ++ word → ((k : ℕ) → 1 ≤ k → k ≤ greatest_number → word ≢ decimal k) → (act : Act) → ¬ SaysAct bytes act
-by_only bytes front word at cut none (by_clause k) h = none k h.1 h.2 (append_cancel_left (codes "by ") word (decimal k) (begun bytes front word (codes "by ") at cut ∙ h.0))
-by_only bytes front word at cut none unified h = differ 0 (codes "by " ++ word) (codes "eq") (λ e. omega (arith, e)) (begun bytes front word (codes "by ") at cut ∙ h)
-by_only bytes front word at cut none assigned h = differ 0 (codes "by " ++ word) (codes "is") (λ e. omega (arith, e)) (begun bytes front word (codes "by ") at cut ∙ h)
-by_only bytes front word at cut none (given u) h = differ 0 (codes "by " ++ word) (codes "in " ++ h.0) (λ e. omega (arith, e)) (begun bytes front word (codes "by ") at cut ∙ h.1)
-by_only bytes front word at cut none closed h = differ 0 (codes "by " ++ word) (codes "end") (λ e. omega (arith, e)) (begun bytes front word (codes "by ") at cut ∙ h)
 
 -- bytes that say an input
 pub in_only : (bytes front text : List ℕ) → front ≡ codes "in " → bytes ≡ front ++ text → ((u : Tree) → ¬ IsReadTerm text u) → (act : Act) → ¬ SaysAct bytes act

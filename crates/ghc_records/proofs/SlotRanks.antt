@@ -90,9 +90,6 @@ module _ (kept : List Record) (ss : SlotList) (is : kept ≡ held_in ss) where
   pub ranked : (p n : ℕ) → HasNumberIn ss p n → (r : Record) × (slice_get kept (rank ss p) ≡ Some r) × (r.number ≡ n)
   ranked p n h = (h.0, ranked_at p h.0 h.1, h.2)
 
-  pub ranked_back : (i : ℕ) (r : Record) → slice_get kept i ≡ Some r → (p : ℕ) × StandsIn ss p r × (rank ss p ≡ i)
-  ranked_back i r e = rank_back ss i r (subst (λ l. slice_get l i ≡ Some r) is e)
-
 -- ranks of a list of places
 pub of_map : (f : ℕ → ℕ) (ps : List ℕ) (q : ℕ) → In q (map f ps) → (p : ℕ) × In p ps × (f p ≡ q)
 of_map f [] q i = absurd i

@@ -19,9 +19,13 @@ no_bytes : (rest : List ℕ) → length rest ≡ 0 → rest ≡ []
 no_bytes [] e = refl
 no_bytes (b ∷ rest) e = absurd (omega (arith, e))
 
--- the heading is there, and no count
+-- the heading is there
+pub begins : (text counted : List ℕ) → pieces_of text ≡ heading ∷ pieces_of counted → IsLine text 0 heading
+begins text counted first = line_stands (pieces_of text) 0 text heading counted refl first
+
+-- .. and no count
 pub wrong_count : (text counted : List ℕ) → pieces_of text ≡ heading ∷ pieces_of counted → ((count : ℕ) → count ≤ kept_limit → ¬ IsLineOf (pieces_of counted) 0 (count_line count)) → IsFirstWrongLine text 2
-wrong_count text counted first none = no_count (line_stands (pieces_of text) 0 text heading counted refl first) (λ count t. let (next, others, e) = t.0 in none count t.1 (next, others, sym (ap (drop 1) first) ∙ e))
+wrong_count text counted first none = no_count (begins text counted first) (λ count t. let (next, others, e) = t.0 in none count t.1 (next, others, sym (ap (drop 1) first) ∙ e))
 
 -- an end tells one number
 pub one_next : (pieces : List (List ℕ)) (count m n : ℕ) → TellsNext pieces count m → TellsNext pieces count n → m ≡ n
@@ -46,10 +50,7 @@ module _ (text counted told : List ℕ) (count : ℕ) (first : pieces_of text �
   behind_two : behind_count text ≡ pieces_of told
   behind_two = ap (drop 2) first ∙ ap (drop 1) second
 
-  begins : IsLine text 0 heading
-  begins = line_stands (pieces_of text) 0 text heading counted refl first
-
-  counts : TellsCount text count
+  pub counts : TellsCount text count
   counts = (line_stands (pieces_of text) 1 counted (count_line count) told (ap (drop 1) first) second, few)
 
   -- so the steps are those that the lines behind say
@@ -57,10 +58,10 @@ module _ (text counted told : List ℕ) (count : ℕ) (first : pieces_of text �
   steps_told steps h = subst (λ p. TellsSteps p count steps) (sym behind_two) h
 
   pub wrong_step : (fault : Fault) → IsWrongStep (pieces_of told) count fault → IsHistoryRefusal text fault
-  wrong_step fault (steps, is, h) = (length steps + 3, is, no_step {count = count} {steps = steps} begins counts (subst (λ p. TellsNoMore p count steps) (sym behind_two) h))
+  wrong_step fault (steps, is, h) = (length steps + 3, is, no_step {count = count} {steps = steps} (begins text counted first) counts (subst (λ p. TellsNoMore p count steps) (sym behind_two) h))
 
   pub wrong_end : (steps : List Step) → TellsSteps (pieces_of told) count steps → length steps ≡ count → ((next : ℕ) → ¬ TellsNext (pieces_of told) count next) → IsFirstWrongLine text (count + 3)
-  wrong_end steps h all none = no_end {count = count} {steps = steps} begins counts (steps_told steps h) all (subst (λ p. (next : ℕ) → ¬ TellsNext p count next) (sym behind_two) none)
+  wrong_end steps h all none = no_end {count = count} {steps = steps} (begins text counted first) counts (steps_told steps h) all (subst (λ p. (next : ℕ) → ¬ TellsNext p count next) (sym behind_two) none)
 
   next_told : (next : ℕ) → TellsNext (pieces_of told) count next → TellsNext (behind_count text) count next
   next_told next h = subst (λ p. TellsNext p count next) (sym behind_two) h
@@ -74,7 +75,7 @@ module _ (text counted told : List ℕ) (count : ℕ) (first : pieces_of text �
   pub is_told : (steps : List Step) (next : ℕ) (rest : List ℕ) → TellsSteps (pieces_of told) count steps → length steps ≡ count → TellsNext (pieces_of told) count next
       → drop (count + 1) (pieces_of told) ≡ pieces_of rest → length rest ≡ 0 → TellsHistory text (record { steps = steps; next = next })
   is_told steps next rest h all ends behind none = record {
-    begins = begins;
+    begins = begins text counted first;
     count = subst (TellsCount text) (sym all) counts;
     steps = subst (λ n. TellsSteps (behind_count text) n steps) (sym all) (steps_told steps h);
     next = subst (λ n. TellsNext (behind_count text) n next) (sym all) (next_told next ends);
@@ -85,4 +86,4 @@ module _ (text counted told : List ℕ) (count : ℕ) (first : pieces_of text �
   pub wrong_rest : (steps : List Step) (next : ℕ) (rest : List ℕ) → TellsSteps (pieces_of told) count steps → length steps ≡ count → TellsNext (pieces_of told) count next
       → drop (count + 1) (pieces_of told) ≡ pieces_of rest → 0 < length rest → IsFirstWrongLine text (count + 4)
   wrong_rest steps next rest h all ends behind some =
-      more {count = count} {next = next} {steps = steps} begins counts (steps_told steps h) all (next_told next ends) (λ e. let none : length rest ≡ 0 = ap length (nothing rest (sym (behind_end rest behind) ∙ e)) in omega (arith, none, some))
+      more {count = count} {next = next} {steps = steps} (begins text counted first) counts (steps_told steps h) all (next_told next ends) (λ e. let none : length rest ≡ 0 = ap length (nothing rest (sym (behind_end rest behind) ∙ e)) in omega (arith, none, some))

@@ -1,11 +1,11 @@
 // Reading histories.
-ghost use Rattle.std.specs.Prelude.{◌≡◌, ◌↔◌, ◌+◌, ◌<◌, ◌≤◌, ◌∷◌, ◌++◌, ◌⊎◌, [], ℕ, List, Some, true, false, length, IfErr, IfOk, IfSome, IfNone};
+ghost use Rattle.std.specs.Prelude.{◌≡◌, ◌≢◌, ◌↔◌, ◌+◌, ◌<◌, ◌≤◌, ◌∷◌, ◌++◌, ◌⊎◌, [], ℕ, List, Some, true, false, length, Err, IfErr, IfOk, IsOk, IfSome, IfNone};
 ghost use Rattle.ghc_term.specs.Answered.{Answered};
 ghost use Rattle.ghc_term.specs.declared.fault.Fault.{Fault as fault_spec};
 ghost use Rattle.ghc_records.specs.Numbers.{kept_limit};
 ghost use Rattle.ghc_records.specs.Journal.{Step as step_spec};
 ghost use Rattle.ghc_term.specs.Lists.{In};
-ghost use Rattle.ghc_records.specs.HistoryText.{IsHistoryRefusal, IsLineOf, SaysStep, TellsHistory, TellsNext, TellsNoMore, TellsSteps, pieces_of};
+ghost use Rattle.ghc_records.specs.HistoryText.{IsHistoryRefusal, IsLine, IsLineOf, SaysStep, TellsCount, TellsHistory, TellsNext, TellsNoMore, TellsSteps, heading, pieces_of};
 
 use crate::cutting::next_line;
 use crate::history::History;
@@ -76,6 +76,7 @@ fn read_steps(
 ) -> Result<Vec<Step>, Fault>
     requires bound { (next : ℕ) → (bound ≡ Some next) ↔ TellsNext (pieces_of text.now) count next }
     requires few { count ≤ kept_limit }
+    ensures none { count ≡ 0 → IsOk result }
     ensures ok { IfOk result (λ steps. TellsSteps (pieces_of text.now) count steps.items × (length steps.items ≡ count)) }
     ensures fault { IfErr result (λ fault. (fault ≡ fault_spec.Memory)
         ⊎ ((steps : List step_spec) × (fault ≡ fault_spec.History (length steps + 3)) × TellsNoMore (pieces_of text.now) count steps)) }
@@ -101,10 +102,14 @@ fn read_steps(
 
 /// The history that a text tells: `ghc-history 1`, `steps K`, K lines of steps, `end NEXT`, and nothing behind it. Else
 /// `History` with the first line that is wrong, counted from 1: one that is not of the form, where a line that is missing counts
-/// by the number that it would have; one whose step has the number of another, or one that is not below NEXT; or `Memory`.
-/// Nothing is carried out. Time and memory grow with the text.
+/// by the number that it would have; one whose step has the number of another, or one that is not below NEXT; or `Memory`, which
+/// comes only where heading and count are right and there is a step to read. Nothing is carried out. Time and memory grow with the
+/// text.
 pub fn read_history(alloc: Global, text: &[u8]) -> Result<History, Fault>
-    ensures { Answered (TellsHistory text.now) (IsHistoryRefusal text.now) result }
+    ensures answer { Answered (TellsHistory text.now) (IsHistoryRefusal text.now) result }
+    ensures heading { ¬ IsLine text.now 0 heading → result ≡ Err (fault_spec.History 1) }
+    ensures count { IsLine text.now 0 heading → ((count : ℕ) → ¬ TellsCount text.now count) → result ≡ Err (fault_spec.History 2) }
+    ensures no_steps { TellsCount text.now 0 → result ≢ Err fault_spec.Memory }
 {
     let Some(counted) = behind_heading(text) else {
         return Err(Fault::History { line: 1 });

@@ -13,16 +13,25 @@ returns-in-Some-clause-fault c =
     let m = c.in-Some.ensures.missing in
     inr (c.in-Some.number, 0, refl, subst (λ n. IsUnlawful kept order n 0) m.2 (missing c.in-Ok.ensures.kept (subst (λ o. IsFirstMissing kept o m.0) c.in-Ok.ensures.places m.1)))
 
+pub returns-in-Some-clause-first : goal.returns-in-Some-clause-first
+returns-in-Some-clause-first c s rest begins none = let clash = c.in-Ok.ensures.first s rest begins none in cc
+
 pub first_too_early-requires-clause-of_kept : goal.first_too_early-requires-clause-of_kept
-first_too_early-requires-clause-of_kept c = (c.in-Ok.ensures.kept, λ n i. subst (In n) c.in-Ok.ensures.places (c.in_default.ensures.all n i))
+first_too_early-requires-clause-of_kept c = (c.in-Ok.ensures.kept, λ n i. rw c.in-Ok.ensures.places at c.in_default.ensures.all n i)
 
 pub returns-in-Some-first_too_early-clause-fault : goal.returns-in-Some-first_too_early-clause-fault
 returns-in-Some-first_too_early-clause-fault c =
     let kept = c.args.records.now.held in
     let order = c.args.order.now in
     let f = c.in-Some-first_too_early.ensures.found in
-    let whole : IsOrderOf kept order = (c.in-Ok.ensures.kept, λ n i. subst (In n) c.in-Ok.ensures.places (c.in_default.ensures.all n i)) in
+    let whole : IsOrderOf kept order = (c.in-Ok.ensures.kept, λ n i. rw c.in-Ok.ensures.places at c.in_default.ensures.all n i) in
     inr (c.in-Some-first_too_early.earlier, c.in-Some-first_too_early.later, refl, subst₂ (IsUnlawful kept order) f.2 f.3 (too_early whole f.4))
 
+pub returns-in-Some-first_too_early-clause-first : goal.returns-in-Some-first_too_early-clause-first
+returns-in-Some-first_too_early-clause-first c s rest begins none = let clash = c.in-Ok.ensures.first s rest begins none in cc
+
 pub returns-clause-ok : goal.returns-clause-ok
-returns-clause-ok c = ((c.in-Ok.ensures.kept, λ n i. subst (In n) c.in-Ok.ensures.places (c.in_default.ensures.all n i)), c.in-None.ensures.none)
+returns-clause-ok c = ((c.in-Ok.ensures.kept, λ n i. rw c.in-Ok.ensures.places at c.in_default.ensures.all n i), c.in-None.ensures.none)
+
+pub returns-clause-first : goal.returns-clause-first
+returns-clause-first c s rest begins none = let clash = c.in-Ok.ensures.first s rest begins none in cc

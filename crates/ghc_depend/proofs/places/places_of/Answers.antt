@@ -2,9 +2,8 @@ use Rattle.std.proofs.Common.{◌++◌, ◌∷◌, [], get_or, refl, sym, ap, �
 use Rattle.std.proofs.lemmas.List.{take_all}
 use Rattle.std.proofs.lemmas.Option.{slice_get-get_or}
 use Rattle.ghc_term.specs.Lists.{In}
-use Rattle.ghc_depend.specs.Lawful.{IsOfKept}
 use Rattle.ghc_depend.proofs.Causes.{at_split}
-use Rattle.ghc_depend.proofs.OrderWalks.{next_of_kept, is_wrong}
+use Rattle.ghc_depend.proofs.OrderWalks.{first_unkept, next_of_kept, is_wrong}
 use Rattle.ghc_depend.proofs.places.places_of.Goals as goal
 
 pub returns-in-Ok-false-clause-fault : goal.returns-in-Ok-false-clause-fault
@@ -13,14 +12,26 @@ returns-in-Ok-false-clause-fault c =
     let i = c.loop-number.number-index in
     let n = get_or order i 0 in
     let at = slice_get-get_or order i 0 c.loop-number-test.true in
-    inr (
-      n,
-      refl,
-      is_wrong c.args.records.now.held order i n at c.loop-number.invariant.kept (elim (c.in-Ok-false.ensures.wrong c.in-Ok-false.field-0-test) [
-        | inl none ↦ inl none
-        | inr there ↦ inr (subst (In n) c.loop-number.invariant.numbers there)
-      ]),
-    )
+    let wrong = is_wrong c.args.records.now.held order i n at c.loop-number.invariant.kept (elim (c.in-Ok-false.ensures.wrong c.in-Ok-false.field-0-test) [
+      | inl none ↦ inl none
+      | inr there ↦ inr (rw c.loop-number.invariant.numbers at there)
+    ]) in
+    inr (n, refl, wrong)
+
+pub returns-in-Ok-false-clause-first : goal.returns-in-Ok-false-clause-first
+returns-in-Ok-false-clause-first c s rest begins none =
+    let order = c.args.order.now in
+    let i = c.loop-number.number-index in
+    let first = first_unkept c.args.records.now.held order rest i (get_or order i 0) s (slice_get-get_or order i 0 c.loop-number-test.true) c.loop-number.invariant.kept begins none in
+    rw first refl
+
+pub returns-in-Err-clause-first : goal.returns-in-Err-clause-first
+returns-in-Err-clause-first c s rest begins none =
+    let order = c.args.order.now in
+    let i = c.loop-number.number-index in
+    let first = first_unkept c.args.records.now.held order rest i (get_or order i 0) s (slice_get-get_or order i 0 c.loop-number-test.true) c.loop-number.invariant.kept begins none in
+    let clash = c.in-Err.ensures.unkept (λ there. none (rw first at there)) in
+    cc
 
 pub loop-number-preserved : goal.loop-number-preserved
 loop-number-preserved c =
@@ -36,4 +47,9 @@ loop-number-preserved c =
     }
 
 pub returns-clause-kept : goal.returns-clause-kept
-returns-clause-kept c = subst (IsOfKept c.args.records.now.held) (take_all c.loop-number.number-index c.args.order.now (omega (arith, c.loop-number-test.false))) c.loop-number.invariant.kept
+returns-clause-kept c = rw (take_all c.loop-number.number-index c.args.order.now (omega (arith, c.loop-number-test.false))) at c.loop-number.invariant.kept
+
+pub returns-clause-first : goal.returns-clause-first
+returns-clause-first c s rest begins none =
+    let kept = rw (take_all c.loop-number.number-index c.args.order.now (omega (arith, c.loop-number-test.false))) at c.loop-number.invariant.kept in
+    absurd (none (kept.0 s (rw begins (inl refl))))

@@ -15,6 +15,5 @@ invariant_of-result c = record {
     λ l. absurd (not_both (looks c.new-3.result x g) (ap (λ m. looks m x g) c.new-3.ensures ∙ ap (λ o. set.contains (goals_in o) g) (finite.get-empty name_cmp x) ∙ set.contains-empty goal_cmp g) l),
     λ k. let clash : None ≡ Some k.0 = sym (finite.get-empty goal_cmp g) ∙ ap (λ m. finite.get m g) (sym c.new.ensures) ∙ k.1 in absurd (cc),
   );
-  awaits = λ g note there. let clash : None ≡ Some note = sym (finite.get-empty goal_cmp g) ∙ ap (λ m. finite.get m g) (sym c.new.ensures) ∙ there in absurd (cc);
   room = let none : finite.len c.new.result.held ≡ 0 = ap (λ m. finite.len m) c.new.ensures ∙ finite.len-empty goal_cmp Note in omega (arith, none);
 }

@@ -24,7 +24,7 @@ invariant_of-self-2 c =
     let reserved = c.in_ok-reserve-2.ensures.room in
     let kept = c.remove.ensures.room in
     fit_noted t.notes.held c.put.new.self.held t.untried c.remove.new.self t.looks c.add_all.new.self c.args.goal c.self.invariant c.args.note c.members.result.now (c.members.ensures.all ∙ c.looked.ensures)
-    (ap (λ v. set.contains v.untried c.args.goal) c.self.view_is ∙ c.requires) c.waits_for_what_it_looked_at.ensures (c.put.ensures ∙ ap (λ m. finite.insert m c.args.goal c.args.note) c.reserve.ensures.held)
+    (ap (λ v. set.contains v.untried c.args.goal) c.self.view_is ∙ c.requires) (c.put.ensures ∙ ap (λ m. finite.insert m c.args.goal c.args.note) c.reserve.ensures.held)
     (c.remove.ensures.held ∙ ap (λ s. set.remove s c.args.goal) c.reserve-2.ensures.held) (omega (arith, count, reserved, kept)) c.in_ok-add_all.ensures.ok
 
 pub returns-clause-room : goal.returns-clause-room
