@@ -1,0 +1,7 @@
+pub mod Moves
+pub mod Extended
+pub mod Keeping
+pub mod Newcomers
+pub mod PlacesOnce
+pub mod Crosses
+pub mod ExclusiveCrosses

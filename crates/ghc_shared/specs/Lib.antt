@@ -1,0 +1,7 @@
+pub mod Logs
+pub mod Rule
+pub mod Passes
+pub mod Receipts
+pub mod Places
+pub mod Openings
+pub mod Numbers

@@ -1,0 +1,39 @@
+// Values that can be shared.
+ghost use Rattle.std.specs.Prelude.{◌≡◌, List, Option, None, length};
+ghost use Rattle.ghc_shared.specs.Receipts.{AddsIfAccepted};
+
+use std::alloc::Global;
+
+/// A value that tells a list, its history, which only grows.
+pub trait Growing {
+    /// What the history consists of.
+    type Item;
+
+    /// What is asked of the value.
+    type Ask: Drop;
+
+    /// What is replied to it.
+    type Reply: Drop;
+
+    /// The history: how the value began, and behind it an item for each accepted call, in their order.
+    ghost history: { Self → List Self.Item };
+
+    /// The history is one that can be.
+    ghost legal: { List Self.Item → Type 0 };
+
+    /// What may be replied to a call behind these items: with the item that it adds, where it is accepted, and else with none.
+    ghost answers: { List Self.Item → Self.Ask → Self.Reply → Option Self.Item → Type 0 };
+
+    /// The reply to a call for which there is no memory. It takes none.
+    fn no_memory(&self, ask: &Self::Ask) -> Self::Reply
+        ensures { answers (history self.now) ask.now result None };
+
+    /// How many items the history has. It is asked twice in each call, so it should cost no more than a look.
+    fn len(&self) -> u64
+        ensures length { result ≡ length (history self.now) }
+        ensures legal { legal (history self.now) };
+
+    /// Makes a call, and says beside the reply whether it was accepted. Where memory is refused, so is the call.
+    fn call(&mut self, alloc: Global, ask: Self::Ask) -> (Self::Reply, bool)
+        ensures { AddsIfAccepted answers result.1 (history self.old) (history self.new) ask result.0 };
+}

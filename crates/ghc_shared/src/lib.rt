@@ -1,0 +1,27 @@
+//! A value behind one lock that tells a history which only grows, and passes, each of which knows how that history began.
+#![tactic(auto)]
+
+mod closing;
+mod exclusive;
+mod growing;
+mod keeper;
+mod knowledge;
+mod locked;
+mod naming;
+mod opening;
+mod pass;
+mod receipt;
+mod shared;
+mod tending;
+
+pub use growing::Growing;
+pub use knowledge::Knowledge;
+pub use naming::Naming;
+pub use opening::Opening;
+pub use pass::Pass;
+pub use receipt::Receipt;
+pub use shared::Shared;
+pub use tending::{Tender, tend_all};
+
+#[cfg(test)]
+mod tests;

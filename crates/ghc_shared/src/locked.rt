@@ -1,0 +1,148 @@
+// What lies behind the lock: the value, with the keeper's seat and the book.
+ghost use Rattle.std.specs.Prelude.{◌≡◌, ◌⊎◌, IsTrue};
+ghost use mathlib.Core.List.{IsPrefix};
+ghost use Rattle.ghc_shared.specs.Receipts.{AddsIfAccepted, IsDecided};
+
+use crate::exclusive::Exclusive;
+use crate::growing::Growing;
+use crate::keeper::catch_up;
+use crate::knowledge::{Copied, HistorySeat, HistoryTable};
+use crate::naming::Naming;
+use crate::pass::Pass;
+use crate::receipt::Receipt;
+use std::alloc::Global;
+use std::marker::Model;
+use std::sync::ledger::Book;
+
+// The keeper's seat, and the book that counts the accepted calls of all passes.
+#[derive(Drop)]
+pub(crate) struct Held<C: Growing, N: Naming> {
+    pub(crate) seat: HistorySeat<C>,
+    pub(crate) book: Book<N>,
+}
+
+// The value, with the keeper's seat and the book. Contracts see the value. Under the read side the seat and the book are out of
+// reach; they are there whenever the lock is free.
+#[derive(Drop)]
+pub(crate) struct Locked<C: Growing, N: Naming> {
+    pub(crate) value: C,
+    pub(crate) held: Exclusive<Option<Held<C, N>>>,
+}
+
+impl<C: Growing, N: Naming> Model for Locked<C, N> {
+    ghost use Rattle.std.specs.Prelude.{◌≡◌, MatchOption};
+    ghost use Rattle.ghc_shared.specs.Passes.{IsKeeper};
+
+    ghost Value = { C };
+
+    ghost view = { λ l. l.value };
+
+    ghost invariant = { λ l. MatchOption l.held ⊥ (λ h. (h.seat.table_id ≡ N.table) × IsKeeper N.base N.passes (C.history l.value) h.seat.me h.book.total) };
+}
+
+impl<C: Growing, N: Naming> Locked<C, N> {
+    // The pass sees the whole history.
+    pub(crate) fn look(&mut self, table: &HistoryTable<C>, me: &mut Pass<C, N>)
+        requires { (table.now.shared.table_id ≡ N.table) × (N.table.words ≡ 1) }
+        ensures value { self.new ≡ self.old }
+        ensures begins { IsPrefix me.old.front me.new.front }
+        ensures front { me.new.front ≡ C.history self.old }
+        ensures legal { C.legal me.new.front }
+        ensures same { (me.new.number ≡ me.old.number) × (me.new.places ≡ me.old.places) }
+    {
+        let count = self.value.len();
+        let Some(mut kept) = self.held.replace(None) else {
+            unreachable!()
+        };
+        let claim = table.shared.split_seat::<Copied>(&mut me.seat);
+        me.seat = catch_up(
+            table,
+            &mut kept.seat,
+            claim,
+            &self.value,
+            me.number,
+            count,
+            count,
+        );
+        drop(self.held.replace(Some(kept)));
+    }
+
+    // Makes the call, and the pass sees the whole history behind it.
+    pub(crate) fn call(
+        &mut self,
+        table: &HistoryTable<C>,
+        alloc: Global,
+        me: &mut Pass<C, N>,
+        ask: C::Ask,
+    ) -> Receipt<C::Reply>
+        requires { (table.now.shared.table_id ≡ N.table) × (N.table.words ≡ 1) }
+        ensures begins { IsPrefix me.old.front me.new.front }
+        ensures number { me.new.number ≡ me.old.number }
+        ensures legal { C.legal me.new.front }
+        ensures front { me.new.front ≡ C.history self.new }
+        ensures decided { IsDecided C.answers (C.history self.old) ask result me.old me.new }
+    {
+        let room = me.places.reserve(1).is_ok();
+        let place = self.value.len();
+        let (reply, accepted) = call_with(&mut self.value, alloc, ask, room);
+        let count = self.value.len();
+        let Some(mut kept) = self.held.replace(None) else {
+            unreachable!()
+        };
+        let claim = table.shared.split_seat::<Copied>(&mut me.seat);
+        me.seat = catch_up(
+            table,
+            &mut kept.seat,
+            claim,
+            &self.value,
+            me.number,
+            place,
+            count,
+        );
+        if !accepted {
+            drop(self.held.replace(Some(kept)));
+            return Receipt {
+                place,
+                accepted,
+                reply,
+            };
+        }
+        kept.book.add(&mut me.share, 1);
+        me.places.push_reserved(place);
+        drop(self.held.replace(Some(kept)));
+        Receipt {
+            place,
+            accepted,
+            reply,
+        }
+    }
+
+    // Both passes see the whole history.
+    pub(crate) fn meet(
+        &mut self,
+        table: &HistoryTable<C>,
+        me: &mut Pass<C, N>,
+        you: &mut Pass<C, N>,
+    )
+        requires { (table.now.shared.table_id ≡ N.table) × (N.table.words ≡ 1) }
+        ensures one { IsPrefix me.old.front you.old.front ⊎ IsPrefix you.old.front me.old.front }
+        ensures same { me.new.front ≡ you.new.front }
+        ensures mine { IsPrefix me.old.front me.new.front × (me.new.number ≡ me.old.number) × (me.new.places ≡ me.old.places) }
+        ensures yours { IsPrefix you.old.front you.new.front × (you.new.number ≡ you.old.number) × (you.new.places ≡ you.old.places) }
+        ensures legal { C.legal me.new.front }
+    {
+        self.look(table, me);
+        self.look(table, you);
+    }
+}
+
+// Makes the call, or refuses it where there is no room for its place.
+fn call_with<C: Growing>(value: &mut C, alloc: Global, ask: C::Ask, room: bool) -> (C::Reply, bool)
+    ensures call { AddsIfAccepted C.answers result.1 (C.history value.old) (C.history value.new) ask result.0 }
+    ensures room { IsTrue result.1 → IsTrue room }
+{
+    if !room {
+        return (value.no_memory(&ask), false);
+    }
+    value.call(alloc, ask)
+}
