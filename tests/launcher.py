@@ -28,6 +28,7 @@ RT = """#!/usr/bin/env bash
 here=$(basename "$PWD")
 echo "rt $* in $here" >> "$ASKED"
 echo "what rt says of $here"
+[ "$here" != "${LONG:-}" ] || printf '%s\\n' 'so far: 0 of 9 functions checked; the verdict comes last' 'so far: 5 of 9 functions checked'
 [ "$here" != "${REFUSED:-}" ] || exit 1
 [ "$1" = lib ] || { mkdir -p out; cp "$STUB" out/ghcdb; }
 """
@@ -65,11 +66,11 @@ class Copy:
         path.write_text(text)
         path.chmod(0o755)
 
-    def run(self, *words, path=("rt", "rlwrap"), refused="", terminal="xterm", **streams):
+    def run(self, *words, path=("rt", "rlwrap"), refused="", long="", terminal="xterm", **streams):
         """What the launcher writes to pipes, and its status; `streams` puts others in the place of pipes."""
         places = [str(self.folder / "bin" / name) for name in ("tools", *path)]
         known = {"PATH": ":".join(places), "ASKED": str(self.folder / "asked"), "STUB": str(self.folder / "stub")}
-        known |= {"REFUSED": refused, "TERM": terminal}
+        known |= {"REFUSED": refused, "LONG": long, "TERM": terminal}
         streams = {"stdin": subprocess.DEVNULL, "stdout": subprocess.PIPE, "stderr": subprocess.PIPE} | streams
         ended = subprocess.run([self.folder / "ghcdb", *words], env=known, timeout=SECONDS, text=True, **streams)
         return ended.stdout, ended.stderr, ended.returncode
@@ -106,8 +107,12 @@ def cases(copy):
     third = copy.crates[2]
     said = f"what rt says of {third}\nghcdb: {third} was not proved: see above\n"
     yield "a crate is refused", copy.run("a", refused=third), ("", begin + "".join(told[:3]) + said, 70)
+    parts = [f"ghcdb: proving {third}: {done} of 9 functions done\n" for done in (0, 5)]
+    spoken = "".join(f"so far: {done} of 9 functions checked{more}\n" for done, more in ((0, "; the verdict comes last"), (5, "")))
+    said = f"what rt says of {third}\n{spoken}ghcdb: {third} was not proved: see above\n"
+    yield "a long proof is refused", copy.run("a", refused=third, long=third), ("", begin + "".join(told[:3] + parts) + said, 70)
     (copy.folder / "asked").unlink()
-    yield "it builds, crate by crate", copy.run("a", "b c"), (written, begin + "".join(told), 3)
+    yield "it builds, crate by crate", copy.run("a", "b c", long=third), (written, begin + "".join(told[:3] + parts + told[3:]), 3)
     asked = [f"rt lib in {name}\n" for name in copy.crates[:-1]] + [f"rt run -- --help in {copy.crates[-1]}\n"]
     yield "what it asked of rt", (copy.folder / "asked").read_text(), "".join(asked)
     yield "it does not build again", copy.run("a", "b c", path=()), (written, "", 3)

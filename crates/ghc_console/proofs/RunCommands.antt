@@ -23,10 +23,10 @@ line_answered s t line text ends short h = subst (IsReply s line text t) h.1 (re
 line_answered s t line text (ran report) short h = λ lines are. subst (IsReply s line lines t) h.1 (replies short (h.0 lines are))
 
 -- Where no goal is found the refusal is the reply,
-pub skip_refused : (spies : Spies) (w : World) (g : GoalName) (limit : ℕ) (o : Option (Bor Goal)) (text : List ℕ) → is_some o ≡ false → option_copied o ≡ finite.get w.state.goals g → text ≡ refusal fault.NoGoal
-    → RepliesToSkip spies w g limit text w
-skip_refused spies w g limit None text empty there said = subst (λ t. RepliesToSkip spies w g limit t w) (sym said) (no_goal (sym there))
-skip_refused spies w g limit (Some b) text empty there said = let clash : true ≡ false = empty in cc
+pub skip_refused : (spies : Spies) (w : World) (g : GoalName) (o : Option (Bor Goal)) (text : List ℕ) → is_some o ≡ false → option_copied o ≡ finite.get w.state.goals g → text ≡ refusal fault.NoGoal
+    → RepliesToSkip spies w g text w
+skip_refused spies w g None text empty there said = subst (λ t. RepliesToSkip spies w g t w) (sym said) (no_goal (sym there))
+skip_refused spies w g (Some b) text empty there said = let clash : true ≡ false = empty in cc
 
 -- and else there is one.
 pub goal_there : (w : World) (g : GoalName) (o : Option (Bor Goal)) → is_some o ≡ true → option_copied o ≡ finite.get w.state.goals g → (b : Goal) × (finite.get w.state.goals g ≡ Some b)

@@ -35,7 +35,7 @@ pub fires_nothing : (c : LineCommand) (m n : ℕ) → n ≡ m → Fires c m n
 fires_nothing (Step goal choice) m n e = inl e
 fires_nothing (Obey c) m n e = obeys_nothing (core_command_of c) m n e
 fires_nothing (Leap limit) m n e = tt
-fires_nothing (Skip goal limit) m n e = tt
+fires_nothing (Skip goal) m n e = tt
 fires_nothing Nothing m n e = e
 fires_nothing (Show word) m n e = e
 fires_nothing Records m n e = e
@@ -56,7 +56,7 @@ fires_few (Step goal choice) m n none (inl e) = omega (arith, e)
 fires_few (Step goal choice) m n none (inr e) = omega (arith, e)
 fires_few (Obey c) m n none fires = obeys_few (core_command_of c) m n fires
 fires_few (Leap limit) m n none e = absurd (omega (arith, none))
-fires_few (Skip goal limit) m n none e = absurd (omega (arith, none))
+fires_few (Skip goal) m n none e = absurd (omega (arith, none))
 fires_few Nothing m n none e = omega (arith, e)
 fires_few (Show word) m n none e = omega (arith, e)
 fires_few Records m n none e = omega (arith, e)

@@ -28,15 +28,10 @@ run_limit = 1000000
 abbrev pub leap_of : ℕ → LineCommand
 leap_of limit = if limit == 0 then Unknown else Leap limit
 
--- A run of at most so many steps, which are one or more, of the goals that descend from the goal.
-abbrev pub skip_of : GoalName → ℕ → LineCommand
-skip_of goal limit = if limit == 0 then Unknown else Skip goal limit
-
--- The same, where the words said both.
-abbrev pub skip_by : Option GoalName → Option ℕ → LineCommand
-skip_by (Some goal) (Some limit) = skip_of goal limit
-skip_by (Some goal) None = Unknown
-skip_by None limit = Unknown
+-- A run of the goals that descend from the goal, where the word named one.
+abbrev pub skip_with : Option GoalName → LineCommand
+skip_with (Some goal) = Skip goal
+skip_with None = Unknown
 
 -- The command of a word alone: `records`, `goals`, `shelf`, `save`, `leap` or `quit`.
 abbrev pub command_of_one_word : List ℕ → LineCommand
@@ -79,15 +74,14 @@ unspy_with None = Unknown
 -- The command of a word and one more: `step G` or `skip G`, one with a predicate, or one with a variable or a number.
 abbrev pub command_of_two_words : List ℕ → List ℕ → LineCommand
 command_of_two_words name word = if bytes_eq name (codes "step") then step_with (goal_name_of word)
-    else (if bytes_eq name (codes "skip") then skip_by (goal_name_of word) (Some run_limit)
+    else (if bytes_eq name (codes "skip") then skip_with (goal_name_of word)
     else (if bytes_eq name (codes "spy") then spy_with (predicate_of word)
     else (if bytes_eq name (codes "nospy") then unspy_with (predicate_of word)
     else (if is_variable word then command_with_variable name word else numbered name (number_of word)))))
 
--- The command of a word and two more: `step G C` or `skip G K`.
+-- The command of a word and two more: `step G C`.
 abbrev pub command_of_three_words : List ℕ → List ℕ → List ℕ → LineCommand
-command_of_three_words name goal number = if bytes_eq name (codes "step") then step_by (goal_name_of goal) (number_of number)
-    else (if bytes_eq name (codes "skip") then skip_by (goal_name_of goal) (number_of number) else Unknown)
+command_of_three_words name goal number = if bytes_eq name (codes "step") then step_by (goal_name_of goal) (number_of number) else Unknown
 
 -- The command of a word and those behind it, by how many these are.
 abbrev pub command_by_count : List ℕ → List (List ℕ) → LineCommand

@@ -21,7 +21,7 @@ abbrev pub Fires : LineCommand → ℕ → ℕ → Type 0
 Fires (Step goal choice) old new = (new ≡ old) ⊎ (new ≡ one_more old)
 Fires (Obey c) old new = FiresInObeying (core_command_of c) old new
 Fires (Leap limit) old new = Unit {0}
-Fires (Skip goal limit) old new = Unit {0}
+Fires (Skip goal) old new = Unit {0}
 Fires Nothing old new = new ≡ old
 Fires (Show word) old new = new ≡ old
 Fires Records old new = new ≡ old
@@ -50,7 +50,7 @@ abbrev pub firings_of : LineCommand → ℕ
 firings_of (Step goal choice) = 1
 firings_of (Obey c) = firings_of_obeying (core_command_of c)
 firings_of (Leap limit) = 0
-firings_of (Skip goal limit) = 0
+firings_of (Skip goal) = 0
 firings_of Nothing = 0
 firings_of (Show word) = 0
 firings_of Records = 0
@@ -68,7 +68,7 @@ firings_of Unknown = 0
 -- how many runs a command asks for
 abbrev pub runs_of : LineCommand → ℕ
 runs_of (Leap limit) = 1
-runs_of (Skip goal limit) = 1
+runs_of (Skip goal) = 1
 runs_of c = 0
 
 -- how many runs the lines of an input ask for

@@ -176,7 +176,7 @@ Replies spies w (spy f n) text v = RepliesToSpy w.opening.program f n text × (v
 Replies spies w (unspy f n) text v = (text ≡ lined (codes "not spying " ++ predicate_text f n)) × (v ≡ w)
 Replies spies w (input k given) text v = RepliesToInput w k given text v
 Replies spies w (leap limit) text v = TellsRun spies None limit w text v
-Replies spies w (skip g limit) text v = RepliesToSkip spies w g limit text v
+Replies spies w (skip g) text v = RepliesToSkip spies w g text v
 Replies spies w quit text v = (text ≡ []) × (v ≡ w)
 Replies spies w unknown text v = (text ≡ refusal Fault.Command) × (v ≡ w)
 
@@ -196,7 +196,7 @@ quits (spy f n) = false
 quits (unspy f n) = false
 quits (input k given) = false
 quits (leap limit) = false
-quits (skip g limit) = false
+quits (skip g) = false
 quits quit = true
 quits unknown = false
 

@@ -16,6 +16,7 @@ use Rattle.ghc_pool.specs.declared.stop.Stop.{Stop}
 use Rattle.ghc_pool.specs.declared.stop.Stop.TheVariants.{Quiet as quiet, Spied as spied, Clash as clash, Limit as at_limit, Full as full, Memory as memory}
 use Rattle.ghc_pool.specs.declared.stop.Report.{Report}
 use Rattle.ghc_pool.specs.Runs.{Runs}
+use Rattle.ghc_console.specs.Commands.{run_limit}
 use Rattle.ghc_console.specs.TextLines.{lined, refusal}
 
 -- the line of a step: its first port, which says that it is taken
@@ -55,10 +56,10 @@ pub record TellsRun (spies : Spies) (root : Option GoalName) (limit : ℕ) (w : 
   pub run : Runs (Unit {0}) spies root limit w v notes report
   pub told : AreTold (run_lines run.steps report.stop) text
 
--- RepliesToSkip spies w g limit text v: the goal named g is there, and the text tells a run of the goals that descend from it; or it is the refusal, where no such goal is there.
-pub data RepliesToSkip (spies : Spies) (w : World) (g : GoalName) (limit : ℕ) : List ℕ → World → Type 0 where
-  skips : (b : Goal) {text : List ℕ} {v : World} → finite.get w.state.goals g ≡ Some b → TellsRun spies (Some g) limit w text v → RepliesToSkip spies w g limit text v
-  no_goal : finite.get w.state.goals g ≡ None → RepliesToSkip spies w g limit (refusal Fault.NoGoal) w
+-- RepliesToSkip spies w g text v: the goal named g is there, and the text tells a run of the goals that descend from it, with the limit of a run for which no number is said; or it is the refusal, where no such goal is there.
+pub data RepliesToSkip (spies : Spies) (w : World) (g : GoalName) : List ℕ → World → Type 0 where
+  skips : (b : Goal) {text : List ℕ} {v : World} → finite.get w.state.goals g ≡ Some b → TellsRun spies (Some g) run_limit w text v → RepliesToSkip spies w g text v
+  no_goal : finite.get w.state.goals g ≡ None → RepliesToSkip spies w g (refusal Fault.NoGoal) w
 
 -- the last of the records, so many of them
 abbrev pub last_of : ℕ → List Record → List Record

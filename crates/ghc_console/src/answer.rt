@@ -63,7 +63,7 @@ fn tell(
             input(alloc, &mut debugger.core, *stream, text.as_slice(), reply)
         }
         LineCommand::Unknown => refused(&Fault::Command, reply),
-        LineCommand::Leap(_) | LineCommand::Skip(_, _) => unreachable!(),
+        LineCommand::Leap(_) | LineCommand::Skip(_) => unreachable!(),
     }
 }
 
@@ -86,9 +86,9 @@ fn execute(
             let report = leap(alloc, &mut debugger.core, &debugger.spies, None, *limit);
             Ok(Answered::Ran(report))
         }
-        LineCommand::Skip(goal, limit) => {
+        LineCommand::Skip(goal) => {
             let Debugger { core, spies } = debugger;
-            skip(alloc, core, spies, *goal, *limit, reply)
+            skip(alloc, core, spies, *goal, reply)
         }
         LineCommand::Quit => Ok(Answered::Ends),
         _ => match tell(alloc, debugger, command, reply) {

@@ -2,7 +2,7 @@
 ghost use Rattle.std.specs.Prelude.{◌≡◌, true, IfOk};
 ghost use Rattle.std.specs.List.{list_all};
 ghost use Rattle.ghc_console.specs.Words.{behind, is_printable, is_variable, numbers_of, words_of};
-ghost use Rattle.ghc_console.specs.Commands.{arrange_with, command_by_count, command_of, command_of_one_word, command_of_three_words, command_of_two_words, command_of_words, command_with_number, command_with_variable, input_to, leap_of, run_limit, skip_by, skip_of};
+ghost use Rattle.ghc_console.specs.Commands.{arrange_with, command_by_count, command_of, command_of_one_word, command_of_three_words, command_of_two_words, command_of_words, command_with_number, command_with_variable, input_to, leap_of, run_limit};
 
 use crate::input_text::InputText;
 use crate::predicate_words::{spy_command, unspy_command};
@@ -12,8 +12,8 @@ use ghc_core::{Command, Order};
 use ghc_term::{GoalName, Name};
 use std::alloc::{AllocError, Global};
 
-// The most steps of a run, where a line says no number.
-const RUN_LIMIT: u32 = 1_000_000;
+/// The most steps of a run, where a line says no number.
+pub(crate) const RUN_LIMIT: u32 = 1_000_000;
 
 /// What a line asks for.
 #[derive(Drop)]
@@ -46,8 +46,8 @@ pub enum LineCommand {
     Input(u32, InputText),
     /// A run of as many steps as this at most.
     Leap(u32),
-    /// A run of as many steps as this at most, of the goals that descend from this one.
-    Skip(GoalName, u32),
+    /// A run of the goals that descend from this one.
+    Skip(GoalName),
     /// The end of the session.
     Quit,
     /// No command that is known.
@@ -62,19 +62,6 @@ fn leap_command(limit: u32) -> LineCommand
         return LineCommand::Unknown;
     }
     LineCommand::Leap(limit)
-}
-
-// The same of the goals that descend from a goal, where both are there.
-fn skip_command(goal: Option<GoalName>, limit: Option<u32>) -> LineCommand
-    ensures { result ≡ skip_by goal limit }
-{
-    let (Some(goal), Some(limit)) = (goal, limit) else {
-        return LineCommand::Unknown;
-    };
-    if limit == 0 {
-        return LineCommand::Unknown;
-    }
-    LineCommand::Skip(goal, limit)
 }
 
 // The command of a word alone.
@@ -171,7 +158,10 @@ fn two_word_command(
         };
     }
     if first_word == b"skip".as_slice() {
-        return Ok(skip_command(goal_name(word), Some(RUN_LIMIT)));
+        return match goal_name(word) {
+            Some(goal) => Ok(LineCommand::Skip(goal)),
+            None => Ok(LineCommand::Unknown),
+        };
     }
     if first_word == b"spy".as_slice() {
         return spy_command(alloc, word);
@@ -197,9 +187,6 @@ fn three_word_command(first_word: &[u8], goal: &[u8], word: &[u8]) -> LineComman
             (Some(goal), Some(clause)) => LineCommand::Step(goal, Some(clause)),
             _ => LineCommand::Unknown,
         };
-    }
-    if first_word == b"skip".as_slice() {
-        return skip_command(goal_name(goal), number(word));
     }
     LineCommand::Unknown
 }

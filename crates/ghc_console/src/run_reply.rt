@@ -4,6 +4,7 @@ ghost use Rattle.ghc_console.specs.RunReplies.{AreTold, IsAdded, TellsRun, last_
 ghost use Rattle.ghc_console.specs.Answered.{HasAdded, IsSkippedBy};
 
 use crate::answered::Answered;
+use crate::command::RUN_LIMIT;
 use crate::reply::refused;
 use ghc_core::Core;
 use ghc_pool::{Report, run, runs_add_at_the_end};
@@ -30,18 +31,17 @@ pub fn leap(
     run(core, alloc, spies, root, limit as usize)
 }
 
-/// Runs the goals that descend from the goal, where it is there; or writes its refusal, which changes nothing. It costs a look-up,
-/// and what the run costs.
+/// Runs the goals that descend from the goal, where it is there, with the limit of a run for which no number is said; or writes
+/// its refusal, which changes nothing. It costs a look-up, and what the run costs.
 pub fn skip(
     alloc: Global,
     core: &mut Core,
     spies: &SpySet,
     goal: GoalName,
-    limit: u32,
     reply: &mut String,
 ) -> Result<Answered, AllocError>
     requires { string_bytes reply.old ≡ [] }
-    ensures told { IfOk result (IsSkippedBy spies.now core.old.world goal limit (string_bytes reply.new) core.new.world) }
+    ensures told { IfOk result (IsSkippedBy spies.now core.old.world goal (string_bytes reply.new) core.new.world) }
     ensures added { IfOk result (HasAdded core.new.world) }
     ensures err { OnErr result (core.new.world ≡ core.old.world) }
     ensures opening { core.new.world.opening ≡ core.old.world.opening }
@@ -52,5 +52,5 @@ pub fn skip(
             Err(error) => Err(error),
         };
     }
-    Ok(Answered::Ran(leap(alloc, core, spies, Some(goal), limit)))
+    Ok(Answered::Ran(leap(alloc, core, spies, Some(goal), RUN_LIMIT)))
 }

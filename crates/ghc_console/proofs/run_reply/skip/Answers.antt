@@ -6,7 +6,7 @@ use Rattle.ghc_console.proofs.run_reply.skip.Goals as goal
 
 pub returns-in-Ok-clause-told : goal.returns-in-Ok-clause-told
 returns-in-Ok-clause-told c =
-    skip_refused c.args.spies.now c.args.core.now.world c.args.goal c.args.limit c.get.result _ (c.is_none.ensures ∙ ap not c.if-is_none.true)
+    skip_refused c.args.spies.now c.args.core.now.world c.args.goal c.get.result _ (c.is_none.ensures ∙ ap not c.if-is_none.true)
     (c.get.ensures ∙ ap (λ goals. finite.get goals c.args.goal) c.goals.ensures) c.in-Ok.ensures.text
 
 pub returns-clause-told : goal.returns-clause-told
