@@ -41,7 +41,7 @@ impl Model for Note {
 
 impl Note {
     ghost use Rattle.ghc_term.specs.declared.var_name.VarName.{VarName};
-    ghost use Rattle.ghc_hooks.specs.Verdict.{status_of, awaits, AwaitsWhatItLooksAt};
+    ghost use Rattle.ghc_hooks.specs.Verdict.{status_of, AwaitsWhatItLooksAt};
 
     /// The note of a goal that can be reduced and looked at these variables.
     pub fn ready(looked: Variables) -> Note
@@ -96,15 +96,5 @@ impl Note {
         ensures { result.now ≡ self.now.looked }
     {
         &self.looked
-    }
-
-    /// Whether the goal waits for the variable: one look-up.
-    pub fn awaits(&self, x: VarName) -> bool
-        ensures { result ≡ awaits self.now.status x }
-    {
-        match &self.verdict {
-            Verdict::Waiting(awaited) => awaited.contains(x),
-            _ => false,
-        }
     }
 }
