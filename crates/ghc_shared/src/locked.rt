@@ -1,5 +1,5 @@
 // What lies behind the lock: the value, with the keeper's seat and the book.
-ghost use Rattle.std.specs.Prelude.{◌≡◌, ◌⊎◌, IsTrue};
+ghost use Rattle.std.specs.Prelude.{◌≡◌, ◌⊎◌, IsTrue, length};
 ghost use mathlib.Core.List.{IsPrefix};
 ghost use Rattle.ghc_shared.specs.Receipts.{AddsIfAccepted, IsDecided};
 
@@ -83,9 +83,8 @@ impl<C: Growing, N: Naming> Locked<C, N> {
         ensures decided { IsDecided C.answers (C.history self.old) ask result me.old me.new }
     {
         let room = me.places.reserve(1).is_ok();
-        let place = self.value.len();
-        let (reply, accepted) = call_with(&mut self.value, alloc, ask, room);
-        let count = self.value.len();
+        let (receipt, count) = call_with(&mut self.value, alloc, ask, room);
+        let (place, accepted) = (receipt.place, receipt.accepted);
         let Some(mut kept) = self.held.replace(None) else {
             unreachable!()
         };
@@ -101,20 +100,12 @@ impl<C: Growing, N: Naming> Locked<C, N> {
         );
         if !accepted {
             drop(self.held.replace(Some(kept)));
-            return Receipt {
-                place,
-                accepted,
-                reply,
-            };
+            return receipt;
         }
         kept.book.add(&mut me.share, 1);
         me.places.push_reserved(place);
         drop(self.held.replace(Some(kept)));
-        Receipt {
-            place,
-            accepted,
-            reply,
-        }
+        receipt
     }
 
     // Both passes see the whole history.
@@ -136,13 +127,34 @@ impl<C: Growing, N: Naming> Locked<C, N> {
     }
 }
 
-// Makes the call, or refuses it where there is no room for its place.
-fn call_with<C: Growing>(value: &mut C, alloc: Global, ask: C::Ask, room: bool) -> (C::Reply, bool)
-    ensures call { AddsIfAccepted C.answers result.1 (C.history value.old) (C.history value.new) ask result.0 }
-    ensures room { IsTrue result.1 → IsTrue room }
+// Makes the call, or refuses it where there is no room for its place; gives its receipt, and how many items the history has then.
+fn call_with<C: Growing>(
+    value: &mut C,
+    alloc: Global,
+    ask: C::Ask,
+    room: bool,
+) -> (Receipt<C::Reply>, u64)
+    ensures place { result.0.place ≡ length (C.history value.old) }
+    ensures call { AddsIfAccepted C.answers result.0.accepted (C.history value.old) (C.history value.new) ask result.0.reply }
+    ensures room { IsTrue result.0.accepted → IsTrue room }
+    ensures count { result.1 ≡ length (C.history value.new) }
+    ensures legal { C.legal (C.history value.new) }
 {
+    let place = value.len();
     if !room {
-        return (value.no_memory(&ask), false);
+        let reply = value.no_memory(&ask);
+        let receipt = Receipt {
+            place,
+            accepted: false,
+            reply,
+        };
+        return (receipt, place);
     }
-    value.call(alloc, ask)
+    let (reply, accepted) = value.call(alloc, ask);
+    let receipt = Receipt {
+        place,
+        accepted,
+        reply,
+    };
+    (receipt, value.len())
 }
