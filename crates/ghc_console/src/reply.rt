@@ -3,6 +3,7 @@ ghost use Rattle.std.specs.Prelude.{◌≡◌, ◌≢◌, ◌⊎◌, ◌++◌, [
 ghost use Rattle.ghc_fire.specs.Meter.{one_more};
 ghost use Rattle.ghc_records.specs.Replay.{MakesGoal};
 ghost use Rattle.ghc_depend.specs.Depend.{Binds};
+ghost use Rattle.ghc_core.specs.Settling.{AreKept};
 ghost use Rattle.ghc_trace.specs.Disturbed.{AreDisturbed};
 ghost use Rattle.ghc_trace.specs.Laws.{IsSettled};
 ghost use Rattle.ghc_trace.specs.Ports.{Port, ArePorts};
@@ -144,6 +145,7 @@ pub fn goals(alloc: Global, core: &mut Core, reply: &mut String) -> Result<(), A
     requires { string_bytes reply.old ≡ [] }
     ensures text { OnOk result (RepliesToGoals core.old.world (string_bytes reply.new)) }
     ensures world { core.new.world ≡ core.old.world }
+    ensures kept { AreKept core.old.notes core.new.notes }
     ensures firings { core.new.meter.firings ≡ core.old.meter.firings }
 {
     settle(alloc, core)?;

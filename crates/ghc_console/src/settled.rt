@@ -17,12 +17,12 @@ use std::alloc::{AllocError, Global};
 // The line that stands where memory was refused for what is stuck.
 const UNTOLD: &str = "F1 no memory\n";
 
-/// Tries each goal that is untried; then none is. Where memory is refused the goals that were not reached stay untried. It
-/// costs the tries: nothing, where no goal is untried.
+/// Tries each goal that is untried; then none is. Where memory is refused the goals that were not reached stay untried, and the
+/// notes that were made stay. It costs the tries: nothing, where no goal is untried.
 pub fn settle(alloc: Global, core: &mut Core) -> Result<(), AllocError>
     ensures world { core.new.world ≡ core.old.world }
     ensures settled { OnOk result (IsSettled core.new.world core.new.notes) }
-    ensures kept { OnOk result (AreKept core.old.notes core.new.notes) }
+    ensures kept { AreKept core.old.notes core.new.notes }
     ensures firings { core.new.meter.firings ≡ core.old.meter.firings }
 {
     core.settle(alloc)?;
@@ -38,6 +38,7 @@ fn push_stuck(
     reply: &mut String,
 ) -> Result<(), AllocError>
     ensures world { core.new.world ≡ core.old.world }
+    ensures kept { AreKept core.old.notes core.new.notes }
     ensures firings { core.new.meter.firings ≡ core.old.meter.firings }
     ensures told { OnOk result ((w : World) (change : change_spec) (notes : NotesByGoal) → IsJustChanged w change notes core.old.world core.old.notes disturbed.now
         → Settled w core.new.world (string_bytes reply.old) (string_bytes reply.new)) }
@@ -57,6 +58,7 @@ fn push_stuck(
 fn tell_stuck(alloc: Global, core: &mut Core, disturbed: &Disturbed, reply: &mut String)
     requires room { string_len reply.old + length UNTOLD.now ≤ string_capacity reply.old }
     ensures world { core.new.world ≡ core.old.world }
+    ensures kept { AreKept core.old.notes core.new.notes }
     ensures firings { core.new.meter.firings ≡ core.old.meter.firings }
     ensures told { (w : World) (change : change_spec) (notes : NotesByGoal) → IsJustChanged w change notes core.old.world core.old.notes disturbed.now
         → Settled w core.new.world (string_bytes reply.old) (string_bytes reply.new) }

@@ -12,10 +12,10 @@ use Rattle.ghc_flat.specs.Checked.{HasClause, AreMadeOf, IsProgramFault, IsFault
 use Rattle.ghc_flat.proofs.Faults.{program_once, fault_once, accepted_no_fault, first_fault_no}
 use Rattle.ghcdb.specs.declared.refusal.Refusal.{Refusal}
 use Rattle.ghcdb.specs.declared.start.Started.{Started}
-use Rattle.ghcdb.specs.Start.{IsStarted, AreRead, IsOutOfMemory, IsStartRefusal, of_program, of_query, of_clauses, of_calls, StartIsExact, told_of}
+use Rattle.ghcdb.specs.Start.{IsStarted, AreRead, IsOutOfMemory, for_program, IsStartRefusal, of_program, of_query, of_clauses, of_calls, StartIsExact, told_of}
 
-pub told : (p q : List ℕ) (ws : List WrittenClause) (asked : WrittenQuery) (r : Refused) → IsReadProgram p ws → IsReadQuery q asked → IsRefusedAs ws asked.goals r → IsOutOfMemory (told_of r) ⊎ IsStartRefusal p q (told_of r)
-told p q ws asked (refused.Program e) a b (inl m) = inl (record { fault = m; part = inl refl })
+pub told : (p q : List ℕ) (ws : List WrittenClause) (asked : WrittenQuery) (r : Refused) → IsReadProgram p ws → IsReadQuery q asked → IsRefusedAs ws asked.goals r → IsOutOfMemory p (told_of r) ⊎ IsStartRefusal p q (told_of r)
+told p q ws asked (refused.Program e) a b (inl m) = inl (for_program (record { fault = m; part_is = refl }))
 told p q ws asked (refused.Program e) a b (inr f) = inr (of_clauses ws asked (record { reads_program = a; reads_query = b }) refl f)
 told p q ws asked (refused.Query e) a b h = inr (of_calls ws asked (record { reads_program = a; reads_query = b }) refl h.0 h.1)
 

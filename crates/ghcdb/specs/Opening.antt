@@ -1,14 +1,13 @@
 -- What the texts of a program, a query and a history start: the core of the program and the query, on which the history is loaded where there is one, or a refusal.
-use Rattle.std.specs.Prelude.{◌≡◌, ◌⊎◌, ℕ, List, Option, None, Some, Ok, Err}
+use Rattle.std.specs.Prelude.{◌≡◌, ℕ, List, Option, None, Some, Ok, Err}
 use Rattle.ghc_term.specs.declared.fault.Fault.{Fault}
-use Rattle.ghc_term.specs.declared.fault.Fault.TheVariants.{Memory}
 use Rattle.ghc_records.specs.Journal.{fresh_opening}
 use Rattle.ghc_records.specs.History.{History}
 use Rattle.ghc_records.specs.HistoryText.{TellsHistory, IsHistoryRefusal}
 use Rattle.ghc_core.specs.World.{World, Opens}
 use Rattle.ghc_core.specs.Core.{Core}
 use Rattle.ghc_core.specs.Load.{Loads}
-use Rattle.ghcdb.specs.Start.{IsStarted, IsStartRefusal}
+use Rattle.ghcdb.specs.Start.{IsStarted, IsStartRefusal, IsNoMemoryFor, IsOutOfMemory}
 use Rattle.ghcdb.specs.declared.refusal.Refusal.{Refusal}
 use Rattle.ghcdb.specs.declared.refused_part.RefusedPart.TheVariants as part
 use Rattle.ghcdb.specs.declared.start.Started.{Started}
@@ -41,7 +40,12 @@ pub data IsOpenRefusal (program_text : List ℕ) (query_text : List ℕ) (histor
   of_start : IsStartRefusal program_text query_text refusal → IsOpenRefusal program_text query_text history refusal
   of_history : (s : Started) → IsStarted program_text query_text s → IsHistoryRefused s history refusal → IsOpenRefusal program_text query_text history refusal
 
--- No memory is left, which is told of the program, of the query or of a history that is given.
-pub record IsWithoutMemory (history : Option (List ℕ)) (refusal : Refusal) : Type 0 where
-  pub fault : refusal.fault ≡ Memory
-  pub part_is : (refusal.part ≡ part.Program) ⊎ ((refusal.part ≡ part.Query) ⊎ ((refusal.part ≡ part.History) × ((text : List ℕ) × (history ≡ Some text))))
+-- No memory is left: for the start of program and query, the core before any step among it; or for a history that is given, where they are started.
+pub data IsWithoutMemory (program_text : List ℕ) (query_text : List ℕ) (history : Option (List ℕ)) (refusal : Refusal) : Type 0 where
+  at_start : IsOutOfMemory program_text refusal → IsWithoutMemory program_text query_text history refusal
+  for_history :
+      (started : Started) (text : List ℕ)
+      → IsStarted program_text query_text started
+      → history ≡ Some text
+      → IsNoMemoryFor part.History refusal
+      → IsWithoutMemory program_text query_text history refusal

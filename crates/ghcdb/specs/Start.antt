@@ -1,5 +1,5 @@
 -- What the texts of a program and a query start: both of them, read and checked, or a refusal.
-use Rattle.std.specs.Prelude.{◌≡◌, ◌⊎◌, ℕ, List, Result}
+use Rattle.std.specs.Prelude.{◌≡◌, ℕ, List, Result}
 use Rattle.ghc_term.specs.declared.fault.Fault.TheVariants.{Memory}
 use Rattle.ghc_term.specs.Answered.{AnsweredUnless, IsExactUnless}
 use Rattle.ghc_reader.specs.Written.{WrittenClause, WrittenQuery}
@@ -9,6 +9,7 @@ use Rattle.ghc_flat.specs.Checked.{HasClause, AreFaultless, IsAcceptedAs, IsProg
 use Rattle.ghc_flat.specs.declared.refused.Refused.{Refused}
 use Rattle.ghc_flat.specs.declared.refused.Refused.TheVariants as refused
 use Rattle.ghcdb.specs.declared.refusal.Refusal.{Refusal}
+use Rattle.ghcdb.specs.declared.refused_part.RefusedPart.{RefusedPart}
 use Rattle.ghcdb.specs.declared.refused_part.RefusedPart.TheVariants as part
 use Rattle.ghcdb.specs.declared.start.Started.{Started}
 
@@ -19,10 +20,15 @@ pub record IsStarted (program_text : List ℕ) (query_text : List ℕ) (started 
   pub reads_query : IsReadQuery query_text started.query
   pub accepted : IsAcceptedAs written started.query.goals started.program
 
--- No memory is left, which is told of the program or of the query.
-pub record IsOutOfMemory (refusal : Refusal) : Type 0 where
+-- No memory is left, which is told of this part.
+pub record IsNoMemoryFor (told_of : RefusedPart) (refusal : Refusal) : Type 0 where
   pub fault : refusal.fault ≡ Memory
-  pub part : (refusal.part ≡ part.Program) ⊎ (refusal.part ≡ part.Query)
+  pub part_is : refusal.part ≡ told_of
+
+-- No memory is left: for the program, whether it is read or checked; or for the reading of the query, where the program's text is read.
+pub data IsOutOfMemory (program_text : List ℕ) (refusal : Refusal) : Type 0 where
+  for_program : IsNoMemoryFor part.Program refusal → IsOutOfMemory program_text refusal
+  for_query : (written : List WrittenClause) → IsReadProgram program_text written → IsNoMemoryFor part.Query refusal → IsOutOfMemory program_text refusal
 
 -- The texts are read as these clauses and this query.
 pub record AreRead (program_text : List ℕ) (query_text : List ℕ) (written : List WrittenClause) (query : WrittenQuery) : Type 0 where
@@ -56,8 +62,8 @@ pub data IsStartRefusal (program_text : List ℕ) (query_text : List ℕ) (refus
 abbrev pub StartIsExact : Type 0
 StartIsExact =
     (program_text query_text : List ℕ) (result : Result Started Refusal)
-    → AnsweredUnless IsOutOfMemory (IsStarted program_text query_text) (IsStartRefusal program_text query_text) result
-    → IsExactUnless IsOutOfMemory (IsStarted program_text query_text) (IsStartRefusal program_text query_text) result
+    → AnsweredUnless (IsOutOfMemory program_text) (IsStarted program_text query_text) (IsStartRefusal program_text query_text) result
+    → IsExactUnless (IsOutOfMemory program_text) (IsStarted program_text query_text) (IsStartRefusal program_text query_text) result
 
 -- what is told of a refusal by the checker: the fault, of the text at fault
 abbrev pub told_of : Refused → Refusal

@@ -1,6 +1,6 @@
 // The session of the program, on its standard streams.
-ghost use Rattle.std.specs.Prelude.{◌≡◌, ◌⊎◌, ◌+◌, ◌-◌, ◌<◌, [], IfErr, OnOk};
-ghost use Rattle.ghc_console.specs.Session.{Session, Tells};
+ghost use Rattle.std.specs.Prelude.{◌≡◌, ◌⊎◌, ◌+◌, ◌-◌, ◌<◌, [], IfErr, MatchResult, OnOk};
+ghost use Rattle.ghc_console.specs.Session.{Began, Session, Tells};
 ghost use Rattle.ghc_console.specs.SessionState.{state_of};
 
 use ghc_console::{Broken, Debugger, Lines, session};
@@ -13,17 +13,22 @@ use std::sync::Wait;
 use std::sync::ledger::{Blank, Ledger};
 use std::{io, mem};
 
-// Runs a session on the device, and hands on what that holds back at the end.
+// Runs a session on the device, and hands on what that holds back at the end. Where a call fails, it is the last one.
 fn run_on_device<L: Ledger, R: Wait, I: Read, O: Write + Drop>(
     rt: &R,
     alloc: Global,
     debugger: Debugger,
     device: &mut Lines<I, O, L>,
 ) -> (Debugger, Result<(), Fault>)
-    ensures told { OnOk result.1 (Tells Session (state_of debugger) device.old.unread device.old.written device.new.written
+    // What is written is the replies to the lines, or a beginning of them where a call failed.
+    ensures told { MatchResult result.1
+        (λ _. Tells Session (state_of debugger) device.old.unread device.old.written device.new.written
+        (device.new.earlier - (device.old.earlier + device.old.latest)) (state_of result.0))
+        (λ _. Tells Began (state_of debugger) device.old.unread device.old.written device.new.written
         (device.new.earlier - (device.old.earlier + device.old.latest)) (state_of result.0)) }
     ensures held { OnOk result.1 (device.new.held ≡ []) }
-    ensures fault { IfErr result.1 (λ fault. fault ≡ Fault.Device) }
+    ensures failed { IfErr result.1 (λ fault. (fault ≡ Fault.Device) × (device.new.failures ≡ device.old.failures + 1)) }
+    ensures ok { OnOk result.1 (device.new.failures ≡ device.old.failures) }
 {
     let (debugger, result) = session(rt, alloc, debugger, device);
     match result {

@@ -50,7 +50,7 @@ fn answer<R: Print + Eprint>(rt: &R, error: &Error) -> Status
 // The core that the texts of the files and the options start: the program and the history are in the files, and the query in the
 // options.
 fn open_with(alloc: Global, texts: &Texts, options: Options<'_>) -> Result<Core, Refusal>
-    ensures answer { AnsweredUnless (IsWithoutMemory (history_in texts.now)) (IsOpened texts.now.program.items options.entry.query.now (history_in texts.now))
+    ensures answer { AnsweredUnless (IsWithoutMemory texts.now.program.items options.entry.query.now (history_in texts.now)) (IsOpened texts.now.program.items options.entry.query.now (history_in texts.now))
         (IsOpenRefusal texts.now.program.items options.entry.query.now (history_in texts.now)) result }
 {
     let program = texts.program.as_slice();

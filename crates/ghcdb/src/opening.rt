@@ -2,6 +2,7 @@
 ghost use Rattle.std.specs.Prelude.{◌≡◌, None, Some, option_map};
 ghost use Rattle.ghc_term.specs.Answered.{AnsweredUnless};
 ghost use Rattle.ghc_flat.specs.Flat.{IsQuery};
+ghost use Rattle.ghcdb.specs.Start.{IsNoMemoryFor};
 ghost use Rattle.ghcdb.specs.Opening.{IsHistoryRefused, IsOpened, IsOpenRefusal, IsWithoutMemory, OpensOn};
 
 use crate::refusal::Refusal;
@@ -21,7 +22,7 @@ pub fn open(
     query: &[u8],
     history: Option<&[u8]>,
 ) -> Result<Core, Refusal>
-    ensures answer { AnsweredUnless (IsWithoutMemory (option_map (λ text. text.now) history.entry)) (IsOpened program.now query.now (option_map (λ text. text.now) history.entry))
+    ensures answer { AnsweredUnless (IsWithoutMemory program.now query.now (option_map (λ text. text.now) history.entry)) (IsOpened program.now query.now (option_map (λ text. text.now) history.entry))
         (IsOpenRefusal program.now query.now (option_map (λ text. text.now) history.entry)) result }
 {
     let started = match start(alloc, program, query) {
@@ -34,10 +35,10 @@ pub fn open(
     }
 }
 
-// The core before any step.
+// The core before any step. Want of memory is told of the program.
 fn fresh_core(alloc: Global, started: Started) -> Result<Core, Refusal>
     requires { IsQuery started.program started.query.goals }
-    ensures answer { AnsweredUnless (IsWithoutMemory None) (λ core. OpensOn started None core.world) (λ _. ⊥) result }
+    ensures answer { AnsweredUnless (IsNoMemoryFor RefusedPart.Program) (λ core. OpensOn started None core.world) (λ _. ⊥) result }
 {
     let Started { program, query } = started;
     match Core::new(alloc, program, query) {
@@ -50,10 +51,10 @@ fn fresh_core(alloc: Global, started: Started) -> Result<Core, Refusal>
     }
 }
 
-// The core on which the history is loaded.
+// The core on which the history is loaded. Each refusal is told of the history.
 fn loaded_core(alloc: Global, started: Started, text: &[u8]) -> Result<Core, Refusal>
     requires { IsQuery started.program started.query.goals }
-    ensures answer { AnsweredUnless (IsWithoutMemory (Some text.now)) (λ core. OpensOn started (Some text.now) core.world) (IsHistoryRefused started (Some text.now)) result }
+    ensures answer { AnsweredUnless (IsNoMemoryFor RefusedPart.History) (λ core. OpensOn started (Some text.now) core.world) (IsHistoryRefused started (Some text.now)) result }
 {
     // Called for its clause that a history which a text tells is of the form, which the proof cites.
     written_histories_are_read_again();

@@ -13,5 +13,5 @@ returns-clause-told c = appended c.push_str.result (string_bytes c.push_str.new.
     let stuck = c.in_ok-push_news.ensures.ok in
     let lines = c.as_str.ensures.value ∙ stuck.2 ∙ ap (λ l. l ++ news_text stuck.0) c.new-lines.ensures.bytes in
     told_by_notes c.notes_tell_news.ensures w c.settle.new.core.world change notes c.args.core.now.notes c.settle.new.core.notes d front (string_bytes c.push_str.new.self)
-    (subst (λ v. IsJustChanged w change notes v c.args.core.now.notes d) (sym after.world) j) after.kept after.settled
+    (subst (λ v. IsJustChanged w change notes v c.args.core.now.notes d) (sym after.world) j) c.settle.ensures.kept after.settled
     (stuck.0, subst (λ n. AreStuckOtherwise n d stuck.0) c.tries.ensures.notes stuck.1, is ∙ ap (λ l. front ++ l) lines))

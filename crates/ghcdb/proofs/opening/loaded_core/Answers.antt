@@ -7,7 +7,7 @@ returns c = record {
   answer = (
     tt,
     elim c.in-Err-load.ensures.answer.1 [
-      | inl m ↦ inl (record { fault = m; part_is = inr (inr (refl, (c.args.text.now, refl))) })
+      | inl m ↦ inl (record { fault = m; part_is = refl })
       | inr halted ↦ inr (record { text = c.args.text.now; given = refl; part_is = refl; fault = of_step c.in-Ok.history c.in-Ok.ensures.answer.0 halted })
     ],
   );
