@@ -1,6 +1,8 @@
 // What no clause says and no row shows, of all crates: great sizes, failing devices, calls that no command reaches, threads.
 mod building;
+mod calls;
 mod cores;
+mod faces;
 mod histories;
 mod matching;
 mod reading;
