@@ -1,0 +1,215 @@
+// Puts a run into lanes, one for each process, and gives every step and goal its place. Pure functions.
+const Lanes = ((Graph, Terms) => {
+  "use strict";
+
+  const byName = (one, other) => {
+    const [step, place] = one.split(".").map(Number), [otherStep, otherPlace] = other.split(".").map(Number);
+    return step - otherStep || place - otherPlace;
+  };
+  const between = (least, value, most) => Math.max(least, Math.min(value, most));
+  const BOLD_LETTER = 0.62, LETTER = 0.56; // the width of a letter, as a part of the font's size
+
+  /** What each goal is, by its name: `call` (with its predicate), `unification`, `assignment` or `stream`. */
+  function goalKinds(run) {
+    const kinds = new Map();
+    const sorts = { reduce: "call", unify: "unification", assign: "assignment", input: "stream", close: "stream" };
+    for (const step of run.graph.steps) {
+      const predicate = step.kind === "reduce" ? (run.clauses[step.clause - 1] || { predicate: "?" }).predicate : null;
+      kinds.set(step.goal, { sort: sorts[step.kind], predicate });
+    }
+    for (const goal of run.goals) {
+      kinds.set(goal.name, { sort: goal.sort, predicate: goal.sort === "call" ? Graph.predicateOf(goal.text) : null });
+    }
+    return kinds;
+  }
+
+  const isSmall = (kind) => kind !== undefined && (kind.sort === "unification" || kind.sort === "assignment");
+
+  /** The goal in which a process goes on: the last one made of the same predicate, else the last call, else the stream's rest. */
+  function goesOnIn(step, kinds) {
+    const calls = step.makes.filter((goal) => kinds.has(goal) && !isSmall(kinds.get(goal)));
+    const same = calls.filter((goal) => kinds.get(goal).predicate === kinds.get(step.goal).predicate);
+    const goals = same.length > 0 ? same : calls;
+    return goals[goals.length - 1];
+  }
+
+  const newLane = (name, parent) => ({ name, parent, steps: [], goals: [], predicates: [] });
+
+  /** The lane of each goal that a step makes: its own process goes on, small goals stay with it, other calls begin lanes beside it. */
+  function placeMade(step, lanes, laneOf, kinds) {
+    const lane = laneOf.get(step.goal), goesOn = goesOnIn(step, kinds);
+    let behind = lanes.indexOf(lane) + 1;
+    for (const goal of step.makes) {
+      if (goal === goesOn || isSmall(kinds.get(goal))) {
+        laneOf.set(goal, lane);
+        continue;
+      }
+      const child = newLane(goal, step);
+      const stands = goesOn !== undefined && byName(goal, goesOn) < 0 ? lanes.indexOf(lane) : behind;
+      lanes.splice(stands, 0, child);
+      laneOf.set(goal, child);
+      behind = Math.max(behind, stands) + 1;
+    }
+  }
+
+  function addPredicate(lane, kind) {
+    if (kind && kind.predicate && !lane.predicates.includes(kind.predicate)) lane.predicates.push(kind.predicate);
+  }
+
+  /** The lanes of a run, from the top, each with its steps and the goals that are there. */
+  function lanesOf(run) {
+    const kinds = goalKinds(run), lanes = [], laneOf = new Map();
+    const begin = (name) => {
+      if (laneOf.has(name)) return;
+      const lane = newLane(name, null);
+      lanes.push(lane);
+      laneOf.set(name, lane);
+    };
+    [...kinds.keys()].filter((name) => name.startsWith("0.")).sort(byName).forEach(begin);
+    for (const step of run.graph.steps) {
+      begin(step.goal);
+      laneOf.get(step.goal).steps.push(step);
+      addPredicate(laneOf.get(step.goal), kinds.get(step.goal));
+      placeMade(step, lanes, laneOf, kinds);
+    }
+    for (const goal of run.goals) {
+      begin(goal.name);
+      laneOf.get(goal.name).goals.push(goal);
+      addPredicate(laneOf.get(goal.name), kinds.get(goal.name));
+    }
+    return { lanes, laneOf, kinds };
+  }
+
+  const shortName = (predicate) => predicate.split("/")[0];
+
+  /** What stands at a lane's beginning: its call with what is known by now, or the predicates that it was. */
+  function laneText(lane, run, kinds, store) {
+    const text = run.texts.get(lane.name) || (lane.goals.find((goal) => goal.name === lane.name) || { text: "" }).text;
+    const kind = kinds.get(lane.name);
+    if (kind && kind.sort === "stream") return `stream ${text.split(" ")[1] || ""}`;
+    if (isSmall(kind)) return Terms.cut(text, 26);
+    if (lane.predicates.length > 1 || text === "") return Terms.cut(lane.predicates.slice(0, 3).map(shortName).join(" → "), 30);
+    return Terms.cut(Terms.briefCall(text, store), 30);
+  }
+
+  /** Rows within a lane: reductions and inputs in row 0, bindings and sums below them, and the same for goals that are there. */
+  function placeInLane(lane, kinds, columnOf, rows) {
+    const isLeaf = (name) => isSmall(kinds.get(name)) && name !== lane.name;
+    const used = new Map();
+    const rowIn = (column) => {
+      used.set(column, (used.get(column) || 0) + 1);
+      return used.get(column);
+    };
+    for (const step of lane.steps) rows.set(step.number, isLeaf(step.goal) ? rowIn(columnOf(step)) : 0);
+    for (const goal of lane.goals) rows.set(goal.name, isLeaf(goal.name) ? rowIn("there") : 0);
+    lane.rows = 1 + Math.max(0, ...used.values());
+  }
+
+  /** How large all is drawn: what the room allows, from steps that stand side by side as points to circles with numbers. */
+  function sizesFor(room, columns, lanes, sides) {
+    const dx = between(7, (room - sides) / Math.max(1, columns), 56);
+    const most = lanes > 80 ? 4 : lanes > 30 ? 6 : lanes > 16 ? 8 : 11;
+    const radius = between(3, dx * 0.3, most);
+    const kind = radius >= 8 ? "roomy" : radius >= 5 ? "dense" : "tiny";
+    const font = { roomy: 12.5, dense: 11, tiny: 9.5 }[kind];
+    return { dx, radius, kind, font, leaf: radius * 0.6, row: 13 + 2.3 * radius, leafRow: kind === "roomy" ? 25 : 7 + 1.3 * radius };
+  }
+
+  /** What stands behind a goal that is there. */
+  function goalLabel(goal, kind) {
+    if (kind === "tiny") return "";
+    if (kind === "dense") return goal.name;
+    const told = { waits: ` waits ${goal.waitsFor.join(",")}`, failed: ` failed ${goal.refusal}`, ready: "", stream: "" }[goal.status];
+    return `${goal.name} ${Terms.cut(goal.text, 26)}${Terms.cut(told, 22)}`;
+  }
+
+  function axis(columns, x) {
+    const every = columns > 400 ? 100 : columns > 120 ? 20 : columns > 40 ? 10 : columns > 20 ? 5 : 1;
+    const ticks = [];
+    for (let column = 1; column <= columns; column++) {
+      if (column === 1 || column % every === 0) ticks.push({ x: x(column - 1), text: String(column) });
+    }
+    return ticks;
+  }
+
+  /** The goals that are there, each with its place, its label, and the steps that were taken back from it. */
+  function placeGoals(view, run) {
+    const { sizes } = view;
+    for (const lane of view.lanes) {
+      for (const goal of lane.goals) {
+        const x = view.thereX, y = view.yOf(lane, view.rows.get(goal.name));
+        const label = goalLabel(goal, sizes.kind);
+        let end = x + sizes.radius + 6 + label.length * sizes.font * LETTER;
+        const taken = run.shelf.filter((step) => step.goal === goal.name).slice(-3);
+        for (const step of taken) {
+          end += sizes.radius * 2 + 8;
+          view.taken.push({ step, x: end - sizes.radius, y });
+        }
+        view.goals.set(goal.name, { goal, x, y, label, end, lane });
+      }
+    }
+  }
+
+  /** The arcs from waiting goals to the goals that have their variable, beside each other at the right. */
+  function placeWaits(view, run) {
+    const ends = [...view.goals.values()].map((place) => place.end);
+    const circle = Graph.circleOf(run.goals);
+    const isInCircle = (edge) => circle.length > 0 && circle[(circle.indexOf(edge.from) + 1) % circle.length] === edge.to && circle.includes(edge.from);
+    const edges = Graph.waitingEdges(run.goals).slice(0, 40);
+    let x = Math.max(0, ...ends) + 18;
+    edges.sort((one, other) => Math.abs(view.goals.get(one.from).y - view.goals.get(one.to).y) - Math.abs(view.goals.get(other.from).y - view.goals.get(other.to).y));
+    edges.forEach((edge, index) => {
+      const from = view.goals.get(edge.from), to = view.goals.get(edge.to);
+      const shift = 3 + 3 * (index % 2);
+      view.waits.push({ ...edge, x, fromX: from.end + 4, fromY: from.y + shift, toX: to.end + 6, toY: to.y - shift, isInCircle: isInCircle(edge) });
+      x += 8 + edge.variable.length * 6;
+    });
+    return edges.length > 0 ? x + 10 : Math.max(0, ...ends) + 10;
+  }
+
+  function placeLanes(view, top) {
+    let y = top;
+    for (const lane of view.lanes) {
+      lane.y = y + view.sizes.row / 2;
+      y += view.sizes.row + (lane.rows - 1) * view.sizes.leafRow + (lane.rows > 1 && view.sizes.kind === "roomy" ? 8 : 0) + 2;
+    }
+    return y;
+  }
+
+  /**
+   * The places of a run. `run` has graph, goals, shelf, texts and clauses; `options.by` is `record` or `depth`, `options.room` the
+   * width that there is, and `options.top` the room above the first lane.
+   */
+  function layout(run, options) {
+    const { lanes, laneOf, kinds } = lanesOf(run);
+    const place = new Map(run.graph.steps.map((step, index) => [step.number, index]));
+    const columnOf = options.by === "depth" ? (step) => run.graph.depth.get(step.number) : (step) => place.get(step.number);
+    const columns = run.graph.steps.reduce((most, step) => Math.max(most, columnOf(step) + 1), 0);
+    const rows = new Map(), store = Terms.storeOf(run.graph.steps);
+    for (const lane of lanes) {
+      placeInLane(lane, kinds, columnOf, rows);
+      lane.text = laneText(lane, run, kinds, store);
+    }
+    const letters = Math.max(8, ...lanes.map((lane) => lane.name.length + lane.text.length + 2));
+    const thereRoom = run.goals.length > 0 ? 240 : 40;
+    const sizes = sizesFor(options.room, columns, lanes.length, letters * 7.4 + thereRoom);
+    const left = 24 + letters * sizes.font * BOLD_LETTER;
+    const x = (column) => left + column * sizes.dx + sizes.dx / 2;
+    const view = { by: options.by, lanes, laneOf, kinds, rows, sizes, left, columns, store, marks: new Map(), goals: new Map(), taken: [], waits: [] };
+    view.yOf = (lane, row) => lane.y + row * sizes.leafRow;
+    view.thereX = left + columns * sizes.dx + sizes.radius + 6;
+    view.bottom = placeLanes(view, options.top);
+    view.ticks = axis(columns, x);
+    for (const step of run.graph.steps) {
+      const lane = laneOf.get(step.goal), row = rows.get(step.number);
+      const isLeaf = step.kind === "unify" || step.kind === "assign";
+      view.marks.set(step.number, { step, lane, x: x(columnOf(step)), y: view.yOf(lane, row), isLeaf, row });
+    }
+    placeGoals(view, run);
+    view.width = Math.max(placeWaits(view, run), left + columns * sizes.dx + 30);
+    return view;
+  }
+
+  return { layout, lanesOf, shortName };
+})(typeof require === "undefined" ? Graph : require("./graph.js"), typeof require === "undefined" ? Terms : require("./terms.js"));
+if (typeof module !== "undefined") module.exports = Lanes;
