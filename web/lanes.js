@@ -7,6 +7,7 @@ const Lanes = ((Graph, Terms) => {
     return step - otherStep || place - otherPlace;
   };
   const between = (least, value, most) => Math.max(least, Math.min(value, most));
+  const MOST_CLEAR_ROWS = 5;
   const BOLD_LETTER = 0.62, LETTER = 0.56; // the width of a letter, as a part of the font's size
 
   /** What each goal is, by its name: `call` (with its predicate), `unification`, `assignment` or `stream`. */
@@ -92,17 +93,37 @@ const Lanes = ((Graph, Terms) => {
     return Terms.cut(Terms.briefCall(text, store), 30);
   }
 
+  /** Whether a small goal has room in a row beside others: its line from its maker may cross no line of another maker. */
+  function fitsBeside(span, others) {
+    return others.every((other) => (other.maker === span.maker ? other.to !== span.to : other.to < span.from || span.to < other.from));
+  }
+
+  /** The row of a small goal: the first in which its line is clear of others, else the first in which its place is free. */
+  function rowFor(span, rows) {
+    const clear = rows.findIndex((others) => fitsBeside(span, others));
+    if (clear >= 0) return clear;
+    if (rows.length < MOST_CLEAR_ROWS) return rows.length;
+    const free = rows.findIndex((others) => others.every((other) => other.to !== span.to));
+    return free >= 0 ? free : rows.length;
+  }
+
   /** Rows within a lane: reductions and inputs in row 0, bindings and sums below them, and the same for goals that are there. */
-  function placeInLane(lane, kinds, columnOf, rows) {
+  function placeInLane(lane, kinds, columnOf, makerOf, rowOf, columns) {
     const isLeaf = (name) => isSmall(kinds.get(name)) && name !== lane.name;
-    const used = new Map();
-    const rowIn = (column) => {
-      used.set(column, (used.get(column) || 0) + 1);
-      return used.get(column);
+    const rows = [];
+    const place = (key, goal, to) => {
+      if (!isLeaf(goal)) {
+        rowOf.set(key, 0);
+        return;
+      }
+      const maker = makerOf.get(goal);
+      const span = { maker, from: maker ? columnOf(maker) : -1, to }, row = rowFor(span, rows);
+      rows[row] = [...(rows[row] || []), span];
+      rowOf.set(key, row + 1);
     };
-    for (const step of lane.steps) rows.set(step.number, isLeaf(step.goal) ? rowIn(columnOf(step)) : 0);
-    for (const goal of lane.goals) rows.set(goal.name, isLeaf(goal.name) ? rowIn("there") : 0);
-    lane.rows = 1 + Math.max(0, ...used.values());
+    for (const step of lane.steps) place(step.number, step.goal, columnOf(step));
+    for (const goal of lane.goals) place(goal.name, goal.name, columns);
+    lane.rows = 1 + rows.length;
   }
 
   /** How large all is drawn: what the room allows, from steps that stand side by side as points to circles with numbers. */
@@ -186,8 +207,9 @@ const Lanes = ((Graph, Terms) => {
     const columnOf = options.by === "depth" ? (step) => run.graph.depth.get(step.number) : (step) => place.get(step.number);
     const columns = run.graph.steps.reduce((most, step) => Math.max(most, columnOf(step) + 1), 0);
     const rows = new Map(), store = Terms.storeOf(run.graph.steps);
+    const makerOf = new Map(run.graph.steps.flatMap((step) => step.makes.map((goal) => [goal, step])));
     for (const lane of lanes) {
-      placeInLane(lane, kinds, columnOf, rows);
+      placeInLane(lane, kinds, columnOf, makerOf, rows, columns);
       lane.text = laneText(lane, run, kinds, store);
     }
     const letters = Math.max(8, ...lanes.map((lane) => lane.name.length + lane.text.length + 2));
@@ -195,7 +217,7 @@ const Lanes = ((Graph, Terms) => {
     const sizes = sizesFor(options.room, columns, lanes.length, letters * 7.4 + thereRoom);
     const left = 24 + letters * sizes.font * BOLD_LETTER;
     const x = (column) => left + column * sizes.dx + sizes.dx / 2;
-    const view = { by: options.by, lanes, laneOf, kinds, rows, sizes, left, columns, store, marks: new Map(), goals: new Map(), taken: [], waits: [] };
+    const view = { by: options.by, lanes, laneOf, kinds, rows, makerOf, sizes, left, columns, store, marks: new Map(), goals: new Map(), taken: [], waits: [] };
     view.yOf = (lane, row) => lane.y + row * sizes.leafRow;
     view.thereX = left + columns * sizes.dx + sizes.radius + 6;
     view.bottom = placeLanes(view, options.top);
@@ -206,7 +228,7 @@ const Lanes = ((Graph, Terms) => {
       view.marks.set(step.number, { step, lane, x: x(columnOf(step)), y: view.yOf(lane, row), isLeaf, row });
     }
     placeGoals(view, run);
-    view.width = Math.max(placeWaits(view, run), left + columns * sizes.dx + 30);
+    view.width = Math.max(placeWaits(view, run), left + columns * sizes.dx + (sizes.kind === "roomy" ? 80 : 30));
     return view;
   }
 

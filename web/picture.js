@@ -113,6 +113,14 @@ const Picture = ((Graph, Lanes, Terms) => {
     return `<g class="edge" data-from="${edge.from}" data-to="${edge.to}"><path class="made" d="M${x} ${round(from.y)} C${x} ${y} ${x} ${y} ${round(to.x)} ${y}"/></g>`;
   }
 
+  /** The line from its maker to a small goal that is there. */
+  function drawMadeGoal(view, place) {
+    const maker = view.makerOf.get(place.goal.name);
+    if (!maker || view.rows.get(place.goal.name) === 0) return "";
+    const from = view.marks.get(maker.number), x = round(from.x), y = round(place.y);
+    return `<g class="edge" data-from="${maker.number}"><path class="made" stroke-dasharray="2 4" d="M${x} ${round(from.y)} C${x} ${y} ${x} ${y} ${round(Math.min(x + view.sizes.dx * 0.5, place.x))} ${y} H${round(place.x - view.sizes.radius)}"/></g>`;
+  }
+
   /** The curve of a read, from the step that bound to the step that read. */
   function readCurve(view, from, to) {
     const { radius, leaf } = view.sizes;
@@ -273,7 +281,7 @@ const Picture = ((Graph, Lanes, Terms) => {
       `<svg xmlns="http://www.w3.org/2000/svg" class="run" viewBox="0 0 ${width} ${height}" width="${width}" height="${height}" role="img" aria-label="${describe(run)}">`,
       style(view, theme), heads(view, theme), `<rect width="${width}" height="${height}" fill="${theme.ground}"/>`, drawGrid(view, theme),
       ...view.lanes.map((lane) => drawLeader(view, lane, theme) + drawLane(view, lane, colour) + drawFork(view, lane)),
-      ...edges.map((edge) => drawEdge(view, edge)),
+      ...edges.map((edge) => drawEdge(view, edge)), ...[...view.goals.values()].map((place) => drawMadeGoal(view, place)),
       ...[...view.marks.values()].map((mark) => drawMark(view, run, mark, theme, colour)), drawBindings(view, theme),
       ...[...view.goals.values()].map((place) => drawGoal(view, place, theme)), ...view.taken.map((place) => drawTaken(view, place, theme)),
       ...view.waits.map((wait) => drawWait(wait, theme)),

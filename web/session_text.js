@@ -1,0 +1,56 @@
+// A session as a text that one can save and open: the form of the rows of tests/rows/, so that a saved session is a test, too. Pure.
+const SessionText = (() => {
+  "use strict";
+
+  const escaped = (text) => text.replace(/\{/g, "{7B}");
+  const unescaped = (text) => text.replace(/\{([0-9A-F]{2})\}/g, (all, digits) => String.fromCharCode(parseInt(digits, 16)));
+  const barred = (lines) => lines.map((line) => (line === "" ? "|" : `| ${escaped(line)}`));
+
+  /** The lines of a value that stands behind bars; `{}` at its end tells that no line end follows. */
+  function valueLines(text) {
+    if (text.endsWith("\n")) return barred(text.slice(0, -1).split("\n"));
+    const lines = barred(text.split("\n"));
+    lines[lines.length - 1] += lines[lines.length - 1] === "|" ? " {}" : "{}";
+    return lines;
+  }
+
+  /** The text of a session: program, query, the history that it began with, and each line with its reply. */
+  function write(session) {
+    const lines = ["# A session of ghcdb, saved by web/ghcdb.html.", "program:", ...valueLines(session.program), "query:", ...valueLines(session.query)];
+    if (session.history) lines.push("file run.history:", ...valueLines(session.history), "options:", "| --load", "| run.history");
+    lines.push("session:");
+    for (const entry of session.entries) lines.push(...barred([`> ${entry.line}`, ...entry.reply]));
+    return `${lines.join("\n")}\n`;
+  }
+
+  /** The value of the lines with bars that stand from a place on. */
+  function valueAt(lines, start) {
+    let text = "";
+    for (let at = start; at < lines.length && lines[at].startsWith("|"); at++) {
+      const line = lines[at].slice(2);
+      text += line.endsWith("{}") ? unescaped(line.slice(0, -2)) : `${unescaped(line)}\n`;
+    }
+    return text;
+  }
+
+  /** The keys of a saved session, each with its value. */
+  function values(text) {
+    const lines = text.replace(/\r\n/g, "\n").split("\n"), found = new Map();
+    lines.forEach((line, at) => {
+      const key = /^([a-z][a-z ._]*):(?: (.*))?$/.exec(line);
+      if (key) found.set(key[1], key[2] === undefined ? valueAt(lines, at + 1) : unescaped(key[2]));
+    });
+    return found;
+  }
+
+  /** A session from its text, with the lines that were typed; null where the text is no session. */
+  function read(text) {
+    const found = values(text);
+    if (!found.has("query") || !found.has("session")) return null;
+    const typed = found.get("session").split("\n").filter((line) => line.startsWith("> ")).map((line) => line.slice(2));
+    return { program: found.get("program") || "", query: found.get("query"), history: found.get("file run.history") || "", lines: typed };
+  }
+
+  return { write, read };
+})();
+if (typeof module !== "undefined") module.exports = SessionText;
