@@ -25,7 +25,7 @@ const Files = (() => {
       Page.begin({ ...Page.typed(), history: text });
       return;
     }
-    const session = SessionText.read(text);
+    const session = SessionText.read(text, (name) => EXAMPLES.find((example) => `${example.name}.ghc` === name).program);
     if (!session) {
       Page.begin({ program: text, query: Page.typed().query });
       return;

@@ -213,7 +213,7 @@ const Lanes = ((Graph, Terms) => {
       lane.text = laneText(lane, run, kinds, store);
     }
     const letters = Math.max(8, ...lanes.map((lane) => lane.name.length + lane.text.length + 2));
-    const thereRoom = run.goals.length > 0 ? 240 : 40;
+    const thereRoom = run.goals.length > 0 ? 250 : 96;
     const sizes = sizesFor(options.room, columns, lanes.length, letters * 7.4 + thereRoom);
     const left = 24 + letters * sizes.font * BOLD_LETTER;
     const x = (column) => left + column * sizes.dx + sizes.dx / 2;

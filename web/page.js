@@ -87,7 +87,7 @@ const Page = (() => {
     const words = HELP.map(([name, text]) => make("p", null, make("b", null, `${name}: `), ...withCode(text)));
     const close = make("button", { class: "main-button" }, "Close");
     close.addEventListener("click", () => find("help").close());
-    find("help").replaceChildren(make("h2", null, "ghcdb in a page"), ...words, make("p", { class: "dim" }, `Made of commit ${MADE_WITH.commit} with ${MADE_WITH.kit}.`), close);
+    find("help").replaceChildren(make("h2", null, "ghcdb in a page"), ...words, make("p", { class: "dim" }, `${Panels.madeWith()}.`), close);
     find("help").showModal();
   }
 
@@ -110,6 +110,7 @@ const Page = (() => {
   }
 
   function onClick(event) {
+    if (!event.target.isConnected) return; // the button has put something else in its own place
     const button = event.target.closest("button"), sends = event.target.closest("[data-line]");
     if (sends && !sends.disabled) {
       Menus.close();

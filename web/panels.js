@@ -16,10 +16,13 @@ const Panels = (() => {
     told.append(make("div", { class: isRefused ? "refused" : null }, entry.reply.join("\n")));
   }
 
+  /** With what the page was made. */
+  const madeWith = () => `ghcdb, commit ${MADE_WITH.commit}, ${MADE_WITH.kit}, ${MADE_WITH.proved ? "a proved build" : "a build without a proof"}`;
+
   /** Adds to the console what was typed and told since it was filled last. */
   function showTold(what) {
     if (what === "start") {
-      find("told").textContent = "";
+      find("told").replaceChildren(make("div", { class: "made-with dim" }, madeWith()));
       shown = 0;
       if (Talk.refusal) find("told").append(make("div", { class: "refused" }, Talk.refusal));
     }
@@ -124,5 +127,5 @@ const Panels = (() => {
     showDetail(Canvas.chosen);
   }
 
-  return { showAll, showDetail, showLookAt };
+  return { showAll, showDetail, showLookAt, madeWith };
 })();

@@ -43,12 +43,16 @@ const SessionText = (() => {
     return found;
   }
 
-  /** A session from its text, with the lines that were typed; null where the text is no session. */
-  function read(text) {
+  /**
+   * A session from its text, with the lines that were typed; null where the text is no session. Where it names an example in the place of
+   * a program, `exampleOf` gives the program of `append.ghc`, and so on.
+   */
+  function read(text, exampleOf) {
     const found = values(text);
     if (!found.has("query") || !found.has("session")) return null;
     const typed = found.get("session").split("\n").filter((line) => line.startsWith("> ")).map((line) => line.slice(2));
-    return { program: found.get("program") || "", query: found.get("query"), history: found.get("file run.history") || "", lines: typed };
+    const program = found.has("example") ? exampleOf(found.get("example")) : found.get("program") || "";
+    return { program, query: found.get("query"), history: found.get("file run.history") || "", lines: typed };
   }
 
   return { write, read };

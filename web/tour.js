@@ -32,7 +32,7 @@ const Tour = (() => {
       click("show _1_1", "Step 6 read two variables. In the store, click `_1_1`, then `Show`."),
       click("show _1_2", "Twelve pieces for 120? And the other one: click `_1_2`, then `Show`."),
       click("why 3", "The second price is right: 3 times 10. The first one is wrong: 12 pieces cost 96. Step 3 bound it. Click step 3, then `Why?`"),
-      click("records", "Step 3 only computed what step 2 had asked for. Click `records`, above the store, to see what each step did."),
+      click("records", "Step 3 only computed what step 2 had asked for. Click `records`, beside the word Step, to see what each step did."),
     ] },
     { name: "Take it back", session: "first", stations: [
       type("undo 2", "Step 2 took 1.1 by clause 2, the clause for few pieces, though clause 3 says yes too. That was the wrong step. Type `undo 2` in the console."),
@@ -41,7 +41,7 @@ const Tour = (() => {
       click("undo 3", "Nothing depends on step 3 any more. Click step 3, then `Undo`."),
       click("undo 2", "And now step 2: click it, then `Undo`."),
       click("records", "The steps 4 and 5 came later than step 2, and they stay: they do not depend on it. Click `records`."),
-      click("goals", "What is there to do now? Click `goals`, above the list of goals."),
+      click("goals", "What is there to do now? Click `goals`, beside that word."),
     ] },
     { name: "Another clause", session: "first", stations: [
       click("step 1.1 3", "Click 1.1, and choose clause 3, for ten pieces or more."),
@@ -49,7 +49,7 @@ const Tour = (() => {
       click("step 1.3", "Click 1.3, then `Step`."),
       click("show T", "In the store, click `T`, then `Show`."),
       click("why 9", "126, as it should be. Click step 9, then `Why?`: step 5 was used as it stood."),
-      click("shelf", "What was taken back is not lost. Click `shelf`: each of these could be redone."),
+      click("shelf", "What was taken back is not lost. Click `shelf`, beside Taken back: each of these could be redone."),
     ] },
     { name: "The same in one command", session: "again", stations: [
       click("roll 2", "The first run stands here once more. Click step 2, then `Roll back`: what will be taken back is ringed before anything is done. Then take it back."),
