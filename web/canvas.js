@@ -9,6 +9,10 @@ const Canvas = (() => {
 
   /** Draws the run anew, as wide as the window and the zoom say. */
   function draw() {
+    if (Talk.refusal) {
+      find("canvas").textContent = "";
+      return;
+    }
     const room = Math.max(320, find("canvas").clientWidth - 8) * canvas.zoom;
     const drawn = Picture.draw(Talk.run, { by: canvas.by, theme: canvas.theme, room, legend: true });
     find("canvas").innerHTML = drawn.svg;

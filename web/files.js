@@ -17,7 +17,7 @@ const Files = (() => {
 
   const savePicture = () => save("run.svg", "image/svg+xml", pictureText());
   const sessionText = () => SessionText.write({ ...Talk.given, entries: Talk.entries });
-  const saveSession = () => save("session.row", "text/plain", sessionText());
+  const saveSession = () => save("session.txt", "text/plain", sessionText());
 
   /** Opens a text: a saved session is played again; a history starts a session of the program and query that are there; else it is a program. */
   function openText(text) {

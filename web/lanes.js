@@ -8,6 +8,7 @@ const Lanes = ((Graph, Terms) => {
   };
   const between = (least, value, most) => Math.max(least, Math.min(value, most));
   const MOST_CLEAR_ROWS = 5;
+  const NARROW = 600; // the room below which names are short
   const BOLD_LETTER = 0.62, LETTER = 0.56; // the width of a letter, as a part of the font's size
 
   /** What each goal is, by its name: `call` (with its predicate), `unification`, `assignment` or `stream`. */
@@ -84,13 +85,13 @@ const Lanes = ((Graph, Terms) => {
   const shortName = (predicate) => predicate.split("/")[0];
 
   /** What stands at a lane's beginning: its call with what is known by now, or the predicates that it was. */
-  function laneText(lane, run, kinds, store) {
+  function laneText(lane, run, kinds, store, longest) {
     const text = run.texts.get(lane.name) || (lane.goals.find((goal) => goal.name === lane.name) || { text: "" }).text;
     const kind = kinds.get(lane.name);
     if (kind && kind.sort === "stream") return `stream ${text.split(" ")[1] || ""}`;
-    if (isSmall(kind)) return Terms.cut(text, 26);
-    if (lane.predicates.length > 1 || text === "") return Terms.cut(lane.predicates.slice(0, 3).map(shortName).join(" → "), 30);
-    return Terms.cut(Terms.briefCall(text, store), 30);
+    if (isSmall(kind)) return Terms.cut(text, longest);
+    if (lane.predicates.length > 1 || text === "") return Terms.cut(lane.predicates.slice(0, 3).map(shortName).join(" → "), longest);
+    return Terms.cut(Terms.briefCall(text, store), longest);
   }
 
   /** Whether a small goal has room in a row beside others: its line from its maker may cross no line of another maker. */
@@ -128,11 +129,12 @@ const Lanes = ((Graph, Terms) => {
 
   /** How large all is drawn: what the room allows, from steps that stand side by side as points to circles with numbers. */
   function sizesFor(room, columns, lanes, sides) {
-    const dx = between(7, (room - sides) / Math.max(1, columns), 56);
+    const least = columns <= 30 ? 27 : columns <= 100 ? 13 : 7;
+    const dx = between(least, (room - sides) / Math.max(1, columns), 56);
     const most = lanes > 80 ? 4 : lanes > 30 ? 6 : lanes > 16 ? 8 : 11;
     const radius = between(3, dx * 0.3, most);
     const kind = radius >= 8 ? "roomy" : radius >= 5 ? "dense" : "tiny";
-    const font = { roomy: 12.5, dense: 11, tiny: 9.5 }[kind];
+    const font = room < NARROW ? 10.5 : { roomy: 12.5, dense: 11, tiny: 9.5 }[kind];
     return { dx, radius, kind, font, leaf: radius * 0.6, row: 13 + 2.3 * radius, leafRow: kind === "roomy" ? 25 : 7 + 1.3 * radius };
   }
 
@@ -144,8 +146,8 @@ const Lanes = ((Graph, Terms) => {
     return `${goal.name} ${Terms.cut(goal.text, 26)}${Terms.cut(told, 22)}`;
   }
 
-  function axis(columns, x) {
-    const every = columns > 400 ? 100 : columns > 120 ? 20 : columns > 40 ? 10 : columns > 20 ? 5 : 1;
+  function axis(columns, dx, x) {
+    const every = [1, 5, 10, 20, 50].find((number) => number * dx >= 34) || 100;
     const ticks = [];
     for (let column = 1; column <= columns; column++) {
       if (column === 1 || column % every === 0) ticks.push({ x: x(column - 1), text: String(column) });
@@ -210,7 +212,7 @@ const Lanes = ((Graph, Terms) => {
     const makerOf = new Map(run.graph.steps.flatMap((step) => step.makes.map((goal) => [goal, step])));
     for (const lane of lanes) {
       placeInLane(lane, kinds, columnOf, makerOf, rows, columns);
-      lane.text = laneText(lane, run, kinds, store);
+      lane.text = laneText(lane, run, kinds, store, options.room < NARROW ? 13 : 30);
     }
     const letters = Math.max(8, ...lanes.map((lane) => lane.name.length + lane.text.length + 2));
     const thereRoom = run.goals.length > 0 ? 250 : 96;
@@ -221,7 +223,7 @@ const Lanes = ((Graph, Terms) => {
     view.yOf = (lane, row) => lane.y + row * sizes.leafRow;
     view.thereX = left + columns * sizes.dx + sizes.radius + 6;
     view.bottom = placeLanes(view, options.top);
-    view.ticks = axis(columns, x);
+    view.ticks = axis(columns, sizes.dx, x);
     for (const step of run.graph.steps) {
       const lane = laneOf.get(step.goal), row = rows.get(step.number);
       const isLeaf = step.kind === "unify" || step.kind === "assign";

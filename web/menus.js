@@ -17,6 +17,7 @@ const Menus = (() => {
     find("menu").replaceChildren(title(`Roll back step ${number}`, ""), make("p", null, `The ringed ${plural(gone.size, "step")} will be taken back: ${Terms.cut(names, 200)}. All others stay.`),
       buttons(lineButton(`Take back ${gone.size}`, `roll ${number}`, { class: "danger" }), make("button", { "data-close": true }, "Leave it")));
     find("menu").querySelector("button").focus();
+    Guide.pointAgain();
   }
 
   function rollButton(number, gone) {
@@ -87,13 +88,29 @@ const Menus = (() => {
     return [title(`Step ${number}`, "was taken back"), code(`${step.goal} ${step.act}`), buttons(lineButton("Redo", `redo ${number}`, { class: "main-button" }))];
   };
 
-  /** Puts the menu beside what it belongs to, wholly in sight; on a narrow window the style puts it at the bottom. */
+  /** How many of some boxes a menu would cover that has its upper left corner at a place. */
+  function covered(boxes, place, width, height) {
+    return boxes.filter((box) => box.right > place.x && box.left < place.x + width && box.bottom > place.y && box.top < place.y + height).length;
+  }
+
+  /** Places for a menu beside what it belongs to, the nearest first, and below the picture, all of them within the run's part of the page. */
+  function placesFor(box, width, height) {
+    const svg = find("canvas").querySelector("svg"), bottom = svg ? svg.getBoundingClientRect().top + Canvas.view.bottom : box.bottom;
+    const right = box.right + OFFSET, left = box.left - width - OFFSET, below = box.bottom + OFFSET, above = box.top - height - OFFSET;
+    const all = [{ x: right, y: below }, { x: right, y: above }, { x: left, y: below }, { x: left, y: above }, { x: box.left, y: bottom + 6 }, { x: right, y: bottom + 6 }];
+    const area = find("run").getBoundingClientRect(), inside = (least, value, most) => Math.max(least, Math.min(value, most));
+    return all.map((place) => ({ x: inside(area.left + 8, place.x, area.right - width - 8), y: inside(area.top + 8, place.y, area.bottom - height - 8) }));
+  }
+
+  /** Puts the menu where it covers as little as possible of what is lit; on a narrow window the style puts it at the bottom. */
   function place(anchor) {
-    const menu = find("menu"), box = anchor.getBoundingClientRect();
-    const width = menu.offsetWidth, height = menu.offsetHeight;
-    const right = box.right + OFFSET, below = box.bottom + OFFSET;
-    menu.style.left = `${right + width < window.innerWidth ? right : Math.max(8, box.left - width - OFFSET)}px`;
-    menu.style.top = `${Math.max(8, below + height < window.innerHeight ? below : Math.min(box.top - height - OFFSET, window.innerHeight - height - 8))}px`;
+    const menu = find("menu"), width = menu.offsetWidth, height = menu.offsetHeight, box = anchor.getBoundingClientRect();
+    const lit = [...document.querySelectorAll("#canvas .chosen, #canvas .cause[data-step], #canvas .effect, #canvas .goal, #canvas .wait")].slice(0, 400);
+    const boxes = [box, ...lit.map((mark) => mark.getBoundingClientRect())];
+    const places = placesFor(box, width, height).map((at) => ({ ...at, covers: covered(boxes, at, width, height) }));
+    const best = places.reduce((one, other) => (other.covers < one.covers ? other : one));
+    menu.style.left = `${best.x}px`;
+    menu.style.top = `${best.y}px`;
   }
 
   /** Opens the menu of `{ step }`, `{ goal }`, `{ variable }` or `{ taken }`, beside an element. */

@@ -18,6 +18,9 @@ const Page = (() => {
 
   /** Begins a session, and shows its texts. */
   function begin(given) {
+    const example = EXAMPLES.find((other) => other.program === given.program);
+    find("examples").value = example ? example.name : "";
+    Panels.showLookAt(example && !Guide.isOn() ? ExampleNotes.read(example) : null);
     find("program").value = given.program;
     find("query").value = given.query;
     Menus.close();
@@ -36,12 +39,8 @@ const Page = (() => {
   }
 
   function chooseExample(name, query) {
-    const example = EXAMPLES.find((other) => other.name === name), notes = ExampleNotes.read(example);
-    find("examples").value = name;
-    Panels.showLookAt(notes);
-    begin({ program: example.program, query: query || notes.query });
-    const larger = find("larger-query");
-    if (larger) larger.addEventListener("click", () => begin({ ...typed(), query: notes.larger }));
+    const example = EXAMPLES.find((other) => other.name === name);
+    begin({ program: example.program, query: query || ExampleNotes.read(example).query });
   }
 
   function onChange(what) {
@@ -92,7 +91,7 @@ const Page = (() => {
   }
 
   const BUTTONS = {
-    "begin-tour": () => { Panels.showLookAt(null); Guide.begin(); }, "open-help": showHelp, "open-file": () => find("file").click(),
+    "begin-tour": () => Guide.begin(), "larger-query": () => begin({ ...typed(), query: find("larger-query").value }), "open-help": showHelp, "open-file": () => find("file").click(),
     "save-session": () => Files.saveSession(), "save-picture": () => Files.savePicture(),
     theme: () => setTheme(Canvas.theme === "light" ? "dark" : "light"), tidy,
     "by-record": () => setOrder("record"), "by-depth": () => setOrder("depth"),

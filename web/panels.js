@@ -86,6 +86,7 @@ const Panels = (() => {
     if (Talk.refusal) return `Refused: ${Talk.refusal}`;
     if (Talk.session.hasEnded) return "The session has ended. Start begins a new one.";
     if (failed) return `Goal ${failed.name} has failed (${failed.refusal}). Take back a step that it read, and it may be ready again.`;
+    if (Talk.isTooLong) return "This run has more than 3,000 steps: too many for a picture. The console goes on, and `undo`, `roll` or Start lead back.";
     if (isReady && graph.steps.length === 0) return "A green ring is a goal that is ready: click it, or press Run.";
     if (isReady) return "";
     if (circle.length > 0) return `Nothing is ready: ${[...circle, circle[0]].join(" waits for ")}, in a circle.`;
@@ -114,7 +115,7 @@ const Panels = (() => {
     const area = find("look-at");
     area.hidden = !notes;
     if (!notes) return;
-    const larger = notes.larger && notes.larger !== notes.query ? make("button", { class: "small", id: "larger-query" }, `Try ${notes.larger}`) : null;
+    const larger = notes.larger && notes.larger !== notes.query ? make("button", { class: "small", id: "larger-query", value: notes.larger }, `Try ${notes.larger}`) : null;
     area.replaceChildren(make("p", null, make("b", null, "Look at: "), ...withCode(notes.lookAt)), ...(larger ? [larger] : []));
   }
 

@@ -241,19 +241,20 @@ const Picture = ((Graph, Lanes, Terms) => {
     return items;
   }
 
-  function drawLegend(view, run, theme, colour) {
-    let x = 14, y = view.bottom + 20;
-    const parts = [];
+  function drawLegend(view, run, room, theme, colour) {
+    const widest = Math.max(view.width, Math.min(room, 760)), parts = [];
+    let x = 14, y = view.bottom + 20, width = 0;
     for (const [drawing, words] of legendItems(run, theme, colour)) {
       const wide = 36 + words.length * 6.6;
-      if (x + wide > Math.max(view.width, 420) && x > 14) {
+      if (x + wide > widest && x > 14) {
         x = 14;
         y += 20;
       }
       parts.push(`<g transform="translate(${round(x)} ${round(y)})">${drawing}<text x="20" y="4" font-size="11" fill="${theme.dim}">${escaped(words)}</text></g>`);
       x += wide;
+      width = Math.max(width, x);
     }
-    return { text: `<g class="legend">${parts.join("")}</g>`, bottom: y + 18 };
+    return { text: `<g class="legend">${parts.join("")}</g>`, bottom: y + 18, width };
   }
 
   /** What somebody hears who does not see the picture. */
@@ -271,11 +272,12 @@ const Picture = ((Graph, Lanes, Terms) => {
    */
   function draw(run, options) {
     const theme = THEMES[options.theme || "light"], colour = coloursOf(run, theme), top = options.title ? 62 : 34;
-    const view = { ...Lanes.layout(run, { by: options.by || "record", room: options.room || 1100, top }), top };
+    const room = options.room || 1100;
+    const view = { ...Lanes.layout(run, { by: options.by || "record", room, top }), top };
     const showsImplied = view.sizes.kind !== "tiny" && run.graph.steps.length <= 500;
     const edges = run.graph.edges.filter((edge) => showsImplied || edge.kind === "made" || !edge.implied || edge.woke);
-    const legend = options.legend ? drawLegend(view, run, theme, colour) : { text: "", bottom: view.bottom + 12 };
-    view.width = Math.max(view.width, options.legend ? 420 : 0, options.title ? 28 + options.title.length * 10 : 0);
+    const legend = options.legend ? drawLegend(view, run, room, theme, colour) : { text: "", bottom: view.bottom + 12, width: 0 };
+    view.width = Math.max(view.width, legend.width, options.title ? 28 + options.title.length * 10 : 0);
     const width = Math.ceil(view.width), height = Math.ceil(legend.bottom);
     const parts = [
       `<svg xmlns="http://www.w3.org/2000/svg" class="run" viewBox="0 0 ${width} ${height}" width="${width}" height="${height}" role="img" aria-label="${describe(run)}">`,

@@ -3,7 +3,8 @@ const Talk = (() => {
   "use strict";
 
   const NO_RUN = { graph: Graph.graphOf([]), goals: [], shelf: [], texts: new Map(), clauses: [], values: [] };
-  const talk = { engine: null, session: null, given: { program: "", query: "", history: "" }, entries: [], spied: new Set(), run: NO_RUN, refusal: "" };
+  const talk = { engine: null, session: null, given: { program: "", query: "", history: "" }, entries: [], spied: new Set(), run: NO_RUN, refusal: "", isTooLong: false };
+  const MOST_DRAWN = 3000; // steps; of a longer run no picture is drawn
   const listeners = [];
 
   const listen = (listener) => listeners.push(listener);
@@ -15,7 +16,8 @@ const Talk = (() => {
   function look() {
     const { program, query, history } = talk.given;
     const told = Asking.whereItStands(talk.session, query);
-    const steps = Graph.readRecords(told.records), goals = Graph.readGoals(told.goals);
+    talk.isTooLong = told.records.length > MOST_DRAWN;
+    const steps = talk.isTooLong ? [] : Graph.readRecords(told.records), goals = Graph.readGoals(told.goals);
     const { texts } = talk.run;
     if (steps.length === 0) for (const goal of goals) texts.set(goal.name, goal.text);
     Asking.completeTexts(texts, steps, () => open({ program, query }));
