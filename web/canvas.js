@@ -13,13 +13,14 @@ const Canvas = (() => {
       find("canvas").textContent = "";
       return;
     }
-    const room = Math.max(320, find("canvas").clientWidth - 8) * canvas.zoom;
+    const area = find("canvas"), isScrolled = area.scrollLeft > 0 || area.scrollTop > 0;
+    const room = Math.max(320, area.clientWidth - 8) * canvas.zoom;
     const drawn = Picture.draw(Talk.run, { by: canvas.by, theme: canvas.theme, room, legend: true });
-    find("canvas").innerHTML = drawn.svg;
+    area.innerHTML = drawn.svg;
     canvas.view = drawn.view;
     if (canvas.chosen && !placeOf(canvas.chosen)) canvas.chosen = null;
-    stayInSight();
-    showChosen();
+    if (isScrolled) stayInSight();
+    if (canvas.chosen) showChosen();
   }
 
   const placeOf = (chosen) => (chosen.step !== undefined ? canvas.view.marks.get(chosen.step) : canvas.view.goals.get(chosen.goal));

@@ -8,6 +8,7 @@ const Lanes = ((Graph, Terms) => {
   };
   const between = (least, value, most) => Math.max(least, Math.min(value, most));
   const MOST_CLEAR_ROWS = 5;
+  const MOST_ARCS = 40;
   const NARROW = 600; // the room below which names are short
   const BOLD_LETTER = 0.62, LETTER = 0.56; // the width of a letter, as a part of the font's size
 
@@ -146,6 +147,15 @@ const Lanes = ((Graph, Terms) => {
     return `${goal.name} ${Terms.cut(goal.text, 26)}${Terms.cut(told, 22)}`;
   }
 
+  /** About how much room the goals that are there take up, with their labels, what was taken back from them, and the arcs of waits. */
+  function roomForGoals(run) {
+    if (run.goals.length === 0) return 96;
+    const taken = (goal) => Math.min(3, run.shelf.filter((step) => step.goal === goal.name).length);
+    const labels = run.goals.map((goal) => goalLabel(goal, "roomy").length * 7 + taken(goal) * 30);
+    const arcs = Graph.waitingEdges(run.goals).slice(0, MOST_ARCS).map((edge) => 8 + edge.variable.length * 6);
+    return 60 + Math.max(...labels) + arcs.reduce((sum, width) => sum + width, 0);
+  }
+
   function axis(columns, dx, x) {
     const every = [1, 5, 10, 20, 50].find((number) => number * dx >= 34) || 100;
     const ticks = [];
@@ -178,7 +188,7 @@ const Lanes = ((Graph, Terms) => {
     const ends = [...view.goals.values()].map((place) => place.end);
     const circle = Graph.circleOf(run.goals);
     const isInCircle = (edge) => circle.length > 0 && circle[(circle.indexOf(edge.from) + 1) % circle.length] === edge.to && circle.includes(edge.from);
-    const edges = Graph.waitingEdges(run.goals).slice(0, 40);
+    const edges = Graph.waitingEdges(run.goals).slice(0, MOST_ARCS);
     let x = Math.max(0, ...ends) + 18;
     edges.sort((one, other) => Math.abs(view.goals.get(one.from).y - view.goals.get(one.to).y) - Math.abs(view.goals.get(other.from).y - view.goals.get(other.to).y));
     edges.forEach((edge, index) => {
@@ -215,8 +225,7 @@ const Lanes = ((Graph, Terms) => {
       lane.text = laneText(lane, run, kinds, store, options.room < NARROW ? 13 : 30);
     }
     const letters = Math.max(8, ...lanes.map((lane) => lane.name.length + lane.text.length + 2));
-    const thereRoom = run.goals.length > 0 ? 250 : 96;
-    const sizes = sizesFor(options.room, columns, lanes.length, letters * 7.4 + thereRoom);
+    const sizes = sizesFor(options.room, columns, lanes.length, letters * 7.4 + roomForGoals(run));
     const left = 24 + letters * sizes.font * BOLD_LETTER;
     const x = (column) => left + column * sizes.dx + sizes.dx / 2;
     const view = { by: options.by, lanes, laneOf, kinds, rows, makerOf, sizes, left, columns, store, marks: new Map(), goals: new Map(), taken: [], waits: [] };

@@ -4,7 +4,7 @@ const Menus = (() => {
 
   const { find, make, lineButton } = Elements;
   const plural = (count, word) => `${count} ${word}${count === 1 ? "" : "s"}`;
-  const OFFSET = 14;
+  const OFFSET = 14, MOST_LOOKED_AT = 400;
 
   const title = (words, dim) => make("div", { class: "menu-title" }, make("b", null, words), " ", make("span", { class: "dim" }, dim));
   const code = (...lines) => make("div", { class: "code" }, lines.filter(Boolean).join("\n"));
@@ -105,7 +105,8 @@ const Menus = (() => {
   /** Puts the menu where it covers as little as possible of what is lit; on a narrow window the style puts it at the bottom. */
   function place(anchor) {
     const menu = find("menu"), width = menu.offsetWidth, height = menu.offsetHeight, box = anchor.getBoundingClientRect();
-    const lit = [...document.querySelectorAll("#canvas .chosen, #canvas .cause[data-step], #canvas .effect, #canvas .goal, #canvas .wait")].slice(0, 400);
+    const steps = document.querySelector("#canvas .looking") ? ".chosen, .cause[data-step], .effect" : ".mark";
+    const lit = [...find("canvas").querySelectorAll(`${steps}, .goal, .wait`)].slice(0, MOST_LOOKED_AT);
     const boxes = [box, ...lit.map((mark) => mark.getBoundingClientRect())];
     const places = placesFor(box, width, height).map((at) => ({ ...at, covers: covered(boxes, at, width, height) }));
     const best = places.reduce((one, other) => (other.covers < one.covers ? other : one));
