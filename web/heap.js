@@ -64,28 +64,28 @@ const Heap = (() => {
       const kind = classOf(bytes);
       const spare = this.spare[kind];
       if (spare) {
-        this.spare[kind] = this.words[spare / 4];
+        this.spare[kind] = this.words[spare >>> 2];
         return spare;
       }
       const place = this.end;
       const end = place + unitsOf(kind) * UNIT;
       if (!this.grow(end)) return 0;
       this.end = end;
-      this.words[(place - HEAD) / 4] = kind;
+      this.words[(place - HEAD) >>> 2] = kind;
       return place;
     }
 
     // Takes a block back.
     give(place) {
-      const kind = this.words[(place - HEAD) / 4];
-      this.words[place / 4] = this.spare[kind] || 0;
+      const kind = this.words[(place - HEAD) >>> 2];
+      this.words[place >>> 2] = this.spare[kind] || 0;
       this.spare[kind] = place;
     }
 
     // The place of a block of so many bytes that begins with what is kept of another, which is given back; 0 where there is no
     // memory, and then the other stays.
     resize(place, kept, bytes) {
-      const kind = this.words[(place - HEAD) / 4];
+      const kind = this.words[(place - HEAD) >>> 2];
       if (classOf(bytes) === kind) return place;
       const moved = this.take(bytes);
       if (moved === 0) return 0;

@@ -9,6 +9,7 @@ const Host = (() => {
   const NO_SUCH_FILE = 2, BAD_DESCRIPTOR = 9, NO_SPACE = 28, CANNOT_SEEK = 29; // errors by their numbers on Linux
   const FROM_START = 0, FROM_HERE = 1;
   const NOWHERE = 16; // the place that is told with "no memory"; nobody looks there
+  const FEATURES = 32; // bytes that say what a processor can do
 
   // Bytes that are read from a place on.
   class Reader {
@@ -44,6 +45,8 @@ const Host = (() => {
       this.memory = memory;
       this.heap = heap;
       this.reading = reading;
+      this.features = heap.take(FEATURES);
+      this.bytes(this.features, FEATURES).fill(255);
     }
 
     // Puts bytes behind the input that is not read yet.
@@ -89,11 +92,14 @@ const Host = (() => {
       return -1;
     }
 
-    // Answers a request for memory: a byte that says whether there is some, and 8 bytes behind it the place.
+    // Answers a request for memory by two numbers of 64 bits: 1 where there is some, else 0, and the place.
     answer(at, place) {
-      const view = new DataView(this.memory.buffer);
-      view.setUint8(at, place === 0 ? 0 : 1);
-      view.setBigUint64(at + 8, BigInt(place === 0 ? NOWHERE : place), true);
+      const { words } = this.heap;
+      const index = at >>> 2;
+      words[index] = place === 0 ? 0 : 1;
+      words[index + 1] = 0;
+      words[index + 2] = place === 0 ? NOWHERE : place;
+      words[index + 3] = 0;
     }
 
     // Puts a word of the command line into a room: its length, -1 where there is none, -2 where it is too long.
@@ -157,6 +163,9 @@ const Host = (() => {
         write: (descriptor, from, length) => wide(this.write(descriptor, Number(from), Number(length))),
         lseek: (descriptor, offset, from) => wide(this.seek(descriptor, Number(offset), from)),
         close: (descriptor) => this.close(descriptor),
+        __write: (descriptor, from, length) => wide(this.write(descriptor, Number(from), Number(length))),
+        // The program asks first whether the processor has all that its code for x86-64 needs. This code needs nothing of it: yes.
+        __x86_get_cpuid_feature_leaf: () => wide(this.features),
         __sysv_signal: () => 0n, // the one signal that the program asks about, of a pipe that is closed, never comes here
         sched_yield: () => 0,
         syscall: () => { throw new Error("the program would wait for another thread, and there is none"); },
