@@ -13,6 +13,7 @@ const Picture = ((Graph, Lanes, Terms) => {
     predicates: ["#6aa9ec", "#f0a75a", "#63c18a", "#cf86cc", "#ec7d76", "#86c5d4", "#c9ab72", "#a3a8f0", "#b3d46a", "#f09abf"],
   };
   const THEMES = { light: LIGHT, dark: DARK };
+  const MOST_WITH_CLEAR_CURVES = 120; // steps; of longer runs no curve looks for a way past others
   const FONT = "Inter, 'DejaVu Sans', Helvetica, Arial, sans-serif";
 
   const escaped = (text) => String(text).replace(/&/g, "&amp;").replace(/</g, "&lt;").replace(/>/g, "&gt;").replace(/"/g, "&quot;");
@@ -121,17 +122,51 @@ const Picture = ((Graph, Lanes, Terms) => {
     return `<g class="edge" data-from="${maker.number}"><path class="made" stroke-dasharray="2 4" d="M${x} ${round(from.y)} C${x} ${y} ${x} ${y} ${round(Math.min(x + view.sizes.dx * 0.5, place.x))} ${y} H${round(place.x - view.sizes.radius)}"/></g>`;
   }
 
-  /** The curve of a read, from the step that bound to the step that read. */
+  /** The four points of a curve between two places of one height, which bows up; its end is beside the circle that it leads to. */
+  function bowedCurve(view, from, to, gap) {
+    const { leaf } = view.sizes, wide = to.x - from.x, up = Math.min(26, 8 + wide * 0.22) + 6;
+    return [[from.x, from.y - leaf], [from.x + wide * 0.2, from.y - up], [to.x - wide * 0.2, to.y - up], [to.x - gap * 0.6, to.y - gap * 0.8]];
+  }
+
+  /** Curves between two places, the one that is wanted first, then one that falls late, and one that falls early. */
+  function curvesOf(view, from, to) {
+    const gap = (to.isLeaf ? view.sizes.leaf : view.sizes.radius) + 1.5, wide = to.x - from.x, high = to.y - from.y;
+    if (Math.abs(high) < 3) return [bowedCurve(view, from, to, gap)];
+    const { leaf } = view.sizes, sign = Math.sign(high), bend = Math.min(wide * 0.5, 60);
+    const start = [from.x + leaf * 0.5, from.y + sign * leaf * 0.5], end = [to.x - gap * 0.75, to.y - sign * gap * 0.66];
+    return [
+      [start, [from.x + bend, from.y + high * 0.25], [end[0] - bend, end[1] - high * 0.12], end],
+      [start, [from.x + wide * 0.75, from.y], [end[0] - wide * 0.08, from.y + high * 0.3], end],
+      [start, [from.x + wide * 0.1, from.y + high * 0.7], [from.x + wide * 0.25, end[1]], end],
+    ];
+  }
+
+  /** The point of a curve at a part of its length, from 0 to 1. */
+  function pointOn([start, first, second, end], part) {
+    const rest = 1 - part, shares = [rest ** 3, 3 * rest ** 2 * part, 3 * rest * part ** 2, part ** 3];
+    const sum = (axis) => shares[0] * start[axis] + shares[1] * first[axis] + shares[2] * second[axis] + shares[3] * end[axis];
+    return { x: sum(0), y: sum(1) };
+  }
+
+  /** How many marks a curve runs into, but those that it joins. */
+  function hits(view, curve, from, to) {
+    const near = (mark, point) => Math.hypot(mark.x - point.x, mark.y - point.y) < (mark.isLeaf ? view.sizes.leaf : view.sizes.radius) + 3;
+    const points = Array.from({ length: 19 }, (none, index) => pointOn(curve, (index + 1) / 20));
+    const others = [...view.marks.values()].filter((mark) => mark !== from && mark !== to && mark.x > from.x && mark.x < to.x);
+    return others.filter((mark) => points.some((point) => near(mark, point))).length;
+  }
+
+  /** The curve of a read, from the step that bound to the step that read: of a small run, one that runs into few others. */
   function readCurve(view, from, to) {
-    const { radius, leaf } = view.sizes;
-    const gap = (to.isLeaf ? leaf : radius) + 1.5, wide = to.x - from.x, high = to.y - from.y;
-    if (Math.abs(high) < 3) {
-      const up = Math.min(26, 8 + wide * 0.22) + 6;
-      return `M${round(from.x)} ${round(from.y - leaf)} C${round(from.x + wide * 0.2)} ${round(from.y - up)} ${round(to.x - wide * 0.2)} ${round(to.y - up)} ${round(to.x - gap * 0.6)} ${round(to.y - gap * 0.8)}`;
-    }
-    const sign = Math.sign(high), bend = Math.min(wide * 0.5, 60);
-    const endX = to.x - gap * 0.75, endY = to.y - sign * gap * 0.66;
-    return `M${round(from.x + leaf * 0.5)} ${round(from.y + sign * leaf * 0.5)} C${round(from.x + bend)} ${round(from.y + high * 0.25)} ${round(endX - bend)} ${round(endY - high * 0.12)} ${round(endX)} ${round(endY)}`;
+    const curves = curvesOf(view, from, to);
+    if (view.sizes.kind !== "roomy" || view.marks.size > MOST_WITH_CLEAR_CURVES) return curves[0];
+    const counts = curves.map((curve) => hits(view, curve, from, to));
+    return curves[counts.indexOf(Math.min(...counts))];
+  }
+
+  function pathOf([start, ...others]) {
+    const point = ([x, y]) => `${round(x)} ${round(y)}`;
+    return `M${point(start)} C${others.map(point).join(" ")}`;
   }
 
   function drawRead(view, edge) {
@@ -140,7 +175,7 @@ const Picture = ((Graph, Lanes, Terms) => {
     const bound = from.step.binds.filter((binding) => edge.variables.includes(binding.variable));
     const told = [`step ${edge.to} read ${edge.variables.join(", ")}, which step ${edge.from} bound${edge.woke ? ", and was woken by it" : ""}`,
       ...bound.map((binding) => `${binding.variable} = ${Terms.cut(binding.term, 200)}`)];
-    return `<g class="edge" data-from="${edge.from}" data-to="${edge.to}"><path class="read${kind}" d="${readCurve(view, from, to)}" marker-end="url(#head-${edge.woke ? "woke" : "read"})"/><title>${escaped(told.join("\n"))}</title></g>`;
+    return `<g class="edge" data-from="${edge.from}" data-to="${edge.to}"><path class="read${kind}" d="${pathOf(readCurve(view, from, to))}" marker-end="url(#head-${edge.woke ? "woke" : "read"})"/><title>${escaped(told.join("\n"))}</title></g>`;
   }
 
   const drawEdge = (view, edge) => (edge.kind === "made" ? drawMade(view, edge) : drawRead(view, edge));

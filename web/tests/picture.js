@@ -1,6 +1,9 @@
 // Tests of web/lanes.js and web/picture.js: each kept step once, no two marks on one place, every arrow goes right, well-formed SVG.
 "use strict";
 
+const { spawnSync } = require("node:child_process");
+const fs = require("node:fs");
+const path = require("node:path");
 const test = require("node:test");
 const assert = require("node:assert/strict");
 const Lanes = require("../lanes.js");
@@ -79,6 +82,14 @@ test("terms in few letters", () => {
   assert.equal(Terms.brief("_0_2", store), "f(…)");
   assert.equal(Terms.brief("_9_9", store), "·");
   assert.equal(Terms.briefCall("filter(_0_1,[],_5_1)", store), "filter([1,2,3|·],[],·)");
+});
+
+test("the pictures of the manuals are those that web/picture draws", () => {
+  const pictures = path.join(__dirname, "..", "..", "docs", "pictures");
+  for (const [name, room] of [["quicksort", "900"], ["bill", "700"]]) {
+    const drawn = spawnSync(process.execPath, [path.join(__dirname, "..", "picture"), "--room", room, path.join(pictures, `${name}.row`)], { encoding: "utf8" });
+    assert.equal(drawn.stdout, fs.readFileSync(path.join(pictures, `${name}.svg`), "utf8"), `${name}${drawn.stderr}`);
+  }
 });
 
 test("901 steps are laid out and drawn in less than half a second", async () => {
