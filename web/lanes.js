@@ -153,7 +153,7 @@ const Lanes = ((Graph, Terms) => {
     const taken = (goal) => Math.min(3, run.shelf.filter((step) => step.goal === goal.name).length);
     const labels = run.goals.map((goal) => goalLabel(goal, "roomy").length * 7 + taken(goal) * 30);
     const arcs = Graph.waitingEdges(run.goals).slice(0, MOST_ARCS).map((edge) => 8 + edge.variable.length * 6);
-    return 60 + Math.max(...labels) + arcs.reduce((sum, width) => sum + width, 0);
+    return 90 + Math.max(...labels) + arcs.reduce((sum, width) => sum + width, 0);
   }
 
   function axis(columns, dx, x) {

@@ -10,7 +10,7 @@ const Page = (() => {
   const HELP = [
     ["Picture", "A line is a process, and time goes right. `●` reduces a goal by a clause, `◆` binds a variable, `■` computes, a flag is an input. A grey line leads from a step to a goal that it made, a blue arrow to a step that read what it bound; an orange dashed one says that this woke a goal that waited. A green ring is a goal that is ready, a dashed one waits, and its dotted arc points at a goal that has its variable."],
     ["Click", "a step, a goal, a variable, or something that was taken back, and choose. Each click types a line at the console, where you see what it is called."],
-    ["Keys", "`s` steps the first goal that is ready, `r` runs, `u` takes back the last step, `t` tidies the order, `d` changes between recorded order and causal depth, `/` goes to the console, `Escape` closes. In the picture `←` `→` go from step to step, `↑` `↓` to a cause or an effect, `Enter` opens what can be done."],
+    ["Keys", "`s` steps the first goal that is ready, `r` runs, `u` takes back the last step, `t` tidies the order, `d` changes between recorded order and causal depth, `/` goes to the console, `Escape` closes, and `Ctrl` `Enter` in the program starts it. In the picture `←` `→` go from step to step, `↑` `↓` to a cause or an effect, `Enter` opens what can be done."],
     ["Texts", "`Save` keeps program, query and all lines in a text; `Open` plays it again. It opens histories (as `save` writes them) and programs, too. All that is described in docs/LANGUAGE.md and docs/FORMATS.md."],
   ];
 
@@ -137,6 +137,7 @@ const Page = (() => {
   };
 
   function onKey(event) {
+    if (event.key === "Enter" && (event.ctrlKey || event.metaKey) && event.target === find("program")) find("start").requestSubmit();
     if (event.ctrlKey || event.metaKey || event.altKey || find("help").open) return;
     if (event.key === "Escape") {
       const wasOpen = !find("menu").hidden;

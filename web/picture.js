@@ -122,16 +122,16 @@ const Picture = ((Graph, Lanes, Terms) => {
     return `<g class="edge" data-from="${maker.number}"><path class="made" stroke-dasharray="2 4" d="M${x} ${round(from.y)} C${x} ${y} ${x} ${y} ${round(Math.min(x + view.sizes.dx * 0.5, place.x))} ${y} H${round(place.x - view.sizes.radius)}"/></g>`;
   }
 
-  /** The four points of a curve between two places of one height, which bows up; its end is beside the circle that it leads to. */
-  function bowedCurve(view, from, to, gap) {
-    const { leaf } = view.sizes, wide = to.x - from.x, up = Math.min(26, 8 + wide * 0.22) + 6;
-    return [[from.x, from.y - leaf], [from.x + wide * 0.2, from.y - up], [to.x - wide * 0.2, to.y - up], [to.x - gap * 0.6, to.y - gap * 0.8]];
+  /** The four points of a curve between two places of one height, which bows up (`way` is -1) or down (1); it ends beside a circle. */
+  function bowedCurve(view, from, to, gap, way) {
+    const { leaf } = view.sizes, wide = to.x - from.x, bow = way * (Math.min(26, 8 + wide * 0.22) + 6);
+    return [[from.x, from.y + way * leaf], [from.x + wide * 0.2, from.y + bow], [to.x - wide * 0.2, to.y + bow], [to.x - gap * 0.6, to.y + way * gap * 0.8]];
   }
 
   /** Curves between two places, the one that is wanted first, then one that falls late, and one that falls early. */
   function curvesOf(view, from, to) {
     const gap = (to.isLeaf ? view.sizes.leaf : view.sizes.radius) + 1.5, wide = to.x - from.x, high = to.y - from.y;
-    if (Math.abs(high) < 3) return [bowedCurve(view, from, to, gap)];
+    if (Math.abs(high) < 3) return [bowedCurve(view, from, to, gap, -1), bowedCurve(view, from, to, gap, 1)];
     const { leaf } = view.sizes, sign = Math.sign(high), bend = Math.min(wide * 0.5, 60);
     const start = [from.x + leaf * 0.5, from.y + sign * leaf * 0.5], end = [to.x - gap * 0.75, to.y - sign * gap * 0.66];
     return [

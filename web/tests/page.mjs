@@ -145,6 +145,7 @@ test("a session is saved as a text, and opened again as it was; a history and a 
   await page.value(`Files.openText(${JSON.stringify(saved)})`);
   assert.deepEqual(await page.value(TOLD), told);
   assert.equal(await page.value("Files.sessionText()"), saved);
+  assert.match(await page.value("Files.pictureText()"), /^<svg xmlns="http:\/\/www.w3.org\/2000\/svg"[^]*data-step="1"[^]*data-taken="2"[^]*<\/svg>$/);
   await page.value(`Files.openText("ghc-history 1\\nsteps 1\\n7 0.1 by 2\\nend 9\\n")`);
   assert.deepEqual(await page.value(numbers("#canvas [data-step]")), [7]);
   await page.value(`Files.openText("p(a) :- true | q(")`);
