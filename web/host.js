@@ -77,6 +77,7 @@ const Host = (() => {
       return whole;
     }
 
+    // So many bytes of the memory, from a place on.
     bytes(place, length) {
       return new Uint8Array(this.memory.buffer, place, length);
     }
@@ -87,6 +88,7 @@ const Host = (() => {
       return new TextDecoder().decode(all.slice(place, all.indexOf(0, place)));
     }
 
+    // Answers that a call has failed, and keeps why for those who ask.
     fail(error) {
       this.error = error;
       return -1;
@@ -110,6 +112,7 @@ const Host = (() => {
       return word.length <= room ? word.length : -2;
     }
 
+    // A descriptor of a file, from whose beginning it is read.
     openFile(name) {
       const bytes = this.files.get(name);
       if (bytes === undefined) return this.fail(NO_SUCH_FILE);
@@ -118,6 +121,7 @@ const Host = (() => {
       return this.lastFile;
     }
 
+    // Puts the next bytes of a file or of the input into a room, and answers how many; 0 at the end.
     read(descriptor, to, most) {
       this.reading.before();
       const reader = this.open.get(descriptor);
@@ -135,6 +139,7 @@ const Host = (() => {
       return length;
     }
 
+    // Sets the place of a file at which it is read next.
     seek(descriptor, offset, from) {
       const reader = this.open.get(descriptor);
       if (reader === undefined || descriptor < FIRST_FILE) return this.fail(CANNOT_SEEK);
