@@ -23,7 +23,8 @@ const Engine = (() => {
     // `given` is what a Host is given: words, files, devices without room.
     constructor(compiled, given) {
       this.host = new TheHost(given);
-      this.calls = new WebAssembly.Instance(compiled, { host: this.host.imports() }).exports;
+      const asked = WebAssembly.Module.imports(compiled).map(({ name }) => name);
+      this.calls = new WebAssembly.Instance(compiled, { host: this.host.imports(asked) }).exports;
       const { memory, __heap_base: base } = this.calls;
       const heap = new TheHeap(memory, Number(base.value));
       this.host.join(memory, heap, { before: () => this.enter(), wait: () => this.leave() });

@@ -152,8 +152,16 @@ const Host = (() => {
       return this.open.delete(descriptor) ? 0 : this.fail(BAD_DESCRIPTOR);
     }
 
-    // The functions that the module imports. A number of 64 bits comes and goes as a BigInt.
-    imports() {
+    // The functions that a module imports, by their names. One that the host does not have stops the engine when it is called, as
+    // those do that start threads or wait for another.
+    imports(names) {
+      const calls = this.calls();
+      const lacks = (name) => () => { throw new Error(`the program asked for ${name}, which a page does not have`); };
+      return Object.fromEntries(names.map((name) => [name, calls[name] ?? lacks(name)]));
+    }
+
+    // What the host answers to each call. A number of 64 bits comes and goes as a BigInt.
+    calls() {
       const wide = BigInt;
       return {
         rattle_alloc: (at, bytes) => this.answer(Number(at), this.heap.take(Number(bytes))),
@@ -173,7 +181,6 @@ const Host = (() => {
         __x86_get_cpuid_feature_leaf: () => wide(this.features),
         __sysv_signal: () => 0n, // the one signal that the program asks about, of a pipe that is closed, never comes here
         sched_yield: () => 0,
-        syscall: () => { throw new Error("the program would wait for another thread, and there is none"); },
       };
     }
   }
