@@ -147,13 +147,16 @@ const Lanes = ((Graph, Terms) => {
     return `${goal.name} ${Terms.cut(goal.text, 26)}${Terms.cut(told, 22)}`;
   }
 
+  /** The width of a column of arcs, with their variables. */
+  const arcWidth = (edges) => 10 + Math.max(0, ...edges.map((edge) => edge.variable.length)) * 6;
+
   /** About how much room the goals that are there take up, with their labels, what was taken back from them, and the arcs of waits. */
   function roomForGoals(run) {
     if (run.goals.length === 0) return 96;
     const taken = (goal) => Math.min(3, run.shelf.filter((step) => step.goal === goal.name).length);
     const labels = run.goals.map((goal) => goalLabel(goal, "roomy").length * 7 + taken(goal) * 30);
-    const arcs = Graph.waitingEdges(run.goals).slice(0, MOST_ARCS).map((edge) => 8 + edge.variable.length * 6);
-    return 90 + Math.max(...labels) + arcs.reduce((sum, width) => sum + width, 0);
+    const edges = Graph.waitingEdges(run.goals).slice(0, MOST_ARCS);
+    return 70 + Math.max(...labels) + Math.min(3, edges.length) * arcWidth(edges);
   }
 
   function axis(columns, dx, x) {
@@ -183,21 +186,32 @@ const Lanes = ((Graph, Terms) => {
     }
   }
 
-  /** The arcs from waiting goals to the goals that have their variable, beside each other at the right. */
+  /** The columns of arcs: each arc goes into the first in which it meets no other, short ones first. */
+  function columnsOfArcs(arcs) {
+    const columns = [], length = (arc) => Math.abs(arc.fromY - arc.toY);
+    for (const arc of [...arcs].sort((one, other) => length(one) - length(other))) {
+      const top = Math.min(arc.fromY, arc.toY) - 2, bottom = Math.max(arc.fromY, arc.toY) + 2;
+      const meets = (column) => column.some((other) => other.top < bottom && top < other.bottom);
+      const free = columns.findIndex((column) => !meets(column));
+      arc.column = free >= 0 ? free : columns.length;
+      columns[arc.column] = [...(columns[arc.column] || []), { top, bottom }];
+    }
+    return columns.length;
+  }
+
+  /** The arcs from waiting goals to the goals that have their variable, beside each other at the right. Gives where they end. */
   function placeWaits(view, run) {
-    const ends = [...view.goals.values()].map((place) => place.end);
+    const right = Math.max(0, ...[...view.goals.values()].map((place) => place.end));
     const circle = Graph.circleOf(run.goals);
-    const isInCircle = (edge) => circle.length > 0 && circle[(circle.indexOf(edge.from) + 1) % circle.length] === edge.to && circle.includes(edge.from);
+    const isInCircle = (edge) => circle.includes(edge.from) && circle[(circle.indexOf(edge.from) + 1) % circle.length] === edge.to;
     const edges = Graph.waitingEdges(run.goals).slice(0, MOST_ARCS);
-    let x = Math.max(0, ...ends) + 18;
-    edges.sort((one, other) => Math.abs(view.goals.get(one.from).y - view.goals.get(one.to).y) - Math.abs(view.goals.get(other.from).y - view.goals.get(other.to).y));
-    edges.forEach((edge, index) => {
+    view.waits = edges.map((edge) => {
       const from = view.goals.get(edge.from), to = view.goals.get(edge.to);
-      const shift = 3 + 3 * (index % 2);
-      view.waits.push({ ...edge, x, fromX: from.end + 4, fromY: from.y + shift, toX: to.end + 6, toY: to.y - shift, isInCircle: isInCircle(edge) });
-      x += 8 + edge.variable.length * 6;
+      return { ...edge, fromX: from.end + 4, fromY: from.y + 4, toX: to.end + 6, toY: to.y - 4, isInCircle: isInCircle(edge) };
     });
-    return edges.length > 0 ? x + 10 : Math.max(0, ...ends) + 10;
+    const wide = arcWidth(edges), columns = columnsOfArcs(view.waits);
+    for (const wait of view.waits) wait.x = right + 22 + wait.column * wide;
+    return right + 22 + columns * wide;
   }
 
   function placeLanes(view, top) {

@@ -93,6 +93,7 @@ const Page = (() => {
   const BUTTONS = {
     "begin-tour": () => Guide.begin(), "larger-query": () => begin({ ...typed(), query: find("larger-query").value }), "open-help": showHelp, "open-file": () => find("file").click(),
     "save-session": () => Files.saveSession(), "save-picture": () => Files.savePicture(),
+    "redo-all": () => Talk.send(...Talk.run.shelf.map((step) => `redo ${step.number}`)),
     theme: () => setTheme(Canvas.theme === "light" ? "dark" : "light"), tidy,
     "by-record": () => setOrder("record"), "by-depth": () => setOrder("depth"),
     smaller: () => setZoom(Canvas.zoom / 1.4), larger: () => setZoom(Canvas.zoom * 1.4), fit: () => setZoom(1),

@@ -3,7 +3,7 @@ const Panels = (() => {
   "use strict";
 
   const { find, make, lineButton, withCode } = Elements;
-  const MOST_ROWS = 200;
+  const MOST_ROWS = 200, MOST_LINES = 5000;
   const plural = (count, word) => `${count} ${word}${count === 1 ? "" : "s"}`;
   const isRefusal = (line) => /^F\d+ /.test(line) || /^(program|query|history|session): /.test(line);
   let shown = 0;
@@ -12,8 +12,9 @@ const Panels = (() => {
     const told = find("told");
     told.append(make("div", { class: "typed" }, `> ${entry.line}`));
     if (entry.reply.length === 0) return;
-    const isRefused = entry.reply.length === 1 && isRefusal(entry.reply[0]);
-    told.append(make("div", { class: isRefused ? "refused" : null }, entry.reply.join("\n")));
+    const isRefused = entry.reply.length === 1 && isRefusal(entry.reply[0]), more = entry.reply.length - MOST_LINES;
+    if (more > 0) told.append(make("div", { class: "dim" }, `(${more} lines that are not shown here)`));
+    told.append(make("div", { class: isRefused ? "refused" : null }, entry.reply.slice(-MOST_LINES).join("\n")));
   }
 
   /** With what the page was made. */
@@ -66,6 +67,7 @@ const Panels = (() => {
     const chips = Talk.run.shelf.map((step) => () =>
       make("button", { class: "chip taken", "data-line": `redo ${step.number}`, title: `redo ${step.number}: puts it there again` }, `${step.number} ${step.goal} ${step.act}`));
     fill("shelf", chips, "nothing");
+    find("redo-all").hidden = chips.length < 2;
   }
 
   /** What is told of the step that is chosen. */

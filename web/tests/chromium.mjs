@@ -1,17 +1,14 @@
-// Drives a headless Chromium by its debugging pipe: opens a page, clicks, types, takes pictures.
-import { spawn, spawnSync } from "node:child_process";
+// Drives a headless Chromium by its debugging pipe.
+import { spawn } from "node:child_process";
 import fs from "node:fs";
 import os from "node:os";
 import path from "node:path";
+import { BrowserPage, nameOf } from "./browser.mjs";
 
 const NAMES = ["chromium", "chromium-browser", "google-chrome"];
 const KEY_CODES = { Enter: 13, Escape: 27, ArrowLeft: 37, ArrowUp: 38, ArrowRight: 39, ArrowDown: 40 };
-const LONGEST_WAIT = 20000;
 
-const sleep = (milliseconds) => new Promise((done) => setTimeout(done, milliseconds));
-
-/** The name of a Chromium that is there, or nothing. */
-export const chromiumName = () => NAMES.find((name) => spawnSync(name, ["--version"]).status === 0);
+export const chromiumName = () => nameOf(NAMES);
 
 /** Sends commands over the pipe, and gives their answers. */
 class Pipe {
@@ -40,10 +37,10 @@ class Pipe {
   }
 }
 
-/** A page that is open in a browser. */
-export class OpenPage {
+/** A page that is open in a Chromium. */
+export class ChromiumPage extends BrowserPage {
   static async open({ width = 1500, height = 900 } = {}) {
-    const page = new OpenPage();
+    const page = new ChromiumPage();
     page.folder = fs.mkdtempSync(path.join(os.tmpdir(), "ghcdb-chromium-"));
     const words = ["--headless", "--no-sandbox", "--disable-gpu", "--hide-scrollbars", "--remote-debugging-pipe", `--user-data-dir=${page.folder}`];
     page.browser = spawn(chromiumName(), words, { stdio: ["ignore", "ignore", "ignore", "pipe", "pipe"], env: { ...process.env, HOME: page.folder } });
@@ -71,39 +68,22 @@ export class OpenPage {
     return told.result.value;
   }
 
-  /** Goes to an address, and waits until an expression is true there. */
-  async go(address, isReady) {
-    await this.send("Page.navigate", { url: "about:blank" });
-    await this.send("Page.navigate", { url: address });
-    const start = Date.now();
-    while (Date.now() - start < LONGEST_WAIT) {
-      if (await this.value(isReady).catch(() => false)) return;
-      await sleep(50);
-    }
-    throw new Error(`${address} did not get ready`);
+  navigate(url) {
+    return this.send("Page.navigate", { url });
   }
 
-  /** The middle of what a selector finds, after it was scrolled into sight; nothing where it finds nothing that is seen. */
-  middle(selector) {
-    return this.value(`(() => {
-      const found = document.querySelector(${JSON.stringify(selector)}), part = found && (found.querySelector(".body") || found);
-      if (!part || part.getClientRects().length === 0) return null;
-      part.scrollIntoView({ block: "nearest", inline: "nearest" });
-      const box = part.getBoundingClientRect();
-      return { x: box.x + box.width / 2, y: box.y + box.height / 2 };
-    })()`);
+  mouse(kind, { x, y }) {
+    const isMove = kind === "mouseMoved";
+    return this.send("Input.dispatchMouseEvent", { type: kind, x, y, button: isMove ? "none" : "left", clickCount: isMove ? 0 : 1 });
   }
 
-  async point(selector) {
-    const place = await this.middle(selector);
-    if (!place) throw new Error(`nothing is seen of ${selector}`);
-    await this.send("Input.dispatchMouseEvent", { type: "mouseMoved", ...place });
-    return place;
+  moveTo(place) {
+    return this.mouse("mouseMoved", place);
   }
 
-  async click(selector) {
-    const place = await this.point(selector);
-    for (const type of ["mousePressed", "mouseReleased"]) await this.send("Input.dispatchMouseEvent", { type, ...place, button: "left", clickCount: 1 });
+  async press(place) {
+    await this.mouse("mousePressed", place);
+    await this.mouse("mouseReleased", place);
   }
 
   type(text) {
@@ -121,8 +101,7 @@ export class OpenPage {
     fs.writeFileSync(file, Buffer.from(data, "base64"));
   }
 
-  /** What was thrown in the page and caught by nobody. */
-  thrown() {
+  async thrown() {
     return this.pipe.events.filter((event) => event.method === "Runtime.exceptionThrown").map((event) => event.params.exceptionDetails.exception.description);
   }
 

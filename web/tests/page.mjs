@@ -1,11 +1,13 @@
-// Tests of web/ghcdb.html in a headless Chromium, from a file: the tour of the tutorial is gone through by clicks, and what the page
-// shows is what docs/TUTORIAL.md says; then clicks and keys on examples. Without a Chromium nothing is tried, and that is said.
+// Tests of web/ghcdb.html in a headless Chromium and a headless Firefox, from a file: the tour of the tutorial is gone through by
+// clicks, and what the page shows is what docs/TUTORIAL.md says; then clicks and keys on examples. A browser that is not there is
+// not tried, and that is said.
 import { createRequire } from "node:module";
 import path from "node:path";
 import { pathToFileURL, fileURLToPath } from "node:url";
 import test from "node:test";
 import assert from "node:assert/strict";
-import { OpenPage, chromiumName } from "./chromium.mjs";
+import { ChromiumPage, chromiumName } from "./chromium.mjs";
+import { FirefoxPage, firefoxName } from "./firefox.mjs";
 
 const require = createRequire(import.meta.url);
 const Tour = require("../tour.js");
@@ -22,20 +24,26 @@ const TOLD = `[...document.querySelectorAll("#told > .typed")].map((typed) => ({
   reply: typed.nextElementSibling && !typed.nextElementSibling.classList.contains("typed") ? typed.nextElementSibling.textContent.split("\\n") : [],
 }))`;
 
-const skip = chromiumName() ? false : "there is no Chromium: the page was not tried";
+const BROWSERS = [{ name: "Chromium", Page: ChromiumPage, isThere: chromiumName() }, { name: "Firefox", Page: FirefoxPage, isThere: firefoxName() }];
+
 const open = async (page, address, size) => {
   if (size) await page.size(...size);
   await page.go(`${PAGE}${address}`, STARTED);
 };
 const numbers = (selector) => `[...document.querySelectorAll(${JSON.stringify(selector)})].map((one) => Number(one.dataset.step))`;
 
-async function withPage(does) {
-  const page = await OpenPage.open();
-  try {
-    await does(page);
-    assert.deepEqual(page.thrown(), []);
-  } finally {
-    await page.close();
+/** Tries the page in each browser that is there. */
+function inBrowsers(words, does) {
+  for (const { name, Page, isThere } of BROWSERS) {
+    test(`${name}: ${words}`, { skip: isThere ? false : `there is no ${name}: the page was not tried in it` }, async () => {
+      const page = await Page.open();
+      try {
+        await does(page);
+        assert.deepEqual(await page.thrown(), []);
+      } finally {
+        await page.close();
+      }
+    });
   }
 }
 
@@ -60,7 +68,7 @@ async function doStation(page, station) {
 
 const chosenIsPointed = `document.querySelectorAll(".pointed").length === 1`;
 
-test("the tour is gone through by clicks, and the console shows what docs/TUTORIAL.md says", { skip }, () => withPage(async (page) => {
+inBrowsers("the tour is gone through by clicks, and the console shows what docs/TUTORIAL.md says", async (page) => {
   await open(page, "");
   await page.click("#begin-tour");
   const told = tutorialSessions();
@@ -76,18 +84,18 @@ test("the tour is gone through by clicks, and the console shows what docs/TUTORI
   assert.deepEqual(await page.value(TOLD), told[2], "the last session is told to its end");
   assert.match(await page.value('document.getElementById("guide").textContent'), /That was the tour/);
   assert.deepEqual(await page.value('[...document.querySelectorAll("#store .row")].map((row) => row.textContent)[0]'), "T = 126");
-}));
+});
 
-test("the tour can be gone through on a narrow window", { skip }, () => withPage(async (page) => {
+inBrowsers("the tour can be gone through on a narrow window", async (page) => {
   await open(page, "", [390, 800]);
   await page.click("#begin-tour");
   for (const station of Tour.STATIONS) {
     await doStation(page, station);
   }
   assert.match(await page.value('document.getElementById("guide").textContent'), /That was the tour/);
-}));
+});
 
-test("a step's causes and effects are lit, a roll rings what goes, a redo brings it back", { skip }, () => withPage(async (page) => {
+inBrowsers("a step's causes and effects are lit, a roll rings what goes, a redo brings it back", async (page) => {
   await open(page, "#example=append&query=append([1],[2],R)&lines=step 0.1;step 1.1;step 1.2;step 3.1");
   await page.click('#canvas [data-step="3"]');
   assert.deepEqual(await page.value(numbers("#canvas .cause[data-step]")), [1]);
@@ -104,9 +112,9 @@ test("a step's causes and effects are lit, a roll rings what goes, a redo brings
   assert.deepEqual((await page.value(TOLD)).at(-1), { line: "redo 3", reply: ["REDU 3 1.2 by 1", "CALL 3.1 _1_1 = [2]"] });
   await page.click('#shelf [data-line="redo 4"]');
   assert.equal(await page.value('document.querySelector("#store .row").textContent'), "R = [1,2]");
-}));
+});
 
-test("a stream is fed, a predicate is spied, the order is tidied, by clicks", { skip }, () => withPage(async (page) => {
+inBrowsers("a stream is fed, a predicate is spied, the order is tidied, by clicks", async (page) => {
   await open(page, "#example=sum&query=instream(S), sum(S,0,R)");
   await page.click('#canvas [data-goal="0.1"]');
   await page.type("5");
@@ -120,9 +128,9 @@ test("a stream is fed, a predicate is spied, the order is tidied, by clicks", { 
   await page.click("#leap");
   await page.click("#tidy");
   assert.deepEqual((await page.value(TOLD)).at(-1).reply, ["arranged"]);
-}));
+});
 
-test("keys: a step, a run, the last step back, from step to step, its menu, and the console", { skip }, () => withPage(async (page) => {
+inBrowsers("keys: a step, a run, the last step back, from step to step, its menu, and the console", async (page) => {
   await open(page, "#example=append");
   for (const key of ["s", "r", "u"]) await page.key(key);
   assert.deepEqual((await page.value(TOLD)).map((entry) => entry.line), ["step 0.1", "leap 1000", "undo 4"]);
@@ -136,9 +144,9 @@ test("keys: a step, a run, the last step back, from step to step, its menu, and 
   await page.key("Escape");
   await page.key("/");
   assert.equal(await page.value("document.activeElement.id"), "line");
-}));
+});
 
-test("a session is saved as a text, and opened again as it was; a history and a program are opened, too", { skip }, () => withPage(async (page) => {
+inBrowsers("a session is saved as a text, and opened again as it was; a history and a program are opened, too", async (page) => {
   await open(page, "#example=append&lines=step 0.1;step 1.1;undo 2");
   const told = await page.value(TOLD), saved = await page.value("Files.sessionText()");
   await open(page, "#example=primes");
@@ -151,9 +159,9 @@ test("a session is saved as a text, and opened again as it was; a history and a 
   await page.value(`Files.openText("p(a) :- true | q(")`);
   assert.equal(await page.value('document.getElementById("note").textContent'), "Refused: program: F2 syntax at 1:18");
   assert.equal(await page.value('document.getElementById("program").selectionStart'), 17);
-}));
+});
 
-test("at 300 steps a click is answered in less than 200 ms, and 901 steps are drawn in less than half a second", { skip }, () => withPage(async (page) => {
+inBrowsers("at 300 steps a click is answered in less than 200 ms, and 901 steps are drawn in less than half a second", async (page) => {
   await open(page, "#example=primes&query=primes(80,Ps)&lines=leap 300");
   assert.equal(await page.value("Talk.run.graph.steps.length"), 300);
   const timed = (does) => page.value(`(async () => { const start = performance.now(); ${does}; document.body.getBoundingClientRect(); return performance.now() - start; })()`);
@@ -166,4 +174,4 @@ test("at 300 steps a click is answered in less than 200 ms, and 901 steps are dr
   const drawn = [];
   for (let round = 0; round < ROUNDS; round++) drawn.push(Math.round(await timed("Canvas.draw()")));
   assert.ok(Math.min(...drawn) < LONGEST_DRAWING, `drawing took ${drawn} ms`);
-}));
+});
