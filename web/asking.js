@@ -66,6 +66,6 @@ const Asking = ((Graph) => {
     for (const reply of replies(second, linesAgain(steps, queryGoals))) addCalls(texts, reply, back);
   }
 
-  return { replies, variablesOf, whereItStands, linesAgain, addCalls, completeTexts };
+  return { whereItStands, linesAgain, addCalls, completeTexts };
 })(typeof require === "undefined" ? Graph : require("./graph.js"));
 if (typeof module !== "undefined") module.exports = Asking;

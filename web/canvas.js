@@ -15,7 +15,7 @@ const Canvas = (() => {
     }
     const area = find("canvas"), isScrolled = area.scrollLeft > 0 || area.scrollTop > 0;
     const room = Math.max(320, area.clientWidth - 8) * canvas.zoom;
-    const drawn = Picture.draw(Talk.run, { by: canvas.by, theme: canvas.theme, room, legend: true });
+    const drawn = Picture.draw(Talk.run, { by: canvas.by, theme: canvas.theme, room, legend: true, titles: false });
     area.innerHTML = drawn.svg;
     canvas.view = drawn.view;
     if (canvas.chosen && !placeOf(canvas.chosen)) canvas.chosen = null;
@@ -88,6 +88,23 @@ const Canvas = (() => {
   /** All that can be chosen, in the order of the picture: the steps, then the goals. */
   const choices = () => [...Talk.run.graph.steps.map((step) => ({ step: step.number })), ...Talk.run.goals.map((goal) => ({ goal: goal.name }))];
 
+  /** What is told of a step or of an arrow of the picture. */
+  function wordsFor(element) {
+    const { graph } = Talk.run, { step, from, to } = element.dataset;
+    if (step !== undefined) return Picture.tellStep(Talk.run, graph.byNumber.get(Number(step)));
+    const edge = to === undefined ? undefined : graph.causes.get(Number(to)).find((one) => one.from === Number(from));
+    return edge && edge.kind === "read" ? Picture.tellRead(Talk.run, edge) : "";
+  }
+
+  /** Puts words on what one points at. A picture that is drawn with all its words takes longer to show. */
+  function addTitle(element) {
+    const found = element.closest("[data-step], .edge");
+    if (!found || found.querySelector("title")) return;
+    const title = document.createElementNS("http://www.w3.org/2000/svg", "title");
+    title.textContent = wordsFor(found);
+    if (title.textContent) found.append(title);
+  }
+
   const isSame = (one, other) => Boolean(one) && one.step === other.step && one.goal === other.goal;
 
   /** The next one to choose, to the left or right, or along causes and effects. */
@@ -116,5 +133,5 @@ const Canvas = (() => {
     return true;
   }
 
-  return Object.assign(canvas, { draw, choose, ring, showChosen, elementOf, stayInSight, onKey });
+  return Object.assign(canvas, { draw, choose, ring, stayInSight, onKey, addTitle });
 })();

@@ -252,7 +252,7 @@ const Graph = (() => {
   }
 
   return {
-    splitOutside, readRecords, readShelf, readGoals, readClauses, predicateOf, sortOfText, edgesOf, graphOf,
+    splitOutside, readRecords, readShelf, readGoals, readClauses, predicateOf, sortOfText, graphOf,
     allCauses, allEffects, whyLines, tidyOrder, waitingEdges, circleOf,
   };
 })();

@@ -99,5 +99,5 @@ const Guide = (() => {
     return Boolean(does);
   }
 
-  return { begin: () => goTo(0), end, onChange, onClick, pointAgain, isOn: () => at !== null, station };
+  return { begin: () => goTo(0), end, onChange, onClick, pointAgain, isOn: () => at !== null };
 })();

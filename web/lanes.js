@@ -130,7 +130,7 @@ const Lanes = ((Graph, Terms) => {
 
   /** How large all is drawn: what the room allows, from steps that stand side by side as points to circles with numbers. */
   function sizesFor(room, columns, lanes, sides) {
-    const least = columns <= 30 ? 27 : columns <= 100 ? 13 : 7;
+    const least = columns <= 30 ? 27 : 7;
     const dx = between(least, (room - sides) / Math.max(1, columns), 56);
     const most = lanes > 80 ? 4 : lanes > 30 ? 6 : lanes > 16 ? 8 : 11;
     const radius = between(3, dx * 0.3, most);

@@ -91,7 +91,8 @@ const Page = (() => {
   }
 
   const BUTTONS = {
-    "begin-tour": () => Guide.begin(), "larger-query": () => begin({ ...typed(), query: find("larger-query").value }), "open-help": showHelp, "open-file": () => find("file").click(),
+    "begin-tour": () => Guide.begin(), "open-help": showHelp, "open-file": () => find("file").click(),
+    "larger-query": () => begin({ ...typed(), query: find("larger-query").value }),
     "save-session": () => Files.saveSession(), "save-picture": () => Files.savePicture(),
     "redo-all": () => Talk.send(...Talk.run.shelf.map((step) => `redo ${step.number}`)),
     theme: () => setTheme(Canvas.theme === "light" ? "dark" : "light"), tidy,
@@ -180,6 +181,7 @@ const Page = (() => {
     find("examples").addEventListener("change", () => { Guide.end(); chooseExample(find("examples").value); });
     find("file").addEventListener("change", Files.onChosen);
     find("canvas").addEventListener("scroll", () => { Canvas.stayInSight(); Menus.close(); }, { passive: true });
+    find("canvas").addEventListener("mouseover", (event) => Canvas.addTitle(event.target));
     window.addEventListener("resize", () => { if (Talk.session) Canvas.draw(); });
     Talk.listen(onChange);
   }

@@ -3,7 +3,7 @@ const Panels = (() => {
   "use strict";
 
   const { find, make, lineButton, withCode } = Elements;
-  const MOST_ROWS = 200, MOST_LINES = 5000;
+  const MOST_ROWS = 100, MOST_LINES = 5000;
   const plural = (count, word) => `${count} ${word}${count === 1 ? "" : "s"}`;
   const isRefusal = (line) => /^F\d+ /.test(line) || /^(program|query|history|session): /.test(line);
   let shown = 0;

@@ -169,16 +169,21 @@ const Picture = ((Graph, Lanes, Terms) => {
     return `M${point(start)} C${others.map(point).join(" ")}`;
   }
 
-  function drawRead(view, edge) {
-    const from = view.marks.get(edge.from), to = view.marks.get(edge.to);
-    const kind = edge.woke ? " woke" : edge.implied ? " implied" : "";
-    const bound = from.step.binds.filter((binding) => edge.variables.includes(binding.variable));
-    const told = [`step ${edge.to} read ${edge.variables.join(", ")}, which step ${edge.from} bound${edge.woke ? ", and was woken by it" : ""}`,
-      ...bound.map((binding) => `${binding.variable} = ${Terms.cut(binding.term, 200)}`)];
-    return `<g class="edge" data-from="${edge.from}" data-to="${edge.to}"><path class="read${kind}" d="${pathOf(readCurve(view, from, to))}" marker-end="url(#head-${edge.woke ? "woke" : "read"})"/><title>${escaped(told.join("\n"))}</title></g>`;
+  /** What is told of a read where one points at its arrow. */
+  function tellRead(run, edge) {
+    const bound = run.graph.byNumber.get(edge.from).binds.filter((binding) => edge.variables.includes(binding.variable));
+    const woken = edge.woke ? ", and was woken by it" : "";
+    return [`step ${edge.to} read ${edge.variables.join(", ")}, which step ${edge.from} bound${woken}`,
+      ...bound.map((binding) => `${binding.variable} = ${Terms.cut(binding.term, 200)}`)].join("\n");
   }
 
-  const drawEdge = (view, edge) => (edge.kind === "made" ? drawMade(view, edge) : drawRead(view, edge));
+  function drawRead(view, run, edge) {
+    const from = view.marks.get(edge.from), to = view.marks.get(edge.to);
+    const kind = edge.woke ? " woke" : edge.implied ? " implied" : "";
+    return `<g class="edge" data-from="${edge.from}" data-to="${edge.to}"><path class="read${kind}" d="${pathOf(readCurve(view, from, to))}" marker-end="url(#head-${edge.woke ? "woke" : "read"})"/>${view.hasTitles ? `<title>${escaped(tellRead(run, edge))}</title>` : ""}</g>`;
+  }
+
+  const drawEdge = (view, run, edge) => (edge.kind === "made" ? drawMade(view, edge) : drawRead(view, run, edge));
 
   /** What is told of a step where one points at it. */
   function tellStep(run, step) {
@@ -203,9 +208,9 @@ const Picture = ((Graph, Lanes, Terms) => {
   function drawMark(view, run, mark, theme, colour) {
     const { sizes } = view, { step } = mark;
     const fill = step.kind === "reduce" ? colour((view.kinds.get(step.goal) || {}).predicate) : theme.leaf;
-    const round1 = (mark.isLeaf ? sizes.leaf : sizes.radius) + 4;
+    const halo = (mark.isLeaf ? sizes.leaf : sizes.radius) + 4;
     const number = sizes.kind === "roomy" && !mark.isLeaf ? `<text class="number" x="${round(mark.x)}" y="${round(mark.y + sizes.radius * 0.33)}">${step.number}</text>` : "";
-    return `<g class="mark" data-step="${step.number}"><circle class="halo" cx="${round(mark.x)}" cy="${round(mark.y)}" r="${round(round1)}"/>${shapeOf(mark, sizes, fill)}${number}<title>${escaped(tellStep(run, step))}</title></g>`;
+    return `<g class="mark" data-step="${step.number}"><circle class="halo" cx="${round(mark.x)}" cy="${round(mark.y)}" r="${round(halo)}"/>${shapeOf(mark, sizes, fill)}${number}${view.hasTitles ? `<title>${escaped(tellStep(run, step))}</title>` : ""}</g>`;
   }
 
   /** Below a binding or a sum: what was bound, as much of it as there is room for before the next one. */
@@ -303,12 +308,13 @@ const Picture = ((Graph, Lanes, Terms) => {
 
   /**
    * The text of an SVG of a run. `options`: `by` is `record` or `depth`, `room` the width that there is, `theme` is `light` or `dark`,
-   * `title` a line above it, `legend` whether to say below it what all stands for. Gives the text and the places of what it shows.
+   * `title` a line above it, `legend` whether to say below it what all stands for, `titles` whether steps and reads carry words that a
+   * browser shows where one points (they do unless it is false). Gives the text and the places of what it shows.
    */
   function draw(run, options) {
     const theme = THEMES[options.theme || "light"], colour = coloursOf(run, theme), top = options.title ? 62 : 34;
     const room = options.room || 1100;
-    const view = { ...Lanes.layout(run, { by: options.by || "record", room, top }), top };
+    const view = { ...Lanes.layout(run, { by: options.by || "record", room, top }), top, hasTitles: options.titles !== false };
     const showsImplied = view.sizes.kind !== "tiny" && run.graph.steps.length <= 500;
     const edges = run.graph.edges.filter((edge) => showsImplied || edge.kind === "made" || !edge.implied || edge.woke);
     const legend = options.legend ? drawLegend(view, run, room, theme, colour) : { text: "", bottom: view.bottom + 12, width: 0 };
@@ -318,7 +324,7 @@ const Picture = ((Graph, Lanes, Terms) => {
       `<svg xmlns="http://www.w3.org/2000/svg" class="run" viewBox="0 0 ${width} ${height}" width="${width}" height="${height}" role="img" aria-label="${describe(run)}">`,
       style(view, theme), heads(view, theme), `<rect width="${width}" height="${height}" fill="${theme.ground}"/>`, drawGrid(view, theme),
       ...view.lanes.map((lane) => drawLeader(view, lane, theme) + drawLane(view, lane, colour) + drawFork(view, lane)),
-      ...edges.map((edge) => drawEdge(view, edge)), ...[...view.goals.values()].map((place) => drawMadeGoal(view, place)),
+      ...edges.map((edge) => drawEdge(view, run, edge)), ...[...view.goals.values()].map((place) => drawMadeGoal(view, place)),
       ...[...view.marks.values()].map((mark) => drawMark(view, run, mark, theme, colour)), drawBindings(view, theme),
       ...[...view.goals.values()].map((place) => drawGoal(view, place, theme)), ...view.taken.map((place) => drawTaken(view, place, theme)),
       ...view.waits.map((wait) => drawWait(wait, theme)),
@@ -328,7 +334,7 @@ const Picture = ((Graph, Lanes, Terms) => {
     return { svg: parts.filter(Boolean).join("\n"), view };
   }
 
-  return { draw, tellStep, escaped, THEMES };
+  return { draw, tellStep, tellRead };
 })(typeof require === "undefined" ? Graph : require("./graph.js"), typeof require === "undefined" ? Lanes : require("./lanes.js"),
   typeof require === "undefined" ? Terms : require("./terms.js"));
 if (typeof module !== "undefined") module.exports = Picture;

@@ -16,7 +16,7 @@ const { tutorialSessions } = require("./tutorial.js");
 const PAGE = pathToFileURL(path.join(path.dirname(fileURLToPath(import.meta.url)), "..", "ghcdb.html")).href;
 const STARTED = 'document.body.classList.contains("started")';
 const LONGEST_CLICK = 200, LONGEST_DRAWING = 500; // milliseconds
-const ROUNDS = 3; // the least time of some rounds counts, for other work may be done on the machine
+const MOST_ROUNDS = 10; // the least time of some rounds counts, for other work may be done on the machine
 
 /** What the page's console shows: lines that were typed, each with its reply. */
 const TOLD = `[...document.querySelectorAll("#told > .typed")].map((typed) => ({
@@ -97,6 +97,9 @@ inBrowsers("the tour can be gone through on a narrow window", async (page) => {
 
 inBrowsers("a step's causes and effects are lit, a roll rings what goes, a redo brings it back", async (page) => {
   await open(page, "#example=append&query=append([1],[2],R)&lines=step 0.1;step 1.1;step 1.2;step 3.1");
+  await page.point('#canvas [data-step="2"]');
+  assert.equal(await page.value(`document.querySelector('#canvas [data-step="2"] title').textContent`),
+    ["step 2: goal 1.1 eq", "_0_1 = [1|_1_1]", "binds _0_1 = [1|_1_1]"].join("\n"));
   await page.click('#canvas [data-step="3"]');
   assert.deepEqual(await page.value(numbers("#canvas .cause[data-step]")), [1]);
   assert.deepEqual(await page.value(numbers("#canvas .effect[data-step]")), [4]);
@@ -112,6 +115,12 @@ inBrowsers("a step's causes and effects are lit, a roll rings what goes, a redo 
   assert.deepEqual((await page.value(TOLD)).at(-1), { line: "redo 3", reply: ["REDU 3 1.2 by 1", "CALL 3.1 _1_1 = [2]"] });
   await page.click('#shelf [data-line="redo 4"]');
   assert.equal(await page.value('document.querySelector("#store .row").textContent'), "R = [1,2]");
+  await page.click("#line");
+  await page.type("roll 1");
+  await page.key("Enter");
+  assert.deepEqual(await page.value(numbers("#canvas [data-step]")), []);
+  await page.click("#redo-all");
+  assert.deepEqual(await page.value(numbers("#canvas [data-step]")), [1, 2, 3, 4]);
 });
 
 inBrowsers("a stream is fed, a predicate is spied, the order is tidied, by clicks", async (page) => {
@@ -166,12 +175,13 @@ inBrowsers("at 300 steps a click is answered in less than 200 ms, and 901 steps 
   assert.equal(await page.value("Talk.run.graph.steps.length"), 300);
   const timed = (does) => page.value(`(async () => { const start = performance.now(); ${does}; document.body.getBoundingClientRect(); return performance.now() - start; })()`);
   const clicks = ['Talk.send("roll 150")', 'Talk.send("redo 150")', 'Talk.send("undo 150")', 'Talk.send("step " + Talk.run.goals[0].name)', "Canvas.choose({ step: 100 })"];
-  const times = new Map(clicks.map((does) => [does, []]));
-  for (let round = 0; round < ROUNDS; round++) for (const does of clicks) times.get(does).push(Math.round(await timed(does)));
-  for (const [does, taken] of times) assert.ok(Math.min(...taken) < LONGEST_CLICK, `${does} took ${taken} ms`);
+  const taken = new Map(clicks.map((does) => [does, []]));
+  const isSlow = (does) => !(Math.min(...taken.get(does)) < LONGEST_CLICK);
+  for (let round = 0; round < MOST_ROUNDS && clicks.some(isSlow); round++) for (const does of clicks) taken.get(does).push(Math.round(await timed(does)));
+  for (const does of clicks) assert.ok(!isSlow(does), `${does} took ${taken.get(does)} ms`);
   await page.value('Talk.send("leap")');
   assert.equal(await page.value("Talk.run.graph.steps.length >= 901"), true);
   const drawn = [];
-  for (let round = 0; round < ROUNDS; round++) drawn.push(Math.round(await timed("Canvas.draw()")));
+  while (drawn.length < MOST_ROUNDS && !(Math.min(...drawn) < LONGEST_DRAWING)) drawn.push(Math.round(await timed("Canvas.draw()")));
   assert.ok(Math.min(...drawn) < LONGEST_DRAWING, `drawing took ${drawn} ms`);
 });
