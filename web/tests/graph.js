@@ -63,7 +63,7 @@ test("the lines that take the steps of a record again", () => {
   assert.deepEqual(Asking.linesAgain(steps, goals), ["in 1 7", "step 0.1 3", "end 1", "step 2.1"]);
 });
 
-test("on every step of the examples the edges are those of `why N`, also after rolls and in a tidied order", async () => {
+test("on every step of the examples and of the rows the edges are those of `why N`, also after rolls and in a tidied order", async () => {
   let compared = 0;
   const compare = (play, session, graph) => {
     for (const step of graph.steps) {
