@@ -102,9 +102,10 @@ const Panels = (() => {
     const deepest = steps.length > 0 ? Math.max(...graph.depth.values()) + 1 : 0;
     find("count").textContent = `${plural(steps.length, "step")}, depth ${deepest}, ${ready.length} ready`;
     const last = steps[steps.length - 1];
-    for (const name of ["step", "leap", "leap-ten"]) find(name).disabled = ready.length === 0;
-    find("undo-last").disabled = !last;
-    find("tidy").disabled = steps.length < 3;
+    const isOver = !Talk.session || Talk.session.hasEnded;
+    for (const name of ["step", "leap", "leap-ten"]) find(name).disabled = isOver || ready.length === 0;
+    find("undo-last").disabled = isOver || !last;
+    find("tidy").disabled = isOver || steps.length < 3;
     if (last) find("undo-last").dataset.line = `undo ${last.number}`;
     if (ready.length > 0) find("step").dataset.line = `step ${ready[0].name}`;
     find("note").textContent = noteWords();

@@ -54,7 +54,10 @@ const Talk = (() => {
   /** Types lines one after the other, and shows where they led. */
   function send(...lines) {
     if (!talk.session || talk.refusal || talk.session.hasEnded) return;
-    lines.forEach(type);
+    for (const line of lines) {
+      if (line.trim() === "quit") look(); // behind it nothing can be asked
+      type(line);
+    }
     if (!talk.session.hasEnded) look();
     changed("lines");
   }

@@ -165,6 +165,9 @@ inBrowsers("a session is saved as a text, and opened again as it was; a history 
   assert.match(await page.value("Files.pictureText()"), /^<svg xmlns="http:\/\/www.w3.org\/2000\/svg"[^]*data-step="1"[^]*data-taken="2"[^]*<\/svg>$/);
   await page.value(`Files.openText("ghc-history 1\\nsteps 1\\n7 0.1 by 2\\nend 9\\n")`);
   assert.deepEqual(await page.value(numbers("#canvas [data-step]")), [7]);
+  await open(page, "#example=append&lines=step 0.1;quit");
+  assert.deepEqual(await page.value(numbers("#canvas [data-step]")), [1]);
+  assert.equal(await page.value('document.getElementById("note").textContent'), "The session has ended. Start begins a new one.");
   await page.value(`Files.openText("p(a) :- true | q(")`);
   assert.equal(await page.value('document.getElementById("note").textContent'), "Refused: program: F2 syntax at 1:18");
   assert.equal(await page.value('document.getElementById("program").selectionStart'), 17);
