@@ -2,6 +2,7 @@
 """Runs the rows and tables of tests/rows/, and the examples of three pages, on the proved program, crates/ghcdb/out/ghcdb.
 
     python3 tests/run_rows.py [WORD..]     the files whose names hold one of the words; without words, all
+    python3 tests/run_rows.py --tell       runs nothing, and tells all rows as JSON, a line each, for others who play them
 
 Each row runs in a fresh folder of its own, for at most 60 seconds, as many rows side by side as there are
 processors. Standard output, standard error and exit status have to be exactly those of the row. The last line is
@@ -59,6 +60,7 @@ and `query`, and then has a session; one that begins with `continued` goes on wi
 one that begins with `after the first run` with that of the page's first.
 """
 
+import json
 import os
 import re
 import select
@@ -376,15 +378,46 @@ def judge(row):
     return wrong
 
 
-def main():
+def letters(value):
+    """Bytes as a text for JSON, which has for each byte the character of that number."""
+    return value.decode("latin-1")
+
+
+def told(name, row):
+    """A row as JSON: what the program is given, and what it has to do."""
+    if isinstance(row, BadRow):
+        return json.dumps({"name": name, "bad": str(row)})
+    return json.dumps({
+        "name": name,
+        "words": [letters(word) for word in words_of(row)],
+        "files": {file: letters(text) for file, text in files_of(row).items()},
+        "input": letters(row.get("input", b"")),
+        "turns": [[letters(given), letters(written)] for given, written in row["turns"]] if "in turns" in row else None,
+        "left open": "left open" in row,
+        "to": [[number, key.removeprefix(to)] for number, to in ((1, "to "), (2, "errors to ")) for key in row if key.startswith(to)],
+        "output": letters(row.get("output", b"")),
+        "errors": letters(row.get("errors", b"")),
+        "output contains": [letters(text) for text in row["output contains"]],
+        "errors contain": [letters(text) for text in row["errors contain"]],
+        "status": int(row.get("status", b"0")),
+    })
+
+
+def all_rows(words):
+    """The rows of the files whose names hold one of the words, or of all, each with its name."""
     paths = sorted(path for path in (TESTS / "rows").rglob("*") if path.suffix in (".row", ".table"))
     paths += [TESTS.parent / "docs" / page for page in PAGES]
-    if sys.argv[1:]:
-        paths = [path for path in paths if any(word in path.stem for word in sys.argv[1:])]
+    return [row for path in paths if not words or any(word in path.stem for word in words) for row in rows_of(path)]
+
+
+def main():
+    if sys.argv[1:] == ["--tell"]:
+        print("\n".join(told(name, row) for name, row in all_rows([])))
+        return 0
+    rows = all_rows(sys.argv[1:])
     if not PROGRAM.is_file():
         print(f"{PROGRAM} is not there: `rt ci` makes it", file=sys.stderr)
-        paths = []
-    rows = [row for path in paths for row in rows_of(path)]
+        rows = []
     with ThreadPoolExecutor(os.cpu_count()) as pool:
         judged = list(zip(rows, pool.map(judge, (row for _, row in rows))))
     failed = [(name, wrong) for (name, _), wrong in judged if wrong]

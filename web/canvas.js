@@ -1,0 +1,137 @@
+// Shows the picture of the run: what is chosen with its causes and effects, keys, and names that stay in sight.
+const Canvas = (() => {
+  "use strict";
+
+  const { find } = Elements;
+  const canvas = { by: "record", theme: "light", zoom: 1, chosen: null, view: null };
+
+  const marks = () => find("canvas").querySelectorAll(".mark");
+
+  /** Draws the run anew, as wide as the window and the zoom say. */
+  function draw() {
+    if (Talk.refusal) {
+      find("canvas").textContent = "";
+      return;
+    }
+    const area = find("canvas"), isScrolled = area.scrollLeft > 0 || area.scrollTop > 0;
+    const room = Math.max(320, area.clientWidth - 8) * canvas.zoom;
+    const drawn = Picture.draw(Talk.run, { by: canvas.by, theme: canvas.theme, room, legend: true, titles: false });
+    area.innerHTML = drawn.svg;
+    canvas.view = drawn.view;
+    if (canvas.chosen && !placeOf(canvas.chosen)) canvas.chosen = null;
+    if (isScrolled) stayInSight();
+    if (canvas.chosen) showChosen();
+  }
+
+  const placeOf = (chosen) => (chosen.step !== undefined ? canvas.view.marks.get(chosen.step) : canvas.view.goals.get(chosen.goal));
+
+  /** The element of a step or goal in the picture. */
+  function elementOf(chosen) {
+    if (!chosen) return null;
+    return find("canvas").querySelector(chosen.step !== undefined ? `[data-step="${chosen.step}"]` : `[data-goal="${chosen.goal}"]`);
+  }
+
+  function markEdges(causes, effects) {
+    for (const edge of find("canvas").querySelectorAll(".edge,.fork")) {
+      const from = Number(edge.dataset.from), to = edge.dataset.to === undefined ? NaN : Number(edge.dataset.to);
+      const isLit = (causes.has(from) && causes.has(to)) || (effects.has(from) && effects.has(to));
+      edge.classList.toggle("cause", isLit);
+    }
+  }
+
+  /** Lights up the chosen step with all its causes and effects; all else is faint. */
+  function showChosen() {
+    const svg = find("canvas").querySelector("svg"), { chosen } = canvas, { graph } = Talk.run;
+    if (!svg) return;
+    const step = chosen && chosen.step;
+    const causes = step ? Graph.allCauses(graph, step) : new Set(), effects = step ? Graph.allEffects(graph, step) : new Set();
+    svg.classList.toggle("looking", Boolean(step));
+    for (const mark of marks()) {
+      const number = Number(mark.dataset.step);
+      mark.classList.toggle("chosen", number === step);
+      mark.classList.toggle("cause", causes.has(number) && number !== step);
+      mark.classList.toggle("effect", effects.has(number) && number !== step);
+      mark.classList.remove("going");
+    }
+    for (const goal of svg.querySelectorAll(".goal")) goal.classList.toggle("chosen", Boolean(chosen) && goal.dataset.goal === chosen.goal);
+    markEdges(causes, effects);
+  }
+
+  /** Rings the steps that a roll would take back. */
+  function ring(numbers) {
+    for (const mark of marks()) mark.classList.toggle("going", numbers.has(Number(mark.dataset.step)));
+  }
+
+  function choose(chosen) {
+    canvas.chosen = chosen;
+    showChosen();
+    Panels.showDetail(chosen);
+  }
+
+  /** Lane names and the axis stay where one sees them while the picture is scrolled. */
+  function stayInSight() {
+    const area = find("canvas"), svg = area.querySelector("svg");
+    if (!svg) return;
+    svg.querySelector(".names").setAttribute("transform", `translate(${area.scrollLeft} 0)`);
+    svg.querySelector(".axis").setAttribute("transform", `translate(0 ${area.scrollTop})`);
+  }
+
+  /** Scrolls so far that what is chosen is in sight. */
+  function scrollTo(chosen) {
+    const area = find("canvas"), place = placeOf(chosen), left = canvas.view.left;
+    if (place.x - left < area.scrollLeft) area.scrollLeft = place.x - left - 60;
+    if (place.x > area.scrollLeft + area.clientWidth - 40) area.scrollLeft = place.x - area.clientWidth + 120;
+    if (place.y < area.scrollTop + 60) area.scrollTop = place.y - 90;
+    if (place.y > area.scrollTop + area.clientHeight - 30) area.scrollTop = place.y - area.clientHeight + 80;
+  }
+
+  /** All that can be chosen, in the order of the picture: the steps, then the goals. */
+  const choices = () => [...Talk.run.graph.steps.map((step) => ({ step: step.number })), ...Talk.run.goals.map((goal) => ({ goal: goal.name }))];
+
+  /** What is told of a step or of an arrow of the picture. */
+  function wordsFor(element) {
+    const { graph } = Talk.run, { step, from, to } = element.dataset;
+    if (step !== undefined) return Picture.tellStep(Talk.run, graph.byNumber.get(Number(step)));
+    const edge = to === undefined ? undefined : graph.causes.get(Number(to)).find((one) => one.from === Number(from));
+    return edge && edge.kind === "read" ? Picture.tellRead(Talk.run, edge) : "";
+  }
+
+  /** Puts words on what one points at. A picture that is drawn with all its words takes longer to show. */
+  function addTitle(element) {
+    const found = element.closest("[data-step], .edge");
+    if (!found || found.querySelector("title")) return;
+    const title = document.createElementNS("http://www.w3.org/2000/svg", "title");
+    title.textContent = wordsFor(found);
+    if (title.textContent) found.append(title);
+  }
+
+  const isSame = (one, other) => Boolean(one) && one.step === other.step && one.goal === other.goal;
+
+  /** The next one to choose, to the left or right, or along causes and effects. */
+  function neighbour(key) {
+    const all = choices(), at = all.findIndex((choice) => isSame(canvas.chosen, choice));
+    if (at < 0) return key === "ArrowLeft" ? all[all.length - 1] : all[0];
+    if (key === "ArrowLeft" || key === "ArrowRight") return all[at + (key === "ArrowLeft" ? -1 : 1)];
+    if (canvas.chosen.step === undefined) return undefined;
+    const edges = key === "ArrowUp" ? Talk.run.graph.causes : Talk.run.graph.effects;
+    const [edge] = edges.get(canvas.chosen.step).slice(-1);
+    return edge && { step: key === "ArrowUp" ? edge.from : edge.to };
+  }
+
+  /** What a key does in the picture; says whether it did something. */
+  function onKey(key) {
+    if (key.startsWith("Arrow")) {
+      const next = neighbour(key);
+      if (next) {
+        choose(next);
+        scrollTo(next);
+      }
+      return true;
+    }
+    if (key !== "Enter" || !canvas.chosen) return false;
+    Menus.open(canvas.chosen, elementOf(canvas.chosen));
+    return true;
+  }
+
+  return Object.assign(canvas, { draw, choose, ring, stayInSight, onKey, addTitle });
+})();

@@ -1,0 +1,68 @@
+// Runs of the examples and of the rows of tests/rows on the page's engine, for tests of the graph and of the picture.
+"use strict";
+
+const assert = require("node:assert/strict");
+const fs = require("node:fs");
+const path = require("node:path");
+const Asking = require("../asking.js");
+const ExampleNotes = require("../example_notes.js");
+const Graph = require("../graph.js");
+const SessionText = require("../session_text.js");
+const { engineOfPage } = require("./engine_of_page.js");
+
+const EXAMPLES = path.join(__dirname, "..", "..", "examples");
+const ROWS = path.join(__dirname, "..", "..", "tests", "rows");
+const MOST_STEPS = 3000; // as many as the page draws
+
+const INPUTS = {
+  counter: ["in 1 up", "leap", "in 1 show(5)", "in 1 down", "leap", "end 1", "leap"],
+  merge: ["in 1 a", "in 2 b", "leap", "in 1 f(a,[b])", "leap", "end 2", "leap", "roll 1", "in 1 c", "leap"],
+  sum: ["in 1 5", "leap", "in 1 7", "end 1", "leap"],
+};
+
+/** All examples, each with its query, a larger one, and one that was rolled back and is on its way. */
+function plays() {
+  return fs.readdirSync(EXAMPLES).filter((file) => file.endsWith(".ghc")).sort().flatMap((file) => {
+    const name = file.slice(0, -".ghc".length), program = fs.readFileSync(path.join(EXAMPLES, file), "utf8");
+    const { query, larger } = ExampleNotes.read({ name, program });
+    const play = (words, asked, lines) => ({ name: `${name}, ${words}`, program, query: asked, lines });
+    return [
+      play("its query, not begun", query, []),
+      play("its query", query, ["leap 1000"]),
+      play("a larger query", larger, INPUTS[name] || ["leap 1000"]),
+      play("with a step rolled back", larger, [...(INPUTS[name] || ["leap 1000"]).slice(0, 4), "roll 5", "leap 4", "roll 2", "leap 7"]),
+    ];
+  });
+}
+
+/** The rows that are sessions, each with its program, query and lines. */
+function rows() {
+  const exampleOf = (name) => fs.readFileSync(path.join(EXAMPLES, name), "utf8");
+  return fs.readdirSync(ROWS).filter((file) => file.endsWith(".row")).sort()
+    .map((file) => ({ name: file, ...SessionText.read(fs.readFileSync(path.join(ROWS, file), "utf8"), exampleOf) }))
+    .filter((play) => play.lines !== undefined);
+}
+
+/** What the page would show of a run. */
+function runOf(session, play, engine) {
+  const told = Asking.whereItStands(session, play.query), steps = Graph.readRecords(told.records), goals = Graph.readGoals(told.goals);
+  const texts = new Map(goals.map((goal) => [goal.name, goal.text]));
+  Asking.completeTexts(texts, steps, () => engine.open({ program: play.program, query: play.query }));
+  return { graph: Graph.graphOf(steps), goals, shelf: Graph.readShelf(told.shelf), texts, clauses: Graph.readClauses(play.program), told };
+}
+
+/** Plays all: calls `look(play, session, run)` where the lines of each are told, unless it was refused, has ended, or is too long. */
+async function eachPlay(look) {
+  const { engine } = await engineOfPage();
+  let played = 0;
+  for (const play of [...plays(), ...rows()]) {
+    const session = engine.open({ program: play.program, query: play.query, history: play.history || undefined });
+    session.lines(play.lines);
+    if (session.hasEnded || session.line("records").length > MOST_STEPS || session.line("goals")[0].startsWith("F6 ")) continue;
+    look(play, session, runOf(session, play, engine));
+    played++;
+  }
+  assert.ok(played > 130, `${played} runs`);
+}
+
+module.exports = { eachPlay, plays, runOf };
