@@ -1,9 +1,11 @@
 -- What an event is refused for whatever memory is left.
-use Rattle.std.specs.Prelude.{◌≡◌, ◌⊎◌, ℕ, Option, Some, None}
+use Rattle.std.specs.Prelude.{◌≡◌, ◌⊎◌, ℕ, List, [], ◌∷◌, Option, Some, None}
 use Rattle.std.specs.FinMap as finite
 use Rattle.ghc_term.specs.declared.goal_name.GoalName.{GoalName}
 use Rattle.ghc_term.specs.declared.fault.Fault.{Fault}
 use Rattle.ghc_fire.specs.Attempt as attempt
+use Rattle.ghc_term.specs.Lists.{In}
+use Rattle.ghc_records.specs.Record.{numbers}
 use Rattle.ghc_depend.specs.Depend.{IsNotKept}
 use Rattle.ghc_core.specs.World.{Proposal, Hands, IsHand, World}
 use Rattle.ghc_core.specs.Events.{Command, input, finish, undo, roll, redo, arrange, Event, propose, commit, note, command}
@@ -27,14 +29,19 @@ pub data IsNotCommittedAnyway (w : World) (hands : Hands) (h : ℕ) : Fault → 
 abbrev pub TakesNothingAnyway : World → ℕ → Fault → Type 0
 TakesNothingAnyway w k f = ((f ≡ Fault.NoStream) × StreamFails w k Fault.NoStream) ⊎ ((f ≡ Fault.TailBound) × StreamFails w k Fault.TailBound)
 
--- A command is not obeyed: there is no such stream, or its tail ends in a value; the step cannot be undone; it is not kept; it is not on the shelf, or its goal is not there.
+-- An order is not lawful from its first number on, which is not kept.
+abbrev pub BeginsUnkept : World → List ℕ → Fault → Type 0
+BeginsUnkept w [] f = ⊥
+BeginsUnkept w (n ∷ ns) f = (f ≡ Fault.NotLawful n n) × ¬ In n (numbers w.kept)
+
+-- A command is not obeyed: there is no such stream, or its tail ends in a value; the step cannot be undone; it is not kept; it is not on the shelf, its goal is not there; or an order begins with a number that is not kept.
 abbrev pub IsNotObeyedAnyway : World → Command → Fault → Type 0
 IsNotObeyedAnyway w (input k t) f = TakesNothingAnyway w k f
 IsNotObeyedAnyway w (finish k) f = TakesNothingAnyway w k f
 IsNotObeyedAnyway w (undo n) f = UndoFails w.kept n f
 IsNotObeyedAnyway w (roll n) f = (f ≡ Fault.NotKept) × IsNotKept w.kept n
 IsNotObeyedAnyway w (redo n) f = ((f ≡ Fault.NotShelved) × RedoFails w n Fault.NotShelved) ⊎ ((f ≡ Fault.NoGoal) × RedoFails w n Fault.NoGoal)
-IsNotObeyedAnyway w (arrange order) f = ⊥
+IsNotObeyedAnyway w (arrange order) f = BeginsUnkept w order f
 
 -- The event is refused for this, whatever memory is left.
 abbrev pub IsRefusedAnyway : World → Hands → Event → Fault → Type 0

@@ -1,11 +1,12 @@
 // Putting the record into another order.
-ghost use Rattle.std.specs.Prelude.{◌≡◌, ◌⊎◌, ◌<◌, ℕ, IfOk, IfErr, OnOk, OnErr};
+ghost use Rattle.std.specs.Prelude.{◌≡◌, ◌⊎◌, ◌<◌, ℕ, Err, IfOk, IfErr, OnOk, OnErr};
 ghost use Rattle.ghc_term.specs.declared.fault.Fault.{Fault};
 ghost use Rattle.ghc_hooks.specs.Notes.{AreLeft};
 ghost use Rattle.ghc_term.specs.Lists.{In};
 ghost use Rattle.ghc_records.specs.Record.{Record, numbers};
 ghost use Rattle.ghc_records.specs.Orders.{AreDistinct};
 ghost use Rattle.ghc_depend.specs.Lawful.{IsUnlawful};
+ghost use Rattle.ghc_core.specs.Anyway.{BeginsUnkept};
 ghost use Rattle.ghc_core.specs.Events.{arranged};
 ghost use Rattle.ghc_core.specs.Reverses.{Arranges};
 ghost use Rattle.ghc_core.specs.declared.change.Change.TheVariants.{Reorders as reorders};
@@ -63,12 +64,13 @@ fn boxed_in_order(
 
 impl Core {
     /// Finds what it takes to put the record into this order: `NotLawful` exactly where the order is not lawful, with the pair
-    /// that tells why, unless memory was refused before that was known; else it fails for want of memory alone. It goes over order
-    /// and record, with a look-up for each variable that a step read or bound.
+    /// that tells why, unless memory was refused before that was known, which cannot be where its first number is not kept; else it
+    /// fails for want of memory alone. It goes over order and record, with a look-up for each variable that a step read or bound.
     pub fn prepare_arrange(&self, alloc: Global, order: &[u32]) -> Result<Arrangement, Fault>
         ensures found { IfOk result (λ arrangement. CanChange self.now.world (reorders arrangement)) }
         ensures order { IfOk result (λ arrangement. arrangement.order ≡ order.now) }
         ensures fault { IfErr result (λ f. (f ≡ Fault.Memory) ⊎ ((a b : ℕ) × (f ≡ Fault.NotLawful a b) × IsUnlawful self.now.world.kept order.now a b)) }
+        ensures anyway { (f : Fault) → BeginsUnkept self.now.world order.now f → result ≡ Err f }
     {
         let _count = self.records.len();
         match lawful(alloc, &self.records, order) {
@@ -111,6 +113,7 @@ impl Core {
     pub fn arrange(&mut self, alloc: Global, order: &[u32]) -> Result<(), Fault>
         ensures ok { OnOk result (Arranges ⊥ self.old.world order.now arranged self.new.world) }
         ensures fault { IfErr result (λ f. (f ≡ Fault.Memory) ⊎ ((a b : ℕ) × (f ≡ Fault.NotLawful a b) × IsUnlawful self.old.world.kept order.now a b)) }
+        ensures anyway { (f : Fault) → BeginsUnkept self.old.world order.now f → result ≡ Err f }
         ensures stays { OnErr result (Stays self.old self.new) }
         ensures notes { self.new.notes ≡ self.old.notes }
         ensures untried { self.new.untried ≡ self.old.untried }

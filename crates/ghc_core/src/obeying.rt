@@ -69,7 +69,8 @@ impl Core {
         ensures answer { Obeys (Unit {0}) self.old.world (command_of command.now) (reply_of result) self.new.world }
         ensures entry { AddsOneAtMost self.old.world self.new.world }
 
-        // No want of memory hides that the stream or the step is not there, that the step has a consequence, or that its goal is not there.
+        // No want of memory hides that the stream is not there or its tail bound, that the step is not there, has a consequence or lacks
+        // its goal, or that the first number of an order is not kept.
         ensures anyway { (f : fault_spec) → IsNotObeyedAnyway self.old.world (command_of command.now) f → reply_of result ≡ refused f }
         ensures stays { IsRefusal (reply_of result) → Stays self.old self.new }
 

@@ -21,7 +21,8 @@ impl Core {
     pub fn prepare_command(&mut self, alloc: Global, command: &Command) -> Result<Change, Fault>
         ensures answer { Answered (IsAskedFor self.old.world (command_of command.now)) (IsNotObeyed self.old.world (command_of command.now)) result }
 
-        // No want of memory hides that the stream or the step is not there, that the step has a consequence, or that its goal is not there.
+        // No want of memory hides that the stream is not there or its tail bound, that the step is not there, has a consequence or lacks
+        // its goal, or that the first number of an order is not kept.
         ensures anyway { (f : fault_spec) → IsNotObeyedAnyway self.old.world (command_of command.now) f → result ≡ Err f }
         ensures stays { Stays self.old self.new }
         ensures counted { CountsInObeying (command_of command.now) self.old.meter self.new.meter }
