@@ -1,5 +1,5 @@
 -- What a session told stays told where nothing more is written; and what a whole session told is what one that is broken off may tell.
-use Rattle.std.proofs.Common.{ℕ, Option, None, Some, List, length, subst}
+use Rattle.std.proofs.Common.{ℕ, Option, None, Some, List, ◌∷◌, length, subst}
 use Rattle.std.proofs.Math.Seq.{take-length}
 use Rattle.std.specs.Io.KnownBytes.{Keeps}
 use Rattle.std.proofs.KnownBytes.{Appends-kept}
