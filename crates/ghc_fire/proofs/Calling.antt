@@ -43,9 +43,6 @@ module _ (P : Program) (f : List ℕ) (ts : List Tree) (S : VarName → Option T
     pub waits : w ≡ true → OneWaits ks
     pub idle : w ≡ false → ¬ OneWaits ks
 
-  pub none_yet : NoneTaken [] false
-  none_yet = record { none = λ k c i ic a. absurd i; waits = λ e. cc; idle = λ e w. absurd w.2 }
-
   -- one more that does not accept
   none_more : (ks : List ℕ) (w : Bool) (k : ℕ) (c : Clause) → NoneTaken ks w → IsClause P k c → (¬ Accepts c ts S) → (j : ℕ) (d : Clause) → In j (ks ++ k ∷ []) → IsClause P j d → ¬ Accepts d ts S
   none_more ks w k c n ic not j d i id a = elim (in_more ks k j i) [

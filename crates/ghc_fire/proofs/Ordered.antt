@@ -1,5 +1,5 @@
 -- Maps in the order of their keys, and the lists of their entries.
-use Rattle.std.proofs.Common.{◌≡◌, true, cond, ◌&&◌, List, [], ◌∷◌, length, refl, sym, ap, subst, ◌∙◌}
+use Rattle.std.proofs.Common.{◌≡◌, true, cond, ◌&&◌, List, [], ◌∷◌, refl, sym, ap, subst, ◌∙◌}
 use Rattle.std.specs.Prelude.{Option, Some, None, T}
 use Rattle.std.specs.declared.cmp.Ordering.{Ordering}
 use Rattle.std.specs.declared.cmp.Ordering.TheVariants.{Less}
@@ -48,6 +48,3 @@ module _ {K X : Type 0} {R : K → K → Ordering} (o : IsTotalOrder R) (alike :
       let sorted : T (is_sorted R es) = subst T (sym (rising es h)) tt in
       ap finite.entries (finite.same_map o alike (finite.from_entries es) (finite.from_sorted es) (λ q. finite.get-from_entries o es q ∙ sym (finite.get-from_sorted R es q sorted)))
       ∙ finite.entries-from_sorted R es sorted
-
-  pub as_many : (es : List (K × X)) → IsStrictlySortedBy R (keys_of es) → length es ≡ finite.len (finite.from_entries {R = R} es)
-  as_many es h = sym (finite.len-entries (finite.from_entries es) ∙ ap length (entries_are es h))

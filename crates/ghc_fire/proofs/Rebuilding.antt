@@ -1,12 +1,8 @@
 -- Terms and expressions with their variables replaced, from the inside out.
-use Rattle.std.proofs.Common.{◌≡◌, ℕ, ◌+◌, ◌<◌, List, [], ◌∷◌, ◌++◌, length, get_or, take, map, refl, sym, ap, ◌∙◌, inl, inr}
-use Rattle.std.specs.Borrow.{Bor}
-use Rattle.std.proofs.lemmas.List.{map_push, take_more}
+use Rattle.std.proofs.Common.{◌≡◌, ℕ, ◌+◌, List, [], ◌∷◌, ◌++◌, map, refl, sym, ap, ◌∙◌, inl, inr}
+use Rattle.std.proofs.lemmas.List.{map_push}
 use Rattle.ghc_term.specs.declared.var_name.VarName.{VarName}
 use Rattle.ghc_term.specs.declared.operator.Operator.{Operator}
-use Rattle.ghc_term.specs.declared.view.TermView.{TermView}
-use Rattle.ghc_term.specs.declared.view.TermView.TheVariants.{Var, Int, Atom, Struct}
-use Rattle.ghc_term.specs.Shown.{shown}
 use Rattle.ghc_term.specs.Tree.{Tree, variable, integer, node, Trees, none, more, trees, list_of, IsClosed, AreClosed}
 use Rattle.ghc_term.specs.Expression.{Expression, operation}
 use Rattle.ghc_term.specs.Goal.{call}
@@ -23,12 +19,6 @@ plugged_push (g ∷ fs) f t = ap (λ u. node g.name (trees (g.arguments.items ++
 pub operated_push : (ps : List (Operator × Expression)) (p : Operator × Expression) (a : Expression) → operated (ps ++ p ∷ []) a ≡ operated ps (operation p.0 a p.1)
 operated_push [] p a = refl
 operated_push (q ∷ ps) p a = ap (λ b. operation q.0 b q.1) (operated_push ps p a)
-
--- one element more of a list that is mapped
-pub map_more : {X Y : Type 0} (f : X → Y) (xs : List X) (i : ℕ) (x : X) (ys : List Y) (y : Y) → i < length xs → x ≡ get_or xs i x → ys ≡ map f (take i xs) → y ≡ f x → ys ++ y ∷ [] ≡ map f (take (i + 1) xs)
-map_more f xs i x ys y h e p q =
-    let more_taken = take_more xs i x h ∙ ap (λ z. take i xs ++ z ∷ []) (sym e) in
-    (λ j. p j ++ q j ∷ []) ∙ sym (map_push f (take i xs) x) ∙ ap (map f) (sym more_taken)
 
 module _ (s : VarName → Tree) where
   pub replace_trees : (ts : List Tree) → replace_all s (trees ts) ≡ trees (map (replace s) ts)
@@ -62,10 +52,3 @@ module _ (s : VarName → Tree) where
       let args : trees (g.arguments.items ++ replace s last ∷ []) ≡ replace_all s (trees whole) =
       ap (λ l. trees (l ++ replace s last ∷ [])) q ∙ ap trees (sym (map_push (replace s) front last)) ∙ sym (replace_trees (front ++ last ∷ [])) ∙ ap (λ l. replace_all s (trees l)) (sym w) in
       plugged_push fs g (replace s last) ∙ ap (plugged fs) ((λ i. node (p i) (args i)) ∙ ap (replace s) e)
-
-  -- what is lent as neither a variable nor a structure stays
-  pub replace_plain : (v : TermView) → ((x : VarName) → v ≡ Var x → ⊥) → ((f : Bor (List ℕ)) (ts : Bor (List Tree)) → v ≡ Struct f ts → ⊥) → replace s (shown v) ≡ shown v
-  replace_plain (Var x) h g = absurd (h x refl)
-  replace_plain (Int k) h g = refl
-  replace_plain (Atom f) h g = refl
-  replace_plain (Struct f ts) h g = absurd (g f ts refl)
