@@ -3,21 +3,18 @@ use Rattle.std.proofs.Common.{◌≡◌, ◌≢◌, ◌⊎◌, ◌∙◌, inl, i
 use Rattle.ghc_term.specs.declared.fault.Fault.{Fault}
 use Rattle.ghc_term.specs.declared.fault.Fault.TheVariants as fault
 use Rattle.ghc_reader.specs.Tests.{a_term, IsRefusal}
-use Rattle.ghc_fire.specs.declared.act.Act.{Act}
 use Rattle.ghc_fire.specs.declared.meter.Meter.{Meter}
 use Rattle.ghc_fire.specs.Meter.{one_more}
 use Rattle.ghc_core.specs.World.{World}
-use Rattle.ghc_core.specs.Events.{Command, input, finish, undo, roll, redo, arrange, Reply}
-use Rattle.ghc_core.specs.Streams.{ActsOnStream}
-use Rattle.ghc_core.specs.Reverses.{Undoes, Rolls, Redoes, Arranges}
-use Rattle.ghc_core.specs.Answers.{Obeys}
-use Rattle.ghc_core.specs.Asked.{IsNotObeyed, told_of}
+use Rattle.ghc_core.specs.Events.{Command, input, finish, undo, roll, redo, arrange}
+use Rattle.ghc_core.specs.Answers.{Fails}
+use Rattle.ghc_core.proofs.Moving.{opening_stays}
 use Rattle.ghc_core.specs.Counting.{CountsInObeying}
 use Rattle.ghc_console.specs.Firing.{FiresInObeying}
 use Rattle.ghc_console.specs.Replies.{IsObeyed, obeys, refuses, RepliesToInput, unread, refusal}
 
 -- a command that is refused
-pub command_refused : (w v : World) (c : Command) (f : Fault) (text : List ℕ) → v ≡ w → (f ≡ fault.Memory) ⊎ IsNotObeyed w c f → text ≡ refusal f → f ≢ fault.Memory → IsObeyed w c text v
+pub command_refused : (w v : World) (c : Command) (f : Fault) (text : List ℕ) → v ≡ w → (f ≡ fault.Memory) ⊎ Fails w c f → text ≡ refusal f → f ≢ fault.Memory → IsObeyed w c text v
 command_refused w v c f text same (inl m) told kept = absurd (kept m)
 command_refused w v c f text same (inr q) told kept = refuses f q told same
 
@@ -26,48 +23,9 @@ pub text_refused : (w : World) (k : ℕ) (given text : List ℕ) (f : Fault) →
 text_refused w k given text f (inl m) told kept = absurd (kept m)
 text_refused w k given text f (inr q) told kept = subst (λ t. RepliesToInput w k given t w) (sym told) (unread q)
 
--- An act on a stream leaves the opening as it was,
-act_leaves_opening : {w v : World} {k : ℕ} {act : Act} {reply : Reply} → ActsOnStream ⊥ w k act reply v → v.opening ≡ w.opening
-act_leaves_opening (ActsOnStream.takes r step) = refl
-act_leaves_opening (ActsOnStream.fails q) = refl
-act_leaves_opening (ActsOnStream.no_memory starved) = absurd starved
-
--- and so do an undo,
-undo_leaves_opening : {w v : World} {n : ℕ} {reply : Reply} → Undoes ⊥ w n reply v → v.opening ≡ w.opening
-undo_leaves_opening (Undoes.takes_away r left t kept none without replay) = refl
-undo_leaves_opening (Undoes.fails q) = refl
-undo_leaves_opening (Undoes.no_memory starved) = absurd starved
-
--- a rollback,
-roll_leaves_opening : {w v : World} {n : ℕ} {reply : Reply} → Rolls ⊥ w n reply v → v.opening ≡ w.opening
-roll_leaves_opening (Rolls.takes_away r gone left t kept split replay) = refl
-roll_leaves_opening (Rolls.not_kept q) = refl
-roll_leaves_opening (Rolls.no_memory starved) = absurd starved
-
--- a redo,
-redo_leaves_opening : {w : World} {n : ℕ} {v : World} {reply : Reply} → Redoes ⊥ w n reply v → v.opening ≡ w.opening
-redo_leaves_opening (Redoes.puts_back r held fires few) = refl
-redo_leaves_opening (Redoes.fails q) = refl
-redo_leaves_opening (Redoes.no_memory starved) = absurd starved
-
--- another order,
-arrange_leaves_opening : {w v : World} {order : List ℕ} {reply : Reply} → Arranges ⊥ w order reply v → v.opening ≡ w.opening
-arrange_leaves_opening (Arranges.puts new lawful put) = refl
-arrange_leaves_opening (Arranges.fails q) = refl
-arrange_leaves_opening (Arranges.no_memory starved) = absurd starved
-
--- and each command,
-command_leaves_opening : (w v : World) (c : Command) (reply : Reply) → Obeys ⊥ w c reply v → v.opening ≡ w.opening
-command_leaves_opening w v (input k t) reply obeyed = act_leaves_opening obeyed
-command_leaves_opening w v (finish k) reply obeyed = act_leaves_opening obeyed
-command_leaves_opening w v (undo n) reply obeyed = undo_leaves_opening obeyed
-command_leaves_opening w v (roll n) reply obeyed = roll_leaves_opening obeyed
-command_leaves_opening w v (redo n) reply obeyed = redo_leaves_opening obeyed
-command_leaves_opening w v (arrange order) reply obeyed = arrange_leaves_opening obeyed
-
--- whether it is obeyed or refused,
+-- A command leaves the opening as it was, whether it is obeyed or refused,
 pub obeyed_leaves_opening : (w v : World) (c : Command) (text : List ℕ) → IsObeyed w c text v → v.opening ≡ w.opening
-obeyed_leaves_opening w v c text (obeys change asked tells) = command_leaves_opening w v c (told_of change) (asked.1 v tells.2)
+obeyed_leaves_opening w v c text (obeys change asked tells) = opening_stays w v change asked.1 tells.2
 obeyed_leaves_opening w v c text (refuses f not_obeyed told same) = ap (λ (z : World). z.opening) same
 
 -- and whether memory was refused or not.

@@ -28,7 +28,8 @@ use Rattle.ghc_core.specs.Proposes.{AttemptAnswers, IsCommitOf}
 use Rattle.ghc_core.specs.declared.change.Change.{Change}
 use Rattle.ghc_core.specs.declared.change.Change.TheVariants.{Adds as adds, PutsBack as puts_back, TakesAway as takes_away, TakesAll as takes_all, Reorders as reorders}
 use Rattle.ghc_core.specs.Change.{Changes}
-use Rattle.ghc_core.specs.Asked.{IsAskedFor, IsNotObeyed}
+use Rattle.ghc_core.specs.Answers.{Fails}
+use Rattle.ghc_core.specs.Asked.{IsAskedFor}
 use Rattle.ghc_core.specs.Load.{history_of}
 use Rattle.ghc_trace.specs.Ports.{Port, ArePorts}
 use Rattle.ghc_trace.specs.PortText.{ports_text}
@@ -92,7 +93,7 @@ TellsChange w change text v = (front : List ℕ) × IsFrontOf w change front × 
 -- IsObeyed w c text v: the change for which the command c asks is made and told, which leaves the world v; or it is told why the command is refused, which changes nothing.
 pub data IsObeyed (w : World) (c : Command) (text : List ℕ) (v : World) : Type 0 where
   obeys : (change : Change) → IsAskedFor w c change → TellsChange w change text v → IsObeyed w c text v
-  refuses : (f : Fault) → IsNotObeyed w c f → text ≡ refusal f → v ≡ w → IsObeyed w c text v
+  refuses : (f : Fault) → Fails w c f → text ≡ refusal f → v ≡ w → IsObeyed w c text v
 
 -- RepliesToInput w k given text v: a test of the reader refuses what is given, whatever stream k is; or it is read as a term, which the stream gets.
 pub data RepliesToInput (w : World) (k : ℕ) (given : List ℕ) : List ℕ → World → Type 0 where

@@ -1,5 +1,5 @@
--- Inputs, closes and arranges have an answer.
-use Rattle.std.proofs.Common.{◌≡◌, ℕ, ◌<◌, ◌≤◌, ◌⊎◌, true, false, cond, List, [], ◌∷◌, ◌++◌, map, length, refl, sym, ap, ◌∙◌, subst, inl, inr, arith, Some, None}
+-- Acts on streams have an answer.
+use Rattle.std.proofs.Common.{◌≡◌, ℕ, ◌<◌, ◌≤◌, ◌⊎◌, true, false, cond, List, [], ◌∷◌, map, length, refl, sym, ap, ◌∙◌, subst, inl, inr, arith, Some, None}
 use Rattle.std.specs.Prelude.{Option}
 use Rattle.std.specs.Ordering.{eq_by_cmp}
 use Rattle.std.specs.FinMap as finite
@@ -24,14 +24,12 @@ use Rattle.ghc_fire.specs.Goals.{goal_cmp, Goals}
 use Rattle.ghc_records.specs.Numbers.{number_limit, kept_limit}
 use Rattle.ghc_records.specs.Record.{Record}
 use Rattle.ghc_fire.proofs.GoalNames.{same_goal}
-use Rattle.ghc_core.specs.World.{World, IsFull, HasRoom, with_step}
-use Rattle.ghc_core.specs.Events.{Reply, stepped, arranged, refused}
-use Rattle.ghc_core.specs.Reverses as by
-use Rattle.ghc_records.specs.Journal.{reordered}
-use Rattle.ghc_depend.proofs.Decided.{decided}
+use Rattle.ghc_core.specs.World.{World, IsFull, HasRoom}
 use Rattle.ghc_core.specs.Streams as streams
 use Rattle.ghc_core.specs.Laws as laws
-use Rattle.ghc_core.proofs.Reaching.{reached}
+use Rattle.ghc_fire.proofs.Steps.{effect_once}
+use Rattle.ghc_core.proofs.Refusing.{no_stream, tail_bound}
+use Rattle.ghc_core.proofs.Stepping.{stream_full}
 
 -- the goal is that of stream k, or not
 is_of : (k : ℕ) (o : Option Goal) → ((s : VarName) × (o ≡ Some (stream k s))) ⊎ ((s : VarName) → ¬ (o ≡ Some (stream k s)))
@@ -73,7 +71,7 @@ room w = elim (less w.next number_limit) [
     less a b = grind arith
 
 -- an act on a stream
-abbrev OnStream : Act → Type 0
+abbrev pub OnStream : Act → Type 0
 OnStream act = ((t : Tree) × (act ≡ given t) × IsClosed t) ⊎ (act ≡ closed)
 
 effect_on : (w : World) (k : ℕ) (act : Act) (s x : VarName) (xs : List VarName) → OnStream act → Leads (value_at w.state.store) (variable s) xs (variable x)
@@ -87,36 +85,24 @@ effect_on w k act s x xs (inr p) l =
     let e : Effect = record { reads = set.from_list c.0; binds = finite.insert finite.empty x nil; makes = []; fresh = 0 } in
     (e, subst (λ a. HasEffect w.opening.program (stream k s) a w.next (value_at w.state.store) e) (sym p) (x, (c.0, c.2, c.3, refl), refl, refl, refl))
 
-abbrev Answered : World → ℕ → Act → Type 0
-Answered w k act = (reply : Reply) × (v : World) × streams.ActsOnStream ⊥ w k act reply v
+-- the act is done on stream k as a next step, or refused
+abbrev pub IsActAnswered : World → ℕ → Act → Type 0
+IsActAnswered w k act = ((r : Record) × streams.IsStreamStep w k act r) ⊎ ((f : Fault) × streams.StreamFails w k f)
 
-by_end : (w : World) (k : ℕ) (act : Act) (g : GoalName) (s : VarName) (xs : List VarName) (e : Tree) → OnStream act → streams.IsStreamAt w k g s → Leads (value_at w.state.store) (variable s) xs e → Answered w k act
-by_end w k act g s xs (variable x) a at l = elim (room w) [
-  | inr full ↦ (refused Fault.Full, w, streams.ActsOnStream.fails (streams.StreamFails.full g s x at (xs, l) full))
+by_end : (w : World) → laws.IsOrderly w → (k : ℕ) (act : Act) (g : GoalName) (s : VarName) (xs : List VarName) (e : Tree) → OnStream act → streams.IsStreamAt w k g s → Leads (value_at w.state.store) (variable s) xs e → IsActAnswered w k act
+by_end w ordered k act g s xs (variable x) a at l = elim (room w) [
+  | inr full ↦ inr (Fault.Full, stream_full effect_once w ordered.acyclic ordered.streams_once k act g s x at (xs, l) full)
   | inl r ↦
       let f = effect_on w k act s x xs a l in
-      let step : Record = record { number = w.next; goal = Some g; consumed = Some (stream k s); act = act; effect = f.0 } in
-      (stepped w.next, with_step step w, streams.ActsOnStream.takes step (g, s, refl, refl, refl, (refl, ((stream k s, refl, at), f.1), r)))
+      inl (record { number = w.next; goal = Some g; consumed = Some (stream k s); act = act; effect = f.0 }, ((g, s, refl, refl, refl), (refl, ((stream k s, refl, at), f.1), r)))
 ]
-by_end w k act g s xs (integer j) a at l = (refused Fault.TailBound, w, streams.ActsOnStream.fails (streams.StreamFails.tail_bound g s (integer j) at (xs, l) tt))
-by_end w k act g s xs (node f us) a at l = (refused Fault.TailBound, w, streams.ActsOnStream.fails (streams.StreamFails.tail_bound g s (node f us) at (xs, l) tt))
+by_end w ordered k act g s xs (integer j) a at l = inr (Fault.TailBound, tail_bound g s (integer j) at (xs, l) tt)
+by_end w ordered k act g s xs (node f us) a at l = inr (Fault.TailBound, tail_bound g s (node f us) at (xs, l) tt)
 
-answered : (w : World) → laws.IsOrderly w → (k : ℕ) (act : Act) → OnStream act → Answered w k act
-answered w ordered k act a = elim (search w.state.goals k (map (λ e. e.0) (finite.entries w.state.goals))) [
+pub act_answered : (w : World) → laws.IsOrderly w → (k : ℕ) (act : Act) → OnStream act → IsActAnswered w k act
+act_answered w ordered k act a = elim (search w.state.goals k (map (λ e. e.0) (finite.entries w.state.goals))) [
   | inl p ↦
       let c = chain (finite.len w.state.store) w.state.store (omega arith) ordered.acyclic (variable p.1) in
-      by_end w k act p.0 p.1 c.passed c.«end» a p.2 c.leads
-  | inr n ↦ (refused Fault.NoStream, w, streams.ActsOnStream.fails (streams.StreamFails.no_stream (λ g s at. n g s (found (finite.entries w.state.goals) g (stream k s) (sym (finite.get-entries w.state.goals g) ∙ at)) at)))
-]
-
-pub inputs_answered : laws.InputsHaveAnAnswer
-inputs_answered w hands k t r c = answered w (reached w hands r) k (given t) (inl (t, refl, c))
-
-pub closes_answered : laws.ClosesHaveAnAnswer
-closes_answered w hands k r = answered w (reached w hands r) k closed (inr refl)
-
-pub arranges_answered : laws.ArrangesHaveAnAnswer
-arranges_answered w hands order r = elim (decided w.kept order (reached w hands r).kept_once) [
-  | inl p ↦ (arranged, record w { kept = p.1.0; journal = w.journal ++ reordered order ∷ [] }, by.Arranges.puts p.1.0 p.0 p.1.1)
-  | inr f ↦ (refused (Fault.NotLawful f.0 f.1), w, by.Arranges.fails f.2)
+      by_end w ordered k act p.0 p.1 c.passed c.«end» a p.2 c.leads
+  | inr n ↦ inr (Fault.NoStream, no_stream (λ g s at. n g s (found (finite.entries w.state.goals) g (stream k s) (sym (finite.get-entries w.state.goals g) ∙ at)) at))
 ]

@@ -1,5 +1,5 @@
 -- Each event has one answer at most.
-use Rattle.std.proofs.Common.{◌≡◌, true, false, refl, sym, ap, ◌∙◌, subst, inl, inr, Some}
+use Rattle.std.proofs.Common.{◌≡◌, ℕ, List, [], ◌∷◌, true, false, refl, sym, ap, ◌∙◌, subst, inl, inr, Some, None}
 use Rattle.std.specs.FinMap as finite
 use Rattle.ghc_term.specs.declared.goal_name.GoalName.{GoalName}
 use Rattle.ghc_term.specs.Goal.{Goal}
@@ -8,49 +8,168 @@ use Rattle.ghc_flat.specs.Flat.{is_stream}
 use Rattle.ghc_fire.specs.declared.act.Act.TheVariants.{Given as given, Closed as closed}
 use Rattle.ghc_fire.proofs.Steps.{effect_once}
 use Rattle.ghc_fire.proofs.Tries.{attempt_once}
+use Rattle.ghc_term.specs.declared.fault.Fault.{Fault}
+use Rattle.ghc_records.specs.Record.{Record, numbers}
+use Rattle.ghc_records.specs.Replay.{query_state, Runs}
+use Rattle.ghc_records.specs.Journal.{Entry, undid, rolled}
+use Rattle.ghc_records.proofs.Replaying.{run_once}
+use Rattle.ghc_records.proofs.OrderLemmas.{picks_once}
+use Rattle.ghc_depend.specs.Kept.{IsWithout, IsSplitAt}
+use Rattle.ghc_depend.specs.Lawful.{IsLawful, IsInOrder}
+use Rattle.ghc_depend.proofs.Once.{orders, consequences}
 use Rattle.ghc_hooks.specs.Status.{HasStatus}
 use Rattle.ghc_hooks.proofs.Statuses.{status_once}
-use Rattle.ghc_core.specs.World.{World}
-use Rattle.ghc_core.specs.Events.{Command, input, finish, undo, roll, redo, arrange, Reply, noted}
+use Rattle.std.specs.Prelude.{Option}
+use Rattle.ghc_core.specs.World.{Proposal, Hands, with_hand, World, with_step}
+use Rattle.ghc_core.specs.declared.change.Change.{Change}
+use Rattle.ghc_core.specs.Change.{with_redone, without_steps, with_order, CanChange, AreTakenAway, Changes}
+use Rattle.ghc_core.specs.Events.{Command, input, finish, undo, roll, redo, arrange, Event, propose, commit, note, command, Reply, stepped, undone, noted, refused}
 use Rattle.ghc_core.specs.Proposes as asking
-use Rattle.ghc_core.specs.Answers.{Obeys, to_propose, to_commit, to_note, to_command}
+use Rattle.ghc_core.specs.Answers.{Asks, to_give, to_close, to_undo, to_roll, to_redo, to_arrange, told_of, Fails, AsksFor, by_hand, by_command, Says, IsRefusedFor, no_hand, makes, says, fails, no_memory}
+use Rattle.ghc_core.specs.Refusals.{IsToldWhere}
+use Rattle.ghc_core.specs.Proposes.{AttemptAnswers, CommitFails}
+use Rattle.ghc_fire.specs.Attempt as attempt
+use Rattle.ghc_fire.proofs.Answering.{same_act, same_effect, same_fault, apart}
 use Rattle.ghc_core.specs.Laws.{IsOrderly, OrderedHasOneAnswer, EventsHaveOneAnswer}
 use Rattle.ghc_core.proofs.Reaching.{reached}
-use Rattle.ghc_core.proofs.Reversing.{Same, value_once, has_not, undo_once, roll_once, redo_once, arrange_once}
-use Rattle.ghc_core.proofs.Stepping.{propose_once, commit_once, act_once}
+use Rattle.ghc_core.proofs.Refusing.{told_once, first_once, stream_fails_once, commit_fails_once, value_once, has_not}
+use Rattle.ghc_core.proofs.Reversing.{kept_once, undo_fails_once, undo_or_fail, redo_or_fail, redo_fails_once}
+use Rattle.ghc_core.proofs.Stepping.{step_once, commit_or_fail, stream_step_or_fail, one_stream_step}
 
 two_answers : (b : _) → b ≡ true → b ≡ false → ⊥
 two_answers b p q = let e : true ≡ false = sym p ∙ q in cc
+
+-- neither a proposal nor a note asks for a change
+proposal_asks : {w : World} {hands : Hands} {e : Event} {change : Change} {h : ℕ} {g : GoalName} {choice : Option ℕ} → AsksFor w hands e change → e ≡ propose h g choice → ⊥
+proposal_asks (by_hand there c) same = cc
+proposal_asks (by_command a) same = cc
+
+note_asks : {w : World} {hands : Hands} {e : Event} {change : Change} {g : GoalName} → AsksFor w hands e change → e ≡ note g → ⊥
+note_asks (by_hand there c) same = cc
+note_asks (by_command a) same = cc
 
 module _ (w : World) (ordered : IsOrderly w) where
   no_candidate : (g : GoalName) (b : Goal) → finite.get w.state.goals g ≡ Some b → is_stream b ≡ false → ¬ asking.IsNoCandidate w g
   no_candidate g b e n (inl p) = has_not e p
   no_candidate g b e n (inr p) = two_answers (is_stream b) (ap is_stream (value_once e p.1) ∙ p.2) n
 
-  note_once : (g : GoalName) {r s : Reply} → asking.Notes ⊥ w g r → asking.Notes ⊥ w g s → r ≡ s
-  note_once g (asking.Notes.tells b {s = s} e n p) (asking.Notes.tells c {s = t} k m q) =
-      ap (noted g) (status_once w.opening.program (value_at w.state.store) b s t ordered.acyclic p (subst (λ x. HasStatus w.opening.program (value_at w.state.store) x t) (value_once k e) q))
-  note_once g (asking.Notes.tells b e n p) (asking.Notes.no_goal q) = absurd (no_candidate g b e n q)
-  note_once g (asking.Notes.tells b e n p) (asking.Notes.no_memory q) = absurd q
-  note_once g (asking.Notes.no_goal p) (asking.Notes.tells b e n q) = absurd (no_candidate g b e n p)
-  note_once g (asking.Notes.no_goal p) (asking.Notes.no_goal q) = refl
-  note_once g (asking.Notes.no_goal p) (asking.Notes.no_memory q) = absurd q
-  note_once g (asking.Notes.no_memory p) q = absurd p
+  -- a change that can be made is not refused
+  made_or_fails : (c : Command) (change : Change) (f : Fault) → Asks c change → CanChange w change → ¬ Fails w c f
+  made_or_fails c change fault (to_give {k = k} {t = t} {r = r} o) can f = stream_step_or_fail effect_once w ordered.acyclic ordered.streams_once k (given t) r (o, can) f
+  made_or_fails c change fault (to_close {k = k} {r = r} o) can f = stream_step_or_fail effect_once w ordered.acyclic ordered.streams_once k closed r (o, can) f
+  made_or_fails c change fault (to_undo {n = n} {r = r} number) can f = undo_or_fail w n ordered.kept_once r (can.0, number) can.1 f
+  made_or_fails c change fault (to_roll {r = r} number) can f = f.1 r can.0 number
+  made_or_fails c change fault (to_redo {n = n} {r = r} number) can f = redo_or_fail w n r (subst (λ m. finite.get w.shelf m ≡ Some r) number can.0) can.1 can.2 f
+  made_or_fails c change fault (to_arrange {order = order} {a = a} same) can f = (orders w.kept ordered.kept_once).no_pair order f.0 f.1 (subst (IsLawful w.kept) same can.0) f.3
 
-  obey_once : (c : Command) {r s : Reply} {u v : World} → Obeys ⊥ w c r u → Obeys ⊥ w c s v → Same r s u v
-  obey_once (input k t) p q = act_once effect_once w ordered.acyclic ordered.streams_once k (given t) p q
-  obey_once (finish k) p q = act_once effect_once w ordered.acyclic ordered.streams_once k closed p q
-  obey_once (undo n) p q = undo_once w n ordered.kept_once p q
-  obey_once (roll n) p q = roll_once w n ordered.kept_once p q
-  obey_once (redo n) p q = redo_once w n p q
-  obey_once (arrange order) p q = arrange_once w order ordered.kept_once p q
+  -- a command is refused for one reason
+  fails_once : (c : Command) (f g : Fault) → Fails w c f → Fails w c g → f ≡ g
+  fails_once (input k t) f g p q = stream_fails_once p q
+  fails_once (finish k) f g p q = stream_fails_once p q
+  fails_once (undo n) f g p q = undo_fails_once w n ordered.kept_once p q
+  fails_once (roll n) f g p q = p.0 ∙ sym q.0
+  fails_once (redo n) f g p q = redo_fails_once w n p q
+  fails_once (arrange order) f g p q = let one = (orders w.kept ordered.kept_once).one_pair order _ _ _ _ p.3 q.3 in p.2 ∙ (λ i. Fault.NotLawful (one.0 i) (one.1 i)) ∙ sym q.2
+
+  -- worlds from which the same steps were taken away are one
+  taken_once : (entry : Entry) {gone far left rest : List Record} {u v : World} → gone ≡ far → left ≡ rest → AreTakenAway w gone left entry u → AreTakenAway w far rest entry v → u ≡ v
+  taken_once entry {gone} {far} {left} {rest} same lefts (t, run, e) (x, walk, f) =
+      let states : t ≡ x = run_once w.opening.program (query_state w.opening.query) rest t x (subst (λ z. Runs w.opening.program (query_state w.opening.query) z t) lefts run.1) walk.1 in
+      e ∙ (λ i. without_steps (same i) (lefts i) (states i) entry w) ∙ sym f
+
+  -- a command asks for one change, which is told in one way and leaves one world
+  change_once : (u v : World) {c : Command} {x y : Change} → Asks c x → Asks c y → CanChange w x → CanChange w y → Changes w x u → Changes w y v → (told_of x ≡ told_of y) × (u ≡ v)
+  change_once u v (to_give {k = k} {t = t} {r = r} o) (to_give {r = s} p) m n e f =
+      let same : r ≡ s = one_stream_step effect_once w ordered.acyclic ordered.streams_once k (given t) r s (o, m) (p, n) in
+      (ap (λ (z : Record). stepped z.number) same, e ∙ ap (λ z. with_step z w) same ∙ sym f)
+  change_once u v (to_close {k = k} {r = r} o) (to_close {r = s} p) m n e f =
+      let same : r ≡ s = one_stream_step effect_once w ordered.acyclic ordered.streams_once k closed r s (o, m) (p, n) in
+      (ap (λ (z : Record). stepped z.number) same, e ∙ ap (λ z. with_step z w) same ∙ sym f)
+  change_once u v (to_undo {n = n} {r = r} a) (to_undo {r = s} b) can may (left, out, t) (rest, off, x) =
+      let same : r ≡ s = kept_once w.kept n r s ordered.kept_once (can.0, a) (may.0, b) in
+      let lefts : left ≡ rest = picks_once w.kept left rest out (subst (λ z. IsWithout w.kept z rest) (sym same) off) in
+      (ap (λ (z : Record). undone (z.number ∷ [])) same, taken_once (undid s.number) (ap (λ z. z ∷ []) same) lefts (subst (λ (z : Record). AreTakenAway w (r ∷ []) left (undid z.number) u) same t) x)
+  change_once u v (to_roll {n = n} {r = r} {rs = rs} a) (to_roll {r = s} {rs = ss} b) can may (left, split, t) (rest, part, x) =
+      let same : r ≡ s = kept_once w.kept n r s ordered.kept_once (can.0, a) (may.0, b) in
+      let lists = (consequences w.kept s ordered.kept_once).one_split (r ∷ rs) left (s ∷ ss) rest (subst (λ z. IsSplitAt w.kept z (r ∷ rs) left) same split) part in
+      (ap (λ z. undone (numbers z)) lists.0, taken_once (rolled s.number) lists.0 lists.1 (subst (λ (z : Record). AreTakenAway w (r ∷ rs) left (rolled z.number) u) same t) x)
+  change_once u v (to_redo {n = n} {r = r} a) (to_redo {r = s} b) can may e f =
+      let same : r ≡ s = value_once (subst (λ m. finite.get w.shelf m ≡ Some r) (a ∙ sym b) can.0) may.0 in
+      (ap (λ (z : Record). stepped z.number) same, e ∙ ap (λ z. with_redone z w) same ∙ sym f)
+  change_once u v (to_arrange {order = order} {a = a} o) (to_arrange {a = b} p) can may e f =
+      let same : a.records ≡ b.records = (orders w.kept ordered.kept_once).one_record order a.records b.records (subst (λ z. IsInOrder w.kept z a.records) o can.1) (subst (λ z. IsInOrder w.kept z b.records) p may.1) in
+      (refl, e ∙ (λ i. with_order ((o ∙ sym p) i) (same i) w) ∙ sym f)
+
+  module _ (hands : Hands) where
+    -- an event asks for a change, or says what it found
+    asks_no_say : {e : Event} {change : Change} {reply : Reply} {left : Hands} → AsksFor w hands e change → Says w hands e reply left → ⊥
+    asks_no_say a (Says.holds p is) = proposal_asks a refl
+    asks_no_say a (Says.tells status) = note_asks a refl
+
+    -- an event asks for one change, which is told in one way and leaves one world
+    asked_once : {e : Event} {x y : Change} {u v : World} → AsksFor w hands e x → AsksFor w hands e y → CanChange w x → CanChange w y → Changes w x u → Changes w y v → (told_of x ≡ told_of y) × (u ≡ v)
+    asked_once (by_hand {p = p} {r = r} there c) (by_hand {p = q} {r = s} here d) m n e f =
+        let same : p ≡ q = value_once there here in
+        let act : r.act ≡ s.act = c.3 ∙ ap (λ (x : Proposal). x.act) same ∙ sym d.3 in
+        let steps : r ≡ s = step_once effect_once w ordered.acyclic r s q.goal c.1 d.1 (c.2 ∙ ap (λ (x : Proposal). Some x.goal) same) d.2 act in
+        (ap (λ (z : Record). stepped z.number) steps, e ∙ ap (λ z. with_step z w) steps ∙ sym f)
+    asked_once {u = u} {v = v} (by_command a) (by_command b) m n e f = change_once u v a b m n e f
+
+    -- an event that asks for a change that can be made is not refused
+    asked_or_refused : (f : Fault) {e : Event} {change : Change} → AsksFor w hands e change → CanChange w change → ¬ IsRefusedFor w hands e f
+    asked_or_refused f (by_hand {r = r} there c) can fault = elim fault [ inl e ↦ has_not there e.1 | inr (_, (q, k, why)) ↦ commit_or_fail w r c (subst (λ x. CommitFails w x f) (value_once k there) why) ]
+    asked_or_refused f (by_command {c = c} {change = change} a) can why = made_or_fails c change f a can why
+
+    one_attempt : (g : GoalName) (choice : Option ℕ) {a b : attempt.Answer} → AttemptAnswers w g choice a → AttemptAnswers w g choice b → a ≡ b
+    one_attempt g choice {a} {b} p q = attempt_once w.opening.program (value_at w.state.store) (finite.get w.state.goals g) choice a b ordered.acyclic p q
+
+    -- an event says one thing
+    said_once : {e : Event} {r s : Reply} {left other : Hands} → Says w hands e r left → Says w hands e s other → (r ≡ s) × (left ≡ other)
+    said_once (Says.holds {h = h} {g = g} {choice = choice} p is) (Says.holds q are) =
+        let answers = one_attempt g choice is.proposed are.proposed in
+        let goal : p.goal ≡ q.goal = is.named ∙ sym are.named in
+        let consumed : p.consumed ≡ q.consumed = value_once is.there are.there in
+        (refl, λ k. with_hand h (record { goal = goal k; consumed = consumed k; act = same_act answers k; effect = same_effect answers k }) hands)
+    said_once (Says.tells {g = g} {s = s} (b, there, plain, p)) (Says.tells {s = t} (c, here, clear, q)) =
+        (ap (noted g) (status_once w.opening.program (value_at w.state.store) b s t ordered.acyclic p (subst (λ x. HasStatus w.opening.program (value_at w.state.store) x t) (value_once here there) q)), refl)
+
+    -- an event that says what it found is not refused
+    said_or_refused : (f : Fault) {e : Event} {reply : Reply} {left : Hands} → Says w hands e reply left → ¬ IsRefusedFor w hands e f
+    said_or_refused f (Says.holds {g = g} {choice = choice} p is) why = apart (one_attempt g choice is.proposed why)
+    said_or_refused f (Says.tells {g = g} (b, there, plain, status)) why = no_candidate g b there plain why.1
+
+    -- why what the hand holds is not committed
+    abbrev HeldFails : ℕ → Fault → Type 0
+    HeldFails h f = (p : Proposal) × (finite.get hands.held h ≡ Some p) × CommitFails w p f
+
+    -- an event is refused for one reason
+    refused_once : (e : Event) (f g : Fault) → IsRefusedFor w hands e f → IsRefusedFor w hands e g → f ≡ g
+    refused_once (propose h g choice) f k p q = same_fault (one_attempt g choice p q)
+    refused_once (commit h) f g p q =
+        first_once (IsToldWhere Fault.Stale (finite.get hands.held h ≡ None)) (HeldFails h) (told_once Fault.Stale (finite.get hands.held h ≡ None))
+        (λ a b (x, k, c) (y, l, d). commit_fails_once (subst (λ z. CommitFails w z a) (value_once k l) c) d) f g p q
+    refused_once (note g) f k p q = p.0 ∙ sym q.0
+    refused_once (command c) f g p q = fails_once c f g p q
 
 pub ordered_once : OrderedHasOneAnswer
-ordered_once w u v hands left other e reply said ordered (to_propose p) (to_propose q) =
-    let same = propose_once attempt_once w hands ordered.acyclic _ _ _ p q in (same.0, refl, same.1)
-ordered_once w u v hands left other e reply said ordered (to_commit p) (to_commit q) = commit_once effect_once w hands ordered.acyclic _ p q
-ordered_once w u v hands left other e reply said ordered (to_note p) (to_note q) = (note_once w ordered _ p q, refl, refl)
-ordered_once w u v hands left other e reply said ordered (to_command {c = c} p) (to_command q) = let same = obey_once w ordered c p q in (same.0, same.1, refl)
+ordered_once w u v hands left other e reply said ordered (no_hand n) (no_hand m) = (refl, refl, refl)
+ordered_once w u v hands left other e reply said ordered (no_hand n) (makes i a can c t) = absurd (n i)
+ordered_once w u v hands left other e reply said ordered (no_hand n) (says i s) = absurd (n i)
+ordered_once w u v hands left other e reply said ordered (no_hand n) (fails i f) = absurd (n i)
+ordered_once w u v hands left other e reply said ordered (makes i a can c t) (no_hand n) = absurd (n i)
+ordered_once w u v hands left other e reply said ordered (makes i a can c t) (makes j b may d s) = let same = asked_once w ordered hands a b can may c d in (t ∙ same.0 ∙ sym s, same.1, refl)
+ordered_once w u v hands left other e reply said ordered (makes i a can c t) (says j s) = absurd (asks_no_say w ordered hands a s)
+ordered_once w u v hands left other e reply said ordered (makes i a can c t) (fails j f) = absurd (asked_or_refused w ordered hands _ a can f)
+ordered_once w u v hands left other e reply said ordered (says i s) (no_hand n) = absurd (n i)
+ordered_once w u v hands left other e reply said ordered (says i s) (makes j a can c t) = absurd (asks_no_say w ordered hands a s)
+ordered_once w u v hands left other e reply said ordered (says i s) (says j t) = let same = said_once w ordered hands s t in (same.0, refl, same.1)
+ordered_once w u v hands left other e reply said ordered (says i s) (fails j f) = absurd (said_or_refused w ordered hands _ s f)
+ordered_once w u v hands left other e reply said ordered (fails i f) (no_hand n) = absurd (n i)
+ordered_once w u v hands left other e reply said ordered (fails i f) (makes j a can c t) = absurd (asked_or_refused w ordered hands _ a can f)
+ordered_once w u v hands left other e reply said ordered (fails i f) (says j s) = absurd (said_or_refused w ordered hands _ s f)
+ordered_once w u v hands left other e reply said ordered (fails i f) (fails j g) = (ap refused (refused_once w ordered hands e _ _ f g), refl, refl)
+ordered_once w u v hands left other e reply said ordered a (no_memory n) = absurd n
+ordered_once w u v hands left other e reply said ordered (no_memory n) b = absurd n
 
 pub events_once : EventsHaveOneAnswer
 events_once w u v hands left other e reply said r p q = ordered_once w u v hands left other e reply said (reached w hands r) p q

@@ -11,7 +11,7 @@ use Rattle.ghc_core.specs.World.{Proposal, Hands, IsHand, World}
 use Rattle.ghc_core.specs.Core.{IsStanding}
 use Rattle.ghc_core.specs.Events.{Reply, refused}
 use Rattle.ghc_core.specs.Proposes.{AttemptAnswers, IsNoCandidate}
-use Rattle.ghc_core.specs.Reverses.{UndoFails}
+use Rattle.ghc_core.specs.Refusals.{UndoFails}
 use Rattle.ghc_core.specs.Anyway.{IsNotProposedAnyway, IsNotCommittedAnyway}
 use Rattle.ghc_core.proofs.Reversing.{undo_fails_once, undo_or_fail}
 use Rattle.ghc_core.proofs.Standing.{standing_orderly}

@@ -23,10 +23,10 @@ use Rattle.ghc_fire.proofs.Under.{effect_under}
 use Rattle.ghc_fire.proofs.Answering.{same_act, same_effect, same_fault, apart}
 use Rattle.ghc_records.specs.Record.{Record}
 use Rattle.ghc_core.specs.World.{World, HasRoom}
-use Rattle.ghc_core.specs.Proposes.{AttemptAnswers, IsReduction, StillHolds, full, IsCommitOf, IsStepOf, StepFails, refused_attempt, no_room}
+use Rattle.ghc_core.specs.Proposes.{AttemptAnswers, IsReduction, StillHolds, IsCommitOf, IsStepOf, StepFails, refused_attempt, no_room}
 use Rattle.ghc_core.specs.Core.{IsStanding, choice_of}
 use Rattle.ghc_core.specs.Laws.{CommitIsExact, StepIsExact, StreamStepIsExact}
-use Rattle.ghc_core.proofs.Reversing.{value_once}
+use Rattle.ghc_core.proofs.Refusing.{stream_fails_once, commit_fails_once, value_once}
 use Rattle.ghc_core.proofs.Stepping as stepping
 use Rattle.ghc_core.proofs.Reaching.{known, reached}
 use Rattle.ghc_core.proofs.Standing.{standing_numbered}
@@ -118,12 +118,12 @@ module _ (w : World) (acyclic : IsAcyclic (value_at w.state.store)) where
 
   step_or_fail : (g : GoalName) (choice : Option ℕ) (r : Record) (f : Fault) → IsStepOf w g choice r → ¬ StepFails w g choice f
   step_or_fail g choice r f (p, named, t, c) (refused_attempt u) = apart (one_answer g choice t u)
-  step_or_fail g choice r f (p, named, t, c) (no_room q called u is_full) = stepping.commit_or_fail w {p = p} r c (full c.0 is_full)
+  step_or_fail g choice r f (p, named, t, c) (no_room q called u is_full) = stepping.room_or_full w c.1.2 is_full
 
 -- What is answered for a commit in a reachable world is exact.
 pub commit_exact : CommitIsExact
 commit_exact w hands p result reachable answer =
-    exact (one_commit w (known w hands reachable).acyclic p) (λ f g h k. stepping.commit_fails_once w h k) (λ r f c d. stepping.commit_or_fail w r c d) result answer
+    exact (one_commit w (known w hands reachable).acyclic p) (λ f g h k. commit_fails_once h k) (λ r f c d. stepping.commit_or_fail w r c d) result answer
 
 -- What is answered for a step in a reachable world is exact.
 pub step_exact : StepIsExact
@@ -135,5 +135,5 @@ step_exact w hands g choice result reachable answer =
 pub stream_step_exact : StreamStepIsExact
 stream_step_exact w hands k act result reachable answer =
     let ordered = reached w hands reachable in
-    exact (stepping.one_stream_step effect_once w ordered.acyclic ordered.streams_once k act) (λ f g h q. stepping.stream_fails_once effect_once w ordered.acyclic ordered.streams_once k act h q)
+    exact (stepping.one_stream_step effect_once w ordered.acyclic ordered.streams_once k act) (λ f g h q. stream_fails_once h q)
     (λ r f t q. stepping.stream_step_or_fail effect_once w ordered.acyclic ordered.streams_once k act r t q) result answer

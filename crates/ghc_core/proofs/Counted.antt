@@ -11,8 +11,9 @@ use Rattle.ghc_fire.specs.Meter.{fired, tried}
 use Rattle.ghc_records.specs.Record.{Record}
 use Rattle.ghc_core.specs.World.{World}
 use Rattle.ghc_core.specs.Proposes.{IsNoCandidate}
-use Rattle.ghc_core.specs.Reverses.{RedoFails}
+use Rattle.ghc_core.specs.Refusals.{RedoFails}
 use Rattle.ghc_core.specs.Counting.{FiresOnce, TriesOnce}
+use Rattle.ghc_core.proofs.Refusing.{not_shelved, no_goal}
 use Rattle.ghc_core.proofs.Redone.{said_not_shelved, said_no_goal}
 
 module _ (w : World) (m k : Meter) where
@@ -53,7 +54,7 @@ module _ (w : World) (m k : Meter) where
         cc))
 
     of_name : (r : Record) (g : GoalName) (o : Option Goal) → finite.get w.shelf n ≡ Some r → r.goal ≡ Some g → finite.get w.state.goals g ≡ o → FiresOnce m k
-    of_name r g None on named at = inl (gone (RedoFails.no_goal r g on named at))
+    of_name r g None on named at = inl (gone (no_goal r g on named at))
     of_name r g (Some b) on named at = inr (both (on_shelf r on) (λ f.
         let said = said_no_goal f refl in
         let one = same_record r said.0 on said.1 in
@@ -67,7 +68,7 @@ module _ (w : World) (m k : Meter) where
     of_record r (Some g) on named = of_name r g (finite.get w.state.goals g) on named refl
 
     of_shelf : (o : Option Record) → finite.get w.shelf n ≡ o → FiresOnce m k
-    of_shelf None on = inl (off (RedoFails.not_shelved on))
+    of_shelf None on = inl (off (not_shelved on))
     of_shelf (Some r) on = of_record r r.goal on refl
 
     pub redo_counted : FiresOnce m k

@@ -1,5 +1,5 @@
--- Proposals, commits, notes and redoes have an answer.
-use Rattle.std.proofs.Common.{◌≡◌, ℕ, ◌≤◌, true, false, Bool, length, refl, sym, ap, ◌∙◌, subst, inl, inr, arith, Some, None}
+-- Each event has an answer.
+use Rattle.std.proofs.Common.{◌≡◌, ◌≢◌, ℕ, ◌≤◌, true, false, Bool, List, length, refl, sym, ap, ◌∙◌, subst, inl, inr, arith, Some, None}
 use Rattle.std.specs.Prelude.{Option}
 use Rattle.std.specs.FinMap as finite
 use Rattle.ghc_term.specs.declared.goal_name.GoalName.{GoalName}
@@ -21,15 +21,23 @@ use Rattle.ghc_fire.proofs.Steps.{effect_each}
 use Rattle.ghc_hooks.proofs.EachStatus.{each_status}
 use Rattle.ghc_records.specs.Numbers.{kept_limit}
 use Rattle.ghc_records.specs.Record.{Record, IsThere, HasStepEffect, Fires}
+use Rattle.ghc_depend.proofs.Decided.{decided}
+use Rattle.ghc_core.specs.declared.change.Change.TheVariants.{Adds as adds, PutsBack as puts_back, Reorders as reorders}
 use Rattle.ghc_core.specs.World.{Proposal, Hands, IsHand, with_hand, emptied, World, with_step}
-use Rattle.ghc_core.specs.Events.{input, finish, undo, roll, redo, arrange, Event, propose, commit, note, command, Reply, held, stepped, noted, refused}
-use Rattle.ghc_core.specs.Answers.{Answers, to_propose, to_commit, to_note, to_command}
+use Rattle.ghc_core.specs.Change.{with_redone, with_order}
+use Rattle.ghc_core.specs.Events.{Command, input, finish, undo, roll, redo, arrange, Event, propose, commit, note, command, Reply, held, stepped, noted, arranged, refused}
+use Rattle.ghc_core.specs.Answers.{Asks, to_give, to_close, to_redo, to_arrange, Fails, Obeys, does, refuses, by_hand, Says, Answers, no_hand, makes, says, fails}
 use Rattle.ghc_core.specs.Proposes as asking
-use Rattle.ghc_core.specs.Reverses as by
+use Rattle.ghc_core.specs.Streams as streams
+use Rattle.ghc_core.specs.Legal.{IsProper}
+use Rattle.ghc_core.specs.Reached.{Reaches}
+use Rattle.ghc_core.specs.Laws.{IsOrderly}
 use Rattle.ghc_core.specs.Laws as laws
-use Rattle.ghc_core.proofs.Answered.{room, inputs_answered, closes_answered, arranges_answered}
+use Rattle.ghc_core.proofs.Answered.{room, IsActAnswered, act_answered}
+use Rattle.ghc_core.proofs.Moving.{obeyed_answers, noted_answers, reachable_reached}
+use Rattle.ghc_core.proofs.Refusing.{has_not, not_shelved, no_goal, changed, full, stale, no_room}
 use Rattle.ghc_core.proofs.Returning.{undoes_answered, rolls_answered}
-use Rattle.ghc_core.proofs.Reaching.{reached, under_program}
+use Rattle.ghc_core.proofs.Reaching.{reached_good, reached}
 
 at_most : (a b : ℕ) → Decided (a ≤ b)
 at_most a b = grind arith
@@ -47,22 +55,29 @@ reduction_decided assigned = inl tt
 reduction_decided (given u) = inr (λ r. r)
 reduction_decided closed = inr (λ r. r)
 
-module _ (w : World) (accepted : IsProgram w.opening.program) (acyclic : IsAcyclic (value_at w.state.store)) where
+-- the command has an answer
+abbrev IsObeyed : World → Command → Type 0
+IsObeyed w c = (reply : Reply) × (v : World) × Obeys ⊥ w c reply v
+
+-- the event has an answer
+abbrev Answered : World → Hands → Event → Type 0
+Answered w hands e = (reply : Reply) × (v : World) × (left : Hands) × Answers ⊥ w hands e reply v left
+
+module _ (w : World) (accepted : IsProgram w.opening.program) (acyclic : IsAcyclic (value_at w.state.store)) (shelved : (n : ℕ) (r : Record) → finite.get w.shelf n ≡ Some r → r.number ≡ n) where
   -- an attempt that proposes something has a goal
   proposing : (h : ℕ) (g : GoalName) (choice : Option ℕ) (hands : Hands) → IsHand hands h → (o : Option Goal) → finite.get w.state.goals g ≡ o → (a : attempt.Answer)
-      → attempt.Attempts w.opening.program (value_at w.state.store) o choice a → (reply : Reply) × (left : Hands) × asking.Proposes ⊥ w hands h g choice reply left
+      → attempt.Attempts w.opening.program (value_at w.state.store) o choice a → Answered w hands (propose h g choice)
   proposing h g choice hands i o e (attempt.Answer.refused f) t =
-      (refused f, hands, asking.Proposes.fails i (subst (λ z. attempt.Attempts w.opening.program (value_at w.state.store) z choice (attempt.refused f)) (sym e) t))
+      (refused f, w, hands, fails i (subst (λ z. attempt.Attempts w.opening.program (value_at w.state.store) z choice (attempt.refused f)) (sym e) t))
   proposing h g choice hands i None e (attempt.Answer.proposes act x) t = let no_goal : attempt.proposes act x ≡ attempt.refused Fault.NoGoal = t in cc
-  proposing h g choice hands i (Some b) e (attempt.Answer.proposes act x) t = (
-    held h,
-    with_hand h (record { goal = g; consumed = b; act = act; effect = x }) hands,
-    asking.Proposes.holds b act x i e (subst (λ z. attempt.Attempts w.opening.program (value_at w.state.store) z choice (attempt.proposes act x)) (sym e) t),
-  )
+  proposing h g choice hands i (Some b) e (attempt.Answer.proposes act x) t =
+      let p : Proposal = record { goal = g; consumed = b; act = act; effect = x } in
+      let is : asking.IsProposedIn w g choice p = record { named = refl; there = e; proposed = subst (λ z. attempt.Attempts w.opening.program (value_at w.state.store) z choice (attempt.proposes act x)) (sym e) t } in
+      (held h, w, with_hand h p hands, says i (Says.holds p is))
 
-  proposed : (hands : Hands) (h : ℕ) (g : GoalName) (choice : Option ℕ) → (reply : Reply) × (left : Hands) × asking.Proposes ⊥ w hands h g choice reply left
+  proposed : (hands : Hands) (h : ℕ) (g : GoalName) (choice : Option ℕ) → Answered w hands (propose h g choice)
   proposed hands h g choice = elim (hand_decided hands h) [
-    | inr n ↦ (refused Fault.Command, hands, asking.Proposes.no_hand n)
+    | inr n ↦ (refused Fault.Command, w, hands, no_hand n)
     | inl i ↦
         let a = each_answer w.opening.program w.state.store (finite.get w.state.goals g) choice accepted acyclic in
         proposing h g choice hands i (finite.get w.state.goals g) refl a.0 a.1
@@ -84,19 +99,19 @@ module _ (w : World) (accepted : IsProgram w.opening.program) (acyclic : IsAcycl
     ] refl
   ]
 
-  committed : (hands : Hands) (h : ℕ) → (reply : Reply) × (v : World) × (left : Hands) × asking.Commits ⊥ w hands h reply v left
+  committed : (hands : Hands) (h : ℕ) → Answered w hands (commit h)
   committed hands h = elim (hand_decided hands h) [
-    | inr n ↦ (refused Fault.Command, w, hands, asking.Commits.no_hand n)
-    | inl i ↦ elim (finite.get hands.held h) as (λ o. finite.get hands.held h ≡ o → (reply : Reply) × (v : World) × (left : Hands) × asking.Commits ⊥ w hands h reply v left) [
-      | None ↦ λ e. (refused Fault.Stale, w, emptied h hands, asking.Commits.empty i e)
+    | inr n ↦ (refused Fault.Command, w, hands, no_hand n)
+    | inl i ↦ elim (finite.get hands.held h) as (λ o. finite.get hands.held h ≡ o → Answered w hands (commit h)) [
+      | None ↦ λ e. (refused Fault.Stale, w, emptied h hands, fails i (inl (refl, e)))
       | Some p ↦ λ e. elim (holds_decided p) [
-        | inr n ↦ (refused Fault.Stale, w, emptied h hands, asking.Commits.fails p i e (asking.CommitFails.stale n))
+        | inr n ↦ (refused Fault.Stale, w, emptied h hands, fails i (inr ((λ f none. has_not e none.1), (p, e, stale n))))
         | inl s ↦ elim (room w) [
-          | inr full ↦ (refused Fault.Full, w, emptied h hands, asking.Commits.fails p i e (asking.CommitFails.full s full))
+          | inr many ↦ (refused Fault.Full, w, emptied h hands, fails i (inr ((λ f none. has_not e none.1), (p, e, no_room s many))))
           | inl free ↦
               let f = effect_each w.opening.program s.0 p.act no_step w.next (value_at w.state.store) p.effect s.3 in
               let r : Record = record { number = w.next; goal = Some p.goal; consumed = Some s.0; act = p.act; effect = f.0 } in
-              (stepped w.next, with_step r w, emptied h hands, asking.Commits.takes p r i e (s, (refl, ((s.0, refl, s.2), f.1), free), refl, refl))
+              (stepped w.next, with_step r w, emptied h hands, makes {change = adds r} i (by_hand e (s, (refl, ((s.0, refl, s.2), f.1), free), refl, refl)) (refl, ((s.0, refl, s.2), f.1), free) refl refl)
         ]
       ]
     ] refl
@@ -104,7 +119,7 @@ module _ (w : World) (accepted : IsProgram w.opening.program) (acyclic : IsAcycl
 
   noted_so : (g : GoalName) (b : Goal) (stream : Bool) → finite.get w.state.goals g ≡ Some b → is_stream b ≡ stream → (reply : Reply) × asking.Notes ⊥ w g reply
   noted_so g b true e s = (refused Fault.NoGoal, asking.Notes.no_goal (inr (b, e, s)))
-  noted_so g b false e s = let t = each_status w.opening.program w.state.store b accepted acyclic in (noted g t.0, asking.Notes.tells b e s t.1)
+  noted_so g b false e s = let t = each_status w.opening.program w.state.store b accepted acyclic in (noted g t.0, asking.Notes.tells (b, e, s, t.1))
 
   noticed : (g : GoalName) → (reply : Reply) × asking.Notes ⊥ w g reply
   noticed g = elim (finite.get w.state.goals g) as (λ o. finite.get w.state.goals g ≡ o → (reply : Reply) × asking.Notes ⊥ w g reply) [
@@ -141,21 +156,23 @@ module _ (w : World) (accepted : IsProgram w.opening.program) (acyclic : IsAcycl
   ]
 
   abbrev Redone : ℕ → Type 0
-  Redone n = (reply : Reply) × (v : World) × by.Redoes ⊥ w n reply v
+  Redone n = IsObeyed w (redo n)
 
-  with_goal : (n : ℕ) (r : Record) → finite.get w.shelf n ≡ Some r → by.IsGoalThere w r → Redone n
+  with_goal : (n : ℕ) (r : Record) → finite.get w.shelf n ≡ Some r → ((g : GoalName) → r.goal ≡ Some g → finite.get w.state.goals g ≢ None) → Redone n
   with_goal n r e there = elim (fires_decided r) [
-    | inr changed ↦ (refused Fault.Changed, w, by.Redoes.fails (by.RedoFails.changed r e there changed))
+    | inr other ↦ (refused Fault.Changed, w, refuses (changed r e there other))
     | inl f ↦ elim (at_most kept_limit (length w.kept)) [
-      | inl full ↦ (refused Fault.Full, w, by.Redoes.fails (by.RedoFails.full r e f full))
-      | inr few ↦ (stepped n, by.with_redone r n w, by.Redoes.puts_back r e f (omega (arith, few)))
+      | inl many ↦ (refused Fault.Full, w, refuses (full r e f many))
+      | inr few ↦
+          let number : r.number ≡ n = shelved n r e in
+          (stepped n, with_redone r w, does {change = puts_back r} (to_redo number) (subst (λ m. finite.get w.shelf m ≡ Some r) (sym number) e, f, omega (arith, few)) refl (ap stepped (sym number)))
     ]
   ]
 
   from_shelf : (n : ℕ) (r : Record) → finite.get w.shelf n ≡ Some r → (g : Option GoalName) → r.goal ≡ g → Redone n
   from_shelf n r e None s = with_goal n r e (λ g t. let no_name : None ≡ Some g = sym s ∙ t in cc)
   from_shelf n r e (Some g) s = elim (finite.get w.state.goals g) as (λ o. finite.get w.state.goals g ≡ o → Redone n) [
-    | None ↦ λ q. (refused Fault.NoGoal, w, by.Redoes.fails (by.RedoFails.no_goal r g e s q))
+    | None ↦ λ q. (refused Fault.NoGoal, w, refuses (no_goal r g e s q))
     | Some b ↦ λ q. with_goal n r e (λ h t none.
         let both : Some g ≡ Some h = sym s ∙ t in
         let same : g ≡ h = cc in
@@ -166,33 +183,35 @@ module _ (w : World) (accepted : IsProgram w.opening.program) (acyclic : IsAcycl
 
   redone : (n : ℕ) → Redone n
   redone n = elim (finite.get w.shelf n) as (λ o. finite.get w.shelf n ≡ o → Redone n) [
-    | None ↦ λ e. (refused Fault.NotShelved, w, by.Redoes.fails (by.RedoFails.not_shelved e))
+    | None ↦ λ e. (refused Fault.NotShelved, w, refuses (not_shelved e))
     | Some r ↦ λ e. from_shelf n r e r.goal refl
   ] refl
 
--- the event has an answer
-abbrev pub Answered : World → Hands → Event → Type 0
-Answered w hands e = (reply : Reply) × (v : World) × (left : Hands) × Answers ⊥ w hands e reply v left
+-- an act on a stream is a change for which the command asks, or is refused
+acted : (w : World) (c : Command) (k : ℕ) (act : Act) → ((r : Record) → streams.IsOfStream k act r → Asks c (adds r)) → ((f : Fault) → streams.StreamFails w k f → Fails w c f) → IsActAnswered w k act → IsObeyed w c
+acted w c k act asks why (inl (r, (o, next))) = (stepped r.number, with_step r w, does {change = adds r} (asks r o) next refl refl)
+acted w c k act asks why (inr (f, fault)) = (refused f, w, refuses (why f fault))
 
-pub proposes_answered : laws.ProposesHaveAnAnswer
-proposes_answered w hands h g choice r = proposed w (under_program r) (reached w hands r).acyclic hands h g choice
+arranges_answered : (w : World) (order : List ℕ) → IsOrderly w → IsObeyed w (arrange order)
+arranges_answered w order ordered = elim (decided w.kept order ordered.kept_once) [
+  | inl p ↦ (arranged, with_order order p.1.0 w, does {change = reorders (record { records = p.1.0; order = order })} (to_arrange refl) (p.0, p.1.1) refl refl)
+  | inr f ↦ (refused (Fault.NotLawful f.0 f.1), w, refuses (f.0, f.1, refl, f.2))
+]
 
-pub commits_answered : laws.CommitsHaveAnAnswer
-commits_answered w hands h r = committed w (under_program r) (reached w hands r).acyclic hands h
-
-pub notes_answered : laws.NotesHaveAnAnswer
-notes_answered w hands g r = noticed w (under_program r) (reached w hands r).acyclic g
-
-pub redoes_answered : laws.RedoesHaveAnAnswer
-redoes_answered w hands n r = redone w (under_program r) (reached w hands r).acyclic n
+commands_answered : (w : World) (c : Command) → Reaches w → IsOrderly w → IsProper (command c) → IsObeyed w c
+commands_answered w (input k t) r ordered proper = acted w (input k t) k (given t) (λ s o. to_give o) (λ f e. e) (act_answered w ordered k (given t) (inl (t, refl, proper)))
+commands_answered w (finish k) r ordered proper = acted w (finish k) k closed (λ s o. to_close o) (λ f e. e) (act_answered w ordered k closed (inr refl))
+commands_answered w (undo n) r ordered proper = undoes_answered w n r
+commands_answered w (roll n) r ordered proper = rolls_answered w n r
+commands_answered w (redo n) r ordered proper = redone w (reached_good r).accepted ordered.acyclic (λ m s e. ((reached_good r).shelf m s e).0) n
+commands_answered w (arrange order) r ordered proper = arranges_answered w order ordered
 
 pub events_answered : laws.EventsHaveAnAnswer
-events_answered w hands (propose h g choice) r proper = let a = proposes_answered w hands h g choice r in (a.0, w, a.1, to_propose a.2)
-events_answered w hands (commit h) r proper = let a = commits_answered w hands h r in (a.0, a.1, a.2, to_commit a.3)
-events_answered w hands (note g) r proper = let a = notes_answered w hands g r in (a.0, w, hands, to_note a.1)
-events_answered w hands (command (input k t)) r proper = let a = inputs_answered w hands k t r proper in (a.0, a.1, hands, to_command a.2)
-events_answered w hands (command (finish k)) r proper = let a = closes_answered w hands k r in (a.0, a.1, hands, to_command a.2)
-events_answered w hands (command (undo n)) r proper = let a = undoes_answered w hands n r in (a.0, a.1, hands, to_command a.2)
-events_answered w hands (command (roll n)) r proper = let a = rolls_answered w hands n r in (a.0, a.1, hands, to_command a.2)
-events_answered w hands (command (redo n)) r proper = let a = redoes_answered w hands n r in (a.0, a.1, hands, to_command a.2)
-events_answered w hands (command (arrange order)) r proper = let a = arranges_answered w hands order r in (a.0, a.1, hands, to_command a.2)
+events_answered w hands e r proper =
+    let q = reachable_reached r in
+    answered w hands (reached_good q).accepted (reached w hands r) (λ m s k. ((reached_good q).shelf m s k).0) q e proper where
+      answered : (w : World) (hands : Hands) → IsProgram w.opening.program → (ordered : IsOrderly w) → ((n : ℕ) (s : Record) → finite.get w.shelf n ≡ Some s → s.number ≡ n) → Reaches w → (e : Event) → IsProper e → Answered w hands e
+      answered w hands accepted ordered shelved q (propose h g choice) proper = proposed w accepted ordered.acyclic shelved hands h g choice
+      answered w hands accepted ordered shelved q (commit h) proper = committed w accepted ordered.acyclic shelved hands h
+      answered w hands accepted ordered shelved q (note g) proper = let a = noticed w accepted ordered.acyclic shelved g in (a.0, w, hands, noted_answers hands a.1)
+      answered w hands accepted ordered shelved q (command c) proper = let a = commands_answered w c q ordered proper in (a.0, a.1, hands, obeyed_answers hands a.2)

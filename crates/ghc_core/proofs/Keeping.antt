@@ -1,11 +1,9 @@
--- In a reachable world the journal tells what is kept and what is on the shelf.
-use Rattle.std.proofs.Common.{◌≡◌, ℕ, List, [], ◌∷◌, ◌++◌, map, refl, sym, ap, ◌∙◌, subst}
+-- In a world that is reached the journal tells what is kept and what is on the shelf.
+use Rattle.std.proofs.Common.{◌≡◌, List, [], ◌∷◌, ◌++◌, map, refl, sym, ap, ◌∙◌, subst}
 use Rattle.std.proofs.lemmas.List.{append-nil, append_assoc}
 use Rattle.std.specs.FinMap as finite
 use Rattle.ghc_term.proofs.ListsLemmas.{in_left}
 use Rattle.ghc_flat.specs.Clause.{Program, Query}
-use Rattle.ghc_fire.specs.declared.act.Act.{Act}
-use Rattle.ghc_fire.specs.declared.act.Act.TheVariants.{Given as given, Closed as closed}
 use Rattle.ghc_records.specs.Orders.{AreDistinct}
 use Rattle.ghc_records.specs.Record.{State, Record, numbers}
 use Rattle.ghc_records.specs.Replay.{query_state, Replays}
@@ -14,18 +12,17 @@ use Rattle.ghc_records.proofs.OrderLemmas.{numbers_append}
 use Rattle.ghc_depend.specs.Kept.{Keeps}
 use Rattle.ghc_depend.proofs.KeptOnce.{runs_split}
 use Rattle.ghc_depend.proofs.Picking.{distinct_left}
-use Rattle.ghc_core.specs.World.{Hands, World, with_step, Opens}
-use Rattle.ghc_core.specs.Events.{Command, input, finish, undo, roll, redo, arrange, Reply}
-use Rattle.ghc_core.specs.Proposes as asking
-use Rattle.ghc_core.specs.Streams as streams
-use Rattle.ghc_core.specs.Reverses as by
-use Rattle.ghc_core.specs.Answers.{Obeys, Answers, to_propose, to_commit, to_note, to_command}
-use Rattle.ghc_core.specs.Legal.{at_opening, by_event, with_other_hands}
+use Rattle.ghc_core.specs.World.{World, with_step, Opens}
+use Rattle.ghc_core.specs.declared.change.Change.{Change}
+use Rattle.ghc_core.specs.declared.change.Change.TheVariants.{Adds as adds, PutsBack as puts_back, TakesAway as takes_away, TakesAll as takes_all, Reorders as reorders}
+use Rattle.ghc_core.specs.Change.{CanChange, Changes}
+use Rattle.ghc_core.specs.Reached.{Reaches, from_opening, by_change}
 use Rattle.ghc_core.specs.Laws as laws
+use Rattle.ghc_core.proofs.Moving.{reachable_reached}
 use Rattle.ghc_core.proofs.Replayed.{Replayed, replayed}
 
 -- the journal of the world tells what it keeps
-abbrev Tells : World → Type 0
+abbrev pub Tells : World → Type 0
 Tells w = Keeps w.opening w.journal w.kept w.shelf
 
 distinct_front : (xs ys : List Record) → AreDistinct (numbers (xs ++ ys)) → AreDistinct (numbers xs)
@@ -61,45 +58,17 @@ opened_tells o w opens =
     subst (λ es. Keeps w.opening es w.kept w.shelf) (ap (map took) opens.steps ∙ sym opens.journal) (subst (λ s. Keeps w.opening (taken w.kept) w.kept s) (sym opens.shelf) k)
 
 module _ (w : World) (k : Tells w) where
-  step_tells : (r : Record) → Replayed (with_step r w) → Tells (with_step r w)
-  step_tells r h = Keeps.step r (with_step r w).state k h.replay
+  changed_tells : (change : Change) (v : World) → CanChange w change → Changes w change v → Replayed v → Tells v
+  changed_tells (adds r) v can e h = subst Tells (sym e) (Keeps.step r (with_step r w).state k (subst Replayed e h).replay)
+  changed_tells (puts_back r) v can e h = subst Tells (sym e) (Keeps.redo r.number r k can.0)
+  changed_tells (takes_away r) v can (left, out, (t, run, e)) h = subst Tells (sym e) (Keeps.undo r.number r k (can.0, refl) out)
+  changed_tells (takes_all []) v can e h = absurd can
+  changed_tells (takes_all (r ∷ rs)) v can (left, split, (t, run, e)) h = subst Tells (sym e) (Keeps.roll r.number r (r ∷ rs) k (can.0, refl) split)
+  changed_tells (reorders a) v can e h = subst Tells (sym e) (Keeps.arrange a.order k can.1)
 
-  acted_tells : (n : ℕ) (act : Act) (reply : Reply) (v : World) → streams.ActsOnStream (Unit {0}) w n act reply v → Replayed v → Tells v
-  acted_tells n act reply v (streams.ActsOnStream.takes r t) h = step_tells r h
-  acted_tells n act reply v (streams.ActsOnStream.fails f) h = k
-  acted_tells n act reply v (streams.ActsOnStream.no_memory f) h = k
-
-  obeyed_tells : (c : Command) (reply : Reply) (v : World) → Obeys (Unit {0}) w c reply v → Replayed v → Tells v
-  obeyed_tells (input n t) reply v p h = acted_tells n (given t) reply v p h
-  obeyed_tells (finish n) reply v p h = acted_tells n closed reply v p h
-  obeyed_tells (undo n) reply v (by.Undoes.takes_away r left t i none out run) h = Keeps.undo n r k i out
-  obeyed_tells (undo n) reply v (by.Undoes.fails f) h = k
-  obeyed_tells (undo n) reply v (by.Undoes.no_memory f) h = k
-  obeyed_tells (roll n) reply v (by.Rolls.takes_away r gone left t i split run) h = Keeps.roll n r gone k i split
-  obeyed_tells (roll n) reply v (by.Rolls.not_kept f) h = k
-  obeyed_tells (roll n) reply v (by.Rolls.no_memory f) h = k
-  obeyed_tells (redo n) reply v (by.Redoes.puts_back r e f l) h = Keeps.redo n r k e
-  obeyed_tells (redo n) reply v (by.Redoes.fails f) h = k
-  obeyed_tells (redo n) reply v (by.Redoes.no_memory f) h = k
-  obeyed_tells (arrange order) reply v (by.Arranges.puts new l o) h = Keeps.arrange order k o
-  obeyed_tells (arrange order) reply v (by.Arranges.fails f) h = k
-  obeyed_tells (arrange order) reply v (by.Arranges.no_memory f) h = k
-
-  committed_tells : (hands : Hands) (n : ℕ) (left : Hands) (reply : Reply) (v : World) → asking.Commits (Unit {0}) w hands n reply v left → Replayed v → Tells v
-  committed_tells hands n left reply v (asking.Commits.takes p r i e c) h = step_tells r h
-  committed_tells hands n left reply v (asking.Commits.no_hand i) h = k
-  committed_tells hands n left reply v (asking.Commits.empty i e) h = k
-  committed_tells hands n left reply v (asking.Commits.fails p i e f) h = k
-  committed_tells hands n left reply v (asking.Commits.no_memory i) h = k
-
-  answered_tells : (hands left : Hands) (e : _) (reply : Reply) (v : World) → Answers (Unit {0}) w hands e reply v left → Replayed v → Tells v
-  answered_tells hands left e reply v (to_propose p) h = k
-  answered_tells hands left e reply v (to_commit p) h = committed_tells hands _ left reply v p h
-  answered_tells hands left e reply v (to_note p) h = k
-  answered_tells hands left e reply v (to_command p) h = obeyed_tells _ reply v p h
+pub reached_keeps : {w : World} → Reaches w → Tells w
+reached_keeps (from_opening {o = o} {w = w} sound opens) = opened_tells o w opens
+reached_keeps (by_change {w = w} {v = v} change r can changes) = changed_tells w (reached_keeps r) change v can changes (replayed (by_change change r can changes))
 
 pub reachable_keeps : laws.ReachableKeeps
-reachable_keeps w hands (at_opening {o = o} sound opens empty) = opened_tells o w opens
-reachable_keeps w hands (by_event {w = u} {hands = before} e reply r proper a) =
-    answered_tells u (reachable_keeps u before r) before hands e reply w a (replayed (by_event e reply r proper a))
-reachable_keeps w hands (with_other_hands {hands = before} r empty) = reachable_keeps w before r
+reachable_keeps w hands r = reached_keeps (reachable_reached r)

@@ -23,7 +23,8 @@ use Rattle.ghc_core.specs.World.{World, Opens}
 use Rattle.ghc_core.specs.Load.{Loads, loads, stops, no_memory, StopsAt, IsImpossible, history_of}
 use Rattle.ghc_core.specs.LoadLaws.{reloaded}
 use Rattle.ghc_core.specs.LoadLaws as laws
-use Rattle.ghc_core.proofs.Reaching.{Good, reached_good}
+use Rattle.ghc_core.proofs.Reaching.{Good, reachable_good}
+use Rattle.ghc_core.proofs.Moving.{reachable_reached}
 use Rattle.ghc_core.proofs.Replayed.{Replayed, replayed, runs_push}
 use Rattle.ghc_core.proofs.Loading.{step_numbers}
 
@@ -158,9 +159,9 @@ pub loaded_again : laws.SavedIsLoadedAgain
 loaded_again w hands r = (loads (reloaded w) opens, only)
   where
     opens : Opens (reloaded w).opening (reloaded w)
-    opens = reloaded_opens w (reached_good r) (replayed r)
+    opens = reloaded_opens w (reachable_good r) (replayed (reachable_reached r))
 
     only : (result : Result World Fault) → Loads ⊥ w.opening.program w.opening.query w.opening.names (history_of w) result → result ≡ Ok (reloaded w)
-    only _ (loads v o) = ap Ok (one_world w.opening.program w.opening.query (reached_good r).accepted (reached_good r).asked w.opening.names (history_of w) (reloaded w) v opens o)
-    only _ (stops {line = line} p) = absurd (no_stop w.opening.program w.opening.query (reached_good r).accepted (reached_good r).asked w.opening.names (history_of w) (reloaded w) line opens p)
+    only _ (loads v o) = ap Ok (one_world w.opening.program w.opening.query (reachable_good r).accepted (reachable_good r).asked w.opening.names (history_of w) (reloaded w) v opens o)
+    only _ (stops {line = line} p) = absurd (no_stop w.opening.program w.opening.query (reachable_good r).accepted (reachable_good r).asked w.opening.names (history_of w) (reloaded w) line opens p)
     only _ (no_memory n) = absurd n

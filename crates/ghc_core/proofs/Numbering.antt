@@ -1,6 +1,6 @@
 -- What a hand holds is judged alike as the next step and under the number that no step has.
 use Rattle.std.proofs.Common.{◌≡◌, ℕ, ◌<◌, ◌≤◌, ◌⊎◌, ◌==◌, true, false, cond, List, [], ◌∷◌, ◌++◌, map, refl, sym, ap, ◌∙◌, subst, inl, inr, arith, eq-eqb, eqb-true, Some, None}
-use Rattle.std.specs.Prelude.{Option, if◌then◌else◌}
+use Rattle.std.specs.Prelude.{if◌then◌else◌}
 use Rattle.std.specs.Ordering.{eq_by_cmp, nat_cmp}
 use Rattle.std.specs.Cmp.{nat_cmp_total}
 use Rattle.std.specs.FinMap as finite
@@ -24,14 +24,12 @@ use Rattle.ghc_fire.proofs.Under.{effect_under}
 use Rattle.ghc_records.specs.Replay.{IsVariableOf}
 use Rattle.ghc_records.proofs.Replaying as replaying
 use Rattle.ghc_core.specs.World.{Hands, with_hand, emptied, World}
-use Rattle.ghc_core.specs.Events.{Command, input, finish, undo, roll, redo, arrange, Event, Reply}
-use Rattle.ghc_core.specs.Proposes as asking
-use Rattle.ghc_core.specs.Streams as streams
-use Rattle.ghc_core.specs.Reverses as by
-use Rattle.ghc_core.specs.Answers.{Obeys, Answers, to_propose, to_commit, to_note, to_command}
+use Rattle.ghc_core.specs.Events.{Event, propose, commit, note, command, Reply}
+use Rattle.ghc_core.specs.Answers.{hands_after, Says, Answers, no_hand, makes, says, fails, no_memory}
 use Rattle.ghc_core.specs.Legal.{IsReachable, at_opening, by_event, with_other_hands}
 use Rattle.ghc_core.specs.Laws as laws
-use Rattle.ghc_core.proofs.Reaching.{reached_good, known}
+use Rattle.ghc_core.proofs.Moving.{next_goes_on, reachable_reached}
+use Rattle.ghc_core.proofs.Reaching.{reachable_good, known}
 use Rattle.ghc_core.proofs.Standing.{standing_numbered}
 use Rattle.ghc_core.proofs.Committing.{proposed_holds, no_stream}
 
@@ -130,7 +128,7 @@ module _ (n : ℕ) where
 makes_old : (w : World) (hands : Hands) → IsReachable w hands → (g : GoalName) (b : Goal) (a : Act) (e : Effect) → finite.get w.state.goals g ≡ Some b
     → HasEffect w.opening.program b a no_step (value_at w.state.store) e → AreOld w.next (variables_of_goals e.makes)
 makes_old w hands r g b a e there has x i =
-    let good = reached_good r in
+    let good = reachable_good r in
     let well = known w hands r in
     let is_known : (y : VarName) → IsVariableOf w.opening.query w.kept y → IsOld w.next y =
     λ y of. elim of [
@@ -169,54 +167,29 @@ held_or hands k q h p e =
       | false ↦ λ s. inr s
     ] (sym (finite.get-insert nat_cmp_total hands.held k q h) ∙ e)
 
--- the next number does not go down
-acted_on : (w v : World) (k : ℕ) (act : Act) (reply : Reply) → streams.ActsOnStream (Unit {0}) w k act reply v → w.next ≤ v.next
-acted_on w v k act reply (streams.ActsOnStream.takes r t) = omega arith
-acted_on w v k act reply (streams.ActsOnStream.fails f) = omega arith
-acted_on w v k act reply (streams.ActsOnStream.no_memory f) = omega arith
-
-redone_on : (w : World) (n : ℕ) (reply : Reply) (v : World) → by.Redoes (Unit {0}) w n reply v → w.next ≤ v.next
-redone_on w n reply v (by.Redoes.puts_back r e f l) = omega arith
-redone_on w n reply v (by.Redoes.fails f) = omega arith
-redone_on w n reply v (by.Redoes.no_memory f) = omega arith
-
-obeyed_on : (w v : World) (c : Command) (reply : Reply) → Obeys (Unit {0}) w c reply v → w.next ≤ v.next
-obeyed_on w v (input k t) reply p = acted_on w v k _ reply p
-obeyed_on w v (finish k) reply p = acted_on w v k _ reply p
-obeyed_on w v (undo n) reply (by.Undoes.takes_away r left t k free out run) = omega arith
-obeyed_on w v (undo n) reply (by.Undoes.fails f) = omega arith
-obeyed_on w v (undo n) reply (by.Undoes.no_memory f) = omega arith
-obeyed_on w v (roll n) reply (by.Rolls.takes_away r gone left t k split run) = omega arith
-obeyed_on w v (roll n) reply (by.Rolls.not_kept f) = omega arith
-obeyed_on w v (roll n) reply (by.Rolls.no_memory f) = omega arith
-obeyed_on w v (redo n) reply p = redone_on w n reply v p
-obeyed_on w v (arrange order) reply (by.Arranges.puts new l o) = omega arith
-obeyed_on w v (arrange order) reply (by.Arranges.fails f) = omega arith
-obeyed_on w v (arrange order) reply (by.Arranges.no_memory f) = omega arith
-
 module _ (w : World) (hands : Hands) (r : IsReachable w hands) (old : HoldsOld w hands) where
-  proposed_old : (k : ℕ) (g : GoalName) (choice : Option ℕ) (reply : Reply) (left : Hands) → asking.Proposes (Unit {0}) w hands k g choice reply left → HoldsOld w left
-  proposed_old k g choice reply left (asking.Proposes.holds b act e i there t) h p got = elim (held_or hands k _ h p got) [
-    | inl new ↦ subst (λ (q : Proposal). AreOld w.next (variables_of_goals q.effect.makes)) new
-        (makes_old w hands r g b act e there (proposed_holds w g choice b act e there t).0)
+  said_old : (e : Event) (reply : Reply) (left : Hands) → Says w hands e reply left → HoldsOld w left
+  said_old e reply left (Says.holds {h = k} {g = g} {choice = choice} q is) h p got = elim (held_or hands k q h p got) [
+    | inl new ↦ subst (λ (x : Proposal). AreOld w.next (variables_of_goals x.effect.makes)) new
+        (makes_old w hands r g q.consumed q.act q.effect is.there (proposed_holds w g choice q.consumed q.act q.effect is.there is.proposed).0)
     | inr kept ↦ old h p kept
   ]
-  proposed_old k g choice reply left (asking.Proposes.no_hand i) h p got = old h p got
-  proposed_old k g choice reply left (asking.Proposes.fails i t) h p got = old h p got
-  proposed_old k g choice reply left (asking.Proposes.no_memory i) h p got = old h p got
+  said_old e reply left (Says.tells status) h p got = old h p got
 
-  committed_old : (k : ℕ) (reply : Reply) (v : World) (left : Hands) → asking.Commits (Unit {0}) w hands k reply v left → HoldsOld v left
-  committed_old k reply v left (asking.Commits.takes q s i e c) h p got = later w.next v.next (variables_of_goals p.effect.makes) (omega arith) (old h p (still_held hands k h p got))
-  committed_old k reply v left (asking.Commits.no_hand i) h p got = old h p got
-  committed_old k reply v left (asking.Commits.empty i e) h p got = old h p (still_held hands k h p got)
-  committed_old k reply v left (asking.Commits.fails q i e f) h p got = old h p (still_held hands k h p got)
-  committed_old k reply v left (asking.Commits.no_memory i) h p got = old h p (still_held hands k h p got)
+  -- what a hand holds after an event that gives it nothing, it held before
+  held_before : (e : Event) (h : ℕ) (p : Proposal) → finite.get (hands_after e hands).held h ≡ Some p → finite.get hands.held h ≡ Some p
+  held_before (propose k g choice) h p got = got
+  held_before (commit k) h p got = still_held hands k h p got
+  held_before (note g) h p got = got
+  held_before (command c) h p got = got
 
   answered_old : (e : Event) (reply : Reply) (v : World) (left : Hands) → Answers (Unit {0}) w hands e reply v left → HoldsOld v left
-  answered_old e reply v left (to_propose p) h q got = proposed_old _ _ _ reply left p h q got
-  answered_old e reply v left (to_commit p) h q got = committed_old _ reply v left p h q got
-  answered_old e reply v left (to_note p) h q got = old h q got
-  answered_old e reply v left (to_command {c = c} p) h q got = later w.next v.next (variables_of_goals q.effect.makes) (obeyed_on w v c reply p) (old h q got)
+  answered_old e reply v left (no_hand missing) h p got = old h p got
+  answered_old e reply v left (makes {change = change} has asks can changes told) h p got =
+      later w.next v.next (variables_of_goals p.effect.makes) (next_goes_on w v (inr (change, can, changes))) (old h p (held_before e h p got))
+  answered_old e reply v left (says has said) h p got = said_old e reply left said h p got
+  answered_old e reply v left (fails has f) h p got = old h p (held_before e h p got)
+  answered_old e reply v left (no_memory starved) h p got = old h p (held_before e h p got)
 
 held_old : {w : World} {hands : Hands} → IsReachable w hands → HoldsOld w hands
 held_old (at_opening {hands = hands} sound opens empty) h p got = absurd (nothing_held hands h p empty got)
@@ -227,8 +200,8 @@ pub still_next : laws.StillHoldsAsNext
 still_next w hands h p r got =
     let P = w.opening.program in
     let S = value_at w.state.store in
-    let good = reached_good r in
-    let apart = λ (b : Goal) (there : finite.get w.state.goals p.goal ≡ Some b). standing_numbered w (with_other_hands r refl) p.goal b there in (
+    let good = reachable_good r in
+    let apart = λ (b : Goal) (there : finite.get w.state.goals p.goal ≡ Some b). standing_numbered w (reachable_reached r) p.goal b there in (
       λ now. (now.0, now.1, now.2, effect_under P now.0 p.act w.next S p.effect (no_stream P now.0 p.act no_step S p.effect now.1 now.3) (apart now.0 now.2) now.3),
       λ next.
           let b = next.0 in

@@ -1,16 +1,15 @@
 -- Events that are played one after another.
 use Rattle.std.proofs.Common.{◌≡◌, ◌+◌, ℕ, List, [], ◌∷◌, ◌++◌, map, take, slice_get, refl, sym, ap, ◌∙◌, subst, subst₂, inl, inr, Some}
-use Rattle.std.specs.Prelude.{Option}
-use Rattle.ghc_term.specs.declared.goal_name.GoalName.{GoalName}
 use Rattle.std.proofs.lemmas.List.{map-append}
 use Rattle.ghc_depend.proofs.Causes.{at_split}
-use Rattle.ghc_records.specs.Journal.{took, step_of}
+use Rattle.ghc_term.specs.Store.{value_at}
+use Rattle.ghc_records.specs.Record.{HasStepEffect}
+use Rattle.ghc_core.specs.declared.change.Change.{Change}
 use Rattle.ghc_core.specs.World.{Hands, World}
-use Rattle.ghc_core.specs.Events.{input, finish, undo, roll, redo, arrange, Event, propose, commit, note, command, Reply}
-use Rattle.ghc_core.specs.Proposes as asking
-use Rattle.ghc_core.specs.Streams as streams
-use Rattle.ghc_core.specs.Answers.{Answers, to_propose, to_commit, to_note, to_command}
-use Rattle.ghc_core.specs.Legal.{IsReachable, by_event}
+use Rattle.ghc_core.specs.Change.{CanChange}
+use Rattle.ghc_core.specs.Events.{Command, Event, propose, commit, note, command, Reply}
+use Rattle.ghc_core.specs.Answers.{Asks, to_give, to_close, to_undo, to_roll, to_redo, to_arrange, by_command, Answers, no_hand, makes, says, fails, no_memory}
+use Rattle.ghc_core.specs.Legal.{IsProper, IsReachable, by_event}
 use Rattle.ghc_core.specs.Core.{Core, Stays}
 use Rattle.ghc_core.specs.Meets.{Meets, MeetsEach}
 use Rattle.ghc_core.specs.Playing.{AddsOneAtMost, ArePlayed, PlayStaysReachable}
@@ -18,48 +17,37 @@ use Rattle.ghc_core.specs.declared.world.World.{World as Played}
 use Rattle.ghc_core.specs.EventCode.{event_of, reply_of}
 use Rattle.ghc_core.specs.declared.event.Event as met
 use Rattle.ghc_core.specs.declared.reply.Reply as given
-use Rattle.ghc_core.proofs.Histories.{given_closed}
-use Rattle.ghc_core.proofs.Replying.{Unknown, obeyed_grows}
+use Rattle.ghc_core.proofs.Moving.{MovesOnce, change_enters}
+use Rattle.ghc_core.proofs.Replying.{Unknown}
 
--- a commit adds one entry at most
-committed_grows : (w : World) (hands : Hands) (h : ℕ) (reply : Reply) (v : World) (left : Hands) → asking.Commits Unknown w hands h reply v left → AddsOneAtMost w v
-committed_grows w hands h reply v left (asking.Commits.takes p r i e c) = inr (took (step_of r), refl)
-committed_grows w hands h reply v left (asking.Commits.no_hand i) = inl refl
-committed_grows w hands h reply v left (asking.Commits.empty i e) = inl refl
-committed_grows w hands h reply v left (asking.Commits.fails p i e f) = inl refl
-committed_grows w hands h reply v left (asking.Commits.no_memory i) = inl refl
-
--- an event adds one entry at most
-pub answered_grows : (w : World) (hands : Hands) (e : Event) (reply : Reply) (v : World) (left : Hands) → Answers Unknown w hands e reply v left → AddsOneAtMost w v
-answered_grows w hands e reply v left (to_propose p) = inl refl
-answered_grows w hands e reply v left (to_commit {h = h} p) = committed_grows w hands h reply v left p
-answered_grows w hands e reply v left (to_note p) = inl refl
-answered_grows w hands e reply v left (to_command {c = c} p) = obeyed_grows w c reply v p
+-- a world that is as it was, or moved, has one entry more at most
+pub moved_grows : (w v : World) → MovesOnce w v → AddsOneAtMost w v
+moved_grows w v (inl same) = inl (ap (λ (z : World). z.journal) same)
+moved_grows w v (inr (change, can, changes)) = let g = change_enters w v change can changes in inr (g.entry, g.journal)
 
 -- a proposal, and a note, leave the world as it was
-pub proposed_so : (w v : World) (hands left : Hands) (h : ℕ) (g : GoalName) (choice : Option ℕ) (reply : Reply) → asking.Proposes Unknown w hands h g choice reply left → v ≡ w → Answers Unknown w hands (propose h g choice) reply v left
-proposed_so w v hands left h g choice reply p same = subst (λ u. Answers Unknown w hands (propose h g choice) reply u left) (sym same) (to_propose p)
+pub left_so : {w : World} {hands left : Hands} {e : Event} {reply : Reply} (v : World) → Answers Unknown w hands e reply w left → v ≡ w → Answers Unknown w hands e reply v left
+left_so {w} {hands} {left} {e} {reply} v a same = subst (λ u. Answers Unknown w hands e reply u left) (sym same) a
 
-pub noted_so : (w v : World) (hands : Hands) (g : GoalName) (reply : Reply) → asking.Notes Unknown w g reply → v ≡ w → Answers Unknown w hands (note g) reply v hands
-noted_so w v hands g reply p same = subst (λ u. Answers Unknown w hands (note g) reply u hands) (sym same) (to_note p)
-
--- an input that is taken is closed, and one that is refused leaves all as it was
-input_reachable : (w v : World) (hands : Hands) (k : ℕ) (t : _) (reply : Reply) → IsReachable w hands → streams.Inputs Unknown w k t reply v → IsReachable v hands
-input_reachable w v hands k t reply r (streams.ActsOnStream.takes step s) = by_event (command (input k t)) reply r (given_closed w k t step s) (to_command (streams.ActsOnStream.takes step s))
-input_reachable w v hands k t reply r (streams.ActsOnStream.fails f) = r
-input_reachable w v hands k t reply r (streams.ActsOnStream.no_memory f) = r
+-- a command that asks for a change that can be made is proper: what is given to a stream is closed
+asked_proper : (w : World) {c : Command} {change : Change} → Asks c change → CanChange w change → IsProper (command c)
+asked_proper w (to_give {r = r} o) can = (subst₂ (λ c a. HasStepEffect w.opening.program c a r.number (value_at w.state.store) r.effect) o.3 o.4 can.1.1).1
+asked_proper w (to_close o) can = tt
+asked_proper w (to_undo number) can = tt
+asked_proper w (to_roll number) can = tt
+asked_proper w (to_redo number) can = tt
+asked_proper w (to_arrange same) can = tt
 
 -- what an event leaves is reachable
 answered_reachable : (w v : World) (hands left : Hands) (e : Event) (reply : Reply) → IsReachable w hands → Answers Unknown w hands e reply v left → IsReachable v left
 answered_reachable w v hands left (propose h g choice) reply r a = by_event (propose h g choice) reply r tt a
 answered_reachable w v hands left (commit h) reply r a = by_event (commit h) reply r tt a
 answered_reachable w v hands left (note g) reply r a = by_event (note g) reply r tt a
-answered_reachable w v hands left (command (input k t)) reply r (to_command a) = input_reachable w v hands k t reply r a
-answered_reachable w v hands left (command (finish k)) reply r a = by_event (command (finish k)) reply r tt a
-answered_reachable w v hands left (command (undo n)) reply r a = by_event (command (undo n)) reply r tt a
-answered_reachable w v hands left (command (roll n)) reply r a = by_event (command (roll n)) reply r tt a
-answered_reachable w v hands left (command (redo n)) reply r a = by_event (command (redo n)) reply r tt a
-answered_reachable w v hands left (command (arrange order)) reply r a = by_event (command (arrange order)) reply r tt a
+answered_reachable w v hands left (command c) reply r (makes has (by_command asks) can changes told) = by_event (command c) reply r (asked_proper w asks can) (makes has (by_command asks) can changes told)
+answered_reachable w v hands left (command c) reply r (no_hand missing) = r
+answered_reachable w v hands left (command c) reply r (says has said) = elim said [ ]
+answered_reachable w v hands left (command c) reply r (fails has f) = r
+answered_reachable w v hands left (command c) reply r (no_memory starved) = r
 
 -- what events leave is reachable
 pub play_reachable : PlayStaysReachable

@@ -27,11 +27,11 @@ use Rattle.std.specs.Option.{option_or}
 use Rattle.ghc_records.proofs.OrderLemmas.{is_before}
 use Rattle.ghc_depend.specs.Depend.{DependsOn, Follows, directly, further}
 use Rattle.ghc_core.specs.World.{Proposal, Hands, with_hand, emptied, World, with_step}
-use Rattle.ghc_core.specs.Proposes as asking
-use Rattle.ghc_core.specs.Reverses as by
-use Rattle.ghc_core.specs.Answers.{to_propose, to_commit, to_command, played}
+use Rattle.ghc_core.specs.declared.change.Change.TheVariants.{Adds as adds, TakesAway as takes_away}
+use Rattle.ghc_core.specs.Change.{without_steps}
+use Rattle.ghc_core.specs.Answers.{to_undo, by_hand, by_command, Says, makes, says, fails, played}
 use Rattle.ghc_core.specs.Facts.{query_world, two_hands, equals, of_query, SecondHandIsStale, RedoIsChanged}
-use Rattle.ghc_core.proofs.Reversing.{has_not}
+use Rattle.ghc_core.proofs.Refusing.{changed, stale, has_not}
 
 abbrev x : VarName
 x = record { step = 0; place = 1 }
@@ -94,24 +94,24 @@ module _ where
     played (
       start,
       one_held,
-      to_propose (asking.Proposes.holds (equals 1) unified (binding 1) (omega arith, omega arith) first_goal (proposed [] 1 (value_at finite.empty) unbound _ first_goal)),
+      says (omega arith, omega arith) (Says.holds (proposal 1 1) (record { named = refl; there = first_goal; proposed = proposed [] 1 (value_at finite.empty) unbound _ first_goal })),
       (
         start,
         both_held,
-        to_propose (asking.Proposes.holds (equals 1) unified (binding 1) (omega arith, omega arith) first_goal (proposed [] 1 (value_at finite.empty) unbound _ first_goal)),
+        says (omega arith, omega arith) (Says.holds (proposal 1 1) (record { named = refl; there = first_goal; proposed = proposed [] 1 (value_at finite.empty) unbound _ first_goal })),
         (
           stepped_on,
           emptied 1 both_held,
-          to_commit (asking.Commits.takes (proposal 1 1) (step 1 1 1) (omega arith, omega arith) held_1 (
+          makes {change = adds (step 1 1 1)} (omega arith, omega arith) (by_hand {p = (proposal 1 1)} held_1 (
             (equals 1, tt, first_goal, binds [] 1 no_step (value_at finite.empty) unbound),
             (refl, ((equals 1, refl, first_goal), binds [] 1 1 (value_at finite.empty) unbound), (omega arith, omega arith)),
             refl,
             refl,
-          )),
+          )) (refl, ((equals 1, refl, first_goal), binds [] 1 1 (value_at finite.empty) unbound), (omega arith, omega arith)) refl refl,
           (
             stepped_on,
             emptied 2 (emptied 1 both_held),
-            to_commit (asking.Commits.fails (proposal 1 1) (omega arith, omega arith) held_2 (asking.CommitFails.stale (λ s. has_not s.2 gone))),
+            fails (omega arith, omega arith) (inr ((λ f none. has_not held_2 none.1), (proposal 1 1, held_2, stale (λ s. has_not s.2 gone)))),
             (refl, refl),
           ),
         ),
@@ -149,7 +149,7 @@ module _ where
   nothing_follows (further f d) = nothing_follows f
 
   abbrev after_undo : World
-  after_undo = by.without_steps (step 1 1 1 ∷ []) [] at_first.state (undid 1) after_one
+  after_undo = without_steps (step 1 1 1 ∷ []) [] at_first.state (undid 1) after_one
 
   abbrev hand_2 : Hands
   hand_2 = with_hand 1 (proposal 2 2) (emptied 1 hand_1)
@@ -179,37 +179,37 @@ module _ where
     played (
       at_first,
       hand_1,
-      to_propose (asking.Proposes.holds (equals 1) unified (binding 1) (omega arith, omega arith) there_1 (proposed [] 1 (value_at finite.empty) unbound _ there_1)),
+      says (omega arith, omega arith) (Says.holds (proposal 1 1) (record { named = refl; there = there_1; proposed = proposed [] 1 (value_at finite.empty) unbound _ there_1 })),
       (
         after_one,
         emptied 1 hand_1,
-        to_commit (asking.Commits.takes (proposal 1 1) (step 1 1 1) (omega arith, omega arith) (finite.get-insert nat_cmp_total finite.empty 1 (proposal 1 1) 1) (
+        makes {change = adds (step 1 1 1)} (omega arith, omega arith) (by_hand {p = (proposal 1 1)} (finite.get-insert nat_cmp_total finite.empty 1 (proposal 1 1) 1) (
           (equals 1, tt, there_1, binds [] 1 no_step (value_at finite.empty) unbound),
           (refl, ((equals 1, refl, there_1), binds [] 1 1 (value_at finite.empty) unbound), (omega arith, omega arith)),
           refl,
           refl,
-        )),
+        )) (refl, ((equals 1, refl, there_1), binds [] 1 1 (value_at finite.empty) unbound), (omega arith, omega arith)) refl refl,
         (
           after_undo,
           emptied 1 hand_1,
-          to_command (by.Undoes.takes_away (step 1 1 1) [] at_first.state (inl refl, refl) (λ b f. nothing_follows f) (leave (λ n. n refl) nothing) (((λ r i. absurd i), tt), refl)),
+          makes {change = takes_away (step 1 1 1)} tt (by_command (to_undo refl)) (inl refl, λ b f. nothing_follows f) ([], leave (λ n. n refl) nothing, (at_first.state, (((λ r i. absurd i), tt), refl), refl)) refl,
           (
             after_undo,
             hand_2,
-            to_propose (asking.Proposes.holds (equals 2) unified (binding 2) (omega arith, omega arith) there_2 (proposed [] 2 (value_at finite.empty) unbound _ there_2)),
+            says (omega arith, omega arith) (Says.holds (proposal 2 2) (record { named = refl; there = there_2; proposed = proposed [] 2 (value_at finite.empty) unbound _ there_2 })),
             (
               after_two,
               emptied 1 hand_2,
-              to_commit (asking.Commits.takes (proposal 2 2) (step 2 2 2) (omega arith, omega arith) (finite.get-insert nat_cmp_total (emptied 1 hand_1).held 1 (proposal 2 2) 1) (
+              makes {change = adds (step 2 2 2)} (omega arith, omega arith) (by_hand {p = (proposal 2 2)} (finite.get-insert nat_cmp_total (emptied 1 hand_1).held 1 (proposal 2 2) 1) (
                 (equals 2, tt, there_2, binds [] 2 no_step (value_at finite.empty) unbound),
                 (refl, ((equals 2, refl, there_2), binds [] 2 2 (value_at finite.empty) unbound), (omega arith, omega arith)),
                 refl,
                 refl,
-              )),
+              )) (refl, ((equals 2, refl, there_2), binds [] 2 2 (value_at finite.empty) unbound), (omega arith, omega arith)) refl refl,
               (
                 after_two,
                 emptied 1 hand_2,
-                to_command (by.Redoes.fails (by.RedoFails.changed (step 1 1 1) shelved (λ g e none. has_not (subst (λ z. finite.get after_two.state.goals z ≡ Some (equals 1)) (named e) left_there) none) not_again)),
+                fails tt (changed (step 1 1 1) shelved (λ g e none. has_not (subst (λ z. finite.get after_two.state.goals z ≡ Some (equals 1)) (named e) left_there) none) not_again),
                 (refl, refl),
               ),
             ),

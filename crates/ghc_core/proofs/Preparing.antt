@@ -15,7 +15,8 @@ use Rattle.ghc_records.specs.Record.{State, Record, Shelf}
 use Rattle.ghc_records.specs.Journal.{Opening, Entry}
 use Rattle.ghc_core.specs.World.{World, IsFull, HasRoom}
 use Rattle.ghc_core.specs.Core.{IsStanding, record_as, next_record}
-use Rattle.ghc_core.specs.Proposes.{AttemptAnswers, IsProposedAsNext, StillHolds, IsCommitOf, CommitFails, full, IsStepOf, StepFails, no_room}
+use Rattle.ghc_core.specs.Proposes.{AttemptAnswers, IsProposedAsNext, StillHolds, IsCommitOf, CommitFails, IsStepOf, StepFails, no_room}
+use Rattle.ghc_core.proofs.Refusing as refusing
 use Rattle.ghc_core.proofs.Committing.{next_step, answered_holds}
 
 -- The step of a proposal that was made again is that of a commit of the proposal.
@@ -47,7 +48,7 @@ answered Gives Refuses w r (Err f) next gives refuses = (
 pub commit_answered : (w : World) (p again : Proposal) (result : Result Record Fault) → IsStanding w → StillHolds w p → finite.get w.state.goals again.goal ≡ Some again.consumed
     → (again.goal ≡ p.goal) × (again.act ≡ p.act) × (again.effect ≡ p.effect) → IsNext w (next_record w again) result → Answered (IsCommitOf w p) (CommitFails w p) result
 commit_answered w p again result standing holds there same next =
-    answered (IsCommitOf w p) (CommitFails w p) w (next_record w again) result next (prepared w p again standing holds there same.0 same.1 same.2) (full holds)
+    answered (IsCommitOf w p) (CommitFails w p) w (next_record w again) result next (prepared w p again standing holds there same.0 same.1 same.2) (refusing.no_room holds)
 
 -- The next step, which an attempt proposed as that step, answers for the step of its goal.
 pub step_answered : (w : World) (g : GoalName) (choice : Option ℕ) (p : Proposal) (result : Result Record Fault) → IsProposedAsNext w g choice p

@@ -1,4 +1,4 @@
--- A reachable world is in order.
+-- A world that is reached is in order.
 use Rattle.std.proofs.Common.{◌≡◌, ℕ, ◌+◌, ◌<◌, ◌≤◌, ◌⊎◌, List, [], ◌∷◌, ◌++◌, refl, sym, ap, ◌∙◌, subst, inl, inr, arith, Some, None}
 use Rattle.std.specs.Ordering.{nat_cmp}
 use Rattle.std.specs.FinMap as finite
@@ -8,8 +8,6 @@ use Rattle.ghc_term.specs.Store.{value_at}
 use Rattle.ghc_term.proofs.ListsLemmas.{in_left, in_right, in_either, in_more}
 use Rattle.ghc_flat.specs.Flat.{IsProgram, IsQuery}
 use Rattle.ghc_fire.specs.Instance.{made}
-use Rattle.ghc_fire.specs.declared.act.Act.{Act}
-use Rattle.ghc_fire.specs.declared.act.Act.TheVariants.{Given as given, Closed as closed}
 use Rattle.ghc_records.specs.Orders.{AreDistinct}
 use Rattle.ghc_records.specs.Record.{State, Record, numbers, after, Fires}
 use Rattle.ghc_records.specs.Replay.{query_state, IsVariableOf}
@@ -23,19 +21,19 @@ use Rattle.ghc_depend.specs.Lawful.{IsLawful, IsInOrder}
 use Rattle.ghc_depend.proofs.Picking.{picks_in, records_push}
 use Rattle.ghc_depend.proofs.KeptOnce.{shelved, unshelved}
 use Rattle.ghc_core.specs.World.{Hands, World, IsReplay, IsNextStep, with_step, Opens}
-use Rattle.ghc_core.specs.Events.{Command, input, finish, undo, roll, redo, arrange, Reply}
-use Rattle.ghc_core.specs.Proposes as asking
-use Rattle.ghc_core.specs.Streams as streams
-use Rattle.ghc_core.specs.Reverses as by
-use Rattle.ghc_core.specs.Answers.{Obeys, Answers, to_propose, to_commit, to_note, to_command}
-use Rattle.ghc_core.specs.Legal.{AreNamesOf, IsSound, IsReachable, at_opening, by_event, with_other_hands}
+use Rattle.ghc_core.specs.declared.change.Change.{Change}
+use Rattle.ghc_core.specs.declared.change.Change.TheVariants.{Adds as adds, PutsBack as puts_back, TakesAway as takes_away, TakesAll as takes_all, Reorders as reorders}
+use Rattle.ghc_core.specs.Change.{with_redone, without_steps, CanChange, Changes}
+use Rattle.ghc_core.specs.Reached.{AreNamesOf, IsSound, Reaches, from_opening, by_change}
+use Rattle.ghc_core.specs.Legal.{IsReachable}
 use Rattle.ghc_core.specs.Laws as laws
+use Rattle.ghc_core.proofs.Moving.{reachable_reached}
 
 -- what is known of a shelved step
 abbrev pub OnShelf : World → ℕ → Record → Type 0
 OnShelf w n r = (r.number ≡ n) × (1 ≤ n) × (n < w.next) × (¬ In n (numbers w.kept))
 
--- what holds of each reachable world
+-- what holds of each world that is reached
 pub record Good (w : World) : Type 0 where
   pub accepted : IsProgram w.opening.program
   pub asked : IsQuery w.opening.program w.opening.query
@@ -108,27 +106,25 @@ module _ (w : World) (good : Good w) where
         one = push_one r n.1 positive new;
       }
 
-  redone_good : (n : ℕ) (r : Record) → finite.get w.shelf n ≡ Some r → Fires w.opening.program w.state r → Good (by.with_redone r n w)
-  redone_good n r e fires =
-      let on = good.shelf n r e in
-      let new : ¬ In r.number (numbers w.kept) = λ i. on.3 (subst (λ m. In m (numbers w.kept)) on.0 i) in
-      let positive : 1 ≤ r.number = subst (λ m. 1 ≤ m) (sym on.0) on.1 in
+  redone_good : (r : Record) → finite.get w.shelf r.number ≡ Some r → Fires w.opening.program w.state r → Good (with_redone r w)
+  redone_good r e fires =
+      let on = good.shelf r.number r e in
       record {
         accepted = good.accepted;
         asked = good.asked;
         named = good.named;
-        kept_once = records_push w.kept r good.kept_once new;
-        positive = push_positive r fires positive new;
-        below = push_below r fires positive new w.next (omega arith) (subst (λ m. m < w.next) (sym on.0) on.2);
-        shelf = λ m s k. let u = unshelved w.shelf n m s k in let o = good.shelf m s u.0 in (o.0, o.1, o.2, λ i. elim (pushed w.kept r m i) [ inl j ↦ o.3 j | inr same ↦ u.1 (same ∙ on.0) ]);
+        kept_once = records_push w.kept r good.kept_once on.3;
+        positive = push_positive r fires on.1 on.3;
+        below = push_below r fires on.1 on.3 w.next (omega arith) on.2;
+        shelf = λ m s k. let u = unshelved w.shelf r.number m s k in let o = good.shelf m s u.0 in (o.0, o.1, o.2, λ i. elim (pushed w.kept r m i) [ inl j ↦ o.3 j | inr same ↦ u.1 same ]);
         first = good.first;
-        acyclic = push_acyclic r fires positive new;
-        has = push_has r fires positive new;
-        one = push_one r fires positive new;
+        acyclic = push_acyclic r fires on.1 on.3;
+        has = push_has r fires on.1 on.3;
+        one = push_one r fires on.1 on.3;
       }
 
   without_good : (gone left : List Record) (t : State) (entry : Entry) → ((s : Record) → In s gone → In s w.kept) → ((s : Record) → In s left → In s w.kept) → ((s u : Record) → In s gone → In u left → ¬ (s ≡ u))
-      → IsReplay w left t → Good (by.without_steps gone left t entry w)
+      → IsReplay w left t → Good (without_steps gone left t entry w)
   without_good gone left t entry of_gone of_left apart replay =
       let well = replay_well w.opening.program w.opening.query left t good.accepted good.asked replay in
       record {
@@ -168,55 +164,17 @@ module _ (w : World) (good : Good w) where
     one = good.one;
   }
 
-  acted_good : (k : ℕ) (act : Act) (reply : Reply) (v : World) → streams.ActsOnStream (Unit {0}) w k act reply v → Good v
-  acted_good k act reply v (streams.ActsOnStream.takes r t) = step_good r t.5
-  acted_good k act reply v (streams.ActsOnStream.fails f) = good
-  acted_good k act reply v (streams.ActsOnStream.no_memory f) = good
-
-  undone_good : (n : ℕ) (reply : Reply) (v : World) → by.Undoes (Unit {0}) w n reply v → Good v
-  undone_good n reply v (by.Undoes.takes_away r left t k none out run) =
-      without_good (r ∷ []) left t _ (λ s i. elim i [ inl e ↦ subst (λ x. In x w.kept) (sym e) k.0 | inr j ↦ absurd j ]) (λ s i. (picks_in w.kept left s out i).0)
-      (λ s u i j same. elim i [ inl e ↦ (picks_in w.kept left u out j).1 (sym same ∙ e) | inr a ↦ a ]) run
-  undone_good n reply v (by.Undoes.fails f) = good
-  undone_good n reply v (by.Undoes.no_memory f) = good
-
-  rolled_good : (n : ℕ) (reply : Reply) (v : World) → by.Rolls (Unit {0}) w n reply v → Good v
-  rolled_good n reply v (by.Rolls.takes_away r gone left t k split run) =
-      without_good gone left t _ (λ s i. (picks_in w.kept gone s split.0 i).0) (λ s i. (picks_in w.kept left s split.1 i).0)
-      (λ s u i j same. (picks_in w.kept left u split.1 j).1 (subst (GoesWith w.kept r) same (picks_in w.kept gone s split.0 i).1)) run
-  rolled_good n reply v (by.Rolls.not_kept f) = good
-  rolled_good n reply v (by.Rolls.no_memory f) = good
-
-  redo_good : (n : ℕ) (reply : Reply) (v : World) → by.Redoes (Unit {0}) w n reply v → Good v
-  redo_good n reply v (by.Redoes.puts_back r e f l) = redone_good n r e f
-  redo_good n reply v (by.Redoes.fails f) = good
-  redo_good n reply v (by.Redoes.no_memory f) = good
-
-  arrange_good : (order : List ℕ) (reply : Reply) (v : World) → by.Arranges (Unit {0}) w order reply v → Good v
-  arrange_good order reply v (by.Arranges.puts new l o) = arranged_good order new _ l o
-  arrange_good order reply v (by.Arranges.fails f) = good
-  arrange_good order reply v (by.Arranges.no_memory f) = good
-
-  obeyed_good : (c : Command) (reply : Reply) (v : World) → Obeys (Unit {0}) w c reply v → Good v
-  obeyed_good (input k t) reply v p = acted_good k (given t) reply v p
-  obeyed_good (finish k) reply v p = acted_good k closed reply v p
-  obeyed_good (undo n) reply v p = undone_good n reply v p
-  obeyed_good (roll n) reply v p = rolled_good n reply v p
-  obeyed_good (redo n) reply v p = redo_good n reply v p
-  obeyed_good (arrange order) reply v p = arrange_good order reply v p
-
-  committed_good : (hands : Hands) (h : ℕ) (left : Hands) (reply : Reply) (v : World) → asking.Commits (Unit {0}) w hands h reply v left → Good v
-  committed_good hands h left reply v (asking.Commits.takes p r i e c) = step_good r c.1
-  committed_good hands h left reply v (asking.Commits.no_hand i) = good
-  committed_good hands h left reply v (asking.Commits.empty i e) = good
-  committed_good hands h left reply v (asking.Commits.fails p i e f) = good
-  committed_good hands h left reply v (asking.Commits.no_memory i) = good
-
-  answered_good : (hands left : Hands) (e : _) (reply : Reply) (v : World) → Answers (Unit {0}) w hands e reply v left → Good v
-  answered_good hands left e reply v (to_propose p) = good
-  answered_good hands left e reply v (to_commit p) = committed_good hands _ left reply v p
-  answered_good hands left e reply v (to_note p) = good
-  answered_good hands left e reply v (to_command p) = obeyed_good _ reply v p
+  changed_good : (change : Change) (v : World) → CanChange w change → Changes w change v → Good v
+  changed_good (adds r) v can e = subst Good (sym e) (step_good r can)
+  changed_good (puts_back r) v can e = subst Good (sym e) (redone_good r can.0 can.1)
+  changed_good (takes_away r) v can (left, out, (t, run, e)) =
+      subst Good (sym e) (without_good (r ∷ []) left t _ (λ s i. elim i [ inl e ↦ subst (λ x. In x w.kept) (sym e) can.0 | inr j ↦ absurd j ]) (λ s i. (picks_in w.kept left s out i).0)
+      (λ s u i j same. elim i [ inl e ↦ (picks_in w.kept left u out j).1 (sym same ∙ e) | inr a ↦ a ]) run)
+  changed_good (takes_all []) v can e = absurd can
+  changed_good (takes_all (r ∷ rs)) v can (left, split, (t, run, e)) =
+      subst Good (sym e) (without_good (r ∷ rs) left t _ (λ s i. (picks_in w.kept (r ∷ rs) s split.0 i).0) (λ s i. (picks_in w.kept left s split.1 i).0)
+      (λ s u i j same. (picks_in w.kept left u split.1 j).1 (subst (GoesWith w.kept r) same (picks_in w.kept (r ∷ rs) s split.0 i).1)) run)
+  changed_good (reorders a) v can e = subst Good (sym e) (arranged_good a.order a.records _ can.0 can.1)
 
 opened_good : {w : World} {o : _} → IsSound o → Opens o w → Good w
 opened_good {w} sound opens =
@@ -237,17 +195,15 @@ opened_good {w} sound opens =
       one = run_one_each w.opening.program accepted w.kept (query_state w.opening.query) w.state opens.state.1 (query_one_each w.opening.program w.opening.query asked);
     }
 
-pub reached_good : {w : World} {hands : Hands} → IsReachable w hands → Good w
-reached_good (at_opening sound opens empty) = opened_good sound opens
-reached_good (by_event {w = w} {v = v} {hands = hands} {left = left} e reply r proper a) = answered_good w (reached_good r) hands left e reply v a
-reached_good (with_other_hands r empty) = reached_good r
+pub reached_good : {w : World} → Reaches w → Good w
+reached_good (from_opening sound opens) = opened_good sound opens
+reached_good (by_change {w = w} {v = v} change r can changes) = changed_good w (reached_good r) change v can changes
+
+pub reachable_good : {w : World} {hands : Hands} → IsReachable w hands → Good w
+reachable_good r = reached_good (reachable_reached r)
 
 pub reached : laws.ReachableIsOrderly
-reached w hands r = let g = reached_good r in record { kept_once = g.kept_once; acyclic = g.acyclic; streams_once = λ k n m s u p q. g.one k n m s u p q }
+reached w hands r = let g = reachable_good r in record { kept_once = g.kept_once; acyclic = g.acyclic; streams_once = λ k n m s u p q. g.one k n m s u p q }
 
 pub known : laws.ReachableIsWellMade
-known w hands r = let g = reached_good r in record { acyclic = g.acyclic; goals = g.has.goals; bound = g.has.keys; values = λ x y u p o. g.has.values x u p y o }
-
--- a reachable world is under an accepted program
-pub under_program : {w : World} {hands : Hands} → IsReachable w hands → IsProgram w.opening.program
-under_program r = (reached_good r).accepted
+known w hands r = let g = reachable_good r in record { acyclic = g.acyclic; goals = g.has.goals; bound = g.has.keys; values = λ x y u p o. g.has.values x u p y o }

@@ -1,5 +1,5 @@
 -- What an undo or a rollback took away can be redone, which gives back the old state.
-use Rattle.std.proofs.Common.{◌≡◌, ℕ, ◌+◌, ◌≤◌, true, false, cond, List, [], ◌∷◌, ◌++◌, map, length, refl, sym, ap, ◌∙◌, subst, inl, inr, arith, Some, None}
+use Rattle.std.proofs.Common.{◌≡◌, ℕ, ◌+◌, ◌≤◌, true, false, cond, List, [], ◌∷◌, ◌++◌, map, length, refl, sym, ap, ◌∙◌, subst, subst₂, inl, inr, arith, Some, None}
 use Rattle.std.proofs.lemmas.List.{length-append}
 use Rattle.std.specs.Ordering.{eq_by_cmp, is_eq, nat_cmp}
 use Rattle.std.specs.Cmp.{nat_cmp_total, tied_itself}
@@ -20,12 +20,14 @@ use Rattle.ghc_depend.proofs.ComingBack.{both_distinct, come_back}
 use Rattle.ghc_depend.proofs.Following.{one_is, alone_closed, split_closed}
 use Rattle.ghc_depend.proofs.Picking.{no_longer, picks_in, picks_distinct}
 use Rattle.ghc_depend.proofs.KeptOnce.{same_number, runs_split}
+use Rattle.ghc_core.specs.declared.change.Change.{Change}
+use Rattle.ghc_core.specs.declared.change.Change.TheVariants.{Adds as adds, PutsBack as puts_back, TakesAway as takes_away, TakesAll as takes_all, Reorders as reorders}
 use Rattle.ghc_core.specs.World.{Hands, World, IsReplay}
-use Rattle.ghc_core.specs.Events.{Command, input, finish, undo, roll, redo, arrange, command, Reply, stepped, undone}
-use Rattle.ghc_core.specs.Streams as streams
-use Rattle.ghc_core.specs.Reverses as by
-use Rattle.ghc_core.specs.Answers.{Obeys, to_command, AnswersEach}
+use Rattle.ghc_core.specs.Change.{with_redone, without_steps, CanChange, Changes}
+use Rattle.ghc_core.specs.Events.{Command, redo, command, stepped, undone}
+use Rattle.ghc_core.specs.Answers.{to_redo, told_of, Obeys, does, AnswersEach}
 use Rattle.ghc_core.specs.Returns as laws
+use Rattle.ghc_core.proofs.Moving.{obeyed_answers, reachable_reached}
 use Rattle.ghc_core.proofs.Reaching.{Good, reached_good}
 use Rattle.ghc_core.proofs.Replayed.{Replayed, replayed}
 
@@ -53,17 +55,20 @@ redo_each : (hands : Hands) (rest : List Record) (x : World) (goal : State) → 
     → (u : World) × AnswersEach (λ i. ⊥) x hands (map (λ m. command (redo m)) (numbers rest)) (map stepped (numbers rest)) u hands × (u.state ≡ goal)
 redo_each hands [] x goal run on d l = (x, (refl, refl), sym run)
 redo_each hands (r ∷ rest) x goal run on d l =
-    let y = by.with_redone r r.number x in
+    let y = with_redone r x in
     let longer : length (x.kept ++ r ∷ []) ≡ length x.kept + 1 = length-append x.kept (r ∷ []) in
     let next = redo_each hands rest y goal run.1 (λ s i.
     finite.get-remove nat_cmp_total x.shelf r.number s.number
     ∙ ap (λ b. cond b None (finite.get x.shelf s.number)) (number_apart s.number r.number (λ e. d.0 (subst (λ n. In n (numbers rest)) e (number_in rest s i))))
     ∙ on s (inr i)) d.1 (omega arith) in
-    (next.0, (y, hands, to_command (by.Redoes.puts_back r (on r (inl refl)) run.0 (omega arith)), next.1), next.2)
+    (next.0, (y, hands, obeyed_answers hands (does {change = puts_back r} (to_redo refl) (on r (inl refl), run.0, omega arith) refl refl), next.1), next.2)
 
 -- the steps of these numbers are redone from v on, which leaves the state of w
 abbrev Redone : World → World → Hands → List ℕ → Type 0
 Redone w v hands ns = (u : World) × AnswersEach (λ i. ⊥) v hands (map (λ m. command (redo m)) ns) (map stepped ns) u hands × (u.state ≡ w.state)
+
+same_list : {ms ns : List ℕ} → undone ms ≡ undone ns → ms ≡ ns
+same_list e = cc
 
 module _ (w : World) (good : Good w) (h : Replayed w) where
   -- steps that are closed under consequences
@@ -81,45 +86,29 @@ module _ (w : World) (good : Good w) (h : Replayed w) where
         let limit = h.few in
         omega arith
 
-    back : Redone w (by.without_steps gone left t entry w) hands (numbers gone)
+    back : Redone w (without_steps gone left t entry w) hands (numbers gone)
     back =
         let whole = come_back w.opening.program w.opening.query w.kept w.state h.replay D gone left parts shut good.acyclic in
         let s = runs_split w.opening.program left gone (query_state w.opening.query) w.state whole.1 in
         let same : s.0 ≡ t = run_once w.opening.program (query_state w.opening.query) left s.0 t s.1 run.1 in
         let d = picks_distinct w.kept gone parts.0 good.kept_once in
-        redo_each hands gone (by.without_steps gone left t entry w) w.state (subst (λ z. Runs w.opening.program z gone w.state) same s.2) (on_shelf gone w.shelf d) d short
+        redo_each hands gone (without_steps gone left t entry w) w.state (subst (λ z. Runs w.opening.program z gone w.state) same s.2) (on_shelf gone w.shelf d) d short
 
-  -- what an event says, of steps that it took away
-  abbrev Again : Reply → World → Hands → Type 0
-  Again reply v hands = (ns : List ℕ) → reply ≡ undone ns → Redone w v hands ns
+  -- a change that is told as steps undone took these away
+  redo_changed : (hands : Hands) (ns : List ℕ) (v : World) (change : Change) → CanChange w change → Changes w change v → undone ns ≡ told_of change → Redone w v hands ns
+  redo_changed hands ns v (adds r) can e told = cc
+  redo_changed hands ns v (puts_back r) can e told = cc
+  redo_changed hands ns v (takes_away r) can (left, out, (t, run, e)) told =
+      subst₂ (λ z ms. Redone w z hands ms) (sym e) (sym (same_list told))
+      (back (λ s. s ≡ r) (r ∷ []) left (one_is w.kept good.kept_once w.kept r good.kept_once can.0, out) (alone_closed w.kept good.kept_once r can.1) t run (undid r.number) hands)
+  redo_changed hands ns v (takes_all []) can e told = absurd can
+  redo_changed hands ns v (takes_all (r ∷ rs)) can (left, split, (t, run, e)) told =
+      subst₂ (λ z ms. Redone w z hands ms) (sym e) (sym (same_list told))
+      (back (GoesWith w.kept r) (r ∷ rs) left split (split_closed w.kept good.kept_once r can.0) t run (rolled r.number) hands)
+  redo_changed hands ns v (reorders a) can e told = cc
 
-  same_list : {ms ns : List ℕ} → undone ms ≡ undone ns → ms ≡ ns
-  same_list e = cc
-
-  redo_obeyed : (hands : Hands) (c : Command) (reply : Reply) (v : World) → Obeys (Unit {0}) w c reply v → Again reply v hands
-  redo_obeyed hands (input k t) reply v (streams.ActsOnStream.takes r p) ns e = cc
-  redo_obeyed hands (input k t) reply v (streams.ActsOnStream.fails f) ns e = cc
-  redo_obeyed hands (input k t) reply v (streams.ActsOnStream.no_memory f) ns e = cc
-  redo_obeyed hands (finish k) reply v (streams.ActsOnStream.takes r p) ns e = cc
-  redo_obeyed hands (finish k) reply v (streams.ActsOnStream.fails f) ns e = cc
-  redo_obeyed hands (finish k) reply v (streams.ActsOnStream.no_memory f) ns e = cc
-  redo_obeyed hands (undo n) reply v (by.Undoes.takes_away r left t k none out run) ns e =
-      let same : numbers (r ∷ []) ≡ ns = (λ i. k.1 i ∷ []) ∙ same_list e in
-      subst (Redone w (by.without_steps (r ∷ []) left t (undid n) w) hands) same
-      (back (λ s. s ≡ r) (r ∷ []) left (one_is w.kept good.kept_once w.kept r good.kept_once k.0, out) (alone_closed w.kept good.kept_once r none) t run (undid n) hands)
-  redo_obeyed hands (undo n) reply v (by.Undoes.fails f) ns e = cc
-  redo_obeyed hands (undo n) reply v (by.Undoes.no_memory f) ns e = cc
-  redo_obeyed hands (roll n) reply v (by.Rolls.takes_away r gone left t k split run) ns e =
-      subst (Redone w (by.without_steps gone left t (rolled n) w) hands) (same_list e)
-      (back (GoesWith w.kept r) gone left split (split_closed w.kept good.kept_once r k.0) t run (rolled n) hands)
-  redo_obeyed hands (roll n) reply v (by.Rolls.not_kept f) ns e = cc
-  redo_obeyed hands (roll n) reply v (by.Rolls.no_memory f) ns e = cc
-  redo_obeyed hands (redo n) reply v (by.Redoes.puts_back r p f l) ns e = cc
-  redo_obeyed hands (redo n) reply v (by.Redoes.fails f) ns e = cc
-  redo_obeyed hands (redo n) reply v (by.Redoes.no_memory f) ns e = cc
-  redo_obeyed hands (arrange order) reply v (by.Arranges.puts new l o) ns e = cc
-  redo_obeyed hands (arrange order) reply v (by.Arranges.fails f) ns e = cc
-  redo_obeyed hands (arrange order) reply v (by.Arranges.no_memory f) ns e = cc
+  redo_obeyed : (hands : Hands) (ns : List ℕ) (v : World) (c : Command) → Obeys (Unit {0}) w c (undone ns) v → Redone w v hands ns
+  redo_obeyed hands ns v c (does {change = change} asks can changes told) = redo_changed hands ns v change can changes told
 
 pub undone_then_redone : laws.UndoneThenRedone
-undone_then_redone w v hands c ns reach p = redo_obeyed w (reached_good reach) (replayed reach) hands c (undone ns) v p ns refl
+undone_then_redone w v hands c ns reach p = let r = reachable_reached reach in redo_obeyed w (reached_good r) (replayed r) hands ns v c p

@@ -1,62 +1,102 @@
 -- Steps are taken away, and what was taken last is undone.
-use Rattle.std.proofs.Common.{◌≡◌, ℕ, List, [], ◌∷◌, ◌++◌, refl, sym, ◌∙◌, subst, inl, inr}
-use Rattle.std.specs.Prelude.{Option}
+use Rattle.std.proofs.Common.{◌≡◌, ℕ, true, false, List, [], ◌∷◌, ◌++◌, refl, sym, subst, inl, inr, ap}
 use Rattle.ghc_term.specs.Lists.{In}
-use Rattle.ghc_term.specs.declared.goal_name.GoalName.{GoalName}
 use Rattle.ghc_term.specs.declared.fault.Fault.{Fault}
 use Rattle.ghc_term.proofs.ListsLemmas.{in_right, in_either}
 use Rattle.ghc_term.proofs.Decided.{nat_decided, in_decided}
-use Rattle.ghc_fire.specs.declared.act.Act.{Act}
-use Rattle.ghc_fire.specs.declared.act.Act.TheVariants.{Given as given, Closed as closed}
 use Rattle.ghc_records.specs.Orders.{nothing, take, leave, AreDistinct}
-use Rattle.ghc_records.specs.Record.{Record, numbers}
-use Rattle.ghc_records.specs.Journal.{undid, rolled, reordered}
-use Rattle.ghc_records.proofs.OrderLemmas.{Before, is_before, before_in, before_once, number_in, number_of, records_distinct}
-use Rattle.ghc_depend.specs.Depend.{DependsOn, Follows, directly, further}
-use Rattle.ghc_depend.specs.Kept.{IsWithout}
+use Rattle.ghc_records.specs.Record.{State, Record, numbers}
+use Rattle.ghc_records.specs.Replay.{query_state, Runs}
+use Rattle.ghc_records.specs.Journal.{undid, rolled}
+use Rattle.ghc_records.proofs.Replaying.{run_once}
+use Rattle.ghc_records.proofs.OrderLemmas.{picks_once, Before, is_before, before_in, before_once, number_in, number_of, records_distinct}
+use Rattle.ghc_depend.specs.Depend.{DependsOn, Follows, directly, further, IsKeptAs}
+use Rattle.ghc_depend.specs.Deletion.{IsWithoutSteps}
+use Rattle.ghc_depend.specs.Kept.{IsWithout, IsSplitAt}
 use Rattle.ghc_depend.specs.Lawful.{IsLawful, IsInOrder}
 use Rattle.ghc_depend.proofs.Arranging.{neighbours_lawful}
 use Rattle.ghc_depend.proofs.Following.{first_or_none}
 use Rattle.ghc_depend.proofs.Picking.{before_front, records_push}
 use Rattle.ghc_depend.proofs.Undoing as undoing
-use Rattle.ghc_core.specs.World.{Hands, World, IsReplay, IsNextStep, with_step}
-use Rattle.ghc_core.specs.Events.{Command, input, finish, undo, roll, redo, arrange, Reply, stepped, undone, refused}
-use Rattle.ghc_core.specs.Proposes as asking
-use Rattle.ghc_core.specs.Streams as streams
-use Rattle.ghc_core.specs.Reverses as by
-use Rattle.ghc_core.specs.Answers.{Obeys, Answers, to_propose, to_commit, to_note, to_command}
+use Rattle.ghc_depend.proofs.TakenTogether.{first_gone}
+use Rattle.ghc_core.specs.declared.change.Change.{Change}
+use Rattle.ghc_core.specs.declared.change.Change.TheVariants.{Adds as adds, PutsBack as puts_back, TakesAway as takes_away, TakesAll as takes_all, Reorders as reorders}
+use Rattle.ghc_core.specs.World.{no_hands, Hands, World, IsReplay, with_step}
+use Rattle.ghc_core.specs.Change.{with_redone, without_steps, with_order, CanChange, Changes}
+use Rattle.ghc_core.specs.Events.{undo, roll, Event, Reply, stepped, undone, refused}
+use Rattle.ghc_core.specs.Answers.{to_undo, to_roll, to_arrange, told_of, Obeys, does, refuses, Answers, makes, says}
+use Rattle.ghc_core.specs.Reached.{Reaches}
 use Rattle.ghc_core.specs.Returns as laws
-use Rattle.ghc_core.proofs.Reaching.{Good, reached_good}
-use Rattle.ghc_core.proofs.Replayed.{not_next, reachable_replay}
+use Rattle.ghc_core.proofs.Reaching.{Good, reached_good, reachable_good}
+use Rattle.ghc_core.proofs.Replayed.{not_next, replayed, reachable_replay}
+use Rattle.ghc_core.proofs.Refusing.{not_kept, has_consequence}
+use Rattle.ghc_core.proofs.Telling.{said_changes_nothing}
+use Rattle.ghc_core.proofs.Taking.{reached_reachable}
+
+-- A kept step and its consequences are taken away.
+rolls_away : {Starved : Type 0} (w : World) (n : ℕ) (r : Record) → AreDistinct (numbers w.kept) → IsKeptAs w.kept n r → (gone left : List Record) (t : State) → IsSplitAt w.kept r gone left → IsReplay w left t
+    → Obeys Starved w (roll n) (undone (numbers gone)) (without_steps gone left t (rolled r.number) w)
+rolls_away {Starved} w n r distinct k gone left t split run =
+    let first = first_gone w.kept r gone left distinct k.0 split in
+    let parts : IsSplitAt w.kept r (r ∷ first.0) left = subst (λ z. IsSplitAt w.kept r z left) first.1 split in
+    subst (λ z. Obeys Starved w (roll n) (undone (numbers z)) (without_steps z left t (rolled r.number) w)) (sym first.1)
+    (does {change = takes_all (r ∷ first.0)} (to_roll k.1) (k.0, (left, parts)) (left, parts, (t, run, refl)) refl)
+
+-- A kept step without consequences is taken away.
+undoes_away : {Starved : Type 0} (w : World) (n : ℕ) (r : Record) → IsKeptAs w.kept n r → ((b : Record) → ¬ Follows w.kept r b) → (left : List Record) (t : State) → IsWithout w.kept r left → IsReplay w left t
+    → Obeys Starved w (undo n) (undone (n ∷ [])) (without_steps (r ∷ []) left t (undid r.number) w)
+undoes_away w n r k none left t out run = does {change = takes_away r} (to_undo k.1) (k.0, none) (left, out, (t, run, refl)) (ap (λ m. undone (m ∷ [])) (sym k.1))
 
 pub undo_takes : laws.UndoTakesStepAway
 undo_takes w hands n r reach k none =
-    let good = reached_good reach in
+    let good = reachable_good reach in
     let u = undoing.undone w.opening.program w.opening.query w.kept w.state r good.accepted good.asked (reachable_replay w hands reach) k.0 none in
-    (by.without_steps (r ∷ []) u.0 u.1 (undid n) w, by.Undoes.takes_away r u.0 u.1 k none u.2 u.3, u.2, u.4)
+    (without_steps (r ∷ []) u.0 u.1 (undid r.number) w, undoes_away w n r k none u.0 u.1 u.2 u.3, u.2, u.4)
 
 pub roll_takes : laws.RollTakesStepsAway
 roll_takes w hands n r reach k =
-    let good = reached_good reach in
+    let good = reachable_good reach in
     let u = undoing.rolled w.opening.program w.opening.query w.kept w.state r good.accepted good.asked (reachable_replay w hands reach) k.0 in
-    (u.0, by.without_steps u.0 u.1 u.2 (rolled n) w, by.Rolls.takes_away r u.0 u.1 u.2 k u.3 u.4, u.3, u.5)
+    (u.0, without_steps u.0 u.1 u.2 (rolled r.number) w, rolls_away w n r good.kept_once k u.0 u.1 u.2 u.3 u.4, u.3, u.5)
 
-pub undoes_answered : laws.UndoesHaveAnAnswer
-undoes_answered w hands n reach = elim (in_decided nat_decided n (numbers w.kept)) [
-  | inr no_one ↦ (refused Fault.NotKept, w, by.Undoes.fails (by.UndoFails.not_kept (λ r i e. no_one (subst (λ m. In m (numbers w.kept)) e (number_in w.kept r i)))))
+module _ (w v : World) (s : Reaches w) where
+  -- replays of the same steps leave one state
+  one_state : (rest left : List Record) (x t : State) → rest ≡ left → IsReplay w rest x → IsReplay w left t → x ≡ t
+  one_state rest left x t same walk run =
+      run_once w.opening.program (query_state w.opening.query) left x t (subst (λ z. Runs w.opening.program (query_state w.opening.query) z x) same walk.1) run.1
+
+  -- What takes a step away leaves the state without it,
+  pub undo_leaves : (r : Record) → CanChange w (takes_away r) → Changes w (takes_away r) v → IsWithoutSteps (r ∷ []) w.state v.state
+  undo_leaves r can (left, out, (t, run, e)) =
+      let good = reached_good s in
+      let u = undoing.undone w.opening.program w.opening.query w.kept w.state r good.accepted good.asked (replayed s).replay can.0 can.1 in
+      let states : u.1 ≡ t = one_state u.0 left u.1 t (picks_once w.kept u.0 left u.2 out) u.3 run in
+      subst (λ (z : World). IsWithoutSteps (r ∷ []) w.state z.state) (sym e) (subst (λ (x : State). IsWithoutSteps (r ∷ []) w.state x) states u.4)
+
+  -- and what takes a step away with its consequences leaves it without these.
+  pub roll_leaves : (r : Record) (rs : List Record) → CanChange w (takes_all (r ∷ rs)) → Changes w (takes_all (r ∷ rs)) v → IsWithoutSteps (r ∷ rs) w.state v.state
+  roll_leaves r rs can (left, split, (t, run, e)) =
+      let good = reached_good s in
+      let u = undoing.rolled w.opening.program w.opening.query w.kept w.state r good.accepted good.asked (replayed s).replay can.0 in
+      let gone : u.0 ≡ r ∷ rs = picks_once w.kept u.0 (r ∷ rs) u.3.0 split.0 in
+      let states : u.2 ≡ t = one_state u.1 left u.2 t (picks_once w.kept u.1 left u.3.1 split.1) u.4 run in
+      subst (λ (z : World). IsWithoutSteps (r ∷ rs) w.state z.state) (sym e) (subst (λ (x : State). IsWithoutSteps (r ∷ rs) w.state x) states (subst (λ g. IsWithoutSteps g w.state u.2) gone u.5))
+
+pub undoes_answered : (w : World) (n : ℕ) → Reaches w → (reply : Reply) × (v : World) × Obeys ⊥ w (undo n) reply v
+undoes_answered w n reach = elim (in_decided nat_decided n (numbers w.kept)) [
+  | inr no_one ↦ (refused Fault.NotKept, w, refuses (not_kept (λ r i e. no_one (subst (λ m. In m (numbers w.kept)) e (number_in w.kept r i)))))
   | inl i ↦
       let r = number_of w.kept n i in
-      let good = reached_good reach in
-      elim (first_or_none w.kept good.kept_once r.0 r.1) [
-        | inl b ↦ (refused (Fault.HasConsequence b.0.number), w, by.Undoes.fails (by.UndoFails.has_consequence r.0 b.0 (r.1, r.2) b.1))
-        | inr none ↦ let u = undo_takes w hands n r.0 reach (r.1, r.2) none in (undone (n ∷ []), u.0, u.1)
+      elim (first_or_none w.kept (reached_good reach).kept_once r.0 r.1) [
+        | inl b ↦ (refused (Fault.HasConsequence b.0.number), w, refuses (has_consequence r.0 b.0 (r.1, r.2) b.1))
+        | inr none ↦ let u = undo_takes w no_hands n r.0 (reached_reachable reach) (r.1, r.2) none in (undone (n ∷ []), u.0, u.1)
       ]
 ]
 
-pub rolls_answered : laws.RollsHaveAnAnswer
-rolls_answered w hands n reach = elim (in_decided nat_decided n (numbers w.kept)) [
-  | inr no_one ↦ (refused Fault.NotKept, w, by.Rolls.not_kept (λ r i e. no_one (subst (λ m. In m (numbers w.kept)) e (number_in w.kept r i))))
-  | inl i ↦ let r = number_of w.kept n i in let u = roll_takes w hands n r.0 reach (r.1, r.2) in (undone (numbers u.0), u.1, u.2)
+pub rolls_answered : (w : World) (n : ℕ) → Reaches w → (reply : Reply) × (v : World) × Obeys ⊥ w (roll n) reply v
+rolls_answered w n reach = elim (in_decided nat_decided n (numbers w.kept)) [
+  | inr no_one ↦ (refused Fault.NotKept, w, refuses (refl, λ r i e. no_one (subst (λ m. In m (numbers w.kept)) e (number_in w.kept r i))))
+  | inl i ↦ let r = number_of w.kept n i in let u = roll_takes w no_hands n r.0 (reached_reachable reach) (r.1, r.2) in (undone (numbers u.0), u.1, u.2)
 ]
 
 -- the last step has no consequences
@@ -75,88 +115,46 @@ without_last : (rs : List Record) (r : Record) → ((s : Record) → In s rs →
 without_last [] r apart = leave (λ n. n refl) nothing
 without_last (q ∷ rs) r apart = take (apart q (inl refl)) (without_last rs r (λ s i. apart s (inr i)))
 
+-- a step that was just taken is undone, which gives back the old state and the old kept list
+abbrev Undone : World → ℕ → World → Type 0
+Undone w n v = (u : World) × Obeys ⊥ v (undo n) (undone (n ∷ [])) u × (u.state ≡ w.state) × (u.kept ≡ w.kept)
+
+same_number : {m n : ℕ} → stepped m ≡ stepped n → m ≡ n
+same_number e = cc
+
 module _ (w : World) (good : Good w) (replay : IsReplay w w.kept w.state) where
   -- a world with a step more at its end, that has the old opening
-  undo_last : (r : Record) (n : ℕ) (v : World) → v.opening ≡ w.opening → v.kept ≡ w.kept ++ r ∷ [] → r.number ≡ n → ¬ In r.number (numbers w.kept)
-      → (u : World) × by.Undoes ⊥ v n (undone (n ∷ [])) u × (u.state ≡ w.state) × (u.kept ≡ w.kept)
+  undo_last : (r : Record) (n : ℕ) (v : World) → v.opening ≡ w.opening → v.kept ≡ w.kept ++ r ∷ [] → r.number ≡ n → ¬ In r.number (numbers w.kept) → Undone w n v
   undo_last r n v opening kept number new =
       let distinct = records_distinct (w.kept ++ r ∷ []) (records_push w.kept r good.kept_once new) in (
-        by.without_steps (r ∷ []) w.kept w.state (undid n) v,
-        by.Undoes.takes_away r w.kept w.state (subst (In r) (sym kept) (in_right w.kept (r ∷ []) r (inl refl)), number)
-            (λ b f. last_alone w.kept r distinct (subst (λ z. Follows z r b) kept f))
+        without_steps (r ∷ []) w.kept w.state (undid r.number) v,
+        undoes_away v n r (subst (In r) (sym kept) (in_right w.kept (r ∷ []) r (inl refl)), number)
+            (λ b f. last_alone w.kept r distinct (subst (λ z. Follows z r b) kept f)) w.kept w.state
             (subst (λ z. IsWithout z r w.kept) (sym kept) (without_last w.kept r (λ s i e. new (subst (λ (z : Record). In z.number (numbers w.kept)) e (number_in w.kept s i)))))
             (subst (λ o. IsReplay (record w { opening = o }) w.kept w.state) (sym opening) replay),
         refl,
         refl,
       )
 
-  -- what an event says, of a step that it took
-  abbrev Undone : Reply → World → Type 0
-  Undone reply v = (n : ℕ) → reply ≡ stepped n → (u : World) × by.Undoes ⊥ v n (undone (n ∷ [])) u × (u.state ≡ w.state) × (u.kept ≡ w.kept)
+  -- a change that is told as a step took one
+  undo_changed : (n : ℕ) (v : World) (change : Change) → CanChange w change → Changes w change v → stepped n ≡ told_of change → Undone w n v
+  undo_changed n v (adds r) can e told = subst (Undone w n) (sym e) (undo_last r n (with_step r w) refl refl (sym (same_number told)) (not_next w good r can.0))
+  undo_changed n v (puts_back r) can e told = subst (Undone w n) (sym e) (undo_last r n (with_redone r w) refl refl (sym (same_number told)) (good.shelf r.number r can.0).3)
+  undo_changed n v (takes_away r) can e told = cc
+  undo_changed n v (takes_all gone) can e told = cc
+  undo_changed n v (reorders a) can e told = cc
 
-  same_number : {m n : ℕ} → stepped m ≡ stepped n → m ≡ n
-  same_number e = cc
-
-  other_reply : {v : World} {f : Fault} → Undone (refused f) v
-  other_reply n e = cc
-
-  undo_next : (r : Record) → IsNextStep w r → Undone (stepped w.next) (with_step r w)
-  undo_next r next n e = undo_last r n (with_step r w) refl refl (next.0 ∙ same_number e) (not_next w good r next.0)
-
-  undo_acted : (k : ℕ) (act : Act) (reply : Reply) (v : World) → streams.ActsOnStream (Unit {0}) w k act reply v → Undone reply v
-  undo_acted k act reply v (streams.ActsOnStream.takes r t) = undo_next r t.5
-  undo_acted k act reply v (streams.ActsOnStream.fails f) = other_reply
-  undo_acted k act reply v (streams.ActsOnStream.no_memory f) = other_reply
-
-  undo_obeyed : (c : Command) (reply : Reply) (v : World) → Obeys (Unit {0}) w c reply v → Undone reply v
-  undo_obeyed (input k t) reply v p n e = undo_acted k (given t) reply v p n e
-  undo_obeyed (finish k) reply v p n e = undo_acted k closed reply v p n e
-  undo_obeyed (undo m) reply v (by.Undoes.takes_away r left t k none out run) n e = cc
-  undo_obeyed (undo m) reply v (by.Undoes.fails f) n e = cc
-  undo_obeyed (undo m) reply v (by.Undoes.no_memory f) n e = cc
-  undo_obeyed (roll m) reply v (by.Rolls.takes_away r gone left t k split run) n e = cc
-  undo_obeyed (roll m) reply v (by.Rolls.not_kept f) n e = cc
-  undo_obeyed (roll m) reply v (by.Rolls.no_memory f) n e = cc
-  undo_obeyed (redo m) reply v (by.Redoes.puts_back r p f l) n e =
-      let on = good.shelf m r p in
-      undo_last r n (by.with_redone r m w) refl refl (on.0 ∙ same_number e) (λ i. on.3 (subst (λ k. In k (numbers w.kept)) on.0 i))
-  undo_obeyed (redo m) reply v (by.Redoes.fails f) n e = cc
-  undo_obeyed (redo m) reply v (by.Redoes.no_memory f) n e = cc
-  undo_obeyed (arrange order) reply v (by.Arranges.puts new l o) n e = cc
-  undo_obeyed (arrange order) reply v (by.Arranges.fails f) n e = cc
-  undo_obeyed (arrange order) reply v (by.Arranges.no_memory f) n e = cc
-
-  undo_committed : (hands : Hands) (m : ℕ) (left : Hands) (reply : Reply) (v : World) → asking.Commits (Unit {0}) w hands m reply v left → Undone reply v
-  undo_committed hands m left reply v (asking.Commits.takes p r i e c) = undo_next r c.1
-  undo_committed hands m left reply v (asking.Commits.no_hand i) = other_reply
-  undo_committed hands m left reply v (asking.Commits.empty i e) = other_reply
-  undo_committed hands m left reply v (asking.Commits.fails p i e f) = other_reply
-  undo_committed hands m left reply v (asking.Commits.no_memory i) = other_reply
-
-  undo_proposed : {hands : Hands} {h : ℕ} {g : GoalName} {choice : Option ℕ} {left : Hands} (reply : Reply) → asking.Proposes (Unit {0}) w hands h g choice reply left → Undone reply w
-  undo_proposed reply (asking.Proposes.holds b act x i p t) n e = cc
-  undo_proposed reply (asking.Proposes.no_hand i) n e = cc
-  undo_proposed reply (asking.Proposes.fails i t) n e = cc
-  undo_proposed reply (asking.Proposes.no_memory i) n e = cc
-
-  undo_noted : {g : GoalName} (reply : Reply) → asking.Notes (Unit {0}) w g reply → Undone reply w
-  undo_noted reply (asking.Notes.tells b p q s) n e = cc
-  undo_noted reply (asking.Notes.no_goal i) n e = cc
-  undo_noted reply (asking.Notes.no_memory i) n e = cc
-
-  undo_answered : (hands left : Hands) (e : _) (reply : Reply) (v : World) → Answers (Unit {0}) w hands e reply v left → Undone reply v
-  undo_answered hands left e reply v (to_propose p) = undo_proposed reply p
-  undo_answered hands left e reply v (to_commit p) = undo_committed hands _ left reply v p
-  undo_answered hands left e reply v (to_note p) = undo_noted reply p
-  undo_answered hands left e reply v (to_command p) = undo_obeyed _ reply v p
+  undo_answered : (n : ℕ) (hands left : Hands) (e : Event) (v : World) → Answers (Unit {0}) w hands e (stepped n) v left → Undone w n v
+  undo_answered n hands left e v (makes {change = change} has asks can changes told) = undo_changed n v change can changes told
+  undo_answered n hands left e v (says has said) = let clash : true ≡ false = said_changes_nothing said in cc
 
 pub step_then_undo : laws.StepThenUndo
-step_then_undo w v hands left e n reach a = undo_answered w (reached_good reach) (reachable_replay w hands reach) hands left e (stepped n) v a n refl
+step_then_undo w v hands left e n reach a = undo_answered w (reachable_good reach) (reachable_replay w hands reach) n hands left e v a
 
 -- two neighbours that do not depend on each other are in a lawful order the other way round
 pub neighbours_arranged : laws.NeighboursAreArranged
 neighbours_arranged w hands front back a b reach splits apart =
     let new = front ++ b ∷ a ∷ back in
-    let l = neighbours_lawful front back a b (subst (λ ks. AreDistinct (numbers ks)) splits (reached_good reach).kept_once) (λ d. apart (subst (λ ks. DependsOn ks b a) (sym splits) d)) in
+    let l = neighbours_lawful front back a b (subst (λ ks. AreDistinct (numbers ks)) splits (reachable_good reach).kept_once) (λ d. apart (subst (λ ks. DependsOn ks b a) (sym splits) d)) in
     let here = subst (λ ks. IsLawful ks (numbers new) × IsInOrder ks (numbers new) new) (sym splits) l in
-    (record w { kept = new; journal = w.journal ++ reordered (numbers new) ∷ [] }, by.Arranges.puts new here.0 here.1, refl, refl)
+    (with_order (numbers new) new w, does {change = reorders (record { records = new; order = numbers new })} (to_arrange refl) here refl refl, refl, refl)

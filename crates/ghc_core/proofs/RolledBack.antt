@@ -14,7 +14,7 @@ use Rattle.ghc_records.specs.Journal.{Opening, Entry, undid, rolled}
 use Rattle.ghc_records.proofs.OrderLemmas.{number_of}
 use Rattle.ghc_hooks.specs.Notes.{Note, NotesByGoal, AreLeft}
 use Rattle.ghc_hooks.specs.Tries.{Tries}
-use Rattle.ghc_depend.specs.Depend.{IsKeptAs, Binds}
+use Rattle.ghc_depend.specs.Depend.{Binds}
 use Rattle.ghc_depend.specs.Deletion.{IsBoundIn}
 use Rattle.ghc_depend.specs.Kept.{with_shelved, IsSplitAt}
 use Rattle.ghc_depend.proofs.Finding.{by_option, not_both}
@@ -23,13 +23,10 @@ use Rattle.ghc_depend.proofs.Picking.{picks_has}
 use Rattle.ghc_depend.proofs.Placing.{results_of}
 use Rattle.ghc_depend.proofs.TakenTogether.{apart_behind, picks_all, picks_within, first_gone, alone_left, rest_left, gone_kept, gone_distinct}
 use Rattle.ghc_core.specs.World.{World, IsReplay}
-use Rattle.ghc_core.specs.Events.{roll, command, undone}
-use Rattle.ghc_core.specs.Reverses.{Undoes, Rolls}
-use Rattle.ghc_core.specs.Reverses as by
-use Rattle.ghc_core.specs.Answers.{to_command}
-use Rattle.ghc_core.specs.Legal.{by_event}
+use Rattle.ghc_core.specs.declared.change.Change.TheVariants.{TakesAway as takes_away, TakesAll as takes_all}
+use Rattle.ghc_core.specs.Reached.{by_change}
 use Rattle.ghc_core.specs.Core.{IsStanding, AreExactIn}
-use Rattle.ghc_core.specs.Change.{CanRoll, RollsAway}
+use Rattle.ghc_core.specs.Change.{CanRoll, CanChange, Changes}
 use Rattle.ghc_core.specs.Carried.{Consumed, AreCarriedBack, AreAllCarriedBack}
 use Rattle.ghc_core.specs.StreamGoals.{told_back, all_told_back, TellStreams}
 use Rattle.ghc_core.proofs.Exactness.{back_exact, back_left}
@@ -37,7 +34,7 @@ use Rattle.ghc_core.proofs.Preparing.{same_world}
 use Rattle.ghc_core.proofs.Reaching.{reached_good}
 use Rattle.ghc_core.proofs.Standing.{standing_replay}
 use Rattle.ghc_core.proofs.StreamNames.{stands_back}
-use Rattle.ghc_core.proofs.TakenAway.{taken_away, undone_stands}
+use Rattle.ghc_core.proofs.TakenAway.{taken_away}
 
 -- two changes, one after the other: a note stays just where it stays in both
 left_twice : (H K : Goals) (T U V : VarName → Type 0) (a b c : NotesByGoal) → AreLeft H T a b → AreLeft K U b c
@@ -153,8 +150,11 @@ module _ (w : World) (stands : IsStanding w) (a : Record) (kept_a : In a w.kept)
     abbrev after : World
     after = record { opening = v.opening; state = t; kept = others.0; shelf = finite.insert v.shelf r.number r; next = v.next; journal = v.journal ++ undid r.number ∷ [] }
 
-    undoes : Undoes ⊥ v r.number (undone (r.number ∷ [])) after
-    undoes = taken_away v before.standing r others.0 t after.shelf after.journal kept_r (alone_left w.kept distinct a kept_a gone left split front rest v.kept r ends before.kept) others.1 back refl refl
+    can : CanChange v (takes_away r)
+    can = (kept_r, alone_left w.kept distinct a kept_a gone left split front rest v.kept r ends before.kept)
+
+    stands_after : IsStanding after
+    stands_after = by_change (takes_away r) before.standing can (taken_away v before.standing r others.0 t after.shelf after.journal can others.1 back refl refl)
 
     stayed : (g : GoalName) (note : Note) → finite.get old.notes g ≡ Some note → finite.get t.goals g ≢ None → finite.get v.state.goals g ≢ None
     stayed g note noted there none =
@@ -164,7 +164,7 @@ module _ (w : World) (stands : IsStanding w) (a : Record) (kept_a : In a w.kept)
     pub one_more : Undone w (r ∷ rest) t old new
     one_more = record {
       world = after;
-      standing = undone_stands before.standing undoes refl;
+      standing = stands_after;
       opening = before.opening;
       state = refl;
       kept = picks_within w.kept v.kept others.0 (λ s p q i. elim i [ inl e ↦ q e | inr j ↦ p j ]) (λ s n i. n (λ j. i (inr j))) (λ s n i. n (λ e. i (inl e))) before.kept others.1;
@@ -172,7 +172,7 @@ module _ (w : World) (stands : IsStanding w) (a : Record) (kept_a : In a w.kept)
       notes = left_twice v.state.goals t.goals (IsBoundIn rest) (Binds r) (IsBoundIn (r ∷ rest)) old.notes mid.notes new.notes before.notes
           (back_left v before.standing r kept_r t back mid new before.exact carried) stayed (bound_parts r rest) (λ x b. (b.0, inr b.1, b.2)) (λ x b. (r, inl refl, b));
       streams = λ names tell. subst (λ (o : Opening). TellStreams o.query t.goals (told_back r (all_told_back rest names))) before.opening
-          (stands_back v before.standing r kept_r after (undone_stands before.standing undoes refl) refl back (all_told_back rest names) (told_back r (all_told_back rest names)) refl
+          (stands_back v before.standing r kept_r after stands_after refl back (all_told_back rest names) (told_back r (all_told_back rest names)) refl
           (subst (λ (o : Opening). TellStreams o.query v.state.goals (all_told_back rest names)) (sym before.opening) (before.streams names tell)));
     }
 
@@ -197,11 +197,9 @@ module _ (w : World) (stands : IsStanding w) (a : Record) (kept_a : In a w.kept)
     replay = subst (λ s. IsReplay w left s) all.state (subst (λ rs. IsReplay w rs all.world.state) of_world (subst (λ o. IsReplay (record w { opening = o }) all.world.kept all.world.state) all.opening (standing_replay all.world all.standing)))
 
     -- that is the rollback of the first step
-    pub rolls : {Starved : Type 0} → Rolls Starved w a.number (undone (numbers gone)) (record w { state = t; kept = some; shelf = shelf; journal = es })
-    rolls {Starved} = subst (Rolls Starved w a.number (undone (numbers gone))) (same_world w.opening w.next refl (sym of_records) (sym put) (sym told)) (by.Rolls.takes_away a gone left t (kept_a, refl) split replay)
-
-    pub rolled_stands : IsStanding (record w { state = t; kept = some; shelf = shelf; journal = es })
-    rolled_stands = by_event (command (roll a.number)) (undone (numbers gone)) stands tt (to_command rolls)
+    pub rolled_changes : (rs : List Record) → gone ≡ a ∷ rs → Changes w (takes_all gone) (record w { state = t; kept = some; shelf = shelf; journal = es })
+    rolled_changes rs first = subst (λ z. Changes w (takes_all z) (record w { state = t; kept = some; shelf = shelf; journal = es })) (sym first)
+        (left, subst (λ z. IsSplitAt w.kept a z left) first split, (t, replay, same_world w.opening w.next refl of_records (put ∙ ap (λ z. with_shelved z w.shelf) first) told))
 
     pub rolled_exact : AreExactIn (record w { state = t; kept = some; shelf = shelf; journal = es }) new.notes new.untried
     rolled_exact = subst (λ s. AreExactIn (record w { state = s }) new.notes new.untried) all.state (subst (λ o. AreExactIn (record all.world { opening = o }) new.notes new.untried) all.opening all.exact)
@@ -218,14 +216,6 @@ can_roll kept distinct r i gone left split =
     let first = first_gone kept r gone left distinct i split in
     subst (CanRoll kept) (sym first.1) (i, (left, subst (λ z. IsSplitAt kept r z left) first.1 split))
 
--- what rolls the first of the records gone back, rolls the step back with which they go
-pub rolls_first : (w v : World) → IsStanding w → (n : ℕ) (r : Record) → IsKeptAs w.kept n r → (gone left : List Record) → IsSplitAt w.kept r gone left → RollsAway w gone v
-    → Rolls ⊥ w n (undone (numbers gone)) v
-rolls_first w v s n r own gone left split away =
-    let first = first_gone w.kept r gone left (reached_good s).kept_once own.0 split in
-    let whole : Rolls ⊥ w r.number (undone (numbers (r ∷ first.0))) v = subst (λ z. RollsAway w z v) first.1 away in
-    subst (λ m. Rolls ⊥ w m (undone (numbers gone)) v) own.1 (subst (λ z. Rolls ⊥ w r.number (undone (numbers z)) v) (sym first.1) whole)
-
 -- The goals that the steps of a rollback consumed have no note.
 pub unnoted_roll : (w : World) → IsStanding w → (notes : NotesByGoal) (untried : _) → AreExactIn w notes untried → (a : Record) (rs : List Record) → CanRoll w.kept (a ∷ rs)
     → (r : Record) → In r (a ∷ rs) → (g : GoalName) → Consumed r g → finite.get notes g ≡ None
@@ -234,7 +224,7 @@ unnoted_roll w s notes untried exact a rs can =
 
 -- What is known where the steps gone were taken away.
 pub record RolledAway (w : World) (gone : List Record) (old new : Tries) (v : World) : Type 0 where
-  pub rolls : RollsAway w gone v
+  pub rolls : Changes w (takes_all gone) v
   pub standing : IsStanding v
   pub exact : AreExactIn v new.notes new.untried
   pub notes : AreLeft v.state.goals (IsBoundIn gone) old.notes new.notes
@@ -247,9 +237,10 @@ pub rolled_away : (w : World) → IsStanding w → (a : Record) (rs : List Recor
     → RolledAway w (a ∷ rs) old new (record w { state = t; kept = some; shelf = shelf; journal = es })
 rolled_away w s a rs can old new exact t p q some shelf es n put picked number told =
     let entered : es ≡ w.journal ++ rolled a.number ∷ [] = told ∙ ap (λ k. w.journal ++ rolled k ∷ []) number in
+    let rolls = rolled_changes w s a can.0 (a ∷ rs) can.1.0 can.1.1 old exact t new p q some shelf es put picked entered rs refl in
     record {
-      rolls = rolls w s a can.0 (a ∷ rs) can.1.0 can.1.1 old exact t new p q some shelf es put picked entered;
-      standing = rolled_stands w s a can.0 (a ∷ rs) can.1.0 can.1.1 old exact t new p q some shelf es put picked entered;
+      rolls = rolls;
+      standing = by_change (takes_all (a ∷ rs)) s can rolls;
       exact = rolled_exact w s a can.0 (a ∷ rs) can.1.0 can.1.1 old exact t new p q some shelf es put picked entered;
       notes = rolled_left w s a can.0 (a ∷ rs) can.1.0 can.1.1 old exact t new p q some shelf es put picked entered;
       streams = rolled_streams w s a can.0 (a ∷ rs) can.1.0 can.1.1 old exact t new p q some shelf es put picked entered;

@@ -75,10 +75,10 @@ pub noted_before : (w : World) (m : NotesByGoal) (u : GoalNames) (g : GoalName) 
 noted_before w m u g n exact q tried =
     let had = has_note exact g q.0 q.1.0 q.1.1 tried in
     let is = exact.noted g had.0 had.1 in
-    record { note = had.0; told = tells is.0 is.1 is.2 is.3.0; put = put_again m g had.0 had.1 }
+    record { note = had.0; told = tells (is.0, is.1, is.2, is.3.0); put = put_again m g had.0 had.1 }
 
 pub noted_now : (w : World) (m new : NotesByGoal) (g : GoalName) (n : Note) → IsNoteOf w g n → new ≡ finite.insert m g n → IsNoted w g m new
-noted_now w m new g n q put = record { note = n; told = tells q.0 q.1.0 q.1.1 q.2.0; put = put }
+noted_now w m new g n q put = record { note = n; told = tells (q.0, q.1.0, q.1.1, q.2.0); put = put }
 
 pub consistent_now : (w : World) (m new : NotesByGoal) (u left : GoalNames) (names : List GoalName) (g : GoalName) (n : Note) → IsConsistent w m u names → IsNoteOf w g n → new ≡ finite.insert m g n → left ≡ set.remove u g
     → IsConsistent w new left names

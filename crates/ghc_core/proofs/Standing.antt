@@ -18,21 +18,21 @@ use Rattle.ghc_records.specs.History.{History, loaded_opening}
 use Rattle.ghc_records.specs.Laws.{IsWellMade}
 use Rattle.ghc_records.proofs.Replaying as replaying
 use Rattle.ghc_depend.specs.Kept.{Keeps}
-use Rattle.ghc_core.specs.World.{no_hands, World, IsReplay, Opens}
-use Rattle.ghc_core.specs.Legal.{AreNamesOf, IsSound, at_opening}
+use Rattle.ghc_core.specs.World.{World, IsReplay, Opens}
+use Rattle.ghc_core.specs.Reached.{AreNamesOf, IsSound, from_opening}
 use Rattle.ghc_core.specs.Laws.{IsOrderly}
 use Rattle.ghc_core.specs.Core.{IsStanding}
-use Rattle.ghc_core.proofs.Reaching.{reached_good, reached, known}
-use Rattle.ghc_core.proofs.Replayed.{reachable_replay}
-use Rattle.ghc_core.proofs.Keeping.{reachable_keeps}
+use Rattle.ghc_core.proofs.Reaching.{reached_good}
+use Rattle.ghc_core.proofs.Replayed.{replayed}
+use Rattle.ghc_core.proofs.Keeping.{reached_keeps}
 
 -- The state of a standing world is the replay of its kept steps.
 pub standing_replay : (w : World) → IsStanding w → IsReplay w w.kept w.state
-standing_replay w s = reachable_replay w no_hands s
+standing_replay w s = (replayed s).replay
 
 -- In a standing world the store is acyclic, and each variable is the query's or made by a kept step.
 pub standing_well_made : (w : World) → IsStanding w → IsWellMade w.opening.query w.kept w.state
-standing_well_made w s = known w no_hands s
+standing_well_made w s = let g = reached_good s in record { acyclic = g.acyclic; goals = g.has.goals; bound = g.has.keys; values = λ x y u p o. g.has.values x u p y o }
 
 -- In a standing world the names are those of the query's variables.
 pub standing_named : (w : World) → IsStanding w → AreNamesOf w.opening.query w.opening.names
@@ -40,11 +40,11 @@ standing_named w s = (reached_good s).named
 
 -- A standing world is orderly: no number is kept twice, and each stream has one goal at most.
 pub standing_orderly : (w : World) → IsStanding w → IsOrderly w
-standing_orderly w s = reached w no_hands s
+standing_orderly w s = let g = reached_good s in record { kept_once = g.kept_once; acyclic = g.acyclic; streams_once = λ k n m s u p q. g.one k n m s u p q }
 
 -- The journal of a standing world tells what is kept and what is on the shelf.
 pub standing_keeps : (w : World) → IsStanding w → Keeps w.opening w.journal w.kept w.shelf
-standing_keeps w s = reachable_keeps w no_hands s
+standing_keeps w s = reached_keeps s
 
 -- The program and the query of a standing world are accepted, and the names are those of the query's variables.
 pub standing_sound : (w : World) → IsStanding w → IsSound w.opening
@@ -68,7 +68,7 @@ standing_numbered w s g b e =
 
 -- A world that an opening makes stands, where program and query are accepted.
 pub opening_stands : (o : Opening) (w : World) → IsSound o → Opens o w → IsStanding w
-opening_stands o w sound opens = at_opening sound opens refl
+opening_stands o w sound opens = from_opening sound opens
 
 -- the opening of a query on which no step was loaded, and behind which a step gets the number n
 abbrev pub empty_opening : Program → Query → List (List ℕ) → ℕ → Opening

@@ -15,22 +15,15 @@ use Rattle.ghc_term.specs.declared.fault.Fault.{Fault}
 use Rattle.ghc_fire.specs.declared.act.Act.{Act}
 use Rattle.ghc_fire.specs.declared.act.Act.TheVariants.{ByClause as by_clause, Unified as unified, Assigned as assigned, Given as given, Closed as closed}
 use Rattle.ghc_fire.specs.Effect.{Effect, HasEffect}
-use Rattle.ghc_fire.specs.Attempt as attempt
-use Rattle.ghc_fire.specs.Laws.{EffectIsOne, AttemptHasOneAnswer}
-use Rattle.ghc_fire.proofs.Answering.{same_act, same_effect, same_fault, apart}
+use Rattle.ghc_fire.specs.Laws.{EffectIsOne}
 use Rattle.ghc_records.specs.Record.{Record, HasStepEffect}
-use Rattle.ghc_core.specs.World.{Proposal, Hands, with_hand, World, IsFull, HasRoom, IsNextStep, with_step}
-use Rattle.ghc_core.specs.Events.{Reply, refused}
+use Rattle.ghc_core.specs.World.{Proposal, World, IsFull, HasRoom, IsNextStep}
 use Rattle.ghc_core.specs.Proposes as asking
 use Rattle.ghc_core.specs.Streams as streams
-use Rattle.ghc_core.proofs.Reversing.{Same, value_once, has_not, finds}
-
--- one reply, one world and the same hands
-abbrev pub AllSame : Reply → Reply → World → World → Hands → Hands → Type 0
-AllSame r s u v left other = (r ≡ s) × (u ≡ v) × (left ≡ other)
+use Rattle.ghc_core.proofs.Refusing.{value_once, finds}
 
 -- a world has no room and is full at once
-room_or_full : (w : World) → HasRoom w → ¬ IsFull w
+pub room_or_full : (w : World) → HasRoom w → ¬ IsFull w
 room_or_full w r (inl f) = omega (arith, r.0)
 room_or_full w r (inr f) = omega (arith, r.1)
 
@@ -55,71 +48,9 @@ module _ (effects : EffectIsOne) (w : World) (acyclic : IsAcyclic (value_at w.st
       let consumed : r.consumed ≡ s.consumed = p.1 ∙ ap Some goals ∙ sym q.1 in
       λ i. record { number = number i; goal = goal i; consumed = consumed i; act = a i; effect = effect i }
 
-module _ (attempts : AttemptHasOneAnswer) (w : World) (hands : Hands) (acyclic : IsAcyclic (value_at w.state.store)) (h : ℕ) (g : GoalName) (choice : Option ℕ) where
-  one : {a b : attempt.Answer} → asking.AttemptAnswers w g choice a → asking.AttemptAnswers w g choice b → a ≡ b
-  one {a} {b} p q = attempts w.opening.program (value_at w.state.store) (finite.get w.state.goals g) choice a b acyclic p q
-
-  pub propose_once : {r s : Reply} {left other : Hands} → asking.Proposes ⊥ w hands h g choice r left → asking.Proposes ⊥ w hands h g choice s other → (r ≡ s) × (left ≡ other)
-  propose_once (asking.Proposes.holds b act e i p t) (asking.Proposes.holds c bct f j q u) =
-      let goals : b ≡ c = value_once p q in
-      let answers = one t u in
-      (refl, λ k. with_hand h (record { goal = g; consumed = goals k; act = same_act answers k; effect = same_effect answers k }) hands)
-  propose_once (asking.Proposes.holds b act e i p t) (asking.Proposes.no_hand j) = absurd (j i)
-  propose_once (asking.Proposes.holds b act e i p t) (asking.Proposes.fails j u) = absurd (apart (one t u))
-  propose_once (asking.Proposes.holds b act e i p t) (asking.Proposes.no_memory j) = absurd j
-  propose_once (asking.Proposes.no_hand i) (asking.Proposes.holds b act e j p t) = absurd (i j)
-  propose_once (asking.Proposes.no_hand i) (asking.Proposes.no_hand j) = (refl, refl)
-  propose_once (asking.Proposes.no_hand i) (asking.Proposes.fails j u) = absurd (i j)
-  propose_once (asking.Proposes.no_hand i) (asking.Proposes.no_memory j) = absurd j
-  propose_once (asking.Proposes.fails i t) (asking.Proposes.holds b act e j p u) = absurd (apart (one u t))
-  propose_once (asking.Proposes.fails i t) (asking.Proposes.no_hand j) = absurd (j i)
-  propose_once (asking.Proposes.fails i t) (asking.Proposes.fails j u) = (ap refused (same_fault (one t u)), refl)
-  propose_once (asking.Proposes.fails i t) (asking.Proposes.no_memory j) = absurd j
-  propose_once (asking.Proposes.no_memory i) q = absurd i
-
--- a commit is refused for one reason
-pub commit_fails_once : (w : World) {p : Proposal} {f g : Fault} → asking.CommitFails w p f → asking.CommitFails w p g → f ≡ g
-commit_fails_once w (asking.CommitFails.stale p) (asking.CommitFails.stale q) = refl
-commit_fails_once w (asking.CommitFails.stale p) (asking.CommitFails.full q f) = absurd (p q)
-commit_fails_once w (asking.CommitFails.full p f) (asking.CommitFails.stale q) = absurd (q p)
-commit_fails_once w (asking.CommitFails.full p f) (asking.CommitFails.full q g) = refl
-
 -- a commit is not both taken and refused
 pub commit_or_fail : (w : World) {p : Proposal} {f : Fault} (r : Record) → asking.IsCommitOf w p r → ¬ asking.CommitFails w p f
-commit_or_fail w r c (asking.CommitFails.stale p) = p c.0
-commit_or_fail w r c (asking.CommitFails.full p f) = room_or_full w c.1.2 f
-
-module _ (effects : EffectIsOne) (w : World) (hands : Hands) (acyclic : IsAcyclic (value_at w.state.store)) (h : ℕ) where
-  moved : {p q : Proposal} {f : Fault} → finite.get hands.held h ≡ Some p → finite.get hands.held h ≡ Some q → asking.CommitFails w p f → asking.CommitFails w q f
-  moved {f = f} e k c = subst (λ x. asking.CommitFails w x f) (value_once e k) c
-
-  pub commit_once : {r s : Reply} {u v : World} {left other : Hands} → asking.Commits ⊥ w hands h r u left → asking.Commits ⊥ w hands h s v other → AllSame r s u v left other
-  commit_once (asking.Commits.takes p r i e c) (asking.Commits.takes q s j k d) =
-      let same : p ≡ q = value_once e k in
-      let goal : r.goal ≡ Some q.goal = c.2 ∙ ap (λ (x : Proposal). Some x.goal) same in
-      let act : r.act ≡ s.act = c.3 ∙ ap (λ (x : Proposal). x.act) same ∙ sym d.3 in
-      let steps : r ≡ s = step_once effects w acyclic r s q.goal c.1 d.1 goal d.2 act in
-      (refl, ap (λ x. with_step x w) steps, refl)
-  commit_once (asking.Commits.takes p r i e c) (asking.Commits.no_hand j) = absurd (j i)
-  commit_once (asking.Commits.takes p r i e c) (asking.Commits.empty j k) = absurd (has_not e k)
-  commit_once (asking.Commits.takes p r i e c) (asking.Commits.fails q j k f) = absurd (commit_or_fail w r c (moved k e f))
-  commit_once (asking.Commits.takes p r i e c) (asking.Commits.no_memory j) = absurd j
-  commit_once (asking.Commits.no_hand i) (asking.Commits.takes q s j k d) = absurd (i j)
-  commit_once (asking.Commits.no_hand i) (asking.Commits.no_hand j) = (refl, refl, refl)
-  commit_once (asking.Commits.no_hand i) (asking.Commits.empty j k) = absurd (i j)
-  commit_once (asking.Commits.no_hand i) (asking.Commits.fails q j k f) = absurd (i j)
-  commit_once (asking.Commits.no_hand i) (asking.Commits.no_memory j) = absurd j
-  commit_once (asking.Commits.empty i e) (asking.Commits.takes q s j k d) = absurd (has_not k e)
-  commit_once (asking.Commits.empty i e) (asking.Commits.no_hand j) = absurd (j i)
-  commit_once (asking.Commits.empty i e) (asking.Commits.empty j k) = (refl, refl, refl)
-  commit_once (asking.Commits.empty i e) (asking.Commits.fails q j k f) = absurd (has_not k e)
-  commit_once (asking.Commits.empty i e) (asking.Commits.no_memory j) = absurd j
-  commit_once (asking.Commits.fails p i e f) (asking.Commits.takes q s j k d) = absurd (commit_or_fail w s d (moved e k f))
-  commit_once (asking.Commits.fails p i e f) (asking.Commits.no_hand j) = absurd (j i)
-  commit_once (asking.Commits.fails p i e f) (asking.Commits.empty j k) = absurd (has_not e k)
-  commit_once (asking.Commits.fails p i e f) (asking.Commits.fails q j k g) = (ap refused (commit_fails_once w (moved e k f) g), refl, refl)
-  commit_once (asking.Commits.fails p i e f) (asking.Commits.no_memory j) = absurd j
-  commit_once (asking.Commits.no_memory i) q = absurd i
+commit_or_fail w r c p = elim p.first [ inl q ↦ q.1 c.0 | inr q ↦ room_or_full w c.1.2 q.1.1 ]
 
 -- a chain that comes to an unbound variable ends there
 comes_leads : {S : VarName → Option Tree} {t : Tree} {xs : List VarName} {x : VarName} → Comes S t xs x → S x ≡ None → Leads S t (xs ++ x ∷ []) (variable x)
@@ -143,14 +74,14 @@ module _ (effects : EffectIsOne) (w : World) (acyclic : IsAcyclic (value_at w.st
   one_tail : (g h : GoalName) (s u : VarName) → streams.IsStreamAt w k g s → streams.IsStreamAt w k h u → s ≡ u
   one_tail g h s u p q = same_tail (value_once p (subst (λ z. streams.IsStreamAt w k z u) (sym (once k g h s u p q)) q))
 
-  at_stream : (r : Record) (t : streams.IsStreamStep w k act r) → streams.IsStreamAt w k t.0 t.1
-  at_stream r t = let f = step_effect w r t.0 t.5 t.2 in f.2 ∙ sym f.1 ∙ t.3
+  at_stream : (r : Record) (t : streams.IsStreamStep w k act r) → streams.IsStreamAt w k t.0.0 t.0.1
+  at_stream r t = let f = step_effect w r t.0.0 t.1 t.0.2 in f.2 ∙ sym f.1 ∙ t.0.3
 
-  opens : (r : Record) (t : streams.IsStreamStep w k act r) → (x : VarName) × (xs : List VarName) × Leads (value_at w.state.store) (variable t.1) xs (variable x)
+  opens : (r : Record) (t : streams.IsStreamStep w k act r) → (x : VarName) × (xs : List VarName) × Leads (value_at w.state.store) (variable t.0.1) xs (variable x)
   opens r t =
-      let f = step_effect w r t.0 t.5 t.2 in
-      let goal : f.0 ≡ stream k t.1 = value_once f.1 t.3 in
-      tail_open w.opening.program k t.1 r.act w.next (value_at w.state.store) r.effect
+      let f = step_effect w r t.0.0 t.1 t.0.2 in
+      let goal : f.0 ≡ stream k t.0.1 = value_once f.1 t.0.3 in
+      tail_open w.opening.program k t.0.1 r.act w.next (value_at w.state.store) r.effect
       (subst (λ b. HasEffect w.opening.program b r.act w.next (value_at w.state.store) r.effect) goal f.3)
 
   -- a tail ends in one thing
@@ -158,37 +89,24 @@ module _ (effects : EffectIsOne) (w : World) (acyclic : IsAcyclic (value_at w.st
   not_value s x xs ys e p q v = subst IsValue (sym (leads_once p q).1) v
 
   pub stream_step_or_fail : {f : Fault} (r : Record) → streams.IsStreamStep w k act r → ¬ streams.StreamFails w k f
-  stream_step_or_fail r t (streams.StreamFails.no_stream p) = p t.0 t.1 (at_stream r t)
-  stream_step_or_fail r t (streams.StreamFails.tail_bound g s e at ends v) =
+  stream_step_or_fail r t p =
+      let at = at_stream r t in
       let o = opens r t in
-      not_value s o.0 o.1 ends.0 e (subst (λ z. Leads (value_at w.state.store) (variable z) o.1 (variable o.0)) (one_tail t.0 g t.1 s (at_stream r t) at) o.2) ends.1 v
-  stream_step_or_fail r t (streams.StreamFails.full g s x at ends full) = room_or_full w t.5.2 full
+      elim p.first [
+        | inl (_, none) ↦ none t.0.0 t.0.1 at
+        | inr (_, inl (_, (g, s, value, here, ends, v))) ↦
+            not_value s o.0 o.1 ends.0 value (subst (λ z. Leads (value_at w.state.store) (variable z) o.1 (variable o.0)) (one_tail t.0.0 g t.0.1 s at here) o.2) ends.1 v
+        | inr (_, inr (_, (_, many))) ↦ room_or_full w t.1.2 many
+      ]
 
   pub bound_or_open : (g h : GoalName) (s u x : VarName) (e : Tree) → streams.IsStreamAt w k g s → EndsIn (value_at w.state.store) s e → IsValue e → streams.IsStreamAt w k h u → EndsIn (value_at w.state.store) u (variable x) → ⊥
   bound_or_open g h s u x e at ends v here open_end =
       not_value s x open_end.0 ends.0 e (subst (λ z. Leads (value_at w.state.store) (variable z) open_end.0 (variable x)) (one_tail h g u s here at) open_end.1) ends.1 v
 
-  pub stream_fails_once : {f g : Fault} → streams.StreamFails w k f → streams.StreamFails w k g → f ≡ g
-  stream_fails_once (streams.StreamFails.no_stream p) (streams.StreamFails.no_stream q) = refl
-  stream_fails_once (streams.StreamFails.no_stream p) (streams.StreamFails.tail_bound g s e at ends v) = absurd (p g s at)
-  stream_fails_once (streams.StreamFails.no_stream p) (streams.StreamFails.full g s x at ends full) = absurd (p g s at)
-  stream_fails_once (streams.StreamFails.tail_bound g s e at ends v) (streams.StreamFails.no_stream q) = absurd (q g s at)
-  stream_fails_once (streams.StreamFails.tail_bound g s e at ends v) (streams.StreamFails.tail_bound h u f here reached is) = refl
-  stream_fails_once (streams.StreamFails.tail_bound g s e at ends v) (streams.StreamFails.full h u x here reached full) = absurd (bound_or_open g h s u x e at ends v here reached)
-  stream_fails_once (streams.StreamFails.full g s x at ends full) (streams.StreamFails.no_stream q) = absurd (q g s at)
-  stream_fails_once (streams.StreamFails.full g s x at ends full) (streams.StreamFails.tail_bound h u e here reached v) = absurd (bound_or_open h g u s x e here reached v at ends)
-  stream_fails_once (streams.StreamFails.full g s x at ends full) (streams.StreamFails.full h u y here reached more) = refl
+  pub stream_full : (g : GoalName) (s x : VarName) → streams.IsStreamAt w k g s → EndsIn (value_at w.state.store) s (variable x) → IsFull w → streams.StreamFails w k Fault.Full
+  stream_full g s x at ends many = record { first = inr ((λ f none. none.1 g s at), inr ((λ f (_, (h, u, e, here, reached, v)). bound_or_open h g u s x e here reached v at ends), (refl, many))) }
 
   pub one_stream_step : (r s : Record) → streams.IsStreamStep w k act r → streams.IsStreamStep w k act s → r ≡ s
   one_stream_step r s t q =
-      let names : t.0 ≡ q.0 = once k t.0 q.0 t.1 q.1 (at_stream r t) (at_stream s q) in
-      step_once effects w acyclic r s q.0 t.5 q.5 (t.2 ∙ ap Some names) q.2 (t.4 ∙ sym q.4)
-
-  pub act_once : {r s : Reply} {u v : World} → streams.ActsOnStream ⊥ w k act r u → streams.ActsOnStream ⊥ w k act s v → Same r s u v
-  act_once (streams.ActsOnStream.takes r t) (streams.ActsOnStream.takes s q) = (refl, ap (λ x. with_step x w) (one_stream_step r s t q))
-  act_once (streams.ActsOnStream.takes r t) (streams.ActsOnStream.fails f) = absurd (stream_step_or_fail r t f)
-  act_once (streams.ActsOnStream.takes r t) (streams.ActsOnStream.no_memory f) = absurd f
-  act_once (streams.ActsOnStream.fails f) (streams.ActsOnStream.takes r t) = absurd (stream_step_or_fail r t f)
-  act_once (streams.ActsOnStream.fails f) (streams.ActsOnStream.fails g) = (ap refused (stream_fails_once f g), refl)
-  act_once (streams.ActsOnStream.fails f) (streams.ActsOnStream.no_memory g) = absurd g
-  act_once (streams.ActsOnStream.no_memory f) q = absurd f
+      let names : t.0.0 ≡ q.0.0 = once k t.0.0 q.0.0 t.0.1 q.0.1 (at_stream r t) (at_stream s q) in
+      step_once effects w acyclic r s q.0.0 t.1 q.1 (t.0.2 ∙ ap Some names) q.0.2 (t.0.4 ∙ sym q.0.4)

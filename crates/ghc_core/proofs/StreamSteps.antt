@@ -15,12 +15,12 @@ use Rattle.ghc_fire.proofs.Steps.{effect_once}
 use Rattle.ghc_fire.specs.Effect.{Effect, HasEffect, ReadsTail}
 use Rattle.ghc_fire.specs.Tail.{IsTailBound}
 use Rattle.ghc_records.specs.Record.{Record}
-use Rattle.ghc_core.specs.World.{World, IsFull, HasRoom, with_step}
+use Rattle.ghc_core.specs.World.{World, IsFull, HasRoom}
 use Rattle.ghc_core.specs.Laws.{IsOrderly}
-use Rattle.ghc_core.specs.Events.{stepped}
 use Rattle.ghc_core.specs.Anyway.{TakesNothingAnyway}
-use Rattle.ghc_core.proofs.Stepping.{stream_fails_once, bound_or_open}
-use Rattle.ghc_core.specs.Streams.{IsStreamAt, StreamFails, no_stream, tail_bound, full, IsStreamStep, ActsOnStream, takes}
+use Rattle.ghc_core.proofs.Refusing.{stream_fails_once, tail_bound}
+use Rattle.ghc_core.proofs.Stepping.{bound_or_open, stream_full}
+use Rattle.ghc_core.specs.Streams.{IsStreamAt, StreamFails, IsStreamStep}
 
 -- what is known of what was found, where it was found, and where not
 pub if_some : {T : Type 0} (P : T → Type 0) (o : Option T) (t : T) → o ≡ Some t → IfSome o P → P t
@@ -31,34 +31,26 @@ if_none P o same p = subst (λ q. IfNone q P) same p
 
 -- Where no stream is told, there is none.
 pub said_no_stream : {w : World} {k : ℕ} {f : Fault} → StreamFails w k f → f ≡ Fault.NoStream → (g : GoalName) (s : VarName) → ¬ IsStreamAt w k g s
-said_no_stream (no_stream n) e = n
-said_no_stream (tail_bound g s t at l v) e = cc
-said_no_stream (full g s x at l f) e = cc
+said_no_stream p e = elim p.first [
+  | inl q ↦ q.1
+  | inr (_, inl (f, _)) ↦ let clash : Fault.TailBound ≡ Fault.NoStream = sym f ∙ e in cc
+  | inr (_, inr (_, (f, _))) ↦ let clash : Fault.Full ≡ Fault.NoStream = sym f ∙ e in cc
+]
 
 -- The tail ends in a value.
 pub is_bound : (w : World) (k : ℕ) (g : GoalName) (s : VarName) (m : StoreValue) → m ≡ w.state.store → IsStreamAt w k g s → IsTailBound s (value_at m) → StreamFails w k Fault.TailBound
 is_bound w k g s m same at b = let t = subst (λ x. IsTailBound s (value_at x)) same b in tail_bound g s t.0 at t.1 t.2
 
--- The tail is open, and the world full.
-pub is_full : (w : World) (k : ℕ) (g : GoalName) (s x : VarName) (e : Effect) (m : StoreValue) → m ≡ w.state.store → IsStreamAt w k g s → ReadsTail s (value_at m) x e → IsFull w → StreamFails w k Fault.Full
-is_full w k g s x e m same at b f =
-    let t = subst (λ y. ReadsTail s (value_at y) x e) same b in
-    full g s x at (t.0 ++ x ∷ [], comes_leads t.1 t.2) f
-
 -- The step of an act on a stream.
 pub stream_step : (w : World) (k : ℕ) (act : Act) (g : GoalName) (s : VarName) (e : Effect) (r : Record) → IsStreamAt w k g s
     → HasEffect w.opening.program (stream k s) act w.next (value_at w.state.store) e → HasRoom w
     → r ≡ record { number = w.next; goal = Some g; consumed = Some (stream k s); act = act; effect = e } → IsStreamStep w k act r
-stream_step w k act g s e r at has room same = subst (IsStreamStep w k act) (sym same) (g, s, refl, refl, refl, (refl, ((stream k s, refl, at), has), room))
-
--- The step was taken, which does the act on the stream.
-pub acted : (w v : World) (k : ℕ) (act : Act) (r : Record) (n : ℕ) → IsStreamStep w k act r → n ≡ w.next → v ≡ with_step r w → ActsOnStream ⊥ w k act (stepped n) v
-acted w v k act r n step number same = subst (λ m. ActsOnStream ⊥ w k act (stepped m) v) (sym number) (subst (ActsOnStream ⊥ w k act (stepped w.next)) (sym same) (takes r step))
+stream_step w k act g s e r at has room same = subst (IsStreamStep w k act) (sym same) ((g, s, refl, refl, refl), (refl, ((stream k s, refl, at), has), room))
 
 module _ (w : World) (ordered : IsOrderly w) (k : ℕ) where
   -- a stream takes nothing for one reason
   pub one_refusal : {f g : Fault} → StreamFails w k f → StreamFails w k g → f ≡ g
-  one_refusal p q = stream_fails_once effect_once w ordered.acyclic ordered.streams_once k closed p q
+  one_refusal p q = stream_fails_once p q
 
   one_anyway : {f g : Fault} → StreamFails w k f → TakesNothingAnyway w k g → f ≡ g
   one_anyway p (inl (e, q)) = one_refusal p q ∙ sym e
@@ -68,12 +60,21 @@ module _ (w : World) (ordered : IsOrderly w) (k : ℕ) where
   pub refused_anyway : {A : Type 0} (f g : Fault) → StreamFails w k f → TakesNothingAnyway w k g → ◌≡◌ {A = Result A Fault} (Err f) (Err g)
   refused_anyway f g p q = ap Err (one_anyway p q)
 
-  no_refusal : (g : GoalName) (s x : VarName) {f : Fault} → IsStreamAt w k g s → EndsIn (value_at w.state.store) s (variable x) → f ≢ Fault.Full → ¬ StreamFails w k f
-  no_refusal g s x at ends not (no_stream n) = n g s at
-  no_refusal g s x at ends not (tail_bound h u e here bound v) = bound_or_open effect_once w ordered.acyclic ordered.streams_once k closed h g u s x e here bound v at ends
-  no_refusal g s x at ends not (full h u y here reached more) = not refl
+  -- the tail is open, and the world full
+  pub is_full : (g : GoalName) (s x : VarName) (e : Effect) (m : StoreValue) → m ≡ w.state.store → IsStreamAt w k g s → ReadsTail s (value_at m) x e → IsFull w → StreamFails w k Fault.Full
+  is_full g s x e m same at b f =
+      let t = subst (λ y. ReadsTail s (value_at y) x e) same b in
+      stream_full effect_once w ordered.acyclic ordered.streams_once k closed g s x at (t.0 ++ x ∷ [], comes_leads t.1 t.2) f
 
-  -- a stream whose tail ends in an unbound variable takes what it is given, where there is room
+  -- a stream whose tail ends in an unbound variable is refused nothing but for want of room
+  no_refusal : (g : GoalName) (s x : VarName) {f : Fault} → IsStreamAt w k g s → EndsIn (value_at w.state.store) s (variable x) → f ≢ Fault.Full → ¬ StreamFails w k f
+  no_refusal g s x at ends not p = elim p.first [
+    | inl (_, none) ↦ none g s at
+    | inr (_, inl (_, (h, u, t, here, bound, v))) ↦ bound_or_open effect_once w ordered.acyclic ordered.streams_once k closed h g u s x t here bound v at ends
+    | inr (_, inr (_, (e, _))) ↦ not e
+  ]
+
+  -- so it takes what it is given, where there is room
   pub takes_something : (g : GoalName) (s x : VarName) {f : Fault} → IsStreamAt w k g s → EndsIn (value_at w.state.store) s (variable x) → ¬ TakesNothingAnyway w k f
   takes_something g s x at ends (inl (e, q)) = no_refusal g s x at ends (λ same. let clash : Fault.NoStream ≡ Fault.Full = same in cc) q
   takes_something g s x at ends (inr (e, q)) = no_refusal g s x at ends (λ same. let clash : Fault.TailBound ≡ Fault.Full = same in cc) q

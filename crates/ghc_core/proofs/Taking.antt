@@ -1,5 +1,5 @@
--- The next step leaves a world that a core can be in, and binds what no kept step bound.
-use Rattle.std.proofs.Common.{◌≡◌, List, true, refl, sym, subst, arith, Option, Some, None}
+-- Events can do each change, so they lead where changes lead; and the next step binds what no kept step bound.
+use Rattle.std.proofs.Common.{◌≡◌, ◌⊎◌, List, [], ◌∷◌, true, inl, inr, refl, sym, ap, subst, arith, Option, Some, None}
 use Rattle.std.specs.Prelude.{is_some}
 use Rattle.std.specs.FinMap as finite
 use Rattle.std.specs.Cmp.{nat_cmp_total}
@@ -21,38 +21,29 @@ use Rattle.ghc_depend.specs.Depend.{Binds}
 use Rattle.ghc_depend.proofs.Finding.{not_both}
 use Rattle.ghc_depend.proofs.Placing.{results_of}
 use Rattle.ghc_depend.proofs.Results.{taken}
-use Rattle.ghc_core.specs.World.{Hands, IsHand, with_hand, emptied, World, IsNextStep, with_step}
-use Rattle.ghc_core.specs.Events.{input, finish, propose, commit, command, held, stepped}
+use Rattle.ghc_core.specs.World.{Hands, no_hands, IsHand, with_hand, emptied, World, IsNextStep, with_step}
+use Rattle.ghc_core.specs.declared.change.Change.{Change}
+use Rattle.ghc_core.specs.declared.change.Change.TheVariants.{Adds as adds, PutsBack as puts_back, TakesAway as takes_away, TakesAll as takes_all, Reorders as reorders}
+use Rattle.ghc_core.specs.Change.{CanChange, Changes}
+use Rattle.ghc_core.specs.Events.{Command, input, finish, undo, roll, redo, arrange, propose, commit, command, held, stepped}
 use Rattle.ghc_core.specs.Proposes.{IsReduction, IsCommitOf}
-use Rattle.ghc_core.specs.Proposes as asking
-use Rattle.ghc_core.specs.Streams as on_stream
-use Rattle.ghc_core.specs.Answers.{to_propose, to_commit, to_command}
-use Rattle.ghc_core.specs.Legal.{IsReachable, by_event, with_other_hands}
-use Rattle.ghc_core.specs.Core.{IsStanding, choice_of}
+use Rattle.ghc_core.specs.Answers.{Asks, to_give, to_close, to_undo, to_roll, to_redo, to_arrange, told_of, by_hand, by_command, Says, Answers, makes, says}
+use Rattle.ghc_core.specs.Reached.{Reaches, from_opening, by_change}
+use Rattle.ghc_core.specs.Legal.{IsProper, IsReachable, at_opening, by_event, with_other_hands}
+use Rattle.ghc_core.specs.Laws as laws
+use Rattle.ghc_core.specs.Core.{choice_of}
+use Rattle.ghc_core.proofs.Moving.{reachable_reached}
 use Rattle.ghc_core.proofs.Committing.{still_proposed}
 
--- one hand, which holds nothing
-abbrev one_hand : Hands
-one_hand = record { count = 1; held = finite.empty }
+-- The step is that of a commit, or a proper command asks for it.
+abbrev IsAsked : World → Record → Type 0
+IsAsked w r = ((p : Proposal) × IsCommitOf w p r) ⊎ ((c : Command) × Asks c (adds r) × IsProper (command c))
 
--- A commit leaves a world that stands: a hand proposes the step and commits it.
-stands : (w : World) (p : Proposal) (r : Record) → IsStanding w → IsCommitOf w p r → IsStanding (with_step r w)
-stands w p r s c =
-    let h = c.0 in
-    let asked : Proposal = record { goal = p.goal; consumed = h.0; act = p.act; effect = p.effect } in
-    let full : Hands = with_hand 1 asked one_hand in
-    let in_hand : finite.get full.held 1 ≡ Some asked = finite.get-insert nat_cmp_total one_hand.held 1 asked 1 in
-    let is_hand : IsHand one_hand 1 = (omega arith, omega arith) in
-    let proposed : IsReachable w full = by_event (propose 1 p.goal (choice_of p.act)) (held 1) (with_other_hands s refl) tt (to_propose (asking.Proposes.holds h.0 p.act p.effect is_hand h.2 (still_proposed w p h))) in
-    let committed : IsReachable (with_step r w) (emptied 1 full) = by_event (commit 1) (stepped w.next) proposed tt (to_commit (asking.Commits.takes asked r is_hand in_hand c)) in
-    with_other_hands committed refl
+module _ (w : World) (r : Record) (next : IsNextStep w r) (g : GoalName) (named : r.goal ≡ Some g) where
+  by_commit : (b : Goal) (e : Effect) → IsReduction r.act → finite.get w.state.goals g ≡ Some b → HasEffect w.opening.program b r.act no_step (value_at w.state.store) e → IsAsked w r
+  by_commit b e reduces there has = inl (record { goal = g; consumed = b; act = r.act; effect = e }, ((b, reduces, there, has), next, named, refl))
 
--- The next step of a world that stands leaves one that stands: it is that of a commit, of an input or of a close.
-module _ (w : World) (s : IsStanding w) (r : Record) (next : IsNextStep w r) (g : GoalName) (named : r.goal ≡ Some g) where
-  by_commit : (b : Goal) (e : Effect) → IsReduction r.act → finite.get w.state.goals g ≡ Some b → HasEffect w.opening.program b r.act no_step (value_at w.state.store) e → IsStanding (with_step r w)
-  by_commit b e reduces there has = stands w (record { goal = g; consumed = b; act = r.act; effect = e }) r s ((b, reduces, there, has), next, named, refl)
-
-  by_act : (b : Goal) (a : Act) → r.act ≡ a → r.consumed ≡ Some b → finite.get w.state.goals g ≡ Some b → HasEffect w.opening.program b a r.number (value_at w.state.store) r.effect → IsStanding (with_step r w)
+  by_act : (b : Goal) (a : Act) → r.act ≡ a → r.consumed ≡ Some b → finite.get w.state.goals g ≡ Some b → HasEffect w.opening.program b a r.number (value_at w.state.store) r.effect → IsAsked w r
   by_act (call f ts) (by_clause k) act consumed there has =
       let e = effect_each w.opening.program (call f ts) (by_clause k) r.number no_step (value_at w.state.store) r.effect has in
       by_commit (call f ts) e.0 (subst IsReduction (sym act) tt) there (subst (λ a. HasEffect w.opening.program (call f ts) a no_step (value_at w.state.store) e.0) (sym act) e.1)
@@ -60,14 +51,62 @@ module _ (w : World) (s : IsStanding w) (r : Record) (next : IsNextStep w r) (g 
       by_commit (unify l t) r.effect (subst IsReduction (sym act) tt) there (subst (λ a. HasEffect w.opening.program (unify l t) a no_step (value_at w.state.store) r.effect) (sym act) has)
   by_act (assign t x) assigned act consumed there has =
       by_commit (assign t x) r.effect (subst IsReduction (sym act) tt) there (subst (λ a. HasEffect w.opening.program (assign t x) a no_step (value_at w.state.store) r.effect) (sym act) has)
-  by_act (stream k x) (given u) act consumed there has = by_event (command (input k u)) (stepped w.next) s has.1 (to_command (on_stream.ActsOnStream.takes r (g, x, named, consumed, act, next)))
-  by_act (stream k x) closed act consumed there has = by_event (command (finish k)) (stepped w.next) s tt (to_command (on_stream.ActsOnStream.takes r (g, x, named, consumed, act, next)))
+  by_act (stream k x) (given u) act consumed there has = inr (input k u, to_give (g, x, named, consumed, act), has.1)
+  by_act (stream k x) closed act consumed there has = inr (finish k, to_close (g, x, named, consumed, act), tt)
   by_act b a act consumed there has = absurd has
 
-pub next_stands : (w : World) (r : Record) → IsStanding w → IsNextStep w r → IsStanding (with_step r w)
-next_stands w r s next =
+-- Each step that is possible as the next one is asked for.
+step_asked : (w : World) (r : Record) → IsNextStep w r → IsAsked w r
+step_asked w r next =
     let t = taken w.opening.program w.state r next.1 in
-    by_act w s r next t.name t.named t.goal r.act refl t.consumed t.there t.effect
+    by_act w r next t.name t.named t.goal r.act refl t.consumed t.there t.effect
+
+-- The change takes the step of a commit, or a proper command asks for it.
+abbrev pub IsDone : World → Change → World → Type 0
+IsDone w change v = ((p : Proposal) × (r : Record) × IsCommitOf w p r × (v ≡ with_step r w)) ⊎ ((c : Command) × Asks c change × IsProper (command c))
+
+-- Each change is one that events can do.
+pub change_done : (w v : World) (change : Change) → CanChange w change → Changes w change v → IsDone w change v
+change_done w v (adds r) can e = elim (step_asked w r can) [ inl q ↦ inl (q.0, r, q.1, e) | inr q ↦ inr q ]
+change_done w v (puts_back r) can e = inr (redo r.number, to_redo refl, tt)
+change_done w v (takes_away r) can e = inr (undo r.number, to_undo refl, tt)
+change_done w v (takes_all []) can e = absurd can
+change_done w v (takes_all (r ∷ rs)) can e = inr (roll r.number, to_roll refl, tt)
+change_done w v (reorders a) can e = inr (arrange a.order, to_arrange refl, tt)
+
+-- one hand, which holds nothing
+abbrev one_hand : Hands
+one_hand = record { count = 1; held = finite.empty }
+
+-- one hand, which holds the proposal
+abbrev pub holding : Proposal → Hands
+holding p = with_hand 1 p one_hand
+
+-- A hand that holds the proposal commits it.
+pub hand_commits : {Starved : Type 0} (w v : World) (p : Proposal) (r : Record) → IsCommitOf w p r → v ≡ with_step r w → Answers Starved w (holding p) (commit 1) (stepped w.next) v (emptied 1 (holding p))
+hand_commits {Starved} w v p r c e =
+    subst (λ u. Answers Starved w (holding p) (commit 1) (stepped w.next) u (emptied 1 (holding p))) (sym e)
+    (makes {change = adds r} (omega arith, omega arith) (by_hand (finite.get-insert nat_cmp_total one_hand.held 1 p 1) c) c.1 refl (ap stepped (sym c.1.0)))
+
+-- A commit leaves a reachable world: a hand proposes the step and commits it.
+commit_reachable : (w v : World) (p : Proposal) (r : Record) → IsReachable w no_hands → IsCommitOf w p r → v ≡ with_step r w → IsReachable v no_hands
+commit_reachable w v p r s c e =
+    let h = c.0 in
+    let asked : Proposal = record { goal = p.goal; consumed = h.0; act = p.act; effect = p.effect } in
+    let is_hand : IsHand one_hand 1 = (omega arith, omega arith) in
+    let proposed : IsReachable w (holding asked) = by_event (propose 1 p.goal (choice_of p.act)) (held 1) (with_other_hands s refl) tt (says is_hand (Says.holds asked (record { named = refl; there = h.2; proposed = still_proposed w p h }))) in
+    with_other_hands (by_event (commit 1) (stepped w.next) proposed tt (hand_commits w v asked r c e)) refl
+
+-- What changes reach, events reach.
+pub reached_reachable : {w : World} → Reaches w → IsReachable w no_hands
+reached_reachable (from_opening sound opens) = at_opening sound opens refl
+reached_reachable (by_change {w = w} {v = v} change r can changes) = elim (change_done w v change can changes) [
+  | inl (p, q, c, e) ↦ commit_reachable w v p q (reached_reachable r) c e
+  | inr (c, asks, proper) ↦ by_event (command c) (told_of change) (reached_reachable r) proper (makes tt (by_command asks) can changes refl)
+]
+
+pub same_reached : laws.EventsLeadWhereChangesLead
+same_reached = ((λ w hands r. reachable_reached r), λ w r. reached_reachable r)
 
 there : (o : Option Tree) → is_some o ≡ true → (t : Tree) × (o ≡ Some t)
 there (Some t) e = (t, refl)

@@ -1,58 +1,39 @@
 -- Just what tells of a change adds an entry, and then no memory was refused.
-use Rattle.std.proofs.Common.{ℕ, refl}
-use Rattle.ghc_records.specs.Journal.{took, undid, rolled, redid, reordered, step_of}
+use Rattle.std.proofs.Common.{◌≡◌, true, false, [], ◌∷◌, ◌++◌, refl, sym, ap, ◌∙◌, subst}
+use Rattle.std.specs.Prelude.{MatchBool}
+use Rattle.ghc_records.specs.Journal.{Entry}
+use Rattle.ghc_core.specs.declared.change.Change.{Change}
+use Rattle.ghc_core.specs.declared.change.Change.TheVariants.{Adds as adds, PutsBack as puts_back, TakesAway as takes_away, TakesAll as takes_all, Reorders as reorders}
 use Rattle.ghc_core.specs.World.{Hands, World}
-use Rattle.ghc_core.specs.Events.{Command, input, finish, undo, roll, redo, arrange, propose, commit, note, command, Reply}
-use Rattle.ghc_core.specs.Proposes as asking
-use Rattle.ghc_core.specs.Streams as streams
-use Rattle.ghc_core.specs.Reverses as by
-use Rattle.ghc_core.specs.Answers.{Obeys, to_propose, to_commit, to_note, to_command}
-use Rattle.ghc_core.specs.Playing.{AddsWhatItTells, AnswersAddWhatTheyTell}
-use Rattle.ghc_core.proofs.Replying.{Unknown}
+use Rattle.ghc_core.specs.Events.{Event, Reply}
+use Rattle.ghc_core.specs.Answers.{told_of, Says, Answers, no_hand, makes, says, fails, no_memory}
+use Rattle.ghc_core.specs.Playing.{tells_change, AnswersAddWhatTheyTell}
+use Rattle.ghc_core.proofs.Moving.{change_enters}
 
-module _ (w : World) (hands : Hands) where
-  acted_adds : (c : Command) (k : ℕ) (act : _) (reply : Reply) (v : World) → ((said : Reply) (u : World) → streams.ActsOnStream ⊥ w k act said u → Obeys ⊥ w c said u)
-      → streams.ActsOnStream Unknown w k act reply v → AddsWhatItTells w hands (command c) reply v hands
-  acted_adds c k act reply v to (streams.ActsOnStream.takes r t) = (refl, (took (step_of r), to_command (to _ _ (streams.ActsOnStream.takes r t)), refl))
-  acted_adds c k act reply v to (streams.ActsOnStream.fails f) = (refl, refl)
-  acted_adds c k act reply v to (streams.ActsOnStream.no_memory f) = (refl, refl)
+-- what is told of a change tells of one
+told_changes : (change : Change) → tells_change (told_of change) ≡ true
+told_changes (adds r) = refl
+told_changes (puts_back r) = refl
+told_changes (takes_away r) = refl
+told_changes (takes_all gone) = refl
+told_changes (reorders a) = refl
 
-  obeyed_adds : (c : Command) (reply : Reply) (v : World) → Obeys Unknown w c reply v → AddsWhatItTells w hands (command c) reply v hands
-  obeyed_adds (input k t) reply v p = acted_adds (input k t) k _ reply v (λ said u a. a) p
-  obeyed_adds (finish k) reply v p = acted_adds (finish k) k _ reply v (λ said u a. a) p
-  obeyed_adds (undo n) reply v (by.Undoes.takes_away r left t k none out run) = (refl, (undid n, to_command (by.Undoes.takes_away r left t k none out run), refl))
-  obeyed_adds (undo n) reply v (by.Undoes.fails f) = (refl, refl)
-  obeyed_adds (undo n) reply v (by.Undoes.no_memory f) = (refl, refl)
-  obeyed_adds (roll n) reply v (by.Rolls.takes_away r gone left t k split run) = (refl, (rolled n, to_command (by.Rolls.takes_away r gone left t k split run), refl))
-  obeyed_adds (roll n) reply v (by.Rolls.not_kept f) = (refl, refl)
-  obeyed_adds (roll n) reply v (by.Rolls.no_memory f) = (refl, refl)
-  obeyed_adds (redo n) reply v (by.Redoes.puts_back r e f l) = (refl, (redid n, to_command (by.Redoes.puts_back r e f l), refl))
-  obeyed_adds (redo n) reply v (by.Redoes.fails f) = (refl, refl)
-  obeyed_adds (redo n) reply v (by.Redoes.no_memory f) = (refl, refl)
-  obeyed_adds (arrange order) reply v (by.Arranges.puts new l o) = (refl, (reordered order, to_command (by.Arranges.puts new l o), refl))
-  obeyed_adds (arrange order) reply v (by.Arranges.fails f) = (refl, refl)
-  obeyed_adds (arrange order) reply v (by.Arranges.no_memory f) = (refl, refl)
-
-  committed_adds : (h : ℕ) (reply : Reply) (v : World) (left : Hands) → asking.Commits Unknown w hands h reply v left → AddsWhatItTells w hands (commit h) reply v left
-  committed_adds h reply v left (asking.Commits.takes p r i e c) = (refl, (took (step_of r), to_commit (asking.Commits.takes p r i e c), refl))
-  committed_adds h reply v left (asking.Commits.no_hand i) = (refl, refl)
-  committed_adds h reply v left (asking.Commits.empty i e) = (refl, refl)
-  committed_adds h reply v left (asking.Commits.fails p i e f) = (refl, refl)
-  committed_adds h reply v left (asking.Commits.no_memory i) = (refl, refl)
-
-  noted_adds : (g : _) (reply : Reply) → asking.Notes Unknown w g reply → AddsWhatItTells w hands (note g) reply w hands
-  noted_adds g reply (asking.Notes.tells b there plain has) = (refl, refl)
-  noted_adds g reply (asking.Notes.no_goal n) = (refl, refl)
-  noted_adds g reply (asking.Notes.no_memory n) = (refl, refl)
-
-  proposed_adds : (h : ℕ) (g : _) (choice : _) (reply : Reply) (left : Hands) → asking.Proposes Unknown w hands h g choice reply left → AddsWhatItTells w hands (propose h g choice) reply w left
-  proposed_adds h g choice reply left (asking.Proposes.holds b act e i there a) = (refl, refl)
-  proposed_adds h g choice reply left (asking.Proposes.no_hand i) = (refl, refl)
-  proposed_adds h g choice reply left (asking.Proposes.fails i a) = (refl, refl)
-  proposed_adds h g choice reply left (asking.Proposes.no_memory n) = (refl, refl)
+-- what is said of no change tells of none
+pub said_changes_nothing : {w : World} {hands left : Hands} {e : Event} {reply : Reply} → Says w hands e reply left → tells_change reply ≡ false
+said_changes_nothing (Says.holds p is) = refl
+said_changes_nothing (Says.tells status) = refl
 
 pub answers_add : AnswersAddWhatTheyTell
-answers_add w v hands left e reply (to_propose p) = proposed_adds w hands _ _ _ reply left p
-answers_add w v hands left e reply (to_commit p) = committed_adds w hands _ reply v left p
-answers_add w v hands left e reply (to_note p) = noted_adds w hands _ reply p
-answers_add w v hands left e reply (to_command p) = obeyed_adds w hands _ reply v p
+answers_add w v hands left e reply (no_hand missing) = (refl, refl)
+answers_add w v hands left e reply (makes {change = change} has asks can changes told) =
+    let g = change_enters w v change can changes in (
+      g.opening,
+      subst (λ b. MatchBool b ((entry : Entry) × Answers ⊥ w hands e reply v left × (v.journal ≡ w.journal ++ entry ∷ [])) (v.journal ≡ w.journal))
+          (sym (ap tells_change told ∙ told_changes change)) (g.entry, makes has asks can changes told, g.journal),
+    )
+answers_add w v hands left e reply (says has said) = (
+  refl,
+  subst (λ b. MatchBool b ((entry : Entry) × Answers ⊥ w hands e reply w left × (w.journal ≡ w.journal ++ entry ∷ [])) (w.journal ≡ w.journal)) (sym (said_changes_nothing said)) refl,
+)
+answers_add w v hands left e reply (fails has f) = (refl, refl)
+answers_add w v hands left e reply (no_memory starved) = (refl, refl)

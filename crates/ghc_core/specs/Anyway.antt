@@ -11,7 +11,7 @@ use Rattle.ghc_core.specs.World.{Proposal, Hands, IsHand, World}
 use Rattle.ghc_core.specs.Events.{Command, input, finish, undo, roll, redo, arrange, Event, propose, commit, note, command}
 use Rattle.ghc_core.specs.Proposes.{AttemptAnswers, IsNoCandidate}
 use Rattle.ghc_core.specs.Streams.{StreamFails}
-use Rattle.ghc_core.specs.Reverses.{UndoFails, RedoFails}
+use Rattle.ghc_core.specs.Refusals.{UndoFails, RedoFails}
 
 -- A hand is not given a proposal: there is no such hand, no such goal, or no such clause of the goal's predicate.
 pub data IsNotProposedAnyway (w : World) (hands : Hands) (h : ℕ) (g : GoalName) (choice : Option ℕ) : Fault → Type 0 where

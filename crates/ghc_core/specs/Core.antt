@@ -6,23 +6,14 @@ use Rattle.ghc_fire.specs.declared.act.Act.TheVariants.{ByClause as by_clause, U
 use Rattle.ghc_fire.specs.Proposal.{Proposal, under}
 use Rattle.ghc_fire.specs.declared.meter.Meter.{Meter}
 use Rattle.ghc_records.specs.Record.{Record}
-use Rattle.ghc_records.specs.State.{StateRoom}
-use Rattle.ghc_records.specs.UseIndex.{RecordsRoom}
 use Rattle.ghc_hooks.specs.Face.{Face, GoalNames, IsFace}
 use Rattle.ghc_hooks.specs.Notes.{NotesByGoal, AreExact}
 use Rattle.ghc_hooks.specs.NotedFace.{IsNotedFace}
-use Rattle.ghc_core.specs.World.{no_hands, World, with_step}
+use Rattle.ghc_core.specs.World.{World, with_step}
+use Rattle.ghc_core.specs.Room.{Room}
 use Rattle.ghc_core.specs.Proposes.{IsCommitOf}
-use Rattle.ghc_core.specs.Legal.{IsReachable}
+use Rattle.ghc_core.specs.Reached.{Reaches}
 use Rattle.ghc_core.specs.StreamGoals.{TellStreams}
-
--- How much more the tables of a core take without memory.
-pub record Room : Type 0 where
-  pub state : StateRoom
-  pub kept : RecordsRoom
-  pub shelf : ℕ
-  pub journal : ℕ
-  pub tries : ℕ
 
 -- A core is the world that it is in, the noted outcomes of its goals, the goals that are untried, the counts of what it fired and tried, and its room, which no other clause speaks of.
 pub record Core : Type 0 where
@@ -38,9 +29,9 @@ pub record Stays (old new : Core) : Type 0 where
   pub notes : new.notes ≡ old.notes
   pub untried : new.untried ≡ old.untried
 
--- The world is one that a core can be in: events reach it.
+-- The world is one that a core can be in: changes lead to it.
 abbrev pub IsStanding : World → Type 0
-IsStanding w = IsReachable w no_hands
+IsStanding = Reaches
 
 -- In the world, each noted outcome is the one from scratch, and the untried goals are those without a note.
 abbrev pub AreExactIn : World → NotesByGoal → GoalNames → Type 0

@@ -1,6 +1,6 @@
--- Two worlds, cores or arrangements with one code are one.
+-- Two worlds or cores with one code are one.
 use Rattle.std.specs.Prelude.{ℕ, List, refl}
-use Rattle.std.specs.Coded.{Coded, code_by, coded×, coded_list, coded_ℕ}
+use Rattle.std.specs.Coded.{Coded, code_by, coded×, coded_ℕ}
 use Rattle.ghc_fire.specs.declared.meter.Meter.{Meter}
 use Rattle.ghc_records.specs.Record.{State, Record, Shelf}
 use Rattle.ghc_records.specs.Journal.{Opening, Entry}
@@ -11,8 +11,8 @@ use Rattle.ghc_hooks.specs.Notes.{NotesByGoal}
 use Rattle.ghc_hooks.specs.TriesCode.{goal_names_code, notes_code}
 use Rattle.ghc_records.specs.RecordCode.{state_room_code, state_code, records_code, records_room_code, shelf_code, journal_code, opening_code}
 use Rattle.ghc_core.specs.World.{World}
-use Rattle.ghc_core.specs.Core.{Core, Room}
-use Rattle.ghc_core.specs.Arrangement.{Arrangement}
+use Rattle.ghc_core.specs.Core.{Core}
+use Rattle.ghc_core.specs.Room.{Room}
 
 abbrev pub world_code : Coded World
 world_code =
@@ -36,6 +36,3 @@ core_code =
     code_by (World × (NotesByGoal × (GoalNames × (Meter × Room)))) (coded× world_code (coded× notes_code (coded× goal_names_code (coded× meter_code room_code))))
     (λ c. (c.world, (c.notes, (c.untried, (c.meter, c.room)))))
     (λ p. record { world = p.0; notes = p.1.0; untried = p.1.1.0; meter = p.1.1.1.0; room = p.1.1.1.1 }) (λ _. refl)
-
-abbrev pub arrangement_code : Coded Arrangement
-arrangement_code = code_by (List Record × List ℕ) (coded× records_code (coded_list coded_ℕ)) (λ a. (a.records, a.order)) (λ p. record { records = p.0; order = p.1 }) (λ _. refl)

@@ -1,5 +1,5 @@
 -- Laws of worlds and events.
-use Rattle.std.specs.Prelude.{◌≡◌, ◌≢◌, ◌↔◌, ℕ, List, Option, Some, Result}
+use Rattle.std.specs.Prelude.{◌≡◌, ◌≢◌, ◌↔◌, ℕ, Option, Some, Result}
 use Rattle.std.specs.FinMap as finite
 use Rattle.ghc_term.specs.declared.var_name.VarName.{VarName}
 use Rattle.ghc_term.specs.declared.goal_name.GoalName.{GoalName}
@@ -7,8 +7,6 @@ use Rattle.ghc_term.specs.declared.fault.Fault.{Fault}
 use Rattle.ghc_term.specs.Answered.{Answered, IsExact}
 use Rattle.ghc_term.specs.Bindings.{IsAcyclic}
 use Rattle.ghc_term.specs.Store.{value_at}
-use Rattle.ghc_term.specs.Tree.{Tree}
-use Rattle.ghc_term.specs.Tree.{IsClosed}
 use Rattle.ghc_fire.specs.declared.act.Act.{Act}
 use Rattle.ghc_fire.specs.Effect.{no_step}
 use Rattle.ghc_records.specs.Orders.{AreDistinct}
@@ -16,13 +14,13 @@ use Rattle.ghc_records.specs.Record.{Record, numbers}
 use Rattle.ghc_records.specs.Replay.{IsVariableOf}
 use Rattle.ghc_records.specs.Laws.{IsWellMade}
 use Rattle.ghc_depend.specs.Kept.{Keeps}
-use Rattle.ghc_core.specs.World.{Proposal, Hands, World}
-use Rattle.ghc_core.specs.Streams.{IsStreamAt, StreamFails, IsStreamStep, Inputs, Finishes}
+use Rattle.ghc_core.specs.World.{no_hands, Proposal, Hands, World}
+use Rattle.ghc_core.specs.Streams.{IsStreamAt, StreamFails, IsStreamStep}
 use Rattle.ghc_core.specs.Events.{Event, Reply}
-use Rattle.ghc_core.specs.Proposes.{Proposes, StillHolds, HoldsAsNext, IsCommitOf, CommitFails, IsStepOf, StepFails, Commits, Notes}
-use Rattle.ghc_core.specs.Reverses.{Redoes, Arranges}
+use Rattle.ghc_core.specs.Proposes.{StillHolds, HoldsAsNext, IsCommitOf, CommitFails, IsStepOf, StepFails}
 use Rattle.ghc_core.specs.Answers.{Answers}
-use Rattle.ghc_core.specs.Legal.{AreNamesOf, IsReachable, IsProper}
+use Rattle.ghc_core.specs.Legal.{IsReachable, IsProper}
+use Rattle.ghc_core.specs.Reached.{AreNamesOf, Reaches}
 
 -- The world is orderly: no number is kept twice, the store is acyclic, and each stream has one goal at most.
 pub record IsOrderly (w : World) : Type 0 where
@@ -62,28 +60,6 @@ EventsHaveOneAnswer =
     (w u v : World) (hands left other : Hands) (e : Event) (reply said : Reply) → IsReachable w hands
     → Answers ⊥ w hands e reply u left → Answers ⊥ w hands e said v other → (reply ≡ said) × (u ≡ v) × (left ≡ other)
 
--- In a reachable world an input of a closed term has an answer other than want of memory.
-abbrev pub InputsHaveAnAnswer : Type 0
-InputsHaveAnAnswer = (w : World) (hands : Hands) (k : ℕ) (t : Tree) → IsReachable w hands → IsClosed t → (reply : Reply) × (v : World) × Inputs ⊥ w k t reply v
-
--- In a reachable world a close has an answer other than want of memory.
-abbrev pub ClosesHaveAnAnswer : Type 0
-ClosesHaveAnAnswer = (w : World) (hands : Hands) (k : ℕ) → IsReachable w hands → (reply : Reply) × (v : World) × Finishes ⊥ w k reply v
-
--- In a reachable world an arrange has an answer other than want of memory.
-abbrev pub ArrangesHaveAnAnswer : Type 0
-ArrangesHaveAnAnswer = (w : World) (hands : Hands) (order : List ℕ) → IsReachable w hands → (reply : Reply) × (v : World) × Arranges ⊥ w order reply v
-
--- In a reachable world a proposal has an answer other than want of memory.
-abbrev pub ProposesHaveAnAnswer : Type 0
-ProposesHaveAnAnswer =
-    (w : World) (hands : Hands) (h : ℕ) (g : GoalName) (choice : Option ℕ) → IsReachable w hands
-    → (reply : Reply) × (left : Hands) × Proposes ⊥ w hands h g choice reply left
-
--- In a reachable world a commit has an answer other than want of memory.
-abbrev pub CommitsHaveAnAnswer : Type 0
-CommitsHaveAnAnswer = (w : World) (hands : Hands) (h : ℕ) → IsReachable w hands → (reply : Reply) × (v : World) × (left : Hands) × Commits ⊥ w hands h reply v left
-
 -- In a reachable world, what is answered for a commit of a proposal is exact: its record as the next step, or why it is refused, unless memory was refused.
 abbrev pub CommitIsExact : Type 0
 CommitIsExact =
@@ -107,16 +83,12 @@ abbrev pub StillHoldsAsNext : Type 0
 StillHoldsAsNext =
     (w : World) (hands : Hands) (h : ℕ) (p : Proposal) → IsReachable w hands → finite.get hands.held h ≡ Some p → StillHolds w p ↔ HoldsAsNext w p
 
--- In a reachable world a note has an answer other than want of memory.
-abbrev pub NotesHaveAnAnswer : Type 0
-NotesHaveAnAnswer = (w : World) (hands : Hands) (g : GoalName) → IsReachable w hands → (reply : Reply) × Notes ⊥ w g reply
-
--- In a reachable world a redo has an answer other than want of memory.
-abbrev pub RedoesHaveAnAnswer : Type 0
-RedoesHaveAnAnswer = (w : World) (hands : Hands) (n : ℕ) → IsReachable w hands → (reply : Reply) × (v : World) × Redoes ⊥ w n reply v
-
 -- In a reachable world each proper event has an answer other than want of memory.
 abbrev pub EventsHaveAnAnswer : Type 0
 EventsHaveAnAnswer =
     (w : World) (hands : Hands) (e : Event) → IsReachable w hands → IsProper e
     → (reply : Reply) × (v : World) × (left : Hands) × Answers ⊥ w hands e reply v left
+
+-- Events and changes lead to the same worlds: a reachable world is reached by changes, and a world that changes reach is reachable, without hands.
+abbrev pub EventsLeadWhereChangesLead : Type 0
+EventsLeadWhereChangesLead = ((w : World) (hands : Hands) → IsReachable w hands → Reaches w) × ((w : World) → Reaches w → IsReachable w no_hands)

@@ -1,30 +1,18 @@
 -- Legal histories, receipts, fronts and reachable worlds.
-use Rattle.std.specs.Prelude.{◌≡◌, ℕ, ◌+◌, List, [], ◌∷◌, ◌++◌, length}
+use Rattle.std.specs.Prelude.{◌≡◌, ℕ, ◌+◌, List, [], ◌∷◌, ◌++◌}
 use Rattle.std.specs.FinMap as finite
-use Rattle.ghc_flat.specs.Flat.{IsProgram, IsQuery}
 use Rattle.ghc_term.specs.Tree.{IsClosed}
-use Rattle.ghc_term.specs.Variables.{variables_of_goals, firsts}
-use Rattle.ghc_reader.specs.Written.{AreApart}
-use Rattle.ghc_flat.specs.Clause.{Query}
 use Rattle.ghc_records.specs.Record.{numbers}
 use Rattle.ghc_records.specs.Journal.{Opening, Entry, Item, opened, entered, history, opening_journal}
 use Rattle.ghc_core.specs.World.{Hands, World, Opens}
 use Rattle.ghc_core.specs.Events.{input, finish, undo, roll, redo, arrange, Event, propose, commit, note, command, Reply}
 use Rattle.ghc_core.specs.Answers.{Answers}
+use Rattle.ghc_core.specs.Reached.{IsSound}
 
 -- In the world w some event gets this reply, with memory enough, and adds this entry to the journal; that leaves the world v.
 abbrev pub Enters : World → Entry → Reply → World → Type 0
 Enters w entry reply v =
     (hands left : Hands) × (e : Event) × Answers ⊥ w hands e reply v left × (v.journal ≡ w.journal ++ entry ∷ [])
-
--- Each variable of the query has a name, and no two have one name, but for `_`.
-pub record AreNamesOf (query : Query) (names : List (List ℕ)) : Type 0 where
-  pub named : length names ≡ length (firsts [] (variables_of_goals query))
-  pub apart : AreApart names
-
--- The opening's program and query are accepted, and its names are those of the query's variables.
-abbrev pub IsSound : Opening → Type 0
-IsSound o = IsProgram o.program × IsQuery o.program o.query × AreNamesOf o.query o.names
 
 -- Leaves items w: the list is a legal history, from a sound opening on, and leaves the world w.
 pub data Leaves : List Item → World → Type 0 where

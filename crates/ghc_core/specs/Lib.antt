@@ -2,7 +2,7 @@ pub mod World
 pub mod Events
 pub mod Proposes
 pub mod Streams
-pub mod Reverses
+pub mod Refusals
 pub mod Answers
 pub mod Legal
 pub mod Laws
@@ -16,7 +16,10 @@ pub mod CoreCode
 pub mod Carried
 pub mod Settling
 pub mod Arrangement
+pub mod ArrangementCode
+pub mod Room
 pub mod Change
+pub mod Reached
 pub mod Asked
 pub mod StreamGoals
 pub mod CommandCode

@@ -1,4 +1,4 @@
--- Proposing, committing and noting. In all events, Starved says that memory was refused in this call.
+-- What is proposed, committed and noted. In all events, Starved says that memory was refused in this call.
 use Rattle.std.specs.Prelude.{◌≡◌, ◌⊎◌, true, false, ℕ, Option, Some, None}
 use Rattle.std.specs.FinMap as finite
 use Rattle.ghc_term.specs.declared.goal_name.GoalName.{GoalName}
@@ -8,14 +8,15 @@ use Rattle.ghc_flat.specs.Flat.{is_stream}
 use Rattle.ghc_term.specs.declared.fault.Fault.{Fault}
 use Rattle.ghc_fire.specs.declared.act.Act.{Act}
 use Rattle.ghc_fire.specs.declared.act.Act.TheVariants.{ByClause as by_clause, Unified as unified, Assigned as assigned, Given as given, Closed as closed}
-use Rattle.ghc_fire.specs.Effect.{Effect, HasEffect, no_step}
+use Rattle.ghc_fire.specs.Effect.{HasEffect, no_step}
 use Rattle.ghc_fire.specs.Proposal.{under}
 use Rattle.ghc_fire.specs.Attempt as attempt
 use Rattle.ghc_fire.specs.Attempted.{IsProposedAs, IsProposed}
 use Rattle.ghc_records.specs.Record.{Record}
 use Rattle.ghc_hooks.specs.Status.{Status, HasStatus}
-use Rattle.ghc_core.specs.World.{Proposal, Hands, IsHand, with_hand, emptied, World, IsFull, IsNextStep, with_step}
-use Rattle.ghc_core.specs.Events.{Reply, held, stepped, noted, refused}
+use Rattle.ghc_core.specs.World.{Proposal, World, IsFull, IsNextStep}
+use Rattle.ghc_core.specs.Refusals.{IsToldWhere, OrElse}
+use Rattle.ghc_core.specs.Events.{Reply, noted, refused}
 
 -- An attempt at the goal named g answers a, in the present state.
 abbrev pub AttemptAnswers : World → GoalName → Option ℕ → attempt.Answer → Type 0
@@ -28,14 +29,6 @@ IsProposedIn w g choice p = IsProposed w.opening.program w.state.goals w.state.s
 -- The proposal is what an attempt at the goal named g, as the next step, proposes in the present state.
 abbrev pub IsProposedAsNext : World → GoalName → Option ℕ → Proposal → Type 0
 IsProposedAsNext w g choice p = IsProposedAs w.next w.opening.program w.state.goals w.state.store g choice p
-
--- Proposes Starved w hands h g choice reply left: hand h asks for a step of the goal named g, and the hands left differ in hand h alone.
-pub data Proposes (Starved : Type 0) (w : World) (hands : Hands) (h : ℕ) (g : GoalName) (choice : Option ℕ) : Reply → Hands → Type 0 where
-  holds : (b : Goal) (act : Act) (e : Effect) → IsHand hands h → finite.get w.state.goals g ≡ Some b → AttemptAnswers w g choice (attempt.proposes act e)
-      → Proposes Starved w hands h g choice (held h) (with_hand h (record { goal = g; consumed = b; act = act; effect = e }) hands)
-  no_hand : ¬ IsHand hands h → Proposes Starved w hands h g choice (refused Fault.Command) hands
-  fails : {f : Fault} → IsHand hands h → AttemptAnswers w g choice (attempt.refused f) → Proposes Starved w hands h g choice (refused f) hands
-  no_memory : Starved → Proposes Starved w hands h g choice (refused Fault.Memory) hands
 
 -- The act is one of a proposal.
 abbrev pub IsReduction : Act → Type 0
@@ -57,10 +50,9 @@ HoldsAsNext w p =
     (b : Goal) × IsReduction p.act × (finite.get w.state.goals p.goal ≡ Some b)
     × HasEffect w.opening.program b p.act w.next (value_at w.state.store) (under w.next p.effect)
 
--- Why a commit of the proposal is refused: it does not hold any more, and else the world is full.
-pub data CommitFails (w : World) (p : Proposal) : Fault → Type 0 where
-  stale : ¬ StillHolds w p → CommitFails w p Fault.Stale
-  full : StillHolds w p → IsFull w → CommitFails w p Fault.Full
+-- Why a commit of the proposal is refused: it does not hold any more, or else the world is full.
+pub record CommitFails (w : World) (p : Proposal) (f : Fault) : Type 0 where
+  pub first : OrElse (IsToldWhere Fault.Stale (¬ StillHolds w p)) (IsToldWhere Fault.Full (IsFull w)) f
 
 -- The record is that of the proposal as the next step of the world.
 abbrev pub IsCommitOf : World → Proposal → Record → Type 0
@@ -75,23 +67,16 @@ pub data StepFails (w : World) (g : GoalName) (choice : Option ℕ) : Fault → 
   refused_attempt : {f : Fault} → AttemptAnswers w g choice (attempt.refused f) → StepFails w g choice f
   no_room : (p : Proposal) → p.goal ≡ g → AttemptAnswers w g choice (attempt.proposes p.act p.effect) → IsFull w → StepFails w g choice Fault.Full
 
--- Commits Starved w hands h reply v left: hand h commits what it holds, which leaves the world v, and hand h empty.
-pub data Commits (Starved : Type 0) (w : World) (hands : Hands) (h : ℕ) : Reply → World → Hands → Type 0 where
-  takes : (p : Proposal) (r : Record) → IsHand hands h → finite.get hands.held h ≡ Some p → IsCommitOf w p r
-      → Commits Starved w hands h (stepped w.next) (with_step r w) (emptied h hands)
-  no_hand : ¬ IsHand hands h → Commits Starved w hands h (refused Fault.Command) w hands
-  empty : IsHand hands h → finite.get hands.held h ≡ None → Commits Starved w hands h (refused Fault.Stale) w (emptied h hands)
-  fails : {f : Fault} (p : Proposal) → IsHand hands h → finite.get hands.held h ≡ Some p → CommitFails w p f
-      → Commits Starved w hands h (refused f) w (emptied h hands)
-  no_memory : Starved → Commits Starved w hands h (refused Fault.Memory) w (emptied h hands)
-
 -- There is no goal of this name to try: none at all, or a stream goal.
 abbrev pub IsNoCandidate : World → GoalName → Type 0
 IsNoCandidate w g = (finite.get w.state.goals g ≡ None) ⊎ ((b : Goal) × (finite.get w.state.goals g ≡ Some b) × (is_stream b ≡ true))
 
+-- The goal named g is there and no stream goal, and a try of it has this status.
+abbrev pub IsStatusOf : World → GoalName → Status → Type 0
+IsStatusOf w g s = (b : Goal) × (finite.get w.state.goals g ≡ Some b) × (is_stream b ≡ false) × HasStatus w.opening.program (value_at w.state.store) b s
+
 -- Notes Starved w g reply: the goal named g is tried, and its status told; the world stays as it is.
 pub data Notes (Starved : Type 0) (w : World) (g : GoalName) : Reply → Type 0 where
-  tells : (b : Goal) {s : Status} → finite.get w.state.goals g ≡ Some b → is_stream b ≡ false → HasStatus w.opening.program (value_at w.state.store) b s
-      → Notes Starved w g (noted g s)
+  tells : {s : Status} → IsStatusOf w g s → Notes Starved w g (noted g s)
   no_goal : IsNoCandidate w g → Notes Starved w g (refused Fault.NoGoal)
   no_memory : Starved → Notes Starved w g (refused Fault.Memory)

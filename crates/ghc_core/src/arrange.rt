@@ -7,8 +7,8 @@ ghost use Rattle.ghc_records.specs.Record.{Record, numbers};
 ghost use Rattle.ghc_records.specs.Orders.{AreDistinct};
 ghost use Rattle.ghc_depend.specs.Lawful.{IsUnlawful};
 ghost use Rattle.ghc_core.specs.Anyway.{BeginsUnkept};
-ghost use Rattle.ghc_core.specs.Events.{arranged};
-ghost use Rattle.ghc_core.specs.Reverses.{Arranges};
+ghost use Rattle.ghc_core.specs.Events.{arrange, arranged};
+ghost use Rattle.ghc_core.specs.Answers.{Obeys};
 ghost use Rattle.ghc_core.specs.declared.change.Change.TheVariants.{Reorders as reorders};
 ghost use Rattle.ghc_core.specs.Change.{CanChange, HasRoomFor, Changes, IsBoundBy};
 ghost use Rattle.ghc_core.specs.Core.{Stays};
@@ -30,7 +30,7 @@ pub struct Arrangement {
 
 impl Model for Arrangement {
     ghost use Rattle.ghc_core.specs.Arrangement.{Arrangement};
-    ghost use Rattle.ghc_core.specs.CoreCode.{arrangement_code};
+    ghost use Rattle.ghc_core.specs.ArrangementCode.{arrangement_code};
 
     ghost Value = { Arrangement };
 
@@ -111,7 +111,7 @@ impl Core {
     /// fails for want of memory alone. A refused order changes nothing. It goes over order and record, with a look-up for each
     /// variable that a step read or bound, and fires and tries nothing.
     pub fn arrange(&mut self, alloc: Global, order: &[u32]) -> Result<(), Fault>
-        ensures ok { OnOk result (Arranges ⊥ self.old.world order.now arranged self.new.world) }
+        ensures ok { OnOk result (Obeys ⊥ self.old.world (arrange order.now) arranged self.new.world) }
         ensures fault { IfErr result (λ f. (f ≡ Fault.Memory) ⊎ ((a b : ℕ) × (f ≡ Fault.NotLawful a b) × IsUnlawful self.old.world.kept order.now a b)) }
         ensures anyway { (f : Fault) → BeginsUnkept self.old.world order.now f → result ≡ Err f }
         ensures stays { OnErr result (Stays self.old self.new) }

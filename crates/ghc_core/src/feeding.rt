@@ -9,11 +9,12 @@ ghost use Rattle.ghc_fire.specs.declared.act.Act.TheVariants.{Given as given, Cl
 ghost use Rattle.ghc_hooks.specs.Notes.{AreLeft};
 ghost use Rattle.ghc_records.specs.Record.{Record as record_spec};
 ghost use Rattle.ghc_core.specs.declared.change.Change.TheVariants.{Adds as adds};
-ghost use Rattle.ghc_core.specs.Events.{stepped};
+ghost use Rattle.ghc_core.specs.Answers.{Obeys};
+ghost use Rattle.ghc_core.specs.Events.{input as gives, finish, stepped};
 ghost use Rattle.ghc_core.specs.Core.{Stays};
 ghost use Rattle.ghc_core.specs.Change.{IsBoundBy};
 ghost use Rattle.ghc_core.specs.Anyway.{TakesNothingAnyway};
-ghost use Rattle.ghc_core.specs.Streams.{IsStreamAt, StreamFails, IsStreamStep, Inputs, Finishes};
+ghost use Rattle.ghc_core.specs.Streams.{IsStreamAt, StreamFails, IsStreamStep};
 
 use crate::change::Change;
 use crate::core_state::Core;
@@ -140,7 +141,7 @@ impl Core {
     /// goals that looked at the end. The refusals are those of `prepare_input`; a refused input changes nothing. Nothing is fired.
     /// It costs what preparing and applying the step cost.
     pub fn input(&mut self, alloc: Global, stream: u32, input: &Ground) -> Result<u32, Fault>
-        ensures answer { Answered (λ n. Inputs ⊥ self.old.world stream input.now (stepped n) self.new.world) (StreamFails self.old.world stream) result }
+        ensures answer { Answered (λ n. Obeys ⊥ self.old.world (gives stream input.now) (stepped n) self.new.world) (StreamFails self.old.world stream) result }
         ensures anyway { (f : fault_spec) → TakesNothingAnyway self.old.world stream f → result ≡ Err f }
         ensures stays { OnErr result (Stays self.old self.new) }
         ensures meter { self.new.meter ≡ self.old.meter }
@@ -159,7 +160,7 @@ impl Core {
     /// is gone. The refusals are those of `prepare_close`; a refused close changes nothing. Nothing is fired. It costs what
     /// preparing and applying the step cost.
     pub fn close(&mut self, alloc: Global, stream: u32) -> Result<u32, Fault>
-        ensures answer { Answered (λ n. Finishes ⊥ self.old.world stream (stepped n) self.new.world) (StreamFails self.old.world stream) result }
+        ensures answer { Answered (λ n. Obeys ⊥ self.old.world (finish stream) (stepped n) self.new.world) (StreamFails self.old.world stream) result }
         ensures anyway { (f : fault_spec) → TakesNothingAnyway self.old.world stream f → result ≡ Err f }
         ensures stays { OnErr result (Stays self.old self.new) }
         ensures meter { self.new.meter ≡ self.old.meter }

@@ -1,5 +1,5 @@
 // Laws about the definitions, each as the contract of a function.
-ghost use Rattle.ghc_core.specs.Laws.{ReachableIsOrderly, ReachableIsWellMade, ReachableIsNamed, ReachableKeeps, EventsHaveOneAnswer, InputsHaveAnAnswer, ClosesHaveAnAnswer, ArrangesHaveAnAnswer, ProposesHaveAnAnswer, CommitsHaveAnAnswer, CommitIsExact, StepIsExact, StreamStepIsExact, NotesHaveAnAnswer, RedoesHaveAnAnswer, EventsHaveAnAnswer, StillHoldsAsNext};
+ghost use Rattle.ghc_core.specs.Laws.{ReachableIsOrderly, ReachableIsWellMade, ReachableIsNamed, ReachableKeeps, EventsHaveOneAnswer, EventsLeadWhereChangesLead, CommitIsExact, StepIsExact, StreamStepIsExact, EventsHaveAnAnswer, StillHoldsAsNext};
 
 /// A reachable world keeps no number twice, has an acyclic store, and one goal a stream.
 pub fn reachable_is_orderly()
@@ -26,31 +26,6 @@ pub fn events_have_one_answer()
     ensures { EventsHaveOneAnswer }
 {}
 
-/// In a reachable world an input of a closed term has an answer other than want of memory.
-pub fn inputs_have_an_answer()
-    ensures { InputsHaveAnAnswer }
-{}
-
-/// In a reachable world a close has an answer other than want of memory.
-pub fn closes_have_an_answer()
-    ensures { ClosesHaveAnAnswer }
-{}
-
-/// In a reachable world an arrange has an answer other than want of memory.
-pub fn arranges_have_an_answer()
-    ensures { ArrangesHaveAnAnswer }
-{}
-
-/// In a reachable world a proposal has an answer other than want of memory.
-pub fn proposes_have_an_answer()
-    ensures { ProposesHaveAnAnswer }
-{}
-
-/// In a reachable world a commit has an answer other than want of memory.
-pub fn commits_have_an_answer()
-    ensures { CommitsHaveAnAnswer }
-{}
-
 /// In a reachable world what is answered for a commit is exact, unless memory was refused.
 pub fn commit_is_exact()
     ensures { CommitIsExact }
@@ -71,17 +46,12 @@ pub fn still_holds_as_next()
     ensures { StillHoldsAsNext }
 {}
 
-/// In a reachable world a note has an answer other than want of memory.
-pub fn notes_have_an_answer()
-    ensures { NotesHaveAnAnswer }
-{}
-
-/// In a reachable world a redo has an answer other than want of memory.
-pub fn redoes_have_an_answer()
-    ensures { RedoesHaveAnAnswer }
-{}
-
 /// In a reachable world each proper event has an answer other than want of memory.
 pub fn events_have_an_answer()
     ensures { EventsHaveAnAnswer }
+{}
+
+/// Events and changes lead to the same worlds.
+pub fn events_lead_where_changes_lead()
+    ensures { EventsLeadWhereChangesLead }
 {}

@@ -50,19 +50,17 @@ pub use history_laws::{
     reachable_is_one,
 };
 pub use laws::{
-    arranges_have_an_answer, closes_have_an_answer, commit_is_exact, commits_have_an_answer,
-    events_have_an_answer, events_have_one_answer, inputs_have_an_answer, notes_have_an_answer,
-    proposes_have_an_answer, reachable_is_named, reachable_is_orderly, reachable_is_well_made,
-    reachable_keeps, redoes_have_an_answer, step_is_exact, still_holds_as_next,
-    stream_step_is_exact,
+    commit_is_exact, events_have_an_answer, events_have_one_answer, events_lead_where_changes_lead,
+    reachable_is_named, reachable_is_orderly, reachable_is_well_made, reachable_keeps,
+    step_is_exact, still_holds_as_next, stream_step_is_exact,
 };
 pub use load_laws::{load_is_exact, saved_is_loaded_again};
 pub use order::Order;
 pub use reply::Reply;
 pub use rollback::Rollback;
 pub use undo_laws::{
-    neighbours_are_arranged, reachable_is_replay, roll_takes_steps_away, rolls_have_an_answer,
-    step_then_undo, undo_takes_step_away, undoes_have_an_answer, undone_then_redone,
+    neighbours_are_arranged, reachable_is_replay, roll_takes_steps_away, step_then_undo,
+    undo_takes_step_away, undone_then_redone,
 };
 pub use variables::is_variable_of;
 pub use world::World;

@@ -3,9 +3,8 @@ ghost use Rattle.std.specs.Prelude.{◌≡◌, ◌⊎◌, [], ◌∷◌, IfOk, O
 ghost use Rattle.std.specs.FinSet as set;
 ghost use Rattle.ghc_term.specs.declared.fault.Fault.{Fault as fault_spec};
 ghost use Rattle.ghc_hooks.specs.Notes.{AreLeft};
-ghost use Rattle.ghc_core.specs.Answers.{Obeys};
+ghost use Rattle.ghc_core.specs.Answers.{Obeys, told_of};
 ghost use Rattle.ghc_core.specs.Anyway.{IsNotObeyedAnyway};
-ghost use Rattle.ghc_core.specs.Asked.{told_of};
 ghost use Rattle.ghc_core.specs.Change.{CanChange, Changes, IsBoundBy};
 ghost use Rattle.ghc_core.specs.CommandCode.{command_of};
 ghost use Rattle.ghc_core.specs.Core.{Stays};

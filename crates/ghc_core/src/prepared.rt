@@ -3,7 +3,8 @@ ghost use Rattle.std.specs.Prelude.{◌≡◌, Err};
 ghost use Rattle.ghc_term.specs.declared.fault.Fault.{Fault as fault_spec};
 ghost use Rattle.ghc_term.specs.Answered.{Answered};
 ghost use Rattle.ghc_core.specs.Anyway.{IsNotObeyedAnyway};
-ghost use Rattle.ghc_core.specs.Asked.{IsAskedFor, IsNotObeyed};
+ghost use Rattle.ghc_core.specs.Answers.{Fails};
+ghost use Rattle.ghc_core.specs.Asked.{IsAskedFor};
 ghost use Rattle.ghc_core.specs.CommandCode.{command_of};
 ghost use Rattle.ghc_core.specs.Counting.{CountsInObeying};
 ghost use Rattle.ghc_core.specs.Core.{Stays};
@@ -19,7 +20,7 @@ impl Core {
     /// `prepare_input`, `prepare_close`, `prepare_undo`, `prepare_rollback`, `prepare_redo` or `prepare_arrange`. But for the meter
     /// the core stays as it is.
     pub fn prepare_command(&mut self, alloc: Global, command: &Command) -> Result<Change, Fault>
-        ensures answer { Answered (IsAskedFor self.old.world (command_of command.now)) (IsNotObeyed self.old.world (command_of command.now)) result }
+        ensures answer { Answered (IsAskedFor self.old.world (command_of command.now)) (Fails self.old.world (command_of command.now)) result }
 
         // No want of memory hides that the stream is not there or its tail bound, that the step is not there, has a consequence or lacks
         // its goal, or that the first number of an order is not kept.

@@ -4,10 +4,11 @@ ghost use Rattle.std.specs.FinMap as finite;
 ghost use Rattle.ghc_fire.specs.Meter.{fired};
 ghost use Rattle.ghc_hooks.specs.Notes.{AreLeft};
 ghost use Rattle.ghc_records.specs.Record.{Record as record_spec, IsThere, Fires};
-ghost use Rattle.ghc_core.specs.Events.{stepped};
-ghost use Rattle.ghc_core.specs.Reverses.{Redoes, RedoFails, with_redone, LacksGoal};
+ghost use Rattle.ghc_core.specs.Events.{redo, stepped};
+ghost use Rattle.ghc_core.specs.Answers.{Obeys};
+ghost use Rattle.ghc_core.specs.Refusals.{RedoFails, LacksGoal};
 ghost use Rattle.ghc_core.specs.declared.change.Change.TheVariants.{PutsBack as puts_back};
-ghost use Rattle.ghc_core.specs.Change.{CanChange, HasRoomFor, IsBoundBy};
+ghost use Rattle.ghc_core.specs.Change.{with_redone, CanChange, HasRoomFor, IsBoundBy};
 ghost use Rattle.ghc_core.specs.Core.{Stays};
 
 use crate::carrying::carry_over;
@@ -115,7 +116,7 @@ impl Core {
     pub(crate) fn put_back(&mut self, addition: Addition)
         requires found { CanChange self.old.world (puts_back addition) }
         requires room { HasRoomFor self.old.world self.old.room (puts_back addition) }
-        ensures world { self.new.world ≡ with_redone addition «addition».number self.old.world }
+        ensures world { self.new.world ≡ with_redone addition self.old.world }
         ensures notes { AreLeft self.new.world.state.goals (IsBoundBy (puts_back addition)) self.old.notes self.new.notes }
         ensures meter { self.new.meter ≡ self.old.meter }
     {
@@ -133,7 +134,7 @@ impl Core {
     /// no more. Untried are then the goals that it makes and those that looked at what it binds. The refusals are those of
     /// `prepare_redo`. A refused redo changes nothing but the meter. It costs what preparing and applying the step cost.
     pub fn redo(&mut self, alloc: Global, number: u32) -> Result<(), Fault>
-        ensures ok { OnOk result (Redoes ⊥ self.old.world number (stepped number) self.new.world) }
+        ensures ok { OnOk result (Obeys ⊥ self.old.world (redo number) (stepped number) self.new.world) }
         ensures fault { IfErr result (λ f. (f ≡ Fault.Memory) ⊎ RedoFails self.old.world number f) }
         ensures not_shelved { RedoFails self.old.world number Fault.NotShelved → (result ≡ Err Fault.NotShelved) × (self.new.meter ≡ self.old.meter) }
         ensures no_goal { RedoFails self.old.world number Fault.NoGoal → (result ≡ Err Fault.NoGoal) × (self.new.meter ≡ self.old.meter) }

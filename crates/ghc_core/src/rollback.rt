@@ -6,8 +6,8 @@ ghost use Rattle.ghc_records.specs.Record.{Record as record_spec, numbers};
 ghost use Rattle.ghc_depend.specs.Depend.{IsKeptAs, IsNotKept};
 ghost use Rattle.ghc_depend.specs.Deletion.{IsBoundIn};
 ghost use Rattle.ghc_depend.specs.Kept.{IsSplitAt};
-ghost use Rattle.ghc_core.specs.Events.{undone};
-ghost use Rattle.ghc_core.specs.Reverses.{Rolls};
+ghost use Rattle.ghc_core.specs.Events.{roll, undone};
+ghost use Rattle.ghc_core.specs.Answers.{Obeys};
 ghost use Rattle.ghc_core.specs.declared.change.Change.TheVariants.{TakesAll as takes_all};
 ghost use Rattle.ghc_core.specs.Change.{CanChange, HasRoomFor, Changes, IsBoundBy};
 ghost use Rattle.ghc_core.specs.Core.{Stays};
@@ -158,7 +158,7 @@ impl Core {
     /// is told before memory is asked for, whose want is the one refusal else. A refused rollback changes nothing. It costs some
     /// look-ups for each goal, read and binding of the steps that are taken away, however many steps are kept.
     pub fn rollback(&mut self, alloc: Global, number: u32) -> Result<Vec<u32>, Fault>
-        ensures ok { IfOk result (λ ns. Rolls ⊥ self.old.world number (undone ns.items) self.new.world) }
+        ensures ok { IfOk result (λ ns. Obeys ⊥ self.old.world (roll number) (undone ns.items) self.new.world) }
         ensures fault { IfErr result (λ f. (f ≡ Fault.Memory) ⊎ ((f ≡ Fault.NotKept) × IsNotKept self.old.world.kept number)) }
         ensures refused { IsNotKept self.old.world.kept number → result ≡ Err Fault.NotKept }
         ensures stays { OnErr result (Stays self.old self.new) }

@@ -14,7 +14,8 @@ impl Core {
     ghost use Rattle.ghc_depend.specs.Kept.{Keeps};
     ghost use Rattle.ghc_core.specs.World.{IsReplay};
     ghost use Rattle.ghc_records.specs.Journal.{history};
-    ghost use Rattle.ghc_core.specs.Legal.{AreNamesOf, Leaves};
+    ghost use Rattle.ghc_core.specs.Reached.{AreNamesOf};
+    ghost use Rattle.ghc_core.specs.Legal.{Leaves};
     ghost use Rattle.ghc_core.specs.Laws.{IsOrderly, NoStepIsFree};
     ghost use Rattle.ghc_core.specs.Core.{IsStanding, AreExactIn};
 

@@ -4,8 +4,9 @@ ghost use Rattle.ghc_term.specs.declared.fault.Fault.{Fault as fault_spec};
 ghost use Rattle.ghc_hooks.specs.Notes.{AreLeft};
 ghost use Rattle.ghc_records.specs.Record.{Record as record_spec};
 ghost use Rattle.ghc_depend.specs.Depend.{IsKeptAs};
-ghost use Rattle.ghc_core.specs.Events.{undone};
-ghost use Rattle.ghc_core.specs.Reverses.{Undoes, UndoFails, CanUndo};
+ghost use Rattle.ghc_core.specs.Events.{undo, undone};
+ghost use Rattle.ghc_core.specs.Answers.{Obeys};
+ghost use Rattle.ghc_core.specs.Refusals.{UndoFails, CanUndo};
 ghost use Rattle.ghc_core.specs.declared.change.Change.TheVariants.{TakesAway as takes_away};
 ghost use Rattle.ghc_core.specs.Change.{CanChange, IsBoundBy};
 ghost use Rattle.ghc_core.specs.Core.{Stays};
@@ -46,7 +47,7 @@ impl Core {
     ///
     /// The rule is that of Danos and Krivine (2004): an action may be undone exactly when all its consequences have been.
     pub fn undo(&mut self, number: u32) -> Result<(), Fault>
-        ensures ok { OnOk result (Undoes ⊥ self.old.world number (undone (number ∷ [])) self.new.world) }
+        ensures ok { OnOk result (Obeys ⊥ self.old.world (undo number) (undone (number ∷ [])) self.new.world) }
         ensures fault { IfErr result (λ f. (f ≡ Fault.Memory) ⊎ UndoFails self.old.world.kept number f) }
         ensures refused { (f : fault_spec) → UndoFails self.old.world.kept number f → result ≡ Err f }
         ensures stays { OnErr result (Stays self.old self.new) }

@@ -1,19 +1,9 @@
 // Laws of taking steps away, of taking them again, and of neighbours that change places, each as the contract of a function.
-ghost use Rattle.ghc_core.specs.Returns.{ReachableIsReplay, UndoesHaveAnAnswer, RollsHaveAnAnswer, UndoTakesStepAway, RollTakesStepsAway, StepThenUndo, UndoneThenRedone, NeighboursAreArranged};
+ghost use Rattle.ghc_core.specs.Returns.{ReachableIsReplay, UndoTakesStepAway, RollTakesStepsAway, StepThenUndo, UndoneThenRedone, NeighboursAreArranged};
 
 /// The state of a reachable world is the replay of its kept steps.
 pub fn reachable_is_replay()
     ensures { ReachableIsReplay }
-{}
-
-/// In a reachable world an undo has an answer other than want of memory.
-pub fn undoes_have_an_answer()
-    ensures { UndoesHaveAnAnswer }
-{}
-
-/// In a reachable world a rollback has an answer other than want of memory.
-pub fn rolls_have_an_answer()
-    ensures { RollsHaveAnAnswer }
 {}
 
 /// A kept step without consequences can be undone, which leaves the state without it.

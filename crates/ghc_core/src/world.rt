@@ -1,16 +1,15 @@
 // A core with hands, and events played on it.
 ghost use Rattle.std.specs.Prelude.{◌≡◌, ◌⊎◌, ◌+◌, ◌<◌, ◌≤◌, [], ◌∷◌, ◌++◌, map, vec_len, vec_capacity, IfOk, IfErr, OnErr, Some};
 ghost use Rattle.ghc_term.specs.declared.fault.Fault.{Fault as fault_spec};
-ghost use Rattle.ghc_core.specs.Answers.{Plays};
+ghost use Rattle.ghc_core.specs.Answers.{Answers, Plays};
 ghost use Rattle.ghc_core.specs.Anyway.{IsNotProposedAnyway, IsNotCommittedAnyway};
 ghost use Rattle.ghc_core.specs.Core.{Stays};
 ghost use Rattle.ghc_core.specs.Counting.{FiresOnce};
 ghost use Rattle.ghc_core.specs.EventCode.{event_of, reply_of};
-ghost use Rattle.ghc_core.specs.Events.{refused};
+ghost use Rattle.ghc_core.specs.Events.{propose, commit, refused};
 ghost use Rattle.ghc_core.specs.Legal.{IsReachable};
 ghost use Rattle.ghc_core.specs.Meets.{Moves, Meets, MeetsEach};
 ghost use Rattle.ghc_core.specs.Playing.{empty_hands, AddsOneAtMost, IsRefusal};
-ghost use Rattle.ghc_core.specs.Proposes.{Proposes, Commits};
 ghost use Rattle.ghc_core.specs.World.{IsReplay};
 
 use crate::core_state::Core;
@@ -97,7 +96,7 @@ impl World {
 
     // The hand asks for a step of the goal: an attempt, counted beside the core. A refusal leaves the hand as it was.
     fn propose(&mut self, alloc: Global, hand: u32, goal: GoalName, choice: Option<u32>) -> Reply
-        ensures answer { Proposes (Unit {0}) self.old.core.world self.old.hands hand goal choice (reply_of result) self.new.hands }
+        ensures answer { Answers (Unit {0}) self.old.core.world self.old.hands (propose hand goal choice) (reply_of result) self.old.core.world self.new.hands }
         ensures anyway { (f : fault_spec) → IsNotProposedAnyway self.old.core.world self.old.hands hand goal choice f → reply_of result ≡ refused f }
         ensures core { self.new.core ≡ self.old.core }
         ensures counted { FiresOnce self.old.meter self.new.meter }
@@ -117,7 +116,7 @@ impl World {
 
     // The hand commits what it holds, and is empty afterwards: a look-up, and what `Core::commit` costs.
     fn commit(&mut self, alloc: Global, hand: u32) -> Reply
-        ensures answer { Commits (Unit {0}) self.old.core.world self.old.hands hand (reply_of result) self.new.core.world self.new.hands }
+        ensures answer { Answers (Unit {0}) self.old.core.world self.old.hands (commit hand) (reply_of result) self.new.core.world self.new.hands }
         ensures anyway { (f : fault_spec) → IsNotCommittedAnyway self.old.core.world self.old.hands hand f → reply_of result ≡ refused f }
         ensures moves { IsRefusal (reply_of result) ⊎ Moves self.old.core self.new.core }
         ensures stays { IsRefusal (reply_of result) → Stays self.old.core self.new.core }

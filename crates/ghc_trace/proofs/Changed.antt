@@ -11,20 +11,14 @@ use Rattle.ghc_fire.specs.GoalsCode.{goal_name_code}
 use Rattle.ghc_records.specs.Record.{State, Record, after, without_goal}
 use Rattle.ghc_records.specs.Replay.{MakesGoal}
 use Rattle.ghc_records.proofs.Effects.{kept_goal}
-use Rattle.ghc_records.proofs.OrderLemmas.{picks_once}
 use Rattle.ghc_depend.specs.Deletion.{IsConsumedIn, IsWithoutSteps}
 use Rattle.ghc_depend.proofs.Finding.{own, makes_at, own_made}
-use Rattle.ghc_core.specs.World.{no_hands, World}
+use Rattle.ghc_core.specs.World.{World}
 use Rattle.ghc_core.specs.Core.{IsStanding}
-use Rattle.ghc_core.specs.Events.{Reply, undo, roll, command}
-use Rattle.ghc_core.specs.Reverses as by
-use Rattle.ghc_core.specs.Reverses.{Arranges}
-use Rattle.ghc_core.specs.Answers.{to_command}
 use Rattle.ghc_core.specs.declared.change.Change.{Change}
 use Rattle.ghc_core.specs.declared.change.Change.TheVariants.{Adds as adds, PutsBack as puts_back, TakesAway as takes_away, TakesAll as takes_all, Reorders as reorders}
 use Rattle.ghc_core.specs.Change.{CanChange, Changes}
-use Rattle.ghc_core.proofs.Answering.{events_once}
-use Rattle.ghc_core.proofs.Returning.{undo_takes, roll_takes}
+use Rattle.ghc_core.proofs.Returning.{undo_leaves, roll_leaves}
 use Rattle.ghc_trace.specs.Laws.{Brings}
 
 found_in_either : (a b : Option Goal) (g : Goal) → option_or a b ≡ Some g → (a ≡ Some g) ⊎ (b ≡ Some g)
@@ -39,13 +33,6 @@ taken_from w v r e h b f =
       | inr o ↦ inl (kept_goal w.state.goals r.goal h b o)
     ]
 
--- an undo leaves the state without the step
-undo_leaves : (w v : World) (r : Record) → IsStanding w → CanChange w (takes_away r) → Changes w (takes_away r) v → IsWithoutSteps (r ∷ []) w.state v.state
-undo_leaves w v r s can e =
-    let u = undo_takes w no_hands r.number r s (can.0, refl) can.1 in
-    let same : u.0 ≡ v = (events_once w u.0 v no_hands no_hands no_hands (command (undo r.number)) _ _ s (to_command u.1) (to_command e)).1 in
-    subst (λ (z : World). IsWithoutSteps (r ∷ []) w.state z.state) same u.3
-
 nothing_found : {b : Goal} → None ≡ Some b → ⊥
 nothing_found e = cc
 
@@ -55,32 +42,18 @@ left_from w v r without h b f = elim (same_decided (coded_option goal_name_code)
   | inr n ↦ inl (sym (without.others h (λ m. nothing_found (sym (without.unmade h m) ∙ f)) (λ k. elim k.1 [ inl e ↦ n (ap (λ (z : Record). z.goal) (sym e) ∙ k.2) | inr z ↦ absurd z ])) ∙ f)
 ]
 
--- a rollback leaves the state without the steps
-roll_leaves : (w v : World) (r : Record) (rs : List Record) → IsStanding w → CanChange w (takes_all (r ∷ rs)) → Changes w (takes_all (r ∷ rs)) v → IsWithoutSteps (r ∷ rs) w.state v.state
-roll_leaves w v r rs s can e =
-    let u = roll_takes w no_hands r.number r s (can.0, refl) in
-    let gone : u.0 ≡ r ∷ rs = picks_once w.kept u.0 (r ∷ rs) u.3.0 can.1.1.0 in
-    let same : u.1 ≡ v = (events_once w u.1 v no_hands no_hands no_hands (command (roll r.number)) _ _ s (to_command u.2) (to_command e)).1 in
-    subst (λ (z : World). IsWithoutSteps (r ∷ rs) w.state z.state) same (subst (λ g. IsWithoutSteps g w.state u.1.state) gone u.4)
-
 given_from : (w v : World) (gone : List Record) → IsWithoutSteps gone w.state v.state → (h : GoalName) (b : Goal) → finite.get v.state.goals h ≡ Some b → (finite.get w.state.goals h ≡ Some b) ⊎ IsConsumedIn gone h
 given_from w v gone without h b f = elim (some_decided gone (λ (r : Record). r.goal ≡ Some h) (λ r i. same_decided (coded_option goal_name_code) r.goal (Some h))) [
   | inl e ↦ inr e
   | inr n ↦ inl (sym (without.others h (λ m. nothing_found (sym (without.unmade h m) ∙ f)) n) ∙ f)
 ]
 
--- another order leaves the state
-order_keeps : {w v : World} {order : List ℕ} {y : Reply} → Arranges ⊥ w order y v → v.state ≡ w.state
-order_keeps (by.Arranges.puts new lawful put) = refl
-order_keeps (by.Arranges.fails f) = refl
-order_keeps (by.Arranges.no_memory m) = refl
-
 -- after each change
 pub changed_from : (w v : World) (change : Change) → IsStanding w → CanChange w change → Changes w change v → (h : GoalName) (b : Goal) → finite.get v.state.goals h ≡ Some b
     → (finite.get w.state.goals h ≡ Some b) ⊎ Brings change h
 changed_from w v (adds r) s can e = taken_from w v r (ap (λ (z : World). z.state) e)
 changed_from w v (puts_back r) s can e = taken_from w v r (ap (λ (z : World). z.state) e)
-changed_from w v (takes_away r) s can e = left_from w v r (undo_leaves w v r s can e)
+changed_from w v (takes_away r) s can e = left_from w v r (undo_leaves w v s r can e)
 changed_from w v (takes_all []) s can e = absurd e
-changed_from w v (takes_all (r ∷ rs)) s can e = given_from w v (r ∷ rs) (roll_leaves w v r rs s can e)
-changed_from w v (reorders a) s can e = λ h b f. inl (ap (λ (t : State). finite.get t.goals h) (sym (order_keeps e)) ∙ f)
+changed_from w v (takes_all (r ∷ rs)) s can e = given_from w v (r ∷ rs) (roll_leaves w v s r rs can e)
+changed_from w v (reorders a) s can e = λ h b f. inl (ap (λ (z : World). finite.get z.state.goals h) (sym e) ∙ f)

@@ -28,12 +28,10 @@ use Rattle.ghc_hooks.proofs.Statuses.{status_once}
 use Rattle.ghc_hooks.proofs.LookedAt.{exact_awaits}
 use Rattle.ghc_records.specs.Journal.{Opening}
 use Rattle.ghc_core.specs.World.{World}
-use Rattle.ghc_core.specs.Events.{Reply}
-use Rattle.ghc_core.specs.Reverses as by
-use Rattle.ghc_core.specs.Reverses.{Undoes, Rolls, Arranges}
 use Rattle.ghc_core.specs.declared.change.Change.{Change}
 use Rattle.ghc_core.specs.declared.change.Change.TheVariants.{Adds as adds, PutsBack as puts_back, TakesAway as takes_away, TakesAll as takes_all, Reorders as reorders}
 use Rattle.ghc_core.specs.Change.{CanChange, Changes, IsBoundBy}
+use Rattle.ghc_core.proofs.Moving.{opening_stays}
 use Rattle.ghc_core.proofs.Reaching.{reached_good}
 use Rattle.ghc_trace.specs.News.{IsStuck, Standing}
 use Rattle.ghc_trace.specs.Laws.{IsSettled, Brings, NotesTellPorts, NotesTellNews}
@@ -186,35 +184,12 @@ module _ (P : Program) (G H : Goals) (store after : StoreValue) (old mid new : N
         ),
   )
 
-undo_opening : {w v : World} {n : ℕ} {y : Reply} → Undoes ⊥ w n y v → v.opening ≡ w.opening
-undo_opening (by.Undoes.takes_away r left t kept none without replay) = refl
-undo_opening (by.Undoes.fails f) = refl
-undo_opening (by.Undoes.no_memory m) = refl
-
-roll_opening : {w v : World} {n : ℕ} {y : Reply} → Rolls ⊥ w n y v → v.opening ≡ w.opening
-roll_opening (by.Rolls.takes_away r gone left t kept split replay) = refl
-roll_opening (by.Rolls.not_kept f) = refl
-roll_opening (by.Rolls.no_memory m) = refl
-
 settled_in : {w : World} {notes : NotesByGoal} → IsSettled w notes → Settled w.opening.program w.state.goals w.state.store notes
 settled_in s = record { exact = s.exact; acyclic = (reached_good s.standing).acyclic }
 
 pub ports_told : NotesTellPorts
 ports_told w r notes d names settled disturbed named =
     (names, resumed_right w.opening.program w.state.goals w.state.store notes (settled_in settled) r (MakesGoal r) d disturbed names named, named.ordered, refl)
-
-arrange_opening : {w v : World} {order : List ℕ} {y : Reply} → Arranges ⊥ w order y v → v.opening ≡ w.opening
-arrange_opening (by.Arranges.puts new lawful put) = refl
-arrange_opening (by.Arranges.fails f) = refl
-arrange_opening (by.Arranges.no_memory m) = refl
-
-one_opening : (w v : World) (change : Change) → CanChange w change → Changes w change v → v.opening ≡ w.opening
-one_opening w v (adds r) can e = ap (λ (z : World). z.opening) e
-one_opening w v (puts_back r) can e = ap (λ (z : World). z.opening) e
-one_opening w v (takes_away r) can e = undo_opening e
-one_opening w v (takes_all []) can e = absurd e
-one_opening w v (takes_all (r ∷ rs)) can e = roll_opening e
-one_opening w v (reorders a) can e = arrange_opening e
 
 -- a change binds or frees a variable, or does not
 bound_or_not : (change : Change) (x : VarName) → Decided (IsBoundBy change x)
@@ -226,7 +201,7 @@ bound_or_not (reorders a) x = inr (λ b. b)
 
 pub news_told : NotesTellNews
 news_told w v change old left new d news before can changes are_left still behind disturbed told =
-    let program : v.opening.program ≡ w.opening.program = ap (λ (o : Opening). o.program) (one_opening w v change can changes) in
+    let program : v.opening.program ≡ w.opening.program = ap (λ (o : Opening). o.program) (opening_stays w v change can changes) in
     let after : Settled w.opening.program v.state.goals v.state.store new = subst (λ P. Settled P v.state.goals v.state.store new) program (settled_in behind) in
     let right = news_right w.opening.program w.state.goals v.state.goals w.state.store v.state.store old left new (settled_in before) after (IsBoundBy change) (bound_or_not change) are_left still
     (Brings change) (changed_from w v change before.standing can changes) d disturbed news told in

@@ -8,8 +8,10 @@ use Rattle.ghc_core.specs.World.{World, IsNextStep, with_step}
 use Rattle.ghc_core.specs.Core.{Core, IsConsistent}
 use Rattle.ghc_core.specs.Carried.{AreCarriedOver}
 use Rattle.ghc_core.specs.StreamGoals.{told}
+use Rattle.ghc_core.specs.declared.change.Change.TheVariants.{Adds as adds}
+use Rattle.ghc_core.specs.Reached.{by_change}
 use Rattle.ghc_core.proofs.Standing.{standing_replay, standing_well_made, standing_below}
-use Rattle.ghc_core.proofs.Taking.{next_stands, unbound_there}
+use Rattle.ghc_core.proofs.Taking.{unbound_there}
 use Rattle.ghc_core.proofs.Preparing.{same_world}
 use Rattle.ghc_core.proofs.StreamNames.{stands_over}
 use Rattle.ghc_core.proofs.Exactness.{unnoted, next_is_new, not_there, over_exact, over_left}
@@ -22,7 +24,7 @@ before c = record { opening = loaded_opening c.self.inside.program c.self.inside
 pub take-step-requires-clause-acyclic : goal.take-step-requires-clause-acyclic
 take-step-requires-clause-acyclic c =
     let next = subst (λ (x : Core). IsNextStep x.world c.args.addition) (sym c.self.view_is) c.requires.found in
-    (standing_well_made _ (next_stands _ c.args.addition c.self.invariant.standing next)).acyclic
+    (standing_well_made _ (by_change (adds c.args.addition) c.self.invariant.standing next refl)).acyclic
 
 pub put-requires-clause-new : goal.put-requires-clause-new
 put-requires-clause-new c r i same =
@@ -68,7 +70,7 @@ carry_over-requires-clause-new c g made =
 pub invariant_of-self : goal.invariant_of-self
 invariant_of-self c =
     subst (λ w. IsConsistent w c.carry_over.new.tries.notes c.carry_over.new.tries.untried c.tell.new.self) (sym (left c)) (record {
-      standing = next_stands (before c) c.args.addition c.self.invariant.standing (next c);
+      standing = by_change (adds c.args.addition) c.self.invariant.standing (next c) refl;
       exact = over_exact (before c) c.args.addition (next c).1 (next_is_new (before c) c.self.invariant.standing c.args.addition (next c)) c.self.inside.tries c.carry_over.new.tries c.self.invariant.exact (carried c);
       streams = stands_over (before c) c.self.invariant.standing c.args.addition (next c).1 c.self.inside.streams c.tell.new.self
           (c.tell.ensures ∙ ap (λ (r : Record). told r c.self.inside.streams) c.take-step.ensures.record) c.self.invariant.streams;

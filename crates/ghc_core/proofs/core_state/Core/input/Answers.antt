@@ -1,12 +1,13 @@
-use Rattle.std.proofs.Common.{◌≡◌, Ok, Err}
-use Rattle.ghc_fire.specs.declared.act.Act.TheVariants.{Given as given}
-use Rattle.ghc_core.proofs.StreamSteps.{acted}
+use Rattle.std.proofs.Common.{◌≡◌, ap, sym, ◌∙◌, Ok, Err}
+use Rattle.ghc_core.specs.Answers.{to_give, does}
+use Rattle.ghc_core.specs.Events.{stepped}
 use Rattle.ghc_core.proofs.core_state.Core.input.Goals as goal
 
 pub returns-clause-answer : goal.returns-clause-answer
 returns-clause-answer c =
     let taken = c.in_ok-take_next.ensures.ok in
-    (acted c.args.self.now.world c.take_next.new.self.world c.args.stream (given c.args.input.now) c.in-Ok.addition c.in_ok-take_next.field-0 c.in-Ok.ensures.answer.0 taken.0 taken.1, tt)
+    let found = c.in-Ok.ensures.answer.0 in
+    (does (to_give found.0) found.1 taken.1 (ap stepped (taken.0 ∙ sym found.1.0)), tt)
 
 pub returns-in-Err-clause-anyway : goal.returns-in-Err-clause-anyway
 returns-in-Err-clause-anyway c f fails = let same : Err c.in-Err.fault ≡ Err f = c.in-Err.ensures.anyway f fails in cc

@@ -1,13 +1,13 @@
-use Rattle.std.proofs.Common.{◌∙◌, refl, sym, subst, inl, inr}
+use Rattle.std.proofs.Common.{◌∙◌, refl, subst, inl, inr}
 use Rattle.ghc_term.specs.declared.fault.Fault.TheVariants as fault
 use Rattle.ghc_hooks.specs.Notes.{AreLeft}
 use Rattle.ghc_core.specs.World.{World}
-use Rattle.ghc_core.specs.Answers.{Obeys}
+use Rattle.ghc_core.specs.Answers.{does}
 use Rattle.ghc_core.specs.Change.{Changes, IsBoundBy}
 use Rattle.ghc_core.specs.CommandCode.{command_of}
-use Rattle.ghc_core.specs.EventCode.{reply_of}
 use Rattle.ghc_core.specs.Meets.{Moves}
-use Rattle.ghc_core.proofs.Replying.{obeyed, not_obeyed, obeyed_grows}
+use Rattle.ghc_core.proofs.Replying.{not_obeyed}
+use Rattle.ghc_core.proofs.Playable.{moved_grows}
 use Rattle.ghc_core.proofs.core_state.Core.obey.Goals as goal
 
 pub returns-in-Err-clause-answer : goal.returns-in-Err-clause-answer
@@ -23,7 +23,7 @@ moved c =
     let left = c.in-Ok-carry_out.ensures in
     record {
       change = c.in-Ok.change;
-      possible = c.in-Ok.ensures.answer.0.0;
+      possible = c.in-Ok.ensures.answer.0.1;
       changed = subst (λ (w : World). Changes w c.in-Ok.change c.carry_out.new.self.world) stays.world left.changed;
       notes = subst (λ notes. AreLeft c.carry_out.new.self.world.state.goals (IsBoundBy c.in-Ok.change) notes c.carry_out.new.self.notes) stays.notes left.notes;
     }
@@ -32,15 +32,12 @@ pub returns-in-Ok-carry_out-clause-moves : goal.returns-in-Ok-carry_out-clause-m
 returns-in-Ok-carry_out-clause-moves c = inr (moved c)
 
 pub returns-in-Ok-carry_out-clause-answer : goal.returns-in-Ok-carry_out-clause-answer
-returns-in-Ok-carry_out-clause-answer c =
-    let w = c.args.self.now.world in
-    let command = command_of c.args.command.now in
-    let v = c.carry_out.new.self.world in
-    obeyed w command (reply_of c.in-Ok-carry_out.reply) v (subst (λ r. Obeys ⊥ w command r v) (sym c.in-Ok-carry_out.ensures.told) (c.in-Ok.ensures.answer.0.1 v (moved c).changed))
+returns-in-Ok-carry_out-clause-answer c = let asked = c.in-Ok.ensures.answer.0 in does asked.0 asked.1 (moved c).changed c.in-Ok-carry_out.ensures.told
 
 pub returns-in-Ok-carry_out-clause-entry : goal.returns-in-Ok-carry_out-clause-entry
 returns-in-Ok-carry_out-clause-entry c =
-    obeyed_grows c.args.self.now.world (command_of c.args.command.now) (reply_of c.in-Ok-carry_out.reply) c.carry_out.new.self.world (returns-in-Ok-carry_out-clause-answer c)
+    let m = moved c in
+    moved_grows c.args.self.now.world c.carry_out.new.self.world (inr (m.change, m.possible, m.changed))
 
 pub returns-in-Err-carry_out-clause-answer : goal.returns-in-Err-carry_out-clause-answer
 returns-in-Err-carry_out-clause-answer c =

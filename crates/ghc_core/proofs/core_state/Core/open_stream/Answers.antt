@@ -6,7 +6,7 @@ use Rattle.ghc_term.specs.declared.fault.Fault.{Fault}
 use Rattle.ghc_match.specs.Position.{EndsIn}
 use Rattle.ghc_match.proofs.AlikeLemmas.{shown_value}
 use Rattle.ghc_core.specs.Core.{Core}
-use Rattle.ghc_core.specs.Streams.{no_stream, tail_bound}
+use Rattle.ghc_core.proofs.Refusing.{no_stream, tail_bound}
 use Rattle.ghc_core.proofs.StreamSteps.{refused_anyway, takes_something}
 use Rattle.ghc_core.proofs.core_state.Core.open_stream.Goals as goal
 

@@ -1,12 +1,13 @@
 use Rattle.std.proofs.Common.{◌≡◌, sym, ap, ◌∙◌, subst, inl, inr, Ok, Err}
 use Rattle.ghc_core.specs.Anyway.{IsNotObeyedAnyway}
-use Rattle.ghc_core.specs.Asked.{IsAskedFor, IsNotObeyed}
+use Rattle.ghc_core.specs.Answers.{to_give, to_close, to_undo, to_redo, to_arrange, Fails}
+use Rattle.ghc_core.specs.Asked.{IsAskedFor}
 use Rattle.ghc_core.specs.CommandCode.{command_of}
-use Rattle.ghc_core.specs.Events.{roll, arrange}
-use Rattle.ghc_core.specs.Streams as streams
-use Rattle.ghc_core.specs.Reverses as by
-use Rattle.ghc_core.specs.declared.change.Change.TheVariants.{Adds as adds, PutsBack as puts_back, TakesAll as takes_all}
-use Rattle.ghc_core.proofs.Asking.{asked_input, asked_close, asked_roll, asked_redo}
+use Rattle.ghc_core.specs.Counting.{CountsInObeying}
+use Rattle.ghc_core.proofs.Counted.{redo_counted}
+use Rattle.ghc_core.specs.Events.{arrange}
+use Rattle.ghc_core.specs.declared.change.Change.TheVariants.{Adds as adds, PutsBack as puts_back, TakesAway as takes_away, TakesAll as takes_all, Reorders as reorders}
+use Rattle.ghc_core.proofs.Asking.{roll_asks}
 use Rattle.ghc_core.proofs.CertainRefusals.{undo_cannot_fail, one_undo_refusal}
 use Rattle.ghc_core.proofs.Replying.{Why}
 use Rattle.ghc_core.proofs.core_state.Core.prepare_command.Goals as goal
@@ -14,33 +15,32 @@ use Rattle.ghc_core.proofs.core_state.Core.prepare_command.Goals as goal
 pub returns-in-Ok-clause-answer : goal.returns-in-Ok-clause-answer
 returns-in-Ok-clause-answer c =
     let w = c.args.self.now.world in
-    (subst (λ m. IsAskedFor w (command_of m) (adds c.in-Ok.addition)) (sym c.in-Input.is) (asked_input w c.in-Input.stream c.in-Input.input c.in-Ok.addition c.in-Ok.ensures.answer.0), tt)
+    (subst (λ m. IsAskedFor w (command_of m) (adds c.in-Ok.addition)) (sym c.in-Input.is) (to_give c.in-Ok.ensures.answer.0.0, c.in-Ok.ensures.answer.0.1), tt)
 
 pub returns-in-Err-clause-answer : goal.returns-in-Err-clause-answer
 returns-in-Err-clause-answer c =
     let w = c.args.self.now.world in (
       tt,
-      subst (λ m. Why (IsNotObeyed w (command_of m)) c.in-Err.fault) (sym c.in-Input.is) (elim c.in-Err.ensures.answer.1 [
-        | inl memory ↦ inl memory
-        | inr fails ↦ inr (streams.ActsOnStream.fails fails)
-      ]),
+      subst (λ m. Why (Fails w (command_of m)) c.in-Err.fault) (sym c.in-Input.is) c.in-Err.ensures.answer.1,
     )
 
 pub returns-in-Ok-prepare_close-clause-answer : goal.returns-in-Ok-prepare_close-clause-answer
 returns-in-Ok-prepare_close-clause-answer c =
     let w = c.args.self.now.world in
     let r = c.in-Ok-prepare_close.addition in
-    (subst (λ m. IsAskedFor w (command_of m) (adds r)) (sym c.in-Close.is) (asked_close w c.in-Close.stream r c.in-Ok-prepare_close.ensures.answer.0), tt)
+    (subst (λ m. IsAskedFor w (command_of m) (adds r)) (sym c.in-Close.is) (to_close c.in-Ok-prepare_close.ensures.answer.0.0, c.in-Ok-prepare_close.ensures.answer.0.1), tt)
 
 pub returns-in-Err-prepare_close-clause-answer : goal.returns-in-Err-prepare_close-clause-answer
 returns-in-Err-prepare_close-clause-answer c =
     let w = c.args.self.now.world in (
       tt,
-      subst (λ m. Why (IsNotObeyed w (command_of m)) c.in-Err-prepare_close.fault) (sym c.in-Close.is) (elim c.in-Err-prepare_close.ensures.answer.1 [
-        | inl memory ↦ inl memory
-        | inr fails ↦ inr (streams.ActsOnStream.fails fails)
-      ]),
+      subst (λ m. Why (Fails w (command_of m)) c.in-Err-prepare_close.fault) (sym c.in-Close.is) c.in-Err-prepare_close.ensures.answer.1,
     )
+
+pub returns-in-Ok-prepare_undo-clause-answer : goal.returns-in-Ok-prepare_undo-clause-answer
+returns-in-Ok-prepare_undo-clause-answer c =
+    let found = c.in-Ok-prepare_undo.ensures in
+    (subst (λ m. IsAskedFor c.args.self.now.world (command_of m) (takes_away c.in-Ok-prepare_undo.removal)) (sym c.in-Undo.is) (to_undo found.step, found.found), tt)
 
 pub returns-in-Ok-prepare_undo-clause-anyway : goal.returns-in-Ok-prepare_undo-clause-anyway
 returns-in-Ok-prepare_undo-clause-anyway c f fails =
@@ -52,9 +52,9 @@ pub returns-in-Err-prepare_undo-clause-answer : goal.returns-in-Err-prepare_undo
 returns-in-Err-prepare_undo-clause-answer c =
     let w = c.args.self.now.world in (
       tt,
-      subst (λ m. Why (IsNotObeyed w (command_of m)) c.in-Err-prepare_undo.fault) (sym c.in-Undo.is) (elim c.in-Err-prepare_undo.ensures.fault [
+      subst (λ m. Why (Fails w (command_of m)) c.in-Err-prepare_undo.fault) (sym c.in-Undo.is) (elim c.in-Err-prepare_undo.ensures.fault [
         | inl memory ↦ inl memory.0
-        | inr fails ↦ inr (by.Undoes.fails fails)
+        | inr fails ↦ inr fails
       ]),
     )
 
@@ -73,7 +73,7 @@ returns-in-Ok-prepare_rollback-clause-answer c =
     let w = c.args.self.now.world in
     let gone = c.in-Ok-prepare_rollback.rollback in
     let found = c.in-Ok-prepare_rollback.ensures in
-    (subst (λ m. IsAskedFor w (command_of m) (takes_all gone)) (sym c.in-Roll.is) (asked_roll w c.stands.ensures.standing c.in-Roll.number gone found.found found.split), tt)
+    (subst (λ m. IsAskedFor w (command_of m) (takes_all gone)) (sym c.in-Roll.is) (roll_asks w c.stands.ensures.standing c.in-Roll.number found.split.0 found.split.2 gone found.split.1 found.split.3, found.found), tt)
 
 pub returns-in-Ok-prepare_rollback-clause-anyway : goal.returns-in-Ok-prepare_rollback-clause-anyway
 returns-in-Ok-prepare_rollback-clause-anyway c f fails =
@@ -86,9 +86,9 @@ returns-in-Err-prepare_rollback-clause-answer c =
     let w = c.args.self.now.world in
     let n = c.in-Roll.number in (
       tt,
-      subst (λ m. Why (IsNotObeyed w (command_of m)) c.in-Err-prepare_rollback.fault) (sym c.in-Roll.is) (elim c.in-Err-prepare_rollback.ensures.fault [
+      subst (λ m. Why (Fails w (command_of m)) c.in-Err-prepare_rollback.fault) (sym c.in-Roll.is) (elim c.in-Err-prepare_rollback.ensures.fault [
         | inl memory ↦ inl memory.0
-        | inr none ↦ inr (subst (IsNotObeyed w (roll n)) (sym none.0) (by.Rolls.not_kept none.1))
+        | inr none ↦ inr none
       ]),
     )
 
@@ -105,26 +105,26 @@ returns-in-Ok-prepare_redo-clause-answer c =
     let w = c.args.self.now.world in
     let r = c.in-Ok-prepare_redo.addition in
     let found = c.in-Ok-prepare_redo.ensures in
-    (subst (λ m. IsAskedFor w (command_of m) (puts_back r)) (sym c.in-Redo.is) (asked_redo w c.in-Redo.number r found.found found.step), tt)
+    (subst (λ m. IsAskedFor w (command_of m) (puts_back r)) (sym c.in-Redo.is) (to_redo found.step, found.found), tt)
 
 pub returns-in-Err-prepare_redo-clause-answer : goal.returns-in-Err-prepare_redo-clause-answer
 returns-in-Err-prepare_redo-clause-answer c =
     let w = c.args.self.now.world in (
       tt,
-      subst (λ m. Why (IsNotObeyed w (command_of m)) c.in-Err-prepare_redo.fault) (sym c.in-Redo.is) (elim c.in-Err-prepare_redo.ensures.fault [
-        | inl memory ↦ inl memory
-        | inr fails ↦ inr (by.Redoes.fails fails)
-      ]),
+      subst (λ m. Why (Fails w (command_of m)) c.in-Err-prepare_redo.fault) (sym c.in-Redo.is) c.in-Err-prepare_redo.ensures.fault,
     )
+
+pub returns-in-Ok-prepare_arrange-clause-answer : goal.returns-in-Ok-prepare_arrange-clause-answer
+returns-in-Ok-prepare_arrange-clause-answer c =
+    let found = c.in-Ok-prepare_arrange.ensures in
+    (subst (λ m. IsAskedFor c.args.self.now.world (command_of m) (reorders c.in-Ok-prepare_arrange.arrangement)) (sym c.in-Arrange.is) (to_arrange (found.order ∙ c.as_slice.ensures), found.found), tt)
 
 pub returns-in-Err-prepare_arrange-clause-answer : goal.returns-in-Err-prepare_arrange-clause-answer
 returns-in-Err-prepare_arrange-clause-answer c =
     let w = c.args.self.now.world in (
       tt,
-      subst (λ m. Why (IsNotObeyed w (command_of m)) c.in-Err-prepare_arrange.fault) (sym c.in-Arrange.is) (elim c.in-Err-prepare_arrange.ensures.fault [
-        | inl memory ↦ inl memory
-        | inr q ↦ inr (subst (λ o. IsNotObeyed w (arrange o) c.in-Err-prepare_arrange.fault) c.as_slice.ensures (subst (IsNotObeyed w (arrange c.as_slice.result.now)) (sym q.2) (by.Arranges.fails q.3)))
-      ]),
+      subst (λ m. Why (Fails w (command_of m)) c.in-Err-prepare_arrange.fault) (sym c.in-Arrange.is)
+          (subst (λ o. Why (Fails w (arrange o)) c.in-Err-prepare_arrange.fault) c.as_slice.ensures c.in-Err-prepare_arrange.ensures.fault),
     )
 
 pub returns-in-Ok-clause-anyway : goal.returns-in-Ok-clause-anyway
@@ -142,3 +142,11 @@ returns-in-Ok-prepare_close-clause-anyway c f fails =
 pub returns-in-Err-prepare_close-clause-anyway : goal.returns-in-Err-prepare_close-clause-anyway
 returns-in-Err-prepare_close-clause-anyway c f fails =
     let same : Err c.in-Err-prepare_close.fault ≡ Err f = c.in-Err-prepare_close.ensures.anyway f (subst (λ m. IsNotObeyedAnyway c.args.self.now.world (command_of m) f) c.in-Close.is fails) in cc
+
+pub returns-in-Err-prepare_redo-clause-counted : goal.returns-in-Err-prepare_redo-clause-counted
+returns-in-Err-prepare_redo-clause-counted c =
+    let told = c.in-Err-prepare_redo.ensures in
+    let before = c.args.self.now.meter in
+    let after = c.prepare_redo.new.self.meter in
+    subst (λ m. CountsInObeying (command_of m) before after) (sym c.in-Redo.is)
+    (redo_counted c.args.self.now.world before after c.in-Redo.number (λ f. (told.not_shelved f).1) (λ f. (told.no_goal f).1) told.fired)

@@ -3,7 +3,8 @@ use Rattle.ghc_term.specs.Store.{value_at}
 use Rattle.ghc_term.specs.Goal.{stream}
 use Rattle.ghc_fire.specs.Effect.{Feeds}
 use Rattle.ghc_fire.specs.declared.act.Act.TheVariants.{Given as given}
-use Rattle.ghc_core.specs.Core.{Core}
+use Rattle.ghc_core.specs.Core.{Core, IsStanding}
+use Rattle.ghc_core.proofs.Standing.{standing_orderly}
 use Rattle.ghc_core.proofs.StreamSteps.{if_some, if_none, is_bound, is_full, stream_step}
 use Rattle.ghc_core.proofs.core_state.Core.prepare_input.Goals as goal
 
@@ -16,7 +17,7 @@ pub returns-then-is_full-clause-answer : goal.returns-then-is_full-clause-answer
 returns-then-is_full-clause-answer c =
     let same = c.store.ensures ∙ ap (λ (x : Core). x.world.state.store) c.self.view_is in
     let e = if_some (Feeds c.args.stream c.in-Ok.open.1 c.args.input.now c.self.inside.next (value_at c.store.result.now.held)) c.in-Ok-Some.field-0 c.in-Ok-Some.effect c.in-Ok-Some.field-0-is c.in-Ok-Some.ensures.fed in
-    (tt, inr (is_full c.args.self.now.world c.args.stream c.in-Ok.open.0 c.in-Ok.open.1 e.0 c.in-Ok-Some.effect c.store.result.now.held same c.in-Ok.ensures.found e.2 (c.is_full.ensures.full c.if-is_full.true)))
+    (tt, inr (is_full c.args.self.now.world (standing_orderly _ (subst (λ (x : Core). IsStanding x.world) c.self.view_is c.self.invariant.standing)) c.args.stream c.in-Ok.open.0 c.in-Ok.open.1 e.0 c.in-Ok-Some.effect c.store.result.now.held same c.in-Ok.ensures.found e.2 (c.is_full.ensures.full c.if-is_full.true)))
 
 pub returns-clause-answer : goal.returns-clause-answer
 returns-clause-answer c =

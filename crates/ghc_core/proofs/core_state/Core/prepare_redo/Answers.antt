@@ -6,7 +6,8 @@ use Rattle.ghc_records.specs.Record.{Record}
 use Rattle.ghc_records.specs.History.{loaded_opening}
 use Rattle.ghc_depend.proofs.Finding.{same_value, not_both as both_found}
 use Rattle.ghc_core.specs.Core.{Core}
-use Rattle.ghc_core.specs.Reverses.{RedoFails, LacksGoal, not_shelved, no_goal, changed, full}
+use Rattle.ghc_core.specs.Refusals.{RedoFails, LacksGoal}
+use Rattle.ghc_core.proofs.Refusing.{not_shelved, no_goal, changed, full}
 use Rattle.ghc_core.specs.declared.change.Change.TheVariants.{PutsBack as puts_back}
 use Rattle.ghc_core.specs.Change.{CanChange}
 use Rattle.ghc_core.proofs.Reaching.{reached_good}

@@ -1,7 +1,8 @@
 use Rattle.std.proofs.Common.{refl, subst, inl, inr}
 use Rattle.ghc_term.specs.declared.fault.Fault.{Fault}
 use Rattle.ghc_core.specs.Core.{Core}
-use Rattle.ghc_core.specs.Reverses.{CanUndo, UndoFails, not_kept, has_consequence}
+use Rattle.ghc_core.specs.Refusals.{CanUndo, UndoFails}
+use Rattle.ghc_core.proofs.Refusing.{not_kept, has_consequence}
 use Rattle.ghc_core.proofs.core_state.Core.prepare_undo.Goals as goal
 
 pub returns-in_default-clause-fault : goal.returns-in_default-clause-fault

@@ -1,4 +1,4 @@
-use Rattle.std.proofs.Common.{◌≡◌, [], ◌∷◌, ◌++◌, subst, sym, ap, ◌∙◌}
+use Rattle.std.proofs.Common.{◌≡◌, [], ◌∷◌, ◌++◌, refl, subst, sym, ap, ◌∙◌}
 use Rattle.std.specs.FinMap as finite
 use Rattle.ghc_term.specs.Lists.{In}
 use Rattle.ghc_records.specs.Record.{Record, numbers}
@@ -11,16 +11,15 @@ use Rattle.ghc_depend.specs.Depend.{MakesGoal, Binds}
 use Rattle.ghc_core.specs.World.{World}
 use Rattle.ghc_core.specs.Core.{Core, IsConsistent}
 use Rattle.ghc_core.specs.Carried.{AreCarriedOver}
-use Rattle.ghc_core.specs.Reverses.{with_redone}
 use Rattle.ghc_core.specs.StreamGoals.{told}
 use Rattle.ghc_core.specs.declared.change.Change.TheVariants.{PutsBack as puts_back}
-use Rattle.ghc_core.specs.Change.{CanChange}
+use Rattle.ghc_core.specs.Change.{with_redone, CanChange}
+use Rattle.ghc_core.specs.Reached.{by_change}
 use Rattle.ghc_core.proofs.Reaching.{reached_good}
 use Rattle.ghc_core.proofs.Standing.{standing_replay, standing_well_made}
 use Rattle.ghc_core.proofs.Taking.{unbound_there}
 use Rattle.ghc_core.proofs.Preparing.{same_world}
 use Rattle.ghc_core.proofs.StreamNames.{stands_over}
-use Rattle.ghc_core.proofs.Redone.{redone_stands}
 use Rattle.ghc_core.proofs.Exactness.{unnoted, shelved_is_new, not_there, over_exact, over_left}
 use Rattle.ghc_core.proofs.core_state.Core.put_back.Goals as goal
 
@@ -34,7 +33,7 @@ can c = subst (λ (x : Core). CanChange x.world (puts_back c.args.addition)) (sy
 pub take-step-requires-clause-acyclic : goal.take-step-requires-clause-acyclic
 take-step-requires-clause-acyclic c =
     let found = subst (λ (x : Core). CanChange x.world (puts_back c.args.addition)) (sym c.self.view_is) c.requires.found in
-    (standing_well_made _ (redone_stands _ c.self.invariant.standing c.args.addition found)).acyclic
+    (standing_well_made _ (by_change (puts_back c.args.addition) c.self.invariant.standing found refl)).acyclic
 
 pub put-requires-clause-new : goal.put-requires-clause-new
 put-requires-clause-new c r i same =
@@ -61,7 +60,7 @@ carry_over-requires-clause-new c g made =
 -- the world that is left is the one with the step redone
 left : (c : goal.After-drop-entry)
     → record { opening = loaded_opening c.self.inside.program c.self.inside.query.goals c.self.inside.query.variables c.self.inside.loaded; state = c.take-step.new.self.held; kept = c.put.new.self.held; shelf = c.remove.new.self.held; next = c.self.inside.next; journal = c.put-2.new.self.held }
-    ≡ with_redone c.args.addition c.args.addition.number (before c)
+    ≡ with_redone c.args.addition (before c)
 left c =
     let number = c.number-number.ensures ∙ ap (λ (r : Record). r.number) c.take-step.ensures.record in
     same_world (loaded_opening c.self.inside.program c.self.inside.query.goals c.self.inside.query.variables c.self.inside.loaded) c.self.inside.next c.take-step.ensures.state
@@ -75,14 +74,14 @@ carried c = subst (λ r. AreCarriedOver r c.self.inside.tries c.carry_over.new.t
 pub invariant_of-self : goal.invariant_of-self
 invariant_of-self c =
     subst (λ w. IsConsistent w c.carry_over.new.tries.notes c.carry_over.new.tries.untried c.tell.new.self) (sym (left c)) (record {
-      standing = redone_stands (before c) c.self.invariant.standing c.args.addition (can c);
+      standing = by_change (puts_back c.args.addition) c.self.invariant.standing (can c) refl;
       exact = over_exact (before c) c.args.addition (can c).1 (shelved_is_new (before c) c.self.invariant.standing c.args.addition (can c).0) c.self.inside.tries c.carry_over.new.tries c.self.invariant.exact (carried c);
       streams = stands_over (before c) c.self.invariant.standing c.args.addition (can c).1 c.self.inside.streams c.tell.new.self
           (c.tell.ensures ∙ ap (λ (r : Record). told r c.self.inside.streams) c.take-step.ensures.record) c.self.invariant.streams;
     })
 
 pub returns-clause-world : goal.returns-clause-world
-returns-clause-world c = left c ∙ ap (λ (x : Core). with_redone c.args.addition c.args.addition.number x.world) c.self.view_is
+returns-clause-world c = left c ∙ ap (λ (x : Core). with_redone c.args.addition x.world) c.self.view_is
 
 pub returns-clause-notes : goal.returns-clause-notes
 returns-clause-notes c =

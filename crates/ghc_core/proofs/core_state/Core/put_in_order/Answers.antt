@@ -1,4 +1,4 @@
-use Rattle.std.proofs.Common.{◌≡◌, ◌∙◌, ap, subst, sym}
+use Rattle.std.proofs.Common.{◌≡◌, ◌∙◌, ap, refl, subst, sym}
 use Rattle.ghc_records.specs.History.{loaded_opening}
 use Rattle.ghc_records.specs.UseIndex.{RecordsTables}
 use Rattle.ghc_hooks.specs.Notes.{AreLeft}
@@ -7,7 +7,9 @@ use Rattle.ghc_core.specs.Core.{Core}
 use Rattle.ghc_core.specs.Arrangement.{Arrangement}
 use Rattle.ghc_core.specs.declared.change.Change.TheVariants.{Reorders as reorders}
 use Rattle.ghc_core.specs.Change.{CanChange, Changes}
-use Rattle.ghc_core.proofs.Arranged.{put_in_order, arranged_stands, all_left}
+use Rattle.ghc_core.specs.Reached.{by_change}
+use Rattle.ghc_core.proofs.Arranged.{all_left}
+use Rattle.ghc_core.proofs.Preparing.{same_world}
 use Rattle.ghc_core.proofs.core_state.Core.put_in_order.Goals as goal
 
 -- the world before the change, what it takes, and the world that is left
@@ -28,10 +30,10 @@ can c = subst (λ (a : Arrangement). CanChange (before c) (reorders a)) (sym (is
 
 -- the change took the one to the other
 changed : (c : goal.After-put) → Changes (before c) (reorders (taken c)) (left c)
-changed c = put_in_order (before c) (taken c) c.put.new.self.held (can c) c.put.ensures.held
+changed c = same_world (loaded_opening c.self.inside.program c.self.inside.query.goals c.self.inside.query.variables c.self.inside.loaded) c.self.inside.next refl refl refl c.put.ensures.held
 
 pub invariant_of-self : goal.invariant_of-self
-invariant_of-self c = record { standing = arranged_stands c.self.invariant.standing (changed c); exact = c.self.invariant.exact; streams = c.self.invariant.streams }
+invariant_of-self c = record { standing = by_change (reorders (taken c)) c.self.invariant.standing (can c) (changed c); exact = c.self.invariant.exact; streams = c.self.invariant.streams }
 
 pub returns-clause-changed : goal.returns-clause-changed
 returns-clause-changed c =

@@ -3,17 +3,14 @@ use Rattle.std.specs.FinMap as finite
 use Rattle.ghc_hooks.specs.Notes.{AreLeft}
 use Rattle.ghc_depend.specs.Depend.{Binds}
 use Rattle.ghc_core.specs.Events.{stepped}
-use Rattle.ghc_core.specs.Reverses.{Redoes, with_redone, puts_back as redone}
+use Rattle.ghc_core.specs.Answers.{to_redo, does}
+use Rattle.ghc_core.specs.Change.{with_redone}
 use Rattle.ghc_core.proofs.core_state.Core.redo.Goals as goal
 
 pub returns-clause-ok : goal.returns-clause-ok
 returns-clause-ok c =
-    let w = c.args.self.now.world in
-    let r = c.in-Ok.addition in
-    let found = c.in-Ok.ensures.found in
-    let left = c.in_ok-make.ensures.changed ∙ ap (with_redone r r.number) c.in-Ok.ensures.stays.world in
-    subst (λ n. Redoes ⊥ w n (stepped n) c.make.new.self.world) c.in-Ok.ensures.step
-    (subst (Redoes ⊥ w r.number (stepped r.number)) (sym left) (redone r found.0 found.1 found.2))
+    let left = c.in_ok-make.ensures.changed ∙ ap (with_redone c.in-Ok.addition) c.in-Ok.ensures.stays.world in
+    does (to_redo c.in-Ok.ensures.step) c.in-Ok.ensures.found left (ap stepped (sym c.in-Ok.ensures.step))
 
 pub returns-clause-notes : goal.returns-clause-notes
 returns-clause-notes c =

@@ -1,7 +1,7 @@
-use Rattle.std.proofs.Common.{sym, ap, subst, inl, inr, Err}
+use Rattle.std.proofs.Common.{ap, inl, inr, Err}
 use Rattle.ghc_core.specs.Events.{undone}
-use Rattle.ghc_core.specs.Reverses.{Rolls}
-use Rattle.ghc_core.proofs.RolledBack.{rolls_first}
+use Rattle.ghc_core.specs.Answers.{does}
+use Rattle.ghc_core.proofs.Asking.{roll_asks}
 use Rattle.ghc_core.proofs.core_state.Core.rollback.Goals as goal
 
 pub returns-in-Err-clause-refused : goal.returns-in-Err-clause-refused
@@ -22,8 +22,7 @@ returns-clause-refused c none = let split = c.in-Ok.ensures.split in absurd (non
 pub returns-clause-ok : goal.returns-clause-ok
 returns-clause-ok c =
     let split = c.in-Ok.ensures.split in
-    subst (λ ns. Rolls ⊥ c.args.self.now.world c.args.number (undone ns) c.make.new.self.world) (sym c.in_ok-ns.ensures)
-    (rolls_first c.args.self.now.world c.make.new.self.world c.stands.ensures.standing c.args.number split.0 split.2 c.in-Ok.rollback split.1 split.3 c.in_ok-make.ensures.changed)
+    does (roll_asks c.args.self.now.world c.stands.ensures.standing c.args.number split.0 split.2 c.in-Ok.rollback split.1 split.3) c.in-Ok.ensures.found c.in_ok-make.ensures.changed (ap undone c.in_ok-ns.ensures)
 
 pub returns-clause-notes : goal.returns-clause-notes
 returns-clause-notes c = let split = c.in-Ok.ensures.split in (split.0, c.in-Ok.rollback, split.1, split.2, split.3, c.in_ok-make.ensures.notes)

@@ -1,8 +1,7 @@
 use Rattle.std.proofs.Common.{subst}
 use Rattle.ghc_core.specs.Core.{Core, IsStanding, AreExactIn}
 use Rattle.ghc_core.proofs.Standing.{standing_replay, standing_well_made, standing_named, standing_orderly, standing_apart, standing_keeps}
-use Rattle.ghc_core.specs.World.{no_hands}
-use Rattle.ghc_core.proofs.Histories.{reachable_legal}
+use Rattle.ghc_core.proofs.Histories.{reached_legal}
 use Rattle.ghc_core.proofs.core_state.Core.stands.Goals as goal
 
 pub returns-clause-standing : goal.returns-clause-standing
@@ -30,4 +29,4 @@ pub returns-clause-keeps : goal.returns-clause-keeps
 returns-clause-keeps c = standing_keeps c.args.self.now.world (returns-clause-standing c)
 
 pub returns-clause-legal : goal.returns-clause-legal
-returns-clause-legal c = reachable_legal c.args.self.now.world no_hands (returns-clause-standing c)
+returns-clause-legal c = reached_legal (returns-clause-standing c)

@@ -9,7 +9,8 @@ use Rattle.ghc_depend.specs.Deletion.{IsBoundIn}
 use Rattle.ghc_core.specs.World.{World}
 use Rattle.ghc_core.specs.Core.{Core}
 use Rattle.ghc_core.specs.StreamGoals.{told_back, TellStreams}
-use Rattle.ghc_core.specs.Change.{CanRoll, RollsAway}
+use Rattle.ghc_core.specs.declared.change.Change.TheVariants.{TakesAll as takes_all}
+use Rattle.ghc_core.specs.Change.{CanRoll, Changes}
 use Rattle.ghc_depend.proofs.TakenTogether.{gone_kept, gone_distinct}
 use Rattle.ghc_core.proofs.Reaching.{reached_good}
 use Rattle.ghc_core.proofs.RolledBack.{struck_first, none_again, unnoted_roll, RolledAway, rolled_away}
@@ -80,7 +81,7 @@ invariant_of-self c =
 
 pub returns-clause-changed : goal.returns-clause-changed
 returns-clause-changed c =
-    subst (λ (x : Core). RollsAway x.world c.args.rollback (left c)) c.self.view_is (subst (λ gone. RollsAway (before c) gone (left c)) c.rollback.view_is (all c).rolls)
+    subst (λ (x : Core). Changes x.world (takes_all c.args.rollback) (left c)) c.self.view_is (subst (λ gone. Changes (before c) (takes_all gone) (left c)) c.rollback.view_is (all c).rolls)
 
 pub returns-clause-notes : goal.returns-clause-notes
 returns-clause-notes c =

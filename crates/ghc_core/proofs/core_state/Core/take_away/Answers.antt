@@ -14,7 +14,8 @@ use Rattle.ghc_core.specs.Carried.{AreCarriedBack}
 use Rattle.ghc_core.specs.StreamGoals.{told_back}
 use Rattle.ghc_core.specs.declared.change.Change.TheVariants.{TakesAway as takes_away}
 use Rattle.ghc_core.specs.Change.{CanChange, Changes}
-use Rattle.ghc_core.proofs.TakenAway.{taken_away, undone_stands}
+use Rattle.ghc_core.specs.Reached.{by_change}
+use Rattle.ghc_core.proofs.TakenAway.{taken_away}
 use Rattle.ghc_core.proofs.Exactness.{unnoted, consumed_gone, back_exact, back_left}
 use Rattle.ghc_core.proofs.StreamNames.{stands_back}
 use Rattle.ghc_core.proofs.core_state.Core.take_away.Goals as goal
@@ -25,7 +26,7 @@ taken : (w : World) → IsStanding w → (r q : Record) (left : List Record) (t 
     → Changes w (takes_away r) (record w { state = t; kept = left; shelf = shelf; journal = es })
 taken w s r q left t shelf es n m can same at here out back put told =
     let number : q.number ≡ r.number = ap (λ (p : Record). p.number) same in
-    taken_away w s r left t shelf es can.0 can.1 (out r can.0 (sym (at ∙ number))) back (put ∙ ap (λ (p : Record). finite.insert w.shelf p.number p) same)
+    taken_away w s r left t shelf es can (out r can.0 (sym (at ∙ number))) back (put ∙ ap (λ (p : Record). finite.insert w.shelf p.number p) same)
     (told ∙ ap (λ k. w.journal ++ undid k ∷ []) (here ∙ number))
 
 -- the world before the change, and the world that is left
@@ -57,11 +58,14 @@ carry_back-requires-clause-new c g used =
     let found = subst (λ (x : Core). CanChange x.world (takes_away c.args.removal)) (sym c.self.view_is) c.requires.found in
     unnoted c.self.invariant.exact g (consumed_gone _ c.self.invariant.standing c.args.removal found.0 _ c.take_back-step.ensures.state g (subst (λ (r : Record). r.goal ≡ Some g) c.take_back-step.ensures.record used))
 
+stands : (c : goal.After-put-2) → IsStanding (left c)
+stands c = by_change (takes_away c.args.removal) c.self.invariant.standing (can c) (changed c)
+
 pub invariant_of-self : goal.invariant_of-self
 invariant_of-self c = record {
-  standing = undone_stands c.self.invariant.standing (changed c) refl;
+  standing = stands c;
   exact = back_exact (before c) c.self.invariant.standing c.args.removal (can c).0 _ c.take_back-step.ensures.state c.self.inside.tries c.carry_back.new.tries c.self.invariant.exact (carried c);
-  streams = stands_back (before c) c.self.invariant.standing c.args.removal (can c).0 (left c) (undone_stands c.self.invariant.standing (changed c) refl) refl c.take_back-step.ensures.state c.self.inside.streams
+  streams = stands_back (before c) c.self.invariant.standing c.args.removal (can c).0 (left c) (stands c) refl c.take_back-step.ensures.state c.self.inside.streams
       c.tell_back.new.self (c.tell_back.ensures ∙ ap (λ (r : Record). told_back r c.self.inside.streams) c.take_back-step.ensures.record) c.self.invariant.streams;
 }
 

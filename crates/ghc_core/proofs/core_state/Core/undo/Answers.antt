@@ -1,6 +1,6 @@
-use Rattle.std.proofs.Common.{[], ◌∷◌, subst, ap, inl, inr, Err}
+use Rattle.std.proofs.Common.{[], ◌∷◌, sym, ap, inl, inr, Err}
 use Rattle.ghc_core.specs.Events.{undone}
-use Rattle.ghc_core.specs.Reverses.{Undoes}
+use Rattle.ghc_core.specs.Answers.{to_undo, does}
 use Rattle.ghc_core.proofs.CertainRefusals.{undo_cannot_fail, one_undo_refusal}
 use Rattle.ghc_core.proofs.core_state.Core.undo.Goals as goal
 
@@ -17,7 +17,7 @@ pub returns-in_err-make-clause-refused : goal.returns-in_err-make-clause-refused
 returns-in_err-make-clause-refused c f fails = absurd (undo_cannot_fail c.args.self.now.world c.stands.ensures.standing c.in-Ok.removal (c.in-Ok.ensures.found.0, c.in-Ok.ensures.step) c.in-Ok.ensures.found.1 fails)
 
 pub returns-clause-ok : goal.returns-clause-ok
-returns-clause-ok c = subst (λ n. Undoes ⊥ c.args.self.now.world n (undone (n ∷ [])) c.make.new.self.world) c.in-Ok.ensures.step c.in_ok-make.ensures.changed
+returns-clause-ok c = does (to_undo c.in-Ok.ensures.step) c.in-Ok.ensures.found c.in_ok-make.ensures.changed (ap (λ n. undone (n ∷ [])) (sym c.in-Ok.ensures.step))
 
 pub returns-clause-notes : goal.returns-clause-notes
 returns-clause-notes c = (c.in-Ok.removal, (c.in-Ok.ensures.found.0, c.in-Ok.ensures.step), c.in_ok-make.ensures.notes)

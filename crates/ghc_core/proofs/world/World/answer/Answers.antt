@@ -3,10 +3,10 @@ use Rattle.ghc_core.specs.World.{World}
 use Rattle.ghc_core.specs.Core.{Core}
 use Rattle.ghc_core.specs.Events.{commit}
 use Rattle.ghc_core.specs.EventCode.{event_of, reply_of}
-use Rattle.ghc_core.specs.Answers.{to_commit, to_command}
 use Rattle.ghc_core.specs.Meets.{Meets}
 use Rattle.ghc_core.proofs.CertainRefusals.{note_refused_anyway}
-use Rattle.ghc_core.proofs.Playable.{core_stays, proposed_so, noted_so, answered_grows}
+use Rattle.ghc_core.proofs.Playable.{core_stays, left_so, moved_grows}
+use Rattle.ghc_core.proofs.Moving.{answered_moves, obeyed_answers, noted_answers}
 use Rattle.ghc_core.proofs.world.World.answer.Goals as goal
 
 pub returns-in-Propose-clause-met : goal.returns-in-Propose-clause-met
@@ -16,7 +16,7 @@ returns-in-Propose-clause-met c =
     let reply = reply_of c.propose.result in
     let stays = core_stays old.core new.core c.propose.ensures.core in
     subst (λ e. Meets old (event_of e) reply new) (sym c.in-Propose.is) (record {
-      answer = proposed_so old.core.world new.core.world old.hands new.hands c.in-Propose.hand c.in-Propose.goal c.in-Propose.choice reply c.propose.ensures.answer stays.world;
+      answer = left_so new.core.world c.propose.ensures.answer stays.world;
       anyway = c.propose.ensures.anyway;
       carries = inr stays;
       stays = λ _. stays;
@@ -30,7 +30,7 @@ returns-in-Propose-clause-entry c = inl (ap (λ (x : Core). x.world.journal) c.p
 pub returns-in-Commit-clause-met : goal.returns-in-Commit-clause-met
 returns-in-Commit-clause-met c =
     subst (λ e. Meets c.args.self.now (event_of e) (reply_of c.commit.result) c.commit.new.self) (sym c.in-Commit.is) (record {
-      answer = to_commit c.commit.ensures.answer;
+      answer = c.commit.ensures.answer;
       anyway = c.commit.ensures.anyway;
       carries = c.commit.ensures.moves;
       stays = c.commit.ensures.stays;
@@ -40,14 +40,14 @@ returns-in-Commit-clause-met c =
 
 pub returns-in-Commit-clause-entry : goal.returns-in-Commit-clause-entry
 returns-in-Commit-clause-entry c =
-    answered_grows c.args.self.now.core.world c.args.self.now.hands (commit c.in-Commit.hand) (reply_of c.commit.result) c.commit.new.self.core.world c.commit.new.self.hands (to_commit c.commit.ensures.answer)
+    moved_grows c.args.self.now.core.world c.commit.new.self.core.world (answered_moves c.args.self.now.core.world c.args.self.now.hands c.commit.new.self.hands (commit c.in-Commit.hand) (reply_of c.commit.result) c.commit.new.self.core.world c.commit.ensures.answer)
 
 pub returns-in-Note-clause-met : goal.returns-in-Note-clause-met
 returns-in-Note-clause-met c =
     let old = c.args.self.now in
     let reply = reply_of c.reply_to_note.result in
     subst (λ e. Meets old (event_of e) reply (record old { core = c.reply_to_note.new.self })) (sym c.in-Note.is) (record {
-      answer = noted_so old.core.world c.reply_to_note.new.self.world old.hands c.in-Note.goal reply c.reply_to_note.ensures.answer c.reply_to_note.ensures.world;
+      answer = left_so c.reply_to_note.new.self.world (noted_answers old.hands c.reply_to_note.ensures.answer) c.reply_to_note.ensures.world;
       anyway = λ f fails. note_refused_anyway old.core.world c.in-Note.goal f reply c.reply_to_note.ensures.no_goal fails;
       carries = c.reply_to_note.ensures.noted;
       stays = c.reply_to_note.ensures.stays;
@@ -62,7 +62,7 @@ pub returns-in-Command-clause-met : goal.returns-in-Command-clause-met
 returns-in-Command-clause-met c =
     let old = c.args.self.now in
     subst (λ e. Meets old (event_of e) (reply_of c.obey.result) (record old { core = c.obey.new.self })) (sym c.in-Command.is) (record {
-      answer = to_command c.obey.ensures.answer;
+      answer = obeyed_answers c.args.self.now.hands c.obey.ensures.answer;
       anyway = c.obey.ensures.anyway;
       carries = c.obey.ensures.moves;
       stays = c.obey.ensures.stays;

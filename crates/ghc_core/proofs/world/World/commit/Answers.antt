@@ -1,6 +1,6 @@
 use Rattle.std.proofs.Common.{refl, sym, inl, inr, Ok, Err}
 use Rattle.ghc_term.proofs.ListsLemmas.{not_both}
-use Rattle.ghc_core.specs.Proposes.{Commits}
+use Rattle.ghc_core.specs.Answers.{no_hand}
 use Rattle.ghc_core.proofs.Replying.{hand_commits, hand_gives_up, hand_was_empty}
 use Rattle.ghc_core.proofs.CertainRefusals.{no_hand_committed, empty_hand_committed, commit_refused_anyway}
 use Rattle.ghc_term.specs.declared.fault.Fault.{Fault}
@@ -9,19 +9,19 @@ use Rattle.ghc_core.proofs.Playable.{core_stays}
 use Rattle.ghc_core.proofs.world.World.commit.Goals as goal
 
 pub returns-then-not-has-clause-answer : goal.returns-then-not-has-clause-answer
-returns-then-not-has-clause-answer c = Commits.no_hand (λ i. not_both c.has.result c.if-not-has.true (c.has.ensures.1 i))
+returns-then-not-has-clause-answer c = no_hand (λ i. not_both c.has.result c.if-not-has.true (c.has.ensures.1 i))
 
 pub returns-in_default-clause-answer : goal.returns-in_default-clause-answer
-returns-in_default-clause-answer c = hand_was_empty c.args.self.now.core.world c.args.self.now.hands c.args.hand c.release.new.self (c.has.ensures.0 c.if-not-has.false) (sym c.in_default.ensures.value) c.in_default.ensures.left
+returns-in_default-clause-answer c = hand_was_empty c.args.self.now.core.world c.args.self.now.hands c.args.hand (c.has.ensures.0 c.if-not-has.false) c.release.new.self (sym c.in_default.ensures.value) c.in_default.ensures.left
 
 pub returns-in-Ok-clause-answer : goal.returns-in-Ok-clause-answer
 returns-in-Ok-clause-answer c =
-    hand_commits c.args.self.now.core.world c.args.self.now.hands c.args.hand c.in-Some.proposal c.in-Ok.number c.commit.new.self.world c.release.new.self (c.has.ensures.0 c.if-not-has.false) (sym c.in-Some.ensures.value)
+    hand_commits c.args.self.now.core.world c.args.self.now.hands c.args.hand (c.has.ensures.0 c.if-not-has.false) c.in-Some.proposal c.in-Ok.number c.commit.new.self.world c.release.new.self (sym c.in-Some.ensures.value)
     c.in-Ok.ensures.answer.0 c.in-Some.ensures.left
 
 pub returns-clause-answer : goal.returns-clause-answer
 returns-clause-answer c =
-    hand_gives_up c.args.self.now.core.world c.args.self.now.hands c.args.hand c.in-Some.proposal c.in-Err.fault c.commit.new.self.world c.release.new.self (c.has.ensures.0 c.if-not-has.false) (sym c.in-Some.ensures.value)
+    hand_gives_up c.args.self.now.core.world c.args.self.now.hands c.args.hand (c.has.ensures.0 c.if-not-has.false) c.in-Some.proposal c.in-Err.fault c.commit.new.self.world c.release.new.self (sym c.in-Some.ensures.value)
     c.in-Err.ensures.answer.1 c.in-Err.ensures.stays.world c.in-Some.ensures.left
 
 pub returns-then-not-has-clause-anyway : goal.returns-then-not-has-clause-anyway

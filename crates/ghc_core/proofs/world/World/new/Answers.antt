@@ -1,7 +1,8 @@
 use Rattle.std.proofs.Common.{ap}
 use Rattle.ghc_core.specs.World.{Hands}
 use Rattle.ghc_core.specs.Legal.{with_other_hands}
+use Rattle.ghc_core.proofs.Taking.{reached_reachable}
 use Rattle.ghc_core.proofs.world.World.new.Goals as goal
 
 pub returns-in-Ok-clause-reachable : goal.returns-in-Ok-clause-reachable
-returns-in-Ok-clause-reachable c = with_other_hands c.stands.ensures.standing (ap (λ (h : Hands). h.held) c.in-Ok.ensures)
+returns-in-Ok-clause-reachable c = with_other_hands (reached_reachable c.stands.ensures.standing) (ap (λ (h : Hands). h.held) c.in-Ok.ensures)
