@@ -107,3 +107,11 @@ pub fn has_no_other(known: &VariableList, entries: &[(VarName, Term)], x: VarNam
     }
     true
 }
+
+// Whether no variable of the entries is known, and x is not: one look-up for each.
+pub fn has_none(known: &VariableList, entries: &[(VarName, Term)], x: VarName) -> bool
+    ensures unknown { IsTrue result → ¬ In x known.now }
+    ensures others { IsTrue result → (e : name_spec × Tree) → In e entries.now → e.0 ≢ x → ¬ In e.0 known.now }
+{
+    known.place_of(x).is_none() && has_no_other(known, entries, x)
+}

@@ -5,7 +5,7 @@ ghost use Rattle.ghc_term.specs.Store.{with_binds};
 
 use crate::bindings::Bindings;
 use crate::fault::Fault;
-use crate::known::{goes_far, has_no_other};
+use crate::known::{goes_far, has_no_other, has_none};
 use crate::overlay::Overlay;
 use crate::term::Term;
 use crate::var_name::VarName;
@@ -143,14 +143,11 @@ impl Store {
         }
     }
 
-    // Makes the variables known again where x was bound: if its value goes far, or x was among them, with all that x reaches.
-    fn know(&self, x: VarName, is_far: bool, known: &mut VariableList) -> Result<(), AllocError>
+    // Makes the variables known again where x was bound, x among them, with all that it reaches.
+    fn know(&self, x: VarName, known: &mut VariableList) -> Result<(), AllocError>
         requires { AreKnownBut (value_at self.now.held) x known.old }
         ensures { OnOk result (AreKnown (value_at self.now.held) known.new) }
     {
-        if !is_far && known.place_of(x).is_none() {
-            return Ok(());
-        }
         self.acyclic();
         let alloc = self.map.allocator();
         let none = Bindings::new(alloc);
@@ -170,12 +167,26 @@ impl Store {
         requires acyclic { IsAcyclic (value_at (with_binds (finite.entries binds) self.old.held)) }
         ensures { self.new.held ≡ with_binds (finite.entries binds) self.old.held }
     {
-        let alloc = self.map.allocator();
         let (x, is_far) = self.first_of(&binds);
+        if !is_far && has_none(&self.known, binds.entries(), x) {
+            binds.put_into(&mut self.map);
+            return;
+        }
+        self.put_and_know(x, binds);
+    }
+
+    // Binds each variable to its value. x is known then, with all that it reaches, if none of the others was known, and there is memory.
+    #[inline(never)]
+    fn put_and_know(&mut self, x: VarName, binds: Bindings)
+        requires room { finite.len binds ≤ self.old.room }
+        requires acyclic { IsAcyclic (value_at (with_binds (finite.entries binds) self.old.held)) }
+        ensures { self.new.held ≡ with_binds (finite.entries binds) self.old.held }
+    {
+        let alloc = self.map.allocator();
         let mut known = mem::replace(&mut self.known, VariableList::new(alloc));
         let is_first = has_no_other(&known, binds.entries(), x);
         binds.put_into(&mut self.map);
-        if is_first && self.know(x, is_far, &mut known).is_ok() {
+        if is_first && self.know(x, &mut known).is_ok() {
             self.known = known;
         }
     }
