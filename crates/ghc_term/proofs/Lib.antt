@@ -12,6 +12,7 @@ pub mod Entries
 pub mod Walks
 pub mod Searches
 pub mod Searching
+pub mod Reaching
 pub mod Merged
 pub mod Bind
 pub mod Weights

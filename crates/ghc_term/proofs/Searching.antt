@@ -16,20 +16,20 @@ use Rattle.ghc_term.proofs.Weights.{size, size_all, size_variable}
 abbrev pub StandsIn : VarName → List Tree → Type 0
 StandsIn y ts = (t : Tree) × In t ts × Occurs y t
 
-stands_left : (ts us : List Tree) (y : VarName) → StandsIn y ts → StandsIn y (ts ++ us)
+pub stands_left : (ts us : List Tree) (y : VarName) → StandsIn y ts → StandsIn y (ts ++ us)
 stands_left ts us y s = (s.0, in_left ts us s.0 s.1, s.2)
 
-stands_right : (ts us : List Tree) (y : VarName) → StandsIn y us → StandsIn y (ts ++ us)
+pub stands_right : (ts us : List Tree) (y : VarName) → StandsIn y us → StandsIn y (ts ++ us)
 stands_right ts us y s = (s.0, in_right ts us s.0 s.1, s.2)
 
-stands_last : (ts : List Tree) (t : Tree) (y : VarName) → StandsIn y (ts ++ t ∷ []) → StandsIn y ts ⊎ Occurs y t
+pub stands_last : (ts : List Tree) (t : Tree) (y : VarName) → StandsIn y (ts ++ t ∷ []) → StandsIn y ts ⊎ Occurs y t
 stands_last ts t y s = elim (in_either ts (t ∷ []) s.0 s.1) [
   | inl i ↦ inl (s.0, i, s.2)
   | inr j ↦ elim j [ inl e ↦ inr (subst (Occurs y) e s.2) | inr n ↦ absurd n ]
 ]
 
 -- an argument of a structure
-occurs_among : (ts : List Tree) (y : VarName) → OccursIn y (trees ts) → StandsIn y ts
+pub occurs_among : (ts : List Tree) (y : VarName) → OccursIn y (trees ts) → StandsIn y ts
 occurs_among [] y o = absurd o
 occurs_among (t ∷ ts) y (inl o) = (t, inl refl, o)
 occurs_among (t ∷ ts) y (inr o) = let r = occurs_among ts y o in (r.0, inr r.1, r.2)
@@ -44,7 +44,7 @@ argument_reaches f ts i (here o) = here (among_occurs ts _ _ i o)
 argument_reaches f ts i (through o e r) = through (among_occurs ts _ _ i o) e r
 
 -- the value of a variable, if there is one, alone in a list
-value_in_list : (o : Option Tree) (t : Tree) → o ≡ Some t → In t (value_list o)
+pub value_in_list : (o : Option Tree) (t : Tree) → o ≡ Some t → In t (value_list o)
 value_in_list None t e = cc
 value_in_list (Some u) t e = inl (cc)
 
@@ -53,10 +53,14 @@ list_is_value None t i = absurd i
 list_is_value (Some u) t (inl e) = ap Some (sym e)
 list_is_value (Some u) t (inr i) = absurd i
 
+-- the variable was seen, or does not reach `to`
+abbrev pub Settled : (VarName → Option Tree) → VarName → List VarName → VarName → Type 0
+Settled T to seen y = In y seen ⊎ (¬ Reaches T (variable y) to)
+
 -- the search from a tree for `to`
 pub record Searching (T : VarName → Option Tree) (to : VarName) (from : Tree) (seen : List VarName) (open_ones : List Tree) : Type 0 where
-  pub first : (y : VarName) → Occurs y from → In y seen ⊎ StandsIn y open_ones
-  pub next : (x : VarName) → In x seen → (u : Tree) → T x ≡ Some u → (y : VarName) → Occurs y u → In y seen ⊎ StandsIn y open_ones
+  pub first : (y : VarName) → Occurs y from → Settled T to seen y ⊎ StandsIn y open_ones
+  pub next : (x : VarName) → In x seen → (u : Tree) → T x ≡ Some u → (y : VarName) → Occurs y u → Settled T to seen y ⊎ StandsIn y open_ones
   pub absent : (x : VarName) → In x seen → ¬ (x ≡ to)
   pub reached : (t : Tree) → In t open_ones → (z : VarName) → Reaches T t z → Reaches T from z
 
@@ -75,10 +79,10 @@ module _ {T : VarName → Option Tree} {to : VarName} {from : Tree} where
 
   -- a tree is taken from the end of the open ones, and others come in its place
   replaced : (seen : List VarName) (rest new : List Tree) (t : Tree) → Searching T to from seen (rest ++ t ∷ [])
-      → ((y : VarName) → Occurs y t → In y seen ⊎ StandsIn y new) → ((u : Tree) → In u new → (z : VarName) → Reaches T u z → Reaches T t z)
+      → ((y : VarName) → Occurs y t → Settled T to seen y ⊎ StandsIn y new) → ((u : Tree) → In u new → (z : VarName) → Reaches T u z → Reaches T t z)
       → Searching T to from seen (rest ++ new)
   replaced seen rest new t s all back =
-      let on_ : (y : VarName) → In y seen ⊎ StandsIn y (rest ++ t ∷ []) → In y seen ⊎ StandsIn y (rest ++ new) = λ y c.
+      let on_ : (y : VarName) → Settled T to seen y ⊎ StandsIn y (rest ++ t ∷ []) → Settled T to seen y ⊎ StandsIn y (rest ++ new) = λ y c.
       elim c [
         | inl i ↦ inl i
         | inr st ↦ elim (stands_last rest t y st) [
@@ -96,8 +100,8 @@ module _ {T : VarName → Option Tree} {to : VarName} {from : Tree} where
         ];
       }
 
-  -- nothing that is not seen stands in the tree
-  pub passed : (seen : List VarName) (rest : List Tree) (t : Tree) → Searching T to from seen (rest ++ t ∷ []) → ((y : VarName) → Occurs y t → In y seen) → Searching T to from seen rest
+  -- nothing stands in the tree but what is seen, or does not reach `to`
+  pub passed : (seen : List VarName) (rest : List Tree) (t : Tree) → Searching T to from seen (rest ++ t ∷ []) → ((y : VarName) → Occurs y t → Settled T to seen y) → Searching T to from seen rest
   passed seen rest t s all = subst (Searching T to from seen) (append-nil rest) (replaced seen rest [] t s (λ y o. inl (all y o)) (λ u i. absurd i))
 
   -- a structure gives way to its arguments
@@ -107,10 +111,10 @@ module _ {T : VarName → Option Tree} {to : VarName} {from : Tree} where
   -- a variable is seen, and its value, if there is one, comes in its place
   met : (seen : List VarName) (rest : List Tree) (x : VarName) → ¬ (x ≡ to) → Searching T to from seen (rest ++ variable x ∷ []) → Searching T to from (seen ++ x ∷ []) (rest ++ value_list (T x))
   met seen rest x n s =
-      let on_ : (y : VarName) → In y seen ⊎ StandsIn y (rest ++ variable x ∷ []) → In y (seen ++ x ∷ []) ⊎ StandsIn y (rest ++ value_list (T x)) = λ y c.
+      let on_ : (y : VarName) → Settled T to seen y ⊎ StandsIn y (rest ++ variable x ∷ []) → Settled T to (seen ++ x ∷ []) y ⊎ StandsIn y (rest ++ value_list (T x)) = λ y c.
       elim c [
-        | inl i ↦ inl (in_left seen (x ∷ []) y i)
-        | inr st ↦ elim (stands_last rest (variable x) y st) [ inl a ↦ inr (stands_left rest (value_list (T x)) y a) | inr o ↦ inl (in_right seen (x ∷ []) y (inl o)) ]
+        | inl i ↦ inl (elim i [ inl j ↦ inl (in_left seen (x ∷ []) y j) | inr m ↦ inr m ])
+        | inr st ↦ elim (stands_last rest (variable x) y st) [ inl a ↦ inr (stands_left rest (value_list (T x)) y a) | inr o ↦ inl (inl (in_right seen (x ∷ []) y (inl o))) ]
       ] in
       record {
         first = λ y o. on_ y (s.first y o);
@@ -125,9 +129,12 @@ module _ {T : VarName → Option Tree} {to : VarName} {from : Tree} where
         ];
       }
 
-  closed_under : (seen : List VarName) → Searching T to from seen [] → {t : Tree} → ((y : VarName) → Occurs y t → In y seen) → ¬ Reaches T t to
-  closed_under seen s all (here o) = s.absent to (all to o) refl
-  closed_under seen s all (through {u = u} {y = y} o e r) = closed_under seen s (λ z q. elim (s.next y (all y o) u e z q) [ inl i ↦ i | inr b ↦ absurd b.1 ]) r
+  closed_under : (seen : List VarName) → Searching T to from seen [] → {t : Tree} → ((y : VarName) → Occurs y t → Settled T to seen y) → ¬ Reaches T t to
+  closed_under seen s all (here o) = elim (all to o) [ inl i ↦ s.absent to i refl | inr n ↦ n (here refl) ]
+  closed_under seen s all (through {u = u} {y = y} o e r) = elim (all y o) [
+    | inl i ↦ closed_under seen s (λ z q. elim (s.next y i u e z q) [ inl k ↦ k | inr b ↦ absurd b.1 ]) r
+    | inr n ↦ n (through refl e r)
+  ]
 
   -- nothing is open any more
   pub finished : (seen : List VarName) → Searching T to from seen [] → ¬ Reaches T from to
@@ -166,7 +173,7 @@ pub sees : {T : VarName → Option Tree} {to : VarName} {from : Tree} (seen seen
 sees {T = T} {to = to} {from = from} seen seen' all rest after x t is e n s d =
     let s' = subst (λ z. Searching T to from seen (rest ++ z ∷ [])) (sym is) (subst (Searching T to from seen) e s) in
     elim d [
-      | inl p ↦ subst (λ z. Searching T to from z after) (sym p.1) (subst (Searching T to from seen) (sym p.2) (passed seen rest (variable x) s' (λ y o. subst (λ z. In z seen) (sym o) p.0)))
+      | inl p ↦ subst (λ z. Searching T to from z after) (sym p.1) (subst (Searching T to from seen) (sym p.2) (passed seen rest (variable x) s' (λ y o. inl (subst (λ z. In z seen) (sym o) p.0))))
       | inr p ↦ subst (λ z. Searching T to from z after) (sym p.0) (subst (Searching T to from (seen ++ x ∷ [])) (sym p.1) (met seen rest x n s'))
     ]
 

@@ -21,6 +21,7 @@ pub mod BindingTable
 pub mod BindingList
 pub mod Shown
 pub mod Seen
+pub mod Known
 pub mod Overlay
 pub mod Limit
 pub mod Fault

@@ -16,6 +16,7 @@ mod goal;
 mod goal_name;
 mod goal_view;
 mod ground;
+mod known;
 mod limit;
 mod measure;
 mod name;

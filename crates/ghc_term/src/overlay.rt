@@ -1,6 +1,7 @@
 // A store with some bindings in front of it.
 ghost use Rattle.std.specs.Prelude.{◌≡◌, ◌↔◌, [], ◌++◌, map, IfOk, OnOk, IsTrue, option_copied};
 ghost use Rattle.ghc_term.specs.Bindings.{IsAcyclic, Leads, Reaches};
+ghost use Rattle.ghc_term.specs.Known.{AreKnown, AreKnownBut};
 ghost use Rattle.ghc_term.specs.Store.{value_at, with_bindings};
 
 use crate::bindings::Bindings;
@@ -45,7 +46,7 @@ impl Chain<'_> {
 }
 
 // Adds the terms to those that are still to be searched.
-fn push_all<'a>(terms: &'a [Term], waiting: &mut Vec<&'a Term>) -> Result<(), AllocError>
+pub fn push_all<'a>(terms: &'a [Term], waiting: &mut Vec<&'a Term>) -> Result<(), AllocError>
     ensures { OnOk result (map (λ t. t.now) waiting.new.items ≡ map (λ t. t.now) waiting.old.items ++ terms.now) }
 {
     for term in terms {
@@ -56,7 +57,7 @@ fn push_all<'a>(terms: &'a [Term], waiting: &mut Vec<&'a Term>) -> Result<(), Al
 
 impl<'a> Overlay<'a> {
     ghost use Rattle.ghc_term.specs.Overlay.{value_in};
-    ghost use Rattle.ghc_term.specs.Seen.{Sees};
+    ghost use Rattle.ghc_term.specs.Seen.{Sees, Enters};
 
     /// What the variable is bound to, in front or else in the store: two look-ups at most.
     pub fn get(&self, x: VarName) -> Option<&'a Term>
@@ -107,6 +108,17 @@ impl<'a> Overlay<'a> {
         Ok(())
     }
 
+    // Whether two look-ups tell that the term does not reach the variable: where no bindings stand in front, it is a variable that the
+    // store knows, as it does not know the other.
+    fn is_known_apart(&self, term: &Term, x: VarName) -> bool
+        ensures { IsTrue result → ¬ Reaches (value_in self.now) term.now x }
+    {
+        let TermView::Var(y) = term.view() else {
+            return false;
+        };
+        self.binds.len() == 0 && self.store.is_known_apart(y, x)
+    }
+
     // The search of `reaches`, of which nothing is seen so far.
     fn search(
         &self,
@@ -124,6 +136,9 @@ impl<'a> Overlay<'a> {
             if term.is_closed() {
                 continue;
             }
+            if self.is_known_apart(term, to) {
+                continue;
+            }
             match term.view() {
                 TermView::Var(x) => {
                     if x == to {
@@ -139,11 +154,55 @@ impl<'a> Overlay<'a> {
     }
 
     /// Whether the variable stands in the term, or in the value of a variable that the term reaches. It goes by a loop,
-    /// once through the term and through each value that it reaches, and past what is closed as written.
+    /// once through the term and through each value that it reaches, past what is closed as written, and, where no bindings
+    /// stand in front, past the variables that the store knows.
     pub fn reaches(&self, alloc: Global, from: &'a Term, to: VarName) -> Result<bool, AllocError>
         ensures { IfOk result (λ yes. IsTrue yes ↔ Reaches (value_in self.now) from.now to) }
     {
         let mut seen = VariableList::new(alloc);
         self.search(alloc, from, to, &mut seen)
+    }
+
+    // Puts the variable with its value into a search that is to begin.
+    fn enter(
+        &self,
+        x: VarName,
+        known: &mut VariableList,
+        waiting: &mut Vec<&'a Term>,
+    ) -> Result<(), AllocError>
+        ensures { OnOk result (Enters (value_in self.now) x known.old known.new (map (λ t. t.now) waiting.old.items) (map (λ t. t.now) waiting.new.items)) }
+    {
+        if known.place_of(x).is_none() {
+            known.push(x)?;
+        }
+        if let Some(value) = self.get(x) {
+            waiting.push(value)?;
+        }
+        Ok(())
+    }
+
+    // Adds the variable to the known ones, with all that it reaches: one step for each part of the values that were not gone through.
+    pub(crate) fn learn(
+        &self,
+        alloc: Global,
+        x: VarName,
+        known: &mut VariableList,
+    ) -> Result<(), AllocError>
+        requires { AreKnownBut (value_in self.now) x known.old }
+        ensures { OnOk result (AreKnown (value_in self.now) known.new) }
+    {
+        let mut waiting = Vec::new(alloc);
+        self.enter(x, known, &mut waiting)?;
+        while let Some(term) = waiting.pop() {
+            if term.is_closed() {
+                continue;
+            }
+            match term.view() {
+                TermView::Var(y) => self.see(y, known, &mut waiting)?,
+                TermView::Struct(_, arguments) => push_all(arguments, &mut waiting)?,
+                _ => {}
+            }
+        }
+        Ok(())
     }
 }

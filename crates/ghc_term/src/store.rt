@@ -5,23 +5,29 @@ ghost use Rattle.ghc_term.specs.Store.{with_binds};
 
 use crate::bindings::Bindings;
 use crate::fault::Fault;
+use crate::known::{goes_far, has_no_other, has_none};
 use crate::overlay::Overlay;
 use crate::term::Term;
 use crate::var_name::VarName;
+use crate::variable_list::VariableList;
 use crate::variable_map::VariableMap;
 use crate::view::TermView;
 use std::alloc::{AllocError, Global};
 use std::marker::Model;
+use std::mem;
 
 /// What variables are bound to: a finite map in which no value reaches its own variable.
 pub struct Store {
     map: VariableMap<Term>,
+    // variables that reach none but each other, so that a search for another one goes past them
+    known: VariableList,
 }
 
 impl Model for Store {
     ghost use Rattle.ghc_term.specs.Store.{StoreValue, store_code, value_at};
     ghost use Rattle.ghc_term.specs.Table.{Table, table_code};
     ghost use Rattle.ghc_term.specs.Bindings.{IsAcyclic};
+    ghost use Rattle.ghc_term.specs.Known.{AreKnown};
 
     ghost Value = { Table StoreValue };
 
@@ -29,14 +35,15 @@ impl Model for Store {
 
     ghost view = { λ s. s.map };
 
-    ghost invariant = { λ s. IsAcyclic (value_at s.map.held) };
+    ghost invariant = { λ s. IsAcyclic (value_at s.map.held) × AreKnown (value_at s.map.held) s.known };
 }
 
 impl Store {
     ghost use Rattle.std.specs.Prelude.{option_copied, List};
     ghost use Rattle.ghc_term.specs.Store.{value_at};
-    ghost use Rattle.ghc_term.specs.Tree.{Tree};
+    ghost use Rattle.ghc_term.specs.Tree.{Tree, variable};
     ghost use Rattle.ghc_term.specs.Bindings.{IsAcyclic, Leads, Reaches};
+    ghost use Rattle.ghc_term.specs.Known.{AreKnown, AreKnownBut};
     ghost use Rattle.ghc_term.specs.declared.var_name.VarName.{VarName};
 
     /// A store without bindings, which takes no memory.
@@ -45,6 +52,7 @@ impl Store {
     {
         Store {
             map: VariableMap::new(alloc),
+            known: VariableList::new(alloc),
         }
     }
 
@@ -95,7 +103,7 @@ impl Store {
     }
 
     /// Whether the variable stands in the term, or in the value of a variable that the term reaches. It goes by a loop,
-    /// once through the term and through each value that it reaches, and past what is closed as written.
+    /// once through the term and through each value that it reaches, past what is closed as written and past known variables.
     pub fn reaches(&self, from: &Term, to: VarName) -> Result<bool, AllocError>
         ensures { IfOk result (λ yes. IsTrue yes ↔ Reaches (value_at self.now.held) from.now to) }
     {
@@ -109,6 +117,13 @@ impl Store {
         overlay.reaches(alloc, from, to)
     }
 
+    // Whether two look-ups tell that a variable does not reach another: it is known, and the other is not.
+    pub(crate) fn is_known_apart(&self, y: VarName, x: VarName) -> bool
+        ensures { IsTrue result → ¬ Reaches (value_at self.now.held) (variable y) x }
+    {
+        self.known.place_of(y).is_some() && self.known.place_of(x).is_none()
+    }
+
     /// Makes room for as many more bindings of variables that steps up to this number made. The bindings stay, and so does the room
     /// where memory is refused.
     pub fn reserve(&mut self, count: usize, newest: u32) -> Result<(), AllocError>
@@ -119,17 +134,64 @@ impl Store {
         self.map.reserve(count, newest)
     }
 
+    // The first of the bindings: its variable, and whether a search from its value is long. A look-up for each argument of the value,
+    // and where it has an open one, a few steps.
+    fn first_of(&self, binds: &Bindings) -> (VarName, bool) {
+        match binds.entries().first() {
+            Some((x, value)) => (*x, goes_far(&self.map, &self.known, value)),
+            None => (VarName { step: 0, place: 0 }, false),
+        }
+    }
+
+    // Makes the variables known again where x was bound, x among them, with all that it reaches.
+    fn know(&self, x: VarName, known: &mut VariableList) -> Result<(), AllocError>
+        requires { AreKnownBut (value_at self.now.held) x known.old }
+        ensures { OnOk result (AreKnown (value_at self.now.held) known.new) }
+    {
+        self.acyclic();
+        let alloc = self.map.allocator();
+        let none = Bindings::new(alloc);
+        let overlay = Overlay {
+            store: self,
+            binds: &none,
+        };
+        overlay.learn(alloc, x, known)
+    }
+
     /// Binds each variable to its value, where there is room and the store stays acyclic. It cannot fail, and costs a look-up for
-    /// each.
+    /// each. A single variable whose value a search goes far through is known from then on, with all that it reaches, if there is
+    /// memory for that; what is bound to a known variable is gone through once more, as far as it is not known. Nothing else shows it
+    /// than what searches cost.
     pub fn put(&mut self, binds: Bindings)
         requires room { finite.len binds ≤ self.old.room }
         requires acyclic { IsAcyclic (value_at (with_binds (finite.entries binds) self.old.held)) }
         ensures { self.new.held ≡ with_binds (finite.entries binds) self.old.held }
     {
-        binds.put_into(&mut self.map);
+        let (x, is_far) = self.first_of(&binds);
+        if !is_far && has_none(&self.known, binds.entries(), x) {
+            binds.put_into(&mut self.map);
+            return;
+        }
+        self.put_and_know(x, binds);
     }
 
-    /// Binds an unbound variable, at the cost of `reaches`. `Fault::Cycle` exactly where the value reaches the
+    // Binds each variable to its value. x is known then, with all that it reaches, if none of the others was known, and there is memory.
+    #[inline(never)]
+    fn put_and_know(&mut self, x: VarName, binds: Bindings)
+        requires room { finite.len binds ≤ self.old.room }
+        requires acyclic { IsAcyclic (value_at (with_binds (finite.entries binds) self.old.held)) }
+        ensures { self.new.held ≡ with_binds (finite.entries binds) self.old.held }
+    {
+        let alloc = self.map.allocator();
+        let mut known = mem::replace(&mut self.known, VariableList::new(alloc));
+        let is_first = has_no_other(&known, binds.entries(), x);
+        binds.put_into(&mut self.map);
+        if is_first && self.know(x, &mut known).is_ok() {
+            self.known = known;
+        }
+    }
+
+    /// Binds an unbound variable, at the cost of `reaches`, after which no variable is known. `Fault::Cycle` exactly where the value reaches the
     /// variable; otherwise it fails for want of memory alone.
     pub fn bind(&mut self, x: VarName, value: Term) -> Result<(), Fault>
         requires { value_at self.old.held x ≡ None }
@@ -143,6 +205,8 @@ impl Store {
             return Err(Fault::Cycle);
         }
         self.map.reserve(1, x.step)?;
+        let alloc = self.map.allocator();
+        let _known = mem::replace(&mut self.known, VariableList::new(alloc));
         self.map.put(x, value);
         Ok(())
     }
@@ -159,6 +223,9 @@ impl Store {
 
 impl Drop for Store {
     fn drop(self) {
-        let Store { map: _map } = self;
+        let Store {
+            map: _map,
+            known: _known,
+        } = self;
     }
 }

@@ -1,4 +1,4 @@
-use Rattle.std.proofs.Common.{◌≡◌, ◌<◌, [], ◌∷◌, ◌++◌, map, true, false, refl, sym, ap, ◌∙◌, subst}
+use Rattle.std.proofs.Common.{◌≡◌, ◌<◌, [], ◌∷◌, ◌++◌, map, true, false, refl, sym, ap, ◌∙◌, subst, inr}
 use Rattle.std.specs.Borrow.{Bor}
 use Rattle.ghc_term.specs.Tree.{Tree, variable}
 use Rattle.ghc_term.proofs.Entries.{same, same_is}
@@ -6,6 +6,7 @@ use Rattle.ghc_term.proofs.Searches.{same_itself}
 use Rattle.ghc_term.proofs.Total.{same_name}
 use Rattle.ghc_term.specs.Overlay.{value_in}
 use Rattle.ghc_term.proofs.Merged.{all_bound, all_acyclic, all_is}
+use Rattle.ghc_term.proofs.Reaching.{reaches_in}
 use Rattle.ghc_term.proofs.Searching.{Searching, sizes, found, finished, passed, popped, falls_away, sees, sees_falls, unfolds, unfold_falls, nothing_open}
 use Rattle.ghc_term.proofs.overlay.Overlay.search.Goals as goal
 
@@ -19,6 +20,17 @@ pub loop-term-preserved-then-is_closed : goal.loop-term-preserved-then-is_closed
 loop-term-preserved-then-is_closed c =
     let all = subst (Searching (value_in c.args.self.now) c.args.to c.args.from.now c.loop-term.seen) (popped _ _ c.in-Some.term c.in-Some.ensures.items) c.loop-term.invariant in
     passed c.loop-term.seen _ c.in-Some.term.now all (λ y o. absurd (c.is_closed.ensures.0 c.if-is_closed.true y o))
+
+pub loop-term-smaller-then-is_known_apart : goal.loop-term-smaller-then-is_known_apart
+loop-term-smaller-then-is_known_apart c =
+    let s = all_bound c.args.self.now in
+    let less : sizes s (map (λ t. t.now) c.pop.new.self.items) < sizes s (map (λ t. t.now) c.loop-term.waiting.items) = falls_away s _ _ c.in-Some.term.now (popped _ _ c.in-Some.term c.in-Some.ensures.items) in
+    less
+
+pub loop-term-preserved-then-is_known_apart : goal.loop-term-preserved-then-is_known_apart
+loop-term-preserved-then-is_known_apart c =
+    let all = subst (Searching (value_in c.args.self.now) c.args.to c.args.from.now c.loop-term.seen) (popped _ _ c.in-Some.term c.in-Some.ensures.items) c.loop-term.invariant in
+    passed c.loop-term.seen _ c.in-Some.term.now all (λ y o. inr (λ r. c.is_known_apart.ensures c.if-is_known_apart.true (reaches_in o r)))
 
 pub returns-then-eq : goal.returns-then-eq
 returns-then-eq c =
