@@ -55,9 +55,16 @@ pub mod WithinLimits
 pub mod OneMeaning
 pub mod ExactReading
 pub mod MarkPieces
+pub mod OperatorPieces
 pub mod TokenTexts
 pub mod Derivations
 pub mod PrintedTokens
 pub mod PrintedDepth
+pub mod PrintedValues
+pub mod PrintedNames
+pub mod PrintedItems
+pub mod PrintedBodies
+pub mod PrintedAgain
+pub mod PrintedApart
 pub mod GrammarTrees
 pub mod ReadAgain

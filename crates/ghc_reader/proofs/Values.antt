@@ -17,11 +17,11 @@ all_of_run [] run = absurd run
 all_of_run (b ∷ bs) run = let first = run.0 in let others = run.1 in grind (arith, first, others)
 
 -- the longest run and what is behind it, in one way
-record SameSplit (a b c d : List ℕ) : Type 0 where
+pub record SameSplit (a b c d : List ℕ) : Type 0 where
   pub front : a ≡ c
   pub back : b ≡ d
 
-one_split : (test : ℕ → Bool) (a b c d : List ℕ) → list_all test a ≡ true → Lacks test b → list_all test c ≡ true → Lacks test d → a ++ b ≡ c ++ d → SameSplit a b c d
+pub one_split : (test : ℕ → Bool) (a b c d : List ℕ) → list_all test a ≡ true → Lacks test b → list_all test c ≡ true → Lacks test d → a ++ b ≡ c ++ d → SameSplit a b c d
 one_split test [] b [] d all stops all' stops' e = record { front = refl; back = e }
 one_split test [] b (x ∷ c) d all stops all' stops' e = let lacks = subst (Lacks test) e stops in absurd (grind (arith, lacks, all'))
 one_split test (x ∷ a) b [] d all stops all' stops' e = let lacks = subst (Lacks test) (sym e) stops' in absurd (grind (arith, lacks, all))

@@ -20,4 +20,5 @@ pub mod Tests
 pub mod Lowered
 pub mod Scope
 pub mod Read
+pub mod PrintedGoals
 pub mod Laws

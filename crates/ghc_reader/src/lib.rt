@@ -23,8 +23,8 @@ mod token;
 mod written;
 
 pub use laws::{
-    printed_terms_are_read_again, read_ground_term_is_exact, read_program_is_exact,
-    read_query_is_exact,
+    printed_goals_are_read_again, printed_terms_are_read_again, read_ground_term_is_exact,
+    read_program_is_exact, read_query_is_exact,
 };
 pub use read::{read_ground_term, read_program, read_query};
 pub use written::{Guard, Query, Source, WrittenClause};
