@@ -64,6 +64,7 @@ pub mod PrintedValues
 pub mod PrintedNames
 pub mod PrintedItems
 pub mod PrintedBodies
+pub mod PrintedCounts
 pub mod PrintedAgain
 pub mod PrintedApart
 pub mod GrammarTrees

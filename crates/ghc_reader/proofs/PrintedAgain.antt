@@ -13,9 +13,11 @@ use Rattle.ghc_reader.specs.declared.token.Token.TheVariants as token
 use Rattle.ghc_reader.specs.declared.lexer.value.Reserved.TheVariants.{Allowed}
 use Rattle.ghc_reader.specs.Grammar.{body, last, plain, without}
 use Rattle.ghc_reader.specs.Grammar as grammar
+use Rattle.ghc_reader.specs.Derived.{query_of}
 use Rattle.ghc_reader.specs.PrintedGoals.{goals_text, HasNumbers, IsWritableGoal, IsPrintedAs, IsReadAgainAs}
 use Rattle.ghc_reader.proofs.TokenTexts.{pieces_of, text_of, spaced_lexed}
 use Rattle.ghc_reader.proofs.PrintedNames.{IsPrintedVariable, variable_run}
+use Rattle.ghc_reader.proofs.PrintedCounts.{few_variables, none_exceeded}
 use Rattle.ghc_reader.proofs.PrintedBodies.{goals_meant, goals_lexed}
 
 -- each variable is called by what is printed of it
@@ -40,7 +42,7 @@ none_again =
       spelled = refl;
       says = tt;
       placed = refl;
-      width = omega arith;
+      within = λ _. refl;
     }
 
 pub goals_again : (gs : List Goal) → ((g : Goal) → In g gs → IsWritableGoal HasNumbers g) → IsReadAgainAs (goals_text gs) gs
@@ -55,5 +57,6 @@ goals_again (g ∷ gs) w =
       spelled = refl;
       says = m.says;
       placed = m.placed;
-      width = m.width;
+      within = λ limits.
+          none_exceeded (query_of (plain m.body_is) []) m.width (omega (arith, m.many, limits.goals)) (omega (arith, few_variables (query_of (plain m.body_is) []) (g ∷ gs) m.says, limits.variables));
     }

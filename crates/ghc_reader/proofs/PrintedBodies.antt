@@ -1,5 +1,5 @@
 -- Goals that the grammar has a text for are said by a derivation, whose tokens are those of the text that is printed of the goals.
-use Rattle.std.proofs.Common.{◌≡◌, ℕ, ◌≤◌, true, false, List, [], ◌∷◌, ◌++◌, refl, sym, ap, ◌∙◌, subst, inl, inr, arith, cond, append-nil, Some}
+use Rattle.std.proofs.Common.{◌≡◌, ℕ, ◌≤◌, true, false, List, [], ◌∷◌, ◌++◌, length, refl, sym, ap, ◌∙◌, subst, inl, inr, arith, cond, append-nil, Some}
 use Rattle.std.specs.Prelude.{codes, All, not}
 use Rattle.std.specs.List.{filter_map}
 use Rattle.std.proofs.lemmas.List.Elements.{All-nil, All-cons}
@@ -45,6 +45,7 @@ pub record IsMeantBody (C : List ℕ → VarName → Type 0) (reserved : Reserve
   pub says : Each (SaysGoalBy C) (doing (goals_of body_is [])) (g ∷ gs)
   pub placed : misplaced_body (goals_of body_is []) ≡ []
   pub width : widest_goals (goals_of body_is []) ≤ 255
+  pub many : length (goals_of body_is []) ≡ length (g ∷ gs)
 
 -- a goal that is not `true` does something
 doing_first : (x : source.Goal) (xs : List source.Goal) → is_true x ≡ false → doing (x ∷ xs) ≡ x ∷ doing xs
@@ -66,6 +67,7 @@ module _ (V : VarName → Type 0) (C : List ℕ → VarName → Type 0) (W : Lis
           says = subst (λ l. Each (SaysGoalBy C) l (g ∷ [])) (sym (doing_first (item_of m.item []) [] (m.plain []))) (m.says [], tt);
           placed = ap (λ l. l ++ []) (m.placed []);
           width = omega (arith, m.width []);
+          many = refl;
         }
 
     more_goals : (g h : Goal) (gs : List Goal) → IsMeantGoal C W g → IsMeantBody C reserved h gs → IsMeantBody C reserved g (h ∷ gs)
@@ -83,9 +85,10 @@ module _ (V : VarName → Type 0) (C : List ℕ → VarName → Type 0) (W : Lis
           back = tokens_back reserved W form kept true tokens (comma ∷ space ∷ ps) spaced ∙ ap (λ l. tokens ++ (token.Mark Comma ∷ l)) others.back ∙ sym (item_append m.item [] behind);
           text = m.printed_as (comma ∷ space ∷ ps) [] ∙ ap (λ l. goal_text g ++ (codes ", " ++ l)) others.text;
           says =
-            subst (λ l. Each (SaysGoalBy C) l (g ∷ h ∷ gs)) (sym (doing_first (item_of m.item behind) (goals_of others.body_is []) (m.plain behind))) (m.says behind, others.says);
+              subst (λ l. Each (SaysGoalBy C) l (g ∷ h ∷ gs)) (sym (doing_first (item_of m.item behind) (goals_of others.body_is []) (m.plain behind))) (m.says behind, others.says);
           placed = λ i. m.placed behind i ++ others.placed i;
           width = omega (arith, m.width behind, others.width);
+          many = omega (arith, others.many);
         }
 
     pub goals_meant : (g : Goal) (gs : List Goal) → ((h : Goal) → In h (g ∷ gs) → IsWritableGoal V h) → IsMeantBody C reserved g gs

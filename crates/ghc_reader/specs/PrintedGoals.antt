@@ -1,5 +1,5 @@
 -- Goals as they are printed, and that they are read again.
-use Rattle.std.specs.Prelude.{◌≡◌, ℕ, ◌≤◌, List, [], ◌∷◌, ◌++◌, length, codes, FitsSigned}
+use Rattle.std.specs.Prelude.{◌≡◌, ℕ, ◌≤◌, List, [], ◌∷◌, ◌++◌, length, codes, FitsSigned, None}
 use Rattle.std.specs.Int.{w64}
 use Rattle.ghc_term.specs.declared.var_name.VarName.{VarName}
 use Rattle.ghc_term.specs.Lists.{In}
@@ -10,6 +10,7 @@ use Rattle.ghc_term.specs.InputTerm.{IsNameText, IsHead}
 use Rattle.ghc_term.specs.Expression.{Expression, leaf, operation}
 use Rattle.ghc_term.specs.Goal.{Goal, call, unify, assign, stream}
 use Rattle.ghc_term.specs.GoalText.{goal_text}
+use Rattle.ghc_term.specs.Variables.{variables_of_goals, firsts}
 use Rattle.ghc_reader.specs.declared.token.Token.{Token}
 use Rattle.ghc_reader.specs.declared.place.Place.{Place}
 use Rattle.ghc_reader.specs.declared.lexer.value.Reserved.TheVariants.{Allowed}
@@ -17,7 +18,8 @@ use Rattle.ghc_reader.specs.Lexed.{IsLexed}
 use Rattle.ghc_reader.specs.Grammar.{Query, query}
 use Rattle.ghc_reader.specs.Derived.{query_of}
 use Rattle.ghc_reader.specs.Reserved.{misplaced_body}
-use Rattle.ghc_reader.specs.Amounts.{widest_goals}
+use Rattle.ghc_reader.specs.Limits.{first_exceeded, of_query}
+use Rattle.ghc_reader.specs.Written.{IsWithinLimits}
 use Rattle.ghc_reader.specs.Lowered.{SaysGoalBy, Each, doing}
 
 -- ---- the text of goals
@@ -83,7 +85,7 @@ module _ (V : VarName → Type 0) where
 abbrev pub IsPrintedAs : List ℕ → VarName → Type 0
 IsPrintedAs v x = v ≡ variable_text x
 
--- The tokens of the text are those of a derivation that says the goals, where each variable is called as it is printed; none of the goals is misplaced, and none has more than 255 arguments.
+-- The tokens of the text are those of a derivation that says the goals, where each variable is called as it is printed. None of the goals is misplaced in the text, and it exceeds no limit of a query where the goals and their variables are within the limits.
 pub record IsReadAgainAs (text : List ℕ) (gs : List Goal) : Type 0 where
   pub tokens : List Token
   pub places : List Place
@@ -92,7 +94,7 @@ pub record IsReadAgainAs (text : List ℕ) (gs : List Goal) : Type 0 where
   pub spelled : tokens ≡ query derivation []
   pub says : Each (SaysGoalBy IsPrintedAs) (doing (query_of derivation [])) gs
   pub placed : misplaced_body (query_of derivation []) ≡ []
-  pub width : widest_goals (query_of derivation []) ≤ 255
+  pub within : IsWithinLimits gs (length (firsts [] (variables_of_goals gs))) → first_exceeded (of_query (query_of derivation [])) ≡ None
 
 -- Goals that the grammar has a text for are read again as themselves from the text that is printed of them, and no other goals are printed so.
 pub record PrintedGoalsAreReadAgain : Type 0 where
