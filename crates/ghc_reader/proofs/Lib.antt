@@ -67,5 +67,6 @@ pub mod PrintedBodies
 pub mod PrintedCounts
 pub mod PrintedAgain
 pub mod PrintedApart
+pub mod SoundGoals
 pub mod GrammarTrees
 pub mod ReadAgain

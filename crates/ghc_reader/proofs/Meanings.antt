@@ -68,6 +68,10 @@ module _ (W : List ℕ → Type 0) where
     AreSoundBy none = Unit {0}
     AreSoundBy (some t ts) = IsSoundBy t × AreSoundBy ts
 
+-- it holds of every variable
+abbrev pub AnyVariable : List ℕ → Type 0
+AnyVariable v = Unit {0}
+
 -- it holds of no variable
 abbrev pub NoVariable : List ℕ → Type 0
 NoVariable v = ⊥

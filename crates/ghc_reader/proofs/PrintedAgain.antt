@@ -35,13 +35,15 @@ none_again : IsReadAgainAs (codes "true") []
 none_again =
     let tokens = token.Name (codes "true") ∷ [] in
     record {
-      tokens = tokens;
-      places = token_places start (pieces_of tokens []) ++ place_behind start (text_of tokens []) ∷ [];
-      lexed = spaced_lexed Allowed IsPrintedVariable variable_run kept tokens ((refl, true_name), tt);
-      derivation = plain (last (grammar.goal (codes "true") without));
-      spelled = refl;
-      says = tt;
-      placed = refl;
+      said = record {
+        tokens = tokens;
+        places = token_places start (pieces_of tokens []) ++ place_behind start (text_of tokens []) ∷ [];
+        lexed = spaced_lexed Allowed IsPrintedVariable variable_run kept tokens ((refl, true_name), tt);
+        derivation = plain (last (grammar.goal (codes "true") without));
+        spelled = refl;
+        says = tt;
+        placed = refl;
+      };
       within = λ _. refl;
     }
 
@@ -50,13 +52,15 @@ goals_again [] w = none_again
 goals_again (g ∷ gs) w =
     let m = goals_meant HasNumbers IsPrintedAs IsPrintedVariable call_by (λ v x called. called) Allowed variable_run kept g gs w in
     record {
-      tokens = body m.body_is [];
-      places = token_places start m.pieces ++ place_behind start (spelled m.pieces []) ∷ [];
-      lexed = goals_lexed HasNumbers IsPrintedAs IsPrintedVariable call_by (λ v x called. called) Allowed variable_run kept g gs m;
-      derivation = plain m.body_is;
-      spelled = refl;
-      says = m.says;
-      placed = m.placed;
+      said = record {
+        tokens = body m.body_is [];
+        places = token_places start m.pieces ++ place_behind start (spelled m.pieces []) ∷ [];
+        lexed = goals_lexed HasNumbers IsPrintedAs IsPrintedVariable call_by (λ v x called. called) Allowed variable_run kept g gs m;
+        derivation = plain m.body_is;
+        spelled = refl;
+        says = m.says;
+        placed = m.placed;
+      };
       within = λ limits.
           none_exceeded (query_of (plain m.body_is) []) m.width (omega (arith, m.many, limits.goals)) (omega (arith, few_variables (query_of (plain m.body_is) []) (g ∷ gs) m.says, limits.variables));
     }

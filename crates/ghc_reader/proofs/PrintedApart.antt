@@ -98,8 +98,8 @@ each_one (x ∷ xs) (g ∷ gs) (h ∷ hs) p q a b =
 
 pub goals_apart : (gs hs : List goal.Goal) → ((g : goal.Goal) → In g gs → IsWritableGoal HasNumbers g) → ((h : goal.Goal) → In h hs → IsWritableGoal HasNumbers h) → goals_text gs ≡ goals_text hs → gs ≡ hs
 goals_apart gs hs a b e =
-    let p = goals_again gs a in
-    let q = goals_again hs b in
+    let p = (goals_again gs a).said in
+    let q = (goals_again hs b).said in
     let tokens = one_lexing Allowed (goals_text hs) p.tokens q.tokens p.places q.places (subst (λ text. IsLexed Allowed text p.tokens p.places) e p.lexed) q.lexed in
     let same = one_query p.derivation q.derivation (sym p.spelled ∙ tokens.0 ∙ q.spelled) in
     each_one (doing (query_of q.derivation [])) gs hs (subst (λ l. Each (SaysGoalBy IsPrintedAs) (doing l) gs) same p.says) q.says a b

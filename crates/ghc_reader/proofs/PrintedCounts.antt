@@ -1,10 +1,9 @@
 -- A text of printed goals has no more variables than the goals, and exceeds no limit where they are within the limits.
 use Rattle.std.proofs.Common.{◌≡◌, ℕ, ◌+◌, ◌≤◌, Bool, true, false, List, [], ◌∷◌, ◌++◌, length, Some, None, refl, sym, ap, ◌∙◌, subst, inl, inr, arith, cond, append_assoc, length-append}
-use Rattle.std.specs.Prelude.{◌||◌, not, bytes_eq, nat_lt}
+use Rattle.std.specs.Prelude.{◌||◌, not, bytes_eq}
 use Rattle.std.specs.List.{list_any}
 use Rattle.std.specs.Fmt.{decimal}
 use Rattle.std.specs.Ordering.{eq_by_cmp}
-use Rattle.std.proofs.lemmas.Bool.Decides.{nat_tests}
 use Rattle.std.proofs.lemmas.List.{append-nil}
 use Rattle.std.proofs.lemmas.List.Folds.{list_any-append}
 use Rattle.std.proofs.lemmas.Slice.Eq.{bytes_eq-Decides}
@@ -22,6 +21,7 @@ use Rattle.ghc_reader.specs.PrintedGoals.{IsPrintedAs}
 use Rattle.ghc_reader.proofs.Counting.{and_one, one_more}
 use Rattle.ghc_reader.proofs.Numbered.{is_seen, one_name, test_cases}
 use Rattle.ghc_reader.proofs.NamesIn.{called_goals, doing_names}
+use Rattle.ghc_reader.proofs.ReadAgain.{not_more}
 
 -- ---- variables
 
@@ -86,9 +86,6 @@ few_variables xs gs says =
     nothing e = cc
 
 -- ---- limits
-
-not_more : (most n : ℕ) → n ≤ most → nat_lt most n ≡ false
-not_more most n h = grind (arith, nat_tests)
 
 pub none_exceeded : (xs : List Goal) → widest_goals xs ≤ 255 → length xs ≤ 1000 → variables (names_of_goals xs) ≤ 1000 → first_exceeded (of_query xs) ≡ None
 none_exceeded xs width many few =

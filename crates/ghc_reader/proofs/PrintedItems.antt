@@ -53,7 +53,7 @@ another_call name f k n other =
     another_arity true differs e = absurd (differs (grind (arith, nat_tests)))
     another_arity false differs e = refl
 
-list_back : (us : List term.Tree) → list_of (trees us) ≡ us
+pub list_back : (us : List term.Tree) → list_of (trees us) ≡ us
 list_back [] = refl
 list_back (u ∷ us) = ap (λ l. u ∷ l) (list_back us)
 

@@ -28,7 +28,7 @@ use Rattle.ghc_reader.specs.Laws.{IsSpelledBy}
 use Rattle.ghc_reader.proofs.Meanings.{meaning, said, nodes_of_meaning, NoVariable, IsSound}
 use Rattle.ghc_reader.proofs.InputSizes.{weights, most_open, term_bytes}
 use Rattle.ghc_reader.proofs.TokenBytes.{AreGood, good_tokens, tokens_bytes}
-use Rattle.ghc_reader.proofs.ReadTerms.{sound_term, read_is_input}
+use Rattle.ghc_reader.proofs.ReadTerms.{sound_input, read_is_input}
 use Rattle.ghc_reader.proofs.TokenTexts.{pieces_of, text_of, spaced_lexed}
 use Rattle.ghc_reader.proofs.Derivations.{derive, derive_back, closed_term, spaced_term}
 use Rattle.ghc_reader.proofs.PrintedTokens.{printed}
@@ -81,7 +81,7 @@ term_is_spelled u g = spelled_by u (closed_meant u g)
 
 -- ---- an input term is what its text is read as
 
-not_more : (most n : ℕ) → n ≤ most → nat_lt most n ≡ false
+pub not_more : (most n : ℕ) → n ≤ most → nat_lt most n ≡ false
 not_more most n h = grind (arith, nat_tests)
 
 within_limits : (s : Tree) → widest s ≤ 255 → nodes s ≤ 10000 → first_exceeded (of_term s) ≡ None
@@ -116,8 +116,8 @@ read_no_longer text u (seen, read, says) =
     let derived = read.derived in
     let i = derived.derivation in
     let lexed = derived.scanned.has_tokens.lexed in
-    let good = subst AreGood (sym lexed.tokens_are ∙ derived.spelled) (good_tokens true lexed.pieces [] lexed.cut.each_stands lexed.cut.none_refused) in
-    let sound = (sound_term i.term [] i.closed good).0 in
+    let good = subst AreGood (sym lexed.tokens_are ∙ derived.spelled) (good_tokens Refused true lexed.pieces [] lexed.cut.each_stands lexed.cut.none_refused) in
+    let sound = sound_input i good in
     omega (
       arith,
       term_bytes i.term [] sound,

@@ -148,10 +148,10 @@ each_width R one (g ∷ gs) (w ∷ ws) f us h (inr i) = omega (arith, each_width
 
 -- ---- the limits
 
-at_most : (n m : ℕ) → nat_lt n m ≡ false → m ≤ n
+pub at_most : (n m : ℕ) → nat_lt n m ≡ false → m ≤ n
 at_most n m e = grind (arith, nat_tests)
 
-each_false : (a b c d : Bool) → cond a (Some limit.Clauses) (cond b (Some limit.Arity) (cond c (Some limit.Goals) (cond d (Some limit.Variables) None))) ≡ None → (a ≡ false) × (b ≡ false) × (c ≡ false) × (d ≡ false)
+pub each_false : (a b c d : Bool) → cond a (Some limit.Clauses) (cond b (Some limit.Arity) (cond c (Some limit.Goals) (cond d (Some limit.Variables) None))) ≡ None → (a ≡ false) × (b ≡ false) × (c ≡ false) × (d ≡ false)
 each_false true b c d e = cc
 each_false false true c d e = cc
 each_false false false true d e = cc

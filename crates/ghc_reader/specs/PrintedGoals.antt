@@ -20,7 +20,7 @@ use Rattle.ghc_reader.specs.Derived.{query_of}
 use Rattle.ghc_reader.specs.Reserved.{misplaced_body}
 use Rattle.ghc_reader.specs.Limits.{first_exceeded, of_query}
 use Rattle.ghc_reader.specs.Written.{IsWithinLimits}
-use Rattle.ghc_reader.specs.Lowered.{SaysGoalBy, Each, doing}
+use Rattle.ghc_reader.specs.Lowered.{Names, IsCalled, SaysGoalBy, Each, doing}
 
 -- ---- the text of goals
 
@@ -85,18 +85,31 @@ module _ (V : VarName → Type 0) where
 abbrev pub IsPrintedAs : List ℕ → VarName → Type 0
 IsPrintedAs v x = v ≡ variable_text x
 
--- The tokens of the text are those of a derivation that says the goals, where each variable is called as it is printed. None of the goals is misplaced in the text, and it exceeds no limit of a query where the goals and their variables are within the limits.
-pub record IsReadAgainAs (text : List ℕ) (gs : List Goal) : Type 0 where
+-- The tokens of the text are those of a derivation that says the goals, where C v x tells that the variable x is called v; and none of the goals is misplaced in the text.
+pub record IsSaidIn (C : List ℕ → VarName → Type 0) (text : List ℕ) (gs : List Goal) : Type 0 where
   pub tokens : List Token
   pub places : List Place
   pub lexed : IsLexed Allowed text tokens places
   pub derivation : Query
   pub spelled : tokens ≡ query derivation []
-  pub says : Each (SaysGoalBy IsPrintedAs) (doing (query_of derivation [])) gs
+  pub says : Each (SaysGoalBy C) (doing (query_of derivation [])) gs
   pub placed : misplaced_body (query_of derivation []) ≡ []
-  pub within : IsWithinLimits gs (length (firsts [] (variables_of_goals gs))) → first_exceeded (of_query (query_of derivation [])) ≡ None
 
--- Goals that the grammar has a text for are read again as themselves from the text that is printed of them, and no other goals are printed so.
+-- What is said in the text, of whatever length and depth, exceeds no limit of a query.
+abbrev pub IsWithin : {C : List ℕ → VarName → Type 0} {text : List ℕ} {gs : List Goal} → IsSaidIn C text gs → Type 0
+IsWithin s = first_exceeded (of_query (query_of s.derivation [])) ≡ None
+
+-- The text says the goals, where each variable is called as it is printed, and exceeds no limit where the goals and their variables are within the limits.
+pub record IsReadAgainAs (text : List ℕ) (gs : List Goal) : Type 0 where
+  pub said : IsSaidIn IsPrintedAs text gs
+  pub within : IsWithinLimits gs (length (firsts [] (variables_of_goals gs))) → IsWithin said
+
+-- The variable has one of the names.
+abbrev pub IsNamedIn : Names → VarName → Type 0
+IsNamedIn names x = (v : List ℕ) × IsCalled names v x
+
+-- Goals that the grammar has a text for are read again as themselves from the text that is printed of them; no other goals are printed so; and what a text says within the limits is such goals.
 pub record PrintedGoalsAreReadAgain : Type 0 where
   pub read_again : (gs : List Goal) → ((g : Goal) → In g gs → IsWritableGoal HasNumbers g) → IsReadAgainAs (goals_text gs) gs
   pub only : (gs hs : List Goal) → ((g : Goal) → In g gs → IsWritableGoal HasNumbers g) → ((g : Goal) → In g hs → IsWritableGoal HasNumbers g) → goals_text gs ≡ goals_text hs → gs ≡ hs
+  pub writable : (names : Names) (text : List ℕ) (gs : List Goal) (s : IsSaidIn (IsCalled names) text gs) → IsWithin s → (g : Goal) → In g gs → IsWritableGoal (IsNamedIn names) g
