@@ -96,7 +96,7 @@ all_digits (c ∷ cs) d =
     let others = all_digits cs d.1 in
     grind (arith, first, others)
 
-run_of_digits : (ds : List ℕ) → 0 < length ds → AllDigits 10 ds → IsRun is_ascii_digit is_ascii_digit ds
+pub run_of_digits : (ds : List ℕ) → 0 < length ds → AllDigits 10 ds → IsRun is_ascii_digit is_ascii_digit ds
 run_of_digits [] some d = absurd (omega arith)
 run_of_digits (c ∷ cs) some d = let digit = digit_from_value c d.0 in (grind (arith, nat_tests, digit), all_digits cs d.1)
 
