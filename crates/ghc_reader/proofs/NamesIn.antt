@@ -162,3 +162,7 @@ clause_called c w s =
 -- The variables of a written query are called as the names in its parse trees.
 pub query_called : (gs : List Goal) (q : WrittenQuery) → SaysQuery gs q → Each (IsCalled q.variables) (names_of_goals gs) (variables_of_goals q.goals)
 query_called gs q s = subst (λ vs. Each (IsCalled q.variables) vs (variables_of_goals q.goals)) (doing_names gs) (called_asked q.variables (doing gs) q.goals s.goals)
+
+-- The variables of what is asked for in mid-run are called as the names in its parse trees.
+pub asked_called : (names : Names) (gs : List Goal) (ws : List goal.Goal) → Each (SaysGoal names) (doing gs) ws → Each (IsCalled names) (names_of_goals gs) (variables_of_goals ws)
+asked_called names gs ws h = subst (λ vs. Each (IsCalled names) vs (variables_of_goals ws)) (doing_names gs) (called_goals names (doing gs) ws h)

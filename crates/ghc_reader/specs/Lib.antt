@@ -19,5 +19,6 @@ pub mod WrittenCode
 pub mod Tests
 pub mod Lowered
 pub mod Scope
+pub mod WrittenAsk
 pub mod Read
 pub mod Laws
