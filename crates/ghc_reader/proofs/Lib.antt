@@ -26,6 +26,8 @@ pub mod Forms
 pub mod OnePiece
 pub mod Cutting
 pub mod OneLexing
+pub mod SoOrNot
+pub mod RefusedOrNot
 pub mod EveryText
 pub mod Depths
 pub mod PlaceLemmas
@@ -52,6 +54,7 @@ pub mod ReadTerms
 pub mod NamesIn
 pub mod OneSaying
 pub mod WithinLimits
+pub mod AsksLowered
 pub mod OneMeaning
 pub mod ExactReading
 pub mod MarkPieces

@@ -34,7 +34,7 @@ true_names (call c) e = no_arguments c.arguments (second (bytes_eq c.name (codes
 true_names (unify s t) e = cc
 true_names (assign v a) e = cc
 
-pub doing_names : (gs : List Goal) → flat_map names_in_goal (doing gs) ≡ names_of_goals gs
+doing_names : (gs : List Goal) → flat_map names_in_goal (doing gs) ≡ names_of_goals gs
 doing_names [] = refl
 doing_names (g ∷ gs) = by_test (is_true g) refl (doing_names gs)
   where
@@ -126,7 +126,7 @@ module _ (C : List ℕ → VarName → Type 0) where
   called_each R f g one (x ∷ xs) [] h = absurd h
   called_each R f g one (x ∷ xs) (y ∷ ys) h = join (f x) (flat_map f xs) (g y) (flat_map g ys) (one x y h.0) (called_each R f g one xs ys h.1)
 
-  pub called_goals : (gs : List Goal) (ws : List goal.Goal) → Each (SaysGoalBy C) gs ws → AreCalled (flat_map names_in_goal gs) (variables_of_goals ws)
+  called_goals : (gs : List Goal) (ws : List goal.Goal) → Each (SaysGoalBy C) gs ws → AreCalled (flat_map names_in_goal gs) (variables_of_goals ws)
   called_goals gs ws h = subst (AreCalled (flat_map names_in_goal gs)) (variables_of_goals_are ws) (called_each (SaysGoalBy C) names_in_goal variables_of_goal called_goal gs ws h)
 
 module _ (names : Names) where
@@ -164,3 +164,7 @@ clause_called c w s =
 -- The variables of a written query are called as the names in its parse trees.
 pub query_called : (gs : List Goal) (q : WrittenQuery) → SaysQuery gs q → Each (IsCalled q.variables) (names_of_goals gs) (variables_of_goals q.goals)
 query_called gs q s = subst (λ vs. Each (IsCalled q.variables) vs (variables_of_goals q.goals)) (doing_names gs) (called_asked q.variables (doing gs) q.goals s.goals)
+
+-- The variables of what is asked for in mid-run are called as the names in its parse trees.
+pub asked_called : (C : List ℕ → VarName → Type 0) (gs : List Goal) (ws : List goal.Goal) → Each (SaysGoalBy C) (doing gs) ws → Each C (names_of_goals gs) (variables_of_goals ws)
+asked_called C gs ws h = subst (λ vs. Each C vs (variables_of_goals ws)) (doing_names gs) (called_goals C (doing gs) ws h)

@@ -1,5 +1,5 @@
 -- A text of printed goals has no more variables than the goals, and exceeds no limit where they are within the limits.
-use Rattle.std.proofs.Common.{◌≡◌, ℕ, ◌+◌, ◌≤◌, Bool, true, false, List, [], ◌∷◌, ◌++◌, length, Some, None, refl, sym, ap, ◌∙◌, subst, inl, inr, arith, cond, append_assoc, length-append}
+use Rattle.std.proofs.Common.{◌≡◌, ℕ, ◌+◌, ◌≤◌, Bool, true, false, List, [], ◌∷◌, ◌++◌, length, Some, None, refl, sym, ap, ◌∙◌, inl, inr, arith, cond, append_assoc, length-append}
 use Rattle.std.specs.Prelude.{◌||◌, not, bytes_eq}
 use Rattle.std.specs.List.{list_any}
 use Rattle.std.specs.Fmt.{decimal}
@@ -20,7 +20,7 @@ use Rattle.ghc_reader.specs.Lowered.{SaysGoalBy, Each, doing}
 use Rattle.ghc_reader.specs.PrintedGoals.{IsPrintedAs}
 use Rattle.ghc_reader.proofs.Counting.{and_one, one_more}
 use Rattle.ghc_reader.proofs.Numbered.{is_seen, one_name, test_cases}
-use Rattle.ghc_reader.proofs.NamesIn.{called_goals, doing_names}
+use Rattle.ghc_reader.proofs.NamesIn.{asked_called}
 use Rattle.ghc_reader.proofs.ReadAgain.{not_more}
 
 -- ---- variables
@@ -79,8 +79,7 @@ few_more (v ∷ vs) met (x ∷ xs) seen known h = elim (test_cases (is_seen x se
 
 pub few_variables : (xs : List Goal) (gs : List goal.Goal) → Each (SaysGoalBy IsPrintedAs) (doing xs) gs → variables (names_of_goals xs) ≤ length (firsts [] (variables_of_goals gs))
 few_variables xs gs says =
-    let named = called_goals IsPrintedAs (doing xs) gs says in
-    omega (arith, few_more (names_of_goals xs) [] (variables_of_goals gs) [] (λ y e. absurd (nothing e)) (subst (λ vs. Each IsPrintedAs vs (variables_of_goals gs)) (doing_names xs) named))
+    omega (arith, few_more (names_of_goals xs) [] (variables_of_goals gs) [] (λ y e. absurd (nothing e)) (asked_called IsPrintedAs xs gs says))
   where
     nothing : false ≡ true → ⊥
     nothing e = cc

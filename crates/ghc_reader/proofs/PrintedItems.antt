@@ -11,6 +11,7 @@ use Rattle.ghc_term.specs.Resolved.{all_resolved}
 use Rattle.ghc_term.specs.Expression as shown
 use Rattle.ghc_term.specs.Goal.{Goal, call, unify, assign, stream}
 use Rattle.ghc_term.specs.GoalText.{goal_text, expression_text}
+use Rattle.ghc_term.proofs.Goals.{list_of-trees}
 use Rattle.ghc_reader.specs.Pieces.{Piece}
 use Rattle.ghc_reader.specs.declared.token.Mark.TheVariants.{Equals}
 use Rattle.ghc_reader.specs.declared.token.Token.{Token}
@@ -53,10 +54,6 @@ another_call name f k n other =
     another_arity true differs e = absurd (differs (grind (arith, nat_tests)))
     another_arity false differs e = refl
 
-pub list_back : (us : List term.Tree) → list_of (trees us) ≡ us
-list_back [] = refl
-list_back (u ∷ us) = ap (λ l. u ∷ l) (list_back us)
-
 unresolved : (us : List term.Tree) → all_resolved (λ t. t) us ≡ trees us
 unresolved [] = refl
 unresolved (u ∷ us) = ap (term.more u) (unresolved us)
@@ -76,7 +73,7 @@ module _ (V : VarName → Type 0) (C : List ℕ → VarName → Type 0) (W : Lis
 
   module _ (f : List ℕ) (us : List term.Tree) (w : IsWritableGoal V (call f us)) (m : AreMeant C W (trees us)) where
     same_list : m.listed ≡ us
-    same_list = sym (list_back m.listed) ∙ ap list_of (sym m.are) ∙ list_back us
+    same_list = sym (list_of-trees m.listed) ∙ ap list_of (sym m.are) ∙ list_of-trees us
 
     say_all : SaysAllBy C m.all us
     say_all = subst (SaysAllBy C m.all) same_list m.say
@@ -85,7 +82,7 @@ module _ (V : VarName → Type 0) (C : List ℕ → VarName → Type 0) (W : Lis
     say_back = subst (λ x. SaysAllBy C x us) (sym (arguments_back m.all)) say_all
 
     counted : count (arguments_of (derive_arguments m.all)) ≡ length us
-    counted = ap count (arguments_back m.all) ∙ m.counted ∙ ap length (list_back us)
+    counted = ap count (arguments_back m.all) ∙ m.counted ∙ ap length (list_of-trees us)
 
     call_meant : IsMeantGoal C W (call f us)
     call_meant = record {

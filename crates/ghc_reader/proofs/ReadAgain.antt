@@ -99,7 +99,7 @@ input_is_read u input =
       tokens = tokens u m;
       places = places u m;
       derived = record {
-        scanned = record { has_tokens = record { short = input.text; lexed = lexed u m }; shallow = shallow };
+        scanned = record { has_tokens = record { short = λ _. input.text; lexed = lexed u m }; shallow = λ _. shallow };
         derivation = derivation u m;
         spelled = refl;
         sees = derive_back s;

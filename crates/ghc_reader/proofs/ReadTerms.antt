@@ -104,5 +104,5 @@ read_is_input text u (seen, read, says) =
     let limits = within_both (nat_lt 255 (widest seen)) (nat_lt 10000 (nodes seen)) read.within in
     let wide = at_most 255 (widest seen) limits.0 in
     let many = at_most 10000 (nodes seen) limits.1 in
-    lexed_is_input text read.tokens read.places i u derived.scanned.has_tokens.short derived.scanned.has_tokens.lexed derived.spelled derived.scanned.shallow
+    lexed_is_input text read.tokens read.places i u (derived.scanned.has_tokens.short refl) derived.scanned.has_tokens.lexed derived.spelled (derived.scanned.shallow refl)
     (omega (arith, many, ap nodes derived.sees)) (omega (arith, wide, ap widest derived.sees)) (subst (λ t. Says [] t u) (sym derived.sees) says)

@@ -1,5 +1,5 @@
 -- Goals of good tokens have names of the grammar and integers of 64 bits; and what such goals say within the limits the grammar has a text for.
-use Rattle.std.proofs.Common.{◌≡◌, ℕ, ◌≤◌, true, false, List, [], ◌∷◌, ◌++◌, length, refl, sym, ap, ◌∙◌, subst, inl, inr, arith, cond}
+use Rattle.std.proofs.Common.{◌≡◌, ℕ, ◌≤◌, true, false, List, [], ◌∷◌, ◌++◌, length, refl, sym, ap, ◌∙◌, subst, inl, inr, arith, cond, None}
 use Rattle.std.specs.Prelude.{codes, bytes_eq, nat_eq, nat_lt, ◌&&◌, not}
 use Rattle.std.proofs.lemmas.Bool.Decides.{nat_tests}
 use Rattle.std.proofs.lemmas.Slice.Eq.{bytes_eq-Decides}
@@ -10,6 +10,7 @@ use Rattle.ghc_term.specs.Tree.{trees, list_of}
 use Rattle.ghc_term.specs.InputTerm.{IsNameText}
 use Rattle.ghc_term.specs.Expression as shown
 use Rattle.ghc_term.specs.Goal as goal
+use Rattle.ghc_term.proofs.Goals.{list_of-trees}
 use Rattle.ghc_reader.specs.declared.token.Mark.TheVariants.{Close, Comma, Equals, Stop}
 use Rattle.ghc_reader.specs.declared.token.Sum.{Sum}
 use Rattle.ghc_reader.specs.declared.token.Product.{Product}
@@ -21,17 +22,16 @@ use Rattle.ghc_reader.specs.Grammar as grammar
 use Rattle.ghc_reader.specs.Source as source
 use Rattle.ghc_reader.specs.Source.{Tree, Trees, Value, Goal}
 use Rattle.ghc_reader.specs.Derived.{operand_of, product_of, product_onto, value_of, sum_onto, item_of, goals_of, query_of}
-use Rattle.ghc_reader.specs.Reserved.{count, place_if, misplaced_goal, misplaced_body}
+use Rattle.ghc_reader.specs.Reserved.{count, place_if, misplaced_goal, misplaced_body, first_place}
 use Rattle.ghc_reader.specs.Amounts.{widest, widest_of, widest_goal, widest_goals, names_of_goals, variables}
 use Rattle.ghc_reader.specs.Lowered.{Names, IsCalled, SaysBy, SaysAllBy, SaysValueBy, SaysGoalBy, Each, doing, is_true}
-use Rattle.ghc_reader.specs.PrintedGoals.{IsWritable, AreWritable, IsWritableExpression, IsWritableGoal, IsSaidIn, IsWithin, IsNamedIn}
+use Rattle.ghc_reader.specs.PrintedGoals.{IsWritable, AreWritable, IsWritableExpression, IsWritableGoal, IsReadAs, IsNamedIn}
 use Rattle.ghc_reader.proofs.Meanings.{AnyVariable, IsSoundBy, AreSoundBy}
 use Rattle.ghc_reader.proofs.Numbered.{test_cases}
 use Rattle.ghc_reader.proofs.TokenBytes.{AreGood, good_tokens}
 use Rattle.ghc_reader.proofs.ReadTerms.{sound_tree}
 use Rattle.ghc_reader.proofs.WithinLimits.{each_false, at_most}
 use Rattle.ghc_reader.proofs.PrintedValues.{IsSoundValue}
-use Rattle.ghc_reader.proofs.PrintedItems.{list_back}
 
 -- ---- a derivation of good tokens is sound
 
@@ -116,7 +116,7 @@ module _ (C : List ℕ → VarName → Type 0) (V : VarName → Type 0) (passes 
     writable_tree (source.integer n) u says sound width = subst (IsWritable V) (sym says) sound
     writable_tree (source.structure f ts) u says sound width =
         subst (IsWritable V) (sym says.1)
-        (inr (inr (sound.0, omega (arith, width, counted ts says.0 says.2, ap length (list_back says.0)))), writable_trees ts says.0 says.2 sound.1 (omega (arith, width)))
+        (inr (inr (sound.0, omega (arith, width, counted ts says.0 says.2, ap length (list_of-trees says.0)))), writable_trees ts says.0 says.2 sound.1 (omega (arith, width)))
     writable_tree source.empty u says sound width = subst (IsWritable V) (sym says) (inl refl, tt)
     writable_tree (source.cell t rest) u says sound width =
         subst (IsWritable V) (sym says.2)
@@ -171,10 +171,15 @@ module _ (C : List ℕ → VarName → Type 0) (V : VarName → Type 0) (passes 
 
 -- ---- the whole text
 
-pub said_writable : (names : Names) (text : List ℕ) (gs : List goal.Goal) (s : IsSaidIn (IsCalled names) text gs) → IsWithin s → (g : goal.Goal) → In g gs → IsWritableGoal (IsNamedIn names) g
-said_writable names text gs s within =
-    let xs = query_of s.derivation [] in
-    let lexed = s.lexed in
-    let good = subst AreGood (sym lexed.tokens_are ∙ s.spelled) (good_tokens Allowed true lexed.pieces [] lexed.cut.each_stands lexed.cut.none_refused) in
-    let limits = each_false false (nat_lt 255 (widest_goals xs)) (nat_lt 1000 (length xs)) (nat_lt 1000 (variables (names_of_goals xs))) within in
-    each_writable (IsCalled names) (IsNamedIn names) (λ v x called. (v, called)) xs gs s.says (sound_query s.derivation good) s.placed (at_most 255 (widest_goals xs) limits.1)
+nothing_misplaced : (places : List ℕ) → first_place places ≡ None → places ≡ []
+nothing_misplaced [] e = refl
+nothing_misplaced (n ∷ ns) e = cc
+
+pub read_writable : (names : Names) (text : List ℕ) (gs : List goal.Goal) → IsReadAs (IsCalled names) text gs → (g : goal.Goal) → In g gs → IsWritableGoal (IsNamedIn names) g
+read_writable names text gs (xs, read, says) =
+    let derived = read.derived in
+    let lexed = derived.scanned.has_tokens.lexed in
+    let good = subst AreGood (sym lexed.tokens_are ∙ derived.spelled) (good_tokens Allowed true lexed.pieces [] lexed.cut.each_stands lexed.cut.none_refused) in
+    let sound = subst EachIsSound derived.sees (sound_query derived.derivation good) in
+    let limits = each_false false (nat_lt 255 (widest_goals xs)) (nat_lt 1000 (length xs)) (nat_lt 1000 (variables (names_of_goals xs))) read.within in
+    each_writable (IsCalled names) (IsNamedIn names) (λ v x called. (v, called)) xs gs says sound (nothing_misplaced (misplaced_body xs) read.placed) (at_most 255 (widest_goals xs) limits.1)

@@ -1,5 +1,5 @@
 -- Goals as they are printed, and that they are read again.
-use Rattle.std.specs.Prelude.{◌≡◌, ℕ, ◌≤◌, List, [], ◌∷◌, ◌++◌, length, codes, FitsSigned, None}
+use Rattle.std.specs.Prelude.{◌≡◌, ℕ, ◌≤◌, List, [], ◌∷◌, ◌++◌, length, codes, FitsSigned}
 use Rattle.std.specs.Int.{w64}
 use Rattle.ghc_term.specs.declared.var_name.VarName.{VarName}
 use Rattle.ghc_term.specs.Lists.{In}
@@ -14,11 +14,12 @@ use Rattle.ghc_term.specs.Variables.{variables_of_goals, firsts}
 use Rattle.ghc_reader.specs.declared.token.Token.{Token}
 use Rattle.ghc_reader.specs.declared.place.Place.{Place}
 use Rattle.ghc_reader.specs.declared.lexer.value.Reserved.TheVariants.{Allowed}
-use Rattle.ghc_reader.specs.Lexed.{IsLexed}
+use Rattle.ghc_reader.specs.Lexed.{IsLexed, greatest_number}
 use Rattle.ghc_reader.specs.Grammar.{Query, query}
+use Rattle.ghc_reader.specs.Source as source
 use Rattle.ghc_reader.specs.Derived.{query_of}
 use Rattle.ghc_reader.specs.Reserved.{misplaced_body}
-use Rattle.ghc_reader.specs.Limits.{first_exceeded, of_query}
+use Rattle.ghc_reader.specs.Tests.{an_ask, a_body, IsRead}
 use Rattle.ghc_reader.specs.Written.{IsWithinLimits}
 use Rattle.ghc_reader.specs.Lowered.{Names, IsCalled, SaysGoalBy, Each, doing}
 
@@ -38,8 +39,8 @@ goals_text (g ∷ gs) = goal_text g ++ further_goals gs
 
 -- the numbers of the variable have 32 bits
 pub record HasNumbers (x : VarName) : Type 0 where
-  pub step : x.step ≤ 4294967295
-  pub place : x.place ≤ 4294967295
+  pub step : x.step ≤ greatest_number
+  pub place : x.place ≤ greatest_number
 
 module _ (V : VarName → Type 0) where
   abbrev mutual
@@ -95,21 +96,18 @@ pub record IsSaidIn (C : List ℕ → VarName → Type 0) (text : List ℕ) (gs 
   pub says : Each (SaysGoalBy C) (doing (query_of derivation [])) gs
   pub placed : misplaced_body (query_of derivation []) ≡ []
 
--- What is said in the text, of whatever length and depth, exceeds no limit of a query.
-abbrev pub IsWithin : {C : List ℕ → VarName → Type 0} {text : List ℕ} {gs : List Goal} → IsSaidIn C text gs → Type 0
-IsWithin s = first_exceeded (of_query (query_of s.derivation [])) ≡ None
-
--- The text says the goals, where each variable is called as it is printed, and exceeds no limit where the goals and their variables are within the limits.
-pub record IsReadAgainAs (text : List ℕ) (gs : List Goal) : Type 0 where
-  pub said : IsSaidIn IsPrintedAs text gs
-  pub within : IsWithinLimits gs (length (firsts [] (variables_of_goals gs))) → IsWithin said
+-- No test refuses the text as that of goals in a history, and it says the goals, where C v x tells that the variable x is called v.
+abbrev pub IsReadAs : (List ℕ → VarName → Type 0) → List ℕ → List Goal → Type 0
+IsReadAs C text gs = (seen : List source.Goal) × IsRead a_body text seen × Each (SaysGoalBy C) (doing seen) gs
 
 -- The variable has one of the names.
 abbrev pub IsNamedIn : Names → VarName → Type 0
 IsNamedIn names x = (v : List ℕ) × IsCalled names v x
 
--- Goals that the grammar has a text for are read again as themselves from the text that is printed of them; no other goals are printed so; and what a text says within the limits is such goals.
+-- Goals that the grammar has a text for are said in the text that is printed of them, whatever the limits, and within the limits they are read again from it as themselves; no other goals are printed so. What a text is read as is such goals, and what is read as asked for in mid-run is read so in a history too.
 pub record PrintedGoalsAreReadAgain : Type 0 where
-  pub read_again : (gs : List Goal) → ((g : Goal) → In g gs → IsWritableGoal HasNumbers g) → IsReadAgainAs (goals_text gs) gs
+  pub said : (gs : List Goal) → ((g : Goal) → In g gs → IsWritableGoal HasNumbers g) → IsSaidIn IsPrintedAs (goals_text gs) gs
+  pub read_again : (gs : List Goal) → ((g : Goal) → In g gs → IsWritableGoal HasNumbers g) → IsWithinLimits gs (length (firsts [] (variables_of_goals gs))) → IsReadAs IsPrintedAs (goals_text gs) gs
   pub only : (gs hs : List Goal) → ((g : Goal) → In g gs → IsWritableGoal HasNumbers g) → ((g : Goal) → In g hs → IsWritableGoal HasNumbers g) → goals_text gs ≡ goals_text hs → gs ≡ hs
-  pub writable : (names : Names) (text : List ℕ) (gs : List Goal) (s : IsSaidIn (IsCalled names) text gs) → IsWithin s → (g : Goal) → In g gs → IsWritableGoal (IsNamedIn names) g
+  pub writable : (names : Names) (text : List ℕ) (gs : List Goal) → IsReadAs (IsCalled names) text gs → (g : Goal) → In g gs → IsWritableGoal (IsNamedIn names) g
+  pub asked : (text : List ℕ) (seen : List source.Goal) → IsRead an_ask text seen → IsRead a_body text seen
