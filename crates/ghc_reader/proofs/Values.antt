@@ -70,7 +70,7 @@ one_spelling bs a b c d h k =
     record { front = same.front; back = cc }
 
 -- a reserved variable has these numbers alone
-same_numbers : (bs : List ℕ) (n m k l : ℕ) → IsReservedAs bs n m → IsReservedAs bs k l → (n ≡ k) × (m ≡ l)
+pub same_numbers : (bs : List ℕ) (n m k l : ℕ) → IsReservedAs bs n m → IsReservedAs bs k l → (n ≡ k) × (m ≡ l)
 same_numbers bs n m k l (a, b, h, first, second) (c, d, h', first', second') =
     let same = one_spelling bs a b c d h h' in
     (first ∙ ap (digits_value 10) same.front ∙ sym first', second ∙ ap (digits_value 10) same.back ∙ sym second')
