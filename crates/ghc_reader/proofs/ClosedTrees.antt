@@ -7,7 +7,7 @@ use Rattle.ghc_reader.specs.Derived.{tree_of, arguments_of, list_of, trees_of, c
 use Rattle.ghc_reader.specs.Lowered.{IsClosed, AreClosed}
 
 mutual
-  closed_tree : (t : Term) → grammar.IsClosed t → IsClosed (tree_of t)
+  pub closed_tree : (t : Term) → grammar.IsClosed t → IsClosed (tree_of t)
   closed_tree (variable v) c = absurd c
   closed_tree (integer n) c = tt
   closed_tree (call f a) c = closed_arguments a c

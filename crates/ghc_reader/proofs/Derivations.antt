@@ -1,5 +1,5 @@
 -- The derivation of a tree in its shortest form, with lists in brackets, and that its tree is this one.
-use Rattle.std.proofs.Common.{◌≡◌, true, false, List, ◌∷◌, refl, ap, ◌∙◌}
+use Rattle.std.proofs.Common.{◌≡◌, ℕ, true, false, List, ◌∷◌, refl, ap, ◌∙◌}
 use Rattle.ghc_reader.specs.declared.token.Mark.TheVariants.{Close, CloseList, Comma, Bar}
 use Rattle.ghc_reader.specs.declared.token.Token.{Token}
 use Rattle.ghc_reader.specs.declared.token.Token.TheVariants as token
@@ -8,7 +8,7 @@ use Rattle.ghc_reader.specs.Grammar as grammar
 use Rattle.ghc_reader.specs.Source as tree
 use Rattle.ghc_reader.specs.Source.{Tree, Trees}
 use Rattle.ghc_reader.specs.Derived.{tree_of, arguments_of, list_of, trees_of}
-use Rattle.ghc_reader.proofs.Meanings.{IsSound, AreSound}
+use Rattle.ghc_reader.proofs.Meanings.{IsSoundBy, AreSoundBy, NoVariable, IsSound, AreSound}
 use Rattle.ghc_reader.proofs.InputSizes.{cells_sound}
 use Rattle.ghc_reader.proofs.TokenTexts.{AreSpaced}
 
@@ -62,7 +62,7 @@ mutual
   derive_back tree.empty = refl
   derive_back (tree.cell t u) = list_back (derive t) u ∙ ap (λ x. tree.cell x u) (derive_back t)
 
-  arguments_back : (ts : Trees) → arguments_of (derive_arguments ts) ≡ ts
+  pub arguments_back : (ts : Trees) → arguments_of (derive_arguments ts) ≡ ts
   arguments_back tree.none = refl
   arguments_back (tree.some t ts) = terms_back (derive t) ts ∙ ap (λ x. tree.some x ts) (derive_back t)
 
@@ -103,7 +103,7 @@ put_tokens d closed ts has = absurd has
 put_tokens d (whole a) ts has = refl
 put_tokens d (partial a t) ts has = refl
 
--- ---- any derivation of a sound tree has no variable, and its tokens are spaced
+-- ---- any derivation of a sound tree has no variable
 
 mutual
   pub closed_term : (c : Term) → IsSound (tree_of c) → IsClosed c
@@ -112,26 +112,29 @@ mutual
   closed_term (call f without) s = tt
   closed_term (call f (within a)) s = closed_terms a s.1
   closed_term (list closed) s = tt
-  closed_term (list (whole a)) s = closed_terms a (cells_sound a tree.empty s).0
-  closed_term (list (partial a t)) s = let parts = cells_sound a (tree_of t) s in (closed_terms a parts.0, closed_term t parts.1)
+  closed_term (list (whole a)) s = closed_terms a (cells_sound NoVariable a tree.empty s).0
+  closed_term (list (partial a t)) s = let parts = cells_sound NoVariable a (tree_of t) s in (closed_terms a parts.0, closed_term t parts.1)
 
   closed_terms : (a : Terms) → AreSound (trees_of a) → AreClosed a
   closed_terms (one t) s = closed_term t s.0
   closed_terms (more t a) s = (closed_term t s.0, closed_terms a s.1)
 
-mutual
-  pub spaced_term : (c : Term) (ts : List Token) → IsSound (tree_of c) → AreSpaced false ts → AreSpaced true (grammar.term c ts)
-  spaced_term (variable v) ts s behind = absurd s
-  spaced_term (integer k) ts s behind = (refl, s, behind)
-  spaced_term (call f without) ts s behind = (refl, s.0, behind)
-  spaced_term (call f (within a)) ts s behind = (refl, s.0, (refl, spaced_terms a (token.Mark Close ∷ ts) s.1 (refl, behind)))
-  spaced_term (list closed) ts s behind = (refl, (refl, behind))
-  spaced_term (list (whole a)) ts s behind = (refl, spaced_terms a (token.Mark CloseList ∷ ts) (cells_sound a tree.empty s).0 (refl, behind))
-  spaced_term (list (partial a t)) ts s behind =
-      let parts = cells_sound a (tree_of t) s in
-      let ended = spaced_term t (token.Mark CloseList ∷ ts) parts.1 (refl, behind) in
-      (refl, spaced_terms a (token.Mark Bar ∷ grammar.term t (token.Mark CloseList ∷ ts)) parts.0 (refl, ended))
+-- ---- the tokens of any derivation are spaced, where its tree is sound but for the variables that may stand there
 
-  spaced_terms : (a : Terms) (ts : List Token) → AreSound (trees_of a) → AreSpaced false ts → AreSpaced true (terms a ts)
-  spaced_terms (one t) ts s behind = spaced_term t ts s.0 behind
-  spaced_terms (more t a) ts s behind = spaced_term t (token.Mark Comma ∷ terms a ts) s.0 (refl, spaced_terms a ts s.1 behind)
+module _ (W : List ℕ → Type 0) where
+  mutual
+    pub spaced_term : (c : Term) (ts : List Token) → IsSoundBy W (tree_of c) → AreSpaced W false ts → AreSpaced W true (grammar.term c ts)
+    spaced_term (variable v) ts s behind = ((refl, s), behind)
+    spaced_term (integer k) ts s behind = ((refl, s), behind)
+    spaced_term (call f without) ts s behind = ((refl, s.0), behind)
+    spaced_term (call f (within a)) ts s behind = ((refl, s.0), (tt, spaced_terms a (token.Mark Close ∷ ts) s.1 (tt, behind)))
+    spaced_term (list closed) ts s behind = (tt, (tt, behind))
+    spaced_term (list (whole a)) ts s behind = (tt, spaced_terms a (token.Mark CloseList ∷ ts) (cells_sound W a tree.empty s).0 (tt, behind))
+    spaced_term (list (partial a t)) ts s behind =
+        let parts = cells_sound W a (tree_of t) s in
+        let ended = spaced_term t (token.Mark CloseList ∷ ts) parts.1 (tt, behind) in
+        (tt, spaced_terms a (token.Mark Bar ∷ grammar.term t (token.Mark CloseList ∷ ts)) parts.0 (tt, ended))
+
+    spaced_terms : (a : Terms) (ts : List Token) → AreSoundBy W (trees_of a) → AreSpaced W false ts → AreSpaced W true (terms a ts)
+    spaced_terms (one t) ts s behind = spaced_term t ts s.0 behind
+    spaced_terms (more t a) ts s behind = spaced_term t (token.Mark Comma ∷ terms a ts) s.0 (tt, spaced_terms a ts s.1 behind)

@@ -1,64 +1,24 @@
 -- Every text is cut up to its end, or up to a first bad byte.
-use Rattle.std.proofs.Common.{◌≡◌, ◌≢◌, ◌⊎◌, ℕ, zero, suc, ◌<◌, ◌≤◌, Bool, true, false, List, [], ◌∷◌, ◌++◌, length, take, drop, Option, Some, All, FitsSigned, ℤ, refl, sym, ap, subst, ◌∙◌, inl, inr, arith, codes, bytes_eq, length-take-le, length-append, ltb}
-use Rattle.std.specs.Int.{w64}
-use Rattle.std.proofs.lemmas.Bool.{false≢true}
+use Rattle.std.proofs.Common.{◌≡◌, ◌≢◌, ◌⊎◌, ℕ, zero, suc, ◌<◌, ◌≤◌, Bool, true, List, [], ◌∷◌, ◌++◌, length, take, drop, All, refl, sym, ap, subst, ◌∙◌, inl, inr, arith, codes, length-take-le, length-append, ltb}
 use Rattle.std.proofs.lemmas.Bool.Decides.{Decides-ltb}
 use Rattle.std.proofs.lemmas.List.{take-append-drop}
 use Rattle.std.proofs.lemmas.List.Elements.{All-nil, All-cons}
-use Rattle.std.proofs.lemmas.Slice.Eq.{bytes_eq-Decides}
 use Rattle.std.proofs.Math.Seq.{take-append_seam}
 use Rattle.std.specs.Char.{is_ascii_digit, is_ascii_lowercase}
 use Rattle.std.specs.List.{list_all, filter_map}
-use Rattle.ghc_reader.specs.Bytes.{is_blank, is_word, begins_variable, IsRun, Lacks}
+use Rattle.ghc_reader.specs.Bytes.{is_blank, is_word, begins_variable, IsRun}
 use Rattle.ghc_reader.specs.Symbols.{spelling}
 use Rattle.ghc_reader.specs.Pieces.{Piece, IsByte, IsNegative, HasForm, Stands, HasNoPiece, spelled, Cuts, signs_behind, signs_after}
 use Rattle.ghc_reader.specs.Places.{start, place_behind}
-use Rattle.ghc_reader.specs.Lexed.{EndsNumber, IsReserved, IsRefusedToken, IsRefused, token_of, token_places, IsCutInto, EveryTextIsRead, NoTextIsReadTwice}
-use Rattle.ghc_reader.specs.declared.token.Token.{Token}
-use Rattle.ghc_reader.specs.declared.token.Token.TheVariants as token
+use Rattle.ghc_reader.specs.Lexed.{IsRefused, token_of, token_places, IsCutInto, EveryTextIsRead, NoTextIsReadTwice}
 use Rattle.ghc_reader.specs.declared.lexer.front.Kind.{Kind}
 use Rattle.ghc_reader.specs.declared.lexer.front.Kind.TheVariants as kind
 use Rattle.ghc_reader.specs.declared.lexer.value.Reserved.{Reserved}
-use Rattle.ghc_reader.specs.declared.lexer.value.Reserved.TheVariants as reserved
 use Rattle.ghc_reader.proofs.Forms.{no_form_is_empty}
 use Rattle.ghc_reader.proofs.OnePiece.{symbol_of, symbol_of-spelling, one_piece}
 use Rattle.ghc_reader.proofs.OneLexing.{one_lexing, never_both, one_bad_byte}
-use Rattle.ghc_reader.proofs.Values.{no_number, no_second_number, reserved_ends, is_reserved_from}
-
--- ---- facts that are so or not
-
-abbrev IsSoOrNot : Type 0 → Type 0
-IsSoOrNot P = P ⊎ (¬ P)
-
-true_or_not : (b : Bool) → IsSoOrNot (b ≡ true)
-true_or_not true = inl refl
-true_or_not false = inr (λ e. false≢true e)
-
-both_or_not : (P Q : Type 0) → IsSoOrNot P → IsSoOrNot Q → IsSoOrNot (P × Q)
-both_or_not P Q (inl p) (inl q) = inl (p, q)
-both_or_not P Q (inl p) (inr never) = inr (λ h. never h.1)
-both_or_not P Q (inr never) q = inr (λ h. never h.0)
-
-one_or_not : (P Q : Type 0) → IsSoOrNot P → IsSoOrNot Q → IsSoOrNot (P ⊎ Q)
-one_or_not P Q (inl p) q = inl (inl p)
-one_or_not P Q (inr never) (inl q) = inl (inr q)
-one_or_not P Q (inr never) (inr none) = inr (λ h. elim h [ inl p ↦ never p | inr q ↦ none q ])
-
-not_or_so : (P : Type 0) → IsSoOrNot P → IsSoOrNot (¬ P)
-not_or_so P (inl p) = inr (λ never. never p)
-not_or_so P (inr never) = inl never
-
-same_or_not : (xs ys : List ℕ) → IsSoOrNot (xs ≡ ys)
-same_or_not xs ys = elim (true_or_not (bytes_eq xs ys)) [
-  | inl same ↦ inl ((bytes_eq-Decides xs ys).0 same)
-  | inr other ↦ inr (λ e. other ((bytes_eq-Decides xs ys).1 e))
-]
-
-below_or_not : (P : Type 0) (a b : ℕ) → (a < b → P) → (P → a < b) → IsSoOrNot P
-below_or_not P a b to from = elim (true_or_not (ltb a b)) [
-  | inl below ↦ inl (to ((Decides-ltb a b).0 below))
-  | inr above ↦ inr (λ p. above ((Decides-ltb a b).1 (from p)))
-]
+use Rattle.ghc_reader.proofs.SoOrNot.{IsSoOrNot, true_or_not, both_or_not, one_or_not, not_or_so, same_or_not}
+use Rattle.ghc_reader.proofs.RefusedOrNot.{refused_or_not}
 
 -- ---- forms
 
@@ -184,68 +144,6 @@ piece_or_none signs text = elim (longest_or_none signs text (length text)) [
   })
   | inr none ↦ inr (λ p rest split form. none (length p.bytes) (length_front text p.bytes rest split) (p.kind, subst (HasForm signs p.kind) (sym (take_front text p.bytes rest split)) form))
 ]
-
--- ---- what is refused
-
-record SplitRun (test : ℕ → Bool) (bs : List ℕ) : Type 0 where
-  front : List ℕ
-  rest : List ℕ
-  split : bs ≡ front ++ rest
-  each : list_all test front ≡ true
-  stops : Lacks test rest
-
-split_run_of : (test : ℕ → Bool) (bs : List ℕ) → SplitRun test bs
-split_run_of test [] = record { front = []; rest = []; split = refl; each = refl; stops = tt }
-split_run_of test (b ∷ bs) = by_test (test b) refl (split_run_of test bs)
-  where
-    by_test : (t : Bool) → test b ≡ t → SplitRun test bs → SplitRun test (b ∷ bs)
-    by_test true passes more =
-        let all = more.each in
-        record { front = b ∷ more.front; rest = more.rest; split = ap (λ l. b ∷ l) more.split; each = grind (arith, all, passes); stops = more.stops }
-    by_test false fails more = record { front = []; rest = b ∷ bs; split = refl; each = refl; stops = fails }
-
-abbrev IsDigits : List ℕ → Type 0
-IsDigits = IsRun is_ascii_digit is_ascii_digit
-
-number_or_none : (text : List ℕ) → ((rest : List ℕ) × EndsNumber text rest) ⊎ ((digits more : List ℕ) → IsDigits digits → text ≢ 95 ∷ (digits ++ more))
-number_or_none [] = inr (λ digits more run e. cc)
-number_or_none (b ∷ bs) = elim (same_or_not (b ∷ []) (95 ∷ [])) [
-  | inr other ↦ inr (λ digits more run e. other (cc))
-  | inl same ↦ let s = split_run_of is_ascii_digit bs in by_front s.front s.rest same s.split s.each s.stops
-]
-  where
-    none_there : (rest digits more : List ℕ) → bs ≡ rest → Lacks is_ascii_digit rest → IsDigits digits → bs ≡ digits ++ more → ⊥
-    none_there rest [] more split stops run e = run
-    none_there rest (d ∷ ds) more split stops run e = let lacks = subst (Lacks is_ascii_digit) (sym split ∙ e) stops in let first = run.0 in grind (arith, lacks, first)
-
-    by_front : (front rest : List ℕ) → b ∷ [] ≡ 95 ∷ [] → bs ≡ front ++ rest → list_all is_ascii_digit front ≡ true → Lacks is_ascii_digit rest → ((rest : List ℕ) × EndsNumber (b ∷ bs) rest) ⊎ ((digits more : List ℕ) → IsDigits digits → b ∷ bs ≢ 95 ∷ (digits ++ more))
-    by_front [] rest same split each stops = inr (λ digits more run e. none_there rest digits more split stops run (cc))
-    by_front (d ∷ ds) rest same split each stops =
-        let first : is_ascii_digit d ≡ true = grind (arith, each) in
-        let others : list_all is_ascii_digit ds ≡ true = grind (arith, each) in
-        inl (rest, (d ∷ ds, (first, others), cc, stops))
-
-reserved_or_not : (bs : List ℕ) → IsSoOrNot (IsReserved bs)
-reserved_or_not bs = elim (number_or_none bs) [
-  | inr none ↦ inr (no_number bs none)
-  | inl (rest, first) ↦ elim (number_or_none rest) [
-    | inr none ↦ inr (no_second_number bs rest first none)
-    | inl (end, last) ↦ elim (same_or_not end []) [
-      | inl ended ↦ inl (is_reserved_from bs rest end first last ended)
-      | inr more ↦ inr (λ is. more (reserved_ends bs rest end first last is))
-    ]
-  ]
-]
-
-fits_or_not : (z : ℤ) → IsSoOrNot (FitsSigned w64 z)
-fits_or_not z = below_or_not (FitsSigned w64 z) _ _ (λ h. record { sfits = h }) (λ fits. fits.sfits)
-
-refused_or_not : (r : Reserved) (t : Option Token) → IsSoOrNot (IsRefusedToken r t)
-refused_or_not reserved.Refused (Some (token.Integer value)) = not_or_so _ (fits_or_not value)
-refused_or_not reserved.Allowed (Some (token.Integer value)) = not_or_so _ (fits_or_not value)
-refused_or_not reserved.Refused (Some (token.Variable bs)) = reserved_or_not bs
-refused_or_not reserved.Refused t = inr (λ h. h)
-refused_or_not reserved.Allowed t = inr (λ h. h)
 
 -- ---- the cut
 

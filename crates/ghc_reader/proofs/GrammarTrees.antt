@@ -1,101 +1,125 @@
--- Each tree of the grammar is the meaning of a parse tree without variables.
-use Rattle.std.proofs.Common.{◌≡◌, ℕ, ◌≤◌, true, false, List, [], ◌∷◌, length, refl, sym, ap, subst, inl, inr, arith, IsTrue}
+-- Each tree that the grammar has a text for is said by a parse tree.
+use Rattle.std.proofs.Common.{◌≡◌, ℕ, ◌≤◌, true, false, List, [], ◌∷◌, length, refl, ap, inl, inr, arith, IsTrue}
 use Rattle.std.specs.Prelude.{codes}
 use Rattle.std.proofs.lemmas.Slice.Eq.{bytes_eq-Decides}
+use Rattle.ghc_term.specs.declared.var_name.VarName.{VarName}
 use Rattle.ghc_term.specs.Tree as term
-use Rattle.ghc_term.specs.Tree.{node, trees, nil, cons, list_of}
+use Rattle.ghc_term.specs.Tree.{node, trees, list_of}
 use Rattle.ghc_term.specs.Text.{is_cell, is_nil}
 use Rattle.ghc_term.specs.InputTerm.{IsHead, IsInGrammar, AllInGrammar}
 use Rattle.ghc_reader.specs.Source.{Tree, Trees, variable, integer, structure, empty, cell, none, some}
+use Rattle.ghc_reader.specs.Reserved.{count}
 use Rattle.ghc_reader.specs.Amounts.{widest, widest_of}
-use Rattle.ghc_reader.specs.Lowered.{Says, SaysAll}
-use Rattle.ghc_reader.proofs.Meanings.{meaning, meanings, IsSound, AreSound, count_meanings}
+use Rattle.ghc_reader.specs.Lowered.{SaysBy, SaysAllBy, IsCalled}
+use Rattle.ghc_reader.specs.PrintedGoals.{IsWritable, AreWritable}
+use Rattle.ghc_reader.proofs.Meanings.{IsSoundBy, AreSoundBy, NoVariable}
 
--- a sound parse tree of at most 255 arguments with this meaning
-pub record IsMeant (u : term.Tree) : Type 0 where
+-- a parse tree of at most 255 arguments that says the tree, and whose variables pass W
+pub record IsMeant (C : List ℕ → VarName → Type 0) (W : List ℕ → Type 0) (u : term.Tree) : Type 0 where
   pub seen : Tree
-  pub sound : IsSound seen
+  pub sound : IsSoundBy W seen
   pub width : widest seen ≤ 255
-  pub means : u ≡ meaning seen
+  pub says : SaysBy C seen u
 
--- .. for each of the trees
-record AreMeant (us : term.Trees) : Type 0 where
+-- .. for the trees of a list together
+pub record AreMeant (C : List ℕ → VarName → Type 0) (W : List ℕ → Type 0) (us : term.Trees) : Type 0 where
   pub all : Trees
-  pub sound : AreSound all
+  pub sound : AreSoundBy W all
   pub width : widest_of all ≤ 255
-  pub mean : us ≡ meanings all
+  pub listed : List term.Tree
+  pub are : us ≡ trees listed
+  pub say : SaysAllBy C all listed
+  pub counted : count all ≡ length (list_of us)
 
 never : false ≡ true → ⊥
 never e = cc
 
-nil_meant : (f : List ℕ) (us : term.Trees) → IsTrue (is_nil f us) → IsMeant (node f us)
-nil_meant f term.none e = record {
-  seen = empty;
-  sound = tt;
-  width = omega arith;
-  means = ap (λ g. node g term.none) ((bytes_eq-Decides f (codes "[]")).0 e);
-}
-nil_meant f (term.more u us) e = absurd (never e)
+-- where V holds of the variables, each of which is called by a name that passes W
+module _ (V : VarName → Type 0) (C : List ℕ → VarName → Type 0) (W : List ℕ → Type 0) (call : (x : VarName) → V x → (v : List ℕ) × C v x × W v) where
+  abbrev EachIsMeant : term.Trees → Type 0
+  EachIsMeant term.none = Unit {0}
+  EachIsMeant (term.more u us) = IsMeant C W u × EachIsMeant us
 
-cell_meant : (f : List ℕ) (us : Trees) → IsTrue (is_cell f (meanings us)) → AreSound us → widest_of us ≤ 255 → IsMeant (node f (meanings us))
-cell_meant f none e s w = absurd (never e)
-cell_meant f (some a none) e s w = absurd (never e)
-cell_meant f (some a (some b none)) e s w = record {
-  seen = cell a b;
-  sound = (s.0, s.1.0);
-  width = omega (arith, w);
-  means = ap (λ g. node g (meanings (some a (some b none)))) ((bytes_eq-Decides f (codes ".")).0 e);
-}
-cell_meant f (some a (some b (some c us))) e s w = absurd (never e)
+  nil_meant : (f : List ℕ) (us : term.Trees) → IsTrue (is_nil f us) → IsMeant C W (node f us)
+  nil_meant f term.none e = record {
+    seen = empty;
+    sound = tt;
+    width = omega arith;
+    says = ap (λ g. node g term.none) ((bytes_eq-Decides f (codes "[]")).0 e);
+  }
+  nil_meant f (term.more u us) e = absurd (never e)
 
-node_meant : (f : List ℕ) (us : term.Trees) → IsHead f us → AreMeant us → IsMeant (node f us)
-node_meant f us (inl empty_list) parts = nil_meant f us empty_list
-node_meant f us (inr (inl list_cell)) parts =
-    subst (λ x. IsMeant (node f x)) (sym parts.mean) (cell_meant f parts.all (subst (λ x. IsTrue (is_cell f x)) parts.mean list_cell) parts.sound parts.width)
-node_meant f us (inr (inr name)) parts = record {
-  seen = structure f parts.all;
-  sound = (name.0, parts.sound);
-  width = omega (arith, name.1, parts.width, count_meanings parts.all, ap (λ x. length (list_of x)) parts.mean);
-  means = ap (node f) parts.mean;
-}
+  cell_meant : (f : List ℕ) (us : term.Trees) → IsTrue (is_cell f us) → EachIsMeant us → IsMeant C W (node f us)
+  cell_meant f term.none e parts = absurd (never e)
+  cell_meant f (term.more a term.none) e parts = absurd (never e)
+  cell_meant f (term.more a (term.more b term.none)) e parts =
+      let t = parts.0 in
+      let u = parts.1.0 in
+      record {
+        seen = cell t.seen u.seen;
+        sound = (t.sound, u.sound);
+        width = omega (arith, t.width, u.width);
+        says = (a, b, ap (λ g. node g (term.more a (term.more b term.none))) ((bytes_eq-Decides f (codes ".")).0 e), t.says, u.says);
+      }
+  cell_meant f (term.more a (term.more b (term.more c us))) e parts = absurd (never e)
 
-mutual
-  pub meant : (u : term.Tree) → IsInGrammar u → IsMeant u
-  meant (term.variable x) g = absurd g
-  meant (term.integer k) g = record { seen = integer k; sound = g; width = omega arith; means = refl }
-  meant (node f us) g = node_meant f us g.0 (all_meant us g.1)
-
-  all_meant : (us : term.Trees) → AllInGrammar us → AreMeant us
-  all_meant term.none g = record { all = none; sound = tt; width = omega arith; mean = refl }
-  all_meant (term.more u us) g =
-      let first = meant u g.0 in
-      let others = all_meant us g.1 in
+  gathered : (us : term.Trees) → EachIsMeant us → AreMeant C W us
+  gathered term.none parts = record { all = none; sound = tt; width = omega arith; listed = []; are = refl; say = refl; counted = refl }
+  gathered (term.more u us) parts =
+      let first = parts.0 in
+      let others = gathered us parts.1 in
       record {
         all = some first.seen others.all;
         sound = (first.sound, others.sound);
         width = omega (arith, first.width, others.width);
-        mean = λ i. term.more (first.means i) (others.mean i);
+        listed = u ∷ others.listed;
+        are = ap (term.more u) others.are;
+        say = (u, others.listed, refl, first.says, others.say);
+        counted = omega (arith, others.counted);
       }
 
--- ---- a parse tree says its meaning
+  node_meant : (f : List ℕ) (us : term.Trees) → IsHead f us → EachIsMeant us → IsMeant C W (node f us)
+  node_meant f us (inl empty_list) parts = nil_meant f us empty_list
+  node_meant f us (inr (inl list_cell)) parts = cell_meant f us list_cell parts
+  node_meant f us (inr (inr name)) parts =
+      let those = gathered us parts in
+      record {
+        seen = structure f those.all;
+        sound = (name.0, those.sound);
+        width = omega (arith, name.1, those.width, those.counted);
+        says = (those.listed, ap (node f) those.are, those.say);
+      }
 
--- the meanings of some parse trees, as a list
-abbrev listed : Trees → List term.Tree
-listed none = []
-listed (some t ts) = meaning t ∷ listed ts
+  mutual
+    pub meant : (u : term.Tree) → IsWritable V u → IsMeant C W u
+    meant (term.variable x) w =
+        let named = call x w in
+        record { seen = variable named.0; sound = named.2; width = omega arith; says = (x, refl, named.1) }
+    meant (term.integer k) w = record { seen = integer k; sound = w; width = omega arith; says = refl }
+    meant (node f us) w = node_meant f us w.0 (each_meant us w.1)
 
-listed_back : (ts : Trees) → trees (listed ts) ≡ meanings ts
-listed_back none = refl
-listed_back (some t ts) = ap (term.more (meaning t)) (listed_back ts)
+    each_meant : (us : term.Trees) → AreWritable V us → EachIsMeant us
+    each_meant term.none w = tt
+    each_meant (term.more u us) w = (meant u w.0, each_meant us w.1)
+
+  pub all_meant : (us : term.Trees) → AreWritable V us → AreMeant C W us
+  all_meant us w = gathered us (each_meant us w)
+
+-- ---- closed trees
+
+-- it holds of no variable
+abbrev no_variable : VarName → Type 0
+no_variable x = ⊥
 
 mutual
-  pub says_meaning : (t : Tree) → IsSound t → Says [] t (meaning t)
-  says_meaning (variable v) s = absurd s
-  says_meaning (integer n) s = refl
-  says_meaning (structure f ts) s = (listed ts, ap (node f) (sym (listed_back ts)), says_meanings ts s.1)
-  says_meaning empty s = refl
-  says_meaning (cell t rest) s = (meaning t, meaning rest, refl, says_meaning t s.0, says_meaning rest s.1)
+  closed_writable : (u : term.Tree) → IsInGrammar u → IsWritable no_variable u
+  closed_writable (term.variable x) g = absurd g
+  closed_writable (term.integer k) g = g
+  closed_writable (node f us) g = (g.0, all_closed us g.1)
 
-  says_meanings : (ts : Trees) → AreSound ts → SaysAll [] ts (listed ts)
-  says_meanings none s = refl
-  says_meanings (some t ts) s = (meaning t, listed ts, refl, says_meaning t s.0, says_meanings ts s.1)
+  all_closed : (us : term.Trees) → AllInGrammar us → AreWritable no_variable us
+  all_closed term.none g = tt
+  all_closed (term.more u us) g = (closed_writable u g.0, all_closed us g.1)
+
+pub closed_meant : (u : term.Tree) → IsInGrammar u → IsMeant (IsCalled []) NoVariable u
+closed_meant u g = meant no_variable (IsCalled []) NoVariable (λ x none. absurd none) u (closed_writable u g)

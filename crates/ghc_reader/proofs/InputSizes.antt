@@ -16,12 +16,12 @@ use Rattle.ghc_reader.specs.Grammar.{Term, variable, integer, call, list, Argume
 use Rattle.ghc_reader.specs.Grammar as grammar
 use Rattle.ghc_reader.specs.Source as tree
 use Rattle.ghc_reader.specs.Derived.{tree_of, trees_of, cells_of}
-use Rattle.ghc_reader.proofs.Meanings.{meaning, meanings, IsSound, AreSound, name_no_cell, name_no_nil}
+use Rattle.ghc_reader.proofs.Meanings.{meaning, meanings, IsSoundBy, AreSoundBy, NoVariable, IsSound, AreSound, name_no_cell, name_no_nil}
 
 -- the terms in front of the end of a list are sound, and so is the end
-pub cells_sound : (a : Terms) (end : tree.Tree) → IsSound (cells_of a end) → AreSound (trees_of a) × IsSound end
-cells_sound (one t) end s = ((s.0, tt), s.1)
-cells_sound (more t a) end s = let behind = cells_sound a end s.1 in ((s.0, behind.0), behind.1)
+pub cells_sound : (W : List ℕ → Type 0) (a : Terms) (end : tree.Tree) → IsSoundBy W (cells_of a end) → AreSoundBy W (trees_of a) × IsSoundBy W end
+cells_sound W (one t) end s = ((s.0, tt), s.1)
+cells_sound W (more t a) end s = let behind = cells_sound W a end s.1 in ((s.0, behind.0), behind.1)
 
 -- ---- a name over arguments
 
@@ -88,9 +88,9 @@ mutual
       omega (arith, ap length (text_of_name f us s.0), length-append f (arguments_text us), arguments_length a, terms_bytes a (token.Mark Close ∷ ts) s.1)
   term_bytes (list closed) ts s = omega arith
   term_bytes (list (whole a)) ts s =
-      omega (arith, list_length a tree.empty, cells_bytes a tree.empty (token.Mark CloseList ∷ ts) (cells_sound a tree.empty s).0)
+      omega (arith, list_length a tree.empty, cells_bytes a tree.empty (token.Mark CloseList ∷ ts) (cells_sound NoVariable a tree.empty s).0)
   term_bytes (list (partial a t)) ts s =
-      let parts = cells_sound a (tree_of t) s in
+      let parts = cells_sound NoVariable a (tree_of t) s in
       omega (
         arith,
         list_length a (tree_of t),
@@ -155,9 +155,9 @@ mutual
       omega (arith, nesting_of_name f (meanings (trees_of a)) s.0, arguments_depth a, terms_deep a (n + 1) (token.Mark Close ∷ ts) s.1, closes n ts)
   term_deep (list closed) n ts s = omega (arith, closes n ts)
   term_deep (list (whole a)) n ts s =
-      omega (arith, list_depth a tree.empty, cells_depth a tree.empty, terms_deep a (n + 1) (token.Mark CloseList ∷ ts) (cells_sound a tree.empty s).0, closes n ts)
+      omega (arith, list_depth a tree.empty, cells_depth a tree.empty, terms_deep a (n + 1) (token.Mark CloseList ∷ ts) (cells_sound NoVariable a tree.empty s).0, closes n ts)
   term_deep (list (partial a t)) n ts s =
-      let parts = cells_sound a (tree_of t) s in
+      let parts = cells_sound NoVariable a (tree_of t) s in
       omega (
         arith,
         list_depth a (tree_of t),

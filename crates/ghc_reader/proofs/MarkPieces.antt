@@ -31,7 +31,7 @@ is_plain Stop = false
 abbrev begins_long : ℕ → Bool
 begins_long b = b == 58 || b == 61 || b == 62 || b == 109
 
-alone : (other : Symbol) (b : ℕ) (rest more : List ℕ) → begins_long b ≡ false → b ∷ rest ≡ spelling other ++ more → length (spelling other) ≤ 1
+pub alone : (other : Symbol) (b : ℕ) (rest more : List ℕ) → begins_long b ≡ false → b ∷ rest ≡ spelling other ++ more → length (spelling other) ≤ 1
 alone other b rest more short e = by_symbol other (ap (λ l. get_or l 0 0) e)
   where
     by_symbol : (s : Symbol) → b ≡ get_or (spelling s ++ more) 0 0 → length (spelling s) ≤ 1
@@ -47,7 +47,7 @@ alone other b rest more short e = by_symbol other (ap (λ l. get_or l 0 0) e)
     by_symbol (symbol.Product p) first = omega arith
 
 -- a symbol of one byte that begins nothing else
-alone_stands : (signs : Bool) (s : Symbol) (b : ℕ) (rest : List ℕ) → b ∷ [] ≡ spelling s → begins_long b ≡ false
+pub alone_stands : (signs : Bool) (s : Symbol) (b : ℕ) (rest : List ℕ) → b ∷ [] ≡ spelling s → begins_long b ≡ false
     → is_word b ≡ false → is_blank b ≡ false → (b == 37) ≡ false → (b == 45) ≡ false
     → Stands signs (record { kind = kind.Symbol s; bytes = b ∷ [] }) rest
 alone_stands signs s b rest spelled short word blank percent minus =

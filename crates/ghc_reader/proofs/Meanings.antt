@@ -54,18 +54,34 @@ pub count_meanings : (ts : Trees) → length (list_of (meanings ts)) ≡ count t
 count_meanings none = refl
 count_meanings (some t ts) = omega (arith, count_meanings ts)
 
-abbrev mutual
-  -- no variable stands in the tree, its names are those of the grammar, and its integers have 64 bits
-  pub IsSound : Tree → Type 0
-  IsSound (variable v) = ⊥
-  IsSound (integer n) = FitsSigned w64 n
-  IsSound (structure f ts) = IsNameText f × AreSound ts
-  IsSound empty = Unit {0}
-  IsSound (cell t rest) = IsSound t × IsSound rest
+module _ (W : List ℕ → Type 0) where
+  abbrev mutual
+    -- W holds of the variables of the tree, its names are those of the grammar, and its integers have 64 bits
+    pub IsSoundBy : Tree → Type 0
+    IsSoundBy (variable v) = W v
+    IsSoundBy (integer n) = FitsSigned w64 n
+    IsSoundBy (structure f ts) = IsNameText f × AreSoundBy ts
+    IsSoundBy empty = Unit {0}
+    IsSoundBy (cell t rest) = IsSoundBy t × IsSoundBy rest
 
-  pub AreSound : Trees → Type 0
-  AreSound none = Unit {0}
-  AreSound (some t ts) = IsSound t × AreSound ts
+    pub AreSoundBy : Trees → Type 0
+    AreSoundBy none = Unit {0}
+    AreSoundBy (some t ts) = IsSoundBy t × AreSoundBy ts
+
+-- it holds of every variable
+abbrev pub AnyVariable : List ℕ → Type 0
+AnyVariable v = Unit {0}
+
+-- it holds of no variable
+abbrev pub NoVariable : List ℕ → Type 0
+NoVariable v = ⊥
+
+-- no variable stands in the tree, its names are those of the grammar, and its integers have 64 bits
+abbrev pub IsSound : Tree → Type 0
+IsSound t = IsSoundBy NoVariable t
+
+abbrev pub AreSound : Trees → Type 0
+AreSound ts = AreSoundBy NoVariable ts
 
 mutual
   pub meaning_in_grammar : (t : Tree) → IsSound t → widest t ≤ 255 → IsInGrammar (meaning t)

@@ -100,6 +100,15 @@ pub misplaced_in_tokens : (ts : List Token) (seen : List tree.Clause) (left : �
 misplaced_in_tokens ts seen left (p, is, sees) e =
     let within = program_within p [] left (ap (λ s. first_place (misplaced_program s)) sees ∙ sym e) in omega (arith, ap length is, within)
 
+asked_within : (q : Query) → StartsWithin (length (query q [])) (misplaced_body (query_of q []))
+asked_within (plain b) = body_within b []
+asked_within (stopped b) = body_within b (token.Mark Stop ∷ [])
+
+-- and in the goals that are asked for in mid-run
+pub misplaced_in_body_tokens : (ts : List Token) (seen : List Goal) (left : ℕ) → (q : Query) × (ts ≡ query q []) × (query_of q [] ≡ seen) → Some left ≡ first_place (misplaced_body seen) → left ≤ length ts
+misplaced_in_body_tokens ts seen left (q, is, sees) e =
+    let within = asked_within q left (ap (λ s. first_place (misplaced_body s)) sees ∙ sym e) in omega (arith, ap length is, within)
+
 -- and what is misplaced in the goals of a query
 pub misplaced_in_query_tokens : (ts : List Token) (seen : List Goal) (left : ℕ) → (q : Query) × (ts ≡ query q []) × (query_of q [] ≡ seen) → Some left ≡ first_place (misplaced_query seen) → left ≤ length ts
 misplaced_in_query_tokens ts seen left (q, is, sees) e =

@@ -1,18 +1,22 @@
 -- A parse tree says one term, clause or query, so a text is read in one way.
-use Rattle.std.proofs.Common.{◌≡◌, ℕ, List, [], ◌∷◌, ◌++◌, refl, sym, ◌∙◌, subst, append_assoc}
+use Rattle.std.proofs.Common.{◌≡◌, ℕ, ◌+◌, List, [], ◌∷◌, ◌++◌, Option, Some, refl, sym, ap, ◌∙◌, subst, append_assoc}
+use Rattle.ghc_term.specs.declared.var_name.VarName.{VarName}
 use Rattle.ghc_term.specs.Tree as term
 use Rattle.ghc_term.specs.Variables.{variables_of_list, variables_of_goals}
 use Rattle.ghc_reader.specs.Source.{Goal, Clause}
-use Rattle.ghc_reader.specs.Tests.{a_program, a_query, a_term}
-use Rattle.ghc_reader.specs.Written.{WrittenClause, WrittenQuery, variables_of_guards, variables_of_written}
-use Rattle.ghc_reader.specs.Lowered.{Each, SaysClause, SaysQuery, doing, Says}
-use Rattle.ghc_reader.specs.Read.{IsReadProgram, IsReadQuery, IsReadTerm, IsReadInOneWay}
+use Rattle.ghc_reader.specs.Tests.{a_program, a_query, a_term, an_ask}
+use Rattle.ghc_reader.specs.Written.{WrittenClause, WrittenQuery, AreApart, variables_of_guards, variables_of_written}
+use Rattle.ghc_reader.specs.WrittenAsk.{WrittenAsk, IsNaming, of_state, of_no_step, of_query, is_new, SaysAsk}
+use Rattle.ghc_reader.specs.Lowered.{Names, IsCalled, Each, SaysClause, SaysQuery, doing, Says}
+use Rattle.ghc_reader.specs.Read.{IsReadProgram, IsReadQuery, IsReadTerm, IsReadAsk, IsReadInOneWay}
 use Rattle.ghc_reader.proofs.Whole.{one_query}
 use Rattle.ghc_reader.proofs.OneReading.{answered_once, one_program_tree, one_input_tree}
 use Rattle.ghc_reader.proofs.OneNaming.{one_naming}
 use Rattle.ghc_reader.proofs.Meanings.{said}
 use Rattle.ghc_reader.specs.Amounts.{names_of_clause, names_of_goals}
-use Rattle.ghc_reader.proofs.NamesIn.{clause_called, query_called}
+use Rattle.ghc_reader.proofs.NamesIn.{clause_called, query_called, asked_called}
+use Rattle.ghc_reader.specs.Lexed.{greatest_number}
+use Rattle.ghc_reader.proofs.Values.{same_numbers}
 use Rattle.ghc_reader.proofs.OneSaying.{one_list, one_guards, one_body, one_question}
 
 -- a parse tree of a clause says one clause
@@ -45,6 +49,49 @@ one_asking gs q r s t =
     let goals = one_question q.variables r.variables (doing gs) q.goals r.goals s.goals t.goals s.streams t.streams naming.0 in
     λ i. record { goals = goals i; variables = naming.1 i }
 
+-- ---- what is asked for in mid-run
+
+-- a name names one variable of the state, or none
+module _ (query : Names) (apart : AreApart query) where
+  one_name : (v : List ℕ) (o p : Option VarName) → IsNaming query v o → IsNaming query v p → o ≡ p
+  one_name v o p (of_state {n} {m} h less) (of_state {n = k} {m = l} h' less') =
+      let same = same_numbers v n m k l h.0 h'.0 in
+      λ i. Some (record { step = same.0 i; place = same.1 i })
+  one_name v o p (of_state {n} {m} h less) (of_no_step {m = l} h') = absurd (less (same_numbers v n m greatest_number l h.0 h'.0).0)
+  one_name v o p (of_state {n} {m} h less) (of_query i none named at) = absurd (none n m h)
+  one_name v o p (of_state {n} {m} h less) (is_new none absent) = absurd (none n m h)
+  one_name v o p (of_no_step {m} h) (of_state {n = k} {m = l} h' less') = absurd (less' (same_numbers v k l greatest_number m h'.0 h.0).0)
+  one_name v o p (of_no_step {m} h) (of_no_step {m = l} h') = refl
+  one_name v o p (of_no_step {m} h) (of_query i none named at) = absurd (none greatest_number m h)
+  one_name v o p (of_no_step {m} h) (is_new none absent) = absurd (none greatest_number m h)
+  one_name v o p (of_query i none named at) (of_state {n = k} {m = l} h' less') = absurd (none k l h')
+  one_name v o p (of_query i none named at) (of_no_step {m = l} h') = absurd (none greatest_number l h')
+  one_name v o p (of_query i none named at) (of_query j none' named' at') = ap (λ k. Some (record { step = 0; place = k + 1 })) (apart i j v at at' named)
+  one_name v o p (of_query i none named at) (is_new none' absent) = absurd (named (absent i at))
+  one_name v o p (is_new none absent) (of_state {n = k} {m = l} h' less') = absurd (none k l h')
+  one_name v o p (is_new none absent) (of_no_step {m = l} h') = absurd (none greatest_number l h')
+  one_name v o p (is_new none absent) (of_query j none' named' at') = absurd (named' (absent j at'))
+  one_name v o p (is_new none absent) (is_new none' absent') = refl
+
+  one_namings : (vs : Names) (os ps : List (Option VarName)) → Each (IsNaming query) vs os → Each (IsNaming query) vs ps → os ≡ ps
+  one_namings [] [] [] h k = refl
+  one_namings [] (o ∷ os) ps h k = absurd h
+  one_namings [] [] (p ∷ ps) h k = absurd k
+  one_namings (v ∷ vs) [] ps h k = absurd h
+  one_namings (v ∷ vs) (o ∷ os) [] h k = absurd k
+  one_namings (v ∷ vs) (o ∷ os) (p ∷ ps) h k =
+      let first = one_name v o p h.0 k.0 in
+      let second = one_namings vs os ps h.1 k.1 in
+      λ i. first i ∷ second i
+
+  -- parse trees of goals ask for one thing
+  one_ask : (gs : List Goal) (a b : WrittenAsk) → SaysAsk query gs a → SaysAsk query gs b → a ≡ b
+  one_ask gs a b s t =
+      let naming = one_naming (names_of_goals gs) (variables_of_goals a.goals) (variables_of_goals b.goals) s.names t.names s.variables t.variables (asked_called (IsCalled s.names) gs a.goals s.goals) (asked_called (IsCalled t.names) gs b.goals t.goals) in
+      let goals = one_body s.names t.names (doing gs) a.goals b.goals s.goals t.goals naming.0 in
+      let named = one_namings t.names a.named b.named (subst (λ vs. Each (IsNaming query) vs a.named) naming.1 s.named) t.named in
+      λ i. record { goals = goals i; named = named i }
+
 -- ---- texts
 
 pub one_program_read : (text : List ℕ) (ws zs : List WrittenClause) → IsReadProgram text ws → IsReadProgram text zs → ws ≡ zs
@@ -62,5 +109,10 @@ one_term_read text u w x y =
     let tree = (answered_once a_term one_input_tree text).one_tree x.0 y.0 x.1 y.1 in
     said y.0 u (subst (λ t. Says [] t u) tree x.2) ∙ sym (said y.0 w y.2)
 
+pub one_ask_read : (query : Names) → AreApart query → (text : List ℕ) (a b : WrittenAsk) → IsReadAsk query text a → IsReadAsk query text b → a ≡ b
+one_ask_read query apart text a b x y =
+    let tree = (answered_once an_ask one_query text).one_tree x.0 y.0 x.1 y.1 in
+    one_ask query apart y.0 a b (subst (λ gs. SaysAsk query gs a) tree x.2) y.2
+
 pub read_in_one_way : (text : List ℕ) → IsReadInOneWay text
-read_in_one_way text = record { program = one_program_read text; query = one_query_read text; term = one_term_read text }
+read_in_one_way text = record { program = one_program_read text; query = one_query_read text; term = one_term_read text; ask = λ query a other apart x y. one_ask_read query apart text a other x y }

@@ -6,7 +6,7 @@ use Rattle.ghc_term.specs.declared.var_name.VarName.{VarName}
 use Rattle.ghc_term.specs.declared.limit.Limit.TheVariants as limit
 use Rattle.ghc_term.specs.Tree as term
 use Rattle.ghc_term.specs.Tree.{node}
-use Rattle.ghc_term.specs.Text.{term_text}
+use Rattle.ghc_term.specs.Text.{variable_text, term_text}
 use Rattle.ghc_term.specs.Resolved.{Resolves, an_integer, a_node, ResolvesAll, no_more, one_more, IsTextOf}
 use Rattle.ghc_term.specs.InputTerm.{IsInGrammar, AllInGrammar, IsInputTerm, nesting}
 use Rattle.ghc_term.specs.InputTerm as input_term
@@ -21,29 +21,36 @@ use Rattle.ghc_reader.specs.Lexed.{IsLexed, token_places}
 use Rattle.ghc_reader.specs.Places.{start, place_behind}
 use Rattle.ghc_reader.specs.Amounts.{widest, nodes}
 use Rattle.ghc_reader.specs.Limits.{first_exceeded, of_term}
-use Rattle.ghc_reader.specs.Lowered.{Says}
+use Rattle.ghc_reader.specs.Lowered.{Says, IsCalled}
 use Rattle.ghc_reader.specs.Tests.{a_term, IsRead}
 use Rattle.ghc_reader.specs.Read.{IsReadTerm}
 use Rattle.ghc_reader.specs.Laws.{IsSpelledBy}
-use Rattle.ghc_reader.proofs.Meanings.{meaning, said, nodes_of_meaning, IsSound}
+use Rattle.ghc_reader.proofs.Meanings.{meaning, said, nodes_of_meaning, NoVariable, IsSound}
 use Rattle.ghc_reader.proofs.InputSizes.{weights, most_open, term_bytes}
 use Rattle.ghc_reader.proofs.TokenBytes.{AreGood, good_tokens, tokens_bytes}
-use Rattle.ghc_reader.proofs.ReadTerms.{sound_term, read_is_input}
+use Rattle.ghc_reader.proofs.ReadTerms.{sound_input, read_is_input}
 use Rattle.ghc_reader.proofs.TokenTexts.{pieces_of, text_of, spaced_lexed}
 use Rattle.ghc_reader.proofs.Derivations.{derive, derive_back, closed_term, spaced_term}
 use Rattle.ghc_reader.proofs.PrintedTokens.{printed}
 use Rattle.ghc_reader.proofs.PrintedDepth.{depth_of, nowhere_too_deep}
-use Rattle.ghc_reader.proofs.GrammarTrees.{IsMeant, meant, says_meaning}
+use Rattle.ghc_reader.proofs.GrammarTrees.{IsMeant, closed_meant}
 
 -- ---- a term of the grammar is spelled by its text
 
-module _ (u : term.Tree) (m : IsMeant u) where
+-- no variable of a closed text has a name
+unnamed : (v : List ℕ) (x : VarName) → IsCalled [] v x → v ≡ variable_text x
+unnamed v x called = let none = called.1 in cc
+
+module _ (u : term.Tree) (m : IsMeant (IsCalled []) NoVariable u) where
   -- the tokens of its shortest derivation
   abbrev tokens : List Token
   tokens = grammar.term (derive m.seen) []
 
   abbrev places : List Place
-  places = token_places start (pieces_of tokens) ++ place_behind start (text_of tokens) ∷ []
+  places = token_places start (pieces_of tokens []) ++ place_behind start (text_of tokens []) ∷ []
+
+  means : u ≡ meaning m.seen
+  means = said m.seen u m.says
 
   sound : IsSound (tree_of (derive m.seen))
   sound = subst IsSound (sym (derive_back m.seen)) m.sound
@@ -51,14 +58,13 @@ module _ (u : term.Tree) (m : IsMeant u) where
   abbrev derivation : Input
   derivation = record { term = derive m.seen; closed = closed_term (derive m.seen) sound }
 
-  text_is : text_of tokens ≡ term_text u
-  text_is = printed m.seen m.sound [] ∙ append-nil (term_text (meaning m.seen)) ∙ ap term_text (sym m.means)
+  text_is : text_of tokens [] ≡ term_text u
+  text_is = printed (IsCalled []) NoVariable unnamed [] m.seen u m.says m.sound [] ∙ append-nil (term_text u)
 
   lexed : IsLexed Refused (term_text u) tokens places
-  lexed = subst (λ text. IsLexed Refused text tokens places) text_is (spaced_lexed tokens (spaced_term (derive m.seen) [] sound tt))
-
-  said_by : Says [] m.seen u
-  said_by = subst (Says [] m.seen) (sym m.means) (says_meaning m.seen m.sound)
+  lexed =
+      subst (λ text. IsLexed Refused text tokens places) text_is
+      (spaced_lexed Refused NoVariable (λ v none. absurd none) (λ v none. absurd none) tokens (spaced_term NoVariable (derive m.seen) [] sound tt))
 
   spelled_by : IsSpelledBy (term_text u) u
   spelled_by = record {
@@ -67,15 +73,15 @@ module _ (u : term.Tree) (m : IsMeant u) where
     lexed = lexed;
     derivation = derivation;
     spelled = refl;
-    says = subst (λ t. Says [] t u) (sym (derive_back m.seen)) said_by;
+    says = subst (λ t. Says [] t u) (sym (derive_back m.seen)) m.says;
   }
 
 pub term_is_spelled : (u : term.Tree) → IsInGrammar u → IsSpelledBy (term_text u) u
-term_is_spelled u g = spelled_by u (meant u g)
+term_is_spelled u g = spelled_by u (closed_meant u g)
 
 -- ---- an input term is what its text is read as
 
-not_more : (most n : ℕ) → n ≤ most → nat_lt most n ≡ false
+pub not_more : (most n : ℕ) → n ≤ most → nat_lt most n ≡ false
 not_more most n h = grind (arith, nat_tests)
 
 within_limits : (s : Tree) → widest s ≤ 255 → nodes s ≤ 10000 → first_exceeded (of_term s) ≡ None
@@ -83,16 +89,17 @@ within_limits s width size = λ i. cond (not_more 255 (widest s) width i) (Some 
 
 pub input_is_read : (u : term.Tree) → IsInputTerm u → IsReadTerm (term_text u) u
 input_is_read u input =
-    let m = meant u input.grammar in
+    let m = closed_meant u input.grammar in
+    let is = means u m in
     let s = m.seen in
-    let size : nodes s ≤ 10000 = omega (arith, input.size, ap input_term.nodes m.means, nodes_of_meaning s) in
-    let nested : most_open 0 (tokens u m) ≤ 64 = omega (arith, input.nested, ap nesting m.means, depth_of s m.sound 0 []) in
+    let size : nodes s ≤ 10000 = omega (arith, input.size, ap input_term.nodes is, nodes_of_meaning s) in
+    let nested : most_open 0 (tokens u m) ≤ 64 = omega (arith, input.nested, ap nesting is, depth_of s m.sound 0 []) in
     let shallow = nowhere_too_deep (tokens u m) nested in
     let read : IsRead a_term (term_text u) s = record {
       tokens = tokens u m;
       places = places u m;
       derived = record {
-        scanned = record { has_tokens = record { short = input.text; lexed = lexed u m }; shallow = shallow };
+        scanned = record { has_tokens = record { short = λ _. input.text; lexed = lexed u m }; shallow = λ _. shallow };
         derivation = derivation u m;
         spelled = refl;
         sees = derive_back s;
@@ -100,7 +107,7 @@ input_is_read u input =
       placed = refl;
       within = within_limits s m.width size;
     } in
-    (s, read, said_by u m)
+    (s, read, m.says)
 
 -- ---- no text of it is shorter
 
@@ -109,8 +116,8 @@ read_no_longer text u (seen, read, says) =
     let derived = read.derived in
     let i = derived.derivation in
     let lexed = derived.scanned.has_tokens.lexed in
-    let good = subst AreGood (sym lexed.tokens_are ∙ derived.spelled) (good_tokens true lexed.pieces [] lexed.cut.each_stands lexed.cut.none_refused) in
-    let sound = (sound_term i.term [] i.closed good).0 in
+    let good = subst AreGood (sym lexed.tokens_are ∙ derived.spelled) (good_tokens Refused true lexed.pieces [] lexed.cut.each_stands lexed.cut.none_refused) in
+    let sound = sound_input i good in
     omega (
       arith,
       term_bytes i.term [] sound,

@@ -10,45 +10,61 @@ use Rattle.ghc_reader.specs.declared.token.Token.{Token}
 use Rattle.ghc_reader.specs.declared.token.Token.TheVariants as token
 use Rattle.ghc_reader.specs.declared.place.Place.{Place}
 use Rattle.ghc_reader.specs.declared.lexer.value.Reserved.TheVariants.{Refused}
-use Rattle.ghc_reader.specs.Grammar.{Term, variable, integer, call, list, Arguments, without, within, Rest, closed, whole, partial, Terms, one, more, Input, input, terms, IsClosed, AreClosed}
+use Rattle.ghc_reader.specs.Grammar.{Term, variable, integer, call, list, Arguments, without, within, Rest, closed, whole, partial, Terms, one, more, Input, input, terms}
 use Rattle.ghc_reader.specs.Grammar as grammar
 use Rattle.ghc_reader.specs.Source as tree
 use Rattle.ghc_reader.specs.Derived.{tree_of, trees_of, cells_of}
 use Rattle.ghc_reader.specs.Depth.{IsTooDeep}
 use Rattle.ghc_reader.specs.Lexed.{IsLexed, most_bytes}
 use Rattle.ghc_reader.specs.Amounts.{widest, nodes}
-use Rattle.ghc_reader.specs.Lowered.{Says}
+use Rattle.ghc_reader.specs.Lowered.{Says, IsClosed, AreClosed}
 use Rattle.ghc_reader.specs.Read.{IsReadTerm}
-use Rattle.ghc_reader.proofs.Meanings.{said, nodes_of_meaning, IsSound, AreSound, meaning_in_grammar}
+use Rattle.ghc_reader.proofs.Meanings.{said, nodes_of_meaning, AnyVariable, IsSoundBy, AreSoundBy, IsSound, AreSound, meaning_in_grammar}
+use Rattle.ghc_reader.proofs.ClosedTrees.{closed_tree}
 use Rattle.ghc_reader.proofs.InputSizes.{weights, most_open, term_bytes, term_deep, shallow_opens}
 use Rattle.ghc_reader.proofs.TokenBytes.{AreGood, good_tokens, tokens_bytes}
 
--- ---- a derivation of good tokens has a sound tree
+-- ---- a derivation of good tokens has a sound tree, whatever variables stand in it
 
-sound_cells : (a : Terms) (end : tree.Tree) → AreSound (trees_of a) → IsSound end → IsSound (cells_of a end)
+sound_cells : (a : Terms) (end : tree.Tree) → AreSoundBy AnyVariable (trees_of a) → IsSoundBy AnyVariable end → IsSoundBy AnyVariable (cells_of a end)
 sound_cells (one t) end s e = (s.0, e)
 sound_cells (more t a) end s e = (s.0, sound_cells a end s.1 e)
 
 mutual
-  pub sound_term : (t : Term) (ts : List Token) → IsClosed t → AreGood (grammar.term t ts) → IsSound (tree_of t) × AreGood ts
-  sound_term (variable v) ts c good = absurd c
-  sound_term (integer n) ts c good = good
-  sound_term (call f without) ts c good = ((good.0, tt), good.1)
-  sound_term (call f (within a)) ts c good = let inner = sound_terms a (token.Mark Close ∷ ts) c good.1.1 in ((good.0, inner.0), inner.1.1)
-  sound_term (list closed) ts c good = (tt, good.1.1)
-  sound_term (list (whole a)) ts c good =
-      let inner = sound_terms a (token.Mark CloseList ∷ ts) c good.1 in (sound_cells a tree.empty inner.0 tt, inner.1.1)
-  sound_term (list (partial a t)) ts c good =
-      let inner = sound_terms a (token.Mark Bar ∷ grammar.term t (token.Mark CloseList ∷ ts)) c.0 good.1 in
-      let end = sound_term t (token.Mark CloseList ∷ ts) c.1 inner.1.1 in
+  pub sound_tree : (t : Term) (ts : List Token) → AreGood (grammar.term t ts) → IsSoundBy AnyVariable (tree_of t) × AreGood ts
+  sound_tree (variable v) ts good = good
+  sound_tree (integer n) ts good = good
+  sound_tree (call f without) ts good = ((good.0, tt), good.1)
+  sound_tree (call f (within a)) ts good = let inner = sound_trees a (token.Mark Close ∷ ts) good.1.1 in ((good.0, inner.0), inner.1.1)
+  sound_tree (list closed) ts good = (tt, good.1.1)
+  sound_tree (list (whole a)) ts good = let inner = sound_trees a (token.Mark CloseList ∷ ts) good.1 in (sound_cells a tree.empty inner.0 tt, inner.1.1)
+  sound_tree (list (partial a t)) ts good =
+      let inner = sound_trees a (token.Mark Bar ∷ grammar.term t (token.Mark CloseList ∷ ts)) good.1 in
+      let end = sound_tree t (token.Mark CloseList ∷ ts) inner.1.1 in
       (sound_cells a (tree_of t) inner.0 end.0, end.1.1)
 
-  sound_terms : (a : Terms) (ts : List Token) → AreClosed a → AreGood (terms a ts) → AreSound (trees_of a) × AreGood ts
-  sound_terms (one t) ts c good = let inner = sound_term t ts c good in ((inner.0, tt), inner.1)
-  sound_terms (more t a) ts c good =
-      let first = sound_term t (token.Mark Comma ∷ terms a ts) c.0 good in
-      let behind = sound_terms a ts c.1 first.1.1 in
+  sound_trees : (a : Terms) (ts : List Token) → AreGood (terms a ts) → AreSoundBy AnyVariable (trees_of a) × AreGood ts
+  sound_trees (one t) ts good = let inner = sound_tree t ts good in ((inner.0, tt), inner.1)
+  sound_trees (more t a) ts good =
+      let first = sound_tree t (token.Mark Comma ∷ terms a ts) good in
+      let behind = sound_trees a ts first.1.1 in
       ((first.0, behind.0), behind.1)
+
+-- and where no variable stands in it
+mutual
+  closed_sound : (t : tree.Tree) → IsClosed t → IsSoundBy AnyVariable t → IsSound t
+  closed_sound (tree.variable v) c s = c
+  closed_sound (tree.integer n) c s = s
+  closed_sound (tree.structure f ts) c s = (s.0, closed_all ts c s.1)
+  closed_sound tree.empty c s = tt
+  closed_sound (tree.cell t rest) c s = (closed_sound t c.0 s.0, closed_sound rest c.1 s.1)
+
+  closed_all : (ts : tree.Trees) → AreClosed ts → AreSoundBy AnyVariable ts → AreSound ts
+  closed_all tree.none c s = tt
+  closed_all (tree.some t ts) c s = (closed_sound t c.0 s.0, closed_all ts c.1 s.1)
+
+pub sound_input : (i : Input) → AreGood (input i []) → IsSound (tree_of i.term)
+sound_input i good = closed_sound (tree_of i.term) (closed_tree i.term i.closed) (sound_tree i.term [] good).0
 
 -- ---- the whole text
 
@@ -58,8 +74,8 @@ pub lexed_is_input : (text : List ℕ) (tokens : List Token) (places : List Plac
     → length text ≤ most_bytes → IsLexed Refused text tokens places → tokens ≡ input i [] → ¬ (IsTooDeep tokens)
     → nodes (tree_of i.term) ≤ 10000 → widest (tree_of i.term) ≤ 255 → Says [] (tree_of i.term) u → IsInputTerm u
 lexed_is_input text tokens places i u short lexed spelled shallow size width says =
-    let good = subst AreGood (sym lexed.tokens_are ∙ spelled) (good_tokens true lexed.pieces [] lexed.cut.each_stands lexed.cut.none_refused) in
-    let sound = (sound_term i.term [] i.closed good).0 in
+    let good = subst AreGood (sym lexed.tokens_are ∙ spelled) (good_tokens Refused true lexed.pieces [] lexed.cut.each_stands lexed.cut.none_refused) in
+    let sound = sound_input i good in
     let bytes = tokens_bytes true lexed.pieces [] lexed.cut.each_stands lexed.cut.none_refused in
     let written = term_bytes i.term [] sound in
     let opened = subst (λ l. most_open 0 l ≤ 64) spelled (shallow_opens tokens shallow) in
@@ -88,5 +104,5 @@ read_is_input text u (seen, read, says) =
     let limits = within_both (nat_lt 255 (widest seen)) (nat_lt 10000 (nodes seen)) read.within in
     let wide = at_most 255 (widest seen) limits.0 in
     let many = at_most 10000 (nodes seen) limits.1 in
-    lexed_is_input text read.tokens read.places i u derived.scanned.has_tokens.short derived.scanned.has_tokens.lexed derived.spelled derived.scanned.shallow
+    lexed_is_input text read.tokens read.places i u (derived.scanned.has_tokens.short refl) derived.scanned.has_tokens.lexed derived.spelled (derived.scanned.shallow refl)
     (omega (arith, many, ap nodes derived.sees)) (omega (arith, wide, ap widest derived.sees)) (subst (λ t. Says [] t u) (sym derived.sees) says)

@@ -22,6 +22,7 @@ use Rattle.ghc_reader.specs.declared.lexer.symbol.Symbol.{Symbol}
 use Rattle.ghc_reader.specs.declared.lexer.symbol.Symbol.TheVariants as symbol
 use Rattle.ghc_reader.specs.declared.lexer.front.Kind.{Kind}
 use Rattle.ghc_reader.specs.declared.lexer.front.Kind.TheVariants as kind
+use Rattle.ghc_reader.specs.declared.lexer.value.Reserved.{Reserved}
 use Rattle.ghc_reader.specs.declared.lexer.value.Reserved.TheVariants.{Refused}
 use Rattle.ghc_reader.proofs.Values.{all_of_run, digits_of_all}
 use Rattle.ghc_reader.proofs.InputSizes.{weight, weights}
@@ -98,16 +99,16 @@ name_of_run : (bs : List ℕ) → IsRun is_ascii_lowercase is_word bs → bs ≢
 name_of_run [] run other = run
 name_of_run (b ∷ bs) run other = (run.0, run.1, other)
 
-piece_good : (signs : Bool) (k : Kind) (bs : List ℕ) → HasForm signs k bs → ¬ (IsRefusedToken Refused (token_of_bytes k bs)) → IsGoodIfAny (token_of_bytes k bs)
-piece_good signs kind.Blank bs form fine = tt
-piece_good signs kind.Comment bs form fine = tt
-piece_good signs kind.Name bs form fine = name_of_run bs form.0 form.1
-piece_good signs kind.Variable bs form fine = tt
-piece_good signs kind.Integer bs form fine = not_refused (signed_digits_value 10 bs) fine
-piece_good signs (kind.Symbol (symbol.Mark m)) bs form fine = tt
-piece_good signs (kind.Symbol (symbol.Comparison c)) bs form fine = tt
-piece_good signs (kind.Symbol (symbol.Sum c)) bs form fine = tt
-piece_good signs (kind.Symbol (symbol.Product c)) bs form fine = tt
+piece_good : (reserved : Reserved) (signs : Bool) (k : Kind) (bs : List ℕ) → HasForm signs k bs → ¬ (IsRefusedToken reserved (token_of_bytes k bs)) → IsGoodIfAny (token_of_bytes k bs)
+piece_good reserved signs kind.Blank bs form fine = tt
+piece_good reserved signs kind.Comment bs form fine = tt
+piece_good reserved signs kind.Name bs form fine = name_of_run bs form.0 form.1
+piece_good reserved signs kind.Variable bs form fine = tt
+piece_good reserved signs kind.Integer bs form fine = not_refused (signed_digits_value 10 bs) fine
+piece_good reserved signs (kind.Symbol (symbol.Mark m)) bs form fine = tt
+piece_good reserved signs (kind.Symbol (symbol.Comparison c)) bs form fine = tt
+piece_good reserved signs (kind.Symbol (symbol.Sum c)) bs form fine = tt
+piece_good reserved signs (kind.Symbol (symbol.Product c)) bs form fine = tt
 
 piece_length : (signs : Bool) (k : Kind) (bs : List ℕ) → HasForm signs k bs → IsGoodIfAny (token_of_bytes k bs) → weight_if_any (token_of_bytes k bs) ≤ length bs
 piece_length signs kind.Blank bs form good = omega arith
@@ -127,16 +128,16 @@ weight_more : (t : Option Token) (ts : List Token) → weights (cons_option t ts
 weight_more None ts = omega arith
 weight_more (Some t) ts = refl
 
-pub good_tokens : (signs : Bool) (ps : List Piece) (rest : List ℕ) → Cuts signs ps rest → All (λ p. ¬ (IsRefused Refused p)) ps → AreGood (filter_map token_of ps)
-good_tokens signs [] rest cuts fine = tt
-good_tokens signs (p ∷ ps) rest cuts fine =
-    one_more (token_of p) (filter_map token_of ps) (piece_good signs p.kind p.bytes cuts.0.form (All-head (λ q. ¬ (IsRefused Refused q)) p ps fine))
-    (good_tokens (signs_behind signs p.kind) ps rest cuts.1 (All-tail (λ q. ¬ (IsRefused Refused q)) p ps fine))
+pub good_tokens : (reserved : Reserved) (signs : Bool) (ps : List Piece) (rest : List ℕ) → Cuts signs ps rest → All (λ p. ¬ (IsRefused reserved p)) ps → AreGood (filter_map token_of ps)
+good_tokens reserved signs [] rest cuts fine = tt
+good_tokens reserved signs (p ∷ ps) rest cuts fine =
+    one_more (token_of p) (filter_map token_of ps) (piece_good reserved signs p.kind p.bytes cuts.0.form (All-head (λ q. ¬ (IsRefused reserved q)) p ps fine))
+    (good_tokens reserved (signs_behind signs p.kind) ps rest cuts.1 (All-tail (λ q. ¬ (IsRefused reserved q)) p ps fine))
 
 pub tokens_bytes : (signs : Bool) (ps : List Piece) (rest : List ℕ) → Cuts signs ps rest → All (λ p. ¬ (IsRefused Refused p)) ps → weights (filter_map token_of ps) ≤ length (spelled ps rest)
 tokens_bytes signs [] rest cuts fine = omega arith
 tokens_bytes signs (p ∷ ps) rest cuts fine =
-    let good = piece_good signs p.kind p.bytes cuts.0.form (All-head (λ q. ¬ (IsRefused Refused q)) p ps fine) in
+    let good = piece_good Refused signs p.kind p.bytes cuts.0.form (All-head (λ q. ¬ (IsRefused Refused q)) p ps fine) in
     omega (
       arith,
       weight_more (token_of p) (filter_map token_of ps),

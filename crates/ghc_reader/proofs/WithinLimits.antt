@@ -21,11 +21,12 @@ use Rattle.ghc_reader.specs.Limits.{first_exceeded, of_program, of_query}
 use Rattle.ghc_reader.specs.Written.{WrittenClause, WrittenQuery, is_stream, IsWithinLimits, IsWellWritten, AreWellWritten, IsWellAsked}
 use Rattle.ghc_reader.specs.Lowered.{Names, blank, IsCalled, AreNamed, Each, SaysAll, SaysGoal, SaysAsked, SaysClause, SaysQuery, is_true, doing, tail_of}
 use Rattle.ghc_reader.specs.Scope.{IsFresh}
+use Rattle.ghc_reader.specs.WrittenAsk.{WrittenAsk, IsNaming, SaysAsk, IsWellPut}
 use Rattle.ghc_reader.proofs.Counting.{and_one, one_more}
 use Rattle.ghc_reader.proofs.Names.{get_left, get_last}
 use Rattle.ghc_reader.proofs.Numbered.{test_cases}
 use Rattle.ghc_reader.proofs.Streams.{no_streams}
-use Rattle.ghc_reader.proofs.NamesIn.{clause_called, query_called}
+use Rattle.ghc_reader.proofs.NamesIn.{clause_called, query_called, asked_called}
 use Rattle.ghc_reader.proofs.OneNaming.{MeetsCalled, MeetsEach, named_are_met}
 
 -- ---- variables
@@ -148,10 +149,10 @@ each_width R one (g ∷ gs) (w ∷ ws) f us h (inr i) = omega (arith, each_width
 
 -- ---- the limits
 
-at_most : (n m : ℕ) → nat_lt n m ≡ false → m ≤ n
+pub at_most : (n m : ℕ) → nat_lt n m ≡ false → m ≤ n
 at_most n m e = grind (arith, nat_tests)
 
-each_false : (a b c d : Bool) → cond a (Some limit.Clauses) (cond b (Some limit.Arity) (cond c (Some limit.Goals) (cond d (Some limit.Variables) None))) ≡ None → (a ≡ false) × (b ≡ false) × (c ≡ false) × (d ≡ false)
+pub each_false : (a b c d : Bool) → cond a (Some limit.Clauses) (cond b (Some limit.Arity) (cond c (Some limit.Goals) (cond d (Some limit.Variables) None))) ≡ None → (a ≡ false) × (b ≡ false) × (c ≡ false) × (d ≡ false)
 each_false true b c d e = cc
 each_false false true c d e = cc
 each_false false false true d e = cc
@@ -226,4 +227,20 @@ query_well_asked gs q within s =
       apart = s.variables.apart;
       streams = s.streams;
       limited = goals_within (SaysAsked q.variables) (λ g f us h. asked_width g q.variables f us h) gs q.goals (length q.variables) s.goals few_goals (omega (arith, names, few_variables)) narrow;
+    }
+
+pub ask_well_put : (query : Names) (gs : List Goal) (a : WrittenAsk) → first_exceeded (of_query gs) ≡ None → SaysAsk query gs a → IsWellPut a
+ask_well_put query gs a within s =
+    let passed = each_false false (nat_lt 255 (widest_goals gs)) (nat_lt 1000 (length gs)) (nat_lt 1000 (variables (names_of_goals gs))) within in
+    let called = asked_called (IsCalled s.names) gs a.goals s.goals in
+    let few = few_names (names_of_goals gs) _ s.names s.variables called in
+    let told = each_length (IsNaming query) s.names a.named s.named in
+    let narrow = at_most 255 (widest_goals gs) passed.1 in
+    let few_goals = at_most 1000 (length gs) passed.2 in
+    let few_variables = at_most 1000 (variables (names_of_goals gs)) passed.3 in
+    record {
+      numbered = s.variables.numbered;
+      told = told ∙ s.variables.named;
+      plain = no_streams (doing gs) s.names a.goals s.goals;
+      limited = goals_within (SaysGoal s.names) (λ g f us h. said_width g s.names f us h) gs a.goals (length a.named) s.goals few_goals (omega (arith, told, few, few_variables)) narrow;
     }

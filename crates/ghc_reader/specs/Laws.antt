@@ -13,10 +13,11 @@ use Rattle.ghc_reader.specs.declared.lexer.value.Reserved.TheVariants.{Refused}
 use Rattle.ghc_reader.specs.Lexed.{IsLexed}
 use Rattle.ghc_reader.specs.Grammar.{Input, input}
 use Rattle.ghc_reader.specs.Derived.{tree_of}
-use Rattle.ghc_reader.specs.Lowered.{Says}
-use Rattle.ghc_reader.specs.Tests.{a_program, a_query, a_term, IsRefusal}
-use Rattle.ghc_reader.specs.Written.{WrittenClause, WrittenQuery}
-use Rattle.ghc_reader.specs.Read.{IsReadProgram, IsReadQuery, IsReadTerm}
+use Rattle.ghc_reader.specs.Lowered.{Names, Says}
+use Rattle.ghc_reader.specs.Tests.{a_program, a_query, a_term, an_ask, IsRefusal}
+use Rattle.ghc_reader.specs.Written.{WrittenClause, WrittenQuery, AreApart}
+use Rattle.ghc_reader.specs.WrittenAsk.{WrittenAsk}
+use Rattle.ghc_reader.specs.Read.{IsReadProgram, IsReadQuery, IsReadTerm, IsReadAsk}
 
 -- What is answered for the text of a program is exact: the program that it says, or its refusal, unless memory was refused.
 abbrev pub ReadProgramIsExact : Type 0
@@ -35,6 +36,12 @@ abbrev pub ReadTermIsExact : Type 0
 ReadTermIsExact =
     (text : List ℕ) (result : Result Tree Fault)
     → Answered (IsReadTerm text) (IsRefusal a_term text) result → IsExact (IsReadTerm text) (IsRefusal a_term text) result
+
+-- What is answered for the text of what is asked for in mid-run is exact, where the query gives its variables names of their own, or `_`: what the text says, or its refusal, unless memory was refused.
+abbrev pub ReadAskIsExact : Type 0
+ReadAskIsExact =
+    (query : Names) (text : List ℕ) (result : Result WrittenAsk Fault)
+    → AreApart query → Answered (IsReadAsk query text) (IsRefusal an_ask text) result → IsExact (IsReadAsk query text) (IsRefusal an_ask text) result
 
 -- The tokens of the text are those of a derivation that says the term, whatever the limits on input terms.
 pub record IsSpelledBy (text : List ℕ) (u : Tree) : Type 0 where

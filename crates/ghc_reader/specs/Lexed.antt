@@ -3,7 +3,7 @@ use Rattle.std.specs.Prelude.{◌≡◌, ◌≢◌, ◌⊎◌, ℕ, ◌<◌, ◌
 use Rattle.std.specs.Int.{w64}
 use Rattle.std.specs.Char.{is_ascii_digit}
 use Rattle.std.specs.List.{filter_map}
-use Rattle.std.specs.Str.Parse.{signed_digits_value}
+use Rattle.std.specs.Str.Parse.{digits_value, signed_digits_value}
 use Rattle.ghc_reader.specs.Bytes.{IsRun, Lacks}
 use Rattle.ghc_reader.specs.Symbols.{token_of_symbol}
 use Rattle.ghc_reader.specs.Pieces.{Piece, Stands, spelled, Cuts, signs_after}
@@ -18,7 +18,7 @@ use Rattle.ghc_reader.specs.declared.lexer.front.Kind.{Kind}
 use Rattle.ghc_reader.specs.declared.lexer.front.Kind.TheVariants.{Blank, Comment, Name, Variable, Integer, Symbol}
 use Rattle.ghc_reader.specs.declared.lexer.front.Front.{Front}
 use Rattle.ghc_reader.specs.declared.lexer.value.Reserved.{Reserved}
-use Rattle.ghc_reader.specs.declared.lexer.value.Reserved.TheVariants.{Refused}
+use Rattle.ghc_reader.specs.declared.lexer.value.Reserved.TheVariants.{Refused, Allowed}
 
 -- ---- one piece
 
@@ -38,21 +38,44 @@ token_of_bytes (Symbol s) bs = Some (token_of_symbol s)
 abbrev pub token_of : Piece → Option Token
 token_of p = token_of_bytes p.kind p.bytes
 
--- the text is `_`, one digit or more, and then the rest, which no digit begins
-abbrev pub EndsNumber : List ℕ → List ℕ → Type 0
-EndsNumber text rest =
-    (digits : List ℕ) × IsRun is_ascii_digit is_ascii_digit digits × (text ≡ 95 ∷ (digits ++ rest)) × Lacks is_ascii_digit rest
+-- one digit or more
+abbrev pub AreDigits : List ℕ → Type 0
+AreDigits bs = IsRun is_ascii_digit is_ascii_digit bs
+
+-- the text is `_`, these digits, and then the rest, which no digit begins
+abbrev pub BeginsNumber : List ℕ → List ℕ → List ℕ → Type 0
+BeginsNumber text digits rest = AreDigits digits × (text ≡ 95 ∷ (digits ++ rest)) × Lacks is_ascii_digit rest
+
+-- the bytes are `_`, the first digits, `_`, the second digits
+abbrev pub IsReservedBy : List ℕ → List ℕ → List ℕ → Type 0
+IsReservedBy bs first second = AreDigits first × AreDigits second × (bs ≡ 95 ∷ (first ++ 95 ∷ second))
 
 -- `_`, digits, `_`, digits
 abbrev pub IsReserved : List ℕ → Type 0
-IsReserved bs =
-    (first second : List ℕ) × IsRun is_ascii_digit is_ascii_digit first × IsRun is_ascii_digit is_ascii_digit second
-    × (bs ≡ 95 ∷ (first ++ 95 ∷ second))
+IsReserved bs = (first second : List ℕ) × IsReservedBy bs first second
 
--- the token is refused: an integer that doesn't fit 64 bits, or a reserved variable where a text may not hold one
+-- the bytes are `_n_m`, by the values of the digits
+abbrev pub IsReservedAs : List ℕ → ℕ → ℕ → Type 0
+IsReservedAs bs n m =
+    (first second : List ℕ) × IsReservedBy bs first second × (n ≡ digits_value 10 first) × (m ≡ digits_value 10 second)
+
+-- the greatest number of a variable
+abbrev pub greatest_number : ℕ
+greatest_number = 4294967295
+
+-- the bytes are `_n_m` with a number that no variable has
+abbrev pub IsTooGreat : List ℕ → Type 0
+IsTooGreat bs = (n m : ℕ) × IsReservedAs bs n m × ((greatest_number < n) ⊎ (greatest_number < m))
+
+-- the bytes are `_n_m`, and a variable can have these numbers
+abbrev pub IsNumberedAs : List ℕ → ℕ → ℕ → Type 0
+IsNumberedAs bs n m = IsReservedAs bs n m × (n ≤ greatest_number) × (m ≤ greatest_number)
+
+-- The token is refused: an integer that doesn't fit 64 bits; a reserved variable where a text may not hold one, and else one with a number that is too great.
 abbrev pub IsRefusedToken : Reserved → Option Token → Type 0
 IsRefusedToken reserved (Some (token.Integer value)) = ¬ (FitsSigned w64 value)
 IsRefusedToken Refused (Some (token.Variable bs)) = IsReserved bs
+IsRefusedToken Allowed (Some (token.Variable bs)) = IsTooGreat bs
 IsRefusedToken reserved t = ⊥
 
 abbrev pub IsRefused : Reserved → Piece → Type 0

@@ -19,5 +19,7 @@ pub mod WrittenCode
 pub mod Tests
 pub mod Lowered
 pub mod Scope
+pub mod WrittenAsk
 pub mod Read
+pub mod PrintedGoals
 pub mod Laws

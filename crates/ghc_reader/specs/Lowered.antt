@@ -31,19 +31,29 @@ blank = codes "_"
 abbrev pub IsCalled : Names → List ℕ → VarName → Type 0
 IsCalled names v x = (i : ℕ) × (slice_get names i ≡ Some v) × (x ≡ record { step = 0; place = i + 1 })
 
-abbrev mutual
-  -- The term u says what the parse tree says, where the variables have these names.
-  pub Says : Names → Tree → term.Tree → Type 0
-  Says names (variable v) u = (x : VarName) × (u ≡ term.variable x) × IsCalled names v x
-  Says names (integer n) u = u ≡ term.integer n
-  Says names (structure f ts) u = (us : List term.Tree) × (u ≡ node f (trees us)) × SaysAll names ts us
-  Says names empty u = u ≡ nil
-  Says names (cell t rest) u = (a : term.Tree) × (b : term.Tree) × (u ≡ cons a b) × Says names t a × Says names rest b
+-- C v x tells that the variable x is called v.
+module _ (C : List ℕ → VarName → Type 0) where
+  abbrev mutual
+    -- The term u says what the parse tree says, where the variables are called so.
+    pub SaysBy : Tree → term.Tree → Type 0
+    SaysBy (variable v) u = (x : VarName) × (u ≡ term.variable x) × C v x
+    SaysBy (integer n) u = u ≡ term.integer n
+    SaysBy (structure f ts) u = (us : List term.Tree) × (u ≡ node f (trees us)) × SaysAllBy ts us
+    SaysBy empty u = u ≡ nil
+    SaysBy (cell t rest) u = (a : term.Tree) × (b : term.Tree) × (u ≡ cons a b) × SaysBy t a × SaysBy rest b
 
-  -- The terms say in order what the parse trees say.
-  pub SaysAll : Names → Trees → List term.Tree → Type 0
-  SaysAll names none us = us ≡ []
-  SaysAll names (some t ts) us = (a : term.Tree) × (vs : List term.Tree) × (us ≡ a ∷ vs) × Says names t a × SaysAll names ts vs
+    -- The terms say in order what the parse trees say.
+    pub SaysAllBy : Trees → List term.Tree → Type 0
+    SaysAllBy none us = us ≡ []
+    SaysAllBy (some t ts) us = (a : term.Tree) × (vs : List term.Tree) × (us ≡ a ∷ vs) × SaysBy t a × SaysAllBy ts vs
+
+-- The term u says what the parse tree says, where the variables have these names.
+abbrev pub Says : Names → Tree → term.Tree → Type 0
+Says names t u = SaysBy (IsCalled names) t u
+
+-- The terms say in order what the parse trees say.
+abbrev pub SaysAll : Names → Trees → List term.Tree → Type 0
+SaysAll names ts us = SaysAllBy (IsCalled names) ts us
 
 -- the operator that a mark of products stands for
 abbrev pub product_operator : Product → Operator
@@ -56,18 +66,26 @@ abbrev pub sum_operator : Sum → Operator
 sum_operator Plus = operator.Add
 sum_operator Minus = operator.Subtract
 
--- The expression e says what the parse tree says.
-abbrev pub SaysValue : Names → Value → Expression → Type 0
-SaysValue names (number n) e = e ≡ leaf (term.integer n)
-SaysValue names (named v) e = (x : VarName) × (e ≡ leaf (term.variable x)) × IsCalled names v x
-SaysValue names (product o a b) e = (l : Expression) × (r : Expression) × (e ≡ operation (product_operator o) l r) × SaysValue names a l × SaysValue names b r
-SaysValue names (sum o a b) e = (l : Expression) × (r : Expression) × (e ≡ operation (sum_operator o) l r) × SaysValue names a l × SaysValue names b r
+module _ (C : List ℕ → VarName → Type 0) where
+  -- The expression e says what the parse tree says.
+  abbrev pub SaysValueBy : Value → Expression → Type 0
+  SaysValueBy (number n) e = e ≡ leaf (term.integer n)
+  SaysValueBy (named v) e = (x : VarName) × (e ≡ leaf (term.variable x)) × C v x
+  SaysValueBy (product o a b) e = (l : Expression) × (r : Expression) × (e ≡ operation (product_operator o) l r) × SaysValueBy a l × SaysValueBy b r
+  SaysValueBy (sum o a b) e = (l : Expression) × (r : Expression) × (e ≡ operation (sum_operator o) l r) × SaysValueBy a l × SaysValueBy b r
 
--- The goal w says what the parse tree says.
+  -- The goal w says what the parse tree says.
+  abbrev pub SaysGoalBy : Goal → goal.Goal → Type 0
+  SaysGoalBy (call c) w = (us : List term.Tree) × (w ≡ goal.call c.name us) × SaysAllBy C c.arguments us
+  SaysGoalBy (unify s t) w = (a : term.Tree) × (b : term.Tree) × (w ≡ goal.unify a b) × SaysBy C s a × SaysBy C t b
+  SaysGoalBy (assign v e) w = (x : VarName) × (b : Expression) × (w ≡ goal.assign (term.variable x) b) × C v x × SaysValueBy e b
+
+-- The same where the variables have these names.
+abbrev pub SaysValue : Names → Value → Expression → Type 0
+SaysValue names a e = SaysValueBy (IsCalled names) a e
+
 abbrev pub SaysGoal : Names → Goal → goal.Goal → Type 0
-SaysGoal names (call c) w = (us : List term.Tree) × (w ≡ goal.call c.name us) × SaysAll names c.arguments us
-SaysGoal names (unify s t) w = (a : term.Tree) × (b : term.Tree) × (w ≡ goal.unify a b) × Says names s a × Says names t b
-SaysGoal names (assign v e) w = (x : VarName) × (b : Expression) × (w ≡ goal.assign (term.variable x) b) × IsCalled names v x × SaysValue names e b
+SaysGoal names g w = SaysGoalBy (IsCalled names) g w
 
 -- the variable that a term is
 abbrev pub variable_of : Tree → Option (List ℕ)

@@ -1,6 +1,7 @@
-//! The reader: from the bytes of a program, a query or an input term to its tree.
+//! The reader: from the bytes of a program, a query, an input term or what is asked for in mid-run to its tree.
 #![tactic(auto)]
 
+mod ask;
 mod clause_parser;
 mod depth;
 mod expression_parser;
@@ -22,9 +23,10 @@ mod term_parser;
 mod token;
 mod written;
 
+pub use ask::WrittenAsk;
 pub use laws::{
-    printed_terms_are_read_again, read_ground_term_is_exact, read_program_is_exact,
-    read_query_is_exact,
+    printed_goals_are_read_again, printed_terms_are_read_again, read_ask_is_exact,
+    read_ground_term_is_exact, read_program_is_exact, read_query_is_exact,
 };
-pub use read::{read_ground_term, read_program, read_query};
+pub use read::{read_ask, read_ground_term, read_program, read_query};
 pub use written::{Guard, Query, Source, WrittenClause};

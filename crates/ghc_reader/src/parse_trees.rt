@@ -1,9 +1,9 @@
 // From the bytes of a text to its parse tree: the tests that a text has to pass, one after the other.
-ghost use Rattle.std.specs.Prelude.{◌≡◌, ◌⊎◌, ◌+◌, ◌<◌, length, IfOk, IfErr};
+ghost use Rattle.std.specs.Prelude.{true, ◌≡◌, ◌⊎◌, ◌+◌, ◌<◌, length, IfOk, IfErr};
 ghost use Rattle.ghc_reader.specs.Views.{view, goal_views, clause_views};
 ghost use Rattle.ghc_reader.specs.Lexed.{most_bytes};
 ghost use Rattle.ghc_reader.specs.Viable.{IfSyntax};
-ghost use Rattle.ghc_reader.specs.Tests.{a_program, a_query, a_term, IsShallow, IsRead, IsFaultAt, IsTokenRefusal, IsRefusal};
+ghost use Rattle.ghc_reader.specs.Tests.{a_program, a_query, an_ask, a_term, IsShallow, IsRead, IsFaultAt, IsTokenRefusal, IsRefusal};
 
 pub(crate) mod laws;
 
@@ -15,19 +15,19 @@ use crate::limits::{program_limit, query_limit, term_limit};
 use crate::parse_error::ParseError;
 use crate::parser::{parse_program, parse_query};
 use crate::place::Place;
-use crate::reserved::{misplaced_in_program, misplaced_in_query};
+use crate::reserved::{misplaced_in_body, misplaced_in_program, misplaced_in_query};
 use crate::source::{SourceClause, SourceGoal, SourceTerm};
 use ghc_term::{Fault, Limit};
 use std::alloc::Global;
 
 // The tokens of a text that is not too long, has no bad byte and is not nested too deep.
-fn shallow_tokens(alloc: Global, text: &[u8]) -> Result<Lexed, Fault>
-    ensures found { IfOk result (λ lexed. IsShallow text.now lexed.tokens.items lexed.places.items) }
+fn shallow_tokens(alloc: Global, text: &[u8], reserved: Reserved) -> Result<Lexed, Fault>
+    ensures found { IfOk result (λ lexed. IsShallow reserved true text.now lexed.tokens.items lexed.places.items) }
     ensures paired { IfOk result (λ lexed. length lexed.places.items ≡ length lexed.tokens.items + 1) }
-    ensures fault { IfErr result (λ fault. (fault ≡ Fault.Memory) ⊎ IsTokenRefusal text.now fault) }
+    ensures fault { IfErr result (λ fault. (fault ≡ Fault.Memory) ⊎ IsTokenRefusal reserved true text.now fault) }
     ensures too_long { most_bytes < length text.now → result ≡ Err (Fault.Limit Limit.Text) }
 {
-    let lexed = tokens(alloc, text, Reserved::Refused)?;
+    let lexed = tokens(alloc, text, reserved)?;
     if is_too_deep(&lexed.tokens) {
         return Err(Fault::Limit(Limit::Depth));
     }
@@ -61,7 +61,7 @@ pub(crate) fn parsed_program(alloc: Global, text: &[u8]) -> Result<Vec<SourceCla
     ensures fault { IfErr result (λ fault. (fault ≡ Fault.Memory) ⊎ IsRefusal a_program text.now fault) }
     ensures too_long { most_bytes < length text.now → result ≡ Err (Fault.Limit Limit.Text) }
 {
-    let lexed = shallow_tokens(alloc, text)?;
+    let lexed = shallow_tokens(alloc, text, Reserved::Refused)?;
     let clauses = match parse_program(alloc, &lexed.tokens) {
         Ok(clauses) => clauses,
         Err(error) => return Err(fault_of(error, &lexed.places)),
@@ -81,12 +81,32 @@ pub(crate) fn parsed_query(alloc: Global, text: &[u8]) -> Result<Vec<SourceGoal>
     ensures fault { IfErr result (λ fault. (fault ≡ Fault.Memory) ⊎ IsRefusal a_query text.now fault) }
     ensures too_long { most_bytes < length text.now → result ≡ Err (Fault.Limit Limit.Text) }
 {
-    let lexed = shallow_tokens(alloc, text)?;
+    let lexed = shallow_tokens(alloc, text, Reserved::Refused)?;
     let goals = match parse_query(alloc, &lexed.tokens) {
         Ok(goals) => goals,
         Err(error) => return Err(fault_of(error, &lexed.places)),
     };
     if let Some(left) = misplaced_in_query(&goals) {
+        return Err(fault_at(&lexed.places, lexed.tokens.len() - left));
+    }
+    if let Some(limit) = query_limit(alloc, &goals)? {
+        return Err(Fault::Limit(limit));
+    }
+    Ok(goals)
+}
+
+/// The goals that the text of what is asked for says, or its refusal, as `parsed_program`. Reserved variables may stand in it.
+pub(crate) fn parsed_ask(alloc: Global, text: &[u8]) -> Result<Vec<SourceGoal>, Fault>
+    ensures found { IfOk result (λ goals. IsRead an_ask text.now (goal_views goals.items)) }
+    ensures fault { IfErr result (λ fault. (fault ≡ Fault.Memory) ⊎ IsRefusal an_ask text.now fault) }
+    ensures too_long { most_bytes < length text.now → result ≡ Err (Fault.Limit Limit.Text) }
+{
+    let lexed = shallow_tokens(alloc, text, Reserved::Allowed)?;
+    let goals = match parse_query(alloc, &lexed.tokens) {
+        Ok(goals) => goals,
+        Err(error) => return Err(fault_of(error, &lexed.places)),
+    };
+    if let Some(left) = misplaced_in_body(&goals) {
         return Err(fault_at(&lexed.places, lexed.tokens.len() - left));
     }
     if let Some(limit) = query_limit(alloc, &goals)? {
@@ -101,7 +121,7 @@ pub(crate) fn parsed_term(alloc: Global, text: &[u8]) -> Result<SourceTerm, Faul
     ensures fault { IfErr result (λ fault. (fault ≡ Fault.Memory) ⊎ IsRefusal a_term text.now fault) }
     ensures too_long { most_bytes < length text.now → result ≡ Err (Fault.Limit Limit.Text) }
 {
-    let lexed = shallow_tokens(alloc, text)?;
+    let lexed = shallow_tokens(alloc, text, Reserved::Refused)?;
     let term = match parse_term(alloc, &lexed.tokens) {
         Ok(term) => term,
         Err(error) => return Err(fault_of(error, &lexed.places)),

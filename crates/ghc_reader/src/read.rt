@@ -3,13 +3,14 @@ ghost use Rattle.std.specs.Prelude.{◌≡◌, ◌<◌, length};
 ghost use Rattle.ghc_term.specs.Answered.{Answered};
 ghost use Rattle.ghc_term.specs.declared.limit.Limit.TheVariants.{Text};
 ghost use Rattle.ghc_reader.specs.Lexed.{most_bytes};
-ghost use Rattle.ghc_reader.specs.Tests.{a_program, a_query, a_term, IsRefusal};
-ghost use Rattle.ghc_reader.specs.Read.{IsReadProgram, IsReadQuery, IsReadTerm};
+ghost use Rattle.ghc_reader.specs.Tests.{a_program, a_query, a_term, an_ask, IsRefusal};
+ghost use Rattle.ghc_reader.specs.Read.{IsReadProgram, IsReadQuery, IsReadTerm, IsReadAsk};
 
-use crate::lowering::{lower_closed, lower_program, lower_query};
-use crate::parse_trees::{parsed_program, parsed_query, parsed_term};
+use crate::ask::WrittenAsk;
+use crate::lowering::{lower_ask, lower_closed, lower_program, lower_query};
+use crate::parse_trees::{parsed_ask, parsed_program, parsed_query, parsed_term};
 use crate::written::{Query, Source};
-use ghc_term::{Fault, Ground};
+use ghc_term::{Fault, Ground, Name};
 use std::alloc::Global;
 
 /// The program that a text says. Else the refusal of the first test that the text does not pass: `Limit::Text` past
@@ -39,6 +40,22 @@ pub fn read_query(alloc: Global, text: &[u8]) -> Result<Query, Fault>
     };
     let query = lower_query(alloc, &goals)?;
     Ok(query)
+}
+
+/// What a text asks for in mid-run, where the variables of the query have these names; or its refusal, as `read_query`. Here a
+/// variable `_n_m` names one of the state, by the values of its digits, and is a syntax error at its first byte where one of them
+/// is over 4294967295; and any `instream` of one argument is a syntax error at its first byte. Time and memory grow with the
+/// text and the names.
+pub fn read_ask(alloc: Global, text: &[u8], query: &[Name]) -> Result<WrittenAsk, Fault>
+    ensures answer { Answered (IsReadAsk query.now text.now) (IsRefusal an_ask text.now) result }
+    ensures too_long { most_bytes < length text.now → result ≡ Err (Fault.Limit Text) }
+{
+    let goals = match parsed_ask(alloc, text) {
+        Ok(goals) => goals,
+        Err(fault) => return Err(fault),
+    };
+    let asked = lower_ask(alloc, &goals, query)?;
+    Ok(asked)
 }
 
 /// The input term that a text says, or its refusal, as `read_program`; in place of `Limit::Clauses`, `Goals` and `Variables`

@@ -28,7 +28,9 @@ fn misplaced_in_clause(clause: &SourceClause) -> Option<usize>
     misplaced_in_body(&clause.body)
 }
 
-fn misplaced_in_body(goals: &[SourceGoal]) -> Option<usize>
+/// The place of the first goal `instream(_)`, as the number of tokens that the text has left there. Time grows with the number of
+/// goals.
+pub fn misplaced_in_body(goals: &[SourceGoal]) -> Option<usize>
     ensures { result ≡ first_place (misplaced_body (goal_views goals.now)) }
 {
     for goal in goals {

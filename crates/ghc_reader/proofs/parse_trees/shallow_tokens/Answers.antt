@@ -5,4 +5,4 @@ use Rattle.ghc_reader.proofs.parse_trees.shallow_tokens.Goals as goal
 pub returns-in_err-lexed-clause-fault : goal.returns-in_err-lexed-clause-fault
 returns-in_err-lexed-clause-fault c =
     let passed = err_from_is_err_and c.from_residual.result c.from_residual.ensures.1 in
-    rw (passed.1, passed.2) (lex_refusal c.args.text.now _ c.in_err-lexed.ensures.fault)
+    rw (passed.1, passed.2) (lex_refusal c.args.reserved c.args.text.now _ c.in_err-lexed.ensures.fault)

@@ -1,0 +1,91 @@
+-- A text of printed goals has no more variables than the goals, and exceeds no limit where they are within the limits.
+use Rattle.std.proofs.Common.{◌≡◌, ℕ, ◌+◌, ◌≤◌, Bool, true, false, List, [], ◌∷◌, ◌++◌, length, Some, None, refl, sym, ap, ◌∙◌, inl, inr, arith, cond, append_assoc, length-append}
+use Rattle.std.specs.Prelude.{◌||◌, not, bytes_eq}
+use Rattle.std.specs.List.{list_any}
+use Rattle.std.specs.Fmt.{decimal}
+use Rattle.std.specs.Ordering.{eq_by_cmp}
+use Rattle.std.proofs.lemmas.List.{append-nil}
+use Rattle.std.proofs.lemmas.List.Folds.{list_any-append}
+use Rattle.std.proofs.lemmas.Slice.Eq.{bytes_eq-Decides}
+use Rattle.ghc_term.specs.declared.var_name.VarName.{VarName}
+use Rattle.ghc_term.specs.declared.limit.Limit.TheVariants as limit
+use Rattle.ghc_term.specs.Bindings.{name_cmp}
+use Rattle.ghc_term.specs.Text.{variable_text}
+use Rattle.ghc_term.specs.Goal as goal
+use Rattle.ghc_term.specs.Variables.{variables_of_goals, firsts}
+use Rattle.ghc_reader.specs.Source.{Goal}
+use Rattle.ghc_reader.specs.Amounts.{widest_goals, names_of_goals, is_unnamed, variables}
+use Rattle.ghc_reader.specs.Limits.{first_exceeded, of_query}
+use Rattle.ghc_reader.specs.Lowered.{SaysGoalBy, Each, doing}
+use Rattle.ghc_reader.specs.PrintedGoals.{IsPrintedAs}
+use Rattle.ghc_reader.proofs.Counting.{and_one, one_more}
+use Rattle.ghc_reader.proofs.Numbered.{is_seen, one_name, test_cases}
+use Rattle.ghc_reader.proofs.NamesIn.{asked_called}
+use Rattle.ghc_reader.proofs.ReadAgain.{not_more}
+
+-- ---- variables
+
+-- what is printed of a variable is not `_`
+is_named : (x : VarName) → is_unnamed (variable_text x) ≡ false
+is_named x = elim (test_cases (is_unnamed (variable_text x))) [
+  | inl same ↦
+      let e = (bytes_eq-Decides (variable_text x) (95 ∷ [])).0 same in
+      absurd (omega (arith, ap length e, length-append (decimal x.step) (95 ∷ decimal x.place)))
+  | inr differs ↦ differs
+]
+
+at_most_one : (b : Bool) (n : ℕ) → and_one b n ≤ n + 1
+at_most_one true n = omega arith
+at_most_one false n = omega arith
+
+last_found : (b c : Bool) → c ≡ true → (b || (c || false)) ≡ true
+last_found true c e = refl
+last_found false c e = ap (λ a. a || false) e
+
+-- The names met hold those of the variables seen.
+abbrev AreMet : List (List ℕ) → List VarName → Type 0
+AreMet met seen = (y : VarName) → is_seen y seen ≡ true → list_any (bytes_eq (variable_text y)) met ≡ true
+
+still_met : (met : List (List ℕ)) (v w : List ℕ) → list_any (bytes_eq w) met ≡ true → list_any (bytes_eq w) (met ++ v ∷ []) ≡ true
+still_met met v w found = list_any-append (bytes_eq w) met (v ∷ []) ∙ ap (λ b. b || (bytes_eq w v || false)) found
+
+met_now : (met : List (List ℕ)) (v w : List ℕ) → w ≡ v → list_any (bytes_eq w) (met ++ v ∷ []) ≡ true
+met_now met v w same = list_any-append (bytes_eq w) met (v ∷ []) ∙ last_found (list_any (bytes_eq w) met) (bytes_eq w v) ((bytes_eq-Decides w v).1 same)
+
+one_more_met : (met : List (List ℕ)) (v : List ℕ) (x : VarName) (seen : List VarName) → v ≡ variable_text x → AreMet met seen → AreMet (met ++ v ∷ []) (x ∷ seen)
+one_more_met met v x seen printed known y found = elim (test_cases (eq_by_cmp name_cmp y x)) [
+  | inl same ↦ met_now met v (variable_text y) (ap variable_text (one_name y x same) ∙ sym printed)
+  | inr other ↦ still_met met v (variable_text y) (known y (sym (ap (λ a. a || is_seen y seen) other) ∙ found))
+]
+
+few_more : (vs met : List (List ℕ)) (xs seen : List VarName) → AreMet met seen → Each IsPrintedAs vs xs → variables (met ++ vs) ≤ variables met + length (firsts seen xs)
+few_more [] met [] seen known h = omega (arith, ap variables (append-nil met))
+few_more [] met (x ∷ xs) seen known h = absurd h
+few_more (v ∷ vs) met [] seen known h = absurd h
+few_more (v ∷ vs) met (x ∷ xs) seen known h = elim (test_cases (is_seen x seen)) [
+  | inl found ↦
+      let same : firsts seen (x ∷ xs) ≡ firsts seen xs = ap (λ t. cond t (firsts seen xs) (x ∷ firsts (x ∷ seen) xs)) found in
+      let named : is_unnamed v ≡ false = ap is_unnamed h.0 ∙ is_named x in
+      let there : list_any (bytes_eq v) met ≡ true = ap (λ w. list_any (bytes_eq w) met) h.0 ∙ known x found in
+      let step : variables (met ++ v ∷ []) ≡ variables met = one_more met v ∙ (λ i. and_one (named i || not (there i)) (variables met)) in
+      let rest = few_more vs (met ++ v ∷ []) xs seen (λ y e. still_met met v (variable_text y) (known y e)) h.1 in
+      omega (arith, rest, step, ap length same, ap variables (append_assoc met (v ∷ []) vs))
+  | inr new ↦
+      let same : firsts seen (x ∷ xs) ≡ x ∷ firsts (x ∷ seen) xs = ap (λ t. cond t (firsts seen xs) (x ∷ firsts (x ∷ seen) xs)) new in
+      let step = at_most_one (is_unnamed v || not (list_any (bytes_eq v) met)) (variables met) in
+      let rest = few_more vs (met ++ v ∷ []) xs (x ∷ seen) (one_more_met met v x seen h.0 known) h.1 in
+      omega (arith, rest, step, one_more met v, ap length same, ap variables (append_assoc met (v ∷ []) vs))
+]
+
+pub few_variables : (xs : List Goal) (gs : List goal.Goal) → Each (SaysGoalBy IsPrintedAs) (doing xs) gs → variables (names_of_goals xs) ≤ length (firsts [] (variables_of_goals gs))
+few_variables xs gs says =
+    omega (arith, few_more (names_of_goals xs) [] (variables_of_goals gs) [] (λ y e. absurd (nothing e)) (asked_called IsPrintedAs xs gs says))
+  where
+    nothing : false ≡ true → ⊥
+    nothing e = cc
+
+-- ---- limits
+
+pub none_exceeded : (xs : List Goal) → widest_goals xs ≤ 255 → length xs ≤ 1000 → variables (names_of_goals xs) ≤ 1000 → first_exceeded (of_query xs) ≡ None
+none_exceeded xs width many few =
+    λ i. cond (not_more 255 (widest_goals xs) width i) (Some limit.Arity) (cond (not_more 1000 (length xs) many i) (Some limit.Goals) (cond (not_more 1000 (variables (names_of_goals xs)) few i) (Some limit.Variables) None))
