@@ -9,7 +9,7 @@ use Rattle.ghc_console.proofs.StepReplies.{if_ok, on_ok}
 use Rattle.ghc_console.proofs.obey_reply.obey.Goals as goal
 
 pub carry_out-requires-clause-found : goal.carry_out-requires-clause-found
-carry_out-requires-clause-found c = subst (λ (w : World). CanChange w c.in-Ok.change) (sym c.in-Ok.ensures.stays.world) c.in-Ok.ensures.answer.0.0
+carry_out-requires-clause-found c = subst (λ (w : World). CanChange w c.in-Ok.change) (sym c.in-Ok.ensures.stays.world) c.in-Ok.ensures.answer.0.1
 
 pub returns-in-Ok-clause-text : goal.returns-in-Ok-clause-text
 returns-in-Ok-clause-text c = on_ok c.carry_out.result c.carry_out.ensures.told (λ told.
