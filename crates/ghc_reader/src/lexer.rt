@@ -21,11 +21,11 @@ use crate::token::{Mark, Token};
 use ghc_term::{Fault, Limit};
 use std::alloc::{AllocError, Global};
 
-/// The most bytes of a program, a query or an input term.
+/// The most bytes of a program, a query, an input term or what is asked for in mid-run.
 pub(crate) const MOST_BYTES: usize = 1_048_576;
 
 /// So many bytes, and more, may have places past 32 bits.
-const MOST_COUNTED: usize = 4_294_967_294;
+const TOO_MANY_BYTES: usize = 4_294_967_294;
 
 /// The tokens of a text, and their places. The last place, behind those of the tokens, is that of the end of the text.
 pub(crate) struct Lexed {
@@ -129,7 +129,7 @@ pub(crate) fn all_tokens(alloc: Global, text: &[u8], reserved: Reserved) -> Resu
     ensures paired { IfOk result (λ lexed. length lexed.places.items ≡ length lexed.tokens.items + 1) }
     ensures fault { IfErr result (λ fault. IsCutFault reserved text.now fault) }
 {
-    if text.len() >= MOST_COUNTED {
+    if text.len() >= TOO_MANY_BYTES {
         return Err(Fault::Memory);
     }
     cut(alloc, text, reserved)
