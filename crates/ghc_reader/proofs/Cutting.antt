@@ -1,12 +1,12 @@
 -- What the loop over the pieces of a text keeps.
-use Rattle.std.proofs.Common.{◌≡◌, ◌≢◌, ◌⊎◌, ℕ, ◌+◌, ◌^◌, ◌<◌, ◌≤◌, Bool, true, List, [], ◌∷◌, ◌++◌, length, Option, Some, None, refl, sym, ap, subst, ◌∙◌, inl, inr, arith, append_assoc, length-append}
+use Rattle.std.proofs.Common.{◌≡◌, ◌≢◌, ◌⊎◌, ℕ, ◌+◌, ◌^◌, ◌<◌, ◌≤◌, Bool, true, List, [], ◌∷◌, ◌++◌, length, Option, Some, None, refl, sym, ap, subst, ◌∙◌, inl, inr, arith, append_assoc, length-append, Result, Ok, Err, IfErr}
 use Rattle.std.proofs.lemmas.List.{append-nil}
 use Rattle.std.proofs.lemmas.List.Elements.{All-nil, All-push, filter_map-append}
 use Rattle.std.specs.List.{filter_map}
 use Rattle.std.specs.Option.{option_to_list}
 use Rattle.ghc_reader.specs.Pieces.{Piece, HasForm, HasNoPiece, Stands, IsFront, spelled, Cuts, signs_behind, signs_after}
 use Rattle.ghc_reader.specs.Places.{start, place_behind, fault_at}
-use Rattle.ghc_reader.specs.Lexed.{piece_of, token_of, IsRefused, IsCutInto, place_of_token, token_places, IsLexed, IsBadAt, IsLexFault, most_bytes}
+use Rattle.ghc_reader.specs.Lexed.{piece_of, token_of, IsRefused, IsCutInto, place_of_token, token_places, IsLexed, IsBadAt, IsLexFault, most_bytes, IsCutFault, greatest_number}
 use Rattle.ghc_term.specs.declared.fault.Fault.{Fault}
 use Rattle.ghc_term.specs.declared.fault.Fault.TheVariants as fault
 use Rattle.ghc_reader.specs.declared.token.Token.{Token}
@@ -142,17 +142,26 @@ module _ (reserved : Reserved) (text : List ℕ) (tokens : List Token) (places :
   }
 
   -- lines and columns fit
-  pub line_fits : length text ≤ most_bytes → place.line + 1 < 2 ^ 32
+  pub line_fits : length text + 1 < greatest_number → place.line + 1 < 2 ^ 32
   line_fits short =
       let within = behind_within start (spelled so_far.pieces []) (omega arith) in
       omega (arith, within.line, ap Place.line so_far.place_is, length-append (spelled so_far.pieces []) rest, ap length (spelled-front so_far.pieces rest), ap length so_far.cut.whole)
 
-  pub column_fits : length text ≤ most_bytes → (bytes behind : List ℕ) → rest ≡ bytes ++ behind → place.column + length bytes < 2 ^ 32
+  pub column_fits : length text + 1 < greatest_number → (bytes behind : List ℕ) → rest ≡ bytes ++ behind → place.column + length bytes < 2 ^ 32
   column_fits short bytes behind split =
       let within = behind_within start (spelled so_far.pieces []) (omega arith) in
       omega (arith, within.column, ap Place.column so_far.place_is, length-append (spelled so_far.pieces []) rest, ap length (spelled-front so_far.pieces rest), ap length so_far.cut.whole, ap length split, length-append bytes behind)
 
 -- a token that is refused is the fault of the text
-pub refused_fault : (reserved : Reserved) (text : List ℕ) (place : Place) (Bad : Type 0) (f : Fault) → (f ≡ fault.Memory) ⊎ ((f ≡ fault_at place) × Bad) → length text ≤ most_bytes → (Bad → IsBadAt reserved text place) → IsLexFault reserved text f
-refused_fault reserved text place Bad f (inl memory) short is_bad = subst (IsLexFault reserved text) (sym memory) tt
-refused_fault reserved text place Bad f (inr (there, bad)) short is_bad = subst (IsLexFault reserved text) (sym there) (short, is_bad bad)
+pub refused_fault : (reserved : Reserved) (text : List ℕ) (place : Place) (Bad : Type 0) (f : Fault) → (f ≡ fault.Memory) ⊎ ((f ≡ fault_at place) × Bad) → (Bad → IsBadAt reserved text place) → IsCutFault reserved text f
+refused_fault reserved text place Bad f (inl memory) is_bad = inl memory
+refused_fault reserved text place Bad f (inr (there, bad)) is_bad = inr (place, is_bad bad, there)
+
+-- of a text that is not too long
+short_fault : (reserved : Reserved) (text : List ℕ) (f : Fault) → length text ≤ most_bytes → IsCutFault reserved text f → IsLexFault reserved text f
+short_fault reserved text f short (inl memory) = subst (IsLexFault reserved text) (sym memory) tt
+short_fault reserved text f short (inr (place, bad, there)) = subst (IsLexFault reserved text) (sym there) (short, bad)
+
+pub short_faults : {T : Type 0} (reserved : Reserved) (text : List ℕ) (r : Result T Fault) → length text ≤ most_bytes → IfErr r (IsCutFault reserved text) → IfErr r (IsLexFault reserved text)
+short_faults reserved text (Ok t) short h = h
+short_faults reserved text (Err f) short h = short_fault reserved text f short h

@@ -3,12 +3,12 @@ use Rattle.std.proofs.Common.{◌≡◌, ℕ, List}
 use Rattle.ghc_term.specs.declared.fault.Fault.{Fault}
 use Rattle.ghc_term.proofs.Exact.{exact}
 use Rattle.ghc_reader.specs.Written.{WrittenClause, WrittenQuery}
-use Rattle.ghc_reader.specs.Tests.{a_program, a_query, a_term, an_ask, IsRefusal}
+use Rattle.ghc_reader.specs.Tests.{a_program, a_query, a_term, an_ask, a_body, IsRefusal}
 use Rattle.ghc_reader.specs.Read.{IsReadProgram, IsReadQuery}
-use Rattle.ghc_reader.specs.Laws.{ReadProgramIsExact, ReadQueryIsExact, ReadTermIsExact, ReadAskIsExact}
+use Rattle.ghc_reader.specs.Laws.{ReadProgramIsExact, ReadQueryIsExact, ReadTermIsExact, ReadAskIsExact, ReadBodyIsExact}
 use Rattle.ghc_reader.proofs.Whole.{one_query}
 use Rattle.ghc_reader.proofs.OneReading.{answered_once, one_program_tree, one_input_tree}
-use Rattle.ghc_reader.proofs.OneMeaning.{one_program_read, one_query_read, one_term_read, one_ask_read}
+use Rattle.ghc_reader.proofs.OneMeaning.{one_program_read, one_query_read, one_term_read, one_ask_read, one_body_read}
 
 -- a text of a program is not both read and refused, and refused in one way
 pub no_program_refused : (text : List ℕ) (ws : List WrittenClause) (f : Fault) → IsReadProgram text ws → ¬ IsRefusal a_program text f
@@ -38,3 +38,7 @@ pub ask_exact : ReadAskIsExact
 ask_exact query text result apart =
     let once = answered_once an_ask one_query text in
     exact (λ a other x y. one_ask_read query apart text a other x y) once.one_refusal (λ a f read refused. once.never_both read.0 f read.1 refused) result
+
+pub body_exact : ReadBodyIsExact
+body_exact text result =
+    let once = answered_once a_body one_query text in exact (one_body_read text) once.one_refusal (λ a f read refused. once.never_both read.0 f read.1 refused) result

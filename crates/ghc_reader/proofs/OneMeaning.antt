@@ -4,11 +4,11 @@ use Rattle.ghc_term.specs.declared.var_name.VarName.{VarName}
 use Rattle.ghc_term.specs.Tree as term
 use Rattle.ghc_term.specs.Variables.{variables_of_list, variables_of_goals}
 use Rattle.ghc_reader.specs.Source.{Goal, Clause}
-use Rattle.ghc_reader.specs.Tests.{a_program, a_query, a_term, an_ask}
+use Rattle.ghc_reader.specs.Tests.{a_program, a_query, a_term, an_ask, a_body}
 use Rattle.ghc_reader.specs.Written.{WrittenClause, WrittenQuery, AreApart, variables_of_guards, variables_of_written}
 use Rattle.ghc_reader.specs.WrittenAsk.{WrittenAsk, IsNaming, of_state, of_no_step, of_query, is_new, SaysAsk}
 use Rattle.ghc_reader.specs.Lowered.{Names, IsCalled, Each, SaysClause, SaysQuery, doing, Says}
-use Rattle.ghc_reader.specs.Read.{IsReadProgram, IsReadQuery, IsReadTerm, IsReadAsk, IsReadInOneWay}
+use Rattle.ghc_reader.specs.Read.{IsReadProgram, IsReadQuery, IsReadTerm, IsReadAsk, IsReadBody, IsReadInOneWay}
 use Rattle.ghc_reader.proofs.Whole.{one_query}
 use Rattle.ghc_reader.proofs.OneReading.{answered_once, one_program_tree, one_input_tree}
 use Rattle.ghc_reader.proofs.OneNaming.{one_naming}
@@ -113,6 +113,11 @@ pub one_ask_read : (query : Names) → AreApart query → (text : List ℕ) (a b
 one_ask_read query apart text a b x y =
     let tree = (answered_once an_ask one_query text).one_tree x.0 y.0 x.1 y.1 in
     one_ask query apart y.0 a b (subst (λ gs. SaysAsk query gs a) tree x.2) y.2
+
+pub one_body_read : (text : List ℕ) (a b : WrittenAsk) → IsReadBody text a → IsReadBody text b → a ≡ b
+one_body_read text a b x y =
+    let tree = (answered_once a_body one_query text).one_tree x.0 y.0 x.1 y.1 in
+    one_ask [] (λ i j v e f named. cc) y.0 a b (subst (λ gs. SaysAsk [] gs a) tree x.2) y.2
 
 pub read_in_one_way : (text : List ℕ) → IsReadInOneWay text
 read_in_one_way text = record { program = one_program_read text; query = one_query_read text; term = one_term_read text; ask = λ query a other apart x y. one_ask_read query apart text a other x y }

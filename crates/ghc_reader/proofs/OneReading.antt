@@ -1,5 +1,5 @@
 -- A text is read as one tree, or refused in one way.
-use Rattle.std.proofs.Common.{◌≡◌, ◌⊎◌, Bool, true, ℕ, ◌+◌, ◌-◌, ◌<◌, ◌≤◌, List, [], ◌++◌, length, take, drop, Some, None, refl, sym, ap, subst, ◌∙◌, inl, inr, arith, append_assoc}
+use Rattle.std.proofs.Common.{◌≡◌, ◌⊎◌, Bool, true, false, Result, Ok, Err, IfOk, IfErr, ℕ, ◌+◌, ◌-◌, ◌<◌, ◌≤◌, List, [], ◌++◌, length, take, drop, Some, None, refl, sym, ap, subst, ◌∙◌, inl, inr, arith, append_assoc}
 use Rattle.std.proofs.lemmas.Bool.{cases_lt}
 use Rattle.std.proofs.lemmas.List.{take-append-drop, take-take}
 use Rattle.ghc_term.specs.declared.fault.Fault.{Fault}
@@ -13,7 +13,7 @@ use Rattle.ghc_reader.specs.declared.place.Place.{Place}
 use Rattle.ghc_reader.specs.declared.lexer.value.Reserved.{Reserved}
 use Rattle.ghc_reader.specs.declared.lexer.value.Reserved.TheVariants.{Refused}
 use Rattle.ghc_reader.specs.Places.{fault_at}
-use Rattle.ghc_reader.specs.Lexed.{IsLexFault}
+use Rattle.ghc_reader.specs.Lexed.{IsLexed, IsCutFault, IsLexFault}
 use Rattle.ghc_reader.specs.Depth.{IsTooDeep}
 use Rattle.ghc_reader.specs.Viable.{Viable, FaultAt, IfSyntax}
 use Rattle.ghc_reader.specs.Tests.{Kind, a_term, HasTokens, IsShallow, IsDerived, IsRead, IsFaultAt, IsTokenRefusal, too_long, bad_byte, too_deep, IsSyntaxRefusal, IsPlaceRefusal, IsLimitRefusal, IsRefusal, IsAnsweredOnce, by_tokens, by_syntax, by_place, by_limit}
@@ -37,6 +37,22 @@ module _ (reserved : Reserved) where
   lex_refusal text (fault.Limit limit.Text) h = inr (too_long refl h refl)
   lex_refusal text (fault.Limit l) h = absurd h
   lex_refusal text f h = absurd h
+
+-- the same of a text of any length and depth
+pub any_tokens : (reserved : Reserved) (text : List ℕ) (ts : List Token) (ps : List Place) → IsLexed reserved text ts ps → IsShallow reserved false text ts ps
+any_tokens reserved text ts ps lexed = record { has_tokens = record { short = λ e. cc; lexed = lexed }; shallow = λ e. cc }
+
+pub cut_refusal : (reserved : Reserved) (text : List ℕ) (f : Fault) → IsCutFault reserved text f → (f ≡ fault.Memory) ⊎ IsTokenRefusal reserved false text f
+cut_refusal reserved text f (inl memory) = inl memory
+cut_refusal reserved text f (inr (place, bad, is)) = inr (bad_byte place (λ e. cc) bad is)
+
+pub any_tokens_found : {T : Type 0} (reserved : Reserved) (text : List ℕ) (r : Result T Fault) (ts : T → List Token) (ps : T → List Place) → IfOk r (λ t. IsLexed reserved text (ts t) (ps t)) → IfOk r (λ t. IsShallow reserved false text (ts t) (ps t))
+any_tokens_found reserved text (Ok t) ts ps h = any_tokens reserved text (ts t) (ps t) h
+any_tokens_found reserved text (Err f) ts ps h = tt
+
+pub cut_refusals : {T : Type 0} (reserved : Reserved) (text : List ℕ) (r : Result T Fault) → IfErr r (IsCutFault reserved text) → IfErr r (λ f. (f ≡ fault.Memory) ⊎ IsTokenRefusal reserved false text f)
+cut_refusals reserved text (Ok t) h = h
+cut_refusals reserved text (Err f) h = cut_refusal reserved text f h
 
 module _ (reserved : Reserved) (measured : Bool) where
   one_tokens : (text : List ℕ) (ts us : List Token) (ps qs : List Place) → HasTokens reserved measured text ts ps → HasTokens reserved measured text us qs → (ts ≡ us) × (ps ≡ qs)

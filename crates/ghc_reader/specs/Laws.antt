@@ -14,10 +14,10 @@ use Rattle.ghc_reader.specs.Lexed.{IsLexed}
 use Rattle.ghc_reader.specs.Grammar.{Input, input}
 use Rattle.ghc_reader.specs.Derived.{tree_of}
 use Rattle.ghc_reader.specs.Lowered.{Names, Says}
-use Rattle.ghc_reader.specs.Tests.{a_program, a_query, a_term, an_ask, IsRefusal}
+use Rattle.ghc_reader.specs.Tests.{a_program, a_query, a_term, an_ask, a_body, IsRefusal}
 use Rattle.ghc_reader.specs.Written.{WrittenClause, WrittenQuery, AreApart}
 use Rattle.ghc_reader.specs.WrittenAsk.{WrittenAsk}
-use Rattle.ghc_reader.specs.Read.{IsReadProgram, IsReadQuery, IsReadTerm, IsReadAsk}
+use Rattle.ghc_reader.specs.Read.{IsReadProgram, IsReadQuery, IsReadTerm, IsReadAsk, IsReadBody}
 
 -- What is answered for the text of a program is exact: the program that it says, or its refusal, unless memory was refused.
 abbrev pub ReadProgramIsExact : Type 0
@@ -42,6 +42,12 @@ abbrev pub ReadAskIsExact : Type 0
 ReadAskIsExact =
     (query : Names) (text : List ℕ) (result : Result WrittenAsk Fault)
     → AreApart query → Answered (IsReadAsk query text) (IsRefusal an_ask text) result → IsExact (IsReadAsk query text) (IsRefusal an_ask text) result
+
+-- What is answered for the text of what a history says was asked for is exact: what the text says, or its refusal, unless memory was refused.
+abbrev pub ReadBodyIsExact : Type 0
+ReadBodyIsExact =
+    (text : List ℕ) (result : Result WrittenAsk Fault)
+    → Answered (IsReadBody text) (IsRefusal a_body text) result → IsExact (IsReadBody text) (IsRefusal a_body text) result
 
 -- The tokens of the text are those of a derivation that says the term, whatever the limits on input terms.
 pub record IsSpelledBy (text : List ℕ) (u : Tree) : Type 0 where

@@ -7,7 +7,7 @@ use Rattle.std.specs.Str.Parse.{digits_value, signed_digits_value}
 use Rattle.ghc_reader.specs.Bytes.{IsRun, Lacks}
 use Rattle.ghc_reader.specs.Symbols.{token_of_symbol}
 use Rattle.ghc_reader.specs.Pieces.{Piece, Stands, spelled, Cuts, signs_after}
-use Rattle.ghc_reader.specs.Places.{start, place_behind}
+use Rattle.ghc_reader.specs.Places.{start, place_behind, fault_at}
 use Rattle.ghc_term.specs.declared.fault.Fault.{Fault}
 use Rattle.ghc_term.specs.declared.fault.Fault.TheVariants as fault
 use Rattle.ghc_term.specs.declared.limit.Limit.TheVariants as limit
@@ -119,6 +119,10 @@ pub record IsBadAt (reserved : Reserved) (text : List ℕ) (place : Place) : Typ
 -- the most bytes of a text
 abbrev pub most_bytes : ℕ
 most_bytes = 1048576
+
+-- why a text of any length has no tokens: it has a bad byte, or memory was refused
+abbrev pub IsCutFault : Reserved → List ℕ → Fault → Type 0
+IsCutFault reserved text f = (f ≡ fault.Memory) ⊎ ((place : Place) × IsBadAt reserved text place × (f ≡ fault_at place))
 
 -- why a text has no tokens: it is too long, has a bad byte, or memory was refused
 abbrev pub IsLexFault : Reserved → List ℕ → Fault → Type 0

@@ -2,7 +2,7 @@
 use Rattle.std.specs.Prelude.{◌≡◌, ℕ, List, []}
 use Rattle.ghc_term.specs.Tree as term
 use Rattle.ghc_reader.specs.Source.{Tree, Goal, Clause}
-use Rattle.ghc_reader.specs.Tests.{a_program, a_query, a_term, an_ask, IsRead}
+use Rattle.ghc_reader.specs.Tests.{a_program, a_query, a_term, an_ask, a_body, IsRead}
 use Rattle.ghc_reader.specs.Written.{WrittenClause, WrittenQuery, AreApart}
 use Rattle.ghc_reader.specs.Lowered.{Names, Each, Says, SaysClause, SaysQuery}
 use Rattle.ghc_reader.specs.WrittenAsk.{WrittenAsk, SaysAsk}
@@ -22,6 +22,10 @@ IsReadTerm text u = (seen : Tree) × IsRead a_term text seen × Says [] seen u
 -- The text is that of what is asked for in mid-run, no test refuses it, and this is what it says, where the query gives its variables these names.
 abbrev pub IsReadAsk : Names → List ℕ → WrittenAsk → Type 0
 IsReadAsk query text a = (seen : List Goal) × IsRead an_ask text seen × SaysAsk query seen a
+
+-- The text is that of what is asked for as a history has it, of any length and depth, no other test refuses it, and this is what it says, where no variable is named as one of a query.
+abbrev pub IsReadBody : List ℕ → WrittenAsk → Type 0
+IsReadBody text a = (seen : List Goal) × IsRead a_body text seen × SaysAsk [] seen a
 
 -- The text is read as no two programs, no two queries, no two input terms; and, where a query gives its variables names of their own, or `_`, it asks for no two things.
 pub record IsReadInOneWay (text : List ℕ) : Type 0 where

@@ -56,8 +56,8 @@ a_query = record {
 }
 
 -- what is asked for in mid-run: the grammar of a query, in which no stream stands
-abbrev pub an_ask : Kind
-an_ask = record {
+abbrev pub asked : Bool → Kind
+asked measured = record {
   Derivation = Query;
   Seen = List Goal;
   spell = query;
@@ -65,21 +65,15 @@ an_ask = record {
   misplaced = misplaced_body;
   amount = of_query;
   reserved = Allowed;
-  measured = true;
+  measured = measured;
 }
+
+abbrev pub an_ask : Kind
+an_ask = asked true
 
 -- the same as a history has it, of any length and depth
 abbrev pub a_body : Kind
-a_body = record {
-  Derivation = Query;
-  Seen = List Goal;
-  spell = query;
-  tree = λ q. query_of q [];
-  misplaced = misplaced_body;
-  amount = of_query;
-  reserved = Allowed;
-  measured = false;
-}
+a_body = asked false
 
 abbrev pub a_term : Kind
 a_term = record {

@@ -1,5 +1,5 @@
 // Laws of reading and printing, each as the contract of a function.
-ghost use Rattle.ghc_reader.specs.Laws.{ReadProgramIsExact, ReadQueryIsExact, ReadTermIsExact, ReadAskIsExact, PrintedTermsAreReadAgain};
+ghost use Rattle.ghc_reader.specs.Laws.{ReadProgramIsExact, ReadQueryIsExact, ReadTermIsExact, ReadAskIsExact, ReadBodyIsExact, PrintedTermsAreReadAgain};
 ghost use Rattle.ghc_reader.specs.PrintedGoals.{PrintedGoalsAreReadAgain};
 
 /// What is answered for the text of a program is exact, unless memory was refused.
@@ -20,6 +20,11 @@ pub fn read_ground_term_is_exact()
 /// What is answered for the text of what is asked for in mid-run is exact, unless memory was refused.
 pub fn read_ask_is_exact()
     ensures { ReadAskIsExact }
+{}
+
+/// What is answered for the text of what a history says was asked for is exact, unless memory was refused.
+pub fn read_body_is_exact()
+    ensures { ReadBodyIsExact }
 {}
 
 /// What was read as an input term is, printed, read again as itself.

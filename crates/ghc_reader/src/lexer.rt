@@ -3,7 +3,7 @@ ghost use Rattle.std.specs.Prelude.{◌≡◌, ◌+◌, ◌<◌, ◌≤◌, ◌�
 ghost use Rattle.std.specs.Option.{option_to_list};
 ghost use Rattle.ghc_reader.specs.Pieces.{signs_behind};
 ghost use Rattle.ghc_reader.specs.Places.{fault_at};
-ghost use Rattle.ghc_reader.specs.Lexed.{place_of_token, IsLexed, IsBadAt, IsLexFault, most_bytes};
+ghost use Rattle.ghc_reader.specs.Lexed.{place_of_token, IsLexed, IsBadAt, IsCutFault, IsLexFault, greatest_number, most_bytes};
 
 pub(crate) mod front;
 pub(crate) mod laws;
@@ -21,8 +21,11 @@ use crate::token::{Mark, Token};
 use ghc_term::{Fault, Limit};
 use std::alloc::{AllocError, Global};
 
-/// The most bytes of a program, a query or an input term.
+/// The most bytes of a program, a query, an input term or what is asked for in mid-run.
 pub(crate) const MOST_BYTES: usize = 1_048_576;
+
+/// So many bytes, and more, may have places past 32 bits.
+const TOO_MANY_BYTES: usize = 4_294_967_294;
 
 /// The tokens of a text, and their places. The last place, behind those of the tokens, is that of the end of the text.
 pub(crate) struct Lexed {
@@ -68,11 +71,11 @@ fn signs_behind(signs: bool, kind: Kind) -> bool
     }
 }
 
-/// The tokens of a text that is not too long.
+/// The tokens of a text whose places have numbers of 32 bits.
 fn cut(alloc: Global, text: &[u8], reserved: Reserved) -> Result<Lexed, Fault>
-    requires { length text.now ≤ most_bytes }
+    requires { length text.now + 1 < greatest_number }
     ensures found { IfOk result (λ lexed. IsLexed reserved text.now lexed.tokens.items lexed.places.items) }
-    ensures fault { IfErr result (λ fault. IsLexFault reserved text.now fault) }
+    ensures fault { IfErr result (λ fault. IsCutFault reserved text.now fault) }
 {
     let mut lexed = Lexed {
         tokens: Vec::new(alloc),
@@ -115,6 +118,19 @@ pub(crate) fn tokens(alloc: Global, text: &[u8], reserved: Reserved) -> Result<L
 {
     if text.len() > MOST_BYTES {
         return Err(Fault::Limit(Limit::Text));
+    }
+    cut(alloc, text, reserved)
+}
+
+/// The tokens of a text of any length. Refused: a syntax error, as `tokens`; `Memory`, also where the text has more bytes than
+/// numbers of 32 bits count. One pass over the text, as `tokens`.
+pub(crate) fn all_tokens(alloc: Global, text: &[u8], reserved: Reserved) -> Result<Lexed, Fault>
+    ensures found { IfOk result (λ lexed. IsLexed reserved text.now lexed.tokens.items lexed.places.items) }
+    ensures paired { IfOk result (λ lexed. length lexed.places.items ≡ length lexed.tokens.items + 1) }
+    ensures fault { IfErr result (λ fault. IsCutFault reserved text.now fault) }
+{
+    if text.len() >= TOO_MANY_BYTES {
+        return Err(Fault::Memory);
     }
     cut(alloc, text, reserved)
 }

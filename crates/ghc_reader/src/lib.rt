@@ -26,7 +26,7 @@ mod written;
 pub use ask::WrittenAsk;
 pub use laws::{
     printed_goals_are_read_again, printed_terms_are_read_again, read_ask_is_exact,
-    read_ground_term_is_exact, read_program_is_exact, read_query_is_exact,
+    read_body_is_exact, read_ground_term_is_exact, read_program_is_exact, read_query_is_exact,
 };
-pub use read::{read_ask, read_ground_term, read_program, read_query};
+pub use read::{read_ask, read_body, read_ground_term, read_program, read_query};
 pub use written::{Guard, Query, Source, WrittenClause};

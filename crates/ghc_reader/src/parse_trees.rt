@@ -1,16 +1,17 @@
 // From the bytes of a text to its parse tree: the tests that a text has to pass, one after the other.
-ghost use Rattle.std.specs.Prelude.{true, ◌≡◌, ◌⊎◌, ◌+◌, ◌<◌, length, IfOk, IfErr};
+ghost use Rattle.std.specs.Prelude.{true, false, Bool, List, ℕ, ◌≡◌, ◌⊎◌, ◌+◌, ◌<◌, length, IfOk, IfErr};
 ghost use Rattle.ghc_reader.specs.Views.{view, goal_views, clause_views};
+ghost use Rattle.ghc_reader.specs.declared.lexer.value.Reserved.TheVariants.{Allowed};
 ghost use Rattle.ghc_reader.specs.Lexed.{most_bytes};
 ghost use Rattle.ghc_reader.specs.Viable.{IfSyntax};
-ghost use Rattle.ghc_reader.specs.Tests.{a_program, a_query, an_ask, a_term, IsShallow, IsRead, IsFaultAt, IsTokenRefusal, IsRefusal};
+ghost use Rattle.ghc_reader.specs.Tests.{a_program, a_query, asked, an_ask, a_body, a_term, IsShallow, IsRead, IsFaultAt, IsTokenRefusal, IsRefusal};
 
 pub(crate) mod laws;
 
 use crate::depth::is_too_deep;
 use crate::input_parser::parse_term;
 use crate::lexer::value::Reserved;
-use crate::lexer::{Lexed, tokens};
+use crate::lexer::{Lexed, all_tokens, tokens};
 use crate::limits::{program_limit, query_limit, term_limit};
 use crate::parse_error::ParseError;
 use crate::parser::{parse_program, parse_query};
@@ -32,6 +33,15 @@ fn shallow_tokens(alloc: Global, text: &[u8], reserved: Reserved) -> Result<Lexe
         return Err(Fault::Limit(Limit::Depth));
     }
     Ok(lexed)
+}
+
+// The tokens of a text of any length that has no bad byte.
+fn body_tokens(alloc: Global, text: &[u8]) -> Result<Lexed, Fault>
+    ensures found { IfOk result (λ lexed. IsShallow Allowed false text.now lexed.tokens.items lexed.places.items) }
+    ensures paired { IfOk result (λ lexed. length lexed.places.items ≡ length lexed.tokens.items + 1) }
+    ensures fault { IfErr result (λ fault. (fault ≡ Fault.Memory) ⊎ IsTokenRefusal Allowed false text.now fault) }
+{
+    all_tokens(alloc, text, Reserved::Allowed)
 }
 
 // The refusal of the token with `front` tokens in front of it, or of the end of the text.
@@ -102,6 +112,26 @@ pub(crate) fn parsed_ask(alloc: Global, text: &[u8]) -> Result<Vec<SourceGoal>, 
     ensures too_long { most_bytes < length text.now → result ≡ Err (Fault.Limit Limit.Text) }
 {
     let lexed = shallow_tokens(alloc, text, Reserved::Allowed)?;
+    asked_goals(alloc, &lexed)
+}
+
+/// The goals that a text of any length and depth asks for, as a history has it, or its refusal, as `parsed_ask`.
+pub(crate) fn parsed_body(alloc: Global, text: &[u8]) -> Result<Vec<SourceGoal>, Fault>
+    ensures found { IfOk result (λ goals. IsRead a_body text.now (goal_views goals.items)) }
+    ensures fault { IfErr result (λ fault. (fault ≡ Fault.Memory) ⊎ IsRefusal a_body text.now fault) }
+{
+    let lexed = body_tokens(alloc, text)?;
+    asked_goals(alloc, &lexed)
+}
+
+// The goals that the tokens of a text ask for, whether or not its length and its depth were tested.
+fn asked_goals(alloc: Global, lexed: &Lexed) -> Result<Vec<SourceGoal>, Fault>
+    requires { length lexed.now.places.items ≡ length lexed.now.tokens.items + 1 }
+    ensures found { (measured : Bool) (text : List ℕ) → IsShallow Allowed measured text lexed.now.tokens.items lexed.now.places.items
+        → IfOk result (λ goals. IsRead (asked measured) text (goal_views goals.items)) }
+    ensures fault { (measured : Bool) (text : List ℕ) → IsShallow Allowed measured text lexed.now.tokens.items lexed.now.places.items
+        → IfErr result (λ fault. (fault ≡ Fault.Memory) ⊎ IsRefusal (asked measured) text fault) }
+{
     let goals = match parse_query(alloc, &lexed.tokens) {
         Ok(goals) => goals,
         Err(error) => return Err(fault_of(error, &lexed.places)),

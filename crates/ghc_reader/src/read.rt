@@ -3,12 +3,12 @@ ghost use Rattle.std.specs.Prelude.{◌≡◌, ◌<◌, length};
 ghost use Rattle.ghc_term.specs.Answered.{Answered};
 ghost use Rattle.ghc_term.specs.declared.limit.Limit.TheVariants.{Text};
 ghost use Rattle.ghc_reader.specs.Lexed.{most_bytes};
-ghost use Rattle.ghc_reader.specs.Tests.{a_program, a_query, a_term, an_ask, IsRefusal};
-ghost use Rattle.ghc_reader.specs.Read.{IsReadProgram, IsReadQuery, IsReadTerm, IsReadAsk};
+ghost use Rattle.ghc_reader.specs.Tests.{a_program, a_query, a_term, an_ask, a_body, IsRefusal};
+ghost use Rattle.ghc_reader.specs.Read.{IsReadProgram, IsReadQuery, IsReadTerm, IsReadAsk, IsReadBody};
 
 use crate::ask::WrittenAsk;
 use crate::lowering::{lower_ask, lower_closed, lower_program, lower_query};
-use crate::parse_trees::{parsed_ask, parsed_program, parsed_query, parsed_term};
+use crate::parse_trees::{parsed_ask, parsed_body, parsed_program, parsed_query, parsed_term};
 use crate::written::{Query, Source};
 use ghc_term::{Fault, Ground, Name};
 use std::alloc::Global;
@@ -55,6 +55,19 @@ pub fn read_ask(alloc: Global, text: &[u8], query: &[Name]) -> Result<WrittenAsk
         Err(fault) => return Err(fault),
     };
     let asked = lower_ask(alloc, &goals, query)?;
+    Ok(asked)
+}
+
+/// What a text asks for as a history has it, of any length and depth; or its refusal, as `read_ask`, but for the tests of these. A
+/// variable that is not of the form `_n_m` is new. `Memory` also where the text has more bytes than numbers of 32 bits count.
+pub fn read_body(alloc: Global, text: &[u8]) -> Result<WrittenAsk, Fault>
+    ensures { Answered (IsReadBody text.now) (IsRefusal a_body text.now) result }
+{
+    let goals = match parsed_body(alloc, text) {
+        Ok(goals) => goals,
+        Err(fault) => return Err(fault),
+    };
+    let asked = lower_ask(alloc, &goals, &[])?;
     Ok(asked)
 }
 

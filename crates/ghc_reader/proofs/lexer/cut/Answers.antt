@@ -1,10 +1,10 @@
-use Rattle.std.proofs.Common.{◌≡◌, ◌≢◌, ◌≤◌, ◌⊎◌, ◌++◌, [], length, IfErr, sym, ap, subst, ◌∙◌, arith, rules}
+use Rattle.std.proofs.Common.{◌≡◌, ◌≢◌, ◌⊎◌, ◌++◌, [], IfErr, sym, ap, subst, ◌∙◌, rules}
 use Rattle.std.proofs.lemmas.Result.{err_from_is_err_and}
 use Rattle.std.specs.Option.{option_to_list}
 use Rattle.ghc_term.specs.declared.fault.Fault.TheVariants as fault
 use Rattle.ghc_reader.specs.Pieces.{signs_behind}
 use Rattle.ghc_reader.specs.Places.{fault_at}
-use Rattle.ghc_reader.specs.Lexed.{piece_of, place_of_token, IsRefused, IsLexFault, most_bytes}
+use Rattle.ghc_reader.specs.Lexed.{piece_of, place_of_token, IsRefused, IsCutFault}
 use Rattle.ghc_reader.proofs.Cutting.{LexedSoFar, more_lexed, one_refused, refused_fault, line_fits, column_fits}
 use Rattle.ghc_reader.proofs.lexer.cut.Goals as goal
 
@@ -16,20 +16,17 @@ returns-in_err-token-clause-fault c =
     let place = c.loop-rest.place in
     let front = c.in-Some.front in
     let refused = subst (λ f. (f ≡ fault.Memory) ⊎ ((f ≡ fault_at place) × IsRefused reserved (piece_of front))) (sym passed.2) c.in_err-token.ensures.refused in
-    let short : length text ≤ most_bytes = omega arith in
     let before : c.loop-rest.rest.now ≢ [] = search rules in
     let bad = one_refused reserved text _ _ place c.loop-rest.signs c.loop-rest.rest.now c.loop-rest.invariant before front c.in-Some.ensures in
-    subst (λ r. IfErr r (IsLexFault reserved text)) (sym passed.1) (refused_fault reserved text place _ passed.0 refused short bad)
+    subst (λ r. IfErr r (IsCutFault reserved text)) (sym passed.1) (refused_fault reserved text place _ passed.0 refused bad)
 
 pub behind-place-requires-clause-line_fits : goal.behind-place-requires-clause-line_fits
 behind-place-requires-clause-line_fits c =
-    let short : length c.args.text.now ≤ most_bytes = omega arith in
-    line_fits _ _ _ _ _ _ _ c.loop-rest.invariant short
+    line_fits _ _ _ _ _ _ _ c.loop-rest.invariant c.requires
 
 pub behind-place-requires-clause-column_fits : goal.behind-place-requires-clause-column_fits
 behind-place-requires-clause-column_fits c =
-    let short : length c.args.text.now ≤ most_bytes = omega arith in
-    column_fits _ _ _ _ _ _ _ c.loop-rest.invariant short _ _ c.in-Some.ensures.0
+    column_fits _ _ _ _ _ _ _ c.loop-rest.invariant c.requires _ _ c.in-Some.ensures.0
 
 pub loop-rest-preserved : goal.loop-rest-preserved
 loop-rest-preserved c =
