@@ -12,7 +12,7 @@ use Rattle.ghc_term.specs.Lists.{In}
 use Rattle.ghc_term.specs.Bindings.{Reaches, here, through, name_cmp}
 use Rattle.ghc_term.specs.Known.{AreKnown, AreKnownBut}
 use Rattle.ghc_term.specs.Store.{StoreValue, value_at, with_binds}
-use Rattle.ghc_term.specs.Seen.{Sees, Enters, value_list}
+use Rattle.ghc_term.specs.Seen.{Sees, value_list}
 use Rattle.ghc_term.proofs.ListsLemmas.{in_left, in_right, in_more}
 use Rattle.ghc_term.proofs.MapsLemmas.{key_in}
 use Rattle.ghc_term.proofs.Names.{name_total, same_name}
@@ -66,18 +66,12 @@ abbrev pub Walking : (VarName → Option Tree) → List VarName → List Tree �
 Walking T known open_ones = (x : VarName) → In x known → (u : Tree) → T x ≡ Some u → (y : VarName) → Occurs y u → In y known ⊎ StandsIn y open_ones
 
 module _ {T : VarName → Option Tree} where
-  -- the walk begins at a variable
-  pub entered : (x : VarName) (known known' : List VarName) (before open_ones : List Tree) → AreKnownBut T x known → Enters T x known known' before open_ones → Walking T known' open_ones
-  entered x known known' before open_ones k d z i u e y o =
-      let there : In z known ⊎ (z ≡ x) = elim d.0 [ inl p ↦ inl (subst (In z) p.1 i) | inr p ↦ in_more known x z (subst (In z) p i) ] in
-      let grown : (w : VarName) → In w known → In w known' = λ w j. elim d.0 [ inl p ↦ subst (In w) (sym p.1) j | inr p ↦ subst (In w) (sym p) (in_left known (x ∷ []) w j) ] in
-      let value : z ≡ x → StandsIn y open_ones = λ same. subst (StandsIn y) (sym d.1) (stands_right before (value_list (T x)) y (u, value_in_list (T x) u (ap T (sym same) ∙ e), o)) in
-      elim (eq_by_cmp name_cmp z x) as (λ b. eq_by_cmp name_cmp z x ≡ b → In y known' ⊎ StandsIn y open_ones) [
-        | true ↦ λ p. inr (value (same_name z x p))
-        | false ↦ λ p. elim there [
-          | inl j ↦ inl (grown y (k z j (λ same. let clash : true ≡ false = sym ((eq_by_cmp_equiv name_total).refl z) ∙ ap (eq_by_cmp name_cmp z) same ∙ p in cc) u e y o))
-          | inr same ↦ inr (value same)
-        ]
+  -- the walk begins at the value of a variable
+  pub begun : (x : VarName) (known : List VarName) (before open_ones : List Tree) → AreKnownBut T x known → open_ones ≡ before ++ value_list (T x) → Walking T known open_ones
+  begun x known before open_ones k d z i u e y o =
+      elim (eq_by_cmp name_cmp z x) as (λ b. eq_by_cmp name_cmp z x ≡ b → In y known ⊎ StandsIn y open_ones) [
+        | true ↦ λ p. inr (subst (StandsIn y) (sym d) (stands_right before (value_list (T x)) y (u, value_in_list (T x) u (ap T (sym (same_name z x p)) ∙ e), o)))
+        | false ↦ λ p. inl (k z i (λ same. let clash : true ≡ false = sym ((eq_by_cmp_equiv name_total).refl z) ∙ ap (eq_by_cmp name_cmp z) same ∙ p in cc) u e y o)
       ] refl
 
   -- a tree is taken from the end of the open ones, and others come in its place

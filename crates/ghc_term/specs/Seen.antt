@@ -13,7 +13,3 @@ value_list (Some t) = t ∷ []
 abbrev pub Sees : (VarName → Option Tree) → VarName → List VarName → List VarName → List Tree → List Tree → Type 0
 Sees T x seen seen' open_ones open' =
     (In x seen × (seen' ≡ seen) × (open' ≡ open_ones)) ⊎ ((seen' ≡ seen ++ x ∷ []) × (open' ≡ open_ones ++ value_list (T x)))
-
--- The variable x is among those seen, and its value is among the trees that are open.
-abbrev pub Enters : (VarName → Option Tree) → VarName → List VarName → List VarName → List Tree → List Tree → Type 0
-Enters T x seen seen' open_ones open' = ((In x seen × (seen' ≡ seen)) ⊎ (seen' ≡ seen ++ x ∷ [])) × (open' ≡ open_ones ++ value_list (T x))

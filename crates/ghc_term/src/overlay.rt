@@ -57,7 +57,7 @@ pub fn push_all<'a>(terms: &'a [Term], waiting: &mut Vec<&'a Term>) -> Result<()
 
 impl<'a> Overlay<'a> {
     ghost use Rattle.ghc_term.specs.Overlay.{value_in};
-    ghost use Rattle.ghc_term.specs.Seen.{Sees, Enters};
+    ghost use Rattle.ghc_term.specs.Seen.{Sees, value_list};
 
     /// What the variable is bound to, in front or else in the store: two look-ups at most.
     pub fn get(&self, x: VarName) -> Option<&'a Term>
@@ -163,25 +163,18 @@ impl<'a> Overlay<'a> {
         self.search(alloc, from, to, &mut seen)
     }
 
-    // Puts the variable with its value into a search that is to begin.
-    fn enter(
-        &self,
-        x: VarName,
-        known: &mut VariableList,
-        waiting: &mut Vec<&'a Term>,
-    ) -> Result<(), AllocError>
-        ensures { OnOk result (Enters (value_in self.now) x known.old known.new (map (λ t. t.now) waiting.old.items) (map (λ t. t.now) waiting.new.items)) }
+    // Puts the value of the variable, if there is one, into a search.
+    fn open_value(&self, x: VarName, waiting: &mut Vec<&'a Term>) -> Result<(), AllocError>
+        ensures { OnOk result (map (λ t. t.now) waiting.new.items ≡ map (λ t. t.now) waiting.old.items ++ value_list (value_in self.now x)) }
     {
-        if known.place_of(x).is_none() {
-            known.push(x)?;
-        }
         if let Some(value) = self.get(x) {
             waiting.push(value)?;
         }
         Ok(())
     }
 
-    // Adds the variable to the known ones, with all that it reaches: one step for each part of the values that were not gone through.
+    // Adds to the known variables all that the value of the variable reaches, where only this one of them may have been bound since they
+    // were known: one step for each part of the values that were not gone through.
     pub(crate) fn learn(
         &self,
         alloc: Global,
@@ -192,7 +185,7 @@ impl<'a> Overlay<'a> {
         ensures { OnOk result (AreKnown (value_in self.now) known.new) }
     {
         let mut waiting = Vec::new(alloc);
-        self.enter(x, known, &mut waiting)?;
+        self.open_value(x, &mut waiting)?;
         while let Some(term) = waiting.pop() {
             if term.is_closed() {
                 continue;

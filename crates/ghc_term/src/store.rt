@@ -143,7 +143,7 @@ impl Store {
         }
     }
 
-    // Makes the variables known again where x was bound, x among them, with all that it reaches.
+    // Adds to the known variables all that the value of x reaches, where x was bound now.
     fn know(&self, x: VarName, known: &mut VariableList) -> Result<(), AllocError>
         requires { AreKnownBut (value_at self.now.held) x known.old }
         ensures { OnOk result (AreKnown (value_at self.now.held) known.new) }
@@ -159,9 +159,8 @@ impl Store {
     }
 
     /// Binds each variable to its value, where there is room and the store stays acyclic. It cannot fail, and costs a look-up for
-    /// each. A single variable whose value a search goes far through is known from then on, with all that it reaches, if there is
-    /// memory for that; what is bound to a known variable is gone through once more, as far as it is not known. Nothing else shows it
-    /// than what searches cost.
+    /// each. What a long search from a single value comes to is known from then on, if there is memory for that, and so is what a
+    /// known variable is bound to; it is gone through once more for this, as far as it is not known. It shows in what searches cost.
     pub fn put(&mut self, binds: Bindings)
         requires room { finite.len binds ≤ self.old.room }
         requires acyclic { IsAcyclic (value_at (with_binds (finite.entries binds) self.old.held)) }
@@ -175,7 +174,8 @@ impl Store {
         self.put_and_know(x, binds);
     }
 
-    // Binds each variable to its value. x is known then, with all that it reaches, if none of the others was known, and there is memory.
+    // Binds each variable to its value. All that the value of x reaches is known then, if none of the others was known, and there is
+    // memory. (That x is known, too, is not wanted: once it is unbound again, it may be bound to the same term.)
     #[inline(never)]
     fn put_and_know(&mut self, x: VarName, binds: Bindings)
         requires room { finite.len binds ≤ self.old.room }

@@ -3,13 +3,12 @@ use Rattle.std.specs.Borrow.{Bor}
 use Rattle.ghc_term.specs.Tree.{Tree}
 use Rattle.ghc_term.specs.Overlay.{value_in}
 use Rattle.ghc_term.proofs.Merged.{all_bound, all_acyclic, all_is}
-use Rattle.ghc_term.proofs.Reaching.{Walking, entered, passed, sees, unfolds, finished}
+use Rattle.ghc_term.proofs.Reaching.{Walking, begun, passed, sees, unfolds, finished}
 use Rattle.ghc_term.proofs.Searching.{sizes, popped, falls_away, sees_falls, unfold_falls, nothing_open}
 use Rattle.ghc_term.proofs.overlay.Overlay.learn.Goals as goal
 
 pub loop-term-init : goal.loop-term-init
-loop-term-init c =
-    entered c.args.x c.args.known.now c.enter.new.known _ _ c.requires c.in_ok-enter.ensures
+loop-term-init c = begun c.args.x c.args.known.now _ _ c.requires c.in_ok-open_value.ensures
 
 pub loop-term-smaller-then-is_closed : goal.loop-term-smaller-then-is_closed
 loop-term-smaller-then-is_closed c =
