@@ -1,5 +1,5 @@
 // The journal of a core: its accepted steps and commands.
-ghost use Rattle.std.specs.Prelude.{◌≡◌, ◌+◌, ◌<◌, ◌≤◌, length, [], ◌∷◌, ◌++◌, map, OnOk, OnErr, slice_get};
+ghost use Rattle.std.specs.Prelude.{◌≡◌, ◌+◌, ◌^◌, ◌<◌, ◌≤◌, length, [], ◌∷◌, ◌++◌, map, OnOk, OnErr, slice_get};
 ghost use Rattle.ghc_records.specs.EntryCode.{entry_of};
 
 use crate::entry::Entry;
@@ -45,7 +45,8 @@ impl Journal {
 
     /// How many entries there are.
     pub fn len(&self) -> usize
-        ensures { result ≡ length self.now.held }
+        ensures length { result ≡ length self.now.held }
+        ensures few { result < 2 ^ 63 }
     {
         self.entries.len()
     }
