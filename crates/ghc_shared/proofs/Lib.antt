@@ -5,3 +5,6 @@ pub mod Newcomers
 pub mod PlacesOnce
 pub mod Crosses
 pub mod ExclusiveCrosses
+pub mod Answering
+pub mod AnsweredCalls
+pub mod CoreCrosses

@@ -4,4 +4,5 @@ pub mod Passes
 pub mod Receipts
 pub mod Places
 pub mod Openings
-pub mod Numbers
+pub mod Calls
+pub mod ItemCode

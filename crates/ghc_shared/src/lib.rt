@@ -1,7 +1,9 @@
-//! A value behind one lock that tells a history which only grows, and passes, each of which knows how that history began.
+//! A value behind one lock that tells a history which only grows, as a core does, and passes, each of which knows how that history began.
 #![tactic(auto)]
 
+mod calls;
 mod closing;
+mod core_calls;
 mod exclusive;
 mod growing;
 mod keeper;
@@ -12,8 +14,11 @@ mod opening;
 mod pass;
 mod receipt;
 mod shared;
+mod telling;
 mod tending;
 
+pub use calls::{Call, HistoryItem};
+pub use core_calls::Shown;
 pub use growing::Growing;
 pub use knowledge::Knowledge;
 pub use naming::Naming;

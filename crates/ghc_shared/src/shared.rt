@@ -31,7 +31,7 @@ impl<C: Growing, N: Naming> Shared<C, N> {
     /// The pass sees the history as it is now. It takes no memory, and is never refused; it costs one look at the value's length,
     /// and a few steps on one word. (That what it sees is the present history, and not only one that goes on with its front, no
     /// clause can say, since other threads call meanwhile.)
-    pub fn look<R: Wait>(&self, rt: &R, me: &mut Pass<C, N>)
+    pub fn see<R: Wait>(&self, rt: &R, me: &mut Pass<C, N>)
         ensures begins { IsPrefix me.old.front me.new.front }
         ensures legal { C.legal me.new.front }
         ensures same { (me.new.number ≡ me.old.number) × (me.new.places ≡ me.old.places) }

@@ -5,16 +5,16 @@ use denote.Param.Send.{sendable}
 use Rattle.std.proofs.Crossing.{crosses}
 use Rattle.std.proofs.lemmas.List.{with_items_is}
 use Rattle.ghc_shared.specs.Passes.{AreAll}
-use Rattle.ghc_shared.proofs.Crosses.{pass_send}
+use Rattle.ghc_shared.proofs.CoreCrosses.{core_pass_send}
 use Rattle.ghc_shared.proofs.Newcomers.{all_given}
-use Rattle.ghc_shared.proofs.tests.numbers.Crosses.{adders_sync}
-use Rattle.ghc_shared.proofs.tests.numbers.add_in_threads.Goals as goal
+use Rattle.ghc_shared.proofs.tests.passes.Crosses.{hands_sync}
+use Rattle.ghc_shared.proofs.tests.passes.do_in_threads.Goals as goal
 
 pub tend_all-requires-send-J : goal.tend_all-requires-send-J
-tend_all-requires-send-J g c κs within = search (crosses, sendable, pass_send) depth 60 fits 20000
+tend_all-requires-send-J g c κs within = search (crosses, sendable, core_pass_send) depth 60 fits 20000
 
 pub tend_all-requires-sync-W : goal.tend_all-requires-sync-W
-tend_all-requires-sync-W g c κs within = record { shared = (adders_sync (record { mir = named 3; lft = κs.1.1.1.1.0 }) (param 0 g.row.N) (param 1 g.row.R) g.N.Naming g.N.Ledger c.type_bounds.sync-R).shared }
+tend_all-requires-sync-W g c κs within = record { shared = (hands_sync (record { mir = named 3; lft = κs.1.1.1.1.0 }) (param 0 g.row.N) (param 1 g.row.R) g.N.Naming g.N.Ledger c.type_bounds.sync-R).shared }
 
 pub returns : goal.returns
 returns g c =

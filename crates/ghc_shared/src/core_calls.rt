@@ -1,0 +1,132 @@
+// The calls of a shared core.
+ghost use Rattle.std.specs.Prelude.{◌≡◌, List, IfOk};
+ghost use mathlib.Core.List.{IsPrefix};
+ghost use Rattle.ghc_fire.specs.Meter.{fired};
+ghost use Rattle.ghc_records.specs.Journal.{Item};
+ghost use Rattle.ghc_core.specs.World.{World, no_hands};
+ghost use Rattle.ghc_core.specs.Events.{commit as committed, note as noted, command as commanded};
+ghost use Rattle.ghc_core.specs.Legal.{IsLegal, IsAnswered, Shows};
+ghost use Rattle.ghc_core.specs.CommandCode.{command_of};
+ghost use Rattle.ghc_shared.specs.declared.calls.Call.TheVariants.{Submit as submitted, Note as asked_note, Command as asked};
+ghost use Rattle.ghc_shared.specs.Receipts.{IsDecided};
+ghost use Rattle.ghc_shared.specs.Calls.{holding, receipt_of, IsAnswerTo, IsProposal};
+
+use crate::calls::Call;
+use crate::naming::Naming;
+use crate::pass::Pass;
+use crate::receipt::Receipt;
+use crate::shared::Shared;
+use ghc_core::{Command, Core, Reply, legal_is_reachable};
+use ghc_fire::{Meter, Proposal};
+use ghc_term::{Fault, GoalName};
+use std::alloc::{AllocError, Global};
+use std::sync::Wait;
+
+/// What a look shows: how many entries the journal has, and the numbers of the kept steps in recorded order.
+#[derive(Drop)]
+pub struct Shown {
+    pub length: usize,
+    pub kept: Vec<u32>,
+}
+
+impl<N: Naming> Shared<Core, N> {
+    /// Proposes a step of the goal, with a clause chosen or not, and counts a firing on the meter given. It is what an attempt on
+    /// the core answers, under the read side of the lock: any number of threads propose side by side, and no pass sees anything by
+    /// it. (That the core is the present one no clause can say.)
+    pub fn propose<R: Wait>(
+        &self,
+        rt: &R,
+        alloc: Global,
+        meter: &mut Meter,
+        goal: GoalName,
+        choice: Option<u32>,
+    ) -> Result<Proposal, Fault>
+        ensures answer { (w : World) × IsProposal w goal choice result }
+        ensures counted { meter.new ≡ fired meter.old }
+    {
+        let held = self.lock.read(rt);
+        let core = &held.value;
+        core.stands();
+        core.attempt(alloc, meter, goal, choice)
+    }
+
+    /// Takes the step that was proposed, as a commit of the core does. Accepted, its entry is the last item of the pass's front; a
+    /// refusal, want of memory too, is the receipt's reply. Places count the opening, which is the first item.
+    pub fn submit<R: Wait>(
+        &self,
+        rt: &R,
+        alloc: Global,
+        me: &mut Pass<Core, N>,
+        proposal: Proposal,
+    ) -> Receipt<Reply>
+        ensures begins { IsPrefix me.old.front me.new.front }
+        ensures number { me.new.number ≡ me.old.number }
+        ensures legal { IsLegal me.new.front }
+        ensures decided { (before : List Item) × IsDecided IsAnswerTo before (submitted proposal) result me.old me.new }
+        ensures answered { IsAnswered (Unit {0}) me.old.front me.new.front (holding proposal) (committed 1) (receipt_of result) }
+    {
+        legal_is_reachable();
+        self.call(rt, alloc, me, Call::Submit(proposal))
+    }
+
+    /// Tries the goal and notes what was found, as the core does. It adds no entry: the reply is the status of the goal behind just
+    /// the pass's front, or a refusal.
+    pub fn note<R: Wait>(
+        &self,
+        rt: &R,
+        alloc: Global,
+        me: &mut Pass<Core, N>,
+        goal: GoalName,
+    ) -> Receipt<Reply>
+        ensures begins { IsPrefix me.old.front me.new.front }
+        ensures number { me.new.number ≡ me.old.number }
+        ensures legal { IsLegal me.new.front }
+        ensures decided { (before : List Item) × IsDecided IsAnswerTo before (asked_note goal) result me.old me.new }
+        ensures answered { IsAnswered (Unit {0}) me.old.front me.new.front no_hands (noted goal) (receipt_of result) }
+    {
+        legal_is_reachable();
+        self.call(rt, alloc, me, Call::Note(goal))
+    }
+
+    /// Does what the command says, as the core does. Accepted, its entry is the last item of the pass's front; a refusal, want of
+    /// memory too, is the receipt's reply.
+    pub fn command<R: Wait>(
+        &self,
+        rt: &R,
+        alloc: Global,
+        me: &mut Pass<Core, N>,
+        command: Command,
+    ) -> Receipt<Reply>
+        ensures begins { IsPrefix me.old.front me.new.front }
+        ensures number { me.new.number ≡ me.old.number }
+        ensures legal { IsLegal me.new.front }
+        ensures decided { (before : List Item) × IsDecided IsAnswerTo before (asked command) result me.old me.new }
+        ensures answered { IsAnswered (Unit {0}) me.old.front me.new.front no_hands (commanded (command_of command)) (receipt_of result) }
+    {
+        legal_is_reachable();
+        self.call(rt, alloc, me, Call::Command(command))
+    }
+
+    /// The pass sees the history as it is now, and is shown how many entries that is, and which steps are kept behind it. Where
+    /// memory is refused for their numbers nothing is shown, and the pass has seen it still. It costs one step for each place of
+    /// the record, while nobody else reads.
+    pub fn look<R: Wait>(
+        &self,
+        rt: &R,
+        alloc: Global,
+        me: &mut Pass<Core, N>,
+    ) -> Result<Shown, AllocError>
+        ensures begins { IsPrefix me.old.front me.new.front }
+        ensures legal { IsLegal me.new.front }
+        ensures same { (me.new.number ≡ me.old.number) × (me.new.places ≡ me.old.places) }
+        ensures shows { IfOk result (λ shown. Shows me.new.front shown.length shown.kept.items) }
+    {
+        let mut held = self.lock.write(rt);
+        held.look(&self.table, me);
+        let core = &held.value;
+        core.stands();
+        let length = core.journal().len();
+        let kept = core.kept_numbers(alloc)?;
+        Ok(Shown { length, kept })
+    }
+}
