@@ -8,11 +8,10 @@ use Rattle.ghc_term.specs.declared.fault.Fault.{Fault}
 use Rattle.ghc_records.specs.Journal.{Opening, Entry, Item, opened, entered, history}
 use Rattle.ghc_core.specs.World.{Proposal, Hands, no_hands, IsHand, emptied, World}
 use Rattle.ghc_core.specs.Core.{IsCommitted}
-use Rattle.ghc_core.specs.Events.{Command as Asked, input, finish, undo, roll, redo, arrange, commit, stepped, refused}
-use Rattle.ghc_core.specs.Proposes as asking
-use Rattle.ghc_core.specs.Streams as streams
-use Rattle.ghc_core.specs.Reverses as by
-use Rattle.ghc_core.specs.Answers.{Obeys, Answers, to_commit, to_note, to_command}
+use Rattle.ghc_core.specs.Events.{commit, stepped, refused}
+use Rattle.ghc_core.specs.Proposes.{CommitFails}
+use Rattle.ghc_core.specs.Answers.{hands_after, Answers, no_memory}
+use Rattle.ghc_core.proofs.Replying.{hand_commits, hand_gives_up}
 use Rattle.ghc_core.specs.Legal.{Leaves}
 use Rattle.ghc_core.specs.Playing.{tells_change, AddsWhatItTells, AnswersAddWhatTheyTell}
 use Rattle.ghc_core.specs.CommandCode.{command_of}
@@ -23,20 +22,9 @@ use Rattle.ghc_shared.specs.declared.calls.Call.TheVariants.{Submit, Note, Comma
 use Rattle.ghc_shared.specs.Receipts.{AddsIfAccepted}
 use Rattle.ghc_shared.specs.Calls.{holding, hands_of, event_of, IsAnswerTo}
 
--- want of memory is an answer to each command
-starving : (w : World) (c : Asked) → Obeys (Unit {0}) w c (refused Fault.Memory) w
-starving w (input k t) = streams.ActsOnStream.no_memory tt
-starving w (finish k) = streams.ActsOnStream.no_memory tt
-starving w (undo n) = by.Undoes.no_memory tt
-starving w (roll n) = by.Rolls.no_memory tt
-starving w (redo n) = by.Redoes.no_memory tt
-starving w (arrange order) = by.Arranges.no_memory tt
-
--- and to each call
+-- want of memory is an answer to each call
 pub starved : (w : World) (call : Call) → (left : Hands) × Answers (Unit {0}) w (hands_of call) (event_of call) (refused Fault.Memory) w left
-starved w (Submit p) = (emptied 1 (holding p), to_commit (asking.Commits.no_memory tt))
-starved w (Note g) = (no_hands, to_note (asking.Notes.no_memory tt))
-starved w (Command c) = (no_hands, to_command (starving w (command_of c)))
+starved w call = (hands_after (event_of call) (hands_of call), no_memory tt)
 
 -- the hand holds the proposal
 held_there : (p : Proposal) → finite.get (holding p).held 1 ≡ Some p
@@ -47,16 +35,11 @@ one_hand p = (omega arith, omega arith)
 
 -- the hand commits what it holds
 pub commits : (w v : World) (p : Proposal) (n : ℕ) → IsCommitted w p v n → Answers (Unit {0}) w (holding p) (commit 1) (stepped n) v (emptied 1 (holding p))
-commits w v p n (r, c, number, after) =
-    to_commit (subst₂ (λ m u. asking.Commits (Unit {0}) w (holding p) 1 (stepped m) u (emptied 1 (holding p))) (sym number) (sym after) (asking.Commits.takes p r (one_hand p) (held_there p) c))
+commits w v p n committed = hand_commits w (holding p) 1 (one_hand p) p n v (emptied 1 (holding p)) (held_there p) committed refl
 
 -- or the commit is refused
-pub gives_up : (w v : World) (p : Proposal) (f : Fault) → (f ≡ Fault.Memory) ⊎ asking.CommitFails w p f → v ≡ w → Answers (Unit {0}) w (holding p) (commit 1) (refused f) v (emptied 1 (holding p))
-gives_up w v p f why stays =
-    to_commit (subst (λ u. asking.Commits (Unit {0}) w (holding p) 1 (refused f) u (emptied 1 (holding p))) (sym stays) (elim why [
-      | inl m ↦ subst (λ e. asking.Commits (Unit {0}) w (holding p) 1 (refused e) w (emptied 1 (holding p))) (sym m) (asking.Commits.no_memory tt)
-      | inr c ↦ asking.Commits.fails p (one_hand p) (held_there p) c
-    ]))
+pub gives_up : (w v : World) (p : Proposal) (f : Fault) → (f ≡ Fault.Memory) ⊎ CommitFails w p f → v ≡ w → Answers (Unit {0}) w (holding p) (commit 1) (refused f) v (emptied 1 (holding p))
+gives_up w v p f why stays = hand_gives_up w (holding p) 1 (one_hand p) p f v (emptied 1 (holding p)) (held_there p) why stays refl
 
 -- the history of a journal with one more entry
 history_push : (o : Opening) (es : List Entry) (e : Entry) → history o (es ++ e ∷ []) ≡ history o es ++ entered e ∷ []

@@ -2,7 +2,8 @@ use Rattle.std.proofs.Common.{sym, subst}
 use Rattle.ghc_core.specs.World.{no_hands, emptied}
 use Rattle.ghc_core.specs.Events.{note, stepped, refused}
 use Rattle.ghc_core.specs.EventCode.{reply_of}
-use Rattle.ghc_core.specs.Answers.{Answers, to_note, to_command}
+use Rattle.ghc_core.specs.Answers.{Answers}
+use Rattle.ghc_core.proofs.Moving.{obeyed_answers, noted_answers}
 use Rattle.ghc_shared.specs.Calls.{holding, hands_of, event_of}
 use Rattle.ghc_shared.proofs.Answering.{commits, gives_up}
 use Rattle.ghc_shared.proofs.telling.reply_to.Goals as goal
@@ -30,11 +31,11 @@ returns-in-Note c =
     let reply = reply_of c.reply_to_note.result in (
       no_hands,
       subst (λ e. Answers (Unit {0}) w (hands_of e) (event_of e) reply v no_hands) (sym c.in-Note.is)
-          (subst (λ u. Answers (Unit {0}) w no_hands (note c.in-Note.goal) reply u no_hands) (sym c.reply_to_note.ensures.world) (to_note c.reply_to_note.ensures.answer)),
+          (subst (λ u. Answers (Unit {0}) w no_hands (note c.in-Note.goal) reply u no_hands) (sym c.reply_to_note.ensures.world) (noted_answers no_hands c.reply_to_note.ensures.answer)),
     )
 
 pub returns-in-Command : goal.returns-in-Command
 returns-in-Command c =
     let w = c.args.core.now.world in
     let v = c.obey.new.self.world in
-    (no_hands, subst (λ e. Answers (Unit {0}) w (hands_of e) (event_of e) (reply_of c.obey.result) v no_hands) (sym c.in-Command.is) (to_command c.obey.ensures.answer))
+    (no_hands, subst (λ e. Answers (Unit {0}) w (hands_of e) (event_of e) (reply_of c.obey.result) v no_hands) (sym c.in-Command.is) (obeyed_answers no_hands c.obey.ensures.answer))
