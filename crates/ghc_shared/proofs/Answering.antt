@@ -1,12 +1,12 @@
 -- What a call does to the history of a core.
-use Rattle.std.proofs.Common.{◌≡◌, ◌⊎◌, ◌++◌, ℕ, List, [], ◌∷◌, refl, sym, ap, subst, subst₂, inl, inr, Some, None, Bool, true, false, arith}
+use Rattle.std.proofs.Common.{◌≡◌, ◌⊎◌, ◌++◌, ℕ, List, [], ◌∷◌, refl, sym, ap, subst, subst₂, Some, Bool, true, false, arith}
 use Rattle.std.proofs.lemmas.List.{map-append}
 use Rattle.std.specs.Prelude.{MatchBool}
 use Rattle.std.specs.FinMap as finite
 use Rattle.std.specs.Cmp.{nat_cmp_total}
 use Rattle.ghc_term.specs.declared.fault.Fault.{Fault}
-use Rattle.ghc_records.specs.Journal.{Opening, Entry, Item, opened, entered, history}
-use Rattle.ghc_core.specs.World.{Proposal, Hands, no_hands, IsHand, emptied, World}
+use Rattle.ghc_records.specs.Journal.{Opening, Entry, opened, entered, history}
+use Rattle.ghc_core.specs.World.{Proposal, Hands, IsHand, emptied, World}
 use Rattle.ghc_core.specs.Core.{IsCommitted}
 use Rattle.ghc_core.specs.Events.{commit, stepped, refused}
 use Rattle.ghc_core.specs.Proposes.{CommitFails}
@@ -14,11 +14,9 @@ use Rattle.ghc_core.specs.Answers.{hands_after, Answers, no_memory}
 use Rattle.ghc_core.proofs.Replying.{hand_commits, hand_gives_up}
 use Rattle.ghc_core.specs.Legal.{Leaves}
 use Rattle.ghc_core.specs.Playing.{tells_change, AddsWhatItTells, AnswersAddWhatTheyTell}
-use Rattle.ghc_core.specs.CommandCode.{command_of}
 use Rattle.ghc_core.specs.EventCode.{reply_of}
 use Rattle.ghc_core.specs.declared.reply.Reply.{Reply}
 use Rattle.ghc_shared.specs.declared.calls.Call.{Call}
-use Rattle.ghc_shared.specs.declared.calls.Call.TheVariants.{Submit, Note, Command}
 use Rattle.ghc_shared.specs.Receipts.{AddsIfAccepted}
 use Rattle.ghc_shared.specs.Calls.{holding, hands_of, event_of, IsAnswerTo}
 
