@@ -2,6 +2,6 @@ pub mod AtTheEnd
 pub mod Asked
 pub mod Noting
 pub mod Spied
-pub mod Sorting
+pub mod Standings
 pub mod Surveyed
 pub mod Taking

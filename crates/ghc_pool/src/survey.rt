@@ -1,24 +1,23 @@
 // What the goals in question are to a run, by the notes of a core where no goal is untried.
-ghost use Rattle.std.specs.Prelude.{◌≡◌, ℕ, IfOk, IfErr, IfSome, IfNone};
+ghost use Rattle.std.specs.Prelude.{◌≡◌, ◌↔◌, ℕ, IfOk, IfErr, IfSome, IfNone};
 ghost use Rattle.std.specs.FinSet as set;
 ghost use Rattle.ghc_term.specs.Lists.{In};
 ghost use Rattle.ghc_term.specs.declared.goal_name.GoalName.{GoalName as goal_name};
-ghost use Rattle.ghc_trace.specs.GoalLinesCode.{lent};
+ghost use Rattle.ghc_hooks.specs.Tries.{IsUnblocked};
 ghost use Rattle.ghc_pool.specs.Runs.{IsSpiedIn, CanGoOn, Holds};
-ghost use Rattle.ghc_pool.specs.Survey.{IsSort, AreListed, IsStopped};
+ghost use Rattle.ghc_pool.specs.Survey.{StandsTo, AreListed, IsStopped};
 
 use crate::question::{is_in_question, is_spied_in};
 use crate::stop::Stop;
 use ghc_core::Core;
 use ghc_hooks::Verdict;
-use ghc_term::{Goal, GoalName};
+use ghc_term::GoalName;
 use ghc_trace::SpySet;
-use std::alloc::Global;
-use std::collections::BTreeMap;
+use std::alloc::{AllocError, Global};
 
 // What a goal is to a run.
 #[derive(Drop)]
-pub enum Sort {
+pub enum Standing {
     // It is not in question, or neither ready nor failed.
     Idle,
     // It is in question and ready.
@@ -28,23 +27,32 @@ pub enum Sort {
 }
 
 // What the goal is to a run: a look-up, and whether it is in question, where it is noted as ready or failed.
-fn sort_of(core: &Core, root: Option<GoalName>, goal: GoalName) -> Sort
+fn standing_of(core: &Core, root: Option<GoalName>, goal: GoalName) -> Standing
     requires { core.now.untried ≡ set.empty }
-    ensures { IsSort root core.now.world goal result }
+    ensures { StandsTo root core.now.world goal result }
 {
     core.stands();
     let Some(note) = core.tries().get(goal) else {
-        return Sort::Idle;
+        return Standing::Idle;
     };
-    let sort = match note.verdict() {
-        Verdict::Waiting(_) => return Sort::Idle,
-        Verdict::Ready => Sort::Ready,
-        Verdict::Failed(_) => Sort::Failed,
+    let standing = match note.verdict() {
+        Verdict::Waiting(_) => return Standing::Idle,
+        Verdict::Ready => Standing::Ready,
+        Verdict::Failed(_) => Standing::Failed,
     };
     if is_in_question(core, root, goal) {
-        return sort;
+        return standing;
     }
-    Sort::Idle
+    Standing::Idle
+}
+
+// The goals that by their notes do not wait, by step, then place.
+fn unblocked_by_name(core: &Core, alloc: Global) -> Result<Vec<GoalName>, AllocError>
+    ensures { IfOk result (λ names. (g : goal_name) → In g names.items ↔ IsUnblocked core.now.notes g) }
+{
+    let mut names = core.tries().unblocked().to_vec(alloc)?;
+    names.sort_unstable();
+    Ok(names)
 }
 
 // Those of the goals that are in question and ready, in their order; or a goal in question that has failed, as a reason to stop.
@@ -52,18 +60,18 @@ fn ready_ones(
     core: &Core,
     alloc: Global,
     root: Option<GoalName>,
-    goals: &BTreeMap<GoalName, &Goal>,
+    goals: &[GoalName],
 ) -> Result<Vec<GoalName>, Stop>
     requires { core.now.untried ≡ set.empty }
-    ensures listed { IfOk result (λ ready. AreListed root core.now.world (lent goals.now.entries) ready.items) }
+    ensures listed { IfOk result (λ ready. AreListed root core.now.world goals.now ready.items) }
     ensures stop { IfErr result (λ stop. IsStopped root core.now.world stop) }
 {
     let mut ready = Vec::new(alloc);
-    for (name, _goal) in goals {
-        match sort_of(core, root, *name) {
-            Sort::Idle => {}
-            Sort::Failed => return Err(Stop::Clash(*name)),
-            Sort::Ready => match ready.push(*name) {
+    for name in goals {
+        match standing_of(core, root, *name) {
+            Standing::Idle => {}
+            Standing::Failed => return Err(Stop::Clash(*name)),
+            Standing::Ready => match ready.push(*name) {
                 Ok(()) => {}
                 Err(_) => return Err(Stop::Memory),
             },
@@ -85,9 +93,9 @@ fn first_spied(core: &Core, spies: &SpySet, goals: &[GoalName]) -> Option<GoalNa
     None
 }
 
-// The goals in question that are ready, by step, then place, where a run can go on; or else the reason to stop. Each goal is put
-// in its place in the order and has a look-up; those that are ready have two more, and whether it is in question is asked of
-// those that are ready or have failed.
+// The goals in question that are ready, by step, then place, where a run can go on; or else the reason to stop. Each goal that is
+// ready or has failed is put in its place in the order, has a look-up, and is asked whether it is in question; those that are ready
+// have two look-ups more. Goals that wait cost nothing.
 pub fn survey(
     core: &Core,
     alloc: Global,
@@ -99,7 +107,7 @@ pub fn survey(
     ensures stop { IfErr result (λ stop. (limit taken : ℕ) → Holds (Unit {0}) spies.now root limit taken core.now.world core.now.notes stop) }
 {
     core.stands();
-    let Ok(goals) = core.goals().by_name(alloc) else {
+    let Ok(goals) = unblocked_by_name(core, alloc) else {
         return Err(Stop::Memory);
     };
     let ready = match ready_ones(core, alloc, root, &goals) {

@@ -1,6 +1,6 @@
 -- What a goal is to a run, by its note, where no goal is untried.
-use Rattle.std.proofs.Common.{◌≡◌, Bool, true, false, refl, sym, ap, ◌∙◌, subst, Some, None}
-use Rattle.std.specs.Prelude.{Option, ◌≢◌}
+use Rattle.std.proofs.Common.{◌≡◌, Bool, true, false, refl, sym, ap, ◌∙◌, subst, inl, inr, Some, None}
+use Rattle.std.specs.Prelude.{Option, ◌≢◌, ◌⊎◌}
 use Rattle.std.specs.FinMap as finite
 use Rattle.std.specs.FinSet as set
 use Rattle.ghc_term.specs.declared.goal_name.GoalName.{GoalName}
@@ -15,14 +15,15 @@ use Rattle.ghc_fire.specs.Goals.{goal_cmp}
 use Rattle.ghc_hooks.specs.Face.{GoalNames}
 use Rattle.ghc_hooks.specs.Status.{Status, ready, waiting, failed, streaming, HasStatus, is_stream_goal}
 use Rattle.ghc_hooks.specs.Notes.{Note, NotesByGoal, IsUntried}
+use Rattle.ghc_hooks.specs.Tries.{IsUnblocked}
 use Rattle.ghc_hooks.proofs.Statuses.{status_once}
 use Rattle.ghc_depend.proofs.Finding.{same_value}
 use Rattle.ghc_core.specs.World.{World}
 use Rattle.ghc_core.specs.Core.{AreExactIn}
 use Rattle.ghc_trace.specs.News.{Stands}
-use Rattle.ghc_pool.specs.Runs.{IsInQuestion}
-use Rattle.ghc_pool.specs.Survey.{IsSort}
-use Rattle.ghc_pool.specs.declared.survey.Sort.TheVariants.{Idle as idle, Ready as by_ready, Failed as by_failed}
+use Rattle.ghc_pool.specs.Runs.{IsInQuestion, IsReady, HasFailed}
+use Rattle.ghc_pool.specs.Survey.{StandsTo}
+use Rattle.ghc_pool.specs.declared.survey.Standing.TheVariants.{Idle as idle, Ready as by_ready, Failed as by_failed}
 
 no_note : {o : Option Note} {note : Note} → o ≡ None → ¬ (o ≡ Some note)
 no_note e f = cc
@@ -56,26 +57,31 @@ module _ (w : World) (notes : NotesByGoal) (untried : GoalNames) (acyclic : IsAc
   only : (g : GoalName) (note : Note) (s : Status) → s ≢ streaming → finite.get notes g ≡ Some note → Stands w g s → note.status ≡ s
   only g note s other k st = let n = stands_noted g s other st in ap (λ (z : Note). z.status) (same_value k n.1) ∙ n.2
 
-  pub idle_without : (root : Option GoalName) (g : GoalName) → finite.get notes g ≡ None → IsSort root w g idle
+  -- a goal that is ready or has failed does not wait by its note
+  pub unblocked : (root : Option GoalName) (g : GoalName) → IsReady root w g ⊎ HasFailed root w g → IsUnblocked notes g
+  unblocked root g (inl r) = let n = stands_noted g ready (λ e. cc) r.1 in (n.0, n.1, λ xs e. let clash : waiting xs ≡ ready = sym e ∙ n.2 in cc)
+  unblocked root g (inr f) = let n = stands_noted g (failed f.1.0) (λ e. cc) f.1.1 in (n.0, n.1, λ xs e. let clash : waiting xs ≡ failed f.1.0 = sym e ∙ n.2 in cc)
+
+  pub idle_without : (root : Option GoalName) (g : GoalName) → finite.get notes g ≡ None → StandsTo root w g idle
   idle_without root g none = (
     λ r. let n = stands_noted g ready (λ e. cc) r.1 in no_note none n.1,
     λ r. let n = stands_noted g (failed r.1.0) (λ e. cc) r.1.1 in no_note none n.1,
   )
 
-  pub idle_waiting : (root : Option GoalName) (g : GoalName) (note : Note) (xs : Variables) → finite.get notes g ≡ Some note → note.status ≡ waiting xs → IsSort root w g idle
+  pub idle_waiting : (root : Option GoalName) (g : GoalName) (note : Note) (xs : Variables) → finite.get notes g ≡ Some note → note.status ≡ waiting xs → StandsTo root w g idle
   idle_waiting root g note xs k e = (
     λ r. let same = only g note ready (λ d. cc) k r.1 in absurd (let clash : waiting xs ≡ ready = sym e ∙ same in cc),
     λ r. let same = only g note (failed r.1.0) (λ d. cc) k r.1.1 in absurd (let clash : waiting xs ≡ failed r.1.0 = sym e ∙ same in cc),
   )
 
-  pub idle_outside : (root : Option GoalName) (g : GoalName) → ¬ IsInQuestion root w.kept g → IsSort root w g idle
+  pub idle_outside : (root : Option GoalName) (g : GoalName) → ¬ IsInQuestion root w.kept g → StandsTo root w g idle
   idle_outside root g outside = (λ r. outside r.0, λ r. outside r.0)
 
-  pub ready_inside : (root : Option GoalName) (g : GoalName) (note : Note) → finite.get notes g ≡ Some note → note.status ≡ ready → IsInQuestion root w.kept g → IsSort root w g by_ready
+  pub ready_inside : (root : Option GoalName) (g : GoalName) (note : Note) → finite.get notes g ≡ Some note → note.status ≡ ready → IsInQuestion root w.kept g → StandsTo root w g by_ready
   ready_inside root g note k e q = (
     (q, note_stands g note ready k e),
     λ r. let same = only g note (failed r.1.0) (λ d. cc) k r.1.1 in absurd (let clash : ready ≡ failed r.1.0 = sym e ∙ same in cc),
   )
 
-  pub failed_inside : (root : Option GoalName) (g : GoalName) (note : Note) (f : Fault) → finite.get notes g ≡ Some note → note.status ≡ failed f → IsInQuestion root w.kept g → IsSort root w g by_failed
+  pub failed_inside : (root : Option GoalName) (g : GoalName) (note : Note) (f : Fault) → finite.get notes g ≡ Some note → note.status ≡ failed f → IsInQuestion root w.kept g → StandsTo root w g by_failed
   failed_inside root g note f k e q = (q, (f, note_stands g note (failed f) k e))

@@ -2,10 +2,10 @@ use Rattle.std.proofs.Common.{sym, subst, ap, ◌∙◌}
 use Rattle.std.specs.FinMap as finite
 use Rattle.ghc_hooks.specs.Verdict.{status_of}
 use Rattle.ghc_hooks.specs.Notes.{NotesByGoal}
-use Rattle.ghc_pool.specs.Survey.{IsSort}
-use Rattle.ghc_pool.proofs.Sorting.{idle_without, idle_waiting, ready_inside, failed_inside}
-use Rattle.ghc_pool.proofs.survey.sort_of.Goals.{in-Ready, in-Failed}
-use Rattle.ghc_pool.proofs.survey.sort_of.Goals as goal
+use Rattle.ghc_pool.specs.Survey.{StandsTo}
+use Rattle.ghc_pool.proofs.Standings.{idle_without, idle_waiting, ready_inside, failed_inside}
+use Rattle.ghc_pool.proofs.survey.standing_of.Goals.{in-Ready, in-Failed}
+use Rattle.ghc_pool.proofs.survey.standing_of.Goals as goal
 
 pub returns-in_default : goal.returns-in_default
 returns-in_default c =
@@ -25,8 +25,8 @@ returns-then-is_in_question c =
     let there = ap (λ (m : NotesByGoal). finite.get m c.args.goal) (sym c.tries.ensures.notes) ∙ sym c.in-Some.ensures in
     let asked = c.is_in_question.ensures.0 c.if-is_in_question.true in
     elim c.match-verdict.branch [
-      | in-Ready w ↦ subst (IsSort c.args.root core.world c.args.goal) (sym w.sort-is)
+      | in-Ready w ↦ subst (StandsTo c.args.root core.world c.args.goal) (sym w.standing-is)
           (ready_inside core.world core.notes core.untried c.stands.ensures.orderly.acyclic c.stands.ensures.exact c.requires c.args.root c.args.goal c.in-Some.note.now there (c.verdict.ensures ∙ ap status_of w.in-Ready.is) asked)
-      | in-Failed w ↦ subst (IsSort c.args.root core.world c.args.goal) (sym w.sort-is)
+      | in-Failed w ↦ subst (StandsTo c.args.root core.world c.args.goal) (sym w.standing-is)
           (failed_inside core.world core.notes core.untried c.stands.ensures.orderly.acyclic c.stands.ensures.exact c.requires c.args.root c.args.goal c.in-Some.note.now w.in-Failed.field-0 there (c.verdict.ensures ∙ ap status_of w.in-Failed.is) asked)
     ]
