@@ -83,27 +83,26 @@ def sessions(folder):
         yield name, Session(folder / name, program, query, lines.split(";"))
 
 
-def fails_well(name, session, whole, setting):
-    """Whether the session with a call that fails wrote what came before that call, and no more."""
+def fails(name, session, whole, setting):
+    """What is wrong where a call of the session fails, if it did not write what came before that call, and no more."""
     played = session.play(**setting)
     output = b"".join(played.replies)
-    passed = whole.startswith(output) and len(output) == played.failed_behind and (played.errors, played.status) == (DEVICE, 3)
-    if not passed:
-        print(f"failed: {name}, {setting}: {len(output)} bytes, failed behind {played.failed_behind}: {played.errors} {played.status}")
-    return passed
+    if whole.startswith(output) and len(output) == played.failed_behind and (played.errors, played.status) == (DEVICE, 3):
+        return None
+    return f"{name}, {setting}: {len(output)} bytes, failed behind {played.failed_behind}: {played.errors} {played.status}"
 
 
 def calls(folder, pool):
-    """Lets each call of the sessions fail, and says which of them went well."""
+    """Lets each call of the sessions fail, and says what is wrong with each."""
     for name, session in sessions(folder):
         plain = session.play()
         settings = [{"FAIL_READ": n} for n in range(1, plain.reads + 1)] + [{"FAIL_WRITE": n} for n in range(1, plain.writes + 1)]
         whole = b"".join(plain.replies)
-        yield from pool.map(lambda setting: fails_well(name, session, whole, setting), settings)
+        yield from pool.map(lambda setting: fails(name, session, whole, setting), settings)
 
 
 def shell(tried_line):
-    """Whether a line of a shell does what it has to do."""
+    """What is wrong with a line of a shell, if anything."""
     with tempfile.TemporaryDirectory(prefix="ghcdb-shell-") as folder:
         (Path(folder) / "loop.ghc").write_text(LOOP)
         (Path(folder) / "append.ghc").write_bytes((EXAMPLES / "append.ghc").read_bytes())
@@ -114,19 +113,19 @@ def shell(tried_line):
                 stdin=subprocess.DEVNULL, capture_output=True, text=True, cwd=folder, env=environment, timeout=SECONDS,
             )
         except subprocess.TimeoutExpired:
-            print(f"failed: {tried_line.what}: it ran for {SECONDS} seconds")
-            return False
-    passed = (run.stdout, run.stderr, run.returncode) == (tried_line.output, tried_line.errors, tried_line.status)
-    if not passed:
-        print(f"failed: {tried_line.what}: {run.stdout[-200:]!r} {run.stderr[-200:]!r} {run.returncode}")
-    return passed
+            return f"{tried_line.what}: it ran for {SECONDS} seconds"
+    if (run.stdout, run.stderr, run.returncode) == (tried_line.output, tried_line.errors, tried_line.status):
+        return None
+    return f"{tried_line.what}: {run.stdout[-200:]!r} {run.stderr[-200:]!r} {run.returncode}"
 
 
 def devices(folder):
     """How many calls and lines of a shell went well, and how many did not."""
     with ThreadPoolExecutor(os.cpu_count()) as pool:
-        went = [*calls(folder, pool), *pool.map(shell, SHELLS)]
-    return sum(went), len(went) - sum(went)
+        judged = [*calls(folder, pool), *pool.map(shell, SHELLS)]
+    wrong = [found for found in judged if found]
+    print("".join(f"failed: {found}\n" for found in wrong), end="")
+    return len(judged) - len(wrong), len(wrong)
 
 
 if __name__ == "__main__":

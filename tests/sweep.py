@@ -131,7 +131,7 @@ class Trial(NamedTuple):
 class Judged(NamedTuple):
     """What came of a trial."""
 
-    right: bool
+    wrong: str | None
     part: str | None
 
 
@@ -164,17 +164,18 @@ class Case:
         return self.without[at]
 
     def judge(self, trial):
-        """Whether all is right where these requests are refused, and for which part the start found no memory."""
+        """What is wrong where these requests are refused, if anything, and for which part the start found no memory."""
         played = self.session.play(REFUSE_LINE=trial.at, REFUSE_FROM=trial.first, REFUSE_TO=trial.last)
         part = part_of(played)
         if trial.at == 0:
             right = part is not None or outcome(played) == outcome(self.plain)
         else:
             right = outcome(played)[1:] == (b"", 0) and self.fits(trial.at, played.replies) and self.holds(trial.at, played.replies)
-        if not right:
-            reply = b"".join(played.replies[trial.at : trial.at + 1])[-200:]
-            print(f"failed: {self.name}, line {trial.at}, requests {trial.first} to {trial.last}: {played.status} {played.errors} {reply}")
-        return Judged(right, part)
+        if right:
+            return Judged(None, part)
+        reply = b"".join(played.replies[trial.at : trial.at + 1])[-200:]
+        told = f"line {trial.at}, requests {trial.first} to {trial.last}: {played.status} {played.errors} {reply}"
+        return Judged(f"failed: {self.name}, {told}", part)
 
     def holds(self, at, got):
         """Whether what is told by hand is so."""
@@ -249,13 +250,13 @@ def sweep(case, pool):
     """Makes all trials of a session, and says how many things were right, and how many not."""
     trials = list(case.trials())
     judged = list(pool.map(case.judge, trials))
-    right = sum(found.right for found in judged)
-    wrong = len(judged) - right
+    wrong = [found.wrong for found in judged if found.wrong]
+    print("".join(f"{line}\n" for line in wrong), end="")
     starts = [found.part for trial, found in zip(trials, judged) if trial.at == 0 and trial.first == trial.last]
     if case.plain.status == 0 and are_in_order(starts):
-        return right + 1, wrong
+        return len(judged) - len(wrong) + 1, len(wrong)
     print(f"failed: {case.name} started in the order {starts}, and ended with {case.plain.status} {case.plain.errors}")
-    return right, wrong + 1
+    return len(judged) - len(wrong), len(wrong) + 1
 
 
 def unused_commands():
