@@ -1,41 +1,28 @@
 #!/usr/bin/env python3
-"""Counts how often an undo asks for memory: tests/undo_requests.py
+"""Refuses memory within an undo: tests/undo_requests.py
 
-A session takes 500 steps, which do not depend on each other, and undoes the first. The program gets its memory from one
-allocator, so no test can refuse it the 200th request of one call; but valgrind counts the requests of a whole session, and
-the session without its last line made all the others. Where there is no valgrind, that is said and nothing is counted.
-The last line is `N passed, M failed`, and the status is 1 where it failed.
+A session takes 500 steps, which do not depend on each other, and undoes the first. Within that undo the 200th request for memory
+and all behind it would be refused: but there are fewer, so it succeeds, and all else is kept. Where there is no C compiler, that
+is said and nothing is tried. The last line is `N passed, M failed`, and the status is 1 where it failed.
 """
-import os, re, shutil, subprocess, sys, tempfile
+import sys
 
-ROOT = os.path.dirname(os.path.dirname(os.path.abspath(__file__)))
-PROGRAM = f"{ROOT}/crates/ghcdb/out/ghcdb"
-STEPS, LIMIT = 500, 200
+sys.dont_write_bytecode = True
+from refusing import Session, tried
+
+STEPS, REFUSED = 500, 200
 
 
-def requests(folder, lines):
-    """How many requests for memory the session of these lines made, and its last line."""
+def undoes(folder):
+    """Whether the undo succeeds: 1 and 0, or 0 and 1."""
     query = ", ".join(f"X{i} = {i}" for i in range(1, STEPS + 1))
-    run = subprocess.run(
-        ["valgrind", PROGRAM, f"{folder}/empty.ghc", "--query", query],
-        input="".join(f"{line}\n" for line in lines), capture_output=True, text=True, check=True)
-    counted = re.search(r"total heap usage: ([0-9,]+) allocs", run.stderr)
-    return int(counted[1].replace(",", "")), run.stdout.splitlines()[-1]
+    lines = [f"step 0.{i}" for i in range(1, STEPS + 1)] + ["undo 1", "show X1", "show X2"]
+    session = Session(folder, "", query, lines)
+    run = session.play(REFUSE_LINE=STEPS + 1, REFUSE_FROM=REFUSED, REFUSE_TO=10**9)
+    passed = run.replies[STEPS + 1 : STEPS + 4] == [b"undone 1\n", b"X1 = _0_1\n", b"X2 = 2\n"] and run.status == 0
+    print(f"undo_requests: {run.requests[STEPS + 1]} requests for the undo of the first of {STEPS} steps")
+    return int(passed), int(not passed)
 
 
-def main():
-    if not shutil.which("valgrind"):
-        print("undo_requests: there is no valgrind, so nothing was counted")
-        return 0
-    steps = [f"step 0.{i}" for i in range(1, STEPS + 1)]
-    with tempfile.TemporaryDirectory() as folder:
-        open(f"{folder}/empty.ghc", "w").close()
-        before, _ = requests(folder, steps)
-        after, last = requests(folder, steps + ["undo 1"])
-    passed = last == "undone 1" and after - before < LIMIT
-    print(f"undo_requests: {after - before} requests for the undo of the first of {STEPS} steps, answered `{last}`")
-    print(f"{int(passed)} passed, {int(not passed)} failed")
-    return int(not passed)
-
-
-sys.exit(main())
+if __name__ == "__main__":
+    sys.exit(tried("undo_requests", undoes))

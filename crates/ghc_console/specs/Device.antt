@@ -1,12 +1,13 @@
 -- What the clauses of devices say.
-use Rattle.std.specs.Prelude.{◌≡◌, ℕ, ◌+◌, List, ◌++◌, take, Option, IfSome, MatchResult, Result, if◌then◌else◌, is_ok}
+use Rattle.std.specs.Prelude.{◌≡◌, ℕ, ◌+◌, ◌<◌, false, List, ◌++◌, take, Option, IfSome, MatchResult, Result, if◌then◌else◌, is_ok}
 use Rattle.std.specs.Io.KnownBytes.{Appends}
 
--- What a buffered device tells: the bytes to come and the bytes written, where they are known; those of them that it still holds back; how many calls have failed; how many bytes the last read gave, and how many those before it.
+-- What a buffered device tells: the bytes to come and the bytes written, where they are known; those of them that it still holds back, and those that it has handed on, where these are known; how many calls have failed; how many bytes the last read gave, and how many those before it.
 pub record LinesValue : Type 0 where
   pub unread : Option (List ℕ)
   pub written : Option (List ℕ)
   pub held : List ℕ
+  pub handed : Option (List ℕ)
   pub failures : ℕ
   pub earlier : ℕ
   pub latest : ℕ
@@ -14,6 +15,10 @@ pub record LinesValue : Type 0 where
 -- A call that fails is counted once, and no other is.
 abbrev pub Counts : {T E : Type 0} → ℕ → ℕ → Result T E → Type 0
 Counts before after result = after ≡ (if is_ok result then before else before + 1)
+
+-- Where a call had failed before, this one fails too, and nothing more is handed on.
+abbrev pub StaysBroken : {T E : Type 0} → ℕ → Option (List ℕ) → Option (List ℕ) → Result T E → Type 0
+StaysBroken failures old new result = 0 < failures → (is_ok result ≡ false) × (new ≡ old)
 
 -- All the bytes were written, or a front of them where a call failed.
 abbrev pub WritesFront : {E : Type 0} → Option (List ℕ) → Option (List ℕ) → Result Unit E → List ℕ → Type 0

@@ -1,5 +1,6 @@
-// The counts of a device, without a bound. Of them the last read's alone takes memory when the program runs.
-ghost use Rattle.std.specs.Prelude.{◌≡◌, ℕ, ◌+◌, ◌<◌};
+// The counts of a device, without a bound. Of them the last read's, and whether a call failed, alone take memory when the program
+// runs.
+ghost use Rattle.std.specs.Prelude.{◌≡◌, ℕ, ◌+◌, ◌<◌, nat_lt};
 
 use crate::device::Broken;
 use std::marker::Model;
@@ -12,17 +13,18 @@ pub struct CallCounts<L: Ledger> {
     failed: Share<L>,
     earlier: Share<L>,
     latest: usize,
+    has_failed: bool,
 }
 
 impl<L: Ledger> Model for CallCounts<L> {
-    ghost use Rattle.std.specs.Prelude.{◌<◌};
+    ghost use Rattle.std.specs.Prelude.{◌≡◌, ◌<◌, nat_lt};
     ghost use Rattle.ghc_console.specs.Device.{Counted};
 
     ghost Value = { Counted };
 
     ghost view = { λ t. record { failures = t.failed.amount; earlier = t.earlier.amount; latest = t.latest } };
 
-    ghost invariant = { λ t. (0 < t.failed.parts) × (0 < t.earlier.parts) };
+    ghost invariant = { λ t. (0 < t.failed.parts) × (0 < t.earlier.parts) × (t.has_failed ≡ nat_lt 0 t.failed.amount) };
 }
 
 impl<L: Ledger> CallCounts<L> {
@@ -38,7 +40,15 @@ impl<L: Ledger> CallCounts<L> {
             failed,
             earlier,
             latest: 0,
+            has_failed: false,
         }
+    }
+
+    /// Whether a call has failed.
+    pub fn has_failed(&self) -> bool
+        ensures { result ≡ nat_lt 0 self.now.failures }
+    {
+        self.has_failed
     }
 
     /// Counts a failure.
@@ -46,6 +56,7 @@ impl<L: Ledger> CallCounts<L> {
         ensures { self.new ≡ record { failures = self.old.failures + 1; earlier = self.old.earlier; latest = self.old.latest } }
     {
         self.book.add(&mut self.failed, 1);
+        self.has_failed = true;
         Broken
     }
 

@@ -1,9 +1,9 @@
 // A device over any reader and writer.
 ghost use Rattle.std.specs.Prelude.{◌≡◌, ◌<◌, [], length, IfOk, OnOk, ◌+◌};
 ghost use Rattle.std.specs.Io.{ReadsAtMost, WritesAtMost};
-ghost use Rattle.std.specs.Io.Buffered.{writer_buffer, writer_contents};
-ghost use Rattle.std.specs.Io.KnownBytes.{Keeps, ReadConsumes, WriteAppends};
-ghost use Rattle.ghc_console.specs.Device.{Counts, EndsWith};
+ghost use Rattle.std.specs.Io.Buffered.{writer_buffer, writer_contents, writer_inner};
+ghost use Rattle.std.specs.Io.KnownBytes.{Keeps, ReadConsumes, WriteAppends, append_known};
+ghost use Rattle.ghc_console.specs.Device.{Counts, EndsWith, Gives, StaysBroken};
 
 use crate::call_counts::CallCounts;
 use crate::device::{Broken, Device};
@@ -11,8 +11,8 @@ use std::io::{BufWriter, ErrorKind, Read, Write};
 use std::marker::Model;
 use std::sync::ledger::{Blank, Ledger};
 
-/// A device over a reader and a writer, with a buffer for what is written. The buffer is emptied before each read.
-#[derive(Drop)]
+/// A device over a reader and a writer, with a buffer for what is written. The buffer is emptied before each read. Once a call has
+/// failed, each call does, and nothing more is handed on; nor is it where the device is dropped.
 pub struct Lines<R: Read, W: Write + Drop, L: Ledger> {
     reader: R,
     writer: BufWriter<W>,
@@ -20,7 +20,7 @@ pub struct Lines<R: Read, W: Write + Drop, L: Ledger> {
 }
 
 impl<R: Read, W: Write + Drop, L: Ledger> Model for Lines<R, W, L> {
-    ghost use Rattle.std.specs.Io.Buffered.{writer_buffer, writer_contents};
+    ghost use Rattle.std.specs.Io.Buffered.{writer_buffer, writer_contents, writer_inner};
     ghost use Rattle.ghc_console.specs.Device.{LinesValue};
 
     ghost Value = { LinesValue };
@@ -29,6 +29,7 @@ impl<R: Read, W: Write + Drop, L: Ledger> Model for Lines<R, W, L> {
       unread = R.remaining d.reader;
       written = writer_contents W.contents d.writer;
       held = writer_buffer d.writer;
+      handed = W.contents (writer_inner d.writer);
       failures = d.calls.failures;
       earlier = d.calls.earlier;
       latest = d.calls.latest;
@@ -92,7 +93,7 @@ impl<R: Read, W: Write + Drop, L: Ledger> Lines<R, W, L> {
     /// A device over these two, with no call yet.
     pub fn new(reader: R, writer: BufWriter<W>, blank: Blank) -> Lines<R, W, L>
         requires blank { (blank.name ≡ L.name) × (blank.parts ≡ L.parts) × (1 < L.parts) }
-        ensures { result ≡ record { unread = R.remaining reader; written = writer_contents W.contents writer; held = writer_buffer writer; failures = 0; earlier = 0; latest = 0 } }
+        ensures { result ≡ record { unread = R.remaining reader; written = writer_contents W.contents writer; held = writer_buffer writer; handed = W.contents (writer_inner writer); failures = 0; earlier = 0; latest = 0 } }
     {
         Lines {
             reader,
@@ -110,11 +111,37 @@ impl<R: Read, W: Write + Drop, L: Ledger> Lines<R, W, L> {
         ensures count { Counts self.old.failures self.new.failures result }
         ensures earlier { self.new.earlier ≡ self.old.earlier }
         ensures latest { self.new.latest ≡ self.old.latest }
+        ensures broken { StaysBroken self.old.failures self.old.handed self.new.handed result }
     {
+        if self.calls.has_failed() {
+            return Err(self.calls.fail());
+        }
         match hand_on(&mut self.writer) {
             Ok(()) => Ok(()),
             Err(Broken) => Err(self.calls.fail()),
         }
+    }
+
+    /// The reader, and the writer behind the buffer. What the buffer holds is not handed on.
+    pub fn into_parts(self) -> (R, W)
+        ensures reader { R.remaining result.0 ≡ self.unread }
+        ensures writer { W.contents result.1 ≡ self.handed }
+        ensures held { self.written ≡ append_known self.handed self.held }
+    {
+        let Lines {
+            reader,
+            writer,
+            calls: _,
+        } = self;
+        let (writer, _) = writer.into_parts();
+        (reader, writer)
+    }
+}
+
+// A buffered writer that is dropped hands its buffer on, so it is taken apart.
+impl<R: Read + Drop, W: Write + Drop, L: Ledger> Drop for Lines<R, W, L> {
+    fn drop(self) {
+        let (_, _) = self.into_parts();
     }
 }
 
@@ -131,8 +158,22 @@ impl<R: Read, W: Write + Drop, L: Ledger> Device for Lines<R, W, L> {
 
     ghost earlier = { λ d. d.earlier };
 
-    fn read(&mut self, buf: &mut [u8]) -> Result<usize, Broken> {
+    /// As `Device` has it; where a call has failed before, it fails, and hands nothing on.
+    fn read(&mut self, buf: &mut [u8]) -> Result<usize, Broken>
+        ensures bound { ReadsAtMost result buf.new }
+        ensures bytes { ReadConsumes self.old.unread self.new.unread result buf.new }
+        ensures held { OnOk result (self.new.held ≡ []) }
+        ensures tail { EndsWith self.new.written self.new.held }
+        ensures written { Keeps self.old.written self.new.written }
+        ensures count { Counts self.old.failures self.new.failures result }
+        ensures earlier { self.new.earlier ≡ self.old.earlier + self.old.latest }
+        ensures latest { Gives self.new.latest result }
+        ensures broken { StaysBroken self.old.failures self.old.handed self.new.handed result }
+    {
         self.calls.ask();
+        if self.calls.has_failed() {
+            return Err(self.calls.fail());
+        }
         if hand_on(&mut self.writer).is_err() {
             return Err(self.calls.fail());
         }
@@ -145,7 +186,21 @@ impl<R: Read, W: Write + Drop, L: Ledger> Device for Lines<R, W, L> {
         }
     }
 
-    fn write(&mut self, bytes: &[u8]) -> Result<usize, Broken> {
+    /// As `Device` has it; where a call has failed before, it fails, and hands nothing on.
+    fn write(&mut self, bytes: &[u8]) -> Result<usize, Broken>
+        ensures bound { WritesAtMost result bytes.now }
+        ensures some { 0 < length bytes.now → IfOk result (λ n. 0 < n) }
+        ensures bytes { WriteAppends self.old.written self.new.written result bytes.now }
+        ensures tail { EndsWith self.new.written self.new.held }
+        ensures unread { Keeps self.old.unread self.new.unread }
+        ensures count { Counts self.old.failures self.new.failures result }
+        ensures earlier { self.new.earlier ≡ self.old.earlier }
+        ensures latest { self.new.latest ≡ self.old.latest }
+        ensures broken { StaysBroken self.old.failures self.old.handed self.new.handed result }
+    {
+        if self.calls.has_failed() {
+            return Err(self.calls.fail());
+        }
         match write_some(&mut self.writer, bytes) {
             Ok(n) => Ok(n),
             Err(Broken) => Err(self.calls.fail()),

@@ -1,5 +1,7 @@
 -- Lemmas of this crate.
 mod CommandLine
+mod FrontTells
 mod IsStarted
 mod Opened
 mod Tells
+mod TextFront

@@ -4,5 +4,7 @@ pub mod Refusal
 pub mod RefusedPart
 pub mod Start
 pub mod Opening
+pub mod Outputs
+pub mod ProgramText
 pub mod Status
 pub mod Texts

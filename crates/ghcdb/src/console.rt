@@ -2,6 +2,7 @@
 ghost use Rattle.std.specs.Prelude.{◌≡◌, ◌⊎◌, ◌+◌, ◌-◌, ◌<◌, [], IfErr, MatchResult, OnOk};
 ghost use Rattle.ghc_console.specs.Session.{Began, Session, Tells};
 ghost use Rattle.ghc_console.specs.SessionState.{state_of};
+ghost use Rattle.ghcdb.specs.Outputs.{HasBeginning, HasReplies};
 
 use ghc_console::{Broken, Debugger, Lines, session};
 use ghc_core::Core;
@@ -40,6 +41,27 @@ fn run_on_device<L: Ledger, R: Wait, I: Read, O: Write + Drop>(
     }
 }
 
+// Runs a session on the device, and gives the writer behind its buffer back.
+fn run_to_writer<L: Ledger, R: Wait, I: Read + Drop, O: Write + Drop>(
+    rt: &R,
+    alloc: Global,
+    debugger: Debugger,
+    device: Lines<I, O, L>,
+) -> (O, Result<(), Fault>)
+    // The writer has the replies to the lines; or where a call failed, a beginning of them, behind which nothing was written.
+    ensures told { MatchResult result.1
+        (λ _. HasReplies (state_of debugger) device.unread device.written (O.contents result.0))
+        (λ _. HasBeginning (state_of debugger) device.unread device.written (O.contents result.0)) }
+    ensures failed { IfErr result.1 (λ fault. fault ≡ Fault.Device) }
+{
+    let mut device = device;
+    let (debugger, result) = run_on_device(rt, alloc, debugger, &mut device);
+    // The program ends next, and the system takes all memory back at once: the core is not taken apart goal by goal.
+    mem::forget(debugger);
+    let (_, writer) = device.into_parts();
+    (writer, result)
+}
+
 // Runs a session from the reader to the writer, whose calls are counted in the ledger.
 fn run_between<L: Ledger, R: Wait + AllocGlobal, I: Read + Drop, O: Write + Drop>(
     rt: &R,
@@ -51,11 +73,9 @@ fn run_between<L: Ledger, R: Wait + AllocGlobal, I: Read + Drop, O: Write + Drop
     requires blank { (blank.name ≡ L.name) × (blank.parts ≡ L.parts) × (1 < L.parts) }
     ensures { IfErr result (λ fault. fault ≡ Fault.Device) }
 {
-    let mut device: Lines<I, O, L> = Lines::new(reader, writer, blank);
+    let device: Lines<I, O, L> = Lines::new(reader, writer, blank);
     let debugger = Debugger::new(rt.alloc(), core);
-    let (debugger, result) = run_on_device(rt, rt.alloc(), debugger, &mut device);
-    // The program ends next, and the system takes all memory back at once: the core is not taken apart goal by goal.
-    mem::forget(debugger);
+    let (_, result) = run_to_writer(rt, rt.alloc(), debugger, device);
     result
 }
 

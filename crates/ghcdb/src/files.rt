@@ -1,8 +1,10 @@
 // The files that the command line names.
+ghost use Rattle.ghcdb.specs.ProgramText.{most_read};
 ghost use Rattle.ghcdb.specs.Texts.{IsReadRefusal, HasHistory};
-ghost use Rattle.std.specs.Prelude.{◌≡◌, ◌⊎◌, IfErr, IfOk, Ok, false, is_ok};
+ghost use Rattle.std.specs.Prelude.{◌≡◌, ◌≤◌, ◌⊎◌, IfErr, IfOk, Ok, false, is_ok, length};
 ghost use Rattle.ghc_term.specs.declared.fault.Fault.{Fault};
 
+use crate::program_text::read_text;
 use crate::refusal::Refusal;
 use crate::refused_part::RefusedPart;
 use crate::settings::Options;
@@ -31,6 +33,15 @@ pub fn read_file<R: Files + AllocGlobal>(rt: &R, name: &str) -> Result<Vec<u8>, 
     received(fs::read(rt, name))
 }
 
+// The text of the program in a file, of which no more is read than `read_text` takes.
+fn read_program<R: Files + AllocGlobal>(rt: &R, name: &str) -> io::Result<Vec<u8>>
+    ensures { IfOk result (λ text. length text.items ≤ most_read) }
+{
+    let mut file = fs::open(rt, name)?;
+    let text = read_text(rt.alloc(), &mut file)?;
+    Ok(text)
+}
+
 /// What stands in the files that the command line names.
 #[derive(Drop)]
 pub struct Texts {
@@ -46,7 +57,7 @@ pub fn read_texts<R: Files + AllocGlobal>(rt: &R, options: Options<'_>) -> Resul
     ensures history { IfOk result (λ texts. HasHistory options.entry texts) }
     ensures refused { IfErr result (IsReadRefusal options.entry) }
 {
-    let program = match read_file(rt, options.file) {
+    let program = match received(read_program(rt, options.file)) {
         Ok(program) => program,
         Err(fault) => {
             let part = RefusedPart::Program;

@@ -1,0 +1,283 @@
+#!/usr/bin/env python3
+"""Refuses memory in sessions: tests/sweep.py [WORD..]      the sessions whose names hold one of the words; without words, all
+
+Each request for memory of each line of the sessions below is refused in turn, alone and with all behind it in its line, and so is
+each request of the start; and what the program then writes is compared with what itself writes with ample memory, with the line
+and without it. Of a line with more than 400 requests every second is refused, of one with more than 800 every third, and so on.
+The reply to a line that was refused memory has to be
+
+  - that of a session with ample memory; or
+  - `F1 no memory`, and all other replies are those of a session without the line; or
+  - where the line is a change, its own reply with `F1 no memory` in place of the lines SUSP and FAIL, which are settling's, and all
+    other replies are as ever; or
+  - where it is a run, a line for each step that it took, by number, or `F1 no memory` in its place, and then `stopped REASON`, or
+    `F1 no memory` in its place. `records` before and behind the run tell which steps these are; behind it no line is refused
+    memory, and each `show` and `goals` between the last run and the next change is answered as ever.
+
+What a session says of a line by hand (`told`) has to hold, too. Before the first line the program ends with status 2 for its words,
+or with status 1 and `PART: F1 no memory`, in the order of its parts, or it goes on as ever. It ends by itself, and by no signal.
+
+It needs a C compiler; where there is none that is said, and nothing is tried. The last line is `N passed, M failed`.
+"""
+import os
+import re
+import sys
+import time
+from concurrent.futures import ThreadPoolExecutor
+from itertools import takewhile
+from typing import NamedTuple
+
+sys.dont_write_bytecode = True
+from refusing import TESTS, Session, tried
+
+MOST = 400
+ALL_BEHIND = 10**9
+F1 = b"F1 no memory\n"
+CHANGES = ("step", "in", "end", "undo", "roll", "redo", "arrange")
+RUNS = ("leap", "skip")
+SHOWN = ("show", "goals")
+
+APPEND = "append([],Y,Z) :- true | Z = Y.\nappend([A|X],Y,Z) :- true | Z = [A|Z1], append(X,Y,Z1).\n"
+SUM = "sum([],A,R) :- true | R = A.\nsum([X|S],A,R) :- true | B := A + X, sum(S,B,R).\n"
+WAITS = "p(a,_) :- true | true.\np(_,b) :- true | true.\nq(a,b) :- true | true.\n"
+MANY = "p(A,B,C,D) :- A > 0, B > 0, C > 0, D > 0 | true.\n"
+LONG = "append([1,2,3,4,5,6,7,8,9,10,11,12],[13],R), append(R,[14],Q)"
+HISTORY = "ghc-history 1\nsteps 4\n1 0.1 by 2\n3 1.2 by 1\n4 3.1 eq\n2 1.1 eq\nend 5\n"
+
+
+SUM_HISTORY = "ghc-history 1\nsteps 6\n1 0.1 in 5\n4 0.2 by 2\n5 4.1 is\n2 1.1 end\n6 4.2 by 1\n7 6.1 eq\nend 9\n"
+
+
+class Told(NamedTuple):
+    """Whichever request of the line AT is refused: a text in which the reply to a later line ends."""
+
+    at: int
+    behind: int
+    ends: bytes
+
+
+class Story(NamedTuple):
+    """A session that uses some of the commands; a run in it stands between two lines `records`. Other words of the command line,
+    as those for schedules and workers, are its options."""
+
+    program: str
+    query: str
+    lines: str
+    history: str | None = None
+    options: tuple[str, ...] = ()
+    told: tuple[Told, ...] = ()
+
+
+STORIES = {
+    "append": Story(
+        APPEND,
+        "append([1],[2],R)",
+        "goals;step 0.1;step 1.1;step 1.2 1;step 3.1;show R;records;why 2;who R;undo 2;shelf;redo 2;undo 1;save;arrange 1 2 3 4;"
+        "arrange 2 1 3 4;roll 3;goals;roll 1;goals;redo 1;redo 9;records;save",
+    ),
+    "waits": Story(
+        WAITS,
+        "p(X,Y), q(X,Y), X = c, Y = b, X = d",
+        "goals;step 0.3;step 0.4;step 0.5;step 0.1 2;why 3;undo 1;undo 2;goals;roll 2;goals;redo 2;records;shelf",
+    ),
+    "many": Story(
+        MANY,
+        "f(A,B,C,D,E,F,G,H,I) = f(1,2,3,4,5,6,7,8,9), p(A,B,C,D), p(A,B,C,D), p(A,B,C,D), p(A,B,C,D), p(A,B,C,J), J = K, K = 1",
+        "goals;step 0.1;step 0.2;step 0.3;step 0.4;step 0.5;step 0.7;step 0.8;step 0.6;why 8;who J;records;undo 3;undo 5;redo 3;"
+        "arrange 6 7 1 2 4 8 3;roll 7;goals;roll 1;shelf;redo 1;redo 4;records;save",
+    ),
+    "streams": Story(
+        SUM,
+        "instream(S), sum(S,0,R)",
+        "in 1 5;in 1 f([a|b]);undo 2;in 1 7;in 1 f(;end 1;in 1 9;records;save;show S;roll 1;goals;records",
+    ),
+    "words": Story(APPEND, "append([1],[2],R)", "nonsense;step 9.9;show Q;spy foo/1;spy append/3;nospy append/3;skip 9.9;goals;quit"),
+    "leap": Story(
+        SUM,
+        "instream(S), sum(S,0,R)",
+        "in 1 5;in 1 7;end 1;records;leap;records;leap;show R;goals",
+        told=(Told(5, 7, b"stopped quiet\n"), Told(5, 8, b"R = 12\n"), Told(5, 9, b"none\n")),
+    ),
+    "runs": Story(
+        APPEND,
+        "append([1,2],[3],R), append([4],[5],Q)",
+        "spy append/3;records;leap;records;nospy append/3;records;leap 2;records;skip 0.1;records;leap;records;leap;show R;show Q;goals",
+    ),
+    "rollback": Story(
+        SUM,
+        "instream(S), sum(S,0,R)",
+        "in 1 5;in 1 7;end 1;records;leap;records;leap;records;goals;shelf;save;show R;roll 1;goals;records;shelf;save;show R;"
+        "roll 1;goals;records;shelf;save;show R;in 1 9",
+        told=(Told(13, 21, b"none\n"), Told(13, 24, b"R = _0_2\n"), Told(19, 24, b"R = _0_2\n")),
+    ),
+    "long": Story(
+        APPEND,
+        LONG,
+        "records;leap;records;leap;records;goals;why 5;who Q;show Q;undo 9;roll 20;shelf;goals;roll 2;goals;redo 20;redo 2;records;save",
+    ),
+    "load_stream": Story(SUM, "instream(S), sum(S,0,R)", "goals;records;show R;in 1 3;roll 2;goals;in 1 4;shelf;redo 2;records;save", SUM_HISTORY),
+    "load": Story(APPEND, "append([1],[2],R)", "goals;records;show R;undo 2;records;leap;records;leap;show R;save", HISTORY),
+}
+
+
+class Trial(NamedTuple):
+    """Requests of a line that are refused."""
+
+    at: int
+    first: int
+    last: int
+
+
+class Judged(NamedTuple):
+    """What came of a trial."""
+
+    wrong: str | None
+    part: str | None
+
+
+class Case:
+    """A session with what it writes where no memory is refused: as it is, and without each of its lines."""
+
+    def __init__(self, name, story, folder):
+        self.name, self.story, self.lines = name, story, story.lines.split(";")
+        folder.mkdir()
+        (folder / "refuse.so").symlink_to(folder.parent / "refuse.so")
+        self.session = Session(folder, story.program, story.query, self.lines, story.history, story.options)
+        self.plain = self.session.play()
+        self.without = {}
+
+    def word(self, at):
+        return self.lines[at - 1].split()[0]
+
+    def trials(self):
+        """The trials of all lines, and of the start."""
+        for at, count in enumerate(self.plain.requests):
+            for first in range(1, count + 1, max(1, -(-count // MOST))):
+                yield Trial(at, first, first)
+                yield Trial(at, first, ALL_BEHIND)
+
+    def replies_without(self, at):
+        """The replies of the session without the line, with F1 in its place."""
+        if at not in self.without:
+            played = self.session.play(self.lines[: at - 1] + self.lines[at:])
+            self.without[at] = played.replies[:at] + [F1] + played.replies[at:]
+        return self.without[at]
+
+    def judge(self, trial):
+        """What is wrong where these requests are refused, if anything, and for which part the start found no memory."""
+        played = self.session.play(REFUSE_LINE=trial.at, REFUSE_FROM=trial.first, REFUSE_TO=trial.last)
+        part = part_of(played)
+        if trial.at == 0:
+            right = part is not None or outcome(played) == outcome(self.plain)
+        else:
+            right = outcome(played)[1:] == (b"", 0) and self.fits(trial.at, played.replies) and self.holds(trial.at, played.replies)
+        if right:
+            return Judged(None, part)
+        reply = b"".join(played.replies[trial.at : trial.at + 1])[-200:]
+        told = f"line {trial.at}, requests {trial.first} to {trial.last}: {played.status} {played.errors} {reply}"
+        return Judged(f"failed: {self.name}, {told}", part)
+
+    def holds(self, at, got):
+        """Whether what is told by hand is so."""
+        return all(got[told.behind].endswith(told.ends) for told in self.story.told if told.at == at)
+
+    def fits(self, at, got):
+        """Whether the replies fit a session whose line was refused memory."""
+        plain = self.plain.replies
+        if got == plain or got == self.replies_without(at):
+            return True
+        if self.word(at) in RUNS:
+            return self.fits_run(at, got)
+        return self.word(at) in CHANGES and got == plain[:at] + [front(plain[at]) + F1] + plain[at + 1 :]
+
+    def fits_run(self, at, got):
+        """Whether the replies fit a session whose run was refused memory."""
+        plain, told = self.plain.replies, got[at].splitlines(True)
+        return (
+            got[:at] == plain[:at]
+            and tells_steps(told, numbers(got[at + 1])[len(numbers(got[at - 1])) :])
+            and not any(b"memory" in reply for reply in got[at + 1 :])
+            and all(got[n] == plain[n] for n in self.shown())
+        )
+
+    def shown(self):
+        """The lines `show` and `goals` behind the last run, up to the next change."""
+        last_run = max(n for n in range(1, len(self.lines) + 1) if self.word(n) in RUNS)
+        behind = takewhile(lambda n: self.word(n) not in CHANGES, range(last_run + 1, len(self.lines) + 1))
+        return [n for n in behind if self.word(n) in SHOWN]
+
+
+def numbers(records):
+    """The numbers of the steps that the lines of `records` tell."""
+    return [int(number) for number in re.findall(rb"^([0-9]+) ", records, re.MULTILINE)]
+
+
+def tells_steps(told, steps):
+    """Whether the lines of a run tell just these steps, and then why it ended, with F1 in place of some of them."""
+    if len(told) != len(steps) + 1 or not (told[-1] == F1 or told[-1].startswith(b"stopped ")):
+        return False
+    return all(line == F1 or line.startswith(b"REDU %d " % step) for line, step in zip(told, steps))
+
+
+def front(reply):
+    """A reply without its lines SUSP and FAIL."""
+    return b"".join(line for line in reply.splitlines(True) if not line.startswith((b"SUSP", b"FAIL")))
+
+
+def outcome(played):
+    """What a session has written, and how it ended."""
+    return played.replies, played.errors, played.status
+
+
+def part_of(played):
+    """The part for which the program found no memory at its start, if it ended so."""
+    if b"".join(played.replies):
+        return None
+    if played.status == 2 and played.errors == b"error: out of memory\n":
+        return "words"
+    part = re.fullmatch(rb"(program|query|history|session): F1 no memory\n", played.errors)
+    return part[1].decode() if part and played.status == 1 else None
+
+
+def are_in_order(parts):
+    """Whether the start comes to its parts in their order: the words, the files, both texts, the checker and the first state, the
+    history, and the session. Some requests are refused without a sign."""
+    letters = "".join(part[0] for part in parts if part)
+    return bool(re.fullmatch("w+p+h*p*q+p+h*s", letters))
+
+
+def sweep(case, pool):
+    """Makes all trials of a session, and says how many things were right, and how many not."""
+    trials = list(case.trials())
+    judged = list(pool.map(case.judge, trials))
+    wrong = [found.wrong for found in judged if found.wrong]
+    print("".join(f"{line}\n" for line in wrong), end="")
+    starts = [found.part for trial, found in zip(trials, judged) if trial.at == 0 and trial.first == trial.last]
+    if case.plain.status == 0 and are_in_order(starts):
+        return len(judged) - len(wrong) + 1, len(wrong)
+    print(f"failed: {case.name} started in the order {starts}, and ended with {case.plain.status} {case.plain.errors}")
+    return len(judged) - len(wrong), len(wrong) + 1
+
+
+def unused_commands():
+    """The commands that no session uses."""
+    used = {line.split()[0] for story in STORIES.values() for line in story.lines.split(";")}
+    return set((TESTS.parent / "commands.txt").read_text().split()) - used
+
+
+def sweeps(folder):
+    """Makes all trials of the sessions whose names hold one of the words, and of all sessions where there is no word."""
+    started, totals, words = time.monotonic(), [0, 0], sys.argv[1:]
+    with ThreadPoolExecutor(os.cpu_count()) as pool:
+        for name, story in STORIES.items():
+            if not words or any(word in name for word in words):
+                totals = [a + b for a, b in zip(totals, sweep(Case(name, story, folder / name), pool))]
+    unused = unused_commands()
+    if unused:
+        print(f"failed: no session uses {sorted(unused)}")
+    print(f"sweep: {time.monotonic() - started:.0f} seconds")
+    return totals[0] + (not unused), totals[1] + bool(unused)
+
+
+if __name__ == "__main__":
+    sys.exit(tried("sweep", sweeps))
