@@ -32,11 +32,7 @@ fn propose_line(hand: Option<u32>, goal: Option<GoalName>, choice: Option<u32>) 
 }
 
 // The same by the clause, where there is one.
-fn propose_by_line(
-    hand: Option<u32>,
-    goal: Option<GoalName>,
-    clause: Option<u32>,
-) -> ScheduleLine
+fn propose_by_line(hand: Option<u32>, goal: Option<GoalName>, clause: Option<u32>) -> ScheduleLine
     ensures { result ≡ propose_by hand goal clause }
 {
     match clause {

@@ -9,9 +9,9 @@ ghost use Rattle.ghc_console.specs.ScheduleText.{ArePlayedOut, EndsSo, IsSchedul
 
 use crate::device::{Broken, Device, write_all};
 use crate::reply::records;
-use crate::text_rows::next_row;
 use crate::schedule_reply::{hear, push_reply};
 use crate::session_loop::cut_down;
+use crate::text_rows::next_row;
 use ghc_core::{Core, Reply, World};
 use ghc_term::Fault;
 use std::alloc::Global;

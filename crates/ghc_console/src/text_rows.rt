@@ -6,7 +6,7 @@ ghost use Rattle.ghc_console.specs.Lines.{lines_of};
 use crate::words::first;
 
 // The bytes without a carriage return at their end.
-fn without_return(bytes: &[u8]) -> &[u8]
+pub(crate) fn without_return(bytes: &[u8]) -> &[u8]
     ensures { result.now ≡ strip_last 13 bytes.now }
 {
     if bytes.last() == Some(&b'\r') {

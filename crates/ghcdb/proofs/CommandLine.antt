@@ -50,8 +50,7 @@ all_fit file query load schedule f q l s (suc (suc (suc (suc k)))) d lt = absurd
 differ : (id other : List ℕ) (a b : Arg) → a.id.now ≡ id → b.id.now ≡ other → (slice_index other 0 ≡ slice_index id 0 → ⊥) → bytes_eq a.id.now b.id.now ≡ true → ⊥
 differ id other a b is also never same = never (first_byte id a is other ((bytes_eq-Decides a.id.now b.id.now).0 same ∙ also))
 
-module _ (file query load schedule : Arg) (f : IsRequiredValue (codes "FILE") file) (q : IsRequiredValue (codes "query") query) (l : IsOptionalValue (codes "load") load)
-(s : IsOptionalValue (codes "schedule") schedule) where
+module _ (file query load schedule : Arg) (f : IsRequiredValue (codes "FILE") file) (q : IsRequiredValue (codes "query") query) (l : IsOptionalValue (codes "load") load) (s : IsOptionalValue (codes "schedule") schedule) where
   distinct : HasDistinctIds (file ∷ query ∷ load ∷ schedule ∷ [])
   distinct zero zero d e lt lt2 same = refl
   distinct zero (suc zero) d e lt lt2 same = absurd (differ (codes "FILE") (codes "query") file query f.id_is q.id_is (λ e. absurd (omega arith)) same)

@@ -3,3 +3,4 @@ mod CommandLine
 mod IsStarted
 mod Opened
 mod Tells
+mod Played

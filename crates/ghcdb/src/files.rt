@@ -48,8 +48,8 @@ fn read_named<R: Files + AllocGlobal>(
     name: Option<&str>,
     part: RefusedPart,
 ) -> Result<Option<Vec<u8>>, Refusal>
-    ensures read { IfOk result (λ text. is_some text ≡ is_some name) }
-    ensures refused { IfErr result (IsNotRead (is_some name) part) }
+    ensures read { IfOk result (λ text. is_some text ≡ is_some name.entry) }
+    ensures refused { IfErr result (IsNotRead (is_some name.entry) part) }
 {
     let Some(name) = name else {
         return Ok(None);

@@ -1,6 +1,5 @@
 // A schedule that is played, with its replies on the standard output.
-ghost use Rattle.std.specs.Prelude.{◌≡◌, ◌⊎◌, [], IfErr, OnErr};
-ghost use Rattle.ghc_term.specs.declared.fault.Fault.{Fault as fault_spec};
+ghost use Rattle.std.specs.Prelude.{◌≡◌, ◌⊎◌, ◌<◌, [], Err, IfErr};
 ghost use Rattle.ghc_console.specs.ScheduleText.{IsScheduleOf};
 
 use ghc_console::{Broken, Lines, schedule};
