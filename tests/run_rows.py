@@ -47,6 +47,8 @@ What it has to do:
     output contains    a text that stands in standard output, which may hold more; can be given more than once
     errors, errors contain      the same of standard error
     session            input and output in one: what stands behind `> ` is a line of input, all else is output
+    schedule           a schedule and output in one, in the same way: the lines are the file run.schedule, which is named behind
+                       the options
     status             the exit status, 0 where it is left out
 
 A table is a file NAME.table of many small rows on texts that are refused or accepted. Each of its lines is a row: KIND, a
@@ -80,7 +82,8 @@ PROMPT = b"> "
 PAGES = ("LANGUAGE.md", "FORMATS.md", "TUTORIAL.md")
 
 SINGLE = {
-    "program", "example", "file", "query", "options", "words", "input", "in turns", "left open", "session", "output", "errors", "status",
+    "program", "example", "file", "query", "options", "words", "input", "in turns", "left open", "session", "schedule", "output", "errors",
+    "status",
 }
 LISTED = {"output contains", "errors contain"}
 NAMED = {"file ", "to ", "errors to "}
@@ -158,6 +161,8 @@ def read_row(path):
         take_example(row)
     if "session" in row:
         split_session(row)
+    if "schedule" in row:
+        split_schedule(row)
     return row
 
 
@@ -274,6 +279,16 @@ def split_session(row):
             raise BadRow("a session begins with a line of input")
     row["input"] = b"".join(given for given, _ in row["turns"])
     row["output"] = b"".join(written for _, written in row["turns"])
+
+
+def split_schedule(row):
+    """Puts a file, the words that name it and output in the place of a schedule."""
+    if "output" in row:
+        raise BadRow("a schedule stands in the place of output")
+    lines = row.pop("schedule").splitlines(keepends=True)
+    row["file run.schedule"] = b"".join(line[len(PROMPT):] for line in lines if line.startswith(PROMPT))
+    row["output"] = b"".join(line for line in lines if not line.startswith(PROMPT))
+    row["options"] = row.get("options", b"") + b"--schedule\nrun.schedule\n"
 
 
 def words_of(row):

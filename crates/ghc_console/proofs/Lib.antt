@@ -1,6 +1,7 @@
 pub mod WriteLoop
 pub mod Rows
 pub mod ReadLoop
+mod CutRows
 pub mod WordLemmas
 pub mod TextBehind
 pub mod SessionLoop
@@ -17,3 +18,5 @@ pub mod Ordering
 pub mod Spying
 pub mod RunLines
 pub mod RunCommands
+mod ScheduleSaid
+mod SchedulePlays

@@ -14,4 +14,7 @@ pub mod Replies
 pub mod Answered
 pub mod Told
 pub mod Session
+pub mod ScheduleLines
+pub mod ScheduleReplies
+pub mod ScheduleText
 pub mod Firing

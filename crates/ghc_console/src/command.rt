@@ -256,7 +256,7 @@ fn of_line(alloc: Global, line: &[u8]) -> Result<LineCommand, AllocError>
     counted_command(alloc, name, behind)
 }
 
-fn is_plain(line: &[u8]) -> bool
+pub(crate) fn is_plain(line: &[u8]) -> bool
     ensures { result ≡ list_all is_printable line.now }
 {
     line.iter().all(|byte| *byte >= 32 && *byte <= 126)

@@ -33,7 +33,7 @@ fn write_numbers(numbers: &[u32], out: &mut String) -> Result<(), AllocError>
 }
 
 // The line of the steps that are undone.
-fn undone(numbers: &[u32], reply: &mut String) -> Result<(), AllocError>
+pub(crate) fn undone(numbers: &[u32], reply: &mut String) -> Result<(), AllocError>
     requires { string_bytes reply.old ≡ [] }
     ensures { OnOk result (string_bytes reply.new ≡ undone_text numbers.now) }
 {

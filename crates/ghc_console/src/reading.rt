@@ -6,6 +6,7 @@ ghost use Rattle.ghc_console.specs.Reading.{AsksAtNeed, CountsGiven, HasGathered
 
 use crate::device::{Broken, Device};
 use crate::line_buffer::{Gathered, LINE_LIMIT, State};
+use crate::text_rows::without_return;
 use crate::words::first;
 use std::alloc::Global;
 use std::marker::Model;
@@ -65,8 +66,9 @@ fn finish(gathered: Gathered, ended: bool) -> Option<Line>
             if !ended && bytes.is_empty() {
                 return None;
             }
-            if ended && bytes.last() == Some(&b'\r') {
-                let _ = bytes.pop();
+            if ended {
+                let length = without_return(bytes.as_slice()).len();
+                bytes.truncate(length);
             }
             if bytes.len() > LINE_LIMIT {
                 return Some(Line::TooLong);

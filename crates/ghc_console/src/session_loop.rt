@@ -24,7 +24,7 @@ use std::sync::Wait;
 const KEPT_REPLY: usize = 65_536;
 
 // Gives the memory of a large reply back.
-fn cut_down(alloc: Global, reply: &mut String) {
+pub(crate) fn cut_down(alloc: Global, reply: &mut String) {
     if reply.capacity() > KEPT_REPLY {
         *reply = String::new(alloc);
     }

@@ -5,3 +5,4 @@ mod IsStarted
 mod Opened
 mod Tells
 mod TextFront
+mod Played

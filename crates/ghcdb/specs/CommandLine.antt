@@ -34,19 +34,21 @@ pub record IsEmptyCommand (command : Command) : Type 0 where
   pub local : (out-Command command).has_globals ≡ false
   pub negates : (out-Command command).subcommand_negates_reqs ≡ false
 
--- the command that takes FILE and the query, and needs both, and may take a file to load
+-- the command that takes FILE and the query, and needs both, and may take a file to load and one of a schedule
 pub record IsGhcdb (command : Command) : Type 0 where
   pub start : Command
   pub file : Arg
   pub query : Arg
   pub load : Arg
+  pub schedule : Arg
   pub empty : IsEmptyCommand start
   pub file_is : IsRequiredValue (codes "FILE") file
   pub query_is : IsRequiredValue (codes "query") query
   pub load_is : IsOptionalValue (codes "load") load
-  pub chain : AddsInTurn AddsArg start (file ∷ query ∷ load ∷ []) command
+  pub schedule_is : IsOptionalValue (codes "schedule") schedule
+  pub chain : AddsInTurn AddsArg start (file ∷ query ∷ load ∷ schedule ∷ []) command
 
--- the options are the values that a parse of that command found for FILE, for the query, and for the file to load, if there is one
+-- the options are the values that a parse of that command found for FILE, for the query, and for the file to load and the schedule's, if there are such
 pub record IsGivenBy (words : List (List ℕ)) (options : Options) : Type 0 where
   pub command : Command
   pub matches : ArgMatches
@@ -56,3 +58,4 @@ pub record IsGivenBy (words : List (List ℕ)) (options : Options) : Type 0 wher
   pub file : first_value (found_of matches) (codes "FILE") ≡ Some options.file.now
   pub query : first_value (found_of matches) (codes "query") ≡ Some options.query.now
   pub load : first_value (found_of matches) (codes "load") ≡ option_map (λ name. name.now) options.load
+  pub schedule : first_value (found_of matches) (codes "schedule") ≡ option_map (λ name. name.now) options.schedule

@@ -14,11 +14,13 @@ const QUERY_HELP: &str = "The goals to start from, such as 'append([1],[2],R)'";
 
 const LOAD_HELP: &str = "A history to start from, as the command save writes it";
 
+const SCHEDULE_HELP: &str = "A schedule to play in place of a session";
+
 const AFTER_HELP: &str = "Example: ghcdb append.ghc --query 'append([1],[2],R)'
 
-The exit status is 0 at the end of the session; 1 where the program, the query
-or the history is refused, or no memory is left; 2 where the command line is refused;
-3 where a file cannot be read or a device fails.";
+The exit status is 0 at the end of the session or the schedule; 1 where the
+program, the query or the history is refused, or no memory is left; 2 where the
+command line is refused; 3 where a file cannot be read or a device fails.";
 
 fn file_argument<'a>(alloc: Global) -> Arg<'a>
     ensures { IsRequiredValue (codes "FILE") result }
@@ -52,6 +54,16 @@ fn load_argument<'a>(alloc: Global) -> Arg<'a>
         .help(LOAD_HELP)
 }
 
+fn schedule_argument<'a>(alloc: Global) -> Arg<'a>
+    ensures { IsOptionalValue (codes "schedule") result }
+{
+    Arg::new(alloc, "schedule")
+        .long("schedule")
+        .value_name("FILE")
+        .action(ArgAction::Set)
+        .help(SCHEDULE_HELP)
+}
+
 fn command<'a>(alloc: Global) -> Result<Command<'a>, AllocError>
     ensures { IfOk result IsGhcdb }
 {
@@ -60,7 +72,8 @@ fn command<'a>(alloc: Global) -> Result<Command<'a>, AllocError>
         .after_help(AFTER_HELP)
         .arg(file_argument(alloc))?
         .arg(query_argument(alloc))?
-        .arg(load_argument(alloc))?;
+        .arg(load_argument(alloc))?
+        .arg(schedule_argument(alloc))?;
     Ok(command)
 }
 
@@ -74,5 +87,11 @@ pub fn options<'a>(alloc: Global, words: &'a [String]) -> Result<Options<'a>, Er
     let file = matches.get_str("FILE").unwrap();
     let query = matches.get_str("query").unwrap();
     let load = matches.get_str("load");
-    Ok(Options { file, query, load })
+    let schedule = matches.get_str("schedule");
+    Ok(Options {
+        file,
+        query,
+        load,
+        schedule,
+    })
 }

@@ -12,6 +12,7 @@ use crate::command_line::options;
 use crate::console::run_console;
 use crate::files::{Texts, read_texts};
 use crate::opening::open;
+use crate::playing::play_schedule;
 use crate::refusal::{Refusal, push_line};
 use crate::refused_part::RefusedPart;
 use crate::settings::Options;
@@ -61,7 +62,7 @@ fn open_with(alloc: Global, texts: &Texts, options: Options<'_>) -> Result<Core,
     }
 }
 
-// Reads the files, all of them before anything is judged, starts, and runs the session.
+// Reads the files, all of them before anything is judged, starts, and plays the schedule or else runs the session.
 fn debug<R: Wait + Files + Input + Print + Eprint + AllocGlobal>(
     rt: &R,
     options: Options<'_>,
@@ -71,7 +72,10 @@ fn debug<R: Wait + Files + Input + Print + Eprint + AllocGlobal>(
         Err(refusal) => return tell(rt, &refusal),
     };
     match open_with(rt.alloc(), &texts, options) {
-        Ok(core) => run_session(rt, core),
+        Ok(core) => match &texts.schedule {
+            Some(schedule) => run_schedule(rt, core, schedule.as_slice()),
+            None => run_session(rt, core),
+        },
         Err(refusal) => tell(rt, &refusal),
     }
 }
@@ -82,6 +86,21 @@ fn run_session<R: Wait + Input + Print + Eprint + AllocGlobal>(rt: &R, core: Cor
         Ok(()) => Status::Done,
         Err(fault) => {
             let part = RefusedPart::Session;
+            tell(rt, &Refusal { part, fault })
+        }
+    }
+}
+
+// Plays the schedule on the core that was started.
+fn run_schedule<R: Input + Print + Eprint + AllocGlobal>(
+    rt: &R,
+    core: Core,
+    schedule: &[u8],
+) -> Status {
+    match play_schedule(rt, core, schedule) {
+        Ok(()) => Status::Done,
+        Err(fault) => {
+            let part = RefusedPart::Schedule;
             tell(rt, &Refusal { part, fault })
         }
     }

@@ -1,7 +1,7 @@
 // The files that the command line names.
 ghost use Rattle.ghcdb.specs.ProgramText.{most_read};
-ghost use Rattle.ghcdb.specs.Texts.{IsReadRefusal, HasHistory};
-ghost use Rattle.std.specs.Prelude.{◌≡◌, ◌≤◌, ◌⊎◌, IfErr, IfOk, Ok, false, is_ok, length};
+ghost use Rattle.ghcdb.specs.Texts.{IsNotRead, IsReadRefusal, HaveTexts};
+ghost use Rattle.std.specs.Prelude.{◌≡◌, ◌≤◌, ◌⊎◌, IfErr, IfOk, Ok, false, is_ok, is_some, length};
 ghost use Rattle.ghc_term.specs.declared.fault.Fault.{Fault};
 
 use crate::program_text::read_text;
@@ -49,12 +49,32 @@ pub struct Texts {
     pub program: Vec<u8>,
     /// The text of the history, where one is named.
     pub history: Option<Vec<u8>>,
+    /// The text of the schedule, where one is named.
+    pub schedule: Option<Vec<u8>>,
 }
 
-/// The texts of the files that the options name, all of them. The refusal is that of the first file that cannot be read, the
-/// program's before the history's.
+// The bytes of the file, where one is named. The refusal is told of this part.
+fn read_named<R: Files + AllocGlobal>(
+    rt: &R,
+    name: Option<&str>,
+    part: RefusedPart,
+) -> Result<Option<Vec<u8>>, Refusal>
+    ensures read { IfOk result (λ text. is_some text ≡ is_some name.entry) }
+    ensures refused { IfErr result (IsNotRead (is_some name.entry) part) }
+{
+    let Some(name) = name else {
+        return Ok(None);
+    };
+    match read_file(rt, name) {
+        Ok(text) => Ok(Some(text)),
+        Err(fault) => Err(Refusal { part, fault }),
+    }
+}
+
+/// The texts of the files that the options name, all of them. The refusal is that of the first file that cannot be read: the
+/// program's comes before the history's, and that before the schedule's.
 pub fn read_texts<R: Files + AllocGlobal>(rt: &R, options: Options<'_>) -> Result<Texts, Refusal>
-    ensures history { IfOk result (λ texts. HasHistory options.entry texts) }
+    ensures read { IfOk result (HaveTexts options.entry) }
     ensures refused { IfErr result (IsReadRefusal options.entry) }
 {
     let program = match received(read_program(rt, options.file)) {
@@ -64,18 +84,17 @@ pub fn read_texts<R: Files + AllocGlobal>(rt: &R, options: Options<'_>) -> Resul
             return Err(Refusal { part, fault });
         }
     };
-    let Some(name) = options.load else {
-        let history = None;
-        return Ok(Texts { program, history });
+    let history = match read_named(rt, options.load, RefusedPart::History) {
+        Ok(history) => history,
+        Err(refusal) => return Err(refusal),
     };
-    match read_file(rt, name) {
-        Ok(text) => {
-            let history = Some(text);
-            Ok(Texts { program, history })
-        }
-        Err(fault) => {
-            let part = RefusedPart::History;
-            Err(Refusal { part, fault })
-        }
-    }
+    let schedule = match read_named(rt, options.schedule, RefusedPart::Schedule) {
+        Ok(schedule) => schedule,
+        Err(refusal) => return Err(refusal),
+    };
+    Ok(Texts {
+        program,
+        history,
+        schedule,
+    })
 }

@@ -7,6 +7,7 @@ mod debugger;
 mod files;
 mod laws;
 mod opening;
+mod playing;
 mod program_text;
 mod refusal;
 mod refused_part;

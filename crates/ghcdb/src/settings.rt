@@ -9,4 +9,6 @@ pub struct Options<'a> {
     pub query: &'a str,
     /// The name of the file of the history from which the session starts, if one is named.
     pub load: Option<&'a str>,
+    /// The name of the file of the schedule that is played in place of a session, if one is named.
+    pub schedule: Option<&'a str>,
 }

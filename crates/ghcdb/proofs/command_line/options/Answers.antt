@@ -19,4 +19,5 @@ returns c = record {
   file = search rules;
   query = search rules;
   load = sym c.get_str-load.ensures;
+  schedule = sym c.get_str-schedule.ensures;
 }

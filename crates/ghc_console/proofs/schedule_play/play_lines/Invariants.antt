@@ -1,0 +1,14 @@
+use Rattle.std.proofs.Common.{◌≡◌, length}
+use Rattle.std.specs.Io.KnownBytes.{Keeps}
+use Rattle.ghc_console.specs.Lines.{lines_of}
+use Rattle.ghc_console.proofs.SchedulePlays.{Going}
+use Rattle.ghc_console.proofs.schedule_play.play_lines.Given as goal
+
+abbrev pub invariant-loop-line : goal.invariant-loop-line
+invariant-loop-line g l =
+    let d = g.D.Device in
+    Going l.initial.world l.world (lines_of l.lines) (lines_of l.rest) (d.written l.initial.device) (d.written l.device)
+    × Keeps (d.unread l.initial.device) (d.unread l.device) × (d.failures l.device ≡ d.failures l.initial.device)
+
+abbrev pub decreases-loop-line : goal.decreases-loop-line
+decreases-loop-line g l = length l.rest

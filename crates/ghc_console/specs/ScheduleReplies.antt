@@ -1,0 +1,87 @@
+-- The replies to the lines of a schedule.
+use Rattle.std.specs.Prelude.{◌≡◌, ◌<◌, ◌≤◌, ℕ, List, [], ◌++◌, length, Option, None, Some, codes}
+use Rattle.std.specs.Fmt.{decimal}
+use Rattle.ghc_term.specs.declared.fault.Fault.{Fault}
+use Rattle.ghc_term.specs.declared.limit.Limit.TheVariants as limit
+use Rattle.ghc_term.specs.Tree.{Tree}
+use Rattle.ghc_reader.specs.Tests.{a_term, IsRefusal}
+use Rattle.ghc_reader.specs.Read.{IsReadTerm}
+use Rattle.ghc_records.specs.StepText.{goal_name_text}
+use Rattle.ghc_core.specs.Events.{Event, command, input as give, Reply, held, stepped, noted, undone, arranged, refused}
+use Rattle.ghc_core.specs.EventCode.{event_of}
+use Rattle.ghc_core.specs.CommandCode.{command_of as core_command_of}
+use Rattle.ghc_core.specs.Meets.{Meets}
+use Rattle.ghc_core.specs.declared.world.World.{World as Played}
+use Rattle.ghc_console.specs.Commands.{command_of}
+use Rattle.ghc_console.specs.Reading.{line_limit}
+use Rattle.ghc_console.specs.TextLines.{lined, refusal}
+use Rattle.ghc_console.specs.Replies.{undone_text}
+use Rattle.ghc_console.specs.ScheduleLines.{schedule_line_of}
+use Rattle.ghc_console.specs.declared.command.LineCommand.{LineCommand}
+use Rattle.ghc_console.specs.declared.command.LineCommand.TheVariants.{Nothing as nothing, Step as step, Obey as obey, Show as show, Records as records, Goals as goals, Why as why, Who as who, Shelf as shelf, Save as save, Spy as spy, Unspy as unspy, Input as input, Leap as leap, Skip as skip, Quit as quit, Unknown as unknown}
+use Rattle.ghc_console.specs.declared.schedule_line.ScheduleLine.{ScheduleLine}
+use Rattle.ghc_console.specs.declared.schedule_line.ScheduleLine.TheVariants as line
+
+-- the line that tells a reply: `held W`, `step N`, `noted G`, `undone N,N`, `arranged`, or why the event is refused
+abbrev pub reply_text : Reply → List ℕ
+reply_text (held h) = lined (codes "held " ++ decimal h)
+reply_text (stepped n) = lined (codes "step " ++ decimal n)
+reply_text (noted g s) = lined (codes "noted " ++ goal_name_text g)
+reply_text (undone ns) = undone_text ns
+reply_text arranged = lined (codes "arranged")
+reply_text (refused f) = refusal f
+
+-- what is written for a line: the line of its reply, or nothing where it gets none
+abbrev pub told_text : Option Reply → List ℕ
+told_text None = []
+told_text (Some reply) = reply_text reply
+
+-- The line gets this refusal for a reply, and nothing changes.
+abbrev pub IsTurnedDown : Fault → Played → Option Reply → Played → Type 0
+IsTurnedDown f old reply new = (reply ≡ Some (refused f)) × (new ≡ old)
+
+-- The event is met by a core with hands, and the line gets the reply of the event.
+abbrev pub IsPlayed : Event → Played → Option Reply → Played → Type 0
+IsPlayed e old reply new = (told : Reply) × (reply ≡ Some told) × Meets old e told new
+
+-- IsGiven k given old reply new: a test of the reader refuses what is given, whatever stream k is; or it is read as a term, which the stream gets.
+pub data IsGiven (k : ℕ) (given : List ℕ) (old : Played) (reply : Option Reply) (new : Played) : Type 0 where
+  unread : (f : Fault) → IsRefusal a_term given f → IsTurnedDown f old reply new → IsGiven k given old reply new
+  reads : (u : Tree) → IsReadTerm given u → IsPlayed (command (give k u)) old reply new → IsGiven k given old reply new
+
+-- What a command of the console does in a schedule: those that the core obeys are events; the others are not known.
+abbrev pub CarriesOut : LineCommand → Played → Option Reply → Played → Type 0
+CarriesOut nothing old reply new = (reply ≡ None) × (new ≡ old)
+CarriesOut (obey c) old reply new = IsPlayed (command (core_command_of c)) old reply new
+CarriesOut (input k given) old reply new = IsGiven k given old reply new
+CarriesOut (step g choice) old reply new = IsTurnedDown Fault.Command old reply new
+CarriesOut (show word) old reply new = IsTurnedDown Fault.Command old reply new
+CarriesOut records old reply new = IsTurnedDown Fault.Command old reply new
+CarriesOut goals old reply new = IsTurnedDown Fault.Command old reply new
+CarriesOut (why n) old reply new = IsTurnedDown Fault.Command old reply new
+CarriesOut (who word) old reply new = IsTurnedDown Fault.Command old reply new
+CarriesOut shelf old reply new = IsTurnedDown Fault.Command old reply new
+CarriesOut save old reply new = IsTurnedDown Fault.Command old reply new
+CarriesOut (spy f n) old reply new = IsTurnedDown Fault.Command old reply new
+CarriesOut (unspy f n) old reply new = IsTurnedDown Fault.Command old reply new
+CarriesOut (leap limit) old reply new = IsTurnedDown Fault.Command old reply new
+CarriesOut (skip g) old reply new = IsTurnedDown Fault.Command old reply new
+CarriesOut quit old reply new = IsTurnedDown Fault.Command old reply new
+CarriesOut unknown old reply new = IsTurnedDown Fault.Command old reply new
+
+-- The same, or memory was refused for the command, which changes nothing.
+pub data IsCarriedOut (c : LineCommand) (old : Played) (reply : Option Reply) (new : Played) : Type 0 where
+  carries_out : CarriesOut c old reply new → IsCarriedOut c old reply new
+  starves : IsTurnedDown Fault.Memory old reply new → IsCarriedOut c old reply new
+
+-- What a line that says this does.
+abbrev pub IsDoneBy : List ℕ → ScheduleLine → Played → Option Reply → Played → Type 0
+IsDoneBy bytes line.Nothing old reply new = (reply ≡ None) × (new ≡ old)
+IsDoneBy bytes (line.Event e) old reply new = IsPlayed (event_of e) old reply new
+IsDoneBy bytes line.AsConsole old reply new = IsCarriedOut (command_of bytes) old reply new
+IsDoneBy bytes line.Unknown old reply new = IsTurnedDown Fault.Command old reply new
+
+-- Hears bytes old reply new: the line of these bytes gets the reply from a core with hands, or none where it has no words, and leaves the core and the hands so. A line past the limit is refused.
+pub data Hears (bytes : List ℕ) (old : Played) (reply : Option Reply) (new : Played) : Type 0 where
+  does : length bytes ≤ line_limit → IsDoneBy bytes (schedule_line_of bytes) old reply new → Hears bytes old reply new
+  too_long : line_limit < length bytes → IsTurnedDown (Fault.Limit limit.Line) old reply new → Hears bytes old reply new

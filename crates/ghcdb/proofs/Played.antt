@@ -1,0 +1,30 @@
+-- What was told of a schedule still stands where more of it is handed on.
+use Rattle.std.proofs.Common.{ℕ, List, [], Option, Result, Ok, Err, length, subst}
+use Rattle.std.proofs.Math.Seq.{take-length}
+use Rattle.std.specs.Io.KnownBytes.{Keeps}
+use Rattle.std.proofs.KnownBytes.{Appends-kept}
+use Rattle.ghc_term.specs.declared.fault.Fault.{Fault}
+use Rattle.ghc_core.specs.Core.{Core}
+use Rattle.ghc_core.specs.declared.world.World.{World as Played}
+use Rattle.ghc_console.specs.Replies.{records_text}
+use Rattle.ghc_console.specs.ScheduleText.{Begun, IsScheduleOf, Whole, part_of_records, then_begun, then_whole, told_at_end}
+
+-- A whole text begins itself.
+whole_begins : {old new : Played} {lines : List (List ℕ)} {out : List ℕ} → Whole old lines out new → Begun old lines out new
+whole_begins {new = new} told_at_end = let text = records_text new.core.world.kept in subst (λ t. Begun new [] t new) (take-length text) (part_of_records (length text))
+whole_begins (then_whole heard rest) = then_begun heard (whole_begins rest)
+
+-- Handing on writes nothing else.
+pub played_kept : (core left : Core) (text : List ℕ) (written now later : Option (List ℕ)) (result : Result Unit Fault) → IsScheduleOf core text written now left result → Keeps now later
+    → IsScheduleOf core text written later left result
+played_kept core left text written now later (Ok done) played kept = (played.0, played.1, (played.2.0, Appends-kept written now later played.2.0 played.2.1 kept, played.2.2))
+played_kept core left text written now later (Err f) played kept = (played.0, played.1, (played.2.0, Appends-kept written now later played.2.0 played.2.1 kept, played.2.2))
+
+abbrev pub broken_off : Fault → Result Unit Fault
+broken_off f = Err f
+
+-- It was broken off behind its end, or before.
+pub played_begun : (core left : Core) (text : List ℕ) (written now : Option (List ℕ)) (result : Result Unit Fault) (fault : Fault) → IsScheduleOf core text written now left result
+    → IsScheduleOf core text written now left (broken_off fault)
+played_begun core left text written now (Ok done) fault played = (played.0, played.1, (played.2.0, played.2.1, whole_begins played.2.2))
+played_begun core left text written now (Err f) fault played = played
