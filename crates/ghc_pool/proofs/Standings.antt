@@ -1,6 +1,6 @@
 -- What a goal is to a run, by its note, where no goal is untried.
 use Rattle.std.proofs.Common.{◌≡◌, Bool, true, false, refl, sym, ap, ◌∙◌, subst, inl, inr, Some, None}
-use Rattle.std.specs.Prelude.{Option, ◌≢◌, ◌⊎◌}
+use Rattle.std.specs.Prelude.{List, Option, ◌≢◌, ◌↔◌, ◌⊎◌}
 use Rattle.std.specs.FinMap as finite
 use Rattle.std.specs.FinSet as set
 use Rattle.ghc_term.specs.declared.goal_name.GoalName.{GoalName}
@@ -9,6 +9,7 @@ use Rattle.ghc_term.specs.Goal.{Goal}
 use Rattle.ghc_term.specs.Bindings.{IsAcyclic}
 use Rattle.ghc_term.specs.Sets.{Variables}
 use Rattle.ghc_term.specs.Store.{value_at}
+use Rattle.ghc_term.specs.Lists.{In}
 use Rattle.ghc_term.proofs.ListsLemmas.{not_both}
 use Rattle.ghc_flat.specs.Flat.{is_stream}
 use Rattle.ghc_fire.specs.Goals.{goal_cmp}
@@ -58,9 +59,13 @@ module _ (w : World) (notes : NotesByGoal) (untried : GoalNames) (acyclic : IsAc
   only g note s other k st = let n = stands_noted g s other st in ap (λ (z : Note). z.status) (same_value k n.1) ∙ n.2
 
   -- a goal that is ready or has failed does not wait by its note
-  pub unblocked : (root : Option GoalName) (g : GoalName) → IsReady root w g ⊎ HasFailed root w g → IsUnblocked notes g
+  unblocked : (root : Option GoalName) (g : GoalName) → IsReady root w g ⊎ HasFailed root w g → IsUnblocked notes g
   unblocked root g (inl r) = let n = stands_noted g ready (λ e. cc) r.1 in (n.0, n.1, λ xs e. let clash : waiting xs ≡ ready = sym e ∙ n.2 in cc)
   unblocked root g (inr f) = let n = stands_noted g (failed f.1.0) (λ e. cc) f.1.1 in (n.0, n.1, λ xs e. let clash : waiting xs ≡ failed f.1.0 = sym e ∙ n.2 in cc)
+
+  -- so it is among the goals that by their notes do not wait, as they are lent
+  pub are_met : (root : Option GoalName) (names lent : List GoalName) → lent ≡ names → ((g : GoalName) → In g names ↔ IsUnblocked notes g) → (g : GoalName) → IsReady root w g ⊎ HasFailed root w g → In g lent
+  are_met root names lent is all g k = subst (In g) (sym is) ((all g).1 (unblocked root g k))
 
   pub idle_without : (root : Option GoalName) (g : GoalName) → finite.get notes g ≡ None → StandsTo root w g idle
   idle_without root g none = (

@@ -46,11 +46,18 @@ fn standing_of(core: &Core, root: Option<GoalName>, goal: GoalName) -> Standing
     Standing::Idle
 }
 
+// A copy of the names, in memory of its own.
+fn copy_of(alloc: Global, names: &[GoalName]) -> Result<Vec<GoalName>, AllocError>
+    ensures { IfOk result (λ copy. copy.items ≡ names.now) }
+{
+    names.to_vec(alloc)
+}
+
 // The goals that by their notes do not wait, by step, then place.
 fn unblocked_by_name(core: &Core, alloc: Global) -> Result<Vec<GoalName>, AllocError>
     ensures { IfOk result (λ names. (g : goal_name) → In g names.items ↔ IsUnblocked core.now.notes g) }
 {
-    let mut names = core.tries().unblocked().to_vec(alloc)?;
+    let mut names = copy_of(alloc, core.tries().unblocked())?;
     names.sort_unstable();
     Ok(names)
 }

@@ -1,10 +1,8 @@
-use Rattle.std.proofs.Common.{sym, subst, ap, ◌∙◌}
-use Rattle.std.specs.FinMap as finite
+use Rattle.std.proofs.Common.{sym, subst, ◌∙◌}
 use Rattle.ghc_term.specs.declared.goal_name.GoalName.{GoalName}
 use Rattle.ghc_term.specs.Lists.{In}
-use Rattle.ghc_trace.specs.GoalLinesCode.{lent}
 use Rattle.ghc_pool.specs.Runs.{starved, is_full}
-use Rattle.ghc_pool.proofs.Standings.{none_untried}
+use Rattle.ghc_pool.proofs.Standings.{none_untried, are_met}
 use Rattle.ghc_pool.proofs.Surveyed.{no_stop, goes_on, spied_holds, quiet_holds, stopped_holds, some_member, empty_is, empty_not}
 use Rattle.ghc_pool.proofs.Taking.{not_full}
 use Rattle.ghc_pool.proofs.survey.survey.Goals as goal
@@ -18,38 +16,32 @@ returns-in-Err-clause-stop c limit taken =
 
 pub returns-in-Some-clause-stop : goal.returns-in-Some-clause-stop
 returns-in-Some-clause-stop c limit taken =
-    let w = c.args.core.now.world in
-    let g = c.in-Some.goal in
-    let ready = c.in-Ok-ready_ones.ready.items in
-    let goals = c.in-Ok-unblocked_by_name.goals.items in
-    let among = λ (g : GoalName) (k : IsReady c.args.root w g ⊎ HasFailed c.args.root w g). (c.in-Ok-unblocked_by_name.ensures g).1 (unblocked w c.args.core.now.notes c.args.core.now.untried c.stands.ensures.orderly.acyclic c.stands.ensures.exact c.requires c.args.root g k) in
+    let core = c.args.core.now in
+    let among = are_met core.world core.notes core.untried c.stands.ensures.orderly.acyclic c.stands.ensures.exact c.requires c.args.root c.in-Ok.goals.items c.deref.result.now c.deref.ensures.value c.in-Ok.ensures in
     let found = c.in-Some.ensures.some in
-    spied_holds c.args.spies.now c.args.root w (lent c.in-Ok.goals.entries) all ready c.in-Ok-ready_ones.ensures.listed (Unit {0}) limit taken c.args.core.now.notes g (subst (In g) c.deref.ensures.value found.0) found.1
+    spied_holds c.args.spies.now c.args.root core.world c.deref.result.now among c.in-Ok-ready_ones.ready.items c.in-Ok-ready_ones.ensures.listed (Unit {0}) limit taken core.notes c.in-Some.goal (subst (In c.in-Some.goal) c.deref-2.ensures.value found.0) found.1
 
 pub returns-then-is_full-clause-stop : goal.returns-then-is_full-clause-stop
 returns-then-is_full-clause-stop c limit taken =
-    let w = c.args.core.now.world in
+    let core = c.args.core.now in
     let ready = c.in-Ok-ready_ones.ready.items in
-    let goals = c.in-Ok-unblocked_by_name.goals.items in
-    let among = λ (g : GoalName) (k : IsReady c.args.root w g ⊎ HasFailed c.args.root w g). (c.in-Ok-unblocked_by_name.ensures g).1 (unblocked w c.args.core.now.notes c.args.core.now.untried c.stands.ensures.orderly.acyclic c.stands.ensures.exact c.requires c.args.root g k) in
-    let unspied = λ (g : GoalName) (i : In g ready). c.in_default-first_spied.ensures.none g (subst (In g) (sym c.deref.ensures.value) i) in
-    is_full (no_stop c.args.spies.now c.args.root w (lent c.in-Ok.goals.entries) all ready c.in-Ok-ready_ones.ensures.listed unspied) (c.is_full.ensures.full c.if-is_full.true)
+    let among = are_met core.world core.notes core.untried c.stands.ensures.orderly.acyclic c.stands.ensures.exact c.requires c.args.root c.in-Ok.goals.items c.deref.result.now c.deref.ensures.value c.in-Ok.ensures in
+    let unspied = λ (g : GoalName) (i : In g ready). c.in_default-first_spied.ensures.none g (subst (In g) (sym c.deref-2.ensures.value) i) in
+    is_full (no_stop c.args.spies.now c.args.root core.world c.deref.result.now among ready c.in-Ok-ready_ones.ensures.listed unspied) (c.is_full.ensures.full c.if-is_full.true)
 
 pub returns-then-is_empty-clause-stop : goal.returns-then-is_empty-clause-stop
 returns-then-is_empty-clause-stop c limit taken =
     let core = c.args.core.now in
     let ready = c.in-Ok-ready_ones.ready.items in
-    let goals = c.in-Ok-unblocked_by_name.goals.items in
-    let among = λ (g : GoalName) (k : IsReady c.args.root w g ⊎ HasFailed c.args.root w g). (c.in-Ok-unblocked_by_name.ensures g).1 (unblocked w c.args.core.now.notes c.args.core.now.untried c.stands.ensures.orderly.acyclic c.stands.ensures.exact c.requires c.args.root g k) in
-    quiet_holds c.args.spies.now c.args.root core.world (lent c.in-Ok.goals.entries) all ready c.in-Ok-ready_ones.ensures.listed (Unit {0}) limit taken core.notes
+    let among = are_met core.world core.notes core.untried c.stands.ensures.orderly.acyclic c.stands.ensures.exact c.requires c.args.root c.in-Ok.goals.items c.deref.result.now c.deref.ensures.value c.in-Ok.ensures in
+    quiet_holds c.args.spies.now c.args.root core.world c.deref.result.now among ready c.in-Ok-ready_ones.ensures.listed (Unit {0}) limit taken core.notes
     (none_untried core.world core.notes core.untried c.stands.ensures.orderly.acyclic c.stands.ensures.exact c.requires) (not_full core.world (c.is_full.ensures.room c.if-is_full.false)) (empty_is ready _ c.in-Ok-ready_ones.ready.ok.0 (sym c.is_empty.ensures ∙ c.if-is_empty.true))
 
 pub returns-clause-ready : goal.returns-clause-ready
 returns-clause-ready c =
-    let w = c.args.core.now.world in
+    let core = c.args.core.now in
     let ready = c.in-Ok-ready_ones.ready.items in
-    let goals = c.in-Ok-unblocked_by_name.goals.items in
-    let among = λ (g : GoalName) (k : IsReady c.args.root w g ⊎ HasFailed c.args.root w g). (c.in-Ok-unblocked_by_name.ensures g).1 (unblocked w c.args.core.now.notes c.args.core.now.untried c.stands.ensures.orderly.acyclic c.stands.ensures.exact c.requires c.args.root g k) in
-    let unspied = λ (g : GoalName) (i : In g ready). c.in_default-first_spied.ensures.none g (subst (In g) (sym c.deref.ensures.value) i) in
+    let among = are_met core.world core.notes core.untried c.stands.ensures.orderly.acyclic c.stands.ensures.exact c.requires c.args.root c.in-Ok.goals.items c.deref.result.now c.deref.ensures.value c.in-Ok.ensures in
+    let unspied = λ (g : GoalName) (i : In g ready). c.in_default-first_spied.ensures.none g (subst (In g) (sym c.deref-2.ensures.value) i) in
     let one = some_member ready (empty_not ready _ c.in-Ok-ready_ones.ready.ok.0 (sym c.is_empty.ensures ∙ c.if-is_empty.false)) in
-    goes_on c.args.spies.now c.args.root w (lent c.in-Ok.goals.entries) all ready c.in-Ok-ready_ones.ensures.listed unspied (not_full w (c.is_full.ensures.room c.if-is_full.false)) one.0 one.1
+    goes_on c.args.spies.now c.args.root core.world c.deref.result.now among ready c.in-Ok-ready_ones.ensures.listed unspied (not_full core.world (c.is_full.ensures.room c.if-is_full.false)) one.0 one.1
