@@ -15,7 +15,7 @@ from pathlib import Path
 from typing import NamedTuple
 
 TESTS = Path(__file__).resolve().parent
-PROGRAM = os.environ.get("GHCDB") or TESTS.parent / "crates" / "ghcdb" / "out" / "ghcdb"
+PROGRAM = os.path.abspath(os.environ.get("GHCDB") or TESTS.parent / "crates" / "ghcdb" / "out" / "ghcdb")
 SECONDS = 60
 LAST_LINE = 4094
 
