@@ -6,14 +6,15 @@ use Rattle.ghc_term.specs.declared.fault.Fault.{Fault}
 use Rattle.ghc_core.specs.Core.{Core}
 use Rattle.ghc_core.specs.Events.{Reply}
 use Rattle.ghc_core.specs.declared.world.World.{World as Played}
+use Rattle.ghc_console.specs.Device.{WritesFront}
 use Rattle.ghc_console.specs.Replies.{records_text}
 use Rattle.ghc_console.specs.ScheduleReplies.{Hears, told_text}
-use Rattle.ghc_console.specs.ScheduleText.{ArePlayedOut, Begun, Whole, WritesInFull, WritesSchedule, nothing_more, part_of_records, part_of_reply, then_begun, then_whole, told_at_end}
+use Rattle.ghc_console.specs.ScheduleText.{ArePlayedOut, BrokenOff, Schedule, WritesSchedule, nothing_more, part_of_records, part_of_reply, then_begun, then_whole, told_at_end}
 
 -- what the rest gives, behind what was done, is what the whole gives
 pub record Onward (first now : Played) (all rest : List (List ℕ)) (done : List ℕ) : Type 0 where
-  pub whole : (out : List ℕ) (new : Played) → Whole now rest out new → Whole first all (done ++ out) new
-  pub begun : (out : List ℕ) (new : Played) → Begun now rest out new → Begun first all (done ++ out) new
+  pub whole : (out : List ℕ) (new : Played) → Schedule now rest out new → Schedule first all (done ++ out) new
+  pub begun : (out : List ℕ) (new : Played) → BrokenOff now rest out new → BrokenOff first all (done ++ out) new
 
 -- the lines in front of the rest were played, and their replies written
 pub record Going (first now : Played) (all rest : List (List ℕ)) (written held : Option (List ℕ)) : Type 0 where
@@ -32,27 +33,27 @@ going_on first now next all lines rest bytes reply written held held' g is heard
       done = g.done ++ text;
       appended = Appends-trans written held held' g.done text g.appended told;
       onward = record {
-        whole = λ out new r. subst (λ t. Whole first all t new) (sym (append_assoc g.done text out)) (g.onward.whole (text ++ out) new (subst (λ l. Whole now l (text ++ out) new) (sym is) (then_whole heard r)));
-        begun = λ out new r. subst (λ t. Begun first all t new) (sym (append_assoc g.done text out)) (g.onward.begun (text ++ out) new (subst (λ l. Begun now l (text ++ out) new) (sym is) (then_begun heard r)));
+        whole = λ out new r. subst (λ t. Schedule first all t new) (sym (append_assoc g.done text out)) (g.onward.whole (text ++ out) new (subst (λ l. Schedule now l (text ++ out) new) (sym is) (then_whole heard r)));
+        begun = λ out new r. subst (λ t. BrokenOff first all t new) (sym (append_assoc g.done text out)) (g.onward.begun (text ++ out) new (subst (λ l. BrokenOff now l (text ++ out) new) (sym is) (then_begun heard r)));
       };
     }
 
 -- it was broken off in a reply
 pub going_broken : (first now next : Played) (all lines rest : List (List ℕ)) (bytes : List ℕ) (reply : Option Reply) (written held held' : Option (List ℕ)) (n : ℕ)
     → Going first now all lines written held → lines ≡ bytes ∷ rest → Hears bytes now reply next → Appends held held' (take n (told_text reply))
-    → WritesSchedule Begun first all written held' next
+    → WritesSchedule BrokenOff first all written held' next
 going_broken first now next all lines rest bytes reply written held held' n g is heard told =
     let text = take n (told_text reply) in
-    (g.done ++ text, Appends-trans written held held' g.done text g.appended told, g.onward.begun text next (subst (λ l. Begun now l text next) (sym is) (part_of_reply n heard)))
+    (g.done ++ text, Appends-trans written held held' g.done text g.appended told, g.onward.begun text next (subst (λ l. BrokenOff now l text next) (sym is) (part_of_reply n heard)))
 
 -- the records stand behind the last line, or a beginning of them
 pub going_last : (first now : Played) (all lines : List (List ℕ)) (written held held' : Option (List ℕ)) (core : Core) (result : Result Unit Fault)
-    → Going first now all lines written held → lines ≡ [] → core ≡ now.core → WritesInFull held held' (records_text core.world.kept) result → ArePlayedOut first all written held' now result
+    → Going first now all lines written held → lines ≡ [] → core ≡ now.core → WritesFront held held' result (records_text core.world.kept) → ArePlayedOut first all written held' now result
 going_last first now all lines written held held' core (Ok done) g is same told =
     let text = records_text now.core.world.kept in
     let there = subst (λ (c : Core). Appends held held' (records_text c.world.kept)) same told in
-    (g.done ++ text, Appends-trans written held held' g.done text g.appended there, g.onward.whole text now (subst (λ l. Whole now l text now) (sym is) told_at_end))
+    (g.done ++ text, Appends-trans written held held' g.done text g.appended there, g.onward.whole text now (subst (λ l. Schedule now l text now) (sym is) told_at_end))
 going_last first now all lines written held held' core (Err f) g is same told =
     let text = take told.0 (records_text now.core.world.kept) in
     let there = subst (λ (c : Core). Appends held held' (take told.0 (records_text c.world.kept))) same told.1 in
-    (g.done ++ text, Appends-trans written held held' g.done text g.appended there, g.onward.begun text now (subst (λ l. Begun now l text now) (sym is) (part_of_records told.0)))
+    (g.done ++ text, Appends-trans written held held' g.done text g.appended there, g.onward.begun text now (subst (λ l. BrokenOff now l text now) (sym is) (part_of_records told.0)))

@@ -9,16 +9,16 @@ use Rattle.ghc_core.specs.declared.reply.Reply.{Reply}
 use Rattle.ghc_core.specs.declared.reply.Reply.TheVariants.{Refused}
 use Rattle.ghc_core.specs.declared.world.World.{World as Played}
 use Rattle.ghc_console.specs.declared.command.LineCommand.TheVariants.{Input as input}
+use Rattle.ghc_console.specs.Device.{WritesFront}
 use Rattle.ghc_console.specs.TextLines.{refusal}
-use Rattle.ghc_console.specs.ScheduleReplies.{IsCarriedOut, carries_out, reply_text, starves, unread}
-use Rattle.ghc_console.specs.ScheduleText.{WritesInFull}
+use Rattle.ghc_console.specs.ScheduleReplies.{IsCommandPlayed, plays, reply_text, starves, unread}
 
 -- A text that the reader refuses is given to no stream.
-pub given_refused : (old : Played) (k : ℕ) (given : List ℕ) (f : Fault) → (f ≡ fault.Memory) ⊎ IsRefusal a_term given f → IsCarriedOut (input k given) old (Some (refused f)) old
+pub given_refused : (old : Played) (k : ℕ) (given : List ℕ) (f : Fault) → (f ≡ fault.Memory) ⊎ IsRefusal a_term given f → IsCommandPlayed (input k given) old (Some (refused f)) old
 given_refused old k given f (inl m) = starves (ap (λ e. Some (refused e)) m, refl)
-given_refused old k given f (inr r) = carries_out (unread f r (refl, refl))
+given_refused old k given f (inr r) = plays (unread f r (refl, refl))
 
 -- The line of want of memory is written without any.
 pub starving_told : {E : Type 0} (written now : Option (List ℕ)) (result : Result Unit E) (reply : Reply) (f : Fault) → reply ≡ Refused f → f ≡ fault.Memory
-    → WritesInFull written now (codes "F1 no memory\n") result → WritesInFull written now (reply_text (reply_of reply)) result
-starving_told written now result reply f is memory told = subst (λ text. WritesInFull written now text result) (sym (ap (λ r. reply_text (reply_of r)) is ∙ ap refusal memory)) told
+    → WritesFront written now result (codes "F1 no memory\n") → WritesFront written now result (reply_text (reply_of reply))
+starving_told written now result reply f is memory told = subst (WritesFront written now result) (sym (ap (λ r. reply_text (reply_of r)) is ∙ ap refusal memory)) told

@@ -50,35 +50,35 @@ pub data IsGiven (k : ℕ) (given : List ℕ) (old : Played) (reply : Option Rep
   reads : (u : Tree) → IsReadTerm given u → IsPlayed (command (give k u)) old reply new → IsGiven k given old reply new
 
 -- What a command of the console does in a schedule: those that the core obeys are events; the others are not known.
-abbrev pub CarriesOut : LineCommand → Played → Option Reply → Played → Type 0
-CarriesOut nothing old reply new = (reply ≡ None) × (new ≡ old)
-CarriesOut (obey c) old reply new = IsPlayed (command (core_command_of c)) old reply new
-CarriesOut (input k given) old reply new = IsGiven k given old reply new
-CarriesOut (step g choice) old reply new = IsTurnedDown Fault.Command old reply new
-CarriesOut (show word) old reply new = IsTurnedDown Fault.Command old reply new
-CarriesOut records old reply new = IsTurnedDown Fault.Command old reply new
-CarriesOut goals old reply new = IsTurnedDown Fault.Command old reply new
-CarriesOut (why n) old reply new = IsTurnedDown Fault.Command old reply new
-CarriesOut (who word) old reply new = IsTurnedDown Fault.Command old reply new
-CarriesOut shelf old reply new = IsTurnedDown Fault.Command old reply new
-CarriesOut save old reply new = IsTurnedDown Fault.Command old reply new
-CarriesOut (spy f n) old reply new = IsTurnedDown Fault.Command old reply new
-CarriesOut (unspy f n) old reply new = IsTurnedDown Fault.Command old reply new
-CarriesOut (leap limit) old reply new = IsTurnedDown Fault.Command old reply new
-CarriesOut (skip g) old reply new = IsTurnedDown Fault.Command old reply new
-CarriesOut quit old reply new = IsTurnedDown Fault.Command old reply new
-CarriesOut unknown old reply new = IsTurnedDown Fault.Command old reply new
+abbrev pub PlaysCommand : LineCommand → Played → Option Reply → Played → Type 0
+PlaysCommand nothing old reply new = (reply ≡ None) × (new ≡ old)
+PlaysCommand (obey c) old reply new = IsPlayed (command (core_command_of c)) old reply new
+PlaysCommand (input k given) old reply new = IsGiven k given old reply new
+PlaysCommand (step g choice) old reply new = IsTurnedDown Fault.Command old reply new
+PlaysCommand (show word) old reply new = IsTurnedDown Fault.Command old reply new
+PlaysCommand records old reply new = IsTurnedDown Fault.Command old reply new
+PlaysCommand goals old reply new = IsTurnedDown Fault.Command old reply new
+PlaysCommand (why n) old reply new = IsTurnedDown Fault.Command old reply new
+PlaysCommand (who word) old reply new = IsTurnedDown Fault.Command old reply new
+PlaysCommand shelf old reply new = IsTurnedDown Fault.Command old reply new
+PlaysCommand save old reply new = IsTurnedDown Fault.Command old reply new
+PlaysCommand (spy f n) old reply new = IsTurnedDown Fault.Command old reply new
+PlaysCommand (unspy f n) old reply new = IsTurnedDown Fault.Command old reply new
+PlaysCommand (leap limit) old reply new = IsTurnedDown Fault.Command old reply new
+PlaysCommand (skip g) old reply new = IsTurnedDown Fault.Command old reply new
+PlaysCommand quit old reply new = IsTurnedDown Fault.Command old reply new
+PlaysCommand unknown old reply new = IsTurnedDown Fault.Command old reply new
 
 -- The same, or memory was refused for the command, which changes nothing.
-pub data IsCarriedOut (c : LineCommand) (old : Played) (reply : Option Reply) (new : Played) : Type 0 where
-  carries_out : CarriesOut c old reply new → IsCarriedOut c old reply new
-  starves : IsTurnedDown Fault.Memory old reply new → IsCarriedOut c old reply new
+pub data IsCommandPlayed (c : LineCommand) (old : Played) (reply : Option Reply) (new : Played) : Type 0 where
+  plays : PlaysCommand c old reply new → IsCommandPlayed c old reply new
+  starves : IsTurnedDown Fault.Memory old reply new → IsCommandPlayed c old reply new
 
 -- What a line that says this does.
 abbrev pub IsDoneBy : List ℕ → ScheduleLine → Played → Option Reply → Played → Type 0
 IsDoneBy bytes line.Nothing old reply new = (reply ≡ None) × (new ≡ old)
 IsDoneBy bytes (line.Event e) old reply new = IsPlayed (event_of e) old reply new
-IsDoneBy bytes line.AsConsole old reply new = IsCarriedOut (command_of bytes) old reply new
+IsDoneBy bytes line.AsConsole old reply new = IsCommandPlayed (command_of bytes) old reply new
 IsDoneBy bytes line.Unknown old reply new = IsTurnedDown Fault.Command old reply new
 
 -- Hears bytes old reply new: the line of these bytes gets the reply from a core with hands, or none where it has no words, and leaves the core and the hands so. A line past the limit is refused.

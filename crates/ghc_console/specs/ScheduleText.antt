@@ -6,6 +6,7 @@ use Rattle.ghc_core.specs.Core.{Core}
 use Rattle.ghc_core.specs.Events.{Reply}
 use Rattle.ghc_core.specs.Playing.{empty_hands}
 use Rattle.ghc_core.specs.declared.world.World.{World as Played}
+use Rattle.ghc_console.specs.Device.{WritesFront}
 use Rattle.ghc_console.specs.Lines.{lines_of}
 use Rattle.ghc_console.specs.Replies.{records_text}
 use Rattle.ghc_console.specs.ScheduleReplies.{Hears, told_text}
@@ -18,28 +19,28 @@ hand_count = 64
 abbrev pub with_hands : Core → Played
 with_hands core = record { core = core; hands = empty_hands hand_count; meter = record { firings = 0; tries = 0 } }
 
--- Whole old lines out new: out are the replies to the lines, in order, from the core and the hands of old on, and behind them the records; they leave the core and the hands of new.
-pub data Whole : Played → List (List ℕ) → List ℕ → Played → Type 0 where
-  told_at_end : {new : Played} → Whole new [] (records_text new.core.world.kept) new
+-- Schedule old lines out new: out are the replies to the lines, in order, from the core and the hands of old on, and behind them the records; they leave the core and the hands of new.
+pub data Schedule : Played → List (List ℕ) → List ℕ → Played → Type 0 where
+  told_at_end : {new : Played} → Schedule new [] (records_text new.core.world.kept) new
   then_whole :
       {old mid new : Played} {bytes rest : List ℕ} {lines : List (List ℕ)} {reply : Option Reply}
       → Hears bytes old reply mid
-      → Whole mid lines rest new
-      → Whole old (bytes ∷ lines) (told_text reply ++ rest) new
+      → Schedule mid lines rest new
+      → Schedule old (bytes ∷ lines) (told_text reply ++ rest) new
 
--- Begun old lines out new: the same of a schedule that was broken off: of the last reply, or of the records, a beginning was written.
-pub data Begun : Played → List (List ℕ) → List ℕ → Played → Type 0 where
-  nothing_more : {new : Played} {lines : List (List ℕ)} → Begun new lines [] new
-  part_of_records : {new : Played} (n : ℕ) → Begun new [] (take n (records_text new.core.world.kept)) new
+-- BrokenOff old lines out new: the same of a schedule that was broken off: of the last reply, or of the records, a beginning was written.
+pub data BrokenOff : Played → List (List ℕ) → List ℕ → Played → Type 0 where
+  nothing_more : {new : Played} {lines : List (List ℕ)} → BrokenOff new lines [] new
+  part_of_records : {new : Played} (n : ℕ) → BrokenOff new [] (take n (records_text new.core.world.kept)) new
   part_of_reply :
       {old new : Played} {bytes : List ℕ} {lines : List (List ℕ)} {reply : Option Reply} (n : ℕ)
       → Hears bytes old reply new
-      → Begun old (bytes ∷ lines) (take n (told_text reply)) new
+      → BrokenOff old (bytes ∷ lines) (take n (told_text reply)) new
   then_begun :
       {old mid new : Played} {bytes rest : List ℕ} {lines : List (List ℕ)} {reply : Option Reply}
       → Hears bytes old reply mid
-      → Begun mid lines rest new
-      → Begun old (bytes ∷ lines) (told_text reply ++ rest) new
+      → BrokenOff mid lines rest new
+      → BrokenOff old (bytes ∷ lines) (told_text reply ++ rest) new
 
 -- What was written is that of such a schedule, which leaves the core and the hands of new.
 abbrev pub WritesSchedule : (Played → List (List ℕ) → List ℕ → Played → Type 0) → Played → List (List ℕ) → Option (List ℕ) → Option (List ℕ) → Played → Type 0
@@ -47,21 +48,17 @@ WritesSchedule Run old lines written now new = (out : List ℕ) × Appends writt
 
 -- The lines were played, to the end where the result is no error.
 abbrev pub ArePlayedOut : {E : Type 0} → Played → List (List ℕ) → Option (List ℕ) → Option (List ℕ) → Played → Result Unit E → Type 0
-ArePlayedOut old lines written now new result = MatchResult result (λ _. WritesSchedule Whole old lines written now new) (λ _. WritesSchedule Begun old lines written now new)
+ArePlayedOut old lines written now new result = MatchResult result (λ _. WritesSchedule Schedule old lines written now new) (λ _. WritesSchedule BrokenOff old lines written now new)
 
 -- IsScheduleOf core text written now left result: what was written are the replies to the lines of the text, by 64 hands that hold nothing at first, and then the records; or a beginning of that where it was broken off. The core is left so.
 abbrev pub IsScheduleOf : {E : Type 0} → Core → List ℕ → Option (List ℕ) → Option (List ℕ) → Core → Result Unit E → Type 0
 IsScheduleOf core text written now left result = (new : Played) × (new.core ≡ left) × ArePlayedOut (with_hands core) (lines_of text) written now new result
 
--- All the bytes were written, or a beginning of them where it was broken off.
-abbrev pub WritesInFull : {E : Type 0} → Option (List ℕ) → Option (List ℕ) → List ℕ → Result Unit E → Type 0
-WritesInFull written now bytes result = MatchResult result (λ _. Appends written now bytes) (λ _. (n : ℕ) × Appends written now (take n bytes))
-
 -- One line was played: the line of its reply was written, or a beginning of it where it was broken off.
 pub record PlaysLine {E : Type 0} (bytes : List ℕ) (old new : Played) (written now : Option (List ℕ)) (result : Result Unit E) : Type 0 where
   pub reply : Option Reply
   pub heard : Hears bytes old reply new
-  pub told : WritesInFull written now (told_text reply) result
+  pub told : WritesFront written now result (told_text reply)
 
 -- It ends without an error and with no failure of the device; or for want of memory, with none; or with one, which is the error then.
 abbrev pub EndsSo : ℕ → ℕ → Result Unit Fault → Type 0

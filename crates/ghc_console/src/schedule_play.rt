@@ -2,10 +2,11 @@
 ghost use Rattle.std.specs.Prelude.{◌≡◌, Some, MatchResult};
 ghost use Rattle.std.specs.Io.KnownBytes.{Keeps};
 ghost use Rattle.ghc_core.specs.EventCode.{reply_of};
+ghost use Rattle.ghc_console.specs.Device.{WritesFront};
 ghost use Rattle.ghc_console.specs.Lines.{lines_of};
 ghost use Rattle.ghc_console.specs.Replies.{records_text};
 ghost use Rattle.ghc_console.specs.ScheduleReplies.{reply_text};
-ghost use Rattle.ghc_console.specs.ScheduleText.{ArePlayedOut, EndsSo, IsScheduleOf, PlaysLine, WritesInFull};
+ghost use Rattle.ghc_console.specs.ScheduleText.{ArePlayedOut, EndsSo, IsScheduleOf, PlaysLine};
 
 use crate::device::{Broken, Device, write_all};
 use crate::reply::records;
@@ -21,7 +22,7 @@ const HANDS: u32 = 64;
 
 // Writes the bytes.
 fn write<D: Device>(device: &mut D, bytes: &[u8]) -> Result<(), Fault>
-    ensures written { WritesInFull (D.written device.old) (D.written device.new) bytes.now result }
+    ensures written { WritesFront (D.written device.old) (D.written device.new) result bytes.now }
     ensures unread { Keeps (D.unread device.old) (D.unread device.new) }
     ensures ends { EndsSo (D.failures device.old) (D.failures device.new) result }
 {
@@ -33,7 +34,7 @@ fn write<D: Device>(device: &mut D, bytes: &[u8]) -> Result<(), Fault>
 
 // Writes the line of a reply, which is made in the text. That memory was refused for an event takes no memory to tell.
 fn write_reply<D: Device>(device: &mut D, reply: &Reply, text: &mut String) -> Result<(), Fault>
-    ensures written { WritesInFull (D.written device.old) (D.written device.new) (reply_text (reply_of reply.now)) result }
+    ensures written { WritesFront (D.written device.old) (D.written device.new) result (reply_text (reply_of reply.now)) }
     ensures unread { Keeps (D.unread device.old) (D.unread device.new) }
     ensures ends { EndsSo (D.failures device.old) (D.failures device.new) result }
 {
@@ -67,7 +68,7 @@ fn play_line<D: Device>(
 
 // Writes the records.
 fn write_records<D: Device>(core: &Core, device: &mut D, text: &mut String) -> Result<(), Fault>
-    ensures written { WritesInFull (D.written device.old) (D.written device.new) (records_text core.now.world.kept) result }
+    ensures written { WritesFront (D.written device.old) (D.written device.new) result (records_text core.now.world.kept) }
     ensures unread { Keeps (D.unread device.old) (D.unread device.new) }
     ensures ends { EndsSo (D.failures device.old) (D.failures device.new) result }
 {

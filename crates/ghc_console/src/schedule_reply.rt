@@ -5,7 +5,7 @@ ghost use Rattle.ghc_core.specs.EventCode.{reply_of};
 ghost use Rattle.ghc_records.specs.StepText.{goal_name_text};
 ghost use Rattle.ghc_console.specs.Commands.{command_of};
 ghost use Rattle.ghc_console.specs.TextLines.{lined, refusal};
-ghost use Rattle.ghc_console.specs.ScheduleReplies.{Hears, IsCarriedOut, reply_text};
+ghost use Rattle.ghc_console.specs.ScheduleReplies.{Hears, IsCommandPlayed, reply_text};
 
 use crate::command::{LineCommand, parse};
 use crate::line_buffer::LINE_LIMIT;
@@ -19,7 +19,7 @@ use std::alloc::{AllocError, Global};
 
 // Reads the text as an input term, and gives it to the stream; or the refusal of the reader, which looks at no stream.
 fn give(alloc: Global, world: &mut World, stream: u32, text: &[u8]) -> Reply
-    ensures { IsCarriedOut (LineCommand.Input stream text.now) world.old (Some (reply_of result)) world.new }
+    ensures { IsCommandPlayed (LineCommand.Input stream text.now) world.old (Some (reply_of result)) world.new }
 {
     match read_ground_term(alloc, text) {
         Ok(input) => world.answer(alloc, &Event::Command(Command::Input(stream, input))),
@@ -29,7 +29,7 @@ fn give(alloc: Global, world: &mut World, stream: u32, text: &[u8]) -> Reply
 
 // Carries a command of the console out, where the core obeys it.
 fn carry_out(alloc: Global, world: &mut World, command: LineCommand) -> Option<Reply>
-    ensures { IsCarriedOut command world.old (option_map reply_of result) world.new }
+    ensures { IsCommandPlayed command world.old (option_map reply_of result) world.new }
 {
     match command {
         LineCommand::Nothing => None,
@@ -54,7 +54,7 @@ fn carry_out(alloc: Global, world: &mut World, command: LineCommand) -> Option<R
 
 // The reply to a line that says what it says at the console.
 fn reply_as_console(alloc: Global, world: &mut World, line: &[u8]) -> Option<Reply>
-    ensures { IsCarriedOut (command_of line.now) world.old (option_map reply_of result) world.new }
+    ensures { IsCommandPlayed (command_of line.now) world.old (option_map reply_of result) world.new }
 {
     match parse(alloc, line) {
         Ok(command) => carry_out(alloc, world, command),

@@ -7,11 +7,11 @@ use Rattle.ghc_term.specs.declared.fault.Fault.{Fault}
 use Rattle.ghc_core.specs.Core.{Core}
 use Rattle.ghc_core.specs.declared.world.World.{World as Played}
 use Rattle.ghc_console.specs.Replies.{records_text}
-use Rattle.ghc_console.specs.ScheduleText.{Begun, IsScheduleOf, Whole, part_of_records, then_begun, then_whole, told_at_end}
+use Rattle.ghc_console.specs.ScheduleText.{BrokenOff, IsScheduleOf, Schedule, part_of_records, then_begun, then_whole, told_at_end}
 
 -- A whole text begins itself.
-whole_begins : {old new : Played} {lines : List (List ℕ)} {out : List ℕ} → Whole old lines out new → Begun old lines out new
-whole_begins {new = new} told_at_end = let text = records_text new.core.world.kept in subst (λ t. Begun new [] t new) (take-length text) (part_of_records (length text))
+whole_begins : {old new : Played} {lines : List (List ℕ)} {out : List ℕ} → Schedule old lines out new → BrokenOff old lines out new
+whole_begins {new = new} told_at_end = let text = records_text new.core.world.kept in subst (λ t. BrokenOff new [] t new) (take-length text) (part_of_records (length text))
 whole_begins (then_whole heard rest) = then_begun heard (whole_begins rest)
 
 -- Handing on writes nothing else.

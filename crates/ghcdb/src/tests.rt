@@ -7,6 +7,7 @@ mod histories;
 mod matching;
 mod reading;
 mod runs;
+mod schedules;
 mod session;
 mod settling;
 mod terms;
