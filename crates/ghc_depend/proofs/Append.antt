@@ -5,6 +5,7 @@ use Rattle.std.specs.FinSet as set
 use Rattle.ghc_term.specs.declared.goal_name.GoalName.{GoalName}
 use Rattle.ghc_term.specs.Lists.{In}
 use Rattle.ghc_term.specs.Bindings.{name_cmp}
+use Rattle.ghc_fire.specs.Asked.{variables_asked}
 use Rattle.ghc_records.specs.Orders.{Precedes, nothing, take, leave}
 use Rattle.ghc_records.specs.Record.{Record}
 use Rattle.ghc_records.proofs.OrderLemmas.{is_before, before_in, precedes_rises, Rises}
@@ -28,13 +29,22 @@ reads_nothing r (inr (inr (inl e))) = ap (λ (s : Record). s.effect.reads) e
 reads_nothing r (inr (inr (inr (inl e)))) = ap (λ (s : Record). s.effect.reads) e
 reads_nothing r (inr (inr (inr (inr i)))) = absurd i
 
+-- no step of the run names anything
+names_nothing : (r : Record) → In r run → variables_asked r.act ≡ []
+names_nothing r (inl e) = ap (λ (s : Record). variables_asked s.act) e
+names_nothing r (inr (inl e)) = ap (λ (s : Record). variables_asked s.act) e
+names_nothing r (inr (inr (inl e))) = ap (λ (s : Record). variables_asked s.act) e
+names_nothing r (inr (inr (inr (inl e)))) = ap (λ (s : Record). variables_asked s.act) e
+names_nothing r (inr (inr (inr (inr i)))) = absurd i
+
 -- so dependence is by goals alone
 by_goal : (b a : Record) → DependsOn run b a → In a run × In b run × Consumes b a
 by_goal b a d =
     let i = before_in run a b (is_before run a b d.0) in
     elim d.1 [
       | inl c ↦ (i.0, i.1, c)
-      | inr r ↦ absurd (let e : true ≡ false = sym r.1.0 ∙ ap (λ s. set.contains s r.0) (reads_nothing b i.1) ∙ set.contains-empty name_cmp r.0 in cc)
+      | inr (inl r) ↦ absurd (let e : true ≡ false = sym r.1.0 ∙ ap (λ s. set.contains s r.0) (reads_nothing b i.1) ∙ set.contains-empty name_cmp r.0 in cc)
+      | inr (inr n) ↦ absurd (subst (In n.0) (names_nothing b i.1) n.1.0.0)
     ]
 
 -- two numbers are equal

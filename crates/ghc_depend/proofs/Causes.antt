@@ -1,5 +1,5 @@
 -- Why a step depends directly on an earlier one: places in recorded order, the least variable, and what woke a goal.
-use Rattle.std.proofs.Common.{◌≡◌, ℕ, zero, suc, ◌+◌, ◌<◌, ◌≤◌, ◌⊎◌, Bool, true, false, not, cond, List, [], ◌∷◌, ◌++◌, length, take, refl, sym, ap, ◌∙◌, subst, subst₂, inl, inr, arith}
+use Rattle.std.proofs.Common.{◌≡◌, ◌≢◌, ℕ, zero, suc, ◌+◌, ◌<◌, ◌≤◌, ◌⊎◌, Bool, true, false, not, cond, List, [], ◌∷◌, ◌++◌, length, take, refl, sym, ap, ◌∙◌, subst, subst₂, inl, inr, arith}
 use Rattle.std.specs.Prelude.{◌↔◌, Option, Some, None, IsTrue, IfSome, IfNone, slice_get}
 use Rattle.std.specs.declared.cmp.Ordering.TheVariants.{Less, Equal, Greater}
 use Rattle.std.specs.Ordering.{is_lt, ord_min, ordering_reverse}
@@ -17,9 +17,10 @@ use Rattle.ghc_records.specs.Orders.{Precedes, AreDistinct}
 use Rattle.ghc_records.specs.Record.{Record, numbers}
 use Rattle.ghc_records.proofs.OrderLemmas.{Before, is_before, before_is, before_in, before_once, record_once, records_distinct}
 use Rattle.ghc_records.specs.UseIndex.{StepBinds}
-use Rattle.ghc_depend.specs.Depend.{MakesGoal, Consumes, Binds, ReadsFrom, IsKeptAs}
-use Rattle.ghc_depend.specs.declared.cause.Cause.TheVariants.{Made as made, Read as read}
-use Rattle.ghc_depend.specs.Cause.{CanWait, WasThereBefore, IsBoundBehind, ReadsBehind, IsWokenBy, IsLeastRead, by_making, by_reading, IsDirect}
+use Rattle.ghc_fire.specs.Asked.{variables_asked}
+use Rattle.ghc_depend.specs.Depend.{MakesGoal, MakesVariable, Consumes, Binds, ReadsFrom, NamesFrom, IsKeptAs}
+use Rattle.ghc_depend.specs.declared.cause.Cause.TheVariants.{Made as made, Read as read, Named as named}
+use Rattle.ghc_depend.specs.Cause.{CanWait, WasThereBefore, IsBoundBehind, ReadsBehind, IsWokenBy, IsLeastRead, IsLeastNamed, by_making, by_reading, by_naming, IsDirect}
 use Rattle.ghc_depend.proofs.Finding.{same_value}
 
 module _ {X : Type 0} where
@@ -80,10 +81,10 @@ module _ (rs : List Record) (i j : ℕ) (a b : Record) (at : slice_get rs i ≡ 
   pub place_before : AreDistinct (numbers rs) → Precedes rs a b → i < j
   place_before distinct h = before_places rs (records_distinct rs distinct) i j a b at at_other (is_before rs a b h)
 
--- of these variables, this is the least that the step bound, or it bound none
-abbrev pub IsLeastOf : Record → List VarName → Option VarName → Type 0
-IsLeastOf a xs None = (x : VarName) → In x xs → ¬ Binds a x
-IsLeastOf a xs (Some y) = In y xs × Binds a y × ((x : VarName) → In x xs → Binds a x → (x ≡ y) ⊎ (name_cmp y x ≡ Less))
+-- of these variables, this is the least of which Q holds, or it holds of none
+abbrev pub IsLeastOf : (VarName → Type 0) → List VarName → Option VarName → Type 0
+IsLeastOf Q xs None = (x : VarName) → In x xs → ¬ Q x
+IsLeastOf Q xs (Some y) = In y xs × Q y × ((x : VarName) → In x xs → Q x → (x ≡ y) ⊎ (name_cmp y x ≡ Less))
 
 -- the lesser of two, by their order
 abbrev IsLesser : VarName → VarName → VarName → Type 0
@@ -97,23 +98,23 @@ is_lesser y x =
       | Greater ↦ λ e. inr (refl, inr (name_total.antisymm y x ∙ ap ordering_reverse e))
     ] refl
 
-module _ (a : Record) (xs : List VarName) (x : VarName) where
+module _ (Q : VarName → Type 0) (xs : List VarName) (x : VarName) where
   last : In x (xs ++ x ∷ [])
   last = in_right xs (x ∷ []) x (inl refl)
 
   -- one variable more, which the step did not bind
-  pub least_passed : (o : Option VarName) → IsLeastOf a xs o → ¬ Binds a x → IsLeastOf a (xs ++ x ∷ []) o
-  least_passed None h n = λ z i b. elim (in_more xs x z i) [ inl j ↦ h z j b | inr e ↦ n (subst (Binds a) e b) ]
+  pub least_passed : (o : Option VarName) → IsLeastOf Q xs o → ¬ Q x → IsLeastOf Q (xs ++ x ∷ []) o
+  least_passed None h n = λ z i b. elim (in_more xs x z i) [ inl j ↦ h z j b | inr e ↦ n (subst Q e b) ]
   least_passed (Some y) h n = (
     in_left xs (x ∷ []) y h.0,
     h.1,
-    λ z i b. elim (in_more xs x z i) [ inl j ↦ h.2 z j b | inr e ↦ absurd (n (subst (Binds a) e b)) ],
+    λ z i b. elim (in_more xs x z i) [ inl j ↦ h.2 z j b | inr e ↦ absurd (n (subst Q e b)) ],
   )
 
-  first_one : IsLeastOf a xs None → Binds a x → IsLeastOf a (xs ++ x ∷ []) (Some x)
+  first_one : IsLeastOf Q xs None → Q x → IsLeastOf Q (xs ++ x ∷ []) (Some x)
   first_one h b = (last, b, λ z i c. elim (in_more xs x z i) [ inl j ↦ absurd (h z j c) | inr e ↦ inl e ])
 
-  lesser_one : (y : VarName) → IsLeastOf a xs (Some y) → Binds a x → name_cmp x y ≡ Less → IsLeastOf a (xs ++ x ∷ []) (Some x)
+  lesser_one : (y : VarName) → IsLeastOf Q xs (Some y) → Q x → name_cmp x y ≡ Less → IsLeastOf Q (xs ++ x ∷ []) (Some x)
   lesser_one y h b less = (
     last,
     b,
@@ -123,7 +124,7 @@ module _ (a : Record) (xs : List VarName) (x : VarName) where
     ],
   )
 
-  same_one : (y : VarName) → IsLeastOf a xs (Some y) → (x ≡ y) ⊎ (name_cmp y x ≡ Less) → IsLeastOf a (xs ++ x ∷ []) (Some y)
+  same_one : (y : VarName) → IsLeastOf Q xs (Some y) → (x ≡ y) ⊎ (name_cmp y x ≡ Less) → IsLeastOf Q (xs ++ x ∷ []) (Some y)
   same_one y h order = (
     in_left xs (x ∷ []) y h.0,
     h.1,
@@ -134,21 +135,30 @@ module _ (a : Record) (xs : List VarName) (x : VarName) where
   )
 
   -- one more, which it bound
-  pub least_taken : (o : Option VarName) (z : VarName) → IsLeastOf a xs o → Binds a x → IfSome o (λ y. z ≡ ord_min name_cmp y x) → IfNone o (z ≡ x) → IsLeastOf a (xs ++ x ∷ []) (Some z)
-  least_taken None z h b s n = subst (λ w. IsLeastOf a (xs ++ x ∷ []) (Some w)) (sym n) (first_one h b)
-  least_taken (Some y) z h b s n = subst (λ w. IsLeastOf a (xs ++ x ∷ []) (Some w)) (sym s) (elim (is_lesser y x) [
-    | inl l ↦ subst (λ w. IsLeastOf a (xs ++ x ∷ []) (Some w)) (sym l.0) (lesser_one y h b l.1)
-    | inr l ↦ subst (λ w. IsLeastOf a (xs ++ x ∷ []) (Some w)) (sym l.0) (same_one y h l.1)
+  pub least_taken : (o : Option VarName) (z : VarName) → IsLeastOf Q xs o → Q x → IfSome o (λ y. z ≡ ord_min name_cmp y x) → IfNone o (z ≡ x) → IsLeastOf Q (xs ++ x ∷ []) (Some z)
+  least_taken None z h b s n = subst (λ w. IsLeastOf Q (xs ++ x ∷ []) (Some w)) (sym n) (first_one h b)
+  least_taken (Some y) z h b s n = subst (λ w. IsLeastOf Q (xs ++ x ∷ []) (Some w)) (sym s) (elim (is_lesser y x) [
+    | inl l ↦ subst (λ w. IsLeastOf Q (xs ++ x ∷ []) (Some w)) (sym l.0) (lesser_one y h b l.1)
+    | inr l ↦ subst (λ w. IsLeastOf Q (xs ++ x ∷ []) (Some w)) (sym l.0) (same_one y h l.1)
   ])
 
 -- the least of what a step read
-pub least_is : (b a : Record) (xs : List VarName) (o : Option VarName) → set.from_list xs ≡ b.effect.reads → IsLeastOf a xs o → IfSome o (IsLeastRead b a)
+pub least_is : (b a : Record) (xs : List VarName) (o : Option VarName) → set.from_list xs ≡ b.effect.reads → IsLeastOf (Binds a) xs o → IfSome o (IsLeastRead b a)
 least_is b a xs None all h = tt
 least_is b a xs (Some y) all h = ((has_member b.effect.reads xs all y h.0, h.1), λ x r. h.2 x (is_member b.effect.reads xs all x r.0) r.1)
 
-pub least_none : (b a : Record) (xs : List VarName) (o : Option VarName) → set.from_list xs ≡ b.effect.reads → IsLeastOf a xs o → IfNone o ((x : VarName) → ¬ ReadsFrom b a x)
+pub least_none : (b a : Record) (xs : List VarName) (o : Option VarName) → set.from_list xs ≡ b.effect.reads → IsLeastOf (Binds a) xs o → IfNone o ((x : VarName) → ¬ ReadsFrom b a x)
 least_none b a xs None all h = λ x r. h x (is_member b.effect.reads xs all x r.0) r.1
 least_none b a xs (Some y) all h = tt
+
+-- the least of what a step names
+pub named_is : (b a : Record) (o : Option VarName) → IsLeastOf (λ x. (x.step ≢ b.number) × MakesVariable a x) (variables_asked b.act) o → IfSome o (IsLeastNamed b a)
+named_is b a None h = tt
+named_is b a (Some y) h = (((h.0, h.1.0), h.1.1), λ x n. h.2 x n.0.0 (n.0.1, n.1))
+
+pub named_none : (b a : Record) (o : Option VarName) → IsLeastOf (λ x. (x.step ≢ b.number) × MakesVariable a x) (variables_asked b.act) o → IfNone o ((x : VarName) → ¬ NamesFrom b a x)
+named_none b a None h = λ x n. h x n.0.0 (n.0.1, n.1)
+named_none b a (Some y) h = tt
 
 -- the goal that b consumed, and the step that made it
 pub goal_made : (b m : Record) (name : GoalName) → b.goal ≡ Some name → Consumes b m → MakesGoal m name
@@ -227,13 +237,17 @@ module _ (rs : List Record) (later earlier place behind : ℕ) (first : StandsAt
     pub is_read : (x : VarName) (woke : Bool) → place < behind → ¬ Consumes b a → IsLeastRead b a x → (IsTrue woke ↔ IsWokenBy rs b a) → IsDirect rs later earlier (Some (read x woke))
     is_read x woke low n least marked = (b, a, kept_at rs behind later b second at_behind, kept_at rs place earlier a first at, by_reading (stands_before rs place behind a b at at_behind low) n least marked)
 
-    pub is_none : AreDistinct (numbers rs) → ¬ Consumes b a → ((x : VarName) → ¬ ReadsFrom b a x) → IsDirect rs later earlier None
-    is_none distinct n none c d kc kd depends =
+    pub is_named : (x : VarName) → place < behind → ¬ Consumes b a → ((y : VarName) → ¬ ReadsFrom b a y) → IsLeastNamed b a x → IsDirect rs later earlier (Some (named x))
+    is_named x low n none least = (b, a, kept_at rs behind later b second at_behind, kept_at rs place earlier a first at, by_naming (stands_before rs place behind a b at at_behind low) n none least)
+
+    pub is_none : AreDistinct (numbers rs) → ¬ Consumes b a → ((x : VarName) → ¬ ReadsFrom b a x) → ((x : VarName) → ¬ NamesFrom b a x) → IsDirect rs later earlier None
+    is_none distinct n none unnamed c d kc kd depends =
         let same : c ≡ b = same_value (placed rs later behind c distinct second kc) at_behind in
         let other : d ≡ a = same_value (placed rs earlier place d distinct first kd) at in
         elim depends.1 [
           | inl k ↦ n (subst₂ Consumes same other k)
-          | inr r ↦ none r.0 (subst₂ (λ y z. ReadsFrom y z r.0) same other r.1)
+          | inr (inl r) ↦ none r.0 (subst₂ (λ y z. ReadsFrom y z r.0) same other r.1)
+          | inr (inr r) ↦ unnamed r.0 (subst₂ (λ y z. NamesFrom y z r.0) same other r.1)
         ]
 
 pub none_earlier : (rs : List Record) (later earlier : ℕ) → ((r : Record) → In r rs → ¬ (r.number ≡ earlier)) → IsDirect rs later earlier None

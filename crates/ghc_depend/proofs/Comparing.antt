@@ -18,8 +18,8 @@ use Rattle.ghc_fire.proofs.GoalNames.{goal_total, same_goal}
 use Rattle.ghc_depend.specs.Depend.{Binds}
 use Rattle.ghc_depend.specs.Deletion.{IsBoundIn, IsMadeIn, IsConsumedIn, IsWithoutSteps}
 use Rattle.ghc_depend.specs.Laws.{WithoutStepsIsOne}
-use Rattle.ghc_depend.proofs.Finding.{by_option, not_both, same_value, find_value, find_consumed, own, own_made, made_own}
-use Rattle.ghc_depend.proofs.Results.{taken, IsUntaken, IsUnmade, Results, of_query, goal_by}
+use Rattle.ghc_depend.proofs.Finding.{by_option, not_both, find_value, find_consumed, own, own_made, made_own}
+use Rattle.ghc_depend.proofs.Results.{taken_at, IsUntaken, IsUnmade, Results, of_query, goal_by}
 use Rattle.ghc_depend.proofs.Placing.{results_of, place_of, front_in, consumed_once, bound_once, numbered_once}
 
 pub goal_antisymmetric : finite.IsAntisymmetric goal_cmp
@@ -100,16 +100,15 @@ module _ (P : Program) (query : Query) (rs gone left : List Record) (s t : State
   given_back : (g : GoalName) (r : Record) → In r gone → r.goal ≡ Some g → ¬ IsMadeIn gone g → finite.get t.goals g ≡ r.consumed
   given_back g r i e n =
       let p = place_of P query rs s replay r (of_gone r i) in
-      let a = taken P p.state r p.fires in
-      let there : finite.get p.state.goals g ≡ Some a.goal = subst (λ z. finite.get p.state.goals z ≡ Some a.goal) (same_value a.named e) a.there in
+      let a = taken_at P p.state r p.fires g e in
       let free : IsUntaken left g = λ c j f. never r c i j (consumed_once P query rs s replay r c g (of_gone r i) (of_left c j) e f) in
-      elim (goal_by query p.before p.state p.results g a.goal there) [
+      elim (goal_by query p.before p.state p.results g a.0 a.1) [
         | inl m ↦ elim (parted m.0 (front_in P query rs s replay r m.0 p m.1)) [
-          | inl j ↦ absurd (n (m.0, j, own_made m.0 g a.goal m.2))
-          | inr j ↦ k.made m.0 g a.goal j m.2 free
+          | inl j ↦ absurd (n (m.0, j, own_made m.0 g a.0 m.2))
+          | inr j ↦ k.made m.0 g a.0 j m.2 free
         ]
-        | inr q ↦ k.rest g (unmade_by_left g a.goal q.1) free ∙ q.1
-      ] ∙ sym a.consumed
+        | inr q ↦ k.rest g (unmade_by_left g a.0 q.1) free ∙ q.1
+      ] ∙ sym a.2
 
   others : (g : GoalName) → ¬ IsMadeIn gone g → ¬ IsConsumedIn gone g → finite.get t.goals g ≡ finite.get s.goals g
   others g no_make no_consume = elim (find_consumed left g) [

@@ -1,5 +1,5 @@
 -- Whether an order is lawful is decided by going over order and record.
-use Rattle.std.proofs.Common.{◌≡◌, ℕ, ◌≤◌, ◌⊎◌, List, [], ◌∷◌, ◌++◌, map, length, refl, sym, ap, ◌∙◌, subst, inl, inr, arith, Some, None, append_assoc, append-nil}
+use Rattle.std.proofs.Common.{◌≡◌, ◌≢◌, ℕ, ◌≤◌, ◌⊎◌, List, [], ◌∷◌, ◌++◌, map, length, refl, sym, ap, ◌∙◌, subst, inl, inr, arith, Some, None, append_assoc, append-nil}
 use Rattle.std.specs.Prelude.{Option, is_some}
 use Rattle.std.specs.FinMap as finite
 use Rattle.std.specs.FinSet as set
@@ -13,7 +13,8 @@ use Rattle.ghc_term.proofs.MapsLemmas.{key_in}
 use Rattle.ghc_records.specs.Orders.{Precedes, AreDistinct}
 use Rattle.ghc_records.specs.Record.{Record, numbers}
 use Rattle.ghc_records.proofs.OrderLemmas.{Before, is_before, before_is, before_in, number_in, number_of, record_once}
-use Rattle.ghc_depend.specs.Depend.{MakesGoal, ReadsFrom, DependsOn}
+use Rattle.ghc_fire.specs.Asked.{variables_asked}
+use Rattle.ghc_depend.specs.Depend.{MakesGoal, MakesVariable, ReadsFrom, NamesFrom, DependsOn}
 use Rattle.ghc_depend.proofs.Finding.{ends}
 use Rattle.ghc_depend.proofs.Picking.{distinct_push}
 use Rattle.ghc_depend.specs.Lawful.{IsOfKept, IsOrderOf, IsTooEarly, IsInOrder, IsUnlawful, wrong, missing, too_early}
@@ -71,11 +72,34 @@ known_reads b a = elim (known_read b a (map (λ e. e.0) (finite.entries a.effect
   | inr n ↦ inr (λ r. n r.0 (key_in (finite.entries a.effect.binds) r.0 (ap is_some (sym (finite.get-entries a.effect.binds r.0)) ∙ r.1.1)) r.1)
 ]
 
+decided_not : {A : Type 0} → Decided A → Decided (¬ A)
+decided_not (inl a) = inr (λ n. n a)
+decided_not (inr n) = inl n
+
+known_named : (b a : Record) (ks : List VarName) → ((x : VarName) × In x ks × (x.step ≢ b.number) × MakesVariable a x) ⊎ ((x : VarName) → In x ks → (x.step ≢ b.number) → ¬ MakesVariable a x)
+known_named b a [] = inr (λ x i n m. i)
+known_named b a (k ∷ ks) = elim (decided_both (decided_not (nat_decided k.step b.number)) (decided_both (nat_decided k.step a.number) (decided_both (le_decided 1 k.place) (le_decided k.place a.effect.fresh)))) [
+  | inl p ↦ inl (k, inl refl, p.0, (p.1.0, p.1.1.0, p.1.1.1))
+  | inr n ↦ elim (known_named b a ks) [
+    | inl p ↦ inl (p.0, inr p.1, p.2, p.3)
+    | inr m ↦ inr (λ x i other makes. elim i [
+      | inl e ↦ n (subst (λ (z : VarName). (z.step ≢ b.number) × ((z.step ≡ a.number) × ((1 ≤ z.place) × (z.place ≤ a.effect.fresh)))) e (other, (makes.0, (makes.1, makes.2))))
+      | inr j ↦ m x j other makes
+    ])
+  ]
+]
+
+known_names : (b a : Record) → Decided ((x : VarName) × NamesFrom b a x)
+known_names b a = elim (known_named b a (variables_asked b.act)) [
+  | inl p ↦ inl (p.0, ((p.1, p.2), p.3))
+  | inr n ↦ inr (λ p. n p.0 p.1.0.0 p.1.0.1 p.1.1)
+]
+
 module _ (kept : List Record) (distinct : AreDistinct (numbers kept)) where
   pub known_depends : (b a : Record) → In a kept → In b kept → Decided (DependsOn kept b a)
   known_depends b a i j =
       decided_both (decided_by (λ h. before_is kept a b (by_records kept a b distinct i j h)) (λ p. by_numbers kept a b (is_before kept a b p)) (known_before (numbers kept) a.number b.number))
-      (decided_either (known_consumed b.goal a) (known_reads b a))
+      (decided_either (known_consumed b.goal a) (decided_either (known_reads b a) (known_names b a)))
 
   known_early : (order : List ℕ) (a b : Record) → In a kept → In b kept → Decided (IsTooEarly kept order a b)
   known_early order a b i j =

@@ -1,5 +1,5 @@
 -- The law of deletion.
-use Rattle.std.proofs.Common.{◌≡◌, ◌⊎◌, List, ◌∷◌, refl, sym, ◌∙◌, subst, inl, inr, arith, Some}
+use Rattle.std.proofs.Common.{◌≡◌, ◌⊎◌, List, ◌∷◌, refl, sym, ◌∙◌, subst, inl, inr, arith}
 use Rattle.std.specs.FinMap as finite
 use Rattle.ghc_term.specs.declared.var_name.VarName.{VarName}
 use Rattle.ghc_term.specs.Lists.{In}
@@ -7,17 +7,17 @@ use Rattle.ghc_term.specs.Bindings.{IsAcyclic}
 use Rattle.ghc_term.specs.Store.{value_at}
 use Rattle.ghc_term.proofs.ListsLemmas.{in_right, in_either}
 use Rattle.ghc_flat.specs.Clause.{Program, Query}
-use Rattle.ghc_fire.proofs.Steps.{effect_binds}
+use Rattle.ghc_flat.specs.Flat.{IsQuery}
 use Rattle.ghc_records.specs.Orders.{AreDistinct}
 use Rattle.ghc_records.specs.Record.{State, Record}
 use Rattle.ghc_records.specs.Replay.{Replays}
 use Rattle.ghc_records.proofs.OrderLemmas.{Before, is_before, before_once, records_distinct}
-use Rattle.ghc_records.proofs.Replaying.{replay_well}
-use Rattle.ghc_depend.specs.Depend.{Consumes, ReadsFrom, DependsOn, directly, further}
+use Rattle.ghc_records.proofs.Replaying.{of_query, replay_well}
+use Rattle.ghc_depend.specs.Depend.{Consumes, ReadsFrom, NamesFrom, DependsOn, directly, further}
 use Rattle.ghc_depend.specs.Deletion.{IsClosedUnder, IsPartedBy, IsWithoutSteps}
 use Rattle.ghc_depend.specs.Laws.{LawOfDeletion}
-use Rattle.ghc_depend.proofs.Finding.{same_value, ends}
-use Rattle.ghc_depend.proofs.Results.{taken, bound_by, is_old}
+use Rattle.ghc_depend.proofs.Finding.{ends}
+use Rattle.ghc_depend.proofs.Results.{taken_at, step_binds, bound_by, is_old}
 use Rattle.ghc_depend.proofs.Placing.{Place, place_of, front_in, bound_once, numbered_once}
 use Rattle.ghc_depend.proofs.Picking.{behind_before, picks_in, picks_has, picks_order, picks_distinct}
 use Rattle.ghc_depend.proofs.Working.{StandBehind, works}
@@ -61,7 +61,7 @@ module _ (P : Program) (query : Query) (rs : List Record) (t : State) (replay : 
       let w = works P query rs t replay acyclic left of_left (picks_distinct rs left parts.1 replay.0.1) (behind shut) in
       (w.0, w.1, without P query rs gone left t w.0 replay w.2 parted apart of_gone of_left)
 
-  module _ (u : State) (rest : Replays P query left u) where
+  module _ (asked : IsQuery P query) (u : State) (rest : Replays P query left u) where
     -- a step left has its place among the steps left
     place : (b : Record) → In b left → Place P query left b
     place b i = place_of P query left u rest b i
@@ -69,9 +69,8 @@ module _ (P : Program) (query : Query) (rs : List Record) (t : State) (replay : 
     made_by_left : (b a : Record) → In a gone → In b left → ¬ Consumes b a
     made_by_left b a i j c =
         let p = place b j in
-        let k = taken P p.state b p.fires in
-        let there = subst (λ z. finite.get p.state.goals z ≡ Some k.goal) (same_value k.named c.1) k.there in
-        elim (is_old query p.before p.state p.results c.0 k.goal there) [
+        let k = taken_at P p.state b p.fires c.0 c.1 in
+        elim (is_old query p.before p.state p.results c.0 k.0 k.1) [
           | inl zero_step ↦ let number = c.2.0 in let positive = (replay.0.0 a (of_gone a i)).0 in omega arith
           | inr m ↦
               let m_left = front_in P query left u rest b m.0 p m.1 in
@@ -81,12 +80,22 @@ module _ (P : Program) (query : Query) (rs : List Record) (t : State) (replay : 
     bound_by_left : (b a : Record) (x : VarName) → In a gone → In b left → ¬ ReadsFrom b a x
     bound_by_left b a x i j r =
         let p = place b j in
-        let k = taken P p.state b p.fires in
-        let w = (effect_binds P k.goal b.act b.number (value_at p.state.store) b.effect k.effect).reads_bound x r.0 in
+        let w = (step_binds P p.state b p.fires).reads_bound x r.0 in
         let c = bound_by query p.before p.state p.results x w.0 w.1 in
         let v = bound_value a x r.1 in
         let c_left = front_in P query left u rest b c.0 p c.1 in
         apart c.0 (subst (λ z. In z gone) (sym (bound_once P query rs t replay a c.0 x v.0 w.0 (of_gone a i) (of_left c.0 c_left) v.1 c.2)) i) c_left
+
+    -- what a step left names was made by a step left
+    named_by_left : (b a : Record) (x : VarName) → In a gone → In b left → ¬ NamesFrom b a x
+    named_by_left b a x i j n =
+        let p = place b j in
+        elim (rest.2 p.before p.behind b p.split x n.0) [
+          | inl q ↦ let zero_step : x.step ≡ 0 = of_query P query x asked q in let number = n.1.0 in let positive = (replay.0.0 a (of_gone a i)).0 in omega arith
+          | inr m ↦
+              let m_left = front_in P query left u rest b m.0 p m.1 in
+              apart m.0 (subst (λ z. In z gone) (sym (numbered_once P query rs t replay a m.0 (of_gone a i) (of_left m.0 m_left) (sym n.1.0 ∙ m.2.0))) i) m_left
+        ]
 
     direct : (a b : Record) → D a → DependsOn rs b a → D b
     direct a b da d =
@@ -94,7 +103,7 @@ module _ (P : Program) (query : Query) (rs : List Record) (t : State) (replay : 
         elim (parted b k.1) [
           | inl i ↦ (picks_in rs gone b parts.0 i).1
           | inr j ↦ elim (picks_has rs gone a parts.0 k.0) [
-            | inl i ↦ elim d.1 [ inl c ↦ absurd (made_by_left b a i j c) | inr r ↦ absurd (bound_by_left b a r.0 i j r.1) ]
+            | inl i ↦ elim d.1 [ inl c ↦ absurd (made_by_left b a i j c) | inr (inl r) ↦ absurd (bound_by_left b a r.0 i j r.1) | inr (inr n) ↦ absurd (named_by_left b a n.0 i j n.1) ]
             | inr n ↦ absurd (n da)
           ]
         ]
@@ -106,5 +115,5 @@ module _ (P : Program) (query : Query) (rs : List Record) (t : State) (replay : 
 pub deletion : LawOfDeletion
 deletion P query kept t gone left accepted asked replay parts = record {
   replays = replays P query kept t replay (λ r. In r gone) gone left parts (replay_well P query kept t accepted asked replay).acyclic;
-  closed = closed P query kept t replay (λ r. In r gone) gone left parts;
+  closed = closed P query kept t replay (λ r. In r gone) gone left parts asked;
 }

@@ -1,5 +1,5 @@
 -- A journal that takes no number twice tells one kept list and one shelf.
-use Rattle.std.proofs.Common.{◌≡◌, ◌≢◌, ℕ, ◌⊎◌, true, false, cond, List, [], ◌∷◌, ◌++◌, refl, sym, ap, ◌∙◌, subst, subst₂, inl, inr, Some, None, append-nil}
+use Rattle.std.proofs.Common.{◌≡◌, ◌≢◌, ℕ, ◌+◌, ◌⊎◌, true, false, cond, List, [], ◌∷◌, ◌++◌, refl, sym, ap, ◌∙◌, subst, subst₂, inl, inr, Some, None, append-nil, append_assoc}
 use Rattle.std.specs.Prelude.{Option}
 use Rattle.std.specs.Ordering.{eq_by_cmp, is_eq, nat_cmp}
 use Rattle.std.specs.Cmp.{nat_cmp_total, tied_itself, ranked}
@@ -15,6 +15,8 @@ use Rattle.ghc_term.proofs.ListsLemmas.{in_left, in_right, in_more}
 use Rattle.ghc_flat.specs.Clause.{Program, Query}
 use Rattle.ghc_flat.specs.Flat.{IsProgram, IsQuery}
 use Rattle.ghc_fire.specs.declared.act.Act.{Act}
+use Rattle.ghc_fire.specs.declared.act.Act.TheVariants.{Asked as asking}
+use Rattle.ghc_fire.proofs.Asking.{asks_once}
 use Rattle.ghc_fire.specs.Effect.{Effect}
 use Rattle.ghc_fire.specs.Goals.{Goals}
 use Rattle.ghc_fire.proofs.Steps.{effect_once}
@@ -192,6 +194,7 @@ there_once m (Some g) c d p q = p.1 ∙ ap Some (same_value p.2 q.2) ∙ sym q.1
 
 step_effect_once : (P : Program) (s : State) (consumed : Option Goal) (a : Act) (n : ℕ) (e f : Effect) → IsAcyclic (value_at s.store)
     → HasStepEffect P consumed a n (value_at s.store) e → HasStepEffect P consumed a n (value_at s.store) f → e ≡ f
+step_effect_once P s None (asking gs) n e f acyclic p q = asks_once P gs n e f p q
 step_effect_once P s None a n e f acyclic p q = absurd p
 step_effect_once P s (Some b) a n e f acyclic p q = effect_once P b a n (value_at s.store) e f acyclic p q
 
@@ -220,6 +223,7 @@ module _ (P : Program) (query : Query) (accepted : IsProgram P) (asked : IsQuery
       let replay : Replays P query kept split.0 = (
         ((λ s i. run.0.0 s (in_left kept (r ∷ []) s i)), distinct_left (numbers kept) (r.number ∷ []) (subst AreDistinct (numbers_append kept (r ∷ [])) run.0.1)),
         split.1,
+        λ before behind q e x n. run.2 before (behind ++ r ∷ []) q (ap (λ l. l ++ r ∷ []) e ∙ append_assoc before (q ∷ behind) (r ∷ [])) x n,
       ) in
       (split.0, replay, split.2.0, (replay_well P query kept split.0 accepted asked replay).acyclic)
 

@@ -8,14 +8,13 @@ use Rattle.ghc_term.specs.Lists.{In}
 use Rattle.ghc_term.specs.Store.{value_at}
 use Rattle.ghc_term.proofs.ListsLemmas.{in_left, in_right, in_either}
 use Rattle.ghc_flat.specs.Clause.{Program, Query}
-use Rattle.ghc_fire.proofs.Steps.{effect_binds}
 use Rattle.ghc_records.specs.Orders.{AreDistinct}
 use Rattle.ghc_records.specs.Record.{State, Record, numbers, after, Fires}
 use Rattle.ghc_records.specs.Replay.{query_state, Runs, HaveStepNumbers, Replays}
 use Rattle.ghc_records.proofs.OrderLemmas.{Before, before_once, number_in, record_once, records_distinct}
-use Rattle.ghc_depend.proofs.Finding.{not_both, same_value}
+use Rattle.ghc_depend.proofs.Finding.{not_both}
 use Rattle.ghc_depend.proofs.Picking.{before_front, behind_before}
-use Rattle.ghc_depend.proofs.Results.{taken, Results, at_first, with_step}
+use Rattle.ghc_depend.proofs.Results.{taken_at, step_binds, Results, at_first, with_step}
 
 -- where the number of an element is apart from those in front of it
 pub apart_at : (done rest : List Record) (r : Record) → AreDistinct (numbers (done ++ r ∷ rest)) → (m : Record) → In m done → ¬ (r.number ≡ m.number)
@@ -81,14 +80,12 @@ module _ (P : Program) (query : Query) (rs : List Record) (t : State) (replay : 
   -- what a step in front consumed is not consumed again
   not_again : (r c : Record) (g : GoalName) (p : Place P query rs r) → In c p.before → c.goal ≡ Some g → r.goal ≡ Some g → ⊥
   not_again r c g p i e f =
-      let a = taken P p.state r p.fires in
-      not_both (subst (λ z. finite.get p.state.goals z ≡ Some a.goal) (same_value a.named f) a.there) (p.results.consumed c g i e)
+      not_both (taken_at P p.state r p.fires g f).1 (p.results.consumed c g i e)
 
   -- what a step in front bound is not bound again
   not_bound_again : (r c : Record) (x : VarName) (u w : Tree) (p : Place P query rs r) → In c p.before → value_at c.effect.binds x ≡ Some u → value_at r.effect.binds x ≡ Some w → ⊥
   not_bound_again r c x u w p i e f =
-      let a = taken P p.state r p.fires in
-      not_both (p.results.bound c x u i e) ((effect_binds P a.goal r.act r.number (value_at p.state.store) r.effect a.effect).binds_new x w f)
+      not_both (p.results.bound c x u i e) ((step_binds P p.state r p.fires).binds_new x w f)
 
   -- a goal is consumed once
   pub consumed_once : (r c : Record) (g : GoalName) → In r rs → In c rs → r.goal ≡ Some g → c.goal ≡ Some g → c ≡ r

@@ -12,8 +12,13 @@ use Rattle.ghc_term.specs.Bindings.{name_cmp}
 use Rattle.ghc_term.specs.Store.{value_at}
 use Rattle.ghc_term.proofs.ListsLemmas.{in_left, in_right, in_either}
 use Rattle.ghc_flat.specs.Clause.{Program, Query}
+use Rattle.ghc_term.proofs.SetsLemmas.{holds_nothing}
+use Rattle.ghc_unify.specs.Laws.{BindsAndReads}
+use Rattle.ghc_fire.specs.declared.act.Act.{Act}
+use Rattle.ghc_fire.specs.declared.act.Act.TheVariants.{Asked as asked}
+use Rattle.ghc_fire.specs.Asked.{Asks}
 use Rattle.ghc_fire.specs.Effect.{HasEffect}
-use Rattle.ghc_fire.proofs.Steps.{effect_binds}
+use Rattle.ghc_fire.proofs.Steps.{effect_binds, nothing}
 use Rattle.ghc_records.specs.Record.{State, Record, after, without_goal, IsThere, HasStepEffect, Fires}
 use Rattle.ghc_records.specs.Replay.{query_state}
 use Rattle.ghc_records.proofs.States.{bound_at, made_or_old}
@@ -28,19 +33,57 @@ pub record Taken (P : Program) (s : State) (r : Record) : Type 0 where
   pub there : finite.get s.goals name ≡ Some goal
   pub effect : HasEffect P goal r.act r.number (value_at s.store) r.effect
 
-pub taken : (P : Program) (s : State) (r : Record) → Fires P s r → Taken P s r
-taken P s r f = by_goal r.goal r.consumed refl refl f.0 f.1
+-- the step consumed none, and asks for goals
+pub record IsAsking (P : Program) (r : Record) : Type 0 where
+  pub goals : List Goal
+  pub act : r.act ≡ asked goals
+  pub none : r.goal ≡ None
+  pub nothing : r.consumed ≡ None
+  pub asks : Asks P goals r.number r.effect
+
+-- a step consumes a goal, or asks for goals
+pub firing : (P : Program) (s : State) (r : Record) → Fires P s r → Taken P s r ⊎ IsAsking P r
+firing P s r f = by_goal r.goal r.consumed refl refl f.0 f.1
   where
-    by_goal : (o : Option GoalName) (c : Option Goal) → r.goal ≡ o → r.consumed ≡ c → IsThere s.goals o c → HasStepEffect P c r.act r.number (value_at s.store) r.effect → Taken P s r
-    by_goal None None p q e d = absurd d
+    by_act : (a : Act) → r.act ≡ a → r.goal ≡ None → r.consumed ≡ None → HasStepEffect P None a r.number (value_at s.store) r.effect → IsAsking P r
+    by_act (asked gs) e p q d = record { goals = gs; act = e; none = p; nothing = q; asks = d }
+    by_act a e p q d = absurd d
+
+    by_goal : (o : Option GoalName) (c : Option Goal) → r.goal ≡ o → r.consumed ≡ c → IsThere s.goals o c → HasStepEffect P c r.act r.number (value_at s.store) r.effect → Taken P s r ⊎ IsAsking P r
+    by_goal None None p q e d = inr (by_act r.act refl p q d)
     by_goal None (Some b) p q e d = cc
-    by_goal (Some g) None p q e d = absurd d
-    by_goal (Some g) (Some b) p q e d = record { name = g; goal = b; named = p; consumed = q; there = (let same : b ≡ e.0 = cc in e.2 ∙ ap Some (sym same)); effect = d }
+    by_goal (Some g) None p q e d = let clash : None ≡ Some e.0 = e.1 in cc
+    by_goal (Some g) (Some b) p q e d = inl (record { name = g; goal = b; named = p; consumed = q; there = (let same : b ≡ e.0 = cc in e.2 ∙ ap Some (sym same)); effect = d })
+
+-- a step that consumes a goal of this name
+pub taken : (P : Program) (s : State) (r : Record) → Fires P s r → (g : GoalName) → r.goal ≡ Some g → Taken P s r
+taken P s r f g e = elim (firing P s r f) [ inl t ↦ t | inr a ↦ absurd (not_both e a.none) ]
+
+-- the goal of this name is there, and was consumed
+pub taken_at : (P : Program) (s : State) (r : Record) → Fires P s r → (g : GoalName) → r.goal ≡ Some g → (b : Goal) × (finite.get s.goals g ≡ Some b) × (r.consumed ≡ Some b)
+taken_at P s r f g e = let t = taken P s r f g e in (t.goal, subst (λ z. finite.get s.goals z ≡ Some t.goal) (same_value t.named e) t.there, t.consumed)
 
 pub fires : (P : Program) (v : State) (r : Record) (g : GoalName) (b : Goal) → r.goal ≡ Some g → r.consumed ≡ Some b → finite.get v.goals g ≡ Some b
     → HasEffect P b r.act r.number (value_at v.store) r.effect → Fires P v r
 fires P v r g b p q e d =
     (subst (λ o. IsThere v.goals o r.consumed) (sym p) (b, q, e), subst (λ c. HasStepEffect P c r.act r.number (value_at v.store) r.effect) (sym q) d)
+
+-- a step that asks for goals is possible in each state
+pub asking_fires : (P : Program) (v : State) (r : Record) → IsAsking P r → Fires P v r
+asking_fires P v r a = (
+  subst (λ o. IsThere v.goals o r.consumed) (sym a.none) a.nothing,
+  subst (λ c. HasStepEffect P c r.act r.number (value_at v.store) r.effect) (sym a.nothing) (subst (λ act. HasStepEffect P None act r.number (value_at v.store) r.effect) (sym a.act) a.asks),
+)
+
+-- what a step binds was unbound, and what it reads was bound
+pub step_binds : (P : Program) (s : State) (r : Record) → Fires P s r → BindsAndReads (value_at s.store) r.effect.binds r.effect.reads
+step_binds P s r f = elim (firing P s r f) [
+  | inl t ↦ effect_binds P t.goal r.act r.number (value_at s.store) r.effect t.effect
+  | inr a ↦ record {
+    binds_new = λ x u b. absurd (nothing r.effect.binds a.asks.binds x u b);
+    reads_bound = λ x i. absurd (holds_nothing r.effect.reads a.asks.reads x i);
+  }
+]
 
 -- none of the steps consumed the goal
 abbrev pub IsUntaken : List Record → GoalName → Type 0
@@ -107,9 +150,6 @@ module _ (query : Query) (done : List Record) (s : State) (h : Results query don
 
   -- a step more
   module _ (P : Program) (r : Record) (f : Fires P s r) (positive : 1 ≤ r.number) (new : (m : Record) → In m done → ¬ (r.number ≡ m.number)) where
-    t : Taken P s r
-    t = taken P s r f
-
     v : State
     v = after s r
 
@@ -138,10 +178,10 @@ module _ (query : Query) (done : List Record) (s : State) (h : Results query don
     store_kept x u e =
         by_option (value_at r.effect.binds x)
         (λ n. store_at x ∙ ap (λ o. option_or o (value_at s.store x)) n ∙ e)
-        (λ w b. absurd (not_both e ((effect_binds P t.goal r.act r.number (value_at s.store) r.effect t.effect).binds_new x w b)))
+        (λ w b. absurd (not_both e ((step_binds P s r f).binds_new x w b)))
 
     taken_old : (g : GoalName) → r.goal ≡ Some g → IsOld done g
-    taken_old g e = is_old g t.goal (subst (λ z. finite.get s.goals z ≡ Some t.goal) (same_value t.named e) t.there)
+    taken_old g e = let t = taken_at P s r f g e in is_old g t.0 t.1
 
     last : List Record
     last = r ∷ []

@@ -13,7 +13,7 @@ use Rattle.ghc_records.specs.State.{IsTakenBack}
 use Rattle.ghc_depend.specs.Depend.{MakesGoal, Binds}
 use Rattle.ghc_depend.specs.Deletion.{IsMadeIn, IsConsumedIn, IsBoundIn, IsWithoutSteps}
 use Rattle.ghc_depend.proofs.Placing.{place_of}
-use Rattle.ghc_depend.proofs.Results.{taken}
+use Rattle.ghc_depend.proofs.Results.{taken_at}
 
 module _ (P : Program) (query : Query) (kept : _) (s t : State) (r : Record) (replay : Replays P query kept s) (i : In r kept) (back : IsTakenBack r s t) where
   unbound : (x : VarName) → IsBoundIn (r ∷ []) x → value_at t.store x ≡ None
@@ -36,8 +36,8 @@ module _ (P : Program) (query : Query) (kept : _) (s t : State) (r : Record) (re
   given_back : (g : GoalName) (c : Record) → In c (r ∷ []) → c.goal ≡ Some g → ¬ IsMadeIn (r ∷ []) g → finite.get t.goals g ≡ c.consumed
   given_back g c (inl same) e never =
       let goal : r.goal ≡ Some g = ap (λ (z : Record). z.goal) (sym same) ∙ e in
-      let there = taken P (place_of P query kept s replay r i).state r (place_of P query kept s replay r i).fires in
-      back.goals.given_back g there.goal (goal, there.consumed) (not_made g never) ∙ sym there.consumed ∙ ap (λ (z : Record). z.consumed) (sym same)
+      let there = taken_at P (place_of P query kept s replay r i).state r (place_of P query kept s replay r i).fires g goal in
+      back.goals.given_back g there.0 (goal, there.2) (not_made g never) ∙ sym there.2 ∙ ap (λ (z : Record). z.consumed) (sym same)
   given_back g c (inr j) e never = absurd j
 
   others : (g : GoalName) → ¬ IsMadeIn (r ∷ []) g → ¬ IsConsumedIn (r ∷ []) g → finite.get t.goals g ≡ finite.get s.goals g

@@ -69,5 +69,5 @@ pub waking : WakingDepends
 waking = record {
   woken = by_reading (first_wake ∷ [], [], [], refl) (not_made second_wake (inr (inl refl))) ((reads_y, binds_y), λ x r. inl (reads_alone x r.0))
       (λ _. (tt, (λ m i c. absurd (not_made m i c)), λ r. not_later r.2.0 r.0 r.2.1 r.2.2), λ _. refl);
-  apart = λ d. elim d.1 [ inl c ↦ not_made first_wake (inl refl) c | inr r ↦ not_first (subst (Binds first_wake) (reads_alone r.0 r.1.0) r.1.1) ];
+  apart = λ d. elim d.1 [ inl c ↦ not_made first_wake (inl refl) c | inr (inl r) ↦ not_first (subst (Binds first_wake) (reads_alone r.0 r.1.0) r.1.1) | inr (inr n) ↦ n.1.0.0 ];
 }

@@ -1,5 +1,5 @@
 -- Steps of a replay can be taken again in every order in which each stands behind all on which it depends, and with every others left out on which none of them depends.
-use Rattle.std.proofs.Common.{◌≡◌, ◌⊎◌, List, [], ◌∷◌, ◌++◌, refl, sym, ap, ◌∙◌, subst, inl, inr, arith, Some, append_assoc, append-nil}
+use Rattle.std.proofs.Common.{◌≡◌, List, [], ◌∷◌, ◌++◌, refl, sym, ap, ◌∙◌, subst, inl, inr, arith, Some, append_assoc, append-nil}
 use Rattle.std.specs.Prelude.{Option, is_some}
 use Rattle.std.specs.Option.{option_or}
 use Rattle.std.specs.FinMap as finite
@@ -12,15 +12,14 @@ use Rattle.ghc_term.proofs.Chains.{reaches_more}
 use Rattle.ghc_term.proofs.ListsLemmas.{in_left, in_right}
 use Rattle.ghc_flat.specs.Clause.{Program, Query}
 use Rattle.ghc_unify.specs.Unify.{with_bindings}
-use Rattle.ghc_fire.proofs.Steps.{effect_binds}
 use Rattle.ghc_records.specs.Orders.{AreDistinct}
 use Rattle.ghc_records.specs.Record.{State, Record, numbers, after, Fires}
-use Rattle.ghc_records.specs.Replay.{query_state, Runs, Replays}
+use Rattle.ghc_records.specs.Replay.{query_state, Runs, Replays, AreKnownIn}
 use Rattle.ghc_records.proofs.OrderLemmas.{before_is}
-use Rattle.ghc_depend.specs.Depend.{Consumes, ReadsFrom, DependsOn}
+use Rattle.ghc_depend.specs.Depend.{Uses, DependsOn}
 use Rattle.ghc_depend.proofs.Finding.{by_option, own, own_made}
 use Rattle.ghc_depend.proofs.Extending.{effect_elsewhere}
-use Rattle.ghc_depend.proofs.Results.{Taken, taken, fires, IsUntaken, IsUnmade, Results, of_query, at_first, bound_by, goal_by, with_step}
+use Rattle.ghc_depend.proofs.Results.{Taken, firing, asking_fires, step_binds, fires, IsUntaken, IsUnmade, Results, of_query, at_first, bound_by, goal_by, with_step}
 use Rattle.ghc_depend.proofs.Placing.{apart_at, Place, results_of, place_of, in_front, front_in, consumed_once, bound_once}
 
 -- in the list, each step stands behind all on which it depends
@@ -36,7 +35,7 @@ module _ (P : Program) (query : Query) (rs : List Record) (t : State) (replay : 
   full : Results query rs t
   full = results_of P query rs t replay
 
-  module _ (front back : List Record) (r : Record) (v : State) (e : new ≡ front ++ r ∷ back) (h : Results query front v) where
+  module _ (front back : List Record) (r : Record) (e : new ≡ front ++ r ∷ back) where
     there : In r rs
     there = among r (subst (In r) (sym e) (in_right front (r ∷ back) r (inl refl)))
 
@@ -49,56 +48,65 @@ module _ (P : Program) (query : Query) (rs : List Record) (t : State) (replay : 
     place : Place P query rs r
     place = place_of P query rs t replay r there
 
-    step : Taken P place.state r
-    step = taken P place.state r place.fires
-
     -- on what stood in front of it, it depends only where that stands in front of it again
-    depends : (m : Record) → In m place.before → Consumes r m ⊎ ((x : VarName) × ReadsFrom r m x) → In m front
+    depends : (m : Record) → In m place.before → Uses r m → In m front
     depends m i d = behind front back r m e (before_is rs m r (in_front P query rs t replay r m place i), d)
 
-    untaken : IsUntaken front step.name
-    untaken c i f = not_itself c i (consumed_once P query rs t replay r c step.name there (front_there c i) step.named f)
-
-    -- a goal of the query is none that a step made
-    unmade : finite.get (query_state query).goals step.name ≡ Some step.goal → IsUnmade front step.name
-    unmade q c i = by_option (own c step.name) (λ n. n) (λ b o.
-        let zero_step = of_query query step.name step.goal q in
-        let number = (own_made c step.name b o).0 in
-        let positive = (replay.0.0 c (front_there c i)).0 in
-        absurd (omega arith))
-
-    goal_there : finite.get v.goals step.name ≡ Some step.goal
-    goal_there = elim (goal_by query place.before place.state place.results step.name step.goal step.there) [
-      | inl m ↦ h.made m.0 step.name step.goal (depends m.0 m.1 (inl (step.name, step.named, own_made m.0 step.name step.goal m.2))) m.2 untaken
-      | inr q ↦ h.rest step.name (unmade q.1) untaken ∙ q.1
+    -- what it names is known again
+    known_there : AreKnownIn query front r
+    known_there x n = elim (replay.2 place.before place.behind r place.split x n) [
+      | inl q ↦ inl q
+      | inr m ↦ inr (m.0, depends m.0 m.1 (inr (inr (x, (n, m.2)))), m.2)
     ]
 
-    part : (x : VarName) (u : Tree) → value_at v.store x ≡ Some u → value_at t.store x ≡ Some u
-    part x u b = let c = bound_by query front v h x u b in full.bound c.0 x u (front_there c.0 c.1) c.2
+    module _ (v : State) (h : Results query front v) where
+      part : (x : VarName) (u : Tree) → value_at v.store x ≡ Some u → value_at t.store x ≡ Some u
+      part x u b = let c = bound_by query front v h x u b in full.bound c.0 x u (front_there c.0 c.1) c.2
 
-    pub fires_there : Fires P v r
-    fires_there = fires P v r step.name step.goal step.named step.consumed goal_there (effect_elsewhere P step.goal r.act r.number (value_at t.store) (value_at place.state.store) (value_at v.store) r.effect step.effect (record {
-      part = λ x u b. let c = bound_by query place.before place.state place.results x u b in full.bound c.0 x u (front_in P query rs t replay r c.0 place c.1) c.2;
-      other_part = part;
-      reads = λ x i.
-          let w = (effect_binds P step.goal r.act r.number (value_at place.state.store) r.effect step.effect).reads_bound x i in
-          let c = bound_by query place.before place.state place.results x w.0 w.1 in
-          h.bound c.0 x w.0 (depends c.0 c.1 (inr (x, (i, ap is_some c.2)))) c.2 ∙ sym w.1;
-      free = λ x u b. h.unbound x (λ c i. by_option (value_at c.effect.binds x) (λ n. n) (λ w f. absurd (not_itself c i (bound_once P query rs t replay r c x u w there (front_there c i) b f))));
-      acyclic = acyclic_part (with_bindings r.effect.binds (value_at v.store)) (value_at t.store) (λ x u b.
-          by_option (value_at r.effect.binds x)
-          (λ n. part x u (sym (ap (λ o. option_or o (value_at v.store x)) n) ∙ b))
-          (λ w f. full.bound r x u there (f ∙ sym (ap (λ o. option_or o (value_at v.store x)) f) ∙ b))) acyclic;
-    }))
+      module _ (step : Taken P place.state r) where
+        untaken : IsUntaken front step.name
+        untaken c i f = not_itself c i (consumed_once P query rs t replay r c step.name there (front_there c i) step.named f)
+
+        -- a goal of the query is none that a step made
+        unmade : finite.get (query_state query).goals step.name ≡ Some step.goal → IsUnmade front step.name
+        unmade q c i = by_option (own c step.name) (λ n. n) (λ b o.
+            let zero_step = of_query query step.name step.goal q in
+            let number = (own_made c step.name b o).0 in
+            let positive = (replay.0.0 c (front_there c i)).0 in
+            absurd (omega arith))
+
+        goal_there : finite.get v.goals step.name ≡ Some step.goal
+        goal_there = elim (goal_by query place.before place.state place.results step.name step.goal step.there) [
+          | inl m ↦ h.made m.0 step.name step.goal (depends m.0 m.1 (inl (step.name, step.named, own_made m.0 step.name step.goal m.2))) m.2 untaken
+          | inr q ↦ h.rest step.name (unmade q.1) untaken ∙ q.1
+        ]
+
+        taken_there : Fires P v r
+        taken_there = fires P v r step.name step.goal step.named step.consumed goal_there (effect_elsewhere P step.goal r.act r.number (value_at t.store) (value_at place.state.store) (value_at v.store) r.effect step.effect (record {
+          part = λ x u b. let c = bound_by query place.before place.state place.results x u b in full.bound c.0 x u (front_in P query rs t replay r c.0 place c.1) c.2;
+          other_part = part;
+          reads = λ x i.
+              let w = (step_binds P place.state r place.fires).reads_bound x i in
+              let c = bound_by query place.before place.state place.results x w.0 w.1 in
+              h.bound c.0 x w.0 (depends c.0 c.1 (inr (inl (x, (i, ap is_some c.2))))) c.2 ∙ sym w.1;
+          free = λ x u b. h.unbound x (λ c i. by_option (value_at c.effect.binds x) (λ n. n) (λ w f. absurd (not_itself c i (bound_once P query rs t replay r c x u w there (front_there c i) b f))));
+          acyclic = acyclic_part (with_bindings r.effect.binds (value_at v.store)) (value_at t.store) (λ x u b.
+              by_option (value_at r.effect.binds x)
+              (λ n. part x u (sym (ap (λ o. option_or o (value_at v.store x)) n) ∙ b))
+              (λ w f. full.bound r x u there (f ∙ sym (ap (λ o. option_or o (value_at v.store x)) f) ∙ b))) acyclic;
+        }))
+
+      pub fires_there : Fires P v r
+      fires_there = elim (firing P place.state r place.fires) [ inl step ↦ taken_there step | inr asks ↦ asking_fires P v r asks ]
 
   runs_there : (done rest : List Record) (v : State) → new ≡ done ++ rest → Results query done v → (u : State) × Runs P v rest u × Results query new u
   runs_there done [] v e h = (v, refl, subst (λ z. Results query z v) (sym (e ∙ append-nil done)) h)
   runs_there done (r ∷ rest) v e h =
-      let f = fires_there done rest r v e h in
-      let more = with_step query done v h P r f (replay.0.0 r (there done rest r v e h)).0 (apart_at done rest r (subst (λ z. AreDistinct (numbers z)) e distinct)) in
+      let f = fires_there done rest r e v h in
+      let more = with_step query done v h P r f (replay.0.0 r (there done rest r e)).0 (apart_at done rest r (subst (λ z. AreDistinct (numbers z)) e distinct)) in
       let next = runs_there (done ++ r ∷ []) rest (after v r) (e ∙ sym (append_assoc done (r ∷ []) rest)) more in
       (next.0, (f, next.1), next.2)
 
   -- they replay to a state with their results
   pub works : (u : State) × Replays P query new u × Results query new u
-  works = let run = runs_there [] new (query_state query) refl (at_first query) in (run.0, ((λ r i. replay.0.0 r (among r i), distinct), run.1), run.2)
+  works = let run = runs_there [] new (query_state query) refl (at_first query) in (run.0, ((λ r i. replay.0.0 r (among r i), distinct), run.1, λ front back r e. known_there front back r e), run.2)

@@ -6,12 +6,12 @@ use Rattle.ghc_term.specs.declared.var_name.VarName.{VarName}
 use Rattle.ghc_term.specs.Lists.{In}
 use Rattle.ghc_term.specs.Bindings.{name_cmp}
 use Rattle.ghc_fire.specs.declared.act.Act.{Act}
-use Rattle.ghc_fire.specs.declared.act.Act.TheVariants.{ByClause as by_clause, Unified as unified, Assigned as assigned, Given as given, Closed as closed}
+use Rattle.ghc_fire.specs.declared.act.Act.TheVariants.{ByClause as by_clause, Unified as unified, Assigned as assigned, Given as given, Closed as closed, Asked as asked}
 use Rattle.ghc_records.specs.Orders.{Precedes, Picks}
 use Rattle.ghc_records.specs.Record.{Record}
 use Rattle.ghc_depend.specs.declared.cause.Cause.{Cause}
-use Rattle.ghc_depend.specs.declared.cause.Cause.TheVariants.{Made as made, Read as read}
-use Rattle.ghc_depend.specs.Depend.{Consumes, Binds, ReadsFrom, DependsOn, IsKeptAs}
+use Rattle.ghc_depend.specs.declared.cause.Cause.TheVariants.{Made as made, Read as read, Named as named}
+use Rattle.ghc_depend.specs.Depend.{Consumes, Binds, ReadsFrom, NamesFrom, DependsOn, IsKeptAs}
 
 -- The act reduces a call or assigns, so that its goal can have waited.
 abbrev pub CanWait : Act → Type 0
@@ -20,6 +20,7 @@ CanWait unified = ⊥
 CanWait assigned = Unit {0}
 CanWait (given _) = ⊥
 CanWait closed = ⊥
+CanWait (asked _) = ⊥
 
 -- The goal that b consumed was made before a in recorded order; a goal of the query was made before every step.
 abbrev pub WasThereBefore : List Record → Record → Record → Type 0
@@ -41,10 +42,15 @@ IsWokenBy rs b a = CanWait b.act × WasThereBefore rs b a × (¬ ReadsBehind rs 
 abbrev pub IsLeastRead : Record → Record → VarName → Type 0
 IsLeastRead b a x = ReadsFrom b a x × ((y : VarName) → ReadsFrom b a y → (y ≡ x) ⊎ (name_cmp x y ≡ Less))
 
--- HasCause rs b a cause: b depends directly on the earlier a for this cause; made comes first, and else it is the least variable read.
+-- x is the least variable that b names and a made.
+abbrev pub IsLeastNamed : Record → Record → VarName → Type 0
+IsLeastNamed b a x = NamesFrom b a x × ((y : VarName) → NamesFrom b a y → (y ≡ x) ⊎ (name_cmp x y ≡ Less))
+
+-- HasCause rs b a cause: b depends directly on the earlier a for this cause: that a made the goal that b consumed; else the least variable that b read and a bound; else the least that b names and a made. (A step that names variables consumes and reads nothing.)
 pub data HasCause (rs : List Record) (b a : Record) : Cause → Type 0 where
   by_making : Precedes rs a b → Consumes b a → HasCause rs b a made
   by_reading : {x : VarName} {woke : Bool} → Precedes rs a b → ¬ Consumes b a → IsLeastRead b a x → IsTrue woke ↔ IsWokenBy rs b a → HasCause rs b a (read x woke)
+  by_naming : {x : VarName} → Precedes rs a b → ¬ Consumes b a → ((y : VarName) → ¬ ReadsFrom b a y) → IsLeastNamed b a x → HasCause rs b a (named x)
 
 -- The direct dependence of the step numbered later on the step numbered earlier, if there is one.
 abbrev pub IsDirect : List Record → ℕ → ℕ → Option Cause → Type 0

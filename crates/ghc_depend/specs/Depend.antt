@@ -4,7 +4,7 @@ use Rattle.ghc_term.specs.declared.goal_name.GoalName.{GoalName}
 use Rattle.ghc_term.specs.Lists.{In}
 use Rattle.ghc_records.specs.Orders.{Precedes, Picks}
 use Rattle.ghc_records.specs.Record.{Record}
-pub use Rattle.ghc_records.specs.Uses.{MakesGoal, Consumes, Binds, ReadsFrom, Uses, DependsOn}
+pub use Rattle.ghc_records.specs.Uses.{MakesGoal, MakesVariable, Consumes, Binds, ReadsFrom, Names, NamesFrom, Uses, DependsOn}
 
 -- Follows rs a b: b is a consequence of a, by a chain of direct dependence.
 pub data Follows (rs : List Record) (a : Record) : Record → Type 0 where

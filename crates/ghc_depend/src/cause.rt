@@ -1,12 +1,12 @@
 // Why a step depends directly on an earlier one.
-ghost use Rattle.std.specs.Prelude.{◌≡◌, ◌↔◌, slice_get, Some, IsTrue, IfSome, IfNone};
+ghost use Rattle.std.specs.Prelude.{◌≡◌, ◌≢◌, ◌↔◌, slice_get, Some, IsTrue, IfSome, IfNone};
 ghost use Rattle.std.specs.Ordering.{ord_min};
 ghost use Rattle.ghc_term.specs.Bindings.{name_cmp};
 ghost use Rattle.ghc_term.specs.declared.var_name.VarName.{VarName};
 ghost use Rattle.ghc_records.specs.Record.{Record};
 ghost use Rattle.ghc_records.specs.Slots.{StandsIn};
-ghost use Rattle.ghc_depend.specs.Depend.{MakesGoal, Consumes, Binds, ReadsFrom, Uses};
-ghost use Rattle.ghc_depend.specs.Cause.{CanWait, WasThereBefore, IsBoundBehind, ReadsBehind, IsWokenBy, IsLeastRead, IsDirect};
+ghost use Rattle.ghc_depend.specs.Depend.{MakesGoal, MakesVariable, Consumes, Binds, ReadsFrom, NamesFrom, Uses};
+ghost use Rattle.ghc_depend.specs.Cause.{CanWait, WasThereBefore, IsBoundBehind, ReadsBehind, IsWokenBy, IsLeastRead, IsLeastNamed, IsDirect};
 
 use ghc_fire::Act;
 use ghc_records::{Record, Records};
@@ -19,6 +19,8 @@ pub enum Cause {
     Made,
     /// The later step read a variable that the earlier one bound, which may have woken its goal.
     Read { variable: VarName, woke: bool },
+    /// The later step names a variable that the earlier one made.
+    Named { variable: VarName },
 }
 
 // Whether the goal is one that the step made.
@@ -84,11 +86,47 @@ fn reads_from(later: &Record, earlier: &Record) -> bool
     false
 }
 
-/// Whether the later step used a goal or a binding of the earlier one: one look-up for each variable that it read.
+// Whether the later step names the variable of its goals, which the earlier one made.
+fn names(later: &Record, earlier: &Record, x: VarName) -> bool
+    ensures { IsTrue result ↔ ((x.step ≢ later.now.number) × MakesVariable earlier.now x) }
+{
+    x.step != later.number()
+        && x.step == earlier.number()
+        && 1 <= x.place
+        && x.place <= earlier.effect().fresh()
+}
+
+// The least variable that the later step names and the earlier one made: one step for each variable of its goals.
+fn least_named(later: &Record, earlier: &Record) -> Option<VarName>
+    ensures some { IfSome result (IsLeastNamed later.now earlier.now) }
+    ensures none { IfNone result ((x : VarName) → ¬ NamesFrom later.now earlier.now x) }
+{
+    let mut least = None;
+    for name in later.act().variables() {
+        if names(later, earlier, *name) {
+            least = Some(lesser(least, *name));
+        }
+    }
+    least
+}
+
+// Whether the later step names a variable that the earlier one made: one step for each variable of its goals.
+fn names_from(later: &Record, earlier: &Record) -> bool
+    ensures { IsTrue result ↔ ((x : VarName) × NamesFrom later.now earlier.now x) }
+{
+    for x in later.act().variables() {
+        if names(later, earlier, *x) {
+            return true;
+        }
+    }
+    false
+}
+
+/// Whether the later step used a goal, a binding or a variable of the earlier one: one look-up for each variable that it read.
 pub(crate) fn uses(later: &Record, earlier: &Record) -> bool
     ensures { IsTrue result ↔ Uses later.now earlier.now }
 {
-    consumes(later, earlier) || reads_from(later, earlier)
+    consumes(later, earlier) || reads_from(later, earlier) || names_from(later, earlier)
 }
 
 // Whether the act is one whose goal can have waited.
@@ -97,7 +135,7 @@ fn can_wait(act: &Act) -> bool
 {
     match act {
         Act::ByClause(_) | Act::Assigned => true,
-        Act::Unified | Act::Given(_) | Act::Closed => false,
+        Act::Unified | Act::Given(_) | Act::Closed | Act::Asked(_) => false,
     }
 }
 
@@ -170,7 +208,10 @@ pub fn direct(records: &Records, later: u32, earlier: u32) -> Option<Cause>
     if consumes(taken, maker) {
         return Some(Cause::Made);
     }
-    let variable = least_read(taken, maker)?;
-    let woke = is_woken_by(records, taken, place);
-    Some(Cause::Read { variable, woke })
+    if let Some(variable) = least_read(taken, maker) {
+        let woke = is_woken_by(records, taken, place);
+        return Some(Cause::Read { variable, woke });
+    }
+    let variable = least_named(taken, maker)?;
+    Some(Cause::Named { variable })
 }

@@ -18,3 +18,6 @@ pub mod Calling
 pub mod Answering
 pub mod FoundEffects
 pub mod OpenTails
+pub mod EachOnce
+pub mod Replaced
+pub mod Asking

@@ -16,7 +16,7 @@ use Rattle.ghc_fire.specs.Instance.{replace_in_expression, replace_in_goal, made
 use Rattle.ghc_fire.specs.Renaming.{AreBehindHead, renamed}
 
 module _ (s r : VarName → Tree) where
-  abbrev Agree : List VarName → Type 0
+  abbrev pub Agree : List VarName → Type 0
   Agree xs = (y : VarName) → In y xs → s y ≡ r y
 
   front : (xs ys : List VarName) → Agree (xs ++ ys) → Agree xs
@@ -50,7 +50,7 @@ module _ (s r : VarName → Tree) where
   in_goal (assign t a) h = λ i. assign (in_tree t (front (variables t) (variables_of_expression a) h) i) (in_expression a (rest (variables t) (variables_of_expression a) h) i)
   in_goal (stream k x) h = refl
 
-  in_goals : (gs : List Goal) → Agree (variables_of_goals gs) → map (replace_in_goal s) gs ≡ map (replace_in_goal r) gs
+  pub in_goals : (gs : List Goal) → Agree (variables_of_goals gs) → map (replace_in_goal s) gs ≡ map (replace_in_goal r) gs
   in_goals [] h = refl
   in_goals (g ∷ gs) h = λ i. in_goal g (front (variables_of_goal g) (variables_of_goals gs) h) i ∷ in_goals gs (rest (variables_of_goal g) (variables_of_goals gs) h) i
 

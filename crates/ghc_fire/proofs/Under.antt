@@ -68,7 +68,7 @@ module _ (s u w : VarName → Tree) (both : (y : VarName) → replace s (u y) �
   goal_twice (assign t a) = let left = tree_twice t in let right = expression_twice a in cc
   goal_twice (stream k x) = refl
 
-  goals_twice : (gs : List Goal) → map (replace_in_goal s) (map (replace_in_goal u) gs) ≡ map (replace_in_goal w) gs
+  pub goals_twice : (gs : List Goal) → map (replace_in_goal s) (map (replace_in_goal u) gs) ≡ map (replace_in_goal w) gs
   goals_twice [] = refl
   goals_twice (g ∷ gs) = let head = goal_twice g in let tail = goals_twice gs in cc
 

@@ -17,7 +17,7 @@ use Rattle.ghc_match.specs.Value.{Number}
 use Rattle.ghc_match.specs.Match.{HasOutcome, accepts}
 use Rattle.ghc_unify.specs.Unify.{Unifies}
 use Rattle.ghc_fire.specs.declared.act.Act.{Act}
-use Rattle.ghc_fire.specs.declared.act.Act.TheVariants.{ByClause as by_clause, Unified as unified, Assigned as assigned, Given as given, Closed as closed}
+use Rattle.ghc_fire.specs.declared.act.Act.TheVariants.{ByClause as by_clause, Unified as unified, Assigned as assigned, Given as given, Closed as closed, Asked as asked}
 use Rattle.ghc_fire.specs.Instance.{made, body_made}
 
 -- An effect is what a step reads and binds, which goals it makes, and how many variables.
@@ -68,21 +68,25 @@ HasEffect P (call f ts) unified n S e = ⊥
 HasEffect P (call f ts) assigned n S e = ⊥
 HasEffect P (call f ts) (given u) n S e = ⊥
 HasEffect P (call f ts) closed n S e = ⊥
+HasEffect P (call f ts) (asked gs) n S e = ⊥
 HasEffect P (unify l r) (by_clause k) n S e = ⊥
 HasEffect P (unify l r) unified n S e = Unites l r S e
 HasEffect P (unify l r) assigned n S e = ⊥
 HasEffect P (unify l r) (given u) n S e = ⊥
 HasEffect P (unify l r) closed n S e = ⊥
+HasEffect P (unify l r) (asked gs) n S e = ⊥
 HasEffect P (assign t a) (by_clause k) n S e = ⊥
 HasEffect P (assign t a) unified n S e = ⊥
 HasEffect P (assign t a) assigned n S e = Assigns t a S e
 HasEffect P (assign t a) (given u) n S e = ⊥
 HasEffect P (assign t a) closed n S e = ⊥
+HasEffect P (assign t a) (asked gs) n S e = ⊥
 HasEffect P (stream k s) (by_clause j) n S e = ⊥
 HasEffect P (stream k s) unified n S e = ⊥
 HasEffect P (stream k s) assigned n S e = ⊥
 HasEffect P (stream k s) (given u) n S e = Feeds k s u n S e
 HasEffect P (stream k s) closed n S e = Closes s S e
+HasEffect P (stream k s) (asked gs) n S e = ⊥
 
 -- The number that no step has; the effect under it stands for the effect under any number.
 abbrev pub no_step : ℕ

@@ -1,6 +1,8 @@
 pub mod Instance
 pub mod Renaming
 pub mod Effect
+pub mod AskedCode
+pub mod Asked
 pub mod EffectCode
 pub mod Attempt
 pub mod Laws

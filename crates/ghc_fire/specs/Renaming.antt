@@ -10,9 +10,10 @@ use Rattle.ghc_flat.specs.Clause.{Clause}
 use Rattle.ghc_flat.specs.Variables.{variables_of_goals, fresh_variables}
 use Rattle.ghc_fire.specs.Instance.{made, place_in}
 use Rattle.ghc_fire.specs.Proposal.{numbered}
+use Rattle.ghc_fire.specs.Asked.{called_by}
 use Rattle.ghc_fire.specs.declared.instances.terms.Front.{Front}
 use Rattle.ghc_fire.specs.declared.instances.renaming.Renaming.{Renaming}
-use Rattle.ghc_fire.specs.declared.instances.renaming.Renaming.TheVariants.{Body, Numbered}
+use Rattle.ghc_fire.specs.declared.instances.renaming.Renaming.TheVariants.{Body, Numbered, Called}
 
 -- Each variable of the body that does not stand for anything in theta is a fresh one, and its place comes behind the h variables of the head.
 abbrev pub AreBehindHead : ℕ → Clause → StoreValue → Type 0
@@ -26,6 +27,7 @@ renamed h theta n y = unwrap_or (value_at theta y) (variable (made n (y.place - 
 abbrev pub replacement : Renaming → VarName → Tree
 replacement (Body theta h n) = renamed h theta.now n
 replacement (Numbered n) = numbered n
+replacement (Called xs) = called_by xs.now
 
 -- the tree that comes about where t is the last argument of the innermost of the structures
 abbrev pub plugged : List Front → Tree → Tree

@@ -1,10 +1,11 @@
 // What a step does.
 ghost use Rattle.std.specs.Prelude.{◌≡◌, IfOk};
 
-use ghc_term::Ground;
+use crate::asked::Asked;
+use ghc_term::{Ground, VarName};
 use std::alloc::AllocError;
 
-/// What a step does to the goal that it consumes.
+/// What a step does to the goal that it consumes, or that it asks for goals.
 #[derive(Drop)]
 pub enum Act {
     /// Reduces a call by the clause of this number.
@@ -17,9 +18,27 @@ pub enum Act {
     Given(Ground),
     /// Closes a stream.
     Closed,
+    /// Asks for goals; it consumes none.
+    Asked(Asked),
 }
 
 impl Act {
+    ghost use Rattle.ghc_fire.specs.Asked.{variables_asked};
+
+    /// The variables of the goals for which it asks, each once, in the order in which they stand first.
+    pub fn variables(&self) -> &[VarName]
+        ensures { result.now ≡ variables_asked self.now }
+    {
+        match self {
+            Act::ByClause(_) => &[],
+            Act::Unified => &[],
+            Act::Assigned => &[],
+            Act::Given(_) => &[],
+            Act::Closed => &[],
+            Act::Asked(asked) => asked.variables(),
+        }
+    }
+
     /// The same act once more, with its input shared: one step. Fails where a count of handles is full.
     pub fn share(&self) -> Result<Act, AllocError>
         ensures { IfOk result (λ act. act ≡ self.now) }
@@ -33,6 +52,10 @@ impl Act {
                 Err(error) => Err(error),
             },
             Act::Closed => Ok(Act::Closed),
+            Act::Asked(asked) => match asked.share() {
+                Ok(asked) => Ok(Act::Asked(asked)),
+                Err(error) => Err(error),
+            },
         }
     }
 }

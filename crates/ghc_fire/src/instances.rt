@@ -1,9 +1,10 @@
-// The goals that a clause's body makes in a step, and goals of an effect as the step of some number has them.
+// The goals that a clause's body makes in a step, goals of an effect as the step of some number has them, and goals of an ask.
 ghost use Rattle.std.specs.Prelude.{◌≡◌, ℕ, List, map, IfOk};
 ghost use Rattle.ghc_term.specs.Goal.{call};
 ghost use Rattle.ghc_term.specs.Tree.{Tree};
 ghost use Rattle.ghc_fire.specs.Instance.{replace_in_goal, body_made};
 ghost use Rattle.ghc_fire.specs.Proposal.{numbered};
+ghost use Rattle.ghc_fire.specs.Asked.{called_by};
 ghost use Rattle.ghc_fire.specs.Renaming.{AreBehindHead, replacement};
 
 mod expressions;
@@ -15,7 +16,7 @@ use crate::instances::expressions::replace_expression;
 use crate::instances::renaming::Renaming;
 use crate::instances::terms::replace_term;
 use ghc_flat::Clause;
-use ghc_term::{Bindings, Goal, GoalView};
+use ghc_term::{Bindings, Goal, GoalView, VarName};
 use std::alloc::{AllocError, Global};
 
 // The call with its variables replaced, as the term that it is written as.
@@ -86,4 +87,12 @@ pub fn number_goals(alloc: Global, goals: &[Goal], number: u32) -> Result<Vec<Go
     ensures { IfOk result (λ gs. gs.items ≡ map (replace_in_goal (numbered number)) goals.now) }
 {
     replace_goals(alloc, goals, Renaming::Numbered(number))
+}
+
+// The goals of a written ask, whose i-th variable becomes the i-th of these. It goes once through the goals, and shares each part
+// of their terms that has no variable.
+pub fn call_goals(alloc: Global, goals: &[Goal], names: &[VarName]) -> Result<Vec<Goal>, AllocError>
+    ensures { IfOk result (λ gs. gs.items ≡ map (replace_in_goal (called_by names.now)) goals.now) }
+{
+    replace_goals(alloc, goals, Renaming::Called(names))
 }

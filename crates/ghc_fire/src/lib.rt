@@ -2,7 +2,10 @@
 #![tactic(auto)]
 
 mod act;
+mod ask;
+mod asked;
 mod attempting;
+mod called;
 mod calls;
 mod effect;
 mod equations;
@@ -17,8 +20,10 @@ mod recorded;
 mod streams;
 
 pub use act::Act;
+pub use ask::{Ask, ask_as, number_asked};
+pub use asked::Asked;
 pub use attempting::{attempt, attempt_as, finish};
-pub use effect::Effect;
+pub use effect::{Effect, NO_STEP};
 pub use facts::{append_run, bound_tail_takes_nothing, input_and_close, input_reads_alias};
 pub use goals::Goals;
 pub use instances::instance;

@@ -1,5 +1,5 @@
 -- The variables that an effect brings in, and the state after a step.
-use Rattle.std.proofs.Common.{◌≡◌, ℕ, ◌≤◌, ◌⊎◌, true, false, cond, List, [], ◌∷◌, map, length, filter, refl, sym, ap, ◌∙◌, subst, inl, inr, arith, Some, None, unwrap_or}
+use Rattle.std.proofs.Common.{◌≡◌, ◌==◌, ℕ, zero, suc, ◌+◌, ◌<◌, ◌≤◌, ◌⊎◌, Bool, true, false, cond, List, [], ◌∷◌, map, length, filter, refl, sym, ap, ◌∙◌, subst, inl, inr, arith, Some, None, unwrap_or}
 use Rattle.std.specs.Prelude.{Option}
 use Rattle.std.specs.Option.{option_or}
 use Rattle.std.specs.List.{list_any}
@@ -15,19 +15,23 @@ use Rattle.ghc_term.specs.Bindings.{Reaches, here, through, IsAcyclic, name_cmp}
 use Rattle.ghc_term.specs.Store.{StoreValue, value_at}
 use Rattle.ghc_term.proofs.Names.{name_total}
 use Rattle.ghc_term.proofs.Total.{same_name}
+use Rattle.std.proofs.lemmas.Bool.{eq-eqb}
+use Rattle.ghc_term.proofs.Decided.{nat_decided}
 use Rattle.ghc_term.proofs.ListsLemmas.{in_left, in_right, in_at}
 use Rattle.ghc_flat.specs.Clause.{Program}
-use Rattle.ghc_flat.specs.Variables.{variables, variables_of_expression, variables_of_list, variables_of_goal, variables_of_goals, fresh_variables}
+use Rattle.ghc_flat.specs.Variables.{variables, variables_of_expression, variables_of_list, variables_of_goal, variables_of_goals, fresh_variables, firsts}
 use Rattle.ghc_flat.specs.Flat.{is_stream, IsProgram}
 use Rattle.ghc_unify.specs.Unify.{Unifies}
 use Rattle.ghc_term.proofs.Merged.{by_answers}
 use Rattle.ghc_term.proofs.SetsLemmas.{any_in}
 use Rattle.ghc_fire.specs.Instance.{made, place_in, becomes, replace_in_goal}
 use Rattle.ghc_fire.specs.declared.act.Act.{Act}
-use Rattle.ghc_fire.specs.declared.act.Act.TheVariants.{ByClause as by_clause, Unified as unified, Assigned as assigned, Given as given, Closed as closed}
+use Rattle.ghc_fire.specs.declared.act.Act.TheVariants.{ByClause as by_clause, Unified as unified, Assigned as assigned, Given as given, Closed as closed, Asked as asked}
 use Rattle.ghc_fire.specs.Effect.{Effect, HasEffect}
+use Rattle.ghc_fire.specs.Asked.{Asks, made_from, variables_asked}
 use Rattle.ghc_fire.proofs.Steps.{effect_acyclic}
 use Rattle.ghc_fire.specs.Goals.{Goals}
+use Rattle.ghc_records.specs.Replay.{Names}
 use Rattle.ghc_records.specs.Record.{State, Record, without_goal, after, IsThere, Fires, HasStepEffect}
 use Rattle.ghc_records.proofs.States.{bound_at, made_or_old, old_apart}
 use Rattle.ghc_records.proofs.Inside.{Inside, Closed, comes_inside, at_inside, moves_inside, find_inside, occurs_in}
@@ -132,6 +136,42 @@ module _ (D : VarName → Type 0) (s : StoreValue) (shut : Closed D (value_at s)
   }
   brings_in P g a n e accepted acyclic h new d = absurd d
 
+-- a filter has what passes the test
+filter_has : {X : Type 0} (test : X → Bool) (xs : List X) (x : X) → In x xs → test x ≡ true → In x (filter test xs)
+filter_has test [] x i t = absurd i
+filter_has test (y ∷ xs) x i t =
+    elim (test y) as (λ b. test y ≡ b → In x (cond b (y ∷ filter test xs) (filter test xs))) [
+      | true ↦ λ p. elim i [ inl e ↦ inl e | inr j ↦ inr (filter_has test xs x j t) ]
+      | false ↦ λ p. elim i [
+        | inl e ↦ let clash : false ≡ true = sym p ∙ ap test (sym e) ∙ t in cc
+        | inr j ↦ filter_has test xs x j t
+      ]
+    ] refl
+
+made_bounds : (n i k : ℕ) (x : VarName) → In x (made_from n i k) → (x.step ≡ n) × (i ≤ x.place) × (x.place < i + k)
+made_bounds n i zero x j = absurd j
+made_bounds n i (suc k) x (inl e) = let place : x.place ≡ i = ap (λ (v : VarName). v.place) e in (ap (λ (v : VarName). v.step) e, omega arith, omega arith)
+made_bounds n i (suc k) x (inr j) = let m = made_bounds n (i + 1) k x j in (m.0, omega (arith, m.1), omega (arith, m.2))
+
+-- a variable of the goals for which a step asks is its own, or is named
+asked_variable : (P : Program) (r : Record) (gs : List Goal) → r.act ≡ asked gs → Asks P gs r.number r.effect → (g : Goal) (y : VarName) → In g gs → In y (variables_of_goal g) → Made r.number r.effect.fresh y ⊎ Names r y
+asked_variable P r gs act asks g y i j =
+    let first : In y (firsts [] (variables_of_goals gs)) = first_in [] (variables_of_goals gs) y (of_goals gs g y i j) refl in
+    elim (nat_decided y.step r.number) [
+      | inl e ↦
+          let own = subst (In y) asks.own (filter_has (λ x. x.step == r.number) (firsts [] (variables_of_goals gs)) y first (eq-eqb y.step r.number e)) in
+          let b = made_bounds r.number 1 r.effect.fresh y own in
+          inl (b.0, b.1, omega (arith, b.2))
+      | inr n ↦ inr (subst (λ a. In y (variables_asked a)) (sym act) first, n)
+    ]
+
+asked_brings : (P : Program) (D : VarName → Type 0) (r : Record) (gs : List Goal) → r.act ≡ asked gs → Asks P gs r.number r.effect → ((y : VarName) → Made r.number r.effect.fresh y → D y) → ((y : VarName) → Names r y → D y) → BringsIn D r.effect
+asked_brings P D r gs act asks new named = record {
+  keys = λ x t p. absurd (no_entry x t r.effect.binds asks.binds p);
+  values = λ x t p. absurd (no_entry x t r.effect.binds asks.binds p);
+  goals = λ g y i j. elim (asked_variable P r gs act asks g y (subst (In g) asks.makes i) j) [ inl m ↦ new y m | inr n ↦ named y n ];
+}
+
 -- D holds of all variables of the state
 pub record HasOnly (D : VarName → Type 0) (s : State) : Type 0 where
   pub keys : (x : VarName) (t : Tree) → value_at s.store x ≡ Some t → D x
@@ -154,20 +194,29 @@ either_bound None b t e = inr e
 either_bound (Some u) b t e = inl e
 
 module _ (P : Program) (s : State) (r : Record) (fires : Fires P s r) where
-  -- the goal that fires, with its effect
-  pub fired : (b : Goal) × ((D : VarName → Type 0) → HasOnly D s → (y : VarName) → In y (variables_of_goal b) → D y) × HasEffect P b r.act r.number (value_at s.store) r.effect
-  fired = by_goal r.goal r.consumed fires.0 fires.1
+  -- a goal that is there fires, or the step consumes none and asks for goals
+  pub firing : ((b : Goal) × ((D : VarName → Type 0) → HasOnly D s → (y : VarName) → In y (variables_of_goal b) → D y) × HasEffect P b r.act r.number (value_at s.store) r.effect)
+      ⊎ ((gs : List Goal) × (r.act ≡ asked gs) × Asks P gs r.number r.effect × (r.goal ≡ None))
+  firing = by_goal r.goal r.consumed refl fires.0 fires.1
     where
-      by_goal : (o : Option GoalName) (c : Option Goal) → IsThere s.goals o c → HasStepEffect P c r.act r.number (value_at s.store) r.effect
-          → (b : Goal) × ((D : VarName → Type 0) → HasOnly D s → (y : VarName) → In y (variables_of_goal b) → D y) × HasEffect P b r.act r.number (value_at s.store) r.effect
-      by_goal None None e f = absurd f
-      by_goal None (Some b) e f = cc
-      by_goal (Some g) None e f = absurd f
-      by_goal (Some g) (Some b) e f = (b, (λ D h y i. h.goals g b y (let same : b ≡ e.0 = cc in e.2 ∙ ap Some (sym same)) i), f)
+      by_act : (a : Act) → r.act ≡ a → HasStepEffect P None a r.number (value_at s.store) r.effect → (gs : List Goal) × (r.act ≡ asked gs) × Asks P gs r.number r.effect
+      by_act (asked gs) e f = (gs, e, f)
+      by_act a e f = absurd f
 
-  pub after_has : (D : VarName → Type 0) → IsProgram P → IsAcyclic (value_at s.store) → HasOnly D s → ((y : VarName) → Made r.number r.effect.fresh y → D y) → HasOnly D (after s r)
-  after_has D accepted acyclic h new =
-      let brings = brings_in D s.store h.values P fired.0 r.act r.number r.effect accepted acyclic (fired.1 D h) new fired.2 in
+      by_goal : (o : Option GoalName) (c : Option Goal) → r.goal ≡ o → IsThere s.goals o c → HasStepEffect P c r.act r.number (value_at s.store) r.effect
+          → ((b : Goal) × ((D : VarName → Type 0) → HasOnly D s → (y : VarName) → In y (variables_of_goal b) → D y) × HasEffect P b r.act r.number (value_at s.store) r.effect)
+          ⊎ ((gs : List Goal) × (r.act ≡ asked gs) × Asks P gs r.number r.effect × (r.goal ≡ None))
+      by_goal None None q e f = let a = by_act r.act refl f in inr (a.0, a.1, a.2, q)
+      by_goal None (Some b) q e f = cc
+      by_goal (Some g) None q e f = let clash : None ≡ Some e.0 = e.1 in cc
+      by_goal (Some g) (Some b) q e f = inl (b, (λ D h y i. h.goals g b y (let same : b ≡ e.0 = cc in e.2 ∙ ap Some (sym same)) i), f)
+
+  pub after_has : (D : VarName → Type 0) → IsProgram P → IsAcyclic (value_at s.store) → HasOnly D s → ((y : VarName) → Made r.number r.effect.fresh y → D y) → ((y : VarName) → Names r y → D y) → HasOnly D (after s r)
+  after_has D accepted acyclic h new named =
+      let brings : BringsIn D r.effect = elim firing [
+        | inl f ↦ brings_in D s.store h.values P f.0 r.act r.number r.effect accepted acyclic (f.1 D h) new f.2
+        | inr a ↦ asked_brings P D r a.0 a.1 a.2 new named
+      ] in
       let bound : (x : VarName) (t : Tree) → value_at (after s r).store x ≡ Some t → (value_at r.effect.binds x ≡ Some t) ⊎ (value_at s.store x ≡ Some t) =
       λ x t p. either_bound (value_at r.effect.binds x) (value_at s.store x) t (sym (bound_at r.effect.binds s.store x) ∙ p) in
       record {
@@ -185,8 +234,10 @@ module _ (P : Program) (s : State) (r : Record) (fires : Fires P s r) where
 
   pub after_acyclic : (D : VarName → Type 0) → IsAcyclic (value_at s.store) → HasOnly D s → ((i : ℕ) → ¬ D (made r.number i)) → IsAcyclic (value_at (after s r).store)
   after_acyclic D acyclic h new =
-      subst IsAcyclic (by_answers (λ x. sym (bound_at r.effect.binds s.store x)))
-      (effect_acyclic P fired.0 r.act r.number (value_at s.store) r.effect acyclic (λ i. (
-        elim (value_at s.store (made r.number i)) as (λ v. value_at s.store (made r.number i) ≡ v → v ≡ None) [ None ↦ λ p. refl | Some t ↦ λ p. absurd (new i (h.keys (made r.number i) t p)) ] refl,
-        λ k tail same q. new i (reached D h q (λ y o. fired.1 D h y (subst (λ b. In y (variables_of_goal b)) (sym same) (inl o)))),
-      )) fired.2)
+      subst IsAcyclic (by_answers (λ x. sym (bound_at r.effect.binds s.store x))) (elim firing [
+        | inl f ↦ effect_acyclic P f.0 r.act r.number (value_at s.store) r.effect acyclic (λ i. (
+          elim (value_at s.store (made r.number i)) as (λ v. value_at s.store (made r.number i) ≡ v → v ≡ None) [ None ↦ λ p. refl | Some t ↦ λ p. absurd (new i (h.keys (made r.number i) t p)) ] refl,
+          λ k tail same q. new i (reached D h q (λ y o. f.1 D h y (subst (λ b. In y (variables_of_goal b)) (sym same) (inl o)))),
+        )) f.2
+        | inr a ↦ subst IsAcyclic (by_answers (λ y. ap (λ o. option_or o (value_at s.store y)) (sym (finite.get-empty name_cmp y) ∙ ap (λ z. value_at z y) (sym a.2.binds)))) acyclic
+      ])

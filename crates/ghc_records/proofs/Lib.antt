@@ -19,6 +19,7 @@ pub mod StepUsers
 pub mod NearUsers
 pub mod VariableBinders
 pub mod Giving
+pub mod MakersOf
 pub mod PickLemmas
 pub mod IndexOf
 pub mod SlotLemmas

@@ -6,7 +6,7 @@ use Rattle.ghc_term.specs.declared.goal_name.GoalName.{GoalName}
 use Rattle.ghc_term.specs.Tree.{Tree}
 use Rattle.ghc_reader.specs.Read.{IsReadTerm}
 use Rattle.ghc_fire.specs.declared.act.Act.{Act}
-use Rattle.ghc_fire.specs.declared.act.Act.TheVariants.{ByClause as by_clause, Unified as unified, Assigned as assigned, Given as given, Closed as closed}
+use Rattle.ghc_fire.specs.declared.act.Act.TheVariants.{ByClause as by_clause, Unified as unified, Assigned as assigned, Given as given, Closed as closed, Asked as asked}
 use Rattle.ghc_records.specs.Journal.{Step}
 use Rattle.ghc_records.specs.StepText.{goal_name_text}
 use Rattle.ghc_records.specs.HistoryText.{IsLineOf, SaysAct, SaysStep, TellsSteps, greatest_number}
@@ -20,6 +20,7 @@ first unified = 101
 first assigned = 105
 first (given u) = 105
 first closed = 101
+first (asked gs) = 97
 
 abbrev second : Act → ℕ
 second (by_clause k) = 121
@@ -27,6 +28,7 @@ second unified = 113
 second assigned = 115
 second (given u) = 110
 second closed = 110
+second (asked gs) = 115
 
 first_is : (bytes : List ℕ) (a : Act) → SaysAct bytes a → get_or bytes 0 0 ≡ first a
 first_is bytes (by_clause k) h = ap (λ l. get_or l 0 0) h.0
@@ -34,6 +36,7 @@ first_is bytes unified h = ap (λ l. get_or l 0 0) h
 first_is bytes assigned h = ap (λ l. get_or l 0 0) h
 first_is bytes (given u) h = ap (λ l. get_or l 0 0) h.1
 first_is bytes closed h = ap (λ l. get_or l 0 0) h
+first_is bytes (asked gs) h = absurd h
 
 second_is : (bytes : List ℕ) (a : Act) → SaysAct bytes a → get_or bytes 1 0 ≡ second a
 second_is bytes (by_clause k) h = ap (λ l. get_or l 1 0) h.0
@@ -41,6 +44,7 @@ second_is bytes unified h = ap (λ l. get_or l 1 0) h
 second_is bytes assigned h = ap (λ l. get_or l 1 0) h
 second_is bytes (given u) h = ap (λ l. get_or l 1 0) h.1
 second_is bytes closed h = ap (λ l. get_or l 1 0) h
+second_is bytes (asked gs) h = absurd h
 
 pub one_line : (pieces : List (List ℕ)) (i : ℕ) (line other : List ℕ) → IsLineOf pieces i line → IsLineOf pieces i other → line ≡ other
 one_line pieces i line other (next, more, e) (further, others, f) = ap (λ l. get_or l 0 []) (sym e ∙ f)
@@ -75,6 +79,8 @@ module _ (one_term : (text : List ℕ) (u other : Tree) → IsReadTerm text u �
   alike closed assigned e f bytes h i = absurd (omega (arith, e))
   alike closed (given u) e f bytes h i = absurd (omega (arith, e))
   alike closed closed e f bytes h i = refl
+  alike (asked gs) b e f bytes h i = absurd h
+  alike a (asked gs) e f bytes h i = absurd i
 
   one_act : (bytes : List ℕ) (a b : Act) → SaysAct bytes a → SaysAct bytes b → a ≡ b
   one_act bytes a b h i = alike a b (sym (first_is bytes a h) ∙ first_is bytes b i) (sym (second_is bytes a h) ∙ second_is bytes b i) bytes h i

@@ -1,5 +1,5 @@
 -- A replay is one, its store is acyclic, and its variables are the query's or made by its steps.
-use Rattle.std.proofs.Common.{◌≡◌, ℕ, suc, ◌≤◌, ◌⊎◌, List, [], ◌∷◌, refl, sym, ap, ◌∙◌, subst, inl, inr, arith, Some, None, slice_get}
+use Rattle.std.proofs.Common.{◌≡◌, ℕ, suc, ◌≤◌, ◌⊎◌, List, [], ◌∷◌, ◌++◌, refl, sym, ap, ◌∙◌, subst, inl, inr, arith, Some, None, slice_get}
 use Rattle.std.specs.FinMap as finite
 use Rattle.ghc_term.specs.declared.var_name.VarName.{VarName}
 use Rattle.ghc_term.specs.Lists.{In}
@@ -13,7 +13,7 @@ use Rattle.ghc_fire.specs.Instance.{made}
 use Rattle.ghc_fire.specs.Goals.{goal_cmp}
 use Rattle.ghc_records.specs.Orders.{AreDistinct}
 use Rattle.ghc_records.specs.Record.{State, Record, numbers, after}
-use Rattle.ghc_records.specs.Replay.{query_state, Runs, MakesVariable, IsVariableOf}
+use Rattle.ghc_records.specs.Replay.{query_state, Runs, MakesVariable, IsVariableOf, Names}
 use Rattle.ghc_records.specs.Laws.{ReplayIsOne, ReplayIsWellMade}
 use Rattle.ghc_records.proofs.OrderLemmas.{number_in}
 use Rattle.ghc_records.proofs.States.{made_or_old}
@@ -48,23 +48,29 @@ of_more query R Q f x (inr p) = inr (p.0, f p.0 p.1, p.2)
 
 module _ (P : Program) (query : Query) (accepted : IsProgram P) (asked : IsQuery P query) where
   pub run_well : (rs done : List Record) (s t : State) → Runs P s rs t → ((r : Record) → In r rs → 1 ≤ r.number) → AreDistinct (numbers rs) → ((n : ℕ) → In n (numbers rs) → ¬ In n (numbers done))
+      → ((front behind : List Record) (q : Record) → rs ≡ front ++ q ∷ behind → (x : VarName) → Names q x → Of query (λ p. In p done ⊎ In p front) x)
       → IsAcyclic (value_at s.store) → HasOnly (Of query (λ r. In r done)) s → IsAcyclic (value_at t.store) × HasOnly (Of query (λ r. In r done ⊎ In r rs)) t
-  run_well [] done s t run positive distinct apart acyclic h = (
+  run_well [] done s t run positive distinct apart known acyclic h = (
     subst (λ z. IsAcyclic (value_at z.store)) (sym run) acyclic,
     subst (HasOnly (Of query (λ r. In r done ⊎ ⊥))) (sym run) (has_more (Of query (λ r. In r done)) (Of query (λ r. In r done ⊎ ⊥)) s (of_more query (λ r. In r done) (λ r. In r done ⊎ ⊥) (λ r i. inl i)) h),
   )
-  run_well (r ∷ rs) done s t run positive distinct apart acyclic h =
-      let new : (i : ℕ) → ¬ Of query (λ q. In q done) (made r.number i) = λ i known. elim known [
+  run_well (r ∷ rs) done s t run positive distinct apart known acyclic h =
+      let new : (i : ℕ) → ¬ Of query (λ q. In q done) (made r.number i) = λ i of. elim of [
         | inl q ↦ let n : r.number ≡ 0 = of_query P query (made r.number i) asked q in let p = positive r (inl refl) in omega arith
         | inr q ↦ apart r.number (inl refl) (subst (λ n. In n (numbers done)) (sym q.2.0) (number_in done q.0 q.1))
       ] in
       let wider : HasOnly (Of query (λ q. In q (r ∷ done))) s = has_more (Of query (λ q. In q done)) (Of query (λ q. In q (r ∷ done))) s (of_more query (λ q. In q done) (λ q. In q (r ∷ done)) (λ q i. inr i)) h in
-      let next = after_has P s r run.0 (Of query (λ q. In q (r ∷ done))) accepted acyclic wider (λ y m. inr (r, inl refl, m)) in
+      let next = after_has P s r run.0 (Of query (λ q. In q (r ∷ done))) accepted acyclic wider (λ y m. inr (r, inl refl, m))
+      (λ y n. of_more query (λ p. In p done ⊎ ⊥) (λ p. In p (r ∷ done)) (λ p i. elim i [ inl j ↦ inr j | inr j ↦ absurd j ]) y (known [] rs r refl y n)) in
       let shut = after_acyclic P s r run.0 (Of query (λ q. In q done)) acyclic h new in
       let rest = run_well rs (r ∷ done) (after s r) t run.1 (λ q i. positive q (inr i)) distinct.1 (λ n i j. elim j [
         | inl e ↦ distinct.0 (subst (λ m. In m (numbers rs)) e i)
         | inr k ↦ apart n (inr i) k
-      ]) shut next in (
+      ]) (λ front behind q e x n. of_more query (λ p. In p done ⊎ In p (r ∷ front)) (λ p. In p (r ∷ done) ⊎ In p front) (λ p i. elim i [
+        | inl j ↦ inl (inr j)
+        | inr (inl same) ↦ inl (inl same)
+        | inr (inr j) ↦ inr j
+      ]) x (known (r ∷ front) behind q (ap (λ l. r ∷ l) e) x n)) shut next in (
         rest.0,
         has_more (Of query (λ q. In q (r ∷ done) ⊎ In q rs)) (Of query (λ q. In q done ⊎ In q (r ∷ rs))) t (of_more query (λ q. In q (r ∷ done) ⊎ In q rs) (λ q. In q done ⊎ In q (r ∷ rs)) (λ q i. elim i [
           | inl (inl e) ↦ inr (inl e)
@@ -85,7 +91,8 @@ module _ (P : Program) (query : Query) (accepted : IsProgram P) (asked : IsQuery
 
 pub replay_well : ReplayIsWellMade
 replay_well P query rs t accepted asked replay =
-    let all = run_well P query accepted asked rs [] (query_state query) t replay.1 (λ r i. (replay.0.0 r i).0) replay.0.1 (λ n i j. j) (empty_acyclic finite.empty refl) (query_has P query accepted asked) in
+    let all = run_well P query accepted asked rs [] (query_state query) t replay.1 (λ r i. (replay.0.0 r i).0) replay.0.1 (λ n i j. j)
+    (λ front behind q e x n. of_more query (λ p. In p front) (λ p. ⊥ ⊎ In p front) (λ p i. inr i) x (replay.2 front behind q e x n)) (empty_acyclic finite.empty refl) (query_has P query accepted asked) in
     let h = has_more (Of query (λ r. ⊥ ⊎ In r rs)) (IsVariableOf query rs) t (of_more query (λ r. ⊥ ⊎ In r rs) (λ r. In r rs) (λ r i. elim i [ inl j ↦ absurd j | inr j ↦ j ])) all.1 in
     record {
       acyclic = all.0;

@@ -5,7 +5,7 @@ use Rattle.std.proofs.lemmas.List.{append_cancel_left}
 use Rattle.std.proofs.lemmas.List.Elements.{All-cons}
 use Rattle.ghc_term.specs.declared.goal_name.GoalName.{GoalName}
 use Rattle.ghc_fire.specs.declared.act.Act.{Act}
-use Rattle.ghc_fire.specs.declared.act.Act.TheVariants.{ByClause as by_clause, Unified as unified, Assigned as assigned, Given as given, Closed as closed}
+use Rattle.ghc_fire.specs.declared.act.Act.TheVariants.{ByClause as by_clause, Unified as unified, Assigned as assigned, Given as given, Closed as closed, Asked as asked}
 use Rattle.ghc_reader.specs.Read.{IsReadTerm}
 use Rattle.ghc_term.specs.Tree.{Tree}
 use Rattle.ghc_records.specs.Journal.{Step}
@@ -75,6 +75,7 @@ in_only bytes front text at cut none (given u) h =
     let same : text ≡ h.0 = append_cancel_left (codes "in ") text h.0 (begun bytes front text (codes "in ") at cut ∙ h.1) in
     none u (subst (λ l. IsReadTerm l u) (sym same) h.2)
 in_only bytes front text at cut none closed h = differ 0 (codes "in " ++ text) (codes "end") (λ e. omega (arith, e)) (begun bytes front text (codes "in ") at cut ∙ h)
+in_only bytes front text at cut none (asked gs) h = h
 
 -- bytes that begin neither way, and are no other act
 pub none_only : (bytes by given_front : List ℕ) → by ≡ codes "by " → given_front ≡ codes "in " → ((rest : List ℕ) → bytes ≢ by ++ rest) → ((rest : List ℕ) → bytes ≢ given_front ++ rest)
@@ -84,3 +85,4 @@ none_only bytes by given_front at here no_by no_in others unified h = others.0 h
 none_only bytes by given_front at here no_by no_in others assigned h = others.1 h
 none_only bytes by given_front at here no_by no_in others (given u) h = no_in h.0 (h.1 ∙ ap (λ l. l ++ h.0) (sym here))
 none_only bytes by given_front at here no_by no_in others closed h = others.2 h
+none_only bytes by given_front at here no_by no_in others (asked gs) h = h

@@ -14,14 +14,14 @@ use Rattle.ghc_flat.specs.Clause.{Program, Query}
 use Rattle.ghc_flat.specs.Flat.{is_stream, IsProgram, IsQuery}
 use Rattle.ghc_fire.specs.Instance.{becomes, replace_in_goal}
 use Rattle.ghc_fire.specs.declared.act.Act.{Act}
-use Rattle.ghc_fire.specs.declared.act.Act.TheVariants.{ByClause as by_clause, Unified as unified, Assigned as assigned, Given as given, Closed as closed}
+use Rattle.ghc_fire.specs.declared.act.Act.TheVariants.{ByClause as by_clause, Unified as unified, Assigned as assigned, Given as given, Closed as closed, Asked as asked}
 use Rattle.ghc_fire.specs.Effect.{Effect, HasEffect}
 use Rattle.ghc_fire.specs.Goals.{goal_cmp, Goals}
 use Rattle.ghc_records.specs.Record.{State, Record, with_makes, without_goal, after, Fires, IsThere, HasStepEffect}
 use Rattle.ghc_records.specs.Replay.{query_state, Runs}
 use Rattle.ghc_fire.proofs.GoalNames.{goal_total, same_goal, same_parts}
 use Rattle.ghc_records.proofs.States.{old_apart}
-use Rattle.ghc_records.proofs.Effects.{mapped, not_stream}
+use Rattle.ghc_records.proofs.Effects.{mapped, not_stream, kept_goal}
 
 -- each stream has one goal at most
 abbrev pub OneEach : State → Type 0
@@ -70,36 +70,57 @@ stream_made P (stream l s) (given u) n S e accepted d j k x p =
 stream_made P (stream l s) closed n S e accepted d j k x p = absurd (none_made e.makes j (stream k x) d.3 p)
 stream_made P g a n S e accepted d j k x p = absurd d
 
--- the name of the goal that fires
+-- the name of the goal that fires, or that the step consumes none and makes no stream goal
 named : (P : Program) (s : State) (r : Record) (o : Option GoalName) (c : Option Goal) → IsThere s.goals o c → HasStepEffect P c r.act r.number (value_at s.store) r.effect
-    → (g : GoalName) × (b : Goal) × (o ≡ Some g) × (finite.get s.goals g ≡ Some b) × HasEffect P b r.act r.number (value_at s.store) r.effect
-named P s r None None e f = absurd f
+    → ((g : GoalName) × (b : Goal) × (o ≡ Some g) × (finite.get s.goals g ≡ Some b) × HasEffect P b r.act r.number (value_at s.store) r.effect)
+    ⊎ ((o ≡ None) × (filter is_stream r.effect.makes ≡ []))
+named P s r None None e f = inr (refl, by_act r.act f)
+  where
+    by_act : (a : Act) → HasStepEffect P None a r.number (value_at s.store) r.effect → filter is_stream r.effect.makes ≡ []
+    by_act (asked gs) f = ap (λ l. filter is_stream l) f.makes ∙ f.askable.plain
+    by_act a f = absurd f
 named P s r None (Some b) e f = cc
-named P s r (Some g) None e f = absurd f
-named P s r (Some g) (Some b) e f = (g, b, refl, (let same : b ≡ e.0 = cc in e.2 ∙ ap Some (sym same)), f)
+named P s r (Some g) None e f = let clash : None ≡ Some e.0 = e.1 in cc
+named P s r (Some g) (Some b) e f = inl (g, b, refl, (let same : b ≡ e.0 = cc in e.2 ∙ ap Some (sym same)), f)
+
+-- no stream goal is among these
+none_stream : (gs : List Goal) (j k : ℕ) (x : VarName) → filter is_stream gs ≡ [] → slice_get gs j ≡ Some (stream k x) → ⊥
+none_stream gs j k x e p = let clash : true ≡ false = not_stream gs (stream k x) e (in_at gs j (stream k x) p) in cc
 
 module _ (P : Program) (accepted : IsProgram P) where
+  -- a step that consumes no goal
+  after_asked : (s : State) (r : Record) → r.goal ≡ None → filter is_stream r.effect.makes ≡ [] → OneEach s → OneEach (after s r)
+  after_asked s r none plain one k g h x y p q =
+      let old : (i : GoalName) (z : VarName) → finite.get (after s r).goals i ≡ Some (stream k z) → finite.get s.goals i ≡ Some (stream k z) =
+      λ i z e. elim (made_at r.number 1 r.effect.makes (without_goal r.goal s.goals) i (stream k z) e) [
+        | inl m ↦ absurd (none_stream r.effect.makes m.0 k z plain m.1)
+        | inr m ↦ kept_goal s.goals r.goal i (stream k z) m
+      ] in
+      one k g h x y (old g x p) (old h y q)
+
   pub after_one_each : (s : State) (r : Record) → Fires P s r → OneEach s → OneEach (after s r)
-  after_one_each s r fires one k g h x y p q =
-      let f = named P s r r.goal r.consumed fires.0 fires.1 in
-      let old : (i : GoalName) (b : Goal) → finite.get (without_goal r.goal s.goals) i ≡ Some b → (finite.get s.goals i ≡ Some b) × (i ≢ f.0) =
-      λ i b e. old_apart s.goals f.0 i b (subst (λ o. finite.get (without_goal o s.goals) i ≡ Some b) f.2 e) in
-      let made : (i : GoalName) (z : VarName) → MadeAt r.number 1 r.effect.makes i (stream k z) → (i.place ≡ 1) × ((tail : VarName) × (finite.get s.goals f.0 ≡ Some (stream k tail))) =
-      λ i z m.
-      let t = stream_made P f.1 r.act r.number (value_at s.store) r.effect accepted f.4 m.0 k z m.1 in
-      let place : i.place ≡ 1 + m.0 = m.3 in
-      let first : m.0 ≡ 0 = t.0 in
-      ((omega arith), (t.1.0, f.3 ∙ ap Some t.1.1)) in
-      elim (made_at r.number 1 r.effect.makes (without_goal r.goal s.goals) g (stream k x) p) [
-        | inl a ↦ elim (made_at r.number 1 r.effect.makes (without_goal r.goal s.goals) h (stream k y) q) [
-          | inl b ↦ same_parts g h (a.2 ∙ sym b.2) ((made g x a).0 ∙ sym (made h y b).0)
-          | inr b ↦ let c = made g x a in let d = old h (stream k y) b in absurd (d.1 (sym (one k f.0 h c.1.0 y c.1.1 d.0)))
+  after_one_each s r fires one k g h x y p q = elim (named P s r r.goal r.consumed fires.0 fires.1) [
+    | inr n ↦ after_asked s r n.0 n.1 one k g h x y p q
+    | inl f ↦
+        let old : (i : GoalName) (b : Goal) → finite.get (without_goal r.goal s.goals) i ≡ Some b → (finite.get s.goals i ≡ Some b) × (i ≢ f.0) =
+        λ i b e. old_apart s.goals f.0 i b (subst (λ o. finite.get (without_goal o s.goals) i ≡ Some b) f.2 e) in
+        let made : (i : GoalName) (z : VarName) → MadeAt r.number 1 r.effect.makes i (stream k z) → (i.place ≡ 1) × ((tail : VarName) × (finite.get s.goals f.0 ≡ Some (stream k tail))) =
+        λ i z m.
+        let t = stream_made P f.1 r.act r.number (value_at s.store) r.effect accepted f.4 m.0 k z m.1 in
+        let place : i.place ≡ 1 + m.0 = m.3 in
+        let first : m.0 ≡ 0 = t.0 in
+        ((omega arith), (t.1.0, f.3 ∙ ap Some t.1.1)) in
+        elim (made_at r.number 1 r.effect.makes (without_goal r.goal s.goals) g (stream k x) p) [
+          | inl a ↦ elim (made_at r.number 1 r.effect.makes (without_goal r.goal s.goals) h (stream k y) q) [
+            | inl b ↦ same_parts g h (a.2 ∙ sym b.2) ((made g x a).0 ∙ sym (made h y b).0)
+            | inr b ↦ let c = made g x a in let d = old h (stream k y) b in absurd (d.1 (sym (one k f.0 h c.1.0 y c.1.1 d.0)))
+          ]
+          | inr a ↦ elim (made_at r.number 1 r.effect.makes (without_goal r.goal s.goals) h (stream k y) q) [
+            | inl b ↦ let c = made h y b in let d = old g (stream k x) a in absurd (d.1 (sym (one k f.0 g c.1.0 x c.1.1 d.0)))
+            | inr b ↦ one k g h x y (old g (stream k x) a).0 (old h (stream k y) b).0
+          ]
         ]
-        | inr a ↦ elim (made_at r.number 1 r.effect.makes (without_goal r.goal s.goals) h (stream k y) q) [
-          | inl b ↦ let c = made h y b in let d = old g (stream k x) a in absurd (d.1 (sym (one k f.0 g c.1.0 x c.1.1 d.0)))
-          | inr b ↦ one k g h x y (old g (stream k x) a).0 (old h (stream k y) b).0
-        ]
-      ]
+  ]
 
   pub run_one_each : (rs : List Record) (s t : State) → Runs P s rs t → OneEach s → OneEach t
   run_one_each [] s t run one = subst OneEach (sym run) one
@@ -141,14 +162,14 @@ one_rank (g ∷ gs) (suc j) (suc l) b c e s f t r =
 
 -- a query has one goal a stream
 pub query_one_each : (P : Program) (query : Query) → IsQuery P query → OneEach (query_state query)
-query_one_each P query asked k g h x y p q =
+query_one_each P query fits k g h x y p q =
     elim (made_at 0 1 query finite.empty g (stream k x) p) [
       | inr a ↦ absurd (let clash : None ≡ Some (stream k x) = sym (finite.get-empty goal_cmp g) ∙ a in cc)
       | inl a ↦ elim (made_at 0 1 query finite.empty h (stream k y) q) [
         | inr b ↦ absurd (let clash : None ≡ Some (stream k y) = sym (finite.get-empty goal_cmp h) ∙ b in cc)
         | inl b ↦
-            let first : k ≡ rank query a.0 + 1 = asked.streams (rank query a.0) k x (ranked query a.0 (stream k x) a.1 refl) in
-            let second : k ≡ rank query b.0 + 1 = asked.streams (rank query b.0) k y (ranked query b.0 (stream k y) b.1 refl) in
+            let first : k ≡ rank query a.0 + 1 = fits.streams (rank query a.0) k x (ranked query a.0 (stream k x) a.1 refl) in
+            let second : k ≡ rank query b.0 + 1 = fits.streams (rank query b.0) k y (ranked query b.0 (stream k y) b.1 refl) in
             let same : a.0 ≡ b.0 = one_rank query a.0 b.0 (stream k x) (stream k y) a.1 refl b.1 refl (omega arith) in
             let one : g.place ≡ 1 + a.0 = a.3 in
             let two : h.place ≡ 1 + b.0 = b.3 in

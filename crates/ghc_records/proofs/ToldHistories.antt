@@ -1,11 +1,12 @@
 -- A history that a text tells is of the form.
 use Rattle.std.proofs.Common.{◌≡◌, ℕ, suc, ◌≤◌, List, [], ◌∷◌, sym, ap, ◌∙◌, subst, inl, inr, Some, slice_get}
 use Rattle.ghc_term.specs.declared.goal_name.GoalName.{GoalName}
+use Rattle.ghc_term.specs.Goal.{Goal}
 use Rattle.ghc_term.specs.Lists.{In}
 use Rattle.ghc_term.specs.Tree.{Tree}
 use Rattle.ghc_term.specs.InputTerm.{IsInputTerm}
 use Rattle.ghc_reader.specs.Read.{IsReadTerm}
-use Rattle.ghc_fire.specs.declared.act.Act.TheVariants.{ByClause as by_clause, Given as given}
+use Rattle.ghc_fire.specs.declared.act.Act.TheVariants.{ByClause as by_clause, Given as given, Asked as asked}
 use Rattle.ghc_records.specs.Journal.{Step}
 use Rattle.ghc_records.specs.History.{History, IsHistory}
 use Rattle.ghc_records.specs.HistoryText.{SaysAct, SaysStep, TellsHistory}
@@ -30,11 +31,15 @@ said_clause bytes s k says e = subst (SaysAct bytes) e says
 said_input : (bytes : List ℕ) (s : Step) (u : Tree) → SaysAct bytes s.act → s.act ≡ given u → SaysAct bytes (given u)
 said_input bytes s u says e = subst (SaysAct bytes) e says
 
+said_asked : (bytes : List ℕ) (s : Step) (gs : List Goal) → SaysAct bytes s.act → ¬ (s.act ≡ asked gs)
+said_asked bytes s gs says e = subst (SaysAct bytes) e says
+
 pub told_history : (text : List ℕ) (h : History) → TellsHistory text h → IsHistory h
 told_history text h told = record {
   few = told.count.1;
   numbered = λ s i. let (line, says) = line_of text h told s i in (says.number.0, told.steps.below h.next s told.next i);
   of_goals = λ s i. let (line, says) = line_of text h told s i in (says.goal, says.of_goal);
+  unasked = λ s gs i e. let (line, says) = line_of text h told s i in said_asked says.act s gs says.says e;
   of_clauses = λ s k i e. let (line, says) = line_of text h told s i in (said_clause says.act s k says.says e).1;
   distinct = told.steps.distinct;
   next_number = (told.next.1, told.next.2);

@@ -1,5 +1,5 @@
 -- What is written of a history is a text that tells it.
-use Rattle.std.proofs.Common.{◌≡◌, ℕ, zero, suc, ◌+◌, ◌<◌, ◌≤◌, List, [], ◌∷◌, ◌++◌, drop, length, map, refl, sym, ap, ◌∙◌, subst, arith, decimal, append_assoc, inl, inr, true, false, not, nat_eq, Some, slice_get}
+use Rattle.std.proofs.Common.{◌≡◌, ◌≢◌, ℕ, zero, suc, ◌+◌, ◌<◌, ◌≤◌, List, [], ◌∷◌, ◌++◌, drop, length, map, refl, sym, ap, ◌∙◌, subst, arith, decimal, append_assoc, inl, inr, true, false, not, nat_eq, Some, slice_get}
 use Rattle.std.specs.Prelude.{codes, ◌&&◌}
 use Rattle.std.specs.List.{AllByRecursion, list_all}
 use Rattle.std.proofs.lemmas.Bool.{eq-eqb}
@@ -10,8 +10,9 @@ use Rattle.ghc_term.specs.Tree.{Tree}
 use Rattle.ghc_term.specs.Text.{term_text}
 use Rattle.ghc_term.specs.InputTerm.{IsInputTerm}
 use Rattle.ghc_reader.specs.Read.{IsReadTerm}
+use Rattle.ghc_term.specs.Goal.{Goal}
 use Rattle.ghc_fire.specs.declared.act.Act.{Act}
-use Rattle.ghc_fire.specs.declared.act.Act.TheVariants.{ByClause as by_clause, Unified as unified, Assigned as assigned, Given as given, Closed as closed}
+use Rattle.ghc_fire.specs.declared.act.Act.TheVariants.{ByClause as by_clause, Unified as unified, Assigned as assigned, Given as given, Closed as closed, Asked as asked}
 use Rattle.ghc_records.specs.Journal.{Step}
 use Rattle.ghc_records.specs.StepText.{act_text, consumed_text, goal_name_text, step_text}
 use Rattle.ghc_records.specs.History.{History, IsHistory}
@@ -27,20 +28,22 @@ lines_cut [] h = refl
 lines_cut (line ∷ lines) h = first_piece 10 line (lines_text lines) h.0 ∙ ap (λ l. line ∷ l) (lines_cut lines h.1)
 
 -- the act of a step is said by its text
-act_said : (act : Act) → ((k : ℕ) → act ≡ by_clause k → (1 ≤ k) × (k ≤ greatest_number)) → ((u : Tree) → act ≡ given u → IsReadTerm (term_text u) u) → SaysAct (act_text act) act
-act_said (by_clause k) clause input = (refl, (clause k refl).0, (clause k refl).1)
-act_said unified clause input = refl
-act_said assigned clause input = refl
-act_said (given u) clause input = (term_text u, refl, input u refl)
-act_said closed clause input = refl
+act_said : (act : Act) → ((k : ℕ) → act ≡ by_clause k → (1 ≤ k) × (k ≤ greatest_number)) → ((u : Tree) → act ≡ given u → IsReadTerm (term_text u) u) → ((gs : List Goal) → act ≢ asked gs) → SaysAct (act_text act) act
+act_said (by_clause k) clause input unasked = (refl, (clause k refl).0, (clause k refl).1)
+act_said unified clause input unasked = refl
+act_said assigned clause input unasked = refl
+act_said (given u) clause input unasked = (term_text u, refl, input u refl)
+act_said closed clause input unasked = refl
+act_said (asked gs) clause input unasked = absurd (unasked gs refl)
 
 -- no line feed stands in it
-act_plain : (act : Act) → ((k : ℕ) → act ≡ by_clause k → k ≤ greatest_number) → ((u : Tree) → act ≡ given u → IsInputTerm u) → HasNoFeed (act_text act)
-act_plain (by_clause k) clause input = both (codes "by ") (decimal k) (byte_first 98 (codes "y ") (λ e. omega (arith, e)) (byte_first 121 (codes " ") (λ e. omega (arith, e)) (byte_first 32 [] (λ e. omega (arith, e)) nothing))) (decimal_text k (fits k (clause k refl)))
-act_plain unified clause input = byte_first 101 (codes "q") (λ e. omega (arith, e)) (byte_first 113 [] (λ e. omega (arith, e)) nothing)
-act_plain assigned clause input = byte_first 105 (codes "s") (λ e. omega (arith, e)) (byte_first 115 [] (λ e. omega (arith, e)) nothing)
-act_plain (given u) clause input = both (codes "in ") (term_text u) (byte_first 105 (codes "n ") (λ e. omega (arith, e)) (byte_first 110 (codes " ") (λ e. omega (arith, e)) (byte_first 32 [] (λ e. omega (arith, e)) nothing))) (term_plain u (input u refl).grammar)
-act_plain closed clause input = byte_first 101 (codes "nd") (λ e. omega (arith, e)) (byte_first 110 (codes "d") (λ e. omega (arith, e)) (byte_first 100 [] (λ e. omega (arith, e)) nothing))
+act_plain : (act : Act) → ((k : ℕ) → act ≡ by_clause k → k ≤ greatest_number) → ((u : Tree) → act ≡ given u → IsInputTerm u) → ((gs : List Goal) → act ≢ asked gs) → HasNoFeed (act_text act)
+act_plain (by_clause k) clause input unasked = both (codes "by ") (decimal k) (byte_first 98 (codes "y ") (λ e. omega (arith, e)) (byte_first 121 (codes " ") (λ e. omega (arith, e)) (byte_first 32 [] (λ e. omega (arith, e)) nothing))) (decimal_text k (fits k (clause k refl)))
+act_plain unified clause input unasked = byte_first 101 (codes "q") (λ e. omega (arith, e)) (byte_first 113 [] (λ e. omega (arith, e)) nothing)
+act_plain assigned clause input unasked = byte_first 105 (codes "s") (λ e. omega (arith, e)) (byte_first 115 [] (λ e. omega (arith, e)) nothing)
+act_plain (given u) clause input unasked = both (codes "in ") (term_text u) (byte_first 105 (codes "n ") (λ e. omega (arith, e)) (byte_first 110 (codes " ") (λ e. omega (arith, e)) (byte_first 32 [] (λ e. omega (arith, e)) nothing))) (term_plain u (input u refl).grammar)
+act_plain closed clause input unasked = byte_first 101 (codes "nd") (λ e. omega (arith, e)) (byte_first 110 (codes "d") (λ e. omega (arith, e)) (byte_first 100 [] (λ e. omega (arith, e)) nothing))
+act_plain (asked gs) clause input unasked = absurd (unasked gs refl)
 
 -- what is written out has none, by the test
 plain_codes : (bytes : List ℕ) → list_all (λ b. not (nat_eq b 10)) bytes ≡ true → HasNoFeed bytes
@@ -92,7 +95,7 @@ module _ (each : (u : Tree) → IsInputTerm u → IsReadTerm (term_text u) u) (h
         number = ((is.numbered s i).0, small_number s i);
         goal_numbers = r.goal g e;
         of_goal = e;
-        says = act_said s.act (λ k a. (is.of_clauses s k i a, r.clause k a)) (λ u a. each u (r.input u a));
+        says = act_said s.act (λ k a. (is.of_clauses s k i a, r.clause k a)) (λ u a. each u (r.input u a)) (λ gs a. is.unasked s gs i a);
       }
 
   step_is_plain : (s : Step) → In s h.steps → HasNoFeed (step_text s)
@@ -104,7 +107,7 @@ module _ (each : (u : Tree) → IsInputTerm u → IsReadTerm (term_text u) u) (h
       subst HasNoFeed (sym (step_parts s g e))
       (both (decimal s.number) (codes " " ++ (goal_name_text g ++ (codes " " ++ act_text s.act))) (decimal_text s.number (fits s.number (small_number s i)))
       (byte_first 32 (goal_name_text g ++ (codes " " ++ act_text s.act)) (λ e. omega (arith, e))
-      (both (goal_name_text g) (codes " " ++ act_text s.act) goal (byte_first 32 (act_text s.act) (λ e. omega (arith, e)) (act_plain s.act r.clause r.input)))))
+      (both (goal_name_text g) (codes " " ++ act_text s.act) goal (byte_first 32 (act_text s.act) (λ e. omega (arith, e)) (act_plain s.act r.clause r.input (λ gs a. is.unasked s gs i a))))))
 
   -- the lines of the steps, and those behind them
   steps_plain : (steps : List Step) (behind : List (List ℕ)) → ((s : Step) → In s steps → In s h.steps) → AllByRecursion HasNoFeed behind → AllByRecursion HasNoFeed (map step_text steps ++ behind)

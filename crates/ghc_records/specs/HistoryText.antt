@@ -7,7 +7,7 @@ use Rattle.ghc_term.specs.declared.fault.Fault.{Fault}
 use Rattle.ghc_term.specs.Lists.{In}
 use Rattle.ghc_reader.specs.Read.{IsReadTerm}
 use Rattle.ghc_fire.specs.declared.act.Act.{Act}
-use Rattle.ghc_fire.specs.declared.act.Act.TheVariants.{ByClause as by_clause, Unified as unified, Assigned as assigned, Given as given, Closed as closed}
+use Rattle.ghc_fire.specs.declared.act.Act.TheVariants.{ByClause as by_clause, Unified as unified, Assigned as assigned, Given as given, Closed as closed, Asked as asked}
 use Rattle.ghc_records.specs.Orders.{AreDistinct}
 use Rattle.ghc_records.specs.Numbers.{number_limit, kept_limit}
 use Rattle.ghc_records.specs.Journal.{Step}
@@ -55,13 +55,14 @@ IsLine text i line = IsLineOf (pieces_of text) i line
 abbrev pub greatest_number : ℕ
 greatest_number = 4294967295
 
--- The bytes say the act. Behind `in ` stands any text of an input term.
+-- The bytes say the act. Behind `in ` stands any text of an input term. No act that asks for goals is said.
 abbrev pub SaysAct : List ℕ → Act → Type 0
 SaysAct bytes (by_clause k) = (bytes ≡ codes "by " ++ decimal k) × (1 ≤ k) × (k ≤ greatest_number)
 SaysAct bytes unified = bytes ≡ codes "eq"
 SaysAct bytes assigned = bytes ≡ codes "is"
 SaysAct bytes (given u) = (text : List ℕ) × (bytes ≡ codes "in " ++ text) × IsReadTerm text u
 SaysAct bytes closed = bytes ≡ codes "end"
+SaysAct bytes (asked gs) = ⊥
 
 -- The line says the step: its number, from 1 on, the goal that it consumed, and its act.
 pub record SaysStep (line : List ℕ) (s : Step) : Type 0 where

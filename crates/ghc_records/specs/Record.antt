@@ -10,6 +10,8 @@ use Rattle.ghc_term.specs.Store.{StoreValue, value_at, with_binds}
 use Rattle.ghc_flat.specs.Clause.{Program}
 use Rattle.ghc_fire.specs.Goals.{Goals}
 use Rattle.ghc_fire.specs.declared.act.Act.{Act}
+use Rattle.ghc_fire.specs.declared.act.Act.TheVariants.{ByClause as by_clause, Unified as unified, Assigned as assigned, Given as given, Closed as closed, Asked as asked}
+use Rattle.ghc_fire.specs.Asked.{Asks}
 use Rattle.ghc_fire.specs.Effect.{Effect, HasEffect}
 
 -- A state is its goals and its store.
@@ -55,9 +57,14 @@ abbrev pub IsThere : Goals → Option GoalName → Option Goal → Type 0
 IsThere m None consumed = consumed ≡ None
 IsThere m (Some g) consumed = (b : Goal) × (consumed ≡ Some b) × (finite.get m g ≡ Some b)
 
--- The act on what is consumed has this effect as step n; each act so far consumes a goal.
+-- The act on what is consumed has this effect as step n: one that asks for goals consumes none, and each other act consumes a goal.
 abbrev pub HasStepEffect : Program → Option Goal → Act → ℕ → (VarName → Option Tree) → Effect → Type 0
-HasStepEffect P None a n S e = ⊥
+HasStepEffect P None (by_clause k) n S e = ⊥
+HasStepEffect P None unified n S e = ⊥
+HasStepEffect P None assigned n S e = ⊥
+HasStepEffect P None (given u) n S e = ⊥
+HasStepEffect P None closed n S e = ⊥
+HasStepEffect P None (asked gs) n S e = Asks P gs n e
 HasStepEffect P (Some b) a n S e = HasEffect P b a n S e
 
 -- The step is possible in the state, with the effect recorded.

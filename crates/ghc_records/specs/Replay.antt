@@ -1,11 +1,12 @@
 -- What it is to run a list of steps from a query.
-use Rattle.std.specs.Prelude.{◌≡◌, ◌⊎◌, ◌≤◌, List, [], ◌∷◌, length}
+use Rattle.std.specs.Prelude.{◌≡◌, ◌≢◌, ◌⊎◌, ◌≤◌, List, [], ◌∷◌, ◌++◌, length}
 use Rattle.std.specs.FinMap as finite
 use Rattle.ghc_term.specs.declared.var_name.VarName.{VarName}
 use Rattle.ghc_term.specs.declared.goal_name.GoalName.{GoalName}
 use Rattle.ghc_term.specs.Lists.{In}
 use Rattle.ghc_flat.specs.Clause.{Program, Query}
 use Rattle.ghc_flat.specs.Variables.{variables_of_goals}
+use Rattle.ghc_fire.specs.Asked.{variables_asked}
 use Rattle.ghc_records.specs.Orders.{AreDistinct}
 use Rattle.ghc_records.specs.Numbers.{IsStepNumber}
 use Rattle.ghc_records.specs.Record.{State, Record, numbers, with_makes, after, Fires}
@@ -23,10 +24,6 @@ Runs P s (r ∷ rs) t = Fires P s r × Runs P (after s r) rs t
 abbrev pub HaveStepNumbers : List Record → Type 0
 HaveStepNumbers rs = ((r : Record) → In r rs → IsStepNumber r.number) × AreDistinct (numbers rs)
 
--- The replay of the records from the query is the state t.
-abbrev pub Replays : Program → Query → List Record → State → Type 0
-Replays P query rs t = HaveStepNumbers rs × Runs P (query_state query) rs t
-
 -- The step of the record made the goal named g.
 abbrev pub MakesGoal : Record → GoalName → Type 0
 MakesGoal r g = (g.step ≡ r.number) × (1 ≤ g.place) × (g.place ≤ length r.effect.makes)
@@ -38,3 +35,19 @@ MakesVariable r x = (x.step ≡ r.number) × (1 ≤ x.place) × (x.place ≤ r.e
 -- The variable x stands in the query, or one of the steps made it.
 abbrev pub IsVariableOf : Query → List Record → VarName → Type 0
 IsVariableOf query rs x = In x (variables_of_goals query) ⊎ ((r : Record) × In r rs × MakesVariable r x)
+
+-- The step names the variable x: it asks for goals in which x stands, which is none of its own.
+abbrev pub Names : Record → VarName → Type 0
+Names r x = In x (variables_asked r.act) × (x.step ≢ r.number)
+
+-- Each variable that the step names is the query's, or one of these steps made it.
+abbrev pub AreKnownIn : Query → List Record → Record → Type 0
+AreKnownIn query rs r = (x : VarName) → Names r x → IsVariableOf query rs x
+
+-- Each of the steps names variables alone that are the query's, or that one of the steps in front of it made.
+abbrev pub NameWhatIsKnown : Query → List Record → Type 0
+NameWhatIsKnown query rs = (front behind : List Record) (r : Record) → rs ≡ front ++ r ∷ behind → AreKnownIn query front r
+
+-- The replay of the records from the query is the state t.
+abbrev pub Replays : Program → Query → List Record → State → Type 0
+Replays P query rs t = HaveStepNumbers rs × Runs P (query_state query) rs t × NameWhatIsKnown query rs

@@ -8,11 +8,12 @@ use Rattle.ghc_term.specs.declared.goal_name.GoalName.{GoalName}
 use Rattle.ghc_term.specs.Tree.{Tree}
 use Rattle.ghc_term.specs.Goal.{Goal}
 use Rattle.ghc_term.specs.Text.{variable_text, term_text}
+use Rattle.ghc_term.specs.GoalText.{goal_text}
 use Rattle.ghc_term.specs.Bindings.{name_cmp}
 use Rattle.ghc_term.specs.Sets.{Variables}
 use Rattle.ghc_term.specs.Store.{StoreValue}
 use Rattle.ghc_fire.specs.declared.act.Act.{Act}
-use Rattle.ghc_fire.specs.declared.act.Act.TheVariants.{ByClause as by_clause, Unified as unified, Assigned as assigned, Given as given, Closed as closed}
+use Rattle.ghc_fire.specs.declared.act.Act.TheVariants.{ByClause as by_clause, Unified as unified, Assigned as assigned, Given as given, Closed as closed, Asked as asked}
 use Rattle.ghc_records.specs.Record.{Record}
 use Rattle.ghc_records.specs.Journal.{Step, step_of}
 
@@ -20,27 +21,33 @@ use Rattle.ghc_records.specs.Journal.{Step, step_of}
 abbrev pub goal_name_text : GoalName → List ℕ
 goal_name_text g = decimal g.step ++ (codes "." ++ decimal g.place)
 
--- an act: `by 2`, `eq`, `is`, `in T` or `end`
+-- the texts that follow the first, each behind the mark
+abbrev pub followed_by : List ℕ → List (List ℕ) → List ℕ
+followed_by mark [] = []
+followed_by mark (text ∷ texts) = mark ++ (text ++ followed_by mark texts)
+
+-- goals as they are written, with a comma and a space between them, and `true` where there is none
+abbrev pub body_text : List Goal → List ℕ
+body_text [] = codes "true"
+body_text (g ∷ gs) = goal_text g ++ followed_by (codes ", ") (map goal_text gs)
+
+-- an act: `by 2`, `eq`, `is`, `in T`, `end` or `ask BODY`
 abbrev pub act_text : Act → List ℕ
 act_text (by_clause k) = codes "by " ++ decimal k
 act_text unified = codes "eq"
 act_text assigned = codes "is"
 act_text (given u) = codes "in " ++ term_text u
 act_text closed = codes "end"
+act_text (asked gs) = codes "ask " ++ body_text gs
 
 -- the name of the goal that a step consumed, or `-` where it consumed none, and a space behind it
 abbrev pub consumed_text : Option GoalName → List ℕ
 consumed_text None = codes "- "
 consumed_text (Some g) = goal_name_text g ++ codes " "
 
--- a step: its number, the goal that it consumed, and its act, as `1 0.1 by 2`, or `2 - end` without a goal
+-- a step: its number, the goal that it consumed, and its act, as `1 0.1 by 2`, or `2 - ask r(_0_1)` without a goal
 abbrev pub step_text : Step → List ℕ
 step_text s = decimal s.number ++ (codes " " ++ (consumed_text s.goal ++ act_text s.act))
-
--- the texts that follow the first, each behind the mark
-abbrev pub followed_by : List ℕ → List (List ℕ) → List ℕ
-followed_by mark [] = []
-followed_by mark (text ∷ texts) = mark ++ (text ++ followed_by mark texts)
 
 -- the texts with the mark between them, and `-` where there is none
 abbrev pub listed : List ℕ → List (List ℕ) → List ℕ

@@ -11,7 +11,7 @@ use Rattle.ghc_term.specs.Sets.{Variables}
 use Rattle.ghc_term.specs.Table.{Table}
 use Rattle.ghc_records.specs.Record.{Record}
 use Rattle.ghc_records.specs.Slots.{SlotList}
-use Rattle.ghc_records.specs.Uses.{Binds, Consumes, Uses, DependsOn}
+use Rattle.ghc_records.specs.Uses.{Binds, Consumes, MakesVariable, Uses, DependsOn}
 
 -- The numbers of steps by the number of the step that they used, each with the room for more.
 abbrev pub UsersByStep : Type 0
@@ -74,6 +74,14 @@ BoundOneOf binders xs m = (x : VarName) × In x xs × (finite.get binders x ≡ 
 -- The step numbered m gave what is used: it is the maker of the goal, or bound a variable that was read.
 abbrev pub Gave : BindersByVariable → Option ℕ → Variables → ℕ → Type 0
 Gave binders maker reads m = (maker ≡ Some m) ⊎ ((x : VarName) × IsTrue (set.contains reads x) × (finite.get binders x ≡ Some m))
+
+-- The step numbered m of the record made the variable x.
+abbrev pub IsMakerOf : List Record → VarName → ℕ → Type 0
+IsMakerOf rs x m = (a : Record) × In a rs × (a.number ≡ m) × MakesVariable a x
+
+-- the step numbered m of the record made one of the variables of the list
+abbrev pub MadeOneOf : List Record → List VarName → ℕ → Type 0
+MadeOneOf rs xs m = (x : VarName) × In x xs × IsMakerOf rs x m
 
 -- the number of the step that made the goal of this name, by the name
 abbrev pub step_named : Option GoalName → Option ℕ

@@ -14,6 +14,7 @@ mod history_reading;
 mod history_writing;
 mod journal;
 mod laws;
+mod makers;
 mod making;
 mod number_set;
 mod record;

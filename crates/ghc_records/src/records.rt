@@ -151,6 +151,7 @@ impl Records {
         let maker = self.maker_for(step);
         let slots = self.slots.slot_count();
         self.index.reserve(maker, step, slots)?;
+        self.index.reserve_named(&self.slots, step)?;
         self.slots.reserve()
     }
 
@@ -165,6 +166,7 @@ impl Records {
     {
         let maker = self.maker_for(&step);
         self.index.put(maker, &step);
+        self.index.put_named(&self.slots, &step);
         self.slots.put(step);
     }
 
@@ -181,6 +183,7 @@ impl Records {
             return None;
         };
         self.index.remove(&removed);
+        self.index.take_named(&self.slots, &removed);
         Some(removed)
     }
 }

@@ -4,14 +4,14 @@ ghost use Rattle.std.specs.FinSet as set;
 ghost use Rattle.std.specs.FinMap as finite;
 ghost use Rattle.std.specs.Io.{StartsWith};
 ghost use Rattle.ghc_records.specs.Journal.{step_of};
-ghost use Rattle.ghc_records.specs.StepText.{goal_name_text, act_text, consumed_text, step_text, by_name, variables_text, binding_text, bindings_text, makes_text, record_text};
+ghost use Rattle.ghc_records.specs.StepText.{goal_name_text, body_text, act_text, consumed_text, step_text, by_name, variables_text, binding_text, bindings_text, makes_text, record_text};
 
 use crate::record::Record;
 use crate::step::Step;
 use ghc_fire::{Act, Effect};
 use ghc_term::{
-    Bindings, GoalName, Term, VarName, Variables, end_of, or_cut_back, push_number, push_variable,
-    push_written,
+    Bindings, Goal, GoalName, Term, VarName, Variables, end_of, or_cut_back, push_goal_written,
+    push_number, push_variable, push_written,
 };
 use std::alloc::{AllocError, Global};
 use std::collections::{BTreeMap, BTreeSet};
@@ -36,6 +36,23 @@ pub fn push_goal_name(name: GoalName, out: &mut String) -> Result<(), AllocError
     or_cut_back(out, length, written)
 }
 
+// Writes goals as they are written, with a comma and a space between them, and `true` where there is none.
+fn write_body(goals: &[Goal], out: &mut String) -> Result<(), AllocError>
+    ensures text { OnOk result (string_bytes out.new ≡ string_bytes out.old ++ body_text goals.now) }
+    ensures begun { StartsWith (string_bytes out.new) (string_bytes out.old) }
+{
+    if goals.is_empty() {
+        return out.push_str("true");
+    }
+    let mut mark = "";
+    for goal in goals {
+        out.push_str(mark)?;
+        push_goal_written(goal, out)?;
+        mark = ", ";
+    }
+    Ok(())
+}
+
 // Writes an act.
 fn write_act(act: &Act, out: &mut String) -> Result<(), AllocError>
     ensures text { OnOk result (string_bytes out.new ≡ string_bytes out.old ++ act_text act.now) }
@@ -53,10 +70,14 @@ fn write_act(act: &Act, out: &mut String) -> Result<(), AllocError>
             push_written(input.as_term(), out)
         }
         Act::Closed => out.push_str("end"),
+        Act::Asked(asked) => {
+            out.push_str("ask ")?;
+            write_body(asked.goals(), out)
+        }
     }
 }
 
-/// Writes an act at the end of `out`, which stays as it was where memory is refused: `by 2`, `eq`, `is`, `in T` or `end`. The
+/// Writes an act at the end of `out`, which stays as it was where memory is refused: `by 2`, `eq`, `is`, `in T`, `end` or `ask BODY`. The
 /// cost is that of the text.
 pub fn push_act(act: &Act, out: &mut String) -> Result<(), AllocError>
     ensures { string_bytes out.new ≡ (if is_ok result then string_bytes out.old ++ act_text act.now else string_bytes out.old) }

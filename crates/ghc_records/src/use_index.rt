@@ -3,10 +3,14 @@ ghost use Rattle.std.specs.Prelude.{◌≡◌, ◌≢◌, ◌↔◌, ◌⊎◌, 
 ghost use Rattle.std.specs.FinMap as finite;
 ghost use Rattle.ghc_term.specs.declared.var_name.VarName.{VarName};
 ghost use Rattle.ghc_term.specs.Store.{value_at};
-ghost use Rattle.ghc_records.specs.UseIndex.{users_at, IsUser, CanTake, BoundOneOf, Gave, step_named};
+ghost use Rattle.ghc_records.specs.UseIndex.{users_at, IsUser, CanTake, BoundOneOf, MadeOneOf, Gave, step_named};
+ghost use Rattle.ghc_records.specs.Slots.{held_in};
+ghost use Rattle.ghc_fire.specs.Asked.{variables_asked};
 
 use crate::binders::Binders;
+use crate::makers::{put_under_makers, reserve_under_makers, take_from_under_makers};
 use crate::record::Record;
+use crate::slots::Slots;
 use crate::users::Users;
 use ghc_term::{GoalName, VarName};
 use std::alloc::{AllocError, Global};
@@ -51,7 +55,8 @@ fn reserve_under(
 // Puts a number under each step that bound one of the variables, where there is room: some look-ups for each.
 fn put_under(users: &mut Users, binders: &Binders, xs: &[VarName], user: u32)
     requires { (m : ℕ) → BoundOneOf binders.now.held xs.now m → CanTake users.old m user }
-    ensures { (m n : ℕ) → IsUser users.new m n ↔ (IsUser users.old m n ⊎ (BoundOneOf binders.now.held xs.now m × (n ≡ user))) }
+    ensures room { (m : ℕ) → CanTake users.old m user → CanTake users.new m user }
+    ensures users { (m n : ℕ) → IsUser users.new m n ↔ (IsUser users.old m n ⊎ (BoundOneOf binders.now.held xs.now m × (n ≡ user))) }
 {
     for x in xs {
         users.put_at(binders.get(*x), user);
@@ -134,6 +139,7 @@ impl UseIndex {
     pub(crate) fn put(&mut self, maker: Option<u32>, step: &Record)
         requires taking { (m : ℕ) → Gave self.old.binders.held maker step.now.effect.reads m → CanTake self.old.users m step.now.number }
         requires binding { finite.len step.now.effect.binds ≤ self.old.binders.room }
+        ensures room { (m : ℕ) → CanTake self.old.users m step.now.number → CanTake self.new.users m step.now.number }
         ensures users { (m n : ℕ) → IsUser self.new.users m n ↔ (IsUser self.old.users m n ⊎ (Gave self.old.binders.held maker step.now.effect.reads m × (n ≡ step.now.number))) }
         ensures binders { (y : VarName) → finite.get self.new.binders.held y ≡ if is_some (value_at step.now.effect.binds y) then Some step.now.number else finite.get self.old.binders.held y }
     {
@@ -165,5 +171,37 @@ impl UseIndex {
         );
         self.users.forget(number);
         self.binders.remove_all(effect.binds());
+    }
+
+    // Makes room for a step under each step of the record that made a variable that it names, at the cost of some look-ups for each.
+    pub(crate) fn reserve_named(&mut self, slots: &Slots, step: &Record) -> Result<(), AllocError>
+        ensures users { (m : ℕ) → users_at self.new.users m ≡ users_at self.old.users m }
+        ensures binders { self.new.binders ≡ self.old.binders }
+        ensures room { OnOk result ((m n : ℕ) → MadeOneOf (held_in slots.now.held) (variables_asked step.now.act) m → CanTake self.new.users m n) }
+        ensures kept { (m n : ℕ) → CanTake self.old.users m n → CanTake self.new.users m n }
+    {
+        let named = step.act().variables();
+        reserve_under_makers(&mut self.users, slots, named, slots.slot_count())
+    }
+
+    // Puts a step under each step of the record that made a variable that it names, where there is room: some look-ups for each.
+    pub(crate) fn put_named(&mut self, slots: &Slots, step: &Record)
+        requires { (m : ℕ) → MadeOneOf (held_in slots.now.held) (variables_asked step.now.act) m → CanTake self.old.users m step.now.number }
+        ensures users { (m n : ℕ) → IsUser self.new.users m n ↔ (IsUser self.old.users m n ⊎ (MadeOneOf (held_in slots.now.held) (variables_asked step.now.act) m × (n ≡ step.now.number))) }
+        ensures binders { self.new.binders ≡ self.old.binders }
+    {
+        let number = step.number();
+        let named = step.act().variables();
+        put_under_makers(&mut self.users, slots, named, number);
+    }
+
+    // Takes a step from under each step of the record that made a variable that it names: some look-ups for each.
+    pub(crate) fn take_named(&mut self, slots: &Slots, step: &Record)
+        ensures users { (m n : ℕ) → IsUser self.new.users m n ↔ (IsUser self.old.users m n × ¬ (MadeOneOf (held_in slots.now.held) (variables_asked step.now.act) m × (n ≡ step.now.number))) }
+        ensures binders { self.new.binders ≡ self.old.binders }
+    {
+        let number = step.number();
+        let named = step.act().variables();
+        take_from_under_makers(&mut self.users, slots, named, number);
     }
 }

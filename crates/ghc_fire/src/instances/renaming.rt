@@ -7,7 +7,7 @@ use crate::effect::NO_STEP;
 use ghc_term::{Bindings, Term, VarName};
 use std::alloc::AllocError;
 
-// The two ways in which a variable becomes a term.
+// The ways in which a variable becomes a term.
 #[derive(Clone, Copy)]
 pub enum Renaming<'a> {
     // In the body of a clause: one of the head becomes what it stands for, and another a variable of the step.
@@ -18,6 +18,8 @@ pub enum Renaming<'a> {
     },
     // In the goals of an effect under any number: one that the step makes gets this number, and another stays.
     Numbered(u32),
+    // In the goals of a written ask: the i-th becomes the i-th of these.
+    Called(&'a [VarName]),
 }
 
 // What the variable becomes, if that may be another term: one look-up at most.
@@ -46,5 +48,9 @@ pub fn replace_variable(x: VarName, by: Renaming<'_>) -> Result<Option<Term>, Al
                 place: x.place,
             })))
         }
+        Renaming::Called(names) => match names.get(x.place.saturating_sub(1) as usize) {
+            Some(name) => Ok(Some(Term::variable(*name))),
+            None => Ok(None),
+        },
     }
 }

@@ -1,7 +1,7 @@
 use Rattle.std.proofs.Common.{◌≡◌, ◌<◌, true, false, sym, ap, ◌∙◌, arith}
 use Rattle.std.specs.Prelude.{option_copied}
 use Rattle.ghc_records.proofs.SlotRanks.{rank, rank_less, rank_least, ranked, ranked_at, some_of}
-use Rattle.ghc_depend.proofs.Causes.{none_earlier, none_later, not_behind, is_made, is_read, is_none}
+use Rattle.ghc_depend.proofs.Causes.{none_earlier, none_later, not_behind, is_made, is_read, is_named, is_none}
 use Rattle.ghc_depend.proofs.cause.direct.Goals as goal
 
 pub returns-in_err-place : goal.returns-in_err-place
@@ -50,7 +50,22 @@ returns-in_err-variable c =
     rw c.from_residual-in_err-variable.ensures (
     is_none rs c.args.later c.args.earlier (rank ss c.in_ok-place.place) (rank ss c.in_ok-behind.behind) (ranked rs ss is c.in_ok-place.place c.args.earlier c.in_ok-place.ensures.found)
     (ranked rs ss is c.in_ok-behind.behind c.args.later c.in_ok-behind.ensures.found) taken maker (ranked_at rs ss is c.in_ok-place.place maker first) (ranked_at rs ss is c.in_ok-behind.behind taken second)
-    c.len-count.ensures.distinct (λ m. let clash : true ≡ false = sym (c.consumes.ensures.1 m) ∙ c.if-consumes.false in cc) c.in_err-variable.ensures.none)
+    c.len-count.ensures.distinct (λ m. let clash : true ≡ false = sym (c.consumes.ensures.1 m) ∙ c.if-consumes.false in cc) c.in_default.ensures.none c.in_err-variable.ensures.none)
+
+pub returns-in-Some : goal.returns-in-Some
+returns-in-Some c =
+    let rs = c.args.records.now.held in
+    let ss = c.args.records.now.slots in
+    let is = c.len-count.ensures.slots in
+    let maker = c.unwrap-maker.result.now in
+    let taken = c.unwrap-taken.result.now in
+    let first = (c.at.ensures maker).0 (ap option_copied c.unwrap-maker.ensures) in
+    let second = (c.at-2.ensures taken).0 (ap option_copied c.unwrap-taken.ensures) in
+    let low : c.in_ok-place.place < c.in_ok-behind.behind = omega arith in
+    is_read rs c.args.later c.args.earlier (rank ss c.in_ok-place.place) (rank ss c.in_ok-behind.behind) (ranked rs ss is c.in_ok-place.place c.args.earlier c.in_ok-place.ensures.found)
+    (ranked rs ss is c.in_ok-behind.behind c.args.later c.in_ok-behind.ensures.found) taken maker (ranked_at rs ss is c.in_ok-place.place maker first) (ranked_at rs ss is c.in_ok-behind.behind taken second)
+    c.in-Some.variable c.is_woken_by-woke.result (rank_less ss c.in_ok-place.place c.in_ok-behind.behind maker first low)
+    (λ m. let clash : true ≡ false = sym (c.consumes.ensures.1 m) ∙ c.if-consumes.false in cc) c.in-Some.ensures.some (c.is_woken_by-woke.ensures maker first)
 
 pub returns : goal.returns
 returns c =
@@ -62,7 +77,7 @@ returns c =
     let first = (c.at.ensures maker).0 (ap option_copied c.unwrap-maker.ensures) in
     let second = (c.at-2.ensures taken).0 (ap option_copied c.unwrap-taken.ensures) in
     let low : c.in_ok-place.place < c.in_ok-behind.behind = omega arith in
-    is_read rs c.args.later c.args.earlier (rank ss c.in_ok-place.place) (rank ss c.in_ok-behind.behind) (ranked rs ss is c.in_ok-place.place c.args.earlier c.in_ok-place.ensures.found)
+    is_named rs c.args.later c.args.earlier (rank ss c.in_ok-place.place) (rank ss c.in_ok-behind.behind) (ranked rs ss is c.in_ok-place.place c.args.earlier c.in_ok-place.ensures.found)
     (ranked rs ss is c.in_ok-behind.behind c.args.later c.in_ok-behind.ensures.found) taken maker (ranked_at rs ss is c.in_ok-place.place maker first) (ranked_at rs ss is c.in_ok-behind.behind taken second)
-    c.in_ok-variable.variable c.is_woken_by-woke.result (rank_less ss c.in_ok-place.place c.in_ok-behind.behind maker first low)
-    (λ m. let clash : true ≡ false = sym (c.consumes.ensures.1 m) ∙ c.if-consumes.false in cc) c.in_ok-variable.ensures.some (c.is_woken_by-woke.ensures maker first)
+    c.in_ok-variable.variable (rank_less ss c.in_ok-place.place c.in_ok-behind.behind maker first low)
+    (λ m. let clash : true ≡ false = sym (c.consumes.ensures.1 m) ∙ c.if-consumes.false in cc) c.in_default.ensures.none c.in_ok-variable.ensures.some

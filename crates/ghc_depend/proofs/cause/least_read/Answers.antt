@@ -3,6 +3,7 @@ use Rattle.std.specs.Prelude.{Some}
 use Rattle.std.specs.FinSet as set
 use Rattle.std.proofs.lemmas.List.{take_more, take_all}
 use Rattle.ghc_term.specs.declared.var_name.VarName.{VarName}
+use Rattle.ghc_depend.specs.Depend.{Binds}
 use Rattle.ghc_depend.proofs.Causes.{IsLeastOf, least_passed, least_taken, least_is, least_none}
 use Rattle.ghc_depend.proofs.cause.least_read.Goals as goal
 use Rattle.ghc_depend.proofs.cause.least_read.Goals.{then-binds, else-binds}
@@ -16,10 +17,10 @@ loop-x-preserved c =
     let x = get_or items i none in
     let more : take (i + 1) items ≡ take i items ++ x ∷ [] = take_more items i none c.loop-x-test.true in
     elim c.if-binds.branch [
-      | then-binds w ↦ rw w.least-is (subst (λ l. IsLeastOf a l (Some w.lesser.result)) (sym more)
-          (least_taken a (take i items) x c.loop-x.least w.lesser.result c.loop-x.invariant (c.binds.ensures.0 w.if-binds.true) w.lesser.ensures.second w.lesser.ensures.alone))
-      | else-binds w ↦ rw w.least-is (subst (λ l. IsLeastOf a l c.loop-x.least) (sym more)
-          (least_passed a (take i items) x c.loop-x.least c.loop-x.invariant (λ h. let clash : true ≡ false = sym (c.binds.ensures.1 h) ∙ w.if-binds.false in cc)))
+      | then-binds w ↦ rw w.least-is (subst (λ l. IsLeastOf (Binds a) l (Some w.lesser.result)) (sym more)
+          (least_taken (Binds a) (take i items) x c.loop-x.least w.lesser.result c.loop-x.invariant (c.binds.ensures.0 w.if-binds.true) w.lesser.ensures.second w.lesser.ensures.alone))
+      | else-binds w ↦ rw w.least-is (subst (λ l. IsLeastOf (Binds a) l c.loop-x.least) (sym more)
+          (least_passed (Binds a) (take i items) x c.loop-x.least c.loop-x.invariant (λ h. let clash : true ≡ false = sym (c.binds.ensures.1 h) ∙ w.if-binds.false in cc)))
     ]
 
 pub returns-clause-some : goal.returns-clause-some
@@ -27,11 +28,11 @@ returns-clause-some c =
     let items = c.members-x-items.result.now in
     let all : set.from_list items ≡ c.args.later.now.effect.reads = c.members-x-items.ensures.all ∙ c.reads.ensures ∙ ap (λ f. f.reads) c.effect.ensures in
     least_is c.args.later.now c.args.earlier.now items c.loop-x.least all
-    (subst (λ l. IsLeastOf c.args.earlier.now l c.loop-x.least) (take_all c.loop-x.x-index items (omega (arith, c.loop-x-test.false))) c.loop-x.invariant)
+    (subst (λ l. IsLeastOf (Binds c.args.earlier.now) l c.loop-x.least) (take_all c.loop-x.x-index items (omega (arith, c.loop-x-test.false))) c.loop-x.invariant)
 
 pub returns-clause-none : goal.returns-clause-none
 returns-clause-none c =
     let items = c.members-x-items.result.now in
     let all : set.from_list items ≡ c.args.later.now.effect.reads = c.members-x-items.ensures.all ∙ c.reads.ensures ∙ ap (λ f. f.reads) c.effect.ensures in
     least_none c.args.later.now c.args.earlier.now items c.loop-x.least all
-    (subst (λ l. IsLeastOf c.args.earlier.now l c.loop-x.least) (take_all c.loop-x.x-index items (omega (arith, c.loop-x-test.false))) c.loop-x.invariant)
+    (subst (λ l. IsLeastOf (Binds c.args.earlier.now) l c.loop-x.least) (take_all c.loop-x.x-index items (omega (arith, c.loop-x-test.false))) c.loop-x.invariant)

@@ -1,6 +1,7 @@
 use Rattle.std.proofs.Common.{take}
+use Rattle.ghc_depend.specs.Depend.{Binds}
 use Rattle.ghc_depend.proofs.Causes.{IsLeastOf}
 use Rattle.ghc_depend.proofs.cause.least_read.Given as goal
 
 abbrev pub invariant-loop-x : goal.invariant-loop-x
-invariant-loop-x l = IsLeastOf l.earlier (take l.x-index l.x-items) l.least
+invariant-loop-x l = IsLeastOf (Binds l.earlier) (take l.x-index l.x-items) l.least

@@ -18,5 +18,5 @@ loop-x-preserved c = (
   λ m h. c.put_at.ensures.room m (c.loop-x.invariant.1 m h),
 )
 
-pub returns : goal.returns
-returns c = subst (λ xs. HasUnder c.args.binders.now.held c.args.users.now xs c.args.user c.loop-x.users) (take_all c.loop-x.x-index c.args.xs.now c.loop-x-test.false) c.loop-x.invariant.0
+pub returns-clause-users : goal.returns-clause-users
+returns-clause-users c = subst (λ xs. HasUnder c.args.binders.now.held c.args.users.now xs c.args.user c.loop-x.users) (take_all c.loop-x.x-index c.args.xs.now c.loop-x-test.false) c.loop-x.invariant.0

@@ -21,4 +21,10 @@ returns-clause-users c =
     let number = c.args.step.now.number in
     let new = c.put_under.new.users in
     subst (λ (t : Index). (m n : ℕ) → IsUser new m n ↔ (IsUser t.users m n ⊎ (Gave t.binders.held c.args.maker reads m × (n ≡ number)))) c.self.view_is
-    (put_both c.self.inside.binders.held c.args.maker reads c.members.result.now all c.self.inside.users c.put_at.new.self new c.number-number.result number c.number-number.ensures c.put_at.ensures.users c.put_under.ensures)
+    (put_both c.self.inside.binders.held c.args.maker reads c.members.result.now all c.self.inside.users c.put_at.new.self new c.number-number.result number c.number-number.ensures c.put_at.ensures.users c.put_under.ensures.users)
+
+pub returns-clause-room : goal.returns-clause-room
+returns-clause-room c m can =
+    let number = c.number-number.ensures in
+    let before = subst (λ n. CanTake c.self.inside.users m n) (sym number) (subst (λ (t : Index). CanTake t.users m c.args.step.now.number) (sym c.self.view_is) can) in
+    subst (λ n. CanTake c.put_under.new.users m n) number (c.put_under.ensures.room m (c.put_at.ensures.room m before))

@@ -1,0 +1,8 @@
+use Rattle.std.proofs.Common.{ℕ, take}
+use Rattle.ghc_records.specs.Slots.{held_in}
+use Rattle.ghc_records.specs.UseIndex.{CanTake}
+use Rattle.ghc_records.proofs.MakersOf.{HasUnder}
+use Rattle.ghc_records.proofs.makers.put_under_makers.Given as goal
+
+abbrev pub invariant-loop-x : goal.invariant-loop-x
+invariant-loop-x l = HasUnder (held_in l.slots.held) l.initial.users (take l.x-index l.xs) l.user l.users × ((m : ℕ) → CanTake l.initial.users m l.user → CanTake l.users m l.user)

@@ -1,0 +1,20 @@
+use Rattle.std.proofs.Common.{ℕ, ◌∙◌, subst}
+use Rattle.std.proofs.lemmas.List.{take_all}
+use Rattle.ghc_records.specs.Slots.{held_in}
+use Rattle.ghc_records.specs.UseIndex.{CanTake, MadeOneOf}
+use Rattle.ghc_records.proofs.MakersOf.{can_next}
+use Rattle.ghc_records.proofs.makers.reserve_under_makers.Goals as goal
+
+pub returns-in_err-reserve_at-clause-kept : goal.returns-in_err-reserve_at-clause-kept
+returns-in_err-reserve_at-clause-kept c m n h = c.reserve_at.ensures.kept m n (c.loop-x.invariant.2 m n h)
+
+pub loop-x-preserved : goal.loop-x-preserved
+loop-x-preserved c = (
+  λ m. c.reserve_at.ensures.held m ∙ c.loop-x.invariant.0 m,
+  can_next (held_in c.args.slots.now.held) c.args.xs.now c.loop-x.x-index (record { step = 0; place = 0 }) c.loop-x-test.true c.maker_of.result c.maker_of.ensures c.loop-x.users c.reserve_at.new.self c.loop-x.invariant.1
+      c.reserve_at.ensures.kept (λ m n e. c.in_ok-reserve_at.ensures.room m n e),
+  λ m n h. c.reserve_at.ensures.kept m n (c.loop-x.invariant.2 m n h),
+)
+
+pub returns-clause-room : goal.returns-clause-room
+returns-clause-room c = subst (λ xs. (m n : ℕ) → MadeOneOf (held_in c.args.slots.now.held) xs m → CanTake c.loop-x.users m n) (take_all c.loop-x.x-index c.args.xs.now c.loop-x-test.false) c.loop-x.invariant.1

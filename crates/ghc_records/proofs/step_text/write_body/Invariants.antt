@@ -1,0 +1,15 @@
+use Rattle.std.proofs.Common.{◌≡◌, ◌++◌, map, drop, string_bytes}
+use Rattle.std.specs.Prelude.{codes}
+use denote.Text.{Utf8}
+use denote.Shadow.{shadow}
+use Rattle.std.specs.Io.{StartsWith}
+use Rattle.ghc_term.specs.GoalText.{goal_text}
+use Rattle.ghc_records.specs.StepText.{body_text}
+use Rattle.ghc_records.proofs.Listing.{led}
+use Rattle.ghc_records.proofs.step_text.write_body.Given as goal
+
+abbrev pub invariant-loop-goal : goal.invariant-loop-goal
+invariant-loop-goal l =
+    shadow (Utf8 l.mark)
+    × (string_bytes l.out ++ led (codes ", ") l.mark (map goal_text (drop l.goal-index l.goals)) ≡ string_bytes l.fn.out ++ body_text l.goals)
+    × StartsWith (string_bytes l.out) (string_bytes l.fn.out)
