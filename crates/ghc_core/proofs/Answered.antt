@@ -94,7 +94,7 @@ by_end w ordered k act g s xs (variable x) a at l = elim (room w) [
   | inr full ↦ inr (Fault.Full, stream_full effect_once w ordered.acyclic ordered.streams_once k act g s x at (xs, l) full)
   | inl r ↦
       let f = effect_on w k act s x xs a l in
-      inl (record { number = w.next; goal = Some g; consumed = Some (stream k s); act = act; effect = f.0 }, ((g, s, refl, refl, refl), (refl, ((stream k s, refl, at), f.1), r)))
+      inl (record { number = w.next; goal = Some g; consumed = Some (stream k s); act = act; effect = f.0 }, ((g, s, refl, refl, refl), (refl, ((stream k s, refl, at), f.1), r, (g, refl))))
 ]
 by_end w ordered k act g s xs (integer j) a at l = inr (Fault.TailBound, tail_bound g s (integer j) at (xs, l) tt)
 by_end w ordered k act g s xs (node f us) a at l = inr (Fault.TailBound, tail_bound g s (node f us) at (xs, l) tt)

@@ -59,7 +59,7 @@ module _ (w : World) (ordered : IsOrderly w) where
   made_or_fails c change fault (to_close {k = k} {r = r} o) can f = stream_step_or_fail effect_once w ordered.acyclic ordered.streams_once k closed r (o, can) f
   made_or_fails c change fault (to_undo {n = n} {r = r} number) can f = undo_or_fail w n ordered.kept_once r (can.0, number) can.1 f
   made_or_fails c change fault (to_roll {r = r} number) can f = f.1 r can.0 number
-  made_or_fails c change fault (to_redo {n = n} {r = r} number) can f = redo_or_fail w n r (subst (λ m. finite.get w.shelf m ≡ Some r) number can.0) can.1 can.2 f
+  made_or_fails c change fault (to_redo {n = n} {r = r} number) can f = redo_or_fail w n r (subst (λ m. finite.get w.shelf m ≡ Some r) number can.0) can.1 can.2 can.3 f
   made_or_fails c change fault (to_arrange {order = order} {a = a} same) can f = (orders w.kept ordered.kept_once).no_pair order f.0 f.1 (subst (IsLawful w.kept) same can.0) f.3
 
   -- a command is refused for one reason

@@ -13,7 +13,7 @@ use Rattle.ghc_term.proofs.Exact.{exact}
 use Rattle.ghc_flat.specs.Clause.{Program}
 use Rattle.ghc_flat.specs.Flat.{is_stream}
 use Rattle.ghc_fire.specs.declared.act.Act.{Act}
-use Rattle.ghc_fire.specs.declared.act.Act.TheVariants.{ByClause as by_clause, Unified as unified, Assigned as assigned, Given as given, Closed as closed}
+use Rattle.ghc_fire.specs.declared.act.Act.TheVariants.{ByClause as by_clause, Unified as unified, Assigned as assigned, Given as given, Closed as closed, Asked as asked}
 use Rattle.ghc_fire.specs.Effect.{Effect, HasEffect, no_step}
 use Rattle.ghc_fire.specs.Proposal.{Proposal, under}
 use Rattle.ghc_fire.specs.Attempt.{Answer, proposes, refused, CallAnswers, ChoiceAnswers, UnificationAnswers, AssignmentAnswers, Attempts}
@@ -81,6 +81,7 @@ no_stream P (stream k x) closed n S e r h = absurd r
 no_stream P (stream k x) (by_clause _) n S e r h = absurd h
 no_stream P (stream k x) unified n S e r h = absurd h
 no_stream P (stream k x) assigned n S e r h = absurd h
+no_stream P (stream k x) (asked _) n S e r h = absurd h
 
 -- A proposal that still holds is committed, where there is room, as this next step.
 pub next_step : (w : World) (p : Proposal) (b : Goal) → IsStanding w → StillHolds w p → finite.get w.state.goals p.goal ≡ Some b → HasRoom w
@@ -89,7 +90,7 @@ next_step w p b s h there room =
     let now : HasEffect w.opening.program b p.act no_step (value_at w.state.store) p.effect = subst (λ z. HasEffect w.opening.program z p.act no_step (value_at w.state.store) p.effect) (value_once h.2 there) h.3 in
     let plain : is_stream b ≡ false = no_stream w.opening.program b p.act no_step (value_at w.state.store) p.effect h.1 now in
     let then : HasEffect w.opening.program b p.act w.next (value_at w.state.store) (under w.next p.effect) = effect_under w.opening.program b p.act w.next (value_at w.state.store) p.effect plain (standing_numbered w s p.goal b there) now in
-    (h, (refl, ((b, refl, there), then), room), refl, refl)
+    (h, (refl, ((b, refl, there), then), room, (p.goal, refl)), refl, refl)
 
 module _ (w : World) (acyclic : IsAcyclic (value_at w.state.store)) where
   one_answer : (g : GoalName) (choice : Option ℕ) {a b : Answer} → AttemptAnswers w g choice a → AttemptAnswers w g choice b → a ≡ b

@@ -1,5 +1,5 @@
 -- A redo counts a firing or none, and a note a try or none.
-use Rattle.std.proofs.Common.{◌≡◌, ℕ, true, false, Bool, refl, sym, ap, ◌∙◌, inl, inr, Some, None}
+use Rattle.std.proofs.Common.{◌≡◌, ◌≢◌, ℕ, subst, true, false, Bool, refl, sym, ap, ◌∙◌, inl, inr, Some, None}
 use Rattle.std.specs.Prelude.{Option}
 use Rattle.std.specs.FinMap as finite
 use Rattle.ghc_term.specs.declared.goal_name.GoalName.{GoalName}
@@ -9,12 +9,13 @@ use Rattle.ghc_flat.specs.Flat.{is_stream}
 use Rattle.ghc_fire.specs.declared.meter.Meter.{Meter}
 use Rattle.ghc_fire.specs.Meter.{fired, tried}
 use Rattle.ghc_records.specs.Record.{Record}
-use Rattle.ghc_core.specs.World.{World}
+use Rattle.ghc_core.specs.World.{World, IsKnown}
 use Rattle.ghc_core.specs.Proposes.{IsNoCandidate}
 use Rattle.ghc_core.specs.Refusals.{RedoFails}
 use Rattle.ghc_core.specs.Counting.{FiresOnce, TriesOnce}
-use Rattle.ghc_core.proofs.Refusing.{not_shelved, no_goal}
-use Rattle.ghc_core.proofs.Redone.{said_not_shelved, said_no_goal}
+use Rattle.ghc_core.proofs.Naming.{known_decided}
+use Rattle.ghc_core.proofs.Refusing.{not_shelved, no_goal, no_variable}
+use Rattle.ghc_core.proofs.Redone.{said_not_shelved, said_no_goal, said_no_variable}
 
 module _ (w : World) (m k : Meter) where
   -- a note tries where there is a goal to try
@@ -37,31 +38,43 @@ module _ (w : World) (m k : Meter) where
     pub note_counted : TriesOnce m k
     note_counted = of_goal (finite.get w.state.goals g) refl
 
-  -- a redo fires where its step is on the shelf and its goal is there
-  module _ (n : ℕ) (off : RedoFails w n Fault.NotShelved → k ≡ m) (gone : RedoFails w n Fault.NoGoal → k ≡ m)
-      (both : (¬ RedoFails w n Fault.NotShelved) → (¬ RedoFails w n Fault.NoGoal) → k ≡ fired m) where
+  -- a redo fires where its step is on the shelf, its goal is there, and what it names is known
+  module _ (n : ℕ) (off : RedoFails w n Fault.NotShelved → k ≡ m) (gone : RedoFails w n Fault.NoGoal → k ≡ m) (unknown : RedoFails w n Fault.NoVariable → k ≡ m)
+      (all : (¬ RedoFails w n Fault.NotShelved) → (¬ RedoFails w n Fault.NoGoal) → (¬ RedoFails w n Fault.NoVariable) → k ≡ fired m) where
     on_shelf : (r : Record) → finite.get w.shelf n ≡ Some r → ¬ RedoFails w n Fault.NotShelved
     on_shelf r on f = let clash : None ≡ Some r = sym (said_not_shelved f refl) ∙ on in cc
 
     same_record : (r s : Record) → finite.get w.shelf n ≡ Some r → finite.get w.shelf n ≡ Some s → s ≡ r
     same_record r s on at = let same : Some s ≡ Some r = sym at ∙ on in cc
 
+    of_known : (r : Record) → finite.get w.shelf n ≡ Some r → ((g : GoalName) → r.goal ≡ Some g → finite.get w.state.goals g ≢ None) → ¬ RedoFails w n Fault.NoGoal → FiresOnce m k
+    of_known r on there goal = elim (known_decided w.opening.query w.kept r) [
+      | inr u ↦ inl (unknown (no_variable r on there u))
+      | inl known ↦ inr (all (on_shelf r on) goal (λ f.
+          let said = said_no_variable f refl in
+          said.2 (subst (IsKnown w) (sym (same_record r said.0 on said.1)) known)))
+    ]
+
     of_none : (r : Record) → finite.get w.shelf n ≡ Some r → r.goal ≡ None → FiresOnce m k
-    of_none r on named = inr (both (on_shelf r on) (λ f.
+    of_none r on named = of_known r on (λ g some none. let clash : Some g ≡ None = sym some ∙ named in cc) (λ f.
         let said = said_no_goal f refl in
         let one = same_record r said.0 on said.1 in
         let clash : Some said.2.0 ≡ None = sym said.2.1 ∙ ap (λ (q : Record). q.goal) one ∙ named in
-        cc))
+        cc)
 
     of_name : (r : Record) (g : GoalName) (o : Option Goal) → finite.get w.shelf n ≡ Some r → r.goal ≡ Some g → finite.get w.state.goals g ≡ o → FiresOnce m k
     of_name r g None on named at = inl (gone (no_goal r g on named at))
-    of_name r g (Some b) on named at = inr (both (on_shelf r on) (λ f.
+    of_name r g (Some b) on named at = of_known r on (λ h some none.
+        let both : Some g ≡ Some h = sym named ∙ some in
+        let name : g ≡ h = cc in
+        let clash : Some b ≡ None = sym at ∙ ap (finite.get w.state.goals) name ∙ none in
+        cc) (λ f.
         let said = said_no_goal f refl in
         let one = same_record r said.0 on said.1 in
         let names : Some said.2.0 ≡ Some g = sym said.2.1 ∙ ap (λ (q : Record). q.goal) one ∙ named in
         let name : said.2.0 ≡ g = cc in
         let clash : None ≡ Some b = sym said.2.2 ∙ ap (finite.get w.state.goals) name ∙ at in
-        cc))
+        cc)
 
     of_record : (r : Record) (o : Option GoalName) → finite.get w.shelf n ≡ Some r → r.goal ≡ o → FiresOnce m k
     of_record r None on named = of_none r on named

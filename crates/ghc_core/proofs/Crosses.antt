@@ -15,6 +15,7 @@ use Rattle.ghc_term.specs.contracts.ground.Ground as ground
 use Rattle.ghc_term.specs.contracts.bindings.Bindings as bindings
 use Rattle.ghc_term.specs.contracts.variables.Variables as variables
 use Rattle.ghc_fire.specs.contracts.act.Act as act
+use Rattle.ghc_fire.specs.contracts.asked.Asked as asked
 use Rattle.ghc_fire.specs.contracts.effect.Effect as effect
 use Rattle.ghc_fire.specs.contracts.goals.Goals as goals
 use Rattle.ghc_records.specs.contracts.record.Record as taken
@@ -79,11 +80,17 @@ variables_send = search (crosses, sendable) depth 60 fits 20000
 pub variables_sync : IsSync variables.the_row
 variables_sync = search (crosses, sendable) depth 60 fits 20000
 
+asked_send : IsSend asked.the_row
+asked_send = search (goal_send, goal_sync, crosses, sendable) depth 60 fits 20000
+
+asked_sync : IsSync asked.the_row
+asked_sync = search (goal_sync, goal_send, crosses, sendable) depth 60 fits 20000
+
 pub act_send : IsSend act.the_field.row
-act_send = search (ground_send, crosses, sendable) depth 60 fits 20000
+act_send = search (ground_send, asked_send, crosses, sendable) depth 60 fits 20000
 
 pub act_sync : IsSync act.the_field.row
-act_sync = search (ground_sync, crosses, sendable) depth 60 fits 20000
+act_sync = search (ground_sync, asked_sync, crosses, sendable) depth 60 fits 20000
 
 pub effect_send : IsSend effect.the_row
 effect_send = search (goal_send, bindings_send, variables_send, crosses, sendable) depth 60 fits 20000

@@ -8,10 +8,10 @@ use Rattle.ghc_term.specs.Goal.{Goal}
 use Rattle.ghc_term.specs.GoalCode.{goal_code}
 use Rattle.ghc_term.specs.Bindings.{IsAcyclic}
 use Rattle.ghc_term.specs.Store.{value_at}
-use Rattle.ghc_term.proofs.Decided.{Decided}
+use Rattle.ghc_term.proofs.Decided.{Decided, decided_both}
 use Rattle.ghc_flat.specs.Flat.{IsProgram, is_stream}
 use Rattle.ghc_fire.specs.declared.act.Act.{Act}
-use Rattle.ghc_fire.specs.declared.act.Act.TheVariants.{ByClause as by_clause, Unified as unified, Assigned as assigned, Given as given, Closed as closed}
+use Rattle.ghc_fire.specs.declared.act.Act.TheVariants.{ByClause as by_clause, Unified as unified, Assigned as assigned, Given as given, Closed as closed, Asked as asked}
 use Rattle.ghc_fire.specs.Effect.{Effect, HasEffect, no_step}
 use Rattle.ghc_fire.specs.Attempt as attempt
 use Rattle.ghc_term.proofs.Decided.{same_decided}
@@ -22,6 +22,8 @@ use Rattle.ghc_hooks.proofs.EachStatus.{each_status}
 use Rattle.ghc_records.specs.Numbers.{kept_limit}
 use Rattle.ghc_records.specs.Record.{Record, IsThere, HasStepEffect, Fires}
 use Rattle.ghc_depend.proofs.Decided.{decided}
+use Rattle.ghc_depend.proofs.Finding.{by_option}
+use Rattle.ghc_depend.proofs.Results.{asking_fires}
 use Rattle.ghc_core.specs.declared.change.Change.TheVariants.{Adds as adds, PutsBack as puts_back, Reorders as reorders}
 use Rattle.ghc_core.specs.World.{Proposal, Hands, IsHand, with_hand, emptied, World, with_step}
 use Rattle.ghc_core.specs.Change.{with_redone, with_order}
@@ -35,9 +37,11 @@ use Rattle.ghc_core.specs.Laws.{IsOrderly}
 use Rattle.ghc_core.specs.Laws as laws
 use Rattle.ghc_core.proofs.Answered.{room, IsActAnswered, act_answered}
 use Rattle.ghc_core.proofs.Moving.{obeyed_answers, noted_answers, reachable_reached}
-use Rattle.ghc_core.proofs.Refusing.{has_not, not_shelved, no_goal, changed, full, stale, no_room}
+use Rattle.ghc_core.proofs.Naming.{known_decided}
+use Rattle.ghc_core.proofs.Refusing.{has_not, not_shelved, no_goal, no_variable, changed, full, stale, no_room}
 use Rattle.ghc_core.proofs.Returning.{undoes_answered, rolls_answered}
 use Rattle.ghc_core.proofs.Reaching.{reached_good, reached}
+use Rattle.ghc_core.proofs.Replayed.{replayed}
 
 at_most : (a b : ℕ) → Decided (a ≤ b)
 at_most a b = grind arith
@@ -54,16 +58,24 @@ reduction_decided unified = inl tt
 reduction_decided assigned = inl tt
 reduction_decided (given u) = inr (λ r. r)
 reduction_decided closed = inr (λ r. r)
+reduction_decided (asked gs) = inr (λ r. r)
 
 -- the command has an answer
 abbrev IsObeyed : World → Command → Type 0
 IsObeyed w c = (reply : Reply) × (v : World) × Obeys ⊥ w c reply v
 
+-- What is known of the shelf: each step stands under its number, and one that consumed nothing is possible.
+abbrev IsShelved : World → Type 0
+IsShelved w = (n : ℕ) (r : Record) → finite.get w.shelf n ≡ Some r → (r.number ≡ n) × (r.consumed ≡ None → Fires w.opening.program w.state r)
+
+reached_shelf : (w : World) → Reaches w → IsShelved w
+reached_shelf w r n s e = (((reached_good r).shelf n s e).0, λ none. asking_fires w.opening.program w.state s ((replayed r).asking n s e none))
+
 -- the event has an answer
 abbrev Answered : World → Hands → Event → Type 0
 Answered w hands e = (reply : Reply) × (v : World) × (left : Hands) × Answers ⊥ w hands e reply v left
 
-module _ (w : World) (accepted : IsProgram w.opening.program) (acyclic : IsAcyclic (value_at w.state.store)) (shelved : (n : ℕ) (r : Record) → finite.get w.shelf n ≡ Some r → r.number ≡ n) where
+module _ (w : World) (accepted : IsProgram w.opening.program) (acyclic : IsAcyclic (value_at w.state.store)) (shelved : IsShelved w) where
   -- an attempt that proposes something has a goal
   proposing : (h : ℕ) (g : GoalName) (choice : Option ℕ) (hands : Hands) → IsHand hands h → (o : Option Goal) → finite.get w.state.goals g ≡ o → (a : attempt.Answer)
       → attempt.Attempts w.opening.program (value_at w.state.store) o choice a → Answered w hands (propose h g choice)
@@ -111,7 +123,7 @@ module _ (w : World) (accepted : IsProgram w.opening.program) (acyclic : IsAcycl
           | inl free ↦
               let f = effect_each w.opening.program s.0 p.act no_step w.next (value_at w.state.store) p.effect s.3 in
               let r : Record = record { number = w.next; goal = Some p.goal; consumed = Some s.0; act = p.act; effect = f.0 } in
-              (stepped w.next, with_step r w, emptied h hands, makes {change = adds r} i (by_hand e (s, (refl, ((s.0, refl, s.2), f.1), free), refl, refl)) (refl, ((s.0, refl, s.2), f.1), free) refl refl)
+              (stepped w.next, with_step r w, emptied h hands, makes {change = adds r} i (by_hand e (s, (refl, ((s.0, refl, s.2), f.1), free, (p.goal, refl)), refl, refl)) (refl, ((s.0, refl, s.2), f.1), free, (p.goal, refl)) refl refl)
         ]
       ]
     ] refl
@@ -145,27 +157,28 @@ module _ (w : World) (accepted : IsProgram w.opening.program) (acyclic : IsAcycl
           n (cc))
     ]
 
-  step_decided : (consumed : Option Goal) (a : Act) (n : ℕ) (e : Effect) → Decided (HasStepEffect w.opening.program consumed a n (value_at w.state.store) e)
-  step_decided None a n e = inr (λ h. h)
-  step_decided (Some b) a n e = effect_decided w.opening.program b a n w.state.store e accepted acyclic
+  step_decided : (b : Goal) (consumed : Option Goal) (a : Act) (n : ℕ) (e : Effect) → consumed ≡ Some b → Decided (HasStepEffect w.opening.program consumed a n (value_at w.state.store) e)
+  step_decided b consumed a n e same =
+      subst (λ o. Decided (HasStepEffect w.opening.program o a n (value_at w.state.store) e)) (sym same) (effect_decided w.opening.program b a n w.state.store e accepted acyclic)
 
-  fires_decided : (r : Record) → Decided (Fires w.opening.program w.state r)
-  fires_decided r = elim (there_decided r.goal r.consumed) [
-    | inr n ↦ inr (λ f. n f.0)
-    | inl t ↦ elim (step_decided r.consumed r.act r.number r.effect) [ inr n ↦ inr (λ f. n f.1) | inl e ↦ inl (t, e) ]
-  ]
+  -- a step that consumed nothing is possible, if it is on the shelf
+  fires_decided : (r : Record) → (r.consumed ≡ None → Fires w.opening.program w.state r) → Decided (Fires w.opening.program w.state r)
+  fires_decided r asks = by_option r.consumed (λ none. inl (asks none)) (λ b some. decided_both (there_decided r.goal r.consumed) (step_decided b r.consumed r.act r.number r.effect some))
 
   abbrev Redone : ℕ → Type 0
   Redone n = IsObeyed w (redo n)
 
   with_goal : (n : ℕ) (r : Record) → finite.get w.shelf n ≡ Some r → ((g : GoalName) → r.goal ≡ Some g → finite.get w.state.goals g ≢ None) → Redone n
-  with_goal n r e there = elim (fires_decided r) [
-    | inr other ↦ (refused Fault.Changed, w, refuses (changed r e there other))
-    | inl f ↦ elim (at_most kept_limit (length w.kept)) [
-      | inl many ↦ (refused Fault.Full, w, refuses (full r e f many))
-      | inr few ↦
-          let number : r.number ≡ n = shelved n r e in
-          (stepped n, with_redone r w, does {change = puts_back r} (to_redo number) (subst (λ m. finite.get w.shelf m ≡ Some r) (sym number) e, f, omega (arith, few)) refl (ap stepped (sym number)))
+  with_goal n r e there = elim (known_decided w.opening.query w.kept r) [
+    | inr unknown ↦ (refused Fault.NoVariable, w, refuses (no_variable r e there unknown))
+    | inl known ↦ elim (fires_decided r (shelved n r e).1) [
+      | inr other ↦ (refused Fault.Changed, w, refuses (changed r e there known other))
+      | inl f ↦ elim (at_most kept_limit (length w.kept)) [
+        | inl many ↦ (refused Fault.Full, w, refuses (full r e known f many))
+        | inr few ↦
+            let number : r.number ≡ n = (shelved n r e).0 in
+            (stepped n, with_redone r w, does {change = puts_back r} (to_redo number) (subst (λ m. finite.get w.shelf m ≡ Some r) (sym number) e, f, omega (arith, few), known) refl (ap stepped (sym number)))
+      ]
     ]
   ]
 
@@ -203,14 +216,14 @@ commands_answered w (input k t) r ordered proper = acted w (input k t) k (given 
 commands_answered w (finish k) r ordered proper = acted w (finish k) k closed (λ s o. to_close o) (λ f e. e) (act_answered w ordered k closed (inr refl))
 commands_answered w (undo n) r ordered proper = undoes_answered w n r
 commands_answered w (roll n) r ordered proper = rolls_answered w n r
-commands_answered w (redo n) r ordered proper = redone w (reached_good r).accepted ordered.acyclic (λ m s e. ((reached_good r).shelf m s e).0) n
+commands_answered w (redo n) r ordered proper = redone w (reached_good r).accepted ordered.acyclic (reached_shelf w r) n
 commands_answered w (arrange order) r ordered proper = arranges_answered w order ordered
 
 pub events_answered : laws.EventsHaveAnAnswer
 events_answered w hands e r proper =
     let q = reachable_reached r in
-    answered w hands (reached_good q).accepted (reached w hands r) (λ m s k. ((reached_good q).shelf m s k).0) q e proper where
-      answered : (w : World) (hands : Hands) → IsProgram w.opening.program → (ordered : IsOrderly w) → ((n : ℕ) (s : Record) → finite.get w.shelf n ≡ Some s → s.number ≡ n) → Reaches w → (e : Event) → IsProper e → Answered w hands e
+    answered w hands (reached_good q).accepted (reached w hands r) (reached_shelf w q) q e proper where
+      answered : (w : World) (hands : Hands) → IsProgram w.opening.program → (ordered : IsOrderly w) → IsShelved w → Reaches w → (e : Event) → IsProper e → Answered w hands e
       answered w hands accepted ordered shelved q (propose h g choice) proper = proposed w accepted ordered.acyclic shelved hands h g choice
       answered w hands accepted ordered shelved q (commit h) proper = committed w accepted ordered.acyclic shelved hands h
       answered w hands accepted ordered shelved q (note g) proper = let a = noticed w accepted ordered.acyclic shelved g in (a.0, w, hands, noted_answers hands a.1)

@@ -23,7 +23,7 @@ use Rattle.ghc_hooks.specs.Tries.{Tries}
 use Rattle.ghc_hooks.proofs.LookedAt.{exact_stays}
 use Rattle.ghc_depend.specs.Depend.{MakesGoal, Binds}
 use Rattle.ghc_depend.proofs.Finding.{by_option, not_both, same_value, named_or_not, own, makes_at, own_made, without_it, without_other}
-use Rattle.ghc_depend.proofs.Results.{taken, Taken, Results, is_old}
+use Rattle.ghc_depend.proofs.Results.{firing, taken_at, Results, is_old}
 use Rattle.ghc_depend.proofs.Placing.{Place, results_of, place_of, apart_at}
 use Rattle.ghc_core.specs.World.{World, IsReplay, IsNextStep}
 use Rattle.ghc_core.specs.Core.{IsStanding, AreExactIn}
@@ -136,9 +136,6 @@ module _ (w : World) (stands : IsStanding w) where
 
 -- A step is taken that is possible, and no goal that is there has its number.
 module _ (w : World) (r : Record) (fires : Fires w.opening.program w.state r) (not_new : IsNumberNew w r) where
-  of_goal : Taken w.opening.program w.state r
-  of_goal = taken w.opening.program w.state r fires
-
   unmade : (g : GoalName) (b : Goal) → finite.get w.state.goals g ≡ Some b → own r g ≡ None
   unmade g b there = by_option (own r g) (λ e. e) (λ c e. absurd (not_new g b there (own_made r g c e).0))
 
@@ -159,8 +156,8 @@ module _ (w : World) (r : Record) (fires : Fires w.opening.program w.state r) (n
   passes_over = record {
     stays = λ g b there stayed. at_unmade g (unmade g b there) ∙ without_other r.goal w.state.goals g stayed ∙ there;
     went = λ g gone.
-        let here : finite.get w.state.goals g ≡ Some of_goal.goal = subst (λ z. finite.get w.state.goals z ≡ Some of_goal.goal) (same_value of_goal.named gone) of_goal.there in
-        at_unmade g (unmade g of_goal.goal here) ∙ without_it r.goal w.state.goals g gone;
+        let here = taken_at w.opening.program w.state r fires g gone in
+        at_unmade g (unmade g here.0 here.1) ∙ without_it r.goal w.state.goals g gone;
     came = λ g c. (c.0, at_made g c.0 c.1, c.2, not_there g (own_made r g c.0 c.1));
     origin = λ g b there. by_option (own r g)
         (λ n.
@@ -187,8 +184,9 @@ module _ (w : World) (stands : IsStanding w) (r : Record) (kept : In r w.kept) (
   place : Place w.opening.program w.opening.query w.kept r
   place = place_of w.opening.program w.opening.query w.kept w.state replay r kept
 
-  used : Taken w.opening.program place.state r
-  used = taken w.opening.program place.state r place.fires
+  -- the goal that it consumed was there
+  used : (g : GoalName) → Consumed r g → (b : Goal) × (finite.get place.state.goals g ≡ Some b) × (r.consumed ≡ Some b)
+  used g e = taken_at w.opening.program place.state r place.fires g e
 
   -- the goal that it consumed is gone
   pub consumed_gone : (g : GoalName) → Consumed r g → finite.get w.state.goals g ≡ None
@@ -197,26 +195,27 @@ module _ (w : World) (stands : IsStanding w) (r : Record) (kept : In r w.kept) (
   -- it did not make the goal that it consumed
   not_own : (g : GoalName) → Consumed r g → ¬ MakesGoal r g
   not_own g e m =
-      let there : finite.get place.state.goals g ≡ Some used.goal = subst (λ z. finite.get place.state.goals z ≡ Some used.goal) (same_value used.named e) used.there in
       let positive = (reached_good stands).positive r kept in
-      elim (is_old w.opening.query place.before place.state place.results g used.goal there) [
+      elim (is_old w.opening.query place.before place.state place.results g (used g e).0 (used g e).1) [
         | inl zero ↦ let of = m.0 in omega (arith, zero, of, positive)
         | inr q ↦ apart_at place.before place.behind r (subst (λ z. AreDistinct (numbers z)) place.split (reached_good stands).kept_once) q.0 q.1 (sym m.0 ∙ q.2)
       ]
 
   -- what it consumed is there again
-  pub consumed_again : (g : GoalName) × (b : Goal) × ConsumesGoal r g b × (finite.get v.goals g ≡ Some b)
-  consumed_again =
-      let of : ConsumesGoal r used.name used.goal = (used.named, used.consumed) in
-      (used.name, used.goal, of, back.goals.given_back used.name used.goal of (not_own used.name used.named))
+  pub consumed_again : (b : Goal) → r.consumed ≡ Some b → (g : GoalName) × ConsumesGoal r g b × (finite.get v.goals g ≡ Some b)
+  consumed_again b e = elim (firing w.opening.program place.state r place.fires) [
+    | inl t ↦ let of : ConsumesGoal r t.name b = (t.named, e) in (t.name, of, back.goals.given_back t.name b of (not_own t.name t.named))
+    | inr a ↦ absurd (not_both e a.nothing)
+  ]
 
   -- A goal that is there was there, and is not the one that it consumed; or it is that one.
   pub come_back : (g : GoalName) (b : Goal) → finite.get v.goals g ≡ Some b → ((finite.get w.state.goals g ≡ Some b) × ¬ (r.goal ≡ Some g)) ⊎ ConsumesGoal r g b
   come_back g b there = elim (named_or_not r.goal g) [
     | inl e ↦
-        let of : ConsumesGoal r g used.goal = (e, used.consumed) in
-        let same : used.goal ≡ b = same_value (back.goals.given_back g used.goal of (not_own g e)) there in
-        inr (e, used.consumed ∙ ap Some same)
+        let u = used g e in
+        let of : ConsumesGoal r g u.0 = (e, u.2) in
+        let same : u.0 ≡ b = same_value (back.goals.given_back g u.0 of (not_own g e)) there in
+        inr (e, u.2 ∙ ap Some same)
     | inr other ↦
         let free : ¬ MakesGoal r g = λ m. not_both there (back.goals.unmade g m) in
         inl (sym (back.goals.others g free (λ c h. other h.0)) ∙ there, other)

@@ -31,8 +31,14 @@ distinct_front xs ys d = distinct_left (numbers xs) (numbers ys) (subst AreDisti
 -- the first of the steps replay
 front_replays : (P : Program) (query : Query) (xs ys : List Record) (t : State) → Replays P query (xs ++ ys) t → (m : State) × Replays P query xs m
 front_replays P query xs ys t run =
-    let split = runs_split P xs ys (query_state query) t run.1 in
-    (split.0, (((λ r i. run.0.0 r (in_left xs ys r i)), distinct_front xs ys run.0.1), split.1))
+    let split = runs_split P xs ys (query_state query) t run.1 in (
+      split.0,
+      (
+        ((λ r i. run.0.0 r (in_left xs ys r i)), distinct_front xs ys run.0.1),
+        split.1,
+        λ before behind r e x n. run.2 before (behind ++ ys) r (ap (λ l. l ++ ys) e ∙ append_assoc before (r ∷ behind) ys) x n,
+      ),
+    )
 
 -- the entries of steps that were taken
 abbrev taken : List Record → List Entry

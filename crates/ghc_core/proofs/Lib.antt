@@ -2,6 +2,7 @@ pub mod Refusing
 pub mod Reversing
 pub mod Stepping
 pub mod Moving
+pub mod Naming
 pub mod Reaching
 pub mod Answering
 pub mod Answered

@@ -7,12 +7,12 @@ use Rattle.ghc_term.specs.Lists.{In}
 use Rattle.ghc_term.specs.Bindings.{IsAcyclic}
 use Rattle.ghc_term.specs.Store.{value_at}
 use Rattle.ghc_term.proofs.Exact.{exact}
-use Rattle.ghc_term.proofs.ListsLemmas.{in_left, compare_splits}
+use Rattle.ghc_term.proofs.ListsLemmas.{in_left, in_right, compare_splits}
 use Rattle.ghc_flat.specs.Clause.{Program, Query}
 use Rattle.ghc_flat.specs.Flat.{IsProgram, IsQuery}
 use Rattle.ghc_records.specs.Orders.{AreDistinct}
 use Rattle.ghc_records.specs.Record.{State, Record, numbers, after, Fires}
-use Rattle.ghc_records.specs.Replay.{query_state, Runs, HaveStepNumbers, Replays}
+use Rattle.ghc_records.specs.Replay.{query_state, Runs, HaveStepNumbers, NameWhatIsKnown, Replays}
 use Rattle.ghc_records.specs.Journal.{Step, Opening, step_of}
 use Rattle.ghc_records.specs.History.{History, IsHistory, loaded_opening}
 use Rattle.ghc_records.proofs.OrderLemmas.{numbers_append}
@@ -25,16 +25,17 @@ use Rattle.ghc_core.specs.LoadLaws.{reloaded}
 use Rattle.ghc_core.specs.LoadLaws as laws
 use Rattle.ghc_core.proofs.Reaching.{Good, reachable_good}
 use Rattle.ghc_core.proofs.Moving.{reachable_reached}
+use Rattle.ghc_core.proofs.Naming.{unasked_names_nothing, nothing_named}
 use Rattle.ghc_core.proofs.Replayed.{Replayed, replayed, runs_push}
 use Rattle.ghc_core.proofs.Loading.{step_numbers}
 
 module _ (P : Program) (query : Query) (accepted : IsProgram P) (asked : IsQuery P query) where
-  module _ (whole : List Record) (numbered : HaveStepNumbers whole) where
+  module _ (whole : List Record) (numbered : HaveStepNumbers whole) (named : NameWhatIsKnown query whole) where
     -- where the first of the steps were run, the store is acyclic
     front_acyclic : (done rest : List Record) (s : State) → whole ≡ done ++ rest → Runs P (query_state query) done s → IsAcyclic (value_at s.store)
     front_acyclic done rest s e run =
         let own : AreDistinct (numbers done ++ numbers rest) = subst AreDistinct (ap numbers e ∙ numbers_append done rest) numbered.1 in
-        let replay : Replays P query done s = (((λ r i. numbered.0 r (subst (In r) (sym e) (in_left done rest r i))), distinct_left (numbers done) (numbers rest) own), run) in
+        let replay : Replays P query done s = (((λ r i. numbered.0 r (subst (In r) (sym e) (in_left done rest r i))), distinct_left (numbers done) (numbers rest) own), run, λ front behind r split. named front (behind ++ rest) r (e ∙ ap (λ l. l ++ rest) split ∙ append_assoc front (r ∷ behind) rest)) in
         (replay_well P query done s accepted asked replay).acyclic
 
     -- behind the steps done, the same steps have the same records, and leave one state
@@ -71,10 +72,14 @@ module _ (P : Program) (query : Query) (accepted : IsProgram P) (asked : IsQuery
     ran : (w : World) → Opens (loaded_opening P query names h) w → Runs P (query_state query) w.kept w.state
     ran w o = subst (λ (p : Opening). Runs p.program (query_state p.query) w.kept w.state) o.opening o.state.1
 
+    -- and what its steps name was known
+    knew : (w : World) → Opens (loaded_opening P query names h) w → NameWhatIsKnown query w.kept
+    knew w o = subst (λ (p : Opening). NameWhatIsKnown p.query w.kept) o.opening o.state.2
+
     -- an opening makes one world
     pub one_world : (w v : World) → Opens (loaded_opening P query names h) w → Opens (loaded_opening P query names h) v → v ≡ w
     one_world w v o p =
-        let same = together w.kept o.state.0 [] w.kept v.kept (query_state query) w.state v.state refl refl (ran w o) (ran v p) (o.steps ∙ sym p.steps) in
+        let same = together w.kept o.state.0 (knew w o) [] w.kept v.kept (query_state query) w.state v.state refl refl (ran w o) (ran v p) (o.steps ∙ sym p.steps) in
         λ i. record {
           opening = (p.opening ∙ sym o.opening) i;
           state = same.1 i;
@@ -87,33 +92,43 @@ module _ (P : Program) (query : Query) (accepted : IsProgram P) (asked : IsQuery
     -- where it makes a world, no step is impossible
     pub no_stop : (w : World) (line : ℕ) → Opens (loaded_opening P query names h) w → ¬ StopsAt P query h line
     no_stop w line o p =
-        goes_on w.kept o.state.0 [] w.kept p.run (query_state query) w.state p.state p.stopped p.behind refl refl (ran w o) p.runs
+        goes_on w.kept o.state.0 (knew w o) [] w.kept p.run (query_state query) w.state p.state p.stopped p.behind refl refl (ran w o) p.runs
         (o.steps ∙ p.whole ∙ ap (λ ss. ss ++ p.stopped ∷ p.behind) (sym p.run_steps)) p.impossible
 
     module _ (form : IsHistory h) where
+      -- a step that is run is one of the records' steps
+      step_in : (rs : List Record) (r : Record) → In r rs → In (step_of r) (map step_of rs)
+      step_in [] r i = absurd i
+      step_in (q ∷ rs) r (inl e) = inl (ap step_of e)
+      step_in (q ∷ rs) r (inr i) = inr (step_in rs r i)
+
+      -- so it is one of the history
+      run_in : (run : List Record) (before behind : List Step) → h.steps ≡ before ++ behind → map step_of run ≡ before → (r : Record) → In r run → In (step_of r) h.steps
+      run_in run before behind whole same r i = subst (In (step_of r)) (sym whole) (in_left before behind (step_of r) (subst (In (step_of r)) same (step_in run r i)))
+
+      -- the first steps of a history name nothing
+      run_named : (run : List Record) (before behind : List Step) → h.steps ≡ before ++ behind → map step_of run ≡ before → NameWhatIsKnown query run
+      run_named run before behind whole same front rest r split =
+          nothing_named query front r (unasked_names_nothing r.act (λ gs. form.unasked (step_of r) gs (run_in run before behind whole same r (subst (In r) (sym split) (in_right front (r ∷ rest) r (inl refl))))))
+
       -- the first steps of a history have numbers that steps can have
       run_numbered : (run : List Record) (before behind : List Step) → h.steps ≡ before ++ behind → map step_of run ≡ before → HaveStepNumbers run
       run_numbered run before behind whole same =
           let number = λ (s : Step). s.number in
           let own : AreDistinct (map number before ++ map number behind) = subst AreDistinct (ap (map number) whole ∙ map-append number before behind) form.distinct in (
             λ r i.
-                let there : In (step_of r) h.steps = subst (In (step_of r)) (sym whole) (in_left before behind (step_of r) (subst (In (step_of r)) same (step_in run r i))) in
+                let there = run_in run before behind whole same r i in
                 let numbered = form.numbered (step_of r) there in
                 let limit = form.next_number.1 in
                 let less = numbered.1 in
                 (numbered.0, omega (arith, limit, less)),
             subst AreDistinct (sym (step_numbers run ∙ ap (map number) same)) (distinct_left (map number before) (map number behind) own),
           )
-        where
-          step_in : (rs : List Record) (r : Record) → In r rs → In (step_of r) (map step_of rs)
-          step_in [] r i = absurd i
-          step_in (q ∷ rs) r (inl e) = inl (ap step_of e)
-          step_in (q ∷ rs) r (inr i) = inr (step_in rs r i)
 
       -- a step that is not possible is in no longer run
       not_behind : (line other : ℕ) (p : StopsAt P query h line) (q : StopsAt P query h other) (more : List Step) → ¬ (q.before ≡ p.before ++ p.stopped ∷ more)
       not_behind line other p q more e =
-          goes_on q.run (run_numbered q.run q.before (q.stopped ∷ q.behind) q.whole q.run_steps) [] q.run p.run (query_state query) q.state p.state p.stopped more refl refl q.runs p.runs
+          goes_on q.run (run_numbered q.run q.before (q.stopped ∷ q.behind) q.whole q.run_steps) (run_named q.run q.before (q.stopped ∷ q.behind) q.whole q.run_steps) [] q.run p.run (query_state query) q.state p.state p.stopped more refl refl q.runs p.runs
           (q.run_steps ∙ e ∙ ap (λ ss. ss ++ p.stopped ∷ more) (sym p.run_steps)) p.impossible
 
       -- one step is the first that is not possible

@@ -23,11 +23,12 @@ use Rattle.ghc_fire.proofs.GoalNames.{goal_total, goal_antisymmetric}
 use Rattle.ghc_hooks.specs.Notes.{NotesByGoal, AreLeft}
 use Rattle.ghc_term.specs.declared.var_name.VarName.{VarName}
 use Rattle.ghc_depend.proofs.Finding.{same_value, by_option, not_both}
-use Rattle.ghc_depend.proofs.Results.{taken, is_old}
+use Rattle.ghc_depend.proofs.Results.{taken, taken_at, is_old}
 use Rattle.ghc_depend.proofs.Placing.{results_of}
 use Rattle.ghc_core.specs.World.{World, Opens}
 use Rattle.ghc_core.specs.Core.{IsStanding}
 use Rattle.ghc_core.specs.Load.{CanLoad, with_loaded, IsPossibleAs, IsImpossible, Loads, loads, stops}
+use Rattle.ghc_core.proofs.Naming.{known_of_goal}
 use Rattle.ghc_core.proofs.Reaching.{reached_good}
 use Rattle.ghc_core.proofs.Replayed.{replayed, one_more, pushed}
 use Rattle.ghc_core.proofs.Standing.{standing_replay, standing_sound, opening_stands}
@@ -42,7 +43,7 @@ loaded_opens w s r o c =
     record {
       opening = refl;
       steps = map-append step_of w.kept (r ∷ []) ∙ ap (λ ss. ss ++ step_of r ∷ []) o.steps;
-      state = pushed w (reached_good s) (replayed s) r c.possible (c.positive, omega (arith, within, below, next)) c.own;
+      state = pushed w (reached_good s) (replayed s) r c.possible c.known (c.positive, omega (arith, within, below, next)) c.own;
       below = λ q i. elim (in_either w.kept (r ∷ []) q i) [
         | inl j ↦ o.below q j
         | inr (inl e) ↦ subst (λ (z : Record). z.number < w.opening.next) (sym e) (subst (λ n. r.number < n) o.next c.below)
@@ -95,24 +96,15 @@ possible_as P t s g b e r named there has is =
 pub impossible_there : (P : Program) (t : State) (s : Step) (g : GoalName) (b : Goal) → s.goal ≡ Some g → finite.get t.goals g ≡ Some b
     → ((e : Effect) → ¬ HasEffect P b s.act s.number (value_at t.store) e) → IsImpossible P t s
 impossible_there P t s g b named there never r p =
-    let firing = taken P t r p.1 in
-    let goal : firing.name ≡ g = same_value (sym (ap (λ (q : Step). q.goal) p.0) ∙ firing.named) named in
+    let firing = taken P t r p.1 g (ap (λ (q : Step). q.goal) p.0 ∙ named) in
+    let goal : firing.name ≡ g = same_value firing.named (ap (λ (q : Step). q.goal) p.0 ∙ named) in
     let found : firing.goal ≡ b = same_value (subst (λ n. finite.get t.goals n ≡ Some firing.goal) goal firing.there) there in
     never r.effect (subst (λ (q : Step). HasEffect P b q.act q.number (value_at t.store) r.effect) p.0 (subst (λ c. HasEffect P c r.act r.number (value_at t.store) r.effect) found firing.effect))
 
--- A step without a goal, or of a goal that is not there, is not possible.
-pub impossible_without : (P : Program) (t : State) (s : Step) → s.goal ≡ None → IsImpossible P t s
-impossible_without P t s none r p =
-    let firing = taken P t r p.1 in
-    let clash : None ≡ Some firing.name = sym none ∙ sym (ap (λ (q : Step). q.goal) p.0) ∙ firing.named in
-    cc
-
+-- A step of a goal that is not there is not possible.
 pub impossible_gone : (P : Program) (t : State) (s : Step) (g : GoalName) → s.goal ≡ Some g → finite.get t.goals g ≡ None → IsImpossible P t s
 impossible_gone P t s g named gone r p =
-    let firing = taken P t r p.1 in
-    let goal : firing.name ≡ g = same_value (sym (ap (λ (q : Step). q.goal) p.0) ∙ firing.named) named in
-    let clash : None ≡ Some firing.goal = sym gone ∙ subst (λ n. finite.get t.goals n ≡ Some firing.goal) goal firing.there in
-    cc
+    not_both (taken_at P t r p.1 g (ap (λ (q : Step). q.goal) p.0 ∙ named)).1 gone
 
 -- what stands behind so many items begins with the item of that place
 split_at : (before behind : List Step) (i : ℕ) (s : Step) → length before ≡ i → slice_get (before ++ behind) i ≡ Some s → (rest : List Step) × (behind ≡ s ∷ rest)
@@ -179,11 +171,16 @@ module _ (P : Program) (query : Query) (names : List (List ℕ)) (h : History) (
         let few = form.few in
         record {
           possible = p.1;
+          known = (let named = form.of_goals s there in known_of_goal w.opening.program w.state w.opening.query w.kept r p.1 (named.0, ap (λ (q : Step). q.goal) p.0 ∙ named.1));
           positive = omega (arith, first, number);
           below = omega (arith, less, number, next);
           own = λ j. apart (map (λ (q : Step). q.number) l.before) (map (λ (q : Step). q.number) rest.0) s.number distinct (subst₂ In number kept j);
           few = omega (arith, few, all, count);
         }
+
+    -- It is of a goal.
+    pub own_goal : IsHistory h → (g : GoalName) × (s.goal ≡ Some g)
+    own_goal form = form.of_goals s (subst (In s) (sym whole) (in_right l.before (s ∷ rest.0) s (inl refl)))
 
     -- The next step was loaded.
     pub one_more_loaded : (v : World) (r : Record) → IsPossibleAs w.opening.program w.state s r → v ≡ with_loaded r w → Opens v.opening v → HasLoaded P query names h (i + 1) v

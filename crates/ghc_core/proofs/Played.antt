@@ -31,6 +31,7 @@ use Rattle.ghc_core.specs.declared.change.Change.TheVariants.{Adds as adds, Take
 use Rattle.ghc_core.specs.Change.{without_steps}
 use Rattle.ghc_core.specs.Answers.{to_undo, by_hand, by_command, Says, makes, says, fails, played}
 use Rattle.ghc_core.specs.Facts.{query_world, two_hands, equals, of_query, SecondHandIsStale, RedoIsChanged}
+use Rattle.ghc_core.proofs.Naming.{none_named, nothing_named}
 use Rattle.ghc_core.proofs.Refusing.{changed, stale, has_not}
 
 abbrev x : VarName
@@ -104,10 +105,10 @@ module _ where
           emptied 1 both_held,
           makes {change = adds (step 1 1 1)} (omega arith, omega arith) (by_hand {p = (proposal 1 1)} held_1 (
             (equals 1, tt, first_goal, binds [] 1 no_step (value_at finite.empty) unbound),
-            (refl, ((equals 1, refl, first_goal), binds [] 1 1 (value_at finite.empty) unbound), (omega arith, omega arith)),
+            (refl, ((equals 1, refl, first_goal), binds [] 1 1 (value_at finite.empty) unbound), (omega arith, omega arith), (of_query 1, refl)),
             refl,
             refl,
-          )) (refl, ((equals 1, refl, first_goal), binds [] 1 1 (value_at finite.empty) unbound), (omega arith, omega arith)) refl refl,
+          )) (refl, ((equals 1, refl, first_goal), binds [] 1 1 (value_at finite.empty) unbound), (omega arith, omega arith), (of_query 1, refl)) refl refl,
           (
             stepped_on,
             emptied 2 (emptied 1 both_held),
@@ -185,14 +186,14 @@ module _ where
         emptied 1 hand_1,
         makes {change = adds (step 1 1 1)} (omega arith, omega arith) (by_hand {p = (proposal 1 1)} (finite.get-insert nat_cmp_total finite.empty 1 (proposal 1 1) 1) (
           (equals 1, tt, there_1, binds [] 1 no_step (value_at finite.empty) unbound),
-          (refl, ((equals 1, refl, there_1), binds [] 1 1 (value_at finite.empty) unbound), (omega arith, omega arith)),
+          (refl, ((equals 1, refl, there_1), binds [] 1 1 (value_at finite.empty) unbound), (omega arith, omega arith), (of_query 1, refl)),
           refl,
           refl,
-        )) (refl, ((equals 1, refl, there_1), binds [] 1 1 (value_at finite.empty) unbound), (omega arith, omega arith)) refl refl,
+        )) (refl, ((equals 1, refl, there_1), binds [] 1 1 (value_at finite.empty) unbound), (omega arith, omega arith), (of_query 1, refl)) refl refl,
         (
           after_undo,
           emptied 1 hand_1,
-          makes {change = takes_away (step 1 1 1)} tt (by_command (to_undo refl)) (inl refl, λ b f. nothing_follows f) ([], leave (λ n. n refl) nothing, (at_first.state, (((λ r i. absurd i), tt), refl), refl)) refl,
+          makes {change = takes_away (step 1 1 1)} tt (by_command (to_undo refl)) (inl refl, λ b f. nothing_follows f) ([], leave (λ n. n refl) nothing, (at_first.state, (((λ r i. absurd i), tt), refl, none_named queries), refl)) refl,
           (
             after_undo,
             hand_2,
@@ -202,14 +203,14 @@ module _ where
               emptied 1 hand_2,
               makes {change = adds (step 2 2 2)} (omega arith, omega arith) (by_hand {p = (proposal 2 2)} (finite.get-insert nat_cmp_total (emptied 1 hand_1).held 1 (proposal 2 2) 1) (
                 (equals 2, tt, there_2, binds [] 2 no_step (value_at finite.empty) unbound),
-                (refl, ((equals 2, refl, there_2), binds [] 2 2 (value_at finite.empty) unbound), (omega arith, omega arith)),
+                (refl, ((equals 2, refl, there_2), binds [] 2 2 (value_at finite.empty) unbound), (omega arith, omega arith), (of_query 2, refl)),
                 refl,
                 refl,
-              )) (refl, ((equals 2, refl, there_2), binds [] 2 2 (value_at finite.empty) unbound), (omega arith, omega arith)) refl refl,
+              )) (refl, ((equals 2, refl, there_2), binds [] 2 2 (value_at finite.empty) unbound), (omega arith, omega arith), (of_query 2, refl)) refl refl,
               (
                 after_two,
                 emptied 1 hand_2,
-                fails tt (changed (step 1 1 1) shelved (λ g e none. has_not (subst (λ z. finite.get after_two.state.goals z ≡ Some (equals 1)) (named e) left_there) none) not_again),
+                fails tt (changed (step 1 1 1) shelved (λ g e none. has_not (subst (λ z. finite.get after_two.state.goals z ≡ Some (equals 1)) (named e) left_there) none) (nothing_named queries (step 2 2 2 ∷ []) (step 1 1 1) refl) not_again),
                 (refl, refl),
               ),
             ),

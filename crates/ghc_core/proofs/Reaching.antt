@@ -2,6 +2,7 @@
 use Rattle.std.proofs.Common.{◌≡◌, ℕ, ◌+◌, ◌<◌, ◌≤◌, ◌⊎◌, List, [], ◌∷◌, ◌++◌, refl, sym, ap, ◌∙◌, subst, inl, inr, arith, Some, None}
 use Rattle.std.specs.Ordering.{nat_cmp}
 use Rattle.std.specs.FinMap as finite
+use Rattle.ghc_term.specs.declared.var_name.VarName.{VarName}
 use Rattle.ghc_term.specs.Lists.{In}
 use Rattle.ghc_term.specs.Bindings.{IsAcyclic}
 use Rattle.ghc_term.specs.Store.{value_at}
@@ -20,7 +21,7 @@ use Rattle.ghc_depend.specs.Depend.{GoesWith}
 use Rattle.ghc_depend.specs.Lawful.{IsLawful, IsInOrder}
 use Rattle.ghc_depend.proofs.Picking.{picks_in, records_push}
 use Rattle.ghc_depend.proofs.KeptOnce.{shelved, unshelved}
-use Rattle.ghc_core.specs.World.{Hands, World, IsReplay, IsNextStep, with_step, Opens}
+use Rattle.ghc_core.specs.World.{Hands, World, IsReplay, IsKnown, IsNextStep, with_step, Opens}
 use Rattle.ghc_core.specs.declared.change.Change.{Change}
 use Rattle.ghc_core.specs.declared.change.Change.TheVariants.{Adds as adds, PutsBack as puts_back, TakesAway as takes_away, TakesAll as takes_all, Reorders as reorders}
 use Rattle.ghc_core.specs.Change.{with_redone, without_steps, CanChange, Changes}
@@ -28,6 +29,7 @@ use Rattle.ghc_core.specs.Reached.{AreNamesOf, IsSound, Reaches, from_opening, b
 use Rattle.ghc_core.specs.Legal.{IsReachable}
 use Rattle.ghc_core.specs.Laws as laws
 use Rattle.ghc_core.proofs.Moving.{reachable_reached}
+use Rattle.ghc_core.proofs.Naming.{known_of_goal, known_more}
 
 -- what is known of a shelved step
 abbrev pub OnShelf : World → ℕ → Record → Type 0
@@ -60,13 +62,13 @@ module _ (w : World) (good : Good w) where
       | inr q ↦ new (subst (λ n. In n (numbers w.kept)) (sym q.2.0) (number_in w.kept q.0 q.1))
     ])
 
-    push_has : HasOnly (IsVariableOf w.opening.query (w.kept ++ r ∷ [])) (after w.state r)
-    push_has = after_has w.opening.program w.state r fires (IsVariableOf w.opening.query (w.kept ++ r ∷ [])) good.accepted good.acyclic
-        (has_more (IsVariableOf w.opening.query w.kept) (IsVariableOf w.opening.query (w.kept ++ r ∷ [])) w.state (λ x known. elim known [
-          | inl i ↦ inl i
-          | inr q ↦ inr (q.0, in_left w.kept (r ∷ []) q.0 q.1, q.2)
-        ]) good.has)
-        (λ y m. inr (r, in_right w.kept (r ∷ []) r (inl refl), m))
+    longer : (x : VarName) → IsVariableOf w.opening.query w.kept x → IsVariableOf w.opening.query (w.kept ++ r ∷ []) x
+    longer x known = known_more w.opening.query w.kept (w.kept ++ r ∷ []) (λ s i. in_left w.kept (r ∷ []) s i) x known
+
+    push_has : IsKnown w r → HasOnly (IsVariableOf w.opening.query (w.kept ++ r ∷ [])) (after w.state r)
+    push_has known = after_has w.opening.program w.state r fires (IsVariableOf w.opening.query (w.kept ++ r ∷ [])) good.accepted good.acyclic
+        (has_more (IsVariableOf w.opening.query w.kept) (IsVariableOf w.opening.query (w.kept ++ r ∷ [])) w.state longer good.has)
+        (λ y m. inr (r, in_right w.kept (r ∷ []) r (inl refl), m)) (λ y n. longer y (known y n))
 
     push_one : OneEach (after w.state r)
     push_one = after_one_each w.opening.program good.accepted w.state r fires good.one
@@ -102,12 +104,12 @@ module _ (w : World) (good : Good w) where
         shelf = λ m s e. let o = good.shelf m s e in (o.0, o.1, omega (arith, o.2), λ i. elim (pushed w.kept r m i) [ inl j ↦ o.3 j | inr same ↦ let less = o.2 in let number = n.0 in omega arith ]);
         first = omega arith;
         acyclic = push_acyclic r n.1 positive new;
-        has = push_has r n.1 positive new;
+        has = push_has r n.1 positive new (known_of_goal w.opening.program w.state w.opening.query w.kept r n.1 n.3);
         one = push_one r n.1 positive new;
       }
 
-  redone_good : (r : Record) → finite.get w.shelf r.number ≡ Some r → Fires w.opening.program w.state r → Good (with_redone r w)
-  redone_good r e fires =
+  redone_good : (r : Record) → finite.get w.shelf r.number ≡ Some r → Fires w.opening.program w.state r → IsKnown w r → Good (with_redone r w)
+  redone_good r e fires known =
       let on = good.shelf r.number r e in
       record {
         accepted = good.accepted;
@@ -119,7 +121,7 @@ module _ (w : World) (good : Good w) where
         shelf = λ m s k. let u = unshelved w.shelf r.number m s k in let o = good.shelf m s u.0 in (o.0, o.1, o.2, λ i. elim (pushed w.kept r m i) [ inl j ↦ o.3 j | inr same ↦ u.1 same ]);
         first = good.first;
         acyclic = push_acyclic r fires on.1 on.3;
-        has = push_has r fires on.1 on.3;
+        has = push_has r fires on.1 on.3 known;
         one = push_one r fires on.1 on.3;
       }
 
@@ -160,13 +162,13 @@ module _ (w : World) (good : Good w) where
     shelf = λ n r e. let s = good.shelf n r e in (s.0, s.1, s.2, λ i. let q = number_of new n i in s.3 (subst (λ m. In m (numbers w.kept)) q.2 (number_in w.kept q.0 ((o.1 q.0).0 q.1))));
     first = good.first;
     acyclic = good.acyclic;
-    has = has_more (IsVariableOf w.opening.query w.kept) (IsVariableOf w.opening.query new) w.state (λ x known. elim known [ inl i ↦ inl i | inr q ↦ inr (q.0, (o.1 q.0).1 q.1, q.2) ]) good.has;
+    has = has_more (IsVariableOf w.opening.query w.kept) (IsVariableOf w.opening.query new) w.state (known_more w.opening.query w.kept new (λ r i. (o.1 r).1 i)) good.has;
     one = good.one;
   }
 
   changed_good : (change : Change) (v : World) → CanChange w change → Changes w change v → Good v
   changed_good (adds r) v can e = subst Good (sym e) (step_good r can)
-  changed_good (puts_back r) v can e = subst Good (sym e) (redone_good r can.0 can.1)
+  changed_good (puts_back r) v can e = subst Good (sym e) (redone_good r can.0 can.1 can.3)
   changed_good (takes_away r) v can (left, out, (t, run, e)) =
       subst Good (sym e) (without_good (r ∷ []) left t _ (λ s i. elim i [ inl e ↦ subst (λ x. In x w.kept) (sym e) can.0 | inr j ↦ absurd j ]) (λ s i. (picks_in w.kept left s out i).0)
       (λ s u i j same. elim i [ inl e ↦ (picks_in w.kept left u out j).1 (sym same ∙ e) | inr a ↦ a ]) run)

@@ -1,6 +1,6 @@
 -- What an undo or a rollback took away can be redone, which gives back the old state.
 use Rattle.std.proofs.Common.{◌≡◌, ℕ, ◌+◌, ◌≤◌, true, false, cond, List, [], ◌∷◌, ◌++◌, map, length, refl, sym, ap, ◌∙◌, subst, subst₂, inl, inr, arith, Some, None}
-use Rattle.std.proofs.lemmas.List.{length-append}
+use Rattle.std.proofs.lemmas.List.{length-append, append_assoc}
 use Rattle.std.specs.Ordering.{eq_by_cmp, is_eq, nat_cmp}
 use Rattle.std.specs.Cmp.{nat_cmp_total, tied_itself}
 use Rattle.std.specs.FinMap as finite
@@ -9,7 +9,7 @@ use Rattle.ghc_term.proofs.ListsLemmas.{in_either}
 use Rattle.ghc_records.specs.Numbers.{kept_limit}
 use Rattle.ghc_records.specs.Orders.{AreDistinct}
 use Rattle.ghc_records.specs.Record.{State, Record, numbers, Shelf}
-use Rattle.ghc_records.specs.Replay.{query_state, Runs}
+use Rattle.ghc_records.specs.Replay.{query_state, Runs, NameWhatIsKnown}
 use Rattle.ghc_records.specs.Journal.{Entry, undid, rolled}
 use Rattle.ghc_records.proofs.OrderLemmas.{number_in, records_distinct}
 use Rattle.ghc_records.proofs.Replaying.{run_once}
@@ -51,17 +51,17 @@ on_shelf (s ∷ gone) shelf d r (inr i) =
 
 -- steps that are on the shelf and run from here are redone one after another
 redo_each : (hands : Hands) (rest : List Record) (x : World) (goal : State) → Runs x.opening.program x.state rest goal → ((r : Record) → In r rest → finite.get x.shelf r.number ≡ Some r)
-    → AreDistinct (numbers rest) → length x.kept + length rest ≤ kept_limit
+    → AreDistinct (numbers rest) → length x.kept + length rest ≤ kept_limit → NameWhatIsKnown x.opening.query (x.kept ++ rest)
     → (u : World) × AnswersEach (λ i. ⊥) x hands (map (λ m. command (redo m)) (numbers rest)) (map stepped (numbers rest)) u hands × (u.state ≡ goal)
-redo_each hands [] x goal run on d l = (x, (refl, refl), sym run)
-redo_each hands (r ∷ rest) x goal run on d l =
+redo_each hands [] x goal run on d l named = (x, (refl, refl), sym run)
+redo_each hands (r ∷ rest) x goal run on d l named =
     let y = with_redone r x in
     let longer : length (x.kept ++ r ∷ []) ≡ length x.kept + 1 = length-append x.kept (r ∷ []) in
     let next = redo_each hands rest y goal run.1 (λ s i.
     finite.get-remove nat_cmp_total x.shelf r.number s.number
     ∙ ap (λ b. cond b None (finite.get x.shelf s.number)) (number_apart s.number r.number (λ e. d.0 (subst (λ n. In n (numbers rest)) e (number_in rest s i))))
-    ∙ on s (inr i)) d.1 (omega arith) in
-    (next.0, (y, hands, obeyed_answers hands (does {change = puts_back r} (to_redo refl) (on r (inl refl), run.0, omega arith) refl refl), next.1), next.2)
+    ∙ on s (inr i)) d.1 (omega arith) (subst (NameWhatIsKnown x.opening.query) (sym (append_assoc x.kept (r ∷ []) rest)) named) in
+    (next.0, (y, hands, obeyed_answers hands (does {change = puts_back r} (to_redo refl) (on r (inl refl), run.0, omega arith, named x.kept rest r refl) refl refl), next.1), next.2)
 
 -- the steps of these numbers are redone from v on, which leaves the state of w
 abbrev Redone : World → World → Hands → List ℕ → Type 0
@@ -92,7 +92,7 @@ module _ (w : World) (good : Good w) (h : Replayed w) where
         let s = runs_split w.opening.program left gone (query_state w.opening.query) w.state whole.1 in
         let same : s.0 ≡ t = run_once w.opening.program (query_state w.opening.query) left s.0 t s.1 run.1 in
         let d = picks_distinct w.kept gone parts.0 good.kept_once in
-        redo_each hands gone (without_steps gone left t entry w) w.state (subst (λ z. Runs w.opening.program z gone w.state) same s.2) (on_shelf gone w.shelf d) d short
+        redo_each hands gone (without_steps gone left t entry w) w.state (subst (λ z. Runs w.opening.program z gone w.state) same s.2) (on_shelf gone w.shelf d) d short whole.2
 
   -- a change that is told as steps undone took these away
   redo_changed : (hands : Hands) (ns : List ℕ) (v : World) (change : Change) → CanChange w change → Changes w change v → undone ns ≡ told_of change → Redone w v hands ns

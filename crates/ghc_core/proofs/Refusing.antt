@@ -11,7 +11,7 @@ use Rattle.ghc_records.specs.Numbers.{kept_limit}
 use Rattle.ghc_term.specs.Goal.{Goal}
 use Rattle.ghc_records.specs.Record.{Record, IsThere, Fires}
 use Rattle.ghc_depend.specs.Depend.{IsKeptAs, IsNotKept, IsFirstConsequence}
-use Rattle.ghc_core.specs.World.{Proposal, World, IsFull}
+use Rattle.ghc_core.specs.World.{Proposal, World, IsFull, IsKnown}
 use Rattle.ghc_core.specs.Refusals.{IsToldWhere, OrElse, UndoFails, LacksGoal, IsShelvedWith, RedoFails}
 use Rattle.ghc_core.specs.Streams.{IsStreamAt, StreamFails}
 use Rattle.ghc_core.specs.Proposes.{StillHolds, CommitFails}
@@ -61,16 +61,27 @@ not_shelved none = record { first = inl (refl, none) }
 pub no_goal : {w : World} {n : ℕ} (r : Record) (g : GoalName) → finite.get w.shelf n ≡ Some r → r.goal ≡ Some g → finite.get w.state.goals g ≡ None → RedoFails w n Fault.NoGoal
 no_goal r g on named gone = record { first = inr ((λ f none. has_not on none.1), inl (refl, (r, on, (g, named, gone)))) }
 
-pub changed : {w : World} {n : ℕ} (r : Record) → finite.get w.shelf n ≡ Some r → GoalIsThere w r → ¬ Fires w.opening.program w.state r → RedoFails w n Fault.Changed
-changed {w} {n} r on there other = record { first = inr ((λ f none. has_not on none.1), inr ((λ f lacks. has_goal w n r on there lacks.1), inl (refl, (r, on, other)))) }
+is_known : (w : World) (n : ℕ) (r : Record) → finite.get w.shelf n ≡ Some r → IsKnown w r → ¬ IsShelvedWith w n (λ r. ¬ IsKnown w r)
+is_known w n r on known (s, at, unknown) = unknown (subst (IsKnown w) (value_once on at) known)
 
-pub full : {w : World} {n : ℕ} (r : Record) → finite.get w.shelf n ≡ Some r → Fires w.opening.program w.state r → kept_limit ≤ length w.kept → RedoFails w n Fault.Full
-full {w} {n} r on fires many = record {
+pub no_variable : {w : World} {n : ℕ} (r : Record) → finite.get w.shelf n ≡ Some r → GoalIsThere w r → ¬ IsKnown w r → RedoFails w n Fault.NoVariable
+no_variable {w} {n} r on there unknown = record { first = inr ((λ f none. has_not on none.1), inr ((λ f lacks. has_goal w n r on there lacks.1), inl (refl, (r, on, unknown)))) }
+
+pub changed : {w : World} {n : ℕ} (r : Record) → finite.get w.shelf n ≡ Some r → GoalIsThere w r → IsKnown w r → ¬ Fires w.opening.program w.state r → RedoFails w n Fault.Changed
+changed {w} {n} r on there known other = record {
+  first = inr ((λ f none. has_not on none.1), inr ((λ f lacks. has_goal w n r on there lacks.1), inr ((λ f unknown. is_known w n r on known unknown.1), inl (refl, (r, on, other)))));
+}
+
+pub full : {w : World} {n : ℕ} (r : Record) → finite.get w.shelf n ≡ Some r → IsKnown w r → Fires w.opening.program w.state r → kept_limit ≤ length w.kept → RedoFails w n Fault.Full
+full {w} {n} r on known fires many = record {
   first = inr (
     (λ f none. has_not on none.1),
     inr (
       (λ f lacks. has_goal w n r on (λ g named none. has_not (finds w r g fires named).2 none) lacks.1),
-      inr ((λ f other. other.1.2 (subst (Fires w.opening.program w.state) (value_once on other.1.1) fires)), (refl, many)),
+      inr (
+        (λ f unknown. is_known w n r on known unknown.1),
+        inr ((λ f other. other.1.2 (subst (Fires w.opening.program w.state) (value_once on other.1.1) fires)), (refl, many)),
+      ),
     ),
   );
 }

@@ -1,31 +1,43 @@
 -- The state of a world that is reached is the replay of its kept steps.
-use Rattle.std.proofs.Common.{◌≡◌, ◌+◌, ◌<◌, ◌≤◌, List, [], ◌∷◌, ◌++◌, length, sym, ap, subst, inl, inr, arith}
+use Rattle.std.proofs.Common.{◌≡◌, ℕ, ◌+◌, ◌<◌, ◌≤◌, List, [], ◌∷◌, ◌++◌, length, sym, ap, ◌∙◌, subst, inl, inr, arith, Some, None}
+use Rattle.std.specs.Ordering.{nat_cmp}
+use Rattle.std.specs.FinMap as finite
 use Rattle.std.proofs.lemmas.List.{length-append}
 use Rattle.ghc_term.specs.Lists.{In}
 use Rattle.ghc_term.proofs.ListsLemmas.{in_either}
 use Rattle.ghc_flat.specs.Clause.{Program}
 use Rattle.ghc_records.specs.Numbers.{number_limit, kept_limit, IsStepNumber}
 use Rattle.ghc_records.specs.Orders.{AreDistinct}
-use Rattle.ghc_records.specs.Record.{State, Record, numbers, after, Fires}
+use Rattle.ghc_records.specs.Record.{State, Record, Shelf, numbers, after, Fires}
 use Rattle.ghc_records.specs.Replay.{query_state, Runs}
 use Rattle.ghc_records.specs.Journal.{Entry}
 use Rattle.ghc_records.proofs.OrderLemmas.{records_distinct}
 use Rattle.ghc_depend.proofs.Arranging.{arranged}
+use Rattle.ghc_depend.proofs.Finding.{not_both}
+use Rattle.ghc_depend.proofs.KeptOnce.{shelved, unshelved}
 use Rattle.ghc_depend.proofs.Picking.{no_longer, picks_in, records_push}
-use Rattle.ghc_core.specs.World.{World, IsReplay, IsNextStep}
+use Rattle.ghc_depend.proofs.Placing.{place_of}
+use Rattle.ghc_depend.proofs.Results.{IsAsking, firing}
+use Rattle.ghc_core.specs.World.{World, IsReplay, IsKnown, IsNextStep}
 use Rattle.ghc_core.specs.declared.change.Change.{Change}
 use Rattle.ghc_core.specs.declared.change.Change.TheVariants.{Adds as adds, PutsBack as puts_back, TakesAway as takes_away, TakesAll as takes_all, Reorders as reorders}
 use Rattle.ghc_core.specs.Change.{without_steps, CanChange, Changes}
 use Rattle.ghc_core.specs.Reached.{Reaches, from_opening, by_change}
 use Rattle.ghc_core.specs.Returns as laws
 use Rattle.ghc_core.proofs.Moving.{reachable_reached}
+use Rattle.ghc_core.proofs.Naming.{known_of_goal, named_push}
 use Rattle.ghc_core.proofs.Reaching.{Good, not_kept_next, reached_good}
 
--- the state is the replay of the kept steps, and numbers and steps are within their limits
+-- each step on the shelf that consumed nothing asks for goals
+abbrev pub AskFromShelf : Program → Shelf → Type 0
+AskFromShelf P shelf = (n : ℕ) (r : Record) → finite.get shelf n ≡ Some r → r.consumed ≡ None → IsAsking P r
+
+-- the state is the replay of the kept steps, numbers and steps are within their limits, and shelved steps without a goal ask for goals
 pub record Replayed (w : World) : Type 0 where
   pub replay : IsReplay w w.kept w.state
   pub within : w.next ≤ number_limit
   pub few : length w.kept ≤ kept_limit
+  pub asking : AskFromShelf w.opening.program w.shelf
 
 -- a step more is within the limit where there is room
 pub one_more : (kept : List Record) (r : Record) → length kept < kept_limit → length (kept ++ r ∷ []) ≤ kept_limit
@@ -41,8 +53,8 @@ not_next w good r e i = not_kept_next w good (subst (λ m. In m (numbers w.kept)
 
 module _ (w : World) (good : Good w) (h : Replayed w) where
   -- a step more at the end
-  pub pushed : (r : Record) → Fires w.opening.program w.state r → IsStepNumber r.number → ¬ In r.number (numbers w.kept) → IsReplay w (w.kept ++ r ∷ []) (after w.state r)
-  pushed r f n new = (
+  pub pushed : (r : Record) → Fires w.opening.program w.state r → IsKnown w r → IsStepNumber r.number → ¬ In r.number (numbers w.kept) → IsReplay w (w.kept ++ r ∷ []) (after w.state r)
+  pushed r f known n new = (
     (
       λ s i. elim (in_either w.kept (r ∷ []) s i) [
         | inl j ↦ h.replay.0.0 s j
@@ -52,6 +64,7 @@ module _ (w : World) (good : Good w) (h : Replayed w) where
       records_push w.kept r good.kept_once new,
     ),
     runs_push w.opening.program w.kept r (query_state w.opening.query) w.state h.replay.1 f,
+    named_push w.opening.query w.kept r h.replay.2 known,
   )
 
   next_number : (r : Record) → IsNextStep w r → IsStepNumber r.number
@@ -61,30 +74,52 @@ module _ (w : World) (good : Good w) (h : Replayed w) where
   still_few : (rs : List Record) → AreDistinct (numbers rs) → ((r : Record) → In r rs → In r w.kept) → length rs ≤ kept_limit
   still_few rs d among = let l = no_longer rs w.kept (records_distinct rs d) among in let limit = h.few in omega arith
 
-  left_replayed : (gone left : List Record) (t : State) (entry : Entry) → IsReplay w left t → ((r : Record) → In r left → In r w.kept) → Replayed (without_steps gone left t entry w)
-  left_replayed gone left t entry run among = record { replay = run; within = h.within; few = still_few left run.0.1 among }
+  -- a kept step that consumed nothing asks for goals
+  kept_asks : (r : Record) → In r w.kept → r.consumed ≡ None → IsAsking w.opening.program r
+  kept_asks r i none =
+      let place = place_of w.opening.program w.opening.query w.kept w.state h.replay r i in
+      elim (firing w.opening.program place.state r place.fires) [ inl t ↦ absurd (not_both t.consumed none) | inr a ↦ a ]
+
+  left_replayed : (gone left : List Record) (t : State) (entry : Entry) → IsReplay w left t → ((r : Record) → In r gone → In r w.kept) → ((r : Record) → In r left → In r w.kept) → Replayed (without_steps gone left t entry w)
+  left_replayed gone left t entry run of_gone among = record {
+    replay = run;
+    within = h.within;
+    few = still_few left run.0.1 among;
+    asking = λ n r e none. elim (shelved gone w.shelf n r e) [ inl g ↦ kept_asks r (of_gone r g.0) none | inr k ↦ h.asking n r k none ];
+  }
 
   changed : (change : Change) (v : World) → CanChange w change → Changes w change v → Replayed v
   changed (adds r) v can e = subst Replayed (sym e) (record {
-    replay = pushed r can.1 (next_number r can) (not_next w good r can.0);
+    replay = pushed r can.1 (known_of_goal w.opening.program w.state w.opening.query w.kept r can.1 can.3) (next_number r can) (not_next w good r can.0);
     within = (let room = can.2.0 in omega arith);
     few = one_more w.kept r can.2.1;
+    asking = h.asking;
   })
   changed (puts_back r) v can e =
       let on = good.shelf r.number r can.0 in
       let first = on.1 in
       let less = on.2 in
       let limit = h.within in
-      subst Replayed (sym e) (record { replay = pushed r can.1 (omega arith, omega arith) on.3; within = h.within; few = one_more w.kept r can.2 })
-  changed (takes_away r) v can (left, out, (t, run, e)) = subst Replayed (sym e) (left_replayed (r ∷ []) left t _ run (λ s i. (picks_in w.kept left s out i).0))
+      subst Replayed (sym e) (record {
+        replay = pushed r can.1 can.3 (omega arith, omega arith) on.3;
+        within = h.within;
+        few = one_more w.kept r can.2;
+        asking = λ n s e none. h.asking n s (unshelved w.shelf r.number n s e).0 none;
+      })
+  changed (takes_away r) v can (left, out, (t, run, e)) = subst Replayed (sym e) (left_replayed (r ∷ []) left t _ run (λ s i. elim i [ inl e ↦ subst (λ x. In x w.kept) (sym e) can.0 | inr j ↦ absurd j ]) (λ s i. (picks_in w.kept left s out i).0))
   changed (takes_all []) v can e = absurd can
-  changed (takes_all (r ∷ rs)) v can (left, split, (t, run, e)) = subst Replayed (sym e) (left_replayed (r ∷ rs) left t _ run (λ s i. (picks_in w.kept left s split.1 i).0))
+  changed (takes_all (r ∷ rs)) v can (left, split, (t, run, e)) = subst Replayed (sym e) (left_replayed (r ∷ rs) left t _ run (λ s i. (picks_in w.kept (r ∷ rs) s split.0 i).0) (λ s i. (picks_in w.kept left s split.1 i).0))
   changed (reorders a) v can e =
       let run = arranged w.opening.program w.opening.query w.kept w.state a.order a.records good.accepted good.asked h.replay can.0 can.1 in
-      subst Replayed (sym e) (record { replay = run; within = h.within; few = still_few a.records run.0.1 (λ s i. (can.1.1 s).0 i) })
+      subst Replayed (sym e) (record { replay = run; within = h.within; few = still_few a.records run.0.1 (λ s i. (can.1.1 s).0 i); asking = h.asking })
 
 pub replayed : {w : World} → Reaches w → Replayed w
-replayed (from_opening sound opens) = record { replay = opens.state; within = subst (λ n. n ≤ number_limit) (sym opens.next) opens.numbered.1; few = opens.few }
+replayed (from_opening sound opens) = record {
+  replay = opens.state;
+  within = subst (λ n. n ≤ number_limit) (sym opens.next) opens.numbered.1;
+  few = opens.few;
+  asking = λ n r e none. absurd (not_both e (ap (λ m. finite.get m n) opens.shelf ∙ finite.get-empty nat_cmp n));
+}
 replayed (by_change {w = w} {v = v} change r can changes) = changed w (reached_good r) (replayed r) change v can changes
 
 pub reachable_replay : laws.ReachableIsReplay

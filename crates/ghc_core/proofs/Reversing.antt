@@ -8,7 +8,7 @@ use Rattle.ghc_records.specs.Record.{Record, numbers, Fires}
 use Rattle.ghc_records.proofs.OrderLemmas.{record_once}
 use Rattle.ghc_depend.specs.Depend.{Follows, IsKeptAs, IsFirstConsequence}
 use Rattle.ghc_depend.proofs.Once.{consequences}
-use Rattle.ghc_core.specs.World.{World}
+use Rattle.ghc_core.specs.World.{World, IsKnown}
 use Rattle.ghc_core.specs.Refusals.{HasConsequence, UndoFails, RedoFails}
 use Rattle.ghc_core.proofs.Refusing.{TellsOne, told_once, first_once, has_not, value_once, finds}
 
@@ -29,13 +29,14 @@ module _ (w : World) (n : ℕ) (d : AreDistinct (numbers w.kept)) where
   undo_or_fail r k none p = elim p.first [ inl n ↦ n.1 r k.0 k.1 | inr q ↦ let (s, b, e, l, c) = q.1 in none b (subst (λ x. Follows w.kept x b) (kept_once w.kept n s r d l k) c.0) ]
 
 module _ (w : World) (n : ℕ) where
-  pub redo_or_fail : {f : Fault} (r : Record) → finite.get w.shelf n ≡ Some r → Fires w.opening.program w.state r → length w.kept < kept_limit → ¬ RedoFails w n f
-  redo_or_fail r on fires few p = elim p.first [
+  pub redo_or_fail : {f : Fault} (r : Record) → finite.get w.shelf n ≡ Some r → Fires w.opening.program w.state r → length w.kept < kept_limit → IsKnown w r → ¬ RedoFails w n f
+  redo_or_fail r on fires few known p = elim p.first [
     | inl n ↦ has_not on n.1
     | inr (_, inl (_, (s, at, (g, named, gone)))) ↦ has_not (finds w r g fires (ap (λ (x : Record). x.goal) (value_once on at) ∙ named)).2 gone
-    | inr (_, inr (_, inl (_, (s, at, other)))) ↦ other (subst (Fires w.opening.program w.state) (value_once on at) fires)
-    | inr (_, inr (_, inr (_, (_, many)))) ↦ omega (arith, few, many)
+    | inr (_, inr (_, inl (_, (s, at, unknown)))) ↦ unknown (subst (IsKnown w) (value_once on at) known)
+    | inr (_, inr (_, inr (_, inl (_, (s, at, other))))) ↦ other (subst (Fires w.opening.program w.state) (value_once on at) fires)
+    | inr (_, inr (_, inr (_, inr (_, (_, many))))) ↦ omega (arith, few, many)
   ]
 
   pub redo_fails_once : {f g : Fault} → RedoFails w n f → RedoFails w n g → f ≡ g
-  redo_fails_once {f} {g} p q = first_once _ _ (told_once _ _) (first_once _ _ (told_once _ _) (first_once _ _ (told_once _ _) (told_once _ _))) f g p.first q.first
+  redo_fails_once {f} {g} p q = first_once _ _ (told_once _ _) (first_once _ _ (told_once _ _) (first_once _ _ (told_once _ _) (first_once _ _ (told_once _ _) (told_once _ _)))) f g p.first q.first

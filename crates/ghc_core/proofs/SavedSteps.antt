@@ -1,11 +1,13 @@
 -- A part of each record, one slot more at a time; and the history of a standing world is of the form.
 use Rattle.std.proofs.Common.{◌≡◌, ℕ, suc, ◌+◌, ◌<◌, ◌≤◌, List, [], ◌∷◌, ◌++◌, drop, drop-cons, length, map, sym, ap, ◌∙◌, subst, inl, inr, slice_get, append_assoc, append-nil, drop_of_length-le, refl, arith}
 use Rattle.std.specs.Prelude.{Option, Some}
+use Rattle.std.proofs.lemmas.Bool.{cases_lt}
 use Rattle.std.proofs.lemmas.Option.{slice_get_within, get_or_from_slice_get}
 use Rattle.ghc_term.specs.declared.var_name.VarName.{VarName}
 use Rattle.ghc_term.specs.Tree.{Tree}
 use Rattle.ghc_term.specs.Goal.{Goal, call, unify, assign, stream}
 use Rattle.ghc_term.specs.Lists.{In}
+use Rattle.ghc_term.proofs.ListsLemmas.{in_at}
 use Rattle.ghc_term.specs.Store.{value_at}
 use Rattle.ghc_flat.specs.Clause.{Program}
 use Rattle.ghc_fire.specs.declared.act.Act.TheVariants.{ByClause as by_clause}
@@ -14,13 +16,14 @@ use Rattle.ghc_records.specs.Orders.{AreDistinct}
 use Rattle.ghc_records.specs.Record.{Record, numbers}
 use Rattle.ghc_records.specs.History.{IsHistory}
 use Rattle.ghc_records.specs.Journal.{Step, step_of}
-use Rattle.ghc_records.specs.Slots.{SlotList, held_in}
+use Rattle.ghc_records.specs.Slots.{SlotList, held_in, StandsIn}
+use Rattle.ghc_records.proofs.SlotLemmas.{held_stands}
 use Rattle.ghc_records.proofs.SlotRanks.{rank, rank_zero, rank_end, rank_stands, rank_next, rank_gap}
-use Rattle.ghc_depend.proofs.Results.{taken}
+use Rattle.ghc_depend.proofs.Results.{Taken, firing}
 use Rattle.ghc_depend.proofs.Placing.{Place, place_of}
 use Rattle.ghc_core.specs.World.{World}
 use Rattle.ghc_core.specs.Core.{IsStanding}
-use Rattle.ghc_core.specs.Load.{KeepsSlot, history_of}
+use Rattle.ghc_core.specs.Load.{AsksForGoals, AskForGoals, KeepsSlot, history_of}
 use Rattle.ghc_core.proofs.Reaching.{reached_good}
 use Rattle.ghc_core.proofs.Replayed.{replayed}
 
@@ -56,6 +59,27 @@ module _ {A : Type 0} (part : Record → A) where
       let none : map part (drop (rank ss places) (held_in ss)) ≡ [] = ap (map part) (drop_of_length-le (held_in ss) {i = rank ss places} (omega (arith, behind))) in
       sym (append-nil found) ∙ ap (λ l. found ++ l) (sym none) ∙ whole
 
+-- none of the records in the slots in front of this place asks for goals
+abbrev pub NoneAsks : SlotList → ℕ → Type 0
+NoneAsks ss i = (p : ℕ) (r : Record) → p < i → StandsIn ss p r → ¬ AsksForGoals r
+
+pub none_asks_next : (ss : SlotList) (i : ℕ) → NoneAsks ss i → ((r : Record) → StandsIn ss i r → ¬ AsksForGoals r) → NoneAsks ss (i + 1)
+none_asks_next ss i before here p r l at = elim (cases_lt p i) [
+  | inl less ↦ before p r less at
+  | inr behind ↦ let same : p ≡ i = omega (arith, l, behind) in here r (subst (λ k. StandsIn ss k r) same at)
+]
+
+-- so none does, where no slot is left
+pub none_asks : (ss : SlotList) (i : ℕ) → length ss ≤ i → NoneAsks ss i → ¬ AskForGoals (held_in ss)
+none_asks ss i long none (r, there, asks) =
+    let w = held_stands ss r there in
+    let within = slice_get_within ss w.0 (Some r) w.1 in
+    none w.0 r (omega (arith, within, long)) w.1 asks
+
+-- one that stands in a slot is one of the records
+pub asks_in : (ss : SlotList) (p : ℕ) (r : Record) → StandsIn ss p r → AsksForGoals r → AskForGoals (held_in ss)
+asks_in ss p r at asks = (r, in_at (held_in ss) (rank ss p) r (rank_stands ss p r at), asks)
+
 -- a step of the records is that of one of them
 step_back : (rs : List Record) (s : Step) → In s (map step_of rs) → (r : Record) × In r rs × (step_of r ≡ s)
 step_back [] s i = absurd i
@@ -77,22 +101,27 @@ step_count : (rs : List Record) → length (map step_of rs) ≡ length rs
 step_count [] = refl
 step_count (r ∷ rs) = ap suc (step_count rs)
 
--- The history of a standing world is of the form.
-pub saved_form : (w : World) → IsStanding w → IsHistory (history_of w)
-saved_form w stands =
+-- The history of a standing world of which no step asks for goals is of the form.
+pub saved_form : (w : World) → IsStanding w → ¬ AskForGoals w.kept → IsHistory (history_of w)
+saved_form w stands unasked =
     let good = reached_good stands in
     let played = replayed stands in
     let few = played.few in
     let count = step_count w.kept in
     let used : (s : Step) → In s (map step_of w.kept) → (r : Record) × In r w.kept × (step_of r ≡ s) = step_back w.kept in
     let place : (r : Record) → In r w.kept → Place w.opening.program w.opening.query w.kept r = place_of w.opening.program w.opening.query w.kept w.state played.replay in
+    let of : (r : Record) (i : In r w.kept) → Taken w.opening.program (place r i).state r = λ r i. elim (firing w.opening.program (place r i).state r (place r i).fires) [
+      | inl t ↦ t
+      | inr a ↦ absurd (unasked (r, i, (a.goals, a.act)))
+    ] in
     record {
       few = omega (arith, few, count);
       numbered = λ s i. let r = used s i in subst (λ (q : Step). (1 ≤ q.number) × (q.number < w.next)) r.2 (good.positive r.0 r.1, good.below r.0 r.1);
-      of_goals = λ s i. let r = used s i in let at = place r.0 r.1 in let firing = taken w.opening.program at.state r.0 at.fires in (firing.name, sym (ap (λ (q : Step). q.goal) r.2) ∙ firing.named);
-      of_clauses = λ s k i by. let r = used s i in let at = place r.0 r.1 in let firing = taken w.opening.program at.state r.0 at.fires in
-          clause_number w.opening.program firing.goal k r.0.number (value_at at.state.store) r.0.effect
-          (subst (λ a. HasEffect w.opening.program firing.goal a r.0.number (value_at at.state.store) r.0.effect) (ap (λ (q : Step). q.act) r.2 ∙ by) firing.effect);
+      of_goals = λ s i. let r = used s i in let goal = of r.0 r.1 in (goal.name, sym (ap (λ (q : Step). q.goal) r.2) ∙ goal.named);
+      unasked = λ s gs i e. let r = used s i in unasked (r.0, r.1, (gs, ap (λ (q : Step). q.act) r.2 ∙ e));
+      of_clauses = λ s k i by. let r = used s i in let at = place r.0 r.1 in let goal = of r.0 r.1 in
+          clause_number w.opening.program goal.goal k r.0.number (value_at at.state.store) r.0.effect
+          (subst (λ a. HasEffect w.opening.program goal.goal a r.0.number (value_at at.state.store) r.0.effect) (ap (λ (q : Step). q.act) r.2 ∙ by) goal.effect);
       distinct = subst AreDistinct (sym (step_numbers w.kept)) good.kept_once;
       next_number = (good.first, played.within);
     }

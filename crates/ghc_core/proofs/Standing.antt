@@ -25,6 +25,7 @@ use Rattle.ghc_core.specs.Core.{IsStanding}
 use Rattle.ghc_core.proofs.Reaching.{reached_good}
 use Rattle.ghc_core.proofs.Replayed.{replayed}
 use Rattle.ghc_core.proofs.Keeping.{reached_keeps}
+use Rattle.ghc_core.proofs.Naming.{none_named}
 
 -- The state of a standing world is the replay of its kept steps.
 pub standing_replay : (w : World) → IsStanding w → IsReplay w w.kept w.state
@@ -90,7 +91,7 @@ pub empty_opens : (P : Program) (query : Query) (names : List (List ℕ)) (n : �
 empty_opens P query names n first small = record {
   opening = refl;
   steps = refl;
-  state = (((λ r i. absurd i), tt), refl);
+  state = (((λ r i. absurd i), tt), refl, none_named query);
   below = λ r i. absurd i;
   numbered = (first, small);
   few = omega arith;

@@ -13,7 +13,7 @@ use Rattle.ghc_flat.specs.Clause.{Program}
 use Rattle.ghc_match.specs.Position.{EndsIn}
 use Rattle.ghc_term.specs.declared.fault.Fault.{Fault}
 use Rattle.ghc_fire.specs.declared.act.Act.{Act}
-use Rattle.ghc_fire.specs.declared.act.Act.TheVariants.{ByClause as by_clause, Unified as unified, Assigned as assigned, Given as given, Closed as closed}
+use Rattle.ghc_fire.specs.declared.act.Act.TheVariants.{ByClause as by_clause, Unified as unified, Assigned as assigned, Given as given, Closed as closed, Asked as asked}
 use Rattle.ghc_fire.specs.Effect.{Effect, HasEffect}
 use Rattle.ghc_fire.specs.Laws.{EffectIsOne}
 use Rattle.ghc_records.specs.Record.{Record, HasStepEffect}
@@ -64,6 +64,7 @@ tail_open P k s closed n S e f = (f.0, f.1.0 ++ f.0 ∷ [], comes_leads f.1.1 f.
 tail_open P k s (by_clause _) n S e f = absurd f
 tail_open P k s unified n S e f = absurd f
 tail_open P k s assigned n S e f = absurd f
+tail_open P k s (asked _) n S e f = absurd f
 
 same_tail : {k : ℕ} {s u : VarName} → stream k s ≡ stream k u → s ≡ u
 same_tail p = cc

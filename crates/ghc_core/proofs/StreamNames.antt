@@ -6,6 +6,7 @@ use Rattle.ghc_term.specs.declared.var_name.VarName.{VarName}
 use Rattle.ghc_term.specs.declared.goal_name.GoalName.{GoalName}
 use Rattle.ghc_term.specs.Goal.{Goal, call, unify, assign, stream}
 use Rattle.ghc_term.specs.Lists.{In}
+use Rattle.ghc_term.proofs.ListsLemmas.{in_at}
 use Rattle.ghc_term.specs.Store.{value_at}
 use Rattle.ghc_flat.specs.Clause.{Program, Query}
 use Rattle.ghc_flat.specs.Flat.{is_stream, IsProgram, IsQuery}
@@ -15,11 +16,12 @@ use Rattle.ghc_records.specs.Record.{State, Record, without_goal, after, Fires}
 use Rattle.ghc_records.specs.Replay.{query_state, Runs}
 use Rattle.ghc_records.specs.State.{IsTakenBack}
 use Rattle.ghc_records.proofs.NumberSets.{one_or_not}
-use Rattle.ghc_records.proofs.States.{old_apart, made_or_old}
+use Rattle.ghc_records.proofs.Effects.{not_stream}
+use Rattle.ghc_records.proofs.States.{made_or_old}
 use Rattle.ghc_records.proofs.StreamLemmas.{made_at, stream_made}
 use Rattle.ghc_depend.proofs.Causes.{place_at}
-use Rattle.ghc_depend.proofs.Finding.{by_option, not_both, same_value}
-use Rattle.ghc_depend.proofs.Results.{Taken, taken}
+use Rattle.ghc_depend.proofs.Finding.{by_option, not_both, same_value, named_or_not, without_it, without_other}
+use Rattle.ghc_depend.proofs.Results.{firing}
 use Rattle.ghc_core.specs.World.{World}
 use Rattle.ghc_core.specs.Core.{IsStanding}
 use Rattle.ghc_core.specs.StreamGoals.{name_of, with_name, opened, stream_of, first_made, renamed, told, told_back, TellStreams}
@@ -99,17 +101,30 @@ AreAsked query goals = (k : ℕ) (g : GoalName) (s : VarName) → finite.get goa
 
 -- a step is taken
 module _ (P : Program) (accepted : IsProgram P) (s : State) (r : Record) (fires : Fires P s r) where
-  of_goal : Taken P s r
-  of_goal = taken P s r fires
+  -- A goal that the step consumed was there.
+  consumed_there : (b : Goal) → r.consumed ≡ Some b → (h : GoalName) × (r.goal ≡ Some h) × (finite.get s.goals h ≡ Some b)
+  consumed_there b e = elim (firing P s r fires) [
+    | inl t ↦ (t.name, t.named, t.there ∙ sym t.consumed ∙ e)
+    | inr a ↦ absurd (not_both e a.nothing)
+  ]
 
-  -- A stream goal that is there then was there under another name than the one consumed; or the step made it first, and consumed a goal of its stream.
+  -- A stream goal that is there then was there, and is not the one consumed; or the step made it first, and consumed a goal of its stream.
   from : (k : ℕ) (g : GoalName) (x : VarName) → finite.get (after s r).goals g ≡ Some (stream k x)
-      → ((finite.get s.goals g ≡ Some (stream k x)) × (g ≢ of_goal.name)) ⊎ ((first_made r.number r.effect.makes ≡ Some g) × (t : VarName) × (of_goal.goal ≡ stream k t))
+      → ((finite.get s.goals g ≡ Some (stream k x)) × (r.goal ≢ Some g)) ⊎ ((first_made r.number r.effect.makes ≡ Some g) × (t : VarName) × (r.consumed ≡ Some (stream k t)))
   from k g x e = elim (made_at r.number 1 r.effect.makes (without_goal r.goal s.goals) g (stream k x) e) [
-    | inl m ↦
-        let t = stream_made P of_goal.goal r.act r.number (value_at s.store) r.effect accepted of_goal.effect m.0 k x m.1 in
-        inr (first_is g r.number r.effect.makes m.0 (stream k x) m.1 t.0 m.2 m.3, t.1.0, t.1.1)
-    | inr old ↦ inl (old_apart s.goals of_goal.name g (stream k x) (subst (λ o. finite.get (without_goal o s.goals) g ≡ Some (stream k x)) of_goal.named old))
+    | inl m ↦ elim (firing P s r fires) [
+      | inl f ↦
+          let t = stream_made P f.goal r.act r.number (value_at s.store) r.effect accepted f.effect m.0 k x m.1 in
+          inr (first_is g r.number r.effect.makes m.0 (stream k x) m.1 t.0 m.2 m.3, t.1.0, f.consumed ∙ ap Some t.1.1)
+      | inr a ↦
+          let plain : filter is_stream r.effect.makes ≡ [] = ap (λ l. filter is_stream l) a.asks.makes ∙ a.asks.askable.plain in
+          let clash : true ≡ false = not_stream r.effect.makes (stream k x) plain (in_at r.effect.makes m.0 (stream k x) m.1) in
+          cc
+    ]
+    | inr old ↦ elim (named_or_not r.goal g) [
+      | inl own ↦ absurd (not_both old (without_it r.goal s.goals g own))
+      | inr other ↦ inl (sym (without_other r.goal s.goals g other) ∙ old, other)
+    ]
   ]
 
   pub over : (query : Query) (names : List GoalName) → TellStreams query s.goals names → TellStreams query (after s r).goals (told r names)
@@ -118,12 +133,13 @@ module _ (P : Program) (accepted : IsProgram P) (s : State) (r : Record) (fires 
       | inl old ↦ elim (is_or_not (stream_of r.consumed) k) [
         | inl same ↦
             let t = of_stream r.consumed k same in
-            absurd (old.1 (same_value (tell.last k g x old.0) (tell.last k of_goal.name t.0 (of_goal.there ∙ sym of_goal.consumed ∙ t.1))))
+            let c = consumed_there (stream k t.0) t.1 in
+            absurd (old.1 (c.1 ∙ ap Some (same_value (tell.last k c.0 t.0 c.2) (tell.last k g x old.0))))
         | inr other ↦ renamed_apart (stream_of r.consumed) (first_made r.number r.effect.makes) k names other ∙ tell.last k g x old.0
       ]
       | inr made ↦
-          let is : Some of_goal.goal ≡ Some (stream k made.1) = ap Some made.2 in
-          renamed_here (stream_of r.consumed) (first_made r.number r.effect.makes) k g of_goal.name names (ap stream_of (of_goal.consumed ∙ is)) made.0 (tell.last k of_goal.name made.1 (of_goal.there ∙ is))
+          let c = consumed_there (stream k made.1) made.2 in
+          renamed_here (stream_of r.consumed) (first_made r.number r.effect.makes) k g c.0 names (ap stream_of made.2) made.0 (tell.last k c.0 made.1 c.2)
     ];
     placed = λ k x i. renamed_stays (stream_of r.consumed) (first_made r.number r.effect.makes) k names (tell.placed k x i);
   }
@@ -131,7 +147,7 @@ module _ (P : Program) (accepted : IsProgram P) (s : State) (r : Record) (fires 
   after_asked : (query : Query) → AreAsked query s.goals → AreAsked query (after s r).goals
   after_asked query asked k g x e = elim (from k g x e) [
     | inl old ↦ asked k g x old.0
-    | inr made ↦ asked k of_goal.name made.1 (of_goal.there ∙ ap Some made.2)
+    | inr made ↦ let c = consumed_there (stream k made.1) made.2 in asked k c.0 made.1 c.2
   ]
 
 run_asked : (P : Program) → IsProgram P → (query : Query) (rs : List Record) (s t : State) → Runs P s rs t → AreAsked query s.goals → AreAsked query t.goals
@@ -163,8 +179,8 @@ stands_back w stands r kept z left same_opening back names new same tell =
         | inl old ↦ elim (is_or_not (stream_of r.consumed) k) [
           | inl of ↦
               let t = of_stream r.consumed k of in
-              let c = consumed_again w stands r kept z.state back in
-              absurd (old.1 (c.2.0 ∙ ap Some ((standing_orderly z left).streams_once k c.0 g t.0 x (c.3 ∙ sym c.2.1 ∙ t.1) there)))
+              let c = consumed_again w stands r kept z.state back (stream k t.0) t.1 in
+              absurd (old.1 (c.1.0 ∙ ap Some ((standing_orderly z left).streams_once k c.0 g t.0 x c.2 there)))
           | inr other ↦ renamed_apart (stream_of r.consumed) r.goal k names other ∙ tell.last k g x old.0
         ]
         | inr c ↦

@@ -45,7 +45,7 @@ is_bound w k g s m same at b = let t = subst (λ x. IsTailBound s (value_at x)) 
 pub stream_step : (w : World) (k : ℕ) (act : Act) (g : GoalName) (s : VarName) (e : Effect) (r : Record) → IsStreamAt w k g s
     → HasEffect w.opening.program (stream k s) act w.next (value_at w.state.store) e → HasRoom w
     → r ≡ record { number = w.next; goal = Some g; consumed = Some (stream k s); act = act; effect = e } → IsStreamStep w k act r
-stream_step w k act g s e r at has room same = subst (IsStreamStep w k act) (sym same) ((g, s, refl, refl, refl), (refl, ((stream k s, refl, at), has), room))
+stream_step w k act g s e r at has room same = subst (IsStreamStep w k act) (sym same) ((g, s, refl, refl, refl), (refl, ((stream k s, refl, at), has), room, (g, refl)))
 
 module _ (w : World) (ordered : IsOrderly w) (k : ℕ) where
   -- a stream takes nothing for one reason

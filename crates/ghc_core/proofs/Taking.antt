@@ -13,14 +13,14 @@ use Rattle.ghc_flat.specs.Clause.{Program, Query}
 use Rattle.ghc_fire.specs.declared.act.Act.{Act}
 use Rattle.ghc_fire.specs.declared.act.Act.TheVariants.{ByClause as by_clause, Unified as unified, Assigned as assigned, Given as given, Closed as closed}
 use Rattle.ghc_fire.specs.Effect.{Effect, HasEffect, no_step}
-use Rattle.ghc_fire.proofs.Steps.{effect_binds, effect_each}
+use Rattle.ghc_fire.proofs.Steps.{effect_each}
 use Rattle.ghc_fire.specs.Proposal.{Proposal}
 use Rattle.ghc_records.specs.Record.{State, Record, Fires}
 use Rattle.ghc_records.specs.Replay.{Replays}
 use Rattle.ghc_depend.specs.Depend.{Binds}
 use Rattle.ghc_depend.proofs.Finding.{not_both}
 use Rattle.ghc_depend.proofs.Placing.{results_of}
-use Rattle.ghc_depend.proofs.Results.{taken}
+use Rattle.ghc_depend.proofs.Results.{taken, step_binds}
 use Rattle.ghc_core.specs.World.{Hands, no_hands, IsHand, with_hand, emptied, World, IsNextStep, with_step}
 use Rattle.ghc_core.specs.declared.change.Change.{Change}
 use Rattle.ghc_core.specs.declared.change.Change.TheVariants.{Adds as adds, PutsBack as puts_back, TakesAway as takes_away, TakesAll as takes_all, Reorders as reorders}
@@ -58,7 +58,7 @@ module _ (w : World) (r : Record) (next : IsNextStep w r) (g : GoalName) (named 
 -- Each step that is possible as the next one is asked for.
 step_asked : (w : World) (r : Record) → IsNextStep w r → IsAsked w r
 step_asked w r next =
-    let t = taken w.opening.program w.state r next.1 in
+    let t = taken w.opening.program w.state r next.1 next.3.0 next.3.1 in
     by_act w r next t.name t.named t.goal r.act refl t.consumed t.there t.effect
 
 -- The change takes the step of a commit, or a proper command asks for it.
@@ -117,5 +117,4 @@ pub unbound_there : (P : Program) (query : Query) (rs : List Record) (s : State)
 unbound_there P query rs s replay r fires a x i bound again =
     let first = there (value_at a.effect.binds x) bound in
     let second = there (value_at r.effect.binds x) again in
-    let t = taken P s r fires in
-    not_both ((results_of P query rs s replay).bound a x first.0 i first.1) ((effect_binds P t.goal r.act r.number (value_at s.store) r.effect t.effect).binds_new x second.0 second.1)
+    not_both ((results_of P query rs s replay).bound a x first.0 i first.1) ((step_binds P s r fires).binds_new x second.0 second.1)

@@ -34,13 +34,13 @@ abbrev pub BeginsUnkept : World → List ℕ → Fault → Type 0
 BeginsUnkept w [] f = ⊥
 BeginsUnkept w (n ∷ ns) f = (f ≡ Fault.NotLawful n n) × ¬ In n (numbers w.kept)
 
--- A command is not obeyed: there is no such stream, or its tail ends in a value; the step cannot be undone; it is not kept; it is not on the shelf, its goal is not there; or an order begins with a number that is not kept.
+-- A command is not obeyed: there is no such stream, or its tail ends in a value; the step cannot be undone; it is not kept; it is not on the shelf, its goal is not there, or it names a variable that is not known; or an order begins with a number that is not kept.
 abbrev pub IsNotObeyedAnyway : World → Command → Fault → Type 0
 IsNotObeyedAnyway w (input k t) f = TakesNothingAnyway w k f
 IsNotObeyedAnyway w (finish k) f = TakesNothingAnyway w k f
 IsNotObeyedAnyway w (undo n) f = UndoFails w.kept n f
 IsNotObeyedAnyway w (roll n) f = (f ≡ Fault.NotKept) × IsNotKept w.kept n
-IsNotObeyedAnyway w (redo n) f = ((f ≡ Fault.NotShelved) × RedoFails w n Fault.NotShelved) ⊎ ((f ≡ Fault.NoGoal) × RedoFails w n Fault.NoGoal)
+IsNotObeyedAnyway w (redo n) f = ((f ≡ Fault.NotShelved) × RedoFails w n Fault.NotShelved) ⊎ ((f ≡ Fault.NoGoal) × RedoFails w n Fault.NoGoal) ⊎ ((f ≡ Fault.NoVariable) × RedoFails w n Fault.NoVariable)
 IsNotObeyedAnyway w (arrange order) f = BeginsUnkept w order f
 
 -- The event is refused for this, whatever memory is left.

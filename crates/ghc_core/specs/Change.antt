@@ -14,7 +14,7 @@ use Rattle.ghc_depend.specs.Kept.{with_shelved, IsWithout, IsSplitAt}
 use Rattle.ghc_depend.specs.Lawful.{IsLawful, IsInOrder}
 use Rattle.ghc_core.specs.declared.change.Change.{Change}
 use Rattle.ghc_core.specs.declared.change.Change.TheVariants.{Adds as adds, PutsBack as puts_back, TakesAway as takes_away, TakesAll as takes_all, Reorders as reorders}
-use Rattle.ghc_core.specs.World.{World, IsReplay, IsNextStep, with_step}
+use Rattle.ghc_core.specs.World.{World, IsReplay, IsKnown, IsNextStep, with_step}
 use Rattle.ghc_core.specs.Room.{Room}
 
 -- the world with a shelved step put back at the end of the record, under its old number
@@ -39,10 +39,10 @@ abbrev pub CanRoll : List Record → List Record → Type 0
 CanRoll kept [] = ⊥
 CanRoll kept (r ∷ rs) = In r kept × ((left : List Record) × IsSplitAt kept r (r ∷ rs) left)
 
--- The change can be made in the world: the step that it adds is possible now, as the next step; the step that it puts back is on the shelf and possible now, and one more can be kept; the step that it takes away is kept, and nothing follows it; the steps that it takes away together are a kept one and its consequences; the order into which it puts the record is lawful.
+-- The change can be made in the world: the step that it adds is possible now, as the next step; the step that it puts back is on the shelf and possible now, one more can be kept, and what it names is known; the step that it takes away is kept, and nothing follows it; the steps that it takes away together are a kept one and its consequences; the order into which it puts the record is lawful.
 abbrev pub CanChange : World → Change → Type 0
 CanChange w (adds r) = IsNextStep w r
-CanChange w (puts_back r) = (finite.get w.shelf r.number ≡ Some r) × Fires w.opening.program w.state r × (length w.kept < kept_limit)
+CanChange w (puts_back r) = (finite.get w.shelf r.number ≡ Some r) × Fires w.opening.program w.state r × (length w.kept < kept_limit) × IsKnown w r
 CanChange w (takes_away r) = In r w.kept × ((b : Record) → ¬ Follows w.kept r b)
 CanChange w (takes_all gone) = CanRoll w.kept gone
 CanChange w (reorders a) = IsLawful w.kept a.order × IsInOrder w.kept a.order a.records

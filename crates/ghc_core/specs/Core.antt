@@ -2,7 +2,7 @@
 use Rattle.std.specs.Prelude.{◌≡◌, ℕ, List, Option, Some, None}
 use Rattle.ghc_term.specs.declared.goal_name.GoalName.{GoalName}
 use Rattle.ghc_fire.specs.declared.act.Act.{Act}
-use Rattle.ghc_fire.specs.declared.act.Act.TheVariants.{ByClause as by_clause, Unified as unified, Assigned as assigned, Given as given, Closed as closed}
+use Rattle.ghc_fire.specs.declared.act.Act.TheVariants.{ByClause as by_clause, Unified as unified, Assigned as assigned, Given as given, Closed as closed, Asked as asked}
 use Rattle.ghc_fire.specs.Proposal.{Proposal, under}
 use Rattle.ghc_fire.specs.declared.meter.Meter.{Meter}
 use Rattle.ghc_records.specs.Record.{Record}
@@ -62,6 +62,7 @@ choice_of unified = None
 choice_of assigned = None
 choice_of (given u) = None
 choice_of closed = None
+choice_of (asked gs) = None
 
 -- the record of the proposal as step n, where its effect is as step n has it
 abbrev pub record_as : ℕ → Proposal → Record

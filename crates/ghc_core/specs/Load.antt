@@ -1,23 +1,26 @@
 -- Loading a history, and the history that tells a world.
 use Rattle.std.specs.Prelude.{◌≡◌, ◌⊎◌, ℕ, ◌+◌, ◌<◌, ◌≤◌, List, [], ◌∷◌, ◌++◌, length, map, Result, Ok, Err}
+use Rattle.ghc_term.specs.Goal.{Goal}
 use Rattle.ghc_term.specs.Lists.{In}
 use Rattle.ghc_term.specs.declared.fault.Fault.{Fault}
 use Rattle.ghc_flat.specs.Clause.{Program, Query}
+use Rattle.ghc_fire.specs.declared.act.Act.TheVariants.{Asked as asked}
 use Rattle.ghc_records.specs.Numbers.{kept_limit}
 use Rattle.ghc_records.specs.Record.{State, Record, numbers, after, Fires}
 use Rattle.ghc_records.specs.Replay.{query_state, Runs}
 use Rattle.ghc_records.specs.Journal.{Step, step_of, took}
 use Rattle.ghc_records.specs.Slots.{SlotList, StandsIn}
 use Rattle.ghc_records.specs.History.{History, loaded_opening}
-use Rattle.ghc_core.specs.World.{World, Opens}
+use Rattle.ghc_core.specs.World.{World, IsKnown, Opens}
 
 -- the line of a history's text on which the step stands in front of which there are so many others
 abbrev pub line_of_step : ℕ → ℕ
 line_of_step n = n + 3
 
--- The step of the record can be loaded behind those that are kept: it is possible now, it has a number of its own, below the next one, and one step more can be kept.
+-- The step of the record can be loaded behind those that are kept: it is possible now, what it names is known, it has a number of its own, below the next one, and one step more can be kept.
 pub record CanLoad (w : World) (r : Record) : Type 0 where
   pub possible : Fires w.opening.program w.state r
+  pub known : IsKnown w r
   pub positive : 1 ≤ r.number
   pub below : r.number < w.next
   pub own : ¬ In r.number (numbers w.kept)
@@ -39,6 +42,14 @@ IsPossibleAs P t s r = (step_of r ≡ s) × Fires P t r
 -- The step is not possible in the state, with any effect.
 abbrev pub IsImpossible : Program → State → Step → Type 0
 IsImpossible P t s = (r : Record) → ¬ IsPossibleAs P t s r
+
+-- The step asks for goals.
+abbrev pub AsksForGoals : Record → Type 0
+AsksForGoals r = (gs : List Goal) × (r.act ≡ asked gs)
+
+-- One of the steps asks for goals.
+abbrev pub AskForGoals : List Record → Type 0
+AskForGoals rs = (r : Record) × In r rs × AsksForGoals r
 
 -- the history of a world: the steps that it keeps, in recorded order, and the number that the next step gets
 abbrev pub history_of : World → History

@@ -7,7 +7,7 @@ use Rattle.ghc_term.specs.Store.{value_at}
 use Rattle.ghc_flat.specs.Flat.{is_stream}
 use Rattle.ghc_term.specs.declared.fault.Fault.{Fault}
 use Rattle.ghc_fire.specs.declared.act.Act.{Act}
-use Rattle.ghc_fire.specs.declared.act.Act.TheVariants.{ByClause as by_clause, Unified as unified, Assigned as assigned, Given as given, Closed as closed}
+use Rattle.ghc_fire.specs.declared.act.Act.TheVariants.{ByClause as by_clause, Unified as unified, Assigned as assigned, Given as given, Closed as closed, Asked as asked}
 use Rattle.ghc_fire.specs.Effect.{HasEffect, no_step}
 use Rattle.ghc_fire.specs.Proposal.{under}
 use Rattle.ghc_fire.specs.Attempt as attempt
@@ -37,6 +37,7 @@ IsReduction unified = Unit {0}
 IsReduction assigned = Unit {0}
 IsReduction (given _) = ⊥
 IsReduction closed = ⊥
+IsReduction (asked _) = ⊥
 
 -- The proposal still holds: its goal is there, and its effect now is the one proposed.
 abbrev pub StillHolds : World → Proposal → Type 0

@@ -7,7 +7,7 @@ use Rattle.ghc_fire.specs.Goals.{Goals}
 use Rattle.ghc_records.specs.Numbers.{kept_limit}
 use Rattle.ghc_records.specs.Record.{Record, Fires}
 use Rattle.ghc_depend.specs.Depend.{Follows, IsKeptAs, IsNotKept, IsFirstConsequence}
-use Rattle.ghc_core.specs.World.{World}
+use Rattle.ghc_core.specs.World.{World, IsKnown}
 
 -- Where this holds, this is told.
 abbrev pub IsToldWhere : Fault → Type 0 → Fault → Type 0
@@ -37,9 +37,10 @@ LacksGoal goals r = (g : GoalName) × (r.goal ≡ Some g) × (finite.get goals g
 abbrev pub IsShelvedWith : World → ℕ → (Record → Type 0) → Type 0
 IsShelvedWith w n P = (r : Record) × (finite.get w.shelf n ≡ Some r) × P r
 
--- Why step n is not redone: it is not on the shelf; or else its goal is not there; or else, fired now, it would not have the effect recorded; or else the greatest number of steps is kept.
+-- Why step n is not redone: it is not on the shelf; or else its goal is not there; or else it names a variable that is not known; or else, fired now, it would not have the effect recorded; or else the greatest number of steps is kept.
 pub record RedoFails (w : World) (n : ℕ) (f : Fault) : Type 0 where
   pub first : OrElse (IsToldWhere Fault.NotShelved (finite.get w.shelf n ≡ None))
       (OrElse (IsToldWhere Fault.NoGoal (IsShelvedWith w n (LacksGoal w.state.goals)))
+      (OrElse (IsToldWhere Fault.NoVariable (IsShelvedWith w n (λ r. ¬ IsKnown w r)))
       (OrElse (IsToldWhere Fault.Changed (IsShelvedWith w n (λ r. ¬ Fires w.opening.program w.state r)))
-      (IsToldWhere Fault.Full (kept_limit ≤ length w.kept)))) f
+      (IsToldWhere Fault.Full (kept_limit ≤ length w.kept))))) f

@@ -1,12 +1,13 @@
 -- Worlds and hands.
-use Rattle.std.specs.Prelude.{◌≡◌, ◌⊎◌, ℕ, ◌+◌, ◌<◌, ◌≤◌, List, [], ◌∷◌, ◌++◌, length, map}
+use Rattle.std.specs.Prelude.{◌≡◌, ◌⊎◌, ℕ, ◌+◌, ◌<◌, ◌≤◌, List, [], ◌∷◌, ◌++◌, length, map, Some}
 use Rattle.std.specs.Ordering.{nat_cmp}
 use Rattle.std.specs.FinMap as finite
+use Rattle.ghc_term.specs.declared.goal_name.GoalName.{GoalName}
 use Rattle.ghc_term.specs.Lists.{In}
 pub use Rattle.ghc_fire.specs.Proposal.{Proposal}
 use Rattle.ghc_records.specs.Numbers.{number_limit, kept_limit}
 use Rattle.ghc_records.specs.Record.{State, Record, Shelf, after, Fires}
-use Rattle.ghc_records.specs.Replay.{Replays}
+use Rattle.ghc_records.specs.Replay.{AreKnownIn, Replays}
 use Rattle.ghc_records.specs.Journal.{Opening, Entry, took, step_of, opening_journal}
 
 -- Hands are numbered from 1, and each holds a proposal or nothing.
@@ -51,9 +52,17 @@ IsFull w = (number_limit ≤ w.next) ⊎ (kept_limit ≤ length w.kept)
 abbrev pub HasRoom : World → Type 0
 HasRoom w = (w.next < number_limit) × (length w.kept < kept_limit)
 
--- The step of the record is possible now, under the next number.
+-- Each variable that the step names is the query's, or a kept step made it.
+abbrev pub IsKnown : World → Record → Type 0
+IsKnown w r = AreKnownIn w.opening.query w.kept r
+
+-- The step consumes a goal.
+abbrev pub IsOfGoal : Record → Type 0
+IsOfGoal r = (g : GoalName) × (r.goal ≡ Some g)
+
+-- The step of the record is possible now, under the next number, and consumes a goal. (No new step asks for goals yet.)
 abbrev pub IsNextStep : World → Record → Type 0
-IsNextStep w r = (r.number ≡ w.next) × Fires w.opening.program w.state r × HasRoom w
+IsNextStep w r = (r.number ≡ w.next) × Fires w.opening.program w.state r × HasRoom w × IsOfGoal r
 
 -- the world, with a new step at its end
 abbrev pub with_step : Record → World → World

@@ -2,6 +2,7 @@
 ghost use Rattle.std.specs.Prelude.{◌≡◌, true, false, Ok, Err, Some, length, IfOk, IfSome, IfNone, OnOk};
 ghost use Rattle.std.specs.FinMap as finite;
 ghost use Rattle.ghc_term.specs.Answered.{Answered};
+ghost use Rattle.ghc_term.specs.declared.goal_name.GoalName.{GoalName as goal_name};
 ghost use Rattle.ghc_flat.specs.Flat.{IsQuery};
 ghost use Rattle.ghc_fire.specs.Meter.{fired};
 ghost use Rattle.ghc_records.specs.History.{IsHistory};
@@ -64,6 +65,7 @@ fn fire_step(
     state: &State,
     step: &Step,
 ) -> Result<Option<Record>, AllocError>
+    requires of_goal { (g : goal_name) × (step.now.goal ≡ Some g) }
     ensures some { IfOk result (λ found. IfSome found (IsPossibleAs program.now state.now.held step.now)) }
     ensures none { IfOk result (λ found. IfNone found (IsImpossible program.now state.now.held step.now)) }
     ensures counted { IfOk result (λ found. IfSome found (λ _. meter.new ≡ fired meter.old)) }
@@ -80,6 +82,7 @@ fn fire_step(
 impl Core {
     // The record of the step, as it is possible now, if it is; counted on the meter of the core.
     fn fire_counted(&mut self, alloc: Global, step: &Step) -> Result<Option<Record>, AllocError>
+        requires of_goal { (g : goal_name) × (step.now.goal ≡ Some g) }
         ensures some { IfOk result (λ found. IfSome found (IsPossibleAs self.old.world.opening.program self.old.world.state step.now)) }
         ensures none { IfOk result (λ found. IfNone found (IsImpossible self.old.world.opening.program self.old.world.state step.now)) }
         ensures counted { IfOk result (λ found. IfSome found (λ _. self.new.meter ≡ fired self.old.meter)) }
@@ -113,6 +116,7 @@ impl Core {
     // it is, and costs what firing and applying it cost.
     fn load_step(&mut self, alloc: Global, step: &Step) -> Result<bool, AllocError>
         requires opened { Opens self.old.world.opening self.old.world }
+        requires of_goal { (g : goal_name) × (step.now.goal ≡ Some g) }
         requires own { (r : record_spec) → IsPossibleAs self.old.world.opening.program self.old.world.state step.now r → CanLoad self.old.world r }
         ensures yes { IfOk result (λ yes. yes ≡ true → (r : record_spec) × IsPossibleAs self.old.world.opening.program self.old.world.state step.now r × (self.new.world ≡ with_loaded r self.old.world)) }
         ensures opens { IfOk result (λ yes. yes ≡ true → Opens self.new.world.opening self.new.world) }

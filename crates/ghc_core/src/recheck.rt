@@ -16,7 +16,7 @@ fn clause_of(act: &Act) -> Option<u32>
 {
     match act {
         Act::ByClause(number) => Some(*number),
-        _ => None,
+        Act::Unified | Act::Assigned | Act::Given(_) | Act::Closed | Act::Asked(_) => None,
     }
 }
 

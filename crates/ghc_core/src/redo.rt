@@ -15,6 +15,7 @@ use crate::carrying::carry_over;
 use crate::change::Change;
 use crate::commit::KEPT_LIMIT;
 use crate::core_state::Core;
+use crate::variables::names_known;
 use ghc_fire::{Goals, Meter, has_effect};
 use ghc_flat::Program;
 use ghc_records::{Addition, Entry, Record, State};
@@ -50,7 +51,8 @@ fn is_there(
     }
 }
 
-// Whether the step is possible in the state, with the effect recorded. A firing is counted.
+// Whether the step is possible in the state, with the effect recorded: one that consumes nothing, and asks for goals, is. A firing
+// is counted.
 fn fires(
     alloc: Global,
     meter: &mut Meter,
@@ -58,12 +60,13 @@ fn fires(
     state: &State,
     step: &Record,
 ) -> Result<bool, AllocError>
+    requires asks { step.now.consumed ≡ None → Fires program.now state.now.held step.now }
     ensures answer { IfOk result (λ yes. IsTrue yes ↔ Fires program.now state.now.held step.now) }
     ensures counted { meter.new ≡ fired meter.old }
 {
     let Some(consumed) = step.consumed() else {
         meter.count_firing();
-        return Ok(false);
+        return Ok(true);
     };
     let has = has_effect(
         alloc,
@@ -83,17 +86,19 @@ fn fires(
 
 impl Core {
     /// Finds what it takes to take the shelved step of this number again, at the end of the record, with the effect recorded:
-    /// `NotShelved` exactly where it is not on the shelf; else `NoGoal` exactly where the goal that it consumed is not there;
-    /// these are told before memory is asked for, and fire nothing. Then it is fired once: `Changed` exactly where it would not do
-    /// now what was recorded; else `Full` exactly where 1,000,000 steps are kept; else it fails for want of memory alone. But for
-    /// the meter the core stays as it is.
+    /// `NotShelved` exactly where it is not on the shelf; else `NoGoal` exactly where the goal that it consumed is not there; else
+    /// `NoVariable` exactly where it names a variable that is neither the query's nor made by a kept step; these are told before
+    /// memory is asked for, and fire nothing. Then it is fired once: `Changed` exactly where it would not do now what was recorded
+    /// (one that asks for goals would); else `Full` exactly where 1,000,000 steps are kept; else it fails for want of memory alone.
+    /// But for the meter the core stays as it is. A look-up is made for each variable that it names.
     pub fn prepare_redo(&mut self, alloc: Global, number: u32) -> Result<Addition, Fault>
         ensures found { IfOk result (λ step. CanChange self.old.world (puts_back step)) }
         ensures step { IfOk result (λ step. step.number ≡ number) }
         ensures fault { IfErr result (λ f. (f ≡ Fault.Memory) ⊎ RedoFails self.old.world number f) }
         ensures not_shelved { RedoFails self.old.world number Fault.NotShelved → (result ≡ Err Fault.NotShelved) × (self.new.meter ≡ self.old.meter) }
         ensures no_goal { RedoFails self.old.world number Fault.NoGoal → (result ≡ Err Fault.NoGoal) × (self.new.meter ≡ self.old.meter) }
-        ensures fired { (¬ RedoFails self.old.world number Fault.NotShelved) → (¬ RedoFails self.old.world number Fault.NoGoal) → self.new.meter ≡ fired self.old.meter }
+        ensures no_variable { RedoFails self.old.world number Fault.NoVariable → (result ≡ Err Fault.NoVariable) × (self.new.meter ≡ self.old.meter) }
+        ensures fired { (¬ RedoFails self.old.world number Fault.NotShelved) → (¬ RedoFails self.old.world number Fault.NoGoal) → (¬ RedoFails self.old.world number Fault.NoVariable) → self.new.meter ≡ fired self.old.meter }
         ensures stays { Stays self.old self.new }
     {
         let Some(shelved) = self.shelf.get(number) else {
@@ -101,6 +106,9 @@ impl Core {
         };
         if lacks_goal(self.state.goals(), shelved) {
             return Err(Fault::NoGoal);
+        }
+        if !names_known(&self.query, &self.records, shelved) {
+            return Err(Fault::NoVariable);
         }
         if !fires(alloc, &mut self.meter, &self.program, &self.state, shelved)? {
             return Err(Fault::Changed);
@@ -138,7 +146,8 @@ impl Core {
         ensures fault { IfErr result (λ f. (f ≡ Fault.Memory) ⊎ RedoFails self.old.world number f) }
         ensures not_shelved { RedoFails self.old.world number Fault.NotShelved → (result ≡ Err Fault.NotShelved) × (self.new.meter ≡ self.old.meter) }
         ensures no_goal { RedoFails self.old.world number Fault.NoGoal → (result ≡ Err Fault.NoGoal) × (self.new.meter ≡ self.old.meter) }
-        ensures fired { (¬ RedoFails self.old.world number Fault.NotShelved) → (¬ RedoFails self.old.world number Fault.NoGoal) → self.new.meter ≡ fired self.old.meter }
+        ensures no_variable { RedoFails self.old.world number Fault.NoVariable → (result ≡ Err Fault.NoVariable) × (self.new.meter ≡ self.old.meter) }
+        ensures fired { (¬ RedoFails self.old.world number Fault.NotShelved) → (¬ RedoFails self.old.world number Fault.NoGoal) → (¬ RedoFails self.old.world number Fault.NoVariable) → self.new.meter ≡ fired self.old.meter }
         ensures stays { OnErr result (Stays self.old self.new) }
 
         // A note stays just where its goal is still there and did not look at what the step binds.

@@ -1,12 +1,17 @@
 // The history that tells what a core keeps, and the numbers of the kept steps.
-ghost use Rattle.std.specs.Prelude.{◌≡◌, map, IfOk, OnOk};
+ghost use Rattle.std.specs.Prelude.{◌≡◌, ◌↔◌, ◌⊎◌, List, map, Err, IsTrue, IfOk, IfErr, OnOk};
+ghost use Rattle.ghc_term.specs.Goal.{Goal};
+ghost use Rattle.ghc_fire.specs.declared.act.Act.TheVariants.{Asked as asked};
 ghost use Rattle.ghc_records.specs.History.{IsHistory};
 ghost use Rattle.ghc_records.specs.Journal.{step_of};
-ghost use Rattle.ghc_records.specs.Record.{numbers};
-ghost use Rattle.ghc_core.specs.Load.{KeepsSlot, history_of};
+ghost use Rattle.ghc_records.specs.Record.{Record as record_spec, numbers};
+ghost use Rattle.ghc_records.specs.Slots.{StandsIn};
+ghost use Rattle.ghc_core.specs.Load.{AsksForGoals, AskForGoals, KeepsSlot, history_of};
 
 use crate::core_state::Core;
+use ghc_fire::Act;
 use ghc_records::{History, Records, Step};
+use ghc_term::{Fault, Limit};
 use std::alloc::{AllocError, Global};
 
 // Puts the step of the record at this place behind the others, if there is one.
@@ -44,6 +49,39 @@ fn push_number_at(records: &Records, place: usize, numbers: &mut Vec<u32>) -> Re
     Ok(())
 }
 
+// Whether the act asks for goals.
+fn asks(act: &Act) -> bool
+    ensures { IsTrue result ↔ ((gs : List Goal) × (act.now ≡ asked gs)) }
+{
+    match act {
+        Act::Asked(_) => true,
+        Act::ByClause(_) | Act::Unified | Act::Assigned | Act::Given(_) | Act::Closed => false,
+    }
+}
+
+// Whether the record at this place asks for goals, if there is one.
+fn asks_at(records: &Records, place: usize) -> bool
+    ensures { IsTrue result ↔ ((r : record_spec) × StandsIn records.now.slots place r × AsksForGoals r) }
+{
+    let Some(record) = records.at(place) else {
+        return false;
+    };
+    asks(record.act())
+}
+
+// Whether one of the records asks for goals: one step for each place.
+fn ask_for_goals(records: &Records) -> bool
+    ensures { IsTrue result ↔ AskForGoals records.now.held }
+{
+    let _count = records.len();
+    for place in 0..records.places() {
+        if asks_at(records, place) {
+            return true;
+        }
+    }
+    false
+}
+
 impl Core {
     /// The numbers of the kept steps, in recorded order: one step for each place of the record. It fails for want of memory alone.
     pub fn kept_numbers(&self, alloc: Global) -> Result<Vec<u32>, AllocError>
@@ -58,13 +96,19 @@ impl Core {
         Ok(kept)
     }
 
-    /// The history of the steps that the core keeps: one step for each place of the record. It fails for want of memory, or where
-    /// a count of handles is full.
-    pub fn history(&self, alloc: Global) -> Result<History, AllocError>
+    /// The history of the steps that the core keeps: two steps for each place of the record. `Limit` of the version exactly where a
+    /// kept step asks for goals, which is told before memory is asked for; else it fails for want of memory, or where a count of
+    /// handles is full.
+    pub fn history(&self, alloc: Global) -> Result<History, Fault>
         ensures history { IfOk result (λ history. history ≡ history_of self.now.world) }
-        ensures form { IsHistory (history_of self.now.world) }
+        ensures form { IfOk result (λ _. IsHistory (history_of self.now.world)) }
+        ensures asked { AskForGoals self.now.world.kept → result ≡ Err (Fault.Limit Limit.Version) }
+        ensures fault { IfErr result (λ f. (f ≡ Fault.Memory) ⊎ ((f ≡ Fault.Limit Limit.Version) × AskForGoals self.now.world.kept)) }
     {
         self.stands();
+        if ask_for_goals(&self.records) {
+            return Err(Fault::Limit(Limit::Version));
+        }
         let steps = steps_of(alloc, &self.records)?;
         Ok(History::new(steps, self.next))
     }

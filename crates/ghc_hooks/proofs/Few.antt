@@ -9,12 +9,12 @@ use Rattle.ghc_fire.proofs.GoalNames.{goal_total, goal_antisymmetric}
 use Rattle.ghc_hooks.specs.Face.{GoalNames}
 use Rattle.ghc_hooks.proofs.Looking.{goal_put, goal_taken}
 
-agree : (a b : Bool) → (IsTrue a → IsTrue b) → (IsTrue b → IsTrue a) → a ≡ b
+pub agree : (a b : Bool) → (IsTrue a → IsTrue b) → (IsTrue b → IsTrue a) → a ≡ b
 agree true b f g = sym (f refl)
 agree false true f g = g refl
 agree false false f g = refl
 
-same_goals : (s t : GoalNames) → ((h : GoalName) → IsTrue (set.contains s h) ↔ IsTrue (set.contains t h)) → s ≡ t
+pub same_goals : (s t : GoalNames) → ((h : GoalName) → IsTrue (set.contains s h) ↔ IsTrue (set.contains t h)) → s ≡ t
 same_goals s t both = set.same_set goal_total goal_antisymmetric s t (λ h. agree (set.contains s h) (set.contains t h) (both h).0 (both h).1)
 
 -- putting in what is there, and taking out what is not, changes nothing

@@ -17,3 +17,5 @@ pub mod Pairs
 pub mod Finding
 pub mod FoundFace
 pub mod WholeFace
+pub mod FaceIsOne
+pub mod Unblocking

@@ -52,3 +52,7 @@ abbrev pub SettledNotesShowTheFace : Type 0
 SettledNotesShowTheFace =
     (P : Program) (G : Goals) (s : StoreValue) (notes : NotesByGoal) (untried : GoalNames) (face : Face)
     → IsAcyclic (value_at s) → AreExact P G s notes untried → untried ≡ set.empty → IsNotedFace P G s notes face ↔ IsFace P G s face
+
+-- A state has one face.
+abbrev pub FaceIsOne : Type 0
+FaceIsOne = (P : Program) (G : Goals) (s : StoreValue) (one other : Face) → IsFace P G s one → IsFace P G s other → one ≡ other

@@ -1,5 +1,5 @@
--- For each variable the goals whose notes looked at it.
-use Rattle.std.specs.Prelude.{◌≡◌, ◌↔◌, ◌≤◌, Bool, Option, Some, None, IsTrue}
+-- What the tries keep beside notes and marks: for each variable the goals whose notes looked at it, and the goals that do not wait.
+use Rattle.std.specs.Prelude.{◌≡◌, ◌↔◌, ◌⊎◌, ◌≤◌, Bool, Option, Some, None, IsTrue}
 use Rattle.std.specs.FinMap as finite
 use Rattle.std.specs.FinSet as set
 use Rattle.ghc_term.specs.declared.var_name.VarName.{VarName}
@@ -8,7 +8,7 @@ use Rattle.ghc_term.specs.Bindings.{name_cmp}
 use Rattle.ghc_term.specs.Table.{Table}
 use Rattle.ghc_hooks.specs.Face.{GoalNames}
 use Rattle.ghc_hooks.specs.Notes.{NotesByGoal}
-use Rattle.ghc_hooks.specs.Tries.{HasLookedAt}
+use Rattle.ghc_hooks.specs.Tries.{HasLookedAt, IsUnblocked}
 
 -- goals by variable
 abbrev pub GoalsByVariable : Type 0
@@ -27,3 +27,11 @@ pub record FitEachOther (notes : NotesByGoal) (untried : Table GoalNames) (by_va
   pub apart : (g : GoalName) → IsTrue (set.contains untried.held g) → finite.get notes g ≡ None
   pub follows : (x : VarName) (g : GoalName) → IsTrue (looks by_variable x g) ↔ HasLookedAt notes x g
   pub room : finite.len notes ≤ untried.room
+
+-- These are the goals that by their notes do not wait.
+abbrev pub AreUnblocked : NotesByGoal → GoalNames → Type 0
+AreUnblocked notes unblocked = (g : GoalName) → IsTrue (set.contains unblocked g) ↔ IsUnblocked notes g
+
+-- The goal g is put in where the condition holds.
+abbrev pub TakesIn : Type 0 → GoalName → GoalNames → GoalNames → Type 0
+TakesIn Holds g old new = (h : GoalName) → IsTrue (set.contains new h) ↔ (IsTrue (set.contains old h) ⊎ ((h ≡ g) × Holds))

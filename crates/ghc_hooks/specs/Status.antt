@@ -22,6 +22,10 @@ pub data Status : Type 0 where
   failed : Fault → Status
   streaming : Status
 
+-- A goal of this status does not wait.
+abbrev pub IsNoWait : Status → Type 0
+IsNoWait s = (xs : Variables) → s ≢ waiting xs
+
 -- The variables for which a goal waits where an attempt at it waits: for a call those of all its clauses that wait, for an assignment the unbound ends of its expression.
 abbrev pub Awaits : Program → (VarName → Option Tree) → Goal → VarName → Type 0
 Awaits P S (call f ts) x = SomeWaitsFor P f ts S x

@@ -1,5 +1,5 @@
 // Laws about the definitions, each as the contract of a function.
-ghost use Rattle.ghc_hooks.specs.Laws.{StatusIsOne, EachGoalHasAStatus, StatusIsOfWhatIsLookedAt, GoalsWaitForWhatTheyLookAt, ExactNotesAwaitWhatIsLookedAt, LookedIsOfWhatIsLookedAt, ExactNotesStayExact, SettledNotesShowTheFace};
+ghost use Rattle.ghc_hooks.specs.Laws.{StatusIsOne, EachGoalHasAStatus, StatusIsOfWhatIsLookedAt, GoalsWaitForWhatTheyLookAt, ExactNotesAwaitWhatIsLookedAt, LookedIsOfWhatIsLookedAt, ExactNotesStayExact, SettledNotesShowTheFace, FaceIsOne};
 
 /// A goal has one status in an acyclic store.
 pub fn status_is_one()
@@ -40,4 +40,9 @@ pub fn exact_notes_stay_exact()
 /// other way round.
 pub fn settled_notes_show_the_face()
     ensures { SettledNotesShowTheFace }
+{}
+
+/// A state has one face.
+pub fn face_is_one()
+    ensures { FaceIsOne }
 {}

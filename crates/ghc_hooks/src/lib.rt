@@ -16,8 +16,8 @@ mod tries;
 pub use face::{Face, Status};
 pub use laws::{
     each_goal_has_a_status, exact_notes_await_what_is_looked_at, exact_notes_stay_exact,
-    goals_wait_for_what_they_look_at, looked_is_of_what_is_looked_at, settled_notes_show_the_face,
-    status_is_of_what_is_looked_at, status_is_one,
+    face_is_one, goals_wait_for_what_they_look_at, looked_is_of_what_is_looked_at,
+    settled_notes_show_the_face, status_is_of_what_is_looked_at, status_is_one,
 };
 pub use note::{Note, Verdict};
 pub use trial::try_goal;

@@ -2,21 +2,26 @@
 ghost use Rattle.std.specs.Prelude.{◌≡◌, ◌≢◌, ◌↔◌, ◌+◌, ◌<◌, ◌≤◌, length, IfSome, IfNone, IsTrue, OnOk, OnErr, None, Some};
 ghost use Rattle.std.specs.FinMap as finite;
 ghost use Rattle.std.specs.FinSet as set;
+ghost use Rattle.ghc_hooks.specs.Status.{IsNoWait};
+ghost use Rattle.ghc_hooks.specs.Verdict.{status_of};
+ghost use Rattle.ghc_hooks.specs.Looks.{TakesIn};
 
 use crate::goal_set::GoalSet;
 use crate::looks::Looks;
-use crate::note::Note;
+use crate::note::{Note, Verdict};
 use crate::notes::Notes;
 use ghc_term::{GoalName, VarName};
 use std::alloc::{AllocError, Global};
 use std::marker::Model;
 
-/// The notes of goals and the untried goals, with the goals that looked at each variable. No goal is both noted and untried.
+/// The notes of goals and the untried goals, with the goals that looked at each variable, and those that by their notes do not
+/// wait. No goal is both noted and untried.
 #[derive(Drop)]
 pub struct Tries {
     notes: Notes,
     untried: GoalSet,
     looks: Looks,
+    unblocked: GoalSet,
 }
 
 impl Model for Tries {
@@ -24,7 +29,7 @@ impl Model for Tries {
     ghost use Rattle.std.specs.FinMap as finite;
     ghost use Rattle.ghc_hooks.specs.Tries.{Tries};
     ghost use Rattle.ghc_hooks.specs.TriesCode.{tries_code};
-    ghost use Rattle.ghc_hooks.specs.Looks.{FitEachOther};
+    ghost use Rattle.ghc_hooks.specs.Looks.{FitEachOther, AreUnblocked};
 
     ghost Value = { Tries };
 
@@ -32,7 +37,19 @@ impl Model for Tries {
 
     ghost view = { λ t. record { notes = t.notes.held; untried = t.untried.held; room = t.untried.room - finite.len t.notes.held } };
 
-    ghost invariant = { λ t. FitEachOther t.notes.held t.untried t.looks };
+    ghost invariant = { λ t. FitEachOther t.notes.held t.untried t.looks × AreUnblocked t.notes.held t.unblocked.held };
+}
+
+// Puts the goal among those that do not wait where the verdict says so, and there is room: a look-up at most.
+fn put_unblocked(unblocked: &mut GoalSet, goal: GoalName, verdict: &Verdict)
+    requires { 0 < unblocked.old.room }
+    ensures { TakesIn (IsNoWait (status_of verdict.now)) goal unblocked.old.held unblocked.new.held }
+{
+    match verdict {
+        Verdict::Waiting(_) => {}
+        Verdict::Ready => unblocked.put(goal),
+        Verdict::Failed(_) => unblocked.put(goal),
+    }
 }
 
 impl Tries {
@@ -40,7 +57,7 @@ impl Tries {
     ghost use Rattle.ghc_term.specs.Lists.{In};
     ghost use Rattle.ghc_term.specs.declared.goal_name.GoalName.{GoalName};
     ghost use Rattle.ghc_hooks.specs.Notes.{Note};
-    ghost use Rattle.ghc_hooks.specs.Tries.{HasLookedAt, AreSpared, AreWoken};
+    ghost use Rattle.ghc_hooks.specs.Tries.{HasLookedAt, IsUnblocked, AreSpared, AreWoken};
     ghost use Rattle.ghc_fire.specs.Goals.{goal_cmp};
     ghost use Rattle.ghc_term.specs.declared.var_name.VarName.{VarName};
 
@@ -53,6 +70,7 @@ impl Tries {
             notes: Notes::new(alloc),
             untried: GoalSet::new(alloc),
             looks: Looks::new(alloc),
+            unblocked: GoalSet::new(alloc),
         }
     }
 
@@ -103,6 +121,14 @@ impl Tries {
         }
     }
 
+    /// The goals that by their notes do not wait, each once, in any order: one step.
+    pub fn unblocked(&self) -> &[GoalName]
+        ensures each { (g : GoalName) → In g result.now ↔ IsUnblocked self.now.notes g }
+        ensures once { length result.now ≡ set.len (set.from_list {R = goal_cmp} result.now) }
+    {
+        self.unblocked.members()
+    }
+
     // A goal whose note looked at the variable, if there is one: one look-up.
     fn first_looking_at(&self, x: VarName) -> Option<GoalName>
         ensures some { IfSome result (λ g. HasLookedAt self.now.notes x g) }
@@ -135,7 +161,7 @@ impl Tries {
         self.untried.put(goal);
     }
 
-    /// Gives an untried goal its note: a look-up for each variable that it looked at. Where memory is refused the goal stays
+    /// Gives an untried goal its note: a look-up or two, and one for each variable that it looked at. Where memory is refused the goal stays
     /// untried. It may use up the room of one goal.
     pub fn note(&mut self, goal: GoalName, note: Note) -> Result<(), AllocError>
         requires { IsTrue (set.contains self.old.untried goal) }
@@ -147,13 +173,15 @@ impl Tries {
     {
         self.notes.reserve(1)?;
         self.untried.reserve(self.notes.len() + 1)?;
+        self.unblocked.reserve(1)?;
         self.looks.add_all(note.looked().members(), goal)?;
         self.untried.remove(goal);
+        put_unblocked(&mut self.unblocked, goal, note.verdict());
         self.notes.put(goal, note);
         Ok(())
     }
 
-    /// Takes away the note or the mark of a goal: one look-up for a mark, two for a note, and a look-up or two for each variable
+    /// Takes away the note or the mark of a goal: one look-up for a mark, three for a note, and a look-up or two for each variable
     /// that it looked at. The room does not shrink.
     #[inline(always)]
     pub fn drop_goal(&mut self, goal: GoalName)
@@ -166,10 +194,11 @@ impl Tries {
         }
         if let Some(note) = self.notes.remove(goal) {
             self.looks.remove_all(note.looked().members(), goal);
+            self.unblocked.remove(goal);
         }
     }
 
-    // Makes a noted goal untried: a look-up or two for each variable that it looked at.
+    // Makes a noted goal untried: three look-ups, and one or two for each variable that it looked at.
     fn wake_goal(&mut self, goal: GoalName)
         requires { finite.get self.old.notes goal ≢ None }
         ensures notes { self.new.notes ≡ finite.remove self.old.notes goal }
@@ -180,6 +209,7 @@ impl Tries {
             return;
         };
         self.looks.remove_all(note.looked().members(), goal);
+        self.unblocked.remove(goal);
         self.untried.put(goal);
     }
 

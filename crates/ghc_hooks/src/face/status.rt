@@ -38,9 +38,9 @@ impl Model for Status {
 }
 
 impl Status {
-    ghost use Rattle.ghc_hooks.specs.Status.{waiting, streaming, HasStatus};
+    ghost use Rattle.ghc_hooks.specs.Status.{waiting, streaming, HasStatus, IsNoWait};
     ghost use Rattle.ghc_hooks.specs.Verdict.{status_of};
-    ghost use Rattle.ghc_hooks.specs.Kinds.{kind_of, IsNoWait};
+    ghost use Rattle.ghc_hooks.specs.Kinds.{kind_of};
 
     // The status of the goal, which costs what `try_goal` does.
     pub(crate) fn of(

@@ -1,8 +1,12 @@
-use Rattle.std.proofs.Common.{sym, subst, Some}
+use Rattle.std.specs.Option.{option_copied}
+use Rattle.std.proofs.Common.{refl, ap, sym, subst, ◌∙◌, Some}
 use Rattle.ghc_term.specs.Store.{value_at}
 use Rattle.ghc_records.specs.Record.{IsThere, HasStepEffect}
 use Rattle.ghc_core.proofs.Redone.{if_ok}
 use Rattle.ghc_core.proofs.redo.fires.Goals as goal
+
+pub returns-in_default-clause-answer : goal.returns-in_default-clause-answer
+returns-in_default-clause-answer c = (λ _. c.requires.asks (sym c.consumed.ensures ∙ ap option_copied c.in_default.is), λ _. refl)
 
 pub returns-clause-answer : goal.returns-clause-answer
 returns-clause-answer c =

@@ -2,7 +2,7 @@ use Rattle.std.proofs.Common.{◌≡◌, ℕ, ◌+◌, ◌<◌, List, [], length
 use Rattle.std.proofs.lemmas.Option.{slice_get_read}
 use Rattle.ghc_records.specs.History.{loaded_opening}
 use Rattle.ghc_core.specs.World.{Opens}
-use Rattle.ghc_core.proofs.Loading.{nothing_loaded, own_step, one_more_loaded, stopped_at, all_loaded}
+use Rattle.ghc_core.proofs.Loading.{nothing_loaded, own_step, own_goal, one_more_loaded, stopped_at, all_loaded}
 use Rattle.ghc_fire.specs.declared.meter.Meter.{Meter}
 use Rattle.ghc_fire.specs.Meter.{fired}
 use Rattle.ghc_records.specs.Journal.{Step}
@@ -30,6 +30,11 @@ load_step-requires-clause-own c r possible =
     let i = c.loop-index.index in
     own_step c.args.program c.args.query.goals c.args.query.variables h i c.loop-index.core.world c.loop-index.invariant.loaded c.index-steps-index.result
     (at_place c.steps-steps.result.now c.args.history.now.steps c.loop-index.index c.index-steps-index.result c.steps-steps.ensures.steps c.loop-index-test.true c.index-steps-index.is) r c.requires.history possible
+
+pub load_step-requires-clause-of_goal : goal.load_step-requires-clause-of_goal
+load_step-requires-clause-of_goal c =
+    own_goal c.args.program c.args.query.goals c.args.query.variables c.args.history.now c.loop-index.index c.loop-index.core.world c.loop-index.invariant.loaded c.index-steps-index.result
+    (at_place c.steps-steps.result.now c.args.history.now.steps c.loop-index.index c.index-steps-index.result c.steps-steps.ensures.steps c.loop-index-test.true c.index-steps-index.is) c.requires.history
 
 pub returns-in-Ok-false-clause-answer : goal.returns-in-Ok-false-clause-answer
 returns-in-Ok-false-clause-answer c =

@@ -1,4 +1,5 @@
 use Rattle.std.proofs.Common.{◌≡◌, sym, ap, ◌∙◌, subst, inl, inr, Ok, Err}
+use Rattle.ghc_term.specs.declared.fault.Fault.{Fault}
 use Rattle.ghc_core.specs.Anyway.{IsNotObeyedAnyway}
 use Rattle.ghc_core.specs.Answers.{to_give, to_close, to_undo, to_redo, to_arrange, Fails}
 use Rattle.ghc_core.specs.Asked.{IsAskedFor}
@@ -149,4 +150,22 @@ returns-in-Err-prepare_redo-clause-counted c =
     let before = c.args.self.now.meter in
     let after = c.prepare_redo.new.self.meter in
     subst (λ m. CountsInObeying (command_of m) before after) (sym c.in-Redo.is)
-    (redo_counted c.args.self.now.world before after c.in-Redo.number (λ f. (told.not_shelved f).1) (λ f. (told.no_goal f).1) told.fired)
+    (redo_counted c.args.self.now.world before after c.in-Redo.number (λ f. (told.not_shelved f).1) (λ f. (told.no_goal f).1) (λ f. (told.no_variable f).1) told.fired)
+
+pub returns-in-Ok-prepare_redo-clause-counted : goal.returns-in-Ok-prepare_redo-clause-counted
+returns-in-Ok-prepare_redo-clause-counted c =
+    let told = c.in-Ok-prepare_redo.ensures in
+    let before = c.args.self.now.meter in
+    let after = c.prepare_redo.new.self.meter in
+    subst (λ m. CountsInObeying (command_of m) before after) (sym c.in-Redo.is)
+    (redo_counted c.args.self.now.world before after c.in-Redo.number (λ f. (told.not_shelved f).1) (λ f. (told.no_goal f).1) (λ f. (told.no_variable f).1) told.fired)
+
+pub returns-in-Err-prepare_redo-clause-anyway : goal.returns-in-Err-prepare_redo-clause-anyway
+returns-in-Err-prepare_redo-clause-anyway c f fails =
+    let told = c.in-Err-prepare_redo.ensures in
+    let fault = c.in-Err-prepare_redo.fault in
+    elim (subst (λ m. IsNotObeyedAnyway c.args.self.now.world (command_of m) f) c.in-Redo.is fails) [
+      | inl (e, q) ↦ let same : Err fault ≡ Err Fault.NotShelved = (told.not_shelved q).0 in let one : fault ≡ Fault.NotShelved = cc in ap Err (one ∙ sym e)
+      | inr (inl (e, q)) ↦ let same : Err fault ≡ Err Fault.NoGoal = (told.no_goal q).0 in let one : fault ≡ Fault.NoGoal = cc in ap Err (one ∙ sym e)
+      | inr (inr (e, q)) ↦ let same : Err fault ≡ Err Fault.NoVariable = (told.no_variable q).0 in let one : fault ≡ Fault.NoVariable = cc in ap Err (one ∙ sym e)
+    ]

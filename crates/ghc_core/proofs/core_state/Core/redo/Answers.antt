@@ -1,10 +1,13 @@
-use Rattle.std.proofs.Common.{◌≡◌, sym, subst, ap, ◌∙◌, Some}
+use Rattle.std.proofs.Common.{◌≡◌, sym, subst, ap, ◌∙◌, Some, Ok, Err}
+use Rattle.ghc_term.specs.declared.fault.Fault.{Fault}
+use Rattle.ghc_core.specs.World.{World}
+use Rattle.ghc_core.specs.declared.change.Change.TheVariants.{PutsBack as puts_back}
 use Rattle.std.specs.FinMap as finite
 use Rattle.ghc_hooks.specs.Notes.{AreLeft}
 use Rattle.ghc_depend.specs.Depend.{Binds}
 use Rattle.ghc_core.specs.Events.{stepped}
 use Rattle.ghc_core.specs.Answers.{to_redo, does}
-use Rattle.ghc_core.specs.Change.{with_redone}
+use Rattle.ghc_core.specs.Change.{with_redone, CanChange}
 use Rattle.ghc_core.proofs.core_state.Core.redo.Goals as goal
 
 pub returns-clause-ok : goal.returns-clause-ok
@@ -19,3 +22,23 @@ returns-clause-notes c =
       subst (λ n. finite.get c.args.self.now.world.shelf n ≡ Some r) c.in-Ok.ensures.step c.in-Ok.ensures.found.0,
       subst (λ notes. AreLeft c.make.new.self.world.state.goals (Binds r) notes c.make.new.self.notes) c.in-Ok.ensures.stays.notes c.in_ok-make.ensures.notes,
     )
+
+pub make-requires : goal.make-requires
+make-requires c = record { found = subst (λ (w : World). CanChange w (puts_back c.in-Ok.addition)) (sym c.in-Ok.ensures.stays.world) c.in-Ok.ensures.found }
+
+pub returns-in-Err-clause-no_goal : goal.returns-in-Err-clause-no_goal
+returns-in-Err-clause-no_goal c fails =
+    let told = c.in-Err.ensures.no_goal fails in
+    let same : Err c.in-Err.fault ≡ Err Fault.NoGoal = told.0 in
+    let one : c.in-Err.fault ≡ Fault.NoGoal = cc in
+    (ap Err one, told.1)
+
+pub returns-in-Err-clause-no_variable : goal.returns-in-Err-clause-no_variable
+returns-in-Err-clause-no_variable c fails =
+    let told = c.in-Err.ensures.no_variable fails in
+    let same : Err c.in-Err.fault ≡ Err Fault.NoVariable = told.0 in
+    let one : c.in-Err.fault ≡ Fault.NoVariable = cc in
+    (ap Err one, told.1)
+
+pub returns-clause-no_goal : goal.returns-clause-no_goal
+returns-clause-no_goal c fails = let no : Ok c.in-Ok.addition ≡ Err Fault.NoGoal = (c.in-Ok.ensures.no_goal fails).0 in cc

@@ -14,8 +14,8 @@ returns-in-Some c =
     λ g. ap (λ o. set.contains (goals_in o) g) (sym c.in-Some.ensures) ∙ ap (λ s. set.contains s g) (sym c.members.ensures.all) in
     record {
       each = λ g. (
-        λ i. subst (λ t. HasLookedAt t.notes c.args.x g) c.self.view_is ((c.self.invariant.follows c.args.x g).0 (there g ∙ goal_in_set g c.members.result.now i)),
-        λ l. set_in_goals g c.members.result.now (sym (there g) ∙ (c.self.invariant.follows c.args.x g).1 (subst (λ t. HasLookedAt t.notes c.args.x g) (sym c.self.view_is) l)),
+        λ i. subst (λ t. HasLookedAt t.notes c.args.x g) c.self.view_is ((c.self.invariant.0.follows c.args.x g).0 (there g ∙ goal_in_set g c.members.result.now i)),
+        λ l. set_in_goals g c.members.result.now (sym (there g) ∙ (c.self.invariant.0.follows c.args.x g).1 (subst (λ t. HasLookedAt t.notes c.args.x g) (sym c.self.view_is) l)),
       );
       once = c.members.ensures.once ∙ ap set.len (sym c.members.ensures.all);
     }
@@ -25,7 +25,7 @@ returns-in-None c = record {
   each = λ g. (
     λ i. absurd i,
     λ l. not_both (looks c.self.inside.looks c.args.x g) (ap (λ o. set.contains (goals_in o) g) (sym c.in-None.ensures) ∙ set.contains-empty goal_cmp g)
-        ((c.self.invariant.follows c.args.x g).1 (subst (λ t. HasLookedAt t.notes c.args.x g) (sym c.self.view_is) l)),
+        ((c.self.invariant.0.follows c.args.x g).1 (subst (λ t. HasLookedAt t.notes c.args.x g) (sym c.self.view_is) l)),
   );
   once = sym (set.len-empty goal_cmp);
 }

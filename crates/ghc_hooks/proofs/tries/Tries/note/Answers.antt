@@ -1,21 +1,42 @@
-use Rattle.std.proofs.Common.{◌≡◌, ◌+◌, ◌∙◌, ap, arith}
+use Rattle.std.proofs.Common.{◌≡◌, ◌+◌, ◌∙◌, ap, refl, sym, subst₂, arith}
 use Rattle.std.specs.Prelude.{IsTrue}
 use Rattle.std.specs.FinMap as finite
 use Rattle.std.specs.FinSet as set
+use Rattle.ghc_hooks.specs.Status.{IsNoWait}
+use Rattle.ghc_hooks.specs.Looks.{TakesIn}
 use Rattle.ghc_hooks.proofs.Fitting.{one_more_note}
 use Rattle.ghc_hooks.proofs.Changing.{fit_same, fit_noted}
+use Rattle.ghc_hooks.proofs.Unblocking.{unblocked_same, unblocked_noted}
 use Rattle.ghc_hooks.proofs.tries.Tries.note.Goals as goal
+
+pub invariant_of-self : goal.invariant_of-self
+invariant_of-self c =
+    let t = c.self.inside in (
+      fit_same t.notes.held c.reserve.new.self.held t.untried t.untried t.looks t.looks c.args.goal c.self.invariant.0 c.reserve.ensures.held refl (omega arith) (λ y h. (λ k. k, λ k. k)),
+      unblocked_same t.notes.held c.reserve.new.self.held t.unblocked.held t.unblocked.held c.args.goal c.self.invariant.1 c.reserve.ensures.held refl,
+    )
 
 pub invariant_of-self-in_err-reserve-2 : goal.invariant_of-self-in_err-reserve-2
 invariant_of-self-in_err-reserve-2 c =
-    let t = c.self.inside in
-    fit_same t.notes.held c.reserve.new.self.held t.untried c.reserve-2.new.self t.looks t.looks c.args.goal c.self.invariant c.reserve.ensures.held c.reserve-2.ensures.held c.reserve-2.ensures.kept (λ y h. (λ k. k, λ k. k))
+    let t = c.self.inside in (
+      fit_same t.notes.held c.reserve.new.self.held t.untried c.reserve-2.new.self t.looks t.looks c.args.goal c.self.invariant.0 c.reserve.ensures.held c.reserve-2.ensures.held c.reserve-2.ensures.kept (λ y h. (λ k. k, λ k. k)),
+      unblocked_same t.notes.held c.reserve.new.self.held t.unblocked.held t.unblocked.held c.args.goal c.self.invariant.1 c.reserve.ensures.held refl,
+    )
+
+pub invariant_of-self-in_err-reserve-3 : goal.invariant_of-self-in_err-reserve-3
+invariant_of-self-in_err-reserve-3 c =
+    let t = c.self.inside in (
+      fit_same t.notes.held c.reserve.new.self.held t.untried c.reserve-2.new.self t.looks t.looks c.args.goal c.self.invariant.0 c.reserve.ensures.held c.reserve-2.ensures.held c.reserve-2.ensures.kept (λ y h. (λ k. k, λ k. k)),
+      unblocked_same t.notes.held c.reserve.new.self.held t.unblocked.held c.reserve-3.new.self.held c.args.goal c.self.invariant.1 c.reserve.ensures.held c.reserve-3.ensures.held,
+    )
 
 pub invariant_of-self-in_err-add_all : goal.invariant_of-self-in_err-add_all
 invariant_of-self-in_err-add_all c =
-    let t = c.self.inside in
-    fit_same t.notes.held c.reserve.new.self.held t.untried c.reserve-2.new.self t.looks c.add_all.new.self c.args.goal c.self.invariant c.reserve.ensures.held c.reserve-2.ensures.held c.reserve-2.ensures.kept
-    c.in_err-add_all.ensures.err
+    let t = c.self.inside in (
+      fit_same t.notes.held c.reserve.new.self.held t.untried c.reserve-2.new.self t.looks c.add_all.new.self c.args.goal c.self.invariant.0 c.reserve.ensures.held c.reserve-2.ensures.held c.reserve-2.ensures.kept
+          c.in_err-add_all.ensures.err,
+      unblocked_same t.notes.held c.reserve.new.self.held t.unblocked.held c.reserve-3.new.self.held c.args.goal c.self.invariant.1 c.reserve.ensures.held c.reserve-3.ensures.held,
+    )
 
 pub invariant_of-self-2 : goal.invariant_of-self-2
 invariant_of-self-2 c =
@@ -23,9 +44,13 @@ invariant_of-self-2 c =
     let count : c.len.result ≡ finite.len t.notes.held = c.len.ensures.count ∙ ap (λ m. finite.len m) c.reserve.ensures.held in
     let reserved = c.in_ok-reserve-2.ensures.room in
     let kept = c.remove.ensures.room in
-    fit_noted t.notes.held c.put.new.self.held t.untried c.remove.new.self t.looks c.add_all.new.self c.args.goal c.self.invariant c.args.note c.members.result.now (c.members.ensures.all ∙ c.looked.ensures)
-    (ap (λ v. set.contains v.untried c.args.goal) c.self.view_is ∙ c.requires) (c.put.ensures ∙ ap (λ m. finite.insert m c.args.goal c.args.note) c.reserve.ensures.held)
-    (c.remove.ensures.held ∙ ap (λ s. set.remove s c.args.goal) c.reserve-2.ensures.held) (omega (arith, count, reserved, kept)) c.in_ok-add_all.ensures.ok
+    let marked : IsTrue (set.contains t.untried.held c.args.goal) = ap (λ v. set.contains v.untried c.args.goal) c.self.view_is ∙ c.requires in
+    let put = c.put.ensures ∙ ap (λ m. finite.insert m c.args.goal c.args.note) c.reserve.ensures.held in (
+      fit_noted t.notes.held c.put.new.self.held t.untried c.remove.new.self t.looks c.add_all.new.self c.args.goal c.self.invariant.0 c.args.note c.members.result.now (c.members.ensures.all ∙ c.looked.ensures)
+          marked put (c.remove.ensures.held ∙ ap (λ s. set.remove s c.args.goal) c.reserve-2.ensures.held) (omega (arith, count, reserved, kept)) c.in_ok-add_all.ensures.ok,
+      unblocked_noted t.notes.held c.put.new.self.held t.unblocked.held c.put_unblocked.new.unblocked.held c.args.goal c.self.invariant.1 c.args.note (c.self.invariant.0.apart c.args.goal marked) put
+          (subst₂ (λ s old. TakesIn (IsNoWait s) c.args.goal old c.put_unblocked.new.unblocked.held) (sym c.verdict.ensures) c.reserve-3.ensures.held c.put_unblocked.ensures),
+    )
 
 pub returns-clause-room : goal.returns-clause-room
 returns-clause-room c =
@@ -35,5 +60,5 @@ returns-clause-room c =
     let reserved = c.reserve-2.ensures.kept in
     let marked : IsTrue (set.contains t.untried.held c.args.goal) = ap (λ v. set.contains v.untried c.args.goal) c.self.view_is ∙ c.requires in
     let more : finite.len c.put.new.self.held ≡ finite.len t.notes.held + 1 =
-    ap (λ m. finite.len m) (c.put.ensures ∙ ap (λ m. finite.insert m c.args.goal c.args.note) c.reserve.ensures.held) ∙ one_more_note t.notes.held c.args.goal c.args.note (c.self.invariant.apart c.args.goal marked) in
+    ap (λ m. finite.len m) (c.put.ensures ∙ ap (λ m. finite.insert m c.args.goal c.args.note) c.reserve.ensures.held) ∙ one_more_note t.notes.held c.args.goal c.args.note (c.self.invariant.0.apart c.args.goal marked) in
     omega (arith, room, kept, reserved, more)

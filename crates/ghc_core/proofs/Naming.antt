@@ -1,0 +1,105 @@
+-- What steps name: those that consume a goal name nothing; and whether what a step names is known.
+use Rattle.std.proofs.Common.{◌≡◌, ◌≢◌, ◌≤◌, ◌+◌, ℕ, List, [], ◌∷◌, ◌++◌, length, refl, sym, ap, ◌∙◌, subst, inl, inr, arith}
+use Rattle.std.proofs.lemmas.List.{length-append}
+use Rattle.std.specs.Prelude.{Option}
+use Rattle.ghc_term.specs.declared.var_name.VarName.{VarName}
+use Rattle.ghc_term.specs.Goal.{Goal, call, unify, assign, stream}
+use Rattle.ghc_term.specs.Tree.{Tree}
+use Rattle.ghc_term.specs.Lists.{In}
+use Rattle.ghc_term.specs.Store.{value_at}
+use Rattle.ghc_term.proofs.Decided.{Decided, decided_both, decided_either, nat_decided, name_decided, in_decided, some_decided}
+use Rattle.ghc_term.proofs.ListsLemmas.{compare_splits}
+use Rattle.ghc_flat.specs.Clause.{Program, Query}
+use Rattle.ghc_flat.specs.Variables.{variables_of_goals}
+use Rattle.ghc_fire.specs.declared.act.Act.{Act}
+use Rattle.ghc_fire.specs.declared.act.Act.TheVariants.{ByClause as by_clause, Unified as unified, Assigned as assigned, Given as given, Closed as closed, Asked as asked}
+use Rattle.ghc_fire.specs.Asked.{variables_asked}
+use Rattle.ghc_fire.specs.Effect.{Effect, HasEffect}
+use Rattle.ghc_records.specs.Record.{State, Record, Fires}
+use Rattle.ghc_records.specs.Replay.{MakesVariable, IsVariableOf, AreKnownIn, NameWhatIsKnown}
+use Rattle.ghc_depend.proofs.Results.{taken}
+use Rattle.ghc_core.specs.World.{IsOfGoal}
+
+-- an act that has an effect on a goal names no variable
+act_names_nothing : (P : Program) (b : Goal) (a : Act) (n : ℕ) (S : VarName → Option Tree) (e : Effect) → HasEffect P b a n S e → variables_asked a ≡ []
+act_names_nothing P b (by_clause k) n S e h = refl
+act_names_nothing P b unified n S e h = refl
+act_names_nothing P b assigned n S e h = refl
+act_names_nothing P b (given u) n S e h = refl
+act_names_nothing P b closed n S e h = refl
+act_names_nothing P (call f ts) (asked gs) n S e h = absurd h
+act_names_nothing P (unify l r) (asked gs) n S e h = absurd h
+act_names_nothing P (assign t a) (asked gs) n S e h = absurd h
+act_names_nothing P (stream k s) (asked gs) n S e h = absurd h
+
+-- an act that does not ask for goals names no variable
+pub unasked_names_nothing : (a : Act) → ((gs : List Goal) → a ≢ asked gs) → variables_asked a ≡ []
+unasked_names_nothing (by_clause k) n = refl
+unasked_names_nothing unified n = refl
+unasked_names_nothing assigned n = refl
+unasked_names_nothing (given u) n = refl
+unasked_names_nothing closed n = refl
+unasked_names_nothing (asked gs) n = absurd (n gs refl)
+
+-- where nothing is named, all that is named is known
+pub nothing_named : (query : Query) (rs : List Record) (r : Record) → variables_asked r.act ≡ [] → AreKnownIn query rs r
+nothing_named query rs r none x n = absurd (subst (In x) none n.0)
+
+-- A step that consumes a goal names nothing.
+pub known_of_goal : (P : Program) (s : State) (query : Query) (rs : List Record) (r : Record) → Fires P s r → IsOfGoal r → AreKnownIn query rs r
+known_of_goal P s query rs r fires (g, named) =
+    let t = taken P s r fires g named in
+    nothing_named query rs r (act_names_nothing P t.goal r.act r.number (value_at s.store) r.effect t.effect)
+
+-- what is known among some steps is known among more
+pub known_more : (query : Query) (rs more : List Record) → ((r : Record) → In r rs → In r more) → (x : VarName) → IsVariableOf query rs x → IsVariableOf query more x
+known_more query rs more among x (inl i) = inl i
+known_more query rs more among x (inr m) = inr (m.0, among m.0 m.1, m.2)
+
+-- no steps name nothing
+pub none_named : (query : Query) → NameWhatIsKnown query []
+none_named query [] behind r e = absurd (let clash : [] ≡ r ∷ behind = e in cc)
+none_named query (q ∷ front) behind r e = absurd (let clash : [] ≡ q ∷ (front ++ r ∷ behind) = e in cc)
+
+-- a step more, which names what is known
+pub named_push : (query : Query) (rs : List Record) (r : Record) → NameWhatIsKnown query rs → AreKnownIn query rs r → NameWhatIsKnown query (rs ++ r ∷ [])
+named_push query rs r named known front behind q e = elim (compare_splits rs front r q [] behind e) [
+  | inl same ↦ subst (λ l. AreKnownIn query l q) same.0 (subst (AreKnownIn query rs) same.1 known)
+  | inr (inl m) ↦
+      let long : length front ≡ length rs + length (r ∷ m.0) = ap length m.1 ∙ length-append rs (r ∷ m.0) in
+      let both : length rs + 1 ≡ length front + length (q ∷ behind) = sym (length-append rs (r ∷ [])) ∙ ap length e ∙ length-append front (q ∷ behind) in
+      absurd (omega (arith, long, both))
+  | inr (inr m) ↦ named front m.0 q m.1
+]
+
+at_most : (a b : ℕ) → Decided (a ≤ b)
+at_most a b = grind arith
+
+-- whether a step made the variable
+makes_decided : (r : Record) (x : VarName) → Decided (MakesVariable r x)
+makes_decided r x = elim (decided_both (nat_decided x.step r.number) (decided_both (at_most 1 x.place) (at_most x.place r.effect.fresh))) [
+  | inl m ↦ inl (m.0, m.1.0, m.1.1)
+  | inr n ↦ inr (λ m. n (m.0, (m.1, m.2)))
+]
+
+-- whether the variable is the query's, or a step made it
+variable_decided : (query : Query) (rs : List Record) (x : VarName) → Decided (IsVariableOf query rs x)
+variable_decided query rs x = decided_either (in_decided name_decided x (variables_of_goals query)) (some_decided rs (λ r. MakesVariable r x) (λ r i. makes_decided r x))
+
+-- whether all these variables, but for those of step n, are known
+all_decided : (query : Query) (rs : List Record) (n : ℕ) (xs : List VarName) → Decided ((x : VarName) → In x xs × (x.step ≢ n) → IsVariableOf query rs x)
+all_decided query rs n [] = inl (λ x i. absurd i.0)
+all_decided query rs n (y ∷ xs) = elim (all_decided query rs n xs) [
+  | inr no_rest ↦ inr (λ all. no_rest (λ x i. all x (inr i.0, i.1)))
+  | inl rest ↦ elim (nat_decided y.step n) [
+    | inl own ↦ inl (λ x i. elim i.0 [ inl e ↦ absurd (i.1 (ap (λ (v : VarName). v.step) e ∙ own)) | inr j ↦ rest x (j, i.1) ])
+    | inr other ↦ elim (variable_decided query rs y) [
+      | inl known ↦ inl (λ x i. elim i.0 [ inl e ↦ subst (IsVariableOf query rs) (sym e) known | inr j ↦ rest x (j, i.1) ])
+      | inr unknown ↦ inr (λ all. unknown (all y (inl refl, other)))
+    ]
+  ]
+]
+
+-- Whether all that the step names is known.
+pub known_decided : (query : Query) (rs : List Record) (r : Record) → Decided (AreKnownIn query rs r)
+known_decided query rs r = all_decided query rs r.number (variables_asked r.act)

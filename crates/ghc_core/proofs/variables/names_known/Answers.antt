@@ -1,0 +1,31 @@
+use Rattle.std.proofs.Common.{◌≡◌, ◌≢◌, true, false, refl, sym, ap, ◌∙◌, subst, arith}
+use Rattle.std.proofs.lemmas.List.{take_all}
+use Rattle.ghc_term.specs.Lists.{In}
+use Rattle.ghc_term.proofs.Members.{one_more_member, In_at}
+use Rattle.ghc_fire.specs.Asked.{variables_asked}
+use Rattle.ghc_records.specs.Replay.{IsVariableOf}
+use Rattle.ghc_core.proofs.variables.names_known.Goals as goal
+
+pub returns-then-not-is_own_or_of : goal.returns-then-not-is_own_or_of
+returns-then-not-is_own_or_of c =
+    let items = c.variables-x-items.result.now in
+    let all = c.variables-x-items.ensures ∙ ap variables_asked c.act.ensures in
+    let there = In_at items c.loop-x.x-index (record { step = 0; place = 0 }) c.loop-x-test.true in (
+      λ no. absurd (let clash : false ≡ true = no in cc),
+      λ known.
+          let yes = c.is_own_or_of.ensures.1 (λ other. known _ (subst (In _) all there, λ own. other (own ∙ sym c.number-number.ensures))) in
+          absurd (let clash : true ≡ false = sym yes ∙ c.if-not-is_own_or_of.true in cc),
+    )
+
+pub loop-x-preserved : goal.loop-x-preserved
+loop-x-preserved c =
+    one_more_member (λ x. x.step ≢ c.number-number.result → IsVariableOf c.args.query.now.goals c.args.records.now.held x) c.variables-x-items.result.now c.loop-x.x-index (record { step = 0; place = 0 }) c.loop-x-test.true c.loop-x.invariant
+    (c.is_own_or_of.ensures.0 c.if-not-is_own_or_of.false)
+
+pub returns : goal.returns
+returns c =
+    let items = c.variables-x-items.result.now in
+    let all = c.variables-x-items.ensures ∙ ap variables_asked c.act.ensures in (
+      λ yes x named. c.loop-x.invariant x (subst (In x) (sym (take_all c.loop-x.x-index items (omega (arith, c.loop-x-test.false)) ∙ all)) named.0) (λ own. named.1 (own ∙ c.number-number.ensures)),
+      λ _. refl,
+    )
