@@ -1,4 +1,4 @@
--- The places of the steps that a step may depend on: those that bound what it read, and the one that its goal names.
+-- The places of the steps that a step may depend on: the one that its goal names, those that bound what it read, and those of what it names.
 use Rattle.std.proofs.Common.{◌≡◌, ℕ, ◌⊎◌, List, [], ◌∷◌, ◌++◌, refl, sym, ap, ◌∙◌, subst, inl, inr}
 use Rattle.std.specs.Prelude.{◌↔◌, Some, None}
 use Rattle.std.specs.FinSet as set
@@ -12,13 +12,14 @@ use Rattle.ghc_term.proofs.SetsLemmas.{is_member}
 use Rattle.ghc_records.specs.Orders.{AreDistinct}
 use Rattle.ghc_records.specs.Record.{Record, numbers}
 use Rattle.ghc_records.specs.Slots.{SlotList, held_in, StandsIn, HasNumberIn}
-use Rattle.ghc_records.specs.Uses.{Binds, ReadsFrom}
+use Rattle.ghc_fire.specs.Asked.{variables_asked}
+use Rattle.ghc_records.specs.Uses.{Binds, Consumes}
 use Rattle.ghc_records.specs.UseIndex.{StepBinds}
 use Rattle.ghc_records.proofs.OrderLemmas.{record_once}
 use Rattle.ghc_records.proofs.SlotLemmas.{stands_held}
 use Rattle.ghc_records.proofs.SlotClosing.{once_of}
 use Rattle.ghc_depend.proofs.Ahead.{in_inserted}
-use Rattle.ghc_trace.specs.Why.{IsPlaceOfBinder, AreInQuestion}
+use Rattle.ghc_trace.specs.Why.{IsPlaceOfBinder, IsPlaceOfStepOf, AreInQuestion}
 
 -- the places of the steps that bound these variables were put to the old ones
 abbrev pub HasBindersOf : SlotList → List VarName → List ℕ → List ℕ → Type 0
@@ -68,31 +69,55 @@ module _ (ss : SlotList) (distinct : AreDistinct (numbers (held_in ss))) where
       ]),
     )
 
+-- the places of the steps of whose numbers these variables are were put to the old ones
+abbrev pub HasStepsOf : SlotList → List VarName → List ℕ → List ℕ → Type 0
+HasStepsOf ss xs old new = (p : ℕ) → In p new ↔ (In p old ⊎ IsPlaceOfStepOf ss xs p)
+
+pub steps_none : (ss : SlotList) (old : List ℕ) → HasStepsOf ss [] old old
+steps_none ss old p = (λ i. inl i, λ c. elim c [ inl i ↦ i | inr b ↦ absurd b.1 ])
+
+pub step_more : (ss : SlotList) (xs : List VarName) (x : VarName) (old ks new : List ℕ) → HasStepsOf ss xs old ks → ((p : ℕ) → In p new ↔ (In p ks ⊎ HasNumberIn ss p x.step)) → HasStepsOf ss (xs ++ x ∷ []) old new
+step_more ss xs x old ks new has added p = (
+  λ i. elim ((added p).0 i) [
+    | inl j ↦ elim ((has p).0 j) [ inl k ↦ inl k | inr b ↦ inr (b.0, in_left xs (x ∷ []) b.0 b.1, b.2) ]
+    | inr q ↦ inr (x, in_last xs x, q)
+  ],
+  λ c. (added p).1 (elim c [
+    | inl j ↦ inl ((has p).1 (inl j))
+    | inr b ↦ elim (in_more xs x b.0 b.1) [ inl i ↦ inl ((has p).1 (inr (b.0, i, b.2))) | inr e ↦ inr (subst (λ (z : VarName). HasNumberIn ss p z.step) e b.2) ]
+  ]),
+)
+
+-- The places are those of the steps of which one may have made the goal that the step consumed.
+abbrev pub HasMakerOf : SlotList → Record → List ℕ → Type 0
+HasMakerOf ss step places = ((p : ℕ) → In p places → (a : Record) × StandsIn ss p a) × ((a : Record) (p : ℕ) → StandsIn ss p a → Consumes step a → In p places)
+
+pub has_maker : (ss : SlotList) (step : Record) (g : GoalName) (places : List ℕ) → step.goal ≡ Some g → ((p : ℕ) → In p places ↔ (In p [] ⊎ HasNumberIn ss p g.step)) → HasMakerOf ss step places
+has_maker ss step g places named made = (
+  λ p i. elim ((made p).0 i) [ inl never ↦ absurd never | inr a ↦ (a.0, a.1) ],
+  λ a p at c.
+      let same : Some g ≡ Some c.0 = sym named ∙ c.1 in
+      let name : g ≡ c.0 = cc in
+      (made p).1 (inr (a, at, sym c.2.0 ∙ ap (λ (z : GoalName). z.step) (sym name))),
+)
+
+pub has_no_maker : (ss : SlotList) (step : Record) (places : List ℕ) → step.goal ≡ None → places ≡ [] → HasMakerOf ss step places
+has_no_maker ss step places named none = (
+  λ p i. absurd (subst (In p) none i),
+  λ a p at c. let clash : None ≡ Some c.0 = sym named ∙ c.1 in cc,
+)
+
 -- what was added are the places in question
-module _ (ss : SlotList) (step : Record) (xs : List VarName) (all : set.from_list xs ≡ step.effect.reads) where
-  read_there : (old new : List ℕ) → HasBindersOf ss xs old new → (a : Record) (p : ℕ) → StandsIn ss p a → (x : VarName) → ReadsFrom step a x → In p new
-  read_there old new has a p at x reads = (has p).1 (inr (a, x, at, is_member step.effect.reads xs all x reads.0, reads.1))
-
-  pub all_in_question : (g : GoalName) (old new : List ℕ) → step.goal ≡ Some g → ((p : ℕ) → In p old ↔ (In p [] ⊎ HasNumberIn ss p g.step)) → HasBindersOf ss xs old new → AreInQuestion ss step new
-  all_in_question g old new named made has = (
-    λ p i. elim ((has p).0 i) [
-      | inl j ↦ elim ((made p).0 j) [ inl never ↦ absurd never | inr a ↦ (a.0, a.1) ]
-      | inr b ↦ (b.0, b.2)
-    ],
-    λ a p at u. elim u [
-      | inl c ↦
-          let same : Some g ≡ Some c.0 = sym named ∙ c.1 in
-          let name : g ≡ c.0 = cc in
-          (has p).1 (inl ((made p).1 (inr (a, at, sym c.2.0 ∙ ap (λ (z : GoalName). z.step) (sym name)))))
-      | inr r ↦ read_there old new has a p at r.0 r.1
-    ],
-  )
-
-  pub all_read : (new : List ℕ) → step.goal ≡ None → HasBindersOf ss xs [] new → AreInQuestion ss step new
-  all_read new named has = (
-    λ p i. elim ((has p).0 i) [ inl never ↦ absurd never | inr b ↦ (b.0, b.2) ],
-    λ a p at u. elim u [
-      | inl c ↦ let clash : None ≡ Some c.0 = sym named ∙ c.1 in cc
-      | inr r ↦ read_there [] new has a p at r.0 r.1
-    ],
-  )
+pub all_in_question : (ss : SlotList) (step : Record) (xs : List VarName) (old mid new : List ℕ) → set.from_list xs ≡ step.effect.reads
+    → HasMakerOf ss step old → HasBindersOf ss xs old mid → HasStepsOf ss (variables_asked step.act) mid new → AreInQuestion ss step new
+all_in_question ss step xs old mid new all maker binders steps = (
+  λ p i. elim ((steps p).0 i) [
+    | inl j ↦ elim ((binders p).0 j) [ inl k ↦ maker.0 p k | inr b ↦ (b.0, b.2) ]
+    | inr b ↦ (b.2.0, b.2.1)
+  ],
+  λ a p at u. (steps p).1 (elim u [
+    | inl c ↦ inl ((binders p).1 (inl (maker.1 a p at c)))
+    | inr (inl r) ↦ inl ((binders p).1 (inr (a, r.0, at, is_member step.effect.reads xs all r.0 r.1.0, r.1.1)))
+    | inr (inr n) ↦ inr (n.0, n.1.0.0, (a, at, sym n.1.1.0))
+  ]),
+)

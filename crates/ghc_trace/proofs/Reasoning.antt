@@ -12,7 +12,7 @@ use Rattle.ghc_records.specs.Slots.{SlotList, held_in}
 use Rattle.ghc_records.proofs.SlotRanks.{rank, rank_stands, rank_back, of_map, map_of}
 use Rattle.ghc_depend.specs.declared.cause.Cause.{Cause}
 use Rattle.ghc_depend.specs.Depend.{DependsOn, IsKeptAs}
-use Rattle.ghc_depend.specs.Cause.{HasCause, by_making, by_reading, IsDirect}
+use Rattle.ghc_depend.specs.Cause.{HasCause, by_making, by_reading, by_naming, IsDirect}
 use Rattle.ghc_depend.proofs.Picking.{pick_last, leave_last}
 use Rattle.ghc_depend.proofs.Causes.{at_split}
 use Rattle.ghc_trace.specs.declared.reasons.Reason.{Reason}
@@ -29,7 +29,8 @@ pub record Gathered (kept : List Record) (b : Record) (i : ℕ) (items : List Re
 -- what has a cause depends
 depends : {kept : List Record} {b a : Record} {cause : Cause} → HasCause kept b a cause → DependsOn kept b a
 depends (by_making p c) = (p, inl c)
-depends (by_reading {x = x} p n l w) = (p, inr (x, l.0))
+depends (by_reading {x = x} p n l w) = (p, inr (inl (x, l.0)))
+depends (by_naming {x = x} p n u l) = (p, inr (inr (x, l.0)))
 
 module _ (kept : List Record) (distinct : AreDistinct (numbers kept)) (n : ℕ) (b : Record) (own : IsKeptAs kept n b) where
   module _ (i : ℕ) (items : List Reason) (g : Gathered kept b i items) where

@@ -84,7 +84,7 @@ module _ (rs : List Record) (root g : GoalName) (other : ¬ (g ≡ root)) where
 pub nearer : (P : Program) (query : Query) (rs : List Record) (t : State) → Replays P query rs t → (maker : Record) (g h : GoalName) → In maker rs → MakesGoal maker g → maker.goal ≡ Some h → far rs h.step < far rs g.step
 nearer P query rs t replay maker g h i makes e =
     let p = place_of P query rs t replay maker i in
-    let there = taken P p.state maker p.fires in
+    let there = taken P p.state maker p.fires h e in
     let name : there.name ≡ h = same_value there.named e in
     let old = is_old query p.before p.state p.results there.name there.goal there.there in
     let own : far rs g.step ≡ suc (length p.before) =

@@ -31,6 +31,10 @@ fn write_cause(cause: Cause, out: &mut String) -> Result<(), AllocError>
             push_variable(variable, out)?;
             write_woke(woke, out)
         }
+        Cause::Named { variable } => {
+            out.push_str("named ")?;
+            push_variable(variable, out)
+        }
     }
 }
 
@@ -44,8 +48,8 @@ fn write_reason(reason: Reason, out: &mut String) -> Result<(), AllocError>
     write_cause(reason.cause, out)
 }
 
-/// Writes a reason at the end of `out`, which stays as it was where memory is refused: `3 made`, `2 read _0_2`, or
-/// `2 read _0_2 woke`. The cost is that of the text.
+/// Writes a reason at the end of `out`, which stays as it was where memory is refused: `3 made`, `2 read _0_2`,
+/// `2 read _0_2 woke`, or `1 named _1_1`. The cost is that of the text.
 pub fn push_reason(reason: Reason, out: &mut String) -> Result<(), AllocError>
     ensures { string_bytes out.new ≡ (if is_ok result then string_bytes out.old ++ reason_text reason else string_bytes out.old) }
 {

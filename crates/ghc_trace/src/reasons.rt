@@ -3,7 +3,7 @@ ghost use Rattle.std.specs.Prelude.{◌≡◌, ◌⊎◌, ◌↔◌, ℕ, IfOk, 
 ghost use Rattle.ghc_term.specs.Lists.{In};
 ghost use Rattle.ghc_records.specs.Slots.{HasNumberIn};
 ghost use Rattle.ghc_depend.specs.Depend.{IsNotKept};
-ghost use Rattle.ghc_trace.specs.Why.{AreReasonsTold, IsPlaceOfBinder, AreInQuestion};
+ghost use Rattle.ghc_trace.specs.Why.{AreReasonsTold, IsPlaceOfBinder, IsPlaceOfStepOf, AreInQuestion};
 
 use ghc_depend::{Cause, direct};
 use ghc_records::{Record, Records};
@@ -49,7 +49,22 @@ fn add_binders(
     Ok(())
 }
 
-// The places of the steps that the step may depend on: the one whose number its goal names, and those that bound what it read.
+// Adds the places of the steps of whose numbers these variables are: one look-up for each.
+fn add_steps_of(
+    places: &mut BTreeSet<usize>,
+    records: &Records,
+    xs: &[VarName],
+) -> Result<(), AllocError>
+    ensures { OnOk result ((p : ℕ) → In p places.new.keys ↔ (In p places.old.keys ⊎ IsPlaceOfStepOf records.now.slots xs.now p)) }
+{
+    for x in xs {
+        add_place(places, records, x.step)?;
+    }
+    Ok(())
+}
+
+// The places of the steps that the step may depend on: the one whose number its goal names, those that bound what it read, and
+// those of whose numbers the variables are that stand in what it asks for.
 fn in_question(
     alloc: Global,
     records: &Records,
@@ -63,12 +78,14 @@ fn in_question(
         add_place(&mut places, records, goal.step)?;
     }
     add_binders(&mut places, records, step.effect().reads().members())?;
+    add_steps_of(&mut places, records, step.act().variables())?;
     Ok(places)
 }
 
 /// The steps on which the kept step of this number depends directly, in recorded order, each with its cause. `NotKept` exactly
 /// where it is not kept, which is told before memory is asked for; else it fails for want of memory alone. It costs two look-ups
-/// for each variable that the step read, and for each step that bound one what `direct` costs.
+/// for each variable that the step read, one for each that stands in what it asks for, and for each step so found what `direct`
+/// costs.
 pub fn why(alloc: Global, records: &Records, number: u32) -> Result<Vec<Reason>, Fault>
     ensures found { IfOk result (λ reasons. AreReasonsTold records.now.held number reasons.items) }
     ensures not_kept { IsNotKept records.now.held number → result ≡ Err Fault.NotKept }
