@@ -4,7 +4,7 @@ use Rattle.std.specs.Prelude.{MatchBool}
 use mathlib.Core.List.{IsPrefix}
 use Rattle.ghc_records.specs.Journal.{Entry, Item, entered}
 use Rattle.ghc_core.specs.World.{World}
-use Rattle.ghc_core.specs.HistoryLaws.{LegalIsReachable}
+use Rattle.ghc_core.specs.HistoryLaws.{LegalIsReachable, LeavesIsOne}
 use Rattle.ghc_core.specs.EventCode.{reply_of}
 use Rattle.ghc_core.specs.Legal.{Leaves, Begins, entry_count, Receipt, IsAccepted, IsTold, IsAnswered}
 use Rattle.ghc_core.specs.declared.reply.Reply.{Reply}
@@ -12,7 +12,7 @@ use Rattle.ghc_shared.specs.declared.receipt.Receipt as given
 use Rattle.ghc_shared.specs.declared.calls.Call.{Call}
 use Rattle.ghc_shared.specs.Passes.{Known}
 use Rattle.ghc_shared.specs.Receipts.{IsAcceptedCall, IsRefusedCall, IsDecided}
-use Rattle.ghc_shared.specs.Calls.{hands_of, event_of, receipt_behind, receipt_of, IsAnswerTo}
+use Rattle.ghc_shared.specs.Calls.{hands_of, event_of, receipt_behind, receipt_of, IsToldAnyway, IsAnswerTo, IsToldOnFront}
 
 -- the entries of a history are all its items but the opening
 pub entries_counted : (es : List Entry) → entry_count (map entered es) ≡ length es
@@ -53,6 +53,13 @@ module _ (law : LegalIsReachable) (call : Call) (before : List Item) (receipt : 
           IsAnswered.accepted before is.0 (subst (λ (r : Receipt). IsAccepted before (hands_of call) (event_of call) r is.0) (same_receipt is.2.before is.2.legal decided.place) is.2) known
           (d.front ∙ ap (λ (i : Item). before ++ i ∷ []) is.1)
       told false d =
-          let is = d.answer in
+          let is = d.answer.told in
           subst (λ (l : List Item). IsAnswered (Unit {0}) old.front l (hands_of call) (event_of call) (receipt_of receipt)) (sym d.front)
           (IsAnswered.told (subst (λ (r : Receipt). IsTold (Unit {0}) before (hands_of call) (event_of call) r) (same_receipt is.before is.legal decided.place) is) known)
+
+-- a call that was not accepted is told what it is refused for anyway
+pub told_anyway : LeavesIsOne → (call : Call) (before : List Item) (receipt : given.Receipt Reply) (old new : Known Item) → IsDecided IsAnswerTo before call receipt old new → IsToldOnFront new.front call receipt
+told_anyway one call before receipt old new decided w off leaves =
+    let d : IsRefusedCall IsAnswerTo before call receipt.reply old new = rw off at decided.decided in
+    let same : d.answer.told.before ≡ w = one before d.answer.told.before w d.answer.told.legal (subst (λ (l : List Item). Leaves l w) d.front leaves) in
+    subst (λ (u : World). IsToldAnyway u call receipt.reply) same d.answer.anyway

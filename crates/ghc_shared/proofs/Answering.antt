@@ -1,24 +1,27 @@
 -- What a call does to the history of a core.
-use Rattle.std.proofs.Common.{◌≡◌, ◌⊎◌, ◌++◌, ℕ, List, [], ◌∷◌, refl, sym, ap, subst, subst₂, Some, Bool, true, false, arith}
+use Rattle.std.proofs.Common.{◌≡◌, ◌⊎◌, ◌++◌, ◌∙◌, ℕ, List, [], ◌∷◌, refl, sym, ap, subst, subst₂, inl, inr, Some, None, Result, Err, Bool, true, false, arith}
 use Rattle.std.proofs.lemmas.List.{map-append}
 use Rattle.std.specs.Prelude.{MatchBool}
 use Rattle.std.specs.FinMap as finite
 use Rattle.std.specs.Cmp.{nat_cmp_total}
 use Rattle.ghc_term.specs.declared.fault.Fault.{Fault}
 use Rattle.ghc_records.specs.Journal.{Opening, Entry, opened, entered, history}
-use Rattle.ghc_core.specs.World.{Proposal, Hands, IsHand, emptied, World}
+use Rattle.ghc_core.specs.World.{Proposal, Hands, no_hands, IsHand, emptied, World}
 use Rattle.ghc_core.specs.Core.{IsCommitted}
-use Rattle.ghc_core.specs.Events.{commit, stepped, refused}
+use Rattle.ghc_core.specs.CommandCode.{command_of}
+use Rattle.ghc_core.specs.Events.{commit, command, stepped, refused}
 use Rattle.ghc_core.specs.Proposes.{CommitFails}
-use Rattle.ghc_core.specs.Answers.{hands_after, Answers, no_memory}
+use Rattle.ghc_core.specs.Answers.{Fails, hands_after, Answers, fails, no_memory}
+use Rattle.ghc_core.specs.Anyway.{IsNotCommittedAnyway}
 use Rattle.ghc_core.proofs.Replying.{hand_commits, hand_gives_up}
 use Rattle.ghc_core.specs.Legal.{Leaves}
 use Rattle.ghc_core.specs.Playing.{tells_change, AddsWhatItTells, AnswersAddWhatTheyTell}
 use Rattle.ghc_core.specs.EventCode.{reply_of}
 use Rattle.ghc_core.specs.declared.reply.Reply.{Reply}
+use Rattle.ghc_core.specs.declared.command.Command.{Command}
 use Rattle.ghc_shared.specs.declared.calls.Call.{Call}
 use Rattle.ghc_shared.specs.Receipts.{AddsIfAccepted}
-use Rattle.ghc_shared.specs.Calls.{holding, hands_of, event_of, IsAnswerTo}
+use Rattle.ghc_shared.specs.Calls.{holding, hands_of, event_of, IsToldAnyway, IsAnswerTo}
 
 -- want of memory is an answer to each call
 pub starved : (w : World) (call : Call) → (left : Hands) × Answers (Unit {0}) w (hands_of call) (event_of call) (refused Fault.Memory) w left
@@ -39,15 +42,31 @@ commits w v p n committed = hand_commits w (holding p) 1 (one_hand p) p n v (emp
 pub gives_up : (w v : World) (p : Proposal) (f : Fault) → (f ≡ Fault.Memory) ⊎ CommitFails w p f → v ≡ w → Answers (Unit {0}) w (holding p) (commit 1) (refused f) v (emptied 1 (holding p))
 gives_up w v p f why stays = hand_gives_up w (holding p) 1 (one_hand p) p f v (emptied 1 (holding p)) (held_there p) why stays refl
 
+-- a command is refused
+pub not_obeyed : (w : World) (c : Command) (f : Fault) → (f ≡ Fault.Memory) ⊎ Fails w (command_of c) f → Answers (Unit {0}) w no_hands (command (command_of c)) (refused f) w no_hands
+not_obeyed w c f (inl starves) = subst (λ (x : Fault). Answers (Unit {0}) w no_hands (command (command_of c)) (refused x) w no_hands) (sym starves) (no_memory tt)
+not_obeyed w c f (inr why) = fails tt why
+
+-- the commit is refused whatever memory is left where its goal is gone, and for nothing else
+gone_alone : (w : World) (p : Proposal) (f : Fault) → IsNotCommittedAnyway w (holding p) 1 f → (f ≡ Fault.Stale) × (finite.get w.state.goals p.goal ≡ None)
+gone_alone w p f (IsNotCommittedAnyway.no_hand n) = absurd (n (one_hand p))
+gone_alone w p f (IsNotCommittedAnyway.empty i e) = let clash : Some p ≡ None = sym (held_there p) ∙ e in cc
+gone_alone w p f (IsNotCommittedAnyway.gone q i e g) =
+    let same : Some q ≡ Some p = sym e ∙ held_there p in
+    let one : q ≡ p = cc in (refl, subst (λ (x : Proposal). finite.get w.state.goals x.goal ≡ None) one g)
+
+pub told_gone : {X : Type 0} (w : World) (p : Proposal) (result : Result X Fault) (f : Fault) → (finite.get w.state.goals p.goal ≡ None → result ≡ Err Fault.Stale) → IsNotCommittedAnyway w (holding p) 1 f → result ≡ Err f
+told_gone w p result f said anyway = let is = gone_alone w p f anyway in said is.1 ∙ ap (λ (x : Fault). Err x) (sym is.0)
+
 -- the history of a journal with one more entry
 history_push : (o : Opening) (es : List Entry) (e : Entry) → history o (es ++ e ∷ []) ≡ history o es ++ entered e ∷ []
 history_push o es e = ap (λ items. opened o ∷ items) (map-append entered es (e ∷ []))
 
 -- a call was accepted where its reply tells of a change, and adds its entry then
 pub called : AnswersAddWhatTheyTell → (w v : World) (call : Call) (reply : Reply) (left : Hands) (accepted : Bool) → accepted ≡ tells_change (reply_of reply) → Leaves (history w.opening w.journal) w
-    → Answers (Unit {0}) w (hands_of call) (event_of call) (reply_of reply) v left
+    → Answers (Unit {0}) w (hands_of call) (event_of call) (reply_of reply) v left → IsToldAnyway w call reply
     → AddsIfAccepted IsAnswerTo accepted (history w.opening w.journal) (history v.opening v.journal) call reply
-called law w v call reply left accepted is legal answer =
+called law w v call reply left accepted is legal answer anyway =
     subst (λ b. AddsIfAccepted IsAnswerTo b (history w.opening w.journal) (history v.opening v.journal) call reply) (sym is) (told (tells_change (reply_of reply)) does.1)
   where
     does : AddsWhatItTells w (hands_of call) (event_of call) (reply_of reply) v left
@@ -62,5 +81,5 @@ called law w v call reply left accepted is legal answer =
     )
     told false d = (
       subst₂ (λ o es. history o es ≡ history w.opening w.journal) (sym does.0) (sym d) refl,
-      record { before = w; after = v; left = left; legal = legal; place = refl; answer = answer; adds_nothing = d },
+      record { told = record { before = w; after = v; left = left; legal = legal; place = refl; answer = answer; adds_nothing = d }; anyway = anyway },
     )

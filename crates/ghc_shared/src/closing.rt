@@ -23,6 +23,7 @@ impl<C: Growing + Drop, N: Naming> Shared<C, N> {
     pub fn close(self, passes: Vec<Pass<C, N>>) -> C
         requires all { AreAll N.passes 0 passes.items }
         requires parts { N.parts ≡ N.passes + 1 }
+        ensures opened { C.opened result ≡ N.opened }
         ensures legal { C.legal (C.history result) }
         ensures longer { N.base ≤ length (C.history result) }
         ensures begins { All (λ p. IsPrefix p.front (C.history result)) passes.items }

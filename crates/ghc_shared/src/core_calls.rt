@@ -9,14 +9,14 @@ ghost use Rattle.ghc_core.specs.Legal.{IsLegal, IsAnswered, Shows};
 ghost use Rattle.ghc_core.specs.CommandCode.{command_of};
 ghost use Rattle.ghc_shared.specs.declared.calls.Call.TheVariants.{Submit as submitted, Note as asked_note, Command as asked};
 ghost use Rattle.ghc_shared.specs.Receipts.{IsDecided};
-ghost use Rattle.ghc_shared.specs.Calls.{holding, receipt_of, IsAnswerTo, IsProposal};
+ghost use Rattle.ghc_shared.specs.Calls.{holding, hands_of, event_of, receipt_of, IsAnswerTo, IsToldOnFront, IsProposal};
 
 use crate::calls::Call;
 use crate::naming::Naming;
 use crate::pass::Pass;
 use crate::receipt::Receipt;
 use crate::shared::Shared;
-use ghc_core::{Command, Core, Reply, legal_is_reachable};
+use ghc_core::{Command, Core, Reply, leaves_is_one, legal_is_reachable};
 use ghc_fire::{Meter, Proposal};
 use ghc_term::{Fault, GoalName};
 use std::alloc::{AllocError, Global};
@@ -32,7 +32,7 @@ pub struct Shown {
 impl<N: Naming> Shared<Core, N> {
     /// Proposes a step of the goal, with a clause chosen or not, and counts a firing on the meter given. It is what an attempt on
     /// the core answers, under the read side of the lock: any number of threads propose side by side, and no pass sees anything by
-    /// it. (That the core is the present one no clause can say.)
+    /// it. (That the core is the present one, and not only of the same opening, no clause can say.)
     pub fn propose<R: Wait>(
         &self,
         rt: &R,
@@ -41,7 +41,7 @@ impl<N: Naming> Shared<Core, N> {
         goal: GoalName,
         choice: Option<u32>,
     ) -> Result<Proposal, Fault>
-        ensures answer { (w : World) × IsProposal w goal choice result }
+        ensures answer { (w : World) × IsProposal N.opened w goal choice result }
         ensures counted { meter.new ≡ fired meter.old }
     {
         let held = self.lock.read(rt);
@@ -50,8 +50,29 @@ impl<N: Naming> Shared<Core, N> {
         core.attempt(alloc, meter, goal, choice)
     }
 
+    // Asks the core, and tells it by the core's words.
+    fn ask<R: Wait>(
+        &self,
+        rt: &R,
+        alloc: Global,
+        me: &mut Pass<Core, N>,
+        call: Call,
+    ) -> Receipt<Reply>
+        ensures begins { IsPrefix me.old.front me.new.front }
+        ensures number { me.new.number ≡ me.old.number }
+        ensures legal { IsLegal me.new.front }
+        ensures decided { (before : List Item) × IsDecided IsAnswerTo before call result me.old me.new }
+        ensures answered { IsAnswered (Unit {0}) me.old.front me.new.front (hands_of call) (event_of call) (receipt_of result) }
+        ensures anyway { IsToldOnFront me.new.front call result }
+    {
+        legal_is_reachable();
+        leaves_is_one();
+        self.call(rt, alloc, me, call)
+    }
+
     /// Takes the step that was proposed, as a commit of the core does. Accepted, its entry is the last item of the pass's front; a
-    /// refusal, want of memory too, is the receipt's reply. Places count the opening, which is the first item.
+    /// refusal, want of memory too, is the receipt's reply, and that the goal is gone is told whatever memory is left. The receipt's
+    /// place counts the opening, which is the first item: `answered` speaks of the place among the entries, which is one less.
     pub fn submit<R: Wait>(
         &self,
         rt: &R,
@@ -63,14 +84,14 @@ impl<N: Naming> Shared<Core, N> {
         ensures number { me.new.number ≡ me.old.number }
         ensures legal { IsLegal me.new.front }
         ensures decided { (before : List Item) × IsDecided IsAnswerTo before (submitted proposal) result me.old me.new }
+        ensures anyway { IsToldOnFront me.new.front (submitted proposal) result }
         ensures answered { IsAnswered (Unit {0}) me.old.front me.new.front (holding proposal) (committed 1) (receipt_of result) }
     {
-        legal_is_reachable();
-        self.call(rt, alloc, me, Call::Submit(proposal))
+        self.ask(rt, alloc, me, Call::Submit(proposal))
     }
 
     /// Tries the goal and notes what was found, as the core does. It adds no entry: the reply is the status of the goal behind just
-    /// the pass's front, or a refusal.
+    /// the pass's front, or a refusal; that there is no goal to try is told whatever memory is left. The receipt's place is as at `submit`.
     pub fn note<R: Wait>(
         &self,
         rt: &R,
@@ -82,14 +103,15 @@ impl<N: Naming> Shared<Core, N> {
         ensures number { me.new.number ≡ me.old.number }
         ensures legal { IsLegal me.new.front }
         ensures decided { (before : List Item) × IsDecided IsAnswerTo before (asked_note goal) result me.old me.new }
+        ensures anyway { IsToldOnFront me.new.front (asked_note goal) result }
         ensures answered { IsAnswered (Unit {0}) me.old.front me.new.front no_hands (noted goal) (receipt_of result) }
     {
-        legal_is_reachable();
-        self.call(rt, alloc, me, Call::Note(goal))
+        self.ask(rt, alloc, me, Call::Note(goal))
     }
 
     /// Does what the command says, as the core does. Accepted, its entry is the last item of the pass's front; a refusal, want of
-    /// memory too, is the receipt's reply.
+    /// memory too, is the receipt's reply, and what the core refuses whatever memory is left is told so. The receipt's place is as at
+    /// `submit`.
     pub fn command<R: Wait>(
         &self,
         rt: &R,
@@ -101,10 +123,10 @@ impl<N: Naming> Shared<Core, N> {
         ensures number { me.new.number ≡ me.old.number }
         ensures legal { IsLegal me.new.front }
         ensures decided { (before : List Item) × IsDecided IsAnswerTo before (asked command) result me.old me.new }
+        ensures anyway { IsToldOnFront me.new.front (asked command) result }
         ensures answered { IsAnswered (Unit {0}) me.old.front me.new.front no_hands (commanded (command_of command)) (receipt_of result) }
     {
-        legal_is_reachable();
-        self.call(rt, alloc, me, Call::Command(command))
+        self.ask(rt, alloc, me, Call::Command(command))
     }
 
     /// The pass sees the history as it is now, and is shown how many entries that is, and which steps are kept behind it. Where

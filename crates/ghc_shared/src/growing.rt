@@ -1,4 +1,5 @@
 // Values that can be shared.
+ghost use base.Stored.{Gv};
 ghost use Rattle.std.specs.Prelude.{◌≡◌, List, Option, None, length};
 ghost use Rattle.ghc_shared.specs.Receipts.{AddsIfAccepted};
 
@@ -18,15 +19,20 @@ pub trait Growing {
     /// The history: how the value began, and behind it an item for each accepted call, in their order.
     ghost history: { Self → List Self.Item };
 
+    /// The code of how the value began, which no call changes.
+    ghost opened: { Self → Gv };
+
     /// The history is one that can be.
     ghost legal: { List Self.Item → Type 0 };
 
     /// What may be replied to a call behind these items: with the item that it adds, where it is accepted, and else with none.
     ghost answers: { List Self.Item → Self.Ask → Self.Reply → Option Self.Item → Type 0 };
 
-    /// The reply to a call for which there is no memory. It takes none.
-    fn no_memory(&self, ask: &Self::Ask) -> Self::Reply
-        ensures { answers (history self.now) ask.now result None };
+    /// The reply to a call whose place there is no room for: it is not made, and the history stays.
+    fn refuse(&mut self, alloc: Global, ask: &Self::Ask) -> Self::Reply
+        ensures same { history self.new ≡ history self.old }
+        ensures opened { opened self.new ≡ opened self.old }
+        ensures reply { answers (history self.old) ask.now result None };
 
     /// How many items the history has. It is asked twice in each call, so it should cost no more than a look.
     fn len(&self) -> u64
@@ -35,5 +41,6 @@ pub trait Growing {
 
     /// Makes a call, and says beside the reply whether it was accepted. Where memory is refused, so is the call.
     fn call(&mut self, alloc: Global, ask: Self::Ask) -> (Self::Reply, bool)
-        ensures { AddsIfAccepted answers result.1 (history self.old) (history self.new) ask result.0 };
+        ensures adds { AddsIfAccepted answers result.1 (history self.old) (history self.new) ask result.0 }
+        ensures opened { opened self.new ≡ opened self.old };
 }

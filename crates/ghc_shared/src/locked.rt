@@ -37,7 +37,7 @@ impl<C: Growing, N: Naming> Model for Locked<C, N> {
 
     ghost view = { λ l. l.value };
 
-    ghost invariant = { λ l. MatchOption l.held ⊥ (λ h. (h.seat.table_id ≡ N.table) × IsKeeper N.base N.passes (C.history l.value) h.seat.me h.book.total) };
+    ghost invariant = { λ l. (C.opened l.value ≡ N.opened) × MatchOption l.held ⊥ (λ h. (h.seat.table_id ≡ N.table) × IsKeeper N.base N.passes (C.history l.value) h.seat.me h.book.total) };
 }
 
 impl<C: Growing, N: Naming> Locked<C, N> {
@@ -136,19 +136,20 @@ fn call_with<C: Growing>(
 ) -> (Receipt<C::Reply>, u64)
     ensures place { result.0.place ≡ length (C.history value.old) }
     ensures call { AddsIfAccepted C.answers result.0.accepted (C.history value.old) (C.history value.new) ask result.0.reply }
+    ensures opened { C.opened value.new ≡ C.opened value.old }
     ensures room { IsTrue result.0.accepted → IsTrue room }
     ensures count { result.1 ≡ length (C.history value.new) }
     ensures legal { C.legal (C.history value.new) }
 {
     let place = value.len();
     if !room {
-        let reply = value.no_memory(&ask);
+        let reply = value.refuse(alloc, &ask);
         let receipt = Receipt {
             place,
             accepted: false,
             reply,
         };
-        return (receipt, place);
+        return (receipt, value.len());
     }
     let (reply, accepted) = value.call(alloc, ask);
     let receipt = Receipt {

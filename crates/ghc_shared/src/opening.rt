@@ -69,6 +69,7 @@ impl<C: Growing + Drop> Opening<C> {
         requires table { self.table ≡ N.table }
         requires ledger { (self.name ≡ N.name) × (self.passes + 1 ≡ N.parts) }
         requires passes { self.passes ≡ N.passes }
+        requires opened { C.opened self.value ≡ N.opened }
         requires base { length (C.history self.value) ≡ N.base }
         ensures passes { IfOk result (λ r. r.1.items ≡ newcomers (C.history self.value) N.passes) }
         ensures all { IfOk result (λ r. AreAll N.passes 0 r.1.items) }

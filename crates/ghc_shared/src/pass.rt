@@ -32,7 +32,8 @@ impl<C: Growing, N: Naming> Model for Pass<C, N> {
 }
 
 impl<C: Growing, N: Naming> Pass<C, N> {
-    /// The places of the calls that were accepted from this pass, in their order. The items that these calls added stand there.
+    /// The places of the calls that were accepted from this pass, in their order. The items that these calls added stand there; of a
+    /// core the opening stands at place 0, and the first entry of the journal at place 1.
     pub fn places(&self) -> &[u64]
         ensures places { result.now ≡ self.now.places }
         ensures rising { IsStrictlyIncreasing self.now.places }

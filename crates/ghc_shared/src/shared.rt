@@ -41,7 +41,7 @@ impl<C: Growing, N: Naming> Shared<C, N> {
 
     /// Makes a call of the value, and gives its receipt: accepted, the call is the last item of the pass's front, at the receipt's
     /// place; refused, it was decided on just the pass's front. Where memory is refused for the place that the pass is to keep, the
-    /// reply is the value's for want of memory. It costs the value's call, two looks at its length, and a few steps on one word.
+    /// value refuses the call. It costs the value's call, two looks at its length, and a few steps on one word.
     pub fn call<R: Wait>(
         &self,
         rt: &R,

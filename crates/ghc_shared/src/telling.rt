@@ -5,7 +5,7 @@ ghost use Rattle.ghc_core.specs.Answers.{Answers};
 ghost use Rattle.ghc_core.specs.EventCode.{reply_of};
 ghost use Rattle.ghc_core.specs.Legal.{IsLegal};
 ghost use Rattle.ghc_core.specs.World.{Hands};
-ghost use Rattle.ghc_shared.specs.Calls.{hands_of, event_of, IsAnswerTo};
+ghost use Rattle.ghc_shared.specs.Calls.{hands_of, event_of, IsToldAnyway, IsAnswerTo, code_of};
 
 use crate::calls::{Call, HistoryItem};
 use crate::growing::Growing;
@@ -15,7 +15,8 @@ use std::alloc::Global;
 
 // Makes the call, and replies.
 fn reply_to(core: &mut Core, alloc: Global, call: &Call) -> Reply
-    ensures { (left : Hands) × Answers (Unit {0}) core.old.world (hands_of call.now) (event_of call.now) (reply_of result) core.new.world left }
+    ensures answer { (left : Hands) × Answers (Unit {0}) core.old.world (hands_of call.now) (event_of call.now) (reply_of result) core.new.world left }
+    ensures anyway { IsToldAnyway core.old.world call.now result }
 {
     match call {
         Call::Submit(proposal) => match core.commit(alloc, proposal) {
@@ -24,6 +25,25 @@ fn reply_to(core: &mut Core, alloc: Global, call: &Call) -> Reply
         },
         Call::Note(goal) => core.reply_to_note(alloc, *goal),
         Call::Command(command) => core.obey(alloc, command),
+    }
+}
+
+// Tells why the call is refused, and else that there is no memory for it; a note, which takes no place, is made.
+fn refuse_to(core: &mut Core, alloc: Global, call: &Call) -> Reply
+    ensures answer { (left : Hands) × Answers (Unit {0}) core.old.world (hands_of call.now) (event_of call.now) (reply_of result) core.old.world left }
+    ensures anyway { IsToldAnyway core.old.world call.now result }
+    ensures world { core.new.world ≡ core.old.world }
+{
+    match call {
+        Call::Submit(proposal) => match core.prepare(alloc, proposal) {
+            Ok(_addition) => Reply::Refused(Fault::Memory),
+            Err(reason) => Reply::Refused(reason),
+        },
+        Call::Note(goal) => core.reply_to_note(alloc, *goal),
+        Call::Command(command) => match core.prepare_command(alloc, command) {
+            Ok(_change) => Reply::Refused(Fault::Memory),
+            Err(refusal) => Reply::Refused(refusal),
+        },
     }
 }
 
@@ -36,14 +56,15 @@ impl Growing for Core {
 
     ghost history = { λ core. history core.world.opening core.world.journal };
 
+    ghost opened = { λ core. code_of core.world.opening };
+
     ghost legal = { IsLegal };
 
     ghost answers = { IsAnswerTo };
 
-    fn no_memory(&self, ask: &Call) -> Reply {
-        let _ = ask;
+    fn refuse(&mut self, alloc: Global, ask: &Call) -> Reply {
         self.stands();
-        Reply::Refused(Fault::Memory)
+        refuse_to(self, alloc, ask)
     }
 
     fn len(&self) -> u64 {

@@ -1,6 +1,7 @@
 // Four threads take the steps of one core, each by a pass of its own.
 ghost use Rattle.std.specs.Prelude.{◌≡◌, ◌+◌, length};
 ghost use Rattle.ghc_records.specs.Journal.{history};
+ghost use Rattle.ghc_shared.specs.Calls.{code_of};
 ghost use Rattle.ghc_shared.specs.Passes.{AreAll};
 
 use crate::tests::unifications::{goal, hundred};
@@ -189,6 +190,7 @@ fn four_named<N: Naming + Send + Sync, R: Threads + Wait + Abort + Sync>(
     requires table { opening.table ≡ N.table }
     requires ledger { (opening.name ≡ N.name) × (opening.passes + 1 ≡ N.parts) }
     requires passes { opening.passes ≡ N.passes }
+    requires opened { code_of opening.value.world.opening ≡ N.opened }
     requires base { length (history opening.value.world.opening opening.value.world.journal) ≡ N.base }
 {
     let Ok((shared, mut passes)) = opening.named::<N>(alloc) else {

@@ -1,6 +1,7 @@
 // Readers share the lock.
 ghost use Rattle.std.specs.Prelude.{◌≡◌, ◌+◌, length};
 ghost use Rattle.ghc_records.specs.Journal.{history};
+ghost use Rattle.ghc_shared.specs.Calls.{code_of};
 
 use crate::tests::unifications::{goal, hundred};
 use crate::{Naming, Opening, Shared, Tender, tend_all};
@@ -82,6 +83,7 @@ fn held_named<N: Naming + Send + Sync, R: Threads + Wait + Clock + Abort + Sync>
     requires table { opening.table ≡ N.table }
     requires ledger { (opening.name ≡ N.name) × (opening.passes + 1 ≡ N.parts) }
     requires passes { opening.passes ≡ N.passes }
+    requires opened { code_of opening.value.world.opening ≡ N.opened }
     requires base { length (history opening.value.world.opening opening.value.world.journal) ≡ N.base }
 {
     let Ok((shared, _passes)) = opening.named::<N>(alloc) else {

@@ -1,31 +1,48 @@
-use Rattle.std.proofs.Common.{sym, subst}
+use Rattle.std.proofs.Common.{◌≡◌, sym, subst, Ok, Err}
+use Rattle.ghc_term.specs.declared.fault.Fault.{Fault}
 use Rattle.ghc_core.specs.World.{no_hands, emptied}
-use Rattle.ghc_core.specs.Events.{note, stepped, refused}
+use Rattle.ghc_core.specs.Events.{note, Reply, stepped, refused}
 use Rattle.ghc_core.specs.EventCode.{reply_of}
 use Rattle.ghc_core.specs.Answers.{Answers}
+use Rattle.ghc_core.specs.Anyway.{IsRefusedAnyway}
+use Rattle.ghc_core.proofs.CertainRefusals.{note_refused_anyway}
 use Rattle.ghc_core.proofs.Moving.{obeyed_answers, noted_answers}
 use Rattle.ghc_shared.specs.Calls.{holding, hands_of, event_of}
-use Rattle.ghc_shared.proofs.Answering.{commits, gives_up}
+use Rattle.ghc_shared.proofs.Answering.{commits, gives_up, told_gone}
 use Rattle.ghc_shared.proofs.telling.reply_to.Goals as goal
 
-pub returns-in-Ok : goal.returns-in-Ok
-returns-in-Ok c =
+pub returns-in-Ok-clause-answer : goal.returns-in-Ok-clause-answer
+returns-in-Ok-clause-answer c =
     let w = c.args.core.now.world in
     let p = c.in-Submit.proposal in
     let v = c.commit.new.self.world in
     let left = emptied 1 (holding p) in
     (left, subst (λ e. Answers (Unit {0}) w (hands_of e) (event_of e) (stepped c.in-Ok.number) v left) (sym c.in-Submit.is) (commits w v p c.in-Ok.number c.in-Ok.ensures.answer.0))
 
-pub returns-in-Err : goal.returns-in-Err
-returns-in-Err c =
+pub returns-in-Ok-clause-anyway : goal.returns-in-Ok-clause-anyway
+returns-in-Ok-clause-anyway c =
+    let w = c.args.core.now.world in
+    let p = c.in-Submit.proposal in
+    subst (λ e. (f : Fault) → IsRefusedAnyway w (hands_of e) (event_of e) f → stepped c.in-Ok.number ≡ refused f) (sym c.in-Submit.is)
+    (λ f fails. let said = told_gone w p (Ok c.in-Ok.number) f c.in-Ok.ensures.gone fails in cc)
+
+pub returns-in-Err-clause-answer : goal.returns-in-Err-clause-answer
+returns-in-Err-clause-answer c =
     let w = c.args.core.now.world in
     let p = c.in-Submit.proposal in
     let v = c.commit.new.self.world in
     let left = emptied 1 (holding p) in
     (left, subst (λ e. Answers (Unit {0}) w (hands_of e) (event_of e) (refused c.in-Err.fault) v left) (sym c.in-Submit.is) (gives_up w v p c.in-Err.fault c.in-Err.ensures.answer.1 c.in-Err.ensures.stays.world))
 
-pub returns-in-Note : goal.returns-in-Note
-returns-in-Note c =
+pub returns-in-Err-clause-anyway : goal.returns-in-Err-clause-anyway
+returns-in-Err-clause-anyway c =
+    let w = c.args.core.now.world in
+    let p = c.in-Submit.proposal in
+    subst (λ e. (f : Fault) → IsRefusedAnyway w (hands_of e) (event_of e) f → refused c.in-Err.fault ≡ refused f) (sym c.in-Submit.is)
+    (λ f fails. let said = told_gone w p (Err c.in-Err.fault) f c.in-Err.ensures.gone fails in cc)
+
+pub returns-in-Note-clause-answer : goal.returns-in-Note-clause-answer
+returns-in-Note-clause-answer c =
     let w = c.args.core.now.world in
     let v = c.reply_to_note.new.self.world in
     let reply = reply_of c.reply_to_note.result in (
@@ -34,8 +51,20 @@ returns-in-Note c =
           (subst (λ u. Answers (Unit {0}) w no_hands (note c.in-Note.goal) reply u no_hands) (sym c.reply_to_note.ensures.world) (noted_answers no_hands c.reply_to_note.ensures.answer)),
     )
 
-pub returns-in-Command : goal.returns-in-Command
-returns-in-Command c =
+pub returns-in-Note-clause-anyway : goal.returns-in-Note-clause-anyway
+returns-in-Note-clause-anyway c =
+    let w = c.args.core.now.world in
+    let reply = reply_of c.reply_to_note.result in
+    subst (λ e. (f : Fault) → IsRefusedAnyway w (hands_of e) (event_of e) f → reply ≡ refused f) (sym c.in-Note.is) (λ f fails. note_refused_anyway w c.in-Note.goal f reply c.reply_to_note.ensures.no_goal fails)
+
+pub returns-in-Command-clause-answer : goal.returns-in-Command-clause-answer
+returns-in-Command-clause-answer c =
     let w = c.args.core.now.world in
     let v = c.obey.new.self.world in
     (no_hands, subst (λ e. Answers (Unit {0}) w (hands_of e) (event_of e) (reply_of c.obey.result) v no_hands) (sym c.in-Command.is) (obeyed_answers no_hands c.obey.ensures.answer))
+
+pub returns-in-Command-clause-anyway : goal.returns-in-Command-clause-anyway
+returns-in-Command-clause-anyway c =
+    let w = c.args.core.now.world in
+    let reply = reply_of c.obey.result in
+    subst (λ e. (f : Fault) → IsRefusedAnyway w (hands_of e) (event_of e) f → reply ≡ refused f) (sym c.in-Command.is) c.obey.ensures.anyway

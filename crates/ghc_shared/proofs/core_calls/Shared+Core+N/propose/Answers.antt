@@ -3,5 +3,5 @@ use Rattle.ghc_shared.proofs.core_calls.Shared+Core+N.propose.Goals as goal
 pub returns-clause-answer : goal.returns-clause-answer
 returns-clause-answer g c = (
   c.behind-held.inside.value.world,
-  record { standing = c.stands.ensures.standing; answer = c.attempt.ensures.answer; no_goal = c.attempt.ensures.no_goal; no_clause = c.attempt.ensures.no_clause },
+  record { of_opening = c.behind-held.invariant.0; standing = c.stands.ensures.standing; answer = c.attempt.ensures.answer; no_goal = c.attempt.ensures.no_goal; no_clause = c.attempt.ensures.no_clause },
 )

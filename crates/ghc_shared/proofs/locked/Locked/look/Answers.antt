@@ -14,17 +14,17 @@ split_seat-claim-requires g c =
 pub invariant_of-self : goal.invariant_of-self
 invariant_of-self g c =
     let had = rw (sym c.in-Some.ensures.result) at c.self.invariant in
-    let now = sees c.me.invariant.1 had.1 c.split_seat-claim.ensures.4 c.catch_up.ensures.begins c.catch_up.ensures.keeper.1 c.catch_up.ensures.told.1 c.len-count.ensures.legal refl in
-    rw c.replace-2.ensures.new (c.catch_up.ensures.keeper.0 ∙ had.0, now.keeper)
+    let now = sees c.me.invariant.1 had.1.1 c.split_seat-claim.ensures.4 c.catch_up.ensures.begins c.catch_up.ensures.keeper.1 c.catch_up.ensures.told.1 c.len-count.ensures.legal refl in
+    (had.0, rw c.replace-2.ensures.new (c.catch_up.ensures.keeper.0 ∙ had.1.0, now.keeper))
 
 pub invariant_of-me : goal.invariant_of-me
 invariant_of-me g c =
     let had = rw (sym c.in-Some.ensures.result) at c.self.invariant in
-    let now = sees c.me.invariant.1 had.1 c.split_seat-claim.ensures.4 c.catch_up.ensures.begins c.catch_up.ensures.keeper.1 c.catch_up.ensures.told.1 c.len-count.ensures.legal refl in
-    (c.catch_up.ensures.told.0 ∙ had.0, now.pass)
+    let now = sees c.me.invariant.1 had.1.1 c.split_seat-claim.ensures.4 c.catch_up.ensures.begins c.catch_up.ensures.keeper.1 c.catch_up.ensures.told.1 c.len-count.ensures.legal refl in
+    (c.catch_up.ensures.told.0 ∙ had.1.0, now.pass)
 
 pub returns-clause-begins : goal.returns-clause-begins
 returns-clause-begins g c =
     let had = rw (sym c.in-Some.ensures.result) at c.self.invariant in
-    let now = sees c.me.invariant.1 had.1 c.split_seat-claim.ensures.4 c.catch_up.ensures.begins c.catch_up.ensures.keeper.1 c.catch_up.ensures.told.1 c.len-count.ensures.legal refl in
+    let now = sees c.me.invariant.1 had.1.1 c.split_seat-claim.ensures.4 c.catch_up.ensures.begins c.catch_up.ensures.keeper.1 c.catch_up.ensures.told.1 c.len-count.ensures.legal refl in
     subst (λ l. IsPrefix l (items_of c.catch_up.result.me.0.seen)) (ap (λ v. v.front) c.me.view_is) now.begins

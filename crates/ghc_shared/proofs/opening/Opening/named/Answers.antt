@@ -8,7 +8,8 @@ invariant_of-new g c =
     let history = g.C.Growing.history c.self.inside.value in
     let loop = c.loop-number.invariant in
     let base = sym (ap (λ v. length (g.C.Growing.history v.value)) c.self.view_is ∙ c.requires.base) in
-    rw c.new.ensures (loop.0, keeper_is _ g.N.Naming.base g.N.Naming.passes c.loop-number.seat.me c.open-book.result.0.total history loop.1 base c.open-book.ensures.total)
+    let opened = ap (λ v. g.C.Growing.opened v.value) c.self.view_is ∙ c.requires.opened in
+    (opened, rw c.new.ensures (loop.0, keeper_is _ g.N.Naming.base g.N.Naming.passes c.loop-number.seat.me c.open-book.result.0.total history loop.1 base c.open-book.ensures.total))
 
 pub returns-clause-all : goal.returns-clause-all
 returns-clause-all g c =

@@ -7,7 +7,7 @@ use Rattle.ghc_shared.proofs.shared.Shared.close.Goals as goal
 pub returns-clause-once : goal.returns-clause-once
 returns-clause-once g c =
     let base = g.N.Naming.base in
-    let kept = (rw (sym c.in-Some.ensures) at c.value.invariant).1 in
+    let kept = (rw (sym c.in-Some.ensures) at c.value.invariant).1.1 in
     let log = c.in-Some.field-0.seat.me.0.seen in
     let ps = c.args.passes.items in
     let back = c.take_all_back.ensures in

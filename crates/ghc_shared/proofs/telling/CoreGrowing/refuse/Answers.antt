@@ -1,0 +1,17 @@
+use Rattle.std.proofs.Common.{ap, refl}
+use Rattle.ghc_records.specs.Journal.{history}
+use Rattle.ghc_core.specs.World.{World}
+use Rattle.ghc_shared.specs.Calls.{code_of}
+use Rattle.ghc_shared.proofs.telling.CoreGrowing.refuse.Goals as goal
+
+pub returns-clause-same : goal.returns-clause-same
+returns-clause-same c = ap (λ (w : World). history w.opening w.journal) c.refuse_to.ensures.world
+
+pub returns-clause-opened : goal.returns-clause-opened
+returns-clause-opened c = ap (λ (w : World). code_of w.opening) c.refuse_to.ensures.world
+
+pub returns-clause-reply : goal.returns-clause-reply
+returns-clause-reply c =
+    let w = c.args.self.now.world in
+    let s = c.refuse_to.ensures.answer in
+    record { told = record { before = w; after = w; left = s.0; legal = c.stands.ensures.legal; place = refl; answer = s.1; adds_nothing = refl }; anyway = c.refuse_to.ensures.anyway }
