@@ -30,7 +30,7 @@ use Rattle.ghc_core.specs.declared.change.Change.TheVariants.{Adds as adds, Puts
 use Rattle.ghc_core.specs.Change.{Changes}
 use Rattle.ghc_core.specs.Answers.{Fails}
 use Rattle.ghc_core.specs.Asked.{IsAskedFor}
-use Rattle.ghc_core.specs.Load.{AskForGoals, history_of}
+use Rattle.ghc_core.specs.Load.{history_of}
 use Rattle.ghc_trace.specs.Ports.{Port, ArePorts}
 use Rattle.ghc_trace.specs.PortText.{ports_text}
 use Rattle.ghc_trace.specs.News.{Standing, AreNews, news_text}
@@ -161,11 +161,6 @@ pub data RepliesToSpy (P : Program) (f : List ℕ) (n : ℕ) : List ℕ → Type
   is_spied : HasClauseFor P f n → RepliesToSpy P f n (lined (codes "spying " ++ predicate_text f n))
   is_undefined : ¬ HasClauseFor P f n → RepliesToSpy P f n (refusal (Fault.Undefined f n))
 
--- RepliesToSave w text: the text tells the history of the steps that are kept; or one of them asks for goals, which no such text says, and so it is the refusal.
-pub data RepliesToSave (w : World) (text : List ℕ) : Type 0 where
-  tells : ¬ AskForGoals w.kept → text ≡ history_text (history_of w) → RepliesToSave w text
-  tells_none : AskForGoals w.kept → text ≡ refusal (Fault.Limit limit.Version) → RepliesToSave w text
-
 -- Replies spies w c text v: where these predicates are spied, the reply to the command c in the world w is the text, and it leaves the world v.
 abbrev pub Replies : Spies → World → LineCommand → List ℕ → World → Type 0
 Replies spies w nothing text v = (text ≡ []) × (v ≡ w)
@@ -177,7 +172,7 @@ Replies spies w goals text v = RepliesToGoals w text × (v ≡ w)
 Replies spies w (why n) text v = RepliesToWhy w n text × (v ≡ w)
 Replies spies w (who word) text v = RepliesToWho w word text × (v ≡ w)
 Replies spies w shelf text v = (text ≡ shelf_text w.shelf) × (v ≡ w)
-Replies spies w save text v = RepliesToSave w text × (v ≡ w)
+Replies spies w save text v = (text ≡ history_text (history_of w)) × (v ≡ w)
 Replies spies w (spy f n) text v = RepliesToSpy w.opening.program f n text × (v ≡ w)
 Replies spies w (unspy f n) text v = (text ≡ lined (codes "not spying " ++ predicate_text f n)) × (v ≡ w)
 Replies spies w (input k given) text v = RepliesToInput w k given text v
