@@ -1,5 +1,5 @@
 -- What was made by steps that took goals in question is in question.
-use Rattle.std.proofs.Common.{◌≡◌, ℕ, ◌≤◌, [], ◌∷◌, ◌++◌, sym, ap, ◌∙◌, subst, inl, inr, arith, Some, None}
+use Rattle.std.proofs.Common.{◌≡◌, ℕ, ◌≤◌, [], ◌∷◌, ◌++◌, ap, ◌∙◌, inl, inr, arith, Some, None}
 use Rattle.std.specs.Prelude.{Option}
 use Rattle.std.specs.FinMap as finite
 use Rattle.ghc_term.specs.declared.goal_name.GoalName.{GoalName}
@@ -7,9 +7,9 @@ use Rattle.ghc_term.specs.Goal.{Goal}
 use Rattle.ghc_term.proofs.ListsLemmas.{in_either}
 use Rattle.ghc_records.specs.Record.{Record}
 use Rattle.ghc_depend.specs.Depend.{MakesGoal, made_by}
-use Rattle.ghc_depend.proofs.Finding.{same_value, own_made}
-use Rattle.ghc_depend.proofs.Results.{taken, goal_by, of_query}
-use Rattle.ghc_depend.proofs.Placing.{place_of, results_of}
+use Rattle.ghc_depend.proofs.Finding.{own_made}
+use Rattle.ghc_depend.proofs.Results.{goal_by, of_query}
+use Rattle.ghc_depend.proofs.Placing.{results_of}
 use Rattle.ghc_core.specs.World.{World}
 use Rattle.ghc_core.specs.Core.{IsStanding}
 use Rattle.ghc_core.proofs.Reaching.{reached_good}
@@ -23,17 +23,17 @@ use Rattle.ghc_pool.proofs.AtTheEnd.{still_in_question, named_one}
 pub none_since : (root : Option GoalName) (w : World) → IsStanding w → TookInQuestion root w.kept w.next
 none_since root w stands = (
   (reached_good stands).first,
-  λ r i least g e. absurd (let below = standing_below w stands r i in omega (arith, below, least)),
+  λ r i least. absurd (let below = standing_below w stands r i in omega (arith, below, least)),
 )
 
 -- with one more step of the run
 pub one_since : (spies : Spies) (root : Option GoalName) (w : World) (r : Record) (since : ℕ) → IsRunStep spies root w r → TookInQuestion root w.kept since → TookInQuestion root (w.kept ++ r ∷ []) since
 one_since spies root w r since s before = (
   before.0,
-  λ q i least g e. elim (in_either w.kept (r ∷ []) q i) [
-    | inl old ↦ still_in_question root w.kept (r ∷ []) g (before.1 q old least g e)
+  λ q i least. elim (in_either w.kept (r ∷ []) q i) [
+    | inl old ↦ let t = before.1 q old least in (t.0, t.1, still_in_question root w.kept (r ∷ []) t.0 t.2)
     | inr new ↦ elim new [
-      | inl is ↦ still_in_question root w.kept (r ∷ []) g (subst (IsInQuestion root w.kept) (same_value (named_one s) (ap (λ (z : Record). z.goal) (sym is) ∙ e)) s.asked)
+      | inl is ↦ (s.goal, ap (λ (z : Record). z.goal) is ∙ named_one s, still_in_question root w.kept (r ∷ []) s.goal s.asked)
       | inr none ↦ absurd none
     ]
   ],
@@ -47,9 +47,8 @@ made_since (Some named) w since stands took g b e late =
     elim (goal_by w.opening.query w.kept w.state (results_of w.opening.program w.opening.query w.kept w.state replay) g b e) [
       | inl m ↦
           let makes : MakesGoal m.0 g = own_made m.0 g b m.2 in
-          let p = place_of w.opening.program w.opening.query w.kept w.state replay m.0 m.1 in
-          let t = taken w.opening.program p.state m.0 p.fires in
           let of = makes.0 in
-          made_by m.0 m.1 makes t.named (took.1 m.0 m.1 (omega (arith, of, late)) t.name t.named)
+          let t = took.1 m.0 m.1 (omega (arith, of, late)) in
+          made_by m.0 m.1 makes t.1 t.2
       | inr q ↦ let zero = of_query w.opening.query g b q.1 in let least = took.0 in absurd (omega (arith, least, late, zero))
     ]

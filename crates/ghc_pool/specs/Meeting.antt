@@ -17,7 +17,7 @@ use Rattle.ghc_pool.specs.Runs.{IsInQuestion, IsRunStep}
 
 -- Since this number, which is no less than 1, each kept step took a goal in question.
 abbrev pub TookInQuestion : Option GoalName → List Record → ℕ → Type 0
-TookInQuestion root kept since = (1 ≤ since) × ((r : Record) → In r kept → since ≤ r.number → (g : GoalName) → r.goal ≡ Some g → IsInQuestion root kept g)
+TookInQuestion root kept since = (1 ≤ since) × ((r : Record) → In r kept → since ≤ r.number → (g : GoalName) × (r.goal ≡ Some g) × IsInQuestion root kept g)
 
 -- If a step was found, a run may take it.
 abbrev pub IsFound : Spies → Option GoalName → World → Met → Type 0
