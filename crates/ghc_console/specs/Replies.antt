@@ -30,7 +30,7 @@ use Rattle.ghc_core.specs.declared.change.Change.TheVariants.{Adds as adds, Puts
 use Rattle.ghc_core.specs.Change.{Changes}
 use Rattle.ghc_core.specs.Answers.{Fails}
 use Rattle.ghc_core.specs.Asked.{IsAskedFor}
-use Rattle.ghc_core.specs.Load.{history_of}
+use Rattle.ghc_core.specs.Load.{AskForGoals, history_of}
 use Rattle.ghc_trace.specs.Ports.{Port, ArePorts}
 use Rattle.ghc_trace.specs.PortText.{ports_text}
 use Rattle.ghc_trace.specs.News.{Standing, AreNews, news_text}
@@ -156,6 +156,11 @@ pub data RepliesToWho (w : World) (word : List ℕ) : List ℕ → Type 0 where
   tells_binders : (x : VarName) (binders : List Binder) → IsVariableNamed w word x → AreBindersTold w x binders → RepliesToWho w word (lines_or_none (map binder_text binders))
   names_nothing : ((x : VarName) → ¬ IsVariableNamed w word x) → RepliesToWho w word (refusal Fault.NoVariable)
 
+-- RepliesToSave w text: the history of the kept steps; or the refusal where one of them asks for goals, which no text of this version tells.
+pub data RepliesToSave (w : World) : List ℕ → Type 0 where
+  tells_history : ¬ AskForGoals w.kept → RepliesToSave w (history_text (history_of w))
+  has_asked : AskForGoals w.kept → RepliesToSave w (refusal (Fault.Limit limit.Version))
+
 -- RepliesToSpy P f n text: the text says that the predicate is spied; or it is the refusal, where the program has no clause for it.
 pub data RepliesToSpy (P : Program) (f : List ℕ) (n : ℕ) : List ℕ → Type 0 where
   is_spied : HasClauseFor P f n → RepliesToSpy P f n (lined (codes "spying " ++ predicate_text f n))
@@ -172,7 +177,7 @@ Replies spies w goals text v = RepliesToGoals w text × (v ≡ w)
 Replies spies w (why n) text v = RepliesToWhy w n text × (v ≡ w)
 Replies spies w (who word) text v = RepliesToWho w word text × (v ≡ w)
 Replies spies w shelf text v = (text ≡ shelf_text w.shelf) × (v ≡ w)
-Replies spies w save text v = (text ≡ history_text (history_of w)) × (v ≡ w)
+Replies spies w save text v = RepliesToSave w text × (v ≡ w)
 Replies spies w (spy f n) text v = RepliesToSpy w.opening.program f n text × (v ≡ w)
 Replies spies w (unspy f n) text v = (text ≡ lined (codes "not spying " ++ predicate_text f n)) × (v ≡ w)
 Replies spies w (input k given) text v = RepliesToInput w k given text v

@@ -1,20 +1,23 @@
 // The reply that tells the history of the steps that are kept.
 ghost use Rattle.std.specs.Prelude.{◌≡◌, [], OnOk, string_bytes};
-ghost use Rattle.ghc_records.specs.HistoryText.{history_text};
-ghost use Rattle.ghc_core.specs.Load.{history_of};
+ghost use Rattle.ghc_console.specs.Replies.{RepliesToSave};
 
+use crate::reply::refused;
 use ghc_core::Core;
 use ghc_records::write_history;
 use std::alloc::{AllocError, Global};
 
-/// Tells the history of the steps that are kept, from which a session can be started again. It costs the text, and one step
-/// for each place of the record.
+/// Tells the history of the steps that are kept, from which a session can be started again; or the refusal where one of them asks
+/// for goals. It costs the text, and two steps for each place of the record.
 #[inline(never)]
 pub fn save(alloc: Global, core: &Core, reply: &mut String) -> Result<(), AllocError>
     requires { string_bytes reply.old ≡ [] }
-    ensures { OnOk result (string_bytes reply.new ≡ history_text (history_of core.now.world)) }
+    ensures { OnOk result (RepliesToSave core.now.world (string_bytes reply.new)) }
 {
-    let history = core.history(alloc)?;
+    let history = match core.history(alloc) {
+        Ok(history) => history,
+        Err(fault) => return refused(&fault, reply),
+    };
     let text = write_history(alloc, &history)?;
     reply.push_str(text.as_str())
 }
