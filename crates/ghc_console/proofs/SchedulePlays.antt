@@ -1,15 +1,17 @@
 -- How far a schedule has come.
-use Rattle.std.proofs.Common.{◌≡◌, ℕ, List, [], ◌∷◌, ◌++◌, Option, Result, Ok, Err, take, sym, subst, append_assoc}
+use Rattle.std.proofs.Common.{◌≡◌, ℕ, List, [], ◌∷◌, ◌++◌, Option, Result, Ok, Err, take, ap, sym, ◌∙◌, subst, append_assoc}
 use Rattle.std.specs.Io.KnownBytes.{Appends}
 use Rattle.std.proofs.KnownBytes.{Appends-nil, Appends-trans}
 use Rattle.ghc_term.specs.declared.fault.Fault.{Fault}
 use Rattle.ghc_core.specs.Core.{Core}
 use Rattle.ghc_core.specs.Events.{Reply}
+use Rattle.ghc_core.specs.Playing.{empty_hands}
+use Rattle.ghc_core.specs.World.{Hands}
 use Rattle.ghc_core.specs.declared.world.World.{World as Played}
 use Rattle.ghc_console.specs.Device.{WritesFront}
 use Rattle.ghc_console.specs.Replies.{records_text}
 use Rattle.ghc_console.specs.ScheduleReplies.{Hears, told_text}
-use Rattle.ghc_console.specs.ScheduleText.{ArePlayedOut, BrokenOff, Schedule, WritesSchedule, nothing_more, part_of_records, part_of_reply, then_begun, then_whole, told_at_end}
+use Rattle.ghc_console.specs.ScheduleText.{ArePlayedOut, BrokenOff, Schedule, WritesSchedule, nothing_more, part_of_records, part_of_reply, hand_count, then_begun, then_whole, told_at_end, with_hands}
 
 -- what the rest gives, behind what was done, is what the whole gives
 pub record Onward (first now : Played) (all rest : List (List ℕ)) (done : List ℕ) : Type 0 where
@@ -57,3 +59,13 @@ going_last first now all lines written held held' core (Err f) g is same told =
     let text = take told.0 (records_text now.core.world.kept) in
     let there = subst (λ (c : Core). Appends held held' (take told.0 (records_text c.world.kept))) same told.1 in
     (g.done ++ text, Appends-trans written held held' g.done text g.appended there, g.onward.begun text now (subst (λ l. BrokenOff now l text now) (sym is) (part_of_records told.0)))
+
+abbrev made : Core → Hands → ℕ → ℕ → Played
+made core hands firings tries = record { core = core; hands = hands; meter = record { firings = firings; tries = tries } }
+
+-- a core with hands that was just made
+pub opened : (w : Played) (core : Core) → w.core ≡ core → w.hands ≡ empty_hands hand_count → (w.meter.firings ≡ 0) × (w.meter.tries ≡ 0) → w ≡ with_hands core
+opened w core same none zero =
+    let hands = empty_hands hand_count in
+    ap (λ c. made c w.hands w.meter.firings w.meter.tries) same ∙ ap (λ h. made core h w.meter.firings w.meter.tries) none
+    ∙ ap (λ n. made core hands n w.meter.tries) zero.0 ∙ ap (made core hands 0) zero.1
