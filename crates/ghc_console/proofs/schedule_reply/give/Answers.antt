@@ -9,6 +9,3 @@ returns-in-Ok c = plays (reads c.in-Ok.input c.in-Ok.ensures.answer.0 (reply_of 
 
 pub returns-in-Err : goal.returns-in-Err
 returns-in-Err c = given_refused c.args.world.now c.args.stream c.args.text.now c.in-Err.fault c.in-Err.ensures.answer.1
-
-pub returns-in-Ok : goal.returns-in-Ok
-returns-in-Ok c = plays (reads c.in-Ok.input c.in-Ok.ensures.answer.0 (reply_of c.answer.result, refl, c.answer.ensures.met))
