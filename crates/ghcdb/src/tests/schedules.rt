@@ -10,8 +10,7 @@ use std::sync::ledger::{Blank, Ledger};
 
 const LINES: &str = "propose 1 0.1\r\n\ncommit 1\nundo 9";
 
-const OUTPUT: &str =
-    "held 1\nstep 1\nF16 not a kept step\n1 0.1 eq reads - binds _0_1=1 makes -\n";
+const OUTPUT: &str = "held 1\nstep 1\nF16 not a kept step\n1 0.1 eq reads - binds _0_1=1 makes -\n";
 
 // What became of a schedule: how many bytes of the output were written, where nothing else was; how many steps the core has;
 // whether it was broken off.
