@@ -22,15 +22,22 @@ TOOLS = ("bash", "env", "dirname", "readlink", "find", "sed", "touch", "cp", "mk
 
 PROGRAM = """#!/usr/bin/env bash
 printf '%s\\n' "the program: $*"
-exit 3
+[ "$*" = --version ] || exit 3
 """
 RT = """#!/usr/bin/env bash
+[ "$1" != version ] || { echo "kit of a stub"; exit; }
 here=$(basename "$PWD")
 echo "rt $* in $here" >> "$ASKED"
 echo "what rt says of $here"
 [ "$here" != "${LONG:-}" ] || printf '%s\\n' 'so far: 0 of 9 functions checked; the verdict comes last' 'so far: 5 of 9 functions checked'
 [ "$here" != "${REFUSED:-}" ] || exit 1
 [ "$1" = lib ] || { mkdir -p out; cp "$STUB" out/ghcdb; }
+"""
+GIT = """#!/usr/bin/env bash
+case $3 in
+rev-parse) echo 0123abc ;;
+status) printf '%s' "${CHANGED:-}" ;;
+esac
 """
 RLWRAP = """#!/usr/bin/env bash
 printf '%s\\n' "rlwrap: $*"
@@ -55,6 +62,7 @@ class Copy:
         self.write(self.folder / "stub", PROGRAM)
         self.write(self.tool("rt", "rt"), RT)
         self.write(self.tool("rlwrap", "rlwrap"), RLWRAP)
+        self.write(self.tool("git", "git"), GIT)
 
     def tool(self, folder, name):
         """The path of a program in a folder that can stand on the PATH."""
@@ -66,11 +74,11 @@ class Copy:
         path.write_text(text)
         path.chmod(0o755)
 
-    def run(self, *words, path=("rt", "rlwrap"), refused="", long="", terminal="xterm", **streams):
+    def run(self, *words, path=("rt", "rlwrap"), refused="", long="", changed="", terminal="xterm", **streams):
         """What the launcher writes to pipes, and its status; `streams` puts others in the place of pipes."""
         places = [str(self.folder / "bin" / name) for name in ("tools", *path)]
         known = {"PATH": ":".join(places), "ASKED": str(self.folder / "asked"), "STUB": str(self.folder / "stub")}
-        known |= {"REFUSED": refused, "LONG": long, "TERM": terminal}
+        known |= {"REFUSED": refused, "LONG": long, "CHANGED": changed, "TERM": terminal}
         streams = {"stdin": subprocess.DEVNULL, "stdout": subprocess.PIPE, "stderr": subprocess.PIPE} | streams
         ended = subprocess.run([self.folder / "ghcdb", *words], env=known, timeout=SECONDS, text=True, **streams)
         return ended.stdout, ended.stderr, ended.returncode
@@ -124,6 +132,20 @@ def cases(copy):
     for name in ("stdin", "stdout", "stderr"):
         status = copy.run_at_terminal("a", **{name: subprocess.DEVNULL})[1]
         yield f"at a terminal, but for {name}", status, 3
+
+    greeting = "ghcdb: type goals, step G, leap, records, why N, undo N or quit; ./ghcdb --help tells all commands\n"
+    words = ("a", "--query", "q")
+    yield "a session at a terminal is greeted", copy.run_at_terminal(*words, path=()), (f"{greeting}the program: a --query q\n", 3)
+    yield "one in a pipe is not", copy.run(*words), ("the program: a --query q\n", "", 3)
+    yield "nor is a schedule", copy.run_at_terminal(*words, "--schedule", "s", path=()), ("the program: a --query q --schedule s\n", 3)
+    version = "the program: --version\ncommit {}\nkit {}\n"
+    yield "the version", copy.run("--version", path=("rt", "git")), (version.format("0123abc", "kit of a stub"), "", 0)
+    changed = copy.run("--version", path=("rt", "git"), changed=" M x")
+    yield "the version of changed sources", changed, (version.format("0123abc, with changes", "kit of a stub"), "", 0)
+    yield "the version where nothing is known", copy.run("--version", path=()), (version.format("unknown", "unknown"), "", 0)
+    helped = (ROOT / "crates" / "ghcdb" / "src" / "help.rt").read_text().partition("a line each:\n")[2].partition("\n\n")[0]
+    named = {word for line in helped.splitlines() for word in re.findall(r"(?:^  |, )([a-z]+)", line[:20].partition("   ")[0])}
+    yield "the commands that --help lists", sorted(named), commands()
     yield "the words that are completed", (copy.folder / "commands.txt").read_text().split(), commands()
     os.utime(copy.folder / "crates" / third / "src" / "lib.rt", (2**33, 2**33))
     yield "a source is newer", copy.run("a", path=()), ("", no_rt, 127)

@@ -2,11 +2,14 @@
 ghost use Rattle.std.specs.Prelude.{◌≡◌, IfOk, codes, map, string_bytes};
 ghost use Rattle.ghcdb.specs.CommandLine.{IsGhcdb, IsGivenBy, IsOptionalValue, IsRequiredValue};
 
+use crate::help::AFTER_HELP;
 use crate::settings::Options;
 use clap::{Arg, ArgAction, Command, Error};
 use std::alloc::{AllocError, Global};
 
 const ABOUT: &str = "Runs, traces and reverses programs of Flat GHC";
+
+const VERSION: &str = "0.1.0";
 
 const FILE_HELP: &str = "The program, a file of Flat GHC clauses";
 
@@ -15,12 +18,6 @@ const QUERY_HELP: &str = "The goals to start from, such as 'append([1],[2],R)'";
 const LOAD_HELP: &str = "A history to start from, as the command save writes it";
 
 const SCHEDULE_HELP: &str = "A schedule to play in place of a session";
-
-const AFTER_HELP: &str = "Example: ghcdb append.ghc --query 'append([1],[2],R)'
-
-The exit status is 0 at the end of the session or the schedule; 1 where the
-program, the query or the history is refused, or no memory is left; 2 where the
-command line is refused; 3 where a file cannot be read or a device fails.";
 
 fn file_argument<'a>(alloc: Global) -> Arg<'a>
     ensures { IsRequiredValue (codes "FILE") result }
@@ -69,6 +66,7 @@ fn command<'a>(alloc: Global) -> Result<Command<'a>, AllocError>
 {
     let command = Command::new(alloc, "ghcdb")
         .about(ABOUT)
+        .version(VERSION)
         .after_help(AFTER_HELP)
         .arg(file_argument(alloc))?
         .arg(query_argument(alloc))?
@@ -78,7 +76,7 @@ fn command<'a>(alloc: Global) -> Result<Command<'a>, AllocError>
 }
 
 /// Reads the command line, of which the first word is the program's name. What is no command line
-/// of this program, a call for help and want of memory are answered by `clap`'s error.
+/// of this program, a call for help or for the version, and want of memory are answered by `clap`'s error.
 pub fn options<'a>(alloc: Global, words: &'a [String]) -> Result<Options<'a>, Error>
     ensures { IfOk result (IsGivenBy (map string_bytes words.now)) }
 {

@@ -35,9 +35,10 @@ pub fn run<R: Wait + Files + Input + Print + Eprint + AllocGlobal>(
     }
 }
 
-// Prints help on the standard output, and what is wrong with the words on the standard error.
+// Prints help or the version on the standard output, and what is wrong with the words on the standard error.
 fn answer<R: Print + Eprint>(rt: &R, error: &Error) -> Status
     ensures help { kind_of error.now ≡ ErrorKind.DisplayHelp → result ≡ Status.Done }
+    ensures version { kind_of error.now ≡ ErrorKind.DisplayVersion → result ≡ Status.Done }
     ensures mistake { kind_of error.now ≢ ErrorKind.DisplayHelp → kind_of error.now ≢ ErrorKind.DisplayVersion → result ≡ Status.Misused }
 {
     let _ = error.print(rt);

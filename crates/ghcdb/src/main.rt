@@ -5,6 +5,7 @@ mod command_line;
 mod console;
 mod debugger;
 mod files;
+mod help;
 mod laws;
 mod opening;
 mod playing;

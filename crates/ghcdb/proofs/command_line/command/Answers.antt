@@ -9,10 +9,10 @@ returns c = record {
   load = c.load_argument.result;
   schedule = c.schedule_argument.result;
   empty = record {
-    arguments = ap (λ f. f.args.items) c.after_help.ensures ∙ (ap (λ f. f.args.items) c.about.ensures ∙ c.new.ensures.empty.0);
-    groups = ap (λ f. f.groups.items) c.after_help.ensures ∙ (ap (λ f. f.groups.items) c.about.ensures ∙ c.new.ensures.empty.1);
-    local = ap (λ f. f.has_globals) c.after_help.ensures ∙ (ap (λ f. f.has_globals) c.about.ensures ∙ c.new.ensures.local);
-    negates = ap (λ f. f.subcommand_negates_reqs) c.after_help.ensures ∙ (ap (λ f. f.subcommand_negates_reqs) c.about.ensures ∙ c.new.ensures.negates);
+    arguments = ap (λ f. f.args.items) c.after_help.ensures ∙ (ap (λ f. f.args.items) c.version.ensures ∙ ap (λ f. f.args.items) c.about.ensures ∙ c.new.ensures.empty.0);
+    groups = ap (λ f. f.groups.items) c.after_help.ensures ∙ (ap (λ f. f.groups.items) c.version.ensures ∙ ap (λ f. f.groups.items) c.about.ensures ∙ c.new.ensures.empty.1);
+    local = ap (λ f. f.has_globals) c.after_help.ensures ∙ (ap (λ f. f.has_globals) c.version.ensures ∙ ap (λ f. f.has_globals) c.about.ensures ∙ c.new.ensures.local);
+    negates = ap (λ f. f.subcommand_negates_reqs) c.after_help.ensures ∙ (ap (λ f. f.subcommand_negates_reqs) c.version.ensures ∙ ap (λ f. f.subcommand_negates_reqs) c.about.ensures ∙ c.new.ensures.negates);
   };
   file_is = c.file_argument.ensures;
   query_is = c.query_argument.ensures;

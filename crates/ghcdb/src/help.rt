@@ -1,0 +1,28 @@
+// What `--help` tells behind the words of the command line.
+
+pub const AFTER_HELP: &str = "Commands of the session, a line each:
+  step G [C]        reduce goal G, by clause C
+  leap [K]          run on, for K steps at most
+  skip G            run what descends from goal G
+  goals             list the goals, each with its status
+  show X            tell the value of variable X
+  records           list the kept steps
+  why N             tell on which steps step N depends
+  who X             tell which steps bound variable X
+  undo N            take back step N, on which no other depends
+  roll N            take back step N with all that depends on it
+  shelf             list what was taken back
+  redo N            put step N there again
+  arrange N ..      put the kept steps into another lawful order
+  ask GOALS         add goals to the run, as a step
+  in K TERM, end K  feed or close input stream K
+  spy F/N, nospy F/N
+                    stop runs at calls of F/N, or no longer
+  save              write the kept steps, for --load
+  quit              end
+
+Example: ghcdb append.ghc --query 'append([1],[2],R)'
+
+The exit status is 0 at the end of the session or the schedule; 1 where the
+program, the query or the history is refused, or no memory is left; 2 where the
+command line is refused; 3 where a file cannot be read or a device fails.";
