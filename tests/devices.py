@@ -75,7 +75,7 @@ SHELLS = [
 def sessions(folder):
     """A session whose replies are each one write, and one with a reply of several."""
     for name, program, query, lines in [
-        ("append", (EXAMPLES / "append.ghc").read_text(), "append([1],[2],R)", "step 0.1;step 1.1;nonsense;step 1.2;step 3.1;show R;undo 2;records;quit"),
+        ("append", (EXAMPLES / "append.ghc").read_text(), "append([1],[2],R)", "step 0.1;step 1.1;nonsense;step 1.2;step 3.1;show R;undo 2;ask append(R,[3],Q);records;quit"),
         ("loop", LOOP, "loop(X)", "leap 1000;goals;leap 500;show X"),
     ]:
         (folder / name).mkdir()

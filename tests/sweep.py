@@ -1,5 +1,5 @@
 #!/usr/bin/env python3
-"""Refuses memory in sessions: tests/sweep.py [WORD..]      the sessions whose names hold one of the words; without words, all
+"""Refuses memory in sessions and schedules: tests/sweep.py [WORD..]      those whose names hold one of the words; without words, all
 
 Each request for memory of each line of the sessions below is refused in turn, alone and with all behind it in its line, and so is
 each request of the start; and what the program then writes is compared with what itself writes with ample memory, with the line
@@ -13,6 +13,8 @@ The reply to a line that was refused memory has to be
   - where it is a run, a line for each step that it took, by number, or `F1 no memory` in its place, and then `stopped REASON`, or
     `F1 no memory` in its place. `records` before and behind the run tell which steps these are; behind it no line is refused
     memory, and each `show` and `goals` between the last run and the next change is answered as ever.
+
+Schedules are swept by the requests of their whole run: tests/sweep_schedules.py says how, and what has to be written then.
 
 What a session says of a line by hand (`told`) has to hold, too. Before the first line the program ends with status 2 for its words,
 or with status 1 and `PART: F1 no memory`, in the order of its parts, or it goes on as ever. It ends by itself, and by no signal.
@@ -29,6 +31,7 @@ from typing import NamedTuple
 
 sys.dont_write_bytecode = True
 from refusing import TESTS, Session, tried
+from sweep_schedules import SCHEDULES, ScheduleCase, sweep_schedule, unused_events
 
 MOST = 400
 ALL_BEHIND = 10**9
@@ -36,6 +39,7 @@ F1 = b"F1 no memory\n"
 CHANGES = ("step", "in", "end", "undo", "roll", "redo", "arrange")
 RUNS = ("leap", "skip")
 SHOWN = ("show", "goals")
+ORDER = "w+p+h*p*q+p+h*s"  # the words, the files, both texts, the checker and the first state, the history, and the session
 
 APPEND = "append([],Y,Z) :- true | Z = Y.\nappend([A|X],Y,Z) :- true | Z = [A|Z1], append(X,Y,Z1).\n"
 SUM = "sum([],A,R) :- true | R = A.\nsum([X|S],A,R) :- true | B := A + X, sum(S,B,R).\n"
@@ -235,15 +239,13 @@ def part_of(played):
         return None
     if played.status == 2 and played.errors == b"error: out of memory\n":
         return "words"
-    part = re.fullmatch(rb"(program|query|history|session): F1 no memory\n", played.errors)
+    part = re.fullmatch(rb"(program|query|history|session|schedule): F1 no memory\n", played.errors)
     return part[1].decode() if part and played.status == 1 else None
 
 
-def are_in_order(parts):
-    """Whether the start comes to its parts in their order: the words, the files, both texts, the checker and the first state, the
-    history, and the session. Some requests are refused without a sign."""
-    letters = "".join(part[0] for part in parts if part)
-    return bool(re.fullmatch("w+p+h*p*q+p+h*s", letters))
+def are_in_order(parts, order):
+    """Whether the start comes to its parts in their order, by their first letters. Some requests are refused without a sign."""
+    return bool(re.fullmatch(order, "".join(part[0] for part in parts if part)))
 
 
 def sweep(case, pool):
@@ -253,7 +255,7 @@ def sweep(case, pool):
     wrong = [found.wrong for found in judged if found.wrong]
     print("".join(f"{line}\n" for line in wrong), end="")
     starts = [found.part for trial, found in zip(trials, judged) if trial.at == 0 and trial.first == trial.last]
-    if case.plain.status == 0 and are_in_order(starts):
+    if case.plain.status == 0 and are_in_order(starts, ORDER):
         return len(judged) - len(wrong) + 1, len(wrong)
     print(f"failed: {case.name} started in the order {starts}, and ended with {case.plain.status} {case.plain.errors}")
     return len(judged) - len(wrong), len(wrong) + 1
@@ -266,15 +268,19 @@ def unused_commands():
 
 
 def sweeps(folder):
-    """Makes all trials of the sessions whose names hold one of the words, and of all sessions where there is no word."""
+    """Makes all trials of the sessions and schedules whose names hold one of the words, and of all where there is no word."""
     started, totals, words = time.monotonic(), [0, 0], sys.argv[1:]
     with ThreadPoolExecutor(os.cpu_count()) as pool:
         for name, story in STORIES.items():
             if not words or any(word in name for word in words):
                 totals = [a + b for a, b in zip(totals, sweep(Case(name, story, folder / name), pool))]
-    unused = unused_commands()
+        for name, schedule in SCHEDULES.items():
+            if not words or any(word in name for word in words):
+                found = sweep_schedule(ScheduleCase(name, schedule, folder / name), pool, part_of, are_in_order)
+                totals = [a + b for a, b in zip(totals, found)]
+    unused = unused_commands() | unused_events()
     if unused:
-        print(f"failed: no session uses {sorted(unused)}")
+        print(f"failed: no session or schedule uses {sorted(unused)}")
     print(f"sweep: {time.monotonic() - started:.0f} seconds")
     return totals[0] + (not unused), totals[1] + bool(unused)
 

@@ -93,7 +93,7 @@ const Canvas = (() => {
     const { graph } = Talk.run, { step, from, to } = element.dataset;
     if (step !== undefined) return Picture.tellStep(Talk.run, graph.byNumber.get(Number(step)));
     const edge = to === undefined ? undefined : graph.causes.get(Number(to)).find((one) => one.from === Number(from));
-    return edge && edge.kind === "read" ? Picture.tellRead(Talk.run, edge) : "";
+    return edge && edge.kind !== "made" ? Picture.tellArrow(Talk.run, edge) : "";
   }
 
   /** Puts words on what one points at. A picture that is drawn with all its words takes longer to show. */

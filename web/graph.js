@@ -1,4 +1,4 @@
-// Reads what ghcdb's console tells of a run, and makes the graph of its steps: who made, read and woke whom. Pure functions.
+// Reads what ghcdb's console tells of a run, and makes the graph of its steps: who made, read, woke and named what. Pure functions.
 const Graph = (() => {
   "use strict";
 
@@ -25,24 +25,45 @@ const Graph = (() => {
     return { variable: text.slice(0, sign), term: text.slice(sign + 1) };
   }
 
-  /** What an act does: `reduce`, `unify`, `assign`, `input` or `close`; and the clause of a reduction. */
+  const VARIABLE = /\b_(\d+)_(\d+)\b/g;
+
+  /** The variables that stand in a text, each once, by first occurrence. */
+  const variablesIn = (text) => [...new Set(text.match(VARIABLE) || [])];
+
+  const numbersOf = (variable) => variable.slice(1).split("_").map(Number);
+  const byNumbers = (one, other) => {
+    const [step, place] = numbersOf(one), [otherStep, otherPlace] = numbersOf(other);
+    return step - otherStep || place - otherPlace;
+  };
+
+  /** What an act does: `reduce`, `unify`, `assign`, `input`, `close` or `ask`; and the clause of a reduction. */
   function readAct(act) {
     const clause = /^by (\d+)$/.exec(act);
     if (clause) return { kind: "reduce", clause: Number(clause[1]) };
-    return { kind: { eq: "unify", is: "assign", end: "close" }[act] || "input", clause: null };
+    const kind = { eq: "unify", is: "assign", end: "close" }[act] || (act.startsWith("ask ") ? "ask" : "input");
+    return { kind, clause: null };
   }
 
-  const ACT = "(by \\d+|eq|is|end|in .+?)";
-  const RECORD = new RegExp(`^(\\d+) (\\d+\\.\\d+) ${ACT} reads (\\S+) binds (\\S+) makes (\\S+)$`);
-  const SHELVED = new RegExp(`^(\\d+) (\\d+\\.\\d+) ${ACT.replace("?", "")}$`);
+  /** The variables that an act of the step of a number names, the least first: those of an ask that are not its own. */
+  function namesIn(act, number) {
+    if (!act.startsWith("ask ")) return [];
+    return variablesIn(act).filter((variable) => numbersOf(variable)[0] !== number).sort(byNumbers);
+  }
+
+  const ACT = "(by \\d+|eq|is|end|in .+|ask .+)";
+  const STEP = `(\\d+) (\\d+\\.\\d+|-) ${ACT}`;
+  const RECORD = new RegExp(`^${STEP} reads (\\S+) binds (\\S+) makes (\\S+)$`);
+  const SHELVED = new RegExp(`^${STEP}$`);
+
+  /** A step as its line tells it. An ask consumes no goal: its `goal` is null. */
+  const readStep = (number, goal, act) => ({ number: Number(number), goal: goal === "-" ? null : goal, act, ...readAct(act) });
 
   function readRecord(line) {
     const found = RECORD.exec(line);
     if (!found) return null;
     const [, number, goal, act, reads, binds, makes] = found;
     return {
-      number: Number(number), goal, act, ...readAct(act),
-      reads: listed(reads),
+      ...readStep(number, goal, act), names: namesIn(act, Number(number)), reads: listed(reads),
       binds: binds === "-" ? [] : splitOutside(binds, ";").map(readBinding),
       makes: listed(makes),
     };
@@ -54,8 +75,11 @@ const Graph = (() => {
   /** The steps of the reply to `shelf`. */
   function readShelf(lines) {
     return lines.map((line) => SHELVED.exec(line)).filter(Boolean)
-      .map(([, number, goal, act]) => ({ number: Number(number), goal, act, ...readAct(act) }));
+      .map(([, number, goal, act]) => readStep(number, goal, act));
   }
+
+  /** What a step consumes and does, in words: `goal 1.1 by 2`, or the act alone where it consumes no goal. */
+  const wordsOf = (step) => (step.goal === null ? step.act : `goal ${step.goal} ${step.act}`);
 
   /** What a goal's text is: `stream`, `assignment`, `unification` or `call`. */
   function sortOfText(text) {
@@ -90,16 +114,18 @@ const Graph = (() => {
     return texts.map((text) => ({ text: `${text}.`, predicate: predicateOf(text.split(":-")[0].trim()) }));
   }
 
-  /** The causes of one step, by who made its goal and who bound what it read. */
-  function causesOf(step, maker, binder) {
+  /** The causes of one step, by who made its goal, who bound what it read, and who made what it names. */
+  function causesOf(step, maker, binder, place) {
     const causes = new Map();
-    const made = maker.get(step.goal);
-    if (made !== undefined) causes.set(made, { from: made, to: step.number, kind: "made", variables: [], woke: false });
-    for (const variable of step.reads) {
-      const bound = binder.get(variable);
-      if (bound === undefined) continue;
-      if (!causes.has(bound)) causes.set(bound, { from: bound, to: step.number, kind: "read", variables: [], woke: false });
-      causes.get(bound).variables.push(variable);
+    const add = (from, kind, variables) => {
+      if (!causes.has(from)) causes.set(from, { from, to: step.number, kind, variables: [], woke: false });
+      causes.get(from).variables.push(...variables);
+    };
+    if (maker.has(step.goal)) add(maker.get(step.goal), "made", []);
+    for (const variable of step.reads) if (binder.has(variable)) add(binder.get(variable), "read", [variable]);
+    for (const variable of step.names) {
+      const [number] = numbersOf(variable);
+      if (place.has(number)) add(number, "named", [variable]);
     }
     return causes;
   }
@@ -119,7 +145,7 @@ const Graph = (() => {
     const maker = new Map(), binder = new Map(), edges = [];
     const place = new Map(steps.map((step, index) => [step.number, index]));
     for (const step of steps) {
-      const causes = causesOf(step, maker, binder);
+      const causes = causesOf(step, maker, binder, place);
       markWoke(step, causes, place, maker);
       edges.push(...[...causes.values()].sort((one, other) => place.get(one.from) - place.get(other.from)));
       for (const goal of step.makes) maker.set(goal, step.number);
@@ -186,7 +212,7 @@ const Graph = (() => {
   /** The reply to `why N` that this graph stands for. */
   function whyLines(graph, number) {
     const lines = graph.causes.get(number).map((edge) =>
-      (edge.kind === "made" ? `${edge.from} made` : `${edge.from} read ${edge.variables[0]}${edge.woke ? " woke" : ""}`));
+      (edge.kind === "made" ? `${edge.from} made` : `${edge.from} ${edge.kind} ${edge.variables[0]}${edge.woke ? " woke" : ""}`));
     return lines.length > 0 ? lines : ["none"];
   }
 
@@ -209,7 +235,7 @@ const Graph = (() => {
   function holdersOf(goals) {
     const holders = new Map();
     for (const goal of goals) {
-      for (const variable of new Set(goal.text.match(/\b_\d+_\d+\b/g))) {
+      for (const variable of variablesIn(goal.text)) {
         if (!holders.has(variable)) holders.set(variable, []);
         holders.get(variable).push(goal);
       }
@@ -252,7 +278,7 @@ const Graph = (() => {
   }
 
   return {
-    splitOutside, readRecords, readShelf, readGoals, readClauses, predicateOf, sortOfText, graphOf,
+    splitOutside, variablesIn, wordsOf, readRecords, readShelf, readGoals, readClauses, predicateOf, sortOfText, graphOf,
     allCauses, allEffects, whyLines, tidyOrder, waitingEdges, circleOf,
   };
 })();

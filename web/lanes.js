@@ -1,4 +1,4 @@
-// Puts a run into lanes, one for each process, and gives every step and goal its place. Pure functions.
+// Puts a run into lanes, one for each process and each ask, and gives every step and goal its place. Pure functions.
 const Lanes = ((Graph, Terms) => {
   "use strict";
 
@@ -17,6 +17,7 @@ const Lanes = ((Graph, Terms) => {
     const kinds = new Map();
     const sorts = { reduce: "call", unify: "unification", assign: "assignment", input: "stream", close: "stream" };
     for (const step of run.graph.steps) {
+      if (step.goal === null) continue;
       const predicate = step.kind === "reduce" ? (run.clauses[step.clause - 1] || { predicate: "?" }).predicate : null;
       kinds.set(step.goal, { sort: sorts[step.kind], predicate });
     }
@@ -28,19 +29,26 @@ const Lanes = ((Graph, Terms) => {
 
   const isSmall = (kind) => kind !== undefined && (kind.sort === "unification" || kind.sort === "assignment");
 
-  /** The goal in which a process goes on: the last one made of the same predicate, else the last call, else the stream's rest. */
+  /**
+   * The goal in which a process goes on: the last one made of the same predicate, else the last call, else the stream's rest. An ask
+   * goes on in the last call that it made.
+   */
   function goesOnIn(step, kinds) {
     const calls = step.makes.filter((goal) => kinds.has(goal) && !isSmall(kinds.get(goal)));
-    const same = calls.filter((goal) => kinds.get(goal).predicate === kinds.get(step.goal).predicate);
+    const same = calls.filter((goal) => step.goal !== null && kinds.get(goal).predicate === kinds.get(step.goal).predicate);
     const goals = same.length > 0 ? same : calls;
     return goals[goals.length - 1];
   }
 
-  const newLane = (name, parent) => ({ name, parent, steps: [], goals: [], predicates: [] });
+  /** A lane begins where its `parent` made its first goal, or with an ask, which nothing made, or at the left. */
+  const newLane = (name, parent) => ({ name, parent, asked: null, steps: [], goals: [], predicates: [] });
+
+  /** What a step's lane is found by: its goal, or the number of an ask, which has none. */
+  const keyOf = (step) => (step.goal === null ? String(step.number) : step.goal);
 
   /** The lane of each goal that a step makes: its own process goes on, small goals stay with it, other calls begin lanes beside it. */
   function placeMade(step, lanes, laneOf, kinds) {
-    const lane = laneOf.get(step.goal), goesOn = goesOnIn(step, kinds);
+    const lane = laneOf.get(keyOf(step)), goesOn = goesOnIn(step, kinds);
     let behind = lanes.indexOf(lane) + 1;
     for (const goal of step.makes) {
       if (goal === goesOn || isSmall(kinds.get(goal))) {
@@ -70,9 +78,11 @@ const Lanes = ((Graph, Terms) => {
     };
     [...kinds.keys()].filter((name) => name.startsWith("0.")).sort(byName).forEach(begin);
     for (const step of run.graph.steps) {
-      begin(step.goal);
-      laneOf.get(step.goal).steps.push(step);
-      addPredicate(laneOf.get(step.goal), kinds.get(step.goal));
+      begin(keyOf(step));
+      const lane = laneOf.get(keyOf(step));
+      lane.steps.push(step);
+      if (step.goal === null) lane.asked = step;
+      addPredicate(lane, kinds.get(step.goal));
       placeMade(step, lanes, laneOf, kinds);
     }
     for (const goal of run.goals) {
@@ -85,8 +95,16 @@ const Lanes = ((Graph, Terms) => {
 
   const shortName = (predicate) => predicate.split("/")[0];
 
+  /** What stands at the beginning of an ask's lane: the word, and its first goal with what is known by now. */
+  function askText(step, run, store, longest) {
+    const [first, ...others] = step.makes, text = (first && run.texts.get(first)) || "true";
+    const told = Graph.sortOfText(text) === "call" ? Terms.briefCall(text, store) : text;
+    return Terms.cut(`ask ${told}${others.length > 0 ? ", …" : ""}`, longest);
+  }
+
   /** What stands at a lane's beginning: its call with what is known by now, or the predicates that it was. */
   function laneText(lane, run, kinds, store, longest) {
+    if (lane.asked) return askText(lane.asked, run, store, longest);
     const text = run.texts.get(lane.name) || (lane.goals.find((goal) => goal.name === lane.name) || { text: "" }).text;
     const kind = kinds.get(lane.name);
     if (kind && kind.sort === "stream") return `stream ${text.split(" ")[1] || ""}`;
@@ -123,7 +141,7 @@ const Lanes = ((Graph, Terms) => {
       rows[row] = [...(rows[row] || []), span];
       rowOf.set(key, row + 1);
     };
-    for (const step of lane.steps) place(step.number, step.goal, columnOf(step));
+    for (const step of lane.steps) place(step.number, keyOf(step), columnOf(step));
     for (const goal of lane.goals) place(goal.name, goal.name, columns);
     lane.rows = 1 + rows.length;
   }
@@ -248,7 +266,7 @@ const Lanes = ((Graph, Terms) => {
     view.bottom = placeLanes(view, options.top);
     view.ticks = axis(columns, sizes.dx, x);
     for (const step of run.graph.steps) {
-      const lane = laneOf.get(step.goal), row = rows.get(step.number);
+      const lane = laneOf.get(keyOf(step)), row = rows.get(step.number);
       const isLeaf = step.kind === "unify" || step.kind === "assign";
       view.marks.set(step.number, { step, lane, x: x(columnOf(step)), y: view.yOf(lane, row), isLeaf, row });
     }

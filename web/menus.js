@@ -1,4 +1,4 @@
-// The small windows that open at a step, a goal, a variable or a step that was taken back: what can be done with it.
+// The small windows that open at a step, a goal, a variable, a step that was taken back, or to ask for goals: what can be done there.
 const Menus = (() => {
   "use strict";
 
@@ -36,8 +36,8 @@ const Menus = (() => {
     const undo = first ? make("button", { disabled: true }, "Undo") : lineButton("Undo", `undo ${number}`);
     const why = first ? make("p", { class: "dim" }, `Undo alone is not lawful: step ${first.to} depends on it.`) : null;
     const clause = step.clause && clauses[step.clause - 1] ? clauses[step.clause - 1].text : "";
-    return [title(`Step ${number}`, `goal ${step.goal}, ${step.act}`),
-      code(texts.get(step.goal), clause, ...step.binds.map((binding) => `${binding.variable} = ${Terms.cut(binding.term, 300)}`)),
+    return [title(`Step ${number}`, step.goal === null ? "asked for goals" : `goal ${step.goal}, ${step.act}`),
+      code(step.goal === null ? step.act : texts.get(step.goal), clause, ...step.binds.map((binding) => `${binding.variable} = ${Terms.cut(binding.term, 300)}`)),
       buttons(lineButton("Why?", `why ${number}`), undo, rollButton(number, gone)), why];
   }
 
@@ -53,18 +53,28 @@ const Menus = (() => {
     return Talk.spied.has(predicate) ? lineButton(`Do not spy ${predicate}`, `nospy ${predicate}`) : lineButton(`Spy ${predicate}`, `spy ${predicate}`);
   }
 
-  /** A line on which one gives a stream its next element. */
-  function streamForm(goal) {
-    const number = goal.text.split(" ")[1], field = make("input", { "aria-label": "A term to give", placeholder: "a term, as 5 or f(a)", spellcheck: "false", autocomplete: "off" });
-    const form = make("form", { class: "buttons" }, field, make("button", null, "Give"), lineButton("End it", `end ${number}`, { type: "button" }));
+  /** A field whose text, behind some words, is a line of the console; `button` is what types it, and others may stand beside it. */
+  function lineForm(words, label, placeholder, button, ...others) {
+    const field = make("input", { "aria-label": label, placeholder, spellcheck: "false", autocomplete: "off", autocapitalize: "off" });
+    const form = make("form", { class: "buttons" }, field, make("button", null, button), ...others);
     form.addEventListener("submit", (event) => {
       event.preventDefault();
       if (field.value.trim() === "") return;
       close();
-      Talk.send(`in ${number} ${field.value.trim()}`);
+      Talk.send(`${words} ${field.value.trim()}`);
     });
     return form;
   }
+
+  /** A line on which one gives a stream its next element. */
+  function streamForm(goal) {
+    const number = goal.text.split(" ")[1];
+    return lineForm(`in ${number}`, "A term to give", "a term, as 5 or f(a)", "Give", lineButton("End it", `end ${number}`, { type: "button" }));
+  }
+
+  /** The menu in which one asks for more goals. */
+  const ofAsk = () => [title("Ask for more goals", "as a query has them"), lineForm("ask", "Goals to ask for", "p(R,X), X = 1", "Ask"),
+    make("p", { class: "dim" }, "The query's variables go by their names, others of the run as _1_1; all else is new. It is a step, which can be taken back.")];
 
   /** The menu of a goal that is there. */
   function ofGoal(name) {
@@ -85,7 +95,7 @@ const Menus = (() => {
 
   const ofTaken = (number) => {
     const step = Talk.run.shelf.find((other) => other.number === number);
-    return [title(`Step ${number}`, "was taken back"), code(`${step.goal} ${step.act}`), buttons(lineButton("Redo", `redo ${number}`, { class: "main-button" }))];
+    return [title(`Step ${number}`, "was taken back"), code(`${step.goal || "-"} ${step.act}`), buttons(lineButton("Redo", `redo ${number}`, { class: "main-button" }))];
   };
 
   /** How many of some boxes a menu would cover that has its upper left corner at a place. */
@@ -114,12 +124,17 @@ const Menus = (() => {
     menu.style.top = `${best.y}px`;
   }
 
-  /** Opens the menu of `{ step }`, `{ goal }`, `{ variable }` or `{ taken }`, beside an element. */
+  function partsFor(chosen) {
+    if (chosen.step !== undefined) return ofStep(chosen.step);
+    if (chosen.goal !== undefined) return ofGoal(chosen.goal);
+    if (chosen.variable !== undefined) return ofVariable(chosen.variable);
+    return chosen.taken !== undefined ? ofTaken(chosen.taken) : ofAsk();
+  }
+
+  /** Opens the menu of `{ step }`, `{ goal }`, `{ variable }` or `{ taken }`, or of `{ ask: true }`, beside an element. */
   function open(chosen, anchor) {
     const menu = find("menu");
-    const parts = chosen.step !== undefined ? ofStep(chosen.step) : chosen.goal !== undefined ? ofGoal(chosen.goal)
-      : chosen.variable !== undefined ? ofVariable(chosen.variable) : ofTaken(chosen.taken);
-    menu.replaceChildren(...parts.filter(Boolean));
+    menu.replaceChildren(...partsFor(chosen).filter(Boolean));
     menu.hidden = false;
     place(anchor);
     const first = menu.querySelector("input, button:not([disabled])");

@@ -8,9 +8,9 @@ const Page = (() => {
   let recall = 0;
 
   const HELP = [
-    ["Picture", "A line is a process, and time goes right. `●` reduces a goal by a clause, `◆` binds a variable, `■` computes, a flag is an input. A grey line leads from a step to a goal that it made, a blue arrow to a step that read what it bound; an orange dashed one says that this woke a goal that waited. A green ring is a goal that is ready, a dashed one waits, and its dotted arc points at a goal that has its variable."],
-    ["Click", "a step, a goal, a variable, or something that was taken back, and choose. Each click types a line at the console, where you see what it is called."],
-    ["Keys", "`s` steps the first goal that is ready, `r` runs, `u` takes back the last step, `t` tidies the order, `d` changes between recorded order and causal depth, `/` goes to the console, `Escape` closes, and `Ctrl` `Enter` in the program starts it. In the picture `←` `→` go from step to step, `↑` `↓` to a cause or an effect, `Enter` opens what can be done."],
+    ["Picture", "A line is a process, and time goes right. `●` reduces a goal by a clause, `◆` binds a variable, `■` computes, a flag is an input. A grey line leads from a step to a goal that it made, a blue arrow to a step that read what it bound; an orange dashed one says that this woke a goal that waited. A green ring is a goal that is ready, a dashed one waits, and its dotted arc points at a goal that has its variable. A hexagon is an ask, which no goal was there for; a line of dashes and dots leads to it from a step that made a variable that it names."],
+    ["Click", "a step, a goal, a variable, or something that was taken back, and choose. Each click types a line at the console, where you see what it is called. `ask …`, beside the word Goals, adds goals while the program runs: write them as a query has them."],
+    ["Keys", "`s` steps the first goal that is ready, `r` runs, `u` takes back the last step, `a` asks for more goals, `t` tidies the order, `d` changes between recorded order and causal depth, `/` goes to the console, `Escape` closes, and `Ctrl` `Enter` in the program starts it. In the picture `←` `→` go from step to step, `↑` `↓` to a cause or an effect, `Enter` opens what can be done."],
     ["Texts", "`Save` keeps program, query and all lines in a text; `Open` plays it again. It opens histories (as `save` writes them) and programs, too. All that is described in docs/LANGUAGE.md and docs/FORMATS.md."],
   ];
 
@@ -94,6 +94,7 @@ const Page = (() => {
     "begin-tour": () => Guide.begin(), "open-help": showHelp, "open-file": () => find("file").click(),
     "larger-query": () => begin({ ...typed(), query: find("larger-query").value }),
     "save-session": () => Files.saveSession(), "save-picture": () => Files.savePicture(),
+    "ask-more": () => Menus.open({ ask: true }, find("ask-more")),
     "redo-all": () => Talk.send(...Talk.run.shelf.map((step) => `redo ${step.number}`)),
     theme: () => setTheme(Canvas.theme === "light" ? "dark" : "light"), tidy,
     "by-record": () => setOrder("record"), "by-depth": () => setOrder("depth"),
@@ -135,7 +136,7 @@ const Page = (() => {
 
   const KEYS = {
     s: () => find("step").click(), r: () => find("leap").click(), u: () => find("undo-last").click(), t: () => find("tidy").click(),
-    d: () => setOrder(Canvas.by === "record" ? "depth" : "record"), "/": () => { showTab("console"); find("line").focus(); }, "?": showHelp,
+    a: () => { showTab("run"); find("ask-more").click(); }, d: () => setOrder(Canvas.by === "record" ? "depth" : "record"), "/": () => { showTab("console"); find("line").focus(); }, "?": showHelp,
   };
 
   function onKey(event) {
@@ -162,7 +163,7 @@ const Page = (() => {
     find("line").value = typedBefore[recall] || "";
   }
 
-  function onAsk(event) {
+  function onType(event) {
     event.preventDefault();
     const line = find("line").value;
     if (line.trim() === "") return;
@@ -175,7 +176,7 @@ const Page = (() => {
   function listenToAll() {
     document.addEventListener("click", onClick);
     document.addEventListener("keydown", onKey);
-    find("ask").addEventListener("submit", onAsk);
+    find("type").addEventListener("submit", onType);
     find("line").addEventListener("keydown", onLineKey);
     find("start").addEventListener("submit", (event) => { event.preventDefault(); Guide.end(); begin(typed()); });
     find("examples").addEventListener("change", () => { Guide.end(); chooseExample(find("examples").value); });

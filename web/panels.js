@@ -65,7 +65,7 @@ const Panels = (() => {
 
   function showShelf() {
     const chips = Talk.run.shelf.map((step) => () =>
-      make("button", { class: "chip taken", "data-line": `redo ${step.number}`, title: `redo ${step.number}: puts it there again` }, `${step.number} ${step.goal} ${step.act}`));
+      make("button", { class: "chip taken", "data-line": `redo ${step.number}`, title: `redo ${step.number}: puts it there again` }, `${step.number} ${step.goal || "-"} ${step.act}`));
     fill("shelf", chips, "nothing");
     find("redo-all").hidden = chips.length < 2;
   }
@@ -106,6 +106,7 @@ const Panels = (() => {
     for (const name of ["step", "leap", "leap-ten"]) find(name).disabled = isOver || ready.length === 0;
     find("undo-last").disabled = isOver || !last;
     find("tidy").disabled = isOver || steps.length < 3;
+    find("ask-more").disabled = isOver || Boolean(Talk.refusal);
     if (last) find("undo-last").dataset.line = `undo ${last.number}`;
     if (ready.length > 0) find("step").dataset.line = `step ${ready[0].name}`;
     find("note").textContent = noteWords();

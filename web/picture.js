@@ -3,12 +3,12 @@ const Picture = ((Graph, Lanes, Terms) => {
   "use strict";
 
   const LIGHT = {
-    ground: "#ffffff", ink: "#1c2430", dim: "#667080", grid: "#eceff3", read: "#2d7dd2", woke: "#c2410c", made: "#8a94a3",
+    ground: "#ffffff", ink: "#1c2430", dim: "#667080", grid: "#eceff3", read: "#2d7dd2", woke: "#c2410c", named: "#8a3ffc", made: "#8a94a3",
     leaf: "#3a4250", number: "#ffffff", ready: "#2e9e5b", waits: "#808a98", failed: "#c81e1e", held: "#8a6d1f", taken: "#7b8794",
     predicates: ["#2f6fb2", "#c9731b", "#3b8f5a", "#a2549e", "#b8443f", "#4c8593", "#8b6d3f", "#6a6fb8", "#6d8b26", "#c2628a"],
   };
   const DARK = {
-    ground: "#12171e", ink: "#e6edf3", dim: "#94a0ae", grid: "#212934", read: "#58a6ff", woke: "#ff9352", made: "#758190",
+    ground: "#12171e", ink: "#e6edf3", dim: "#94a0ae", grid: "#212934", read: "#58a6ff", woke: "#ff9352", named: "#c4a1ff", made: "#758190",
     leaf: "#c3ccd6", number: "#10151b", ready: "#4cc57e", waits: "#9aa5b3", failed: "#ff6b6b", held: "#d7b455", taken: "#8b97a5",
     predicates: ["#6aa9ec", "#f0a75a", "#63c18a", "#cf86cc", "#ec7d76", "#86c5d4", "#c9ab72", "#a3a8f0", "#b3d46a", "#f09abf"],
   };
@@ -35,6 +35,7 @@ const Picture = ((Graph, Lanes, Terms) => {
 .run .read{fill:none;stroke:${theme.read};stroke-width:${isTiny ? 0.8 : 1.5};opacity:.8}
 .run .implied{opacity:.2}
 .run .woke{stroke:${theme.woke};stroke-dasharray:${isTiny ? "3 2" : "6 3"};opacity:.95}
+.run .named{stroke:${theme.named};stroke-dasharray:${isTiny ? "4 1.5 1 1.5" : "8 3 1.5 3"}}
 .run .made{fill:none;stroke:${theme.made};stroke-width:${isTiny ? 0.8 : 1.4}}
 .run .held{fill:none;stroke:${theme.held};stroke-width:1.3;stroke-dasharray:2 3}
 .run .circle{stroke:${theme.failed};stroke-dasharray:none;stroke-width:1.8}
@@ -58,7 +59,7 @@ const Picture = ((Graph, Lanes, Terms) => {
 
   function heads(view, theme) {
     const size = view.sizes.kind === "tiny" ? 5 : 6;
-    return `<defs>${arrowHead("head-read", theme.read, size)}${arrowHead("head-woke", theme.woke, size)}${arrowHead("head-held", theme.held, 6)}${arrowHead("head-circle", theme.failed, 5)}</defs>`;
+    return `<defs>${arrowHead("head-read", theme.read, size)}${arrowHead("head-woke", theme.woke, size)}${arrowHead("head-named", theme.named, size)}${arrowHead("head-held", theme.held, 6)}${arrowHead("head-circle", theme.failed, 5)}</defs>`;
   }
 
   function drawAxis(view, theme) {
@@ -75,7 +76,7 @@ const Picture = ((Graph, Lanes, Terms) => {
   function drawLane(view, lane, colour) {
     const marks = lane.steps.map((step) => view.marks.get(step.number)).filter((mark) => mark.row === 0);
     const parent = lane.parent && view.marks.get(lane.parent.number);
-    let x = parent ? parent.x + view.sizes.dx * 0.45 : view.left - 4;
+    let x = parent ? parent.x + view.sizes.dx * 0.45 : lane.asked ? marks[0].x : view.left - 4;
     const parts = [];
     const line = (to, predicate, dashes) => {
       if (to > x) parts.push(`<line class="lane" x1="${round(x)}" x2="${round(to)}" y1="${round(lane.y)}" y2="${round(lane.y)}" stroke="${colour(predicate)}"${dashes}/>`);
@@ -156,8 +157,8 @@ const Picture = ((Graph, Lanes, Terms) => {
     return others.filter((mark) => points.some((point) => near(mark, point))).length;
   }
 
-  /** The curve of a read, from the step that bound to the step that read: of a small run, one that runs into few others. */
-  function readCurve(view, from, to) {
+  /** The curve from the step that bound or made to the step that read or named: of a small run, one that runs into few others. */
+  function curveOf(view, from, to) {
     const curves = curvesOf(view, from, to);
     if (view.sizes.kind !== "roomy" || view.marks.size > MOST_WITH_CLEAR_CURVES) return curves[0];
     const counts = curves.map((curve) => hits(view, curve, from, to));
@@ -177,23 +178,35 @@ const Picture = ((Graph, Lanes, Terms) => {
       ...bound.map((binding) => `${binding.variable} = ${Terms.cut(binding.term, 200)}`)].join("\n");
   }
 
-  function drawRead(view, run, edge) {
-    const from = view.marks.get(edge.from), to = view.marks.get(edge.to);
-    const kind = edge.woke ? " woke" : edge.implied ? " implied" : "";
-    return `<g class="edge" data-from="${edge.from}" data-to="${edge.to}"><path class="read${kind}" d="${pathOf(readCurve(view, from, to))}" marker-end="url(#head-${edge.woke ? "woke" : "read"})"/>${view.hasTitles ? `<title>${escaped(tellRead(run, edge))}</title>` : ""}</g>`;
+  const tellNamed = (edge) => `step ${edge.to} named ${edge.variables.join(", ")}, which step ${edge.from} made`;
+
+  /** What is told of an arrow where one points at it. */
+  const tellArrow = (run, edge) => (edge.kind === "named" ? tellNamed(edge) : tellRead(run, edge));
+
+  /** An arrow to a step that read what another bound, or that named what another made. */
+  function drawArrow(view, run, edge) {
+    const from = view.marks.get(edge.from), to = view.marks.get(edge.to), look = edge.woke ? "woke" : edge.kind;
+    const kind = `read${look === "read" ? "" : ` ${look}`}${edge.implied && !edge.woke ? " implied" : ""}`;
+    return `<g class="edge" data-from="${edge.from}" data-to="${edge.to}"><path class="${kind}" d="${pathOf(curveOf(view, from, to))}" marker-end="url(#head-${look})"/>${view.hasTitles ? `<title>${escaped(tellArrow(run, edge))}</title>` : ""}</g>`;
   }
 
-  const drawEdge = (view, run, edge) => (edge.kind === "made" ? drawMade(view, edge) : drawRead(view, run, edge));
+  const drawEdge = (view, run, edge) => (edge.kind === "made" ? drawMade(view, edge) : drawArrow(view, run, edge));
 
   /** What is told of a step where one points at it. */
   function tellStep(run, step) {
-    const lines = [`step ${step.number}: goal ${step.goal} ${step.act}`];
+    const lines = [`step ${step.number}: ${Graph.wordsOf(step)}`];
     if (run.texts.has(step.goal)) lines.push(Terms.cut(run.texts.get(step.goal), 300));
     if (step.clause && run.clauses[step.clause - 1]) lines.push(run.clauses[step.clause - 1].text);
     for (const binding of step.binds) lines.push(`binds ${binding.variable} = ${Terms.cut(binding.term, 200)}`);
     if (step.reads.length > 0) lines.push(`reads ${step.reads.join(", ")}`);
+    if (step.names.length > 0) lines.push(`names ${step.names.join(", ")}`);
     if (step.makes.length > 0) lines.push(`makes ${step.makes.join(", ")}`);
     return lines.join("\n");
+  }
+
+  function hexagon(x, y, radius, fill) {
+    const half = radius * 0.55, high = round(radius * 0.95);
+    return `<path class="body" d="M${round(x - half)} ${round(y - high)}H${round(x + half)}L${round(x + radius * 1.1)} ${round(y)}L${round(x + half)} ${round(y + high)}H${round(x - half)}L${round(x - radius * 1.1)} ${round(y)}z" fill="${fill}"/>`;
   }
 
   function shapeOf(mark, sizes, fill) {
@@ -201,6 +214,7 @@ const Picture = ((Graph, Lanes, Terms) => {
     if (step.kind === "unify") return `<path class="body" d="M${round(x)} ${round(y - leaf)}l${leaf} ${leaf}l-${leaf} ${leaf}l-${leaf} -${leaf}z" fill="${fill}"/>`;
     if (step.kind === "assign") return `<rect class="body" x="${round(x - leaf * 0.85)}" y="${round(y - leaf * 0.85)}" width="${round(leaf * 1.7)}" height="${round(leaf * 1.7)}" fill="${fill}"/>`;
     if (step.kind === "reduce") return `<circle class="body" cx="${round(x)}" cy="${round(y)}" r="${round(radius)}" fill="${fill}"/>`;
+    if (step.kind === "ask") return hexagon(x, y, radius, fill);
     const high = round(radius * 0.8), long = round(radius * 1.3), tip = round(radius * 0.7);
     return `<path class="body" d="M${round(x - radius)} ${round(y - high)}h${long}l${tip} ${high}l-${tip} ${high}h-${long}z" fill="${fill}"/>`;
   }
@@ -253,7 +267,7 @@ const Picture = ((Graph, Lanes, Terms) => {
 
   function drawTaken(view, place, theme) {
     const { step, x, y } = place, radius = round(view.sizes.radius * 0.9);
-    return `<g class="taken" data-taken="${step.number}"><circle class="halo" cx="${round(x)}" cy="${round(y)}" r="${radius + 3}"/><circle class="body" cx="${round(x)}" cy="${round(y)}" r="${radius}" fill="${theme.ground}" stroke="${theme.taken}" stroke-width="1.5" stroke-dasharray="3 2"/>${view.sizes.kind === "tiny" ? "" : `<text x="${round(x)}" y="${round(y + 3)}" font-size="${round(view.sizes.radius * 0.85)}" text-anchor="middle" fill="${theme.dim}" pointer-events="none">${step.number}</text>`}<title>${escaped(`taken back: step ${step.number}, goal ${step.goal} ${step.act}`)}</title></g>`;
+    return `<g class="taken" data-taken="${step.number}"><circle class="halo" cx="${round(x)}" cy="${round(y)}" r="${radius + 3}"/><circle class="body" cx="${round(x)}" cy="${round(y)}" r="${radius}" fill="${theme.ground}" stroke="${theme.taken}" stroke-width="1.5" stroke-dasharray="3 2"/>${view.sizes.kind === "tiny" ? "" : `<text x="${round(x)}" y="${round(y + 3)}" font-size="${round(view.sizes.radius * 0.85)}" text-anchor="middle" fill="${theme.dim}" pointer-events="none">${step.number}</text>`}<title>${escaped(`taken back: step ${step.number}, ${Graph.wordsOf(step)}`)}</title></g>`;
   }
 
   /** The arc from a waiting goal to a goal that has its variable. */
@@ -273,9 +287,11 @@ const Picture = ((Graph, Lanes, Terms) => {
     items.push([`<path d="M8 -6l6 6l-6 6l-6 -6z" fill="${theme.leaf}"/>`, "= binds"]);
     if (used.has("assign")) items.push([`<rect x="3" y="-5" width="10" height="10" fill="${theme.leaf}"/>`, ":= computes"]);
     if (used.has("input") || used.has("close")) items.push([`<path d="M1 -5h8l5 5l-5 5h-8z" fill="${theme.leaf}"/>`, "input"]);
+    if (used.has("ask")) items.push([hexagon(8, 0, 6, theme.leaf), "ask"]);
     items.push([`<path d="M0 0h16" stroke="${theme.made}" stroke-width="2"/>`, "made"]);
     items.push([`<path d="M0 0h16" stroke="${theme.read}" stroke-width="2"/>`, "read"]);
     items.push([`<path d="M0 0h16" stroke="${theme.woke}" stroke-width="2" stroke-dasharray="5 3"/>`, "read, and was woken"]);
+    if (run.graph.edges.some((edge) => edge.kind === "named")) items.push([`<path d="M0 0h16" stroke="${theme.named}" stroke-width="2" stroke-dasharray="8 3 1.5 3"/>`, "named"]);
     if (run.goals.some((goal) => goal.status === "ready")) items.push([`<circle cx="8" r="5" fill="none" stroke="${theme.ready}" stroke-width="2"/>`, "ready"]);
     if (run.goals.some((goal) => goal.status === "waits")) items.push([`<circle cx="8" r="5" fill="none" stroke="${theme.waits}" stroke-width="2" stroke-dasharray="3 2.4"/>`, "waits"]);
     return items;
@@ -300,10 +316,11 @@ const Picture = ((Graph, Lanes, Terms) => {
   /** What somebody hears who does not see the picture. */
   const describe = (run) => `${plural(run.graph.steps.length, "step")}, ${plural(run.goals.length, "goal")} there`;
 
-  /** On a lane's own row a faint line leads from the name to where the process begins. */
+  /** On a lane's own row a faint line leads from the name to where the process or the ask begins. */
   function drawLeader(view, lane, theme) {
-    if (!lane.parent) return "";
-    return `<line x1="${round(view.left - 8)}" x2="${round(view.marks.get(lane.parent.number).x)}" y1="${round(lane.y)}" y2="${round(lane.y)}" stroke="${theme.grid}" stroke-dasharray="2 4"/>`;
+    const begins = lane.parent || lane.asked;
+    if (!begins) return "";
+    return `<line x1="${round(view.left - 8)}" x2="${round(view.marks.get(begins.number).x)}" y1="${round(lane.y)}" y2="${round(lane.y)}" stroke="${theme.grid}" stroke-dasharray="2 4"/>`;
   }
 
   /**
@@ -334,7 +351,7 @@ const Picture = ((Graph, Lanes, Terms) => {
     return { svg: parts.filter(Boolean).join("\n"), view };
   }
 
-  return { draw, tellStep, tellRead };
+  return { draw, tellStep, tellArrow };
 })(typeof require === "undefined" ? Graph : require("./graph.js"), typeof require === "undefined" ? Lanes : require("./lanes.js"),
   typeof require === "undefined" ? Terms : require("./terms.js"));
 if (typeof module !== "undefined") module.exports = Picture;

@@ -20,7 +20,7 @@ const Talk = (() => {
     const steps = talk.isTooLong ? [] : Graph.readRecords(told.records), goals = Graph.readGoals(told.goals);
     const { texts } = talk.run;
     if (steps.length === 0) for (const goal of goals) texts.set(goal.name, goal.text);
-    Asking.completeTexts(texts, steps, () => open({ program, query }));
+    Asking.completeTexts(texts, steps, query, () => open({ program, query }));
     talk.run = { graph: Graph.graphOf(steps), goals, shelf: Graph.readShelf(told.shelf), texts, clauses: Graph.readClauses(program), values: told.values };
   }
 

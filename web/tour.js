@@ -72,7 +72,7 @@ const Tour = (() => {
 
   /** All stations in one row, each with its chapter's name and the session in which it stands. */
   const STATIONS = CHAPTERS.flatMap((chapter) => chapter.stations.map((station) => ({ ...station, chapter: chapter.name, session: chapter.session })));
-  const END = "126. That was the tour. Choose an example above, press `Run`, and click what you see; or type `leap` in the console. The key `?` tells what keys do.";
+  const END = "126. That was the tour. Choose an example above, press `Run`, click what you see, and `ask …` for more goals; or type `leap` in the console. The key `?` tells what keys do.";
 
   /** The lines that lead to a station, from the beginning of its session. */
   function linesBefore(index) {

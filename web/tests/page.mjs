@@ -139,6 +139,25 @@ inBrowsers("a stream is fed, a predicate is spied, the order is tidied, by click
   assert.deepEqual((await page.value(TOLD)).at(-1).reply, ["arranged"]);
 });
 
+inBrowsers("goals are asked for beside the word Goals; the ask is chosen, taken back and redone like any step", async (page) => {
+  await open(page, "#example=append&query=append([1],[2],R)&lines=step 0.1");
+  await page.click("#ask-more");
+  await page.type("append(R,[3],Q), true, _1_1 = [7]");
+  await page.key("Enter");
+  assert.deepEqual((await page.value(TOLD)).at(-1), { line: "ask append(R,[3],Q), true, _1_1 = [7]",
+    reply: ["REDU 2 - ask append(_0_1,[3],_2_1), _1_1 = [7]", "CALL 2.1 append(_0_1,[3],_2_1)", "CALL 2.2 _1_1 = [7]", "SUSP 2.1 _0_1"] });
+  await page.click('#canvas [data-step="2"]');
+  assert.deepEqual(await page.value(numbers("#canvas .cause[data-step]")), [1]);
+  assert.match(await page.value('document.getElementById("detail").textContent'), /^step 2: ask append\(_0_1,\[3\],_2_1\), _1_1 = \[7\]\n[^]*because of 1 named _1_1$/);
+  await page.click('#menu [data-line="why 2"]');
+  assert.deepEqual((await page.value(TOLD)).at(-1).reply, ["1 named _1_1"]);
+  await page.click('#canvas [data-step="2"]');
+  await page.click('#menu [data-line="undo 2"]');
+  assert.equal(await page.value('document.querySelector("#shelf [data-line]").textContent'), "2 - ask append(_0_1,[3],_2_1), _1_1 = [7]");
+  await page.click('#shelf [data-line="redo 2"]');
+  assert.deepEqual(await page.value(numbers("#canvas [data-step]")), [1, 2]);
+});
+
 inBrowsers("keys: a step, a run, the last step back, from step to step, its menu, and the console", async (page) => {
   await open(page, "#example=append");
   for (const key of ["s", "r", "u"]) await page.key(key);
@@ -153,6 +172,10 @@ inBrowsers("keys: a step, a run, the last step back, from step to step, its menu
   await page.key("Escape");
   await page.key("/");
   assert.equal(await page.value("document.activeElement.id"), "line");
+  await page.key("Escape");
+  await page.value("document.activeElement.blur()");
+  await page.key("a");
+  assert.equal(await page.value("document.activeElement.getAttribute('aria-label')"), "Goals to ask for");
 });
 
 inBrowsers("a session is saved as a text, and opened again as it was; a history and a program are opened, too", async (page) => {

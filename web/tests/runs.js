@@ -47,7 +47,7 @@ function rows() {
 function runOf(session, play, engine) {
   const told = Asking.whereItStands(session, play.query), steps = Graph.readRecords(told.records), goals = Graph.readGoals(told.goals);
   const texts = new Map(goals.map((goal) => [goal.name, goal.text]));
-  Asking.completeTexts(texts, steps, () => engine.open({ program: play.program, query: play.query }));
+  Asking.completeTexts(texts, steps, play.query, () => engine.open({ program: play.program, query: play.query }));
   return { graph: Graph.graphOf(steps), goals, shelf: Graph.readShelf(told.shelf), texts, clauses: Graph.readClauses(play.program), told };
 }
 
@@ -65,4 +65,17 @@ async function eachPlay(look) {
   assert.ok(played > 130, `${played} runs`);
 }
 
-module.exports = { eachPlay, plays, runOf };
+/** What the page would show of a run in which goals were asked for, by what the console tells of it (docs/PLAN.md, section 3). */
+function askedRun() {
+  const program = fs.readFileSync(path.join(EXAMPLES, "append.ghc"), "utf8");
+  const steps = Graph.readRecords(["1 0.1 by 2 reads - binds - makes 1.1,1.2", "2 - ask append(_0_1,[3],_2_1), _1_1 = [7] reads - binds - makes 2.1,2.2",
+    "3 1.1 eq reads - binds _0_1=[1|_1_1] makes -", "4 2.1 by 2 reads _0_1 binds - makes 4.1,4.2", "5 - ask true reads - binds - makes -",
+    "6 - ask append([],_4_1,_6_1), append(_2_1,_1_1,_6_2) reads - binds - makes 6.1,6.2"]);
+  const goals = Graph.readGoals(["1.2 ready append([],[2],_1_1)", "2.2 ready _1_1 = [7]", "4.1 ready _2_1 = [1|_4_1]", "4.2 waits _1_1 append(_1_1,[3],_4_1)",
+    "6.1 ready append([],_4_1,_6_1)", "6.2 waits _2_1 append(_2_1,_1_1,_6_2)"]);
+  const texts = new Map(goals.map((goal) => [goal.name, goal.text]));
+  for (const [name, text] of [["0.1", "append([1],[2],_0_1)"], ["1.1", "_0_1 = [1|_1_1]"], ["2.1", "append(_0_1,[3],_2_1)"]]) texts.set(name, text);
+  return { graph: Graph.graphOf(steps), goals, shelf: Graph.readShelf(["7 - ask append(_6_1,[],_7_1)"]), texts, clauses: Graph.readClauses(program) };
+}
+
+module.exports = { askedRun, eachPlay, plays, runOf };
