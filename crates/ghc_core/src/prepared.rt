@@ -17,8 +17,8 @@ use std::alloc::Global;
 
 impl Core {
     /// Finds the change for which the command asks, as the call for it does, with its refusals, their order and its cost:
-    /// `prepare_input`, `prepare_close`, `prepare_undo`, `prepare_rollback`, `prepare_redo` or `prepare_arrange`. But for the meter
-    /// the core stays as it is.
+    /// `prepare_input`, `prepare_close`, `prepare_undo`, `prepare_rollback`, `prepare_redo`, `prepare_arrange` or `prepare_ask`. But
+    /// for the meter the core stays as it is.
     pub fn prepare_command(&mut self, alloc: Global, command: &Command) -> Result<Change, Fault>
         ensures answer { Answered (IsAskedFor self.old.world (command_of command.now)) (Fails self.old.world (command_of command.now)) result }
 
@@ -48,6 +48,10 @@ impl Core {
             },
             Command::Redo(number) => match self.prepare_redo(alloc, *number) {
                 Ok(addition) => Ok(Change::PutsBack(addition)),
+                Err(fault) => Err(fault),
+            },
+            Command::Ask(ask) => match self.prepare_ask(alloc, ask) {
+                Ok(addition) => Ok(Change::Adds(addition)),
                 Err(fault) => Err(fault),
             },
             Command::Arrange(order) => match self.prepare_arrange(alloc, order.as_slice()) {
