@@ -80,15 +80,19 @@ module _ (D : List ℕ → ℕ → Type 0) where
 
   call_more : (g : Goal) (gs : List Goal) → ((f : List ℕ) (ts : List Tree) → call f ts ≡ g → D f (length ts)) → Calls gs → Calls (g ∷ gs)
   call_more g gs here (inl all) = inl (λ f ts i. elim i [ inl e ↦ here f ts e | inr j ↦ all f ts j ])
-  call_more g gs here (inr (f, n, first)) = inr (f, n, record {
-    front = g ∷ first.front;
-    arguments = first.arguments;
-    back = first.back;
-    splits = ap (λ l. g ∷ l) first.splits;
-    arity = first.arity;
-    before = λ h us i. elim i [ inl e ↦ here h us e | inr j ↦ first.before h us j ];
-    without = first.without;
-  })
+  call_more g gs here (inr (f, n, first)) = inr (
+    f,
+    n,
+    record {
+      front = g ∷ first.front;
+      arguments = first.arguments;
+      back = first.back;
+      splits = ap (λ l. g ∷ l) first.splits;
+      arity = first.arity;
+      before = λ h us i. elim i [ inl e ↦ here h us e | inr j ↦ first.before h us j ];
+      without = first.without;
+    },
+  )
 
   calls_decided : ((f : List ℕ) (n : ℕ) → Decided (D f n)) → (gs : List Goal) → Calls gs
   calls_decided decide [] = inl (λ f ts i. absurd i)

@@ -69,9 +69,9 @@ step_asked w r free next = elim (firing w.opening.program w.state r next.1) [
       let number = next.0 in
       let below = next.2.0 in
       let none : NameNoneOf no_step a.goals = λ x i no.
-          let other : x.step ≢ r.number = λ own. omega (arith, own, no, number, below) in
-          let named : In x (variables_asked r.act) = subst (λ act. In x (variables_asked act)) (sym a.act) (first_in [] (variables_of_goals a.goals) x i refl) in
-          free x (next.3 x (named, other)) no in
+      let other : x.step ≢ r.number = λ own. omega (arith, own, no, number, below) in
+      let named : In x (variables_asked r.act) = subst (λ act. In x (variables_asked act)) (sym a.act) (first_in [] (variables_of_goals a.goals) x i refl) in
+      free x (next.3 x (named, other)) no in
       let back = asks_back w.opening.program a.goals r.number r.effect (λ no. omega (arith, no, number, below)) none a.asks in
       inr (ask back.goals, to_ask (back.ask, back.none, a.none, a.act ∙ ap asked back.same), back.ask)
 ]

@@ -23,7 +23,7 @@ impl Core {
         ensures answer { Answered (IsAskedFor self.old.world (command_of command.now)) (Fails self.old.world (command_of command.now)) result }
 
         // No want of memory hides that the stream is not there or its tail bound, that the step is not there, has a consequence or lacks
-        // its goal, or that the first number of an order is not kept.
+        // its goal, that what is named is not known, that there is no room for an ask, or that the first number of an order is not kept.
         ensures anyway { (f : fault_spec) → IsNotObeyedAnyway self.old.world (command_of command.now) f → result ≡ Err f }
         ensures stays { Stays self.old self.new }
         ensures counted { CountsInObeying (command_of command.now) self.old.meter self.new.meter }
