@@ -22,7 +22,8 @@ use Rattle.ghc_flat.proofs.Clauses.{same_call, call_name, call_arity}
 use Rattle.ghc_fire.specs.declared.act.Act.TheVariants.{Asked as asked}
 use Rattle.ghc_fire.specs.Asked.{IsAsk, NameNoneOf, Asks, asked_as, renumbered, variables_asked}
 use Rattle.ghc_fire.specs.Effect.{Effect, no_step}
-use Rattle.ghc_fire.specs.Instance.{replace, replace_in_goal}
+use Rattle.ghc_unify.specs.Solutions.{replace}
+use Rattle.ghc_fire.specs.Instance.{replace_in_goal}
 use Rattle.ghc_fire.specs.Proposal.{numbered}
 use Rattle.ghc_fire.proofs.Asking.{asks_as, asked_names, numbered_firsts}
 use Rattle.ghc_records.specs.Record.{Record, Fires}
@@ -117,7 +118,7 @@ module _ (D : List ℕ → ℕ → Type 0) where
 
 -- calls are defined just where the program has a clause for each
 pub defined_by : (P : Program) (gs : List Goal) → AllCalls (HasClauseFor P) gs → AreDefined P gs
-defined_by P gs all f ts i = let h = all f ts i in (h.0, h.1, h.2, h.3, h.4)
+defined_by P gs all f ts i = let h = all f ts i in (h.0, h.1, h.2, (h.3, h.4))
 
 defined_calls : (P : Program) (gs : List Goal) → AreDefined P gs → AllCalls (HasClauseFor P) gs
 defined_calls P gs defined f ts i = let h = defined f ts i in (h.0, h.1, h.2, h.3.0, h.3.1)
