@@ -203,7 +203,7 @@ module _ (w : World) (gs : List Goal) (r : Record) (of : IsOfAsk gs r) (next : I
   ask_or_fail p = elim p.first [
     | inl u ↦ none_undefined w gs defined _ u
     | inr (_, inl (_, unknown)) ↦ unknown named
-    | inr (_, inr (_, many)) ↦ room_or_full w next.2 many
+    | inr (_, inr (_, (_, many))) ↦ room_or_full w next.2 many
   ]
 
 -- An ask asks for one step.
@@ -249,7 +249,8 @@ ask_answered w s gs ask = elim (calls_decided (HasClauseFor w.opening.program) (
           | inl free ↦
               let e = asks_as w.opening.program gs w.next ask (defined_by w.opening.program gs all) (none_of_next w s gs ask known free.0) in
               let r : Record = record { number = w.next; goal = None; consumed = None; act = asked (asked_as w.next gs); effect = e.0 } in
-              inl (r, ask_step w s gs ask known free.0 all free e.0 e.1 r refl)
+              let step = ask_step w s gs ask known free.0 all free e.0 e.1 r refl in
+              inl (r, step.0, step.1)
         ]
   ]
 ]

@@ -216,7 +216,7 @@ arranges_answered w order ordered = elim (decided w.kept order ordered.kept_once
 
 asks_answered : (w : World) (gs : List Goal) → Reaches w → IsAsk gs → IsObeyed w (ask gs)
 asks_answered w gs r proper = elim (ask_answered w r gs proper) [
-  | inl (s, (of, next)) ↦ (stepped s.number, with_step s w, does {change = adds s} (to_ask of) next refl refl)
+  | inl (s, of, next) ↦ (stepped s.number, with_step s w, does {change = adds s} (to_ask of) next refl refl)
   | inr (f, why) ↦ (refused f, w, refuses why)
 ]
 

@@ -24,14 +24,14 @@ returns-in-Close-clause-tail_bound c fails =
 pub returns-in-Ask-clause-no_stream : goal.returns-in-Ask-clause-no_stream
 returns-in-Ask-clause-no_stream c fails =
     let w = c.args.self.now.world in
-    absurd ((ask_told w c.in-Ask.ask.now (subst (λ m. Foresees w (command_of m) (refuses Fault.NoStream)) c.in-Ask.is fails)).0 refl)
+    absurd ((ask_told w c.in-Ask.ask (subst (λ m. Foresees w (command_of m) (refuses Fault.NoStream)) c.in-Ask.is fails)).0 refl)
 
 pub returns-in-Ask-clause-tail_bound : goal.returns-in-Ask-clause-tail_bound
 returns-in-Ask-clause-tail_bound c fails =
     let w = c.args.self.now.world in
-    absurd ((ask_told w c.in-Ask.ask.now (subst (λ m. Foresees w (command_of m) (refuses Fault.TailBound)) c.in-Ask.is fails)).1 refl)
+    absurd ((ask_told w c.in-Ask.ask (subst (λ m. Foresees w (command_of m) (refuses Fault.TailBound)) c.in-Ask.is fails)).1 refl)
 
 pub returns-in-Ask-clause-other : goal.returns-in-Ask-clause-other
 returns-in-Ask-clause-other c fails =
     let w = c.args.self.now.world in
-    absurd ((ask_told w c.in-Ask.ask.now (subst (λ m. Foresees w (command_of m) (refuses Fault.Command)) c.in-Ask.is fails)).2 refl)
+    absurd ((ask_told w c.in-Ask.ask (subst (λ m. Foresees w (command_of m) (refuses Fault.Command)) c.in-Ask.is fails)).2 refl)
