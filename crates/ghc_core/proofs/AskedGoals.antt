@@ -1,5 +1,5 @@
 -- Asks: each is refused for one reason, or asks for one step.
-use Rattle.std.proofs.Common.{◌≡◌, ◌≢◌, ◌↔◌, ◌<◌, ℕ, ◌+◌, ◌⊎◌, Bool, false, not, eqb, IsTrue, List, [], ◌∷◌, length, map, filter, rules, refl, sym, ap, ◌∙◌, subst, inl, inr, arith, Some, None}
+use Rattle.std.proofs.Common.{◌≡◌, ◌≢◌, ◌↔◌, ◌<◌, ℕ, ◌+◌, ◌⊎◌, Bool, false, not, eqb, IsTrue, List, [], ◌∷◌, length, map, filter, rules, refl, sym, ap, ◌∙◌, subst, inl, inr, arith, None}
 use Rattle.std.specs.Coded.{coded_list, coded_ℕ}
 use Rattle.std.proofs.lemmas.Bool.{false≢true}
 use Rattle.std.proofs.lemmas.Bool.Decides.{eqb_tells}
@@ -13,7 +13,7 @@ use Rattle.ghc_term.specs.Lists.{In}
 use Rattle.ghc_term.specs.Store.{value_at}
 use Rattle.ghc_term.proofs.Decided.{Decided, decided_by, decided_both, nat_decided, same_decided, some_decided}
 use Rattle.ghc_term.proofs.ListsLemmas.{in_map, in_at, at_of_in, in_middle, compare_splits}
-use Rattle.ghc_flat.specs.Clause.{Clause, Program, Query, IsClause}
+use Rattle.ghc_flat.specs.Clause.{Program}
 use Rattle.ghc_flat.specs.Checked.{AllCalls, IsFirstCallWithout}
 use Rattle.ghc_flat.specs.Flat.{AreDefined, is_stream}
 use Rattle.ghc_flat.specs.Numbers.{AreNumbersFor}
@@ -26,14 +26,13 @@ use Rattle.ghc_unify.specs.Solutions.{replace}
 use Rattle.ghc_fire.specs.Instance.{replace_in_goal}
 use Rattle.ghc_fire.specs.Proposal.{numbered}
 use Rattle.ghc_fire.proofs.Asking.{asks_as, asked_names, numbered_firsts}
-use Rattle.ghc_records.specs.Record.{Record, Fires}
-use Rattle.ghc_records.specs.Replay.{IsVariableOf}
+use Rattle.ghc_records.specs.Record.{Record}
 use Rattle.ghc_records.proofs.Heads.{first_in}
 use Rattle.ghc_records.proofs.Replaying.{of_query}
 use Rattle.ghc_depend.proofs.Finding.{not_both}
 use Rattle.ghc_depend.proofs.KeptOnce.{fires_once}
 use Rattle.ghc_depend.proofs.Results.{IsAsking, firing}
-use Rattle.ghc_core.specs.AskedGoals.{HasClauseFor, HasUndefined, NamesKnownIn, NameKnown, IsOfAsk, AskFails}
+use Rattle.ghc_core.specs.AskedGoals.{HasClauseFor, HasUndefined, NameKnown, IsOfAsk, AskFails}
 use Rattle.ghc_core.specs.Anyway.{IsNotAskedAnyway}
 use Rattle.ghc_core.specs.World.{World, IsFull, HasRoom, IsKnown, IsNextStep}
 use Rattle.ghc_core.specs.Core.{IsStanding}

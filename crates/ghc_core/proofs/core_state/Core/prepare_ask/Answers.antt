@@ -1,7 +1,6 @@
 use Rattle.std.proofs.Common.{◌≡◌, inl, inr, ap, sym, subst, ◌∙◌, Err, None}
 use Rattle.ghc_fire.specs.declared.act.Act.TheVariants.{Asked as asked}
 use Rattle.ghc_fire.specs.Asked.{NameNoneOf, Asks, asked_as}
-use Rattle.ghc_term.specs.declared.fault.Fault.{Fault}
 use Rattle.ghc_term.proofs.ListsLemmas.{not_both}
 use Rattle.ghc_reader.specs.Written.{AreNarrow}
 use Rattle.ghc_flat.specs.Checked.{AllCalls, IsFirstCallWithout}
