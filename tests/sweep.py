@@ -36,7 +36,7 @@ from sweep_schedules import SCHEDULES, ScheduleCase, sweep_schedule, unused_even
 MOST = 400
 ALL_BEHIND = 10**9
 F1 = b"F1 no memory\n"
-CHANGES = ("step", "in", "end", "undo", "roll", "redo", "arrange")
+CHANGES = ("step", "in", "end", "ask", "undo", "roll", "redo", "arrange")
 RUNS = ("leap", "skip")
 SHOWN = ("show", "goals")
 ORDER = "w+p+h*p*q+p+h*s"  # the words, the files, both texts, the checker and the first state, the history, and the session
@@ -94,6 +94,12 @@ STORIES = {
         SUM,
         "instream(S), sum(S,0,R)",
         "in 1 5;in 1 f([a|b]);undo 2;in 1 7;in 1 f(;end 1;in 1 9;records;save;show S;roll 1;goals;records",
+    ),
+    "asks": Story(
+        APPEND,
+        "append([1],[2],R)",
+        "step 0.1;ask append(R,[3],Q), true, _1_1 = [7], f(R,_,_2_3) = Q;ask append(R,[3],Q), true, _1_1 = [7], f(R,_) = Q;why 2;goals;"
+        "undo 1;step 2.2;undo 3;arrange 2 1;undo 2;redo 2;roll 1;redo 2;shelf;redo 1;redo 2;ask r(R);ask f(;ask;records;save",
     ),
     "words": Story(APPEND, "append([1],[2],R)", "nonsense;step 9.9;show Q;spy foo/1;spy append/3;nospy append/3;skip 9.9;goals;quit"),
     "leap": Story(

@@ -1,8 +1,8 @@
 -- What the texts of replies to commands of the core say.
-use Rattle.std.proofs.Common.{◌≡◌, ◌≢◌, ◌⊎◌, ◌∙◌, inl, inr, refl, sym, subst, ap, List, ℕ, Result, Ok, Err, OnOk, OnErr}
+use Rattle.std.proofs.Common.{◌≡◌, ◌≢◌, ◌⊎◌, ◌∙◌, inl, inr, sym, subst, ap, List, ℕ, Result, Ok, Err, OnOk, OnErr}
 use Rattle.ghc_term.specs.declared.fault.Fault.{Fault}
 use Rattle.ghc_term.specs.declared.fault.Fault.TheVariants as fault
-use Rattle.ghc_reader.specs.Tests.{a_term, IsRefusal}
+use Rattle.ghc_reader.specs.Tests.{a_term, an_ask, IsRefusal}
 use Rattle.ghc_fire.specs.declared.meter.Meter.{Meter}
 use Rattle.ghc_fire.specs.Meter.{one_more}
 use Rattle.ghc_core.specs.World.{World}
@@ -11,7 +11,7 @@ use Rattle.ghc_core.specs.Answers.{Fails}
 use Rattle.ghc_core.proofs.Moving.{opening_stays}
 use Rattle.ghc_core.specs.Counting.{CountsInObeying}
 use Rattle.ghc_console.specs.Firing.{FiresInObeying}
-use Rattle.ghc_console.specs.Replies.{IsObeyed, obeys, refuses, RepliesToInput, unread, refusal}
+use Rattle.ghc_console.specs.Replies.{IsObeyed, obeys, refuses, RepliesToAsk, RepliesToInput, unasked, unread, refusal}
 
 -- a command that is refused
 pub command_refused : (w v : World) (c : Command) (f : Fault) (text : List ℕ) → v ≡ w → (f ≡ fault.Memory) ⊎ Fails w c f → text ≡ refusal f → f ≢ fault.Memory → IsObeyed w c text v
@@ -22,6 +22,11 @@ command_refused w v c f text same (inr q) told kept = refuses f q told same
 pub text_refused : (w : World) (k : ℕ) (given text : List ℕ) (f : Fault) → (f ≡ fault.Memory) ⊎ IsRefusal a_term given f → text ≡ refusal f → f ≢ fault.Memory → RepliesToInput w k given text w
 text_refused w k given text f (inl m) told kept = absurd (kept m)
 text_refused w k given text f (inr q) told kept = subst (λ t. RepliesToInput w k given t w) (sym told) (unread q)
+
+-- a text that the reader refuses as what is asked for
+pub ask_refused : (w : World) (given text : List ℕ) (f : Fault) → (f ≡ fault.Memory) ⊎ IsRefusal an_ask given f → text ≡ refusal f → f ≢ fault.Memory → RepliesToAsk w given text w
+ask_refused w given text f (inl m) told kept = absurd (kept m)
+ask_refused w given text f (inr q) told kept = subst (λ t. RepliesToAsk w given t w) (sym told) (unasked q)
 
 -- A command leaves the opening as it was, whether it is obeyed or refused,
 pub obeyed_leaves_opening : (w v : World) (c : Command) (text : List ℕ) → IsObeyed w c text v → v.opening ≡ w.opening

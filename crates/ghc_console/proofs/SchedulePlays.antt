@@ -11,7 +11,7 @@ use Rattle.ghc_core.specs.declared.world.World.{World as Played}
 use Rattle.ghc_console.specs.Device.{WritesFront}
 use Rattle.ghc_console.specs.Replies.{records_text}
 use Rattle.ghc_console.specs.ScheduleReplies.{Hears, told_text}
-use Rattle.ghc_console.specs.ScheduleText.{ArePlayedOut, BrokenOff, Schedule, WritesSchedule, nothing_more, part_of_records, part_of_reply, hand_count, then_begun, then_whole, told_at_end, with_hands}
+use Rattle.ghc_console.specs.ScheduleText.{ArePlayedOut, BrokenOff, Schedule, WritesSchedule, part_of_records, part_of_reply, hand_count, then_begun, then_whole, told_at_end, with_hands}
 
 -- what the rest gives, behind what was done, is what the whole gives
 pub record Onward (first now : Played) (all rest : List (List ℕ)) (done : List ℕ) : Type 0 where

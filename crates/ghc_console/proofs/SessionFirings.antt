@@ -9,7 +9,7 @@ use Rattle.ghc_console.specs.Firing.{Fires, FiresInObeying, firings_in, firings_
 use Rattle.ghc_console.specs.Lines.{lines_of}
 use Rattle.ghc_console.specs.Reading.{TakesLine}
 use Rattle.ghc_console.specs.declared.command.LineCommand.{LineCommand}
-use Rattle.ghc_console.specs.declared.command.LineCommand.TheVariants.{Nothing, Step, Obey, Show, Records, Goals, Why, Who, Shelf, Save, Spy, Unspy, Input, Leap, Skip, Quit, Unknown}
+use Rattle.ghc_console.specs.declared.command.LineCommand.TheVariants.{Nothing, Step, Obey, Show, Records, Goals, Why, Who, Shelf, Save, Spy, Unspy, Input, Ask, Leap, Skip, Quit, Unknown}
 
 -- obeying a command of the core may fire nothing
 pub obeys_nothing : (c : Command) (m n : ℕ) → n ≡ m → FiresInObeying c m n
@@ -49,6 +49,7 @@ fires_nothing Save m n e = e
 fires_nothing (Spy name arity) m n e = e
 fires_nothing (Unspy name arity) m n e = e
 fires_nothing (Input stream given) m n e = e
+fires_nothing (Ask given) m n e = e
 fires_nothing Quit m n e = e
 fires_nothing Unknown m n e = e
 
@@ -70,6 +71,7 @@ fires_few Save m n none e = omega (arith, e)
 fires_few (Spy name arity) m n none e = omega (arith, e)
 fires_few (Unspy name arity) m n none e = omega (arith, e)
 fires_few (Input stream given) m n none e = omega (arith, e)
+fires_few (Ask given) m n none e = omega (arith, e)
 fires_few Quit m n none e = omega (arith, e)
 fires_few Unknown m n none e = omega (arith, e)
 

@@ -7,7 +7,7 @@ use Rattle.ghc_core.specs.declared.command.Command.TheVariants.{Undo, Redo, Roll
 use Rattle.ghc_console.specs.Words.{behind, goal_name_of, is_printable, is_variable, number_of, numbers_of, words_of}
 use Rattle.ghc_console.specs.PredicateWords.{predicate_of}
 use Rattle.ghc_console.specs.declared.command.LineCommand.{LineCommand}
-use Rattle.ghc_console.specs.declared.command.LineCommand.TheVariants.{Nothing, Step, Obey, Show, Records, Goals, Why, Who, Shelf, Save, Spy, Unspy, Input, Leap, Skip, Quit, Unknown}
+use Rattle.ghc_console.specs.declared.command.LineCommand.TheVariants.{Nothing, Step, Obey, Show, Records, Goals, Why, Who, Shelf, Save, Spy, Unspy, Input, Ask, Leap, Skip, Quit, Unknown}
 
 -- A step with the goal, by the least clause that accepts, where the word named one.
 abbrev pub step_with : Option GoalName → LineCommand
@@ -106,12 +106,18 @@ abbrev pub input_to : List (List ℕ) → List ℕ → LineCommand
 input_to [] text = Unknown
 input_to (stream ∷ words) text = input_with (number_of stream) text
 
--- The command of these words, with the text that stands behind the first two: `arrange` takes any number of words behind it, and `in K T` a number and that text.
+-- The asking for what the text says, where there is a text.
+abbrev pub ask_with : List ℕ → LineCommand
+ask_with (byte ∷ bytes) = Ask (byte ∷ bytes)
+ask_with [] = Unknown
+
+-- The command of the words of a line: `arrange` takes any number of words behind it; `in K T` a number, and all that stands behind the first two words; and `ask T` all that stands behind the first.
 abbrev pub command_of_words : List (List ℕ) → List ℕ → LineCommand
-command_of_words [] text = Nothing
-command_of_words (name ∷ words) text = if bytes_eq name (codes "arrange") then arrange_with (numbers_of words)
-    else (if bytes_eq name (codes "in") then input_to words text else command_by_count name words)
+command_of_words [] line = Nothing
+command_of_words (name ∷ words) line = if bytes_eq name (codes "arrange") then arrange_with (numbers_of words)
+    else (if bytes_eq name (codes "in") then input_to words (behind 2 line)
+    else (if bytes_eq name (codes "ask") then ask_with (behind 1 line) else command_by_count name words))
 
 -- The command that a line says. With a byte that is not printable it says none that is known.
 abbrev pub command_of : List ℕ → LineCommand
-command_of line = if list_all is_printable line then command_of_words (words_of line) (behind 2 line) else Unknown
+command_of line = if list_all is_printable line then command_of_words (words_of line) line else Unknown

@@ -6,6 +6,7 @@ pub mod Words
 pub mod PredicateWords
 pub mod Commands
 pub mod VariableNamed
+pub mod AskedFor
 pub mod SessionState
 pub mod TextLines
 pub mod RunReplies

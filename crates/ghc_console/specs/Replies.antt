@@ -7,10 +7,11 @@ use Rattle.ghc_term.specs.declared.goal_name.GoalName.{GoalName}
 use Rattle.ghc_term.specs.declared.fault.Fault.{Fault}
 use Rattle.ghc_term.specs.declared.limit.Limit.TheVariants as limit
 use Rattle.ghc_term.specs.Tree.{Tree, variable}
+use Rattle.ghc_term.specs.Goal.{Goal}
 use Rattle.ghc_term.specs.Store.{value_at}
 use Rattle.ghc_term.specs.Resolved.{IsTextOf}
 use Rattle.ghc_flat.specs.Clause.{Program}
-use Rattle.ghc_reader.specs.Tests.{a_term, IsRefusal}
+use Rattle.ghc_reader.specs.Tests.{a_term, an_ask, IsRefusal}
 use Rattle.ghc_reader.specs.Read.{IsReadTerm}
 use Rattle.ghc_fire.specs.Attempt.{proposes, refused}
 use Rattle.ghc_fire.specs.Proposal.{Proposal}
@@ -44,9 +45,10 @@ use Rattle.ghc_trace.specs.Spies.{Spies}
 pub use Rattle.ghc_console.specs.TextLines.{lined, refusal}
 use Rattle.ghc_console.specs.RunReplies.{TellsRun, RepliesToSkip}
 use Rattle.ghc_console.specs.VariableNamed.{IsVariableNamed}
+use Rattle.ghc_console.specs.AskedFor.{IsReadAskFor}
 use Rattle.ghc_console.specs.Commands.{command_of}
 use Rattle.ghc_console.specs.declared.command.LineCommand.{LineCommand}
-use Rattle.ghc_console.specs.declared.command.LineCommand.TheVariants.{Nothing as nothing, Step as step, Obey as obey, Show as show, Records as records, Goals as goals, Why as why, Who as who, Shelf as shelf, Save as save, Spy as spy, Unspy as unspy, Input as input, Leap as leap, Skip as skip, Quit as quit, Unknown as unknown}
+use Rattle.ghc_console.specs.declared.command.LineCommand.TheVariants.{Nothing as nothing, Step as step, Obey as obey, Show as show, Records as records, Goals as goals, Why as why, Who as who, Shelf as shelf, Save as save, Spy as spy, Unspy as unspy, Input as input, Ask as ask, Leap as leap, Skip as skip, Quit as quit, Unknown as unknown}
 use Rattle.ghc_console.specs.Reading.{line_limit}
 use Rattle.ghc_console.specs.SessionState.{SessionState, HasClauseFor, LeavesSpies, predicate_text}
 
@@ -99,6 +101,11 @@ pub data IsObeyed (w : World) (c : Command) (text : List ℕ) (v : World) : Type
 pub data RepliesToInput (w : World) (k : ℕ) (given : List ℕ) : List ℕ → World → Type 0 where
   unread : {f : Fault} → IsRefusal a_term given f → RepliesToInput w k given (refusal f) w
   reads : (u : Tree) {text : List ℕ} {v : World} → IsReadTerm given u → IsObeyed w (command.input k u) text v → RepliesToInput w k given text v
+
+-- RepliesToAsk w given text v: a test of the reader refuses what is given; or it is read as goals, which the world is asked for.
+pub data RepliesToAsk (w : World) (given : List ℕ) : List ℕ → World → Type 0 where
+  unasked : {f : Fault} → IsRefusal an_ask given f → RepliesToAsk w given (refusal f) w
+  asks : (gs : List Goal) {text : List ℕ} {v : World} → IsReadAskFor w given gs → IsObeyed w (command.ask gs) text v → RepliesToAsk w given text v
 
 -- RepliesToShow w word text: the variable that the word names, and the term to which it leads; or the refusal where it names none, or the term is too long.
 pub data RepliesToShow (w : World) (word : List ℕ) : List ℕ → Type 0 where
@@ -181,6 +188,7 @@ Replies spies w save text v = RepliesToSave w text × (v ≡ w)
 Replies spies w (spy f n) text v = RepliesToSpy w.opening.program f n text × (v ≡ w)
 Replies spies w (unspy f n) text v = (text ≡ lined (codes "not spying " ++ predicate_text f n)) × (v ≡ w)
 Replies spies w (input k given) text v = RepliesToInput w k given text v
+Replies spies w (ask given) text v = RepliesToAsk w given text v
 Replies spies w (leap limit) text v = TellsRun spies None limit w text v
 Replies spies w (skip g) text v = RepliesToSkip spies w g text v
 Replies spies w quit text v = (text ≡ []) × (v ≡ w)
@@ -201,6 +209,7 @@ quits save = false
 quits (spy f n) = false
 quits (unspy f n) = false
 quits (input k given) = false
+quits (ask given) = false
 quits (leap limit) = false
 quits (skip g) = false
 quits quit = true

@@ -4,21 +4,23 @@ use Rattle.std.specs.Fmt.{decimal}
 use Rattle.ghc_term.specs.declared.fault.Fault.{Fault}
 use Rattle.ghc_term.specs.declared.limit.Limit.TheVariants as limit
 use Rattle.ghc_term.specs.Tree.{Tree}
-use Rattle.ghc_reader.specs.Tests.{a_term, IsRefusal}
+use Rattle.ghc_term.specs.Goal.{Goal}
+use Rattle.ghc_reader.specs.Tests.{a_term, an_ask, IsRefusal}
 use Rattle.ghc_reader.specs.Read.{IsReadTerm}
 use Rattle.ghc_records.specs.StepText.{goal_name_text}
-use Rattle.ghc_core.specs.Events.{Event, command, input as give, Reply, held, stepped, noted, undone, arranged, refused}
+use Rattle.ghc_core.specs.Events.{Event, command, input as give, ask as ask_for, Reply, held, stepped, noted, undone, arranged, refused}
 use Rattle.ghc_core.specs.EventCode.{event_of}
 use Rattle.ghc_core.specs.CommandCode.{command_of as core_command_of}
 use Rattle.ghc_core.specs.Meets.{Meets}
 use Rattle.ghc_core.specs.declared.world.World.{World as Played}
+use Rattle.ghc_console.specs.AskedFor.{IsReadAskFor}
 use Rattle.ghc_console.specs.Commands.{command_of}
 use Rattle.ghc_console.specs.Reading.{line_limit}
 use Rattle.ghc_console.specs.TextLines.{lined, refusal}
 use Rattle.ghc_console.specs.Replies.{undone_text}
 use Rattle.ghc_console.specs.ScheduleLines.{schedule_line_of}
 use Rattle.ghc_console.specs.declared.command.LineCommand.{LineCommand}
-use Rattle.ghc_console.specs.declared.command.LineCommand.TheVariants.{Nothing as nothing, Step as step, Obey as obey, Show as show, Records as records, Goals as goals, Why as why, Who as who, Shelf as shelf, Save as save, Spy as spy, Unspy as unspy, Input as input, Leap as leap, Skip as skip, Quit as quit, Unknown as unknown}
+use Rattle.ghc_console.specs.declared.command.LineCommand.TheVariants.{Nothing as nothing, Step as step, Obey as obey, Show as show, Records as records, Goals as goals, Why as why, Who as who, Shelf as shelf, Save as save, Spy as spy, Unspy as unspy, Input as input, Ask as ask, Leap as leap, Skip as skip, Quit as quit, Unknown as unknown}
 use Rattle.ghc_console.specs.declared.schedule_line.ScheduleLine.{ScheduleLine}
 use Rattle.ghc_console.specs.declared.schedule_line.ScheduleLine.TheVariants as line
 
@@ -49,11 +51,17 @@ pub data IsGiven (k : ℕ) (given : List ℕ) (old : Played) (reply : Option Rep
   unread : (f : Fault) → IsRefusal a_term given f → IsTurnedDown f old reply new → IsGiven k given old reply new
   reads : (u : Tree) → IsReadTerm given u → IsPlayed (command (give k u)) old reply new → IsGiven k given old reply new
 
+-- IsAskedOf given old reply new: a test of the reader refuses what is given; or it is read as goals, which the core is asked for.
+pub data IsAskedOf (given : List ℕ) (old : Played) (reply : Option Reply) (new : Played) : Type 0 where
+  unasked : (f : Fault) → IsRefusal an_ask given f → IsTurnedDown f old reply new → IsAskedOf given old reply new
+  asks : (gs : List Goal) → IsReadAskFor old.core.world given gs → IsPlayed (command (ask_for gs)) old reply new → IsAskedOf given old reply new
+
 -- What a command of the console does in a schedule: those that the core obeys are events; the others are not known.
 abbrev pub PlaysCommand : LineCommand → Played → Option Reply → Played → Type 0
 PlaysCommand nothing old reply new = (reply ≡ None) × (new ≡ old)
 PlaysCommand (obey c) old reply new = IsPlayed (command (core_command_of c)) old reply new
 PlaysCommand (input k given) old reply new = IsGiven k given old reply new
+PlaysCommand (ask given) old reply new = IsAskedOf given old reply new
 PlaysCommand (step g choice) old reply new = IsTurnedDown Fault.Command old reply new
 PlaysCommand (show word) old reply new = IsTurnedDown Fault.Command old reply new
 PlaysCommand records old reply new = IsTurnedDown Fault.Command old reply new

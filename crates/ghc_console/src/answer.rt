@@ -11,7 +11,7 @@ use crate::answered::Answered;
 use crate::causes::{who, why};
 use crate::command::{LineCommand, parse};
 use crate::debugger::Debugger;
-use crate::obey_reply::{input, obey};
+use crate::obey_reply::{ask, input, obey};
 use crate::reading::Line;
 use crate::reply::{goals, records, refused, show, step};
 use crate::run_reply::{leap, skip};
@@ -62,6 +62,7 @@ fn tell(
         LineCommand::Input(stream, text) => {
             input(alloc, &mut debugger.core, *stream, text.as_slice(), reply)
         }
+        LineCommand::Ask(text) => ask(alloc, &mut debugger.core, text.as_slice(), reply),
         LineCommand::Unknown => refused(&Fault::Command, reply),
         LineCommand::Leap(_) | LineCommand::Skip(_) => unreachable!(),
     }

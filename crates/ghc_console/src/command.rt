@@ -4,6 +4,7 @@ ghost use Rattle.std.specs.List.{list_all};
 ghost use Rattle.ghc_console.specs.Words.{behind, is_printable, is_variable, numbers_of, words_of};
 ghost use Rattle.ghc_console.specs.Commands.{arrange_with, command_by_count, command_of, command_of_one_word, command_of_three_words, command_of_two_words, command_of_words, command_with_number, command_with_variable, input_to, leap_of, run_limit};
 
+use crate::asked_for::ask_command;
 use crate::input_text::InputText;
 use crate::predicate_words::{spy_command, unspy_command};
 use crate::word::Word;
@@ -44,6 +45,8 @@ pub enum LineCommand {
     Unspy(Name, u32),
     /// The input of what the text says to the stream of this number.
     Input(u32, InputText),
+    /// The asking for what the text says.
+    Ask(InputText),
     /// A run of as many steps as this at most.
     Leap(u32),
     /// A run of the goals that descend from this one.
@@ -242,7 +245,7 @@ fn input_command(alloc: Global, words: &[u8]) -> Result<LineCommand, AllocError>
 
 // The command of a line of printable bytes.
 fn of_line(alloc: Global, line: &[u8]) -> Result<LineCommand, AllocError>
-    ensures { IfOk result (λ command. command ≡ command_of_words (words_of line.now) (behind 2 line.now)) }
+    ensures { IfOk result (λ command. command ≡ command_of_words (words_of line.now) line.now) }
 {
     let Some((name, behind)) = next_word(line) else {
         return Ok(LineCommand::Nothing);
@@ -252,6 +255,9 @@ fn of_line(alloc: Global, line: &[u8]) -> Result<LineCommand, AllocError>
     }
     if name == b"in".as_slice() {
         return input_command(alloc, behind);
+    }
+    if name == b"ask".as_slice() {
+        return ask_command(alloc, behind);
     }
     counted_command(alloc, name, behind)
 }
@@ -264,7 +270,7 @@ pub(crate) fn is_plain(line: &[u8]) -> bool
 
 /// The command that a line says; a line that says none is `Unknown`. It takes time in proportion to the
 /// line, and memory for the word of `show` or `who`, for the name of `spy` or `nospy`, for the numbers of `arrange` and for the
-/// text of `in` alone.
+/// text of `in` or `ask` alone.
 pub fn parse(alloc: Global, line: &[u8]) -> Result<LineCommand, AllocError>
     ensures { IfOk result (λ command. command ≡ command_of line.now) }
 {

@@ -1,10 +1,10 @@
-// The text of an input, which is kept.
+// The text of an input, or of what is asked for, which is kept.
 ghost use Rattle.std.specs.Prelude.{◌≡◌, IfOk};
 
 use std::alloc::{AllocError, Global};
 use std::marker::Model;
 
-/// What a line gives as an input. Contracts see its bytes.
+/// What a line gives as an input, or asks for. Contracts see its bytes.
 #[derive(Drop)]
 pub struct InputText {
     bytes: Vec<u8>,

@@ -3,6 +3,7 @@
 
 mod answer;
 mod answered;
+mod asked_for;
 mod asking;
 mod call_counts;
 mod causes;

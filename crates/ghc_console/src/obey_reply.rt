@@ -5,8 +5,9 @@ ghost use Rattle.ghc_core.specs.CommandCode.{command_of};
 ghost use Rattle.ghc_trace.specs.Disturbed.{AreDisturbed};
 ghost use Rattle.ghc_trace.specs.Laws.{IsSettled, Brings};
 ghost use Rattle.ghc_console.specs.Firing.{FiresInObeying};
-ghost use Rattle.ghc_console.specs.Replies.{IsFrontOf, IsObeyed, RepliesToInput, TellsChange, numbers_text, undone_text};
+ghost use Rattle.ghc_console.specs.Replies.{IsFrontOf, IsObeyed, RepliesToAsk, RepliesToInput, TellsChange, numbers_text, undone_text};
 
+use crate::asked_for::asked_for;
 use crate::reply::{push_ports, refused};
 use crate::settled::{make, settle};
 use ghc_core::{Change, Command, Core};
@@ -137,6 +138,26 @@ pub fn input(
 {
     match read_ground_term(alloc, text) {
         Ok(input) => obey(alloc, core, &Command::Input(stream, input), reply),
+        Err(fault) => refused(&fault, reply),
+    }
+}
+
+/// Reads the text as what is asked for, and asks the core for it as `obey` does; or the refusal of the reader, which changes nothing
+/// and looks at nothing but the text. It costs what reading the text and obeying cost.
+pub fn ask(
+    alloc: Global,
+    core: &mut Core,
+    text: &[u8],
+    reply: &mut String,
+) -> Result<(), AllocError>
+    requires { string_bytes reply.old ≡ [] }
+    ensures text { OnOk result (RepliesToAsk core.old.world text.now (string_bytes reply.new) core.new.world) }
+    ensures err { OnErr result (core.new.world ≡ core.old.world) }
+    ensures opening { core.new.world.opening ≡ core.old.world.opening }
+    ensures firings { core.new.meter.firings ≡ core.old.meter.firings }
+{
+    match asked_for(alloc, core, text) {
+        Ok(goals) => obey(alloc, core, &Command::Ask(goals), reply),
         Err(fault) => refused(&fault, reply),
     }
 }

@@ -7,6 +7,7 @@ ghost use Rattle.ghc_console.specs.Commands.{command_of};
 ghost use Rattle.ghc_console.specs.TextLines.{lined, refusal};
 ghost use Rattle.ghc_console.specs.ScheduleReplies.{Hears, IsCommandPlayed, reply_text};
 
+use crate::asked_for::asked_for;
 use crate::command::{LineCommand, parse};
 use crate::line_buffer::LINE_LIMIT;
 use crate::obey_reply::undone;
@@ -27,6 +28,16 @@ fn give(alloc: Global, world: &mut World, stream: u32, text: &[u8]) -> Reply
     }
 }
 
+// Reads the text as what is asked for, and asks the core for it; or the refusal of the reader, which looks at nothing but the text.
+fn ask(alloc: Global, world: &mut World, text: &[u8]) -> Reply
+    ensures { IsCommandPlayed (LineCommand.Ask text.now) world.old (Some (reply_of result)) world.new }
+{
+    match asked_for(alloc, world.core(), text) {
+        Ok(goals) => world.answer(alloc, &Event::Command(Command::Ask(goals))),
+        Err(fault) => Reply::Refused(fault),
+    }
+}
+
 // Carries a command of the console out, where the core obeys it.
 fn carry_out(alloc: Global, world: &mut World, command: LineCommand) -> Option<Reply>
     ensures { IsCommandPlayed command world.old (option_map reply_of result) world.new }
@@ -35,6 +46,7 @@ fn carry_out(alloc: Global, world: &mut World, command: LineCommand) -> Option<R
         LineCommand::Nothing => None,
         LineCommand::Obey(command) => Some(world.answer(alloc, &Event::Command(command))),
         LineCommand::Input(stream, text) => Some(give(alloc, world, stream, text.as_slice())),
+        LineCommand::Ask(text) => Some(ask(alloc, world, text.as_slice())),
         LineCommand::Step(_, _)
         | LineCommand::Show(_)
         | LineCommand::Records
