@@ -15,6 +15,7 @@ pub mod PredicateWordLemmas
 pub mod GivenNames
 pub mod CauseReplies
 pub mod Ordering
+pub mod LineMemory
 pub mod Spying
 pub mod RunLines
 pub mod RunCommands

@@ -1,7 +1,8 @@
 -- Numbers that are gathered word by word.
-use Rattle.std.proofs.Common.{◌≡◌, ℕ, List, [], ◌∷◌, ◌++◌, refl, sym, ap, append_assoc, append-nil}
+use Rattle.std.proofs.Common.{◌≡◌, ◌⊎◌, ◌∙◌, inl, inr, ℕ, List, [], ◌∷◌, ◌++◌, refl, sym, ap, subst, append_assoc, append-nil}
 use Rattle.std.specs.Prelude.{Option, Some, None}
-use Rattle.ghc_console.specs.Words.{in_front}
+use Rattle.ghc_console.specs.LineMemory.{BeginsWithNumber}
+use Rattle.ghc_console.specs.Words.{in_front, number_of}
 
 -- the numbers that are still to come, behind those that are there
 abbrev pub behind : List ℕ → Option (List ℕ) → Option (List ℕ)
@@ -18,3 +19,8 @@ all_there numbers = ap Some (append-nil numbers)
 pub none_there : (more : Option (List ℕ)) → behind [] more ≡ more
 none_there None = refl
 none_there (Some more) = refl
+
+-- A number was found among the words, so the first of them is one.
+pub begun : (rest words more : List (List ℕ)) (word : List ℕ) (n : ℕ) → (rest ≡ words) ⊎ BeginsWithNumber words → rest ≡ word ∷ more → Some n ≡ number_of word → BeginsWithNumber words
+begun rest words more word n (inl same) found is = subst BeginsWithNumber (sym found ∙ same) (n, sym is)
+begun rest words more word n (inr begins) found is = begins

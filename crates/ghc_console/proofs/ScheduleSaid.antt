@@ -8,20 +8,19 @@ use Rattle.ghc_core.specs.Events.{refused}
 use Rattle.ghc_core.specs.declared.reply.Reply.{Reply}
 use Rattle.ghc_core.specs.declared.reply.Reply.TheVariants.{Refused}
 use Rattle.ghc_core.specs.declared.world.World.{World as Played}
-use Rattle.ghc_console.specs.declared.command.LineCommand.TheVariants.{Input as input, Ask as ask}
 use Rattle.ghc_console.specs.Device.{WritesFront}
 use Rattle.ghc_console.specs.TextLines.{refusal}
-use Rattle.ghc_console.specs.ScheduleReplies.{IsCommandPlayed, plays, reply_text, starves, unasked, unread}
+use Rattle.ghc_console.specs.ScheduleReplies.{IsAskedOf, IsGiven, reply_text, unasked, unread}
 
 -- A text that the reader refuses is given to no stream.
-pub given_refused : (old : Played) (k : ℕ) (given : List ℕ) (f : Fault) → (f ≡ fault.Memory) ⊎ IsRefusal a_term given f → IsCommandPlayed (input k given) old (Some (refused f)) old
-given_refused old k given f (inl m) = starves (ap (λ e. Some (refused e)) m, refl)
-given_refused old k given f (inr r) = plays (unread f r (refl, refl))
+pub given_refused : (old : Played) (k : ℕ) (given : List ℕ) (f : Fault) → (f ≡ fault.Memory) ⊎ IsRefusal a_term given f → IsGiven k given old (Some (refused f)) old
+given_refused old k given f (inl m) = IsGiven.no_memory (ap (λ e. Some (refused e)) m, refl)
+given_refused old k given f (inr r) = unread f r (refl, refl)
 
 -- The core is asked for nothing that the reader refuses.
-pub ask_refused : (old : Played) (given : List ℕ) (f : Fault) → (f ≡ fault.Memory) ⊎ IsRefusal an_ask given f → IsCommandPlayed (ask given) old (Some (refused f)) old
-ask_refused old given f (inl m) = starves (ap (λ e. Some (refused e)) m, refl)
-ask_refused old given f (inr r) = plays (unasked f r (refl, refl))
+pub ask_refused : (old : Played) (given : List ℕ) (f : Fault) → (f ≡ fault.Memory) ⊎ IsRefusal an_ask given f → IsAskedOf given old (Some (refused f)) old
+ask_refused old given f (inl m) = IsAskedOf.no_memory (ap (λ e. Some (refused e)) m, refl)
+ask_refused old given f (inr r) = unasked f r (refl, refl)
 
 -- The line of want of memory is written without any.
 pub starving_told : {E : Type 0} (written now : Option (List ℕ)) (result : Result Unit E) (reply : Reply) (f : Fault) → reply ≡ Refused f → f ≡ fault.Memory

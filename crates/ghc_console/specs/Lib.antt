@@ -5,6 +5,7 @@ pub mod Reading
 pub mod Words
 pub mod PredicateWords
 pub mod Commands
+pub mod LineMemory
 pub mod VariableNamed
 pub mod AskedFor
 pub mod SessionState

@@ -15,6 +15,7 @@ use Rattle.ghc_core.specs.Meets.{Meets}
 use Rattle.ghc_core.specs.declared.world.World.{World as Played}
 use Rattle.ghc_console.specs.AskedFor.{IsReadAskFor}
 use Rattle.ghc_console.specs.Commands.{command_of}
+use Rattle.ghc_console.specs.LineMemory.{TakesMemory}
 use Rattle.ghc_console.specs.Reading.{line_limit}
 use Rattle.ghc_console.specs.TextLines.{lined, refusal}
 use Rattle.ghc_console.specs.Replies.{undone_text}
@@ -46,14 +47,16 @@ IsTurnedDown f old reply new = (reply ≡ Some (refused f)) × (new ≡ old)
 abbrev pub IsPlayed : Event → Played → Option Reply → Played → Type 0
 IsPlayed e old reply new = (told : Reply) × (reply ≡ Some told) × Meets old e told new
 
--- IsGiven k given old reply new: a test of the reader refuses what is given, whatever stream k is; or it is read as a term, which the stream gets.
+-- IsGiven k given old reply new: a test of the reader refuses what is given, whatever stream k is, or memory was refused to read it; or it is read as a term, which the stream gets.
 pub data IsGiven (k : ℕ) (given : List ℕ) (old : Played) (reply : Option Reply) (new : Played) : Type 0 where
   unread : (f : Fault) → IsRefusal a_term given f → IsTurnedDown f old reply new → IsGiven k given old reply new
+  no_memory : IsTurnedDown Fault.Memory old reply new → IsGiven k given old reply new
   reads : (u : Tree) → IsReadTerm given u → IsPlayed (command (give k u)) old reply new → IsGiven k given old reply new
 
--- IsAskedOf given old reply new: a test of the reader refuses what is given; or it is read as goals, which the core is asked for.
+-- IsAskedOf given old reply new: a test of the reader refuses what is given, or memory was refused to read it; or it is read as goals, which the core is asked for.
 pub data IsAskedOf (given : List ℕ) (old : Played) (reply : Option Reply) (new : Played) : Type 0 where
   unasked : (f : Fault) → IsRefusal an_ask given f → IsTurnedDown f old reply new → IsAskedOf given old reply new
+  no_memory : IsTurnedDown Fault.Memory old reply new → IsAskedOf given old reply new
   asks : (gs : List Goal) → IsReadAskFor old.core.world given gs → IsPlayed (command (ask_for gs)) old reply new → IsAskedOf given old reply new
 
 -- What a command of the console does in a schedule: those that the core obeys are events; the others are not known.
@@ -77,16 +80,16 @@ PlaysCommand (skip g) old reply new = IsTurnedDown Fault.Command old reply new
 PlaysCommand quit old reply new = IsTurnedDown Fault.Command old reply new
 PlaysCommand unknown old reply new = IsTurnedDown Fault.Command old reply new
 
--- The same, or memory was refused for the command, which changes nothing.
-pub data IsCommandPlayed (c : LineCommand) (old : Played) (reply : Option Reply) (new : Played) : Type 0 where
-  plays : PlaysCommand c old reply new → IsCommandPlayed c old reply new
-  starves : IsTurnedDown Fault.Memory old reply new → IsCommandPlayed c old reply new
+-- What a line does that says what it says at the console: what its command does; or, where reading it takes memory, that was refused, which changes nothing.
+pub data IsDoneAsConsole (bytes : List ℕ) (old : Played) (reply : Option Reply) (new : Played) : Type 0 where
+  plays : PlaysCommand (command_of bytes) old reply new → IsDoneAsConsole bytes old reply new
+  starves : TakesMemory bytes → IsTurnedDown Fault.Memory old reply new → IsDoneAsConsole bytes old reply new
 
 -- What a line that says this does.
 abbrev pub IsDoneBy : List ℕ → ScheduleLine → Played → Option Reply → Played → Type 0
 IsDoneBy bytes line.Nothing old reply new = (reply ≡ None) × (new ≡ old)
 IsDoneBy bytes (line.Event e) old reply new = IsPlayed (event_of e) old reply new
-IsDoneBy bytes line.AsConsole old reply new = IsCommandPlayed (command_of bytes) old reply new
+IsDoneBy bytes line.AsConsole old reply new = IsDoneAsConsole bytes old reply new
 IsDoneBy bytes line.Unknown old reply new = IsTurnedDown Fault.Command old reply new
 
 -- Hears bytes old reply new: the line of these bytes gets the reply from a core with hands, or none where it has no words, and leaves the core and the hands so. A line past the limit is refused.

@@ -1,9 +1,10 @@
 // The text behind `ask`, and what it asks for.
-ghost use Rattle.std.specs.Prelude.{◌≡◌, IfOk};
+ghost use Rattle.std.specs.Prelude.{◌≡◌, IfOk, OnErr};
 ghost use Rattle.ghc_term.specs.Answered.{Answered};
 ghost use Rattle.ghc_reader.specs.Tests.{an_ask, IsRefusal};
 ghost use Rattle.ghc_console.specs.AskedFor.{IsReadAskFor};
 ghost use Rattle.ghc_console.specs.Commands.{ask_with};
+ghost use Rattle.ghc_console.specs.LineMemory.{KeepsText};
 ghost use Rattle.ghc_console.specs.Words.{unindented as unindented_of};
 
 use crate::command::LineCommand;
@@ -17,7 +18,8 @@ use std::alloc::{AllocError, Global};
 
 /// The asking for all that stands behind the spaces, if anything does. It takes memory for that text alone.
 pub fn ask_command(alloc: Global, words: &[u8]) -> Result<LineCommand, AllocError>
-    ensures { IfOk result (λ command. command ≡ ask_with (unindented_of words.now)) }
+    ensures command { IfOk result (λ command. command ≡ ask_with (unindented_of words.now)) }
+    ensures memory { OnErr result (KeepsText (ask_with (unindented_of words.now))) }
 {
     let text = unindented(words);
     if text.is_empty() {

@@ -1,7 +1,8 @@
 // The command of a line.
-ghost use Rattle.std.specs.Prelude.{◌≡◌, true, IfOk};
+ghost use Rattle.std.specs.Prelude.{◌≡◌, true, IfOk, OnErr};
 ghost use Rattle.std.specs.List.{list_all};
 ghost use Rattle.ghc_console.specs.Words.{behind, is_printable, is_variable, numbers_of, words_of};
+ghost use Rattle.ghc_console.specs.LineMemory.{BeginsWithNumber, KeepsText, TakesMemory};
 ghost use Rattle.ghc_console.specs.Commands.{arrange_with, command_by_count, command_of, command_of_one_word, command_of_three_words, command_of_two_words, command_of_words, command_with_number, command_with_variable, input_to, leap_of, run_limit};
 
 use crate::asked_for::ask_command;
@@ -135,7 +136,8 @@ fn variable_command(
     word: &[u8],
 ) -> Result<LineCommand, AllocError>
     requires { is_variable word.now ≡ true }
-    ensures { IfOk result (λ command. command ≡ command_with_variable first_word.now word.now) }
+    ensures command { IfOk result (λ command. command ≡ command_with_variable first_word.now word.now) }
+    ensures memory { OnErr result (KeepsText (command_with_variable first_word.now word.now)) }
 {
     if first_word == b"show".as_slice() {
         return Ok(LineCommand::Show(variable_word(alloc, word)?));
@@ -152,7 +154,8 @@ fn two_word_command(
     first_word: &[u8],
     word: &[u8],
 ) -> Result<LineCommand, AllocError>
-    ensures { IfOk result (λ command. command ≡ command_of_two_words first_word.now word.now) }
+    ensures command { IfOk result (λ command. command ≡ command_of_two_words first_word.now word.now) }
+    ensures memory { OnErr result (KeepsText (command_of_two_words first_word.now word.now)) }
 {
     if first_word == b"step".as_slice() {
         return match goal_name(word) {
@@ -196,7 +199,8 @@ fn three_word_command(first_word: &[u8], goal: &[u8], word: &[u8]) -> LineComman
 
 // The command of a word and those behind it, by how many these are.
 fn counted_command(alloc: Global, first_word: &[u8], rest: &[u8]) -> Result<LineCommand, AllocError>
-    ensures { IfOk result (λ command. command ≡ command_by_count first_word.now (words_of rest.now)) }
+    ensures command { IfOk result (λ command. command ≡ command_by_count first_word.now (words_of rest.now)) }
+    ensures memory { OnErr result (KeepsText (command_by_count first_word.now (words_of rest.now))) }
 {
     let Some((second, behind)) = next_word(rest) else {
         return Ok(one_word_command(first_word));
@@ -212,7 +216,8 @@ fn counted_command(alloc: Global, first_word: &[u8], rest: &[u8]) -> Result<Line
 
 // The arranging of the record in the order of the numbers that the words say, if each says one.
 fn arrange_command(alloc: Global, words: &[u8]) -> Result<LineCommand, AllocError>
-    ensures { IfOk result (λ command. command ≡ arrange_with (numbers_of (words_of words.now))) }
+    ensures command { IfOk result (λ command. command ≡ arrange_with (numbers_of (words_of words.now))) }
+    ensures memory { OnErr result (BeginsWithNumber (words_of words.now)) }
 {
     let mut order = Order::new(alloc);
     let mut rest = words;
@@ -228,7 +233,8 @@ fn arrange_command(alloc: Global, words: &[u8]) -> Result<LineCommand, AllocErro
 
 // The input to the stream that the first word says, of all that stands behind the spaces behind it.
 fn input_command(alloc: Global, words: &[u8]) -> Result<LineCommand, AllocError>
-    ensures { IfOk result (λ command. command ≡ input_to (words_of words.now) (behind 1 words.now)) }
+    ensures command { IfOk result (λ command. command ≡ input_to (words_of words.now) (behind 1 words.now)) }
+    ensures memory { OnErr result (KeepsText (input_to (words_of words.now) (behind 1 words.now))) }
 {
     let Some((stream, rest)) = next_word(words) else {
         return Ok(LineCommand::Unknown);
@@ -245,7 +251,9 @@ fn input_command(alloc: Global, words: &[u8]) -> Result<LineCommand, AllocError>
 
 // The command of a line of printable bytes.
 fn of_line(alloc: Global, line: &[u8]) -> Result<LineCommand, AllocError>
-    ensures { IfOk result (λ command. command ≡ command_of_words (words_of line.now) line.now) }
+    requires { list_all is_printable line.now ≡ true }
+    ensures command { IfOk result (λ command. command ≡ command_of line.now) }
+    ensures memory { OnErr result (TakesMemory line.now) }
 {
     let Some((name, behind)) = next_word(line) else {
         return Ok(LineCommand::Nothing);
@@ -272,7 +280,8 @@ pub(crate) fn is_plain(line: &[u8]) -> bool
 /// line, and memory for the word of `show` or `who`, for the name of `spy` or `nospy`, for the numbers of `arrange` and for the
 /// text of `in` or `ask` alone.
 pub fn parse(alloc: Global, line: &[u8]) -> Result<LineCommand, AllocError>
-    ensures { IfOk result (λ command. command ≡ command_of line.now) }
+    ensures command { IfOk result (λ command. command ≡ command_of line.now) }
+    ensures memory { OnErr result (TakesMemory line.now) }
 {
     if !is_plain(line) {
         return Ok(LineCommand::Unknown);

@@ -1,6 +1,7 @@
 // Words that name predicates, and the commands that are said with them.
-ghost use Rattle.std.specs.Prelude.{◌≡◌, Some, None, IfOk, IfSome, IfNone, true};
+ghost use Rattle.std.specs.Prelude.{◌≡◌, Some, None, IfOk, IfSome, IfNone, OnErr, true};
 ghost use Rattle.ghc_console.specs.Commands.{spy_with, unspy_with};
+ghost use Rattle.ghc_console.specs.LineMemory.{KeepsText};
 ghost use Rattle.ghc_console.specs.PredicateWords.{is_name, predicate_of};
 
 use crate::command::LineCommand;
@@ -52,7 +53,8 @@ fn name_of(alloc: Global, word: &[u8]) -> Result<Name, AllocError>
 
 /// The command to spy the predicate that the word names, if it names one. It takes memory for the name alone.
 pub fn spy_command(alloc: Global, word: &[u8]) -> Result<LineCommand, AllocError>
-    ensures { IfOk result (λ command. command ≡ spy_with (predicate_of word.now)) }
+    ensures command { IfOk result (λ command. command ≡ spy_with (predicate_of word.now)) }
+    ensures memory { OnErr result (KeepsText (spy_with (predicate_of word.now))) }
 {
     match predicate_parts(word) {
         Some((name, arity)) => Ok(LineCommand::Spy(name_of(alloc, name)?, arity)),
@@ -62,7 +64,8 @@ pub fn spy_command(alloc: Global, word: &[u8]) -> Result<LineCommand, AllocError
 
 /// The command to spy the predicate no more that the word names, if it names one. It takes memory for the name alone.
 pub fn unspy_command(alloc: Global, word: &[u8]) -> Result<LineCommand, AllocError>
-    ensures { IfOk result (λ command. command ≡ unspy_with (predicate_of word.now)) }
+    ensures command { IfOk result (λ command. command ≡ unspy_with (predicate_of word.now)) }
+    ensures memory { OnErr result (KeepsText (unspy_with (predicate_of word.now))) }
 {
     match predicate_parts(word) {
         Some((name, arity)) => Ok(LineCommand::Unspy(name_of(alloc, name)?, arity)),

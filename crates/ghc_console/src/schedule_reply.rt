@@ -3,9 +3,8 @@ ghost use Rattle.std.specs.Prelude.{◌≡◌, ◌++◌, [], OnOk, Some, codes, 
 ghost use Rattle.std.specs.Fmt.{decimal};
 ghost use Rattle.ghc_core.specs.EventCode.{reply_of};
 ghost use Rattle.ghc_records.specs.StepText.{goal_name_text};
-ghost use Rattle.ghc_console.specs.Commands.{command_of};
 ghost use Rattle.ghc_console.specs.TextLines.{lined, refusal};
-ghost use Rattle.ghc_console.specs.ScheduleReplies.{Hears, IsCommandPlayed, reply_text};
+ghost use Rattle.ghc_console.specs.ScheduleReplies.{Hears, IsAskedOf, IsDoneAsConsole, IsGiven, PlaysCommand, reply_text};
 
 use crate::asked_for::asked_for;
 use crate::command::{LineCommand, parse};
@@ -20,7 +19,7 @@ use std::alloc::{AllocError, Global};
 
 // Reads the text as an input term, and gives it to the stream; or the refusal of the reader, which looks at no stream.
 fn give(alloc: Global, world: &mut World, stream: u32, text: &[u8]) -> Reply
-    ensures { IsCommandPlayed (LineCommand.Input stream text.now) world.old (Some (reply_of result)) world.new }
+    ensures { IsGiven stream text.now world.old (Some (reply_of result)) world.new }
 {
     match read_ground_term(alloc, text) {
         Ok(input) => world.answer(alloc, &Event::Command(Command::Input(stream, input))),
@@ -30,7 +29,7 @@ fn give(alloc: Global, world: &mut World, stream: u32, text: &[u8]) -> Reply
 
 // Reads the text as what is asked for, and asks the core for it; or the refusal of the reader, which looks at nothing but the text.
 fn ask(alloc: Global, world: &mut World, text: &[u8]) -> Reply
-    ensures { IsCommandPlayed (LineCommand.Ask text.now) world.old (Some (reply_of result)) world.new }
+    ensures { IsAskedOf text.now world.old (Some (reply_of result)) world.new }
 {
     match asked_for(alloc, world.core(), text) {
         Ok(goals) => world.answer(alloc, &Event::Command(Command::Ask(goals))),
@@ -40,7 +39,7 @@ fn ask(alloc: Global, world: &mut World, text: &[u8]) -> Reply
 
 // Carries a command of the console out, where the core obeys it.
 fn carry_out(alloc: Global, world: &mut World, command: LineCommand) -> Option<Reply>
-    ensures { IsCommandPlayed command world.old (option_map reply_of result) world.new }
+    ensures { PlaysCommand command world.old (option_map reply_of result) world.new }
 {
     match command {
         LineCommand::Nothing => None,
@@ -64,9 +63,9 @@ fn carry_out(alloc: Global, world: &mut World, command: LineCommand) -> Option<R
     }
 }
 
-// The reply to a line that says what it says at the console.
+// The reply to a line that says what it says at the console. Memory is refused for it only where reading it, or the core, takes some.
 fn reply_as_console(alloc: Global, world: &mut World, line: &[u8]) -> Option<Reply>
-    ensures { IsCommandPlayed (command_of line.now) world.old (option_map reply_of result) world.new }
+    ensures { IsDoneAsConsole line.now world.old (option_map reply_of result) world.new }
 {
     match parse(alloc, line) {
         Ok(command) => carry_out(alloc, world, command),

@@ -1,13 +1,13 @@
 use Rattle.std.proofs.Common.{◌∙◌, ap, sym, subst, Some}
 use Rattle.ghc_core.specs.EventCode.{reply_of}
 use Rattle.ghc_console.specs.declared.command.LineCommand.TheVariants.{Input as input, Ask as ask}
-use Rattle.ghc_console.specs.ScheduleReplies.{IsCommandPlayed}
+use Rattle.ghc_console.specs.ScheduleReplies.{PlaysCommand}
 use Rattle.ghc_console.proofs.schedule_reply.carry_out.Goals as goal
 
 pub returns-in-Input : goal.returns-in-Input
 returns-in-Input c =
-    subst (λ k. IsCommandPlayed k c.args.world.now (Some (reply_of c.give.result)) c.give.new.world) (ap (input c.in-Input.stream) c.as_slice.ensures ∙ sym c.in-Input.is) c.give.ensures
+    subst (λ k. PlaysCommand k c.args.world.now (Some (reply_of c.give.result)) c.give.new.world) (ap (input c.in-Input.stream) c.as_slice.ensures ∙ sym c.in-Input.is) c.give.ensures
 
 pub returns-in-Ask : goal.returns-in-Ask
 returns-in-Ask c =
-    subst (λ k. IsCommandPlayed k c.args.world.now (Some (reply_of c.ask.result)) c.ask.new.world) (ap ask c.as_slice-in-Ask.ensures ∙ sym c.in-Ask.is) c.ask.ensures
+    subst (λ k. PlaysCommand k c.args.world.now (Some (reply_of c.ask.result)) c.ask.new.world) (ap ask c.as_slice-in-Ask.ensures ∙ sym c.in-Ask.is) c.ask.ensures

@@ -1,0 +1,9 @@
+use Rattle.std.proofs.Common.{◌∙◌, ap, bytes_eq, sym}
+use Rattle.ghc_console.proofs.LineMemory.{order_read}
+use Rattle.ghc_console.proofs.command.of_line.Goals as goal
+
+pub returns-then-eq-clause-memory : goal.returns-then-eq-clause-memory
+returns-then-eq-clause-memory c =
+    let name = c.in-Some.name.now in
+    let is = ap (bytes_eq name) (sym c.as_slice.ensures) ∙ sym c.eq.ensures ∙ c.if-eq.true in
+    order_read c.args.line.now name _ c.arrange_command.result c.requires c.in-Some.ensures.found is c.arrange_command.ensures.memory
