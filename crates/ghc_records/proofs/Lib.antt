@@ -38,3 +38,8 @@ pub mod CutTexts
 pub mod ToldHistories
 pub mod OneStep
 pub mod ExactTexts
+pub mod PushedItems
+pub mod SectionLemmas
+pub mod PredicateLines
+pub mod ChronicleWritten
+pub mod AmountLines
