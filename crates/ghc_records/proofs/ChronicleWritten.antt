@@ -1,8 +1,7 @@
 -- The lines of chronicles, as they are written.
-use Rattle.std.proofs.Common.{◌≡◌, ℕ, ◌+◌, ◌<◌, zero, suc, List, [], ◌∷◌, ◌++◌, drop, get_or, length, map, refl, sym, ap, ◌∙◌, subst, append_assoc, decimal, Some, None, slice_get, arith}
+use Rattle.std.proofs.Common.{◌≡◌, ℕ, ◌+◌, ◌<◌, zero, suc, List, [], ◌∷◌, ◌++◌, drop, get_or, length, map, refl, sym, ap, ◌∙◌, subst, append_assoc, decimal, Some, slice_get, arith}
 use Rattle.std.specs.Prelude.{codes}
 use Rattle.std.proofs.lemmas.List.{drop_more}
-use Rattle.ghc_records.specs.Journal.{Entry}
 use Rattle.ghc_records.specs.StepText.{step_text}
 use Rattle.ghc_records.specs.History.{History}
 use Rattle.ghc_records.specs.HistoryText.{end_line, lines_text}

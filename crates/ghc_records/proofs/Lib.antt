@@ -43,3 +43,10 @@ pub mod SectionLemmas
 pub mod PredicateLines
 pub mod ChronicleWritten
 pub mod AmountLines
+pub mod AskingLines
+pub mod EntryLines
+pub mod NumberLists
+pub mod OpeningSteps
+pub mod SectionParts
+pub mod TurnLemmas
+pub mod ChronicleTold

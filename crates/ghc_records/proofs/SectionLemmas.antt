@@ -1,5 +1,5 @@
 -- Lemmas on sections of a text.
-use Rattle.std.proofs.Common.{◌≡◌, ℕ, ◌+◌, ◌<◌, List, [], ◌∷◌, ◌++◌, drop, length, refl, sym, ap, ◌∙◌, subst, arith, Some, inl, inr, slice_get, length-append}
+use Rattle.std.proofs.Common.{◌≡◌, ℕ, ◌+◌, ◌<◌, List, [], ◌∷◌, ◌++◌, drop, length, refl, sym, ap, ◌∙◌, subst, arith, inl, inr, length-append}
 use Rattle.ghc_records.specs.HistoryText.{IsLineOf, pieces_of}
 use Rattle.ghc_records.specs.Sections.{TellsItems, TellsNoMoreItems}
 use Rattle.ghc_records.proofs.CutLemmas.{drop_next, line_stands}

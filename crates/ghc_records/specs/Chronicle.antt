@@ -1,5 +1,5 @@
 -- Chronicles: what a save tells of a run so that all of it comes back.
-use Rattle.std.specs.Prelude.{◌≡◌, ℕ, ◌+◌, ◌<◌, ◌≤◌, List, [], ◌∷◌, drop, length, map}
+use Rattle.std.specs.Prelude.{◌≡◌, ℕ, ◌+◌, ◌<◌, List, [], ◌∷◌, drop, length, map}
 use Rattle.ghc_term.specs.Lists.{In}
 use Rattle.ghc_records.specs.declared.predicate.Predicate.{Predicate}
 use Rattle.ghc_records.specs.Numbers.{number_limit}

@@ -2,13 +2,17 @@
 #![tactic(auto)]
 
 mod addition;
+mod asking_reading;
 mod binders;
 mod binding;
 mod chronicle;
 mod chronicle_lines;
+mod chronicle_reading;
 mod chronicle_writing;
 mod cutting;
+mod entries_reading;
 mod entry;
+mod entry_reading;
 mod entry_text;
 mod history;
 mod history_laws;
@@ -21,6 +25,7 @@ mod laws;
 mod makers;
 mod making;
 mod number_set;
+mod opening_reading;
 mod predicate;
 mod predicate_reading;
 mod record;
@@ -39,6 +44,7 @@ mod written_entry;
 
 pub use addition::Addition;
 pub use chronicle::Chronicle;
+pub use chronicle_reading::{is_chronicle, read_chronicle};
 pub use chronicle_writing::write_chronicle;
 pub use entry::Entry;
 pub use history::History;

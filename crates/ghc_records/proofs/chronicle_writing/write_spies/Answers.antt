@@ -1,5 +1,4 @@
-use Rattle.std.proofs.Common.{◌++◌, length, map, ap, ◌∙◌, decimal, string_bytes}
-use Rattle.std.specs.Prelude.{codes}
+use Rattle.std.proofs.Common.{length, map, string_bytes}
 use Rattle.ghc_records.specs.HistoryText.{lines_text}
 use Rattle.ghc_records.specs.Predicates.{predicate_text}
 use Rattle.ghc_records.specs.ChronicleText.{spies_line}
