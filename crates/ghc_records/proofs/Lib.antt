@@ -38,3 +38,15 @@ pub mod CutTexts
 pub mod ToldHistories
 pub mod OneStep
 pub mod ExactTexts
+pub mod PushedItems
+pub mod SectionLemmas
+pub mod PredicateLines
+pub mod ChronicleWritten
+pub mod AmountLines
+pub mod AskingLines
+pub mod EntryLines
+pub mod NumberLists
+pub mod OpeningSteps
+pub mod SectionParts
+pub mod TurnLemmas
+pub mod ChronicleTold

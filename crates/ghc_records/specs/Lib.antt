@@ -16,3 +16,10 @@ pub mod StepText
 pub mod HistoryText
 pub mod HistoryCode
 pub mod HistoryLaws
+pub mod Sections
+pub mod Predicates
+pub mod Chronicle
+pub mod EntryText
+pub mod ChronicleText
+pub mod ChronicleCode
+pub mod WrittenEntryCode

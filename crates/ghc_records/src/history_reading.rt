@@ -28,7 +28,7 @@ fn is_below(number: u32, bound: Option<u32>) -> bool
 
 // The step that the first line says, with a number below the bound, if there is one, and what stands behind the line; none
 // where it says no such step.
-fn next_step<'a>(
+pub(crate) fn next_step<'a>(
     alloc: Global,
     text: &'a [u8],
     bound: Option<u32>,
@@ -55,7 +55,7 @@ fn next_step<'a>(
 }
 
 // Puts a number behind the others, and says whether it is none of them.
-fn add_number(numbers: &mut IndexSet<u32>, number: u32) -> Result<bool, AllocError>
+pub(crate) fn add_number(numbers: &mut IndexSet<u32>, number: u32) -> Result<bool, AllocError>
     ensures new { IfOk result (λ new. new ≡ true → ¬ In number numbers.old.keys) }
     ensures keys { IfOk result (λ new. new ≡ true → numbers.new.keys ≡ numbers.old.keys ++ number ∷ []) }
     ensures known { IfOk result (λ new. new ≡ false → In number numbers.old.keys) }

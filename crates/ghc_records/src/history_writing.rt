@@ -13,7 +13,7 @@ use ghc_term::push_number;
 use std::alloc::{AllocError, Global};
 
 // Writes steps, a line each.
-fn write_steps(steps: &[Step], out: &mut String) -> Result<(), AllocError>
+pub(crate) fn write_steps(steps: &[Step], out: &mut String) -> Result<(), AllocError>
     ensures { OnOk result (string_bytes out.new ≡ string_bytes out.old ++ lines_text (map step_text steps.now)) }
 {
     for step in steps {

@@ -2,10 +2,18 @@
 #![tactic(auto)]
 
 mod addition;
+mod asking_reading;
 mod binders;
 mod binding;
+mod chronicle;
+mod chronicle_lines;
+mod chronicle_reading;
+mod chronicle_writing;
 mod cutting;
+mod entries_reading;
 mod entry;
+mod entry_reading;
+mod entry_text;
 mod history;
 mod history_laws;
 mod history_lines;
@@ -17,6 +25,9 @@ mod laws;
 mod makers;
 mod making;
 mod number_set;
+mod opening_reading;
+mod predicate;
+mod predicate_reading;
 mod record;
 mod records;
 mod removal;
@@ -29,8 +40,12 @@ mod step_reading;
 mod step_text;
 mod use_index;
 mod users;
+mod written_entry;
 
 pub use addition::Addition;
+pub use chronicle::Chronicle;
+pub use chronicle_reading::{is_chronicle, read_chronicle};
+pub use chronicle_writing::write_chronicle;
 pub use entry::Entry;
 pub use history::History;
 pub use history_laws::{
@@ -41,6 +56,7 @@ pub use history_reading::read_history;
 pub use history_writing::write_history;
 pub use journal::Journal;
 pub use laws::{replay_is_one, replay_is_well_made};
+pub use predicate::Predicate;
 pub use record::Record;
 pub use records::Records;
 pub use removal::Removal;
@@ -50,3 +66,4 @@ pub use step::Step;
 pub use step_text::{
     push_act, push_goal_name, push_journal_step, push_record, push_step, push_variables,
 };
+pub use written_entry::WrittenEntry;

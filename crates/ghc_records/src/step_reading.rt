@@ -43,7 +43,7 @@ fn read_goal_name(word: &[u8]) -> Option<GoalName>
 }
 
 // Whether a refusal says that memory was refused.
-fn is_memory(fault: &Fault) -> bool
+pub(crate) fn is_memory(fault: &Fault) -> bool
     ensures { result ≡ false → fault.now ≢ fault_spec.Memory }
 {
     matches!(fault, Fault::Memory)

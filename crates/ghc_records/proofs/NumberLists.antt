@@ -1,0 +1,49 @@
+-- Lemmas on numbers behind spaces, as they are read one by one.
+use Rattle.std.proofs.Common.{◌≡◌, ◌≢◌, ℕ, suc, All, List, [], ◌∷◌, ◌++◌, length, refl, sym, ap, ◌∙◌, subst, arith, append_assoc, decimal}
+use Rattle.std.proofs.lemmas.List.{append-nil}
+use Rattle.std.proofs.lemmas.List.Elements.{All-nil, All-cons, All-append}
+use Rattle.ghc_records.specs.EntryText.{IsNamed, numbers_behind}
+
+numbers_more : (ns : List ℕ) (n : ℕ) (rest : List ℕ) → numbers_behind (ns ++ n ∷ []) ++ rest ≡ numbers_behind ns ++ (32 ∷ (decimal n ++ rest))
+numbers_more [] n rest = ap (λ l. 32 ∷ (l ++ rest)) (append-nil (decimal n))
+numbers_more (m ∷ ns) n rest =
+    ap (λ l. 32 ∷ l) (append_assoc (decimal m) (numbers_behind (ns ++ n ∷ [])) rest ∙ ap (λ l. decimal m ++ l) (numbers_more ns n rest) ∙ sym (append_assoc (decimal m) (numbers_behind ns) (32 ∷ (decimal n ++ rest))))
+
+first_of : (P : ℕ → Type 0) (n : ℕ) (ns : List ℕ) → All P (n ∷ ns) → P n
+first_of P n ns all = all 0 0 (omega arith)
+
+others_of : (P : ℕ → Type 0) (n : ℕ) (ns : List ℕ) → All P (n ∷ ns) → All P ns
+others_of P n ns all = λ k d low. all (suc k) d (omega (arith, low))
+
+-- The bytes are the numbers, each behind a space, and then the rest; and whatever numbers they say, the rest says the others.
+pub record HasNumbers (bytes numbers rest : List ℕ) : Type 0 where
+  pub said : bytes ≡ numbers_behind numbers ++ rest
+  pub named : All IsNamed numbers
+  pub others : (ns : List ℕ) → All IsNamed ns → bytes ≡ numbers_behind ns → (ms : List ℕ) × All IsNamed ms × (rest ≡ numbers_behind ms)
+
+pub none_yet : (bytes numbers : List ℕ) → numbers ≡ [] → HasNumbers bytes numbers bytes
+none_yet bytes numbers none = subst (λ l. HasNumbers bytes l bytes) (sym none) (record { said = refl; named = All-nil IsNamed; others = λ ns all e. (ns, all, e) })
+
+no_bytes : (rest : List ℕ) → length rest ≡ 0 → rest ≡ []
+no_bytes [] e = refl
+no_bytes (b ∷ rest) e = absurd (omega (arith, e))
+
+module _ (bytes numbers rest : List ℕ) (has : HasNumbers bytes numbers rest) where
+  pub one_number_more : (n : ℕ) (further : List ℕ) → rest ≡ 32 ∷ (decimal n ++ further) → IsNamed n → ((m : ℕ) (ms : List ℕ) → IsNamed m → rest ≡ numbers_behind (m ∷ ms) → further ≡ numbers_behind ms) → HasNumbers bytes (numbers ++ n ∷ []) further
+  one_number_more n further begins named next = record {
+    said = has.said ∙ ap (λ l. numbers_behind numbers ++ l) begins ∙ sym (numbers_more numbers n further);
+    named = All-append IsNamed numbers (n ∷ []) has.named (All-cons IsNamed n [] named (All-nil IsNamed));
+    others = λ ns all e. let k = has.others ns all e in behind k.0 k.1 k.2;
+  }
+    where
+      behind : (ms : List ℕ) → All IsNamed ms → rest ≡ numbers_behind ms → (ks : List ℕ) × All IsNamed ks × (further ≡ numbers_behind ks)
+      behind [] all e = let clash : 32 ∷ (decimal n ++ further) ≡ [] = sym begins ∙ e in cc
+      behind (m ∷ ms) all e = (ms, others_of IsNamed m ms all, next m ms (first_of IsNamed m ms all) e)
+
+  pub all_numbers : length rest ≡ 0 → bytes ≡ numbers_behind numbers
+  all_numbers none = has.said ∙ ap (λ l. numbers_behind numbers ++ l) (no_bytes rest none) ∙ append-nil (numbers_behind numbers)
+
+  pub something_else : ((ns : List ℕ) → All IsNamed ns → rest ≡ numbers_behind ns → ns ≡ []) → length rest ≢ 0 → (ns : List ℕ) → All IsNamed ns → bytes ≢ numbers_behind ns
+  something_else last some ns all e =
+      let k = has.others ns all e in
+      some (ap length (k.2 ∙ ap numbers_behind (last k.0 k.1 k.2)))

@@ -1,0 +1,16 @@
+-- Lemmas on entries that follow each other.
+use Rattle.std.proofs.Common.{◌≡◌, ℕ, List, [], ◌∷◌, ◌++◌, refl}
+use Rattle.ghc_records.specs.Journal.{Entry}
+use Rattle.ghc_records.specs.Chronicle.{AreInTurn, IsInTurn, next_after, next_behind}
+
+pub turn_more : (n : ℕ) (es : List Entry) (e : Entry) → AreInTurn n es → IsInTurn (next_behind n es) e → AreInTurn n (es ++ e ∷ [])
+turn_more n [] e all last = (last, tt)
+turn_more n (f ∷ es) e all last = (all.0, turn_more (next_after n f) es e all.1 last)
+
+pub turn_last : (n : ℕ) (es : List Entry) (e : Entry) → AreInTurn n (es ++ e ∷ []) → IsInTurn (next_behind n es) e
+turn_last n [] e all = all.0
+turn_last n (f ∷ es) e all = turn_last (next_after n f) es e all.1
+
+pub next_more : (n : ℕ) (es : List Entry) (e : Entry) → next_behind n (es ++ e ∷ []) ≡ next_after (next_behind n es) e
+next_more n [] e = refl
+next_more n (f ∷ es) e = next_more (next_after n f) es e

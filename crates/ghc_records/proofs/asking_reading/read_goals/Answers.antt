@@ -1,0 +1,26 @@
+use Rattle.std.proofs.Common.{sym, ap, ◌∙◌}
+use Rattle.std.specs.Prelude.{is_some}
+use Rattle.std.specs.List.{list_all}
+use Rattle.ghc_records.proofs.AskingLines.{all_named, none_read, one_unnamed, same_goals, unnamed_read}
+use Rattle.ghc_records.proofs.asking_reading.read_goals.Goals as goal
+
+pub returns-in-Err-clause-none : goal.returns-in-Err-clause-none
+returns-in-Err-clause-none c =
+    none_read c.args.text.now c.read_body.result (c.read_body_is_exact.ensures c.args.text.now c.read_body.result c.read_body.ensures) c.in-Err.fault c.in-Err.is (c.is_memory.ensures c.if-is_memory.false)
+
+pub returns-then-not-are_all_named-clause-none : goal.returns-then-not-are_all_named-clause-none
+returns-then-not-are_all_named-clause-none c =
+    unnamed_read c.args.text.now c.read_body.result (c.read_body_is_exact.ensures c.args.text.now c.read_body.result c.read_body.ensures) c.in-Ok.written c.in-Ok.is
+    (one_unnamed c.in-Ok.written.named (ap (list_all is_some) (sym c.named.ensures) ∙ sym c.are_all_named.ensures ∙ c.if-not-are_all_named.true))
+
+pub returns-clause-some : goal.returns-clause-some
+returns-clause-some c = (
+  c.in-Ok.written,
+  c.in-Ok.ensures.0,
+  all_named c.in-Ok.written.named (ap (list_all is_some) (sym c.named.ensures) ∙ sym c.are_all_named.ensures ∙ c.if-not-are_all_named.false),
+  c.in_ok-ask.ensures,
+)
+
+pub returns-clause-one : goal.returns-clause-one
+returns-clause-one c = λ gs says.
+    same_goals c.args.text.now c.read_body.result (c.read_body_is_exact.ensures c.args.text.now c.read_body.result c.read_body.ensures) c.in-Ok.written c.in_ok-ask.ask c.in-Ok.is c.in_ok-ask.ensures gs says

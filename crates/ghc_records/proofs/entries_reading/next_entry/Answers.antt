@@ -1,0 +1,16 @@
+use Rattle.std.proofs.Common.{IfSome, IfNone, subst}
+use Rattle.ghc_records.specs.Journal.{Entry}
+use Rattle.ghc_records.specs.EntryText.{SaysEntry}
+use Rattle.ghc_records.specs.WrittenEntryCode.{said_by}
+use Rattle.ghc_records.proofs.EntryLines.{none_said, not_in_turn}
+use Rattle.ghc_records.proofs.entries_reading.next_entry.Goals as goal
+
+pub returns-else-is_in_turn-clause-none : goal.returns-else-is_in_turn-clause-none
+returns-else-is_in_turn-clause-none c =
+    not_in_turn c.args.text.now c.in-Some.line.now c.in-Some.rest.now c.args.next (said_by c.in-Ok-Some.entry) c.is_in_turn.result c.in-Some.ensures.found
+    (subst (λ o. IfSome o (λ e. SaysEntry c.in-Some.line.now (said_by e))) c.in-Ok-Some.field-0-is c.in-Ok-Some.ensures.some) c.is_in_turn.ensures.1 c.if-is_in_turn.false
+
+pub returns-in-Ok-None-clause-none : goal.returns-in-Ok-None-clause-none
+returns-in-Ok-None-clause-none c =
+    none_said c.args.text.now c.in-Some.line.now c.in-Some.rest.now c.args.next c.in-Some.ensures.found
+    (subst (λ o. IfNone o ((e : Entry) → ¬ SaysEntry c.in-Some.line.now e)) c.in-Ok-None.field-0-is c.in-Ok-None.ensures.none)

@@ -1,0 +1,12 @@
+use Rattle.std.proofs.Common.{IfNone, subst}
+use Rattle.ghc_records.specs.Journal.{Step}
+use Rattle.ghc_records.specs.HistoryText.{SaysStep}
+use Rattle.ghc_records.specs.EntryText.{SaysAsking}
+use Rattle.ghc_records.proofs.EntryLines.{no_step}
+use Rattle.ghc_records.proofs.entry_reading.read_taken.Goals as goal
+
+pub returns-in-Ok-None-read_asking-clause-none : goal.returns-in-Ok-None-read_asking-clause-none
+returns-in-Ok-None-read_asking-clause-none c =
+    let line = c.args.line.now in
+    no_step line (subst (λ o. IfNone o ((s : Step) → ¬ SaysStep line s)) c.in-Ok-None.field-0-is c.in-Ok-None.ensures.none)
+    (subst (λ o. IfNone o ((s : Step) → ¬ SaysAsking line s)) c.in-Ok-None-read_asking.field-0-is c.in-Ok-None-read_asking.ensures.none)
