@@ -5,3 +5,11 @@ pub mod Spied
 pub mod Standings
 pub mod Surveyed
 pub mod Taking
+pub mod Moves
+pub mod Stealing
+pub mod Wells
+pub mod Returned
+pub mod Judging
+pub mod Openings
+pub mod Drained
+pub mod Jobs

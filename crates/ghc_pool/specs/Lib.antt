@@ -2,3 +2,9 @@ pub mod Runs
 pub mod Laws
 pub mod Survey
 pub mod Meeting
+pub mod Answers
+pub mod Fair
+pub mod Workers
+pub mod Stops
+pub mod Gathered
+pub mod Opened

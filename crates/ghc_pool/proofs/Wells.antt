@@ -1,0 +1,50 @@
+-- What stays well when a worker goes on.
+use Rattle.std.proofs.Common.{◌≡◌, ◌⊎◌, ◌≤◌, ◌<◌, ◌++◌, ℕ, List, [], ◌∷◌, length, Bool, true, false, Option, Some, None, inl, inr, sym, ap, ◌∙◌, subst, arith}
+use Rattle.std.specs.Prelude.{refl}
+use Rattle.std.specs.Vec.{vec_capacity, vec_len}
+use Rattle.ghc_pool.specs.declared.answer.RoundStop.{RoundStop}
+use Rattle.ghc_pool.specs.declared.rounds.worker.Worker.{Worker}
+use Rattle.ghc_pool.specs.Answers.{Taken, one_if, IsReason}
+use Rattle.ghc_pool.specs.Workers.{Work, work_of, DidNothing, KeepsRoom, IsOfferedOrStopped}
+use Rattle.ghc_pool.specs.Stops.{IsWell}
+
+pub enough : (b : Bool) (permits n : ℕ) → n ≤ one_if b → (b ≡ true → 0 < permits) → n ≤ permits
+enough true permits n few some = omega (arith, few, some refl)
+enough false permits n few some = omega (arith, few)
+
+pub some_none : {A : Type 0} (x : A) → Some x ≡ None → ⊥
+some_none x e = cc
+
+pub offered_after : (u v w : Worker) → IsOfferedOrStopped u v → IsOfferedOrStopped v w → IsOfferedOrStopped u w
+offered_after u v w (inl p) (inl q) = inl (q.0 ∙ p.0, q.1 ∙ p.1)
+offered_after u v w (inr p) (inl q) = inr (q.1 ∙ p)
+offered_after u v w p (inr q) = inr q
+
+module _ (fed : List Taken → Type 0) (asks : List Taken → RoundStop → Type 0) where
+  pub well_answered : (k l : Work) (x : Taken) (stop : Option RoundStop) → IsWell fed asks k → k.stop ≡ None → l.taken.items ≡ k.taken.items ++ x ∷ [] → l.left.items ≡ k.left.items → l.stop ≡ stop
+      → ((taken : List Taken) → fed taken → IsReason fed asks stop (taken ++ x ∷ [])) → IsWell fed asks l
+  well_answered k l x stop well none taken left same reason =
+      let was : fed k.taken.items = subst (λ s. IsReason fed asks s k.taken.items) none well.reason in
+      record { reason = subst (λ s. IsReason fed asks s l.taken.items) (sym same) (subst (IsReason fed asks stop) (sym taken) (reason k.taken.items was)); left = λ _. left ∙ well.left none }
+
+  pub well_offered : (k l : Work) → IsWell fed asks k → l.taken ≡ k.taken → ((l.left.items ≡ k.left.items) × (l.stop ≡ k.stop)) ⊎ (l.stop ≡ Some RoundStop.Memory) → IsWell fed asks l
+  well_offered k l well taken (inl same) = record {
+    reason = subst (λ s. IsReason fed asks s l.taken.items) (sym same.1) (subst (λ t. IsReason fed asks k.stop t.items) (sym taken) well.reason);
+    left = λ none. same.0 ∙ well.left (sym same.1 ∙ none);
+  }
+  well_offered k l well taken (inr memory) = record {
+    reason = subst (λ s. IsReason fed asks s l.taken.items) (sym memory) tt;
+    left = λ none. absurd (some_none RoundStop.Memory (sym memory ∙ none));
+  }
+
+  pub well_same : (u v : Worker) → DidNothing u v → IsWell fed asks (work_of u) → IsWell fed asks (work_of v)
+  well_same u v same well = record {
+    reason = subst (λ t. IsReason fed asks v.stop t) (sym same.taken) (subst (λ s. IsReason fed asks s u.taken.items) (sym same.stop) well.reason);
+    left = λ none. ap (λ l. l.items) same.left ∙ well.left (sym same.stop ∙ none);
+  }
+
+pub room_same : (u v : Worker) → DidNothing u v → KeepsRoom u v
+room_same u v same but room = omega (arith, room, ap (λ l. length l) same.put, ap vec_len same.left, ap vec_capacity same.left)
+
+pub room_after : (u v w : Worker) → KeepsRoom u v → KeepsRoom v w → KeepsRoom u w
+room_after u v w p q but room = q but (p but room)

@@ -1,0 +1,7 @@
+use Rattle.std.proofs.Common.{take}
+use Rattle.ghc_pool.specs.Workers.{works}
+use Rattle.ghc_pool.specs.Stops.{AreJudged}
+use Rattle.ghc_pool.proofs.rounds.together.first_stop.Given as goal
+
+abbrev pub invariant-loop-worker : goal.invariant-loop-worker
+invariant-loop-worker g l = AreJudged (g.C.Craft.fed l.craft) (g.C.Craft.asks l.craft) ⊥ l.found (works (take l.worker-index l.workers.items))

@@ -1,0 +1,7 @@
+use Rattle.std.proofs.Common.{◌≡◌, []}
+use Rattle.crossbeam_deque.specs.Handles.{worker_view}
+use Rattle.ghc_pool.specs.Workers.{Keeps, KeepsRoom, IsOfferedOrStopped}
+use Rattle.ghc_pool.proofs.rounds.worker.Worker.offer_made.Given as goal
+
+abbrev pub invariant-loop-index : goal.invariant-loop-index
+invariant-loop-index l = Keeps [] [] l.initial.self l.self × KeepsRoom l.initial.self l.self × (l.self.taken ≡ l.initial.self.taken) × IsOfferedOrStopped l.initial.self l.self × ((worker_view l.self.owner).got ≡ (worker_view l.initial.self.owner).got)

@@ -1,0 +1,7 @@
+use Rattle.std.proofs.Common.{◌≡◌, []}
+use Rattle.std.specs.Vec.{vec_len}
+use Rattle.ghc_pool.specs.Workers.{Keeps, DidNothing, HasRoomToAnswer}
+use Rattle.ghc_pool.proofs.rounds.worker.Worker.steal.Given as goal
+
+abbrev pub invariant-loop-index : goal.invariant-loop-index
+invariant-loop-index l = Keeps [] [] l.initial.self l.self × DidNothing l.initial.self l.self × HasRoomToAnswer l.self × (vec_len l.self.victims ≡ vec_len l.initial.self.victims)

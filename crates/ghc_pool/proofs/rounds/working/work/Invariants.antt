@@ -1,0 +1,10 @@
+use Rattle.std.proofs.Common.{◌≡◌, ◌≤◌, ◌+◌, []}
+use Rattle.ghc_pool.specs.Workers.{work_of, submits, Keeps, KeepsRoom}
+use Rattle.ghc_pool.specs.Stops.{IsWell}
+use Rattle.ghc_pool.proofs.rounds.working.work.Given as goal
+
+abbrev pub invariant-loop : goal.invariant-loop
+invariant-loop g l =
+    Keeps [] [] l.initial.worker l.worker × KeepsRoom l.initial.worker l.worker × IsWell (g.C.Craft.fed l.craft) (g.C.Craft.asks l.craft) (work_of l.worker) × (l.share.parts ≡ 1)
+    × (l.share.amount ≡ submits l.worker.taken.items + l.spare) × (l.spare ≤ 1)
+    × ((start : g.row.P.Denot) → g.C.Craft.tells l.craft start l.initial.worker.taken.items l.initial.pass → g.C.Craft.tells l.craft start l.worker.taken.items l.pass)

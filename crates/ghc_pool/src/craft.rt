@@ -1,0 +1,46 @@
+// What the workers of a round do with a name.
+ghost use Rattle.std.specs.Prelude.{◌≡◌, ◌≤◌, ◌++◌, [], ◌∷◌, List, Bool};
+ghost use Rattle.ghc_pool.specs.declared.answer.RoundStop.{RoundStop as round_stop};
+ghost use Rattle.ghc_pool.specs.Answers.{Taken, submits_in, one_if, IsReason};
+
+use crate::answer::{Answer, RoundStop};
+use ghc_term::GoalName;
+
+/// What came of a name: its answer, the reason to stop if it is one, and how many goals were made, by which step.
+#[derive(Drop)]
+pub struct Decided {
+    pub answer: Answer,
+    pub stop: Option<RoundStop>,
+    pub step: u32,
+    pub made: u32,
+}
+
+/// What workers share, each of whom has a pass.
+pub trait Craft<P> {
+    /// Whether steps are taken.
+    ghost takes: { Self → Bool };
+
+    /// What is told of a worker: its pass as it was, the names that it took since with their answers, and its pass as it is.
+    ghost tells: { Self → P → List Taken → P → Type 0 };
+
+    /// Memory was refused for none of these names.
+    ghost fed: { Self → List Taken → Type 0 };
+
+    /// The answer to one of these names is this reason to stop.
+    ghost asks: { Self → List Taken → round_stop → Type 0 };
+
+    /// Whether steps are taken, for each of which a permit is needed.
+    fn takes_steps(&self) -> bool
+        ensures { result ≡ takes self.now };
+
+    /// A pass with which nothing was done so far. It does nothing.
+    fn begin(&self, pass: &P)
+        ensures tells { tells self.now pass.now [] pass.now }
+        ensures fed { fed self.now [] };
+
+    /// Decides what comes of a name that the worker of this number took. Where steps are taken it may take one.
+    fn decide(&self, worker: usize, pass: &mut P, name: GoalName) -> Decided
+        ensures tells { (start : P) (taken : List Taken) → tells self.now start taken pass.old → tells self.now start (taken ++ (name, result.answer) ∷ []) pass.new }
+        ensures submits { submits_in result.answer ≤ one_if (takes self.now) }
+        ensures reason { (taken : List Taken) → fed self.now taken → IsReason (fed self.now) (asks self.now) result.stop (taken ++ (name, result.answer) ∷ []) };
+}

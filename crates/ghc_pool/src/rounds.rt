@@ -1,0 +1,12 @@
+// A round of workers, each with a deque from which the others steal.
+pub(crate) mod budget;
+pub(crate) mod draining;
+pub(crate) mod gathering;
+pub(crate) mod opening;
+pub(crate) mod permits;
+pub(crate) mod rule;
+pub(crate) mod starting;
+pub(crate) mod together;
+pub(crate) mod victim;
+pub(crate) mod worker;
+pub(crate) mod working;

@@ -1,0 +1,156 @@
+// What a worker does in a round.
+ghost use Rattle.std.specs.Prelude.{◌≡◌, ◌≤◌, ◌+◌, ◌<◌, [], ◌∷◌, true, None};
+ghost use Rattle.std.specs.Vec.{vec_len};
+ghost use Rattle.crossbeam_deque.specs.Handles.{worker_view};
+ghost use Rattle.ghc_pool.specs.Workers.{work_of, IsAble, HasRoomToAnswer, Keeps, KeepsRoom, IsOfferedOrStopped, submits};
+ghost use Rattle.ghc_pool.specs.Stops.{IsWell};
+ghost use Rattle.ghc_pool.specs.Opened.{Works, HasWorked};
+
+use crate::craft::{Craft, Decided};
+use crate::rounds::budget::{Budget, Limited};
+use crate::rounds::worker::{Found, Worker};
+use ghc_shared::Tender;
+use ghc_term::GoalName;
+use std::sync::ledger::Share;
+use std::sync::{Mutex, Wait};
+
+// A worker, with its number, its pass, its share of the budget, and how many of its permits it has not used.
+#[derive(Drop)]
+pub struct Job<P, L: Limited> {
+    pub number: usize,
+    pub worker: Worker,
+    pub pass: P,
+    pub share: Share<L>,
+    pub spare: u64,
+}
+
+impl Worker {
+    // Offers the goals that a step made, as far as there is memory.
+    fn offer_made(&mut self, step: u32, made: u32)
+        requires able { IsAble self.old }
+        ensures keeps { Keeps [] [] self.old self.new }
+        ensures room { KeepsRoom self.old self.new }
+        ensures got { (worker_view self.new.owner).got ≡ (worker_view self.old.owner).got }
+        ensures taken { self.new.taken ≡ self.old.taken }
+        ensures stop { IsOfferedOrStopped self.old self.new }
+    {
+        for index in 0..made {
+            let place = index + 1;
+            if !self.offer(GoalName { step, place }) {
+                return;
+            }
+        }
+    }
+
+    // The name that is in hand is decided, and the goals that are made are offered.
+    pub fn handle<P, C: Craft<P>>(
+        &mut self,
+        craft: &C,
+        number: usize,
+        pass: &mut P,
+        spare: &mut u64,
+        name: GoalName,
+    )
+        requires able { IsAble self.old }
+        requires room { HasRoomToAnswer self.old }
+        requires permit { C.takes craft.now ≡ true → 0 < spare.old }
+        requires none { self.old.stop ≡ None }
+        requires well { IsWell (C.fed craft.now) (C.asks craft.now) (work_of self.old) }
+        ensures keeps { Keeps (name ∷ []) [] self.old self.new }
+        ensures room { KeepsRoom self.old self.new }
+        ensures got { (worker_view self.new.owner).got ≡ (worker_view self.old.owner).got }
+        ensures well { IsWell (C.fed craft.now) (C.asks craft.now) (work_of self.new) }
+        ensures tells { (start : P) → C.tells craft.now start self.old.taken.items pass.old → C.tells craft.now start self.new.taken.items pass.new }
+        ensures fewer { spare.new ≤ spare.old }
+        ensures spent { spare.new + submits self.new.taken.items ≡ spare.old + submits self.old.taken.items }
+    {
+        let Decided {
+            answer,
+            stop,
+            step,
+            made,
+        } = craft.decide(number, pass, name);
+        *spare -= answer.submits();
+        self.answer(name, answer, stop);
+        if stop.is_some() {
+            return;
+        }
+        self.offer_made(step, made);
+    }
+}
+
+// Whether a name may be taken: where steps are taken, a permit is needed that is not used.
+fn is_permitted<P, C: Craft<P>, L: Limited, R: Wait>(
+    rt: &R,
+    craft: &C,
+    budget: &Mutex<Budget<L>>,
+    share: &mut Share<L>,
+    spare: &mut u64,
+) -> bool
+    requires { share.old.parts ≡ 1 }
+    ensures part { share.new.parts ≡ 1 }
+    ensures one { result ≡ true → C.takes craft.now ≡ true → 0 < spare.new }
+    ensures few { spare.old ≤ 1 → spare.new ≤ 1 }
+    ensures counted { share.new.amount + spare.old ≡ share.old.amount + spare.new }
+{
+    if !craft.takes_steps() || *spare > 0 {
+        return true;
+    }
+    if budget.lock(rt).permit(share) {
+        *spare = 1;
+        return true;
+    }
+    false
+}
+
+// Works until the worker stops, finds no name, or gets no permit where steps are taken.
+fn work<P, C: Craft<P>, L: Limited, R: Wait>(
+    rt: &R,
+    craft: &C,
+    budget: &Mutex<Budget<L>>,
+    job: &mut Job<P, L>,
+)
+    requires { Works (C.fed craft.now) (C.asks craft.now) job.old }
+    ensures { HasWorked (C.fed craft.now) (C.asks craft.now) (C.tells craft.now) job.old job.new }
+{
+    let Job {
+        number,
+        worker,
+        pass,
+        share,
+        spare,
+    } = job;
+    for _ in rt.forever() {
+        if worker.stop.is_some() {
+            return;
+        }
+        if !is_permitted(rt, craft, budget, share, spare) {
+            return;
+        }
+        match worker.take() {
+            Found::Name(name) => worker.handle(craft, *number, pass, spare, name),
+            Found::Again => {}
+            Found::Nothing => return,
+        }
+    }
+}
+
+// What the workers share.
+#[derive(Drop)]
+pub struct Crew<'a, C, L: Limited, R: Wait> {
+    pub rt: &'a R,
+    pub craft: &'a C,
+    pub budget: &'a Mutex<Budget<L>>,
+}
+
+impl<P, C: Craft<P>, L: Limited, R: Wait> Tender<Job<P, L>> for Crew<'_, C, L, R> {
+    ghost use Rattle.ghc_pool.specs.Opened.{Works, HasWorked};
+
+    ghost can = { λ crew job. Works (C.fed crew.craft.now) (C.asks crew.craft.now) job };
+
+    ghost does = { λ crew old new. HasWorked (C.fed crew.craft.now) (C.asks crew.craft.now) (C.tells crew.craft.now) old new };
+
+    fn tend(&self, job: &mut Job<P, L>) {
+        work(self.rt, self.craft, self.budget, job);
+    }
+}
