@@ -15,6 +15,7 @@ const { tutorialSessions } = require("./tutorial.js");
 
 const PAGE = pathToFileURL(path.join(path.dirname(fileURLToPath(import.meta.url)), "..", "ghcdb.html")).href;
 const STARTED = 'document.body.classList.contains("started")';
+const GONE = { "roll 2": [2, 3, 6], "roll 7": [7, 8, 9] };
 const LONGEST_CLICK = 200, LONGEST_DRAWING = 500; // milliseconds
 const MOST_ROUNDS = 10; // the least time of some rounds counts, for other work may be done on the machine
 
@@ -57,11 +58,16 @@ async function doStation(page, station) {
     return;
   }
   await page.click(Tour.opensAt(station.line));
+  if (station.line.startsWith("ask ")) {
+    await page.type(station.line.slice(4));
+    await page.key("Enter");
+    return;
+  }
   if (!(await page.middle("#menu"))) return;
   if (station.line.startsWith("roll ")) {
     await page.click("#menu [data-roll]");
     const ringed = await page.value(numbers("#canvas .going"));
-    assert.deepEqual(ringed.sort(), [2, 3, 6], "the consequences are ringed before anything is done");
+    assert.deepEqual(ringed.sort(), GONE[station.line], "the consequences are ringed before anything is done");
   }
   await page.click(button);
 }
@@ -81,7 +87,7 @@ inBrowsers("the tour is gone through by clicks, and the console shows what docs/
     const session = Object.keys(Tour.SESSIONS).indexOf(station.session);
     if (!isLast) assert.deepEqual(entries, told[session].slice(0, entries.length), `station ${index + 1}`);
   }
-  assert.deepEqual(await page.value(TOLD), told[2], "the last session is told to its end");
+  assert.deepEqual(await page.value(TOLD), told.at(-1), "the last session is told to its end");
   assert.match(await page.value('document.getElementById("guide").textContent'), /That was the tour/);
   assert.deepEqual(await page.value('[...document.querySelectorAll("#store .row")].map((row) => row.textContent)[0]'), "T = 126");
 });
