@@ -23,7 +23,7 @@ first_digit (d ∷ ds) rest more b digits some e =
     ap is_ascii_digit (sym same) ∙ both (is_ascii_digit d) (list_all is_ascii_digit ds) digits
 
 -- a line that begins with a number begins with a digit
-digit_first : (line rest more : List ℕ) (n b : ℕ) → n ≤ greatest_number → line ≡ decimal n ++ rest → line ≡ b ∷ more → is_ascii_digit b ≡ true
+pub digit_first : (line rest more : List ℕ) (n b : ℕ) → n ≤ greatest_number → line ≡ decimal n ++ rest → line ≡ b ∷ more → is_ascii_digit b ≡ true
 digit_first line rest more n b small is begins = first_digit (decimal n) rest more b (said_digits n small) (some_digit n small) (sym is ∙ begins)
 
 -- a line that says a step begins with its number and a space
@@ -66,12 +66,12 @@ one_turn line n (reordered ms) f says other turn = tt
 abbrev pub IsCut : List ℕ → Type 0
 IsCut bytes = (bytes ≡ []) ⊎ ((more : List ℕ) × (bytes ≡ 32 ∷ more))
 
-cut_numbers : (ns : List ℕ) → IsCut (numbers_behind ns)
+pub cut_numbers : (ns : List ℕ) → IsCut (numbers_behind ns)
 cut_numbers [] = inl refl
 cut_numbers (n ∷ ns) = inr (_, refl)
 
 -- words without a space are cut in one way
-one_word : (a b x y : List ℕ) → All (λ c. c ≢ 32) a → All (λ c. c ≢ 32) b → IsCut x → IsCut y → a ++ x ≡ b ++ y → (a ≡ b) × (x ≡ y)
+pub one_word : (a b x y : List ℕ) → All (λ c. c ≢ 32) a → All (λ c. c ≢ 32) b → IsCut x → IsCut y → a ++ x ≡ b ++ y → (a ≡ b) × (x ≡ y)
 one_word a b x y p q (inl k) (inl l) e =
     let words : a ≡ b = sym (append-nil a) ∙ ap (λ z. a ++ z) (sym k) ∙ e ∙ ap (λ z. b ++ z) l ∙ append-nil b in
     (words, k ∙ sym l)

@@ -16,18 +16,18 @@ use Rattle.ghc_records.proofs.OneStep.{one_at, one_line}
 use Rattle.ghc_records.proofs.TellingHistories.{one_next}
 
 -- lists that agree at each place begin alike
-begin_alike : {X : Type 0} (xs ys : List X) → ((i : ℕ) (x y : X) → slice_get xs i ≡ Some x → slice_get ys i ≡ Some y → x ≡ y) → length xs ≤ length ys → xs ≡ take (length xs) ys
+pub begin_alike : {X : Type 0} (xs ys : List X) → ((i : ℕ) (x y : X) → slice_get xs i ≡ Some x → slice_get ys i ≡ Some y → x ≡ y) → length xs ≤ length ys → xs ≡ take (length xs) ys
 begin_alike [] ys same low = refl
 begin_alike (x ∷ xs) [] same low = absurd (omega (arith, low))
 begin_alike (x ∷ xs) (y ∷ ys) same low =
     ap (λ z. z ∷ xs) (same 0 x y refl refl) ∙ ap (λ l. y ∷ l) (begin_alike xs ys (λ i a b e f. same (suc i) a b e f) (omega (arith, low)))
 
-one_longer : {X : Type 0} (xs : List X) (n : ℕ) → n < length xs → (x : X) × (take (suc n) xs ≡ take n xs ++ x ∷ [])
+pub one_longer : {X : Type 0} (xs : List X) (n : ℕ) → n < length xs → (x : X) × (take (suc n) xs ≡ take n xs ++ x ∷ [])
 one_longer [] n low = absurd (omega (arith, low))
 one_longer (x ∷ xs) zero low = (x, refl)
 one_longer (x ∷ xs) (suc n) low = let (y, e) = one_longer xs n (omega (arith, low)) in (y, ap (λ l. x ∷ l) e)
 
-in_front : {X : Type 0} (n : ℕ) (xs : List X) (x : X) → In x (take n xs) → In x xs
+pub in_front : {X : Type 0} (n : ℕ) (xs : List X) (x : X) → In x (take n xs) → In x xs
 in_front zero xs x i = absurd i
 in_front (suc n) [] x i = absurd i
 in_front (suc n) (y ∷ xs) x (inl e) = inl e

@@ -50,3 +50,6 @@ pub mod OpeningSteps
 pub mod SectionParts
 pub mod TurnLemmas
 pub mod ChronicleTold
+pub mod OneEntry
+pub mod OneSection
+pub mod OneChronicle

@@ -27,7 +27,7 @@ name_bytes (b ∷ bs) h =
     All-cons (λ b. b ≢ 47) b bs (name_byte b p.0) (name_bytes bs p.1)
 
 -- no stroke stands in a name
-name_plain : (f : List ℕ) → IsNameText f → All (λ b. b ≢ 47) f
+pub name_plain : (f : List ℕ) → IsNameText f → All (λ b. b ≢ 47) f
 name_plain [] h = absurd h
 name_plain (b ∷ bs) h = All-cons (λ b. b ≢ 47) b bs (small_letter b h.0) (name_bytes bs h.1)
 

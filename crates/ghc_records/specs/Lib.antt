@@ -23,3 +23,4 @@ pub mod EntryText
 pub mod ChronicleText
 pub mod ChronicleCode
 pub mod WrittenEntryCode
+pub mod ChronicleLaws

@@ -6,6 +6,7 @@ mod asking_reading;
 mod binders;
 mod binding;
 mod chronicle;
+mod chronicle_laws;
 mod chronicle_lines;
 mod chronicle_reading;
 mod chronicle_writing;
@@ -44,6 +45,7 @@ mod written_entry;
 
 pub use addition::Addition;
 pub use chronicle::Chronicle;
+pub use chronicle_laws::texts_tell_one_chronicle;
 pub use chronicle_reading::{is_chronicle, read_chronicle};
 pub use chronicle_writing::write_chronicle;
 pub use entry::Entry;
