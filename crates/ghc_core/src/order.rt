@@ -1,5 +1,5 @@
 // An order into which a record is to be put.
-ghost use Rattle.std.specs.Prelude.{◌≡◌, ◌∷◌, ◌++◌, [], OnOk};
+ghost use Rattle.std.specs.Prelude.{◌≡◌, ◌∷◌, ◌++◌, [], OnOk, OnErr};
 
 use std::alloc::{AllocError, Global};
 use std::marker::Model;
@@ -30,7 +30,8 @@ impl Order {
 
     /// One number more, the last.
     pub fn push(&mut self, number: u32) -> Result<(), AllocError>
-        ensures { OnOk result (self.new ≡ self.old ++ number ∷ []) }
+        ensures pushed { OnOk result (self.new ≡ self.old ++ number ∷ []) }
+        ensures stays { OnErr result (self.new ≡ self.old) }
     {
         self.numbers.push(number)?;
         Ok(())
