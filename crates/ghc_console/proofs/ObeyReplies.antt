@@ -6,7 +6,7 @@ use Rattle.ghc_reader.specs.Tests.{a_term, IsRefusal}
 use Rattle.ghc_fire.specs.declared.meter.Meter.{Meter}
 use Rattle.ghc_fire.specs.Meter.{one_more}
 use Rattle.ghc_core.specs.World.{World}
-use Rattle.ghc_core.specs.Events.{Command, input, finish, undo, roll, redo, arrange}
+use Rattle.ghc_core.specs.Events.{Command, input, finish, undo, roll, redo, arrange, ask}
 use Rattle.ghc_core.specs.Answers.{Fails}
 use Rattle.ghc_core.proofs.Moving.{opening_stays}
 use Rattle.ghc_core.specs.Counting.{CountsInObeying}
@@ -42,3 +42,4 @@ fires_as_counted (roll k) m n before after old counted new = new ∙ ap (λ (z :
 fires_as_counted (redo k) m n before after old (inl none) new = inl (new ∙ ap (λ (z : Meter). z.firings) none ∙ old)
 fires_as_counted (redo k) m n before after old (inr once) new = inr (new ∙ ap (λ (z : Meter). z.firings) once ∙ ap one_more old)
 fires_as_counted (arrange order) m n before after old counted new = new ∙ ap (λ (z : Meter). z.firings) counted ∙ old
+fires_as_counted (ask gs) m n before after old counted new = new ∙ ap (λ (z : Meter). z.firings) counted ∙ old

@@ -19,6 +19,7 @@ obeys_nothing (command.undo k) m n e = e
 obeys_nothing (command.roll k) m n e = e
 obeys_nothing (command.redo k) m n e = inl e
 obeys_nothing (command.arrange order) m n e = e
+obeys_nothing (command.ask gs) m n e = e
 
 -- and no more than it asks for
 obeys_few : (c : Command) (m n : ℕ) → FiresInObeying c m n → n ≤ m + firings_of_obeying c
@@ -29,6 +30,7 @@ obeys_few (command.roll k) m n e = omega (arith, e)
 obeys_few (command.redo k) m n (inl e) = omega (arith, e)
 obeys_few (command.redo k) m n (inr e) = omega (arith, e)
 obeys_few (command.arrange order) m n e = omega (arith, e)
+obeys_few (command.ask gs) m n e = omega (arith, e)
 
 -- a command may fire nothing
 pub fires_nothing : (c : LineCommand) (m n : ℕ) → n ≡ m → Fires c m n

@@ -1,7 +1,7 @@
 -- What lines fire in the core as they are carried out.
 use Rattle.std.specs.Prelude.{◌≡◌, ◌⊎◌, ℕ, List, sum_by}
 use Rattle.ghc_fire.specs.Meter.{one_more}
-use Rattle.ghc_core.specs.Events.{Command, input, finish, undo, roll, redo, arrange}
+use Rattle.ghc_core.specs.Events.{Command, input, finish, undo, roll, redo, arrange, ask}
 use Rattle.ghc_core.specs.CommandCode.{command_of as core_command_of}
 use Rattle.ghc_console.specs.Commands.{command_of}
 use Rattle.ghc_console.specs.declared.command.LineCommand.{LineCommand}
@@ -15,6 +15,7 @@ FiresInObeying (finish k) old new = new ≡ old
 FiresInObeying (undo n) old new = new ≡ old
 FiresInObeying (roll n) old new = new ≡ old
 FiresInObeying (arrange order) old new = new ≡ old
+FiresInObeying (ask gs) old new = new ≡ old
 
 -- Fires c old new: carrying out the command c takes the count of firings from old to new. A step or a redo fires once in the core, or not at all where it is refused before; of a run nothing is said; no other command fires.
 abbrev pub Fires : LineCommand → ℕ → ℕ → Type 0
@@ -44,6 +45,7 @@ firings_of_obeying (finish k) = 0
 firings_of_obeying (undo n) = 0
 firings_of_obeying (roll n) = 0
 firings_of_obeying (arrange order) = 0
+firings_of_obeying (ask gs) = 0
 
 -- how many firings a command that is no run may ask for
 abbrev pub firings_of : LineCommand → ℕ

@@ -28,6 +28,7 @@ use Rattle.ghc_core.specs.World.{World, IsFull, HasRoom}
 use Rattle.ghc_core.specs.Streams as streams
 use Rattle.ghc_core.specs.Laws as laws
 use Rattle.ghc_fire.proofs.Steps.{effect_once}
+use Rattle.ghc_core.proofs.Naming.{known_of_act}
 use Rattle.ghc_core.proofs.Refusing.{no_stream, tail_bound}
 use Rattle.ghc_core.proofs.Stepping.{stream_full}
 
@@ -94,7 +95,8 @@ by_end w ordered k act g s xs (variable x) a at l = elim (room w) [
   | inr full ↦ inr (Fault.Full, stream_full effect_once w ordered.acyclic ordered.streams_once k act g s x at (xs, l) full)
   | inl r ↦
       let f = effect_on w k act s x xs a l in
-      inl (record { number = w.next; goal = Some g; consumed = Some (stream k s); act = act; effect = f.0 }, ((g, s, refl, refl, refl), (refl, ((stream k s, refl, at), f.1), r, (g, refl))))
+      let t : Record = record { number = w.next; goal = Some g; consumed = Some (stream k s); act = act; effect = f.0 } in
+      inl (t, ((g, s, refl, refl, refl), (refl, ((stream k s, refl, at), f.1), r, known_of_act w.opening.program w.opening.query w.kept t (stream k s) w.next (value_at w.state.store) f.0 f.1)))
 ]
 by_end w ordered k act g s xs (integer j) a at l = inr (Fault.TailBound, tail_bound g s (integer j) at (xs, l) tt)
 by_end w ordered k act g s xs (node f us) a at l = inr (Fault.TailBound, tail_bound g s (node f us) at (xs, l) tt)

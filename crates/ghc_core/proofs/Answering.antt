@@ -23,14 +23,15 @@ use Rattle.std.specs.Prelude.{Option}
 use Rattle.ghc_core.specs.World.{Proposal, Hands, with_hand, World, with_step}
 use Rattle.ghc_core.specs.declared.change.Change.{Change}
 use Rattle.ghc_core.specs.Change.{with_redone, without_steps, with_order, CanChange, AreTakenAway, Changes}
-use Rattle.ghc_core.specs.Events.{Command, input, finish, undo, roll, redo, arrange, Event, propose, commit, note, command, Reply, stepped, undone, noted, refused}
+use Rattle.ghc_core.specs.Events.{Command, input, finish, undo, roll, redo, arrange, ask, Event, propose, commit, note, command, Reply, stepped, undone, noted, refused}
 use Rattle.ghc_core.specs.Proposes as asking
-use Rattle.ghc_core.specs.Answers.{Asks, to_give, to_close, to_undo, to_roll, to_redo, to_arrange, told_of, Fails, AsksFor, by_hand, by_command, Says, IsRefusedFor, no_hand, makes, says, fails, no_memory}
+use Rattle.ghc_core.specs.Answers.{Asks, to_give, to_close, to_undo, to_roll, to_redo, to_arrange, to_ask, told_of, Fails, AsksFor, by_hand, by_command, Says, IsRefusedFor, no_hand, makes, says, fails, no_memory}
 use Rattle.ghc_core.specs.Refusals.{IsToldWhere}
 use Rattle.ghc_core.specs.Proposes.{AttemptAnswers, CommitFails}
 use Rattle.ghc_fire.specs.Attempt as attempt
 use Rattle.ghc_fire.proofs.Answering.{same_act, same_effect, same_fault, apart}
 use Rattle.ghc_core.specs.Laws.{IsOrderly, OrderedHasOneAnswer, EventsHaveOneAnswer}
+use Rattle.ghc_core.proofs.AskedGoals.{ask_fails_once, ask_or_fail, one_ask}
 use Rattle.ghc_core.proofs.Reaching.{reached}
 use Rattle.ghc_core.proofs.Refusing.{told_once, first_once, stream_fails_once, commit_fails_once, value_once, has_not}
 use Rattle.ghc_core.proofs.Reversing.{kept_once, undo_fails_once, undo_or_fail, redo_or_fail, redo_fails_once}
@@ -61,6 +62,7 @@ module _ (w : World) (ordered : IsOrderly w) where
   made_or_fails c change fault (to_roll {r = r} number) can f = f.1 r can.0 number
   made_or_fails c change fault (to_redo {n = n} {r = r} number) can f = redo_or_fail w n r (subst (λ m. finite.get w.shelf m ≡ Some r) number can.0) can.1 can.2 can.3 f
   made_or_fails c change fault (to_arrange {order = order} {a = a} same) can f = (orders w.kept ordered.kept_once).no_pair order f.0 f.1 (subst (IsLawful w.kept) same can.0) f.3
+  made_or_fails c change fault (to_ask {gs = gs} {r = r} of) can f = ask_or_fail w gs r of can f
 
   -- a command is refused for one reason
   fails_once : (c : Command) (f g : Fault) → Fails w c f → Fails w c g → f ≡ g
@@ -70,6 +72,7 @@ module _ (w : World) (ordered : IsOrderly w) where
   fails_once (roll n) f g p q = p.0 ∙ sym q.0
   fails_once (redo n) f g p q = redo_fails_once w n p q
   fails_once (arrange order) f g p q = let one = (orders w.kept ordered.kept_once).one_pair order _ _ _ _ p.3 q.3 in p.2 ∙ (λ i. Fault.NotLawful (one.0 i) (one.1 i)) ∙ sym q.2
+  fails_once (ask gs) f g p q = ask_fails_once w gs p q
 
   -- worlds from which the same steps were taken away are one
   taken_once : (entry : Entry) {gone far left rest : List Record} {u v : World} → gone ≡ far → left ≡ rest → AreTakenAway w gone left entry u → AreTakenAway w far rest entry v → u ≡ v
@@ -99,6 +102,9 @@ module _ (w : World) (ordered : IsOrderly w) where
   change_once u v (to_arrange {order = order} {a = a} o) (to_arrange {a = b} p) can may e f =
       let same : a.records ≡ b.records = (orders w.kept ordered.kept_once).one_record order a.records b.records (subst (λ z. IsInOrder w.kept z a.records) o can.1) (subst (λ z. IsInOrder w.kept z b.records) p may.1) in
       (refl, e ∙ (λ i. with_order ((o ∙ sym p) i) (same i) w) ∙ sym f)
+  change_once u v (to_ask {gs = gs} {r = r} o) (to_ask {r = s} p) m n e f =
+      let same : r ≡ s = one_ask w ordered.acyclic gs r s o p m n in
+      (ap (λ (z : Record). stepped z.number) same, e ∙ ap (λ z. with_step z w) same ∙ sym f)
 
   module _ (hands : Hands) where
     -- an event asks for a change, or says what it found

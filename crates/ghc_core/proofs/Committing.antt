@@ -27,6 +27,7 @@ use Rattle.ghc_core.specs.Proposes.{AttemptAnswers, IsReduction, StillHolds, IsC
 use Rattle.ghc_core.specs.Core.{IsStanding, choice_of}
 use Rattle.ghc_core.specs.Laws.{CommitIsExact, StepIsExact, StreamStepIsExact}
 use Rattle.ghc_core.proofs.Refusing.{stream_fails_once, commit_fails_once, value_once}
+use Rattle.ghc_core.proofs.Naming.{known_of_act}
 use Rattle.ghc_core.proofs.Stepping as stepping
 use Rattle.ghc_core.proofs.Reaching.{known, reached}
 use Rattle.ghc_core.proofs.Standing.{standing_numbered}
@@ -90,7 +91,8 @@ next_step w p b s h there room =
     let now : HasEffect w.opening.program b p.act no_step (value_at w.state.store) p.effect = subst (λ z. HasEffect w.opening.program z p.act no_step (value_at w.state.store) p.effect) (value_once h.2 there) h.3 in
     let plain : is_stream b ≡ false = no_stream w.opening.program b p.act no_step (value_at w.state.store) p.effect h.1 now in
     let then : HasEffect w.opening.program b p.act w.next (value_at w.state.store) (under w.next p.effect) = effect_under w.opening.program b p.act w.next (value_at w.state.store) p.effect plain (standing_numbered w s p.goal b there) now in
-    (h, (refl, ((b, refl, there), then), room, (p.goal, refl)), refl, refl)
+    let r : Record = record { number = w.next; goal = Some p.goal; consumed = Some b; act = p.act; effect = under w.next p.effect } in
+    (h, (refl, ((b, refl, there), then), room, known_of_act w.opening.program w.opening.query w.kept r b w.next (value_at w.state.store) r.effect then), refl, refl)
 
 module _ (w : World) (acyclic : IsAcyclic (value_at w.state.store)) where
   one_answer : (g : GoalName) (choice : Option ℕ) {a b : Answer} → AttemptAnswers w g choice a → AttemptAnswers w g choice b → a ≡ b

@@ -13,6 +13,7 @@ use Rattle.ghc_flat.specs.Flat.{IsProgram, is_stream}
 use Rattle.ghc_fire.specs.declared.act.Act.{Act}
 use Rattle.ghc_fire.specs.declared.act.Act.TheVariants.{ByClause as by_clause, Unified as unified, Assigned as assigned, Given as given, Closed as closed, Asked as asked}
 use Rattle.ghc_fire.specs.Effect.{Effect, HasEffect, no_step}
+use Rattle.ghc_fire.specs.Asked.{IsAsk}
 use Rattle.ghc_fire.specs.Attempt as attempt
 use Rattle.ghc_term.proofs.Decided.{same_decided}
 use Rattle.ghc_fire.proofs.EachAnswer.{each_answer}
@@ -27,8 +28,8 @@ use Rattle.ghc_depend.proofs.Results.{asking_fires}
 use Rattle.ghc_core.specs.declared.change.Change.TheVariants.{Adds as adds, PutsBack as puts_back, Reorders as reorders}
 use Rattle.ghc_core.specs.World.{Proposal, Hands, IsHand, with_hand, emptied, World, with_step}
 use Rattle.ghc_core.specs.Change.{with_redone, with_order}
-use Rattle.ghc_core.specs.Events.{Command, input, finish, undo, roll, redo, arrange, Event, propose, commit, note, command, Reply, held, stepped, noted, arranged, refused}
-use Rattle.ghc_core.specs.Answers.{Asks, to_give, to_close, to_redo, to_arrange, Fails, Obeys, does, refuses, by_hand, Says, Answers, no_hand, makes, says, fails}
+use Rattle.ghc_core.specs.Events.{Command, input, finish, undo, roll, redo, arrange, ask, Event, propose, commit, note, command, Reply, held, stepped, noted, arranged, refused}
+use Rattle.ghc_core.specs.Answers.{Asks, to_give, to_close, to_redo, to_arrange, to_ask, Fails, Obeys, does, refuses, by_hand, Says, Answers, no_hand, makes, says, fails}
 use Rattle.ghc_core.specs.Proposes as asking
 use Rattle.ghc_core.specs.Streams as streams
 use Rattle.ghc_core.specs.Legal.{IsProper}
@@ -37,7 +38,8 @@ use Rattle.ghc_core.specs.Laws.{IsOrderly}
 use Rattle.ghc_core.specs.Laws as laws
 use Rattle.ghc_core.proofs.Answered.{room, IsActAnswered, act_answered}
 use Rattle.ghc_core.proofs.Moving.{obeyed_answers, noted_answers, reachable_reached}
-use Rattle.ghc_core.proofs.Naming.{known_decided}
+use Rattle.ghc_core.proofs.AskedGoals.{ask_answered}
+use Rattle.ghc_core.proofs.Naming.{known_decided, known_of_act}
 use Rattle.ghc_core.proofs.Refusing.{has_not, not_shelved, no_goal, no_variable, changed, full, stale, no_room}
 use Rattle.ghc_core.proofs.Returning.{undoes_answered, rolls_answered}
 use Rattle.ghc_core.proofs.Reaching.{reached_good, reached}
@@ -123,7 +125,8 @@ module _ (w : World) (accepted : IsProgram w.opening.program) (acyclic : IsAcycl
           | inl free ↦
               let f = effect_each w.opening.program s.0 p.act no_step w.next (value_at w.state.store) p.effect s.3 in
               let r : Record = record { number = w.next; goal = Some p.goal; consumed = Some s.0; act = p.act; effect = f.0 } in
-              (stepped w.next, with_step r w, emptied h hands, makes {change = adds r} i (by_hand e (s, (refl, ((s.0, refl, s.2), f.1), free, (p.goal, refl)), refl, refl)) (refl, ((s.0, refl, s.2), f.1), free, (p.goal, refl)) refl refl)
+              let known = known_of_act w.opening.program w.opening.query w.kept r s.0 w.next (value_at w.state.store) f.0 f.1 in
+              (stepped w.next, with_step r w, emptied h hands, makes {change = adds r} i (by_hand e (s, (refl, ((s.0, refl, s.2), f.1), free, known), refl, refl)) (refl, ((s.0, refl, s.2), f.1), free, known) refl refl)
         ]
       ]
     ] refl
@@ -211,6 +214,12 @@ arranges_answered w order ordered = elim (decided w.kept order ordered.kept_once
   | inr f ↦ (refused (Fault.NotLawful f.0 f.1), w, refuses (f.0, f.1, refl, f.2))
 ]
 
+asks_answered : (w : World) (gs : List Goal) → Reaches w → IsAsk gs → IsObeyed w (ask gs)
+asks_answered w gs r proper = elim (ask_answered w r gs proper) [
+  | inl (s, of, next) ↦ (stepped s.number, with_step s w, does {change = adds s} (to_ask of) next refl refl)
+  | inr (f, why) ↦ (refused f, w, refuses why)
+]
+
 commands_answered : (w : World) (c : Command) → Reaches w → IsOrderly w → IsProper (command c) → IsObeyed w c
 commands_answered w (input k t) r ordered proper = acted w (input k t) k (given t) (λ s o. to_give o) (λ f e. e) (act_answered w ordered k (given t) (inl (t, refl, proper)))
 commands_answered w (finish k) r ordered proper = acted w (finish k) k closed (λ s o. to_close o) (λ f e. e) (act_answered w ordered k closed (inr refl))
@@ -218,6 +227,7 @@ commands_answered w (undo n) r ordered proper = undoes_answered w n r
 commands_answered w (roll n) r ordered proper = rolls_answered w n r
 commands_answered w (redo n) r ordered proper = redone w (reached_good r).accepted ordered.acyclic (reached_shelf w r) n
 commands_answered w (arrange order) r ordered proper = arranges_answered w order ordered
+commands_answered w (ask gs) r ordered proper = asks_answered w gs r proper
 
 pub events_answered : laws.EventsHaveAnAnswer
 events_answered w hands e r proper =

@@ -21,10 +21,12 @@ use Rattle.ghc_core.specs.Reached.{Reaches, from_opening, by_change}
 use Rattle.ghc_core.specs.Legal.{Leaves, the_opening, and_entry}
 use Rattle.ghc_core.specs.Legal as legal
 use Rattle.ghc_core.specs.HistoryLaws as laws
+use Rattle.ghc_core.specs.Laws.{NoStepIsFree}
 use Rattle.ghc_core.proofs.Moving.{MovesOnce, answered_moves, Numbers, change_enters, opening_stays, reachable_reached}
 use Rattle.ghc_core.proofs.Reaching.{reached_good}
 use Rattle.ghc_core.proofs.Replayed.{replayed}
 use Rattle.ghc_core.proofs.Keeping.{reached_keeps}
+use Rattle.ghc_core.proofs.Standing.{standing_apart}
 use Rattle.ghc_core.proofs.Taking.{change_done, holding, hand_commits, reached_reachable}
 
 -- the history of a journal with one more entry
@@ -32,8 +34,8 @@ history_push : (o : Opening) (es : List Entry) (e : Entry) → history o (es ++ 
 history_push o es e = ap (λ items. opened o ∷ items) (map-append entered es (e ∷ []))
 
 -- some event makes the change, and enters it
-change_entered : (w v : World) (change : Change) → CanChange w change → Changes w change v → (entry : Entry) → v.journal ≡ w.journal ++ entry ∷ [] → (reply : Reply) × legal.Enters w entry reply v
-change_entered w v change can changes entry journal = elim (change_done w v change can changes) [
+change_entered : (w v : World) (change : Change) → NoStepIsFree w → CanChange w change → Changes w change v → (entry : Entry) → v.journal ≡ w.journal ++ entry ∷ [] → (reply : Reply) × legal.Enters w entry reply v
+change_entered w v change free can changes entry journal = elim (change_done w v change free can changes) [
   | inl (p, r, c, e) ↦ (stepped w.next, (holding p, emptied 1 (holding p), commit 1, hand_commits w v p r c e, journal))
   | inr (c, asks, proper) ↦ (told_of change, (no_hands, no_hands, command c, makes tt (by_command asks) can changes refl, journal))
 ]
@@ -43,7 +45,7 @@ pub reached_legal : {w : World} → Reaches w → Leaves (history w.opening w.jo
 reached_legal (from_opening {w = w} sound opens) = subst₂ (λ p es. Leaves (history p es) w) (sym opens.opening) (sym opens.journal) (the_opening sound opens)
 reached_legal (by_change {w = w} {v = v} change r can changes) =
     let g = change_enters w v change can changes in
-    let by = change_entered w v change can changes g.entry g.journal in
+    let by = change_entered w v change (standing_apart w r) can changes g.entry g.journal in
     let next : Leaves (history w.opening w.journal ++ entered g.entry ∷ []) v = and_entry g.entry by.0 (reached_legal r) by.1 in
     subst₂ (λ o es. Leaves (history o es) v) (sym g.opening) (sym g.journal) (subst (λ items. Leaves items v) (sym (history_push w.opening w.journal g.entry)) next)
 

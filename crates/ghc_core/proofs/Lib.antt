@@ -36,5 +36,6 @@ pub mod Counted
 pub mod Loading
 pub mod SavedSteps
 pub mod QueryVariables
+pub mod AskedGoals
 pub mod Telling
 pub mod LoadedAgain

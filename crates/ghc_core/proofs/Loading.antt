@@ -171,7 +171,7 @@ module _ (P : Program) (query : Query) (names : List (List ℕ)) (h : History) (
         let few = form.few in
         record {
           possible = p.1;
-          known = (let named = form.of_goals s there in known_of_goal w.opening.program w.state w.opening.query w.kept r p.1 (named.0, ap (λ (q : Step). q.goal) p.0 ∙ named.1));
+          known = (let named = form.of_goals s there in known_of_goal w.opening.program w.state w.opening.query w.kept r p.1 named.0 (ap (λ (q : Step). q.goal) p.0 ∙ named.1));
           positive = omega (arith, first, number);
           below = omega (arith, less, number, next);
           own = λ j. apart (map (λ (q : Step). q.number) l.before) (map (λ (q : Step). q.number) rest.0) s.number distinct (subst₂ In number kept j);

@@ -1,8 +1,9 @@
 -- What steps name: those that consume a goal name nothing; and whether what a step names is known.
-use Rattle.std.proofs.Common.{◌≡◌, ◌≢◌, ◌≤◌, ◌+◌, ℕ, List, [], ◌∷◌, ◌++◌, length, refl, sym, ap, ◌∙◌, subst, inl, inr, arith}
+use Rattle.std.proofs.Common.{◌≡◌, ◌≢◌, ◌≤◌, ◌+◌, ℕ, List, [], ◌∷◌, ◌++◌, length, refl, sym, ap, ◌∙◌, subst, inl, inr, arith, Some}
 use Rattle.std.proofs.lemmas.List.{length-append}
 use Rattle.std.specs.Prelude.{Option}
 use Rattle.ghc_term.specs.declared.var_name.VarName.{VarName}
+use Rattle.ghc_term.specs.declared.goal_name.GoalName.{GoalName}
 use Rattle.ghc_term.specs.Goal.{Goal, call, unify, assign, stream}
 use Rattle.ghc_term.specs.Tree.{Tree}
 use Rattle.ghc_term.specs.Lists.{In}
@@ -18,7 +19,6 @@ use Rattle.ghc_fire.specs.Effect.{Effect, HasEffect}
 use Rattle.ghc_records.specs.Record.{State, Record, Fires}
 use Rattle.ghc_records.specs.Replay.{MakesVariable, IsVariableOf, AreKnownIn, NameWhatIsKnown}
 use Rattle.ghc_depend.proofs.Results.{taken}
-use Rattle.ghc_core.specs.World.{IsOfGoal}
 
 -- an act that has an effect on a goal names no variable
 act_names_nothing : (P : Program) (b : Goal) (a : Act) (n : ℕ) (S : VarName → Option Tree) (e : Effect) → HasEffect P b a n S e → variables_asked a ≡ []
@@ -45,11 +45,13 @@ unasked_names_nothing (asked gs) n = absurd (n gs refl)
 pub nothing_named : (query : Query) (rs : List Record) (r : Record) → variables_asked r.act ≡ [] → AreKnownIn query rs r
 nothing_named query rs r none x n = absurd (subst (In x) none n.0)
 
--- A step that consumes a goal names nothing.
-pub known_of_goal : (P : Program) (s : State) (query : Query) (rs : List Record) (r : Record) → Fires P s r → IsOfGoal r → AreKnownIn query rs r
-known_of_goal P s query rs r fires (g, named) =
-    let t = taken P s r fires g named in
-    nothing_named query rs r (act_names_nothing P t.goal r.act r.number (value_at s.store) r.effect t.effect)
+-- A step whose act has an effect on a goal names nothing,
+pub known_of_act : (P : Program) (query : Query) (rs : List Record) (r : Record) (b : Goal) (n : ℕ) (S : VarName → Option Tree) (e : Effect) → HasEffect P b r.act n S e → AreKnownIn query rs r
+known_of_act P query rs r b n S e h = nothing_named query rs r (act_names_nothing P b r.act n S e h)
+
+-- and so does one that consumes a goal.
+pub known_of_goal : (P : Program) (s : State) (query : Query) (rs : List Record) (r : Record) → Fires P s r → (g : GoalName) → r.goal ≡ Some g → AreKnownIn query rs r
+known_of_goal P s query rs r fires g named = let t = taken P s r fires g named in known_of_act P query rs r t.goal r.number (value_at s.store) r.effect t.effect
 
 -- what is known among some steps is known among more
 pub known_more : (query : Query) (rs more : List Record) → ((r : Record) → In r rs → In r more) → (x : VarName) → IsVariableOf query rs x → IsVariableOf query more x
@@ -87,7 +89,7 @@ variable_decided : (query : Query) (rs : List Record) (x : VarName) → Decided 
 variable_decided query rs x = decided_either (in_decided name_decided x (variables_of_goals query)) (some_decided rs (λ r. MakesVariable r x) (λ r i. makes_decided r x))
 
 -- whether all these variables, but for those of step n, are known
-all_decided : (query : Query) (rs : List Record) (n : ℕ) (xs : List VarName) → Decided ((x : VarName) → In x xs × (x.step ≢ n) → IsVariableOf query rs x)
+pub all_decided : (query : Query) (rs : List Record) (n : ℕ) (xs : List VarName) → Decided ((x : VarName) → In x xs × (x.step ≢ n) → IsVariableOf query rs x)
 all_decided query rs n [] = inl (λ x i. absurd i.0)
 all_decided query rs n (y ∷ xs) = elim (all_decided query rs n xs) [
   | inr no_rest ↦ inr (λ all. no_rest (λ x i. all x (inr i.0, i.1)))

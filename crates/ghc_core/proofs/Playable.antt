@@ -8,7 +8,7 @@ use Rattle.ghc_core.specs.declared.change.Change.{Change}
 use Rattle.ghc_core.specs.World.{Hands, World}
 use Rattle.ghc_core.specs.Change.{CanChange}
 use Rattle.ghc_core.specs.Events.{Command, Event, propose, commit, note, command, Reply}
-use Rattle.ghc_core.specs.Answers.{Asks, to_give, to_close, to_undo, to_roll, to_redo, to_arrange, by_command, Answers, no_hand, makes, says, fails, no_memory}
+use Rattle.ghc_core.specs.Answers.{Asks, to_give, to_close, to_undo, to_roll, to_redo, to_arrange, to_ask, by_command, Answers, no_hand, makes, says, fails, no_memory}
 use Rattle.ghc_core.specs.Legal.{IsProper, IsReachable, by_event}
 use Rattle.ghc_core.specs.Core.{Core, Stays}
 use Rattle.ghc_core.specs.Meets.{Meets, MeetsEach}
@@ -37,6 +37,7 @@ asked_proper w (to_undo number) can = tt
 asked_proper w (to_roll number) can = tt
 asked_proper w (to_redo number) can = tt
 asked_proper w (to_arrange same) can = tt
+asked_proper w (to_ask of) can = of.0
 
 -- what an event leaves is reachable
 answered_reachable : (w v : World) (hands left : Hands) (e : Event) (reply : Reply) → IsReachable w hands → Answers Unknown w hands e reply v left → IsReachable v left

@@ -105,10 +105,10 @@ module _ where
           emptied 1 both_held,
           makes {change = adds (step 1 1 1)} (omega arith, omega arith) (by_hand {p = (proposal 1 1)} held_1 (
             (equals 1, tt, first_goal, binds [] 1 no_step (value_at finite.empty) unbound),
-            (refl, ((equals 1, refl, first_goal), binds [] 1 1 (value_at finite.empty) unbound), (omega arith, omega arith), (of_query 1, refl)),
+            (refl, ((equals 1, refl, first_goal), binds [] 1 1 (value_at finite.empty) unbound), (omega arith, omega arith), nothing_named query [] (step 1 1 1) refl),
             refl,
             refl,
-          )) (refl, ((equals 1, refl, first_goal), binds [] 1 1 (value_at finite.empty) unbound), (omega arith, omega arith), (of_query 1, refl)) refl refl,
+          )) (refl, ((equals 1, refl, first_goal), binds [] 1 1 (value_at finite.empty) unbound), (omega arith, omega arith), nothing_named query [] (step 1 1 1) refl) refl refl,
           (
             stepped_on,
             emptied 2 (emptied 1 both_held),
@@ -186,10 +186,10 @@ module _ where
         emptied 1 hand_1,
         makes {change = adds (step 1 1 1)} (omega arith, omega arith) (by_hand {p = (proposal 1 1)} (finite.get-insert nat_cmp_total finite.empty 1 (proposal 1 1) 1) (
           (equals 1, tt, there_1, binds [] 1 no_step (value_at finite.empty) unbound),
-          (refl, ((equals 1, refl, there_1), binds [] 1 1 (value_at finite.empty) unbound), (omega arith, omega arith), (of_query 1, refl)),
+          (refl, ((equals 1, refl, there_1), binds [] 1 1 (value_at finite.empty) unbound), (omega arith, omega arith), nothing_named queries [] (step 1 1 1) refl),
           refl,
           refl,
-        )) (refl, ((equals 1, refl, there_1), binds [] 1 1 (value_at finite.empty) unbound), (omega arith, omega arith), (of_query 1, refl)) refl refl,
+        )) (refl, ((equals 1, refl, there_1), binds [] 1 1 (value_at finite.empty) unbound), (omega arith, omega arith), nothing_named queries [] (step 1 1 1) refl) refl refl,
         (
           after_undo,
           emptied 1 hand_1,
@@ -203,10 +203,10 @@ module _ where
               emptied 1 hand_2,
               makes {change = adds (step 2 2 2)} (omega arith, omega arith) (by_hand {p = (proposal 2 2)} (finite.get-insert nat_cmp_total (emptied 1 hand_1).held 1 (proposal 2 2) 1) (
                 (equals 2, tt, there_2, binds [] 2 no_step (value_at finite.empty) unbound),
-                (refl, ((equals 2, refl, there_2), binds [] 2 2 (value_at finite.empty) unbound), (omega arith, omega arith), (of_query 2, refl)),
+                (refl, ((equals 2, refl, there_2), binds [] 2 2 (value_at finite.empty) unbound), (omega arith, omega arith), nothing_named queries [] (step 2 2 2) refl),
                 refl,
                 refl,
-              )) (refl, ((equals 2, refl, there_2), binds [] 2 2 (value_at finite.empty) unbound), (omega arith, omega arith), (of_query 2, refl)) refl refl,
+              )) (refl, ((equals 2, refl, there_2), binds [] 2 2 (value_at finite.empty) unbound), (omega arith, omega arith), nothing_named queries [] (step 2 2 2) refl) refl refl,
               (
                 after_two,
                 emptied 1 hand_2,

@@ -16,6 +16,7 @@ use Rattle.ghc_records.specs.Journal.{Opening, Entry}
 use Rattle.ghc_core.specs.World.{World, IsFull, HasRoom}
 use Rattle.ghc_core.specs.Core.{IsStanding, record_as, next_record}
 use Rattle.ghc_core.specs.Proposes.{AttemptAnswers, IsProposedAsNext, StillHolds, IsCommitOf, CommitFails, IsStepOf, StepFails, no_room}
+use Rattle.ghc_core.proofs.Naming.{known_of_act}
 use Rattle.ghc_core.proofs.Refusing as refusing
 use Rattle.ghc_core.proofs.Committing.{next_step, answered_holds}
 
@@ -63,7 +64,7 @@ step_answered w g choice p result made next =
     let proposed : AttemptAnswers w g choice (proposes q.act q.effect) = subst (λ o. Attempts P S o choice (proposes q.act q.effect)) (sym made.there) effect.1.1 in
     let holds : StillHolds w q = answered_holds w q choice p.consumed there (subst (λ (h : GoalName). AttemptAnswers w h choice (proposes q.act q.effect)) (sym made.named) proposed) in
     answered (IsStepOf w g choice) (StepFails w g choice) w (record_as w.next p) result next
-    (λ room. (q, made.named, proposed, (holds, (refl, ((p.consumed, refl, there), effect.0), room, (p.goal, refl)), refl, refl))) (no_room q made.named proposed)
+    (λ room. (q, made.named, proposed, (holds, (refl, ((p.consumed, refl, there), effect.0), room, known_of_act P w.opening.query w.kept (record_as w.next p) p.consumed w.next S p.effect effect.0), refl, refl))) (no_room q made.named proposed)
 
 -- Worlds are the same where their parts are.
 pub same_world : (o : Opening) {s t : State} {rs qs : List Record} {x y : Shelf} (n : ℕ) {es fs : List Entry} → s ≡ t → rs ≡ qs → x ≡ y → es ≡ fs

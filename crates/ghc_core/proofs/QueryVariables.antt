@@ -18,7 +18,7 @@ use Rattle.ghc_records.proofs.Heads.{first_in}
 use Rattle.ghc_records.proofs.OrderLemmas.{record_once}
 
 -- what stands among the first occurrences stands in the list
-of_firsts : (seen xs : List VarName) (x : VarName) → In x (firsts seen xs) → In x xs
+pub of_firsts : (seen xs : List VarName) (x : VarName) → In x (firsts seen xs) → In x xs
 of_firsts seen [] x i = i
 of_firsts seen (y ∷ xs) x i =
     elim (list_any (eq_by_cmp name_cmp y) seen) as (λ b. In x (cond b (firsts seen xs) (y ∷ firsts (y ∷ seen) xs)) → In x (y ∷ xs)) [

@@ -29,7 +29,7 @@ use Rattle.ghc_core.specs.Reached.{AreNamesOf, IsSound, Reaches, from_opening, b
 use Rattle.ghc_core.specs.Legal.{IsReachable}
 use Rattle.ghc_core.specs.Laws as laws
 use Rattle.ghc_core.proofs.Moving.{reachable_reached}
-use Rattle.ghc_core.proofs.Naming.{known_of_goal, known_more}
+use Rattle.ghc_core.proofs.Naming.{known_more}
 
 -- what is known of a shelved step
 abbrev pub OnShelf : World → ℕ → Record → Type 0
@@ -104,7 +104,7 @@ module _ (w : World) (good : Good w) where
         shelf = λ m s e. let o = good.shelf m s e in (o.0, o.1, omega (arith, o.2), λ i. elim (pushed w.kept r m i) [ inl j ↦ o.3 j | inr same ↦ let less = o.2 in let number = n.0 in omega arith ]);
         first = omega arith;
         acyclic = push_acyclic r n.1 positive new;
-        has = push_has r n.1 positive new (known_of_goal w.opening.program w.state w.opening.query w.kept r n.1 n.3);
+        has = push_has r n.1 positive new n.3;
         one = push_one r n.1 positive new;
       }
 

@@ -25,7 +25,7 @@ use Rattle.ghc_core.specs.Change.{without_steps, CanChange, Changes}
 use Rattle.ghc_core.specs.Reached.{Reaches, from_opening, by_change}
 use Rattle.ghc_core.specs.Returns as laws
 use Rattle.ghc_core.proofs.Moving.{reachable_reached}
-use Rattle.ghc_core.proofs.Naming.{known_of_goal, named_push}
+use Rattle.ghc_core.proofs.Naming.{named_push}
 use Rattle.ghc_core.proofs.Reaching.{Good, not_kept_next, reached_good}
 
 -- each step on the shelf that consumed nothing asks for goals
@@ -90,7 +90,7 @@ module _ (w : World) (good : Good w) (h : Replayed w) where
 
   changed : (change : Change) (v : World) → CanChange w change → Changes w change v → Replayed v
   changed (adds r) v can e = subst Replayed (sym e) (record {
-    replay = pushed r can.1 (known_of_goal w.opening.program w.state w.opening.query w.kept r can.1 can.3) (next_number r can) (not_next w good r can.0);
+    replay = pushed r can.1 can.3 (next_number r can) (not_next w good r can.0);
     within = (let room = can.2.0 in omega arith);
     few = one_more w.kept r can.2.1;
     asking = h.asking;

@@ -18,6 +18,7 @@ use Rattle.ghc_records.specs.Record.{Record}
 use Rattle.ghc_core.specs.World.{World, IsFull, HasRoom}
 use Rattle.ghc_core.specs.Laws.{IsOrderly}
 use Rattle.ghc_core.specs.Anyway.{TakesNothingAnyway}
+use Rattle.ghc_core.proofs.Naming.{known_of_act}
 use Rattle.ghc_core.proofs.Refusing.{stream_fails_once, tail_bound}
 use Rattle.ghc_core.proofs.Stepping.{bound_or_open, stream_full}
 use Rattle.ghc_core.specs.Streams.{IsStreamAt, StreamFails, IsStreamStep}
@@ -45,7 +46,10 @@ is_bound w k g s m same at b = let t = subst (λ x. IsTailBound s (value_at x)) 
 pub stream_step : (w : World) (k : ℕ) (act : Act) (g : GoalName) (s : VarName) (e : Effect) (r : Record) → IsStreamAt w k g s
     → HasEffect w.opening.program (stream k s) act w.next (value_at w.state.store) e → HasRoom w
     → r ≡ record { number = w.next; goal = Some g; consumed = Some (stream k s); act = act; effect = e } → IsStreamStep w k act r
-stream_step w k act g s e r at has room same = subst (IsStreamStep w k act) (sym same) ((g, s, refl, refl, refl), (refl, ((stream k s, refl, at), has), room, (g, refl)))
+stream_step w k act g s e r at has room same =
+    let t : Record = record { number = w.next; goal = Some g; consumed = Some (stream k s); act = act; effect = e } in
+    subst (IsStreamStep w k act) (sym same)
+    ((g, s, refl, refl, refl), (refl, ((stream k s, refl, at), has), room, known_of_act w.opening.program w.opening.query w.kept t (stream k s) w.next (value_at w.state.store) e has))
 
 module _ (w : World) (ordered : IsOrderly w) (k : ℕ) where
   -- a stream takes nothing for one reason

@@ -1,5 +1,5 @@
 -- Events can do each change, so they lead where changes lead; and the next step binds what no kept step bound.
-use Rattle.std.proofs.Common.{◌≡◌, ◌⊎◌, List, [], ◌∷◌, true, inl, inr, refl, sym, ap, subst, arith, Option, Some, None}
+use Rattle.std.proofs.Common.{◌≡◌, ◌≢◌, ◌⊎◌, List, [], ◌∷◌, true, inl, inr, refl, sym, ap, ◌∙◌, subst, arith, Option, Some, None}
 use Rattle.std.specs.Prelude.{is_some}
 use Rattle.std.specs.FinMap as finite
 use Rattle.std.specs.Cmp.{nat_cmp_total}
@@ -10,30 +10,36 @@ use Rattle.ghc_term.specs.Goal.{Goal, call, unify, assign, stream}
 use Rattle.ghc_term.specs.Lists.{In}
 use Rattle.ghc_term.specs.Store.{value_at}
 use Rattle.ghc_flat.specs.Clause.{Program, Query}
+use Rattle.ghc_flat.specs.Variables.{variables_of_goals}
 use Rattle.ghc_fire.specs.declared.act.Act.{Act}
-use Rattle.ghc_fire.specs.declared.act.Act.TheVariants.{ByClause as by_clause, Unified as unified, Assigned as assigned, Given as given, Closed as closed}
+use Rattle.ghc_fire.specs.declared.act.Act.TheVariants.{ByClause as by_clause, Unified as unified, Assigned as assigned, Given as given, Closed as closed, Asked as asked}
+use Rattle.ghc_fire.specs.Asked.{NameNoneOf, variables_asked}
+use Rattle.ghc_fire.proofs.Asking.{asks_back}
 use Rattle.ghc_fire.specs.Effect.{Effect, HasEffect, no_step}
 use Rattle.ghc_fire.proofs.Steps.{effect_each}
 use Rattle.ghc_fire.specs.Proposal.{Proposal}
 use Rattle.ghc_records.specs.Record.{State, Record, Fires}
 use Rattle.ghc_records.specs.Replay.{Replays}
+use Rattle.ghc_records.proofs.Heads.{first_in}
 use Rattle.ghc_depend.specs.Depend.{Binds}
 use Rattle.ghc_depend.proofs.Finding.{not_both}
 use Rattle.ghc_depend.proofs.Placing.{results_of}
-use Rattle.ghc_depend.proofs.Results.{taken, step_binds}
+use Rattle.ghc_depend.proofs.Results.{firing, step_binds}
 use Rattle.ghc_core.specs.World.{Hands, no_hands, IsHand, with_hand, emptied, World, IsNextStep, with_step}
 use Rattle.ghc_core.specs.declared.change.Change.{Change}
 use Rattle.ghc_core.specs.declared.change.Change.TheVariants.{Adds as adds, PutsBack as puts_back, TakesAway as takes_away, TakesAll as takes_all, Reorders as reorders}
 use Rattle.ghc_core.specs.Change.{CanChange, Changes}
-use Rattle.ghc_core.specs.Events.{Command, input, finish, undo, roll, redo, arrange, propose, commit, command, held, stepped}
+use Rattle.ghc_core.specs.Events.{Command, input, finish, undo, roll, redo, arrange, ask, propose, commit, command, held, stepped}
 use Rattle.ghc_core.specs.Proposes.{IsReduction, IsCommitOf}
-use Rattle.ghc_core.specs.Answers.{Asks, to_give, to_close, to_undo, to_roll, to_redo, to_arrange, told_of, by_hand, by_command, Says, Answers, makes, says}
+use Rattle.ghc_core.specs.Answers.{Asks, to_give, to_close, to_undo, to_roll, to_redo, to_arrange, to_ask, told_of, by_hand, by_command, Says, Answers, makes, says}
 use Rattle.ghc_core.specs.Reached.{Reaches, from_opening, by_change}
 use Rattle.ghc_core.specs.Legal.{IsProper, IsReachable, at_opening, by_event, with_other_hands}
+use Rattle.ghc_core.specs.Laws.{NoStepIsFree}
 use Rattle.ghc_core.specs.Laws as laws
 use Rattle.ghc_core.specs.Core.{choice_of}
 use Rattle.ghc_core.proofs.Moving.{reachable_reached}
 use Rattle.ghc_core.proofs.Committing.{still_proposed}
+use Rattle.ghc_core.proofs.Standing.{standing_apart}
 
 -- The step is that of a commit, or a proper command asks for it.
 abbrev IsAsked : World → Record → Type 0
@@ -55,24 +61,33 @@ module _ (w : World) (r : Record) (next : IsNextStep w r) (g : GoalName) (named 
   by_act (stream k x) closed act consumed there has = inr (finish k, to_close (g, x, named, consumed, act), tt)
   by_act b a act consumed there has = absurd has
 
--- Each step that is possible as the next one is asked for.
-step_asked : (w : World) (r : Record) → IsNextStep w r → IsAsked w r
-step_asked w r next =
-    let t = taken w.opening.program w.state r next.1 next.3.0 next.3.1 in
-    by_act w r next t.name t.named t.goal r.act refl t.consumed t.there t.effect
+-- Each step that is possible as the next one is asked for, where the world has no variable of no step.
+step_asked : (w : World) (r : Record) → NoStepIsFree w → IsNextStep w r → IsAsked w r
+step_asked w r free next = elim (firing w.opening.program w.state r next.1) [
+  | inl t ↦ by_act w r next t.name t.named t.goal r.act refl t.consumed t.there t.effect
+  | inr a ↦
+      let number = next.0 in
+      let below = next.2.0 in
+      let none : NameNoneOf no_step a.goals = λ x i no.
+      let other : x.step ≢ r.number = λ own. omega (arith, own, no, number, below) in
+      let named : In x (variables_asked r.act) = subst (λ act. In x (variables_asked act)) (sym a.act) (first_in [] (variables_of_goals a.goals) x i refl) in
+      free x (next.3 x (named, other)) no in
+      let back = asks_back w.opening.program a.goals r.number r.effect (λ no. omega (arith, no, number, below)) none a.asks in
+      inr (ask back.goals, to_ask (back.ask, back.none, a.none, a.act ∙ ap asked back.same), back.ask)
+]
 
 -- The change takes the step of a commit, or a proper command asks for it.
 abbrev pub IsDone : World → Change → World → Type 0
 IsDone w change v = ((p : Proposal) × (r : Record) × IsCommitOf w p r × (v ≡ with_step r w)) ⊎ ((c : Command) × Asks c change × IsProper (command c))
 
 -- Each change is one that events can do.
-pub change_done : (w v : World) (change : Change) → CanChange w change → Changes w change v → IsDone w change v
-change_done w v (adds r) can e = elim (step_asked w r can) [ inl q ↦ inl (q.0, r, q.1, e) | inr q ↦ inr q ]
-change_done w v (puts_back r) can e = inr (redo r.number, to_redo refl, tt)
-change_done w v (takes_away r) can e = inr (undo r.number, to_undo refl, tt)
-change_done w v (takes_all []) can e = absurd can
-change_done w v (takes_all (r ∷ rs)) can e = inr (roll r.number, to_roll refl, tt)
-change_done w v (reorders a) can e = inr (arrange a.order, to_arrange refl, tt)
+pub change_done : (w v : World) (change : Change) → NoStepIsFree w → CanChange w change → Changes w change v → IsDone w change v
+change_done w v (adds r) free can e = elim (step_asked w r free can) [ inl q ↦ inl (q.0, r, q.1, e) | inr q ↦ inr q ]
+change_done w v (puts_back r) free can e = inr (redo r.number, to_redo refl, tt)
+change_done w v (takes_away r) free can e = inr (undo r.number, to_undo refl, tt)
+change_done w v (takes_all []) free can e = absurd can
+change_done w v (takes_all (r ∷ rs)) free can e = inr (roll r.number, to_roll refl, tt)
+change_done w v (reorders a) free can e = inr (arrange a.order, to_arrange refl, tt)
 
 -- one hand, which holds nothing
 abbrev one_hand : Hands
@@ -100,7 +115,7 @@ commit_reachable w v p r s c e =
 -- What changes reach, events reach.
 pub reached_reachable : {w : World} → Reaches w → IsReachable w no_hands
 reached_reachable (from_opening sound opens) = at_opening sound opens refl
-reached_reachable (by_change {w = w} {v = v} change r can changes) = elim (change_done w v change can changes) [
+reached_reachable (by_change {w = w} {v = v} change r can changes) = elim (change_done w v change (standing_apart w r) can changes) [
   | inl (p, q, c, e) ↦ commit_reachable w v p q (reached_reachable r) c e
   | inr (c, asks, proper) ↦ by_event (command c) (told_of change) (reached_reachable r) proper (makes tt (by_command asks) can changes refl)
 ]

@@ -3,6 +3,7 @@ use Rattle.std.specs.Prelude.{◌≡◌, ℕ, ◌+◌, List, [], ◌∷◌, Opti
 use Rattle.ghc_term.specs.declared.goal_name.GoalName.{GoalName}
 use Rattle.ghc_term.specs.declared.fault.Fault.{Fault}
 use Rattle.ghc_term.specs.Tree.{Tree}
+use Rattle.ghc_term.specs.Goal.{Goal}
 use Rattle.ghc_fire.specs.declared.act.Act.TheVariants.{Given as given, Closed as closed}
 use Rattle.std.specs.FinMap as finite
 use Rattle.ghc_fire.specs.Attempt as attempt
@@ -15,12 +16,13 @@ use Rattle.ghc_core.specs.declared.change.Change.{Change}
 use Rattle.ghc_core.specs.declared.change.Change.TheVariants.{Adds as adds, PutsBack as puts_back, TakesAway as takes_away, TakesAll as takes_all, Reorders as reorders}
 use Rattle.ghc_core.specs.World.{Proposal, Hands, IsHand, with_hand, emptied, World}
 use Rattle.ghc_core.specs.Change.{CanChange, Changes}
-use Rattle.ghc_core.specs.Events.{Command, input, finish, undo, roll, redo, arrange, Event, propose, commit, note, command, Reply, held, stepped, noted, undone, arranged, refused}
+use Rattle.ghc_core.specs.Events.{Command, input, finish, undo, roll, redo, arrange, ask, Event, propose, commit, note, command, Reply, held, stepped, noted, undone, arranged, refused}
 use Rattle.ghc_core.specs.Proposes.{AttemptAnswers, IsProposedIn, IsCommitOf, CommitFails, IsNoCandidate, IsStatusOf}
+use Rattle.ghc_core.specs.AskedGoals.{IsOfAsk, AskFails}
 use Rattle.ghc_core.specs.Streams.{IsOfStream, StreamFails}
 use Rattle.ghc_core.specs.Refusals.{IsToldWhere, OrElse, UndoFails, RedoFails}
 
--- Asks c change: the command c asks for the change. An input and a close ask for a step of the stream; an undo, a rollback and a redo for the step of their number, the rollback with its consequences; an arrange for the order.
+-- Asks c change: the command c asks for the change. An input and a close ask for a step of the stream; an undo, a rollback and a redo for the step of their number, the rollback with its consequences; an arrange for the order; an ask for the step that asks for its goals.
 pub data Asks : Command → Change → Type 0 where
   to_give : {k : ℕ} {t : Tree} {r : Record} → IsOfStream k (given t) r → Asks (input k t) (adds r)
   to_close : {k : ℕ} {r : Record} → IsOfStream k closed r → Asks (finish k) (adds r)
@@ -28,6 +30,7 @@ pub data Asks : Command → Change → Type 0 where
   to_roll : {n : ℕ} {r : Record} {rs : List Record} → r.number ≡ n → Asks (roll n) (takes_all (r ∷ rs))
   to_redo : {n : ℕ} {r : Record} → r.number ≡ n → Asks (redo n) (puts_back r)
   to_arrange : {order : List ℕ} {a : Arrangement} → a.order ≡ order → Asks (arrange order) (reorders a)
+  to_ask : {gs : List Goal} {r : Record} → IsOfAsk gs r → Asks (ask gs) (adds r)
 
 -- what is told of a change: the step that is taken or put back, the steps that are taken away, or that the record is arranged
 abbrev pub told_of : Change → Reply
@@ -45,6 +48,7 @@ Fails w (undo n) f = UndoFails w.kept n f
 Fails w (roll n) f = IsToldWhere Fault.NotKept (IsNotKept w.kept n) f
 Fails w (redo n) f = RedoFails w n f
 Fails w (arrange order) f = (a b : ℕ) × (f ≡ Fault.NotLawful a b) × IsUnlawful w.kept order a b
+Fails w (ask gs) f = AskFails w gs f
 
 -- Obeys Starved w c reply v: in the world w the change for which the command c asks is made and told, which leaves the world v; or the command is refused, for this or for want of memory, which changes nothing.
 pub data Obeys (Starved : Type 0) (w : World) (c : Command) : Reply → World → Type 0 where

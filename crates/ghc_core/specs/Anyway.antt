@@ -4,12 +4,14 @@ use Rattle.std.specs.FinMap as finite
 use Rattle.ghc_term.specs.declared.goal_name.GoalName.{GoalName}
 use Rattle.ghc_term.specs.declared.fault.Fault.{Fault}
 use Rattle.ghc_fire.specs.Attempt as attempt
+use Rattle.ghc_term.specs.Goal.{Goal}
 use Rattle.ghc_term.specs.Lists.{In}
 use Rattle.ghc_records.specs.Record.{numbers}
 use Rattle.ghc_depend.specs.Depend.{IsNotKept}
 use Rattle.ghc_core.specs.World.{Proposal, Hands, IsHand, World}
-use Rattle.ghc_core.specs.Events.{Command, input, finish, undo, roll, redo, arrange, Event, propose, commit, note, command}
+use Rattle.ghc_core.specs.Events.{Command, input, finish, undo, roll, redo, arrange, ask, Event, propose, commit, note, command}
 use Rattle.ghc_core.specs.Proposes.{AttemptAnswers, IsNoCandidate}
+use Rattle.ghc_core.specs.AskedGoals.{AskFails}
 use Rattle.ghc_core.specs.Streams.{StreamFails}
 use Rattle.ghc_core.specs.Refusals.{UndoFails, RedoFails}
 
@@ -34,7 +36,11 @@ abbrev pub BeginsUnkept : World → List ℕ → Fault → Type 0
 BeginsUnkept w [] f = ⊥
 BeginsUnkept w (n ∷ ns) f = (f ≡ Fault.NotLawful n n) × ¬ In n (numbers w.kept)
 
--- A command is not obeyed: there is no such stream, or its tail ends in a value; the step cannot be undone; it is not kept; it is not on the shelf, its goal is not there, or it names a variable that is not known; or an order begins with a number that is not kept.
+-- Goals are not asked for: they name a variable that is not known; or the world is full.
+abbrev pub IsNotAskedAnyway : World → List Goal → Fault → Type 0
+IsNotAskedAnyway w gs f = ((f ≡ Fault.NoVariable) × AskFails w gs Fault.NoVariable) ⊎ ((f ≡ Fault.Full) × AskFails w gs Fault.Full)
+
+-- A command is not obeyed: there is no such stream, or its tail ends in a value; the step cannot be undone; it is not kept; it is not on the shelf, its goal is not there, or it names a variable that is not known; an order begins with a number that is not kept; or goals are asked for that name a variable that is not known, or for which a full world has no room.
 abbrev pub IsNotObeyedAnyway : World → Command → Fault → Type 0
 IsNotObeyedAnyway w (input k t) f = TakesNothingAnyway w k f
 IsNotObeyedAnyway w (finish k) f = TakesNothingAnyway w k f
@@ -42,6 +48,7 @@ IsNotObeyedAnyway w (undo n) f = UndoFails w.kept n f
 IsNotObeyedAnyway w (roll n) f = (f ≡ Fault.NotKept) × IsNotKept w.kept n
 IsNotObeyedAnyway w (redo n) f = ((f ≡ Fault.NotShelved) × RedoFails w n Fault.NotShelved) ⊎ ((f ≡ Fault.NoGoal) × RedoFails w n Fault.NoGoal) ⊎ ((f ≡ Fault.NoVariable) × RedoFails w n Fault.NoVariable)
 IsNotObeyedAnyway w (arrange order) f = BeginsUnkept w order f
+IsNotObeyedAnyway w (ask gs) f = IsNotAskedAnyway w gs f
 
 -- The event is refused for this, whatever memory is left.
 abbrev pub IsRefusedAnyway : World → Hands → Event → Fault → Type 0

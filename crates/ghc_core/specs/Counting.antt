@@ -2,7 +2,7 @@
 use Rattle.std.specs.Prelude.{◌≡◌, ◌⊎◌}
 use Rattle.ghc_fire.specs.declared.meter.Meter.{Meter}
 use Rattle.ghc_fire.specs.Meter.{fired, tried}
-use Rattle.ghc_core.specs.Events.{Command, input, finish, undo, roll, redo, arrange, Event, propose, commit, note, command}
+use Rattle.ghc_core.specs.Events.{Command, input, finish, undo, roll, redo, arrange, ask, Event, propose, commit, note, command}
 
 -- One firing was counted, or none.
 abbrev pub FiresOnce : Meter → Meter → Type 0
@@ -20,6 +20,7 @@ CountsInObeying (undo k) m n = n ≡ m
 CountsInObeying (roll k) m n = n ≡ m
 CountsInObeying (redo k) m n = FiresOnce m n
 CountsInObeying (arrange order) m n = n ≡ m
+CountsInObeying (ask gs) m n = n ≡ m
 
 -- Meeting the event takes the core's counts from m to n: a commit fires once, and a note tries once, or not at all where they are refused before; a proposal does not count here.
 abbrev pub Counts : Event → Meter → Meter → Type 0

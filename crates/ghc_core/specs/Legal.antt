@@ -2,10 +2,11 @@
 use Rattle.std.specs.Prelude.{◌≡◌, ℕ, ◌+◌, List, [], ◌∷◌, ◌++◌}
 use Rattle.std.specs.FinMap as finite
 use Rattle.ghc_term.specs.Tree.{IsClosed}
+use Rattle.ghc_fire.specs.Asked.{IsAsk}
 use Rattle.ghc_records.specs.Record.{numbers}
 use Rattle.ghc_records.specs.Journal.{Opening, Entry, Item, opened, entered, history, opening_journal}
 use Rattle.ghc_core.specs.World.{Hands, World, Opens}
-use Rattle.ghc_core.specs.Events.{input, finish, undo, roll, redo, arrange, Event, propose, commit, note, command, Reply}
+use Rattle.ghc_core.specs.Events.{input, finish, undo, roll, redo, arrange, ask, Event, propose, commit, note, command, Reply}
 use Rattle.ghc_core.specs.Answers.{Answers}
 use Rattle.ghc_core.specs.Reached.{IsSound}
 
@@ -73,7 +74,7 @@ pub data IsAnswered (Starved : Type 0) (old new : List Item) (hands : Hands) (e 
   -- what left no entry has the definition's reply after the whole new front
   told : IsTold Starved new hands e receipt → Begins old new → IsAnswered Starved old new hands e receipt
 
--- An input term is closed; nothing else is asked of an event.
+-- An input term is closed, and goals that are asked for are an ask; nothing else is asked of an event.
 abbrev pub IsProper : Event → Type 0
 IsProper (propose h g choice) = Unit {0}
 IsProper (commit h) = Unit {0}
@@ -84,6 +85,7 @@ IsProper (command (undo n)) = Unit {0}
 IsProper (command (roll n)) = Unit {0}
 IsProper (command (redo n)) = Unit {0}
 IsProper (command (arrange order)) = Unit {0}
+IsProper (command (ask gs)) = IsAsk gs
 
 -- A world and its hands are reachable: from a sound opening, with empty hands, by proper events, whether or not memory was refused; and a reachable world is so with any other hands that hold nothing.
 pub data IsReachable : World → Hands → Type 0 where

@@ -21,6 +21,7 @@ pub mod Room
 pub mod Change
 pub mod Reached
 pub mod Asked
+pub mod AskedGoals
 pub mod StreamGoals
 pub mod CommandCode
 pub mod EventCode

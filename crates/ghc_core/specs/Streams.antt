@@ -1,10 +1,10 @@
 -- Acts on streams, why they are refused, and what is foreseen of them.
-use Rattle.std.specs.Prelude.{◌≡◌, ℕ, Some}
+use Rattle.std.specs.Prelude.{◌≡◌, ℕ, List, Some}
 use Rattle.std.specs.FinMap as finite
 use Rattle.ghc_term.specs.declared.var_name.VarName.{VarName}
 use Rattle.ghc_term.specs.declared.goal_name.GoalName.{GoalName}
 use Rattle.ghc_term.specs.Tree.{Tree, IsValue}
-use Rattle.ghc_term.specs.Goal.{stream}
+use Rattle.ghc_term.specs.Goal.{Goal, stream}
 use Rattle.ghc_term.specs.Store.{value_at}
 use Rattle.ghc_match.specs.Position.{EndsIn}
 use Rattle.ghc_term.specs.declared.fault.Fault.{Fault}
@@ -13,7 +13,8 @@ use Rattle.ghc_fire.specs.declared.act.Act.TheVariants.{Given as given, Closed a
 use Rattle.ghc_records.specs.Record.{Record}
 use Rattle.ghc_core.specs.World.{World, IsFull, IsNextStep}
 use Rattle.ghc_core.specs.Refusals.{IsToldWhere, OrElse}
-use Rattle.ghc_core.specs.Events.{Command, input, finish, undo, roll, redo, arrange}
+use Rattle.ghc_core.specs.AskedGoals.{IsOfAsk, AskFails}
+use Rattle.ghc_core.specs.Events.{Command, input, finish, undo, roll, redo, arrange, ask}
 
 -- The goal named g is that of stream k, with the tail s.
 abbrev pub IsStreamAt : World → ℕ → GoalName → VarName → Type 0
@@ -46,7 +47,12 @@ abbrev pub ForeseesOn : World → ℕ → Act → Foreseen → Type 0
 ForeseesOn w k act (adds r) = IsStreamStep w k act r
 ForeseesOn w k act (refuses f) = StreamFails w k f
 
--- What is foreseen of each command: inputs and closes alone add a record.
+-- An ask for the goals would add this record now, or be refused.
+abbrev pub ForeseesAsk : World → List Goal → Foreseen → Type 0
+ForeseesAsk w gs (adds r) = IsOfAsk gs r × IsNextStep w r
+ForeseesAsk w gs (refuses f) = AskFails w gs f
+
+-- What is foreseen of each command: inputs, closes and asks alone add a record.
 abbrev pub Foresees : World → Command → Foreseen → Type 0
 Foresees w (input k t) x = ForeseesOn w k (given t) x
 Foresees w (finish k) x = ForeseesOn w k closed x
@@ -54,3 +60,4 @@ Foresees w (undo n) x = x ≡ refuses Fault.Command
 Foresees w (roll n) x = x ≡ refuses Fault.Command
 Foresees w (redo n) x = x ≡ refuses Fault.Command
 Foresees w (arrange order) x = x ≡ refuses Fault.Command
+Foresees w (ask gs) x = ForeseesAsk w gs x

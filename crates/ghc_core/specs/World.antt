@@ -1,8 +1,7 @@
 -- Worlds and hands.
-use Rattle.std.specs.Prelude.{◌≡◌, ◌⊎◌, ℕ, ◌+◌, ◌<◌, ◌≤◌, List, [], ◌∷◌, ◌++◌, length, map, Some}
+use Rattle.std.specs.Prelude.{◌≡◌, ◌⊎◌, ℕ, ◌+◌, ◌<◌, ◌≤◌, List, [], ◌∷◌, ◌++◌, length, map}
 use Rattle.std.specs.Ordering.{nat_cmp}
 use Rattle.std.specs.FinMap as finite
-use Rattle.ghc_term.specs.declared.goal_name.GoalName.{GoalName}
 use Rattle.ghc_term.specs.Lists.{In}
 pub use Rattle.ghc_fire.specs.Proposal.{Proposal}
 use Rattle.ghc_records.specs.Numbers.{number_limit, kept_limit}
@@ -56,13 +55,9 @@ HasRoom w = (w.next < number_limit) × (length w.kept < kept_limit)
 abbrev pub IsKnown : World → Record → Type 0
 IsKnown w r = AreKnownIn w.opening.query w.kept r
 
--- The step consumes a goal.
-abbrev pub IsOfGoal : Record → Type 0
-IsOfGoal r = (g : GoalName) × (r.goal ≡ Some g)
-
--- The step of the record is possible now, under the next number, and consumes a goal. (No new step asks for goals yet.)
+-- The step of the record is possible now, under the next number, and what it names is known.
 abbrev pub IsNextStep : World → Record → Type 0
-IsNextStep w r = (r.number ≡ w.next) × Fires w.opening.program w.state r × HasRoom w × IsOfGoal r
+IsNextStep w r = (r.number ≡ w.next) × Fires w.opening.program w.state r × HasRoom w × IsKnown w r
 
 -- the world, with a new step at its end
 abbrev pub with_step : Record → World → World

@@ -1,9 +1,11 @@
 // Commands to a core.
 
 use crate::order::Order;
+use ghc_fire::Ask;
 use ghc_term::Ground;
 
-/// A command gives a stream an input or closes it, undoes, rolls back or redoes a step, or puts the record into another order.
+/// A command gives a stream an input or closes it, undoes, rolls back or redoes a step, puts the record into another order, or asks
+/// for goals.
 pub enum Command {
     /// The stream of this number gets the input.
     Input(u32, Ground),
@@ -17,6 +19,8 @@ pub enum Command {
     Redo(u32),
     /// The record is put into this order.
     Arrange(Order),
+    /// These goals are asked for.
+    Ask(Ask),
 }
 
 impl Drop for Command {
@@ -24,6 +28,7 @@ impl Drop for Command {
         match self {
             Command::Input(_, _input) => {}
             Command::Arrange(_order) => {}
+            Command::Ask(_ask) => {}
             Command::Close(_) | Command::Undo(_) | Command::Roll(_) | Command::Redo(_) => {}
         }
     }

@@ -1,4 +1,4 @@
-// Foreseeing what an input or a close of a stream would do.
+// Foreseeing what an input or a close of a stream, or an ask, would do.
 ghost use Rattle.std.specs.Prelude.{◌≡◌, ◌⊎◌, Ok, Err, IfOk, IfErr};
 ghost use Rattle.ghc_term.specs.declared.fault.Fault.{Fault as fault_spec};
 ghost use Rattle.ghc_term.specs.Answered.{Answered};
@@ -24,9 +24,9 @@ fn record_of(found: Result<Addition, Fault>) -> Result<Record, Fault>
 }
 
 impl Core {
-    /// The record that the command would add now, where it gives a stream an input or closes it; the refusals are those of
-    /// `prepare_input` and `prepare_close`. `Command` exactly where it is another command, which is told before memory is asked
-    /// for. Nothing is taken, and nothing is fired. It costs what preparing the step costs.
+    /// The record that the command would add now, where it gives a stream an input or closes it, or asks for goals; the refusals are
+    /// those of `prepare_input`, `prepare_close` and `prepare_ask`. `Command` exactly where it is another command, which is told before
+    /// memory is asked for. Nothing is taken, and nothing is fired. It costs what preparing the step costs.
     pub fn foresee(&self, alloc: Global, command: &Command) -> Result<Record, Fault>
         ensures answer { Answered (λ r. Foresees self.now.world (command_of command.now) (adds r)) (λ f. Foresees self.now.world (command_of command.now) (refuses f)) result }
         ensures no_stream { Foresees self.now.world (command_of command.now) (refuses Fault.NoStream) → result ≡ Err Fault.NoStream }
@@ -36,7 +36,10 @@ impl Core {
         match command {
             Command::Input(stream, input) => record_of(self.prepare_input(alloc, *stream, input)),
             Command::Close(stream) => record_of(self.prepare_close(alloc, *stream)),
-            _ => Err(Fault::Command),
+            Command::Ask(ask) => record_of(self.prepare_ask(alloc, ask)),
+            Command::Undo(_) | Command::Roll(_) | Command::Redo(_) | Command::Arrange(_) => {
+                Err(Fault::Command)
+            }
         }
     }
 }

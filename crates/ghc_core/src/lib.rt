@@ -2,6 +2,7 @@
 #![tactic(auto)]
 
 mod arrange;
+mod ask;
 mod carrying;
 mod change;
 mod command;

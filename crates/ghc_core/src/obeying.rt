@@ -69,7 +69,7 @@ impl Core {
         ensures entry { AddsOneAtMost self.old.world self.new.world }
 
         // No want of memory hides that the stream is not there or its tail bound, that the step is not there, has a consequence or lacks
-        // its goal, or that the first number of an order is not kept.
+        // its goal, that what is named is not known, that there is no room for an ask, or that the first number of an order is not kept.
         ensures anyway { (f : fault_spec) → IsNotObeyedAnyway self.old.world (command_of command.now) f → reply_of result ≡ refused f }
         ensures stays { IsRefusal (reply_of result) → Stays self.old self.new }
 

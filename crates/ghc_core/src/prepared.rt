@@ -17,13 +17,13 @@ use std::alloc::Global;
 
 impl Core {
     /// Finds the change for which the command asks, as the call for it does, with its refusals, their order and its cost:
-    /// `prepare_input`, `prepare_close`, `prepare_undo`, `prepare_rollback`, `prepare_redo` or `prepare_arrange`. But for the meter
-    /// the core stays as it is.
+    /// `prepare_input`, `prepare_close`, `prepare_undo`, `prepare_rollback`, `prepare_redo`, `prepare_arrange` or `prepare_ask`. But
+    /// for the meter the core stays as it is.
     pub fn prepare_command(&mut self, alloc: Global, command: &Command) -> Result<Change, Fault>
         ensures answer { Answered (IsAskedFor self.old.world (command_of command.now)) (Fails self.old.world (command_of command.now)) result }
 
         // No want of memory hides that the stream is not there or its tail bound, that the step is not there, has a consequence or lacks
-        // its goal, or that the first number of an order is not kept.
+        // its goal, that what is named is not known, that there is no room for an ask, or that the first number of an order is not kept.
         ensures anyway { (f : fault_spec) → IsNotObeyedAnyway self.old.world (command_of command.now) f → result ≡ Err f }
         ensures stays { Stays self.old self.new }
         ensures counted { CountsInObeying (command_of command.now) self.old.meter self.new.meter }
@@ -48,6 +48,10 @@ impl Core {
             },
             Command::Redo(number) => match self.prepare_redo(alloc, *number) {
                 Ok(addition) => Ok(Change::PutsBack(addition)),
+                Err(fault) => Err(fault),
+            },
+            Command::Ask(ask) => match self.prepare_ask(alloc, ask) {
+                Ok(addition) => Ok(Change::Adds(addition)),
                 Err(fault) => Err(fault),
             },
             Command::Arrange(order) => match self.prepare_arrange(alloc, order.as_slice()) {

@@ -44,7 +44,7 @@ fn is_of(query: &Query, records: &Records, x: VarName) -> bool
 }
 
 // Whether the variable is of the step of this number, or is one of the query, or was made by one of the steps.
-fn is_own_or_of(query: &Query, records: &Records, number: u32, x: VarName) -> bool
+pub(crate) fn is_own_or_of(query: &Query, records: &Records, number: u32, x: VarName) -> bool
     ensures { IsTrue result ↔ (x.step ≢ number → IsVariableOf query.now.goals records.now.held x) }
 {
     if x.step == number {

@@ -2,6 +2,7 @@ use Rattle.std.proofs.Common.{refl, subst, inl, inr}
 use Rattle.ghc_term.specs.declared.fault.Fault.{Fault}
 use Rattle.ghc_core.specs.CommandCode.{command_of}
 use Rattle.ghc_core.specs.Streams.{Foresees, refuses}
+use Rattle.ghc_core.proofs.AskedGoals.{ask_told}
 use Rattle.ghc_core.proofs.core_state.Core.foresee.Goals as goal
 
 pub returns-in-Input-clause-no_stream : goal.returns-in-Input-clause-no_stream
@@ -19,3 +20,18 @@ returns-in-Close-clause-no_stream c fails =
 pub returns-in-Close-clause-tail_bound : goal.returns-in-Close-clause-tail_bound
 returns-in-Close-clause-tail_bound c fails =
     c.record_of-in-Close.ensures.refused Fault.TailBound (c.prepare_close.ensures.anyway Fault.TailBound (inr (refl, subst (λ m. Foresees c.args.self.now.world (command_of m) (refuses Fault.TailBound)) c.in-Close.is fails)))
+
+pub returns-in-Ask-clause-no_stream : goal.returns-in-Ask-clause-no_stream
+returns-in-Ask-clause-no_stream c fails =
+    let w = c.args.self.now.world in
+    absurd ((ask_told w c.in-Ask.ask (subst (λ m. Foresees w (command_of m) (refuses Fault.NoStream)) c.in-Ask.is fails)).0 refl)
+
+pub returns-in-Ask-clause-tail_bound : goal.returns-in-Ask-clause-tail_bound
+returns-in-Ask-clause-tail_bound c fails =
+    let w = c.args.self.now.world in
+    absurd ((ask_told w c.in-Ask.ask (subst (λ m. Foresees w (command_of m) (refuses Fault.TailBound)) c.in-Ask.is fails)).1 refl)
+
+pub returns-in-Ask-clause-other : goal.returns-in-Ask-clause-other
+returns-in-Ask-clause-other c fails =
+    let w = c.args.self.now.world in
+    absurd ((ask_told w c.in-Ask.ask (subst (λ m. Foresees w (command_of m) (refuses Fault.Command)) c.in-Ask.is fails)).2 refl)

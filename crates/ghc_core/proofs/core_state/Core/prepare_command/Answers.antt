@@ -1,7 +1,7 @@
 use Rattle.std.proofs.Common.{◌≡◌, sym, ap, ◌∙◌, subst, inl, inr, Ok, Err}
 use Rattle.ghc_term.specs.declared.fault.Fault.{Fault}
 use Rattle.ghc_core.specs.Anyway.{IsNotObeyedAnyway}
-use Rattle.ghc_core.specs.Answers.{to_give, to_close, to_undo, to_redo, to_arrange, Fails}
+use Rattle.ghc_core.specs.Answers.{to_give, to_close, to_undo, to_redo, to_arrange, to_ask, Fails}
 use Rattle.ghc_core.specs.Asked.{IsAskedFor}
 use Rattle.ghc_core.specs.CommandCode.{command_of}
 use Rattle.ghc_core.specs.Counting.{CountsInObeying}
@@ -37,6 +37,27 @@ returns-in-Err-prepare_close-clause-answer c =
       tt,
       subst (λ m. Why (Fails w (command_of m)) c.in-Err-prepare_close.fault) (sym c.in-Close.is) c.in-Err-prepare_close.ensures.answer.1,
     )
+
+pub returns-in-Ok-prepare_ask-clause-answer : goal.returns-in-Ok-prepare_ask-clause-answer
+returns-in-Ok-prepare_ask-clause-answer c =
+    let w = c.args.self.now.world in
+    let r = c.in-Ok-prepare_ask.addition in
+    (subst (λ m. IsAskedFor w (command_of m) (adds r)) (sym c.in-Ask.is) (to_ask c.in-Ok-prepare_ask.ensures.answer.0.0, c.in-Ok-prepare_ask.ensures.answer.0.1), tt)
+
+pub returns-in-Err-prepare_ask-clause-answer : goal.returns-in-Err-prepare_ask-clause-answer
+returns-in-Err-prepare_ask-clause-answer c =
+    let w = c.args.self.now.world in (
+      tt,
+      subst (λ m. Why (Fails w (command_of m)) c.in-Err-prepare_ask.fault) (sym c.in-Ask.is) c.in-Err-prepare_ask.ensures.answer.1,
+    )
+
+pub returns-in-Ok-prepare_ask-clause-anyway : goal.returns-in-Ok-prepare_ask-clause-anyway
+returns-in-Ok-prepare_ask-clause-anyway c f fails =
+    let no : Ok c.in-Ok-prepare_ask.addition ≡ Err f = c.in-Ok-prepare_ask.ensures.anyway f (subst (λ m. IsNotObeyedAnyway c.args.self.now.world (command_of m) f) c.in-Ask.is fails) in cc
+
+pub returns-in-Err-prepare_ask-clause-anyway : goal.returns-in-Err-prepare_ask-clause-anyway
+returns-in-Err-prepare_ask-clause-anyway c f fails =
+    let same : Err c.in-Err-prepare_ask.fault ≡ Err f = c.in-Err-prepare_ask.ensures.anyway f (subst (λ m. IsNotObeyedAnyway c.args.self.now.world (command_of m) f) c.in-Ask.is fails) in cc
 
 pub returns-in-Ok-prepare_undo-clause-answer : goal.returns-in-Ok-prepare_undo-clause-answer
 returns-in-Ok-prepare_undo-clause-answer c =

@@ -1,0 +1,7 @@
+use Rattle.std.proofs.Common.{take}
+use Rattle.ghc_flat.specs.Checked.{AllCalls}
+use Rattle.ghc_core.specs.AskedGoals.{HasClauseFor}
+use Rattle.ghc_core.proofs.ask.check_calls.Given as goal
+
+abbrev pub invariant-loop-goal : goal.invariant-loop-goal
+invariant-loop-goal l = AllCalls (HasClauseFor l.program) (take l.goal-index l.goals)

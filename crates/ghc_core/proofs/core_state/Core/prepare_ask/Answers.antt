@@ -1,0 +1,90 @@
+use Rattle.std.proofs.Common.{◌≡◌, inl, inr, ap, sym, subst, ◌∙◌, Err, None}
+use Rattle.ghc_fire.specs.declared.act.Act.TheVariants.{Asked as asked}
+use Rattle.ghc_fire.specs.Asked.{NameNoneOf, Asks, asked_as}
+use Rattle.ghc_term.proofs.ListsLemmas.{not_both}
+use Rattle.ghc_reader.specs.Written.{AreNarrow}
+use Rattle.ghc_flat.specs.Checked.{AllCalls, IsFirstCallWithout}
+use Rattle.ghc_core.specs.AskedGoals.{HasClauseFor, NameKnown, AskFails}
+use Rattle.ghc_core.specs.Core.{Core}
+use Rattle.ghc_core.proofs.AskedGoals.{defined_by, undefined_told, unknown_told, full_told, one_ask_refusal, undefined_first, ask_not_refused, none_of_next, ask_step}
+use Rattle.ghc_core.proofs.core_state.Core.prepare_ask.Goals as goal
+
+pub check_calls-requires : goal.check_calls-requires
+check_calls-requires c = subst AreNarrow (sym c.goals-goals.ensures.goals) c.goals-goals.ensures.proper.0.narrow
+
+pub returns-in-Err-clause-answer : goal.returns-in-Err-clause-answer
+returns-in-Err-clause-answer c =
+    let w = c.args.self.now.world in
+    let gs = c.args.ask.now in
+    let u = c.in-Err.ensures.refused in
+    let first = subst (λ (x : Core). IsFirstCallWithout (HasClauseFor x.world.opening.program) gs u.0 u.1) c.self.view_is (subst (λ l. IsFirstCallWithout (HasClauseFor c.self.inside.program) l u.0 u.1) c.goals-goals.ensures.goals u.2) in
+    (tt, elim u.3 [ inl m ↦ inl m | inr e ↦ inr (subst (AskFails w gs) (sym e) (undefined_told w gs u.0 u.1 first)) ])
+
+pub returns-in-Err-clause-anyway : goal.returns-in-Err-clause-anyway
+returns-in-Err-clause-anyway c f fails =
+    let gs = c.args.ask.now in
+    let u = c.in-Err.ensures.refused in
+    let first = subst (λ (x : Core). IsFirstCallWithout (HasClauseFor x.world.opening.program) gs u.0 u.1) c.self.view_is (subst (λ l. IsFirstCallWithout (HasClauseFor c.self.inside.program) l u.0 u.1) c.goals-goals.ensures.goals u.2) in
+    absurd (undefined_first c.args.self.now.world gs u.0 u.1 first fails)
+
+pub returns-then-not-ask_is_known-clause-answer : goal.returns-then-not-ask_is_known-clause-answer
+returns-then-not-ask_is_known-clause-answer c =
+    let w = c.args.self.now.world in
+    let gs = c.args.ask.now in
+    let all = subst (λ (x : Core). AllCalls (HasClauseFor x.world.opening.program) gs) c.self.view_is (subst (AllCalls (HasClauseFor c.self.inside.program)) c.goals-goals.ensures.goals c.in-Ok.ensures.defined) in
+    (tt, inr (unknown_told w gs all (λ known. not_both c.ask_is_known.result c.if-not-ask_is_known.true (c.ask_is_known.ensures.1 (subst (λ (x : Core). NameKnown x.world gs) (sym c.self.view_is) known)))))
+
+pub returns-then-not-ask_is_known-clause-anyway : goal.returns-then-not-ask_is_known-clause-anyway
+returns-then-not-ask_is_known-clause-anyway c f fails =
+    let w = c.args.self.now.world in
+    let gs = c.args.ask.now in
+    let all = subst (λ (x : Core). AllCalls (HasClauseFor x.world.opening.program) gs) c.self.view_is (subst (AllCalls (HasClauseFor c.self.inside.program)) c.goals-goals.ensures.goals c.in-Ok.ensures.defined) in
+    ap Err (one_ask_refusal w gs (unknown_told w gs all (λ known. not_both c.ask_is_known.result c.if-not-ask_is_known.true (c.ask_is_known.ensures.1 (subst (λ (x : Core). NameKnown x.world gs) (sym c.self.view_is) known)))) fails)
+
+pub returns-then-is_full-clause-answer : goal.returns-then-is_full-clause-answer
+returns-then-is_full-clause-answer c =
+    let w = c.args.self.now.world in
+    let gs = c.args.ask.now in
+    let all = subst (λ (x : Core). AllCalls (HasClauseFor x.world.opening.program) gs) c.self.view_is (subst (AllCalls (HasClauseFor c.self.inside.program)) c.goals-goals.ensures.goals c.in-Ok.ensures.defined) in
+    let known = subst (λ (x : Core). NameKnown x.world gs) c.self.view_is (c.ask_is_known.ensures.0 c.if-not-ask_is_known.false) in
+    (tt, inr (full_told w gs all known (c.is_full.ensures.full c.if-is_full.true)))
+
+pub returns-then-is_full-clause-anyway : goal.returns-then-is_full-clause-anyway
+returns-then-is_full-clause-anyway c f fails =
+    let w = c.args.self.now.world in
+    let gs = c.args.ask.now in
+    let all = subst (λ (x : Core). AllCalls (HasClauseFor x.world.opening.program) gs) c.self.view_is (subst (AllCalls (HasClauseFor c.self.inside.program)) c.goals-goals.ensures.goals c.in-Ok.ensures.defined) in
+    let known = subst (λ (x : Core). NameKnown x.world gs) c.self.view_is (c.ask_is_known.ensures.0 c.if-not-ask_is_known.false) in
+    ap Err (one_ask_refusal w gs (full_told w gs all known (c.is_full.ensures.full c.if-is_full.true)) fails)
+
+pub ask_addition-requires : goal.ask_addition-requires
+ask_addition-requires c =
+    let gs = c.args.ask.now in
+    let known = subst (λ (x : Core). NameKnown x.world gs) c.self.view_is (c.ask_is_known.ensures.0 c.if-not-ask_is_known.false) in
+    subst (λ (x : Core). NameNoneOf x.world.next gs) (sym c.self.view_is) (none_of_next c.args.self.now.world c.stands.ensures.standing gs c.goals-goals.ensures.proper known (c.is_full.ensures.room c.if-is_full.false).0)
+
+pub returns-in_err-ask_addition-clause-anyway : goal.returns-in_err-ask_addition-clause-anyway
+returns-in_err-ask_addition-clause-anyway c f fails =
+    let gs = c.args.ask.now in
+    let known = subst (λ (x : Core). NameKnown x.world gs) c.self.view_is (c.ask_is_known.ensures.0 c.if-not-ask_is_known.false) in
+    absurd (ask_not_refused c.args.self.now.world gs known (c.is_full.ensures.room c.if-is_full.false) fails)
+
+pub returns-clause-anyway : goal.returns-clause-anyway
+returns-clause-anyway c f fails =
+    let gs = c.args.ask.now in
+    let known = subst (λ (x : Core). NameKnown x.world gs) c.self.view_is (c.ask_is_known.ensures.0 c.if-not-ask_is_known.false) in
+    absurd (ask_not_refused c.args.self.now.world gs known (c.is_full.ensures.room c.if-is_full.false) fails)
+
+pub returns-clause-answer : goal.returns-clause-answer
+returns-clause-answer c =
+    let w = c.args.self.now.world in
+    let gs = c.args.ask.now in
+    let P = w.opening.program in
+    let all = subst (λ (x : Core). AllCalls (HasClauseFor x.world.opening.program) gs) c.self.view_is (subst (AllCalls (HasClauseFor c.self.inside.program)) c.goals-goals.ensures.goals c.in-Ok.ensures.defined) in
+    let known = subst (λ (x : Core). NameKnown x.world gs) c.self.view_is (c.ask_is_known.ensures.0 c.if-not-ask_is_known.false) in
+    let room = c.is_full.ensures.room c.if-is_full.false in
+    let number : c.self.inside.next ≡ w.next = ap (λ (x : Core). x.world.next) c.self.view_is in
+    let step = c.in_ok-ask_addition.field-0 in
+    let asks = subst (λ n. Asks P (asked_as n gs) n step.effect) number (c.in_ok-ask_addition.ensures.effect P (defined_by P gs all)) in
+    let is = c.in_ok-ask_addition.ensures.step ∙ ap (λ n. record { number = n; goal = None; consumed = None; act = asked (asked_as n gs); effect = step.effect }) number in
+    (ask_step w c.stands.ensures.standing gs c.goals-goals.ensures.proper known room.0 all room step.effect asks step is, tt)
