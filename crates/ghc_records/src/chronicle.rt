@@ -42,7 +42,7 @@ impl Model for Chronicle {
 
 impl Chronicle {
     /// The chronicle of these parts.
-    pub(crate) fn new(
+    pub fn new(
         opening: History,
         entries: Vec<WrittenEntry>,
         spies: Vec<Predicate>,
