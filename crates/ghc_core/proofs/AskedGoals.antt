@@ -119,7 +119,7 @@ module _ (D : List ℕ → ℕ → Type 0) where
 pub defined_by : (P : Program) (gs : List Goal) → AllCalls (HasClauseFor P) gs → AreDefined P gs
 defined_by P gs all f ts i = let h = all f ts i in (h.0, h.1, h.2, (h.3, h.4))
 
-defined_calls : (P : Program) (gs : List Goal) → AreDefined P gs → AllCalls (HasClauseFor P) gs
+pub defined_calls : (P : Program) (gs : List Goal) → AreDefined P gs → AllCalls (HasClauseFor P) gs
 defined_calls P gs defined f ts i = let h = defined f ts i in (h.0, h.1, h.2, h.3.0, h.3.1)
 
 module _ (w : World) (gs : List Goal) where

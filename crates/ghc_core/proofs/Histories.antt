@@ -30,11 +30,11 @@ use Rattle.ghc_core.proofs.Standing.{standing_apart}
 use Rattle.ghc_core.proofs.Taking.{change_done, holding, hand_commits, reached_reachable}
 
 -- the history of a journal with one more entry
-history_push : (o : Opening) (es : List Entry) (e : Entry) → history o (es ++ e ∷ []) ≡ history o es ++ entered e ∷ []
+pub history_push : (o : Opening) (es : List Entry) (e : Entry) → history o (es ++ e ∷ []) ≡ history o es ++ entered e ∷ []
 history_push o es e = ap (λ items. opened o ∷ items) (map-append entered es (e ∷ []))
 
 -- some event makes the change, and enters it
-change_entered : (w v : World) (change : Change) → NoStepIsFree w → CanChange w change → Changes w change v → (entry : Entry) → v.journal ≡ w.journal ++ entry ∷ [] → (reply : Reply) × legal.Enters w entry reply v
+pub change_entered : (w v : World) (change : Change) → NoStepIsFree w → CanChange w change → Changes w change v → (entry : Entry) → v.journal ≡ w.journal ++ entry ∷ [] → (reply : Reply) × legal.Enters w entry reply v
 change_entered w v change free can changes entry journal = elim (change_done w v change free can changes) [
   | inl (p, r, c, e) ↦ (stepped w.next, (holding p, emptied 1 (holding p), commit 1, hand_commits w v p r c e, journal))
   | inr (c, asks, proper) ↦ (told_of change, (no_hands, no_hands, command c, makes tt (by_command asks) can changes refl, journal))
@@ -53,7 +53,7 @@ pub reachable_legal : laws.ReachableIsLegal
 reachable_legal w hands r = reached_legal (reachable_reached r)
 
 -- a journal is not itself with an entry more
-not_longer : (es : List Entry) (e : Entry) → ¬ (es ≡ es ++ e ∷ [])
+pub not_longer : (es : List Entry) (e : Entry) → ¬ (es ≡ es ++ e ∷ [])
 not_longer es e p = let q : length es ≡ length es + 1 = ap length p ∙ length-append es (e ∷ []) in omega (arith, q)
 
 -- the opening stays

@@ -39,3 +39,7 @@ pub mod QueryVariables
 pub mod AskedGoals
 pub mod Telling
 pub mod LoadedAgain
+pub mod Resuming
+pub mod AskedAgain
+pub mod ResumedOnce
+pub mod ResumeSteps

@@ -29,3 +29,6 @@ pub mod Playing
 pub mod Anyway
 pub mod Counting
 pub mod Meets
+pub mod AskedAgain
+pub mod Resume
+pub mod ResumeLaws

@@ -31,7 +31,7 @@ use ghc_term::{Fault, Goal, GoalView, Name};
 use std::alloc::{AllocError, Global};
 
 // Whether the program has a clause of this name and arity: two look-ups.
-fn is_defined(program: &Program, name: &Name, arity: usize) -> bool
+pub(crate) fn is_defined(program: &Program, name: &Name, arity: usize) -> bool
     ensures { IsTrue result ↔ HasClauseFor program.now name.now arity }
 {
     !program.clauses_for(name, arity).is_empty()

@@ -3,6 +3,7 @@
 
 mod arrange;
 mod ask;
+mod asked_again;
 mod carrying;
 mod change;
 mod command;
@@ -25,13 +26,17 @@ mod prepared;
 mod recheck;
 mod redo;
 mod reply;
+mod resume;
+mod resume_laws;
 mod rollback;
 mod rolling;
 mod saving;
 mod settle;
 mod step;
 mod stream_goals;
+mod taken_again;
 mod there;
+mod told;
 mod undo;
 mod undo_laws;
 mod variables;
@@ -58,6 +63,9 @@ pub use laws::{
 pub use load_laws::{load_is_exact, saved_is_loaded_again};
 pub use order::Order;
 pub use reply::Reply;
+pub use resume_laws::{
+    carried_out_is_legal, resume_is_exact, what_is_carried_out_is_told, what_is_told_is_carried_out,
+};
 pub use rollback::Rollback;
 pub use undo_laws::{
     neighbours_are_arranged, reachable_is_replay, roll_takes_steps_away, step_then_undo,

@@ -81,7 +81,11 @@ fn fire_step(
 
 impl Core {
     // The record of the step, as it is possible now, if it is; counted on the meter of the core.
-    fn fire_counted(&mut self, alloc: Global, step: &Step) -> Result<Option<Record>, AllocError>
+    pub(crate) fn fire_counted(
+        &mut self,
+        alloc: Global,
+        step: &Step,
+    ) -> Result<Option<Record>, AllocError>
         requires of_goal { (g : goal_name) × (step.now.goal ≡ Some g) }
         ensures some { IfOk result (λ found. IfSome found (IsPossibleAs self.old.world.opening.program self.old.world.state step.now)) }
         ensures none { IfOk result (λ found. IfNone found (IsImpossible self.old.world.opening.program self.old.world.state step.now)) }

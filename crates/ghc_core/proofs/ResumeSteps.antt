@@ -1,0 +1,104 @@
+-- A chronicle is carried out entry by entry: what was done so far, and where it stops.
+use Rattle.std.proofs.Common.{◌≡◌, ◌⊎◌, ℕ, suc, ◌+◌, ◌<◌, ◌≤◌, List, [], ◌∷◌, ◌++◌, map, length, take, drop, get_or, refl, sym, ap, ◌∙◌, subst, inl, inr, arith, zero, slice_get, Some, None, append_assoc}
+use Rattle.std.proofs.Math.Seq.{take-suc}
+use Rattle.std.proofs.lemmas.List.{map-append, take_all, length-map}
+use Rattle.std.specs.Prelude.{Ok, Err}
+use Rattle.ghc_term.specs.declared.fault.Fault.{Fault}
+use Rattle.ghc_term.proofs.ListsLemmas.{splits_at}
+use Rattle.ghc_flat.specs.Clause.{Program, Query}
+use Rattle.ghc_records.specs.Journal.{Opening, Entry}
+use Rattle.ghc_records.specs.declared.predicate.Predicate.{Predicate}
+use Rattle.ghc_records.specs.declared.written_entry.WrittenEntry.{WrittenEntry}
+use Rattle.ghc_records.specs.Chronicle.{Chronicle}
+use Rattle.ghc_records.specs.WrittenEntryCode.{said_by}
+use Rattle.ghc_core.specs.World.{World}
+use Rattle.ghc_core.specs.Load.{Loads, loads, stops, no_memory}
+use Rattle.ghc_core.specs.Resume.{CarriesOut, CarriesOutEach, IsRefusedEntry, StopsBehind, IsPredicateOf, ArePredicatesOf, LacksBehind, IsOpened, Resumes, no_step, no_entry, no_spy, line_of_entry, line_of_spy}
+use Rattle.ghc_core.proofs.ResumedOnce.{each_push, each_grown}
+
+taken_length : {X : Type 0} (xs : List X) (i : ℕ) → i ≤ length xs → length (take i xs) ≡ i
+taken_length xs zero l = refl
+taken_length [] (suc i) l = absurd (omega (arith, l))
+taken_length (x ∷ xs) (suc i) l = ap suc (taken_length xs i (omega (arith, l)))
+
+module _ (entries : List WrittenEntry) (i : ℕ) (e : WrittenEntry) (less : i < length entries) (is : e ≡ get_or entries i e) (w u : World) (done : CarriesOutEach w (map said_by (take i entries)) u) where
+  -- one entry more
+  pub one_more_carried : (v : World) → CarriesOut u (said_by e) v → CarriesOutEach w (map said_by (take (i + 1) entries)) v
+  one_more_carried v one =
+      let more : take (i + 1) entries ≡ take i entries ++ e ∷ [] =
+      ap (λ n. take n entries) (let p : i + 1 ≡ suc i = omega arith in p) ∙ take-suc entries i e less ∙ ap (λ x. take i entries ++ x ∷ []) (sym is) in
+      subst (λ es. CarriesOutEach w es v) (sym (ap (map said_by) more ∙ map-append said_by (take i entries) (e ∷ []))) (each_push w u v (map said_by (take i entries)) (said_by e) done one)
+
+  -- the entry is refused
+  pub stops_here : IsRefusedEntry u (said_by e) → StopsBehind w (map said_by entries) i
+  stops_here refused = record {
+    before = map said_by (take i entries);
+    stopped = said_by e;
+    behind = map said_by (drop (i + 1) entries);
+    whole = ap (map said_by) (splits_at entries i e less is) ∙ map-append said_by (take i entries) (e ∷ drop (i + 1) entries);
+    count_is = sym (length-map (take i entries) said_by ∙ taken_length entries i (omega (arith, less)));
+    world = u;
+    carried = done;
+    refused = refused;
+  }
+
+-- all are carried out
+pub all_carried : (entries : List WrittenEntry) (i : ℕ) (w u : World) → length entries ≤ i → CarriesOutEach w (map said_by (take i entries)) u → CarriesOutEach w (map said_by entries) u
+all_carried entries i w u most done = subst (λ es. CarriesOutEach w (map said_by es) u) (take_all i entries most) done
+
+-- one of the predicates has no clause
+pub lacks_here : (P : Program) (spies : List Predicate) (i : ℕ) (p : Predicate) → i < length spies → p ≡ get_or spies i p → ArePredicatesOf P (take i spies) → ¬ IsPredicateOf P p → LacksBehind P spies i
+lacks_here P spies i p less is known unknown = record {
+  before = take i spies;
+  lacking = p;
+  behind = drop (i + 1) spies;
+  whole = splits_at spies i p less is;
+  count_is = sym (taken_length spies i (omega (arith, less)));
+  known = known;
+  unknown = unknown;
+}
+
+module _ (P : Program) (query : Query) (names : List (List ℕ)) (c : Chronicle) where
+  pub loaded_opened : {w : World} → Loads ⊥ P query names c.opening (Ok w) → IsOpened P query names c w
+  loaded_opened (loads w opens) = opens
+
+  -- the opening is refused
+  pub opening_refused : {f : Fault} → Loads ⊥ P query names c.opening (Err f) → Resumes P query names c ⊥ (Err f)
+  opening_refused (stops p) = no_step p
+  opening_refused (no_memory n) = absurd n
+
+  -- an entry is
+  pub entry_refused : (o : World) (f : Fault) (first : ℕ) → IsOpened P query names c o → first ≡ length c.opening.steps + 4 → (f ≡ Fault.Memory) ⊎ ((n : ℕ) × (f ≡ Fault.History (first + n)) × StopsBehind o c.entries n)
+      → (f ≡ Fault.Memory) ⊎ Resumes P query names c ⊥ (Err f)
+  entry_refused o f first opens line (inl memory) = inl memory
+  entry_refused o f first opens line (inr (n, is, p)) =
+      let same : first + n ≡ line_of_entry c n = omega (arith, line) in
+      inr (subst (λ g. Resumes P query names c ⊥ (Err g)) (sym (is ∙ ap Fault.History same)) (no_entry o opens p))
+
+  -- one of the spies is
+  pub spy_refused : (o w : World) (n line : ℕ) → IsOpened P query names c o → CarriesOutEach o c.entries w → LacksBehind P c.spies n → line ≡ line_of_spy c n → Resumes P query names c ⊥ (Err (Fault.History line))
+  spy_refused o w n line opens each lacks is = subst (λ k. Resumes P query names c ⊥ (Err (Fault.History k))) (sym is) (no_spy w (o, opens, each) lacks)
+
+  -- the program stays
+  pub program_stays : (o w : World) → IsOpened P query names c o → CarriesOutEach o c.entries w → w.opening.program ≡ P
+  program_stays o w opens each = ap (λ (p : Opening). p.program) ((each_grown o w c.entries each).opening ∙ opens.opening)
+
+-- the item of a place, and what stands from there on
+got : (es : List Entry) (i : ℕ) (x : Entry) → slice_get es i ≡ Some x → drop i es ≡ x ∷ drop (suc i) es
+got [] i x e = cc
+got (y ∷ es) zero x e = let same : y ≡ x = cc in ap (λ z. z ∷ es) same
+got (y ∷ es) (suc i) x e = got es i x e
+
+-- An entry more is told.
+pub told_pushed : (held : List Entry) (place : ℕ) (told : List WrittenEntry) (t : WrittenEntry) (x : Entry) → slice_get held place ≡ Some x → said_by t ≡ x
+    → map said_by (told ++ t ∷ []) ++ drop (place + 1) held ≡ map said_by told ++ drop place held
+told_pushed held place told t x at is =
+    let next : place + 1 ≡ suc place = omega arith in
+    let one : said_by t ∷ drop (place + 1) held ≡ drop place held = (λ i. is i ∷ drop (next i) held) ∙ sym (got held place x at) in
+    ap (λ l. l ++ drop (place + 1) held) (map-append said_by told (t ∷ [])) ∙ append_assoc (map said_by told) (said_by t ∷ []) (drop (place + 1) held) ∙ ap (λ l. map said_by told ++ l) one
+
+-- at a place of a list there is an item
+pub there_is : (es : List Entry) (i : ℕ) → i < length es → ¬ (slice_get es i ≡ None)
+there_is [] i l e = omega (arith, l)
+there_is (x ∷ es) zero l e = cc
+there_is (x ∷ es) (suc i) l e = there_is es i (omega (arith, l)) e

@@ -1,0 +1,21 @@
+use Rattle.std.proofs.Common.{◌≡◌, true, false, refl, sym, ◌∙◌, subst}
+use Rattle.std.proofs.lemmas.List.{take_all}
+use Rattle.ghc_term.proofs.ListsLemmas.{each_next, in_place}
+use Rattle.ghc_core.specs.AskedAgain.{CanBeAskedFor, CanBeAsked}
+use Rattle.ghc_core.proofs.asked_again.can_all_be_asked_for.Goals as goal
+
+pub returns-then-not-can_be_asked_for : goal.returns-then-not-can_be_asked_for
+returns-then-not-can_be_asked_for c = (
+  λ no. absurd (let clash : false ≡ true = no in cc),
+  λ all.
+      let yes = c.can_be_asked_for.ensures.1 (all c.goal-item.result (in_place c.args.goals.now c.loop-goal.goal-index c.goal-item.result c.loop-goal-test.true c.goal-item.is)) in
+      absurd (let clash : true ≡ false = sym yes ∙ c.if-not-can_be_asked_for.true in cc),
+)
+
+pub loop-goal-preserved : goal.loop-goal-preserved
+loop-goal-preserved c =
+    each_next (CanBeAskedFor c.args.program.now) c.args.goals.now c.loop-goal.goal-index c.goal-item.result c.loop-goal-test.true c.loop-goal.invariant
+    (subst (CanBeAskedFor c.args.program.now) c.goal-item.is (c.can_be_asked_for.ensures.0 c.if-not-can_be_asked_for.false))
+
+pub returns : goal.returns
+returns c = (λ _. subst (CanBeAsked c.args.program.now) (take_all c.loop-goal.goal-index c.args.goals.now c.loop-goal-test.false) c.loop-goal.invariant, λ _. refl)

@@ -1,0 +1,7 @@
+use Rattle.std.proofs.Common.{◌≡◌, take}
+use Rattle.ghc_fire.specs.Asked.{made_from}
+use Rattle.ghc_core.proofs.AskedAgain.{own}
+use Rattle.ghc_core.proofs.asked_again.own_count.Given as goal
+
+abbrev pub invariant-loop-x : goal.invariant-loop-x
+invariant-loop-x l = own l.number (take l.x-index l.x-items) ≡ made_from l.number 1 l.count

@@ -1,0 +1,11 @@
+use Rattle.std.proofs.Common.{◌≡◌, map, take}
+use Rattle.std.specs.FinMap as finite
+use Rattle.ghc_core.specs.Resume.{CarriesOutEach}
+use Rattle.ghc_records.specs.WrittenEntryCode.{said_by}
+use Rattle.ghc_core.proofs.core_state.Core.carry_out_each.Given as goal
+
+abbrev pub invariant-loop-index : goal.invariant-loop-index
+invariant-loop-index l = record {
+  carried : CarriesOutEach l.initial.self.world (map said_by (take l.index l.entries)) l.self.world;
+  notes : l.initial.self.notes ≡ finite.empty → l.self.notes ≡ finite.empty;
+}

@@ -1,0 +1,14 @@
+use Rattle.std.proofs.Common.{◌++◌, ◌+◌, map, drop, sym, ap, ◌∙◌}
+use Rattle.std.specs.Prelude.{option_map}
+use Rattle.ghc_records.specs.EntryCode.{entry_of}
+use Rattle.ghc_records.specs.WrittenEntryCode.{said_by}
+use Rattle.ghc_core.proofs.ResumeSteps.{told_pushed, there_is}
+use Rattle.ghc_core.proofs.told.push_told.Goals as goal
+
+pub returns-in_default : goal.returns-in_default
+returns-in_default c = absurd (there_is c.args.journal.now.held c.args.place c.requires.there (sym c.at.ensures ∙ ap (option_map (λ e. entry_of e.now)) c.in_default.is))
+
+pub returns : goal.returns
+returns c =
+    ap (λ items. map said_by items ++ drop (c.args.place + 1) c.args.journal.now.held) c.in_ok-push.ensures.items
+    ∙ told_pushed c.args.journal.now.held c.args.place c.args.told.now.items c.in_ok-entry_told.field-0 (entry_of c.in-Some.entry.now) (sym c.at.ensures ∙ ap (option_map (λ e. entry_of e.now)) c.in-Some.is) c.in_ok-entry_told.ensures

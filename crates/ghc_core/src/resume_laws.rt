@@ -1,0 +1,23 @@
+// Laws of chronicles, each as the contract of a function.
+ghost use Rattle.ghc_core.specs.ResumeLaws.{ResumeIsExact, CarriedOutIsLegal, WhatIsToldIsCarriedOut, WhatIsCarriedOutIsTold};
+
+/// What is answered for a chronicle is exact, unless memory was refused: it leaves one world or is refused at one line, and never
+/// both.
+pub fn resume_is_exact()
+    ensures { ResumeIsExact }
+{}
+
+/// What a chronicle leaves that is carried out is what its entries leave as a legal history.
+pub fn carried_out_is_legal()
+    ensures { CarriedOutIsLegal }
+{}
+
+/// What is told of a reachable world is carried out again, and leaves the same world, whole, and nothing else.
+pub fn what_is_told_is_carried_out()
+    ensures { WhatIsToldIsCarriedOut }
+{}
+
+/// What was carried out is told again as it was.
+pub fn what_is_carried_out_is_told()
+    ensures { WhatIsCarriedOutIsTold }
+{}
