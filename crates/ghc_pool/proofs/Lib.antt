@@ -13,3 +13,5 @@ pub mod Judging
 pub mod Openings
 pub mod Drained
 pub mod Jobs
+pub mod Telling
+pub mod Crosses

@@ -8,3 +8,6 @@ pub mod Workers
 pub mod Stops
 pub mod Gathered
 pub mod Opened
+pub mod Told
+pub mod Plans
+pub mod Modes

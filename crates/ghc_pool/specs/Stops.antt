@@ -1,5 +1,5 @@
 -- Why workers stop.
-use Rattle.std.specs.Prelude.{◌≡◌, ◌⊎◌, ℕ, List, [], ◌∷◌, Option, Some, None}
+use Rattle.std.specs.Prelude.{◌≡◌, ◌⊎◌, ℕ, Bool, true, List, [], ◌∷◌, Option, Some, None}
 use Rattle.ghc_pool.specs.declared.answer.RoundStop.{RoundStop}
 use Rattle.ghc_pool.specs.declared.answer.RoundStop.TheVariants.{Memory, Limit, Full, Spied, Clash}
 use Rattle.ghc_pool.specs.Answers.{Taken, IsReason}
@@ -15,9 +15,9 @@ joined (Some s) (Some Full) = Some s
 joined (Some s) (Some (Spied g)) = Some s
 joined (Some s) (Some (Clash g)) = Some s
 
--- Of the permits that were given none is spare, and none is left to give.
-abbrev pub IsSpent : ℕ → ℕ → Type 0
-IsSpent spare left = (spare ≡ 0) × (left ≡ 0)
+-- Steps are taken; of the permits that were given none is spare, and none is left to give.
+abbrev pub IsSpent : Bool → ℕ → ℕ → Type 0
+IsSpent takes spare left = (takes ≡ true) × (spare ≡ 0) × (left ≡ 0)
 
 module _ (fed : List Taken → Type 0) (asks : List Taken → RoundStop → Type 0) where
   -- What stopped the worker, if something did, is a reason, and else it left nothing.

@@ -3,22 +3,26 @@
 
 mod answer;
 mod craft;
+mod deciding;
 mod drain;
+mod gate;
 mod laws;
 mod meet;
+mod mode;
 mod pause;
 mod question;
 mod rounds;
 mod running;
+mod shared_round;
 mod stop;
 mod survey;
 
 pub use answer::{Answer, RoundStop, Work};
-pub use craft::{Craft, Decided};
+pub use gate::Gate;
 pub use laws::{runs_add_at_the_end, runs_reduce};
-pub use rounds::budget::Limited;
-pub use rounds::together::{Ended, work_together};
+pub use mode::Mode;
 pub use running::run;
+pub use shared_round::{RoundReport, round};
 pub use stop::{Report, Stop};
 
 #[cfg(test)]

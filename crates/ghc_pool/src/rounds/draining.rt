@@ -23,7 +23,7 @@ fn may_decide<P, C: Craft<P>, L: Limited>(craft: &C, permits: &mut Permits<L>) -
     requires { 0 < permits.old.share.parts }
     ensures parts { permits.new.share.parts ≡ permits.old.share.parts }
     ensures one { result ≡ true → C.takes craft.now ≡ true → 0 < permits.new.spare }
-    ensures none { result ≡ false → IsSpent permits.new.spare permits.new.budget.left }
+    ensures none { result ≡ false → IsSpent (C.takes craft.now) permits.new.spare permits.new.budget.left }
     ensures counted { permits.new.share.amount + permits.old.spare ≡ permits.old.share.amount + permits.new.spare }
 {
     if !craft.takes_steps() {
@@ -63,7 +63,7 @@ impl Worker {
         ensures keeps { Keeps (name ∷ []) [] self.old self.new }
         ensures room { HasRoom (length (worker_view self.new.owner).got + 1) self.new }
         ensures parts { permits.new.share.parts ≡ permits.old.share.parts }
-        ensures went { WentOn (C.fed craft.now) (C.asks craft.now) (IsSpent permits.new.spare permits.new.budget.left) stop result (work_of self.old) (work_of self.new) permits.old permits.new }
+        ensures went { WentOn (C.fed craft.now) (C.asks craft.now) (IsSpent (C.takes craft.now) permits.new.spare permits.new.budget.left) stop result (work_of self.old) (work_of self.new) permits.old permits.new }
         ensures tells { (start : P) → C.tells craft.now start self.old.taken.items pass.old → C.tells craft.now start self.new.taken.items pass.new }
         ensures counted { permits.new.share.amount + (permits.old.spare + submits self.old.taken.items) ≡ permits.old.share.amount + (permits.new.spare + submits self.new.taken.items) }
     {
@@ -100,7 +100,7 @@ impl Worker {
         ensures keeps { Keeps [] [] self.old self.new }
         ensures empty { (h : goal_name → ℕ) → weigh h (worker_view self.new.owner).put ≡ weigh h (worker_view self.new.owner).got }
         ensures parts { permits.new.share.parts ≡ permits.old.share.parts }
-        ensures went { WentOn (C.fed craft.now) (C.asks craft.now) (IsSpent permits.new.spare permits.new.budget.left) stop result (work_of self.old) (work_of self.new) permits.old permits.new }
+        ensures went { WentOn (C.fed craft.now) (C.asks craft.now) (IsSpent (C.takes craft.now) permits.new.spare permits.new.budget.left) stop result (work_of self.old) (work_of self.new) permits.old permits.new }
         ensures tells { (start : P) → C.tells craft.now start self.old.taken.items pass.old → C.tells craft.now start self.new.taken.items pass.new }
         ensures counted { permits.new.share.amount + (permits.old.spare + submits self.old.taken.items) ≡ permits.old.share.amount + (permits.new.spare + submits self.new.taken.items) }
     {
@@ -128,10 +128,10 @@ pub fn drain_all<P, C: Craft<P>, L: Limited, R: Wait>(
     requires pending { ArePending workers.old.items }
     requires passes { vec_len passes.old ≡ vec_len workers.old }
     requires part { 0 < permits.old.share.parts }
-    requires judged { AreJudged (C.fed craft.now) (C.asks craft.now) (IsSpent permits.old.spare permits.old.budget.left) stop (works workers.old.items) }
+    requires judged { AreJudged (C.fed craft.now) (C.asks craft.now) (IsSpent (C.takes craft.now) permits.old.spare permits.old.budget.left) stop (works workers.old.items) }
     ensures drained { AreDrained workers.new.items }
     ensures balance { (h : goal_name → ℕ) → over (in_of h) workers.new.items + over (out_of h) workers.old.items ≡ over (in_of h) workers.old.items + over (out_of h) workers.new.items }
-    ensures judged { AreJudged (C.fed craft.now) (C.asks craft.now) (IsSpent permits.new.spare permits.new.budget.left) result (works workers.new.items) }
+    ensures judged { AreJudged (C.fed craft.now) (C.asks craft.now) (IsSpent (C.takes craft.now) permits.new.spare permits.new.budget.left) result (works workers.new.items) }
     ensures tells { (starts : List P) → AreTold (C.tells craft.now) starts (works workers.old.items) passes.old.items → AreTold (C.tells craft.now) starts (works workers.new.items) passes.new.items }
     ensures begins { (names : List goal_name) → FirstBegins names (works workers.old.items) → FirstBegins names (works workers.new.items) }
     ensures parts { permits.new.share.parts ≡ permits.old.share.parts }

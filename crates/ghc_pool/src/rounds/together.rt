@@ -1,5 +1,5 @@
 // A round of workers.
-ghost use Rattle.std.specs.Prelude.{◌≡◌, ◌≤◌, ◌+◌, ◌<◌, ◌^◌, ℕ, [], length, List, IfOk, IfErr};
+ghost use Rattle.std.specs.Prelude.{◌≡◌, ◌≤◌, ◌+◌, ◌<◌, ◌^◌, ℕ, [], length, List, IfOk, IfErr, true};
 ghost use Rattle.std.specs.Vec.{vec_capacity, vec_len};
 ghost use Rattle.ghc_term.specs.declared.goal_name.GoalName.{GoalName as goal_name};
 ghost use Rattle.std.specs.declared.alloc.Global.{Global as heap};
@@ -146,7 +146,7 @@ fn finish<P, C: Craft<P>, L: Limited, R: Wait>(
     requires counted { permits.share.amount ≡ over submits_of workers.old.items + permits.spare }
     ensures settled { AreSettled (works workers.new.items) }
     ensures few { total_work submits_by (works workers.new.items) ≤ L.limit }
-    ensures judged { AreJudged (C.fed craft.now) (C.asks craft.now) (total_work submits_by (works workers.new.items) ≡ L.limit) result (works workers.new.items) }
+    ensures judged { AreJudged (C.fed craft.now) (C.asks craft.now) ((C.takes craft.now ≡ true) × (total_work submits_by (works workers.new.items) ≡ L.limit)) result (works workers.new.items) }
     ensures tells { (starts : List P) → AreTold (C.tells craft.now) starts (works workers.old.items) passes.old.items → AreTold (C.tells craft.now) starts (works workers.new.items) passes.new.items }
     ensures begins { (names : List goal_name) → FirstBegins names (works workers.old.items) → FirstBegins names (works workers.new.items) }
 {
@@ -206,7 +206,7 @@ fn conclude<P: Drop, C: Craft<P>, L: Limited, R: Wait>(
     requires share { (share.parts + vec_len jobs ≡ L.parts) × (0 < share.parts) × (share.amount ≡ 0) }
     ensures settled { AreSettled (works workers.new.items) }
     ensures few { total_work submits_by (works workers.new.items) ≤ L.limit }
-    ensures judged { AreJudged (C.fed craft.now) (C.asks craft.now) (total_work submits_by (works workers.new.items) ≡ L.limit) result (works workers.new.items) }
+    ensures judged { AreJudged (C.fed craft.now) (C.asks craft.now) ((C.takes craft.now ≡ true) × (total_work submits_by (works workers.new.items) ≡ L.limit)) result (works workers.new.items) }
     ensures tells { (k : ℕ) (ds : List (RowsId × heap)) (starts : List P) → AreJobs (C.fed craft.now) (C.asks craft.now) (C.tells craft.now) k ds starts jobs.items → AreTold (C.tells craft.now) starts (works workers.new.items) passes.new.items }
     ensures begins { (names : List goal_name) → FirstBegins names (works (workers_in jobs.items)) → FirstBegins names (works workers.new.items) }
 {
@@ -241,7 +241,7 @@ pub fn work_together<
     requires few { length names.now < 2 ^ 60 }
     ensures settled { IfOk result (λ r. AreSettled (works r.1.workers.items)) }
     ensures few { IfOk result (λ r. total_work submits_by (works r.1.workers.items) ≤ limit) }
-    ensures judged { IfOk result (λ r. AreJudged (C.fed craft.now) (C.asks craft.now) (total_work submits_by (works r.1.workers.items) ≡ limit) r.1.stop (works r.1.workers.items)) }
+    ensures judged { IfOk result (λ r. AreJudged (C.fed craft.now) (C.asks craft.now) ((C.takes craft.now ≡ true) × (total_work submits_by (works r.1.workers.items) ≡ limit)) r.1.stop (works r.1.workers.items)) }
     ensures tells { IfOk result (λ r. AreTold (C.tells craft.now) passes.items (works r.1.workers.items) r.0.items) }
     ensures begins { IfOk result (λ r. FirstBegins names.now (works r.1.workers.items)) }
     ensures refused { IfErr result (λ back. back ≡ passes) }

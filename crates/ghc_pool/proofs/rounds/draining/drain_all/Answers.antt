@@ -26,7 +26,7 @@ drain-stop-requires-clause-goes_on g c =
     let fed = g.C.Craft.fed c.args.craft.now in
     let asks = g.C.Craft.asks c.args.craft.now in
     let low : i < length ws.items = omega (arith, ws.ok.0, c.loop-index-test.true, c.loop-index.invariant.1, c.len-index-end.ensures) in
-    let there = on_at fed asks (IsSpent c.loop-index.permits.spare c.loop-index.permits.budget.left) c.loop-index.stop (works ws.items) i (work_of d) (omega (arith, low, length-works ws.items)) c.loop-index.invariant.4 in
+    let there = on_at fed asks (IsSpent (g.C.Craft.takes c.args.craft.now) c.loop-index.permits.spare c.loop-index.permits.budget.left) c.loop-index.stop (works ws.items) i (work_of d) (omega (arith, low, length-works ws.items)) c.loop-index.invariant.4 in
     subst (GoesOn fed asks c.loop-index.stop) (works_at ws.items i d low ∙ ap work_of (sym c.index_mut.ensures.value)) there
 
 pub loop-index-preserved : goal.loop-index-preserved
@@ -58,9 +58,9 @@ loop-index-preserved g c =
           let one = drain.keeps.balance h in
           let set' = balance_set h ws.items i d w low (omega (arith, one, ap (in_of h) is, ap (out_of h) is)) in
           omega (arith, was.3 h, set')),
-      subst (AreJudged fed asks (IsSpent c.drain-stop.new.permits.spare c.drain-stop.new.permits.budget.left) c.drain-stop.result) (sym now)
-          (judged_set fed asks (λ q. IsSpent q.spare q.budget.left) c.loop-index.stop c.drain-stop.result (works ws.items) i (work_of d) (work_of w) c.loop-index.permits c.drain-stop.new.permits low'
-          (subst (λ k. WentOn fed asks (IsSpent c.drain-stop.new.permits.spare c.drain-stop.new.permits.budget.left) c.loop-index.stop c.drain-stop.result k (work_of w) c.loop-index.permits c.drain-stop.new.permits) at drain.went) was.4),
+      subst (AreJudged fed asks (IsSpent (g.C.Craft.takes c.args.craft.now) c.drain-stop.new.permits.spare c.drain-stop.new.permits.budget.left) c.drain-stop.result) (sym now)
+          (judged_set fed asks (λ q. IsSpent (g.C.Craft.takes c.args.craft.now) q.spare q.budget.left) c.loop-index.stop c.drain-stop.result (works ws.items) i (work_of d) (work_of w) c.loop-index.permits c.drain-stop.new.permits low'
+          (subst (λ k. WentOn fed asks (IsSpent (g.C.Craft.takes c.args.craft.now) c.drain-stop.new.permits.spare c.drain-stop.new.permits.budget.left) c.loop-index.stop c.drain-stop.result k (work_of w) c.loop-index.permits c.drain-stop.new.permits) at drain.went) was.4),
       (λ starts told.
           subst (λ ks. AreTold tells starts ks (set ps.items i p)) (sym now) (told_set tells starts (works ws.items) ps.items i (work_of d) (work_of w) e p low' (was.5 starts told)
           (λ start here. drain.tells start (subst (λ (k : Work). tells start k.taken.items e) (sym at) (subst (λ q. tells start (get_or (works ws.items) i (work_of d)).taken.items q) (sym pass_is) here))))),

@@ -1,4 +1,4 @@
-use Rattle.std.proofs.Common.{◌≡◌, ◌+◌, sym, ap, subst, arith}
+use Rattle.std.proofs.Common.{◌≡◌, ◌+◌, true, sym, ap, subst, arith}
 use Rattle.std.specs.Vec.{vec_len}
 use Rattle.ghc_pool.specs.Fair.{all_parts}
 use Rattle.ghc_pool.specs.Workers.{works, over, total_work, in_of, out_of, offered_in, taken_in, left_in, submits_by}
@@ -20,7 +20,7 @@ pub drain_all-stop-requires-clause-judged : goal.drain_all-stop-requires-clause-
 drain_all-stop-requires-clause-judged g c =
     let fed = g.C.Craft.fed c.args.craft.now in
     let asks = g.C.Craft.asks c.args.craft.now in
-    let spent = IsSpent c.args.permits.spare c.args.permits.budget.left in
+    let spent = IsSpent (g.C.Craft.takes c.args.craft.now) c.args.permits.spare c.args.permits.budget.left in
     subst (AreJudged fed asks spent c.first_stop-first.result) (sym c.gather.ensures.works) (judged_more fed asks ⊥ spent c.first_stop-first.result (works c.args.workers.now.items) (λ e. absurd e) c.first_stop-first.ensures)
 
 pub returns-clause-settled : goal.returns-clause-settled
@@ -48,8 +48,8 @@ returns-clause-judged g c =
     let mid = c.gather.new.workers.items in
     let new = c.drain_all-stop.new.workers.items in
     let after = c.drain_all-stop.new.permits in
-    judged_more fed asks (IsSpent after.spare after.budget.left) (total_work submits_by (works new) ≡ g.L.Limited.limit) c.drain_all-stop.result (works new)
-    (λ spent. omega (arith, spent.0, spent.1, c.requires.counted, c.drain_all-stop.ensures.counted, over_submits old, over_submits mid, over_submits new, ap (λ ks. total_work submits_by ks) c.gather.ensures.works, c.close.ensures.amount, c.close.ensures.same, c.close.ensures.left)) c.drain_all-stop.ensures.judged
+    judged_more fed asks (IsSpent (g.C.Craft.takes c.args.craft.now) after.spare after.budget.left) ((g.C.Craft.takes c.args.craft.now ≡ true) × (total_work submits_by (works new) ≡ g.L.Limited.limit)) c.drain_all-stop.result (works new)
+    (λ spent. (spent.0, omega (arith, spent.1, spent.2, c.requires.counted, c.drain_all-stop.ensures.counted, over_submits old, over_submits mid, over_submits new, ap (λ ks. total_work submits_by ks) c.gather.ensures.works, c.close.ensures.amount, c.close.ensures.same, c.close.ensures.left))) c.drain_all-stop.ensures.judged
 
 pub returns-clause-tells : goal.returns-clause-tells
 returns-clause-tells g c = λ starts told. c.drain_all-stop.ensures.tells starts (subst (λ ks. AreTold (g.C.Craft.tells c.args.craft.now) starts ks c.args.passes.now.items) (sym c.gather.ensures.works) told)

@@ -40,7 +40,7 @@ loop-preserved g c =
       keeps_after [] [] [] _ _ _ was.0 (keeps_after [] (name ∷ []) [] w popped c.meet_last-stop.new.self got meet.keeps),
       meet.room,
       meet.parts ∙ was.2,
-      went_after (g.C.Craft.fed c.args.craft.now) (g.C.Craft.asks c.args.craft.now) (λ p. IsSpent p.spare p.budget.left) c.args.stop c.loop.stop c.meet_last-stop.result (work_of c.args.self.now) (work_of w) (work_of c.meet_last-stop.new.self) c.args.permits.now c.loop.permits c.meet_last-stop.new.permits was.3 meet.went,
+      went_after (g.C.Craft.fed c.args.craft.now) (g.C.Craft.asks c.args.craft.now) (λ p. IsSpent (g.C.Craft.takes c.args.craft.now) p.spare p.budget.left) c.args.stop c.loop.stop c.meet_last-stop.result (work_of c.args.self.now) (work_of w) (work_of c.meet_last-stop.new.self) c.args.permits.now c.loop.permits c.meet_last-stop.new.permits was.3 meet.went,
       (λ start told. meet.tells start (was.4 start told)),
       omega (arith, was.5, meet.counted),
     )

@@ -1,0 +1,270 @@
+-- What is told of a pass, when the pass goes on.
+use Rattle.std.proofs.Common.{◌≡◌, ◌⊎◌, ◌≤◌, ◌<◌, ◌++◌, ◌∙◌, ℕ, suc, List, [], ◌∷◌, length, drop, Bool, true, false, Option, Some, None, Ok, refl, sym, ap, subst, inl, inr, arith, append-nil, append_assoc, length-append}
+use Rattle.std.specs.Prelude.{MatchBool}
+use base.Stored.{Gv}
+use mathlib.Core.List.{IsPrefix}
+use lib.ListN.{get_or}
+use Rattle.ghc_term.specs.Lists.{In}
+use Rattle.ghc_term.proofs.ListsLemmas.{in_more, in_last}
+use Rattle.ghc_term.specs.declared.goal_name.GoalName.{GoalName}
+use Rattle.ghc_term.specs.Goal.{Goal}
+use Rattle.ghc_term.specs.declared.fault.Fault.{Fault}
+use Rattle.ghc_records.specs.Journal.{Entry, Item, entered}
+use Rattle.ghc_hooks.specs.Status.{Status}
+use Rattle.ghc_core.specs.World.{Proposal, Hands, World, no_hands}
+use Rattle.ghc_core.specs.Events as events
+use Rattle.ghc_core.specs.Answers.{Answers}
+use Rattle.ghc_core.specs.Legal.{Begins, Receipt, IsReceipt, IsAnswered}
+use Rattle.ghc_core.specs.declared.reply.Reply.{Reply}
+use Rattle.ghc_shared.specs.declared.receipt.Receipt as given
+use Rattle.ghc_shared.specs.declared.calls.Call.{Call}
+use Rattle.ghc_shared.specs.declared.calls.Call.TheVariants.{Submit, Note}
+use Rattle.ghc_shared.specs.Passes.{Known, AreAll}
+use Rattle.ghc_shared.specs.Receipts.{IsAcceptedCall, IsRefusedCall, IsDecided}
+use Rattle.ghc_shared.specs.Calls.{holding, receipt_of, IsProposal, IsAnswerTo}
+use Rattle.ghc_trace.specs.Spies.{Spies, IsSpied}
+use Rattle.ghc_pool.specs.declared.answer.Answer.{Answer}
+use Rattle.ghc_pool.specs.declared.answer.Answer.TheVariants.{Submitted, Noted, Starved}
+use Rattle.ghc_pool.specs.declared.answer.RoundStop.{RoundStop}
+use Rattle.ghc_pool.specs.declared.answer.RoundStop.TheVariants.{Memory, Limit, Full, Spied, Clash}
+use Rattle.ghc_pool.specs.declared.craft.Decided.{Decided}
+use Rattle.ghc_pool.specs.declared.rounds.worker.Worker.{Worker}
+use Rattle.ghc_pool.specs.Answers.{Taken, one_if, IsReason}
+use Rattle.ghc_pool.specs.Workers.{Work, work_of, works}
+use Rattle.ghc_pool.specs.Gathered.{AreTold}
+use Rattle.ghc_pool.specs.Runs.{IsSpiedIn}
+use Rattle.ghc_pool.specs.Plans.{IsSubmitStop, IsSettlingStop, IsNoteStop, GoesOnWithout, IsDecidedAs}
+use Rattle.ghc_pool.specs.Told.{IsSpiedGoal, IsStarvedGoal, IsUnspiedStep, IsNotedFor, IsAnswerOf, AreAnswers, places_if, places_in, step_places, IsPassAfter, IsStarved, AreFedAnswers, IsAskedBy, Asks}
+
+-- an answer is a receipt in what is known now
+pub receipt_of_answer : (Starved : Type 0) (old new : List Item) (hands : Hands) (e : events.Event) (r : Receipt) → IsAnswered Starved old new hands e r → IsReceipt Starved new hands e r
+receipt_of_answer S old new hands e r (IsAnswered.accepted front entry is begins same) = IsReceipt.accepted front entry is ([], same ∙ sym (append-nil (front ++ entered entry ∷ [])))
+receipt_of_answer S old new hands e r (IsAnswered.told is begins) = IsReceipt.told new is ([], sym (append-nil new))
+
+begins_after : (front items longer : List Item) → Begins front items → IsPrefix items longer → Begins front longer
+begins_after front items longer b p = (b.0 ++ p.0, sym p.1 ∙ ap (λ l. l ++ p.0) b.1 ∙ append_assoc front b.0 p.0)
+
+-- a receipt stays one when more is known
+pub receipt_later : (Starved : Type 0) (items longer : List Item) (hands : Hands) (e : events.Event) (r : Receipt) → IsPrefix items longer → IsReceipt Starved items hands e r → IsReceipt Starved longer hands e r
+receipt_later S items longer hands e r p (IsReceipt.accepted front entry is begins) = IsReceipt.accepted front entry is (begins_after (front ++ entered entry ∷ []) items longer begins p)
+receipt_later S items longer hands e r p (IsReceipt.told front is begins) = IsReceipt.told front is (begins_after front items longer begins p)
+
+pub prefix_longer : (xs ys : List Item) → IsPrefix xs ys → length xs ≤ length ys
+prefix_longer xs ys p = omega (arith, ap (λ l. length l) p.1, length-append xs p.0)
+
+prefix_chain : (xs ys zs : List Item) → IsPrefix xs ys → IsPrefix ys zs → IsPrefix xs zs
+prefix_chain xs ys zs p q = (p.0 ++ q.0, sym (append_assoc xs p.0 q.0) ∙ ap (λ l. l ++ q.0) p.1 ∙ q.1)
+
+step_places_append : (taken : List Taken) (x : Taken) → step_places (taken ++ x ∷ []) ≡ step_places taken ++ places_in x.1
+step_places_append [] x = append-nil (places_in x.1)
+step_places_append (y ∷ taken) x = ap (λ l. places_in y.1 ++ l) (step_places_append taken x) ∙ sym (append_assoc (places_in y.1) (step_places taken) (places_in x.1))
+
+module _ (opened : Gv) (spies : Spies) (steps : Bool) where
+  answer_later : (base front longer : List Item) (g : GoalName) (a : Answer) → IsPrefix front longer → IsAnswerOf opened spies steps base front g a → IsAnswerOf opened spies steps base longer g a
+  answer_later base front longer g (Submitted r) p is = (is.0, is.1, receipt_later _ front longer _ _ _ p is.2, is.3)
+  answer_later base front longer g (Noted r) p is = (receipt_later _ front longer _ _ _ p is.0, is.1, is.2)
+  answer_later base front longer g Starved p is = is
+
+  answers_later : (base front longer : List Item) (taken : List Taken) → IsPrefix front longer → AreAnswers opened spies steps base front taken → AreAnswers opened spies steps base longer taken
+  answers_later base front longer [] p all = tt
+  answers_later base front longer (x ∷ taken) p all = (answer_later base front longer x.0 x.1 p all.0, answers_later base front longer taken p all.1)
+
+  answers_more : (base front : List Item) (taken : List Taken) (x : Taken) → AreAnswers opened spies steps base front taken → IsAnswerOf opened spies steps base front x.0 x.1 → AreAnswers opened spies steps base front (taken ++ x ∷ [])
+  answers_more base front [] x all is = (is, tt)
+  answers_more base front (y ∷ taken) x all is = (all.0, answers_more base front taken x all.1 is)
+
+  -- a pass goes on, and has no more places
+  pub told_later : (old new : Known Item) → new.number ≡ old.number → IsPrefix old.front new.front → new.places ≡ old.places
+      → (start : Known Item) (taken : List Taken) → IsPassAfter opened spies steps start taken old → IsPassAfter opened spies steps start taken new
+  told_later old new number begins places start taken was = record {
+    number = number ∙ was.number;
+    begins = prefix_chain start.front old.front new.front was.begins begins;
+    answers = answers_later start.front old.front new.front taken begins was.answers;
+    places = places ∙ was.places;
+  }
+
+  -- a pass goes on with one answer more
+  pub told_more : (old new : Known Item) (g : GoalName) (a : Answer) → new.number ≡ old.number → IsPrefix old.front new.front → new.places ≡ old.places ++ places_in a
+      → ((base : List Item) → length base ≤ length old.front → IsAnswerOf opened spies steps base new.front g a)
+      → (start : Known Item) (taken : List Taken) → IsPassAfter opened spies steps start taken old → IsPassAfter opened spies steps start (taken ++ (g, a) ∷ []) new
+  told_more old new g a number begins places is start taken was = record {
+    number = number ∙ was.number;
+    begins = prefix_chain start.front old.front new.front was.begins begins;
+    answers = answers_more start.front new.front taken (g, a) (answers_later start.front old.front new.front taken begins was.answers) (is start.front (prefix_longer start.front old.front was.begins));
+    places = places ∙ ap (λ l. l ++ places_in a) was.places ∙ append_assoc start.places (step_places taken) (places_in a) ∙ ap (λ l. start.places ++ l) (sym (step_places_append taken (g, a)));
+  }
+
+-- the receipt lies behind what had been seen
+pub behind : (before : List Item) (call : Call) (r : given.Receipt Reply) (old new : Known Item) → IsDecided IsAnswerTo before call r old new → (base : List Item) → length base ≤ length old.front → length base ≤ r.place
+behind before call r old new d base low = omega (arith, low, prefix_longer old.front before d.seen, d.place)
+
+-- a step has its place
+pub submit_places : (before : List Item) (call : Call) (r : given.Receipt Reply) (old new : Known Item) → IsDecided IsAnswerTo before call r old new → new.places ≡ old.places ++ places_in (Submitted r)
+submit_places before call r old new d = told r.accepted d.decided
+  where
+    told : (b : Bool) → MatchBool b (IsAcceptedCall IsAnswerTo before call r.reply r.place old new) (IsRefusedCall IsAnswerTo before call r.reply old new) → new.places ≡ old.places ++ places_if b r.place
+    told true a = a.places
+    told false a = a.places ∙ sym (append-nil old.places)
+
+-- a note changes nothing
+note_stays : (w v : World) (g : GoalName) (reply : events.Reply) (left : Hands) → Answers ⊥ w no_hands (events.note g) reply v left → v ≡ w
+note_stays w v g reply left (Answers.no_hand n) = refl
+note_stays w v g reply left (Answers.makes hand asks can changes told) = elim asks [ ]
+note_stays w v g reply left (Answers.says hand says) = refl
+note_stays w v g reply left (Answers.fails hand why) = refl
+note_stays w v g reply left (Answers.no_memory s) = refl
+
+longer_by_one : (xs : List Entry) (e : Entry) → xs ≡ xs ++ e ∷ [] → ⊥
+longer_by_one xs e same = omega (arith, ap (λ l. length l) same, length-append xs (e ∷ []))
+
+-- a note has no place
+pub note_places : (before : List Item) (g : GoalName) (r : given.Receipt Reply) (old new : Known Item) → IsDecided IsAnswerTo before (Note g) r old new → new.places ≡ old.places
+note_places before g r old new d = told r.accepted d.decided
+  where
+    told : (b : Bool) → MatchBool b (IsAcceptedCall IsAnswerTo before (Note g) r.reply r.place old new) (IsRefusedCall IsAnswerTo before (Note g) r.reply old new) → new.places ≡ old.places
+    told true a =
+        let is = a.answer.2 in
+        absurd (longer_by_one is.before.journal a.answer.0 (ap (λ (u : World). u.journal) (sym (note_stays is.before is.after g _ is.left is.answer)) ∙ is.adds))
+    told false a = a.places
+
+-- the reason of one answer is that of all
+pub reason_after : (opened : Gv) (spies : Spies) (x : Taken) (stop : Option RoundStop) → IsReason AreFedAnswers (Asks opened spies) stop (x ∷ [])
+    → (taken : List Taken) → AreFedAnswers taken → IsReason AreFedAnswers (Asks opened spies) stop (taken ++ x ∷ [])
+reason_after opened spies x stop is taken fed = told stop is
+  where
+    all : AreFedAnswers (x ∷ []) → AreFedAnswers (taken ++ x ∷ [])
+    all one y i = elim (in_more taken x y i) [ inl j ↦ fed y j | inr e ↦ one y (inl e) ]
+
+    asked : (s : RoundStop) → Asks opened spies (x ∷ []) s → Asks opened spies (taken ++ x ∷ []) s
+    asked s a = (x, in_last taken x, elim a.1 [ inl e ↦ subst (λ (z : Taken). IsAskedBy opened spies z.0 z.1 s) e a.2 | inr none ↦ absurd none ])
+
+    told : (s : Option RoundStop) → IsReason AreFedAnswers (Asks opened spies) s (x ∷ []) → IsReason AreFedAnswers (Asks opened spies) s (taken ++ x ∷ [])
+    told None a = all a
+    told (Some Memory) a = tt
+    told (Some Limit) a = a
+    told (Some Full) a = (all a.0, asked RoundStop.Full a.1)
+    told (Some (Spied g)) a = (all a.0, asked (RoundStop.Spied g) a.1)
+    told (Some (Clash g)) a = (all a.0, asked (RoundStop.Clash g) a.1)
+
+full_memory : events.refused Fault.Full ≡ events.refused Fault.Memory → ⊥
+full_memory e = cc
+
+noted_memory : (g : GoalName) (s : Status) → events.noted g s ≡ events.refused Fault.Memory → ⊥
+noted_memory g s e = cc
+
+module _ (opened : Gv) (spies : Spies) (steps : Bool) (g : GoalName) where
+  reason_of_submit : (r : given.Receipt Reply) (stop : Option RoundStop) → IsSubmitStop r.reply stop → IsReason AreFedAnswers (Asks opened spies) stop ((g, Submitted r) ∷ [])
+  reason_of_submit r None is = λ y i. elim i [ inl e ↦ λ s. is (subst (λ (z : Taken). IsStarved z.1) e s) | inr none ↦ absurd none ]
+  reason_of_submit r (Some Memory) is = tt
+  reason_of_submit r (Some Limit) is = is
+  reason_of_submit r (Some Full) is = (
+    (λ y i. elim i [ inl e ↦ λ s. full_memory (sym is ∙ subst (λ (z : Taken). IsStarved z.1) e s) | inr none ↦ absurd none ]),
+    ((g, Submitted r), inl refl, is),
+  )
+  reason_of_submit r (Some (Spied h)) is = absurd is
+  reason_of_submit r (Some (Clash h)) is = absurd is
+
+  reason_of_note : (spied : Bool) (r : given.Receipt Reply) (stop : Option RoundStop) → (spied ≡ true → IsSpiedGoal opened spies g) → IsNoteStop spied g r.reply stop → IsReason AreFedAnswers (Asks opened spies) stop ((g, Noted r) ∷ [])
+  reason_of_note spied r None goal is = λ y i. elim i [ inl e ↦ λ s. is (subst (λ (z : Taken). IsStarved z.1) e s) | inr none ↦ absurd none ]
+  reason_of_note spied r (Some Memory) goal is = tt
+  reason_of_note spied r (Some Limit) goal is = is
+  reason_of_note spied r (Some Full) goal is = absurd is
+  reason_of_note spied r (Some (Spied h)) goal is = (
+    (λ y i. elim i [ inl e ↦ λ s. noted_memory _ _ (sym is.2.1 ∙ subst (λ (z : Taken). IsStarved z.1) e s) | inr none ↦ absurd none ]),
+    ((g, Noted r), inl refl, (is.1, is.2, goal is.0)),
+  )
+  reason_of_note spied r (Some (Clash h)) goal is = (
+    (λ y i. elim i [ inl e ↦ λ s. noted_memory _ _ (sym is.1.1.1 ∙ subst (λ (z : Taken). IsStarved z.1) e s) | inr none ↦ absurd none ]),
+    ((g, Noted r), inl refl, is),
+  )
+
+  module _ (old new : Known Item) (step made : ℕ) where
+    pub decided_submit : (before : List Item) (p : Proposal) (r : given.Receipt Reply) (stop : Option RoundStop) → steps ≡ true → IsUnspiedStep opened spies g p → new.number ≡ old.number → IsPrefix old.front new.front
+        → IsDecided IsAnswerTo before (Submit p) r old new → IsAnswered (Unit {0}) old.front new.front (holding p) (events.commit 1) (receipt_of r) → IsSubmitStop r.reply stop
+        → IsDecidedAs opened spies steps g old new (record { answer = Submitted r; stop = stop; step = step; made = made })
+    decided_submit before p r stop takes unspied number begins d a s = record {
+      told = told_more opened spies steps old new g (Submitted r) number begins (submit_places before (Submit p) r old new d)
+          (λ base low. (p, unspied, receipt_of_answer _ old.front new.front _ _ _ a, behind before (Submit p) r old new d base low));
+      submits = omega (arith, ap one_if takes);
+      reason = reason_of_submit r stop s;
+    }
+
+    pub decided_note : (before : List Item) (spied : Bool) (r : given.Receipt Reply) (stop : Option RoundStop) → (steps ≡ true → IsNotedFor opened spies g r.reply) → (spied ≡ true → IsSpiedGoal opened spies g) → new.number ≡ old.number → IsPrefix old.front new.front
+        → IsDecided IsAnswerTo before (Note g) r old new → IsAnswered (Unit {0}) old.front new.front no_hands (events.note g) (receipt_of r) → IsNoteStop spied g r.reply stop
+        → IsDecidedAs opened spies steps g old new (record { answer = Noted r; stop = stop; step = step; made = made })
+    decided_note before spied r stop cause goal number begins d a s = record {
+      told = told_more opened spies steps old new g (Noted r) number begins (note_places before g r old new d ∙ sym (append-nil old.places))
+          (λ base low. (receipt_of_answer _ old.front new.front _ _ _ a, behind before (Note g) r old new d base low, cause));
+      submits = omega arith;
+      reason = reason_of_note spied r stop goal s;
+    }
+
+  pub decided_starved : (old : Known Item) (step made : ℕ) → steps ≡ true → IsStarvedGoal opened g → IsDecidedAs opened spies steps g old old (record { answer = Starved; stop = Some RoundStop.Memory; step = step; made = made })
+  decided_starved old step made takes why = record {
+    told = told_more opened spies steps old old g Starved refl ([], append-nil old.front) (sym (append-nil old.places)) (λ base low. (takes, why));
+    submits = omega arith;
+    reason = tt;
+  }
+
+  -- a goal was noted as ready, and the pass goes on
+  pub goes_on : (old new : Known Item) (before : List Item) (r : given.Receipt Reply) → new.number ≡ old.number → IsPrefix old.front new.front → IsDecided IsAnswerTo before (Note g) r old new → GoesOnWithout opened spies steps old new
+  goes_on old new before r number begins d = told_later opened spies steps old new number begins (note_places before g r old new d)
+
+  pub decided_after : (old mid new : Known Item) (d : Decided) → GoesOnWithout opened spies steps old mid → IsDecidedAs opened spies steps g mid new d → IsDecidedAs opened spies steps g old new d
+  decided_after old mid new d on is = record { told = λ start taken was. is.told start taken (on start taken was); submits = is.submits; reason = is.reason }
+
+pub settling_stop : (g : GoalName) (reply : Reply) (stop : Option RoundStop) → IsSettlingStop reply stop → IsNoteStop false g reply stop
+settling_stop g reply None is = is
+settling_stop g reply (Some Memory) is = tt
+settling_stop g reply (Some Limit) is = is
+settling_stop g reply (Some Full) is = is
+settling_stop g reply (Some (Spied h)) is = absurd is
+settling_stop g reply (Some (Clash h)) is = absurd is
+
+pub opposite : {A : Type 0} (b : Bool) → b ≡ true → b ≡ false → A
+opposite b t f = let clash : true ≡ false = sym t ∙ f in cc
+
+pub not_told : {A : Type 0} (b : Bool) → b ≡ false → (A → b ≡ true) → ¬ A
+not_told b f told a = opposite b (told a) f
+
+-- the first of the workers, and the others
+pub first_work : (ws : List Worker) (d : Worker) → 0 < length ws → works ws ≡ work_of (get_or ws 0 d) ∷ works (drop 1 ws)
+first_work [] d low = absurd (omega (arith, low))
+first_work (w ∷ ws) d low = refl
+
+pub work_between : (xs : List Work) (x : Work) (ys : List Work) → (xs ++ x ∷ []) ++ ys ≡ xs ++ x ∷ ys
+work_between [] x ys = refl
+work_between (z ∷ xs) x ys = ap (λ l. z ∷ l) (work_between xs x ys)
+
+-- as many workers are told of as there were passes at the start
+pub told_count : {P : Type 0} (tells : P → List Taken → P → Type 0) (starts : List P) (ks : List Work) (nows : List P) → AreTold tells starts ks nows → length ks ≡ length starts
+told_count tells [] [] [] told = refl
+told_count tells [] [] (p ∷ ps) told = absurd told
+told_count tells [] (k ∷ ks) ps told = absurd told
+told_count tells (s ∷ ss) [] ps told = absurd told
+told_count tells (s ∷ ss) (k ∷ ks) [] told = absurd told
+told_count tells (s ∷ ss) (k ∷ ks) (p ∷ ps) told = ap suc (told_count tells ss ks ps told.1)
+
+pub works_count : (ws : List Worker) → length (works ws) ≡ length ws
+works_count [] = refl
+works_count (w ∷ ws) = ap suc (works_count ws)
+
+-- what a proposal says of its goal
+module _ (opened : Gv) (spies : Spies) (g : GoalName) (p : Proposal) where
+  pub spied_goal : (w : World) × IsProposal opened w g None (Ok p) → IsSpied spies p.consumed → IsSpiedGoal opened spies g
+  spied_goal a s = (a.0, a.1.standing, a.1.of_opening, (p.consumed, a.1.answer.0.there, s))
+
+  pub unspied_step : (w : World) × IsProposal opened w g None (Ok p) → ¬ IsSpied spies p.consumed → IsUnspiedStep opened spies g p
+  unspied_step a none = (a.0, a.1, λ (q : IsSpiedIn spies a.0 g). none (subst (IsSpied spies) (one q.0 (sym q.1 ∙ a.1.answer.0.there)) q.2))
+    where
+      one : (b : Goal) → Some b ≡ Some p.consumed → b ≡ p.consumed
+      one b e = cc
+
+-- each pass that comes back has its number
+pub told_all : (opened : Gv) (spies : Spies) (steps : Bool) (n k : ℕ) (starts : List (Known Item)) (ks : List Work) (nows : List (Known Item)) → AreTold (IsPassAfter opened spies steps) starts ks nows → AreAll n k starts → AreAll n k nows
+told_all opened spies steps n k [] [] [] told all = all
+told_all opened spies steps n k [] [] (p ∷ ps) told all = absurd told
+told_all opened spies steps n k [] (w ∷ ks) ps told all = absurd told
+told_all opened spies steps n k (s ∷ ss) [] ps told all = absurd told
+told_all opened spies steps n k (s ∷ ss) (w ∷ ks) [] told all = absurd told
+told_all opened spies steps n k (s ∷ ss) (w ∷ ks) (p ∷ ps) told all = (told.0.number ∙ all.0, told_all opened spies steps n (suc k) ss ks ps told.1 all.1)

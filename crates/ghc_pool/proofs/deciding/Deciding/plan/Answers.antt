@@ -1,0 +1,25 @@
+use Rattle.std.proofs.Common.{sym, subst, None, Err}
+use Rattle.ghc_term.specs.declared.fault.Fault.{Fault}
+use Rattle.ghc_core.specs.World.{World}
+use Rattle.ghc_shared.specs.Calls.{IsProposal}
+use Rattle.ghc_trace.specs.Spies.{IsSpied}
+use Rattle.ghc_pool.proofs.Telling.{spied_goal, unspied_step, opposite}
+use Rattle.ghc_pool.proofs.deciding.Deciding.plan.Goals as goal
+
+pub returns-then-is_spied : goal.returns-then-is_spied
+returns-then-is_spied g c =
+    let spies = c.args.self.now.spies.now in
+    spied_goal g.N.Naming.opened spies c.args.goal c.in-Ok.proposal c.in-Ok.ensures.answer (subst (IsSpied spies) c.consumed.ensures (c.is_spied.ensures.0 c.if-is_spied.true))
+
+pub returns-else-is_spied : goal.returns-else-is_spied
+returns-else-is_spied g c =
+    let spies = c.args.self.now.spies.now in
+    unspied_step g.N.Naming.opened spies c.args.goal c.in-Ok.proposal c.in-Ok.ensures.answer (λ s. opposite c.is_spied.result (c.is_spied.ensures.1 (subst (IsSpied spies) (sym c.consumed.ensures) s)) c.if-is_spied.false)
+
+pub returns-then-is_memory : goal.returns-then-is_memory
+returns-then-is_memory g c = subst (λ (f : Fault). (w : World) × IsProposal g.N.Naming.opened w c.args.goal None (Err f)) (c.is_memory.ensures.0 c.if-is_memory.true) c.in-Err.ensures.answer
+
+pub returns-else-is_memory : goal.returns-else-is_memory
+returns-else-is_memory g c =
+    let said = c.in-Err.ensures.answer in
+    (said.0, c.in-Err.fault, (λ e. opposite c.is_memory.result (c.is_memory.ensures.1 e) c.if-is_memory.false), said.1)

@@ -1,0 +1,265 @@
+// What a round does with a goal: a step of it is proposed and submitted, or it is noted.
+ghost use Rattle.std.specs.Prelude.{◌≡◌, ◌↔◌, IsTrue, MatchOption, true, false};
+ghost use Rattle.ghc_term.specs.declared.fault.Fault.TheVariants.{Memory as memory};
+ghost use Rattle.ghc_hooks.specs.Status.{ready};
+ghost use Rattle.ghc_pool.specs.Told.{IsSpiedGoal, IsRefusedGoal, IsStarvedGoal, IsUnspiedStep, TellsStatus};
+ghost use Rattle.ghc_pool.specs.Plans.{IsPlan, IsSubmitStop, IsSettlingStop, IsNoteStop, GoesOnWithout, IsDecidedAs};
+
+use crate::answer::{Answer, RoundStop};
+use crate::craft::{Craft, Decided};
+use crate::gate::Gate;
+use ghc_core::{Core, Reply};
+use ghc_fire::{Meter, Proposal};
+use ghc_hooks::Verdict;
+use ghc_shared::{Naming, Pass, Receipt, Shared};
+use ghc_term::{Fault, GoalName};
+use ghc_trace::SpySet;
+use std::alloc::Global;
+use std::sync::Wait;
+
+// What the workers of a round over a shared core have in common.
+#[derive(Drop)]
+pub struct Deciding<'a, N: Naming, R: Wait, G: Gate> {
+    pub rt: &'a R,
+    pub alloc: Global,
+    pub shared: &'a Shared<Core, N>,
+    pub spies: &'a SpySet,
+    pub gate: &'a G,
+    pub steps: bool,
+}
+
+// What is to be done with a goal where steps are taken.
+#[derive(Drop)]
+pub enum Plan {
+    // This step of it is to be submitted.
+    Submit(Proposal),
+    // It is to be noted, as a call of a spied predicate.
+    Pass,
+    // It is to be noted, since no step of it could be proposed.
+    Refuse,
+    // Nothing: memory was refused.
+    Starve,
+}
+
+// Whether memory was refused.
+fn is_memory(fault: &Fault) -> bool
+    ensures { IsTrue result ↔ (fault.now ≡ memory) }
+{
+    matches!(fault, Fault::Memory)
+}
+
+// Whether the reply tells that a goal is ready.
+fn is_ready(reply: &Reply) -> bool
+    ensures { IsTrue result ↔ TellsStatus ready reply.now }
+{
+    matches!(reply, Reply::Noted(_, Verdict::Ready))
+}
+
+// The reason to stop, if the reply to a submit is one.
+fn stop_of_submit(reply: &Reply) -> Option<RoundStop>
+    ensures { IsSubmitStop reply.now result }
+{
+    match reply {
+        Reply::Refused(Fault::Memory) => Some(RoundStop::Memory),
+        Reply::Refused(Fault::Full) => Some(RoundStop::Full),
+        _ => None,
+    }
+}
+
+// The reason to stop, if the reply to a note of the goal is one.
+fn stop_of_note(reply: &Reply, goal: GoalName, spied: bool) -> Option<RoundStop>
+    ensures { IsNoteStop spied goal reply.now result }
+{
+    match reply {
+        Reply::Refused(Fault::Memory) => Some(RoundStop::Memory),
+        Reply::Noted(_, Verdict::Failed(_)) => Some(RoundStop::Clash(goal)),
+        Reply::Noted(_, Verdict::Ready) => {
+            if spied {
+                return Some(RoundStop::Spied(goal));
+            }
+            None
+        }
+        _ => None,
+    }
+}
+
+// Want of memory, if the reply says that memory was refused.
+fn stop_of_settling(reply: &Reply) -> Option<RoundStop>
+    ensures { IsSettlingStop reply.now result }
+{
+    match reply {
+        Reply::Refused(Fault::Memory) => Some(RoundStop::Memory),
+        _ => None,
+    }
+}
+
+// The step that was taken, and how many goals it made; or none, if the reply tells of no step.
+fn step_and_made(reply: &Reply, made: u32) -> (u32, u32) {
+    match reply {
+        Reply::Stepped(step) => (*step, made),
+        _ => (0, 0),
+    }
+}
+
+impl<N: Naming, R: Wait, G: Gate> Deciding<'_, N, R, G> {
+    // What is to be done with the goal where steps are taken: one is proposed, which is a firing.
+    fn plan(&self, goal: GoalName) -> Plan
+        ensures { IsPlan N.opened self.now.spies.now goal result }
+    {
+        let mut meter = Meter::new();
+        match self
+            .shared
+            .propose(self.rt, self.alloc, &mut meter, goal, None)
+        {
+            Ok(proposal) => {
+                if self.spies.is_spied(proposal.consumed()) {
+                    return Plan::Pass;
+                }
+                Plan::Submit(proposal)
+            }
+            Err(fault) => {
+                if is_memory(&fault) {
+                    return Plan::Starve;
+                }
+                Plan::Refuse
+            }
+        }
+    }
+
+    // Submits the step of the goal; where it is taken, it makes the goals that were proposed.
+    fn submit(
+        &self,
+        worker: usize,
+        pass: &mut Pass<Core, N>,
+        goal: GoalName,
+        proposal: Proposal,
+    ) -> Decided
+        requires steps { self.now.steps ≡ true }
+        requires proposed { IsUnspiedStep N.opened self.now.spies.now goal proposal }
+        ensures { IsDecidedAs N.opened self.now.spies.now self.now.steps goal pass.old pass.new result }
+    {
+        let goals = proposal.effect().made();
+        self.gate.held(worker, goal);
+        let receipt = self.shared.submit(self.rt, self.alloc, pass, proposal);
+        self.gate.answered(worker, goal);
+        let stop = stop_of_submit(&receipt.reply);
+        let (step, made) = step_and_made(&receipt.reply, goals);
+        Decided {
+            answer: Answer::Submitted(receipt),
+            stop,
+            step,
+            made,
+        }
+    }
+
+    // Notes the goal where no steps are taken; any status is the answer.
+    fn settle(&self, pass: &mut Pass<Core, N>, goal: GoalName) -> Decided
+        requires { self.now.steps ≡ false }
+        ensures { IsDecidedAs N.opened self.now.spies.now self.now.steps goal pass.old pass.new result }
+    {
+        let receipt = self.shared.note(self.rt, self.alloc, pass, goal);
+        let stop = stop_of_settling(&receipt.reply);
+        Decided {
+            answer: Answer::Noted(receipt),
+            stop,
+            step: 0,
+            made: 0,
+        }
+    }
+
+    // Notes the goal, which is a call of a spied predicate.
+    fn note_spied(&self, pass: &mut Pass<Core, N>, goal: GoalName) -> Decided
+        requires { IsSpiedGoal N.opened self.now.spies.now goal }
+        ensures { IsDecidedAs N.opened self.now.spies.now self.now.steps goal pass.old pass.new result }
+    {
+        let receipt = self.shared.note(self.rt, self.alloc, pass, goal);
+        let stop = stop_of_note(&receipt.reply, goal, true);
+        Decided {
+            answer: Answer::Noted(receipt),
+            stop,
+            step: 0,
+            made: 0,
+        }
+    }
+
+    // Notes the goal, of which no step could be proposed; or it is ready by now, and nothing comes of that.
+    fn note_refused(&self, pass: &mut Pass<Core, N>, goal: GoalName) -> Option<Decided>
+        requires { IsRefusedGoal N.opened goal }
+        ensures { MatchOption result (GoesOnWithout N.opened self.now.spies.now self.now.steps pass.old pass.new) (IsDecidedAs N.opened self.now.spies.now self.now.steps goal pass.old pass.new) }
+    {
+        let receipt = self.shared.note(self.rt, self.alloc, pass, goal);
+        if is_ready(&receipt.reply) {
+            return None;
+        }
+        let stop = stop_of_note(&receipt.reply, goal, false);
+        Some(Decided {
+            answer: Answer::Noted(receipt),
+            stop,
+            step: 0,
+            made: 0,
+        })
+    }
+
+    // Memory was refused for the proposal of a step of the goal.
+    fn starve(&self, pass: &mut Pass<Core, N>, goal: GoalName) -> Decided
+        requires steps { self.now.steps ≡ true }
+        requires starved { IsStarvedGoal N.opened goal }
+        ensures { IsDecidedAs N.opened self.now.spies.now self.now.steps goal pass.old pass.new result }
+    {
+        let _ = pass;
+        let _ = goal;
+        Decided {
+            answer: Answer::Starved,
+            stop: Some(RoundStop::Memory),
+            step: 0,
+            made: 0,
+        }
+    }
+
+    // Decides what comes of a goal where steps are taken.
+    fn take_step(&self, worker: usize, pass: &mut Pass<Core, N>, goal: GoalName) -> Decided
+        requires { self.now.steps ≡ true }
+        ensures { IsDecidedAs N.opened self.now.spies.now self.now.steps goal pass.old pass.new result }
+    {
+        for _ in self.rt.forever() {
+            match self.plan(goal) {
+                Plan::Submit(proposal) => return self.submit(worker, pass, goal, proposal),
+                Plan::Pass => return self.note_spied(pass, goal),
+                Plan::Refuse => {
+                    if let Some(decided) = self.note_refused(pass, goal) {
+                        return decided;
+                    }
+                }
+                Plan::Starve => return self.starve(pass, goal),
+            }
+        }
+        unreachable!()
+    }
+}
+
+impl<N: Naming, R: Wait, G: Gate> Craft<Pass<Core, N>> for Deciding<'_, N, R, G> {
+    ghost use Rattle.ghc_pool.specs.Told.{IsPassAfter, AreFedAnswers, Asks};
+
+    ghost takes = { λ d. d.steps };
+
+    ghost tells = { λ d. IsPassAfter N.opened d.spies.now d.steps };
+
+    ghost fed = { λ d. AreFedAnswers };
+
+    ghost asks = { λ d. Asks N.opened d.spies.now };
+
+    fn takes_steps(&self) -> bool {
+        self.steps
+    }
+
+    fn begin(&self, pass: &Pass<Core, N>) {
+        let _ = pass;
+    }
+
+    fn decide(&self, worker: usize, pass: &mut Pass<Core, N>, name: GoalName) -> Decided {
+        if self.steps {
+            return self.take_step(worker, pass, name);
+        }
+        self.settle(pass, name)
+    }
+}

@@ -1,0 +1,111 @@
+// A round over a shared core.
+ghost use Rattle.std.specs.Prelude.{◌≡◌, ◌≤◌, ◌<◌, ◌^◌, [], length, IfOk, IfErr, true};
+ghost use Rattle.std.specs.Vec.{vec_capacity, vec_len};
+ghost use Rattle.ghc_pool.specs.Workers.{works, total_work, submits_by, AreSettled};
+ghost use Rattle.ghc_pool.specs.Stops.{AreJudged};
+ghost use Rattle.ghc_pool.specs.Gathered.{AreTold, FirstBegins};
+ghost use Rattle.ghc_pool.specs.Told.{IsPassAfter, AreFedAnswers, Asks};
+ghost use Rattle.ghc_pool.specs.Modes.{takes_steps, limit_of};
+
+use crate::answer::{RoundStop, Work};
+use crate::deciding::Deciding;
+use crate::gate::Gate;
+use crate::mode::Mode;
+use crate::rounds::together::{Ended, work_together};
+use crate::rounds::worker::Worker;
+use ghc_core::Core;
+use ghc_shared::{Naming, Pass, Shared};
+use ghc_term::GoalName;
+use ghc_trace::SpySet;
+use std::alloc::Global;
+use std::marker::Brand;
+use std::sync::Wait;
+use std::sync::ledger::Blank;
+use std::thread::Threads;
+
+/// What the workers of a round did, one after another, and why names were left, if some were.
+#[derive(Drop)]
+pub struct RoundReport {
+    pub workers: Vec<Work>,
+    pub stop: Option<RoundStop>,
+}
+
+// What the workers did, for which there is room.
+fn take_apart(workers: Vec<Worker>, done: &mut Vec<Work>)
+    requires room { (done.old.items ≡ []) × (vec_len workers ≤ vec_capacity done.old) }
+    ensures { done.new.items ≡ works workers.items }
+{
+    let mut workers = workers;
+    for moved in 0..workers.len() {
+        let Worker {
+            owner: _owner,
+            victims: _victims,
+            offered,
+            taken,
+            left,
+            stop,
+        } = workers.remove(0);
+        done.push_reserved(Work {
+            offered,
+            taken,
+            left,
+            stop,
+        });
+    }
+}
+
+/// A round over a shared core: as many workers as there are passes, from 1 to 64, each in a thread of its own, work off the names,
+/// and what is made by the steps that they take. The first offers first what is handed in. Where steps are taken, a step of a name
+/// is proposed and submitted, unless the goal is a call of a spied predicate; a name is noted where no step of it could be proposed,
+/// or where it is spied. Where no steps are taken each name is noted. However names are weighed, what was offered is what was taken
+/// and what was left; each that was taken has an answer that is a receipt in what its worker's pass has seen, and each step that a
+/// pass has made is one of these answers. Where there is no reason to stop, nothing is left. Where memory is refused for what the
+/// round has to have room for, nothing is offered, and the passes come back as they were. The passes come back in their order.
+pub fn round<'a, N: Naming + Send + Sync, R: Threads + Wait + Sync, G: Gate + Sync>(
+    rt: &'a R,
+    alloc: Global,
+    shared: &'a Shared<Core, N>,
+    passes: Vec<Pass<Core, N>>,
+    mode: &Mode,
+    spies: &'a SpySet,
+    names: &[GoalName],
+    gate: &'a G,
+) -> Result<(Vec<Pass<Core, N>>, RoundReport), Vec<Pass<Core, N>>>
+    requires count { (0 < vec_len passes) × (vec_len passes ≤ 64) }
+    requires few { length names.now < 2 ^ 60 }
+    ensures settled { IfOk result (λ r. AreSettled r.1.workers.items) }
+    ensures few { IfOk result (λ r. total_work submits_by r.1.workers.items ≤ limit_of mode.now) }
+    ensures judged { IfOk result (λ r. AreJudged AreFedAnswers (Asks N.opened spies.now) ((takes_steps mode.now ≡ true) × (total_work submits_by r.1.workers.items ≡ limit_of mode.now)) r.1.stop r.1.workers.items) }
+    ensures told { IfOk result (λ r. AreTold (IsPassAfter N.opened spies.now (takes_steps mode.now)) passes.items r.1.workers.items r.0.items) }
+    ensures begins { IfOk result (λ r. FirstBegins names.now r.1.workers.items) }
+    ensures refused { IfErr result (λ back. back ≡ passes) }
+{
+    let Ok(mut done) = Vec::with_capacity(alloc, passes.len()) else {
+        return Err(passes);
+    };
+    let craft = Deciding {
+        rt,
+        alloc,
+        shared,
+        spies,
+        gate,
+        steps: mode.takes_steps(),
+    };
+    let limit = mode.limit();
+    let blank = Blank::new(passes.len() as u64 + 1);
+    match work_together::<Pass<Core, N>, Deciding<'_, N, R, G>, Brand, R>(
+        rt, alloc, &craft, blank, limit, passes, names,
+    ) {
+        Ok(ended) => {
+            let (passes, ended) = ended;
+            let Ended { workers, stop } = ended;
+            take_apart(workers, &mut done);
+            let report = RoundReport {
+                workers: done,
+                stop,
+            };
+            Ok((passes, report))
+        }
+        Err(passes) => Err(passes),
+    }
+}
