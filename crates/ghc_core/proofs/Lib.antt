@@ -43,3 +43,4 @@ pub mod Resuming
 pub mod AskedAgain
 pub mod ResumedOnce
 pub mod ResumeSteps
+pub mod ToldResumed

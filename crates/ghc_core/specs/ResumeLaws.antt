@@ -1,12 +1,13 @@
 -- Laws of chronicles: carrying one out has one answer, and what is told of a world is carried out again, and told again.
-use Rattle.std.specs.Prelude.{◌≡◌, ◌++◌, ℕ, List, Result, Ok, Err}
+use Rattle.std.specs.Prelude.{◌≡◌, ◌++◌, ℕ, List, Result, Ok, Err, ◌≤◌, length}
 use Rattle.ghc_term.specs.declared.fault.Fault.{Fault}
 use Rattle.ghc_term.specs.Answered.{Answered, IsExact}
 use Rattle.ghc_flat.specs.Clause.{Program, Query}
 use Rattle.ghc_records.specs.History.{IsHistory, loaded_opening}
 use Rattle.ghc_records.specs.Journal.{history, opening_journal}
 use Rattle.ghc_records.specs.declared.predicate.Predicate.{Predicate}
-use Rattle.ghc_records.specs.Chronicle.{Chronicle, next_behind}
+use Rattle.ghc_records.specs.Chronicle.{Chronicle, entry_limit, next_behind, spy_limit}
+use Rattle.ghc_records.specs.ChronicleText.{TellsChronicle}
 use Rattle.ghc_core.specs.World.{Hands, World}
 use Rattle.ghc_core.specs.Reached.{IsSound}
 use Rattle.ghc_core.specs.Legal.{IsReachable, Leaves}
@@ -37,3 +38,14 @@ abbrev pub WhatIsCarriedOutIsTold : Type 0
 WhatIsCarriedOutIsTold =
     (P : Program) (query : Query) (names : List (List ℕ)) (c : Chronicle) (w : World)
     → c.next ≡ next_behind c.opening.next c.entries → IsCarriedOut P query names c w → chronicle_of_world w c.spies ≡ c
+
+-- A chronicle can be carried out: its opening is a history of the form, its entries and spied predicates are not too many, and its next number is the one behind its entries.
+pub record CanBeResumed (c : Chronicle) : Type 0 where
+  pub opening : IsHistory c.opening
+  pub entries : length c.entries ≤ entry_limit
+  pub spies : length c.spies ≤ spy_limit
+  pub next : c.next ≡ next_behind c.opening.next c.entries
+
+-- A chronicle that a text tells can be carried out.
+abbrev pub WhatIsReadCanBeResumed : Type 0
+WhatIsReadCanBeResumed = (text : List ℕ) (c : Chronicle) → TellsChronicle text c → CanBeResumed c

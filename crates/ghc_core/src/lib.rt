@@ -64,7 +64,8 @@ pub use load_laws::{load_is_exact, saved_is_loaded_again};
 pub use order::Order;
 pub use reply::Reply;
 pub use resume_laws::{
-    carried_out_is_legal, resume_is_exact, what_is_carried_out_is_told, what_is_told_is_carried_out,
+    carried_out_is_legal, resume_is_exact, what_is_carried_out_is_told,
+    what_is_read_can_be_resumed, what_is_told_is_carried_out,
 };
 pub use rollback::Rollback;
 pub use undo_laws::{

@@ -1,5 +1,5 @@
 // Laws of chronicles, each as the contract of a function.
-ghost use Rattle.ghc_core.specs.ResumeLaws.{ResumeIsExact, CarriedOutIsLegal, WhatIsToldIsCarriedOut, WhatIsCarriedOutIsTold};
+ghost use Rattle.ghc_core.specs.ResumeLaws.{ResumeIsExact, CarriedOutIsLegal, WhatIsToldIsCarriedOut, WhatIsCarriedOutIsTold, WhatIsReadCanBeResumed};
 
 /// What is answered for a chronicle is exact, unless memory was refused: it leaves one world or is refused at one line, and never
 /// both.
@@ -20,4 +20,9 @@ pub fn what_is_told_is_carried_out()
 /// What was carried out is told again as it was.
 pub fn what_is_carried_out_is_told()
     ensures { WhatIsCarriedOutIsTold }
+{}
+
+/// A chronicle that was read can be carried out.
+pub fn what_is_read_can_be_resumed()
+    ensures { WhatIsReadCanBeResumed }
 {}

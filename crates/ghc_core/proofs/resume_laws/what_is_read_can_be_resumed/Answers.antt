@@ -1,0 +1,5 @@
+use Rattle.ghc_core.proofs.ToldResumed.{read_resumed}
+use Rattle.ghc_core.proofs.resume_laws.what_is_read_can_be_resumed.Goals as goal
+
+pub returns : goal.returns
+returns c = read_resumed
