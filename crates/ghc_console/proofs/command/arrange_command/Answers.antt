@@ -20,7 +20,7 @@ loop-word-preserved c =
     let order = c.loop-word.order in
     let more = numbers_of (words_of c.in-Some.behind.now) in
     let found = c.in-Some.ensures.found in (
-      ap (λ o. behind o more) c.in_ok-push.ensures ∙ sym (one_more order c.in-Some-number.step more) ∙ ap (λ n. behind order (in_front n more)) c.in-Some-number.ensures
+      ap (λ o. behind o more) c.in_ok-push.ensures.pushed ∙ sym (one_more order c.in-Some-number.step more) ∙ ap (λ n. behind order (in_front n more)) c.in-Some-number.ensures
           ∙ ap (λ ws. behind order (numbers_of ws)) (sym found) ∙ c.loop-word.invariant.0,
       inr (begun _ _ _ _ _ c.loop-word.invariant.1 found c.in-Some-number.ensures),
     )
