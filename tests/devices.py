@@ -55,8 +55,9 @@ SHELLS = [
         "session: F26 device\n",
     ),
     Shell(
+        # With 131,072 steps the tables are full, and to double one takes more than the limit leaves: so the next line has memory.
         "memory runs out",
-        "ulimit -v 60000; printf 'leap\\nshow X\\n' | $ghcdb loop.ghc --query 'loop(X)' | grep -v -e '^REDU' -e '^F1 no memory$'",
+        "ulimit -v 70000; printf 'leap\\nshow X\\n' | $ghcdb loop.ghc --query 'loop(X)' | grep -v -e '^REDU' -e '^F1 no memory$'",
         "stopped memory\nX = _0_1\n",
     ),
     Shell("the program has no end", "ulimit -v 60000; $ghcdb /dev/zero --query true", "", "program: F6 limit: text\n", 1),
