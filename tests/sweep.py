@@ -50,6 +50,10 @@ HISTORY = "ghc-history 1\nsteps 4\n1 0.1 by 2\n3 1.2 by 1\n4 3.1 eq\n2 1.1 eq\ne
 
 
 SUM_HISTORY = "ghc-history 1\nsteps 6\n1 0.1 in 5\n4 0.2 by 2\n5 4.1 is\n2 1.1 end\n6 4.2 by 1\n7 6.1 eq\nend 9\n"
+WHOLE_HISTORY = (
+    "ghc-history 2\nopening 1 5\n2 0.1 by 2\nentries 6\n5 2.1 eq\n6 - ask append(_0_1,[3],_6_1), true, _2_1 = [7]. % more\nundo 6\narrange 2 5\nredo 6\nroll 2\n"
+    "spies 2\nappend/3\nappend/3\nend 7\n"
+)
 
 
 class Told(NamedTuple):
@@ -77,7 +81,7 @@ STORIES = {
         APPEND,
         "append([1],[2],R)",
         "goals;step 0.1;step 1.1;step 1.2 1;step 3.1;show R;records;why 2;who R;undo 2;shelf;redo 2;undo 1;save;arrange 1 2 3 4;"
-        "arrange 2 1 3 4;roll 3;goals;roll 1;goals;redo 1;redo 9;records;save",
+        "arrange 2 1 3 4;roll 3;goals;roll 1;goals;redo 1;redo 9;records;save 1;save",
     ),
     "waits": Story(
         WAITS,
@@ -88,7 +92,7 @@ STORIES = {
         MANY,
         "f(A,B,C,D,E,F,G,H,I) = f(1,2,3,4,5,6,7,8,9), p(A,B,C,D), p(A,B,C,D), p(A,B,C,D), p(A,B,C,D), p(A,B,C,J), J = K, K = 1",
         "goals;step 0.1;step 0.2;step 0.3;step 0.4;step 0.5;step 0.7;step 0.8;step 0.6;why 8;who J;records;undo 3;undo 5;redo 3;"
-        "arrange 6 7 1 2 4 8 3;roll 7;goals;roll 1;shelf;redo 1;redo 4;records;save",
+        "arrange 6 7 1 2 4 8 3;roll 7;goals;roll 1;shelf;redo 1;redo 4;records;save 1;save",
     ),
     "streams": Story(
         SUM,
@@ -99,7 +103,7 @@ STORIES = {
         APPEND,
         "append([1],[2],R)",
         "step 0.1;ask append(R,[3],Q), true, _1_1 = [7], f(R,_,_2_3) = Q;ask append(R,[3],Q), true, _1_1 = [7], f(R,_) = Q;why 2;goals;"
-        "undo 1;step 2.2;undo 3;arrange 2 1;undo 2;redo 2;roll 1;redo 2;shelf;redo 1;redo 2;ask r(R);ask f(;ask;records;save",
+        "undo 1;step 2.2;undo 3;arrange 2 1;undo 2;redo 2;roll 1;redo 2;shelf;redo 1;redo 2;ask r(R);ask f(;ask;spy append/3;records;save 1;save",
     ),
     "words": Story(APPEND, "append([1],[2],R)", "nonsense;step 9.9;show Q;spy foo/1;spy append/3;nospy append/3;skip 9.9;goals;quit"),
     "leap": Story(
@@ -125,7 +129,8 @@ STORIES = {
         LONG,
         "records;leap;records;leap;records;goals;why 5;who Q;show Q;undo 9;roll 20;shelf;goals;roll 2;goals;redo 20;redo 2;records;save",
     ),
-    "load_stream": Story(SUM, "instream(S), sum(S,0,R)", "goals;records;show R;in 1 3;roll 2;goals;in 1 4;shelf;redo 2;records;save", SUM_HISTORY),
+    "load_stream": Story(SUM, "instream(S), sum(S,0,R)", "goals;records;show R;in 1 3;roll 2;goals;in 1 4;shelf;redo 2;records;save 1;save", SUM_HISTORY),
+    "load_whole": Story(APPEND, "append([1],[2],R)", "goals;records;shelf;save;redo 2;redo 6;redo 5;save 1;records;save", WHOLE_HISTORY),
     "load": Story(APPEND, "append([1],[2],R)", "goals;records;show R;undo 2;records;leap;records;leap;show R;save", HISTORY),
 }
 

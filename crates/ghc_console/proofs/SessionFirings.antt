@@ -9,7 +9,7 @@ use Rattle.ghc_console.specs.Firing.{Fires, FiresInObeying, firings_in, firings_
 use Rattle.ghc_console.specs.Lines.{lines_of}
 use Rattle.ghc_console.specs.Reading.{TakesLine}
 use Rattle.ghc_console.specs.declared.command.LineCommand.{LineCommand}
-use Rattle.ghc_console.specs.declared.command.LineCommand.TheVariants.{Nothing, Step, Obey, Show, Records, Goals, Why, Who, Shelf, Save, Spy, Unspy, Input, Ask, Leap, Skip, Quit, Unknown}
+use Rattle.ghc_console.specs.declared.command.LineCommand.TheVariants.{Nothing, Step, Obey, Show, Records, Goals, Why, Who, Shelf, Save, SaveSteps, Spy, Unspy, Input, Ask, Leap, Skip, Quit, Unknown}
 
 -- obeying a command of the core may fire nothing
 pub obeys_nothing : (c : Command) (m n : ℕ) → n ≡ m → FiresInObeying c m n
@@ -46,6 +46,7 @@ fires_nothing (Why number) m n e = e
 fires_nothing (Who word) m n e = e
 fires_nothing Shelf m n e = e
 fires_nothing Save m n e = e
+fires_nothing SaveSteps m n e = e
 fires_nothing (Spy name arity) m n e = e
 fires_nothing (Unspy name arity) m n e = e
 fires_nothing (Input stream given) m n e = e
@@ -68,6 +69,7 @@ fires_few (Why number) m n none e = omega (arith, e)
 fires_few (Who word) m n none e = omega (arith, e)
 fires_few Shelf m n none e = omega (arith, e)
 fires_few Save m n none e = omega (arith, e)
+fires_few SaveSteps m n none e = omega (arith, e)
 fires_few (Spy name arity) m n none e = omega (arith, e)
 fires_few (Unspy name arity) m n none e = omega (arith, e)
 fires_few (Input stream given) m n none e = omega (arith, e)

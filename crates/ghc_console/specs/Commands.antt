@@ -7,7 +7,7 @@ use Rattle.ghc_core.specs.declared.command.Command.TheVariants.{Undo, Redo, Roll
 use Rattle.ghc_console.specs.Words.{behind, goal_name_of, is_printable, is_variable, number_of, numbers_of, words_of}
 use Rattle.ghc_console.specs.PredicateWords.{predicate_of}
 use Rattle.ghc_console.specs.declared.command.LineCommand.{LineCommand}
-use Rattle.ghc_console.specs.declared.command.LineCommand.TheVariants.{Nothing, Step, Obey, Show, Records, Goals, Why, Who, Shelf, Save, Spy, Unspy, Input, Ask, Leap, Skip, Quit, Unknown}
+use Rattle.ghc_console.specs.declared.command.LineCommand.TheVariants.{Nothing, Step, Obey, Show, Records, Goals, Why, Who, Shelf, Save, SaveSteps, Spy, Unspy, Input, Ask, Leap, Skip, Quit, Unknown}
 
 -- A step with the goal, by the least clause that accepts, where the word named one.
 abbrev pub step_with : Option GoalName → LineCommand
@@ -71,13 +71,18 @@ abbrev pub unspy_with : Option (List ℕ × ℕ) → LineCommand
 unspy_with (Some named) = Unspy named.0 named.1
 unspy_with None = Unknown
 
--- The command of a word and one more: `step G` or `skip G`, one with a predicate, or one with a variable or a number.
+-- The saving of the version that the word says: `1` says the first, the history of the steps that are kept.
+abbrev pub save_of : List ℕ → LineCommand
+save_of word = if bytes_eq word (codes "1") then SaveSteps else Unknown
+
+-- The command of a word and one more: `step G` or `skip G`, `save 1`, one with a predicate, or one with a variable or a number.
 abbrev pub command_of_two_words : List ℕ → List ℕ → LineCommand
 command_of_two_words name word = if bytes_eq name (codes "step") then step_with (goal_name_of word)
     else (if bytes_eq name (codes "skip") then skip_with (goal_name_of word)
     else (if bytes_eq name (codes "spy") then spy_with (predicate_of word)
     else (if bytes_eq name (codes "nospy") then unspy_with (predicate_of word)
-    else (if is_variable word then command_with_variable name word else numbered name (number_of word)))))
+    else (if bytes_eq name (codes "save") then save_of word
+    else (if is_variable word then command_with_variable name word else numbered name (number_of word))))))
 
 -- The command of a word and two more: `step G C`.
 abbrev pub command_of_three_words : List ℕ → List ℕ → List ℕ → LineCommand

@@ -5,7 +5,7 @@ use Rattle.ghc_core.specs.Events.{Command, input, finish, undo, roll, redo, arra
 use Rattle.ghc_core.specs.CommandCode.{command_of as core_command_of}
 use Rattle.ghc_console.specs.Commands.{command_of}
 use Rattle.ghc_console.specs.declared.command.LineCommand.{LineCommand}
-use Rattle.ghc_console.specs.declared.command.LineCommand.TheVariants.{Nothing, Step, Obey, Show, Records, Goals, Why, Who, Shelf, Save, Spy, Unspy, Input, Ask, Leap, Skip, Quit, Unknown}
+use Rattle.ghc_console.specs.declared.command.LineCommand.TheVariants.{Nothing, Step, Obey, Show, Records, Goals, Why, Who, Shelf, Save, SaveSteps, Spy, Unspy, Input, Ask, Leap, Skip, Quit, Unknown}
 
 -- FiresInObeying c old new: obeying the command c of the core takes the count of firings from old to new: a redo fires once, or not at all where it is refused before; no other command fires.
 abbrev pub FiresInObeying : Command → ℕ → ℕ → Type 0
@@ -31,6 +31,7 @@ Fires (Why number) old new = new ≡ old
 Fires (Who word) old new = new ≡ old
 Fires Shelf old new = new ≡ old
 Fires Save old new = new ≡ old
+Fires SaveSteps old new = new ≡ old
 Fires (Spy name arity) old new = new ≡ old
 Fires (Unspy name arity) old new = new ≡ old
 Fires (Input stream given) old new = new ≡ old
@@ -62,6 +63,7 @@ firings_of (Why number) = 0
 firings_of (Who word) = 0
 firings_of Shelf = 0
 firings_of Save = 0
+firings_of SaveSteps = 0
 firings_of (Spy name arity) = 0
 firings_of (Unspy name arity) = 0
 firings_of (Input stream given) = 0

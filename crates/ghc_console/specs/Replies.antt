@@ -20,6 +20,7 @@ use Rattle.ghc_records.specs.Record.{Record, Shelf, numbers}
 use Rattle.ghc_records.specs.Journal.{step_of}
 use Rattle.ghc_records.specs.StepText.{listed, record_text, step_text}
 use Rattle.ghc_records.specs.HistoryText.{history_text}
+use Rattle.ghc_records.specs.ChronicleText.{chronicle_text}
 use Rattle.ghc_depend.specs.Depend.{IsNotKept}
 use Rattle.ghc_core.specs.World.{World, IsFull, with_step}
 use Rattle.ghc_core.specs.Events.{Command}
@@ -32,6 +33,7 @@ use Rattle.ghc_core.specs.Change.{Changes}
 use Rattle.ghc_core.specs.Answers.{Fails}
 use Rattle.ghc_core.specs.Asked.{IsAskedFor}
 use Rattle.ghc_core.specs.Load.{AskForGoals, history_of}
+use Rattle.ghc_core.specs.Resume.{chronicle_of_world}
 use Rattle.ghc_trace.specs.Ports.{Port, ArePorts}
 use Rattle.ghc_trace.specs.PortText.{ports_text}
 use Rattle.ghc_trace.specs.News.{Standing, AreNews, news_text}
@@ -41,14 +43,14 @@ use Rattle.ghc_trace.specs.ReasonText.{reason_text}
 use Rattle.ghc_trace.specs.Why.{AreReasonsTold}
 use Rattle.ghc_trace.specs.declared.who_bound.Binder.{Binder}
 use Rattle.ghc_trace.specs.Who.{AreBindersTold, binder_text}
-use Rattle.ghc_trace.specs.Spies.{Spies}
+use Rattle.ghc_trace.specs.Spies.{Spies, spies_in_order}
 pub use Rattle.ghc_console.specs.TextLines.{lined, refusal}
 use Rattle.ghc_console.specs.RunReplies.{TellsRun, RepliesToSkip}
 use Rattle.ghc_console.specs.VariableNamed.{IsVariableNamed}
 use Rattle.ghc_console.specs.AskedFor.{IsReadAskFor}
 use Rattle.ghc_console.specs.Commands.{command_of}
 use Rattle.ghc_console.specs.declared.command.LineCommand.{LineCommand}
-use Rattle.ghc_console.specs.declared.command.LineCommand.TheVariants.{Nothing as nothing, Step as step, Obey as obey, Show as show, Records as records, Goals as goals, Why as why, Who as who, Shelf as shelf, Save as save, Spy as spy, Unspy as unspy, Input as input, Ask as ask, Leap as leap, Skip as skip, Quit as quit, Unknown as unknown}
+use Rattle.ghc_console.specs.declared.command.LineCommand.TheVariants.{Nothing as nothing, Step as step, Obey as obey, Show as show, Records as records, Goals as goals, Why as why, Who as who, Shelf as shelf, Save as save, SaveSteps as save_steps, Spy as spy, Unspy as unspy, Input as input, Ask as ask, Leap as leap, Skip as skip, Quit as quit, Unknown as unknown}
 use Rattle.ghc_console.specs.Reading.{line_limit}
 use Rattle.ghc_console.specs.SessionState.{SessionState, HasClauseFor, LeavesSpies, predicate_text}
 
@@ -163,10 +165,14 @@ pub data RepliesToWho (w : World) (word : List ℕ) : List ℕ → Type 0 where
   tells_binders : (x : VarName) (binders : List Binder) → IsVariableNamed w word x → AreBindersTold w x binders → RepliesToWho w word (lines_or_none (map binder_text binders))
   names_nothing : ((x : VarName) → ¬ IsVariableNamed w word x) → RepliesToWho w word (refusal Fault.NoVariable)
 
--- RepliesToSave w text: the history of the kept steps; or the refusal where one of them asks for goals, which no text of this version tells.
-pub data RepliesToSave (w : World) : List ℕ → Type 0 where
-  tells_history : ¬ AskForGoals w.kept → RepliesToSave w (history_text (history_of w))
-  has_asked : AskForGoals w.kept → RepliesToSave w (refusal (Fault.Limit limit.Version))
+-- the text of the whole session: what it began with, the entries of the journal behind that, the spies in order, and the next number
+abbrev pub saved_text : World → Spies → List ℕ
+saved_text w spies = chronicle_text (chronicle_of_world w (spies_in_order spies))
+
+-- RepliesToSaveSteps w text: the history of the kept steps; or the refusal where one of them asks for goals, which no text of that version tells.
+pub data RepliesToSaveSteps (w : World) : List ℕ → Type 0 where
+  tells_history : ¬ AskForGoals w.kept → RepliesToSaveSteps w (history_text (history_of w))
+  has_asked : AskForGoals w.kept → RepliesToSaveSteps w (refusal (Fault.Limit limit.Version))
 
 -- RepliesToSpy P f n text: the text says that the predicate is spied; or it is the refusal, where the program has no clause for it.
 pub data RepliesToSpy (P : Program) (f : List ℕ) (n : ℕ) : List ℕ → Type 0 where
@@ -184,7 +190,8 @@ Replies spies w goals text v = RepliesToGoals w text × (v ≡ w)
 Replies spies w (why n) text v = RepliesToWhy w n text × (v ≡ w)
 Replies spies w (who word) text v = RepliesToWho w word text × (v ≡ w)
 Replies spies w shelf text v = (text ≡ shelf_text w.shelf) × (v ≡ w)
-Replies spies w save text v = RepliesToSave w text × (v ≡ w)
+Replies spies w save text v = (text ≡ saved_text w spies) × (v ≡ w)
+Replies spies w save_steps text v = RepliesToSaveSteps w text × (v ≡ w)
 Replies spies w (spy f n) text v = RepliesToSpy w.opening.program f n text × (v ≡ w)
 Replies spies w (unspy f n) text v = (text ≡ lined (codes "not spying " ++ predicate_text f n)) × (v ≡ w)
 Replies spies w (input k given) text v = RepliesToInput w k given text v
@@ -206,6 +213,7 @@ quits (why n) = false
 quits (who word) = false
 quits shelf = false
 quits save = false
+quits save_steps = false
 quits (spy f n) = false
 quits (unspy f n) = false
 quits (input k given) = false

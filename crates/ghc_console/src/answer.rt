@@ -15,7 +15,7 @@ use crate::obey_reply::{ask, input, obey};
 use crate::reading::Line;
 use crate::reply::{goals, records, refused, show, step};
 use crate::run_reply::{leap, skip};
-use crate::save_reply::save;
+use crate::save_reply::{save, save_steps};
 use crate::shelf_reply::shelf;
 use crate::spy_reply::{spy, unspy};
 use ghc_term::{Fault, Limit};
@@ -47,7 +47,8 @@ fn tell(
         LineCommand::Why(number) => why(alloc, &debugger.core, *number, reply),
         LineCommand::Who(word) => who(alloc, &debugger.core, word.as_str(), reply),
         LineCommand::Shelf => shelf(alloc, &debugger.core, reply),
-        LineCommand::Save => save(alloc, &debugger.core, reply),
+        LineCommand::Save => save(alloc, &debugger.core, &debugger.spies, reply),
+        LineCommand::SaveSteps => save_steps(alloc, &debugger.core, reply),
         LineCommand::Spy(name, arity) => {
             spy(
                 alloc,

@@ -3,7 +3,7 @@ ghost use Rattle.std.specs.Prelude.{◌≡◌, true, IfOk, OnErr};
 ghost use Rattle.std.specs.List.{list_all};
 ghost use Rattle.ghc_console.specs.Words.{behind, is_printable, is_variable, numbers_of, words_of};
 ghost use Rattle.ghc_console.specs.LineMemory.{BeginsWithNumber, KeepsText, TakesMemory};
-ghost use Rattle.ghc_console.specs.Commands.{arrange_with, command_by_count, command_of, command_of_one_word, command_of_three_words, command_of_two_words, command_of_words, command_with_number, command_with_variable, input_to, leap_of, run_limit};
+ghost use Rattle.ghc_console.specs.Commands.{arrange_with, command_by_count, command_of, command_of_one_word, command_of_three_words, command_of_two_words, command_of_words, command_with_number, command_with_variable, input_to, save_of, leap_of, run_limit};
 
 use crate::asked_for::ask_command;
 use crate::input_text::InputText;
@@ -38,8 +38,10 @@ pub enum LineCommand {
     Who(Word),
     /// The steps that were taken back.
     Shelf,
-    /// The history of the steps that are kept.
+    /// The history of the whole session.
     Save,
+    /// The history of the steps that are kept.
+    SaveSteps,
     /// The spying of the predicate of this name and arity.
     Spy(Name, u32),
     /// The spying no more of the predicate of this name and arity.
@@ -148,6 +150,16 @@ fn variable_command(
     Ok(LineCommand::Unknown)
 }
 
+// The saving of the version that the word says: `1` says the first.
+fn save_command(word: &[u8]) -> LineCommand
+    ensures { result ≡ save_of word.now }
+{
+    if word == b"1".as_slice() {
+        return LineCommand::SaveSteps;
+    }
+    LineCommand::Unknown
+}
+
 // The command of a word and one more.
 fn two_word_command(
     alloc: Global,
@@ -174,6 +186,9 @@ fn two_word_command(
     }
     if first_word == b"nospy".as_slice() {
         return unspy_command(alloc, word);
+    }
+    if first_word == b"save".as_slice() {
+        return Ok(save_command(word));
     }
     if is_variable_word(word) {
         return variable_command(alloc, first_word, word);

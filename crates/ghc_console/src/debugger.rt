@@ -1,10 +1,8 @@
 // What a session works on.
 ghost use Rattle.std.specs.Prelude.{◌≡◌};
-ghost use Rattle.std.specs.FinSet as set;
 
 use ghc_core::Core;
 use ghc_trace::SpySet;
-use std::alloc::Global;
 
 /// A core, and the predicates that are spied in it.
 #[derive(Drop)]
@@ -16,12 +14,11 @@ pub struct Debugger {
 }
 
 impl Debugger {
-    /// The core with no predicate spied. It takes no memory.
-    pub fn new(alloc: Global, core: Core) -> Debugger
+    /// The core with these predicates spied. It takes no memory.
+    pub fn new(core: Core, spies: SpySet) -> Debugger
         ensures core { result.core ≡ core }
-        ensures spies { result.spies ≡ set.empty }
+        ensures spies { result.spies ≡ spies }
     {
-        let spies = SpySet::new(alloc);
         Debugger { core, spies }
     }
 }

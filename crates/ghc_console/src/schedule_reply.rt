@@ -54,6 +54,7 @@ fn carry_out(alloc: Global, world: &mut World, command: LineCommand) -> Option<R
         | LineCommand::Who(_)
         | LineCommand::Shelf
         | LineCommand::Save
+        | LineCommand::SaveSteps
         | LineCommand::Spy(_, _)
         | LineCommand::Unspy(_, _)
         | LineCommand::Leap(_)

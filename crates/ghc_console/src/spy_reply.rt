@@ -55,7 +55,7 @@ pub fn spy(
         return refused(&Fault::Undefined { name, arity }, reply);
     }
     tell(alloc, "spying ", name, arity, reply)?;
-    spies.add(name, arity as usize)
+    spies.add(name, arity)
 }
 
 /// Takes the predicate out of those that are spied, if it is one of them, and tells that it is not spied. An error says that memory

@@ -13,3 +13,4 @@ pub mod Reasoning
 pub mod BoundChain
 pub mod WayUp
 pub mod Spied
+pub mod SpyOrder

@@ -1,15 +1,17 @@
 // The predicates at whose calls a run stops.
-ghost use Rattle.std.specs.Prelude.{◌≡◌, ◌↔◌, ◌++◌, IsTrue, OnOk, OnErr};
+ghost use Rattle.std.specs.Prelude.{◌≡◌, ◌↔◌, ◌++◌, ◌<◌, All, map, IfOk, IsTrue, OnOk, OnErr};
 ghost use Rattle.std.specs.FinSet as set;
-ghost use Rattle.ghc_trace.specs.Spies.{predicate, HasPredicate, IsSpied};
+ghost use Rattle.ghc_trace.specs.Spies.{as_written, predicate, spied_of, spies_in_order, HasPredicate, IsSpied};
 
+use ghc_records::Predicate as Written;
 use ghc_term::{Goal, GoalView, Name};
 use indexmap::{Equivalent, IndexSet};
 use std::alloc::{AllocError, Global};
+use std::collections::BTreeSet;
 use std::marker::Model;
 
 // A predicate by its name and its number of arguments.
-#[derive(Drop, PartialEq, Eq, Hash)]
+#[derive(Drop, PartialEq, Eq, PartialOrd, Ord, Hash)]
 struct Predicate {
     name: Name,
     arity: usize,
@@ -48,12 +50,33 @@ impl Model for SpySet {
     ghost use Rattle.std.specs.FinSet as set;
     ghost use Rattle.ghc_trace.specs.Spies.{Spies};
     ghost use Rattle.ghc_trace.specs.SpiesCode.{spies_code};
+    ghost use Rattle.std.specs.Prelude.{All, ◌<◌};
 
     ghost Value = { Spies };
 
     ghost coded = { spies_code };
 
     ghost view = { λ s. set.from_list s.table.keys };
+
+    // Each has as many arguments as a word can say.
+    ghost invariant = { λ s. All (λ p. p.arity < 4294967296) s.table.keys };
+}
+
+// The predicates, as a chronicle has them.
+fn written(
+    alloc: Global,
+    ordered: &BTreeSet<Predicate>,
+) -> Result<Vec<Written>, AllocError>
+    requires { All (λ p. p.arity < 4294967296) ordered.now.keys }
+    ensures { IfOk result (λ listed. listed.items ≡ map as_written ordered.now.keys) }
+{
+    let mut listed = Vec::new(alloc);
+    for spied in ordered {
+        let name = spied.name.share()?;
+        let arity = spied.arity as u32;
+        listed.push(Written { name, arity })?;
+    }
+    Ok(listed)
 }
 
 impl SpySet {
@@ -64,6 +87,32 @@ impl SpySet {
         SpySet {
             table: IndexSet::new(alloc),
         }
+    }
+
+    /// The set of these predicates, in whatever order they stand and however often: one look-up for each. It fails for want of memory alone.
+    pub fn of(alloc: Global, predicates: &[Written]) -> Result<SpySet, AllocError>
+        ensures { IfOk result (λ spies. spies ≡ spied_of predicates.now) }
+    {
+        let mut spies = SpySet::new(alloc);
+        for predicate in predicates {
+            spies.add(&predicate.name, predicate.arity)?;
+        }
+        Ok(spies)
+    }
+
+    /// The predicates of the set, each once, by name, byte by byte, then arity. It costs what it takes to put them in order. It fails
+    /// for want of memory, or where a count of handles is full.
+    pub fn in_order(&self, alloc: Global) -> Result<Vec<Written>, AllocError>
+        ensures { IfOk result (λ listed. listed.items ≡ spies_in_order self.now) }
+    {
+        let mut ordered = BTreeSet::new(alloc);
+        for spied in self.table.as_slice() {
+            let arity = spied.arity;
+            let name = spied.name.share()?;
+            ordered.insert(Predicate { name, arity })?;
+        }
+        let _count = ordered.len();
+        written(alloc, &ordered)
     }
 
     /// Whether no predicate is in the set: one step.
@@ -94,11 +143,12 @@ impl SpySet {
 
     /// Adds the predicate of this name and arity: one look-up. Where memory is refused, and it fails for nothing else, the set
     /// stays as it was.
-    pub fn add(&mut self, name: &Name, arity: usize) -> Result<(), AllocError>
+    pub fn add(&mut self, name: &Name, arity: u32) -> Result<(), AllocError>
         ensures ok { OnOk result (self.new ≡ set.insert self.old (predicate name.now arity)) }
         ensures err { OnErr result (self.new ≡ self.old) }
     {
         let name = name.share()?;
+        let arity = arity as usize;
         self.table.reserve(1)?;
         self.table.insert(Predicate { name, arity }).unwrap();
         Ok(())

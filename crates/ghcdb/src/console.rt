@@ -5,7 +5,6 @@ ghost use Rattle.ghc_console.specs.SessionState.{state_of};
 ghost use Rattle.ghcdb.specs.Outputs.{HasBeginning, HasReplies};
 
 use ghc_console::{Broken, Debugger, Lines, session};
-use ghc_core::Core;
 use ghc_term::Fault;
 use std::alloc::Global;
 use std::io::{BufWriter, Read, Write};
@@ -65,7 +64,7 @@ fn run_to_writer<L: Ledger, R: Wait, I: Read + Drop, O: Write + Drop>(
 // Runs a session from the reader to the writer, whose calls are counted in the ledger.
 fn run_between<L: Ledger, R: Wait + AllocGlobal, I: Read + Drop, O: Write + Drop>(
     rt: &R,
-    core: Core,
+    debugger: Debugger,
     reader: I,
     writer: BufWriter<O>,
     blank: Blank,
@@ -74,7 +73,6 @@ fn run_between<L: Ledger, R: Wait + AllocGlobal, I: Read + Drop, O: Write + Drop
     ensures { IfErr result (λ fault. fault ≡ Fault.Device) }
 {
     let device: Lines<I, O, L> = Lines::new(reader, writer, blank);
-    let debugger = Debugger::new(rt.alloc(), core);
     let (_, result) = run_to_writer(rt, rt.alloc(), debugger, device);
     result
 }
@@ -82,7 +80,7 @@ fn run_between<L: Ledger, R: Wait + AllocGlobal, I: Read + Drop, O: Write + Drop
 // Runs a session over the standard streams.
 fn run_counted<L: Ledger, R: Wait + Input + Print + AllocGlobal>(
     rt: &R,
-    core: Core,
+    debugger: Debugger,
     blank: Blank,
 ) -> Result<(), Fault>
     requires blank { (blank.name ≡ L.name) × (blank.parts ≡ L.parts) × (1 < L.parts) }
@@ -91,13 +89,16 @@ fn run_counted<L: Ledger, R: Wait + Input + Print + AllocGlobal>(
     let Ok(writer) = BufWriter::new(rt.alloc(), io::writer(rt)) else {
         return Err(Fault::Memory);
     };
-    run_between::<L, _, _, _>(rt, core, rt.reader(), writer, blank)
+    run_between::<L, _, _, _>(rt, debugger, rt.reader(), writer, blank)
 }
 
 /// Runs a session over the standard streams, up to `quit` or the end of the input. `Device` where one of them fails, and
 /// `Memory` where there is none for the output that is gathered.
-pub fn run_console<R: Wait + Input + Print + AllocGlobal>(rt: &R, core: Core) -> Result<(), Fault>
+pub fn run_console<R: Wait + Input + Print + AllocGlobal>(
+    rt: &R,
+    debugger: Debugger,
+) -> Result<(), Fault>
     ensures { IfErr result (λ fault. (fault ≡ Fault.Memory) ⊎ (fault ≡ Fault.Device)) }
 {
-    run_counted::<Brand, R>(rt, core, Blank::new(2))
+    run_counted::<Brand, R>(rt, debugger, Blank::new(2))
 }

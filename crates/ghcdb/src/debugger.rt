@@ -18,6 +18,7 @@ use crate::refused_part::RefusedPart;
 use crate::settings::Options;
 use crate::status::Status;
 use clap::Error;
+use ghc_console::Debugger;
 use ghc_core::Core;
 use ghc_term::Fault;
 use std::alloc::Global;
@@ -49,9 +50,9 @@ fn answer<R: Print + Eprint>(rt: &R, error: &Error) -> Status
     }
 }
 
-// The core that the texts of the files and the options start: the program and the history are in the files, and the query in the
+// What the texts of the files and the options start: the program and the history are in the files, and the query in the
 // options.
-fn open_with(alloc: Global, texts: &Texts, options: Options<'_>) -> Result<Core, Refusal>
+fn open_with(alloc: Global, texts: &Texts, options: Options<'_>) -> Result<Debugger, Refusal>
     ensures answer { AnsweredUnless (IsWithoutMemory texts.now.program.items options.entry.query.now (history_in texts.now)) (IsOpened texts.now.program.items options.entry.query.now (history_in texts.now))
         (IsOpenRefusal texts.now.program.items options.entry.query.now (history_in texts.now)) result }
 {
@@ -73,17 +74,23 @@ fn debug<R: Wait + Files + Input + Print + Eprint + AllocGlobal>(
         Err(refusal) => return tell(rt, &refusal),
     };
     match open_with(rt.alloc(), &texts, options) {
-        Ok(core) => match &texts.schedule {
-            Some(schedule) => run_schedule(rt, core, schedule.as_slice()),
-            None => run_session(rt, core),
+        Ok(debugger) => match &texts.schedule {
+            Some(schedule) => {
+                let Debugger { core, spies: _ } = debugger;
+                run_schedule(rt, core, schedule.as_slice())
+            }
+            None => run_session(rt, debugger),
         },
         Err(refusal) => tell(rt, &refusal),
     }
 }
 
-// Runs the session on the core that was started.
-fn run_session<R: Wait + Input + Print + Eprint + AllocGlobal>(rt: &R, core: Core) -> Status {
-    match run_console(rt, core) {
+// Runs the session on what was started.
+fn run_session<R: Wait + Input + Print + Eprint + AllocGlobal>(
+    rt: &R,
+    debugger: Debugger,
+) -> Status {
+    match run_console(rt, debugger) {
         Ok(()) => Status::Done,
         Err(fault) => {
             let part = RefusedPart::Session;

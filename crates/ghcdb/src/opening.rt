@@ -1,27 +1,35 @@
-// The core with which a session begins: that of a program and a query, on which a history is loaded where there is one.
+// What a session begins with: the core of a program and a query, on which a history is loaded where there is one, and the predicates that are spied.
 ghost use Rattle.std.specs.Prelude.{◌≡◌, None, Some, option_map};
 ghost use Rattle.ghc_term.specs.Answered.{AnsweredUnless};
 ghost use Rattle.ghc_flat.specs.Flat.{IsQuery};
 ghost use Rattle.ghcdb.specs.Start.{IsNoMemoryFor};
+ghost use Rattle.ghc_records.specs.HistoryText.{IsLine};
+ghost use Rattle.ghc_records.specs.ChronicleText.{chronicle_heading};
 ghost use Rattle.ghcdb.specs.Opening.{IsHistoryRefused, IsOpened, IsOpenRefusal, IsWithoutMemory, OpensOn};
 
 use crate::refusal::Refusal;
 use crate::refused_part::RefusedPart;
 use crate::start::{Started, start};
-use ghc_core::Core;
-use ghc_records::{read_history, written_histories_are_read_again};
+use ghc_console::Debugger;
+use ghc_core::{Core, what_is_read_can_be_resumed};
+use ghc_records::{
+    is_chronicle, read_chronicle, read_history, written_histories_are_read_again,
+};
 use ghc_term::Fault;
+use ghc_trace::SpySet;
 use std::alloc::Global;
 
 /// The core of the program and the query that the texts say, on which the history that its text tells is loaded where one is
-/// given. The refusal is that of the program or the query, else that of the history's text, else that of its first step that is
-/// not possible; or want of memory. Time and memory grow with the texts, and with what the steps of the history do.
+/// given, of the version that its first line says; and the predicates that are spied, which a history of version 2 tells. The refusal
+/// is that of the program or the query, else that of the history's text, else that of its first step that is not possible or entry
+/// that is refused, else that of the first of its predicates that the program has not; or want of memory. Time and memory grow
+/// with the texts, and with what the steps and entries of the history do.
 pub fn open(
     alloc: Global,
     program: &[u8],
     query: &[u8],
     history: Option<&[u8]>,
-) -> Result<Core, Refusal>
+) -> Result<Debugger, Refusal>
     ensures answer { AnsweredUnless (IsWithoutMemory program.now query.now (option_map (λ text. text.now) history.entry)) (IsOpened program.now query.now (option_map (λ text. text.now) history.entry))
         (IsOpenRefusal program.now query.now (option_map (λ text. text.now) history.entry)) result }
 {
@@ -30,19 +38,19 @@ pub fn open(
         Err(refusal) => return Err(refusal),
     };
     match history {
-        None => fresh_core(alloc, started),
-        Some(text) => loaded_core(alloc, started, text),
+        None => fresh(alloc, started),
+        Some(text) => given_back(alloc, started, text),
     }
 }
 
-// The core before any step. Want of memory is told of the program.
-fn fresh_core(alloc: Global, started: Started) -> Result<Core, Refusal>
+// The core before any step, with no predicate spied. Want of memory is told of the program.
+fn fresh(alloc: Global, started: Started) -> Result<Debugger, Refusal>
     requires { IsQuery started.program started.query.goals }
-    ensures answer { AnsweredUnless (IsNoMemoryFor RefusedPart.Program) (λ core. OpensOn started None core.world) (λ _. ⊥) result }
+    ensures answer { AnsweredUnless (IsNoMemoryFor RefusedPart.Program) (λ debugger. OpensOn started None debugger.core.world debugger.spies) (λ _. ⊥) result }
 {
     let Started { program, query } = started;
     match Core::new(alloc, program, query) {
-        Ok(core) => Ok(core),
+        Ok(core) => Ok(Debugger::new(core, SpySet::new(alloc))),
         Err(_) => {
             let part = RefusedPart::Program;
             let fault = Fault::Memory;
@@ -51,21 +59,64 @@ fn fresh_core(alloc: Global, started: Started) -> Result<Core, Refusal>
     }
 }
 
-// The core on which the history is loaded. Each refusal is told of the history.
-fn loaded_core(alloc: Global, started: Started, text: &[u8]) -> Result<Core, Refusal>
+// What the text of a history gives back. Each refusal is told of the history.
+fn given_back(alloc: Global, started: Started, text: &[u8]) -> Result<Debugger, Refusal>
     requires { IsQuery started.program started.query.goals }
-    ensures answer { AnsweredUnless (IsNoMemoryFor RefusedPart.History) (λ core. OpensOn started (Some text.now) core.world) (IsHistoryRefused started (Some text.now)) result }
+    ensures answer { AnsweredUnless (IsNoMemoryFor RefusedPart.History) (λ debugger. OpensOn started (Some text.now) debugger.core.world debugger.spies) (IsHistoryRefused started (Some text.now)) result }
+{
+    if is_chronicle(text) {
+        return resumed(alloc, started, text);
+    }
+    loaded(alloc, started, text)
+}
+
+// The refusal of a history.
+fn refused(fault: Fault) -> Refusal
+    ensures part { result.part ≡ RefusedPart.History }
+    ensures fault { result.fault ≡ fault }
+{
+    let part = RefusedPart::History;
+    Refusal { part, fault }
+}
+
+// The core on which the history of version 1 is loaded, with no predicate spied.
+fn loaded(alloc: Global, started: Started, text: &[u8]) -> Result<Debugger, Refusal>
+    requires query { IsQuery started.program started.query.goals }
+    requires version { ¬ IsLine text.now 0 chronicle_heading }
+    ensures answer { AnsweredUnless (IsNoMemoryFor RefusedPart.History) (λ debugger. OpensOn started (Some text.now) debugger.core.world debugger.spies) (IsHistoryRefused started (Some text.now)) result }
 {
     // Called for its clause that a history which a text tells is of the form, which the proof cites.
     written_histories_are_read_again();
-    let part = RefusedPart::History;
     let history = match read_history(alloc, text) {
         Ok(history) => history,
-        Err(fault) => return Err(Refusal { part, fault }),
+        Err(fault) => return Err(refused(fault)),
     };
     let Started { program, query } = started;
     match Core::load(alloc, program, query, &history) {
-        Ok(core) => Ok(core),
-        Err(fault) => Err(Refusal { part, fault }),
+        Ok(core) => Ok(Debugger::new(core, SpySet::new(alloc))),
+        Err(fault) => Err(refused(fault)),
+    }
+}
+
+// The core on which the history of version 2 is carried out, with its predicates spied.
+fn resumed(alloc: Global, started: Started, text: &[u8]) -> Result<Debugger, Refusal>
+    requires query { IsQuery started.program started.query.goals }
+    requires version { IsLine text.now 0 chronicle_heading }
+    ensures answer { AnsweredUnless (IsNoMemoryFor RefusedPart.History) (λ debugger. OpensOn started (Some text.now) debugger.core.world debugger.spies) (IsHistoryRefused started (Some text.now)) result }
+{
+    // Called for its clause that a chronicle which a text tells can be carried out, which the proof cites.
+    what_is_read_can_be_resumed();
+    let chronicle = match read_chronicle(alloc, text) {
+        Ok(chronicle) => chronicle,
+        Err(fault) => return Err(refused(fault)),
+    };
+    let Started { program, query } = started;
+    let core = match Core::resume(alloc, program, query, &chronicle) {
+        Ok(core) => core,
+        Err(fault) => return Err(refused(fault)),
+    };
+    match SpySet::of(alloc, chronicle.spies()) {
+        Ok(spies) => Ok(Debugger::new(core, spies)),
+        Err(_) => Err(refused(Fault::Memory)),
     }
 }

@@ -45,7 +45,7 @@ fn ends(alloc: Global, program: &str, query: &str, steps: usize, stop: Stop) -> 
 fn spied(alloc: Global, core: &Core) -> Option<SpySet> {
     let mut spies = SpySet::new(alloc);
     match core.goals().get(FIRST)?.view() {
-        GoalView::Call(name, arguments) => spies.add(name, arguments.len()).ok()?,
+        GoalView::Call(name, arguments) => spies.add(name, arguments.len() as u32).ok()?,
         _ => return None,
     }
     Some(spies)

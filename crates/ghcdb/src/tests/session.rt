@@ -4,6 +4,7 @@ ghost use Rattle.std.specs.Prelude.{◌≡◌, ◌<◌};
 use crate::tests::cores::core_of;
 use ghc_console::{Debugger, Device, Script, session};
 use ghc_core::Core;
+use ghc_trace::SpySet;
 use std::alloc::Global;
 use std::marker::Brand;
 use std::sync::Wait;
@@ -19,7 +20,7 @@ type Served = (Option<usize>, usize, bool);
 
 // Runs a session, and says how many steps the core has then, and whether it was broken off.
 fn serve<R: Wait, D: Device>(rt: &R, alloc: Global, core: Core, device: &mut D) -> (usize, bool) {
-    let (debugger, ended) = session(rt, alloc, Debugger::new(alloc, core), device);
+    let (debugger, ended) = session(rt, alloc, Debugger::new(core, SpySet::new(alloc)), device);
     (debugger.core.records().len(), ended.is_err())
 }
 

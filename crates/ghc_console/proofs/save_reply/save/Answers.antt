@@ -1,30 +1,17 @@
-use Rattle.std.proofs.Common.{◌≡◌, ℕ, ◌++◌, List, [], Result, Ok, Err, is_ok, if◌then◌else◌, OnOk, inr, inl, sym, subst, ap, ◌∙◌, string_bytes}
-use Rattle.ghc_term.specs.declared.fault.Fault.TheVariants as fault
-use Rattle.ghc_term.specs.declared.limit.Limit.TheVariants as limit
-use Rattle.ghc_records.specs.HistoryText.{history_text}
-use Rattle.ghc_core.specs.World.{World}
-use Rattle.ghc_core.specs.Load.{AskForGoals, history_of}
-use Rattle.ghc_console.specs.TextLines.{refusal}
-use Rattle.ghc_console.specs.Replies.{RepliesToSave, tells_history, has_asked}
-use Rattle.ghc_console.proofs.StepReplies.{if_ok}
+use Rattle.std.proofs.Common.{◌≡◌, [], ◌++◌, ◌∙◌, ℕ, List, is_ok, if◌then◌else◌, Result, Ok, Err, OnOk, string_bytes}
+use Rattle.ghc_records.specs.Chronicle.{chronicle_of}
+use Rattle.ghc_records.specs.ChronicleText.{chronicle_text}
+use Rattle.ghc_trace.specs.Spies.{spies_in_order}
+use Rattle.ghc_console.specs.Replies.{saved_text}
 use Rattle.ghc_console.proofs.save_reply.save.Goals as goal
 
-pub returns-in-Err : goal.returns-in-Err
-returns-in-Err c = if_ok c.refused.result c.refused.ensures.text c.refused.ensures.memory (λ _ told kept.
-    elim c.in-Err.ensures.fault [
-      | inl m ↦ absurd (kept m)
-      | inr q ↦ subst (RepliesToSave c.args.core.now.world) (sym (told ∙ ap refusal q.0)) (has_asked q.1)
-    ])
-
--- a history that was added to no text is told
-told : {T E : Type 0} (r : Result T E) (w : World) (old new text : List ℕ) → ¬ AskForGoals w.kept → new ≡ (if is_ok r then old ++ text else old) → old ≡ [] → text ≡ history_text (history_of w)
-    → OnOk r (RepliesToSave w new)
-told (Ok t) w old new text none e empty is = subst (RepliesToSave w) (sym (e ∙ (λ i. empty i ++ is i))) (tells_history none)
-told (Err f) w old new text none e empty is = tt
+-- a text that was added to none is told
+told : {T E : Type 0} (r : Result T E) (old new text saved : List ℕ) → new ≡ (if is_ok r then old ++ text else old) → old ≡ [] → text ≡ saved → OnOk r (new ≡ saved)
+told (Ok t) old new text saved e empty is = e ∙ (λ i. empty i ++ is i)
+told (Err f) old new text saved e empty is = tt
 
 pub returns : goal.returns
 returns c =
-    let w = c.args.core.now.world in
-    let none : ¬ AskForGoals w.kept = λ a. (let clash : Ok c.in-Ok.history ≡ Err (fault.Limit limit.Version) = sym c.in-Ok.is ∙ c.history.ensures.asked a in cc) in
-    told c.push_str.result w (string_bytes c.args.reply.now) (string_bytes c.push_str.new.self) c.as_str.result.now none c.push_str.ensures.bytes c.requires
-    (c.as_str.ensures.value ∙ c.in_ok-text.ensures.text ∙ ap history_text c.in-Ok.ensures.history)
+    let listed : c.as_slice.result.now ≡ spies_in_order c.args.spies.now = c.as_slice.ensures.value ∙ c.in_ok-listed.ensures in
+    told c.push_str.result (string_bytes c.args.reply.now) (string_bytes c.push_str.new.self) c.as_str.result.now (saved_text c.args.core.now.world c.args.spies.now) c.push_str.ensures.bytes c.requires
+    (c.as_str.ensures.value ∙ c.in_ok-text.ensures.text ∙ (λ i. chronicle_text (chronicle_of (c.opening.ensures i) (c.journal.ensures i) (listed i) (c.next.ensures i))))

@@ -1,0 +1,6 @@
+use Rattle.std.proofs.Common.{◌≡◌, take}
+use Rattle.ghc_trace.specs.Spies.{spied_of}
+use Rattle.ghc_trace.proofs.spies.SpySet.of.Given as goal
+
+abbrev pub invariant-loop-predicate : goal.invariant-loop-predicate
+invariant-loop-predicate l = l.spies ≡ spied_of (take l.predicate-index l.predicates)
