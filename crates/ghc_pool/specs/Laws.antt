@@ -1,5 +1,5 @@
 -- Laws of runs.
-use Rattle.std.specs.Prelude.{◌≡◌, ◌+◌, List, ◌++◌, length, map, Option, Some}
+use Rattle.std.specs.Prelude.{◌≡◌, ℕ, ◌+◌, List, ◌++◌, length, map, Option, Some}
 use Rattle.ghc_term.specs.Lists.{In}
 use Rattle.ghc_term.specs.declared.goal_name.GoalName.{GoalName}
 use Rattle.ghc_records.specs.Record.{Record}
@@ -18,10 +18,10 @@ pub record AddsAtTheEnd (w : World) (steps : List Record) (v : World) : Type 0 w
   pub opening : v.opening ≡ w.opening
 
 abbrev pub RunsAddAtTheEnd : Type 0
-RunsAddAtTheEnd = (spies : Spies) (root : Option GoalName) (w v : World) (steps : List Record) → Takes spies root w steps v → AddsAtTheEnd w steps v
+RunsAddAtTheEnd = (workers : ℕ) (spies : Spies) (root : Option GoalName) (w v : World) (steps : List Record) → Takes workers spies root w steps v → AddsAtTheEnd w steps v
 
 -- Each step of a run is a reduction of a goal that is in question by the record that is left.
 abbrev pub RunsReduce : Type 0
 RunsReduce =
-    (spies : Spies) (root : Option GoalName) (w v : World) (steps : List Record) → Takes spies root w steps v
+    (workers : ℕ) (spies : Spies) (root : Option GoalName) (w v : World) (steps : List Record) → Takes workers spies root w steps v
     → (r : Record) → In r steps → IsReduction r.act × ((g : GoalName) × (r.goal ≡ Some g) × IsInQuestion root v.kept g)

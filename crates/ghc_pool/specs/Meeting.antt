@@ -21,7 +21,7 @@ TookInQuestion root kept since = (1 ≤ since) × ((r : Record) → In r kept �
 
 -- If a step was found, a run may take it.
 abbrev pub IsFound : Spies → Option GoalName → World → Met → Type 0
-IsFound spies root w (step r) = IsRunStep spies root w r
+IsFound spies root w (step r) = IsRunStep 1 spies root w r
 IsFound spies root w stop = Unit {0}
 IsFound spies root w passed = Unit {0}
 

@@ -8,12 +8,15 @@ use Rattle.ghc_records.specs.Record.{Record}
 use Rattle.ghc_depend.specs.Depend.{Descends}
 use Rattle.ghc_hooks.specs.Status.{ready, failed}
 use Rattle.ghc_hooks.specs.Notes.{NotesByGoal, IsUntried}
-use Rattle.ghc_core.specs.World.{World, IsFull, with_step}
-use Rattle.ghc_core.specs.Proposes.{IsStepOf}
+use Rattle.ghc_fire.specs.Attempt.{proposes}
+use Rattle.ghc_core.specs.World.{Proposal, World, IsFull, with_step}
+use Rattle.ghc_core.specs.Proposes.{AttemptAnswers, IsCommitOf, IsStepOf}
 use Rattle.ghc_trace.specs.News.{Stands}
 use Rattle.ghc_trace.specs.Spies.{Spies, IsSpied}
 use Rattle.ghc_pool.specs.declared.stop.Stop.{Stop}
 use Rattle.ghc_pool.specs.declared.stop.Report.{Report}
+use Rattle.ghc_pool.specs.declared.mode.Mode.{Mode}
+use Rattle.ghc_pool.specs.declared.mode.Mode.TheVariants.{Leap, Skip, Settle}
 
 -- With these steps kept, the goal named g is in question: any goal is, or where a root is named, those that descend from it.
 abbrev pub IsInQuestion : Option GoalName → List Record → GoalName → Type 0
@@ -24,18 +27,27 @@ IsInQuestion (Some root) kept g = Descends kept root g
 abbrev pub IsSpiedIn : Spies → World → GoalName → Type 0
 IsSpiedIn spies w g = (b : Goal) × (finite.get w.state.goals g ≡ Some b) × IsSpied spies b
 
--- A run may take the step in the world w: it reduces a goal in question that is no call of a spied predicate, a call by the least clause that accepts it.
-pub record IsRunStep (spies : Spies) (root : Option GoalName) (w : World) (r : Record) : Type 0 where
+-- In the world w this step of the goal named g was proposed: by the least clause that accepts it, if it is a call.
+abbrev pub Proposes : World → GoalName → Proposal → Type 0
+Proposes w g p = (p.goal ≡ g) × AttemptAnswers w g None (proposes p.act p.effect)
+
+-- The record is that of a step of the goal named g which was proposed in some world of the same opening, and holds in the world w as its next step.
+abbrev pub IsHeldStep : World → GoalName → Record → Type 0
+IsHeldStep w g r = (p : Proposal) × ((before : World) × (before.opening ≡ w.opening) × Proposes before g p) × IsCommitOf w p r
+
+-- A run by so many workers may take the step in the world w: it reduces a goal in question that is no call of a spied predicate, as it was proposed; by one worker, as it is proposed in w: a call by the least clause that accepts it.
+pub record IsRunStep (workers : ℕ) (spies : Spies) (root : Option GoalName) (w : World) (r : Record) : Type 0 where
   pub goal : GoalName
-  pub taken : IsStepOf w goal None r
+  pub taken : IsHeldStep w goal r
+  pub alone : workers ≡ 1 → IsStepOf w goal None r
   pub asked : IsInQuestion root w.kept goal
   pub unspied : ¬ IsSpiedIn spies w goal
 
--- Takes spies root w steps v: from the world w a run took these steps, one after another, which left the world v.
-pub data Takes (spies : Spies) (root : Option GoalName) (w : World) : List Record → World → Type 0 where
-  at_start : Takes spies root w [] w
-  and_step : {steps : List Record} {v : World} (r : Record) → Takes spies root w steps v → IsRunStep spies root v r
-      → Takes spies root w (steps ++ r ∷ []) (with_step r v)
+-- Takes workers spies root w steps v: from the world w a run by so many workers took these steps, one after another, which left the world v.
+pub data Takes (workers : ℕ) (spies : Spies) (root : Option GoalName) (w : World) : List Record → World → Type 0 where
+  at_start : Takes workers spies root w [] w
+  and_step : {steps : List Record} {v : World} (r : Record) → Takes workers spies root w steps v → IsRunStep workers spies root v r
+      → Takes workers spies root w (steps ++ r ∷ []) (with_step r v)
 
 -- The goal named g is in question, and has failed.
 abbrev pub HasFailed : Option GoalName → World → GoalName → Type 0
@@ -72,10 +84,25 @@ pub data Holds (Starved : Type 0) (spies : Spies) (root : Option GoalName) (limi
   is_quiet : ¬ IsFull w → IsQuiet root w notes → Holds Starved spies root limit taken w notes Stop.Quiet
   all_taken : CanGoOn spies root w → taken ≡ limit → Holds Starved spies root limit taken w notes Stop.Limit
 
--- From the world w a run left the world v, with these notes: it took as many steps as it reports, at most the limit, and the reason that it reports holds of what is left.
-pub record Runs (Starved : Type 0) (spies : Spies) (root : Option GoalName) (limit : ℕ) (w v : World) (notes : NotesByGoal) (report : Report) : Type 0 where
+-- From the world w a run by so many workers left the world v, with these notes: it took as many steps as it reports, at most the limit, and the reason that it reports holds of what is left.
+pub record Runs (Starved : Type 0) (workers : ℕ) (spies : Spies) (root : Option GoalName) (limit : ℕ) (w v : World) (notes : NotesByGoal) (report : Report) : Type 0 where
   pub steps : List Record
-  pub taken : Takes spies root w steps v
+  pub taken : Takes workers spies root w steps v
   pub count : report.added ≡ length steps
   pub few : report.added ≤ limit
   pub reason : Holds Starved spies root limit report.added v notes report.stop
+
+-- Of the world w, with these notes, no goal is untried; or memory was refused.
+abbrev pub IsSettled : Type 0 → World → NotesByGoal → Stop → Type 0
+IsSettled Starved w notes Stop.Quiet = (g : GoalName) → ¬ IsUntried w.state.goals notes g
+IsSettled Starved w notes Stop.Memory = Starved
+IsSettled Starved w notes (Stop.Spied g) = ⊥
+IsSettled Starved w notes (Stop.Clash g) = ⊥
+IsSettled Starved w notes Stop.Limit = ⊥
+IsSettled Starved w notes Stop.Full = ⊥
+
+-- What a run in this mode leaves: steps are taken, of any goals or of those that descend from the root; or the goals are tried, and the world stays.
+abbrev pub RunsIn : Mode → Type 0 → ℕ → Spies → World → World → NotesByGoal → Report → Type 0
+RunsIn (Leap limit) Starved workers spies w v notes report = Runs Starved workers spies None limit w v notes report
+RunsIn (Skip root limit) Starved workers spies w v notes report = Runs Starved workers spies (Some root) limit w v notes report
+RunsIn Settle Starved workers spies w v notes report = (v ≡ w) × (report.added ≡ 0) × IsSettled Starved v notes report.stop
