@@ -6,19 +6,25 @@ use Rattle.ghcdb.proofs.opening.loaded.Goals as goal
 -- the text of the history was refused
 pub returns-in-Err : goal.returns-in-Err
 returns-in-Err c = record {
-  answer = (tt, told_of_history c.args.started c.args.text.now c.refused.result c.in-Err.fault c.refused.ensures.part c.refused.ensures.fault (elim c.in-Err.ensures.answer.1 [
-    | inl m ↦ inl m
-    | inr h ↦ inr (of_text c.requires.version h)
-  ]));
+  answer = (
+    tt,
+    told_of_history c.args.started c.args.text.now c.refused.result c.in-Err.fault c.refused.ensures.part c.refused.ensures.fault (elim c.in-Err.ensures.answer.1 [
+      | inl m ↦ inl m
+      | inr h ↦ inr (of_text c.requires.version h)
+    ]),
+  );
 }
 
 -- a step of it was refused
 pub returns-in-Err-load : goal.returns-in-Err-load
 returns-in-Err-load c = record {
-  answer = (tt, told_of_history c.args.started c.args.text.now c.refused-in-Err-load.result c.in-Err-load.fault c.refused-in-Err-load.ensures.part c.refused-in-Err-load.ensures.fault (elim c.in-Err-load.ensures.answer.1 [
-    | inl m ↦ inl m
-    | inr h ↦ inr (of_step c.in-Ok.history c.in-Ok.ensures.answer.0 h)
-  ]));
+  answer = (
+    tt,
+    told_of_history c.args.started c.args.text.now c.refused-in-Err-load.result c.in-Err-load.fault c.refused-in-Err-load.ensures.part c.refused-in-Err-load.ensures.fault (elim c.in-Err-load.ensures.answer.1 [
+      | inl m ↦ inl m
+      | inr h ↦ inr (of_step c.in-Ok.history c.in-Ok.ensures.answer.0 h)
+    ]),
+  );
 }
 
 pub returns-in-Ok-load : goal.returns-in-Ok-load

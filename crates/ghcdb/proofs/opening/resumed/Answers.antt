@@ -7,15 +7,17 @@ use Rattle.ghcdb.proofs.opening.resumed.Goals as goal
 -- the text of the chronicle was refused
 pub returns-in-Err : goal.returns-in-Err
 returns-in-Err c = record {
-  answer = (tt, told_of_history c.args.started c.args.text.now c.refused.result c.in-Err.fault c.refused.ensures.part c.refused.ensures.fault (elim c.in-Err.ensures.1 [
-    | inl m ↦ inl m
-    | inr h ↦ inr (of_chronicle c.requires.version h)
-  ]));
+  answer = (
+    tt,
+    told_of_history c.args.started c.args.text.now c.refused.result c.in-Err.fault c.refused.ensures.part c.refused.ensures.fault (elim c.in-Err.ensures.1 [
+      | inl m ↦ inl m
+      | inr h ↦ inr (of_chronicle c.requires.version h)
+    ]),
+  );
 }
 
 pub resume-requires-clause-opening : goal.resume-requires-clause-opening
 resume-requires-clause-opening c = (c.what_is_read_can_be_resumed.ensures c.args.text.now c.in-Ok.chronicle c.in-Ok.ensures.0).opening
-
 
 pub resume-requires-clause-entries : goal.resume-requires-clause-entries
 resume-requires-clause-entries c = (c.what_is_read_can_be_resumed.ensures c.args.text.now c.in-Ok.chronicle c.in-Ok.ensures.0).entries
@@ -26,10 +28,13 @@ resume-requires-clause-spies c = (c.what_is_read_can_be_resumed.ensures c.args.t
 -- a line of it was refused as it was carried out
 pub returns-in-Err-resume : goal.returns-in-Err-resume
 returns-in-Err-resume c = record {
-  answer = (tt, told_of_history c.args.started c.args.text.now c.refused-in-Err-resume.result c.in-Err-resume.fault c.refused-in-Err-resume.ensures.part c.refused-in-Err-resume.ensures.fault (elim c.in-Err-resume.ensures.answer.1 [
-    | inl m ↦ inl m
-    | inr h ↦ inr (of_entry c.in-Ok.chronicle c.in-Ok.ensures.0 h)
-  ]));
+  answer = (
+    tt,
+    told_of_history c.args.started c.args.text.now c.refused-in-Err-resume.result c.in-Err-resume.fault c.refused-in-Err-resume.ensures.part c.refused-in-Err-resume.ensures.fault (elim c.in-Err-resume.ensures.answer.1 [
+      | inl m ↦ inl m
+      | inr h ↦ inr (of_entry c.in-Ok.chronicle c.in-Ok.ensures.0 h)
+    ]),
+  );
 }
 
 -- no memory for the spies
