@@ -62,3 +62,5 @@ pub mod WrittenChronicles
 pub mod ReplacedGoals
 pub mod ToldAsks
 pub mod ToldChronicles
+pub mod CutSections
+pub mod CutChronicles

@@ -1,5 +1,5 @@
 -- Laws of chronicles as texts.
-use Rattle.std.specs.Prelude.{◌≡◌, ◌⊎◌, ℕ, ◌≤◌, All, List, [], length, None}
+use Rattle.std.specs.Prelude.{◌≡◌, ◌≢◌, ◌⊎◌, ℕ, ◌+◌, ◌≤◌, All, List, [], ◌++◌, length, None}
 use Rattle.ghc_term.specs.Goal.{Goal}
 use Rattle.ghc_term.specs.InputTerm.{IsNameText}
 use Rattle.ghc_term.specs.Lists.{In}
@@ -13,7 +13,7 @@ use Rattle.ghc_records.specs.declared.predicate.Predicate.{Predicate}
 use Rattle.ghc_records.specs.Numbers.{kept_limit}
 use Rattle.ghc_records.specs.Journal.{Step, Entry, took, undid, rolled, redid, reordered}
 use Rattle.ghc_records.specs.HistoryText.{greatest_number}
-use Rattle.ghc_records.specs.HistoryLaws.{IsOfAGoal}
+use Rattle.ghc_records.specs.HistoryLaws.{IsOfAGoal, line_feeds}
 use Rattle.ghc_records.specs.Chronicle.{Chronicle, AreBelow, AreInTurn, entry_limit, next_behind, spy_limit}
 use Rattle.ghc_records.specs.EntryText.{AreNewInOrder, IsNamed}
 use Rattle.ghc_records.specs.ChronicleText.{IsNext, TellsChronicle, IsFirstWrongInChronicle, chronicle_text}
@@ -70,3 +70,8 @@ pub record WrittenChroniclesAreReadAgain : Type 0 where
   pub written : (c : Chronicle) → CanBeTold c → TellsChronicle (chronicle_text c) c
   pub only : (text : List ℕ) (c : Chronicle) → TellsChronicle text c → CanBeTold c
   pub again : (text : List ℕ) (c : Chronicle) → TellsChronicle text c → TellsChronicle (chronicle_text c) c
+
+-- A text that is cut off anywhere tells no chronicle: its first wrong line is the one behind its last line feed.
+abbrev pub CutChroniclesAreRefused : Type 0
+CutChroniclesAreRefused =
+    (text front back : List ℕ) (c : Chronicle) → TellsChronicle text c → text ≡ front ++ back → back ≢ [] → IsFirstWrongInChronicle front (line_feeds front + 1)

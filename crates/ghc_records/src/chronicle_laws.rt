@@ -1,5 +1,5 @@
 // Laws of chronicles as texts.
-ghost use Rattle.ghc_records.specs.ChronicleLaws.{TextsTellOneChronicle, WrittenChroniclesAreReadAgain};
+ghost use Rattle.ghc_records.specs.ChronicleLaws.{CutChroniclesAreRefused, TextsTellOneChronicle, WrittenChroniclesAreReadAgain};
 
 use ghc_reader::{
     printed_goals_are_read_again, printed_terms_are_read_again, read_body_is_exact,
@@ -24,3 +24,8 @@ pub fn written_chronicles_are_read_again()
     printed_terms_are_read_again();
     printed_goals_are_read_again();
 }
+
+/// A text of a chronicle that is cut off anywhere is refused, with the line behind the last line feed that is left.
+pub fn cut_chronicles_are_refused()
+    ensures { CutChroniclesAreRefused }
+{}
