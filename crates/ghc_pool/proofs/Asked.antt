@@ -27,8 +27,8 @@ none_since root w stands = (
 )
 
 -- with one more step of the run
-pub one_since : (spies : Spies) (root : Option GoalName) (w : World) (r : Record) (since : ℕ) → IsRunStep spies root w r → TookInQuestion root w.kept since → TookInQuestion root (w.kept ++ r ∷ []) since
-one_since spies root w r since s before = (
+pub one_since : (workers : ℕ) (spies : Spies) (root : Option GoalName) (w : World) (r : Record) (since : ℕ) → IsRunStep workers spies root w r → TookInQuestion root w.kept since → TookInQuestion root (w.kept ++ r ∷ []) since
+one_since workers spies root w r since s before = (
   before.0,
   λ q i least. elim (in_either w.kept (r ∷ []) q i) [
     | inl old ↦ let t = before.1 q old least in (t.0, t.1, still_in_question root w.kept (r ∷ []) t.0 t.2)

@@ -1,5 +1,5 @@
 -- What a run adds to the record and the journal.
-use Rattle.std.proofs.Common.{◌≡◌, List, [], ◌∷◌, ◌++◌, map, refl, sym, ap, ◌∙◌, subst, inl, inr, arith, append_assoc, append-nil, length-append, Some, None}
+use Rattle.std.proofs.Common.{◌≡◌, ℕ, List, [], ◌∷◌, ◌++◌, map, refl, sym, ap, ◌∙◌, subst, inl, inr, arith, append_assoc, append-nil, length-append, Some, None}
 use Rattle.std.proofs.lemmas.List.{map-append}
 use Rattle.std.specs.Prelude.{Option}
 use Rattle.ghc_term.specs.declared.goal_name.GoalName.{GoalName}
@@ -18,10 +18,10 @@ abbrev entry : Record → Entry
 entry r = took (step_of r)
 
 pub adds_at_the_end : RunsAddAtTheEnd
-adds_at_the_end spies root w v steps at_start =
+adds_at_the_end workers spies root w v steps at_start =
     record { kept = sym (append-nil w.kept); journal = sym (append-nil w.journal); next = omega arith; shelf = refl; opening = refl }
-adds_at_the_end spies root w v steps (and_step {steps = front} {v = u} r t s) =
-    let before : AddsAtTheEnd w front u = adds_at_the_end spies root w u front t in
+adds_at_the_end workers spies root w v steps (and_step {steps = front} {v = u} r t s) =
+    let before : AddsAtTheEnd w front u = adds_at_the_end workers spies root w u front t in
     record {
       kept = ap (λ l. l ++ r ∷ []) before.kept ∙ append_assoc w.kept front (r ∷ []);
       journal = ap (λ l. l ++ entry r ∷ []) before.journal ∙ append_assoc w.journal (map entry front) (entry r ∷ []) ∙ ap (λ l. w.journal ++ l) (sym (map-append entry front (r ∷ [])));
@@ -39,17 +39,17 @@ pub still_in_question : (root : Option GoalName) (kept more : List Record) (g : 
 still_in_question None kept more g q = tt
 still_in_question (Some named) kept more g q = grows more q
 
-reduces_one : {spies : Spies} {root : Option GoalName} {w : World} {r : Record} → IsRunStep spies root w r → IsReduction r.act
-reduces_one s = let commit = s.taken.3 in subst IsReduction (sym commit.3) commit.0.1
+reduces_one : {workers : ℕ} {spies : Spies} {root : Option GoalName} {w : World} {r : Record} → IsRunStep workers spies root w r → IsReduction r.act
+reduces_one s = let commit = s.taken.2 in subst IsReduction (sym commit.3) commit.0.1
 
-pub named_one : {spies : Spies} {root : Option GoalName} {w : World} {r : Record} → (s : IsRunStep spies root w r) → r.goal ≡ Some s.goal
-named_one s = s.taken.3.2 ∙ ap Some s.taken.1
+pub named_one : {workers : ℕ} {spies : Spies} {root : Option GoalName} {w : World} {r : Record} → (s : IsRunStep workers spies root w r) → r.goal ≡ Some s.goal
+named_one s = s.taken.2.2 ∙ ap Some s.taken.1.2.0
 
 pub reduces : RunsReduce
-reduces spies root w v steps at_start r i = absurd i
-reduces spies root w v steps (and_step {steps = front} {v = u} q t s) r i =
+reduces workers spies root w v steps at_start r i = absurd i
+reduces workers spies root w v steps (and_step {steps = front} {v = u} q t s) r i =
     elim (in_either front (q ∷ []) r i) [
-      | inl old ↦ let before = reduces spies root w u front t r old in (before.0, (before.1.0, before.1.1, still_in_question root u.kept (q ∷ []) before.1.0 before.1.2))
+      | inl old ↦ let before = reduces workers spies root w u front t r old in (before.0, (before.1.0, before.1.1, still_in_question root u.kept (q ∷ []) before.1.0 before.1.2))
       | inr new ↦ elim new [
         | inl is ↦ (
           subst (λ (z : Record). IsReduction z.act) (sym is) (reduces_one s),

@@ -14,4 +14,8 @@ pub mod Openings
 pub mod Drained
 pub mod Jobs
 pub mod Telling
+pub mod Scopes
+pub mod SameCalls
+pub mod RoundPlaces
+pub mod RoundTakes
 pub mod Crosses

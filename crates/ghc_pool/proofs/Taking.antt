@@ -1,17 +1,31 @@
 -- Steps of runs, one after another.
-use Rattle.std.proofs.Common.{◌≡◌, inl, inr, List, [], ◌∷◌, ◌++◌, sym, subst, arith, append_assoc, append-nil}
+use Rattle.std.proofs.Common.{ℕ, inl, inr, List, [], ◌∷◌, ◌++◌, refl, sym, subst, arith, append_assoc, append-nil, None}
 use Rattle.std.specs.Prelude.{Option}
 use Rattle.ghc_term.specs.declared.goal_name.GoalName.{GoalName}
 use Rattle.ghc_records.specs.Record.{Record}
 use Rattle.ghc_core.specs.World.{World, IsFull, HasRoom, with_step}
+use Rattle.ghc_core.specs.Proposes.{IsStepOf}
 use Rattle.ghc_trace.specs.Spies.{Spies}
-use Rattle.ghc_pool.specs.Runs.{Takes, at_start, and_step}
+use Rattle.ghc_pool.specs.Runs.{IsInQuestion, IsSpiedIn, IsRunStep, Takes, at_start, and_step}
 
 -- steps behind steps
-pub takes_more : (spies : Spies) (root : Option GoalName) (w v u : World) (first more : List Record) → Takes spies root w first v → Takes spies root v more u → Takes spies root w (first ++ more) u
-takes_more spies root w v u first more a at_start = subst (λ l. Takes spies root w l v) (sym (append-nil first)) a
-takes_more spies root w v u first more a (and_step {steps = front} {v = t} r b s) =
-    subst (λ l. Takes spies root w l (with_step r t)) (append_assoc first front (r ∷ [])) (and_step r (takes_more spies root w v t first front a b) s)
+pub takes_more : (workers : ℕ) (spies : Spies) (root : Option GoalName) (w v u : World) (first more : List Record) → Takes workers spies root w first v → Takes workers spies root v more u → Takes workers spies root w (first ++ more) u
+takes_more workers spies root w v u first more a at_start = subst (λ l. Takes workers spies root w l v) (sym (append-nil first)) a
+takes_more workers spies root w v u first more a (and_step {steps = front} {v = t} r b s) =
+    subst (λ l. Takes workers spies root w l (with_step r t)) (append_assoc first front (r ∷ [])) (and_step r (takes_more workers spies root w v t first front a b) s)
+
+-- a step of one worker: it is proposed in the very world
+pub step_of_one : (spies : Spies) (root : Option GoalName) (w : World) (g : GoalName) (r : Record) → IsStepOf w g None r → IsInQuestion root w.kept g → ¬ IsSpiedIn spies w g → IsRunStep 1 spies root w r
+step_of_one spies root w g r s asked unspied = record { goal = g; taken = (s.0, (w, refl, (s.1, s.2)), s.3); alone = λ _. s; asked = asked; unspied = unspied }
+
+-- a step of one worker is one of several
+step_of_more : (workers : ℕ) (spies : Spies) (root : Option GoalName) (w : World) (r : Record) → IsRunStep 1 spies root w r → IsRunStep workers spies root w r
+step_of_more workers spies root w r s = record { goal = s.goal; taken = s.taken; alone = λ _. s.alone refl; asked = s.asked; unspied = s.unspied }
+
+-- what one worker takes several may take
+pub more_workers : (workers : ℕ) (spies : Spies) (root : Option GoalName) (w v : World) (steps : List Record) → Takes 1 spies root w steps v → Takes workers spies root w steps v
+more_workers workers spies root w v steps at_start = at_start
+more_workers workers spies root w v steps (and_step {steps = front} {v = t} r b s) = and_step r (more_workers workers spies root w t front b) (step_of_more workers spies root t r s)
 
 -- where a new step has room the world is not full
 pub not_full : (w : World) → HasRoom w → ¬ IsFull w

@@ -1,10 +1,9 @@
 -- What is told of a pass, when the pass goes on.
-use Rattle.std.proofs.Common.{◌≡◌, ◌⊎◌, ◌≤◌, ◌<◌, ◌++◌, ◌∙◌, ℕ, suc, List, [], ◌∷◌, length, drop, Bool, true, false, Option, Some, None, Ok, refl, sym, ap, subst, inl, inr, arith, append-nil, append_assoc, length-append}
+use Rattle.std.proofs.Common.{◌≡◌, ◌≤◌, ◌<◌, ◌++◌, ◌∙◌, ℕ, suc, List, [], ◌∷◌, length, drop, Bool, true, false, Option, Some, None, Ok, refl, sym, ap, subst, inl, inr, arith, append-nil, append_assoc, length-append}
 use Rattle.std.specs.Prelude.{MatchBool}
 use base.Stored.{Gv}
 use mathlib.Core.List.{IsPrefix}
 use lib.ListN.{get_or}
-use Rattle.ghc_term.specs.Lists.{In}
 use Rattle.ghc_term.proofs.ListsLemmas.{in_more, in_last}
 use Rattle.ghc_term.specs.declared.goal_name.GoalName.{GoalName}
 use Rattle.ghc_term.specs.Goal.{Goal}
@@ -28,13 +27,14 @@ use Rattle.ghc_pool.specs.declared.answer.Answer.TheVariants.{Submitted, Noted, 
 use Rattle.ghc_pool.specs.declared.answer.RoundStop.{RoundStop}
 use Rattle.ghc_pool.specs.declared.answer.RoundStop.TheVariants.{Memory, Limit, Full, Spied, Clash}
 use Rattle.ghc_pool.specs.declared.craft.Decided.{Decided}
+use Rattle.ghc_pool.specs.declared.scope.Scope.{Scope}
 use Rattle.ghc_pool.specs.declared.rounds.worker.Worker.{Worker}
 use Rattle.ghc_pool.specs.Answers.{Taken, one_if, IsReason}
 use Rattle.ghc_pool.specs.Workers.{Work, work_of, works}
 use Rattle.ghc_pool.specs.Gathered.{AreTold}
 use Rattle.ghc_pool.specs.Runs.{IsSpiedIn}
 use Rattle.ghc_pool.specs.Plans.{IsSubmitStop, IsSettlingStop, IsNoteStop, GoesOnWithout, IsDecidedAs}
-use Rattle.ghc_pool.specs.Told.{IsSpiedGoal, IsStarvedGoal, IsUnspiedStep, IsNotedFor, IsAnswerOf, AreAnswers, places_if, places_in, step_places, IsPassAfter, IsStarved, AreFedAnswers, IsAskedBy, Asks}
+use Rattle.ghc_pool.specs.Told.{IsInScope, StandsIn, IsSpiedGoal, IsStarvedGoal, IsUnspiedStep, IsNotedFor, IsAnswerOf, AreAnswers, places_if, places_in, step_places, IsPassAfter, IsStarved, AreFedAnswers, IsAskedBy, Asks}
 
 -- an answer is a receipt in what is known now
 pub receipt_of_answer : (Starved : Type 0) (old new : List Item) (hands : Hands) (e : events.Event) (r : Receipt) → IsAnswered Starved old new hands e r → IsReceipt Starved new hands e r
@@ -49,33 +49,43 @@ pub receipt_later : (Starved : Type 0) (items longer : List Item) (hands : Hands
 receipt_later S items longer hands e r p (IsReceipt.accepted front entry is begins) = IsReceipt.accepted front entry is (begins_after (front ++ entered entry ∷ []) items longer begins p)
 receipt_later S items longer hands e r p (IsReceipt.told front is begins) = IsReceipt.told front is (begins_after front items longer begins p)
 
+-- what stands there stays where more is known
+pub stands_later : (items longer : List Item) (p : Proposal) (r : given.Receipt Reply) → IsPrefix items longer → StandsIn items p r → StandsIn longer p r
+stands_later items longer p r more s = record {
+  before = s.before;
+  entry = s.entry;
+  place = s.place;
+  accepted = s.accepted;
+  begins = begins_after (s.before ++ entered s.entry ∷ []) items longer s.begins more;
+}
+
 pub prefix_longer : (xs ys : List Item) → IsPrefix xs ys → length xs ≤ length ys
 prefix_longer xs ys p = omega (arith, ap (λ l. length l) p.1, length-append xs p.0)
 
-prefix_chain : (xs ys zs : List Item) → IsPrefix xs ys → IsPrefix ys zs → IsPrefix xs zs
+pub prefix_chain : (xs ys zs : List Item) → IsPrefix xs ys → IsPrefix ys zs → IsPrefix xs zs
 prefix_chain xs ys zs p q = (p.0 ++ q.0, sym (append_assoc xs p.0 q.0) ∙ ap (λ l. l ++ q.0) p.1 ∙ q.1)
 
 step_places_append : (taken : List Taken) (x : Taken) → step_places (taken ++ x ∷ []) ≡ step_places taken ++ places_in x.1
 step_places_append [] x = append-nil (places_in x.1)
 step_places_append (y ∷ taken) x = ap (λ l. places_in y.1 ++ l) (step_places_append taken x) ∙ sym (append_assoc (places_in y.1) (step_places taken) (places_in x.1))
 
-module _ (opened : Gv) (spies : Spies) (steps : Bool) where
-  answer_later : (base front longer : List Item) (g : GoalName) (a : Answer) → IsPrefix front longer → IsAnswerOf opened spies steps base front g a → IsAnswerOf opened spies steps base longer g a
-  answer_later base front longer g (Submitted r) p is = (is.0, is.1, receipt_later _ front longer _ _ _ p is.2, is.3)
+module _ (opened : Gv) (scope : Scope) (spies : Spies) (steps : Bool) where
+  answer_later : (base front longer : List Item) (g : GoalName) (a : Answer) → IsPrefix front longer → IsAnswerOf opened scope spies steps base front g a → IsAnswerOf opened scope spies steps base longer g a
+  answer_later base front longer g (Submitted r) p is = (is.0, is.1, is.2, receipt_later _ front longer _ _ _ p is.3, is.4, λ yes. stands_later front longer is.0 r p (is.5 yes))
   answer_later base front longer g (Noted r) p is = (receipt_later _ front longer _ _ _ p is.0, is.1, is.2)
   answer_later base front longer g Starved p is = is
 
-  answers_later : (base front longer : List Item) (taken : List Taken) → IsPrefix front longer → AreAnswers opened spies steps base front taken → AreAnswers opened spies steps base longer taken
+  answers_later : (base front longer : List Item) (taken : List Taken) → IsPrefix front longer → AreAnswers opened scope spies steps base front taken → AreAnswers opened scope spies steps base longer taken
   answers_later base front longer [] p all = tt
   answers_later base front longer (x ∷ taken) p all = (answer_later base front longer x.0 x.1 p all.0, answers_later base front longer taken p all.1)
 
-  answers_more : (base front : List Item) (taken : List Taken) (x : Taken) → AreAnswers opened spies steps base front taken → IsAnswerOf opened spies steps base front x.0 x.1 → AreAnswers opened spies steps base front (taken ++ x ∷ [])
+  answers_more : (base front : List Item) (taken : List Taken) (x : Taken) → AreAnswers opened scope spies steps base front taken → IsAnswerOf opened scope spies steps base front x.0 x.1 → AreAnswers opened scope spies steps base front (taken ++ x ∷ [])
   answers_more base front [] x all is = (is, tt)
   answers_more base front (y ∷ taken) x all is = (all.0, answers_more base front taken x all.1 is)
 
   -- a pass goes on, and has no more places
   pub told_later : (old new : Known Item) → new.number ≡ old.number → IsPrefix old.front new.front → new.places ≡ old.places
-      → (start : Known Item) (taken : List Taken) → IsPassAfter opened spies steps start taken old → IsPassAfter opened spies steps start taken new
+      → (start : Known Item) (taken : List Taken) → IsPassAfter opened scope spies steps start taken old → IsPassAfter opened scope spies steps start taken new
   told_later old new number begins places start taken was = record {
     number = number ∙ was.number;
     begins = prefix_chain start.front old.front new.front was.begins begins;
@@ -85,8 +95,8 @@ module _ (opened : Gv) (spies : Spies) (steps : Bool) where
 
   -- a pass goes on with one answer more
   pub told_more : (old new : Known Item) (g : GoalName) (a : Answer) → new.number ≡ old.number → IsPrefix old.front new.front → new.places ≡ old.places ++ places_in a
-      → ((base : List Item) → length base ≤ length old.front → IsAnswerOf opened spies steps base new.front g a)
-      → (start : Known Item) (taken : List Taken) → IsPassAfter opened spies steps start taken old → IsPassAfter opened spies steps start (taken ++ (g, a) ∷ []) new
+      → ((base : List Item) → length base ≤ length old.front → IsAnswerOf opened scope spies steps base new.front g a)
+      → (start : Known Item) (taken : List Taken) → IsPassAfter opened scope spies steps start taken old → IsPassAfter opened scope spies steps start (taken ++ (g, a) ∷ []) new
   told_more old new g a number begins places is start taken was = record {
     number = number ∙ was.number;
     begins = prefix_chain start.front old.front new.front was.begins begins;
@@ -105,6 +115,18 @@ submit_places before call r old new d = told r.accepted d.decided
     told : (b : Bool) → MatchBool b (IsAcceptedCall IsAnswerTo before call r.reply r.place old new) (IsRefusedCall IsAnswerTo before call r.reply old new) → new.places ≡ old.places ++ places_if b r.place
     told true a = a.places
     told false a = a.places ∙ sym (append-nil old.places)
+
+-- a submit that was accepted stands in the front
+pub submit_stands : (before : List Item) (p : Proposal) (r : given.Receipt Reply) (old new : Known Item) → IsDecided IsAnswerTo before (Submit p) r old new → r.accepted ≡ true → StandsIn new.front p r
+submit_stands before p r old new d told =
+    let a : IsAcceptedCall IsAnswerTo before (Submit p) r.reply r.place old new = rw told at d.decided in
+    let is = a.answer in record {
+      before = before;
+      entry = is.0;
+      place = d.place;
+      accepted = is.2;
+      begins = ([], a.front ∙ ap (λ (i : Item). before ++ i ∷ []) is.1 ∙ sym (append-nil (before ++ entered is.0 ∷ [])));
+    }
 
 -- a note changes nothing
 note_stays : (w v : World) (g : GoalName) (reply : events.Reply) (left : Hands) → Answers ⊥ w no_hands (events.note g) reply v left → v ≡ w
@@ -152,7 +174,7 @@ full_memory e = cc
 noted_memory : (g : GoalName) (s : Status) → events.noted g s ≡ events.refused Fault.Memory → ⊥
 noted_memory g s e = cc
 
-module _ (opened : Gv) (spies : Spies) (steps : Bool) (g : GoalName) where
+module _ (opened : Gv) (scope : Scope) (spies : Spies) (steps : Bool) (g : GoalName) where
   reason_of_submit : (r : given.Receipt Reply) (stop : Option RoundStop) → IsSubmitStop r.reply stop → IsReason AreFedAnswers (Asks opened spies) stop ((g, Submitted r) ∷ [])
   reason_of_submit r None is = λ y i. elim i [ inl e ↦ λ s. is (subst (λ (z : Taken). IsStarved z.1) e s) | inr none ↦ absurd none ]
   reason_of_submit r (Some Memory) is = tt
@@ -179,38 +201,38 @@ module _ (opened : Gv) (spies : Spies) (steps : Bool) (g : GoalName) where
   )
 
   module _ (old new : Known Item) (step made : ℕ) where
-    pub decided_submit : (before : List Item) (p : Proposal) (r : given.Receipt Reply) (stop : Option RoundStop) → steps ≡ true → IsUnspiedStep opened spies g p → new.number ≡ old.number → IsPrefix old.front new.front
+    pub decided_submit : (before : List Item) (p : Proposal) (r : given.Receipt Reply) (stop : Option RoundStop) → steps ≡ true → IsInScope scope g → IsUnspiedStep opened spies g p → new.number ≡ old.number → IsPrefix old.front new.front
         → IsDecided IsAnswerTo before (Submit p) r old new → IsAnswered (Unit {0}) old.front new.front (holding p) (events.commit 1) (receipt_of r) → IsSubmitStop r.reply stop
-        → IsDecidedAs opened spies steps g old new (record { answer = Submitted r; stop = stop; step = step; made = made })
-    decided_submit before p r stop takes unspied number begins d a s = record {
-      told = told_more opened spies steps old new g (Submitted r) number begins (submit_places before (Submit p) r old new d)
-          (λ base low. (p, unspied, receipt_of_answer _ old.front new.front _ _ _ a, behind before (Submit p) r old new d base low));
+        → IsDecidedAs opened scope spies steps g old new (record { answer = Submitted r; stop = stop; step = step; made = made })
+    decided_submit before p r stop takes inside unspied number begins d a s = record {
+      told = told_more opened scope spies steps old new g (Submitted r) number begins (submit_places before (Submit p) r old new d)
+          (λ base low. (p, inside, unspied, receipt_of_answer _ old.front new.front _ _ _ a, behind before (Submit p) r old new d base low, submit_stands before p r old new d));
       submits = omega (arith, ap one_if takes);
       reason = reason_of_submit r stop s;
     }
 
-    pub decided_note : (before : List Item) (spied : Bool) (r : given.Receipt Reply) (stop : Option RoundStop) → (steps ≡ true → IsNotedFor opened spies g r.reply) → (spied ≡ true → IsSpiedGoal opened spies g) → new.number ≡ old.number → IsPrefix old.front new.front
+    pub decided_note : (before : List Item) (spied : Bool) (r : given.Receipt Reply) (stop : Option RoundStop) → (steps ≡ true → IsNotedFor opened scope spies g r.reply) → (spied ≡ true → IsSpiedGoal opened spies g) → new.number ≡ old.number → IsPrefix old.front new.front
         → IsDecided IsAnswerTo before (Note g) r old new → IsAnswered (Unit {0}) old.front new.front no_hands (events.note g) (receipt_of r) → IsNoteStop spied g r.reply stop
-        → IsDecidedAs opened spies steps g old new (record { answer = Noted r; stop = stop; step = step; made = made })
+        → IsDecidedAs opened scope spies steps g old new (record { answer = Noted r; stop = stop; step = step; made = made })
     decided_note before spied r stop cause goal number begins d a s = record {
-      told = told_more opened spies steps old new g (Noted r) number begins (note_places before g r old new d ∙ sym (append-nil old.places))
+      told = told_more opened scope spies steps old new g (Noted r) number begins (note_places before g r old new d ∙ sym (append-nil old.places))
           (λ base low. (receipt_of_answer _ old.front new.front _ _ _ a, behind before (Note g) r old new d base low, cause));
       submits = omega arith;
       reason = reason_of_note spied r stop goal s;
     }
 
-  pub decided_starved : (old : Known Item) (step made : ℕ) → steps ≡ true → IsStarvedGoal opened g → IsDecidedAs opened spies steps g old old (record { answer = Starved; stop = Some RoundStop.Memory; step = step; made = made })
+  pub decided_starved : (old : Known Item) (step made : ℕ) → steps ≡ true → IsStarvedGoal opened g → IsDecidedAs opened scope spies steps g old old (record { answer = Starved; stop = Some RoundStop.Memory; step = step; made = made })
   decided_starved old step made takes why = record {
-    told = told_more opened spies steps old old g Starved refl ([], append-nil old.front) (sym (append-nil old.places)) (λ base low. (takes, why));
+    told = told_more opened scope spies steps old old g Starved refl ([], append-nil old.front) (sym (append-nil old.places)) (λ base low. (takes, why));
     submits = omega arith;
     reason = tt;
   }
 
   -- a goal was noted as ready, and the pass goes on
-  pub goes_on : (old new : Known Item) (before : List Item) (r : given.Receipt Reply) → new.number ≡ old.number → IsPrefix old.front new.front → IsDecided IsAnswerTo before (Note g) r old new → GoesOnWithout opened spies steps old new
-  goes_on old new before r number begins d = told_later opened spies steps old new number begins (note_places before g r old new d)
+  pub goes_on : (old new : Known Item) (before : List Item) (r : given.Receipt Reply) → new.number ≡ old.number → IsPrefix old.front new.front → IsDecided IsAnswerTo before (Note g) r old new → GoesOnWithout opened scope spies steps old new
+  goes_on old new before r number begins d = told_later opened scope spies steps old new number begins (note_places before g r old new d)
 
-  pub decided_after : (old mid new : Known Item) (d : Decided) → GoesOnWithout opened spies steps old mid → IsDecidedAs opened spies steps g mid new d → IsDecidedAs opened spies steps g old new d
+  pub decided_after : (old mid new : Known Item) (d : Decided) → GoesOnWithout opened scope spies steps old mid → IsDecidedAs opened scope spies steps g mid new d → IsDecidedAs opened scope spies steps g old new d
   decided_after old mid new d on is = record { told = λ start taken was. is.told start taken (on start taken was); submits = is.submits; reason = is.reason }
 
 pub settling_stop : (g : GoalName) (reply : Reply) (stop : Option RoundStop) → IsSettlingStop reply stop → IsNoteStop false g reply stop
@@ -261,10 +283,10 @@ module _ (opened : Gv) (spies : Spies) (g : GoalName) (p : Proposal) where
       one b e = cc
 
 -- each pass that comes back has its number
-pub told_all : (opened : Gv) (spies : Spies) (steps : Bool) (n k : ℕ) (starts : List (Known Item)) (ks : List Work) (nows : List (Known Item)) → AreTold (IsPassAfter opened spies steps) starts ks nows → AreAll n k starts → AreAll n k nows
-told_all opened spies steps n k [] [] [] told all = all
-told_all opened spies steps n k [] [] (p ∷ ps) told all = absurd told
-told_all opened spies steps n k [] (w ∷ ks) ps told all = absurd told
-told_all opened spies steps n k (s ∷ ss) [] ps told all = absurd told
-told_all opened spies steps n k (s ∷ ss) (w ∷ ks) [] told all = absurd told
-told_all opened spies steps n k (s ∷ ss) (w ∷ ks) (p ∷ ps) told all = (told.0.number ∙ all.0, told_all opened spies steps n (suc k) ss ks ps told.1 all.1)
+pub told_all : (opened : Gv) (scope : Scope) (spies : Spies) (steps : Bool) (n k : ℕ) (starts : List (Known Item)) (ks : List Work) (nows : List (Known Item)) → AreTold (IsPassAfter opened scope spies steps) starts ks nows → AreAll n k starts → AreAll n k nows
+told_all opened scope spies steps n k [] [] [] told all = all
+told_all opened scope spies steps n k [] [] (p ∷ ps) told all = absurd told
+told_all opened scope spies steps n k [] (w ∷ ks) ps told all = absurd told
+told_all opened scope spies steps n k (s ∷ ss) [] ps told all = absurd told
+told_all opened scope spies steps n k (s ∷ ss) (w ∷ ks) [] told all = absurd told
+told_all opened scope spies steps n k (s ∷ ss) (w ∷ ks) (p ∷ ps) told all = (told.0.number ∙ all.0, told_all opened scope spies steps n (suc k) ss ks ps told.1 all.1)

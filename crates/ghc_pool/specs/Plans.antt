@@ -14,16 +14,18 @@ use Rattle.ghc_pool.specs.declared.answer.RoundStop.{RoundStop}
 use Rattle.ghc_pool.specs.declared.answer.RoundStop.TheVariants.{Memory, Limit, Full, Spied, Clash}
 use Rattle.ghc_pool.specs.declared.craft.Decided.{Decided}
 use Rattle.ghc_pool.specs.declared.deciding.Plan.{Plan}
-use Rattle.ghc_pool.specs.declared.deciding.Plan.TheVariants.{Submit, Pass, Refuse, Starve}
+use Rattle.ghc_pool.specs.declared.deciding.Plan.TheVariants.{Submit, Outside, Pass, Refuse, Starve}
+use Rattle.ghc_pool.specs.declared.scope.Scope.{Scope}
 use Rattle.ghc_pool.specs.Answers.{Taken, submits_in, one_if, IsReason}
-use Rattle.ghc_pool.specs.Told.{TellsStatus, IsSpiedGoal, IsRefusedGoal, IsStarvedGoal, IsUnspiedStep, IsPassAfter, AreFedAnswers, Asks}
+use Rattle.ghc_pool.specs.Told.{IsInScope, TellsStatus, IsSpiedGoal, IsRefusedGoal, IsStarvedGoal, IsUnspiedStep, IsPassAfter, AreFedAnswers, Asks}
 
--- A step of the goal is there to be submitted; or the goal is passed over, as a call of a spied predicate; or no step of it could be proposed; or memory was refused for that.
-abbrev pub IsPlan : Gv → Spies → GoalName → Plan → Type 0
-IsPlan opened spies g (Submit p) = IsUnspiedStep opened spies g p
-IsPlan opened spies g Pass = IsSpiedGoal opened spies g
-IsPlan opened spies g Refuse = IsRefusedGoal opened g
-IsPlan opened spies g Starve = IsStarvedGoal opened g
+-- A step of the goal, which the round may step, is there to be submitted; or the round may not step it; or the goal is passed over, as a call of a spied predicate; or no step of it could be proposed; or memory was refused for that.
+abbrev pub IsPlan : Gv → Scope → Spies → GoalName → Plan → Type 0
+IsPlan opened scope spies g (Submit p) = IsInScope scope g × IsUnspiedStep opened spies g p
+IsPlan opened scope spies g Outside = ¬ IsInScope scope g
+IsPlan opened scope spies g Pass = IsSpiedGoal opened spies g
+IsPlan opened scope spies g Refuse = IsRefusedGoal opened g
+IsPlan opened scope spies g Starve = IsStarvedGoal opened g
 
 -- The reply says that memory was refused.
 abbrev pub SaysMemory : Reply → Type 0
@@ -56,13 +58,13 @@ IsNoteStop spied g reply (Some Full) = ⊥
 IsNoteStop spied g reply (Some (Spied h)) = (spied ≡ true) × (h ≡ g) × TellsStatus ready reply
 IsNoteStop spied g reply (Some (Clash h)) = (h ≡ g) × ((f : Fault) × TellsStatus (failed f) reply)
 
-module _ (opened : Gv) (spies : Spies) (steps : Bool) where
+module _ (opened : Gv) (scope : Scope) (spies : Spies) (steps : Bool) where
   -- A pass that went on so far goes on with no answer more.
   abbrev pub GoesOnWithout : Known Item → Known Item → Type 0
-  GoesOnWithout old new = (start : Known Item) (taken : List Taken) → IsPassAfter opened spies steps start taken old → IsPassAfter opened spies steps start taken new
+  GoesOnWithout old new = (start : Known Item) (taken : List Taken) → IsPassAfter opened scope spies steps start taken old → IsPassAfter opened scope spies steps start taken new
 
   -- The goal named g was decided: a pass that went on so far goes on with this answer, which tells of a submit at most, and of none where no steps are taken; the reason to stop, if there is one, is this answer's.
   pub record IsDecidedAs (g : GoalName) (old new : Known Item) (d : Decided) : Type 0 where
-    pub told : (start : Known Item) (taken : List Taken) → IsPassAfter opened spies steps start taken old → IsPassAfter opened spies steps start (taken ++ (g, d.answer) ∷ []) new
+    pub told : (start : Known Item) (taken : List Taken) → IsPassAfter opened scope spies steps start taken old → IsPassAfter opened scope spies steps start (taken ++ (g, d.answer) ∷ []) new
     pub submits : submits_in d.answer ≤ one_if steps
     pub reason : IsReason AreFedAnswers (Asks opened spies) d.stop ((g, d.answer) ∷ [])

@@ -14,6 +14,7 @@ use Rattle.ghc_core.specs.Proposes.{AttemptAnswers, IsCommitOf, IsStepOf}
 use Rattle.ghc_trace.specs.News.{Stands}
 use Rattle.ghc_trace.specs.Spies.{Spies, IsSpied}
 use Rattle.ghc_pool.specs.declared.stop.Stop.{Stop}
+use Rattle.ghc_pool.specs.declared.stop.Stop.TheVariants.{Quiet, Spied, Clash, Limit, Full, Memory}
 use Rattle.ghc_pool.specs.declared.stop.Report.{Report}
 use Rattle.ghc_pool.specs.declared.mode.Mode.{Mode}
 use Rattle.ghc_pool.specs.declared.mode.Mode.TheVariants.{Leap, Skip, Settle}
@@ -94,12 +95,12 @@ pub record Runs (Starved : Type 0) (workers : ℕ) (spies : Spies) (root : Optio
 
 -- Of the world w, with these notes, no goal is untried; or memory was refused.
 abbrev pub IsSettled : Type 0 → World → NotesByGoal → Stop → Type 0
-IsSettled Starved w notes Stop.Quiet = (g : GoalName) → ¬ IsUntried w.state.goals notes g
-IsSettled Starved w notes Stop.Memory = Starved
-IsSettled Starved w notes (Stop.Spied g) = ⊥
-IsSettled Starved w notes (Stop.Clash g) = ⊥
-IsSettled Starved w notes Stop.Limit = ⊥
-IsSettled Starved w notes Stop.Full = ⊥
+IsSettled Starved w notes Quiet = (g : GoalName) → ¬ IsUntried w.state.goals notes g
+IsSettled Starved w notes Memory = Starved
+IsSettled Starved w notes (Spied g) = ⊥
+IsSettled Starved w notes (Clash g) = ⊥
+IsSettled Starved w notes Limit = ⊥
+IsSettled Starved w notes Full = ⊥
 
 -- What a run in this mode leaves: steps are taken, of any goals or of those that descend from the root; or the goals are tried, and the world stays.
 abbrev pub RunsIn : Mode → Type 0 → ℕ → Spies → World → World → NotesByGoal → Report → Type 0

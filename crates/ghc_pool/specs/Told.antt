@@ -1,27 +1,49 @@
 -- What is told of the workers of a round over a shared core.
-use Rattle.std.specs.Prelude.{◌≡◌, ◌≢◌, ◌⊎◌, ℕ, ◌≤◌, ◌++◌, List, [], ◌∷◌, length, Bool, true, false, None, Ok, Err}
+use Rattle.std.specs.Prelude.{◌≡◌, ◌≢◌, ◌⊎◌, ℕ, ◌≤◌, ◌++◌, List, [], ◌∷◌, length, Bool, true, false, Option, Some, None, Ok, Err}
 use base.Stored.{Gv}
 use mathlib.Core.List.{IsPrefix}
 use Rattle.ghc_term.specs.Lists.{In}
 use Rattle.ghc_term.specs.declared.goal_name.GoalName.{GoalName}
 use Rattle.ghc_term.specs.declared.fault.Fault.{Fault}
-use Rattle.ghc_records.specs.Journal.{Item}
+use Rattle.ghc_records.specs.Journal.{Entry, Item, entered}
 use Rattle.ghc_hooks.specs.Status.{Status, ready, failed}
 use Rattle.ghc_core.specs.World.{Proposal, World, no_hands}
 use Rattle.ghc_core.specs.Core.{IsStanding}
 use Rattle.ghc_core.specs.Events as events
 use Rattle.ghc_core.specs.EventCode.{reply_of}
-use Rattle.ghc_core.specs.Legal.{IsReceipt}
+use Rattle.ghc_core.specs.Legal.{Begins, IsAccepted, IsReceipt}
 use Rattle.ghc_core.specs.declared.reply.Reply.{Reply}
+use Rattle.ghc_shared.specs.declared.receipt.Receipt as given
 use Rattle.ghc_shared.specs.Passes.{Known}
-use Rattle.ghc_shared.specs.Calls.{holding, receipt_of, code_of, IsProposal}
+use Rattle.ghc_shared.specs.Calls.{holding, receipt_behind, receipt_of, code_of, IsProposal}
 use Rattle.ghc_trace.specs.Spies.{Spies}
 use Rattle.ghc_pool.specs.declared.answer.Answer.{Answer}
 use Rattle.ghc_pool.specs.declared.answer.Answer.TheVariants.{Submitted, Noted, Starved}
 use Rattle.ghc_pool.specs.declared.answer.RoundStop.{RoundStop}
 use Rattle.ghc_pool.specs.declared.answer.RoundStop.TheVariants.{Memory, Limit, Full, Spied, Clash}
-use Rattle.ghc_pool.specs.Runs.{IsSpiedIn}
+use Rattle.ghc_pool.specs.declared.scope.Scope.{Scope}
+use Rattle.ghc_pool.specs.declared.scope.Scope.TheVariants.{Any, Of}
+use Rattle.ghc_pool.specs.Runs.{IsInQuestion, IsSpiedIn}
 use Rattle.ghc_pool.specs.Answers.{Taken}
+
+-- A round of this scope may step the goal named g: any goal; or those of these names, and those that the step of this number or a later one made.
+abbrev pub IsInScope : Scope → GoalName → Type 0
+IsInScope Any g = Unit {0}
+IsInScope (Of names since) g = In g names.keys ⊎ (since ≤ g.step)
+
+-- What a round of this scope may step is in question, if the round starts in the world w: it may step what is in question there, and what is made since.
+abbrev pub Covers : Option GoalName → World → Scope → Type 0
+Covers None w scope = Unit {0}
+Covers (Some root) w Any = ⊥
+Covers (Some root) w (Of names since) = (since ≡ w.next) × ((g : GoalName) → In g names.keys → IsInQuestion (Some root) w.kept g)
+
+-- The submit of the proposal, which was told this, was accepted: it stands in the front, at the place of which the receipt tells, behind a history where a commit of what was proposed is told this and adds this entry.
+pub record StandsIn (front : List Item) (p : Proposal) (r : given.Receipt Reply) : Type 0 where
+  pub before : List Item
+  pub entry : Entry
+  pub place : r.place ≡ length before
+  pub accepted : IsAccepted before (holding p) (events.commit 1) (receipt_behind before r.reply) entry
+  pub begins : Begins (before ++ entered entry ∷ []) front
 
 -- The reply tells that a goal has this status.
 abbrev pub TellsStatus : Status → Reply → Type 0
@@ -44,22 +66,23 @@ module _ (opened : Gv) where
   abbrev pub IsUnspiedStep : Spies → GoalName → Proposal → Type 0
   IsUnspiedStep spies g p = (w : World) × IsProposal opened w g None (Ok p) × (¬ IsSpiedIn spies w g)
 
-  -- Where steps are taken, the goal named g is noted since it is a call of a spied predicate; or since no step of it could be proposed, and the note does not tell that it is ready.
-  abbrev pub IsNotedFor : Spies → GoalName → Reply → Type 0
-  IsNotedFor spies g reply = IsSpiedGoal spies g ⊎ (IsRefusedGoal g × (¬ TellsStatus ready reply))
+  -- Where steps are taken, the goal named g is noted since the round may not step it; or since it is a call of a spied predicate; or since no step of it could be proposed, and the note does not tell that it is ready.
+  abbrev pub IsNotedFor : Scope → Spies → GoalName → Reply → Type 0
+  IsNotedFor scope spies g reply = (¬ IsInScope scope g) ⊎ (IsSpiedGoal spies g ⊎ (IsRefusedGoal g × (¬ TellsStatus ready reply)))
 
-  -- IsAnswerOf spies steps base front g answer: a worker whose pass had seen `base` and has seen `front` got this answer to the name g. It is a receipt in the front, behind all that had been seen: of the commit of a step that was proposed of g, which is no call of a spied predicate; or of a note of g, for which there is a cause where steps are taken. Or memory was refused for the proposal of a step.
-  abbrev pub IsAnswerOf : Spies → Bool → List Item → List Item → GoalName → Answer → Type 0
-  IsAnswerOf spies steps base front g (Submitted r) =
-      (p : Proposal) × IsUnspiedStep spies g p × IsReceipt (Unit {0}) front (holding p) (events.commit 1) (receipt_of r) × (length base ≤ r.place)
-  IsAnswerOf spies steps base front g (Noted r) =
-      IsReceipt (Unit {0}) front no_hands (events.note g) (receipt_of r) × (length base ≤ r.place) × (steps ≡ true → IsNotedFor spies g r.reply)
-  IsAnswerOf spies steps base front g Starved = (steps ≡ true) × IsStarvedGoal g
+  -- IsAnswerOf scope spies steps base front g answer: a worker whose pass had seen `base` and has seen `front` got this answer to the name g. It is a receipt in the front, behind all that had been seen: of the commit of a step that was proposed of g, which the round may step and which is no call of a spied predicate, and where it was accepted it stands there; or of a note of g, for which there is a cause where steps are taken. Or memory was refused for the proposal of a step.
+  abbrev pub IsAnswerOf : Scope → Spies → Bool → List Item → List Item → GoalName → Answer → Type 0
+  IsAnswerOf scope spies steps base front g (Submitted r) =
+      (p : Proposal) × IsInScope scope g × IsUnspiedStep spies g p × IsReceipt (Unit {0}) front (holding p) (events.commit 1) (receipt_of r) × (length base ≤ r.place)
+      × (r.accepted ≡ true → StandsIn front p r)
+  IsAnswerOf scope spies steps base front g (Noted r) =
+      IsReceipt (Unit {0}) front no_hands (events.note g) (receipt_of r) × (length base ≤ r.place) × (steps ≡ true → IsNotedFor scope spies g r.reply)
+  IsAnswerOf scope spies steps base front g Starved = (steps ≡ true) × IsStarvedGoal g
 
   -- Each name was answered so.
-  abbrev pub AreAnswers : Spies → Bool → List Item → List Item → List Taken → Type 0
-  AreAnswers spies steps base front [] = Unit {0}
-  AreAnswers spies steps base front (x ∷ xs) = IsAnswerOf spies steps base front x.0 x.1 × AreAnswers spies steps base front xs
+  abbrev pub AreAnswers : Scope → Spies → Bool → List Item → List Item → List Taken → Type 0
+  AreAnswers scope spies steps base front [] = Unit {0}
+  AreAnswers scope spies steps base front (x ∷ xs) = IsAnswerOf scope spies steps base front x.0 x.1 × AreAnswers scope spies steps base front xs
 
 abbrev pub places_if : Bool → ℕ → List ℕ
 places_if true place = place ∷ []
@@ -76,11 +99,11 @@ abbrev pub step_places : List Taken → List ℕ
 step_places [] = []
 step_places (x ∷ xs) = places_in x.1 ++ step_places xs
 
--- IsPassAfter opened spies steps start taken now: the pass went on from what it was at the start. It has the answers to the names taken; its front begins with the one at the start, and the places that it has more are those of the steps of which the answers tell.
-pub record IsPassAfter (opened : Gv) (spies : Spies) (steps : Bool) (start : Known Item) (taken : List Taken) (now : Known Item) : Type 0 where
+-- IsPassAfter opened scope spies steps start taken now: the pass went on from what it was at the start. It has the answers to the names taken; its front begins with the one at the start, and the places that it has more are those of the steps of which the answers tell.
+pub record IsPassAfter (opened : Gv) (scope : Scope) (spies : Spies) (steps : Bool) (start : Known Item) (taken : List Taken) (now : Known Item) : Type 0 where
   pub number : now.number ≡ start.number
   pub begins : IsPrefix start.front now.front
-  pub answers : AreAnswers opened spies steps start.front now.front taken
+  pub answers : AreAnswers opened scope spies steps start.front now.front taken
   pub places : now.places ≡ start.places ++ step_places taken
 
 -- Memory was refused for this answer.

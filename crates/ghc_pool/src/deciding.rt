@@ -2,12 +2,13 @@
 ghost use Rattle.std.specs.Prelude.{◌≡◌, ◌↔◌, IsTrue, MatchOption, true, false};
 ghost use Rattle.ghc_term.specs.declared.fault.Fault.TheVariants.{Memory as memory};
 ghost use Rattle.ghc_hooks.specs.Status.{ready};
-ghost use Rattle.ghc_pool.specs.Told.{IsSpiedGoal, IsRefusedGoal, IsStarvedGoal, IsUnspiedStep, TellsStatus};
+ghost use Rattle.ghc_pool.specs.Told.{IsInScope, IsSpiedGoal, IsRefusedGoal, IsStarvedGoal, IsUnspiedStep, TellsStatus};
 ghost use Rattle.ghc_pool.specs.Plans.{IsPlan, IsSubmitStop, IsSettlingStop, IsNoteStop, GoesOnWithout, IsDecidedAs};
 
 use crate::answer::{Answer, RoundStop};
 use crate::craft::{Craft, Decided};
 use crate::gate::Gate;
+use crate::scope::Scope;
 use ghc_core::{Core, Reply};
 use ghc_fire::{Meter, Proposal};
 use ghc_hooks::Verdict;
@@ -23,6 +24,7 @@ pub struct Deciding<'a, N: Naming, R: Wait, G: Gate> {
     pub rt: &'a R,
     pub alloc: Global,
     pub shared: &'a Shared<Core, N>,
+    pub scope: &'a Scope,
     pub spies: &'a SpySet,
     pub gate: &'a G,
     pub steps: bool,
@@ -33,6 +35,8 @@ pub struct Deciding<'a, N: Naming, R: Wait, G: Gate> {
 pub enum Plan {
     // This step of it is to be submitted.
     Submit(Proposal),
+    // It is to be noted, since the round may not step it.
+    Outside,
     // It is to be noted, as a call of a spied predicate.
     Pass,
     // It is to be noted, since no step of it could be proposed.
@@ -102,10 +106,13 @@ fn step_and_made(reply: &Reply, made: u32) -> (u32, u32) {
 }
 
 impl<N: Naming, R: Wait, G: Gate> Deciding<'_, N, R, G> {
-    // What is to be done with the goal where steps are taken: one is proposed, which is a firing.
+    // What is to be done with the goal where steps are taken: if the round may step it, one is proposed, which is a firing.
     fn plan(&self, goal: GoalName) -> Plan
-        ensures { IsPlan N.opened self.now.spies.now goal result }
+        ensures { IsPlan N.opened self.now.scope.now self.now.spies.now goal result }
     {
+        if !self.scope.has(goal) {
+            return Plan::Outside;
+        }
         let mut meter = Meter::new();
         match self
             .shared
@@ -135,8 +142,9 @@ impl<N: Naming, R: Wait, G: Gate> Deciding<'_, N, R, G> {
         proposal: Proposal,
     ) -> Decided
         requires steps { self.now.steps ≡ true }
+        requires inside { IsInScope self.now.scope.now goal }
         requires proposed { IsUnspiedStep N.opened self.now.spies.now goal proposal }
-        ensures { IsDecidedAs N.opened self.now.spies.now self.now.steps goal pass.old pass.new result }
+        ensures { IsDecidedAs N.opened self.now.scope.now self.now.spies.now self.now.steps goal pass.old pass.new result }
     {
         let goals = proposal.effect().made();
         self.gate.held(worker, goal);
@@ -155,7 +163,22 @@ impl<N: Naming, R: Wait, G: Gate> Deciding<'_, N, R, G> {
     // Notes the goal where no steps are taken; any status is the answer.
     fn settle(&self, pass: &mut Pass<Core, N>, goal: GoalName) -> Decided
         requires { self.now.steps ≡ false }
-        ensures { IsDecidedAs N.opened self.now.spies.now self.now.steps goal pass.old pass.new result }
+        ensures { IsDecidedAs N.opened self.now.scope.now self.now.spies.now self.now.steps goal pass.old pass.new result }
+    {
+        let receipt = self.shared.note(self.rt, self.alloc, pass, goal);
+        let stop = stop_of_settling(&receipt.reply);
+        Decided {
+            answer: Answer::Noted(receipt),
+            stop,
+            step: 0,
+            made: 0,
+        }
+    }
+
+    // Notes the goal, which the round may not step; any status is the answer.
+    fn note_outside(&self, pass: &mut Pass<Core, N>, goal: GoalName) -> Decided
+        requires { ¬ IsInScope self.now.scope.now goal }
+        ensures { IsDecidedAs N.opened self.now.scope.now self.now.spies.now self.now.steps goal pass.old pass.new result }
     {
         let receipt = self.shared.note(self.rt, self.alloc, pass, goal);
         let stop = stop_of_settling(&receipt.reply);
@@ -170,7 +193,7 @@ impl<N: Naming, R: Wait, G: Gate> Deciding<'_, N, R, G> {
     // Notes the goal, which is a call of a spied predicate.
     fn note_spied(&self, pass: &mut Pass<Core, N>, goal: GoalName) -> Decided
         requires { IsSpiedGoal N.opened self.now.spies.now goal }
-        ensures { IsDecidedAs N.opened self.now.spies.now self.now.steps goal pass.old pass.new result }
+        ensures { IsDecidedAs N.opened self.now.scope.now self.now.spies.now self.now.steps goal pass.old pass.new result }
     {
         let receipt = self.shared.note(self.rt, self.alloc, pass, goal);
         let stop = stop_of_note(&receipt.reply, goal, true);
@@ -185,7 +208,7 @@ impl<N: Naming, R: Wait, G: Gate> Deciding<'_, N, R, G> {
     // Notes the goal, of which no step could be proposed; or it is ready by now, and nothing comes of that.
     fn note_refused(&self, pass: &mut Pass<Core, N>, goal: GoalName) -> Option<Decided>
         requires { IsRefusedGoal N.opened goal }
-        ensures { MatchOption result (GoesOnWithout N.opened self.now.spies.now self.now.steps pass.old pass.new) (IsDecidedAs N.opened self.now.spies.now self.now.steps goal pass.old pass.new) }
+        ensures { MatchOption result (GoesOnWithout N.opened self.now.scope.now self.now.spies.now self.now.steps pass.old pass.new) (IsDecidedAs N.opened self.now.scope.now self.now.spies.now self.now.steps goal pass.old pass.new) }
     {
         let receipt = self.shared.note(self.rt, self.alloc, pass, goal);
         if is_ready(&receipt.reply) {
@@ -204,7 +227,7 @@ impl<N: Naming, R: Wait, G: Gate> Deciding<'_, N, R, G> {
     fn starve(&self, pass: &mut Pass<Core, N>, goal: GoalName) -> Decided
         requires steps { self.now.steps ≡ true }
         requires starved { IsStarvedGoal N.opened goal }
-        ensures { IsDecidedAs N.opened self.now.spies.now self.now.steps goal pass.old pass.new result }
+        ensures { IsDecidedAs N.opened self.now.scope.now self.now.spies.now self.now.steps goal pass.old pass.new result }
     {
         let _ = pass;
         let _ = goal;
@@ -219,11 +242,12 @@ impl<N: Naming, R: Wait, G: Gate> Deciding<'_, N, R, G> {
     // Decides what comes of a goal where steps are taken.
     fn take_step(&self, worker: usize, pass: &mut Pass<Core, N>, goal: GoalName) -> Decided
         requires { self.now.steps ≡ true }
-        ensures { IsDecidedAs N.opened self.now.spies.now self.now.steps goal pass.old pass.new result }
+        ensures { IsDecidedAs N.opened self.now.scope.now self.now.spies.now self.now.steps goal pass.old pass.new result }
     {
         for _ in self.rt.forever() {
             match self.plan(goal) {
                 Plan::Submit(proposal) => return self.submit(worker, pass, goal, proposal),
+                Plan::Outside => return self.note_outside(pass, goal),
                 Plan::Pass => return self.note_spied(pass, goal),
                 Plan::Refuse => {
                     if let Some(decided) = self.note_refused(pass, goal) {
@@ -242,7 +266,7 @@ impl<N: Naming, R: Wait, G: Gate> Craft<Pass<Core, N>> for Deciding<'_, N, R, G>
 
     ghost takes = { λ d. d.steps };
 
-    ghost tells = { λ d. IsPassAfter N.opened d.spies.now d.steps };
+    ghost tells = { λ d. IsPassAfter N.opened d.scope.now d.spies.now d.steps };
 
     ghost fed = { λ d. AreFedAnswers };
 

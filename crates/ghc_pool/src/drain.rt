@@ -107,7 +107,7 @@ fn advance(
     listed: &mut Vec<GoalName>,
 ) -> bool
     requires { TookInQuestion root core.old.world.kept since }
-    ensures step { result ≡ true → (r : record_spec) × IsRunStep spies.now root core.old.world r × (core.new.world ≡ with_step r core.old.world) }
+    ensures step { result ≡ true → (r : record_spec) × IsRunStep 1 spies.now root core.old.world r × (core.new.world ≡ with_step r core.old.world) }
     ensures none { result ≡ false → core.new.world ≡ core.old.world }
 {
     let Met::Step(addition) = find(core, alloc, spies, root, since, listed) else {
@@ -133,7 +133,7 @@ pub fn drain(
     most: usize,
     listed: &mut Vec<GoalName>,
 ) -> usize
-    ensures taken { (steps : List record_spec) × Takes spies.now root core.old.world steps core.new.world × (result ≡ length steps) }
+    ensures taken { (steps : List record_spec) × Takes 1 spies.now root core.old.world steps core.new.world × (result ≡ length steps) }
     ensures few { result ≤ most }
 {
     core.stands();

@@ -13,6 +13,7 @@ mod pause;
 mod question;
 mod rounds;
 mod running;
+mod scope;
 mod shared_round;
 mod stop;
 mod survey;
@@ -22,6 +23,7 @@ pub use gate::Gate;
 pub use laws::{runs_add_at_the_end, runs_reduce};
 pub use mode::Mode;
 pub use running::run;
+pub use scope::Scope;
 pub use shared_round::{RoundReport, round};
 pub use stop::{Report, Stop};
 

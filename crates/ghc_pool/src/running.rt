@@ -20,7 +20,7 @@ fn go_on(
     ready: Vec<GoalName>,
 ) -> Report
     requires { CanGoOn spies.now root core.old.world }
-    ensures { Runs (Unit {0}) spies.now root limit core.old.world core.new.world core.new.notes result }
+    ensures { Runs (Unit {0}) 1 spies.now root limit core.old.world core.new.world core.new.notes result }
 {
     let mut listed = ready;
     let mut added = 0;
@@ -62,7 +62,7 @@ pub fn run(
     root: Option<GoalName>,
     limit: usize,
 ) -> Report
-    ensures runs { Runs (Unit {0}) spies.now root limit core.old.world core.new.world core.new.notes result }
+    ensures runs { Runs (Unit {0}) 1 spies.now root limit core.old.world core.new.world core.new.notes result }
 
     // Where a run cannot go on nothing is added.
     ensures stopped { ¬ CanGoOn spies.now root core.old.world → result.added ≡ 0 }

@@ -13,6 +13,7 @@ use crate::gate::Gate;
 use crate::mode::Mode;
 use crate::rounds::together::{Ended, work_together};
 use crate::rounds::worker::Worker;
+use crate::scope::Scope;
 use ghc_core::Core;
 use ghc_shared::{Naming, Pass, Shared};
 use ghc_term::GoalName;
@@ -56,17 +57,19 @@ fn take_apart(workers: Vec<Worker>, done: &mut Vec<Work>)
 
 /// A round over a shared core: as many workers as there are passes, from 1 to 64, each in a thread of its own, work off the names,
 /// and what is made by the steps that they take. The first offers first what is handed in. Where steps are taken, a step of a name
-/// is proposed and submitted, unless the goal is a call of a spied predicate; a name is noted where no step of it could be proposed,
-/// or where it is spied. Where no steps are taken each name is noted. However names are weighed, what was offered is what was taken
-/// and what was left; each that was taken has an answer that is a receipt in what its worker's pass has seen, and each step that a
-/// pass has made is one of these answers. Where there is no reason to stop, nothing is left. Where memory is refused for what the
-/// round has to have room for, nothing is offered, and the passes come back as they were. The passes come back in their order.
+/// in the scope is proposed and submitted, unless the goal is a call of a spied predicate; a name is noted where it is not in the
+/// scope, where no step of it could be proposed, or where it is spied. Where no steps are taken each name is noted. However names
+/// are weighed, what was offered is what was taken and what was left; each that was taken has an answer that is a receipt in what
+/// its worker's pass has seen, and each step that a pass has made is one of these answers, and stands at the place of its receipt.
+/// Where there is no reason to stop, nothing is left. Where memory is refused for what the round has to have room for, nothing is
+/// offered, and the passes come back as they were. The passes come back in their order.
 pub fn round<'a, N: Naming + Send + Sync, R: Threads + Wait + Sync, G: Gate + Sync>(
     rt: &'a R,
     alloc: Global,
     shared: &'a Shared<Core, N>,
     passes: Vec<Pass<Core, N>>,
     mode: &Mode,
+    scope: &'a Scope,
     spies: &'a SpySet,
     names: &[GoalName],
     gate: &'a G,
@@ -76,7 +79,7 @@ pub fn round<'a, N: Naming + Send + Sync, R: Threads + Wait + Sync, G: Gate + Sy
     ensures settled { IfOk result (λ r. AreSettled r.1.workers.items) }
     ensures few { IfOk result (λ r. total_work submits_by r.1.workers.items ≤ limit_of mode.now) }
     ensures judged { IfOk result (λ r. AreJudged AreFedAnswers (Asks N.opened spies.now) ((takes_steps mode.now ≡ true) × (total_work submits_by r.1.workers.items ≡ limit_of mode.now)) r.1.stop r.1.workers.items) }
-    ensures told { IfOk result (λ r. AreTold (IsPassAfter N.opened spies.now (takes_steps mode.now)) passes.items r.1.workers.items r.0.items) }
+    ensures told { IfOk result (λ r. AreTold (IsPassAfter N.opened scope.now spies.now (takes_steps mode.now)) passes.items r.1.workers.items r.0.items) }
     ensures begins { IfOk result (λ r. FirstBegins names.now r.1.workers.items) }
     ensures refused { IfErr result (λ back. back ≡ passes) }
 {
@@ -87,6 +90,7 @@ pub fn round<'a, N: Naming + Send + Sync, R: Threads + Wait + Sync, G: Gate + Sy
         rt,
         alloc,
         shared,
+        scope,
         spies,
         gate,
         steps: mode.takes_steps(),

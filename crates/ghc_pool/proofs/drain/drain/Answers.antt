@@ -24,7 +24,7 @@ loop-taken-preserved c =
     let count = before.count in
     record {
       steps = before.steps ++ s.0 ∷ [];
-      taken = subst (Takes c.args.spies.now c.args.root c.args.core.now.world (before.steps ++ s.0 ∷ [])) (sym s.2) (and_step s.0 before.taken s.1);
+      taken = subst (Takes 1 c.args.spies.now c.args.root c.args.core.now.world (before.steps ++ s.0 ∷ [])) (sym s.2) (and_step s.0 before.taken s.1);
       count = omega (arith, long, count);
-      asked = subst (λ (w : World). TookInQuestion c.args.root w.kept c.next-since.result) (sym s.2) (one_since c.args.spies.now c.args.root c.loop-taken.core.world s.0 c.next-since.result s.1 before.asked);
+      asked = subst (λ (w : World). TookInQuestion c.args.root w.kept c.next-since.result) (sym s.2) (one_since 1 c.args.spies.now c.args.root c.loop-taken.core.world s.0 c.next-since.result s.1 before.asked);
     }

@@ -7,7 +7,7 @@ use Rattle.ghc_pool.proofs.drain.drain.Given as goal
 abbrev pub invariant-loop-taken : goal.invariant-loop-taken
 invariant-loop-taken l = record {
   steps : List Record;
-  taken : Takes l.spies l.root l.initial.core.world steps l.core.world;
+  taken : Takes 1 l.spies l.root l.initial.core.world steps l.core.world;
   count : l.taken ≡ length steps;
   asked : TookInQuestion l.root l.core.world.kept l.since;
 }

@@ -15,8 +15,8 @@ loop-added-preserved c =
     let few = c.drain-taken.ensures.few in
     record {
       steps = before.steps ++ more.0;
-      taken = subst (Takes c.args.spies.now c.args.root c.args.core.now.world (before.steps ++ more.0)) (sym c.in-Ok.ensures.world)
-          (takes_more c.args.spies.now c.args.root c.args.core.now.world c.loop-added.core.world c.drain-taken.new.core.world before.steps more.0 before.taken more.1);
+      taken = subst (Takes 1 c.args.spies.now c.args.root c.args.core.now.world (before.steps ++ more.0)) (sym c.in-Ok.ensures.world)
+          (takes_more 1 c.args.spies.now c.args.root c.args.core.now.world c.loop-added.core.world c.drain-taken.new.core.world before.steps more.0 before.taken more.1);
       count = omega (arith, long, count, more.2);
       few = omega (arith, few, before.few);
       goes_on = c.in-Ok.ensures.ready;
@@ -30,7 +30,7 @@ returns-then-taken-eq0 c =
     let count = before.count in
     record {
       steps = before.steps ++ more.0;
-      taken = takes_more c.args.spies.now c.args.root c.args.core.now.world c.loop-added.core.world c.drain-taken.new.core.world before.steps more.0 before.taken more.1;
+      taken = takes_more 1 c.args.spies.now c.args.root c.args.core.now.world c.loop-added.core.world c.drain-taken.new.core.world before.steps more.0 before.taken more.1;
       count = omega (arith, long, count, more.2, c.if-taken-eq0.true);
       few = before.few;
       reason = starved tt;
@@ -45,8 +45,8 @@ returns-in-Err c =
     let few = c.drain-taken.ensures.few in
     record {
       steps = before.steps ++ more.0;
-      taken = subst (Takes c.args.spies.now c.args.root c.args.core.now.world (before.steps ++ more.0)) (sym c.in-Err.ensures.world)
-          (takes_more c.args.spies.now c.args.root c.args.core.now.world c.loop-added.core.world c.drain-taken.new.core.world before.steps more.0 before.taken more.1);
+      taken = subst (Takes 1 c.args.spies.now c.args.root c.args.core.now.world (before.steps ++ more.0)) (sym c.in-Err.ensures.world)
+          (takes_more 1 c.args.spies.now c.args.root c.args.core.now.world c.loop-added.core.world c.drain-taken.new.core.world before.steps more.0 before.taken more.1);
       count = omega (arith, long, count, more.2);
       few = omega (arith, few, before.few);
       reason = c.in-Err.ensures.stop c.args.limit (c.loop-added.added + c.drain-taken.result);

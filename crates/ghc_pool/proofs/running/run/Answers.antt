@@ -8,7 +8,7 @@ go_on-requires c = c.in-Ok.ensures.ready
 
 pub returns-in-Ok-clause-runs : goal.returns-in-Ok-clause-runs
 returns-in-Ok-clause-runs c =
-    subst (λ (w : World). Runs (Unit {0}) c.args.spies.now c.args.root c.args.limit w c.go_on.new.core.world c.go_on.new.core.notes c.go_on.result) c.in-Ok.ensures.world c.go_on.ensures
+    subst (λ (w : World). Runs (Unit {0}) 1 c.args.spies.now c.args.root c.args.limit w c.go_on.new.core.world c.go_on.new.core.notes c.go_on.result) c.in-Ok.ensures.world c.go_on.ensures
 
 pub returns-in-Ok-clause-stopped : goal.returns-in-Ok-clause-stopped
 returns-in-Ok-clause-stopped c stuck = absurd (stuck (subst (CanGoOn c.args.spies.now c.args.root) c.in-Ok.ensures.world c.in-Ok.ensures.ready))
@@ -16,7 +16,7 @@ returns-in-Ok-clause-stopped c stuck = absurd (stuck (subst (CanGoOn c.args.spie
 pub returns-in-Err-clause-runs : goal.returns-in-Err-clause-runs
 returns-in-Err-clause-runs c = record {
   steps = [];
-  taken = subst (Takes c.args.spies.now c.args.root c.args.core.now.world []) (sym c.in-Err.ensures.world) at_start;
+  taken = subst (Takes 1 c.args.spies.now c.args.root c.args.core.now.world []) (sym c.in-Err.ensures.world) at_start;
   count = refl;
   few = omega arith;
   reason = c.in-Err.ensures.stop c.args.limit 0;

@@ -1,4 +1,4 @@
-use Rattle.std.proofs.Common.{◌≡◌, arith}
+use Rattle.std.proofs.Common.{arith}
 use mir.Syntax.{named}
 use denote.Param.{param}
 use denote.Param.Send.{sendable}

@@ -1,4 +1,4 @@
-use Rattle.std.proofs.Common.{◌≡◌, ◌+◌, ◌<◌, ◌++◌, ◌∷◌, List, length, drop, sym, ap, ◌∙◌, arith}
+use Rattle.std.proofs.Common.{◌<◌, ◌++◌, ◌∷◌, length, drop, sym, ap, ◌∙◌, arith}
 use Rattle.ghc_pool.specs.declared.rounds.worker.Worker.{Worker}
 use Rattle.ghc_pool.specs.Workers.{work_of, works}
 use Rattle.ghc_pool.proofs.Telling.{first_work, work_between}

@@ -1,4 +1,4 @@
-use Rattle.std.proofs.Common.{[], ◌∷◌, ◌++◌, get_or, take, ◌+◌, sym, ap, subst, ◌∙◌}
+use Rattle.std.proofs.Common.{[], get_or, take, ◌+◌, sym, ap, subst, ◌∙◌}
 use Rattle.std.proofs.lemmas.List.{take_all}
 use Rattle.ghc_term.specs.declared.goal_name.GoalName.{GoalName}
 use Rattle.ghc_hooks.proofs.LookingAll.{so_far}

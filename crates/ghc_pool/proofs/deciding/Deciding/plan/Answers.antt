@@ -6,6 +6,9 @@ use Rattle.ghc_trace.specs.Spies.{IsSpied}
 use Rattle.ghc_pool.proofs.Telling.{spied_goal, unspied_step, opposite}
 use Rattle.ghc_pool.proofs.deciding.Deciding.plan.Goals as goal
 
+pub returns-then-not-has : goal.returns-then-not-has
+returns-then-not-has g c = λ i. opposite c.has.result (c.has.ensures.1 i) c.if-not-has.true
+
 pub returns-then-is_spied : goal.returns-then-is_spied
 returns-then-is_spied g c =
     let spies = c.args.self.now.spies.now in
@@ -13,8 +16,10 @@ returns-then-is_spied g c =
 
 pub returns-else-is_spied : goal.returns-else-is_spied
 returns-else-is_spied g c =
-    let spies = c.args.self.now.spies.now in
-    unspied_step g.N.Naming.opened spies c.args.goal c.in-Ok.proposal c.in-Ok.ensures.answer (λ s. opposite c.is_spied.result (c.is_spied.ensures.1 (subst (IsSpied spies) (sym c.consumed.ensures) s)) c.if-is_spied.false)
+    let spies = c.args.self.now.spies.now in (
+      c.has.ensures.0 c.if-not-has.false,
+      unspied_step g.N.Naming.opened spies c.args.goal c.in-Ok.proposal c.in-Ok.ensures.answer (λ s. opposite c.is_spied.result (c.is_spied.ensures.1 (subst (IsSpied spies) (sym c.consumed.ensures) s)) c.if-is_spied.false),
+    )
 
 pub returns-then-is_memory : goal.returns-then-is_memory
 returns-then-is_memory g c = subst (λ (f : Fault). (w : World) × IsProposal g.N.Naming.opened w c.args.goal None (Err f)) (c.is_memory.ensures.0 c.if-is_memory.true) c.in-Err.ensures.answer
