@@ -1,9 +1,9 @@
 -- A text of a chronicle that is cut off is refused with the line behind its last line feed.
-use Rattle.std.proofs.Common.{◌≡◌, ◌≢◌, ℕ, zero, suc, ◌+◌, ◌<◌, ◌≤◌, inl, inr, List, [], ◌∷◌, ◌++◌, drop, take, length, map, refl, sym, ap, ◌∙◌, subst, arith, length-drop}
+use Rattle.std.proofs.Common.{◌≡◌, ◌≢◌, ℕ, zero, suc, ◌+◌, ◌<◌, ◌≤◌, inl, inr, List, [], ◌∷◌, ◌++◌, drop, take, length, refl, sym, ap, ◌∙◌, subst, arith, length-drop}
 use Rattle.std.proofs.lemmas.List.{drop-drop}
 use Rattle.ghc_term.specs.Lists.{In}
 use Rattle.ghc_records.specs.Numbers.{kept_limit}
-use Rattle.ghc_records.specs.Journal.{Step, Entry}
+use Rattle.ghc_records.specs.Journal.{Step}
 use Rattle.ghc_records.specs.HistoryText.{IsLine, IsLineOf, SaysStep, end_line, pieces_of}
 use Rattle.ghc_records.specs.HistoryLaws.{line_feeds}
 use Rattle.ghc_records.specs.Sections.{TellsItems, TellsNoMoreItems}
