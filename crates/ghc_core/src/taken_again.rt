@@ -22,12 +22,12 @@ use ghc_records::{Addition, Step, WrittenEntry};
 use ghc_term::Fault;
 use std::alloc::{AllocError, Global};
 
-// What became of an entry that was to be carried out once more.
+// What became of an entry, or of a step of an opening, that was to be carried out once more.
 #[derive(Clone, Copy, Drop)]
 pub(crate) enum Outcome {
     // It is carried out, and stands in the journal.
     CarriedOut,
-    // No event enters it.
+    // It is not possible as the next one.
     Refused,
 }
 
