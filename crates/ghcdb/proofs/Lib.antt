@@ -3,6 +3,7 @@ mod CommandLine
 mod FrontTells
 mod IsStarted
 mod Opened
+mod SessionsOpened
 mod Tells
 mod TextFront
 mod Played

@@ -4,6 +4,7 @@ pub mod Refusal
 pub mod RefusedPart
 pub mod Start
 pub mod Opening
+pub mod Sessions
 pub mod Outputs
 pub mod ProgramText
 pub mod Status
