@@ -14,6 +14,8 @@ name that a failure tells. A run may take any order, so what is written is compa
   - where all orders leave the same, one worker and several stop for the same reason in the end, and where that is `quiet`, they keep
     as many steps, and leave the same values of the query's variables, but for the names of those that are unbound.
 
+Besides, tests/real_workers.py shows that these runs are made by several workers; its parts can be named behind --only, too.
+
 Where there is a C compiler, the library of tests/refuse.c lets some requests for memory sleep, so that workers overtake each other.
 With `--workers 1` the option is left out. The program is the proved one, or the one that the environment names as GHCDB. A session
 of more than 60 seconds is wrong. The last line is `N passed, M failed`.
@@ -21,22 +23,20 @@ of more than 60 seconds is wrong. The last line is `N passed, M failed`.
 import argparse
 import os
 import re
-import subprocess
 import sys
 import tempfile
 import time
 from concurrent.futures import ThreadPoolExecutor
 from itertools import count, cycle
 from pathlib import Path
-from zlib import crc32
 
 sys.dont_write_bytecode = True
 from judged_runs import RUNS, Wrong, judge_run, predicates_of, runs_of, steps_of
+from playing import play
 from random_sessions import KINDS, Case, case_of
-from refusing import PROGRAM, SECONDS, compile_library
+from real_workers import SHOWN
+from refusing import PROGRAM, compile_library
 
-# A line that is no command, whose reply tells where the one before it ends.
-END, ENDED = "?", "F25 command\n"
 APPEND = "append([],Y,Z) :- true | Z = Y.\nappend([A|X],Y,Z) :- true | Z = [A|Z1], append(X,Y,Z1).\n"
 SUM = "sum([],A,R) :- true | R = A.\nsum([X|S],A,R) :- true | B := A + X, sum(S,B,R).\n"
 RUN = ["goals", "records", "leap", "records", "goals"]
@@ -67,27 +67,6 @@ def fits_stream(replies):
 
 
 BY_HAND = [(NOTHING, fits_nothing), (LISTS, fits_lists), (STREAM, fits_stream)]
-
-
-def play(folder, case, lines, workers, history=None):
-    """The replies to the lines, by so many workers, on the history where there is one. Several workers are made to overtake each other,
-    if there is the library for that."""
-    words, environment = [PROGRAM, str(folder / "program.ghc"), "--query", case.query], os.environ.copy()
-    if workers > 1 and (folder.parent / "refuse.so").exists():
-        environment |= {"LD_PRELOAD": str(folder.parent / "refuse.so"), "PAUSE_SEED": str(crc32(case.name.encode()))}
-    words += [] if workers == 1 else ["--workers", str(workers)]
-    if history is not None:
-        (folder / "run.history").write_text(history)
-        words += ["--load", str(folder / "run.history")]
-    given = "".join(f"{line}\n{END}\n" for line in lines)
-    try:
-        ended = subprocess.run(words, input=given, capture_output=True, text=True, env=environment, timeout=SECONDS)
-    except subprocess.TimeoutExpired:
-        raise Wrong(f"it took more than {SECONDS} seconds") from None
-    *replies, rest = ended.stdout.split(ENDED)
-    if (ended.returncode, ended.stderr, rest, len(replies)) != (0, "", "", len(lines)):
-        raise Wrong(f"it ended with {ended.returncode}, {ended.stderr!r} and {rest!r}, behind {len(replies)} of {len(lines)} replies")
-    return replies
 
 
 def lines_behind(case):
@@ -131,7 +110,6 @@ def left_by(case, reason, replies):
 def judge(folder, case, workers):
     """Says what is wrong with a case that is played by so many workers, and gives the replies to the lines of its session."""
     lines, length = case.lines + lines_behind(case), len(case.lines)
-    (folder / "program.ghc").write_text(case.program)
     replies = play(folder, case, lines, workers)
     left = left_by(case, judge_runs(case, replies), replies[length:])
     judge_loaded(folder, case, replies[length:])
@@ -183,6 +161,16 @@ def all_wrong(folder, played, workers):
     return wrong
 
 
+def not_shown(above, name, workers):
+    """What is wrong with the part of tests/real_workers.py of that name, if anything, in a folder below that one."""
+    with tempfile.TemporaryDirectory(dir=above) as folder:
+        try:
+            SHOWN[name](Path(folder), workers)
+        except Wrong as wrong:
+            return f"failed: {name} by {workers} workers: {wrong}"
+    return None
+
+
 def main():
     parser = argparse.ArgumentParser(description=__doc__, formatter_class=argparse.RawDescriptionHelpFormatter)
     parser.add_argument("--runs", type=int, default=200)
@@ -193,13 +181,16 @@ def main():
     if not Path(PROGRAM).is_file():
         print(f"{PROGRAM} is not there: `rt ci` makes it", file=sys.stderr)
         return 1
-    played = cases(given)
+    shown = [] if given.only not in (None, *SHOWN) else [given.only] if given.only else list(SHOWN)
+    played = [] if given.only in SHOWN else cases(given)
+    tries = [(name, workers) for name in shown for workers in given.workers if workers > 1]
     with tempfile.TemporaryDirectory(prefix="ghcdb-workers-") as folder:
         if not compile_library(folder):
             print("workers: there is no C compiler, so threads take the turns that they happen to take")
-        wrong = [it for workers in given.workers for it in all_wrong(folder, played, workers)]
+        wrong = [it for name, workers in tries if (it := not_shown(folder, name, workers))]
+        wrong += [it for workers in given.workers for it in all_wrong(folder, played, workers)]
     print("".join(f"{it}\n" for it in wrong), end="")
-    print(f"{len(played) * len(given.workers) - len(wrong)} passed, {len(wrong)} failed")
+    print(f"{len(played) * len(given.workers) + len(tries) - len(wrong)} passed, {len(wrong)} failed")
     return 1 if wrong else 0
 
 
