@@ -4,6 +4,7 @@ mod FrontTells
 mod IsStarted
 mod Opened
 mod SessionsOpened
+mod SavedAgain
 mod Tells
 mod TextFront
 mod Played

@@ -5,6 +5,7 @@ pub mod RefusedPart
 pub mod Start
 pub mod Opening
 pub mod Sessions
+pub mod Saving
 pub mod Outputs
 pub mod ProgramText
 pub mod Status
