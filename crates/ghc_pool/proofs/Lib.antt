@@ -18,4 +18,5 @@ pub mod Scopes
 pub mod SameCalls
 pub mod RoundPlaces
 pub mod RoundTakes
+pub mod Unworked
 pub mod Crosses

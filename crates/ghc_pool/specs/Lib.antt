@@ -1,4 +1,5 @@
 pub mod Runs
+pub mod Stretches
 pub mod Laws
 pub mod Survey
 pub mod Meeting

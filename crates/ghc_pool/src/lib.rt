@@ -3,6 +3,8 @@
 
 mod answer;
 mod craft;
+mod crew;
+mod crew_round;
 mod deciding;
 mod drain;
 mod gate;
@@ -13,19 +15,23 @@ mod pause;
 mod question;
 mod rounds;
 mod running;
+mod running_together;
 mod scope;
 mod shared_round;
 mod stop;
 mod survey;
+mod workers;
 
 pub use answer::{Answer, RoundStop, Work};
 pub use gate::Gate;
 pub use laws::{runs_add_at_the_end, runs_reduce};
 pub use mode::Mode;
 pub use running::run;
+pub use running_together::run_together;
 pub use scope::Scope;
 pub use shared_round::{RoundReport, round};
 pub use stop::{Report, Stop};
+pub use workers::Workers;
 
 #[cfg(test)]
 mod tests;

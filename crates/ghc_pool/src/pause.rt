@@ -1,6 +1,8 @@
 // What a run does before its first step and between its stretches: it settles, and looks whether there is a reason to stop.
 ghost use Rattle.std.specs.Prelude.{◌≡◌, ℕ, IfOk, IfErr};
-ghost use Rattle.ghc_pool.specs.Runs.{CanGoOn, Holds};
+ghost use Rattle.ghc_term.specs.Lists.{In};
+ghost use Rattle.ghc_term.specs.declared.goal_name.GoalName.{GoalName as goal_name};
+ghost use Rattle.ghc_pool.specs.Runs.{IsReady, CanGoOn, Holds};
 
 use crate::stop::Stop;
 use crate::survey::survey;
@@ -19,6 +21,7 @@ pub fn pause(
 ) -> Result<Vec<GoalName>, Stop>
     ensures world { core.new.world ≡ core.old.world }
     ensures ready { IfOk result (λ _. CanGoOn spies.now root core.new.world) }
+    ensures each { IfOk result (λ ready. (g : goal_name) → In g ready.items → IsReady root core.new.world g) }
     ensures stop { IfErr result (λ stop. (limit taken : ℕ) → Holds (Unit {0}) spies.now root limit taken core.new.world core.new.notes stop) }
 {
     match core.settle(alloc) {

@@ -4,7 +4,7 @@ ghost use Rattle.std.specs.FinSet as set;
 ghost use Rattle.ghc_term.specs.Lists.{In};
 ghost use Rattle.ghc_term.specs.declared.goal_name.GoalName.{GoalName as goal_name};
 ghost use Rattle.ghc_hooks.specs.Tries.{IsUnblocked};
-ghost use Rattle.ghc_pool.specs.Runs.{IsSpiedIn, CanGoOn, Holds};
+ghost use Rattle.ghc_pool.specs.Runs.{IsReady, IsSpiedIn, CanGoOn, Holds};
 ghost use Rattle.ghc_pool.specs.Survey.{StandsTo, AreListed, IsStopped};
 
 use crate::question::{is_in_question, is_spied_in};
@@ -111,6 +111,7 @@ pub fn survey(
 ) -> Result<Vec<GoalName>, Stop>
     requires { core.now.untried ≡ set.empty }
     ensures ready { IfOk result (λ _. CanGoOn spies.now root core.now.world) }
+    ensures each { IfOk result (λ ready. (g : goal_name) → In g ready.items → IsReady root core.now.world g) }
     ensures stop { IfErr result (λ stop. (limit taken : ℕ) → Holds (Unit {0}) spies.now root limit taken core.now.world core.now.notes stop) }
 {
     core.stands();

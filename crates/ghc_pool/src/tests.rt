@@ -1,4 +1,7 @@
 // Four workers: all names are taken, and no more is submitted than the limit allows.
+mod overlap;
+mod unifications;
+
 ghost use Rattle.std.specs.Prelude.{◌≡◌, ◌≤◌, ◌<◌, ◌^◌, length};
 ghost use Rattle.std.specs.Vec.{vec_len};
 

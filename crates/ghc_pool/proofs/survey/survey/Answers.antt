@@ -45,3 +45,6 @@ returns-clause-ready c =
     let unspied = λ (g : GoalName) (i : In g ready). c.in_default-first_spied.ensures.none g (subst (In g) (sym c.deref-2.ensures.value) i) in
     let one = some_member ready (empty_not ready _ c.in-Ok-ready_ones.ready.ok.0 (sym c.is_empty.ensures ∙ c.if-is_empty.false)) in
     goes_on c.args.spies.now c.args.root core.world c.deref.result.now among ready c.in-Ok-ready_ones.ensures.listed unspied (not_full core.world (c.is_full.ensures.room c.if-is_full.false)) one.0 one.1
+
+pub returns-clause-each : goal.returns-clause-each
+returns-clause-each c g i = c.in-Ok-ready_ones.ensures.listed.each g i

@@ -16,8 +16,8 @@ returns-in-Err c = record {
 }
 
 -- a step of it was refused
-pub returns-in-Err-load : goal.returns-in-Err-load
-returns-in-Err-load c = record {
+pub returns : goal.returns
+returns c = record {
   answer = (
     tt,
     told_of_history c.args.started c.args.text.now c.refused-in-Err-load.result c.in-Err-load.fault c.refused-in-Err-load.ensures.part c.refused-in-Err-load.ensures.fault (elim c.in-Err-load.ensures.answer.1 [

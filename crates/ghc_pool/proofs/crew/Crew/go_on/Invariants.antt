@@ -1,0 +1,19 @@
+use Rattle.std.proofs.Common.{◌≡◌, ◌≤◌, ◌-◌, List, length}
+use Rattle.ghc_term.specs.declared.goal_name.GoalName.{GoalName}
+use Rattle.ghc_term.specs.Lists.{In}
+use Rattle.ghc_records.specs.Record.{Record}
+use Rattle.ghc_pool.specs.Runs.{IsInQuestion, Takes, CanGoOn}
+use Rattle.ghc_pool.proofs.crew.Crew.go_on.Given as goal
+
+abbrev pub invariant-loop-added : goal.invariant-loop-added
+invariant-loop-added g l = record {
+  steps : List Record;
+  taken : Takes l.self.workers l.self.spies.now l.root l.initial.core.world steps l.core.world;
+  count : l.added ≡ length steps;
+  few : l.added ≤ l.limit;
+  goes_on : CanGoOn l.self.spies.now l.root l.core.world;
+  asked : (h : GoalName) → In h l.listed.items → IsInQuestion l.root l.core.world.kept h;
+}
+
+abbrev pub decreases-loop-added : goal.decreases-loop-added
+decreases-loop-added g l = l.limit - l.added

@@ -1,0 +1,134 @@
+// Two workers take the steps of two unifications, each goal once.
+ghost use Rattle.std.specs.Prelude.{◌≡◌, ◌+◌, length};
+ghost use Rattle.ghc_records.specs.Journal.{history};
+ghost use Rattle.ghc_shared.specs.Calls.{code_of};
+
+use crate::answer::{Answer, Work};
+use crate::gate::Gate;
+use crate::mode::Mode;
+use crate::scope::Scope;
+use crate::shared_round::{RoundReport, round};
+use ghc_core::{Core, Reply};
+use ghc_flat::check;
+use ghc_reader::{read_program, read_query};
+use ghc_shared::{Naming, Opening};
+use ghc_term::GoalName;
+use ghc_trace::SpySet;
+use std::alloc::Global;
+use std::marker::Brand;
+use std::process::Abort;
+use std::sync::Wait;
+use std::test::*;
+use std::thread::Threads;
+
+// A gate at which nobody waits.
+struct Open;
+
+impl Gate for Open {
+    fn held(&self, worker: usize, goal: GoalName) {
+        let _ = worker;
+        let _ = goal;
+    }
+
+    fn answered(&self, worker: usize, goal: GoalName) {
+        let _ = worker;
+        let _ = goal;
+    }
+}
+
+// The goal `0.place`.
+fn goal(place: u32) -> GoalName {
+    GoalName { step: 0, place }
+}
+
+// The core of two unifications under no clauses.
+pub(crate) fn two(alloc: Global) -> Option<Core> {
+    let Ok(query) = read_query(alloc, b"X = 1, Y = 2") else {
+        return None;
+    };
+    let Ok(source) = read_program(alloc, b"") else {
+        return None;
+    };
+    let Ok(program) = check(alloc, source, &query) else {
+        return None;
+    };
+    Core::new(alloc, program, query).ok()
+}
+
+// How many answers tell of a step that was taken.
+fn steps_of(work: &Work) -> usize {
+    let mut steps = 0usize;
+    for taken in &work.taken {
+        if let Answer::Submitted(receipt) = &taken.1 {
+            if matches!(receipt.reply, Reply::Stepped(_)) {
+                steps = steps.wrapping_add(1);
+            }
+        }
+    }
+    steps
+}
+
+// How many names were offered, taken and left, and how many steps were taken.
+fn counts(report: &RoundReport) -> (usize, usize, usize, usize) {
+    let mut sums = (0usize, 0usize, 0usize, 0usize);
+    for work in &report.workers {
+        sums.0 = sums.0.wrapping_add(work.offered.len());
+        sums.1 = sums.1.wrapping_add(work.taken.len());
+        sums.2 = sums.2.wrapping_add(work.left.len());
+        sums.3 = sums.3.wrapping_add(steps_of(work));
+    }
+    sums
+}
+
+#[test]
+fn two_unifications(rt: HostRuntime) -> Result<(), Fail> {
+    let core = two(rt.alloc()).ok_or("a core")?;
+    assert_eq!(rt; core.meter().firings(), 0);
+    let Ok(opening) = Opening::new(rt.alloc(), core, 2) else {
+        return Err("memory for the table".into());
+    };
+    two_named::<Brand, _>(&rt, rt.alloc(), opening)
+}
+
+// All is taken, both goals by a step, and nothing is left.
+fn two_named<N: Naming + Send + Sync, R: Threads + Wait + Abort + Sync>(
+    rt: &R,
+    alloc: Global,
+    opening: Opening<Core>,
+) -> Result<(), Fail>
+    requires table { opening.table ≡ N.table }
+    requires ledger { (opening.name ≡ N.name) × (opening.passes + 1 ≡ N.parts) }
+    requires passes { opening.passes ≡ N.passes }
+    requires opened { code_of opening.value.world.opening ≡ N.opened }
+    requires base { length (history opening.value.world.opening opening.value.world.journal) ≡ N.base }
+{
+    let Ok((shared, passes)) = opening.named::<N>(alloc) else {
+        return Err("memory for the passes".into());
+    };
+    if passes.is_empty() || passes.len() > 64 {
+        return Err("two passes".into());
+    }
+    let names = [goal(1), goal(2)];
+    let spies = SpySet::new(alloc);
+    let mode = Mode::Leap { limit: 10 };
+    let Ok((passes, report)) = round(
+        rt,
+        alloc,
+        &shared,
+        passes,
+        &mode,
+        &Scope::Any,
+        &spies,
+        &names,
+        &Open,
+    ) else {
+        return Err("memory for the round".into());
+    };
+    assert_eq!(rt; counts(&report), (2, 2, 0, 2));
+    assert!(rt; report.stop.is_none());
+    let core = shared.close(passes);
+    assert_eq!(rt; core.records().len(), 2);
+    assert_eq!(rt; core.meter().firings(), 2);
+    assert_eq!(rt; core.meter().tries(), 0);
+    Ok(())
+}

@@ -1,0 +1,82 @@
+"""Shows that a run by several workers is made by several, for tests/workers.py.
+
+Threads take the turns that they get, so no single run has to show it. Each of these is tried until one run does:
+
+  - orders: of at most 200 runs of the same goals, two tell other steps, or the same in another order. One thread alone would take
+    the same steps each time, so a program that heeds no `--workers` fails here;
+  - threads: where the system lists the threads of a process, as many are there at once as there are workers, in one of at most 20
+    runs; in none are there more;
+  - halt: in one of at most 10 runs of goals without end, of which one leads to a spied goal, the run stops for that goal at most 2,000
+    steps behind the one that made it: where a worker has met a reason to stop, the others do no more than they have in hand.
+"""
+import os
+import re
+import subprocess
+import time
+from pathlib import Path
+
+from judged_runs import Wrong
+from playing import play, words_of
+from random_sessions import FLOW, Case
+from refusing import SECONDS
+
+ENDLESS = "from(N) :- true | M := N + 1, from(M).\n"
+MET = "down([]) :- true | met.\ndown([A|X]) :- true | down(X).\nmet :- true | true.\n"
+
+
+def show_orders(folder, workers):
+    """Two of at most 200 runs tell other orders."""
+    told = set()
+    for number in range(200):
+        told.update(play(folder, Case(f"orders-{number}", FLOW, "fork(8,R)", [], [], False), ["leap"], workers))
+        if len(told) > 1:
+            return
+    raise Wrong("each of 200 runs took the same steps in the same order, as one thread does")
+
+
+def most_threads(folder, workers):
+    """How many threads there were at once, at the most, in a run of many goals without end. It makes no pauses."""
+    case = Case("threads", ENDLESS, ", ".join(["from(0)"] * 2 * workers), [], [], False)
+    (folder / "lines").write_text("leap 100000\n")
+    most, started, lines = 0, time.monotonic(), (folder / "lines").open()
+    with lines, subprocess.Popen(words_of(folder, case, workers), stdin=lines, stdout=subprocess.DEVNULL) as process:
+        while process.poll() is None:
+            most = max(most, len(os.listdir(f"/proc/{process.pid}/task")))
+            time.sleep(0.001)
+            if time.monotonic() - started > SECONDS:
+                process.kill()
+                raise Wrong(f"it took more than {SECONDS} seconds")
+    return most
+
+
+def show_threads(folder, workers):
+    """As many threads are there at once as workers, in one of at most 20 runs, and more in none."""
+    if not Path("/proc/self/task").is_dir():
+        return
+    found = []
+    while len(found) < 20 and workers not in found and max(found, default=0) <= workers:
+        found.append(most_threads(folder, workers))
+    if found[-1] != workers:
+        raise Wrong(f"at the most, so many threads were there at once in each of some runs: {found}")
+
+
+def steps_behind(folder, workers, name):
+    """How many steps a run took behind the one that made the spied goal for which it stopped; or why it stopped otherwise."""
+    case = Case(name, ENDLESS + MET, f"from(0), from(0), down([{','.join(50 * '1')}]), from(0)", [], [], False)
+    told = play(folder, case, ["spy met/0", "leap 20000"], workers)[1]
+    stopped = re.search(r"^stopped (?:spied (\d+)\.1|.*)$", told, re.MULTILINE)
+    maker = stopped and stopped[1]
+    return sum(int(number) > int(maker) for number in re.findall(r"^REDU (\d+)", told, re.MULTILINE)) if maker else stopped and stopped[0]
+
+
+def show_halt(folder, workers):
+    """A run stops at most 2,000 steps behind the one that made a spied goal, in one of at most 10 runs."""
+    found = []
+    while len(found) < 10:
+        found.append(steps_behind(folder, workers, f"halt-{len(found)}"))
+        if isinstance(found[-1], int) and found[-1] <= 2000:
+            return
+    raise Wrong(f"so many steps stand behind the one that made a spied goal, or so each of some runs stopped: {found}")
+
+
+SHOWN = {"orders": show_orders, "threads": show_threads, "halt": show_halt}
