@@ -19,5 +19,6 @@ pub mod LineMemory
 pub mod Spying
 pub mod RunLines
 pub mod RunCommands
+mod Served
 mod ScheduleSaid
 mod SchedulePlays

@@ -16,9 +16,10 @@ use Rattle.ghc_hooks.specs.Notes.{NotesByGoal}
 use Rattle.ghc_core.specs.World.{World}
 use Rattle.ghc_trace.specs.Spies.{Spies}
 use Rattle.ghc_pool.specs.declared.stop.Report.{Report}
-use Rattle.ghc_pool.specs.Runs.{Runs, Takes, at_start, and_step}
+use Rattle.ghc_pool.specs.declared.mode.Mode.{Mode}
+use Rattle.ghc_pool.specs.Runs.{Runs, RunsIn, Takes, at_start, and_step}
 use Rattle.ghc_pool.specs.Laws.{RunsAddAtTheEnd}
-use Rattle.ghc_console.specs.RunReplies.{AreTold, no_line, and_line, IsAdded, IsLineTold, TellsRun, last_of, run_lines, step_line}
+use Rattle.ghc_console.specs.RunReplies.{AreTold, no_line, and_line, IsAdded, IsLineTold, TellsRun, last_of, mode_of, run_lines, step_line}
 use Rattle.ghc_console.specs.WritesTold.{WritesTold}
 use Rattle.ghc_console.proofs.RecordLines.{drop_at}
 
@@ -86,14 +87,20 @@ at_last [] y x (suc i) e = let clash : None ≡ Some x = e in cc
 at_last (z ∷ xs) y x zero e = inl e
 at_last (z ∷ xs) y x (suc i) e = elim (at_last xs y x i e) [ inl old ↦ inl old | inr new ↦ inr (ap suc new.0, new.1) ]
 
+-- What is done in the mode of a run is a run.
+pub runs_so : (root : Option GoalName) (limit workers : ℕ) (spies : Spies) (w v : World) (notes : NotesByGoal) (report : Report) (mode : Mode) → mode ≡ mode_of root limit
+    → RunsIn mode (Unit {0}) workers spies w v notes report → Runs (Unit {0}) workers spies root limit w v notes report
+runs_so None limit workers spies w v notes report mode is ran = subst (λ m. RunsIn m (Unit {0}) workers spies w v notes report) is ran
+runs_so (Some root) limit workers spies w v notes report mode is ran = subst (λ m. RunsIn m (Unit {0}) workers spies w v notes report) is ran
+
 -- The steps of a run have the next numbers.
-numbered : RunsAddAtTheEnd → (spies : Spies) (root : Option GoalName) (w v : World) (steps : List Record) → Takes spies root w steps v
+numbered : RunsAddAtTheEnd → (workers : ℕ) (spies : Spies) (root : Option GoalName) (w v : World) (steps : List Record) → Takes workers spies root w steps v
     → (i : ℕ) (r : Record) → slice_get steps i ≡ Some r → r.number ≡ w.next + i
-numbered law spies root w v steps at_start i r e = let clash : None ≡ Some r = e in cc
-numbered law spies root w v steps (and_step {steps = front} {v = u} q t s) i r e =
+numbered law workers spies root w v steps at_start i r e = let clash : None ≡ Some r = e in cc
+numbered law workers spies root w v steps (and_step {steps = front} {v = u} q t s) i r e =
     elim (at_last front q r i e) [
-      | inl old ↦ numbered law spies root w u front t i r old
-      | inr new ↦ ap (λ (z : Record). z.number) new.1 ∙ s.taken.3.1.0 ∙ (law spies root w u front t).next ∙ ap (λ k. w.next + k) (sym new.0)
+      | inl old ↦ numbered law workers spies root w u front t i r old
+      | inr new ↦ ap (λ (z : Record). z.number) new.1 ∙ s.taken.2.1.0 ∙ (law workers spies root w u front t).next ∙ ap (λ k. w.next + k) (sym new.0)
     ]
 
 -- The last of a list, as many as stand behind its front.
@@ -103,19 +110,19 @@ last_is front back =
     let less : length (front ++ back) - length back ≡ length front = omega (arith, long) in
     ap (λ k. drop k (front ++ back)) less ∙ drop-append_seam front back
 
-module _ (law : RunsAddAtTheEnd) (spies : Spies) (root : Option GoalName) (limit : ℕ) (w v : World) (notes : NotesByGoal) (report : Report) (ran : Runs (Unit {0}) spies root limit w v notes report) where
+module _ (law : RunsAddAtTheEnd) (workers : ℕ) (spies : Spies) (root : Option GoalName) (limit : ℕ) (w v : World) (notes : NotesByGoal) (report : Report) (ran : Runs (Unit {0}) workers spies root limit w v notes report) where
   -- the last steps are those of the run
   its_steps : last_of report.added v.kept ≡ ran.steps
   its_steps =
-      let adds = law spies root w v ran.steps ran.taken in
+      let adds = law workers spies root w v ran.steps ran.taken in
       ap (λ k. last_of k v.kept) ran.count ∙ ap (last_of (length ran.steps)) adds.kept ∙ last_is w.kept ran.steps
 
-  pub tells_run : (text : List ℕ) → AreTold (run_lines (last_of report.added v.kept) report.stop) text → TellsRun spies root limit w text v
+  pub tells_run : (text : List ℕ) → AreTold (run_lines (last_of report.added v.kept) report.stop) text → TellsRun workers spies root limit w text v
   tells_run text told = record { notes = notes; report = report; run = ran; told = subst (λ steps. AreTold (run_lines steps report.stop) text) its_steps told }
 
   pub is_added : IsAdded v report.added
   is_added =
-      let adds = law spies root w v ran.steps ran.taken in
+      let adds = law workers spies root w v ran.steps ran.taken in
       let count = ran.count in
       let next = adds.next in
       let long : length v.kept ≡ length w.kept + length ran.steps = ap length adds.kept ∙ length-append w.kept ran.steps in
@@ -123,11 +130,11 @@ module _ (law : RunsAddAtTheEnd) (spies : Spies) (root : Option GoalName) (limit
       record {
         few = omega (arith, count, long);
         below = omega (arith, count, next);
-        numbered = λ i r e. numbered law spies root w v ran.steps ran.taken i r (subst (λ steps. slice_get steps i ≡ Some r) its_steps e) ∙ ap (λ k. k + i) (sym first);
+        numbered = λ i r e. numbered law workers spies root w v ran.steps ran.taken i r (subst (λ steps. slice_get steps i ≡ Some r) its_steps e) ∙ ap (λ k. k + i) (sym first);
       }
 
   pub opening_left : v.opening ≡ w.opening
-  opening_left = (law spies root w v ran.steps ran.taken).opening
+  opening_left = (law workers spies root w v ran.steps ran.taken).opening
 
 module _ (w : World) (count : ℕ) (added : IsAdded w count) where
   so_many : length (last_of count w.kept) ≡ count

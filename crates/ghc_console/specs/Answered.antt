@@ -22,11 +22,11 @@ IsCarriedOut s c text t told = Answers s c text t × (quits c ≡ false)
 IsCarriedOut s c text t ends = Answers s c text t × (quits c ≡ true)
 IsCarriedOut s c text t (ran report) = ((lines : List ℕ) → AreTold (run_lines (last_of report.added t.world.kept) report.stop) lines → Answers s c lines t) × (quits c ≡ false)
 
--- IsSkippedBy spies w g text v answered: the text is the reply to skipping the goal named g, which leaves the world v. Or there was a run: each text that tells its lines, of the last steps that v keeps and why it stopped, is the reply.
-abbrev pub IsSkippedBy : Spies → World → GoalName → List ℕ → World → Answered → Type 0
-IsSkippedBy spies w g text v told = RepliesToSkip spies w g text v
-IsSkippedBy spies w g text v ends = ⊥
-IsSkippedBy spies w g text v (ran report) = (lines : List ℕ) → AreTold (run_lines (last_of report.added v.kept) report.stop) lines → RepliesToSkip spies w g lines v
+-- IsSkippedBy workers spies w g text v answered: the text is the reply to skipping the goal named g by so many workers, which leaves the world v. Or there was a run: each text that tells its lines, of the last steps that v keeps and why it stopped, is the reply.
+abbrev pub IsSkippedBy : ℕ → Spies → World → GoalName → List ℕ → World → Answered → Type 0
+IsSkippedBy workers spies w g text v told = RepliesToSkip workers spies w g text v
+IsSkippedBy workers spies w g text v ends = ⊥
+IsSkippedBy workers spies w g text v (ran report) = (lines : List ℕ) → AreTold (run_lines (last_of report.added v.kept) report.stop) lines → RepliesToSkip workers spies w g lines v
 
 -- If there was a run, as many steps as it reports are the last of the world.
 abbrev pub HasAdded : World → Answered → Type 0

@@ -179,27 +179,27 @@ pub data RepliesToSpy (P : Program) (f : List ℕ) (n : ℕ) : List ℕ → Type
   is_spied : HasClauseFor P f n → RepliesToSpy P f n (lined (codes "spying " ++ predicate_text f n))
   is_undefined : ¬ HasClauseFor P f n → RepliesToSpy P f n (refusal (Fault.Undefined f n))
 
--- Replies spies w c text v: where these predicates are spied, the reply to the command c in the world w is the text, and it leaves the world v.
-abbrev pub Replies : Spies → World → LineCommand → List ℕ → World → Type 0
-Replies spies w nothing text v = (text ≡ []) × (v ≡ w)
-Replies spies w (step g choice) text v = RepliesToStep w g choice text v
-Replies spies w (obey c) text v = IsObeyed w (core_command_of c) text v
-Replies spies w (show word) text v = RepliesToShow w word text × (v ≡ w)
-Replies spies w records text v = (text ≡ records_text w.kept) × (v ≡ w)
-Replies spies w goals text v = RepliesToGoals w text × (v ≡ w)
-Replies spies w (why n) text v = RepliesToWhy w n text × (v ≡ w)
-Replies spies w (who word) text v = RepliesToWho w word text × (v ≡ w)
-Replies spies w shelf text v = (text ≡ shelf_text w.shelf) × (v ≡ w)
-Replies spies w save text v = (text ≡ saved_text w spies) × (v ≡ w)
-Replies spies w save_steps text v = RepliesToSaveSteps w text × (v ≡ w)
-Replies spies w (spy f n) text v = RepliesToSpy w.opening.program f n text × (v ≡ w)
-Replies spies w (unspy f n) text v = (text ≡ lined (codes "not spying " ++ predicate_text f n)) × (v ≡ w)
-Replies spies w (input k given) text v = RepliesToInput w k given text v
-Replies spies w (ask given) text v = RepliesToAsk w given text v
-Replies spies w (leap limit) text v = TellsRun spies None limit w text v
-Replies spies w (skip g) text v = RepliesToSkip spies w g text v
-Replies spies w quit text v = (text ≡ []) × (v ≡ w)
-Replies spies w unknown text v = (text ≡ refusal Fault.Command) × (v ≡ w)
+-- Replies workers spies w c text v: where these predicates are spied and so many workers make a run, the reply to the command c in the world w is the text, and it leaves the world v.
+abbrev pub Replies : ℕ → Spies → World → LineCommand → List ℕ → World → Type 0
+Replies workers spies w nothing text v = (text ≡ []) × (v ≡ w)
+Replies workers spies w (step g choice) text v = RepliesToStep w g choice text v
+Replies workers spies w (obey c) text v = IsObeyed w (core_command_of c) text v
+Replies workers spies w (show word) text v = RepliesToShow w word text × (v ≡ w)
+Replies workers spies w records text v = (text ≡ records_text w.kept) × (v ≡ w)
+Replies workers spies w goals text v = RepliesToGoals w text × (v ≡ w)
+Replies workers spies w (why n) text v = RepliesToWhy w n text × (v ≡ w)
+Replies workers spies w (who word) text v = RepliesToWho w word text × (v ≡ w)
+Replies workers spies w shelf text v = (text ≡ shelf_text w.shelf) × (v ≡ w)
+Replies workers spies w save text v = (text ≡ saved_text w spies) × (v ≡ w)
+Replies workers spies w save_steps text v = RepliesToSaveSteps w text × (v ≡ w)
+Replies workers spies w (spy f n) text v = RepliesToSpy w.opening.program f n text × (v ≡ w)
+Replies workers spies w (unspy f n) text v = (text ≡ lined (codes "not spying " ++ predicate_text f n)) × (v ≡ w)
+Replies workers spies w (input k given) text v = RepliesToInput w k given text v
+Replies workers spies w (ask given) text v = RepliesToAsk w given text v
+Replies workers spies w (leap limit) text v = TellsRun workers spies None limit w text v
+Replies workers spies w (skip g) text v = RepliesToSkip workers spies w g text v
+Replies workers spies w quit text v = (text ≡ []) × (v ≡ w)
+Replies workers spies w unknown text v = (text ≡ refusal Fault.Command) × (v ≡ w)
 
 -- The command ends the session.
 abbrev pub quits : LineCommand → Bool
@@ -225,8 +225,9 @@ quits unknown = false
 
 -- Answers s c text t: the reply to the command c in the state s is the text, and it leaves the state t.
 pub record Answers (s : SessionState) (c : LineCommand) (text : List ℕ) (t : SessionState) : Type 0 where
-  pub told : Replies s.spies s.world c text t.world
+  pub told : Replies s.workers s.spies s.world c text t.world
   pub spies : LeavesSpies s.world.opening.program s.spies c t.spies
+  pub workers : t.workers ≡ s.workers
 
 -- IsReply s line text t ended: the text is the reply to the line in the state s, which leaves the state t, and the session ends or goes on. A line past the limit is refused; and each line may find no memory, which changes nothing.
 pub data IsReply (s : SessionState) (line : List ℕ) : List ℕ → SessionState → Bool → Type 0 where

@@ -15,6 +15,8 @@ use Rattle.ghc_trace.specs.Spies.{Spies}
 use Rattle.ghc_pool.specs.declared.stop.Stop.{Stop}
 use Rattle.ghc_pool.specs.declared.stop.Stop.TheVariants.{Quiet as quiet, Spied as spied, Clash as clash, Limit as at_limit, Full as full, Memory as memory}
 use Rattle.ghc_pool.specs.declared.stop.Report.{Report}
+use Rattle.ghc_pool.specs.declared.mode.Mode.{Mode}
+use Rattle.ghc_pool.specs.declared.mode.Mode.TheVariants as mode
 use Rattle.ghc_pool.specs.Runs.{Runs}
 use Rattle.ghc_console.specs.Commands.{run_limit}
 use Rattle.ghc_console.specs.TextLines.{lined, refusal}
@@ -49,17 +51,22 @@ pub data AreTold : List (List ℕ) → List ℕ → Type 0 where
 abbrev pub run_lines : List Record → Stop → List (List ℕ)
 run_lines steps stop = map step_line steps ++ stop_line stop ∷ []
 
--- TellsRun spies root limit w text v: a run of at most so many steps, of the goals that descend from the root where one is named, left the world v; the text tells its steps, and why it stopped.
-pub record TellsRun (spies : Spies) (root : Option GoalName) (limit : ℕ) (w : World) (text : List ℕ) (v : World) : Type 0 where
+-- the mode of a run of at most so many steps: of any goals, or where a root is named, of those that descend from it
+abbrev pub mode_of : Option GoalName → ℕ → Mode
+mode_of None limit = mode.Leap limit
+mode_of (Some root) limit = mode.Skip root limit
+
+-- TellsRun workers spies root limit w text v: a run by so many workers, of at most so many steps, of the goals that descend from the root where one is named, left the world v; the text tells its steps, and why it stopped.
+pub record TellsRun (workers : ℕ) (spies : Spies) (root : Option GoalName) (limit : ℕ) (w : World) (text : List ℕ) (v : World) : Type 0 where
   pub notes : NotesByGoal
   pub report : Report
-  pub run : Runs (Unit {0}) spies root limit w v notes report
+  pub run : Runs (Unit {0}) workers spies root limit w v notes report
   pub told : AreTold (run_lines run.steps report.stop) text
 
--- RepliesToSkip spies w g text v: the goal named g is there, and the text tells a run of the goals that descend from it, with the limit of a run for which no number is said; or it is the refusal, where no such goal is there.
-pub data RepliesToSkip (spies : Spies) (w : World) (g : GoalName) : List ℕ → World → Type 0 where
-  skips : (b : Goal) {text : List ℕ} {v : World} → finite.get w.state.goals g ≡ Some b → TellsRun spies (Some g) run_limit w text v → RepliesToSkip spies w g text v
-  no_goal : finite.get w.state.goals g ≡ None → RepliesToSkip spies w g (refusal Fault.NoGoal) w
+-- RepliesToSkip workers spies w g text v: the goal named g is there, and the text tells a run by so many workers of the goals that descend from it, with the limit of a run for which no number is said; or it is the refusal, where no such goal is there.
+pub data RepliesToSkip (workers : ℕ) (spies : Spies) (w : World) (g : GoalName) : List ℕ → World → Type 0 where
+  skips : (b : Goal) {text : List ℕ} {v : World} → finite.get w.state.goals g ≡ Some b → TellsRun workers spies (Some g) run_limit w text v → RepliesToSkip workers spies w g text v
+  no_goal : finite.get w.state.goals g ≡ None → RepliesToSkip workers spies w g (refusal Fault.NoGoal) w
 
 -- the last of the records, so many of them
 abbrev pub last_of : ℕ → List Record → List Record

@@ -18,8 +18,11 @@ use crate::run_reply::{leap, skip};
 use crate::save_reply::{save, save_steps};
 use crate::shelf_reply::shelf;
 use crate::spy_reply::{spy, unspy};
+use ghc_pool::Gate;
 use ghc_term::{Fault, Limit};
 use std::alloc::{AllocError, Global};
+use std::sync::Wait;
+use std::thread::Threads;
 
 // Carries a command out that is no run, and writes the reply. An error leaves the state as it was.
 fn tell(
@@ -30,10 +33,11 @@ fn tell(
 ) -> Result<(), AllocError>
     requires empty { string_bytes reply.old ≡ [] }
     requires told { runs_of command.now ≡ 0 }
-    ensures reply { OnOk result (Replies debugger.old.spies debugger.old.core.world command.now (string_bytes reply.new) debugger.new.core.world) }
+    ensures reply { OnOk result (Replies debugger.old.workers debugger.old.spies debugger.old.core.world command.now (string_bytes reply.new) debugger.new.core.world) }
     ensures spies { OnOk result (LeavesSpies debugger.old.core.world.opening.program debugger.old.spies command.now debugger.new.spies) }
     ensures world { OnErr result (debugger.new.core.world ≡ debugger.old.core.world) }
     ensures kept { OnErr result (debugger.new.spies ≡ debugger.old.spies) }
+    ensures workers { debugger.new.workers ≡ debugger.old.workers }
     ensures opening { debugger.new.core.world.opening ≡ debugger.old.core.world.opening }
     ensures fires { Fires command.now debugger.old.core.meter.firings debugger.new.core.meter.firings }
 {
@@ -70,79 +74,85 @@ fn tell(
 }
 
 // Carries a command out, and writes the reply, but that of a run. An error leaves the state as it was.
-fn execute(
+fn execute<R: Threads + Wait + Sync, G: Gate + Sync>(
+    rt: &R,
     alloc: Global,
-    debugger: &mut Debugger,
+    debugger: Debugger,
+    gate: &G,
     command: &LineCommand,
     reply: &mut String,
-) -> Result<Answered, AllocError>
+) -> (Debugger, Result<Answered, AllocError>)
     requires { string_bytes reply.old ≡ [] }
-    ensures answered { IfOk result (IsCarriedOut (state_of debugger.old) command.now (string_bytes reply.new) (state_of debugger.new)) }
-    ensures added { IfOk result (HasAdded debugger.new.core.world) }
-    ensures err { OnErr result (state_of debugger.new ≡ state_of debugger.old) }
-    ensures opening { debugger.new.core.world.opening ≡ debugger.old.core.world.opening }
-    ensures fires { Fires command.now debugger.old.core.meter.firings debugger.new.core.meter.firings }
+    ensures answered { IfOk result.1 (IsCarriedOut (state_of debugger) command.now (string_bytes reply.new) (state_of result.0)) }
+    ensures added { IfOk result.1 (HasAdded result.0.core.world) }
+    ensures err { OnErr result.1 (state_of result.0 ≡ state_of debugger) }
+    ensures opening { result.0.core.world.opening ≡ debugger.core.world.opening }
+    ensures fires { Fires command.now debugger.core.meter.firings result.0.core.meter.firings }
 {
     match command {
         LineCommand::Leap(limit) => {
-            let report = leap(alloc, &mut debugger.core, &debugger.spies, None, *limit);
-            Ok(Answered::Ran(report))
+            let (debugger, report) = leap(rt, alloc, debugger, gate, None, *limit);
+            (debugger, Ok(Answered::Ran(report)))
         }
-        LineCommand::Skip(goal) => {
-            let Debugger { core, spies } = debugger;
-            skip(alloc, core, spies, *goal, reply)
+        LineCommand::Skip(goal) => skip(rt, alloc, debugger, gate, *goal, reply),
+        LineCommand::Quit => (debugger, Ok(Answered::Ends)),
+        _ => {
+            let mut debugger = debugger;
+            match tell(alloc, &mut debugger, command, reply) {
+                Ok(()) => (debugger, Ok(Answered::Told)),
+                Err(error) => (debugger, Err(error)),
+            }
         }
-        LineCommand::Quit => Ok(Answered::Ends),
-        _ => match tell(alloc, debugger, command, reply) {
-            Ok(()) => Ok(Answered::Told),
-            Err(error) => Err(error),
-        },
     }
 }
 
 // Carries a whole line out, and writes the reply, but that of a run.
-fn execute_line(
+fn execute_line<R: Threads + Wait + Sync, G: Gate + Sync>(
+    rt: &R,
     alloc: Global,
-    debugger: &mut Debugger,
+    debugger: Debugger,
+    gate: &G,
     line: &[u8],
     reply: &mut String,
-) -> Result<Answered, AllocError>
+) -> (Debugger, Result<Answered, AllocError>)
     requires { string_bytes reply.old ≡ [] }
-    ensures ok { length line.now ≤ line_limit → IfOk result (IsAnsweredBy (state_of debugger.old) line.now (string_bytes reply.new) (state_of debugger.new)) }
-    ensures added { IfOk result (HasAdded debugger.new.core.world) }
-    ensures err { OnErr result (state_of debugger.new ≡ state_of debugger.old) }
-    ensures opening { debugger.new.core.world.opening ≡ debugger.old.core.world.opening }
-    ensures fires { Fires (command_of line.now) debugger.old.core.meter.firings debugger.new.core.meter.firings }
+    ensures ok { length line.now ≤ line_limit → IfOk result.1 (IsAnsweredBy (state_of debugger) line.now (string_bytes reply.new) (state_of result.0)) }
+    ensures added { IfOk result.1 (HasAdded result.0.core.world) }
+    ensures err { OnErr result.1 (state_of result.0 ≡ state_of debugger) }
+    ensures opening { result.0.core.world.opening ≡ debugger.core.world.opening }
+    ensures fires { Fires (command_of line.now) debugger.core.meter.firings result.0.core.meter.firings }
 {
     match parse(alloc, line) {
-        Ok(command) => execute(alloc, debugger, &command, reply),
-        Err(error) => Err(error),
+        Ok(command) => execute(rt, alloc, debugger, gate, &command, reply),
+        Err(error) => (debugger, Err(error)),
     }
 }
 
 /// Carries a line out, and writes the reply in place of what stood in the text, but for a run: its lines are to be told, and the
 /// text is to be taken for nothing. It says too whether the session ends. An error says that memory was refused, which is the
-/// reply then.
-pub fn answer(
+/// reply then. The debugger is given back as the line leaves it.
+pub fn answer<R: Threads + Wait + Sync, G: Gate + Sync>(
+    rt: &R,
     alloc: Global,
-    debugger: &mut Debugger,
+    debugger: Debugger,
+    gate: &G,
     line: &Line,
     reply: &mut String,
-) -> Result<Answered, AllocError>
-    ensures reply { (bytes : List ℕ) → LineSays line.now bytes → MatchResult result
-        (IsAnsweredBy (state_of debugger.old) bytes (string_bytes reply.new) (state_of debugger.new))
-        (λ _. IsReply (state_of debugger.old) bytes (refusal Fault.Memory) (state_of debugger.new) false) }
-    ensures added { IfOk result (HasAdded debugger.new.core.world) }
-    ensures opening { debugger.new.core.world.opening ≡ debugger.old.core.world.opening }
-    ensures fires { (bytes : List ℕ) → LineSays line.now bytes → Fires (command_of bytes) debugger.old.core.meter.firings debugger.new.core.meter.firings }
+) -> (Debugger, Result<Answered, AllocError>)
+    ensures reply { (bytes : List ℕ) → LineSays line.now bytes → MatchResult result.1
+        (IsAnsweredBy (state_of debugger) bytes (string_bytes reply.new) (state_of result.0))
+        (λ _. IsReply (state_of debugger) bytes (refusal Fault.Memory) (state_of result.0) false) }
+    ensures added { IfOk result.1 (HasAdded result.0.core.world) }
+    ensures opening { result.0.core.world.opening ≡ debugger.core.world.opening }
+    ensures fires { (bytes : List ℕ) → LineSays line.now bytes → Fires (command_of bytes) debugger.core.meter.firings result.0.core.meter.firings }
 {
     reply.clear();
     match line {
-        Line::Whole(bytes) => execute_line(alloc, debugger, bytes.as_slice(), reply),
+        Line::Whole(bytes) => execute_line(rt, alloc, debugger, gate, bytes.as_slice(), reply),
         Line::TooLong => match refused(&Fault::Limit(Limit::Line), reply) {
-            Ok(()) => Ok(Answered::Told),
-            Err(error) => Err(error),
+            Ok(()) => (debugger, Ok(Answered::Told)),
+            Err(error) => (debugger, Err(error)),
         },
-        Line::NoMemory => Err(AllocError),
+        Line::NoMemory => (debugger, Err(AllocError)),
     }
 }

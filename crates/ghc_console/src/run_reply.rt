@@ -1,56 +1,87 @@
 // The commands that run: they take steps until there is a reason to stop.
 ghost use Rattle.std.specs.Prelude.{◌≡◌, [], List, ℕ, IfOk, OnErr, string_bytes};
-ghost use Rattle.ghc_console.specs.RunReplies.{AreTold, IsAdded, TellsRun, last_of, run_lines};
+ghost use Rattle.ghc_console.specs.RunReplies.{AreTold, IsAdded, TellsRun, last_of, mode_of, run_lines};
 ghost use Rattle.ghc_console.specs.Answered.{HasAdded, IsSkippedBy};
 
 use crate::answered::Answered;
 use crate::command::RUN_LIMIT;
+use crate::debugger::Debugger;
 use crate::reply::refused;
-use ghc_core::Core;
-use ghc_pool::{Report, run, runs_add_at_the_end};
+use ghc_pool::{Gate, Mode, Report, run_together, runs_add_at_the_end};
 use ghc_term::{Fault, GoalName};
-use ghc_trace::SpySet;
 use std::alloc::{AllocError, Global};
+use std::sync::Wait;
+use std::thread::Threads;
 
-/// Runs: takes as many steps as the limit at most, of any goal, or where a root is named, of the goals that descend from it. What
-/// it reports is to be told, a line for each step. It costs what the run costs.
-pub fn leap(
+// A run of at most so many steps: of any goal, or where a root is named, of the goals that descend from it.
+fn mode_of(root: Option<GoalName>, limit: u32) -> Mode
+    ensures { result ≡ mode_of root limit }
+{
+    let limit = limit as usize;
+    match root {
+        None => Mode::Leap { limit },
+        Some(root) => Mode::Skip { root, limit },
+    }
+}
+
+/// Runs, by as many workers as the debugger says: takes as many steps as the limit at most, of any goal, or where a root is named,
+/// of the goals that descend from it. What it reports is to be told, a line for each step. It costs what the run costs.
+pub fn leap<R: Threads + Wait + Sync, G: Gate + Sync>(
+    rt: &R,
     alloc: Global,
-    core: &mut Core,
-    spies: &SpySet,
+    debugger: Debugger,
+    gate: &G,
     root: Option<GoalName>,
     limit: u32,
-) -> Report
-    ensures told { (lines : List ℕ) → AreTold (run_lines (last_of result.added core.new.world.kept) result.stop) lines
-        → TellsRun spies.now root limit core.old.world lines core.new.world }
-    ensures added { IsAdded core.new.world result.added }
-    ensures opening { core.new.world.opening ≡ core.old.world.opening }
+) -> (Debugger, Report)
+    ensures told { (lines : List ℕ) → AreTold (run_lines (last_of result.1.added result.0.core.world.kept) result.1.stop) lines
+        → TellsRun debugger.workers debugger.spies root limit debugger.core.world lines result.0.core.world }
+    ensures added { IsAdded result.0.core.world result.1.added }
+    ensures opening { result.0.core.world.opening ≡ debugger.core.world.opening }
+    ensures spies { result.0.spies ≡ debugger.spies }
+    ensures workers { result.0.workers ≡ debugger.workers }
 {
     // Called for its clause that the steps stand at the end of the record, which the proof cites.
     runs_add_at_the_end();
-    run(core, alloc, spies, root, limit as usize)
+    let Debugger {
+        core,
+        spies,
+        workers,
+    } = debugger;
+    let mode = mode_of(root, limit);
+    let (core, report) = run_together(rt, alloc, core, mode, &spies, workers, gate);
+    let debugger = Debugger {
+        core,
+        spies,
+        workers,
+    };
+    (debugger, report)
 }
 
 /// Runs the goals that descend from the goal, where it is there, with the limit of a run for which no number is said; or writes
 /// its refusal, which changes nothing. It costs a look-up, and what the run costs.
-pub fn skip(
+pub fn skip<R: Threads + Wait + Sync, G: Gate + Sync>(
+    rt: &R,
     alloc: Global,
-    core: &mut Core,
-    spies: &SpySet,
+    debugger: Debugger,
+    gate: &G,
     goal: GoalName,
     reply: &mut String,
-) -> Result<Answered, AllocError>
+) -> (Debugger, Result<Answered, AllocError>)
     requires { string_bytes reply.old ≡ [] }
-    ensures told { IfOk result (IsSkippedBy spies.now core.old.world goal (string_bytes reply.new) core.new.world) }
-    ensures added { IfOk result (HasAdded core.new.world) }
-    ensures err { OnErr result (core.new.world ≡ core.old.world) }
-    ensures opening { core.new.world.opening ≡ core.old.world.opening }
+    ensures told { IfOk result.1 (IsSkippedBy debugger.workers debugger.spies debugger.core.world goal (string_bytes reply.new) result.0.core.world) }
+    ensures added { IfOk result.1 (HasAdded result.0.core.world) }
+    ensures err { OnErr result.1 (result.0.core.world ≡ debugger.core.world) }
+    ensures opening { result.0.core.world.opening ≡ debugger.core.world.opening }
+    ensures spies { result.0.spies ≡ debugger.spies }
+    ensures workers { result.0.workers ≡ debugger.workers }
 {
-    if core.goals().get(goal).is_none() {
+    if debugger.core.goals().get(goal).is_none() {
         return match refused(&Fault::NoGoal, reply) {
-            Ok(()) => Ok(Answered::Told),
-            Err(error) => Err(error),
+            Ok(()) => (debugger, Ok(Answered::Told)),
+            Err(error) => (debugger, Err(error)),
         };
     }
-    Ok(Answered::Ran(leap(alloc, core, spies, Some(goal), RUN_LIMIT)))
+    let (debugger, report) = leap(rt, alloc, debugger, gate, Some(goal), RUN_LIMIT);
+    (debugger, Ok(Answered::Ran(report)))
 }

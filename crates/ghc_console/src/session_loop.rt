@@ -16,9 +16,11 @@ use crate::device::{Broken, Device, write_all};
 use crate::reading::{Ahead, Line};
 use crate::run_lines::write_run;
 use crate::settled::settle;
+use ghc_pool::Gate;
 use ghc_term::Fault;
 use std::alloc::Global;
 use std::sync::Wait;
+use std::thread::Threads;
 
 // Replies that take more than so many bytes give their memory back.
 const KEPT_REPLY: usize = 65_536;
@@ -30,49 +32,54 @@ pub(crate) fn cut_down(alloc: Global, reply: &mut String) {
     }
 }
 
-// Carries a line out and writes its reply. It says whether the session ends.
-fn serve<D: Device>(
+// Carries a line out and writes its reply. It says whether the session ends, and gives the debugger back as the line leaves it.
+fn serve<R: Threads + Wait + Sync, G: Gate + Sync, D: Device>(
+    rt: &R,
     alloc: Global,
-    debugger: &mut Debugger,
+    debugger: Debugger,
+    gate: &G,
     device: &mut D,
     line: &Line,
     reply: &mut String,
-) -> Result<bool, Broken>
+) -> (Debugger, Result<bool, Broken>)
     ensures served { (bytes : List ℕ) → LineSays line.now bytes
-        → Served (state_of debugger.old) bytes (state_of debugger.new) (D.written device.old) (D.written device.new) result }
-    ensures opening { debugger.new.core.world.opening ≡ debugger.old.core.world.opening }
-    ensures fires { (bytes : List ℕ) → LineSays line.now bytes → Fires (command_of bytes) debugger.old.core.meter.firings debugger.new.core.meter.firings }
+        → Served (state_of debugger) bytes (state_of result.0) (D.written device.old) (D.written device.new) result.1 }
+    ensures opening { result.0.core.world.opening ≡ debugger.core.world.opening }
+    ensures fires { (bytes : List ℕ) → LineSays line.now bytes → Fires (command_of bytes) debugger.core.meter.firings result.0.core.meter.firings }
     ensures unread { Keeps (D.unread device.old) (D.unread device.new) }
-    ensures count { Counts (D.failures device.old) (D.failures device.new) result }
+    ensures count { Counts (D.failures device.old) (D.failures device.new) result.1 }
     ensures earlier { D.earlier device.new ≡ D.earlier device.old }
     ensures latest { D.latest device.new ≡ D.latest device.old }
 {
-    match answer(alloc, debugger, line, reply) {
+    let (debugger, answered) = answer(rt, alloc, debugger, gate, line, reply);
+    match answered {
         Ok(Answered::Told) => match write_all(device, reply.as_bytes()) {
-            Ok(()) => Ok(false),
-            Err(Broken) => Err(Broken),
+            Ok(()) => (debugger, Ok(false)),
+            Err(Broken) => (debugger, Err(Broken)),
         },
         Ok(Answered::Ends) => match write_all(device, reply.as_bytes()) {
-            Ok(()) => Ok(true),
-            Err(Broken) => Err(Broken),
+            Ok(()) => (debugger, Ok(true)),
+            Err(Broken) => (debugger, Err(Broken)),
         },
         Ok(Answered::Ran(report)) => match write_run(device, &debugger.core, report, reply) {
-            Ok(()) => Ok(false),
-            Err(Broken) => Err(Broken),
+            Ok(()) => (debugger, Ok(false)),
+            Err(Broken) => (debugger, Err(Broken)),
         },
         Err(_) => match write_all(device, b"F1 no memory\n") {
-            Ok(()) => Ok(false),
-            Err(Broken) => Err(Broken),
+            Ok(()) => (debugger, Ok(false)),
+            Err(Broken) => (debugger, Err(Broken)),
         },
     }
 }
 
 /// Settles, and answers the lines of the device, up to `quit` or the end of the input. Where a call of the device fails it ends
-/// with `Device`, and the debugger is that after the last line executed. Each line costs what its command costs.
-pub fn session<R: Wait, D: Device>(
+/// with `Device`, and the debugger is that after the last line executed. A run is made by as many workers as the debugger says,
+/// which tell the gate; its lines are written behind it, one at a time. Each line costs what its command costs.
+pub fn session<R: Threads + Wait + Sync, G: Gate + Sync, D: Device>(
     rt: &R,
     alloc: Global,
     debugger: Debugger,
+    gate: &G,
     device: &mut D,
 ) -> (Debugger, Result<(), Fault>)
     // What is written is the replies to the lines, or a beginning of them where the device failed; and no read is made
@@ -98,17 +105,20 @@ pub fn session<R: Wait, D: Device>(
     let mut spare = Vec::new(alloc);
     let mut reply = String::new(alloc);
     for _ in rt.forever() {
-        match ahead.next_line(rt, spare, device) {
+        let line = match ahead.next_line(rt, spare, device) {
             Err(Broken) => return (debugger, Err(Fault::Device)),
             Ok(None) => return (debugger, Ok(())),
-            Ok(Some(line)) => match serve(alloc, &mut debugger, device, &line, &mut reply) {
-                Err(Broken) => return (debugger, Err(Fault::Device)),
-                Ok(true) => return (debugger, Ok(())),
-                Ok(false) => {
-                    spare = line.into_spare(alloc);
-                    cut_down(alloc, &mut reply);
-                }
-            },
+            Ok(Some(line)) => line,
+        };
+        let (left, ended) = serve(rt, alloc, debugger, gate, device, &line, &mut reply);
+        match ended {
+            Err(Broken) => return (left, Err(Fault::Device)),
+            Ok(true) => return (left, Ok(())),
+            Ok(false) => {
+                debugger = left;
+                spare = line.into_spare(alloc);
+                cut_down(alloc, &mut reply);
+            }
         }
     }
     unreachable!()

@@ -7,11 +7,11 @@ use Rattle.ghc_console.proofs.StepReplies.{if_ok}
 use Rattle.ghc_console.proofs.answer.execute_line.Goals as goal
 
 pub returns-in-Ok-clause-ok : goal.returns-in-Ok-clause-ok
-returns-in-Ok-clause-ok c short =
-    let s = state_of c.args.debugger.now in
-    let t = state_of c.execute.new.debugger in
+returns-in-Ok-clause-ok g c short =
+    let s = state_of c.args.debugger in
+    let t = state_of c.execute.result.0 in
     let text = string_bytes c.execute.new.reply in
-    if_ok c.execute.result c.execute.ensures.answered c.execute.ensures.answered (λ a h _. line_answered s t c.args.line.now text a short (subst (λ k. IsCarriedOut s k text t a) c.in-Ok.ensures.command h))
+    if_ok c.execute.result.1 c.execute.ensures.answered c.execute.ensures.answered (λ a h _. line_answered s t c.args.line.now text a short (subst (λ k. IsCarriedOut s k text t a) c.in-Ok.ensures.command h))
 
 pub returns-in-Err-clause-fires : goal.returns-in-Err-clause-fires
-returns-in-Err-clause-fires c = fires_nothing _ _ _ refl
+returns-in-Err-clause-fires g c = fires_nothing _ _ _ refl
