@@ -43,7 +43,7 @@ reduces_one : {workers : ℕ} {spies : Spies} {root : Option GoalName} {w : Worl
 reduces_one s = let commit = s.taken.2 in subst IsReduction (sym commit.3) commit.0.1
 
 pub named_one : {workers : ℕ} {spies : Spies} {root : Option GoalName} {w : World} {r : Record} → (s : IsRunStep workers spies root w r) → r.goal ≡ Some s.goal
-named_one s = s.taken.2.2 ∙ ap Some s.taken.1.2.0
+named_one s = s.taken.2.2 ∙ ap Some s.taken.1.3.0
 
 pub reduces : RunsReduce
 reduces workers spies root w v steps at_start r i = absurd i

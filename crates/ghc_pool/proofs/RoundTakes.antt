@@ -112,7 +112,7 @@ module _ (workers : ℕ) (several : workers ≡ 1 → ⊥) (scope : Scope) (spie
       let there = subst (λ (g : GoalName). finite.get h.world.state.goals g ≡ Some holds.0.0) is.named holds.0.2 in
       let step : IsRunStep workers spies root h.world did.0 = record {
         goal = t.goal;
-        taken = (t.proposal, (t.unspied.0, opening, (is.named, is.proposed)), holds);
+        taken = (t.proposal, (t.unspied.0, proposed.standing, opening, (is.named, is.proposed)), holds);
         alone = λ one. absurd (several one);
         asked = scope_asked root w h.world scope h.steps covers (left_standing h.legal) ends.kept h.asked t.goal holds.0.0 there t.inside;
         unspied = held_unspied spies t.unspied.0 h.world t.goal t.proposal opening is.named is.there is.proposed t.unspied.2 holds.0;

@@ -4,6 +4,7 @@ use Rattle.std.specs.Prelude.{Option}
 use Rattle.ghc_term.specs.declared.goal_name.GoalName.{GoalName}
 use Rattle.ghc_records.specs.Record.{Record}
 use Rattle.ghc_core.specs.World.{World, IsFull, HasRoom, with_step}
+use Rattle.ghc_core.specs.Core.{IsStanding}
 use Rattle.ghc_core.specs.Proposes.{IsStepOf}
 use Rattle.ghc_trace.specs.Spies.{Spies}
 use Rattle.ghc_pool.specs.Runs.{IsInQuestion, IsSpiedIn, IsRunStep, Takes, at_start, and_step}
@@ -15,8 +16,8 @@ takes_more workers spies root w v u first more a (and_step {steps = front} {v = 
     subst (λ l. Takes workers spies root w l (with_step r t)) (append_assoc first front (r ∷ [])) (and_step r (takes_more workers spies root w v t first front a b) s)
 
 -- a step of one worker: it is proposed in the very world
-pub step_of_one : (spies : Spies) (root : Option GoalName) (w : World) (g : GoalName) (r : Record) → IsStepOf w g None r → IsInQuestion root w.kept g → ¬ IsSpiedIn spies w g → IsRunStep 1 spies root w r
-step_of_one spies root w g r s asked unspied = record { goal = g; taken = (s.0, (w, refl, (s.1, s.2)), s.3); alone = λ _. s; asked = asked; unspied = unspied }
+pub step_of_one : (spies : Spies) (root : Option GoalName) (w : World) (g : GoalName) (r : Record) → IsStanding w → IsStepOf w g None r → IsInQuestion root w.kept g → ¬ IsSpiedIn spies w g → IsRunStep 1 spies root w r
+step_of_one spies root w g r stands s asked unspied = record { goal = g; taken = (s.0, (w, stands, refl, (s.1, s.2)), s.3); alone = λ _. s; asked = asked; unspied = unspied }
 
 -- a step of one worker is one of several
 step_of_more : (workers : ℕ) (spies : Spies) (root : Option GoalName) (w : World) (r : Record) → IsRunStep 1 spies root w r → IsRunStep workers spies root w r

@@ -10,6 +10,7 @@ use Rattle.ghc_hooks.specs.Status.{ready, failed}
 use Rattle.ghc_hooks.specs.Notes.{NotesByGoal, IsUntried}
 use Rattle.ghc_fire.specs.Attempt.{proposes}
 use Rattle.ghc_core.specs.World.{Proposal, World, IsFull, with_step}
+use Rattle.ghc_core.specs.Core.{IsStanding}
 use Rattle.ghc_core.specs.Proposes.{AttemptAnswers, IsCommitOf, IsStepOf}
 use Rattle.ghc_trace.specs.News.{Stands}
 use Rattle.ghc_trace.specs.Spies.{Spies, IsSpied}
@@ -32,9 +33,9 @@ IsSpiedIn spies w g = (b : Goal) × (finite.get w.state.goals g ≡ Some b) × I
 abbrev pub Proposes : World → GoalName → Proposal → Type 0
 Proposes w g p = (p.goal ≡ g) × AttemptAnswers w g None (proposes p.act p.effect)
 
--- The record is that of a step of the goal named g which was proposed in some world of the same opening, and holds in the world w as its next step.
+-- The record is that of a step of the goal named g which was proposed in a world that a core of the same opening can be in, and holds in the world w as its next step.
 abbrev pub IsHeldStep : World → GoalName → Record → Type 0
-IsHeldStep w g r = (p : Proposal) × ((before : World) × (before.opening ≡ w.opening) × Proposes before g p) × IsCommitOf w p r
+IsHeldStep w g r = (p : Proposal) × ((before : World) × IsStanding before × (before.opening ≡ w.opening) × Proposes before g p) × IsCommitOf w p r
 
 -- A run by so many workers may take the step in the world w: it reduces a goal in question that is no call of a spied predicate, as it was proposed; by one worker, as it is proposed in w: a call by the least clause that accepts it.
 pub record IsRunStep (workers : ℕ) (spies : Spies) (root : Option GoalName) (w : World) (r : Record) : Type 0 where

@@ -129,6 +129,7 @@ pub fn meet(
     if is_spied_in(core, spies, goal) {
         return pass_spied(core, alloc, goal);
     }
+    core.stands();
     match core.prepare_step(alloc, goal, None) {
         Ok(addition) => Met::Step(addition),
         Err(Fault::Waits) => pass(core, alloc, goal),

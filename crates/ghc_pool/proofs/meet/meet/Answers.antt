@@ -12,5 +12,5 @@ pub returns-in-Err-Waits-clause-found : goal.returns-in-Err-Waits-clause-found
 returns-in-Err-Waits-clause-found c = c.pass-in-Err-Waits.ensures.found c.args.spies.now c.args.root c.args.core.now.world
 
 pub returns-in-Ok-clause-found : goal.returns-in-Ok-clause-found
-returns-in-Ok-clause-found c = step_of_one c.args.spies.now c.args.root c.args.core.now.world c.args.goal c.in-Ok.addition c.in-Ok.ensures.answer.0 (c.is_in_question_since.ensures.0 c.if-not-is_in_question_since.false)
+returns-in-Ok-clause-found c = step_of_one c.args.spies.now c.args.root c.args.core.now.world c.args.goal c.in-Ok.addition c.stands.ensures.standing c.in-Ok.ensures.answer.0 (c.is_in_question_since.ensures.0 c.if-not-is_in_question_since.false)
     (λ s. not_both c.is_spied_in.result c.if-is_spied_in.false (c.is_spied_in.ensures.1 s))
