@@ -1,8 +1,10 @@
 -- Lemmas of this crate.
 mod CommandLine
+mod NumberOfWorkers
 mod FrontTells
 mod IsStarted
 mod Opened
+mod OpenedFor
 mod SessionsOpened
 mod SavedAgain
 mod Tells

@@ -1,10 +1,12 @@
 // The command line, read by `clap`.
 ghost use Rattle.std.specs.Prelude.{◌≡◌, IfOk, codes, map, string_bytes};
-ghost use Rattle.ghcdb.specs.CommandLine.{IsGhcdb, IsGivenBy, IsOptionalValue, IsRequiredValue};
+ghost use Rattle.ghcdb.specs.CommandLine.{IsGhcdb, IsGivenBy, IsOptionalValue, IsRequiredValue, IsWorkersValue};
 
 use crate::help::AFTER_HELP;
 use crate::settings::Options;
+use clap::builder::ValueParser;
 use clap::{Arg, ArgAction, Command, Error};
+use ghc_pool::Workers;
 use std::alloc::{AllocError, Global};
 
 const ABOUT: &str = "Runs, traces and reverses programs of Flat GHC";
@@ -18,6 +20,8 @@ const QUERY_HELP: &str = "The goals to start from, such as 'append([1],[2],R)'";
 const LOAD_HELP: &str = "A history to start from, as the command save writes it";
 
 const SCHEDULE_HELP: &str = "A schedule to play in place of a session";
+
+const WORKERS_HELP: &str = "How many workers make a run, 1 to 64; one if left out";
 
 fn file_argument<'a>(alloc: Global) -> Arg<'a>
     ensures { IsRequiredValue (codes "FILE") result }
@@ -61,6 +65,17 @@ fn schedule_argument<'a>(alloc: Global) -> Arg<'a>
         .help(SCHEDULE_HELP)
 }
 
+fn workers_argument<'a>(alloc: Global) -> Arg<'a>
+    ensures { IsWorkersValue result }
+{
+    Arg::new(alloc, "workers")
+        .long("workers")
+        .value_name("N")
+        .action(ArgAction::Set)
+        .value_parser(ValueParser::unsigned(1, 64))
+        .help(WORKERS_HELP)
+}
+
 fn command<'a>(alloc: Global) -> Result<Command<'a>, AllocError>
     ensures { IfOk result IsGhcdb }
 {
@@ -71,7 +86,8 @@ fn command<'a>(alloc: Global) -> Result<Command<'a>, AllocError>
         .arg(file_argument(alloc))?
         .arg(query_argument(alloc))?
         .arg(load_argument(alloc))?
-        .arg(schedule_argument(alloc))?;
+        .arg(schedule_argument(alloc))?
+        .arg(workers_argument(alloc))?;
     Ok(command)
 }
 
@@ -86,10 +102,15 @@ pub fn options<'a>(alloc: Global, words: &'a [String]) -> Result<Options<'a>, Er
     let query = matches.get_str("query").unwrap();
     let load = matches.get_str("load");
     let schedule = matches.get_str("schedule");
+    let workers = match matches.get_one::<u32>("workers") {
+        Some(count) => Workers::new(count).unwrap(),
+        None => Workers::one(),
+    };
     Ok(Options {
         file,
         query,
         load,
         schedule,
+        workers,
     })
 }

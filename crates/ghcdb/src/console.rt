@@ -4,6 +4,7 @@ ghost use Rattle.ghc_console.specs.Session.{Began, Session, Tells};
 ghost use Rattle.ghc_console.specs.SessionState.{state_of};
 ghost use Rattle.ghcdb.specs.Outputs.{HasBeginning, HasReplies};
 
+use crate::no_gate::NoGate;
 use ghc_console::{Broken, Debugger, Lines, session};
 use ghc_term::Fault;
 use std::alloc::Global;
@@ -11,10 +12,11 @@ use std::io::{BufWriter, Read, Write};
 use std::marker::Brand;
 use std::sync::Wait;
 use std::sync::ledger::{Blank, Ledger};
+use std::thread::Threads;
 use std::{io, mem};
 
 // Runs a session on the device, and hands on what that holds back at the end. Where a call fails, it is the last one.
-fn run_on_device<L: Ledger, R: Wait, I: Read, O: Write + Drop>(
+fn run_on_device<L: Ledger, R: Threads + Wait + Sync, I: Read, O: Write + Drop>(
     rt: &R,
     alloc: Global,
     debugger: Debugger,
@@ -30,7 +32,7 @@ fn run_on_device<L: Ledger, R: Wait, I: Read, O: Write + Drop>(
     ensures failed { IfErr result.1 (λ fault. (fault ≡ Fault.Device) × (device.new.failures ≡ device.old.failures + 1)) }
     ensures ok { OnOk result.1 (device.new.failures ≡ device.old.failures) }
 {
-    let (debugger, result) = session(rt, alloc, debugger, device);
+    let (debugger, result) = session(rt, alloc, debugger, &NoGate, device);
     match result {
         Err(fault) => (debugger, Err(fault)),
         Ok(()) => match device.flush() {
@@ -41,7 +43,7 @@ fn run_on_device<L: Ledger, R: Wait, I: Read, O: Write + Drop>(
 }
 
 // Runs a session on the device, and gives the writer behind its buffer back.
-fn run_to_writer<L: Ledger, R: Wait, I: Read + Drop, O: Write + Drop>(
+fn run_to_writer<L: Ledger, R: Threads + Wait + Sync, I: Read + Drop, O: Write + Drop>(
     rt: &R,
     alloc: Global,
     debugger: Debugger,
@@ -62,7 +64,7 @@ fn run_to_writer<L: Ledger, R: Wait, I: Read + Drop, O: Write + Drop>(
 }
 
 // Runs a session from the reader to the writer, whose calls are counted in the ledger.
-fn run_between<L: Ledger, R: Wait + AllocGlobal, I: Read + Drop, O: Write + Drop>(
+fn run_between<L: Ledger, R: Threads + Wait + Sync + AllocGlobal, I: Read + Drop, O: Write + Drop>(
     rt: &R,
     debugger: Debugger,
     reader: I,
@@ -78,7 +80,7 @@ fn run_between<L: Ledger, R: Wait + AllocGlobal, I: Read + Drop, O: Write + Drop
 }
 
 // Runs a session over the standard streams.
-fn run_counted<L: Ledger, R: Wait + Input + Print + AllocGlobal>(
+fn run_counted<L: Ledger, R: Threads + Wait + Sync + Input + Print + AllocGlobal>(
     rt: &R,
     debugger: Debugger,
     blank: Blank,
@@ -94,7 +96,7 @@ fn run_counted<L: Ledger, R: Wait + Input + Print + AllocGlobal>(
 
 /// Runs a session over the standard streams, up to `quit` or the end of the input. `Device` where one of them fails, and
 /// `Memory` where there is none for the output that is gathered.
-pub fn run_console<R: Wait + Input + Print + AllocGlobal>(
+pub fn run_console<R: Threads + Wait + Sync + Input + Print + AllocGlobal>(
     rt: &R,
     debugger: Debugger,
 ) -> Result<(), Fault>

@@ -1,5 +1,5 @@
 // What the program does with the words of its command line.
-ghost use Rattle.std.specs.Prelude.{◌≡◌, ◌≢◌};
+ghost use Rattle.std.specs.Prelude.{◌≡◌, ◌≢◌, IfOk};
 ghost use Rattle.clap.specs.Words.{kind_of};
 ghost use Rattle.clap.specs.declared.error.kind.ErrorKind.{ErrorKind};
 ghost use Rattle.ghc_term.specs.Answered.{AnsweredUnless};
@@ -24,9 +24,10 @@ use ghc_term::Fault;
 use std::alloc::Global;
 use std::rt::Files;
 use std::sync::Wait;
+use std::thread::Threads;
 
 /// Does what the words ask for, of which the first is the program's name, and says how it ends.
-pub fn run<R: Wait + Files + Input + Print + Eprint + AllocGlobal>(
+pub fn run<R: Threads + Wait + Sync + Files + Input + Print + Eprint + AllocGlobal>(
     rt: &R,
     words: &[String],
 ) -> Status {
@@ -64,8 +65,24 @@ fn open_with(alloc: Global, texts: &Texts, options: Options<'_>) -> Result<Debug
     }
 }
 
+// The same, of which as many workers make a run as the options say.
+fn open_for_workers(
+    alloc: Global,
+    texts: &Texts,
+    options: Options<'_>,
+) -> Result<Debugger, Refusal>
+    ensures answer { AnsweredUnless (IsWithoutMemory texts.now.program.items options.entry.query.now (history_in texts.now)) (IsOpened texts.now.program.items options.entry.query.now (history_in texts.now))
+        (IsOpenRefusal texts.now.program.items options.entry.query.now (history_in texts.now)) result }
+    ensures workers { IfOk result (λ debugger. debugger.workers ≡ options.entry.workers) }
+{
+    match open_with(alloc, texts, options) {
+        Ok(debugger) => Ok(debugger.with_workers(options.workers)),
+        Err(refusal) => Err(refusal),
+    }
+}
+
 // Reads the files, all of them before anything is judged, starts, and plays the schedule or else runs the session.
-fn debug<R: Wait + Files + Input + Print + Eprint + AllocGlobal>(
+fn debug<R: Threads + Wait + Sync + Files + Input + Print + Eprint + AllocGlobal>(
     rt: &R,
     options: Options<'_>,
 ) -> Status {
@@ -73,10 +90,14 @@ fn debug<R: Wait + Files + Input + Print + Eprint + AllocGlobal>(
         Ok(texts) => texts,
         Err(refusal) => return tell(rt, &refusal),
     };
-    match open_with(rt.alloc(), &texts, options) {
+    match open_for_workers(rt.alloc(), &texts, options) {
         Ok(debugger) => match &texts.schedule {
             Some(schedule) => {
-                let Debugger { core, spies: _ } = debugger;
+                let Debugger {
+                    core,
+                    spies: _,
+                    workers: _,
+                } = debugger;
                 run_schedule(rt, core, schedule.as_slice())
             }
             None => run_session(rt, debugger),
@@ -86,7 +107,7 @@ fn debug<R: Wait + Files + Input + Print + Eprint + AllocGlobal>(
 }
 
 // Runs the session on what was started.
-fn run_session<R: Wait + Input + Print + Eprint + AllocGlobal>(
+fn run_session<R: Threads + Wait + Sync + Input + Print + Eprint + AllocGlobal>(
     rt: &R,
     debugger: Debugger,
 ) -> Status {

@@ -18,7 +18,7 @@ pub const AFTER_HELP: &str = "Commands of the session, a line each:
   in K TERM, end K  feed or close input stream K
   spy F/N, nospy F/N
                     stop runs at calls of F/N, or no longer
-  save              write the kept steps, for --load
+  save [1]          write the whole session, or the kept steps, for --load
   quit              end
 
 Example: ghcdb append.ghc --query 'append([1],[2],R)'

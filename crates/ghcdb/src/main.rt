@@ -7,6 +7,7 @@ mod debugger;
 mod files;
 mod help;
 mod laws;
+mod no_gate;
 mod opening;
 mod playing;
 mod program_text;

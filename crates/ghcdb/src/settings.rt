@@ -1,4 +1,5 @@
 // What a command line asks for.
+use ghc_pool::Workers;
 
 /// What the command line asks for.
 #[derive(Clone, Copy)]
@@ -11,4 +12,6 @@ pub struct Options<'a> {
     pub load: Option<&'a str>,
     /// The name of the file of the schedule that is played in place of a session, if one is named.
     pub schedule: Option<&'a str>,
+    /// How many workers make a run of the session: one, if no number is given.
+    pub workers: Workers,
 }

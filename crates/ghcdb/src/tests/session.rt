@@ -1,6 +1,7 @@
 // A session on a device of which each call fails in turn.
 ghost use Rattle.std.specs.Prelude.{◌≡◌, ◌<◌};
 
+use crate::no_gate::NoGate;
 use crate::tests::cores::core_of;
 use ghc_console::{Debugger, Device, Script, session};
 use ghc_core::Core;
@@ -9,6 +10,7 @@ use std::alloc::Global;
 use std::marker::Brand;
 use std::sync::Wait;
 use std::sync::ledger::{Blank, Ledger};
+use std::thread::Threads;
 
 const INPUT: &str = "step 0.1\r\n\nshow X\nrecords";
 
@@ -19,8 +21,14 @@ const OUTPUT: &str = "REDU 1 0.1 eq\nX = 1\n1 0.1 eq reads - binds _0_1=1 makes 
 type Served = (Option<usize>, usize, bool);
 
 // Runs a session, and says how many steps the core has then, and whether it was broken off.
-fn serve<R: Wait, D: Device>(rt: &R, alloc: Global, core: Core, device: &mut D) -> (usize, bool) {
-    let (debugger, ended) = session(rt, alloc, Debugger::new(core, SpySet::new(alloc)), device);
+fn serve<R: Threads + Wait + Sync, D: Device>(
+    rt: &R,
+    alloc: Global,
+    core: Core,
+    device: &mut D,
+) -> (usize, bool) {
+    let debugger = Debugger::new(core, SpySet::new(alloc));
+    let (debugger, ended) = session(rt, alloc, debugger, &NoGate, device);
     (debugger.core.records().len(), ended.is_err())
 }
 
@@ -34,7 +42,7 @@ fn written<L: Ledger>(script: &Script<L>) -> Option<usize> {
     }
 }
 
-fn serve_script<L: Ledger, R: Wait>(
+fn serve_script<L: Ledger, R: Threads + Wait + Sync>(
     rt: &R,
     alloc: Global,
     core: Core,
@@ -49,7 +57,7 @@ fn serve_script<L: Ledger, R: Wait>(
     (written(&script), steps, broken)
 }
 
-fn serve_failing<R: Wait>(
+fn serve_failing<R: Threads + Wait + Sync>(
     rt: &R,
     alloc: Global,
     core: Core,
@@ -60,7 +68,7 @@ fn serve_failing<R: Wait>(
 }
 
 // A session of which the call behind so many fails.
-fn served<R: Wait>(rt: &R, alloc: Global, fails_after: u64) -> Option<Served> {
+fn served<R: Threads + Wait + Sync>(rt: &R, alloc: Global, fails_after: u64) -> Option<Served> {
     let input = Vec::from_slice(alloc, INPUT.as_bytes()).ok()?;
     let core = core_of(alloc, "", "X = 1")?;
     Some(serve_failing(rt, alloc, core, input, fails_after))

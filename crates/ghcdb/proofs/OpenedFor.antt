@@ -1,0 +1,12 @@
+-- What a session begins with does not depend on how many workers make its runs.
+use Rattle.std.proofs.Common.{◌≡◌, ℕ, List, ap, subst₂, sym}
+use Rattle.std.specs.Prelude.{Option}
+use Rattle.ghc_console.specs.declared.debugger.Debugger.{Debugger}
+use Rattle.ghcdb.specs.Opening.{IsOpened, OpensOn}
+
+pub opened_for : (program query : List ℕ) (history : Option (List ℕ)) (d e : Debugger) → e.core ≡ d.core → e.spies ≡ d.spies → IsOpened program query history d → IsOpened program query history e
+opened_for program query history d e core spies o = record {
+  started = o.started;
+  starts = o.starts;
+  opens = subst₂ (λ w s. OpensOn o.started history w s) (sym (ap (λ c. c.world) core)) (sym spies) o.opens;
+}
