@@ -61,8 +61,9 @@ fn take_apart(workers: Vec<Worker>, done: &mut Vec<Work>)
 /// scope, where no step of it could be proposed, or where it is spied. Where no steps are taken each name is noted. However names
 /// are weighed, what was offered is what was taken and what was left; each that was taken has an answer that is a receipt in what
 /// its worker's pass has seen, and each step that a pass has made is one of these answers, and stands at the place of its receipt.
-/// Where there is no reason to stop, nothing is left. Where memory is refused for what the round has to have room for, nothing is
-/// offered, and the passes come back as they were. The passes come back in their order.
+/// Where there is no reason to stop, nothing is left. Where a worker has one, the others end with what they have in hand. Where
+/// memory is refused for what the round has to have room for, nothing is offered, and the passes come back as they were. The passes
+/// come back in their order.
 pub fn round<'a, N: Naming + Send + Sync, R: Threads + Wait + Sync, G: Gate + Sync>(
     rt: &'a R,
     alloc: Global,

@@ -22,6 +22,7 @@ use crate::rounds::working::{Crew, Job};
 use ghc_shared::tend_all;
 use ghc_term::GoalName;
 use std::alloc::Global;
+use std::sync::atomic::AtomicBool;
 use std::sync::ledger::{Blank, Share};
 use std::sync::{Mutex, Wait};
 use std::thread::Threads;
@@ -178,10 +179,12 @@ fn work_in_threads<P: Send, C: Craft<P> + Sync, L: Limited + Send + Sync, R: Thr
     ensures count { vec_len jobs.new ≡ vec_len jobs.old }
 {
     let budget = Mutex::new(budget);
+    let halted = AtomicBool::new(false);
     let crew = Crew {
         rt,
         craft,
         budget: &budget,
+        halted: &halted,
     };
     let threads = jobs.len();
     tend_all(rt, &crew, jobs.as_mut_slice(), threads);

@@ -11,6 +11,7 @@ use crate::rounds::budget::{Budget, Limited};
 use crate::rounds::worker::{Found, Worker};
 use ghc_shared::Tender;
 use ghc_term::GoalName;
+use std::sync::atomic::{AtomicBool, Ordering};
 use std::sync::ledger::Share;
 use std::sync::{Mutex, Wait};
 
@@ -103,11 +104,13 @@ fn is_permitted<P, C: Craft<P>, L: Limited, R: Wait>(
     false
 }
 
-// Works until the worker stops, finds no name, or gets no permit where steps are taken.
+// Works until the worker stops, finds that another has stopped, finds no name, or gets no permit where steps are taken. A worker
+// that stops sets `halted`, and each looks at it before it takes a name: so what they have in hand is all that they still do.
 fn work<P, C: Craft<P>, L: Limited, R: Wait>(
     rt: &R,
     craft: &C,
     budget: &Mutex<Budget<L>>,
+    halted: &AtomicBool,
     job: &mut Job<P, L>,
 )
     requires { Works (C.fed craft.now) (C.asks craft.now) job.old }
@@ -122,6 +125,10 @@ fn work<P, C: Craft<P>, L: Limited, R: Wait>(
     } = job;
     for _ in rt.forever() {
         if worker.stop.is_some() {
+            halted.store(true, Ordering::SeqCst);
+            return;
+        }
+        if halted.load(Ordering::SeqCst) {
             return;
         }
         if !is_permitted(rt, craft, budget, share, spare) {
@@ -135,12 +142,13 @@ fn work<P, C: Craft<P>, L: Limited, R: Wait>(
     }
 }
 
-// What the workers share.
+// What the workers share. A worker that has a reason to stop sets `halted`, and each looks at it before it takes a name.
 #[derive(Drop)]
 pub struct Crew<'a, C, L: Limited, R: Wait> {
     pub rt: &'a R,
     pub craft: &'a C,
     pub budget: &'a Mutex<Budget<L>>,
+    pub halted: &'a AtomicBool,
 }
 
 impl<P, C: Craft<P>, L: Limited, R: Wait> Tender<Job<P, L>> for Crew<'_, C, L, R> {
@@ -151,6 +159,6 @@ impl<P, C: Craft<P>, L: Limited, R: Wait> Tender<Job<P, L>> for Crew<'_, C, L, R
     ghost does = { λ crew old new. HasWorked (C.fed crew.craft.now) (C.asks crew.craft.now) (C.tells crew.craft.now) old new };
 
     fn tend(&self, job: &mut Job<P, L>) {
-        work(self.rt, self.craft, self.budget, job);
+        work(self.rt, self.craft, self.budget, self.halted, job);
     }
 }
