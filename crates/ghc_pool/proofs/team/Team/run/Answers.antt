@@ -1,7 +1,7 @@
 use Rattle.std.proofs.Common.{◌≡◌, ℕ, [], refl, subst, sym, arith}
 use Rattle.ghc_core.specs.World.{World}
 use Rattle.ghc_pool.specs.Runs.{Runs, Takes, at_start}
-use Rattle.ghc_pool.proofs.crew.Crew.run.Goals as goal
+use Rattle.ghc_pool.proofs.team.Team.run.Goals as goal
 
 pub returns-then-count-eq1 : goal.returns-then-count-eq1
 returns-then-count-eq1 g c =
@@ -19,15 +19,15 @@ go_on-requires-clause-asked g c κs within h i = (c.in-Ok.ensures.each h i).0
 
 pub returns-in-Ok : goal.returns-in-Ok
 returns-in-Ok g c =
-    let crew = c.args.self.now in
-    subst (λ (w : World). Runs (Unit {0}) crew.workers crew.spies.now c.args.root c.args.limit w c.go_on.result.0.world c.go_on.result.0.notes c.go_on.result.1) c.in-Ok.ensures.world c.go_on.ensures
+    let team = c.args.self.now in
+    subst (λ (w : World). Runs (Unit {0}) team.workers team.spies.now c.args.root c.args.limit w c.go_on.result.0.world c.go_on.result.0.notes c.go_on.result.1) c.in-Ok.ensures.world c.go_on.ensures
 
 pub returns-in-Err : goal.returns-in-Err
 returns-in-Err g c =
-    let crew = c.args.self.now in
+    let team = c.args.self.now in
     record {
       steps = [];
-      taken = subst (Takes crew.workers crew.spies.now c.args.root c.args.core.world []) (sym c.in-Err.ensures.world) at_start;
+      taken = subst (Takes team.workers team.spies.now c.args.root c.args.core.world []) (sym c.in-Err.ensures.world) at_start;
       count = refl;
       few = omega arith;
       reason = c.in-Err.ensures.stop c.args.limit 0;

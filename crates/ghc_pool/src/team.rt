@@ -6,10 +6,10 @@ ghost use Rattle.ghc_pool.specs.Runs.{IsInQuestion};
 ghost use Rattle.ghc_pool.specs.Told.{Covers};
 ghost use Rattle.ghc_pool.specs.Stretches.{TakesSoMany, TakesAtMost};
 
-use crate::crew_round::work_off;
 use crate::drain::drain;
 use crate::gate::Gate;
 use crate::scope::Scope;
+use crate::team_round::work_off;
 use crate::workers::Workers;
 use ghc_core::Core;
 use ghc_shared::Opening;
@@ -23,7 +23,7 @@ use std::thread::Threads;
 
 // What a run by several workers goes by.
 #[derive(Drop)]
-pub struct Crew<'a, R: Wait, G: Gate> {
+pub struct Team<'a, R: Wait, G: Gate> {
     pub rt: &'a R,
     pub alloc: Global,
     pub spies: &'a SpySet,
@@ -78,7 +78,7 @@ fn alone_at_most(most: usize) -> usize
     64
 }
 
-impl<R: Threads + Wait + Sync, G: Gate + Sync> Crew<'_, R, G> {
+impl<R: Threads + Wait + Sync, G: Gate + Sync> Team<'_, R, G> {
     // Takes steps by one worker, which starts no thread: at most 64, and at most as many as it may.
     fn take_alone(
         &self,
