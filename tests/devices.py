@@ -60,6 +60,15 @@ SHELLS = [
         "ulimit -v 70000; printf 'leap\\nshow X\\n' | $ghcdb loop.ghc --query 'loop(X)' | grep -v -e '^REDU' -e '^F1 no memory$'",
         "stopped memory\nX = _0_1\n",
     ),
+    Shell(
+        "memory runs out for several workers",
+        "ulimit -v 70000; printf 'leap\nshow X\n' | $ghcdb loop.ghc --query 'loop(X), loop(Y)' --workers 4 | grep -v -e '^REDU' -e '^F1 no memory$'",
+        "stopped memory\nX = _0_1\n",
+    ),
+    Shell(
+        "the device is full behind several workers",
+        "echo leap 1000 | $ghcdb loop.ghc --query 'loop(X), loop(Y)' --workers 4 >/dev/full", "", "session: F26 device\n", 3,
+    ),
     Shell("the program has no end", "ulimit -v 60000; $ghcdb /dev/zero --query true", "", "program: F6 limit: text\n", 1),
     Shell("the program is large", "truncate -s 10G large; ulimit -v 60000; $ghcdb large --query true", "", "program: F6 limit: text\n", 1),
     Shell(

@@ -2,7 +2,9 @@
 // requests REFUSE_FROM to REFUSE_TO of the line REFUSE_LINE (0: those before the first line); it counts reads of standard input and
 // writes of standard output, and lets the read FAIL_READ and the write FAIL_WRITE fail, once. A read gives one line. REFUSE_REPORT
 // names a file for what was counted: reads, writes, the bytes written before the call that failed, and then two numbers for each line,
-// its requests and the bytes written before it.
+// its requests and the bytes written before it. Memory may be asked for by several threads: requests are counted atomically. Reads and
+// writes are the first thread's alone, so the line changes only while there is no other. Where PAUSE_SEED is given, one request in eight
+// sleeps first, for up to a tenth of a millisecond: so threads overtake each other.
 #define _GNU_SOURCE
 #include <errno.h>
 #include <fcntl.h>
@@ -10,6 +12,7 @@
 #include <stdlib.h>
 #include <sys/mman.h>
 #include <sys/syscall.h>
+#include <time.h>
 #include <unistd.h>
 
 void *__libc_malloc(size_t), *__libc_realloc(void *, size_t), *__libc_memalign(size_t, size_t);
@@ -21,7 +24,7 @@ static struct counts {
     struct { uint64_t requests, written; } lines[LAST_LINE + 1];
 } spare, *counts = &spare;
 
-static uint64_t line, written, refused_line = -1, refused_from, refused_to, failing_read, failing_write;
+static uint64_t line, written, refused_line = -1, refused_from, refused_to, failing_read, failing_write, pause_seed, pauses;
 static int is_line_read = 1;
 
 static uint64_t number(const char *name, uint64_t without) {
@@ -42,9 +45,17 @@ __attribute__((constructor)) static void start(void) {
     failing_read = number("FAIL_READ", 0);
     failing_write = number("FAIL_WRITE", 0);
     refused_line = number("REFUSE_LINE", -1);
+    pause_seed = number("PAUSE_SEED", 0);
+}
+
+static void pause_now_and_then(void) {
+    uint64_t chance = (__atomic_add_fetch(&pauses, 1, __ATOMIC_RELAXED) ^ pause_seed) * 0x9E3779B97F4A7C15;
+    struct timespec time = {0, chance % 100000};
+    if (chance >> 61 == 0) syscall(SYS_nanosleep, &time, 0);
 }
 
 static int is_refused(void) {
+    if (pause_seed) pause_now_and_then();
     uint64_t count = __atomic_add_fetch(&counts->lines[line].requests, 1, __ATOMIC_RELAXED);
     if (line != refused_line || count < refused_from || count > refused_to) return 0;
     errno = ENOMEM;

@@ -1,5 +1,6 @@
 #!/usr/bin/env python3
-"""Runs the rows and tables of tests/rows/, and the examples of three pages, on the proved program, crates/ghcdb/out/ghcdb.
+"""Runs the rows and tables of tests/rows/, and the examples of three pages, on the proved program, crates/ghcdb/out/ghcdb, or on the
+one that the environment names as GHCDB.
 
     python3 tests/run_rows.py [WORD..]     the files whose names hold one of the words; without words, all
     python3 tests/run_rows.py --tell       runs nothing, and tells all rows as JSON, a line each, for others who play them
@@ -75,7 +76,7 @@ from pathlib import Path
 
 TESTS = Path(__file__).resolve().parent
 EXAMPLES = TESTS.parent / "examples"
-PROGRAM = TESTS.parent / "crates" / "ghcdb" / "out" / "ghcdb"
+PROGRAM = Path(os.path.abspath(os.environ.get("GHCDB") or TESTS.parent / "crates" / "ghcdb" / "out" / "ghcdb"))
 SECONDS = 60
 TURN_SECONDS = 10
 PROMPT = b"> "

@@ -14,7 +14,8 @@ The reply to a line that was refused memory has to be
     `F1 no memory` in its place. `records` before and behind the run tell which steps these are; behind it no line is refused
     memory, and each `show` and `goals` between the last run and the next change is answered as ever.
 
-Schedules are swept by the requests of their whole run: tests/sweep_schedules.py says how, and what has to be written then.
+Schedules are swept by the requests of their whole run: tests/sweep_schedules.py says how, and what has to be written then; and runs by
+several workers, whose order is free, as tests/sweep_workers.py says.
 
 What a session says of a line by hand (`told`) has to hold, too. Before the first line the program ends with status 2 for its words,
 or with status 1 and `PART: F1 no memory`, in the order of its parts, or it goes on as ever. It ends by itself, and by no signal.
@@ -32,6 +33,7 @@ from typing import NamedTuple
 sys.dont_write_bytecode = True
 from refusing import TESTS, Session, tried
 from sweep_schedules import SCHEDULES, ScheduleCase, sweep_schedule, unused_events
+from sweep_workers import SHARED, SharedCase, sweep_shared
 
 MOST = 400
 ALL_BEHIND = 10**9
@@ -279,16 +281,18 @@ def unused_commands():
 
 
 def sweeps(folder):
-    """Makes all trials of the sessions and schedules whose names hold one of the words, and of all where there is no word."""
+    """Makes all trials of what has a name that holds one of the words, and of all where there is no word."""
     started, totals, words = time.monotonic(), [0, 0], sys.argv[1:]
     with ThreadPoolExecutor(os.cpu_count()) as pool:
-        for name, story in STORIES.items():
+        kinds = [
+            (STORIES, lambda *told: sweep(Case(*told), pool)),
+            (SCHEDULES, lambda *told: sweep_schedule(ScheduleCase(*told), pool, part_of, are_in_order)),
+            (SHARED, lambda *told: sweep_shared(SharedCase(*told), pool, part_of, are_in_order)),
+        ]
+        named = [(name, story, trials) for stories, trials in kinds for name, story in stories.items()]
+        for name, story, trials in named:
             if not words or any(word in name for word in words):
-                totals = [a + b for a, b in zip(totals, sweep(Case(name, story, folder / name), pool))]
-        for name, schedule in SCHEDULES.items():
-            if not words or any(word in name for word in words):
-                found = sweep_schedule(ScheduleCase(name, schedule, folder / name), pool, part_of, are_in_order)
-                totals = [a + b for a, b in zip(totals, found)]
+                totals = [a + b for a, b in zip(totals, trials(name, story, folder / name))]
     unused = unused_commands() | unused_events()
     if unused:
         print(f"failed: no session or schedule uses {sorted(unused)}")

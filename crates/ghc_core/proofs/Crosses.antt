@@ -6,7 +6,6 @@ use Rattle.ghc_term.proofs.term.Term.TheLaws.TheKnot as of_terms
 use Rattle.ghc_term.proofs.expr.Expr.TheLaws.TheKnot as of_expressions
 use Rattle.ghc_term.proofs.goal_name.GoalName.TheSendSync as goal_name
 use Rattle.ghc_term.proofs.operator.Operator.TheSendSync as operator
-use Rattle.ghc_term.proofs.comparison.Comparison.TheSendSync as comparison
 use Rattle.ghc_term.specs.contracts.term.Term as term
 use Rattle.ghc_term.specs.contracts.expr.Expr as expression
 use Rattle.ghc_term.specs.contracts.goal.Goal as goal
@@ -159,10 +158,10 @@ history_sync : IsSync history.the_row
 history_sync = search (step_sync, crosses, sendable) depth 60 fits 20000
 
 test_send : IsSend test.the_row
-test_send = search (expression_send, comparison.the_send, crosses, sendable) depth 60 fits 20000
+test_send = search (expression_send, crosses, sendable) depth 60 fits 20000
 
 test_sync : IsSync test.the_row
-test_sync = search (expression_sync, comparison.the_sync, crosses, sendable) depth 60 fits 20000
+test_sync = search (expression_sync, crosses, sendable) depth 60 fits 20000
 
 clause_send : IsSend clause.the_row
 clause_send = search (term_send, goal_send, test_send, crosses, sendable) depth 60 fits 20000

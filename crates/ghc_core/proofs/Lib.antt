@@ -33,6 +33,7 @@ pub mod Replying
 pub mod Playable
 pub mod CertainRefusals
 pub mod Counted
+pub mod Firings
 pub mod Loading
 pub mod SavedSteps
 pub mod QueryVariables

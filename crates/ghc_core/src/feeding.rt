@@ -16,7 +16,6 @@ ghost use Rattle.ghc_core.specs.Change.{IsBoundBy};
 ghost use Rattle.ghc_core.specs.Anyway.{TakesNothingAnyway};
 ghost use Rattle.ghc_core.specs.Streams.{IsStreamAt, StreamFails, IsStreamStep};
 
-use crate::change::Change;
 use crate::core_state::Core;
 use ghc_fire::{Act, Effect, close, feed};
 use ghc_records::{Addition, Record};

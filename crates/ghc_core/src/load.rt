@@ -1,5 +1,5 @@
 // Loading histories.
-ghost use Rattle.std.specs.Prelude.{◌≡◌, true, false, Ok, Err, Some, length, IfOk, IfSome, IfNone, OnOk};
+ghost use Rattle.std.specs.Prelude.{◌≡◌, Ok, Err, Some, length, IfOk, IfSome, IfNone, OnOk};
 ghost use Rattle.std.specs.FinMap as finite;
 ghost use Rattle.ghc_term.specs.Answered.{Answered};
 ghost use Rattle.ghc_term.specs.declared.goal_name.GoalName.{GoalName as goal_name};
@@ -15,6 +15,7 @@ ghost use Rattle.ghc_core.specs.World.{Opens};
 
 use crate::carrying::carry_over;
 use crate::core_state::Core;
+use crate::taken_again::Outcome;
 use ghc_fire::{Meter, effect_as};
 use ghc_flat::Program;
 use ghc_reader::Query;
@@ -116,28 +117,28 @@ impl Core {
         Ok(())
     }
 
-    // Takes the step where it is possible, as the next one of those that are loaded, and says whether it is. It fires once where
-    // it is, and costs what firing and applying it cost.
-    fn load_step(&mut self, alloc: Global, step: &Step) -> Result<bool, AllocError>
+    // Takes the step where it is possible, as the next one of those that are loaded. It fires once where it is, and costs what
+    // firing and applying it cost.
+    fn load_step(&mut self, alloc: Global, step: &Step) -> Result<Outcome, AllocError>
         requires opened { Opens self.old.world.opening self.old.world }
         requires of_goal { (g : goal_name) × (step.now.goal ≡ Some g) }
         requires own { (r : record_spec) → IsPossibleAs self.old.world.opening.program self.old.world.state step.now r → CanLoad self.old.world r }
-        ensures yes { IfOk result (λ yes. yes ≡ true → (r : record_spec) × IsPossibleAs self.old.world.opening.program self.old.world.state step.now r × (self.new.world ≡ with_loaded r self.old.world)) }
-        ensures opens { IfOk result (λ yes. yes ≡ true → Opens self.new.world.opening self.new.world) }
-        ensures no { IfOk result (λ yes. yes ≡ false → IsImpossible self.old.world.opening.program self.old.world.state step.now) }
-        ensures no_change { IfOk result (λ yes. yes ≡ false → self.new.world ≡ self.old.world) }
-        ensures notes { self.old.notes ≡ finite.empty → IfOk result (λ yes. yes ≡ true → self.new.notes ≡ finite.empty) }
-        ensures meter { IfOk result (λ yes. yes ≡ true → self.new.meter ≡ fired self.old.meter) }
+        ensures carried { IfOk result (λ outcome. outcome ≡ Outcome.CarriedOut → (r : record_spec) × IsPossibleAs self.old.world.opening.program self.old.world.state step.now r × (self.new.world ≡ with_loaded r self.old.world)) }
+        ensures opens { IfOk result (λ outcome. outcome ≡ Outcome.CarriedOut → Opens self.new.world.opening self.new.world) }
+        ensures refused { IfOk result (λ outcome. outcome ≡ Outcome.Refused → IsImpossible self.old.world.opening.program self.old.world.state step.now) }
+        ensures no_change { IfOk result (λ outcome. outcome ≡ Outcome.Refused → self.new.world ≡ self.old.world) }
+        ensures notes { self.old.notes ≡ finite.empty → IfOk result (λ outcome. outcome ≡ Outcome.CarriedOut → self.new.notes ≡ finite.empty) }
+        ensures meter { IfOk result (λ outcome. outcome ≡ Outcome.CarriedOut → self.new.meter ≡ fired self.old.meter) }
     {
         let found = self.fire_counted(alloc, step)?;
         let Some(record) = found else {
-            return Ok(false);
+            return Ok(Outcome::Refused);
         };
         let loaded = record.step()?;
         let addition = Addition::of(alloc, record)?;
         self.reserve_to_add(&addition)?;
         self.add_loaded(addition, loaded)?;
-        Ok(true)
+        Ok(Outcome::CarriedOut)
     }
 
     /// The core of a query on which a history is loaded: its steps are taken one after the other from the query's state, each
@@ -163,8 +164,8 @@ impl Core {
         let mut core = Core::numbered_from(alloc, program, query, history.next())?;
         for index in 0..count {
             match core.load_step(alloc, &steps[index as usize]) {
-                Ok(true) => {}
-                Ok(false) => return Err(Fault::History { line: index + 3 }),
+                Ok(Outcome::CarriedOut) => {}
+                Ok(Outcome::Refused) => return Err(Fault::History { line: index + 3 }),
                 Err(_) => return Err(Fault::Memory),
             }
         }

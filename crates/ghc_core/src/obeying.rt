@@ -8,7 +8,7 @@ ghost use Rattle.ghc_core.specs.Anyway.{IsNotObeyedAnyway};
 ghost use Rattle.ghc_core.specs.Change.{CanChange, Changes, IsBoundBy};
 ghost use Rattle.ghc_core.specs.CommandCode.{command_of};
 ghost use Rattle.ghc_core.specs.Core.{Stays};
-ghost use Rattle.ghc_core.specs.Counting.{TriesOnce, CountsInObeying};
+ghost use Rattle.ghc_core.specs.Counting.{TriesOnce, CountsInObeying, after_firings, firings_of_command};
 ghost use Rattle.ghc_core.specs.EventCode.{reply_of};
 ghost use Rattle.ghc_core.specs.Events.{refused};
 ghost use Rattle.ghc_core.specs.Meets.{Moves};
@@ -76,6 +76,9 @@ impl Core {
         // A note stays just where its goal is still there and did not look at what the steps of the change bind.
         ensures moves { IsRefusal (reply_of result) ⊎ Moves self.old self.new }
         ensures counted { CountsInObeying (command_of command.now) self.old.meter self.new.meter }
+
+        // A redo that is obeyed fired once.
+        ensures fired { IsRefusal (reply_of result) ⊎ (self.new.meter ≡ after_firings (firings_of_command (command_of command.now)) self.old.meter) }
     {
         let change = match self.prepare_command(alloc, command) {
             Ok(change) => change,

@@ -1,12 +1,12 @@
 // The change for which a command asks, found before anything moves.
-ghost use Rattle.std.specs.Prelude.{◌≡◌, Err};
+ghost use Rattle.std.specs.Prelude.{◌≡◌, Err, OnOk};
 ghost use Rattle.ghc_term.specs.declared.fault.Fault.{Fault as fault_spec};
 ghost use Rattle.ghc_term.specs.Answered.{Answered};
 ghost use Rattle.ghc_core.specs.Anyway.{IsNotObeyedAnyway};
 ghost use Rattle.ghc_core.specs.Answers.{Fails};
 ghost use Rattle.ghc_core.specs.Asked.{IsAskedFor};
 ghost use Rattle.ghc_core.specs.CommandCode.{command_of};
-ghost use Rattle.ghc_core.specs.Counting.{CountsInObeying};
+ghost use Rattle.ghc_core.specs.Counting.{CountsInObeying, after_firings, firings_of_command};
 ghost use Rattle.ghc_core.specs.Core.{Stays};
 
 use crate::change::Change;
@@ -27,6 +27,9 @@ impl Core {
         ensures anyway { (f : fault_spec) → IsNotObeyedAnyway self.old.world (command_of command.now) f → result ≡ Err f }
         ensures stays { Stays self.old self.new }
         ensures counted { CountsInObeying (command_of command.now) self.old.meter self.new.meter }
+
+        // A redo that is found fired once.
+        ensures fired { OnOk result (self.new.meter ≡ after_firings (firings_of_command (command_of command.now)) self.old.meter) }
     {
         self.stands();
         match command {

@@ -6,7 +6,7 @@ ghost use Rattle.ghc_core.specs.Core.{choice_of, Stays};
 ghost use Rattle.ghc_core.specs.Proposes.{StillHolds, IsReduction};
 
 use crate::core_state::Core;
-use ghc_fire::{Act, Proposal, attempt};
+use ghc_fire::{Act, Proposal};
 use ghc_term::Fault;
 use std::alloc::{AllocError, Global};
 

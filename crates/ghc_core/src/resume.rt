@@ -5,11 +5,13 @@ ghost use Rattle.ghc_term.specs.Answered.{Answered};
 ghost use Rattle.ghc_flat.specs.Flat.{IsQuery};
 ghost use Rattle.ghc_records.specs.History.{IsHistory};
 ghost use Rattle.ghc_records.specs.Chronicle.{entry_limit, spy_limit};
+ghost use Rattle.ghc_core.specs.Counting.{after_firings, firings_of_entries};
 ghost use Rattle.ghc_core.specs.Resume.{CarriesOutEach, StopsBehind, ArePredicatesOf, LacksBehind, Resumes};
 ghost use Rattle.ghc_records.specs.WrittenEntryCode.{said_by};
 
 use crate::ask::is_defined;
 use crate::core_state::Core;
+use crate::taken_again::Outcome;
 use ghc_flat::Program;
 use ghc_reader::Query;
 use ghc_records::{Chronicle, Predicate, WrittenEntry};
@@ -45,12 +47,13 @@ impl Core {
         ensures carried { OnOk result (CarriesOutEach self.old.world (map said_by entries.now) self.new.world) }
         ensures refused { IfErr result (λ f. (f ≡ Fault.Memory) ⊎ ((n : ℕ) × (f ≡ Fault.History (line + n)) × StopsBehind self.old.world (map said_by entries.now) n)) }
         ensures notes { self.old.notes ≡ finite.empty → OnOk result (self.new.notes ≡ finite.empty) }
+        ensures meter { OnOk result (self.new.meter ≡ after_firings (firings_of_entries (map said_by entries.now)) self.old.meter) }
     {
         let count = entries.len() as u32;
         for index in 0..count {
             match self.carry_out_entry(alloc, &entries[index as usize]) {
-                Ok(true) => {}
-                Ok(false) => return Err(Fault::History { line: line + index }),
+                Ok(Outcome::CarriedOut) => {}
+                Ok(Outcome::Refused) => return Err(Fault::History { line: line + index }),
                 Err(_) => return Err(Fault::Memory),
             }
         }
@@ -76,6 +79,9 @@ impl Core {
         ensures answer { Answered (λ core. Resumes program query.goals query.variables chronicle.now ⊥ (Ok core.world))
             (λ fault. Resumes program query.goals query.variables chronicle.now ⊥ (Err fault)) result }
         ensures notes { IfOk result (λ core. core.notes ≡ finite.empty) }
+
+        // Each step of the opening fires once, each entry as often as it says, and nothing is tried.
+        ensures meter { IfOk result (λ core. (core.meter.firings ≡ length chronicle.now.opening.steps + firings_of_entries chronicle.now.entries) × (core.meter.tries ≡ 0)) }
     {
         let opening = chronicle.opening();
         let entries = chronicle.entries();

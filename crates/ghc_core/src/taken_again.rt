@@ -1,5 +1,5 @@
 // Entries of chronicles, carried out one by one.
-ghost use Rattle.std.specs.Prelude.{◌≡◌, ◌≢◌, true, false, Some, IfOk, IfSome, IfNone, OnOk};
+ghost use Rattle.std.specs.Prelude.{◌≡◌, ◌≢◌, Some, IfOk, IfSome, IfNone, OnOk};
 ghost use Rattle.ghc_term.specs.declared.fault.Fault.{Fault as fault_spec};
 ghost use Rattle.std.specs.FinMap as finite;
 ghost use Rattle.ghc_term.specs.declared.goal_name.GoalName.{GoalName as goal_name};
@@ -8,6 +8,7 @@ ghost use Rattle.ghc_records.specs.Record.{Record as record_spec};
 ghost use Rattle.ghc_core.specs.Asked.{IsAskedFor};
 ghost use Rattle.ghc_core.specs.Change.{Changes};
 ghost use Rattle.ghc_core.specs.CommandCode.{command_of};
+ghost use Rattle.ghc_core.specs.Counting.{after_firings, firings_of_command, firings_of_entry};
 ghost use Rattle.ghc_core.specs.Resume.{CarriesOut, IsRefusedEntry};
 ghost use Rattle.ghc_core.specs.World.{World as world_spec, IsNextStep, HasRoom};
 ghost use Rattle.ghc_records.specs.WrittenEntryCode.{said_by};
@@ -20,6 +21,15 @@ use ghc_fire::Act;
 use ghc_records::{Addition, Step, WrittenEntry};
 use ghc_term::Fault;
 use std::alloc::{AllocError, Global};
+
+// What became of an entry, or of a step of an opening, that was to be carried out once more.
+#[derive(Clone, Copy, Drop)]
+pub(crate) enum Outcome {
+    // It is carried out, and stands in the journal.
+    CarriedOut,
+    // It is not possible as the next one.
+    Refused,
+}
 
 // Fails where the fault is want of memory.
 fn for_another_cause(fault: Fault) -> Result<(), AllocError>
@@ -54,6 +64,7 @@ impl Core {
         ensures none { IfOk result (λ found. IfNone found ((r : record_spec) → step_of r ≡ step.now → ¬ IsNextStep self.old.world r)) }
         ensures world { self.new.world ≡ self.old.world }
         ensures notes { self.new.notes ≡ self.old.notes }
+        ensures meter { IfOk result (λ found. IfSome found (λ _. self.new.meter ≡ after_firings (firings_of_entry (took step.now)) self.old.meter)) }
     {
         match self.fire_counted(alloc, step)? {
             Some(record) => Ok(Some(Addition::of(alloc, record)?)),
@@ -68,6 +79,7 @@ impl Core {
         ensures none { IfOk result (λ found. IfNone found ((r : record_spec) → step_of r ≡ step.now → ¬ IsNextStep self.old.world r)) }
         ensures world { self.new.world ≡ self.old.world }
         ensures notes { self.new.notes ≡ self.old.notes }
+        ensures meter { IfOk result (λ found. IfSome found (λ _. self.new.meter ≡ after_firings (firings_of_entry (took step.now)) self.old.meter)) }
     {
         if self.is_full() {
             return Ok(None);
@@ -84,47 +96,50 @@ impl Core {
         }
     }
 
-    // Takes the step as the next one, where it is possible, and says whether it is.
-    fn take_again(&mut self, alloc: Global, step: &Step) -> Result<bool, AllocError>
-        ensures yes { IfOk result (λ yes. yes ≡ true → CarriesOut self.old.world (took step.now) self.new.world) }
-        ensures no { IfOk result (λ yes. yes ≡ false → IsRefusedEntry self.old.world (took step.now)) }
-        ensures notes { self.old.notes ≡ finite.empty → IfOk result (λ yes. yes ≡ true → self.new.notes ≡ finite.empty) }
+    // Takes the step as the next one, where it is possible.
+    fn take_again(&mut self, alloc: Global, step: &Step) -> Result<Outcome, AllocError>
+        ensures carried { IfOk result (λ outcome. outcome ≡ Outcome.CarriedOut → CarriesOut self.old.world (took step.now) self.new.world) }
+        ensures refused { IfOk result (λ outcome. outcome ≡ Outcome.Refused → IsRefusedEntry self.old.world (took step.now)) }
+        ensures notes { self.old.notes ≡ finite.empty → IfOk result (λ outcome. outcome ≡ Outcome.CarriedOut → self.new.notes ≡ finite.empty) }
+        ensures meter { IfOk result (λ outcome. outcome ≡ Outcome.CarriedOut → self.new.meter ≡ after_firings (firings_of_entry (took step.now)) self.old.meter) }
     {
         self.stands();
         let Some(addition) = self.next_as(alloc, step)? else {
-            return Ok(false);
+            return Ok(Outcome::Refused);
         };
         self.take_next(addition)?;
-        Ok(true)
+        Ok(Outcome::CarriedOut)
     }
 
-    // Makes the change for which the command asks, where it can be made, and says whether it can.
-    fn command_again(&mut self, alloc: Global, command: Command) -> Result<bool, AllocError>
-        ensures yes { IfOk result (λ yes. yes ≡ true → (change : change_spec) × IsAskedFor self.old.world (command_of command) change × Changes self.old.world change self.new.world) }
-        ensures no { IfOk result (λ yes. yes ≡ false → (change : change_spec) (v : world_spec) → IsAskedFor self.old.world (command_of command) change → ¬ Changes self.old.world change v) }
-        ensures notes { self.old.notes ≡ finite.empty → IfOk result (λ yes. yes ≡ true → self.new.notes ≡ finite.empty) }
+    // Makes the change for which the command asks, where it can be made.
+    fn command_again(&mut self, alloc: Global, command: Command) -> Result<Outcome, AllocError>
+        ensures carried { IfOk result (λ outcome. outcome ≡ Outcome.CarriedOut → (change : change_spec) × IsAskedFor self.old.world (command_of command) change × Changes self.old.world change self.new.world) }
+        ensures refused { IfOk result (λ outcome. outcome ≡ Outcome.Refused → (change : change_spec) (v : world_spec) → IsAskedFor self.old.world (command_of command) change → ¬ Changes self.old.world change v) }
+        ensures notes { self.old.notes ≡ finite.empty → IfOk result (λ outcome. outcome ≡ Outcome.CarriedOut → self.new.notes ≡ finite.empty) }
+        ensures meter { IfOk result (λ outcome. outcome ≡ Outcome.CarriedOut → self.new.meter ≡ after_firings (firings_of_command (command_of command)) self.old.meter) }
     {
         self.stands();
         let change = match self.prepare_command(alloc, &command) {
             Ok(change) => change,
             Err(fault) => {
                 for_another_cause(fault)?;
-                return Ok(false);
+                return Ok(Outcome::Refused);
             }
         };
         self.make(change)?;
-        Ok(true)
+        Ok(Outcome::CarriedOut)
     }
 
-    // Carries out the entry, where it is not refused, and says whether it is carried out.
+    // Carries out the entry, where it is not refused.
     pub(crate) fn carry_out_entry(
         &mut self,
         alloc: Global,
         entry: &WrittenEntry,
-    ) -> Result<bool, AllocError>
-        ensures yes { IfOk result (λ yes. yes ≡ true → CarriesOut self.old.world (said_by entry.now) self.new.world) }
-        ensures no { IfOk result (λ yes. yes ≡ false → IsRefusedEntry self.old.world (said_by entry.now)) }
-        ensures notes { self.old.notes ≡ finite.empty → IfOk result (λ yes. yes ≡ true → self.new.notes ≡ finite.empty) }
+    ) -> Result<Outcome, AllocError>
+        ensures carried { IfOk result (λ outcome. outcome ≡ Outcome.CarriedOut → CarriesOut self.old.world (said_by entry.now) self.new.world) }
+        ensures refused { IfOk result (λ outcome. outcome ≡ Outcome.Refused → IsRefusedEntry self.old.world (said_by entry.now)) }
+        ensures notes { self.old.notes ≡ finite.empty → IfOk result (λ outcome. outcome ≡ Outcome.CarriedOut → self.new.notes ≡ finite.empty) }
+        ensures meter { IfOk result (λ outcome. outcome ≡ Outcome.CarriedOut → self.new.meter ≡ after_firings (firings_of_entry (said_by entry.now)) self.old.meter) }
     {
         self.stands();
         match entry {

@@ -71,10 +71,10 @@ module _ (text counted : List ℕ) (o : History) (opens : TellsOpening text o) (
     no_entry {o = o} {i = i} opens (subst (λ p. IsFirstWrongOf SaysEntry (AreInTurn o.next) entries_line entry_limit p i) (sym behind) wrong),
   )
 
-  pub entries_told : (es : List Entry) → TellsSection SaysEntry (AreInTurn o.next) entries_line entry_limit (pieces_of counted) es → TellsEntries text o es
+  entries_told : (es : List Entry) → TellsSection SaysEntry (AreInTurn o.next) entries_line entry_limit (pieces_of counted) es → TellsEntries text o es
   entries_told es told = record { opening = opens; entries = subst (λ p. TellsSection SaysEntry (AreInTurn o.next) entries_line entry_limit p es) (sym behind) told }
 
-  pub entries_rest : (es : List Entry) (rest : List ℕ) → drop (length es + 1) (pieces_of counted) ≡ pieces_of rest → behind_lines (lines_to_spies o es) text ≡ pieces_of rest
+  entries_rest : (es : List Entry) (rest : List ℕ) → drop (length es + 1) (pieces_of counted) ≡ pieces_of rest → behind_lines (lines_to_spies o es) text ≡ pieces_of rest
   entries_rest es rest e =
       let places : lines_to_spies o es ≡ (length o.steps + 2) + (length es + 1) = omega arith in
       ap (λ n. drop n (pieces_of text)) places ∙ sym (drop-drop (length es + 1) (length o.steps + 2) (pieces_of text)) ∙ ap (drop (length es + 1)) behind ∙ e
@@ -89,13 +89,41 @@ module _ (text told : List ℕ) (o : History) (es : List Entry) (tells : TellsEn
     no_spy {o = o} {es = es} {i = i} tells (subst (λ p. IsFirstWrongOf SaysPredicate GoTogether spies_line spy_limit p i) (sym behind) wrong),
   )
 
-  pub spies_told : (ps : List Predicate) → TellsSection SaysPredicate GoTogether spies_line spy_limit (pieces_of told) ps → TellsSpies text o es ps
+  spies_told : (ps : List Predicate) → TellsSection SaysPredicate GoTogether spies_line spy_limit (pieces_of told) ps → TellsSpies text o es ps
   spies_told ps says = record { entries = tells; spies = subst (λ p. TellsSection SaysPredicate GoTogether spies_line spy_limit p ps) (sym behind) says }
 
-  pub spies_rest : (ps : List Predicate) (rest : List ℕ) → drop (length ps + 1) (pieces_of told) ≡ pieces_of rest → behind_lines (lines_to_end o es ps) text ≡ pieces_of rest
+  spies_rest : (ps : List Predicate) (rest : List ℕ) → drop (length ps + 1) (pieces_of told) ≡ pieces_of rest → behind_lines (lines_to_end o es ps) text ≡ pieces_of rest
   spies_rest ps rest e =
       let places : lines_to_end o es ps ≡ lines_to_spies o es + (length ps + 1) = omega arith in
       ap (λ n. drop n (pieces_of text)) places ∙ sym (drop-drop (length ps + 1) (lines_to_spies o es) (pieces_of text)) ∙ ap (drop (length ps + 1)) behind ∙ e
+
+-- ---- what was read so far
+
+-- Opening and entries are told, n is the number of the next step behind them, and the rest begins with the spies.
+pub record IsReadToSpies (text rest : List ℕ) (o : History) (es : List Entry) (n : ℕ) : Type 0 where
+  pub tells : TellsEntries text o es
+  pub behind : behind_lines (lines_to_spies o es) text ≡ pieces_of rest
+  pub turn : n ≡ next_behind o.next es
+
+-- .. and the spies too, and the rest begins with the end
+pub record IsReadToEnd (text rest : List ℕ) (o : History) (es : List Entry) (ps : List Predicate) : Type 0 where
+  pub tells : TellsSpies text o es ps
+  pub behind : behind_lines (lines_to_end o es ps) text ≡ pieces_of rest
+
+pub read_to_spies : (text counted told : List ℕ) (o : History) (first : ℕ) (es : List Entry) (n : ℕ) → TellsOpening text o → behind_lines (length o.steps + 2) text ≡ pieces_of counted → first ≡ o.next
+    → TellsSection SaysEntry (AreInTurn first) entries_line entry_limit (pieces_of counted) es → n ≡ next_behind first es → drop (length es + 1) (pieces_of counted) ≡ pieces_of told → IsReadToSpies text told o es n
+read_to_spies text counted told o first es n opens behind is says number rest = record {
+  tells = entries_told text counted o opens behind es (subst (λ m. TellsSection SaysEntry (AreInTurn m) entries_line entry_limit (pieces_of counted) es) is says);
+  behind = entries_rest text counted o opens behind es told rest;
+  turn = number ∙ ap (λ m. next_behind m es) is;
+}
+
+pub read_to_end : (text told ending : List ℕ) (o : History) (es : List Entry) (n : ℕ) (ps : List Predicate) → IsReadToSpies text told o es n
+    → TellsSection SaysPredicate GoTogether spies_line spy_limit (pieces_of told) ps → drop (length ps + 1) (pieces_of told) ≡ pieces_of ending → IsReadToEnd text ending o es ps
+read_to_end text told ending o es n ps read says rest = record {
+  tells = spies_told text told o es read.tells read.behind ps says;
+  behind = spies_rest text told o es read.tells read.behind ps ending rest;
+}
 
 -- ---- the end
 

@@ -43,7 +43,7 @@ byte_more b front back (line ∷ lines) e c = (
   },
 )
 
-cut_at : (front back : List ℕ) → (lines : List (List ℕ)) × IsCut front back lines
+pub cut_at : (front back : List ℕ) → (lines : List (List ℕ)) × IsCut front back lines
 cut_at [] back =
     let (first, others, e) = some_first (pieces_of back) (some_piece 10 back) in
     ([], record { last = []; more = first; others = others; front_pieces = refl; text_pieces = e })
@@ -64,14 +64,14 @@ cut_at (b ∷ front) back =
     ] refl
 
 -- a line in front of the cut stands in the front too
-line_kept : (lines : List (List ℕ)) (x last : List ℕ) (others : List (List ℕ)) (i : ℕ) (line : List ℕ) → i < length lines → IsLineOf (lines ++ x ∷ others) i line → IsLineOf (lines ++ last ∷ []) i line
+pub line_kept : (lines : List (List ℕ)) (x last : List ℕ) (others : List (List ℕ)) (i : ℕ) (line : List ℕ) → i < length lines → IsLineOf (lines ++ x ∷ others) i line → IsLineOf (lines ++ last ∷ []) i line
 line_kept [] x last others i line low is = absurd (omega (arith, low))
 line_kept (l ∷ []) x last others zero line low (next, more, e) = let same : l ≡ line = ap (λ ls. get_or ls 0 []) e in (last, [], ap (λ k. k ∷ last ∷ []) same)
 line_kept (l ∷ m ∷ lines) x last others zero line low (next, more, e) = let same : l ≡ line = ap (λ ls. get_or ls 0 []) e in (m, lines ++ last ∷ [], ap (λ k. k ∷ m ∷ (lines ++ last ∷ [])) same)
 line_kept (l ∷ lines) x last others (suc i) line low is = line_kept lines x last others i line (omega (arith, low)) is
 
 -- from the cut on no line is left
-no_line_left : (lines : List (List ℕ)) (last : List ℕ) (i : ℕ) (line : List ℕ) → length lines ≤ i → ¬ IsLineOf (lines ++ last ∷ []) i line
+pub no_line_left : (lines : List (List ℕ)) (last : List ℕ) (i : ℕ) (line : List ℕ) → length lines ≤ i → ¬ IsLineOf (lines ++ last ∷ []) i line
 no_line_left lines last i line far (next, more, e) = omega (arith, far, length-drop i (lines ++ last ∷ []), length-append lines (last ∷ []), ap length e)
 
 -- what stands in the first part of a list
@@ -132,18 +132,26 @@ empty_front : (a b : List ℕ) → a ++ b ≡ [] → a ≡ []
 empty_front [] b e = refl
 empty_front (x ∷ a) b e = cc
 
+-- where no byte stands behind the last of so many lines, and all of these stand in front of the cut, nothing is cut off
+pub nothing_behind : (front back : List ℕ) (n : ℕ) (lines : List (List ℕ)) → IsCut front back lines → n ≤ length lines → drop n (pieces_of (front ++ back)) ≡ [] ∷ [] → back ≡ []
+nothing_behind front back n lines c far whole =
+    let (first, rest, same) = all_lines lines (c.last ++ c.more) c.others n (ap (drop n) (sym c.text_pieces) ∙ whole) far in
+    let nothing : c.last ≡ [] = empty_front c.last c.more first in
+    let pieces : pieces_of (front ++ back) ≡ pieces_of front =
+    c.text_pieces ∙ ap (λ l. lines ++ l ∷ c.others) first ∙ ap (λ l. lines ++ [] ∷ l) rest ∙ ap (λ l. lines ++ l ∷ []) (sym nothing) ∙ sym c.front_pieces in
+    let same_text : front ++ back ≡ front ++ [] = one_text (front ++ back) front pieces ∙ sym (append-nil front) in
+    append_cancel_left front back [] same_text
+
+-- each line in front of the cut has a line feed
+pub feeds_of : (front back : List ℕ) (lines : List (List ℕ)) → IsCut front back lines → line_feeds front ≡ length lines
+feeds_of front back lines c = omega (arith, length-slice_split (λ byte. nat_eq byte 10) front, ap length c.front_pieces, length-append lines (c.last ∷ []))
+
 module _ (front back : List ℕ) (h : History) (some : back ≢ []) (told : TellsHistory (front ++ back) h) where
   -- not all lines stand in front of the cut
   few : (lines : List (List ℕ)) → IsCut front back lines → length lines < length h.steps + 3
   few lines c = elim (less_or (length lines) (length h.steps + 3)) [
     | inl low ↦ low
-    | inr far ↦
-        let (first, rest, same) = all_lines lines (c.last ++ c.more) c.others (length h.steps + 3) (ap (drop (length h.steps + 3)) (sym c.text_pieces) ∙ told.whole) far in
-        let nothing : c.last ≡ [] = empty_front c.last c.more first in
-        let pieces : pieces_of (front ++ back) ≡ pieces_of front =
-        c.text_pieces ∙ ap (λ l. lines ++ l ∷ c.others) first ∙ ap (λ l. lines ++ [] ∷ l) rest ∙ ap (λ l. lines ++ l ∷ []) (sym nothing) ∙ sym c.front_pieces in
-        let same_text : front ++ back ≡ front ++ [] = one_text (front ++ back) front pieces ∙ sym (append-nil front) in
-        absurd (some (append_cancel_left front back [] same_text))
+    | inr far ↦ absurd (some (nothing_behind front back (length h.steps + 3) lines c far told.whole))
   ]
 
   stands : (lines : List (List ℕ)) (c : IsCut front back lines) (i : ℕ) (line : List ℕ) → i < length lines → IsLine (front ++ back) i line → IsLine front i line
@@ -179,5 +187,4 @@ module _ (front back : List ℕ) (h : History) (some : back ≢ []) (told : Tell
   pub refused : IsFirstWrongLine front (line_feeds front + 1)
   refused =
       let (lines, c) = cut_at front back in
-      let feeds : line_feeds front ≡ length lines = omega (arith, length-slice_split (λ byte. nat_eq byte 10) front, ap length c.front_pieces, length-append lines (c.last ∷ [])) in
-      subst (λ n. IsFirstWrongLine front (n + 1)) (sym feeds) (refused_at lines c)
+      subst (λ n. IsFirstWrongLine front (n + 1)) (sym (feeds_of front back lines c)) (refused_at lines c)

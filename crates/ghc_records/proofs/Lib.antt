@@ -33,6 +33,7 @@ pub mod TellingSteps
 pub mod HistoryLines
 pub mod TellingHistories
 pub mod PlainTexts
+pub mod WrittenSections
 pub mod WrittenTexts
 pub mod CutTexts
 pub mod ToldHistories
@@ -53,3 +54,13 @@ pub mod ChronicleTold
 pub mod OneEntry
 pub mod OneSection
 pub mod OneChronicle
+pub mod RenamedSayings
+pub mod WritableGoals
+pub mod WrittenAsks
+pub mod PlainGoals
+pub mod WrittenChronicles
+pub mod ReplacedGoals
+pub mod ToldAsks
+pub mod ToldChronicles
+pub mod CutSections
+pub mod CutChronicles

@@ -1,8 +1,9 @@
 -- A history that a text tells is of the form.
-use Rattle.std.proofs.Common.{◌≡◌, ℕ, suc, ◌≤◌, List, [], ◌∷◌, sym, ap, ◌∙◌, subst, inl, inr, Some, slice_get}
+use Rattle.std.proofs.Common.{◌≡◌, ℕ, ◌≤◌, List, sym, ◌∙◌, subst, Some}
 use Rattle.ghc_term.specs.declared.goal_name.GoalName.{GoalName}
 use Rattle.ghc_term.specs.Goal.{Goal}
 use Rattle.ghc_term.specs.Lists.{In}
+use Rattle.ghc_term.proofs.ListsLemmas.{at_of_in}
 use Rattle.ghc_term.specs.Tree.{Tree}
 use Rattle.ghc_term.specs.InputTerm.{IsInputTerm}
 use Rattle.ghc_reader.specs.Read.{IsReadTerm}
@@ -10,18 +11,12 @@ use Rattle.ghc_fire.specs.declared.act.Act.TheVariants.{ByClause as by_clause, G
 use Rattle.ghc_records.specs.Journal.{Step}
 use Rattle.ghc_records.specs.History.{History, IsHistory}
 use Rattle.ghc_records.specs.HistoryText.{SaysAct, SaysStep, TellsHistory}
-use Rattle.ghc_records.specs.HistoryLaws.{IsInRange}
-
--- what is in a list stands at a place
-at_in : {X : Type 0} (xs : List X) (x : X) → In x xs → (i : ℕ) × (slice_get xs i ≡ Some x)
-at_in [] x i = absurd i
-at_in (y ∷ xs) x (inl e) = (0, ap Some (sym e))
-at_in (y ∷ xs) x (inr i) = let (k, e) = at_in xs x i in (suc k, e)
+use Rattle.ghc_records.specs.HistoryLaws.{IsInRange, IsOfAGoal}
 
 -- a line says each step
 line_of : (text : List ℕ) (h : History) → TellsHistory text h → (s : Step) → In s h.steps → (line : List ℕ) × SaysStep line s
 line_of text h told s i =
-    let (k, e) = at_in h.steps s i in
+    let (k, e) = at_of_in h.steps s i in
     let (line, stands, says) = told.steps.each k s e in
     (line, says)
 
@@ -48,11 +43,19 @@ told_history text h told = record {
 same_goal : (g other : GoalName) → Some g ≡ Some other → g ≡ other
 same_goal g other e = cc
 
+-- a step that a line says consumes a goal
+pub said_of_goal : (only : (text : List ℕ) (u : Tree) → IsReadTerm text u → IsInputTerm u) (line : List ℕ) (s : Step) → SaysStep line s → IsOfAGoal s
+said_of_goal only line s says = record {
+  number = says.number;
+  goal = (says.goal, says.of_goal);
+  unasked = λ gs e. said_asked says.act s gs says.says e;
+  clause = λ k e. (said_clause says.act s k says.says e).1;
+  range = record {
+    goal = λ g e. let same = same_goal says.goal g (sym says.of_goal ∙ e) in (subst (λ (n : GoalName). n.step ≤ 4294967295) same says.goal_numbers.0, subst (λ (n : GoalName). n.place ≤ 4294967295) same says.goal_numbers.1);
+    clause = λ k e. (said_clause says.act s k says.says e).2;
+    input = λ u e. let told_input = said_input says.act s u says.says e in only told_input.0 u told_input.2;
+  };
+}
+
 pub told_in_range : (only : (text : List ℕ) (u : Tree) → IsReadTerm text u → IsInputTerm u) (text : List ℕ) (h : History) → TellsHistory text h → (s : Step) → In s h.steps → IsInRange s
-told_in_range only text h told s i =
-    let (line, says) = line_of text h told s i in
-    record {
-      goal = λ g e. let same = same_goal says.goal g (sym says.of_goal ∙ e) in (subst (λ (n : GoalName). n.step ≤ 4294967295) same says.goal_numbers.0, subst (λ (n : GoalName). n.place ≤ 4294967295) same says.goal_numbers.1);
-      clause = λ k e. (said_clause says.act s k says.says e).2;
-      input = λ u e. let told_input = said_input says.act s u says.says e in only told_input.0 u told_input.2;
-    }
+told_in_range only text h told s i = let (line, says) = line_of text h told s i in (said_of_goal only line s says).range

@@ -1,6 +1,7 @@
 -- Lemmas on entries that follow each other.
-use Rattle.std.proofs.Common.{◌≡◌, ℕ, List, [], ◌∷◌, ◌++◌, refl}
-use Rattle.ghc_records.specs.Journal.{Entry}
+use Rattle.std.proofs.Common.{◌≡◌, ℕ, ◌+◌, ◌≤◌, List, [], ◌∷◌, ◌++◌, refl, arith}
+use Rattle.ghc_records.specs.Numbers.{number_limit}
+use Rattle.ghc_records.specs.Journal.{Entry, took, undid, rolled, redid, reordered}
 use Rattle.ghc_records.specs.Chronicle.{AreInTurn, IsInTurn, next_after, next_behind}
 
 pub turn_more : (n : ℕ) (es : List Entry) (e : Entry) → AreInTurn n es → IsInTurn (next_behind n es) e → AreInTurn n (es ++ e ∷ [])
@@ -14,3 +15,12 @@ turn_last n (f ∷ es) e all = turn_last (next_after n f) es e all.1
 pub next_more : (n : ℕ) (es : List Entry) (e : Entry) → next_behind n (es ++ e ∷ []) ≡ next_after (next_behind n es) e
 next_more n [] e = refl
 next_more n (f ∷ es) e = next_more (next_after n f) es e
+
+-- the next number is none that is too great
+pub next_fits : (n : ℕ) (es : List Entry) → n ≤ number_limit → AreInTurn n es → next_behind n es ≤ number_limit
+next_fits n [] small all = small
+next_fits n (took s ∷ es) small all = next_fits (n + 1) es (omega (arith, all.0.1)) all.1
+next_fits n (undid k ∷ es) small all = next_fits n es small all.1
+next_fits n (rolled k ∷ es) small all = next_fits n es small all.1
+next_fits n (redid k ∷ es) small all = next_fits n es small all.1
+next_fits n (reordered ks ∷ es) small all = next_fits n es small all.1

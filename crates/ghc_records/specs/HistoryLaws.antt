@@ -6,8 +6,9 @@ use Rattle.ghc_term.specs.declared.fault.Fault.{Fault}
 use Rattle.ghc_term.specs.Answered.{Answered, IsExact}
 use Rattle.ghc_term.specs.Lists.{In}
 use Rattle.ghc_term.specs.Tree.{Tree}
+use Rattle.ghc_term.specs.Goal.{Goal}
 use Rattle.ghc_term.specs.InputTerm.{IsInputTerm}
-use Rattle.ghc_fire.specs.declared.act.Act.TheVariants.{ByClause as by_clause, Given as given}
+use Rattle.ghc_fire.specs.declared.act.Act.TheVariants.{ByClause as by_clause, Given as given, Asked as asked}
 use Rattle.ghc_records.specs.Journal.{Step}
 use Rattle.ghc_records.specs.History.{History, IsHistory}
 use Rattle.ghc_records.specs.HistoryText.{IsFirstWrongLine, IsHistoryRefusal, TellsHistory, greatest_number, history_text}
@@ -17,6 +18,14 @@ pub record IsInRange (s : Step) : Type 0 where
   pub goal : (g : GoalName) → s.goal ≡ Some g → (g.step ≤ greatest_number) × (g.place ≤ greatest_number)
   pub clause : (k : ℕ) → s.act ≡ by_clause k → k ≤ greatest_number
   pub input : (u : Tree) → s.act ≡ given u → IsInputTerm u
+
+-- The step consumes a goal, and asks for none; it has a number of 32 bits, from 1 on, as the clause that it names; and it is in range.
+pub record IsOfAGoal (s : Step) : Type 0 where
+  pub number : (1 ≤ s.number) × (s.number ≤ greatest_number)
+  pub goal : (g : GoalName) × (s.goal ≡ Some g)
+  pub unasked : (gs : List Goal) → s.act ≢ asked gs
+  pub clause : (k : ℕ) → s.act ≡ by_clause k → 1 ≤ k
+  pub range : IsInRange s
 
 -- What is written of a history tells it. A history that a text tells is of the form, and, written, told again.
 pub record WrittenHistoriesAreReadAgain : Type 0 where

@@ -22,6 +22,12 @@ use crate::written_entry::WrittenEntry;
 use ghc_term::Fault;
 use std::alloc::Global;
 
+// At most this many entries stand behind an opening.
+const ENTRY_LIMIT: u32 = 4_000_000_000;
+
+// At most this many spies stand behind the entries.
+const SPY_LIMIT: u32 = 100_000_000;
+
 /// Whether the first line of a text is that of a chronicle, so that `read_chronicle` and not `read_history` reads it: one line.
 pub fn is_chronicle(text: &[u8]) -> bool
     ensures { IsTrue result ↔ IsLine text.now 0 chronicle_heading }
@@ -64,7 +70,7 @@ fn entries_of<'a>(
     ensures rest { IfOk result (λ read. drop (length (map said_by read.0.items) + 1) (pieces_of text.now) ≡ pieces_of read.2.now) }
     ensures fault { IfErr result (λ fault. (fault ≡ fault_spec.Memory) ⊎ ((i : ℕ) × (fault ≡ fault_spec.History (line + i)) × IsFirstWrongOf SaysEntry (AreInTurn next) entries_line entry_limit (pieces_of text.now) i)) }
 {
-    let Some((count, told)) = read_amount(text, b"entries ".as_slice(), 4_000_000_000) else {
+    let Some((count, told)) = read_amount(text, b"entries ".as_slice(), ENTRY_LIMIT) else {
         return Err(Fault::History { line });
     };
     match read_entries(alloc, told, count, line + 1, next) {
@@ -84,7 +90,7 @@ fn spies_of<'a>(
     ensures rest { IfOk result (λ read. drop (length read.0.items + 1) (pieces_of text.now) ≡ pieces_of read.1.now) }
     ensures fault { IfErr result (λ fault. (fault ≡ fault_spec.Memory) ⊎ ((i : ℕ) × (fault ≡ fault_spec.History (line + i)) × IsFirstWrongOf SaysPredicate GoTogether spies_line spy_limit (pieces_of text.now) i)) }
 {
-    let Some((count, told)) = read_amount(text, b"spies ".as_slice(), 100_000_000) else {
+    let Some((count, told)) = read_amount(text, b"spies ".as_slice(), SPY_LIMIT) else {
         return Err(Fault::History { line });
     };
     match read_predicates(alloc, told, count, line + 1) {

@@ -45,7 +45,9 @@ mod written_entry;
 
 pub use addition::Addition;
 pub use chronicle::Chronicle;
-pub use chronicle_laws::texts_tell_one_chronicle;
+pub use chronicle_laws::{
+    cut_chronicles_are_refused, texts_tell_one_chronicle, written_chronicles_are_read_again,
+};
 pub use chronicle_reading::{is_chronicle, read_chronicle};
 pub use chronicle_writing::write_chronicle;
 pub use entry::Entry;

@@ -1,9 +1,9 @@
 -- The spies of a set in their order, what is said of each of them, and sets of written predicates.
-use Rattle.std.proofs.Common.{◌≡◌, ℕ, ◌+◌, ◌≤◌, ◌<◌, Bool, true, false, cond, ◌||◌, List, [], ◌∷◌, ◌++◌, length, map, take, drop, get_or, All, refl, sym, ap, ◌∙◌, subst}
+use Rattle.std.proofs.Common.{◌≡◌, ℕ, ◌+◌, ◌≤◌, ◌<◌, Bool, true, false, cond, ◌||◌, List, [], ◌∷◌, length, map, take, drop, get_or, All, refl, sym, ap, ◌∙◌, subst}
 use Rattle.std.proofs.lemmas.List.{drop_all, take_more, map-append}
 use Rattle.std.proofs.lemmas.List.Elements.{All-contains}
 use Rattle.std.proofs.lemmas.Map.Views.{All-from_any, Contains-from_any}
-use Rattle.std.specs.Prelude.{Some, None}
+use Rattle.std.specs.Prelude.{Some, None, is_some}
 use Rattle.std.specs.List.{list_any}
 use Rattle.std.specs.List.Sorted.{IsStrictlySortedBy}
 use Rattle.std.specs.Map.{keys_of}
@@ -14,7 +14,7 @@ use Rattle.std.specs.FinMap as finite
 use Rattle.ghc_fire.proofs.Ordered.{entries_are}
 use Rattle.ghc_records.specs.declared.predicate.Predicate as written
 use Rattle.ghc_trace.specs.declared.spies.Predicate.{Predicate}
-use Rattle.ghc_trace.specs.Spies.{Spies, predicate, predicate_cmp, in_order, spied_of}
+use Rattle.ghc_trace.specs.Spies.{Spies, predicate, predicate_cmp, as_written, in_order, spied_of, spies_in_order}
 use Rattle.ghc_trace.proofs.Spied.{predicate_total, predicate_antisymmetric, same, same_is}
 
 -- the predicate is among the predicates
@@ -105,3 +105,23 @@ one_spied ps i d l =
     ap (λ l. set.from_list {R = predicate_cmp} (map spied l)) (take_more ps i d l)
     ∙ ap (λ l. set.from_list {R = predicate_cmp} l) (map-append spied (take i ps) (get_or ps i d ∷ []))
     ∙ set.from_list_push predicate_total predicate_antisymmetric (map spied (take i ps)) (spied (get_or ps i d))
+
+-- a predicate that is listed in order is one of those that were given
+listed : (q : Predicate) (ps : List Predicate) → has q (in_order ps) ≡ has q ps
+listed q ps =
+    sym (finite.contains_key-keys (finite.from_entries {R = predicate_cmp} (marked ps)) q) ∙ ap (λ o. is_some o) (finite.get-from_entries predicate_total (marked ps) q ∙ found_marked q ps) ∙ is_found (has q ps)
+  where
+    is_found : (b : Bool) → is_some (cond b (Some (tt {0})) None) ≡ b
+    is_found true = refl
+    is_found false = refl
+
+written_back : (ps : List Predicate) → map (λ p. predicate p.name p.arity) (map as_written ps) ≡ ps
+written_back [] = refl
+written_back (p ∷ ps) = ap (λ l. p ∷ l) (written_back ps)
+
+-- what a set lists in order makes the set again
+pub come_back : (s : Spies) → spied_of (spies_in_order s) ≡ s
+come_back s =
+    ap (λ l. set.from_list {R = predicate_cmp} l) (written_back (in_order (set.items s)))
+    ∙ set.same_set predicate_total predicate_antisymmetric (set.from_list (in_order (set.items s))) s (λ q.
+    set.contains-from_list predicate_total (in_order (set.items s)) q ∙ listed q (set.items s) ∙ sym (set.contains-items s q))

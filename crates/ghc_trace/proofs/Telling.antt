@@ -1,5 +1,5 @@
 -- By notes that are exact, where nothing is untried, goals are told to be resumed or stuck as they are.
-use Rattle.std.proofs.Common.{◌≡◌, ◌≢◌, ℕ, true, false, ◌⊎◌, List, [], ◌∷◌, refl, sym, ap, ◌∙◌, subst, inl, inr}
+use Rattle.std.proofs.Common.{◌≡◌, ◌≢◌, true, false, ◌⊎◌, List, refl, sym, ap, ◌∙◌, subst, inl, inr}
 use Rattle.std.specs.Prelude.{◌↔◌, Option, Some, None, is_some, IsTrue}
 use Rattle.std.specs.FinMap as finite
 use Rattle.std.specs.FinSet as set
@@ -30,7 +30,7 @@ use Rattle.ghc_records.specs.Journal.{Opening}
 use Rattle.ghc_core.specs.World.{World}
 use Rattle.ghc_core.specs.declared.change.Change.{Change}
 use Rattle.ghc_core.specs.declared.change.Change.TheVariants.{Adds as adds, PutsBack as puts_back, TakesAway as takes_away, TakesAll as takes_all, Reorders as reorders}
-use Rattle.ghc_core.specs.Change.{CanChange, Changes, IsBoundBy}
+use Rattle.ghc_core.specs.Change.{IsBoundBy}
 use Rattle.ghc_core.proofs.Moving.{opening_stays}
 use Rattle.ghc_core.proofs.Reaching.{reached_good}
 use Rattle.ghc_trace.specs.News.{IsStuck, Standing}

@@ -17,3 +17,4 @@ pub mod Who
 pub mod Spies
 pub mod SpiesCode
 pub mod SpyKeys
+pub mod SpyLaws

@@ -63,10 +63,7 @@ impl Model for SpySet {
 }
 
 // The predicates, as a chronicle has them.
-fn written(
-    alloc: Global,
-    ordered: &BTreeSet<Predicate>,
-) -> Result<Vec<Written>, AllocError>
+fn written(alloc: Global, ordered: &BTreeSet<Predicate>) -> Result<Vec<Written>, AllocError>
     requires { All (λ p. p.arity < 4294967296) ordered.now.keys }
     ensures { IfOk result (λ listed. listed.items ≡ map as_written ordered.now.keys) }
 {

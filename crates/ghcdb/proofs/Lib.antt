@@ -3,6 +3,8 @@ mod CommandLine
 mod FrontTells
 mod IsStarted
 mod Opened
+mod SessionsOpened
+mod SavedAgain
 mod Tells
 mod TextFront
 mod Played

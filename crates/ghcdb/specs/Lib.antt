@@ -4,6 +4,8 @@ pub mod Refusal
 pub mod RefusedPart
 pub mod Start
 pub mod Opening
+pub mod Sessions
+pub mod Saving
 pub mod Outputs
 pub mod ProgramText
 pub mod Status

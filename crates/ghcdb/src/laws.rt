@@ -1,6 +1,15 @@
-// Laws of the start, each as the contract of a function.
+// Laws of the start, of what opens and of what is saved, each as the contract of a function.
 ghost use Rattle.ghcdb.specs.ProgramText.{FrontTells};
+ghost use Rattle.ghcdb.specs.Saving.{SavedSessionsOpenAgain};
+ghost use Rattle.ghcdb.specs.Sessions.{WhatOpensIsASession};
 ghost use Rattle.ghcdb.specs.Start.{StartIsExact};
+
+use ghc_core::{
+    carried_out_is_legal, events_lead_where_changes_lead, legal_is_reachable,
+    what_is_told_is_carried_out,
+};
+use ghc_records::{texts_tell_one_chronicle, written_chronicles_are_read_again};
+use ghc_trace::listed_spies_come_back;
 
 /// What is answered for the texts of a program and a query is exact, unless memory was refused.
 pub fn start_is_exact()
@@ -11,3 +20,27 @@ pub fn start_is_exact()
 pub fn a_front_tells_the_program()
     ensures { FrontTells }
 {}
+
+/// What opens on program and query that are started is a session on them: changes lead to its world, which is of that program and query,
+/// and the program has a clause of each predicate that is spied.
+pub fn what_opens_is_a_session()
+    ensures { WhatOpensIsASession }
+{
+    // Each is called for its clause, which the proof cites.
+    carried_out_is_legal();
+    legal_is_reachable();
+    events_lead_where_changes_lead();
+}
+
+/// What is saved of a session, where a text can tell its chronicle, opens as that session again, its world whole and its spies, and as no
+/// other, and is not refused.
+pub fn saved_sessions_open_again()
+    ensures { SavedSessionsOpenAgain }
+{
+    // Each is called for its clause, which the proof cites.
+    written_chronicles_are_read_again();
+    texts_tell_one_chronicle();
+    what_is_told_is_carried_out();
+    events_lead_where_changes_lead();
+    listed_spies_come_back();
+}

@@ -12,9 +12,7 @@ use crate::refused_part::RefusedPart;
 use crate::start::{Started, start};
 use ghc_console::Debugger;
 use ghc_core::{Core, what_is_read_can_be_resumed};
-use ghc_records::{
-    is_chronicle, read_chronicle, read_history, written_histories_are_read_again,
-};
+use ghc_records::{is_chronicle, read_chronicle, read_history, written_histories_are_read_again};
 use ghc_term::Fault;
 use ghc_trace::SpySet;
 use std::alloc::Global;

@@ -36,13 +36,13 @@ load_step-requires-clause-of_goal c =
     own_goal c.args.program c.args.query.goals c.args.query.variables c.args.history.now c.loop-index.index c.loop-index.core.world c.loop-index.invariant.loaded c.index-steps-index.result
     (at_place c.steps-steps.result.now c.args.history.now.steps c.loop-index.index c.index-steps-index.result c.steps-steps.ensures.steps c.loop-index-test.true c.index-steps-index.is) c.requires.history
 
-pub returns-in-Ok-false-clause-answer : goal.returns-in-Ok-false-clause-answer
-returns-in-Ok-false-clause-answer c =
+pub returns-in-Ok-Refused-clause-answer : goal.returns-in-Ok-Refused-clause-answer
+returns-in-Ok-Refused-clause-answer c =
     let h = c.args.history.now in
     let i = c.loop-index.index in (
       tt,
       inr (stopped_at c.args.program c.args.query.goals c.args.query.variables h i c.loop-index.core.world c.loop-index.invariant.loaded c.index-steps-index.result (at_place c.steps-steps.result.now c.args.history.now.steps c.loop-index.index c.index-steps-index.result c.steps-steps.ensures.steps c.loop-index-test.true c.index-steps-index.is) (i + 3)
-          (c.in-Ok-false.ensures.no c.in-Ok-false.field-0-test) refl),
+          (c.in-Ok-Refused.ensures.refused c.in-Ok-Refused.field-0-is) refl),
     )
 
 pub loop-index-preserved : goal.loop-index-preserved
@@ -50,18 +50,18 @@ loop-index-preserved c =
     let h = c.args.history.now in
     let i = c.loop-index.index in
     let before = c.loop-index.invariant in
-    let yes = c.in-Ok-true.field-0-test in
-    let taken = c.in-Ok-true.ensures.yes yes in
+    let yes = c.in-Ok-CarriedOut.field-0-is in
+    let taken = c.in-Ok-CarriedOut.ensures.carried yes in
     let firings = before.firings in
     let few = c.requires.history.few in
     let more = c.loop-index-test.true in
     let same : length c.steps-steps.result.now ≡ length h.steps = ap length c.steps-steps.ensures.steps in
     record {
       loaded = one_more_loaded c.args.program c.args.query.goals c.args.query.variables h i c.loop-index.core.world before.loaded c.index-steps-index.result (at_place c.steps-steps.result.now c.args.history.now.steps c.loop-index.index c.index-steps-index.result c.steps-steps.ensures.steps c.loop-index-test.true c.index-steps-index.is)
-          c.load_step.new.self.world taken.0 taken.1 taken.2 (c.in-Ok-true.ensures.opens yes);
-      notes = c.in-Ok-true.ensures.notes before.notes yes;
-      firings = fired_once c.loop-index.core.meter c.load_step.new.self.meter i (c.in-Ok-true.ensures.meter yes) before.firings (omega (arith, few, more, same));
-      tries = ap (λ m. m.tries) (c.in-Ok-true.ensures.meter yes) ∙ before.tries;
+          c.load_step.new.self.world taken.0 taken.1 taken.2 (c.in-Ok-CarriedOut.ensures.opens yes);
+      notes = c.in-Ok-CarriedOut.ensures.notes before.notes yes;
+      firings = fired_once c.loop-index.core.meter c.load_step.new.self.meter i (c.in-Ok-CarriedOut.ensures.meter yes) before.firings (omega (arith, few, more, same));
+      tries = ap (λ m. m.tries) (c.in-Ok-CarriedOut.ensures.meter yes) ∙ before.tries;
     }
 
 pub returns-clause-answer : goal.returns-clause-answer

@@ -6,8 +6,8 @@ use Rattle.ghc_core.specs.World.{World, Opens}
 use Rattle.ghc_core.specs.Load.{CanLoad, IsPossibleAs, IsImpossible, with_loaded}
 use Rattle.ghc_core.proofs.core_state.Core.load_step.Goals as goal
 
-pub returns-in_default-clause-no : goal.returns-in_default-clause-no
-returns-in_default-clause-no c _ =
+pub returns-in_default-clause-refused : goal.returns-in_default-clause-refused
+returns-in_default-clause-refused c _ =
     let w : World = c.args.self.now.world in
     subst (λ o. IfNone o (IsImpossible w.opening.program w.state c.args.step.now)) c.in_default.is c.in_ok-found.ensures.none
 
@@ -26,8 +26,8 @@ add_loaded-requires-clause-found c =
 pub add_loaded-requires-clause-step : goal.add_loaded-requires-clause-step
 add_loaded-requires-clause-step c = c.in_ok-loaded.ensures ∙ ap step_of (sym c.in_ok-addition.ensures)
 
-pub returns-clause-yes : goal.returns-clause-yes
-returns-clause-yes c _ =
+pub returns-clause-carried : goal.returns-clause-carried
+returns-clause-carried c _ =
     let w : World = c.args.self.now.world in
     let r = c.in-Some.record in
     let possible : IsPossibleAs w.opening.program w.state c.args.step.now r =

@@ -45,3 +45,12 @@ returns-in-Err-carry_out-clause-answer c =
 
 pub returns-in-Err-carry_out-clause-moves : goal.returns-in-Err-carry_out-clause-moves
 returns-in-Err-carry_out-clause-moves c = inl (fault.Memory, refl)
+
+pub returns-in-Err-clause-fired : goal.returns-in-Err-clause-fired
+returns-in-Err-clause-fired c = inl (c.in-Err.refusal, refl)
+
+pub returns-in-Ok-carry_out-clause-fired : goal.returns-in-Ok-carry_out-clause-fired
+returns-in-Ok-carry_out-clause-fired c = inr (c.carry_out.ensures.meter ∙ c.in-Ok.ensures.fired)
+
+pub returns-in-Err-carry_out-clause-fired : goal.returns-in-Err-carry_out-clause-fired
+returns-in-Err-carry_out-clause-fired c = inl (fault.Memory, refl)

@@ -4,7 +4,7 @@ use Rattle.ghc_core.specs.Anyway.{IsNotObeyedAnyway}
 use Rattle.ghc_core.specs.Answers.{to_give, to_close, to_undo, to_redo, to_arrange, to_ask, Fails}
 use Rattle.ghc_core.specs.Asked.{IsAskedFor}
 use Rattle.ghc_core.specs.CommandCode.{command_of}
-use Rattle.ghc_core.specs.Counting.{CountsInObeying}
+use Rattle.ghc_core.specs.Counting.{CountsInObeying, after_firings, firings_of_command}
 use Rattle.ghc_core.proofs.Counted.{redo_counted}
 use Rattle.ghc_core.specs.Events.{arrange}
 use Rattle.ghc_core.specs.declared.change.Change.TheVariants.{Adds as adds, PutsBack as puts_back, TakesAway as takes_away, TakesAll as takes_all, Reorders as reorders}
@@ -190,3 +190,13 @@ returns-in-Err-prepare_redo-clause-anyway c f fails =
       | inr (inl (e, q)) ↦ let same : Err fault ≡ Err Fault.NoGoal = (told.no_goal q).0 in let one : fault ≡ Fault.NoGoal = cc in ap Err (one ∙ sym e)
       | inr (inr (e, q)) ↦ let same : Err fault ≡ Err Fault.NoVariable = (told.no_variable q).0 in let one : fault ≡ Fault.NoVariable = cc in ap Err (one ∙ sym e)
     ]
+
+pub returns-in-Ok-prepare_redo-clause-fired : goal.returns-in-Ok-prepare_redo-clause-fired
+returns-in-Ok-prepare_redo-clause-fired c =
+    let told = c.in-Ok-prepare_redo.ensures in
+    let r = c.in-Ok-prepare_redo.addition in
+    let before = c.args.self.now.meter in
+    let after = c.prepare_redo.new.self.meter in
+    subst (λ m. after ≡ after_firings (firings_of_command (command_of m)) before) (sym c.in-Redo.is)
+    (told.fired (λ f. let no : Ok r ≡ Err Fault.NotShelved = (told.not_shelved f).0 in cc) (λ f. let no : Ok r ≡ Err Fault.NoGoal = (told.no_goal f).0 in cc)
+    (λ f. let no : Ok r ≡ Err Fault.NoVariable = (told.no_variable f).0 in cc))

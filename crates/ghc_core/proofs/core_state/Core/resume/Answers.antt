@@ -7,10 +7,13 @@ use Rattle.ghc_flat.specs.Clause.{Program}
 use Rattle.ghc_records.specs.History.{History}
 use Rattle.ghc_records.specs.Journal.{Step, Entry}
 use Rattle.ghc_records.specs.declared.predicate.Predicate.{Predicate}
+use Rattle.ghc_fire.specs.declared.meter.Meter.{Meter}
+use Rattle.ghc_core.specs.Counting.{after_firings, firings_of_entries}
 use Rattle.ghc_core.specs.Core.{Core}
 use Rattle.ghc_core.specs.Load.{Loads}
 use Rattle.ghc_core.specs.World.{World}
 use Rattle.ghc_core.specs.Resume.{CarriesOutEach, StopsBehind, ArePredicatesOf, LacksBehind, resumes}
+use Rattle.ghc_core.proofs.Firings.{resumed_count}
 use Rattle.ghc_core.proofs.ResumeSteps.{loaded_opened, opening_refused, entry_refused, spy_refused, program_stays}
 use Rattle.ghc_core.proofs.core_state.Core.resume.Goals as goal
 
@@ -66,3 +69,11 @@ returns-in-None-clause-answer c =
     let program : c.core.inside.program ≡ P = ap (λ (x : Core). x.world.opening.program) c.core.view_is ∙ program_stays P q.goals q.variables h o w opens each in
     let all : ArePredicatesOf P h.spies = subst (λ (ps : List Predicate). ArePredicatesOf P ps) c.spies.ensures (subst (λ (p : Program). ArePredicatesOf p c.spies.result.now) program c.in-None.ensures.none) in
     (resumes w (o, opens, each) all, tt)
+
+pub returns-in-None-clause-meter : goal.returns-in-None-clause-meter
+returns-in-None-clause-meter c =
+    let h = c.args.chronicle.now in
+    let old : Meter = c.in-Ok.core.meter in
+    let new : Meter = c.carry_out_each.new.self.meter in
+    resumed_count (length h.opening.steps) h.entries old new (c.in-Ok.ensures.meter.0 ∙ ap (λ (x : History). length x.steps) c.opening-opening.ensures) c.in-Ok.ensures.meter.1
+    (subst (λ es. new ≡ after_firings (firings_of_entries es) old) c.entries-entries.ensures c.in-Ok-carry_out_each.ensures.meter) c.requires.opening.few c.requires.entries

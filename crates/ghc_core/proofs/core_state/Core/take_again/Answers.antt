@@ -1,6 +1,7 @@
 use Rattle.std.proofs.Common.{◌≡◌, sym, ap, ◌∙◌, subst}
 use Rattle.std.specs.Prelude.{IfSome, IfNone}
-use Rattle.ghc_records.specs.Journal.{step_of}
+use Rattle.ghc_core.specs.Counting.{after_firings, firings_of_entry}
+use Rattle.ghc_records.specs.Journal.{step_of, took}
 use Rattle.ghc_records.specs.Record.{Record}
 use Rattle.ghc_core.specs.World.{World, IsNextStep, with_step}
 use Rattle.ghc_core.specs.Change.{IsBoundBy}
@@ -9,8 +10,8 @@ use Rattle.ghc_core.proofs.Loading.{none_noted}
 use Rattle.ghc_core.proofs.Resuming.{step_carried, step_refused}
 use Rattle.ghc_core.proofs.core_state.Core.take_again.Goals as goal
 
-pub returns-in_default-clause-no : goal.returns-in_default-clause-no
-returns-in_default-clause-no c _ =
+pub returns-in_default-clause-refused : goal.returns-in_default-clause-refused
+returns-in_default-clause-refused c _ =
     let w : World = c.args.self.now.world in
     step_refused w c.args.step.now (subst (λ o. IfNone o ((r : Record) → step_of r ≡ c.args.step.now → ¬ IsNextStep w r)) c.in_default.is c.in_ok-addition.ensures.none)
 
@@ -19,8 +20,8 @@ take_next-requires c =
     let w : World = c.args.self.now.world in
     record { found = subst (λ v. IsNextStep v c.in-Some.addition) (sym c.in_ok-addition.ensures.world) (subst (λ o. IfSome o (IsNextStep w)) c.in-Some.is c.in_ok-addition.ensures.next) }
 
-pub returns-clause-yes : goal.returns-clause-yes
-returns-clause-yes c _ =
+pub returns-clause-carried : goal.returns-clause-carried
+returns-clause-carried c _ =
     let w : World = c.args.self.now.world in
     let r = c.in-Some.addition in
     step_carried w c.take_next.new.self.world c.args.step.now r c.stands.ensures.standing (subst (λ o. IfSome o (IsNextStep w)) c.in-Some.is c.in_ok-addition.ensures.next)
@@ -30,3 +31,7 @@ returns-clause-yes c _ =
 pub returns-clause-notes : goal.returns-clause-notes
 returns-clause-notes c none _ =
     none_noted c.take_next.new.self.world.state.goals (IsBoundBy (adds c.in-Some.addition)) c.next_as.new.self.notes c.take_next.new.self.notes c.in_ok-take_next.ensures.notes (c.in_ok-addition.ensures.notes ∙ none)
+
+pub returns-clause-meter : goal.returns-clause-meter
+returns-clause-meter c _ =
+    c.in_ok-take_next.ensures.meter ∙ subst (λ o. IfSome o (λ _. c.next_as.new.self.meter ≡ after_firings (firings_of_entry (took c.args.step.now)) c.args.self.now.meter)) c.in-Some.is c.in_ok-addition.ensures.meter

@@ -1,4 +1,4 @@
-use Rattle.std.proofs.Common.{◌≡◌, ◌<◌, ◌||◌, ◌+◌, Bool, true, cond, [], drop, get_or, map, Result, Ok, Err, IfOk, ap, ◌∙◌, subst}
+use Rattle.std.proofs.Common.{◌≡◌, ◌<◌, ◌||◌, ◌+◌, true, cond, [], drop, get_or, map, Result, Ok, Err, IfOk, sym, ap, ◌∙◌, subst}
 use Rattle.std.proofs.lemmas.List.{at_drop_more}
 use Rattle.std.proofs.lemmas.List.Elements.{All-same, All-nil, All-get_or}
 use Rattle.std.proofs.lemmas.Map.Views.{All-insert_key}
@@ -12,9 +12,6 @@ use Rattle.ghc_trace.proofs.spies.SpySet.in_order.Goals as goal
 abbrev IsSmall : Predicate → Type 0
 IsSmall p = p.arity < 4294967296
 
-abbrev none : Predicate
-none = predicate [] 0
-
 pub loop-spied-init : goal.loop-spied-init
 loop-spied-init c = record {
   members = λ q. ap (λ ks. has q ks || has q c.as_slice-spied-items.result.now) c.new-ordered.ensures.empty;
@@ -25,16 +22,17 @@ pub loop-spied-preserved : goal.loop-spied-preserved
 loop-spied-preserved c =
     let members = c.as_slice-spied-items.result.now in
     let i = c.loop-spied.spied-index in
-    let p = get_or members i none in
+    let spied = c.spied-item.result in
+    let p = get_or members i spied in
     let ordered = c.loop-spied.ordered.keys in
     let more = c.insert.new.self.keys in
-    let put = predicate c.in_ok-name.name p.arity in
-    let is : put ≡ p = ap (λ f. predicate f p.arity) c.in_ok-name.ensures.same in
+    let put = predicate c.in_ok-name.name spied.arity in
+    let is : put ≡ p = ap (λ f. predicate f spied.arity) c.in_ok-name.ensures.same ∙ c.spied-item.is in
     record {
-      members = one_put members ordered more (drop (i + 1) members) p i (at_drop_more (λ xs. xs) members i none c.loop-spied-test.true)
+      members = one_put members ordered more (drop (i + 1) members) p i (at_drop_more (λ xs. xs) members i spied c.loop-spied-test.true)
           (subst (λ k. (q : Predicate) → has q more ≡ cond (is_eq (predicate_cmp k q)) true (has q ordered)) is c.in_ok-insert.ensures.updates.0) c.loop-spied.invariant.members;
       small = All-same IsSmall more _ c.in_ok-insert.ensures.keys (All-insert_key predicate_cmp put IsSmall ordered c.loop-spied.invariant.small
-          (All-get_or IsSmall members i none c.loop-spied-test.true (All-same IsSmall members c.self.inside.table.keys c.as_slice-spied-items.ensures.keys c.self.invariant)));
+          (subst IsSmall (sym is) (All-get_or IsSmall members i spied c.loop-spied-test.true (All-same IsSmall members c.self.inside.table.keys c.as_slice-spied-items.ensures.keys c.self.invariant))));
     }
 
 pub written-requires : goal.written-requires

@@ -1,0 +1,79 @@
+#!/usr/bin/env python3
+"""Times runs by several workers, and prints a table: bench/workers.py [--runs N] [--only WORD] [--workers N,N,..] [PROGRAM]
+
+PROGRAM is the built program, ../crates/ghcdb/out/ghcdb where none is named. Each row is one `leap`: of a program whose matching is
+heavy, and of some whose steps are light. Columns are numbers of workers (1, 2 and 4): the time by the clock, the processor time of
+all threads, and how many times faster by the clock it is than the first. What the program takes to start is taken off; the lines of
+the steps are made and thrown away. The figure is the median of N runs (5). --only takes the rows whose name has WORD. Nothing here
+passes or fails: figures depend on the machine, and on what else it does, so compare only what one run has measured.
+"""
+
+import argparse
+import os
+import statistics
+import subprocess
+import sys
+import time
+
+HERE = os.path.dirname(os.path.abspath(__file__))
+BUILT = os.path.join(HERE, "..", "crates", "ghcdb", "out", "ghcdb")
+ROWS = {
+    "60 clauses of 25 places": ("looks", "looks(250), looks(250), looks(250), looks(250)"),
+    "forks": ("forks", "fork(12,R)"),
+    "naive reverse": ("lists", "gen(150,L), nrev(L,R)"),
+    "calls of one clause": ("holds", "hold(10000,a)"),
+}
+
+
+def words_of(program, name, query, workers):
+    """The command line; one worker is what the program has without the option."""
+    options = [] if workers == 1 else ["--workers", str(workers)]
+    return [program, os.path.join(HERE, "programs", f"{name}.ghc"), "--query", query, *options]
+
+
+def play(words, lines):
+    """The seconds by the clock and of processor time of a session."""
+    before, started = os.times(), time.monotonic()
+    subprocess.run(words, input=lines, stdout=subprocess.DEVNULL, check=True)
+    behind = os.times()
+    spent = behind.children_user + behind.children_system - before.children_user - before.children_system
+    return time.monotonic() - started, spent
+
+
+def timed(words, runs):
+    """The medians of the seconds by the clock and of processor time that a leap takes, without the start."""
+    starts = [play(words, b"") for _ in range(runs)]
+    leaps = [play(words, b"leap\n") for _ in range(runs)]
+    return [max(0.0, statistics.median(them) - statistics.median(those)) for them, those in zip(zip(*leaps), zip(*starts))]
+
+
+def steps_of(words):
+    """How many steps the leap takes, and why it stops."""
+    told = subprocess.run(words, input=b"leap\n", stdout=subprocess.PIPE, check=True).stdout
+    return told.count(b"REDU "), told.splitlines()[-1].decode()
+
+
+def main():
+    parser = argparse.ArgumentParser(description=__doc__, formatter_class=argparse.RawDescriptionHelpFormatter)
+    parser.add_argument("program", nargs="?", default=BUILT)
+    parser.add_argument("--runs", type=int, default=5)
+    parser.add_argument("--only", default="")
+    parser.add_argument("--workers", type=lambda text: [int(word) for word in text.split(",")], default=[1, 2, 4])
+    given = parser.parse_args()
+    if not os.access(given.program, os.X_OK):
+        sys.exit(f"there is no program {given.program}: build it first, as by ./ghcdb --help")
+    print(f"{'':28}{'steps':>9}" + "".join(f"{f'{it} workers':>14}{'processor':>11}{'times':>7}" for it in given.workers))
+    for name, (file, query) in ROWS.items():
+        if given.only not in name:
+            continue
+        first, line = None, ""
+        for workers in given.workers:
+            clock, processor = timed(words_of(given.program, file, query, workers), given.runs)
+            first = first or clock
+            line += f"{clock * 1000:>11.1f} ms{processor * 1000:>8.1f} ms{first / max(clock, 1e-6):>7.2f}"
+        steps, ended = steps_of(words_of(given.program, file, query, given.workers[0]))
+        print(f"{name:28}{steps:>9,}{line}" + ("" if ended == "stopped quiet" else f"  {ended}"), flush=True)
+
+
+if __name__ == "__main__":
+    main()

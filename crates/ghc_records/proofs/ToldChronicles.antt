@@ -1,0 +1,53 @@
+-- A chronicle that a text tells is one that a text can tell.
+use Rattle.std.proofs.Common.{ℕ, ◌+◌, List, length, inl, inr}
+use Rattle.ghc_term.specs.Goal.{Goal}
+use Rattle.ghc_term.specs.Lists.{In}
+use Rattle.ghc_term.specs.Tree.{Tree}
+use Rattle.ghc_term.specs.InputTerm.{IsInputTerm}
+use Rattle.ghc_term.proofs.ListsLemmas.{at_of_in}
+use Rattle.ghc_reader.specs.Lowered.{Names, IsCalled}
+use Rattle.ghc_reader.specs.Read.{IsReadTerm}
+use Rattle.ghc_reader.specs.PrintedGoals.{IsNamedIn, IsReadAs, IsWritableGoal}
+use Rattle.ghc_records.specs.Numbers.{kept_limit}
+use Rattle.ghc_records.specs.Journal.{Entry, took, undid, rolled, redid, reordered}
+use Rattle.ghc_records.specs.HistoryText.{SaysStep}
+use Rattle.ghc_records.specs.Sections.{TellsSection}
+use Rattle.ghc_records.specs.Chronicle.{Chronicle, AreBelow, AreInTurn, entry_limit, spy_limit}
+use Rattle.ghc_records.specs.EntryText.{SaysEntry}
+use Rattle.ghc_records.specs.Predicates.{GoTogether, SaysPredicate}
+use Rattle.ghc_records.specs.ChronicleText.{TellsChronicle, behind_lines, entries_line, lines_to_spies, opening_line, spies_line}
+use Rattle.ghc_records.specs.ChronicleLaws.{CanBeSaid, CanBeTold}
+use Rattle.ghc_records.proofs.ToldAsks.{can_be_asked}
+use Rattle.ghc_records.proofs.ToldHistories.{said_of_goal}
+
+-- a line of the section says each item
+item_said : {A : Type 0} (Says : List ℕ → A → Type 0) (Fit : List A → Type 0) (count_line : ℕ → List ℕ) (limit : ℕ) (pieces : List (List ℕ)) (items : List A) → TellsSection Says Fit count_line limit pieces items
+    → (a : A) → In a items → (line : List ℕ) × Says line a
+item_said Says Fit count_line limit pieces items told a i = let k = at_of_in items a i in let t = told.told.each k.0 a k.1 in (t.0, t.2)
+
+module _ (only : (text : List ℕ) (u : Tree) → IsReadTerm text u → IsInputTerm u)
+    (writable : (names : Names) (text : List ℕ) (gs : List Goal) → IsReadAs (IsCalled names) text gs → (g : Goal) → In g gs → IsWritableGoal (IsNamedIn names) g) where
+  entry_can : (line : List ℕ) (e : Entry) → SaysEntry line e → CanBeSaid e
+  entry_can line (took s) (inl h) = inl (said_of_goal only line s h)
+  entry_can line (took s) (inr h) = inr (record { number = h.number; none = h.of_none; goals = h.goals; asks = h.asks; can = can_be_asked writable h.body h.goals h.says s.number h.new })
+  entry_can line (undid n) h = h.1
+  entry_can line (rolled n) h = h.1
+  entry_can line (redid n) h = h.1
+  entry_can line (reordered ns) h = h.1
+
+  pub can_be_told : (text : List ℕ) (c : Chronicle) → TellsChronicle text c → CanBeTold c
+  can_be_told text c told =
+      let entries_told = told.spies.entries in
+      let opening_told = entries_told.opening in
+      record {
+        few_steps = opening_told.steps.few;
+        steps = λ s i. let (line, says) = item_said SaysStep (AreBelow c.opening.next) (opening_line c.opening.next) kept_limit (behind_lines 1 text) c.opening.steps opening_told.steps s i in said_of_goal only line s says;
+        below = opening_told.steps.told.fit;
+        first = opening_told.next;
+        few_entries = entries_told.entries.few;
+        entries = λ e i. let (line, says) = item_said SaysEntry (AreInTurn c.opening.next) entries_line entry_limit (behind_lines (length c.opening.steps + 2) text) c.entries entries_told.entries e i in entry_can line e says;
+        in_turn = entries_told.entries.told.fit;
+        few_spies = told.spies.spies.few;
+        spies = λ p i. let (line, says) = item_said SaysPredicate GoTogether spies_line spy_limit (behind_lines (lines_to_spies c.opening c.entries) text) c.spies told.spies.spies p i in (says.1, says.2);
+        next = told.next;
+      }
