@@ -3,6 +3,7 @@ ghost use Rattle.std.specs.Prelude.{◌≡◌};
 ghost use Rattle.ghc_term.specs.Lists.{In};
 ghost use Rattle.ghc_term.specs.declared.goal_name.GoalName.{GoalName as goal_name};
 ghost use Rattle.ghc_pool.specs.Runs.{CanGoOn, IsInQuestion, Runs, RunsIn, IsSettled};
+ghost use Rattle.ghc_pool.specs.Modes.{root_of};
 
 use crate::gate::Gate;
 use crate::mode::Mode;
@@ -75,7 +76,8 @@ impl<R: Threads + Wait + Sync, G: Gate + Sync> Team<'_, R, G> {
 
     // Takes steps, until there is a reason to stop.
     fn run(&self, core: Core, root: Option<GoalName>, limit: usize) -> (Core, Report)
-        ensures { Runs (Unit {0}) self.now.workers self.now.spies.now root limit core.world result.0.world result.0.notes result.1 }
+        ensures runs { Runs (Unit {0}) self.now.workers self.now.spies.now root limit core.world result.0.world result.0.notes result.1 }
+        ensures stopped { ¬ CanGoOn self.now.spies.now root core.world → result.1.added ≡ 0 }
     {
         let mut core = core;
         if self.workers.count() == 1 {
@@ -108,6 +110,9 @@ pub fn run_together<R: Threads + Wait + Sync, G: Gate + Sync>(
     gate: &G,
 ) -> (Core, Report)
     ensures ran { RunsIn mode (Unit {0}) workers spies.now core.world result.0.world result.0.notes result.1 }
+
+    // Where a run cannot go on nothing is added.
+    ensures stopped { ¬ CanGoOn spies.now (root_of mode) core.world → result.1.added ≡ 0 }
 {
     let team = Team {
         rt,

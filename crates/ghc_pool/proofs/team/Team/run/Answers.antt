@@ -1,10 +1,10 @@
 use Rattle.std.proofs.Common.{◌≡◌, ℕ, [], refl, subst, sym, arith}
 use Rattle.ghc_core.specs.World.{World}
-use Rattle.ghc_pool.specs.Runs.{Runs, Takes, at_start}
+use Rattle.ghc_pool.specs.Runs.{Runs, Takes, CanGoOn, at_start}
 use Rattle.ghc_pool.proofs.team.Team.run.Goals as goal
 
-pub returns-then-count-eq1 : goal.returns-then-count-eq1
-returns-then-count-eq1 g c =
+pub returns-then-count-eq1-clause-runs : goal.returns-then-count-eq1-clause-runs
+returns-then-count-eq1-clause-runs g c =
     let one : 1 ≡ c.args.self.now.workers = omega (arith, c.if-count-eq1.true, c.count.ensures.count) in
     subst (λ (n : ℕ). Runs (Unit {0}) n c.args.self.now.spies.now c.args.root c.args.limit c.args.core.world c.run-report.new.core.world c.run-report.new.core.notes c.run-report.result) one c.run-report.ensures.runs
 
@@ -17,13 +17,16 @@ go_on-requires-clause-can g c κs within = c.in-Ok.ensures.ready
 pub go_on-requires-clause-asked : goal.go_on-requires-clause-asked
 go_on-requires-clause-asked g c κs within h i = (c.in-Ok.ensures.each h i).0
 
-pub returns-in-Ok : goal.returns-in-Ok
-returns-in-Ok g c =
+pub returns-in-Ok-clause-runs : goal.returns-in-Ok-clause-runs
+returns-in-Ok-clause-runs g c =
     let team = c.args.self.now in
     subst (λ (w : World). Runs (Unit {0}) team.workers team.spies.now c.args.root c.args.limit w c.go_on.result.0.world c.go_on.result.0.notes c.go_on.result.1) c.in-Ok.ensures.world c.go_on.ensures
 
-pub returns-in-Err : goal.returns-in-Err
-returns-in-Err g c =
+pub returns-in-Ok-clause-stopped : goal.returns-in-Ok-clause-stopped
+returns-in-Ok-clause-stopped g c stuck = absurd (stuck (subst (CanGoOn c.args.self.now.spies.now c.args.root) c.in-Ok.ensures.world c.in-Ok.ensures.ready))
+
+pub returns-in-Err-clause-runs : goal.returns-in-Err-clause-runs
+returns-in-Err-clause-runs g c =
     let team = c.args.self.now in
     record {
       steps = [];
