@@ -3,8 +3,6 @@
 
 mod answer;
 mod craft;
-mod crew;
-mod crew_round;
 mod deciding;
 mod drain;
 mod gate;
@@ -20,6 +18,8 @@ mod scope;
 mod shared_round;
 mod stop;
 mod survey;
+mod team;
+mod team_round;
 mod workers;
 
 pub use answer::{Answer, RoundStop, Work};

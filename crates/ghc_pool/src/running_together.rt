@@ -3,13 +3,14 @@ ghost use Rattle.std.specs.Prelude.{◌≡◌};
 ghost use Rattle.ghc_term.specs.Lists.{In};
 ghost use Rattle.ghc_term.specs.declared.goal_name.GoalName.{GoalName as goal_name};
 ghost use Rattle.ghc_pool.specs.Runs.{CanGoOn, IsInQuestion, Runs, RunsIn, IsSettled};
+ghost use Rattle.ghc_pool.specs.Modes.{root_of};
 
-use crate::crew::Crew;
 use crate::gate::Gate;
 use crate::mode::Mode;
 use crate::pause::pause;
 use crate::running::run;
 use crate::stop::{Report, Stop};
+use crate::team::Team;
 use crate::workers::Workers;
 use ghc_core::Core;
 use ghc_term::GoalName;
@@ -38,7 +39,7 @@ fn settle(alloc: Global, core: Core) -> (Core, Report)
     }
 }
 
-impl<R: Threads + Wait + Sync, G: Gate + Sync> Crew<'_, R, G> {
+impl<R: Threads + Wait + Sync, G: Gate + Sync> Team<'_, R, G> {
     // Takes steps, until there is a reason to stop, where a run can go on and these goals in question are ready.
     fn go_on(
         &self,
@@ -75,7 +76,8 @@ impl<R: Threads + Wait + Sync, G: Gate + Sync> Crew<'_, R, G> {
 
     // Takes steps, until there is a reason to stop.
     fn run(&self, core: Core, root: Option<GoalName>, limit: usize) -> (Core, Report)
-        ensures { Runs (Unit {0}) self.now.workers self.now.spies.now root limit core.world result.0.world result.0.notes result.1 }
+        ensures runs { Runs (Unit {0}) self.now.workers self.now.spies.now root limit core.world result.0.world result.0.notes result.1 }
+        ensures stopped { ¬ CanGoOn self.now.spies.now root core.world → result.1.added ≡ 0 }
     {
         let mut core = core;
         if self.workers.count() == 1 {
@@ -108,8 +110,11 @@ pub fn run_together<R: Threads + Wait + Sync, G: Gate + Sync>(
     gate: &G,
 ) -> (Core, Report)
     ensures ran { RunsIn mode (Unit {0}) workers spies.now core.world result.0.world result.0.notes result.1 }
+
+    // Where a run cannot go on nothing is added.
+    ensures stopped { ¬ CanGoOn spies.now (root_of mode) core.world → result.1.added ≡ 0 }
 {
-    let crew = Crew {
+    let team = Team {
         rt,
         alloc,
         spies,
@@ -117,8 +122,8 @@ pub fn run_together<R: Threads + Wait + Sync, G: Gate + Sync>(
         workers,
     };
     match mode {
-        Mode::Leap { limit } => crew.run(core, None, limit),
-        Mode::Skip { root, limit } => crew.run(core, Some(root), limit),
+        Mode::Leap { limit } => team.run(core, None, limit),
+        Mode::Skip { root, limit } => team.run(core, Some(root), limit),
         Mode::Settle => settle(alloc, core),
     }
 }

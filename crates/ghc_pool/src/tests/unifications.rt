@@ -37,22 +37,27 @@ impl Gate for Open {
 }
 
 // The goal `0.place`.
-fn goal(place: u32) -> GoalName {
+pub(crate) fn goal(place: u32) -> GoalName {
     GoalName { step: 0, place }
 }
 
-// The core of two unifications under no clauses.
-pub(crate) fn two(alloc: Global) -> Option<Core> {
-    let Ok(query) = read_query(alloc, b"X = 1, Y = 2") else {
+// The core of a program and a query.
+pub(crate) fn core_of(alloc: Global, program: &[u8], query: &[u8]) -> Option<Core> {
+    let Ok(query) = read_query(alloc, query) else {
         return None;
     };
-    let Ok(source) = read_program(alloc, b"") else {
+    let Ok(source) = read_program(alloc, program) else {
         return None;
     };
     let Ok(program) = check(alloc, source, &query) else {
         return None;
     };
     Core::new(alloc, program, query).ok()
+}
+
+// The core of two unifications under no clauses.
+pub(crate) fn two(alloc: Global) -> Option<Core> {
+    core_of(alloc, b"", b"X = 1, Y = 2")
 }
 
 // How many answers tell of a step that was taken.
@@ -69,7 +74,7 @@ fn steps_of(work: &Work) -> usize {
 }
 
 // How many names were offered, taken and left, and how many steps were taken.
-fn counts(report: &RoundReport) -> (usize, usize, usize, usize) {
+pub(crate) fn counts(report: &RoundReport) -> (usize, usize, usize, usize) {
     let mut sums = (0usize, 0usize, 0usize, 0usize);
     for work in &report.workers {
         sums.0 = sums.0.wrapping_add(work.offered.len());

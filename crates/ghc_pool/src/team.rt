@@ -6,10 +6,10 @@ ghost use Rattle.ghc_pool.specs.Runs.{IsInQuestion};
 ghost use Rattle.ghc_pool.specs.Told.{Covers};
 ghost use Rattle.ghc_pool.specs.Stretches.{TakesSoMany, TakesAtMost};
 
-use crate::crew_round::work_off;
 use crate::drain::drain;
 use crate::gate::Gate;
 use crate::scope::Scope;
+use crate::team_round::work_off;
 use crate::workers::Workers;
 use ghc_core::Core;
 use ghc_shared::Opening;
@@ -21,9 +21,15 @@ use std::marker::Brand;
 use std::sync::Wait;
 use std::thread::Threads;
 
+// How many steps one worker takes at most in a stretch.
+const MOST_ALONE: usize = 64;
+
+// How many goals are handed to a round at most.
+const MOST_NAMES: usize = 1_000_000;
+
 // What a run by several workers goes by.
 #[derive(Drop)]
-pub struct Crew<'a, R: Wait, G: Gate> {
+pub struct Team<'a, R: Wait, G: Gate> {
     pub rt: &'a R,
     pub alloc: Global,
     pub spies: &'a SpySet,
@@ -68,18 +74,18 @@ fn scope_of(
     }
 }
 
-// How many steps one worker takes at most in a stretch.
+// How many steps one worker takes at most in a stretch, of so many that may be taken.
 fn alone_at_most(most: usize) -> usize
     ensures { result ≤ most }
 {
-    if most < 64 {
+    if most < MOST_ALONE {
         return most;
     }
-    64
+    MOST_ALONE
 }
 
-impl<R: Threads + Wait + Sync, G: Gate + Sync> Crew<'_, R, G> {
-    // Takes steps by one worker, which starts no thread: at most 64, and at most as many as it may.
+impl<R: Threads + Wait + Sync, G: Gate + Sync> Team<'_, R, G> {
+    // Takes steps by one worker, which starts no thread: as many as a stretch of one may have, and at most as many as it may.
     fn take_alone(
         &self,
         core: &mut Core,
@@ -118,7 +124,7 @@ impl<R: Threads + Wait + Sync, G: Gate + Sync> Crew<'_, R, G> {
         }
     }
 
-    // Takes steps by all workers, at most as many as it may, and says how many: a round of at most 1,000,000 of the goals.
+    // Takes steps by all workers, at most as many as it may, and says how many: a round of as many of the goals as one may be handed.
     fn take_together(
         &self,
         core: Core,
@@ -132,7 +138,7 @@ impl<R: Threads + Wait + Sync, G: Gate + Sync> Crew<'_, R, G> {
         ensures few { result.1 ≤ most }
     {
         let mut ready = ready;
-        ready.truncate(1_000_000);
+        ready.truncate(MOST_NAMES);
         let before = core.records().len();
         let core = self.share(core, root, most, &ready);
         let after = core.records().len();

@@ -3,7 +3,7 @@ use Rattle.ghc_core.specs.Core.{Core, IsStanding}
 use Rattle.ghc_pool.specs.Runs.{at_start}
 use Rattle.ghc_pool.specs.Told.{Covers}
 use Rattle.ghc_pool.specs.Stretches.{TakesAtMost}
-use Rattle.ghc_pool.proofs.crew.Crew.share.Goals as goal
+use Rattle.ghc_pool.proofs.team.Team.share.Goals as goal
 
 pub returns-in_default : goal.returns-in_default
 returns-in_default g c = ([], at_start, omega arith)
@@ -23,10 +23,10 @@ work_off-requires-clause-standing g c κs within = subst (λ (o : Core). IsStand
 
 pub returns-in-Ok-new : goal.returns-in-Ok-new
 returns-in-Ok-new g c =
-    let crew = c.args.self.now in
-    subst (λ (o : Core). TakesAtMost c.args.most crew.workers crew.spies.now c.args.root o.world c.work_off.result.world) c.in-Ok-new.ensures.value c.work_off.ensures
+    let team = c.args.self.now in
+    subst (λ (o : Core). TakesAtMost c.args.most team.workers team.spies.now c.args.root o.world c.work_off.result.world) c.in-Ok-new.ensures.value c.work_off.ensures
 
 pub returns : goal.returns
 returns g c =
-    let crew = c.args.self.now in
-    subst (λ (o : Core). TakesAtMost c.args.most crew.workers crew.spies.now c.args.root c.args.core.world o.world) (sym c.in-Err.ensures.refused) ([], at_start, omega arith)
+    let team = c.args.self.now in
+    subst (λ (o : Core). TakesAtMost c.args.most team.workers team.spies.now c.args.root c.args.core.world o.world) (sym c.in-Err.ensures.refused) ([], at_start, omega arith)

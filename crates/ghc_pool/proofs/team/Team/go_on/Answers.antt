@@ -1,14 +1,14 @@
 use Rattle.std.proofs.Common.{◌+◌, [], ◌++◌, refl, sym, subst, arith, length-append}
 use Rattle.ghc_pool.specs.Runs.{Takes, at_start, starved, all_taken}
 use Rattle.ghc_pool.proofs.Taking.{takes_more}
-use Rattle.ghc_pool.proofs.crew.Crew.go_on.Goals as goal
+use Rattle.ghc_pool.proofs.team.Team.go_on.Goals as goal
 
 pub loop-added-init : goal.loop-added-init
 loop-added-init g c = record { steps = []; taken = at_start; count = refl; few = omega arith; goes_on = c.requires.can; asked = c.requires.asked }
 
 pub loop-added-preserved : goal.loop-added-preserved
 loop-added-preserved g c =
-    let crew = c.args.self.now in
+    let team = c.args.self.now in
     let before = c.loop-added.invariant in
     let more = c.stretch-left.ensures.taken in
     let long = length-append before.steps more.0 in
@@ -16,8 +16,8 @@ loop-added-preserved g c =
     let few = c.stretch-left.ensures.few in
     record {
       steps = before.steps ++ more.0;
-      taken = subst (Takes crew.workers crew.spies.now c.args.root c.args.core.world (before.steps ++ more.0)) (sym c.in-Ok.ensures.world)
-          (takes_more crew.workers crew.spies.now c.args.root c.args.core.world c.loop-added.core.world c.stretch-left.result.0.world before.steps more.0 before.taken more.1);
+      taken = subst (Takes team.workers team.spies.now c.args.root c.args.core.world (before.steps ++ more.0)) (sym c.in-Ok.ensures.world)
+          (takes_more team.workers team.spies.now c.args.root c.args.core.world c.loop-added.core.world c.stretch-left.result.0.world before.steps more.0 before.taken more.1);
       count = omega (arith, long, count, more.2);
       few = omega (arith, few, before.few);
       goes_on = c.in-Ok.ensures.ready;
@@ -26,14 +26,14 @@ loop-added-preserved g c =
 
 pub returns-then-taken-eq0 : goal.returns-then-taken-eq0
 returns-then-taken-eq0 g c =
-    let crew = c.args.self.now in
+    let team = c.args.self.now in
     let before = c.loop-added.invariant in
     let more = c.stretch-left.ensures.taken in
     let long = length-append before.steps more.0 in
     let count = before.count in
     record {
       steps = before.steps ++ more.0;
-      taken = takes_more crew.workers crew.spies.now c.args.root c.args.core.world c.loop-added.core.world c.stretch-left.result.0.world before.steps more.0 before.taken more.1;
+      taken = takes_more team.workers team.spies.now c.args.root c.args.core.world c.loop-added.core.world c.stretch-left.result.0.world before.steps more.0 before.taken more.1;
       count = omega (arith, long, count, more.2, c.if-taken-eq0.true);
       few = before.few;
       reason = starved tt;
@@ -41,7 +41,7 @@ returns-then-taken-eq0 g c =
 
 pub returns-in-Err : goal.returns-in-Err
 returns-in-Err g c =
-    let crew = c.args.self.now in
+    let team = c.args.self.now in
     let before = c.loop-added.invariant in
     let more = c.stretch-left.ensures.taken in
     let long = length-append before.steps more.0 in
@@ -49,8 +49,8 @@ returns-in-Err g c =
     let few = c.stretch-left.ensures.few in
     record {
       steps = before.steps ++ more.0;
-      taken = subst (Takes crew.workers crew.spies.now c.args.root c.args.core.world (before.steps ++ more.0)) (sym c.in-Err.ensures.world)
-          (takes_more crew.workers crew.spies.now c.args.root c.args.core.world c.loop-added.core.world c.stretch-left.result.0.world before.steps more.0 before.taken more.1);
+      taken = subst (Takes team.workers team.spies.now c.args.root c.args.core.world (before.steps ++ more.0)) (sym c.in-Err.ensures.world)
+          (takes_more team.workers team.spies.now c.args.root c.args.core.world c.loop-added.core.world c.stretch-left.result.0.world before.steps more.0 before.taken more.1);
       count = omega (arith, long, count, more.2);
       few = omega (arith, few, before.few);
       reason = c.in-Err.ensures.stop c.args.limit (c.loop-added.added + c.stretch-left.result.1);

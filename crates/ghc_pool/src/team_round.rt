@@ -6,11 +6,11 @@ ghost use Rattle.ghc_shared.specs.Calls.{code_of};
 ghost use Rattle.ghc_pool.specs.Told.{Covers};
 ghost use Rattle.ghc_pool.specs.Stretches.{TakesAtMost};
 
-use crate::crew::Crew;
 use crate::gate::Gate;
 use crate::mode::Mode;
 use crate::scope::Scope;
 use crate::shared_round::round;
+use crate::team::Team;
 use ghc_core::Core;
 use ghc_shared::{Naming, Opening};
 use ghc_term::GoalName;
@@ -20,15 +20,15 @@ use std::thread::Threads;
 // The workers work off the names, at most so many submits, and the core comes back; where memory is refused for what a round has to
 // have room for, as it was.
 pub fn work_off<N: Naming + Send + Sync, R: Threads + Wait + Sync, G: Gate + Sync>(
-    crew: &Crew<'_, R, G>,
+    team: &Team<'_, R, G>,
     opening: Opening<Core>,
     root: Option<GoalName>,
     most: usize,
     scope: &Scope,
     names: &[GoalName],
 ) -> Core
-    requires several { crew.now.workers ≡ 1 → ⊥ }
-    requires count { (opening.passes ≡ crew.now.workers) × (0 < opening.passes) × (opening.passes ≤ 64) }
+    requires several { team.now.workers ≡ 1 → ⊥ }
+    requires count { (opening.passes ≡ team.now.workers) × (0 < opening.passes) × (opening.passes ≤ 64) }
     requires few { length names.now < 2 ^ 60 }
     requires covers { Covers root opening.value.world scope.now }
     requires standing { IsStanding opening.value.world }
@@ -37,13 +37,13 @@ pub fn work_off<N: Naming + Send + Sync, R: Threads + Wait + Sync, G: Gate + Syn
     requires passes { opening.passes ≡ N.passes }
     requires opened { code_of opening.value.world.opening ≡ N.opened }
     requires base { length (history opening.value.world.opening opening.value.world.journal) ≡ N.base }
-    ensures { TakesAtMost most crew.now.workers crew.now.spies.now root opening.value.world result.world }
+    ensures { TakesAtMost most team.now.workers team.now.spies.now root opening.value.world result.world }
 {
     let mode = Mode::Leap { limit: most };
-    match opening.named::<N>(crew.alloc) {
+    match opening.named::<N>(team.alloc) {
         Ok((shared, passes)) => {
             let worked = round(
-                crew.rt, crew.alloc, &shared, passes, &mode, scope, crew.spies, names, crew.gate,
+                team.rt, team.alloc, &shared, passes, &mode, scope, team.spies, names, team.gate,
             );
             match worked {
                 Ok((passes, _report)) => {

@@ -3,7 +3,7 @@ use Rattle.ghc_term.specs.declared.goal_name.GoalName.{GoalName}
 use Rattle.ghc_term.specs.Lists.{In}
 use Rattle.ghc_records.specs.Record.{Record}
 use Rattle.ghc_pool.specs.Runs.{IsInQuestion, Takes, CanGoOn}
-use Rattle.ghc_pool.proofs.crew.Crew.go_on.Given as goal
+use Rattle.ghc_pool.proofs.team.Team.go_on.Given as goal
 
 abbrev pub invariant-loop-added : goal.invariant-loop-added
 invariant-loop-added g l = record {

@@ -1,7 +1,7 @@
 use Rattle.std.specs.Prelude.{◌+◌, length}
 use Rattle.ghc_records.specs.Journal.{history}
 use Rattle.ghc_shared.specs.Calls.{code_of}
-use Rattle.ghc_pool.proofs.crew.Crew.share.Given as goal
+use Rattle.ghc_pool.proofs.team.Team.share.Given as goal
 
 abbrev pub ghosts-work_off-N-Naming : goal.ghosts-work_off-N-Naming
 ghosts-work_off-N-Naming g a = record { table = a.opening.table; opened = code_of a.opening.value.world.opening; base = length (history a.opening.value.world.opening a.opening.value.world.journal); passes = a.opening.passes }

@@ -5,7 +5,7 @@ use Rattle.std.proofs.lemmas.Map.Views.{All-insert_key}
 use Rattle.ghc_term.specs.declared.goal_name.GoalName.{GoalName}
 use Rattle.ghc_term.specs.Lists.{In}
 use Rattle.ghc_term.proofs.ListsLemmas.{contains_in}
-use Rattle.ghc_pool.proofs.crew.set_of.Goals as goal
+use Rattle.ghc_pool.proofs.team.set_of.Goals as goal
 
 pub loop-name-init : goal.loop-name-init
 loop-name-init c =

@@ -3,7 +3,7 @@ use Rattle.std.proofs.lemmas.List.{take-append-drop}
 use Rattle.ghc_term.specs.Lists.{In}
 use Rattle.ghc_term.proofs.ListsLemmas.{in_left}
 use Rattle.ghc_pool.proofs.Unworked.{kept_count}
-use Rattle.ghc_pool.proofs.crew.Crew.take_together.Goals as goal
+use Rattle.ghc_pool.proofs.team.Team.take_together.Goals as goal
 
 pub share-core-requires-clause-asked : goal.share-core-requires-clause-asked
 share-core-requires-clause-asked g c κs within n i =
@@ -13,27 +13,27 @@ share-core-requires-clause-asked g c κs within n i =
 
 pub overflow_sub-result : goal.overflow_sub-result
 overflow_sub-result g c =
-    let crew = c.args.self.now in
+    let team = c.args.self.now in
     let t = c.share-core.ensures in
-    let more = kept_count crew.workers crew.spies.now c.args.root c.args.core.world c.share-core.result.world t.0 t.1 in
+    let more = kept_count team.workers team.spies.now c.args.root c.args.core.world c.share-core.result.world t.0 t.1 in
     let before = c.len-before.ensures.count ∙ ap (λ l. length l) c.records.ensures in
     let after = c.len-after.ensures.count ∙ ap (λ l. length l) c.records-2.ensures in
     omega (arith, before, after, more)
 
 pub returns-clause-taken : goal.returns-clause-taken
 returns-clause-taken g c =
-    let crew = c.args.self.now in
+    let team = c.args.self.now in
     let t = c.share-core.ensures in
-    let more = kept_count crew.workers crew.spies.now c.args.root c.args.core.world c.share-core.result.world t.0 t.1 in
+    let more = kept_count team.workers team.spies.now c.args.root c.args.core.world c.share-core.result.world t.0 t.1 in
     let before = c.len-before.ensures.count ∙ ap (λ l. length l) c.records.ensures in
     let after = c.len-after.ensures.count ∙ ap (λ l. length l) c.records-2.ensures in
     (t.0, t.1, omega (arith, before, after, more))
 
 pub returns-clause-few : goal.returns-clause-few
 returns-clause-few g c =
-    let crew = c.args.self.now in
+    let team = c.args.self.now in
     let t = c.share-core.ensures in
-    let more = kept_count crew.workers crew.spies.now c.args.root c.args.core.world c.share-core.result.world t.0 t.1 in
+    let more = kept_count team.workers team.spies.now c.args.root c.args.core.world c.share-core.result.world t.0 t.1 in
     let before = c.len-before.ensures.count ∙ ap (λ l. length l) c.records.ensures in
     let after = c.len-after.ensures.count ∙ ap (λ l. length l) c.records-2.ensures in
     omega (arith, before, after, more, t.2)

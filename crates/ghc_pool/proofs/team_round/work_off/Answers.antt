@@ -12,7 +12,7 @@ use Rattle.ghc_pool.proofs.Telling.{told_all}
 use Rattle.ghc_pool.proofs.RoundPlaces.{newcomers_length}
 use Rattle.ghc_pool.proofs.RoundTakes.{round_takes}
 use Rattle.ghc_pool.proofs.Unworked.{unworked}
-use Rattle.ghc_pool.proofs.crew_round.work_off.Goals as goal
+use Rattle.ghc_pool.proofs.team_round.work_off.Goals as goal
 
 pub round-worked-requires-clause-count : goal.round-worked-requires-clause-count
 round-worked-requires-clause-count g c κs within =
@@ -26,35 +26,35 @@ round-worked-requires-clause-count g c κs within =
 
 pub close-core-requires-clause-all : goal.close-core-requires-clause-all
 close-core-requires-clause-all g c =
-    told_all g.N.Naming.opened c.args.scope.now c.args.crew.now.spies.now _ g.N.Naming.passes 0 c.in-Ok.passes.items c.in-Ok-worked._report.workers.items c.in-Ok-worked.passes.items c.in-Ok-worked.ensures.told c.in-Ok.ensures.all
+    told_all g.N.Naming.opened c.args.scope.now c.args.team.now.spies.now _ g.N.Naming.passes 0 c.in-Ok.passes.items c.in-Ok-worked._report.workers.items c.in-Ok-worked.passes.items c.in-Ok-worked.ensures.told c.in-Ok.ensures.all
 
 pub returns-in-Ok-worked : goal.returns-in-Ok-worked
 returns-in-Ok-worked g c =
-    let crew = c.args.crew.now in
+    let team = c.args.team.now in
     let w = c.args.opening.value.world in
     let v = c.close-core.result.world in
     let closed = c.close-core.ensures in
     let n = g.N.Naming.passes in
     let ks = c.in-Ok-worked._report.workers.items in
     let nows = c.in-Ok-worked.passes.items in
-    let told = subst (λ (o : Gv). AreTold (IsPassAfter o c.args.scope.now crew.spies.now true) c.in-Ok.passes.items ks nows) (sym c.requires.opened) c.in-Ok-worked.ensures.told in
-    let from = subst (λ l. AreTold (IsPassAfter (code_of w.opening) c.args.scope.now crew.spies.now true) l ks nows) c.in-Ok.ensures.passes told in
+    let told = subst (λ (o : Gv). AreTold (IsPassAfter o c.args.scope.now team.spies.now true) c.in-Ok.passes.items ks nows) (sym c.requires.opened) c.in-Ok-worked.ensures.told in
+    let from = subst (λ l. AreTold (IsPassAfter (code_of w.opening) c.args.scope.now team.spies.now true) l ks nows) c.in-Ok.ensures.passes told in
     let once = subst (λ base. AreEachOnce nows (places_since base (history v.opening v.journal))) (sym c.requires.base) closed.once in
-    let t = round_takes crew.workers c.args.scope.now crew.spies.now c.args.root w v n ks nows c.requires.several c.requires.standing c.stands.ensures.standing (omega (arith, c.requires.passes, c.requires.count.1)) c.requires.covers from closed.begins once in
+    let t = round_takes team.workers c.args.scope.now team.spies.now c.args.root w v n ks nows c.requires.several c.requires.standing c.stands.ensures.standing (omega (arith, c.requires.passes, c.requires.count.1)) c.requires.covers from closed.begins once in
     (t.0, t.1, omega (arith, t.2, c.in-Ok-worked.ensures.few))
 
 pub returns-in-Err-worked : goal.returns-in-Err-worked
 returns-in-Err-worked g c =
-    let crew = c.args.crew.now in
+    let team = c.args.team.now in
     let w = c.args.opening.value.world in
     let v = c.close-core-in-Err-worked.result.world in
     let closed = c.close-core-in-Err-worked.ensures in
     let once = subst (λ base. AreEachOnce c.in-Err-worked.passes.items (places_since base (history v.opening v.journal))) (sym c.requires.base) closed.once in
     let same = unworked w v g.N.Naming.passes c.in-Err-worked.passes.items c.requires.standing c.stands-in-Err-worked.ensures.standing (omega (arith, c.requires.passes, c.requires.count.1))
     (ap (λ p. p.items) c.in-Err-worked.ensures.refused ∙ c.in-Ok.ensures.passes) closed.begins once in
-    ([], subst (Takes crew.workers crew.spies.now c.args.root w []) same at_start, omega arith)
+    ([], subst (Takes team.workers team.spies.now c.args.root w []) same at_start, omega arith)
 
 pub returns-in-Err : goal.returns-in-Err
 returns-in-Err g c =
-    let crew = c.args.crew.now in
-    subst (λ (o : Core). TakesAtMost c.args.most crew.workers crew.spies.now c.args.root c.args.opening.value.world o.world) (sym c.in-Err.ensures.refused) ([], at_start, omega arith)
+    let team = c.args.team.now in
+    subst (λ (o : Core). TakesAtMost c.args.most team.workers team.spies.now c.args.root c.args.opening.value.world o.world) (sym c.in-Err.ensures.refused) ([], at_start, omega arith)

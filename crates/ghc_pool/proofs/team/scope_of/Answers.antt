@@ -7,7 +7,7 @@ use Rattle.ghc_term.proofs.ListsLemmas.{in_contains}
 use Rattle.ghc_pool.specs.declared.scope.Scope.{Scope}
 use Rattle.ghc_pool.specs.Runs.{IsInQuestion}
 use Rattle.ghc_pool.specs.Told.{Covers}
-use Rattle.ghc_pool.proofs.crew.scope_of.Goals as goal
+use Rattle.ghc_pool.proofs.team.scope_of.Goals as goal
 
 pub returns-in-None : goal.returns-in-None
 returns-in-None c = subst (λ (root : Option GoalName). Covers root c.args.core.now.world Scope.Any) (sym c.in-None.is) tt

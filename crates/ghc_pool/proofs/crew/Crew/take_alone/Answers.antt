@@ -1,8 +1,0 @@
-use Rattle.ghc_pool.proofs.Taking.{more_workers}
-use Rattle.ghc_pool.proofs.crew.Crew.take_alone.Goals as goal
-
-pub returns-clause-taken : goal.returns-clause-taken
-returns-clause-taken g c =
-    let t = c.drain.ensures.taken in
-    let crew = c.args.self.now in
-    (t.0, more_workers crew.workers crew.spies.now c.args.root c.args.core.now.world c.drain.new.core.world t.0 t.1, t.2)
