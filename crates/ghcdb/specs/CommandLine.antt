@@ -11,7 +11,7 @@ use Rattle.clap.specs.declared.builder.command.Command.{Command}
 use Rattle.clap.specs.declared.builder.command.Command.TheViews.{out-Command}
 use Rattle.clap.specs.declared.builder.value_parser.ValueParser.TheVariants as parser
 use Rattle.clap.specs.declared.parser.matches.ArgMatches.{ArgMatches}
-use Rattle.ghcdb.specs.declared.settings.Options.{Options}
+use Rattle.ghcdb.specs.declared.settings.Given.{Given}
 
 -- an argument that has to be given, has one value, and excludes no other
 pub record IsRequiredValue (id : List ℕ) (argument : Arg) : Type 0 where
@@ -62,15 +62,15 @@ abbrev pub SaysWorkers : Option (List ℕ) → ℕ → Type 0
 SaysWorkers None n = n ≡ 1
 SaysWorkers (Some text) n = IsNumeral 10 (without_leading_plus text) × (n ≡ digits_value 10 (without_leading_plus text)) × (1 ≤ n) × (n ≤ 64)
 
--- the options are the values that a parse of that command found for FILE, for the query, and for the file to load and the schedule's, if there are such, and the number of workers that it found or 1
-pub record IsGivenBy (words : List (List ℕ)) (options : Options) : Type 0 where
+-- the options that are given are the values that a parse of that command found for FILE, for the query, and for the file to load and the schedule's, if there are such; and the workers are as many as it found, or 1
+pub record IsGivenBy (words : List (List ℕ)) (given : Given) : Type 0 where
   pub command : Command
   pub matches : ArgMatches
   pub is_ghcdb : IsGhcdb command
   pub parsed : IsParsedFrom command matches
-  pub given : HasMatchesOf (app_of command) words matches
-  pub file : first_value (found_of matches) (codes "FILE") ≡ Some options.file.now
-  pub query : first_value (found_of matches) (codes "query") ≡ Some options.query.now
-  pub load : first_value (found_of matches) (codes "load") ≡ option_map (λ name. name.now) options.load
-  pub schedule : first_value (found_of matches) (codes "schedule") ≡ option_map (λ name. name.now) options.schedule
-  pub workers : SaysWorkers (first_value (found_of matches) (codes "workers")) options.workers
+  pub found : HasMatchesOf (app_of command) words matches
+  pub file : first_value (found_of matches) (codes "FILE") ≡ Some given.options.file.now
+  pub query : first_value (found_of matches) (codes "query") ≡ Some given.options.query.now
+  pub load : first_value (found_of matches) (codes "load") ≡ option_map (λ name. name.now) given.options.load
+  pub schedule : first_value (found_of matches) (codes "schedule") ≡ option_map (λ name. name.now) given.options.schedule
+  pub workers : SaysWorkers (first_value (found_of matches) (codes "workers")) given.workers

@@ -3,7 +3,7 @@ ghost use Rattle.std.specs.Prelude.{◌≡◌, IfOk, codes, map, string_bytes};
 ghost use Rattle.ghcdb.specs.CommandLine.{IsGhcdb, IsGivenBy, IsOptionalValue, IsRequiredValue, IsWorkersValue};
 
 use crate::help::AFTER_HELP;
-use crate::settings::Options;
+use crate::settings::{Given, Options};
 use clap::builder::ValueParser;
 use clap::{Arg, ArgAction, Command, Error};
 use ghc_pool::Workers;
@@ -93,7 +93,7 @@ fn command<'a>(alloc: Global) -> Result<Command<'a>, AllocError>
 
 /// Reads the command line, of which the first word is the program's name. What is no command line
 /// of this program, a call for help or for the version, and want of memory are answered by `clap`'s error.
-pub fn options<'a>(alloc: Global, words: &'a [String]) -> Result<Options<'a>, Error>
+pub fn options<'a>(alloc: Global, words: &'a [String]) -> Result<Given<'a>, Error>
     ensures { IfOk result (IsGivenBy (map string_bytes words.now)) }
 {
     let command = command(alloc)?;
@@ -106,11 +106,11 @@ pub fn options<'a>(alloc: Global, words: &'a [String]) -> Result<Options<'a>, Er
         Some(count) => Workers::new(count).unwrap(),
         None => Workers::one(),
     };
-    Ok(Options {
+    let options = Options {
         file,
         query,
         load,
         schedule,
-        workers,
-    })
+    };
+    Ok(Given { options, workers })
 }

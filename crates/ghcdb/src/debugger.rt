@@ -15,11 +15,12 @@ use crate::opening::open;
 use crate::playing::play_schedule;
 use crate::refusal::{Refusal, push_line};
 use crate::refused_part::RefusedPart;
-use crate::settings::Options;
+use crate::settings::{Given, Options};
 use crate::status::Status;
 use clap::Error;
 use ghc_console::Debugger;
 use ghc_core::Core;
+use ghc_pool::Workers;
 use ghc_term::Fault;
 use std::alloc::Global;
 use std::rt::Files;
@@ -32,7 +33,10 @@ pub fn run<R: Threads + Wait + Sync + Files + Input + Print + Eprint + AllocGlob
     words: &[String],
 ) -> Status {
     match options(rt.alloc(), words) {
-        Ok(options) => debug(rt, options),
+        Ok(given) => {
+            let Given { options, workers } = given;
+            debug(rt, options, workers)
+        }
         Err(error) => answer(rt, &error),
     }
 }
@@ -65,18 +69,19 @@ fn open_with(alloc: Global, texts: &Texts, options: Options<'_>) -> Result<Debug
     }
 }
 
-// The same, of which as many workers make a run as the options say.
+// The same, of which so many workers make a run.
 fn open_for_workers(
     alloc: Global,
     texts: &Texts,
     options: Options<'_>,
+    workers: Workers,
 ) -> Result<Debugger, Refusal>
     ensures answer { AnsweredUnless (IsWithoutMemory texts.now.program.items options.entry.query.now (history_in texts.now)) (IsOpened texts.now.program.items options.entry.query.now (history_in texts.now))
         (IsOpenRefusal texts.now.program.items options.entry.query.now (history_in texts.now)) result }
-    ensures workers { IfOk result (λ debugger. debugger.workers ≡ options.entry.workers) }
+    ensures workers { IfOk result (λ debugger. debugger.workers ≡ workers) }
 {
     match open_with(alloc, texts, options) {
-        Ok(debugger) => Ok(debugger.with_workers(options.workers)),
+        Ok(debugger) => Ok(debugger.with_workers(workers)),
         Err(refusal) => Err(refusal),
     }
 }
@@ -85,12 +90,13 @@ fn open_for_workers(
 fn debug<R: Threads + Wait + Sync + Files + Input + Print + Eprint + AllocGlobal>(
     rt: &R,
     options: Options<'_>,
+    workers: Workers,
 ) -> Status {
     let texts = match read_texts(rt, options) {
         Ok(texts) => texts,
         Err(refusal) => return tell(rt, &refusal),
     };
-    match open_for_workers(rt.alloc(), &texts, options) {
+    match open_for_workers(rt.alloc(), &texts, options, workers) {
         Ok(debugger) => match &texts.schedule {
             Some(schedule) => {
                 let Debugger {

@@ -12,6 +12,11 @@ pub struct Options<'a> {
     pub load: Option<&'a str>,
     /// The name of the file of the schedule that is played in place of a session, if one is named.
     pub schedule: Option<&'a str>,
-    /// How many workers make a run of the session: one, if no number is given.
+}
+
+/// What the command line gives: the options, and how many workers make a run of the session, which is one if no number is given.
+#[derive(Drop)]
+pub struct Given<'a> {
+    pub options: Options<'a>,
     pub workers: Workers,
 }

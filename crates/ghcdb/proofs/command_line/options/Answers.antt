@@ -26,17 +26,17 @@ returns c = record {
   matches = c.in_ok-matches.matches;
   is_ghcdb = c.in_ok-command.ensures;
   parsed = c.in_ok-matches.ensures.parsed;
-  given = c.in_ok-matches.ensures.matches;
+  found = c.in_ok-matches.ensures.matches;
   file = search rules;
   query = search rules;
   load = sym c.get_str-load.ensures;
   schedule = sym c.get_str-schedule.ensures;
   workers = elim c.match-get_one.branch [
     | in-Some w ↦ subst (λ (n : ℕ). SaysWorkers (first_value (found_of c.in_ok-matches.matches) (codes "workers")) n) (made_is _ _ _ w.unwrap-workers.ensures w.new.ensures.some ∙ sym w.workers-is)
-      (says c.in_ok-command.command c.in_ok-matches.matches c.in_ok-command.ensures c.in_ok-matches.ensures.parsed _
-      (λ bs r. ParsesUnsigned 32 10 bs r × ExplainsUnsignedError 10 bs r × HasUnsignedDigitsIfOk bs r) (λ u x g. g.0) c.get_one.result c.get_one.ensures.none c.get_one.ensures.value w.in-Some.count w.in-Some.is).0
+        (says c.in_ok-command.command c.in_ok-matches.matches c.in_ok-command.ensures c.in_ok-matches.ensures.parsed _
+        (λ bs r. ParsesUnsigned 32 10 bs r × ExplainsUnsignedError 10 bs r × HasUnsignedDigitsIfOk bs r) (λ u x g. g.0) c.get_one.result c.get_one.ensures.none c.get_one.ensures.value w.in-Some.count w.in-Some.is).0
     | in-None w ↦ subst (λ (n : ℕ). SaysWorkers (first_value (found_of c.in_ok-matches.matches) (codes "workers")) n) (sym w.one-workers.ensures ∙ sym w.workers-is)
-      (says_one c.in_ok-command.command c.in_ok-matches.matches c.in_ok-command.ensures c.in_ok-matches.ensures.parsed _
-      (λ bs r. ParsesUnsigned 32 10 bs r × ExplainsUnsignedError 10 bs r × HasUnsignedDigitsIfOk bs r) (λ u x g. g.0) c.get_one.result c.get_one.ensures.value w.in-None.is)
+        (says_one c.in_ok-command.command c.in_ok-matches.matches c.in_ok-command.ensures c.in_ok-matches.ensures.parsed _
+        (λ bs r. ParsesUnsigned 32 10 bs r × ExplainsUnsignedError 10 bs r × HasUnsignedDigitsIfOk bs r) (λ u x g. g.0) c.get_one.result c.get_one.ensures.value w.in-None.is)
   ];
 }
