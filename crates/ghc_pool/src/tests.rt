@@ -1,5 +1,6 @@
 // Four workers: all names are taken, and no more is submitted than the limit allows.
 mod overlap;
+mod undoing;
 mod unifications;
 
 ghost use Rattle.std.specs.Prelude.{◌≡◌, ◌≤◌, ◌<◌, ◌^◌, length};

@@ -1,0 +1,27 @@
+use mir.Syntax.{named}
+use denote.RattleType.{RattleType}
+use denote.Ref.{NamedLft, ShrRef}
+use denote.Param.{param}
+use denote.Struct.Field.{row_field}
+use denote.Param.Send.{IsSync, sendable, shr_sync}
+use denote.Param.SendFields.{declared_sync, as_row_sync}
+use Rattle.std.proofs.Crossing.{crosses}
+use Rattle.std.specs.declared.sync.ledger.Ledger as ledger
+use Rattle.std.proofs.sync.atomic.AtomicU64.TheSendSync as word
+use Rattle.ghc_core.specs.contracts.core_state.Core as core
+use Rattle.ghc_core.specs.contracts.reply.Reply as reply
+use Rattle.ghc_shared.specs.declared.naming.Naming as naming
+use Rattle.ghc_shared.specs.contracts.calls.Call as call
+use Rattle.ghc_shared.specs.contracts.calls.HistoryItem as item
+use Rattle.ghc_shared.specs.contracts.telling.CoreGrowing.TheImpl.{ghosts}
+use Rattle.ghc_shared.specs.contracts.shared.Shared as shared
+use Rattle.ghc_shared.proofs.CoreCrosses.{shared_core_sync, core_pass_send}
+use Rattle.ghc_pool.specs.contracts.tests.undoing.Undoing as undoing
+use Rattle.ghc_pool.proofs.tests.undoing.undo_named.Goals as goal
+
+undoing_sync : (a : NamedLft) (N R : RattleType) (n : naming.Ghosts N.Denot) (l : ledger.Ghosts N.Denot) → IsSync R → IsSync (undoing.the_row a N R n l)
+undoing_sync a N R n l y = declared_sync (undoing.the_type a N R n l)
+    (as_row_sync (row_field (ShrRef a.mir a.lft R)) (shr_sync a.mir a.lft R y), (search (crosses, sendable) depth 60 fits 20000, (shr_sync a.mir a.lft (shared.the_row core.the_row N item.the_row call.the_row reply.the_row n ghosts l) (shared_core_sync N n l), (search (crosses, sendable, core_pass_send) depth 60 fits 20000, (word.the_sync, tt)))))
+
+pub round-requires-sync-G : goal.round-requires-sync-G
+round-requires-sync-G g c κs within = record { shared = (undoing_sync (record { mir = named 4; lft = κs.1.1.1.1.1.0 }) (param 0 g.row.N) (param 1 g.row.R) g.N.Naming g.N.Ledger c.type_bounds.sync-R).shared }
