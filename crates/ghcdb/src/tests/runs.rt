@@ -45,7 +45,10 @@ fn ends(alloc: Global, program: &str, query: &str, steps: usize, stop: Stop) -> 
 fn spied(alloc: Global, core: &Core) -> Option<SpySet> {
     let mut spies = SpySet::new(alloc);
     match core.goals().get(FIRST)?.view() {
-        GoalView::Call(name, arguments) => spies.add(name, arguments.len() as u32).ok()?,
+        GoalView::Call(name, arguments) => {
+            let arity = u32::try_from(arguments.len()).ok()?;
+            spies.add(name, arity).ok()?;
+        }
         _ => return None,
     }
     Some(spies)
