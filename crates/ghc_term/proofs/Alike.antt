@@ -41,10 +41,6 @@ decided P n old b d h = record {
 pub refuted : (P : Type 0) (n : ℕ) (old new : List Pair) → ¬ P → Compared P n old new false
 refuted P n old new h = record { no = λ _ p. h p; yes = λ e. let clash : false ≡ true = e in cc }
 
--- what was added decides P
-pub left_over : (P : Type 0) (n : ℕ) (old new : List Pair) → Adds P n old new → Compared P n old new true
-left_over P n old new a = record { no = λ e. let clash : true ≡ false = e in cc; yes = λ _. a }
-
 -- what decides P decides Q
 pub adds_as : (P Q : Type 0) (m n : ℕ) (old new : List Pair) → (P → Q) → (Q → P) → m ≤ n → Adds P m old new → Adds Q n old new
 adds_as P Q m n old new to from h a = record {

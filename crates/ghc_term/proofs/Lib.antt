@@ -5,6 +5,7 @@ pub mod Decided
 pub mod Exact
 pub mod Trees
 pub mod Names
+pub mod GoalNames
 pub mod Chains
 pub mod Total
 pub mod Indexed
@@ -33,4 +34,9 @@ pub mod Members
 pub mod VariableLists
 pub mod BindingLists
 pub mod VariableMaps
+pub mod GoalPlaces
+pub mod Placing
+pub mod GoalMaps
+pub mod PlacedGoals
+pub mod ChangedPlaces
 pub mod WithBinds

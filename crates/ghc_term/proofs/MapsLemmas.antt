@@ -101,13 +101,6 @@ place_of x t (p ∷ es) e =
 pub same_bindings : (a b : StoreValue) → finite.len a ≡ finite.len b → IsWithin a b → a ≡ b
 same_bindings a b e h = whole name_total name_antisymmetric (finite.len b) a b e refl h
 
--- each place of a list of bindings holds one of b, and the list is all of a
-pub within_by_places : (a b : StoreValue) (es : List (VarName × Tree)) → finite.from_entries es ≡ a
-    → ((i : ℕ) (p : VarName × Tree) → i < length es → slice_get es i ≡ Some p → value_at b p.0 ≡ Some p.1) → IsWithin a b
-within_by_places a b es e h x t g =
-    let found = place_of x t es (sym (finite.get-from_entries name_total es x) ∙ ap (λ m. value_at m x) e ∙ g) in
-    h found.0 (x, t) found.1 found.2
-
 -- a variable that is bound is one of the names
 pub key_in : (es : List (VarName × Tree)) (x : VarName) → is_some (finite.find name_cmp x es) ≡ true → In x (map (λ e. e.0) es)
 key_in [] x e = cc

@@ -1,5 +1,7 @@
 -- How texts go over into pieces.
 use Rattle.std.proofs.Common.{◌≡◌, ℕ, suc, ◌+◌, ◌-◌, ◌<◌, ◌≤◌, List, [], ◌∷◌, ◌++◌, length, get_or, take, drop, take_all, refl, sym, ap, ◌∙◌, append_assoc, append-nil, arith}
+use Rattle.std.specs.Io.{StartsWith}
+use Rattle.std.proofs.lemmas.Grind.{common_steps}
 use Rattle.std.specs.Prelude.{Result, Ok, Err, IfOk, is_ok, codes, if◌then◌else◌}
 use Rattle.ghc_term.specs.declared.printing.pieces.Piece.{Piece}
 use Rattle.ghc_term.specs.Tree.{Tree}
@@ -70,6 +72,15 @@ module _ (r : Tree → Tree) (w : Tree → ℕ) where
     smaller = omega (arith, a.smaller);
   }
 
+  -- a part of the text was written before, and the rest of it goes on
+  pub resumed : (text rest : List ℕ) (size room : ℕ) (first old new : List Piece) (before mid after : List ℕ) → old ≡ first → mid ++ rest ≡ before ++ text → size ≤ room
+      → Advances r w rest size old new mid after → Advances r w text room first new before after
+  resumed text rest size room first old new before mid after p e h a = record {
+    whole = a.whole ∙ sym (append_assoc mid rest (pieces_text r old)) ∙ ap (λ l. l ++ pieces_text r old) e ∙ append_assoc before text (pieces_text r old)
+        ∙ ap (λ ps. before ++ (text ++ pieces_text r ps)) p;
+    smaller = omega (arith, a.smaller, ap (pieces_size w) p);
+  }
+
   -- what was to be written in front of the old pieces begins so
   pub starts : (said text : List ℕ) (size : ℕ) (old new : List Piece) (before after : List ℕ) → text ≡ said → Advances r w said size old new before after → after ++ pieces_text r new ≡ before ++ (text ++ pieces_text r old)
   starts said text size old new before after e a = a.whole ∙ ap (λ l. before ++ (l ++ pieces_text r old)) (sym e)
@@ -85,6 +96,10 @@ module _ (r : Tree → Tree) (w : Tree → ℕ) where
     a.whole ∙ ap (λ l. before ++ l) (sym (text_push old p) ∙ ap (pieces_text r) (sym e)),
     omega (arith, a.smaller, size_push old p, ap (pieces_size w) e),
   )
+
+-- what begins with a text that begins so
+pub through : (old mid new : List ℕ) → StartsWith mid old → StartsWith new mid → StartsWith new old
+through old mid new p q = grind (arith, common_steps)
 
 -- a front was written, and the text comes behind it
 pub joined : (before front text rest mid after : List ℕ) → mid ≡ before ++ front → after ≡ mid ++ (text ++ rest) → after ≡ before ++ (front ++ (text ++ rest))

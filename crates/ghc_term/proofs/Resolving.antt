@@ -10,7 +10,7 @@ use Rattle.ghc_term.specs.Text.{term_text}
 use Rattle.ghc_term.specs.Resolved.{IsTextOf, IsResolution, all_resolved, Resolves, an_integer, unbound, bound, a_node, ResolvesAll, no_more, one_more}
 use Rattle.ghc_term.specs.Goal.{Goal}
 use Rattle.ghc_term.specs.GoalText.{goal_text_by, IsGoalTextOf}
-use Rattle.ghc_term.specs.Pieces.{IsMeasure, total}
+use Rattle.ghc_term.specs.Pieces.{IsLeaf, IsMeasure, total}
 use Rattle.ghc_term.proofs.Weights.{size, size_all, size_variable, size_end}
 
 module _ {S : VarName → Option Tree} where
@@ -59,6 +59,13 @@ module _ {S : VarName → Option Tree} where
 
     pub same_free : (x : VarName) → S x ≡ None → r (variable x) ≡ variable x
     same_free x e = resolves_once (g (variable x)) (unbound e)
+
+  -- what ends in a leaf resolves to that
+  pub same_leaf : (r : Tree → Tree) → IsResolution S r → {t e : Tree} {xs : List VarName} → Leads S t xs e → IsLeaf e → r t ≡ e
+  same_leaf r g {e = variable x} l h = same_end r g l ∙ same_free r g x (end_free l x refl)
+  same_leaf r g {e = integer k} l h = same_end r g l ∙ same_integer r g
+  same_leaf r g {e = node f none} l h = same_end r g l ∙ same_node r g f []
+  same_leaf r g {e = node f (more t ts)} l h = absurd h
 
   -- the text of what a tree resolves to
   pub is_text : (r : Tree → Tree) → IsResolution S r → (t : Tree) (text : List ℕ) → text ≡ term_text (r t) → IsTextOf S t text

@@ -1,15 +1,10 @@
 -- What tests of variables tell.
-use Rattle.std.proofs.Common.{◌≡◌, true, List, sym, ◌∙◌}
-use Rattle.std.specs.List.{list_any}
+use Rattle.std.proofs.Common.{◌≡◌, true, List, ◌∙◌}
 use Rattle.ghc_term.specs.declared.var_name.VarName.{VarName}
 use Rattle.ghc_term.specs.Lists.{In}
 use Rattle.ghc_term.proofs.Entries.{same, same_is}
 use Rattle.ghc_term.proofs.Names.{itself}
-use Rattle.ghc_term.proofs.SetsLemmas.{any_in, any_same}
 pub use Rattle.ghc_term.proofs.ListsLemmas.{in_left as In_append, in_right as In_append_right, in_either as In_either}
 
 pub same_itself : (x : VarName) → same x x ≡ true
 same_itself x = same_is x x ∙ itself x
-
-pub In_any : (x : VarName) (ks : List VarName) → list_any (same x) ks ≡ true → In x ks
-In_any x ks e = any_in x ks (sym (any_same x ks) ∙ e)

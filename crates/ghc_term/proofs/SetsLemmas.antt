@@ -7,7 +7,6 @@ use Rattle.std.specs.Cmp.{eq_by_cmp_equiv}
 use Rattle.std.specs.FinSet as set
 use Rattle.std.proofs.lemmas.Bool.{or_cases, or_right}
 use Rattle.std.proofs.lemmas.Map.Views.{list_any-from_Contains, Contains-from_any}
-use Rattle.indexmap.specs.IndexSet.{insert_key}
 use Rattle.ghc_term.specs.declared.var_name.VarName.{VarName}
 use Rattle.ghc_term.specs.Bindings.{name_cmp}
 use Rattle.ghc_term.specs.Lists.{In}
@@ -98,13 +97,6 @@ absorbed s x h = same_held s (set.insert s x) (λ q i. (one_inserted s x q).1 (i
   | inl c ↦ c
   | inr e ↦ ap (set.contains s) e ∙ h
 ])
-
-pub key_inserted : (ks : List VarName) (x : VarName) → set.from_list {R = name_cmp} (insert_key same ks x) ≡ set.insert (set.from_list ks) x
-key_inserted ks x =
-    elim (list_any (same x) ks) as (λ b. list_any (same x) ks ≡ b → set.from_list {R = name_cmp} (cond b ks (ks ++ x ∷ [])) ≡ set.insert (set.from_list ks) x) [
-      | true ↦ λ p. absorbed (set.from_list ks) x (sym (has_at x ks) ∙ p)
-      | false ↦ λ p. set.from_list_push name_total name_antisymmetric ks x
-    ] refl
 
 -- distinct variables are as many as the list is long
 other_than : (k : VarName) (ks : List VarName) → AllByRecursion (λ y. same k y ≡ false) ks → list_any (same k) ks ≡ false

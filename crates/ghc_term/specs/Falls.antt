@@ -15,9 +15,9 @@ most_height [] = omega arith
 most_height (t ∷ ts) = omega (arith, most_height ts)
 
 most_items : (a : Arguments) → deep-Arguments a ≤ height_of_all (trees (items_of a))
-most_items (Two ts) = omega (arith, most_height ts)
-most_items (Three ts) = omega (arith, most_height ts)
-most_items (Others ts) = omega (arith, most_height ts.items)
+most_items (Two _ ts) = omega (arith, most_height ts)
+most_items (Three _ ts) = omega (arith, most_height ts)
+most_items (Others _ ts) = omega (arith, most_height ts.items)
 
 pub deep_height : (s : Shape) → max (deep-Shape s) 0 ≤ height (tree_of s)
 deep_height (Var x) = omega arith

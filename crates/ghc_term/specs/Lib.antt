@@ -15,6 +15,8 @@ pub mod Bindings
 pub mod Store
 pub mod Table
 pub mod VariableMap
+pub mod GoalMap
+pub mod GoalPlaces
 pub mod NameHash
 pub mod VariableList
 pub mod BindingTable

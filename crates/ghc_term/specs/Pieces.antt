@@ -3,12 +3,19 @@ use Rattle.std.specs.Prelude.{◌≡◌, ℕ, suc, ◌+◌, ◌*◌, ◌<◌, �
 use Rattle.ghc_term.specs.declared.var_name.VarName.{VarName}
 use Rattle.ghc_term.specs.declared.printing.pieces.Piece.{Piece}
 use Rattle.ghc_term.specs.declared.printing.pieces.Piece.TheVariants.{Term, Rest, Further, Mark, Expr, Operand}
-use Rattle.ghc_term.specs.Tree.{Tree, node, trees}
+use Rattle.ghc_term.specs.Tree.{Tree, variable, integer, node, none, more, trees}
 use Rattle.ghc_term.specs.Bindings.{Leads}
 use Rattle.ghc_term.specs.Text.{term_text, rest_text, further_text}
 use Rattle.ghc_term.specs.Resolved.{IsResolution, all_resolved}
 use Rattle.ghc_term.specs.Expression.{Expression, leaf, operation}
 use Rattle.ghc_term.specs.GoalText.{expression_text_by, operand}
+
+-- a variable, an integer or an atom
+abbrev pub IsLeaf : Tree → Type 0
+IsLeaf (variable _) = Unit {0}
+IsLeaf (integer _) = Unit {0}
+IsLeaf (node _ none) = Unit {0}
+IsLeaf (node _ (more _ _)) = ⊥
 
 -- the text of a piece
 abbrev pub piece_text : (Tree → Tree) → Piece → List ℕ

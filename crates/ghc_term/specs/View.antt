@@ -1,5 +1,5 @@
 -- What one level of a term stands for, and how high a tree is.
-use Rattle.std.specs.Prelude.{◌≢◌, ◌↔◌, ℕ, List, ◌+◌, [], max, IsTrue}
+use Rattle.std.specs.Prelude.{◌≢◌, ◌↔◌, ℕ, Bool, List, ◌+◌, [], max, IsTrue}
 use Rattle.ghc_term.specs.declared.term.Shape.{Shape}
 use Rattle.ghc_term.specs.declared.term.Shape.TheVariants.{Var, Int, Atom, Struct}
 use Rattle.ghc_term.specs.declared.arguments.Arguments.{Arguments}
@@ -8,9 +8,19 @@ use Rattle.ghc_term.specs.Tree.{Tree, variable, integer, node, Trees, none, more
 
 -- the arguments in order
 abbrev pub items_of : Arguments → List Tree
-items_of (Two ts) = ts
-items_of (Three ts) = ts
-items_of (Others ts) = ts.items
+items_of (Two _ ts) = ts
+items_of (Three _ ts) = ts
+items_of (Others _ ts) = ts.items
+
+-- what stands with the arguments
+abbrev pub closed_of : Arguments → Bool
+closed_of (Two is_closed _) = is_closed
+closed_of (Three is_closed _) = is_closed
+closed_of (Others is_closed _) = is_closed
+
+-- it says whether no variable stands in them
+abbrev pub KnowsClosed : Arguments → Type 0
+KnowsClosed a = IsTrue (closed_of a) ↔ AreClosed (trees (items_of a))
 
 abbrev pub tree_of : Shape → Tree
 tree_of (Var x) = variable x
@@ -23,7 +33,7 @@ abbrev pub IsWellMade : Shape → Type 0
 IsWellMade (Var x) = Unit {0}
 IsWellMade (Int k) = Unit {0}
 IsWellMade (Atom f) = Unit {0}
-IsWellMade (Struct s) = (items_of s.value.arguments ≢ []) × (IsTrue s.value.is_closed ↔ AreClosed (trees (items_of s.value.arguments)))
+IsWellMade (Struct s) = (items_of s.value.arguments ≢ []) × KnowsClosed s.value.arguments
 
 abbrev mutual
   pub height : Tree → ℕ

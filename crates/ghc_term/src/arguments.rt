@@ -1,33 +1,72 @@
 // The arguments of a structure.
 ghost use Rattle.std.specs.Prelude.{◌≡◌, [], ◌∷◌};
-ghost use Rattle.ghc_term.specs.View.{items_of};
+ghost use Rattle.ghc_term.specs.View.{items_of, closed_of, KnowsClosed};
 
-use crate::term::Term;
+use crate::term::{Term, are_closed};
 
-// Two arguments, as a list cell has, and three stand beside their name; others have memory of their own.
+// Two arguments, as a list cell has, and three stand beside their name; others have memory of their own. With them stands whether no
+// variable stands in them, which takes no memory there.
 #[cycle(term)]
 pub(crate) enum Arguments {
-    Two([Term; 2]),
-    Three([Term; 3]),
-    Others(Vec<Term>),
+    Two(bool, [Term; 2]),
+    Three(bool, [Term; 3]),
+    Others(bool, Vec<Term>),
 }
 
 impl Arguments {
+    // Two arguments.
+    #[inline(always)]
+    pub(crate) fn two(first: Term, second: Term) -> Arguments
+        ensures items { items_of result ≡ first ∷ second ∷ [] }
+        ensures closed { KnowsClosed result }
+    {
+        let terms = [first, second];
+        let is_closed = are_closed(&terms);
+        Arguments::Two(is_closed, terms)
+    }
+
+    // Three arguments.
+    #[inline(always)]
+    pub(crate) fn three(first: Term, second: Term, third: Term) -> Arguments
+        ensures items { items_of result ≡ first ∷ second ∷ third ∷ [] }
+        ensures closed { KnowsClosed result }
+    {
+        let terms = [first, second, third];
+        let is_closed = are_closed(&terms);
+        Arguments::Three(is_closed, terms)
+    }
+
     // The arguments of the list.
     pub(crate) fn of(mut list: Vec<Term>) -> Arguments
-        ensures { items_of result ≡ list.items }
+        ensures items { items_of result ≡ list.items }
+        ensures closed { KnowsClosed result }
     {
         match list.len() {
             2 => {
                 let second = list.pop().unwrap();
-                Arguments::Two([list.pop().unwrap(), second])
+                Arguments::two(list.pop().unwrap(), second)
             }
             3 => {
                 let third = list.pop().unwrap();
                 let second = list.pop().unwrap();
-                Arguments::Three([list.pop().unwrap(), second, third])
+                Arguments::three(list.pop().unwrap(), second, third)
             }
-            _ => Arguments::Others(list),
+            _ => {
+                let is_closed = are_closed(list.as_slice());
+                Arguments::Others(is_closed, list)
+            }
+        }
+    }
+
+    // Whether no variable stands in them: one step.
+    #[inline(always)]
+    pub(crate) fn is_closed(&self) -> bool
+        ensures { result ≡ closed_of self.now }
+    {
+        match self {
+            Arguments::Two(is_closed, _) => *is_closed,
+            Arguments::Three(is_closed, _) => *is_closed,
+            Arguments::Others(is_closed, _) => *is_closed,
         }
     }
 
@@ -36,9 +75,9 @@ impl Arguments {
         ensures { result.now ≡ items_of self.now }
     {
         match self {
-            Arguments::Two(terms) => terms,
-            Arguments::Three(terms) => terms,
-            Arguments::Others(list) => list.as_slice(),
+            Arguments::Two(_, terms) => terms,
+            Arguments::Three(_, terms) => terms,
+            Arguments::Others(_, list) => list.as_slice(),
         }
     }
 }
@@ -62,8 +101,8 @@ pub(crate) fn parts_of_three(terms: [Term; 3]) -> (Term, Term, Term)
 // Drops the arguments.
 pub(crate) fn give_up(arguments: Arguments) {
     match arguments {
-        Arguments::Two([_first, _last]) => {}
-        Arguments::Three([_first, _second, _last]) => {}
-        Arguments::Others(_list) => {}
+        Arguments::Two(_, [_first, _last]) => {}
+        Arguments::Three(_, [_first, _second, _last]) => {}
+        Arguments::Others(_, _list) => {}
     }
 }

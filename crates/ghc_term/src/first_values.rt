@@ -4,16 +4,20 @@ ghost use Rattle.ghc_term.specs.VariableMap.{first_at, HasSameValues};
 
 use std::alloc::AllocError;
 
-// How many places the list grows by at most where room is made.
-const MOST_MORE: usize = 16;
+// How many places the list grows by where room is made.
+const MORE: usize = 16;
 
-// Makes the list longer towards the place, by some places without a value. What it grew by stays where memory is refused.
+// Makes the list longer by some places without a value, if it has not this place yet, so that it grows once for many steps. What it
+// grew by stays where memory is refused.
 pub(crate) fn grow<V: Drop>(firsts: &mut Vec<Option<V>>, place: usize) -> Result<(), AllocError>
     ensures { HasSameValues firsts.old.items firsts.new.items }
 {
-    let last = place.min(firsts.len().saturating_add(MOST_MORE));
-    for _ in firsts.len()..=last {
-        firsts.push(None)?;
+    if place < firsts.len() {
+        return Ok(());
+    }
+    firsts.reserve(MORE)?;
+    for _ in 0..MORE {
+        firsts.push_reserved(None);
     }
     Ok(())
 }

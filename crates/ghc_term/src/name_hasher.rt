@@ -1,6 +1,6 @@
-// The hashes of names and numbers: those of near steps are near, so that a table keeps together what was made together.
+// The hashes of names and numbers: spread so that no run of them, and no steps from one to the next, crowd one place of a table.
 ghost use Rattle.std.specs.Prelude.{◌≡◌};
-ghost use Rattle.ghc_term.specs.NameHash.{number_of, near_hash, far_hash, hash_of};
+ghost use Rattle.ghc_term.specs.NameHash.{number_of, hash_of};
 
 use indexmap::{IndexMap, IndexSet};
 use std::hash::{BuildHasherDefault, Hasher};
@@ -13,10 +13,6 @@ pub type NameSet<K> = IndexSet<K, BuildHasherDefault<NameHasher>>;
 
 // An odd number whose products spread over all bits.
 const MULTIPLIER: u64 = 0x9e37_79b9_7f4a_7c15;
-
-// A tenth of five less the root of five, in parts of 2^32. Its multiples, and those of its multiples, go round a table evenly: fewer
-// than four numbers in a row have one place, and a table that is full has three rounds of them at most.
-const STRIDE: u64 = 1_187_099_765;
 
 /// A hasher of names and numbers, that keeps the last two numbers written.
 #[derive(Clone, Copy)]
@@ -63,30 +59,13 @@ fn number(bytes: &[u8]) -> u32
     }
 }
 
-// The hash of a number: near numbers have near places, and those of one place have different tags.
-fn near(number: u64) -> u64
-    ensures { result ≡ near_hash number }
-{
-    number % 256 * 16_777_216 + number.wrapping_mul(STRIDE) / 4_294_967_296 % 16_777_216
-}
-
-// The hash of a name that is one of many of its step.
-fn far(step: u32, place: u32) -> u64
-    ensures { result ≡ far_hash step place }
-{
-    let number = u64::from(step) * 4_294_967_296 + u64::from(place);
-    number.wrapping_mul(MULTIPLIER) / 4_294_967_296
-}
-
-// The hash of a name, or of a number, which stands as a place of no step.
+// The hash of a name, or of a number, which stands as a place of no step: multiplied, its upper half laid over its lower half, and
+// multiplied again.
 fn hash(step: u32, place: u32) -> u64
     ensures { result ≡ hash_of step place }
 {
-    if step == 0 {
-        return near(u64::from(place));
-    }
-    if place < 4 {
-        return near(u64::from(step) * 4 + u64::from(place));
-    }
-    far(step, place)
+    let number = u64::from(step) * 4_294_967_296 + u64::from(place);
+    let product = number.wrapping_mul(MULTIPLIER);
+    let mixed = product ^ product / 4_294_967_296;
+    mixed.wrapping_mul(MULTIPLIER) / 4_294_967_296
 }

@@ -1,7 +1,7 @@
 // Terms: trees whose inner parts are shared.
 ghost use Rattle.std.specs.Prelude.{◌≡◌, ◌≢◌, ◌↔◌, [], ◌∷◌, IfOk, IsTrue};
 ghost use Rattle.ghc_term.specs.Tree.{variable, integer, atom, node, trees, IsClosed, AreClosed};
-ghost use Rattle.ghc_term.specs.View.{items_of};
+ghost use Rattle.ghc_term.specs.View.{items_of, KnowsClosed};
 
 use crate::arguments::{Arguments, give_up, parts_of_three, parts_of_two};
 use crate::name::Name;
@@ -25,12 +25,11 @@ enum Shape {
     Struct(Arc<Structure>),
 }
 
-// A name over one argument or more, and whether no variable stands in them.
+// A name over one argument or more.
 #[cycle(term)]
 struct Structure {
     name: Name,
     arguments: Arguments,
-    is_closed: bool,
 }
 
 impl Model for Term {
@@ -97,7 +96,7 @@ impl Term {
     pub fn pair(alloc: Global, name: Name, first: Term, second: Term) -> Result<Term, AllocError>
         ensures { IfOk result (λ t. t ≡ node name (trees (first ∷ second ∷ []))) }
     {
-        Term::over(alloc, name, Arguments::Two([first, second]))
+        Term::over(alloc, name, Arguments::two(first, second))
     }
 
     /// A structure of three arguments, in one piece of memory.
@@ -111,22 +110,16 @@ impl Term {
     ) -> Result<Term, AllocError>
         ensures { IfOk result (λ t. t ≡ node name (trees (first ∷ second ∷ third ∷ []))) }
     {
-        Term::over(alloc, name, Arguments::Three([first, second, third]))
+        Term::over(alloc, name, Arguments::three(first, second, third))
     }
 
     // A name over these arguments, of which there is one at least.
     #[inline(always)]
     fn over(alloc: Global, name: Name, arguments: Arguments) -> Result<Term, AllocError>
-        requires { items_of arguments ≢ [] }
+        requires { (items_of arguments ≢ []) × KnowsClosed arguments }
         ensures { IfOk result (λ t. t ≡ node name (trees (items_of arguments))) }
     {
-        let is_closed = are_closed(arguments.as_slice());
-        let structure = Structure {
-            name,
-            arguments,
-            is_closed,
-        };
-        match Arc::new(alloc, structure) {
+        match Arc::new(alloc, Structure { name, arguments }) {
             Ok(structure) => Ok(Term {
                 shape: Shape::Struct(structure),
             }),
@@ -134,7 +127,6 @@ impl Term {
                 let Structure {
                     name: _name,
                     arguments,
-                    is_closed: _,
                 } = failed.value;
                 give_up(arguments);
                 Err(AllocError)
@@ -166,7 +158,7 @@ impl Term {
             Shape::Var(_) => false,
             Shape::Int(_) => true,
             Shape::Atom(_) => true,
-            Shape::Struct(structure) => structure.is_closed,
+            Shape::Struct(structure) => structure.arguments.is_closed(),
         }
     }
 
@@ -187,7 +179,7 @@ impl Term {
 }
 
 // Whether no variable stands in the terms: one step a term.
-fn are_closed(terms: &[Term]) -> bool
+pub(crate) fn are_closed(terms: &[Term]) -> bool
     ensures { IsTrue result ↔ AreClosed (trees terms.now) }
 {
     for term in terms {
@@ -214,18 +206,17 @@ impl Drop for Term {
                     let Structure {
                         name: _name,
                         arguments,
-                        is_closed: _,
                     } = structure;
                     let last = match arguments {
-                        Arguments::Two(terms) => {
+                        Arguments::Two(_, terms) => {
                             let (_first, last) = parts_of_two(terms);
                             last
                         }
-                        Arguments::Three(terms) => {
+                        Arguments::Three(_, terms) => {
                             let (_first, _second, last) = parts_of_three(terms);
                             last
                         }
-                        Arguments::Others(mut list) => {
+                        Arguments::Others(_, mut list) => {
                             let Some(last) = list.pop() else {
                                 return;
                             };

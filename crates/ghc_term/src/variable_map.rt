@@ -22,10 +22,12 @@ pub struct VariableMap<V> {
     others: NameMap<VarName, V>,
     // whether the table may have a value of a first variable
     has_strays: bool,
+    // how many more values the table is known to take without memory
+    known_room: usize,
 }
 
 impl<V> Model for VariableMap<V> {
-    ghost use Rattle.std.specs.Prelude.{◌≡◌, false};
+    ghost use Rattle.std.specs.Prelude.{◌≡◌, ◌≤◌, false};
     ghost use Rattle.std.specs.FinMap as finite;
     ghost use Rattle.indexmap.specs.IndexMap.{spare};
     ghost use Rattle.ghc_term.specs.Bindings.{name_cmp};
@@ -39,7 +41,7 @@ impl<V> Model for VariableMap<V> {
 
     ghost view = { λ m. record { held = values_of m.firsts.items m.others.entries; room = spare m.others } };
 
-    ghost invariant = { λ m. m.has_strays ≡ false → HasNoFirsts m.others.entries };
+    ghost invariant = { λ m. (m.has_strays ≡ false → HasNoFirsts m.others.entries) × (m.known_room ≤ spare m.others) };
 }
 
 // The value in the table: one look-up, and none in a table without values.
@@ -85,6 +87,7 @@ impl<V: Drop> VariableMap<V> {
             firsts: Vec::new(alloc),
             others: IndexMap::with_hasher(alloc, BuildHasherDefault::new()),
             has_strays: false,
+            known_room: 0,
         }
     }
 
@@ -111,15 +114,35 @@ impl<V: Drop> VariableMap<V> {
         }
     }
 
-    /// Makes room for as many more values under variables that steps up to this number made. The list grows towards it, by some places
-    /// at most, so that no number makes it large. The values stay, and so does the room where memory is refused.
-    pub fn reserve(&mut self, count: usize, newest: u32) -> Result<(), AllocError>
+    // Makes room for as many more values where it is not there yet: the list grows where it has no place for the number, and the table
+    // where it is not known to have room.
+    #[inline(never)]
+    fn make_room(&mut self, count: usize, newest: u32) -> Result<(), AllocError>
         ensures held { self.new.held ≡ self.old.held }
         ensures room { OnOk result (count ≤ self.new.room) }
         ensures kept { self.old.room ≤ self.new.room }
     {
         grow(&mut self.firsts, newest as usize)?;
-        self.others.reserve(count)
+        if count <= self.known_room {
+            return Ok(());
+        }
+        self.others.reserve(count)?;
+        self.known_room = count;
+        Ok(())
+    }
+
+    /// Makes room for as many more values under variables that steps up to this number made. The list grows towards it, by some places
+    /// at most, so that no number makes it large. The values stay, and so does the room where memory is refused. It mostly costs a step.
+    #[inline(always)]
+    pub fn reserve(&mut self, count: usize, newest: u32) -> Result<(), AllocError>
+        ensures held { self.new.held ≡ self.old.held }
+        ensures room { OnOk result (count ≤ self.new.room) }
+        ensures kept { self.old.room ≤ self.new.room }
+    {
+        if count <= self.known_room && (newest as usize) < self.firsts.len() {
+            return Ok(());
+        }
+        self.make_room(count, newest)
     }
 
     /// Puts the value under the variable, where there is room. It takes no memory, cannot fail, and costs a step or a look-up.
@@ -129,12 +152,14 @@ impl<V: Drop> VariableMap<V> {
         ensures room { self.old.room ≤ self.new.room + 1 }
     {
         if x.place != 1 {
+            self.known_room = self.known_room.saturating_sub(1);
             put_other(&mut self.others, x, value);
             return;
         }
         let place = x.step as usize;
         if place >= self.firsts.len() {
             self.has_strays = true;
+            self.known_room = self.known_room.saturating_sub(1);
             put_other(&mut self.others, x, value);
             return;
         }

@@ -6,13 +6,14 @@ ghost use Rattle.ghc_term.specs.Store.{value_at};
 ghost use Rattle.ghc_term.specs.Tree.{variable};
 ghost use Rattle.ghc_term.specs.Text.{term_text};
 ghost use Rattle.ghc_term.specs.GoalText.{goal_text_by};
-ghost use Rattle.ghc_term.specs.Pieces.{StartsIn};
+ghost use Rattle.ghc_term.specs.Pieces.{StartsIn, piece_text};
 
 use crate::appending::{push_number, push_variable};
 use crate::goal::Goal;
 use crate::goal_view::GoalView;
-use crate::printing::pieces::{Piece, push_sides, push_structure};
+use crate::printing::pieces::{Piece, push_leaf, push_sides, push_structure};
 use crate::store::Store;
+use crate::term::Term;
 use crate::var_name::VarName;
 use std::alloc::AllocError;
 
@@ -39,6 +40,27 @@ fn push_stream<'a>(
     }
 }
 
+// Writes the left side of a goal and the mark behind it, or leaves them where it is a structure. The right side is left.
+fn push_equation<'a>(
+    left: &'a Term,
+    mark: &'a str,
+    right: Piece<'a>,
+    store: &'a Store,
+    pieces: &mut Vec<Piece<'a>>,
+    out: &mut String,
+) -> Result<(), AllocError>
+    ensures text { IfOk result (λ _. StartsIn (value_at store.now.held) (λ r. term_text (r left.now) ++ (mark.now ++ piece_text r right.entry)) pieces.old.items pieces.new.items (string_bytes out.old) (string_bytes out.new)) }
+    ensures begun { StartsWith (string_bytes out.new) (string_bytes out.old) }
+{
+    let last = store.end(left);
+    if !push_leaf(last, out)? {
+        return push_sides(Piece::Term(left), mark, right, pieces);
+    }
+    out.push_str(mark)?;
+    pieces.push(right)?;
+    Ok(())
+}
+
 // Writes the beginning of a goal.
 pub(crate) fn push_goal<'a>(
     goal: &'a Goal,
@@ -53,10 +75,10 @@ pub(crate) fn push_goal<'a>(
     match goal.view() {
         GoalView::Call(name, arguments) => push_structure(name, arguments, store, pieces, out),
         GoalView::Unify(left, right) => {
-            push_sides(Piece::Term(left), " = ", Piece::Term(right), pieces)
+            push_equation(left, " = ", Piece::Term(right), store, pieces, out)
         }
         GoalView::Assign(left, value) => {
-            push_sides(Piece::Term(left), " := ", Piece::Expr(value), pieces)
+            push_equation(left, " := ", Piece::Expr(value), store, pieces, out)
         }
         GoalView::Stream(number, tail) => push_stream(number, tail, store, pieces, out),
     }

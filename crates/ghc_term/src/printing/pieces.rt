@@ -1,11 +1,11 @@
 // What is still to be written of a text, in pieces. They stand in a list, so that no depth of a term takes stack.
-ghost use Rattle.std.specs.Prelude.{◌≡◌, ◌≢◌, ◌↔◌, ◌<◌, ◌∷◌, ◌++◌, ◌+◌, [], ℕ, suc, List, IfOk, IsTrue, MatchOption, string_bytes};
+ghost use Rattle.std.specs.Prelude.{◌≡◌, ◌≢◌, ◌↔◌, ◌<◌, ◌∷◌, ◌++◌, ◌+◌, [], ℕ, suc, List, if◌then◌else◌, IfOk, IsTrue, MatchOption, string_bytes};
 ghost use Rattle.std.specs.Io.{StartsWith};
 ghost use Rattle.ghc_term.specs.Store.{value_at};
 ghost use Rattle.ghc_term.specs.Tree.{Tree, node, trees, cons, nil};
 ghost use Rattle.ghc_term.specs.Text.{IsNoCell, term_text, rest_text, arguments_text, further_text};
 ghost use Rattle.ghc_term.specs.Resolved.{all_resolved};
-ghost use Rattle.ghc_term.specs.Pieces.{Unfolds, UnfoldsIn, piece_text, piece_size, term_size, rest_size, arguments_size};
+ghost use Rattle.ghc_term.specs.Pieces.{IsLeaf, Unfolds, UnfoldsIn, piece_text, piece_size, term_size, rest_size, arguments_size};
 
 use crate::appending::{push_integer, push_mark, push_variable};
 use crate::expr::Expr;
@@ -63,6 +63,29 @@ fn is_nil(term: &Term) -> bool
     }
 }
 
+// Writes a term that leads to no other, if it is a variable, an integer or an atom, and tells whether it is. A structure is left.
+pub(crate) fn push_leaf(term: &Term, out: &mut String) -> Result<bool, AllocError>
+    ensures text { IfOk result (λ is_leaf. string_bytes out.new ≡ string_bytes out.old ++ (if is_leaf then term_text term.now else [])) }
+    ensures leaf { IfOk result (λ is_leaf. IsTrue is_leaf → IsLeaf term.now) }
+    ensures begun { StartsWith (string_bytes out.new) (string_bytes out.old) }
+{
+    match term.view() {
+        TermView::Var(x) => {
+            push_variable(x, out)?;
+            Ok(true)
+        }
+        TermView::Int(k) => {
+            push_integer(k, out)?;
+            Ok(true)
+        }
+        TermView::Atom(name) => {
+            out.push_str(name.as_str())?;
+            Ok(true)
+        }
+        TermView::Struct(_, _) => Ok(false),
+    }
+}
+
 // Writes a term inside another one, if it leads to a variable, an integer or an atom. A structure is left.
 fn push_inner<'a>(
     term: &'a Term,
@@ -74,15 +97,11 @@ fn push_inner<'a>(
     ensures begun { StartsWith (string_bytes out.new) (string_bytes out.old) }
 {
     let last = store.end(term);
-    match last.view() {
-        TermView::Var(x) => push_variable(x, out),
-        TermView::Int(k) => push_integer(k, out),
-        TermView::Atom(name) => out.push_str(name.as_str()),
-        TermView::Struct(_, _) => {
-            pieces.push(Piece::Term(last))?;
-            Ok(())
-        }
+    if push_leaf(last, out)? {
+        return Ok(());
     }
+    pieces.push(Piece::Term(last))?;
+    Ok(())
 }
 
 // Writes the mark in front of a list's head, and the head. What is left of the head is left, and the rest of the list.
@@ -103,7 +122,7 @@ fn push_cell<'a>(
     push_inner(head, store, pieces, out)
 }
 
-// Writes the mark in front of an argument, and the argument. What is left of it is left, and the further ones.
+// Writes the mark in front of an argument, and the argument and the further ones up to the first structure, which is left.
 fn push_argument<'a>(
     mark: char,
     argument: &'a Term,
@@ -117,8 +136,13 @@ fn push_argument<'a>(
     ensures begun { StartsWith (string_bytes out.new) (string_bytes out.old) }
 {
     push_mark(mark, out)?;
+    let end = store.end(argument);
+    if push_leaf(end, out)? {
+        return push_further(further, store, pieces, out);
+    }
     pieces.push(Piece::Further(further))?;
-    push_inner(argument, store, pieces, out)
+    pieces.push(Piece::Term(end))?;
+    Ok(())
 }
 
 // Leaves two sides with a mark between them.
@@ -154,7 +178,7 @@ pub(crate) fn push_structure<'a>(
     }
 }
 
-// Writes what stands in front of the next argument, or the closing parenthesis.
+// Writes further arguments and the closing parenthesis, up to the first structure, which is left.
 fn push_further<'a>(
     arguments: &'a [Term],
     store: &'a Store,
@@ -164,9 +188,19 @@ fn push_further<'a>(
     ensures text { IfOk result (λ _. UnfoldsIn (value_at store.now.held) (λ r. further_text (all_resolved r arguments.now)) (λ w. arguments_size w arguments.now) pieces.old.items pieces.new.items (string_bytes out.old) (string_bytes out.new)) }
     ensures begun { StartsWith (string_bytes out.new) (string_bytes out.old) }
 {
-    match arguments {
-        [next, further @ ..] => push_argument(',', next, further, store, pieces, out),
-        [] => push_mark(')', out),
+    let mut left = arguments;
+    loop {
+        let [next, further @ ..] = left else {
+            return push_mark(')', out);
+        };
+        push_mark(',', out)?;
+        let last = store.end(next);
+        if !push_leaf(last, out)? {
+            pieces.push(Piece::Further(further))?;
+            pieces.push(Piece::Term(last))?;
+            return Ok(());
+        }
+        left = further;
     }
 }
 
@@ -210,6 +244,9 @@ fn push_rest<'a>(
         return push_cell(',', head, tail, store, pieces, out);
     }
     push_mark('|', out)?;
+    if push_leaf(end, out)? {
+        return push_mark(']', out);
+    }
     pieces.push(Piece::Mark("]"))?;
     pieces.push(Piece::Term(end))?;
     Ok(())

@@ -1,6 +1,6 @@
-use Rattle.std.proofs.Common.{◌≡◌, length}
+use Rattle.std.proofs.Common.{◌+◌, ◌≤◌, vec_len, vec_capacity}
 use Rattle.ghc_term.specs.VariableMap.{HasSameValues}
 use Rattle.ghc_term.proofs.first_values.grow.Given as goal
 
 abbrev pub invariant-loop : goal.invariant-loop
-invariant-loop g l = HasSameValues l.initial.firsts.items l.firsts.items × (l.counter ≡ length l.firsts.items)
+invariant-loop g l = HasSameValues l.fn.firsts.items l.firsts.items × (vec_len l.firsts + 16 ≤ vec_capacity l.firsts + l.counter)

@@ -1,7 +1,8 @@
-use Rattle.std.proofs.Common.{sym, ap}
+use Rattle.std.proofs.Common.{◌++◌, sym, ap, ◌∙◌, string_bytes}
 use Rattle.std.proofs.lemmas.Result.{IfOk-weaker}
 use Rattle.ghc_term.specs.GoalText.{goal_text_by}
-use Rattle.ghc_term.proofs.Pieces.{starts, anywhere}
+use Rattle.ghc_term.specs.Pieces.{pieces_text}
+use Rattle.ghc_term.proofs.Pieces.{starts}
 use Rattle.ghc_term.proofs.Resolving.{measure, is_measure}
 use Rattle.ghc_term.proofs.printing.goals.push_goal.Goals as goal
 
@@ -12,8 +13,10 @@ returns-in-Call-clause-text c =
 
 pub returns-in-Unify-clause-text : goal.returns-in-Unify-clause-text
 returns-in-Unify-clause-text c =
-    IfOk-weaker c.push_sides.result _ _ (λ _ u r g. starts r (λ _. 0) _ _ _ _ _ _ _ (ap (goal_text_by r) (sym c.in-Unify.ensures)) (anywhere r (λ _. 0) _ _ _ _ _ (u r (λ _. 0)))) c.push_sides.ensures
+    IfOk-weaker c.push_equation.result _ _ (λ _ u r g.
+    u r g ∙ ap (λ text. string_bytes c.args.out.now ++ (text ++ pieces_text r c.args.pieces.now.items)) (ap (goal_text_by r) c.in-Unify.ensures)) c.push_equation.ensures.text
 
 pub returns-in-Assign-clause-text : goal.returns-in-Assign-clause-text
 returns-in-Assign-clause-text c =
-    IfOk-weaker c.push_sides-in-Assign.result _ _ (λ _ u r g. starts r (λ _. 0) _ _ _ _ _ _ _ (ap (goal_text_by r) (sym c.in-Assign.ensures)) (anywhere r (λ _. 0) _ _ _ _ _ (u r (λ _. 0)))) c.push_sides-in-Assign.ensures
+    IfOk-weaker c.push_equation-in-Assign.result _ _ (λ _ u r g.
+    u r g ∙ ap (λ text. string_bytes c.args.out.now ++ (text ++ pieces_text r c.args.pieces.now.items)) (ap (goal_text_by r) c.in-Assign.ensures)) c.push_equation-in-Assign.ensures.text

@@ -1,37 +1,23 @@
-use Rattle.std.proofs.Common.{rules, ◌≡◌, ◌++◌, [], append-nil, sym, ap, ◌∙◌, arith, string_bytes}
-use Rattle.std.proofs.lemmas.Result.{IfOk-weaker}
-use Rattle.std.specs.Prelude.{OnOk, is_ok, if◌then◌else◌}
-use Rattle.std.specs.Fmt.{signed_decimal}
-use Rattle.ghc_term.specs.Text.{term_text, variable_text}
-use Rattle.ghc_term.proofs.Pieces.{as_said, wrote, left_one, if_written}
-use Rattle.ghc_term.proofs.Resolving.{same_end, same_free, same_integer, same_node, end_free}
+use Rattle.std.proofs.Common.{◌≡◌, ◌++◌, [], ap, ◌∙◌, arith, string_bytes}
+use Rattle.std.specs.Prelude.{suc, if◌then◌else◌}
+use Rattle.ghc_term.specs.Text.{term_text}
+use Rattle.ghc_term.specs.Pieces.{term_size}
+use Rattle.ghc_term.proofs.Pieces.{as_said, wrote, left_one, behind}
+use Rattle.ghc_term.proofs.Resolving.{same_end, same_leaf}
 use Rattle.ghc_term.proofs.printing.pieces.push_inner.Goals as goal
 
-pub returns-in-Var-clause-text : goal.returns-in-Var-clause-text
-returns-in-Var-clause-text c =
-    let l = c.end-last.ensures.1 in
-    IfOk-weaker c.push_variable.result _ _ (λ _ e r w g m.
-    let said = same_end r g l ∙ ap r (sym c.in-Var.ensures.shown) ∙ same_free r g c.in-Var.x (end_free l c.in-Var.x (sym c.in-Var.ensures.shown)) in
-    as_said r w _ _ _ _ _ _ _ _ (ap term_text said) (omega arith) (wrote r w (variable_text c.in-Var.x) 1 _ _ _ e (omega arith))) c.push_variable.ensures.text
+pub returns-then-branch-clause-text : goal.returns-then-branch-clause-text
+returns-then-branch-clause-text c r w g m =
+    let last = c.end-last.result.now in
+    let before = string_bytes c.args.out.now in
+    let written : string_bytes c.push_leaf.new.out ≡ before ++ term_text last = c.in_ok-push_leaf.ensures.text ∙ ap (λ b. before ++ (if b then term_text last else [])) c.if-branch.true in
+    let said = same_leaf r g c.end-last.ensures.1 (c.in_ok-push_leaf.ensures.leaf c.if-branch.true) in
+    as_said r w _ _ _ _ _ _ _ _ (ap term_text said) (omega arith) (wrote r w (term_text last) 1 _ _ _ written (omega arith))
 
-pub returns-in-Int-clause-text : goal.returns-in-Int-clause-text
-returns-in-Int-clause-text c =
+pub returns-clause-text : goal.returns-clause-text
+returns-clause-text c r w g m =
     let l = c.end-last.ensures.1 in
-    let written : OnOk c.push_integer.result (string_bytes c.push_integer.new.out ≡ string_bytes c.args.out.now ++ signed_decimal c.in-Int.k) = search rules in
-    IfOk-weaker c.push_integer.result _ _ (λ _ e r w g m.
-    let said = same_end r g l ∙ ap r (sym c.in-Int.ensures.shown) ∙ same_integer r g in
-    as_said r w _ _ _ _ _ _ _ _ (ap term_text said) (omega arith) (wrote r w (signed_decimal c.in-Int.k) 1 _ _ _ e (omega arith))) written
-
-pub returns-in-Atom-clause-text : goal.returns-in-Atom-clause-text
-returns-in-Atom-clause-text c =
-    let l = c.end-last.ensures.1 in
-    let f = c.in-Atom.name.now in
-    let name = c.push_str.ensures.bytes ∙ ap (λ n. if is_ok c.push_str.result then string_bytes c.args.out.now ++ n else string_bytes c.args.out.now) c.as_str.ensures.bytes in
-    IfOk-weaker c.push_str.result _ _ (λ _ e r w g m.
-    let said = same_end r g l ∙ ap r (sym c.in-Atom.ensures.shown) ∙ same_node r g f [] in
-    as_said r w _ _ _ _ _ _ _ _ (ap term_text said ∙ append-nil f) (omega arith) (wrote r w f 1 _ _ _ e (omega arith))) (if_written c.push_str.result _ _ _ name)
-
-pub returns-in_ok-push-in-Struct-clause-text : goal.returns-in_ok-push-in-Struct-clause-text
-returns-in_ok-push-in-Struct-clause-text c r w g m =
-    let l = c.end-last.ensures.1 in
-    as_said r w _ _ _ _ _ _ _ _ (ap term_text (same_end r g l)) (omega (arith, m.along l)) (left_one r w _ _ _ _ c.in_ok-push-in-Struct.ensures.items)
+    let before = string_bytes c.args.out.now in
+    let written : string_bytes c.push_leaf.new.out ≡ before ++ [] = c.in_ok-push_leaf.ensures.text ∙ ap (λ b. before ++ (if b then term_text c.end-last.result.now else [])) c.if-branch.false in
+    behind r w [] (term_text (r c.args.term.now)) (suc (term_size w c.args.term.now)) _ _ _ _ _ written
+    (as_said r w _ _ _ _ _ _ _ _ (ap term_text (same_end r g l)) (omega (arith, m.along l)) (left_one r w _ _ _ _ c.in_ok-push.ensures.items))

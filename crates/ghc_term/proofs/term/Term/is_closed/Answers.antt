@@ -1,6 +1,6 @@
 use Rattle.std.proofs.Common.{◌≡◌, false, true, refl, sym, ◌∙◌, ap, subst}
 use Rattle.ghc_term.specs.Tree.{IsClosed, variable}
-use Rattle.ghc_term.specs.View.{tree_of, IsWellMade}
+use Rattle.ghc_term.specs.View.{tree_of, closed_of, IsWellMade}
 use Rattle.ghc_term.specs.declared.term.Shape.TheVariants.{Struct}
 use Rattle.ghc_term.proofs.term.Term.is_closed.Goals as goal
 
@@ -15,7 +15,7 @@ pub returns-in-Struct : goal.returns-in-Struct
 returns-in-Struct c =
     let made = subst IsWellMade c.in-Struct.is c.self.invariant in
     let here : tree_of (Struct c.in-Struct.structure) ≡ c.args.self.now = sym (ap tree_of c.in-Struct.is) ∙ c.self.view_is in
-    let same : c.deref.result.now.is_closed ≡ c.in-Struct.structure.value.is_closed = ap (λ s. s.is_closed) c.deref.ensures in (
+    let same : c.is_closed.result ≡ closed_of c.in-Struct.structure.value.arguments = c.is_closed.ensures ∙ ap (λ s. closed_of s.arguments) c.deref.ensures in (
       λ yes. subst IsClosed here (made.1.0 (sym same ∙ yes)),
       λ closed. same ∙ made.1.1 (subst IsClosed (sym here) closed),
     )

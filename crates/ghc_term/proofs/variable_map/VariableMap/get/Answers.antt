@@ -17,7 +17,7 @@ returns-in-Some g c =
 pub returns-then-not-self : goal.returns-then-not-self
 returns-then-not-self g c =
     let i = c.self.inside in
-    sym (c.self.invariant c.if-not-self.true c.args.x c.if-x-ne1.false)
+    sym (c.self.invariant.0 c.if-not-self.true c.args.x c.if-x-ne1.false)
     ∙ ap (λ o. option_or o (finite.get (values_in i.others.entries) c.args.x)) (c.in-None.ensures ∙ ap (λ l. first_at l c.args.x.step) c.deref.ensures.value)
     ∙ sym (value_first i.firsts.items i.others.entries c.args.x c.if-x-ne1.false) ∙ ap (λ t. finite.get t.held c.args.x) c.self.view_is
 

@@ -1,8 +1,8 @@
-use Rattle.std.proofs.Common.{ap, ◌∙◌}
+use Rattle.std.proofs.Common.{ap, ◌∙◌, arith}
 use Rattle.std.specs.FinMap as finite
 use Rattle.ghc_term.specs.Bindings.{name_cmp}
 use Rattle.ghc_term.specs.VariableMap.{values_in}
 use Rattle.ghc_term.proofs.variable_map.VariableMap.new.Goals as goal
 
 pub invariant_of-result : goal.invariant_of-result
-invariant_of-result g c s x first = ap (λ es. finite.get (values_in es) x) c.with_hasher.ensures.empty ∙ finite.get-empty name_cmp x
+invariant_of-result g c = (λ s x first. ap (λ es. finite.get (values_in es) x) c.with_hasher.ensures.empty ∙ finite.get-empty name_cmp x, omega arith)

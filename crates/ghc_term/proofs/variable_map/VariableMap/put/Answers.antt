@@ -5,7 +5,7 @@ use Rattle.ghc_term.proofs.VariableMaps.{put_first, put_other, put_past, firsts_
 use Rattle.ghc_term.proofs.variable_map.VariableMap.put.Goals as goal
 
 pub invariant_of-self : goal.invariant_of-self
-invariant_of-self g c none = firsts_put c.self.inside.others.entries c.put_other.new.others.entries c.args.x c.args.value c.if-x-ne1.true c.put_other.ensures.held (c.self.invariant none)
+invariant_of-self g c = (λ none. firsts_put c.self.inside.others.entries c.put_other.new.others.entries c.args.x c.args.value c.if-x-ne1.true c.put_other.ensures.held (c.self.invariant.0 none), omega (arith, c.saturating_sub-self-inside.ensures, c.put_other.ensures.room, c.self.invariant.1))
 
 pub returns-then-x-ne1-clause-held : goal.returns-then-x-ne1-clause-held
 returns-then-x-ne1-clause-held g c =

@@ -1,5 +1,5 @@
 use Rattle.std.specs.Prelude.{Option, None, Some}
-use Rattle.std.proofs.Common.{◌≡◌, refl, sym, ap, ◌∙◌}
+use Rattle.std.proofs.Common.{◌≡◌, refl, sym, ap, ◌∙◌, arith}
 use Rattle.std.specs.FinMap as finite
 use Rattle.std.specs.Option.{option_or}
 use Rattle.ghc_term.specs.VariableMap.{values_in, values_of, first_at}
@@ -21,7 +21,7 @@ returns-then-x-ne1-clause-held g c =
     removed_other i.others.entries c.remove_other.new.others.entries c.args.x i.firsts.items c.if-x-ne1.true c.remove_other.ensures.held ∙ ap (λ t. finite.remove t.held c.args.x) c.self.view_is
 
 pub invariant_of-self : goal.invariant_of-self
-invariant_of-self g c none = firsts_gone c.self.inside.others.entries c.remove_other.new.others.entries c.args.x c.remove_other.ensures.held (c.self.invariant none)
+invariant_of-self g c = (λ none. firsts_gone c.self.inside.others.entries c.remove_other.new.others.entries c.args.x c.remove_other.ensures.held (c.self.invariant.0 none), omega (arith, c.remove_other.ensures.room, c.self.invariant.1))
 
 pub returns-then-self-clause-value : goal.returns-then-self-clause-value
 returns-then-self-clause-value g c =
@@ -39,12 +39,12 @@ returns-then-self-clause-held g c =
 pub returns-clause-value : goal.returns-clause-value
 returns-clause-value g c =
     let i = c.self.inside in
-    let none = c.self.invariant c.if-self.false c.args.x c.if-x-ne1.false in
+    let none = c.self.invariant.0 c.if-self.false c.args.x c.if-x-ne1.false in
     c.take_first-2.ensures.value ∙ sym (or_none (first_at i.firsts.items c.args.x.step)) ∙ ap (option_or (first_at i.firsts.items c.args.x.step)) (sym none)
     ∙ sym (value_first i.firsts.items i.others.entries c.args.x c.if-x-ne1.false) ∙ ap (λ t. finite.get t.held c.args.x) c.self.view_is
 
 pub returns-clause-held : goal.returns-clause-held
 returns-clause-held g c =
     let i = c.self.inside in
-    ap (λ l. values_of l i.others.entries) c.take_first-2.ensures.values ∙ removed_listed i.firsts.items i.others.entries c.args.x c.if-x-ne1.false (c.self.invariant c.if-self.false)
+    ap (λ l. values_of l i.others.entries) c.take_first-2.ensures.values ∙ removed_listed i.firsts.items i.others.entries c.args.x c.if-x-ne1.false (c.self.invariant.0 c.if-self.false)
     ∙ ap (λ t. finite.remove t.held c.args.x) c.self.view_is

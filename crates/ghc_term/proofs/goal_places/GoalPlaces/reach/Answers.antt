@@ -1,0 +1,8 @@
+use Rattle.std.proofs.Common.{ap, ◌∙◌}
+use Rattle.ghc_term.proofs.GoalPlaces.{same_numbers}
+use Rattle.ghc_term.proofs.goal_places.GoalPlaces.reach.Goals as goal
+
+pub returns-clause-held : goal.returns-clause-held
+returns-clause-held c =
+    let i = c.self.inside in
+    same_numbers i.near.items c.grow.new.near.items i.others.entries c.grow.ensures ∙ ap (λ t. t.held) c.self.view_is

@@ -1,0 +1,27 @@
+use Rattle.std.proofs.Common.{◌≡◌, ◌++◌, [], refl, ap, ◌∙◌, string_bytes}
+use Rattle.std.specs.Prelude.{if◌then◌else◌}
+use Rattle.std.proofs.lemmas.Result.{IfOk-weaker}
+use Rattle.ghc_term.specs.Text.{term_text}
+use Rattle.ghc_term.specs.Pieces.{piece_text}
+use Rattle.ghc_term.proofs.Pieces.{starts, anywhere, behind, left_one}
+use Rattle.ghc_term.proofs.Resolving.{same_leaf}
+use Rattle.ghc_term.proofs.printing.goals.push_equation.Goals as goal
+
+pub returns-then-not-branch-clause-text : goal.returns-then-not-branch-clause-text
+returns-then-not-branch-clause-text c =
+    let before = string_bytes c.args.out.now in
+    let written : string_bytes c.push_leaf.new.out ≡ before ++ [] = c.in_ok-push_leaf.ensures.text ∙ ap (λ b. before ++ (if b then term_text c.end-last.result.now else [])) c.if-not-branch.true in
+    IfOk-weaker c.push_sides.result _ _ (λ _ u r g.
+    let text = term_text (r c.args.left.now) ++ (c.args.mark.now ++ piece_text r c.args.right) in
+    starts r (λ _. 0) text text _ _ _ _ _ refl (behind r (λ _. 0) [] text _ _ _ _ _ _ written (anywhere r (λ _. 0) _ _ _ _ _ (u r (λ _. 0))))) c.push_sides.ensures
+
+pub returns-clause-text : goal.returns-clause-text
+returns-clause-text c r g =
+    let last = c.end-last.result.now in
+    let before = string_bytes c.args.out.now in
+    let written : string_bytes c.push_leaf.new.out ≡ before ++ term_text last = c.in_ok-push_leaf.ensures.text ∙ ap (λ b. before ++ (if b then term_text last else [])) c.if-not-branch.false in
+    let said = same_leaf r g c.end-last.ensures.1 (c.in_ok-push_leaf.ensures.leaf c.if-not-branch.false) in
+    let behind_mark = c.args.mark.now ++ piece_text r c.args.right in
+    starts r (λ _. 0) _ _ _ _ _ _ _ (ap (λ t. term_text t ++ behind_mark) said)
+    (behind r (λ _. 0) (term_text last) behind_mark _ _ _ _ _ _ written
+    (behind r (λ _. 0) c.args.mark.now _ _ _ _ _ _ _ c.in_ok-push_str.ensures.bytes (left_one r (λ _. 0) _ _ _ _ c.in_ok-push.ensures.items)))

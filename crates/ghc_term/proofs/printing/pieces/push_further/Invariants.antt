@@ -1,0 +1,18 @@
+use Rattle.std.proofs.Common.{◌≡◌, ◌++◌, ℕ, ◌≤◌, length, string_bytes}
+use Rattle.std.specs.Io.{StartsWith}
+use Rattle.ghc_term.specs.Store.{value_at}
+use Rattle.ghc_term.specs.Tree.{Tree}
+use Rattle.ghc_term.specs.Text.{further_text}
+use Rattle.ghc_term.specs.Resolved.{IsResolution, all_resolved}
+use Rattle.ghc_term.specs.Pieces.{arguments_size}
+use Rattle.ghc_term.proofs.printing.pieces.push_further.Given as goal
+
+abbrev pub invariant-loop-left : goal.invariant-loop-left
+invariant-loop-left l =
+    (l.pieces.items ≡ l.initial.pieces.items)
+    × (((r : Tree → Tree) → IsResolution (value_at l.store.held) r → string_bytes l.out ++ further_text (all_resolved r l.left) ≡ string_bytes l.initial.out ++ further_text (all_resolved r l.arguments))
+    × (((w : Tree → ℕ) → arguments_size w l.left ≤ arguments_size w l.arguments)
+    × StartsWith (string_bytes l.out) (string_bytes l.initial.out)))
+
+abbrev pub decreases-loop-left : goal.decreases-loop-left
+decreases-loop-left l = length l.left
