@@ -25,3 +25,4 @@ pub mod SmallLemmas
 pub mod TryClause
 pub mod FirstClash
 pub mod Ahead
+pub mod StandsLemmas

@@ -19,9 +19,9 @@ use Rattle.ghc_match.specs.Meeting.{Gains}
 use Rattle.ghc_match.specs.Tasks.{IsWorth}
 use Rattle.ghc_match.specs.Small.{IsAsked, ComputesOf, ComparesOf}
 use Rattle.ghc_match.specs.declared.small.Asked.{Asked}
-use Rattle.ghc_match.specs.declared.small.Asked.TheVariants.{Waits, Worth}
+use Rattle.ghc_match.specs.declared.small.Asked.TheVariants.{Worth}
 use Rattle.ghc_match.proofs.Positions.{value_not}
-use Rattle.ghc_match.proofs.Values.{number_once, sides, variable_is, no_structure}
+use Rattle.ghc_match.proofs.Values.{number_once, sides, variable_is}
 use Rattle.ghc_match.proofs.GainsLemmas.{OneHas}
 
 -- a set that gains what the elements of one list have, and then what those of another have
@@ -37,36 +37,10 @@ gains_both R old mid new xs ys f g x = (
   ]),
 )
 
--- a leaf that is no variable has none
-pub without_variables : (v : TermView) → ((x : VarName) → v ≢ Var x) → leaf_variables (leaf (shown v)) ≡ []
-without_variables (Var x) n = absurd (n x refl)
-without_variables (Int k) n = refl
-without_variables (Atom f) n = refl
-without_variables (Struct f ts) n = refl
-
 module _ (E : VarName → Tree → Type 0) where
   -- neither list wants a variable
   pub wants_none : (xs ys : List VarName) → ((x : VarName) → ¬ Wants E xs x) → ((x : VarName) → ¬ Wants E ys x) → (x : VarName) → ¬ Wants E (xs ++ ys) x
   wants_none xs ys n m x w = elim (in_either xs ys w.0 w.1) [ inl i ↦ n x (w.0, i, w.2) | inr i ↦ m x (w.0, i, w.2) ]
-
-  -- an expression that is worth nothing told waits
-  pub waits_then : (a : Expression) (r : Asked) → ((k : Option ℤ) → r ≢ Worth k) → IsAsked E a r → (x : VarName) × Wants E (leaf_variables a) x
-  waits_then a Waits n h = h
-  waits_then a (Worth k) n h = absurd (n k refl)
-
-  -- a leaf that is neither a variable nor an integer
-  pub other_leaf : (v : TermView) → ((x : VarName) → v ≢ Var x) → ((k : ℤ) → v ≢ Int k) → IsAsked E (leaf (shown v)) (Worth None)
-  other_leaf (Var x) n m = absurd (n x refl)
-  other_leaf (Int k) n m = absurd (m k refl)
-  other_leaf (Atom f) n m = ((λ x w. absurd w.1), λ k q. no_structure q)
-  other_leaf (Struct f ts) n m = ((λ x w. absurd w.1), λ k q. no_structure q)
-
-  -- a variable that ends nowhere
-  pub ends_nowhere : (y : VarName) → ((e : Tree) → ¬ E y e) → IsAsked E (leaf (variable y)) (Worth None)
-  ends_nowhere y n = (
-    λ x w. elim w.1 [ inl e ↦ n (variable x) (subst (λ z. E z (variable x)) e w.2) | inr never ↦ absurd never ],
-    λ k q. n (integer k) (variable_is q),
-  )
 
 -- where E gives each variable one end
 module _ {E : VarName → Tree → Type 0} (once : (x : VarName) (e f : Tree) → E x e → E x f → e ≡ f) where

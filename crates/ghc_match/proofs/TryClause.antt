@@ -26,6 +26,10 @@ holds_there E F f (is_atom y) h = (h.0, f y h.0 h.1, h.2)
 holds_there E F f (is_list y) h = (h.0, f y h.0 h.1, h.2)
 holds_there E F f (compare o a b) h = (h.0, h.1, number_there h.2 (λ y e i. f y e), number_there h.3 (λ y e i. f y e), h.4)
 
+-- what is added to an empty set
+pub gained_alone : (old new : Variables) (P : VarName → Type 0) → set.len old ≡ 0 → Gains old new P → IsSetOf new P
+gained_alone old new P none g x = (λ i. elim ((g x).0 i) [ inl j ↦ absurd (no_member old none x j) | inr p ↦ p ], λ p. (g x).1 (inr p))
+
 module _ (c : Clause) (ts : List Tree) (S : VarName → Option Tree) (stands : StoreValue) (stand : (y : VarName) (t : Tree) → (value_at stands y ≡ Some t) ↔ StandsFor c ts S y t) where
   there : (y : VarName) (e : Tree) → StandsAndEnds stands S y e → StandsAt c ts S y e
   there y e l = (l.0, l.2.0, (stand y l.0).0 l.1, l.2.1)

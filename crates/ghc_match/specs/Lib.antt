@@ -12,3 +12,4 @@ pub mod Laws
 pub mod Facts
 pub mod First
 pub mod Places
+pub mod Stands

@@ -3,7 +3,6 @@ ghost use Rattle.std.specs.Prelude.{◌≡◌, ◌↔◌, IfOk, OnOk, IsTrue};
 ghost use Rattle.ghc_term.specs.declared.var_name.VarName.{VarName};
 ghost use Rattle.ghc_term.specs.Tree.{variable};
 ghost use Rattle.ghc_term.specs.Store.{value_at};
-ghost use Rattle.ghc_term.specs.Sets.{IsSetOf};
 ghost use Rattle.ghc_flat.specs.Variables.{variables_of_test};
 ghost use Rattle.ghc_match.specs.Value.{Wants};
 ghost use Rattle.ghc_match.specs.Ends.{StandsAndEnds};
@@ -13,24 +12,18 @@ ghost use Rattle.ghc_match.specs.Guarding.{StandsAndPasses, PassedFrom, IsSaid, 
 use crate::leaves::push_leaves;
 use crate::passing::follow_noting;
 use crate::small::{compare_small, small_sides};
+use crate::stands::Stands;
 use crate::test_holds::holds;
 use ghc_flat::Test;
-use ghc_term::{Bindings, Store, TermView, VarName, Variables};
+use ghc_term::{Store, TermView, VarName, Variables};
 use std::alloc::{AllocError, Global};
 
-// What a test says of what its variables stand for.
+/// What a test says of what its variables stand for, and a clause to a call.
 #[derive(Clone, Copy, Drop)]
 pub enum Says {
     Yes,
     No,
     Waits,
-}
-
-// What a guard says: whether one of its tests says no, and for which unbound variables its tests wait.
-#[derive(Drop)]
-pub struct Said {
-    pub says_no: bool,
-    pub wanted: Variables,
 }
 
 // The variables of the test, in the order in which they stand there.
@@ -54,7 +47,7 @@ fn variables_of(alloc: Global, test: &Test) -> Result<Vec<VarName>, AllocError>
 // Whether what the variable stands for ends in an unbound variable, which is then wanted. Its chain is looked at.
 fn look_at(
     store: &Store,
-    stands: &Bindings,
+    stands: &Stands<'_>,
     name: VarName,
     wanted: &mut Variables,
     looked: &mut Variables,
@@ -77,7 +70,7 @@ fn look_at(
 // The same for several variables: whether one of them ends unbound.
 fn look_at_all(
     store: &Store,
-    stands: &Bindings,
+    stands: &Stands<'_>,
     names: &[VarName],
     wanted: &mut Variables,
     looked: &mut Variables,
@@ -99,7 +92,7 @@ fn look_at_all(
 fn try_test(
     alloc: Global,
     store: &Store,
-    stands: &Bindings,
+    stands: &Stands<'_>,
     test: &Test,
     wanted: &mut Variables,
     looked: &mut Variables,
@@ -121,24 +114,24 @@ fn try_test(
     Ok(Says::No)
 }
 
-// What the tests of a guard say, each of which is asked once.
+// Whether one of the tests of a guard says no, each of which is asked once. What they wait for is wanted.
 pub fn try_guard(
     alloc: Global,
     store: &Store,
-    stands: &Bindings,
+    stands: &Stands<'_>,
     tests: &[Test],
+    wanted: &mut Variables,
     looked: &mut Variables,
-) -> Result<Said, AllocError>
-    ensures no { IfOk result (λ said. OneSaysNo (StandsAndEnds stands.now (value_at store.now.held)) tests.now said.says_no) }
-    ensures wanted { IfOk result (λ said. IsSetOf said.wanted (OneWants (StandsAndEnds stands.now (value_at store.now.held)) tests.now)) }
+) -> Result<bool, AllocError>
+    ensures no { IfOk result (OneSaysNo (StandsAndEnds stands.now (value_at store.now.held)) tests.now) }
+    ensures wanted { OnOk result (Gains wanted.old wanted.new (OneWants (StandsAndEnds stands.now (value_at store.now.held)) tests.now)) }
     ensures looked { OnOk result (Gains looked.old looked.new (GuardLooksAt stands.now (value_at store.now.held) tests.now)) }
 {
     let mut says_no = false;
-    let mut wanted = Variables::new(alloc);
     for test in tests {
-        if let Says::No = try_test(alloc, store, stands, test, &mut wanted, looked)? {
+        if let Says::No = try_test(alloc, store, stands, test, wanted, looked)? {
             says_no = true;
         }
     }
-    Ok(Said { says_no, wanted })
+    Ok(says_no)
 }

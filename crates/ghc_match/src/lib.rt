@@ -15,6 +15,7 @@ mod passing;
 mod places;
 mod scope;
 mod small;
+mod stands;
 mod test_holds;
 mod trying;
 mod value;
@@ -22,9 +23,12 @@ mod value;
 pub use evaluation::evaluate;
 pub use facts::{structure_is_no_number, waits_on_two};
 pub use first::{first_end, refuses_at_first};
+pub use guard::Says;
+pub use head::Met;
 pub use laws::{
     each_clause_has_an_outcome, each_expression_has_a_value, outcome_is_of_what_is_looked_at,
     outcomes_exclude, value_looks_at_its_terms, values_exclude,
 };
-pub use trying::{Outcome, Tried, try_clause};
+pub use stands::Stands;
+pub use trying::{Outcome, Tried, lay_clause, try_clause};
 pub use value::Value;

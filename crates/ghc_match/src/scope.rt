@@ -2,7 +2,8 @@
 ghost use Rattle.ghc_term.specs.Store.{value_at};
 ghost use Rattle.ghc_match.specs.Ends.{ChainEnds, EndsAt, TellsEnd};
 
-use ghc_term::{Bindings, Store, Term, TermView, VarName};
+use crate::stands::Stands;
+use ghc_term::{Store, Term, TermView, VarName};
 
 /// What variables stand for.
 #[derive(Clone, Copy)]
@@ -10,7 +11,7 @@ pub enum Scope<'a> {
     /// Themselves, as in a goal.
     Goal,
     /// What the head of a clause gives them, as in its guard.
-    Head(&'a Bindings),
+    Head(&'a Stands<'a>),
 }
 
 // Where a variable ends.

@@ -14,10 +14,9 @@ ghost use Rattle.ghc_match.specs.Small.{spelled, IsAsked, ComputesOf, ComparesOf
 use crate::arithmetic::{apply, compares};
 use crate::guard::Says;
 use crate::passing::follow_noting;
+use crate::stands::Stands;
 use ghc_flat::Test;
-use ghc_term::{
-    Bindings, Comparison, Expr, ExprView, Operator, Store, Term, TermView, VarName, Variables,
-};
+use ghc_term::{Comparison, Expr, ExprView, Operator, Store, Term, TermView, VarName, Variables};
 use std::alloc::AllocError;
 
 // A leaf, or one operation on leaves.
@@ -62,7 +61,7 @@ pub fn small_sides(test: &Test) -> Option<(Comparison, Small<'_>, Small<'_>)>
 // What a variable says. Where it ends unbound, that variable is wanted, and its chain is looked at.
 fn ask_variable(
     store: &Store,
-    stands: &Bindings,
+    stands: &Stands<'_>,
     name: VarName,
     wanted: &mut Variables,
     looked: &mut Variables,
@@ -89,7 +88,7 @@ fn ask_variable(
 #[inline(always)]
 fn ask_leaf(
     store: &Store,
-    stands: &Bindings,
+    stands: &Stands<'_>,
     term: &Term,
     wanted: &mut Variables,
     looked: &mut Variables,
@@ -115,7 +114,7 @@ fn apply_to(operator: Operator, left: Option<i64>, right: Option<i64>) -> Option
 // What an operation on two leaves says, with what they want and look at.
 fn ask_operation(
     store: &Store,
-    stands: &Bindings,
+    stands: &Stands<'_>,
     operator: Operator,
     left: &Term,
     right: &Term,
@@ -141,7 +140,7 @@ fn ask_operation(
 #[inline(always)]
 fn ask(
     store: &Store,
-    stands: &Bindings,
+    stands: &Stands<'_>,
     expression: Small<'_>,
     wanted: &mut Variables,
     looked: &mut Variables,
@@ -171,7 +170,7 @@ fn compares_to(comparison: Comparison, left: Option<i64>, right: Option<i64>) ->
 // What the comparison of two small expressions says, with what it wants and looks at: one look-up for each variable passed.
 pub fn compare_small(
     store: &Store,
-    stands: &Bindings,
+    stands: &Stands<'_>,
     comparison: Comparison,
     left: Small<'_>,
     right: Small<'_>,

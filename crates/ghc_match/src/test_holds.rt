@@ -9,12 +9,13 @@ use crate::alike::{is_atom, is_integer, is_list};
 use crate::arithmetic::compares;
 use crate::number::integer_of;
 use crate::scope::{End, Scope, end_of};
+use crate::stands::Stands;
 use ghc_flat::Test;
-use ghc_term::{Bindings, Comparison, Expr, Store, Term, VarName};
+use ghc_term::{Comparison, Expr, Store, Term, VarName};
 use std::alloc::{AllocError, Global};
 
 // The value in which the variable ends, if it ends in one.
-fn value_of<'a>(store: &'a Store, stands: &'a Bindings, x: VarName) -> Option<&'a Term>
+fn value_of<'a>(store: &'a Store, stands: &'a Stands<'a>, x: VarName) -> Option<&'a Term>
     ensures { TellsValue (StandsAndEnds stands.now (value_at store.now.held) x) result }
 {
     match end_of(store, Scope::Head(stands), x) {
@@ -27,7 +28,7 @@ fn value_of<'a>(store: &'a Store, stands: &'a Bindings, x: VarName) -> Option<&'
 fn holds_between(
     alloc: Global,
     store: &Store,
-    stands: &Bindings,
+    stands: &Stands<'_>,
     comparison: Comparison,
     left: &Expr,
     right: &Expr,
@@ -48,7 +49,7 @@ fn holds_between(
 pub fn holds(
     alloc: Global,
     store: &Store,
-    stands: &Bindings,
+    stands: &Stands<'_>,
     test: &Test,
 ) -> Result<bool, AllocError>
     ensures { IfOk result (λ yes. IsTrue yes ↔ HoldsBy (StandsAndEnds stands.now (value_at store.now.held)) test.now) }

@@ -1,15 +1,17 @@
 // What a clause says to a call.
-ghost use Rattle.std.specs.Prelude.{◌≡◌, ◌<◌, true, false, IfOk};
-ghost use Rattle.std.specs.FinSet as set;
+ghost use Rattle.std.specs.Prelude.{IfOk, OnOk};
 ghost use Rattle.ghc_term.specs.Store.{value_at};
 ghost use Rattle.ghc_term.specs.Sets.{IsSetOf};
 ghost use Rattle.ghc_flat.specs.Flat.{IsLinear};
 ghost use Rattle.ghc_match.specs.Match.{LooksAt, HasOutcome};
-ghost use Rattle.ghc_match.specs.Told.{outcome_of};
+ghost use Rattle.ghc_match.specs.Meeting.{Gains};
+ghost use Rattle.ghc_match.specs.Guarding.{GuardLooksAt};
+ghost use Rattle.ghc_match.specs.Told.{HasShownNothing, outcome_of, outcome_laid};
 
-use crate::guard::{Said, try_guard};
+use crate::guard::{Says, try_guard};
 use crate::head::{Met, match_head};
-use ghc_flat::Clause;
+use crate::stands::Stands;
+use ghc_flat::{Clause, Test};
 use ghc_term::{Bindings, Store, Term, Variables};
 use std::alloc::{AllocError, Global};
 
@@ -31,56 +33,68 @@ pub struct Tried {
     pub looked: Variables,
 }
 
-impl Said {
-    // What the clause says where its head fits and its variables stand for this: a no decides before a wait.
-    fn decide(self, stands: Bindings) -> Outcome
-        ensures refuses { self.says_no ≡ true → result ≡ Outcome.Refuses }
-        ensures waits { self.says_no ≡ false → 0 < set.len self.wanted → result ≡ Outcome.Waits self.wanted }
-        ensures accepts { self.says_no ≡ false → set.len self.wanted ≡ 0 → result ≡ Outcome.Accepts stands }
-    {
-        let Said { says_no, wanted } = self;
-        if says_no {
-            return Outcome::Refuses;
-        }
-        if wanted.len() > 0 {
-            return Outcome::Waits(wanted);
-        }
-        Outcome::Accepts(stands)
+// Looks at what the tests of a guard look at, where the head has decided what the clause says.
+#[inline(never)]
+fn look_on(
+    alloc: Global,
+    store: &Store,
+    stands: &Stands<'_>,
+    tests: &[Test],
+    looked: &mut Variables,
+) -> Result<(), AllocError>
+    ensures { OnOk result (Gains looked.old looked.new (GuardLooksAt stands.now (value_at store.now.held) tests.now)) }
+{
+    let mut wanted = Variables::new(alloc);
+    match try_guard(alloc, store, stands, tests, &mut wanted, looked) {
+        Ok(_) => Ok(()),
+        Err(error) => Err(error),
     }
 }
 
-impl Met {
-    // What the clause says whose guard says this: a clash decides before a wait of the head, and that before the guard.
-    fn decide(self, said: Said) -> Tried
-        ensures clash { self.clashes ≡ true → result.outcome ≡ Outcome.Refuses }
-        ensures waits { self.clashes ≡ false → 0 < set.len self.wanted → result.outcome ≡ Outcome.Waits self.wanted }
-        ensures guard_refuses { self.clashes ≡ false → set.len self.wanted ≡ 0 → said.says_no ≡ true → result.outcome ≡ Outcome.Refuses }
-        ensures guard_waits { self.clashes ≡ false → set.len self.wanted ≡ 0 → said.says_no ≡ false → 0 < set.len said.wanted → result.outcome ≡ Outcome.Waits said.wanted }
-        ensures accepts { self.clashes ≡ false → set.len self.wanted ≡ 0 → said.says_no ≡ false → set.len said.wanted ≡ 0 → result.outcome ≡ Outcome.Accepts self.stands }
-        ensures looked { result.looked ≡ self.looked }
-    {
-        let Met {
-            clashes,
-            stands,
-            wanted,
-            looked,
-        } = self;
-        if clashes {
-            let outcome = Outcome::Refuses;
-            return Tried { outcome, looked };
-        }
-        if wanted.len() > 0 {
-            let outcome = Outcome::Waits(wanted);
-            return Tried { outcome, looked };
-        }
-        let outcome = said.decide(stands);
-        Tried { outcome, looked }
-    }
-}
-
-/// Tries the clause on a call with these arguments. It goes once to each position of the head and asks each test once,
-/// by loops; a position costs the chain of the goal's term there, and a test the chains of what its variables stand for.
+/// Lays the clause over a call with these arguments, and says whether it accepts it, refuses it or waits for the variables that
+/// are wanted then. What its head variables stand for is lent. It goes once to each position of the head and asks each test
+/// once, by loops; a position costs the chain of the goal's term there, and a test the chains of what its variables stand for.
 /// A clause of a program is linear.
+pub fn lay_clause<'a>(
+    alloc: Global,
+    clause: &'a Clause,
+    arguments: &'a [Term],
+    store: &'a Store,
+    met: &mut Met<'a>,
+) -> Result<Says, AllocError>
+    requires linear { IsLinear clause.now }
+    requires nothing { HasShownNothing met.old }
+    ensures outcome { IfOk result (λ says. HasOutcome clause.now arguments.now (value_at store.now.held) (outcome_laid says met.new)) }
+    ensures looked { OnOk result (IsSetOf met.new.looked (LooksAt clause.now arguments.now (value_at store.now.held))) }
+{
+    match_head(alloc, clause, arguments, store, met)?;
+    if met.clashes {
+        look_on(alloc, store, &met.stands, clause.tests(), &mut met.looked)?;
+        return Ok(Says::No);
+    }
+    if met.wanted.len() > 0 {
+        look_on(alloc, store, &met.stands, clause.tests(), &mut met.looked)?;
+        return Ok(Says::Waits);
+    }
+    let says_no = try_guard(
+        alloc,
+        store,
+        &met.stands,
+        clause.tests(),
+        &mut met.wanted,
+        &mut met.looked,
+    )?;
+    if says_no {
+        return Ok(Says::No);
+    }
+    if met.wanted.len() == 0 {
+        return Ok(Says::Yes);
+    }
+    Ok(Says::Waits)
+}
+
+/// Tries the clause on a call with these arguments. It costs what `lay_clause` does, and a step for each head variable where it
+/// accepts. A clause of a program is linear.
 pub fn try_clause(
     alloc: Global,
     clause: &Clause,
@@ -91,7 +105,18 @@ pub fn try_clause(
     ensures outcome { IfOk result (λ tried. HasOutcome clause.now arguments.now (value_at store.now.held) (outcome_of tried)) }
     ensures looked { IfOk result (λ tried. IsSetOf tried.looked (LooksAt clause.now arguments.now (value_at store.now.held))) }
 {
-    let mut met = match_head(alloc, clause, arguments, store)?;
-    let said = try_guard(alloc, store, &met.stands, clause.tests(), &mut met.looked)?;
-    Ok(met.decide(said))
+    let mut met = Met::new(alloc);
+    let says = lay_clause(alloc, clause, arguments, store, &mut met)?;
+    let Met {
+        clashes: _,
+        stands,
+        wanted,
+        looked,
+    } = met;
+    let outcome = match says {
+        Says::Yes => Outcome::Accepts(stands.share()?),
+        Says::No => Outcome::Refuses,
+        Says::Waits => Outcome::Waits(wanted),
+    };
+    Ok(Tried { outcome, looked })
 }

@@ -7,10 +7,8 @@ use Rattle.ghc_flat.specs.Variables.{variables_of_test}
 use Rattle.ghc_match.specs.Value.{Wants}
 use Rattle.ghc_match.specs.Ends.{StandsAndEnds}
 use Rattle.ghc_match.specs.Meeting.{Gains}
-use Rattle.ghc_term.specs.Sets.{IsSetOf}
-use Rattle.ghc_term.proofs.SetsLemmas.{holds_nothing}
 use Rattle.ghc_match.specs.Guarding.{PassedFrom, IsSaid, OneSaysNo}
-use Rattle.ghc_match.proofs.GainsLemmas.{OneHas, has_more, gains_nothing, gains_more}
+use Rattle.ghc_match.proofs.GainsLemmas.{OneHas, gains_nothing, gains_more}
 use Rattle.ghc_match.proofs.GuardingLemmas.{no_more_no, no_more_other}
 use Rattle.ghc_match.proofs.guard.try_guard.Goals as goal
 use Rattle.ghc_match.proofs.guard.try_guard.Goals.{in-No, in_default}
@@ -18,7 +16,7 @@ use Rattle.ghc_match.proofs.guard.try_guard.Goals.{in-No, in_default}
 pub loop-test-init : goal.loop-test-init
 loop-test-init c = record {
   no = λ g i. absurd i;
-  wants = λ x. (λ h. absurd (holds_nothing c.new-wanted.result c.new-wanted.ensures x h), λ w. absurd w.1);
+  wants = gains_nothing (λ (g : Test) x. Wants (StandsAndEnds c.args.stands.now (value_at c.args.store.now.held)) (variables_of_test g) x) c.args.wanted.now;
   looks = gains_nothing (λ (g : Test) x. PassedFrom c.args.stands.now (value_at c.args.store.now.held) (variables_of_test g) x) c.args.looked.now;
 }
 
@@ -37,7 +35,8 @@ loop-test-preserved c =
         | in-No w ↦ subst (λ (b : Bool). OneSaysNo E (old ++ g ∷ []) b) (sym w.says_no-is) (no_more_no E old g (subst (IsSaid E g) w.in-No.is c.in_ok-try_test.ensures.says))
         | in_default w ↦ subst (λ (b : Bool). OneSaysNo E (old ++ g ∷ []) b) (sym w.says_no-is) (no_more_other E c.loop-test.says_no old g c.in_ok-try_test.field-0 c.loop-test.invariant.no c.in_ok-try_test.ensures.says w.in_default.not-No)
       ]);
-      wants = subst (λ l. IsSetOf c.try_test.new.wanted (OneHas wants_of l)) more (has_more wants_of c.loop-test.wanted c.try_test.new.wanted old g c.loop-test.invariant.wants c.in_ok-try_test.ensures.wanted);
+      wants = subst (λ l. Gains c.args.wanted.now c.try_test.new.wanted (OneHas wants_of l)) more
+          (gains_more wants_of c.args.wanted.now c.loop-test.wanted c.try_test.new.wanted old g c.loop-test.invariant.wants c.in_ok-try_test.ensures.wanted);
       looks = subst (λ l. Gains c.args.looked.now c.try_test.new.looked (OneHas passed_by l)) more
           (gains_more passed_by c.args.looked.now c.loop-test.looked c.try_test.new.looked old g c.loop-test.invariant.looks c.in_ok-try_test.ensures.looked);
     }

@@ -4,7 +4,7 @@ use Rattle.ghc_term.specs.Store.{value_at}
 use Rattle.ghc_term.specs.Tree.{Tree}
 use Rattle.ghc_match.specs.Places.{ahead_in, ahead_of, all_ahead}
 use Rattle.ghc_match.proofs.WalkedPositions.{Walked, walk_begins, walk_ends, head_parts, opens_more}
-use Rattle.ghc_match.proofs.MeetingLemmas.{IsFresh, seen_nothing, fresh_first, fresh_last}
+use Rattle.ghc_match.proofs.MeetingLemmas.{Seen, IsFresh, seen_nothing, fresh_first, fresh_last}
 use Rattle.ghc_match.proofs.MatchHead.{HeadSoFar, head_goes_on, all_clashes, all_stands, all_wanted, all_looked}
 use Rattle.ghc_match.proofs.head.match_head.Goals as goal
 
@@ -14,12 +14,14 @@ loop-head-init c =
     let hs = c.args.clause.now.head in
     let ts = c.args.arguments.now in
     let here = c.all-here.result in
+    let met = c.args.met.now in
+    let nothing = c.requires.nothing in
     let first : all_ahead here c.new-pending.result.items ≡ zip hs ts = ap (λ l. ahead_of l ++ ahead_in here) c.new-pending.ensures.items ∙ c.all-here.ensures ∙ ap (λ l. zip l ts) c.head.ensures in
     record {
       done = [];
       walked = subst (Walked S hs ts []) (sym first) (walk_begins S hs ts);
-      seen = seen_nothing S c.in_ok-stands.stands c.new.result c.new-2.result c.in_ok-stands.ensures c.new.ensures c.new-2.ensures;
-      fresh = subst (IsFresh c.in_ok-stands.stands) (sym first) (fresh_first hs ts c.in_ok-stands.stands c.requires c.in_ok-stands.ensures);
+      seen = subst (λ b. Seen S [] b met.stands met.wanted met.looked) (sym nothing.0) (seen_nothing S met.stands met.wanted met.looked nothing.1 nothing.2 nothing.3);
+      fresh = subst (IsFresh met.stands) (sym first) (fresh_first hs ts met.stands c.requires.linear nothing.1);
     }
 
 pub visit-requires : goal.visit-requires
