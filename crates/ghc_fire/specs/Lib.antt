@@ -2,6 +2,7 @@ pub mod Instance
 pub mod Renaming
 pub mod Effect
 pub mod AskedCode
+pub mod Made
 pub mod Asked
 pub mod EffectCode
 pub mod Attempt

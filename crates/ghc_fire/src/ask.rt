@@ -8,7 +8,8 @@ ghost use Rattle.ghc_fire.specs.Asked.{NameNoneOf, Asks, asked_as};
 use crate::asked::Asked;
 use crate::called::{Called, call_variables, each_once, number_variables};
 use crate::effect::Effect;
-use crate::instances::{call_goals, number_goals};
+use crate::instances::{call_goals, number_list};
+use crate::made::Made;
 use ghc_reader::WrittenAsk;
 use ghc_term::{Bindings, Goal, VarName, Variables};
 use std::alloc::{AllocError, Global};
@@ -103,7 +104,7 @@ pub fn number_asked(alloc: Global, ask: &Ask, number: u32) -> Result<Asked, Allo
     requires { NameNoneOf number ask.now }
     ensures { IfOk result (λ asked. asked ≡ asked_as number ask.now) }
 {
-    let goals = number_goals(alloc, ask.goals(), number)?;
+    let goals = number_list(alloc, ask.goals(), number)?;
     let variables = number_variables(alloc, ask.variables(), number)?;
     Asked::of(alloc, goals, variables)
 }
@@ -115,7 +116,8 @@ pub fn ask_as(alloc: Global, ask: &Ask, number: u32) -> Result<(Asked, Effect), 
     ensures effect { IfOk result (λ p. (P : Program) → AreDefined P ask.now → Asks P p.0 number p.1) }
 {
     let asked = number_asked(alloc, ask, number)?;
-    let makes = share_goals(alloc, asked.goals())?;
+    let shared = share_goals(alloc, asked.goals())?;
+    let makes = Made::of(alloc, shared)?;
     let effect = Effect::new(
         Variables::new(alloc),
         Bindings::new(alloc),

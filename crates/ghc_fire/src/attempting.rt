@@ -81,10 +81,10 @@ fn propose(
     ensures no_goal { AttemptsAt program.now goals.now.held store.now.held goal choice (refused Fault.NoGoal) → result ≡ Err Fault.NoGoal }
     ensures no_clause { AttemptsAt program.now goals.now.held store.now.held goal choice (refused Fault.NoClause) → result ≡ Err Fault.NoClause }
 {
-    let Some(consumed) = goals.get(goal) else {
+    let Some(consumed) = goals.handle(goal) else {
         return Err(Fault::NoGoal);
     };
-    let (act, effect) = propose_act(alloc, program, store, consumed, choice, step)?;
+    let (act, effect) = propose_act(alloc, program, store, consumed.goal(), choice, step)?;
     Ok(Proposal::new(goal, consumed.share()?, act, effect))
 }
 

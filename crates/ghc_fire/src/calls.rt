@@ -9,7 +9,7 @@ use crate::act::Act;
 use crate::effect::Effect;
 use crate::instances::instance;
 use ghc_flat::{Clause, Program};
-use ghc_match::{Outcome, Tried, first_end, refuses_at_first, try_clause};
+use ghc_match::{Met, Says, first_end, lay_clause, refuses_at_first};
 use ghc_term::{Bindings, Fault, Name, Store, Term};
 use std::alloc::{AllocError, Global};
 
@@ -36,14 +36,14 @@ fn try_clause_as_step(
 {
     store.acyclic();
     let head_variables = clause.head_variables();
-    let Tried { outcome, looked } = try_clause(alloc, clause, arguments, store)?;
-    match outcome {
-        Outcome::Refuses => Ok(Verdict::Refuses),
-        Outcome::Waits(_wanted) => Ok(Verdict::Waits),
-        Outcome::Accepts(theta) => {
-            let makes = instance(alloc, clause, head_variables, &theta, step)?;
+    let mut met = Met::new(alloc);
+    match lay_clause(alloc, clause, arguments, store, &mut met)? {
+        Says::No => Ok(Verdict::Refuses),
+        Says::Waits => Ok(Verdict::Waits),
+        Says::Yes => {
+            let makes = instance(alloc, clause, head_variables, &met.stands, step)?;
             let fresh = clause.fresh();
-            let effect = Effect::new(looked, Bindings::new(alloc), makes, fresh);
+            let effect = Effect::new(met.looked, Bindings::new(alloc), makes, fresh);
             Ok(Verdict::Reduces(effect))
         }
     }

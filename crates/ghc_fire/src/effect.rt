@@ -2,6 +2,7 @@
 ghost use Rattle.std.specs.Prelude.{◌≡◌, ◌≤◌, ◌↔◌, length, IfOk, IsTrue};
 ghost use Rattle.ghc_flat.specs.Flat.{most_goals};
 
+use crate::made::Made;
 use ghc_term::{Bindings, Goal, Variables};
 use std::alloc::{AllocError, Global};
 use std::marker::Model;
@@ -14,7 +15,7 @@ pub const NO_STEP: u32 = 4_294_967_295;
 pub struct Effect {
     reads: Variables,
     binds: Bindings,
-    makes: Vec<Goal>,
+    makes: Made,
     fresh: u32,
 }
 
@@ -40,9 +41,9 @@ impl Model for Effect {
     ghost use Rattle.std.specs.Prelude.{◌≤◌, length};
     ghost use Rattle.ghc_flat.specs.Flat.{most_goals};
 
-    ghost view = { λ e. record { reads = e.reads; binds = e.binds; makes = e.makes.items; fresh = e.fresh } };
+    ghost view = { λ e. record { reads = e.reads; binds = e.binds; makes = e.makes; fresh = e.fresh } };
 
-    ghost invariant = { λ e. length e.makes.items ≤ most_goals };
+    ghost invariant = { λ e. length e.makes ≤ most_goals };
 }
 
 // Whether the lists have the same goals in the same order.
@@ -62,11 +63,11 @@ fn same_goals(alloc: Global, lefts: &[Goal], rights: &[Goal]) -> Result<bool, Al
 
 impl Effect {
     /// The effect of these parts, with no more goals than a body may have.
-    pub fn new(reads: Variables, binds: Bindings, makes: Vec<Goal>, fresh: u32) -> Effect
-        requires { length makes.items ≤ most_goals }
+    pub fn new(reads: Variables, binds: Bindings, makes: Made, fresh: u32) -> Effect
+        requires { length makes ≤ most_goals }
         ensures reads { result.reads ≡ reads }
         ensures binds { result.binds ≡ binds }
-        ensures makes { result.makes ≡ makes.items }
+        ensures makes { result.makes ≡ makes }
         ensures fresh { result.fresh ≡ fresh }
     {
         Effect {
@@ -95,6 +96,13 @@ impl Effect {
     pub fn makes(&self) -> &[Goal]
         ensures { result.now ≡ self.now.makes }
     {
+        self.makes.as_slice()
+    }
+
+    /// The same goals, in the piece in which they are held.
+    pub fn piece(&self) -> &Made
+        ensures { result.now ≡ self.now.makes }
+    {
         &self.makes
     }
 
@@ -102,7 +110,7 @@ impl Effect {
     pub fn made(&self) -> u32
         ensures { result ≡ length self.now.makes }
     {
-        self.makes.len() as u32
+        self.makes.as_slice().len() as u32
     }
 
     /// How many variables the step makes.
@@ -113,10 +121,10 @@ impl Effect {
     }
 
     /// What the step reads, binds and makes, and how many variables it makes, given up.
-    pub fn into_parts(self) -> (Variables, Bindings, Vec<Goal>, u32)
+    pub fn into_parts(self) -> (Variables, Bindings, Made, u32)
         ensures reads { result.0 ≡ self.reads }
         ensures binds { result.1 ≡ self.binds }
-        ensures makes { result.2.items ≡ self.makes }
+        ensures makes { result.2 ≡ self.makes }
         ensures few { length self.makes ≤ most_goals }
         ensures fresh { result.3 ≡ self.fresh }
     {

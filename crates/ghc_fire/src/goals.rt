@@ -1,16 +1,15 @@
 // The goals of a state.
 ghost use Rattle.std.specs.Prelude.{◌≡◌, ◌<◌, ◌≤◌, ◌+◌, map, IfOk, OnOk};
 
-use ghc_term::{Goal, GoalName, NameMap};
-use indexmap::IndexMap;
+use crate::made::MadeGoal;
+use ghc_term::{Goal, GoalMap, GoalName};
 use std::alloc::{AllocError, Global};
 use std::collections::BTreeMap;
-use std::hash::BuildHasherDefault;
 use std::marker::Model;
 
 /// The goals of a state by their names.
 pub struct Goals {
-    map: NameMap<GoalName, Goal>,
+    map: GoalMap<MadeGoal>,
 }
 
 impl Drop for Goals {
@@ -20,8 +19,6 @@ impl Drop for Goals {
 }
 
 impl Model for Goals {
-    ghost use Rattle.std.specs.FinMap as finite;
-    ghost use Rattle.indexmap.specs.IndexMap.{spare};
     ghost use Rattle.ghc_term.specs.Table.{Table, table_code};
     ghost use Rattle.ghc_fire.specs.Goals.{Goals};
     ghost use Rattle.ghc_fire.specs.GoalsCode.{goals_code};
@@ -30,7 +27,7 @@ impl Model for Goals {
 
     ghost coded = { table_code goals_code };
 
-    ghost view = { λ g. record { held = finite.from_entries g.map.entries; room = spare g.map } };
+    ghost view = { λ g. g.map };
 }
 
 impl Goals {
@@ -44,16 +41,27 @@ impl Goals {
         ensures { result.held ≡ finite.empty }
     {
         Goals {
-            map: IndexMap::with_hasher(alloc, BuildHasherDefault::new()),
+            map: GoalMap::new(alloc),
         }
     }
 
-    /// The goal of this name: one look-up.
+    /// The handle of the goal of this name: one step for the first two goals of a step that is not far ahead, else a look-up.
+    #[inline(always)]
+    pub fn handle(&self, name: GoalName) -> Option<&MadeGoal>
+        ensures { option_copied result ≡ finite.get self.now.held name }
+    {
+        self.map.get(name)
+    }
+
+    /// The goal of this name: one step for the first two goals of a step that is not far ahead, else a look-up.
     #[inline(always)]
     pub fn get(&self, name: GoalName) -> Option<&Goal>
         ensures { option_copied result ≡ finite.get self.now.held name }
     {
-        self.map.get(&name)
+        match self.handle(name) {
+            Some(made) => Some(made.goal()),
+            None => None,
+        }
     }
 
     /// The goals with their names, by step, then place. Each is put in its place in the order, and no goal is copied.
@@ -61,40 +69,42 @@ impl Goals {
         ensures { IfOk result (λ goals. map (λ e. (e.0, e.1.now)) goals.entries ≡ finite.entries self.now.held) }
     {
         let mut goals = BTreeMap::new(alloc);
-        // Of two of one name the first would count, so it is put last.
-        for (name, goal) in self.map.iter().rev() {
-            goals.insert(*name, goal)?;
+        for name in self.map.names() {
+            if let Some(goal) = self.get(*name) {
+                goals.insert(*name, goal)?;
+            }
         }
         let _count = goals.len();
         Ok(goals)
     }
 
-    /// Makes room for as many more goals. The goals stay, and so does the room where memory is refused.
-    pub fn reserve(&mut self, count: usize) -> Result<(), AllocError>
+    /// Makes room for as many more goals that steps up to this one made. The goals stay, and so does the room where memory is refused.
+    #[inline(always)]
+    pub fn reserve(&mut self, count: usize, newest: u32) -> Result<(), AllocError>
         ensures held { self.new.held ≡ self.old.held }
         ensures room { OnOk result (count ≤ self.new.room) }
         ensures kept { self.old.room ≤ self.new.room }
     {
-        self.map.reserve(count)
+        self.map.reserve(count, newest)
     }
 
-    /// Puts a goal under the name, in place of one that it had, where there is room: one look-up.
+    /// Puts a goal under the name, in place of one that it had, where there is room: a step or a look-up.
     #[inline(always)]
-    pub fn put(&mut self, name: GoalName, goal: Goal)
+    pub fn put(&mut self, name: GoalName, goal: MadeGoal)
         requires { 0 < self.old.room }
         ensures held { self.new.held ≡ finite.insert self.old.held name goal }
         ensures room { self.old.room ≤ self.new.room + 1 }
     {
-        self.map.insert(name, goal).unwrap();
+        self.map.put(name, goal);
     }
 
-    /// Takes the goal of this name away and gives it, if there was one: one look-up. The room does not shrink.
+    /// Takes the goal of this name away and gives it, if there was one: a step or two, or look-ups. The room does not shrink.
     #[inline(always)]
-    pub fn remove(&mut self, name: GoalName) -> Option<Goal>
+    pub fn remove(&mut self, name: GoalName) -> Option<MadeGoal>
         ensures value { result ≡ finite.get self.old.held name }
         ensures held { self.new.held ≡ finite.remove self.old.held name }
         ensures room { self.old.room ≤ self.new.room }
     {
-        self.map.swap_remove(&name)
+        self.map.remove(name)
     }
 }

@@ -15,8 +15,10 @@ mod terms;
 use crate::instances::expressions::replace_expression;
 use crate::instances::renaming::Renaming;
 use crate::instances::terms::replace_term;
+use crate::made::Made;
 use ghc_flat::Clause;
-use ghc_term::{Bindings, Goal, GoalView, VarName};
+use ghc_match::Stands;
+use ghc_term::{Goal, GoalView, VarName};
 use std::alloc::{AllocError, Global};
 
 // The call with its variables replaced, as the term that it is written as.
@@ -31,6 +33,7 @@ fn replace_call(alloc: Global, goal: &Goal, by: Renaming<'_>) -> Result<Goal, Al
 }
 
 // The goal with its variables replaced.
+#[inline(always)]
 fn replace_goal(alloc: Global, goal: &Goal, by: Renaming<'_>) -> Result<Goal, AllocError>
     ensures { IfOk result (λ g. g ≡ replace_in_goal (replacement by.entry) goal.now) }
 {
@@ -48,6 +51,14 @@ fn replace_goal(alloc: Global, goal: &Goal, by: Renaming<'_>) -> Result<Goal, Al
     }
 }
 
+// The same, kept apart from functions that replace few goals.
+#[inline(never)]
+fn replace_next(alloc: Global, goal: &Goal, by: Renaming<'_>) -> Result<Goal, AllocError>
+    ensures { IfOk result (λ g. g ≡ replace_in_goal (replacement by.entry) goal.now) }
+{
+    replace_goal(alloc, goal, by)
+}
+
 // The goals with their variables replaced.
 fn replace_goals(alloc: Global, goals: &[Goal], by: Renaming<'_>) -> Result<Vec<Goal>, AllocError>
     ensures { IfOk result (λ gs. gs.items ≡ map (replace_in_goal (replacement by.entry)) goals.now) }
@@ -60,6 +71,26 @@ fn replace_goals(alloc: Global, goals: &[Goal], by: Renaming<'_>) -> Result<Vec<
     Ok(replaced)
 }
 
+// The same, as a step makes them.
+fn replace_made(alloc: Global, goals: &[Goal], by: Renaming<'_>) -> Result<Made, AllocError>
+    ensures { IfOk result (λ made. made ≡ map (replace_in_goal (replacement by.entry)) goals.now) }
+{
+    match goals {
+        [] => Ok(Made::none()),
+        [first] => Made::one(alloc, replace_goal(alloc, first, by)?),
+        [first, second] => {
+            let first = replace_goal(alloc, first, by)?;
+            Made::two(alloc, first, replace_goal(alloc, second, by)?)
+        }
+        [first, second, third] => {
+            let first = replace_next(alloc, first, by)?;
+            let second = replace_next(alloc, second, by)?;
+            Made::three(alloc, first, second, replace_next(alloc, third, by)?)
+        }
+        _ => Made::of(alloc, replace_goals(alloc, goals, by)?),
+    }
+}
+
 /// The goals that the body of the clause makes in the step of that number, where its head variables, of which there are
 /// `head_variables`, stand for what theta has. It goes once through the body, with one look-up for each variable in it,
 /// and shares what theta has and each part that has no variables.
@@ -67,23 +98,30 @@ pub fn instance(
     alloc: Global,
     clause: &Clause,
     head_variables: u32,
-    theta: &Bindings,
+    theta: &Stands<'_>,
     number: u32,
-) -> Result<Vec<Goal>, AllocError>
+) -> Result<Made, AllocError>
     requires { AreBehindHead head_variables clause.now theta.now }
-    ensures { IfOk result (λ goals. goals.items ≡ body_made clause.now theta.now number) }
+    ensures { IfOk result (λ made. made ≡ body_made clause.now theta.now number) }
 {
     let by = Renaming::Body {
         theta,
         head_variables,
         number,
     };
-    replace_goals(alloc, clause.body(), by)
+    replace_made(alloc, clause.body(), by)
 }
 
 // The goals as the step of this number has them: the variables that it makes get the number. It goes once through the
 // goals, and shares each part of their terms that has no such variable.
-pub fn number_goals(alloc: Global, goals: &[Goal], number: u32) -> Result<Vec<Goal>, AllocError>
+pub fn number_goals(alloc: Global, goals: &Made, number: u32) -> Result<Made, AllocError>
+    ensures { IfOk result (λ made. made ≡ map (replace_in_goal (numbered number)) goals.now) }
+{
+    replace_made(alloc, goals.as_slice(), Renaming::Numbered(number))
+}
+
+// The same of a list of goals.
+pub fn number_list(alloc: Global, goals: &[Goal], number: u32) -> Result<Vec<Goal>, AllocError>
     ensures { IfOk result (λ gs. gs.items ≡ map (replace_in_goal (numbered number)) goals.now) }
 {
     replace_goals(alloc, goals, Renaming::Numbered(number))

@@ -14,6 +14,7 @@ mod facts;
 mod goals;
 mod instances;
 mod laws;
+mod made;
 mod meter;
 mod proposal;
 mod recorded;
@@ -34,6 +35,7 @@ pub use laws::{
     effect_under_a_number, effect_under_each_number, effect_variables, proposal_as_a_step,
     proposal_is_effect,
 };
+pub use made::{Made, MadeGoal};
 pub use meter::Meter;
 pub use proposal::Proposal;
 pub use recorded::{effect_as, has_effect};

@@ -3,6 +3,7 @@ ghost use Rattle.std.specs.Prelude.{◌≡◌};
 
 use crate::act::Act;
 use crate::effect::Effect;
+use crate::made::MadeGoal;
 use ghc_term::{Goal, GoalName};
 use std::marker::Model;
 
@@ -10,7 +11,7 @@ use std::marker::Model;
 /// number or as the step of the number under which it was attempted has it.
 pub struct Proposal {
     goal: GoalName,
-    consumed: Goal,
+    consumed: MadeGoal,
     act: Act,
     effect: Effect,
 }
@@ -39,7 +40,7 @@ impl Model for Proposal {
 
 impl Proposal {
     /// The proposal of these parts.
-    pub fn new(goal: GoalName, consumed: Goal, act: Act, effect: Effect) -> Proposal
+    pub fn new(goal: GoalName, consumed: MadeGoal, act: Act, effect: Effect) -> Proposal
         ensures goal { result.goal ≡ goal }
         ensures consumed { result.consumed ≡ consumed }
         ensures act { result.act ≡ act }
@@ -64,7 +65,7 @@ impl Proposal {
     pub fn consumed(&self) -> &Goal
         ensures { result.now ≡ self.now.consumed }
     {
-        &self.consumed
+        self.consumed.goal()
     }
 
     /// The act on the goal.
@@ -82,7 +83,7 @@ impl Proposal {
     }
 
     /// Its goal as written, the act on it and the effect, given up.
-    pub fn into_parts(self) -> (Goal, Act, Effect)
+    pub fn into_parts(self) -> (MadeGoal, Act, Effect)
         ensures consumed { result.0 ≡ self.consumed }
         ensures act { result.1 ≡ self.act }
         ensures effect { result.2 ≡ self.effect }

@@ -5,6 +5,7 @@ ghost use Rattle.ghc_fire.specs.Effect.{Feeds, Closes};
 ghost use Rattle.ghc_fire.specs.Tail.{IsOpenAt, IsTailBound};
 
 use crate::effect::Effect;
+use crate::made::Made;
 use ghc_term::{Bindings, Goal, Ground, Name, Store, Term, TermView, VarName, Variables};
 use std::alloc::{AllocError, Global};
 
@@ -56,8 +57,7 @@ pub fn feed(
     let cell = Term::pair(alloc, cell_name, given, Term::variable(goes_on))?;
     let mut binds = Bindings::new(alloc);
     binds.insert(end, cell)?;
-    let mut makes = Vec::new(alloc);
-    makes.push(Goal::stream(stream, goes_on))?;
+    let makes = Made::one(alloc, Goal::stream(stream, goes_on))?;
     Ok(Some(Effect::new(before, binds, makes, 1)))
 }
 
@@ -72,5 +72,5 @@ pub fn close(alloc: Global, store: &Store, tail: VarName) -> Result<Option<Effec
     };
     let mut binds = Bindings::new(alloc);
     binds.insert(end, Term::atom(Name::new(alloc, "[]")?))?;
-    Ok(Some(Effect::new(before, binds, Vec::new(alloc), 0)))
+    Ok(Some(Effect::new(before, binds, Made::none(), 0)))
 }

@@ -4,7 +4,8 @@ ghost use Rattle.ghc_term.specs.Tree.{variable};
 ghost use Rattle.ghc_fire.specs.Renaming.{replacement};
 
 use crate::effect::NO_STEP;
-use ghc_term::{Bindings, Term, VarName};
+use ghc_match::Stands;
+use ghc_term::{Term, VarName};
 use std::alloc::AllocError;
 
 // The ways in which a variable becomes a term.
@@ -12,7 +13,7 @@ use std::alloc::AllocError;
 pub enum Renaming<'a> {
     // In the body of a clause: one of the head becomes what it stands for, and another a variable of the step.
     Body {
-        theta: &'a Bindings,
+        theta: &'a Stands<'a>,
         head_variables: u32,
         number: u32,
     },

@@ -10,4 +10,4 @@ returns-clause-effect c P defined =
     let e = c.new-effect.result in
     subst (λ hs. Asks P hs n e) (sym c.in_ok-asked.ensures)
     (asks_with gs n c.requires P c.fresh.result e c.fresh.ensures.askable c.fresh.ensures.new defined (c.new-effect.ensures.reads ∙ c.new.ensures) (c.new-effect.ensures.binds ∙ c.new-2.ensures)
-    (c.new-effect.ensures.makes ∙ c.in_ok-makes.ensures ∙ c.goals.ensures.goals ∙ c.in_ok-asked.ensures) c.new-effect.ensures.fresh)
+    (c.new-effect.ensures.makes ∙ c.in_ok-makes.ensures ∙ c.in_ok-shared.ensures ∙ c.goals.ensures.goals ∙ c.in_ok-asked.ensures) c.new-effect.ensures.fresh)

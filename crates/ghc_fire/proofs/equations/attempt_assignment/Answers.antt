@@ -33,11 +33,11 @@ returns-clause-effect c =
     let fits : SFits w64 v = search rules in
     let worth = subst (λ v. HasValue S c.args.value.now (value_of v)) c.in-Number.is c.in_ok-integer.ensures in
     let right : c.integer.result ≡ integer v = c.integer.ensures ∙ ap integer (to_z-of_z w64 v fits) in
-    let e = c.new-2.result in
+    let e = c.new.result in
     let rest = c.in_ok-binds.field-0.reads in
-    let solved = subst (λ u. Unifies S c.args.left.now u e.binds rest) right (subst (λ b. Unifies S c.args.left.now c.integer.result b rest) (sym c.new-2.ensures.binds) c.in_ok-binds.ensures.answer.0) in
-    let read = subst (λ r. Gains rest r (IsOnChainsOf S c.args.value.now)) (sym c.new-2.ensures.reads) c.in_ok-add_chains.ensures in
-    unified S c.args.left.now c.args.value.now v worth e rest solved read (c.new-2.ensures.makes ∙ c.new.ensures.items) c.new-2.ensures.fresh
+    let solved = subst (λ u. Unifies S c.args.left.now u e.binds rest) right (subst (λ b. Unifies S c.args.left.now c.integer.result b rest) (sym c.new.ensures.binds) c.in_ok-binds.ensures.answer.0) in
+    let read = subst (λ r. Gains rest r (IsOnChainsOf S c.args.value.now)) (sym c.new.ensures.reads) c.in_ok-add_chains.ensures in
+    unified S c.args.left.now c.args.value.now v worth e rest solved read (c.new.ensures.makes ∙ c.none.ensures) c.new.ensures.fresh
 
 pub returns-in_err-binds-clause-fault : goal.returns-in_err-binds-clause-fault
 returns-in_err-binds-clause-fault c =

@@ -9,4 +9,4 @@ pub returns : goal.returns
 returns c =
     let s = renamed c.args.head_variables c.args.theta.now c.args.number in
     let made = renamed_body c.args.head_variables c.args.clause.now c.args.theta.now c.args.number c.requires in
-    IfOk-weaker c.replace_goals.result _ _ (λ gs e. e ∙ ap (map (replace_in_goal s)) c.body.ensures ∙ made) c.replace_goals.ensures
+    IfOk-weaker c.replace_made.result _ _ (λ gs e. e ∙ ap (map (replace_in_goal s)) c.body.ensures ∙ made) c.replace_made.ensures

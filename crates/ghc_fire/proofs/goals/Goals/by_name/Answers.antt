@@ -1,21 +1,45 @@
-use Rattle.std.proofs.Common.{◌++◌, append-nil, ap, ◌∙◌}
+use Rattle.std.proofs.Common.{◌+◌, take, get_or, sym, ap, subst, ◌∙◌}
 use Rattle.std.specs.FinMap as finite
+use Rattle.std.specs.FinSet as set
+use Rattle.std.specs.List.{list_any}
+use Rattle.std.specs.Ordering.{eq_by_cmp}
+use Rattle.std.proofs.lemmas.List.{take_more, take_all}
+use Rattle.ghc_term.specs.declared.goal_name.GoalName.{GoalName}
+use Rattle.ghc_term.proofs.GoalMaps.{in_names}
 use Rattle.ghc_fire.specs.Goals.{goal_cmp}
-use Rattle.ghc_fire.proofs.Gathering.{shown_by, one_more, gathered}
+use Rattle.ghc_fire.proofs.Gathering.{IsGathered, none_met, one_more, none_more, gathered}
 use Rattle.ghc_fire.proofs.GoalNames.{goal_total, goal_antisymmetric}
 use Rattle.ghc_fire.proofs.goals.Goals.by_name.Goals as goal
+use Rattle.ghc_fire.proofs.goals.Goals.by_name.Goals.{in-Some+in_ok-insert, in_default}
 
 pub loop-name-init : goal.loop-name-init
-loop-name-init c =
-    let left = c.into_iter-name-iterator.result.iter in
-    ap (λ es. finite.from_entries {R = goal_cmp} (left ++ shown_by (λ t. t.now) es)) c.new-goals.ensures.empty
-    ∙ ap (λ es. finite.from_entries {R = goal_cmp} es) (append-nil left ∙ ap (λ r. r.iter) c.into_iter-name-iterator.ensures.into_iter_gives ∙ c.rev-name-items.ensures.source ∙ c.iter.ensures.rest)
-    ∙ ap (λ t. t.held) c.self.view_is
+loop-name-init c = none_met goal_total goal_antisymmetric (λ t. t.now) c.args.self.now.held c.new-goals.result.entries c.new-goals.ensures.empty
 
 pub loop-name-preserved : goal.loop-name-preserved
 loop-name-preserved c =
-    one_more goal_total goal_antisymmetric (λ t. t.now) c.args.self.now.held c.loop-name.name-iterator.iter c.next.new.self.iter c.loop-name.goals.entries c.insert.new.self.entries c.in-Some.name.now
-    c.in-Some.goal c.loop-name.invariant c.in-Some.ensures.steps c.in_ok-insert.ensures.updates.0
+    let ks = c.names-name-items.result.now in
+    let i = c.loop-name.name-index in
+    let none : GoalName = record { step = 0; place = 0 } in
+    let name : GoalName = get_or ks i none in
+    let held = c.args.self.now.held in
+    let more = take_more ks i none c.loop-name-test.true in
+    elim c.match-get.branch [
+      | in-Some+in_ok-insert w ↦
+          let there = sym w.in-Some.ensures in
+          let next = one_more goal_total goal_antisymmetric (λ t. t.now) held (take i ks) c.loop-name.goals.entries c.loop-name.invariant name w.insert.new.self.entries w.in-Some.goal there w.in_ok-insert.ensures.updates.0 in
+          subst (λ es. IsGathered goal_total goal_antisymmetric (λ t. t.now) held (take (i + 1) ks) es) (ap (λ m. m.entries) (sym w.goals-is)) (subst (λ met. IsGathered goal_total goal_antisymmetric (λ t. t.now) held met w.insert.new.self.entries) (sym more) next)
+      | in_default w ↦
+          let gone = sym w.in_default.ensures in
+          let next = none_more goal_total goal_antisymmetric (λ t. t.now) held (take i ks) c.loop-name.goals.entries c.loop-name.invariant name gone in
+          subst (λ es. IsGathered goal_total goal_antisymmetric (λ t. t.now) held (take (i + 1) ks) es) (ap (λ m. m.entries) (sym w.goals-is)) (subst (λ met. IsGathered goal_total goal_antisymmetric (λ t. t.now) held met c.loop-name.goals.entries) (sym more) next)
+    ]
 
 pub returns : goal.returns
-returns c = gathered goal_total goal_antisymmetric (λ t. t.now) c.args.self.now.held c.loop-name.name-iterator.iter c.loop-name.goals.entries c.loop-name.invariant c.in-None.ensures.steps.0 c.len-count.ensures.ordered
+returns c =
+    let ks = c.names-name-items.result.now in
+    let held = c.args.self.now.held in
+    gathered goal_total goal_antisymmetric (λ t. t.now) held (take c.loop-name.name-index ks) c.loop-name.goals.entries c.loop-name.invariant
+    (λ q.
+    ap (λ l. list_any (eq_by_cmp goal_cmp q) l) (take_all c.loop-name.name-index ks c.loop-name-test.false) ∙ sym (set.contains-from_list goal_total ks q)
+    ∙ ap (λ s. set.contains s q) c.names-name-items.ensures.all ∙ in_names c.self.inside.map.held q ∙ ap (λ t. finite.contains_key t.held q) c.self.view_is)
+    c.len-count.ensures.ordered

@@ -1,7 +1,7 @@
-use Rattle.std.proofs.Common.{◌≡◌, ◌++◌}
-use Rattle.std.specs.FinMap as finite
-use Rattle.ghc_fire.proofs.Gathering.{shown_by}
+use Rattle.std.proofs.Common.{take}
+use Rattle.ghc_fire.proofs.Gathering.{IsGathered}
+use Rattle.ghc_fire.proofs.GoalNames.{goal_total, goal_antisymmetric}
 use Rattle.ghc_fire.proofs.goals.Goals.by_name.Given as goal
 
 abbrev pub invariant-loop-name : goal.invariant-loop-name
-invariant-loop-name l = finite.from_entries (l.name-iterator.iter ++ shown_by (λ t. t.now) l.goals.entries) ≡ l.self.held
+invariant-loop-name l = IsGathered goal_total goal_antisymmetric (λ t. t.now) l.self.held (take l.name-index l.name-items) l.goals.entries
