@@ -3,7 +3,7 @@ use Rattle.std.proofs.Common.{◌≡◌, ◌≢◌, ◌≤◌, IfOk, IfSome, IfN
 use Rattle.std.specs.Prelude.{codes, is_some, MatchResult}
 use Rattle.std.specs.List.{list_all}
 use Rattle.std.proofs.lemmas.Bool.Decides.{Decides-eqb}
-use Rattle.std.proofs.lemmas.List.{append-nil, append_cancel_left}
+use Rattle.std.proofs.lemmas.List.{append_cancel_left}
 use Rattle.ghc_term.specs.declared.fault.Fault.{Fault}
 use Rattle.ghc_term.specs.declared.var_name.VarName.{VarName}
 use Rattle.ghc_term.specs.Answered.{IsExact}
@@ -13,7 +13,6 @@ use Rattle.ghc_term.specs.Variables.{variables_of_goals, firsts}
 use Rattle.ghc_reader.specs.Tests.{a_body, IsRefusal}
 use Rattle.ghc_reader.specs.Read.{IsReadBody}
 use Rattle.ghc_reader.specs.WrittenAsk.{WrittenAsk}
-use Rattle.ghc_fire.specs.declared.act.Act.{Act}
 use Rattle.ghc_fire.specs.declared.act.Act.TheVariants.{Asked as asked}
 use Rattle.ghc_fire.specs.Instance.{made}
 use Rattle.ghc_fire.specs.Asked.{asked_of, made_from}
@@ -118,10 +117,6 @@ module _ (xs : List VarName) (n i p : ℕ) (x : VarName) (at : drop i xs ≡ x �
   pub out_of_order : x.step ≡ n → x.place ≢ p + 1 → (k : ℕ) → own n xs ≢ made_from n 1 k
   out_of_order step other k e = other (next_made n 1 p k x (own n (drop (i + 1) xs)) (sym (found step) ∙ e) ∙ omega arith)
 
--- at the end all are made
-pub all_made : (xs : List VarName) (n i p : ℕ) → drop i xs ≡ [] → AreMade xs n i p → own n xs ≡ made_from n 1 p
-all_made xs n i p none so_far = so_far ∙ ap (λ l. made_from n 1 p ++ own n l) none ∙ append-nil (made_from n 1 p)
-
 -- ---- lines put together
 
 -- The line begins with the number of the step, and behind `- ask ` the text stands.
@@ -142,20 +137,6 @@ no_asking line word rest front text n (Ok None) cut plain begins at is small non
     let number = one_number n s.number small says.number.1 (sym is ∙ parts.0) in
     let body : says.body ≡ text = sym (append_cancel_left (codes "- ask ") text says.body (ap (λ f. f ++ text) (sym at) ∙ sym begins ∙ parts.1)) in
     none says.goals (subst (λ l. SaysGoals l says.goals) body says.says) (subst (λ m. AreNewInOrder m says.goals) (sym number) says.new)
-
--- .. with the goals
-pub asking_of : (text : List ℕ) (s : Step) (a : Act) (gs : List Goal) (n : ℕ) → s.number ≡ n → s.goal ≡ None → s.act ≡ a → a ≡ asked gs → SaysGoals text gs → AreNewInOrder n gs → 1 ≤ n → n ≤ greatest_number
-    → SaysAsking (decimal n ++ 32 ∷ (codes "- ask " ++ text)) s
-asking_of text s a gs n number goal act is says new first small = record {
-  goals = gs;
-  body = text;
-  parts = ap (λ m. decimal m ++ 32 ∷ (codes "- ask " ++ text)) (sym number);
-  number = (omega (arith, number, first), omega (arith, number, small));
-  of_none = goal;
-  asks = act ∙ is;
-  says = says;
-  new = subst (λ m. AreNewInOrder m gs) (sym number) new;
-}
 
 -- where those of an ask are in order, so are those of its variables
 pub in_order_of : (gs : List Goal) (xs : List VarName) (n : ℕ) → xs ≡ firsts [] (variables_of_goals gs) → AreNewInOrder n gs → (k : ℕ) × (own n xs ≡ made_from n 1 k)

@@ -135,7 +135,3 @@ no_word bytes front words word rest at begins split plain cut none [] all e = re
 no_word bytes front words word rest at begins split plain cut none (n ∷ ns) all e =
     let named : IsNamed n = all 0 0 (omega arith) in
     absurd (none n named.0 named.1 (further bytes front words word rest at begins split plain cut n ns named e).0)
-
--- what the bytes are
-pub number_first_of : (bytes front words word rest : List ℕ) (n : ℕ) → front ≡ codes " " → bytes ≡ front ++ words → words ≡ word ++ rest → word ≡ decimal n → bytes ≡ 32 ∷ (decimal n ++ rest)
-number_first_of bytes front words word rest n at begins split is = begins ∙ ap (λ f. f ++ words) at ∙ ap (λ w. 32 ∷ w) (split ∙ ap (λ w. w ++ rest) is)

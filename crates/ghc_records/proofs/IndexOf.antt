@@ -60,6 +60,13 @@ taken_again old mid new P Q u v first then m n = (
   λ k. (then m n).1 ((first m n).1 ((k.0.0, λ p. k.0.1 (inl p.0, p.1)), k.1), λ q. k.0.1 (inr q.0, q.1)),
 )
 
+-- what a step uses was given by the step that the name of its goal names, by one that bound what it read, or by one that made what it names
+pub given_by_name : (rs : List Record) (users : UsersByStep) (binders : BindersByVariable) → IsIndexOf rs users binders → (r : Record) (m : ℕ) (a : Record) → In a rs → a.number ≡ m → Uses r a
+    → Gives rs binders (step_named r.goal) r m
+given_by_name rs users binders is r m a i e (inl c) = inl (inl (ap step_named c.1 ∙ ap Some (c.2.0 ∙ e)))
+given_by_name rs users binders is r m a i e (inr (inl x)) = inl (inr (x.0, x.1.0, (is.bound x.0 m).1 (a, i, e, x.1.1)))
+given_by_name rs users binders is r m a i e (inr (inr x)) = inr (x.0, x.1.0.0, (a, i, e, x.1.1))
+
 -- what gave something to a step that is put behind the others is what the step uses
 module _ (rs : List Record) (users : UsersByStep) (binders : BindersByVariable) (is : IsIndexOf rs users binders) (r : Record) (maker : Option ℕ)
     (made : (m : ℕ) → (maker ≡ Some m) ↔ IsMakerFor rs r m) where

@@ -13,6 +13,7 @@ pub mod BindingOrder
 pub mod Makes
 pub mod TakenBack
 pub mod InOrder
+pub mod InTurn
 pub mod NumberSets
 pub mod RisingNumbers
 pub mod StepUsers

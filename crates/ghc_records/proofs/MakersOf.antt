@@ -37,9 +37,6 @@ under_none rs old u m n = (λ i. inl i, λ c. elim c [ inl i ↦ i | inr b ↦ a
 pub not_under_none : (rs : List Record) (old : UsersByStep) (u : ℕ) → HasNotUnder rs old [] u old
 not_under_none rs old u m n = (λ i. (i, λ b. b.0.1), λ c. c.0)
 
-pub can_none : (rs : List Record) (users : UsersByStep) (m n : ℕ) → MadeOneOf rs [] m → CanTake users m n
-can_none rs users m n b = absurd b.1
-
 -- one variable more, whose maker is o
 module _ (rs : List Record) (xs : List VarName) (i : ℕ) (d : VarName) (within : i < length xs) (o : Option ℕ) (is : (m : ℕ) → (o ≡ Some m) ↔ IsMakerOf rs (get_or xs i d) m) where
   more : (m : ℕ) → MadeOneOf rs (take (i + 1) xs) m → MadeOneOf rs (take i xs) m ⊎ (o ≡ Some m)

@@ -39,11 +39,3 @@ module _ (bytes numbers rest : List ℕ) (has : HasNumbers bytes numbers rest) w
       behind : (ms : List ℕ) → All IsNamed ms → rest ≡ numbers_behind ms → (ks : List ℕ) × All IsNamed ks × (further ≡ numbers_behind ks)
       behind [] all e = let clash : 32 ∷ (decimal n ++ further) ≡ [] = sym begins ∙ e in cc
       behind (m ∷ ms) all e = (ms, others_of IsNamed m ms all, next m ms (first_of IsNamed m ms all) e)
-
-  pub all_numbers : length rest ≡ 0 → bytes ≡ numbers_behind numbers
-  all_numbers none = has.said ∙ ap (λ l. numbers_behind numbers ++ l) (no_bytes rest none) ∙ append-nil (numbers_behind numbers)
-
-  pub something_else : ((ns : List ℕ) → All IsNamed ns → rest ≡ numbers_behind ns → ns ≡ []) → length rest ≢ 0 → (ns : List ℕ) → All IsNamed ns → bytes ≢ numbers_behind ns
-  something_else last some ns all e =
-      let k = has.others ns all e in
-      some (ap length (k.2 ∙ ap numbers_behind (last k.0 k.1 k.2)))

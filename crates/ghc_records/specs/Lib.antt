@@ -12,6 +12,7 @@ pub mod History
 pub mod RecordCode
 pub mod EntryCode
 pub mod State
+pub mod Handles
 pub mod StepText
 pub mod HistoryText
 pub mod HistoryCode

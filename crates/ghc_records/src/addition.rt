@@ -1,11 +1,13 @@
 // Steps to be taken, each with all that this takes.
-ghost use Rattle.std.specs.Prelude.{◌≡◌, length, IfOk};
+ghost use Rattle.std.specs.Prelude.{◌≡◌, IfOk};
 ghost use Rattle.ghc_records.specs.Journal.{took, step_of};
 ghost use Rattle.ghc_records.specs.EntryCode.{entry_of};
+ghost use Rattle.ghc_records.specs.Handles.{goals_of};
 
 use crate::entry::Entry;
+use crate::handles::{Handles, handles_of};
 use crate::record::Record;
-use ghc_term::{Bindings, Goal};
+use ghc_term::Bindings;
 use std::alloc::{AllocError, Global};
 use std::marker::Model;
 
@@ -14,8 +16,7 @@ use std::marker::Model;
 pub struct Addition {
     step: Record,
     entry: Entry,
-    makes: Vec<Goal>,
-    made: u32,
+    makes: Handles,
     binds: Bindings,
 }
 
@@ -25,18 +26,18 @@ impl Drop for Addition {
             step: _step,
             entry: _entry,
             makes: _makes,
-            made: _,
             binds: _binds,
         } = self;
     }
 }
 
 impl Model for Addition {
-    ghost use Rattle.std.specs.Prelude.{◌≡◌, length};
+    ghost use Rattle.std.specs.Prelude.{◌≡◌};
     ghost use Rattle.ghc_records.specs.Record.{Record};
     ghost use Rattle.ghc_records.specs.RecordCode.{record_code};
     ghost use Rattle.ghc_records.specs.Journal.{took, step_of};
     ghost use Rattle.ghc_records.specs.EntryCode.{entry_of};
+    ghost use Rattle.ghc_records.specs.Handles.{goals_of};
 
     ghost Value = { Record };
 
@@ -44,21 +45,7 @@ impl Model for Addition {
 
     ghost view = { λ a. a.step };
 
-    ghost invariant = { λ a. (entry_of a.entry ≡ took (step_of a.step)) × (a.makes.items ≡ a.step.effect.makes)
-        × (a.made ≡ length a.step.effect.makes) × (a.binds ≡ a.step.effect.binds) };
-}
-
-// The goals once more.
-#[inline(always)]
-pub(crate) fn share_goals(alloc: Global, goals: &[Goal]) -> Result<Vec<Goal>, AllocError>
-    ensures { IfOk result (λ shared. shared.items ≡ goals.now) }
-{
-    let mut shared = Vec::new(alloc);
-    shared.reserve_exact(goals.len())?;
-    for goal in goals {
-        shared.push(goal.share()?)?;
-    }
-    Ok(shared)
+    ghost invariant = { λ a. (entry_of a.entry ≡ took (step_of a.step)) × (goals_of a.makes ≡ a.step.effect.makes) × (a.binds ≡ a.step.effect.binds) };
 }
 
 impl Addition {
@@ -70,14 +57,12 @@ impl Addition {
     {
         let entry = Entry::Took(step.share()?);
         let effect = step.effect();
-        let made = effect.made();
-        let makes = share_goals(alloc, effect.makes())?;
+        let makes = handles_of(alloc, effect.piece(), effect.made())?;
         let binds = effect.binds().share()?;
         Ok(Addition {
             step,
             entry,
             makes,
-            made,
             binds,
         })
     }
@@ -89,21 +74,19 @@ impl Addition {
         &self.step
     }
 
-    // The record, its entry, the goals that the step makes, how many they are, and its bindings.
-    pub(crate) fn into_parts(self) -> (Record, Entry, Vec<Goal>, u32, Bindings)
+    // The record, its entry, handles of the goals that the step makes, and its bindings.
+    pub(crate) fn into_parts(self) -> (Record, Entry, Handles, Bindings)
         ensures record { result.0 ≡ self }
         ensures entry { entry_of result.1 ≡ took (step_of self) }
-        ensures makes { result.2.items ≡ self.effect.makes }
-        ensures made { result.3 ≡ length self.effect.makes }
-        ensures binds { result.4 ≡ self.effect.binds }
+        ensures makes { goals_of result.2 ≡ self.effect.makes }
+        ensures binds { result.3 ≡ self.effect.binds }
     {
         let Addition {
             step,
             entry,
             makes,
-            made,
             binds,
         } = self;
-        (step, entry, makes, made, binds)
+        (step, entry, makes, binds)
     }
 }

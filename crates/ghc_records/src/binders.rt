@@ -45,6 +45,7 @@ impl Binders {
     }
 
     // Makes room for as many more variables, which steps up to this number made.
+    #[inline(always)]
     pub(crate) fn reserve(&mut self, count: usize, newest: u32) -> Result<(), AllocError>
         ensures held { self.new.held ≡ self.old.held }
         ensures room { OnOk result (count ≤ self.new.room) }
@@ -54,6 +55,7 @@ impl Binders {
     }
 
     // Puts the step under each variable that it bound, where there is room: one look-up for each.
+    #[inline(always)]
     pub(crate) fn put_all(&mut self, binds: &Bindings, number: u32)
         requires { finite.len binds.now ≤ self.old.room }
         ensures { (y : VarName) → finite.get self.new.held y ≡ if is_some (value_at binds.now y) then Some number else finite.get self.old.held y }

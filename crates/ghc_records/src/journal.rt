@@ -73,6 +73,6 @@ impl Journal {
         ensures held { self.new.held ≡ self.old.held ++ entry_of entry ∷ [] }
         ensures room { self.old.room ≤ self.new.room + 1 }
     {
-        self.entries.push(entry).unwrap();
+        self.entries.push_reserved(entry);
     }
 }

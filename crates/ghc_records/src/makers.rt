@@ -9,6 +9,7 @@ use ghc_term::VarName;
 use std::alloc::AllocError;
 
 // The number of the step that made the variable, if one of these did: one look-up.
+#[inline(never)]
 fn maker_of(slots: &Slots, x: VarName) -> Option<u32>
     ensures { (m : ℕ) → (result ≡ Some m) ↔ IsMakerOf (held_in slots.now.held) x m }
 {
@@ -24,6 +25,7 @@ fn maker_of(slots: &Slots, x: VarName) -> Option<u32>
 
 // Makes room for one more number under each step that made one of the variables, of a record of so many slots: some look-ups for
 // each.
+#[inline(always)]
 pub(crate) fn reserve_under_makers(
     users: &mut Users,
     slots: &Slots,
@@ -41,6 +43,7 @@ pub(crate) fn reserve_under_makers(
 }
 
 // Puts a number under each step that made one of the variables, where there is room: some look-ups for each.
+#[inline(always)]
 pub(crate) fn put_under_makers(users: &mut Users, slots: &Slots, xs: &[VarName], user: u32)
     requires { (m : ℕ) → MadeOneOf (held_in slots.now.held) xs.now m → CanTake users.old m user }
     ensures { (m n : ℕ) → IsUser users.new m n ↔ (IsUser users.old m n ⊎ (MadeOneOf (held_in slots.now.held) xs.now m × (n ≡ user))) }

@@ -1,5 +1,5 @@
 // Sets of the numbers of steps.
-ghost use Rattle.std.specs.Prelude.{◌≡◌, ◌≢◌, ◌↔◌, ◌⊎◌, ◌+◌, ◌<◌, ◌≤◌, [], ℕ, length, vec_len, vec_capacity, IfOk, OnOk};
+ghost use Rattle.std.specs.Prelude.{◌≡◌, ◌≢◌, ◌↔◌, ◌⊎◌, ◌+◌, ◌<◌, ◌≤◌, [], ℕ, length, vec_len, vec_capacity, IfOk, OnOk, IsTrue};
 ghost use Rattle.indexmap.specs.IndexSet.{spare};
 ghost use Rattle.ghc_term.specs.Lists.{In};
 ghost use Rattle.ghc_records.specs.Orders.{AreDistinct};
@@ -79,8 +79,18 @@ fn tabled(alloc: Global, numbers: &[u32]) -> Result<Box<NameSet<u32>>, AllocErro
     Ok(Box::new(alloc, table)?)
 }
 
+// Adds a number to a table that has it already, or has room for it: one look-up.
+#[inline(never)]
+fn put_tabled(table: &mut NameSet<u32>, number: u32)
+    requires { (0 < spare table.old) ⊎ In number table.old.keys }
+    ensures numbers { (n : ℕ) → In n table.new.keys ↔ (In n table.old.keys ⊎ (n ≡ number)) }
+    ensures room { spare table.old ≤ spare table.new + 1 }
+{
+    table.insert(number).unwrap();
+}
+
 impl Held {
-    ghost use Rattle.ghc_records.specs.NumberSet.{numbers_of, IsFew};
+    ghost use Rattle.ghc_records.specs.NumberSet.{numbers_of, room_of, IsFew};
 
     // The allocator.
     fn allocator(&self) -> Global {
@@ -91,6 +101,17 @@ impl Held {
             Held::Three(alloc, _) => *alloc,
             Held::Listed(list) => *list.allocator(),
             Held::Tabled(table) => *table.allocator(),
+        }
+    }
+
+    // Whether there is room for one more number in the set itself: one test.
+    #[inline(always)]
+    fn has_place(&self) -> bool
+        ensures { IsTrue result → 0 < room_of self.now }
+    {
+        match self {
+            Held::Nothing(_) | Held::One(_, _) | Held::Two(_, _) => true,
+            Held::Three(_, _) | Held::Listed(_) | Held::Tabled(_) => false,
         }
     }
 
@@ -128,9 +149,16 @@ impl NumberSet {
         self.held.as_slice()
     }
 
+    // Whether one more number needs no memory, as the set itself has a place for it: one test.
+    #[inline(always)]
+    pub(crate) fn has_place(&self) -> bool
+        ensures { IsTrue result → 0 < self.now.room }
+    {
+        self.held.has_place()
+    }
+
     // Makes room for one more number: only a fourth one needs memory, and each after it may. A list of 1,024
     // becomes a table, by a look-up for each of them, and stays one.
-    #[inline(always)]
     pub(crate) fn reserve(&mut self) -> Result<(), AllocError>
         ensures held { self.new.held ≡ self.old.held }
         ensures room { OnOk result (0 < self.new.room) }
@@ -180,9 +208,7 @@ impl NumberSet {
             // Three have no room for a fourth, so that the number is one of them.
             Held::Three(_, _) => {}
             Held::Listed(list) => put_rising(list, number),
-            Held::Tabled(table) => {
-                table.insert(number).unwrap();
-            }
+            Held::Tabled(table) => put_tabled(table, number),
         }
     }
 

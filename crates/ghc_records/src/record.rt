@@ -2,7 +2,7 @@
 ghost use Rattle.std.specs.Prelude.{◌≡◌, IfOk};
 
 use crate::step::Step;
-use ghc_fire::{Act, Effect};
+use ghc_fire::{Act, Effect, MadeGoal};
 use ghc_term::{Goal, GoalName};
 use std::alloc::{AllocError, Global};
 use std::marker::Model;
@@ -20,7 +20,7 @@ struct Parts {
     number: u32,
     goal: Option<GoalName>,
     act: Act,
-    consumed: Option<Goal>,
+    consumed: Option<MadeGoal>,
     effect: Effect,
 }
 
@@ -56,7 +56,7 @@ impl Record {
         alloc: Global,
         number: u32,
         goal: Option<GoalName>,
-        consumed: Option<Goal>,
+        consumed: Option<MadeGoal>,
         act: Act,
         effect: Effect,
     ) -> Result<Record, AllocError>
@@ -99,6 +99,16 @@ impl Record {
 
     /// The goal that the step consumed, as written, if it consumed one.
     pub fn consumed(&self) -> Option<&Goal>
+        ensures { option_copied result ≡ self.now.consumed }
+    {
+        match self.consumed_handle() {
+            Some(made) => Some(made.goal()),
+            None => None,
+        }
+    }
+
+    /// The handle of the goal that the step consumed, if it consumed one.
+    pub fn consumed_handle(&self) -> Option<&MadeGoal>
         ensures { option_copied result ≡ self.now.consumed }
     {
         self.parts.consumed.as_ref()

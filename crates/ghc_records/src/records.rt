@@ -6,7 +6,7 @@ ghost use Rattle.ghc_records.specs.UseIndex.{StepDependsOn, StepBinds, HasRoomTo
 
 use crate::record::Record;
 use crate::slots::Slots;
-use crate::use_index::UseIndex;
+use crate::use_index::{UseIndex, step_of_name};
 use ghc_term::VarName;
 use std::alloc::{AllocError, Global};
 use std::marker::Model;
@@ -68,6 +68,7 @@ impl Records {
     }
 
     /// The record of the step of this number: one look-up.
+    #[inline(always)]
     pub fn get(&self, number: u32) -> Option<&Record>
         ensures found { IfSome result (λ r. In r.now self.now.held × (r.now.number ≡ number)) }
         ensures none { IfNone result ((r : Record) → In r self.now.held → r.number ≢ number) }
@@ -124,6 +125,7 @@ impl Records {
 
     // The number of the step that made the goal that the step consumed, if it consumed one that a step of the record made: one
     // look-up.
+    #[inline(always)]
     fn maker_for(&self, step: &Record) -> Option<u32>
         ensures { (m : ℕ) → (result ≡ Some m) ↔ IsMakerFor self.now.held step.now m }
     {
@@ -148,9 +150,10 @@ impl Records {
         ensures room { OnOk result (HasRoomToKeep self.new.held self.new.room step.now) }
         ensures kept { (r : Record) → HasRoomToKeep self.old.held self.old.room r → HasRoomToKeep self.new.held self.new.room r }
     {
-        let maker = self.maker_for(step);
+        // Room under the step that the goal's name names is enough, whether that step made the goal or not.
+        let named = step_of_name(step.goal());
         let slots = self.slots.slot_count();
-        self.index.reserve(maker, step, slots)?;
+        self.index.reserve(named, step, slots)?;
         self.index.reserve_named(&self.slots, step)?;
         self.slots.reserve()
     }

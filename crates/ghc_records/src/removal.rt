@@ -2,7 +2,7 @@
 ghost use Rattle.std.specs.Prelude.{◌≡◌, length, option_copied, IfOk};
 
 use crate::record::Record;
-use ghc_term::Goal;
+use ghc_fire::MadeGoal;
 use std::alloc::AllocError;
 use std::marker::Model;
 
@@ -10,7 +10,7 @@ use std::marker::Model;
 /// away takes no memory but the room for an entry in each table.
 pub struct Removal {
     step: Record,
-    consumed: Option<Goal>,
+    consumed: Option<MadeGoal>,
     made: u32,
 }
 
@@ -39,7 +39,7 @@ impl Model for Removal {
 }
 
 // The goal once more, if there is one.
-fn shared(goal: Option<&Goal>) -> Result<Option<Goal>, AllocError>
+fn shared(goal: Option<&MadeGoal>) -> Result<Option<MadeGoal>, AllocError>
     ensures { IfOk result (λ g. g ≡ option_copied goal.entry) }
 {
     match goal {
@@ -54,7 +54,7 @@ impl Removal {
         ensures { IfOk result (λ r. r ≡ step.now) }
     {
         let made = step.effect().made();
-        let consumed = shared(step.consumed())?;
+        let consumed = shared(step.consumed_handle())?;
         Ok(Removal {
             step: step.share()?,
             consumed,
@@ -70,7 +70,7 @@ impl Removal {
     }
 
     // The record, the goal that its step consumed, and how many goals that made.
-    pub(crate) fn into_parts(self) -> (Record, Option<Goal>, u32)
+    pub(crate) fn into_parts(self) -> (Record, Option<MadeGoal>, u32)
         ensures record { result.0 ≡ self }
         ensures consumed { result.1 ≡ self.consumed }
         ensures made { result.2 ≡ length self.effect.makes }

@@ -46,6 +46,7 @@ fn is_above(list: &[u32], number: u32) -> bool
 
 // Adds a number that is there already, or for which there is room: one step where it is greater than all others, else a search by
 // halves and a move of those behind it.
+#[inline(never)]
 pub(crate) fn put_rising(list: &mut Vec<u32>, number: u32)
     requires rising { IsRising list.old.items }
     requires room { (vec_len list.old < vec_capacity list.old) ⊎ In number list.old.items }

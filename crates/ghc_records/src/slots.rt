@@ -8,6 +8,7 @@ ghost use Rattle.ghc_records.specs.Record.{Record as record_spec, numbers};
 ghost use Rattle.ghc_records.specs.Slots.{held_in, StandsIn, HasNumberIn, AreStraysOf};
 
 use crate::record::Record;
+use crate::strays::{put_stray, reserve_stray, stray_place};
 use ghc_term::NameMap;
 use indexmap::IndexMap;
 use std::alloc::{AllocError, Global};
@@ -23,10 +24,12 @@ pub(crate) struct Slots {
     slots: Vec<Option<Record>>,
     strays: NameMap<u32, usize>,
     count: usize,
+    // whether the table is known to take one more stray without memory
+    takes_stray: bool,
 }
 
 impl Model for Slots {
-    ghost use Rattle.std.specs.Prelude.{◌≡◌, ◌-◌, min, length, vec_len, vec_capacity};
+    ghost use Rattle.std.specs.Prelude.{◌≡◌, ◌-◌, ◌<◌, true, min, length, vec_len, vec_capacity};
     ghost use Rattle.std.specs.FinMap as finite;
     ghost use Rattle.indexmap.specs.IndexMap.{spare};
     ghost use Rattle.ghc_term.specs.Table.{Table, table_code};
@@ -41,7 +44,8 @@ impl Model for Slots {
 
     ghost view = { λ s. record { held = s.slots.items; room = min (vec_capacity s.slots - vec_len s.slots) (spare s.strays) } };
 
-    ghost invariant = { λ s. AreDistinct (numbers (held_in s.slots.items)) × (s.count ≡ length (held_in s.slots.items)) × AreStraysOf s.slots.items (finite.from_entries s.strays.entries) };
+    ghost invariant = { λ s. AreDistinct (numbers (held_in s.slots.items)) × (s.count ≡ length (held_in s.slots.items)) × AreStraysOf s.slots.items (finite.from_entries s.strays.entries)
+        × (s.takes_stray ≡ true → 0 < spare s.strays) };
 }
 
 // The record in the slot of this place, if it has one: one step.
@@ -95,6 +99,7 @@ impl Slots {
             slots: Vec::new(alloc),
             strays: IndexMap::with_hasher(alloc, BuildHasherDefault::new()),
             count: 0,
+            takes_stray: false,
         }
     }
 
@@ -140,7 +145,7 @@ impl Slots {
         if let Some(place) = self.likely_place_of(number) {
             return Some(place);
         }
-        strays.get(&number).copied()
+        stray_place(strays, number)
     }
 
     // The record in the slot of this place, if it has one: one step.
@@ -151,8 +156,9 @@ impl Slots {
         record_in(self.slots.as_slice(), place)
     }
 
-    // The record of the step of this number: one look-up.
-    pub(crate) fn get(&self, number: u32) -> Option<&Record>
+    // The record of the step of this number, wherever it stands: one look-up.
+    #[inline(never)]
+    fn find(&self, number: u32) -> Option<&Record>
         ensures found { IfSome result (λ r. In r.now (held_in self.now.held) × (r.now.number ≡ number)) }
         ensures none { IfNone result ((r : Record) → In r (held_in self.now.held) → r.number ≢ number) }
     {
@@ -162,17 +168,49 @@ impl Slots {
         }
     }
 
-    // Makes room for one more record. The records stay, and so does the room where memory is refused.
-    pub(crate) fn reserve(&mut self) -> Result<(), AllocError>
+    // The record of the step of this number: one step where it stands at the likely place, or else one look-up.
+    #[inline(always)]
+    pub(crate) fn get(&self, number: u32) -> Option<&Record>
+        ensures found { IfSome result (λ r. In r.now (held_in self.now.held) × (r.now.number ≡ number)) }
+        ensures none { IfNone result ((r : Record) → In r (held_in self.now.held) → r.number ≢ number) }
+    {
+        if let Some(place) = self.likely_place_of(number) {
+            return self.at(place);
+        }
+        self.find(number)
+    }
+
+    // Makes room for one more record where it is not known to be there.
+    #[inline(never)]
+    fn make_room(&mut self) -> Result<(), AllocError>
         ensures held { self.new.held ≡ self.old.held }
         ensures room { OnOk result (0 < self.new.room) }
         ensures kept { self.old.room ≤ self.new.room }
     {
         self.slots.reserve(1)?;
-        self.strays.reserve(1)
+        if self.takes_stray {
+            return Ok(());
+        }
+        reserve_stray(&mut self.strays)?;
+        self.takes_stray = true;
+        Ok(())
+    }
+
+    // Makes room for one more record: mostly two tests. The records stay, and so does the room where memory is refused.
+    #[inline(always)]
+    pub(crate) fn reserve(&mut self) -> Result<(), AllocError>
+        ensures held { self.new.held ≡ self.old.held }
+        ensures room { OnOk result (0 < self.new.room) }
+        ensures kept { self.old.room ≤ self.new.room }
+    {
+        if self.takes_stray && self.slots.len() < self.slots.capacity() {
+            return Ok(());
+        }
+        self.make_room()
     }
 
     // Puts a record in a slot behind the others, whose number no other has, where there is room: one look-up if it is a stray.
+    #[inline(always)]
     pub(crate) fn put(&mut self, step: Record)
         requires room { 0 < self.old.room }
         requires new { (r : Record) → In r (held_in self.old.held) → r.number ≢ step.number }
@@ -180,7 +218,8 @@ impl Slots {
     {
         let place = self.slots.len();
         if !is_just_below(place, step.number()) {
-            self.strays.insert(step.number(), place).unwrap();
+            self.takes_stray = false;
+            put_stray(&mut self.strays, step.number(), place);
         }
         self.count += 1;
         self.slots.push_reserved(Some(step));
@@ -196,6 +235,7 @@ impl Slots {
         let place = self.place_of(number)?;
         let removed = mem::replace(&mut self.slots[place], None);
         if !is_just_below(place, number) {
+            self.takes_stray = false;
             self.strays.swap_remove(&number);
         }
         self.count -= 1;
@@ -213,6 +253,7 @@ impl Slots {
         };
         self.slots.retain(|slot: &Option<Record>| slot.is_some());
         self.strays = strays;
+        self.takes_stray = false;
     }
 
     // Takes the record of the step of this number out, if there is one; the others keep their order. Two look-ups at most; where

@@ -2,13 +2,14 @@
 ghost use Rattle.std.specs.Prelude.{◌≡◌, ◌+◌, ◌<◌, ◌≤◌, length, IfOk, OnOk};
 ghost use Rattle.ghc_flat.specs.Flat.{most_goals};
 
-use crate::addition::{Addition, share_goals};
+use crate::addition::Addition;
 use crate::binding::unbind_all;
 use crate::entry::Entry;
+use crate::handles::handles_of;
 use crate::making::{consume_goal, make_goals, restore_consumed, unmake_goals};
 use crate::record::Record;
 use crate::removal::Removal;
-use ghc_fire::Goals;
+use ghc_fire::{Goals, Made};
 use ghc_term::{Goal, Store};
 use std::alloc::{AllocError, Global};
 use std::marker::Model;
@@ -39,6 +40,18 @@ impl Model for State {
     ghost view = { λ s. record { held = record { goals = s.goals.held; store = s.store.held }; room = record { goals = s.goals.room; bindings = s.store.room } } };
 }
 
+// The goals once more.
+fn share_goals(alloc: Global, goals: &[Goal]) -> Result<Vec<Goal>, AllocError>
+    ensures { IfOk result (λ shared. shared.items ≡ goals.now) }
+{
+    let mut shared = Vec::new(alloc);
+    shared.reserve_exact(goals.len())?;
+    for goal in goals {
+        shared.push(goal.share()?)?;
+    }
+    Ok(shared)
+}
+
 impl State {
     ghost use Rattle.ghc_term.specs.Bindings.{IsAcyclic};
     ghost use Rattle.ghc_term.specs.Store.{value_at};
@@ -54,10 +67,11 @@ impl State {
         requires { length query.now ≤ most_goals }
         ensures { IfOk result (λ s. s.held ≡ query_state query.now) }
     {
-        let shared = share_goals(alloc, query)?;
+        let shared = Made::of(alloc, share_goals(alloc, query)?)?;
+        let handles = handles_of(alloc, &shared, query.len() as u32)?;
         let mut goals = Goals::new(alloc);
-        goals.reserve(query.len())?;
-        make_goals(&mut goals, 0, shared, query.len() as u32);
+        goals.reserve(query.len(), 0)?;
+        make_goals(&mut goals, 0, handles, query.len() as u32);
         Ok(State {
             goals,
             store: Store::new(alloc),
@@ -78,12 +92,12 @@ impl State {
         &self.store
     }
 
-    /// Makes room for as many more goals. The state stays, and so does the room where memory is refused.
-    pub fn reserve_goals(&mut self, count: usize) -> Result<(), AllocError>
+    /// Makes room for as many more goals that steps up to this one made. The state stays, and so does the room where memory is refused.
+    pub fn reserve_goals(&mut self, count: usize, newest: u32) -> Result<(), AllocError>
         ensures held { self.new.held ≡ self.old.held }
         ensures room { OnOk result (count ≤ self.new.room.goals) }
     {
-        self.goals.reserve(count)
+        self.goals.reserve(count, newest)
     }
 
     /// Makes room to take this step. The state stays, and so does the room where memory is refused.
@@ -92,7 +106,7 @@ impl State {
         ensures room { OnOk result (HasRoomToTake self.new.room step.now) }
     {
         let effect = step.effect();
-        self.goals.reserve(effect.makes().len())?;
+        self.goals.reserve(effect.makes().len(), step.number())?;
         self.store.reserve(effect.binds().len(), step.number())
     }
 
@@ -107,7 +121,8 @@ impl State {
         ensures entry { entry_of result.1 ≡ took (step_of addition) }
         ensures state { self.new.held ≡ after self.old.held addition }
     {
-        let (step, entry, makes, made, binds) = addition.into_parts();
+        let (step, entry, makes, binds) = addition.into_parts();
+        let made = step.effect().made();
         consume_goal(&mut self.goals, step.goal());
         make_goals(&mut self.goals, step.number(), makes, made);
         self.store.put(binds);

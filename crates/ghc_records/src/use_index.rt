@@ -36,6 +36,7 @@ impl Model for UseIndex {
 
 // Makes room for one more number under each step that bound one of the variables, of a record of so many slots: some look-ups for
 // each.
+#[inline(always)]
 fn reserve_under(
     users: &mut Users,
     binders: &Binders,
@@ -53,6 +54,7 @@ fn reserve_under(
 }
 
 // Puts a number under each step that bound one of the variables, where there is room: some look-ups for each.
+#[inline(always)]
 fn put_under(users: &mut Users, binders: &Binders, xs: &[VarName], user: u32)
     requires { (m : ℕ) → BoundOneOf binders.now.held xs.now m → CanTake users.old m user }
     ensures room { (m : ℕ) → CanTake users.old m user → CanTake users.new m user }
@@ -72,8 +74,9 @@ fn take_from_under(users: &mut Users, binders: &Binders, xs: &[VarName], user: u
     }
 }
 
-// The number of the step that made the goal of this name, by the name.
-fn step_of_name(goal: Option<GoalName>) -> Option<u32>
+// The number of the step that made the goal of this name, if one did, by the name.
+#[inline(always)]
+pub(crate) fn step_of_name(goal: Option<GoalName>) -> Option<u32>
     ensures { result ≡ step_named goal }
 {
     match goal {
@@ -110,6 +113,7 @@ impl UseIndex {
 
     // Makes room for a step, whose goal the maker made, if one did, of a record of so many slots: some look-ups for each variable
     // that it reads.
+    #[inline(always)]
     pub(crate) fn reserve(
         &mut self,
         maker: Option<u32>,
@@ -136,6 +140,7 @@ impl UseIndex {
 
     // Puts a step in whose goal the maker made, if one did, where there is room: some look-ups for each variable that it reads,
     // and one for each that it binds.
+    #[inline(always)]
     pub(crate) fn put(&mut self, maker: Option<u32>, step: &Record)
         requires taking { (m : ℕ) → Gave self.old.binders.held maker step.now.effect.reads m → CanTake self.old.users m step.now.number }
         requires binding { finite.len step.now.effect.binds ≤ self.old.binders.room }
@@ -174,6 +179,7 @@ impl UseIndex {
     }
 
     // Makes room for a step under each step of the record that made a variable that it names, at the cost of some look-ups for each.
+    #[inline(always)]
     pub(crate) fn reserve_named(&mut self, slots: &Slots, step: &Record) -> Result<(), AllocError>
         ensures users { (m : ℕ) → users_at self.new.users m ≡ users_at self.old.users m }
         ensures binders { self.new.binders ≡ self.old.binders }
@@ -185,6 +191,7 @@ impl UseIndex {
     }
 
     // Puts a step under each step of the record that made a variable that it names, where there is room: some look-ups for each.
+    #[inline(always)]
     pub(crate) fn put_named(&mut self, slots: &Slots, step: &Record)
         requires { (m : ℕ) → MadeOneOf (held_in slots.now.held) (variables_asked step.now.act) m → CanTake self.old.users m step.now.number }
         ensures users { (m n : ℕ) → IsUser self.new.users m n ↔ (IsUser self.old.users m n ⊎ (MadeOneOf (held_in slots.now.held) (variables_asked step.now.act) m × (n ≡ step.now.number))) }

@@ -1,5 +1,5 @@
 // Which steps used what a step gave.
-ghost use Rattle.std.specs.Prelude.{◌≡◌, ◌≢◌, ◌↔◌, ◌⊎◌, ◌+◌, ◌<◌, ◌≤◌, [], ℕ, length, max, OnOk, Some};
+ghost use Rattle.std.specs.Prelude.{◌≡◌, ◌≢◌, ◌↔◌, ◌⊎◌, ◌+◌, ◌^◌, ◌<◌, ◌≤◌, [], ℕ, length, max, OnOk, IsTrue, Some};
 ghost use Rattle.std.specs.FinMap as finite;
 ghost use Rattle.ghc_records.specs.UseIndex.{users_at, IsUser, CanTake, HasGrown};
 
@@ -9,6 +9,9 @@ use indexmap::IndexMap;
 use std::alloc::{AllocError, Global};
 use std::hash::BuildHasherDefault;
 use std::marker::Model;
+
+// How many places the list grows by past the one that is asked for, so that it grows once for many steps.
+const FURTHER: usize = 15;
 
 // How far a number may be past the list and past the slots of a record, and its step still stands in the list.
 const MOST_AHEAD: usize = 16;
@@ -34,13 +37,16 @@ impl Model for Users {
 
 // Makes the list longer, by sets of no numbers, until it has this place, and no further. What it grew by stays where memory is refused.
 fn grow(sets: &mut Vec<NumberSet>, place: usize) -> Result<(), AllocError>
+    requires { place < 2 ^ 63 }
     ensures grown { HasGrown sets.old.items sets.new.items }
     ensures place { OnOk result (place < length sets.new.items) }
     ensures no_further { length sets.new.items ≤ max (length sets.old.items) (place + 1) }
 {
     let alloc = *sets.allocator();
-    for _ in sets.len()..=place {
-        sets.push(NumberSet::new(alloc))?;
+    let more = (place + 1).saturating_sub(sets.len());
+    sets.reserve(more)?;
+    for _ in 0..more {
+        sets.push_reserved(NumberSet::new(alloc));
     }
     Ok(())
 }
@@ -69,8 +75,9 @@ impl Users {
         }
     }
 
-    // Makes the list longer until it has the step, of a record of so many slots: one step for each place that it grows by. Where the
-    // table has a step, or the number is more than a few past list and slots, the list stays, so that no number makes it large.
+    // Makes the list longer until it has the step, of a record of so many slots, and a few more: one step for each place that it grows
+    // by. Where the table has a step, or the number is more than a few past list and slots, the list stays, so that no number makes it
+    // large.
     fn widen(&mut self, step: u32, slots: usize) -> Result<(), AllocError>
         ensures held { (m : ℕ) → users_at self.new m ≡ users_at self.old m }
         ensures kept { (m n : ℕ) → CanTake self.old m n → CanTake self.new m n }
@@ -81,11 +88,23 @@ impl Users {
         if is_there || !self.far.is_empty() || place > most {
             return Ok(());
         }
-        grow(&mut self.near, place)
+        grow(&mut self.near, place + FURTHER)
+    }
+
+    // Whether one more number under the step needs no memory, as the list has its set and that a place: one step.
+    #[inline(always)]
+    fn has_place(&self, step: u32) -> bool
+        ensures { IsTrue result → (n : ℕ) → CanTake self.now step n }
+    {
+        match self.near.get(step as usize) {
+            Some(users) => users.has_place(),
+            None => false,
+        }
     }
 
     // Makes room for one more number under the step, of a record of so many slots: one step, and one for each place that the list
     // grows by, or some look-ups.
+    #[inline(never)]
     fn reserve(&mut self, step: u32, slots: usize) -> Result<(), AllocError>
         ensures held { (m : ℕ) → users_at self.new m ≡ users_at self.old m }
         ensures room { OnOk result ((n : ℕ) → CanTake self.new step n) }
@@ -106,6 +125,7 @@ impl Users {
     }
 
     // Puts a number under the step, where it stands already or there is room: one step, or two look-ups.
+    #[inline(always)]
     fn put(&mut self, step: u32, user: u32)
         requires { CanTake self.old step user }
         ensures users { (m n : ℕ) → IsUser self.new m n ↔ (IsUser self.old m n ⊎ ((m ≡ step) × (n ≡ user))) }
@@ -147,20 +167,24 @@ impl Users {
         self.far.swap_remove(&step);
     }
 
-    // Makes room for one more number under the step, if one is named, of a record of so many slots.
+    // Makes room for one more number under the step, if one is named, of a record of so many slots: mostly one step.
     #[inline(always)]
     pub(crate) fn reserve_at(&mut self, step: Option<u32>, slots: usize) -> Result<(), AllocError>
         ensures held { (m : ℕ) → users_at self.new m ≡ users_at self.old m }
         ensures room { OnOk result ((m n : ℕ) → step ≡ Some m → CanTake self.new m n) }
         ensures kept { (m n : ℕ) → CanTake self.old m n → CanTake self.new m n }
     {
-        match step {
-            Some(step) => self.reserve(step, slots),
-            None => Ok(()),
+        let Some(step) = step else {
+            return Ok(());
+        };
+        if self.has_place(step) {
+            return Ok(());
         }
+        self.reserve(step, slots)
     }
 
     // Puts a number under the step, if one is named, where it stands already or there is room.
+    #[inline(always)]
     pub(crate) fn put_at(&mut self, step: Option<u32>, user: u32)
         requires { (m : ℕ) → step ≡ Some m → CanTake self.old m user }
         ensures users { (m n : ℕ) → IsUser self.new m n ↔ (IsUser self.old m n ⊎ ((step ≡ Some m) × (n ≡ user))) }

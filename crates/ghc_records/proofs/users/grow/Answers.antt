@@ -5,13 +5,11 @@ use Rattle.ghc_records.proofs.users.grow.Goals as goal
 
 pub loop-preserved : goal.loop-preserved
 loop-preserved c =
-    let more = grown_once c.args.sets.now.items c.loop.sets.items c.new.result c.loop.invariant.0 c.new.ensures.held in (
-      subst (HasGrown c.args.sets.now.items) (sym c.in_ok-push.ensures.items) more,
-      omega (arith, c.loop.invariant.1, c.in_ok-push.ensures.len, c.push.new.self.ok.0, c.loop.sets.ok.0),
-      omega (arith, c.loop.invariant.1, c.loop-test.true, c.in_ok-push.ensures.len, c.push.new.self.ok.0, c.loop.sets.ok.0),
+    let more = grown_once c.reserve.new.self.items c.loop.sets.items c.new.result c.loop.invariant.0 c.new.ensures.held in (
+      subst (HasGrown c.reserve.new.self.items) (sym c.push_reserved.ensures.items) more,
+      omega (arith, c.loop.invariant.1, c.push_reserved.ensures.len),
+      omega (arith, c.loop.invariant.2, c.push_reserved.ensures.capacity),
     )
 
-pub returns-in_ok-push-clause-grown : goal.returns-in_ok-push-clause-grown
-returns-in_ok-push-clause-grown c =
-    let more = grown_once c.args.sets.now.items c.loop.sets.items c.new.result c.loop.invariant.0 c.new.ensures.held in
-    subst (HasGrown c.args.sets.now.items) (sym c.in_ok-push.ensures.items) more
+pub returns-clause-grown : goal.returns-clause-grown
+returns-clause-grown c = subst (λ l. HasGrown l c.loop.sets.items) c.reserve.ensures.items c.loop.invariant.0

@@ -1,19 +1,20 @@
-use Rattle.std.proofs.Common.{◌≡◌, ◌⊎◌, ◌<◌, [], ◌∷◌, is_ok, sym, ap, ◌∙◌, subst, inl, inr}
+use Rattle.std.proofs.Common.{◌≡◌, ◌⊎◌, ◌<◌, [], ◌∷◌, sym, ap, ◌∙◌, subst, inl, inr}
 use Rattle.std.specs.Prelude.{◌↔◌}
 use Rattle.indexmap.specs.IndexSet.{spare}
 use Rattle.ghc_term.specs.Lists.{In}
-use Rattle.ghc_term.proofs.Indexed.{done}
 use Rattle.ghc_records.specs.NumberSet.{numbers_of, room_of}
-use Rattle.ghc_records.proofs.NumberSets.{found, succeeds_with, number_put}
+use Rattle.ghc_records.proofs.NumberSets.{found}
 use Rattle.ghc_records.proofs.number_set.NumberSet.put.Goals as goal
 use Rattle.ghc_records.proofs.number_set.NumberSet.put.Goals.{in-Listed-2, in-Tabled-2, in-Nothing-2, in-Listed-3, in-Tabled-3, in-Nothing-3}
 
-pub unwrap-requires : goal.unwrap-requires
-unwrap-requires c =
-    let table = c.deref_mut-in-Tabled.result.now in
-    let here = ap (λ t. t.keys) c.deref_mut-in-Tabled.ensures.value ∙ ap numbers_of (sym c.in-Tabled.is) ∙ ap (λ t. t.held) c.self.view_is in
+pub put_tabled-requires : goal.put_tabled-requires
+put_tabled-requires c =
+    let keys = ap (λ t. t.keys) c.deref_mut-in-Tabled.ensures.value ∙ ap numbers_of (sym c.in-Tabled.is) ∙ ap (λ t. t.held) c.self.view_is in
     let room = ap spare c.deref_mut-in-Tabled.ensures.value ∙ ap room_of (sym c.in-Tabled.is) ∙ ap (λ t. t.room) c.self.view_is in
-    succeeds_with c.insert.result table.keys c.args.self.now.held c.args.number here (λ r. c.insert.ensures.succeeds (subst (λ k. 0 < k) (sym room) r)) c.insert.ensures.absent c.requires
+    elim c.requires [
+      | inl r ↦ inl (subst (λ k. 0 < k) (sym room) r)
+      | inr i ↦ inr (subst (In c.args.number) (sym keys) i)
+    ]
 
 pub returns-else-not-contains-clause-numbers : goal.returns-else-not-contains-clause-numbers
 returns-else-not-contains-clause-numbers c n =
@@ -24,10 +25,8 @@ returns-else-not-contains-clause-numbers c n =
 
 pub returns-in-Tabled-clause-numbers : goal.returns-in-Tabled-clause-numbers
 returns-in-Tabled-clause-numbers c n =
-    let table = c.deref_mut-in-Tabled.result.now in
     let here = ap (λ t. t.keys) c.deref_mut-in-Tabled.ensures.value ∙ ap numbers_of (sym c.in-Tabled.is) ∙ ap (λ t. t.held) c.self.view_is in
-    subst (λ l. In n c.insert.new.self.keys ↔ (In n l ⊎ (n ≡ c.args.number))) here
-    (number_put table.keys c.insert.new.self.keys c.args.number (done c.insert.result (ap is_ok c.unwrap.ensures) c.insert.ensures.updates).0 n)
+    subst (λ l. In n c.put_tabled.new.table.keys ↔ (In n l ⊎ (n ≡ c.args.number))) here (c.put_tabled.ensures.numbers n)
 
 pub returns-then-one-number-clause-numbers : goal.returns-then-one-number-clause-numbers
 returns-then-one-number-clause-numbers c n =

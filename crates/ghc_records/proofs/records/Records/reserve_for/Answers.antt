@@ -1,12 +1,11 @@
-use Rattle.std.proofs.Common.{◌≡◌, ◌≤◌, ℕ, refl, sym, ap, subst, ◌∙◌, arith, inl, inr}
+use Rattle.std.proofs.Common.{◌≡◌, ◌≤◌, refl, sym, ap, subst, ◌∙◌, arith, inl, inr}
 use Rattle.std.proofs.lemmas.Result.{on_ok_weaker}
 use Rattle.ghc_term.specs.Lists.{In}
 use Rattle.std.specs.FinMap as finite
-use Rattle.std.specs.Prelude.{◌↔◌, Some}
 use Rattle.ghc_records.specs.Slots.{held_in}
 use Rattle.ghc_term.specs.Table.{Table}
-use Rattle.ghc_records.specs.UseIndex.{BindersByVariable, RecordsTables, IsIndexOf, HasRoomToKeep, IsMakerFor}
-use Rattle.ghc_records.proofs.IndexOf.{index_same, gave_to}
+use Rattle.ghc_records.specs.UseIndex.{BindersByVariable, RecordsTables, IsIndexOf, HasRoomToKeep, step_named}
+use Rattle.ghc_records.proofs.IndexOf.{Gives, index_same, given_by_name}
 use Rattle.ghc_records.proofs.records.Records.reserve_for.Goals as goal
 
 pub invariant_of-self : goal.invariant_of-self
@@ -44,14 +43,13 @@ returns-clause-kept c r h =
 pub returns-clause-room : goal.returns-clause-room
 returns-clause-room c =
     let r = c.args.step.now in
-    let same = ap (λ (t : RecordsTables). t.held) c.self.view_is in
-    let made = subst (λ l. (m : ℕ) → (c.maker_for-maker.result ≡ Some m) ↔ IsMakerFor l r m) (sym same) c.maker_for-maker.ensures in
     let rs = held_in c.self.inside.slots.held in
-    let given = gave_to rs c.self.inside.index.users c.self.inside.index.binders.held c.self.invariant r c.maker_for-maker.result made in
+    let binders = c.self.inside.index.binders.held in
+    let named : c.step_of_name-named.result ≡ step_named r.goal = c.step_of_name-named.ensures ∙ ap step_named c.goal.ensures in
     on_ok_weaker c.reserve-2.result (λ fits. (
       omega (arith, fits),
       subst (λ (b : Table BindersByVariable). finite.len r.effect.binds ≤ b.room) (sym c.reserve_named.ensures.binders) c.in_ok-reserve.ensures.binding,
-      λ a i u. elim (given a.number a (subst (λ ss. In a (held_in ss)) c.reserve-2.ensures.held i) refl u) [
+      λ a i u. elim (subst (λ o. Gives rs binders o r a.number) (sym named) (given_by_name rs c.self.inside.index.users binders c.self.invariant r a.number a (subst (λ ss. In a (held_in ss)) c.reserve-2.ensures.held i) refl u)) [
         | inl g ↦ c.reserve_named.ensures.kept a.number r.number (c.in_ok-reserve.ensures.taking a.number r.number g)
         | inr g ↦ c.in_ok-reserve_named.ensures.room a.number r.number g
       ],

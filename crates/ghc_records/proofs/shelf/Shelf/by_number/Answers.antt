@@ -3,7 +3,8 @@ use Rattle.std.proofs.lemmas.Cmp.{nat_cmp_total}
 use Rattle.std.specs.FinMap as finite
 use Rattle.std.specs.FinMap.{nat_cmp-IsAntisymmetric}
 use Rattle.std.specs.Ordering.{nat_cmp}
-use Rattle.ghc_fire.proofs.Gathering.{shown_by, one_more, gathered}
+use Rattle.ghc_fire.proofs.Gathering.{shown_by}
+use Rattle.ghc_records.proofs.InTurn.{one_more, gathered}
 use Rattle.ghc_records.proofs.shelf.Shelf.by_number.Goals as goal
 
 pub loop-number-init : goal.loop-number-init

@@ -1,4 +1,4 @@
-use Rattle.std.proofs.Common.{rules, ◌≡◌, filter, length, ap, sym, ◌∙◌, subst}
+use Rattle.std.proofs.Common.{rules, ◌≡◌, true, false, filter, length, ap, sym, ◌∙◌, subst}
 use Rattle.std.specs.Prelude.{is_some}
 use Rattle.std.proofs.lemmas.Fn.{filter_same}
 use Rattle.ghc_records.specs.Orders.{AreDistinct}
@@ -20,6 +20,7 @@ invariant_of-self c =
       subst (λ l. AreDistinct (numbers l)) same c.self.invariant.0,
       c.self.invariant.1 ∙ ap length same,
       subst (λ l. AreStraysOf l (places_in c.in-Ok.strays.entries)) (sym closed) strays_are,
+      λ takes. let clash : false ≡ true = takes in cc,
     )
 
 pub returns : goal.returns

@@ -1,4 +1,4 @@
-use Rattle.std.proofs.Common.{◌≡◌, length, sym, subst, refl}
+use Rattle.std.proofs.Common.{◌≡◌, true, false, length, sym, subst, refl}
 use Rattle.ghc_records.specs.Orders.{AreDistinct}
 use Rattle.ghc_records.specs.Record.{numbers}
 use Rattle.ghc_records.specs.Slots.{held_in}
@@ -10,4 +10,5 @@ invariant_of-result c = (
   subst (λ l. AreDistinct (numbers (held_in l))) (sym c.new.ensures.items) tt,
   subst (λ l. 0 ≡ length (held_in l)) (sym c.new.ensures.items) refl,
   strays_none c.new.result.items c.with_hasher.result.entries c.new.ensures.items c.with_hasher.ensures.empty,
+  λ takes. let clash : false ≡ true = takes in cc,
 )

@@ -1,9 +1,8 @@
-use Rattle.std.proofs.Common.{ℕ, ◌≡◌, ◌≢◌, ◌+◌, ◌<◌, ◌++◌, ◌∷◌, [], ◌∙◌, ◌-◌, cond, length, ap, arith, sym, subst, nat_eq}
+use Rattle.std.proofs.Common.{ℕ, ◌≡◌, ◌≢◌, ◌+◌, ◌<◌, ◌++◌, ◌∷◌, [], ◌∙◌, ◌-◌, true, false, cond, length, ap, arith, sym, subst, nat_eq}
 use Rattle.std.specs.Prelude.{Some, min, vec_len, vec_capacity}
 use Rattle.std.specs.Map.{lookup}
 use Rattle.indexmap.specs.IndexMap.{spare}
 use Rattle.ghc_term.specs.Lists.{In}
-use Rattle.ghc_term.proofs.Indexed.{done}
 use Rattle.ghc_records.specs.Orders.{AreDistinct}
 use Rattle.ghc_records.specs.Record.{Record, numbers}
 use Rattle.ghc_records.specs.Slots.{held_in, AreStraysOf}
@@ -39,14 +38,18 @@ invariant_of-self c =
     let strays_are : AreStraysOf (ss ++ Some s ∷ []) (places_in c.if-not-is_just_below.self-inside.strays.entries) = elim c.if-not-is_just_below.branch [
       | then-not-is_just_below w ↦
           let room : 0 < min (vec_capacity c.self.inside.slots - vec_len c.self.inside.slots) (spare c.self.inside.strays) = subst (λ t. 0 < t.room) (sym c.self.view_is) c.requires.room in
-          let updates = (done w.insert.result (w.insert.ensures.succeeds (omega (arith, room))) w.insert.ensures.updates).0 in
-          let named = subst (λ k. (q : ℕ) → lookup (nat_eq q) w.insert.new.self.entries ≡ cond (nat_eq k q) (Some c.len-place.result) (lookup (nat_eq q) es)) w.number-then-not-is_just_below.ensures updates in
-          let placed = subst (λ p. (q : ℕ) → lookup (nat_eq q) w.insert.new.self.entries ≡ cond (nat_eq s.number q) (Some p) (lookup (nat_eq q) es)) place named in
+          let named = subst (λ k. (q : ℕ) → lookup (nat_eq q) w.put_stray.new.strays.entries ≡ cond (nat_eq k q) (Some c.len-place.result) (lookup (nat_eq q) es)) w.number-then-not-is_just_below.ensures w.put_stray.ensures in
+          let placed = subst (λ p. (q : ℕ) → lookup (nat_eq q) w.put_stray.new.strays.entries ≡ cond (nat_eq s.number q) (Some p) (lookup (nat_eq q) es)) place named in
           let other : length ss + 1 ≢ s.number = λ below. let just = c.is_just_below.ensures.1 (ap (λ i. i + 1) place ∙ below ∙ sym c.number.ensures) in cc in
-          rw w.self-inside-is (strays_one ss es w.insert.new.self.entries s c.self.invariant.2 fresh other placed)
+          rw w.self-inside-is (strays_one ss es w.put_stray.new.strays.entries s c.self.invariant.2 fresh other placed)
       | else-not-is_just_below w ↦ rw w.self-inside-is (strays_same ss (places_in es) s c.self.invariant.2 fresh (ap (λ i. i + 1) (sym place) ∙ c.is_just_below.ensures.0 w.if-not-is_just_below.false ∙ c.number.ensures))
+    ] in
+    let takes_are : c.if-not-is_just_below.self-inside.takes_stray ≡ true → 0 < spare c.if-not-is_just_below.self-inside.strays = elim c.if-not-is_just_below.branch [
+      | then-not-is_just_below w ↦ rw w.self-inside-is (λ takes. let clash : false ≡ true = takes in cc)
+      | else-not-is_just_below w ↦ rw w.self-inside-is c.self.invariant.3
     ] in (
       subst (λ l. AreDistinct (numbers (held_in l))) (sym slots_are) (more_distinct ss s c.self.invariant.0 fresh),
       ap (λ n. n + 1) count_is ∙ sym (held_more ss s) ∙ ap (λ l. length (held_in l)) (sym slots_are),
       subst (λ l. AreStraysOf l (places_in c.if-not-is_just_below.self-inside.strays.entries)) (sym slots_are) strays_are,
+      takes_are,
     )

@@ -1,6 +1,7 @@
-use Rattle.std.proofs.Common.{ℕ, ◌≡◌, ◌≢◌, ◌<◌, ◌∙◌, ◌-◌, ap, sym, subst, arith, length}
+use Rattle.std.proofs.Common.{ℕ, ◌≡◌, ◌≢◌, ◌<◌, ◌∙◌, ◌-◌, true, false, ap, sym, subst, arith, length}
 use Rattle.std.specs.Prelude.{Some, None, IfSome, IfNone, slice_set}
 use Rattle.std.proofs.lemmas.Option.{slice_get_within, get_or_from_slice_get}
+use Rattle.indexmap.specs.IndexMap.{spare}
 use Rattle.ghc_term.specs.Lists.{In}
 use Rattle.ghc_records.specs.Orders.{AreDistinct}
 use Rattle.ghc_records.specs.Record.{Record, numbers}
@@ -54,10 +55,15 @@ invariant_of-self c =
       | then-not-is_just_below w ↦ rw w.self-inside-is (gap_one ss es w.swap_remove.new.self.entries place c.args.number c.self.invariant.0 c.self.invariant.2 here w.swap_remove.ensures.updates.0)
       | else-not-is_just_below w ↦ rw w.self-inside-is (gap_same ss (places_in es) place c.args.number c.self.invariant.0 c.self.invariant.2 here (c.is_just_below.ensures.0 w.if-not-is_just_below.false))
     ] in
+    let takes_are : c.if-not-is_just_below.self-inside.takes_stray ≡ true → 0 < spare c.if-not-is_just_below.self-inside.strays = elim c.if-not-is_just_below.branch [
+      | then-not-is_just_below w ↦ rw w.self-inside-is (λ takes. let clash : false ≡ true = takes in cc)
+      | else-not-is_just_below w ↦ rw w.self-inside-is c.self.invariant.3
+    ] in
     let fewer = held_fewer ss place here.0 here.1 in (
       subst (λ l. AreDistinct (numbers (held_in l))) (sym slots_are) (without_distinct ss place here.0 c.self.invariant.0 here.1),
       subst (λ l. c.if-not-is_just_below.self-inside.count - 1 ≡ length (held_in l)) (sym slots_are) (omega (arith, count_is, fewer)),
       subst (λ l. AreStraysOf l (places_in c.if-not-is_just_below.self-inside.strays.entries)) (sym slots_are) strays_are,
+      takes_are,
     )
 
 pub returns-clause-taken : goal.returns-clause-taken

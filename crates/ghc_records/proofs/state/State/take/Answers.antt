@@ -5,6 +5,7 @@ use Rattle.ghc_term.specs.Store.{StoreValue, value_at, with_binds}
 use Rattle.ghc_fire.specs.Goals.{Goals}
 use Rattle.ghc_records.specs.Record.{State, Record, with_makes, without_goal, after}
 use Rattle.ghc_records.specs.State.{StateTables}
+use Rattle.ghc_records.specs.Handles.{goals_of}
 use Rattle.ghc_records.proofs.state.State.take.Goals as goal
 
 -- a state of equal parts
@@ -23,7 +24,7 @@ returns-clause-state c =
     let number = c.number.ensures ∙ ap (λ (q : Record). q.number) parts.record in
     let goal = c.goal.ensures ∙ ap (λ (q : Record). q.goal) parts.record in
     let goals : c.make_goals.new.goals.held ≡ with_makes r.number 1 r.effect.makes (without_goal r.goal c.self.inside.goals.held) =
-    c.make_goals.ensures ∙ ap (λ n. with_makes n 1 c.into_parts-step.result.2.items c.consume_goal.new.goals.held) number
+    c.make_goals.ensures ∙ ap (λ n. with_makes n 1 (goals_of c.into_parts-step.result.2) c.consume_goal.new.goals.held) number
     ∙ ap (λ l. with_makes r.number 1 l c.consume_goal.new.goals.held) parts.makes
     ∙ ap (with_makes r.number 1 r.effect.makes) (c.consume_goal.ensures.held ∙ ap (λ o. without_goal o c.self.inside.goals.held) goal) in
     let store = c.put.ensures ∙ ap (λ m. with_binds (finite.entries m) c.self.inside.store.held) parts.binds in

@@ -1,6 +1,6 @@
 use Rattle.std.proofs.Common.{◌≡◌, ◌≤◌, length}
 use Rattle.ghc_records.specs.Record.{with_makes}
-use Rattle.ghc_records.proofs.making.make_goals.Given as goal
+use Rattle.ghc_records.proofs.making.make_list.Given as goal
 
 abbrev pub invariant-loop-goal : goal.invariant-loop-goal
 invariant-loop-goal l =

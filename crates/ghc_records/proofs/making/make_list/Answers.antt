@@ -4,7 +4,7 @@ use Rattle.ghc_term.specs.Goal.{Goal}
 use Rattle.ghc_fire.specs.Goals.{Goals}
 use Rattle.ghc_records.specs.Record.{with_makes}
 use Rattle.ghc_records.proofs.Made.{name, last_first}
-use Rattle.ghc_records.proofs.making.make_goals.Goals as goal
+use Rattle.ghc_records.proofs.making.make_list.Goals as goal
 
 -- where the last goal of a list was put there, the others are left to be put there
 next : (all left : List Goal) (g : Goal) (n place : ℕ) (m t last : Goals) → all ≡ left ++ g ∷ [] → place ≡ length all → t ≡ finite.insert m (name n place) g → with_makes n 1 all m ≡ last → with_makes n 1 left t ≡ last

@@ -1,0 +1,6 @@
+use Rattle.std.proofs.Common.{◌<◌, ℕ, List, subst}
+use Rattle.ghc_term.specs.Table.{Table}
+use Rattle.ghc_records.proofs.number_set.NumberSet.has_place.Goals as goal
+
+pub returns : goal.returns
+returns c said = subst (λ (t : Table (List ℕ)). 0 < t.room) c.self.view_is (c.has_place.ensures said)
