@@ -19,3 +19,6 @@ pub mod FoundFace
 pub mod WholeFace
 pub mod FaceIsOne
 pub mod Unblocking
+pub mod Under
+pub mod Marks
+pub mod AtOnce

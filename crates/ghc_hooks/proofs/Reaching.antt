@@ -24,7 +24,7 @@ stands_right : (ts us : List Tree) (y : VarName) → StandsIn y us → StandsIn 
 stands_right ts us y s = (s.0, in_right ts us s.0 s.1, s.2)
 
 -- what stands in the arguments stands in one of them, and what one of them reaches their structure reaches
-occurs_among : (ts : List Tree) (y : VarName) → OccursIn y (trees ts) → StandsIn y ts
+pub occurs_among : (ts : List Tree) (y : VarName) → OccursIn y (trees ts) → StandsIn y ts
 occurs_among [] y o = absurd o
 occurs_among (t ∷ ts) y (inl o) = (t, inl refl, o)
 occurs_among (t ∷ ts) y (inr o) = let r = occurs_among ts y o in (r.0, inr r.1, r.2)
@@ -34,7 +34,7 @@ among_occurs [] t y i o = absurd i
 among_occurs (u ∷ ts) t y (inl e) o = inl (subst (Occurs y) e o)
 among_occurs (u ∷ ts) t y (inr i) o = inr (among_occurs ts t y i o)
 
-argument_reaches : {T : VarName → Option Tree} {t : Tree} {z : VarName} (f : List ℕ) (ts : List Tree) → In t ts → Reaches T t z → Reaches T (node f (trees ts)) z
+pub argument_reaches : {T : VarName → Option Tree} {t : Tree} {z : VarName} (f : List ℕ) (ts : List Tree) → In t ts → Reaches T t z → Reaches T (node f (trees ts)) z
 argument_reaches f ts i (here o) = here (among_occurs ts _ _ i o)
 argument_reaches f ts i (through o e r) = through (among_occurs ts _ _ i o) e r
 

@@ -6,6 +6,8 @@ use Rattle.std.specs.FinMap as finite
 use Rattle.std.specs.FinSet as set
 use Rattle.std.specs.Prelude.{Bool, true, false}
 use Rattle.ghc_term.specs.Code.{name_code}
+use Rattle.ghc_term.specs.Bindings.{name_cmp}
+use Rattle.ghc_term.specs.declared.goal_name.GoalName.{GoalName}
 use Rattle.ghc_term.specs.Sets.{Variables}
 use Rattle.ghc_term.specs.declared.fault.Fault.{Fault}
 use Rattle.ghc_fire.specs.GoalsCode.{goal_name_code}
@@ -54,7 +56,9 @@ abbrev pub notes_code : Coded NotesByGoal
 notes_code = finite.code goal_name_code note_code
 
 abbrev pub goals_by_variable_code : Coded GoalsByVariable
-goals_by_variable_code = finite.code name_code goal_names_code
+goals_by_variable_code =
+    code_by (finite.FinMap name_cmp GoalNames × finite.FinMap name_cmp GoalName) (coded× (finite.code name_code goal_names_code) (finite.code name_code goal_name_code))
+    (λ m. (m.several, m.single)) (λ p. record { several = p.0; single = p.1 }) (λ _. refl)
 
 abbrev pub tries_code : Coded Tries
 tries_code =

@@ -2,21 +2,18 @@
 ghost use Rattle.std.specs.Prelude.{◌≡◌, ◌↔◌, ◌+◌, ◌<◌, ◌≤◌, length, IfSome, IfNone, IsTrue, OnOk, OnErr};
 ghost use Rattle.std.specs.FinSet as set;
 
-use ghc_term::{GoalName, NameSet};
-use indexmap::IndexSet;
+use ghc_term::{GoalMap, GoalName};
 use std::alloc::{AllocError, Global};
-use std::hash::BuildHasherDefault;
 use std::marker::Model;
 
-// A set of goals, each found by a look-up.
+// A set of goals. A look-up takes a step or two for goals of steps to which the set was made to reach, and else a search by hash.
 #[derive(Drop)]
 pub struct GoalSet {
-    table: NameSet<GoalName>,
+    marks: GoalMap<()>,
 }
 
 impl Model for GoalSet {
-    ghost use Rattle.std.specs.FinSet as set;
-    ghost use Rattle.indexmap.specs.IndexSet.{spare};
+    ghost use Rattle.ghc_term.specs.GoalMap.{names_of};
     ghost use Rattle.ghc_term.specs.Table.{Table, table_code};
     ghost use Rattle.ghc_hooks.specs.Face.{GoalNames};
     ghost use Rattle.ghc_hooks.specs.TriesCode.{goal_names_code};
@@ -25,7 +22,7 @@ impl Model for GoalSet {
 
     ghost coded = { table_code goal_names_code };
 
-    ghost view = { λ s. record { held = set.from_list s.table.keys; room = spare s.table } };
+    ghost view = { λ s. record { held = names_of s.marks.held; room = s.marks.room } };
 }
 
 impl GoalSet {
@@ -34,7 +31,7 @@ impl GoalSet {
         ensures { result.held ≡ set.empty }
     {
         GoalSet {
-            table: IndexSet::with_hasher(alloc, BuildHasherDefault::new()),
+            marks: GoalMap::new(alloc),
         }
     }
 
@@ -43,14 +40,14 @@ impl GoalSet {
     pub fn contains(&self, goal: GoalName) -> bool
         ensures { result ≡ set.contains self.now.held goal }
     {
-        self.table.contains(&goal)
+        self.marks.contains(goal)
     }
 
     // How many goals are in the set.
     pub fn len(&self) -> usize
         ensures { result ≡ set.len self.now.held }
     {
-        self.table.len()
+        self.marks.len()
     }
 
     // Whether no goal is in the set: one step.
@@ -65,7 +62,7 @@ impl GoalSet {
         ensures all { set.from_list result.now ≡ self.now.held }
         ensures once { length result.now ≡ set.len self.now.held }
     {
-        self.table.as_slice()
+        self.marks.names()
     }
 
     // One of the goals, if there is one: one step.
@@ -73,19 +70,16 @@ impl GoalSet {
         ensures some { IfSome result (λ g. IsTrue (set.contains self.now.held g)) }
         ensures none { IfNone result (self.now.held ≡ set.empty) }
     {
-        match self.table.get_index(0) {
-            Some(goal) => Some(*goal),
-            None => None,
-        }
+        self.members().first().copied()
     }
 
-    // Makes room for as many more goals.
-    pub fn reserve(&mut self, count: usize) -> Result<(), AllocError>
+    // Makes room for as many more goals of steps up to this number.
+    pub fn reserve(&mut self, count: usize, newest: u32) -> Result<(), AllocError>
         ensures held { self.new.held ≡ self.old.held }
         ensures room { OnOk result (count ≤ self.new.room) }
         ensures kept { self.old.room ≤ self.new.room }
     {
-        self.table.reserve(count)
+        self.marks.reserve(count, newest)
     }
 
     // Adds the goal, where there is room: one look-up.
@@ -95,7 +89,7 @@ impl GoalSet {
         ensures held { self.new.held ≡ set.insert self.old.held goal }
         ensures room { self.old.room ≤ self.new.room + 1 }
     {
-        self.table.insert(goal).unwrap();
+        self.marks.put(goal, ());
     }
 
     // Adds the goal: one look-up.
@@ -103,7 +97,7 @@ impl GoalSet {
         ensures ok { OnOk result (self.new.held ≡ set.insert self.old.held goal) }
         ensures err { OnErr result (self.new.held ≡ self.old.held) }
     {
-        self.reserve(1)?;
+        self.reserve(1, 0)?;
         self.put(goal);
         Ok(())
     }
@@ -115,6 +109,6 @@ impl GoalSet {
         ensures held { self.new.held ≡ set.remove self.old.held goal }
         ensures room { self.old.room ≤ self.new.room }
     {
-        self.table.swap_remove(&goal)
+        self.marks.remove(goal).is_some()
     }
 }

@@ -2,21 +2,17 @@
 ghost use Rattle.std.specs.Prelude.{◌≡◌, ◌<◌, ◌≤◌, ◌+◌, ◌^◌, OnOk};
 
 use crate::note::Note;
-use ghc_term::{GoalName, NameMap};
-use indexmap::IndexMap;
+use ghc_term::{GoalMap, GoalName};
 use std::alloc::{AllocError, Global};
-use std::hash::BuildHasherDefault;
 use std::marker::Model;
 
 // Notes by the names of their goals.
 #[derive(Drop)]
 pub struct Notes {
-    map: NameMap<GoalName, Note>,
+    map: GoalMap<Note>,
 }
 
 impl Model for Notes {
-    ghost use Rattle.std.specs.FinMap as finite;
-    ghost use Rattle.indexmap.specs.IndexMap.{spare};
     ghost use Rattle.ghc_term.specs.Table.{Table, table_code};
     ghost use Rattle.ghc_hooks.specs.Notes.{NotesByGoal};
     ghost use Rattle.ghc_hooks.specs.TriesCode.{notes_code};
@@ -25,7 +21,7 @@ impl Model for Notes {
 
     ghost coded = { table_code notes_code };
 
-    ghost view = { λ n. record { held = finite.from_entries n.map.entries; room = spare n.map } };
+    ghost view = { λ n. n.map };
 }
 
 impl Notes {
@@ -37,7 +33,7 @@ impl Notes {
         ensures { result.held ≡ finite.empty }
     {
         Notes {
-            map: IndexMap::with_hasher(alloc, BuildHasherDefault::new()),
+            map: GoalMap::new(alloc),
         }
     }
 
@@ -53,15 +49,15 @@ impl Notes {
     pub fn get(&self, goal: GoalName) -> Option<&Note>
         ensures { option_copied result ≡ finite.get self.now.held goal }
     {
-        self.map.get(&goal)
+        self.map.get(goal)
     }
 
-    // Makes room for as many more notes.
-    pub fn reserve(&mut self, count: usize) -> Result<(), AllocError>
+    // Makes room for as many more notes of goals of steps up to this number.
+    pub fn reserve(&mut self, count: usize, newest: u32) -> Result<(), AllocError>
         ensures held { self.new.held ≡ self.old.held }
         ensures room { OnOk result (count ≤ self.new.room) }
     {
-        self.map.reserve(count)
+        self.map.reserve(count, newest)
     }
 
     // Puts the note of the goal, where there is room: one look-up.
@@ -69,7 +65,7 @@ impl Notes {
         requires { 0 < self.old.room }
         ensures { self.new.held ≡ finite.insert self.old.held goal note }
     {
-        self.map.insert(goal, note).unwrap();
+        self.map.put(goal, note);
     }
 
     // Takes the note of the goal away and gives it, if there is one: one look-up.
@@ -77,6 +73,6 @@ impl Notes {
         ensures value { result ≡ finite.get self.old.held goal }
         ensures held { self.new.held ≡ finite.remove self.old.held goal }
     {
-        self.map.swap_remove(&goal)
+        self.map.remove(goal)
     }
 }

@@ -1,10 +1,11 @@
 // All variables that terms reach.
-ghost use Rattle.std.specs.Prelude.{◌≡◌, ◌⊎◌, ◌++◌, map, IfOk, OnOk};
+ghost use Rattle.std.specs.Prelude.{◌≡◌, ◌⊎◌, ◌++◌, map, IfOk, OnOk, IsTrue};
 ghost use Rattle.ghc_term.specs.Bindings.{Reaches};
 ghost use Rattle.ghc_term.specs.Store.{value_at};
 ghost use Rattle.ghc_term.specs.Sets.{IsSetOf};
 ghost use Rattle.ghc_hooks.specs.Reached.{leaves, OneReaches, TakesUp};
 ghost use Rattle.ghc_match.specs.Looked.{ExpressionReaches};
+ghost use Rattle.ghc_match.specs.Meeting.{Gains};
 
 use ghc_term::{Expr, ExprView, Store, Term, TermView, VarName, Variables};
 use std::alloc::{AllocError, Global};
@@ -85,6 +86,63 @@ pub fn reached_from<'a>(
     Ok(reached)
 }
 
+// Adds what the term reaches, where that is seen at once: a closed term reaches nothing, and a variable without a value, or with one
+// that is closed, itself alone. It tells whether it was seen.
+fn add_leaf(store: &Store, term: &Term, reached: &mut Variables) -> Result<bool, AllocError>
+    ensures { IfOk result (λ seen. IsTrue seen → Gains reached.old reached.new (Reaches (value_at store.now.held) term.now)) }
+{
+    if term.is_closed() {
+        return Ok(true);
+    }
+    let TermView::Var(x) = term.view() else {
+        return Ok(false);
+    };
+    if let Some(value) = store.get(x) {
+        if !value.is_closed() {
+            return Ok(false);
+        }
+    }
+    reached.insert(x)?;
+    Ok(true)
+}
+
+// Adds what the terms reach, where that is seen at once of each.
+fn add_leaves(store: &Store, terms: &[Term], reached: &mut Variables) -> Result<bool, AllocError>
+    ensures { IfOk result (λ seen. IsTrue seen → Gains reached.old reached.new (OneReaches (value_at store.now.held) terms.now)) }
+{
+    for term in terms {
+        if !add_leaf(store, term, reached)? {
+            return Ok(false);
+        }
+    }
+    Ok(true)
+}
+
+// Adds what the term reaches, where that is seen at once of it or of its arguments.
+fn add_shallow(store: &Store, term: &Term, reached: &mut Variables) -> Result<bool, AllocError>
+    ensures { IfOk result (λ seen. IsTrue seen → Gains reached.old reached.new (Reaches (value_at store.now.held) term.now)) }
+{
+    match term.view() {
+        TermView::Struct(_, arguments) => add_leaves(store, arguments, reached),
+        _ => add_leaf(store, term, reached),
+    }
+}
+
+// Adds what the two terms reach, where that is seen at once.
+fn add_both(
+    store: &Store,
+    left: &Term,
+    right: &Term,
+    reached: &mut Variables,
+) -> Result<bool, AllocError>
+    ensures { IfOk result (λ seen. IsTrue seen → Gains reached.old reached.new (λ x. Reaches (value_at store.now.held) left.now x ⊎ Reaches (value_at store.now.held) right.now x)) }
+{
+    if !add_shallow(store, left, reached)? {
+        return Ok(false);
+    }
+    add_shallow(store, right, reached)
+}
+
 // All variables that the two terms reach in the store.
 pub fn reached_by_both(
     alloc: Global,
@@ -94,6 +152,10 @@ pub fn reached_by_both(
 ) -> Result<Variables, AllocError>
     ensures { IfOk result (λ xs. IsSetOf xs (λ x. Reaches (value_at store.now.held) left.now x ⊎ Reaches (value_at store.now.held) right.now x)) }
 {
+    let mut reached = Variables::new(alloc);
+    if add_both(store, left, right, &mut reached)? {
+        return Ok(reached);
+    }
     let mut terms = Vec::new(alloc);
     terms.push(left)?;
     terms.push(right)?;

@@ -18,6 +18,7 @@ use ghc_unify::unify;
 use std::alloc::{AllocError, Global};
 
 // Tries a call: each of its clauses once.
+#[inline(never)]
 fn try_call(
     alloc: Global,
     program: &Program,
@@ -54,6 +55,7 @@ fn refusal(
 }
 
 // Tries a unification, which never waits.
+#[inline(never)]
 fn try_unification(
     alloc: Global,
     store: &Store,
@@ -71,6 +73,7 @@ fn try_unification(
 }
 
 // Tries an assignment, which waits where its expression does.
+#[inline(never)]
 fn try_assignment(
     alloc: Global,
     store: &Store,

@@ -115,10 +115,7 @@ impl Tries {
         ensures each { (g : GoalName) → In g result.now ↔ HasLookedAt self.now.notes x g }
         ensures once { length result.now ≡ set.len (set.from_list {R = goal_cmp} result.now) }
     {
-        match self.looks.at(x) {
-            Some(goals) => goals.members(),
-            None => &[],
-        }
+        self.looks.at(x)
     }
 
     /// The goals that by their notes do not wait, each once, in any order: one step.
@@ -137,15 +134,16 @@ impl Tries {
         self.looking_at(x).first().copied()
     }
 
-    /// Makes room for as many more goals. Notes and marks stay, and so does the room where memory is refused.
-    pub fn reserve(&mut self, count: usize) -> Result<(), AllocError>
+    /// Makes room for as many more goals that steps up to this number made. Notes and marks stay, and so does the room where memory is
+    /// refused.
+    pub fn reserve(&mut self, count: usize, newest: u32) -> Result<(), AllocError>
         ensures notes { self.new.notes ≡ self.old.notes }
         ensures untried { self.new.untried ≡ self.old.untried }
         ensures room { OnOk result (count ≤ self.new.room) }
         ensures kept { self.old.room ≤ self.new.room }
     {
         match self.notes.len().checked_add(count) {
-            Some(wanted) => self.untried.reserve(wanted),
+            Some(wanted) => self.untried.reserve(wanted, newest),
             None => Err(AllocError),
         }
     }
@@ -171,9 +169,9 @@ impl Tries {
         ensures untried_stay { OnErr result (self.new.untried ≡ self.old.untried) }
         ensures room { self.old.room ≤ self.new.room + 1 }
     {
-        self.notes.reserve(1)?;
-        self.untried.reserve(self.notes.len() + 1)?;
-        self.unblocked.reserve(1)?;
+        self.notes.reserve(1, goal.step)?;
+        self.untried.reserve(self.notes.len() + 1, goal.step)?;
+        self.unblocked.reserve(1, goal.step)?;
         self.looks.add_all(note.looked().members(), goal)?;
         self.untried.remove(goal);
         put_unblocked(&mut self.unblocked, goal, note.verdict());

@@ -1,9 +1,15 @@
 use Rattle.std.proofs.Common.{◌∙◌, ap, sym}
+use Rattle.std.specs.Prelude.{IsTrue}
 use Rattle.std.specs.FinSet as set
-use Rattle.ghc_term.proofs.ListsLemmas.{in_at}
 use Rattle.ghc_hooks.proofs.Looking.{goal_in_set}
+use Rattle.ghc_hooks.proofs.Waking.{first_is}
+use Rattle.ghc_hooks.proofs.Marks.{first_none}
 use Rattle.ghc_hooks.proofs.goal_set.GoalSet.any.Goals as goal
 
-pub returns-in-Some-clause-some : goal.returns-in-Some-clause-some
-returns-in-Some-clause-some c =
-    ap (λ t. set.contains t.held c.in-Some.goal.now) (sym c.self.view_is) ∙ goal_in_set c.in-Some.goal.now c.self.inside.table.keys (in_at c.self.inside.table.keys 0 c.in-Some.goal.now (sym c.in-Some.ensures.key))
+pub returns-clause-some : goal.returns-clause-some
+returns-clause-some c =
+    first_is (λ g. IsTrue (set.contains c.args.self.now.held g)) c.members.result.now (λ g i. ap (λ s. set.contains s g) (sym c.members.ensures.all) ∙ goal_in_set g c.members.result.now i)
+    c.copied.result (c.copied.ensures ∙ c.first.ensures.value)
+
+pub returns-clause-none : goal.returns-clause-none
+returns-clause-none c = first_none c.args.self.now.held c.members.result.now c.members.ensures.all c.copied.result (c.copied.ensures ∙ c.first.ensures.value)

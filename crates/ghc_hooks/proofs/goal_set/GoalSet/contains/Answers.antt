@@ -1,8 +1,7 @@
-use Rattle.std.proofs.Common.{◌∙◌, ap}
+use Rattle.std.proofs.Common.{◌∙◌, ap, sym}
 use Rattle.std.specs.FinSet as set
-use Rattle.ghc_fire.proofs.GoalNames.{goal_total, goal_antisymmetric, same, same_is}
-use Rattle.ghc_hooks.proofs.Tables.{has_key}
+use Rattle.ghc_term.proofs.GoalMaps.{in_names}
 use Rattle.ghc_hooks.proofs.goal_set.GoalSet.contains.Goals as goal
 
 pub returns : goal.returns
-returns c = c.contains.ensures ∙ has_key goal_total goal_antisymmetric same same_is c.args.goal c.self.inside.table.keys ∙ ap (λ t. set.contains t.held c.args.goal) c.self.view_is
+returns c = c.contains.ensures ∙ sym (in_names c.self.inside.marks.held c.args.goal) ∙ ap (λ t. set.contains t.held c.args.goal) c.self.view_is

@@ -1,8 +1,7 @@
 use Rattle.std.proofs.Common.{◌∙◌, ap, sym}
 use Rattle.std.specs.FinSet as set
-use Rattle.ghc_fire.proofs.GoalNames.{goal_total, goal_antisymmetric, same, same_is}
-use Rattle.ghc_hooks.proofs.Tables.{count_of_keys}
+use Rattle.ghc_term.proofs.GoalMaps.{count_of_names}
 use Rattle.ghc_hooks.proofs.goal_set.GoalSet.len.Goals as goal
 
 pub returns : goal.returns
-returns c = c.len.ensures.len ∙ sym (count_of_keys goal_total goal_antisymmetric same same_is c.self.inside.table.keys c.len.ensures.unique) ∙ ap (λ t. set.len t.held) c.self.view_is
+returns c = c.len.ensures.count ∙ sym (count_of_names c.self.inside.marks.held) ∙ ap (λ t. set.len t.held) c.self.view_is

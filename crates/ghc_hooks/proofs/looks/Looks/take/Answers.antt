@@ -1,21 +1,24 @@
-use Rattle.std.proofs.Common.{ap, refl, subst}
+use Rattle.std.proofs.Common.{◌∙◌, ap, refl, sym, subst}
 use Rattle.std.specs.Prelude.{IsSome}
-use Rattle.ghc_hooks.proofs.Looking.{take_through, none_through, take_none}
+use Rattle.std.specs.FinMap as finite
+use Rattle.ghc_term.proofs.Indexed.{value_is}
+use Rattle.ghc_term.proofs.Entries.{same, same_is}
+use Rattle.ghc_term.proofs.Names.{name_total, name_antisymmetric}
+use Rattle.ghc_hooks.proofs.Under.{take_through, none_through}
 use Rattle.ghc_hooks.proofs.looks.Looks.take.Goals as goal
 
 pub returns-in-Some-clause-left : goal.returns-in-Some-clause-left
 returns-in-Some-clause-left c =
     let w = c.remove.new.self in
     let updates = (c.get_mut.follows.holds w).3 (subst IsSome c.in-Some.ensures.value refl) in
-    take_through c.self.inside.map.entries (c.get_mut.follows.lender w).entries c.args.self.now c.self.view_is c.args.x c.in-Some.goals.now w c.in-Some.ensures.value updates.0 c.args.goal c.remove.ensures
+    take_through c.self.inside.several.entries (c.get_mut.follows.lender w).entries c.self.inside.single.held c.args.self.now c.self.view_is c.args.x c.in-Some.goals.now w c.in-Some.ensures.value updates.0 c.args.goal c.remove.ensures
 
 pub returns-in-Some-clause-none : goal.returns-in-Some-clause-none
 returns-in-Some-clause-none c emptied =
     let w = c.remove.new.self in
     let updates = (c.get_mut.follows.holds w).3 (subst IsSome c.in-Some.ensures.value refl) in
-    none_through c.self.inside.map.entries (c.get_mut.follows.lender w).entries c.args.self.now c.self.view_is c.args.x c.in-Some.goals.now w c.in-Some.ensures.value updates.0 (c.is_empty.ensures.0 emptied)
+    none_through c.self.inside.several.entries (c.get_mut.follows.lender w).entries c.self.inside.single.held c.args.self.now c.self.view_is c.args.x c.in-Some.goals.now w c.in-Some.ensures.value updates.0 (c.is_empty.ensures.0 emptied)
 
 pub returns-clause-left : goal.returns-clause-left
 returns-clause-left c =
-    take_none c.self.inside.map.entries c.get_mut.follows.lender-at-none.entries c.args.self.now c.args.x c.args.goal c.self.view_is c.in_default.ensures.value
-    (ap (λ t. t.entries) c.get_mut.follows.holds-at-none)
+    absurd (c.requires (sym (c.in_default.ensures.value ∙ value_is name_total name_antisymmetric same same_is c.args.x c.self.inside.several.entries ∙ ap (λ m. finite.get m.several c.args.x) c.self.view_is)))

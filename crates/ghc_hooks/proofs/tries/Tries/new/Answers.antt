@@ -2,10 +2,9 @@ use Rattle.std.proofs.Common.{◌≡◌, Some, None, sym, ap, ◌∙◌, arith}
 use Rattle.std.specs.FinMap as finite
 use Rattle.std.specs.FinSet as set
 use Rattle.ghc_term.proofs.ListsLemmas.{not_both}
-use Rattle.ghc_term.specs.Bindings.{name_cmp}
 use Rattle.ghc_fire.specs.Goals.{goal_cmp}
 use Rattle.ghc_hooks.specs.Notes.{Note}
-use Rattle.ghc_hooks.specs.Looks.{looks, goals_in}
+use Rattle.ghc_hooks.specs.Looks.{looks}
 use Rattle.ghc_hooks.proofs.Unblocking.{none_unblocked}
 use Rattle.ghc_hooks.proofs.tries.Tries.new.Goals as goal
 
@@ -14,7 +13,7 @@ invariant_of-result c = (
   record {
     apart = λ g there. absurd (not_both (set.contains c.new-2.result.held g) (ap (λ s. set.contains s g) c.new-2.ensures ∙ set.contains-empty goal_cmp g) there);
     follows = λ x g. (
-      λ l. absurd (not_both (looks c.new-3.result x g) (ap (λ m. looks m x g) c.new-3.ensures ∙ ap (λ o. set.contains (goals_in o) g) (finite.get-empty name_cmp x) ∙ set.contains-empty goal_cmp g) l),
+      λ l. absurd (not_both (looks c.new-3.result x g) (ap (λ s. set.contains s g) (c.new-3.ensures x) ∙ set.contains-empty goal_cmp g) l),
       λ k. let clash : None ≡ Some k.0 = sym (finite.get-empty goal_cmp g) ∙ ap (λ m. finite.get m g) (sym c.new.ensures) ∙ k.1 in absurd (cc),
     );
     room = let none : finite.len c.new.result.held ≡ 0 = ap (λ m. finite.len m) c.new.ensures ∙ finite.len-empty goal_cmp Note in omega (arith, none);

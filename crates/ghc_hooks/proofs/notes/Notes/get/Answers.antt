@@ -1,8 +1,0 @@
-use Rattle.std.proofs.Common.{◌∙◌, ap}
-use Rattle.std.specs.FinMap as finite
-use Rattle.ghc_term.proofs.Indexed.{value_is}
-use Rattle.ghc_fire.proofs.GoalNames.{goal_total, goal_antisymmetric, same, same_is}
-use Rattle.ghc_hooks.proofs.notes.Notes.get.Goals as goal
-
-pub returns : goal.returns
-returns c = c.get.ensures.value ∙ value_is goal_total goal_antisymmetric same same_is c.args.goal c.self.inside.map.entries ∙ ap (λ t. finite.get t.held c.args.goal) c.self.view_is
