@@ -1,5 +1,5 @@
 -- Each event has one answer at most.
-use Rattle.std.proofs.Common.{◌≡◌, ℕ, List, [], ◌∷◌, true, false, refl, sym, ap, ◌∙◌, subst, inl, inr, Some, None}
+use Rattle.std.proofs.Common.{◌≡◌, ℕ, List, ◌∷◌, true, false, refl, sym, ap, ◌∙◌, subst, inl, inr, Some, None}
 use Rattle.std.specs.FinMap as finite
 use Rattle.ghc_term.specs.declared.goal_name.GoalName.{GoalName}
 use Rattle.ghc_term.specs.Goal.{Goal}
@@ -11,10 +11,10 @@ use Rattle.ghc_fire.proofs.Tries.{attempt_once}
 use Rattle.ghc_term.specs.declared.fault.Fault.{Fault}
 use Rattle.ghc_records.specs.Record.{Record, numbers}
 use Rattle.ghc_records.specs.Replay.{query_state, Runs}
-use Rattle.ghc_records.specs.Journal.{Entry, undid, rolled}
+use Rattle.ghc_records.specs.Journal.{Entry}
 use Rattle.ghc_records.proofs.Replaying.{run_once}
-use Rattle.ghc_records.proofs.OrderLemmas.{picks_once}
-use Rattle.ghc_depend.specs.Kept.{IsWithout, IsSplitAt}
+use Rattle.ghc_records.proofs.OrderLemmas.{record_once}
+use Rattle.ghc_depend.specs.Kept.{IsSplitAt}
 use Rattle.ghc_depend.specs.Lawful.{IsLawful, IsInOrder}
 use Rattle.ghc_depend.proofs.Once.{orders, consequences}
 use Rattle.ghc_hooks.specs.Status.{HasStatus}
@@ -22,7 +22,12 @@ use Rattle.ghc_hooks.proofs.Statuses.{status_once}
 use Rattle.std.specs.Prelude.{Option}
 use Rattle.ghc_core.specs.World.{Proposal, Hands, with_hand, World, with_step}
 use Rattle.ghc_core.specs.declared.change.Change.{Change}
-use Rattle.ghc_core.specs.Change.{with_redone, without_steps, with_order, CanChange, AreTakenAway, Changes}
+use Rattle.ghc_core.specs.declared.change.Change.TheVariants.{Goes as goes}
+use Rattle.ghc_core.specs.declared.change.Coming.{Coming}
+use Rattle.ghc_core.specs.declared.change.Going.{Going}
+use Rattle.ghc_core.specs.Gone.{Gone, all_gone}
+use Rattle.ghc_core.proofs.Alone.{none_follow}
+use Rattle.ghc_core.specs.Change.{with_coming, without_steps, with_order, entry_of_going, CanChange, AreTakenAway, Changes}
 use Rattle.ghc_core.specs.Events.{Command, input, finish, undo, roll, redo, arrange, ask, Event, propose, commit, note, command, Reply, stepped, undone, noted, refused}
 use Rattle.ghc_core.specs.Proposes as asking
 use Rattle.ghc_core.specs.Answers.{Asks, to_give, to_close, to_undo, to_roll, to_redo, to_arrange, to_ask, told_of, Fails, AsksFor, by_hand, by_command, Says, IsRefusedFor, no_hand, makes, says, fails, no_memory}
@@ -34,7 +39,7 @@ use Rattle.ghc_core.specs.Laws.{IsOrderly, OrderedHasOneAnswer, EventsHaveOneAns
 use Rattle.ghc_core.proofs.AskedGoals.{ask_fails_once, ask_or_fail, one_ask}
 use Rattle.ghc_core.proofs.Reaching.{reached}
 use Rattle.ghc_core.proofs.Refusing.{told_once, first_once, stream_fails_once, commit_fails_once, value_once, has_not}
-use Rattle.ghc_core.proofs.Reversing.{kept_once, undo_fails_once, undo_or_fail, redo_or_fail, redo_fails_once}
+use Rattle.ghc_core.proofs.Reversing.{undo_fails_once, undo_or_fail, redo_or_fail, redo_fails_once}
 use Rattle.ghc_core.proofs.Stepping.{step_once, commit_or_fail, stream_step_or_fail, one_stream_step}
 
 two_answers : (b : _) → b ≡ true → b ≡ false → ⊥
@@ -58,8 +63,10 @@ module _ (w : World) (ordered : IsOrderly w) where
   made_or_fails : (c : Command) (change : Change) (f : Fault) → Asks c change → CanChange w change → ¬ Fails w c f
   made_or_fails c change fault (to_give {k = k} {t = t} {r = r} o) can f = stream_step_or_fail effect_once w ordered.acyclic ordered.streams_once k (given t) r (o, can) f
   made_or_fails c change fault (to_close {k = k} {r = r} o) can f = stream_step_or_fail effect_once w ordered.acyclic ordered.streams_once k closed r (o, can) f
-  made_or_fails c change fault (to_undo {n = n} {r = r} number) can f = undo_or_fail w n ordered.kept_once r (can.0, number) can.1 f
-  made_or_fails c change fault (to_roll {r = r} number) can f = f.1 r can.0 number
+  made_or_fails c change fault (to_undo {n = n} {gone = gone} number) can f =
+      let split = subst (λ others. IsSplitAt w.kept gone.first (gone.first ∷ others) can.1.0) can.2 can.1.1 in
+      undo_or_fail w n ordered.kept_once gone.first (can.0, number) (none_follow w.kept gone.first can.1.0 split ordered.kept_once) f
+  made_or_fails c change fault (to_roll {gone = gone} number) can f = f.1 gone.first can.0 number
   made_or_fails c change fault (to_redo {n = n} {r = r} number) can f = redo_or_fail w n r (subst (λ m. finite.get w.shelf m ≡ Some r) number can.0) can.1 can.2 can.3 f
   made_or_fails c change fault (to_arrange {order = order} {a = a} same) can f = (orders w.kept ordered.kept_once).no_pair order f.0 f.1 (subst (IsLawful w.kept) same can.0) f.3
   made_or_fails c change fault (to_ask {gs = gs} {r = r} of) can f = ask_or_fail w gs r of can f
@@ -80,6 +87,14 @@ module _ (w : World) (ordered : IsOrderly w) where
       let states : t ≡ x = run_once w.opening.program (query_state w.opening.query) rest t x (subst (λ z. Runs w.opening.program (query_state w.opening.query) z t) lefts run.1) walk.1 in
       e ∙ (λ i. without_steps (same i) (lefts i) (states i) entry w) ∙ sym f
 
+  -- of steps of one number those that go with it are the same
+  gone_once : (u v : World) (how : Going) (x y : Gone) → x.first.number ≡ y.first.number → CanChange w (goes how x) → CanChange w (goes how y) → Changes w (goes how x) u → Changes w (goes how y) v
+      → (told_of (goes how x) ≡ told_of (goes how y)) × (u ≡ v)
+  gone_once u v how x y number can may (left, split, t) (rest, part, z) =
+      let same : x.first ≡ y.first = record_once w.kept x.first y.first ordered.kept_once can.0 may.0 number in
+      let lists = (consequences w.kept y.first ordered.kept_once).one_split (all_gone x) left (all_gone y) rest (subst (λ r. IsSplitAt w.kept r (all_gone x) left) same split) part in
+      (ap (λ rs. undone (numbers rs)) lists.0, taken_once (entry_of_going how y.first) lists.0 lists.1 (subst (λ (r : Record). AreTakenAway w (all_gone x) left (entry_of_going how r) u) same t) z)
+
   -- a command asks for one change, which is told in one way and leaves one world
   change_once : (u v : World) {c : Command} {x y : Change} → Asks c x → Asks c y → CanChange w x → CanChange w y → Changes w x u → Changes w y v → (told_of x ≡ told_of y) × (u ≡ v)
   change_once u v (to_give {k = k} {t = t} {r = r} o) (to_give {r = s} p) m n e f =
@@ -88,17 +103,11 @@ module _ (w : World) (ordered : IsOrderly w) where
   change_once u v (to_close {k = k} {r = r} o) (to_close {r = s} p) m n e f =
       let same : r ≡ s = one_stream_step effect_once w ordered.acyclic ordered.streams_once k closed r s (o, m) (p, n) in
       (ap (λ (z : Record). stepped z.number) same, e ∙ ap (λ z. with_step z w) same ∙ sym f)
-  change_once u v (to_undo {n = n} {r = r} a) (to_undo {r = s} b) can may (left, out, t) (rest, off, x) =
-      let same : r ≡ s = kept_once w.kept n r s ordered.kept_once (can.0, a) (may.0, b) in
-      let lefts : left ≡ rest = picks_once w.kept left rest out (subst (λ z. IsWithout w.kept z rest) (sym same) off) in
-      (ap (λ (z : Record). undone (z.number ∷ [])) same, taken_once (undid s.number) (ap (λ z. z ∷ []) same) lefts (subst (λ (z : Record). AreTakenAway w (r ∷ []) left (undid z.number) u) same t) x)
-  change_once u v (to_roll {n = n} {r = r} {rs = rs} a) (to_roll {r = s} {rs = ss} b) can may (left, split, t) (rest, part, x) =
-      let same : r ≡ s = kept_once w.kept n r s ordered.kept_once (can.0, a) (may.0, b) in
-      let lists = (consequences w.kept s ordered.kept_once).one_split (r ∷ rs) left (s ∷ ss) rest (subst (λ z. IsSplitAt w.kept z (r ∷ rs) left) same split) part in
-      (ap (λ z. undone (numbers z)) lists.0, taken_once (rolled s.number) lists.0 lists.1 (subst (λ (z : Record). AreTakenAway w (r ∷ rs) left (rolled z.number) u) same t) x)
+  change_once u v (to_undo a) (to_undo b) can may e f = gone_once u v Going.Alone _ _ (a ∙ sym b) can may e f
+  change_once u v (to_roll a) (to_roll b) can may e f = gone_once u v Going.Together _ _ (a ∙ sym b) can may e f
   change_once u v (to_redo {n = n} {r = r} a) (to_redo {r = s} b) can may e f =
       let same : r ≡ s = value_once (subst (λ m. finite.get w.shelf m ≡ Some r) (a ∙ sym b) can.0) may.0 in
-      (ap (λ (z : Record). stepped z.number) same, e ∙ ap (λ z. with_redone z w) same ∙ sym f)
+      (ap (λ (z : Record). stepped z.number) same, e ∙ ap (λ z. with_coming Coming.Shelved z w) same ∙ sym f)
   change_once u v (to_arrange {order = order} {a = a} o) (to_arrange {a = b} p) can may e f =
       let same : a.records ≡ b.records = (orders w.kept ordered.kept_once).one_record order a.records b.records (subst (λ z. IsInOrder w.kept z a.records) o can.1) (subst (λ z. IsInOrder w.kept z b.records) p may.1) in
       (refl, e ∙ (λ i. with_order ((o ∙ sym p) i) (same i) w) ∙ sym f)

@@ -15,6 +15,8 @@ use Rattle.ghc_term.specs.contracts.bindings.Bindings as bindings
 use Rattle.ghc_term.specs.contracts.variables.Variables as variables
 use Rattle.ghc_fire.specs.contracts.act.Act as act
 use Rattle.ghc_fire.specs.contracts.asked.Asked as asked
+use Rattle.ghc_fire.specs.contracts.made.Made as made
+use Rattle.ghc_fire.specs.contracts.made.MadeGoal as made_goal
 use Rattle.ghc_fire.specs.contracts.effect.Effect as effect
 use Rattle.ghc_fire.specs.contracts.goals.Goals as goals
 use Rattle.ghc_records.specs.contracts.record.Record as taken
@@ -91,23 +93,35 @@ act_send = search (ground_send, asked_send, crosses, sendable) depth 60 fits 200
 pub act_sync : IsSync act.the_field.row
 act_sync = search (ground_sync, asked_sync, crosses, sendable) depth 60 fits 20000
 
+made_send : IsSend made.the_row
+made_send = search (goal_send, goal_sync, crosses, sendable) depth 60 fits 20000
+
+made_sync : IsSync made.the_row
+made_sync = search (goal_sync, goal_send, crosses, sendable) depth 60 fits 20000
+
+made_goal_send : IsSend made_goal.the_row
+made_goal_send = search (made_send, crosses, sendable) depth 60 fits 20000
+
+made_goal_sync : IsSync made_goal.the_row
+made_goal_sync = search (made_sync, crosses, sendable) depth 60 fits 20000
+
 pub effect_send : IsSend effect.the_row
-effect_send = search (goal_send, bindings_send, variables_send, crosses, sendable) depth 60 fits 20000
+effect_send = search (made_send, bindings_send, variables_send, crosses, sendable) depth 60 fits 20000
 
 pub effect_sync : IsSync effect.the_row
-effect_sync = search (goal_sync, bindings_sync, variables_sync, crosses, sendable) depth 60 fits 20000
+effect_sync = search (made_sync, bindings_sync, variables_sync, crosses, sendable) depth 60 fits 20000
 
 goals_send : IsSend goals.the_row
-goals_send = search (goal_send, maps.crosses, crosses, sendable) depth 60 fits 20000
+goals_send = search (made_goal_send, goal_name.the_send, maps.crosses, crosses, sendable) depth 60 fits 20000
 
 goals_sync : IsSync goals.the_row
-goals_sync = search (goal_sync, maps.crosses, crosses, sendable) depth 60 fits 20000
+goals_sync = search (made_goal_sync, goal_name.the_sync, maps.crosses, crosses, sendable) depth 60 fits 20000
 
 pub taken_send : IsSend taken.the_row
-taken_send = search (goal_send, goal_sync, act_send, act_sync, effect_send, effect_sync, goal_name.the_send, goal_name.the_sync, crosses, sendable) depth 60 fits 20000
+taken_send = search (made_goal_send, made_goal_sync, act_send, act_sync, effect_send, effect_sync, goal_name.the_send, goal_name.the_sync, crosses, sendable) depth 60 fits 20000
 
 pub taken_sync : IsSync taken.the_row
-taken_sync = search (goal_sync, goal_send, act_sync, act_send, effect_sync, effect_send, goal_name.the_sync, goal_name.the_send, crosses, sendable) depth 60 fits 20000
+taken_sync = search (made_goal_sync, made_goal_send, act_sync, act_send, effect_sync, effect_send, goal_name.the_sync, goal_name.the_send, crosses, sendable) depth 60 fits 20000
 
 slots_send : IsSend slots.the_row
 slots_send = search (taken_send, crosses, sendable) depth 60 fits 20000

@@ -25,9 +25,10 @@ use Rattle.ghc_records.specs.Record.{Record, IsThere, HasStepEffect, Fires}
 use Rattle.ghc_depend.proofs.Decided.{decided}
 use Rattle.ghc_depend.proofs.Finding.{by_option}
 use Rattle.ghc_depend.proofs.Results.{asking_fires}
-use Rattle.ghc_core.specs.declared.change.Change.TheVariants.{Adds as adds, PutsBack as puts_back, Reorders as reorders}
+use Rattle.ghc_core.specs.declared.change.Change.TheVariants.{Comes as comes, Reorders as reorders}
+use Rattle.ghc_core.specs.declared.change.Coming.{Coming}
 use Rattle.ghc_core.specs.World.{Proposal, Hands, IsHand, with_hand, emptied, World, with_step}
-use Rattle.ghc_core.specs.Change.{with_redone, with_order}
+use Rattle.ghc_core.specs.Change.{with_coming, with_order}
 use Rattle.ghc_core.specs.Events.{Command, input, finish, undo, roll, redo, arrange, ask, Event, propose, commit, note, command, Reply, held, stepped, noted, arranged, refused}
 use Rattle.ghc_core.specs.Answers.{Asks, to_give, to_close, to_redo, to_arrange, to_ask, Fails, Obeys, does, refuses, by_hand, Says, Answers, no_hand, makes, says, fails}
 use Rattle.ghc_core.specs.Proposes as asking
@@ -126,7 +127,7 @@ module _ (w : World) (accepted : IsProgram w.opening.program) (acyclic : IsAcycl
               let f = effect_each w.opening.program s.0 p.act no_step w.next (value_at w.state.store) p.effect s.3 in
               let r : Record = record { number = w.next; goal = Some p.goal; consumed = Some s.0; act = p.act; effect = f.0 } in
               let known = known_of_act w.opening.program w.opening.query w.kept r s.0 w.next (value_at w.state.store) f.0 f.1 in
-              (stepped w.next, with_step r w, emptied h hands, makes {change = adds r} i (by_hand e (s, (refl, ((s.0, refl, s.2), f.1), free, known), refl, refl)) (refl, ((s.0, refl, s.2), f.1), free, known) refl refl)
+              (stepped w.next, with_step r w, emptied h hands, makes {change = comes Coming.Next r} i (by_hand e (s, (refl, ((s.0, refl, s.2), f.1), free, known), refl, refl)) (refl, ((s.0, refl, s.2), f.1), free, known) refl refl)
         ]
       ]
     ] refl
@@ -180,7 +181,7 @@ module _ (w : World) (accepted : IsProgram w.opening.program) (acyclic : IsAcycl
         | inl many ↦ (refused Fault.Full, w, refuses (full r e known f many))
         | inr few ↦
             let number : r.number ≡ n = (shelved n r e).0 in
-            (stepped n, with_redone r w, does {change = puts_back r} (to_redo number) (subst (λ m. finite.get w.shelf m ≡ Some r) (sym number) e, f, omega (arith, few), known) refl (ap stepped (sym number)))
+            (stepped n, with_coming Coming.Shelved r w, does {change = comes Coming.Shelved r} (to_redo number) (subst (λ m. finite.get w.shelf m ≡ Some r) (sym number) e, f, omega (arith, few), known) refl (ap stepped (sym number)))
       ]
     ]
   ]
@@ -204,8 +205,8 @@ module _ (w : World) (accepted : IsProgram w.opening.program) (acyclic : IsAcycl
   ] refl
 
 -- an act on a stream is a change for which the command asks, or is refused
-acted : (w : World) (c : Command) (k : ℕ) (act : Act) → ((r : Record) → streams.IsOfStream k act r → Asks c (adds r)) → ((f : Fault) → streams.StreamFails w k f → Fails w c f) → IsActAnswered w k act → IsObeyed w c
-acted w c k act asks why (inl (r, (o, next))) = (stepped r.number, with_step r w, does {change = adds r} (asks r o) next refl refl)
+acted : (w : World) (c : Command) (k : ℕ) (act : Act) → ((r : Record) → streams.IsOfStream k act r → Asks c (comes Coming.Next r)) → ((f : Fault) → streams.StreamFails w k f → Fails w c f) → IsActAnswered w k act → IsObeyed w c
+acted w c k act asks why (inl (r, (o, next))) = (stepped r.number, with_step r w, does {change = comes Coming.Next r} (asks r o) next refl refl)
 acted w c k act asks why (inr (f, fault)) = (refused f, w, refuses (why f fault))
 
 arranges_answered : (w : World) (order : List ℕ) → IsOrderly w → IsObeyed w (arrange order)
@@ -216,7 +217,7 @@ arranges_answered w order ordered = elim (decided w.kept order ordered.kept_once
 
 asks_answered : (w : World) (gs : List Goal) → Reaches w → IsAsk gs → IsObeyed w (ask gs)
 asks_answered w gs r proper = elim (ask_answered w r gs proper) [
-  | inl (s, of, next) ↦ (stepped s.number, with_step s w, does {change = adds s} (to_ask of) next refl refl)
+  | inl (s, of, next) ↦ (stepped s.number, with_step s w, does {change = comes Coming.Next s} (to_ask of) next refl refl)
   | inr (f, why) ↦ (refused f, w, refuses why)
 ]
 

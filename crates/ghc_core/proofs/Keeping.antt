@@ -7,15 +7,19 @@ use Rattle.ghc_flat.specs.Clause.{Program, Query}
 use Rattle.ghc_records.specs.Orders.{AreDistinct}
 use Rattle.ghc_records.specs.Record.{State, Record, numbers}
 use Rattle.ghc_records.specs.Replay.{query_state, Replays}
-use Rattle.ghc_records.specs.Journal.{Opening, Entry, took, step_of}
+use Rattle.ghc_records.specs.Journal.{Opening, Entry, took, undid, step_of}
 use Rattle.ghc_records.proofs.OrderLemmas.{numbers_append}
-use Rattle.ghc_depend.specs.Kept.{Keeps}
+use Rattle.ghc_depend.specs.Kept.{Keeps, IsSplitAt, with_shelved}
 use Rattle.ghc_depend.proofs.KeptOnce.{runs_split}
 use Rattle.ghc_depend.proofs.Picking.{distinct_left}
 use Rattle.ghc_core.specs.World.{World, with_step, Opens}
 use Rattle.ghc_core.specs.declared.change.Change.{Change}
-use Rattle.ghc_core.specs.declared.change.Change.TheVariants.{Adds as adds, PutsBack as puts_back, TakesAway as takes_away, TakesAll as takes_all, Reorders as reorders}
+use Rattle.ghc_core.specs.declared.change.Change.TheVariants.{Comes as comes, Goes as goes, Reorders as reorders}
+use Rattle.ghc_core.specs.declared.change.Coming.{Coming}
+use Rattle.ghc_core.specs.declared.change.Going.{Going}
+use Rattle.ghc_core.proofs.Alone.{others_left}
 use Rattle.ghc_core.specs.Change.{CanChange, Changes}
+use Rattle.ghc_core.specs.Gone.{all_gone}
 use Rattle.ghc_core.specs.Reached.{Reaches, from_opening, by_change}
 use Rattle.ghc_core.specs.Laws as laws
 use Rattle.ghc_core.proofs.Moving.{reachable_reached}
@@ -65,11 +69,13 @@ opened_tells o w opens =
 
 module _ (w : World) (k : Tells w) where
   changed_tells : (change : Change) (v : World) → CanChange w change → Changes w change v → Replayed v → Tells v
-  changed_tells (adds r) v can e h = subst Tells (sym e) (Keeps.step r (with_step r w).state k (subst Replayed e h).replay)
-  changed_tells (puts_back r) v can e h = subst Tells (sym e) (Keeps.redo r.number r k can.0)
-  changed_tells (takes_away r) v can (left, out, (t, run, e)) h = subst Tells (sym e) (Keeps.undo r.number r k (can.0, refl) out)
-  changed_tells (takes_all []) v can e h = absurd can
-  changed_tells (takes_all (r ∷ rs)) v can (left, split, (t, run, e)) h = subst Tells (sym e) (Keeps.roll r.number r (r ∷ rs) k (can.0, refl) split)
+  changed_tells (comes Coming.Next r) v can e h = subst Tells (sym e) (Keeps.step r (with_step r w).state k (subst Replayed e h).replay)
+  changed_tells (comes Coming.Shelved r) v can e h = subst Tells (sym e) (Keeps.redo r.number r k can.0)
+  changed_tells (goes Going.Alone gone) v can (left, split, (t, run, e)) h =
+      let r = gone.first in
+      let out = others_left w.kept r left (subst (λ others. IsSplitAt w.kept r (r ∷ others) left) can.2 split) in
+      subst Tells (sym e) (subst (λ others. Keeps w.opening (w.journal ++ undid r.number ∷ []) left (with_shelved (r ∷ others) w.shelf)) (sym can.2) (Keeps.undo r.number r k (can.0, refl) out))
+  changed_tells (goes Going.Together gone) v can (left, split, (t, run, e)) h = subst Tells (sym e) (Keeps.roll gone.first.number gone.first (all_gone gone) k (can.0, refl) split)
   changed_tells (reorders a) v can e h = subst Tells (sym e) (Keeps.arrange a.order k can.1)
 
 pub reached_keeps : {w : World} → Reaches w → Tells w

@@ -17,6 +17,8 @@ pub mod Committing
 pub mod Numbering
 pub mod Taking
 pub mod Preparing
+pub mod Alone
+pub mod Arriving
 pub mod TakenAway
 pub mod Crosses
 pub mod Histories
@@ -28,7 +30,6 @@ pub mod RolledBack
 pub mod Arranged
 pub mod StreamNames
 pub mod StreamSteps
-pub mod Asking
 pub mod Replying
 pub mod Playable
 pub mod CertainRefusals

@@ -1,11 +1,14 @@
 -- What an event does to a world, one change does, or nothing; and what each change does to opening, journal and next number.
 use Rattle.std.proofs.Common.{◌≡◌, ◌⊎◌, ◌+◌, ◌≤◌, [], ◌∷◌, ◌++◌, refl, sym, ap, subst, inl, inr, arith}
-use Rattle.ghc_records.specs.Journal.{Entry, took, undid, rolled, redid, reordered, step_of}
+use Rattle.ghc_records.specs.Journal.{Entry, took, redid, reordered, step_of}
+use Rattle.ghc_records.specs.Record.{Record}
 use Rattle.ghc_depend.specs.Kept.{taken_numbers}
 use Rattle.ghc_core.specs.declared.change.Change.{Change}
-use Rattle.ghc_core.specs.declared.change.Change.TheVariants.{Adds as adds, PutsBack as puts_back, TakesAway as takes_away, TakesAll as takes_all, Reorders as reorders}
+use Rattle.ghc_core.specs.declared.change.Change.TheVariants.{Comes as comes, Goes as goes, Reorders as reorders}
+use Rattle.ghc_core.specs.declared.change.Coming.{Coming}
+use Rattle.ghc_core.specs.declared.change.Going.{Going}
 use Rattle.ghc_core.specs.World.{Hands, World}
-use Rattle.ghc_core.specs.Change.{CanChange, Changes}
+use Rattle.ghc_core.specs.Change.{CanChange, Changes, entry_of_going}
 use Rattle.ghc_term.specs.declared.goal_name.GoalName.{GoalName}
 use Rattle.ghc_core.specs.Events.{Command, Event, note, command, Reply}
 use Rattle.ghc_core.specs.Proposes as asking
@@ -65,13 +68,16 @@ pub record Enters (w v : World) : Type 0 where
 enters_none : (w v u : World) (entry : Entry) → v ≡ u → u.journal ≡ w.journal ++ entry ∷ [] → u.opening ≡ w.opening → taken_numbers (entry ∷ []) ≡ [] → u.next ≡ w.next → Enters w v
 enters_none w v u entry e journal opening none next = subst (Enters w) (sym e) (record { entry = entry; journal = journal; opening = opening; numbers = inl (none, next) })
 
+-- steps that go take none
+going_takes_none : (how : Going) (r : Record) → taken_numbers (entry_of_going how r ∷ []) ≡ []
+going_takes_none Going.Alone r = refl
+going_takes_none Going.Together r = refl
+
 -- A change enters itself.
 pub change_enters : (w v : World) (change : Change) → CanChange w change → Changes w change v → Enters w v
-change_enters w v (adds r) can e = subst (Enters w) (sym e) (record { entry = took (step_of r); journal = refl; opening = refl; numbers = inr (ap (λ n. n ∷ []) can.0, refl) })
-change_enters w v (puts_back r) can e = enters_none w v _ (redid r.number) e refl refl refl refl
-change_enters w v (takes_away r) can (left, out, (t, run, e)) = enters_none w v _ (undid r.number) e refl refl refl refl
-change_enters w v (takes_all []) can e = absurd can
-change_enters w v (takes_all (r ∷ rs)) can (left, split, (t, run, e)) = enters_none w v _ (rolled r.number) e refl refl refl refl
+change_enters w v (comes Coming.Next r) can e = subst (Enters w) (sym e) (record { entry = took (step_of r); journal = refl; opening = refl; numbers = inr (ap (λ n. n ∷ []) can.0, refl) })
+change_enters w v (comes Coming.Shelved r) can e = enters_none w v _ (redid r.number) e refl refl refl refl
+change_enters w v (goes how gone) can (left, split, (t, run, e)) = enters_none w v _ (entry_of_going how gone.first) e refl refl (going_takes_none how gone.first) refl
 change_enters w v (reorders a) can e = enters_none w v _ (reordered a.order) e refl refl refl refl
 
 -- So the opening stays, and the next number does not go down.

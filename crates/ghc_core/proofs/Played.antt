@@ -17,17 +17,18 @@ use Rattle.ghc_fire.specs.declared.act.Act.TheVariants.{Unified as unified}
 use Rattle.ghc_fire.specs.Effect.{Effect, HasEffect, no_step}
 use Rattle.ghc_fire.specs.Attempt as attempt
 use Rattle.ghc_fire.proofs.Steps.{effect_binds}
-use Rattle.ghc_records.specs.Orders.{nothing, leave}
+use Rattle.ghc_records.specs.Orders.{nothing, take, leave}
+use Rattle.ghc_depend.specs.Kept.{IsSplitAt}
 use Rattle.ghc_fire.specs.Goals.{Goals}
 use Rattle.ghc_records.specs.Record.{Record, Fires}
 use Rattle.ghc_records.specs.Journal.{undid}
 use Rattle.ghc_fire.proofs.GoalNames.{goal_total}
 use Rattle.ghc_records.proofs.States.{bound_at}
 use Rattle.std.specs.Option.{option_or}
-use Rattle.ghc_records.proofs.OrderLemmas.{is_before}
-use Rattle.ghc_depend.specs.Depend.{DependsOn, Follows, directly, further}
 use Rattle.ghc_core.specs.World.{Proposal, Hands, with_hand, emptied, World, with_step}
-use Rattle.ghc_core.specs.declared.change.Change.TheVariants.{Adds as adds, TakesAway as takes_away}
+use Rattle.ghc_core.specs.declared.change.Change.TheVariants.{Comes as comes, Goes as goes}
+use Rattle.ghc_core.specs.declared.change.Coming.{Coming}
+use Rattle.ghc_core.specs.declared.change.Going.{Going}
 use Rattle.ghc_core.specs.Change.{without_steps}
 use Rattle.ghc_core.specs.Answers.{to_undo, by_hand, by_command, Says, makes, says, fails, played}
 use Rattle.ghc_core.specs.Facts.{query_world, two_hands, equals, of_query, SecondHandIsStale, RedoIsChanged}
@@ -103,7 +104,7 @@ module _ where
         (
           stepped_on,
           emptied 1 both_held,
-          makes {change = adds (step 1 1 1)} (omega arith, omega arith) (by_hand {p = (proposal 1 1)} held_1 (
+          makes {change = comes Coming.Next (step 1 1 1)} (omega arith, omega arith) (by_hand {p = (proposal 1 1)} held_1 (
             (equals 1, tt, first_goal, binds [] 1 no_step (value_at finite.empty) unbound),
             (refl, ((equals 1, refl, first_goal), binds [] 1 1 (value_at finite.empty) unbound), (omega arith, omega arith), nothing_named query [] (step 1 1 1) refl),
             refl,
@@ -142,12 +143,8 @@ module _ where
   abbrev after_one : World
   after_one = with_step (step 1 1 1) at_first
 
-  alone : (c : Record) → ¬ DependsOn (step 1 1 1 ∷ []) c (step 1 1 1)
-  alone c d = elim (is_before (step 1 1 1 ∷ []) (step 1 1 1) c d.0) [ inl i ↦ i.1 | inr i ↦ i ]
-
-  nothing_follows : {b : Record} → ¬ Follows (step 1 1 1 ∷ []) (step 1 1 1) b
-  nothing_follows {b} (directly d) = alone b d
-  nothing_follows (further f d) = nothing_follows f
+  goes_by_itself : IsSplitAt (step 1 1 1 ∷ []) (step 1 1 1) (step 1 1 1 ∷ []) []
+  goes_by_itself = (take (inl refl) nothing, leave (λ n. n (inl refl)) nothing)
 
   abbrev after_undo : World
   after_undo = without_steps (step 1 1 1 ∷ []) [] at_first.state (undid 1) after_one
@@ -184,7 +181,7 @@ module _ where
       (
         after_one,
         emptied 1 hand_1,
-        makes {change = adds (step 1 1 1)} (omega arith, omega arith) (by_hand {p = (proposal 1 1)} (finite.get-insert nat_cmp_total finite.empty 1 (proposal 1 1) 1) (
+        makes {change = comes Coming.Next (step 1 1 1)} (omega arith, omega arith) (by_hand {p = (proposal 1 1)} (finite.get-insert nat_cmp_total finite.empty 1 (proposal 1 1) 1) (
           (equals 1, tt, there_1, binds [] 1 no_step (value_at finite.empty) unbound),
           (refl, ((equals 1, refl, there_1), binds [] 1 1 (value_at finite.empty) unbound), (omega arith, omega arith), nothing_named queries [] (step 1 1 1) refl),
           refl,
@@ -193,7 +190,7 @@ module _ where
         (
           after_undo,
           emptied 1 hand_1,
-          makes {change = takes_away (step 1 1 1)} tt (by_command (to_undo refl)) (inl refl, λ b f. nothing_follows f) ([], leave (λ n. n refl) nothing, (at_first.state, (((λ r i. absurd i), tt), refl, none_named queries), refl)) refl,
+          makes {change = goes Going.Alone (record { first = step 1 1 1; others = [] })} tt (by_command (to_undo refl)) (inl refl, ([], goes_by_itself), refl) ([], goes_by_itself, (at_first.state, (((λ r i. absurd i), tt), refl, none_named queries), refl)) refl,
           (
             after_undo,
             hand_2,
@@ -201,7 +198,7 @@ module _ where
             (
               after_two,
               emptied 1 hand_2,
-              makes {change = adds (step 2 2 2)} (omega arith, omega arith) (by_hand {p = (proposal 2 2)} (finite.get-insert nat_cmp_total (emptied 1 hand_1).held 1 (proposal 2 2) 1) (
+              makes {change = comes Coming.Next (step 2 2 2)} (omega arith, omega arith) (by_hand {p = (proposal 2 2)} (finite.get-insert nat_cmp_total (emptied 1 hand_1).held 1 (proposal 2 2) 1) (
                 (equals 2, tt, there_2, binds [] 2 no_step (value_at finite.empty) unbound),
                 (refl, ((equals 2, refl, there_2), binds [] 2 2 (value_at finite.empty) unbound), (omega arith, omega arith), nothing_named queries [] (step 2 2 2) refl),
                 refl,

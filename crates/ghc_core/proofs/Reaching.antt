@@ -23,8 +23,10 @@ use Rattle.ghc_depend.proofs.Picking.{picks_in, records_push}
 use Rattle.ghc_depend.proofs.KeptOnce.{shelved, unshelved}
 use Rattle.ghc_core.specs.World.{Hands, World, IsReplay, IsKnown, IsNextStep, with_step, Opens}
 use Rattle.ghc_core.specs.declared.change.Change.{Change}
-use Rattle.ghc_core.specs.declared.change.Change.TheVariants.{Adds as adds, PutsBack as puts_back, TakesAway as takes_away, TakesAll as takes_all, Reorders as reorders}
-use Rattle.ghc_core.specs.Change.{with_redone, without_steps, CanChange, Changes}
+use Rattle.ghc_core.specs.declared.change.Change.TheVariants.{Comes as comes, Goes as goes, Reorders as reorders}
+use Rattle.ghc_core.specs.declared.change.Coming.{Coming}
+use Rattle.ghc_core.specs.Gone.{all_gone}
+use Rattle.ghc_core.specs.Change.{with_coming, without_steps, CanChange, Changes}
 use Rattle.ghc_core.specs.Reached.{AreNamesOf, IsSound, Reaches, from_opening, by_change}
 use Rattle.ghc_core.specs.Legal.{IsReachable}
 use Rattle.ghc_core.specs.Laws as laws
@@ -108,7 +110,7 @@ module _ (w : World) (good : Good w) where
         one = push_one r n.1 positive new;
       }
 
-  redone_good : (r : Record) → finite.get w.shelf r.number ≡ Some r → Fires w.opening.program w.state r → IsKnown w r → Good (with_redone r w)
+  redone_good : (r : Record) → finite.get w.shelf r.number ≡ Some r → Fires w.opening.program w.state r → IsKnown w r → Good (with_coming Coming.Shelved r w)
   redone_good r e fires known =
       let on = good.shelf r.number r e in
       record {
@@ -167,15 +169,11 @@ module _ (w : World) (good : Good w) where
   }
 
   changed_good : (change : Change) (v : World) → CanChange w change → Changes w change v → Good v
-  changed_good (adds r) v can e = subst Good (sym e) (step_good r can)
-  changed_good (puts_back r) v can e = subst Good (sym e) (redone_good r can.0 can.1 can.3)
-  changed_good (takes_away r) v can (left, out, (t, run, e)) =
-      subst Good (sym e) (without_good (r ∷ []) left t _ (λ s i. elim i [ inl e ↦ subst (λ x. In x w.kept) (sym e) can.0 | inr j ↦ absurd j ]) (λ s i. (picks_in w.kept left s out i).0)
-      (λ s u i j same. elim i [ inl e ↦ (picks_in w.kept left u out j).1 (sym same ∙ e) | inr a ↦ a ]) run)
-  changed_good (takes_all []) v can e = absurd can
-  changed_good (takes_all (r ∷ rs)) v can (left, split, (t, run, e)) =
-      subst Good (sym e) (without_good (r ∷ rs) left t _ (λ s i. (picks_in w.kept (r ∷ rs) s split.0 i).0) (λ s i. (picks_in w.kept left s split.1 i).0)
-      (λ s u i j same. (picks_in w.kept left u split.1 j).1 (subst (GoesWith w.kept r) same (picks_in w.kept (r ∷ rs) s split.0 i).1)) run)
+  changed_good (comes Coming.Next r) v can e = subst Good (sym e) (step_good r can)
+  changed_good (comes Coming.Shelved r) v can e = subst Good (sym e) (redone_good r can.0 can.1 can.3)
+  changed_good (goes how gone) v can (left, split, (t, run, e)) =
+      subst Good (sym e) (without_good (all_gone gone) left t _ (λ s i. (picks_in w.kept (all_gone gone) s split.0 i).0) (λ s i. (picks_in w.kept left s split.1 i).0)
+      (λ s u i j same. (picks_in w.kept left u split.1 j).1 (subst (GoesWith w.kept gone.first) same (picks_in w.kept (all_gone gone) s split.0 i).1)) run)
   changed_good (reorders a) v can e = subst Good (sym e) (arranged_good a.order a.records _ can.0 can.1)
 
 opened_good : {w : World} {o : _} → IsSound o → Opens o w → Good w

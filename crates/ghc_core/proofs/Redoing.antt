@@ -10,20 +10,22 @@ use Rattle.ghc_records.specs.Numbers.{kept_limit}
 use Rattle.ghc_records.specs.Orders.{AreDistinct}
 use Rattle.ghc_records.specs.Record.{State, Record, numbers, Shelf}
 use Rattle.ghc_records.specs.Replay.{query_state, Runs, NameWhatIsKnown}
-use Rattle.ghc_records.specs.Journal.{Entry, undid, rolled}
+use Rattle.ghc_records.specs.Journal.{Entry}
 use Rattle.ghc_records.proofs.OrderLemmas.{number_in, records_distinct}
 use Rattle.ghc_records.proofs.Replaying.{run_once}
 use Rattle.ghc_depend.specs.Depend.{GoesWith}
 use Rattle.ghc_depend.specs.Deletion.{IsClosedUnder, IsPartedBy}
 use Rattle.ghc_depend.specs.Kept.{with_shelved}
 use Rattle.ghc_depend.proofs.ComingBack.{both_distinct, come_back}
-use Rattle.ghc_depend.proofs.Following.{one_is, alone_closed, split_closed}
+use Rattle.ghc_depend.proofs.Following.{split_closed}
 use Rattle.ghc_depend.proofs.Picking.{no_longer, picks_in, picks_distinct}
 use Rattle.ghc_depend.proofs.KeptOnce.{same_number, runs_split}
 use Rattle.ghc_core.specs.declared.change.Change.{Change}
-use Rattle.ghc_core.specs.declared.change.Change.TheVariants.{Adds as adds, PutsBack as puts_back, TakesAway as takes_away, TakesAll as takes_all, Reorders as reorders}
+use Rattle.ghc_core.specs.declared.change.Change.TheVariants.{Comes as comes, Goes as goes, Reorders as reorders}
+use Rattle.ghc_core.specs.declared.change.Coming.{Coming}
+use Rattle.ghc_core.specs.Gone.{all_gone}
 use Rattle.ghc_core.specs.World.{Hands, World, IsReplay}
-use Rattle.ghc_core.specs.Change.{with_redone, without_steps, CanChange, Changes}
+use Rattle.ghc_core.specs.Change.{with_coming, entry_of_going, without_steps, CanChange, Changes}
 use Rattle.ghc_core.specs.Events.{Command, redo, command, stepped, undone}
 use Rattle.ghc_core.specs.Answers.{to_redo, told_of, Obeys, does, AnswersEach}
 use Rattle.ghc_core.specs.Returns as laws
@@ -55,13 +57,13 @@ redo_each : (hands : Hands) (rest : List Record) (x : World) (goal : State) → 
     → (u : World) × AnswersEach (λ i. ⊥) x hands (map (λ m. command (redo m)) (numbers rest)) (map stepped (numbers rest)) u hands × (u.state ≡ goal)
 redo_each hands [] x goal run on d l named = (x, (refl, refl), sym run)
 redo_each hands (r ∷ rest) x goal run on d l named =
-    let y = with_redone r x in
+    let y = with_coming Coming.Shelved r x in
     let longer : length (x.kept ++ r ∷ []) ≡ length x.kept + 1 = length-append x.kept (r ∷ []) in
     let next = redo_each hands rest y goal run.1 (λ s i.
     finite.get-remove nat_cmp_total x.shelf r.number s.number
     ∙ ap (λ b. cond b None (finite.get x.shelf s.number)) (number_apart s.number r.number (λ e. d.0 (subst (λ n. In n (numbers rest)) e (number_in rest s i))))
     ∙ on s (inr i)) d.1 (omega arith) (subst (NameWhatIsKnown x.opening.query) (sym (append_assoc x.kept (r ∷ []) rest)) named) in
-    (next.0, (y, hands, obeyed_answers hands (does {change = puts_back r} (to_redo refl) (on r (inl refl), run.0, omega arith, named x.kept rest r refl) refl refl), next.1), next.2)
+    (next.0, (y, hands, obeyed_answers hands (does {change = comes Coming.Shelved r} (to_redo refl) (on r (inl refl), run.0, omega arith, named x.kept rest r refl) refl refl), next.1), next.2)
 
 -- the steps of these numbers are redone from v on, which leaves the state of w
 abbrev Redone : World → World → Hands → List ℕ → Type 0
@@ -96,15 +98,10 @@ module _ (w : World) (good : Good w) (h : Replayed w) where
 
   -- a change that is told as steps undone took these away
   redo_changed : (hands : Hands) (ns : List ℕ) (v : World) (change : Change) → CanChange w change → Changes w change v → undone ns ≡ told_of change → Redone w v hands ns
-  redo_changed hands ns v (adds r) can e told = cc
-  redo_changed hands ns v (puts_back r) can e told = cc
-  redo_changed hands ns v (takes_away r) can (left, out, (t, run, e)) told =
+  redo_changed hands ns v (comes from r) can e told = cc
+  redo_changed hands ns v (goes how gone) can (left, split, (t, run, e)) told =
       subst₂ (λ z ms. Redone w z hands ms) (sym e) (sym (same_list told))
-      (back (λ s. s ≡ r) (r ∷ []) left (one_is w.kept good.kept_once w.kept r good.kept_once can.0, out) (alone_closed w.kept good.kept_once r can.1) t run (undid r.number) hands)
-  redo_changed hands ns v (takes_all []) can e told = absurd can
-  redo_changed hands ns v (takes_all (r ∷ rs)) can (left, split, (t, run, e)) told =
-      subst₂ (λ z ms. Redone w z hands ms) (sym e) (sym (same_list told))
-      (back (GoesWith w.kept r) (r ∷ rs) left split (split_closed w.kept good.kept_once r can.0) t run (rolled r.number) hands)
+      (back (GoesWith w.kept gone.first) (all_gone gone) left split (split_closed w.kept good.kept_once gone.first can.0) t run (entry_of_going how gone.first) hands)
   redo_changed hands ns v (reorders a) can e told = cc
 
   redo_obeyed : (hands : Hands) (ns : List ℕ) (v : World) (c : Command) → Obeys (Unit {0}) w c (undone ns) v → Redone w v hands ns

@@ -20,7 +20,9 @@ use Rattle.ghc_depend.proofs.Placing.{place_of}
 use Rattle.ghc_depend.proofs.Results.{IsAsking, firing}
 use Rattle.ghc_core.specs.World.{World, IsReplay, IsKnown, IsNextStep}
 use Rattle.ghc_core.specs.declared.change.Change.{Change}
-use Rattle.ghc_core.specs.declared.change.Change.TheVariants.{Adds as adds, PutsBack as puts_back, TakesAway as takes_away, TakesAll as takes_all, Reorders as reorders}
+use Rattle.ghc_core.specs.declared.change.Change.TheVariants.{Comes as comes, Goes as goes, Reorders as reorders}
+use Rattle.ghc_core.specs.declared.change.Coming.{Coming}
+use Rattle.ghc_core.specs.Gone.{all_gone}
 use Rattle.ghc_core.specs.Change.{without_steps, CanChange, Changes}
 use Rattle.ghc_core.specs.Reached.{Reaches, from_opening, by_change}
 use Rattle.ghc_core.specs.Returns as laws
@@ -89,13 +91,13 @@ module _ (w : World) (good : Good w) (h : Replayed w) where
   }
 
   changed : (change : Change) (v : World) → CanChange w change → Changes w change v → Replayed v
-  changed (adds r) v can e = subst Replayed (sym e) (record {
+  changed (comes Coming.Next r) v can e = subst Replayed (sym e) (record {
     replay = pushed r can.1 can.3 (next_number r can) (not_next w good r can.0);
     within = (let room = can.2.0 in omega arith);
     few = one_more w.kept r can.2.1;
     asking = h.asking;
   })
-  changed (puts_back r) v can e =
+  changed (comes Coming.Shelved r) v can e =
       let on = good.shelf r.number r can.0 in
       let first = on.1 in
       let less = on.2 in
@@ -106,9 +108,8 @@ module _ (w : World) (good : Good w) (h : Replayed w) where
         few = one_more w.kept r can.2;
         asking = λ n s e none. h.asking n s (unshelved w.shelf r.number n s e).0 none;
       })
-  changed (takes_away r) v can (left, out, (t, run, e)) = subst Replayed (sym e) (left_replayed (r ∷ []) left t _ run (λ s i. elim i [ inl e ↦ subst (λ x. In x w.kept) (sym e) can.0 | inr j ↦ absurd j ]) (λ s i. (picks_in w.kept left s out i).0))
-  changed (takes_all []) v can e = absurd can
-  changed (takes_all (r ∷ rs)) v can (left, split, (t, run, e)) = subst Replayed (sym e) (left_replayed (r ∷ rs) left t _ run (λ s i. (picks_in w.kept (r ∷ rs) s split.0 i).0) (λ s i. (picks_in w.kept left s split.1 i).0))
+  changed (goes how gone) v can (left, split, (t, run, e)) =
+      subst Replayed (sym e) (left_replayed (all_gone gone) left t _ run (λ s i. (picks_in w.kept (all_gone gone) s split.0 i).0) (λ s i. (picks_in w.kept left s split.1 i).0))
   changed (reorders a) v can e =
       let run = arranged w.opening.program w.opening.query w.kept w.state a.order a.records good.accepted good.asked h.replay can.0 can.1 in
       subst Replayed (sym e) (record { replay = run; within = h.within; few = still_few a.records run.0.1 (λ s i. (can.1.1 s).0 i); asking = h.asking })

@@ -9,7 +9,9 @@ use Rattle.ghc_flat.specs.Clause.{Program, Query}
 use Rattle.ghc_records.specs.Journal.{Step, Opening, Entry, took, history, opening_journal}
 use Rattle.ghc_records.specs.History.{IsHistory, loaded_opening}
 use Rattle.ghc_core.specs.declared.change.Change.{Change}
-use Rattle.ghc_core.specs.declared.change.Change.TheVariants.{Adds as adds, PutsBack as puts_back, TakesAway as takes_away, TakesAll as takes_all, Reorders as reorders}
+use Rattle.ghc_core.specs.declared.change.Change.TheVariants.{Comes as comes, Goes as goes, Reorders as reorders}
+use Rattle.ghc_core.specs.declared.change.Coming.{Coming}
+use Rattle.ghc_core.specs.declared.change.Going.{Going}
 use Rattle.ghc_records.specs.declared.predicate.Predicate.{Predicate}
 use Rattle.ghc_records.specs.Chronicle.{Chronicle, next_after, next_behind}
 use Rattle.ghc_core.specs.World.{World, Opens}
@@ -177,11 +179,10 @@ told_carried w hands spies r known = (answer, only)
 
 -- the number that the next step gets behind a change
 change_next : (w v : World) (change : Change) → CanChange w change → Changes w change v → v.next ≡ next_after w.next (entered_by change)
-change_next w v (adds r) can e = ap (λ (z : World). z.next) e
-change_next w v (puts_back r) can e = ap (λ (z : World). z.next) e
-change_next w v (takes_away r) can (left, out, (t, run, e)) = ap (λ (z : World). z.next) e
-change_next w v (takes_all []) can e = absurd can
-change_next w v (takes_all (r ∷ rs)) can (left, split, (t, run, e)) = ap (λ (z : World). z.next) e
+change_next w v (comes Coming.Next r) can e = ap (λ (z : World). z.next) e
+change_next w v (comes Coming.Shelved r) can e = ap (λ (z : World). z.next) e
+change_next w v (goes Going.Alone gone) can (left, split, (t, run, e)) = ap (λ (z : World). z.next) e
+change_next w v (goes Going.Together gone) can (left, split, (t, run, e)) = ap (λ (z : World). z.next) e
 change_next w v (reorders a) can e = ap (λ (z : World). z.next) e
 
 -- What stays and what grows where entries are carried out.

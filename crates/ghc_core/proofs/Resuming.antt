@@ -1,15 +1,17 @@
 -- Entries are carried out by the changes that enter them, and each is carried out in one way.
-use Rattle.std.proofs.Common.{◌≡◌, ◌≢◌, List, [], ◌∷◌, ◌++◌, refl, sym, ap, ◌∙◌, subst, inl, inr}
+use Rattle.std.proofs.Common.{◌≡◌, ◌≢◌, ℕ, List, [], ◌∷◌, ◌++◌, refl, sym, ap, ◌∙◌, subst, inl, inr}
 use Rattle.ghc_term.specs.declared.fault.Fault.{Fault}
 use Rattle.ghc_records.specs.Record.{Record}
 use Rattle.ghc_records.specs.Journal.{Step, Entry, took, undid, rolled, redid, reordered, step_of}
 use Rattle.ghc_core.specs.declared.change.Change.{Change}
-use Rattle.ghc_core.specs.declared.change.Change.TheVariants.{Adds as adds, PutsBack as puts_back, TakesAway as takes_away, TakesAll as takes_all, Reorders as reorders}
+use Rattle.ghc_core.specs.declared.change.Change.TheVariants.{Comes as comes, Goes as goes, Reorders as reorders}
+use Rattle.ghc_core.specs.declared.change.Coming.{Coming}
+use Rattle.ghc_core.specs.declared.change.Going.{Going}
 use Rattle.ghc_core.specs.World.{no_hands, World, IsNextStep, with_step}
-use Rattle.ghc_core.specs.Change.{CanChange, Changes}
+use Rattle.ghc_core.specs.Change.{CanChange, Changes, entry_of_going}
 use Rattle.ghc_core.specs.Core.{IsStanding}
-use Rattle.ghc_core.specs.Events.{Command, input, finish, undo, roll, redo, arrange, ask, command, refused}
-use Rattle.ghc_core.specs.Answers.{Asks, to_give, to_close, to_undo, to_roll, to_redo, to_arrange, to_ask, told_of, Fails, by_command, makes, fails}
+use Rattle.ghc_core.specs.Events.{Command, undo, roll, redo, arrange, command, refused}
+use Rattle.ghc_core.specs.Answers.{Asks, to_undo, to_roll, to_redo, to_arrange, told_of, Fails, by_command, makes, fails}
 use Rattle.ghc_core.specs.Asked.{IsAskedFor}
 use Rattle.ghc_core.specs.Resume.{CarriesOut, IsRefusedEntry}
 use Rattle.ghc_core.proofs.Answering.{events_once}
@@ -20,19 +22,15 @@ use Rattle.ghc_core.proofs.Taking.{reached_reachable}
 
 -- the entry that a change enters
 abbrev pub entered_by : Change → Entry
-entered_by (adds r) = took (step_of r)
-entered_by (puts_back r) = redid r.number
-entered_by (takes_away r) = undid r.number
-entered_by (takes_all []) = rolled 0
-entered_by (takes_all (r ∷ rs)) = rolled r.number
+entered_by (comes Coming.Next r) = took (step_of r)
+entered_by (comes Coming.Shelved r) = redid r.number
+entered_by (goes how gone) = entry_of_going how gone.first
 entered_by (reorders a) = reordered a.order
 
 pub enters_own : (w v : World) (change : Change) → CanChange w change → Changes w change v → v.journal ≡ w.journal ++ entered_by change ∷ []
-enters_own w v (adds r) can e = ap (λ (z : World). z.journal) e
-enters_own w v (puts_back r) can e = ap (λ (z : World). z.journal) e
-enters_own w v (takes_away r) can (left, out, (t, run, e)) = ap (λ (z : World). z.journal) e
-enters_own w v (takes_all []) can e = absurd can
-enters_own w v (takes_all (r ∷ rs)) can (left, split, (t, run, e)) = ap (λ (z : World). z.journal) e
+enters_own w v (comes Coming.Next r) can e = ap (λ (z : World). z.journal) e
+enters_own w v (comes Coming.Shelved r) can e = ap (λ (z : World). z.journal) e
+enters_own w v (goes how gone) can (left, split, (t, run, e)) = ap (λ (z : World). z.journal) e
 enters_own w v (reorders a) can e = ap (λ (z : World). z.journal) e
 
 -- a list with one item more has one last item
@@ -57,14 +55,13 @@ carries w v entry s (change, can, changes, is) = change_entered w v change (stan
 
 -- A step is carried out as the next one.
 pub step_carried : (w v : World) (s : Step) (r : Record) → IsStanding w → IsNextStep w r → step_of r ≡ s → v ≡ with_step r w → CarriesOut w (took s) v
-step_carried w v s r standing next is e = carries w v (took s) standing (adds r, next, e, ap took is)
+step_carried w v s r standing next is e = carries w v (took s) standing (comes Coming.Next r, next, e, ap took is)
 
 step_added : (w v : World) (s : Step) (change : Change) → CanChange w change → Changes w change v → entered_by change ≡ took s → (r : Record) × (step_of r ≡ s) × IsNextStep w r
-step_added w v s (adds r) can changes e = (r, (let same : step_of r ≡ s = cc in same), can)
-step_added w v s (puts_back r) can changes e = cc
-step_added w v s (takes_away r) can changes e = cc
-step_added w v s (takes_all []) can changes e = cc
-step_added w v s (takes_all (r ∷ rs)) can changes e = cc
+step_added w v s (comes Coming.Next r) can changes e = (r, (let same : step_of r ≡ s = cc in same), can)
+step_added w v s (comes Coming.Shelved r) can changes e = cc
+step_added w v s (goes Going.Alone gone) can changes e = cc
+step_added w v s (goes Going.Together gone) can changes e = cc
 step_added w v s (reorders a) can changes e = cc
 
 -- A step that is not possible as the next one is refused.
@@ -75,70 +72,40 @@ step_refused w s never v carried =
     never added.0 added.1 added.2
 
 -- The command is that of an entry that takes no step.
-abbrev pub IsCommandOf : Entry → Command → Type 0
-IsCommandOf entry (undo n) = undid n ≡ entry
-IsCommandOf entry (roll n) = rolled n ≡ entry
-IsCommandOf entry (redo n) = redid n ≡ entry
-IsCommandOf entry (arrange ns) = reordered ns ≡ entry
-IsCommandOf entry (input k t) = ⊥
-IsCommandOf entry (finish k) = ⊥
-IsCommandOf entry (ask gs) = ⊥
+pub data IsCommandOf : Entry → Command → Type 0 where
+  for_undo : {n : ℕ} → IsCommandOf (undid n) (undo n)
+  for_roll : {n : ℕ} → IsCommandOf (rolled n) (roll n)
+  for_redo : {n : ℕ} → IsCommandOf (redid n) (redo n)
+  for_arrange : {ns : List ℕ} → IsCommandOf (reordered ns) (arrange ns)
 
 -- The change for which it asks enters the entry.
-asks_enters : {c : Command} {change : Change} (entry : Entry) → IsCommandOf entry c → Asks c change → entered_by change ≡ entry
-asks_enters entry of (to_give step) = absurd of
-asks_enters entry of (to_close step) = absurd of
-asks_enters entry of (to_undo e) = ap undid e ∙ of
-asks_enters entry of (to_roll e) = ap rolled e ∙ of
-asks_enters entry of (to_redo e) = ap redid e ∙ of
-asks_enters entry of (to_arrange e) = ap reordered e ∙ of
-asks_enters entry of (to_ask step) = absurd of
+asks_enters : {entry : Entry} {c : Command} {change : Change} → IsCommandOf entry c → Asks c change → entered_by change ≡ entry
+asks_enters for_undo (to_undo e) = ap undid e
+asks_enters for_roll (to_roll e) = ap rolled e
+asks_enters for_redo (to_redo e) = ap redid e
+asks_enters for_arrange (to_arrange e) = ap reordered e
 
 -- Of a change that enters the entry, the command asks for it.
-enters_asks : (w : World) (c : Command) (change : Change) → CanChange w change → IsCommandOf (entered_by change) c → Asks c change
-enters_asks w (input k t) change can of = absurd of
-enters_asks w (finish k) change can of = absurd of
-enters_asks w (ask gs) change can of = absurd of
-enters_asks w (undo n) (takes_away r) can of = to_undo (let e : r.number ≡ n = cc in e)
-enters_asks w (undo n) (adds r) can of = cc
-enters_asks w (undo n) (puts_back r) can of = cc
-enters_asks w (undo n) (takes_all []) can of = cc
-enters_asks w (undo n) (takes_all (r ∷ rs)) can of = cc
-enters_asks w (undo n) (reorders a) can of = cc
-enters_asks w (roll n) (takes_all []) can of = absurd can
-enters_asks w (roll n) (takes_all (r ∷ rs)) can of = to_roll (let e : r.number ≡ n = cc in e)
-enters_asks w (roll n) (adds r) can of = cc
-enters_asks w (roll n) (puts_back r) can of = cc
-enters_asks w (roll n) (takes_away r) can of = cc
-enters_asks w (roll n) (reorders a) can of = cc
-enters_asks w (redo n) (puts_back r) can of = to_redo (let e : r.number ≡ n = cc in e)
-enters_asks w (redo n) (adds r) can of = cc
-enters_asks w (redo n) (takes_away r) can of = cc
-enters_asks w (redo n) (takes_all []) can of = cc
-enters_asks w (redo n) (takes_all (r ∷ rs)) can of = cc
-enters_asks w (redo n) (reorders a) can of = cc
-enters_asks w (arrange ns) (reorders a) can of = to_arrange (let e : a.order ≡ ns = cc in e)
-enters_asks w (arrange ns) (adds r) can of = cc
-enters_asks w (arrange ns) (puts_back r) can of = cc
-enters_asks w (arrange ns) (takes_away r) can of = cc
-enters_asks w (arrange ns) (takes_all []) can of = cc
-enters_asks w (arrange ns) (takes_all (r ∷ rs)) can of = cc
+enters_asks : {c : Command} (change : Change) → IsCommandOf (entered_by change) c → Asks c change
+enters_asks (comes Coming.Next r) of = elim of [ ]
+enters_asks (comes Coming.Shelved r) for_redo = to_redo refl
+enters_asks (goes Going.Alone gone) for_undo = to_undo refl
+enters_asks (goes Going.Together gone) for_roll = to_roll refl
+enters_asks (reorders a) for_arrange = to_arrange refl
 
 -- What a command asks for carries out its entry.
 pub command_carried : (w v : World) (entry : Entry) (c : Command) (change : Change) → IsStanding w → IsCommandOf entry c → IsAskedFor w c change → Changes w change v → CarriesOut w entry v
-command_carried w v entry c change s of (asks, can) changes = carries w v entry s (change, can, changes, asks_enters entry of asks)
+command_carried w v entry c change s of (asks, can) changes = carries w v entry s (change, can, changes, asks_enters of asks)
 
 -- Where it asks for nothing that can be made, its entry is refused.
 pub command_refused : (w : World) (entry : Entry) (c : Command) → IsCommandOf entry c → ((change : Change) (v : World) → IsAskedFor w c change → ¬ Changes w change v) → IsRefusedEntry w entry
 command_refused w entry c of never v carried =
     let by = carried_by w v entry carried in
-    never by.0 v (enters_asks w c by.0 by.1 (subst (λ e. IsCommandOf e c) (sym by.3) of), by.1) by.2
+    never by.0 v (enters_asks by.0 (subst (λ e. IsCommandOf e c) (sym by.3) of), by.1) by.2
 
 told_not_refused : (change : Change) (f : Fault) → told_of change ≢ refused f
-told_not_refused (adds r) f e = cc
-told_not_refused (puts_back r) f e = cc
-told_not_refused (takes_away r) f e = cc
-told_not_refused (takes_all gone) f e = cc
+told_not_refused (comes from r) f e = cc
+told_not_refused (goes how gone) f e = cc
 told_not_refused (reorders a) f e = cc
 
 -- A command that is refused asks for nothing that can be made.

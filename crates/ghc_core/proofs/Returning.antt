@@ -20,9 +20,13 @@ use Rattle.ghc_depend.proofs.Picking.{before_front, records_push}
 use Rattle.ghc_depend.proofs.Undoing as undoing
 use Rattle.ghc_depend.proofs.TakenTogether.{first_gone}
 use Rattle.ghc_core.specs.declared.change.Change.{Change}
-use Rattle.ghc_core.specs.declared.change.Change.TheVariants.{Adds as adds, PutsBack as puts_back, TakesAway as takes_away, TakesAll as takes_all, Reorders as reorders}
+use Rattle.ghc_core.specs.declared.change.Change.TheVariants.{Comes as comes, Goes as goes, Reorders as reorders}
+use Rattle.ghc_core.specs.declared.change.Coming.{Coming}
+use Rattle.ghc_core.specs.declared.change.Going.{Going}
+use Rattle.ghc_core.specs.Gone.{Gone, all_gone}
+use Rattle.ghc_core.proofs.Alone.{goes_alone, others_left}
 use Rattle.ghc_core.specs.World.{no_hands, Hands, World, IsReplay, with_step}
-use Rattle.ghc_core.specs.Change.{with_redone, without_steps, with_order, CanChange, Changes}
+use Rattle.ghc_core.specs.Change.{with_coming, without_steps, with_order, CanChange, Changes}
 use Rattle.ghc_core.specs.Events.{undo, roll, Event, Reply, stepped, undone, refused}
 use Rattle.ghc_core.specs.Answers.{to_undo, to_roll, to_arrange, told_of, Obeys, does, refuses, Answers, makes, says}
 use Rattle.ghc_core.specs.Reached.{Reaches}
@@ -40,18 +44,22 @@ rolls_away {Starved} w n r distinct k gone left t split run =
     let first = first_gone w.kept r gone left distinct k.0 split in
     let parts : IsSplitAt w.kept r (r ∷ first.0) left = subst (λ z. IsSplitAt w.kept r z left) first.1 split in
     subst (λ z. Obeys Starved w (roll n) (undone (numbers z)) (without_steps z left t (rolled r.number) w)) (sym first.1)
-    (does {change = takes_all (r ∷ first.0)} (to_roll k.1) (k.0, (left, parts)) (left, parts, (t, run, refl)) refl)
+    (does {change = goes Going.Together (record { first = r; others = first.0 })} (to_roll k.1) (k.0, (left, parts), tt) (left, parts, (t, run, refl)) refl)
 
 -- A kept step without consequences is taken away.
-undoes_away : {Starved : Type 0} (w : World) (n : ℕ) (r : Record) → IsKeptAs w.kept n r → ((b : Record) → ¬ Follows w.kept r b) → (left : List Record) (t : State) → IsWithout w.kept r left → IsReplay w left t
+undoes_away : {Starved : Type 0} (w : World) (n : ℕ) (r : Record) → AreDistinct (numbers w.kept) → IsKeptAs w.kept n r → ((b : Record) → ¬ Follows w.kept r b) → (left : List Record) (t : State) → IsWithout w.kept r left → IsReplay w left t
     → Obeys Starved w (undo n) (undone (n ∷ [])) (without_steps (r ∷ []) left t (undid r.number) w)
-undoes_away w n r k none left t out run = does {change = takes_away r} (to_undo k.1) (k.0, none) (left, out, (t, run, refl)) (ap (λ m. undone (m ∷ [])) (sym k.1))
+undoes_away w n r distinct k none left t out run =
+    let alone = goes_alone w.kept distinct r k.0 none in
+    let same : alone.0 ≡ left = picks_once w.kept alone.0 left (others_left w.kept r alone.0 alone.1) out in
+    let split : IsSplitAt w.kept r (r ∷ []) left = subst (IsSplitAt w.kept r (r ∷ [])) same alone.1 in
+    does {change = goes Going.Alone (record { first = r; others = [] })} (to_undo k.1) (k.0, (left, split), refl) (left, split, (t, run, refl)) (ap (λ m. undone (m ∷ [])) (sym k.1))
 
 pub undo_takes : laws.UndoTakesStepAway
 undo_takes w hands n r reach k none =
     let good = reachable_good reach in
     let u = undoing.undone w.opening.program w.opening.query w.kept w.state r good.accepted good.asked (reachable_replay w hands reach) k.0 none in
-    (without_steps (r ∷ []) u.0 u.1 (undid r.number) w, undoes_away w n r k none u.0 u.1 u.2 u.3, u.2, u.4)
+    (without_steps (r ∷ []) u.0 u.1 (undid r.number) w, undoes_away w n r good.kept_once k none u.0 u.1 u.2 u.3, u.2, u.4)
 
 pub roll_takes : laws.RollTakesStepsAway
 roll_takes w hands n r reach k =
@@ -65,22 +73,14 @@ module _ (w v : World) (s : Reaches w) where
   one_state rest left x t same walk run =
       run_once w.opening.program (query_state w.opening.query) left x t (subst (λ z. Runs w.opening.program (query_state w.opening.query) z x) same walk.1) run.1
 
-  -- What takes a step away leaves the state without it,
-  pub undo_leaves : (r : Record) → CanChange w (takes_away r) → Changes w (takes_away r) v → IsWithoutSteps (r ∷ []) w.state v.state
-  undo_leaves r can (left, out, (t, run, e)) =
+  -- What takes steps away leaves the state without them.
+  pub going_leaves : (how : Going) (gone : Gone) → CanChange w (goes how gone) → Changes w (goes how gone) v → IsWithoutSteps (all_gone gone) w.state v.state
+  going_leaves how gone can (left, split, (t, run, e)) =
       let good = reached_good s in
-      let u = undoing.undone w.opening.program w.opening.query w.kept w.state r good.accepted good.asked (replayed s).replay can.0 can.1 in
-      let states : u.1 ≡ t = one_state u.0 left u.1 t (picks_once w.kept u.0 left u.2 out) u.3 run in
-      subst (λ (z : World). IsWithoutSteps (r ∷ []) w.state z.state) (sym e) (subst (λ (x : State). IsWithoutSteps (r ∷ []) w.state x) states u.4)
-
-  -- and what takes a step away with its consequences leaves it without these.
-  pub roll_leaves : (r : Record) (rs : List Record) → CanChange w (takes_all (r ∷ rs)) → Changes w (takes_all (r ∷ rs)) v → IsWithoutSteps (r ∷ rs) w.state v.state
-  roll_leaves r rs can (left, split, (t, run, e)) =
-      let good = reached_good s in
-      let u = undoing.rolled w.opening.program w.opening.query w.kept w.state r good.accepted good.asked (replayed s).replay can.0 in
-      let gone : u.0 ≡ r ∷ rs = picks_once w.kept u.0 (r ∷ rs) u.3.0 split.0 in
+      let u = undoing.rolled w.opening.program w.opening.query w.kept w.state gone.first good.accepted good.asked (replayed s).replay can.0 in
+      let all : u.0 ≡ all_gone gone = picks_once w.kept u.0 (all_gone gone) u.3.0 split.0 in
       let states : u.2 ≡ t = one_state u.1 left u.2 t (picks_once w.kept u.1 left u.3.1 split.1) u.4 run in
-      subst (λ (z : World). IsWithoutSteps (r ∷ rs) w.state z.state) (sym e) (subst (λ (x : State). IsWithoutSteps (r ∷ rs) w.state x) states (subst (λ g. IsWithoutSteps g w.state u.2) gone u.5))
+      subst (λ (z : World). IsWithoutSteps (all_gone gone) w.state z.state) (sym e) (subst (λ (x : State). IsWithoutSteps (all_gone gone) w.state x) states (subst (λ g. IsWithoutSteps g w.state u.2) all u.5))
 
 pub undoes_answered : (w : World) (n : ℕ) → Reaches w → (reply : Reply) × (v : World) × Obeys ⊥ w (undo n) reply v
 undoes_answered w n reach = elim (in_decided nat_decided n (numbers w.kept)) [
@@ -128,7 +128,7 @@ module _ (w : World) (good : Good w) (replay : IsReplay w w.kept w.state) where
   undo_last r n v opening kept number new =
       let distinct = records_distinct (w.kept ++ r ∷ []) (records_push w.kept r good.kept_once new) in (
         without_steps (r ∷ []) w.kept w.state (undid r.number) v,
-        undoes_away v n r (subst (In r) (sym kept) (in_right w.kept (r ∷ []) r (inl refl)), number)
+        undoes_away v n r (subst (λ ks. AreDistinct (numbers ks)) (sym kept) (records_push w.kept r good.kept_once new)) (subst (In r) (sym kept) (in_right w.kept (r ∷ []) r (inl refl)), number)
             (λ b f. last_alone w.kept r distinct (subst (λ z. Follows z r b) kept f)) w.kept w.state
             (subst (λ z. IsWithout z r w.kept) (sym kept) (without_last w.kept r (λ s i e. new (subst (λ (z : Record). In z.number (numbers w.kept)) e (number_in w.kept s i)))))
             (subst (λ o. IsReplay (record w { opening = o }) w.kept w.state) (sym opening) replay),
@@ -138,10 +138,9 @@ module _ (w : World) (good : Good w) (replay : IsReplay w w.kept w.state) where
 
   -- a change that is told as a step took one
   undo_changed : (n : ℕ) (v : World) (change : Change) → CanChange w change → Changes w change v → stepped n ≡ told_of change → Undone w n v
-  undo_changed n v (adds r) can e told = subst (Undone w n) (sym e) (undo_last r n (with_step r w) refl refl (sym (same_number told)) (not_next w good r can.0))
-  undo_changed n v (puts_back r) can e told = subst (Undone w n) (sym e) (undo_last r n (with_redone r w) refl refl (sym (same_number told)) (good.shelf r.number r can.0).3)
-  undo_changed n v (takes_away r) can e told = cc
-  undo_changed n v (takes_all gone) can e told = cc
+  undo_changed n v (comes Coming.Next r) can e told = subst (Undone w n) (sym e) (undo_last r n (with_step r w) refl refl (sym (same_number told)) (not_next w good r can.0))
+  undo_changed n v (comes Coming.Shelved r) can e told = subst (Undone w n) (sym e) (undo_last r n (with_coming Coming.Shelved r w) refl refl (sym (same_number told)) (good.shelf r.number r can.0).3)
+  undo_changed n v (goes how gone) can e told = cc
   undo_changed n v (reorders a) can e told = cc
 
   undo_answered : (n : ℕ) (hands left : Hands) (e : Event) (v : World) → Answers (Unit {0}) w hands e (stepped n) v left → Undone w n v

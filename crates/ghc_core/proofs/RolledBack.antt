@@ -10,7 +10,7 @@ use Rattle.ghc_fire.specs.Goals.{Goals}
 use Rattle.ghc_records.specs.Orders.{Picks, AreDistinct}
 use Rattle.ghc_records.specs.Record.{State, Record, numbers, Shelf}
 use Rattle.ghc_records.specs.State.{IsTakenBack, AreTakenBack}
-use Rattle.ghc_records.specs.Journal.{Opening, Entry, undid, rolled}
+use Rattle.ghc_records.specs.Journal.{Opening, Entry, undid}
 use Rattle.ghc_records.proofs.OrderLemmas.{number_of}
 use Rattle.ghc_hooks.specs.Notes.{Note, NotesByGoal, AreLeft}
 use Rattle.ghc_hooks.specs.Tries.{Tries}
@@ -21,15 +21,18 @@ use Rattle.ghc_depend.proofs.Finding.{by_option, not_both}
 use Rattle.ghc_depend.proofs.Following.{alone}
 use Rattle.ghc_depend.proofs.Picking.{picks_has}
 use Rattle.ghc_depend.proofs.Placing.{results_of}
-use Rattle.ghc_depend.proofs.TakenTogether.{apart_behind, picks_all, picks_within, first_gone, alone_left, rest_left, gone_kept, gone_distinct}
+use Rattle.ghc_depend.proofs.TakenTogether.{apart_behind, picks_all, picks_within, alone_left, rest_left, gone_kept, gone_distinct}
 use Rattle.ghc_core.specs.World.{World, IsReplay}
-use Rattle.ghc_core.specs.declared.change.Change.TheVariants.{TakesAway as takes_away, TakesAll as takes_all}
+use Rattle.ghc_core.specs.declared.change.Change.TheVariants.{Goes as goes}
+use Rattle.ghc_core.specs.declared.change.Going.{Going}
+use Rattle.ghc_core.specs.Gone.{Gone, all_gone}
 use Rattle.ghc_core.specs.Reached.{by_change}
 use Rattle.ghc_core.specs.Core.{IsStanding, AreExactIn}
-use Rattle.ghc_core.specs.Change.{CanRoll, CanChange, Changes}
+use Rattle.ghc_core.specs.Change.{CanChange, Changes, entry_of_going}
 use Rattle.ghc_core.specs.Carried.{Consumed, AreCarriedBack, AreAllCarriedBack}
 use Rattle.ghc_core.specs.StreamGoals.{told_back, all_told_back, TellStreams}
 use Rattle.ghc_core.proofs.Exactness.{back_exact, back_left}
+use Rattle.ghc_core.proofs.Alone.{goes_alone}
 use Rattle.ghc_core.proofs.Preparing.{same_world}
 use Rattle.ghc_core.proofs.Reaching.{reached_good}
 use Rattle.ghc_core.proofs.Standing.{standing_replay}
@@ -150,11 +153,11 @@ module _ (w : World) (stands : IsStanding w) (a : Record) (kept_a : In a w.kept)
     abbrev after : World
     after = record { opening = v.opening; state = t; kept = others.0; shelf = finite.insert v.shelf r.number r; next = v.next; journal = v.journal ++ undid r.number ∷ [] }
 
-    can : CanChange v (takes_away r)
-    can = (kept_r, alone_left w.kept distinct a kept_a gone left split front rest v.kept r ends before.kept)
+    can : CanChange v (goes Going.Alone (record { first = r; others = [] }))
+    can = (kept_r, goes_alone v.kept (reached_good before.standing).kept_once r kept_r (alone_left w.kept distinct a kept_a gone left split front rest v.kept r ends before.kept), refl)
 
     stands_after : IsStanding after
-    stands_after = by_change (takes_away r) before.standing can (taken_away v before.standing r others.0 t after.shelf after.journal can others.1 back refl refl)
+    stands_after = by_change (goes Going.Alone (record { first = r; others = [] })) before.standing can (taken_away v before.standing r others.0 t after.shelf after.journal can others.1 back refl refl)
 
     stayed : (g : GoalName) (note : Note) → finite.get old.notes g ≡ Some note → finite.get t.goals g ≢ None → finite.get v.state.goals g ≢ None
     stayed g note noted there none =
@@ -183,7 +186,7 @@ module _ (w : World) (stands : IsStanding w) (a : Record) (kept_a : In a w.kept)
       one_more front rest r e p.0 t q.0 new (each (front ++ r ∷ []) rest p.0 q.0 (e ∙ sym (append_assoc front (r ∷ []) rest)) p.1 q.1) p.2 q.2
 
   module _ (t : State) (new : Tries) (p : AreTakenBack gone w.state t) (q : AreAllCarriedBack gone old new) (some : List Record) (shelf : Shelf) (es : List Entry)
-      (put : shelf ≡ with_shelved gone w.shelf) (picked : Picks (λ s. ¬ In s gone) w.kept some) (told : es ≡ w.journal ++ rolled a.number ∷ []) where
+      (put : shelf ≡ with_shelved gone w.shelf) (picked : Picks (λ s. ¬ In s gone) w.kept some) (how : Going) (told : es ≡ w.journal ++ entry_of_going how a ∷ []) where
     all : Undone w gone t old new
     all = each [] gone t new refl p q
 
@@ -196,9 +199,9 @@ module _ (w : World) (stands : IsStanding w) (a : Record) (kept_a : In a w.kept)
     replay : IsReplay w left t
     replay = subst (λ s. IsReplay w left s) all.state (subst (λ rs. IsReplay w rs all.world.state) of_world (subst (λ o. IsReplay (record w { opening = o }) all.world.kept all.world.state) all.opening (standing_replay all.world all.standing)))
 
-    -- that is the rollback of the first step
-    pub rolled_changes : (rs : List Record) → gone ≡ a ∷ rs → Changes w (takes_all gone) (record w { state = t; kept = some; shelf = shelf; journal = es })
-    rolled_changes rs first = subst (λ z. Changes w (takes_all z) (record w { state = t; kept = some; shelf = shelf; journal = es })) (sym first)
+    -- that is how the first step goes
+    pub gone_changes : (rs : List Record) → gone ≡ a ∷ rs → Changes w (goes how (record { first = a; others = rs })) (record w { state = t; kept = some; shelf = shelf; journal = es })
+    gone_changes rs first =
         (left, subst (λ z. IsSplitAt w.kept a z left) first split, (t, replay, same_world w.opening w.next refl of_records (put ∙ ap (λ z. with_shelved z w.shelf) first) told))
 
     pub rolled_exact : AreExactIn (record w { state = t; kept = some; shelf = shelf; journal = es }) new.notes new.untried
@@ -210,40 +213,35 @@ module _ (w : World) (stands : IsStanding w) (a : Record) (kept_a : In a w.kept)
     pub rolled_left : AreLeft t.goals (IsBoundIn gone) old.notes new.notes
     rolled_left = subst (λ (s : State). AreLeft s.goals (IsBoundIn gone) old.notes new.notes) all.state all.notes
 
--- the records gone of a kept step can be rolled back
-pub can_roll : (kept : List Record) → AreDistinct (numbers kept) → (r : Record) → In r kept → (gone left : List Record) → IsSplitAt kept r gone left → CanRoll kept gone
-can_roll kept distinct r i gone left split =
-    let first = first_gone kept r gone left distinct i split in
-    subst (CanRoll kept) (sym first.1) (i, (left, subst (λ z. IsSplitAt kept r z left) first.1 split))
-
 -- The goals that the steps of a rollback consumed have no note.
-pub unnoted_roll : (w : World) → IsStanding w → (notes : NotesByGoal) (untried : _) → AreExactIn w notes untried → (a : Record) (rs : List Record) → CanRoll w.kept (a ∷ rs)
-    → (r : Record) → In r (a ∷ rs) → (g : GoalName) → Consumed r g → finite.get notes g ≡ None
-unnoted_roll w s notes untried exact a rs can =
-    unnoted_gone w s notes untried exact (a ∷ rs) (gone_kept w.kept (reached_good s).kept_once a can.0 (a ∷ rs) can.1.0 can.1.1)
+pub unnoted_roll : (w : World) → IsStanding w → (notes : NotesByGoal) (untried : _) → AreExactIn w notes untried → (how : Going) (gone : Gone) → CanChange w (goes how gone)
+    → (r : Record) → In r (all_gone gone) → (g : GoalName) → Consumed r g → finite.get notes g ≡ None
+unnoted_roll w s notes untried exact how gone can =
+    unnoted_gone w s notes untried exact (all_gone gone) (gone_kept w.kept (reached_good s).kept_once gone.first can.0 (all_gone gone) can.1.0 can.1.1)
 
 -- What is known where the steps gone were taken away.
-pub record RolledAway (w : World) (gone : List Record) (old new : Tries) (v : World) : Type 0 where
-  pub rolls : Changes w (takes_all gone) v
+pub record RolledAway (w : World) (how : Going) (gone : Gone) (old new : Tries) (v : World) : Type 0 where
+  pub changes : Changes w (goes how gone) v
   pub standing : IsStanding v
   pub exact : AreExactIn v new.notes new.untried
-  pub notes : AreLeft v.state.goals (IsBoundIn gone) old.notes new.notes
-  pub streams : (names : List GoalName) → TellStreams w.opening.query w.state.goals names → TellStreams w.opening.query v.state.goals (all_told_back gone names)
+  pub notes : AreLeft v.state.goals (IsBoundIn (all_gone gone)) old.notes new.notes
+  pub streams : (names : List GoalName) → TellStreams w.opening.query w.state.goals names → TellStreams w.opening.query v.state.goals (all_told_back (all_gone gone) names)
 
--- A step and its consequences were taken back, put on the shelf, struck from the record, and entered: that is the rollback of the step.
-pub rolled_away : (w : World) → IsStanding w → (a : Record) (rs : List Record) → CanRoll w.kept (a ∷ rs) → (old new : Tries) → AreExactIn w old.notes old.untried → (t : State)
-    → AreTakenBack (a ∷ rs) w.state t → AreAllCarriedBack (a ∷ rs) old new → (some : List Record) (shelf : Shelf) (es : List Entry) (n : ℕ) → shelf ≡ with_shelved (a ∷ rs) w.shelf
-    → Picks (λ s. ¬ In s (a ∷ rs)) w.kept some → n ≡ a.number → es ≡ w.journal ++ rolled n ∷ []
-    → RolledAway w (a ∷ rs) old new (record w { state = t; kept = some; shelf = shelf; journal = es })
-rolled_away w s a rs can old new exact t p q some shelf es n put picked number told =
-    let entered : es ≡ w.journal ++ rolled a.number ∷ [] = told ∙ ap (λ k. w.journal ++ rolled k ∷ []) number in
-    let rolls = rolled_changes w s a can.0 (a ∷ rs) can.1.0 can.1.1 old exact t new p q some shelf es put picked entered rs refl in
+-- A step was taken back, alone or with its consequences, put on the shelf, struck from the record, and entered: that is how it goes.
+pub rolled_away : (w : World) → IsStanding w → (how : Going) (gone : Gone) → CanChange w (goes how gone) → (old new : Tries) → AreExactIn w old.notes old.untried → (t : State)
+    → AreTakenBack (all_gone gone) w.state t → AreAllCarriedBack (all_gone gone) old new → (some : List Record) (shelf : Shelf) (es : List Entry) → shelf ≡ with_shelved (all_gone gone) w.shelf
+    → Picks (λ s. ¬ In s (all_gone gone)) w.kept some → es ≡ w.journal ++ entry_of_going how gone.first ∷ []
+    → RolledAway w how gone old new (record w { state = t; kept = some; shelf = shelf; journal = es })
+rolled_away w s how gone can old new exact t p q some shelf es put picked told =
+    let a = gone.first in
+    let all = all_gone gone in
+    let changes = gone_changes w s a can.0 all can.1.0 can.1.1 old exact t new p q some shelf es put picked how told gone.others refl in
     record {
-      rolls = rolls;
-      standing = by_change (takes_all (a ∷ rs)) s can rolls;
-      exact = rolled_exact w s a can.0 (a ∷ rs) can.1.0 can.1.1 old exact t new p q some shelf es put picked entered;
-      notes = rolled_left w s a can.0 (a ∷ rs) can.1.0 can.1.1 old exact t new p q some shelf es put picked entered;
-      streams = rolled_streams w s a can.0 (a ∷ rs) can.1.0 can.1.1 old exact t new p q some shelf es put picked entered;
+      changes = changes;
+      standing = by_change (goes how gone) s can changes;
+      exact = rolled_exact w s a can.0 all can.1.0 can.1.1 old exact t new p q some shelf es put picked how told;
+      notes = rolled_left w s a can.0 all can.1.0 can.1.1 old exact t new p q some shelf es put picked how told;
+      streams = rolled_streams w s a can.0 all can.1.0 can.1.1 old exact t new p q some shelf es put picked how told;
     }
 
 -- where a record of the number is kept, one is found

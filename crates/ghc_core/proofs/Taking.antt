@@ -1,5 +1,5 @@
 -- Events can do each change, so they lead where changes lead; and the next step binds what no kept step bound.
-use Rattle.std.proofs.Common.{◌≡◌, ◌≢◌, ◌⊎◌, List, [], ◌∷◌, true, inl, inr, refl, sym, ap, ◌∙◌, subst, arith, Option, Some, None}
+use Rattle.std.proofs.Common.{◌≡◌, ◌≢◌, ◌⊎◌, List, [], true, inl, inr, refl, sym, ap, ◌∙◌, subst, arith, Option, Some, None}
 use Rattle.std.specs.Prelude.{is_some}
 use Rattle.std.specs.FinMap as finite
 use Rattle.std.specs.Cmp.{nat_cmp_total}
@@ -27,7 +27,9 @@ use Rattle.ghc_depend.proofs.Placing.{results_of}
 use Rattle.ghc_depend.proofs.Results.{firing, step_binds}
 use Rattle.ghc_core.specs.World.{Hands, no_hands, IsHand, with_hand, emptied, World, IsNextStep, with_step}
 use Rattle.ghc_core.specs.declared.change.Change.{Change}
-use Rattle.ghc_core.specs.declared.change.Change.TheVariants.{Adds as adds, PutsBack as puts_back, TakesAway as takes_away, TakesAll as takes_all, Reorders as reorders}
+use Rattle.ghc_core.specs.declared.change.Change.TheVariants.{Comes as comes, Goes as goes, Reorders as reorders}
+use Rattle.ghc_core.specs.declared.change.Coming.{Coming}
+use Rattle.ghc_core.specs.declared.change.Going.{Going}
 use Rattle.ghc_core.specs.Change.{CanChange, Changes}
 use Rattle.ghc_core.specs.Events.{Command, input, finish, undo, roll, redo, arrange, ask, propose, commit, command, held, stepped}
 use Rattle.ghc_core.specs.Proposes.{IsReduction, IsCommitOf}
@@ -43,7 +45,7 @@ use Rattle.ghc_core.proofs.Standing.{standing_apart}
 
 -- The step is that of a commit, or a proper command asks for it.
 abbrev IsAsked : World → Record → Type 0
-IsAsked w r = ((p : Proposal) × IsCommitOf w p r) ⊎ ((c : Command) × Asks c (adds r) × IsProper (command c))
+IsAsked w r = ((p : Proposal) × IsCommitOf w p r) ⊎ ((c : Command) × Asks c (comes Coming.Next r) × IsProper (command c))
 
 module _ (w : World) (r : Record) (next : IsNextStep w r) (g : GoalName) (named : r.goal ≡ Some g) where
   by_commit : (b : Goal) (e : Effect) → IsReduction r.act → finite.get w.state.goals g ≡ Some b → HasEffect w.opening.program b r.act no_step (value_at w.state.store) e → IsAsked w r
@@ -82,11 +84,10 @@ IsDone w change v = ((p : Proposal) × (r : Record) × IsCommitOf w p r × (v �
 
 -- Each change is one that events can do.
 pub change_done : (w v : World) (change : Change) → NoStepIsFree w → CanChange w change → Changes w change v → IsDone w change v
-change_done w v (adds r) free can e = elim (step_asked w r free can) [ inl q ↦ inl (q.0, r, q.1, e) | inr q ↦ inr q ]
-change_done w v (puts_back r) free can e = inr (redo r.number, to_redo refl, tt)
-change_done w v (takes_away r) free can e = inr (undo r.number, to_undo refl, tt)
-change_done w v (takes_all []) free can e = absurd can
-change_done w v (takes_all (r ∷ rs)) free can e = inr (roll r.number, to_roll refl, tt)
+change_done w v (comes Coming.Next r) free can e = elim (step_asked w r free can) [ inl q ↦ inl (q.0, r, q.1, e) | inr q ↦ inr q ]
+change_done w v (comes Coming.Shelved r) free can e = inr (redo r.number, to_redo refl, tt)
+change_done w v (goes Going.Alone gone) free can e = inr (undo gone.first.number, to_undo refl, tt)
+change_done w v (goes Going.Together gone) free can e = inr (roll gone.first.number, to_roll refl, tt)
 change_done w v (reorders a) free can e = inr (arrange a.order, to_arrange refl, tt)
 
 -- one hand, which holds nothing
@@ -101,7 +102,7 @@ holding p = with_hand 1 p one_hand
 pub hand_commits : {Starved : Type 0} (w v : World) (p : Proposal) (r : Record) → IsCommitOf w p r → v ≡ with_step r w → Answers Starved w (holding p) (commit 1) (stepped w.next) v (emptied 1 (holding p))
 hand_commits {Starved} w v p r c e =
     subst (λ u. Answers Starved w (holding p) (commit 1) (stepped w.next) u (emptied 1 (holding p))) (sym e)
-    (makes {change = adds r} (omega arith, omega arith) (by_hand (finite.get-insert nat_cmp_total one_hand.held 1 p 1) c) c.1 refl (ap stepped (sym c.1.0)))
+    (makes {change = comes Coming.Next r} (omega arith, omega arith) (by_hand (finite.get-insert nat_cmp_total one_hand.held 1 p 1) c) c.1 refl (ap stepped (sym c.1.0)))
 
 -- A commit leaves a reachable world: a hand proposes the step and commits it.
 commit_reachable : (w v : World) (p : Proposal) (r : Record) → IsReachable w no_hands → IsCommitOf w p r → v ≡ with_step r w → IsReachable v no_hands

@@ -3,7 +3,7 @@ use Rattle.std.proofs.Common.{◌≡◌, true, false, [], ◌∷◌, ◌++◌, r
 use Rattle.std.specs.Prelude.{MatchBool}
 use Rattle.ghc_records.specs.Journal.{Entry}
 use Rattle.ghc_core.specs.declared.change.Change.{Change}
-use Rattle.ghc_core.specs.declared.change.Change.TheVariants.{Adds as adds, PutsBack as puts_back, TakesAway as takes_away, TakesAll as takes_all, Reorders as reorders}
+use Rattle.ghc_core.specs.declared.change.Change.TheVariants.{Comes as comes, Goes as goes, Reorders as reorders}
 use Rattle.ghc_core.specs.World.{Hands, World}
 use Rattle.ghc_core.specs.Events.{Event, Reply}
 use Rattle.ghc_core.specs.Answers.{told_of, Says, Answers, no_hand, makes, says, fails, no_memory}
@@ -12,10 +12,8 @@ use Rattle.ghc_core.proofs.Moving.{change_enters}
 
 -- what is told of a change tells of one
 told_changes : (change : Change) → tells_change (told_of change) ≡ true
-told_changes (adds r) = refl
-told_changes (puts_back r) = refl
-told_changes (takes_away r) = refl
-told_changes (takes_all gone) = refl
+told_changes (comes from r) = refl
+told_changes (goes how gone) = refl
 told_changes (reorders a) = refl
 
 -- what is said of no change tells of none

@@ -13,7 +13,10 @@ use Rattle.ghc_depend.specs.Depend.{IsNotKept}
 use Rattle.ghc_depend.specs.Lawful.{IsUnlawful}
 use Rattle.ghc_core.specs.Arrangement.{Arrangement}
 use Rattle.ghc_core.specs.declared.change.Change.{Change}
-use Rattle.ghc_core.specs.declared.change.Change.TheVariants.{Adds as adds, PutsBack as puts_back, TakesAway as takes_away, TakesAll as takes_all, Reorders as reorders}
+use Rattle.ghc_core.specs.declared.change.Change.TheVariants.{Comes as comes, Goes as goes, Reorders as reorders}
+use Rattle.ghc_core.specs.declared.change.Coming.{Coming}
+use Rattle.ghc_core.specs.declared.change.Going.{Going}
+use Rattle.ghc_core.specs.Gone.{Gone, all_gone}
 use Rattle.ghc_core.specs.World.{Proposal, Hands, IsHand, with_hand, emptied, World}
 use Rattle.ghc_core.specs.Change.{CanChange, Changes}
 use Rattle.ghc_core.specs.Events.{Command, input, finish, undo, roll, redo, arrange, ask, Event, propose, commit, note, command, Reply, held, stepped, noted, undone, arranged, refused}
@@ -24,20 +27,18 @@ use Rattle.ghc_core.specs.Refusals.{IsToldWhere, OrElse, UndoFails, RedoFails}
 
 -- Asks c change: the command c asks for the change. An input and a close ask for a step of the stream; an undo, a rollback and a redo for the step of their number, the rollback with its consequences; an arrange for the order; an ask for the step that asks for its goals.
 pub data Asks : Command → Change → Type 0 where
-  to_give : {k : ℕ} {t : Tree} {r : Record} → IsOfStream k (given t) r → Asks (input k t) (adds r)
-  to_close : {k : ℕ} {r : Record} → IsOfStream k closed r → Asks (finish k) (adds r)
-  to_undo : {n : ℕ} {r : Record} → r.number ≡ n → Asks (undo n) (takes_away r)
-  to_roll : {n : ℕ} {r : Record} {rs : List Record} → r.number ≡ n → Asks (roll n) (takes_all (r ∷ rs))
-  to_redo : {n : ℕ} {r : Record} → r.number ≡ n → Asks (redo n) (puts_back r)
+  to_give : {k : ℕ} {t : Tree} {r : Record} → IsOfStream k (given t) r → Asks (input k t) (comes Coming.Next r)
+  to_close : {k : ℕ} {r : Record} → IsOfStream k closed r → Asks (finish k) (comes Coming.Next r)
+  to_undo : {n : ℕ} {gone : Gone} → gone.first.number ≡ n → Asks (undo n) (goes Going.Alone gone)
+  to_roll : {n : ℕ} {gone : Gone} → gone.first.number ≡ n → Asks (roll n) (goes Going.Together gone)
+  to_redo : {n : ℕ} {r : Record} → r.number ≡ n → Asks (redo n) (comes Coming.Shelved r)
   to_arrange : {order : List ℕ} {a : Arrangement} → a.order ≡ order → Asks (arrange order) (reorders a)
-  to_ask : {gs : List Goal} {r : Record} → IsOfAsk gs r → Asks (ask gs) (adds r)
+  to_ask : {gs : List Goal} {r : Record} → IsOfAsk gs r → Asks (ask gs) (comes Coming.Next r)
 
--- what is told of a change: the step that is taken or put back, the steps that are taken away, or that the record is arranged
+-- what is told of a change: the step that comes, the steps that go, or that the record is arranged
 abbrev pub told_of : Change → Reply
-told_of (adds r) = stepped r.number
-told_of (puts_back r) = stepped r.number
-told_of (takes_away r) = undone (r.number ∷ [])
-told_of (takes_all gone) = undone (numbers gone)
+told_of (comes from r) = stepped r.number
+told_of (goes how gone) = undone (numbers (all_gone gone))
 told_of (reorders a) = arranged
 
 -- Fails w c f: why the command c is refused in the world w.
@@ -72,7 +73,7 @@ hands_after (command c) hands = hands
 
 -- AsksFor w hands e change: the event e asks for the change: a commit for the step of the proposal in its hand, a command for what it says.
 pub data AsksFor (w : World) (hands : Hands) : Event → Change → Type 0 where
-  by_hand : {h : ℕ} {p : Proposal} {r : Record} → finite.get hands.held h ≡ Some p → IsCommitOf w p r → AsksFor w hands (commit h) (adds r)
+  by_hand : {h : ℕ} {p : Proposal} {r : Record} → finite.get hands.held h ≡ Some p → IsCommitOf w p r → AsksFor w hands (commit h) (comes Coming.Next r)
   by_command : {c : Command} {change : Change} → Asks c change → AsksFor w hands (command c) change
 
 -- Says w hands e reply left: the event e asks for no change: its hand holds what an attempt proposes, or the status of its goal is told.

@@ -8,18 +8,22 @@ use Rattle.ghc_records.specs.Record.{State, Record, after, Fires}
 use Rattle.ghc_records.specs.Journal.{Entry, undid, rolled, redid, reordered}
 use Rattle.ghc_records.specs.State.{HasRoomToTake}
 use Rattle.ghc_records.specs.UseIndex.{HasRoomToKeep}
-use Rattle.ghc_depend.specs.Depend.{Follows, Binds}
+use Rattle.ghc_depend.specs.Depend.{Binds}
 use Rattle.ghc_depend.specs.Deletion.{IsBoundIn}
-use Rattle.ghc_depend.specs.Kept.{with_shelved, IsWithout, IsSplitAt}
+use Rattle.ghc_depend.specs.Kept.{with_shelved, IsSplitAt}
 use Rattle.ghc_depend.specs.Lawful.{IsLawful, IsInOrder}
 use Rattle.ghc_core.specs.declared.change.Change.{Change}
-use Rattle.ghc_core.specs.declared.change.Change.TheVariants.{Adds as adds, PutsBack as puts_back, TakesAway as takes_away, TakesAll as takes_all, Reorders as reorders}
+use Rattle.ghc_core.specs.declared.change.Change.TheVariants.{Comes as comes, Goes as goes, Reorders as reorders}
+use Rattle.ghc_core.specs.declared.change.Coming.{Coming}
+use Rattle.ghc_core.specs.declared.change.Going.{Going}
+use Rattle.ghc_core.specs.Gone.{all_gone}
 use Rattle.ghc_core.specs.World.{World, IsReplay, IsKnown, IsNextStep, with_step}
 use Rattle.ghc_core.specs.Room.{Room}
 
--- the world with a shelved step put back at the end of the record, under its old number
-abbrev pub with_redone : Record → World → World
-with_redone r w = record w {
+-- the world with a step more at the end of the record: a new one, or one from the shelf, under its old number
+abbrev pub with_coming : Coming → Record → World → World
+with_coming Coming.Next r w = with_step r w
+with_coming Coming.Shelved r w = record w {
   state = after w.state r;
   kept = w.kept ++ r ∷ [];
   shelf = finite.remove w.shelf r.number;
@@ -34,48 +38,41 @@ without_steps gone left t entry w = record w { state = t; kept = left; shelf = w
 abbrev pub with_order : List ℕ → List Record → World → World
 with_order order new w = record w { kept = new; journal = w.journal ++ reordered order ∷ [] }
 
--- The steps gone are a kept step and its consequences, in recorded order.
-abbrev pub CanRoll : List Record → List Record → Type 0
-CanRoll kept [] = ⊥
-CanRoll kept (r ∷ rs) = In r kept × ((left : List Record) × IsSplitAt kept r (r ∷ rs) left)
+-- Of the steps that go, others go with the first: where it is undone, none.
+abbrev pub GoWithIt : Going → List Record → Type 0
+GoWithIt Going.Alone others = others ≡ []
+GoWithIt Going.Together others = Unit {0}
 
--- The change can be made in the world: the step that it adds is possible now, as the next step; the step that it puts back is on the shelf and possible now, one more can be kept, and what it names is known; the step that it takes away is kept, and nothing follows it; the steps that it takes away together are a kept one and its consequences; the order into which it puts the record is lawful.
+-- the entry of steps that go, of which this is the first
+abbrev pub entry_of_going : Going → Record → Entry
+entry_of_going Going.Alone r = undid r.number
+entry_of_going Going.Together r = rolled r.number
+
+-- The change can be made in the world: the step that comes is possible now, as the next step; or it is on the shelf and possible now, one more can be kept, and what it names is known; the steps that go are a kept step and its consequences, in recorded order, and one that is undone has none; the order into which the record is put is lawful.
 abbrev pub CanChange : World → Change → Type 0
-CanChange w (adds r) = IsNextStep w r
-CanChange w (puts_back r) = (finite.get w.shelf r.number ≡ Some r) × Fires w.opening.program w.state r × (length w.kept < kept_limit) × IsKnown w r
-CanChange w (takes_away r) = In r w.kept × ((b : Record) → ¬ Follows w.kept r b)
-CanChange w (takes_all gone) = CanRoll w.kept gone
+CanChange w (comes Coming.Next r) = IsNextStep w r
+CanChange w (comes Coming.Shelved r) = (finite.get w.shelf r.number ≡ Some r) × Fires w.opening.program w.state r × (length w.kept < kept_limit) × IsKnown w r
+CanChange w (goes how gone) = In gone.first w.kept × ((left : List Record) × IsSplitAt w.kept gone.first (all_gone gone) left) × GoWithIt how gone.others
 CanChange w (reorders a) = IsLawful w.kept a.order × IsInOrder w.kept a.order a.records
 
 -- In the world there is room for the change.
 abbrev pub HasRoomFor : World → Room → Change → Type 0
-HasRoomFor w room (adds r) = HasRoomToTake room.state r × HasRoomToKeep w.kept room.kept r × (0 < room.journal) × (length r.effect.makes ≤ room.tries)
-HasRoomFor w room (puts_back r) = HasRoomToTake room.state r × HasRoomToKeep w.kept room.kept r × (0 < room.journal) × (length r.effect.makes ≤ room.tries)
-HasRoomFor w room (takes_away r) = (0 < room.state.goals) × (0 < room.shelf) × (0 < room.journal) × (0 < room.tries)
-HasRoomFor w room (takes_all gone) = (length gone ≤ room.state.goals) × (length gone ≤ room.shelf) × (0 < room.journal) × (length gone ≤ room.tries)
+HasRoomFor w room (comes from r) = HasRoomToTake room.state r × HasRoomToKeep w.kept room.kept r × (0 < room.journal) × (length r.effect.makes ≤ room.tries)
+HasRoomFor w room (goes how gone) = (length (all_gone gone) ≤ room.state.goals) × (length (all_gone gone) ≤ room.shelf) × (0 < room.journal) × (length (all_gone gone) ≤ room.tries)
 HasRoomFor w room (reorders a) = 0 < room.journal
 
 -- Of the kept steps these are left, and the state is their replay; the steps gone are on the shelf, and the journal has the entry.
 abbrev pub AreTakenAway : World → List Record → List Record → Entry → World → Type 0
 AreTakenAway w gone left entry v = (t : State) × IsReplay w left t × (v ≡ without_steps gone left t entry w)
 
--- RollsAway w gone v: the first of the steps gone is taken away with its consequences, which leaves the world v.
-abbrev pub RollsAway : World → List Record → World → Type 0
-RollsAway w [] v = ⊥
-RollsAway w (r ∷ rs) v = (left : List Record) × IsSplitAt w.kept r (r ∷ rs) left × AreTakenAway w (r ∷ rs) left (rolled r.number) v
-
--- Changes w change v: the change takes the world w to v. A step that is taken or put back is the last of the record; steps that are taken away go to the shelf, and the state is the replay of those left; another order leaves the state.
+-- Changes w change v: the change takes the world w to v. A step that comes is the last of the record; steps that go are put on the shelf, and the state is the replay of those left; another order leaves the state.
 abbrev pub Changes : World → Change → World → Type 0
-Changes w (adds r) v = v ≡ with_step r w
-Changes w (puts_back r) v = v ≡ with_redone r w
-Changes w (takes_away r) v = (left : List Record) × IsWithout w.kept r left × AreTakenAway w (r ∷ []) left (undid r.number) v
-Changes w (takes_all gone) v = RollsAway w gone v
+Changes w (comes from r) v = v ≡ with_coming from r w
+Changes w (goes how gone) v = (left : List Record) × IsSplitAt w.kept gone.first (all_gone gone) left × AreTakenAway w (all_gone gone) left (entry_of_going how gone.first) v
 Changes w (reorders a) v = v ≡ with_order a.order a.records w
 
 -- A step of the change binds the variable; another order binds none.
 abbrev pub IsBoundBy : Change → VarName → Type 0
-IsBoundBy (adds r) x = Binds r x
-IsBoundBy (puts_back r) x = Binds r x
-IsBoundBy (takes_away r) x = Binds r x
-IsBoundBy (takes_all gone) x = IsBoundIn gone x
+IsBoundBy (comes from r) x = Binds r x
+IsBoundBy (goes how gone) x = IsBoundIn (all_gone gone) x
 IsBoundBy (reorders a) x = ⊥

@@ -17,6 +17,8 @@ pub mod Carried
 pub mod Settling
 pub mod Arrangement
 pub mod ArrangementCode
+pub mod Gone
+pub mod GoneCode
 pub mod Room
 pub mod Change
 pub mod Reached

@@ -83,6 +83,7 @@ impl Core {
     }
 
     // Makes room to put the record into another order.
+    #[inline(never)]
     pub(crate) fn reserve_to_arrange(&mut self) -> Result<(), AllocError>
         ensures room { OnOk result (0 < self.new.room.journal) }
         ensures stays { Stays self.old self.new }
@@ -92,6 +93,7 @@ impl Core {
     }
 
     // Puts the record into another order, and lets the old one go.
+    #[inline(never)]
     pub(crate) fn put_in_order(&mut self, arrangement: Arrangement)
         requires found { CanChange self.old.world (reorders arrangement) }
         requires room { HasRoomFor self.old.world self.old.room (reorders arrangement) }

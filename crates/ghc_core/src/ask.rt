@@ -12,14 +12,13 @@ ghost use Rattle.ghc_flat.specs.Clause.{Program as program_spec};
 ghost use Rattle.ghc_flat.specs.Flat.{AreDefined};
 ghost use Rattle.ghc_hooks.specs.Notes.{AreLeft};
 ghost use Rattle.ghc_records.specs.Record.{Record as record_spec};
+ghost use Rattle.ghc_depend.specs.Depend.{Binds};
 ghost use Rattle.ghc_core.specs.Answers.{Obeys};
 ghost use Rattle.ghc_core.specs.Anyway.{IsNotAskedAnyway};
 ghost use Rattle.ghc_core.specs.AskedGoals.{HasClauseFor, NamesKnownIn, IsOfAsk, AskFails};
-ghost use Rattle.ghc_core.specs.Change.{IsBoundBy};
 ghost use Rattle.ghc_core.specs.Core.{Stays};
 ghost use Rattle.ghc_core.specs.Events.{ask as asks, stepped};
 ghost use Rattle.ghc_core.specs.World.{IsNextStep};
-ghost use Rattle.ghc_core.specs.declared.change.Change.TheVariants.{Adds as adds};
 
 use crate::core_state::Core;
 use crate::variables::is_own_or_of;
@@ -125,7 +124,7 @@ impl Core {
         ensures meter { self.new.meter ≡ self.old.meter }
 
         // A note stays just where its goal is still there: the step binds nothing.
-        ensures notes { OnOk result ((r : record_spec) × IsOfAsk ask.now r × AreLeft self.new.world.state.goals (IsBoundBy (adds r)) self.old.notes self.new.notes) }
+        ensures notes { OnOk result ((r : record_spec) × IsOfAsk ask.now r × AreLeft self.new.world.state.goals (Binds r) self.old.notes self.new.notes) }
     {
         let addition = match self.prepare_ask(alloc, ask) {
             Ok(addition) => addition,

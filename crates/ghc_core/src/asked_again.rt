@@ -10,7 +10,7 @@ ghost use Rattle.ghc_core.specs.World.{IsNextStep, HasRoom};
 use crate::ask::is_defined;
 use crate::core_state::Core;
 use crate::variables::names_known;
-use ghc_fire::{Act, Asked, Effect};
+use ghc_fire::{Act, Asked, Effect, Made};
 use ghc_flat::Program;
 use ghc_records::{Addition, Record};
 use ghc_term::{Bindings, Goal, GoalView, Variables};
@@ -86,7 +86,8 @@ fn asking_record(
 ) -> Result<Record, AllocError>
     ensures { IfOk result (λ r. r ≡ record { number = number; goal = None; consumed = None; act = asks asked.now; effect = effect_of_asking asked.now fresh }) }
 {
-    let makes = share_goals(alloc, asked.goals())?;
+    let shared = share_goals(alloc, asked.goals())?;
+    let makes = Made::of(alloc, shared)?;
     let effect = Effect::new(Variables::new(alloc), Bindings::new(alloc), makes, fresh);
     let act = Act::Asked(asked.share()?);
     Record::new(alloc, number, None, None, act, effect)

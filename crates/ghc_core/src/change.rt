@@ -4,29 +4,42 @@ ghost use Rattle.ghc_term.specs.Lists.{In};
 ghost use Rattle.ghc_hooks.specs.Notes.{AreLeft};
 ghost use Rattle.ghc_records.specs.Record.{Record as record_spec};
 ghost use Rattle.ghc_depend.specs.Kept.{IsWithout};
-ghost use Rattle.ghc_core.specs.declared.change.Change.TheVariants.{Adds as adds, TakesAway as takes_away};
-ghost use Rattle.ghc_core.specs.World.{with_step};
+ghost use Rattle.ghc_core.specs.declared.change.Change.TheVariants.{Comes as comes};
 ghost use Rattle.ghc_core.specs.Core.{Stays};
-ghost use Rattle.ghc_core.specs.Change.{CanChange, HasRoomFor, Changes, IsBoundBy};
+ghost use Rattle.ghc_core.specs.Change.{with_coming, CanChange, HasRoomFor, Changes, IsBoundBy};
 
 use crate::arrange::Arrangement;
-use crate::carrying::{carry_back, carry_over};
+use crate::carrying::carry_over;
 use crate::core_state::Core;
 use crate::rollback::Rollback;
-use ghc_records::{Addition, Entry, Records, Removal};
+use ghc_records::{Addition, Entry, Records};
 use std::alloc::AllocError;
+
+/// Where a step is from that comes.
+#[derive(Clone, Copy, Drop)]
+pub enum Coming {
+    /// It is the next one, which gets the next number.
+    Next,
+    /// It is from the shelf, and has its old number.
+    Shelved,
+}
+
+/// How steps go.
+#[derive(Clone, Copy, Drop)]
+pub enum Going {
+    /// One is undone, and no other goes with it.
+    Alone,
+    /// One is rolled back, and its consequences go with it.
+    Together,
+}
 
 /// A change of a core that was found: all that it takes is at hand, but for room in the tables, and nothing has moved.
 #[derive(Drop)]
 pub enum Change {
-    /// A step is taken, and its record is the last.
-    Adds(Addition),
-    /// A shelved step is taken again under its old number, and its record is the last.
-    PutsBack(Addition),
-    /// A step is taken away, and its record goes to the shelf.
-    TakesAway(Removal),
-    /// A step and its consequences are taken away, and their records go to the shelf.
-    TakesAll(Rollback),
+    /// A step comes, and its record is the last.
+    Comes(Coming, Addition),
+    /// Steps go, and their records are put on the shelf.
+    Goes(Going, Rollback),
     /// The record is put into another order.
     Reorders(Arrangement),
 }
@@ -39,30 +52,19 @@ pub(crate) fn strike(records: &mut Records, number: u32)
 }
 
 impl Core {
-    // Makes room to take the step.
+    // Makes room for the step that comes.
     #[inline(always)]
     pub(crate) fn reserve_to_add(&mut self, addition: &Addition) -> Result<(), AllocError>
-        ensures room { OnOk result (HasRoomFor self.new.world self.new.room (adds addition.now)) }
+        ensures room { OnOk result (HasRoomFor self.new.world self.new.room (comes Coming.Next addition.now)) }
         ensures stays { Stays self.old self.new }
         ensures meter { self.new.meter ≡ self.old.meter }
     {
         let step = addition.step();
         self.state.reserve_for(step)?;
-        self.tries.reserve(step.effect().makes().len())?;
+        self.tries
+            .reserve(step.effect().makes().len(), step.number())?;
         self.journal.reserve(1)?;
         self.records.reserve_for(step)
-    }
-
-    // Makes room to take a step away.
-    fn reserve_to_take_away(&mut self, removal: &Removal) -> Result<(), AllocError>
-        ensures room { OnOk result (HasRoomFor self.new.world self.new.room (takes_away removal.now)) }
-        ensures stays { Stays self.old self.new }
-        ensures meter { self.new.meter ≡ self.old.meter }
-    {
-        self.state.reserve_goals(1)?;
-        self.tries.reserve(1)?;
-        self.shelf.reserve(1)?;
-        self.journal.reserve(1)
     }
 
     // Makes room for the change. It costs nothing where there is room; a table that is full moves to one of about twice its size.
@@ -72,45 +74,35 @@ impl Core {
         ensures meter { self.new.meter ≡ self.old.meter }
     {
         match change {
-            Change::Adds(addition) => self.reserve_to_add(addition),
-            Change::PutsBack(addition) => self.reserve_to_add(addition),
-            Change::TakesAway(removal) => self.reserve_to_take_away(removal),
-            Change::TakesAll(rollback) => self.reserve_to_roll(rollback),
+            Change::Comes(_, addition) => self.reserve_to_add(addition),
+            Change::Goes(_, rollback) => self.reserve_to_roll(rollback),
             Change::Reorders(_) => self.reserve_to_arrange(),
         }
     }
 
-    // Takes a step: one look-up for each of its goals and bindings.
-    fn add(&mut self, addition: Addition)
-        requires found { CanChange self.old.world (adds addition) }
-        requires room { HasRoomFor self.old.world self.old.room (adds addition) }
-        ensures world { self.new.world ≡ with_step addition self.old.world }
-        ensures notes { AreLeft self.new.world.state.goals (IsBoundBy (adds addition)) self.old.notes self.new.notes }
+    // Takes a step that comes: one look-up for each of its goals and bindings, and some for each goal that looked at what it binds.
+    fn add(&mut self, from: Coming, addition: Addition)
+        requires found { CanChange self.old.world (comes from addition) }
+        requires room { HasRoomFor self.old.world self.old.room (comes from addition) }
+        ensures world { self.new.world ≡ with_coming from addition self.old.world }
+        ensures notes { AreLeft self.new.world.state.goals (IsBoundBy (comes from addition)) self.old.notes self.new.notes }
         ensures meter { self.new.meter ≡ self.old.meter }
     {
         let (step, entry) = self.state.take(addition);
+        let number = step.number();
         carry_over(&mut self.tries, &step);
         self.streams.tell(&step);
         self.records.put(step);
-        self.journal.put(entry);
-        self.next += 1;
-    }
-
-    // Takes a step away: one look-up for each of its goals and bindings, and what `Records::remove` costs.
-    #[inline(never)]
-    fn take_away(&mut self, removal: Removal)
-        requires found { CanChange self.old.world (takes_away removal) }
-        requires room { HasRoomFor self.old.world self.old.room (takes_away removal) }
-        ensures changed { Changes self.old.world (takes_away removal) self.new.world }
-        ensures notes { AreLeft self.new.world.state.goals (IsBoundBy (takes_away removal)) self.old.notes self.new.notes }
-        ensures meter { self.new.meter ≡ self.old.meter }
-    {
-        let step = self.state.take_back(removal);
-        carry_back(&mut self.tries, &step);
-        self.streams.tell_back(&step);
-        strike(&mut self.records, step.number());
-        self.journal.put(Entry::Undid(step.number()));
-        self.shelf.put(step);
+        match from {
+            Coming::Next => {
+                self.journal.put(entry);
+                self.next += 1;
+            }
+            Coming::Shelved => {
+                let _ = self.shelf.remove(number);
+                self.journal.put(Entry::Redid(number));
+            }
+        }
     }
 
     // Makes a change where there is room for it, which cannot fail.
@@ -122,10 +114,8 @@ impl Core {
         ensures meter { self.new.meter ≡ self.old.meter }
     {
         match change {
-            Change::Adds(addition) => self.add(addition),
-            Change::PutsBack(addition) => self.put_back(addition),
-            Change::TakesAway(removal) => self.take_away(removal),
-            Change::TakesAll(rollback) => self.take_all_away(rollback),
+            Change::Comes(from, addition) => self.add(from, addition),
+            Change::Goes(how, rollback) => self.take_away(how, rollback),
             Change::Reorders(arrangement) => self.put_in_order(arrangement),
         }
     }

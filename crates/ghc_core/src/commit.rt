@@ -9,11 +9,10 @@ ghost use Rattle.ghc_hooks.specs.Notes.{AreLeft};
 ghost use Rattle.ghc_records.specs.Record.{Record as record_spec};
 ghost use Rattle.ghc_core.specs.World.{IsReplay, IsFull, HasRoom, IsNextStep, with_step};
 ghost use Rattle.ghc_core.specs.Core.{IsCommitted, record_as, next_record, Stays};
-ghost use Rattle.ghc_core.specs.declared.change.Change.TheVariants.{Adds as adds};
-ghost use Rattle.ghc_core.specs.Change.{IsBoundBy};
+ghost use Rattle.ghc_depend.specs.Depend.{Binds};
 ghost use Rattle.ghc_core.specs.Proposes.{AttemptAnswers, IsProposedIn, IsProposedAsNext, IsCommitOf, CommitFails};
 
-use crate::change::Change;
+use crate::change::{Change, Coming};
 use crate::core_state::Core;
 use crate::recheck::recheck;
 use ghc_fire::{Meter, Proposal, attempt, attempt_as, finish};
@@ -34,6 +33,7 @@ fn numbered(alloc: Global, proposal: Proposal, number: u32) -> Result<Proposal, 
 }
 
 // The step of this number that was proposed as that step, with all that it takes to take it.
+#[inline(always)]
 fn addition_of(alloc: Global, proposal: Proposal, number: u32) -> Result<Addition, AllocError>
     ensures { IfOk result (λ step. step ≡ record_as number proposal) }
 {
@@ -133,6 +133,7 @@ impl Core {
     }
 
     // The step of the proposal under the next number, with all that it takes to take it, where a new step has room.
+    #[inline(never)]
     pub(crate) fn as_next(&self, alloc: Global, proposal: Proposal) -> Result<Addition, Fault>
         ensures step { IfOk result (λ step. step ≡ next_record self.now.world proposal) }
         ensures room { IfOk result (λ _. HasRoom self.now.world) }
@@ -146,6 +147,7 @@ impl Core {
     }
 
     // The next step, which was proposed as that step, with all that it takes to take it, where a new step has room.
+    #[inline(always)]
     pub(crate) fn proposed_as_next(
         &self,
         alloc: Global,
@@ -184,12 +186,12 @@ impl Core {
     pub(crate) fn take_next(&mut self, addition: Addition) -> Result<u32, AllocError>
         requires found { IsNextStep self.old.world addition }
         ensures ok { IfOk result (λ n. (n ≡ self.old.world.next) × (self.new.world ≡ with_step addition self.old.world)) }
-        ensures notes { OnOk result (AreLeft self.new.world.state.goals (IsBoundBy (adds addition)) self.old.notes self.new.notes) }
+        ensures notes { OnOk result (AreLeft self.new.world.state.goals (Binds addition) self.old.notes self.new.notes) }
         ensures stays { OnErr result (Stays self.old self.new) }
         ensures meter { self.new.meter ≡ self.old.meter }
     {
         let number = addition.step().number();
-        self.make(Change::Adds(addition))?;
+        self.make(Change::Comes(Coming::Next, addition))?;
         Ok(number)
     }
 
@@ -206,7 +208,7 @@ impl Core {
         ensures counted { self.new.meter ≡ fired self.old.meter }
 
         // A note stays just where its goal is still there and did not look at what the step binds.
-        ensures notes { OnOk result ((r : record_spec) × IsCommitOf self.old.world proposal.now r × (self.new.world ≡ with_step r self.old.world) × AreLeft self.new.world.state.goals (IsBoundBy (adds r)) self.old.notes self.new.notes) }
+        ensures notes { OnOk result ((r : record_spec) × IsCommitOf self.old.world proposal.now r × (self.new.world ≡ with_step r self.old.world) × AreLeft self.new.world.state.goals (Binds r) self.old.notes self.new.notes) }
 
         // Goals and store are the replay of the record.
         ensures replay { IsReplay self.new.world self.new.world.kept self.new.world.state }

@@ -102,7 +102,7 @@ impl Core {
         let state = State::of_query(alloc, goals)?;
         let streams = StreamGoals::of_query(alloc, goals, goals.len() as u32)?;
         let mut tries = Tries::new(alloc);
-        tries.reserve(goals.len())?;
+        tries.reserve(goals.len(), 0)?;
         mark_made(&mut tries, 0, goals, goals.len() as u32);
         Ok(Core {
             program,

@@ -8,16 +8,15 @@ ghost use Rattle.ghc_term.specs.Goal.{stream as stream_goal};
 ghost use Rattle.ghc_fire.specs.declared.act.Act.TheVariants.{Given as given, Closed as closed};
 ghost use Rattle.ghc_hooks.specs.Notes.{AreLeft};
 ghost use Rattle.ghc_records.specs.Record.{Record as record_spec};
-ghost use Rattle.ghc_core.specs.declared.change.Change.TheVariants.{Adds as adds};
+ghost use Rattle.ghc_depend.specs.Depend.{Binds};
 ghost use Rattle.ghc_core.specs.Answers.{Obeys};
 ghost use Rattle.ghc_core.specs.Events.{input as gives, finish, stepped};
 ghost use Rattle.ghc_core.specs.Core.{Stays};
-ghost use Rattle.ghc_core.specs.Change.{IsBoundBy};
 ghost use Rattle.ghc_core.specs.Anyway.{TakesNothingAnyway};
 ghost use Rattle.ghc_core.specs.Streams.{IsStreamAt, StreamFails, IsStreamStep};
 
 use crate::core_state::Core;
-use ghc_fire::{Act, Effect, close, feed};
+use ghc_fire::{Act, Effect, MadeGoal, close, feed};
 use ghc_records::{Addition, Record};
 use ghc_term::{Fault, Goal, GoalName, GoalView, Ground, Term, TermView, VarName};
 use std::alloc::{AllocError, Global};
@@ -33,7 +32,8 @@ fn stream_addition(
 ) -> Result<Addition, AllocError>
     ensures { IfOk result (λ step. step ≡ record { number = number; goal = Some name; consumed = Some goal; act = act; effect = effect }) }
 {
-    let step = Record::new(alloc, number, Some(name), Some(goal), act, effect)?;
+    let consumed = MadeGoal::alone(alloc, goal)?;
+    let step = Record::new(alloc, number, Some(name), Some(consumed), act, effect)?;
     Addition::of(alloc, step)
 }
 
@@ -146,7 +146,7 @@ impl Core {
         ensures meter { self.new.meter ≡ self.old.meter }
 
         // A note stays just where its goal is still there and did not look at what the step binds.
-        ensures notes { OnOk result ((r : record_spec) × IsStreamStep self.old.world stream (given input.now) r × AreLeft self.new.world.state.goals (IsBoundBy (adds r)) self.old.notes self.new.notes) }
+        ensures notes { OnOk result ((r : record_spec) × IsStreamStep self.old.world stream (given input.now) r × AreLeft self.new.world.state.goals (Binds r) self.old.notes self.new.notes) }
     {
         let addition = match self.prepare_input(alloc, stream, input) {
             Ok(addition) => addition,
@@ -165,7 +165,7 @@ impl Core {
         ensures meter { self.new.meter ≡ self.old.meter }
 
         // A note stays just where its goal is still there and did not look at what the step binds.
-        ensures notes { OnOk result ((r : record_spec) × IsStreamStep self.old.world stream closed r × AreLeft self.new.world.state.goals (IsBoundBy (adds r)) self.old.notes self.new.notes) }
+        ensures notes { OnOk result ((r : record_spec) × IsStreamStep self.old.world stream closed r × AreLeft self.new.world.state.goals (Binds r) self.old.notes self.new.notes) }
     {
         let addition = match self.prepare_close(alloc, stream) {
             Ok(addition) => addition,

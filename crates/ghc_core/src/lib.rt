@@ -45,7 +45,7 @@ mod world_laws;
 
 pub use arrange::Arrangement;
 pub use carrying::is_stream;
-pub use change::Change;
+pub use change::{Change, Coming, Going};
 pub use command::Command;
 pub use core_state::Core;
 pub use event::Event;

@@ -8,15 +8,16 @@ ghost use Rattle.ghc_fire.specs.Meter.{fired};
 ghost use Rattle.ghc_records.specs.History.{IsHistory};
 ghost use Rattle.ghc_records.specs.Journal.{step_of};
 ghost use Rattle.ghc_records.specs.Record.{Record as record_spec};
-ghost use Rattle.ghc_core.specs.declared.change.Change.TheVariants.{Adds as adds};
+ghost use Rattle.ghc_core.specs.declared.change.Change.TheVariants.{Comes as comes};
 ghost use Rattle.ghc_core.specs.Change.{HasRoomFor};
 ghost use Rattle.ghc_core.specs.Load.{CanLoad, IsImpossible, IsPossibleAs, Loads, with_loaded};
 ghost use Rattle.ghc_core.specs.World.{Opens};
 
 use crate::carrying::carry_over;
+use crate::change::Coming;
 use crate::core_state::Core;
 use crate::taken_again::Outcome;
-use ghc_fire::{Meter, effect_as};
+use ghc_fire::{MadeGoal, Meter, effect_as};
 use ghc_flat::Program;
 use ghc_reader::Query;
 use ghc_records::{Addition, History, Record, State, Step};
@@ -52,7 +53,8 @@ fn fire_at(
     let Some(effect) = found else {
         return Ok(None);
     };
-    let consumed = goal.share()?;
+    let shared = goal.share()?;
+    let consumed = MadeGoal::alone(alloc, shared)?;
     let act = step.act().share()?;
     let record = Record::new(alloc, number, Some(name), Some(consumed), act, effect)?;
     Ok(Some(record))
@@ -102,7 +104,7 @@ impl Core {
         requires opened { Opens self.old.world.opening self.old.world }
         requires found { CanLoad self.old.world addition }
         requires step { step ≡ step_of addition }
-        requires room { HasRoomFor self.old.world self.old.room (adds addition) }
+        requires room { HasRoomFor self.old.world self.old.room (comes Coming.Next addition) }
         ensures world { OnOk result (self.new.world ≡ with_loaded addition self.old.world) }
         ensures opens { OnOk result (Opens self.new.world.opening self.new.world) }
         ensures notes { self.old.notes ≡ finite.empty → OnOk result (self.new.notes ≡ finite.empty) }

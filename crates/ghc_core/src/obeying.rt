@@ -1,5 +1,5 @@
 // A core that replies to commands, and to notes of goals.
-ghost use Rattle.std.specs.Prelude.{◌≡◌, ◌⊎◌, [], ◌∷◌, IfOk, OnOk, OnErr};
+ghost use Rattle.std.specs.Prelude.{◌≡◌, ◌⊎◌, IfOk, OnOk, OnErr};
 ghost use Rattle.std.specs.FinSet as set;
 ghost use Rattle.ghc_term.specs.declared.fault.Fault.{Fault as fault_spec};
 ghost use Rattle.ghc_hooks.specs.Notes.{AreLeft};
@@ -24,24 +24,13 @@ use crate::reply::Reply;
 use ghc_term::{Fault, GoalName};
 use std::alloc::{AllocError, Global};
 
-// The list of this number alone.
-fn alone(alloc: Global, number: u32) -> Result<Vec<u32>, AllocError>
-    ensures { IfOk result (λ ns. ns.items ≡ number ∷ []) }
-{
-    let mut ns = Vec::new(alloc);
-    ns.push(number)?;
-    Ok(ns)
-}
-
 // What is told of the change, with memory for the numbers of steps that are taken away.
 fn change_told(alloc: Global, change: &Change) -> Result<Reply, AllocError>
     ensures { IfOk result (λ reply. reply_of reply ≡ told_of change.now) }
 {
     match change {
-        Change::Adds(addition) => Ok(Reply::Stepped(addition.step().number())),
-        Change::PutsBack(addition) => Ok(Reply::Stepped(addition.step().number())),
-        Change::TakesAway(removal) => Ok(Reply::Undone(alone(alloc, removal.step().number())?)),
-        Change::TakesAll(rollback) => Ok(Reply::Undone(rollback.numbers(alloc)?)),
+        Change::Comes(_, addition) => Ok(Reply::Stepped(addition.step().number())),
+        Change::Goes(_, rollback) => Ok(Reply::Undone(rollback.numbers(alloc)?)),
         Change::Reorders(_) => Ok(Reply::Arranged),
     }
 }

@@ -9,7 +9,7 @@ ghost use Rattle.ghc_core.specs.CommandCode.{command_of};
 ghost use Rattle.ghc_core.specs.Counting.{CountsInObeying, after_firings, firings_of_command};
 ghost use Rattle.ghc_core.specs.Core.{Stays};
 
-use crate::change::Change;
+use crate::change::{Change, Coming, Going};
 use crate::command::Command;
 use crate::core_state::Core;
 use ghc_term::Fault;
@@ -34,27 +34,27 @@ impl Core {
         self.stands();
         match command {
             Command::Input(stream, input) => match self.prepare_input(alloc, *stream, input) {
-                Ok(addition) => Ok(Change::Adds(addition)),
+                Ok(addition) => Ok(Change::Comes(Coming::Next, addition)),
                 Err(fault) => Err(fault),
             },
             Command::Close(stream) => match self.prepare_close(alloc, *stream) {
-                Ok(addition) => Ok(Change::Adds(addition)),
+                Ok(addition) => Ok(Change::Comes(Coming::Next, addition)),
                 Err(fault) => Err(fault),
             },
-            Command::Undo(number) => match self.prepare_undo(*number) {
-                Ok(removal) => Ok(Change::TakesAway(removal)),
+            Command::Undo(number) => match self.prepare_undo(alloc, *number) {
+                Ok(rollback) => Ok(Change::Goes(Going::Alone, rollback)),
                 Err(fault) => Err(fault),
             },
             Command::Roll(number) => match self.prepare_rollback(alloc, *number) {
-                Ok(rollback) => Ok(Change::TakesAll(rollback)),
+                Ok(rollback) => Ok(Change::Goes(Going::Together, rollback)),
                 Err(fault) => Err(fault),
             },
             Command::Redo(number) => match self.prepare_redo(alloc, *number) {
-                Ok(addition) => Ok(Change::PutsBack(addition)),
+                Ok(addition) => Ok(Change::Comes(Coming::Shelved, addition)),
                 Err(fault) => Err(fault),
             },
             Command::Ask(ask) => match self.prepare_ask(alloc, ask) {
-                Ok(addition) => Ok(Change::Adds(addition)),
+                Ok(addition) => Ok(Change::Comes(Coming::Next, addition)),
                 Err(fault) => Err(fault),
             },
             Command::Arrange(order) => match self.prepare_arrange(alloc, order.as_slice()) {

@@ -4,21 +4,21 @@ ghost use Rattle.std.specs.FinMap as finite;
 ghost use Rattle.ghc_fire.specs.Meter.{fired};
 ghost use Rattle.ghc_hooks.specs.Notes.{AreLeft};
 ghost use Rattle.ghc_records.specs.Record.{Record as record_spec, IsThere, Fires};
+ghost use Rattle.ghc_depend.specs.Depend.{Binds};
 ghost use Rattle.ghc_core.specs.Events.{redo, stepped};
 ghost use Rattle.ghc_core.specs.Answers.{Obeys};
 ghost use Rattle.ghc_core.specs.Refusals.{RedoFails, LacksGoal};
-ghost use Rattle.ghc_core.specs.declared.change.Change.TheVariants.{PutsBack as puts_back};
-ghost use Rattle.ghc_core.specs.Change.{with_redone, CanChange, HasRoomFor, IsBoundBy};
+ghost use Rattle.ghc_core.specs.declared.change.Change.TheVariants.{Comes as comes};
+ghost use Rattle.ghc_core.specs.Change.{CanChange};
 ghost use Rattle.ghc_core.specs.Core.{Stays};
 
-use crate::carrying::carry_over;
-use crate::change::Change;
+use crate::change::{Change, Coming};
 use crate::commit::KEPT_LIMIT;
 use crate::core_state::Core;
 use crate::variables::names_known;
 use ghc_fire::{Goals, Meter, has_effect};
 use ghc_flat::Program;
-use ghc_records::{Addition, Entry, Record, State};
+use ghc_records::{Addition, Record, State};
 use ghc_term::{Fault, Goal};
 use std::alloc::{AllocError, Global};
 
@@ -92,7 +92,7 @@ impl Core {
     /// (one that asks for goals would); else `Full` exactly where 1,000,000 steps are kept; else it fails for want of memory alone.
     /// But for the meter the core stays as it is. A look-up is made for each variable that it names.
     pub fn prepare_redo(&mut self, alloc: Global, number: u32) -> Result<Addition, Fault>
-        ensures found { IfOk result (λ step. CanChange self.old.world (puts_back step)) }
+        ensures found { IfOk result (λ step. CanChange self.old.world (comes Coming.Shelved step)) }
         ensures step { IfOk result (λ step. step.number ≡ number) }
         ensures fault { IfErr result (λ f. (f ≡ Fault.Memory) ⊎ RedoFails self.old.world number f) }
         ensures not_shelved { RedoFails self.old.world number Fault.NotShelved → (result ≡ Err Fault.NotShelved) × (self.new.meter ≡ self.old.meter) }
@@ -119,24 +119,6 @@ impl Core {
         Ok(Addition::of(alloc, shelved.share()?)?)
     }
 
-    // Takes a shelved step again: one look-up for each of its goals and bindings, and some for each goal that looked at what it binds.
-    #[inline(never)]
-    pub(crate) fn put_back(&mut self, addition: Addition)
-        requires found { CanChange self.old.world (puts_back addition) }
-        requires room { HasRoomFor self.old.world self.old.room (puts_back addition) }
-        ensures world { self.new.world ≡ with_redone addition self.old.world }
-        ensures notes { AreLeft self.new.world.state.goals (IsBoundBy (puts_back addition)) self.old.notes self.new.notes }
-        ensures meter { self.new.meter ≡ self.old.meter }
-    {
-        let (step, _entry) = self.state.take(addition);
-        let number = step.number();
-        carry_over(&mut self.tries, &step);
-        self.streams.tell(&step);
-        self.records.put(step);
-        let _ = self.shelf.remove(number);
-        self.journal.put(Entry::Redid(number));
-    }
-
     /// Takes the shelved step of this number again, at the end of the record and under its number, with the effect recorded:
     /// what it binds is in the store, the goals that it makes are there, the goal that it consumes is gone, and the shelf has it
     /// no more. Untried are then the goals that it makes and those that looked at what it binds. The refusals are those of
@@ -151,14 +133,14 @@ impl Core {
         ensures stays { OnErr result (Stays self.old self.new) }
 
         // A note stays just where its goal is still there and did not look at what the step binds.
-        ensures notes { OnOk result ((r : record_spec) × (finite.get self.old.world.shelf number ≡ Some r) × AreLeft self.new.world.state.goals (IsBoundBy (puts_back r)) self.old.notes self.new.notes) }
+        ensures notes { OnOk result ((r : record_spec) × (finite.get self.old.world.shelf number ≡ Some r) × AreLeft self.new.world.state.goals (Binds r) self.old.notes self.new.notes) }
     {
         self.stands();
         let addition = match self.prepare_redo(alloc, number) {
             Ok(addition) => addition,
             Err(fault) => return Err(fault),
         };
-        self.make(Change::PutsBack(addition))?;
+        self.make(Change::Comes(Coming::Shelved, addition))?;
         Ok(())
     }
 }

@@ -1,18 +1,20 @@
 // Rolling back: a step and its consequences are taken away, all or none.
-ghost use Rattle.std.specs.Prelude.{◌≡◌, ◌⊎◌, ◌∷◌, ℕ, List, IfOk, IfErr, OnOk, OnErr, Err};
+ghost use Rattle.std.specs.Prelude.{◌≡◌, ◌⊎◌, [], ℕ, List, IfOk, IfErr, OnOk, OnErr, Err};
 ghost use Rattle.ghc_term.specs.Lists.{In};
 ghost use Rattle.ghc_hooks.specs.Notes.{AreLeft};
 ghost use Rattle.ghc_records.specs.Record.{Record as record_spec, numbers};
+ghost use Rattle.ghc_records.specs.EntryCode.{entry_of};
 ghost use Rattle.ghc_depend.specs.Depend.{IsKeptAs, IsNotKept};
 ghost use Rattle.ghc_depend.specs.Deletion.{IsBoundIn};
 ghost use Rattle.ghc_depend.specs.Kept.{IsSplitAt};
 ghost use Rattle.ghc_core.specs.Events.{roll, undone};
 ghost use Rattle.ghc_core.specs.Answers.{Obeys};
-ghost use Rattle.ghc_core.specs.declared.change.Change.TheVariants.{TakesAll as takes_all};
-ghost use Rattle.ghc_core.specs.Change.{CanChange, HasRoomFor, Changes, IsBoundBy};
+ghost use Rattle.ghc_core.specs.declared.change.Change.TheVariants.{Goes as goes};
+ghost use Rattle.ghc_core.specs.Gone.{all_gone};
+ghost use Rattle.ghc_core.specs.Change.{CanChange, HasRoomFor, Changes, IsBoundBy, entry_of_going};
 ghost use Rattle.ghc_core.specs.Core.{Stays};
 
-use crate::change::{Change, strike};
+use crate::change::{Change, Going, strike};
 use crate::core_state::Core;
 use crate::rolling::{strike_all, take_all_back, take_one_back};
 use ghc_depend::consequences;
@@ -21,7 +23,7 @@ use ghc_term::Fault;
 use std::alloc::{AllocError, Global};
 use std::marker::Model;
 
-/// What it takes to take a step away with its consequences, in recorded order: no memory, but room in some tables.
+/// What it takes to take a step away, alone or with its consequences in recorded order: no memory, but room in some tables.
 #[derive(Drop)]
 pub struct Rollback {
     step: Removal,
@@ -29,15 +31,14 @@ pub struct Rollback {
 }
 
 impl Model for Rollback {
-    ghost use Rattle.std.specs.Prelude.{List, ◌∷◌};
-    ghost use Rattle.ghc_records.specs.Record.{Record};
-    ghost use Rattle.ghc_records.specs.RecordCode.{records_code};
+    ghost use Rattle.ghc_core.specs.Gone.{Gone};
+    ghost use Rattle.ghc_core.specs.GoneCode.{gone_code};
 
-    ghost Value = { List Record };
+    ghost Value = { Gone };
 
-    ghost coded = { records_code };
+    ghost coded = { gone_code };
 
-    ghost view = { λ r. r.step ∷ r.consequences.items };
+    ghost view = { λ r. record { first = r.step; others = r.consequences.items } };
 }
 
 // What it takes to take away the kept steps of these numbers: a look-up and one step for each.
@@ -56,10 +57,22 @@ fn removals_of(alloc: Global, records: &Records, ns: &[u32]) -> Result<Vec<Remov
 }
 
 impl Rollback {
+    // What it takes to take this step away alone.
+    #[inline(always)]
+    pub(crate) fn alone(alloc: Global, step: Removal) -> Rollback
+        ensures { result ≡ record { first = step; others = [] } }
+    {
+        Rollback {
+            step,
+            consequences: Vec::new(alloc),
+        }
+    }
+
     // What it takes to roll this kept step back: what `consequences` costs. It fails for want of memory alone.
     fn of(alloc: Global, records: &Records, step: Removal) -> Result<Rollback, AllocError>
         requires kept { In step records.now.held }
-        ensures { IfOk result (λ gone. (left : List record_spec) × IsSplitAt records.now.held step gone left) }
+        ensures first { IfOk result (λ gone. gone.first ≡ step) }
+        ensures split { IfOk result (λ gone. (left : List record_spec) × IsSplitAt records.now.held step (all_gone gone) left) }
     {
         let _count = records.len();
         let found = consequences(alloc, records, step.step().number())?;
@@ -69,7 +82,8 @@ impl Rollback {
 
     /// The step itself, and its consequences in recorded order.
     pub fn parts(&self) -> (&Removal, &[Removal])
-        ensures { self.now ≡ result.0.now ∷ result.1.now }
+        ensures first { result.0.now ≡ self.now.first }
+        ensures others { result.1.now ≡ self.now.others }
     {
         let consequences: &[Removal] = &self.consequences;
         (&self.step, consequences)
@@ -77,7 +91,7 @@ impl Rollback {
 
     /// The numbers of the steps, in recorded order: one step for each.
     pub fn numbers(&self, alloc: Global) -> Result<Vec<u32>, AllocError>
-        ensures { IfOk result (λ ns. ns.items ≡ numbers self.now) }
+        ensures { IfOk result (λ ns. ns.items ≡ numbers (all_gone self.now)) }
     {
         let mut ns = Vec::new(alloc);
         ns.push(self.step.step().number())?;
@@ -88,26 +102,40 @@ impl Rollback {
     }
 }
 
+// The entry of steps that go, of which the first has this number.
+#[inline(always)]
+fn entry_for(how: Going, number: u32) -> Entry
+    ensures { (r : record_spec) → r.number ≡ number → entry_of result ≡ entry_of_going how r }
+{
+    match how {
+        Going::Alone => Entry::Undid(number),
+        Going::Together => Entry::Rolled(number),
+    }
+}
+
 impl Core {
     // Makes room to take steps away.
+    #[inline(never)]
     pub(crate) fn reserve_to_roll(&mut self, rollback: &Rollback) -> Result<(), AllocError>
-        ensures room { OnOk result (HasRoomFor self.new.world self.new.room (takes_all rollback.now)) }
+        ensures room { OnOk result (HasRoomFor self.new.world self.new.room (goes Going.Together rollback.now)) }
         ensures stays { Stays self.old self.new }
         ensures meter { self.new.meter ≡ self.old.meter }
     {
         let count = rollback.consequences.len() + 1;
-        self.state.reserve_goals(count)?;
-        self.tries.reserve(count)?;
+        let newest = rollback.step.step().number();
+        self.state.reserve_goals(count, newest)?;
+        self.tries.reserve(count, newest)?;
         self.shelf.reserve(count)?;
         self.journal.reserve(1)
     }
 
     // Takes steps away: a look-up for each of their goals and bindings, and what `Records::remove` costs for each.
-    pub(crate) fn take_all_away(&mut self, rollback: Rollback)
-        requires found { CanChange self.old.world (takes_all rollback) }
-        requires room { HasRoomFor self.old.world self.old.room (takes_all rollback) }
-        ensures changed { Changes self.old.world (takes_all rollback) self.new.world }
-        ensures notes { AreLeft self.new.world.state.goals (IsBoundBy (takes_all rollback)) self.old.notes self.new.notes }
+    #[inline(never)]
+    pub(crate) fn take_away(&mut self, how: Going, rollback: Rollback)
+        requires found { CanChange self.old.world (goes how rollback) }
+        requires room { HasRoomFor self.old.world self.old.room (goes how rollback) }
+        ensures changed { Changes self.old.world (goes how rollback) self.new.world }
+        ensures notes { AreLeft self.new.world.state.goals (IsBoundBy (goes how rollback)) self.old.notes self.new.notes }
         ensures meter { self.new.meter ≡ self.old.meter }
     {
         let Rollback { step, consequences } = rollback;
@@ -128,15 +156,15 @@ impl Core {
             &mut self.streams,
             step,
         );
-        self.journal.put(Entry::Rolled(number));
+        self.journal.put(entry_for(how, number));
     }
 
     /// Finds what it takes to roll the step of this number back: `NotKept` exactly where the step is not kept, which is told before
     /// memory is asked for; else it fails for want of memory alone. It costs a look-up for each direct dependence on the step or
     /// on a consequence, and puts the consequences in order.
     pub fn prepare_rollback(&self, alloc: Global, number: u32) -> Result<Rollback, Fault>
-        ensures found { IfOk result (λ gone. CanChange self.now.world (takes_all gone)) }
-        ensures split { IfOk result (λ gone. (r : record_spec) × (left : List record_spec) × IsKeptAs self.now.world.kept number r × IsSplitAt self.now.world.kept r gone left) }
+        ensures found { IfOk result (λ gone. CanChange self.now.world (goes Going.Together gone)) }
+        ensures step { IfOk result (λ gone. gone.first.number ≡ number) }
         ensures fault { IfErr result (λ f. ((f ≡ Fault.Memory) × ((r : record_spec) × IsKeptAs self.now.world.kept number r)) ⊎ ((f ≡ Fault.NotKept) × IsNotKept self.now.world.kept number)) }
     {
         let Some(kept) = self.records.get(number) else {
@@ -174,7 +202,7 @@ impl Core {
             Err(fault) => return Err(fault),
         };
         let ns = rollback.numbers(alloc)?;
-        self.make(Change::TakesAll(rollback))?;
+        self.make(Change::Goes(Going::Together, rollback))?;
         Ok(ns)
     }
 }

@@ -3,27 +3,31 @@ ghost use Rattle.std.specs.Prelude.{◌≡◌, ◌⊎◌, ◌∷◌, [], IfOk, I
 ghost use Rattle.ghc_term.specs.declared.fault.Fault.{Fault as fault_spec};
 ghost use Rattle.ghc_hooks.specs.Notes.{AreLeft};
 ghost use Rattle.ghc_records.specs.Record.{Record as record_spec};
-ghost use Rattle.ghc_depend.specs.Depend.{IsKeptAs};
+ghost use Rattle.ghc_depend.specs.Depend.{Follows, IsKeptAs};
+ghost use Rattle.ghc_depend.specs.Deletion.{IsBoundIn};
 ghost use Rattle.ghc_core.specs.Events.{undo, undone};
 ghost use Rattle.ghc_core.specs.Answers.{Obeys};
 ghost use Rattle.ghc_core.specs.Refusals.{UndoFails, CanUndo};
-ghost use Rattle.ghc_core.specs.declared.change.Change.TheVariants.{TakesAway as takes_away};
-ghost use Rattle.ghc_core.specs.Change.{CanChange, IsBoundBy};
+ghost use Rattle.ghc_core.specs.declared.change.Change.TheVariants.{Goes as goes};
+ghost use Rattle.ghc_core.specs.Change.{CanChange};
 ghost use Rattle.ghc_core.specs.Core.{Stays};
 
-use crate::change::Change;
+use crate::change::{Change, Going};
 use crate::core_state::Core;
+use crate::rollback::Rollback;
 use ghc_depend::first_consequence;
 use ghc_records::Removal;
 use ghc_term::Fault;
+use std::alloc::Global;
 
 impl Core {
     /// Finds what it takes to undo the step of this number: `NotKept` exactly where the step is not kept; else `HasConsequence`,
     /// with the first consequence in recorded order, exactly where it has one; else it fails for want of memory alone, where a
     /// count of handles is full. It costs a look-up for each step that depends directly on this one.
-    pub fn prepare_undo(&self, number: u32) -> Result<Removal, Fault>
-        ensures found { IfOk result (λ removal. CanChange self.now.world (takes_away removal)) }
-        ensures step { IfOk result (λ removal. removal.number ≡ number) }
+    pub fn prepare_undo(&self, alloc: Global, number: u32) -> Result<Rollback, Fault>
+        ensures found { IfOk result (λ gone. CanChange self.now.world (goes Going.Alone gone)) }
+        ensures step { IfOk result (λ gone. gone.first.number ≡ number) }
+        ensures alone { IfOk result (λ gone. (b : record_spec) → ¬ Follows self.now.world.kept gone.first b) }
         ensures fault { IfErr result (λ f. ((f ≡ Fault.Memory) × CanUndo self.now.world.kept number) ⊎ UndoFails self.now.world.kept number f) }
     {
         let Some(kept) = self.records.get(number) else {
@@ -33,7 +37,7 @@ impl Core {
             return Err(Fault::HasConsequence { step });
         }
         match Removal::of(kept) {
-            Ok(removal) => Ok(removal),
+            Ok(removal) => Ok(Rollback::alone(alloc, removal)),
             Err(_) => Err(Fault::Memory),
         }
     }
@@ -46,7 +50,7 @@ impl Core {
     /// however many steps are kept: what `prepare_undo` and `apply` cost.
     ///
     /// The rule is that of Danos and Krivine (2004): an action may be undone exactly when all its consequences have been.
-    pub fn undo(&mut self, number: u32) -> Result<(), Fault>
+    pub fn undo(&mut self, alloc: Global, number: u32) -> Result<(), Fault>
         ensures ok { OnOk result (Obeys ⊥ self.old.world (undo number) (undone (number ∷ [])) self.new.world) }
         ensures fault { IfErr result (λ f. (f ≡ Fault.Memory) ⊎ UndoFails self.old.world.kept number f) }
         ensures refused { (f : fault_spec) → UndoFails self.old.world.kept number f → result ≡ Err f }
@@ -54,14 +58,14 @@ impl Core {
         ensures meter { self.new.meter ≡ self.old.meter }
 
         // A note stays just where its goal is still there and did not look at what the step had bound.
-        ensures notes { OnOk result ((r : record_spec) × IsKeptAs self.old.world.kept number r × AreLeft self.new.world.state.goals (IsBoundBy (takes_away r)) self.old.notes self.new.notes) }
+        ensures notes { OnOk result ((r : record_spec) × IsKeptAs self.old.world.kept number r × AreLeft self.new.world.state.goals (IsBoundIn (r ∷ [])) self.old.notes self.new.notes) }
     {
         self.stands();
-        let removal = match self.prepare_undo(number) {
-            Ok(removal) => removal,
+        let rollback = match self.prepare_undo(alloc, number) {
+            Ok(rollback) => rollback,
             Err(fault) => return Err(fault),
         };
-        self.make(Change::TakesAway(removal))?;
+        self.make(Change::Goes(Going::Alone, rollback))?;
         Ok(())
     }
 }

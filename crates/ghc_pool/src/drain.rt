@@ -6,7 +6,7 @@ ghost use Rattle.ghc_pool.specs.Runs.{IsRunStep, Takes};
 ghost use Rattle.ghc_pool.specs.Meeting.{TookInQuestion, IsFound};
 
 use crate::meet::{Met, is_to_meet, meet};
-use ghc_core::{Change, Core};
+use ghc_core::{Change, Coming, Core};
 use ghc_records::Addition;
 use ghc_term::GoalName;
 use ghc_trace::SpySet;
@@ -94,7 +94,7 @@ fn take(core: &mut Core, addition: Addition) -> Result<(), AllocError>
     ensures ok { OnOk result (core.new.world ≡ with_step addition core.old.world) }
     ensures err { OnErr result (core.new.world ≡ core.old.world) }
 {
-    core.make(Change::Adds(addition))
+    core.make(Change::Comes(Coming::Next, addition))
 }
 
 // Finds and takes one step, lists the goals that it makes, and says whether one was taken.

@@ -1,5 +1,5 @@
 -- The goals after a change were there before it, or it brings them.
-use Rattle.std.proofs.Common.{◌≡◌, ◌⊎◌, List, [], ◌∷◌, sym, ap, ◌∙◌, inl, inr}
+use Rattle.std.proofs.Common.{◌≡◌, ◌⊎◌, List, sym, ap, ◌∙◌, inl, inr}
 use Rattle.std.specs.Prelude.{Option, Some, None}
 use Rattle.std.specs.Option.{option_or}
 use Rattle.std.specs.Coded.{coded_option}
@@ -16,9 +16,11 @@ use Rattle.ghc_depend.proofs.Finding.{own, makes_at, own_made}
 use Rattle.ghc_core.specs.World.{World}
 use Rattle.ghc_core.specs.Core.{IsStanding}
 use Rattle.ghc_core.specs.declared.change.Change.{Change}
-use Rattle.ghc_core.specs.declared.change.Change.TheVariants.{Adds as adds, PutsBack as puts_back, TakesAway as takes_away, TakesAll as takes_all, Reorders as reorders}
+use Rattle.ghc_core.specs.declared.change.Change.TheVariants.{Comes as comes, Goes as goes, Reorders as reorders}
+use Rattle.ghc_core.specs.Gone.{all_gone}
 use Rattle.ghc_core.specs.Change.{CanChange, Changes}
-use Rattle.ghc_core.proofs.Returning.{undo_leaves, roll_leaves}
+use Rattle.ghc_core.proofs.Arriving.{comes_last}
+use Rattle.ghc_core.proofs.Returning.{going_leaves}
 use Rattle.ghc_trace.specs.Laws.{Brings}
 
 found_in_either : (a b : Option Goal) (g : Goal) → option_or a b ≡ Some g → (a ≡ Some g) ⊎ (b ≡ Some g)
@@ -36,12 +38,6 @@ taken_from w v r e h b f =
 nothing_found : {b : Goal} → None ≡ Some b → ⊥
 nothing_found e = cc
 
-left_from : (w v : World) (r : Record) → IsWithoutSteps (r ∷ []) w.state v.state → (h : GoalName) (b : Goal) → finite.get v.state.goals h ≡ Some b → (finite.get w.state.goals h ≡ Some b) ⊎ (r.goal ≡ Some h)
-left_from w v r without h b f = elim (same_decided (coded_option goal_name_code) r.goal (Some h)) [
-  | inl e ↦ inr e
-  | inr n ↦ inl (sym (without.others h (λ m. nothing_found (sym (without.unmade h m) ∙ f)) (λ k. elim k.1 [ inl e ↦ n (ap (λ (z : Record). z.goal) (sym e) ∙ k.2) | inr z ↦ absurd z ])) ∙ f)
-]
-
 given_from : (w v : World) (gone : List Record) → IsWithoutSteps gone w.state v.state → (h : GoalName) (b : Goal) → finite.get v.state.goals h ≡ Some b → (finite.get w.state.goals h ≡ Some b) ⊎ IsConsumedIn gone h
 given_from w v gone without h b f = elim (some_decided gone (λ (r : Record). r.goal ≡ Some h) (λ r i. same_decided (coded_option goal_name_code) r.goal (Some h))) [
   | inl e ↦ inr e
@@ -51,9 +47,6 @@ given_from w v gone without h b f = elim (some_decided gone (λ (r : Record). r.
 -- after each change
 pub changed_from : (w v : World) (change : Change) → IsStanding w → CanChange w change → Changes w change v → (h : GoalName) (b : Goal) → finite.get v.state.goals h ≡ Some b
     → (finite.get w.state.goals h ≡ Some b) ⊎ Brings change h
-changed_from w v (adds r) s can e = taken_from w v r (ap (λ (z : World). z.state) e)
-changed_from w v (puts_back r) s can e = taken_from w v r (ap (λ (z : World). z.state) e)
-changed_from w v (takes_away r) s can e = left_from w v r (undo_leaves w v s r can e)
-changed_from w v (takes_all []) s can e = absurd e
-changed_from w v (takes_all (r ∷ rs)) s can e = given_from w v (r ∷ rs) (roll_leaves w v s r rs can e)
+changed_from w v (comes from r) s can e = taken_from w v r (ap (λ (z : World). z.state) e ∙ (comes_last from r w).state)
+changed_from w v (goes how gone) s can e = given_from w v (all_gone gone) (going_leaves w v s how gone can e)
 changed_from w v (reorders a) s can e = λ h b f. inl (ap (λ (z : World). finite.get z.state.goals h) (sym e) ∙ f)

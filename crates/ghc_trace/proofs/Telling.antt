@@ -29,7 +29,8 @@ use Rattle.ghc_hooks.proofs.LookedAt.{exact_awaits}
 use Rattle.ghc_records.specs.Journal.{Opening}
 use Rattle.ghc_core.specs.World.{World}
 use Rattle.ghc_core.specs.declared.change.Change.{Change}
-use Rattle.ghc_core.specs.declared.change.Change.TheVariants.{Adds as adds, PutsBack as puts_back, TakesAway as takes_away, TakesAll as takes_all, Reorders as reorders}
+use Rattle.ghc_core.specs.declared.change.Change.TheVariants.{Comes as comes, Goes as goes, Reorders as reorders}
+use Rattle.ghc_core.specs.Gone.{all_gone}
 use Rattle.ghc_core.specs.Change.{IsBoundBy}
 use Rattle.ghc_core.proofs.Moving.{opening_stays}
 use Rattle.ghc_core.proofs.Reaching.{reached_good}
@@ -193,10 +194,8 @@ ports_told w r notes d names settled disturbed named =
 
 -- a change binds or frees a variable, or does not
 bound_or_not : (change : Change) (x : VarName) → Decided (IsBoundBy change x)
-bound_or_not (adds r) x = true_decided (finite.contains_key r.effect.binds x)
-bound_or_not (puts_back r) x = true_decided (finite.contains_key r.effect.binds x)
-bound_or_not (takes_away r) x = true_decided (finite.contains_key r.effect.binds x)
-bound_or_not (takes_all gone) x = some_decided gone (λ r. Binds r x) (λ r i. true_decided (finite.contains_key r.effect.binds x))
+bound_or_not (comes from r) x = true_decided (finite.contains_key r.effect.binds x)
+bound_or_not (goes how gone) x = some_decided (all_gone gone) (λ r. Binds r x) (λ r i. true_decided (finite.contains_key r.effect.binds x))
 bound_or_not (reorders a) x = inr (λ b. b)
 
 pub news_told : NotesTellNews

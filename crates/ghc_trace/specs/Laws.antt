@@ -1,5 +1,5 @@
 -- Laws of what is told of goals.
-use Rattle.std.specs.Prelude.{◌≡◌, List, ◌++◌, map, Some}
+use Rattle.std.specs.Prelude.{List, ◌++◌, map}
 use Rattle.std.specs.FinSet as set
 use Rattle.ghc_term.specs.declared.goal_name.GoalName.{GoalName}
 use Rattle.ghc_records.specs.Record.{Record}
@@ -10,7 +10,8 @@ use Rattle.ghc_hooks.specs.Notes.{NotesByGoal, AreLeft}
 use Rattle.ghc_core.specs.World.{World}
 use Rattle.ghc_core.specs.Core.{IsStanding, AreExactIn}
 use Rattle.ghc_core.specs.declared.change.Change.{Change}
-use Rattle.ghc_core.specs.declared.change.Change.TheVariants.{Adds as adds, PutsBack as puts_back, TakesAway as takes_away, TakesAll as takes_all, Reorders as reorders}
+use Rattle.ghc_core.specs.declared.change.Change.TheVariants.{Comes as comes, Goes as goes, Reorders as reorders}
+use Rattle.ghc_core.specs.Gone.{all_gone}
 use Rattle.ghc_core.specs.Change.{CanChange, Changes, IsBoundBy}
 use Rattle.ghc_core.specs.Settling.{AreKept}
 use Rattle.ghc_trace.specs.Ports.{resumed, taken_ports, ArePorts}
@@ -22,12 +23,10 @@ pub record IsSettled (w : World) (notes : NotesByGoal) : Type 0 where
   pub standing : IsStanding w
   pub exact : AreExactIn w notes set.empty
 
--- The change brings the goal named g: its step makes it, or a step that is taken away consumed it; another order brings none.
+-- The change brings the goal named g: the step that comes makes it, or a step that goes consumed it; another order brings none.
 abbrev pub Brings : Change → GoalName → Type 0
-Brings (adds r) g = MakesGoal r g
-Brings (puts_back r) g = MakesGoal r g
-Brings (takes_away r) g = r.goal ≡ Some g
-Brings (takes_all gone) g = IsConsumedIn gone g
+Brings (comes from r) g = MakesGoal r g
+Brings (goes how gone) g = IsConsumedIn (all_gone gone) g
 Brings (reorders a) g = ⊥
 
 -- Where no goal is untried, those that by their notes waited for what a step binds are those that it resumes.

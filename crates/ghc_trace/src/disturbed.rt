@@ -4,6 +4,7 @@ ghost use Rattle.ghc_hooks.specs.Notes.{NotesByGoal};
 ghost use Rattle.ghc_records.specs.Replay.{MakesGoal};
 ghost use Rattle.ghc_depend.specs.Depend.{Binds};
 ghost use Rattle.ghc_depend.specs.Deletion.{IsBoundIn, IsConsumedIn};
+ghost use Rattle.ghc_core.specs.Gone.{all_gone};
 ghost use Rattle.ghc_trace.specs.Disturbed.{AreDisturbed};
 
 use crate::gathered::{Gathered, put_in_order};
@@ -78,29 +79,15 @@ impl Disturbed {
         Ok(Disturbed::of(gathered))
     }
 
-    /// The goals that the step disturbs as it is taken away: those whose notes looked at what it bound, and the one that it
-    /// consumed. For this one, and each variable bound with each goal that looked at it: a look-up, and a copy of the variables
-    /// for which the goal waits; and puts them in order.
-    pub fn by_taking_back(
-        alloc: Global,
-        tries: &Tries,
-        step: &Record,
-    ) -> Result<Disturbed, AllocError>
-        ensures { IfOk result (λ d. AreDisturbed tries.now.notes (Binds step.now) (λ g. step.now.goal ≡ Some g) d) }
-    {
-        let mut gathered = Gathered::new(alloc);
-        gathered.add_taken_back(alloc, tries, step)?;
-        Ok(Disturbed::of(gathered))
-    }
-
-    /// The goals that a step and its consequences disturb as they are taken away: those whose notes looked at what one of them
-    /// bound, and those that one of them consumed. It costs as much for each as for one alone, and puts them in order once.
+    /// The goals that a step disturbs, alone or with its consequences, as it is taken away: those whose notes looked at what one of
+    /// them bound, and those that one of them consumed. For each of these, and each variable bound with each goal that looked at it:
+    /// a look-up, and a copy of the variables for which the goal waits; and puts them in order once.
     pub fn by_rolling_back(
         alloc: Global,
         tries: &Tries,
         rollback: &Rollback,
     ) -> Result<Disturbed, AllocError>
-        ensures { IfOk result (λ d. AreDisturbed tries.now.notes (IsBoundIn rollback.now) (IsConsumedIn rollback.now) d) }
+        ensures { IfOk result (λ d. AreDisturbed tries.now.notes (IsBoundIn (all_gone rollback.now)) (IsConsumedIn (all_gone rollback.now)) d) }
     {
         let (first, others) = rollback.parts();
         let mut gathered = Gathered::new(alloc);

@@ -21,4 +21,4 @@ returns-clause-some c =
     subst (λ o. IfSome o (HasEffect a.program.now a.goal.now c.act.result.now c.number-number.result (value_at c.store.result.now.held))) c.in-Some.is c.in_ok-found.ensures.some in
     possible_as a.program.now a.state.now.held a.step.now a.name a.goal.now e c.in_ok-record.record c.requires.named c.requires.there
     (rw (sym c.act.ensures, sym c.number-number.ensures, sym c.store.ensures) has)
-    (c.in_ok-record.ensures ∙ (λ i. record { number = c.number-number.ensures i; goal = Some a.name; consumed = Some (c.in_ok-consumed.ensures i); act = (c.in_ok-act.ensures ∙ c.act-2.ensures) i; effect = e }))
+    (c.in_ok-record.ensures ∙ (λ i. record { number = c.number-number.ensures i; goal = Some a.name; consumed = Some ((c.in_ok-consumed.ensures ∙ c.in_ok-shared.ensures) i); act = (c.in_ok-act.ensures ∙ c.act-2.ensures) i; effect = e }))

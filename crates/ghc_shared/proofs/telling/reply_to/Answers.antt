@@ -1,7 +1,7 @@
 use Rattle.std.proofs.Common.{◌≡◌, sym, subst, Ok, Err}
 use Rattle.ghc_term.specs.declared.fault.Fault.{Fault}
 use Rattle.ghc_core.specs.World.{no_hands, emptied}
-use Rattle.ghc_core.specs.Events.{note, Reply, stepped, refused}
+use Rattle.ghc_core.specs.Events.{note, stepped, refused}
 use Rattle.ghc_core.specs.EventCode.{reply_of}
 use Rattle.ghc_core.specs.Answers.{Answers}
 use Rattle.ghc_core.specs.Anyway.{IsRefusedAnyway}

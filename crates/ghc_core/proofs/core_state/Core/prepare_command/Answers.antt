@@ -1,14 +1,15 @@
 use Rattle.std.proofs.Common.{◌≡◌, sym, ap, ◌∙◌, subst, inl, inr, Ok, Err}
 use Rattle.ghc_term.specs.declared.fault.Fault.{Fault}
 use Rattle.ghc_core.specs.Anyway.{IsNotObeyedAnyway}
-use Rattle.ghc_core.specs.Answers.{to_give, to_close, to_undo, to_redo, to_arrange, to_ask, Fails}
+use Rattle.ghc_core.specs.Answers.{to_give, to_close, to_undo, to_roll, to_redo, to_arrange, to_ask, Fails}
 use Rattle.ghc_core.specs.Asked.{IsAskedFor}
 use Rattle.ghc_core.specs.CommandCode.{command_of}
 use Rattle.ghc_core.specs.Counting.{CountsInObeying, after_firings, firings_of_command}
 use Rattle.ghc_core.proofs.Counted.{redo_counted}
 use Rattle.ghc_core.specs.Events.{arrange}
-use Rattle.ghc_core.specs.declared.change.Change.TheVariants.{Adds as adds, PutsBack as puts_back, TakesAway as takes_away, TakesAll as takes_all, Reorders as reorders}
-use Rattle.ghc_core.proofs.Asking.{roll_asks}
+use Rattle.ghc_core.specs.declared.change.Change.TheVariants.{Comes as comes, Goes as goes, Reorders as reorders}
+use Rattle.ghc_core.specs.declared.change.Coming.{Coming}
+use Rattle.ghc_core.specs.declared.change.Going.{Going}
 use Rattle.ghc_core.proofs.CertainRefusals.{undo_cannot_fail, one_undo_refusal}
 use Rattle.ghc_core.proofs.Replying.{Why}
 use Rattle.ghc_core.proofs.core_state.Core.prepare_command.Goals as goal
@@ -16,7 +17,7 @@ use Rattle.ghc_core.proofs.core_state.Core.prepare_command.Goals as goal
 pub returns-in-Ok-clause-answer : goal.returns-in-Ok-clause-answer
 returns-in-Ok-clause-answer c =
     let w = c.args.self.now.world in
-    (subst (λ m. IsAskedFor w (command_of m) (adds c.in-Ok.addition)) (sym c.in-Input.is) (to_give c.in-Ok.ensures.answer.0.0, c.in-Ok.ensures.answer.0.1), tt)
+    (subst (λ m. IsAskedFor w (command_of m) (comes Coming.Next c.in-Ok.addition)) (sym c.in-Input.is) (to_give c.in-Ok.ensures.answer.0.0, c.in-Ok.ensures.answer.0.1), tt)
 
 pub returns-in-Err-clause-answer : goal.returns-in-Err-clause-answer
 returns-in-Err-clause-answer c =
@@ -29,7 +30,7 @@ pub returns-in-Ok-prepare_close-clause-answer : goal.returns-in-Ok-prepare_close
 returns-in-Ok-prepare_close-clause-answer c =
     let w = c.args.self.now.world in
     let r = c.in-Ok-prepare_close.addition in
-    (subst (λ m. IsAskedFor w (command_of m) (adds r)) (sym c.in-Close.is) (to_close c.in-Ok-prepare_close.ensures.answer.0.0, c.in-Ok-prepare_close.ensures.answer.0.1), tt)
+    (subst (λ m. IsAskedFor w (command_of m) (comes Coming.Next r)) (sym c.in-Close.is) (to_close c.in-Ok-prepare_close.ensures.answer.0.0, c.in-Ok-prepare_close.ensures.answer.0.1), tt)
 
 pub returns-in-Err-prepare_close-clause-answer : goal.returns-in-Err-prepare_close-clause-answer
 returns-in-Err-prepare_close-clause-answer c =
@@ -42,7 +43,7 @@ pub returns-in-Ok-prepare_ask-clause-answer : goal.returns-in-Ok-prepare_ask-cla
 returns-in-Ok-prepare_ask-clause-answer c =
     let w = c.args.self.now.world in
     let r = c.in-Ok-prepare_ask.addition in
-    (subst (λ m. IsAskedFor w (command_of m) (adds r)) (sym c.in-Ask.is) (to_ask c.in-Ok-prepare_ask.ensures.answer.0.0, c.in-Ok-prepare_ask.ensures.answer.0.1), tt)
+    (subst (λ m. IsAskedFor w (command_of m) (comes Coming.Next r)) (sym c.in-Ask.is) (to_ask c.in-Ok-prepare_ask.ensures.answer.0.0, c.in-Ok-prepare_ask.ensures.answer.0.1), tt)
 
 pub returns-in-Err-prepare_ask-clause-answer : goal.returns-in-Err-prepare_ask-clause-answer
 returns-in-Err-prepare_ask-clause-answer c =
@@ -62,13 +63,13 @@ returns-in-Err-prepare_ask-clause-anyway c f fails =
 pub returns-in-Ok-prepare_undo-clause-answer : goal.returns-in-Ok-prepare_undo-clause-answer
 returns-in-Ok-prepare_undo-clause-answer c =
     let found = c.in-Ok-prepare_undo.ensures in
-    (subst (λ m. IsAskedFor c.args.self.now.world (command_of m) (takes_away c.in-Ok-prepare_undo.removal)) (sym c.in-Undo.is) (to_undo found.step, found.found), tt)
+    (subst (λ m. IsAskedFor c.args.self.now.world (command_of m) (goes Going.Alone c.in-Ok-prepare_undo.rollback)) (sym c.in-Undo.is) (to_undo found.step, found.found), tt)
 
 pub returns-in-Ok-prepare_undo-clause-anyway : goal.returns-in-Ok-prepare_undo-clause-anyway
 returns-in-Ok-prepare_undo-clause-anyway c f fails =
     let w = c.args.self.now.world in
-    let found = c.in-Ok-prepare_undo.ensures.found in
-    absurd (undo_cannot_fail w c.stands.ensures.standing c.in-Ok-prepare_undo.removal (found.0, c.in-Ok-prepare_undo.ensures.step) found.1 (subst (λ m. IsNotObeyedAnyway w (command_of m) f) c.in-Undo.is fails))
+    let found = c.in-Ok-prepare_undo.ensures in
+    absurd (undo_cannot_fail w c.stands.ensures.standing c.in-Ok-prepare_undo.rollback.first (found.found.0, found.step) found.alone (subst (λ m. IsNotObeyedAnyway w (command_of m) f) c.in-Undo.is fails))
 
 pub returns-in-Err-prepare_undo-clause-answer : goal.returns-in-Err-prepare_undo-clause-answer
 returns-in-Err-prepare_undo-clause-answer c =
@@ -95,13 +96,13 @@ returns-in-Ok-prepare_rollback-clause-answer c =
     let w = c.args.self.now.world in
     let gone = c.in-Ok-prepare_rollback.rollback in
     let found = c.in-Ok-prepare_rollback.ensures in
-    (subst (λ m. IsAskedFor w (command_of m) (takes_all gone)) (sym c.in-Roll.is) (roll_asks w c.stands.ensures.standing c.in-Roll.number found.split.0 found.split.2 gone found.split.1 found.split.3, found.found), tt)
+    (subst (λ m. IsAskedFor w (command_of m) (goes Going.Together gone)) (sym c.in-Roll.is) (to_roll found.step, found.found), tt)
 
 pub returns-in-Ok-prepare_rollback-clause-anyway : goal.returns-in-Ok-prepare_rollback-clause-anyway
 returns-in-Ok-prepare_rollback-clause-anyway c f fails =
-    let split = c.in-Ok-prepare_rollback.ensures.split in
+    let found = c.in-Ok-prepare_rollback.ensures in
     let why = subst (λ m. IsNotObeyedAnyway c.args.self.now.world (command_of m) f) c.in-Roll.is fails in
-    absurd (why.1 split.0 split.2.0 split.2.1)
+    absurd (why.1 c.in-Ok-prepare_rollback.rollback.first found.found.0 found.step)
 
 pub returns-in-Err-prepare_rollback-clause-answer : goal.returns-in-Err-prepare_rollback-clause-answer
 returns-in-Err-prepare_rollback-clause-answer c =
@@ -127,7 +128,7 @@ returns-in-Ok-prepare_redo-clause-answer c =
     let w = c.args.self.now.world in
     let r = c.in-Ok-prepare_redo.addition in
     let found = c.in-Ok-prepare_redo.ensures in
-    (subst (λ m. IsAskedFor w (command_of m) (puts_back r)) (sym c.in-Redo.is) (to_redo found.step, found.found), tt)
+    (subst (λ m. IsAskedFor w (command_of m) (comes Coming.Shelved r)) (sym c.in-Redo.is) (to_redo found.step, found.found), tt)
 
 pub returns-in-Err-prepare_redo-clause-answer : goal.returns-in-Err-prepare_redo-clause-answer
 returns-in-Err-prepare_redo-clause-answer c =

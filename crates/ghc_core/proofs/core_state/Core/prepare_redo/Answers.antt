@@ -9,7 +9,8 @@ use Rattle.ghc_core.specs.Core.{Core}
 use Rattle.ghc_core.specs.Refusals.{RedoFails, LacksGoal}
 use Rattle.ghc_depend.proofs.Results.{asking_fires}
 use Rattle.ghc_core.proofs.Refusing.{not_shelved, no_goal, no_variable, changed, full}
-use Rattle.ghc_core.specs.declared.change.Change.TheVariants.{PutsBack as puts_back}
+use Rattle.ghc_core.specs.declared.change.Change.TheVariants.{Comes as comes}
+use Rattle.ghc_core.specs.declared.change.Coming.{Coming}
 use Rattle.ghc_core.specs.Change.{CanChange}
 use Rattle.ghc_core.proofs.Reaching.{reached_good}
 use Rattle.ghc_core.proofs.Replayed.{replayed}
@@ -69,8 +70,8 @@ returns-clause-found c =
     let count = c.len.ensures.count in
     let few = c.if-len-ge-KEPT_LIMIT.false in
     let same : c.in_ok-of.field-0 ≡ r = c.in_ok-of.ensures ∙ c.in_ok-share.ensures in
-    subst (λ (x : Core). CanChange x.world (puts_back c.in_ok-of.field-0)) c.self.view_is
-    (subst (λ (q : Record). CanChange (record { opening = loaded_opening c.self.inside.program c.self.inside.query.goals c.self.inside.query.variables c.self.inside.loaded; state = c.self.inside.state.held; kept = c.self.inside.records.held; shelf = c.self.inside.shelf.held; next = c.self.inside.next; journal = c.self.inside.journal.held }) (puts_back q)) (sym same)
+    subst (λ (x : Core). CanChange x.world (comes Coming.Shelved c.in_ok-of.field-0)) c.self.view_is
+    (subst (λ (q : Record). CanChange (record { opening = loaded_opening c.self.inside.program c.self.inside.query.goals c.self.inside.query.variables c.self.inside.loaded; state = c.self.inside.state.held; kept = c.self.inside.records.held; shelf = c.self.inside.shelf.held; next = c.self.inside.next; journal = c.self.inside.journal.held }) (comes Coming.Shelved q)) (sym same)
     (subst (λ n. finite.get c.self.inside.shelf.held n ≡ Some r) (sym number) (sym c.in-Some.ensures), c.in_ok-fires.ensures.answer.0 c.if-not-branch.false, omega (arith, count, few), c.names_known.ensures.0 c.if-not-names_known.false))
 
 pub returns-clause-step : goal.returns-clause-step

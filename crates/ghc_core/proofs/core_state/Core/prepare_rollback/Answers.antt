@@ -1,11 +1,13 @@
-use Rattle.std.proofs.Common.{List, refl, sym, subst, inl, inr}
+use Rattle.std.proofs.Common.{refl, sym, ap, ◌∙◌, subst, inl, inr}
+use Rattle.ghc_term.specs.Lists.{In}
 use Rattle.ghc_records.specs.Record.{Record}
 use Rattle.ghc_depend.specs.Depend.{IsKeptAs, IsNotKept}
 use Rattle.ghc_depend.specs.Kept.{IsSplitAt}
 use Rattle.ghc_core.specs.Core.{Core}
-use Rattle.ghc_core.specs.Change.{CanRoll}
-use Rattle.ghc_core.proofs.Reaching.{reached_good}
-use Rattle.ghc_core.proofs.RolledBack.{can_roll}
+use Rattle.ghc_core.specs.declared.change.Change.TheVariants.{Goes as goes}
+use Rattle.ghc_core.specs.declared.change.Going.{Going}
+use Rattle.ghc_core.specs.Change.{CanChange}
+use Rattle.ghc_core.specs.Gone.{all_gone}
 use Rattle.ghc_core.proofs.core_state.Core.prepare_rollback.Goals as goal
 
 pub returns-in_default-clause-fault : goal.returns-in_default-clause-fault
@@ -20,12 +22,14 @@ returns-in-Err-of-clause-fault c = inl (refl, subst (λ (x : Core). (r : Record)
 pub returns-in-Ok-of-clause-found : goal.returns-in-Ok-of-clause-found
 returns-in-Ok-of-clause-found c =
     let kept = c.self.inside.records.held in
+    let gone = c.in-Ok-of.rollback in
+    let first = sym c.in-Ok-of.ensures.first in
     let own : IsKeptAs kept c.args.number c.in-Ok.step = subst (IsKeptAs kept c.args.number) (sym c.in-Ok.ensures) c.in-Some.ensures.found in
-    subst (λ (x : Core). CanRoll x.world.kept c.in-Ok-of.rollback) c.self.view_is
-    (can_roll kept (reached_good c.self.invariant.standing).kept_once c.in-Ok.step own.0 c.in-Ok-of.rollback c.in-Ok-of.ensures.0 c.in-Ok-of.ensures.1)
+    let split = c.in-Ok-of.ensures.split in
+    subst (λ (x : Core). CanChange x.world (goes Going.Together gone)) c.self.view_is
+    (subst (λ r. In r kept) first own.0, (split.0, subst (λ r. IsSplitAt kept r (all_gone gone) split.0) first split.1), tt)
 
-pub returns-in-Ok-of-clause-split : goal.returns-in-Ok-of-clause-split
-returns-in-Ok-of-clause-split c =
+pub returns-in-Ok-of-clause-step : goal.returns-in-Ok-of-clause-step
+returns-in-Ok-of-clause-step c =
     let own : IsKeptAs c.self.inside.records.held c.args.number c.in-Ok.step = subst (IsKeptAs c.self.inside.records.held c.args.number) (sym c.in-Ok.ensures) c.in-Some.ensures.found in
-    subst (λ (x : Core). (r : Record) × (left : List Record) × IsKeptAs x.world.kept c.args.number r × IsSplitAt x.world.kept r c.in-Ok-of.rollback left) c.self.view_is
-    (c.in-Ok.step, c.in-Ok-of.ensures.0, own, c.in-Ok-of.ensures.1)
+    ap (λ (r : Record). r.number) c.in-Ok-of.ensures.first ∙ own.1

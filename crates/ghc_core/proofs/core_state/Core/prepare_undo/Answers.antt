@@ -1,4 +1,10 @@
-use Rattle.std.proofs.Common.{refl, subst, inl, inr}
+use Rattle.std.proofs.Common.{◌≡◌, List, [], refl, sym, ◌∙◌, subst, inl, inr}
+use Rattle.ghc_term.specs.Lists.{In}
+use Rattle.ghc_records.specs.Record.{Record}
+use Rattle.ghc_depend.specs.Kept.{IsSplitAt}
+use Rattle.ghc_core.specs.Gone.{Gone, all_gone}
+use Rattle.ghc_core.proofs.Alone.{goes_alone}
+use Rattle.ghc_core.proofs.Reaching.{reached_good}
 use Rattle.ghc_term.specs.declared.fault.Fault.{Fault}
 use Rattle.ghc_core.specs.Core.{Core}
 use Rattle.ghc_core.specs.Refusals.{CanUndo, UndoFails}
@@ -18,3 +24,16 @@ pub returns-in-Err-clause-fault : goal.returns-in-Err-clause-fault
 returns-in-Err-clause-fault c =
     let r = c.in-Some.kept.now in
     inl (refl, subst (λ (x : Core). CanUndo x.world.kept c.args.number) c.self.view_is (r, c.in-Some.ensures.found, λ b f. c.in_default-first_consequence.ensures.none r b c.in-Some.ensures.found f))
+
+-- The step can go alone.
+abbrev Can : List Record → Gone → Type 0
+Can kept gone = In gone.first kept × ((left : List Record) × IsSplitAt kept gone.first (all_gone gone) left) × (gone.others ≡ [])
+
+pub returns-in-Ok-clause-found : goal.returns-in-Ok-clause-found
+returns-in-Ok-clause-found c =
+    let kept = c.self.inside.records.held in
+    let r = c.in-Some.kept.now in
+    let found = c.in-Some.ensures.found in
+    let alone = goes_alone kept (reached_good c.self.invariant.standing).kept_once r found.0 (λ b f. c.in_default-first_consequence.ensures.none r b found f) in
+    let same : c.alone.result ≡ record { first = r; others = [] } = c.alone.ensures ∙ (λ i. record { first = c.in-Ok.ensures i; others = [] }) in
+    subst (λ (x : Core). Can x.world.kept c.alone.result) c.self.view_is (subst (Can kept) (sym same) (found.0, alone, refl))

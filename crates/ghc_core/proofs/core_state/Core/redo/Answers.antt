@@ -1,18 +1,19 @@
 use Rattle.std.proofs.Common.{◌≡◌, sym, subst, ap, ◌∙◌, Some, Ok, Err}
 use Rattle.ghc_term.specs.declared.fault.Fault.{Fault}
 use Rattle.ghc_core.specs.World.{World}
-use Rattle.ghc_core.specs.declared.change.Change.TheVariants.{PutsBack as puts_back}
+use Rattle.ghc_core.specs.declared.change.Change.TheVariants.{Comes as comes}
+use Rattle.ghc_core.specs.declared.change.Coming.{Coming}
 use Rattle.std.specs.FinMap as finite
 use Rattle.ghc_hooks.specs.Notes.{AreLeft}
 use Rattle.ghc_depend.specs.Depend.{Binds}
 use Rattle.ghc_core.specs.Events.{stepped}
 use Rattle.ghc_core.specs.Answers.{to_redo, does}
-use Rattle.ghc_core.specs.Change.{with_redone, CanChange}
+use Rattle.ghc_core.specs.Change.{with_coming, CanChange}
 use Rattle.ghc_core.proofs.core_state.Core.redo.Goals as goal
 
 pub returns-clause-ok : goal.returns-clause-ok
 returns-clause-ok c =
-    let left = c.in_ok-make.ensures.changed ∙ ap (with_redone c.in-Ok.addition) c.in-Ok.ensures.stays.world in
+    let left = c.in_ok-make.ensures.changed ∙ ap (with_coming Coming.Shelved c.in-Ok.addition) c.in-Ok.ensures.stays.world in
     does (to_redo c.in-Ok.ensures.step) c.in-Ok.ensures.found left (ap stepped (sym c.in-Ok.ensures.step))
 
 pub returns-clause-notes : goal.returns-clause-notes
@@ -24,7 +25,7 @@ returns-clause-notes c =
     )
 
 pub make-requires : goal.make-requires
-make-requires c = record { found = subst (λ (w : World). CanChange w (puts_back c.in-Ok.addition)) (sym c.in-Ok.ensures.stays.world) c.in-Ok.ensures.found }
+make-requires c = record { found = subst (λ (w : World). CanChange w (comes Coming.Shelved c.in-Ok.addition)) (sym c.in-Ok.ensures.stays.world) c.in-Ok.ensures.found }
 
 pub returns-in-Err-clause-no_goal : goal.returns-in-Err-clause-no_goal
 returns-in-Err-clause-no_goal c fails =

@@ -4,8 +4,7 @@ use Rattle.ghc_core.specs.Counting.{after_firings, firings_of_entry}
 use Rattle.ghc_records.specs.Journal.{step_of, took}
 use Rattle.ghc_records.specs.Record.{Record}
 use Rattle.ghc_core.specs.World.{World, IsNextStep, with_step}
-use Rattle.ghc_core.specs.Change.{IsBoundBy}
-use Rattle.ghc_core.specs.declared.change.Change.TheVariants.{Adds as adds}
+use Rattle.ghc_depend.specs.Depend.{Binds}
 use Rattle.ghc_core.proofs.Loading.{none_noted}
 use Rattle.ghc_core.proofs.Resuming.{step_carried, step_refused}
 use Rattle.ghc_core.proofs.core_state.Core.take_again.Goals as goal
@@ -30,7 +29,7 @@ returns-clause-carried c _ =
 
 pub returns-clause-notes : goal.returns-clause-notes
 returns-clause-notes c none _ =
-    none_noted c.take_next.new.self.world.state.goals (IsBoundBy (adds c.in-Some.addition)) c.next_as.new.self.notes c.take_next.new.self.notes c.in_ok-take_next.ensures.notes (c.in_ok-addition.ensures.notes ∙ none)
+    none_noted c.take_next.new.self.world.state.goals (Binds c.in-Some.addition) c.next_as.new.self.notes c.take_next.new.self.notes c.in_ok-take_next.ensures.notes (c.in_ok-addition.ensures.notes ∙ none)
 
 pub returns-clause-meter : goal.returns-clause-meter
 returns-clause-meter c _ =

@@ -1,75 +1,96 @@
-use Rattle.std.proofs.Common.{◌≡◌, ℕ, List, [], ◌∷◌, ◌++◌, Some, refl, subst, sym, ap, ◌∙◌}
+use Rattle.std.proofs.Common.{List, [], ◌∷◌, ◌++◌, refl, ap, ◌∙◌, sym, subst, inl, inr}
 use Rattle.std.specs.FinMap as finite
 use Rattle.ghc_term.specs.Lists.{In}
-use Rattle.ghc_records.specs.Record.{State, Record, Shelf}
-use Rattle.ghc_records.specs.State.{IsTakenBack}
-use Rattle.ghc_records.specs.Journal.{Entry, undid}
+use Rattle.ghc_records.specs.Orders.{AreDistinct, Picks}
+use Rattle.ghc_records.specs.Record.{Record}
 use Rattle.ghc_records.specs.History.{loaded_opening}
 use Rattle.ghc_hooks.specs.Notes.{AreLeft}
-use Rattle.ghc_depend.specs.Depend.{Binds}
-use Rattle.ghc_depend.specs.Kept.{IsWithout}
+use Rattle.ghc_depend.specs.Deletion.{IsBoundIn}
+use Rattle.ghc_depend.specs.Kept.{IsSplitAt}
 use Rattle.ghc_core.specs.World.{World}
-use Rattle.ghc_core.specs.Core.{Core, IsStanding}
-use Rattle.ghc_core.specs.Carried.{AreCarriedBack}
-use Rattle.ghc_core.specs.StreamGoals.{told_back}
-use Rattle.ghc_core.specs.declared.change.Change.TheVariants.{TakesAway as takes_away}
-use Rattle.ghc_core.specs.Change.{CanChange, Changes}
-use Rattle.ghc_core.specs.Reached.{by_change}
-use Rattle.ghc_core.proofs.TakenAway.{taken_away}
-use Rattle.ghc_core.proofs.Exactness.{unnoted, consumed_gone, back_exact, back_left}
-use Rattle.ghc_core.proofs.StreamNames.{stands_back}
+use Rattle.ghc_core.specs.Core.{Core}
+use Rattle.ghc_core.specs.StreamGoals.{told_back, TellStreams}
+use Rattle.ghc_core.specs.declared.change.Change.TheVariants.{Goes as goes}
+use Rattle.ghc_core.specs.declared.change.Going.{Going}
+use Rattle.ghc_core.specs.Gone.{Gone, all_gone}
+use Rattle.ghc_core.specs.Change.{Changes, GoWithIt}
+use Rattle.ghc_depend.proofs.TakenTogether.{gone_kept, gone_distinct}
+use Rattle.ghc_core.proofs.Reaching.{reached_good}
+use Rattle.ghc_core.proofs.RolledBack.{struck_first, none_again, unnoted_roll, RolledAway, rolled_away}
 use Rattle.ghc_core.proofs.core_state.Core.take_away.Goals as goal
 
--- Where the step was taken back from the state and out of the record, and put into the journal and on the shelf, it was taken away.
-taken : (w : World) → IsStanding w → (r q : Record) (left : List Record) (t : State) (shelf : Shelf) (es : List Entry) (n m : ℕ) → CanChange w (takes_away r) → q ≡ r → n ≡ q.number → m ≡ q.number
-    → ((p : Record) → In p w.kept → p.number ≡ n → IsWithout w.kept p left) → IsTakenBack r w.state t → shelf ≡ finite.insert w.shelf q.number q → es ≡ w.journal ++ undid m ∷ []
-    → Changes w (takes_away r) (record w { state = t; kept = left; shelf = shelf; journal = es })
-taken w s r q left t shelf es n m can same at here out back put told =
-    let number : q.number ≡ r.number = ap (λ (p : Record). p.number) same in
-    taken_away w s r left t shelf es can (out r can.0 (sym (at ∙ number))) back (put ∙ ap (λ (p : Record). finite.insert w.shelf p.number p) same)
-    (told ∙ ap (λ k. w.journal ++ undid k ∷ []) (here ∙ number))
+-- The steps can go.
+abbrev Can : List Record → Going → Gone → Type 0
+Can kept how gone = In gone.first kept × ((left : List Record) × IsSplitAt kept gone.first (all_gone gone) left) × GoWithIt how gone.others
+
+pub take_all_back-requires-clause-new : goal.take_all_back-requires-clause-new
+take_all_back-requires-clause-new c r i =
+    let can = subst (λ gone. Can c.self.inside.records.held c.args.how gone) (sym c.rollback.view_is) (subst (λ (x : Core). Can x.world.kept c.args.how c.args.rollback) (sym c.self.view_is) c.requires.found) in
+    unnoted_roll _ c.self.invariant.standing c.self.inside.tries.notes c.self.inside.tries.untried c.self.invariant.exact c.args.how (record { first = c.rollback.inside.step; others = c.rollback.inside.consequences.items }) can r (inr i)
+
+pub strike_all-requires-clause-kept : goal.strike_all-requires-clause-kept
+strike_all-requires-clause-kept c r i =
+    let can = subst (λ gone. Can c.self.inside.records.held c.args.how gone) (sym c.rollback.view_is) (subst (λ (x : Core). Can x.world.kept c.args.how c.args.rollback) (sym c.self.view_is) c.requires.found) in
+    let a = c.rollback.inside.step in
+    gone_kept c.self.inside.records.held (reached_good c.self.invariant.standing).kept_once a can.0 (a ∷ c.rollback.inside.consequences.items) can.1.0 can.1.1 r (inr (subst (In r) c.as_slice.ensures.value i))
+
+pub strike_all-requires-clause-distinct : goal.strike_all-requires-clause-distinct
+strike_all-requires-clause-distinct c =
+    let can = subst (λ gone. Can c.self.inside.records.held c.args.how gone) (sym c.rollback.view_is) (subst (λ (x : Core). Can x.world.kept c.args.how c.args.rollback) (sym c.self.view_is) c.requires.found) in
+    let a = c.rollback.inside.step in
+    subst AreDistinct (sym c.as_slice.ensures.value) (gone_distinct c.self.inside.records.held (reached_good c.self.invariant.standing).kept_once a can.0 (a ∷ c.rollback.inside.consequences.items) can.1.0 can.1.1).1
+
+pub take_one_back-requires-clause-new : goal.take_one_back-requires-clause-new
+take_one_back-requires-clause-new c g used =
+    let can = subst (λ gone. Can c.self.inside.records.held c.args.how gone) (sym c.rollback.view_is) (subst (λ (x : Core). Can x.world.kept c.args.how c.args.rollback) (sym c.self.view_is) c.requires.found) in
+    none_again c.rollback.inside.consequences.items c.self.inside.tries c.take_all_back.new.tries c.take_all_back.ensures.tries g
+    (unnoted_roll _ c.self.invariant.standing c.self.inside.tries.notes c.self.inside.tries.untried c.self.invariant.exact c.args.how (record { first = c.rollback.inside.step; others = c.rollback.inside.consequences.items }) can c.rollback.inside.step (inl refl) g used)
 
 -- the world before the change, and the world that is left
-abbrev before : goal.After-put-2 → World
+abbrev before : goal.After-put → World
 before c = record { opening = loaded_opening c.self.inside.program c.self.inside.query.goals c.self.inside.query.variables c.self.inside.loaded; state = c.self.inside.state.held; kept = c.self.inside.records.held; shelf = c.self.inside.shelf.held; next = c.self.inside.next; journal = c.self.inside.journal.held }
 
-abbrev left : goal.After-put-2 → World
-left c = record { opening = loaded_opening c.self.inside.program c.self.inside.query.goals c.self.inside.query.variables c.self.inside.loaded; state = c.take_back-step.new.self.held; kept = c.strike.new.records.held; shelf = c.put-2.new.self.held; next = c.self.inside.next; journal = c.put.new.self.held }
+abbrev left : goal.After-put → World
+left c = record { opening = loaded_opening c.self.inside.program c.self.inside.query.goals c.self.inside.query.variables c.self.inside.loaded; state = c.take_one_back.new.state.held; kept = c.strike.new.records.held; shelf = c.take_one_back.new.shelf.held; next = c.self.inside.next; journal = c.put.new.self.held }
+
+-- the records that are left
+struck : (c : goal.After-put) → Can c.self.inside.records.held c.args.how (record { first = c.rollback.inside.step; others = c.rollback.inside.consequences.items })
+    → Picks (λ s. ¬ In s (c.rollback.inside.step ∷ c.rollback.inside.consequences.items)) c.self.inside.records.held c.strike.new.records.held
+struck c can =
+    let kept = c.self.inside.records.held in
+    let a = c.rollback.inside.step in
+    let rs = c.rollback.inside.consequences.items in
+    let once = (reached_good c.self.invariant.standing).kept_once in
+    struck_first kept c.strike_all.new.records.held c.strike.new.records.held rs a (gone_distinct kept once a can.0 (a ∷ rs) can.1.0 can.1.1) can.0
+    (subst (λ l. Picks (λ s. ¬ In s l) kept c.strike_all.new.records.held) c.as_slice.ensures.value c.strike_all.ensures) (λ here. c.strike.ensures a here (sym (c.number-number.ensures ∙ ap (λ (r : Record). r.number) c.step.ensures)))
 
 -- the change took the one to the other
-changed : (c : goal.After-put-2) → Changes (before c) (takes_away c.args.removal) (left c)
-changed c =
-    let can : CanChange (before c) (takes_away c.args.removal) = subst (λ (x : Core). CanChange x.world (takes_away c.args.removal)) (sym c.self.view_is) c.requires.found in
-    taken (before c) c.self.invariant.standing c.args.removal c.take_back-step.result c.strike.new.records.held c.take_back-step.new.self.held c.put-2.new.self.held c.put.new.self.held c.number.result c.number-2.result
-    can c.take_back-step.ensures.record c.number.ensures c.number-2.ensures c.strike.ensures c.take_back-step.ensures.state c.put-2.ensures.held c.put.ensures.held
-
-pub returns-clause-changed : goal.returns-clause-changed
-returns-clause-changed c = subst (λ (x : Core). Changes x.world (takes_away c.args.removal) (left c)) c.self.view_is (changed c)
-
--- what was taken back, from the state and in notes and marks
-can : (c : goal.After-put-2) → CanChange (before c) (takes_away c.args.removal)
-can c = subst (λ (x : Core). CanChange x.world (takes_away c.args.removal)) (sym c.self.view_is) c.requires.found
-
-carried : (c : goal.After-put-2) → AreCarriedBack c.args.removal c.self.inside.tries c.carry_back.new.tries
-carried c = subst (λ r. AreCarriedBack r c.self.inside.tries c.carry_back.new.tries) c.take_back-step.ensures.record c.carry_back.ensures.carried
-
-pub carry_back-requires-clause-new : goal.carry_back-requires-clause-new
-carry_back-requires-clause-new c g used =
-    let found = subst (λ (x : Core). CanChange x.world (takes_away c.args.removal)) (sym c.self.view_is) c.requires.found in
-    unnoted c.self.invariant.exact g (consumed_gone _ c.self.invariant.standing c.args.removal found.0 _ c.take_back-step.ensures.state g (subst (λ (r : Record). r.goal ≡ Some g) c.take_back-step.ensures.record used))
-
-stands : (c : goal.After-put-2) → IsStanding (left c)
-stands c = by_change (takes_away c.args.removal) c.self.invariant.standing (can c) (changed c)
+all : (c : goal.After-put) → RolledAway (before c) c.args.how (record { first = c.rollback.inside.step; others = c.rollback.inside.consequences.items }) c.self.inside.tries c.take_one_back.new.tries (left c)
+all c =
+    let a = c.rollback.inside.step in
+    let can = subst (λ gone. Can c.self.inside.records.held c.args.how gone) (sym c.rollback.view_is) (subst (λ (x : Core). Can x.world.kept c.args.how c.args.rollback) (sym c.self.view_is) c.requires.found) in
+    rolled_away (before c) c.self.invariant.standing c.args.how (record { first = a; others = c.rollback.inside.consequences.items }) can c.self.inside.tries c.take_one_back.new.tries c.self.invariant.exact c.take_one_back.new.state.held
+    (c.take_all_back.new.state.held, c.take_all_back.ensures.state, c.take_one_back.ensures.state)
+    (c.take_all_back.new.tries, c.take_all_back.ensures.tries, c.take_one_back.ensures.tries)
+    c.strike.new.records.held c.take_one_back.new.shelf.held c.put.new.self.held
+    (c.take_one_back.ensures.shelf ∙ ap (λ s. finite.insert s a.number a) c.take_all_back.ensures.shelf)
+    (struck c can) (c.put.ensures.held ∙ ap (λ e. c.self.inside.journal.held ++ e ∷ []) (c.entry_for.ensures a (sym (c.number-number.ensures ∙ ap (λ (r : Record). r.number) c.step.ensures))))
 
 pub invariant_of-self : goal.invariant_of-self
-invariant_of-self c = record {
-  standing = stands c;
-  exact = back_exact (before c) c.self.invariant.standing c.args.removal (can c).0 _ c.take_back-step.ensures.state c.self.inside.tries c.carry_back.new.tries c.self.invariant.exact (carried c);
-  streams = stands_back (before c) c.self.invariant.standing c.args.removal (can c).0 (left c) (stands c) refl c.take_back-step.ensures.state c.self.inside.streams
-      c.tell_back.new.self (c.tell_back.ensures ∙ ap (λ (r : Record). told_back r c.self.inside.streams) c.take_back-step.ensures.record) c.self.invariant.streams;
-}
+invariant_of-self c =
+    let a = c.rollback.inside.step in
+    let names = c.take_one_back.ensures.streams ∙ ap (told_back a) c.take_all_back.ensures.streams in
+    record {
+      standing = (all c).standing;
+      exact = (all c).exact;
+      streams = subst (TellStreams c.self.inside.query.goals c.take_one_back.new.state.held.goals) (sym names) ((all c).streams c.self.inside.streams c.self.invariant.streams);
+    }
+
+pub returns-clause-changed : goal.returns-clause-changed
+returns-clause-changed c =
+    subst (λ (x : Core). Changes x.world (goes c.args.how c.args.rollback) (left c)) c.self.view_is (subst (λ gone. Changes (before c) (goes c.args.how gone) (left c)) c.rollback.view_is (all c).changes)
 
 pub returns-clause-notes : goal.returns-clause-notes
 returns-clause-notes c =
-    subst (λ (x : Core). AreLeft c.take_back-step.new.self.held.goals (Binds c.args.removal) x.notes c.carry_back.new.tries.notes) c.self.view_is
-    (back_left (before c) c.self.invariant.standing c.args.removal (can c).0 _ c.take_back-step.ensures.state c.self.inside.tries c.carry_back.new.tries c.self.invariant.exact (carried c))
+    subst (λ (x : Core). AreLeft c.take_one_back.new.state.held.goals (IsBoundIn (all_gone c.args.rollback)) x.notes c.take_one_back.new.tries.notes) c.self.view_is
+    (subst (λ gone. AreLeft c.take_one_back.new.state.held.goals (IsBoundIn (all_gone gone)) c.self.inside.tries.notes c.take_one_back.new.tries.notes) c.rollback.view_is (all c).notes)

@@ -1,4 +1,7 @@
-use Rattle.std.proofs.Common.{[], ◌∷◌, sym, ap, inl, inr, Err}
+use Rattle.std.proofs.Common.{List, ◌∷◌, sym, ap, subst, inl, inr, Err}
+use Rattle.ghc_records.specs.Record.{Record, numbers}
+use Rattle.ghc_hooks.specs.Notes.{AreLeft}
+use Rattle.ghc_depend.specs.Deletion.{IsBoundIn}
 use Rattle.ghc_core.specs.Events.{undone}
 use Rattle.ghc_core.specs.Answers.{to_undo, does}
 use Rattle.ghc_core.proofs.CertainRefusals.{undo_cannot_fail, one_undo_refusal}
@@ -11,13 +14,21 @@ returns-in-Err-clause-refused c f fails = elim c.in-Err.ensures.fault [
 ]
 
 pub returns-clause-refused : goal.returns-clause-refused
-returns-clause-refused c f fails = absurd (undo_cannot_fail c.args.self.now.world c.stands.ensures.standing c.in-Ok.removal (c.in-Ok.ensures.found.0, c.in-Ok.ensures.step) c.in-Ok.ensures.found.1 fails)
+returns-clause-refused c f fails = absurd (undo_cannot_fail c.args.self.now.world c.stands.ensures.standing c.in-Ok.rollback.first (c.in-Ok.ensures.found.0, c.in-Ok.ensures.step) c.in-Ok.ensures.alone fails)
 
 pub returns-in_err-make-clause-refused : goal.returns-in_err-make-clause-refused
-returns-in_err-make-clause-refused c f fails = absurd (undo_cannot_fail c.args.self.now.world c.stands.ensures.standing c.in-Ok.removal (c.in-Ok.ensures.found.0, c.in-Ok.ensures.step) c.in-Ok.ensures.found.1 fails)
+returns-in_err-make-clause-refused c f fails = absurd (undo_cannot_fail c.args.self.now.world c.stands.ensures.standing c.in-Ok.rollback.first (c.in-Ok.ensures.found.0, c.in-Ok.ensures.step) c.in-Ok.ensures.alone fails)
 
 pub returns-clause-ok : goal.returns-clause-ok
-returns-clause-ok c = does (to_undo c.in-Ok.ensures.step) c.in-Ok.ensures.found c.in_ok-make.ensures.changed (ap (λ n. undone (n ∷ [])) (sym c.in-Ok.ensures.step))
+returns-clause-ok c =
+    let found = c.in-Ok.ensures in
+    does (to_undo found.step) found.found c.in_ok-make.ensures.changed (λ i. undone (sym found.step i ∷ numbers (sym found.found.2 i)))
 
 pub returns-clause-notes : goal.returns-clause-notes
-returns-clause-notes c = (c.in-Ok.removal, (c.in-Ok.ensures.found.0, c.in-Ok.ensures.step), c.in_ok-make.ensures.notes)
+returns-clause-notes c =
+    let r = c.in-Ok.rollback.first in
+    let found = c.in-Ok.ensures in (
+      r,
+      (found.found.0, found.step),
+      subst (λ (others : List Record). AreLeft c.make.new.self.world.state.goals (IsBoundIn (r ∷ others)) c.args.self.now.notes c.make.new.self.notes) found.found.2 c.in_ok-make.ensures.notes,
+    )

@@ -13,8 +13,8 @@ removals_of-requires c =
       kept = λ n i. picked_number kept found.0 n (found_behind kept c.args.step c.number.result found.0 c.len-count.ensures.distinct c.requires.kept number found.1) (subst (In n) (c.deref.ensures.value ∙ sym found.2) i);
     }
 
-pub returns : goal.returns
-returns c =
+pub returns-clause-split : goal.returns-clause-split
+returns-clause-split c =
     let kept = c.args.records.now.held in
     let found = c.in_ok-found.ensures.found in
     let removals = c.in_ok-consequences.consequences.items in

@@ -4,7 +4,8 @@ use Rattle.ghc_core.specs.Answers.{no_hand}
 use Rattle.ghc_core.proofs.Replying.{hand_commits, hand_gives_up, hand_was_empty}
 use Rattle.ghc_core.proofs.CertainRefusals.{no_hand_committed, empty_hand_committed, commit_refused_anyway}
 use Rattle.ghc_term.specs.declared.fault.Fault.{Fault}
-use Rattle.ghc_core.specs.declared.change.Change.TheVariants.{Adds as adds}
+use Rattle.ghc_core.specs.declared.change.Change.TheVariants.{Comes as comes}
+use Rattle.ghc_core.specs.declared.change.Coming.{Coming}
 use Rattle.ghc_core.proofs.Playable.{core_stays}
 use Rattle.ghc_core.proofs.world.World.commit.Goals as goal
 
@@ -69,7 +70,7 @@ pub returns-in_default-clause-moves : goal.returns-in_default-clause-moves
 returns-in_default-clause-moves c = inl (Fault.Stale, refl)
 
 pub returns-in-Ok-clause-moves : goal.returns-in-Ok-clause-moves
-returns-in-Ok-clause-moves c = let moved = c.in-Ok.ensures.notes in inr (record { change = adds moved.0; possible = moved.1.1; changed = moved.2; notes = moved.3 })
+returns-in-Ok-clause-moves c = let moved = c.in-Ok.ensures.notes in inr (record { change = comes Coming.Next moved.0; possible = moved.1.1; changed = moved.2; notes = moved.3 })
 
 pub returns-clause-moves : goal.returns-clause-moves
 returns-clause-moves c = inl (c.in-Err.fault, refl)

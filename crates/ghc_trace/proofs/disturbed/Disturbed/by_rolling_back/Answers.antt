@@ -2,6 +2,7 @@ use Rattle.std.proofs.Common.{◌≡◌, ◌+◌, [], ◌∷◌, ◌++◌, take,
 use Rattle.std.proofs.lemmas.List.{take_more, take_all}
 use Rattle.ghc_records.specs.Record.{Record}
 use Rattle.ghc_depend.specs.Deletion.{IsBoundIn, IsConsumedIn}
+use Rattle.ghc_core.specs.Gone.{all_gone}
 use Rattle.ghc_trace.specs.Gathering.{Gathers}
 use Rattle.ghc_trace.proofs.Gathering.{gathers_both, gathers_alike}
 use Rattle.ghc_trace.proofs.Disturbing.{IsOf, IsOfOneOf, of_one, of_one_more, gathered_disturbed}
@@ -13,7 +14,7 @@ loop-removal-init c =
     let notes = c.args.tries.now.notes in
     let new = c.add_taken_back.new.self.goals.items in (
       first,
-      c.parts.ensures,
+      (λ i. sym c.parts.ensures.first i ∷ sym c.parts.ensures.others i),
       gathers_alike notes (IsOf notes first) (IsOfOneOf notes (first ∷ [])) [] new (of_one notes first)
           (subst (λ es. Gathers notes (IsOf notes first) es new) c.new-gathered.ensures (subst (λ (r : Record). Gathers notes (IsOf notes r) c.new-gathered.result.goals.items new) c.step.ensures c.in_ok-add_taken_back.ensures)),
     )
@@ -41,6 +42,6 @@ returns c =
     let others = c.parts.result.1.now in
     let first = c.loop-removal.invariant.0 in
     let new = c.loop-removal.gathered.goals.items in
-    let all : first ∷ take c.loop-removal.removal-index others ≡ c.args.rollback.now = ap (λ gone. first ∷ gone) (take_all c.loop-removal.removal-index others c.loop-removal-test.false) ∙ sym c.loop-removal.invariant.1 in
-    gathered_disturbed notes (IsBoundIn c.args.rollback.now) (IsConsumedIn c.args.rollback.now) new c.of.result
+    let all : first ∷ take c.loop-removal.removal-index others ≡ all_gone c.args.rollback.now = ap (λ gone. first ∷ gone) (take_all c.loop-removal.removal-index others c.loop-removal-test.false) ∙ sym c.loop-removal.invariant.1 in
+    gathered_disturbed notes (IsBoundIn (all_gone c.args.rollback.now)) (IsConsumedIn (all_gone c.args.rollback.now)) new c.of.result
     (subst (λ gone. Gathers notes (IsOfOneOf notes gone) [] new) all c.loop-removal.invariant.2) c.of.ensures.members c.of.ensures.gathered
