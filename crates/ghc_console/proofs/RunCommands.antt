@@ -1,5 +1,5 @@
 -- What commands that run are answered with.
-use Rattle.std.proofs.Common.{◌≡◌, ◌≤◌, ℕ, true, false, List, length, sym, subst, ap, Bor}
+use Rattle.std.proofs.Common.{◌≡◌, ◌≤◌, ℕ, true, false, List, length, refl, sym, subst, Bor}
 use Rattle.std.specs.Prelude.{Option, Some, None, is_some, option_copied}
 use Rattle.std.specs.FinMap as finite
 use Rattle.ghc_term.specs.declared.fault.Fault.TheVariants as fault
@@ -9,28 +9,37 @@ use Rattle.ghc_core.specs.World.{World}
 use Rattle.ghc_trace.specs.Spies.{Spies}
 use Rattle.ghc_console.specs.Commands.{command_of}
 use Rattle.ghc_console.specs.Reading.{line_limit}
-use Rattle.ghc_console.specs.RunReplies.{AreTold, RepliesToSkip, TellsRun, no_goal, last_of, run_lines}
+use Rattle.ghc_console.specs.Firing.{Fires}
+use Rattle.ghc_console.specs.RunReplies.{RepliesToSkip, no_goal, skips}
 use Rattle.ghc_console.specs.Replies.{Answers, IsReply, quits, replies, refusal}
-use Rattle.ghc_console.specs.Answered.{IsAnsweredBy, IsCarriedOut}
+use Rattle.ghc_console.specs.Answered.{AsksForRun, leap_asks, skip_asks, IsAnsweredBy, IsCommandAnsweredBy, HasRun}
 use Rattle.ghc_console.specs.SessionState.{SessionState}
-use Rattle.ghc_pool.specs.declared.stop.Report.{Report}
 use Rattle.ghc_console.specs.declared.command.LineCommand.{LineCommand}
-use Rattle.ghc_console.specs.declared.command.LineCommand.TheVariants.{Leap as leap}
 use Rattle.ghc_console.specs.declared.answered.Answered.{Answered}
-use Rattle.ghc_console.specs.declared.answered.Answered.TheVariants.{Told as told, Ends as ends, Ran as ran}
+use Rattle.ghc_console.specs.declared.answered.Answered.TheVariants.{Told as told, Ends as ends, Asks as asks}
 
 -- What a command is answered with, its line is.
-pub line_answered : (s t : SessionState) (line text : List ℕ) (a : Answered) → length line ≤ line_limit → IsCarriedOut s (command_of line) text t a → IsAnsweredBy s line text t a
+pub line_answered : (s t : SessionState) (line text : List ℕ) (a : Answered) → length line ≤ line_limit → IsCommandAnsweredBy s (command_of line) text t a → IsAnsweredBy s line text t a
 line_answered s t line text told short h = subst (IsReply s line text t) h.1 (replies short h.0)
 line_answered s t line text ends short h = subst (IsReply s line text t) h.1 (replies short h.0)
-line_answered s t line text (ran report) short h = λ lines are. subst (IsReply s line lines t) h.1 (replies short (h.0 lines are))
+line_answered s t line text (asks root limit) short h = (h.0, short, h.1)
 
--- A run of any goals that was made is the answer to a leap.
-pub leapt : (s t : SessionState) (c : LineCommand) (limit : ℕ) (report : Report) → c ≡ leap limit
-    → ((lines : List ℕ) → AreTold (run_lines (last_of report.added t.world.kept) report.stop) lines → TellsRun s.workers s.spies None limit s.world lines t.world)
-    → t.spies ≡ s.spies → t.workers ≡ s.workers
-    → ((lines : List ℕ) → AreTold (run_lines (last_of report.added t.world.kept) report.stop) lines → Answers s c lines t) × (quits c ≡ false)
-leapt s t c limit report is tells spies workers = (λ lines are. subst (λ k. Answers s k lines t) (sym is) (record { told = tells lines are; spies = spies; workers = workers }), ap quits is)
+-- The text of a run for which a command asks is its reply, behind which the session goes on.
+run_answers : (s t : SessionState) (c : LineCommand) (root : Option GoalName) (limit : ℕ) (text : List ℕ) → AsksForRun s.world c root limit → HasRun s root limit text t → Answers s c text t × (quits c ≡ false)
+run_answers s t c root limit text (leap_asks most) ran = (record { told = ran.run; spies = ran.spies; workers = ran.workers }, refl)
+run_answers s t c root limit text (skip_asks g b there) ran = (record { told = skips b there ran.run; spies = ran.spies; workers = ran.workers }, refl)
+
+-- So is that of a run for which a line asks.
+pub run_replied : (s t : SessionState) (line : List ℕ) (root : Option GoalName) (limit : ℕ) (text : List ℕ) → length line ≤ line_limit → AsksForRun s.world (command_of line) root limit → HasRun s root limit text t
+    → IsReply s line text t false
+run_replied s t line root limit text short asked ran =
+    let answers = run_answers s t (command_of line) root limit text asked ran in
+    subst (IsReply s line text t) answers.1 (replies short answers.0)
+
+-- Of what a run fires nothing is said.
+pub run_fires : (w : World) (c : LineCommand) (root : Option GoalName) (limit : ℕ) → AsksForRun w c root limit → (m n : ℕ) → Fires c m n
+run_fires w c root limit (leap_asks most) m n = tt
+run_fires w c root limit (skip_asks g b there) m n = tt
 
 -- Where no goal is found the refusal is the reply,
 pub skip_refused : (workers : ℕ) (spies : Spies) (w : World) (g : GoalName) (o : Option (Bor Goal)) (text : List ℕ) → is_some o ≡ false → option_copied o ≡ finite.get w.state.goals g → text ≡ refusal fault.NoGoal

@@ -19,53 +19,53 @@ use Rattle.ghc_pool.specs.declared.stop.Report.{Report}
 use Rattle.ghc_pool.specs.declared.mode.Mode.{Mode}
 use Rattle.ghc_pool.specs.Runs.{Runs, RunsIn, Takes, at_start, and_step}
 use Rattle.ghc_pool.specs.Laws.{RunsAddAtTheEnd}
-use Rattle.ghc_console.specs.RunReplies.{AreTold, no_line, and_line, IsAdded, IsLineTold, TellsRun, last_of, mode_of, run_lines, step_line}
+use Rattle.ghc_console.specs.RunReplies.{AreLinesTold, no_line, and_line, IsAdded, IsLineTold, TellsRun, last_of, mode_of, run_lines, step_line}
 use Rattle.ghc_console.specs.WritesTold.{WritesTold}
 use Rattle.ghc_console.proofs.RecordLines.{drop_at}
 
 -- Lines that are told, and more behind them.
-told_then : (xs ys : List (List ℕ)) (t u : List ℕ) → AreTold xs t → AreTold ys u → AreTold (xs ++ ys) (t ++ u)
+told_then : (xs ys : List (List ℕ)) (t u : List ℕ) → AreLinesTold xs t → AreLinesTold ys u → AreLinesTold (xs ++ ys) (t ++ u)
 told_then xs ys t u no_line q = q
 told_then xs ys t u (and_line {line = x} {told = told} {text = text} {lines = lines} h p) q =
-    subst (AreTold (x ∷ (lines ++ ys))) (sym (append_assoc told text u)) (and_line h (told_then lines ys text u p q))
+    subst (AreLinesTold (x ∷ (lines ++ ys))) (sym (append_assoc told text u)) (and_line h (told_then lines ys text u p q))
 
 -- Each line by itself tells them all.
 abbrev plain : List (List ℕ) → List ℕ
 plain [] = []
 plain (x ∷ xs) = x ++ plain xs
 
-plain_told : (xs : List (List ℕ)) → AreTold xs (plain xs)
+plain_told : (xs : List (List ℕ)) → AreLinesTold xs (plain xs)
 plain_told [] = no_line
 plain_told (x ∷ xs) = and_line (inl refl) (plain_told xs)
 
 -- One line.
-pub one_told : (x text : List ℕ) → IsLineTold x text → AreTold (x ∷ []) text
-one_told x text h = subst (AreTold (x ∷ [])) (append-nil text) (and_line h no_line)
+pub one_told : (x text : List ℕ) → IsLineTold x text → AreLinesTold (x ∷ []) text
+one_told x text h = subst (AreLinesTold (x ∷ [])) (append-nil text) (and_line h no_line)
 
 -- of all the lines a front was told; with the rest told behind it, all are
 pub record Going (all rest : List (List ℕ)) (old now : Option (List ℕ)) : Type 0 where
   pub done : List ℕ
   pub appended : Appends old now done
-  pub whole : (text : List ℕ) → AreTold rest text → AreTold all (done ++ text)
+  pub whole : (text : List ℕ) → AreLinesTold rest text → AreLinesTold all (done ++ text)
 
 pub going_start : (all : List (List ℕ)) (now : Option (List ℕ)) → Going all all now now
 going_start all now = record { done = []; appended = Appends-nil now; whole = λ text told. told }
 
 -- some lines on
-pub going_on : (all xs rest : List (List ℕ)) (a b c : Option (List ℕ)) (text : List ℕ) → Going all (xs ++ rest) a b → AreTold xs text → Appends b c text → Going all rest a c
+pub going_on : (all xs rest : List (List ℕ)) (a b c : Option (List ℕ)) (text : List ℕ) → Going all (xs ++ rest) a b → AreLinesTold xs text → Appends b c text → Going all rest a c
 going_on all xs rest a b c text g told wrote = record {
   done = g.done ++ text;
   appended = Appends-trans a b c g.done text g.appended wrote;
-  whole = λ more later. subst (AreTold all) (sym (append_assoc g.done text more)) (g.whole (text ++ more) (told_then xs rest text more told later));
+  whole = λ more later. subst (AreLinesTold all) (sym (append_assoc g.done text more)) (g.whole (text ++ more) (told_then xs rest text more told later));
 }
 
 -- all were told
-pub going_end : (all : List (List ℕ)) (a b : Option (List ℕ)) → Going all [] a b → (text : List ℕ) × AreTold all text × Appends a b text
+pub going_end : (all : List (List ℕ)) (a b : Option (List ℕ)) → Going all [] a b → (text : List ℕ) × AreLinesTold all text × Appends a b text
 going_end all a b g = (g.done ++ [], g.whole [] no_line, subst (Appends a b) (sym (append-nil g.done)) g.appended)
 
 -- a call failed as some lines were written
-pub going_broken : (all xs rest : List (List ℕ)) (a b c : Option (List ℕ)) (text : List ℕ) (n : ℕ) → Going all (xs ++ rest) a b → AreTold xs text → Appends b c (take n text)
-    → (whole : List ℕ) × AreTold all whole × ((m : ℕ) × Appends a c (take m whole))
+pub going_broken : (all xs rest : List (List ℕ)) (a b c : Option (List ℕ)) (text : List ℕ) (n : ℕ) → Going all (xs ++ rest) a b → AreLinesTold xs text → Appends b c (take n text)
+    → (whole : List ℕ) × AreLinesTold all whole × ((m : ℕ) × Appends a c (take m whole))
 going_broken all xs rest a b c text n g told wrote =
     let part = take n text in
     let behind = drop n text ++ plain rest in
@@ -117,8 +117,8 @@ module _ (law : RunsAddAtTheEnd) (workers : ℕ) (spies : Spies) (root : Option 
       let adds = law workers spies root w v ran.steps ran.taken in
       ap (λ k. last_of k v.kept) ran.count ∙ ap (last_of (length ran.steps)) adds.kept ∙ last_is w.kept ran.steps
 
-  pub tells_run : (text : List ℕ) → AreTold (run_lines (last_of report.added v.kept) report.stop) text → TellsRun workers spies root limit w text v
-  tells_run text told = record { notes = notes; report = report; run = ran; told = subst (λ steps. AreTold (run_lines steps report.stop) text) its_steps told }
+  pub tells_run : (text : List ℕ) → AreLinesTold (run_lines (last_of report.added v.kept) report.stop) text → TellsRun workers spies root limit w text v
+  tells_run text told = record { notes = notes; report = report; run = ran; told = subst (λ steps. AreLinesTold (run_lines steps report.stop) text) its_steps told }
 
   pub is_added : IsAdded v report.added
   is_added =

@@ -1,20 +1,27 @@
 -- What it is to have served a line.
-use Rattle.std.proofs.Common.{◌≡◌, ℕ, Bool, true, false, Option, List, take, refl, sym, subst}
+use Rattle.std.proofs.Common.{◌≡◌, ◌≤◌, ℕ, Bool, true, false, Option, List, length, take, refl, sym, subst}
 use Rattle.std.specs.Prelude.{Result, Ok, Err, MatchResult}
 use Rattle.std.specs.Io.KnownBytes.{Appends}
 use Rattle.ghc_term.specs.declared.fault.Fault.TheVariants as fault
-use Rattle.ghc_pool.specs.declared.stop.Report.{Report}
-use Rattle.ghc_console.specs.Answered.{IsAnsweredBy}
-use Rattle.ghc_console.specs.RunReplies.{AreTold, last_of, run_lines}
+use Rattle.ghc_term.specs.declared.goal_name.GoalName.{GoalName}
+use Rattle.ghc_console.specs.Answered.{AsksForRun, HasRun, IsAnsweredBy, ServesSo}
+use Rattle.ghc_console.specs.Commands.{command_of}
+use Rattle.ghc_console.specs.Device.{Counts, WritesFront}
+use Rattle.ghc_console.specs.Reading.{line_limit}
 use Rattle.ghc_console.specs.Replies.{IsReply, refusal}
 use Rattle.ghc_console.specs.Session.{Served}
 use Rattle.ghc_console.specs.SessionState.{SessionState}
 use Rattle.ghc_console.specs.declared.answered.Answered.{Answered}
-use Rattle.ghc_console.specs.declared.answered.Answered.TheVariants.{Told as told, Ends as ends, Ran as ran}
+use Rattle.ghc_console.specs.declared.answered.Answered.TheVariants.{Told as told, Ends as ends, Asks as asks}
+use Rattle.ghc_console.proofs.RunCommands.{run_replied}
 
 -- what is said of the answer to a line, with the text that was written for it
 abbrev IsAnswer : {E : Type 0} → SessionState → SessionState → List ℕ → List ℕ → Result Answered E → Type 0
 IsAnswer s t bytes text r = MatchResult r (IsAnsweredBy s bytes text t) (λ _. IsReply s bytes (refusal fault.Memory) t false)
+
+-- a call that does not fail is not counted
+pub counts_same : {T E : Type 0} (before after : ℕ) (r : Result T E) (t : T) → r ≡ Ok t → Counts before after r → after ≡ before
+counts_same before after r t is count = subst (λ q. Counts before after q) is count
 
 -- the reply, by what the line was answered with
 pub told_reply : {E : Type 0} (s t : SessionState) (bytes text : List ℕ) (r : Result Answered E) (a : Answered) → r ≡ Ok a → a ≡ told → IsAnswer s t bytes text r → IsReply s bytes text t false
@@ -23,9 +30,10 @@ told_reply s t bytes text r a e is h = subst (λ b. IsAnsweredBy s bytes text t 
 pub ends_reply : {E : Type 0} (s t : SessionState) (bytes text : List ℕ) (r : Result Answered E) (a : Answered) → r ≡ Ok a → a ≡ ends → IsAnswer s t bytes text r → IsReply s bytes text t true
 ends_reply s t bytes text r a e is h = subst (λ b. IsAnsweredBy s bytes text t b) is (subst (IsAnswer s t bytes text) e h)
 
-pub ran_reply : {E : Type 0} (s t : SessionState) (bytes text : List ℕ) (r : Result Answered E) (a : Answered) (report : Report) → r ≡ Ok a → a ≡ ran report → IsAnswer s t bytes text r
-    → (lines : List ℕ) → AreTold (run_lines (last_of report.added t.world.kept) report.stop) lines → IsReply s bytes lines t false
-ran_reply s t bytes text r a report e is h = subst (λ b. IsAnsweredBy s bytes text t b) is (subst (IsAnswer s t bytes text) e h)
+-- the run for which the line asks
+pub asks_run : {E : Type 0} (s t : SessionState) (bytes text : List ℕ) (r : Result Answered E) (a : Answered) (root : Option GoalName) (limit : ℕ) → r ≡ Ok a → a ≡ asks root limit → IsAnswer s t bytes text r
+    → (t ≡ s) × (length bytes ≤ line_limit) × AsksForRun s.world (command_of bytes) root limit
+asks_run s t bytes text r a root limit e is h = subst (λ b. IsAnsweredBy s bytes text t b) is (subst (IsAnswer s t bytes text) e h)
 
 pub starved_reply : {E : Type 0} (s t : SessionState) (bytes text : List ℕ) (r : Result Answered E) (error : E) → r ≡ Err error → IsAnswer s t bytes text r → IsReply s bytes (refusal fault.Memory) t false
 starved_reply s t bytes text r error e h = subst (IsAnswer s t bytes text) e h
@@ -42,14 +50,45 @@ breaks error s t bytes text out ended old new reply is wrote = record { text = t
 abbrev HasWritten : {E : Type 0} → Option (List ℕ) → Option (List ℕ) → List ℕ → Bool → Result Bool E → Type 0
 HasWritten old new text ended r = MatchResult r (λ b. (b ≡ ended) × Appends old new text) (λ _. (n : ℕ) × Appends old new (take n text))
 
-pub has_served : {E : Type 0} (s t : SessionState) (bytes : List ℕ) (old new : Option (List ℕ)) (r : Result Bool E) (b ended : Bool) → r ≡ Ok b → b ≡ ended → Served s bytes t old new r
-    → (text : List ℕ) × IsReply s bytes text t ended × Appends old new text
-has_served {E} s t bytes old new r b ended e is served =
-    let wrote : HasWritten {E = E} old new served.text served.ended (Ok b) = subst (HasWritten {E = E} old new served.text served.ended) e served.written in
-    (served.text, subst (IsReply s bytes served.text t) is (subst (IsReply s bytes served.text t) (sym wrote.0) served.reply), wrote.1)
+has_served : {E : Type 0} (s t : SessionState) (bytes : List ℕ) (old new : Option (List ℕ)) (ended : Bool) → Served {E = E} s bytes t old new (Ok ended) → (text : List ℕ) × IsReply s bytes text t ended × Appends old new text
+has_served {E} s t bytes old new ended served =
+    let wrote : HasWritten {E = E} old new served.text served.ended (Ok ended) = served.written in
+    (served.text, subst (IsReply s bytes served.text t) (sym wrote.0) served.reply, wrote.1)
 
-pub has_broken : {E : Type 0} (s t : SessionState) (bytes : List ℕ) (old new : Option (List ℕ)) (r : Result Bool E) (error : E) → r ≡ Err error → Served s bytes t old new r
+pub has_told : {E : Type 0} (s t : SessionState) (bytes : List ℕ) (old new : Option (List ℕ)) (r : Result Answered E) (a : Answered) → r ≡ Ok a → a ≡ told → ServesSo s bytes t old new r
+    → (text : List ℕ) × IsReply s bytes text t false × Appends old new text
+has_told {E} s t bytes old new r a e is h = has_served {E = E} s t bytes old new false (subst (λ b. ServesSo {E = E} s bytes t old new (Ok b)) is (subst (ServesSo {E = E} s bytes t old new) e h))
+
+pub has_ended : {E : Type 0} (s t : SessionState) (bytes : List ℕ) (old new : Option (List ℕ)) (r : Result Answered E) (a : Answered) → r ≡ Ok a → a ≡ ends → ServesSo s bytes t old new r
+    → (text : List ℕ) × IsReply s bytes text t true × Appends old new text
+has_ended {E} s t bytes old new r a e is h = has_served {E = E} s t bytes old new true (subst (λ b. ServesSo {E = E} s bytes t old new (Ok b)) is (subst (ServesSo {E = E} s bytes t old new) e h))
+
+pub has_asked : {E : Type 0} (s t : SessionState) (bytes : List ℕ) (old new : Option (List ℕ)) (r : Result Answered E) (a : Answered) (root : Option GoalName) (limit : ℕ) → r ≡ Ok a → a ≡ asks root limit → ServesSo s bytes t old new r
+    → (t ≡ s) × (new ≡ old) × (length bytes ≤ line_limit) × AsksForRun s.world (command_of bytes) root limit
+has_asked {E} s t bytes old new r a root limit e is h = subst (λ b. ServesSo {E = E} s bytes t old new (Ok b)) is (subst (ServesSo {E = E} s bytes t old new) e h)
+
+pub has_broken : {E : Type 0} (s t : SessionState) (bytes : List ℕ) (old new : Option (List ℕ)) (r : Result Answered E) (error : E) → r ≡ Err error → ServesSo s bytes t old new r
     → (text : List ℕ) × (ended : Bool) × IsReply s bytes text t ended × ((n : ℕ) × Appends old new (take n text))
-has_broken {E} s t bytes old new r error e served =
-    let wrote : HasWritten {E = E} old new served.text served.ended (Err error) = subst (HasWritten {E = E} old new served.text served.ended) e served.written in
+has_broken {E} s t bytes old new r error e h =
+    let served : Served {E = E} s bytes t old new (Err error) = subst (ServesSo {E = E} s bytes t old new) e h in
+    let wrote : HasWritten {E = E} old new served.text served.ended (Err error) = served.written in
     (served.text, served.ended, served.reply, wrote)
+
+-- the run for which a line asks was made, and its text written, or a beginning of it
+pub has_run : {E : Type 0} (s t u : SessionState) (bytes : List ℕ) (old now new : Option (List ℕ)) (root : Option GoalName) (limit : ℕ) (r : Result Unit E) (one : Unit)
+    → (t ≡ s) × (now ≡ old) × (length bytes ≤ line_limit) × AsksForRun s.world (command_of bytes) root limit
+    → (text : List ℕ) × HasRun t root limit text u × WritesFront now new r text → r ≡ Ok one
+    → (text : List ℕ) × IsReply s bytes text u false × Appends old new text
+has_run {E} s t u bytes old now new root limit r one asked ran is =
+    let run : HasRun s root limit ran.0 u = subst (λ v. HasRun v root limit ran.0 u) asked.0 ran.1 in
+    let wrote : WritesFront {E = E} old new (Ok one) ran.0 = subst (λ q. WritesFront {E = E} old new q ran.0) is (subst (λ l. WritesFront {E = E} l new r ran.0) asked.1 ran.2) in
+    (ran.0, run_replied s u bytes root limit ran.0 asked.2 asked.3 run, wrote)
+
+pub has_broken_run : {E : Type 0} (s t u : SessionState) (bytes : List ℕ) (old now new : Option (List ℕ)) (root : Option GoalName) (limit : ℕ) (r : Result Unit E) (error : E)
+    → (t ≡ s) × (now ≡ old) × (length bytes ≤ line_limit) × AsksForRun s.world (command_of bytes) root limit
+    → (text : List ℕ) × HasRun t root limit text u × WritesFront now new r text → r ≡ Err error
+    → (text : List ℕ) × (ended : Bool) × IsReply s bytes text u ended × ((n : ℕ) × Appends old new (take n text))
+has_broken_run {E} s t u bytes old now new root limit r error asked ran is =
+    let run : HasRun s root limit ran.0 u = subst (λ v. HasRun v root limit ran.0 u) asked.0 ran.1 in
+    let wrote : WritesFront {E = E} old new (Err error) ran.0 = subst (λ q. WritesFront {E = E} old new q ran.0) is (subst (λ l. WritesFront {E = E} l new r ran.0) asked.1 ran.2) in
+    (ran.0, false, run_replied s u bytes root limit ran.0 asked.2 asked.3 run, wrote)

@@ -11,7 +11,8 @@ use Rattle.ghc_term.specs.Resolved.{IsTextOf}
 use Rattle.ghc_fire.specs.Proposal.{Proposal}
 use Rattle.ghc_records.specs.Record.{Record}
 use Rattle.ghc_core.specs.World.{World}
-use Rattle.ghc_core.specs.declared.change.Change.TheVariants.{Adds as adds}
+use Rattle.ghc_core.specs.declared.change.Change.TheVariants.{Comes as comes}
+use Rattle.ghc_core.specs.declared.change.Coming.{Coming}
 use Rattle.ghc_core.specs.Proposes.{IsCommitOf, StepFails, refused_attempt, no_room}
 use Rattle.ghc_trace.specs.Ports.{Port}
 use Rattle.ghc_trace.specs.PortText.{port_text, ports_text}
@@ -43,7 +44,7 @@ step_refused w v g choice f text same (inr (no_room p named answer is_full)) tol
     steps p named answer (subst (λ x. Takes w p x v) (sym told) (subst (Takes w p (refusal fault.Full)) (sym same) (full is_full)))
 
 -- A step that was taken.
-pub step_taken : (w v : World) (p : Proposal) (r : Record) (text : List ℕ) → IsCommitOf w p r → TellsChange w (adds r) text v → Takes w p text v
+pub step_taken : (w v : World) (p : Proposal) (r : Record) (text : List ℕ) → IsCommitOf w p r → TellsChange w (comes Coming.Next r) text v → Takes w p text v
 step_taken w v p r text commit told =
     subst (Takes w p text) (sym told.2) (takes r commit told.1.1 (subst₂ (λ u front. Settled w u front text) told.2 told.1.2 told.3))
 

@@ -1,35 +1,46 @@
--- What lines were answered with.
-use Rattle.std.specs.Prelude.{◌≡◌, ℕ, false, true, List}
+-- What lines are answered with.
+use Rattle.std.specs.Prelude.{◌≡◌, ◌≤◌, ℕ, false, true, List, length, Option, None, Some, Result, Ok, Err}
+use Rattle.std.specs.FinMap as finite
 use Rattle.ghc_term.specs.declared.goal_name.GoalName.{GoalName}
+use Rattle.ghc_term.specs.Goal.{Goal}
 use Rattle.ghc_core.specs.World.{World}
-use Rattle.ghc_trace.specs.Spies.{Spies}
-use Rattle.ghc_console.specs.RunReplies.{AreTold, IsAdded, RepliesToSkip, last_of, run_lines}
+use Rattle.ghc_console.specs.Commands.{command_of, run_limit}
+use Rattle.ghc_console.specs.Reading.{line_limit}
+use Rattle.ghc_console.specs.RunReplies.{TellsRun}
 use Rattle.ghc_console.specs.Replies.{Answers, IsReply, quits}
-use Rattle.ghc_console.specs.declared.command.LineCommand.{LineCommand}
+use Rattle.ghc_console.specs.Session.{Served}
 use Rattle.ghc_console.specs.SessionState.{SessionState}
 use Rattle.ghc_console.specs.declared.answered.Answered.{Answered}
-use Rattle.ghc_console.specs.declared.answered.Answered.TheVariants.{Told as told, Ends as ends, Ran as ran}
+use Rattle.ghc_console.specs.declared.answered.Answered.TheVariants.{Told as told, Ends as ends, Asks as asks}
+use Rattle.ghc_console.specs.declared.command.LineCommand.{LineCommand}
+use Rattle.ghc_console.specs.declared.command.LineCommand.TheVariants.{Leap as leap, Skip as skip}
 
--- IsAnsweredBy s line text t answered: the text is the reply to the line in the state s, which leaves the state t, and the session goes on or ends. Or there was a run: each text that tells its lines, of the last steps that t keeps and why it stopped, is the reply.
+-- AsksForRun w c root limit: in the world w the command c asks for a run of at most so many steps: `leap` of any goals; `skip` of those that descend from a goal that is there, with the limit of a run for which no number is said.
+pub data AsksForRun (w : World) : LineCommand → Option GoalName → ℕ → Type 0 where
+  leap_asks : (limit : ℕ) → AsksForRun w (leap limit) None limit
+  skip_asks : (g : GoalName) (b : Goal) → finite.get w.state.goals g ≡ Some b → AsksForRun w (skip g) (Some g) run_limit
+
+-- IsAnsweredBy s line text t answered: the text is the reply to the line in the state s, which leaves the state t, and the session goes on or ends. Or the line asks for a run in the state s, which is left.
 abbrev pub IsAnsweredBy : SessionState → List ℕ → List ℕ → SessionState → Answered → Type 0
 IsAnsweredBy s line text t told = IsReply s line text t false
 IsAnsweredBy s line text t ends = IsReply s line text t true
-IsAnsweredBy s line text t (ran report) = (lines : List ℕ) → AreTold (run_lines (last_of report.added t.world.kept) report.stop) lines → IsReply s line lines t false
+IsAnsweredBy s line text t (asks root limit) = (t ≡ s) × (length line ≤ line_limit) × AsksForRun s.world (command_of line) root limit
 
--- IsCarriedOut s c text t answered: the same of a command instead of a line.
-abbrev pub IsCarriedOut : SessionState → LineCommand → List ℕ → SessionState → Answered → Type 0
-IsCarriedOut s c text t told = Answers s c text t × (quits c ≡ false)
-IsCarriedOut s c text t ends = Answers s c text t × (quits c ≡ true)
-IsCarriedOut s c text t (ran report) = ((lines : List ℕ) → AreTold (run_lines (last_of report.added t.world.kept) report.stop) lines → Answers s c lines t) × (quits c ≡ false)
+-- IsCommandAnsweredBy s c text t answered: the same of a command instead of a line.
+abbrev pub IsCommandAnsweredBy : SessionState → LineCommand → List ℕ → SessionState → Answered → Type 0
+IsCommandAnsweredBy s c text t told = Answers s c text t × (quits c ≡ false)
+IsCommandAnsweredBy s c text t ends = Answers s c text t × (quits c ≡ true)
+IsCommandAnsweredBy s c text t (asks root limit) = (t ≡ s) × AsksForRun s.world c root limit
 
--- IsSkippedBy workers spies w g text v answered: the text is the reply to skipping the goal named g by so many workers, which leaves the world v. Or there was a run: each text that tells its lines, of the last steps that v keeps and why it stopped, is the reply.
-abbrev pub IsSkippedBy : ℕ → Spies → World → GoalName → List ℕ → World → Answered → Type 0
-IsSkippedBy workers spies w g text v told = RepliesToSkip workers spies w g text v
-IsSkippedBy workers spies w g text v ends = ⊥
-IsSkippedBy workers spies w g text v (ran report) = (lines : List ℕ) → AreTold (run_lines (last_of report.added v.kept) report.stop) lines → RepliesToSkip workers spies w g lines v
+-- HasRun s root limit text t: a run in the state s, of at most so many steps, of the goals that descend from the root where one is named, left the state t; the text tells its steps, and why it stopped.
+pub record HasRun (s : SessionState) (root : Option GoalName) (limit : ℕ) (text : List ℕ) (t : SessionState) : Type 0 where
+  pub run : TellsRun s.workers s.spies root limit s.world text t.world
+  pub spies : t.spies ≡ s.spies
+  pub workers : t.workers ≡ s.workers
 
--- If there was a run, as many steps as it reports are the last of the world.
-abbrev pub HasAdded : World → Answered → Type 0
-HasAdded w told = Unit {0}
-HasAdded w ends = Unit {0}
-HasAdded w (ran report) = IsAdded w report.added
+-- ServesSo s line t old new result: the line was served, and the session goes on or ends, or a call failed. Or the line asks for a run in the state s, which is left, and nothing was written.
+abbrev pub ServesSo : {E : Type 0} → SessionState → List ℕ → SessionState → Option (List ℕ) → Option (List ℕ) → Result Answered E → Type 0
+ServesSo {E} s line t old new (Ok told) = Served {E = E} s line t old new (Ok false)
+ServesSo {E} s line t old new (Ok ends) = Served {E = E} s line t old new (Ok true)
+ServesSo s line t old new (Ok (asks root limit)) = (t ≡ s) × (new ≡ old) × (length line ≤ line_limit) × AsksForRun s.world (command_of line) root limit
+ServesSo s line t old new (Err e) = Served s line t old new (Err e)

@@ -13,9 +13,9 @@ pub mod TextLines
 pub mod RunReplies
 pub mod WritesTold
 pub mod Replies
-pub mod Answered
 pub mod Told
 pub mod Session
+pub mod Answered
 pub mod ScheduleLines
 pub mod ScheduleReplies
 pub mod ScheduleText

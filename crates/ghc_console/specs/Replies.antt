@@ -28,7 +28,8 @@ use Rattle.ghc_core.specs.Events as command
 use Rattle.ghc_core.specs.CommandCode.{command_of as core_command_of}
 use Rattle.ghc_core.specs.Proposes.{AttemptAnswers, IsCommitOf}
 use Rattle.ghc_core.specs.declared.change.Change.{Change}
-use Rattle.ghc_core.specs.declared.change.Change.TheVariants.{Adds as adds, PutsBack as puts_back, TakesAway as takes_away, TakesAll as takes_all, Reorders as reorders}
+use Rattle.ghc_core.specs.declared.change.Change.TheVariants.{Comes as comes, Goes as goes, Reorders as reorders}
+use Rattle.ghc_core.specs.Gone.{all_gone}
 use Rattle.ghc_core.specs.Change.{Changes}
 use Rattle.ghc_core.specs.Answers.{Fails}
 use Rattle.ghc_core.specs.Asked.{IsAskedFor}
@@ -82,12 +83,10 @@ numbers_text numbers = listed (codes ",") (map decimal numbers)
 abbrev pub undone_text : List ℕ → List ℕ
 undone_text numbers = lined (codes "undone " ++ numbers_text numbers)
 
--- IsFrontOf w change front: the front of a text tells the change of the world w: the ports of the step that is taken, which steps are undone, or that the record is arranged.
+-- IsFrontOf w change front: the front of a text tells the change of the world w: the ports of the step that comes, which steps are undone, or that the record is arranged.
 abbrev pub IsFrontOf : World → Change → List ℕ → Type 0
-IsFrontOf w (adds r) front = (ports : List Port) × ArePorts w r ports × (front ≡ ports_text ports)
-IsFrontOf w (puts_back r) front = (ports : List Port) × ArePorts w r ports × (front ≡ ports_text ports)
-IsFrontOf w (takes_away r) front = front ≡ undone_text (r.number ∷ [])
-IsFrontOf w (takes_all gone) front = front ≡ undone_text (numbers gone)
+IsFrontOf w (comes from r) front = (ports : List Port) × ArePorts w r ports × (front ≡ ports_text ports)
+IsFrontOf w (goes how gone) front = front ≡ undone_text (numbers (all_gone gone))
 IsFrontOf w (reorders a) front = front ≡ lined (codes "arranged")
 
 -- TellsChange w change text v: the change is made, which leaves the world v; the text tells it, and what is stuck then.

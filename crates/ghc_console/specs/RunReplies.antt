@@ -42,10 +42,10 @@ stop_line stop = lined (codes "stopped " ++ stop_text stop)
 abbrev pub IsLineTold : List ℕ → List ℕ → Type 0
 IsLineTold line text = (text ≡ line) ⊎ (text ≡ refusal Fault.Memory)
 
--- AreTold lines text: the lines are told one after another, each by itself or by the refusal in its place.
-pub data AreTold : List (List ℕ) → List ℕ → Type 0 where
-  no_line : AreTold [] []
-  and_line : {line told text : List ℕ} {lines : List (List ℕ)} → IsLineTold line told → AreTold lines text → AreTold (line ∷ lines) (told ++ text)
+-- AreLinesTold lines text: the lines are told one after another, each by itself or by the refusal in its place.
+pub data AreLinesTold : List (List ℕ) → List ℕ → Type 0 where
+  no_line : AreLinesTold [] []
+  and_line : {line told text : List ℕ} {lines : List (List ℕ)} → IsLineTold line told → AreLinesTold lines text → AreLinesTold (line ∷ lines) (told ++ text)
 
 -- the lines of a run that took these steps: one for each, in recorded order, and then why it stopped
 abbrev pub run_lines : List Record → Stop → List (List ℕ)
@@ -56,12 +56,12 @@ abbrev pub mode_of : Option GoalName → ℕ → Mode
 mode_of None limit = mode.Leap limit
 mode_of (Some root) limit = mode.Skip root limit
 
--- TellsRun workers spies root limit w text v: a run by so many workers, of at most so many steps, of the goals that descend from the root where one is named, left the world v; the text tells its steps, and why it stopped.
+-- TellsRun workers spies root limit w text v: a run by so many workers, of at most so many steps, of the goals that descend from the root where one is named, left the world v, with some notes, of which no more is said; the text tells its steps, and why it stopped.
 pub record TellsRun (workers : ℕ) (spies : Spies) (root : Option GoalName) (limit : ℕ) (w : World) (text : List ℕ) (v : World) : Type 0 where
   pub notes : NotesByGoal
   pub report : Report
   pub run : Runs (Unit {0}) workers spies root limit w v notes report
-  pub told : AreTold (run_lines run.steps report.stop) text
+  pub told : AreLinesTold (run_lines run.steps report.stop) text
 
 -- RepliesToSkip workers spies w g text v: the goal named g is there, and the text tells a run by so many workers of the goals that descend from it, with the limit of a run for which no number is said; or it is the refusal, where no such goal is there.
 pub data RepliesToSkip (workers : ℕ) (spies : Spies) (w : World) (g : GoalName) : List ℕ → World → Type 0 where

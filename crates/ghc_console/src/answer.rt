@@ -3,7 +3,7 @@ ghost use Rattle.std.specs.Prelude.{◌≡◌, ◌≤◌, false, [], List, ℕ, 
 ghost use Rattle.ghc_console.specs.Commands.{command_of};
 ghost use Rattle.ghc_console.specs.Firing.{Fires, runs_of};
 ghost use Rattle.ghc_console.specs.Reading.{LineSays, line_limit};
-ghost use Rattle.ghc_console.specs.Answered.{HasAdded, IsAnsweredBy, IsCarriedOut};
+ghost use Rattle.ghc_console.specs.Answered.{IsAnsweredBy, IsCommandAnsweredBy};
 ghost use Rattle.ghc_console.specs.Replies.{IsReply, Replies, refusal};
 ghost use Rattle.ghc_console.specs.SessionState.{LeavesSpies, state_of};
 
@@ -14,15 +14,12 @@ use crate::debugger::Debugger;
 use crate::obey_reply::{ask, input, obey};
 use crate::reading::Line;
 use crate::reply::{goals, records, refused, show, step};
-use crate::run_reply::{leap, skip};
+use crate::run_reply::skip;
 use crate::save_reply::{save, save_steps};
 use crate::shelf_reply::shelf;
 use crate::spy_reply::{spy, unspy};
-use ghc_pool::Gate;
 use ghc_term::{Fault, Limit};
 use std::alloc::{AllocError, Global};
-use std::sync::Wait;
-use std::thread::Threads;
 
 // Carries a command out that is no run, and writes the reply. An error leaves the state as it was.
 fn tell(
@@ -73,86 +70,69 @@ fn tell(
     }
 }
 
-// Carries a command out, and writes the reply, but that of a run. An error leaves the state as it was.
-fn execute<R: Threads + Wait + Sync, G: Gate + Sync>(
-    rt: &R,
+// Carries a command out, and writes the reply; or says which run it asks for. An error leaves the state as it was.
+fn execute(
     alloc: Global,
-    debugger: Debugger,
-    gate: &G,
+    debugger: &mut Debugger,
     command: &LineCommand,
     reply: &mut String,
-) -> (Debugger, Result<Answered, AllocError>)
+) -> Result<Answered, AllocError>
     requires { string_bytes reply.old ≡ [] }
-    ensures answered { IfOk result.1 (IsCarriedOut (state_of debugger) command.now (string_bytes reply.new) (state_of result.0)) }
-    ensures added { IfOk result.1 (HasAdded result.0.core.world) }
-    ensures err { OnErr result.1 (state_of result.0 ≡ state_of debugger) }
-    ensures opening { result.0.core.world.opening ≡ debugger.core.world.opening }
-    ensures fires { Fires command.now debugger.core.meter.firings result.0.core.meter.firings }
+    ensures answered { IfOk result (IsCommandAnsweredBy (state_of debugger.old) command.now (string_bytes reply.new) (state_of debugger.new)) }
+    ensures err { OnErr result (state_of debugger.new ≡ state_of debugger.old) }
+    ensures opening { debugger.new.core.world.opening ≡ debugger.old.core.world.opening }
+    ensures fires { Fires command.now debugger.old.core.meter.firings debugger.new.core.meter.firings }
 {
     match command {
-        LineCommand::Leap(limit) => {
-            let (debugger, report) = leap(rt, alloc, debugger, gate, None, *limit);
-            (debugger, Ok(Answered::Ran(report)))
-        }
-        LineCommand::Skip(goal) => skip(rt, alloc, debugger, gate, *goal, reply),
-        LineCommand::Quit => (debugger, Ok(Answered::Ends)),
+        LineCommand::Leap(limit) => Ok(Answered::Asks(None, *limit)),
+        LineCommand::Skip(goal) => skip(debugger, *goal, reply),
+        LineCommand::Quit => Ok(Answered::Ends),
         _ => {
-            let mut debugger = debugger;
-            match tell(alloc, &mut debugger, command, reply) {
-                Ok(()) => (debugger, Ok(Answered::Told)),
-                Err(error) => (debugger, Err(error)),
-            }
+            tell(alloc, debugger, command, reply)?;
+            Ok(Answered::Told)
         }
     }
 }
 
-// Carries a whole line out, and writes the reply, but that of a run.
-fn execute_line<R: Threads + Wait + Sync, G: Gate + Sync>(
-    rt: &R,
+// Carries a whole line out, and writes the reply; or says which run it asks for.
+fn execute_line(
     alloc: Global,
-    debugger: Debugger,
-    gate: &G,
+    debugger: &mut Debugger,
     line: &[u8],
     reply: &mut String,
-) -> (Debugger, Result<Answered, AllocError>)
+) -> Result<Answered, AllocError>
     requires { string_bytes reply.old ≡ [] }
-    ensures ok { length line.now ≤ line_limit → IfOk result.1 (IsAnsweredBy (state_of debugger) line.now (string_bytes reply.new) (state_of result.0)) }
-    ensures added { IfOk result.1 (HasAdded result.0.core.world) }
-    ensures err { OnErr result.1 (state_of result.0 ≡ state_of debugger) }
-    ensures opening { result.0.core.world.opening ≡ debugger.core.world.opening }
-    ensures fires { Fires (command_of line.now) debugger.core.meter.firings result.0.core.meter.firings }
+    ensures ok { length line.now ≤ line_limit → IfOk result (IsAnsweredBy (state_of debugger.old) line.now (string_bytes reply.new) (state_of debugger.new)) }
+    ensures err { OnErr result (state_of debugger.new ≡ state_of debugger.old) }
+    ensures opening { debugger.new.core.world.opening ≡ debugger.old.core.world.opening }
+    ensures fires { Fires (command_of line.now) debugger.old.core.meter.firings debugger.new.core.meter.firings }
 {
-    match parse(alloc, line) {
-        Ok(command) => execute(rt, alloc, debugger, gate, &command, reply),
-        Err(error) => (debugger, Err(error)),
-    }
+    let command = parse(alloc, line)?;
+    execute(alloc, debugger, &command, reply)
 }
 
-/// Carries a line out, and writes the reply in place of what stood in the text, but for a run: its lines are to be told, and the
-/// text is to be taken for nothing. It says too whether the session ends. An error says that memory was refused, which is the
-/// reply then. The debugger is given back as the line leaves it.
-pub fn answer<R: Threads + Wait + Sync, G: Gate + Sync>(
-    rt: &R,
+/// Carries a line out, and writes the reply in place of what stood in the text, and says whether the session ends. Where the line
+/// asks for a run it says of how many steps at most and of which goals; nothing is done then, and the text is to be taken for
+/// nothing. An error says that memory was refused, which is the reply then. It costs what the command costs.
+pub fn answer(
     alloc: Global,
-    debugger: Debugger,
-    gate: &G,
+    debugger: &mut Debugger,
     line: &Line,
     reply: &mut String,
-) -> (Debugger, Result<Answered, AllocError>)
-    ensures reply { (bytes : List ℕ) → LineSays line.now bytes → MatchResult result.1
-        (IsAnsweredBy (state_of debugger) bytes (string_bytes reply.new) (state_of result.0))
-        (λ _. IsReply (state_of debugger) bytes (refusal Fault.Memory) (state_of result.0) false) }
-    ensures added { IfOk result.1 (HasAdded result.0.core.world) }
-    ensures opening { result.0.core.world.opening ≡ debugger.core.world.opening }
-    ensures fires { (bytes : List ℕ) → LineSays line.now bytes → Fires (command_of bytes) debugger.core.meter.firings result.0.core.meter.firings }
+) -> Result<Answered, AllocError>
+    ensures reply { (bytes : List ℕ) → LineSays line.now bytes → MatchResult result
+        (IsAnsweredBy (state_of debugger.old) bytes (string_bytes reply.new) (state_of debugger.new))
+        (λ _. IsReply (state_of debugger.old) bytes (refusal Fault.Memory) (state_of debugger.new) false) }
+    ensures opening { debugger.new.core.world.opening ≡ debugger.old.core.world.opening }
+    ensures fires { (bytes : List ℕ) → LineSays line.now bytes → Fires (command_of bytes) debugger.old.core.meter.firings debugger.new.core.meter.firings }
 {
     reply.clear();
     match line {
-        Line::Whole(bytes) => execute_line(rt, alloc, debugger, gate, bytes.as_slice(), reply),
+        Line::Whole(bytes) => execute_line(alloc, debugger, bytes.as_slice(), reply),
         Line::TooLong => match refused(&Fault::Limit(Limit::Line), reply) {
-            Ok(()) => (debugger, Ok(Answered::Told)),
-            Err(error) => (debugger, Err(error)),
+            Ok(()) => Ok(Answered::Told),
+            Err(error) => Err(error),
         },
-        Line::NoMemory => (debugger, Err(AllocError)),
+        Line::NoMemory => Err(AllocError),
     }
 }

@@ -1,13 +1,14 @@
-// What a line was answered with.
-use ghc_pool::Report;
+// What a line is answered with.
+use ghc_term::GoalName;
 
-/// What a line was answered with.
+/// What a line is answered with.
 #[derive(Clone, Copy, Drop)]
 pub enum Answered {
     /// The reply stands in the text, and the session goes on.
     Told,
     /// The reply stands in the text, and the session ends.
     Ends,
-    /// There was a run, of which the lines are to be told; the session goes on.
-    Ran(Report),
+    /// Nothing was done: a run is asked for, of at most so many steps of any goals, or where a root is named, of the goals that
+    /// descend from it. Its lines are the reply, and the session goes on.
+    Asks(Option<GoalName>, u32),
 }

@@ -1,7 +1,9 @@
 // The replies to commands that change the core: the change is found, told, and made.
 ghost use Rattle.std.specs.Prelude.{◌≡◌, ◌++◌, [], IfOk, OnErr, OnOk, string_bytes};
+ghost use Rattle.ghc_records.specs.Record.{numbers};
 ghost use Rattle.ghc_core.specs.Change.{CanChange, IsBoundBy};
 ghost use Rattle.ghc_core.specs.CommandCode.{command_of};
+ghost use Rattle.ghc_core.specs.Gone.{all_gone};
 ghost use Rattle.ghc_trace.specs.Disturbed.{AreDisturbed};
 ghost use Rattle.ghc_trace.specs.Laws.{IsSettled, Brings};
 ghost use Rattle.ghc_console.specs.Firing.{FiresInObeying};
@@ -10,7 +12,7 @@ ghost use Rattle.ghc_console.specs.Replies.{IsFrontOf, IsObeyed, RepliesToAsk, R
 use crate::asked_for::asked_for;
 use crate::reply::{push_ports, refused};
 use crate::settled::{make, settle};
-use ghc_core::{Change, Command, Core};
+use ghc_core::{Change, Command, Core, Rollback};
 use ghc_hooks::Tries;
 use ghc_reader::read_ground_term;
 use ghc_term::push_number;
@@ -34,6 +36,7 @@ fn write_numbers(numbers: &[u32], out: &mut String) -> Result<(), AllocError>
 }
 
 // The line of the steps that are undone.
+#[inline(never)]
 pub(crate) fn undone(numbers: &[u32], reply: &mut String) -> Result<(), AllocError>
     requires { string_bytes reply.old ≡ [] }
     ensures { OnOk result (string_bytes reply.new ≡ undone_text numbers.now) }
@@ -43,15 +46,25 @@ pub(crate) fn undone(numbers: &[u32], reply: &mut String) -> Result<(), AllocErr
     reply.push_str("\n")
 }
 
+// The line of the steps that go: one that goes alone takes no memory for a list.
+fn gone(alloc: Global, rollback: &Rollback, reply: &mut String) -> Result<(), AllocError>
+    requires { string_bytes reply.old ≡ [] }
+    ensures { OnOk result (string_bytes reply.new ≡ undone_text (numbers (all_gone rollback.now))) }
+{
+    let (first, others) = rollback.parts();
+    if others.is_empty() {
+        return undone(&[first.step().number()], reply);
+    }
+    undone(&rollback.numbers(alloc)?, reply)
+}
+
 // The goals that the change disturbs.
 fn disturbed_by(alloc: Global, tries: &Tries, change: &Change) -> Result<Disturbed, AllocError>
     ensures { IfOk result (λ d. AreDisturbed tries.now.notes (IsBoundBy change.now) (Brings change.now) d) }
 {
     match change {
-        Change::Adds(addition) => Disturbed::by_taking(alloc, tries, addition.step()),
-        Change::PutsBack(addition) => Disturbed::by_taking(alloc, tries, addition.step()),
-        Change::TakesAway(removal) => Disturbed::by_taking_back(alloc, tries, removal.step()),
-        Change::TakesAll(rollback) => Disturbed::by_rolling_back(alloc, tries, rollback),
+        Change::Comes(_, addition) => Disturbed::by_taking(alloc, tries, addition.step()),
+        Change::Goes(_, rollback) => Disturbed::by_rolling_back(alloc, tries, rollback),
         Change::Reorders(_) => Ok(Disturbed::by_arranging(alloc)),
     }
 }
@@ -70,10 +83,8 @@ fn push_change(
     ensures { OnOk result (IsFrontOf core.now.world change.now (string_bytes reply.new)) }
 {
     match change {
-        Change::Adds(addition) => push_ports(disturbed, core, addition.step(), reply),
-        Change::PutsBack(addition) => push_ports(disturbed, core, addition.step(), reply),
-        Change::TakesAway(removal) => undone(&[removal.step().number()], reply),
-        Change::TakesAll(rollback) => undone(&rollback.numbers(alloc)?, reply),
+        Change::Comes(_, addition) => push_ports(disturbed, core, addition.step(), reply),
+        Change::Goes(_, rollback) => gone(alloc, rollback, reply),
         Change::Reorders(_) => reply.push_str("arranged\n"),
     }
 }

@@ -13,7 +13,7 @@ ghost use Rattle.ghc_console.specs.Replies.{RepliesToStep, RepliesToShow, Replie
 use crate::asking::variable_named;
 use crate::obey_reply::carry_out;
 use crate::settled::settle;
-use ghc_core::{Change, Core};
+use ghc_core::{Change, Coming, Core};
 use ghc_records::{Record, Records, push_record};
 use ghc_term::{Fault, GoalName, Term, print};
 use ghc_trace::{
@@ -71,7 +71,7 @@ pub fn step(
 {
     settle(alloc, core)?;
     match core.prepare_step(alloc, goal, choice) {
-        Ok(addition) => carry_out(alloc, core, Change::Adds(addition), reply),
+        Ok(addition) => carry_out(alloc, core, Change::Comes(Coming::Next, addition), reply),
         Err(fault) => refused(&fault, reply),
     }
 }

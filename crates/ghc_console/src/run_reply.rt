@@ -1,7 +1,9 @@
 // The commands that run: they take steps until there is a reason to stop.
-ghost use Rattle.std.specs.Prelude.{◌≡◌, [], List, ℕ, IfOk, OnErr, string_bytes};
-ghost use Rattle.ghc_console.specs.RunReplies.{AreTold, IsAdded, TellsRun, last_of, mode_of, run_lines};
-ghost use Rattle.ghc_console.specs.Answered.{HasAdded, IsSkippedBy};
+ghost use Rattle.std.specs.Prelude.{◌≡◌, [], List, ℕ, IfOk, string_bytes};
+ghost use Rattle.ghc_console.specs.Answered.{IsCommandAnsweredBy};
+ghost use Rattle.ghc_console.specs.RunReplies.{AreLinesTold, IsAdded, TellsRun, last_of, mode_of, run_lines};
+ghost use Rattle.ghc_console.specs.SessionState.{state_of};
+ghost use Rattle.ghc_console.specs.declared.command.LineCommand.TheVariants.{Skip as skip};
 
 use crate::answered::Answered;
 use crate::command::RUN_LIMIT;
@@ -34,7 +36,7 @@ pub fn leap<R: Threads + Wait + Sync, G: Gate + Sync>(
     root: Option<GoalName>,
     limit: u32,
 ) -> (Debugger, Report)
-    ensures told { (lines : List ℕ) → AreTold (run_lines (last_of result.1.added result.0.core.world.kept) result.1.stop) lines
+    ensures told { (lines : List ℕ) → AreLinesTold (run_lines (last_of result.1.added result.0.core.world.kept) result.1.stop) lines
         → TellsRun debugger.workers debugger.spies root limit debugger.core.world lines result.0.core.world }
     ensures added { IsAdded result.0.core.world result.1.added }
     ensures opening { result.0.core.world.opening ≡ debugger.core.world.opening }
@@ -58,30 +60,16 @@ pub fn leap<R: Threads + Wait + Sync, G: Gate + Sync>(
     (debugger, report)
 }
 
-/// Runs the goals that descend from the goal, where it is there, with the limit of a run for which no number is said; or writes
-/// its refusal, which changes nothing. It costs a look-up, and what the run costs.
-pub fn skip<R: Threads + Wait + Sync, G: Gate + Sync>(
-    rt: &R,
-    alloc: Global,
-    debugger: Debugger,
-    gate: &G,
-    goal: GoalName,
-    reply: &mut String,
-) -> (Debugger, Result<Answered, AllocError>)
+/// Asks for a run of the goals that descend from the goal, where it is there, with the limit of a run for which no number is said;
+/// or writes the refusal. It costs a look-up.
+#[inline(never)]
+pub fn skip(debugger: &Debugger, goal: GoalName, reply: &mut String) -> Result<Answered, AllocError>
     requires { string_bytes reply.old ≡ [] }
-    ensures told { IfOk result.1 (IsSkippedBy debugger.workers debugger.spies debugger.core.world goal (string_bytes reply.new) result.0.core.world) }
-    ensures added { IfOk result.1 (HasAdded result.0.core.world) }
-    ensures err { OnErr result.1 (result.0.core.world ≡ debugger.core.world) }
-    ensures opening { result.0.core.world.opening ≡ debugger.core.world.opening }
-    ensures spies { result.0.spies ≡ debugger.spies }
-    ensures workers { result.0.workers ≡ debugger.workers }
+    ensures { IfOk result (IsCommandAnsweredBy (state_of debugger.now) (skip goal) (string_bytes reply.new) (state_of debugger.now)) }
 {
     if debugger.core.goals().get(goal).is_none() {
-        return match refused(&Fault::NoGoal, reply) {
-            Ok(()) => (debugger, Ok(Answered::Told)),
-            Err(error) => (debugger, Err(error)),
-        };
+        refused(&Fault::NoGoal, reply)?;
+        return Ok(Answered::Told);
     }
-    let (debugger, report) = leap(rt, alloc, debugger, gate, Some(goal), RUN_LIMIT);
-    (debugger, Ok(Answered::Ran(report)))
+    Ok(Answered::Asks(Some(goal), RUN_LIMIT))
 }

@@ -1,12 +1,13 @@
 // The session: lines are read, and their replies written.
 ghost use Rattle.std.specs.Prelude.{◌≡◌, ◌+◌, ◌-◌, ◌≤◌, ℕ, List, IfErr, IfSome, OnOk, MatchResult};
 ghost use Rattle.std.specs.Io.KnownBytes.{Keeps};
+ghost use Rattle.ghc_console.specs.Answered.{HasRun, ServesSo};
 ghost use Rattle.ghc_console.specs.Commands.{command_of};
-ghost use Rattle.ghc_console.specs.Device.{Counts};
+ghost use Rattle.ghc_console.specs.Device.{Counts, WritesFront};
 ghost use Rattle.ghc_console.specs.Firing.{Fires, firings_in, runs_in};
 ghost use Rattle.ghc_console.specs.Lines.{lines_of};
 ghost use Rattle.ghc_console.specs.Reading.{LineSays};
-ghost use Rattle.ghc_console.specs.Session.{Began, Served, Session, Tells};
+ghost use Rattle.ghc_console.specs.Session.{Began, Session, Tells};
 ghost use Rattle.ghc_console.specs.SessionState.{state_of};
 
 use crate::answer::answer;
@@ -15,9 +16,10 @@ use crate::debugger::Debugger;
 use crate::device::{Broken, Device, write_all};
 use crate::reading::{Ahead, Line};
 use crate::run_lines::write_run;
+use crate::run_reply::leap;
 use crate::settled::settle;
 use ghc_pool::Gate;
-use ghc_term::Fault;
+use ghc_term::{Fault, GoalName};
 use std::alloc::Global;
 use std::sync::Wait;
 use std::thread::Threads;
@@ -32,44 +34,63 @@ pub(crate) fn cut_down(alloc: Global, reply: &mut String) {
     }
 }
 
-// Carries a line out and writes its reply. It says whether the session ends, and gives the debugger back as the line leaves it.
-fn serve<R: Threads + Wait + Sync, G: Gate + Sync, D: Device>(
+// Carries a line out and writes its reply, and says whether the session ends; or says which run the line asks for.
+fn serve<D: Device>(
+    alloc: Global,
+    debugger: &mut Debugger,
+    device: &mut D,
+    line: &Line,
+    reply: &mut String,
+) -> Result<Answered, Broken>
+    ensures served { (bytes : List ℕ) → LineSays line.now bytes
+        → ServesSo (state_of debugger.old) bytes (state_of debugger.new) (D.written device.old) (D.written device.new) result }
+    ensures opening { debugger.new.core.world.opening ≡ debugger.old.core.world.opening }
+    ensures fires { (bytes : List ℕ) → LineSays line.now bytes → Fires (command_of bytes) debugger.old.core.meter.firings debugger.new.core.meter.firings }
+    ensures unread { Keeps (D.unread device.old) (D.unread device.new) }
+    ensures count { Counts (D.failures device.old) (D.failures device.new) result }
+    ensures earlier { D.earlier device.new ≡ D.earlier device.old }
+    ensures latest { D.latest device.new ≡ D.latest device.old }
+{
+    match answer(alloc, debugger, line, reply) {
+        Ok(Answered::Told) => match write_all(device, reply.as_bytes()) {
+            Ok(()) => Ok(Answered::Told),
+            Err(Broken) => Err(Broken),
+        },
+        Ok(Answered::Ends) => match write_all(device, reply.as_bytes()) {
+            Ok(()) => Ok(Answered::Ends),
+            Err(Broken) => Err(Broken),
+        },
+        Ok(Answered::Asks(root, limit)) => Ok(Answered::Asks(root, limit)),
+        Err(_) => match write_all(device, b"F1 no memory\n") {
+            Ok(()) => Ok(Answered::Told),
+            Err(Broken) => Err(Broken),
+        },
+    }
+}
+
+// Makes a run that a line asks for, and writes its lines, one at a time. Here alone is the debugger moved, since several workers
+// take the core.
+#[inline(never)]
+fn serve_run<R: Threads + Wait + Sync, G: Gate + Sync, D: Device>(
     rt: &R,
     alloc: Global,
     debugger: Debugger,
     gate: &G,
     device: &mut D,
-    line: &Line,
-    reply: &mut String,
-) -> (Debugger, Result<bool, Broken>)
-    ensures served { (bytes : List ℕ) → LineSays line.now bytes
-        → Served (state_of debugger) bytes (state_of result.0) (D.written device.old) (D.written device.new) result.1 }
+    root: Option<GoalName>,
+    limit: u32,
+    line: &mut String,
+) -> (Debugger, Result<(), Broken>)
+    ensures told { (text : List ℕ) × HasRun (state_of debugger) root limit text (state_of result.0) × WritesFront (D.written device.old) (D.written device.new) result.1 text }
     ensures opening { result.0.core.world.opening ≡ debugger.core.world.opening }
-    ensures fires { (bytes : List ℕ) → LineSays line.now bytes → Fires (command_of bytes) debugger.core.meter.firings result.0.core.meter.firings }
     ensures unread { Keeps (D.unread device.old) (D.unread device.new) }
     ensures count { Counts (D.failures device.old) (D.failures device.new) result.1 }
     ensures earlier { D.earlier device.new ≡ D.earlier device.old }
     ensures latest { D.latest device.new ≡ D.latest device.old }
 {
-    let (debugger, answered) = answer(rt, alloc, debugger, gate, line, reply);
-    match answered {
-        Ok(Answered::Told) => match write_all(device, reply.as_bytes()) {
-            Ok(()) => (debugger, Ok(false)),
-            Err(Broken) => (debugger, Err(Broken)),
-        },
-        Ok(Answered::Ends) => match write_all(device, reply.as_bytes()) {
-            Ok(()) => (debugger, Ok(true)),
-            Err(Broken) => (debugger, Err(Broken)),
-        },
-        Ok(Answered::Ran(report)) => match write_run(device, &debugger.core, report, reply) {
-            Ok(()) => (debugger, Ok(false)),
-            Err(Broken) => (debugger, Err(Broken)),
-        },
-        Err(_) => match write_all(device, b"F1 no memory\n") {
-            Ok(()) => (debugger, Ok(false)),
-            Err(Broken) => (debugger, Err(Broken)),
-        },
-    }
+    let (debugger, report) = leap(rt, alloc, debugger, gate, root, limit);
+    let written = write_run(device, &debugger.core, report, line);
+    (debugger, written)
 }
 
 /// Settles, and answers the lines of the device, up to `quit` or the end of the input. Where a call of the device fails it ends
@@ -110,16 +131,26 @@ pub fn session<R: Threads + Wait + Sync, G: Gate + Sync, D: Device>(
             Ok(None) => return (debugger, Ok(())),
             Ok(Some(line)) => line,
         };
-        let (left, ended) = serve(rt, alloc, debugger, gate, device, &line, &mut reply);
-        match ended {
-            Err(Broken) => return (left, Err(Fault::Device)),
-            Ok(true) => return (left, Ok(())),
-            Ok(false) => {
+        let answered = match serve(alloc, &mut debugger, device, &line, &mut reply) {
+            Ok(answered) => answered,
+            Err(Broken) => return (debugger, Err(Fault::Device)),
+        };
+        match answered {
+            Answered::Ends => return (debugger, Ok(())),
+            Answered::Told => (),
+            Answered::Asks(root, limit) => {
+                let (left, written) = serve_run(
+                    rt, alloc, debugger, gate, device, root, limit, &mut reply,
+                );
                 debugger = left;
-                spare = line.into_spare(alloc);
-                cut_down(alloc, &mut reply);
+                match written {
+                    Ok(()) => (),
+                    Err(Broken) => return (debugger, Err(Fault::Device)),
+                }
             }
         }
+        spare = line.into_spare(alloc);
+        cut_down(alloc, &mut reply);
     }
     unreachable!()
 }

@@ -9,7 +9,7 @@ use Rattle.ghcdb.specs.declared.refusal.Refusal.{Refusal}
 use Rattle.ghcdb.specs.declared.start.Started.{Started}
 use Rattle.ghcdb.specs.declared.refused_part.RefusedPart.TheVariants as part
 use Rattle.ghcdb.specs.Start.{IsStarted, IsStartRefusal, IsNoMemoryFor, IsOutOfMemory, for_program}
-use Rattle.ghcdb.specs.Opening.{OpensOn, IsHistoryFault, IsHistoryRefused, IsOpened, IsOpenRefusal, of_start, of_history, IsWithoutMemory, at_start, for_history}
+use Rattle.ghcdb.specs.Opening.{OpensOn, IsHistoryFault, IsHistoryRefused, IsDebuggerOf, IsOpenRefusal, of_start, of_history, IsWithoutMemory, at_start, for_history}
 
 -- an answer, in other words
 answers_as : {A E : Type 0} {M N : E → Type 0} {G H : A → Type 0} {R S : E → Type 0} (result : Result A E) → ((a : A) → G a → H a) → ((e : E) → M e ⊎ R e → N e ⊎ S e)
@@ -24,22 +24,22 @@ refused_at_start p q history r (inr f) = inr (of_start f)
 
 -- Program and query are started, and no history is given.
 pub opened_fresh : (p q : List ℕ) (s : Started) (result : Result Debugger Refusal) → IsStarted p q s
-    → AnsweredUnless (IsNoMemoryFor part.Program) (λ debugger. OpensOn s None debugger.core.world debugger.spies) (λ _. ⊥) result → AnsweredUnless (IsWithoutMemory p q None) (IsOpened p q None) (IsOpenRefusal p q None) result
+    → AnsweredUnless (IsNoMemoryFor part.Program) (λ debugger. OpensOn s None debugger.core.world debugger.spies) (λ _. ⊥) result → AnsweredUnless (IsWithoutMemory p q None) (IsDebuggerOf p q None) (IsOpenRefusal p q None) result
 opened_fresh p q s result starts = answers_as result (λ debugger opens. record { started = s; starts = starts; opens = opens }) (λ r f. elim f [ inl m ↦ inl (at_start (for_program m)) | inr none ↦ absurd none ])
 
 -- Program and query are started, and a history is given.
 pub opened_loaded : (p q text : List ℕ) (s : Started) (result : Result Debugger Refusal) → IsStarted p q s
     → AnsweredUnless (IsNoMemoryFor part.History) (λ debugger. OpensOn s (Some text) debugger.core.world debugger.spies) (IsHistoryRefused s (Some text)) result
-    → AnsweredUnless (IsWithoutMemory p q (Some text)) (IsOpened p q (Some text)) (IsOpenRefusal p q (Some text)) result
+    → AnsweredUnless (IsWithoutMemory p q (Some text)) (IsDebuggerOf p q (Some text)) (IsOpenRefusal p q (Some text)) result
 opened_loaded p q text s result starts =
     answers_as result (λ debugger opens. record { started = s; starts = starts; opens = opens }) (λ r f. elim f [ inl m ↦ inl (for_history s text starts refl m) | inr refused ↦ inr (of_history s starts refused) ])
 
 -- What is answered for a history is answered for one that is the same.
 pub answer_for : (p q : List ℕ) (given history : Option (Bor (List ℕ))) (result : Result Debugger Refusal) → given ≡ history
-    → AnsweredUnless (IsWithoutMemory p q (option_map (λ text. text.now) history)) (IsOpened p q (option_map (λ text. text.now) history)) (IsOpenRefusal p q (option_map (λ text. text.now) history)) result
-    → AnsweredUnless (IsWithoutMemory p q (option_map (λ text. text.now) given)) (IsOpened p q (option_map (λ text. text.now) given)) (IsOpenRefusal p q (option_map (λ text. text.now) given)) result
+    → AnsweredUnless (IsWithoutMemory p q (option_map (λ text. text.now) history)) (IsDebuggerOf p q (option_map (λ text. text.now) history)) (IsOpenRefusal p q (option_map (λ text. text.now) history)) result
+    → AnsweredUnless (IsWithoutMemory p q (option_map (λ text. text.now) given)) (IsDebuggerOf p q (option_map (λ text. text.now) given)) (IsOpenRefusal p q (option_map (λ text. text.now) given)) result
 answer_for p q given history result same answer =
-    subst (λ h. AnsweredUnless (IsWithoutMemory p q (option_map (λ text. text.now) h)) (IsOpened p q (option_map (λ text. text.now) h)) (IsOpenRefusal p q (option_map (λ text. text.now) h)) result) (sym same) answer
+    subst (λ h. AnsweredUnless (IsWithoutMemory p q (option_map (λ text. text.now) h)) (IsDebuggerOf p q (option_map (λ text. text.now) h)) (IsOpenRefusal p q (option_map (λ text. text.now) h)) result) (sym same) answer
 
 -- What is told of a history for a fault is that memory was refused, or why the history is refused.
 pub told_of_history : (s : Started) (text : List ℕ) (r : Refusal) (f : Fault) → r.part ≡ part.History → r.fault ≡ f → (f ≡ Memory) ⊎ IsHistoryFault s text f

@@ -2,9 +2,9 @@
 use Rattle.std.proofs.Common.{◌≡◌, ℕ, List, ap, subst₂, sym}
 use Rattle.std.specs.Prelude.{Option}
 use Rattle.ghc_console.specs.declared.debugger.Debugger.{Debugger}
-use Rattle.ghcdb.specs.Opening.{IsOpened, OpensOn}
+use Rattle.ghcdb.specs.Opening.{IsDebuggerOf, OpensOn}
 
-pub opened_for : (program query : List ℕ) (history : Option (List ℕ)) (d e : Debugger) → e.core ≡ d.core → e.spies ≡ d.spies → IsOpened program query history d → IsOpened program query history e
+pub opened_for : (program query : List ℕ) (history : Option (List ℕ)) (d e : Debugger) → e.core ≡ d.core → e.spies ≡ d.spies → IsDebuggerOf program query history d → IsDebuggerOf program query history e
 opened_for program query history d e core spies o = record {
   started = o.started;
   starts = o.starts;

@@ -46,7 +46,7 @@ pub record IsHistoryRefused (s : Started) (history : Option (List ℕ)) (refusal
   pub fault : IsHistoryFault s text refusal.fault
 
 -- The texts start what the session begins with: program and query are accepted, and the history is loaded where there is one.
-pub record IsOpened (program_text : List ℕ) (query_text : List ℕ) (history : Option (List ℕ)) (debugger : Debugger) : Type 0 where
+pub record IsDebuggerOf (program_text : List ℕ) (query_text : List ℕ) (history : Option (List ℕ)) (debugger : Debugger) : Type 0 where
   pub started : Started
   pub starts : IsStarted program_text query_text started
   pub opens : OpensOn started history debugger.core.world debugger.spies

@@ -4,7 +4,7 @@ ghost use Rattle.clap.specs.Words.{kind_of};
 ghost use Rattle.clap.specs.declared.error.kind.ErrorKind.{ErrorKind};
 ghost use Rattle.ghc_term.specs.Answered.{AnsweredUnless};
 ghost use Rattle.ghc_term.specs.Fault.{fault_text};
-ghost use Rattle.ghcdb.specs.Opening.{IsOpened, IsOpenRefusal, IsWithoutMemory};
+ghost use Rattle.ghcdb.specs.Opening.{IsDebuggerOf, IsOpenRefusal, IsWithoutMemory};
 ghost use Rattle.ghcdb.specs.Texts.{history_in};
 ghost use Rattle.ghcdb.specs.Status.{spare_fault, status_of};
 
@@ -58,7 +58,7 @@ fn answer<R: Print + Eprint>(rt: &R, error: &Error) -> Status
 // What the texts of the files and the options start: the program and the history are in the files, and the query in the
 // options.
 fn open_with(alloc: Global, texts: &Texts, options: Options<'_>) -> Result<Debugger, Refusal>
-    ensures answer { AnsweredUnless (IsWithoutMemory texts.now.program.items options.entry.query.now (history_in texts.now)) (IsOpened texts.now.program.items options.entry.query.now (history_in texts.now))
+    ensures answer { AnsweredUnless (IsWithoutMemory texts.now.program.items options.entry.query.now (history_in texts.now)) (IsDebuggerOf texts.now.program.items options.entry.query.now (history_in texts.now))
         (IsOpenRefusal texts.now.program.items options.entry.query.now (history_in texts.now)) result }
 {
     let program = texts.program.as_slice();
@@ -76,7 +76,7 @@ fn open_for_workers(
     options: Options<'_>,
     workers: Workers,
 ) -> Result<Debugger, Refusal>
-    ensures answer { AnsweredUnless (IsWithoutMemory texts.now.program.items options.entry.query.now (history_in texts.now)) (IsOpened texts.now.program.items options.entry.query.now (history_in texts.now))
+    ensures answer { AnsweredUnless (IsWithoutMemory texts.now.program.items options.entry.query.now (history_in texts.now)) (IsDebuggerOf texts.now.program.items options.entry.query.now (history_in texts.now))
         (IsOpenRefusal texts.now.program.items options.entry.query.now (history_in texts.now)) result }
     ensures workers { IfOk result (λ debugger. debugger.workers ≡ workers) }
 {

@@ -5,7 +5,7 @@ ghost use Rattle.ghc_flat.specs.Flat.{IsQuery};
 ghost use Rattle.ghcdb.specs.Start.{IsNoMemoryFor};
 ghost use Rattle.ghc_records.specs.HistoryText.{IsLine};
 ghost use Rattle.ghc_records.specs.ChronicleText.{chronicle_heading};
-ghost use Rattle.ghcdb.specs.Opening.{IsHistoryRefused, IsOpened, IsOpenRefusal, IsWithoutMemory, OpensOn};
+ghost use Rattle.ghcdb.specs.Opening.{IsHistoryRefused, IsDebuggerOf, IsOpenRefusal, IsWithoutMemory, OpensOn};
 
 use crate::refusal::Refusal;
 use crate::refused_part::RefusedPart;
@@ -28,7 +28,7 @@ pub fn open(
     query: &[u8],
     history: Option<&[u8]>,
 ) -> Result<Debugger, Refusal>
-    ensures answer { AnsweredUnless (IsWithoutMemory program.now query.now (option_map (λ text. text.now) history.entry)) (IsOpened program.now query.now (option_map (λ text. text.now) history.entry))
+    ensures answer { AnsweredUnless (IsWithoutMemory program.now query.now (option_map (λ text. text.now) history.entry)) (IsDebuggerOf program.now query.now (option_map (λ text. text.now) history.entry))
         (IsOpenRefusal program.now query.now (option_map (λ text. text.now) history.entry)) result }
 {
     let started = match start(alloc, program, query) {

@@ -114,8 +114,8 @@ fn is_fired_four_times(core: &Core) -> bool {
 
 // Undoes step 2, on which nothing depends, and says whether it is on the shelf and in the journal, nothing is fired, and no
 // number moves.
-fn is_second_undone(core: &mut Core) -> bool {
-    core.undo(2).is_ok()
+fn is_second_undone(alloc: Global, core: &mut Core) -> bool {
+    core.undo(alloc, 2).is_ok()
         && core.shelf().get(2).is_some()
         && matches!(core.journal().at(4), Some(Entry::Undid(2)))
         && is_fired_four_times(core)
@@ -167,7 +167,7 @@ fn is_appended_and_undone(alloc: Global, core: &mut Core) -> bool {
     are_taken(alloc, core, APPENDS)
         && have_consequences(alloc, core)
         && depend_directly(core)
-        && is_second_undone(core)
+        && is_second_undone(alloc, core)
 }
 
 #[test]

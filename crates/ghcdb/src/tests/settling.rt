@@ -41,7 +41,7 @@ fn is_tried_again(alloc: Global, core: &mut Core) -> bool {
         && are_taken(alloc, core, &[(goal(2), 1)])
         && settles(alloc, core, 1)
         && has_failed(core)
-        && core.undo(1).is_ok()
+        && core.undo(alloc, 1).is_ok()
         && settles(alloc, core, 2)
         && waits_for(core, 2)
 }

@@ -11,36 +11,36 @@ use Rattle.ghc_console.proofs.StepReplies.{either}
 use Rattle.ghc_console.proofs.answer.answer.Goals as goal
 
 pub returns-in-Whole-clause-reply : goal.returns-in-Whole-clause-reply
-returns-in-Whole-clause-reply g c bytes says =
-    let w = state_of c.args.debugger in
-    let r = c.execute_line.result.1 in
-    let v = state_of c.execute_line.result.0 in
+returns-in-Whole-clause-reply c bytes says =
+    let w = state_of c.args.debugger.now in
+    let r = c.execute_line.result in
+    let v = state_of c.execute_line.new.debugger in
     let text = string_bytes c.execute_line.new.reply in
     let whole = subst (λ l. LineSays l bytes) c.in-Whole.is says in
     let replied = subst (λ l. length l ≤ line_limit → IfOk r (IsAnsweredBy w l text v)) (c.as_slice.ensures.value ∙ whole.0) c.execute_line.ensures.ok whole.1 in
     either r replied c.execute_line.ensures.err (λ _ told. told) (λ same. subst (λ u. IsReply w bytes (refusal fault.Memory) u false) (sym same) no_memory)
 
 pub returns-in-Ok-clause-reply : goal.returns-in-Ok-clause-reply
-returns-in-Ok-clause-reply g c bytes says =
-    subst (λ t. IsReply (state_of c.args.debugger) bytes t (state_of c.args.debugger) false) (sym c.in-Ok.ensures.text)
+returns-in-Ok-clause-reply c bytes says =
+    subst (λ t. IsReply (state_of c.args.debugger.now) bytes t (state_of c.args.debugger.now) false) (sym c.in-Ok.ensures.text)
     (too_long (subst (λ l. LineSays l bytes) c.in-TooLong.is says))
 
 pub returns-in-Err-clause-reply : goal.returns-in-Err-clause-reply
-returns-in-Err-clause-reply g c bytes says = no_memory
+returns-in-Err-clause-reply c bytes says = no_memory
 
 pub returns-in-NoMemory-clause-reply : goal.returns-in-NoMemory-clause-reply
-returns-in-NoMemory-clause-reply g c bytes says = no_memory
+returns-in-NoMemory-clause-reply c bytes says = no_memory
 
 pub returns-in-Whole-clause-fires : goal.returns-in-Whole-clause-fires
-returns-in-Whole-clause-fires g c bytes says =
+returns-in-Whole-clause-fires c bytes says =
     let whole = subst (λ l. LineSays l bytes) c.in-Whole.is says in
-    subst (λ l. Fires (command_of l) c.args.debugger.core.meter.firings c.execute_line.result.0.core.meter.firings) (c.as_slice.ensures.value ∙ whole.0) c.execute_line.ensures.fires
+    subst (λ l. Fires (command_of l) c.args.debugger.now.core.meter.firings c.execute_line.new.debugger.core.meter.firings) (c.as_slice.ensures.value ∙ whole.0) c.execute_line.ensures.fires
 
 pub returns-in-Ok-clause-fires : goal.returns-in-Ok-clause-fires
-returns-in-Ok-clause-fires g c bytes says = fires_nothing _ _ _ refl
+returns-in-Ok-clause-fires c bytes says = fires_nothing _ _ _ refl
 
 pub returns-in-Err-clause-fires : goal.returns-in-Err-clause-fires
-returns-in-Err-clause-fires g c bytes says = fires_nothing _ _ _ refl
+returns-in-Err-clause-fires c bytes says = fires_nothing _ _ _ refl
 
 pub returns-in-NoMemory-clause-fires : goal.returns-in-NoMemory-clause-fires
-returns-in-NoMemory-clause-fires g c bytes says = fires_nothing _ _ _ refl
+returns-in-NoMemory-clause-fires c bytes says = fires_nothing _ _ _ refl

@@ -5,9 +5,9 @@ use Rattle.ghc_trace.specs.Disturbed.{AreDisturbed}
 use Rattle.ghc_trace.specs.Laws.{Brings}
 use Rattle.ghc_console.proofs.obey_reply.disturbed_by.Goals as goal
 
-pub returns-in-TakesAll : goal.returns-in-TakesAll
-returns-in-TakesAll c =
-    subst (λ (change : Change). IfOk c.by_rolling_back.result (λ d. AreDisturbed c.args.tries.now.notes (IsBoundBy change) (Brings change) d)) (sym c.in-TakesAll.is) c.by_rolling_back.ensures
+pub returns-in-Goes : goal.returns-in-Goes
+returns-in-Goes c =
+    subst (λ (change : Change). IfOk c.by_rolling_back.result (λ d. AreDisturbed c.args.tries.now.notes (IsBoundBy change) (Brings change) d)) (sym c.in-Goes.is) c.by_rolling_back.ensures
 
 pub returns-in-Reorders : goal.returns-in-Reorders
 returns-in-Reorders c =

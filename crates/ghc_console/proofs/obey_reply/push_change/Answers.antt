@@ -7,16 +7,9 @@ use Rattle.ghc_console.specs.Replies.{IsFrontOf}
 use Rattle.ghc_console.proofs.StepReplies.{on_ok}
 use Rattle.ghc_console.proofs.obey_reply.push_change.Goals as goal
 
-pub returns-in-Adds : goal.returns-in-Adds
-returns-in-Adds c = on_ok c.push_ports.result c.push_ports.ensures (λ told.
+pub returns-in-Comes : goal.returns-in-Comes
+returns-in-Comes c = on_ok c.push_ports.result c.push_ports.ensures (λ told.
     let w = c.args.core.now.world in
     let text = string_bytes c.push_ports.new.reply in
-    subst (λ (change : Change). IsFrontOf w change text) (sym c.in-Adds.is)
+    subst (λ (change : Change). IsFrontOf w change text) (sym c.in-Comes.is)
     (subst (λ (r : Record). (ports : List Port) × ArePorts w r ports × (text ≡ ports_text ports)) c.step.ensures told))
-
-pub returns-in-PutsBack : goal.returns-in-PutsBack
-returns-in-PutsBack c = on_ok c.push_ports-in-PutsBack.result c.push_ports-in-PutsBack.ensures (λ told.
-    let w = c.args.core.now.world in
-    let text = string_bytes c.push_ports-in-PutsBack.new.reply in
-    subst (λ (change : Change). IsFrontOf w change text) (sym c.in-PutsBack.is)
-    (subst (λ (r : Record). (ports : List Port) × ArePorts w r ports × (text ≡ ports_text ports)) c.step-in-PutsBack.ensures told))

@@ -1,8 +1,11 @@
-use Rattle.std.proofs.Common.{◌∙◌, arith, false, refl, rules, sym, true}
-use Rattle.std.proofs.KnownBytes.{prepend_known-nil}
-use Rattle.ghc_console.proofs.Served.{has_broken, has_served}
+use Rattle.std.proofs.Common.{◌∙◌, arith, refl, rules, sym}
+use Rattle.std.proofs.KnownBytes.{Keeps-trans, prepend_known-nil}
+use Rattle.ghc_console.specs.Commands.{command_of}
+use Rattle.ghc_console.proofs.RunCommands.{run_fires}
+use Rattle.ghc_console.proofs.Served.{counts_same, has_asked, has_broken, has_broken_run, has_ended, has_run, has_told}
 use Rattle.ghc_console.proofs.SessionFirings.{fired_start, fired_on, fired_end}
 use Rattle.ghc_console.proofs.SessionLoop.{going_asked, going_on, going_end, going_quit, broken_read, broken_write, kept_then, taken_kept, going_start, given_start, given_then, given_kept}
+use Rattle.ghc_console.proofs.session_loop.session.Goals.{in-Told, in-Asks+in-Ok-written}
 use Rattle.ghc_console.proofs.session_loop.session.Goals as goal
 
 pub loop-init : goal.loop-init
@@ -20,43 +23,80 @@ returns-in-Ok-None-clause-text g c =
     let so_far = going_asked _ _ _ _ _ _ _ _ _ _ _ c.loop.invariant.2 c.loop.invariant.6 read.asks in
     rw (sym c.settle.ensures.world) (going_end _ _ _ _ _ _ _ _ so_far end.0 read.written)
 
-pub returns-in-Err-ended-clause-text : goal.returns-in-Err-ended-clause-text
-returns-in-Err-ended-clause-text g c =
+pub returns-in-Err-serve-clause-text : goal.returns-in-Err-serve-clause-text
+returns-in-Err-serve-clause-text g c =
     let read = c.in-Ok-Some.ensures in
     let taken = rw c.in-Ok-Some.field-0-is at read.line in
     let so_far = going_asked _ _ _ _ _ _ _ _ _ _ _ c.loop.invariant.2 c.loop.invariant.6 read.asks in
-    let serve = c.serve-left.ensures in
+    let serve = c.serve.ensures in
     rw (sym c.settle.ensures.world, serve.earlier) (broken_write _ _ _ _ _ _ _ _ _ _ _ so_far taken (λ bytes says.
-    let s = has_broken _ _ bytes _ _ c.serve-left.result.1 _ c.in-Err-ended.is (serve.served bytes says) in
+    let s = has_broken _ _ bytes _ _ c.serve.result _ c.in-Err-serve.is (serve.served bytes says) in
     (s.0, s.1, s.2, (s.3.0, kept_then _ _ _ _ read.written s.3.1))))
 
-pub returns-in-Ok-true-clause-text : goal.returns-in-Ok-true-clause-text
-returns-in-Ok-true-clause-text g c =
+pub returns-in-Ends-clause-text : goal.returns-in-Ends-clause-text
+returns-in-Ends-clause-text g c =
     let read = c.in-Ok-Some.ensures in
     let taken = rw c.in-Ok-Some.field-0-is at read.line in
     let so_far = going_asked _ _ _ _ _ _ _ _ _ _ _ c.loop.invariant.2 c.loop.invariant.6 read.asks in
-    let serve = c.serve-left.ensures in
+    let serve = c.serve.ensures in
     rw (sym c.settle.ensures.world, serve.earlier) (going_quit _ _ _ _ _ _ _ _ _ _ _ so_far taken (λ bytes says.
-    let s = has_served _ _ bytes _ _ c.serve-left.result.1 _ true c.in-Ok-true.is c.in-Ok-true.field-0-test (serve.served bytes says) in
+    let s = has_ended _ _ bytes _ _ c.serve.result _ c.in-Ok.is c.in-Ends.is (serve.served bytes says) in
     (s.0, s.1, kept_then _ _ _ _ read.written s.2)))
+
+pub returns-in-Err-written-clause-text : goal.returns-in-Err-written-clause-text
+returns-in-Err-written-clause-text g c =
+    let read = c.in-Ok-Some.ensures in
+    let taken = rw c.in-Ok-Some.field-0-is at read.line in
+    let so_far = going_asked _ _ _ _ _ _ _ _ _ _ _ c.loop.invariant.2 c.loop.invariant.6 read.asks in
+    let serve = c.serve.ensures in
+    let run = c.serve_run-left.ensures in
+    rw (sym c.settle.ensures.world, run.earlier, serve.earlier) (broken_write _ _ _ _ _ _ _ _ _ _ _ so_far taken (λ bytes says.
+    let asked = has_asked _ _ bytes _ _ c.serve.result _ c.in-Asks.root c.in-Asks.limit c.in-Ok.is c.in-Asks.is (serve.served bytes says) in
+    let s = has_broken_run _ _ _ bytes _ _ _ c.in-Asks.root c.in-Asks.limit c.serve_run-left.result.1 _ asked run.told c.in-Err-written.is in
+    (s.0, s.1, s.2, (s.3.0, kept_then _ _ _ _ read.written s.3.1))))
 
 pub loop-preserved : goal.loop-preserved
 loop-preserved g c =
     let read = c.in-Ok-Some.ensures in
     let taken = rw c.in-Ok-Some.field-0-is at read.line in
-    let serve = c.serve-left.ensures in
+    let serve = c.serve.ensures in
     let so_far = going_asked _ _ _ _ _ _ _ _ _ _ _ c.loop.invariant.2 c.loop.invariant.6 read.asks in
-    let given = given_kept _ _ _ _ _ (given_then _ _ _ _ _ _ c.loop.invariant.6 read.given) serve.unread in (
-      tt,
-      tt,
-      rw serve.earlier (going_on _ _ _ _ _ _ _ _ _ _ _ so_far (taken_kept _ c.next_line.new.self _ _ _ taken serve.unread) (λ bytes says.
-          let s = has_served _ _ bytes _ _ c.serve-left.result.1 _ false c.in-Ok-false.is c.in-Ok-false.field-0-test (serve.served bytes says) in
-          (s.0, s.1, kept_then _ _ _ _ read.written s.2))),
-      search rules,
-      serve.opening ∙ c.loop.invariant.4,
-      fired_on _ _ _ _ _ _ _ c.loop.invariant.5 (taken_kept _ c.next_line.new.self _ _ _ taken serve.unread) serve.fires,
-      rw (serve.earlier, serve.latest) given,
-    )
+    elim c.match-answered.branch [
+      | in-Told w ↦
+          let given = given_kept _ _ _ _ _ (given_then _ _ _ _ _ _ c.loop.invariant.6 read.given) serve.unread in
+          let left = taken_kept _ c.next_line.new.self _ _ _ taken serve.unread in
+          rw (w.debugger-is, w.device-is) (
+            tt,
+            tt,
+            rw serve.earlier (going_on _ _ _ _ _ _ _ _ _ _ _ so_far left (λ bytes says.
+                let s = has_told _ _ bytes _ _ c.serve.result _ c.in-Ok.is w.in-Told.is (serve.served bytes says) in
+                (s.0, s.1, kept_then _ _ _ _ read.written s.2))),
+            search rules,
+            serve.opening ∙ c.loop.invariant.4,
+            fired_on _ _ _ _ _ _ _ c.loop.invariant.5 left serve.fires,
+            rw (serve.earlier, serve.latest) given,
+          )
+      | in-Asks+in-Ok-written w ↦
+          let run = w.serve_run-left.ensures in
+          let unread = Keeps-trans _ _ _ serve.unread run.unread in
+          let given = given_kept _ _ _ _ _ (given_then _ _ _ _ _ _ c.loop.invariant.6 read.given) unread in
+          let left = taken_kept _ c.next_line.new.self _ _ _ taken unread in
+          let uncounted = counts_same _ _ w.serve_run-left.result.1 _ w.in-Ok-written.is run.count in
+          rw (w.debugger-is, w.device-is) (
+            tt,
+            tt,
+            rw (run.earlier, serve.earlier) (going_on _ _ _ _ _ _ _ _ _ _ _ so_far left (λ bytes says.
+                let asked = has_asked _ _ bytes _ _ c.serve.result _ w.in-Asks.root w.in-Asks.limit c.in-Ok.is w.in-Asks.is (serve.served bytes says) in
+                let s = has_run _ _ _ bytes _ _ _ w.in-Asks.root w.in-Asks.limit w.serve_run-left.result.1 _ asked run.told w.in-Ok-written.is in
+                (s.0, s.1, kept_then _ _ _ _ read.written s.2))),
+            rw uncounted (search rules),
+            run.opening ∙ serve.opening ∙ c.loop.invariant.4,
+            fired_on _ _ _ _ _ _ _ c.loop.invariant.5 left (λ bytes says.
+                let asked = has_asked _ _ bytes _ _ c.serve.result _ w.in-Asks.root w.in-Asks.limit c.in-Ok.is w.in-Asks.is (serve.served bytes says) in
+                run_fires _ (command_of bytes) w.in-Asks.root w.in-Asks.limit asked.3 _ _),
+            rw (run.earlier, run.latest, serve.earlier, serve.latest) given,
+          )
+    ]
 
 pub returns-in-Err-clause-fires : goal.returns-in-Err-clause-fires
 returns-in-Err-clause-fires g c = rw (sym c.settle.ensures.firings) (fired_end _ _ _ _ c.loop.invariant.5)
@@ -64,12 +104,19 @@ returns-in-Err-clause-fires g c = rw (sym c.settle.ensures.firings) (fired_end _
 pub returns-in-Ok-None-clause-fires : goal.returns-in-Ok-None-clause-fires
 returns-in-Ok-None-clause-fires g c = rw (sym c.settle.ensures.firings) (fired_end _ _ _ _ c.loop.invariant.5)
 
-pub returns-in-Err-ended-clause-fires : goal.returns-in-Err-ended-clause-fires
-returns-in-Err-ended-clause-fires g c =
+pub returns-in-Err-serve-clause-fires : goal.returns-in-Err-serve-clause-fires
+returns-in-Err-serve-clause-fires g c =
     let taken = rw c.in-Ok-Some.field-0-is at c.in-Ok-Some.ensures.line in
-    rw (sym c.settle.ensures.firings) (fired_end _ _ _ _ (fired_on _ _ _ _ _ _ _ c.loop.invariant.5 taken c.serve-left.ensures.fires))
+    rw (sym c.settle.ensures.firings) (fired_end _ _ _ _ (fired_on _ _ _ _ _ _ _ c.loop.invariant.5 taken c.serve.ensures.fires))
 
-pub returns-in-Ok-true-clause-fires : goal.returns-in-Ok-true-clause-fires
-returns-in-Ok-true-clause-fires g c =
+pub returns-in-Ends-clause-fires : goal.returns-in-Ends-clause-fires
+returns-in-Ends-clause-fires g c =
     let taken = rw c.in-Ok-Some.field-0-is at c.in-Ok-Some.ensures.line in
-    rw (sym c.settle.ensures.firings) (fired_end _ _ _ _ (fired_on _ _ _ _ _ _ _ c.loop.invariant.5 taken c.serve-left.ensures.fires))
+    rw (sym c.settle.ensures.firings) (fired_end _ _ _ _ (fired_on _ _ _ _ _ _ _ c.loop.invariant.5 taken c.serve.ensures.fires))
+
+pub returns-in-Err-written-clause-fires : goal.returns-in-Err-written-clause-fires
+returns-in-Err-written-clause-fires g c =
+    let taken = rw c.in-Ok-Some.field-0-is at c.in-Ok-Some.ensures.line in
+    rw (sym c.settle.ensures.firings) (fired_end _ _ _ _ (fired_on _ _ _ _ _ _ _ c.loop.invariant.5 taken (λ bytes says.
+    let asked = has_asked _ _ bytes _ _ c.serve.result _ c.in-Asks.root c.in-Asks.limit c.in-Ok.is c.in-Asks.is (c.serve.ensures.served bytes says) in
+    run_fires _ (command_of bytes) c.in-Asks.root c.in-Asks.limit asked.3 _ _)))
