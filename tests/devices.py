@@ -57,12 +57,12 @@ SHELLS = [
     Shell(
         # With 131,072 steps the tables are full, and to double one takes more than the limit leaves: so the next line has memory.
         "memory runs out",
-        "ulimit -v 70000; printf 'leap\\nshow X\\n' | $ghcdb loop.ghc --query 'loop(X)' | grep -v -e '^REDU' -e '^F1 no memory$'",
+        "ulimit -v 66000; printf 'leap\\nshow X\\n' | $ghcdb loop.ghc --query 'loop(X)' | grep -v -e '^REDU' -e '^F1 no memory$'",
         "stopped memory\nX = _0_1\n",
     ),
     Shell(
         "memory runs out for several workers",
-        "ulimit -v 70000; printf 'leap\nshow X\n' | $ghcdb loop.ghc --query 'loop(X), loop(Y)' --workers 4 | grep -v -e '^REDU' -e '^F1 no memory$'",
+        "ulimit -v 66000; printf 'leap\nshow X\n' | $ghcdb loop.ghc --query 'loop(X), loop(Y)' --workers 4 | grep -v -e '^REDU' -e '^F1 no memory$'",
         "stopped memory\nX = _0_1\n",
     ),
     Shell(

@@ -94,9 +94,6 @@ pub nodes_list : (a : Vec SourceTerm Global) (b : Box SourceTerm Global) → nod
 nodes_list a b =
     ap nodes (view_list a b) ∙ nodes_cells (views a.items) (view b.value) ∙ ap (λ n. n + (nodes_of (views a.items) + nodes (view b.value))) (count_views a.items ∙ sym a.ok.0)
 
-pub nodes_structure : (f : List ℕ) (a : Vec SourceTerm Global) → nodes (view (w.Structure f a)) ≡ nodes_of (views a.items) + 1
-nodes_structure f a = ap nodes (view_structure f a)
-
 -- ---- variables
 
 names_all : (us : List Tree) → names_of (trees_of us) ≡ flat_map names us
@@ -113,9 +110,6 @@ names_cells (some u us) end = ap (λ l. names u ++ l) (names_cells us end) ∙ s
 
 pub names_list : (a : Vec SourceTerm Global) (b : Box SourceTerm Global) → names (view (w.List a b)) ≡ names_of (views a.items) ++ names (view b.value)
 names_list a b = ap names (view_list a b) ∙ names_cells (views a.items) (view b.value)
-
-pub names_structure : (f : List ℕ) (a : Vec SourceTerm Global) → names (view (w.Structure f a)) ≡ names_of (views a.items)
-names_structure f a = ap names (view_structure f a)
 
 names_products : (left : Value) (xs : List (Product × Value)) → names_in (products left xs) ≡ names_in left ++ flat_map (λ x. names_in x.1) xs
 names_products left [] = sym (append-nil (names_in left))

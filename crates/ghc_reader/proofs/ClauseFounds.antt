@@ -7,9 +7,9 @@ use Rattle.ghc_reader.specs.declared.token.Token.TheVariants as token
 use Rattle.ghc_reader.specs.Front.{first, Begins}
 use Rattle.ghc_reader.specs.Grammar.{plain_test, compare, Tests, last_test, next_test, Body, last, next, Right, unguarded, guarded, Clause, fact, rule, Program, arguments, rest, tests, body, right, clause, program}
 use Rattle.ghc_reader.specs.Parts.{EndsTests, EndsRight, EndsClause, EndsProgram, FoundAt, Fault}
-use Rattle.ghc_reader.specs.Derived.{call_of, item_of, tests_of, goals_of, right_of, clause_of, clauses_of}
+use Rattle.ghc_reader.specs.Derived.{call_of, item_of, tests_of, goals_of, right_of, clause_of}
 use Rattle.ghc_reader.specs.Source as tree
-use Rattle.ghc_reader.specs.Source.{Tree, Trees, Goal, Value, cells}
+use Rattle.ghc_reader.specs.Source.{Tree, Trees, Goal, Value}
 use Rattle.ghc_reader.proofs.OneGoal.{as_tests, tests_body}
 use Rattle.ghc_reader.proofs.GoalLoops.{TestsSoFar, ends_at_last_test, ClausesSoFar}
 use Rattle.ghc_reader.proofs.TermFounds.{ArgumentsFound}
@@ -141,9 +141,6 @@ in_right_side ts behind rest inside f a left e x h y =
 pub in_clause : (ts behind : List Token) (a : List tree.Clause) (left : ℕ) → ClausesSoFar ts a behind → behind ≢ [] → ClauseFault behind left → Fault Program program EndsProgram ts left
 in_clause ts behind a left x n f =
     subst (λ l. Fault Program program EndsProgram l left) (sym x.spelled) (faults.clause_in_program x.so_far behind left (not_none behind n) f)
-
-pub found_program : (ts behind : List Token) (a : List tree.Clause) → ClausesSoFar ts a behind → behind ≡ [] → (p : Program) × (ts ≡ program p []) × (clauses_of p [] ≡ a)
-found_program ts behind a x e = (x.so_far, x.spelled ∙ ap (program x.so_far) e, ap (clauses_of x.so_far) (sym e) ∙ x.sees)
 
 -- a comparison is no goal
 pub no_goals : (xs ys : List tree.Test) (a b : Value) (o : Comparison) (gs : List Goal) → (xs ++ tree.compare a o b ∷ []) ++ ys ≢ tree.plains gs

@@ -1,32 +1,21 @@
 -- What the loop over the pieces of a text keeps.
 use Rattle.std.proofs.Common.{◌≡◌, ◌≢◌, ◌⊎◌, ℕ, ◌+◌, ◌^◌, ◌<◌, ◌≤◌, Bool, true, List, [], ◌∷◌, ◌++◌, length, Option, Some, None, refl, sym, ap, subst, ◌∙◌, inl, inr, arith, append_assoc, length-append, Result, Ok, Err, IfErr}
 use Rattle.std.proofs.lemmas.List.{append-nil}
-use Rattle.std.proofs.lemmas.List.Elements.{All-nil, All-push, filter_map-append}
+use Rattle.std.proofs.lemmas.List.Elements.{All-push, filter_map-append}
 use Rattle.std.specs.List.{filter_map}
 use Rattle.std.specs.Option.{option_to_list}
 use Rattle.ghc_reader.specs.Pieces.{Piece, HasForm, HasNoPiece, Stands, IsFront, spelled, Cuts, signs_behind, signs_after}
 use Rattle.ghc_reader.specs.Places.{start, place_behind, fault_at}
-use Rattle.ghc_reader.specs.Lexed.{piece_of, token_of, IsRefused, IsCutInto, place_of_token, token_places, IsLexed, IsBadAt, IsLexFault, most_bytes, IsCutFault, greatest_number}
+use Rattle.ghc_reader.specs.Lexed.{piece_of, token_of, IsRefused, IsCutInto, place_of_token, token_places, IsBadAt, IsLexFault, most_bytes, IsCutFault, greatest_number}
 use Rattle.ghc_term.specs.declared.fault.Fault.{Fault}
 use Rattle.ghc_term.specs.declared.fault.Fault.TheVariants as fault
 use Rattle.ghc_reader.specs.declared.token.Token.{Token}
 use Rattle.ghc_reader.specs.declared.place.Place.{Place}
 use Rattle.ghc_reader.specs.declared.lexer.front.Front.{Front}
-use Rattle.ghc_reader.specs.declared.lexer.front.Kind.{Kind}
 use Rattle.ghc_reader.specs.declared.lexer.front.Kind.TheVariants as kind
 use Rattle.ghc_reader.specs.declared.lexer.value.Reserved.{Reserved}
 use Rattle.ghc_reader.proofs.OnePiece.{one_piece}
 use Rattle.ghc_reader.proofs.PlaceLemmas.{behind_within, place_behind-append}
-
--- a form where no minus is a sign is one where it may be
-pub form_with_signs : (signs : Bool) (k : Kind) (bs : List ℕ) → HasForm signs k bs → HasForm true k bs
-form_with_signs signs kind.Blank bs form = form
-form_with_signs signs kind.Comment bs form = form
-form_with_signs signs kind.Name bs form = form
-form_with_signs signs kind.Variable bs form = form
-form_with_signs signs kind.Integer bs (inl run) = inl run
-form_with_signs signs kind.Integer bs (inr negative) = inr (refl, negative.1)
-form_with_signs signs (kind.Symbol s) bs form = form
 
 -- ---- one piece more at the end
 
@@ -79,16 +68,6 @@ pub record LexedSoFar (reserved : Reserved) (text : List ℕ) (tokens : List Tok
   pub place_is : place ≡ place_behind start (spelled pieces [])
   pub signs_are : signs ≡ signs_after true pieces
 
-pub none_lexed : (reserved : Reserved) (text : List ℕ) (tokens : List Token) (places : List Place) → tokens ≡ [] → places ≡ [] → LexedSoFar reserved text tokens places start true text
-none_lexed reserved text tokens places no_tokens no_places = record {
-  pieces = [];
-  cut = record { whole = refl; each_stands = tt; none_refused = All-nil (λ p. ¬ (IsRefused reserved p)) };
-  tokens_are = no_tokens;
-  places_are = no_places;
-  place_is = refl;
-  signs_are = refl;
-}
-
 module _ (reserved : Reserved) (text : List ℕ) (tokens : List Token) (places : List Place) (place : Place) (signs : Bool) (rest : List ℕ) (so_far : LexedSoFar reserved text tokens places place signs rest) where
   pub more_lexed : (front : Front) (tokens' : List Token) (places' : List Place) → IsFront signs rest front → ¬ (IsRefused reserved (piece_of front)) → tokens' ≡ tokens ++ option_to_list (token_of (piece_of front)) → places' ≡ places ++ place_of_token (token_of (piece_of front)) place [] → LexedSoFar reserved text tokens' places' (place_behind place front.bytes.now) (signs_behind signs front.kind) front.rest.now
   more_lexed front tokens' places' is_front fine tokens_more places_more =
@@ -106,17 +85,6 @@ module _ (reserved : Reserved) (text : List ℕ) (tokens : List Token) (places :
         places_are = places_more ∙ (λ i. so_far.places_are i ++ place_of_token (token_of p) (so_far.place_is i) []) ∙ sym (token_places-push start ps p);
         place_is = ap (λ x. place_behind x front.bytes.now) so_far.place_is ∙ sym (place_behind-append start (spelled ps []) front.bytes.now) ∙ ap (place_behind start) (sym (spelled-front ps front.bytes.now) ∙ ap (spelled ps) (sym (append-nil front.bytes.now)) ∙ sym (spelled-push ps p []));
         signs_are = ap (λ s. signs_behind s front.kind) so_far.signs_are ∙ sym (signs_after-push true ps p);
-      }
-
-  -- at the end of the text
-  pub all_lexed : (places' : List Place) → rest ≡ [] → places' ≡ places ++ place ∷ [] → IsLexed reserved text tokens places'
-  all_lexed places' ended places_more =
-      let cut = subst (IsCutInto reserved text so_far.pieces) ended so_far.cut in
-      record {
-        pieces = so_far.pieces;
-        cut = cut;
-        tokens_are = so_far.tokens_are;
-        places_are = places_more ∙ (λ i. so_far.places_are i ++ so_far.place_is i ∷ []) ∙ ap (λ x. token_places start so_far.pieces ++ place_behind start x ∷ []) (sym cut.whole);
       }
 
   -- no piece is at the front

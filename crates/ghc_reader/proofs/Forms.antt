@@ -6,7 +6,7 @@ use Rattle.std.specs.List.{list_all}
 use Rattle.ghc_reader.specs.Bytes.{is_blank, is_word, begins_variable, Begins, BeginsNegative, Lacks, IsRun}
 use Rattle.std.proofs.Math.Seq.{take-append_seam, drop-append_seam}
 use Rattle.ghc_reader.specs.Symbols.{spelling, IsLongest}
-use Rattle.ghc_reader.specs.Pieces.{Piece, IsNegative, HasForm, Stands, HasNoPiece}
+use Rattle.ghc_reader.specs.Pieces.{Piece, IsNegative, HasForm, Stands}
 use Rattle.ghc_reader.specs.declared.token.Mark.TheVariants.{Open}
 use Rattle.ghc_term.specs.declared.comparison.Comparison.TheVariants.{Less}
 use Rattle.ghc_reader.specs.declared.token.Sum.TheVariants.{Plus}
@@ -267,11 +267,6 @@ only_symbols signs text begins q more split form = by_bytes q.kind q.bytes split
           | inl found ↦ found
           | inr sign ↦ absurd (begins.no_sign (sign.0, subst BeginsNegative (sym split) (negative_begins (b ∷ v) more sign.1)))
         ]
-
-pub no_symbol_stands : (signs : Bool) (text : List ℕ) → BeginsNoRun signs text → ((s : Symbol) (more : List ℕ) → text ≢ spelling s ++ more) → HasNoPiece signs text
-no_symbol_stands signs text begins none p rest split form =
-    let found = only_symbols signs text begins p rest split form in
-    none found.0 rest (split ∙ ap (λ l. l ++ rest) found.1)
 
 pub symbol_stands : (signs : Bool) (text bytes rest : List ℕ) (s : Symbol) → BeginsNoRun signs text → text ≡ bytes ++ rest → bytes ≡ spelling s → IsLongest s rest → Stands signs (record { kind = kind.Symbol s; bytes = bytes }) rest
 symbol_stands signs text bytes rest s begins split spelled longest = record {

@@ -12,7 +12,7 @@ use Rattle.ghc_reader.specs.declared.source.SourceGoal.{SourceGoal}
 use Rattle.ghc_reader.specs.declared.source.SourceTest.{SourceTest}
 use Rattle.ghc_reader.specs.declared.source.SourceClause.{SourceClause}
 use Rattle.ghc_reader.specs.Source as tree
-use Rattle.ghc_reader.specs.Source.{Tree, Trees, none, some, Goal, cell, cells, Value, products, sums}
+use Rattle.ghc_reader.specs.Source.{Goal}
 use Rattle.ghc_reader.specs.Views.{goal_view, goal_views, test_view, test_views, clause_view, clause_views}
 use Rattle.ghc_reader.proofs.GoalFaults.{and_then, body_and_then}
 use Rattle.ghc_reader.proofs.TestFaults.{and_also, tests_and_also}
@@ -123,9 +123,6 @@ clauses_and done d ts = refl
 clauses_and (clauses c p) d ts =
     ap (λ l. clause_of c l ∷ clauses_of (and_clause p d) ts) (program_and p d ts)
     ∙ ap (λ l. clause_of c (program p (clause d ts)) ∷ l) (clauses_and p d ts)
-
-pub clauses_none : (ts : List Token) (a : List SourceClause) → a ≡ [] → ClausesSoFar ts (clause_views a) ts
-clauses_none ts a e = record { so_far = done; spelled = refl; sees = sym (ap clause_views e) }
 
 pub clauses_more : (ts middle behind : List Token) (a b : List SourceClause) (u : SourceClause) → ClausesSoFar ts (clause_views a) middle → b ≡ a ++ u ∷ [] → FoundAt Clause tree.Clause clause clause_of EndsClause middle (clause_view u) behind → ClausesSoFar ts (clause_views b) behind
 clauses_more ts middle behind a b u x f y = record {

@@ -145,22 +145,3 @@ closed_more ts rest after t c e n = record {
   split = c.split ∙ ap (λ l. c.front ++ l) e ∙ sym (append_assoc c.front (t ∷ []) after);
   closed = no_variable_push c.front t c.closed n;
 }
-
-pub closed_until : (ts rest after : List Token) (v : List ℕ) (n : ℕ) → ClosedSoFar ts rest → rest ≡ token.Variable v ∷ after → n ≡ length ts - length rest → ClosedFront ts (take n ts)
-closed_until ts rest after v n c e m =
-    let count : n ≡ length c.front = omega (arith, m, ap length c.split, length-append c.front rest) in
-    let front : take n ts ≡ c.front = ap (λ k. take k ts) count ∙ ap (take (length c.front)) c.split ∙ take-append_seam c.front rest in
-    record {
-      rest = rest;
-      split = c.split ∙ ap (λ l. l ++ rest) (sym front);
-      closed = subst NoVariable (sym front) c.closed;
-      stops = subst StartsWithVariable (sym e) tt;
-    }
-
-pub closed_whole : (ts rest : List Token) → ClosedSoFar ts rest → rest ≡ [] → ClosedFront ts ts
-closed_whole ts rest c e = record {
-  rest = [];
-  split = sym (append-nil ts);
-  closed = subst NoVariable (sym (c.split ∙ ap (λ l. c.front ++ l) e ∙ append-nil c.front)) c.closed;
-  stops = tt;
-}

@@ -10,7 +10,7 @@ use Rattle.ghc_reader.specs.Derived.{call_of, item_of, goals_of, right_of, claus
 use Rattle.ghc_reader.specs.Reserved.{is_stream, is_reserved, starts_with_variable, place_if, misplaced_goal, misplaced_query_goal, misplaced_body, misplaced_query, misplaced_clause, misplaced_program, first_place}
 use Rattle.std.specs.Prelude.{◌&&◌, not}
 use Rattle.std.specs.List.{flat_map}
-use Rattle.ghc_reader.proofs.Append.{arguments_append, item_append, tests_append, body_append, clause_append}
+use Rattle.ghc_reader.proofs.Append.{arguments_append, item_append, tests_append, clause_append}
 
 -- the first of the places is at most m
 abbrev pub StartsWithin : ℕ → List ℕ → Type 0
@@ -35,9 +35,6 @@ placed m false c less n e = cc
 
 item_longer : (i : Item) (ts : List Token) → length ts ≤ length (item i ts)
 item_longer i ts = omega (arith, ap length (item_append i [] ts), length-append (item i []) ts)
-
-body_longer : (b : Body) (ts : List Token) → length ts ≤ length (body b ts)
-body_longer b ts = omega (arith, ap length (body_append b [] ts), length-append (body b []) ts)
 
 arguments_longer : (a : Arguments) (ts : List Token) → length ts ≤ length (arguments a ts)
 arguments_longer a ts = omega (arith, ap length (arguments_append a [] ts), length-append (arguments a []) ts)

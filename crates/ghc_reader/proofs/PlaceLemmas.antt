@@ -73,9 +73,6 @@ feed_or_line signs kind.Integer (b ∷ d ∷ ds) (inr negative) =
     inr (grind (arith, nat_tests, h, i, r))
 feed_or_line signs (kind.Symbol s) (b ∷ bs) form = inr (subst (λ l. list_all no_feed l ≡ true) (sym form) (symbol_in_line s))
 
-pub behind_feed : (place : Place) (bs : List ℕ) → bs ≡ 10 ∷ [] → place_behind place bs ≡ record { line = place.line + 1; column = 1 }
-behind_feed place bs e = ap (place_behind place) e
-
 -- behind a piece that is no line feed
 pub behind_other : (place : Place) (signs : Bool) (k : Kind) (bs : List ℕ) → HasForm signs k bs → ¬ (bs ≡ 10 ∷ []) → place_behind place bs ≡ record { line = place.line; column = place.column + length bs }
 behind_other place signs k bs form other =

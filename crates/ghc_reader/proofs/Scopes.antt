@@ -1,5 +1,5 @@
 -- How the names that are known grow where variables are met.
-use Rattle.std.proofs.Common.{◌≡◌, ℕ, List, [], ◌∷◌, ◌++◌, refl, sym, ap, ◌∙◌, subst, inl, inr, append_assoc, slice_get, Some}
+use Rattle.std.proofs.Common.{◌≡◌, ℕ, List, [], ◌∷◌, ◌++◌, sym, ap, ◌∙◌, subst, inl, inr, append_assoc, slice_get, Some}
 use Rattle.std.proofs.lemmas.List.{append-nil}
 use Rattle.ghc_term.specs.declared.var_name.VarName.{VarName}
 use Rattle.ghc_reader.specs.Lowered.{Names, IsCalled}
@@ -23,9 +23,6 @@ grows_met a b x (inr next) = (next.0 ∷ [], next.3)
 pub grows : (xs : List VarName) (a b : Names) → MeetsAll a xs b → Grows a b
 grows [] a b m = grows_not a b m
 grows (x ∷ xs) a b m = grows_twice a m.0 b (grows_met a m.0 x m.1) (grows xs m.0 b m.2)
-
-pub met_one : (a b : Names) (x : VarName) → Meets a x b → MeetsAll a (x ∷ []) b
-met_one a b x m = (b, m, refl)
 
 pub met_also : (xs ys : List VarName) (a b c : Names) → MeetsAll a xs b → MeetsAll b ys c → MeetsAll a (xs ++ ys) c
 met_also [] ys a b c m n = subst (λ names. MeetsAll names ys c) m n

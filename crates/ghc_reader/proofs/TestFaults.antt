@@ -49,11 +49,6 @@ likes_append : (front a b : List Token) → front ≢ [] → first a ≡ first b
 likes_append front a b n e =
     ap (λ o. like o (second (front ++ a))) (first_append front a b e) ∙ ap (λ o. like (first (front ++ b)) o) (second_append front a b n e)
 
--- what the first token alone decides
-likes_first : (a b : List Token) → item_like a ≡ true → first a ≡ first b → (t : Token) × (first b ≡ Some t) × (like (Some t) (second a) ≡ true)
-likes_first [] b e same = cc
-likes_first (t ∷ ts) b e same = (t, sym same, e)
-
 -- a fault in an item stands behind the first token, where a comparison can begin with that token
 abbrev BeginsBoth : Option Token → Type 0
 BeginsBoth None = ⊥

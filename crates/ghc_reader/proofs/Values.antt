@@ -164,11 +164,6 @@ no_number_fits text ds e same run parses =
       | inr low ↦ absurd (failed (nonempty ds run, omega (arith, low)))
     ]
 
--- a list is empty where its length is 0
-pub empty_from_test : (bs : List ℕ) (b : Bool) → b ≡ (length bs == 0) → b ≡ true → bs ≡ []
-empty_from_test [] b is true_here = refl
-empty_from_test (x ∷ bs) b is true_here = absurd (grind (arith, nat_tests))
-
 pub test_from_empty : (bs : List ℕ) (b : Bool) → b ≡ (length bs == 0) → bs ≡ [] → b ≡ true
 test_from_empty bs b is none = is ∙ ap (λ l. length l == 0) none
 

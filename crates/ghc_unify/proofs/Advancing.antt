@@ -47,6 +47,3 @@ module _ (S T : VarName → Option Tree) (first items rest : List (Tree × Tree)
   pub gets_lighter : (s : StoreValue) (new : List (Tree × Tree)) (grown : set.FinSet name_cmp) → value_at s ≡ T → IsAcyclic T → Steps S T l r rest new reads grown None → weights s (reverse new) < weights s (reverse items)
   gets_lighter s new grown is h m =
       subst (λ z. weights s (reverse new) < weights s z) (sym (ap reverse e ∙ reverse_push rest (l, r))) (lighter S T s ((l, r) ∷ reverse rest) (reverse new) m.0 is h m.1)
-
-pub all_done : (S T : VarName → Option Tree) (first items : List (Tree × Tree)) (init reads : set.FinSet name_cmp) → Quiet S T first items init reads → items ≡ [] → (left_over : List (Tree × Tree)) → Advances S T first left_over init reads None
-all_done S T first items init reads q e left_over = (q.0, subst (λ z. Moves S T (reverse first) T z [] q.0) (ap reverse e) q.1, q.2)
