@@ -1,5 +1,5 @@
 -- Numbers under the names of goals, of which those of the first two goals of steps stand in a list, two places for each step.
-use Rattle.std.proofs.Common.{◌≡◌, ◌≢◌, ◌<◌, ◌≤◌, ◌+◌, ◌*◌, ℕ, zero, suc, cond, Bool, true, false, List, [], ◌∷◌, ◌++◌, ◌⊎◌, inl, inr, length, refl, sym, ap, ◌∙◌, subst, nat_eq, take, replicate, arith}
+use Rattle.std.proofs.Common.{◌≡◌, ◌≢◌, ◌<◌, ◌≤◌, ◌+◌, ◌*◌, ℕ, zero, suc, cond, Bool, true, false, List, [], ◌∷◌, ◌++◌, ◌⊎◌, inl, inr, length, refl, sym, ap, ◌∙◌, subst, nat_eq, replicate, arith}
 use Rattle.std.specs.Prelude.{Option, Some, None, slice_set, IsTrue, is_some}
 use Rattle.std.specs.Option.{option_or}
 use Rattle.std.specs.Ordering.{eq_by_cmp}
@@ -9,6 +9,7 @@ use Rattle.std.proofs.lemmas.List.{get_or-set_same, get_or-set_other}
 use Rattle.ghc_term.specs.declared.goal_name.GoalName.{GoalName}
 use Rattle.ghc_term.specs.GoalMap.{goal_cmp}
 use Rattle.ghc_term.specs.GoalPlaces.{IsNear, near_name, number_in, number_at, near_numbers, numbers_in, numbers_of, HasSameNumbers, HasNoNear}
+use Rattle.ghc_term.specs.Table.{Table}
 use Rattle.ghc_term.proofs.GoalNames.{goal_total, goal_antisymmetric, same_parts, same_goal, itself, apart}
 
 -- the places of the list, and the goals that they are for
@@ -177,12 +178,6 @@ module _ (es fs : List (GoalName × ℕ)) (x : GoalName) where
   put_unlisted ns v none h = finite.same_map goal_total goal_antisymmetric _ _ (λ q.
       changed ns ns es fs x (Some v) (λ r n. refl) (still_put v h) (ap (λ o. option_or o (finite.get (numbers_in fs) x)) none ∙ there v h) q ∙ sym (finite.get-insert goal_total (numbers_of ns es) x v q))
 
-  pub put_far : (ns : List ℕ) (v : ℕ) → ¬ IsNear x → numbers_in fs ≡ finite.insert (numbers_in es) x v → numbers_of ns fs ≡ finite.insert (numbers_of ns es) x v
-  put_far ns v h = put_unlisted ns v (own_other 0 ns x h)
-
-  pub put_past : (ns : List ℕ) (v s : ℕ) → near_name s ≡ x → length ns ≤ s → numbers_in fs ≡ finite.insert (numbers_in es) x v → numbers_of ns fs ≡ finite.insert (numbers_of ns es) x v
-  put_past ns v s h past = put_unlisted ns v (own_near ns s x h ∙ past_none ns s past)
-
   -- an entry that is gone, where the list has no number, or has none any more
   removed : (ns ms : List ℕ) → own 0 ms x ≡ None → ((q : GoalName) → q ≢ x → own 0 ms q ≡ own 0 ns q) → numbers_in fs ≡ finite.remove (numbers_in es) x → numbers_of ms fs ≡ finite.remove (numbers_of ns es) x
   removed ns ms none listed h = finite.same_map goal_total goal_antisymmetric _ _ (λ q.
@@ -208,12 +203,23 @@ removed_listed ns es s x h none = finite.same_map goal_total goal_antisymmetric 
     (ap (λ o. option_or o (finite.get (numbers_in es) x)) (own_near (slice_set ns s 0) s x h ∙ cleared ns s) ∙ none) q
     ∙ sym (finite.get-remove goal_total (numbers_of ns es) x q))
 
--- a place of the list that is written
-pub put_near : (ns : List ℕ) (es : List (GoalName × ℕ)) (s : ℕ) (x : GoalName) (v : ℕ) → near_name s ≡ x → s < length ns → numbers_of (slice_set ns s (v + 1)) es ≡ finite.insert (numbers_of ns es) x v
-put_near ns es s x v h within = finite.same_map goal_total goal_antisymmetric _ _ (λ q.
-    changed ns (slice_set ns s (v + 1)) es es x (Some v) (λ r n. own_kept ns s (v + 1) r (λ e. n (e ∙ h))) (λ r n. refl)
-    (ap (λ o. option_or o (finite.get (numbers_in es) x)) (own_near (slice_set ns s (v + 1)) s x h ∙ written ns s v within)) q
-    ∙ sym (finite.get-insert goal_total (numbers_of ns es) x v q))
+-- a number that is put among those of the list and of the entries: in an entry, or at a place of the list
+module _ (ns : List ℕ) (es : List (GoalName × ℕ)) {room : ℕ} {whole : Table (finite.FinMap goal_cmp ℕ)} (view_is : record { held = numbers_of ns es; room = room } ≡ whole) (x : GoalName) (v : ℕ) where
+  put_in : (m : finite.FinMap goal_cmp ℕ) → m ≡ finite.insert (numbers_of ns es) x v → m ≡ finite.insert whole.held x v
+  put_in m e = e ∙ ap (λ t. finite.insert t.held x v) view_is
+
+  pub put_far : (fs : List (GoalName × ℕ)) → ¬ IsNear x → numbers_in fs ≡ finite.insert (numbers_in es) x v → numbers_of ns fs ≡ finite.insert whole.held x v
+  put_far fs h e = put_in (numbers_of ns fs) (put_unlisted es fs x ns v (own_other 0 ns x h) e)
+
+  module _ (s : ℕ) (h : near_name s ≡ x) where
+    pub put_past : (fs : List (GoalName × ℕ)) → length ns ≤ s → numbers_in fs ≡ finite.insert (numbers_in es) x v → numbers_of ns fs ≡ finite.insert whole.held x v
+    put_past fs past e = put_in (numbers_of ns fs) (put_unlisted es fs x ns v (own_near ns s x h ∙ past_none ns s past) e)
+
+    pub put_near : (ms : List ℕ) → s < length ns → ms ≡ slice_set ns s (v + 1) → numbers_of ms es ≡ finite.insert whole.held x v
+    put_near ms within e = put_in (numbers_of ms es) (ap (λ l. numbers_of l es) e ∙ finite.same_map goal_total goal_antisymmetric _ _ (λ q.
+        changed ns (slice_set ns s (v + 1)) es es x (Some v) (λ r n. own_kept ns s (v + 1) r (λ e. n (e ∙ h))) (λ r n. refl)
+        (ap (λ o. option_or o (finite.get (numbers_in es) x)) (own_near (slice_set ns s (v + 1)) s x h ∙ written ns s v within)) q
+        ∙ sym (finite.get-insert goal_total (numbers_of ns es) x v q)))
 
 -- a name that has a number, and none in the list, has an entry
 pub there_far : (ns : List ℕ) (es : List (GoalName × ℕ)) (x : GoalName) → ¬ IsNear x → IsTrue (finite.contains_key (numbers_of ns es) x) → IsTrue (finite.contains_key (numbers_in es) x)
