@@ -1,5 +1,5 @@
 // Goals that a step makes, in one shared piece, and handles of single ones.
-ghost use Rattle.std.specs.Prelude.{◌≡◌, ◌<◌, [], ◌∷◌, length, get_or, IfOk};
+ghost use Rattle.std.specs.Prelude.{◌≡◌, ◌<◌, [], ◌∷◌, length, IfOk};
 ghost use Rattle.ghc_fire.specs.Made.{goal_at};
 
 use ghc_term::Goal;
