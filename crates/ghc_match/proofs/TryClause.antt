@@ -1,8 +1,9 @@
 -- From what the head and the guard show to the outcome.
-use Rattle.std.proofs.Common.{◌≡◌, ◌<◌, true, false, List, inl, inr}
-use Rattle.std.specs.Prelude.{◌↔◌, Option, Some}
+use Rattle.std.proofs.Common.{◌≡◌, ◌<◌, Bool, true, false, List, inl, inr, sym, subst, ◌∙◌}
+use Rattle.std.specs.Prelude.{◌↔◌, Option, Some, IsTrue}
 use Rattle.std.specs.FinSet as set
 use Rattle.ghc_term.specs.declared.var_name.VarName.{VarName}
+use Rattle.ghc_term.specs.Lists.{In}
 use Rattle.ghc_term.specs.Tree.{Tree, variable}
 use Rattle.ghc_term.specs.Sets.{Variables, IsSetOf}
 use Rattle.ghc_term.specs.Store.{StoreValue, value_at}
@@ -27,7 +28,7 @@ holds_there E F f (is_list y) h = (h.0, f y h.0 h.1, h.2)
 holds_there E F f (compare o a b) h = (h.0, h.1, number_there h.2 (λ y e i. f y e), number_there h.3 (λ y e i. f y e), h.4)
 
 -- what is added to an empty set
-pub gained_alone : (old new : Variables) (P : VarName → Type 0) → set.len old ≡ 0 → Gains old new P → IsSetOf new P
+gained_alone : (old new : Variables) (P : VarName → Type 0) → set.len old ≡ 0 → Gains old new P → IsSetOf new P
 gained_alone old new P none g x = (λ i. elim ((g x).0 i) [ inl j ↦ absurd (no_member old none x j) | inr p ↦ p ], λ p. (g x).1 (inr p))
 
 module _ (c : Clause) (ts : List Tree) (S : VarName → Option Tree) (stands : StoreValue) (stand : (y : VarName) (t : Tree) → (value_at stands y ≡ Some t) ↔ StandsFor c ts S y t) where
@@ -44,19 +45,22 @@ module _ (c : Clause) (ts : List Tree) (S : VarName → Option Tree) (stands : S
   wants_back ys x w = (w.0, w.1, back w.0 (variable x) w.2)
 
   -- what is looked at, by the head and then by the guard
-  pub all_looked_at : (old new : Variables) → IsSetOf old (HeadLooksAt c ts S) → Gains old new (GuardLooksAt stands S c.tests) → IsSetOf new (LooksAt c ts S)
-  all_looked_at old new h g x = (
+  pub all_looked_at : (old new : Variables) → IsSetOf old (HeadLooksAt c ts S) → {gs : List Test} → gs ≡ c.tests → Gains old new (GuardLooksAt stands S gs) → IsSetOf new (LooksAt c ts S)
+  all_looked_at old new h e g x = (
     λ i. elim ((g x).0 i) [
       | inl j ↦ inl ((h x).0 j)
-      | inr w ↦ let p = w.2.2 in inr (w.0, w.2.0, p.0, w.1, w.2.1, (stand w.2.0 p.0).0 p.1, p.2)
+      | inr w ↦ let p = w.2.2 in inr (w.0, w.2.0, p.0, subst (In w.0) e w.1, w.2.1, (stand w.2.0 p.0).0 p.1, p.2)
     ],
     λ l. (g x).1 (elim l [
       | inl k ↦ inl ((h x).1 k)
-      | inr w ↦ inr (w.0, w.3, (w.1, w.4, (w.2, (stand w.1 w.2).1 w.5, w.6)))
+      | inr w ↦ inr (w.0, subst (In w.0) (sym e) w.3, (w.1, w.4, (w.2, (stand w.1 w.2).1 w.5, w.6)))
     ]),
   )
 
-  module _ (wanted : Variables) (no_clash : ¬ Mismatch c ts S) (head : IsSetOf wanted (HeadWants c ts S)) where
+  module _ {clashes : Bool} (means : IsTrue clashes ↔ Mismatch c ts S) (apart : clashes ≡ false) (wanted : Variables) (head : IsSetOf wanted (HeadWants c ts S)) where
+    no_clash : ¬ Mismatch c ts S
+    no_clash m = let clash : false ≡ true = sym apart ∙ means.1 m in cc
+
     -- the head waits
     pub head_waits : 0 < set.len wanted → HasOutcome c ts S (waits wanted)
     head_waits h =
@@ -73,45 +77,54 @@ module _ (c : Clause) (ts : List Tree) (S : VarName → Option Tree) (stands : S
       fits : HeadFits c ts S
       fits = (no_clash, λ x w. no_member wanted none x ((head x).1 w))
 
-      -- a test says no
-      pub guard_refuses : OneSaysNo (StandsAndEnds stands S) c.tests true → HasOutcome c ts S refuses
-      guard_refuses n = inr (
-        fits,
-        (n.0, n.1, (λ x w. n.2.0 x (wants_back (variables_of_test n.0) x w), λ h. n.2.1 (holds_there (StandsAt c ts S) (StandsAndEnds stands S) back n.0 h))),
-      )
-
-      module _ (others : OneSaysNo (StandsAndEnds stands S) c.tests false) (guard : Variables) (all : IsSetOf guard (OneWants (StandsAndEnds stands S) c.tests)) where
-        none_no : ¬ GuardSaysNo c ts S
-        none_no n = elim (others n.0 n.1) [
-          | inl w ↦ n.2.0 w.0 (wants_there (variables_of_test n.0) w.0 w.1)
-          | inr y ↦ n.2.1 (holds_there (StandsAndEnds stands S) (StandsAt c ts S) there n.0 y.1)
-        ]
-
-        -- the guard waits
-        pub guard_waits : 0 < set.len guard → HasOutcome c ts S (waits guard)
-        guard_waits h =
-            let m = member guard h in
-            let first = (all m.0).0 m.1 in (
-              λ x. (
-                λ i. let w = (all x).0 i in inr (fits, none_no, (w.0, w.1, wants_there (variables_of_test w.0) x w.2)),
-                λ w. (all x).1 (elim w [
-                  | inl k ↦ absurd (fits.1 x k.1)
-                  | inr k ↦ let g = k.2 in (g.0, g.1, wants_back (variables_of_test g.0) x g.2)
-                ]),
-              ),
-              (m.0, inr (fits, none_no, (first.0, first.1, wants_there (variables_of_test first.0) m.0 first.2))),
+      module _ {gs : List Test} (tests : gs ≡ c.tests) {says_no : Bool} (said : OneSaysNo (StandsAndEnds stands S) gs says_no) where
+        -- a test says no
+        pub guard_refuses : says_no ≡ true → HasOutcome c ts S refuses
+        guard_refuses e =
+            let n = subst (λ hs. OneSaysNo (StandsAndEnds stands S) hs true) tests (subst (OneSaysNo (StandsAndEnds stands S) gs) e said) in
+            inr (
+              fits,
+              (n.0, n.1, (λ x w. n.2.0 x (wants_back (variables_of_test n.0) x w), λ h. n.2.1 (holds_there (StandsAt c ts S) (StandsAndEnds stands S) back n.0 h))),
             )
 
-        -- each test says yes
-        pub all_accept : set.len guard ≡ 0 → (reads : Variables) → IsSetOf reads (LooksAt c ts S) → HasOutcome c ts S (accepts stands reads)
-        all_accept h reads r = (
-          (
-            fits,
-            λ g i. elim (others g i) [
-              | inl w ↦ absurd (no_member guard h w.0 ((all w.0).1 (g, i, w.1)))
-              | inr y ↦ (λ x w. y.0 x (wants_back (variables_of_test g) x w), holds_there (StandsAndEnds stands S) (StandsAt c ts S) there g y.1)
-            ],
-          ),
-          stand,
-          r,
-        )
+        module _ (silent : says_no ≡ false) (guard : Variables) (gains : Gains wanted guard (OneWants (StandsAndEnds stands S) gs)) where
+          others : OneSaysNo (StandsAndEnds stands S) c.tests false
+          others = subst (λ hs. OneSaysNo (StandsAndEnds stands S) hs false) tests (subst (OneSaysNo (StandsAndEnds stands S) gs) silent said)
+
+          all : IsSetOf guard (OneWants (StandsAndEnds stands S) c.tests)
+          all = gained_alone wanted guard (OneWants (StandsAndEnds stands S) c.tests) none (subst (λ hs. Gains wanted guard (OneWants (StandsAndEnds stands S) hs)) tests gains)
+
+          none_no : ¬ GuardSaysNo c ts S
+          none_no n = elim (others n.0 n.1) [
+            | inl w ↦ n.2.0 w.0 (wants_there (variables_of_test n.0) w.0 w.1)
+            | inr y ↦ n.2.1 (holds_there (StandsAndEnds stands S) (StandsAt c ts S) there n.0 y.1)
+          ]
+
+          -- the guard waits
+          pub guard_waits : 0 < set.len guard → HasOutcome c ts S (waits guard)
+          guard_waits h =
+              let m = member guard h in
+              let first = (all m.0).0 m.1 in (
+                λ x. (
+                  λ i. let w = (all x).0 i in inr (fits, none_no, (w.0, w.1, wants_there (variables_of_test w.0) x w.2)),
+                  λ w. (all x).1 (elim w [
+                    | inl k ↦ absurd (fits.1 x k.1)
+                    | inr k ↦ let g = k.2 in (g.0, g.1, wants_back (variables_of_test g.0) x g.2)
+                  ]),
+                ),
+                (m.0, inr (fits, none_no, (first.0, first.1, wants_there (variables_of_test first.0) m.0 first.2))),
+              )
+
+          -- each test says yes
+          pub all_accept : set.len guard ≡ 0 → (reads : Variables) → IsSetOf reads (LooksAt c ts S) → HasOutcome c ts S (accepts stands reads)
+          all_accept h reads r = (
+            (
+              fits,
+              λ g i. elim (others g i) [
+                | inl w ↦ absurd (no_member guard h w.0 ((all w.0).1 (g, i, w.1)))
+                | inr y ↦ (λ x w. y.0 x (wants_back (variables_of_test g) x w), holds_there (StandsAndEnds stands S) (StandsAt c ts S) there g y.1)
+              ],
+            ),
+            stand,
+            r,
+          )
