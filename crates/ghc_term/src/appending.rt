@@ -41,7 +41,8 @@ pub(crate) fn push_mark(mark: char, out: &mut String) -> Result<(), AllocError>
     out.push(mark)
 }
 
-// Writes the digits of a number, by way of a place that holds them for a moment.
+// Writes the digits of a number, by way of a place that holds them for a moment. Where they fill it, their count is known where the
+// code is made, and nothing is called to copy them.
 #[inline(always)]
 fn push_by_way_of(place: &mut [u8], number: u32, out: &mut String) -> Result<(), AllocError>
     requires { length (decimal number) ≤ length place.old }
@@ -49,20 +50,28 @@ fn push_by_way_of(place: &mut [u8], number: u32, out: &mut String) -> Result<(),
 {
     let end = place.len();
     let start = write_digits(number as u64, place, end);
+    if start == 0 {
+        return out.push_str(unsafe { str::from_utf8_unchecked(place) });
+    }
     out.push_str(unsafe { str::from_utf8_unchecked(&place[start..]) })
 }
 
-// Writes the digits of a number that is long, or where there is little room.
+// Writes the digits of a number that has many of them, or where there is little room.
 #[inline(never)]
 fn push_many_digits(number: u32, out: &mut String) -> Result<(), AllocError>
     ensures { string_bytes out.new ≡ (if is_ok result then string_bytes out.old ++ decimal number else string_bytes out.old) }
 {
+    if number < 100_000 {
+        return push_by_way_of(&mut [0; 5], number, out);
+    }
+    if number < 1_000_000 {
+        return push_by_way_of(&mut [0; 6], number, out);
+    }
     let mut digits = Buffer::new();
     out.push_str(digits.format(number))
 }
 
-// Writes the digits of a number. Up to four of them are copied as many as they are known to be at each place of the code, into room
-// that is there: this needs no frame and no call.
+// Writes the digits of a number. Up to four of them go into room that is there, which takes no frame.
 #[inline(never)]
 fn push_digits(number: u32, out: &mut String) -> Result<(), AllocError>
     ensures { string_bytes out.new ≡ (if is_ok result then string_bytes out.old ++ decimal number else string_bytes out.old) }
