@@ -1,12 +1,12 @@
 // Writing at the end of a text, which stays as it was where memory is refused.
-ghost use Rattle.std.specs.Prelude.{◌≡◌, ◌<◌, [], ◌∷◌, ◌++◌, length, take, is_ok, if◌then◌else◌, OnOk, IsTrue, string_bytes};
+ghost use Rattle.std.specs.Prelude.{◌≡◌, ◌<◌, ◌≤◌, [], ◌∷◌, ◌++◌, length, take, is_ok, if◌then◌else◌, OnOk, IsTrue, string_bytes};
 ghost use Rattle.std.specs.Fmt.{decimal, signed_decimal};
 ghost use Rattle.std.specs.Io.{StartsWith};
 ghost use Rattle.std.specs.Str.{is_utf8};
 ghost use Rattle.ghc_term.specs.Text.{variable_text};
 
 use crate::var_name::VarName;
-use itoa::Buffer;
+use itoa::{Buffer, write_digits};
 use std::alloc::AllocError;
 
 /// How long a text is, in bytes. What is written behind it can be cut back to there.
@@ -41,13 +41,51 @@ pub(crate) fn push_mark(mark: char, out: &mut String) -> Result<(), AllocError>
     out.push(mark)
 }
 
-// Writes the digits of a number. Its buffer is no part of the caller's frame, which is paid for at each entry.
+// Writes the digits of a number, by way of a place that holds them for a moment. Where they fill it, their count is known where the
+// code is made, and nothing is called to copy them.
+#[inline(always)]
+fn push_by_way_of(place: &mut [u8], number: u32, out: &mut String) -> Result<(), AllocError>
+    requires { length (decimal number) ≤ length place.old }
+    ensures { string_bytes out.new ≡ (if is_ok result then string_bytes out.old ++ decimal number else string_bytes out.old) }
+{
+    let end = place.len();
+    let start = write_digits(number as u64, place, end);
+    if start == 0 {
+        return out.push_str(unsafe { str::from_utf8_unchecked(place) });
+    }
+    out.push_str(unsafe { str::from_utf8_unchecked(&place[start..]) })
+}
+
+// Writes the digits of a number that has many of them, or where there is little room.
+#[inline(never)]
+fn push_many_digits(number: u32, out: &mut String) -> Result<(), AllocError>
+    ensures { string_bytes out.new ≡ (if is_ok result then string_bytes out.old ++ decimal number else string_bytes out.old) }
+{
+    if number < 100_000 {
+        return push_by_way_of(&mut [0; 5], number, out);
+    }
+    if number < 1_000_000 {
+        return push_by_way_of(&mut [0; 6], number, out);
+    }
+    let mut digits = Buffer::new();
+    out.push_str(digits.format(number))
+}
+
+// Writes the digits of a number. Up to four of them go into room that is there, which takes no frame.
 #[inline(never)]
 fn push_digits(number: u32, out: &mut String) -> Result<(), AllocError>
     ensures { string_bytes out.new ≡ (if is_ok result then string_bytes out.old ++ decimal number else string_bytes out.old) }
 {
-    let mut digits = Buffer::new();
-    out.push_str(digits.format(number))
+    if number >= 10_000 || out.capacity() - out.len() < 4 {
+        return push_many_digits(number, out);
+    }
+    if number >= 1_000 {
+        return push_by_way_of(&mut [0; 4], number, out);
+    }
+    if number >= 100 {
+        return push_by_way_of(&mut [0; 3], number, out);
+    }
+    push_by_way_of(&mut [0; 2], number, out)
 }
 
 /// Writes a number at the end of `out`, which stays as it was where memory is refused. It costs a step for each digit.
