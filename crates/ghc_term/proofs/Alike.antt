@@ -1,18 +1,7 @@
 -- Pairs that are to be compared, and what the comparison of one of them says of all.
-use Rattle.std.proofs.Common.{◌≡◌, ◌≢◌, ℕ, suc, ◌+◌, ◌-◌, ◌<◌, ◌≤◌, Bool, true, false, List, [], ◌∷◌, ◌++◌, length, get_or, drop, refl, sym, ap, ◌∙◌, subst, append_assoc, append-nil, drop-cons, arith}
-use Rattle.std.specs.Prelude.{◌↔◌, IsTrue, not}
-use Rattle.std.specs.Borrow.{Bor}
+use Rattle.ghc_term.proofs.Words.{◌≡◌, ◌≢◌, ℕ, suc, ◌+◌, ◌-◌, ◌<◌, ◌≤◌, Bool, true, false, List, [], ◌∷◌, ◌++◌, length, get_or, drop, refl, sym, ap, ◌∙◌, subst, append_assoc, append-nil, drop-cons, arith, ◌↔◌, IsTrue, not, Bor, bytes_eq-Decides, Pair, Terms, TermView, Var, Int, Atom, Struct, Tree, node, none, trees, list_of, atom, shown, HasArgument, nodes_of_all, IsAlike, AreAlike, left_nodes, all_left_nodes, Adds, Compared}
 use Rattle.std.specs.Str.{bytes_eq}
-use Rattle.std.proofs.lemmas.Slice.Eq.{bytes_eq-Decides}
-use Rattle.ghc_term.specs.declared.equality.Pair.{Pair}
-use Rattle.ghc_term.specs.declared.equality.Pair.TheVariants.{Terms}
-use Rattle.ghc_term.specs.declared.view.TermView.{TermView}
-use Rattle.ghc_term.specs.declared.view.TermView.TheVariants.{Var, Int, Atom, Struct}
-use Rattle.ghc_term.specs.Tree.{Tree, node, none, trees, list_of, atom}
-use Rattle.ghc_term.specs.Shown.{shown, HasArgument}
 use Rattle.ghc_term.proofs.Goals.{list_of-trees}
-use Rattle.ghc_term.specs.InputTerm.{nodes_of_all}
-use Rattle.ghc_term.specs.Equality.{IsAlike, AreAlike, left_nodes, all_left_nodes, Adds, Compared}
 
 alike_join : (ps qs : List Pair) → AreAlike ps → AreAlike qs → AreAlike (ps ++ qs)
 alike_join [] qs a b = b

@@ -1,15 +1,5 @@
 -- A term measured part by part, along last arguments and list tails.
-use Rattle.std.proofs.Common.{◌≡◌, ℕ, ◌+◌, ◌≤◌, ◌<◌, List, [], ◌∷◌, ◌++◌, length, take, drop, get_or, sym, ap, ◌∙◌, subst, arith}
-use Rattle.std.specs.Prelude.{Option, Some, None}
-use Rattle.std.proofs.lemmas.List.{take_more, take-append-drop}
-use Rattle.ghc_term.specs.Tree.{Tree, node, trees}
-use Rattle.ghc_term.specs.View.{height, height_of_all}
-use Rattle.ghc_term.specs.InputTerm.{IsHead, IsInGrammar, AllInGrammar, nodes, nodes_of_all, deepest}
-use Rattle.ghc_term.specs.Measure.{HasRoom, Leaves, Enters, MeasuredAt, MeasuredAll, bytes_at, nesting_at, bytes_of_all, own_bytes, own_nesting}
-use Rattle.ghc_term.specs.declared.measure.Room.{Room}
-use Rattle.ghc_term.specs.declared.measure.Inside.{Inside}
-use Rattle.ghc_term.specs.declared.measure.Place.{Place}
-use Rattle.ghc_term.specs.declared.measure.Place.TheVariants.{Alone}
+use Rattle.ghc_term.proofs.Words.{◌≡◌, ℕ, ◌+◌, ◌≤◌, ◌<◌, List, [], ◌∷◌, ◌++◌, length, take, drop, get_or, sym, ap, ◌∙◌, subst, arith, Option, Some, None, take_more, take-append-drop, Tree, node, trees, height, height_of_all, IsHead, IsInGrammar, AllInGrammar, nodes, nodes_of_all, deepest, HasRoom, Leaves, Enters, MeasuredAt, MeasuredAll, bytes_at, nesting_at, bytes_of_all, own_bytes, own_nesting, Room, Inside, Place, Alone}
 use Rattle.ghc_term.proofs.Written.{nodes-append, bytes-append, deepest-append, grammar_parts, grammar_whole, node_bytes, node_nesting}
 
 abbrev pub RoomAt : Place → Tree → ℕ → Room → Type 0

@@ -1,12 +1,6 @@
 -- A binding that closes no cycle keeps a store acyclic.
-use Rattle.std.proofs.Common.{◌≡◌, true, false, cond, refl, sym, subst, inl, inr, ◌⊎◌}
-use Rattle.std.specs.Prelude.{Option, Some}
-use Rattle.std.specs.Ordering.{eq_by_cmp}
+use Rattle.ghc_term.proofs.Words.{◌≡◌, true, false, cond, refl, sym, subst, inl, inr, ◌⊎◌, Option, Some, eq_by_cmp, VarName, Tree, Occurs, StoreValue, value_at, Reaches, here, through, IsAcyclic, name_cmp, with_binding}
 use Rattle.std.specs.FinMap as finite
-use Rattle.ghc_term.specs.declared.var_name.VarName.{VarName}
-use Rattle.ghc_term.specs.Tree.{Tree, Occurs}
-use Rattle.ghc_term.specs.Store.{StoreValue, value_at}
-use Rattle.ghc_term.specs.Bindings.{Reaches, here, through, IsAcyclic, name_cmp, with_binding}
 use Rattle.ghc_term.proofs.Names.{name_total}
 use Rattle.ghc_term.proofs.Total.{same_name}
 use Rattle.ghc_term.proofs.Chains.{reaches_on}

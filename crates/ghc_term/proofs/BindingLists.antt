@@ -1,20 +1,7 @@
 -- Lists of bindings of distinct variables.
-use Rattle.std.proofs.Common.{◌≡◌, ◌≢◌, ℕ, zero, suc, ◌+◌, ◌<◌, true, false, cond, List, [], ◌∷◌, ◌++◌, length, get_or, drop, take, slice_get, slice_set, Some, None, is_some, All, inl, inr, refl, sym, ap, ◌∙◌, subst}
-use Rattle.std.specs.List.{AllByRecursion, IsDistinct}
-use Rattle.std.specs.Map.{keys_of, lookup}
-use Rattle.std.specs.Ordering.{eq_by_cmp}
-use Rattle.std.specs.Cmp.{eq_by_cmp_equiv}
+use Rattle.ghc_term.proofs.Words.{◌≡◌, ◌≢◌, ℕ, zero, suc, ◌+◌, ◌<◌, true, false, cond, List, [], ◌∷◌, ◌++◌, length, get_or, drop, take, slice_get, slice_set, Some, None, is_some, All, inl, inr, refl, sym, ap, ◌∙◌, subst, AllByRecursion, keys_of, lookup, eq_by_cmp, eq_by_cmp_equiv, drop_more, map-append, take-map, get_or-map, All-contains, lookup_from_place, length-keys_of, VarName, name_cmp, Entries, AreOnce, map_of, In, value_at, Tree, AreDifferent, is_same}
+use Rattle.std.specs.List.{IsDistinct}
 use Rattle.std.specs.FinMap as finite
-use Rattle.std.proofs.lemmas.List.{drop_more, map-append, take-map, get_or-map}
-use Rattle.std.proofs.lemmas.List.Elements.{All-contains}
-use Rattle.std.proofs.lemmas.Map.Entries.{lookup_from_place, length-keys_of}
-use Rattle.ghc_term.specs.declared.var_name.VarName.{VarName}
-use Rattle.ghc_term.specs.Bindings.{name_cmp}
-use Rattle.ghc_term.specs.BindingTable.{Entries, AreOnce, map_of}
-use Rattle.ghc_term.specs.Lists.{In}
-use Rattle.ghc_term.specs.Store.{value_at}
-use Rattle.ghc_term.specs.Tree.{Tree}
-use Rattle.ghc_term.specs.VariableList.{AreDifferent, is_same}
 use Rattle.ghc_term.proofs.Entries.{lookup_at, inserted, same_is}
 use Rattle.ghc_term.proofs.ListsLemmas.{in_contains}
 use Rattle.ghc_term.proofs.MapsLemmas.{key_in}

@@ -1,10 +1,5 @@
 -- Laws of chains.
-use Rattle.std.proofs.Common.{◌≡◌, List, ◌∷◌, refl, ap, ◌∙◌, subst, inl, inr}
-use Rattle.std.specs.Prelude.{Option, Some}
-use Rattle.ghc_term.specs.declared.var_name.VarName.{VarName}
-use Rattle.ghc_term.specs.Tree.{Tree}
-use Rattle.ghc_term.specs.Lists.{In}
-use Rattle.ghc_term.specs.Bindings.{Leads, at_integer, at_node, at_free, along, Reaches, here, through}
+use Rattle.ghc_term.proofs.Words.{◌≡◌, List, ◌∷◌, refl, ap, ◌∙◌, subst, inl, inr, Option, Some, VarName, Tree, In, Leads, at_integer, at_node, at_free, along, Reaches, here, through}
 
 module _ {S : VarName → Option Tree} where
   -- a term has one chain and one end

@@ -1,13 +1,6 @@
 -- Names and values in two lists beside each other, and the place of each name in them: after a value is put, and after one is taken.
-use Rattle.std.proofs.Common.{◌≡◌, ◌≢◌, ◌<◌, ◌+◌, ℕ, cond, true, false, List, [], ◌∷◌, ◌++◌, inl, inr, length, refl, sym, ap, ◌∙◌, subst, nat_eq, arith}
-use Rattle.std.specs.Prelude.{◌^◌, Some, None, slice_get, slice_set, IsTrue, is_some}
-use Rattle.std.specs.List.{swap_remove}
-use Rattle.std.specs.Ordering.{eq_by_cmp}
+use Rattle.ghc_term.proofs.Words.{◌≡◌, ◌≢◌, ◌<◌, ◌+◌, ℕ, cond, true, false, List, [], ◌∷◌, ◌++◌, inl, inr, length, refl, sym, ap, ◌∙◌, subst, nat_eq, arith, ◌^◌, Some, None, slice_get, slice_set, IsTrue, is_some, swap_remove, eq_by_cmp, cases_lt, eqb-true, eqb-false, length-set, GoalName, goal_cmp, values_by, ArePlaces}
 use Rattle.std.specs.FinMap as finite
-use Rattle.std.proofs.lemmas.Bool.{cases_lt, eqb-true, eqb-false}
-use Rattle.std.proofs.lemmas.List.{length-set}
-use Rattle.ghc_term.specs.declared.goal_name.GoalName.{GoalName}
-use Rattle.ghc_term.specs.GoalMap.{goal_cmp, values_by, ArePlaces}
 use Rattle.ghc_term.proofs.GoalNames.{goal_total, goal_antisymmetric, same_goal, itself, apart}
 use Rattle.ghc_term.proofs.PlacedGoals.{value_at, held_is, within, elsewhere}
 use Rattle.ghc_term.proofs.Placing.{one_value, push_last, push_before, push_either, set_same, set_other, moved_there, others_stay, none_behind}

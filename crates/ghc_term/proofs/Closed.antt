@@ -1,8 +1,5 @@
 -- No variable stands in a tree of the grammar.
-use Rattle.std.proofs.Common.{inl, inr}
-use Rattle.ghc_term.specs.declared.var_name.VarName.{VarName}
-use Rattle.ghc_term.specs.Tree.{Tree, variable, integer, node, Trees, none, more, Occurs, OccursIn}
-use Rattle.ghc_term.specs.InputTerm.{IsInGrammar, AllInGrammar}
+use Rattle.ghc_term.proofs.Words.{inl, inr, VarName, Tree, variable, integer, node, Trees, none, more, Occurs, OccursIn, IsInGrammar, AllInGrammar}
 
 mutual
   pub closed : (t : Tree) → IsInGrammar t → (x : VarName) → ¬ Occurs x t

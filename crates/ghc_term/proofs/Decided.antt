@@ -1,12 +1,6 @@
 -- What is so, or is not.
-use Rattle.std.proofs.Common.{◌≡◌, ℕ, Bool, true, false, List, [], ◌∷◌, refl, sym, ap, ◌∙◌, subst, inl, inr, ◌⊎◌}
-use Rattle.std.specs.Coded.{Coded}
-use Rattle.std.specs.Ordering.{eq_by_cmp}
-use Rattle.std.proofs.lemmas.Bool.{cases_eq}
+use Rattle.ghc_term.proofs.Words.{◌≡◌, ℕ, Bool, true, false, List, [], ◌∷◌, refl, sym, ap, ◌∙◌, subst, inl, inr, ◌⊎◌, Coded, eq_by_cmp, cases_eq, VarName, name_cmp, In}
 use base.Stored.{Gv, gnil, gnum, gcons}
-use Rattle.ghc_term.specs.declared.var_name.VarName.{VarName}
-use Rattle.ghc_term.specs.Bindings.{name_cmp}
-use Rattle.ghc_term.specs.Lists.{In}
 use Rattle.ghc_term.proofs.Names.{same_name, itself}
 
 -- P is so, or is not

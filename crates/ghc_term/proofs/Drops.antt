@@ -1,9 +1,6 @@
 -- Terms in a list that is taken out of a term are lower than it.
-use Rattle.std.proofs.Common.{ℕ, ◌*◌, ◌≤◌, List, [], ◌∷◌, ◌++◌, arith}
+use Rattle.ghc_term.proofs.Words.{ℕ, ◌*◌, ◌≤◌, List, [], ◌∷◌, ◌++◌, arith, size-Term, Tree, trees, height_of_all}
 use denote.Param.Weighed.{most, most-append}
-use Rattle.ghc_term.specs.declared.term.Term.TheDeep.{size-Term}
-use Rattle.ghc_term.specs.Tree.{Tree, trees}
-use Rattle.ghc_term.specs.View.{height_of_all}
 
 most_size : (ts : List Tree) (n : ℕ) → height_of_all (trees ts) ≤ n → most size-Term ts ≤ 4 * n
 most_size [] n h = omega arith

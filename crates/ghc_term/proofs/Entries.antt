@@ -1,15 +1,6 @@
 -- A store and the entries of its map.
-use Rattle.std.proofs.Common.{◌≡◌, ℕ, arith, Bool, cond, ◌&&◌, List, ap, ◌∙◌, nat_eq}
-use Rattle.std.specs.Prelude.{Some}
-use Rattle.std.proofs.lemmas.Bool.Decides.{nat_tests}
-use Rattle.std.specs.Map.{lookup}
-use Rattle.std.specs.Ordering.{eq_by_cmp, is_eq, nat_cmp}
-use Rattle.std.specs.Cmp.{tied_then}
+use Rattle.ghc_term.proofs.Words.{◌≡◌, ℕ, arith, Bool, cond, ◌&&◌, List, ap, ◌∙◌, nat_eq, Some, nat_tests, lookup, eq_by_cmp, is_eq, nat_cmp, tied_then, VarName, Tree, value_at, name_cmp}
 use Rattle.std.specs.FinMap as finite
-use Rattle.ghc_term.specs.declared.var_name.VarName.{VarName}
-use Rattle.ghc_term.specs.Tree.{Tree}
-use Rattle.ghc_term.specs.Store.{value_at}
-use Rattle.ghc_term.specs.Bindings.{name_cmp}
 use Rattle.ghc_term.proofs.Indexed as indexed
 use Rattle.ghc_term.proofs.Names.{name_total, name_antisymmetric}
 

@@ -1,7 +1,5 @@
 -- A call whose answer is one gives it, but for want of memory.
-use Rattle.std.proofs.Common.{◌≡◌, inl, inr}
-use Rattle.std.specs.Prelude.{Result, Ok, Err}
-use Rattle.ghc_term.specs.Answered.{AnsweredUnless, IsExactUnless}
+use Rattle.ghc_term.proofs.Words.{◌≡◌, inl, inr, Result, Ok, Err, AnsweredUnless, IsExactUnless}
 
 pub exact : {A E : Type 0} {SaysMemory : E → Type 0} {Gives : A → Type 0} {Refuses : E → Type 0} → ((a b : A) → Gives a → Gives b → a ≡ b) → ((d e : E) → Refuses d → Refuses e → d ≡ e)
     → ((a : A) (e : E) → Gives a → ¬ Refuses e) → (result : Result A E) → AnsweredUnless SaysMemory Gives Refuses result → IsExactUnless SaysMemory Gives Refuses result

@@ -1,15 +1,6 @@
 -- The order of goal names.
-use Rattle.std.proofs.Common.{◌≡◌, ◌≢◌, Bool, true, false, ◌&&◌, refl, sym, ap, ◌∙◌, nat_eq}
-use Rattle.std.specs.declared.cmp.Ordering.{Ordering}
-use Rattle.std.specs.declared.cmp.Ordering.TheVariants.{Less, Equal, Greater}
-use Rattle.std.specs.Ordering.{nat_cmp, ordering_then, eq_by_cmp, is_eq}
-use Rattle.std.specs.Cmp.{IsTotalOrder, ranked, nat_cmp_total, tied_then, eq_by_cmp_equiv}
-use Rattle.std.specs.FinMap.{IsAntisymmetric}
-use Rattle.std.proofs.lemmas.Cmp.{then_total, on_total}
-use Rattle.std.proofs.lemmas.Map.Views.{tells_apart}
-use Rattle.ghc_term.specs.declared.goal_name.GoalName.{GoalName}
+use Rattle.ghc_term.proofs.Words.{◌≡◌, ◌≢◌, Bool, true, false, ◌&&◌, refl, sym, ap, ◌∙◌, nat_eq, Ordering, Less, Equal, Greater, nat_cmp, ordering_then, eq_by_cmp, is_eq, IsTotalOrder, ranked, nat_cmp_total, tied_then, eq_by_cmp_equiv, IsAntisymmetric, then_total, on_total, tells_apart, GoalName, goal_cmp}
 use Rattle.ghc_term.proofs.Entries.{tie}
-use Rattle.ghc_term.specs.GoalMap.{goal_cmp}
 
 pub goal_total : IsTotalOrder goal_cmp
 goal_total = then_total (on_total (λ (g : GoalName). g.step) nat_cmp_total) (on_total (λ (g : GoalName). g.place) nat_cmp_total)

@@ -1,15 +1,6 @@
 -- Numbers under the names of goals, of which those of the first two goals of steps stand in a list, two places for each step.
-use Rattle.std.proofs.Common.{◌≡◌, ◌≢◌, ◌<◌, ◌≤◌, ◌+◌, ◌*◌, ℕ, zero, suc, cond, Bool, true, false, List, [], ◌∷◌, ◌++◌, ◌⊎◌, inl, inr, length, refl, sym, ap, ◌∙◌, subst, nat_eq, replicate, arith}
-use Rattle.std.specs.Prelude.{Option, Some, None, slice_set, IsTrue, is_some}
-use Rattle.std.specs.Option.{option_or}
-use Rattle.std.specs.Ordering.{eq_by_cmp}
+use Rattle.ghc_term.proofs.Words.{◌≡◌, ◌≢◌, ◌<◌, ◌≤◌, ◌+◌, ◌*◌, ℕ, zero, suc, cond, Bool, true, false, List, [], ◌∷◌, ◌++◌, ◌⊎◌, inl, inr, length, refl, sym, ap, ◌∙◌, subst, nat_eq, replicate, arith, Option, Some, None, slice_set, IsTrue, is_some, option_or, eq_by_cmp, eqb-true, get_or-set_same, get_or-set_other, GoalName, goal_cmp, IsNear, near_name, number_in, number_at, near_numbers, numbers_in, numbers_of, HasSameNumbers, HasNoNear, Table}
 use Rattle.std.specs.FinMap as finite
-use Rattle.std.proofs.lemmas.Bool.{eqb-true}
-use Rattle.std.proofs.lemmas.List.{get_or-set_same, get_or-set_other}
-use Rattle.ghc_term.specs.declared.goal_name.GoalName.{GoalName}
-use Rattle.ghc_term.specs.GoalMap.{goal_cmp}
-use Rattle.ghc_term.specs.GoalPlaces.{IsNear, near_name, number_in, number_at, near_numbers, numbers_in, numbers_of, HasSameNumbers, HasNoNear}
-use Rattle.ghc_term.specs.Table.{Table}
 use Rattle.ghc_term.proofs.GoalNames.{goal_total, goal_antisymmetric, same_parts, same_goal, itself, apart}
 
 -- the places of the list, and the goals that they are for

@@ -1,6 +1,5 @@
 -- A call's arguments, held in a tree, are the list that was given.
-use Rattle.std.proofs.Common.{◌≡◌, List, [], ◌∷◌, length, refl, ap, arith}
-use Rattle.ghc_term.specs.Tree.{Tree, trees, list_of}
+use Rattle.ghc_term.proofs.Words.{◌≡◌, List, [], ◌∷◌, length, refl, ap, arith, Tree, trees, list_of}
 
 pub list_of-trees : (ts : List Tree) → list_of (trees ts) ≡ ts
 list_of-trees [] = refl

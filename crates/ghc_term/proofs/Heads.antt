@@ -1,13 +1,5 @@
 -- Which names stand over which arguments in the grammar.
-use Rattle.std.proofs.Common.{◌≡◌, ◌≢◌, ℕ, ◌+◌, ◌≤◌, true, false, nat_eq, List, [], ◌∷◌, length, refl, sym, ap, inl, inr, arith}
-use Rattle.std.proofs.lemmas.Bool.Decides.{nat_tests}
-use Rattle.std.specs.Prelude.{codes, bytes_eq, if◌then◌else◌}
-use Rattle.ghc_term.specs.Tree.{Tree, trees}
-use Rattle.ghc_term.specs.Text.{is_cell}
-use Rattle.ghc_term.specs.InputTerm.{IsNameText, IsHead}
-use Rattle.ghc_term.specs.Measure.{marks_at, opened_at, own_bytes, own_nesting, last_place}
-use Rattle.ghc_term.specs.declared.measure.Place.{Place}
-use Rattle.ghc_term.specs.declared.measure.Place.TheVariants.{Alone, Rest}
+use Rattle.ghc_term.proofs.Words.{◌≡◌, ◌≢◌, ℕ, ◌+◌, ◌≤◌, true, false, nat_eq, List, [], ◌∷◌, length, refl, sym, ap, inl, inr, arith, nat_tests, codes, bytes_eq, if◌then◌else◌, Tree, trees, is_cell, IsNameText, IsHead, marks_at, opened_at, own_bytes, own_nesting, last_place, Place, Alone, Rest}
 use Rattle.ghc_term.proofs.Goals.{list_of-trees}
 
 pub is_cell_by_count : (f : List ℕ) (ts : List Tree) → bytes_eq f (codes ".") ≡ true → nat_eq (length ts) 2 ≡ is_cell f (trees ts)

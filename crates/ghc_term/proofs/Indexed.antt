@@ -1,12 +1,6 @@
 -- Maps in the order of insertion, and the lists of their entries.
-use Rattle.std.proofs.Common.{◌≡◌, Bool, cond, List, [], ◌∷◌, refl, sym, ap, ◌∙◌}
-use Rattle.std.specs.Prelude.{Some, None, Result, Ok, Err, IsOk, OnOk}
-use Rattle.std.specs.declared.cmp.Ordering.{Ordering}
-use Rattle.std.specs.Map.{lookup}
-use Rattle.std.specs.Ordering.{eq_by_cmp}
-use Rattle.std.specs.Cmp.{IsTotalOrder, eq_by_cmp_equiv}
+use Rattle.ghc_term.proofs.Words.{◌≡◌, Bool, cond, List, [], ◌∷◌, refl, sym, ap, ◌∙◌, Some, None, Result, Ok, Err, IsOk, OnOk, Ordering, lookup, eq_by_cmp, IsTotalOrder, eq_by_cmp_equiv, IsAntisymmetric}
 use Rattle.std.specs.FinMap as finite
-use Rattle.std.specs.FinMap.{IsAntisymmetric}
 
 -- what holds on success holds where it is known
 pub done : {A E P : Type 0} (r : Result A E) → IsOk r → OnOk r P → P

@@ -40,3 +40,4 @@ pub mod GoalMaps
 pub mod PlacedGoals
 pub mod ChangedPlaces
 pub mod WithBinds
+mod Words

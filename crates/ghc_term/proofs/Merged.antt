@@ -1,15 +1,6 @@
 -- A store with some bindings more, as one finite map.
-use Rattle.std.proofs.Common.{◌≡◌, true, false, cond, List, [], ◌∷◌, ◌++◌, refl, sym, ap, ◌∙◌, subst}
-use Rattle.std.specs.Prelude.{Option, Some, None}
-use Rattle.std.specs.Option.{option_or}
-use Rattle.std.specs.Ordering.{eq_by_cmp}
+use Rattle.ghc_term.proofs.Words.{◌≡◌, true, false, cond, List, [], ◌∷◌, ◌++◌, refl, sym, ap, ◌∙◌, subst, Option, Some, None, option_or, eq_by_cmp, VarName, Overlay, Tree, name_cmp, IsAcyclic, with_binding, StoreValue, value_at, with_bindings, value_in}
 use Rattle.std.specs.FinMap as finite
-use Rattle.ghc_term.specs.declared.var_name.VarName.{VarName}
-use Rattle.ghc_term.specs.declared.overlay.Overlay.{Overlay}
-use Rattle.ghc_term.specs.Tree.{Tree}
-use Rattle.ghc_term.specs.Bindings.{name_cmp, IsAcyclic, with_binding}
-use Rattle.ghc_term.specs.Store.{StoreValue, value_at, with_bindings}
-use Rattle.ghc_term.specs.Overlay.{value_in}
 use Rattle.ghc_term.proofs.Names.{name_total}
 
 -- look-ups that answer alike are one

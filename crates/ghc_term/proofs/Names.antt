@@ -1,15 +1,5 @@
 -- The order of names.
-use Rattle.std.proofs.Common.{◌≡◌, ◌≢◌, true, false, refl, sym}
-use Rattle.std.specs.declared.cmp.Ordering.{Ordering}
-use Rattle.std.specs.declared.cmp.Ordering.TheVariants.{Less, Equal, Greater}
-use Rattle.std.specs.Ordering.{nat_cmp, ordering_then, eq_by_cmp}
-use Rattle.std.specs.Cmp.{IsTotalOrder, ranked, nat_cmp_total, eq_by_cmp_equiv}
-use Rattle.std.specs.FinMap.{IsAntisymmetric}
-use Rattle.std.proofs.lemmas.Cmp.{then_total, on_total}
-use Rattle.std.proofs.lemmas.Map.Views.{tells_apart}
-use Rattle.ghc_term.specs.declared.var_name.VarName.{VarName}
-use Rattle.ghc_term.specs.Code.{var_inj}
-use Rattle.ghc_term.specs.Bindings.{name_cmp}
+use Rattle.ghc_term.proofs.Words.{◌≡◌, ◌≢◌, true, false, refl, sym, Ordering, Less, Equal, Greater, nat_cmp, ordering_then, eq_by_cmp, IsTotalOrder, ranked, nat_cmp_total, eq_by_cmp_equiv, IsAntisymmetric, then_total, on_total, tells_apart, VarName, var_inj, name_cmp}
 
 pub name_total : IsTotalOrder name_cmp
 name_total = then_total (on_total (λ (x : VarName). x.step) nat_cmp_total) (on_total (λ (x : VarName). x.place) nat_cmp_total)

@@ -1,17 +1,5 @@
 -- The brackets of a tree are those of its text.
-use Rattle.std.proofs.Common.{◌≡◌, ◌≢◌, ℕ, zero, suc, ◌+◌, ◌-◌, ◌≤◌, ◌<◌, ◌^◌, max, Bool, true, false, map, ℤ, pos, negsuc, FitsSigned, w64, List, [], ◌∷◌, ◌++◌, refl, sym, ap, ◌∙◌, subst, inl, inr, arith, append_assoc, append-nil}
-use Rattle.std.specs.Prelude.{codes, if◌then◌else◌, IsTrue, ◌&&◌}
-use Rattle.std.specs.Fmt.{decimal, signed_decimal}
-use Rattle.std.specs.List.{list_all}
-use Rattle.std.specs.Int.Digits.{digits_of, AllBelowBase}
-use Rattle.std.proofs.lemmas.Int.Digits.{all_below_base_digits_of}
-use Rattle.std.proofs.lemmas.Fmt.{decimal_digit, decimal-digits_of}
-use Rattle.std.proofs.lemmas.Slice.Eq.{bytes_eq-Decides}
-use Rattle.std.specs.Char.{is_ascii_lowercase}
-use Rattle.std.proofs.lemmas.Bool.Decides.{nat_tests}
-use Rattle.ghc_term.specs.Tree.{Tree, variable, integer, node, Trees, none, more}
-use Rattle.ghc_term.specs.Text.{is_cell, is_nil, term_text, cell_text, rest_text, arguments_text, further_text, barred}
-use Rattle.ghc_term.specs.InputTerm.{is_name_byte, IsNameText, IsHead, IsInGrammar, AllInGrammar, nesting, cell_nesting, rest_nesting, arguments_nesting, deepest, open_behind, most_open}
+use Rattle.ghc_term.proofs.Words.{◌≡◌, ◌≢◌, ℕ, zero, suc, ◌+◌, ◌-◌, ◌≤◌, ◌<◌, ◌^◌, max, Bool, true, false, map, ℤ, pos, negsuc, FitsSigned, w64, List, [], ◌∷◌, ◌++◌, refl, sym, ap, ◌∙◌, subst, inl, inr, arith, append_assoc, append-nil, codes, if◌then◌else◌, IsTrue, ◌&&◌, decimal, signed_decimal, list_all, digits_of, AllBelowBase, all_below_base_digits_of, decimal_digit, decimal-digits_of, bytes_eq-Decides, is_ascii_lowercase, nat_tests, Tree, variable, integer, node, Trees, none, more, is_cell, is_nil, term_text, cell_text, rest_text, arguments_text, further_text, barred, is_name_byte, IsNameText, IsHead, IsInGrammar, AllInGrammar, nesting, cell_nesting, rest_nesting, arguments_nesting, deepest, open_behind, most_open}
 
 -- xs opens n brackets at one place and closes them
 abbrev pub Nests : List ℕ → ℕ → Type 0

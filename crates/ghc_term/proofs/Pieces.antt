@@ -1,11 +1,5 @@
 -- How texts go over into pieces.
-use Rattle.std.proofs.Common.{◌≡◌, ℕ, suc, ◌+◌, ◌-◌, ◌<◌, ◌≤◌, List, [], ◌∷◌, ◌++◌, length, get_or, take, drop, take_all, refl, sym, ap, ◌∙◌, append_assoc, append-nil, arith}
-use Rattle.std.specs.Io.{StartsWith}
-use Rattle.std.proofs.lemmas.Grind.{common_steps}
-use Rattle.std.specs.Prelude.{Result, Ok, Err, IfOk, is_ok, codes, if◌then◌else◌}
-use Rattle.ghc_term.specs.declared.printing.pieces.Piece.{Piece}
-use Rattle.ghc_term.specs.Tree.{Tree}
-use Rattle.ghc_term.specs.Pieces.{piece_text, pieces_text, piece_size, pieces_size, Advances}
+use Rattle.ghc_term.proofs.Words.{◌≡◌, ℕ, suc, ◌+◌, ◌-◌, ◌<◌, ◌≤◌, List, [], ◌∷◌, ◌++◌, length, get_or, take, drop, take_all, refl, sym, ap, ◌∙◌, append_assoc, append-nil, arith, StartsWith, common_steps, Result, Ok, Err, IfOk, is_ok, codes, if◌then◌else◌, Piece, Tree, piece_text, pieces_text, piece_size, pieces_size, Advances}
 
 module _ (r : Tree → Tree) (w : Tree → ℕ) where
   text_push : (ps : List Piece) (p : Piece) → pieces_text r (ps ++ p ∷ []) ≡ piece_text r p ++ pieces_text r ps

@@ -1,14 +1,8 @@
 -- Names and values in two lists beside each other, and the place of each name in them.
-use Rattle.std.proofs.Common.{◌≡◌, ◌≢◌, ◌<◌, ℕ, zero, suc, cond, false, List, [], ◌∷◌, inl, inr, length, refl, sym, ap, ◌∙◌, subst, arith}
-use Rattle.std.specs.Prelude.{Option, Some, None, slice_get, is_some}
-use Rattle.std.specs.List.{zip, AllByRecursion, IsDistinct}
-use Rattle.std.specs.Map.{keys_of}
-use Rattle.std.specs.Ordering.{eq_by_cmp}
+use Rattle.ghc_term.proofs.Words.{◌≡◌, ◌≢◌, ◌<◌, ℕ, zero, suc, cond, false, List, [], ◌∷◌, inl, inr, length, refl, sym, ap, ◌∙◌, subst, arith, Option, Some, None, slice_get, is_some, zip, AllByRecursion, keys_of, eq_by_cmp, slice_get_within, slice_get_cases, GoalName, goal_cmp, values_by, names_of, ArePlaces}
+use Rattle.std.specs.List.{IsDistinct}
 use Rattle.std.specs.FinMap as finite
 use Rattle.std.specs.FinSet as set
-use Rattle.std.proofs.lemmas.Option.{slice_get_within, slice_get_cases}
-use Rattle.ghc_term.specs.declared.goal_name.GoalName.{GoalName}
-use Rattle.ghc_term.specs.GoalMap.{goal_cmp, values_by, names_of, ArePlaces}
 use Rattle.ghc_term.proofs.GoalNames.{goal_total, same, same_is, itself, apart}
 use Rattle.ghc_term.proofs.GoalMaps.{names_are, count_of_entries}
 use Rattle.ghc_term.proofs.Placing.{one_value}

@@ -1,8 +1,5 @@
 -- Elements of lists by place: after a push, a write, and where the last takes the place of another.
-use Rattle.std.proofs.Common.{◌≡◌, ◌≢◌, ◌<◌, ◌≤◌, ◌+◌, ◌-◌, ℕ, zero, suc, List, [], ◌∷◌, ◌++◌, ◌⊎◌, inl, inr, length, refl, sym, ap, ◌∙◌, take, arith}
-use Rattle.std.specs.Prelude.{Some, None, slice_get, slice_set, slice_index_or}
-use Rattle.std.specs.List.{swap_remove}
-use Rattle.std.proofs.lemmas.Option.{slice_get-get_or}
+use Rattle.ghc_term.proofs.Words.{◌≡◌, ◌≢◌, ◌<◌, ◌≤◌, ◌+◌, ◌-◌, ℕ, zero, suc, List, [], ◌∷◌, ◌++◌, ◌⊎◌, inl, inr, length, refl, sym, ap, ◌∙◌, take, arith, Some, None, slice_get, slice_set, slice_index_or, swap_remove, slice_get-get_or}
 
 pub one_value : {X : Type 0} (x y : X) → Some x ≡ Some y → x ≡ y
 one_value x y e = cc

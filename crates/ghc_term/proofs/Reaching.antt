@@ -1,18 +1,6 @@
 -- Variables that reach none but each other, and the walks that add to them.
-use Rattle.std.proofs.Common.{◌≡◌, ◌≢◌, ℕ, true, false, List, [], ◌∷◌, ◌++◌, refl, sym, ap, ◌∙◌, subst, inl, inr, ◌⊎◌, append-nil}
-use Rattle.std.specs.Prelude.{Option, Some, None, is_some, IfNone}
-use Rattle.std.specs.Ordering.{eq_by_cmp}
-use Rattle.std.specs.Cmp.{eq_by_cmp_equiv}
+use Rattle.ghc_term.proofs.Words.{◌≡◌, ◌≢◌, ℕ, true, false, List, [], ◌∷◌, ◌++◌, refl, sym, ap, ◌∙◌, subst, inl, inr, ◌⊎◌, append-nil, Option, Some, None, is_some, IfNone, eq_by_cmp, eq_by_cmp_equiv, keys_of, option_or, VarName, Tree, variable, node, trees, Occurs, In, Reaches, here, through, name_cmp, AreKnown, AreKnownBut, StoreValue, value_at, with_binds, Sees, value_list}
 use Rattle.std.specs.FinMap as finite
-use Rattle.std.specs.Map.{keys_of}
-use Rattle.std.specs.Option.{option_or}
-use Rattle.ghc_term.specs.declared.var_name.VarName.{VarName}
-use Rattle.ghc_term.specs.Tree.{Tree, variable, node, trees, Occurs}
-use Rattle.ghc_term.specs.Lists.{In}
-use Rattle.ghc_term.specs.Bindings.{Reaches, here, through, name_cmp}
-use Rattle.ghc_term.specs.Known.{AreKnown, AreKnownBut}
-use Rattle.ghc_term.specs.Store.{StoreValue, value_at, with_binds}
-use Rattle.ghc_term.specs.Seen.{Sees, value_list}
 use Rattle.ghc_term.proofs.ListsLemmas.{in_left, in_right, in_more}
 use Rattle.ghc_term.proofs.MapsLemmas.{key_in}
 use Rattle.ghc_term.proofs.Names.{name_total, same_name}

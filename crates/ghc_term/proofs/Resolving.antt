@@ -1,16 +1,6 @@
 -- In an acyclic store each tree resolves to exactly one tree.
-use Rattle.std.proofs.Common.{◌≡◌, ℕ, zero, suc, ◌+◌, ◌-◌, ◌≤◌, List, [], ◌∷◌, refl, sym, ap, ◌∙◌, subst, arith}
-use Rattle.std.specs.Prelude.{Option, Some, None, codes}
+use Rattle.ghc_term.proofs.Words.{◌≡◌, ℕ, zero, suc, ◌+◌, ◌-◌, ◌≤◌, List, [], ◌∷◌, refl, sym, ap, ◌∙◌, subst, arith, Option, Some, None, codes, VarName, Tree, variable, integer, node, Trees, none, more, trees, cons, StoreValue, value_at, Leads, at_integer, at_node, at_free, along, IsAcyclic, name_cmp, term_text, IsTextOf, IsResolution, all_resolved, Resolves, an_integer, unbound, bound, a_node, ResolvesAll, no_more, one_more, Goal, goal_text_by, IsGoalTextOf, IsLeaf, IsMeasure, total}
 use Rattle.std.specs.FinMap as finite
-use Rattle.ghc_term.specs.declared.var_name.VarName.{VarName}
-use Rattle.ghc_term.specs.Tree.{Tree, variable, integer, node, Trees, none, more, trees, cons}
-use Rattle.ghc_term.specs.Store.{StoreValue, value_at}
-use Rattle.ghc_term.specs.Bindings.{Leads, at_integer, at_node, at_free, along, IsAcyclic, name_cmp}
-use Rattle.ghc_term.specs.Text.{term_text}
-use Rattle.ghc_term.specs.Resolved.{IsTextOf, IsResolution, all_resolved, Resolves, an_integer, unbound, bound, a_node, ResolvesAll, no_more, one_more}
-use Rattle.ghc_term.specs.Goal.{Goal}
-use Rattle.ghc_term.specs.GoalText.{goal_text_by, IsGoalTextOf}
-use Rattle.ghc_term.specs.Pieces.{IsLeaf, IsMeasure, total}
 use Rattle.ghc_term.proofs.Weights.{size, size_all, size_variable, size_end}
 
 module _ {S : VarName → Option Tree} where

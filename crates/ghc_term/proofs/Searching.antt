@@ -1,14 +1,5 @@
 -- How far a search for a variable has come: which variables were seen, and which trees are still open.
-use Rattle.std.proofs.Common.{◌≡◌, ℕ, ◌+◌, ◌<◌, List, [], ◌∷◌, ◌++◌, length, refl, sym, ap, ◌∙◌, subst, inl, inr, ◌⊎◌, arith, append-nil}
-use Rattle.std.specs.Prelude.{Option, Some, None, map}
-use Rattle.std.specs.Borrow.{Bor}
-use Rattle.std.proofs.lemmas.List.{map-append}
-use Rattle.ghc_term.specs.declared.var_name.VarName.{VarName}
-use Rattle.ghc_term.specs.Tree.{Tree, variable, integer, node, trees, Occurs, OccursIn}
-use Rattle.ghc_term.specs.Store.{StoreValue, value_at}
-use Rattle.ghc_term.specs.Lists.{In}
-use Rattle.ghc_term.specs.Bindings.{Reaches, here, through, IsAcyclic}
-use Rattle.ghc_term.specs.Seen.{Sees, value_list}
+use Rattle.ghc_term.proofs.Words.{◌≡◌, ℕ, ◌+◌, ◌<◌, List, [], ◌∷◌, ◌++◌, length, refl, sym, ap, ◌∙◌, subst, inl, inr, ◌⊎◌, arith, append-nil, Option, Some, None, map, Bor, map-append, VarName, Tree, variable, integer, node, trees, Occurs, OccursIn, StoreValue, value_at, In, Reaches, here, through, IsAcyclic, Sees, value_list}
 use Rattle.ghc_term.proofs.ListsLemmas.{in_left, in_right, in_either, in_last, in_more}
 use Rattle.ghc_term.proofs.Weights.{size, size_all, size_variable}
 

@@ -1,16 +1,7 @@
 -- Sets of variables: what they hold, and the lists that hold the same.
-use Rattle.std.proofs.Common.{◌≡◌, ◌+◌, ◌<◌, Bool, true, false, cond, ◌||◌, List, [], ◌∷◌, ◌++◌, length, refl, sym, ap, ◌∙◌, inl, inr, ◌⊎◌, arith}
-use Rattle.std.specs.Prelude.{◌↔◌, IsTrue}
-use Rattle.std.specs.List.{list_any, AllByRecursion, IsDistinct}
-use Rattle.std.specs.Ordering.{eq_by_cmp}
-use Rattle.std.specs.Cmp.{eq_by_cmp_equiv}
+use Rattle.ghc_term.proofs.Words.{◌≡◌, ◌+◌, ◌<◌, Bool, true, false, cond, ◌||◌, List, [], ◌∷◌, ◌++◌, length, refl, sym, ap, ◌∙◌, inl, inr, ◌⊎◌, arith, ◌↔◌, IsTrue, list_any, AllByRecursion, eq_by_cmp, eq_by_cmp_equiv, or_cases, or_right, list_any-from_Contains, Contains-from_any, VarName, name_cmp, In, Variables, IsSetOf}
+use Rattle.std.specs.List.{IsDistinct}
 use Rattle.std.specs.FinSet as set
-use Rattle.std.proofs.lemmas.Bool.{or_cases, or_right}
-use Rattle.std.proofs.lemmas.Map.Views.{list_any-from_Contains, Contains-from_any}
-use Rattle.ghc_term.specs.declared.var_name.VarName.{VarName}
-use Rattle.ghc_term.specs.Bindings.{name_cmp}
-use Rattle.ghc_term.specs.Lists.{In}
-use Rattle.ghc_term.specs.Sets.{Variables, IsSetOf}
 use Rattle.ghc_term.proofs.Names.{name_total, name_antisymmetric, same_name, itself}
 use Rattle.ghc_term.proofs.Entries.{same, same_is}
 use Rattle.ghc_term.proofs.ListsLemmas.{in_contains, contains_in, Each, each_in}

@@ -1,14 +1,5 @@
 -- The texts of cells, of other structures, and of what ends a list.
-use Rattle.std.proofs.Common.{◌≡◌, ◌≢◌, ℕ, true, false, List, [], ◌∷◌, ◌++◌, length, refl, ap}
-use Rattle.std.specs.Prelude.{Option, None, codes, bytes_eq}
-use Rattle.std.proofs.lemmas.Slice.Eq.{bytes_eq-Decides}
-use Rattle.ghc_term.specs.declared.var_name.VarName.{VarName}
-use Rattle.ghc_term.specs.declared.view.TermView.{TermView}
-use Rattle.ghc_term.specs.declared.view.TermView.TheVariants.{Var, Int, Atom, Struct}
-use Rattle.ghc_term.specs.Tree.{Tree, variable, integer, node, Trees, none, more, trees, cons, nil}
-use Rattle.ghc_term.specs.Shown.{shown, HasArgument}
-use Rattle.ghc_term.specs.Text.{term_text, rest_text, arguments_text, is_cell, is_nil, barred, IsNoCell}
-use Rattle.ghc_term.specs.Resolved.{Resolves, an_integer, unbound, bound, a_node, ResolvesAll, no_more, one_more}
+use Rattle.ghc_term.proofs.Words.{◌≡◌, ◌≢◌, ℕ, true, false, List, [], ◌∷◌, ◌++◌, length, refl, ap, Option, None, codes, bytes_eq, bytes_eq-Decides, VarName, TermView, Var, Int, Atom, Struct, Tree, variable, integer, node, Trees, none, more, trees, cons, nil, shown, HasArgument, term_text, rest_text, arguments_text, is_cell, is_nil, barred, IsNoCell, Resolves, an_integer, unbound, bound, a_node, ResolvesAll, no_more, one_more}
 
 not_equal : (f g : List ℕ) → f ≢ g → bytes_eq f g ≡ false
 not_equal f g n =

@@ -1,9 +1,5 @@
 -- Laws of trees in lists: where variables stand in them, and how high they are.
-use Rattle.std.proofs.Common.{◌≡◌, ℕ, zero, suc, ◌+◌, ◌<◌, ◌≤◌, List, [], ◌∷◌, ◌++◌, length, get_or, take, sym, ap, ◌∙◌, subst, inl, inr, ◌⊎◌, arith}
-use Rattle.std.proofs.lemmas.List.{take_more}
-use Rattle.ghc_term.specs.declared.var_name.VarName.{VarName}
-use Rattle.ghc_term.specs.Tree.{Tree, trees, Occurs, OccursIn, IsClosed, AreClosed}
-use Rattle.ghc_term.specs.View.{height, height_of_all}
+use Rattle.ghc_term.proofs.Words.{◌≡◌, ℕ, zero, suc, ◌+◌, ◌<◌, ◌≤◌, List, [], ◌∷◌, ◌++◌, length, get_or, take, sym, ap, ◌∙◌, subst, inl, inr, ◌⊎◌, arith, take_more, VarName, Tree, trees, Occurs, OccursIn, IsClosed, AreClosed, height, height_of_all}
 
 -- the variables of one more argument
 pub OccursIn_push : (ts : List Tree) (t : Tree) (y : VarName) → OccursIn y (trees (ts ++ t ∷ [])) → OccursIn y (trees ts) ⊎ Occurs y t

@@ -1,22 +1,11 @@
 -- Lists of distinct variables: where a variable stands, and one more at the end.
-use Rattle.std.proofs.Common.{◌≡◌, ℕ, ◌<◌, true, false, cond, List, [], ◌∷◌, ◌++◌, length, get_or, take, slice_get, position, Option, Some, None, is_some, IfSome, IfNone, All, refl, sym, ap, ◌∙◌, subst, ◌≢◌, arith}
-use Rattle.std.specs.List.{list_any, IsDistinct}
-use Rattle.std.proofs.lemmas.List.Quantifiers.{position-Some}
-use Rattle.std.proofs.lemmas.List.Elements.{All-contains}
-use Rattle.std.proofs.lemmas.Option.{slice_get-get_or}
-use Rattle.std.proofs.lemmas.List.{get_or-take, get_or_default, length-take-le}
-use Rattle.std.proofs.lemmas.Map.Keys.{IsDistinct-push, apart_from_distinct}
-use Rattle.std.specs.Cmp.{IsEquivalence, eq_by_cmp_equiv}
-use Rattle.indexmap.specs.IndexSet.{insert_key}
-use Rattle.ghc_term.specs.declared.var_name.VarName.{VarName}
-use Rattle.ghc_term.specs.Lists.{In}
-use Rattle.ghc_term.specs.VariableList.{AreDifferent, is_same}
+use Rattle.ghc_term.proofs.Words.{◌≡◌, ℕ, ◌<◌, true, false, cond, List, [], ◌∷◌, ◌++◌, length, get_or, take, slice_get, position, Option, Some, None, is_some, IfSome, IfNone, All, refl, sym, ap, ◌∙◌, subst, ◌≢◌, arith, list_any, position-Some, All-contains, slice_get-get_or, get_or-take, get_or_default, length-take-le, IsDistinct-push, apart_from_distinct, IsEquivalence, eq_by_cmp_equiv, insert_key, VarName, In, AreDifferent, is_same, name_cmp}
+use Rattle.std.specs.List.{IsDistinct}
 use Rattle.ghc_term.proofs.Names.{name_total, same_name, itself}
 use Rattle.ghc_term.proofs.Entries.{same_is}
 use Rattle.ghc_term.proofs.ListsLemmas.{in_contains, in_at, not_both}
 use Rattle.ghc_term.proofs.SetsLemmas.{any_same, in_any, any_in, in_set, set_in}
 use Rattle.std.specs.FinSet as set
-use Rattle.ghc_term.specs.Bindings.{name_cmp}
 
 -- what no test finds is not there
 pub none_in : (xs : List VarName) (x : VarName) → All (λ y. y ≢ x) xs → ¬ In x xs

@@ -1,15 +1,6 @@
 -- Values under variables, of which those under the first variables of steps stand in a list by step.
-use Rattle.std.proofs.Common.{◌≡◌, ◌≢◌, ◌<◌, ◌≤◌, ◌+◌, ℕ, zero, suc, cond, Bool, true, false, List, [], ◌∷◌, ◌++◌, length, refl, sym, ap, ◌∙◌, subst, nat_eq, arith}
-use Rattle.std.specs.Prelude.{Option, Some, None, slice_set}
-use Rattle.std.specs.Option.{option_or}
-use Rattle.std.specs.Ordering.{eq_by_cmp}
+use Rattle.ghc_term.proofs.Words.{◌≡◌, ◌≢◌, ◌<◌, ◌≤◌, ◌+◌, ℕ, zero, suc, cond, Bool, true, false, List, [], ◌∷◌, ◌++◌, length, refl, sym, ap, ◌∙◌, subst, nat_eq, arith, Option, Some, None, slice_set, option_or, eq_by_cmp, eqb-true, get_or-set_same, get_or-set_other, VarName, name_cmp, var_inj, first_of, first_variables, values_in, values_of, first_at, HasSameValues, HasNoFirsts}
 use Rattle.std.specs.FinMap as finite
-use Rattle.std.proofs.lemmas.Bool.{eqb-true}
-use Rattle.std.proofs.lemmas.List.{get_or-set_same, get_or-set_other}
-use Rattle.ghc_term.specs.declared.var_name.VarName.{VarName}
-use Rattle.ghc_term.specs.Bindings.{name_cmp}
-use Rattle.ghc_term.specs.Code.{var_inj}
-use Rattle.ghc_term.specs.VariableMap.{first_of, first_variables, values_in, values_of, first_at, HasSameValues, HasNoFirsts}
 use Rattle.ghc_term.proofs.Names.{name_total, name_antisymmetric, same_name, itself, apart}
 
 -- a list has nothing at a place that it has not

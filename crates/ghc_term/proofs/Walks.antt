@@ -1,14 +1,5 @@
 -- A walk by what is lent of a term.
-use Rattle.std.proofs.Common.{◌≢◌, [], refl}
-use Rattle.std.specs.Prelude.{Option}
-use Rattle.std.specs.Borrow.{Bor}
-use Rattle.std.specs.Prelude.{List, ℕ}
-use Rattle.ghc_term.specs.declared.var_name.VarName.{VarName}
-use Rattle.ghc_term.specs.declared.view.TermView.{TermView}
-use Rattle.ghc_term.specs.declared.view.TermView.TheVariants.{Var, Int, Atom, Struct}
-use Rattle.ghc_term.specs.Tree.{Tree, Occurs}
-use Rattle.ghc_term.specs.Shown.{shown}
-use Rattle.ghc_term.specs.Bindings.{Leads, at_integer, at_node}
+use Rattle.ghc_term.proofs.Words.{◌≢◌, [], refl, Option, Bor, List, ℕ, VarName, TermView, Var, Int, Atom, Struct, Tree, Occurs, shown, Leads, at_integer, at_node}
 
 -- what is no variable is the end of its chain
 pub at_value : {S : VarName → Option Tree} (v : TermView) → ((x : VarName) → v ≢ Var x) → Leads S (shown v) [] (shown v)

@@ -1,12 +1,6 @@
 -- A store with the bindings of a list, or of a map, more.
-use Rattle.std.proofs.Common.{◌≡◌, true, false, cond, List, [], ◌∷◌, refl, sym, ap, ◌∙◌, Some}
-use Rattle.std.specs.Option.{option_or}
-use Rattle.std.specs.Ordering.{eq_by_cmp}
+use Rattle.ghc_term.proofs.Words.{◌≡◌, true, false, cond, List, [], ◌∷◌, refl, sym, ap, ◌∙◌, Some, option_or, eq_by_cmp, VarName, name_cmp, StoreValue, value_at, with_binds, Tree}
 use Rattle.std.specs.FinMap as finite
-use Rattle.ghc_term.specs.declared.var_name.VarName.{VarName}
-use Rattle.ghc_term.specs.Bindings.{name_cmp}
-use Rattle.ghc_term.specs.Store.{StoreValue, value_at, with_binds}
-use Rattle.ghc_term.specs.Tree.{Tree}
 use Rattle.ghc_term.proofs.Names.{name_total, name_antisymmetric}
 
 pub bound_by_list : (bs : List (VarName × Tree)) (s : StoreValue) (y : VarName) → value_at (with_binds bs s) y ≡ option_or (finite.find name_cmp y bs) (value_at s y)

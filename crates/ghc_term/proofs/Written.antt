@@ -1,12 +1,5 @@
 -- What a structure takes of the room: what it takes itself, what its first arguments take, and what the last one takes.
-use Rattle.std.proofs.Common.{◌≡◌, ℕ, ◌+◌, max, true, false, List, [], ◌∷◌, ◌++◌, length, refl, sym, ap, ◌∙◌, subst, arith, length-append}
-use Rattle.std.specs.Prelude.{codes, if◌then◌else◌}
-use Rattle.ghc_term.specs.Tree.{Tree, node, Trees, none, more, trees}
-use Rattle.ghc_term.specs.Text.{is_cell, term_text, rest_text, cell_text, arguments_text, further_text, barred}
-use Rattle.ghc_term.specs.InputTerm.{AllInGrammar, nodes_of_all, nesting, rest_nesting, cell_nesting, arguments_nesting, deepest}
-use Rattle.ghc_term.specs.Measure.{bytes_at, nesting_at, bytes_of_all, marks_at, opened_at, own_bytes, own_nesting, last_place}
-use Rattle.ghc_term.specs.declared.measure.Place.{Place}
-use Rattle.ghc_term.specs.declared.measure.Place.TheVariants.{Alone, Rest}
+use Rattle.ghc_term.proofs.Words.{◌≡◌, ℕ, ◌+◌, max, true, false, List, [], ◌∷◌, ◌++◌, length, refl, sym, ap, ◌∙◌, subst, arith, length-append, codes, if◌then◌else◌, Tree, node, Trees, none, more, trees, is_cell, term_text, rest_text, cell_text, arguments_text, further_text, barred, AllInGrammar, nodes_of_all, nesting, rest_nesting, cell_nesting, arguments_nesting, deepest, bytes_at, nesting_at, bytes_of_all, marks_at, opened_at, own_bytes, own_nesting, last_place, Place, Alone, Rest}
 
 pub nodes-append : (ts us : List Tree) → nodes_of_all (trees (ts ++ us)) ≡ nodes_of_all (trees ts) + nodes_of_all (trees us)
 nodes-append [] us = omega arith

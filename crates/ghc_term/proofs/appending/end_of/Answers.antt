@@ -1,5 +1,4 @@
-use Rattle.std.proofs.Common.{string_bytes}
-use Rattle.std.proofs.lemmas.Str.{IsUtf8-string_bytes, is_utf8-from_IsUtf8}
+use Rattle.ghc_term.proofs.Words.{string_bytes, IsUtf8-string_bytes, is_utf8-from_IsUtf8}
 use Rattle.ghc_term.proofs.appending.end_of.Goals as goal
 
 pub returns-clause-text : goal.returns-clause-text

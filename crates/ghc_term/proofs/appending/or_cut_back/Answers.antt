@@ -1,6 +1,4 @@
-use Rattle.std.proofs.Common.{rules, ◌≡◌, length, take, arith, string_bytes}
-use Rattle.std.specs.String.{string_len}
-use Rattle.std.proofs.lemmas.Str.{IsCharBoundary-from_take, IsUtf8-string_bytes, IsUtf8-from_is_utf8}
+use Rattle.ghc_term.proofs.Words.{rules, ◌≡◌, length, take, arith, string_bytes, string_len, IsCharBoundary-from_take, IsUtf8-string_bytes, IsUtf8-from_is_utf8}
 use Rattle.ghc_term.proofs.appending.or_cut_back.Goals as goal
 
 pub truncate-requires : goal.truncate-requires

@@ -1,5 +1,4 @@
-use Rattle.std.proofs.Common.{arith}
-use Rattle.std.proofs.lemmas.Fmt.{length-decimal-le}
+use Rattle.ghc_term.proofs.Words.{arith, length-decimal-le}
 use Rattle.ghc_term.proofs.appending.push_digits.Goals as goal
 
 pub push_by_way_of-requires : goal.push_by_way_of-requires

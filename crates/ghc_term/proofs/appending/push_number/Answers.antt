@@ -1,6 +1,4 @@
-use Rattle.std.proofs.Common.{◌++◌, sym, ap, ◌∙◌, string_bytes}
-use Rattle.std.specs.Prelude.{is_ok, if◌then◌else◌}
-use Rattle.std.proofs.lemmas.Fmt.{decimal_digit}
+use Rattle.ghc_term.proofs.Words.{◌++◌, sym, ap, ◌∙◌, string_bytes, is_ok, if◌then◌else◌, decimal_digit}
 use Rattle.ghc_term.proofs.appending.push_number.Goals as goal
 
 pub returns-then-number-lt10 : goal.returns-then-number-lt10

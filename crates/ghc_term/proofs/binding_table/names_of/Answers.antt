@@ -1,7 +1,5 @@
-use Rattle.std.proofs.Common.{◌++◌, ◌∷◌, [], take, sym, ap, ◌∙◌, subst}
-use Rattle.std.specs.Map.{keys_of}
-use Rattle.std.proofs.lemmas.List.{take_more, take_all, map-append}
-use Rattle.ghc_term.specs.Lists.{In}
+use Rattle.ghc_term.proofs.Words.{◌++◌, ◌∷◌, [], take, sym, ap, ◌∙◌, subst, keys_of, take_more, map-append, In}
+use Rattle.std.proofs.lemmas.List.{take_all}
 use Rattle.ghc_term.proofs.BindingLists.{not_before}
 use Rattle.ghc_term.proofs.binding_table.names_of.Goals as goal
 

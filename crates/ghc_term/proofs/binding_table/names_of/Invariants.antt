@@ -1,5 +1,4 @@
-use Rattle.std.proofs.Common.{◌≡◌, take}
-use Rattle.std.specs.Map.{keys_of}
+use Rattle.ghc_term.proofs.Words.{◌≡◌, take, keys_of}
 use Rattle.ghc_term.proofs.binding_table.names_of.Given as goal
 
 abbrev pub invariant-loop-x : goal.invariant-loop-x

@@ -1,7 +1,4 @@
-use Rattle.std.proofs.Common.{sym, ap, ◌∙◌, subst}
-use Rattle.std.specs.Prelude.{slice_get}
-use Rattle.std.specs.Map.{keys_of}
-use Rattle.ghc_term.specs.Lists.{In}
+use Rattle.ghc_term.proofs.Words.{sym, ap, ◌∙◌, subst, slice_get, keys_of, In}
 use Rattle.ghc_term.proofs.BindingLists.{still_once, changed, once_more, added, no_key}
 use Rattle.ghc_term.proofs.bindings.put.Goals as goal
 

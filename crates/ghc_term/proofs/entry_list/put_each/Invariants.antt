@@ -1,5 +1,4 @@
-use Rattle.std.proofs.Common.{◌≡◌, ◌≤◌, length}
-use Rattle.ghc_term.specs.Store.{with_binds}
+use Rattle.ghc_term.proofs.Words.{◌≡◌, ◌≤◌, length, with_binds}
 use Rattle.ghc_term.proofs.entry_list.put_each.Given as goal
 
 abbrev pub invariant-loop-x : goal.invariant-loop-x

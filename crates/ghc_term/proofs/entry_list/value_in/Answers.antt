@@ -1,8 +1,5 @@
-use Rattle.std.proofs.Common.{◌+◌, cond, drop, sym, ap, ◌∙◌}
-use Rattle.std.specs.Prelude.{Some}
+use Rattle.ghc_term.proofs.Words.{◌+◌, cond, drop, sym, ap, ◌∙◌, Some, drop_all, name_cmp}
 use Rattle.std.specs.FinMap as finite
-use Rattle.std.proofs.lemmas.List.{drop_all}
-use Rattle.ghc_term.specs.Bindings.{name_cmp}
 use Rattle.ghc_term.proofs.BindingLists.{next}
 use Rattle.ghc_term.proofs.Names.{name_total}
 use Rattle.ghc_term.proofs.entry_list.value_in.Goals as goal

@@ -1,6 +1,5 @@
-use Rattle.std.proofs.Common.{◌≡◌, drop}
+use Rattle.ghc_term.proofs.Words.{◌≡◌, drop, name_cmp}
 use Rattle.std.specs.FinMap as finite
-use Rattle.ghc_term.specs.Bindings.{name_cmp}
 use Rattle.ghc_term.proofs.entry_list.value_in.Given as goal
 
 abbrev pub invariant-loop-y : goal.invariant-loop-y

@@ -1,5 +1,4 @@
-use Rattle.std.proofs.Common.{◌≡◌, ◌<◌, true, false}
-use Rattle.ghc_term.specs.Equality.{all_left_nodes}
+use Rattle.ghc_term.proofs.Words.{◌≡◌, ◌<◌, true, false, all_left_nodes}
 use Rattle.ghc_term.proofs.Alike.{goes_on, gets_fewer, stops}
 use Rattle.ghc_term.proofs.equality.are_alike.Goals as goal
 

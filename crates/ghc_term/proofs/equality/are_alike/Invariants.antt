@@ -1,5 +1,4 @@
-use Rattle.std.specs.Prelude.{◌↔◌}
-use Rattle.ghc_term.specs.Equality.{AreAlike, all_left_nodes}
+use Rattle.ghc_term.proofs.Words.{◌↔◌, AreAlike, all_left_nodes}
 use Rattle.ghc_term.proofs.equality.are_alike.Given as goal
 
 abbrev pub invariant-loop-pair : goal.invariant-loop-pair

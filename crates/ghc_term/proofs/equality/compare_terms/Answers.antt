@@ -1,6 +1,4 @@
-use Rattle.std.proofs.Common.{sym, ap, ◌∙◌, arith}
-use Rattle.std.proofs.lemmas.Result.{IfOk-weaker}
-use Rattle.ghc_term.specs.InputTerm.{nodes}
+use Rattle.ghc_term.proofs.Words.{sym, ap, ◌∙◌, arith, IfOk-weaker, nodes}
 use Rattle.ghc_term.proofs.Alike.{compared_as, refuted, lent_structure, same_structure, same_parts}
 use Rattle.ghc_term.proofs.equality.compare_terms.Goals as goal
 

@@ -1,7 +1,4 @@
-use Rattle.std.proofs.Common.{◌≡◌, ◌≤◌, suc, drop, length}
-use Rattle.ghc_term.specs.Tree.{trees}
-use Rattle.ghc_term.specs.InputTerm.{nodes_of_all}
-use Rattle.ghc_term.specs.Equality.{Adds}
+use Rattle.ghc_term.proofs.Words.{◌≡◌, ◌≤◌, suc, drop, length, trees, nodes_of_all, Adds}
 use Rattle.ghc_term.proofs.equality.push_arguments.Given as goal
 
 abbrev pub invariant-loop-index : goal.invariant-loop-index

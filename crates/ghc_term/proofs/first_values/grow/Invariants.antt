@@ -1,5 +1,4 @@
-use Rattle.std.proofs.Common.{◌+◌, ◌≤◌, vec_len, vec_capacity}
-use Rattle.ghc_term.specs.VariableMap.{HasSameValues}
+use Rattle.ghc_term.proofs.Words.{◌+◌, ◌≤◌, vec_len, vec_capacity, HasSameValues}
 use Rattle.ghc_term.proofs.first_values.grow.Given as goal
 
 abbrev pub invariant-loop : goal.invariant-loop

@@ -1,5 +1,4 @@
-use Rattle.std.proofs.Common.{◌≡◌, true, false, refl, ap, subst, ◌∙◌}
-use Rattle.std.specs.Prelude.{IsSome, is_some}
+use Rattle.ghc_term.proofs.Words.{◌≡◌, true, false, refl, ap, subst, ◌∙◌, IsSome, is_some}
 use Rattle.ghc_term.proofs.Indexed.{value_is, inserted}
 use Rattle.ghc_term.proofs.GoalNames.{goal_total, goal_antisymmetric, same, same_is}
 use Rattle.ghc_term.proofs.goal_places.replace_other.Goals as goal

@@ -1,5 +1,4 @@
-use Rattle.std.proofs.Common.{sym, ap, ◌∙◌, take_all, subst, inl, inr}
-use Rattle.ghc_term.specs.Lists.{In}
+use Rattle.ghc_term.proofs.Words.{sym, ap, ◌∙◌, take_all, subst, inl, inr, In}
 use Rattle.ghc_term.proofs.Entries.{same_is}
 use Rattle.ghc_term.proofs.ListsLemmas.{next_in}
 use Rattle.ghc_term.proofs.Names.{same_name}

@@ -1,7 +1,4 @@
-use Rattle.std.proofs.Common.{◌≢◌, take}
-use Rattle.ghc_term.specs.Lists.{In}
-use Rattle.ghc_term.specs.declared.var_name.VarName.{VarName}
-use Rattle.ghc_term.specs.Tree.{Tree}
+use Rattle.ghc_term.proofs.Words.{◌≢◌, take, In, VarName, Tree}
 use Rattle.ghc_term.proofs.known.has_no_other.Given as goal
 
 abbrev pub invariant-loop-y : goal.invariant-loop-y

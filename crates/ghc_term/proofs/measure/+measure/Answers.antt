@@ -1,9 +1,4 @@
-use Rattle.std.proofs.Common.{rules, ◌∙◌, FitsSigned, w64, sym, ap, subst, arith}
-use Rattle.std.proofs.lemmas.Int.{to_z-of_z}
-use Rattle.std.proofs.lemmas.Option.{MatchOption-at_some}
-use Rattle.ghc_term.specs.Tree.{trees, integer}
-use Rattle.ghc_term.specs.View.{height, height_of_all}
-use Rattle.ghc_term.specs.Measure.{MeasuredAt}
+use Rattle.ghc_term.proofs.Words.{rules, ◌∙◌, FitsSigned, w64, sym, ap, subst, arith, to_z-of_z, MatchOption-at_some, trees, integer, height, height_of_all, MeasuredAt}
 use Rattle.ghc_term.proofs.Trees.{height_item, height_front}
 use Rattle.ghc_term.proofs.Along.{finished, refused, all_refused, no_own_room, no_front_room, go_on, go_down, no_mark, no_term, one_more}
 use Rattle.ghc_term.proofs.measure.+measure.Goals as goal

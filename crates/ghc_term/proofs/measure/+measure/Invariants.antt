@@ -1,6 +1,4 @@
-use Rattle.std.proofs.Common.{◌+◌, ◌*◌, take}
-use Rattle.ghc_term.specs.Tree.{trees}
-use Rattle.ghc_term.specs.View.{height, height_of_all}
+use Rattle.ghc_term.proofs.Words.{◌+◌, ◌*◌, take, trees, height, height_of_all}
 use Rattle.ghc_term.proofs.Along.{Along, LeavesAll}
 use Rattle.ghc_term.proofs.measure.+measure.Given as goal
 

@@ -1,7 +1,4 @@
-use Rattle.std.proofs.Common.{◌≡◌, ◌≤◌, false, true, length, refl, sym, ap, ◌∙◌, subst, arith}
-use Rattle.ghc_term.specs.Tree.{trees}
-use Rattle.ghc_term.specs.Text.{is_cell}
-use Rattle.ghc_term.specs.InputTerm.{IsNameText}
+use Rattle.ghc_term.proofs.Words.{◌≡◌, ◌≤◌, false, true, length, refl, sym, ap, ◌∙◌, subst, arith, trees, is_cell, IsNameText}
 use Rattle.ghc_term.proofs.Heads.{head_parts, head_whole, plain_last, plain_own_bytes, plain_own_nesting}
 use Rattle.ghc_term.proofs.measure.enter.Goals as goal
 

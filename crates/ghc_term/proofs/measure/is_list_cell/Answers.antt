@@ -1,5 +1,4 @@
-use Rattle.std.proofs.Common.{sym, ap, ◌∙◌}
-use Rattle.std.specs.Prelude.{codes, bytes_eq}
+use Rattle.ghc_term.proofs.Words.{sym, ap, ◌∙◌, codes, bytes_eq}
 use Rattle.ghc_term.proofs.Heads.{is_cell_by_count}
 use Rattle.ghc_term.proofs.measure.is_list_cell.Goals as goal
 

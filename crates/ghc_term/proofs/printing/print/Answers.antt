@@ -1,8 +1,4 @@
-use Rattle.std.proofs.Common.{◌≡◌, ◌++◌, Err, length, ap, ◌∙◌, refl, arith}
-use Rattle.ghc_term.specs.declared.fault.Fault.TheVariants.{Limit}
-use Rattle.ghc_term.specs.declared.limit.Limit.TheVariants.{Print}
-use Rattle.ghc_term.specs.Text.{term_text}
-use Rattle.ghc_term.specs.Pieces.{pieces_text}
+use Rattle.ghc_term.proofs.Words.{◌≡◌, ◌++◌, Err, length, ap, ◌∙◌, refl, arith, Limit, Print, term_text, pieces_text}
 use Rattle.ghc_term.proofs.Pieces.{alone}
 use Rattle.ghc_term.proofs.Resolving.{resolution, is_text}
 use Rattle.ghc_term.proofs.printing.print.Goals as goal

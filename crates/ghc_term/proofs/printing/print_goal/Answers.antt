@@ -1,8 +1,4 @@
-use Rattle.std.proofs.Common.{◌≡◌, ◌++◌, Err, length, length-append, append-nil, ap, ◌∙◌, refl, arith, string_bytes}
-use Rattle.ghc_term.specs.declared.fault.Fault.TheVariants.{Limit}
-use Rattle.ghc_term.specs.declared.limit.Limit.TheVariants.{Print}
-use Rattle.ghc_term.specs.GoalText.{goal_text_by}
-use Rattle.ghc_term.specs.Pieces.{pieces_text}
+use Rattle.ghc_term.proofs.Words.{◌≡◌, ◌++◌, Err, length, length-append, append-nil, ap, ◌∙◌, refl, arith, string_bytes, Limit, Print, goal_text_by, pieces_text}
 use Rattle.ghc_term.proofs.Resolving.{resolution, is_goal_text}
 use Rattle.ghc_term.proofs.printing.print_goal.Goals as goal
 

@@ -1,7 +1,4 @@
-use Rattle.std.proofs.Common.{◌++◌, append-nil, ap, ◌∙◌, string_bytes}
-use Rattle.std.proofs.lemmas.Result.{IfOk-weaker}
-use Rattle.ghc_term.specs.GoalText.{goal_text}
-use Rattle.ghc_term.specs.Pieces.{pieces_text}
+use Rattle.ghc_term.proofs.Words.{◌++◌, append-nil, ap, ◌∙◌, string_bytes, IfOk-weaker, goal_text, pieces_text}
 use Rattle.ghc_term.proofs.Resolving.{each_itself}
 use Rattle.ghc_term.proofs.printing.write_goal.Goals as goal
 

@@ -1,6 +1,4 @@
-use Rattle.std.proofs.Common.{rules, ◌≡◌, ◌++◌, [], length, length-append, append-nil, sym, ap, ◌∙◌, arith, string_bytes}
-use Rattle.std.proofs.lemmas.Grind.{common_steps}
-use Rattle.ghc_term.specs.Pieces.{pieces_text}
+use Rattle.ghc_term.proofs.Words.{rules, ◌≡◌, ◌++◌, [], length, length-append, append-nil, sym, ap, ◌∙◌, arith, string_bytes, common_steps, pieces_text}
 use Rattle.ghc_term.proofs.Resolving.{resolution, measure, is_measure}
 use Rattle.ghc_term.proofs.Pieces.{taken}
 use Rattle.ghc_term.proofs.printing.write_pieces.Goals as goal

@@ -1,9 +1,4 @@
-use Rattle.std.proofs.Common.{◌≡◌, ◌++◌, string_bytes}
-use Rattle.std.specs.Io.{StartsWith}
-use Rattle.ghc_term.specs.Store.{value_at}
-use Rattle.ghc_term.specs.Tree.{Tree}
-use Rattle.ghc_term.specs.Resolved.{IsResolution}
-use Rattle.ghc_term.specs.Pieces.{pieces_text, pieces_size}
+use Rattle.ghc_term.proofs.Words.{◌≡◌, ◌++◌, string_bytes, StartsWith, value_at, Tree, IsResolution, pieces_text, pieces_size}
 use Rattle.ghc_term.proofs.Resolving.{measure}
 use Rattle.ghc_term.proofs.printing.write_pieces.Given as goal
 

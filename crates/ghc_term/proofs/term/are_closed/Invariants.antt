@@ -1,5 +1,4 @@
-use Rattle.std.proofs.Common.{take}
-use Rattle.ghc_term.specs.Tree.{trees, AreClosed}
+use Rattle.ghc_term.proofs.Words.{take, trees, AreClosed}
 use Rattle.ghc_term.proofs.term.are_closed.Given as goal
 
 abbrev pub invariant-loop-term : goal.invariant-loop-term

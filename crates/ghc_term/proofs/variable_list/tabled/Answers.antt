@@ -1,8 +1,5 @@
-use Rattle.std.proofs.Common.{◌≡◌, ◌+◌, ◌++◌, ◌∷◌, [], length, get_or, take, sym, ap, ◌∙◌, subst, arith}
-use Rattle.std.proofs.lemmas.List.{take_more, take_all}
-use Rattle.ghc_term.specs.declared.var_name.VarName.{VarName}
-use Rattle.ghc_term.specs.Lists.{In}
-use Rattle.ghc_term.specs.VariableList.{AreDifferent}
+use Rattle.ghc_term.proofs.Words.{◌≡◌, ◌+◌, ◌++◌, ◌∷◌, [], length, get_or, take, sym, ap, ◌∙◌, subst, arith, take_more, VarName, In, AreDifferent}
+use Rattle.std.proofs.lemmas.List.{take_all}
 use Rattle.ghc_term.proofs.VariableLists.{pushed, not_before}
 use Rattle.ghc_term.proofs.variable_list.tabled.Goals as goal
 

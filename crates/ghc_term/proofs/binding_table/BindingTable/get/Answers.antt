@@ -1,10 +1,5 @@
-use Rattle.std.proofs.Common.{sym, ap, ◌∙◌, subst}
-use Rattle.std.specs.Prelude.{Some, slice_get}
+use Rattle.ghc_term.proofs.Words.{sym, ap, ◌∙◌, subst, Some, slice_get, map_of, In, value_at, AreDifferent}
 use Rattle.std.specs.FinMap as finite
-use Rattle.ghc_term.specs.BindingTable.{map_of}
-use Rattle.ghc_term.specs.Lists.{In}
-use Rattle.ghc_term.specs.Store.{value_at}
-use Rattle.ghc_term.specs.VariableList.{AreDifferent}
 use Rattle.ghc_term.proofs.BindingLists.{entry_there, value_there, no_value}
 use Rattle.ghc_term.proofs.Names.{name_total}
 use Rattle.ghc_term.proofs.binding_table.BindingTable.get.Goals as goal

@@ -1,9 +1,5 @@
-use Rattle.std.proofs.Common.{◌++◌, ◌∷◌, [], sym, ap, ◌∙◌, subst}
-use Rattle.std.specs.Prelude.{slice_get}
+use Rattle.ghc_term.proofs.Words.{◌++◌, ◌∷◌, [], sym, ap, ◌∙◌, subst, slice_get, map_of, In, AreDifferent}
 use Rattle.std.specs.FinMap as finite
-use Rattle.ghc_term.specs.BindingTable.{map_of}
-use Rattle.ghc_term.specs.Lists.{In}
-use Rattle.ghc_term.specs.VariableList.{AreDifferent}
 use Rattle.ghc_term.proofs.BindingLists.{same_keys, still_once, changed, once_more, added}
 use Rattle.ghc_term.proofs.binding_table.BindingTable.insert.Goals as goal
 

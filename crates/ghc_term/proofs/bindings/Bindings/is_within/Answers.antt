@@ -1,11 +1,6 @@
-use Rattle.std.proofs.Common.{◌≡◌, true, false, sym, ap, ◌∙◌, subst, refl, length}
-use Rattle.std.specs.Prelude.{Some}
+use Rattle.ghc_term.proofs.Words.{◌≡◌, true, false, sym, ap, ◌∙◌, subst, refl, length, Some, slice_get_read, AreOnce, In, value_at}
 use Rattle.std.specs.FinMap as finite
 use Rattle.std.proofs.lemmas.List.{take_all}
-use Rattle.std.proofs.lemmas.Option.{slice_get_read}
-use Rattle.ghc_term.specs.BindingTable.{AreOnce}
-use Rattle.ghc_term.specs.Lists.{In}
-use Rattle.ghc_term.specs.Store.{value_at}
 use Rattle.ghc_term.proofs.BindingLists.{value_there}
 use Rattle.ghc_term.proofs.ListsLemmas.{each_next, in_at, not_both}
 use Rattle.ghc_term.proofs.MapsLemmas.{place_of}

@@ -1,6 +1,5 @@
-use Rattle.std.proofs.Common.{◌≤◌, sym, ap, ◌∙◌, subst}
+use Rattle.ghc_term.proofs.Words.{◌≤◌, sym, ap, ◌∙◌, subst, in_order}
 use Rattle.std.specs.FinMap as finite
-use Rattle.ghc_term.specs.BindingList.{in_order}
 use Rattle.ghc_term.proofs.MapsLemmas.{entries_len}
 use Rattle.ghc_term.proofs.WithBinds.{as_entries}
 use Rattle.ghc_term.proofs.bindings.Bindings.put_into.Goals as goal

@@ -1,6 +1,4 @@
-use Rattle.std.proofs.Common.{sym, ap, ◌∙◌}
-use Rattle.std.proofs.lemmas.Result.{IfOk-weaker}
-use Rattle.ghc_term.specs.Store.{value_at}
+use Rattle.ghc_term.proofs.Words.{sym, ap, ◌∙◌, IfOk-weaker, value_at}
 use Rattle.ghc_term.proofs.MapsLemmas.{same_bindings}
 use Rattle.ghc_term.proofs.bindings.Bindings.same.Goals as goal
 

@@ -1,5 +1,4 @@
-use Rattle.std.proofs.Common.{ap}
-use Rattle.std.specs.Map.{keys_of}
+use Rattle.ghc_term.proofs.Words.{ap, keys_of}
 use Rattle.ghc_term.proofs.VariableLists.{nothing}
 use Rattle.ghc_term.proofs.bindings.Bindings.with_capacity.Goals as goal
 

@@ -1,5 +1,4 @@
-use Rattle.std.proofs.Common.{◌≡◌, ◌+◌, ◌≤◌, max, ap, arith}
-use Rattle.ghc_term.specs.ExpressionView.{depth_of, expression_of}
+use Rattle.ghc_term.proofs.Words.{◌≡◌, ◌+◌, ◌≤◌, max, ap, arith, depth_of, expression_of}
 use Rattle.ghc_term.proofs.expr.Expr.+drop.Goals as goal
 
 pub drop-right-requires : goal.drop-right-requires

@@ -1,5 +1,4 @@
-use Rattle.std.proofs.Common.{◌≤◌}
-use Rattle.ghc_term.specs.ExpressionView.{depth_of}
+use Rattle.ghc_term.proofs.Words.{◌≤◌, depth_of}
 use Rattle.ghc_term.proofs.expr.Expr.+drop.Given as goal
 
 abbrev pub invariant-loop-term : goal.invariant-loop-term

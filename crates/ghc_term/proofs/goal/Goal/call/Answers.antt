@@ -1,7 +1,4 @@
-use Rattle.std.proofs.Common.{◌≡◌, length, sym, ap, ◌∙◌, arith}
-use Rattle.std.proofs.lemmas.Grind.{common_steps}
-use Rattle.ghc_term.specs.Goal.{call}
-use Rattle.ghc_term.specs.GoalShape.{call_of}
+use Rattle.ghc_term.proofs.Words.{◌≡◌, length, sym, ap, ◌∙◌, arith, common_steps, call, call_of}
 use Rattle.ghc_term.proofs.Goals.{list_of-trees, is_empty}
 use Rattle.ghc_term.proofs.goal.Goal.call.Goals as goal
 use Rattle.ghc_term.proofs.goal.Goal.call.Goals.{then-is_empty, else-is_empty+in_ok-term}

@@ -1,6 +1,4 @@
-use Rattle.std.proofs.Common.{sym, ap, ◌∙◌}
-use Rattle.ghc_term.specs.Goal.{call}
-use Rattle.ghc_term.specs.GoalShape.{call_of, goal_of}
+use Rattle.ghc_term.proofs.Words.{sym, ap, ◌∙◌, call, call_of, goal_of}
 use Rattle.ghc_term.proofs.Goals.{list_of-trees}
 use Rattle.ghc_term.proofs.goal.Goal.view.Goals as goal
 

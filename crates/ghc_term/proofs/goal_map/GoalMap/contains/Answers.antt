@@ -1,5 +1,4 @@
-use Rattle.std.proofs.Common.{sym, ap, ◌∙◌}
-use Rattle.std.specs.Prelude.{is_some}
+use Rattle.ghc_term.proofs.Words.{sym, ap, ◌∙◌, is_some}
 use Rattle.std.specs.FinMap as finite
 use Rattle.ghc_term.proofs.PlacedGoals.{has_is}
 use Rattle.ghc_term.proofs.goal_map.GoalMap.contains.Goals as goal

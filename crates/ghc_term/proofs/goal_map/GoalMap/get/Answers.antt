@@ -1,6 +1,5 @@
-use Rattle.std.proofs.Common.{sym, ap, ◌∙◌, arith}
+use Rattle.ghc_term.proofs.Words.{sym, ap, ◌∙◌, arith, slice_get_read}
 use Rattle.std.specs.FinMap as finite
-use Rattle.std.proofs.lemmas.Option.{slice_get_read}
 use Rattle.ghc_term.proofs.PlacedGoals.{value_at, held_is, within}
 use Rattle.ghc_term.proofs.goal_map.GoalMap.get.Goals as goal
 

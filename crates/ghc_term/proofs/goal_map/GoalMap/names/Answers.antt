@@ -1,7 +1,6 @@
-use Rattle.std.proofs.Common.{sym, ap, length, ◌∙◌}
+use Rattle.ghc_term.proofs.Words.{sym, ap, length, ◌∙◌, goal_cmp, names_of}
 use Rattle.std.specs.FinMap as finite
 use Rattle.std.specs.FinSet as set
-use Rattle.ghc_term.specs.GoalMap.{goal_cmp, names_of}
 use Rattle.ghc_term.proofs.PlacedGoals.{list_is, count_is}
 use Rattle.ghc_term.proofs.goal_map.GoalMap.names.Goals as goal
 

@@ -1,7 +1,5 @@
-use Rattle.std.proofs.Common.{◌≡◌, sym, ap, ◌∙◌, length, arith}
-use Rattle.std.specs.Prelude.{None, Some, slice_get}
+use Rattle.ghc_term.proofs.Words.{◌≡◌, sym, ap, ◌∙◌, length, arith, None, Some, slice_get, goal_cmp}
 use Rattle.std.specs.FinMap as finite
-use Rattle.ghc_term.specs.GoalMap.{goal_cmp}
 use Rattle.ghc_term.proofs.goal_map.GoalMap.new.Goals as goal
 
 pub invariant_of-result : goal.invariant_of-result

@@ -1,7 +1,5 @@
-use Rattle.std.proofs.Common.{◌<◌, sym, ap, subst, length, ◌∙◌, arith}
+use Rattle.ghc_term.proofs.Words.{◌<◌, sym, ap, subst, length, ◌∙◌, arith, slice_get_read, ArePlaces}
 use Rattle.std.specs.FinMap as finite
-use Rattle.std.proofs.lemmas.Option.{slice_get_read}
-use Rattle.ghc_term.specs.GoalMap.{ArePlaces}
 use Rattle.ghc_term.proofs.PlacedGoals.{value_at, held_is, within}
 use Rattle.ghc_term.proofs.ChangedPlaces.{gone_same, end_places, end_held, moved_is_there, moved_places, moved_held}
 use Rattle.ghc_term.proofs.goal_map.GoalMap.remove.Goals as goal

@@ -1,7 +1,5 @@
-use Rattle.std.proofs.Common.{sym, ap, ◌∙◌}
-use Rattle.std.specs.Option.{option_or}
+use Rattle.ghc_term.proofs.Words.{sym, ap, ◌∙◌, option_or, numbers_in, number_at}
 use Rattle.std.specs.FinMap as finite
-use Rattle.ghc_term.specs.GoalPlaces.{numbers_in, number_at}
 use Rattle.ghc_term.proofs.GoalPlaces.{number_near, number_other, near_is}
 use Rattle.ghc_term.proofs.goal_places.GoalPlaces.get.Goals as goal
 

@@ -1,7 +1,5 @@
-use Rattle.std.proofs.Common.{ap, ◌∙◌}
+use Rattle.ghc_term.proofs.Words.{ap, ◌∙◌, goal_cmp, numbers_in}
 use Rattle.std.specs.FinMap as finite
-use Rattle.ghc_term.specs.GoalMap.{goal_cmp}
-use Rattle.ghc_term.specs.GoalPlaces.{numbers_in}
 use Rattle.ghc_term.proofs.goal_places.GoalPlaces.new.Goals as goal
 
 pub invariant_of-result : goal.invariant_of-result

@@ -1,8 +1,5 @@
-use Rattle.std.specs.Prelude.{Option, None, Some}
-use Rattle.std.proofs.Common.{◌≡◌, refl, sym, ap, ◌∙◌}
+use Rattle.ghc_term.proofs.Words.{Option, None, Some, ◌≡◌, refl, sym, ap, ◌∙◌, option_or, numbers_in, numbers_of, number_at}
 use Rattle.std.specs.FinMap as finite
-use Rattle.std.specs.Option.{option_or}
-use Rattle.ghc_term.specs.GoalPlaces.{numbers_in, numbers_of, number_at}
 use Rattle.ghc_term.proofs.GoalPlaces.{removed_near, removed_far, removed_listed, near_gone, near_is, number_near, number_other}
 use Rattle.ghc_term.proofs.goal_places.GoalPlaces.remove.Goals as goal
 

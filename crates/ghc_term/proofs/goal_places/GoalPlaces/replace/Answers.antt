@@ -1,5 +1,4 @@
-use Rattle.std.proofs.Common.{sym, subst, arith}
-use Rattle.std.specs.Prelude.{IsTrue}
+use Rattle.ghc_term.proofs.Words.{sym, subst, arith, IsTrue}
 use Rattle.std.specs.FinMap as finite
 use Rattle.ghc_term.proofs.GoalPlaces.{put_near, put_far, put_past, near_put, near_written, there_far, there_past}
 use Rattle.ghc_term.proofs.goal_places.GoalPlaces.replace.Goals as goal

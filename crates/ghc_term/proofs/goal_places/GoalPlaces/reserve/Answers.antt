@@ -1,5 +1,4 @@
-use Rattle.std.proofs.Common.{ap, ◌∙◌}
-use Rattle.ghc_term.specs.GoalPlaces.{numbers_of}
+use Rattle.ghc_term.proofs.Words.{ap, ◌∙◌, numbers_of}
 use Rattle.ghc_term.proofs.goal_places.GoalPlaces.reserve.Goals as goal
 
 pub returns-clause-held : goal.returns-clause-held

@@ -1,5 +1,4 @@
-use Rattle.std.proofs.Common.{subst, arith}
-use Rattle.ghc_term.specs.InputTerm.{IsInputTerm}
+use Rattle.ghc_term.proofs.Words.{subst, arith, IsInputTerm}
 use Rattle.ghc_term.proofs.Closed.{closed}
 use Rattle.ghc_term.proofs.Nesting.{most_open-term}
 use Rattle.ghc_term.proofs.ground.Ground.as_term.Goals as goal

@@ -1,9 +1,7 @@
-use Rattle.std.proofs.Common.{◌+◌, ◌<◌, [], ◌∷◌, ◌∙◌, ap, sym, subst, append_assoc, append-nil}
+use Rattle.ghc_term.proofs.Words.{◌+◌, ◌<◌, [], ◌∷◌, ◌∙◌, ap, sym, subst, append_assoc, append-nil, Leads, at_free, along, value_in}
 use Rattle.std.specs.FinMap as finite
-use Rattle.ghc_term.specs.Bindings.{Leads, at_free, along}
 use Rattle.ghc_term.proofs.Total.{walk, walk_step}
 use Rattle.ghc_term.proofs.Walks.{at_value}
-use Rattle.ghc_term.specs.Overlay.{value_in}
 use Rattle.ghc_term.proofs.Merged.{all_bound, all_acyclic, all_is}
 use Rattle.ghc_term.proofs.overlay.Overlay.chain.Goals as goal
 

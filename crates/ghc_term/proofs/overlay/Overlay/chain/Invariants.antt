@@ -1,10 +1,6 @@
-use Rattle.std.proofs.Common.{List, ◌+◌, ◌++◌}
+use Rattle.ghc_term.proofs.Words.{List, ◌+◌, ◌++◌, Tree, Leads, VarName, value_in}
 use Rattle.std.specs.FinMap as finite
-use Rattle.ghc_term.specs.Tree.{Tree}
-use Rattle.ghc_term.specs.Bindings.{Leads}
-use Rattle.ghc_term.specs.declared.var_name.VarName.{VarName}
 use Rattle.ghc_term.proofs.Total.{walk}
-use Rattle.ghc_term.specs.Overlay.{value_in}
 use Rattle.ghc_term.proofs.Merged.{all_bound}
 use Rattle.ghc_term.proofs.overlay.Overlay.chain.Given as goal
 

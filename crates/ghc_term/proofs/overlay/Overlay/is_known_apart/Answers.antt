@@ -1,7 +1,5 @@
-use Rattle.std.proofs.Common.{sym, subst, arith}
+use Rattle.ghc_term.proofs.Words.{sym, subst, arith, Reaches, value_at}
 use Rattle.std.specs.FinMap as finite
-use Rattle.ghc_term.specs.Bindings.{Reaches}
-use Rattle.ghc_term.specs.Store.{value_at}
 use Rattle.ghc_term.proofs.Merged.{none_more}
 use Rattle.ghc_term.proofs.overlay.Overlay.is_known_apart.Goals as goal
 

@@ -1,7 +1,4 @@
-use Rattle.std.proofs.Common.{◌≡◌, ◌<◌, [], map, subst}
-use Rattle.std.specs.Borrow.{Bor}
-use Rattle.ghc_term.specs.Tree.{Tree}
-use Rattle.ghc_term.specs.Overlay.{value_in}
+use Rattle.ghc_term.proofs.Words.{◌≡◌, ◌<◌, [], map, subst, Bor, Tree, value_in}
 use Rattle.ghc_term.proofs.Merged.{all_bound, all_acyclic, all_is}
 use Rattle.ghc_term.proofs.Reaching.{Walking, begun, passed, sees, unfolds, finished}
 use Rattle.ghc_term.proofs.Searching.{sizes, popped, falls_away, sees_falls, unfold_falls, nothing_open}

@@ -1,10 +1,7 @@
-use Rattle.std.proofs.Common.{◌≡◌, ◌<◌, [], ◌∷◌, ◌++◌, map, true, false, refl, sym, ap, ◌∙◌, subst, inr}
-use Rattle.std.specs.Borrow.{Bor}
-use Rattle.ghc_term.specs.Tree.{Tree, variable}
+use Rattle.ghc_term.proofs.Words.{◌≡◌, ◌<◌, [], ◌∷◌, ◌++◌, map, true, false, refl, sym, ap, ◌∙◌, subst, inr, Bor, Tree, variable, value_in}
 use Rattle.ghc_term.proofs.Entries.{same, same_is}
 use Rattle.ghc_term.proofs.Searches.{same_itself}
 use Rattle.ghc_term.proofs.Total.{same_name}
-use Rattle.ghc_term.specs.Overlay.{value_in}
 use Rattle.ghc_term.proofs.Merged.{all_bound, all_acyclic, all_is}
 use Rattle.ghc_term.proofs.Reaching.{reaches_in}
 use Rattle.ghc_term.proofs.Searching.{Searching, sizes, found, finished, passed, popped, falls_away, sees, sees_falls, unfolds, unfold_falls, nothing_open}

@@ -1,5 +1,4 @@
-use Rattle.std.proofs.Common.{map}
-use Rattle.ghc_term.specs.Overlay.{value_in}
+use Rattle.ghc_term.proofs.Words.{map, value_in}
 use Rattle.ghc_term.proofs.Merged.{all_bound}
 use Rattle.ghc_term.proofs.Searching.{Searching, sizes}
 use Rattle.ghc_term.proofs.overlay.Overlay.search.Given as goal

@@ -1,7 +1,4 @@
-use Rattle.std.proofs.Common.{◌++◌, [], sym, ap, ◌∙◌, arith}
-use Rattle.std.proofs.lemmas.Result.{IfOk-weaker}
-use Rattle.ghc_term.specs.GoalText.{expression_text_by, operand}
-use Rattle.ghc_term.specs.Pieces.{expression_size}
+use Rattle.ghc_term.proofs.Words.{◌++◌, [], sym, ap, ◌∙◌, arith, IfOk-weaker, expression_text_by, operand, expression_size}
 use Rattle.ghc_term.proofs.Pieces.{as_said, left_one}
 use Rattle.ghc_term.proofs.printing.expressions.push_expression.Goals as goal
 

@@ -1,7 +1,4 @@
-use Rattle.std.proofs.Common.{sym, ap, arith}
-use Rattle.std.specs.Prelude.{codes}
-use Rattle.ghc_term.specs.GoalText.{expression_text_by, operand}
-use Rattle.ghc_term.specs.Pieces.{expression_size}
+use Rattle.ghc_term.proofs.Words.{sym, ap, arith, codes, expression_text_by, operand, expression_size}
 use Rattle.ghc_term.proofs.Pieces.{as_said, left_one, left_two}
 use Rattle.ghc_term.proofs.printing.expressions.push_operand.Goals as goal
 

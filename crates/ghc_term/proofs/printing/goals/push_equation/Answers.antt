@@ -1,8 +1,4 @@
-use Rattle.std.proofs.Common.{◌≡◌, ◌++◌, [], refl, ap, ◌∙◌, string_bytes}
-use Rattle.std.specs.Prelude.{if◌then◌else◌}
-use Rattle.std.proofs.lemmas.Result.{IfOk-weaker}
-use Rattle.ghc_term.specs.Text.{term_text}
-use Rattle.ghc_term.specs.Pieces.{piece_text}
+use Rattle.ghc_term.proofs.Words.{◌≡◌, ◌++◌, [], refl, ap, ◌∙◌, string_bytes, if◌then◌else◌, IfOk-weaker, term_text, piece_text}
 use Rattle.ghc_term.proofs.Pieces.{starts, anywhere, behind, left_one}
 use Rattle.ghc_term.proofs.Resolving.{same_leaf}
 use Rattle.ghc_term.proofs.printing.goals.push_equation.Goals as goal

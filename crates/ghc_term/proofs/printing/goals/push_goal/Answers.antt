@@ -1,7 +1,4 @@
-use Rattle.std.proofs.Common.{◌++◌, sym, ap, ◌∙◌, string_bytes}
-use Rattle.std.proofs.lemmas.Result.{IfOk-weaker}
-use Rattle.ghc_term.specs.GoalText.{goal_text_by}
-use Rattle.ghc_term.specs.Pieces.{pieces_text}
+use Rattle.ghc_term.proofs.Words.{◌++◌, sym, ap, ◌∙◌, string_bytes, IfOk-weaker, goal_text_by, pieces_text}
 use Rattle.ghc_term.proofs.Pieces.{starts}
 use Rattle.ghc_term.proofs.Resolving.{measure, is_measure}
 use Rattle.ghc_term.proofs.printing.goals.push_goal.Goals as goal

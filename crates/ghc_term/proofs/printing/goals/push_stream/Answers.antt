@@ -1,9 +1,4 @@
-use Rattle.std.proofs.Common.{◌≡◌, ◌++◌, sym, ap, ◌∙◌, append_assoc, string_bytes}
-use Rattle.std.specs.Prelude.{codes}
-use Rattle.std.specs.Fmt.{decimal}
-use Rattle.std.proofs.lemmas.Result.{IfOk-weaker}
-use Rattle.ghc_term.specs.Text.{term_text, variable_text}
-use Rattle.ghc_term.specs.Pieces.{pieces_text}
+use Rattle.ghc_term.proofs.Words.{◌≡◌, ◌++◌, sym, ap, ◌∙◌, append_assoc, string_bytes, codes, decimal, IfOk-weaker, term_text, variable_text, pieces_text}
 use Rattle.ghc_term.proofs.Pieces.{joined, spaced, left_one}
 use Rattle.ghc_term.proofs.Resolving.{same_bound, same_free}
 use Rattle.ghc_term.proofs.printing.goals.push_stream.Goals as goal

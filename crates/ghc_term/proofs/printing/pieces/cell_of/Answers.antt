@@ -1,7 +1,4 @@
-use Rattle.std.proofs.Common.{◌≡◌, true, false, sym, ap, ◌∙◌, arith}
-use Rattle.std.specs.Prelude.{codes, bytes_eq}
-use Rattle.std.proofs.lemmas.Slice.Eq.{bytes_eq-Decides}
-use Rattle.std.proofs.lemmas.Bool.Decides.{nat_tests}
+use Rattle.ghc_term.proofs.Words.{◌≡◌, true, false, sym, ap, ◌∙◌, arith, codes, bytes_eq, bytes_eq-Decides, nat_tests}
 use Rattle.ghc_term.proofs.Texts.{two_arguments}
 use Rattle.ghc_term.proofs.printing.pieces.cell_of.Goals as goal
 use Rattle.ghc_term.proofs.printing.pieces.cell_of.Goals.{in_default-via-then-arguments-lt2, in_default-via-in-len2+else-eq, in_default-via-else-arguments-lt2+else-arguments-lt3}

@@ -1,9 +1,4 @@
-use Rattle.std.proofs.Common.{◌≡◌, ◌++◌, [], ◌∷◌, append-nil, append_assoc, ap, ◌∙◌, arith, string_bytes}
-use Rattle.std.specs.Prelude.{if◌then◌else◌}
-use Rattle.std.proofs.lemmas.Result.{IfOk-weaker}
-use Rattle.std.proofs.lemmas.Grind.{common_steps}
-use Rattle.ghc_term.specs.Text.{term_text, further_text}
-use Rattle.ghc_term.specs.Resolved.{all_resolved}
+use Rattle.ghc_term.proofs.Words.{◌≡◌, ◌++◌, [], ◌∷◌, append-nil, append_assoc, ap, ◌∙◌, arith, string_bytes, if◌then◌else◌, IfOk-weaker, common_steps, term_text, further_text, all_resolved}
 use Rattle.ghc_term.proofs.Pieces.{as_said, behind, left_two, through}
 use Rattle.ghc_term.proofs.Resolving.{same_end, same_leaf}
 use Rattle.ghc_term.proofs.printing.pieces.push_argument.Goals as goal

@@ -1,5 +1,4 @@
-use Rattle.std.proofs.Common.{[], ◌∷◌}
-use Rattle.std.proofs.lemmas.Result.{IfOk-weaker}
+use Rattle.ghc_term.proofs.Words.{[], ◌∷◌, IfOk-weaker}
 use Rattle.ghc_term.proofs.Pieces.{left_behind}
 use Rattle.ghc_term.proofs.printing.pieces.push_cell.Goals as goal
 

@@ -1,9 +1,4 @@
-use Rattle.std.proofs.Common.{◌≡◌, ◌≤◌, ◌-◌, ◌++◌, [], ◌∷◌, length, take, drop, append-nil, append_assoc, sym, ap, ◌∙◌, arith, string_bytes}
-use Rattle.std.specs.Prelude.{if◌then◌else◌}
-use Rattle.std.proofs.lemmas.Grind.{common_steps}
-use Rattle.ghc_term.specs.Text.{term_text, further_text}
-use Rattle.ghc_term.specs.Resolved.{all_resolved}
-use Rattle.ghc_term.specs.Pieces.{total, arguments_size}
+use Rattle.ghc_term.proofs.Words.{◌≡◌, ◌≤◌, ◌-◌, ◌++◌, [], ◌∷◌, length, take, drop, append-nil, append_assoc, sym, ap, ◌∙◌, arith, string_bytes, if◌then◌else◌, common_steps, term_text, further_text, all_resolved, total, arguments_size}
 use Rattle.ghc_term.proofs.Pieces.{as_said, resumed, left_two, first_rest}
 use Rattle.ghc_term.proofs.Resolving.{same_end, same_leaf}
 use Rattle.ghc_term.proofs.printing.pieces.push_further.Goals as goal

@@ -1,10 +1,4 @@
-use Rattle.std.proofs.Common.{◌≡◌, ◌++◌, ℕ, ◌≤◌, length, string_bytes}
-use Rattle.std.specs.Io.{StartsWith}
-use Rattle.ghc_term.specs.Store.{value_at}
-use Rattle.ghc_term.specs.Tree.{Tree}
-use Rattle.ghc_term.specs.Text.{further_text}
-use Rattle.ghc_term.specs.Resolved.{IsResolution, all_resolved}
-use Rattle.ghc_term.specs.Pieces.{arguments_size}
+use Rattle.ghc_term.proofs.Words.{◌≡◌, ◌++◌, ℕ, ◌≤◌, length, string_bytes, StartsWith, value_at, Tree, further_text, IsResolution, all_resolved, arguments_size}
 use Rattle.ghc_term.proofs.printing.pieces.push_further.Given as goal
 
 abbrev pub invariant-loop-left : goal.invariant-loop-left

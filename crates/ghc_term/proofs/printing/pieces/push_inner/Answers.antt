@@ -1,7 +1,4 @@
-use Rattle.std.proofs.Common.{◌≡◌, ◌++◌, [], ap, ◌∙◌, arith, string_bytes}
-use Rattle.std.specs.Prelude.{suc, if◌then◌else◌}
-use Rattle.ghc_term.specs.Text.{term_text}
-use Rattle.ghc_term.specs.Pieces.{term_size}
+use Rattle.ghc_term.proofs.Words.{◌≡◌, ◌++◌, [], ap, ◌∙◌, arith, string_bytes, suc, if◌then◌else◌, term_text, term_size}
 use Rattle.ghc_term.proofs.Pieces.{as_said, wrote, left_one, behind}
 use Rattle.ghc_term.proofs.Resolving.{same_end, same_leaf}
 use Rattle.ghc_term.proofs.printing.pieces.push_inner.Goals as goal

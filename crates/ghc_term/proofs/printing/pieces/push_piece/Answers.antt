@@ -1,6 +1,4 @@
-use Rattle.std.proofs.Common.{ap, arith}
-use Rattle.std.proofs.lemmas.Result.{IfOk-weaker}
-use Rattle.ghc_term.specs.Pieces.{piece_text, piece_size}
+use Rattle.ghc_term.proofs.Words.{ap, arith, IfOk-weaker, piece_text, piece_size}
 use Rattle.ghc_term.proofs.Pieces.{as_said, wrote, anywhere, if_written}
 use Rattle.ghc_term.proofs.printing.pieces.push_piece.Goals as goal
 

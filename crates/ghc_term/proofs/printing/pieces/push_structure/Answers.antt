@@ -1,8 +1,4 @@
-use Rattle.std.proofs.Common.{◌++◌, ap, ◌∙◌, arith, string_bytes}
-use Rattle.std.proofs.lemmas.Result.{IfOk-weaker}
-use Rattle.ghc_term.specs.Text.{arguments_text}
-use Rattle.ghc_term.specs.Resolved.{all_resolved}
-use Rattle.ghc_term.specs.Pieces.{total}
+use Rattle.ghc_term.proofs.Words.{◌++◌, ap, ◌∙◌, arith, string_bytes, IfOk-weaker, arguments_text, all_resolved, total}
 use Rattle.ghc_term.proofs.Pieces.{as_said, behind, first_rest}
 use Rattle.ghc_term.proofs.printing.pieces.push_structure.Goals as goal
 

@@ -1,9 +1,4 @@
-use Rattle.std.proofs.Common.{rules, ◌≡◌, ◌++◌, [], append-nil, sym, ap, ◌∙◌, arith, string_bytes}
-use Rattle.std.proofs.lemmas.Result.{IfOk-weaker}
-use Rattle.std.specs.Prelude.{OnOk, is_ok, if◌then◌else◌}
-use Rattle.std.specs.Fmt.{signed_decimal}
-use Rattle.ghc_term.specs.Text.{term_text, variable_text}
-use Rattle.ghc_term.specs.Resolved.{all_resolved}
+use Rattle.ghc_term.proofs.Words.{rules, ◌≡◌, ◌++◌, [], append-nil, sym, ap, ◌∙◌, arith, string_bytes, IfOk-weaker, OnOk, is_ok, if◌then◌else◌, signed_decimal, term_text, variable_text, all_resolved}
 use Rattle.ghc_term.proofs.Pieces.{as_said, wrote, if_written}
 use Rattle.ghc_term.proofs.Texts.{structure_text, no_new_cell}
 use Rattle.ghc_term.proofs.Resolving.{same_end, same_free, same_integer, same_node, same_cell, cell_room, end_free}

@@ -1,5 +1,4 @@
-use Rattle.std.proofs.Common.{sym, subst}
-use Rattle.ghc_term.specs.Bindings.{IsAcyclic, Leads}
+use Rattle.ghc_term.proofs.Words.{sym, subst, IsAcyclic, Leads}
 use Rattle.ghc_term.proofs.Merged.{none_more}
 use Rattle.ghc_term.proofs.store.Store.chain.Goals as goal
 

@@ -1,7 +1,5 @@
-use Rattle.std.proofs.Common.{◌+◌, ◌<◌, [], ◌∷◌, sym, subst}
+use Rattle.ghc_term.proofs.Words.{◌+◌, ◌<◌, [], ◌∷◌, sym, subst, value_at, Leads, at_free, along}
 use Rattle.std.specs.FinMap as finite
-use Rattle.ghc_term.specs.Store.{value_at}
-use Rattle.ghc_term.specs.Bindings.{Leads, at_free, along}
 use Rattle.ghc_term.proofs.Total.{walk, walk_step}
 use Rattle.ghc_term.proofs.Walks.{at_value}
 use Rattle.ghc_term.proofs.store.Store.end.Goals as goal

@@ -1,9 +1,5 @@
-use Rattle.std.proofs.Common.{List, ◌+◌}
+use Rattle.ghc_term.proofs.Words.{List, ◌+◌, value_at, Tree, Leads, VarName}
 use Rattle.std.specs.FinMap as finite
-use Rattle.ghc_term.specs.Store.{value_at}
-use Rattle.ghc_term.specs.Tree.{Tree}
-use Rattle.ghc_term.specs.Bindings.{Leads}
-use Rattle.ghc_term.specs.declared.var_name.VarName.{VarName}
 use Rattle.ghc_term.proofs.Total.{walk}
 use Rattle.ghc_term.proofs.store.Store.end.Given as goal
 

@@ -1,7 +1,4 @@
-use Rattle.std.proofs.Common.{sym, ap, ◌∙◌, subst, not}
-use Rattle.ghc_term.specs.Bindings.{Reaches}
-use Rattle.ghc_term.specs.Store.{value_at}
-use Rattle.ghc_term.specs.Tree.{variable}
+use Rattle.ghc_term.proofs.Words.{sym, ap, ◌∙◌, subst, not, Reaches, value_at, variable}
 use Rattle.ghc_term.proofs.Reaching.{known_apart, not_there}
 use Rattle.ghc_term.proofs.VariableLists.{is_there}
 use Rattle.ghc_term.proofs.store.Store.is_known_apart.Goals as goal

@@ -1,8 +1,5 @@
-use Rattle.std.proofs.Common.{sym, subst}
-use Rattle.ghc_term.specs.Bindings.{IsAcyclic}
-use Rattle.ghc_term.specs.Known.{AreKnown, AreKnownBut}
+use Rattle.ghc_term.proofs.Words.{sym, subst, IsAcyclic, AreKnown, AreKnownBut, OnOk}
 use Rattle.ghc_term.proofs.Merged.{none_more}
-use Rattle.std.specs.Prelude.{OnOk}
 use Rattle.ghc_term.proofs.store.Store.know.Goals as goal
 
 pub invariant_of-overlay : goal.invariant_of-overlay

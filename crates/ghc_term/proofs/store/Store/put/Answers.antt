@@ -1,7 +1,5 @@
-use Rattle.std.proofs.Common.{refl, sym, subst}
+use Rattle.ghc_term.proofs.Words.{refl, sym, subst, IsAcyclic, value_at, with_binds}
 use Rattle.std.specs.FinMap as finite
-use Rattle.ghc_term.specs.Bindings.{IsAcyclic}
-use Rattle.ghc_term.specs.Store.{value_at, with_binds}
 use Rattle.ghc_term.proofs.Reaching.{stay_known, without}
 use Rattle.ghc_term.proofs.store.Store.put.Goals as goal
 

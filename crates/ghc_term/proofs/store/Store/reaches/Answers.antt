@@ -1,6 +1,4 @@
-use Rattle.std.proofs.Common.{sym, subst}
-use Rattle.std.specs.Prelude.{◌↔◌, IfOk, IsTrue}
-use Rattle.ghc_term.specs.Bindings.{IsAcyclic, Reaches}
+use Rattle.ghc_term.proofs.Words.{sym, subst, ◌↔◌, IfOk, IsTrue, IsAcyclic, Reaches}
 use Rattle.ghc_term.proofs.Merged.{none_more}
 use Rattle.ghc_term.proofs.store.Store.reaches.Goals as goal
 

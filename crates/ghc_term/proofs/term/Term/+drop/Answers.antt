@@ -1,8 +1,5 @@
-use Rattle.std.proofs.Common.{◌≡◌, ◌<◌, ◌≤◌, rules, [], ◌∷◌, ◌++◌, sym, ap, ◌∙◌, arith}
+use Rattle.ghc_term.proofs.Words.{◌≡◌, ◌<◌, ◌≤◌, rules, [], ◌∷◌, ◌++◌, sym, ap, ◌∙◌, arith, trees, height, height_of_all, items_of, tree_of, size-Term}
 use denote.Param.Weighed.{most}
-use Rattle.ghc_term.specs.Tree.{trees}
-use Rattle.ghc_term.specs.View.{height, height_of_all, items_of, tree_of}
-use Rattle.ghc_term.specs.declared.term.Term.TheDeep.{size-Term}
 use Rattle.ghc_term.proofs.Drops.{front_size}
 use Rattle.ghc_term.proofs.term.Term.+drop.Goals as goal
 

@@ -1,6 +1,4 @@
-use Rattle.std.proofs.Common.{◌≡◌, false, true, refl, sym, ◌∙◌, ap, subst}
-use Rattle.ghc_term.specs.Tree.{IsClosed, variable}
-use Rattle.ghc_term.specs.View.{tree_of, closed_of, IsWellMade}
+use Rattle.ghc_term.proofs.Words.{◌≡◌, false, true, refl, sym, ◌∙◌, ap, subst, IsClosed, variable, tree_of, closed_of, IsWellMade}
 use Rattle.ghc_term.specs.declared.term.Shape.TheVariants.{Struct}
 use Rattle.ghc_term.proofs.term.Term.is_closed.Goals as goal
 

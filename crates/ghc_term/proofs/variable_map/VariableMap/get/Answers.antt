@@ -1,7 +1,5 @@
-use Rattle.std.proofs.Common.{sym, ap, ◌∙◌}
-use Rattle.std.specs.Option.{option_or}
+use Rattle.ghc_term.proofs.Words.{sym, ap, ◌∙◌, option_or, values_in, first_at}
 use Rattle.std.specs.FinMap as finite
-use Rattle.ghc_term.specs.VariableMap.{values_in, first_at}
 use Rattle.ghc_term.proofs.VariableMaps.{value_first, value_other}
 use Rattle.ghc_term.proofs.variable_map.VariableMap.get.Goals as goal
 

@@ -1,5 +1,4 @@
-use Rattle.std.proofs.Common.{ap, ◌∙◌}
-use Rattle.ghc_term.specs.VariableMap.{values_of}
+use Rattle.ghc_term.proofs.Words.{ap, ◌∙◌, values_of}
 use Rattle.ghc_term.proofs.VariableMaps.{same_values}
 use Rattle.ghc_term.proofs.variable_map.VariableMap.make_room.Goals as goal
 

@@ -1,7 +1,5 @@
-use Rattle.std.proofs.Common.{ap, ◌∙◌, arith}
+use Rattle.ghc_term.proofs.Words.{ap, ◌∙◌, arith, name_cmp, values_in}
 use Rattle.std.specs.FinMap as finite
-use Rattle.ghc_term.specs.Bindings.{name_cmp}
-use Rattle.ghc_term.specs.VariableMap.{values_in}
 use Rattle.ghc_term.proofs.variable_map.VariableMap.new.Goals as goal
 
 pub invariant_of-result : goal.invariant_of-result

@@ -1,6 +1,5 @@
-use Rattle.std.proofs.Common.{ap, ◌∙◌, arith}
+use Rattle.ghc_term.proofs.Words.{ap, ◌∙◌, arith, values_of}
 use Rattle.std.specs.FinMap as finite
-use Rattle.ghc_term.specs.VariableMap.{values_of}
 use Rattle.ghc_term.proofs.VariableMaps.{put_first, put_other, put_past, firsts_put}
 use Rattle.ghc_term.proofs.variable_map.VariableMap.put.Goals as goal
 

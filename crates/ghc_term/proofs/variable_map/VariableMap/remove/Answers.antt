@@ -1,8 +1,5 @@
-use Rattle.std.specs.Prelude.{Option, None, Some}
-use Rattle.std.proofs.Common.{◌≡◌, refl, sym, ap, ◌∙◌, arith}
+use Rattle.ghc_term.proofs.Words.{Option, None, Some, ◌≡◌, refl, sym, ap, ◌∙◌, arith, option_or, values_in, values_of, first_at}
 use Rattle.std.specs.FinMap as finite
-use Rattle.std.specs.Option.{option_or}
-use Rattle.ghc_term.specs.VariableMap.{values_in, values_of, first_at}
 use Rattle.ghc_term.proofs.VariableMaps.{removed_first, removed_other, removed_listed, firsts_gone, value_first, value_other}
 use Rattle.ghc_term.proofs.variable_map.VariableMap.remove.Goals as goal
 

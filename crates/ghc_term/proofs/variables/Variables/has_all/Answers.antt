@@ -1,5 +1,4 @@
-use Rattle.std.proofs.Common.{◌≡◌, true, false, sym, ◌∙◌}
-use Rattle.std.specs.Prelude.{IsTrue}
+use Rattle.ghc_term.proofs.Words.{◌≡◌, true, false, sym, ◌∙◌, IsTrue}
 use Rattle.std.specs.FinSet as set
 use Rattle.ghc_term.proofs.ListsLemmas.{each_next, in_get}
 use Rattle.ghc_term.proofs.variables.Variables.has_all.Goals as goal

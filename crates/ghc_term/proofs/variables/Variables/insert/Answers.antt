@@ -1,5 +1,4 @@
-use Rattle.std.proofs.Common.{◌∙◌, ap, sym}
-use Rattle.std.proofs.lemmas.Result.{on_ok_weaker}
+use Rattle.ghc_term.proofs.Words.{◌∙◌, ap, sym, on_ok_weaker}
 use Rattle.std.specs.FinSet as set
 use Rattle.ghc_term.proofs.ListsLemmas.{not_both}
 use Rattle.ghc_term.proofs.Names.{name_total, name_antisymmetric}
