@@ -1,21 +1,9 @@
 -- The amounts of lists of terms, goals and clauses, one element after the other.
-use Rattle.std.proofs.Common.{◌≡◌, ℕ, ◌+◌, ◌<◌, ◌≤◌, List, [], ◌∷◌, ◌++◌, length, get_or, take, drop, map, refl, sym, ap, ◌∙◌, arith, append_assoc, append-nil, Box, Global, Vec, vec_len}
-use Rattle.std.specs.Prelude.{max}
-use Rattle.std.specs.List.{flat_map}
-use Rattle.std.specs.Ordering.{ord_max, nat_cmp}
-use Rattle.std.proofs.lemmas.Grind.{common_steps, flat_map-append}
-use Rattle.std.proofs.lemmas.List.{take_more, take-append-drop, map-append}
-use Rattle.std.proofs.lemmas.List.Recursion.{max_push}
-use Rattle.ghc_reader.specs.declared.source.SourceTerm.{SourceTerm}
+use Rattle.ghc_reader.proofs.Words.{◌≡◌, ℕ, ◌+◌, ◌<◌, ◌≤◌, List, [], ◌∷◌, ◌++◌, length, get_or, take, drop, map, refl, sym, ap, ◌∙◌, arith, append_assoc, Box, Global, Vec, vec_len, max, flat_map, ord_max, nat_cmp, common_steps, flat_map-append, take_more, take-append-drop, map-append, max_push, SourceTerm, SourceExpression, Sum, Product, Tree, Trees, none, some, Value, product, sum, cells, products, sums, view, views, value_view, factor_views, summand_views, count, largest, widest, widest_of, names, names_of, names_in, nodes, nodes_of}
+use Rattle.std.proofs.Common.{append-nil}
 use Rattle.ghc_reader.specs.declared.source.SourceTerm.TheViews as w
-use Rattle.ghc_reader.specs.declared.source.SourceExpression.{SourceExpression}
 use Rattle.ghc_reader.specs.declared.source.SourceExpression.TheViews as ew
-use Rattle.ghc_reader.specs.declared.token.Sum.{Sum}
-use Rattle.ghc_reader.specs.declared.token.Product.{Product}
-use Rattle.ghc_reader.specs.Source.{Tree, Trees, none, some, Value, product, sum, trees_of, cells, products, sums}
-use Rattle.ghc_reader.specs.Views.{view, views, value_view, factor_views, summand_views}
-use Rattle.ghc_reader.specs.Reserved.{count}
-use Rattle.ghc_reader.specs.Amounts.{largest, widest, widest_of, names, names_of, names_in, nodes, nodes_of}
+use Rattle.ghc_reader.specs.Source.{trees_of}
 use Rattle.ghc_reader.proofs.Misplaced.{count_views}
 use Rattle.ghc_reader.proofs.Views.{view_list, view_structure, view_products, view_sums}
 

@@ -1,9 +1,7 @@
 -- The tokens that follow a derivation stay behind it.
-use Rattle.std.proofs.Common.{◌≡◌, ℕ, List, [], ◌∷◌, ◌++◌, refl, ap, ◌∙◌}
-use Rattle.ghc_reader.specs.declared.token.Mark.TheVariants.{Open, Close, OpenList, CloseList, Comma, Bar, Equals, Assign, Define, Stop}
-use Rattle.ghc_reader.specs.declared.token.Token.{Token}
+use Rattle.ghc_reader.proofs.Words.{◌≡◌, ℕ, List, [], ◌∷◌, ◌++◌, refl, ap, ◌∙◌, Open, Close, OpenList, CloseList, Comma, Bar, Equals, Assign, Define, Stop, Token, Term, variable, integer, call, list, Arguments, without, within, Rest, closed, whole, partial, Terms, one, more, Operand, nested, Factors, factor, factors, Expression, summand, summands, Item, goal, unify, assign, Test, plain_test, compare, Tests, last_test, next_test, Body, last, next, Right, unguarded, guarded, Clause, fact, rule, term, arguments, rest, terms, operand, expression, item, test, tests, body, right, clause}
 use Rattle.ghc_reader.specs.declared.token.Token.TheVariants as token
-use Rattle.ghc_reader.specs.Grammar.{Term, variable, integer, call, list, Arguments, without, within, Rest, closed, whole, partial, Terms, one, more, Operand, number, named, nested, Factors, factor, factors, Expression, summand, summands, Item, goal, unify, assign, Test, plain_test, compare, Tests, last_test, next_test, Body, last, next, Right, unguarded, guarded, Clause, fact, rule, term, arguments, rest, terms, operand, product, expression, item, test, tests, body, right, clause}
+use Rattle.ghc_reader.specs.Grammar.{number, named, product}
 
 -- a name, where an example needs one
 abbrev pub some_name : List ℕ

@@ -1,15 +1,7 @@
 -- What is asked for in mid-run: which variables of a state its names name, and what holds of it.
-use Rattle.std.proofs.Common.{◌≡◌, ◌≢◌, ℕ, ◌+◌, ◌<◌, List, [], ◌∷◌, ◌++◌, length, take, get_or, Option, Some, None, sym, ap, ◌∙◌, subst, inl, inr, arith, slice_get}
-use Rattle.std.specs.Prelude.{MatchOption, bytes_eq, cond}
-use Rattle.std.specs.HashMap.{HashMap, get, Updates}
-use Rattle.std.proofs.lemmas.List.{length-take-le, take_more}
-use Rattle.ghc_term.specs.declared.var_name.VarName.{VarName}
-use Rattle.ghc_term.specs.Variables.{variables_of_goals}
-use Rattle.ghc_reader.specs.Source.{Goal}
-use Rattle.ghc_reader.specs.Lexed.{IsNumberedAs, greatest_number}
-use Rattle.ghc_reader.specs.Lowered.{Names, blank, Each, SaysGoal, doing}
-use Rattle.ghc_reader.specs.Scope.{IsFresh, IsTable, MeetsAll}
-use Rattle.ghc_reader.specs.WrittenAsk.{WrittenAsk, IsUnnumbered, IsNaming, of_state, of_no_step, of_query, is_new, SaysAsk}
+use Rattle.ghc_reader.proofs.Words.{◌≡◌, ◌≢◌, ℕ, ◌+◌, ◌<◌, List, [], ◌∷◌, ◌++◌, length, take, get_or, Option, Some, None, sym, ap, ◌∙◌, subst, inl, inr, arith, slice_get, MatchOption, bytes_eq, cond, HashMap, Updates, length-take-le, take_more, VarName, variables_of_goals, Goal, IsNumberedAs, greatest_number, Names, blank, Each, SaysGoal, doing, IsFresh, IsTable, MeetsAll, WrittenAsk, IsUnnumbered, IsNaming, of_state, of_no_step, is_new, SaysAsk}
+use Rattle.std.specs.HashMap.{get}
+use Rattle.ghc_reader.specs.WrittenAsk.{of_query}
 use Rattle.ghc_reader.proofs.Names.{get_left, get_push, table_more}
 use Rattle.ghc_reader.proofs.Numbered.{met_are_named}
 use Rattle.ghc_reader.proofs.GoalsLowered.{each_push}

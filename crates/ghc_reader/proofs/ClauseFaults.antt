@@ -1,11 +1,6 @@
 -- A fault in a part of a clause is one of the program.
-use Rattle.std.proofs.Common.{◌≡◌, ◌≢◌, ℕ, List, [], ◌∷◌, ◌++◌, length, None, refl, sym, ap, ◌∙◌, subst, ◌⊎◌, inl, inr, ⊎_elim}
-use Rattle.ghc_reader.specs.declared.token.Mark.TheVariants.{Bar, Define, Stop}
-use Rattle.ghc_reader.specs.declared.token.Token.{Token}
+use Rattle.ghc_reader.proofs.Words.{◌≡◌, ◌≢◌, ℕ, List, [], ◌∷◌, ◌++◌, length, None, refl, sym, ap, ◌∙◌, subst, ◌⊎◌, inl, inr, ⊎_elim, Bar, Define, Stop, Token, first, Begins, IsNotNamed, Arguments, without, goal, Tests, Body, last, Right, unguarded, guarded, Clause, fact, rule, Program, done, clauses, arguments, tests, body, right, clause, program, EndsArguments, EndsTests, EndsBody, EndsRight, EndsClause, EndsProgram, Fault}
 use Rattle.ghc_reader.specs.declared.token.Token.TheVariants as token
-use Rattle.ghc_reader.specs.Front.{first, Begins, IsNotNamed}
-use Rattle.ghc_reader.specs.Grammar.{Arguments, without, goal, Tests, Body, last, Right, unguarded, guarded, Clause, fact, rule, Program, done, clauses, arguments, tests, body, right, clause, program}
-use Rattle.ghc_reader.specs.Parts.{EndsArguments, EndsTests, EndsBody, EndsRight, EndsClause, EndsProgram, Fault}
 use Rattle.ghc_reader.proofs.Append.{some_name, arguments_append, tests_append, body_append, right_append, clause_append}
 use Rattle.ghc_reader.proofs.Ends.{stop_ends_tests, bar_ends_tests, stop_ends_body, stop_ends_arguments, define_ends_arguments}
 use Rattle.ghc_reader.proofs.OneTerm.{one_arguments}

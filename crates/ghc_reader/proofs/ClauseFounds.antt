@@ -1,15 +1,7 @@
 -- The derivation of clauses, from those of their parts, and the faults behind them.
-use Rattle.std.proofs.Common.{◌≡◌, ◌≢◌, ℕ, List, [], ◌∷◌, ◌++◌, length, refl, sym, ap, ◌∙◌, subst}
-use Rattle.ghc_term.specs.declared.comparison.Comparison.{Comparison}
-use Rattle.ghc_reader.specs.declared.token.Mark.TheVariants.{Comma, Bar, Define, Stop}
-use Rattle.ghc_reader.specs.declared.token.Token.{Token}
+use Rattle.ghc_reader.proofs.Words.{◌≡◌, ◌≢◌, ℕ, List, [], ◌∷◌, ◌++◌, length, refl, sym, ap, ◌∙◌, subst, Comparison, Comma, Bar, Define, Stop, Token, first, Begins, plain_test, compare, Tests, last_test, next_test, Body, last, next, Right, unguarded, guarded, Clause, fact, rule, Program, arguments, rest, tests, body, right, clause, program, EndsTests, EndsRight, EndsClause, EndsProgram, FoundAt, Fault, call_of, item_of, tests_of, goals_of, right_of, clause_of, Tree, Trees, Goal, Value}
 use Rattle.ghc_reader.specs.declared.token.Token.TheVariants as token
-use Rattle.ghc_reader.specs.Front.{first, Begins}
-use Rattle.ghc_reader.specs.Grammar.{plain_test, compare, Tests, last_test, next_test, Body, last, next, Right, unguarded, guarded, Clause, fact, rule, Program, arguments, rest, tests, body, right, clause, program}
-use Rattle.ghc_reader.specs.Parts.{EndsTests, EndsRight, EndsClause, EndsProgram, FoundAt, Fault}
-use Rattle.ghc_reader.specs.Derived.{call_of, item_of, tests_of, goals_of, right_of, clause_of}
 use Rattle.ghc_reader.specs.Source as tree
-use Rattle.ghc_reader.specs.Source.{Tree, Trees, Goal, Value}
 use Rattle.ghc_reader.proofs.OneGoal.{as_tests, tests_body}
 use Rattle.ghc_reader.proofs.GoalLoops.{TestsSoFar, ends_at_last_test, ClausesSoFar}
 use Rattle.ghc_reader.proofs.TermFounds.{ArgumentsFound}

@@ -1,20 +1,10 @@
 -- What guards, clauses and queries say, and which variables they meet.
-use Rattle.std.proofs.Common.{◌≡◌, ℕ, ◌+◌, ◌<◌, List, [], ◌∷◌, ◌++◌, length, map, take, get_or, refl, sym, ap, ◌∙◌, subst, append_assoc}
-use Rattle.std.proofs.lemmas.List.{append-nil}
-use Rattle.ghc_term.specs.declared.comparison.Comparison.{Comparison}
+use Rattle.ghc_reader.proofs.Words.{◌≡◌, ℕ, ◌+◌, ◌<◌, List, [], ◌∷◌, ◌++◌, length, map, take, get_or, refl, sym, ap, ◌∙◌, subst, append_assoc, append-nil, Comparison, variables_of_list, variables_of_expression, leaf_variables, variables_of_goals, SourceExpression, SourceTest, Guard, Tree, Trees, structure, empty, cell, none, some, Value, number, named, product, sum, Goal, value_view, test_view, test_views, WrittenClause, variables_of_guard, variables_of_guards, variables_of_written, WrittenQuery, Names, Says, SaysAll, SaysValue, SaysGuard, SaysGoal, SaysAsked, SaysQuery, SaysClause, Each, IsClosed, AreClosed, AreNamed, doing, AreCounted, MeetsAll}
 use Rattle.ghc_term.specs.Expression.{Expression}
 use Rattle.ghc_term.specs.Tree as term
-use Rattle.ghc_term.specs.Variables.{variables_of_list, variables_of_expression, leaf_variables, variables_of_goals}
-use Rattle.ghc_reader.specs.declared.source.SourceExpression.{SourceExpression}
-use Rattle.ghc_reader.specs.declared.source.SourceTest.{SourceTest}
 use Rattle.ghc_reader.specs.declared.source.SourceTest.TheVariants as source
-use Rattle.ghc_reader.specs.declared.written.Guard.{Guard}
 use Rattle.ghc_reader.specs.declared.written.Guard.TheVariants.{Comparison as comparison}
-use Rattle.ghc_reader.specs.Source.{Tree, Trees, variable, integer, structure, empty, cell, none, some, Value, number, named, product, sum, Test, plain, compare, Goal, Clause}
-use Rattle.ghc_reader.specs.Views.{value_view, test_view, test_views}
-use Rattle.ghc_reader.specs.Written.{WrittenClause, variables_of_guard, variables_of_guards, variables_of_written, WrittenQuery}
-use Rattle.ghc_reader.specs.Lowered.{Names, Says, SaysAll, SaysValue, SaysGuard, SaysGoal, SaysAsked, SaysQuery, SaysClause, Each, IsClosed, AreClosed, AreNamed, doing, AreCounted}
-use Rattle.ghc_reader.specs.Scope.{MeetsAll}
+use Rattle.ghc_reader.specs.Source.{variable, integer, Test, plain, compare, Clause}
 use Rattle.ghc_reader.proofs.Scopes.{Grows, grows, grows_twice, met_also}
 use Rattle.ghc_reader.proofs.TermsLowered.{says_all_still}
 use Rattle.ghc_reader.proofs.ExpressionsLowered.{value_still, mapped_more}

@@ -1,13 +1,9 @@
 -- Terms without variables have tokens without variables, and the other way round.
 
-use Rattle.std.proofs.Common.{◌≡◌, ◌≢◌, ℕ, List, [], ◌∷◌, ◌++◌, map, refl, ap, ◌∙◌}
-use Rattle.std.proofs.lemmas.List.{map-append}
-use Rattle.ghc_reader.specs.declared.token.Mark.TheVariants.{Open, Close, OpenList, CloseList, Comma, Bar}
-use Rattle.ghc_reader.specs.declared.token.Token.{Token}
+use Rattle.ghc_reader.proofs.Words.{◌≡◌, ◌≢◌, ℕ, List, [], ◌∷◌, ◌++◌, map, refl, ap, ◌∙◌, map-append, Open, Close, OpenList, CloseList, Comma, Bar, Token, NoVariable, Term, variable, integer, call, list, Arguments, without, within, Rest, closed, whole, partial, Terms, one, more, term, arguments, rest, terms, AreClosedArguments, IsClosedRest}
 use Rattle.ghc_reader.specs.declared.token.Token.TheVariants as token
-use Rattle.ghc_reader.specs.Front.{NoVariable}
 use Rattle.ghc_reader.proofs.Append.{some_name}
-use Rattle.ghc_reader.specs.Grammar.{Term, variable, integer, call, list, Arguments, without, within, Rest, closed, whole, partial, Terms, one, more, term, arguments, rest, terms, IsClosed, AreClosedArguments, IsClosedRest, AreClosed}
+use Rattle.ghc_reader.specs.Grammar.{IsClosed, AreClosed}
 
 mutual
   -- no variable is among the tokens of a closed term

@@ -1,10 +1,8 @@
 -- The tree of an input term is closed.
-use Rattle.std.proofs.Common.{◌≡◌, subst}
+use Rattle.ghc_reader.proofs.Words.{◌≡◌, subst, Term, variable, integer, call, list, Arguments, without, within, Rest, closed, whole, partial, Terms, one, more, Input, tree_of, arguments_of, trees_of, cells_of, IsClosed, AreClosed}
 use Rattle.ghc_reader.specs.Grammar as grammar
-use Rattle.ghc_reader.specs.Grammar.{Term, variable, integer, call, list, Arguments, without, within, Rest, closed, whole, partial, Terms, one, more, Input}
 use Rattle.ghc_reader.specs.Source as tree
-use Rattle.ghc_reader.specs.Derived.{tree_of, arguments_of, list_of, trees_of, cells_of}
-use Rattle.ghc_reader.specs.Lowered.{IsClosed, AreClosed}
+use Rattle.ghc_reader.specs.Derived.{list_of}
 
 mutual
   pub closed_tree : (t : Term) → grammar.IsClosed t → IsClosed (tree_of t)

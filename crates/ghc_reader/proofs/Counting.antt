@@ -1,13 +1,6 @@
 -- Counting variables from the first to the last gives what counting from the last to the first gives.
-use Rattle.std.proofs.Common.{◌≡◌, ℕ, ◌+◌, ◌<◌, ◌≤◌, Bool, true, false, List, [], ◌∷◌, ◌++◌, length, get_or, take, refl, sym, ap, ◌∙◌, arith}
-use Rattle.std.specs.Prelude.{◌||◌, not, if◌then◌else◌, bytes_eq}
-use Rattle.std.specs.List.{list_any}
-use Rattle.std.proofs.lemmas.List.{take_more}
-use Rattle.std.proofs.lemmas.List.Folds.{list_any-append}
-use Rattle.std.proofs.lemmas.Slice.Eq.{bytes_eq-Decides}
-use Rattle.std.proofs.lemmas.Bool.Decides.{same_from_decides}
+use Rattle.ghc_reader.proofs.Words.{◌≡◌, ℕ, ◌+◌, ◌<◌, ◌≤◌, Bool, true, false, List, [], ◌∷◌, ◌++◌, length, get_or, take, refl, sym, ap, ◌∙◌, arith, ◌||◌, not, if◌then◌else◌, bytes_eq, list_any, take_more, list_any-append, bytes_eq-Decides, same_from_decides, is_unnamed, variables}
 use mir.Val.{bool_byte}
-use Rattle.ghc_reader.specs.Amounts.{is_unnamed, variables}
 
 -- so many with one more that counts or does not
 abbrev pub and_one : Bool → ℕ → ℕ

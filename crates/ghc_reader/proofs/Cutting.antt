@@ -1,19 +1,8 @@
 -- What the loop over the pieces of a text keeps.
-use Rattle.std.proofs.Common.{◌≡◌, ◌≢◌, ◌⊎◌, ℕ, ◌+◌, ◌^◌, ◌<◌, ◌≤◌, Bool, true, List, [], ◌∷◌, ◌++◌, length, Option, Some, None, refl, sym, ap, subst, ◌∙◌, inl, inr, arith, append_assoc, length-append, Result, Ok, Err, IfErr}
-use Rattle.std.proofs.lemmas.List.{append-nil}
-use Rattle.std.proofs.lemmas.List.Elements.{All-push, filter_map-append}
-use Rattle.std.specs.List.{filter_map}
-use Rattle.std.specs.Option.{option_to_list}
-use Rattle.ghc_reader.specs.Pieces.{Piece, HasForm, HasNoPiece, Stands, IsFront, spelled, Cuts, signs_behind, signs_after}
-use Rattle.ghc_reader.specs.Places.{start, place_behind, fault_at}
-use Rattle.ghc_reader.specs.Lexed.{piece_of, token_of, IsRefused, IsCutInto, place_of_token, token_places, IsBadAt, IsLexFault, most_bytes, IsCutFault, greatest_number}
+use Rattle.ghc_reader.proofs.Words.{◌≡◌, ◌≢◌, ◌⊎◌, ℕ, ◌+◌, ◌^◌, ◌<◌, ◌≤◌, Bool, true, List, [], ◌∷◌, ◌++◌, length, Option, Some, None, refl, sym, ap, subst, ◌∙◌, inl, inr, arith, append_assoc, length-append, Result, Ok, Err, IfErr, append-nil, All-push, filter_map-append, filter_map, option_to_list, Piece, HasForm, HasNoPiece, Stands, IsFront, spelled, Cuts, signs_behind, signs_after, start, place_behind, fault_at, piece_of, token_of, IsRefused, IsCutInto, place_of_token, token_places, IsBadAt, IsLexFault, most_bytes, IsCutFault, greatest_number, Token, Place, Front, Reserved}
 use Rattle.ghc_term.specs.declared.fault.Fault.{Fault}
 use Rattle.ghc_term.specs.declared.fault.Fault.TheVariants as fault
-use Rattle.ghc_reader.specs.declared.token.Token.{Token}
-use Rattle.ghc_reader.specs.declared.place.Place.{Place}
-use Rattle.ghc_reader.specs.declared.lexer.front.Front.{Front}
 use Rattle.ghc_reader.specs.declared.lexer.front.Kind.TheVariants as kind
-use Rattle.ghc_reader.specs.declared.lexer.value.Reserved.{Reserved}
 use Rattle.ghc_reader.proofs.OnePiece.{one_piece}
 use Rattle.ghc_reader.proofs.PlaceLemmas.{behind_within, place_behind-append}
 

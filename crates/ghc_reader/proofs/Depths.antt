@@ -1,11 +1,5 @@
 -- The open brackets behind the first tokens of a list.
-use Rattle.std.proofs.Common.{◌≡◌, ℕ, ◌+◌, ◌<◌, ◌≤◌, List, [], ◌∷◌, ◌++◌, length, get_or, take, drop, refl, sym, ap, subst, ◌∙◌, arith, length-append}
-use Rattle.std.proofs.Common.{inl, inr}
-use Rattle.std.proofs.lemmas.Bool.{cases_lt}
-use Rattle.std.proofs.lemmas.List.{take_more, take-append-drop}
-use Rattle.std.proofs.Math.Seq.{take-append_seam}
-use Rattle.ghc_reader.specs.Depth.{open_behind, open_after, IsTooDeep}
-use Rattle.ghc_reader.specs.declared.token.Token.{Token}
+use Rattle.ghc_reader.proofs.Words.{◌≡◌, ℕ, ◌+◌, ◌<◌, ◌≤◌, List, [], ◌∷◌, ◌++◌, length, get_or, take, drop, refl, sym, ap, subst, ◌∙◌, arith, length-append, inl, inr, cases_lt, take_more, take-append-drop, take-append_seam, open_behind, open_after, IsTooDeep, Token}
 
 open_after-append : (n : ℕ) (front rest : List Token) → open_after n (front ++ rest) ≡ open_after (open_after n front) rest
 open_after-append n [] rest = refl

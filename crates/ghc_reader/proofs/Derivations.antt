@@ -1,13 +1,10 @@
 -- The derivation of a tree in its shortest form, with lists in brackets, and that its tree is this one.
-use Rattle.std.proofs.Common.{◌≡◌, ℕ, true, false, List, ◌∷◌, refl, ap, ◌∙◌}
-use Rattle.ghc_reader.specs.declared.token.Mark.TheVariants.{Close, CloseList, Comma, Bar}
-use Rattle.ghc_reader.specs.declared.token.Token.{Token}
+use Rattle.ghc_reader.proofs.Words.{◌≡◌, ℕ, true, false, List, ◌∷◌, refl, ap, ◌∙◌, Close, CloseList, Comma, Bar, Token, Term, variable, integer, call, list, Arguments, without, within, Rest, closed, whole, partial, Terms, one, more, terms, IsClosedRest, Tree, Trees, tree_of, arguments_of, trees_of}
 use Rattle.ghc_reader.specs.declared.token.Token.TheVariants as token
-use Rattle.ghc_reader.specs.Grammar.{Term, variable, integer, call, list, Arguments, without, within, Rest, closed, whole, partial, Terms, one, more, terms, IsClosed, IsClosedRest, AreClosed}
+use Rattle.ghc_reader.specs.Grammar.{IsClosed, AreClosed}
 use Rattle.ghc_reader.specs.Grammar as grammar
 use Rattle.ghc_reader.specs.Source as tree
-use Rattle.ghc_reader.specs.Source.{Tree, Trees}
-use Rattle.ghc_reader.specs.Derived.{tree_of, arguments_of, list_of, trees_of}
+use Rattle.ghc_reader.specs.Derived.{list_of}
 use Rattle.ghc_reader.proofs.Meanings.{IsSoundBy, AreSoundBy, NoVariable, IsSound, AreSound}
 use Rattle.ghc_reader.proofs.InputSizes.{cells_sound}
 use Rattle.ghc_reader.proofs.TokenTexts.{AreSpaced}

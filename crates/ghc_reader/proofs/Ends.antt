@@ -1,12 +1,6 @@
 -- What ends a part.
-use Rattle.std.proofs.Common.{◌≢◌, [], Some}
-use Rattle.ghc_term.specs.declared.comparison.Comparison.{Comparison}
-use Rattle.ghc_reader.specs.declared.token.Sum.{Sum}
-use Rattle.ghc_reader.specs.declared.token.Mark.{Mark}
-use Rattle.ghc_reader.specs.declared.token.Mark.TheVariants.{Open, Comma, Bar, Equals, Define, Stop}
+use Rattle.ghc_reader.proofs.Words.{◌≢◌, [], Some, Comparison, Sum, Mark, Open, Comma, Bar, Equals, Define, Stop, Term, variable, integer, call, list, Arguments, without, within, Terms, one, more, Factors, Expression, Item, goal, unify, assign, Test, plain_test, compare, Tests, last_test, next_test, Body, last, next, EndsArguments, EndsTerm, EndsTerms, EndsProduct, EndsExpression, EndsItem, EndsTest, EndsTests, EndsBody}
 use Rattle.ghc_reader.specs.declared.token.Token.TheVariants as token
-use Rattle.ghc_reader.specs.Grammar.{Term, variable, integer, call, list, Arguments, without, within, Terms, one, more, Factors, Expression, Item, goal, unify, assign, Test, plain_test, compare, Tests, last_test, next_test, Body, last, next}
-use Rattle.ghc_reader.specs.Parts.{EndsArguments, EndsTerm, EndsTerms, EndsProduct, EndsExpression, EndsItem, EndsTest, EndsTests, EndsBody}
 
 -- marks that go on with nothing
 pub ends_term : (m : Mark) → m ≢ Open → (c : Term) → EndsTerm c (Some (token.Mark m))

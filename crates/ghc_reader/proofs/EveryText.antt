@@ -1,19 +1,7 @@
 -- Every text is cut up to its end, or up to a first bad byte.
-use Rattle.std.proofs.Common.{◌≡◌, ◌≢◌, ◌⊎◌, ℕ, zero, suc, ◌<◌, ◌≤◌, Bool, true, List, [], ◌∷◌, ◌++◌, length, take, drop, All, refl, sym, ap, subst, ◌∙◌, inl, inr, arith, codes, length-take-le, length-append, ltb}
-use Rattle.std.proofs.lemmas.Bool.Decides.{Decides-ltb}
-use Rattle.std.proofs.lemmas.List.{take-append-drop}
-use Rattle.std.proofs.lemmas.List.Elements.{All-nil, All-cons}
-use Rattle.std.proofs.Math.Seq.{take-append_seam}
-use Rattle.std.specs.Char.{is_ascii_digit, is_ascii_lowercase}
-use Rattle.std.specs.List.{list_all, filter_map}
-use Rattle.ghc_reader.specs.Bytes.{is_blank, is_word, begins_variable, IsRun}
-use Rattle.ghc_reader.specs.Symbols.{spelling}
-use Rattle.ghc_reader.specs.Pieces.{Piece, IsByte, IsNegative, HasForm, Stands, HasNoPiece, spelled, Cuts, signs_behind, signs_after}
-use Rattle.ghc_reader.specs.Places.{start, place_behind}
-use Rattle.ghc_reader.specs.Lexed.{IsRefused, token_of, token_places, IsCutInto, EveryTextIsRead, NoTextIsReadTwice}
-use Rattle.ghc_reader.specs.declared.lexer.front.Kind.{Kind}
+use Rattle.ghc_reader.proofs.Words.{◌≡◌, ◌≢◌, ◌⊎◌, ℕ, zero, suc, ◌<◌, ◌≤◌, Bool, true, List, [], ◌∷◌, ◌++◌, length, take, drop, All, refl, sym, ap, subst, ◌∙◌, inl, inr, arith, codes, length-append, ltb, Decides-ltb, take-append-drop, All-nil, All-cons, take-append_seam, is_ascii_digit, is_ascii_lowercase, list_all, filter_map, is_blank, is_word, begins_variable, IsRun, spelling, Piece, IsByte, IsNegative, HasForm, Stands, HasNoPiece, spelled, Cuts, signs_behind, signs_after, start, place_behind, IsRefused, token_of, token_places, IsCutInto, EveryTextIsRead, NoTextIsReadTwice, Kind, Reserved}
+use Rattle.std.proofs.Common.{length-take-le}
 use Rattle.ghc_reader.specs.declared.lexer.front.Kind.TheVariants as kind
-use Rattle.ghc_reader.specs.declared.lexer.value.Reserved.{Reserved}
 use Rattle.ghc_reader.proofs.Forms.{no_form_is_empty}
 use Rattle.ghc_reader.proofs.OnePiece.{symbol_of, symbol_of-spelling, one_piece}
 use Rattle.ghc_reader.proofs.OneLexing.{one_lexing, never_both, one_bad_byte}

@@ -1,11 +1,6 @@
 -- What is answered for a text is exact.
-use Rattle.std.proofs.Common.{◌≡◌, ℕ, List}
+use Rattle.ghc_reader.proofs.Words.{◌≡◌, ℕ, List, exact, WrittenClause, WrittenQuery, a_program, a_query, a_term, an_ask, a_body, IsRefusal, IsReadProgram, IsReadQuery, ReadProgramIsExact, ReadQueryIsExact, ReadTermIsExact, ReadAskIsExact, ReadBodyIsExact}
 use Rattle.ghc_term.specs.declared.fault.Fault.{Fault}
-use Rattle.ghc_term.proofs.Exact.{exact}
-use Rattle.ghc_reader.specs.Written.{WrittenClause, WrittenQuery}
-use Rattle.ghc_reader.specs.Tests.{a_program, a_query, a_term, an_ask, a_body, IsRefusal}
-use Rattle.ghc_reader.specs.Read.{IsReadProgram, IsReadQuery}
-use Rattle.ghc_reader.specs.Laws.{ReadProgramIsExact, ReadQueryIsExact, ReadTermIsExact, ReadAskIsExact, ReadBodyIsExact}
 use Rattle.ghc_reader.proofs.Whole.{one_query}
 use Rattle.ghc_reader.proofs.OneReading.{answered_once, one_program_tree, one_input_tree}
 use Rattle.ghc_reader.proofs.OneMeaning.{one_program_read, one_query_read, one_term_read, one_ask_read, one_body_read}

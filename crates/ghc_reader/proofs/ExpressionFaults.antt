@@ -1,13 +1,7 @@
 -- A fault in a part of an expression is one of the expression.
-use Rattle.std.proofs.Common.{◌≡◌, ◌≢◌, ℕ, List, [], ◌∷◌, length, Option, Some, None, refl, sym, ap, ◌∙◌, subst}
-use Rattle.ghc_reader.specs.declared.token.Sum.{Sum}
-use Rattle.ghc_reader.specs.declared.token.Product.{Product}
-use Rattle.ghc_reader.specs.declared.token.Mark.TheVariants.{Open, Close}
-use Rattle.ghc_reader.specs.declared.token.Token.{Token}
+use Rattle.ghc_reader.proofs.Words.{◌≡◌, ◌≢◌, ℕ, List, [], ◌∷◌, length, Option, Some, None, refl, sym, ap, ◌∙◌, subst, Sum, Product, Open, Close, Token, first, Begins, Operand, nested, Factors, factor, factors, Expression, summand, summands, operand, expression, EndsOperand, EndsProduct, EndsExpression, Fault}
 use Rattle.ghc_reader.specs.declared.token.Token.TheVariants as token
-use Rattle.ghc_reader.specs.Front.{first, Begins}
-use Rattle.ghc_reader.specs.Grammar.{Operand, number, named, nested, Factors, factor, factors, Expression, summand, summands, operand, product, expression}
-use Rattle.ghc_reader.specs.Parts.{EndsOperand, EndsProduct, EndsExpression, Fault}
+use Rattle.ghc_reader.specs.Grammar.{number, named, product}
 use Rattle.ghc_reader.proofs.Append.{some_variable, operand_append, product_append, expression_append}
 use Rattle.ghc_reader.proofs.Ends.{ends_expression, sum_ends}
 use Rattle.ghc_reader.proofs.OneExpression.{one_operand, one_product, one_expression, BeginsNoOperand}

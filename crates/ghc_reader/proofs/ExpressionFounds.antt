@@ -1,18 +1,8 @@
 -- The derivation of an expression, from those of its parts, and the faults behind them.
-use Rattle.std.proofs.Common.{◌≡◌, ◌≢◌, ℕ, ℤ, List, [], ◌∷◌, length, Some, sym, ap, ◌∙◌, subst}
-use Rattle.ghc_reader.specs.declared.token.Sum.{Sum}
-use Rattle.ghc_reader.specs.declared.token.Product.{Product}
-use Rattle.ghc_reader.specs.declared.token.Mark.{Mark}
-use Rattle.ghc_reader.specs.declared.token.Mark.TheVariants.{Open, Close}
-use Rattle.ghc_reader.specs.declared.token.Token.{Token}
+use Rattle.ghc_reader.proofs.Words.{◌≡◌, ◌≢◌, ℕ, ℤ, List, [], ◌∷◌, length, Some, sym, ap, ◌∙◌, subst, Sum, Product, Mark, Open, Close, Token, first, Begins, Operand, nested, Factors, Expression, operand, expression, EndsOperand, EndsProduct, EndsExpression, Found, Fault, operand_of, product_of, value_of, Value, value_view}
 use Rattle.ghc_reader.specs.declared.token.Token.TheVariants as token
-use Rattle.ghc_reader.specs.Front.{first, Begins}
-use Rattle.ghc_reader.specs.Grammar.{Operand, number, named, nested, Factors, Expression, operand, product, expression}
-use Rattle.ghc_reader.specs.Parts.{EndsOperand, EndsProduct, EndsExpression, Found, Fault}
-use Rattle.ghc_reader.specs.Derived.{operand_of, product_of, value_of}
+use Rattle.ghc_reader.specs.Grammar.{number, named, product}
 use Rattle.ghc_reader.specs.declared.source.SourceExpression.TheVariants as ev
-use Rattle.ghc_reader.specs.Source.{Value}
-use Rattle.ghc_reader.specs.Views.{value_view}
 use Rattle.ghc_reader.proofs.Views.{view_named, view_number}
 use Rattle.ghc_reader.proofs.OneExpression.{BeginsNoOperand}
 use Rattle.ghc_reader.proofs.Loops.{FactorsSoFar, ExpressionSoFar}

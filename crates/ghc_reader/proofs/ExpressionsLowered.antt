@@ -1,17 +1,7 @@
 -- What expressions say, and which variables they meet.
-use Rattle.std.proofs.Common.{◌≡◌, ℕ, ◌+◌, ◌<◌, List, [], ◌∷◌, ◌++◌, length, map, take, get_or, refl, sym, ap, ◌∙◌, subst, Box, Global, Vec}
-use Rattle.std.proofs.lemmas.List.{map_push, take_more}
-use Rattle.ghc_term.specs.declared.operator.Operator.{Operator}
-use Rattle.ghc_term.specs.Expression.{Expression, operation}
-use Rattle.ghc_term.specs.Variables.{variables_of_expression}
-use Rattle.ghc_reader.specs.declared.source.SourceExpression.{SourceExpression}
+use Rattle.ghc_reader.proofs.Words.{◌≡◌, ℕ, ◌+◌, ◌<◌, List, [], ◌∷◌, ◌++◌, length, map, take, get_or, refl, sym, ap, ◌∙◌, subst, Box, Global, Vec, map_push, take_more, Operator, operation, variables_of_expression, SourceExpression, Sum, Product, Value, number, named, product, sum, products, sums, value_view, factor_views, summand_views, Names, SaysValue, product_operator, sum_operator, MeetsAll}
+use Rattle.ghc_term.specs.Expression.{Expression}
 use Rattle.ghc_reader.specs.declared.source.SourceExpression.TheViews as w
-use Rattle.ghc_reader.specs.declared.token.Sum.{Sum}
-use Rattle.ghc_reader.specs.declared.token.Product.{Product}
-use Rattle.ghc_reader.specs.Source.{Value, number, named, product, sum, products, sums}
-use Rattle.ghc_reader.specs.Views.{value_view, factor_views, summand_views}
-use Rattle.ghc_reader.specs.Lowered.{Names, SaysValue, product_operator, sum_operator}
-use Rattle.ghc_reader.specs.Scope.{MeetsAll}
 use Rattle.ghc_reader.proofs.Views.{view_products, view_sums}
 use Rattle.ghc_reader.proofs.Scopes.{Grows, grows, met_also, called_still}
 

@@ -1,8 +1,5 @@
 -- A fault in a part is one of the whole: the two general forms.
-use Rattle.std.proofs.Common.{◌≡◌, ℕ, List, [], ◌∷◌, ◌++◌, length, Option, refl, sym, ap, ◌∙◌, append_assoc}
-use Rattle.ghc_reader.specs.declared.token.Token.{Token}
-use Rattle.ghc_reader.specs.Front.{first}
-use Rattle.ghc_reader.specs.Parts.{Fault}
+use Rattle.ghc_reader.proofs.Words.{◌≡◌, ℕ, List, [], ◌∷◌, ◌++◌, length, Option, refl, sym, ap, ◌∙◌, append_assoc, Token, first, Fault}
 
 pub first_append : (front a b : List Token) → first a ≡ first b → first (front ++ a) ≡ first (front ++ b)
 first_append [] a b e = e

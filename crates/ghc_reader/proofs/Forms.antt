@@ -1,19 +1,7 @@
 -- What form the first byte of a piece leaves to the rest of it, and when a piece is the longest at its place.
-use Rattle.std.proofs.Common.{◌≡◌, ◌≢◌, ◌⊎◌, ℕ, ◌≤◌, Bool, true, false, List, [], ◌∷◌, ◌++◌, length, get_or, refl, sym, ap, subst, ◌∙◌, inl, inr, arith, IsTrue, ◌==◌, ◌+◌, take, drop, one-add, not, codes}
-use Rattle.std.proofs.lemmas.Bool.Decides.{nat_tests}
-use Rattle.std.specs.Char.{is_ascii_digit, is_ascii_lowercase}
-use Rattle.std.specs.List.{list_all}
-use Rattle.ghc_reader.specs.Bytes.{is_blank, is_word, begins_variable, Begins, BeginsNegative, Lacks, IsRun}
-use Rattle.std.proofs.Math.Seq.{take-append_seam, drop-append_seam}
-use Rattle.ghc_reader.specs.Symbols.{spelling, IsLongest}
-use Rattle.ghc_reader.specs.Pieces.{Piece, IsNegative, HasForm, Stands}
-use Rattle.ghc_reader.specs.declared.token.Mark.TheVariants.{Open}
-use Rattle.ghc_term.specs.declared.comparison.Comparison.TheVariants.{Less}
-use Rattle.ghc_reader.specs.declared.token.Sum.TheVariants.{Plus}
-use Rattle.ghc_reader.specs.declared.token.Product.TheVariants.{Modulo}
-use Rattle.ghc_reader.specs.declared.lexer.symbol.Symbol.{Symbol}
+use Rattle.ghc_reader.proofs.Words.{◌≡◌, ◌≢◌, ◌⊎◌, ℕ, ◌≤◌, Bool, true, false, List, [], ◌∷◌, ◌++◌, length, get_or, refl, sym, ap, subst, ◌∙◌, inl, inr, arith, IsTrue, ◌==◌, ◌+◌, take, drop, one-add, not, codes, nat_tests, is_ascii_digit, is_ascii_lowercase, list_all, is_blank, is_word, begins_variable, BeginsNegative, Lacks, IsRun, take-append_seam, drop-append_seam, spelling, IsLongest, Piece, IsNegative, HasForm, Stands, Open, Less, Plus, Modulo, Symbol, Kind}
+use Rattle.ghc_reader.specs.Bytes.{Begins}
 use Rattle.ghc_reader.specs.declared.lexer.symbol.Symbol.TheVariants as symbol
-use Rattle.ghc_reader.specs.declared.lexer.front.Kind.{Kind}
 use Rattle.ghc_reader.specs.declared.lexer.front.Kind.TheVariants as kind
 
 -- a run with nothing behind it that goes on with it is as long as any run there

@@ -1,11 +1,6 @@
 -- A fault in a part of a goal is one of the goals.
-use Rattle.std.proofs.Common.{◌≡◌, ℕ, List, [], ◌∷◌, length, Some, refl, sym, ap, ◌∙◌, subst}
-use Rattle.ghc_reader.specs.declared.token.Mark.TheVariants.{Comma, Equals, Assign}
-use Rattle.ghc_reader.specs.declared.token.Token.{Token}
+use Rattle.ghc_reader.proofs.Words.{◌≡◌, ℕ, List, [], ◌∷◌, length, Some, refl, sym, ap, ◌∙◌, subst, Comma, Equals, Assign, Token, first, Begins, IsNotNamed, Term, variable, integer, call, list, Arguments, Expression, Item, goal, unify, assign, Body, last, next, term, arguments, expression, item, body, EndsArguments, EndsTerm, EndsExpression, EndsItem, EndsBody, Fault}
 use Rattle.ghc_reader.specs.declared.token.Token.TheVariants as token
-use Rattle.ghc_reader.specs.Front.{first, Begins, IsNotNamed}
-use Rattle.ghc_reader.specs.Grammar.{Term, variable, integer, call, list, Arguments, Expression, Item, goal, unify, assign, Body, last, next, term, arguments, expression, item, body}
-use Rattle.ghc_reader.specs.Parts.{EndsArguments, EndsTerm, EndsExpression, EndsItem, EndsBody, Fault}
 use Rattle.ghc_reader.proofs.Append.{some_variable, term_append, arguments_append, expression_append, item_append, body_append}
 use Rattle.ghc_reader.proofs.Ends.{ends_term, ends_item}
 use Rattle.ghc_reader.proofs.OneTerm.{one_term}

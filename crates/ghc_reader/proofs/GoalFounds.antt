@@ -1,15 +1,7 @@
 -- The derivation of goals and tests, from those of their parts, and the faults behind them.
-use Rattle.std.proofs.Common.{◌≡◌, ◌≢◌, ℕ, List, [], ◌∷◌, length, Some, None, false, refl, sym, ap, ◌∙◌, subst}
-use Rattle.ghc_term.specs.declared.comparison.Comparison.{Comparison}
-use Rattle.ghc_reader.specs.declared.token.Mark.TheVariants.{Comma, Equals, Assign, Stop}
-use Rattle.ghc_reader.specs.declared.token.Token.{Token}
+use Rattle.ghc_reader.proofs.Words.{◌≡◌, ◌≢◌, ℕ, List, [], ◌∷◌, length, Some, None, false, refl, sym, ap, ◌∙◌, subst, Comparison, Comma, Equals, Assign, Stop, Token, first, item_like, Begins, IsNotNamed, IsNotAssigned, Term, Item, goal, unify, assign, Test, plain_test, compare, Body, Query, plain, stopped, term, expression, item, test, body, query, EndsTerm, EndsItem, EndsTest, EndsBody, EndsQuery, FoundAt, Fault, tree_of, arguments_of, value_of, call_of, item_of, test_of, goals_of, query_of, Tree, Trees, Goal, Value, cells}
 use Rattle.ghc_reader.specs.declared.token.Token.TheVariants as token
-use Rattle.ghc_reader.specs.Front.{first, item_like, Begins, IsNotNamed, IsNotAssigned}
-use Rattle.ghc_reader.specs.Grammar.{Term, Item, goal, unify, assign, Test, plain_test, compare, Body, Query, plain, stopped, term, expression, item, test, body, query}
-use Rattle.ghc_reader.specs.Parts.{EndsTerm, EndsItem, EndsTest, EndsBody, EndsQuery, FoundAt, Fault}
-use Rattle.ghc_reader.specs.Derived.{tree_of, arguments_of, value_of, call_of, item_of, test_of, goals_of, query_of}
 use Rattle.ghc_reader.specs.Source as tree
-use Rattle.ghc_reader.specs.Source.{Tree, Trees, Goal, Value, cells}
 use Rattle.ghc_reader.proofs.GoalLoops.{BodySoFar, ends_at_last_item}
 use Rattle.ghc_reader.proofs.TermFounds.{TermFound, ArgumentsFound}
 use Rattle.ghc_reader.proofs.ExpressionFounds.{ExpressionFound, ExpressionFault}

@@ -1,19 +1,7 @@
 -- What the loops over goals, tests and clauses keep.
-use Rattle.std.proofs.Common.{◌≡◌, ◌≢◌, List, [], ◌∷◌, ◌++◌, Option, Some, refl, sym, ap, ◌∙◌}
-use Rattle.ghc_reader.specs.declared.token.Mark.TheVariants.{Comma}
-use Rattle.ghc_reader.specs.declared.token.Token.{Token}
+use Rattle.ghc_reader.proofs.Words.{◌≡◌, ◌≢◌, List, [], ◌∷◌, ◌++◌, Option, Some, refl, sym, ap, ◌∙◌, Comma, Token, first, Item, Test, Tests, last_test, next_test, Body, last, next, Clause, Program, done, clauses, item, test, tests, body, clause, program, EndsItem, EndsTest, EndsTests, EndsBody, EndsClause, FoundAt, item_of, test_of, tests_of, goals_of, clause_of, clauses_of, map_push, SourceGoal, SourceTest, SourceClause, Goal, goal_view, goal_views, test_view, test_views, clause_view, clause_views}
 use Rattle.ghc_reader.specs.declared.token.Token.TheVariants as token
-use Rattle.ghc_reader.specs.Front.{first}
-use Rattle.ghc_reader.specs.Grammar.{Item, Test, Tests, last_test, next_test, Body, last, next, Clause, Program, done, clauses, item, test, tests, body, clause, program}
-use Rattle.ghc_reader.specs.Parts.{EndsItem, EndsTest, EndsTests, EndsBody, EndsClause, FoundAt}
-use Rattle.ghc_reader.specs.Derived.{item_of, test_of, tests_of, goals_of, clause_of, clauses_of}
-use Rattle.std.proofs.lemmas.List.{map_push}
-use Rattle.ghc_reader.specs.declared.source.SourceGoal.{SourceGoal}
-use Rattle.ghc_reader.specs.declared.source.SourceTest.{SourceTest}
-use Rattle.ghc_reader.specs.declared.source.SourceClause.{SourceClause}
 use Rattle.ghc_reader.specs.Source as tree
-use Rattle.ghc_reader.specs.Source.{Goal}
-use Rattle.ghc_reader.specs.Views.{goal_view, goal_views, test_view, test_views, clause_view, clause_views}
 use Rattle.ghc_reader.proofs.GoalFaults.{and_then, body_and_then}
 use Rattle.ghc_reader.proofs.TestFaults.{and_also, tests_and_also}
 use Rattle.ghc_reader.proofs.ClauseFaults.{and_clause, program_and}

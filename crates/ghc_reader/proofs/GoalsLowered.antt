@@ -1,26 +1,13 @@
 -- What goals say, and which variables they meet.
-use Rattle.std.proofs.Common.{◌≡◌, ℕ, ◌+◌, ◌<◌, List, [], ◌∷◌, ◌++◌, length, take, get_or, refl, sym, ap, ◌∙◌, subst, append_assoc, Bool, true, false, cond, Option, Some, None, Box, Global, Vec, vec_len, arith, inl, inr, ◌⊎◌}
-use Rattle.std.specs.Prelude.{◌==◌, ◌&&◌, not, MatchOption, bytes_eq, nat_eq, codes}
-use Rattle.std.proofs.lemmas.List.{append-nil}
-use Rattle.std.proofs.lemmas.List.Elements.{filter-append}
-use Rattle.std.proofs.lemmas.Bool.Decides.{nat_tests}
-use Rattle.ghc_term.specs.declared.var_name.VarName.{VarName}
+use Rattle.ghc_reader.proofs.Words.{◌≡◌, ℕ, ◌+◌, ◌<◌, List, [], ◌∷◌, ◌++◌, length, take, get_or, refl, sym, ap, ◌∙◌, subst, append_assoc, Bool, true, false, cond, Option, Some, None, Box, Global, Vec, vec_len, arith, inl, inr, ◌⊎◌, ◌==◌, ◌&&◌, not, MatchOption, bytes_eq, nat_eq, codes, append-nil, filter-append, nat_tests, VarName, variables_of_expression, variables_of_goal, variables_of_goals, SourceTerm, SourceExpression, SourceCall, SourceGoal, Goal, cells, view, views, value_view, goal_view, goal_views, Names, IsCalled, Says, SaysValue, SaysGoal, SaysAsked, Each, is_true, doing, variable_of, first_variable, tail_of, count, MeetsAll}
 use Rattle.ghc_term.specs.Tree as term
 use Rattle.ghc_term.specs.Expression.{Expression}
 use Rattle.ghc_term.specs.Goal as goal
-use Rattle.ghc_term.specs.Variables.{variables, variables_of_expression, variables_of_goal, variables_of_goals}
-use Rattle.ghc_reader.specs.declared.source.SourceTerm.{SourceTerm}
+use Rattle.ghc_term.specs.Variables.{variables}
 use Rattle.ghc_reader.specs.declared.source.SourceTerm.TheViews as w
-use Rattle.ghc_reader.specs.declared.source.SourceExpression.{SourceExpression}
-use Rattle.ghc_reader.specs.declared.source.SourceCall.{SourceCall}
-use Rattle.ghc_reader.specs.declared.source.SourceGoal.{SourceGoal}
 use Rattle.ghc_reader.specs.declared.source.SourceGoal.TheVariants as source
-use Rattle.ghc_reader.specs.Source.{Goal, call, unify, assign, cells}
-use Rattle.ghc_reader.specs.Views.{view, views, value_view, goal_view, goal_views}
-use Rattle.ghc_reader.specs.Lowered.{Names, IsCalled, Says, SaysValue, SaysGoal, SaysAsked, Each, is_true, doing, variable_of, first_variable, tail_of}
-use Rattle.ghc_reader.specs.Reserved.{count}
+use Rattle.ghc_reader.specs.Source.{call, unify, assign}
 use Rattle.ghc_reader.proofs.Misplaced.{count_views}
-use Rattle.ghc_reader.specs.Scope.{MeetsAll}
 use Rattle.ghc_reader.proofs.Scopes.{Grows, grows, met_also, called_still}
 use Rattle.ghc_reader.proofs.TermsLowered.{says_still, says_all_still}
 use Rattle.ghc_reader.proofs.ExpressionsLowered.{value_still, mapped_more}

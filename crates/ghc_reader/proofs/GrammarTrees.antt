@@ -1,17 +1,7 @@
 -- Each tree that the grammar has a text for is said by a parse tree.
-use Rattle.std.proofs.Common.{◌≡◌, ℕ, ◌≤◌, true, false, List, [], ◌∷◌, length, refl, ap, inl, inr, arith, IsTrue}
-use Rattle.std.specs.Prelude.{codes}
-use Rattle.std.proofs.lemmas.Slice.Eq.{bytes_eq-Decides}
-use Rattle.ghc_term.specs.declared.var_name.VarName.{VarName}
+use Rattle.ghc_reader.proofs.Words.{◌≡◌, ℕ, ◌≤◌, true, false, List, [], ◌∷◌, length, refl, ap, inl, inr, arith, IsTrue, codes, bytes_eq-Decides, VarName, node, trees, list_of, is_cell, is_nil, IsHead, IsInGrammar, AllInGrammar, Tree, Trees, structure, empty, cell, none, some, count, widest, widest_of, SaysBy, SaysAllBy, IsCalled, IsWritable, AreWritable}
 use Rattle.ghc_term.specs.Tree as term
-use Rattle.ghc_term.specs.Tree.{node, trees, list_of}
-use Rattle.ghc_term.specs.Text.{is_cell, is_nil}
-use Rattle.ghc_term.specs.InputTerm.{IsHead, IsInGrammar, AllInGrammar}
-use Rattle.ghc_reader.specs.Source.{Tree, Trees, variable, integer, structure, empty, cell, none, some}
-use Rattle.ghc_reader.specs.Reserved.{count}
-use Rattle.ghc_reader.specs.Amounts.{widest, widest_of}
-use Rattle.ghc_reader.specs.Lowered.{SaysBy, SaysAllBy, IsCalled}
-use Rattle.ghc_reader.specs.PrintedGoals.{IsWritable, AreWritable}
+use Rattle.ghc_reader.specs.Source.{variable, integer}
 use Rattle.ghc_reader.proofs.Meanings.{IsSoundBy, AreSoundBy, NoVariable}
 
 -- a parse tree of at most 255 arguments that says the tree, and whose variables pass W

@@ -1,17 +1,7 @@
 -- The fault of an input term: the first variable, or what is amiss in front of it.
 
-use Rattle.std.proofs.Common.{◌≡◌, ◌≢◌, ℕ, ◌+◌, ◌-◌, ◌<◌, List, [], ◌∷◌, ◌++◌, length, take, drop, refl, sym, ap, ◌∙◌, subst, arith, append_assoc, length-append, ⊎_elim}
-use Rattle.std.proofs.lemmas.List.{take-append-drop, take-append-le, append-nil}
-use Rattle.std.proofs.Math.Nat.{eq-or-lt_of_le}
-use Rattle.std.proofs.Math.Seq.{take-append_seam, take-append-add}
-use Rattle.ghc_reader.specs.declared.token.Token.{Token}
+use Rattle.ghc_reader.proofs.Words.{◌≡◌, ◌≢◌, ℕ, ◌+◌, ◌-◌, ◌<◌, List, [], ◌∷◌, ◌++◌, length, take, drop, refl, sym, ap, ◌∙◌, subst, arith, append_assoc, length-append, ⊎_elim, take-append-drop, take-append-le, append-nil, eq-or-lt_of_le, take-append_seam, take-append-add, Token, first, NoVariable, StartsWithVariable, Tree, tree_of, Term, Input, term, input, Viable, FaultAt, EndsTerm, EndsWhole, ClosedFront, Found, Fault}
 use Rattle.ghc_reader.specs.declared.token.Token.TheVariants as token
-use Rattle.ghc_reader.specs.Front.{first, NoVariable, StartsWithVariable}
-use Rattle.ghc_reader.specs.Source.{Tree}
-use Rattle.ghc_reader.specs.Derived.{tree_of}
-use Rattle.ghc_reader.specs.Grammar.{Term, Input, term, input}
-use Rattle.ghc_reader.specs.Viable.{Viable, FaultAt}
-use Rattle.ghc_reader.specs.Parts.{EndsTerm, EndsWhole, ClosedFront, Found, Fault}
 use Rattle.ghc_reader.proofs.Append.{term_append}
 use Rattle.ghc_reader.proofs.OneTerm.{one_term}
 use Rattle.ghc_reader.proofs.Faults.{here}

@@ -1,21 +1,10 @@
 -- What is printed for an input term is no longer than its tokens, and opens no more brackets than they do.
-use Rattle.std.proofs.Common.{◌≡◌, ℕ, ◌+◌, ◌-◌, ◌≤◌, max, Bool, true, false, List, [], ◌∷◌, ◌++◌, length, refl, ap, ◌∙◌, arith, length-append, append-nil}
-use Rattle.std.proofs.Common.{inl, inr}
-use Rattle.std.specs.Prelude.{codes, if◌then◌else◌}
-use Rattle.std.proofs.lemmas.Bool.{cases_lt}
-use Rattle.std.specs.Fmt.{signed_decimal}
+use Rattle.ghc_reader.proofs.Words.{◌≡◌, ℕ, ◌+◌, ◌-◌, ◌≤◌, max, Bool, true, false, List, [], ◌∷◌, ◌++◌, length, refl, ap, ◌∙◌, arith, length-append, inl, inr, codes, if◌then◌else◌, cases_lt, signed_decimal, node, is_cell, is_nil, term_text, rest_text, cell_text, arguments_text, further_text, barred, IsNameText, nesting, rest_nesting, cell_nesting, arguments_nesting, deepest, Close, CloseList, Comma, Bar, Token, open_behind, open_after, IsTooDeep, Term, variable, integer, call, list, Arguments, without, within, Rest, closed, whole, partial, Terms, one, more, terms, tree_of, trees_of, cells_of}
+use Rattle.std.proofs.Common.{append-nil}
 use Rattle.ghc_term.specs.Tree as term
-use Rattle.ghc_term.specs.Tree.{node}
-use Rattle.ghc_term.specs.Text.{is_cell, is_nil, term_text, rest_text, cell_text, arguments_text, further_text, barred}
-use Rattle.ghc_term.specs.InputTerm.{IsNameText, nesting, rest_nesting, cell_nesting, arguments_nesting, deepest}
-use Rattle.ghc_reader.specs.declared.token.Mark.TheVariants.{Close, CloseList, Comma, Bar}
-use Rattle.ghc_reader.specs.declared.token.Token.{Token}
 use Rattle.ghc_reader.specs.declared.token.Token.TheVariants as token
-use Rattle.ghc_reader.specs.Depth.{open_behind, open_after, IsTooDeep}
-use Rattle.ghc_reader.specs.Grammar.{Term, variable, integer, call, list, Arguments, without, within, Rest, closed, whole, partial, Terms, one, more, terms}
 use Rattle.ghc_reader.specs.Grammar as grammar
 use Rattle.ghc_reader.specs.Source as tree
-use Rattle.ghc_reader.specs.Derived.{tree_of, trees_of, cells_of}
 use Rattle.ghc_reader.proofs.Meanings.{meaning, meanings, IsSoundBy, AreSoundBy, NoVariable, IsSound, AreSound, name_no_cell, name_no_nil}
 
 -- the terms in front of the end of a list are sound, and so is the end

@@ -73,3 +73,4 @@ pub mod PrintedApart
 pub mod SoundGoals
 pub mod GrammarTrees
 pub mod ReadAgain
+mod Words

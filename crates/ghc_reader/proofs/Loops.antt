@@ -1,20 +1,8 @@
 -- What the loops over terms and operands keep.
-use Rattle.std.proofs.Common.{◌≡◌, ◌≢◌, List, [], ◌∷◌, ◌++◌, map, Option, Some, refl, sym, ap, ◌∙◌}
-use Rattle.ghc_reader.specs.declared.token.Sum.{Sum}
-use Rattle.ghc_reader.specs.declared.token.Product.{Product}
-use Rattle.ghc_reader.specs.declared.token.Mark.TheVariants.{Comma}
-use Rattle.ghc_reader.specs.declared.token.Token.{Token}
+use Rattle.ghc_reader.proofs.Words.{◌≡◌, ◌≢◌, List, [], ◌∷◌, ◌++◌, map, Option, Some, refl, sym, ap, ◌∙◌, Sum, Product, Comma, Token, first, Term, Terms, one, more, Operand, Factors, factor, factors, Expression, summand, summands, term, terms, operand, expression, EndsTerm, EndsTerms, EndsOperand, EndsProduct, Found, tree_of, trees_of, operand_of, product_of, product_onto, value_of, sum_onto, map_push, SourceTerm, SourceExpression, Tree, Trees, none, some, Goal, cell, cells, Value, products, sums, view, views, value_view, factor_views, summand_views}
 use Rattle.ghc_reader.specs.declared.token.Token.TheVariants as token
-use Rattle.ghc_reader.specs.Front.{first}
-use Rattle.ghc_reader.specs.Grammar.{Term, Terms, one, more, Operand, Factors, factor, factors, Expression, summand, summands, term, terms, operand, product, expression}
-use Rattle.ghc_reader.specs.Parts.{EndsTerm, EndsTerms, EndsOperand, EndsProduct, Found}
-use Rattle.ghc_reader.specs.Derived.{tree_of, trees_of, operand_of, product_of, product_onto, value_of, sum_onto}
-use Rattle.std.proofs.lemmas.List.{map_push}
-use Rattle.ghc_reader.specs.declared.source.SourceTerm.{SourceTerm}
-use Rattle.ghc_reader.specs.declared.source.SourceExpression.{SourceExpression}
+use Rattle.ghc_reader.specs.Grammar.{product}
 use Rattle.ghc_reader.specs.Source as tree
-use Rattle.ghc_reader.specs.Source.{Tree, Trees, none, some, Goal, cell, cells, Value, products, sums}
-use Rattle.ghc_reader.specs.Views.{view, views, value_view, factor_views, summand_views}
 use Rattle.ghc_reader.proofs.TermFaults.{also, terms_also}
 use Rattle.ghc_reader.proofs.ExpressionFaults.{also_factor, product_also, also_summand, expression_also}
 

@@ -1,15 +1,5 @@
 -- Each mark of an input term stands at the front of any text that begins with it.
-use Rattle.std.proofs.Common.{◌≡◌, ℕ, ◌≤◌, ◌==◌, ◌||◌, Bool, true, false, List, [], ◌∷◌, ◌++◌, length, get_or, refl, ap, ◌∙◌, arith, IsTrue}
-use Rattle.std.proofs.lemmas.Bool.Decides.{nat_tests}
-use Rattle.ghc_reader.specs.Bytes.{is_blank, is_word}
-use Rattle.ghc_reader.specs.Symbols.{spelling}
-use Rattle.ghc_reader.specs.Pieces.{Stands}
-use Rattle.ghc_reader.specs.declared.token.Mark.{Mark}
-use Rattle.ghc_reader.specs.declared.token.Mark.TheVariants.{Open, Close, OpenList, CloseList, Comma, Bar, Equals, Assign, Define, Stop}
-use Rattle.ghc_term.specs.declared.comparison.Comparison.TheVariants.{Less, Greater}
-use Rattle.ghc_reader.specs.declared.token.Sum.TheVariants.{Plus, Minus}
-use Rattle.ghc_reader.specs.declared.token.Product.TheVariants.{Modulo}
-use Rattle.ghc_reader.specs.declared.lexer.symbol.Symbol.{Symbol}
+use Rattle.ghc_reader.proofs.Words.{◌≡◌, ℕ, ◌≤◌, ◌==◌, ◌||◌, Bool, true, false, List, [], ◌∷◌, ◌++◌, length, get_or, refl, ap, ◌∙◌, arith, IsTrue, nat_tests, is_blank, is_word, spelling, Stands, Mark, Open, Close, OpenList, CloseList, Comma, Bar, Equals, Assign, Define, Stop, Less, Greater, Plus, Minus, Modulo, Symbol}
 use Rattle.ghc_reader.specs.declared.lexer.symbol.Symbol.TheVariants as symbol
 use Rattle.ghc_reader.specs.declared.lexer.front.Kind.TheVariants as kind
 use Rattle.ghc_reader.proofs.Forms.{symbol_stands}

@@ -1,17 +1,8 @@
 -- The one term that a parse tree without variables says.
-use Rattle.std.proofs.Common.{◌≡◌, ℕ, ◌≤◌, List, [], ◌∷◌, length, true, false, refl, sym, ap, ◌∙◌, subst, inl, inr, arith, FitsSigned, w64}
-use Rattle.std.specs.Prelude.{bytes_eq, IsTrue}
-use Rattle.std.specs.Char.{is_ascii_lowercase}
-use Rattle.std.proofs.lemmas.Slice.Eq.{bytes_eq-Decides}
+use Rattle.ghc_reader.proofs.Words.{◌≡◌, ℕ, ◌≤◌, List, [], ◌∷◌, length, true, false, refl, sym, ap, ◌∙◌, subst, inl, inr, arith, FitsSigned, w64, bytes_eq, IsTrue, is_ascii_lowercase, bytes_eq-Decides, node, trees, nil, cons, list_of, is_cell, is_nil, IsNameText, IsInGrammar, AllInGrammar, Tree, Trees, structure, empty, cell, none, some, count, widest, widest_of, nodes, nodes_of, Says, SaysAll}
 use Rattle.ghc_term.specs.Tree as term
-use Rattle.ghc_term.specs.Tree.{node, trees, nil, cons, list_of}
-use Rattle.ghc_term.specs.Text.{is_cell, is_nil}
 use Rattle.ghc_term.specs.InputTerm as input
-use Rattle.ghc_term.specs.InputTerm.{IsNameText, IsInGrammar, AllInGrammar}
-use Rattle.ghc_reader.specs.Source.{Tree, Trees, variable, integer, structure, empty, cell, none, some}
-use Rattle.ghc_reader.specs.Reserved.{count}
-use Rattle.ghc_reader.specs.Amounts.{widest, widest_of, nodes, nodes_of}
-use Rattle.ghc_reader.specs.Lowered.{Says, SaysAll}
+use Rattle.ghc_reader.specs.Source.{variable, integer}
 
 abbrev mutual
   -- the term; a variable has none, and stands for any

@@ -1,16 +1,7 @@
 -- Which place is the first.
 
-use Rattle.std.proofs.Common.{◌≡◌, ℕ, ◌<◌, List, [], ◌∷◌, ◌++◌, length, suc, map, take, drop, get_or, Some, false, refl, sym, ap, ◌∙◌, append_assoc, arith, Box, Global, Vec, vec_len}
-use Rattle.std.specs.List.{flat_map}
-use Rattle.std.specs.Prelude.{◌==◌}
-use Rattle.std.proofs.lemmas.Grind.{flat_map-append}
-use Rattle.std.proofs.lemmas.List.{map-append, take-append-drop}
-use Rattle.std.proofs.Math.Seq.{take-suc}
-use Rattle.ghc_reader.specs.declared.source.SourceTerm.{SourceTerm}
+use Rattle.ghc_reader.proofs.Words.{◌≡◌, ℕ, ◌<◌, List, [], ◌∷◌, ◌++◌, length, suc, map, take, drop, get_or, Some, false, refl, sym, ap, ◌∙◌, append_assoc, arith, Box, Global, Vec, vec_len, flat_map, ◌==◌, flat_map-append, map-append, take-append-drop, take-suc, SourceTerm, cells, view, views, count, is_variable, first_place}
 use Rattle.ghc_reader.specs.declared.source.SourceTerm.TheViews as w
-use Rattle.ghc_reader.specs.Source.{cells}
-use Rattle.ghc_reader.specs.Views.{view, views}
-use Rattle.ghc_reader.specs.Reserved.{count, is_variable, first_place}
 use Rattle.ghc_reader.proofs.Views.{view_list}
 
 first_of : (a b : List ℕ) (n : ℕ) → Some n ≡ first_place a → first_place (a ++ b) ≡ first_place a

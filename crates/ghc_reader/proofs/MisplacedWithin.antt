@@ -1,15 +1,8 @@
 -- What is misplaced stands in the text: at its place no more tokens are left than the text has.
-use Rattle.std.proofs.Common.{◌≡◌, ℕ, ◌≤◌, Bool, true, false, List, [], ◌∷◌, ◌++◌, length, length-append, Some, refl, sym, ap, subst, ◌∙◌, arith}
-use Rattle.ghc_reader.specs.declared.token.Mark.TheVariants.{Comma, Bar, Define, Stop}
-use Rattle.ghc_reader.specs.declared.token.Token.{Token}
+use Rattle.ghc_reader.proofs.Words.{◌≡◌, ℕ, ◌≤◌, Bool, true, false, List, [], ◌∷◌, ◌++◌, length, length-append, Some, refl, sym, ap, subst, ◌∙◌, arith, Comma, Bar, Define, Stop, Token, Arguments, Tests, Item, goal, unify, assign, Body, last, next, Right, unguarded, guarded, Clause, fact, rule, Program, done, clauses, Query, plain, stopped, arguments, item, tests, body, right, clause, program, query, Call, Goal, call_of, item_of, goals_of, right_of, clause_of, clauses_of, query_of, is_reserved, starts_with_variable, place_if, misplaced_goal, misplaced_query_goal, misplaced_body, misplaced_query, misplaced_clause, misplaced_program, first_place, ◌&&◌, not, flat_map}
 use Rattle.ghc_reader.specs.declared.token.Token.TheVariants as token
-use Rattle.ghc_reader.specs.Grammar.{Arguments, Tests, Item, goal, unify, assign, Body, last, next, Right, unguarded, guarded, Clause, fact, rule, Program, done, clauses, Query, plain, stopped, arguments, item, tests, body, right, clause, program, query}
-use Rattle.ghc_reader.specs.Source.{Call, Goal}
 use Rattle.ghc_reader.specs.Source as tree
-use Rattle.ghc_reader.specs.Derived.{call_of, item_of, goals_of, right_of, clause_of, clauses_of, query_of}
-use Rattle.ghc_reader.specs.Reserved.{is_stream, is_reserved, starts_with_variable, place_if, misplaced_goal, misplaced_query_goal, misplaced_body, misplaced_query, misplaced_clause, misplaced_program, first_place}
-use Rattle.std.specs.Prelude.{◌&&◌, not}
-use Rattle.std.specs.List.{flat_map}
+use Rattle.ghc_reader.specs.Reserved.{is_stream}
 use Rattle.ghc_reader.proofs.Append.{arguments_append, item_append, tests_append, clause_append}
 
 -- the first of the places is at most m

@@ -1,12 +1,5 @@
 -- What the table of names keeps.
-use Rattle.std.proofs.Common.{◌≡◌, ℕ, Bool, true, false, cond, List, Option, Some, Result, Ok, Err, refl, sym, ap, ◌∙◌, bytes_eq, Bor}
-use Rattle.std.specs.Prelude.{OnOk, OnErr}
-use Rattle.std.specs.BTreeMap.{BTreeMap, is_at, get_by, UpdatesBy, IsUnchanged}
-use Rattle.std.specs.Cmp.Lexicographic.{slice_cmp}
-use Rattle.std.specs.Ordering.{nat_cmp}
-use Rattle.std.specs.Map.{lookup}
-use Rattle.std.proofs.lemmas.Map.Text.{btree_map_updates_str}
-use Rattle.std.proofs.lemmas.Slice.Eq.{bytes_eq-Decides}
+use Rattle.ghc_reader.proofs.Words.{◌≡◌, ℕ, Bool, true, false, cond, List, Option, Some, Result, Ok, Err, refl, sym, ap, ◌∙◌, bytes_eq, Bor, OnOk, OnErr, BTreeMap, is_at, get_by, UpdatesBy, IsUnchanged, slice_cmp, nat_cmp, lookup, btree_map_updates_str, bytes_eq-Decides}
 
 abbrev Table : Type 0
 Table = BTreeMap (Bor (List ℕ)) (List ℕ)

@@ -1,11 +1,6 @@
 -- What is found in a list of names, and in a table of them, as they become more.
-use Rattle.std.proofs.Common.{◌≡◌, ◌≢◌, ◌⊎◌, ℕ, ◌+◌, zero, suc, List, [], ◌∷◌, ◌++◌, length, Bool, true, false, cond, Option, Some, None, refl, sym, ap, ◌∙◌, subst, inl, inr, slice_get}
-use Rattle.std.specs.Prelude.{MatchOption, bytes_eq, OnOk, Result, Ok, Err}
-use Rattle.std.specs.Result.{is_err}
-use Rattle.std.specs.HashMap.{HashMap, get, Updates}
-use Rattle.std.proofs.lemmas.Slice.Eq.{bytes_eq-Decides}
-use Rattle.ghc_reader.specs.Lowered.{Names, blank, IsCalled}
-use Rattle.ghc_reader.specs.Scope.{IsFresh, IsTable}
+use Rattle.ghc_reader.proofs.Words.{◌≡◌, ◌≢◌, ◌⊎◌, ℕ, ◌+◌, zero, suc, List, [], ◌∷◌, ◌++◌, length, Bool, true, false, cond, Option, Some, None, refl, sym, ap, ◌∙◌, subst, inl, inr, slice_get, MatchOption, bytes_eq, OnOk, Result, Ok, Err, is_err, HashMap, Updates, bytes_eq-Decides, Names, blank, IsCalled, IsFresh, IsTable}
+use Rattle.std.specs.HashMap.{get}
 
 pub get_left : {X : Type 0} (xs ys : List X) (i : ℕ) (x : X) → slice_get xs i ≡ Some x → slice_get (xs ++ ys) i ≡ Some x
 get_left [] ys i x e = cc

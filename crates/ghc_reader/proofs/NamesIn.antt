@@ -1,20 +1,11 @@
 -- The names that stand in a parse tree, in order; and what says the tree has variables that are called so, in order.
-use Rattle.std.proofs.Common.{◌≡◌, ℕ, List, [], ◌∷◌, ◌++◌, Bool, true, false, cond, Option, Some, None, refl, sym, ap, ◌∙◌, subst, arith}
-use Rattle.std.specs.Prelude.{MatchOption, ◌&&◌, not, bytes_eq, nat_eq, codes}
-use Rattle.std.specs.List.{flat_map}
-use Rattle.std.proofs.lemmas.List.{append-nil}
-use Rattle.std.proofs.lemmas.Bool.Decides.{nat_tests}
-use Rattle.ghc_term.specs.declared.var_name.VarName.{VarName}
+use Rattle.ghc_reader.proofs.Words.{◌≡◌, ℕ, List, [], ◌∷◌, ◌++◌, Bool, true, false, cond, Option, Some, None, refl, sym, ap, ◌∙◌, subst, arith, MatchOption, ◌&&◌, not, bytes_eq, nat_eq, codes, flat_map, append-nil, nat_tests, VarName, variables_of_list, variables_of_expression, leaf_variables, variables_of_goal, variables_of_goals, Guard, Tree, Trees, structure, empty, cell, none, some, Value, number, named, product, sum, Goal, WrittenClause, WrittenQuery, variables_of_guard, variables_of_guards, variables_of_written, Names, IsCalled, SaysBy, SaysAllBy, SaysValueBy, SaysGoalBy, SaysValue, SaysGoal, SaysAsked, SaysGuard, SaysClause, SaysQuery, Each, first_variable, tail_of, is_true, doing, count, names as names_in, names_of as names_in_all, names_in as names_in_value, names_of_goal as names_in_goal, names_of_goals, names_of_test as names_in_test, names_of_clause}
 use Rattle.ghc_term.specs.Tree as term
 use Rattle.ghc_term.specs.Expression.{Expression}
 use Rattle.ghc_term.specs.Goal as goal
-use Rattle.ghc_term.specs.Variables.{variables, variables_of_list, variables_of_expression, leaf_variables, variables_of_goal, variables_of_goals}
-use Rattle.ghc_reader.specs.declared.written.Guard.{Guard}
-use Rattle.ghc_reader.specs.Source.{Tree, Trees, variable, integer, structure, empty, cell, none, some, Value, number, named, product, sum, Goal, call, unify, assign, Test, plain, compare, Clause}
-use Rattle.ghc_reader.specs.Written.{WrittenClause, WrittenQuery, variables_of_guard, variables_of_guards, variables_of_written}
-use Rattle.ghc_reader.specs.Lowered.{Names, IsCalled, SaysBy, SaysAllBy, SaysValueBy, SaysGoalBy, SaysValue, SaysGoal, SaysAsked, SaysGuard, SaysClause, SaysQuery, Each, first_variable, tail_of, is_true, doing}
-use Rattle.ghc_reader.specs.Reserved.{count, is_stream}
-use Rattle.ghc_reader.specs.Amounts.{names as names_in, names_of as names_in_all, names_in as names_in_value, names_of_goal as names_in_goal, names_of_goals, names_of_test as names_in_test, names_of_clause}
+use Rattle.ghc_term.specs.Variables.{variables}
+use Rattle.ghc_reader.specs.Source.{variable, integer, call, unify, assign, Test, plain, compare, Clause}
+use Rattle.ghc_reader.specs.Reserved.{is_stream}
 use Rattle.ghc_reader.proofs.TermsLowered.{variables_of_trees}
 use Rattle.ghc_reader.proofs.ClausesLowered.{leaves_are_all}
 

@@ -1,20 +1,6 @@
 -- Variables that are met from no names on are numbered by first occurrence, each with its name.
-use Rattle.std.proofs.Common.{◌≡◌, ◌≢◌, ◌⊎◌, ℕ, ◌+◌, ◌<◌, zero, suc, List, [], ◌∷◌, ◌++◌, length, Bool, true, false, cond, Some, refl, sym, ap, ◌∙◌, subst, inl, inr, arith, slice_get}
-use Rattle.std.specs.List.{list_any}
-use Rattle.std.specs.Prelude.{◌||◌}
-use Rattle.std.specs.declared.cmp.Ordering.{Ordering}
+use Rattle.ghc_reader.proofs.Words.{◌≡◌, ◌≢◌, ◌⊎◌, ℕ, ◌+◌, ◌<◌, zero, suc, List, [], ◌∷◌, ◌++◌, length, Bool, true, false, cond, Some, refl, sym, ap, ◌∙◌, subst, inl, inr, arith, slice_get, list_any, ◌||◌, Ordering, eq_by_cmp, is_eq, cases_lt, eq_by_cmp_equiv, length_push, slice_get_within, VarName, name_cmp, firsts, name_total, name_antisymmetric, Names, blank, IsCalled, AreNamed, IsFresh, IsKnown, Meets, MeetsAll}
 use Rattle.std.specs.declared.cmp.Ordering.TheVariants.{Less, Equal, Greater}
-use Rattle.std.specs.Ordering.{eq_by_cmp, is_eq}
-use Rattle.std.proofs.lemmas.Bool.{cases_lt}
-use Rattle.std.specs.Cmp.{eq_by_cmp_equiv}
-use Rattle.std.proofs.lemmas.List.{length_push}
-use Rattle.std.proofs.lemmas.Option.{slice_get_within}
-use Rattle.ghc_term.specs.declared.var_name.VarName.{VarName}
-use Rattle.ghc_term.specs.Bindings.{name_cmp}
-use Rattle.ghc_term.specs.Variables.{firsts}
-use Rattle.ghc_term.proofs.Names.{name_total, name_antisymmetric}
-use Rattle.ghc_reader.specs.Lowered.{Names, blank, IsCalled, AreNamed}
-use Rattle.ghc_reader.specs.Scope.{IsFresh, IsKnown, Meets, MeetsAll}
 use Rattle.ghc_reader.proofs.Names.{get_left, get_last, get_push}
 use Rattle.ghc_reader.proofs.Scopes.{grows, grows_met, grows_twice, called_still}
 

@@ -1,9 +1,6 @@
 -- No text has two derivations as a clause or a program.
-use Rattle.std.proofs.Common.{◌≡◌, ◌≢◌, List, [], ◌∷◌, refl, sym, ap, ◌∙◌}
-use Rattle.ghc_reader.specs.declared.token.Mark.TheVariants.{Bar, Define, Stop}
-use Rattle.ghc_reader.specs.declared.token.Token.{Token}
+use Rattle.ghc_reader.proofs.Words.{◌≡◌, ◌≢◌, List, [], ◌∷◌, refl, sym, ap, ◌∙◌, Bar, Define, Stop, Token, Right, unguarded, guarded, Clause, fact, rule, Program, done, clauses, arguments, body, right, clause, program}
 use Rattle.ghc_reader.specs.declared.token.Token.TheVariants as token
-use Rattle.ghc_reader.specs.Grammar.{Right, unguarded, guarded, Clause, fact, rule, Program, done, clauses, arguments, body, right, clause, program}
 use Rattle.ghc_reader.proofs.Ends.{stop_ends_tests, bar_ends_tests, stop_ends_body, stop_ends_arguments, define_ends_arguments}
 use Rattle.ghc_reader.proofs.OneTerm.{Same, one_arguments}
 use Rattle.ghc_reader.proofs.OneGoal.{one_tests, one_body, as_tests, tests_body}

@@ -1,14 +1,7 @@
 -- No text has two derivations as an expression.
-use Rattle.std.proofs.Common.{◌≡◌, ◌≢◌, List, ◌∷◌, refl, sym, ap, subst}
-use Rattle.ghc_reader.specs.declared.token.Sum.{Sum}
-use Rattle.ghc_reader.specs.declared.token.Product.{Product}
-use Rattle.ghc_reader.specs.declared.token.Mark.{Mark}
-use Rattle.ghc_reader.specs.declared.token.Mark.TheVariants.{Open, Close}
-use Rattle.ghc_reader.specs.declared.token.Token.{Token}
+use Rattle.ghc_reader.proofs.Words.{◌≡◌, ◌≢◌, List, ◌∷◌, refl, sym, ap, subst, Sum, Product, Mark, Open, Close, Token, first, Operand, nested, Factors, factor, factors, Expression, summand, summands, operand, expression, EndsProduct, EndsExpression}
 use Rattle.ghc_reader.specs.declared.token.Token.TheVariants as token
-use Rattle.ghc_reader.specs.Front.{first}
-use Rattle.ghc_reader.specs.Grammar.{Operand, number, named, nested, Factors, factor, factors, Expression, summand, summands, operand, product, expression}
-use Rattle.ghc_reader.specs.Parts.{EndsProduct, EndsExpression}
+use Rattle.ghc_reader.specs.Grammar.{number, named, product}
 use Rattle.ghc_reader.proofs.Ends.{ends_expression, sum_ends}
 use Rattle.ghc_reader.proofs.OneTerm.{Same}
 

@@ -1,12 +1,6 @@
 -- No text has two derivations as goals or tests.
-use Rattle.std.proofs.Common.{◌≡◌, List, ◌∷◌, Some, refl, sym, ap}
-use Rattle.ghc_term.specs.declared.comparison.Comparison.{Comparison}
-use Rattle.ghc_reader.specs.declared.token.Mark.TheVariants.{OpenList, Comma, Equals, Assign}
-use Rattle.ghc_reader.specs.declared.token.Token.{Token}
+use Rattle.ghc_reader.proofs.Words.{◌≡◌, List, ◌∷◌, Some, refl, sym, ap, Comparison, OpenList, Comma, Equals, Assign, Token, first, Term, variable, integer, call, list, Expression, Item, goal, unify, assign, Test, plain_test, compare, Tests, last_test, next_test, Body, last, next, term, arguments, rest, expression, item, test, tests, body, EndsTerm, EndsItem, EndsTest, EndsTests, EndsBody}
 use Rattle.ghc_reader.specs.declared.token.Token.TheVariants as token
-use Rattle.ghc_reader.specs.Front.{first}
-use Rattle.ghc_reader.specs.Grammar.{Term, variable, integer, call, list, Expression, Item, goal, unify, assign, Test, plain_test, compare, Tests, last_test, next_test, Body, last, next, term, arguments, rest, expression, item, test, tests, body}
-use Rattle.ghc_reader.specs.Parts.{EndsTerm, EndsItem, EndsTest, EndsTests, EndsBody}
 use Rattle.ghc_reader.proofs.Ends.{ends_term, ends_item, ends_test, comparison_ends}
 use Rattle.ghc_reader.proofs.OneTerm.{Same, one_term, one_arguments}
 use Rattle.ghc_reader.proofs.OneExpression.{one_expression, alone, no_expression}

@@ -1,19 +1,8 @@
 -- A text is cut in one way, up to its end or up to its first bad byte.
-use Rattle.std.proofs.Common.{◌≡◌, ◌⊎◌, ℕ, ◌≤◌, ◌+◌, Bool, true, List, [], ◌∷◌, ◌++◌, length, length-append, Option, Some, None, All, Result, Ok, Err, IfOk, IfErr, MatchResult, refl, sym, ap, subst, ◌∙◌, inl, inr, arith}
-use Rattle.std.proofs.lemmas.List.{append_cancel_left}
-use Rattle.std.proofs.lemmas.List.Elements.{All-head, All-tail}
-use Rattle.std.specs.List.{filter_map, cons_option}
-use Rattle.ghc_reader.specs.Pieces.{Piece, HasForm, Stands, spelled, Cuts, signs_behind, signs_after}
-use Rattle.ghc_reader.specs.Places.{start, place_behind, fault_at}
-use Rattle.ghc_reader.specs.Lexed.{token_of, IsRefused, place_of_token, token_places, IsLexed, IsBadAt, IsLexFault, most_bytes}
-use Rattle.std.specs.Result.{IsErrAnd}
+use Rattle.ghc_reader.proofs.Words.{◌≡◌, ◌⊎◌, ℕ, ◌≤◌, ◌+◌, Bool, true, List, [], ◌∷◌, ◌++◌, length, length-append, Option, Some, None, All, Result, Ok, Err, IfOk, IfErr, MatchResult, refl, sym, ap, subst, ◌∙◌, inl, inr, arith, append_cancel_left, All-head, All-tail, filter_map, cons_option, Piece, HasForm, Stands, spelled, Cuts, signs_behind, signs_after, start, place_behind, fault_at, token_of, IsRefused, place_of_token, token_places, IsLexed, IsBadAt, IsLexFault, most_bytes, IsErrAnd, Lexed, Token, Place, Reserved}
 use Rattle.ghc_term.specs.declared.fault.Fault.{Fault}
 use Rattle.ghc_term.specs.declared.fault.Fault.TheVariants as fault
 use Rattle.ghc_term.specs.declared.limit.Limit.TheVariants as limit
-use Rattle.ghc_reader.specs.declared.lexer.Lexed.{Lexed}
-use Rattle.ghc_reader.specs.declared.token.Token.{Token}
-use Rattle.ghc_reader.specs.declared.place.Place.{Place}
-use Rattle.ghc_reader.specs.declared.lexer.value.Reserved.{Reserved}
 use Rattle.ghc_reader.proofs.Forms.{no_form_is_empty}
 use Rattle.ghc_reader.proofs.OnePiece.{one_piece}
 

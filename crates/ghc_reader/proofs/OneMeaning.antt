@@ -1,21 +1,13 @@
 -- A parse tree says one term, clause or query, so a text is read in one way.
-use Rattle.std.proofs.Common.{◌≡◌, ℕ, ◌+◌, List, [], ◌∷◌, ◌++◌, Option, Some, refl, sym, ap, ◌∙◌, subst, append_assoc}
-use Rattle.ghc_term.specs.declared.var_name.VarName.{VarName}
+use Rattle.ghc_reader.proofs.Words.{◌≡◌, ℕ, ◌+◌, List, [], ◌∷◌, ◌++◌, Option, Some, refl, sym, ap, ◌∙◌, subst, append_assoc, VarName, variables_of_list, variables_of_goals, Goal, a_program, a_query, a_term, an_ask, a_body, WrittenClause, WrittenQuery, AreApart, variables_of_guards, variables_of_written, WrittenAsk, IsNaming, of_state, of_no_step, is_new, SaysAsk, Names, IsCalled, Each, SaysClause, SaysQuery, doing, Says, IsReadProgram, IsReadQuery, IsReadTerm, IsReadAsk, IsReadBody, IsReadInOneWay, names_of_clause, names_of_goals, greatest_number}
 use Rattle.ghc_term.specs.Tree as term
-use Rattle.ghc_term.specs.Variables.{variables_of_list, variables_of_goals}
-use Rattle.ghc_reader.specs.Source.{Goal, Clause}
-use Rattle.ghc_reader.specs.Tests.{a_program, a_query, a_term, an_ask, a_body}
-use Rattle.ghc_reader.specs.Written.{WrittenClause, WrittenQuery, AreApart, variables_of_guards, variables_of_written}
-use Rattle.ghc_reader.specs.WrittenAsk.{WrittenAsk, IsNaming, of_state, of_no_step, of_query, is_new, SaysAsk}
-use Rattle.ghc_reader.specs.Lowered.{Names, IsCalled, Each, SaysClause, SaysQuery, doing, Says}
-use Rattle.ghc_reader.specs.Read.{IsReadProgram, IsReadQuery, IsReadTerm, IsReadAsk, IsReadBody, IsReadInOneWay}
+use Rattle.ghc_reader.specs.Source.{Clause}
+use Rattle.ghc_reader.specs.WrittenAsk.{of_query}
 use Rattle.ghc_reader.proofs.Whole.{one_query}
 use Rattle.ghc_reader.proofs.OneReading.{answered_once, one_program_tree, one_input_tree}
 use Rattle.ghc_reader.proofs.OneNaming.{one_naming}
 use Rattle.ghc_reader.proofs.Meanings.{said}
-use Rattle.ghc_reader.specs.Amounts.{names_of_clause, names_of_goals}
 use Rattle.ghc_reader.proofs.NamesIn.{clause_called, query_called, asked_called}
-use Rattle.ghc_reader.specs.Lexed.{greatest_number}
 use Rattle.ghc_reader.proofs.Values.{same_numbers}
 use Rattle.ghc_reader.proofs.OneSaying.{one_list, one_guards, one_body, one_question}
 

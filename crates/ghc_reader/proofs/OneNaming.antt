@@ -1,15 +1,6 @@
 -- Variables that are named are determined by the names of the text in order.
-use Rattle.std.proofs.Common.{◌≡◌, ◌≢◌, ◌⊎◌, ℕ, ◌+◌, ◌<◌, zero, suc, List, [], ◌∷◌, ◌++◌, length, Bool, true, false, cond, Some, refl, sym, ap, ◌∙◌, subst, inl, inr, arith, slice_get, append_assoc}
-use Rattle.std.specs.Prelude.{◌||◌, bytes_eq}
-use Rattle.std.specs.Ordering.{eq_by_cmp}
-use Rattle.std.proofs.lemmas.List.{append-nil, length_push, length-append}
-use Rattle.std.proofs.lemmas.Option.{slice_get_within}
-use Rattle.std.proofs.lemmas.Slice.Eq.{bytes_eq-Decides}
-use Rattle.ghc_term.specs.declared.var_name.VarName.{VarName}
-use Rattle.ghc_term.specs.Bindings.{name_cmp}
-use Rattle.ghc_term.specs.Variables.{firsts}
-use Rattle.ghc_reader.specs.Lowered.{Names, blank, IsCalled, AreNamed, Each}
-use Rattle.ghc_reader.specs.Scope.{IsFresh}
+use Rattle.ghc_reader.proofs.Words.{◌≡◌, ◌≢◌, ◌⊎◌, ℕ, ◌+◌, ◌<◌, zero, suc, List, [], ◌∷◌, ◌++◌, length, Bool, true, false, cond, Some, refl, sym, ap, ◌∙◌, subst, inl, inr, arith, slice_get, append_assoc, ◌||◌, bytes_eq, eq_by_cmp, append-nil, length_push, slice_get_within, bytes_eq-Decides, VarName, name_cmp, firsts, Names, blank, IsCalled, AreNamed, Each, IsFresh}
+use Rattle.std.proofs.lemmas.List.{length-append}
 use Rattle.ghc_reader.proofs.Names.{get_left}
 use Rattle.ghc_reader.proofs.Numbered.{number, is_seen, Seen, seen_none, seen_next, one_name, test_cases, Apart, apart_next}
 

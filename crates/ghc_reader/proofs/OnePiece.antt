@@ -1,19 +1,7 @@
 -- At most one piece stands at a place.
-use Rattle.std.proofs.Common.{◌≡◌, ℕ, Bool, true, false, List, [], ◌∷◌, ◌++◌, length, get_or, refl, sym, ap, subst, ◌∙◌, inl, inr, arith, ◌==◌, codes, cond, bytes_eq}
-use Rattle.std.proofs.lemmas.Bool.Decides.{nat_tests}
-use Rattle.std.proofs.lemmas.Slice.Eq.{bytes_eq-Decides}
-use Rattle.std.specs.Char.{is_ascii_digit, is_ascii_lowercase}
-use Rattle.ghc_reader.specs.Bytes.{is_blank, begins_variable}
-use Rattle.ghc_reader.specs.Symbols.{spelling}
-use Rattle.ghc_reader.specs.Pieces.{Piece, HasForm, Stands}
+use Rattle.ghc_reader.proofs.Words.{◌≡◌, ℕ, Bool, true, false, List, [], ◌∷◌, ◌++◌, length, get_or, refl, sym, ap, subst, ◌∙◌, inl, inr, arith, ◌==◌, codes, cond, bytes_eq, nat_tests, bytes_eq-Decides, is_ascii_digit, is_ascii_lowercase, is_blank, begins_variable, spelling, Piece, HasForm, Stands, Open, Close, OpenList, CloseList, Comma, Bar, Equals, Assign, Define, Stop, Less, AtMost, Greater, AtLeast, Equal, NotEqual, Plus, Minus, Times, Divide, Modulo, Symbol, Kind}
 use Rattle.ghc_reader.proofs.Forms.{no_form_is_empty}
-use Rattle.ghc_reader.specs.declared.token.Mark.TheVariants.{Open, Close, OpenList, CloseList, Comma, Bar, Equals, Assign, Define, Stop}
-use Rattle.ghc_term.specs.declared.comparison.Comparison.TheVariants.{Less, AtMost, Greater, AtLeast, Equal, NotEqual}
-use Rattle.ghc_reader.specs.declared.token.Sum.TheVariants.{Plus, Minus}
-use Rattle.ghc_reader.specs.declared.token.Product.TheVariants.{Times, Divide, Modulo}
-use Rattle.ghc_reader.specs.declared.lexer.symbol.Symbol.{Symbol}
 use Rattle.ghc_reader.specs.declared.lexer.symbol.Symbol.TheVariants as symbol
-use Rattle.ghc_reader.specs.declared.lexer.front.Kind.{Kind}
 use Rattle.ghc_reader.specs.declared.lexer.front.Kind.TheVariants as kind
 
 -- ---- the kind of the bytes of a piece

@@ -1,28 +1,11 @@
 -- A text is read as one tree, or refused in one way.
-use Rattle.std.proofs.Common.{◌≡◌, ◌⊎◌, Bool, true, false, Result, Ok, Err, IfOk, IfErr, ℕ, ◌+◌, ◌-◌, ◌<◌, ◌≤◌, List, [], ◌++◌, length, take, drop, Some, None, refl, sym, ap, subst, ◌∙◌, inl, inr, arith, append_assoc}
-use Rattle.std.proofs.lemmas.Bool.{cases_lt}
-use Rattle.std.proofs.lemmas.List.{take-append-drop, take-take}
+use Rattle.ghc_reader.proofs.Words.{◌≡◌, ◌⊎◌, Bool, true, false, Result, Ok, Err, IfOk, IfErr, ℕ, ◌+◌, ◌-◌, ◌<◌, ◌≤◌, List, [], ◌++◌, length, take, drop, Some, None, refl, sym, ap, subst, ◌∙◌, inl, inr, arith, append_assoc, cases_lt, take-append-drop, take-take, Limit, ParseError, Token, Place, Reserved, Refused, fault_at, IsLexed, IsCutFault, IsLexFault, IsTooDeep, Viable, FaultAt, IfSyntax, a_term, HasTokens, IsShallow, IsDerived, IsRead, IsFaultAt, IsTokenRefusal, too_long, bad_byte, too_deep, IsSyntaxRefusal, IsPlaceRefusal, IsLimitRefusal, IsRefusal, IsAnsweredOnce, by_tokens, by_syntax, by_place, by_limit, first_place, Tree, first_exceeded, of_term, Program, Input, program, input, clauses_of, tree_of}
 use Rattle.ghc_term.specs.declared.fault.Fault.{Fault}
 use Rattle.ghc_term.specs.declared.fault.Fault.TheVariants as fault
-use Rattle.ghc_term.specs.declared.limit.Limit.{Limit}
 use Rattle.ghc_term.specs.declared.limit.Limit.TheVariants as limit
-use Rattle.ghc_reader.specs.declared.parse_error.ParseError.{ParseError}
 use Rattle.ghc_reader.specs.declared.parse_error.ParseError.TheVariants as parse_error
-use Rattle.ghc_reader.specs.declared.token.Token.{Token}
-use Rattle.ghc_reader.specs.declared.place.Place.{Place}
-use Rattle.ghc_reader.specs.declared.lexer.value.Reserved.{Reserved}
-use Rattle.ghc_reader.specs.declared.lexer.value.Reserved.TheVariants.{Refused}
-use Rattle.ghc_reader.specs.Places.{fault_at}
-use Rattle.ghc_reader.specs.Lexed.{IsLexed, IsCutFault, IsLexFault}
-use Rattle.ghc_reader.specs.Depth.{IsTooDeep}
-use Rattle.ghc_reader.specs.Viable.{Viable, FaultAt, IfSyntax}
-use Rattle.ghc_reader.specs.Tests.{Kind, a_term, HasTokens, IsShallow, IsDerived, IsRead, IsFaultAt, IsTokenRefusal, too_long, bad_byte, too_deep, IsSyntaxRefusal, IsPlaceRefusal, IsLimitRefusal, IsRefusal, IsAnsweredOnce, by_tokens, by_syntax, by_place, by_limit}
+use Rattle.ghc_reader.specs.Tests.{Kind}
 use Rattle.ghc_reader.proofs.OneLexing.{one_lexing, never_both, one_bad_byte}
-use Rattle.ghc_reader.specs.Reserved.{first_place}
-use Rattle.ghc_reader.specs.Source.{Tree}
-use Rattle.ghc_reader.specs.Limits.{first_exceeded, of_term}
-use Rattle.ghc_reader.specs.Grammar.{Program, Input, program, input}
-use Rattle.ghc_reader.specs.Derived.{clauses_of, tree_of}
 use Rattle.ghc_reader.proofs.OneClause.{one_program}
 use Rattle.ghc_reader.proofs.InputFaults.{one_input}
 use Rattle.ghc_reader.proofs.Whole.{no_fault_at}

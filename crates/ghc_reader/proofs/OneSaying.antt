@@ -1,17 +1,11 @@
 -- Terms, goals and guards that say one parse tree and have the same variables in order are the same.
-use Rattle.std.proofs.Common.{◌≡◌, ℕ, ◌+◌, zero, suc, List, [], ◌∷◌, ◌++◌, Option, Some, None, false, cond, refl, sym, ap, ◌∙◌, subst, arith, append_assoc, slice_get, filter}
-use Rattle.std.specs.Prelude.{MatchOption}
-use Rattle.ghc_term.specs.declared.var_name.VarName.{VarName}
+use Rattle.ghc_reader.proofs.Words.{◌≡◌, ℕ, ◌+◌, zero, suc, List, [], ◌∷◌, ◌++◌, Option, Some, None, false, cond, refl, sym, ap, ◌∙◌, subst, arith, append_assoc, slice_get, filter, MatchOption, VarName, node, trees, cons, leaf, operation, variables_of_list, variables_of_expression, leaf_variables, variables_of_goal, variables_of_goals, Guard, Tree, Trees, structure, empty, cell, none, some, Value, number, named, product, sum, Goal, is_stream, variables_of_guard, variables_of_guards, Names, IsCalled, Says, SaysAll, SaysValue, SaysGoal, SaysAsked, SaysGuard, Each, tail_of, product_operator, sum_operator, AreCounted}
 use Rattle.ghc_term.specs.Tree as term
-use Rattle.ghc_term.specs.Tree.{node, trees, cons}
-use Rattle.ghc_term.specs.Expression.{Expression, leaf, operation}
+use Rattle.ghc_term.specs.Expression.{Expression}
 use Rattle.ghc_term.specs.Goal as goal
-use Rattle.ghc_term.specs.Variables.{variables, variables_of_list, variables_of_expression, leaf_variables, variables_of_goal, variables_of_goals}
-use Rattle.ghc_reader.specs.declared.written.Guard.{Guard}
+use Rattle.ghc_term.specs.Variables.{variables}
 use Rattle.ghc_reader.specs.declared.written.Guard.TheVariants.{Item as item, Comparison as comparison}
-use Rattle.ghc_reader.specs.Source.{Tree, Trees, variable, integer, structure, empty, cell, none, some, Value, number, named, product, sum, Goal, call, unify, assign, Test, plain, compare}
-use Rattle.ghc_reader.specs.Written.{is_stream, variables_of_guard, variables_of_guards}
-use Rattle.ghc_reader.specs.Lowered.{Names, IsCalled, Says, SaysAll, SaysValue, SaysGoal, SaysAsked, SaysGuard, Each, tail_of, product_operator, sum_operator, AreCounted}
+use Rattle.ghc_reader.specs.Source.{variable, integer, call, unify, assign, Test, plain, compare}
 use Rattle.ghc_reader.proofs.TermsLowered.{variables_of_trees}
 use Rattle.ghc_reader.proofs.ClausesLowered.{leaves_are_all}
 use Rattle.ghc_reader.proofs.Streams.{no_stream}

@@ -1,12 +1,6 @@
 -- No text has two derivations as a term.
-use Rattle.std.proofs.Common.{◌≡◌, ◌≢◌, List, ◌∷◌, Some, refl, sym, ap}
-use Rattle.ghc_reader.specs.declared.token.Mark.{Mark}
-use Rattle.ghc_reader.specs.declared.token.Mark.TheVariants.{Close, OpenList, CloseList, Comma, Bar, Equals}
-use Rattle.ghc_reader.specs.declared.token.Token.{Token}
+use Rattle.ghc_reader.proofs.Words.{◌≡◌, ◌≢◌, List, ◌∷◌, Some, refl, sym, ap, Mark, Close, OpenList, CloseList, Comma, Bar, Equals, Token, first, Term, variable, integer, call, list, Arguments, without, within, Rest, closed, whole, partial, Terms, one, more, term, arguments, rest, terms, EndsArguments, EndsTerm, EndsTerms}
 use Rattle.ghc_reader.specs.declared.token.Token.TheVariants as token
-use Rattle.ghc_reader.specs.Front.{first}
-use Rattle.ghc_reader.specs.Grammar.{Term, variable, integer, call, list, Arguments, without, within, Rest, closed, whole, partial, Terms, one, more, term, arguments, rest, terms}
-use Rattle.ghc_reader.specs.Parts.{EndsArguments, EndsTerm, EndsTerms}
 use Rattle.ghc_reader.proofs.Ends.{ends_term, ends_terms}
 
 -- the two derivations are one, and so are the tokens behind them

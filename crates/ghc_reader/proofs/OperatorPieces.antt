@@ -1,14 +1,5 @@
 -- A space stands at the front of any text that begins with it, and so does an operator with a space behind it.
-use Rattle.std.proofs.Common.{◌≡◌, ℕ, ◌≤◌, Bool, true, false, List, [], ◌∷◌, ◌++◌, length, get_or, refl, ap, arith, IsTrue}
-use Rattle.std.specs.Prelude.{codes}
-use Rattle.ghc_reader.specs.Bytes.{Lacks}
-use Rattle.ghc_reader.specs.Symbols.{spelling}
-use Rattle.ghc_reader.specs.Pieces.{Piece, Stands}
-use Rattle.ghc_reader.specs.declared.token.Mark.TheVariants.{Equals, Assign, Define}
-use Rattle.ghc_term.specs.declared.comparison.Comparison.TheVariants.{Less, Greater, Equal, NotEqual}
-use Rattle.ghc_reader.specs.declared.token.Sum.TheVariants.{Plus, Minus}
-use Rattle.ghc_reader.specs.declared.token.Product.TheVariants.{Times, Divide, Modulo}
-use Rattle.ghc_reader.specs.declared.lexer.symbol.Symbol.{Symbol}
+use Rattle.ghc_reader.proofs.Words.{◌≡◌, ℕ, ◌≤◌, Bool, true, false, List, [], ◌∷◌, ◌++◌, length, get_or, refl, ap, arith, IsTrue, codes, Lacks, spelling, Piece, Stands, Equals, Assign, Define, Less, Greater, Equal, NotEqual, Plus, Minus, Times, Divide, Modulo, Symbol}
 use Rattle.ghc_reader.specs.declared.lexer.symbol.Symbol.TheVariants as symbol
 use Rattle.ghc_reader.specs.declared.lexer.front.Kind.TheVariants as kind
 use Rattle.ghc_reader.proofs.Forms.{run_stands, blank_leaves, modulo_stands, symbol_stands}

@@ -1,20 +1,6 @@
 -- Where the text goes on behind a piece.
-use Rattle.std.proofs.Common.{◌≡◌, ◌⊎◌, ℕ, ◌+◌, ◌≤◌, Bool, true, false, List, [], ◌∷◌, ◌++◌, length, refl, sym, ap, subst, ◌∙◌, inl, inr, arith, ◌==◌, not, add-zero}
-use Rattle.std.proofs.lemmas.Bool.Decides.{nat_tests, eqb_tells}
-use Rattle.std.specs.Char.{is_ascii_digit}
-use Rattle.std.specs.List.{list_all}
-use Rattle.ghc_reader.specs.Bytes.{is_word}
-use Rattle.ghc_reader.specs.Places.{behind_byte, place_behind}
-use Rattle.ghc_reader.specs.Pieces.{HasForm}
-use Rattle.ghc_reader.specs.declared.place.Place.{Place}
-use Rattle.ghc_reader.specs.declared.token.Mark.TheVariants.{Open}
-use Rattle.ghc_term.specs.declared.comparison.Comparison.TheVariants.{Less}
-use Rattle.ghc_reader.specs.declared.token.Sum.TheVariants.{Plus}
-use Rattle.ghc_reader.specs.declared.token.Product.TheVariants.{Modulo}
-use Rattle.ghc_reader.specs.Symbols.{spelling}
-use Rattle.ghc_reader.specs.declared.lexer.symbol.Symbol.{Symbol}
+use Rattle.ghc_reader.proofs.Words.{◌≡◌, ◌⊎◌, ℕ, ◌+◌, ◌≤◌, Bool, true, false, List, [], ◌∷◌, ◌++◌, length, refl, sym, ap, subst, ◌∙◌, inl, inr, arith, ◌==◌, not, add-zero, nat_tests, eqb_tells, is_ascii_digit, list_all, is_word, behind_byte, place_behind, HasForm, Place, Open, Less, Plus, Modulo, spelling, Symbol, Kind}
 use Rattle.ghc_reader.specs.declared.lexer.symbol.Symbol.TheVariants as symbol
-use Rattle.ghc_reader.specs.declared.lexer.front.Kind.{Kind}
 use Rattle.ghc_reader.specs.declared.lexer.front.Kind.TheVariants as kind
 
 -- no line feed

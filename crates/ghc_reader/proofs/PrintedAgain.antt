@@ -1,26 +1,9 @@
 -- Goals that the grammar has a text for are, printed, read again as themselves.
-use Rattle.std.proofs.Common.{◌≡◌, ℕ, true, false, List, [], ◌∷◌, ◌++◌, length, refl, sym, ap, ◌∙◌, inl, inr, arith, Some, None}
-use Rattle.std.specs.Prelude.{codes}
-use Rattle.ghc_term.specs.declared.var_name.VarName.{VarName}
-use Rattle.ghc_term.specs.Lists.{In}
-use Rattle.ghc_term.specs.Text.{variable_text}
+use Rattle.ghc_reader.proofs.Words.{◌≡◌, ℕ, true, false, List, [], ◌∷◌, ◌++◌, length, refl, sym, ap, ◌∙◌, inl, inr, arith, Some, None, codes, VarName, In, variable_text, variables_of_goals, firsts, IsNameText, IsRefusedToken, token_places, start, place_behind, spelled, Allowed, body, last, plain, without, query_of, first_place, first_exceeded, of_query, IsWithinLimits, an_ask, a_body, IsRead, goals_text, HasNumbers, IsWritableGoal, IsPrintedAs, IsSaidIn, IsReadAs}
 use Rattle.ghc_term.specs.Goal.{Goal}
-use Rattle.ghc_term.specs.Variables.{variables_of_goals, firsts}
-use Rattle.ghc_term.specs.InputTerm.{IsNameText}
-use Rattle.ghc_reader.specs.Lexed.{IsRefusedToken, token_places}
-use Rattle.ghc_reader.specs.Places.{start, place_behind}
-use Rattle.ghc_reader.specs.Pieces.{spelled}
 use Rattle.ghc_reader.specs.declared.token.Token.TheVariants as token
-use Rattle.ghc_reader.specs.declared.lexer.value.Reserved.TheVariants.{Allowed}
-use Rattle.ghc_reader.specs.Grammar.{body, last, plain, without}
 use Rattle.ghc_reader.specs.Grammar as grammar
 use Rattle.ghc_reader.specs.Source as source
-use Rattle.ghc_reader.specs.Derived.{query_of}
-use Rattle.ghc_reader.specs.Reserved.{first_place}
-use Rattle.ghc_reader.specs.Limits.{first_exceeded, of_query}
-use Rattle.ghc_reader.specs.Written.{IsWithinLimits}
-use Rattle.ghc_reader.specs.Tests.{an_ask, a_body, IsRead}
-use Rattle.ghc_reader.specs.PrintedGoals.{goals_text, HasNumbers, IsWritableGoal, IsPrintedAs, IsSaidIn, IsReadAs}
 use Rattle.ghc_reader.proofs.TokenTexts.{pieces_of, text_of, spaced_lexed}
 use Rattle.ghc_reader.proofs.PrintedNames.{IsPrintedVariable, variable_run, numbers_back}
 use Rattle.ghc_reader.proofs.PrintedCounts.{few_variables, none_exceeded}

@@ -1,17 +1,9 @@
 -- No two lists of goals that the grammar has a text for are printed alike.
-use Rattle.std.proofs.Common.{◌≡◌, List, [], ◌∷◌, refl, sym, ap, ◌∙◌, subst, inl, inr}
-use Rattle.ghc_term.specs.Lists.{In}
+use Rattle.ghc_reader.proofs.Words.{◌≡◌, List, [], ◌∷◌, refl, sym, ap, ◌∙◌, subst, inl, inr, In, node, trees, cons, leaf, operation, IsLexed, Allowed, Tree, structure, empty, cell, Trees, none, some, Value, number, named, product, sum, Goal, query_of, SaysBy, SaysAllBy, SaysValueBy, SaysGoalBy, Each, doing, product_operator, sum_operator, goals_text, HasNumbers, IsWritable, AreWritable, IsWritableExpression, IsWritableGoal, IsPrintedAs}
 use Rattle.ghc_term.specs.Tree as term
-use Rattle.ghc_term.specs.Tree.{node, trees, cons}
 use Rattle.ghc_term.specs.Expression as shown
-use Rattle.ghc_term.specs.Expression.{leaf, operation}
 use Rattle.ghc_term.specs.Goal as goal
-use Rattle.ghc_reader.specs.Lexed.{IsLexed}
-use Rattle.ghc_reader.specs.declared.lexer.value.Reserved.TheVariants.{Allowed}
-use Rattle.ghc_reader.specs.Source.{Tree, variable, integer, structure, empty, cell, Trees, none, some, Value, number, named, product, sum, Goal, call, unify, assign}
-use Rattle.ghc_reader.specs.Derived.{query_of}
-use Rattle.ghc_reader.specs.Lowered.{SaysBy, SaysAllBy, SaysValueBy, SaysGoalBy, Each, doing, product_operator, sum_operator}
-use Rattle.ghc_reader.specs.PrintedGoals.{goals_text, HasNumbers, IsWritable, AreWritable, IsWritableExpression, IsWritableGoal, IsPrintedAs}
+use Rattle.ghc_reader.specs.Source.{variable, integer, call, unify, assign}
 use Rattle.ghc_reader.proofs.OneLexing.{one_lexing}
 use Rattle.ghc_reader.proofs.Whole.{one_query}
 use Rattle.ghc_reader.proofs.PrintedNames.{one_variable}

@@ -1,29 +1,11 @@
 -- Goals that the grammar has a text for are said by a derivation, whose tokens are those of the text that is printed of the goals.
-use Rattle.std.proofs.Common.{◌≡◌, ℕ, ◌≤◌, true, false, List, [], ◌∷◌, ◌++◌, length, refl, sym, ap, ◌∙◌, subst, inl, inr, arith, cond, append-nil, Some}
-use Rattle.std.specs.Prelude.{codes, All, not}
-use Rattle.std.specs.List.{filter_map}
-use Rattle.std.proofs.lemmas.List.Elements.{All-nil, All-cons}
-use Rattle.ghc_term.specs.declared.var_name.VarName.{VarName}
-use Rattle.ghc_term.specs.Lists.{In}
-use Rattle.ghc_term.specs.Text.{variable_text}
+use Rattle.ghc_reader.proofs.Words.{◌≡◌, ℕ, ◌≤◌, true, false, List, [], ◌∷◌, ◌++◌, length, refl, sym, ap, ◌∙◌, subst, inl, inr, arith, cond, Some, codes, All, not, filter_map, All-nil, All-cons, VarName, In, variable_text, goal_text, IsRun, is_word, begins_variable, Piece, spelled, IsRefusedToken, IsLexed, token_of, token_places, start, place_behind, Comma, Reserved, Body, last, next, body, item_of, goals_of, misplaced_body, widest_goals, SaysGoalBy, Each, doing, is_true, further_goals, IsWritableGoal}
+use Rattle.std.proofs.Common.{append-nil}
 use Rattle.ghc_term.specs.Goal.{Goal}
-use Rattle.ghc_term.specs.GoalText.{goal_text}
-use Rattle.ghc_reader.specs.Bytes.{IsRun, is_word, begins_variable}
-use Rattle.ghc_reader.specs.Pieces.{Piece, spelled}
-use Rattle.ghc_reader.specs.Lexed.{IsRefusedToken, IsLexed, token_of, token_places}
-use Rattle.ghc_reader.specs.Places.{start, place_behind}
-use Rattle.ghc_reader.specs.declared.token.Mark.TheVariants.{Comma}
 use Rattle.ghc_reader.specs.declared.token.Token.TheVariants as token
 use Rattle.ghc_reader.specs.declared.lexer.symbol.Symbol.TheVariants as symbol
-use Rattle.ghc_reader.specs.declared.lexer.value.Reserved.{Reserved}
-use Rattle.ghc_reader.specs.Grammar.{Body, last, next, body}
 use Rattle.ghc_reader.specs.Grammar as grammar
 use Rattle.ghc_reader.specs.Source as source
-use Rattle.ghc_reader.specs.Derived.{item_of, goals_of}
-use Rattle.ghc_reader.specs.Reserved.{misplaced_body}
-use Rattle.ghc_reader.specs.Amounts.{widest_goals}
-use Rattle.ghc_reader.specs.Lowered.{SaysGoalBy, Each, doing, is_true}
-use Rattle.ghc_reader.specs.PrintedGoals.{further_goals, IsWritableGoal}
 use Rattle.ghc_reader.proofs.Append.{item_append}
 use Rattle.ghc_reader.proofs.MarkPieces.{mark_stands}
 use Rattle.ghc_reader.proofs.OperatorPieces.{space, space_stands, symbol_piece}

@@ -1,23 +1,7 @@
 -- A text of printed goals has no more variables than the goals, and exceeds no limit where they are within the limits.
-use Rattle.std.proofs.Common.{◌≡◌, ℕ, ◌+◌, ◌≤◌, Bool, true, false, List, [], ◌∷◌, ◌++◌, length, Some, None, refl, sym, ap, ◌∙◌, inl, inr, arith, cond, append_assoc, length-append}
-use Rattle.std.specs.Prelude.{◌||◌, not, bytes_eq}
-use Rattle.std.specs.List.{list_any}
-use Rattle.std.specs.Fmt.{decimal}
-use Rattle.std.specs.Ordering.{eq_by_cmp}
-use Rattle.std.proofs.lemmas.List.{append-nil}
-use Rattle.std.proofs.lemmas.List.Folds.{list_any-append}
-use Rattle.std.proofs.lemmas.Slice.Eq.{bytes_eq-Decides}
-use Rattle.ghc_term.specs.declared.var_name.VarName.{VarName}
+use Rattle.ghc_reader.proofs.Words.{◌≡◌, ℕ, ◌+◌, ◌≤◌, Bool, true, false, List, [], ◌∷◌, ◌++◌, length, Some, None, refl, sym, ap, ◌∙◌, inl, inr, arith, cond, append_assoc, length-append, ◌||◌, not, bytes_eq, list_any, decimal, eq_by_cmp, append-nil, list_any-append, bytes_eq-Decides, VarName, name_cmp, variable_text, variables_of_goals, firsts, Goal, widest_goals, names_of_goals, is_unnamed, variables, first_exceeded, of_query, SaysGoalBy, Each, doing, IsPrintedAs}
 use Rattle.ghc_term.specs.declared.limit.Limit.TheVariants as limit
-use Rattle.ghc_term.specs.Bindings.{name_cmp}
-use Rattle.ghc_term.specs.Text.{variable_text}
 use Rattle.ghc_term.specs.Goal as goal
-use Rattle.ghc_term.specs.Variables.{variables_of_goals, firsts}
-use Rattle.ghc_reader.specs.Source.{Goal}
-use Rattle.ghc_reader.specs.Amounts.{widest_goals, names_of_goals, is_unnamed, variables}
-use Rattle.ghc_reader.specs.Limits.{first_exceeded, of_query}
-use Rattle.ghc_reader.specs.Lowered.{SaysGoalBy, Each, doing}
-use Rattle.ghc_reader.specs.PrintedGoals.{IsPrintedAs}
 use Rattle.ghc_reader.proofs.Counting.{and_one, one_more}
 use Rattle.ghc_reader.proofs.Numbered.{is_seen, one_name, test_cases}
 use Rattle.ghc_reader.proofs.NamesIn.{asked_called}

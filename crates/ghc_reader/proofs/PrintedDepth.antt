@@ -1,18 +1,9 @@
 -- The tokens of the shortest derivation of a tree are nested no deeper than what is printed of it.
-use Rattle.std.proofs.Common.{◌≡◌, ℕ, ◌+◌, ◌≤◌, max, List, [], ◌∷◌, ◌++◌, ap, ◌∙◌, arith}
-use Rattle.std.specs.Prelude.{if◌then◌else◌}
+use Rattle.ghc_reader.proofs.Words.{◌≡◌, ℕ, ◌+◌, ◌≤◌, max, List, [], ◌∷◌, ◌++◌, ap, ◌∙◌, arith, if◌then◌else◌, node, is_cell, IsNameText, nesting, rest_nesting, cell_nesting, arguments_nesting, deepest, Close, CloseList, Comma, Bar, Token, open_behind, open_after, IsTooDeep, Term, Tree, Trees}
 use Rattle.ghc_term.specs.Tree as term
-use Rattle.ghc_term.specs.Tree.{node}
-use Rattle.ghc_term.specs.Text.{is_cell}
-use Rattle.ghc_term.specs.InputTerm.{IsNameText, nesting, rest_nesting, cell_nesting, arguments_nesting, deepest}
-use Rattle.ghc_reader.specs.declared.token.Mark.TheVariants.{Close, CloseList, Comma, Bar}
-use Rattle.ghc_reader.specs.declared.token.Token.{Token}
 use Rattle.ghc_reader.specs.declared.token.Token.TheVariants as token
-use Rattle.ghc_reader.specs.Depth.{open_behind, open_after, IsTooDeep}
-use Rattle.ghc_reader.specs.Grammar.{Term}
 use Rattle.ghc_reader.specs.Grammar as grammar
 use Rattle.ghc_reader.specs.Source as tree
-use Rattle.ghc_reader.specs.Source.{Tree, Trees}
 use Rattle.ghc_reader.proofs.Meanings.{meaning, meanings, IsSound, AreSound, name_no_cell, name_no_nil}
 use Rattle.ghc_reader.proofs.InputSizes.{most_open, closes, nesting_of_name}
 use Rattle.ghc_reader.proofs.Derivations.{derive, derive_arguments, derive_terms, derive_list, derive_has, put_tokens}

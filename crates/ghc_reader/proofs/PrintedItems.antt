@@ -1,29 +1,10 @@
 -- Each goal that the grammar has a text for is said by a derivation, whose tokens have as their text what is printed of the goal.
-use Rattle.std.proofs.Common.{◌≡◌, ℕ, ◌≤◌, Bool, true, false, List, [], ◌∷◌, ◌++◌, length, refl, sym, ap, ◌∙◌, subst, arith, append_assoc}
-use Rattle.std.specs.Prelude.{codes, bytes_eq, nat_eq, ◌&&◌}
-use Rattle.std.proofs.lemmas.Bool.Decides.{nat_tests}
-use Rattle.std.proofs.lemmas.Slice.Eq.{bytes_eq-Decides}
-use Rattle.ghc_term.specs.declared.var_name.VarName.{VarName}
+use Rattle.ghc_reader.proofs.Words.{◌≡◌, ℕ, ◌≤◌, Bool, true, false, List, [], ◌∷◌, ◌++◌, length, refl, sym, ap, ◌∙◌, subst, arith, append_assoc, codes, bytes_eq, nat_eq, ◌&&◌, nat_tests, bytes_eq-Decides, VarName, node, trees, list_of, variable_text, term_text, arguments_text, all_resolved, stream, goal_text, expression_text, list_of-trees, Piece, Equals, Token, Item, Tree, structure, tree_of, arguments_of, item_of, count, misplaced_goal, place_if, widest, widest_of, widest_goal, SaysBy, SaysAllBy, SaysValueBy, SaysGoalBy, is_true, IsWritable, IsWritableExpression, IsWritableGoal}
 use Rattle.ghc_term.specs.Tree as term
-use Rattle.ghc_term.specs.Tree.{node, trees, list_of}
-use Rattle.ghc_term.specs.Text.{variable_text, term_text, arguments_text}
-use Rattle.ghc_term.specs.Resolved.{all_resolved}
 use Rattle.ghc_term.specs.Expression as shown
-use Rattle.ghc_term.specs.Goal.{Goal, call, unify, assign, stream}
-use Rattle.ghc_term.specs.GoalText.{goal_text, expression_text}
-use Rattle.ghc_term.proofs.Goals.{list_of-trees}
-use Rattle.ghc_reader.specs.Pieces.{Piece}
-use Rattle.ghc_reader.specs.declared.token.Mark.TheVariants.{Equals}
-use Rattle.ghc_reader.specs.declared.token.Token.{Token}
+use Rattle.ghc_term.specs.Goal.{Goal, call, unify, assign}
 use Rattle.ghc_reader.specs.declared.token.Token.TheVariants as token
-use Rattle.ghc_reader.specs.Grammar.{Item}
 use Rattle.ghc_reader.specs.Grammar as grammar
-use Rattle.ghc_reader.specs.Source.{Tree, structure}
-use Rattle.ghc_reader.specs.Derived.{tree_of, arguments_of, item_of}
-use Rattle.ghc_reader.specs.Reserved.{count, misplaced_goal, place_if}
-use Rattle.ghc_reader.specs.Amounts.{widest, widest_of, widest_goal}
-use Rattle.ghc_reader.specs.Lowered.{SaysBy, SaysAllBy, SaysValueBy, SaysGoalBy, is_true}
-use Rattle.ghc_reader.specs.PrintedGoals.{IsWritable, IsWritableExpression, IsWritableGoal}
 use Rattle.ghc_reader.proofs.Meanings.{IsSoundBy}
 use Rattle.ghc_reader.proofs.TokenTexts.{text_of, AreSpaced}
 use Rattle.ghc_reader.proofs.Derivations.{derive, derive_arguments, derive_back, arguments_back, spaced_term}

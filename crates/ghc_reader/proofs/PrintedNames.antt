@@ -1,16 +1,5 @@
 -- The variables of printed goals: `_n_m` is a word of its form, and is that of no other variable.
-use Rattle.std.proofs.Common.{◌≡◌, ℕ, ◌≤◌, true, List, [], ◌∷◌, ◌++◌, refl, sym, ap, ◌∙◌, subst, arith}
-use Rattle.std.specs.Fmt.{decimal}
-use Rattle.std.specs.List.{list_all}
-use Rattle.std.specs.Str.Parse.{digits_value}
-use Rattle.std.specs.Char.{is_ascii_digit}
-use Rattle.std.proofs.lemmas.Bool.Decides.{nat_tests}
-use Rattle.std.proofs.lemmas.Fmt.{decimal_is_IsNumeral}
-use Rattle.std.proofs.lemmas.List.Folds.{list_all-append}
-use Rattle.ghc_term.specs.declared.var_name.VarName.{VarName}
-use Rattle.ghc_term.specs.Text.{variable_text}
-use Rattle.ghc_reader.specs.Bytes.{IsRun, is_word, begins_variable}
-use Rattle.ghc_reader.specs.PrintedGoals.{HasNumbers}
+use Rattle.ghc_reader.proofs.Words.{◌≡◌, ℕ, ◌≤◌, true, List, [], ◌∷◌, ◌++◌, refl, sym, ap, ◌∙◌, subst, arith, decimal, list_all, digits_value, is_ascii_digit, nat_tests, decimal_is_IsNumeral, list_all-append, VarName, variable_text, IsRun, is_word, begins_variable, HasNumbers}
 use Rattle.ghc_reader.proofs.Values.{all_of_run, one_split}
 use Rattle.ghc_reader.proofs.TokenTexts.{all_digits, run_of_digits}
 

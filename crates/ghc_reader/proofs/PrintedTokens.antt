@@ -1,21 +1,9 @@
 -- The tokens of the shortest derivation of a tree have as their text what is printed of the term that the tree says.
-use Rattle.std.proofs.Common.{◌≡◌, ℕ, List, ◌∷◌, ◌++◌, sym, ap, ◌∙◌, append_assoc}
-use Rattle.std.specs.Prelude.{codes, if◌then◌else◌}
-use Rattle.std.specs.Fmt.{signed_decimal}
-use Rattle.ghc_term.specs.declared.var_name.VarName.{VarName}
+use Rattle.ghc_reader.proofs.Words.{◌≡◌, ℕ, List, ◌∷◌, ◌++◌, sym, ap, ◌∙◌, append_assoc, codes, if◌then◌else◌, signed_decimal, VarName, node, trees, is_cell, variable_text, term_text, rest_text, cell_text, arguments_text, further_text, barred, IsNameText, Piece, Close, CloseList, Comma, Bar, Token, Term, Tree, Trees, SaysBy, SaysAllBy}
 use Rattle.ghc_term.specs.Tree as term
-use Rattle.ghc_term.specs.Tree.{node, trees}
-use Rattle.ghc_term.specs.Text.{is_cell, variable_text, term_text, rest_text, cell_text, arguments_text, further_text, barred}
-use Rattle.ghc_term.specs.InputTerm.{IsNameText}
-use Rattle.ghc_reader.specs.Pieces.{Piece}
-use Rattle.ghc_reader.specs.declared.token.Mark.TheVariants.{Close, CloseList, Comma, Bar}
-use Rattle.ghc_reader.specs.declared.token.Token.{Token}
 use Rattle.ghc_reader.specs.declared.token.Token.TheVariants as token
-use Rattle.ghc_reader.specs.Grammar.{Term}
 use Rattle.ghc_reader.specs.Grammar as grammar
 use Rattle.ghc_reader.specs.Source as tree
-use Rattle.ghc_reader.specs.Source.{Tree, Trees}
-use Rattle.ghc_reader.specs.Lowered.{SaysBy, SaysAllBy}
 use Rattle.ghc_reader.proofs.Meanings.{IsSoundBy, AreSoundBy, name_no_cell, name_no_nil}
 use Rattle.ghc_reader.proofs.InputSizes.{text_of_name}
 use Rattle.ghc_reader.proofs.TokenTexts.{text_of}

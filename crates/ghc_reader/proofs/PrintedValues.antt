@@ -1,28 +1,11 @@
 -- Expressions as they are printed, each operand that has an operator in brackets: their derivations, tokens and texts.
-use Rattle.std.proofs.Common.{◌≡◌, ℕ, true, false, List, ◌∷◌, ◌++◌, refl, sym, ap, ◌∙◌, append_assoc, FitsSigned, w64}
-use Rattle.std.specs.Prelude.{codes}
-use Rattle.ghc_term.specs.declared.var_name.VarName.{VarName}
+use Rattle.ghc_reader.proofs.Words.{◌≡◌, ℕ, true, false, List, ◌∷◌, ◌++◌, refl, sym, ap, ◌∙◌, append_assoc, FitsSigned, w64, codes, VarName, variable_text, leaf, operation, operator_text, expression_text, Piece, Close, Sum, Plus, Minus, Product, Times, Divide, Modulo, Token, Operand, factor, factors, Expression, summand, summands, Value, number, named, product, sum, operand_of, value_of, SaysValueBy, product_operator, sum_operator, IsWritableExpression}
 use Rattle.ghc_term.specs.declared.operator.Operator.TheVariants as operator
 use Rattle.ghc_term.specs.Tree as term
-use Rattle.ghc_term.specs.Text.{variable_text}
 use Rattle.ghc_term.specs.Expression as shown
-use Rattle.ghc_term.specs.Expression.{leaf, operation}
-use Rattle.ghc_term.specs.GoalText.{operator_text, expression_text}
 use Rattle.ghc_term.specs.GoalText as goal_text
-use Rattle.ghc_reader.specs.Pieces.{Piece}
-use Rattle.ghc_reader.specs.declared.token.Mark.TheVariants.{Close}
-use Rattle.ghc_reader.specs.declared.token.Sum.{Sum}
-use Rattle.ghc_reader.specs.declared.token.Sum.TheVariants.{Plus, Minus}
-use Rattle.ghc_reader.specs.declared.token.Product.{Product}
-use Rattle.ghc_reader.specs.declared.token.Product.TheVariants.{Times, Divide, Modulo}
-use Rattle.ghc_reader.specs.declared.token.Token.{Token}
 use Rattle.ghc_reader.specs.declared.token.Token.TheVariants as token
-use Rattle.ghc_reader.specs.Grammar.{Operand, factor, factors, Expression, summand, summands}
 use Rattle.ghc_reader.specs.Grammar as grammar
-use Rattle.ghc_reader.specs.Source.{Value, number, named, product, sum}
-use Rattle.ghc_reader.specs.Derived.{operand_of, value_of}
-use Rattle.ghc_reader.specs.Lowered.{SaysValueBy, product_operator, sum_operator}
-use Rattle.ghc_reader.specs.PrintedGoals.{IsWritableExpression}
 use Rattle.ghc_reader.proofs.TokenTexts.{text_of, AreSpaced}
 
 -- ---- the derivation

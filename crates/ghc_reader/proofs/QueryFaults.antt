@@ -1,11 +1,6 @@
 -- A fault in the goals of a query is one of the query.
-use Rattle.std.proofs.Common.{◌≡◌, ◌≢◌, ℕ, List, [], ◌∷◌, length, Some, None, refl, sym, ap, ◌∙◌, subst}
-use Rattle.ghc_reader.specs.declared.token.Mark.TheVariants.{Stop}
-use Rattle.ghc_reader.specs.declared.token.Token.{Token}
+use Rattle.ghc_reader.proofs.Words.{◌≡◌, ◌≢◌, ℕ, List, [], ◌∷◌, length, Some, None, refl, sym, ap, ◌∙◌, subst, Stop, Token, first, Begins, Term, variable, integer, call, list, without, within, Item, goal, unify, assign, Body, last, next, Query, plain, stopped, body, query, EndsTerm, EndsItem, EndsBody, EndsQuery, Fault}
 use Rattle.ghc_reader.specs.declared.token.Token.TheVariants as token
-use Rattle.ghc_reader.specs.Front.{first, Begins}
-use Rattle.ghc_reader.specs.Grammar.{Term, variable, integer, call, list, without, within, Item, goal, unify, assign, Body, last, next, Query, plain, stopped, body, query}
-use Rattle.ghc_reader.specs.Parts.{EndsTerm, EndsItem, EndsBody, EndsQuery, Fault}
 use Rattle.ghc_reader.proofs.Append.{body_append}
 use Rattle.ghc_reader.proofs.Ends.{ends_body}
 use Rattle.ghc_reader.proofs.OneGoal.{one_body}

@@ -1,30 +1,10 @@
 -- What was read as an input term is, printed, read again as itself.
-use Rattle.std.proofs.Common.{◌≡◌, ℕ, ◌≤◌, true, false, List, [], ◌∷◌, ◌++◌, length, Option, Some, None, refl, sym, ap, ◌∙◌, subst, arith, cond, append-nil}
-use Rattle.std.specs.Prelude.{nat_lt}
-use Rattle.std.proofs.lemmas.Bool.Decides.{nat_tests}
-use Rattle.ghc_term.specs.declared.var_name.VarName.{VarName}
+use Rattle.ghc_reader.proofs.Words.{◌≡◌, ℕ, ◌≤◌, true, false, List, [], ◌∷◌, ◌++◌, length, Option, Some, None, refl, sym, ap, ◌∙◌, subst, arith, cond, nat_lt, nat_tests, VarName, node, variable_text, term_text, Resolves, an_integer, a_node, ResolvesAll, no_more, one_more, IsTextOf, IsInGrammar, AllInGrammar, IsInputTerm, nesting, Token, Place, Refused, Input, Tree, tree_of, IsLexed, token_places, start, place_behind, widest, nodes, first_exceeded, of_term, Says, IsCalled, a_term, IsRead, IsReadTerm, IsSpelledBy}
+use Rattle.std.proofs.Common.{append-nil}
 use Rattle.ghc_term.specs.declared.limit.Limit.TheVariants as limit
 use Rattle.ghc_term.specs.Tree as term
-use Rattle.ghc_term.specs.Tree.{node}
-use Rattle.ghc_term.specs.Text.{variable_text, term_text}
-use Rattle.ghc_term.specs.Resolved.{Resolves, an_integer, a_node, ResolvesAll, no_more, one_more, IsTextOf}
-use Rattle.ghc_term.specs.InputTerm.{IsInGrammar, AllInGrammar, IsInputTerm, nesting}
 use Rattle.ghc_term.specs.InputTerm as input_term
-use Rattle.ghc_reader.specs.declared.token.Token.{Token}
-use Rattle.ghc_reader.specs.declared.place.Place.{Place}
-use Rattle.ghc_reader.specs.declared.lexer.value.Reserved.TheVariants.{Refused}
 use Rattle.ghc_reader.specs.Grammar as grammar
-use Rattle.ghc_reader.specs.Grammar.{Input}
-use Rattle.ghc_reader.specs.Source.{Tree}
-use Rattle.ghc_reader.specs.Derived.{tree_of}
-use Rattle.ghc_reader.specs.Lexed.{IsLexed, token_places}
-use Rattle.ghc_reader.specs.Places.{start, place_behind}
-use Rattle.ghc_reader.specs.Amounts.{widest, nodes}
-use Rattle.ghc_reader.specs.Limits.{first_exceeded, of_term}
-use Rattle.ghc_reader.specs.Lowered.{Says, IsCalled}
-use Rattle.ghc_reader.specs.Tests.{a_term, IsRead}
-use Rattle.ghc_reader.specs.Read.{IsReadTerm}
-use Rattle.ghc_reader.specs.Laws.{IsSpelledBy}
 use Rattle.ghc_reader.proofs.Meanings.{meaning, said, nodes_of_meaning, NoVariable, IsSound}
 use Rattle.ghc_reader.proofs.InputSizes.{weights, most_open, term_bytes}
 use Rattle.ghc_reader.proofs.TokenBytes.{AreGood, good_tokens, tokens_bytes}

@@ -1,24 +1,10 @@
 -- What is read as an input term is one: in the grammar, and within the limits.
-use Rattle.std.proofs.Common.{◌≡◌, ℕ, ◌≤◌, Bool, true, false, List, [], ◌∷◌, length, Some, None, refl, sym, ap, ◌∙◌, subst, arith, cond}
-use Rattle.std.specs.Prelude.{nat_lt}
-use Rattle.std.proofs.lemmas.Bool.Decides.{nat_tests}
+use Rattle.ghc_reader.proofs.Words.{◌≡◌, ℕ, ◌≤◌, Bool, true, false, List, [], ◌∷◌, length, Some, None, refl, sym, ap, ◌∙◌, subst, arith, cond, nat_lt, nat_tests, IsInputTerm, Close, CloseList, Comma, Bar, Token, Place, Refused, Term, variable, integer, call, list, Arguments, without, within, Rest, closed, whole, partial, Terms, one, more, Input, input, terms, tree_of, trees_of, cells_of, IsTooDeep, IsLexed, most_bytes, widest, nodes, Says, IsClosed, AreClosed, IsReadTerm}
 use Rattle.ghc_term.specs.Tree as term
-use Rattle.ghc_term.specs.InputTerm.{IsInputTerm}
 use Rattle.ghc_term.specs.declared.limit.Limit.TheVariants as limit
-use Rattle.ghc_reader.specs.declared.token.Mark.TheVariants.{Close, CloseList, Comma, Bar}
-use Rattle.ghc_reader.specs.declared.token.Token.{Token}
 use Rattle.ghc_reader.specs.declared.token.Token.TheVariants as token
-use Rattle.ghc_reader.specs.declared.place.Place.{Place}
-use Rattle.ghc_reader.specs.declared.lexer.value.Reserved.TheVariants.{Refused}
-use Rattle.ghc_reader.specs.Grammar.{Term, variable, integer, call, list, Arguments, without, within, Rest, closed, whole, partial, Terms, one, more, Input, input, terms}
 use Rattle.ghc_reader.specs.Grammar as grammar
 use Rattle.ghc_reader.specs.Source as tree
-use Rattle.ghc_reader.specs.Derived.{tree_of, trees_of, cells_of}
-use Rattle.ghc_reader.specs.Depth.{IsTooDeep}
-use Rattle.ghc_reader.specs.Lexed.{IsLexed, most_bytes}
-use Rattle.ghc_reader.specs.Amounts.{widest, nodes}
-use Rattle.ghc_reader.specs.Lowered.{Says, IsClosed, AreClosed}
-use Rattle.ghc_reader.specs.Read.{IsReadTerm}
 use Rattle.ghc_reader.proofs.Meanings.{said, nodes_of_meaning, AnyVariable, IsSoundBy, AreSoundBy, IsSound, AreSound, meaning_in_grammar}
 use Rattle.ghc_reader.proofs.ClosedTrees.{closed_tree}
 use Rattle.ghc_reader.proofs.InputSizes.{weights, most_open, term_bytes, term_deep, shallow_opens}

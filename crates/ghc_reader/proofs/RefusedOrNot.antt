@@ -1,15 +1,7 @@
 -- Whether a token is refused.
-use Rattle.std.proofs.Common.{◌≡◌, ◌≢◌, ◌⊎◌, ℕ, ◌<◌, ◌≤◌, Bool, true, false, List, [], ◌∷◌, ◌++◌, Option, Some, FitsSigned, ℤ, refl, sym, ap, subst, ◌∙◌, inl, inr, arith}
+use Rattle.ghc_reader.proofs.Words.{◌≡◌, ◌≢◌, ◌⊎◌, ℕ, ◌<◌, ◌≤◌, Bool, true, false, List, [], ◌∷◌, ◌++◌, Option, Some, FitsSigned, ℤ, refl, sym, ap, subst, ◌∙◌, inl, inr, arith, is_ascii_digit, list_all, digits_value, cases_lt, Lacks, AreDigits, BeginsNumber, IsReserved, IsTooGreat, IsRefusedToken, greatest_number, Token, Reserved}
 use Rattle.std.specs.Int.{w64}
-use Rattle.std.specs.Char.{is_ascii_digit}
-use Rattle.std.specs.List.{list_all}
-use Rattle.std.specs.Str.Parse.{digits_value}
-use Rattle.std.proofs.lemmas.Bool.{cases_lt}
-use Rattle.ghc_reader.specs.Bytes.{Lacks}
-use Rattle.ghc_reader.specs.Lexed.{AreDigits, BeginsNumber, IsReserved, IsTooGreat, IsRefusedToken, greatest_number}
-use Rattle.ghc_reader.specs.declared.token.Token.{Token}
 use Rattle.ghc_reader.specs.declared.token.Token.TheVariants as token
-use Rattle.ghc_reader.specs.declared.lexer.value.Reserved.{Reserved}
 use Rattle.ghc_reader.specs.declared.lexer.value.Reserved.TheVariants as reserved
 use Rattle.ghc_reader.proofs.SoOrNot.{IsSoOrNot, not_or_so, one_or_not, same_or_not, below_or_not}
 use Rattle.ghc_reader.proofs.Values.{no_number, no_second_number, reserved_ends, reserved_by, never_too_great, too_great_is_reserved}

@@ -1,9 +1,5 @@
 -- How the names that are known grow where variables are met.
-use Rattle.std.proofs.Common.{◌≡◌, ℕ, List, [], ◌∷◌, ◌++◌, sym, ap, ◌∙◌, subst, inl, inr, append_assoc, slice_get, Some}
-use Rattle.std.proofs.lemmas.List.{append-nil}
-use Rattle.ghc_term.specs.declared.var_name.VarName.{VarName}
-use Rattle.ghc_reader.specs.Lowered.{Names, IsCalled}
-use Rattle.ghc_reader.specs.Scope.{Meets, MeetsAll}
+use Rattle.ghc_reader.proofs.Words.{◌≡◌, ℕ, List, [], ◌∷◌, ◌++◌, sym, ap, ◌∙◌, subst, inl, inr, append_assoc, slice_get, Some, append-nil, VarName, Names, IsCalled, Meets, MeetsAll}
 use Rattle.ghc_reader.proofs.Names.{get_left}
 
 -- the later names are the ones before and then some

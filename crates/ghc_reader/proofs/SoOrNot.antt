@@ -1,8 +1,5 @@
 -- Facts that are so or not.
-use Rattle.std.proofs.Common.{◌≡◌, ◌⊎◌, ℕ, ◌<◌, Bool, true, false, List, refl, inl, inr, bytes_eq, ltb}
-use Rattle.std.proofs.lemmas.Bool.{false≢true}
-use Rattle.std.proofs.lemmas.Bool.Decides.{Decides-ltb}
-use Rattle.std.proofs.lemmas.Slice.Eq.{bytes_eq-Decides}
+use Rattle.ghc_reader.proofs.Words.{◌≡◌, ◌⊎◌, ℕ, ◌<◌, Bool, true, false, List, refl, inl, inr, bytes_eq, ltb, false≢true, Decides-ltb, bytes_eq-Decides}
 
 abbrev pub IsSoOrNot : Type 0 → Type 0
 IsSoOrNot P = P ⊎ (¬ P)

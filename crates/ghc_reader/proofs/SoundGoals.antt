@@ -1,31 +1,11 @@
 -- Goals of good tokens have names of the grammar and integers of 64 bits; and what such goals say within the limits the grammar has a text for.
-use Rattle.std.proofs.Common.{◌≡◌, ℕ, ◌≤◌, true, false, List, [], ◌∷◌, ◌++◌, length, refl, sym, ap, ◌∙◌, subst, inl, inr, arith, cond, None}
-use Rattle.std.specs.Prelude.{codes, bytes_eq, nat_eq, nat_lt, ◌&&◌, not}
-use Rattle.std.proofs.lemmas.Bool.Decides.{nat_tests}
-use Rattle.std.proofs.lemmas.Slice.Eq.{bytes_eq-Decides}
-use Rattle.ghc_term.specs.declared.var_name.VarName.{VarName}
-use Rattle.ghc_term.specs.Lists.{In}
+use Rattle.ghc_reader.proofs.Words.{◌≡◌, ℕ, ◌≤◌, true, false, List, [], ◌∷◌, ◌++◌, length, refl, sym, ap, ◌∙◌, subst, inl, inr, arith, cond, None, codes, bytes_eq, nat_eq, nat_lt, ◌&&◌, not, nat_tests, bytes_eq-Decides, VarName, In, trees, list_of, IsNameText, list_of-trees, Close, Comma, Equals, Stop, Sum, Product, Token, Allowed, Operand, Factors, factor, factors, Expression, summand, summands, Item, Body, last, next, Query, plain, stopped, query, Tree, Trees, Value, Goal, operand_of, product_of, product_onto, value_of, sum_onto, item_of, goals_of, query_of, count, place_if, misplaced_goal, misplaced_body, first_place, widest, widest_of, widest_goal, widest_goals, names_of_goals, variables, Names, IsCalled, SaysBy, SaysAllBy, SaysValueBy, SaysGoalBy, Each, doing, is_true, IsWritable, AreWritable, IsWritableExpression, IsWritableGoal, IsReadAs, IsNamedIn}
 use Rattle.ghc_term.specs.Tree as term
-use Rattle.ghc_term.specs.Tree.{trees, list_of}
-use Rattle.ghc_term.specs.InputTerm.{IsNameText}
 use Rattle.ghc_term.specs.Expression as shown
 use Rattle.ghc_term.specs.Goal as goal
-use Rattle.ghc_term.proofs.Goals.{list_of-trees}
-use Rattle.ghc_reader.specs.declared.token.Mark.TheVariants.{Close, Comma, Equals, Stop}
-use Rattle.ghc_reader.specs.declared.token.Sum.{Sum}
-use Rattle.ghc_reader.specs.declared.token.Product.{Product}
-use Rattle.ghc_reader.specs.declared.token.Token.{Token}
 use Rattle.ghc_reader.specs.declared.token.Token.TheVariants as token
-use Rattle.ghc_reader.specs.declared.lexer.value.Reserved.TheVariants.{Allowed}
-use Rattle.ghc_reader.specs.Grammar.{Operand, Factors, factor, factors, Expression, summand, summands, Item, Body, last, next, Query, plain, stopped, query}
 use Rattle.ghc_reader.specs.Grammar as grammar
 use Rattle.ghc_reader.specs.Source as source
-use Rattle.ghc_reader.specs.Source.{Tree, Trees, Value, Goal}
-use Rattle.ghc_reader.specs.Derived.{operand_of, product_of, product_onto, value_of, sum_onto, item_of, goals_of, query_of}
-use Rattle.ghc_reader.specs.Reserved.{count, place_if, misplaced_goal, misplaced_body, first_place}
-use Rattle.ghc_reader.specs.Amounts.{widest, widest_of, widest_goal, widest_goals, names_of_goals, variables}
-use Rattle.ghc_reader.specs.Lowered.{Names, IsCalled, SaysBy, SaysAllBy, SaysValueBy, SaysGoalBy, Each, doing, is_true}
-use Rattle.ghc_reader.specs.PrintedGoals.{IsWritable, AreWritable, IsWritableExpression, IsWritableGoal, IsReadAs, IsNamedIn}
 use Rattle.ghc_reader.proofs.Meanings.{AnyVariable, IsSoundBy, AreSoundBy}
 use Rattle.ghc_reader.proofs.Numbered.{test_cases}
 use Rattle.ghc_reader.proofs.TokenBytes.{AreGood, good_tokens}

@@ -1,12 +1,7 @@
 -- Which goals are streams, and how they are counted.
-use Rattle.std.proofs.Common.{◌≡◌, ℕ, ◌+◌, List, [], ◌∷◌, ◌++◌, length, refl, sym, ap, ◌∙◌, subst, false, cond, inl, inr, slice_get, filter}
-use Rattle.std.proofs.lemmas.List.{append-nil, length_push}
-use Rattle.std.proofs.lemmas.List.Elements.{filter-append}
+use Rattle.ghc_reader.proofs.Words.{◌≡◌, ℕ, ◌+◌, List, [], ◌∷◌, ◌++◌, length, refl, sym, ap, ◌∙◌, subst, false, cond, inl, inr, slice_get, filter, append-nil, length_push, filter-append, Goal, is_stream, Names, SaysGoal, Each, AreCounted, Counts}
 use Rattle.ghc_term.specs.Goal as goal
-use Rattle.ghc_reader.specs.Source.{Goal, call, unify, assign}
-use Rattle.ghc_reader.specs.Written.{is_stream}
-use Rattle.ghc_reader.specs.Lowered.{Names, SaysGoal, Each, AreCounted}
-use Rattle.ghc_reader.specs.Scope.{Counts}
+use Rattle.ghc_reader.specs.Source.{call, unify, assign}
 use Rattle.ghc_reader.proofs.Names.{get_push}
 
 -- The streams so far are counted.

@@ -1,12 +1,6 @@
 -- A fault in a part of a term is one of the term.
-use Rattle.std.proofs.Common.{◌≡◌, ◌≢◌, ℕ, List, [], ◌∷◌, length, Option, Some, None, refl, sym, ap, ◌∙◌, subst}
-use Rattle.ghc_reader.specs.declared.token.Mark.{Mark}
-use Rattle.ghc_reader.specs.declared.token.Mark.TheVariants.{Open, Close, OpenList, CloseList, Comma, Bar}
-use Rattle.ghc_reader.specs.declared.token.Token.{Token}
+use Rattle.ghc_reader.proofs.Words.{◌≡◌, ◌≢◌, ℕ, List, [], ◌∷◌, length, Option, Some, None, refl, sym, ap, ◌∙◌, subst, Mark, Open, Close, OpenList, CloseList, Comma, Bar, Token, first, Begins, Term, variable, integer, call, list, Arguments, without, within, Rest, closed, whole, partial, Terms, one, more, term, arguments, rest, terms, EndsArguments, EndsTerm, EndsTerms, EndsRest, Fault}
 use Rattle.ghc_reader.specs.declared.token.Token.TheVariants as token
-use Rattle.ghc_reader.specs.Front.{first, Begins}
-use Rattle.ghc_reader.specs.Grammar.{Term, variable, integer, call, list, Arguments, without, within, Rest, closed, whole, partial, Terms, one, more, term, arguments, rest, terms}
-use Rattle.ghc_reader.specs.Parts.{EndsArguments, EndsTerm, EndsTerms, EndsRest, Fault}
 use Rattle.ghc_reader.proofs.Append.{some_variable, term_append, arguments_append, rest_append, terms_append}
 use Rattle.ghc_reader.proofs.Ends.{ends_term, ends_terms}
 use Rattle.ghc_reader.proofs.OneTerm.{no_terms, one_term, one_terms}

@@ -1,22 +1,11 @@
 -- The derivation of a term, from those of its parts, and the faults behind them.
-use Rattle.std.proofs.Common.{◌≡◌, ℕ, ℤ, List, [], ◌∷◌, length, Some, Result, Ok, Err, IfErr, refl, sym, ap, ◌∙◌, subst, Box, Global, Vec}
-use Rattle.ghc_reader.specs.declared.token.Mark.{Mark}
-use Rattle.ghc_reader.specs.declared.token.Mark.TheVariants.{Open, Close, OpenList, CloseList, Comma, Bar}
-use Rattle.ghc_reader.specs.declared.token.Token.{Token}
+use Rattle.ghc_reader.proofs.Words.{◌≡◌, ℕ, ℤ, List, [], ◌∷◌, length, Some, Result, Ok, Err, IfErr, refl, sym, ap, ◌∙◌, subst, Box, Global, Vec, Mark, Open, Close, OpenList, CloseList, Comma, Bar, Token, first, Begins, Term, variable, integer, call, list, Arguments, without, within, Rest, closed, whole, partial, Terms, one, more, term, arguments, rest, terms, EndsArguments, EndsTerm, EndsTerms, EndsRest, Found, Fault, tree_of, arguments_of, trees_of, cells_of, SourceTerm, ParseError, IfSyntax, Tree, Trees, Goal, Value, cells, view, views}
 use Rattle.ghc_reader.specs.declared.token.Token.TheVariants as token
-use Rattle.ghc_reader.specs.Front.{first, Begins}
-use Rattle.ghc_reader.specs.Grammar.{Term, variable, integer, call, list, Arguments, without, within, Rest, closed, whole, partial, Terms, one, more, term, arguments, rest, terms}
-use Rattle.ghc_reader.specs.Parts.{EndsArguments, EndsTerm, EndsTerms, EndsRest, Found, Fault}
-use Rattle.ghc_reader.specs.Derived.{tree_of, arguments_of, list_of, trees_of, cells_of}
-use Rattle.ghc_reader.specs.declared.source.SourceTerm.{SourceTerm}
+use Rattle.ghc_reader.specs.Derived.{list_of}
 use Rattle.ghc_reader.specs.declared.source.SourceTerm.TheVariants as v
 use Rattle.ghc_reader.specs.declared.source.SourceTerm.TheViews as w
-use Rattle.ghc_reader.specs.declared.parse_error.ParseError.{ParseError}
 use Rattle.ghc_reader.specs.declared.parse_error.ParseError.TheVariants as parse_error
-use Rattle.ghc_reader.specs.Viable.{IfSyntax}
 use Rattle.ghc_reader.specs.Source as tree
-use Rattle.ghc_reader.specs.Source.{Tree, Trees, Goal, Value, cells}
-use Rattle.ghc_reader.specs.Views.{view, views}
 use Rattle.ghc_reader.proofs.Views.{view_variable, view_integer, view_empty, view_structure, view_list}
 use Rattle.ghc_reader.proofs.Loops.{TermsSoFar, ends_at_last}
 use Rattle.ghc_reader.proofs.TermFaults as faults

@@ -1,16 +1,10 @@
 -- What terms say, and which variables they meet.
-use Rattle.std.proofs.Common.{◌≡◌, ℕ, ◌+◌, ◌<◌, List, [], ◌∷◌, ◌++◌, length, map, take, get_or, refl, sym, ap, ◌∙◌, subst, append_assoc, Box, Global, Vec}
-use Rattle.std.proofs.lemmas.List.{append-nil, map_push, take_more}
+use Rattle.ghc_reader.proofs.Words.{◌≡◌, ℕ, ◌+◌, ◌<◌, List, [], ◌∷◌, ◌++◌, length, map, take, get_or, refl, sym, ap, ◌∙◌, subst, append_assoc, Box, Global, Vec, append-nil, map_push, take_more, node, trees, cons, nil, variables_of_all, variables_of_list, SourceTerm, Tree, Trees, structure, empty, cell, cells, none, some, view, views, Names, Says, SaysAll, MeetsAll, conses}
 use Rattle.ghc_term.specs.Tree as term
-use Rattle.ghc_term.specs.Tree.{node, trees, cons, nil}
-use Rattle.ghc_term.specs.Variables.{variables, variables_of_all, variables_of_list}
-use Rattle.ghc_reader.specs.declared.source.SourceTerm.{SourceTerm}
+use Rattle.ghc_term.specs.Variables.{variables}
 use Rattle.ghc_reader.specs.declared.source.SourceTerm.TheViews as w
 use Rattle.ghc_reader.proofs.Views.{view_list}
-use Rattle.ghc_reader.specs.Source.{Tree, Trees, variable, integer, structure, empty, cell, cells, none, some, trees_of}
-use Rattle.ghc_reader.specs.Views.{view, views}
-use Rattle.ghc_reader.specs.Lowered.{Names, Says, SaysAll}
-use Rattle.ghc_reader.specs.Scope.{MeetsAll, conses}
+use Rattle.ghc_reader.specs.Source.{variable, integer, trees_of}
 use Rattle.ghc_reader.proofs.Scopes.{Grows, grows, met_also, called_still}
 
 pub variables_of_trees : (us : List term.Tree) → variables_of_all (trees us) ≡ variables_of_list us

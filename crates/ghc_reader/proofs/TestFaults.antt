@@ -1,16 +1,7 @@
 -- A fault in a part of a test is one of the tests.
-use Rattle.std.proofs.Common.{◌≡◌, ◌≢◌, ℕ, List, [], ◌∷◌, ◌++◌, length, Option, Some, None, true, false, refl, sym, ap, ◌∙◌, subst, append_assoc, ◌⊎◌, inl, inr, ⊎_elim}
-use Rattle.ghc_term.specs.declared.comparison.Comparison.{Comparison}
-use Rattle.ghc_term.specs.declared.comparison.Comparison.TheVariants.{Less}
-use Rattle.ghc_reader.specs.declared.token.Sum.{Sum}
-use Rattle.ghc_reader.specs.declared.token.Product.{Product}
-use Rattle.ghc_reader.specs.declared.token.Mark.{Mark}
-use Rattle.ghc_reader.specs.declared.token.Mark.TheVariants.{OpenList, Comma, Equals}
-use Rattle.ghc_reader.specs.declared.token.Token.{Token}
+use Rattle.ghc_reader.proofs.Words.{◌≡◌, ◌≢◌, ℕ, List, [], ◌∷◌, ◌++◌, length, Option, Some, None, true, false, refl, sym, ap, ◌∙◌, subst, append_assoc, ◌⊎◌, inl, inr, ⊎_elim, Comparison, Less, Sum, Product, Mark, OpenList, Comma, Equals, Token, first, second, item_like, like, like_equation, like_assignment, variable, integer, call, list, nested, factor, factors, Expression, summand, summands, Item, goal, unify, assign, Test, plain_test, compare, Tests, last_test, next_test, rest, expression, item, test, tests, EndsExpression, EndsItem, EndsTest, EndsTests, Fault}
 use Rattle.ghc_reader.specs.declared.token.Token.TheVariants as token
-use Rattle.ghc_reader.specs.Front.{first, second, item_like, like, like_equation, like_assignment}
-use Rattle.ghc_reader.specs.Grammar.{variable, integer, call, list, number, named, nested, factor, factors, Expression, summand, summands, Item, goal, unify, assign, Test, plain_test, compare, Tests, last_test, next_test, rest, expression, item, test, tests}
-use Rattle.ghc_reader.specs.Parts.{EndsExpression, EndsItem, EndsTest, EndsTests, Fault}
+use Rattle.ghc_reader.specs.Grammar.{number, named}
 use Rattle.ghc_reader.proofs.Append.{some_variable, expression_append, test_append, tests_append}
 use Rattle.ghc_reader.proofs.Ends.{ends_test, comparison_ends}
 use Rattle.ghc_reader.proofs.OneExpression.{one_expression}

@@ -1,29 +1,8 @@
 -- What the pieces of a text say of its tokens: their names are those of the grammar, their integers have 64 bits, and none is longer than its piece.
-use Rattle.std.proofs.Common.{◌≡◌, ◌≢◌, ℕ, ◌+◌, ◌^◌, ◌≤◌, ◌<◌, Bool, true, false, ℤ, pos, negsuc, zero, suc, List, [], ◌∷◌, length, Option, Some, None, refl, sym, ap, subst, inl, inr, arith, length-append, FitsSigned, w64}
-use Rattle.std.specs.Prelude.{codes, All, cond, neg_ℤ}
-use Rattle.std.specs.Fmt.{decimal, signed_decimal}
-use Rattle.std.specs.List.{filter_map, cons_option}
-use Rattle.std.specs.Str.Parse.{digits_value, starts_with_minus, without_leading_sign, signed_digits_value}
-use Rattle.std.specs.Char.{is_ascii_digit, is_ascii_lowercase}
-use Rattle.std.proofs.lemmas.Bool.{cases_lt}
-use Rattle.std.proofs.lemmas.Bool.Decides.{nat_tests}
-use Rattle.std.proofs.lemmas.Fmt.{length-decimal-le}
-use Rattle.std.proofs.lemmas.Int.Digits.{digits_value-lt}
-use Rattle.std.proofs.lemmas.List.Elements.{All-head, All-tail}
-use Rattle.ghc_term.specs.InputTerm.{IsNameText}
-use Rattle.ghc_reader.specs.Bytes.{IsRun, is_word}
-use Rattle.ghc_reader.specs.Pieces.{Piece, HasForm, Cuts, signs_behind, spelled}
-use Rattle.ghc_reader.specs.Symbols.{spelling, token_of_symbol}
-use Rattle.ghc_reader.specs.Lexed.{token_of_bytes, token_of, IsRefusedToken, IsRefused}
-use Rattle.ghc_reader.specs.declared.token.Token.{Token}
+use Rattle.ghc_reader.proofs.Words.{◌≡◌, ◌≢◌, ℕ, ◌+◌, ◌^◌, ◌≤◌, ◌<◌, Bool, true, false, ℤ, pos, negsuc, zero, suc, List, [], ◌∷◌, length, Option, Some, None, refl, sym, ap, subst, inl, inr, arith, length-append, FitsSigned, w64, codes, All, cond, neg_ℤ, decimal, signed_decimal, filter_map, cons_option, digits_value, starts_with_minus, without_leading_sign, signed_digits_value, is_ascii_digit, is_ascii_lowercase, cases_lt, nat_tests, length-decimal-le, digits_value-lt, All-head, All-tail, IsNameText, IsRun, is_word, Piece, HasForm, Cuts, signs_behind, spelled, spelling, token_of_symbol, token_of_bytes, token_of, IsRefusedToken, IsRefused, Token, Open, Symbol, Kind, Reserved, Refused}
 use Rattle.ghc_reader.specs.declared.token.Token.TheVariants as token
-use Rattle.ghc_reader.specs.declared.token.Mark.TheVariants.{Open}
-use Rattle.ghc_reader.specs.declared.lexer.symbol.Symbol.{Symbol}
 use Rattle.ghc_reader.specs.declared.lexer.symbol.Symbol.TheVariants as symbol
-use Rattle.ghc_reader.specs.declared.lexer.front.Kind.{Kind}
 use Rattle.ghc_reader.specs.declared.lexer.front.Kind.TheVariants as kind
-use Rattle.ghc_reader.specs.declared.lexer.value.Reserved.{Reserved}
-use Rattle.ghc_reader.specs.declared.lexer.value.Reserved.TheVariants.{Refused}
 use Rattle.ghc_reader.proofs.Values.{all_of_run, digits_of_all}
 use Rattle.ghc_reader.proofs.InputSizes.{weight, weights}
 

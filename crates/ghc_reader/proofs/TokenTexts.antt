@@ -1,27 +1,10 @@
 -- The text of tokens as they are printed, with a space on each side of an operator and none elsewhere, and that it is cut into these tokens.
-use Rattle.std.proofs.Common.{◌≡◌, ℕ, ◌<◌, Bool, true, false, ℤ, pos, negsuc, suc, List, [], ◌∷◌, ◌++◌, length, refl, sym, ap, ◌∙◌, subst, inr, arith, IsTrue, FitsSigned, w64, cond, neg_ℤ, Some, append-nil}
-use Rattle.std.specs.Prelude.{All}
-use Rattle.std.specs.Fmt.{decimal, signed_decimal}
-use Rattle.std.specs.List.{filter_map, list_all}
-use Rattle.std.specs.Str.Parse.{AllDigits, digits_value, starts_with_minus, without_leading_sign, signed_digits_value}
-use Rattle.std.specs.Char.{is_ascii_digit}
-use Rattle.std.proofs.lemmas.Bool.Decides.{nat_tests}
-use Rattle.std.proofs.lemmas.Fmt.{decimal_is_IsNumeral}
-use Rattle.std.proofs.lemmas.Str.Parse.{digit_from_value}
-use Rattle.std.proofs.lemmas.List.Elements.{All-nil, All-cons}
-use Rattle.ghc_term.specs.InputTerm.{IsNameText}
-use Rattle.ghc_reader.specs.Bytes.{IsRun, Begins, Lacks, is_word, begins_variable}
-use Rattle.ghc_reader.specs.Symbols.{spelling}
-use Rattle.ghc_reader.specs.Pieces.{Piece, Stands, Cuts, signs_behind, spelled}
-use Rattle.ghc_reader.specs.Places.{start, place_behind}
-use Rattle.ghc_reader.specs.Lexed.{token_of, IsRefusedToken, IsRefused, IsLexed, token_places}
-use Rattle.ghc_reader.specs.declared.token.Mark.TheVariants.{Close, CloseList, Equals, Assign, Define, Stop}
-use Rattle.ghc_reader.specs.declared.token.Token.{Token}
+use Rattle.ghc_reader.proofs.Words.{◌≡◌, ℕ, ◌<◌, Bool, true, false, ℤ, pos, negsuc, suc, List, [], ◌∷◌, ◌++◌, length, refl, sym, ap, ◌∙◌, subst, inr, arith, IsTrue, FitsSigned, w64, cond, neg_ℤ, Some, All, decimal, signed_decimal, filter_map, list_all, AllDigits, digits_value, starts_with_minus, without_leading_sign, signed_digits_value, is_ascii_digit, nat_tests, decimal_is_IsNumeral, digit_from_value, All-nil, All-cons, IsNameText, IsRun, Lacks, is_word, begins_variable, spelling, Piece, Stands, Cuts, signs_behind, spelled, start, place_behind, token_of, IsRefusedToken, IsRefused, IsLexed, token_places, Close, CloseList, Equals, Assign, Define, Stop, Token, Symbol, Reserved}
+use Rattle.std.proofs.Common.{append-nil}
+use Rattle.ghc_reader.specs.Bytes.{Begins}
 use Rattle.ghc_reader.specs.declared.token.Token.TheVariants as token
-use Rattle.ghc_reader.specs.declared.lexer.symbol.Symbol.{Symbol}
 use Rattle.ghc_reader.specs.declared.lexer.symbol.Symbol.TheVariants as symbol
 use Rattle.ghc_reader.specs.declared.lexer.front.Kind.TheVariants as kind
-use Rattle.ghc_reader.specs.declared.lexer.value.Reserved.{Reserved}
 use Rattle.ghc_reader.proofs.Values.{all_of_run}
 use Rattle.ghc_reader.proofs.Forms.{name_stands, variable_stands, integer_stands, run_stands, minus_leaves}
 use Rattle.ghc_reader.proofs.MarkPieces.{mark_stands}

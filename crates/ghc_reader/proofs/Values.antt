@@ -1,17 +1,6 @@
 -- Reserved variables, and what the bytes of an integer stand for.
-use Rattle.std.proofs.Common.{◌≡◌, ◌≢◌, ◌⊎◌, ℕ, ◌<◌, ◌≤◌, Bool, true, List, [], ◌∷◌, ◌++◌, length, Result, Ok, Err, MatchResult, OkIff, Option, Some, None, is_some, IsTrue, MatchOption, ◌↔◌, ◌^◌, not, false, rules, refl, sym, ap, subst, ◌∙◌, inl, inr, arith, ◌==◌, FitsSigned}
+use Rattle.ghc_reader.proofs.Words.{◌≡◌, ◌≢◌, ◌⊎◌, ℕ, ◌<◌, ◌≤◌, Bool, true, List, [], ◌∷◌, ◌++◌, length, Result, Ok, Err, MatchResult, OkIff, Option, Some, None, is_some, IsTrue, MatchOption, ◌↔◌, ◌^◌, not, false, rules, refl, sym, ap, subst, ◌∙◌, inl, inr, arith, ◌==◌, FitsSigned, IsOk, AllDigits, IsNumeral, without_leading_sign, digits_value, signed_digits_value, ParsesUnsigned, is_ascii_digit, list_all, append-nil, cases_lt, false≢true, nat_tests, IsDigitsTest, numerals_by_value, parse_digits, IsRun, Lacks, HasForm, AreDigits, BeginsNumber, IsReserved, IsReservedBy, IsReservedAs, IsNumberedAs, IsTooGreat, greatest_number}
 use Rattle.std.specs.Int.{w64}
-use Rattle.std.specs.Result.{IsOk}
-use Rattle.std.specs.Str.Parse.{AllDigits, IsNumeral, without_leading_sign, digits_value, signed_digits_value, ParsesUnsigned}
-use Rattle.std.specs.Char.{is_ascii_digit}
-use Rattle.std.specs.List.{list_all}
-use Rattle.std.proofs.lemmas.List.{append-nil}
-use Rattle.std.proofs.lemmas.Bool.{cases_lt, false≢true}
-use Rattle.std.proofs.lemmas.Bool.Decides.{nat_tests}
-use Rattle.std.proofs.lemmas.Str.Parse.{IsDigitsTest, numerals_by_value, parse_digits}
-use Rattle.ghc_reader.specs.Bytes.{IsRun, Lacks}
-use Rattle.ghc_reader.specs.Pieces.{HasForm}
-use Rattle.ghc_reader.specs.Lexed.{AreDigits, BeginsNumber, IsReserved, IsReservedBy, IsReservedAs, IsNumberedAs, IsTooGreat, greatest_number}
 use Rattle.ghc_reader.specs.declared.lexer.front.Kind.TheVariants as kind
 
 pub all_of_run : (bs : List ℕ) → IsRun is_ascii_digit is_ascii_digit bs → list_all is_ascii_digit bs ≡ true

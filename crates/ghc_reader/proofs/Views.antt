@@ -1,20 +1,11 @@
 -- What the trees of the variants are.
 
-use Rattle.std.proofs.Common.{◌≡◌, ℕ, ℤ, List, sym, ap, ◌∙◌, Box, Global, Vec}
-use Rattle.ghc_reader.specs.declared.token.Sum.{Sum}
-use Rattle.ghc_reader.specs.declared.token.Product.{Product}
-use Rattle.ghc_reader.specs.declared.source.SourceExpression.{SourceExpression}
+use Rattle.ghc_reader.proofs.Words.{◌≡◌, ℕ, ℤ, List, sym, ap, ◌∙◌, Box, Global, Vec, Sum, Product, SourceExpression, fold-roll-SourceExpression, SourceExpression-F, SourceTerm, fold-roll-SourceTerm, SourceTerm-F, Tree, Value, structure, empty, cells, number, named, products, sums, view_step, view, views, value_step, value_view, factor_views, summand_views}
 use Rattle.ghc_reader.specs.declared.source.SourceExpression.TheVariants as ev
 use Rattle.ghc_reader.specs.declared.source.SourceExpression.TheViews as ew
-use Rattle.ghc_reader.specs.declared.source.SourceExpression.TheFolds.{fold-roll-SourceExpression}
-use Rattle.ghc_reader.specs.declared.source.SourceExpression.TheOpen.{SourceExpression-F}
-use Rattle.ghc_reader.specs.declared.source.SourceTerm.{SourceTerm}
 use Rattle.ghc_reader.specs.declared.source.SourceTerm.TheVariants as tv
 use Rattle.ghc_reader.specs.declared.source.SourceTerm.TheViews as tw
-use Rattle.ghc_reader.specs.declared.source.SourceTerm.TheFolds.{fold-roll-SourceTerm}
-use Rattle.ghc_reader.specs.declared.source.SourceTerm.TheOpen.{SourceTerm-F}
-use Rattle.ghc_reader.specs.Source.{Tree, Value, variable, integer, structure, empty, cells, number, named, products, sums}
-use Rattle.ghc_reader.specs.Views.{view_step, view, views, value_step, value_view, factor_views, summand_views}
+use Rattle.ghc_reader.specs.Source.{variable, integer}
 
 pub view_list : (a : Vec SourceTerm Global) (b : Box SourceTerm Global) → view (tw.List a b) ≡ cells (views a.items) (view b.value)
 view_list a b = ap view (sym (tv.rolls-List a b)) ∙ fold-roll-SourceTerm Tree view_step (SourceTerm-F.List a b)

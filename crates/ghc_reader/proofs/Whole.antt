@@ -1,18 +1,6 @@
 -- From the fault of a part that is the whole text to the fault of the text.
-use Rattle.std.proofs.Common.{◌≡◌, ◌≢◌, ℕ, ◌+◌, ◌-◌, ◌<◌, List, Option, None, [], ◌∷◌, ◌++◌, length, take, true, false, refl, sym, ap, ◌∙◌, subst, arith, append_assoc, length-append, drop, ⊎_elim}
-use Rattle.std.specs.Prelude.{◌==◌}
-use Rattle.std.proofs.lemmas.Bool.Decides.{nat_tests}
-use Rattle.std.proofs.lemmas.List.{take-append-drop}
-use Rattle.std.proofs.Math.Nat.{eq-or-lt_of_le}
-use Rattle.std.proofs.Math.Seq.{take-append_seam, take-append-add}
-use Rattle.ghc_reader.specs.declared.token.Mark.TheVariants.{Stop}
+use Rattle.ghc_reader.proofs.Words.{◌≡◌, ◌≢◌, ℕ, ◌+◌, ◌-◌, ◌<◌, List, Option, None, [], ◌∷◌, ◌++◌, length, take, true, false, refl, sym, ap, ◌∙◌, subst, arith, append_assoc, length-append, drop, ⊎_elim, ◌==◌, nat_tests, take-append-drop, eq-or-lt_of_le, take-append_seam, take-append-add, Stop, Token, first, Program, program, Query, plain, stopped, query, query_of, goals_of, FaultAt, EndsQuery, EndsProgram, Fault}
 use Rattle.ghc_reader.specs.declared.token.Token.TheVariants as token
-use Rattle.ghc_reader.specs.declared.token.Token.{Token}
-use Rattle.ghc_reader.specs.Front.{first}
-use Rattle.ghc_reader.specs.Grammar.{Program, program, Query, plain, stopped, query}
-use Rattle.ghc_reader.specs.Derived.{query_of, goals_of}
-use Rattle.ghc_reader.specs.Viable.{FaultAt}
-use Rattle.ghc_reader.specs.Parts.{EndsQuery, EndsProgram, Fault}
 use Rattle.ghc_reader.proofs.OneGoal.{one_body}
 use Rattle.ghc_reader.proofs.QueryFaults.{none_ends_body, stop_ends}
 

@@ -1,27 +1,9 @@
 -- What parse trees within the limits say is within them too.
-use Rattle.std.proofs.Common.{◌≡◌, ◌≢◌, ℕ, ◌+◌, ◌<◌, ◌≤◌, List, [], ◌∷◌, ◌++◌, length, take, filter, Bool, true, false, cond, Option, Some, None, refl, sym, ap, ◌∙◌, subst, inl, inr, arith, slice_get, append_assoc}
-use Rattle.std.specs.Prelude.{◌||◌, not, max, MatchOption, bytes_eq, nat_lt}
-use Rattle.std.specs.List.{list_any}
-use Rattle.std.proofs.lemmas.List.{append-nil, length_push, length-map, length-take-le}
-use Rattle.std.proofs.lemmas.List.Filters.{length-filter_both}
-use Rattle.std.proofs.lemmas.List.Folds.{list_any-append}
-use Rattle.std.proofs.lemmas.Slice.Eq.{bytes_eq-Decides}
-use Rattle.std.proofs.lemmas.Bool.Decides.{nat_tests}
+use Rattle.ghc_reader.proofs.Words.{◌≡◌, ◌≢◌, ℕ, ◌+◌, ◌<◌, ◌≤◌, List, [], ◌∷◌, ◌++◌, length, take, filter, Bool, true, false, cond, Option, Some, None, refl, sym, ap, ◌∙◌, subst, inl, inr, arith, slice_get, append_assoc, ◌||◌, not, max, MatchOption, bytes_eq, nat_lt, list_any, append-nil, length_push, length-map, length-take-le, length-filter_both, list_any-append, bytes_eq-Decides, nat_tests, VarName, In, SourceGoal, goal_view, goal_views, Trees, none, some, Goal, count, largest, widest_goal, widest_goals, widest_clause, goals_of_clause, names_of_goals, names_of_clause, is_unnamed, variables, first_exceeded, of_program, of_query, WrittenClause, WrittenQuery, is_stream, IsWithinLimits, IsWellWritten, AreWellWritten, IsWellAsked, Names, blank, IsCalled, AreNamed, Each, SaysAll, SaysGoal, SaysAsked, SaysClause, SaysQuery, is_true, doing, tail_of, IsFresh, WrittenAsk, IsNaming, SaysAsk, IsWellPut}
 use Rattle.ghc_term.specs.declared.limit.Limit.TheVariants as limit
-use Rattle.ghc_term.specs.declared.var_name.VarName.{VarName}
-use Rattle.ghc_term.specs.Lists.{In}
 use Rattle.ghc_term.specs.Tree as term
 use Rattle.ghc_term.specs.Goal as goal
-use Rattle.ghc_reader.specs.declared.source.SourceGoal.{SourceGoal}
-use Rattle.ghc_reader.specs.Views.{goal_view, goal_views}
-use Rattle.ghc_reader.specs.Source.{Trees, none, some, Goal, call, unify, assign, Clause}
-use Rattle.ghc_reader.specs.Reserved.{count}
-use Rattle.ghc_reader.specs.Amounts.{largest, widest_goal, widest_goals, widest_clause, goals_of_clause, names_of_goals, names_of_clause, is_unnamed, variables}
-use Rattle.ghc_reader.specs.Limits.{first_exceeded, of_program, of_query}
-use Rattle.ghc_reader.specs.Written.{WrittenClause, WrittenQuery, is_stream, IsWithinLimits, IsWellWritten, AreWellWritten, IsWellAsked}
-use Rattle.ghc_reader.specs.Lowered.{Names, blank, IsCalled, AreNamed, Each, SaysAll, SaysGoal, SaysAsked, SaysClause, SaysQuery, is_true, doing, tail_of}
-use Rattle.ghc_reader.specs.Scope.{IsFresh}
-use Rattle.ghc_reader.specs.WrittenAsk.{WrittenAsk, IsNaming, SaysAsk, IsWellPut}
+use Rattle.ghc_reader.specs.Source.{call, unify, assign, Clause}
 use Rattle.ghc_reader.proofs.Counting.{and_one, one_more}
 use Rattle.ghc_reader.proofs.Names.{get_left, get_last}
 use Rattle.ghc_reader.proofs.Numbered.{test_cases}

@@ -1,10 +1,6 @@
-use Rattle.std.proofs.Common.{◌≡◌, [], ◌∷◌, ◌++◌, sym, ap, ◌∙◌}
-use Rattle.ghc_reader.specs.Source.{plains}
-use Rattle.ghc_reader.specs.Views.{goal_views, test_view, test_views, value_view}
+use Rattle.ghc_reader.proofs.Words.{◌≡◌, [], ◌∷◌, ◌++◌, sym, ap, ◌∙◌, plains, goal_views, test_view, test_views, value_view, map_push, reverse}
 use Rattle.ghc_reader.proofs.ClauseFounds as founds
 use Rattle.ghc_reader.proofs.clause_parser.as_body.Goals as goal
-use Rattle.std.proofs.lemmas.List.{map_push}
-use Rattle.std.specs.Prelude.{reverse}
 
 pub returns-in-Compare : goal.returns-in-Compare
 returns-in-Compare c = λ gs e.

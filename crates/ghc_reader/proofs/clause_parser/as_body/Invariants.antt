@@ -1,7 +1,4 @@
-use Rattle.std.proofs.Common.{◌≡◌, ◌++◌, vec_len}
-use Rattle.std.specs.Prelude.{reverse}
-use Rattle.ghc_reader.specs.Source.{plains}
-use Rattle.ghc_reader.specs.Views.{goal_views, test_views}
+use Rattle.ghc_reader.proofs.Words.{◌≡◌, ◌++◌, vec_len, reverse, plains, goal_views, test_views}
 use Rattle.ghc_reader.proofs.clause_parser.as_body.Given as goal
 
 abbrev pub invariant-loop-test : goal.invariant-loop-test

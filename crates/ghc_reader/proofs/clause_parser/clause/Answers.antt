@@ -1,8 +1,5 @@
-use Rattle.std.proofs.Common.{[], ◌∷◌, length, refl, sym, ap, ◌∙◌, subst}
+use Rattle.ghc_reader.proofs.Words.{[], ◌∷◌, length, refl, sym, ap, ◌∙◌, subst, err_from_is_err_and, Call, views, goal_views, test_views}
 use Rattle.ghc_reader.specs.declared.token.Token.TheVariants as token
-use Rattle.std.proofs.lemmas.Result.{err_from_is_err_and}
-use Rattle.ghc_reader.specs.Source.{Call}
-use Rattle.ghc_reader.specs.Views.{views, goal_views, test_views}
 use Rattle.ghc_reader.proofs.ClauseFaults as faults
 use Rattle.ghc_reader.proofs.ClauseFounds as founds
 use Rattle.ghc_reader.proofs.TermFounds.{passes}

@@ -1,6 +1,4 @@
-use Rattle.std.proofs.Common.{sym, ap, subst}
-use Rattle.std.proofs.lemmas.Result.{err_from_is_err_and}
-use Rattle.ghc_reader.specs.Views.{goal_views, test_views}
+use Rattle.ghc_reader.proofs.Words.{sym, ap, subst, err_from_is_err_and, goal_views, test_views}
 use Rattle.ghc_reader.proofs.ClauseFaults as faults
 use Rattle.ghc_reader.proofs.ClauseFounds as founds
 use Rattle.ghc_reader.proofs.TermFounds.{passes}

@@ -1,5 +1,4 @@
-use Rattle.std.proofs.Common.{sym}
-use Rattle.std.proofs.lemmas.Result.{err_from_is_err_and}
+use Rattle.ghc_reader.proofs.Words.{sym, err_from_is_err_and}
 use Rattle.ghc_reader.proofs.TestFaults as faults
 use Rattle.ghc_reader.proofs.GoalFounds as founds
 use Rattle.ghc_reader.proofs.TermFounds.{passes}

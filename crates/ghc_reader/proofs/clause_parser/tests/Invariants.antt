@@ -1,5 +1,4 @@
-use Rattle.std.proofs.Common.{length, ◌<◌}
-use Rattle.ghc_reader.specs.Views.{test_views}
+use Rattle.ghc_reader.proofs.Words.{length, ◌<◌, test_views}
 use Rattle.ghc_reader.proofs.GoalLoops.{TestsSoFar}
 use Rattle.ghc_reader.proofs.clause_parser.tests.Given as goal
 

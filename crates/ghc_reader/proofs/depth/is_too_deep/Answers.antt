@@ -1,6 +1,4 @@
-use Rattle.std.proofs.Common.{◌≡◌, ◌+◌, ◌<◌, length, take, refl, sym, ap, ◌∙◌, arith}
-use Rattle.std.proofs.lemmas.Bool.{false≢true}
-use Rattle.ghc_reader.specs.Depth.{open_behind, open_after}
+use Rattle.ghc_reader.proofs.Words.{◌≡◌, ◌+◌, ◌<◌, length, take, refl, sym, ap, ◌∙◌, arith, false≢true, open_behind, open_after}
 use Rattle.ghc_reader.proofs.Depths.{open_after-more, deep_at, nowhere_deep, up_to_more}
 use Rattle.ghc_reader.proofs.depth.is_too_deep.Goals as goal
 use Rattle.ghc_reader.proofs.depth.is_too_deep.Goals.{After-open_behind-depth}

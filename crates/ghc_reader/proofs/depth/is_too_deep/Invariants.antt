@@ -1,5 +1,4 @@
-use Rattle.std.proofs.Common.{◌≡◌, ℕ, ◌≤◌, take}
-use Rattle.ghc_reader.specs.Depth.{open_after}
+use Rattle.ghc_reader.proofs.Words.{◌≡◌, ℕ, ◌≤◌, take, open_after}
 use Rattle.ghc_reader.proofs.depth.is_too_deep.Given as goal
 
 abbrev pub invariant-loop-token : goal.invariant-loop-token

@@ -1,11 +1,8 @@
-use Rattle.std.proofs.Common.{◌∷◌, length, sym, ap, ◌∙◌, subst, arith, rules}
-use Rattle.std.proofs.lemmas.Int.{to_z-of_z}
+use Rattle.ghc_reader.proofs.Words.{◌∷◌, length, sym, ap, ◌∙◌, subst, arith, rules, to_z-of_z, err_from_is_err_and, value_view}
 use mir.Val.{SFits}
 use mir.Syntax.{w64}
 use Rattle.ghc_reader.specs.declared.token.Token.TheVariants as token
-use Rattle.std.proofs.lemmas.Result.{err_from_is_err_and}
 use Rattle.ghc_reader.specs.declared.source.SourceExpression.TheVariants as value
-use Rattle.ghc_reader.specs.Views.{value_view}
 use Rattle.ghc_reader.proofs.Loops.{factors_one, factors_more, expression_one, expression_more}
 use Rattle.ghc_reader.proofs.ExpressionFaults as faults
 use Rattle.ghc_reader.proofs.ExpressionFounds as founds

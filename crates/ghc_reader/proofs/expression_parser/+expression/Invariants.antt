@@ -1,6 +1,4 @@
-use Rattle.std.proofs.Common.{◌+◌, ◌*◌, ◌<◌, length}
-use Rattle.ghc_reader.specs.Source.{products, sums}
-use Rattle.ghc_reader.specs.Views.{value_view, factor_views, summand_views}
+use Rattle.ghc_reader.proofs.Words.{◌+◌, ◌*◌, ◌<◌, length, products, sums, value_view, factor_views, summand_views}
 use Rattle.ghc_reader.proofs.Loops.{FactorsSoFar, ExpressionSoFar}
 use Rattle.ghc_reader.proofs.expression_parser.+expression.Given as goal
 

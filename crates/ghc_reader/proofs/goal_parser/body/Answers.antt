@@ -1,5 +1,4 @@
-use Rattle.std.proofs.Common.{length, [], ◌∷◌, ◌++◌, ap, ◌∙◌, arith}
-use Rattle.std.proofs.lemmas.Result.{err_from_is_err_and}
+use Rattle.ghc_reader.proofs.Words.{length, [], ◌∷◌, ◌++◌, ap, ◌∙◌, arith, err_from_is_err_and}
 use Rattle.ghc_reader.proofs.GoalLoops.{body_one, body_more}
 use Rattle.ghc_reader.proofs.GoalFaults as faults
 use Rattle.ghc_reader.proofs.GoalFounds as founds

@@ -1,5 +1,4 @@
-use Rattle.std.proofs.Common.{length, ◌<◌}
-use Rattle.ghc_reader.specs.Views.{goal_views}
+use Rattle.ghc_reader.proofs.Words.{length, ◌<◌, goal_views}
 use Rattle.ghc_reader.proofs.GoalLoops.{BodySoFar}
 use Rattle.ghc_reader.proofs.goal_parser.body.Given as goal
 

@@ -1,7 +1,5 @@
-use Rattle.std.proofs.Common.{◌∷◌, refl, sym, ap, ◌∙◌, subst}
+use Rattle.ghc_reader.proofs.Words.{◌∷◌, refl, sym, ap, ◌∙◌, subst, Assign, err_from_is_err_and}
 use Rattle.ghc_reader.specs.declared.token.Token.TheVariants as token
-use Rattle.ghc_reader.specs.declared.token.Mark.TheVariants.{Assign}
-use Rattle.std.proofs.lemmas.Result.{err_from_is_err_and}
 use Rattle.ghc_reader.proofs.GoalFaults as faults
 use Rattle.ghc_reader.proofs.GoalFounds as founds
 use Rattle.ghc_reader.proofs.TermFounds as terms

@@ -1,5 +1,4 @@
-use Rattle.std.proofs.Common.{sym, ◌∙◌}
-use Rattle.ghc_reader.specs.Grammar.{Input, input}
+use Rattle.ghc_reader.proofs.Words.{sym, ◌∙◌, Input, input}
 use Rattle.ghc_reader.proofs.Whole.{no_fault_at}
 use Rattle.ghc_reader.proofs.InputFaults.{closed_fault, at_variable, closed_found, one_input, whole_fault_at}
 use Rattle.ghc_reader.proofs.input_parser.parse_term.Goals as goal

@@ -1,10 +1,5 @@
-use Rattle.std.proofs.Common.{◌≡◌, ◌≢◌, ◌⊎◌, ◌++◌, [], IfErr, sym, ap, subst, ◌∙◌, rules}
-use Rattle.std.proofs.lemmas.Result.{err_from_is_err_and}
-use Rattle.std.specs.Option.{option_to_list}
+use Rattle.ghc_reader.proofs.Words.{◌≡◌, ◌≢◌, ◌⊎◌, ◌++◌, [], IfErr, sym, ap, subst, ◌∙◌, rules, err_from_is_err_and, option_to_list, signs_behind, fault_at, piece_of, place_of_token, IsRefused, IsCutFault}
 use Rattle.ghc_term.specs.declared.fault.Fault.TheVariants as fault
-use Rattle.ghc_reader.specs.Pieces.{signs_behind}
-use Rattle.ghc_reader.specs.Places.{fault_at}
-use Rattle.ghc_reader.specs.Lexed.{piece_of, place_of_token, IsRefused, IsCutFault}
 use Rattle.ghc_reader.proofs.Cutting.{LexedSoFar, more_lexed, one_refused, refused_fault, line_fits, column_fits}
 use Rattle.ghc_reader.proofs.lexer.cut.Goals as goal
 

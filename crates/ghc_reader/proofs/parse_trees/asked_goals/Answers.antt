@@ -1,5 +1,4 @@
-use Rattle.std.proofs.Common.{arith}
-use Rattle.ghc_reader.specs.Tests.{asked}
+use Rattle.ghc_reader.proofs.Words.{arith, asked}
 use Rattle.ghc_reader.proofs.MisplacedWithin.{misplaced_in_body_tokens}
 use Rattle.ghc_reader.proofs.OneReading.{parse_refusal}
 use Rattle.ghc_reader.proofs.parse_trees.asked_goals.Goals as goal

@@ -1,5 +1,4 @@
-use Rattle.std.proofs.lemmas.Result.{err_from_is_err_and}
-use Rattle.ghc_reader.specs.Tests.{a_body}
+use Rattle.ghc_reader.proofs.Words.{err_from_is_err_and, a_body}
 use Rattle.ghc_reader.proofs.OneReading.{token_refusal}
 use Rattle.ghc_reader.proofs.parse_trees.parsed_body.Goals as goal
 

@@ -1,6 +1,4 @@
-use Rattle.std.proofs.Common.{arith}
-use Rattle.std.proofs.lemmas.Result.{err_from_is_err_and}
-use Rattle.ghc_reader.specs.Tests.{a_program}
+use Rattle.ghc_reader.proofs.Words.{arith, err_from_is_err_and, a_program}
 use Rattle.ghc_reader.proofs.MisplacedWithin.{misplaced_in_tokens}
 use Rattle.ghc_reader.proofs.OneReading.{parse_refusal, token_refusal}
 use Rattle.ghc_reader.proofs.parse_trees.parsed_program.Goals as goal

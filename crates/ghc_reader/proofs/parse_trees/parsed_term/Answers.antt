@@ -1,7 +1,4 @@
-use Rattle.std.proofs.Common.{sym, inr}
-use Rattle.ghc_reader.specs.Views.{view}
-use Rattle.std.proofs.lemmas.Result.{err_from_is_err_and}
-use Rattle.ghc_reader.specs.Tests.{a_term}
+use Rattle.ghc_reader.proofs.Words.{sym, inr, view, err_from_is_err_and, a_term}
 use Rattle.ghc_reader.proofs.OneReading.{parse_refusal, token_refusal, term_limit_refusal, term_read}
 use Rattle.ghc_reader.proofs.parse_trees.parsed_term.Goals as goal
 

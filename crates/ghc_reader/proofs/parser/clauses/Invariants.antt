@@ -1,5 +1,4 @@
-use Rattle.std.proofs.Common.{length}
-use Rattle.ghc_reader.specs.Views.{clause_views}
+use Rattle.ghc_reader.proofs.Words.{length, clause_views}
 use Rattle.ghc_reader.proofs.GoalLoops.{ClausesSoFar}
 use Rattle.ghc_reader.proofs.parser.clauses.Given as goal
 

@@ -1,6 +1,5 @@
-use Rattle.std.proofs.Common.{[], sym, ap, ◌∙◌}
+use Rattle.ghc_reader.proofs.Words.{[], sym, ap, ◌∙◌, clauses_of}
 use Rattle.ghc_reader.proofs.Whole.{program_fault_at, no_program_fault}
-use Rattle.ghc_reader.specs.Derived.{clauses_of}
 use Rattle.ghc_reader.proofs.OneClause.{one_program}
 use Rattle.ghc_reader.proofs.parser.parse_program.Goals as goal
 

@@ -1,5 +1,4 @@
-use Rattle.ghc_reader.specs.Views.{goal_views}
-use Rattle.ghc_reader.specs.Read.{IsReadBody}
+use Rattle.ghc_reader.proofs.Words.{goal_views, IsReadBody}
 use Rattle.ghc_reader.proofs.read.read_body.Goals as goal
 
 pub returns-in-Err : goal.returns-in-Err

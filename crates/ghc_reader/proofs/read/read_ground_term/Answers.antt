@@ -1,6 +1,4 @@
-use Rattle.std.proofs.Common.{◌≡◌, ◌∙◌, subst, sym, rules}
-use Rattle.ghc_reader.specs.Views.{view}
-use Rattle.ghc_reader.specs.Read.{IsReadTerm}
+use Rattle.ghc_reader.proofs.Words.{◌≡◌, ◌∙◌, subst, sym, rules, view, IsReadTerm}
 use Rattle.ghc_reader.proofs.ClosedTrees.{input_is_closed}
 use Rattle.ghc_reader.proofs.ReadTerms.{read_is_input}
 use Rattle.ghc_reader.proofs.read.read_ground_term.Goals as goal

@@ -1,5 +1,4 @@
-use Rattle.ghc_reader.specs.Views.{clause_views}
-use Rattle.ghc_reader.specs.Read.{IsReadProgram}
+use Rattle.ghc_reader.proofs.Words.{clause_views, IsReadProgram}
 use Rattle.ghc_reader.proofs.read.read_program.Goals as goal
 
 pub returns-in-Err-clause-answer : goal.returns-in-Err-clause-answer

@@ -1,5 +1,4 @@
-use Rattle.ghc_reader.specs.Views.{goal_views}
-use Rattle.ghc_reader.specs.Read.{IsReadQuery}
+use Rattle.ghc_reader.proofs.Words.{goal_views, IsReadQuery}
 use Rattle.ghc_reader.proofs.read.read_query.Goals as goal
 
 pub returns-in-Err-clause-answer : goal.returns-in-Err-clause-answer

@@ -1,6 +1,4 @@
-use Rattle.std.proofs.Common.{sym, ap, ◌∙◌}
-use Rattle.ghc_reader.specs.Reserved.{is_variable}
-use Rattle.ghc_reader.specs.Views.{view}
+use Rattle.ghc_reader.proofs.Words.{sym, ap, ◌∙◌, is_variable, view}
 use Rattle.ghc_reader.proofs.Misplaced.{list_is_no_variable}
 use Rattle.ghc_reader.proofs.reserved.+is_variable.Goals as goal
 

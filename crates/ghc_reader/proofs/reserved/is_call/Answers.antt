@@ -1,7 +1,4 @@
-use Rattle.std.proofs.Common.{sym, ap, ◌∙◌}
-use Rattle.std.specs.Prelude.{◌&&◌, nat_eq, bytes_eq}
-use Rattle.ghc_reader.specs.Reserved.{count}
-use Rattle.ghc_reader.specs.Views.{views}
+use Rattle.ghc_reader.proofs.Words.{sym, ap, ◌∙◌, ◌&&◌, nat_eq, bytes_eq, count, views}
 use Rattle.ghc_reader.proofs.Misplaced.{count_views}
 use Rattle.ghc_reader.proofs.reserved.is_call.Goals as goal
 

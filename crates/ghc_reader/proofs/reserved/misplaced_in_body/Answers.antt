@@ -1,5 +1,4 @@
-use Rattle.ghc_reader.specs.Reserved.{misplaced_goal}
-use Rattle.ghc_reader.specs.Views.{goal_view}
+use Rattle.ghc_reader.proofs.Words.{misplaced_goal, goal_view}
 use Rattle.ghc_reader.proofs.Misplaced.{first_mapped}
 use Rattle.ghc_reader.proofs.reserved.misplaced_in_body.Goals as goal
 

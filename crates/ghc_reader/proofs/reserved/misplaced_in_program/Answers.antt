@@ -1,5 +1,4 @@
-use Rattle.ghc_reader.specs.Reserved.{misplaced_clause}
-use Rattle.ghc_reader.specs.Views.{clause_view}
+use Rattle.ghc_reader.proofs.Words.{misplaced_clause, clause_view}
 use Rattle.ghc_reader.proofs.Misplaced.{first_mapped}
 use Rattle.ghc_reader.proofs.reserved.misplaced_in_program.Goals as goal
 

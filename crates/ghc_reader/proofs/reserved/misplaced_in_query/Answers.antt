@@ -1,5 +1,4 @@
-use Rattle.ghc_reader.specs.Reserved.{misplaced_query_goal}
-use Rattle.ghc_reader.specs.Views.{goal_view}
+use Rattle.ghc_reader.proofs.Words.{misplaced_query_goal, goal_view}
 use Rattle.ghc_reader.proofs.Misplaced.{first_mapped}
 use Rattle.ghc_reader.proofs.reserved.misplaced_in_query.Goals as goal
 

@@ -1,6 +1,4 @@
-use Rattle.std.proofs.Common.{◌≡◌, [], take}
-use Rattle.ghc_reader.specs.Reserved.{misplaced_query}
-use Rattle.ghc_reader.specs.Views.{goal_views}
+use Rattle.ghc_reader.proofs.Words.{◌≡◌, [], take, misplaced_query, goal_views}
 use Rattle.ghc_reader.proofs.reserved.misplaced_in_query.Given as goal
 
 abbrev pub invariant-loop-goal : goal.invariant-loop-goal

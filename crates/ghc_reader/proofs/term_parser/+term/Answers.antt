@@ -1,13 +1,8 @@
-use Rattle.std.proofs.Common.{[], ◌∷◌, ◌++◌, length, sym, ap, ◌∙◌, subst, arith, rules}
-use Rattle.std.proofs.lemmas.Int.{to_z-of_z}
+use Rattle.ghc_reader.proofs.Words.{[], ◌∷◌, ◌++◌, length, sym, ap, ◌∙◌, subst, arith, rules, to_z-of_z, err_from_is_err_and, IfOk-weaker, view, Arguments, Term, arguments, term, EndsTerm, EndsArguments, Fault}
 use mir.Val.{SFits}
 use mir.Syntax.{w64}
 use Rattle.ghc_reader.specs.declared.source.SourceTerm.TheVariants as tree
 use Rattle.ghc_reader.specs.declared.token.Token.TheVariants as token
-use Rattle.std.proofs.lemmas.Result.{err_from_is_err_and, IfOk-weaker}
-use Rattle.ghc_reader.specs.Views.{view}
-use Rattle.ghc_reader.specs.Grammar.{Arguments, Term, arguments, term}
-use Rattle.ghc_reader.specs.Parts.{EndsTerm, EndsArguments, Fault}
 use Rattle.ghc_reader.proofs.Loops.{terms_one, terms_more}
 use Rattle.ghc_reader.proofs.TermFaults as faults
 use Rattle.ghc_reader.proofs.TermFounds as founds

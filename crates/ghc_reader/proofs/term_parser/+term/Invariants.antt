@@ -1,5 +1,4 @@
-use Rattle.std.proofs.Common.{◌+◌, ◌*◌, ◌<◌, length}
-use Rattle.ghc_reader.specs.Views.{views}
+use Rattle.ghc_reader.proofs.Words.{◌+◌, ◌*◌, ◌<◌, length, views}
 use Rattle.ghc_reader.proofs.Loops.{TermsSoFar}
 use Rattle.ghc_reader.proofs.term_parser.+term.Given as goal
 

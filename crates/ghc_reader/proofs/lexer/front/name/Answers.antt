@@ -1,5 +1,4 @@
-use Rattle.std.proofs.Common.{◌≡◌, ◌≢◌, codes, subst, sym, rules}
-use Rattle.ghc_reader.specs.Pieces.{Stands}
+use Rattle.ghc_reader.proofs.Words.{◌≡◌, ◌≢◌, codes, subst, sym, rules, Stands}
 use Rattle.ghc_reader.proofs.Forms.{name_stands, modulo_stands}
 use Rattle.ghc_reader.proofs.lexer.front.name.Goals as goal
 use Rattle.ghc_reader.proofs.lexer.front.name.Goals.{then-eq, else-eq}

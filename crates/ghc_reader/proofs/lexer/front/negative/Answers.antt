@@ -1,5 +1,4 @@
-use Rattle.std.proofs.Common.{◌≡◌, ◌++◌, drop, arith}
-use Rattle.std.proofs.lemmas.Grind.{common_steps}
+use Rattle.ghc_reader.proofs.Words.{◌≡◌, ◌++◌, drop, arith, common_steps}
 use Rattle.ghc_reader.proofs.Forms.{negative_stands}
 use Rattle.ghc_reader.proofs.lexer.front.negative.Goals as goal
 

@@ -1,6 +1,4 @@
-use Rattle.std.proofs.Common.{◌≡◌, ◌-◌, ◌≤◌, length, take, true}
-use Rattle.std.specs.List.{list_all}
-use Rattle.ghc_reader.specs.Bytes.{goes_on}
+use Rattle.ghc_reader.proofs.Words.{◌≡◌, ◌-◌, ◌≤◌, length, take, true, list_all, goes_on}
 use Rattle.ghc_reader.proofs.lexer.run.split_run.Given as goal
 
 abbrev pub invariant-loop-end : goal.invariant-loop-end

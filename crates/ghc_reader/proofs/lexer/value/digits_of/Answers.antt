@@ -1,5 +1,4 @@
-use Rattle.std.proofs.Common.{sym, ◌∙◌}
-use Rattle.std.proofs.lemmas.Bool.{false≢true}
+use Rattle.ghc_reader.proofs.Words.{sym, ◌∙◌, false≢true}
 use Rattle.ghc_reader.proofs.Values.{no_second_number, reserved_ends, test_from_empty}
 use Rattle.ghc_reader.proofs.lexer.value.digits_of.Goals as goal
 

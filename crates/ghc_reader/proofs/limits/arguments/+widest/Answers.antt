@@ -1,7 +1,4 @@
-use Rattle.std.proofs.Common.{sym, ap, ◌∙◌, vec_len}
-use Rattle.std.specs.Prelude.{max}
-use Rattle.ghc_reader.specs.Views.{view, views}
-use Rattle.ghc_reader.specs.Amounts.{widest, widest_of}
+use Rattle.ghc_reader.proofs.Words.{sym, ap, ◌∙◌, vec_len, max, view, views, widest, widest_of}
 use Rattle.ghc_reader.proofs.AmountLemmas.{max_is, widest_more, widest_list, widest_structure}
 use Rattle.ghc_reader.proofs.limits.arguments.+widest.Goals as goal
 

@@ -1,6 +1,4 @@
-use Rattle.std.proofs.Common.{◌≡◌, take}
-use Rattle.ghc_reader.specs.Views.{views}
-use Rattle.ghc_reader.specs.Amounts.{widest_of}
+use Rattle.ghc_reader.proofs.Words.{◌≡◌, take, views, widest_of}
 use Rattle.ghc_reader.proofs.limits.arguments.+widest.Given as goal
 
 abbrev pub invariant-widest_of-loop-term : goal.invariant-widest_of-loop-term

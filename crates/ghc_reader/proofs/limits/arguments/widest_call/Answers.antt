@@ -1,7 +1,4 @@
-use Rattle.std.proofs.Common.{sym, ap, ◌∙◌}
-use Rattle.std.specs.Prelude.{max}
-use Rattle.ghc_reader.specs.Views.{views}
-use Rattle.ghc_reader.specs.Amounts.{widest_of}
+use Rattle.ghc_reader.proofs.Words.{sym, ap, ◌∙◌, max, views, widest_of}
 use Rattle.ghc_reader.proofs.Misplaced.{count_views}
 use Rattle.ghc_reader.proofs.limits.arguments.widest_call.Goals as goal
 

@@ -1,6 +1,4 @@
-use Rattle.std.proofs.Common.{◌≡◌, map, take}
-use Rattle.ghc_reader.specs.Views.{clause_view}
-use Rattle.ghc_reader.specs.Amounts.{largest, widest_clause}
+use Rattle.ghc_reader.proofs.Words.{◌≡◌, map, take, clause_view, largest, widest_clause}
 use Rattle.ghc_reader.proofs.limits.arguments.widest_clauses.Given as goal
 
 abbrev pub invariant-loop-clause : goal.invariant-loop-clause

@@ -1,6 +1,4 @@
-use Rattle.std.proofs.Common.{◌≡◌, map, take}
-use Rattle.ghc_reader.specs.Views.{goal_view}
-use Rattle.ghc_reader.specs.Amounts.{largest, widest_goal}
+use Rattle.ghc_reader.proofs.Words.{◌≡◌, map, take, goal_view, largest, widest_goal}
 use Rattle.ghc_reader.proofs.limits.arguments.widest_goals.Given as goal
 
 abbrev pub invariant-loop-goal : goal.invariant-loop-goal

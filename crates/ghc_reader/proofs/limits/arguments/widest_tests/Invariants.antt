@@ -1,6 +1,4 @@
-use Rattle.std.proofs.Common.{◌≡◌, map, take}
-use Rattle.ghc_reader.specs.Views.{test_view}
-use Rattle.ghc_reader.specs.Amounts.{largest, widest_test}
+use Rattle.ghc_reader.proofs.Words.{◌≡◌, map, take, test_view, largest, widest_test}
 use Rattle.ghc_reader.proofs.limits.arguments.widest_tests.Given as goal
 
 abbrev pub invariant-loop-test : goal.invariant-loop-test

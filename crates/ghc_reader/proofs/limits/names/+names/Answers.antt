@@ -1,7 +1,4 @@
-use Rattle.std.proofs.Common.{arith, ap, ◌∙◌}
-use Rattle.std.proofs.lemmas.Grind.{common_steps}
-use Rattle.ghc_reader.specs.Views.{view}
-use Rattle.ghc_reader.specs.Amounts.{names}
+use Rattle.ghc_reader.proofs.Words.{arith, ap, ◌∙◌, common_steps, view, names}
 use Rattle.ghc_reader.proofs.AmountLemmas.{names_more, names_list}
 use Rattle.ghc_reader.proofs.limits.names.+names.Goals as goal
 

@@ -1,6 +1,4 @@
-use Rattle.std.proofs.Common.{◌≡◌, ◌++◌, take}
-use Rattle.ghc_reader.specs.Views.{views}
-use Rattle.ghc_reader.specs.Amounts.{names_of}
+use Rattle.ghc_reader.proofs.Words.{◌≡◌, ◌++◌, take, views, names_of}
 use Rattle.ghc_reader.proofs.limits.names.+names.Given as goal
 
 abbrev pub invariant-push_terms-loop-term : goal.invariant-push_terms-loop-term

@@ -1,7 +1,4 @@
-use Rattle.std.proofs.Common.{arith, ap, ◌∙◌}
-use Rattle.std.proofs.lemmas.Grind.{common_steps}
-use Rattle.ghc_reader.specs.Views.{value_view}
-use Rattle.ghc_reader.specs.Amounts.{names_in}
+use Rattle.ghc_reader.proofs.Words.{arith, ap, ◌∙◌, common_steps, value_view, names_in}
 use Rattle.ghc_reader.proofs.AmountLemmas.{names_of_products, names_of_sums, push_more}
 use Rattle.ghc_reader.proofs.limits.names.+operands.Goals as goal
 

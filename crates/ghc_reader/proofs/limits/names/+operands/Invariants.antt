@@ -1,7 +1,4 @@
-use Rattle.std.proofs.Common.{◌≡◌, ◌++◌, take}
-use Rattle.std.specs.List.{flat_map}
-use Rattle.ghc_reader.specs.Views.{factor_views, summand_views}
-use Rattle.ghc_reader.specs.Amounts.{names_in}
+use Rattle.ghc_reader.proofs.Words.{◌≡◌, ◌++◌, take, flat_map, factor_views, summand_views, names_in}
 use Rattle.ghc_reader.proofs.limits.names.+operands.Given as goal
 
 abbrev pub invariant-push_factors-loop-factor : goal.invariant-push_factors-loop-factor

@@ -1,5 +1,4 @@
-use Rattle.ghc_reader.specs.Views.{goal_view}
-use Rattle.ghc_reader.specs.Amounts.{names_of_goal}
+use Rattle.ghc_reader.proofs.Words.{goal_view, names_of_goal}
 use Rattle.ghc_reader.proofs.AmountLemmas.{push_more}
 use Rattle.ghc_reader.proofs.limits.names.push_goals.Goals as goal
 

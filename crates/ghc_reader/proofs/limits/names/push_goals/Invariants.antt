@@ -1,7 +1,4 @@
-use Rattle.std.proofs.Common.{◌≡◌, ◌++◌, map, take}
-use Rattle.std.specs.List.{flat_map}
-use Rattle.ghc_reader.specs.Views.{goal_view}
-use Rattle.ghc_reader.specs.Amounts.{names_of_goal}
+use Rattle.ghc_reader.proofs.Words.{◌≡◌, ◌++◌, map, take, flat_map, goal_view, names_of_goal}
 use Rattle.ghc_reader.proofs.limits.names.push_goals.Given as goal
 
 abbrev pub invariant-loop-goal : goal.invariant-loop-goal

@@ -1,5 +1,4 @@
-use Rattle.ghc_reader.specs.Views.{test_view}
-use Rattle.ghc_reader.specs.Amounts.{names_of_test}
+use Rattle.ghc_reader.proofs.Words.{test_view, names_of_test}
 use Rattle.ghc_reader.proofs.AmountLemmas.{push_more}
 use Rattle.ghc_reader.proofs.limits.names.push_tests.Goals as goal
 

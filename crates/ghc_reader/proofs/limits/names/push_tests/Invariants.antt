@@ -1,7 +1,4 @@
-use Rattle.std.proofs.Common.{◌≡◌, ◌++◌, map, take}
-use Rattle.std.specs.List.{flat_map}
-use Rattle.ghc_reader.specs.Views.{test_view}
-use Rattle.ghc_reader.specs.Amounts.{names_of_test}
+use Rattle.ghc_reader.proofs.Words.{◌≡◌, ◌++◌, map, take, flat_map, test_view, names_of_test}
 use Rattle.ghc_reader.proofs.limits.names.push_tests.Given as goal
 
 abbrev pub invariant-loop-test : goal.invariant-loop-test

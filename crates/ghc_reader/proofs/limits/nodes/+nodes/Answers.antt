@@ -1,7 +1,4 @@
-use Rattle.std.proofs.Common.{◌<◌, arith, ap, ◌∙◌}
-use Rattle.std.proofs.lemmas.Grind.{common_steps}
-use Rattle.ghc_reader.specs.Views.{view, views}
-use Rattle.ghc_reader.specs.Amounts.{nodes, nodes_of}
+use Rattle.ghc_reader.proofs.Words.{◌<◌, arith, ap, ◌∙◌, common_steps, view, views, nodes, nodes_of}
 use Rattle.ghc_reader.proofs.AmountLemmas.{nodes_more, nodes_within, nodes_list}
 use Rattle.ghc_reader.proofs.limits.nodes.+nodes.Goals as goal
 

@@ -1,6 +1,4 @@
-use Rattle.std.proofs.Common.{◌≡◌, ◌+◌, take}
-use Rattle.ghc_reader.specs.Views.{views}
-use Rattle.ghc_reader.specs.Amounts.{nodes_of}
+use Rattle.ghc_reader.proofs.Words.{◌≡◌, ◌+◌, take, views, nodes_of}
 use Rattle.ghc_reader.proofs.limits.nodes.+nodes.Given as goal
 
 abbrev pub invariant-without_all-loop-term : goal.invariant-without_all-loop-term

@@ -1,7 +1,4 @@
-use Rattle.std.proofs.Common.{◌≡◌, ℕ, ◌≤◌, List, false, take}
-use Rattle.std.specs.Prelude.{bytes_eq}
-use Rattle.std.specs.List.{list_any}
-use Rattle.ghc_reader.specs.Amounts.{is_unnamed, variables}
+use Rattle.ghc_reader.proofs.Words.{◌≡◌, ℕ, ◌≤◌, List, false, take, bytes_eq, list_any, is_unnamed, variables}
 use Rattle.ghc_reader.proofs.limits.variables.count.Given as goal
 
 abbrev pub invariant-loop-name : goal.invariant-loop-name

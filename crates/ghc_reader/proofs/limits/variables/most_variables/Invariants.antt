@@ -1,6 +1,4 @@
-use Rattle.std.proofs.Common.{◌≡◌, map, take}
-use Rattle.ghc_reader.specs.Views.{clause_view}
-use Rattle.ghc_reader.specs.Amounts.{largest, names_of_clause, variables}
+use Rattle.ghc_reader.proofs.Words.{◌≡◌, map, take, clause_view, largest, names_of_clause, variables}
 use Rattle.ghc_reader.proofs.limits.variables.most_variables.Given as goal
 
 abbrev pub invariant-loop-clause : goal.invariant-loop-clause

@@ -1,7 +1,4 @@
-use Rattle.std.proofs.Common.{rules}
-use Rattle.ghc_reader.specs.Views.{goal_views}
-use Rattle.ghc_reader.specs.Lowered.{Each}
-use Rattle.ghc_reader.specs.WrittenAsk.{IsNaming}
+use Rattle.ghc_reader.proofs.Words.{rules, goal_views, Each, IsNaming}
 use Rattle.ghc_reader.proofs.AsksLowered.{ask_said}
 use Rattle.ghc_reader.proofs.WithinLimits.{ask_well_put}
 use Rattle.ghc_reader.proofs.lowering.asks.lower_ask.Goals as goal

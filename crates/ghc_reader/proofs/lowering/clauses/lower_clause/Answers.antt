@@ -1,6 +1,4 @@
-use Rattle.std.proofs.Common.{subst}
-use Rattle.ghc_reader.specs.Views.{clause_view, views, test_views, goal_views}
-use Rattle.ghc_reader.specs.Lowered.{SaysAll, SaysGuard, SaysGoal, Each, doing}
+use Rattle.ghc_reader.proofs.Words.{subst, clause_view, views, test_views, goal_views, SaysAll, SaysGuard, SaysGoal, Each, doing}
 use Rattle.ghc_reader.proofs.ClausesLowered.{clause_said}
 use Rattle.ghc_reader.proofs.lowering.clauses.lower_clause.Goals as goal
 

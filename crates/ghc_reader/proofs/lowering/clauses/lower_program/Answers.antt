@@ -1,6 +1,4 @@
-use Rattle.std.proofs.Common.{◌≡◌, subst, take, take_all}
-use Rattle.ghc_reader.specs.Views.{clause_view, clause_views}
-use Rattle.ghc_reader.specs.Lowered.{Each, SaysClause}
+use Rattle.ghc_reader.proofs.Words.{◌≡◌, subst, take, take_all, clause_view, clause_views, Each, SaysClause}
 use Rattle.ghc_reader.proofs.ClausesLowered.{each_more}
 use Rattle.ghc_reader.proofs.WithinLimits.{program_well_written}
 use Rattle.ghc_reader.proofs.lowering.clauses.lower_program.Goals as goal

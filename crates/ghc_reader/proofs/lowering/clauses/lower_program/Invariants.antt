@@ -1,6 +1,4 @@
-use Rattle.std.proofs.Common.{take}
-use Rattle.ghc_reader.specs.Views.{clause_views}
-use Rattle.ghc_reader.specs.Lowered.{Each, SaysClause}
+use Rattle.ghc_reader.proofs.Words.{take, clause_views, Each, SaysClause}
 use Rattle.ghc_reader.proofs.lowering.clauses.lower_program.Given as goal
 
 abbrev pub invariant-loop-clause : goal.invariant-loop-clause

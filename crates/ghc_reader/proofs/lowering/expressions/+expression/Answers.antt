@@ -1,5 +1,4 @@
-use Rattle.std.proofs.lemmas.Result.{IfOk-weaker}
-use Rattle.ghc_reader.specs.Views.{value_view}
+use Rattle.ghc_reader.proofs.Words.{IfOk-weaker, value_view}
 use Rattle.ghc_reader.proofs.ExpressionsLowered.{product_more, sum_more, operation_meets, products_say, sums_say}
 use Rattle.ghc_reader.proofs.lowering.expressions.+expression.Goals as goal
 

@@ -1,9 +1,4 @@
-use Rattle.std.proofs.Common.{take}
-use Rattle.ghc_term.specs.Variables.{variables_of_expression}
-use Rattle.ghc_reader.specs.Source.{Value, products, sums}
-use Rattle.ghc_reader.specs.Views.{factor_views, summand_views}
-use Rattle.ghc_reader.specs.Lowered.{Names, SaysValue}
-use Rattle.ghc_reader.specs.Scope.{MeetsAll}
+use Rattle.ghc_reader.proofs.Words.{take, variables_of_expression, Value, products, sums, factor_views, summand_views, Names, SaysValue, MeetsAll}
 use Rattle.ghc_reader.proofs.lowering.expressions.+expression.Given as goal
 
 abbrev pub invariant-lower_products-loop-operator : goal.invariant-lower_products-loop-operator

@@ -1,6 +1,4 @@
-use Rattle.std.proofs.Common.{sym, ap, ◌∙◌}
-use Rattle.ghc_reader.specs.Views.{view}
-use Rattle.ghc_reader.specs.Lowered.{variable_of}
+use Rattle.ghc_reader.proofs.Words.{sym, ap, ◌∙◌, view, variable_of}
 use Rattle.ghc_reader.proofs.GoalsLowered.{list_has_no_variable}
 use Rattle.ghc_reader.proofs.lowering.goals.+variable_of.Goals as goal
 

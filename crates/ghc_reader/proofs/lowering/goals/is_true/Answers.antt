@@ -1,8 +1,4 @@
-use Rattle.std.proofs.Common.{sym, ap, ◌∙◌}
-use Rattle.std.specs.Prelude.{◌&&◌, nat_eq, bytes_eq, codes}
-use Rattle.ghc_reader.specs.Reserved.{count}
-use Rattle.ghc_reader.specs.Views.{views, goal_view}
-use Rattle.ghc_reader.specs.Lowered.{is_true}
+use Rattle.ghc_reader.proofs.Words.{sym, ap, ◌∙◌, ◌&&◌, nat_eq, bytes_eq, codes, count, views, goal_view, is_true}
 use Rattle.ghc_reader.proofs.Misplaced.{count_views}
 use Rattle.ghc_reader.proofs.lowering.goals.is_true.Goals as goal
 

@@ -1,5 +1,4 @@
-use Rattle.std.proofs.Common.{sym, ap, ◌∙◌}
-use Rattle.ghc_reader.specs.Lowered.{SaysAsked}
+use Rattle.ghc_reader.proofs.Words.{sym, ap, ◌∙◌, SaysAsked}
 use Rattle.ghc_reader.proofs.GoalsLowered.{asked_still, goals_skip, goals_step}
 use Rattle.ghc_reader.proofs.Streams.{counted_more, counted_same}
 use Rattle.ghc_reader.proofs.WithinLimits.{streams_below}

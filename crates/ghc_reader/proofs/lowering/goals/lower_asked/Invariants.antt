@@ -1,9 +1,4 @@
-use Rattle.std.proofs.Common.{◌≡◌, take, length, filter}
-use Rattle.ghc_term.specs.Variables.{variables_of_goals}
-use Rattle.ghc_reader.specs.Views.{goal_views}
-use Rattle.ghc_reader.specs.Written.{is_stream}
-use Rattle.ghc_reader.specs.Lowered.{Each, SaysAsked, AreCounted, doing}
-use Rattle.ghc_reader.specs.Scope.{MeetsAll}
+use Rattle.ghc_reader.proofs.Words.{◌≡◌, take, length, filter, variables_of_goals, goal_views, is_stream, Each, SaysAsked, AreCounted, doing, MeetsAll}
 use Rattle.ghc_reader.proofs.lowering.goals.lower_asked.Given as goal
 
 abbrev pub invariant-loop-goal : goal.invariant-loop-goal

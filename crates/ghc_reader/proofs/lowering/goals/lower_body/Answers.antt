@@ -1,5 +1,4 @@
-use Rattle.std.proofs.Common.{sym, ap, ◌∙◌}
-use Rattle.ghc_reader.specs.Lowered.{SaysGoal}
+use Rattle.ghc_reader.proofs.Words.{sym, ap, ◌∙◌, SaysGoal}
 use Rattle.ghc_reader.proofs.GoalsLowered.{goal_still, goals_skip, goals_step}
 use Rattle.ghc_reader.proofs.lowering.goals.lower_body.Goals as goal
 use Rattle.ghc_reader.proofs.lowering.goals.lower_body.Goals.{then-not-is_true+in_ok-lower_goal+in_ok-push, else-not-is_true}

@@ -1,8 +1,4 @@
-use Rattle.std.proofs.Common.{take}
-use Rattle.ghc_term.specs.Variables.{variables_of_goals}
-use Rattle.ghc_reader.specs.Views.{goal_views}
-use Rattle.ghc_reader.specs.Lowered.{Each, SaysGoal, doing}
-use Rattle.ghc_reader.specs.Scope.{MeetsAll}
+use Rattle.ghc_reader.proofs.Words.{take, variables_of_goals, goal_views, Each, SaysGoal, doing, MeetsAll}
 use Rattle.ghc_reader.proofs.lowering.goals.lower_body.Given as goal
 
 abbrev pub invariant-loop-goal : goal.invariant-loop-goal

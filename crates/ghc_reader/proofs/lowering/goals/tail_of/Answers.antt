@@ -1,5 +1,4 @@
-use Rattle.std.proofs.Common.{sym, ap, ◌∙◌, inl, inr}
-use Rattle.std.specs.Prelude.{bytes_eq, codes}
+use Rattle.ghc_reader.proofs.Words.{sym, ap, ◌∙◌, inl, inr, bytes_eq, codes}
 use Rattle.ghc_reader.proofs.GoalsLowered.{another_has_no_tail, is_not, another_length}
 use Rattle.ghc_reader.proofs.lowering.goals.tail_of.Goals as goal
 use Rattle.ghc_reader.proofs.lowering.goals.tail_of.Goals.{then-ne-via-then-ne, then-ne-via-else-ne+then-len-ne1}

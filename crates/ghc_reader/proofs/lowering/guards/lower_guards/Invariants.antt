@@ -1,8 +1,4 @@
-use Rattle.std.proofs.Common.{take}
-use Rattle.ghc_reader.specs.Views.{test_views}
-use Rattle.ghc_reader.specs.Written.{variables_of_guards}
-use Rattle.ghc_reader.specs.Lowered.{Each, SaysGuard}
-use Rattle.ghc_reader.specs.Scope.{MeetsAll}
+use Rattle.ghc_reader.proofs.Words.{take, test_views, variables_of_guards, Each, SaysGuard, MeetsAll}
 use Rattle.ghc_reader.proofs.lowering.guards.lower_guards.Given as goal
 
 abbrev pub invariant-loop-test : goal.invariant-loop-test

@@ -1,5 +1,4 @@
-use Rattle.std.proofs.lemmas.Result.{IfOk-weaker}
-use Rattle.ghc_reader.specs.Views.{view}
+use Rattle.ghc_reader.proofs.Words.{IfOk-weaker, view}
 use Rattle.ghc_reader.proofs.ClausesLowered.{closed_says}
 use Rattle.ghc_reader.proofs.lowering.queries.lower_closed.Goals as goal
 

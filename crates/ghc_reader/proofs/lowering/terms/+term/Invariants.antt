@@ -1,8 +1,4 @@
-use Rattle.std.proofs.Common.{take}
-use Rattle.ghc_term.specs.Variables.{variables_of_list}
-use Rattle.ghc_reader.specs.Views.{views}
-use Rattle.ghc_reader.specs.Lowered.{SaysAll}
-use Rattle.ghc_reader.specs.Scope.{MeetsAll}
+use Rattle.ghc_reader.proofs.Words.{take, variables_of_list, views, SaysAll, MeetsAll}
 use Rattle.ghc_reader.proofs.lowering.terms.+term.Given as goal
 
 abbrev pub invariant-lower_terms-loop-term : goal.invariant-lower_terms-loop-term

@@ -1,5 +1,4 @@
-use Rattle.std.proofs.Common.{subst}
-use Rattle.ghc_reader.specs.Written.{AreWellWritten}
+use Rattle.ghc_reader.proofs.Words.{subst, AreWellWritten}
 use Rattle.ghc_reader.proofs.written.Source.into_clauses.Goals as goal
 
 pub returns-clause-well_written : goal.returns-clause-well_written

@@ -1,7 +1,4 @@
-use Rattle.std.proofs.Common.{◌≡◌, ◌≢◌, Some, None, ◌∙◌, bytes_eq, subst, rules}
-use Rattle.indexmap.specs.IndexMap.{get}
-use Rattle.ghc_reader.specs.Lexed.{greatest_number}
-use Rattle.ghc_reader.specs.WrittenAsk.{IsNaming}
+use Rattle.ghc_reader.proofs.Words.{◌≡◌, ◌≢◌, Some, None, ◌∙◌, bytes_eq, subst, rules, get, greatest_number, IsNaming}
 use Rattle.ghc_reader.proofs.AsksLowered.{named_by_no_step, named_by_numbers, named_in_query, named_by_none}
 use Rattle.ghc_reader.proofs.lowering.asks.Known.naming.Goals as goal
 

@@ -1,6 +1,4 @@
-use Rattle.std.proofs.Common.{take}
-use Rattle.ghc_reader.specs.Lowered.{Each}
-use Rattle.ghc_reader.specs.WrittenAsk.{IsNaming}
+use Rattle.ghc_reader.proofs.Words.{take, Each, IsNaming}
 use Rattle.ghc_reader.proofs.lowering.asks.Known.namings.Given as goal
 
 abbrev pub invariant-loop-name : goal.invariant-loop-name

@@ -1,7 +1,4 @@
-use Rattle.std.proofs.Common.{◌≡◌, ◌≢◌, ◌+◌, sym, subst, take, bytes_eq, rules}
-use Rattle.indexmap.specs.IndexMap.{get}
-use Rattle.ghc_reader.specs.Lowered.{blank}
-use Rattle.ghc_reader.specs.Scope.{IsTable}
+use Rattle.ghc_reader.proofs.Words.{◌≡◌, ◌≢◌, ◌+◌, sym, subst, take, bytes_eq, rules, get, blank, IsTable}
 use Rattle.ghc_reader.proofs.AsksLowered.{table_passed, table_put}
 use Rattle.ghc_reader.proofs.lowering.asks.Known.new.Goals as goal
 use Rattle.ghc_reader.proofs.lowering.asks.Known.new.Goals.{then-ne+in_ok-share+in_ok-insert, else-ne}

@@ -1,6 +1,4 @@
-use Rattle.std.proofs.Common.{◌≡◌, take, bytes_eq}
-use Rattle.indexmap.specs.IndexMap.{get}
-use Rattle.ghc_reader.specs.Scope.{IsTable}
+use Rattle.ghc_reader.proofs.Words.{◌≡◌, take, bytes_eq, get, IsTable}
 use Rattle.ghc_reader.proofs.lowering.asks.Known.new.Given as goal
 
 abbrev pub invariant-loop-name : goal.invariant-loop-name

@@ -1,6 +1,5 @@
-use Rattle.std.proofs.Common.{◌≡◌, ap, sym, ◌∙◌, List, [], ◌∷◌, ◌++◌, refl}
-use Rattle.ghc_term.specs.Tree.{Tree, cons}
-use Rattle.ghc_reader.specs.Scope.{conses}
+use Rattle.ghc_reader.proofs.Words.{◌≡◌, ap, sym, ◌∙◌, List, [], ◌∷◌, ◌++◌, refl, cons, conses}
+use Rattle.ghc_term.specs.Tree.{Tree}
 use Rattle.ghc_reader.proofs.lowering.lists.Lists.cells.Goals as goal
 
 conses_push : (ts : List Tree) (t end : Tree) → conses (ts ++ t ∷ []) end ≡ conses ts (cons t end)

@@ -1,5 +1,4 @@
-use Rattle.std.proofs.Common.{◌≡◌, length}
-use Rattle.ghc_reader.specs.Scope.{conses}
+use Rattle.ghc_reader.proofs.Words.{◌≡◌, length, conses}
 use Rattle.ghc_reader.proofs.lowering.lists.Lists.cells.Given as goal
 
 abbrev pub invariant-loop-element : goal.invariant-loop-element
