@@ -1,24 +1,5 @@
 -- What is known of the clause that is made, and the faults of a written one.
-use Rattle.std.proofs.Common.{◌-◌, arith, ◌≡◌, ◌≢◌, ℕ, ◌+◌, ◌<◌, List, [], ◌∷◌, ◌++◌, length, filter, inl, inr, get_or, take, drop, refl, sym, ap, ◌∙◌, subst}
-use Rattle.std.specs.Prelude.{Result, Err, IfErr}
-use Rattle.ghc_term.specs.declared.var_name.VarName.{VarName}
-use Rattle.ghc_term.specs.declared.fault.Fault.{Fault}
-use Rattle.ghc_term.specs.Lists.{In}
-use Rattle.ghc_term.specs.Tree.{Tree}
-use Rattle.ghc_term.specs.Goal.{Goal, call}
-use Rattle.std.specs.Borrow.{Bor}
-use Rattle.ghc_term.specs.declared.goal_view.GoalView.{GoalView}
-use Rattle.ghc_term.specs.declared.goal_view.GoalView.TheVariants.{Call, Unify, Assign, Stream}
-use Rattle.ghc_term.specs.GoalShown.{shown}
-use Rattle.ghc_reader.specs.declared.written.Guard.{Guard}
-use Rattle.ghc_reader.specs.Written.{WrittenClause, IsWellWritten, IsWithinLimits, AreNumbered, variables_of_written, is_stream}
-use Rattle.ghc_flat.specs.declared.test.Test.{Test}
-use Rattle.ghc_flat.specs.Clause.{Clause, Program}
-use Rattle.ghc_flat.specs.Flat.{IsWellMade, IsFlat, IsLinear, AreDistinct}
-use Rattle.ghc_flat.specs.Variables.{firsts, fresh_variables, variables_of_list, variables_of_test, variables_of_goals, variables_of_clause}
-use Rattle.ghc_flat.specs.Checked.{IsMadeOf, AreMadeOf, MakeTests, IsFlatWritten, IsLinearWritten, IsNotFlat, IsFaultless, AreFaultless, AllCalls, IsFirstCallWithout, IsClauseFault, IsFirstFault}
-use Rattle.ghc_flat.specs.Counting.{Rises, IsAmong, AreAmong, MakesAmong}
-use Rattle.ghc_term.proofs.ListsLemmas.{splits_at, next_in, in_either}
+use Rattle.ghc_flat.proofs.Words.{◌-◌, arith, ◌≡◌, ◌≢◌, ℕ, ◌+◌, ◌<◌, List, [], ◌∷◌, ◌++◌, length, filter, inl, inr, get_or, take, drop, refl, sym, ap, ◌∙◌, subst, Result, Err, IfErr, VarName, Fault, In, Tree, Goal, call, Bor, GoalView, Call, Unify, Assign, Stream, shown, Guard, WrittenClause, IsWellWritten, IsWithinLimits, AreNumbered, variables_of_written, is_stream, Test, Clause, Program, IsWellMade, IsFlat, IsLinear, AreDistinct, firsts, fresh_variables, variables_of_list, variables_of_test, variables_of_goals, variables_of_clause, IsMadeOf, AreMadeOf, MakeTests, IsFlatWritten, IsLinearWritten, IsNotFlat, IsFaultless, AreFaultless, AllCalls, IsFirstCallWithout, IsClauseFault, IsFirstFault, Rises, IsAmong, AreAmong, MakesAmong, splits_at, next_in, in_either}
 use Rattle.ghc_flat.proofs.FreshVariables.{fresh_left}
 use Rattle.ghc_flat.proofs.Rising.{rises_distinct, in_of_among}
 use Rattle.ghc_flat.proofs.Tests.{made_by, all_variables_made, not_flat_guard}

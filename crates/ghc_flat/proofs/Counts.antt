@@ -1,12 +1,5 @@
 -- Counting along terms and lists of terms.
-use Rattle.std.proofs.Common.{◌≡◌, ◌≢◌, ℕ, ◌+◌, ◌<◌, List, [], ◌∷◌, ◌++◌, length, length-append, append_assoc, append-nil, take, drop, get_or, refl, sym, ap, ◌∙◌, subst, arith}
-use Rattle.std.specs.Prelude.{Result, Ok, Err}
-use Rattle.std.proofs.lemmas.List.{take_more, take-append-drop}
-use Rattle.ghc_term.specs.declared.var_name.VarName.{VarName}
-use Rattle.ghc_term.specs.Tree.{Tree, node, trees}
-use Rattle.ghc_flat.specs.Variables.{variables, variables_of_all, variables_of_list}
-use Rattle.ghc_flat.specs.Samples.{asked}
-use Rattle.ghc_flat.specs.Counting.{Rises, CountsTo}
+use Rattle.ghc_flat.proofs.Words.{◌≡◌, ◌≢◌, ℕ, ◌+◌, ◌<◌, List, [], ◌∷◌, ◌++◌, length, length-append, append_assoc, append-nil, take, drop, get_or, refl, sym, ap, ◌∙◌, subst, arith, Result, Ok, Err, take_more, take-append-drop, VarName, Tree, node, trees, variables, variables_of_all, variables_of_list, asked, Rises, CountsTo}
 use Rattle.ghc_flat.proofs.Rising.{rises_append}
 
 pub counts_none : (k : ℕ) → CountsTo [] k (Ok k)

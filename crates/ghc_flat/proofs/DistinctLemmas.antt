@@ -1,8 +1,5 @@
 -- Lists in which no element stands twice, and their parts.
-use Rattle.std.proofs.Common.{List, [], ◌∷◌, ◌++◌, refl, subst, inl, inr}
-use Rattle.ghc_term.specs.Lists.{In}
-use Rattle.ghc_term.proofs.ListsLemmas.{in_left, in_right}
-use Rattle.ghc_flat.specs.Flat.{AreDistinct}
+use Rattle.ghc_flat.proofs.Words.{List, [], ◌∷◌, ◌++◌, refl, subst, inl, inr, In, in_left, in_right, AreDistinct}
 
 module _ {X : Type 0} where
   pub distinct_left : (xs ys : List X) → AreDistinct (xs ++ ys) → AreDistinct xs

@@ -1,23 +1,5 @@
 -- A written program and a query are accepted as one program alone, or have one fault alone.
-use Rattle.std.proofs.Common.{◌≡◌, ℕ, ◌+◌, List, [], ◌∷◌, ◌++◌, length, inl, inr, refl, sym, ap, ◌∙◌, subst, arith}
-use Rattle.std.specs.Prelude.{Some, None, slice_get}
-use Rattle.ghc_term.specs.declared.var_name.VarName.{VarName}
-use Rattle.ghc_term.specs.declared.fault.Fault.{Fault}
-use Rattle.ghc_term.specs.declared.fault.Fault.TheVariants.{Repeated, Undefined}
-use Rattle.ghc_term.specs.Lists.{In}
-use Rattle.ghc_term.specs.Goal.{Goal, call, stream}
-use Rattle.ghc_reader.specs.declared.written.Guard.{Guard}
-use Rattle.ghc_flat.specs.declared.test.Test.{Test}
-use Rattle.ghc_reader.specs.Written.{WrittenClause, WrittenQuery, IsWellAsked, AreWellWritten, IsWellWritten, IsWithinLimits, AreNumbered}
-use Rattle.ghc_flat.specs.declared.index.Index.{Index}
-use Rattle.ghc_flat.specs.Clause.{Clause, Program, Query}
-use Rattle.ghc_flat.specs.Flat.{IsWellMade, AreDistinct, AreDefined, IsProgram, IsQuery}
-use Rattle.ghc_flat.specs.Variables.{variables_of_list, variables_of_test, variables_of_goals, firsts}
-use Rattle.ghc_flat.specs.Checked.{IsMadeOf, AreMadeOf, IsAcceptedAs, IsFirstTwice, IsNamed, IsRepeated, HasClause, AllCalls, IsFirstCallWithout, IsFaultless, AreFaultless, IsClauseFault, IsFirstFault, IsFault, IsFlatGuard, MakeTests, CheckIsExact, QueryFaultsAreTold}
-use Rattle.ghc_flat.specs.Numbers.{keys_of_written}
-use Rattle.ghc_flat.specs.Index.{Knows, IsIndexOf, AreSound}
-use Rattle.ghc_term.proofs.Exact.{exact}
-use Rattle.ghc_term.proofs.ListsLemmas.{in_at, at_of_in, in_middle, in_either, compare_splits}
+use Rattle.ghc_flat.proofs.Words.{◌≡◌, ℕ, ◌+◌, List, [], ◌∷◌, ◌++◌, length, inl, inr, refl, sym, ap, ◌∙◌, subst, arith, Some, None, slice_get, VarName, Fault, Repeated, Undefined, In, Goal, call, stream, Guard, Test, WrittenClause, WrittenQuery, IsWellAsked, AreWellWritten, IsWellWritten, IsWithinLimits, AreNumbered, Index, Clause, Program, Query, IsWellMade, AreDistinct, AreDefined, IsProgram, IsQuery, variables_of_list, variables_of_test, variables_of_goals, firsts, IsMadeOf, AreMadeOf, IsAcceptedAs, IsFirstTwice, IsNamed, IsRepeated, HasClause, AllCalls, IsFirstCallWithout, IsFaultless, AreFaultless, IsClauseFault, IsFirstFault, IsFault, IsFlatGuard, MakeTests, CheckIsExact, QueryFaultsAreTold, keys_of_written, Knows, IsIndexOf, AreSound, exact, in_at, at_of_in, in_middle, in_either, compare_splits}
 use Rattle.ghc_flat.proofs.DistinctLemmas.{distinct_split}
 use Rattle.ghc_flat.proofs.Tests.{make_once, all_variables_made}
 use Rattle.ghc_flat.proofs.Numbers.{known, has_clause}

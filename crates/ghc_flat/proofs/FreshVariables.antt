@@ -1,22 +1,6 @@
 -- The fresh variables of a clause have the numbers behind those of its head.
-use Rattle.std.proofs.Common.{◌-◌, length-append, ◌≡◌, ℕ, suc, ◌+◌, Bool, ◌||◌, cond, List, [], ◌∷◌, ◌++◌, length, append_assoc, inl, inr, refl, sym, ap, ◌∙◌, arith}
-use Rattle.std.specs.Prelude.{Some, slice_get, reverse}
+use Rattle.ghc_flat.proofs.Words.{◌-◌, length-append, ◌≡◌, ℕ, suc, ◌+◌, Bool, ◌||◌, cond, List, [], ◌∷◌, ◌++◌, length, append_assoc, inl, inr, refl, sym, ap, ◌∙◌, arith, Some, slice_get, reverse, list_any, eq_by_cmp, IsPermutation-reverse, list_any-IsPermutation, VarName, name_cmp, In, in_any, AreNumbered, Test, Clause, IsFlat, asked, firsts, variables_of_list, variables_of_test, variables_of_tests, variables_of_goals, variables_of_clause, fresh_variables, Rises, in_either}
 use mathlib.Core.List.{reverse_aux}
-use Rattle.std.specs.List.{list_any}
-use Rattle.std.specs.Ordering.{eq_by_cmp}
-use Rattle.std.proofs.lemmas.List.Sorted.{IsPermutation-reverse, list_any-IsPermutation}
-use Rattle.ghc_term.specs.declared.var_name.VarName.{VarName}
-use Rattle.ghc_term.specs.Bindings.{name_cmp}
-use Rattle.ghc_term.specs.Lists.{In}
-use Rattle.ghc_term.proofs.SetsLemmas.{in_any}
-use Rattle.ghc_reader.specs.Written.{AreNumbered}
-use Rattle.ghc_flat.specs.declared.test.Test.{Test}
-use Rattle.ghc_flat.specs.Clause.{Clause}
-use Rattle.ghc_flat.specs.Flat.{IsFlat}
-use Rattle.ghc_flat.specs.Samples.{asked}
-use Rattle.ghc_flat.specs.Variables.{firsts, variables_of_list, variables_of_test, variables_of_tests, variables_of_goals, variables_of_clause, fresh_variables}
-use Rattle.ghc_flat.specs.Counting.{Rises}
-use Rattle.ghc_term.proofs.ListsLemmas.{in_either}
 use Rattle.ghc_flat.proofs.Rising.{ArePlacedUpTo, not_in_any, above_absent, placed_more}
 
 -- whether the variable is one of those seen

@@ -7,3 +7,4 @@ pub mod Repeated
 pub mod Clauses
 pub mod FreshVariables
 pub mod Faults
+mod Words

@@ -1,16 +1,5 @@
 -- The numbers of the clauses of a name and arity.
-use Rattle.std.proofs.Common.{◌≡◌, ◌≢◌, ℕ, zero, suc, ◌+◌, ◌<◌, ◌≤◌, true, false, cond, ◌&&◌, List, [], ◌∷◌, ◌++◌, length, slice_index, inl, inr, refl, sym, ap, ◌∙◌, subst, arith, nat_eq, bytes_eq}
-use Rattle.std.specs.Prelude.{Some, None, slice_get}
-use Rattle.std.specs.List.Sorted.{IsStrictlyIncreasing}
-use Rattle.std.proofs.lemmas.Slice.Eq.{bytes_eq-Decides}
-use Rattle.std.proofs.lemmas.Bool.Decides.{nat_tests}
-use Rattle.ghc_term.specs.Lists.{In}
-use Rattle.ghc_reader.specs.Written.{WrittenClause}
-use Rattle.ghc_flat.specs.Clause.{Clause, Program}
-use Rattle.ghc_flat.specs.Checked.{AreMadeOf, HasClause}
-use Rattle.ghc_flat.specs.declared.index.Index.{Index}
-use Rattle.ghc_flat.specs.Index.{IsIndexOf, numbers_at}
-use Rattle.ghc_flat.specs.Numbers.{AreNumbersFor, keys_of_program, keys_of_written, is_same_key, numbers_from}
+use Rattle.ghc_flat.proofs.Words.{◌≡◌, ◌≢◌, ℕ, zero, suc, ◌+◌, ◌<◌, ◌≤◌, true, false, cond, ◌&&◌, List, [], ◌∷◌, ◌++◌, length, slice_index, inl, inr, refl, sym, ap, ◌∙◌, subst, arith, nat_eq, bytes_eq, Some, None, slice_get, IsStrictlyIncreasing, bytes_eq-Decides, nat_tests, In, WrittenClause, Clause, Program, AreMadeOf, HasClause, Index, IsIndexOf, numbers_at, AreNumbersFor, keys_of_program, keys_of_written, is_same_key, numbers_from}
 
 -- what the test of a key says
 pub same_key : (f : List ℕ) (n : ℕ) (p : List ℕ × ℕ) → is_same_key f n p ≡ true → (p.0 ≡ f) × (p.1 ≡ n)

@@ -1,14 +1,6 @@
 -- The variable of a head whose second place comes first.
-use Rattle.std.proofs.Common.{◌≡◌, ℕ, ◌+◌, ◌<◌, List, [], ◌∷◌, ◌++◌, length, append_assoc, sym, ap, ◌∙◌, subst, arith}
-use Rattle.std.specs.Prelude.{Err, Some, slice_get}
-use Rattle.ghc_term.specs.declared.var_name.VarName.{VarName}
-use Rattle.ghc_term.specs.Lists.{In}
+use Rattle.ghc_flat.proofs.Words.{◌≡◌, ℕ, ◌+◌, ◌<◌, List, [], ◌∷◌, ◌++◌, length, append_assoc, sym, ap, ◌∙◌, subst, arith, Err, Some, slice_get, VarName, In, WrittenClause, IsWellWritten, AreNumbered, variables_of_guards, variables_of_written, asked, variables_of_list, IsFirstTwice, IsRepeated, CountsTo}
 use Rattle.ghc_term.specs.Variables.{firsts, variables_of_goals}
-use Rattle.ghc_reader.specs.Written.{WrittenClause, IsWellWritten, AreNumbered, variables_of_guards, variables_of_written}
-use Rattle.ghc_flat.specs.Samples.{asked}
-use Rattle.ghc_flat.specs.Variables.{variables_of_list}
-use Rattle.ghc_flat.specs.Checked.{IsFirstTwice, IsRepeated}
-use Rattle.ghc_flat.specs.Counting.{CountsTo}
 use Rattle.ghc_flat.proofs.Rising.{again, place_of_in, rises_distinct, firsts_long}
 
 -- the variables behind the front of a head

@@ -1,20 +1,6 @@
 -- Lists of variables that go up one by one, and the variables of texts that are numbered by first occurrence.
-use Rattle.std.proofs.Common.{◌≡◌, ◌≢◌, ℕ, zero, suc, ◌+◌, ◌-◌, ◌<◌, ◌≤◌, false, cond, List, [], ◌∷◌, ◌++◌, length, inl, inr, sym, ap, ◌∙◌, subst, arith}
-use Rattle.std.specs.Prelude.{Some, slice_get}
-use Rattle.std.specs.List.{list_any}
-use Rattle.std.specs.Ordering.{eq_by_cmp}
-use Rattle.std.proofs.lemmas.Bool.{false_from_ne_true}
-use Rattle.ghc_term.specs.declared.var_name.VarName.{VarName}
-use Rattle.ghc_term.specs.Code.{var_inj}
-use Rattle.ghc_term.specs.Bindings.{name_cmp}
-use Rattle.ghc_term.specs.Lists.{In}
+use Rattle.ghc_flat.proofs.Words.{◌≡◌, ◌≢◌, ℕ, zero, suc, ◌+◌, ◌-◌, ◌<◌, ◌≤◌, false, cond, List, [], ◌∷◌, ◌++◌, length, inl, inr, sym, ap, ◌∙◌, subst, arith, Some, slice_get, list_any, eq_by_cmp, false_from_ne_true, VarName, var_inj, name_cmp, In, any_in, in_decided, name_decided, AreNumbered, asked, AreDistinct, Rises, IsAmong}
 use Rattle.ghc_term.specs.Variables.{firsts}
-use Rattle.ghc_term.proofs.SetsLemmas.{any_in}
-use Rattle.ghc_term.proofs.Decided.{in_decided, name_decided}
-use Rattle.ghc_reader.specs.Written.{AreNumbered}
-use Rattle.ghc_flat.specs.Samples.{asked}
-use Rattle.ghc_flat.specs.Flat.{AreDistinct}
-use Rattle.ghc_flat.specs.Counting.{Rises, IsAmong}
 
 pub rises_append : (xs ys : List VarName) (k : ℕ) → Rises k xs → Rises (k + length xs) ys → Rises k (xs ++ ys)
 rises_append [] ys k r s = let same : k + 0 ≡ k = omega arith in subst (λ n. Rises n ys) same s

@@ -1,22 +1,6 @@
 -- The tests that guards make, and whose variables they test.
-use Rattle.std.proofs.Common.{◌≡◌, ℕ, Bool, List, [], ◌∷◌, ◌++◌, length, append_assoc, append-nil, inl, inr, refl, sym, ap, ◌∙◌, subst, arith}
-use Rattle.std.specs.Prelude.{IsTrue, ◌↔◌}
-use Rattle.ghc_term.specs.declared.var_name.VarName.{VarName}
-use Rattle.ghc_term.specs.declared.comparison.Comparison.{Comparison}
-use Rattle.ghc_term.specs.Tree.{variable, integer, node}
-use Rattle.ghc_term.specs.Expression.{Expression}
-use Rattle.ghc_term.specs.Goal.{call, unify, assign, stream}
-use Rattle.ghc_term.specs.Lists.{In}
-use Rattle.ghc_reader.specs.declared.written.Guard.{Guard}
-use Rattle.ghc_reader.specs.declared.written.Guard.TheVariants.{Item as item, Comparison as comparison}
-use Rattle.ghc_reader.specs.Written.{variables_of_guard, variables_of_guards}
-use Rattle.ghc_flat.specs.declared.test.Test.{Test}
-use Rattle.ghc_flat.specs.declared.test.Test.TheVariants.{Compare as compare}
-use Rattle.ghc_flat.specs.Flat.{IsPredefined, MakesTests}
-use Rattle.ghc_flat.specs.Checked.{MakeTests, IsFlatGuard}
-use Rattle.ghc_flat.specs.Variables.{variables_of_test, variables_of_tests, leaf_variables}
-use Rattle.ghc_flat.specs.Counting.{Rises, IsAmong, AreAmong, MakesAmong}
-use Rattle.ghc_term.proofs.ListsLemmas.{in_left, in_right, in_either}
+use Rattle.ghc_flat.proofs.Words.{◌≡◌, ℕ, Bool, List, [], ◌∷◌, ◌++◌, length, append_assoc, append-nil, inl, inr, refl, sym, ap, ◌∙◌, subst, arith, IsTrue, ◌↔◌, VarName, Comparison, variable, integer, node, Expression, call, unify, assign, stream, In, Guard, Item as item, variables_of_guard, variables_of_guards, Test, Compare as compare, IsPredefined, MakesTests, MakeTests, IsFlatGuard, variables_of_test, variables_of_tests, leaf_variables, Rises, IsAmong, AreAmong, MakesAmong, in_left, in_right, in_either}
+use Rattle.ghc_reader.specs.declared.written.Guard.TheVariants.{Comparison as comparison}
 use Rattle.ghc_flat.proofs.Rising.{among_of_in}
 
 -- a test of one variable

@@ -1,8 +1,5 @@
-use Rattle.std.proofs.Common.{◌≡◌, ◌∙◌, sym, subst, inl, inr, length, []}
-use Rattle.ghc_flat.specs.Index.{Knows, numbers_at}
+use Rattle.ghc_flat.proofs.Words.{◌≡◌, ◌∙◌, sym, subst, inl, inr, length, [], Knows, numbers_at, In, in_place, is_nothing, is_something}
 use Rattle.ghc_flat.proofs.Clauses.{calls_next, first_undefined, same_call, not_a_call}
-use Rattle.ghc_term.specs.Lists.{In}
-use Rattle.ghc_term.proofs.ListsLemmas.{in_place, is_nothing, is_something}
 use Rattle.ghc_flat.proofs.checker.check_calls.Goals as goal
 use Rattle.ghc_flat.proofs.checker.check_calls.Goals.{in-Call+else-is_empty, in_default}
 

@@ -1,6 +1,4 @@
-use Rattle.std.proofs.Common.{take}
-use Rattle.ghc_flat.specs.Checked.{AllCalls}
-use Rattle.ghc_flat.specs.Index.{Knows}
+use Rattle.ghc_flat.proofs.Words.{take, AllCalls, Knows}
 use Rattle.ghc_flat.proofs.checker.check_calls.Given as goal
 
 abbrev pub invariant-loop-goal : goal.invariant-loop-goal

@@ -1,15 +1,4 @@
-use Rattle.std.proofs.Common.{◌≡◌, ◌∙◌, List, ap, sym, subst, inl, inr, length}
-use Rattle.std.proofs.lemmas.Result.{err_from_is_err_and}
-use Rattle.ghc_term.specs.declared.fault.Fault.TheVariants.{Memory}
-use Rattle.ghc_term.specs.Lists.{In}
-use Rattle.ghc_reader.specs.declared.written.Guard.{Guard}
-use Rattle.ghc_reader.specs.Written.{WrittenClause, AreNarrow}
-use Rattle.ghc_flat.specs.declared.test.Test.{Test}
-use Rattle.ghc_flat.specs.Variables.{variables_of_list}
-use Rattle.std.proofs.Common.{◌⊎◌}
-use Rattle.ghc_flat.specs.Checked.{IsClauseFault, IsFirstCallWithout, MakeTests}
-use Rattle.ghc_flat.specs.Counting.{MakesAmong, Rises}
-use Rattle.ghc_flat.specs.Index.{Knows}
+use Rattle.ghc_flat.proofs.Words.{◌≡◌, ◌∙◌, List, ap, sym, subst, inl, inr, length, err_from_is_err_and, Memory, In, Guard, WrittenClause, AreNarrow, Test, variables_of_list, ◌⊎◌, IsClauseFault, IsFirstCallWithout, MakeTests, MakesAmong, Rises, Knows}
 use Rattle.ghc_flat.proofs.Clauses.{passed, linear_written, flat_written, not_flat_written, clause_of, fresh_of}
 use Rattle.ghc_flat.proofs.checker.check_clause.Goals as goal
 

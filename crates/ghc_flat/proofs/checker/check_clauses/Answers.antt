@@ -1,12 +1,4 @@
-use Rattle.std.proofs.Common.{◌≡◌, ◌∙◌, ◌+◌, ◌⊎◌, [], ◌∷◌, ◌++◌, sym, subst, inl, inr, length, length-append, arith}
-use Rattle.std.proofs.lemmas.Grind.{common_steps}
-use Rattle.std.proofs.lemmas.Result.{err_from_is_err_and}
-use Rattle.std.proofs.lemmas.Iterator.Adapters.{YieldsList-from_vec}
-use Rattle.std.proofs.lemmas.Iterator.Consumers.{YieldsList-turn, YieldsList-so_far}
-use Rattle.ghc_term.specs.declared.fault.Fault.TheVariants.{Memory}
-use Rattle.ghc_flat.specs.Checked.{AreMadeOf, IsFirstFault}
-use Rattle.ghc_flat.specs.Index.{Knows, AreSound}
-use Rattle.ghc_term.proofs.ListsLemmas.{in_place, map_same}
+use Rattle.ghc_flat.proofs.Words.{◌≡◌, ◌∙◌, ◌+◌, ◌⊎◌, [], ◌∷◌, ◌++◌, sym, subst, inl, inr, length, length-append, arith, common_steps, err_from_is_err_and, YieldsList-from_vec, YieldsList-turn, YieldsList-so_far, Memory, AreMadeOf, IsFirstFault, Knows, AreSound, in_place, map_same}
 use Rattle.ghc_flat.proofs.Clauses.{passed, fault_behind, made_more, sound_more}
 use Rattle.ghc_flat.proofs.checker.check_clauses.Goals as goal
 

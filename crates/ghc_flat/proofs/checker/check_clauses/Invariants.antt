@@ -1,6 +1,4 @@
-use Rattle.std.proofs.Common.{◌≡◌, length}
-use Rattle.ghc_flat.specs.Checked.{AreMadeOf}
-use Rattle.ghc_flat.specs.Index.{AreSound}
+use Rattle.ghc_flat.proofs.Words.{◌≡◌, length, AreMadeOf, AreSound}
 use Rattle.ghc_flat.proofs.checker.check_clauses.Given as goal
 
 abbrev pub invariant-loop-clause : goal.invariant-loop-clause

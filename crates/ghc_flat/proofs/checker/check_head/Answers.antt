@@ -1,10 +1,4 @@
-use Rattle.std.proofs.Common.{◌≡◌, ◌<◌, ◌-◌, ◌+◌, ◌∙◌, ap, sym, subst, inr, length, refl, arith}
-use Rattle.std.specs.Prelude.{Err, Some, slice_get}
-use Rattle.std.proofs.lemmas.Option.{slice_get-get_or}
-use Rattle.ghc_term.specs.declared.var_name.VarName.{VarName}
-use Rattle.ghc_reader.specs.Written.{WrittenClause}
-use Rattle.ghc_flat.specs.Variables.{variables_of_list}
-use Rattle.ghc_flat.specs.Counting.{CountsTo}
+use Rattle.ghc_flat.proofs.Words.{◌≡◌, ◌<◌, ◌-◌, ◌+◌, ◌∙◌, ap, sym, subst, inr, length, refl, arith, Err, Some, slice_get, slice_get-get_or, VarName, WrittenClause, variables_of_list, CountsTo}
 use Rattle.ghc_flat.proofs.Repeated.{named_place, repeated}
 use Rattle.ghc_flat.proofs.checker.check_head.Goals as goal
 

@@ -1,9 +1,4 @@
-use Rattle.std.proofs.Common.{sym, subst, inl, inr, refl}
-use Rattle.ghc_reader.specs.Written.{AreWellWritten, AreNarrow}
-use Rattle.ghc_flat.specs.Checked.{IsFirstFault, AreMadeOf, HasClause, AllCalls, IsFirstCallWithout}
-use Rattle.ghc_flat.specs.Refused.{IsRefusedAs, refused_of_query}
-use Rattle.ghc_flat.specs.Numbers.{keys_of_written}
-use Rattle.ghc_flat.specs.Index.{Knows, IsIndexOf}
+use Rattle.ghc_flat.proofs.Words.{sym, subst, inl, inr, refl, AreWellWritten, AreNarrow, IsFirstFault, AreMadeOf, HasClause, AllCalls, IsFirstCallWithout, IsRefusedAs, refused_of_query, keys_of_written, Knows, IsIndexOf}
 use Rattle.ghc_flat.proofs.Numbers.{made_keys}
 use Rattle.ghc_flat.proofs.Clauses.{all_faultless}
 use Rattle.ghc_flat.proofs.Faults.{known_has, has_known, first_fault_as, first_call_as, faultless_as, calls_as, program_of, query_of}

@@ -1,8 +1,4 @@
-use Rattle.std.proofs.Common.{false, refl, sym, ap, subst, arith}
-use Rattle.ghc_term.proofs.ListsLemmas.{not_both}
-use Rattle.ghc_term.specs.ExpressionView.{depth_of}
-use Rattle.ghc_flat.specs.Variables.{leaf_variables}
-use Rattle.ghc_flat.specs.Counting.{AreAmong}
+use Rattle.ghc_flat.proofs.Words.{false, refl, sym, ap, subst, arith, not_both, depth_of, leaf_variables, AreAmong}
 use Rattle.ghc_flat.proofs.Tests.{both_among, left_among, right_among}
 use Rattle.ghc_flat.proofs.counting.+are_among.Goals as goal
 

@@ -1,8 +1,4 @@
-use Rattle.std.proofs.Common.{◌≤◌}
-use Rattle.std.specs.Prelude.{◌↔◌}
-use Rattle.ghc_term.specs.ExpressionView.{depth_of}
-use Rattle.ghc_flat.specs.Variables.{leaf_variables}
-use Rattle.ghc_flat.specs.Counting.{AreAmong}
+use Rattle.ghc_flat.proofs.Words.{◌≤◌, ◌↔◌, depth_of, leaf_variables, AreAmong}
 use Rattle.ghc_flat.proofs.counting.+are_among.Given as goal
 
 -- the variables of the whole are among the first ones where those of the rest are

@@ -1,12 +1,4 @@
-use Rattle.std.proofs.Common.{◌≡◌, ◌<◌, ◌++◌, ◌∙◌, ap, sym, subst, arith, take}
-use Rattle.std.specs.Prelude.{Ok, Err}
-use Rattle.std.proofs.lemmas.Option.{MatchOption-at_some}
-use Rattle.std.proofs.lemmas.Result.{err_from_is_err_and}
-use Rattle.ghc_term.specs.Tree.{trees}
-use Rattle.ghc_term.specs.View.{height, height_of_all}
-use Rattle.ghc_term.proofs.Trees.{height_item, height_last, height_front}
-use Rattle.ghc_flat.specs.Variables.{variables, variables_of_list}
-use Rattle.ghc_flat.specs.Counting.{CountsTo}
+use Rattle.ghc_flat.proofs.Words.{◌≡◌, ◌<◌, ◌++◌, ◌∙◌, ap, sym, subst, arith, take, Ok, Err, MatchOption-at_some, err_from_is_err_and, trees, height, height_of_all, height_item, height_last, height_front, variables, variables_of_list, CountsTo}
 use Rattle.ghc_flat.proofs.Counts.{counts_none, counts_append, counts_stop, node_variables, list_next, list_rest}
 use Rattle.ghc_flat.proofs.counting.+count.Goals as goal
 

@@ -1,10 +1,4 @@
-use Rattle.std.proofs.Common.{ℕ, ◌+◌, ◌*◌, ◌≤◌, take}
-use Rattle.std.specs.Prelude.{Result, Ok}
-use Rattle.ghc_term.specs.declared.var_name.VarName.{VarName}
-use Rattle.ghc_term.specs.Tree.{trees}
-use Rattle.ghc_term.specs.View.{height, height_of_all}
-use Rattle.ghc_flat.specs.Variables.{variables, variables_of_list}
-use Rattle.ghc_flat.specs.Counting.{CountsTo}
+use Rattle.ghc_flat.proofs.Words.{ℕ, ◌+◌, ◌*◌, ◌≤◌, take, Result, Ok, VarName, trees, height, height_of_all, variables, variables_of_list, CountsTo}
 use Rattle.ghc_flat.proofs.counting.+count.Given as goal
 
 abbrev pub decreases-count_term : goal.decreases-count_term

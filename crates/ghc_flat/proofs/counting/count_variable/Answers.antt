@@ -1,5 +1,4 @@
-use Rattle.std.proofs.Common.{◌≡◌, ◌+◌, arith, ap}
-use Rattle.ghc_term.specs.declared.var_name.VarName.{VarName}
+use Rattle.ghc_flat.proofs.Words.{◌≡◌, ◌+◌, arith, ap, VarName}
 use Rattle.ghc_flat.proofs.Counts.{counts_other}
 use Rattle.ghc_flat.proofs.counting.count_variable.Goals as goal
 use Rattle.ghc_flat.proofs.counting.count_variable.Goals.{else-x-eq0-via-then-x-eq0+then-x-count+else-x-count-eq1, else-x-eq0-via-then-x-eq0+else-x-count, else-x-eq0-via-else-x-eq0}

@@ -1,8 +1,4 @@
-use Rattle.std.proofs.Common.{subst}
-use Rattle.std.specs.Prelude.{IsTrue, ◌↔◌}
-use Rattle.ghc_term.specs.Expression.{leaf}
-use Rattle.ghc_flat.specs.Variables.{leaf_variables}
-use Rattle.ghc_flat.specs.Counting.{AreAmong}
+use Rattle.ghc_flat.proofs.Words.{subst, IsTrue, ◌↔◌, leaf, leaf_variables, AreAmong}
 use Rattle.ghc_flat.proofs.Tests.{one_among}
 use Rattle.ghc_flat.proofs.counting.is_leaf_among.Goals as goal
 

@@ -1,9 +1,4 @@
-use Rattle.std.proofs.Common.{subst, [], ◌∷◌, List}
-use Rattle.std.specs.Prelude.{MatchResult, option_to_list}
-use Rattle.ghc_term.specs.Goal.{call}
-use Rattle.ghc_reader.specs.declared.written.Guard.TheVariants.{Item as item}
-use Rattle.ghc_flat.specs.declared.test.Test.{Test}
-use Rattle.ghc_flat.specs.Counting.{MakesAmong}
+use Rattle.ghc_flat.proofs.Words.{subst, [], ◌∷◌, List, MatchResult, option_to_list, call, Item as item, Test, MakesAmong}
 use Rattle.ghc_flat.proofs.guards.test_of_argument.Goals as goal
 
 pub returns-in-Var : goal.returns-in-Var

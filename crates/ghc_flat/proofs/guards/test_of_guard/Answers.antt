@@ -1,8 +1,4 @@
-use Rattle.std.proofs.Common.{sym, subst, [], ◌∷◌}
-use Rattle.ghc_term.proofs.ListsLemmas.{not_both}
-use Rattle.ghc_flat.specs.declared.test.Test.TheVariants.{Compare as compare}
-use Rattle.ghc_flat.specs.Variables.{leaf_variables}
-use Rattle.ghc_flat.specs.Counting.{MakesAmong}
+use Rattle.ghc_flat.proofs.Words.{sym, subst, [], ◌∷◌, not_both, Compare as compare, leaf_variables, MakesAmong}
 use Rattle.ghc_flat.proofs.Tests.{makes_comparison, compares_among, left_among, right_among}
 use Rattle.ghc_flat.proofs.guards.test_of_guard.Goals as goal
 use Rattle.ghc_flat.proofs.guards.test_of_guard.Goals.{else-are_among-via-then-are_among+else-are_among-2, else-are_among-via-else-are_among}

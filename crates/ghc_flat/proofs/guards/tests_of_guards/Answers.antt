@@ -1,13 +1,4 @@
-use Rattle.std.proofs.Common.{◌∙◌, [], ◌∷◌, ◌++◌, sym, subst, append-nil, length, refl, inr}
-use Rattle.std.proofs.lemmas.Iterator.Adapters.{YieldsList-from_vec}
-use Rattle.std.proofs.lemmas.Iterator.Consumers.{YieldsList-turn}
-use Rattle.std.specs.Prelude.{option_to_list}
-use Rattle.ghc_term.specs.Lists.{In}
-use Rattle.ghc_flat.specs.declared.test.Test.{Test}
-use Rattle.ghc_flat.specs.Variables.{variables_of_test}
-use Rattle.ghc_flat.specs.Checked.{MakeTests}
-use Rattle.ghc_flat.specs.Counting.{AreAmong, MakesAmong}
-use Rattle.ghc_term.proofs.ListsLemmas.{in_place}
+use Rattle.ghc_flat.proofs.Words.{◌∙◌, [], ◌∷◌, ◌++◌, sym, subst, append-nil, length, refl, inr, YieldsList-from_vec, YieldsList-turn, option_to_list, In, Test, variables_of_test, MakeTests, AreAmong, MakesAmong, in_place}
 use Rattle.ghc_flat.proofs.Tests.{tests_more}
 use Rattle.ghc_flat.proofs.guards.tests_of_guards.Goals as goal
 

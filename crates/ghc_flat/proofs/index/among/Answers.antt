@@ -1,6 +1,4 @@
-use Rattle.std.proofs.Common.{cond, sym, ap, ◌∙◌}
-use Rattle.std.specs.Prelude.{Some, bytes_eq}
-use Rattle.std.specs.Map.{lookup}
+use Rattle.ghc_flat.proofs.Words.{cond, sym, ap, ◌∙◌, Some, bytes_eq, lookup}
 use Rattle.ghc_flat.proofs.index.among.Goals as goal
 
 pub loop-other-init : goal.loop-other-init

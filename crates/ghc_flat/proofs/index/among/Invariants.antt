@@ -1,6 +1,4 @@
-use Rattle.std.proofs.Common.{◌≡◌}
-use Rattle.std.specs.Prelude.{bytes_eq}
-use Rattle.std.specs.Map.{lookup}
+use Rattle.ghc_flat.proofs.Words.{◌≡◌, bytes_eq, lookup}
 use Rattle.ghc_flat.proofs.index.among.Given as goal
 
 abbrev pub invariant-loop-other : goal.invariant-loop-other

@@ -1,9 +1,4 @@
-use Rattle.std.proofs.Common.{◌∙◌, ◌+◌, sym, ap, subst, length}
-use Rattle.ghc_flat.specs.Clause.{Clause}
-use Rattle.ghc_flat.specs.Samples.{asked}
-use Rattle.ghc_flat.specs.Variables.{variables_of_list}
-use Rattle.ghc_flat.specs.Counting.{Rises}
-use Rattle.ghc_flat.specs.Flat.{IsWellMade}
+use Rattle.ghc_flat.proofs.Words.{◌∙◌, ◌+◌, sym, ap, subst, length, Clause, asked, variables_of_list, Rises, IsWellMade}
 use Rattle.ghc_flat.proofs.FreshVariables.{fresh_numbered}
 use Rattle.ghc_flat.proofs.clause.Clause.head_variables.Goals as goal
 

@@ -1,9 +1,4 @@
-use Rattle.std.proofs.Common.{◌≡◌, ◌∙◌, cond, [], ◌∷◌, ◌++◌, ◌+◌, length, take, ap, sym, subst, arith}
-use Rattle.std.proofs.lemmas.List.{take_more, length-take}
-use Rattle.std.proofs.lemmas.Grind.{common_steps}
-use Rattle.ghc_reader.specs.Written.{WrittenClause}
-use Rattle.ghc_flat.specs.Numbers.{keys_of_written, is_same_key}
-use Rattle.ghc_flat.specs.Index.{IsIndexOf, numbers_at}
+use Rattle.ghc_flat.proofs.Words.{◌≡◌, ◌∙◌, cond, [], ◌∷◌, ◌++◌, ◌+◌, length, take, ap, sym, subst, arith, take_more, length-take, common_steps, WrittenClause, keys_of_written, is_same_key, IsIndexOf, numbers_at}
 use Rattle.ghc_flat.proofs.Numbers.{index_more}
 use Rattle.ghc_flat.proofs.index.Index.of.Goals as goal
 

@@ -1,6 +1,4 @@
-use Rattle.std.proofs.Common.{◌≡◌, take}
-use Rattle.ghc_flat.specs.Numbers.{keys_of_written}
-use Rattle.ghc_flat.specs.Index.{IsIndexOf}
+use Rattle.ghc_flat.proofs.Words.{◌≡◌, take, keys_of_written, IsIndexOf}
 use Rattle.ghc_flat.proofs.index.Index.of.Given as goal
 
 abbrev pub invariant-loop-clause : goal.invariant-loop-clause

@@ -1,5 +1,4 @@
-use Rattle.std.proofs.Common.{subst}
-use Rattle.ghc_flat.specs.Flat.{IsProgram}
+use Rattle.ghc_flat.proofs.Words.{subst, IsProgram}
 use Rattle.ghc_flat.proofs.program.Program.clauses.Goals as goal
 
 pub returns-clause-program : goal.returns-clause-program

@@ -1,5 +1,4 @@
-use Rattle.std.proofs.Common.{sym, subst, ◌∙◌}
-use Rattle.ghc_flat.specs.Numbers.{AreNumbersFor}
+use Rattle.ghc_flat.proofs.Words.{sym, subst, ◌∙◌, AreNumbersFor}
 use Rattle.ghc_flat.proofs.Numbers.{numbers_for}
 use Rattle.ghc_flat.proofs.program.Program.clauses_for.Goals as goal
 
