@@ -1,11 +1,5 @@
 -- Each move keeps the store acyclic, where it binds a variable to what does not reach it.
-use Rattle.std.proofs.Common.{List}
-use Rattle.std.specs.Prelude.{Option}
-use Rattle.ghc_term.specs.declared.var_name.VarName.{VarName}
-use Rattle.ghc_term.specs.Tree.{Tree}
-use Rattle.ghc_term.specs.Bindings.{IsAcyclic}
-use Rattle.ghc_term.proofs.Bind.{binding_acyclic}
-use Rattle.ghc_unify.specs.Unify.{Move, shared, left, right, both, Moves, stay, go}
+use Rattle.ghc_unify.proofs.Words.{List, Option, VarName, Tree, IsAcyclic, binding_acyclic, Move, shared, left, right, both, Moves, stay, go}
 
 pub move_acyclic : {S T U : VarName → Option Tree} {es fs : List (Tree × Tree)} {bs : List (VarName × Tree)} {rs : List VarName} → Move S T es U fs bs rs → IsAcyclic T → IsAcyclic U
 move_acyclic (shared p q first) h = h

@@ -1,13 +1,6 @@
 -- Moves up to the next binding.
-use Rattle.std.proofs.Common.{◌≡◌, ◌<◌, List, [], ◌∷◌, ◌++◌, sym, ap, ◌∙◌, subst, append-nil}
-use Rattle.std.specs.Prelude.{Option, Some, None, reverse}
+use Rattle.ghc_unify.proofs.Words.{◌≡◌, ◌<◌, List, [], ◌∷◌, ◌++◌, sym, ap, ◌∙◌, subst, append-nil, Option, Some, None, reverse, VarName, Tree, StoreValue, value_at, IsAcyclic, name_cmp, Move, Moves, stay, go, Steps, Advances, FailsFrom}
 use Rattle.std.specs.FinSet as set
-use Rattle.ghc_term.specs.declared.var_name.VarName.{VarName}
-use Rattle.ghc_term.specs.Tree.{Tree}
-use Rattle.ghc_term.specs.Store.{StoreValue, value_at}
-use Rattle.ghc_term.specs.Bindings.{IsAcyclic, name_cmp}
-use Rattle.ghc_unify.specs.Unify.{Move, Moves, stay, go}
-use Rattle.ghc_unify.specs.Steps.{Steps, Advances, FailsFrom}
 use Rattle.ghc_unify.proofs.Falling.{one_more_move, weights, lighter}
 use Rattle.ghc_unify.proofs.Growth.{union_none, union_append}
 use Rattle.ghc_unify.proofs.Stacks.{reverse_push}

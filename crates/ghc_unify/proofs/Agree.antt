@@ -1,15 +1,5 @@
 -- A unification goes the same way on every store that agrees with its own on all that its terms reach.
-use Rattle.std.proofs.Common.{◌≡◌, true, false, cond, List, [], ◌∷◌, ◌++◌, refl, sym, ap, ◌∙◌, subst, inl, inr, ◌⊎◌}
-use Rattle.std.specs.Prelude.{Option, Some}
-use Rattle.std.specs.Ordering.{eq_by_cmp}
-use Rattle.ghc_term.specs.declared.var_name.VarName.{VarName}
-use Rattle.ghc_term.specs.Tree.{Tree, Trees, Occurs, OccursIn}
-use Rattle.ghc_term.specs.Lists.{In}
-use Rattle.ghc_term.specs.Bindings.{Leads, at_integer, at_node, at_free, along, Reaches, here, through, Comes, now, on, name_cmp, with_binding}
-use Rattle.ghc_term.proofs.Chains.{leads_agree}
-use Rattle.ghc_term.proofs.Chains.{reaches_on}
-use Rattle.ghc_unify.specs.Unify.{Pairs, no_more, one_more, Meets, integers, nodes, met, Move, shared, left, right, both, Moves, stay, go, IsClash, IsCycle, solved, clash, cycle}
-use Rattle.ghc_unify.specs.Laws.{UnificationLooksAtItsTerms}
+use Rattle.ghc_unify.proofs.Words.{◌≡◌, true, false, cond, List, [], ◌∷◌, ◌++◌, refl, sym, ap, ◌∙◌, subst, inl, inr, ◌⊎◌, Option, Some, eq_by_cmp, VarName, Tree, Trees, Occurs, OccursIn, In, Leads, at_integer, at_node, at_free, along, Reaches, here, through, Comes, now, on, name_cmp, with_binding, leads_agree, reaches_on, Pairs, no_more, one_more, Meets, integers, nodes, met, Move, shared, left, right, both, Moves, stay, go, IsClash, IsCycle, solved, clash, cycle, UnificationLooksAtItsTerms}
 use Rattle.ghc_unify.proofs.Locality.{comes_agree, met_agree}
 
 -- the variables of the tree are in D

@@ -1,17 +1,6 @@
 -- The bindings of a run, in their order and as a map.
-use Rattle.std.proofs.Common.{◌≡◌, true, false, cond, List, [], ◌∷◌, ◌++◌, refl, sym, ap, ◌∙◌, subst, inl, inr, ◌⊎◌}
-use Rattle.std.specs.Prelude.{Option, Some, None}
-use Rattle.std.specs.Option.{option_or}
-use Rattle.std.specs.Ordering.{eq_by_cmp}
+use Rattle.ghc_unify.proofs.Words.{◌≡◌, true, false, cond, List, [], ◌∷◌, ◌++◌, refl, sym, ap, ◌∙◌, subst, inl, inr, ◌⊎◌, Option, Some, None, option_or, eq_by_cmp, VarName, Tree, name_cmp, with_binding, decided_either, name_decided, by_answers, name_total, itself as found_itself, same_name, apart, Move, shared, left, right, both, Moves, stay, go, with_bindings}
 use Rattle.std.specs.FinMap as finite
-use Rattle.ghc_term.specs.declared.var_name.VarName.{VarName}
-use Rattle.ghc_term.specs.Tree.{Tree}
-use Rattle.ghc_term.specs.Bindings.{name_cmp, with_binding}
-use Rattle.ghc_term.proofs.Decided.{decided_either, name_decided}
-use Rattle.ghc_term.proofs.Merged.{by_answers}
-use Rattle.ghc_term.proofs.Names.{name_total, itself as found_itself}
-use Rattle.ghc_term.proofs.Total.{same_name, apart}
-use Rattle.ghc_unify.specs.Unify.{Move, shared, left, right, both, Moves, stay, go, with_bindings}
 
 -- the store with these bindings more, one after another
 abbrev pub bound_by : List (VarName × Tree) → (VarName → Option Tree) → VarName → Option Tree

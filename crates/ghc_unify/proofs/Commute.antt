@@ -1,11 +1,5 @@
 -- Two unifications change places.
-use Rattle.std.proofs.Common.{◌≡◌, List, [], ◌∷◌, refl, sym, ◌∙◌, inl, inr}
-use Rattle.std.specs.Prelude.{Option, Some, None}
-use Rattle.ghc_term.specs.declared.var_name.VarName.{VarName}
-use Rattle.ghc_term.specs.Tree.{Tree}
-use Rattle.ghc_term.specs.Bindings.{IsAcyclic, with_binding}
-use Rattle.ghc_term.specs.Lists.{In}
-use Rattle.ghc_unify.specs.Unify.{Solved}
+use Rattle.ghc_unify.proofs.Words.{◌≡◌, List, [], ◌∷◌, refl, sym, ◌∙◌, inl, inr, Option, Some, None, VarName, Tree, IsAcyclic, with_binding, In, Solved}
 use Rattle.ghc_unify.proofs.Locality.{locality}
 use Rattle.ghc_unify.proofs.Extension.{Hold, all_extend}
 use Rattle.ghc_unify.proofs.Bound.{bound_by, IsBoundIn, Fresh, is_bound, is_in, untouched, same_bound, unbound_before, keeps, moves_fresh, mono, has_value}

@@ -1,26 +1,11 @@
 -- Each unification in an acyclic finite store comes to an end.
-use Rattle.std.proofs.Common.{◌≡◌, ℕ, zero, suc, ◌-◌, ◌<◌, ◌≤◌, true, false, ℤ, List, [], ◌∷◌, ◌++◌, length, refl, sym, ap, ◌∙◌, subst, inl, inr, ◌⊎◌, arith, append-nil}
-use Rattle.std.specs.Prelude.{Option, Some, None}
-use Rattle.std.specs.Str.{bytes_eq}
-use Rattle.std.proofs.lemmas.Slice.Eq.{bytes_eq-Decides}
-use Rattle.std.proofs.Math.IntN.{ℤ_discrete}
+use Rattle.ghc_unify.proofs.Words.{◌≡◌, ℕ, zero, suc, ◌-◌, ◌<◌, ◌≤◌, true, false, ℤ, List, [], ◌∷◌, ◌++◌, length, refl, sym, ap, ◌∙◌, subst, inl, inr, ◌⊎◌, arith, append-nil, Option, Some, None, bytes_eq, bytes_eq-Decides, ℤ_discrete, VarName, Tree, variable, integer, node, Trees, none, more, IsValue, StoreValue, value_at, In, Leads, at_integer, at_node, at_free, along, Comes, now, on, Passes, IsAcyclic, name_cmp, with_binding, name_total, name_antisymmetric, Decided, in_decided, name_decided, chain, Pairs, no_more, one_more, Meets, integers, nodes, met, Move, shared, left, right, both, Moves, stay, go, IsClash, IsCycle, with_bindings, Ending, solved, clash, cycle, HasEnding, EachUnificationHasAnEnding, merged, merged_is, merged_acyclic, insert_is, unbound_below}
 use Rattle.std.specs.FinMap as finite
 use Rattle.std.specs.FinSet as set
-use Rattle.ghc_term.specs.declared.var_name.VarName.{VarName}
-use Rattle.ghc_term.specs.Tree.{Tree, variable, integer, node, Trees, none, more, IsValue}
-use Rattle.ghc_term.specs.Store.{StoreValue, value_at}
-use Rattle.ghc_term.specs.Lists.{In}
-use Rattle.ghc_term.specs.Bindings.{Leads, at_integer, at_node, at_free, along, Comes, now, on, Passes, IsAcyclic, name_cmp, with_binding}
-use Rattle.ghc_term.proofs.Names.{name_total, name_antisymmetric}
-use Rattle.ghc_term.proofs.Decided.{Decided, in_decided, name_decided}
-use Rattle.ghc_term.proofs.Total.{chain}
-use Rattle.ghc_unify.specs.Unify.{Pairs, no_more, one_more, Meets, integers, nodes, met, Move, shared, left, right, both, Moves, stay, go, IsClash, IsCycle, with_bindings, Ending, solved, clash, cycle, HasEnding}
-use Rattle.ghc_unify.specs.Laws.{EachUnificationHasAnEnding}
 use Rattle.ghc_unify.proofs.Acyclic.{moves_acyclic}
 use Rattle.ghc_unify.proofs.Bound.{moves_fresh}
 use Rattle.ghc_unify.proofs.Ends.{left_end}
 use Rattle.ghc_unify.proofs.Falling.{one_more_move, weights, lighter}
-use Rattle.ghc_term.proofs.Merged.{merged, merged_is, merged_acyclic, insert_is, unbound_below}
 use Rattle.ghc_unify.proofs.Reached.{reaches_decided}
 use Rattle.ghc_unify.proofs.Runs.{Run, begins, falls_short}
 use Rattle.ghc_unify.proofs.Scope.{scope}

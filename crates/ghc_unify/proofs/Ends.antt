@@ -1,10 +1,5 @@
 -- Chains that end unbound.
-use Rattle.std.proofs.Common.{◌≡◌, List, [], ◌∷◌, ◌++◌, refl, ap}
-use Rattle.std.specs.Prelude.{Option, None}
-use Rattle.ghc_term.specs.declared.var_name.VarName.{VarName}
-use Rattle.ghc_term.specs.Tree.{Tree, variable}
-use Rattle.ghc_term.specs.Bindings.{Leads, at_free, along, Comes, now, on, Passes}
-use Rattle.ghc_term.proofs.Chains.{leads_once}
+use Rattle.ghc_unify.proofs.Words.{◌≡◌, List, [], ◌∷◌, ◌++◌, refl, ap, Option, None, VarName, Tree, variable, Leads, at_free, along, Comes, now, on, Passes, leads_once}
 
 -- a chain that ends unbound comes to its end
 pub left_end : {T : VarName → Option Tree} {t : Tree} {xs : List VarName} {x : VarName} → Leads T t xs (variable x) → (a : List VarName) × (xs ≡ a ++ x ∷ []) × Comes T t a x × (T x ≡ None)

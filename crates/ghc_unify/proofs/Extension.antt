@@ -1,14 +1,5 @@
 -- A unification is the same on every store that has more bindings, where these bind none of its variables and the bindings of both close no cycle.
-use Rattle.std.proofs.Common.{◌≡◌, true, false, cond, List, [], ◌∷◌, ◌++◌, refl, sym, ap, ◌∙◌, subst, inl, inr, ◌⊎◌}
-use Rattle.std.specs.Prelude.{Option, Some, None}
-use Rattle.std.specs.Ordering.{eq_by_cmp}
-use Rattle.ghc_term.specs.declared.var_name.VarName.{VarName}
-use Rattle.ghc_term.specs.Tree.{Tree, variable, IsValue}
-use Rattle.ghc_term.specs.Lists.{In}
-use Rattle.ghc_term.specs.Bindings.{Leads, at_integer, at_node, at_free, along, Reaches, here, through, Comes, now, on, Passes, IsAcyclic, name_cmp, with_binding}
-use Rattle.ghc_term.proofs.Chains.{reaches_more}
-use Rattle.ghc_term.proofs.Total.{same_name}
-use Rattle.ghc_unify.specs.Unify.{Meets, integers, nodes, met, Move, shared, left, right, both, Moves, stay, go}
+use Rattle.ghc_unify.proofs.Words.{◌≡◌, true, false, cond, List, [], ◌∷◌, ◌++◌, refl, sym, ap, ◌∙◌, subst, inl, inr, ◌⊎◌, Option, Some, None, eq_by_cmp, VarName, Tree, variable, IsValue, In, Leads, at_integer, at_node, at_free, along, Reaches, here, through, Comes, now, on, Passes, IsAcyclic, name_cmp, with_binding, reaches_more, same_name, Meets, integers, nodes, met, Move, shared, left, right, both, Moves, stay, go}
 use Rattle.ghc_unify.proofs.Locality.{comes_more, met_agree, by_value}
 
 -- S is the store before and T the store by now, which S+ and T+ extend; all bindings hold in F

@@ -1,13 +1,5 @@
 -- The moves that bind nothing make the equations smaller.
-use Rattle.std.proofs.Common.{◌≡◌, ℕ, ◌+◌, ◌<◌, List, [], ◌∷◌, ◌++◌, refl, sym, subst, arith, append_assoc}
-use Rattle.std.specs.Prelude.{Option}
-use Rattle.ghc_term.specs.declared.var_name.VarName.{VarName}
-use Rattle.ghc_term.specs.Tree.{Tree, Trees}
-use Rattle.ghc_term.specs.Store.{StoreValue, value_at}
-use Rattle.ghc_term.specs.Bindings.{IsAcyclic, Leads}
-use Rattle.ghc_term.proofs.Searching.{size_positive}
-use Rattle.ghc_term.proofs.Weights.{size, size_all, size_end}
-use Rattle.ghc_unify.specs.Unify.{Pairs, no_more, one_more, Meets, integers, nodes, Move, shared, left, right, both, Moves, stay, go}
+use Rattle.ghc_unify.proofs.Words.{◌≡◌, ℕ, ◌+◌, ◌<◌, List, [], ◌∷◌, ◌++◌, refl, sym, subst, arith, append_assoc, Option, VarName, Tree, Trees, StoreValue, value_at, IsAcyclic, Leads, size_positive, size, size_all, size_end, Pairs, no_more, one_more, Meets, integers, nodes, Move, shared, left, right, both, Moves, stay, go}
 
 -- how large the equations are
 abbrev pub weights : StoreValue → List (Tree × Tree) → ℕ

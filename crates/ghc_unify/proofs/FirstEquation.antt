@@ -1,13 +1,5 @@
 -- The move on the first equation, from the chains of its sides.
-use Rattle.std.proofs.Common.{◌≡◌, ◌≢◌, true, false, List, [], ◌∷◌, ◌++◌, refl, sym, ap, ◌∙◌, subst, inl, inr, append-nil}
-use Rattle.std.specs.Prelude.{Option, None}
-use Rattle.ghc_term.specs.declared.var_name.VarName.{VarName}
-use Rattle.ghc_term.specs.Tree.{Tree, variable, IsValue}
-use Rattle.ghc_term.specs.Lists.{In}
-use Rattle.ghc_term.specs.Bindings.{Leads, Comes, Reaches, with_binding}
-use Rattle.ghc_term.proofs.ListsLemmas.{in_right}
-use Rattle.ghc_unify.specs.Unify.{Meets, met, Move, shared, left, right, both, IsClash, IsCycle}
-use Rattle.ghc_unify.specs.Parting.{Parts}
+use Rattle.ghc_unify.proofs.Words.{◌≡◌, ◌≢◌, true, false, List, [], ◌∷◌, ◌++◌, refl, sym, ap, ◌∙◌, subst, inl, inr, append-nil, Option, None, VarName, Tree, variable, IsValue, In, Leads, Comes, Reaches, with_binding, in_right, Meets, met, Move, shared, left, right, both, IsClash, IsCycle, Parts}
 use Rattle.ghc_unify.proofs.Ends.{left_end}
 use Rattle.ghc_unify.proofs.Growth.{met_unbound}
 use Rattle.ghc_unify.proofs.Partings.{cut, parted, passes_in}

@@ -1,13 +1,7 @@
 -- What does not reach a variable, as is seen at a glance.
-use Rattle.std.proofs.Common.{◌≡◌, ℕ, List, [], ◌∷◌, ◌++◌, sym, ap, ◌∙◌, refl, subst, ◌⊎◌, inl, inr}
-use Rattle.std.specs.Prelude.{Option, Some, None}
-use Rattle.ghc_term.specs.declared.var_name.VarName.{VarName}
-use Rattle.ghc_term.specs.Tree.{Tree, variable, node, trees, Occurs, OccursIn, IsClosed}
+use Rattle.ghc_unify.proofs.Words.{◌≡◌, ℕ, List, [], ◌∷◌, ◌++◌, sym, ap, ◌∙◌, refl, subst, ◌⊎◌, inl, inr, Option, Some, None, VarName, Tree, variable, node, trees, Occurs, OccursIn, IsClosed, Reaches, here, through, now, with_binding, StoreValue, Unifies, left, go, stay}
 use Rattle.std.specs.FinMap as finite
 use Rattle.std.specs.FinSet as set
-use Rattle.ghc_term.specs.Bindings.{Reaches, here, through, now, with_binding}
-use Rattle.ghc_term.specs.Store.{StoreValue}
-use Rattle.ghc_unify.specs.Unify.{Unifies, left, go, stay}
 
 occurs_more : (ts : List Tree) (t : Tree) (y : VarName) → OccursIn y (trees (ts ++ t ∷ [])) → OccursIn y (trees ts) ⊎ Occurs y t
 occurs_more [] t y (inl o) = inr o

@@ -1,18 +1,6 @@
 -- Sets of variables that grow by lists.
-use Rattle.std.proofs.Common.{◌≡◌, ℕ, ◌+◌, ◌<◌, Bool, true, false, cond, ◌||◌, List, [], ◌∷◌, ◌++◌, length, get_or, take, refl, sym, ap, ◌∙◌, append-nil}
-use Rattle.std.specs.Prelude.{Option, Some, None, is_some, option_copied}
-use Rattle.std.specs.Borrow.{Bor}
-use Rattle.std.proofs.lemmas.List.{take_more}
-use Rattle.std.proofs.lemmas.List.Elements.{filter-append}
-use Rattle.std.proofs.lemmas.List.Folds.{list_any-append}
-use Rattle.std.specs.List.{list_any}
-use Rattle.std.specs.Ordering.{eq_by_cmp}
+use Rattle.ghc_unify.proofs.Words.{◌≡◌, ℕ, ◌+◌, ◌<◌, Bool, true, false, cond, ◌||◌, List, [], ◌∷◌, ◌++◌, length, get_or, take, refl, sym, ap, ◌∙◌, append-nil, Option, Some, None, is_some, option_copied, Bor, take_more, filter-append, list_any-append, list_any, eq_by_cmp, VarName, Tree, name_cmp, name_total, name_antisymmetric, met}
 use Rattle.std.specs.FinSet as set
-use Rattle.ghc_term.specs.declared.var_name.VarName.{VarName}
-use Rattle.ghc_term.specs.Tree.{Tree}
-use Rattle.ghc_term.specs.Bindings.{name_cmp}
-use Rattle.ghc_term.proofs.Names.{name_total, name_antisymmetric}
-use Rattle.ghc_unify.specs.Unify.{met}
 
 or_assoc : (a b c : Bool) → ((a || b) || c) ≡ (a || (b || c))
 or_assoc true b c = refl

@@ -1,26 +1,10 @@
 -- The laws, from runs with lists to bindings as maps and reads as sets.
-use Rattle.std.proofs.Common.{◌≡◌, true, false, cond, List, [], ◌∷◌, refl, sym, ap, ◌∙◌, subst, inl, inr}
-use Rattle.std.specs.Prelude.{Option, Some, None, IsTrue, is_some}
-use Rattle.std.specs.Option.{option_or}
-use Rattle.std.specs.Ordering.{eq_by_cmp}
+use Rattle.ghc_unify.proofs.Words.{◌≡◌, true, false, cond, List, [], ◌∷◌, refl, sym, ap, ◌∙◌, subst, inl, inr, Option, Some, None, IsTrue, is_some, option_or, eq_by_cmp, VarName, Fault, Tree, exact, In, IsAcyclic, name_cmp, value_at, Unifies, UnifyFails, clashes, cycles, Solved, solved, clash, cycle, with_bindings, met, Move, shared, left, right, both, Moves, stay, go, UnificationIsLocal, UnificationBindsAndReads, UnificationKeepsAcyclic, UnificationHasOneEnding, UnifyIsExact, UnificationsCommute, name_total, same_name, In_either, in_set, set_in}
 use Rattle.std.specs.FinMap as finite
 use Rattle.std.specs.FinSet as set
-use Rattle.ghc_term.specs.declared.var_name.VarName.{VarName}
-use Rattle.ghc_term.specs.declared.fault.Fault.{Fault}
-use Rattle.ghc_term.specs.Tree.{Tree}
-use Rattle.ghc_term.proofs.Exact.{exact}
-use Rattle.ghc_term.specs.Lists.{In}
-use Rattle.ghc_term.specs.Bindings.{IsAcyclic, name_cmp}
-use Rattle.ghc_term.specs.Store.{value_at}
-use Rattle.ghc_unify.specs.Unify.{Unifies, UnifyFails, clashes, cycles, Solved, solved, clash, cycle, with_bindings, met, Move, shared, left, right, both, Moves, stay, go}
 use Rattle.ghc_unify.specs.declared.solve.Solved.{Solved as Answer}
-use Rattle.ghc_unify.specs.Laws.{UnificationIsLocal, UnificationBindsAndReads, UnificationKeepsAcyclic, UnificationHasOneEnding, UnifyIsExact, UnificationsCommute}
-use Rattle.ghc_term.proofs.Names.{name_total}
-use Rattle.ghc_term.proofs.Total.{same_name}
-use Rattle.ghc_term.proofs.Searches.{In_either}
 use Rattle.ghc_unify.proofs.Locality.{locality}
 use Rattle.ghc_unify.proofs.Bound.{bound_by, bound_is, moves_bound, moves_fresh, unbound_before, IsBoundIn, Fresh, has_value}
-use Rattle.ghc_term.proofs.SetsLemmas.{in_set, set_in}
 use Rattle.ghc_unify.proofs.Acyclic.{moves_acyclic}
 use Rattle.ghc_unify.proofs.Once.{solved_once, solved_no_clash, solved_no_cycle, clash_no_cycle}
 use Rattle.ghc_unify.proofs.Commute.{commute}

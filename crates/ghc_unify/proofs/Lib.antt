@@ -22,3 +22,4 @@ pub mod TopAgreement
 pub mod Reached
 pub mod Endings
 mod Gaps
+mod Words

@@ -1,15 +1,5 @@
 -- A unification is the same on every store that comes from its own by taking bindings away from variables that it did not read.
-use Rattle.std.proofs.Common.{◌≡◌, true, false, cond, List, [], ◌∷◌, ◌++◌, refl, sym, ap, ◌∙◌, subst, inl, inr, ◌⊎◌}
-use Rattle.std.specs.Prelude.{Option, Some, None, is_some}
-use Rattle.std.specs.Ordering.{eq_by_cmp}
-use Rattle.ghc_term.specs.declared.var_name.VarName.{VarName}
-use Rattle.ghc_term.specs.Tree.{Tree}
-use Rattle.ghc_term.specs.Lists.{In}
-use Rattle.ghc_term.specs.Bindings.{Comes, now, on, name_cmp, with_binding}
-use Rattle.ghc_term.proofs.Chains.{leads_agree, reaches_more}
-use Rattle.ghc_term.proofs.Searches.{In_append, In_append_right}
-use Rattle.ghc_term.proofs.Total.{same_name}
-use Rattle.ghc_unify.specs.Unify.{met, Move, shared, left, right, both, Moves, stay, go, Solved}
+use Rattle.ghc_unify.proofs.Words.{◌≡◌, true, false, cond, List, [], ◌∷◌, ◌++◌, refl, sym, ap, ◌∙◌, subst, inl, inr, ◌⊎◌, Option, Some, None, is_some, eq_by_cmp, VarName, Tree, In, Comes, now, on, name_cmp, with_binding, leads_agree, reaches_more, In_append, In_append_right, same_name, met, Move, shared, left, right, both, Moves, stay, go, Solved}
 
 -- S is the store before and T the store by now; S' and T' lack bindings of S, but none of the variables in R
 pub record Fewer (R : List VarName) (S T S' T' : VarName → Option Tree) : Type 0 where

@@ -1,12 +1,5 @@
 -- In an acyclic store at most one move is possible, and none where an equation clashes or closes a cycle.
-use Rattle.std.proofs.Common.{◌≡◌, List, [], ◌∷◌, ◌++◌, refl, sym, ap, ◌∙◌, subst, inl, inr}
-use Rattle.std.specs.Prelude.{Option, Some, None}
-use Rattle.ghc_term.specs.declared.var_name.VarName.{VarName}
-use Rattle.ghc_term.specs.Tree.{Tree, Trees, IsValue}
-use Rattle.ghc_term.specs.Lists.{In}
-use Rattle.ghc_term.specs.Bindings.{Leads, at_integer, at_node, at_free, along, Reaches, Comes, now, on, Passes, IsAcyclic, with_binding}
-use Rattle.ghc_term.proofs.Chains.{leads_once}
-use Rattle.ghc_unify.specs.Unify.{Pairs, no_more, one_more, Meets, integers, nodes, met, Move, shared, left, right, both, Moves, stay, go, IsClash, IsCycle, Solved, Clashes, Cycles}
+use Rattle.ghc_unify.proofs.Words.{◌≡◌, List, [], ◌∷◌, ◌++◌, refl, sym, ap, ◌∙◌, subst, inl, inr, Option, Some, None, VarName, Tree, Trees, IsValue, In, Leads, at_integer, at_node, at_free, along, Reaches, Comes, now, on, Passes, IsAcyclic, with_binding, leads_once, Pairs, no_more, one_more, Meets, integers, nodes, met, Move, shared, left, right, both, Moves, stay, go, IsClash, IsCycle, Solved, Clashes, Cycles}
 use Rattle.ghc_unify.proofs.Extension.{comes_reaches, comes_on, passed_on, earlier, values}
 use Rattle.ghc_unify.proofs.SolutionLemmas.{value_end}
 use Rattle.ghc_unify.proofs.Acyclic.{move_acyclic}

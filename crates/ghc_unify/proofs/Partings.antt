@@ -1,14 +1,5 @@
 -- Where two chains come together.
-use Rattle.std.proofs.Common.{◌≡◌, ◌≢◌, Bool, true, false, List, [], ◌∷◌, ◌++◌, refl, sym, ap, ◌∙◌, subst, append_assoc, append-nil}
-use Rattle.std.proofs.lemmas.List.{append_cancel_right}
-use Rattle.std.specs.Prelude.{Option, Some, None}
-use Rattle.ghc_term.specs.declared.var_name.VarName.{VarName}
-use Rattle.ghc_term.specs.Tree.{Tree, variable}
-use Rattle.ghc_term.specs.Lists.{In}
-use Rattle.ghc_term.specs.Bindings.{Leads, at_integer, at_node, at_free, along, Comes, now, on, Passes}
-use Rattle.ghc_term.proofs.Chains.{leads_once}
-use Rattle.ghc_term.proofs.ListsLemmas.{in_splits}
-use Rattle.ghc_unify.specs.Parting.{Parts}
+use Rattle.ghc_unify.proofs.Words.{◌≡◌, ◌≢◌, Bool, true, false, List, [], ◌∷◌, ◌++◌, refl, sym, ap, ◌∙◌, subst, append_assoc, append-nil, append_cancel_right, Option, Some, None, VarName, Tree, variable, In, Leads, at_integer, at_node, at_free, along, Comes, now, on, Passes, leads_once, in_splits, Parts}
 
 -- two lists, with an end of both taken off
 pub record Split (xs ys a b : List VarName) (shared : Bool) : Type 0 where

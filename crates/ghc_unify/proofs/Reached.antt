@@ -1,14 +1,6 @@
 -- In an acyclic finite store it is decided whether a tree reaches a variable.
-use Rattle.std.proofs.Common.{◌≡◌, ℕ, zero, suc, ◌≤◌, refl, sym, ap, ◌∙◌, subst, inl, inr}
-use Rattle.std.specs.Prelude.{ℤ, List, Option, Some, None}
+use Rattle.ghc_unify.proofs.Words.{◌≡◌, ℕ, zero, suc, ◌≤◌, refl, sym, ap, ◌∙◌, subst, inl, inr, ℤ, List, Option, Some, None, VarName, Tree, variable, integer, node, Trees, none, more, StoreValue, value_at, Reaches, here, through, IsAcyclic, reaches_more, Decided, name_decided, removed_apart, removed_less, removed_acyclic, fewer, none_bound}
 use Rattle.std.specs.FinMap as finite
-use Rattle.ghc_term.specs.declared.var_name.VarName.{VarName}
-use Rattle.ghc_term.specs.Tree.{Tree, variable, integer, node, Trees, none, more}
-use Rattle.ghc_term.specs.Store.{StoreValue, value_at}
-use Rattle.ghc_term.specs.Bindings.{Reaches, here, through, IsAcyclic}
-use Rattle.ghc_term.proofs.Chains.{reaches_more}
-use Rattle.ghc_term.proofs.Decided.{Decided, name_decided}
-use Rattle.ghc_term.proofs.Total.{removed_apart, removed_less, removed_acyclic, fewer, none_bound}
 
 -- what a tree reaches without passing y, it reaches where y's binding is taken away
 around : (s : StoreValue) (y : VarName) {t : Tree} {x : VarName} → ¬ Reaches (value_at s) t y → Reaches (value_at s) t x → Reaches (value_at (finite.remove s y)) t x

@@ -1,13 +1,5 @@
 -- Refusals that are handed on, and what a view that is no variable shows.
-use Rattle.std.proofs.Common.{◌≡◌, refl, sym, ◌∙◌, subst, ◌⊎◌}
-use Rattle.std.specs.Prelude.{Result, Err, IfOk, IfErr}
-use Rattle.ghc_term.specs.declared.fault.Fault.{Fault}
-use Rattle.ghc_term.specs.declared.fault.Fault.TheVariants.{Clash, Cycle, Memory}
-use Rattle.ghc_term.specs.declared.var_name.VarName.{VarName}
-use Rattle.ghc_term.specs.declared.view.TermView.{TermView}
-use Rattle.ghc_term.specs.declared.view.TermView.TheVariants.{Var, Int, Atom, Struct}
-use Rattle.ghc_term.specs.Tree.{Tree, IsValue}
-use Rattle.ghc_term.specs.Shown.{shown}
+use Rattle.ghc_unify.proofs.Words.{◌≡◌, refl, sym, ◌∙◌, subst, ◌⊎◌, Result, Err, IfOk, IfErr, Fault, Clash, Cycle, Memory, VarName, TermView, Var, Int, Atom, Struct, Tree, IsValue, shown}
 
 abbrev pub Known : Fault → Type 0
 Known f = (f ≡ Clash) ⊎ (f ≡ Cycle) ⊎ (f ≡ Memory)

@@ -1,24 +1,13 @@
 -- A run of moves, as the code keeps it.
-use Rattle.std.proofs.Common.{◌≡◌, ◌-◌, ◌<◌, List, [], ◌∷◌, ◌++◌, length, sym, ap, ◌∙◌, subst, inl, inr, arith, append-nil}
-use Rattle.std.specs.Prelude.{Option, Some, None, Result, Ok, Err, reverse}
+use Rattle.ghc_unify.proofs.Words.{◌≡◌, ◌-◌, ◌<◌, List, [], ◌∷◌, ◌++◌, length, sym, ap, ◌∙◌, subst, inl, inr, arith, append-nil, Option, Some, None, Result, Ok, Err, reverse, VarName, Fault, Answered, Tree, StoreValue, value_at, IsAcyclic, name_cmp, with_binding, name_total, name_antisymmetric, Moves, stay, with_bindings, Unifies, Clashes, Cycles, ComesTo, UnifyFails, clashes, cycles, Advances, FailsFrom, insert_is, none_more, unbound_below}
 use Rattle.std.specs.FinMap as finite
 use Rattle.std.specs.FinSet as set
-use Rattle.ghc_term.specs.declared.var_name.VarName.{VarName}
-use Rattle.ghc_term.specs.declared.fault.Fault.{Fault}
-use Rattle.ghc_term.specs.Answered.{Answered}
-use Rattle.ghc_term.specs.Tree.{Tree}
-use Rattle.ghc_term.specs.Store.{StoreValue, value_at}
-use Rattle.ghc_term.specs.Bindings.{IsAcyclic, name_cmp, with_binding}
-use Rattle.ghc_term.proofs.Names.{name_total, name_antisymmetric}
-use Rattle.ghc_unify.specs.Unify.{Moves, stay, with_bindings, Unifies, Clashes, Cycles, ComesTo, UnifyFails, clashes, cycles}
-use Rattle.ghc_unify.specs.Steps.{Advances, FailsFrom}
 use Rattle.ghc_unify.specs.declared.solve.Solved.{Solved}
 use Rattle.ghc_unify.proofs.Acyclic.{moves_acyclic}
 use Rattle.ghc_unify.proofs.Bound.{moves_fresh}
 use Rattle.ghc_unify.proofs.Growth.{union_append, union_empty}
 use Rattle.ghc_unify.proofs.Falling.{one_more_move}
 use Rattle.ghc_unify.proofs.Refusals.{HandedOn}
-use Rattle.ghc_term.proofs.Merged.{insert_is, none_more, unbound_below}
 use Rattle.ghc_unify.proofs.Scope.{scope, few_binds, one_bound}
 
 -- from the equation l = r a run has come to these bindings, reads and equations

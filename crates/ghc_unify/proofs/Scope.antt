@@ -1,18 +1,6 @@
 -- All variables that a unification can bind: those of its two sides and of the values of the store.
-use Rattle.std.proofs.Common.{◌≡◌, suc, ◌+◌, ◌-◌, ◌≤◌, true, false, cond, List, [], ◌∷◌, ◌++◌, length, refl, sym, ap, ◌∙◌, subst, inl, inr, ◌⊎◌, arith}
-use Rattle.std.specs.Prelude.{Option, Some, None, is_some}
-use Rattle.std.specs.Ordering.{eq_by_cmp}
+use Rattle.ghc_unify.proofs.Words.{◌≡◌, suc, ◌+◌, ◌-◌, ◌≤◌, true, false, cond, List, [], ◌∷◌, ◌++◌, length, refl, sym, ap, ◌∙◌, subst, inl, inr, ◌⊎◌, arith, Option, Some, None, is_some, eq_by_cmp, VarName, Tree, variable, integer, node, Trees, none, more, Occurs, OccursIn, StoreValue, value_at, In, name_cmp, Leads, at_integer, at_node, at_free, along, Comes, now, on, with_binding, name_decided, in_left, in_right, in_either, name_total, name_antisymmetric, itself, same_name, removed_less, Pairs, no_more, one_more, Meets, integers, nodes, Move, shared, left, right, both, Moves, stay, go}
 use Rattle.std.specs.FinMap as finite
-use Rattle.ghc_term.specs.declared.var_name.VarName.{VarName}
-use Rattle.ghc_term.specs.Tree.{Tree, variable, integer, node, Trees, none, more, Occurs, OccursIn}
-use Rattle.ghc_term.specs.Store.{StoreValue, value_at}
-use Rattle.ghc_term.specs.Lists.{In}
-use Rattle.ghc_term.specs.Bindings.{name_cmp, Leads, at_integer, at_node, at_free, along, Comes, now, on, with_binding}
-use Rattle.ghc_term.proofs.Decided.{name_decided}
-use Rattle.ghc_term.proofs.ListsLemmas.{in_left, in_right, in_either}
-use Rattle.ghc_term.proofs.Names.{name_total, name_antisymmetric, itself}
-use Rattle.ghc_term.proofs.Total.{same_name, removed_less}
-use Rattle.ghc_unify.specs.Unify.{Pairs, no_more, one_more, Meets, integers, nodes, Move, shared, left, right, both, Moves, stay, go}
 use Rattle.ghc_unify.proofs.Bound.{is_bound, other}
 
 abbrev mutual

@@ -1,13 +1,5 @@
 -- Each move keeps the solutions.
-use Rattle.std.proofs.Common.{◌≡◌, ℕ, suc, ◌+◌, ◌<◌, ◌≤◌, List, [], ◌∷◌, ◌++◌, refl, sym, ap, ◌∙◌, subst, inl, inr, ◌⊎◌, arith}
-use Rattle.std.specs.Prelude.{Option, Some, None}
-use Rattle.ghc_term.specs.declared.var_name.VarName.{VarName}
-use Rattle.ghc_term.specs.Tree.{Tree, variable, integer, node, Trees, none, more, Occurs, OccursIn, IsValue}
-use Rattle.ghc_term.specs.Bindings.{Leads, at_integer, at_node, at_free, along, Reaches, here, through, Comes, now, on, Passes, with_binding}
-use Rattle.ghc_unify.specs.Unify.{Pairs, no_more, one_more, Meets, integers, nodes, Move, shared, left, right, both, Moves, stay, go, with_bindings}
-use Rattle.ghc_unify.specs.Solutions.{replace, replace_all, Solves, Equates}
-use Rattle.ghc_unify.specs.Laws.{SolutionsAreKept}
-use Rattle.ghc_term.proofs.Decided.{name_decided}
+use Rattle.ghc_unify.proofs.Words.{◌≡◌, ℕ, suc, ◌+◌, ◌<◌, ◌≤◌, List, [], ◌∷◌, ◌++◌, refl, sym, ap, ◌∙◌, subst, inl, inr, ◌⊎◌, arith, Option, Some, None, VarName, Tree, variable, integer, node, Trees, none, more, Occurs, OccursIn, IsValue, Leads, at_integer, at_node, at_free, along, Reaches, here, through, Comes, now, on, Passes, with_binding, Pairs, no_more, one_more, Meets, integers, nodes, Move, shared, left, right, both, Moves, stay, go, with_bindings, replace, replace_all, Solves, Equates, SolutionsAreKept, name_decided}
 use Rattle.ghc_unify.proofs.Bound.{is_bound, other, moves_bound, moves_fresh, bound_is}
 use Rattle.ghc_unify.proofs.Ends.{ends}
 

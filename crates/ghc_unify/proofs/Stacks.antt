@@ -1,9 +1,5 @@
 -- Lists of equations whose last one comes first.
-use Rattle.std.proofs.Common.{◌≡◌, ℕ, ◌-◌, ◌<◌, ◌≤◌, suc, List, [], ◌∷◌, ◌++◌, length, get_or, drop, sym, ap, ◌∙◌, subst, arith, drop-cons}
-use Rattle.std.specs.Prelude.{reverse}
-use Rattle.std.proofs.lemmas.List.{reverse-append, drop_all}
-use Rattle.ghc_term.specs.Tree.{Tree, trees, none, more}
-use Rattle.ghc_unify.specs.Unify.{Pairs, no_more, one_more}
+use Rattle.ghc_unify.proofs.Words.{◌≡◌, ℕ, ◌-◌, ◌<◌, ◌≤◌, suc, List, [], ◌∷◌, ◌++◌, length, get_or, drop, sym, ap, ◌∙◌, subst, arith, drop-cons, reverse, reverse-append, drop_all, Tree, trees, none, more, Pairs, no_more, one_more}
 
 pub reverse_push : {X : Type 0} (xs : List X) (x : X) → reverse (xs ++ x ∷ []) ≡ x ∷ reverse xs
 reverse_push xs x = reverse-append xs (x ∷ [])

@@ -1,17 +1,7 @@
 -- When two values agree at the top.
-use Rattle.std.proofs.Common.{◌≡◌, ◌≢◌, ℕ, suc, true, false, Bool, List, [], ◌∷◌, length, refl, sym, ap, ◌∙◌, subst}
-use Rattle.std.specs.Prelude.{ℤ, not}
-use Rattle.std.specs.Str.{bytes_eq}
-use Rattle.std.proofs.lemmas.Slice.Eq.{bytes_eq-Decides}
-use Rattle.std.proofs.lemmas.Int.{to_z-of_z}
+use Rattle.ghc_unify.proofs.Words.{◌≡◌, ◌≢◌, ℕ, suc, true, false, Bool, List, [], ◌∷◌, length, refl, sym, ap, ◌∙◌, subst, ℤ, not, bytes_eq, bytes_eq-Decides, to_z-of_z, Bor, TermView, Var, Int, Atom, Struct, Tree, variable, integer, node, Trees, none, more, trees, shown, HasArgument, Pairs, no_more, one_more, Meets, integers, nodes}
 use mir.Val.{SFits, of_z, to_z}
 use mir.Syntax.{w64}
-use Rattle.std.specs.Borrow.{Bor}
-use Rattle.ghc_term.specs.declared.view.TermView.{TermView}
-use Rattle.ghc_term.specs.declared.view.TermView.TheVariants.{Var, Int, Atom, Struct}
-use Rattle.ghc_term.specs.Tree.{Tree, variable, integer, node, Trees, none, more, trees}
-use Rattle.ghc_term.specs.Shown.{shown, HasArgument}
-use Rattle.ghc_unify.specs.Unify.{Pairs, no_more, one_more, Meets, integers, nodes}
 
 abbrev pub count : Trees → ℕ
 count none = 0

@@ -1,8 +1,4 @@
-use Rattle.std.proofs.Common.{◌++◌, ◌∷◌, [], ◌∙◌, take, take_all, sym, ap, subst}
-use Rattle.std.proofs.lemmas.List.{take_more}
-use Rattle.ghc_term.specs.Tree.{node, trees}
-use Rattle.ghc_term.specs.Bindings.{Reaches}
-use Rattle.ghc_term.specs.Store.{value_at}
+use Rattle.ghc_unify.proofs.Words.{◌++◌, ◌∷◌, [], ◌∙◌, take, take_all, sym, ap, subst, take_more, node, trees, Reaches, value_at}
 use Rattle.ghc_unify.proofs.Gaps.{closed_apart, none_apart, one_more_apart}
 use Rattle.ghc_unify.proofs.apart.is_apart.Goals as goal
 

@@ -1,7 +1,4 @@
-use Rattle.std.proofs.Common.{ℕ, List, take}
-use Rattle.ghc_term.specs.Tree.{node, trees}
-use Rattle.ghc_term.specs.Bindings.{Reaches}
-use Rattle.ghc_term.specs.Store.{value_at}
+use Rattle.ghc_unify.proofs.Words.{ℕ, List, take, node, trees, Reaches, value_at}
 use Rattle.ghc_unify.proofs.apart.is_apart.Given as goal
 
 abbrev pub invariant-loop-argument : goal.invariant-loop-argument

@@ -1,6 +1,4 @@
-use Rattle.std.proofs.Common.{rules, sym, subst}
-use Rattle.ghc_term.specs.Bindings.{Reaches}
-use Rattle.ghc_term.specs.Store.{value_at}
+use Rattle.ghc_unify.proofs.Words.{rules, sym, subst, Reaches, value_at}
 use Rattle.ghc_unify.proofs.Gaps.{closed_apart, free_apart, bound_apart}
 use Rattle.ghc_unify.proofs.apart.is_leaf_apart.Goals as goal
 

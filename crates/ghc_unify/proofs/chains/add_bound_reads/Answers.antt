@@ -1,8 +1,5 @@
-use Rattle.std.proofs.Common.{◌∙◌, ap, sym, take, get_or}
+use Rattle.ghc_unify.proofs.Words.{◌∙◌, ap, sym, take, get_or, VarName, value_at, met}
 use Rattle.std.specs.FinSet as set
-use Rattle.ghc_term.specs.declared.var_name.VarName.{VarName}
-use Rattle.ghc_term.specs.Store.{value_at}
-use Rattle.ghc_unify.specs.Unify.{met}
 use Rattle.ghc_unify.proofs.Growth.{union_none, union_push, met_bound, met_skip, some_copied}
 use Rattle.ghc_unify.proofs.chains.add_bound_reads.Goals as goal
 use Rattle.ghc_unify.proofs.chains.add_bound_reads.Goals.{then-is_some+in_ok-insert, else-is_some}

@@ -1,7 +1,5 @@
-use Rattle.std.proofs.Common.{◌≡◌, take}
+use Rattle.ghc_unify.proofs.Words.{◌≡◌, take, value_at, met}
 use Rattle.std.specs.FinSet as set
-use Rattle.ghc_term.specs.Store.{value_at}
-use Rattle.ghc_unify.specs.Unify.{met}
 use Rattle.ghc_unify.proofs.chains.add_bound_reads.Given as goal
 
 abbrev pub invariant-loop-x : goal.invariant-loop-x

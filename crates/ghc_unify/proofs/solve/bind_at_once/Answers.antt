@@ -1,7 +1,5 @@
-use Rattle.std.proofs.Common.{◌≡◌, rules, ap, ◌∙◌}
-use Rattle.std.specs.Prelude.{None}
+use Rattle.ghc_unify.proofs.Words.{◌≡◌, rules, ap, ◌∙◌, None, value_at}
 use Rattle.std.specs.FinMap as finite
-use Rattle.ghc_term.specs.Store.{value_at}
 use Rattle.ghc_unify.proofs.Gaps.{bound_at_once}
 use Rattle.ghc_unify.proofs.solve.bind_at_once.Goals as goal
 

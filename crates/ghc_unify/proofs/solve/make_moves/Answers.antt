@@ -1,11 +1,5 @@
-use Rattle.std.proofs.Common.{◌≡◌, ◌<◌, ◌-◌, length, refl, sym, ap, ◌∙◌, subst}
-use Rattle.std.specs.Prelude.{reverse, Err}
+use Rattle.ghc_unify.proofs.Words.{◌≡◌, ◌<◌, ◌-◌, length, refl, sym, ap, ◌∙◌, subst, reverse, Err, err_from_is_err_and, Clash, Cycle, value_at, Advances, with_bindings, IsClash, IsCycle}
 use Rattle.std.specs.FinMap as finite
-use Rattle.std.proofs.lemmas.Result.{err_from_is_err_and}
-use Rattle.ghc_term.specs.declared.fault.Fault.TheVariants.{Clash, Cycle}
-use Rattle.ghc_term.specs.Store.{value_at}
-use Rattle.ghc_unify.specs.Steps.{Advances}
-use Rattle.ghc_unify.specs.Unify.{with_bindings, IsClash, IsCycle}
 use Rattle.ghc_unify.proofs.Runs.{begins, still_acyclic, goes_on, ends, fails, falls_short}
 use Rattle.ghc_unify.proofs.Scope.{scope}
 use Rattle.ghc_unify.proofs.solve.make_moves.Goals as goal

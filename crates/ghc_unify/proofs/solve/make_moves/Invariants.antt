@@ -1,7 +1,5 @@
-use Rattle.std.proofs.Common.{◌-◌, length}
-use Rattle.std.specs.Prelude.{reverse}
+use Rattle.ghc_unify.proofs.Words.{◌-◌, length, reverse, value_at}
 use Rattle.std.specs.FinMap as finite
-use Rattle.ghc_term.specs.Store.{value_at}
 use Rattle.ghc_unify.proofs.Runs.{Run}
 use Rattle.ghc_unify.proofs.Scope.{scope}
 use Rattle.ghc_unify.proofs.solve.make_moves.Given as goal

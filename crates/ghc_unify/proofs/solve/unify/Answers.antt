@@ -1,8 +1,4 @@
-use Rattle.std.proofs.Common.{ap, ◌∙◌, inl, inr}
-use Rattle.std.specs.Prelude.{Err}
-use Rattle.std.proofs.lemmas.Result.{err_from_is_err_and}
-use Rattle.ghc_term.specs.Store.{value_at}
-use Rattle.ghc_unify.specs.Unify.{Unifies, Clashes, Cycles}
+use Rattle.ghc_unify.proofs.Words.{ap, ◌∙◌, inl, inr, Err, err_from_is_err_and, value_at, Unifies, Clashes, Cycles}
 use Rattle.ghc_unify.proofs.Refusals.{HandedOn, handed_on, no_answer}
 use Rattle.ghc_unify.proofs.Runs.{answered}
 use Rattle.ghc_unify.proofs.SolutionLemmas.{solutions}

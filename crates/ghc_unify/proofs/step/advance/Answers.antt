@@ -1,9 +1,4 @@
-use Rattle.std.proofs.Common.{◌<◌, subst}
-use Rattle.std.specs.Prelude.{reverse}
-use Rattle.ghc_term.specs.Store.{value_at}
-use Rattle.ghc_unify.specs.Steps.{Steps}
-use Rattle.ghc_unify.specs.Unify.{with_bindings}
-use Rattle.ghc_term.proofs.Merged.{merged, merged_is}
+use Rattle.ghc_unify.proofs.Words.{◌<◌, subst, reverse, value_at, Steps, with_bindings, merged, merged_is}
 use Rattle.ghc_unify.proofs.Falling.{weights}
 use Rattle.ghc_unify.proofs.Advancing.{quiet, still_quiet, advanced, gets_lighter}
 use Rattle.ghc_unify.proofs.step.advance.Goals as goal

@@ -1,7 +1,4 @@
-use Rattle.std.specs.Prelude.{reverse}
-use Rattle.ghc_term.specs.Store.{value_at}
-use Rattle.ghc_unify.specs.Unify.{with_bindings}
-use Rattle.ghc_term.proofs.Merged.{merged}
+use Rattle.ghc_unify.proofs.Words.{reverse, value_at, with_bindings, merged}
 use Rattle.ghc_unify.proofs.Falling.{weights}
 use Rattle.ghc_unify.proofs.Advancing.{Quiet}
 use Rattle.ghc_unify.proofs.step.advance.Given as goal

@@ -1,10 +1,6 @@
-use Rattle.std.proofs.Common.{◌≡◌, [], rules, sym, ap, ◌∙◌}
-use Rattle.std.specs.Prelude.{reverse}
+use Rattle.ghc_unify.proofs.Words.{◌≡◌, [], rules, sym, ap, ◌∙◌, reverse, Var, Int, Atom, Struct, none, trees, no_more}
 use mir.Val.{SFits}
 use mir.Syntax.{w64}
-use Rattle.ghc_term.specs.declared.view.TermView.TheVariants.{Var, Int, Atom, Struct}
-use Rattle.ghc_term.specs.Tree.{none, trees}
-use Rattle.ghc_unify.specs.Unify.{no_more}
 use Rattle.ghc_unify.proofs.TopAgreement.{unlike, structures_alike, names_apart, names_same, integers_meet, structures_meet, same_integer}
 use Rattle.ghc_unify.proofs.step.meet.Goals as goal
 use Rattle.ghc_unify.proofs.step.meet.Goals.{then-ne-2-via-then-ne-2, then-ne-2-via-else-ne-2+then-lefts-rights, in_default-via-in-Int+in_default, in_default-via-in-Atom+in_default, in_default-via-in-Struct+in_default, in_default-via-in_default, in-Int-Int+else-i-k, in-Atom-Atom+else-ne, in-Struct-Struct+else-ne-2+else-lefts-rights+in_ok-push_pairs-in-Struct-Struct}

@@ -1,5 +1,4 @@
-use Rattle.std.proofs.Common.{[], ◌∷◌, arith, refl, ap, ◌∙◌}
-use Rattle.std.specs.Prelude.{reverse}
+use Rattle.ghc_unify.proofs.Words.{[], ◌∷◌, arith, refl, ap, ◌∙◌, reverse}
 use Rattle.ghc_unify.proofs.Stacks.{pairs_end, pairs_more, reverse_push}
 use Rattle.ghc_unify.proofs.step.push_pairs.Goals as goal
 

@@ -1,7 +1,4 @@
-use Rattle.std.proofs.Common.{◌≡◌, ◌≤◌, List, ◌++◌, drop, length}
-use Rattle.std.specs.Prelude.{reverse}
-use Rattle.ghc_term.specs.Tree.{Tree, trees}
-use Rattle.ghc_unify.specs.Unify.{Pairs}
+use Rattle.ghc_unify.proofs.Words.{◌≡◌, ◌≤◌, List, ◌++◌, drop, length, reverse, Tree, trees, Pairs}
 use Rattle.ghc_unify.proofs.step.push_pairs.Given as goal
 
 abbrev pub invariant-loop-index : goal.invariant-loop-index

@@ -1,17 +1,7 @@
-use Rattle.std.proofs.Common.{◌≡◌, ◌∷◌, [], ◌++◌, sym, ap, ◌∙◌, subst, inl, inr}
-use Rattle.std.specs.Prelude.{reverse, Err}
+use Rattle.ghc_unify.proofs.Words.{◌≡◌, ◌∷◌, [], ◌++◌, sym, ap, ◌∙◌, subst, inl, inr, reverse, Err, err_from_is_err_and, Clash, Cycle, Memory, VarName, Tree, value_at, with_binding, with_bindings, met, Move, Parts, unbound_below}
 use Rattle.std.specs.FinSet as set
-use Rattle.std.proofs.lemmas.Result.{err_from_is_err_and}
-use Rattle.ghc_term.specs.declared.fault.Fault.TheVariants.{Clash, Cycle, Memory}
-use Rattle.ghc_term.specs.declared.var_name.VarName.{VarName}
-use Rattle.ghc_term.specs.Tree.{Tree}
-use Rattle.ghc_term.specs.Store.{value_at}
-use Rattle.ghc_term.specs.Bindings.{with_binding}
-use Rattle.ghc_unify.specs.Unify.{with_bindings, met, Move}
-use Rattle.ghc_unify.specs.Parting.{Parts}
 use Rattle.ghc_unify.proofs.FirstEquation.{shared_move, left_move, left_cycle, right_move, right_cycle, both_move, both_clash}
 use Rattle.ghc_unify.proofs.Growth.{read_both}
-use Rattle.ghc_term.proofs.Merged.{unbound_below}
 use Rattle.ghc_unify.proofs.Refusals.{handed_on, value_of}
 use Rattle.ghc_unify.proofs.step.step.Goals as goal
 
