@@ -1,9 +1,5 @@
 -- The pairs that are still ahead, one less and some more.
-use Rattle.std.proofs.Common.{◌≡◌, ℕ, zero, suc, ◌-◌, ◌<◌, ◌≤◌, List, [], ◌∷◌, ◌++◌, length, take, slice_index_or, refl, sym, ap, ◌∙◌, subst, ◌⊎◌, inl, inr, append_assoc, append-nil, arith}
-use Rattle.std.specs.List.{zip}
-use Rattle.ghc_term.specs.Tree.{Tree}
-use Rattle.ghc_match.specs.Places.{ahead_in, ahead_of}
-use Rattle.ghc_match.specs.declared.places.Places.{Places}
+use Rattle.ghc_match.proofs.Words.{◌≡◌, ℕ, zero, suc, ◌-◌, ◌<◌, ◌≤◌, List, [], ◌∷◌, ◌++◌, length, take, slice_index_or, refl, sym, ap, ◌∙◌, subst, ◌⊎◌, inl, inr, append_assoc, append-nil, arith, zip, Tree, ahead_in, ahead_of, Places}
 
 pub zip_all : (hs ts : List Tree) → zip (take (length hs) hs) (take (length hs) ts) ≡ zip hs ts
 zip_all [] ts = refl

@@ -1,16 +1,5 @@
 -- What is seen of a term at its top.
-use Rattle.std.proofs.Common.{◌≡◌, ◌≢◌, ℕ, Bool, true, false, List, [], ◌∷◌, length, refl, sym, ap, ◌∙◌, subst, arith, nat_eq}
-use Rattle.std.specs.Prelude.{◌↔◌, IsTrue, codes}
-use Rattle.std.specs.Str.{bytes_eq}
-use Rattle.std.specs.Borrow.{Bor}
-use Rattle.std.proofs.lemmas.Bool.Decides.{nat_tests}
-use Rattle.std.proofs.lemmas.Slice.Eq.{bytes_eq-Decides}
-use Rattle.ghc_term.specs.declared.view.TermView.{TermView}
-use Rattle.ghc_term.specs.declared.view.TermView.TheVariants.{Var, Int, Atom, Struct}
-use Rattle.ghc_term.specs.declared.var_name.VarName.{VarName}
-use Rattle.ghc_term.specs.Tree.{Tree, node, trees, list_of, IsValue}
-use Rattle.ghc_term.specs.Shown.{shown, HasArgument}
-use Rattle.ghc_match.specs.Match.{AreAlike, IsAtom, IsList}
+use Rattle.ghc_match.proofs.Words.{◌≡◌, ◌≢◌, ℕ, Bool, true, false, List, [], ◌∷◌, length, refl, sym, ap, ◌∙◌, subst, arith, nat_eq, ◌↔◌, IsTrue, codes, bytes_eq, Bor, nat_tests, bytes_eq-Decides, TermView, Var, Int, Atom, Struct, VarName, Tree, node, trees, list_of, IsValue, shown, HasArgument, AreAlike, IsAtom, IsList}
 use Rattle.ghc_match.proofs.Positions.{back_again}
 
 counted : (n m : ℕ) → nat_eq n m ≡ true → n ≡ m

@@ -1,15 +1,6 @@
 -- Chains: what they pass, and the same ones in stores that agree on them.
-use Rattle.std.proofs.Common.{◌≡◌, List, [], ◌∷◌, sym, ◌∙◌, subst, inl, inr, refl, arith, ℕ}
+use Rattle.ghc_match.proofs.Words.{◌≡◌, List, [], ◌∷◌, sym, ◌∙◌, subst, inl, inr, refl, arith, ℕ, Option, Some, None, VarName, Tree, variable, node, Trees, In, Leads, at_integer, at_node, at_free, along, Comes, now, on, Passes, IsAcyclic, leads_agree, StoreValue, value_at, chain, unbound}
 use Rattle.std.specs.FinMap as finite
-use Rattle.std.specs.Prelude.{Option, Some, None}
-use Rattle.ghc_term.specs.declared.var_name.VarName.{VarName}
-use Rattle.ghc_term.specs.Tree.{Tree, variable, node, Trees}
-use Rattle.ghc_term.specs.Lists.{In}
-use Rattle.ghc_term.specs.Bindings.{Leads, at_integer, at_node, at_free, along, Comes, now, on, Passes, IsAcyclic}
-use Rattle.ghc_term.proofs.Chains.{leads_agree}
-use Rattle.ghc_term.specs.Store.{StoreValue, value_at}
-use Rattle.ghc_term.proofs.Total.{chain}
-use Rattle.ghc_match.specs.Position.{unbound}
 
 -- what is on a chain is passed
 pub leads_passes : {S : VarName → Option Tree} {t e : Tree} {xs : List VarName} {x : VarName} → Leads S t xs e → In x xs → Passes S t x

@@ -1,32 +1,8 @@
 -- In an acyclic finite store each linear clause has an outcome.
-use Rattle.std.proofs.Common.{◌≡◌, true, false, cond, ℤ, List, [], ◌∷◌, refl, sym, ap, ◌∙◌, subst, inl, inr}
-use Rattle.std.specs.Prelude.{Option, Some, codes}
-use Rattle.std.specs.Ordering.{eq_by_cmp}
-use Rattle.std.specs.Int.Signed.{clash_ℤ}
-use Rattle.std.proofs.lemmas.Int.{by_lt_z}
-use Rattle.std.proofs.Math.IntN.{ℤ_discrete}
+use Rattle.ghc_match.proofs.Words.{◌≡◌, true, false, cond, ℤ, List, [], ◌∷◌, refl, sym, ap, ◌∙◌, subst, inl, inr, Option, Some, codes, eq_by_cmp, clash_ℤ, by_lt_z, ℤ_discrete, coded_list, coded_ℕ, VarName, Comparison, Less, AtMost, Greater, AtLeast, Equal, NotEqual, Tree, variable, integer, node, none as no_tree, more, IsValue, In, Leads, Passes, IsAcyclic, name_cmp, StoreValue, value_at, leads_once, name_total, itself as itself_name, Decided, some_decided, same_decided, name_decided, each_in, not_both, Test, Wait as wait, IsInteger as is_integer, Compare as compare, Clause, IsLinear, variables_of_test, At, Number, Compares, IsAtom, IsList, StandsFor, HeadFits, StandsAt, Holds, TestWants, SaysNo, GuardSaysNo, GuardWants, WaitsFor, LooksAt, Outcome, refuses, waits, accepts, HasOutcome, EachClauseHasAnOutcome}
 use Rattle.std.specs.FinMap as finite
-use Rattle.std.specs.Coded.{coded_list, coded_ℕ}
-use Rattle.ghc_term.specs.declared.var_name.VarName.{VarName}
-use Rattle.ghc_term.specs.declared.comparison.Comparison.{Comparison}
-use Rattle.ghc_term.specs.declared.comparison.Comparison.TheVariants.{Less, AtMost, Greater, AtLeast, Equal, NotEqual}
-use Rattle.ghc_term.specs.Tree.{Tree, variable, integer, node, none as no_tree, more, IsValue}
-use Rattle.ghc_term.specs.Lists.{In}
-use Rattle.ghc_term.specs.Bindings.{Leads, Passes, IsAcyclic, name_cmp}
-use Rattle.ghc_term.specs.Store.{StoreValue, value_at}
-use Rattle.ghc_term.proofs.Chains.{leads_once}
-use Rattle.ghc_term.proofs.Names.{name_total, itself as itself_name}
-use Rattle.ghc_term.proofs.Decided.{Decided, some_decided, same_decided, name_decided}
-use Rattle.ghc_term.proofs.ListsLemmas.{each_in, not_both}
-use Rattle.ghc_flat.specs.declared.test.Test.{Test}
-use Rattle.ghc_flat.specs.declared.test.Test.TheVariants.{Wait as wait, IsInteger as is_integer, IsAtom as is_atom, IsList as is_list, Compare as compare}
-use Rattle.ghc_flat.specs.Clause.{Clause}
-use Rattle.ghc_flat.specs.Flat.{IsLinear}
-use Rattle.ghc_flat.specs.Variables.{variables_of_test}
-use Rattle.ghc_match.specs.Position.{At}
-use Rattle.ghc_match.specs.Value.{Number}
-use Rattle.ghc_match.specs.Match.{Compares, IsInteger, IsAtom, IsList, StandsFor, HeadFits, StandsAt, Holds, TestWants, SaysNo, GuardSaysNo, GuardWants, WaitsFor, LooksAt, Outcome, refuses, waits, accepts, HasOutcome}
-use Rattle.ghc_match.specs.Laws.{EachClauseHasAnOutcome}
+use Rattle.ghc_flat.specs.declared.test.Test.TheVariants.{IsAtom as is_atom, IsList as is_list}
+use Rattle.ghc_match.specs.Match.{IsInteger}
 use Rattle.ghc_match.proofs.Chains.{leads_passes, passes_in, chains}
 use Rattle.ghc_match.proofs.EachValue.{wanted, numbers}
 use Rattle.ghc_match.proofs.LinearHeads.{one_position}

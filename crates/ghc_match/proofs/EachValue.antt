@@ -1,20 +1,6 @@
 -- In an acyclic finite store each expression has a value.
-use Rattle.std.proofs.Common.{◌≡◌, ℤ, pos, List, refl, subst, inl, inr}
-use Rattle.std.specs.Prelude.{FitsSigned, ◌+ℤ◌, ◌-ℤ◌, ◌*ℤ◌, int_div, int_rem}
-use Rattle.std.specs.Int.{w64, int_wrap}
-use Rattle.std.proofs.lemmas.Int.{int_wrap_fits, SFits-int_wrap}
-use Rattle.std.specs.Coded.{coded_ℤ}
-use Rattle.ghc_term.specs.declared.var_name.VarName.{VarName}
-use Rattle.ghc_term.specs.declared.operator.Operator.{Operator}
-use Rattle.ghc_term.specs.declared.operator.Operator.TheVariants.{Add, Subtract, Multiply, Divide, Modulo}
-use Rattle.ghc_term.specs.Tree.{Tree, variable, integer, node}
-use Rattle.ghc_term.specs.Expression.{Expression, leaf, operation}
-use Rattle.ghc_term.specs.Store.{value_at}
-use Rattle.ghc_term.proofs.Decided.{Decided, same_decided}
-use Rattle.ghc_flat.specs.Variables.{leaf_variables}
-use Rattle.ghc_match.specs.Position.{EndsIn}
-use Rattle.ghc_match.specs.Value.{Computes, Number, of_integer, of_variable, computed, Wants, number, waits, bad}
-use Rattle.ghc_match.specs.Laws.{EachExpressionHasAValue}
+use Rattle.ghc_match.proofs.Words.{◌≡◌, ℤ, pos, List, refl, subst, inl, inr, FitsSigned, ◌+ℤ◌, ◌-ℤ◌, ◌*ℤ◌, int_div, int_rem, w64, int_wrap, int_wrap_fits, SFits-int_wrap, coded_ℤ, VarName, Operator, Add, Subtract, Multiply, Divide, Modulo, Tree, variable, integer, node, Expression, leaf, operation, value_at, Decided, same_decided, leaf_variables, EndsIn, Computes, Number, of_integer, of_variable, computed, Wants, number, bad, EachExpressionHasAValue}
+use Rattle.ghc_match.specs.Value.{waits}
 use Rattle.ghc_match.proofs.Values.{ends_once, sides, variable_is, no_structure, integer_is}
 use Rattle.ghc_match.proofs.Chains.{chains}
 use Rattle.ghc_match.proofs.Listings.{Listing, none, one, restated, some, over, through, the_variable, the_integer}

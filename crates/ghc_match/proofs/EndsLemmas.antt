@@ -1,25 +1,6 @@
 -- Where variables end.
-use Rattle.std.proofs.Common.{◌≡◌, ◌≢◌, ℤ, List, ◌∷◌, refl, sym, ap, ◌∙◌, subst, inl, inr, ◌⊎◌}
-use Rattle.std.specs.Prelude.{Option, Some, None, IsTrue, ◌↔◌}
+use Rattle.ghc_match.proofs.Words.{◌≡◌, ◌≢◌, ℤ, List, ◌∷◌, refl, sym, ap, ◌∙◌, subst, inl, inr, ◌⊎◌, Option, Some, None, IsTrue, ◌↔◌, VarName, TermView, Var, Int, Atom, Struct, Tree, variable, integer, IsValue, shown, Variables, leaf, StoreValue, value_at, Leads, at_free, along, leads_once, one_inserted, EndsIn, Number, ChainEnds, StandsAndEnds, EndsAt, TellsEnd, Scope, Goal, Head, End, Nowhere, Unbound, Value}
 use Rattle.std.specs.FinSet as set
-use Rattle.ghc_term.specs.declared.var_name.VarName.{VarName}
-use Rattle.ghc_term.specs.declared.view.TermView.{TermView}
-use Rattle.ghc_term.specs.declared.view.TermView.TheVariants.{Var, Int, Atom, Struct}
-use Rattle.ghc_term.specs.Tree.{Tree, variable, integer, IsValue}
-use Rattle.ghc_term.specs.Shown.{shown}
-use Rattle.ghc_term.specs.Sets.{Variables}
-use Rattle.ghc_term.specs.Expression.{leaf}
-use Rattle.ghc_term.specs.Store.{StoreValue, value_at}
-use Rattle.ghc_term.specs.Bindings.{Leads, at_free, along}
-use Rattle.ghc_term.proofs.Chains.{leads_once}
-use Rattle.ghc_term.proofs.SetsLemmas.{one_inserted}
-use Rattle.ghc_match.specs.Position.{EndsIn}
-use Rattle.ghc_match.specs.Value.{Number}
-use Rattle.ghc_match.specs.Ends.{ChainEnds, StandsAndEnds, EndsAt, TellsEnd}
-use Rattle.ghc_match.specs.declared.scope.Scope.{Scope}
-use Rattle.ghc_match.specs.declared.scope.Scope.TheVariants.{Goal, Head}
-use Rattle.ghc_match.specs.declared.scope.End.{End}
-use Rattle.ghc_match.specs.declared.scope.End.TheVariants.{Nowhere, Unbound, Value}
 use Rattle.ghc_match.proofs.Values.{ends_once, variable_is}
 use Rattle.ghc_match.proofs.Positions.{value_not}
 

@@ -1,11 +1,5 @@
 -- The facts, place by place.
-use Rattle.std.proofs.Common.{[], ◌∷◌, refl, inl, inr}
-use Rattle.std.specs.Prelude.{codes}
-use Rattle.ghc_term.specs.Tree.{atom}
-use Rattle.ghc_term.specs.Bindings.{at_free}
-use Rattle.ghc_flat.specs.Samples.{asked, v, store, both_atoms}
-use Rattle.ghc_match.specs.Position.{here}
-use Rattle.ghc_match.specs.Facts.{StructureIsNoNumber, WaitsOnTwo}
+use Rattle.ghc_match.proofs.Words.{[], ◌∷◌, refl, inl, inr, codes, atom, at_free, asked, v, store, both_atoms, here, StructureIsNoNumber, WaitsOnTwo}
 use Rattle.ghc_match.proofs.OutcomesByPlaces.{waits_by}
 use Rattle.ghc_match.proofs.Values.{sides, no_structure}
 

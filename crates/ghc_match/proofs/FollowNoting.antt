@@ -1,12 +1,6 @@
 -- Chains that are followed for what they pass.
-use Rattle.std.proofs.Common.{◌≡◌, List, [], ◌∷◌, refl, sym, ap, ◌∙◌, subst, inl, inr, ◌⊎◌}
-use Rattle.std.specs.Prelude.{◌↔◌, IsTrue, Option, Some, None}
+use Rattle.ghc_match.proofs.Words.{◌≡◌, List, [], ◌∷◌, refl, sym, ap, ◌∙◌, subst, inl, inr, ◌⊎◌, ◌↔◌, IsTrue, Option, Some, None, VarName, Tree, variable, IsValue, Variables, Comes, now, on, Passes, one_inserted}
 use Rattle.std.specs.FinSet as set
-use Rattle.ghc_term.specs.declared.var_name.VarName.{VarName}
-use Rattle.ghc_term.specs.Tree.{Tree, variable, IsValue}
-use Rattle.ghc_term.specs.Sets.{Variables}
-use Rattle.ghc_term.specs.Bindings.{Comes, now, on, Passes}
-use Rattle.ghc_term.proofs.SetsLemmas.{one_inserted}
 
 -- the set has x, or the chain of t passes it
 abbrev pub Sees : (VarName → Option Tree) → Variables → Tree → VarName → Type 0

@@ -1,11 +1,5 @@
 -- Sets that gain what the elements of a list have.
-use Rattle.std.proofs.Common.{Bool, true, List, [], ◌∷◌, ◌++◌, refl, subst, inl, inr, ◌⊎◌}
-use Rattle.std.specs.Prelude.{IsTrue, ◌↔◌}
-use Rattle.ghc_term.specs.declared.var_name.VarName.{VarName}
-use Rattle.ghc_term.specs.Lists.{In}
-use Rattle.ghc_term.specs.Sets.{Variables, IsSetOf}
-use Rattle.ghc_term.proofs.ListsLemmas.{in_left, in_more, in_last}
-use Rattle.ghc_match.specs.Meeting.{Gains}
+use Rattle.ghc_match.proofs.Words.{Bool, true, List, [], ◌∷◌, ◌++◌, refl, subst, inl, inr, ◌⊎◌, IsTrue, ◌↔◌, VarName, In, Variables, IsSetOf, in_left, in_more, in_last, Gains}
 
 -- the set of what the elements of a list have, after one element more
 module _ {X : Type 0} (R : X → VarName → Type 0) where

@@ -1,14 +1,6 @@
 -- What tests say, one after another.
-use Rattle.std.proofs.Common.{◌≡◌, Bool, true, false, List, [], ◌∷◌, ◌++◌, refl, sym, subst, inl, inr, ◌⊎◌}
-use Rattle.std.specs.Prelude.{◌↔◌, IsTrue}
-use Rattle.ghc_term.specs.declared.var_name.VarName.{VarName}
-use Rattle.ghc_term.specs.Tree.{Tree, variable, integer, node, IsValue}
-use Rattle.ghc_term.proofs.ListsLemmas.{in_left, in_right, in_more}
-use Rattle.ghc_flat.specs.declared.test.Test.{Test}
-use Rattle.ghc_match.specs.Match.{IsInteger, IsAtom, IsList}
-use Rattle.ghc_match.specs.Guarding.{IsSaid, OneSaysNo}
-use Rattle.ghc_match.specs.declared.guard.Says.{Says}
-use Rattle.ghc_match.specs.declared.guard.Says.TheVariants.{Yes, No, Waits}
+use Rattle.ghc_match.proofs.Words.{◌≡◌, Bool, true, false, List, [], ◌∷◌, ◌++◌, refl, sym, subst, inl, inr, ◌⊎◌, ◌↔◌, IsTrue, VarName, Tree, variable, integer, node, IsValue, in_left, in_right, in_more, Test, IsAtom, IsList, IsSaid, OneSaysNo, Says, Yes, No, Waits}
+use Rattle.ghc_match.specs.Match.{IsInteger}
 
 -- only values are integers, atoms or lists
 pub integer_value : (e : Tree) → IsInteger e → IsValue e

@@ -1,18 +1,5 @@
 -- What a head and a goal have at each position, and which heads fit.
-use Rattle.std.proofs.Common.{◌≡◌, ℕ, List, [], ◌∷◌, length, refl, sym, ◌∙◌, subst, inl, inr, ◌⊎◌}
-use Rattle.std.specs.Prelude.{Option, Some, None, slice_get}
-use Rattle.std.proofs.Math.IntN.{ℤ_discrete}
-use Rattle.std.proofs.Math.Decide.{ℕ_discrete}
-use Rattle.std.specs.Coded.{coded_list, coded_ℕ}
-use Rattle.ghc_term.specs.declared.var_name.VarName.{VarName}
-use Rattle.ghc_term.specs.Tree.{Tree, variable, integer, node, Trees, list_of, IsValue}
-use Rattle.ghc_term.specs.Bindings.{Leads, at_integer, at_node, at_free, Passes, IsAcyclic}
-use Rattle.ghc_term.specs.Store.{StoreValue, value_at}
-use Rattle.ghc_term.proofs.Chains.{leads_once}
-use Rattle.ghc_term.proofs.Decided.{Decided, some_decided, same_decided}
-use Rattle.ghc_flat.specs.Clause.{Clause}
-use Rattle.ghc_match.specs.Position.{At, here, down, unbound}
-use Rattle.ghc_match.specs.Match.{AreAlike, HeadHas, StandsFor, Mismatch, HeadWants}
+use Rattle.ghc_match.proofs.Words.{◌≡◌, ℕ, List, [], ◌∷◌, length, refl, sym, ◌∙◌, subst, inl, inr, ◌⊎◌, Option, Some, None, slice_get, ℤ_discrete, ℕ_discrete, coded_list, coded_ℕ, VarName, Tree, variable, integer, node, Trees, list_of, IsValue, Leads, at_integer, at_node, at_free, Passes, IsAcyclic, StoreValue, value_at, leads_once, Decided, some_decided, same_decided, Clause, At, here, down, unbound, AreAlike, HeadHas, StandsFor, Mismatch, HeadWants}
 use Rattle.ghc_match.proofs.Chains.{leads_passes, passes_in, chains}
 use Rattle.ghc_match.proofs.Listings.{Listing, none, one, restated, itself, over, the_variable}
 use Rattle.ghc_match.proofs.Positions.{places, all_places, at_once, same_variable}

@@ -26,3 +26,4 @@ pub mod TryClause
 pub mod FirstClash
 pub mod Ahead
 pub mod StandsLemmas
+mod Words

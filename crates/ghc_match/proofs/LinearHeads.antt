@@ -1,15 +1,5 @@
 -- In a head without a variable twice, each variable stands at one position.
-use Rattle.std.proofs.Common.{◌≡◌, ℕ, zero, suc, List, [], ◌∷◌, refl, sym, ap, subst, inl}
-use Rattle.std.specs.Prelude.{Some, None, slice_get}
-use Rattle.ghc_term.specs.declared.var_name.VarName.{VarName}
-use Rattle.ghc_term.specs.Tree.{Tree, variable, integer, node, Trees, none, more, list_of, trees}
-use Rattle.ghc_term.specs.Lists.{In}
-use Rattle.ghc_term.proofs.ListsLemmas.{in_left, in_right}
-use Rattle.ghc_flat.specs.Flat.{AreDistinct}
-use Rattle.ghc_flat.specs.Variables.{variables, variables_of_all, variables_of_list}
-use Rattle.ghc_flat.proofs.DistinctLemmas.{distinct_left, distinct_right, distinct_apart}
-use Rattle.ghc_flat.proofs.Counts.{all_list}
-use Rattle.ghc_match.specs.Position.{At, here, down, unbound}
+use Rattle.ghc_match.proofs.Words.{◌≡◌, ℕ, zero, suc, List, [], ◌∷◌, refl, sym, ap, subst, inl, Some, None, slice_get, VarName, Tree, variable, integer, node, Trees, none, more, list_of, trees, In, in_left, in_right, AreDistinct, variables, variables_of_all, variables_of_list, distinct_left, distinct_right, distinct_apart, all_list, At, here, down, unbound}
 use Rattle.ghc_match.proofs.Chains.{written}
 use Rattle.ghc_match.proofs.Positions.{back_again}
 

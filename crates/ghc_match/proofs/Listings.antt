@@ -1,9 +1,5 @@
 -- All of which something holds, as a list.
-use Rattle.std.proofs.Common.{◌≡◌, List, [], ◌∷◌, ◌++◌, refl, subst, inl, inr, ◌⊎◌, sym}
-use Rattle.ghc_term.specs.Lists.{In}
-use Rattle.ghc_term.proofs.ListsLemmas.{Each, each_in, in_left, in_right, each_both, each_as}
-use Rattle.ghc_term.proofs.Decided.{Decided, some_decided}
-use Rattle.ghc_term.specs.Tree.{Tree, variable, integer, node}
+use Rattle.ghc_match.proofs.Words.{◌≡◌, List, [], ◌∷◌, ◌++◌, refl, subst, inl, inr, ◌⊎◌, sym, In, Each, each_in, in_left, in_right, each_both, each_as, Decided, some_decided, Tree, variable, integer, node}
 
 -- the list of all of which P holds
 pub record Listing {X : Type 0} (P : X → Type 0) : Type 0 where

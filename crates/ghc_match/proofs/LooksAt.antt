@@ -1,17 +1,6 @@
 -- What a clause finds in a call is the same in every store that agrees with its own on what the clause looks at.
-use Rattle.std.proofs.Common.{◌≡◌, ℕ, List, [], ◌∷◌, refl, inl, inr}
-use Rattle.std.specs.Prelude.{Option, Some, None}
-use Rattle.ghc_term.specs.declared.var_name.VarName.{VarName}
-use Rattle.ghc_term.specs.Tree.{Tree, variable, node, Trees, IsValue}
-use Rattle.ghc_term.specs.Lists.{In}
-use Rattle.ghc_term.specs.Bindings.{Leads, at_node, along}
-use Rattle.ghc_term.proofs.ListsLemmas.{in_left, in_right}
-use Rattle.ghc_flat.specs.declared.test.Test.{Test}
-use Rattle.ghc_flat.specs.declared.test.Test.TheVariants.{Wait as wait, IsInteger as is_integer, IsAtom as is_atom, IsList as is_list, Compare as compare}
-use Rattle.ghc_flat.specs.Clause.{Clause}
-use Rattle.ghc_flat.specs.Variables.{variables_of_test, leaf_variables}
-use Rattle.ghc_match.specs.Position.{At, here, down, unbound}
-use Rattle.ghc_match.specs.Match.{StandsFor, Mismatch, HeadWants, StandsAt, Holds, TestWants, LooksAt}
+use Rattle.ghc_match.proofs.Words.{◌≡◌, ℕ, List, [], ◌∷◌, refl, inl, inr, Option, Some, None, VarName, Tree, variable, node, Trees, IsValue, In, Leads, at_node, along, in_left, in_right, Test, Wait as wait, IsInteger as is_integer, Compare as compare, Clause, variables_of_test, leaf_variables, At, here, down, unbound, StandsFor, Mismatch, HeadWants, StandsAt, Holds, TestWants, LooksAt}
+use Rattle.ghc_flat.specs.declared.test.Test.TheVariants.{IsAtom as is_atom, IsList as is_list}
 use Rattle.ghc_match.proofs.Chains.{AgreesFrom, leads_there, leads_back, passes_there, passes_back}
 use Rattle.ghc_match.proofs.Values.{number_there}
 

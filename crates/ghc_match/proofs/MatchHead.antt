@@ -1,14 +1,5 @@
 -- How far the walk over a head has come, and what it has shown at its end.
-use Rattle.std.proofs.Common.{◌≡◌, Bool, List, [], ◌∷◌, ◌++◌, subst, inl, inr, ◌⊎◌}
-use Rattle.std.specs.Prelude.{◌↔◌, IsTrue, Option, Some}
-use Rattle.ghc_term.specs.declared.var_name.VarName.{VarName}
-use Rattle.ghc_term.specs.Tree.{Tree, variable}
-use Rattle.ghc_term.specs.Lists.{In}
-use Rattle.ghc_term.specs.Sets.{Variables, IsSetOf}
-use Rattle.ghc_term.specs.Store.{StoreValue, value_at}
-use Rattle.ghc_flat.specs.Clause.{Clause}
-use Rattle.ghc_match.specs.Match.{StandsFor, Mismatch, HeadWants}
-use Rattle.ghc_match.specs.Meeting.{Gains, Clashes, Asks, Passed, standing, Opens, HeadLooksAt}
+use Rattle.ghc_match.proofs.Words.{◌≡◌, Bool, List, [], ◌∷◌, ◌++◌, subst, inl, inr, ◌⊎◌, ◌↔◌, IsTrue, Option, Some, VarName, Tree, variable, In, Variables, IsSetOf, StoreValue, value_at, Clause, StandsFor, Mismatch, HeadWants, Gains, Clashes, Asks, Passed, standing, Opens, HeadLooksAt}
 use Rattle.ghc_match.proofs.WalkedPositions.{Meets, Walked, walk_goes_on}
 use Rattle.ghc_match.proofs.MeetingLemmas.{Seen, seen_on, IsFresh, fresh_on}
 

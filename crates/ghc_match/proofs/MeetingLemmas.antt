@@ -1,26 +1,8 @@
 -- What the positions that are done have shown.
-use Rattle.std.proofs.Common.{◌≡◌, Bool, true, false, cond, List, [], ◌∷◌, ◌++◌, refl, sym, ap, ◌∙◌, subst, inl, inr, ◌⊎◌, append_assoc}
-use Rattle.std.specs.Prelude.{◌↔◌, IsTrue, Option, Some, None}
-use Rattle.std.specs.List.{zip}
-use Rattle.std.specs.Ordering.{eq_by_cmp}
+use Rattle.ghc_match.proofs.Words.{◌≡◌, Bool, true, false, cond, List, [], ◌∷◌, ◌++◌, refl, sym, ap, ◌∙◌, subst, inl, inr, ◌⊎◌, append_assoc, ◌↔◌, IsTrue, Option, Some, None, zip, eq_by_cmp, VarName, Tree, variable, integer, node, Trees, none, more, list_of, IsValue, In, name_cmp, Passes, Variables, IsSetOf, StoreValue, value_at, leads_once, name_total, same_name, apart, itself, in_left, in_right, in_more, one_inserted, holds_nothing, AreDistinct, distinct_left, distinct_apart, ChainEnds, AreAlike, Gains, arguments, Clashes, Asks, Passed, standing, Opens}
 use Rattle.std.specs.FinMap as finite
 use Rattle.std.specs.FinSet as set
-use Rattle.ghc_term.specs.declared.var_name.VarName.{VarName}
-use Rattle.ghc_term.specs.Tree.{Tree, variable, integer, node, Trees, none, more, list_of, IsValue}
 use Rattle.ghc_term.specs.Variables.{variables, variables_of_all, variables_of_list}
-use Rattle.ghc_term.specs.Lists.{In}
-use Rattle.ghc_term.specs.Bindings.{name_cmp, Passes}
-use Rattle.ghc_term.specs.Sets.{Variables, IsSetOf}
-use Rattle.ghc_term.specs.Store.{StoreValue, value_at}
-use Rattle.ghc_term.proofs.Chains.{leads_once}
-use Rattle.ghc_term.proofs.Names.{name_total, same_name, apart, itself}
-use Rattle.ghc_term.proofs.ListsLemmas.{in_left, in_right, in_more}
-use Rattle.ghc_term.proofs.SetsLemmas.{one_inserted, holds_nothing}
-use Rattle.ghc_flat.specs.Flat.{AreDistinct}
-use Rattle.ghc_flat.proofs.DistinctLemmas.{distinct_left, distinct_apart}
-use Rattle.ghc_match.specs.Ends.{ChainEnds}
-use Rattle.ghc_match.specs.Match.{AreAlike}
-use Rattle.ghc_match.specs.Meeting.{Gains, arguments, Clashes, Asks, Passed, standing, Opens}
 use Rattle.ghc_match.proofs.GainsLemmas.{OneHas, has_more}
 use Rattle.ghc_match.proofs.Positions.{value_not, same_variable}
 

@@ -1,13 +1,5 @@
 -- The outcomes of a clause.
-use Rattle.std.proofs.Common.{◌≡◌, List, refl, sym, ap, ◌∙◌, inl, inr}
-use Rattle.std.specs.Prelude.{Option}
-use Rattle.ghc_term.specs.declared.var_name.VarName.{VarName}
-use Rattle.ghc_term.specs.Tree.{Tree}
-use Rattle.ghc_term.proofs.SetsLemmas.{one_set, set_of}
-use Rattle.ghc_term.proofs.MapsLemmas.{one_map}
-use Rattle.ghc_flat.specs.Clause.{Clause}
-use Rattle.ghc_match.specs.Match.{StandsFor, HeadFits, GuardSaysNo, Refuses, WaitsFor, Accepts, LooksAt, refuses, waits, accepts}
-use Rattle.ghc_match.specs.Laws.{OutcomesExclude, OutcomeIsOfWhatIsLookedAt}
+use Rattle.ghc_match.proofs.Words.{◌≡◌, List, refl, sym, ap, ◌∙◌, inl, inr, Option, VarName, Tree, one_set, set_of, one_map, Clause, StandsFor, HeadFits, GuardSaysNo, Refuses, WaitsFor, Accepts, LooksAt, refuses, waits, accepts, OutcomesExclude, OutcomeIsOfWhatIsLookedAt}
 use Rattle.ghc_match.proofs.LooksAt.{stands_there, stands_back, looks_there, looks_back, mismatch_there, head_wants_there, wants_there, holds_there}
 
 module _ (c : Clause) (ts : List Tree) (S : VarName → Option Tree) where

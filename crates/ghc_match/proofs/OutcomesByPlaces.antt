@@ -1,21 +1,7 @@
 -- How an outcome is shown, place by place of the head.
-use Rattle.std.proofs.Common.{◌≡◌, ℕ, List, [], ◌∷◌, refl, sym, ap, ◌∙◌, subst, inl, inr, ◌⊎◌}
-use Rattle.std.specs.Prelude.{Option, Some}
+use Rattle.ghc_match.proofs.Words.{◌≡◌, ℕ, List, [], ◌∷◌, refl, sym, ap, ◌∙◌, subst, inl, inr, ◌⊎◌, Option, Some, VarName, Tree, variable, IsValue, In, Leads, Passes, name_cmp, name_total, leads_once, Test, Clause, variables_of_test, Each, each_in, each_as, set_by, At, AreAlike, HeadHas, StandsFor, Mismatch, HeadWants, StandsAt, Holds, TestWants, WaitsFor, LooksAt, waits, accepts, HasOutcome}
 use Rattle.std.specs.FinMap as finite
 use Rattle.std.specs.FinSet as set
-use Rattle.ghc_term.specs.declared.var_name.VarName.{VarName}
-use Rattle.ghc_term.specs.Tree.{Tree, variable, IsValue}
-use Rattle.ghc_term.specs.Lists.{In}
-use Rattle.ghc_term.specs.Bindings.{Leads, Passes, name_cmp}
-use Rattle.ghc_term.proofs.Names.{name_total}
-use Rattle.ghc_term.proofs.Chains.{leads_once}
-use Rattle.ghc_flat.specs.declared.test.Test.{Test}
-use Rattle.ghc_flat.specs.Clause.{Clause}
-use Rattle.ghc_flat.specs.Variables.{variables_of_test}
-use Rattle.ghc_term.proofs.ListsLemmas.{Each, each_in, each_as}
-use Rattle.ghc_term.proofs.SetsLemmas.{set_by}
-use Rattle.ghc_match.specs.Position.{At}
-use Rattle.ghc_match.specs.Match.{AreAlike, HeadHas, StandsFor, Mismatch, HeadWants, StandsAt, Holds, TestWants, WaitsFor, LooksAt, waits, accepts, HasOutcome}
 use Rattle.ghc_match.proofs.Positions.{places, all_places, at_once, same_variable, value_not, entry_in}
 use Rattle.ghc_match.proofs.Chains.{passes_in}
 

@@ -1,15 +1,6 @@
 -- The positions of a head, one by one.
-use Rattle.std.proofs.Common.{◌≡◌, ℕ, zero, suc, ◌+◌, List, [], ◌∷◌, ◌++◌, map, refl, sym, ap, subst, inl, inr, arith}
+use Rattle.ghc_match.proofs.Words.{◌≡◌, ℕ, zero, suc, ◌+◌, List, [], ◌∷◌, ◌++◌, map, refl, sym, ap, subst, inl, inr, arith, Option, Some, slice_get, VarName, Tree, variable, integer, node, Trees, none, more, list_of, trees, IsValue, In, Leads, name_cmp, in_left, in_right, in_map, in_at, leads_once, place_of, At, here, down, unbound}
 use Rattle.std.specs.FinMap as finite
-use Rattle.std.specs.Prelude.{Option, Some, slice_get}
-use Rattle.ghc_term.specs.declared.var_name.VarName.{VarName}
-use Rattle.ghc_term.specs.Tree.{Tree, variable, integer, node, Trees, none, more, list_of, trees, IsValue}
-use Rattle.ghc_term.specs.Lists.{In}
-use Rattle.ghc_term.specs.Bindings.{Leads, name_cmp}
-use Rattle.ghc_term.proofs.ListsLemmas.{in_left, in_right, in_map, in_at}
-use Rattle.ghc_term.proofs.Chains.{leads_once}
-use Rattle.ghc_term.proofs.MapsLemmas.{place_of}
-use Rattle.ghc_match.specs.Position.{At, here, down, unbound}
 use Rattle.ghc_match.proofs.Chains.{written}
 
 -- a position and what stands there

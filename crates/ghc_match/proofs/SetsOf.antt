@@ -1,13 +1,6 @@
 -- Finite sets of variables made from one another.
-use Rattle.std.proofs.Common.{◌≡◌, ℕ, zero, suc, ◌<◌, true, false, sym, ◌∙◌, subst, inl, inr, ◌⊎◌, arith}
-use Rattle.std.specs.Prelude.{IsTrue}
+use Rattle.ghc_match.proofs.Words.{◌≡◌, ℕ, zero, suc, ◌<◌, true, false, sym, ◌∙◌, subst, inl, inr, ◌⊎◌, arith, IsTrue, or_cases, or_left, or_right, VarName, name_cmp, Variables, IsSetOf, name_total, set_of, set_by}
 use Rattle.std.specs.FinSet as set
-use Rattle.std.proofs.lemmas.Bool.{or_cases, or_left, or_right}
-use Rattle.ghc_term.specs.declared.var_name.VarName.{VarName}
-use Rattle.ghc_term.specs.Bindings.{name_cmp}
-use Rattle.ghc_term.specs.Sets.{Variables, IsSetOf}
-use Rattle.ghc_term.proofs.Names.{name_total}
-use Rattle.ghc_term.proofs.SetsLemmas.{set_of, set_by}
 use Rattle.ghc_match.proofs.Listings.{Listing}
 
 -- the set of all of which P holds

@@ -1,24 +1,5 @@
 -- Small expressions, asked one leaf after another.
-use Rattle.std.proofs.Common.{◌≡◌, ◌≢◌, ℤ, List, ◌++◌, refl, ap, subst, inl, inr}
-use Rattle.std.specs.Prelude.{◌↔◌, Option, Some, None, MatchOption}
-use Rattle.ghc_term.specs.declared.var_name.VarName.{VarName}
-use Rattle.ghc_term.specs.declared.view.TermView.{TermView}
-use Rattle.ghc_term.specs.declared.view.TermView.TheVariants.{Var, Int, Atom, Struct}
-use Rattle.ghc_term.specs.declared.operator.Operator.{Operator}
-use Rattle.ghc_term.specs.declared.comparison.Comparison.{Comparison}
-use Rattle.ghc_term.specs.Tree.{Tree, variable, integer, IsValue}
-use Rattle.ghc_term.specs.Shown.{shown}
-use Rattle.ghc_term.specs.Expression.{Expression, leaf, operation}
-use Rattle.ghc_term.specs.Sets.{Variables}
-use Rattle.ghc_term.proofs.ListsLemmas.{in_left, in_right, in_either}
-use Rattle.ghc_flat.specs.declared.test.Test.TheVariants.{Compare}
-use Rattle.ghc_flat.specs.Variables.{leaf_variables}
-use Rattle.ghc_match.specs.Value.{Number, of_variable, computed, Wants}
-use Rattle.ghc_match.specs.Match.{HoldsBy}
-use Rattle.ghc_match.specs.Meeting.{Gains}
-use Rattle.ghc_match.specs.Tasks.{IsWorth}
-use Rattle.ghc_match.specs.Small.{IsAsked, ComputesOf, ComparesOf}
-use Rattle.ghc_match.specs.declared.small.Asked.TheVariants.{Worth}
+use Rattle.ghc_match.proofs.Words.{◌≡◌, ◌≢◌, ℤ, List, ◌++◌, refl, ap, subst, inl, inr, ◌↔◌, Option, Some, None, MatchOption, VarName, TermView, Var, Int, Atom, Struct, Operator, Comparison, Tree, variable, integer, IsValue, shown, Expression, leaf, operation, Variables, in_left, in_right, in_either, Compare, leaf_variables, Number, of_variable, computed, Wants, HoldsBy, Gains, IsWorth, IsAsked, ComputesOf, ComparesOf, Worth}
 use Rattle.ghc_match.proofs.Positions.{value_not}
 use Rattle.ghc_match.proofs.Values.{number_once, sides, variable_is}
 use Rattle.ghc_match.proofs.GainsLemmas.{OneHas}

@@ -1,16 +1,6 @@
 -- Maps that a few terms, by the places of their variables, are laid over.
-use Rattle.std.proofs.Common.{◌≡◌, ◌≢◌, ℕ, zero, suc, ◌+◌, ◌<◌, ◌≤◌, true, false, cond, List, [], ◌∷◌, length, slice_get, slice_set, Some, None, refl, sym, ap, ◌∙◌, arith}
-use Rattle.std.specs.Prelude.{Option}
-use Rattle.std.specs.Borrow.{Bor}
-use Rattle.std.specs.Ordering.{eq_by_cmp}
+use Rattle.ghc_match.proofs.Words.{◌≡◌, ◌≢◌, ℕ, zero, suc, ◌+◌, ◌<◌, ◌≤◌, true, false, cond, List, [], ◌∷◌, length, slice_get, slice_set, Some, None, refl, sym, ap, ◌∙◌, arith, Option, Bor, eq_by_cmp, VarName, name_cmp, var_inj, Tree, StoreValue, value_at, name_total, name_antisymmetric, same_name, itself, apart, with_one, laid_over}
 use Rattle.std.specs.FinMap as finite
-use Rattle.ghc_term.specs.declared.var_name.VarName.{VarName}
-use Rattle.ghc_term.specs.Bindings.{name_cmp}
-use Rattle.ghc_term.specs.Code.{var_inj}
-use Rattle.ghc_term.specs.Tree.{Tree}
-use Rattle.ghc_term.specs.Store.{StoreValue, value_at}
-use Rattle.ghc_term.proofs.Names.{name_total, name_antisymmetric, same_name, itself, apart}
-use Rattle.ghc_match.specs.Stands.{with_one, laid_over}
 
 abbrev Lent : Type 0
 Lent = List (Option (Bor Tree))

@@ -1,16 +1,5 @@
 -- Tasks, one after another.
-use Rattle.std.proofs.Common.{◌≡◌, ℤ, List, [], ◌∷◌, ◌++◌, sym, ap, ◌∙◌, subst}
-use Rattle.std.specs.Prelude.{◌↔◌, reverse, Option, Some, None, MatchOption}
-use Rattle.std.specs.Borrow.{Bor}
-use Rattle.std.proofs.lemmas.List.{reverse-append}
-use Rattle.ghc_term.specs.declared.var_name.VarName.{VarName}
-use Rattle.ghc_term.specs.declared.operator.Operator.{Operator}
-use Rattle.ghc_term.specs.Tree.{Tree}
-use Rattle.ghc_term.specs.Expression.{Expression, operation}
-use Rattle.ghc_match.specs.Value.{Computes, Number, computed}
-use Rattle.ghc_match.specs.Tasks.{Makes, IsWorth}
-use Rattle.ghc_match.specs.declared.number.Task.{Task}
-use Rattle.ghc_match.specs.declared.number.Task.TheVariants.{Find, Apply}
+use Rattle.ghc_match.proofs.Words.{◌≡◌, ℤ, List, [], ◌∷◌, ◌++◌, sym, ap, ◌∙◌, subst, ◌↔◌, reverse, Option, Some, None, MatchOption, Bor, reverse-append, VarName, Operator, Tree, Expression, operation, Computes, Number, computed, Makes, IsWorth, Task, Find, Apply}
 use Rattle.ghc_match.proofs.Values.{number_once, sides}
 
 module _ {E : VarName → Tree → Type 0} (once : (x : VarName) (e f : Tree) → E x e → E x f → e ≡ f) where

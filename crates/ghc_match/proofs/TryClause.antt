@@ -1,22 +1,7 @@
 -- From what the head and the guard show to the outcome.
-use Rattle.std.proofs.Common.{◌≡◌, ◌<◌, Bool, true, false, List, inl, inr, sym, subst, ◌∙◌}
-use Rattle.std.specs.Prelude.{◌↔◌, Option, Some, IsTrue}
+use Rattle.ghc_match.proofs.Words.{◌≡◌, ◌<◌, Bool, true, false, List, inl, inr, sym, subst, ◌∙◌, ◌↔◌, Option, Some, IsTrue, VarName, In, Tree, variable, Variables, IsSetOf, StoreValue, value_at, member, no_member, Test, Wait as wait, IsInteger as is_integer, Compare as compare, Clause, variables_of_test, Wants, StandsAndEnds, HoldsBy, StandsFor, Mismatch, HeadWants, HeadFits, StandsAt, GuardSaysNo, LooksAt, refuses, waits, accepts, HasOutcome, Gains, HeadLooksAt, OneSaysNo, OneWants, GuardLooksAt}
 use Rattle.std.specs.FinSet as set
-use Rattle.ghc_term.specs.declared.var_name.VarName.{VarName}
-use Rattle.ghc_term.specs.Lists.{In}
-use Rattle.ghc_term.specs.Tree.{Tree, variable}
-use Rattle.ghc_term.specs.Sets.{Variables, IsSetOf}
-use Rattle.ghc_term.specs.Store.{StoreValue, value_at}
-use Rattle.ghc_term.proofs.SetsLemmas.{member, no_member}
-use Rattle.ghc_flat.specs.declared.test.Test.{Test}
-use Rattle.ghc_flat.specs.declared.test.Test.TheVariants.{Wait as wait, IsInteger as is_integer, IsAtom as is_atom, IsList as is_list, Compare as compare}
-use Rattle.ghc_flat.specs.Clause.{Clause}
-use Rattle.ghc_flat.specs.Variables.{variables_of_test}
-use Rattle.ghc_match.specs.Value.{Wants}
-use Rattle.ghc_match.specs.Ends.{StandsAndEnds}
-use Rattle.ghc_match.specs.Match.{HoldsBy, StandsFor, Mismatch, HeadWants, HeadFits, StandsAt, GuardSaysNo, LooksAt, refuses, waits, accepts, HasOutcome}
-use Rattle.ghc_match.specs.Meeting.{Gains, HeadLooksAt}
-use Rattle.ghc_match.specs.Guarding.{OneSaysNo, OneWants, GuardLooksAt}
+use Rattle.ghc_flat.specs.declared.test.Test.TheVariants.{IsAtom as is_atom, IsList as is_list}
 use Rattle.ghc_match.proofs.Values.{number_there}
 
 -- a test that holds where variables end as E says holds where they end as F says

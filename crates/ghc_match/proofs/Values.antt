@@ -1,21 +1,7 @@
 -- The values of expressions: each has one, and hangs on the chains of its variables.
-use Rattle.std.proofs.Common.{◌≡◌, ℤ, List, refl, sym, ap, ◌∙◌, subst, inl, inr, ℕ}
-use Rattle.std.specs.Prelude.{Option}
-use Rattle.ghc_term.specs.declared.var_name.VarName.{VarName}
-use Rattle.ghc_term.specs.declared.operator.Operator.{Operator}
-use Rattle.ghc_term.specs.declared.operator.Operator.TheVariants.{Add, Subtract, Multiply, Divide, Modulo}
-use Rattle.ghc_term.specs.Tree.{Tree, variable, integer, node, Trees}
-use Rattle.ghc_term.specs.Expression.{Expression, leaf, operation}
-use Rattle.ghc_term.specs.Lists.{In}
-use Rattle.ghc_term.specs.Bindings.{Comes, now, on, Reaches, here, through}
-use Rattle.ghc_term.proofs.Chains.{leads_once}
-use Rattle.ghc_term.proofs.ListsLemmas.{in_left, in_right, in_either}
-use Rattle.ghc_term.proofs.SetsLemmas.{one_set, set_of}
-use Rattle.ghc_flat.specs.Variables.{leaf_variables}
-use Rattle.ghc_match.specs.Position.{EndsIn}
-use Rattle.ghc_match.specs.Value.{Computes, Number, of_integer, of_variable, computed, Wants, Value, number, waits, bad, HasValue}
-use Rattle.ghc_match.specs.Looked.{ExpressionReaches}
-use Rattle.ghc_match.specs.Laws.{ValuesExclude, ValueLooksAtItsTerms}
+use Rattle.ghc_match.proofs.Words.{◌≡◌, ℤ, List, refl, sym, ap, ◌∙◌, subst, inl, inr, ℕ, Option, VarName, Operator, Add, Subtract, Multiply, Divide, Modulo, Tree, variable, integer, node, Trees, Expression, leaf, operation, In, Comes, now, on, Reaches, through, leads_once, in_left, in_right, in_either, one_set, set_of, leaf_variables, EndsIn, Computes, Number, of_integer, of_variable, computed, Wants, number, bad, HasValue, ExpressionReaches, ValuesExclude, ValueLooksAtItsTerms}
+use Rattle.ghc_term.specs.Bindings.{here}
+use Rattle.ghc_match.specs.Value.{Value, waits}
 use Rattle.ghc_match.proofs.Chains.{leads_there, leads_back}
 use Rattle.ghc_match.proofs.Positions.{same_variable}
 

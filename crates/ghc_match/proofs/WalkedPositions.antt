@@ -1,17 +1,6 @@
 -- The walk over a head: which positions are done, and which are ahead.
-use Rattle.std.proofs.Common.{◌≡◌, ℕ, zero, suc, ◌+◌, ◌<◌, ◌≤◌, List, [], ◌∷◌, ◌++◌, refl, sym, ap, ◌∙◌, subst, inl, inr, ◌⊎◌, arith}
-use Rattle.std.specs.Prelude.{Option, Some, None, slice_get}
-use Rattle.std.specs.List.{zip}
+use Rattle.ghc_match.proofs.Words.{◌≡◌, ℕ, zero, suc, ◌+◌, ◌<◌, ◌≤◌, List, [], ◌∷◌, ◌++◌, refl, sym, ap, ◌∙◌, subst, inl, inr, ◌⊎◌, arith, Option, Some, None, slice_get, zip, VarName, Tree, variable, integer, node, Trees, none, more, list_of, In, at_node, leads_once, in_left, in_right, in_either, in_more, At, here, down, unbound, ChainEnds, arguments, Opens}
 use Rattle.std.proofs.lemmas.List.{append-nil}
-use Rattle.ghc_term.specs.declared.var_name.VarName.{VarName}
-use Rattle.ghc_term.specs.Tree.{Tree, variable, integer, node, Trees, none, more, list_of}
-use Rattle.ghc_term.specs.Lists.{In}
-use Rattle.ghc_term.specs.Bindings.{at_node}
-use Rattle.ghc_term.proofs.Chains.{leads_once}
-use Rattle.ghc_term.proofs.ListsLemmas.{in_left, in_right, in_either, in_more}
-use Rattle.ghc_match.specs.Position.{At, here, down, unbound}
-use Rattle.ghc_match.specs.Ends.{ChainEnds}
-use Rattle.ghc_match.specs.Meeting.{arguments, Opens}
 use Rattle.ghc_match.proofs.Chains.{written}
 
 -- what stands at one place of two lists

@@ -1,5 +1,4 @@
-use Rattle.std.proofs.Common.{ap, ◌∙◌}
-use Rattle.ghc_match.specs.Meeting.{arguments}
+use Rattle.ghc_match.proofs.Words.{ap, ◌∙◌, arguments}
 use Rattle.ghc_match.proofs.Positions.{back_again}
 use Rattle.ghc_match.proofs.alike.arguments_of.Goals as goal
 

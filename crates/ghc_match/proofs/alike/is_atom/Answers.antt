@@ -1,5 +1,4 @@
-use Rattle.std.proofs.Common.{◌≡◌, false, true, sym, subst}
-use Rattle.ghc_match.specs.Match.{IsAtom}
+use Rattle.ghc_match.proofs.Words.{◌≡◌, false, true, sym, subst, IsAtom}
 use Rattle.ghc_match.proofs.AlikeLemmas.{no_atom}
 use Rattle.ghc_match.proofs.alike.is_atom.Goals as goal
 

@@ -1,12 +1,5 @@
-use Rattle.std.proofs.Common.{◌≡◌, ◌∙◌, ◌++◌, ap, subst, arith}
+use Rattle.ghc_match.proofs.Words.{◌≡◌, ◌∙◌, ◌++◌, ap, subst, arith, IsSetOf, value_at, member, no_member, leaf_variables, EndsIn, Wants, IsWorth}
 use Rattle.std.specs.FinSet as set
-use Rattle.ghc_term.specs.Sets.{IsSetOf}
-use Rattle.ghc_term.specs.Store.{value_at}
-use Rattle.ghc_term.proofs.SetsLemmas.{member, no_member}
-use Rattle.ghc_flat.specs.Variables.{leaf_variables}
-use Rattle.ghc_match.specs.Position.{EndsIn}
-use Rattle.ghc_match.specs.Value.{Wants}
-use Rattle.ghc_match.specs.Tasks.{IsWorth}
 use Rattle.ghc_match.proofs.evaluation.evaluate.Goals as goal
 
 pub returns-then-len-gt0 : goal.returns-then-len-gt0

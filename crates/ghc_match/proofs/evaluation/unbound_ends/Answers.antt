@@ -1,11 +1,4 @@
-use Rattle.std.proofs.Common.{take, get_or, sym, ◌∙◌, subst}
-use Rattle.std.proofs.lemmas.List.{take_more}
-use Rattle.ghc_term.specs.Tree.{variable}
-use Rattle.ghc_term.specs.Sets.{IsSetOf}
-use Rattle.ghc_term.specs.Store.{value_at}
-use Rattle.ghc_term.proofs.SetsLemmas.{holds_nothing}
-use Rattle.ghc_match.specs.Position.{EndsIn}
-use Rattle.ghc_match.specs.Value.{Wants}
+use Rattle.ghc_match.proofs.Words.{take, get_or, sym, ◌∙◌, subst, take_more, variable, IsSetOf, value_at, holds_nothing, EndsIn, Wants}
 use Rattle.ghc_match.proofs.Values.{ends_once}
 use Rattle.ghc_match.proofs.GainsLemmas.{has_more}
 use Rattle.ghc_match.proofs.EndsLemmas.{not_unbound, after_unbound, after_other}

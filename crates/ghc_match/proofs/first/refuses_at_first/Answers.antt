@@ -1,7 +1,4 @@
-use Rattle.std.proofs.Common.{rules, ◌≡◌, false, true, sym, ◌∙◌, ap, subst}
-use Rattle.std.specs.Prelude.{slice_get, Some, not, option_copied}
-use Rattle.ghc_match.specs.First.{FirstEnds}
-use Rattle.ghc_match.specs.Match.{AreAlike}
+use Rattle.ghc_match.proofs.Words.{rules, ◌≡◌, false, true, sym, ◌∙◌, ap, subst, slice_get, Some, not, option_copied, FirstEnds, AreAlike}
 use Rattle.ghc_match.proofs.FirstClash.{first_refuses}
 use Rattle.ghc_match.proofs.first.refuses_at_first.Goals as goal
 

@@ -1,7 +1,4 @@
-use Rattle.std.proofs.Common.{◌≡◌, false, true, refl, sym, subst}
-use Rattle.ghc_term.specs.Tree.{IsValue, variable}
-use Rattle.ghc_term.specs.Store.{value_at}
-use Rattle.ghc_match.specs.Ends.{ChainEnds, StandsAndEnds}
+use Rattle.ghc_match.proofs.Words.{◌≡◌, false, true, refl, sym, subst, IsValue, variable, value_at, ChainEnds, StandsAndEnds}
 use Rattle.ghc_match.proofs.EndsLemmas.{stands_ends_once, after_unbound, after_other}
 use Rattle.ghc_match.proofs.AlikeLemmas.{shown_value}
 use Rattle.ghc_match.proofs.Positions.{value_not}

@@ -1,11 +1,4 @@
-use Rattle.std.proofs.Common.{◌≡◌, ◌++◌, ◌∷◌, [], Bool, true, false, take, get_or, sym, ◌∙◌, subst}
-use Rattle.std.proofs.lemmas.List.{take_more}
-use Rattle.ghc_term.specs.declared.var_name.VarName.{VarName}
-use Rattle.ghc_term.specs.Tree.{variable}
-use Rattle.ghc_term.specs.Store.{value_at}
-use Rattle.ghc_match.specs.Ends.{StandsAndEnds}
-use Rattle.ghc_match.specs.Meeting.{Gains}
-use Rattle.ghc_match.specs.Guarding.{StandsAndPasses}
+use Rattle.ghc_match.proofs.Words.{◌≡◌, ◌++◌, ◌∷◌, [], Bool, true, false, take, get_or, sym, ◌∙◌, subst, take_more, VarName, variable, value_at, StandsAndEnds, Gains, StandsAndPasses}
 use Rattle.ghc_match.proofs.GainsLemmas.{OneHas, gains_more, Tells, tells_one, tells_same}
 use Rattle.ghc_match.proofs.guard.look_at_all.Goals as goal
 use Rattle.ghc_match.proofs.guard.look_at_all.Goals.{then-branch, else-branch}

@@ -1,13 +1,4 @@
-use Rattle.std.proofs.Common.{◌++◌, ◌∷◌, [], Bool, take, arith, sym, ap, ◌∙◌, subst}
-use Rattle.std.proofs.lemmas.List.{take_more, take_all}
-use Rattle.ghc_term.specs.declared.var_name.VarName.{VarName}
-use Rattle.ghc_term.specs.Store.{value_at}
-use Rattle.ghc_flat.specs.declared.test.Test.{Test}
-use Rattle.ghc_flat.specs.Variables.{variables_of_test}
-use Rattle.ghc_match.specs.Value.{Wants}
-use Rattle.ghc_match.specs.Ends.{StandsAndEnds}
-use Rattle.ghc_match.specs.Meeting.{Gains}
-use Rattle.ghc_match.specs.Guarding.{PassedFrom, IsSaid, OneSaysNo}
+use Rattle.ghc_match.proofs.Words.{◌++◌, ◌∷◌, [], Bool, take, arith, sym, ap, ◌∙◌, subst, take_more, take_all, VarName, value_at, Test, variables_of_test, Wants, StandsAndEnds, Gains, PassedFrom, IsSaid, OneSaysNo}
 use Rattle.ghc_match.proofs.GainsLemmas.{OneHas, gains_nothing, gains_more}
 use Rattle.ghc_match.proofs.GuardingLemmas.{no_more_no, no_more_other}
 use Rattle.ghc_match.proofs.guard.try_guard.Goals as goal

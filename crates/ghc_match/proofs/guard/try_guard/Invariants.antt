@@ -1,8 +1,4 @@
-use Rattle.std.proofs.Common.{take}
-use Rattle.ghc_term.specs.Store.{value_at}
-use Rattle.ghc_match.specs.Ends.{StandsAndEnds}
-use Rattle.ghc_match.specs.Meeting.{Gains}
-use Rattle.ghc_match.specs.Guarding.{OneSaysNo, OneWants, GuardLooksAt}
+use Rattle.ghc_match.proofs.Words.{take, value_at, StandsAndEnds, Gains, OneSaysNo, OneWants, GuardLooksAt}
 use Rattle.ghc_match.proofs.guard.try_guard.Given as goal
 
 abbrev pub invariant-loop-test : goal.invariant-loop-test

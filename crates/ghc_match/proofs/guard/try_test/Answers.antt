@@ -1,10 +1,4 @@
-use Rattle.std.proofs.Common.{◌≡◌, true, false, sym, ◌∙◌, subst}
-use Rattle.std.specs.Prelude.{IfOk}
-use Rattle.ghc_term.specs.Store.{value_at}
-use Rattle.ghc_match.specs.Value.{Wants}
-use Rattle.ghc_match.specs.Ends.{StandsAndEnds}
-use Rattle.ghc_match.specs.Meeting.{Gains}
-use Rattle.ghc_match.specs.Guarding.{PassedFrom, IsSaid}
+use Rattle.ghc_match.proofs.Words.{◌≡◌, true, false, sym, ◌∙◌, subst, IfOk, value_at, Wants, StandsAndEnds, Gains, PassedFrom, IsSaid}
 use Rattle.ghc_match.proofs.guard.try_test.Goals as goal
 
 pub returns-in-Some-clause-says : goal.returns-in-Some-clause-says

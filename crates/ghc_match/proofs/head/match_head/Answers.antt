@@ -1,8 +1,4 @@
-use Rattle.std.proofs.Common.{◌≡◌, ◌<◌, [], ◌++◌, sym, ap, ◌∙◌, subst}
-use Rattle.std.specs.List.{zip}
-use Rattle.ghc_term.specs.Store.{value_at}
-use Rattle.ghc_term.specs.Tree.{Tree}
-use Rattle.ghc_match.specs.Places.{ahead_in, ahead_of, all_ahead}
+use Rattle.ghc_match.proofs.Words.{◌≡◌, ◌<◌, [], ◌++◌, sym, ap, ◌∙◌, subst, zip, value_at, Tree, ahead_in, ahead_of, all_ahead}
 use Rattle.ghc_match.proofs.WalkedPositions.{Walked, walk_begins, walk_ends, head_parts, opens_more}
 use Rattle.ghc_match.proofs.MeetingLemmas.{Seen, IsFresh, seen_nothing, fresh_first, fresh_last}
 use Rattle.ghc_match.proofs.MatchHead.{HeadSoFar, head_goes_on, all_clashes, all_stands, all_wanted, all_looked}

@@ -1,5 +1,4 @@
-use Rattle.ghc_term.specs.Store.{value_at}
-use Rattle.ghc_match.specs.Places.{all_ahead}
+use Rattle.ghc_match.proofs.Words.{value_at, all_ahead}
 use Rattle.ghc_match.proofs.WalkedPositions.{head_parts}
 use Rattle.ghc_match.proofs.MatchHead.{HeadSoFar}
 use Rattle.ghc_match.proofs.head.match_head.Given as goal

@@ -1,13 +1,5 @@
-use Rattle.std.proofs.Common.{◌≡◌, ◌⊎◌, Bool, sym, ap, ◌∙◌, subst, refl, [], true, false}
-use Rattle.std.specs.Prelude.{IsTrue, ◌↔◌}
-use Rattle.std.specs.List.{zip}
-use Rattle.ghc_term.specs.Store.{value_at}
-use Rattle.ghc_term.specs.Tree.{IsValue, variable}
+use Rattle.ghc_match.proofs.Words.{◌≡◌, ◌⊎◌, Bool, sym, ap, ◌∙◌, subst, refl, [], true, false, IsTrue, ◌↔◌, zip, value_at, IsValue, variable, ChainEnds, Variables, arguments, Opens, Clashes, Asks, Passed, Gains, Met}
 use Rattle.ghc_match.proofs.Chains.{chains}
-use Rattle.ghc_match.specs.Ends.{ChainEnds}
-use Rattle.ghc_term.specs.Sets.{Variables}
-use Rattle.ghc_match.specs.Meeting.{arguments, Opens, Clashes, Asks, Passed, Gains}
-use Rattle.ghc_match.specs.declared.head.Met.{Met}
 use Rattle.ghc_match.proofs.AlikeLemmas.{shown_value}
 use Rattle.ghc_match.proofs.WalkedPositions.{opens_nothing, opens_no_terms}
 use Rattle.ghc_match.proofs.MeetingLemmas.{clash_not, clash_new, clash_alike, asks_new, asks_not, passed_by, standing_value}

@@ -1,6 +1,4 @@
-use Rattle.std.proofs.Common.{◌≡◌, ◌++◌}
-use Rattle.std.specs.Prelude.{reverse}
-use Rattle.ghc_flat.specs.Variables.{leaf_variables}
+use Rattle.ghc_match.proofs.Words.{◌≡◌, ◌++◌, reverse, leaf_variables}
 use Rattle.ghc_match.proofs.PushLeaves.{leaves, parts}
 use Rattle.ghc_match.proofs.leaves.push_parts.Given as goal
 

@@ -1,8 +1,4 @@
-use Rattle.std.proofs.Common.{ℤ}
-use Rattle.std.specs.Prelude.{◌↔◌, reverse}
-use Rattle.ghc_match.specs.Ends.{EndsAt}
-use Rattle.ghc_match.specs.Value.{Number}
-use Rattle.ghc_match.specs.Tasks.{Makes, steps}
+use Rattle.ghc_match.proofs.Words.{ℤ, ◌↔◌, reverse, EndsAt, Number, Makes, steps}
 use Rattle.ghc_match.proofs.number.compute.Given as goal
 
 abbrev pub invariant-loop-task : goal.invariant-loop-task

@@ -1,13 +1,6 @@
-use Rattle.std.proofs.Common.{rules, ◌∷◌, ◌++◌, [], sym, ap, ◌∙◌, subst}
-use Rattle.std.proofs.lemmas.Int.{to_z-of_z}
+use Rattle.ghc_match.proofs.Words.{rules, ◌∷◌, ◌++◌, [], sym, ap, ◌∙◌, subst, to_z-of_z, reverse, ◌↔◌, reverse-append, leaf, EndsAt, Makes, Find, Apply}
 use mir.Val.{SFits}
 use mir.Syntax.{w64}
-use Rattle.std.specs.Prelude.{reverse, ◌↔◌}
-use Rattle.std.proofs.lemmas.List.{reverse-append}
-use Rattle.ghc_term.specs.Expression.{leaf}
-use Rattle.ghc_match.specs.Ends.{EndsAt}
-use Rattle.ghc_match.specs.Tasks.{Makes}
-use Rattle.ghc_match.specs.declared.number.Task.TheVariants.{Find, Apply}
 use Rattle.ghc_match.proofs.EndsLemmas.{once_at}
 use Rattle.ghc_match.proofs.TasksLemmas.{leaf_found, operation_opened}
 use Rattle.ghc_match.proofs.number.find.Goals as goal

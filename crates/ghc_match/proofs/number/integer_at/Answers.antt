@@ -1,11 +1,6 @@
-use Rattle.std.proofs.Common.{rules, sym, ◌∙◌, subst}
-use Rattle.std.proofs.lemmas.Int.{to_z-of_z}
+use Rattle.ghc_match.proofs.Words.{rules, sym, ◌∙◌, subst, to_z-of_z, integer, leaf, Number, of_integer, of_variable, EndsAt}
 use mir.Val.{SFits}
 use mir.Syntax.{w64}
-use Rattle.ghc_term.specs.Tree.{integer}
-use Rattle.ghc_term.specs.Expression.{leaf}
-use Rattle.ghc_match.specs.Value.{Number, of_integer, of_variable}
-use Rattle.ghc_match.specs.Ends.{EndsAt}
 use Rattle.ghc_match.proofs.EndsLemmas.{once_at, no_value, shown_no_integer, leaf_number}
 use Rattle.ghc_match.proofs.number.integer_at.Goals as goal
 

@@ -1,10 +1,6 @@
-use Rattle.std.proofs.Common.{rules, sym, subst}
-use Rattle.std.proofs.lemmas.Int.{to_z-of_z}
+use Rattle.ghc_match.proofs.Words.{rules, sym, subst, to_z-of_z, leaf, EndsAt, Number}
 use mir.Val.{SFits}
 use mir.Syntax.{w64}
-use Rattle.ghc_term.specs.Expression.{leaf}
-use Rattle.ghc_match.specs.Ends.{EndsAt}
-use Rattle.ghc_match.specs.Value.{Number}
 use Rattle.ghc_match.proofs.EndsLemmas.{once_at}
 use Rattle.ghc_match.proofs.TasksLemmas.{operated}
 use Rattle.ghc_match.proofs.number.operate.Goals as goal

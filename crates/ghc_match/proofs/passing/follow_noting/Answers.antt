@@ -1,11 +1,5 @@
-use Rattle.std.proofs.Common.{◌+◌, ◌<◌, [], ◌∷◌, sym, subst}
+use Rattle.ghc_match.proofs.Words.{◌+◌, ◌<◌, [], ◌∷◌, sym, subst, value_at, at_free, along, IsValue, walk, walk_step, at_value, ChainEnds}
 use Rattle.std.specs.FinMap as finite
-use Rattle.ghc_term.specs.Store.{value_at}
-use Rattle.ghc_term.specs.Bindings.{at_free, along}
-use Rattle.ghc_term.specs.Tree.{IsValue}
-use Rattle.ghc_term.proofs.Total.{walk, walk_step}
-use Rattle.ghc_term.proofs.Walks.{at_value}
-use Rattle.ghc_match.specs.Ends.{ChainEnds}
 use Rattle.ghc_match.proofs.FollowNoting.{sees_on, sees_last, sees_value}
 use Rattle.ghc_match.proofs.AlikeLemmas.{shown_value}
 use Rattle.ghc_match.proofs.passing.follow_noting.Goals as goal

@@ -1,13 +1,6 @@
-use Rattle.std.proofs.Common.{◌+◌, ◌⊎◌}
-use Rattle.std.specs.Prelude.{IsTrue, ◌↔◌}
+use Rattle.ghc_match.proofs.Words.{◌+◌, ◌⊎◌, IsTrue, ◌↔◌, value_at, Tree, Passes, VarName, walk, ChainEnds}
 use Rattle.std.specs.FinMap as finite
 use Rattle.std.specs.FinSet as set
-use Rattle.ghc_term.specs.Store.{value_at}
-use Rattle.ghc_term.specs.Tree.{Tree}
-use Rattle.ghc_term.specs.Bindings.{Passes}
-use Rattle.ghc_term.specs.declared.var_name.VarName.{VarName}
-use Rattle.ghc_term.proofs.Total.{walk}
-use Rattle.ghc_match.specs.Ends.{ChainEnds}
 use Rattle.ghc_match.proofs.passing.follow_noting.Given as goal
 
 abbrev pub invariant-loop-x : goal.invariant-loop-x

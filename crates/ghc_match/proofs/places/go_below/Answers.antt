@@ -1,5 +1,4 @@
-use Rattle.std.proofs.Common.{◌++◌, ap, ◌∙◌}
-use Rattle.ghc_match.specs.Places.{ahead_in, ahead_of}
+use Rattle.ghc_match.proofs.Words.{◌++◌, ap, ◌∙◌, ahead_in, ahead_of}
 use Rattle.ghc_match.proofs.Ahead.{ahead_push}
 use Rattle.ghc_match.proofs.places.go_below.Goals as goal
 

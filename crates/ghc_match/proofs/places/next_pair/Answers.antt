@@ -1,5 +1,4 @@
-use Rattle.std.proofs.Common.{◌++◌, append-nil, ap, ◌∙◌}
-use Rattle.ghc_match.specs.Places.{ahead_of}
+use Rattle.ghc_match.proofs.Words.{◌++◌, append-nil, ap, ◌∙◌, ahead_of}
 use Rattle.ghc_match.proofs.Ahead.{ahead_push}
 use Rattle.ghc_match.proofs.places.next_pair.Goals as goal
 

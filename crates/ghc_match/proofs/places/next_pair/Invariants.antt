@@ -1,5 +1,4 @@
-use Rattle.std.proofs.Common.{◌≡◌, length}
-use Rattle.ghc_match.specs.Places.{all_ahead}
+use Rattle.ghc_match.proofs.Words.{◌≡◌, length, all_ahead}
 use Rattle.ghc_match.proofs.places.next_pair.Given as goal
 
 abbrev pub invariant-loop-head : goal.invariant-loop-head

@@ -1,8 +1,4 @@
-use Rattle.std.proofs.Common.{[], ◌∷◌, sym, subst}
-use Rattle.ghc_term.specs.Store.{value_at}
-use Rattle.ghc_term.specs.Tree.{variable}
-use Rattle.ghc_term.specs.Bindings.{at_free}
-use Rattle.ghc_match.specs.Ends.{EndsAt, TellsEnd}
+use Rattle.ghc_match.proofs.Words.{[], ◌∷◌, sym, subst, value_at, variable, at_free, EndsAt, TellsEnd}
 use Rattle.ghc_match.proofs.EndsLemmas.{through, stood}
 use Rattle.ghc_match.proofs.scope.end_of.Goals as goal
 

@@ -1,8 +1,4 @@
-use Rattle.std.proofs.Common.{sym, subst}
-use Rattle.std.specs.Prelude.{IfOk}
-use Rattle.ghc_term.specs.Store.{value_at}
-use Rattle.ghc_match.specs.Ends.{StandsAndEnds}
-use Rattle.ghc_match.specs.Small.{spelled, IsAsked}
+use Rattle.ghc_match.proofs.Words.{sym, subst, IfOk, value_at, StandsAndEnds, spelled, IsAsked}
 use Rattle.ghc_match.proofs.small.ask.Goals as goal
 
 pub returns-in-Leaf-clause-asked : goal.returns-in-Leaf-clause-asked

@@ -1,15 +1,6 @@
-use Rattle.std.proofs.Common.{rules, sym, subst}
-use Rattle.std.specs.Prelude.{Some, IfOk}
-use Rattle.std.proofs.lemmas.Int.{to_z-of_z}
+use Rattle.ghc_match.proofs.Words.{rules, sym, subst, Some, IfOk, to_z-of_z, integer, leaf, value_at, StandsAndEnds, of_integer, IsAsked, Worth}
 use mir.Val.{SFits, to_z, of_z}
 use mir.Syntax.{w64}
-use Rattle.ghc_term.specs.Tree.{integer}
-use Rattle.ghc_term.specs.Expression.{leaf}
-use Rattle.ghc_term.specs.Store.{value_at}
-use Rattle.ghc_match.specs.Ends.{StandsAndEnds}
-use Rattle.ghc_match.specs.Value.{of_integer}
-use Rattle.ghc_match.specs.Small.{IsAsked}
-use Rattle.ghc_match.specs.declared.small.Asked.TheVariants.{Worth}
 use Rattle.ghc_match.proofs.small.ask_leaf.Goals as goal
 
 pub returns-in-Var-clause-asked : goal.returns-in-Var-clause-asked

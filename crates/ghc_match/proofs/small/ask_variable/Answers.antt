@@ -1,14 +1,6 @@
-use Rattle.std.proofs.Common.{rules, refl, sym, subst}
-use Rattle.std.specs.Prelude.{Some}
-use Rattle.std.proofs.lemmas.Int.{to_z-of_z}
+use Rattle.ghc_match.proofs.Words.{rules, refl, sym, subst, Some, to_z-of_z, variable, integer, IsValue, leaf, value_at, ChainEnds, StandsAndEnds, IsAsked, Worth}
 use mir.Val.{SFits}
 use mir.Syntax.{w64}
-use Rattle.ghc_term.specs.Tree.{variable, integer, IsValue}
-use Rattle.ghc_term.specs.Expression.{leaf}
-use Rattle.ghc_term.specs.Store.{value_at}
-use Rattle.ghc_match.specs.Ends.{ChainEnds, StandsAndEnds}
-use Rattle.ghc_match.specs.Small.{IsAsked}
-use Rattle.ghc_match.specs.declared.small.Asked.TheVariants.{Worth}
 use Rattle.ghc_match.proofs.EndsLemmas.{stands_ends_once, after_unbound, after_other}
 use Rattle.ghc_match.proofs.AlikeLemmas.{shown_value}
 use Rattle.ghc_match.proofs.Positions.{value_not}

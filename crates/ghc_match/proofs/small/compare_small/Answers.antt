@@ -1,12 +1,4 @@
-use Rattle.std.proofs.Common.{◌≡◌, false, true, sym, ◌∙◌, subst}
-use Rattle.ghc_term.specs.declared.var_name.VarName.{VarName}
-use Rattle.ghc_term.specs.Tree.{variable}
-use Rattle.ghc_term.specs.Store.{value_at}
-use Rattle.ghc_flat.specs.Variables.{leaf_variables}
-use Rattle.ghc_match.specs.Ends.{StandsAndEnds}
-use Rattle.ghc_match.specs.Guarding.{StandsAndPasses}
-use Rattle.ghc_match.specs.Small.{spelled, IsAsked}
-use Rattle.ghc_match.specs.declared.small.Asked.TheVariants.{Worth}
+use Rattle.ghc_match.proofs.Words.{◌≡◌, false, true, sym, ◌∙◌, subst, VarName, variable, value_at, leaf_variables, StandsAndEnds, StandsAndPasses, spelled, IsAsked, Worth}
 use Rattle.ghc_match.proofs.EndsLemmas.{stands_ends_once}
 use Rattle.ghc_match.proofs.SmallLemmas.{gains_both, wants_none, compared_of}
 use Rattle.ghc_match.proofs.small.compare_small.Goals as goal

@@ -1,5 +1,4 @@
-use Rattle.std.proofs.Common.{◌≡◌, ◌≤◌, drop, length}
-use Rattle.ghc_match.specs.Stands.{laid_over}
+use Rattle.ghc_match.proofs.Words.{◌≡◌, ◌≤◌, drop, length, laid_over}
 use Rattle.ghc_match.proofs.stands.share_few.Given as goal
 
 abbrev pub invariant-loop-place : goal.invariant-loop-place

@@ -1,8 +1,5 @@
-use Rattle.std.proofs.Common.{sym, subst, false}
-use Rattle.std.specs.Prelude.{IsTrue, ◌↔◌, IfOk}
-use Rattle.ghc_term.specs.Store.{value_at}
-use Rattle.ghc_match.specs.Ends.{StandsAndEnds}
-use Rattle.ghc_match.specs.Match.{HoldsBy, IsInteger, IsAtom, IsList}
+use Rattle.ghc_match.proofs.Words.{sym, subst, false, IsTrue, ◌↔◌, IfOk, value_at, StandsAndEnds, HoldsBy, IsAtom, IsList}
+use Rattle.ghc_match.specs.Match.{IsInteger}
 use Rattle.ghc_match.proofs.EndsLemmas.{stands_ends_once}
 use Rattle.ghc_match.proofs.GuardingLemmas.{value_holds, none_holds, integer_value, atom_value, list_value}
 use Rattle.ghc_match.proofs.test_holds.holds.Goals as goal

@@ -1,12 +1,6 @@
-use Rattle.std.proofs.Common.{rules, subst}
-use Rattle.std.specs.Prelude.{IsTrue, ◌↔◌}
-use Rattle.std.proofs.lemmas.Int.{to_z-of_z}
+use Rattle.ghc_match.proofs.Words.{rules, subst, IsTrue, ◌↔◌, to_z-of_z, value_at, StandsAndEnds, Compares, IsWorth}
 use mir.Val.{SFits, to_z, of_z}
 use mir.Syntax.{w64}
-use Rattle.ghc_term.specs.Store.{value_at}
-use Rattle.ghc_match.specs.Ends.{StandsAndEnds}
-use Rattle.ghc_match.specs.Match.{Compares}
-use Rattle.ghc_match.specs.Tasks.{IsWorth}
 use Rattle.ghc_match.proofs.EndsLemmas.{stands_ends_once}
 use Rattle.ghc_match.proofs.Values.{number_once}
 use Rattle.ghc_match.proofs.test_holds.holds_between.Goals as goal

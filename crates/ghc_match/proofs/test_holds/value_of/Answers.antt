@@ -1,5 +1,4 @@
-use Rattle.ghc_term.specs.Store.{value_at}
-use Rattle.ghc_match.specs.Ends.{StandsAndEnds}
+use Rattle.ghc_match.proofs.Words.{value_at, StandsAndEnds}
 use Rattle.ghc_match.proofs.EndsLemmas.{no_value_told, stands_ends_once}
 use Rattle.ghc_match.proofs.test_holds.value_of.Goals as goal
 

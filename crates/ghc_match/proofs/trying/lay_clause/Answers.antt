@@ -1,5 +1,4 @@
-use Rattle.std.proofs.Common.{arith}
-use Rattle.ghc_term.specs.Store.{value_at}
+use Rattle.ghc_match.proofs.Words.{arith, value_at}
 use Rattle.ghc_match.proofs.TryClause.{all_looked_at, head_waits, guard_refuses, guard_waits, all_accept}
 use Rattle.ghc_match.proofs.trying.lay_clause.Goals as goal
 

@@ -1,5 +1,4 @@
-use Rattle.std.proofs.Common.{◌≡◌}
-use Rattle.ghc_match.specs.Places.{ahead_in}
+use Rattle.ghc_match.proofs.Words.{◌≡◌, ahead_in}
 use Rattle.ghc_match.proofs.places.Places.take_last.Given as goal
 
 abbrev pub invariant-loop-self : goal.invariant-loop-self

@@ -1,6 +1,4 @@
-use Rattle.std.proofs.Common.{sym, ap, ◌∙◌, arith, Some}
-use Rattle.std.proofs.lemmas.Option.{slice_get-get_or}
-use Rattle.ghc_term.specs.Store.{value_at}
+use Rattle.ghc_match.proofs.Words.{sym, ap, ◌∙◌, arith, Some, slice_get-get_or, value_at}
 use Rattle.ghc_match.proofs.StandsLemmas.{found, missing, outside, apart_by_step, apart_past}
 use Rattle.ghc_match.proofs.stands.Stands.get.Goals as goal
 use Rattle.ghc_match.proofs.stands.Stands.get.Goals.{then-x-eq0+then-place-lt-FEW+in-None, else-x-eq0, else-x-eq0-via-then-x-eq0+else-place-lt-FEW, else-x-eq0-via-else-x-eq0}

@@ -1,6 +1,5 @@
-use Rattle.std.proofs.Common.{ap, ◌∙◌, arith}
+use Rattle.ghc_match.proofs.Words.{ap, ◌∙◌, arith, laid_over}
 use Rattle.std.specs.FinMap as finite
-use Rattle.ghc_match.specs.Stands.{laid_over}
 use Rattle.ghc_match.proofs.StandsLemmas.{IsApart, put_there, put_beside, apart_by_step, apart_past}
 use Rattle.ghc_match.proofs.stands.Stands.put.Goals as goal
 use Rattle.ghc_match.proofs.stands.Stands.put.Goals.{else-x-eq0-via-then-x-eq0+else-place-lt-FEW, else-x-eq0-via-else-x-eq0}
