@@ -1,5 +1,5 @@
 -- Small expressions, asked one leaf after another.
-use Rattle.std.proofs.Common.{◌≡◌, ◌≢◌, ℤ, List, [], ◌++◌, refl, ap, subst, inl, inr}
+use Rattle.std.proofs.Common.{◌≡◌, ◌≢◌, ℤ, List, ◌++◌, refl, ap, subst, inl, inr}
 use Rattle.std.specs.Prelude.{◌↔◌, Option, Some, None, MatchOption}
 use Rattle.ghc_term.specs.declared.var_name.VarName.{VarName}
 use Rattle.ghc_term.specs.declared.view.TermView.{TermView}
@@ -18,7 +18,6 @@ use Rattle.ghc_match.specs.Match.{HoldsBy}
 use Rattle.ghc_match.specs.Meeting.{Gains}
 use Rattle.ghc_match.specs.Tasks.{IsWorth}
 use Rattle.ghc_match.specs.Small.{IsAsked, ComputesOf, ComparesOf}
-use Rattle.ghc_match.specs.declared.small.Asked.{Asked}
 use Rattle.ghc_match.specs.declared.small.Asked.TheVariants.{Worth}
 use Rattle.ghc_match.proofs.Positions.{value_not}
 use Rattle.ghc_match.proofs.Values.{number_once, sides, variable_is}
