@@ -1,41 +1,34 @@
 -- The variables that an effect brings in, and the state after a step.
-use Rattle.std.proofs.Common.{◌≡◌, ◌==◌, ℕ, zero, suc, ◌+◌, ◌<◌, ◌≤◌, ◌⊎◌, Bool, true, false, cond, List, [], ◌∷◌, map, length, filter, refl, sym, ap, ◌∙◌, subst, inl, inr, arith, Some, None, unwrap_or}
+use Rattle.std.proofs.Common.{◌≡◌, ◌==◌, ℕ, zero, suc, ◌+◌, ◌<◌, ◌≤◌, ◌⊎◌, Bool, true, false, cond, List, [], ◌∷◌, map, filter, refl, sym, ap, ◌∙◌, subst, inl, inr, arith, Some, None}
 use Rattle.std.specs.Prelude.{Option}
 use Rattle.std.specs.Option.{option_or}
-use Rattle.std.specs.List.{list_any}
-use Rattle.std.specs.Ordering.{eq_by_cmp}
 use Rattle.std.specs.FinMap as finite
-use Rattle.std.specs.FinSet as set
 use Rattle.ghc_term.specs.declared.var_name.VarName.{VarName}
 use Rattle.ghc_term.specs.declared.goal_name.GoalName.{GoalName}
-use Rattle.ghc_term.specs.Tree.{Tree, variable, integer, Occurs, cons, nil}
-use Rattle.ghc_term.specs.Goal.{Goal, call, unify, assign, stream}
+use Rattle.ghc_term.specs.Tree.{Tree}
+use Rattle.ghc_term.specs.Goal.{Goal}
 use Rattle.ghc_term.specs.Lists.{In}
 use Rattle.ghc_term.specs.Bindings.{Reaches, here, through, IsAcyclic, name_cmp}
 use Rattle.ghc_term.specs.Store.{StoreValue, value_at}
-use Rattle.ghc_term.proofs.Names.{name_total}
-use Rattle.ghc_term.proofs.Total.{same_name}
 use Rattle.std.proofs.lemmas.Bool.{eq-eqb}
 use Rattle.ghc_term.proofs.Decided.{nat_decided}
-use Rattle.ghc_term.proofs.ListsLemmas.{in_left, in_right, in_at}
 use Rattle.ghc_flat.specs.Clause.{Program}
-use Rattle.ghc_flat.specs.Variables.{variables, variables_of_expression, variables_of_list, variables_of_goal, variables_of_goals, fresh_variables, firsts}
+use Rattle.ghc_flat.specs.Variables.{variables_of_goal, variables_of_goals, firsts}
 use Rattle.ghc_flat.specs.Flat.{is_stream, IsProgram}
-use Rattle.ghc_unify.specs.Unify.{Unifies}
 use Rattle.ghc_term.proofs.Merged.{by_answers}
-use Rattle.ghc_term.proofs.SetsLemmas.{any_in}
-use Rattle.ghc_fire.specs.Instance.{made, place_in, becomes, replace_in_goal}
+use Rattle.ghc_fire.specs.Instance.{made}
 use Rattle.ghc_fire.specs.declared.act.Act.{Act}
-use Rattle.ghc_fire.specs.declared.act.Act.TheVariants.{ByClause as by_clause, Unified as unified, Assigned as assigned, Given as given, Closed as closed, Asked as asked}
+use Rattle.ghc_fire.specs.declared.act.Act.TheVariants.{Asked as asked}
 use Rattle.ghc_fire.specs.Effect.{Effect, HasEffect}
+use Rattle.ghc_fire.specs.Laws.{ComesFrom}
 use Rattle.ghc_fire.specs.Asked.{Asks, made_from, variables_asked}
-use Rattle.ghc_fire.proofs.Steps.{effect_acyclic}
+use Rattle.ghc_fire.proofs.Steps.{nothing, effect_acyclic}
+use Rattle.ghc_fire.proofs.Origins.{Inside, variables_come}
 use Rattle.ghc_fire.specs.Goals.{Goals}
 use Rattle.ghc_records.specs.Replay.{Names}
 use Rattle.ghc_records.specs.Record.{State, Record, without_goal, after, IsThere, Fires, HasStepEffect}
 use Rattle.ghc_records.proofs.States.{bound_at, made_or_old, old_apart}
-use Rattle.ghc_records.proofs.Inside.{Inside, Closed, comes_inside, at_inside, moves_inside, find_inside, occurs_in}
-use Rattle.ghc_records.proofs.Heads.{stands_for, first_in, place_at, from_goal, of_goals}
+use Rattle.ghc_records.proofs.Heads.{first_in, of_goals}
 
 -- the variables `_n_1` to `_n_k`
 abbrev pub Made : ℕ → ℕ → VarName → Type 0
@@ -60,81 +53,20 @@ not_stream (h ∷ gs) g e i =
       | false ↦ λ p q. elim i [ inl same ↦ ap is_stream same ∙ p | inr j ↦ not_stream gs g q j ]
     ] refl e
 
-no_entry : (x : VarName) (t : Tree) (m : StoreValue) → m ≡ finite.empty → value_at m x ≡ Some t → ⊥
-no_entry x t m e p = let clash : None ≡ Some t = sym (finite.get-empty name_cmp x) ∙ ap (λ z. value_at z x) (sym e) ∙ p in cc
-
-one_entry : (x y : VarName) (t u : Tree) (m : StoreValue) → m ≡ finite.insert finite.empty x t → value_at m y ≡ Some u → (y ≡ x) × (t ≡ u)
-one_entry x y t u m e p =
-    elim (eq_by_cmp name_cmp y x) as (λ b. eq_by_cmp name_cmp y x ≡ b → cond b (Some t) (value_at finite.empty y) ≡ Some u → (y ≡ x) × (t ≡ u)) [
-      | true ↦ λ q r. (same_name y x q, cc)
-      | false ↦ λ q r. absurd (let clash : None ≡ Some u = sym (finite.get-empty name_cmp y) ∙ r in cc)
-    ] refl (sym (finite.get-insert name_total finite.empty x t y) ∙ ap (λ z. value_at z y) (sym e) ∙ p)
-
-module _ (D : VarName → Type 0) (s : StoreValue) (shut : Closed D (value_at s)) where
-  unified_brings : (l r : Tree) (e : Effect) (reads : set.FinSet name_cmp) → Unifies (value_at s) l r e.binds reads → e.makes ≡ [] → Inside D l → Inside D r → BringsIn D e
-  unified_brings l r e reads u none i j =
-      let all = moves_inside D u.2.1 shut (i, j, tt) in
-      let entry : (x : VarName) (t : Tree) → value_at e.binds x ≡ Some t → D x × Inside D t = λ x t p.
-      find_inside D u.0 x t all (sym (finite.get-from_entries name_total u.0 x) ∙ ap (λ z. value_at z x) (sym u.3) ∙ p) in
-      record {
-        keys = λ x t p. (entry x t p).0;
-        values = λ x t p. (entry x t p).1;
-        goals = λ g y k v. absurd (subst (In g) none k);
-      }
-
-  -- what a variable of a body becomes
-  body_brings : (P : Program) (f : List ℕ) (ts : List Tree) (k n : ℕ) (e : Effect) → IsAcyclic (value_at s) → ((y : VarName) → In y (variables_of_list ts) → D y) → ((y : VarName) → Made n e.fresh y → D y)
-      → (d : HasEffect P (call f ts) (by_clause k) n (value_at s) e) → (z y : VarName) → In z (variables_of_goals d.0.body) → Occurs y (becomes d.0 d.1 n z) → D y
-  body_brings P f ts k n e acyclic h new d z y i o =
-      elim (value_at d.1 z) as (λ v. value_at d.1 z ≡ v → Occurs y (unwrap_or v (variable (made n (place_in (fresh_variables d.0) z)))) → D y) [
-        | Some t ↦ λ p q. let stands = (d.4.1 z t).0 p in at_inside D shut stands.2 h y q
-        | None ↦ λ p q.
-            elim (list_any (eq_by_cmp name_cmp z) (variables_of_list d.0.head)) as (λ b. list_any (eq_by_cmp name_cmp z) (variables_of_list d.0.head) ≡ b → D y) [
-              | true ↦ λ there.
-                  let t = stands_for s acyclic d.0 ts z d.4.0.0 d.3.1 (any_in z (variables_of_list d.0.head) there) in
-                  absurd (let clash : None ≡ Some t.0 = sym p ∙ (d.4.1 z t.0).1 t.1 in cc)
-              | false ↦ λ apart.
-                  let place = place_at (fresh_variables d.0) z (first_in (variables_of_list d.0.head) (variables_of_goals d.0.body) z i apart) in
-                  new y (ap (λ (v : VarName). v.step) q, subst (λ (v : VarName). 1 ≤ v.place) (sym q) place.0, subst (λ m. y.place ≤ m) (sym d.7) (subst (λ (v : VarName). v.place ≤ length (fresh_variables d.0)) (sym q) place.1))
-            ] refl
-      ] refl o
-
-  pub brings_in : (P : Program) (g : Goal) (a : Act) (n : ℕ) (e : Effect) → IsProgram P → IsAcyclic (value_at s) → ((y : VarName) → In y (variables_of_goal g) → D y) → ((y : VarName) → Made n e.fresh y → D y)
-      → HasEffect P g a n (value_at s) e → BringsIn D e
-  brings_in P (call f ts) (by_clause k) n e accepted acyclic h new d = record {
-    keys = λ x t p. absurd (no_entry x t e.binds d.5 p);
-    values = λ x t p. absurd (no_entry x t e.binds d.5 p);
-    goals = λ g y i j.
-        let b = mapped (replace_in_goal (becomes d.0 d.1 n)) d.0.body g (subst (In g) d.6 i) in
-        let plain = not_stream d.0.body b.0 (accepted d.0 (in_at P d.2.0 d.0 d.2.2)).closed b.1 in
-        let z = from_goal (becomes d.0 d.1 n) b.0 y plain (subst (λ w. In y (variables_of_goal w)) b.2 j) in
-        body_brings P f ts k n e acyclic h new d z.0 y (of_goals d.0.body b.0 z.0 b.1 z.1) z.2;
-  }
-  brings_in P (unify l r) unified n e accepted acyclic h new d =
-      unified_brings l r e e.reads d.0 d.1 (λ y o. h y (in_left (variables l) (variables r) y (occurs_in l y o))) (λ y o. h y (in_right (variables l) (variables r) y (occurs_in r y o)))
-  brings_in P (assign t a) assigned n e accepted acyclic h new d =
-      unified_brings t (integer d.0) e d.1 d.3 d.5 (λ y o. h y (in_left (variables t) (variables_of_expression a) y (occurs_in t y o))) (λ y o. absurd o)
-  brings_in P (stream k tail) (given u) n e accepted acyclic h new d =
-      let first : D (made n 1) = new (made n 1) (refl, omega arith, subst (λ m. 1 ≤ m) (sym d.5) (omega arith)) in
-      let at_end : D d.0 = comes_inside D shut d.2.1 (λ y o. h y (inl o)) in
-      let cell : Inside D (cons u (variable (made n 1))) = λ y o. elim o [
-        | inl i ↦ absurd (d.1 y i)
-        | inr j ↦ elim j [ inl same ↦ subst D (sym same) first | inr k ↦ absurd k ]
-      ] in
-      record {
-        keys = λ x t p. subst D (sym (one_entry d.0 x (cons u (variable (made n 1))) t e.binds d.3 p).0) at_end;
-        values = λ x t p. subst (Inside D) (one_entry d.0 x (cons u (variable (made n 1))) t e.binds d.3 p).1 cell;
-        goals = λ g y i j. elim (subst (In g) d.4 i) [
-          | inl same ↦ elim (subst (λ w. In y (variables_of_goal w)) same j) [ inl q ↦ subst D (sym q) first | inr q ↦ absurd q ]
-          | inr none ↦ absurd none
-        ];
-      }
-  brings_in P (stream k tail) closed n e accepted acyclic h new d = record {
-    keys = λ x t p. subst D (sym (one_entry d.0 x nil t e.binds d.2 p).0) (comes_inside D shut d.1.1 (λ y o. h y (inl o)));
-    values = λ x t p. subst (Inside D) (one_entry d.0 x nil t e.binds d.2 p).1 (λ y o. absurd o);
-    goals = λ g y i j. absurd (subst (In g) d.3 i);
-  }
-  brings_in P g a n e accepted acyclic h new d = absurd d
+-- D holds of what a step brings in, where it holds of the variables of the goal and of the store, and of those that the step makes
+brings_in : (D : VarName → Type 0) (s : StoreValue) → ((x : VarName) (t : Tree) → value_at s x ≡ Some t → Inside D t) → (P : Program) (g : Goal) (a : Act) (n : ℕ) (e : Effect) → IsProgram P → IsAcyclic (value_at s)
+    → ((y : VarName) → In y (variables_of_goal g) → D y) → ((y : VarName) → Made n e.fresh y → D y) → HasEffect P g a n (value_at s) e → BringsIn D e
+brings_in D s shut P g a n e accepted acyclic h new d =
+    let came = variables_come P g a n s e accepted acyclic d in
+    let has : (y : VarName) → ComesFrom n g (value_at s) e y → D y = λ y o. elim o [
+      | inl i ↦ h y i
+      | inr w ↦ elim w [ inl v ↦ shut v.0 v.1 v.2 y v.3 | inr m ↦ new y m ]
+    ] in
+    record {
+      keys = λ x t p. has x (came.bound x t p).0;
+      values = λ x t p y o. has y ((came.bound x t p).1 y o);
+      goals = λ b y i j. has y (came.made y (of_goals e.makes b y i j));
+    }
 
 -- a filter has what passes the test
 filter_has : {X : Type 0} (test : X → Bool) (xs : List X) (x : X) → In x xs → test x ≡ true → In x (filter test xs)
@@ -167,15 +99,15 @@ asked_variable P r gs act asks g y i j =
 
 asked_brings : (P : Program) (D : VarName → Type 0) (r : Record) (gs : List Goal) → r.act ≡ asked gs → Asks P gs r.number r.effect → ((y : VarName) → Made r.number r.effect.fresh y → D y) → ((y : VarName) → Names r y → D y) → BringsIn D r.effect
 asked_brings P D r gs act asks new named = record {
-  keys = λ x t p. absurd (no_entry x t r.effect.binds asks.binds p);
-  values = λ x t p. absurd (no_entry x t r.effect.binds asks.binds p);
+  keys = λ x t p. absurd (nothing r.effect.binds asks.binds x t p);
+  values = λ x t p. absurd (nothing r.effect.binds asks.binds x t p);
   goals = λ g y i j. elim (asked_variable P r gs act asks g y (subst (In g) asks.makes i) j) [ inl m ↦ new y m | inr n ↦ named y n ];
 }
 
 -- D holds of all variables of the state
 pub record HasOnly (D : VarName → Type 0) (s : State) : Type 0 where
   pub keys : (x : VarName) (t : Tree) → value_at s.store x ≡ Some t → D x
-  pub values : Closed D (value_at s.store)
+  pub values : (x : VarName) (t : Tree) → value_at s.store x ≡ Some t → Inside D t
   pub goals : (g : GoalName) (b : Goal) (y : VarName) → finite.get s.goals g ≡ Some b → In y (variables_of_goal b) → D y
 
 pub has_more : (D E : VarName → Type 0) (s : State) → ((x : VarName) → D x → E x) → HasOnly D s → HasOnly E s

@@ -1,6 +1,5 @@
 pub mod OrderLemmas
 pub mod States
-pub mod Inside
 pub mod Heads
 pub mod Effects
 pub mod Replaying
