@@ -2,7 +2,8 @@
 ghost use Rattle.std.specs.Prelude.{◌≡◌, ◌⊎◌, Err, IfOk, IfErr};
 ghost use Rattle.ghc_term.specs.Answered.{Answered};
 ghost use Rattle.ghc_term.specs.Store.{value_at};
-ghost use Rattle.ghc_fire.specs.Attempt.{proposes, refused, AttemptsAs, Attempts};
+ghost use Rattle.ghc_flat.specs.Clause.{Program as program_spec};
+ghost use Rattle.ghc_fire.specs.Attempt.{proposes, refused, UnificationAnswers, AssignmentAnswers, AttemptsAs, Attempts};
 ghost use Rattle.ghc_fire.specs.Attempted.{AttemptsAt, IsProposedAs, IsProposed};
 ghost use Rattle.ghc_fire.specs.Meter.{fired};
 ghost use Rattle.ghc_fire.specs.Proposal.{under};
@@ -16,7 +17,7 @@ use crate::instances::number_goals;
 use crate::meter::Meter;
 use crate::proposal::Proposal;
 use ghc_flat::Program;
-use ghc_term::{Fault, Goal, GoalName, GoalView, Store};
+use ghc_term::{Expr, Fault, Goal, GoalName, GoalView, Store, Term};
 use std::alloc::{AllocError, Global};
 
 /// Proposes a step of the goal of this name, with a clause chosen or not, and counts a firing. The refusals, in this
@@ -88,6 +89,39 @@ fn propose(
     Ok(Proposal::new(goal, consumed.share()?, act, effect))
 }
 
+// The act of a step that unifies the two sides, with its effect.
+fn propose_unification(
+    alloc: Global,
+    store: &Store,
+    left: &Term,
+    right: &Term,
+) -> Result<(Act, Effect), Fault>
+    ensures proposed { IfOk result (λ p. (P : program_spec) → UnificationAnswers P left.now right.now (value_at store.now.held) (proposes p.0 p.1)) }
+    ensures fault { IfErr result (λ f. (f ≡ Fault.Memory) ⊎ ((P : program_spec) → UnificationAnswers P left.now right.now (value_at store.now.held) (refused f))) }
+{
+    match attempt_unification(alloc, store, left, right) {
+        Ok(effect) => Ok((Act::Unified, effect)),
+        Err(fault) => Err(fault),
+    }
+}
+
+// The act of a step that assigns the value of the expression, with its effect.
+#[inline(never)]
+fn propose_assignment(
+    alloc: Global,
+    store: &Store,
+    left: &Term,
+    value: &Expr,
+) -> Result<(Act, Effect), Fault>
+    ensures proposed { IfOk result (λ p. (P : program_spec) → AssignmentAnswers P left.now value.now (value_at store.now.held) (proposes p.0 p.1)) }
+    ensures fault { IfErr result (λ f. (f ≡ Fault.Memory) ⊎ ((P : program_spec) → AssignmentAnswers P left.now value.now (value_at store.now.held) (refused f))) }
+{
+    match attempt_assignment(alloc, store, left, value) {
+        Ok(effect) => Ok((Act::Assigned, effect)),
+        Err(fault) => Err(fault),
+    }
+}
+
 // The act of the step of this number of the goal, with its effect.
 fn propose_act(
     alloc: Global,
@@ -110,18 +144,8 @@ fn propose_act(
         (GoalView::Call(name, arguments), Some(number)) => {
             attempt_choice(alloc, program, store, name, arguments, number, step)
         }
-        (GoalView::Unify(left, right), None) => {
-            match attempt_unification(alloc, store, left, right) {
-                Ok(effect) => Ok((Act::Unified, effect)),
-                Err(fault) => Err(fault),
-            }
-        }
-        (GoalView::Assign(left, value), None) => {
-            match attempt_assignment(alloc, store, left, value) {
-                Ok(effect) => Ok((Act::Assigned, effect)),
-                Err(fault) => Err(fault),
-            }
-        }
+        (GoalView::Unify(left, right), None) => propose_unification(alloc, store, left, right),
+        (GoalView::Assign(left, value), None) => propose_assignment(alloc, store, left, value),
         _ => Err(Fault::NoClause),
     }
 }

@@ -85,6 +85,7 @@ pub fn attempt_call(
 
 /// The step of a call by the clause of this number, or `NoClause` where that is not for the call, or else `Waits` or
 /// `NoMatch`. The number of the step is `step`. It tries no other clause.
+#[inline(never)]
 pub fn attempt_choice(
     alloc: Global,
     program: &Program,
