@@ -1,21 +1,6 @@
 -- An attempt has no other answer than the one that is given.
-use Rattle.std.proofs.Common.{◌≡◌, ℕ, sym, ◌∙◌, Some}
-use Rattle.std.specs.Prelude.{Option}
-use Rattle.ghc_term.specs.declared.fault.Fault.{Fault}
-use Rattle.ghc_term.specs.declared.goal_name.GoalName.{GoalName}
-use Rattle.ghc_term.specs.Bindings.{IsAcyclic}
-use Rattle.ghc_term.specs.Goal.{Goal}
-use Rattle.ghc_term.specs.Store.{StoreValue, value_at}
-use Rattle.ghc_term.proofs.Exact.{exact}
+use Rattle.ghc_fire.proofs.Words.{◌≡◌, ℕ, sym, ◌∙◌, Some, Option, Fault, GoalName, IsAcyclic, Goal, StoreValue, value_at, exact, Program, Act, Effect, Goals, Proposal, Answer, proposes, refused, AttemptsAt, IsProposed, AttemptIsExact}
 use Rattle.std.specs.FinMap as finite
-use Rattle.ghc_flat.specs.Clause.{Program}
-use Rattle.ghc_fire.specs.declared.act.Act.{Act}
-use Rattle.ghc_fire.specs.Effect.{Effect}
-use Rattle.ghc_fire.specs.Goals.{Goals}
-use Rattle.ghc_fire.specs.Proposal.{Proposal}
-use Rattle.ghc_fire.specs.Attempt.{Answer, proposes, refused}
-use Rattle.ghc_fire.specs.Attempted.{AttemptsAt, IsProposed}
-use Rattle.ghc_fire.specs.Laws.{AttemptIsExact}
 use Rattle.ghc_fire.proofs.Tries.{attempt_once}
 
 pub same_act : {a b : Act} {e f : Effect} → proposes a e ≡ proposes b f → a ≡ b

@@ -1,23 +1,7 @@
 -- Goals that are asked for: as they are written, before a step, and as steps have them.
-use Rattle.std.proofs.Common.{◌≡◌, ◌≢◌, ℕ, zero, suc, ◌+◌, ◌-◌, ◌==◌, ◌⊎◌, Bool, true, false, cond, List, [], ◌∷◌, length, map, refl, sym, ap, ◌∙◌, subst, inl, inr, arith, Option, Some, None}
-use Rattle.std.specs.Prelude.{filter, slice_get, unwrap_or, is_none}
+use Rattle.ghc_fire.proofs.Words.{◌≡◌, ◌≢◌, ℕ, zero, suc, ◌+◌, ◌-◌, ◌==◌, ◌⊎◌, Bool, true, false, cond, List, [], ◌∷◌, length, map, refl, sym, ap, ◌∙◌, subst, inl, inr, arith, Option, Some, None, filter, slice_get, unwrap_or, is_none, length-map, eq-eqb, ne_eqb, eqb_tells, VarName, Tree, variable, Goal, In, variables_of_goals, firsts, WrittenAsk, IsWellPut, Program, is_stream, AreDefined, replace_in_goal, made, Effect, no_step, numbered, own_variables, made_from, NameNoneOf, AreAskable, Asks, IsAsk, renumbered, asked_as, named_so, called, called_by, asked_of, effect_of_asking}
 use Rattle.std.specs.FinMap as finite
 use Rattle.std.specs.FinSet as set
-use Rattle.std.proofs.lemmas.List.{length-map}
-use Rattle.std.proofs.lemmas.Bool.{eq-eqb, ne_eqb}
-use Rattle.std.proofs.lemmas.Bool.Decides.{eqb_tells}
-use Rattle.ghc_term.specs.declared.var_name.VarName.{VarName}
-use Rattle.ghc_term.specs.Tree.{Tree, variable}
-use Rattle.ghc_term.specs.Goal.{Goal}
-use Rattle.ghc_term.specs.Lists.{In}
-use Rattle.ghc_term.specs.Variables.{variables_of_goals, firsts}
-use Rattle.ghc_reader.specs.WrittenAsk.{WrittenAsk, IsWellPut}
-use Rattle.ghc_flat.specs.Clause.{Program}
-use Rattle.ghc_flat.specs.Flat.{is_stream, AreDefined}
-use Rattle.ghc_fire.specs.Instance.{replace_in_goal, made}
-use Rattle.ghc_fire.specs.Effect.{Effect, no_step}
-use Rattle.ghc_fire.specs.Proposal.{numbered}
-use Rattle.ghc_fire.specs.Asked.{own_variables, made_from, NameNoneOf, AreAskable, Asks, IsAsk, renumbered, asked_as, named_so, called, called_by, asked_of, effect_of_asking}
 use Rattle.ghc_fire.proofs.EachOnce.{map_in, firsts_in, renamed_firsts, firsts_twice, filtered_firsts, made_firsts}
 use Rattle.ghc_fire.proofs.Renamed.{in_goals}
 use Rattle.ghc_fire.proofs.Under.{goals_twice}

@@ -1,19 +1,5 @@
 -- Why a unification is refused; what an assignment does, or why it is refused, by the value of its expression.
-use Rattle.std.proofs.Common.{◌≡◌, ℤ, [], inl, inr, ◌⊎◌}
-use Rattle.std.specs.Prelude.{Option}
-use Rattle.ghc_term.specs.declared.var_name.VarName.{VarName}
-use Rattle.ghc_term.specs.declared.fault.Fault.{Fault}
-use Rattle.ghc_term.specs.declared.fault.Fault.TheVariants.{Memory, Waits}
-use Rattle.ghc_term.specs.Tree.{Tree, integer}
-use Rattle.ghc_term.specs.Expression.{Expression}
-use Rattle.ghc_term.specs.Sets.{Variables}
-use Rattle.ghc_flat.specs.Clause.{Program}
-use Rattle.ghc_match.specs.Position.{EndsIn}
-use Rattle.ghc_match.specs.Value.{Number, waits, HasValue}
-use Rattle.ghc_match.specs.Meeting.{Gains}
-use Rattle.ghc_unify.specs.Unify.{Unifies, UnifyFails, clashes, cycles}
-use Rattle.ghc_fire.specs.Effect.{Effect, IsOnChainsOf, Assigns}
-use Rattle.ghc_fire.specs.Attempt.{refused, UnificationAnswers, AssignmentAnswers}
+use Rattle.ghc_fire.proofs.Words.{◌≡◌, ℤ, [], inl, inr, ◌⊎◌, Option, VarName, Fault, Memory, Waits, Tree, integer, Expression, Variables, Program, EndsIn, Number, waits, HasValue, Gains, Unifies, UnifyFails, clashes, cycles, Effect, IsOnChainsOf, Assigns, refused, UnificationAnswers, AssignmentAnswers}
 use Rattle.ghc_fire.proofs.EachAnswer.{no_cycle}
 
 -- a unification that is not solved

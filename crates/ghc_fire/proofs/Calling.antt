@@ -1,23 +1,6 @@
 -- From the verdicts of clauses to the answer of a call.
-use Rattle.std.proofs.Common.{◌≡◌, ℕ, Bool, true, false, ◌+◌, ◌<◌, List, [], ◌∷◌, ◌++◌, length, take, slice_index_or, refl, sym, ap, ◌∙◌, subst, inl, inr, arith}
-use Rattle.std.specs.Prelude.{Option, Some, None, IsSome, IfNone}
-use Rattle.std.specs.List.Sorted.{IsStrictlyIncreasing}
-use Rattle.std.proofs.lemmas.List.{get_or_default, get_or-take, length-take-le, take_more}
-use Rattle.std.proofs.lemmas.List.Kept.{AllPairs-from_increasing}
-use Rattle.ghc_term.specs.declared.var_name.VarName.{VarName}
-use Rattle.ghc_term.specs.declared.fault.Fault.TheVariants.{NoClause, Waits, NoMatch}
-use Rattle.ghc_term.specs.Tree.{Tree}
-use Rattle.ghc_term.specs.Lists.{In}
-use Rattle.ghc_term.proofs.ListsLemmas.{in_contains, in_get, in_left, in_last, in_more}
-use Rattle.ghc_flat.specs.Clause.{Clause, Program, IsClause, IsFor}
-use Rattle.ghc_flat.specs.Numbers.{AreNumbersFor}
-use Rattle.ghc_match.specs.Match.{Accepts, Refuses, WaitsFor}
-use Rattle.ghc_match.proofs.Outcomes.{refuses_waits, accepts_refuses, accepts_waits}
-use Rattle.ghc_fire.specs.declared.act.Act.TheVariants.{ByClause as by_clause}
+use Rattle.ghc_fire.proofs.Words.{◌≡◌, ℕ, Bool, true, false, ◌+◌, ◌<◌, List, [], ◌∷◌, ◌++◌, length, take, slice_index_or, refl, sym, ap, ◌∙◌, subst, inl, inr, arith, Option, Some, None, IsSome, IfNone, IsStrictlyIncreasing, get_or_default, get_or-take, length-take-le, take_more, AllPairs-from_increasing, VarName, NoClause, Waits, NoMatch, Tree, In, in_contains, in_get, in_left, in_last, in_more, Clause, Program, IsClause, IsFor, AreNumbersFor, Accepts, Refuses, WaitsFor, refuses_waits, accepts_refuses, accepts_waits, ByClause as by_clause, Effect, no_step, proposes, refused, SomeAccepts, CallAnswers, ChoiceAnswers, HasVerdict}
 use Rattle.ghc_fire.specs.declared.calls.Verdict.TheVariants as verdict
-use Rattle.ghc_fire.specs.Effect.{Effect, no_step}
-use Rattle.ghc_fire.specs.Attempt.{proposes, refused, SomeAccepts, CallAnswers, ChoiceAnswers}
-use Rattle.ghc_fire.specs.Calls.{HasVerdict}
 use Rattle.ghc_fire.proofs.Steps.{clause_once}
 
 -- in a list that goes up, a lower number stands before

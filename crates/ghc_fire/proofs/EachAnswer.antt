@@ -1,31 +1,6 @@
 -- Each attempt has an answer in an acyclic finite store.
-use Rattle.std.proofs.Common.{◌≡◌, ℕ, ◌<◌, suc, zero, ℤ, List, [], ◌∷◌, ◌++◌, length, refl, ap, ◌∙◌, subst, inl, inr, ◌⊎◌, arith}
-use Rattle.std.specs.Prelude.{Option, Some, None}
-use Rattle.std.proofs.lemmas.Option.{slice_get_within}
-use Rattle.ghc_term.specs.declared.var_name.VarName.{VarName}
-use Rattle.ghc_term.specs.Tree.{Tree, integer}
-use Rattle.ghc_term.specs.Expression.{Expression}
-use Rattle.ghc_term.specs.Goal.{call, unify, assign, stream}
-use Rattle.ghc_term.specs.Bindings.{Leads, at_integer, Reaches, here, through, IsAcyclic}
-use Rattle.ghc_term.specs.Store.{StoreValue, value_at}
-use Rattle.ghc_term.proofs.Chains.{leads_once}
-use Rattle.ghc_term.proofs.Decided.{Decided}
-use Rattle.ghc_term.proofs.ListsLemmas.{in_at}
-use Rattle.ghc_flat.specs.Clause.{Clause, Program, IsClause, IsFor}
-use Rattle.ghc_flat.specs.Flat.{IsProgram}
-use Rattle.ghc_match.specs.Value.{Value, number, waits as waits_on, bad, HasValue}
-use Rattle.ghc_match.specs.Match.{Accepts, WaitsFor, Outcome, refuses, waits, accepts, HasOutcome}
-use Rattle.ghc_match.proofs.EachOutcome.{each_outcome}
-use Rattle.ghc_match.proofs.EachValue.{each_value}
-use Rattle.ghc_match.proofs.Outcomes.{refuses_waits, accepts_refuses, accepts_waits}
-use Rattle.ghc_unify.specs.Unify.{Meets, integers, nodes, Move, shared, left, right, both, Moves, stay, go, IsCycle, Cycles, Ending, solved, clash, cycle, HasEnding}
-use Rattle.ghc_unify.proofs.Endings.{each_ending}
-use Rattle.ghc_term.specs.declared.fault.Fault.TheVariants.{NoGoal, NoClause, Waits, NoMatch, Clash, Cycle, Arithmetic}
-use Rattle.ghc_term.proofs.Decided.{Decided}
-use Rattle.ghc_fire.specs.declared.act.Act.TheVariants.{ByClause as by_clause, Unified as unified, Assigned as assigned}
-use Rattle.ghc_fire.specs.Effect.{Effect, HasEffect, no_step}
-use Rattle.ghc_fire.specs.Attempt.{Answer, proposes, refused, SomeAccepts, CallAnswers, ChoiceAnswers, UnificationAnswers, AssignmentAnswers}
-use Rattle.ghc_fire.specs.Laws.{EachAttemptHasAnAnswer}
+use Rattle.ghc_fire.proofs.Words.{◌≡◌, ℕ, ◌<◌, suc, zero, ℤ, List, [], ◌∷◌, ◌++◌, length, refl, ap, ◌∙◌, subst, inl, inr, ◌⊎◌, arith, Option, Some, None, slice_get_within, VarName, Tree, integer, Expression, call, unify, assign, stream, Leads, at_integer, Reaches, here, through, IsAcyclic, StoreValue, value_at, leads_once, Decided, in_at, Clause, Program, IsClause, IsFor, IsProgram, Value, number, waits as waits_on, bad, HasValue, Accepts, WaitsFor, Outcome, refuses, accepts, HasOutcome, each_outcome, each_value, refuses_waits, accepts_refuses, accepts_waits, Meets, integers, nodes, Move, shared, left, right, both, Moves, stay, go, IsCycle, Cycles, Ending, solved, clash, cycle, HasEnding, each_ending, NoGoal, NoClause, Waits, NoMatch, Clash, Cycle, Arithmetic, ByClause as by_clause, Unified as unified, Assigned as assigned, Effect, HasEffect, no_step, Answer, proposes, refused, SomeAccepts, CallAnswers, ChoiceAnswers, UnificationAnswers, AssignmentAnswers, EachAttemptHasAnAnswer}
+use Rattle.ghc_match.specs.Match.{waits}
 use Rattle.ghc_fire.proofs.EachEffect.{clause_decided, reduced, united, made_equal}
 use Rattle.ghc_fire.proofs.Steps.{clause_once}
 

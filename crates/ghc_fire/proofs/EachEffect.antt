@@ -1,42 +1,8 @@
 -- Each act on a goal has an effect in an acyclic finite store, or has none.
-use Rattle.std.proofs.Common.{◌≡◌, ℕ, suc, zero, ℤ, List, [], ◌∷◌, length, refl, sym, ◌∙◌, subst, inl, inr, ◌⊎◌, arith}
-use Rattle.std.specs.Prelude.{Option, Some, None, slice_get}
+use Rattle.ghc_fire.proofs.Words.{◌≡◌, ℕ, suc, zero, ℤ, List, [], ◌∷◌, length, refl, sym, ◌∙◌, subst, inl, inr, ◌⊎◌, arith, Option, Some, None, slice_get, coded_list, coded_ℕ, VarName, Tree, variable, integer, node, Trees, none as no_tree, more, nil, cons, Occurs, OccursIn, Expression, call, unify, assign, stream, In, Variables, Leads, Comes, IsAcyclic, StoreValue, value_at, leads_once, Decided, nat_decided, same_decided, in_at, chain, Clause, Program, IsClause, IsFor, IsProgram, leaf_variables, fresh_variables, EndsIn, Number, Value, number, waits as waits_on, bad, HasValue, Outcome, refuses, accepts, HasOutcome, each_outcome, each_value, Listing, restated, itself, over, outcomes_exclude, either_set, listed_set, own_set, number_once, number_waits_not, ends_once, Unifies, Ending, solved, clash, cycle, HasEnding, each_ending, left_end, ends, one_ending, ByClause as by_clause, Unified as unified, Assigned as assigned, Given as given, Closed as closed, made, body_made, Effect, IsOnChainsOf, Reduces, Unites, Assigns, Feeds, Closes, HasEffect, effect_code, EachActHasAnEffectOrNone, EachEffectIsDecided}
 use Rattle.std.specs.FinMap as finite
 use Rattle.std.specs.FinSet as set
-use Rattle.std.specs.Coded.{coded_list, coded_ℕ}
-use Rattle.ghc_term.specs.declared.var_name.VarName.{VarName}
-use Rattle.ghc_term.specs.Tree.{Tree, variable, integer, node, Trees, none as no_tree, more, nil, cons, Occurs, OccursIn}
-use Rattle.ghc_term.specs.Expression.{Expression}
-use Rattle.ghc_term.specs.Goal.{call, unify, assign, stream}
-use Rattle.ghc_term.specs.Lists.{In}
-use Rattle.ghc_term.specs.Sets.{Variables}
-use Rattle.ghc_term.specs.Bindings.{Leads, Comes, IsAcyclic}
-use Rattle.ghc_term.specs.Store.{StoreValue, value_at}
-use Rattle.ghc_term.proofs.Chains.{leads_once}
-use Rattle.ghc_term.proofs.Decided.{Decided, nat_decided, same_decided}
-use Rattle.ghc_term.proofs.ListsLemmas.{in_at}
-use Rattle.ghc_term.proofs.Total.{chain}
-use Rattle.ghc_flat.specs.Clause.{Clause, Program, IsClause, IsFor}
-use Rattle.ghc_flat.specs.Flat.{IsProgram}
-use Rattle.ghc_flat.specs.Variables.{leaf_variables, fresh_variables}
-use Rattle.ghc_match.specs.Position.{EndsIn}
-use Rattle.ghc_match.specs.Value.{Number, Value, number, waits as waits_on, bad, HasValue}
-use Rattle.ghc_match.specs.Match.{Outcome, refuses, waits, accepts, HasOutcome}
-use Rattle.ghc_match.proofs.EachOutcome.{each_outcome}
-use Rattle.ghc_match.proofs.EachValue.{each_value}
-use Rattle.ghc_match.proofs.Listings.{Listing, restated, itself, over}
-use Rattle.ghc_match.proofs.Outcomes.{outcomes_exclude}
-use Rattle.ghc_match.proofs.SetsOf.{either_set, listed_set, own_set}
-use Rattle.ghc_match.proofs.Values.{number_once, number_waits_not, ends_once}
-use Rattle.ghc_unify.specs.Unify.{Unifies, Ending, solved, clash, cycle, HasEnding}
-use Rattle.ghc_unify.proofs.Endings.{each_ending}
-use Rattle.ghc_unify.proofs.Ends.{left_end, ends}
-use Rattle.ghc_unify.proofs.LawProofs.{one_ending}
-use Rattle.ghc_fire.specs.declared.act.Act.TheVariants.{ByClause as by_clause, Unified as unified, Assigned as assigned, Given as given, Closed as closed}
-use Rattle.ghc_fire.specs.Instance.{made, body_made}
-use Rattle.ghc_fire.specs.Effect.{Effect, IsOnChainsOf, Reduces, Unites, Assigns, Feeds, Closes, HasEffect}
-use Rattle.ghc_fire.specs.EffectCode.{effect_code}
-use Rattle.ghc_fire.specs.Laws.{EachActHasAnEffectOrNone, EachEffectIsDecided}
+use Rattle.ghc_match.specs.Match.{waits}
 use Rattle.ghc_fire.proofs.Steps.{clause_once, effect_once}
 
 -- something has P, or nothing has it

@@ -1,17 +1,5 @@
 -- Each variable of a list once, where variables are renamed or left out.
-use Rattle.std.proofs.Common.{◌≡◌, ℕ, zero, suc, ◌+◌, ◌≤◌, ◌||◌, Bool, true, false, cond, List, [], ◌∷◌, map, refl, sym, ap, ◌∙◌, subst, inl, inr, arith}
-use Rattle.std.specs.Prelude.{filter}
-use Rattle.std.specs.List.{list_any}
-use Rattle.std.specs.Ordering.{eq_by_cmp}
-use Rattle.ghc_term.specs.declared.var_name.VarName.{VarName}
-use Rattle.ghc_term.specs.Bindings.{name_cmp}
-use Rattle.ghc_term.specs.Lists.{In}
-use Rattle.ghc_term.specs.Variables.{firsts}
-use Rattle.ghc_term.proofs.ListsLemmas.{in_map}
-use Rattle.ghc_term.proofs.Names.{apart}
-use Rattle.ghc_term.proofs.SetsLemmas.{in_any, any_in}
-use Rattle.ghc_fire.specs.Instance.{made}
-use Rattle.ghc_fire.specs.Asked.{made_from}
+use Rattle.ghc_fire.proofs.Words.{◌≡◌, ℕ, zero, suc, ◌+◌, ◌≤◌, ◌||◌, Bool, true, false, cond, List, [], ◌∷◌, map, refl, sym, ap, ◌∙◌, subst, inl, inr, arith, filter, list_any, eq_by_cmp, VarName, name_cmp, In, firsts, in_map, apart, in_any, any_in, made, made_from}
 
 -- whether the variable was seen
 abbrev is_seen : VarName → List VarName → Bool

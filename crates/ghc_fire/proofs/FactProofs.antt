@@ -1,24 +1,8 @@
 -- The facts, step by step.
-use Rattle.std.proofs.Common.{◌≡◌, ℕ, cond, pos, List, [], ◌∷◌, map, refl, sym, ap, ◌∙◌, inl, inr, arith}
-use Rattle.std.specs.Prelude.{Option, Some, None, unwrap_or}
-use Rattle.std.specs.Ordering.{eq_by_cmp}
+use Rattle.ghc_fire.proofs.Words.{◌≡◌, ℕ, cond, pos, List, [], ◌∷◌, map, refl, sym, ap, ◌∙◌, inl, inr, arith, Option, Some, None, unwrap_or, eq_by_cmp, VarName, Tree, variable, integer, nil, cons, at_node, along, Reaches, here, through, now, on, name_cmp, name_total, name_antisymmetric, Clause, fresh_variables, asked, v, store, append_nothing, append_cell, HasOutcome, accepts, accepts_by, stands_at, stands_value, value_not, left, stay, go, ends, replace_in_goal, made, place_in, body_made, list_1, list_2, partial_list, AppendRun, InputAndClose, InputReadsAlias, BoundTailTakesNothing}
 use Rattle.std.specs.FinMap as finite
 use Rattle.std.specs.FinSet as set
-use Rattle.ghc_term.specs.declared.var_name.VarName.{VarName}
-use Rattle.ghc_term.specs.Tree.{Tree, variable, integer, nil, cons}
-use Rattle.ghc_term.specs.Bindings.{at_node, along, Reaches, here, through, now, on, name_cmp}
-use Rattle.ghc_term.proofs.Names.{name_total, name_antisymmetric}
-use Rattle.ghc_flat.specs.Clause.{Clause}
-use Rattle.ghc_flat.specs.Variables.{fresh_variables}
-use Rattle.ghc_flat.specs.Samples.{asked, v, store, append_nothing, append_cell}
 use Rattle.ghc_match.specs.Position as position
-use Rattle.ghc_match.specs.Match.{HasOutcome, accepts}
-use Rattle.ghc_match.proofs.OutcomesByPlaces.{accepts_by, stands_at, stands_value}
-use Rattle.ghc_match.proofs.Positions.{value_not}
-use Rattle.ghc_unify.specs.Unify.{left, stay, go}
-use Rattle.ghc_unify.proofs.Ends.{ends}
-use Rattle.ghc_fire.specs.Instance.{replace_in_goal, made, place_in, body_made}
-use Rattle.ghc_fire.specs.Facts.{list_1, list_2, partial_list, AppendRun, InputAndClose, InputReadsAlias, BoundTailTakesNothing}
 
 no_entry : finite.from_entries {R = name_cmp} [] ≡ finite.empty {X = Tree}
 no_entry = finite.same_map name_total name_antisymmetric _ _ (λ q. finite.get-from_entries name_total [] q ∙ sym (finite.get-empty name_cmp q))

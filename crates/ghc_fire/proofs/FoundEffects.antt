@@ -1,18 +1,5 @@
 -- What an attempt says of the effects of an act: the one that it gives, or that there is none.
-use Rattle.std.proofs.Common.{◌≡◌, ◌≢◌, ◌⊎◌, Bool, ℕ, List, [], subst, inl, inr, Some, None}
-use Rattle.std.specs.Prelude.{Option, Result, Ok, Err, ◌↔◌, IsTrue, IfOk, IfNone}
-use Rattle.ghc_term.specs.declared.var_name.VarName.{VarName}
-use Rattle.ghc_term.specs.declared.fault.Fault.{Fault}
-use Rattle.ghc_term.specs.declared.fault.Fault.TheVariants.{Memory}
-use Rattle.ghc_term.specs.Tree.{Tree}
-use Rattle.ghc_term.specs.Expression.{Expression}
-use Rattle.ghc_term.specs.Goal.{Goal, call, unify, assign}
-use Rattle.ghc_term.specs.Bindings.{IsAcyclic}
-use Rattle.ghc_flat.specs.Clause.{Program}
-use Rattle.ghc_fire.specs.declared.act.Act.{Act}
-use Rattle.ghc_fire.specs.declared.act.Act.TheVariants.{ByClause as by_clause, Unified as unified, Assigned as assigned}
-use Rattle.ghc_fire.specs.Effect.{Effect, Reduces, Unites, Assigns, HasEffect, no_step}
-use Rattle.ghc_fire.specs.Attempt.{proposes, refused, ChoiceAnswers, UnificationAnswers, AssignmentAnswers}
+use Rattle.ghc_fire.proofs.Words.{◌≡◌, ◌≢◌, ◌⊎◌, Bool, ℕ, List, [], subst, inl, inr, Some, None, Option, Result, Ok, Err, ◌↔◌, IsTrue, IfOk, IfNone, VarName, Fault, Memory, Tree, Expression, Goal, call, unify, assign, IsAcyclic, Program, Act, ByClause as by_clause, Unified as unified, Assigned as assigned, Effect, Reduces, Unites, Assigns, HasEffect, no_step, proposes, refused, ChoiceAnswers, UnificationAnswers, AssignmentAnswers}
 use Rattle.ghc_fire.proofs.Answering.{apart}
 use Rattle.ghc_fire.proofs.Steps.{effect_once, effect_each}
 use Rattle.ghc_fire.proofs.Tries.{attempt_once}

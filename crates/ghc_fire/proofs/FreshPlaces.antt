@@ -1,22 +1,7 @@
 -- The fresh variables of a clause, and their places.
-use Rattle.std.proofs.Common.{◌≡◌, ℕ, ◌+◌, ◌<◌, true, false, cond, List, [], ◌∷◌, length, refl, sym, ap, ◌∙◌, inl, inr, arith}
-use Rattle.std.specs.Prelude.{Some, None, slice_get, unwrap_or, nat_lt}
-use Rattle.std.specs.List.{find, position_or_len}
-use Rattle.std.specs.Ordering.{eq_by_cmp}
-use Rattle.std.proofs.lemmas.Bool.Decides.{nat_tests}
-use Rattle.std.proofs.lemmas.List.Folds.{find_at}
-use Rattle.std.proofs.lemmas.Option.{slice_get_within}
-use Rattle.ghc_term.specs.declared.var_name.VarName.{VarName}
-use Rattle.ghc_term.specs.Bindings.{name_cmp}
-use Rattle.ghc_term.specs.Lists.{In}
-use Rattle.ghc_term.specs.Tree.{Tree}
-use Rattle.ghc_term.specs.Store.{StoreValue, value_at}
+use Rattle.ghc_fire.proofs.Words.{◌≡◌, ℕ, ◌+◌, ◌<◌, true, false, cond, List, [], ◌∷◌, length, refl, sym, ap, ◌∙◌, inl, inr, arith, Some, None, slice_get, unwrap_or, nat_lt, find, position_or_len, eq_by_cmp, nat_tests, find_at, slice_get_within, VarName, name_cmp, In, Tree, StoreValue, value_at, Clause, asked, variables_of_list, fresh_variables, place_in, AreBehindHead}
 use Rattle.ghc_term.proofs.Names.{same_name, itself}
-use Rattle.ghc_flat.specs.Clause.{Clause}
-use Rattle.ghc_flat.specs.Samples.{asked}
-use Rattle.ghc_flat.specs.Variables.{variables_of_list, variables_of_goals, fresh_variables}
-use Rattle.ghc_fire.specs.Instance.{place_in}
-use Rattle.ghc_fire.specs.Renaming.{AreBehindHead}
+use Rattle.ghc_flat.specs.Variables.{variables_of_goals}
 use Rattle.ghc_fire.proofs.Origins.{firsts_have}
 
 -- the place of a variable in a list is where it stands

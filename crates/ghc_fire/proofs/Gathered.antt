@@ -1,18 +1,6 @@
 -- The variables on the chains of some variables, added to a set.
-use Rattle.std.proofs.Common.{◌≡◌, List, [], ◌∷◌, ◌++◌, refl, sym, subst, inl, inr, ◌⊎◌}
-use Rattle.std.specs.Prelude.{Option, IsTrue, ◌↔◌}
+use Rattle.ghc_fire.proofs.Words.{◌≡◌, List, [], ◌∷◌, ◌++◌, refl, sym, subst, inl, inr, ◌⊎◌, Option, IsTrue, ◌↔◌, VarName, Tree, variable, integer, node, leaf, In, Leads, at_integer, at_node, Variables, leads_once, in_left, in_right, in_either, one_inserted, Gains, IsOnChainsOf}
 use Rattle.std.specs.FinSet as set
-use Rattle.ghc_term.specs.declared.var_name.VarName.{VarName}
-use Rattle.ghc_term.specs.Tree.{Tree, variable, integer, node}
-use Rattle.ghc_term.specs.Expression.{leaf}
-use Rattle.ghc_term.specs.Lists.{In}
-use Rattle.ghc_term.specs.Bindings.{Leads, at_integer, at_node}
-use Rattle.ghc_term.specs.Sets.{Variables}
-use Rattle.ghc_term.proofs.Chains.{leads_once}
-use Rattle.ghc_term.proofs.ListsLemmas.{in_left, in_right, in_either}
-use Rattle.ghc_term.proofs.SetsLemmas.{one_inserted}
-use Rattle.ghc_match.specs.Meeting.{Gains}
-use Rattle.ghc_fire.specs.Effect.{IsOnChainsOf}
 
 -- the variable x is on the chain of one of the variables ys
 abbrev pub OnChains : (VarName → Option Tree) → List VarName → VarName → Type 0

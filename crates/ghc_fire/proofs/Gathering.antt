@@ -1,16 +1,6 @@
 -- Entries of a map that are put into another, one after another.
-use Rattle.std.proofs.Common.{◌≡◌, Bool, true, false, cond, ◌||◌, List, [], ◌∷◌, ◌++◌, map, refl, sym, ap, subst, ◌∙◌}
-use Rattle.std.specs.Prelude.{Option, Some, None, option_map, is_some}
-use Rattle.std.specs.declared.cmp.Ordering.{Ordering}
-use Rattle.std.specs.List.{list_any}
-use Rattle.std.specs.List.Sorted.{IsStrictlySortedBy}
-use Rattle.std.specs.Map.{keys_of}
-use Rattle.std.specs.Ordering.{eq_by_cmp, is_eq}
-use Rattle.std.specs.Cmp.{IsTotalOrder}
+use Rattle.ghc_fire.proofs.Words.{◌≡◌, Bool, true, false, cond, ◌||◌, List, [], ◌∷◌, ◌++◌, map, refl, sym, ap, subst, ◌∙◌, Option, Some, None, option_map, is_some, Ordering, list_any, IsStrictlySortedBy, keys_of, eq_by_cmp, is_eq, IsTotalOrder, IsAntisymmetric, tells_apart, lookup-map_values, keys_of-map_values}
 use Rattle.std.specs.FinMap as finite
-use Rattle.std.specs.FinMap.{IsAntisymmetric}
-use Rattle.std.proofs.lemmas.Map.Views.{tells_apart}
-use Rattle.std.proofs.lemmas.Map.Made.{lookup-map_values, keys_of-map_values}
 use Rattle.ghc_fire.proofs.Ordered.{value_in, inserted, entries_are}
 
 either : {V X : Type 0} (shows : V → X) (b : Bool) (v : V) (o : Option V) → option_map shows (cond b (Some v) o) ≡ cond b (Some (shows v)) (option_map shows o)

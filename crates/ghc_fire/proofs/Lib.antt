@@ -21,3 +21,4 @@ pub mod OpenTails
 pub mod EachOnce
 pub mod Replaced
 pub mod Asking
+mod Words

@@ -1,12 +1,5 @@
 -- Walks along the tail of a stream.
-use Rattle.std.proofs.Common.{◌≡◌, ℕ, List, [], ◌∷◌, ◌++◌, subst}
-use Rattle.std.specs.Prelude.{Option, Some, None}
-use Rattle.ghc_term.specs.declared.var_name.VarName.{VarName}
-use Rattle.ghc_term.specs.Tree.{Tree, variable, IsValue}
-use Rattle.ghc_term.specs.Bindings.{Leads, along, Comes, now, on}
-use Rattle.ghc_unify.proofs.Ends.{ends}
-use Rattle.ghc_fire.specs.Effect.{Effect, Feeds, Closes}
-use Rattle.ghc_fire.specs.Tail.{IsTailBound}
+use Rattle.ghc_fire.proofs.Words.{◌≡◌, ℕ, List, [], ◌∷◌, ◌++◌, subst, Option, Some, None, VarName, Tree, variable, IsValue, Leads, along, Comes, now, on, ends, Effect, Feeds, Closes, IsTailBound}
 
 module _ {S : VarName → Option Tree} where
   -- a walk goes on to the variable that the last one is bound to

@@ -1,16 +1,7 @@
 -- Maps in the order of their keys, and the lists of their entries.
-use Rattle.std.proofs.Common.{◌≡◌, true, cond, ◌&&◌, List, [], ◌∷◌, refl, sym, ap, subst, ◌∙◌}
-use Rattle.std.specs.Prelude.{Option, Some, None, T}
-use Rattle.std.specs.declared.cmp.Ordering.{Ordering}
-use Rattle.std.specs.declared.cmp.Ordering.TheVariants.{Less}
-use Rattle.std.specs.Map.{lookup, keys_of}
-use Rattle.std.specs.List.{AllByRecursion}
+use Rattle.ghc_fire.proofs.Words.{◌≡◌, true, cond, ◌&&◌, List, [], ◌∷◌, refl, sym, ap, subst, ◌∙◌, Option, Some, None, T, Ordering, Less, lookup, keys_of, AllByRecursion, eq_by_cmp, is_eq, is_lt, IsTotalOrder, eq_by_cmp_equiv, IsAntisymmetric, below_all, is_sorted}
 use Rattle.std.specs.List.Sorted.{IsStrictlySortedBy}
-use Rattle.std.specs.Ordering.{eq_by_cmp, is_eq, is_lt}
-use Rattle.std.specs.Cmp.{IsTotalOrder, eq_by_cmp_equiv}
 use Rattle.std.specs.FinMap as finite
-use Rattle.std.specs.FinMap.{IsAntisymmetric}
-use Rattle.std.specs.FinMap.Entries.{below_all, is_sorted}
 
 -- the value at q in a list of entries
 abbrev pub value_in : {K X : Type 0} → (K → K → Ordering) → K → List (K × X) → Option X

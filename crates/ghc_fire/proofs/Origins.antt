@@ -1,36 +1,9 @@
 -- Where the variables of a step come from: its goal, the store, or the step itself.
-use Rattle.std.proofs.Common.{◌≡◌, ℕ, suc, zero, ◌+◌, ◌<◌, ◌≤◌, true, false, cond, List, [], ◌∷◌, ◌++◌, length, map, refl, sym, ap, ◌∙◌, subst, inl, inr, ◌⊎◌, arith}
-use Rattle.std.specs.Prelude.{Option, Some, None, slice_get, unwrap_or, filter, nat_lt}
-use Rattle.std.proofs.lemmas.Bool.Decides.{nat_tests}
-use Rattle.std.specs.List.{list_any, position_or_len}
-use Rattle.std.specs.Ordering.{eq_by_cmp}
+use Rattle.ghc_fire.proofs.Words.{◌≡◌, ℕ, suc, zero, ◌+◌, ◌<◌, ◌≤◌, true, false, cond, List, [], ◌∷◌, ◌++◌, length, map, refl, sym, ap, ◌∙◌, subst, inl, inr, ◌⊎◌, arith, Option, Some, None, slice_get, unwrap_or, filter, nat_lt, nat_tests, list_any, position_or_len, eq_by_cmp, VarName, Tree, variable, integer, node, Trees, none, more, list_of, trees, nil, cons, Occurs, OccursIn, IsValue, Expression, leaf, operation, Goal, call, unify, assign, stream, In, Leads, at_integer, at_node, at_free, along, Comes, now, on, IsAcyclic, name_cmp, with_binding, StoreValue, value_at, in_left, in_right, in_either, in_at, any_in, name_total, chain, same_name, Clause, Program, is_stream, IsProgram, variables_of_list, fresh_variables, At, down, unbound, AreAlike, HeadFits, StandsFor, written, Unifies, Pairs, no_more, one_more, Meets, integers, nodes, Move, shared, left, right, both, Moves, stay, go, replace, replace_all, by_value, replace_in_expression, replace_in_goal, made, place_in, becomes, Act, ByClause as by_clause, Unified as unified, Assigned as assigned, Given as given, Closed as closed, Effect, HasEffect, IsMadeBy, ComesFrom, EffectVariables}
 use Rattle.std.specs.FinMap as finite
 use Rattle.std.specs.FinSet as set
-use Rattle.ghc_term.specs.declared.var_name.VarName.{VarName}
-use Rattle.ghc_term.specs.Tree.{Tree, variable, integer, node, Trees, none, more, list_of, trees, nil, cons, Occurs, OccursIn, IsValue}
-use Rattle.ghc_term.specs.Expression.{Expression, leaf, operation}
-use Rattle.ghc_term.specs.Goal.{Goal, call, unify, assign, stream}
-use Rattle.ghc_term.specs.Lists.{In}
-use Rattle.ghc_term.specs.Bindings.{Leads, at_integer, at_node, at_free, along, Comes, now, on, IsAcyclic, name_cmp, with_binding}
-use Rattle.ghc_term.specs.Store.{StoreValue, value_at}
-use Rattle.ghc_term.proofs.ListsLemmas.{in_left, in_right, in_either, in_at}
-use Rattle.ghc_term.proofs.SetsLemmas.{any_in}
-use Rattle.ghc_term.proofs.Names.{name_total}
-use Rattle.ghc_term.proofs.Total.{chain, same_name}
-use Rattle.ghc_flat.specs.Clause.{Clause, Program}
-use Rattle.ghc_flat.specs.Flat.{is_stream, IsProgram}
-use Rattle.ghc_flat.specs.Variables.{variables, variables_of_all, variables_of_list, variables_of_expression, variables_of_goal, variables_of_goals, firsts, fresh_variables}
-use Rattle.ghc_match.specs.Position.{At, here, down, unbound}
-use Rattle.ghc_match.specs.Match.{AreAlike, HeadFits, StandsFor}
-use Rattle.ghc_match.proofs.Chains.{written}
-use Rattle.ghc_unify.specs.Unify.{Unifies, Pairs, no_more, one_more, Meets, integers, nodes, Move, shared, left, right, both, Moves, stay, go}
-use Rattle.ghc_unify.specs.Solutions.{replace, replace_all}
-use Rattle.ghc_unify.proofs.Locality.{by_value}
-use Rattle.ghc_fire.specs.Instance.{replace_in_expression, replace_in_goal, made, place_in, becomes}
-use Rattle.ghc_fire.specs.declared.act.Act.{Act}
-use Rattle.ghc_fire.specs.declared.act.Act.TheVariants.{ByClause as by_clause, Unified as unified, Assigned as assigned, Given as given, Closed as closed}
-use Rattle.ghc_fire.specs.Effect.{Effect, HasEffect}
-use Rattle.ghc_fire.specs.Laws.{IsMadeBy, ComesFrom, EffectVariables}
+use Rattle.ghc_flat.specs.Variables.{variables, variables_of_all, variables_of_expression, variables_of_goal, variables_of_goals, firsts}
+use Rattle.ghc_match.specs.Position.{here}
 use Rattle.ghc_fire.proofs.Steps.{nothing}
 
 mutual

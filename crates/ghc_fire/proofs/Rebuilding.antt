@@ -1,16 +1,5 @@
 -- Terms and expressions with their variables replaced, from the inside out.
-use Rattle.std.proofs.Common.{◌≡◌, ℕ, ◌+◌, List, [], ◌∷◌, ◌++◌, map, refl, sym, ap, ◌∙◌, inl, inr}
-use Rattle.std.proofs.lemmas.List.{map_push}
-use Rattle.ghc_term.specs.declared.var_name.VarName.{VarName}
-use Rattle.ghc_term.specs.declared.operator.Operator.{Operator}
-use Rattle.ghc_term.specs.Tree.{Tree, variable, integer, node, Trees, none, more, trees, list_of, IsClosed, AreClosed}
-use Rattle.ghc_term.specs.Expression.{Expression, operation}
-use Rattle.ghc_term.specs.Goal.{call}
-use Rattle.ghc_term.specs.GoalShape.{IsCall, call_of}
-use Rattle.ghc_unify.specs.Solutions.{replace, replace_all}
-use Rattle.ghc_fire.specs.Instance.{replace_in_goal}
-use Rattle.ghc_fire.specs.Renaming.{plugged, operated}
-use Rattle.ghc_fire.specs.declared.instances.terms.Front.{Front}
+use Rattle.ghc_fire.proofs.Words.{◌≡◌, ℕ, ◌+◌, List, [], ◌∷◌, ◌++◌, map, refl, sym, ap, ◌∙◌, inl, inr, map_push, VarName, Operator, Tree, variable, integer, node, Trees, none, more, trees, list_of, IsClosed, AreClosed, Expression, operation, call, IsCall, call_of, replace, replace_all, replace_in_goal, plugged, operated, Front}
 
 pub plugged_push : (fs : List Front) (f : Front) (t : Tree) → plugged (fs ++ f ∷ []) t ≡ plugged fs (node f.name (trees (f.arguments.items ++ t ∷ [])))
 plugged_push [] f t = refl

@@ -1,19 +1,6 @@
 -- Replacing by two functions that agree on the variables that stand there.
-use Rattle.std.proofs.Common.{◌≡◌, ℕ, ◌-◌, List, [], ◌∷◌, ◌++◌, map, refl, ap, inl, arith}
-use Rattle.std.specs.Prelude.{Some, None, unwrap_or}
-use Rattle.ghc_term.specs.declared.var_name.VarName.{VarName}
-use Rattle.ghc_term.specs.Tree.{Tree, variable, integer, node, Trees, none, more}
-use Rattle.ghc_term.specs.Expression.{Expression, leaf, operation}
-use Rattle.ghc_term.specs.Goal.{Goal, call, unify, assign, stream}
-use Rattle.ghc_term.specs.Lists.{In}
-use Rattle.ghc_term.specs.Store.{StoreValue, value_at}
-use Rattle.ghc_term.specs.Variables.{variables, variables_of_all, variables_of_list, variables_of_expression, variables_of_goal, variables_of_goals}
-use Rattle.ghc_term.proofs.ListsLemmas.{in_left, in_right}
-use Rattle.ghc_flat.specs.Clause.{Clause}
-use Rattle.ghc_flat.specs.Variables.{fresh_variables}
-use Rattle.ghc_unify.specs.Solutions.{replace, replace_all}
-use Rattle.ghc_fire.specs.Instance.{replace_in_expression, replace_in_goal, made, place_in, becomes, body_made}
-use Rattle.ghc_fire.specs.Renaming.{AreBehindHead, renamed}
+use Rattle.ghc_fire.proofs.Words.{◌≡◌, ℕ, ◌-◌, List, [], ◌∷◌, ◌++◌, map, refl, ap, inl, arith, Some, None, unwrap_or, VarName, Tree, variable, integer, node, Trees, none, more, Expression, leaf, operation, Goal, call, unify, assign, stream, In, StoreValue, value_at, variables, variables_of_all, variables_of_expression, variables_of_goal, variables_of_goals, in_left, in_right, Clause, fresh_variables, replace, replace_all, replace_in_expression, replace_in_goal, made, place_in, becomes, body_made, AreBehindHead, renamed}
+use Rattle.ghc_term.specs.Variables.{variables_of_list}
 
 module _ (s r : VarName → Tree) where
   abbrev pub Agree : List VarName → Type 0

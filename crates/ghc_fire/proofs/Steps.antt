@@ -1,44 +1,8 @@
 -- Effects: local, one at most, of what was unbound and bound.
-use Rattle.std.proofs.Common.{◌≡◌, ℕ, ℤ, true, false, cond, List, [], ◌∷◌, length, refl, sym, ap, ◌∙◌, subst, inl, inr, ◌⊎◌, arith}
-use Rattle.std.specs.Prelude.{Option, Some, None, IsTrue, slice_get}
-use Rattle.std.specs.Option.{option_or}
-use Rattle.std.specs.Ordering.{eq_by_cmp}
+use Rattle.ghc_fire.proofs.Words.{◌≡◌, ℕ, ℤ, true, false, cond, List, [], ◌∷◌, length, refl, sym, ap, ◌∙◌, subst, inl, inr, ◌⊎◌, arith, Option, Some, None, IsTrue, slice_get, option_or, eq_by_cmp, VarName, Tree, variable, integer, nil, cons, Expression, call, unify, assign, stream, In, Reaches, here, through, IsAcyclic, name_cmp, with_binding, StoreValue, value_at, name_total, same_name, leads_once, leads_agree, in_either, Clause, Program, IsClause, leaf_variables, fresh_variables, Variables, EndsIn, Number, of_integer, of_variable, computed, HasOutcome, Outcome, accepts, refuses, LooksAt, Accepts, in_set, set_in, one_set, set_of, number_there, number_once, ends_once, outcome_there, outcomes_exclude, Unifies, Ending, solved, with_bindings, IsCutDown, BindsAndReads, by_value, comes_agree, passed_on, comes_reaches, leads_bound, comes_leads, binding_acyclic, by_answers, comes_end, is_local, one_ending, keeps_acyclic, binds_and_reads, made, body_made, ByClause as by_clause, Unified as unified, Assigned as assigned, Given as given, Closed as closed, Effect, IsOnChainsOf, Reduces, ReadsTail, IsClosed, EffectIsLocal, EffectIsOne, EffectBindsAndReads, EffectUnderEachNumber, EffectKeepsAcyclic}
 use Rattle.std.specs.FinMap as finite
 use Rattle.std.specs.FinSet as set
-use Rattle.ghc_term.specs.declared.var_name.VarName.{VarName}
-use Rattle.ghc_term.specs.Tree.{Tree, variable, integer, nil, cons}
-use Rattle.ghc_term.specs.Expression.{Expression}
-use Rattle.ghc_term.specs.Goal.{call, unify, assign, stream}
-use Rattle.ghc_term.specs.Lists.{In}
-use Rattle.ghc_term.specs.Bindings.{Reaches, here, through, IsAcyclic, name_cmp, with_binding}
-use Rattle.ghc_term.specs.Store.{StoreValue, value_at}
-use Rattle.ghc_term.proofs.Names.{name_total}
-use Rattle.ghc_term.proofs.Total.{same_name}
-use Rattle.ghc_term.proofs.Chains.{leads_once, leads_agree}
-use Rattle.ghc_term.proofs.ListsLemmas.{in_either}
-use Rattle.ghc_flat.specs.Clause.{Clause, Program, IsClause}
-use Rattle.ghc_flat.specs.Variables.{leaf_variables, fresh_variables}
-use Rattle.ghc_term.specs.Sets.{Variables}
-use Rattle.ghc_match.specs.Position.{EndsIn}
-use Rattle.ghc_match.specs.Value.{Number, of_integer, of_variable, computed}
-use Rattle.ghc_match.specs.Match.{HasOutcome, Outcome, accepts, refuses, waits, LooksAt, Accepts}
-use Rattle.ghc_term.proofs.SetsLemmas.{in_set, set_in, one_set, set_of}
-use Rattle.ghc_match.proofs.Values.{number_there, number_once, ends_once}
-use Rattle.ghc_match.proofs.Outcomes.{outcome_there, outcomes_exclude}
-use Rattle.ghc_unify.specs.Unify.{Unifies, Ending, solved, with_bindings}
-use Rattle.ghc_unify.specs.Laws.{IsCutDown, BindsAndReads}
-use Rattle.ghc_unify.proofs.Locality.{by_value, comes_agree}
-use Rattle.ghc_unify.proofs.Extension.{passed_on, comes_reaches, leads_bound}
-use Rattle.ghc_unify.proofs.Ends.{comes_leads}
-use Rattle.ghc_term.proofs.Bind.{binding_acyclic}
-use Rattle.ghc_term.proofs.Merged.{by_answers}
-use Rattle.ghc_unify.proofs.Once.{comes_end}
-use Rattle.ghc_unify.proofs.LawProofs.{is_local, one_ending, keeps_acyclic, binds_and_reads}
-use Rattle.ghc_fire.specs.Instance.{made, body_made}
-use Rattle.ghc_fire.specs.declared.act.Act.TheVariants.{ByClause as by_clause, Unified as unified, Assigned as assigned, Given as given, Closed as closed}
-use Rattle.ghc_fire.specs.Effect.{Effect, IsOnChainsOf, Reduces, ReadsTail}
-use Rattle.ghc_term.specs.Tree.{IsClosed}
-use Rattle.ghc_fire.specs.Laws.{EffectIsLocal, EffectIsOne, EffectBindsAndReads, EffectUnderEachNumber, EffectKeepsAcyclic}
+use Rattle.ghc_match.specs.Match.{waits}
 
 -- each variable of an expression with a value ends in an integer
 number_ends : {E : VarName → Tree → Type 0} {a : Expression} {k : ℤ} {y : VarName} → Number E a k → In y (leaf_variables a) → (j : ℤ) × E y (integer j)

@@ -1,31 +1,6 @@
 -- Attempts: one answer at most, and the same in stores that agree on what the goal looks at.
-use Rattle.std.proofs.Common.{◌≡◌, ℕ, ◌<◌, ℤ, List, refl, sym, ap, ◌∙◌, subst, inl, inr, ◌⊎◌, arith}
-use Rattle.std.specs.Prelude.{Option, Some, None, IsTrue}
+use Rattle.ghc_fire.proofs.Words.{◌≡◌, ℕ, ◌<◌, ℤ, List, refl, sym, ap, ◌∙◌, subst, inl, inr, ◌⊎◌, arith, Option, Some, None, IsTrue, VarName, Tree, integer, Expression, Goal, call, unify, assign, stream, Variables, Reaches, here, through, IsAcyclic, Clause, Program, IsClause, IsFor, EndsIn, Number, number, waits, bad, HasValue, LooksAt, Accepts, Refuses, accepts, GoalLooksAt, ExpressionReaches, set_of, looks_back, value_looks, number_once, number_waits_not, ends_once, leaf_reaches, passes_reaches, leads_there, leads_back, outcome_there, refuses_waits, accepts_refuses, accepts_waits, refuses_there, waits_there, accepts_there, Clashes, solved, clash, cycle, solved_no_clash, solved_no_cycle, clash_no_cycle, looks_at_terms, Act, ByClause as by_clause, Unified as unified, Assigned as assigned, Effect, IsOnChainsOf, HasEffect, no_step, Answer, proposes, SomeAccepts, SomeWaitsFor, IsLeast, CallAnswers, ChoiceAnswers, UnificationAnswers, AssignmentAnswers, AttemptHasOneAnswer, AttemptIsOfWhatIsLookedAt}
 use Rattle.std.specs.FinSet as set
-use Rattle.ghc_term.specs.declared.var_name.VarName.{VarName}
-use Rattle.ghc_term.specs.Tree.{Tree, integer}
-use Rattle.ghc_term.specs.Expression.{Expression}
-use Rattle.ghc_term.specs.Goal.{Goal, call, unify, assign, stream}
-use Rattle.ghc_term.specs.Sets.{Variables}
-use Rattle.ghc_term.specs.Bindings.{Reaches, here, through, IsAcyclic}
-use Rattle.ghc_flat.specs.Clause.{Clause, Program, IsClause, IsFor}
-use Rattle.ghc_match.specs.Position.{EndsIn}
-use Rattle.ghc_match.specs.Value.{Number, number, waits, bad, HasValue}
-use Rattle.ghc_match.specs.Match.{LooksAt, Accepts, Refuses, accepts}
-use Rattle.ghc_match.specs.Looked.{GoalLooksAt, ExpressionReaches}
-use Rattle.ghc_term.proofs.SetsLemmas.{set_of}
-use Rattle.ghc_match.proofs.LooksAt.{looks_back}
-use Rattle.ghc_match.proofs.Values.{value_looks, number_once, number_waits_not, ends_once, leaf_reaches, passes_reaches}
-use Rattle.ghc_match.proofs.Chains.{leads_there, leads_back}
-use Rattle.ghc_match.proofs.Outcomes.{outcome_there, refuses_waits, accepts_refuses, accepts_waits, refuses_there, waits_there, accepts_there}
-use Rattle.ghc_unify.specs.Unify.{Clashes, solved, clash, cycle}
-use Rattle.ghc_unify.proofs.Once.{solved_no_clash, solved_no_cycle, clash_no_cycle}
-use Rattle.ghc_unify.proofs.Agree.{looks_at_terms}
-use Rattle.ghc_fire.specs.declared.act.Act.{Act}
-use Rattle.ghc_fire.specs.declared.act.Act.TheVariants.{ByClause as by_clause, Unified as unified, Assigned as assigned}
-use Rattle.ghc_fire.specs.Effect.{Effect, IsOnChainsOf, HasEffect, no_step}
-use Rattle.ghc_fire.specs.Attempt.{Answer, proposes, SomeAccepts, SomeWaitsFor, IsLeast, CallAnswers, ChoiceAnswers, UnificationAnswers, AssignmentAnswers}
-use Rattle.ghc_fire.specs.Laws.{AttemptHasOneAnswer, AttemptIsOfWhatIsLookedAt}
 use Rattle.ghc_fire.proofs.Steps.{clause_once, effect_once}
 
 least_once : (P : Program) (f : List ℕ) (ts : List Tree) (S : VarName → Option Tree) (j k : ℕ) → IsLeast P f ts S j → IsLeast P f ts S k → j ≡ k

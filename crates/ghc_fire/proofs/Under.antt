@@ -1,21 +1,5 @@
 -- The effect of a proposal as a step of some number has it.
-use Rattle.std.proofs.Common.{◌≡◌, ℕ, ◌==◌, true, false, List, [], ◌∷◌, map, refl, sym, ap, ◌∙◌, inl, inr}
-use Rattle.std.specs.Prelude.{Some, None, unwrap_or, if◌then◌else◌}
-use Rattle.std.proofs.lemmas.Bool.{eqb-true}
-use Rattle.ghc_term.specs.declared.var_name.VarName.{VarName}
-use Rattle.ghc_term.specs.Tree.{Tree, variable, integer, node, Trees, none, more, OccursIn}
-use Rattle.ghc_term.specs.Expression.{Expression, leaf, operation}
-use Rattle.ghc_term.specs.Goal.{Goal, call, unify, assign, stream}
-use Rattle.ghc_term.specs.Store.{StoreValue, value_at}
-use Rattle.ghc_flat.specs.Clause.{Clause}
-use Rattle.ghc_flat.specs.Variables.{fresh_variables}
-use Rattle.ghc_unify.specs.Solutions.{replace, replace_all}
-use Rattle.ghc_fire.specs.Instance.{replace_in_expression, replace_in_goal, made, place_in, becomes, body_made}
-use Rattle.ghc_fire.specs.declared.act.Act.TheVariants.{ByClause as by_clause, Unified as unified, Assigned as assigned}
-use Rattle.ghc_fire.specs.Effect.{no_step}
-use Rattle.ghc_fire.specs.Attempt.{CallAnswers, ChoiceAnswers, UnificationAnswers, AssignmentAnswers}
-use Rattle.ghc_fire.specs.Proposal.{numbered, under}
-use Rattle.ghc_fire.specs.Laws.{EffectUnderANumber, ProposalIsEffect, ProposalAsAStep}
+use Rattle.ghc_fire.proofs.Words.{◌≡◌, ℕ, ◌==◌, true, false, List, [], ◌∷◌, map, refl, sym, ap, ◌∙◌, inl, inr, Some, None, unwrap_or, if◌then◌else◌, eqb-true, VarName, Tree, variable, integer, node, Trees, none, more, OccursIn, Expression, leaf, operation, Goal, call, unify, assign, stream, StoreValue, value_at, Clause, fresh_variables, replace, replace_all, replace_in_expression, replace_in_goal, made, place_in, becomes, body_made, ByClause as by_clause, Unified as unified, Assigned as assigned, no_step, CallAnswers, ChoiceAnswers, UnificationAnswers, AssignmentAnswers, numbered, under, EffectUnderANumber, ProposalIsEffect, ProposalAsAStep}
 use Rattle.ghc_fire.proofs.Origins.{Inside, at_inside}
 use Rattle.ghc_fire.proofs.Steps.{effect_each}
 

@@ -1,12 +1,5 @@
 -- A term that is being replaced along its last arguments, and what of it stays.
-use Rattle.std.proofs.Common.{◌≡◌, ℕ, ◌+◌, ◌≤◌, List, [], ◌∷◌, ◌++◌, length, take, map, length-append, sym, ap, ◌∙◌, subst, arith}
-use Rattle.std.specs.Prelude.{Option, Some, None, MatchOption}
-use Rattle.std.proofs.lemmas.List.{map_push, take-append-le, take_all}
-use Rattle.ghc_term.specs.declared.var_name.VarName.{VarName}
-use Rattle.ghc_term.specs.Tree.{Tree, node, trees}
-use Rattle.ghc_unify.specs.Solutions.{replace}
-use Rattle.ghc_fire.specs.Renaming.{plugged}
-use Rattle.ghc_fire.specs.declared.instances.terms.Front.{Front}
+use Rattle.ghc_fire.proofs.Words.{◌≡◌, ℕ, ◌+◌, ◌≤◌, List, [], ◌∷◌, ◌++◌, length, take, map, length-append, sym, ap, ◌∙◌, subst, arith, Option, Some, None, MatchOption, map_push, take-append-le, take_all, VarName, Tree, node, trees, replace, plugged, Front}
 use Rattle.ghc_fire.proofs.Rebuilding.{replace_trees, further_in}
 
 module _ (s : VarName → Tree) where

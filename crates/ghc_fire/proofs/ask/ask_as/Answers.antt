@@ -1,5 +1,4 @@
-use Rattle.std.proofs.Common.{sym, subst, ◌∙◌}
-use Rattle.ghc_fire.specs.Asked.{Asks}
+use Rattle.ghc_fire.proofs.Words.{sym, subst, ◌∙◌, Asks}
 use Rattle.ghc_fire.proofs.Asking.{asks_with}
 use Rattle.ghc_fire.proofs.ask.ask_as.Goals as goal
 

@@ -1,6 +1,4 @@
-use Rattle.std.proofs.Common.{map, [], ap, sym, ◌∙◌}
-use Rattle.ghc_term.specs.Variables.{variables_of_goals, firsts}
-use Rattle.ghc_fire.specs.Asked.{renumbered, asked_as}
+use Rattle.ghc_fire.proofs.Words.{map, [], ap, sym, ◌∙◌, variables_of_goals, firsts, renumbered, asked_as}
 use Rattle.ghc_fire.proofs.Asking.{numbered_firsts}
 use Rattle.ghc_fire.proofs.ask.number_asked.Goals as goal
 

@@ -1,6 +1,4 @@
-use Rattle.std.proofs.Common.{◌≤◌, ◌+◌, ◌∷◌, List, [], drop, length, filter, is_none, Option, Some, None, arith, ap, ◌∙◌}
-use Rattle.std.proofs.lemmas.List.{at_drop_more}
-use Rattle.ghc_term.specs.declared.var_name.VarName.{VarName}
+use Rattle.ghc_fire.proofs.Words.{◌≤◌, ◌+◌, ◌∷◌, List, [], drop, length, filter, is_none, Option, Some, None, arith, ap, ◌∙◌, at_drop_more, VarName}
 use Rattle.ghc_fire.proofs.called.call_variables.Goals as goal
 
 -- no more are new than there are

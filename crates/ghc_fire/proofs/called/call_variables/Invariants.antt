@@ -1,5 +1,4 @@
-use Rattle.std.proofs.Common.{◌≡◌, ◌+◌, ◌++◌, drop, length, filter, is_none}
-use Rattle.ghc_fire.specs.Asked.{called}
+use Rattle.ghc_fire.proofs.Words.{◌≡◌, ◌+◌, ◌++◌, drop, length, filter, is_none, called}
 use Rattle.ghc_fire.proofs.called.call_variables.Given as goal
 
 abbrev pub invariant-loop-name : goal.invariant-loop-name

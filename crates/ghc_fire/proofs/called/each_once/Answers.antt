@@ -1,13 +1,6 @@
-use Rattle.std.proofs.Common.{◌≡◌, ◌+◌, ◌∷◌, ◌++◌, [], drop, get_or, true, false, cond, ◌||◌, refl, sym, ap, ◌∙◌, append_assoc}
+use Rattle.ghc_fire.proofs.Words.{◌≡◌, ◌+◌, ◌∷◌, ◌++◌, [], drop, get_or, true, false, cond, ◌||◌, refl, sym, ap, ◌∙◌, append_assoc, list_any, eq_by_cmp, at_drop_more, name_cmp, firsts, name_total, made}
 use Rattle.std.specs.FinMap as finite
 use Rattle.std.specs.FinSet as set
-use Rattle.std.specs.List.{list_any}
-use Rattle.std.specs.Ordering.{eq_by_cmp}
-use Rattle.std.proofs.lemmas.List.{at_drop_more}
-use Rattle.ghc_term.specs.Bindings.{name_cmp}
-use Rattle.ghc_term.specs.Variables.{firsts}
-use Rattle.ghc_term.proofs.Names.{name_total}
-use Rattle.ghc_fire.specs.Instance.{made}
 use Rattle.ghc_fire.proofs.called.each_once.Goals as goal
 use Rattle.ghc_fire.proofs.called.each_once.Goals.{then-not-contains+in_ok-insert+in_ok-push, else-not-contains}
 

@@ -1,10 +1,5 @@
-use Rattle.std.proofs.Common.{◌≡◌, ◌++◌, List, [], drop}
+use Rattle.ghc_fire.proofs.Words.{◌≡◌, ◌++◌, List, [], drop, list_any, eq_by_cmp, VarName, name_cmp, firsts}
 use Rattle.std.specs.FinSet as set
-use Rattle.std.specs.List.{list_any}
-use Rattle.std.specs.Ordering.{eq_by_cmp}
-use Rattle.ghc_term.specs.declared.var_name.VarName.{VarName}
-use Rattle.ghc_term.specs.Bindings.{name_cmp}
-use Rattle.ghc_term.specs.Variables.{firsts}
 use Rattle.ghc_fire.proofs.called.each_once.Given as goal
 
 abbrev pub invariant-loop-x : goal.invariant-loop-x

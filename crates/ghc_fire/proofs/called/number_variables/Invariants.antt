@@ -1,5 +1,4 @@
-use Rattle.std.proofs.Common.{◌≡◌, map, take}
-use Rattle.ghc_fire.specs.Asked.{renumbered}
+use Rattle.ghc_fire.proofs.Words.{◌≡◌, map, take, renumbered}
 use Rattle.ghc_fire.proofs.called.number_variables.Given as goal
 
 abbrev pub invariant-loop-x : goal.invariant-loop-x

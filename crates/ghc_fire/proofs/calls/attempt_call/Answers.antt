@@ -1,8 +1,5 @@
-use Rattle.std.proofs.Common.{◌≡◌, ◌≤◌, ◌∷◌, ◌++◌, [], length, take, take_all, slice_index_or, refl, sym, ap, ◌∙◌, subst, inr, arith}
-use Rattle.std.proofs.lemmas.Option.{MatchOption-at_some}
-use Rattle.ghc_term.specs.Store.{value_at}
-use Rattle.ghc_flat.specs.Clause.{IsClause}
-use Rattle.ghc_fire.specs.Calls.{HasVerdict}
+use Rattle.ghc_fire.proofs.Words.{◌≡◌, ◌≤◌, ◌∷◌, ◌++◌, [], length, take, slice_index_or, refl, sym, ap, ◌∙◌, subst, inr, arith, MatchOption-at_some, value_at, IsClause, HasVerdict}
+use Rattle.std.proofs.Common.{take_all}
 use Rattle.ghc_fire.proofs.Calling.{NoneTaken, numbered_for, take_number, some_there, one_refuses, one_waits, all_wait, all_refuse, least_reduces}
 use Rattle.ghc_fire.proofs.Steps.{clause_once}
 use Rattle.ghc_fire.proofs.calls.attempt_call.Goals as goal

@@ -1,5 +1,4 @@
-use Rattle.std.proofs.Common.{take}
-use Rattle.ghc_term.specs.Store.{value_at}
+use Rattle.ghc_fire.proofs.Words.{take, value_at}
 use Rattle.ghc_fire.proofs.Calling.{NoneTaken}
 use Rattle.ghc_fire.proofs.calls.attempt_call.Given as goal
 

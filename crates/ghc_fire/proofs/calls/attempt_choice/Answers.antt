@@ -1,8 +1,4 @@
-use Rattle.std.proofs.Common.{◌≡◌, length, subst, inr, rules}
-use Rattle.ghc_term.specs.Store.{value_at}
-use Rattle.ghc_flat.specs.Clause.{Clause, IsClause, IsFor}
-use Rattle.ghc_fire.specs.Attempt.{ChoiceAnswers}
-use Rattle.ghc_fire.specs.Calls.{HasVerdict}
+use Rattle.ghc_fire.proofs.Words.{◌≡◌, length, subst, inr, rules, value_at, Clause, IsClause, IsFor, ChoiceAnswers, HasVerdict}
 use Rattle.ghc_fire.proofs.Calling.{has_clause, chosen_reduces}
 use Rattle.ghc_fire.proofs.Steps.{clause_once}
 use Rattle.ghc_fire.proofs.calls.attempt_choice.Goals as goal

@@ -1,7 +1,4 @@
-use Rattle.std.proofs.Common.{sym, ◌∙◌, subst}
-use Rattle.ghc_term.specs.Store.{value_at}
-use Rattle.ghc_match.specs.Match.{HasOutcome, accepts}
-use Rattle.ghc_match.specs.Told.{outcome_laid}
+use Rattle.ghc_fire.proofs.Words.{sym, ◌∙◌, subst, value_at, HasOutcome, accepts, outcome_laid}
 use Rattle.ghc_fire.proofs.FreshPlaces.{behind_head}
 use Rattle.ghc_fire.proofs.Origins.{stands}
 use Rattle.ghc_fire.proofs.calls.try_clause_as_step.Goals as goal

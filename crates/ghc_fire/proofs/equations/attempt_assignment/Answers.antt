@@ -1,17 +1,6 @@
-use Rattle.std.proofs.Common.{◌≡◌, ◌⊎◌, rules, sym, ap, ◌∙◌, subst, inr}
-use Rattle.std.proofs.lemmas.Int.{to_z-of_z}
-use Rattle.std.proofs.lemmas.Result.{err_from_is_err_and}
+use Rattle.ghc_fire.proofs.Words.{◌≡◌, ◌⊎◌, rules, sym, ap, ◌∙◌, subst, inr, to_z-of_z, err_from_is_err_and, Memory, integer, value_at, HasValue, value_of, Gains, Unifies, UnifyFails, IsOnChainsOf, AssignmentAnswers}
 use mir.Val.{SFits}
 use mir.Syntax.{w64}
-use Rattle.ghc_term.specs.declared.fault.Fault.TheVariants.{Memory}
-use Rattle.ghc_term.specs.Tree.{integer}
-use Rattle.ghc_term.specs.Store.{value_at}
-use Rattle.ghc_match.specs.Value.{HasValue}
-use Rattle.ghc_match.specs.Told.{value_of}
-use Rattle.ghc_match.specs.Meeting.{Gains}
-use Rattle.ghc_unify.specs.Unify.{Unifies, UnifyFails}
-use Rattle.ghc_fire.specs.Effect.{IsOnChainsOf}
-use Rattle.ghc_fire.specs.Attempt.{AssignmentAnswers}
 use Rattle.ghc_fire.proofs.Assigned.{waiting, not_unified, unified}
 use Rattle.ghc_fire.proofs.equations.attempt_assignment.Goals as goal
 

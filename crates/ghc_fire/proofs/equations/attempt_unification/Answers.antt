@@ -1,5 +1,4 @@
-use Rattle.std.proofs.lemmas.Result.{err_from_is_err_and}
-use Rattle.ghc_term.specs.Store.{value_at}
+use Rattle.ghc_fire.proofs.Words.{err_from_is_err_and, value_at}
 use Rattle.ghc_fire.proofs.Assigned.{not_solved}
 use Rattle.ghc_fire.proofs.equations.attempt_unification.Goals as goal
 

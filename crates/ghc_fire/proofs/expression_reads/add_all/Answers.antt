@@ -1,8 +1,4 @@
-use Rattle.std.proofs.Common.{take, get_or, sym, subst}
-use Rattle.std.proofs.lemmas.List.{take_more}
-use Rattle.ghc_term.specs.declared.var_name.VarName.{VarName}
-use Rattle.ghc_term.specs.Lists.{In}
-use Rattle.ghc_match.specs.Meeting.{Gains}
+use Rattle.ghc_fire.proofs.Words.{take, get_or, sym, subst, take_more, VarName, In, Gains}
 use Rattle.ghc_fire.proofs.Gathered.{gains_one}
 use Rattle.ghc_fire.proofs.expression_reads.add_all.Goals as goal
 

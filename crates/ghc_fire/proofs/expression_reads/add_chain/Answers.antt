@@ -1,7 +1,4 @@
-use Rattle.std.proofs.Common.{sym, subst}
-use Rattle.std.proofs.lemmas.Result.{on_ok_weaker}
-use Rattle.ghc_term.specs.Store.{value_at}
-use Rattle.ghc_term.specs.Bindings.{Leads}
+use Rattle.ghc_fire.proofs.Words.{sym, subst, on_ok_weaker, value_at, Leads}
 use Rattle.ghc_fire.proofs.Gathered.{gains_leaf}
 use Rattle.ghc_fire.proofs.expression_reads.add_chain.Goals as goal
 

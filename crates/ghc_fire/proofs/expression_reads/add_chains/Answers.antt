@@ -1,10 +1,4 @@
-use Rattle.std.proofs.Common.{◌≡◌, [], ◌∷◌, ◌++◌, append_assoc, sym, ap, ◌∙◌, subst}
-use Rattle.std.specs.Prelude.{reverse, ◌↔◌}
-use Rattle.std.proofs.lemmas.List.{reverse-append}
-use Rattle.ghc_term.specs.Store.{value_at}
-use Rattle.ghc_flat.specs.Variables.{leaf_variables}
-use Rattle.ghc_match.proofs.PushLeaves.{leaves}
-use Rattle.ghc_match.specs.Meeting.{Gains}
+use Rattle.ghc_fire.proofs.Words.{◌≡◌, [], ◌∷◌, ◌++◌, append_assoc, sym, ap, ◌∙◌, subst, reverse, ◌↔◌, reverse-append, value_at, leaf_variables, leaves, Gains}
 use Rattle.ghc_fire.proofs.Gathered.{Gathers, OnChains, gathers_first}
 use Rattle.ghc_fire.proofs.expression_reads.add_chains.Goals as goal
 

@@ -1,8 +1,4 @@
-use Rattle.std.specs.Prelude.{reverse, ◌↔◌}
-use Rattle.ghc_term.specs.declared.var_name.VarName.{VarName}
-use Rattle.ghc_term.specs.Store.{value_at}
-use Rattle.ghc_flat.specs.Variables.{leaf_variables}
-use Rattle.ghc_match.proofs.PushLeaves.{leaves, parts}
+use Rattle.ghc_fire.proofs.Words.{reverse, ◌↔◌, VarName, value_at, leaf_variables, leaves, parts}
 use Rattle.ghc_fire.proofs.Gathered.{Gathers}
 use Rattle.ghc_fire.proofs.expression_reads.add_chains.Given as goal
 

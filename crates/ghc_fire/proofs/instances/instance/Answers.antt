@@ -1,7 +1,4 @@
-use Rattle.std.proofs.Common.{map, ap, ◌∙◌}
-use Rattle.std.proofs.lemmas.Result.{IfOk-weaker}
-use Rattle.ghc_fire.specs.Instance.{replace_in_goal}
-use Rattle.ghc_fire.specs.Renaming.{renamed}
+use Rattle.ghc_fire.proofs.Words.{map, ap, ◌∙◌, IfOk-weaker, replace_in_goal, renamed}
 use Rattle.ghc_fire.proofs.Renamed.{renamed_body}
 use Rattle.ghc_fire.proofs.instances.instance.Goals as goal
 

@@ -1,7 +1,4 @@
-use Rattle.std.proofs.Common.{◌∙◌, sym, ap}
-use Rattle.ghc_term.specs.GoalShape.{call_of}
-use Rattle.ghc_fire.specs.Instance.{replace_in_goal}
-use Rattle.ghc_fire.specs.Renaming.{replacement}
+use Rattle.ghc_fire.proofs.Words.{◌∙◌, sym, ap, call_of, replace_in_goal, replacement}
 use Rattle.ghc_fire.proofs.Rebuilding.{call_replaced}
 use Rattle.ghc_fire.proofs.instances.replace_call.Goals as goal
 

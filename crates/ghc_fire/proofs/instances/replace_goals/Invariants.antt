@@ -1,6 +1,4 @@
-use Rattle.std.proofs.Common.{◌≡◌, map, take}
-use Rattle.ghc_fire.specs.Instance.{replace_in_goal}
-use Rattle.ghc_fire.specs.Renaming.{replacement}
+use Rattle.ghc_fire.proofs.Words.{◌≡◌, map, take, replace_in_goal, replacement}
 use Rattle.ghc_fire.proofs.instances.replace_goals.Given as goal
 
 abbrev pub invariant-loop-goal : goal.invariant-loop-goal

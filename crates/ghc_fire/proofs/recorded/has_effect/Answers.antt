@@ -1,7 +1,4 @@
-use Rattle.std.proofs.Common.{subst}
-use Rattle.std.specs.Prelude.{IfSome}
-use Rattle.ghc_term.specs.Store.{value_at}
-use Rattle.ghc_fire.specs.Effect.{HasEffect}
+use Rattle.ghc_fire.proofs.Words.{subst, IfSome, value_at, HasEffect}
 use Rattle.ghc_fire.proofs.FoundEffects.{same_or_not}
 use Rattle.ghc_fire.proofs.recorded.has_effect.Goals as goal
 

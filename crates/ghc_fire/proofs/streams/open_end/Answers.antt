@@ -1,13 +1,6 @@
-use Rattle.std.proofs.Common.{◌+◌, ◌<◌, [], ◌∷◌, ◌++◌, Some, sym, ap, ◌∙◌, subst}
+use Rattle.ghc_fire.proofs.Words.{◌+◌, ◌<◌, [], ◌∷◌, ◌++◌, Some, sym, ap, ◌∙◌, subst, variable, IsValue, Leads, now, value_at, name_total, name_antisymmetric, walk, walk_step, at_value, shown_value}
 use Rattle.std.specs.FinMap as finite
 use Rattle.std.specs.FinSet as set
-use Rattle.ghc_term.specs.Tree.{variable, IsValue}
-use Rattle.ghc_term.specs.Bindings.{Leads, now}
-use Rattle.ghc_term.specs.Store.{value_at}
-use Rattle.ghc_term.proofs.Names.{name_total, name_antisymmetric}
-use Rattle.ghc_term.proofs.Total.{walk, walk_step}
-use Rattle.ghc_term.proofs.Walks.{at_value}
-use Rattle.ghc_match.proofs.AlikeLemmas.{shown_value}
 use Rattle.ghc_fire.proofs.OpenTails.{comes_next, comes_to_value}
 use Rattle.ghc_fire.proofs.streams.open_end.Goals as goal
 

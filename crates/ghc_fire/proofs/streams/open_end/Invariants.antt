@@ -1,11 +1,6 @@
-use Rattle.std.proofs.Common.{◌≡◌, ◌+◌, List}
+use Rattle.ghc_fire.proofs.Words.{◌≡◌, ◌+◌, List, VarName, variable, Comes, value_at, walk}
 use Rattle.std.specs.FinMap as finite
 use Rattle.std.specs.FinSet as set
-use Rattle.ghc_term.specs.declared.var_name.VarName.{VarName}
-use Rattle.ghc_term.specs.Tree.{variable}
-use Rattle.ghc_term.specs.Bindings.{Comes}
-use Rattle.ghc_term.specs.Store.{value_at}
-use Rattle.ghc_term.proofs.Total.{walk}
 use Rattle.ghc_fire.proofs.streams.open_end.Given as goal
 
 abbrev pub invariant-loop-value : goal.invariant-loop-value

@@ -1,8 +1,4 @@
-use Rattle.std.proofs.Common.{◌≡◌, length, filter, is_none, map, ap, sym, ◌∙◌, subst, []}
-use Rattle.ghc_term.specs.Variables.{variables_of_goals, firsts}
-use Rattle.ghc_fire.specs.Instance.{replace_in_goal}
-use Rattle.ghc_fire.specs.Effect.{no_step}
-use Rattle.ghc_fire.specs.Asked.{AreAskable, own_variables, made_from, called, called_by, asked_of}
+use Rattle.ghc_fire.proofs.Words.{◌≡◌, length, filter, is_none, map, ap, sym, ◌∙◌, subst, [], variables_of_goals, firsts, replace_in_goal, no_step, AreAskable, own_variables, made_from, called, called_by, asked_of}
 use Rattle.ghc_fire.proofs.Asking.{written_askable, written_firsts, written_own}
 use Rattle.ghc_fire.proofs.ask.Ask.of_written.Goals as goal
 

@@ -1,12 +1,6 @@
-use Rattle.std.proofs.Common.{◌+◌, take, get_or, sym, ap, subst, ◌∙◌}
+use Rattle.ghc_fire.proofs.Words.{◌+◌, take, get_or, sym, ap, subst, ◌∙◌, list_any, eq_by_cmp, take_more, take_all, GoalName, in_names, goal_cmp}
 use Rattle.std.specs.FinMap as finite
 use Rattle.std.specs.FinSet as set
-use Rattle.std.specs.List.{list_any}
-use Rattle.std.specs.Ordering.{eq_by_cmp}
-use Rattle.std.proofs.lemmas.List.{take_more, take_all}
-use Rattle.ghc_term.specs.declared.goal_name.GoalName.{GoalName}
-use Rattle.ghc_term.proofs.GoalMaps.{in_names}
-use Rattle.ghc_fire.specs.Goals.{goal_cmp}
 use Rattle.ghc_fire.proofs.Gathering.{IsGathered, none_met, one_more, none_more, gathered}
 use Rattle.ghc_fire.proofs.GoalNames.{goal_total, goal_antisymmetric}
 use Rattle.ghc_fire.proofs.goals.Goals.by_name.Goals as goal

@@ -1,9 +1,4 @@
-use Rattle.std.proofs.Common.{◌<◌, ap, ◌∙◌, arith}
-use Rattle.std.proofs.lemmas.Result.{IfOk-weaker}
-use Rattle.ghc_term.specs.Expression.{leaf, operation}
-use Rattle.ghc_term.specs.ExpressionView.{depth_of}
-use Rattle.ghc_fire.specs.Instance.{replace_in_expression}
-use Rattle.ghc_fire.specs.Renaming.{replacement, operated}
+use Rattle.ghc_fire.proofs.Words.{◌<◌, ap, ◌∙◌, arith, IfOk-weaker, leaf, operation, depth_of, replace_in_expression, replacement, operated}
 use Rattle.ghc_fire.proofs.Rebuilding.{operated_push}
 use Rattle.ghc_fire.proofs.instances.expressions.+replace_expression.Goals as goal
 

@@ -1,7 +1,4 @@
-use Rattle.std.proofs.Common.{◌≡◌, ◌≤◌}
-use Rattle.ghc_term.specs.ExpressionView.{depth_of}
-use Rattle.ghc_fire.specs.Instance.{replace_in_expression}
-use Rattle.ghc_fire.specs.Renaming.{replacement, operated}
+use Rattle.ghc_fire.proofs.Words.{◌≡◌, ◌≤◌, depth_of, replace_in_expression, replacement, operated}
 use Rattle.ghc_fire.proofs.instances.expressions.+replace_expression.Given as goal
 
 abbrev pub decreases-replace_expression : goal.decreases-replace_expression

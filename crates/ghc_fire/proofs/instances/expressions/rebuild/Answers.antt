@@ -1,7 +1,4 @@
-use Rattle.std.proofs.Common.{sym, ap, ◌∙◌}
-use Rattle.ghc_term.specs.declared.operator.Operator.{Operator}
-use Rattle.ghc_term.specs.Expression.{Expression}
-use Rattle.ghc_fire.specs.Renaming.{operated}
+use Rattle.ghc_fire.proofs.Words.{sym, ap, ◌∙◌, Operator, Expression, operated}
 use Rattle.ghc_fire.proofs.Rebuilding.{operated_push}
 use Rattle.ghc_fire.proofs.instances.expressions.rebuild.Goals as goal
 

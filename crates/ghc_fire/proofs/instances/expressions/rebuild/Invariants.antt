@@ -1,5 +1,4 @@
-use Rattle.std.proofs.Common.{◌≡◌, length}
-use Rattle.ghc_fire.specs.Renaming.{operated}
+use Rattle.ghc_fire.proofs.Words.{◌≡◌, length, operated}
 use Rattle.ghc_fire.proofs.instances.expressions.rebuild.Given as goal
 
 abbrev pub invariant-loop-operator : goal.invariant-loop-operator

@@ -1,7 +1,5 @@
-use Rattle.std.proofs.Common.{◌≡◌, map, take_all, sym, ap, ◌∙◌}
-use Rattle.ghc_term.specs.Tree.{node, trees}
-use Rattle.ghc_unify.specs.Solutions.{replace}
-use Rattle.ghc_fire.specs.Renaming.{replacement}
+use Rattle.ghc_fire.proofs.Words.{◌≡◌, map, sym, ap, ◌∙◌, node, trees, replace, replacement}
+use Rattle.std.proofs.Common.{take_all}
 use Rattle.ghc_fire.proofs.Rebuilding.{replace_trees}
 use Rattle.ghc_fire.proofs.instances.leaves.replace_flat.Goals as goal
 

@@ -1,6 +1,4 @@
-use Rattle.std.proofs.Common.{◌≡◌, map, take}
-use Rattle.ghc_unify.specs.Solutions.{replace}
-use Rattle.ghc_fire.specs.Renaming.{replacement}
+use Rattle.ghc_fire.proofs.Words.{◌≡◌, map, take, replace, replacement}
 use Rattle.ghc_fire.proofs.instances.leaves.replace_flat.Given as goal
 
 abbrev pub invariant-loop-argument : goal.invariant-loop-argument

@@ -1,5 +1,4 @@
-use Rattle.std.proofs.Common.{sym, ◌∙◌}
-use Rattle.ghc_fire.specs.Renaming.{replacement}
+use Rattle.ghc_fire.proofs.Words.{sym, ◌∙◌, replacement}
 use Rattle.ghc_fire.proofs.Rebuilding.{replace_closed}
 use Rattle.ghc_fire.proofs.instances.leaves.replace_leaf.Goals as goal
 

@@ -1,10 +1,4 @@
-use Rattle.std.proofs.Common.{rules, ◌≡◌, ℕ, ◌<◌, length, List, [], ◌∷◌, ◌++◌, ap, arith}
-use Rattle.std.proofs.lemmas.Result.{IfOk-weaker}
-use Rattle.std.proofs.lemmas.Option.{MatchOption-at_some}
-use Rattle.ghc_term.specs.Tree.{Tree, node, trees}
-use Rattle.ghc_term.specs.View.{height, height_of_all}
-use Rattle.ghc_term.proofs.Trees.{height_item, height_last, height_front}
-use Rattle.ghc_fire.specs.Renaming.{replacement}
+use Rattle.ghc_fire.proofs.Words.{rules, ◌≡◌, ℕ, ◌<◌, length, List, [], ◌∷◌, ◌++◌, ap, arith, IfOk-weaker, MatchOption-at_some, Tree, node, trees, height, height_of_all, height_item, height_last, height_front, replacement}
 use Rattle.ghc_fire.proofs.Rebuilding.{replace_closed}
 use Rattle.ghc_fire.proofs.Walked.{walk_stays, walk_same, walk_other}
 use Rattle.ghc_fire.proofs.instances.terms.+replace.Goals as goal

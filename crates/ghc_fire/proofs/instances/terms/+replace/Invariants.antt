@@ -1,8 +1,4 @@
-use Rattle.std.proofs.Common.{◌≡◌, ◌+◌, ◌*◌, ◌≤◌, false, map, take}
-use Rattle.ghc_term.specs.Tree.{trees}
-use Rattle.ghc_term.specs.View.{height, height_of_all}
-use Rattle.ghc_unify.specs.Solutions.{replace}
-use Rattle.ghc_fire.specs.Renaming.{replacement}
+use Rattle.ghc_fire.proofs.Words.{◌≡◌, ◌+◌, ◌*◌, ◌≤◌, false, map, take, trees, height, height_of_all, replace, replacement}
 use Rattle.ghc_fire.proofs.Walked.{Walked}
 use Rattle.ghc_fire.proofs.instances.terms.+replace.Given as goal
 

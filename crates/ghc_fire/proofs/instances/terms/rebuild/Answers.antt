@@ -1,6 +1,4 @@
-use Rattle.std.proofs.Common.{sym, ap, ◌∙◌}
-use Rattle.ghc_term.specs.Tree.{node, trees}
-use Rattle.ghc_fire.specs.Renaming.{plugged}
+use Rattle.ghc_fire.proofs.Words.{sym, ap, ◌∙◌, node, trees, plugged}
 use Rattle.ghc_fire.proofs.Rebuilding.{plugged_push}
 use Rattle.ghc_fire.proofs.instances.terms.rebuild.Goals as goal
 

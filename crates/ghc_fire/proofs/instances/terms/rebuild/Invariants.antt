@@ -1,5 +1,4 @@
-use Rattle.std.proofs.Common.{◌≡◌, length}
-use Rattle.ghc_fire.specs.Renaming.{plugged}
+use Rattle.ghc_fire.proofs.Words.{◌≡◌, length, plugged}
 use Rattle.ghc_fire.proofs.instances.terms.rebuild.Given as goal
 
 abbrev pub invariant-loop-front : goal.invariant-loop-front
