@@ -1,8 +1,8 @@
 -- Lemmas on texts that tell chronicles, and on the first line of a text that is wrong.
-use Rattle.std.proofs.Common.{◌≡◌, ◌≢◌, ℕ, ◌+◌, ◌≤◌, List, [], ◌∷◌, drop, get_or, length, decimal, refl, sym, ap, ◌∙◌, subst, arith}
+use Rattle.std.proofs.Common.{◌≡◌, ◌≢◌, ℕ, ◌+◌, ◌≤◌, List, [], ◌∷◌, drop, get_or, length, decimal, sym, ap, ◌∙◌, subst, arith}
 use Rattle.std.specs.Prelude.{codes}
 use Rattle.std.specs.List.{join_with_byte}
-use Rattle.std.proofs.lemmas.List.{append_cancel_left, drop-drop}
+use Rattle.std.proofs.lemmas.List.{append_cancel_left, drop-drop, nil_from_length}
 use Rattle.std.proofs.lemmas.List.Splits.{join_with_byte-slice_split}
 use Rattle.ghc_term.specs.declared.fault.Fault.{Fault}
 use Rattle.ghc_records.specs.declared.predicate.Predicate.{Predicate}
@@ -130,10 +130,6 @@ read_to_end text told ending o es n ps read says rest = record {
 nothing : (rest : List ℕ) → pieces_of rest ≡ [] ∷ [] → rest ≡ []
 nothing rest e = sym (join_with_byte-slice_split 10 rest) ∙ ap (join_with_byte 10) e
 
-no_bytes : (rest : List ℕ) → length rest ≡ 0 → rest ≡ []
-no_bytes [] e = refl
-no_bytes (b ∷ rest) e = absurd (omega (arith, e))
-
 module _ (text ending : List ℕ) (o : History) (es : List Entry) (ps : List Predicate) (n : ℕ) (tells : TellsSpies text o es ps) (behind : behind_lines (lines_to_end o es ps) text ≡ pieces_of ending) (turn : n ≡ next_behind o.next es) where
   pub wrong_end : ¬ IsLineOf (pieces_of ending) 0 (end_line n) → IsFirstWrongInChronicle text (lines_to_end o es ps + 1)
   wrong_end none =
@@ -148,7 +144,7 @@ module _ (text ending : List ℕ) (o : History) (es : List Entry) (ps : List Pre
     behind_all = sym (drop-drop 1 (lines_to_end o es ps) (pieces_of text)) ∙ ap (drop 1) (behind ∙ last)
 
     pub chronicle_told : length rest ≡ 0 → TellsChronicle text (record { opening = o; entries = es; spies = ps; next = n })
-    chronicle_told none = record { spies = tells; end = ends; next = turn; whole = behind_all ∙ ap pieces_of (no_bytes rest none) }
+    chronicle_told none = record { spies = tells; end = ends; next = turn; whole = behind_all ∙ ap pieces_of (nil_from_length rest none) }
 
     pub wrong_rest : length rest ≢ 0 → IsFirstWrongInChronicle text (lines_to_end o es ps + 2)
     wrong_rest some = more {o = o} {es = es} {ps = ps} tells ends (λ e. some (ap length (nothing rest (sym behind_all ∙ e))))

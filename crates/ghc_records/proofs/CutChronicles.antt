@@ -1,7 +1,6 @@
 -- A text of a chronicle that is cut off is refused with the line behind its last line feed.
 use Rattle.std.proofs.Common.{◌≡◌, ◌≢◌, ℕ, zero, suc, ◌+◌, ◌<◌, ◌≤◌, inl, inr, List, [], ◌∷◌, ◌++◌, drop, take, length, sym, ap, ◌∙◌, subst, arith, length-drop}
 use Rattle.std.proofs.lemmas.List.{drop-drop}
-use Rattle.ghc_term.specs.Lists.{In}
 use Rattle.ghc_records.specs.Numbers.{kept_limit}
 use Rattle.ghc_records.specs.Journal.{Step}
 use Rattle.ghc_records.specs.HistoryText.{IsLine, IsLineOf, SaysStep, end_line, pieces_of}
@@ -12,13 +11,8 @@ use Rattle.ghc_records.specs.EntryText.{SaysEntry}
 use Rattle.ghc_records.specs.Predicates.{GoTogether, SaysPredicate}
 use Rattle.ghc_records.specs.ChronicleText.{IsFirstWrongInChronicle, TellsChronicle, TellsEntries, TellsOpening, TellsSpies, chronicle_heading, entries_line, lines_to_end, lines_to_spies, no_end, no_entry, no_heading, no_opening, no_spy, no_step, opening_line, spies_line}
 use Rattle.ghc_records.proofs.CutSections.{HoldsInFront, cut_behind, cut_section, first_length, kept_section, none_behind}
+use Rattle.ghc_records.proofs.ExactTexts.{in_front}
 use Rattle.ghc_records.proofs.CutTexts.{IsCut, cut_at, distinct_taken, feeds_of, less_or, line_kept, no_line_left, nothing_behind}
-
-in_front : {X : Type 0} (n : ℕ) (xs : List X) (x : X) → In x (take n xs) → In x xs
-in_front zero xs x i = absurd i
-in_front (suc n) [] x i = absurd i
-in_front (suc n) (y ∷ xs) x (inl e) = inl e
-in_front (suc n) (y ∷ xs) x (inr i) = inr (in_front n xs x i)
 
 below_in_front : (next : ℕ) → HoldsInFront (AreBelow next)
 below_in_front next n steps fit = (distinct_taken n steps fit.0, λ s i. fit.1 s (in_front n steps s i))

@@ -4,7 +4,7 @@ use Rattle.std.proofs.lemmas.List.{length-take-le}
 use Rattle.std.proofs.lemmas.Option.{slice_get_within}
 use Rattle.ghc_records.specs.Sections.{IsFirstWrongOf, TellsItems, TellsNoMoreItems, TellsSection, no_count, no_item}
 use Rattle.ghc_records.proofs.CutTexts.{line_kept, no_line_left, taken_at}
-use Rattle.ghc_records.proofs.PushedItems.{last_at}
+use Rattle.ghc_term.proofs.Placing.{push_last}
 
 -- the lines behind a place in front of the cut
 pub cut_behind : (d : ℕ) (lines : List (List ℕ)) (x : List ℕ) (others : List (List ℕ)) → d ≤ length lines → drop d (lines ++ x ∷ others) ≡ drop d lines ++ x ∷ others
@@ -43,7 +43,7 @@ module _ {A : Type 0} (Says : List ℕ → A → Type 0) (Fit : List A → Type 
           },
           omega (arith, size, low),
           λ a more.
-              let (line, stands, says) = more.each (length (take (length lines) items)) a (last_at (take (length lines) items) a) in
+              let (line, stands, says) = more.each (length (take (length lines) items)) a (push_last (take (length lines) items) a) in
               no_line_left lines last (length (take (length lines) items)) line (omega (arith, size)) stands,
         )
 

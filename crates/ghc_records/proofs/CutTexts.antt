@@ -4,13 +4,14 @@ use Rattle.std.specs.List.{join_with_byte, onto_first}
 use Rattle.std.proofs.lemmas.List.{append_cancel_left, length-take-le}
 use Rattle.std.proofs.lemmas.List.Splits.{join_with_byte-slice_split, length-slice_split, slice_split-cons_no, slice_split-cons_yes}
 use Rattle.ghc_term.specs.Lists.{In}
+use Rattle.ghc_term.proofs.Placing.{push_last}
 use Rattle.ghc_records.specs.Orders.{AreDistinct}
 use Rattle.ghc_records.specs.Journal.{Step}
 use Rattle.ghc_records.specs.History.{History}
 use Rattle.ghc_records.specs.HistoryText.{IsFirstWrongLine, IsLine, IsLineOf, TellsCount, TellsHistory, TellsNext, TellsSteps, behind_count, count_line, end_line, heading, no_count, no_end, no_heading, no_step, pieces_of}
 use Rattle.ghc_records.specs.HistoryLaws.{line_feeds}
 use Rattle.ghc_records.proofs.CutLemmas.{some_first, some_piece}
-use Rattle.ghc_records.proofs.TellingSteps.{last_at, number_of}
+use Rattle.ghc_records.proofs.TellingSteps.{number_of}
 
 -- The pieces of a front are the lines of the text in front of the cut, and what the cut leaves of the next one.
 pub record IsCut (front back : List ℕ) (lines : List (List ℕ)) : Type 0 where
@@ -109,7 +110,7 @@ module _ (lines : List (List ℕ)) (x last : List ℕ) (others : List (List ℕ)
 
   pub none_more : (s : Step) → ¬ TellsSteps (lines ++ last ∷ []) count (take (length lines) steps ++ s ∷ [])
   none_more s more =
-      let (line, stands, says) = more.each (length (take (length lines) steps)) s (last_at (take (length lines) steps) s) in
+      let (line, stands, says) = more.each (length (take (length lines) steps)) s (push_last (take (length lines) steps) s) in
       no_line_left lines last (length (take (length lines) steps)) line (omega (arith, first_length)) stands
 
 pub less_or : (m n : ℕ) → (m < n) ⊎ (n ≤ m)

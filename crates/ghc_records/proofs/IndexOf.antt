@@ -3,6 +3,7 @@ use Rattle.std.proofs.Common.{◌≡◌, ◌≢◌, ℕ, Bool, true, false, cond
 use Rattle.std.specs.Prelude.{◌↔◌, Option, Some, None, is_some}
 use Rattle.std.specs.Ordering.{nat_cmp}
 use Rattle.std.specs.FinMap as finite
+use Rattle.std.proofs.lemmas.Bool.{cases_Bool}
 use Rattle.ghc_term.specs.declared.var_name.VarName.{VarName}
 use Rattle.ghc_term.specs.Lists.{In}
 use Rattle.ghc_term.specs.Bindings.{name_cmp}
@@ -22,11 +23,6 @@ some_is e = cc
 
 not_none : {k : ℕ} → ¬ (None ≡ Some k)
 not_none {k} e = let clash : None ≡ Some k = e in cc
-
--- a value is there or it is not
-case_of : (b : Bool) → (b ≡ true) ⊎ (b ≡ false)
-case_of true = inl refl
-case_of false = inr refl
 
 clash : {b : Bool} → b ≡ false → b ≡ true → ⊥
 clash {b} f t = let never : true ≡ false = sym t ∙ f in cc
@@ -110,7 +106,7 @@ module _ (rs : List Record) (users : UsersByStep) (binders : BindersByVariable) 
       )
 
       bound_put : (x : VarName) (n : ℕ) → (finite.get binders' x ≡ Some n) ↔ StepBinds (rs ++ r ∷ []) n x
-      bound_put x n = elim (case_of (is_some (value_at r.effect.binds x))) [
+      bound_put x n = elim (cases_Bool (is_some (value_at r.effect.binds x))) [
         | inl here ↦
             let now : finite.get binders' x ≡ Some r.number = bound x ∙ ap (λ b. cond b (Some r.number) (finite.get binders x)) here in (
               λ e. (r, in_last rs r, some_is (sym now ∙ e), here),
@@ -171,7 +167,7 @@ module _ (rs left : List Record) (users : UsersByStep) (binders : BindersByVaria
   )
 
   bound_taken : (x : VarName) (n : ℕ) → (finite.get binders' x ≡ Some n) ↔ StepBinds left n x
-  bound_taken x n = elim (case_of (is_some (value_at r.effect.binds x))) [
+  bound_taken x n = elim (cases_Bool (is_some (value_at r.effect.binds x))) [
     | inl here ↦
         let now : finite.get binders' x ≡ None = unbound x ∙ ap (λ b. cond b None (finite.get binders x)) here in (
           λ e. absurd (not_none (sym now ∙ e)),

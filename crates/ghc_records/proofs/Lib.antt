@@ -39,7 +39,6 @@ pub mod CutTexts
 pub mod ToldHistories
 pub mod OneStep
 pub mod ExactTexts
-pub mod PushedItems
 pub mod SectionLemmas
 pub mod PredicateLines
 pub mod ChronicleWritten

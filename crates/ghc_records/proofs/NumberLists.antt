@@ -1,5 +1,5 @@
 -- Lemmas on numbers behind spaces, as they are read one by one.
-use Rattle.std.proofs.Common.{◌≡◌, ◌≢◌, ℕ, suc, All, List, [], ◌∷◌, ◌++◌, length, refl, sym, ap, ◌∙◌, subst, arith, append_assoc, decimal}
+use Rattle.std.proofs.Common.{◌≡◌, ℕ, suc, All, List, [], ◌∷◌, ◌++◌, refl, sym, ap, ◌∙◌, subst, arith, append_assoc, decimal}
 use Rattle.std.proofs.lemmas.List.{append-nil}
 use Rattle.std.proofs.lemmas.List.Elements.{All-nil, All-cons, All-append}
 use Rattle.ghc_records.specs.EntryText.{IsNamed, numbers_behind}
@@ -23,10 +23,6 @@ pub record HasNumbers (bytes numbers rest : List ℕ) : Type 0 where
 
 pub none_yet : (bytes numbers : List ℕ) → numbers ≡ [] → HasNumbers bytes numbers bytes
 none_yet bytes numbers none = subst (λ l. HasNumbers bytes l bytes) (sym none) (record { said = refl; named = All-nil IsNamed; others = λ ns all e. (ns, all, e) })
-
-no_bytes : (rest : List ℕ) → length rest ≡ 0 → rest ≡ []
-no_bytes [] e = refl
-no_bytes (b ∷ rest) e = absurd (omega (arith, e))
 
 module _ (bytes numbers rest : List ℕ) (has : HasNumbers bytes numbers rest) where
   pub one_number_more : (n : ℕ) (further : List ℕ) → rest ≡ 32 ∷ (decimal n ++ further) → IsNamed n → ((m : ℕ) (ms : List ℕ) → IsNamed m → rest ≡ numbers_behind (m ∷ ms) → further ≡ numbers_behind ms) → HasNumbers bytes (numbers ++ n ∷ []) further

@@ -42,7 +42,7 @@ name_byte b h e = let clash : false ≡ true = subst (λ c. IsTrue (is_name_byte
 small_letter : (b : ℕ) → IsTrue (is_ascii_lowercase b) → b ≢ 10
 small_letter b h e = let clash : false ≡ true = subst (λ c. IsTrue (is_ascii_lowercase c)) e h in cc
 
-and_parts : (a b : Bool) → IsTrue (a && b) → IsTrue a × IsTrue b
+pub and_parts : (a b : Bool) → IsTrue (a && b) → IsTrue a × IsTrue b
 and_parts true b h = (refl, h)
 and_parts false b h = cc
 

@@ -1,6 +1,6 @@
 -- Lemmas on lines that say predicates.
-use Rattle.std.proofs.Common.{◌≡◌, ◌≢◌, ℕ, ◌<◌, zero, suc, All, List, [], ◌∷◌, ◌++◌, Bool, true, false, refl, sym, ◌∙◌, subst, arith, decimal}
-use Rattle.std.specs.Prelude.{IsTrue, ◌&&◌}
+use Rattle.std.proofs.Common.{◌≡◌, ◌≢◌, ℕ, ◌<◌, zero, suc, All, List, [], ◌∷◌, ◌++◌, Bool, true, false, sym, ◌∙◌, subst, arith, decimal}
+use Rattle.std.specs.Prelude.{IsTrue}
 use Rattle.std.specs.Char.{is_ascii_lowercase}
 use Rattle.std.specs.List.{list_all}
 use Rattle.std.specs.Str.{IsAscii}
@@ -9,16 +9,13 @@ use Rattle.ghc_term.specs.InputTerm.{is_name_byte, IsNameText}
 use Rattle.ghc_records.specs.declared.predicate.Predicate.{Predicate}
 use Rattle.ghc_records.specs.Predicates.{SaysPredicate}
 use Rattle.ghc_records.proofs.CutLemmas.{cut_once, no_cut}
+use Rattle.ghc_records.proofs.PlainTexts.{and_parts}
 
 name_byte : (b : ℕ) → IsTrue (is_name_byte b) → b ≢ 47
 name_byte b h e = let clash : false ≡ true = subst (λ c. IsTrue (is_name_byte c)) e h in cc
 
 small_letter : (b : ℕ) → IsTrue (is_ascii_lowercase b) → b ≢ 47
 small_letter b h e = let clash : false ≡ true = subst (λ c. IsTrue (is_ascii_lowercase c)) e h in cc
-
-and_parts : (a b : Bool) → IsTrue (a && b) → IsTrue a × IsTrue b
-and_parts true b h = (refl, h)
-and_parts false b h = cc
 
 name_bytes : (bs : List ℕ) → IsTrue (list_all is_name_byte bs) → All (λ b. b ≢ 47) bs
 name_bytes [] h = All-nil (λ b. b ≢ 47)

@@ -3,7 +3,7 @@ use Rattle.std.proofs.Common.{◌≡◌, ℕ, ◌+◌, ◌<◌, List, [], ◌∷
 use Rattle.ghc_records.specs.HistoryText.{IsLineOf, pieces_of}
 use Rattle.ghc_records.specs.Sections.{TellsItems, TellsNoMoreItems}
 use Rattle.ghc_records.proofs.CutLemmas.{drop_next, line_stands}
-use Rattle.ghc_records.proofs.PushedItems.{last_at, pushed_at}
+use Rattle.ghc_term.proofs.Placing.{push_last, push_either}
 
 module _ {A : Type 0} (Says : List ℕ → A → Type 0) (Fit : List A → Type 0) where
   -- the first line says an item, and others stand behind it
@@ -34,7 +34,7 @@ module _ {A : Type 0} (Says : List ℕ → A → Type 0) (Fit : List A → Type 
       at = drop_next pieces index line (pieces_of behind) (has.at ∙ is);
       all = omega (arith, length-append items (a ∷ []), has.all);
       told = record {
-        each = λ i t e. elim (pushed_at items a t i e) [
+        each = λ i t e. elim (push_either items a t i e) [
           | inl h ↦ has.told.each i t h
           | inr h ↦ (line, subst (λ k. IsLineOf pieces k line) (sym h.0) (line_stands pieces (length items) rest line behind at_rest is), subst (Says line) (sym h.1) says)
         ];
@@ -44,7 +44,7 @@ module _ {A : Type 0} (Says : List ℕ → A → Type 0) (Fit : List A → Type 
 
     -- where no line tells an item that goes with these, no item more is told
     pub no_more_read : (count : ℕ) → index < count → ((line : List ℕ) (a : A) → IsLineOf (pieces_of rest) 0 line → Says line a → ¬ Fit (items ++ a ∷ [])) → TellsNoMoreItems Says Fit pieces count items
-    no_more_read count low none = (has.told, omega (arith, low, has.all), λ a told. let k = told.each (length items) a (last_at items a) in again a k.0 k.1 k.2 told.fit)
+    no_more_read count low none = (has.told, omega (arith, low, has.all), λ a told. let k = told.each (length items) a (push_last items a) in again a k.0 k.1 k.2 told.fit)
       where
         again : (a : A) (line : List ℕ) → IsLineOf pieces (length items) line → Says line a → ¬ Fit (items ++ a ∷ [])
         again a line stands says = none line a (stands.0, stands.1, sym at_rest ∙ stands.2) says

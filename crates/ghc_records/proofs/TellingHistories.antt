@@ -2,7 +2,7 @@
 use Rattle.std.proofs.Common.{◌≡◌, ℕ, ◌+◌, ◌<◌, ◌≤◌, List, [], ◌∷◌, drop, get_or, length, refl, sym, ap, ◌∙◌, subst, arith, decimal, Option, Some, None, IfSome, IfNone, Bor}
 use Rattle.std.specs.Prelude.{◌↔◌, codes, option_map}
 use Rattle.std.specs.List.{join_with_byte}
-use Rattle.std.proofs.lemmas.List.{append_cancel_left, drop-drop}
+use Rattle.std.proofs.lemmas.List.{append_cancel_left, drop-drop, nil_from_length}
 use Rattle.std.proofs.lemmas.List.Splits.{join_with_byte-slice_split}
 use Rattle.ghc_term.specs.declared.fault.Fault.{Fault}
 use Rattle.ghc_records.specs.Numbers.{kept_limit}
@@ -14,10 +14,6 @@ use Rattle.ghc_records.proofs.TellingSteps.{IsWrongStep}
 -- what is one piece without bytes has none
 nothing : (rest : List ℕ) → pieces_of rest ≡ [] ∷ [] → rest ≡ []
 nothing rest e = sym (join_with_byte-slice_split 10 rest) ∙ ap (join_with_byte 10) e
-
-no_bytes : (rest : List ℕ) → length rest ≡ 0 → rest ≡ []
-no_bytes [] e = refl
-no_bytes (b ∷ rest) e = absurd (omega (arith, e))
 
 -- the heading is there
 pub begins : (text counted : List ℕ) → pieces_of text ≡ heading ∷ pieces_of counted → IsLine text 0 heading
@@ -79,7 +75,7 @@ module _ (text counted told : List ℕ) (count : ℕ) (first : pieces_of text �
     count = subst (TellsCount text) (sym all) counts;
     steps = subst (λ n. TellsSteps (behind_count text) n steps) (sym all) (steps_told steps h);
     next = subst (λ n. TellsNext (behind_count text) n next) (sym all) (next_told next ends);
-    whole = ap (λ n. drop (n + 3) (pieces_of text)) all ∙ behind_end rest behind ∙ ap pieces_of (no_bytes rest none);
+    whole = ap (λ n. drop (n + 3) (pieces_of text)) all ∙ behind_end rest behind ∙ ap pieces_of (nil_from_length rest none);
   }
 
   -- something stands behind the end

@@ -1,9 +1,11 @@
 -- Lemmas on lines that tell steps.
-use Rattle.std.proofs.Common.{◌≡◌, ℕ, zero, suc, ◌+◌, ◌<◌, ◌⊎◌, inl, inr, List, [], ◌∷◌, ◌++◌, drop, length, map, refl, sym, ap, ◌∙◌, subst, arith, Option, Some, None, IfSome, slice_get, length-append}
+use Rattle.std.proofs.Common.{◌≡◌, ℕ, ◌+◌, ◌<◌, inl, inr, List, [], ◌∷◌, ◌++◌, drop, length, map, refl, sym, ap, ◌∙◌, subst, arith, Option, Some, None, IfSome, length-append}
 use Rattle.std.specs.Prelude.{◌↔◌}
 use Rattle.std.proofs.lemmas.List.{map-append}
 use Rattle.ghc_term.specs.declared.fault.Fault.{Fault}
 use Rattle.ghc_term.specs.Lists.{In}
+use Rattle.ghc_term.proofs.ListsLemmas.{in_last, in_more}
+use Rattle.ghc_term.proofs.Placing.{push_last, push_either}
 use Rattle.ghc_records.specs.Orders.{AreDistinct}
 use Rattle.ghc_records.specs.Journal.{Step}
 use Rattle.ghc_records.specs.HistoryText.{IsLineOf, SaysStep, TellsNext, TellsNoMore, TellsSteps, pieces_of}
@@ -14,27 +16,7 @@ use Rattle.ghc_records.proofs.Saying.{one_step_number}
 abbrev pub number_of : Step → ℕ
 number_of s = s.number
 
-pushed_at : {X : Type 0} (xs : List X) (x t : X) (i : ℕ) → slice_get (xs ++ x ∷ []) i ≡ Some t → (slice_get xs i ≡ Some t) ⊎ ((i ≡ length xs) × (t ≡ x))
-pushed_at [] x t zero e = let same : x ≡ t = cc in inr (refl, sym same)
-pushed_at [] x t (suc i) e = cc
-pushed_at (y ∷ ys) x t zero e = inl e
-pushed_at (y ∷ ys) x t (suc i) e = elim (pushed_at ys x t i e) [ inl h ↦ inl h | inr h ↦ inr (ap suc h.0, h.1) ]
-
-pub last_at : {X : Type 0} (xs : List X) (x : X) → slice_get (xs ++ x ∷ []) (length xs) ≡ Some x
-last_at [] x = refl
-last_at (y ∷ ys) x = last_at ys x
-
-in_pushed : {X : Type 0} (xs : List X) (x t : X) → In t (xs ++ x ∷ []) → In t xs ⊎ (t ≡ x)
-in_pushed [] x t (inl e) = inr e
-in_pushed [] x t (inr i) = absurd i
-in_pushed (y ∷ ys) x t (inl e) = inl (inl e)
-in_pushed (y ∷ ys) x t (inr i) = elim (in_pushed ys x t i) [ inl h ↦ inl (inr h) | inr h ↦ inr h ]
-
-in_last : {X : Type 0} (xs : List X) (x : X) → In x (xs ++ x ∷ [])
-in_last [] x = inl refl
-in_last (y ∷ ys) x = inr (in_last ys x)
-
-last_is_new : (ks : List ℕ) (k : ℕ) → AreDistinct (ks ++ k ∷ []) → ¬ In k ks
+pub last_is_new : (ks : List ℕ) (k : ℕ) → AreDistinct (ks ++ k ∷ []) → ¬ In k ks
 last_is_new [] k d i = i
 last_is_new (x ∷ ks) k d (inl e) = d.0 (subst (λ m. In m (ks ++ k ∷ [])) e (in_last ks k))
 last_is_new (x ∷ ks) k d (inr i) = last_is_new ks k d.1 i
@@ -48,12 +30,12 @@ pub one_more_told : (pieces : List (List ℕ)) (count : ℕ) (steps : List Step)
     → drop (length steps) pieces ≡ pieces_of rest → pieces_of rest ≡ line ∷ pieces_of behind → SaysStep line s → ¬ In s.number (map number_of steps)
     → ((next : ℕ) → (bound ≡ Some next) ↔ TellsNext pieces count next) → IfSome bound (λ next. s.number < next) → TellsSteps pieces count (steps ++ s ∷ [])
 one_more_told pieces count steps s bound rest line behind told at is says new ends low = record {
-  each = λ i t e. elim (pushed_at steps s t i e) [
+  each = λ i t e. elim (push_either steps s t i e) [
     | inl h ↦ told.each i t h
     | inr h ↦ (line, subst (λ k. IsLineOf pieces k line) (sym h.0) (line_stands pieces (length steps) rest line behind at is), subst (SaysStep line) (sym h.1) says)
   ];
   distinct = subst AreDistinct (sym (map-append number_of steps (s ∷ []))) (distinct_pushed (map number_of steps) s.number told.distinct new);
-  below = λ next t end i. elim (in_pushed steps s t i) [
+  below = λ next t end i. elim (in_more steps s t i) [
     | inl h ↦ told.below next t end h
     | inr h ↦ subst (λ (u : Step). u.number < next) (sym h) (subst (λ b. IfSome b (λ n. s.number < n)) ((ends next).1 end) low)
   ];
@@ -64,7 +46,7 @@ pub none_further : (pieces : List (List ℕ)) (count : ℕ) (steps : List Step) 
     → ((next : ℕ) → (bound ≡ Some next) ↔ TellsNext pieces count next)
     → ((line : List ℕ) (s : Step) → IsLineOf (pieces_of rest) 0 line → SaysStep line s → ¬ IfSome bound (λ next. s.number < next)) → (s : Step) → ¬ TellsSteps pieces count (steps ++ s ∷ [])
 none_further pieces count steps bound rest at ends none s told =
-    let (line, stands, says) = told.each (length steps) s (last_at steps s) in
+    let (line, stands, says) = told.each (length steps) s (push_last steps s) in
     let (next, more, e) = stands in
     none line s (next, more, sym at ∙ e) says (below bound ends)
   where
@@ -76,7 +58,7 @@ none_further pieces count steps bound rest at ends none s told =
 pub none_again : (pieces : List (List ℕ)) (count : ℕ) (steps : List Step) (t : Step) (rest line behind : List ℕ) → drop (length steps) pieces ≡ pieces_of rest → pieces_of rest ≡ line ∷ pieces_of behind
     → SaysStep line t → In t.number (map number_of steps) → (s : Step) → ¬ TellsSteps pieces count (steps ++ s ∷ [])
 none_again pieces count steps t rest line behind at is says again s told =
-    let (other, stands, other_says) = told.each (length steps) s (last_at steps s) in
+    let (other, stands, other_says) = told.each (length steps) s (push_last steps s) in
     let same = line_is pieces (length steps) rest line behind other at is stands in
     let number = one_step_number line t s says (subst (λ l. SaysStep l s) same other_says) in
     last_is_new (map number_of steps) s.number (subst AreDistinct (map-append number_of steps (s ∷ [])) told.distinct) (subst (λ n. In n (map number_of steps)) number again)
