@@ -8,26 +8,26 @@ use Rattle.ghc_term.specs.Sets.{Variables}
 use Rattle.ghc_records.specs.Record.{Record}
 use Rattle.ghc_hooks.specs.Status.{ready, waiting}
 use Rattle.ghc_hooks.specs.Notes.{Note, NotesByGoal}
-use Rattle.ghc_core.specs.World.{World}
+use Rattle.ghc_core.specs.World.{World, with_step}
 use Rattle.ghc_core.specs.Core.{Core}
 use Rattle.ghc_trace.specs.Spies.{Spies}
 use Rattle.ghc_pool.specs.declared.meet.Met.{Met}
-use Rattle.ghc_pool.specs.declared.meet.Met.TheVariants.{Step as step, Stop as stop, Passed as passed}
+use Rattle.ghc_pool.specs.declared.meet.Met.TheVariants.{Stepped as stepped, Stop as stop, Passed as passed}
 use Rattle.ghc_pool.specs.Runs.{IsInQuestion, IsRunStep}
 
 -- Since this number, which is no less than 1, each kept step took a goal in question.
 abbrev pub TookInQuestion : Option GoalName → List Record → ℕ → Type 0
 TookInQuestion root kept since = (1 ≤ since) × ((r : Record) → In r kept → since ≤ r.number → (g : GoalName) × (r.goal ≡ Some g) × IsInQuestion root kept g)
 
--- If a step was found, a run may take it.
-abbrev pub IsFound : Spies → Option GoalName → World → Met → Type 0
-IsFound spies root w (step r) = IsRunStep 1 spies root w r
-IsFound spies root w stop = Unit {0}
-IsFound spies root w passed = Unit {0}
+-- A run that met a goal took a step that it may take, or left the world as it was.
+abbrev pub IsMet : Spies → Option GoalName → World → Met → World → Type 0
+IsMet spies root w (stepped n k) v = (r : Record) × IsRunStep 1 spies root w r × (v ≡ with_step r w)
+IsMet spies root w stop v = v ≡ w
+IsMet spies root w passed v = v ≡ w
 
 -- If the goal named g was passed, it is not untried any more.
 abbrev pub IsPassed : Core → GoalName → Met → Core → Type 0
-IsPassed c g (step r) d = Unit {0}
+IsPassed c g (stepped n k) d = Unit {0}
 IsPassed c g stop d = Unit {0}
 IsPassed c g passed d = d.untried ≡ set.remove c.untried g
 

@@ -1,16 +1,15 @@
 // A stretch of a run: steps taken one after another, as long as a goal is met that can be stepped.
-ghost use Rattle.std.specs.Prelude.{◌≡◌, ◌≤◌, true, false, List, length, OnOk, OnErr};
+ghost use Rattle.std.specs.Prelude.{◌≡◌, ◌≤◌, true, false, List, length};
 ghost use Rattle.ghc_records.specs.Record.{Record as record_spec};
-ghost use Rattle.ghc_core.specs.World.{IsNextStep, with_step};
+ghost use Rattle.ghc_core.specs.World.{with_step};
 ghost use Rattle.ghc_pool.specs.Runs.{IsRunStep, Takes};
-ghost use Rattle.ghc_pool.specs.Meeting.{TookInQuestion, IsFound};
+ghost use Rattle.ghc_pool.specs.Meeting.{TookInQuestion, IsMet};
 
 use crate::meet::{Met, is_to_meet, meet};
-use ghc_core::{Change, Coming, Core};
-use ghc_records::Addition;
+use ghc_core::Core;
 use ghc_term::GoalName;
 use ghc_trace::SpySet;
-use std::alloc::{AllocError, Global};
+use std::alloc::Global;
 
 // Meets the goals that are listed and still untried or noted as ready, the last one first, up to one that the run does not go by.
 fn among_listed(
@@ -22,8 +21,7 @@ fn among_listed(
     listed: &mut Vec<GoalName>,
 ) -> Met
     requires { TookInQuestion root core.old.world.kept since }
-    ensures world { core.new.world ≡ core.old.world }
-    ensures found { IsFound spies.now root core.old.world result }
+    ensures { IsMet spies.now root core.old.world result core.new.world }
 {
     while let Some(goal) = listed.pop() {
         core.stands();
@@ -46,8 +44,7 @@ fn among_untried(
     since: u32,
 ) -> Met
     requires { TookInQuestion root core.old.world.kept since }
-    ensures world { core.new.world ≡ core.old.world }
-    ensures found { IsFound spies.now root core.old.world result }
+    ensures { IsMet spies.now root core.old.world result core.new.world }
 {
     while let Some(goal) = core.tries().next_untried() {
         core.stands();
@@ -59,8 +56,8 @@ fn among_untried(
     Met::Passed
 }
 
-// Finds the next step of a run: the goals that are listed come before the others that are untried, which were woken.
-fn find(
+// Takes a step, where one is found: the goals that are listed come before the others that are untried, which were woken.
+fn take_one(
     core: &mut Core,
     alloc: Global,
     spies: &SpySet,
@@ -69,8 +66,7 @@ fn find(
     listed: &mut Vec<GoalName>,
 ) -> Met
     requires { TookInQuestion root core.old.world.kept since }
-    ensures world { core.new.world ≡ core.old.world }
-    ensures found { IsFound spies.now root core.old.world result }
+    ensures { IsMet spies.now root core.old.world result core.new.world }
 {
     match among_listed(core, alloc, spies, root, since, listed) {
         Met::Passed => among_untried(core, alloc, spies, root, since),
@@ -88,16 +84,7 @@ fn list_made(step: u32, count: u32, listed: &mut Vec<GoalName>) {
     }
 }
 
-// Takes a step that was found; where memory is refused for it nothing changes.
-fn take(core: &mut Core, addition: Addition) -> Result<(), AllocError>
-    requires { IsNextStep core.old.world addition }
-    ensures ok { OnOk result (core.new.world ≡ with_step addition core.old.world) }
-    ensures err { OnErr result (core.new.world ≡ core.old.world) }
-{
-    core.make(Change::Comes(Coming::Next, addition))
-}
-
-// Finds and takes one step, lists the goals that it makes, and says whether one was taken.
+// Takes one step, lists the goals that it makes, and says whether one was taken.
 fn advance(
     core: &mut Core,
     alloc: Global,
@@ -110,16 +97,14 @@ fn advance(
     ensures step { result ≡ true → (r : record_spec) × IsRunStep 1 spies.now root core.old.world r × (core.new.world ≡ with_step r core.old.world) }
     ensures none { result ≡ false → core.new.world ≡ core.old.world }
 {
-    let Met::Step(addition) = find(core, alloc, spies, root, since, listed) else {
-        return false;
-    };
-    let (step, count) = (addition.step().number(), addition.step().effect().made());
-    match take(core, addition) {
-        Ok(()) => {}
-        Err(_) => return false,
+    match take_one(core, alloc, spies, root, since, listed) {
+        Met::Stepped(step, count) => {
+            list_made(step, count, listed);
+            true
+        }
+        Met::Stop => false,
+        Met::Passed => false,
     }
-    list_made(step, count, listed);
-    true
 }
 
 // Takes steps of goals that are listed or untried, at most as many as it may, and says how many: one attempt each. The last one

@@ -6,23 +6,25 @@ ghost use Rattle.ghc_term.specs.declared.goal_name.GoalName.{GoalName as goal_na
 ghost use Rattle.ghc_term.specs.Sets.{Variables};
 ghost use Rattle.ghc_hooks.specs.Verdict.{status_of};
 ghost use Rattle.ghc_hooks.specs.Status.{ready, waiting};
-ghost use Rattle.ghc_core.specs.World.{World};
+ghost use Rattle.ghc_core.specs.World.{IsNextStep};
+ghost use Rattle.ghc_core.specs.Core.{Core as core_spec};
 ghost use Rattle.ghc_trace.specs.Spies.{Spies};
-ghost use Rattle.ghc_pool.specs.Meeting.{TookInQuestion, IsFound, IsPassed, IsNotedReady, IsNotedWaiting, IsToMeet};
+ghost use Rattle.ghc_pool.specs.Runs.{IsRunStep};
+ghost use Rattle.ghc_pool.specs.Meeting.{TookInQuestion, IsMet, IsPassed, IsNotedReady, IsNotedWaiting, IsToMeet};
 
 use crate::question::{is_in_question_since, is_spied_in};
-use ghc_core::Core;
+use ghc_core::{Change, Coming, Core};
 use ghc_hooks::Verdict;
 use ghc_records::Addition;
 use ghc_term::{Fault, GoalName};
 use ghc_trace::SpySet;
 use std::alloc::Global;
 
-// What a goal is to the run that met it.
-#[derive(Drop)]
+// What a run made of a goal that it met.
+#[derive(Clone, Copy, Drop)]
 pub enum Met {
-    // A step of it can be taken.
-    Step(Addition),
+    // It took a step of it, which has this number and made so many goals.
+    Stepped(u32, u32),
     // It may be a reason to stop, or memory was refused.
     Stop,
     // It was tried and noted, and the run goes by it.
@@ -84,7 +86,7 @@ pub fn is_to_meet(core: &Core, goal: GoalName) -> bool
 // Tries the goal and notes the outcome, where memory is found: one try.
 fn pass(core: &mut Core, alloc: Global, goal: GoalName) -> Met
     ensures world { core.new.world ≡ core.old.world }
-    ensures found { (spies : Spies) (root : option goal_name) (w : World) → IsFound spies root w result }
+    ensures met { (spies : Spies) (root : option goal_name) → IsMet spies root core.old.world result core.new.world }
     ensures passed { IsPassed core.old goal result core.new }
 {
     match core.note(alloc, goal) {
@@ -95,8 +97,7 @@ fn pass(core: &mut Core, alloc: Global, goal: GoalName) -> Met
 
 // The same, for a spied goal: the run goes by it if it waits.
 fn pass_spied(core: &mut Core, alloc: Global, goal: GoalName) -> Met
-    ensures world { core.new.world ≡ core.old.world }
-    ensures found { (spies : Spies) (root : option goal_name) (w : World) → IsFound spies root w result }
+    ensures met { (spies : Spies) (root : option goal_name) → IsMet spies root core.old.world result core.new.world }
     ensures passed { IsPassed core.old goal result core.new }
 {
     let met = pass(core, alloc, goal);
@@ -106,7 +107,20 @@ fn pass_spied(core: &mut Core, alloc: Global, goal: GoalName) -> Met
     Met::Stop
 }
 
-// Meets a goal: a step of it is found, with one attempt, or the run goes by it or may have to stop. It is noted only where its
+// Takes a step that was found; where memory is refused for it nothing changes.
+fn take(core: &mut Core, addition: Addition) -> Met
+    requires { IsNextStep core.old.world addition }
+    ensures met { (spies : Spies) (root : option goal_name) → IsRunStep 1 spies root core.old.world addition → IsMet spies root core.old.world result core.new.world }
+    ensures passed { (before : core_spec) (g : goal_name) → IsPassed before g result core.new }
+{
+    let (step, count) = (addition.step().number(), addition.step().effect().made());
+    match core.make(Change::Comes(Coming::Next, addition)) {
+        Ok(()) => Met::Stepped(step, count),
+        Err(_) => Met::Stop,
+    }
+}
+
+// Meets a goal: a step of it is taken, with one attempt, or the run goes by it or may have to stop. It is noted only where its
 // step is refused since it waits, where it is spied, or where it is not in question. Since the number given each kept step took a
 // goal in question.
 pub fn meet(
@@ -119,8 +133,7 @@ pub fn meet(
 ) -> Met
     requires there { (b : goal_spec) × (finite.get core.old.world.state.goals goal ≡ Some b) }
     requires took { TookInQuestion root core.old.world.kept since }
-    ensures world { core.new.world ≡ core.old.world }
-    ensures found { IsFound spies.now root core.old.world result }
+    ensures met { IsMet spies.now root core.old.world result core.new.world }
     ensures passed { IsPassed core.old goal result core.new }
 {
     if !is_in_question_since(core, root, since, goal) {
@@ -131,7 +144,7 @@ pub fn meet(
     }
     core.stands();
     match core.prepare_step(alloc, goal, None) {
-        Ok(addition) => Met::Step(addition),
+        Ok(addition) => take(core, addition),
         Err(Fault::Waits) => pass(core, alloc, goal),
         Err(_) => Met::Stop,
     }
