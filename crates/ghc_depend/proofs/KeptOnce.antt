@@ -6,6 +6,7 @@ use Rattle.std.specs.Cmp.{nat_cmp_total, tied_itself, ranked}
 use Rattle.std.specs.declared.cmp.Ordering.{Ordering}
 use Rattle.std.specs.declared.cmp.Ordering.TheVariants.{Less, Equal, Greater}
 use Rattle.std.specs.FinMap as finite
+use Rattle.std.proofs.lemmas.List.{same_from_push}
 use Rattle.ghc_term.specs.declared.goal_name.GoalName.{GoalName}
 use Rattle.ghc_term.specs.Goal.{Goal}
 use Rattle.ghc_term.specs.Lists.{In}
@@ -32,7 +33,7 @@ use Rattle.ghc_depend.specs.Kept.{with_shelved, IsWithout, IsSplitAt, taken_numb
 use Rattle.ghc_depend.specs.Laws.{KeepsIsOne}
 use Rattle.ghc_depend.proofs.Finding.{same_value}
 use Rattle.ghc_depend.proofs.Once.{same_records}
-use Rattle.ghc_depend.proofs.Picking.{never_nothing, last_once, distinct_left, distinct_last, picks_in}
+use Rattle.ghc_depend.proofs.Picking.{never_nothing, distinct_left, distinct_last, picks_in}
 
 pub taken_append : (es fs : List Entry) → taken_numbers (es ++ fs) ≡ taken_numbers es ++ taken_numbers fs
 taken_append [] fs = refl
@@ -164,19 +165,19 @@ Came o es (reordered order) kept shelf = (old : List Record) × Keeps o es old s
 came : {o : Opening} {fs : List Entry} {kept : List Record} {shelf : Shelf} → Keeps o fs kept shelf → (es : List Entry) (e : Entry) → fs ≡ es ++ e ∷ [] → Came o es e kept shelf
 came Keeps.at_first es e p = absurd (never_nothing es e (sym p))
 came {o} (Keeps.step {es = fs} {kept = kept} {shelf = shelf} r t k run) es e p =
-    let q = last_once fs es (took (step_of r)) e p in
+    let q = same_from_push fs es (took (step_of r)) e p in
     subst₂ (λ js j. Came o js j (kept ++ r ∷ []) shelf) q.0 q.1 (kept, r, t, k, run, refl, refl)
 came {o} (Keeps.undo {es = fs} {kept = kept} {left = left} {shelf = shelf} n r k i out) es e p =
-    let q = last_once fs es (undid n) e p in
+    let q = same_from_push fs es (undid n) e p in
     subst₂ (λ js j. Came o js j left (with_shelved (r ∷ []) shelf)) q.0 q.1 (kept, shelf, r, k, i, out, refl)
 came {o} (Keeps.roll {es = fs} {kept = kept} {left = left} {shelf = shelf} n r gone k i split) es e p =
-    let q = last_once fs es (rolled n) e p in
+    let q = same_from_push fs es (rolled n) e p in
     subst₂ (λ js j. Came o js j left (with_shelved gone shelf)) q.0 q.1 (kept, shelf, r, gone, k, i, split, refl)
 came {o} (Keeps.redo {es = fs} {kept = kept} {shelf = shelf} n r k i) es e p =
-    let q = last_once fs es (redid n) e p in
+    let q = same_from_push fs es (redid n) e p in
     subst₂ (λ js j. Came o js j (kept ++ r ∷ []) (finite.remove shelf n)) q.0 q.1 (kept, shelf, r, k, i, refl, refl)
 came {o} (Keeps.arrange {es = fs} {kept = kept} {new = new} {shelf = shelf} order k i) es e p =
-    let q = last_once fs es (reordered order) e p in
+    let q = same_from_push fs es (reordered order) e p in
     subst₂ (λ js j. Came o js j new shelf) q.0 q.1 (kept, k, i)
 
 nothing_kept : {o : Opening} {fs : List Entry} {kept : List Record} {shelf : Shelf} → Keeps o fs kept shelf → fs ≡ [] → ([] ≡ kept) × (finite.empty ≡ shelf)
