@@ -30,6 +30,15 @@ first_once First Next first next f g (inl p) (inr q) = absurd (q.0 f p)
 first_once First Next first next f g (inr p) (inl q) = absurd (p.0 g q)
 first_once First Next first next f g (inr p) (inr q) = next f g p.1 q.1
 
+-- Where the first cause holds, it is told; where it does not, another one is the cause.
+pub told_first : (told : Fault) (Holds : Type 0) (Next : Fault → Type 0) (f : Fault) → Holds → OrElse (IsToldWhere told Holds) Next f → f ≡ told
+told_first told Holds Next f holds (inl p) = p.0
+told_first told Holds Next f holds (inr p) = absurd (p.0 told (refl, holds))
+
+pub told_next : (told : Fault) (Holds : Type 0) (Next : Fault → Type 0) (f : Fault) → ¬ Holds → OrElse (IsToldWhere told Holds) Next f → Next f
+told_next told Holds Next f none (inl p) = absurd (none p.1)
+told_next told Holds Next f none (inr p) = p.1
+
 -- what a map has and has not at a key
 pub has_not : {A : Type 0} {x : A} {o : Option A} → o ≡ Some x → o ≡ None → ⊥
 has_not p q = cc

@@ -13,6 +13,7 @@ use Rattle.ghc_core.specs.Events.{commit, command, stepped, refused}
 use Rattle.ghc_core.specs.Proposes.{CommitFails}
 use Rattle.ghc_core.specs.Answers.{Fails, hands_after, Answers, fails, no_memory}
 use Rattle.ghc_core.specs.Anyway.{IsNotCommittedAnyway}
+use Rattle.ghc_core.proofs.CertainRefusals.{holds_no_goal, held_gone}
 use Rattle.ghc_core.proofs.Replying.{hand_commits, hand_gives_up}
 use Rattle.ghc_core.specs.Legal.{Leaves}
 use Rattle.ghc_core.specs.Playing.{tells_change, AddsWhatItTells, AnswersAddWhatTheyTell}
@@ -49,11 +50,7 @@ not_obeyed w c f (inr why) = fails tt why
 
 -- the commit is refused whatever memory is left where its goal is gone, and for nothing else
 gone_alone : (w : World) (p : Proposal) (f : Fault) → IsNotCommittedAnyway w (holding p) 1 f → (f ≡ Fault.Stale) × (finite.get w.state.goals p.goal ≡ None)
-gone_alone w p f (IsNotCommittedAnyway.no_hand n) = absurd (n (one_hand p))
-gone_alone w p f (IsNotCommittedAnyway.empty i e) = let clash : Some p ≡ None = sym (held_there p) ∙ e in cc
-gone_alone w p f (IsNotCommittedAnyway.gone q i e g) =
-    let same : Some q ≡ Some p = sym e ∙ held_there p in
-    let one : q ≡ p = cc in (refl, subst (λ (x : Proposal). finite.get w.state.goals x.goal ≡ None) one g)
+gone_alone w p f fails = let is = holds_no_goal w (holding p) 1 (one_hand p) fails in (is.0, held_gone w (holding p) 1 p (held_there p) is.1)
 
 pub told_gone : {X : Type 0} (w : World) (p : Proposal) (result : Result X Fault) (f : Fault) → (finite.get w.state.goals p.goal ≡ None → result ≡ Err Fault.Stale) → IsNotCommittedAnyway w (holding p) 1 f → result ≡ Err f
 told_gone w p result f said anyway = let is = gone_alone w p f anyway in said is.1 ∙ ap (λ (x : Fault). Err x) (sym is.0)
