@@ -1,28 +1,6 @@
 -- Why a step depends directly on an earlier one: places in recorded order, the least variable, and what woke a goal.
-use Rattle.std.proofs.Common.{◌≡◌, ◌≢◌, ℕ, zero, suc, ◌+◌, ◌<◌, ◌≤◌, ◌⊎◌, Bool, true, false, not, cond, List, [], ◌∷◌, ◌++◌, length, take, refl, sym, ap, ◌∙◌, subst, subst₂, inl, inr, arith}
-use Rattle.std.specs.Prelude.{◌↔◌, Option, Some, None, IsTrue, IfSome, IfNone, slice_get}
-use Rattle.std.specs.declared.cmp.Ordering.TheVariants.{Less, Equal, Greater}
-use Rattle.std.specs.Ordering.{is_lt, ord_min, ordering_reverse}
+use Rattle.ghc_depend.proofs.Words.{◌≡◌, ◌≢◌, ℕ, zero, suc, ◌+◌, ◌<◌, ◌≤◌, ◌⊎◌, Bool, true, false, not, cond, List, [], ◌∷◌, ◌++◌, length, take, refl, sym, ap, ◌∙◌, subst, subst₂, inl, inr, arith, ◌↔◌, Option, Some, None, IsTrue, IfSome, IfNone, slice_get, Less, Equal, Greater, is_lt, ord_min, ordering_reverse, cases_order, VarName, GoalName, In, name_cmp, name_total, name_antisymmetric, has_member, in_left, in_right, in_more, in_at, is_member, Precedes, AreDistinct, Record, numbers, Before, is_before, before_is, before_in, before_once, record_once, records_distinct, StepBinds, SlotList, HasNumberIn, StandsIn, held_in, rank, rank_less, rank_least, ranked, ranked_at, variables_asked, MakesGoal, MakesVariable, Consumes, Binds, ReadsFrom, NamesFrom, IsKeptAs, Made as made, Read as read, Named as named, CanWait, WasThereBefore, IsBoundBehind, ReadsBehind, IsWokenBy, IsLeastRead, IsLeastNamed, by_making, by_reading, by_naming, IsDirect}
 use Rattle.std.specs.FinSet as set
-use Rattle.std.proofs.lemmas.Bool.{cases_order}
-use Rattle.ghc_term.specs.declared.var_name.VarName.{VarName}
-use Rattle.ghc_term.specs.declared.goal_name.GoalName.{GoalName}
-use Rattle.ghc_term.specs.Lists.{In}
-use Rattle.ghc_term.specs.Bindings.{name_cmp}
-use Rattle.ghc_term.proofs.Names.{name_total, name_antisymmetric}
-use Rattle.ghc_term.proofs.Members.{has_member}
-use Rattle.ghc_term.proofs.ListsLemmas.{in_left, in_right, in_more, in_at}
-use Rattle.ghc_term.proofs.SetsLemmas.{is_member}
-use Rattle.ghc_records.specs.Orders.{Precedes, AreDistinct}
-use Rattle.ghc_records.specs.Record.{Record, numbers}
-use Rattle.ghc_records.proofs.OrderLemmas.{Before, is_before, before_is, before_in, before_once, record_once, records_distinct}
-use Rattle.ghc_records.specs.UseIndex.{StepBinds}
-use Rattle.ghc_records.specs.Slots.{SlotList, HasNumberIn, StandsIn, held_in}
-use Rattle.ghc_records.proofs.SlotRanks.{rank, rank_less, rank_least, ranked, ranked_at}
-use Rattle.ghc_fire.specs.Asked.{variables_asked}
-use Rattle.ghc_depend.specs.Depend.{MakesGoal, MakesVariable, Consumes, Binds, ReadsFrom, NamesFrom, IsKeptAs}
-use Rattle.ghc_depend.specs.declared.cause.Cause.TheVariants.{Made as made, Read as read, Named as named}
-use Rattle.ghc_depend.specs.Cause.{CanWait, WasThereBefore, IsBoundBehind, ReadsBehind, IsWokenBy, IsLeastRead, IsLeastNamed, by_making, by_reading, by_naming, IsDirect}
 use Rattle.ghc_depend.proofs.Finding.{same_value}
 
 module _ {X : Type 0} where

@@ -1,36 +1,7 @@
 -- A journal that takes no number twice tells one kept list and one shelf.
-use Rattle.std.proofs.Common.{◌≡◌, ◌≢◌, ℕ, ◌+◌, ◌⊎◌, true, false, cond, List, [], ◌∷◌, ◌++◌, refl, sym, ap, ◌∙◌, subst, subst₂, inl, inr, Some, None, append-nil, append_assoc}
-use Rattle.std.specs.Prelude.{Option}
-use Rattle.std.specs.Ordering.{eq_by_cmp, is_eq, nat_cmp}
-use Rattle.std.specs.Cmp.{nat_cmp_total, tied_itself, ranked}
-use Rattle.std.specs.declared.cmp.Ordering.{Ordering}
-use Rattle.std.specs.declared.cmp.Ordering.TheVariants.{Less, Equal, Greater}
+use Rattle.ghc_depend.proofs.Words.{◌≡◌, ◌≢◌, ℕ, ◌+◌, ◌⊎◌, true, false, cond, List, [], ◌∷◌, ◌++◌, refl, sym, ap, ◌∙◌, subst, subst₂, inl, inr, Some, None, append-nil, append_assoc, Option, eq_by_cmp, is_eq, nat_cmp, nat_cmp_total, tied_itself, Ordering, Less, Equal, Greater, same_from_push, GoalName, Goal, In, IsAcyclic, value_at, in_left, in_right, in_more, Program, Query, IsProgram, IsQuery, Act, Asked as asking, asks_once, Effect, Goals, effect_once, AreDistinct, State, Record, numbers, Shelf, after, IsThere, HasStepEffect, Fires, query_state, Runs, Replays, Opening, Entry, took, undid, rolled, redid, reordered, step_of, picks_once, numbers_append, run_once, replay_well, IsKeptAs, GoesWith, IsInOrder, with_shelved, IsWithout, IsSplitAt, taken_numbers, Keeps, KeepsIsOne}
+use Rattle.std.specs.Cmp.{ranked}
 use Rattle.std.specs.FinMap as finite
-use Rattle.std.proofs.lemmas.List.{same_from_push}
-use Rattle.ghc_term.specs.declared.goal_name.GoalName.{GoalName}
-use Rattle.ghc_term.specs.Goal.{Goal}
-use Rattle.ghc_term.specs.Lists.{In}
-use Rattle.ghc_term.specs.Bindings.{IsAcyclic}
-use Rattle.ghc_term.specs.Store.{value_at}
-use Rattle.ghc_term.proofs.ListsLemmas.{in_left, in_right, in_more}
-use Rattle.ghc_flat.specs.Clause.{Program, Query}
-use Rattle.ghc_flat.specs.Flat.{IsProgram, IsQuery}
-use Rattle.ghc_fire.specs.declared.act.Act.{Act}
-use Rattle.ghc_fire.specs.declared.act.Act.TheVariants.{Asked as asking}
-use Rattle.ghc_fire.proofs.Asking.{asks_once}
-use Rattle.ghc_fire.specs.Effect.{Effect}
-use Rattle.ghc_fire.specs.Goals.{Goals}
-use Rattle.ghc_fire.proofs.Steps.{effect_once}
-use Rattle.ghc_records.specs.Orders.{AreDistinct}
-use Rattle.ghc_records.specs.Record.{State, Record, numbers, Shelf, after, IsThere, HasStepEffect, Fires}
-use Rattle.ghc_records.specs.Replay.{query_state, Runs, Replays}
-use Rattle.ghc_records.specs.Journal.{Opening, Entry, took, undid, rolled, redid, reordered, step_of}
-use Rattle.ghc_records.proofs.OrderLemmas.{picks_once, numbers_append}
-use Rattle.ghc_records.proofs.Replaying.{run_once, replay_well}
-use Rattle.ghc_depend.specs.Depend.{IsKeptAs, GoesWith}
-use Rattle.ghc_depend.specs.Lawful.{IsInOrder}
-use Rattle.ghc_depend.specs.Kept.{with_shelved, IsWithout, IsSplitAt, taken_numbers, Keeps}
-use Rattle.ghc_depend.specs.Laws.{KeepsIsOne}
 use Rattle.ghc_depend.proofs.Finding.{same_value}
 use Rattle.ghc_depend.proofs.Once.{same_records}
 use Rattle.ghc_depend.proofs.Picking.{never_nothing, distinct_left, distinct_last, picks_in}

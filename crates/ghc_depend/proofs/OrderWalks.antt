@@ -1,21 +1,5 @@
 -- Walks over an order and over the record: which number is wrong, and which is missing.
-use Rattle.std.proofs.Common.{◌≡◌, ℕ, zero, suc, ◌+◌, ◌<◌, ◌≤◌, length, arith, ◌⊎◌, Bool, true, false, not, List, [], ◌∷◌, ◌++◌, take, get_or, refl, sym, ap, ◌∙◌, subst, inl, inr, nat_eq}
-use Rattle.std.specs.Prelude.{Option, Some, None, IfNone, IsSome, slice_get}
-use Rattle.std.specs.Borrow.{Bor}
-use Rattle.std.specs.List.{list_any, position}
-use Rattle.std.proofs.lemmas.Bool.{eqb-true, cases_order, cases_lt}
-use Rattle.std.proofs.lemmas.List.Quantifiers.{position-Some}
-use Rattle.std.proofs.lemmas.Option.{slice_get-get_or, slice_get_within}
-use Rattle.ghc_term.specs.Lists.{In}
-use Rattle.ghc_term.proofs.ListsLemmas.{in_more}
-use Rattle.ghc_records.specs.Orders.{AreDistinct}
-use Rattle.ghc_records.specs.Record.{Record, numbers}
-use Rattle.ghc_records.specs.Slots.{SlotList, held_in, StandsIn}
-use Rattle.ghc_records.proofs.NumberSets.{any_number}
-use Rattle.ghc_records.proofs.OrderLemmas.{before_once, number_of}
-use Rattle.ghc_records.proofs.SlotLemmas.{held_stands}
-use Rattle.ghc_records.proofs.SlotRanks.{rank, rank_back, rank_least}
-use Rattle.ghc_depend.specs.Lawful.{IsOfKept, IsFirstWrong, IsFirstMissing}
+use Rattle.ghc_depend.proofs.Words.{◌≡◌, ℕ, zero, suc, ◌+◌, ◌<◌, ◌≤◌, length, arith, ◌⊎◌, Bool, true, false, not, List, [], ◌∷◌, ◌++◌, take, get_or, refl, sym, ap, ◌∙◌, subst, inl, inr, nat_eq, Option, Some, None, IfNone, IsSome, slice_get, Bor, list_any, position, eqb-true, cases_order, cases_lt, position-Some, slice_get-get_or, slice_get_within, In, in_more, AreDistinct, Record, numbers, SlotList, held_in, StandsIn, any_number, before_once, number_of, held_stands, rank, rank_back, rank_least, IsOfKept, IsFirstWrong, IsFirstMissing}
 use Rattle.ghc_depend.proofs.Causes.{at_split, places_before}
 use Rattle.ghc_depend.proofs.Picking.{distinct_push}
 

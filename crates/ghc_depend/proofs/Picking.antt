@@ -1,13 +1,8 @@
 -- Parts of a list, in its order.
-use Rattle.std.proofs.Common.{◌≡◌, ◌+◌, ◌≤◌, ◌⊎◌, List, [], ◌∷◌, ◌++◌, length, refl, sym, ap, ◌∙◌, subst, inl, inr, arith}
-use Rattle.std.proofs.lemmas.List.{length-append}
-use Rattle.ghc_term.specs.Lists.{In}
-use Rattle.ghc_term.proofs.ListsLemmas.{in_left, in_right, in_either, in_splits, in_more}
-use Rattle.ghc_records.specs.Orders.{Picks, nothing, take, leave, AreDistinct}
-use Rattle.ghc_records.specs.Record.{Record, numbers}
+use Rattle.ghc_depend.proofs.Words.{◌≡◌, ◌+◌, ◌≤◌, ◌⊎◌, List, [], ◌∷◌, ◌++◌, length, refl, sym, ap, ◌∙◌, subst, inl, inr, arith, length-append, In, in_left, in_right, in_either, in_splits, in_more, Picks, nothing, leave, AreDistinct, Record, numbers, Before, before_in, before_once, number_in, number_of, numbers_append}
+use Rattle.ghc_records.specs.Orders.{take}
 pub use Rattle.ghc_flat.proofs.DistinctLemmas.{distinct_left}
 pub use Rattle.ghc_records.proofs.PickLemmas.{before_left, before_right, before_across, picks_in, picks_has, picks_order, picks_keep, picks_distinct, pick_last, leave_last, no_longer}
-use Rattle.ghc_records.proofs.OrderLemmas.{Before, before_in, before_once, number_in, number_of, numbers_append}
 
 module _ {X : Type 0} where
   pub before_front : (done rest : List X) (r m : X) → In m done → Before (done ++ r ∷ rest) m r

@@ -1,6 +1,5 @@
-use Rattle.std.proofs.Common.{◌≡◌, true, false, sym, ap, ◌∙◌, arith}
+use Rattle.ghc_depend.proofs.Words.{◌≡◌, true, false, sym, ap, ◌∙◌, arith, some_of}
 use Rattle.std.specs.Prelude.{option_copied}
-use Rattle.ghc_records.proofs.SlotRanks.{some_of}
 use Rattle.ghc_depend.proofs.Causes.{none_earlier, none_later, not_behind, is_made, is_read, is_named, is_none}
 use Rattle.ghc_depend.proofs.cause.direct.Goals as goal
 

@@ -1,6 +1,4 @@
-use Rattle.std.proofs.Common.{inl, inr}
-use Rattle.ghc_records.proofs.OrderLemmas.{number_in, number_of}
-use Rattle.ghc_records.proofs.NumberSets.{number_any}
+use Rattle.ghc_depend.proofs.Words.{inl, inr, number_in, number_of, number_any}
 use Rattle.ghc_depend.proofs.OrderWalks.{not_any, when_new, when_old}
 use Rattle.ghc_depend.proofs.places.is_added.Goals as goal
 
