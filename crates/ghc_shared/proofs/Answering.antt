@@ -50,7 +50,7 @@ not_obeyed w c f (inr why) = fails tt why
 
 -- the commit is refused whatever memory is left where its goal is gone, and for nothing else
 gone_alone : (w : World) (p : Proposal) (f : Fault) → IsNotCommittedAnyway w (holding p) 1 f → (f ≡ Fault.Stale) × (finite.get w.state.goals p.goal ≡ None)
-gone_alone w p f fails = let is = holds_no_goal w (holding p) 1 (one_hand p) fails in (is.0, held_gone w (holding p) 1 p (held_there p) is.1)
+gone_alone w p f why = let is = holds_no_goal w (holding p) 1 (one_hand p) why in (is.0, held_gone w (holding p) 1 p (held_there p) is.1)
 
 pub told_gone : {X : Type 0} (w : World) (p : Proposal) (result : Result X Fault) (f : Fault) → (finite.get w.state.goals p.goal ≡ None → result ≡ Err Fault.Stale) → IsNotCommittedAnyway w (holding p) 1 f → result ≡ Err f
 told_gone w p result f said anyway = let is = gone_alone w p f anyway in said is.1 ∙ ap (λ (x : Fault). Err x) (sym is.0)
