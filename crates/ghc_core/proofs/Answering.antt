@@ -1,41 +1,9 @@
 -- Each event has one answer at most.
-use Rattle.std.proofs.Common.{◌≡◌, ℕ, List, ◌∷◌, true, false, refl, sym, ap, ◌∙◌, subst, ◌⊎◌, inl, inr, Some, None}
+use Rattle.ghc_core.proofs.Words.{◌≡◌, ℕ, List, ◌∷◌, true, false, refl, sym, ap, ◌∙◌, subst, ◌⊎◌, inl, inr, Some, None, GoalName, Goal, value_at, is_stream, Given as given, Closed as closed, effect_once, attempt_once, Fault, Record, numbers, query_state, Runs, Entry, run_once, record_once, IsSplitAt, IsLawful, IsInOrder, orders, consequences, HasStatus, status_once, Option, Proposal, Hands, with_hand, World, with_step, Change, Goes as goes, Coming, Going, Gone, all_gone, with_coming, without_steps, with_order, entry_of_going, CanChange, AreTakenAway, Changes, Command, input, finish, undo, roll, redo, arrange, ask, Event, propose, commit, note, command, Reply, stepped, undone, noted, refused, Asks, to_give, to_close, to_undo, to_roll, to_redo, to_arrange, to_ask, told_of, Fails, HasHand, hands_after, AsksFor, by_hand, by_command, Says, IsRefusedFor, Answers, no_hand, makes, says, fails, no_memory, IsToldWhere, AttemptAnswers, CommitFails, same_act, same_effect, same_fault, apart, IsOrderly, OrderedHasOneAnswer, EventsHaveOneAnswer}
 use Rattle.std.specs.FinMap as finite
-use Rattle.ghc_term.specs.declared.goal_name.GoalName.{GoalName}
-use Rattle.ghc_term.specs.Goal.{Goal}
-use Rattle.ghc_term.specs.Store.{value_at}
-use Rattle.ghc_flat.specs.Flat.{is_stream}
-use Rattle.ghc_fire.specs.declared.act.Act.TheVariants.{Given as given, Closed as closed}
-use Rattle.ghc_fire.proofs.Steps.{effect_once}
-use Rattle.ghc_fire.proofs.Tries.{attempt_once}
-use Rattle.ghc_term.specs.declared.fault.Fault.{Fault}
-use Rattle.ghc_records.specs.Record.{Record, numbers}
-use Rattle.ghc_records.specs.Replay.{query_state, Runs}
-use Rattle.ghc_records.specs.Journal.{Entry}
-use Rattle.ghc_records.proofs.Replaying.{run_once}
-use Rattle.ghc_records.proofs.OrderLemmas.{record_once}
-use Rattle.ghc_depend.specs.Kept.{IsSplitAt}
-use Rattle.ghc_depend.specs.Lawful.{IsLawful, IsInOrder}
-use Rattle.ghc_depend.proofs.Once.{orders, consequences}
-use Rattle.ghc_hooks.specs.Status.{HasStatus}
-use Rattle.ghc_hooks.proofs.Statuses.{status_once}
-use Rattle.std.specs.Prelude.{Option}
-use Rattle.ghc_core.specs.World.{Proposal, Hands, with_hand, World, with_step}
-use Rattle.ghc_core.specs.declared.change.Change.{Change}
-use Rattle.ghc_core.specs.declared.change.Change.TheVariants.{Goes as goes}
-use Rattle.ghc_core.specs.declared.change.Coming.{Coming}
-use Rattle.ghc_core.specs.declared.change.Going.{Going}
-use Rattle.ghc_core.specs.Gone.{Gone, all_gone}
 use Rattle.ghc_core.proofs.Alone.{none_follow}
-use Rattle.ghc_core.specs.Change.{with_coming, without_steps, with_order, entry_of_going, CanChange, AreTakenAway, Changes}
-use Rattle.ghc_core.specs.Events.{Command, input, finish, undo, roll, redo, arrange, ask, Event, propose, commit, note, command, Reply, stepped, undone, noted, refused}
 use Rattle.ghc_core.specs.Proposes as asking
-use Rattle.ghc_core.specs.Answers.{Asks, to_give, to_close, to_undo, to_roll, to_redo, to_arrange, to_ask, told_of, Fails, HasHand, hands_after, AsksFor, by_hand, by_command, Says, IsRefusedFor, Answers, no_hand, makes, says, fails, no_memory}
-use Rattle.ghc_core.specs.Refusals.{IsToldWhere}
-use Rattle.ghc_core.specs.Proposes.{AttemptAnswers, CommitFails}
 use Rattle.ghc_fire.specs.Attempt as attempt
-use Rattle.ghc_fire.proofs.Answering.{same_act, same_effect, same_fault, apart}
-use Rattle.ghc_core.specs.Laws.{IsOrderly, OrderedHasOneAnswer, EventsHaveOneAnswer}
 use Rattle.ghc_core.proofs.AskedGoals.{ask_fails_once, ask_or_fail, one_ask}
 use Rattle.ghc_core.proofs.Reaching.{reached}
 use Rattle.ghc_core.proofs.Refusing.{told_once, first_once, stream_fails_once, commit_fails_once, value_once, has_not}

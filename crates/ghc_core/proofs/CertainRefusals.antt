@@ -1,18 +1,7 @@
 -- What is refused whatever memory is left.
-use Rattle.std.proofs.Common.{◌≡◌, ℕ, sym, ap, subst, ◌∙◌, inl, inr, Some, None, Result, Err}
-use Rattle.std.specs.Prelude.{Option}
+use Rattle.ghc_core.proofs.Words.{◌≡◌, ℕ, sym, ap, subst, ◌∙◌, inl, inr, Some, None, Result, Err, Option, GoalName, Fault, Record, Follows, IsKeptAs, Proposal, Hands, IsHand, World, IsStanding, Reply, refused, AttemptAnswers, IsNoCandidate, IsToldWhere, UndoFails, FindsNothing, IsNotProposedAnyway, HoldsNoGoal, IsNotCommittedAnyway}
 use Rattle.std.specs.FinMap as finite
-use Rattle.ghc_term.specs.declared.goal_name.GoalName.{GoalName}
-use Rattle.ghc_term.specs.declared.fault.Fault.{Fault}
 use Rattle.ghc_fire.specs.Attempt as attempt
-use Rattle.ghc_records.specs.Record.{Record}
-use Rattle.ghc_depend.specs.Depend.{Follows, IsKeptAs}
-use Rattle.ghc_core.specs.World.{Proposal, Hands, IsHand, World}
-use Rattle.ghc_core.specs.Core.{IsStanding}
-use Rattle.ghc_core.specs.Events.{Reply, refused}
-use Rattle.ghc_core.specs.Proposes.{AttemptAnswers, IsNoCandidate}
-use Rattle.ghc_core.specs.Refusals.{IsToldWhere, UndoFails}
-use Rattle.ghc_core.specs.Anyway.{FindsNothing, IsNotProposedAnyway, HoldsNoGoal, IsNotCommittedAnyway}
 use Rattle.ghc_core.proofs.Refusing.{told_first, told_next, has_not, value_once}
 use Rattle.ghc_core.proofs.Reversing.{undo_fails_once, undo_or_fail}
 use Rattle.ghc_core.proofs.Standing.{standing_orderly}

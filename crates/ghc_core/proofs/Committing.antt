@@ -1,31 +1,8 @@
 -- Proposals that hold: what an attempt would propose, the step that they become, and the one answer of a commit.
-use Rattle.std.proofs.Common.{◌≡◌, false, ℕ, refl, sym, ap, ◌∙◌, subst, inl, inr, Some, None}
-use Rattle.std.specs.Prelude.{Option}
+use Rattle.ghc_core.proofs.Words.{◌≡◌, false, ℕ, refl, sym, ap, ◌∙◌, subst, inl, inr, Some, None, Option, VarName, GoalName, Fault, Tree, Goal, call, unify, assign, stream, IsAcyclic, value_at, exact, Program, is_stream, Act, ByClause as by_clause, Unified as unified, Assigned as assigned, Given as given, Closed as closed, Asked as asked, Effect, HasEffect, no_step, under, Answer, proposes, CallAnswers, ChoiceAnswers, UnificationAnswers, AssignmentAnswers, Attempts, effect_once, attempt_once, effect_under, same_act, same_effect, same_fault, apart, Record, World, HasRoom, AttemptAnswers, IsReduction, StillHolds, IsCommitOf, IsStepOf, ProposesInFull, StepFails, IsStanding, choice_of, CommitIsExact, StepIsExact, StreamStepIsExact}
 use Rattle.std.specs.FinMap as finite
-use Rattle.ghc_term.specs.declared.var_name.VarName.{VarName}
-use Rattle.ghc_term.specs.declared.goal_name.GoalName.{GoalName}
-use Rattle.ghc_term.specs.declared.fault.Fault.{Fault}
-use Rattle.ghc_term.specs.Tree.{Tree}
-use Rattle.ghc_term.specs.Goal.{Goal, call, unify, assign, stream}
-use Rattle.ghc_term.specs.Bindings.{IsAcyclic}
-use Rattle.ghc_term.specs.Store.{value_at}
-use Rattle.ghc_term.proofs.Exact.{exact}
-use Rattle.ghc_flat.specs.Clause.{Program}
-use Rattle.ghc_flat.specs.Flat.{is_stream}
-use Rattle.ghc_fire.specs.declared.act.Act.{Act}
-use Rattle.ghc_fire.specs.declared.act.Act.TheVariants.{ByClause as by_clause, Unified as unified, Assigned as assigned, Given as given, Closed as closed, Asked as asked}
-use Rattle.ghc_fire.specs.Effect.{Effect, HasEffect, no_step}
-use Rattle.ghc_fire.specs.Proposal.{Proposal, under}
-use Rattle.ghc_fire.specs.Attempt.{Answer, proposes, refused, CallAnswers, ChoiceAnswers, UnificationAnswers, AssignmentAnswers, Attempts}
-use Rattle.ghc_fire.proofs.Steps.{effect_once}
-use Rattle.ghc_fire.proofs.Tries.{attempt_once}
-use Rattle.ghc_fire.proofs.Under.{effect_under}
-use Rattle.ghc_fire.proofs.Answering.{same_act, same_effect, same_fault, apart}
-use Rattle.ghc_records.specs.Record.{Record}
-use Rattle.ghc_core.specs.World.{World, HasRoom}
-use Rattle.ghc_core.specs.Proposes.{AttemptAnswers, IsReduction, StillHolds, IsCommitOf, IsStepOf, ProposesInFull, StepFails}
-use Rattle.ghc_core.specs.Core.{IsStanding, choice_of}
-use Rattle.ghc_core.specs.Laws.{CommitIsExact, StepIsExact, StreamStepIsExact}
+use Rattle.ghc_fire.specs.Proposal.{Proposal}
+use Rattle.ghc_fire.specs.Attempt.{refused}
 use Rattle.ghc_core.proofs.Refusing.{told_once, first_once, stream_fails_once, commit_fails_once, value_once}
 use Rattle.ghc_core.proofs.Naming.{known_of_act}
 use Rattle.ghc_core.proofs.Stepping as stepping

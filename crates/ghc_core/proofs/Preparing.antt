@@ -1,22 +1,8 @@
 -- The step that is prepared of a proposal, and what it answers.
-use Rattle.std.proofs.Common.{◌≡◌, ◌⊎◌, ℕ, List, inl, inr, refl, subst, sym, Option, Some, Result, Ok, Err, IfOk, IfErr}
+use Rattle.ghc_core.proofs.Words.{◌≡◌, ◌⊎◌, ℕ, List, inl, inr, refl, subst, sym, Option, Some, Result, Ok, Err, IfOk, IfErr, GoalName, Fault, IsAcyclic, value_at, Answered, Act, Effect, proposes, AttemptsAs, Attempts, under, proposal_as, State, Record, Shelf, Opening, Entry, World, IsFull, HasRoom, IsStanding, record_as, next_record, AttemptAnswers, IsProposedAsNext, StillHolds, IsCommitOf, CommitFails, IsStepOf, StepFails}
 use Rattle.std.specs.FinMap as finite
-use Rattle.ghc_term.specs.declared.goal_name.GoalName.{GoalName}
-use Rattle.ghc_term.specs.declared.fault.Fault.{Fault}
 use Rattle.ghc_term.specs.declared.fault.Fault.TheVariants as fault
-use Rattle.ghc_term.specs.Bindings.{IsAcyclic}
-use Rattle.ghc_term.specs.Store.{value_at}
-use Rattle.ghc_term.specs.Answered.{Answered}
-use Rattle.ghc_fire.specs.declared.act.Act.{Act}
-use Rattle.ghc_fire.specs.Effect.{Effect}
-use Rattle.ghc_fire.specs.Attempt.{proposes, AttemptsAs, Attempts}
-use Rattle.ghc_fire.specs.Proposal.{Proposal, under}
-use Rattle.ghc_fire.proofs.Under.{proposal_as}
-use Rattle.ghc_records.specs.Record.{State, Record, Shelf}
-use Rattle.ghc_records.specs.Journal.{Opening, Entry}
-use Rattle.ghc_core.specs.World.{World, IsFull, HasRoom}
-use Rattle.ghc_core.specs.Core.{IsStanding, record_as, next_record}
-use Rattle.ghc_core.specs.Proposes.{AttemptAnswers, IsProposedAsNext, StillHolds, IsCommitOf, CommitFails, IsStepOf, StepFails}
+use Rattle.ghc_fire.specs.Proposal.{Proposal}
 use Rattle.ghc_core.proofs.Naming.{known_of_act}
 use Rattle.ghc_core.proofs.Refusing as refusing
 use Rattle.ghc_core.proofs.Committing.{next_step, answered_holds, step_no_room}

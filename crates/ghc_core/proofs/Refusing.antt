@@ -1,20 +1,6 @@
 -- Refusals: each cause, which is told alone, and no cause where what is asked for can be done.
-use Rattle.std.proofs.Common.{◌≡◌, ◌≢◌, ℕ, ◌≤◌, List, Option, length, refl, sym, ◌∙◌, subst, inl, inr, Some, None}
+use Rattle.ghc_core.proofs.Words.{◌≡◌, ◌≢◌, ℕ, ◌≤◌, List, Option, length, refl, sym, ◌∙◌, subst, inl, inr, Some, None, GoalName, VarName, Fault, Tree, IsValue, value_at, EndsIn, kept_limit, Goal, Record, IsThere, Fires, IsKeptAs, IsNotKept, IsFirstConsequence, Proposal, World, IsFull, IsKnown, IsToldWhere, OrElse, UndoFails, LacksGoal, IsShelvedWith, RedoFails, IsStreamAt, StreamFails, StillHolds, CommitFails}
 use Rattle.std.specs.FinMap as finite
-use Rattle.ghc_term.specs.declared.goal_name.GoalName.{GoalName}
-use Rattle.ghc_term.specs.declared.var_name.VarName.{VarName}
-use Rattle.ghc_term.specs.declared.fault.Fault.{Fault}
-use Rattle.ghc_term.specs.Tree.{Tree, IsValue}
-use Rattle.ghc_term.specs.Store.{value_at}
-use Rattle.ghc_match.specs.Position.{EndsIn}
-use Rattle.ghc_records.specs.Numbers.{kept_limit}
-use Rattle.ghc_term.specs.Goal.{Goal}
-use Rattle.ghc_records.specs.Record.{Record, IsThere, Fires}
-use Rattle.ghc_depend.specs.Depend.{IsKeptAs, IsNotKept, IsFirstConsequence}
-use Rattle.ghc_core.specs.World.{Proposal, World, IsFull, IsKnown}
-use Rattle.ghc_core.specs.Refusals.{IsToldWhere, OrElse, UndoFails, LacksGoal, IsShelvedWith, RedoFails}
-use Rattle.ghc_core.specs.Streams.{IsStreamAt, StreamFails}
-use Rattle.ghc_core.specs.Proposes.{StillHolds, CommitFails}
 
 -- A cause tells one fault at most.
 abbrev pub TellsOne : (Fault → Type 0) → Type 0

@@ -1,11 +1,7 @@
-use Rattle.std.proofs.Common.{subst, sym, ap, ◌∙◌}
-use Rattle.std.specs.Prelude.{IsTrue}
+use Rattle.ghc_core.proofs.Words.{subst, sym, ap, ◌∙◌, IsTrue, take_absent, Core, AreExactIn, IsNoteOf, AreKept}
 use Rattle.std.specs.FinMap as finite
 use Rattle.std.specs.FinSet as set
 use Rattle.ghc_term.proofs.ListsLemmas.{not_both}
-use Rattle.ghc_hooks.proofs.Few.{take_absent}
-use Rattle.ghc_core.specs.Core.{Core, AreExactIn}
-use Rattle.ghc_core.specs.Settling.{IsNoteOf, AreKept}
 use Rattle.ghc_core.proofs.Settling.{noted_before, noted_now, consistent_now, kept_put}
 use Rattle.ghc_core.proofs.core_state.Core.enter.Goals as goal
 

@@ -1,5 +1,4 @@
-use Rattle.std.proofs.Common.{inl, inr, subst}
-use Rattle.ghc_core.specs.Core.{record_as}
+use Rattle.ghc_core.proofs.Words.{inl, inr, subst, record_as}
 use Rattle.ghc_core.proofs.Preparing.{IsNext, step_answered}
 use Rattle.ghc_core.proofs.core_state.Core.prepare_step.Goals as goal
 
