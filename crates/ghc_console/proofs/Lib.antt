@@ -3,6 +3,7 @@ pub mod Rows
 pub mod ReadLoop
 mod CutRows
 pub mod WordLemmas
+pub mod StepLines
 pub mod TextBehind
 pub mod SessionLoop
 mod SessionFirings

@@ -13,7 +13,7 @@ use Rattle.ghc_records.specs.Record.{Record}
 use Rattle.ghc_core.specs.World.{World}
 use Rattle.ghc_core.specs.declared.change.Change.TheVariants.{Comes as comes}
 use Rattle.ghc_core.specs.declared.change.Coming.{Coming}
-use Rattle.ghc_core.specs.Proposes.{IsCommitOf, StepFails, refused_attempt, no_room}
+use Rattle.ghc_core.specs.Proposes.{IsCommitOf, StepFails}
 use Rattle.ghc_trace.specs.Ports.{Port}
 use Rattle.ghc_trace.specs.PortText.{port_text, ports_text}
 use Rattle.ghc_trace.specs.GoalLaws.{LinesAreOfGoals}
@@ -39,9 +39,10 @@ either (Err e) p q f g = g q
 pub step_refused : (w v : World) (g : GoalName) (choice : Option ℕ) (f : Fault) (text : List ℕ) → v ≡ w → (f ≡ fault.Memory) ⊎ StepFails w g choice f → text ≡ refusal f → f ≢ fault.Memory
     → RepliesToStep w g choice text v
 step_refused w v g choice f text same (inl m) told kept = absurd (kept m)
-step_refused w v g choice f text same (inr (refused_attempt q)) told kept = fails f q told same
-step_refused w v g choice f text same (inr (no_room p named answer is_full)) told kept =
-    steps p named answer (subst (λ x. Takes w p x v) (sym told) (subst (Takes w p (refusal fault.Full)) (sym same) (full is_full)))
+step_refused w v g choice f text same (inr why) told kept = elim why.first [
+  | inl q ↦ fails f q told same
+  | inr (_, (is, (p, named, answer, is_full))) ↦ steps p named answer (subst (λ x. Takes w p x v) (sym (told ∙ ap refusal is)) (subst (Takes w p (refusal fault.Full)) (sym same) (full is_full)))
+]
 
 -- A step that was taken.
 pub step_taken : (w v : World) (p : Proposal) (r : Record) (text : List ℕ) → IsCommitOf w p r → TellsChange w (comes Coming.Next r) text v → Takes w p text v

@@ -1,8 +1,9 @@
 // The command of a line.
-ghost use Rattle.std.specs.Prelude.{◌≡◌, true, IfOk, OnErr};
+ghost use Rattle.std.specs.Prelude.{◌≡◌, true, IfOk, IfSome, None, OnErr};
 ghost use Rattle.std.specs.List.{list_all};
 ghost use Rattle.ghc_console.specs.Words.{behind, is_printable, is_variable, numbers_of, words_of};
 ghost use Rattle.ghc_console.specs.LineMemory.{BeginsWithNumber, KeepsText, TakesMemory};
+ghost use Rattle.ghc_console.specs.declared.command.LineCommand.TheVariants.{Step};
 ghost use Rattle.ghc_console.specs.Commands.{arrange_with, command_by_count, command_of, command_of_one_word, command_of_three_words, command_of_two_words, command_of_words, command_with_number, command_with_variable, input_to, save_of, leap_of, run_limit};
 
 use crate::asked_for::ask_command;
@@ -291,10 +292,24 @@ pub(crate) fn is_plain(line: &[u8]) -> bool
     line.iter().all(|byte| *byte >= 32 && *byte <= 126)
 }
 
-/// The command that a line says; a line that says none is `Unknown`. It takes time in proportion to the
-/// line, and memory for the word of `show` or `who`, for the name of `spy` or `nospy`, for the numbers of `arrange` and for the
-/// text of `in` or `ask` alone.
-pub fn parse(alloc: Global, line: &[u8]) -> Result<LineCommand, AllocError>
+// The goal of a line that says nothing but `step`, a space and the name of a goal, as most lines do: it goes over these bytes alone.
+#[inline(always)]
+fn goal_to_step(line: &[u8]) -> Option<GoalName>
+    ensures { IfSome result (λ goal. command_of line.now ≡ Step goal None) }
+{
+    if line.len() < 5 {
+        return None;
+    }
+    let (name, word) = line.split_at(5);
+    if name == b"step ".as_slice() {
+        return goal_name(word);
+    }
+    None
+}
+
+// The command of any line.
+#[inline(never)]
+fn of_any_line(alloc: Global, line: &[u8]) -> Result<LineCommand, AllocError>
     ensures command { IfOk result (λ command. command ≡ command_of line.now) }
     ensures memory { OnErr result (TakesMemory line.now) }
 {
@@ -302,4 +317,18 @@ pub fn parse(alloc: Global, line: &[u8]) -> Result<LineCommand, AllocError>
         return Ok(LineCommand::Unknown);
     }
     of_line(alloc, line)
+}
+
+/// The command that a line says; a line that says none is `Unknown`. It takes time in proportion to the
+/// line, and memory for the word of `show` or `who`, for the name of `spy` or `nospy`, for the numbers of `arrange` and for the
+/// text of `in` or `ask` alone.
+#[inline(always)]
+pub fn parse(alloc: Global, line: &[u8]) -> Result<LineCommand, AllocError>
+    ensures command { IfOk result (λ command. command ≡ command_of line.now) }
+    ensures memory { OnErr result (TakesMemory line.now) }
+{
+    match goal_to_step(line) {
+        Some(goal) => Ok(LineCommand::Step(goal, None)),
+        None => of_any_line(alloc, line),
+    }
 }

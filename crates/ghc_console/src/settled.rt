@@ -51,6 +51,9 @@ fn push_stuck(
     disturbed.push_news(core.tries(), &mut lines)?;
     // Called for its clause that the notes tell the news, which the proof cites.
     notes_tell_news();
+    if lines.is_empty() {
+        return Ok(());
+    }
     reply.push_str(lines.as_str())
 }
 

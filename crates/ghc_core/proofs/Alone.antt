@@ -1,14 +1,5 @@
 -- A kept step with which no other goes.
-use Rattle.std.proofs.Common.{◌≡◌, List, [], ◌∷◌, subst, inl, inr}
-use Rattle.ghc_term.specs.Lists.{In}
-use Rattle.ghc_records.specs.Orders.{AreDistinct, Picks, nothing, leave}
-use Rattle.ghc_records.specs.Record.{Record, numbers}
-use Rattle.ghc_records.proofs.OrderLemmas.{Before, before_once, records_distinct}
-use Rattle.ghc_depend.specs.Depend.{Follows, GoesWith}
-use Rattle.ghc_depend.specs.Kept.{IsWithout, IsSplitAt}
-use Rattle.ghc_depend.proofs.Following.{follows_in}
-use Rattle.ghc_depend.proofs.Picking.{picks_has}
-use Rattle.ghc_depend.proofs.TakenTogether.{picks_as, follows_behind, split_at}
+use Rattle.ghc_core.proofs.Words.{◌≡◌, List, [], ◌∷◌, subst, inl, inr, In, AreDistinct, Picks, nothing, leave, Record, numbers, Before, before_once, records_distinct, Follows, GoesWith, IsWithout, IsSplitAt, follows_in, picks_has, picks_as, follows_behind, split_at}
 
 -- nothing is picked of which nothing holds
 picks_none : {P : Record → Type 0} (rs : List Record) → ((r : Record) → ¬ P r) → Picks P rs []

@@ -1,33 +1,9 @@
 -- Acts on streams have an answer.
-use Rattle.std.proofs.Common.{◌≡◌, ℕ, ◌<◌, ◌≤◌, ◌⊎◌, true, false, cond, List, [], ◌∷◌, map, length, refl, sym, ap, ◌∙◌, subst, inl, inr, arith, Some, None}
-use Rattle.std.specs.Prelude.{Option}
-use Rattle.std.specs.Ordering.{eq_by_cmp}
+use Rattle.ghc_core.proofs.Words.{◌≡◌, ℕ, ◌<◌, ◌≤◌, ◌⊎◌, true, false, cond, List, [], ◌∷◌, map, length, refl, sym, ap, ◌∙◌, subst, inl, inr, arith, Some, None, Option, eq_by_cmp, cases_eq, VarName, GoalName, Tree, variable, integer, node, cons, nil, Goal, call, unify, assign, stream, In, Leads, value_at, chain, left_end, Fault, made, Act, Given as given, Closed as closed, Effect, HasEffect, IsClosed, goal_cmp, Goals, number_limit, kept_limit, Record, same_goal, World, IsFull, HasRoom, effect_once}
 use Rattle.std.specs.FinMap as finite
 use Rattle.std.specs.FinSet as set
-use Rattle.std.proofs.lemmas.Bool.{cases_eq}
-use Rattle.ghc_term.specs.declared.var_name.VarName.{VarName}
-use Rattle.ghc_term.specs.declared.goal_name.GoalName.{GoalName}
-use Rattle.ghc_term.specs.Tree.{Tree, variable, integer, node, cons, nil}
-use Rattle.ghc_term.specs.Goal.{Goal, call, unify, assign, stream}
-use Rattle.ghc_term.specs.Lists.{In}
-use Rattle.ghc_term.specs.Bindings.{Leads}
-use Rattle.ghc_term.specs.Store.{value_at}
-use Rattle.ghc_term.proofs.Total.{chain}
-use Rattle.ghc_unify.proofs.Ends.{left_end}
-use Rattle.ghc_term.specs.declared.fault.Fault.{Fault}
-use Rattle.ghc_fire.specs.Instance.{made}
-use Rattle.ghc_fire.specs.declared.act.Act.{Act}
-use Rattle.ghc_fire.specs.declared.act.Act.TheVariants.{Given as given, Closed as closed}
-use Rattle.ghc_fire.specs.Effect.{Effect, HasEffect}
-use Rattle.ghc_term.specs.Tree.{IsClosed}
-use Rattle.ghc_fire.specs.Goals.{goal_cmp, Goals}
-use Rattle.ghc_records.specs.Numbers.{number_limit, kept_limit}
-use Rattle.ghc_records.specs.Record.{Record}
-use Rattle.ghc_fire.proofs.GoalNames.{same_goal}
-use Rattle.ghc_core.specs.World.{World, IsFull, HasRoom}
 use Rattle.ghc_core.specs.Streams as streams
 use Rattle.ghc_core.specs.Laws as laws
-use Rattle.ghc_fire.proofs.Steps.{effect_once}
 use Rattle.ghc_core.proofs.Naming.{known_of_act}
 use Rattle.ghc_core.proofs.Refusing.{no_stream, tail_bound}
 use Rattle.ghc_core.proofs.Stepping.{stream_full}

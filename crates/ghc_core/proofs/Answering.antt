@@ -1,41 +1,9 @@
 -- Each event has one answer at most.
-use Rattle.std.proofs.Common.{◌≡◌, ℕ, List, ◌∷◌, true, false, refl, sym, ap, ◌∙◌, subst, inl, inr, Some, None}
+use Rattle.ghc_core.proofs.Words.{◌≡◌, ℕ, List, ◌∷◌, true, false, refl, sym, ap, ◌∙◌, subst, ◌⊎◌, inl, inr, Some, None, GoalName, Goal, value_at, is_stream, Given as given, Closed as closed, effect_once, attempt_once, Fault, Record, numbers, query_state, Runs, Entry, run_once, record_once, IsSplitAt, IsLawful, IsInOrder, orders, consequences, HasStatus, status_once, Option, Proposal, Hands, with_hand, World, with_step, Change, Goes as goes, Coming, Going, Gone, all_gone, with_coming, without_steps, with_order, entry_of_going, CanChange, AreTakenAway, Changes, Command, input, finish, undo, roll, redo, arrange, ask, Event, propose, commit, note, command, Reply, stepped, undone, noted, refused, Asks, to_give, to_close, to_undo, to_roll, to_redo, to_arrange, to_ask, told_of, Fails, HasHand, hands_after, AsksFor, by_hand, by_command, Says, IsRefusedFor, Answers, no_hand, makes, says, fails, no_memory, IsToldWhere, AttemptAnswers, CommitFails, same_act, same_effect, same_fault, apart, IsOrderly, OrderedHasOneAnswer, EventsHaveOneAnswer}
 use Rattle.std.specs.FinMap as finite
-use Rattle.ghc_term.specs.declared.goal_name.GoalName.{GoalName}
-use Rattle.ghc_term.specs.Goal.{Goal}
-use Rattle.ghc_term.specs.Store.{value_at}
-use Rattle.ghc_flat.specs.Flat.{is_stream}
-use Rattle.ghc_fire.specs.declared.act.Act.TheVariants.{Given as given, Closed as closed}
-use Rattle.ghc_fire.proofs.Steps.{effect_once}
-use Rattle.ghc_fire.proofs.Tries.{attempt_once}
-use Rattle.ghc_term.specs.declared.fault.Fault.{Fault}
-use Rattle.ghc_records.specs.Record.{Record, numbers}
-use Rattle.ghc_records.specs.Replay.{query_state, Runs}
-use Rattle.ghc_records.specs.Journal.{Entry}
-use Rattle.ghc_records.proofs.Replaying.{run_once}
-use Rattle.ghc_records.proofs.OrderLemmas.{record_once}
-use Rattle.ghc_depend.specs.Kept.{IsSplitAt}
-use Rattle.ghc_depend.specs.Lawful.{IsLawful, IsInOrder}
-use Rattle.ghc_depend.proofs.Once.{orders, consequences}
-use Rattle.ghc_hooks.specs.Status.{HasStatus}
-use Rattle.ghc_hooks.proofs.Statuses.{status_once}
-use Rattle.std.specs.Prelude.{Option}
-use Rattle.ghc_core.specs.World.{Proposal, Hands, with_hand, World, with_step}
-use Rattle.ghc_core.specs.declared.change.Change.{Change}
-use Rattle.ghc_core.specs.declared.change.Change.TheVariants.{Goes as goes}
-use Rattle.ghc_core.specs.declared.change.Coming.{Coming}
-use Rattle.ghc_core.specs.declared.change.Going.{Going}
-use Rattle.ghc_core.specs.Gone.{Gone, all_gone}
 use Rattle.ghc_core.proofs.Alone.{none_follow}
-use Rattle.ghc_core.specs.Change.{with_coming, without_steps, with_order, entry_of_going, CanChange, AreTakenAway, Changes}
-use Rattle.ghc_core.specs.Events.{Command, input, finish, undo, roll, redo, arrange, ask, Event, propose, commit, note, command, Reply, stepped, undone, noted, refused}
 use Rattle.ghc_core.specs.Proposes as asking
-use Rattle.ghc_core.specs.Answers.{Asks, to_give, to_close, to_undo, to_roll, to_redo, to_arrange, to_ask, told_of, Fails, AsksFor, by_hand, by_command, Says, IsRefusedFor, no_hand, makes, says, fails, no_memory}
-use Rattle.ghc_core.specs.Refusals.{IsToldWhere}
-use Rattle.ghc_core.specs.Proposes.{AttemptAnswers, CommitFails}
 use Rattle.ghc_fire.specs.Attempt as attempt
-use Rattle.ghc_fire.proofs.Answering.{same_act, same_effect, same_fault, apart}
-use Rattle.ghc_core.specs.Laws.{IsOrderly, OrderedHasOneAnswer, EventsHaveOneAnswer}
 use Rattle.ghc_core.proofs.AskedGoals.{ask_fails_once, ask_or_fail, one_ask}
 use Rattle.ghc_core.proofs.Reaching.{reached}
 use Rattle.ghc_core.proofs.Refusing.{told_once, first_once, stream_fails_once, commit_fails_once, value_once, has_not}
@@ -166,25 +134,64 @@ module _ (w : World) (ordered : IsOrderly w) where
     refused_once (note g) f k p q = p.0 ∙ sym q.0
     refused_once (command c) f g p q = fails_once c f g p q
 
+-- What holds of one thing at most.
+abbrev Once : {X : Type 0} → (X → Type 0) → Type 0
+Once {X} P = (x y : X) → P x → P y → x ≡ y
+
+-- Of two alternatives that exclude each other, each of one thing at most, one holds of one thing.
+either_once : {X : Type 0} (A B : X → Type 0) → Once A → Once B → ((x y : X) → A x → B y → ⊥) → Once (λ x. A x ⊎ B x)
+either_once A B one other never x y (inl p) (inl q) = one x y p q
+either_once A B one other never x y (inl p) (inr q) = absurd (never x y p q)
+either_once A B one other never x y (inr p) (inl q) = absurd (never y x q p)
+either_once A B one other never x y (inr p) (inr q) = other x y p q
+
+-- what is left of an event: its reply, the world, and the hands
+abbrev Left : Type 0
+Left = Reply × World × Hands
+
+module _ (w : World) (hands : Hands) (e : Event) where
+  -- there is no hand of its number; or a change is made, or something said, or a refusal told
+  abbrev HasNone : Left → Type 0
+  HasNone x = (¬ HasHand hands e) × (x ≡ (refused Fault.Command, w, hands))
+
+  abbrev Makes : Left → Type 0
+  Makes x = (change : Change) × AsksFor w hands e change × CanChange w change × Changes w change x.1 × (x.0 ≡ told_of change) × (x.2 ≡ hands_after e hands)
+
+  abbrev Tells : Left → Type 0
+  Tells x = Says w hands e x.0 x.2 × (x.1 ≡ w)
+
+  abbrev Refuses : Left → Type 0
+  Refuses x = (f : Fault) × IsRefusedFor w hands e f × (x ≡ (refused f, w, hands_after e hands))
+
+  abbrev Has : Left → Type 0
+  Has x = HasHand hands e × (Makes x ⊎ (Tells x ⊎ Refuses x))
+
+  answer_left : {reply : Reply} {v : World} {left : Hands} → Answers ⊥ w hands e reply v left → HasNone (reply, v, left) ⊎ Has (reply, v, left)
+  answer_left (no_hand none) = inl (none, refl)
+  answer_left (makes {change = change} has asks can changes told) = inr (has, inl (change, asks, can, changes, told, refl))
+  answer_left (says has said) = inr (has, inr (inl (said, refl)))
+  answer_left (fails {f = f} has why) = inr (has, inr (inr (f, why, refl)))
+  answer_left (no_memory starved) = absurd starved
+
+  module _ (ordered : IsOrderly w) where
+    makes_once : Once Makes
+    makes_once x y (_, a, can, c, t, l) (_, b, may, d, s, m) = let same = asked_once w ordered hands a b can may c d in λ k. ((t ∙ same.0 ∙ sym s) k, same.1 k, (l ∙ sym m) k)
+
+    tells_once : Once Tells
+    tells_once x y (s, p) (t, q) = let same = said_once w ordered hands s t in λ k. (same.0 k, (p ∙ sym q) k, same.1 k)
+
+    refuses_once : Once Refuses
+    refuses_once x y (f, why, p) (g, reason, q) = p ∙ (λ k. (refused (refused_once w ordered hands e f g why reason k), w, hands_after e hands)) ∙ sym q
+
+    left_once : Once (λ x. HasNone x ⊎ Has x)
+    left_once =
+        let said = either_once Tells Refuses tells_once refuses_once (λ x y s f. said_or_refused w ordered hands f.0 s.0 f.1) in
+        let made = either_once Makes (λ x. Tells x ⊎ Refuses x) makes_once said (λ x y m t. elim t [ inl s ↦ asks_no_say w ordered hands m.1 s.0 | inr f ↦ asked_or_refused w ordered hands f.0 m.1 m.2 f.1 ]) in
+        either_once HasNone Has (λ x y p q. p.1 ∙ sym q.1) (λ x y p q. made x y p.1 q.1) (λ x y p q. p.0 q.0)
+
 pub ordered_once : OrderedHasOneAnswer
-ordered_once w u v hands left other e reply said ordered (no_hand n) (no_hand m) = (refl, refl, refl)
-ordered_once w u v hands left other e reply said ordered (no_hand n) (makes i a can c t) = absurd (n i)
-ordered_once w u v hands left other e reply said ordered (no_hand n) (says i s) = absurd (n i)
-ordered_once w u v hands left other e reply said ordered (no_hand n) (fails i f) = absurd (n i)
-ordered_once w u v hands left other e reply said ordered (makes i a can c t) (no_hand n) = absurd (n i)
-ordered_once w u v hands left other e reply said ordered (makes i a can c t) (makes j b may d s) = let same = asked_once w ordered hands a b can may c d in (t ∙ same.0 ∙ sym s, same.1, refl)
-ordered_once w u v hands left other e reply said ordered (makes i a can c t) (says j s) = absurd (asks_no_say w ordered hands a s)
-ordered_once w u v hands left other e reply said ordered (makes i a can c t) (fails j f) = absurd (asked_or_refused w ordered hands _ a can f)
-ordered_once w u v hands left other e reply said ordered (says i s) (no_hand n) = absurd (n i)
-ordered_once w u v hands left other e reply said ordered (says i s) (makes j a can c t) = absurd (asks_no_say w ordered hands a s)
-ordered_once w u v hands left other e reply said ordered (says i s) (says j t) = let same = said_once w ordered hands s t in (same.0, refl, same.1)
-ordered_once w u v hands left other e reply said ordered (says i s) (fails j f) = absurd (said_or_refused w ordered hands _ s f)
-ordered_once w u v hands left other e reply said ordered (fails i f) (no_hand n) = absurd (n i)
-ordered_once w u v hands left other e reply said ordered (fails i f) (makes j a can c t) = absurd (asked_or_refused w ordered hands _ a can f)
-ordered_once w u v hands left other e reply said ordered (fails i f) (says j s) = absurd (said_or_refused w ordered hands _ s f)
-ordered_once w u v hands left other e reply said ordered (fails i f) (fails j g) = (ap refused (refused_once w ordered hands e _ _ f g), refl, refl)
-ordered_once w u v hands left other e reply said ordered a (no_memory n) = absurd n
-ordered_once w u v hands left other e reply said ordered (no_memory n) b = absurd n
+ordered_once w u v hands left other e reply said ordered a b =
+    let same = left_once w hands e ordered (reply, u, left) (said, v, other) (answer_left w hands e a) (answer_left w hands e b) in (ap (λ (x : Left). x.0) same, ap (λ (x : Left). x.1) same, ap (λ (x : Left). x.2) same)
 
 pub events_once : EventsHaveOneAnswer
 events_once w u v hands left other e reply said r p q = ordered_once w u v hands left other e reply said (reached w hands r) p q

@@ -1,16 +1,5 @@
 -- The record is put into a lawful order.
-use Rattle.std.proofs.Common.{◌≡◌, ℕ, List, sym, subst}
-use Rattle.ghc_flat.specs.Clause.{Program}
-use Rattle.ghc_term.specs.Store.{StoreValue}
-use Rattle.ghc_fire.specs.Goals.{Goals}
-use Rattle.ghc_term.specs.Lists.{In}
-use Rattle.ghc_records.specs.Orders.{AreDistinct}
-use Rattle.ghc_records.specs.Record.{Record, numbers}
-use Rattle.ghc_records.proofs.OrderLemmas.{number_in, number_of, record_once}
-use Rattle.ghc_depend.specs.Lawful.{IsLawful, IsInOrder}
-use Rattle.ghc_hooks.specs.Face.{GoalNames}
-use Rattle.ghc_hooks.specs.Notes.{NotesByGoal, AreExact, AreLeft}
-use Rattle.ghc_depend.proofs.Finding.{not_both}
+use Rattle.ghc_core.proofs.Words.{◌≡◌, ℕ, List, sym, subst, Program, StoreValue, Goals, In, AreDistinct, Record, numbers, number_in, number_of, record_once, IsLawful, IsInOrder, GoalNames, NotesByGoal, AreExact, AreLeft, not_both}
 
 -- Where an order is lawful, kept records with its numbers are the record in that order.
 pub is_in_order : (kept : List Record) (order : List ℕ) (new : List Record) → AreDistinct (numbers kept) → IsLawful kept order → numbers new ≡ order → ((r : Record) → In r new → In r kept) → IsInOrder kept order new

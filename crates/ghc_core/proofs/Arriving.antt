@@ -1,21 +1,5 @@
 -- A step that comes, from wherever.
-use Rattle.std.proofs.Common.{◌≡◌, List, ◌∷◌, [], ◌++◌, refl, subst}
-use Rattle.ghc_term.specs.declared.goal_name.GoalName.{GoalName}
-use Rattle.ghc_term.specs.Lists.{In}
-use Rattle.ghc_term.specs.Bindings.{IsAcyclic}
-use Rattle.ghc_term.specs.Store.{value_at}
-use Rattle.ghc_records.specs.Record.{State, Record, numbers, after, Fires}
-use Rattle.ghc_hooks.specs.Notes.{AreLeft}
-use Rattle.ghc_hooks.specs.Tries.{Tries}
-use Rattle.ghc_depend.specs.Depend.{Binds}
-use Rattle.ghc_core.specs.declared.change.Change.TheVariants.{Comes as comes}
-use Rattle.ghc_core.specs.declared.change.Coming.{Coming}
-use Rattle.ghc_core.specs.World.{World}
-use Rattle.ghc_core.specs.Core.{IsStanding, AreExactIn, IsConsistent}
-use Rattle.ghc_core.specs.Carried.{AreCarriedOver}
-use Rattle.ghc_core.specs.Change.{with_coming, CanChange}
-use Rattle.ghc_core.specs.Reached.{by_change}
-use Rattle.ghc_core.specs.StreamGoals.{told, TellStreams}
+use Rattle.ghc_core.proofs.Words.{◌≡◌, List, ◌∷◌, [], ◌++◌, refl, subst, GoalName, In, IsAcyclic, value_at, State, Record, numbers, after, Fires, AreLeft, Tries, Binds, Comes as comes, Coming, World, IsStanding, AreExactIn, IsConsistent, AreCarriedOver, with_coming, CanChange, by_change, told, TellStreams}
 use Rattle.ghc_core.proofs.Exactness.{IsNumberNew, next_is_new, shelved_is_new, over_exact, over_left}
 use Rattle.ghc_core.proofs.Reaching.{reached_good}
 use Rattle.ghc_core.proofs.Replayed.{not_next}

@@ -1,26 +1,6 @@
 -- Steps that ask for goals, found again: which goals a step can ask for, and its own variables in order.
-use Rattle.std.proofs.Common.{◌≡◌, ◌≢◌, ℕ, zero, suc, ◌+◌, ◌<◌, ◌≤◌, ◌==◌, true, false, List, [], ◌∷◌, ◌++◌, length, take, drop, get_or, filter, refl, sym, ap, ◌∙◌, subst, inl, inr, arith, append-nil, None}
-use Rattle.std.proofs.lemmas.Bool.{eq-eqb, ne_eqb}
-use Rattle.std.proofs.Math.Seq.{take-suc}
-use Rattle.std.proofs.lemmas.List.Elements.{filter-append}
-use Rattle.ghc_term.specs.declared.var_name.VarName.{VarName}
-use Rattle.ghc_term.specs.Goal.{Goal, call, unify, assign, stream}
-use Rattle.ghc_term.specs.Lists.{In}
-use Rattle.ghc_reader.specs.Written.{AreNarrow}
-use Rattle.ghc_flat.specs.Clause.{Program}
-use Rattle.ghc_flat.specs.Checked.{AllCalls}
-use Rattle.ghc_flat.specs.Flat.{is_stream, most_goals}
-use Rattle.ghc_fire.specs.Instance.{made}
-use Rattle.ghc_fire.specs.declared.act.Act.TheVariants.{Asked as asked}
-use Rattle.ghc_fire.specs.Asked.{own_variables, made_from, Asks, effect_of_asking, variables_asked}
-use Rattle.ghc_records.specs.Record.{Record, Fires}
-use Rattle.ghc_records.specs.Journal.{Step, step_of}
-use Rattle.ghc_records.proofs.Effects.{not_stream}
-use Rattle.ghc_depend.proofs.Finding.{not_both}
-use Rattle.ghc_depend.proofs.Results.{firing}
-use Rattle.ghc_core.specs.World.{World, HasRoom, IsKnown, IsNextStep}
-use Rattle.ghc_core.specs.AskedGoals.{HasClauseFor}
-use Rattle.ghc_core.specs.AskedAgain.{CanBeAsked}
+use Rattle.ghc_core.proofs.Words.{◌≡◌, ◌≢◌, ℕ, zero, suc, ◌+◌, ◌<◌, ◌≤◌, ◌==◌, true, false, List, [], ◌∷◌, ◌++◌, length, take, drop, get_or, filter, refl, sym, ap, ◌∙◌, subst, inl, inr, arith, append-nil, None, eq-eqb, ne_eqb, take-suc, filter-append, VarName, Goal, call, unify, assign, stream, In, AreNarrow, Program, AllCalls, is_stream, most_goals, made, Asked as asked, own_variables, made_from, effect_of_asking, variables_asked, Record, Fires, Step, step_of, not_stream, not_both, firing, World, HasRoom, IsKnown, IsNextStep, HasClauseFor, CanBeAsked}
+use Rattle.ghc_fire.specs.Asked.{Asks}
 use Rattle.ghc_core.proofs.AskedGoals.{defined_by, defined_calls}
 
 -- made variables, and one more

@@ -1,41 +1,6 @@
 -- Asks: each is refused for one reason, or asks for one step.
-use Rattle.std.proofs.Common.{◌≡◌, ◌≢◌, ◌↔◌, ◌<◌, ℕ, ◌+◌, ◌⊎◌, Bool, false, not, eqb, IsTrue, List, [], ◌∷◌, length, map, filter, rules, refl, sym, ap, ◌∙◌, subst, inl, inr, arith, None}
-use Rattle.std.specs.Coded.{coded_list, coded_ℕ}
-use Rattle.std.proofs.lemmas.Bool.{false≢true}
-use Rattle.std.proofs.lemmas.Bool.Decides.{eqb_tells}
-use Rattle.std.proofs.lemmas.List.{length-map}
-use Rattle.ghc_term.specs.declared.fault.Fault.{Fault}
-use Rattle.ghc_term.specs.declared.var_name.VarName.{VarName}
-use Rattle.ghc_term.specs.Bindings.{IsAcyclic}
-use Rattle.ghc_term.specs.Tree.{Tree}
-use Rattle.ghc_term.specs.Goal.{Goal, call, unify, assign, stream}
-use Rattle.ghc_term.specs.Lists.{In}
-use Rattle.ghc_term.specs.Store.{value_at}
-use Rattle.ghc_term.proofs.Decided.{Decided, decided_by, decided_both, nat_decided, same_decided, some_decided}
-use Rattle.ghc_term.proofs.ListsLemmas.{in_map, in_at, at_of_in, in_middle, compare_splits}
-use Rattle.ghc_flat.specs.Clause.{Program}
-use Rattle.ghc_flat.specs.Checked.{AllCalls, IsFirstCallWithout}
-use Rattle.ghc_flat.specs.Flat.{AreDefined, is_stream}
-use Rattle.ghc_flat.specs.Numbers.{AreNumbersFor}
-use Rattle.ghc_flat.specs.Variables.{variables_of_goals, firsts}
-use Rattle.ghc_flat.proofs.Clauses.{same_call, call_name, call_arity}
-use Rattle.ghc_fire.specs.declared.act.Act.TheVariants.{Asked as asked}
-use Rattle.ghc_fire.specs.Asked.{IsAsk, NameNoneOf, Asks, asked_as, renumbered, variables_asked}
-use Rattle.ghc_fire.specs.Effect.{Effect, no_step}
-use Rattle.ghc_unify.specs.Solutions.{replace}
-use Rattle.ghc_fire.specs.Instance.{replace_in_goal}
-use Rattle.ghc_fire.specs.Proposal.{numbered}
-use Rattle.ghc_fire.proofs.Asking.{asks_as, asked_names, numbered_firsts}
-use Rattle.ghc_records.specs.Record.{Record}
-use Rattle.ghc_records.proofs.Heads.{first_in}
-use Rattle.ghc_records.proofs.Replaying.{of_query}
-use Rattle.ghc_depend.proofs.Finding.{not_both}
-use Rattle.ghc_depend.proofs.KeptOnce.{fires_once}
-use Rattle.ghc_depend.proofs.Results.{IsAsking, firing}
-use Rattle.ghc_core.specs.AskedGoals.{HasClauseFor, HasUndefined, NameKnown, IsOfAsk, AskFails}
-use Rattle.ghc_core.specs.Anyway.{IsNotAskedAnyway}
-use Rattle.ghc_core.specs.World.{World, IsFull, HasRoom, IsKnown, IsNextStep}
-use Rattle.ghc_core.specs.Core.{IsStanding}
+use Rattle.ghc_core.proofs.Words.{◌≡◌, ◌≢◌, ◌↔◌, ◌<◌, ℕ, ◌+◌, ◌⊎◌, Bool, false, not, eqb, IsTrue, List, [], ◌∷◌, length, map, filter, rules, refl, sym, ap, ◌∙◌, subst, inl, inr, arith, None, coded_list, coded_ℕ, false≢true, eqb_tells, length-map, Fault, VarName, IsAcyclic, Tree, Goal, call, unify, assign, stream, In, value_at, Decided, decided_by, decided_both, nat_decided, same_decided, some_decided, in_map, in_at, at_of_in, in_middle, compare_splits, Program, AllCalls, IsFirstCallWithout, AreDefined, is_stream, AreNumbersFor, variables_of_goals, firsts, same_call, call_name, call_arity, Asked as asked, IsAsk, NameNoneOf, asked_as, renumbered, variables_asked, Effect, no_step, replace, replace_in_goal, numbered, asks_as, asked_names, numbered_firsts, Record, first_in, of_query, not_both, fires_once, IsAsking, firing, HasClauseFor, HasUndefined, NameKnown, IsOfAsk, AskFails, IsNotAskedAnyway, World, IsFull, HasRoom, IsKnown, IsNextStep, IsStanding}
+use Rattle.ghc_fire.specs.Asked.{Asks}
 use Rattle.ghc_core.proofs.Answered.{room}
 use Rattle.ghc_core.proofs.Naming.{all_decided}
 use Rattle.ghc_core.proofs.QueryVariables.{of_firsts}

@@ -1,35 +1,8 @@
 -- Notes and marks are dropped, woken and marked one after another.
-use Rattle.std.proofs.Common.{◌≡◌, ℕ, ◌+◌, ◌<◌, ◌≤◌, ◌⊎◌, true, false, cond, List, [], ◌∷◌, ◌++◌, length, take, get_or, refl, sym, ap, subst, ◌∙◌, inl, inr, arith}
-use Rattle.std.specs.Prelude.{Some, None, is_some, IsTrue}
-use Rattle.std.specs.Map.{keys_of}
-use Rattle.std.specs.Option.{option_or}
-use Rattle.std.specs.Ordering.{eq_by_cmp}
+use Rattle.ghc_core.proofs.Words.{◌≡◌, ℕ, ◌+◌, ◌<◌, ◌≤◌, ◌⊎◌, true, false, cond, List, [], ◌∷◌, ◌++◌, length, take, get_or, refl, sym, ap, subst, ◌∙◌, inl, inr, arith, Some, None, is_some, IsTrue, keys_of, option_or, eq_by_cmp, take_more, take_all, length-map, get_or-map, VarName, GoalName, Tree, Goal, name_cmp, StoreValue, In, name_total, same_name, itself, is_stream, goal_cmp, Goals, Unified as unified, goal_total, same_parts, NotesByGoal, Tries, AreSpared, AreWoken, goal_itself, goal_cases, goal_put, goal_taken, gone_here, gone_elsewhere, still_noted, spared_next, woken_next, with_makes, name, last_first, by_option, makes_at, own_made, IsGiven, IsBound, IsToTry, AreDropped, AreMarked, AreCarried}
 use Rattle.std.specs.FinMap as finite
 use Rattle.std.specs.FinSet as set
-use Rattle.std.proofs.lemmas.List.{take_more, take_all, length-map, get_or-map}
-use Rattle.ghc_term.specs.declared.var_name.VarName.{VarName}
-use Rattle.ghc_term.specs.declared.goal_name.GoalName.{GoalName}
-use Rattle.ghc_term.specs.Tree.{Tree}
-use Rattle.ghc_term.specs.Goal.{Goal}
-use Rattle.ghc_term.specs.Bindings.{name_cmp}
-use Rattle.ghc_term.specs.Store.{StoreValue}
-use Rattle.ghc_term.specs.Lists.{In}
 use Rattle.ghc_term.proofs.ListsLemmas.{not_both}
-use Rattle.ghc_term.proofs.Names.{name_total, same_name, itself}
-use Rattle.ghc_flat.specs.Flat.{is_stream}
-use Rattle.ghc_fire.specs.Goals.{goal_cmp, Goals}
-use Rattle.ghc_fire.specs.declared.act.Act.TheVariants.{Unified as unified}
-use Rattle.ghc_fire.proofs.GoalNames.{goal_total, same_parts}
-use Rattle.ghc_hooks.specs.Notes.{NotesByGoal}
-use Rattle.ghc_hooks.specs.Tries.{Tries, AreSpared, AreWoken}
-use Rattle.ghc_hooks.proofs.Looking.{goal_itself, goal_cases, goal_put, goal_taken}
-use Rattle.ghc_hooks.proofs.Fitting.{gone_here, gone_elsewhere}
-use Rattle.ghc_hooks.proofs.Changing.{still_noted}
-use Rattle.ghc_hooks.proofs.Waking.{spared_next, woken_next}
-use Rattle.ghc_records.specs.Record.{with_makes}
-use Rattle.ghc_records.proofs.Made.{name, last_first}
-use Rattle.ghc_depend.proofs.Finding.{by_option, makes_at, own_made}
-use Rattle.ghc_core.specs.Carried.{IsGiven, IsBound, IsToTry, AreDropped, AreMarked, AreCarried}
 
 -- one goal lost its note or mark
 pub one_dropped : (old new : Tries) (g : GoalName) → new.notes ≡ finite.remove old.notes g → new.untried ≡ set.remove old.untried g → AreDropped (λ h. h ≡ g) old new

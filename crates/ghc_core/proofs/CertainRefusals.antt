@@ -1,18 +1,8 @@
 -- What is refused whatever memory is left.
-use Rattle.std.proofs.Common.{◌≡◌, ℕ, refl, sym, ap, ◌∙◌, Some, None, Result, Err}
-use Rattle.std.specs.Prelude.{Option}
+use Rattle.ghc_core.proofs.Words.{◌≡◌, ℕ, sym, ap, subst, ◌∙◌, inl, inr, Some, None, Result, Err, Option, GoalName, Fault, Record, Follows, IsKeptAs, Proposal, Hands, IsHand, World, IsStanding, Reply, refused, AttemptAnswers, IsNoCandidate, IsToldWhere, UndoFails, FindsNothing, IsNotProposedAnyway, HoldsNoGoal, IsNotCommittedAnyway}
 use Rattle.std.specs.FinMap as finite
-use Rattle.ghc_term.specs.declared.goal_name.GoalName.{GoalName}
-use Rattle.ghc_term.specs.declared.fault.Fault.{Fault}
 use Rattle.ghc_fire.specs.Attempt as attempt
-use Rattle.ghc_records.specs.Record.{Record}
-use Rattle.ghc_depend.specs.Depend.{Follows, IsKeptAs}
-use Rattle.ghc_core.specs.World.{Proposal, Hands, IsHand, World}
-use Rattle.ghc_core.specs.Core.{IsStanding}
-use Rattle.ghc_core.specs.Events.{Reply, refused}
-use Rattle.ghc_core.specs.Proposes.{AttemptAnswers, IsNoCandidate}
-use Rattle.ghc_core.specs.Refusals.{UndoFails}
-use Rattle.ghc_core.specs.Anyway.{IsNotProposedAnyway, IsNotCommittedAnyway}
+use Rattle.ghc_core.proofs.Refusing.{told_first, told_next, has_not, value_once}
 use Rattle.ghc_core.proofs.Reversing.{undo_fails_once, undo_or_fail}
 use Rattle.ghc_core.proofs.Standing.{standing_orderly}
 
@@ -31,33 +21,32 @@ module _ (w : World) where
   module _ (hands : Hands) (h : ℕ) where
     -- a hand that is not there
     pub no_hand_proposed : (g : GoalName) (choice : Option ℕ) {f : Fault} → ¬ IsHand hands h → IsNotProposedAnyway w hands h g choice f → refused Fault.Command ≡ refused f
-    no_hand_proposed g choice none (IsNotProposedAnyway.no_hand n) = refl
-    no_hand_proposed g choice none (IsNotProposedAnyway.no_goal i a) = absurd (none i)
-    no_hand_proposed g choice none (IsNotProposedAnyway.no_clause i a) = absurd (none i)
+    no_hand_proposed g choice {f} none fails = ap refused (sym (told_first Fault.Command (¬ IsHand hands h) (FindsNothing w g choice) f none fails.first))
 
     pub no_hand_committed : {f : Fault} → ¬ IsHand hands h → IsNotCommittedAnyway w hands h f → refused Fault.Command ≡ refused f
-    no_hand_committed none (IsNotCommittedAnyway.no_hand n) = refl
-    no_hand_committed none (IsNotCommittedAnyway.empty i e) = absurd (none i)
-    no_hand_committed none (IsNotCommittedAnyway.gone p i e g) = absurd (none i)
+    no_hand_committed {f} none fails = ap refused (sym (told_first Fault.Command (¬ IsHand hands h) (IsToldWhere Fault.Stale (HoldsNoGoal w hands h)) f none fails.first))
 
     -- what an attempt is refused for, whatever memory is left
     pub attempt_refused_anyway : (g : GoalName) (choice : Option ℕ) (result : Result Proposal Fault) {f : Fault} → IsHand hands h → (AttemptAnswers w g choice (attempt.refused Fault.NoGoal) → result ≡ Err Fault.NoGoal)
         → (AttemptAnswers w g choice (attempt.refused Fault.NoClause) → result ≡ Err Fault.NoClause) → IsNotProposedAnyway w hands h g choice f → result ≡ Err f
-    attempt_refused_anyway g choice result i goal clause (IsNotProposedAnyway.no_hand n) = absurd (n i)
-    attempt_refused_anyway g choice result i goal clause (IsNotProposedAnyway.no_goal j a) = goal a
-    attempt_refused_anyway g choice result i goal clause (IsNotProposedAnyway.no_clause j a) = clause a
+    attempt_refused_anyway g choice result {f} i goal clause fails = elim (told_next Fault.Command (¬ IsHand hands h) (FindsNothing w g choice) f (λ none. none i) fails.first) [
+      | inl p ↦ goal p.1 ∙ ap (λ (x : Fault). Err x) (sym p.0)
+      | inr p ↦ clause p.1 ∙ ap (λ (x : Fault). Err x) (sym p.0)
+    ]
+
+    -- a hand that is there holds no goal that is there
+    pub holds_no_goal : {f : Fault} → IsHand hands h → IsNotCommittedAnyway w hands h f → IsToldWhere Fault.Stale (HoldsNoGoal w hands h) f
+    holds_no_goal {f} i fails = told_next Fault.Command (¬ IsHand hands h) (IsToldWhere Fault.Stale (HoldsNoGoal w hands h)) f (λ none. none i) fails.first
 
     -- a hand that holds nothing, and one that holds a proposal
     pub empty_hand_committed : {f : Fault} → IsHand hands h → finite.get hands.held h ≡ None → IsNotCommittedAnyway w hands h f → refused Fault.Stale ≡ refused f
-    empty_hand_committed i none (IsNotCommittedAnyway.no_hand n) = absurd (n i)
-    empty_hand_committed i none (IsNotCommittedAnyway.empty j e) = refl
-    empty_hand_committed i none (IsNotCommittedAnyway.gone p j e g) = refl
+    empty_hand_committed i none fails = ap refused (sym (holds_no_goal i fails).0)
+
+    -- the goal of the proposal that the hand holds is gone
+    pub held_gone : (p : Proposal) → finite.get hands.held h ≡ Some p → HoldsNoGoal w hands h → finite.get w.state.goals p.goal ≡ None
+    held_gone p held (inl none) = absurd (has_not held none)
+    held_gone p held (inr (q, here, gone)) = subst (λ (x : Proposal). finite.get w.state.goals x.goal ≡ None) (value_once here held) gone
 
     pub commit_refused_anyway : (p : Proposal) (result : Result ℕ Fault) {f : Fault} → IsHand hands h → finite.get hands.held h ≡ Some p → (finite.get w.state.goals p.goal ≡ None → result ≡ Err Fault.Stale)
         → IsNotCommittedAnyway w hands h f → result ≡ Err f
-    commit_refused_anyway p result i held gone (IsNotCommittedAnyway.no_hand n) = absurd (n i)
-    commit_refused_anyway p result i held gone (IsNotCommittedAnyway.empty j e) = let clash : Some p ≡ None = sym held ∙ e in cc
-    commit_refused_anyway p result i held gone (IsNotCommittedAnyway.gone q j e g) =
-        let same : Some q ≡ Some p = sym e ∙ held in
-        let one : q ≡ p = cc in
-        gone (ap (λ (x : Proposal). finite.get w.state.goals x.goal) (sym one) ∙ g)
+    commit_refused_anyway p result i held gone fails = let is = holds_no_goal i fails in gone (held_gone p held is.1) ∙ ap (λ (x : Fault). Err x) (sym is.0)

@@ -1,32 +1,9 @@
 -- Proposals that hold: what an attempt would propose, the step that they become, and the one answer of a commit.
-use Rattle.std.proofs.Common.{◌≡◌, false, ℕ, refl, sym, ap, ◌∙◌, subst, Some, None}
-use Rattle.std.specs.Prelude.{Option}
+use Rattle.ghc_core.proofs.Words.{◌≡◌, false, ℕ, refl, sym, ap, ◌∙◌, subst, inl, inr, Some, None, Option, VarName, GoalName, Fault, Tree, Goal, call, unify, assign, stream, IsAcyclic, value_at, exact, Program, is_stream, Act, ByClause as by_clause, Unified as unified, Assigned as assigned, Given as given, Closed as closed, Asked as asked, Effect, HasEffect, no_step, under, Answer, proposes, CallAnswers, ChoiceAnswers, UnificationAnswers, AssignmentAnswers, Attempts, effect_once, attempt_once, effect_under, same_act, same_effect, same_fault, apart, Record, World, HasRoom, AttemptAnswers, IsReduction, StillHolds, IsCommitOf, IsStepOf, ProposesInFull, StepFails, IsStanding, choice_of, CommitIsExact, StepIsExact, StreamStepIsExact}
 use Rattle.std.specs.FinMap as finite
-use Rattle.ghc_term.specs.declared.var_name.VarName.{VarName}
-use Rattle.ghc_term.specs.declared.goal_name.GoalName.{GoalName}
-use Rattle.ghc_term.specs.declared.fault.Fault.{Fault}
-use Rattle.ghc_term.specs.Tree.{Tree}
-use Rattle.ghc_term.specs.Goal.{Goal, call, unify, assign, stream}
-use Rattle.ghc_term.specs.Bindings.{IsAcyclic}
-use Rattle.ghc_term.specs.Store.{value_at}
-use Rattle.ghc_term.proofs.Exact.{exact}
-use Rattle.ghc_flat.specs.Clause.{Program}
-use Rattle.ghc_flat.specs.Flat.{is_stream}
-use Rattle.ghc_fire.specs.declared.act.Act.{Act}
-use Rattle.ghc_fire.specs.declared.act.Act.TheVariants.{ByClause as by_clause, Unified as unified, Assigned as assigned, Given as given, Closed as closed, Asked as asked}
-use Rattle.ghc_fire.specs.Effect.{Effect, HasEffect, no_step}
-use Rattle.ghc_fire.specs.Proposal.{Proposal, under}
-use Rattle.ghc_fire.specs.Attempt.{Answer, proposes, refused, CallAnswers, ChoiceAnswers, UnificationAnswers, AssignmentAnswers, Attempts}
-use Rattle.ghc_fire.proofs.Steps.{effect_once}
-use Rattle.ghc_fire.proofs.Tries.{attempt_once}
-use Rattle.ghc_fire.proofs.Under.{effect_under}
-use Rattle.ghc_fire.proofs.Answering.{same_act, same_effect, same_fault, apart}
-use Rattle.ghc_records.specs.Record.{Record}
-use Rattle.ghc_core.specs.World.{World, HasRoom}
-use Rattle.ghc_core.specs.Proposes.{AttemptAnswers, IsReduction, StillHolds, IsCommitOf, IsStepOf, StepFails, refused_attempt, no_room}
-use Rattle.ghc_core.specs.Core.{IsStanding, choice_of}
-use Rattle.ghc_core.specs.Laws.{CommitIsExact, StepIsExact, StreamStepIsExact}
-use Rattle.ghc_core.proofs.Refusing.{stream_fails_once, commit_fails_once, value_once}
+use Rattle.ghc_fire.specs.Proposal.{Proposal}
+use Rattle.ghc_fire.specs.Attempt.{refused}
+use Rattle.ghc_core.proofs.Refusing.{told_once, first_once, stream_fails_once, commit_fails_once, value_once}
 use Rattle.ghc_core.proofs.Naming.{known_of_act}
 use Rattle.ghc_core.proofs.Stepping as stepping
 use Rattle.ghc_core.proofs.Reaching.{known, reached}
@@ -113,15 +90,19 @@ module _ (w : World) (acyclic : IsAcyclic (value_at w.state.store)) where
   one_step g choice r s (p, named, t, c) (q, called, u, d) =
       stepping.step_once effect_once w acyclic r s g c.1 d.1 (c.2 ∙ ap Some named) (d.2 ∙ ap Some called) (c.3 ∙ same_act (one_answer g choice t u) ∙ sym d.3)
 
+  -- where an attempt proposes a step for which there is no room, the world is full
+  pub step_no_room : (g : GoalName) (choice : Option ℕ) → ProposesInFull w g choice → StepFails w g choice Fault.Full
+  step_no_room g choice full = record { first = inr ((λ f u. apart (one_answer g choice full.2 u)), (refl, full)) }
+
   one_reason : (g : GoalName) (choice : Option ℕ) (e f : Fault) → StepFails w g choice e → StepFails w g choice f → e ≡ f
-  one_reason g choice e f (refused_attempt t) (refused_attempt u) = same_fault (one_answer g choice t u)
-  one_reason g choice e f (refused_attempt t) (no_room p named u more) = absurd (apart (one_answer g choice u t))
-  one_reason g choice e f (no_room p named t is_full) (refused_attempt u) = absurd (apart (one_answer g choice t u))
-  one_reason g choice e f (no_room p named t is_full) (no_room q called u more) = refl
+  one_reason g choice e f p q =
+      first_once (λ h. AttemptAnswers w g choice (refused h)) _ (λ h i t u. same_fault (one_answer g choice t u)) (told_once Fault.Full (ProposesInFull w g choice)) e f p.first q.first
 
   step_or_fail : (g : GoalName) (choice : Option ℕ) (r : Record) (f : Fault) → IsStepOf w g choice r → ¬ StepFails w g choice f
-  step_or_fail g choice r f (p, named, t, c) (refused_attempt u) = apart (one_answer g choice t u)
-  step_or_fail g choice r f (p, named, t, c) (no_room q called u is_full) = stepping.room_or_full w c.1.2 is_full
+  step_or_fail g choice r f (p, named, t, c) fails = elim fails.first [
+    | inl u ↦ apart (one_answer g choice t u)
+    | inr more ↦ stepping.room_or_full w c.1.2 more.1.1.3
+  ]
 
 -- What is answered for a commit in a reachable world is exact.
 pub commit_exact : CommitIsExact

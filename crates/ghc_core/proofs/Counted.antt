@@ -1,18 +1,6 @@
 -- A redo counts a firing or none, and a note a try or none.
-use Rattle.std.proofs.Common.{◌≡◌, ◌≢◌, ℕ, subst, true, false, Bool, refl, sym, ap, ◌∙◌, inl, inr, Some, None}
-use Rattle.std.specs.Prelude.{Option}
+use Rattle.ghc_core.proofs.Words.{◌≡◌, ◌≢◌, ℕ, subst, true, false, Bool, refl, sym, ap, ◌∙◌, inl, inr, Some, None, Option, GoalName, Fault, Goal, is_stream, Meter, fired, tried, Record, World, IsKnown, IsNoCandidate, RedoFails, FiresOnce, TriesOnce}
 use Rattle.std.specs.FinMap as finite
-use Rattle.ghc_term.specs.declared.goal_name.GoalName.{GoalName}
-use Rattle.ghc_term.specs.declared.fault.Fault.{Fault}
-use Rattle.ghc_term.specs.Goal.{Goal}
-use Rattle.ghc_flat.specs.Flat.{is_stream}
-use Rattle.ghc_fire.specs.declared.meter.Meter.{Meter}
-use Rattle.ghc_fire.specs.Meter.{fired, tried}
-use Rattle.ghc_records.specs.Record.{Record}
-use Rattle.ghc_core.specs.World.{World, IsKnown}
-use Rattle.ghc_core.specs.Proposes.{IsNoCandidate}
-use Rattle.ghc_core.specs.Refusals.{RedoFails}
-use Rattle.ghc_core.specs.Counting.{FiresOnce, TriesOnce}
 use Rattle.ghc_core.proofs.Naming.{known_decided}
 use Rattle.ghc_core.proofs.Refusing.{not_shelved, no_goal, no_variable}
 use Rattle.ghc_core.proofs.Redone.{said_not_shelved, said_no_goal, said_no_variable}

@@ -1,41 +1,9 @@
 -- Each event has an answer.
-use Rattle.std.proofs.Common.{◌≡◌, ◌≢◌, ℕ, ◌≤◌, true, false, Bool, List, length, refl, sym, ap, ◌∙◌, subst, inl, inr, arith, Some, None}
-use Rattle.std.specs.Prelude.{Option}
+use Rattle.ghc_core.proofs.Words.{◌≡◌, ◌≢◌, ℕ, ◌≤◌, true, false, Bool, List, length, refl, sym, ap, ◌∙◌, subst, inl, inr, arith, Some, None, Option, GoalName, Fault, Goal, goal_code, IsAcyclic, value_at, Decided, decided_both, IsProgram, is_stream, Act, ByClause as by_clause, Unified as unified, Assigned as assigned, Given as given, Closed as closed, Asked as asked, Effect, HasEffect, no_step, IsAsk, same_decided, each_answer, effect_decided, effect_each, each_status, kept_limit, Record, IsThere, HasStepEffect, Fires, decided, by_option, asking_fires, Comes as comes, Reorders as reorders, Coming, Proposal, Hands, IsHand, with_hand, emptied, World, with_step, with_coming, with_order, Command, input, finish, undo, roll, redo, arrange, ask, Event, propose, commit, note, command, Reply, held, stepped, noted, arranged, refused, Asks, to_give, to_close, to_redo, to_arrange, to_ask, Fails, Obeys, does, refuses, by_hand, Says, Answers, no_hand, makes, says, fails, IsProper, Reaches, IsOrderly}
 use Rattle.std.specs.FinMap as finite
-use Rattle.ghc_term.specs.declared.goal_name.GoalName.{GoalName}
-use Rattle.ghc_term.specs.declared.fault.Fault.{Fault}
-use Rattle.ghc_term.specs.Goal.{Goal}
-use Rattle.ghc_term.specs.GoalCode.{goal_code}
-use Rattle.ghc_term.specs.Bindings.{IsAcyclic}
-use Rattle.ghc_term.specs.Store.{value_at}
-use Rattle.ghc_term.proofs.Decided.{Decided, decided_both}
-use Rattle.ghc_flat.specs.Flat.{IsProgram, is_stream}
-use Rattle.ghc_fire.specs.declared.act.Act.{Act}
-use Rattle.ghc_fire.specs.declared.act.Act.TheVariants.{ByClause as by_clause, Unified as unified, Assigned as assigned, Given as given, Closed as closed, Asked as asked}
-use Rattle.ghc_fire.specs.Effect.{Effect, HasEffect, no_step}
-use Rattle.ghc_fire.specs.Asked.{IsAsk}
 use Rattle.ghc_fire.specs.Attempt as attempt
-use Rattle.ghc_term.proofs.Decided.{same_decided}
-use Rattle.ghc_fire.proofs.EachAnswer.{each_answer}
-use Rattle.ghc_fire.proofs.EachEffect.{effect_decided}
-use Rattle.ghc_fire.proofs.Steps.{effect_each}
-use Rattle.ghc_hooks.proofs.EachStatus.{each_status}
-use Rattle.ghc_records.specs.Numbers.{kept_limit}
-use Rattle.ghc_records.specs.Record.{Record, IsThere, HasStepEffect, Fires}
-use Rattle.ghc_depend.proofs.Decided.{decided}
-use Rattle.ghc_depend.proofs.Finding.{by_option}
-use Rattle.ghc_depend.proofs.Results.{asking_fires}
-use Rattle.ghc_core.specs.declared.change.Change.TheVariants.{Comes as comes, Reorders as reorders}
-use Rattle.ghc_core.specs.declared.change.Coming.{Coming}
-use Rattle.ghc_core.specs.World.{Proposal, Hands, IsHand, with_hand, emptied, World, with_step}
-use Rattle.ghc_core.specs.Change.{with_coming, with_order}
-use Rattle.ghc_core.specs.Events.{Command, input, finish, undo, roll, redo, arrange, ask, Event, propose, commit, note, command, Reply, held, stepped, noted, arranged, refused}
-use Rattle.ghc_core.specs.Answers.{Asks, to_give, to_close, to_redo, to_arrange, to_ask, Fails, Obeys, does, refuses, by_hand, Says, Answers, no_hand, makes, says, fails}
 use Rattle.ghc_core.specs.Proposes as asking
 use Rattle.ghc_core.specs.Streams as streams
-use Rattle.ghc_core.specs.Legal.{IsProper}
-use Rattle.ghc_core.specs.Reached.{Reaches}
-use Rattle.ghc_core.specs.Laws.{IsOrderly}
 use Rattle.ghc_core.specs.Laws as laws
 use Rattle.ghc_core.proofs.Answered.{room, IsActAnswered, act_answered}
 use Rattle.ghc_core.proofs.Moving.{obeyed_answers, noted_answers, reachable_reached}

@@ -1,33 +1,7 @@
 -- Notes and marks that were carried over a step are exact in the world that it leaves.
-use Rattle.std.proofs.Common.{◌≡◌, ◌⊎◌, true, false, refl, sym, ap, subst, ◌∙◌, inl, inr, arith}
-use Rattle.std.specs.Prelude.{Option, Some, None, is_some, if◌then◌else◌, IsTrue}
-use Rattle.std.specs.Option.{option_or}
+use Rattle.ghc_core.proofs.Words.{◌≡◌, ◌⊎◌, true, false, refl, sym, ap, subst, ◌∙◌, inl, inr, arith, Option, Some, None, is_some, if◌then◌else◌, IsTrue, option_or, VarName, GoalName, Goal, In, StoreValue, value_at, Program, Query, is_stream, goal_cmp, Goals, AreDistinct, State, Record, numbers, after, without_goal, Fires, query_state, ConsumesGoal, IsTakenBack, number_in, bound_at, Note, NotesByGoal, IsExact, AreExact, AreLeft, Tries, exact_stays, MakesGoal, Binds, by_option, not_both, same_value, named_or_not, own, makes_at, own_made, without_it, without_other, firing, taken_at, Results, is_old, Place, results_of, place_of, apart_at, World, IsReplay, IsNextStep, IsStanding, AreExactIn, IsToTry, Consumed, MadeToTry, ConsumedToTry, AreMarked, AreCarried, AreCarriedOver, AreCarriedBack}
 use Rattle.std.specs.FinMap as finite
 use Rattle.std.specs.FinSet as set
-use Rattle.ghc_term.specs.declared.var_name.VarName.{VarName}
-use Rattle.ghc_term.specs.declared.goal_name.GoalName.{GoalName}
-use Rattle.ghc_term.specs.Goal.{Goal}
-use Rattle.ghc_term.specs.Lists.{In}
-use Rattle.ghc_term.specs.Store.{StoreValue, value_at}
-use Rattle.ghc_flat.specs.Clause.{Program, Query}
-use Rattle.ghc_flat.specs.Flat.{is_stream}
-use Rattle.ghc_fire.specs.Goals.{goal_cmp, Goals}
-use Rattle.ghc_records.specs.Orders.{AreDistinct}
-use Rattle.ghc_records.specs.Record.{State, Record, numbers, after, without_goal, Fires}
-use Rattle.ghc_records.specs.Replay.{query_state}
-use Rattle.ghc_records.specs.State.{ConsumesGoal, IsTakenBack}
-use Rattle.ghc_records.proofs.OrderLemmas.{number_in}
-use Rattle.ghc_records.proofs.States.{bound_at}
-use Rattle.ghc_hooks.specs.Notes.{Note, NotesByGoal, IsExact, AreExact, AreLeft}
-use Rattle.ghc_hooks.specs.Tries.{Tries}
-use Rattle.ghc_hooks.proofs.LookedAt.{exact_stays}
-use Rattle.ghc_depend.specs.Depend.{MakesGoal, Binds}
-use Rattle.ghc_depend.proofs.Finding.{by_option, not_both, same_value, named_or_not, own, makes_at, own_made, without_it, without_other}
-use Rattle.ghc_depend.proofs.Results.{firing, taken_at, Results, is_old}
-use Rattle.ghc_depend.proofs.Placing.{Place, results_of, place_of, apart_at}
-use Rattle.ghc_core.specs.World.{World, IsReplay, IsNextStep}
-use Rattle.ghc_core.specs.Core.{IsStanding, AreExactIn}
-use Rattle.ghc_core.specs.Carried.{IsToTry, Consumed, MadeToTry, ConsumedToTry, AreMarked, AreCarried, AreCarriedOver, AreCarriedBack}
 use Rattle.ghc_core.proofs.Reaching.{Good, reached_good}
 use Rattle.ghc_core.proofs.Standing.{standing_replay, standing_below}
 

@@ -1,16 +1,5 @@
 -- How many firings are counted where entries are carried out.
-use Rattle.std.proofs.Common.{◌≡◌, ℕ, zero, suc, ◌+◌, ◌<◌, ◌≤◌, List, [], ◌∷◌, ◌++◌, map, length, take, get_or, refl, sym, ap, ◌∙◌, subst, arith, Some, None}
-use Rattle.std.specs.Prelude.{Option}
-use Rattle.std.proofs.Math.Seq.{take-suc}
-use Rattle.std.proofs.lemmas.List.{map-append, take_all}
-use Rattle.ghc_term.specs.declared.goal_name.GoalName.{GoalName}
-use Rattle.ghc_fire.specs.declared.meter.Meter.{Meter}
-use Rattle.ghc_fire.specs.Meter.{fired}
-use Rattle.ghc_records.specs.Chronicle.{entry_limit}
-use Rattle.ghc_records.specs.Journal.{Entry, took, undid, rolled, redid, reordered}
-use Rattle.ghc_records.specs.WrittenEntryCode.{said_by}
-use Rattle.ghc_records.specs.declared.written_entry.WrittenEntry.{WrittenEntry}
-use Rattle.ghc_core.specs.Counting.{after_firings, firings_of_step, firings_of_entry, firings_of_entries}
+use Rattle.ghc_core.proofs.Words.{◌≡◌, ℕ, zero, suc, ◌+◌, ◌<◌, ◌≤◌, List, [], ◌∷◌, ◌++◌, map, length, take, get_or, refl, sym, ap, ◌∙◌, subst, arith, Some, None, Option, take-suc, map-append, take_all, GoalName, Meter, fired, entry_limit, Entry, took, undid, rolled, redid, reordered, said_by, WrittenEntry, after_firings, firings_of_step, firings_of_entry, firings_of_entries}
 
 -- firings, and then others
 firings_in_turn : (n k : ℕ) (m : Meter) → after_firings (n + k) m ≡ after_firings k (after_firings n m)

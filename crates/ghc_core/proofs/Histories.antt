@@ -1,27 +1,8 @@
 -- Legal histories and reachable worlds are the same, and a history leaves one world.
-use Rattle.std.proofs.Common.{◌≡◌, ℕ, suc, ◌+◌, ◌<◌, List, [], ◌∷◌, ◌++◌, map, length, refl, sym, ap, ◌∙◌, subst, subst₂, inl, inr, arith, append-nil}
-use Rattle.std.proofs.lemmas.List.{map-append, length-append}
-use Rattle.ghc_term.specs.Lists.{In}
-use Rattle.ghc_term.proofs.ListsLemmas.{in_more}
-use Rattle.ghc_records.specs.Orders.{AreDistinct}
-use Rattle.ghc_records.specs.Record.{Record, numbers, Shelf}
-use Rattle.ghc_records.specs.Replay.{query_state, Runs}
-use Rattle.ghc_records.specs.Journal.{Step, Opening, Entry, took, step_of, Item, opened, entered, history}
-use Rattle.ghc_records.proofs.OrderLemmas.{number_of}
-use Rattle.ghc_records.proofs.Replaying.{run_once}
-use Rattle.ghc_depend.specs.Kept.{Keeps, taken_numbers}
-use Rattle.ghc_depend.proofs.KeptOnce.{taken_append, keeps_once}
-use Rattle.ghc_depend.proofs.Picking.{distinct_push}
-use Rattle.ghc_core.specs.declared.change.Change.{Change}
-use Rattle.ghc_core.specs.World.{no_hands, emptied, World, Opens}
-use Rattle.ghc_core.specs.Change.{CanChange, Changes}
-use Rattle.ghc_core.specs.Events.{commit, command, Reply, stepped}
-use Rattle.ghc_core.specs.Answers.{told_of, by_command, makes}
-use Rattle.ghc_core.specs.Reached.{Reaches, from_opening, by_change}
-use Rattle.ghc_core.specs.Legal.{Leaves, the_opening, and_entry}
+use Rattle.ghc_core.proofs.Words.{◌≡◌, ℕ, suc, ◌+◌, ◌<◌, List, [], ◌∷◌, ◌++◌, map, length, refl, sym, ap, ◌∙◌, subst, subst₂, inl, inr, arith, append-nil, map-append, length-append, In, in_more, AreDistinct, Record, numbers, Shelf, query_state, Runs, Step, Opening, Entry, took, step_of, Item, entered, history, number_of, run_once, Keeps, taken_numbers, taken_append, keeps_once, distinct_push, Change, no_hands, emptied, World, Opens, CanChange, Changes, commit, command, Reply, stepped, told_of, by_command, makes, Reaches, from_opening, by_change, Leaves, the_opening, and_entry, NoStepIsFree}
+use Rattle.ghc_records.specs.Journal.{opened}
 use Rattle.ghc_core.specs.Legal as legal
 use Rattle.ghc_core.specs.HistoryLaws as laws
-use Rattle.ghc_core.specs.Laws.{NoStepIsFree}
 use Rattle.ghc_core.proofs.Moving.{MovesOnce, answered_moves, Numbers, change_enters, opening_stays, reachable_reached}
 use Rattle.ghc_core.proofs.Reaching.{reached_good}
 use Rattle.ghc_core.proofs.Replayed.{replayed}

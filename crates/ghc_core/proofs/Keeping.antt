@@ -1,26 +1,8 @@
 -- In a world that is reached the journal tells what is kept and what is on the shelf.
-use Rattle.std.proofs.Common.{◌≡◌, List, [], ◌∷◌, ◌++◌, map, refl, sym, ap, ◌∙◌, subst}
+use Rattle.ghc_core.proofs.Words.{◌≡◌, List, [], ◌∷◌, ◌++◌, map, refl, sym, ap, ◌∙◌, subst, in_left, Program, Query, AreDistinct, State, Record, numbers, query_state, Replays, Opening, Entry, took, undid, step_of, numbers_append, Keeps, IsSplitAt, with_shelved, runs_split, distinct_left, World, with_step, Opens, Change, Comes as comes, Goes as goes, Reorders as reorders, Coming, Going, CanChange, Changes, all_gone, Reaches, from_opening, by_change}
 use Rattle.std.proofs.lemmas.List.{append-nil, append_assoc}
 use Rattle.std.specs.FinMap as finite
-use Rattle.ghc_term.proofs.ListsLemmas.{in_left}
-use Rattle.ghc_flat.specs.Clause.{Program, Query}
-use Rattle.ghc_records.specs.Orders.{AreDistinct}
-use Rattle.ghc_records.specs.Record.{State, Record, numbers}
-use Rattle.ghc_records.specs.Replay.{query_state, Replays}
-use Rattle.ghc_records.specs.Journal.{Opening, Entry, took, undid, step_of}
-use Rattle.ghc_records.proofs.OrderLemmas.{numbers_append}
-use Rattle.ghc_depend.specs.Kept.{Keeps, IsSplitAt, with_shelved}
-use Rattle.ghc_depend.proofs.KeptOnce.{runs_split}
-use Rattle.ghc_depend.proofs.Picking.{distinct_left}
-use Rattle.ghc_core.specs.World.{World, with_step, Opens}
-use Rattle.ghc_core.specs.declared.change.Change.{Change}
-use Rattle.ghc_core.specs.declared.change.Change.TheVariants.{Comes as comes, Goes as goes, Reorders as reorders}
-use Rattle.ghc_core.specs.declared.change.Coming.{Coming}
-use Rattle.ghc_core.specs.declared.change.Going.{Going}
 use Rattle.ghc_core.proofs.Alone.{others_left}
-use Rattle.ghc_core.specs.Change.{CanChange, Changes}
-use Rattle.ghc_core.specs.Gone.{all_gone}
-use Rattle.ghc_core.specs.Reached.{Reaches, from_opening, by_change}
 use Rattle.ghc_core.specs.Laws as laws
 use Rattle.ghc_core.proofs.Moving.{reachable_reached}
 use Rattle.ghc_core.proofs.Replayed.{Replayed, replayed}

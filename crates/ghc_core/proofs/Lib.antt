@@ -46,3 +46,4 @@ pub mod AskedAgain
 pub mod ResumedOnce
 pub mod ResumeSteps
 pub mod ToldResumed
+mod Words

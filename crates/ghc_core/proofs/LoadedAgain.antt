@@ -1,27 +1,6 @@
 -- A history has one answer, and what is saved of a reachable world is loaded again: two runs from one state by the same steps are one run.
-use Rattle.std.proofs.Common.{◌≡◌, ℕ, ◌+◌, List, [], ◌∷◌, ◌++◌, map, length, refl, sym, ap, ◌∙◌, subst, inl, inr, arith, append_assoc}
-use Rattle.std.proofs.lemmas.List.{map-append}
-use Rattle.std.specs.Prelude.{Result, Ok, Err}
-use Rattle.ghc_term.specs.declared.fault.Fault.{Fault}
-use Rattle.ghc_term.specs.Lists.{In}
-use Rattle.ghc_term.specs.Bindings.{IsAcyclic}
-use Rattle.ghc_term.specs.Store.{value_at}
-use Rattle.ghc_term.proofs.Exact.{exact}
-use Rattle.ghc_term.proofs.ListsLemmas.{in_left, in_right, compare_splits}
-use Rattle.ghc_flat.specs.Clause.{Program, Query}
-use Rattle.ghc_flat.specs.Flat.{IsProgram, IsQuery}
-use Rattle.ghc_records.specs.Orders.{AreDistinct}
-use Rattle.ghc_records.specs.Record.{State, Record, numbers, after, Fires}
-use Rattle.ghc_records.specs.Replay.{query_state, Runs, HaveStepNumbers, NameWhatIsKnown, Replays}
-use Rattle.ghc_records.specs.Journal.{Step, Opening, step_of}
-use Rattle.ghc_records.specs.History.{History, IsHistory, loaded_opening}
-use Rattle.ghc_records.proofs.OrderLemmas.{numbers_append}
-use Rattle.ghc_records.proofs.Replaying.{replay_well}
-use Rattle.ghc_depend.proofs.KeptOnce.{fires_once}
-use Rattle.ghc_depend.proofs.Picking.{distinct_left}
-use Rattle.ghc_core.specs.World.{World, Opens}
-use Rattle.ghc_core.specs.Load.{Loads, loads, stops, no_memory, StopsAt, IsImpossible, history_of}
-use Rattle.ghc_core.specs.LoadLaws.{reloaded}
+use Rattle.ghc_core.proofs.Words.{◌≡◌, ℕ, ◌+◌, List, [], ◌∷◌, ◌++◌, map, length, refl, sym, ap, ◌∙◌, subst, inl, inr, arith, append_assoc, map-append, Result, Ok, Err, Fault, In, IsAcyclic, value_at, exact, in_left, in_right, compare_splits, Program, Query, IsProgram, IsQuery, AreDistinct, State, Record, numbers, after, Fires, query_state, Runs, HaveStepNumbers, NameWhatIsKnown, Replays, Step, Opening, step_of, History, IsHistory, loaded_opening, numbers_append, replay_well, fires_once, distinct_left, World, Opens, Loads, loads, stops, StopsAt, IsImpossible, history_of, reloaded}
+use Rattle.ghc_core.specs.Load.{no_memory}
 use Rattle.ghc_core.specs.LoadLaws as laws
 use Rattle.ghc_core.proofs.Reaching.{Good, reachable_good}
 use Rattle.ghc_core.proofs.Moving.{reachable_reached}

@@ -1,33 +1,6 @@
 -- A history is loaded step by step: each step that is loaded leaves a world that its opening makes.
-use Rattle.std.proofs.Common.{◌≡◌, ℕ, suc, ◌+◌, ◌<◌, ◌≤◌, List, [], ◌∷◌, ◌++◌, length, map, slice_get, zero, refl, sym, ap, subst, subst₂, ◌∙◌, inl, inr, arith, append_assoc, append-nil}
-use Rattle.std.proofs.lemmas.List.{map-append, length-append}
-use Rattle.std.specs.Prelude.{Some, None, Ok, Err}
+use Rattle.ghc_core.proofs.Words.{◌≡◌, ℕ, suc, ◌+◌, ◌<◌, ◌≤◌, List, [], ◌∷◌, ◌++◌, length, map, slice_get, zero, refl, sym, ap, subst, subst₂, ◌∙◌, inl, inr, arith, append_assoc, append-nil, map-append, length-append, Some, None, Ok, Err, GoalName, Fault, In, in_either, in_right, Program, Query, Effect, HasEffect, Goal, value_at, AreDistinct, kept_limit, State, Record, numbers, after, query_state, Runs, Step, Opening, Entry, took, step_of, History, IsHistory, loaded_opening, number_in, Goals, goal_cmp, goal_total, goal_antisymmetric, NotesByGoal, AreLeft, VarName, same_value, by_option, not_both, taken, taken_at, is_old, results_of, World, Opens, IsStanding, CanLoad, with_loaded, IsPossibleAs, IsImpossible, Loads, loads, stops}
 use Rattle.std.specs.FinMap as finite
-use Rattle.ghc_term.specs.declared.goal_name.GoalName.{GoalName}
-use Rattle.ghc_term.specs.declared.fault.Fault.{Fault}
-use Rattle.ghc_term.specs.Lists.{In}
-use Rattle.ghc_term.proofs.ListsLemmas.{in_either, in_right}
-use Rattle.ghc_flat.specs.Clause.{Program, Query}
-use Rattle.ghc_fire.specs.Effect.{Effect, HasEffect}
-use Rattle.ghc_term.specs.Goal.{Goal}
-use Rattle.ghc_term.specs.Store.{value_at}
-use Rattle.ghc_records.specs.Orders.{AreDistinct}
-use Rattle.ghc_records.specs.Numbers.{kept_limit}
-use Rattle.ghc_records.specs.Record.{State, Record, numbers, after}
-use Rattle.ghc_records.specs.Replay.{query_state, Runs}
-use Rattle.ghc_records.specs.Journal.{Step, Opening, Entry, took, step_of}
-use Rattle.ghc_records.specs.History.{History, IsHistory, loaded_opening}
-use Rattle.ghc_records.proofs.OrderLemmas.{number_in}
-use Rattle.ghc_fire.specs.Goals.{Goals, goal_cmp}
-use Rattle.ghc_fire.proofs.GoalNames.{goal_total, goal_antisymmetric}
-use Rattle.ghc_hooks.specs.Notes.{NotesByGoal, AreLeft}
-use Rattle.ghc_term.specs.declared.var_name.VarName.{VarName}
-use Rattle.ghc_depend.proofs.Finding.{same_value, by_option, not_both}
-use Rattle.ghc_depend.proofs.Results.{taken, taken_at, is_old}
-use Rattle.ghc_depend.proofs.Placing.{results_of}
-use Rattle.ghc_core.specs.World.{World, Opens}
-use Rattle.ghc_core.specs.Core.{IsStanding}
-use Rattle.ghc_core.specs.Load.{CanLoad, with_loaded, IsPossibleAs, IsImpossible, Loads, loads, stops}
 use Rattle.ghc_core.proofs.Naming.{known_of_goal}
 use Rattle.ghc_core.proofs.Reaching.{reached_good}
 use Rattle.ghc_core.proofs.Replayed.{replayed, one_more, pushed}

@@ -1,20 +1,6 @@
 -- What an event does to a world, one change does, or nothing; and what each change does to opening, journal and next number.
-use Rattle.std.proofs.Common.{◌≡◌, ◌⊎◌, ◌+◌, ◌≤◌, [], ◌∷◌, ◌++◌, refl, sym, ap, subst, inl, inr, arith}
-use Rattle.ghc_records.specs.Journal.{Entry, took, redid, reordered, step_of}
-use Rattle.ghc_records.specs.Record.{Record}
-use Rattle.ghc_depend.specs.Kept.{taken_numbers}
-use Rattle.ghc_core.specs.declared.change.Change.{Change}
-use Rattle.ghc_core.specs.declared.change.Change.TheVariants.{Comes as comes, Goes as goes, Reorders as reorders}
-use Rattle.ghc_core.specs.declared.change.Coming.{Coming}
-use Rattle.ghc_core.specs.declared.change.Going.{Going}
-use Rattle.ghc_core.specs.World.{Hands, World}
-use Rattle.ghc_core.specs.Change.{CanChange, Changes, entry_of_going}
-use Rattle.ghc_term.specs.declared.goal_name.GoalName.{GoalName}
-use Rattle.ghc_core.specs.Events.{Command, Event, note, command, Reply}
+use Rattle.ghc_core.proofs.Words.{◌≡◌, ◌⊎◌, ◌+◌, ◌≤◌, [], ◌∷◌, ◌++◌, refl, sym, ap, subst, inl, inr, arith, Entry, took, redid, reordered, step_of, Record, taken_numbers, Change, Comes as comes, Goes as goes, Reorders as reorders, Coming, Going, Hands, World, CanChange, Changes, entry_of_going, GoalName, Command, Event, note, command, Reply, Obeys, does, refuses, starves, by_command, Says, Answers, no_hand, makes, says, fails, no_memory, Reaches, from_opening, by_change, IsReachable, at_opening, by_event, with_other_hands}
 use Rattle.ghc_core.specs.Proposes as asking
-use Rattle.ghc_core.specs.Answers.{Obeys, does, refuses, starves, by_command, Says, Answers, no_hand, makes, says, fails, no_memory}
-use Rattle.ghc_core.specs.Reached.{Reaches, from_opening, by_change}
-use Rattle.ghc_core.specs.Legal.{IsReachable, at_opening, by_event, with_other_hands}
 
 -- The world moved by one change that could be made.
 abbrev pub Moves : World → World → Type 0

@@ -1,24 +1,5 @@
 -- What steps name: those that consume a goal name nothing; and whether what a step names is known.
-use Rattle.std.proofs.Common.{◌≡◌, ◌≢◌, ◌≤◌, ◌+◌, ℕ, List, [], ◌∷◌, ◌++◌, length, refl, sym, ap, ◌∙◌, subst, inl, inr, arith, Some}
-use Rattle.std.proofs.lemmas.List.{length-append}
-use Rattle.std.specs.Prelude.{Option}
-use Rattle.ghc_term.specs.declared.var_name.VarName.{VarName}
-use Rattle.ghc_term.specs.declared.goal_name.GoalName.{GoalName}
-use Rattle.ghc_term.specs.Goal.{Goal, call, unify, assign, stream}
-use Rattle.ghc_term.specs.Tree.{Tree}
-use Rattle.ghc_term.specs.Lists.{In}
-use Rattle.ghc_term.specs.Store.{value_at}
-use Rattle.ghc_term.proofs.Decided.{Decided, decided_both, decided_either, nat_decided, name_decided, in_decided, some_decided}
-use Rattle.ghc_term.proofs.ListsLemmas.{compare_splits}
-use Rattle.ghc_flat.specs.Clause.{Program, Query}
-use Rattle.ghc_flat.specs.Variables.{variables_of_goals}
-use Rattle.ghc_fire.specs.declared.act.Act.{Act}
-use Rattle.ghc_fire.specs.declared.act.Act.TheVariants.{ByClause as by_clause, Unified as unified, Assigned as assigned, Given as given, Closed as closed, Asked as asked}
-use Rattle.ghc_fire.specs.Asked.{variables_asked}
-use Rattle.ghc_fire.specs.Effect.{Effect, HasEffect}
-use Rattle.ghc_records.specs.Record.{State, Record, Fires}
-use Rattle.ghc_records.specs.Replay.{MakesVariable, IsVariableOf, AreKnownIn, NameWhatIsKnown}
-use Rattle.ghc_depend.proofs.Results.{taken}
+use Rattle.ghc_core.proofs.Words.{◌≡◌, ◌≢◌, ◌≤◌, ◌+◌, ℕ, List, [], ◌∷◌, ◌++◌, length, refl, sym, ap, ◌∙◌, subst, inl, inr, arith, Some, length-append, Option, VarName, GoalName, Goal, call, unify, assign, stream, Tree, In, value_at, Decided, decided_both, decided_either, nat_decided, name_decided, in_decided, some_decided, compare_splits, Program, Query, variables_of_goals, Act, ByClause as by_clause, Unified as unified, Assigned as assigned, Given as given, Closed as closed, Asked as asked, variables_asked, Effect, HasEffect, State, Record, Fires, MakesVariable, IsVariableOf, AreKnownIn, NameWhatIsKnown, taken}
 
 -- an act that has an effect on a goal names no variable
 act_names_nothing : (P : Program) (b : Goal) (a : Act) (n : ℕ) (S : VarName → Option Tree) (e : Effect) → HasEffect P b a n S e → variables_asked a ≡ []

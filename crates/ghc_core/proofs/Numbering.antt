@@ -1,32 +1,10 @@
 -- What a hand holds is judged alike as the next step and under the number that no step has.
-use Rattle.std.proofs.Common.{◌≡◌, ℕ, ◌<◌, ◌≤◌, ◌⊎◌, ◌==◌, true, false, cond, List, [], ◌∷◌, ◌++◌, map, refl, sym, ap, ◌∙◌, subst, inl, inr, arith, eq-eqb, eqb-true, Some, None}
-use Rattle.std.specs.Prelude.{if◌then◌else◌}
-use Rattle.std.specs.Ordering.{eq_by_cmp, nat_cmp}
-use Rattle.std.specs.Cmp.{nat_cmp_total}
+use Rattle.ghc_core.proofs.Words.{◌≡◌, ℕ, ◌<◌, ◌≤◌, ◌⊎◌, ◌==◌, true, false, cond, List, [], ◌∷◌, ◌++◌, map, refl, sym, ap, ◌∙◌, subst, inl, inr, arith, eqb-true, Some, None, if◌then◌else◌, eq_by_cmp, nat_cmp, nat_cmp_total, VarName, GoalName, Tree, variable, integer, node, Trees, none, more, Expression, leaf, operation, Goal, call, unify, assign, stream, In, value_at, variables, variables_of_all, variables_of_list, variables_of_expression, variables_of_goal, In_append, In_append_right, replace, replace_all, made, replace_in_expression, replace_in_goal, Act, Effect, HasEffect, no_step, numbered, under, variables_come, effect_once, effect_each, effect_under, IsVariableOf, Hands, with_hand, emptied, World, Event, propose, commit, note, command, Reply, hands_after, Says, Answers, no_hand, makes, says, fails, no_memory, IsReachable, at_opening, by_event, with_other_hands}
+use Rattle.std.proofs.Common.{eq-eqb}
 use Rattle.std.specs.FinMap as finite
-use Rattle.ghc_term.specs.declared.var_name.VarName.{VarName}
-use Rattle.ghc_term.specs.declared.goal_name.GoalName.{GoalName}
-use Rattle.ghc_term.specs.Tree.{Tree, variable, integer, node, Trees, none, more}
-use Rattle.ghc_term.specs.Expression.{Expression, leaf, operation}
-use Rattle.ghc_term.specs.Goal.{Goal, call, unify, assign, stream}
-use Rattle.ghc_term.specs.Lists.{In}
-use Rattle.ghc_term.specs.Store.{value_at}
-use Rattle.ghc_term.specs.Variables.{variables, variables_of_all, variables_of_list, variables_of_expression, variables_of_goal, variables_of_goals}
-use Rattle.ghc_term.proofs.Searches.{In_append, In_append_right}
-use Rattle.ghc_unify.specs.Solutions.{replace, replace_all}
-use Rattle.ghc_fire.specs.Instance.{made, replace_in_expression, replace_in_goal}
-use Rattle.ghc_fire.specs.declared.act.Act.{Act}
-use Rattle.ghc_fire.specs.Effect.{Effect, HasEffect, no_step}
-use Rattle.ghc_fire.specs.Proposal.{Proposal, numbered, under}
-use Rattle.ghc_fire.proofs.Origins.{variables_come}
-use Rattle.ghc_fire.proofs.Steps.{effect_once, effect_each}
-use Rattle.ghc_fire.proofs.Under.{effect_under}
-use Rattle.ghc_records.specs.Replay.{IsVariableOf}
+use Rattle.ghc_term.specs.Variables.{variables_of_goals}
+use Rattle.ghc_fire.specs.Proposal.{Proposal}
 use Rattle.ghc_records.proofs.Replaying as replaying
-use Rattle.ghc_core.specs.World.{Hands, with_hand, emptied, World}
-use Rattle.ghc_core.specs.Events.{Event, propose, commit, note, command, Reply}
-use Rattle.ghc_core.specs.Answers.{hands_after, Says, Answers, no_hand, makes, says, fails, no_memory}
-use Rattle.ghc_core.specs.Legal.{IsReachable, at_opening, by_event, with_other_hands}
 use Rattle.ghc_core.specs.Laws as laws
 use Rattle.ghc_core.proofs.Moving.{next_goes_on, reachable_reached}
 use Rattle.ghc_core.proofs.Reaching.{reachable_good, known}

@@ -1,20 +1,6 @@
 -- Events that are played one after another.
-use Rattle.std.proofs.Common.{◌≡◌, ◌+◌, ℕ, List, [], ◌∷◌, ◌++◌, map, take, slice_get, refl, sym, ap, ◌∙◌, subst, subst₂, inl, inr, Some}
-use Rattle.std.proofs.lemmas.List.{map-append}
-use Rattle.ghc_depend.proofs.Causes.{at_split}
-use Rattle.ghc_term.specs.Store.{value_at}
-use Rattle.ghc_records.specs.Record.{HasStepEffect}
-use Rattle.ghc_core.specs.declared.change.Change.{Change}
-use Rattle.ghc_core.specs.World.{Hands, World}
-use Rattle.ghc_core.specs.Change.{CanChange}
-use Rattle.ghc_core.specs.Events.{Command, Event, propose, commit, note, command, Reply}
-use Rattle.ghc_core.specs.Answers.{Asks, to_give, to_close, to_undo, to_roll, to_redo, to_arrange, to_ask, by_command, Answers, no_hand, makes, says, fails, no_memory}
-use Rattle.ghc_core.specs.Legal.{IsProper, IsReachable, by_event}
-use Rattle.ghc_core.specs.Core.{Core, Stays}
-use Rattle.ghc_core.specs.Meets.{Meets, MeetsEach}
-use Rattle.ghc_core.specs.Playing.{AddsOneAtMost, ArePlayed, PlayStaysReachable}
+use Rattle.ghc_core.proofs.Words.{◌≡◌, ◌+◌, ℕ, List, [], ◌∷◌, ◌++◌, map, take, slice_get, refl, sym, ap, ◌∙◌, subst, subst₂, inl, inr, Some, map-append, at_split, value_at, HasStepEffect, Change, Hands, World, CanChange, Command, Event, propose, commit, note, command, Reply, Asks, to_give, to_close, to_undo, to_roll, to_redo, to_arrange, to_ask, by_command, Answers, no_hand, makes, says, fails, no_memory, IsProper, IsReachable, by_event, Core, Stays, Meets, MeetsEach, AddsOneAtMost, ArePlayed, PlayStaysReachable, event_of, reply_of}
 use Rattle.ghc_core.specs.declared.world.World.{World as Played}
-use Rattle.ghc_core.specs.EventCode.{event_of, reply_of}
 use Rattle.ghc_core.specs.declared.event.Event as met
 use Rattle.ghc_core.specs.declared.reply.Reply as given
 use Rattle.ghc_core.proofs.Moving.{MovesOnce, change_enters}

@@ -1,37 +1,11 @@
 -- Two plays, event by event.
-use Rattle.std.proofs.Common.{◌≡◌, ℕ, List, [], ◌∷◌, refl, sym, ap, ◌∙◌, subst, inl, inr, arith, Some, None, pos}
-use Rattle.std.specs.Prelude.{Option}
+use Rattle.ghc_core.proofs.Words.{◌≡◌, ℕ, List, [], ◌∷◌, refl, sym, ap, ◌∙◌, subst, inl, inr, arith, Some, None, pos, Option, nat_cmp_total, VarName, GoalName, Tree, integer, Goal, value_at, here, through, now, name_cmp, name_total, Program, left, stay, go, Unified as unified, Effect, HasEffect, no_step, effect_binds, nothing, leave, IsSplitAt, Goals, Record, Fires, undid, goal_total, bound_at, option_or, Proposal, Hands, with_hand, emptied, World, with_step, Comes as comes, Goes as goes, Coming, Going, without_steps, to_undo, by_hand, by_command, Says, makes, says, fails, played, query_world, two_hands, equals, SecondHandIsStale, RedoIsChanged}
 use Rattle.std.specs.FinMap as finite
 use Rattle.std.specs.FinSet as set
-use Rattle.std.specs.Cmp.{nat_cmp_total}
-use Rattle.ghc_term.specs.declared.var_name.VarName.{VarName}
-use Rattle.ghc_term.specs.declared.goal_name.GoalName.{GoalName}
-use Rattle.ghc_term.specs.Tree.{Tree, integer}
-use Rattle.ghc_term.specs.Goal.{Goal}
-use Rattle.ghc_term.specs.Store.{value_at}
-use Rattle.ghc_term.specs.Bindings.{Reaches, here, through, now, name_cmp}
-use Rattle.ghc_term.proofs.Names.{name_total}
-use Rattle.ghc_flat.specs.Clause.{Program}
-use Rattle.ghc_unify.specs.Unify.{left, stay, go}
-use Rattle.ghc_fire.specs.declared.act.Act.TheVariants.{Unified as unified}
-use Rattle.ghc_fire.specs.Effect.{Effect, HasEffect, no_step}
+use Rattle.ghc_term.specs.Bindings.{Reaches}
 use Rattle.ghc_fire.specs.Attempt as attempt
-use Rattle.ghc_fire.proofs.Steps.{effect_binds}
-use Rattle.ghc_records.specs.Orders.{nothing, take, leave}
-use Rattle.ghc_depend.specs.Kept.{IsSplitAt}
-use Rattle.ghc_fire.specs.Goals.{Goals}
-use Rattle.ghc_records.specs.Record.{Record, Fires}
-use Rattle.ghc_records.specs.Journal.{undid}
-use Rattle.ghc_fire.proofs.GoalNames.{goal_total}
-use Rattle.ghc_records.proofs.States.{bound_at}
-use Rattle.std.specs.Option.{option_or}
-use Rattle.ghc_core.specs.World.{Proposal, Hands, with_hand, emptied, World, with_step}
-use Rattle.ghc_core.specs.declared.change.Change.TheVariants.{Comes as comes, Goes as goes}
-use Rattle.ghc_core.specs.declared.change.Coming.{Coming}
-use Rattle.ghc_core.specs.declared.change.Going.{Going}
-use Rattle.ghc_core.specs.Change.{without_steps}
-use Rattle.ghc_core.specs.Answers.{to_undo, by_hand, by_command, Says, makes, says, fails, played}
-use Rattle.ghc_core.specs.Facts.{query_world, two_hands, equals, of_query, SecondHandIsStale, RedoIsChanged}
+use Rattle.ghc_records.specs.Orders.{take}
+use Rattle.ghc_core.specs.Facts.{of_query}
 use Rattle.ghc_core.proofs.Naming.{none_named, nothing_named}
 use Rattle.ghc_core.proofs.Refusing.{changed, stale, has_not}
 

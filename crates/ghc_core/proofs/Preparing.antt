@@ -1,24 +1,11 @@
 -- The step that is prepared of a proposal, and what it answers.
-use Rattle.std.proofs.Common.{◌≡◌, ◌⊎◌, ℕ, List, inl, inr, refl, subst, sym, Option, Some, Result, Ok, Err, IfOk, IfErr}
+use Rattle.ghc_core.proofs.Words.{◌≡◌, ◌⊎◌, ℕ, List, inl, inr, refl, subst, sym, Option, Some, Result, Ok, Err, IfOk, IfErr, GoalName, Fault, IsAcyclic, value_at, Answered, Act, Effect, proposes, AttemptsAs, Attempts, under, proposal_as, State, Record, Shelf, Opening, Entry, World, IsFull, HasRoom, IsStanding, record_as, next_record, AttemptAnswers, IsProposedAsNext, StillHolds, IsCommitOf, CommitFails, IsStepOf, StepFails}
 use Rattle.std.specs.FinMap as finite
-use Rattle.ghc_term.specs.declared.goal_name.GoalName.{GoalName}
-use Rattle.ghc_term.specs.declared.fault.Fault.{Fault}
 use Rattle.ghc_term.specs.declared.fault.Fault.TheVariants as fault
-use Rattle.ghc_term.specs.Store.{value_at}
-use Rattle.ghc_term.specs.Answered.{Answered}
-use Rattle.ghc_fire.specs.declared.act.Act.{Act}
-use Rattle.ghc_fire.specs.Effect.{Effect}
-use Rattle.ghc_fire.specs.Attempt.{proposes, AttemptsAs, Attempts}
-use Rattle.ghc_fire.specs.Proposal.{Proposal, under}
-use Rattle.ghc_fire.proofs.Under.{proposal_as}
-use Rattle.ghc_records.specs.Record.{State, Record, Shelf}
-use Rattle.ghc_records.specs.Journal.{Opening, Entry}
-use Rattle.ghc_core.specs.World.{World, IsFull, HasRoom}
-use Rattle.ghc_core.specs.Core.{IsStanding, record_as, next_record}
-use Rattle.ghc_core.specs.Proposes.{AttemptAnswers, IsProposedAsNext, StillHolds, IsCommitOf, CommitFails, IsStepOf, StepFails, no_room}
+use Rattle.ghc_fire.specs.Proposal.{Proposal}
 use Rattle.ghc_core.proofs.Naming.{known_of_act}
 use Rattle.ghc_core.proofs.Refusing as refusing
-use Rattle.ghc_core.proofs.Committing.{next_step, answered_holds}
+use Rattle.ghc_core.proofs.Committing.{next_step, answered_holds, step_no_room}
 
 -- The step of a proposal that was made again is that of a commit of the proposal.
 prepared : (w : World) (p again : Proposal) → IsStanding w → StillHolds w p → finite.get w.state.goals again.goal ≡ Some again.consumed
@@ -52,9 +39,9 @@ commit_answered w p again result standing holds there same next =
     answered (IsCommitOf w p) (CommitFails w p) w (next_record w again) result next (prepared w p again standing holds there same.0 same.1 same.2) (refusing.no_room holds)
 
 -- The next step, which an attempt proposed as that step, answers for the step of its goal.
-pub step_answered : (w : World) (g : GoalName) (choice : Option ℕ) (p : Proposal) (result : Result Record Fault) → IsProposedAsNext w g choice p
+pub step_answered : (w : World) (acyclic : IsAcyclic (value_at w.state.store)) (g : GoalName) (choice : Option ℕ) (p : Proposal) (result : Result Record Fault) → IsProposedAsNext w g choice p
     → IsNext w (record_as w.next p) result → Answered (IsStepOf w g choice) (StepFails w g choice) result
-step_answered w g choice p result made next =
+step_answered w acyclic g choice p result made next =
     let P = w.opening.program in
     let S = value_at w.state.store in
     let there : finite.get w.state.goals p.goal ≡ Some p.consumed = subst (λ (h : GoalName). finite.get w.state.goals h ≡ Some p.consumed) (sym made.named) made.there in
@@ -64,7 +51,7 @@ step_answered w g choice p result made next =
     let proposed : AttemptAnswers w g choice (proposes q.act q.effect) = subst (λ o. Attempts P S o choice (proposes q.act q.effect)) (sym made.there) effect.1.1 in
     let holds : StillHolds w q = answered_holds w q choice p.consumed there (subst (λ (h : GoalName). AttemptAnswers w h choice (proposes q.act q.effect)) (sym made.named) proposed) in
     answered (IsStepOf w g choice) (StepFails w g choice) w (record_as w.next p) result next
-    (λ room. (q, made.named, proposed, (holds, (refl, ((p.consumed, refl, there), effect.0), room, known_of_act P w.opening.query w.kept (record_as w.next p) p.consumed w.next S p.effect effect.0), refl, refl))) (no_room q made.named proposed)
+    (λ room. (q, made.named, proposed, (holds, (refl, ((p.consumed, refl, there), effect.0), room, known_of_act P w.opening.query w.kept (record_as w.next p) p.consumed w.next S p.effect effect.0), refl, refl))) (λ full. step_no_room w acyclic g choice (q, made.named, proposed, full))
 
 -- Worlds are the same where their parts are.
 pub same_world : (o : Opening) {s t : State} {rs qs : List Record} {x y : Shelf} (n : ℕ) {es fs : List Entry} → s ≡ t → rs ≡ qs → x ≡ y → es ≡ fs

@@ -1,21 +1,6 @@
 -- Lemmas on the variables of a query and of its kept steps.
-use Rattle.std.proofs.Common.{◌≡◌, ℕ, ◌+◌, ◌-◌, ◌<◌, ◌≤◌, List, [], ◌∷◌, length, cond, true, false, get_or, refl, sym, ap, ◌∙◌, subst, inl, inr, arith}
-use Rattle.std.proofs.lemmas.Option.{slice_get_within, slice_get-get_or}
-use Rattle.std.specs.List.{list_any}
-use Rattle.std.specs.Ordering.{eq_by_cmp}
-use Rattle.ghc_term.specs.declared.var_name.VarName.{VarName}
-use Rattle.ghc_term.specs.Bindings.{name_cmp}
-use Rattle.ghc_term.specs.Lists.{In}
+use Rattle.ghc_core.proofs.Words.{◌≡◌, ℕ, ◌+◌, ◌-◌, ◌<◌, ◌≤◌, List, [], ◌∷◌, length, cond, true, false, get_or, refl, sym, ap, ◌∙◌, subst, inl, inr, arith, slice_get_within, slice_get-get_or, list_any, eq_by_cmp, VarName, name_cmp, In, WrittenQuery, IsWellAsked, AreNumbered, in_at, at_of_in, var_inj as same_parts, asked, AreDistinct, Record, numbers, MakesVariable, first_in, record_once}
 use Rattle.ghc_term.specs.Variables.{firsts, variables_of_goals}
-use Rattle.ghc_reader.specs.Written.{WrittenQuery, IsWellAsked, AreNumbered}
-use Rattle.ghc_term.proofs.ListsLemmas.{in_at, at_of_in}
-use Rattle.ghc_term.specs.Code.{var_inj as same_parts}
-use Rattle.ghc_flat.specs.Samples.{asked}
-use Rattle.ghc_records.specs.Orders.{AreDistinct}
-use Rattle.ghc_records.specs.Record.{Record, numbers}
-use Rattle.ghc_records.specs.Replay.{MakesVariable}
-use Rattle.ghc_records.proofs.Heads.{first_in}
-use Rattle.ghc_records.proofs.OrderLemmas.{record_once}
 
 -- what stands among the first occurrences stands in the list
 pub of_firsts : (seen xs : List VarName) (x : VarName) → In x (firsts seen xs) → In x xs

@@ -1,34 +1,6 @@
 -- A world that is reached is in order.
-use Rattle.std.proofs.Common.{◌≡◌, ℕ, ◌+◌, ◌<◌, ◌≤◌, ◌⊎◌, List, [], ◌∷◌, ◌++◌, refl, sym, ap, ◌∙◌, subst, inl, inr, arith, Some, None}
-use Rattle.std.specs.Ordering.{nat_cmp}
+use Rattle.ghc_core.proofs.Words.{◌≡◌, ℕ, ◌+◌, ◌<◌, ◌≤◌, ◌⊎◌, List, [], ◌∷◌, ◌++◌, refl, sym, ap, ◌∙◌, subst, inl, inr, arith, Some, None, nat_cmp, VarName, In, IsAcyclic, value_at, in_left, in_right, in_either, in_more, IsProgram, IsQuery, made, AreDistinct, State, Record, numbers, after, Fires, query_state, IsVariableOf, Opening, Entry, number_in, number_of, record_once, numbers_append, HasOnly, has_more, after_has, after_acyclic, of_query, replay_well, OneEach, after_one_each, run_one_each, query_one_each, GoesWith, IsLawful, IsInOrder, picks_in, records_push, shelved, unshelved, Hands, World, IsReplay, IsKnown, IsNextStep, with_step, Opens, Change, Comes as comes, Goes as goes, Reorders as reorders, Coming, all_gone, with_coming, without_steps, CanChange, Changes, AreNamesOf, IsSound, Reaches, from_opening, by_change, IsReachable}
 use Rattle.std.specs.FinMap as finite
-use Rattle.ghc_term.specs.declared.var_name.VarName.{VarName}
-use Rattle.ghc_term.specs.Lists.{In}
-use Rattle.ghc_term.specs.Bindings.{IsAcyclic}
-use Rattle.ghc_term.specs.Store.{value_at}
-use Rattle.ghc_term.proofs.ListsLemmas.{in_left, in_right, in_either, in_more}
-use Rattle.ghc_flat.specs.Flat.{IsProgram, IsQuery}
-use Rattle.ghc_fire.specs.Instance.{made}
-use Rattle.ghc_records.specs.Orders.{AreDistinct}
-use Rattle.ghc_records.specs.Record.{State, Record, numbers, after, Fires}
-use Rattle.ghc_records.specs.Replay.{query_state, IsVariableOf}
-use Rattle.ghc_records.specs.Journal.{Opening, Entry}
-use Rattle.ghc_records.proofs.OrderLemmas.{number_in, number_of, record_once, numbers_append}
-use Rattle.ghc_records.proofs.Effects.{HasOnly, has_more, after_has, after_acyclic}
-use Rattle.ghc_records.proofs.Replaying.{of_query, replay_well}
-use Rattle.ghc_records.proofs.StreamLemmas.{OneEach, after_one_each, run_one_each, query_one_each}
-use Rattle.ghc_depend.specs.Depend.{GoesWith}
-use Rattle.ghc_depend.specs.Lawful.{IsLawful, IsInOrder}
-use Rattle.ghc_depend.proofs.Picking.{picks_in, records_push}
-use Rattle.ghc_depend.proofs.KeptOnce.{shelved, unshelved}
-use Rattle.ghc_core.specs.World.{Hands, World, IsReplay, IsKnown, IsNextStep, with_step, Opens}
-use Rattle.ghc_core.specs.declared.change.Change.{Change}
-use Rattle.ghc_core.specs.declared.change.Change.TheVariants.{Comes as comes, Goes as goes, Reorders as reorders}
-use Rattle.ghc_core.specs.declared.change.Coming.{Coming}
-use Rattle.ghc_core.specs.Gone.{all_gone}
-use Rattle.ghc_core.specs.Change.{with_coming, without_steps, CanChange, Changes}
-use Rattle.ghc_core.specs.Reached.{AreNamesOf, IsSound, Reaches, from_opening, by_change}
-use Rattle.ghc_core.specs.Legal.{IsReachable}
 use Rattle.ghc_core.specs.Laws as laws
 use Rattle.ghc_core.proofs.Moving.{reachable_reached}
 use Rattle.ghc_core.proofs.Naming.{known_more}

@@ -1,33 +1,7 @@
 -- What an undo or a rollback took away can be redone, which gives back the old state.
-use Rattle.std.proofs.Common.{◌≡◌, ℕ, ◌+◌, ◌≤◌, true, false, cond, List, [], ◌∷◌, ◌++◌, map, length, refl, sym, ap, ◌∙◌, subst, subst₂, inl, inr, arith, Some, None}
-use Rattle.std.proofs.lemmas.List.{length-append, append_assoc}
-use Rattle.std.specs.Ordering.{eq_by_cmp, is_eq, nat_cmp}
-use Rattle.std.specs.Cmp.{nat_cmp_total, tied_itself}
+use Rattle.ghc_core.proofs.Words.{◌≡◌, ℕ, ◌+◌, ◌≤◌, true, false, cond, List, [], ◌∷◌, ◌++◌, map, length, refl, sym, ap, ◌∙◌, subst, subst₂, inl, inr, arith, Some, None, length-append, eq_by_cmp, is_eq, nat_cmp, nat_cmp_total, tied_itself, In, in_either, kept_limit, AreDistinct, State, Record, numbers, Shelf, query_state, Runs, NameWhatIsKnown, Entry, number_in, records_distinct, run_once, GoesWith, IsClosedUnder, IsPartedBy, with_shelved, both_distinct, come_back, split_closed, no_longer, picks_in, picks_distinct, same_number, runs_split, Change, Comes as comes, Goes as goes, Reorders as reorders, Coming, all_gone, Hands, World, IsReplay, with_coming, entry_of_going, without_steps, CanChange, Changes, Command, redo, command, stepped, undone, to_redo, told_of, Obeys, does, AnswersEach}
+use Rattle.std.proofs.lemmas.List.{append_assoc}
 use Rattle.std.specs.FinMap as finite
-use Rattle.ghc_term.specs.Lists.{In}
-use Rattle.ghc_term.proofs.ListsLemmas.{in_either}
-use Rattle.ghc_records.specs.Numbers.{kept_limit}
-use Rattle.ghc_records.specs.Orders.{AreDistinct}
-use Rattle.ghc_records.specs.Record.{State, Record, numbers, Shelf}
-use Rattle.ghc_records.specs.Replay.{query_state, Runs, NameWhatIsKnown}
-use Rattle.ghc_records.specs.Journal.{Entry}
-use Rattle.ghc_records.proofs.OrderLemmas.{number_in, records_distinct}
-use Rattle.ghc_records.proofs.Replaying.{run_once}
-use Rattle.ghc_depend.specs.Depend.{GoesWith}
-use Rattle.ghc_depend.specs.Deletion.{IsClosedUnder, IsPartedBy}
-use Rattle.ghc_depend.specs.Kept.{with_shelved}
-use Rattle.ghc_depend.proofs.ComingBack.{both_distinct, come_back}
-use Rattle.ghc_depend.proofs.Following.{split_closed}
-use Rattle.ghc_depend.proofs.Picking.{no_longer, picks_in, picks_distinct}
-use Rattle.ghc_depend.proofs.KeptOnce.{same_number, runs_split}
-use Rattle.ghc_core.specs.declared.change.Change.{Change}
-use Rattle.ghc_core.specs.declared.change.Change.TheVariants.{Comes as comes, Goes as goes, Reorders as reorders}
-use Rattle.ghc_core.specs.declared.change.Coming.{Coming}
-use Rattle.ghc_core.specs.Gone.{all_gone}
-use Rattle.ghc_core.specs.World.{Hands, World, IsReplay}
-use Rattle.ghc_core.specs.Change.{with_coming, entry_of_going, without_steps, CanChange, Changes}
-use Rattle.ghc_core.specs.Events.{Command, redo, command, stepped, undone}
-use Rattle.ghc_core.specs.Answers.{to_redo, told_of, Obeys, does, AnswersEach}
 use Rattle.ghc_core.specs.Returns as laws
 use Rattle.ghc_core.proofs.Moving.{obeyed_answers, reachable_reached}
 use Rattle.ghc_core.proofs.Reaching.{Good, reached_good}

@@ -1,10 +1,6 @@
 -- What is known where a step is not redone.
-use Rattle.std.proofs.Common.{◌≡◌, ℕ, refl, sym, ◌∙◌, subst, inl, inr, Some, None, Result, Ok, Err, IfOk}
+use Rattle.ghc_core.proofs.Words.{◌≡◌, ℕ, refl, sym, ◌∙◌, subst, inl, inr, Some, None, Result, Ok, Err, IfOk, Fault, Record, World, IsKnown, RedoFails, LacksGoal}
 use Rattle.std.specs.FinMap as finite
-use Rattle.ghc_term.specs.declared.fault.Fault.{Fault}
-use Rattle.ghc_records.specs.Record.{Record}
-use Rattle.ghc_core.specs.World.{World, IsKnown}
-use Rattle.ghc_core.specs.Refusals.{RedoFails, LacksGoal}
 use Rattle.ghc_core.proofs.Refusing.{value_once}
 
 -- what is known of an answer leads to more about it

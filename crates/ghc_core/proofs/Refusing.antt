@@ -1,20 +1,6 @@
 -- Refusals: each cause, which is told alone, and no cause where what is asked for can be done.
-use Rattle.std.proofs.Common.{◌≡◌, ◌≢◌, ℕ, ◌≤◌, List, Option, length, refl, sym, ◌∙◌, subst, inl, inr, Some, None}
+use Rattle.ghc_core.proofs.Words.{◌≡◌, ◌≢◌, ℕ, ◌≤◌, List, Option, length, refl, sym, ◌∙◌, subst, inl, inr, Some, None, GoalName, VarName, Fault, Tree, IsValue, value_at, EndsIn, kept_limit, Goal, Record, IsThere, Fires, IsKeptAs, IsNotKept, IsFirstConsequence, Proposal, World, IsFull, IsKnown, IsToldWhere, OrElse, UndoFails, LacksGoal, IsShelvedWith, RedoFails, IsStreamAt, StreamFails, StillHolds, CommitFails}
 use Rattle.std.specs.FinMap as finite
-use Rattle.ghc_term.specs.declared.goal_name.GoalName.{GoalName}
-use Rattle.ghc_term.specs.declared.var_name.VarName.{VarName}
-use Rattle.ghc_term.specs.declared.fault.Fault.{Fault}
-use Rattle.ghc_term.specs.Tree.{Tree, IsValue}
-use Rattle.ghc_term.specs.Store.{value_at}
-use Rattle.ghc_match.specs.Position.{EndsIn}
-use Rattle.ghc_records.specs.Numbers.{kept_limit}
-use Rattle.ghc_term.specs.Goal.{Goal}
-use Rattle.ghc_records.specs.Record.{Record, IsThere, Fires}
-use Rattle.ghc_depend.specs.Depend.{IsKeptAs, IsNotKept, IsFirstConsequence}
-use Rattle.ghc_core.specs.World.{Proposal, World, IsFull, IsKnown}
-use Rattle.ghc_core.specs.Refusals.{IsToldWhere, OrElse, UndoFails, LacksGoal, IsShelvedWith, RedoFails}
-use Rattle.ghc_core.specs.Streams.{IsStreamAt, StreamFails}
-use Rattle.ghc_core.specs.Proposes.{StillHolds, CommitFails}
 
 -- A cause tells one fault at most.
 abbrev pub TellsOne : (Fault → Type 0) → Type 0
@@ -29,6 +15,15 @@ first_once First Next first next f g (inl p) (inl q) = first f g p q
 first_once First Next first next f g (inl p) (inr q) = absurd (q.0 f p)
 first_once First Next first next f g (inr p) (inl q) = absurd (p.0 g q)
 first_once First Next first next f g (inr p) (inr q) = next f g p.1 q.1
+
+-- Where the first cause holds, it is told; where it does not, another one is the cause.
+pub told_first : (told : Fault) (Holds : Type 0) (Next : Fault → Type 0) (f : Fault) → Holds → OrElse (IsToldWhere told Holds) Next f → f ≡ told
+told_first told Holds Next f holds (inl p) = p.0
+told_first told Holds Next f holds (inr p) = absurd (p.0 told (refl, holds))
+
+pub told_next : (told : Fault) (Holds : Type 0) (Next : Fault → Type 0) (f : Fault) → ¬ Holds → OrElse (IsToldWhere told Holds) Next f → Next f
+told_next told Holds Next f none (inl p) = absurd (none p.1)
+told_next told Holds Next f none (inr p) = p.1
 
 -- what a map has and has not at a key
 pub has_not : {A : Type 0} {x : A} {o : Option A} → o ≡ Some x → o ≡ None → ⊥

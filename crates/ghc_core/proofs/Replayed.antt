@@ -1,30 +1,7 @@
 -- The state of a world that is reached is the replay of its kept steps.
-use Rattle.std.proofs.Common.{◌≡◌, ℕ, ◌+◌, ◌<◌, ◌≤◌, List, [], ◌∷◌, ◌++◌, length, sym, ap, ◌∙◌, subst, inl, inr, arith, Some, None}
-use Rattle.std.specs.Ordering.{nat_cmp}
+use Rattle.ghc_core.proofs.Words.{◌≡◌, ℕ, ◌+◌, ◌<◌, ◌≤◌, List, [], ◌∷◌, ◌++◌, length, sym, ap, ◌∙◌, subst, inl, inr, arith, Some, None, nat_cmp, length-append, In, in_either, Program, number_limit, kept_limit, IsStepNumber, AreDistinct, State, Record, Shelf, numbers, after, Fires, query_state, Runs, Entry, records_distinct, not_both, shelved, unshelved, no_longer, picks_in, records_push, place_of, IsAsking, firing, World, IsReplay, IsKnown, IsNextStep, Change, Comes as comes, Goes as goes, Reorders as reorders, Coming, all_gone, without_steps, CanChange, Changes, Reaches, from_opening, by_change}
 use Rattle.std.specs.FinMap as finite
-use Rattle.std.proofs.lemmas.List.{length-append}
-use Rattle.ghc_term.specs.Lists.{In}
-use Rattle.ghc_term.proofs.ListsLemmas.{in_either}
-use Rattle.ghc_flat.specs.Clause.{Program}
-use Rattle.ghc_records.specs.Numbers.{number_limit, kept_limit, IsStepNumber}
-use Rattle.ghc_records.specs.Orders.{AreDistinct}
-use Rattle.ghc_records.specs.Record.{State, Record, Shelf, numbers, after, Fires}
-use Rattle.ghc_records.specs.Replay.{query_state, Runs}
-use Rattle.ghc_records.specs.Journal.{Entry}
-use Rattle.ghc_records.proofs.OrderLemmas.{records_distinct}
 use Rattle.ghc_depend.proofs.Arranging.{arranged}
-use Rattle.ghc_depend.proofs.Finding.{not_both}
-use Rattle.ghc_depend.proofs.KeptOnce.{shelved, unshelved}
-use Rattle.ghc_depend.proofs.Picking.{no_longer, picks_in, records_push}
-use Rattle.ghc_depend.proofs.Placing.{place_of}
-use Rattle.ghc_depend.proofs.Results.{IsAsking, firing}
-use Rattle.ghc_core.specs.World.{World, IsReplay, IsKnown, IsNextStep}
-use Rattle.ghc_core.specs.declared.change.Change.{Change}
-use Rattle.ghc_core.specs.declared.change.Change.TheVariants.{Comes as comes, Goes as goes, Reorders as reorders}
-use Rattle.ghc_core.specs.declared.change.Coming.{Coming}
-use Rattle.ghc_core.specs.Gone.{all_gone}
-use Rattle.ghc_core.specs.Change.{without_steps, CanChange, Changes}
-use Rattle.ghc_core.specs.Reached.{Reaches, from_opening, by_change}
 use Rattle.ghc_core.specs.Returns as laws
 use Rattle.ghc_core.proofs.Moving.{reachable_reached}
 use Rattle.ghc_core.proofs.Naming.{named_push}

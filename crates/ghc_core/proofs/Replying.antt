@@ -1,23 +1,9 @@
 -- What a core replies to commands and notes is the answer of the definitions.
-use Rattle.std.proofs.Common.{◌≡◌, ◌⊎◌, ℕ, refl, sym, ap, ◌∙◌, subst, subst₂, inl, inr, Some, None}
-use Rattle.std.specs.Prelude.{Option, false}
+use Rattle.ghc_core.proofs.Words.{◌≡◌, ◌⊎◌, ℕ, refl, sym, ap, ◌∙◌, subst, subst₂, inl, inr, Some, None, Option, false, GoalName, Fault, Goal, call, unify, assign, stream, value_at, is_stream, Status, failed, HasStatus, Note, Proposal, Hands, IsHand, with_hand, emptied, World, IsCommitted, Command, propose, commit, Reply, held, stepped, noted, refused, IsNoteOf, Fails, Obeys, does, refuses, starves, by_hand, Says, Answers, makes, says, fails, no_memory, IsCauseOfFailure}
 use Rattle.std.specs.FinMap as finite
-use Rattle.ghc_term.specs.declared.goal_name.GoalName.{GoalName}
-use Rattle.ghc_term.specs.declared.fault.Fault.{Fault}
-use Rattle.ghc_term.specs.Goal.{Goal, call, unify, assign, stream}
-use Rattle.ghc_term.specs.Store.{value_at}
-use Rattle.ghc_flat.specs.Flat.{is_stream}
 use Rattle.ghc_fire.specs.Attempt as attempt
-use Rattle.ghc_hooks.specs.Status.{Status, failed, HasStatus}
-use Rattle.ghc_hooks.specs.Notes.{Note}
-use Rattle.ghc_core.specs.World.{Proposal, Hands, IsHand, with_hand, emptied, World}
-use Rattle.ghc_core.specs.Core.{IsCommitted}
-use Rattle.ghc_core.specs.Events.{Command, propose, commit, Reply, held, stepped, noted, refused}
 use Rattle.ghc_core.specs.Proposes as asking
-use Rattle.ghc_core.specs.Settling.{IsNoteOf}
-use Rattle.ghc_core.specs.Answers.{Fails, Obeys, does, refuses, starves, by_hand, Says, Answers, makes, says, fails, no_memory}
 use Rattle.ghc_core.proofs.Refusing.{has_not}
-use Rattle.ghc_core.specs.Playing.{IsCauseOfFailure}
 
 -- Memory was refused, or not: nothing is known of it.
 abbrev pub Unknown : Type 0

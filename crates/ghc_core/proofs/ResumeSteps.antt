@@ -1,19 +1,7 @@
 -- A chronicle is carried out entry by entry: what was done so far, and where it stops.
-use Rattle.std.proofs.Common.{◌≡◌, ◌⊎◌, ℕ, suc, ◌+◌, ◌<◌, ◌≤◌, List, [], ◌∷◌, ◌++◌, map, length, take, drop, get_or, refl, sym, ap, ◌∙◌, subst, inl, inr, arith, zero, slice_get, Some, None, append_assoc}
-use Rattle.std.proofs.Math.Seq.{take-suc}
-use Rattle.std.proofs.lemmas.List.{map-append, take_all, length-map}
-use Rattle.std.specs.Prelude.{Ok, Err}
-use Rattle.ghc_term.specs.declared.fault.Fault.{Fault}
-use Rattle.ghc_term.proofs.ListsLemmas.{splits_at}
-use Rattle.ghc_flat.specs.Clause.{Program, Query}
-use Rattle.ghc_records.specs.Journal.{Opening, Entry}
-use Rattle.ghc_records.specs.declared.predicate.Predicate.{Predicate}
-use Rattle.ghc_records.specs.declared.written_entry.WrittenEntry.{WrittenEntry}
-use Rattle.ghc_records.specs.Chronicle.{Chronicle}
-use Rattle.ghc_records.specs.WrittenEntryCode.{said_by}
-use Rattle.ghc_core.specs.World.{World}
-use Rattle.ghc_core.specs.Load.{Loads, loads, stops, no_memory}
-use Rattle.ghc_core.specs.Resume.{CarriesOut, CarriesOutEach, IsRefusedEntry, StopsBehind, IsPredicateOf, ArePredicatesOf, LacksBehind, IsOpened, Resumes, no_step, no_entry, no_spy, line_of_entry, line_of_spy}
+use Rattle.ghc_core.proofs.Words.{◌≡◌, ◌⊎◌, ℕ, suc, ◌+◌, ◌<◌, ◌≤◌, List, [], ◌∷◌, ◌++◌, map, length, take, drop, get_or, refl, sym, ap, ◌∙◌, subst, inl, inr, arith, zero, slice_get, Some, None, append_assoc, take-suc, map-append, take_all, length-map, Ok, Err, Fault, splits_at, Program, Query, Opening, Entry, Predicate, WrittenEntry, Chronicle, said_by, World, Loads, loads, stops, CarriesOut, CarriesOutEach, IsRefusedEntry, StopsBehind, IsPredicateOf, ArePredicatesOf, LacksBehind, IsOpened, Resumes, no_entry, no_spy, line_of_entry, line_of_spy}
+use Rattle.ghc_core.specs.Load.{no_memory}
+use Rattle.ghc_core.specs.Resume.{no_step}
 use Rattle.ghc_core.proofs.ResumedOnce.{each_push, each_grown}
 
 taken_length : {X : Type 0} (xs : List X) (i : ℕ) → i ≤ length xs → length (take i xs) ≡ i

@@ -1,24 +1,6 @@
 -- A chronicle has one answer, what is told of a world is carried out again, and what is carried out is told again.
-use Rattle.std.proofs.Common.{◌≡◌, ℕ, List, [], ◌∷◌, ◌++◌, map, length, drop, refl, sym, ap, ◌∙◌, subst, subst₂, inl, inr, append_assoc, append-nil}
-use Rattle.std.specs.Prelude.{Result, Ok, Err}
-use Rattle.ghc_term.specs.declared.fault.Fault.{Fault}
-use Rattle.ghc_term.proofs.Exact.{exact}
-use Rattle.ghc_term.specs.Lists.{In}
-use Rattle.ghc_term.proofs.ListsLemmas.{compare_splits, in_middle}
-use Rattle.ghc_flat.specs.Clause.{Program, Query}
-use Rattle.ghc_records.specs.Journal.{Step, Opening, Entry, took, history, opening_journal}
-use Rattle.ghc_records.specs.History.{IsHistory, loaded_opening}
-use Rattle.ghc_core.specs.declared.change.Change.{Change}
-use Rattle.ghc_core.specs.declared.change.Change.TheVariants.{Comes as comes, Goes as goes, Reorders as reorders}
-use Rattle.ghc_core.specs.declared.change.Coming.{Coming}
-use Rattle.ghc_core.specs.declared.change.Going.{Going}
-use Rattle.ghc_records.specs.declared.predicate.Predicate.{Predicate}
-use Rattle.ghc_records.specs.Chronicle.{Chronicle, next_after, next_behind}
-use Rattle.ghc_core.specs.World.{World, Opens}
-use Rattle.ghc_core.specs.Change.{CanChange, Changes}
-use Rattle.ghc_core.specs.Reached.{IsSound, Reaches, from_opening, by_change}
-use Rattle.ghc_core.specs.Legal.{Leaves, the_opening, and_entry}
-use Rattle.ghc_core.specs.Resume.{CarriesOut, CarriesOutEach, StopsBehind, LacksBehind, IsCarriedOut, Resumes, resumes, no_step, no_entry, no_spy, no_memory, line_of_entry, line_of_spy, opening_of, chronicle_of_world}
+use Rattle.ghc_core.proofs.Words.{◌≡◌, ℕ, List, [], ◌∷◌, ◌++◌, map, length, drop, refl, sym, ap, ◌∙◌, subst, subst₂, inl, inr, append_assoc, append-nil, Result, Ok, Err, Fault, exact, In, compare_splits, in_middle, Program, Query, Step, Opening, Entry, took, history, opening_journal, IsHistory, loaded_opening, Change, Comes as comes, Goes as goes, Reorders as reorders, Coming, Going, Predicate, Chronicle, next_after, next_behind, World, Opens, CanChange, Changes, IsSound, Reaches, from_opening, by_change, Leaves, the_opening, and_entry, CarriesOut, CarriesOutEach, StopsBehind, LacksBehind, IsCarriedOut, Resumes, resumes, no_entry, no_spy, line_of_entry, line_of_spy, opening_of, chronicle_of_world}
+use Rattle.ghc_core.specs.Resume.{no_step, no_memory}
 use Rattle.ghc_core.specs.ResumeLaws as laws
 use Rattle.ghc_core.proofs.Histories.{history_push, leaves_once}
 use Rattle.ghc_core.proofs.LoadedAgain.{one_world, no_stop, one_stop}

@@ -1,19 +1,5 @@
 -- Entries are carried out by the changes that enter them, and each is carried out in one way.
-use Rattle.std.proofs.Common.{◌≡◌, ◌≢◌, ℕ, List, [], ◌∷◌, ◌++◌, refl, sym, ap, ◌∙◌, subst, inl, inr}
-use Rattle.ghc_term.specs.declared.fault.Fault.{Fault}
-use Rattle.ghc_records.specs.Record.{Record}
-use Rattle.ghc_records.specs.Journal.{Step, Entry, took, undid, rolled, redid, reordered, step_of}
-use Rattle.ghc_core.specs.declared.change.Change.{Change}
-use Rattle.ghc_core.specs.declared.change.Change.TheVariants.{Comes as comes, Goes as goes, Reorders as reorders}
-use Rattle.ghc_core.specs.declared.change.Coming.{Coming}
-use Rattle.ghc_core.specs.declared.change.Going.{Going}
-use Rattle.ghc_core.specs.World.{no_hands, World, IsNextStep, with_step}
-use Rattle.ghc_core.specs.Change.{CanChange, Changes, entry_of_going}
-use Rattle.ghc_core.specs.Core.{IsStanding}
-use Rattle.ghc_core.specs.Events.{Command, undo, roll, redo, arrange, command, refused}
-use Rattle.ghc_core.specs.Answers.{Asks, to_undo, to_roll, to_redo, to_arrange, told_of, Fails, by_command, makes, fails}
-use Rattle.ghc_core.specs.Asked.{IsAskedFor}
-use Rattle.ghc_core.specs.Resume.{CarriesOut, IsRefusedEntry}
+use Rattle.ghc_core.proofs.Words.{◌≡◌, ◌≢◌, ℕ, List, [], ◌∷◌, ◌++◌, refl, sym, ap, ◌∙◌, subst, inl, inr, Fault, Record, Step, Entry, took, undid, rolled, redid, reordered, step_of, Change, Comes as comes, Goes as goes, Reorders as reorders, Coming, Going, no_hands, World, IsNextStep, with_step, CanChange, Changes, entry_of_going, IsStanding, Command, undo, roll, redo, arrange, command, refused, Asks, to_undo, to_roll, to_redo, to_arrange, told_of, Fails, by_command, makes, fails, IsAskedFor, CarriesOut, IsRefusedEntry}
 use Rattle.ghc_core.proofs.Answering.{events_once}
 use Rattle.ghc_core.proofs.Histories.{change_entered, not_longer}
 use Rattle.ghc_core.proofs.Moving.{answered_moves}

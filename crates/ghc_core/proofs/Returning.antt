@@ -1,35 +1,8 @@
 -- Steps are taken away, and what was taken last is undone.
-use Rattle.std.proofs.Common.{◌≡◌, ℕ, true, false, List, [], ◌∷◌, ◌++◌, refl, sym, subst, inl, inr, ap}
-use Rattle.ghc_term.specs.Lists.{In}
-use Rattle.ghc_term.specs.declared.fault.Fault.{Fault}
-use Rattle.ghc_term.proofs.ListsLemmas.{in_right, in_either}
-use Rattle.ghc_term.proofs.Decided.{nat_decided, in_decided}
-use Rattle.ghc_records.specs.Orders.{nothing, take, leave, AreDistinct}
-use Rattle.ghc_records.specs.Record.{State, Record, numbers}
-use Rattle.ghc_records.specs.Replay.{query_state, Runs}
-use Rattle.ghc_records.specs.Journal.{undid, rolled}
-use Rattle.ghc_records.proofs.Replaying.{run_once}
-use Rattle.ghc_records.proofs.OrderLemmas.{picks_once, Before, is_before, before_in, before_once, number_in, number_of, records_distinct}
-use Rattle.ghc_depend.specs.Depend.{DependsOn, Follows, directly, further, IsKeptAs}
-use Rattle.ghc_depend.specs.Deletion.{IsWithoutSteps}
-use Rattle.ghc_depend.specs.Kept.{IsWithout, IsSplitAt}
-use Rattle.ghc_depend.specs.Lawful.{IsLawful, IsInOrder}
-use Rattle.ghc_depend.proofs.Arranging.{neighbours_lawful}
-use Rattle.ghc_depend.proofs.Following.{first_or_none}
-use Rattle.ghc_depend.proofs.Picking.{before_front, records_push}
+use Rattle.ghc_core.proofs.Words.{◌≡◌, ℕ, true, false, List, [], ◌∷◌, ◌++◌, refl, sym, subst, inl, inr, ap, In, Fault, in_right, in_either, nat_decided, in_decided, nothing, leave, AreDistinct, State, Record, numbers, query_state, Runs, undid, rolled, run_once, picks_once, Before, is_before, before_in, before_once, number_in, number_of, records_distinct, DependsOn, Follows, directly, further, IsKeptAs, IsWithoutSteps, IsWithout, IsSplitAt, IsLawful, IsInOrder, neighbours_lawful, first_or_none, before_front, records_push, first_gone, Change, Comes as comes, Goes as goes, Reorders as reorders, Coming, Going, Gone, all_gone, no_hands, Hands, World, IsReplay, with_step, with_coming, without_steps, with_order, CanChange, Changes, undo, roll, Event, Reply, stepped, undone, refused, to_undo, to_roll, to_arrange, told_of, Obeys, does, refuses, Answers, makes, says, Reaches}
+use Rattle.ghc_records.specs.Orders.{take}
 use Rattle.ghc_depend.proofs.Undoing as undoing
-use Rattle.ghc_depend.proofs.TakenTogether.{first_gone}
-use Rattle.ghc_core.specs.declared.change.Change.{Change}
-use Rattle.ghc_core.specs.declared.change.Change.TheVariants.{Comes as comes, Goes as goes, Reorders as reorders}
-use Rattle.ghc_core.specs.declared.change.Coming.{Coming}
-use Rattle.ghc_core.specs.declared.change.Going.{Going}
-use Rattle.ghc_core.specs.Gone.{Gone, all_gone}
 use Rattle.ghc_core.proofs.Alone.{goes_alone, others_left}
-use Rattle.ghc_core.specs.World.{no_hands, Hands, World, IsReplay, with_step}
-use Rattle.ghc_core.specs.Change.{with_coming, without_steps, with_order, CanChange, Changes}
-use Rattle.ghc_core.specs.Events.{undo, roll, Event, Reply, stepped, undone, refused}
-use Rattle.ghc_core.specs.Answers.{to_undo, to_roll, to_arrange, told_of, Obeys, does, refuses, Answers, makes, says}
-use Rattle.ghc_core.specs.Reached.{Reaches}
 use Rattle.ghc_core.specs.Returns as laws
 use Rattle.ghc_core.proofs.Reaching.{Good, reached_good, reachable_good}
 use Rattle.ghc_core.proofs.Replayed.{not_next, replayed, reachable_replay}

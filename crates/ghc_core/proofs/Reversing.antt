@@ -1,15 +1,6 @@
 -- A step is not undone, or not redone, for one reason, and not where it can be.
-use Rattle.std.proofs.Common.{◌≡◌, ℕ, ◌<◌, List, length, sym, ap, ◌∙◌, subst, inl, inr, arith, Some}
+use Rattle.ghc_core.proofs.Words.{◌≡◌, ℕ, ◌<◌, List, length, sym, ap, ◌∙◌, subst, inl, inr, arith, Some, kept_limit, Fault, AreDistinct, Record, numbers, Fires, record_once, Follows, IsKeptAs, IsFirstConsequence, consequences, World, IsKnown, HasConsequence, UndoFails, RedoFails}
 use Rattle.std.specs.FinMap as finite
-use Rattle.ghc_records.specs.Numbers.{kept_limit}
-use Rattle.ghc_term.specs.declared.fault.Fault.{Fault}
-use Rattle.ghc_records.specs.Orders.{AreDistinct}
-use Rattle.ghc_records.specs.Record.{Record, numbers, Fires}
-use Rattle.ghc_records.proofs.OrderLemmas.{record_once}
-use Rattle.ghc_depend.specs.Depend.{Follows, IsKeptAs, IsFirstConsequence}
-use Rattle.ghc_depend.proofs.Once.{consequences}
-use Rattle.ghc_core.specs.World.{World, IsKnown}
-use Rattle.ghc_core.specs.Refusals.{HasConsequence, UndoFails, RedoFails}
 use Rattle.ghc_core.proofs.Refusing.{TellsOne, told_once, first_once, has_not, value_once, finds}
 
 -- a number has one kept record

@@ -1,36 +1,6 @@
 -- A kept step and its consequences are taken away, the last one first, and the world that is left stands.
-use Rattle.std.proofs.Common.{◌≡◌, ◌≢◌, ◌⊎◌, ℕ, List, [], ◌∷◌, ◌++◌, refl, sym, ap, ◌∙◌, subst, inl, inr, append_assoc}
-use Rattle.std.specs.Prelude.{Option, Some, None, IsSome, IfSome, IfNone}
+use Rattle.ghc_core.proofs.Words.{◌≡◌, ◌≢◌, ◌⊎◌, ℕ, List, [], ◌∷◌, ◌++◌, refl, sym, ap, ◌∙◌, subst, inl, inr, append_assoc, Option, Some, None, IsSome, IfSome, IfNone, VarName, GoalName, In, in_left, in_right, in_more, in_last, Goals, Picks, AreDistinct, State, Record, numbers, Shelf, IsTakenBack, AreTakenBack, Opening, Entry, undid, number_of, Note, NotesByGoal, AreLeft, Tries, Binds, IsBoundIn, with_shelved, IsSplitAt, by_option, not_both, alone, picks_has, results_of, apart_behind, picks_all, picks_within, alone_left, rest_left, gone_kept, gone_distinct, World, IsReplay, Goes as goes, Going, Gone, all_gone, by_change, IsStanding, AreExactIn, CanChange, Changes, entry_of_going, Consumed, AreCarriedBack, AreAllCarriedBack, told_back, all_told_back, TellStreams}
 use Rattle.std.specs.FinMap as finite
-use Rattle.ghc_term.specs.declared.var_name.VarName.{VarName}
-use Rattle.ghc_term.specs.declared.goal_name.GoalName.{GoalName}
-use Rattle.ghc_term.specs.Lists.{In}
-use Rattle.ghc_term.proofs.ListsLemmas.{in_left, in_right, in_more, in_last}
-use Rattle.ghc_fire.specs.Goals.{Goals}
-use Rattle.ghc_records.specs.Orders.{Picks, AreDistinct}
-use Rattle.ghc_records.specs.Record.{State, Record, numbers, Shelf}
-use Rattle.ghc_records.specs.State.{IsTakenBack, AreTakenBack}
-use Rattle.ghc_records.specs.Journal.{Opening, Entry, undid}
-use Rattle.ghc_records.proofs.OrderLemmas.{number_of}
-use Rattle.ghc_hooks.specs.Notes.{Note, NotesByGoal, AreLeft}
-use Rattle.ghc_hooks.specs.Tries.{Tries}
-use Rattle.ghc_depend.specs.Depend.{Binds}
-use Rattle.ghc_depend.specs.Deletion.{IsBoundIn}
-use Rattle.ghc_depend.specs.Kept.{with_shelved, IsSplitAt}
-use Rattle.ghc_depend.proofs.Finding.{by_option, not_both}
-use Rattle.ghc_depend.proofs.Following.{alone}
-use Rattle.ghc_depend.proofs.Picking.{picks_has}
-use Rattle.ghc_depend.proofs.Placing.{results_of}
-use Rattle.ghc_depend.proofs.TakenTogether.{apart_behind, picks_all, picks_within, alone_left, rest_left, gone_kept, gone_distinct}
-use Rattle.ghc_core.specs.World.{World, IsReplay}
-use Rattle.ghc_core.specs.declared.change.Change.TheVariants.{Goes as goes}
-use Rattle.ghc_core.specs.declared.change.Going.{Going}
-use Rattle.ghc_core.specs.Gone.{Gone, all_gone}
-use Rattle.ghc_core.specs.Reached.{by_change}
-use Rattle.ghc_core.specs.Core.{IsStanding, AreExactIn}
-use Rattle.ghc_core.specs.Change.{CanChange, Changes, entry_of_going}
-use Rattle.ghc_core.specs.Carried.{Consumed, AreCarriedBack, AreAllCarriedBack}
-use Rattle.ghc_core.specs.StreamGoals.{told_back, all_told_back, TellStreams}
 use Rattle.ghc_core.proofs.Exactness.{back_exact, back_left}
 use Rattle.ghc_core.proofs.Alone.{goes_alone}
 use Rattle.ghc_core.proofs.Preparing.{same_world}

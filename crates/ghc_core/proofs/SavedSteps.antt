@@ -1,29 +1,5 @@
 -- A part of each record, one slot more at a time; and the history of a standing world is of the form.
-use Rattle.std.proofs.Common.{◌≡◌, ℕ, suc, ◌+◌, ◌<◌, ◌≤◌, List, [], ◌∷◌, ◌++◌, drop, drop-cons, length, map, sym, ap, ◌∙◌, subst, inl, inr, slice_get, append_assoc, append-nil, drop_of_length-le, refl, arith}
-use Rattle.std.specs.Prelude.{Option, Some}
-use Rattle.std.proofs.lemmas.Bool.{cases_lt}
-use Rattle.std.proofs.lemmas.Option.{slice_get_within, get_or_from_slice_get}
-use Rattle.ghc_term.specs.declared.var_name.VarName.{VarName}
-use Rattle.ghc_term.specs.Tree.{Tree}
-use Rattle.ghc_term.specs.Goal.{Goal, call, unify, assign, stream}
-use Rattle.ghc_term.specs.Lists.{In}
-use Rattle.ghc_term.proofs.ListsLemmas.{in_at}
-use Rattle.ghc_term.specs.Store.{value_at}
-use Rattle.ghc_flat.specs.Clause.{Program}
-use Rattle.ghc_fire.specs.declared.act.Act.TheVariants.{ByClause as by_clause}
-use Rattle.ghc_fire.specs.Effect.{Effect, HasEffect}
-use Rattle.ghc_records.specs.Orders.{AreDistinct}
-use Rattle.ghc_records.specs.Record.{Record, numbers}
-use Rattle.ghc_records.specs.History.{IsHistory}
-use Rattle.ghc_records.specs.Journal.{Step, step_of}
-use Rattle.ghc_records.specs.Slots.{SlotList, held_in, StandsIn}
-use Rattle.ghc_records.proofs.SlotLemmas.{held_stands}
-use Rattle.ghc_records.proofs.SlotRanks.{rank, rank_zero, rank_end, rank_stands, rank_next, rank_gap}
-use Rattle.ghc_depend.proofs.Results.{Taken, firing}
-use Rattle.ghc_depend.proofs.Placing.{Place, place_of}
-use Rattle.ghc_core.specs.World.{World}
-use Rattle.ghc_core.specs.Core.{IsStanding}
-use Rattle.ghc_core.specs.Load.{AsksForGoals, AskForGoals, KeepsSlot, history_of}
+use Rattle.ghc_core.proofs.Words.{◌≡◌, ℕ, suc, ◌+◌, ◌<◌, ◌≤◌, List, [], ◌∷◌, ◌++◌, drop, drop-cons, length, map, sym, ap, ◌∙◌, subst, inl, inr, slice_get, append_assoc, append-nil, drop_of_length-le, refl, arith, Option, Some, cases_lt, slice_get_within, get_or_from_slice_get, VarName, Tree, Goal, call, unify, assign, stream, In, in_at, value_at, Program, ByClause as by_clause, Effect, HasEffect, AreDistinct, Record, numbers, IsHistory, Step, step_of, SlotList, held_in, StandsIn, held_stands, rank, rank_zero, rank_end, rank_stands, rank_next, rank_gap, Taken, firing, Place, place_of, World, IsStanding, AsksForGoals, AskForGoals, KeepsSlot, history_of}
 use Rattle.ghc_core.proofs.Reaching.{reached_good}
 use Rattle.ghc_core.proofs.Replayed.{replayed}
 

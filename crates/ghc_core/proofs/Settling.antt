@@ -1,27 +1,8 @@
 -- Goals are tried and noted one after another.
-use Rattle.std.proofs.Common.{◌≡◌, ℕ, zero, suc, ◌+◌, ◌-◌, ◌<◌, ◌≤◌, List, false, cond, refl, sym, ap, subst, ◌∙◌, inl, inr, arith}
-use Rattle.std.specs.Prelude.{Some, None, IsTrue}
-use Rattle.std.specs.Ordering.{eq_by_cmp}
+use Rattle.ghc_core.proofs.Words.{◌≡◌, ℕ, zero, suc, ◌+◌, ◌-◌, ◌<◌, ◌≤◌, List, false, cond, refl, sym, ap, subst, ◌∙◌, inl, inr, arith, Some, None, IsTrue, eq_by_cmp, GoalName, Goal, StoreValue, value_at, Program, is_stream, goal_cmp, Goals, tried, Meter, goal_total, goal_antisymmetric, GoalNames, Note, NotesByGoal, IsExact, AreExact, goal_itself, goal_cases, goal_taken, put_here, put_elsewhere, same_note, World, IsConsistent, AreExactIn, tells, IsNoteOf, AreKept, IsNoted, AreNoted, tried_often}
 use Rattle.std.specs.FinMap as finite
 use Rattle.std.specs.FinSet as set
-use Rattle.ghc_term.specs.declared.goal_name.GoalName.{GoalName}
-use Rattle.ghc_term.specs.Goal.{Goal}
-use Rattle.ghc_term.specs.Store.{StoreValue, value_at}
 use Rattle.ghc_term.proofs.ListsLemmas.{not_both}
-use Rattle.ghc_flat.specs.Clause.{Program}
-use Rattle.ghc_flat.specs.Flat.{is_stream}
-use Rattle.ghc_fire.specs.Goals.{goal_cmp, Goals}
-use Rattle.ghc_fire.specs.Meter.{tried}
-use Rattle.ghc_fire.specs.declared.meter.Meter.{Meter}
-use Rattle.ghc_fire.proofs.GoalNames.{goal_total, goal_antisymmetric}
-use Rattle.ghc_hooks.specs.Face.{GoalNames}
-use Rattle.ghc_hooks.specs.Notes.{Note, NotesByGoal, IsExact, AreExact}
-use Rattle.ghc_hooks.proofs.Looking.{goal_itself, goal_cases, goal_taken}
-use Rattle.ghc_hooks.proofs.Fitting.{put_here, put_elsewhere, same_note}
-use Rattle.ghc_core.specs.World.{World}
-use Rattle.ghc_core.specs.Core.{IsConsistent, AreExactIn}
-use Rattle.ghc_core.specs.Proposes.{tells}
-use Rattle.ghc_core.specs.Settling.{IsNoteOf, AreKept, IsNoted, AreNoted, tried_often}
 
 module _ (m : NotesByGoal) (g : GoalName) (n : Note) where
   -- a note that is there is put again in vain

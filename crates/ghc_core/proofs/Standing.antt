@@ -1,27 +1,7 @@
 -- What is known of a world that a core can be in, and which worlds are so from the start.
-use Rattle.std.proofs.Common.{◌≡◌, ◌≢◌, ◌<◌, ◌≤◌, ℕ, List, [], refl, sym, inl, inr, arith, Some}
+use Rattle.ghc_core.proofs.Words.{◌≡◌, ◌≢◌, ◌<◌, ◌≤◌, ℕ, List, [], refl, sym, inl, inr, arith, Some, VarName, GoalName, Goal, value_at, Program, Query, IsProgram, IsQuery, no_step, HasNoVariableOf, In, State, Record, Shelf, query_state, IsVariableOf, number_limit, Opening, Entry, History, loaded_opening, IsWellMade, Keeps, World, IsReplay, Opens, AreNamesOf, IsSound, from_opening, IsOrderly, IsStanding}
 use Rattle.std.specs.FinMap as finite
-use Rattle.ghc_term.specs.declared.var_name.VarName.{VarName}
-use Rattle.ghc_term.specs.declared.goal_name.GoalName.{GoalName}
-use Rattle.ghc_term.specs.Goal.{Goal}
-use Rattle.ghc_term.specs.Store.{value_at}
-use Rattle.ghc_flat.specs.Clause.{Program, Query}
-use Rattle.ghc_flat.specs.Flat.{IsProgram, IsQuery}
-use Rattle.ghc_fire.specs.Effect.{no_step}
-use Rattle.ghc_fire.specs.Laws.{HasNoVariableOf}
-use Rattle.ghc_term.specs.Lists.{In}
-use Rattle.ghc_records.specs.Record.{State, Record, Shelf}
-use Rattle.ghc_records.specs.Replay.{query_state, IsVariableOf}
-use Rattle.ghc_records.specs.Numbers.{number_limit}
-use Rattle.ghc_records.specs.Journal.{Opening, Entry}
-use Rattle.ghc_records.specs.History.{History, loaded_opening}
-use Rattle.ghc_records.specs.Laws.{IsWellMade}
 use Rattle.ghc_records.proofs.Replaying as replaying
-use Rattle.ghc_depend.specs.Kept.{Keeps}
-use Rattle.ghc_core.specs.World.{World, IsReplay, Opens}
-use Rattle.ghc_core.specs.Reached.{AreNamesOf, IsSound, from_opening}
-use Rattle.ghc_core.specs.Laws.{IsOrderly}
-use Rattle.ghc_core.specs.Core.{IsStanding}
 use Rattle.ghc_core.proofs.Reaching.{reached_good}
 use Rattle.ghc_core.proofs.Replayed.{replayed}
 use Rattle.ghc_core.proofs.Keeping.{reached_keeps}

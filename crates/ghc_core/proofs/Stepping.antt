@@ -1,23 +1,7 @@
 -- Proposing, committing, and acting on streams have one answer, where attempts and effects have.
-use Rattle.std.proofs.Common.{◌≡◌, ℕ, List, [], ◌∷◌, ◌++◌, refl, sym, ap, ◌∙◌, subst, subst₂, inl, inr, arith, Some, None}
-use Rattle.std.specs.Prelude.{Option}
+use Rattle.ghc_core.proofs.Words.{◌≡◌, ℕ, List, [], ◌∷◌, ◌++◌, refl, sym, ap, ◌∙◌, subst, subst₂, inl, inr, arith, Some, None, Option, VarName, GoalName, Tree, variable, IsValue, Goal, stream, value_at, Leads, along, at_free, now, on, IsAcyclic, leads_once, Program, EndsIn, Fault, Act, ByClause as by_clause, Unified as unified, Assigned as assigned, Given as given, Closed as closed, Asked as asked, Effect, HasEffect, EffectIsOne, Record, HasStepEffect, Proposal, World, IsFull, HasRoom, IsNextStep}
 use Rattle.std.specs.FinMap as finite
-use Rattle.ghc_term.specs.declared.var_name.VarName.{VarName}
-use Rattle.ghc_term.specs.declared.goal_name.GoalName.{GoalName}
-use Rattle.ghc_term.specs.Tree.{Tree, variable, IsValue}
-use Rattle.ghc_term.specs.Goal.{Goal, stream}
-use Rattle.ghc_term.specs.Store.{value_at}
-use Rattle.ghc_term.specs.Bindings.{Leads, along, at_free, Comes, now, on, IsAcyclic}
-use Rattle.ghc_term.proofs.Chains.{leads_once}
-use Rattle.ghc_flat.specs.Clause.{Program}
-use Rattle.ghc_match.specs.Position.{EndsIn}
-use Rattle.ghc_term.specs.declared.fault.Fault.{Fault}
-use Rattle.ghc_fire.specs.declared.act.Act.{Act}
-use Rattle.ghc_fire.specs.declared.act.Act.TheVariants.{ByClause as by_clause, Unified as unified, Assigned as assigned, Given as given, Closed as closed, Asked as asked}
-use Rattle.ghc_fire.specs.Effect.{Effect, HasEffect}
-use Rattle.ghc_fire.specs.Laws.{EffectIsOne}
-use Rattle.ghc_records.specs.Record.{Record, HasStepEffect}
-use Rattle.ghc_core.specs.World.{Proposal, World, IsFull, HasRoom, IsNextStep}
+use Rattle.ghc_term.specs.Bindings.{Comes}
 use Rattle.ghc_core.specs.Proposes as asking
 use Rattle.ghc_core.specs.Streams as streams
 use Rattle.ghc_core.proofs.Refusing.{value_once, finds}

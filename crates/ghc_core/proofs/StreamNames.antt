@@ -1,30 +1,6 @@
 -- The names of the streams' goals stay in step with the goals.
-use Rattle.std.proofs.Common.{◌≡◌, ◌≢◌, ℕ, zero, suc, ◌+◌, ◌⊎◌, true, false, List, [], ◌∷◌, filter, refl, sym, ap, ◌∙◌, subst, inl, inr, arith, Some, None, slice_get, slice_set, take, ◌++◌}
-use Rattle.std.specs.Prelude.{Option}
+use Rattle.ghc_core.proofs.Words.{◌≡◌, ◌≢◌, ℕ, zero, suc, ◌+◌, ◌⊎◌, true, false, List, [], ◌∷◌, filter, refl, sym, ap, ◌∙◌, subst, inl, inr, arith, Some, None, slice_get, slice_set, take, ◌++◌, Option, VarName, GoalName, Goal, call, unify, assign, stream, In, in_at, value_at, Program, Query, is_stream, IsProgram, IsQuery, goal_cmp, Goals, same_parts, State, Record, without_goal, after, Fires, query_state, Runs, IsTakenBack, one_or_not, not_stream, made_or_old, made_at, stream_made, place_at, by_option, not_both, same_value, named_or_not, without_it, without_other, firing, World, IsStanding, name_of, with_name, opened, stream_of, first_made, renamed, told, told_back, TellStreams}
 use Rattle.std.specs.FinMap as finite
-use Rattle.ghc_term.specs.declared.var_name.VarName.{VarName}
-use Rattle.ghc_term.specs.declared.goal_name.GoalName.{GoalName}
-use Rattle.ghc_term.specs.Goal.{Goal, call, unify, assign, stream}
-use Rattle.ghc_term.specs.Lists.{In}
-use Rattle.ghc_term.proofs.ListsLemmas.{in_at}
-use Rattle.ghc_term.specs.Store.{value_at}
-use Rattle.ghc_flat.specs.Clause.{Program, Query}
-use Rattle.ghc_flat.specs.Flat.{is_stream, IsProgram, IsQuery}
-use Rattle.ghc_fire.specs.Goals.{goal_cmp, Goals}
-use Rattle.ghc_fire.proofs.GoalNames.{same_parts}
-use Rattle.ghc_records.specs.Record.{State, Record, without_goal, after, Fires}
-use Rattle.ghc_records.specs.Replay.{query_state, Runs}
-use Rattle.ghc_records.specs.State.{IsTakenBack}
-use Rattle.ghc_records.proofs.NumberSets.{one_or_not}
-use Rattle.ghc_records.proofs.Effects.{not_stream}
-use Rattle.ghc_records.proofs.States.{made_or_old}
-use Rattle.ghc_records.proofs.StreamLemmas.{made_at, stream_made}
-use Rattle.ghc_depend.proofs.Causes.{place_at}
-use Rattle.ghc_depend.proofs.Finding.{by_option, not_both, same_value, named_or_not, without_it, without_other}
-use Rattle.ghc_depend.proofs.Results.{firing}
-use Rattle.ghc_core.specs.World.{World}
-use Rattle.ghc_core.specs.Core.{IsStanding}
-use Rattle.ghc_core.specs.StreamGoals.{name_of, with_name, opened, stream_of, first_made, renamed, told, told_back, TellStreams}
 use Rattle.ghc_core.proofs.Reaching.{reached_good}
 use Rattle.ghc_core.proofs.Standing.{standing_replay, standing_orderly}
 use Rattle.ghc_core.proofs.Exactness.{come_back, consumed_again}

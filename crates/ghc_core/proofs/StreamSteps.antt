@@ -1,27 +1,8 @@
 -- The step of a stream that is prepared, and why none is.
-use Rattle.std.proofs.Common.{◌≡◌, ◌≢◌, ℕ, refl, ap, ◌∙◌, sym, subst, inl, inr, [], ◌∷◌, ◌++◌, Some, None, Result, Err}
-use Rattle.std.specs.Prelude.{Option, IfSome, IfNone}
-use Rattle.ghc_term.specs.declared.var_name.VarName.{VarName}
-use Rattle.ghc_term.specs.declared.goal_name.GoalName.{GoalName}
-use Rattle.ghc_term.specs.declared.fault.Fault.{Fault}
-use Rattle.ghc_term.specs.Tree.{variable}
-use Rattle.ghc_term.specs.Goal.{stream}
-use Rattle.ghc_term.specs.Store.{StoreValue, value_at}
-use Rattle.ghc_unify.proofs.Ends.{comes_leads}
-use Rattle.ghc_match.specs.Position.{EndsIn}
-use Rattle.ghc_fire.specs.declared.act.Act.{Act}
-use Rattle.ghc_fire.specs.declared.act.Act.TheVariants.{Closed as closed}
-use Rattle.ghc_fire.proofs.Steps.{effect_once}
-use Rattle.ghc_fire.specs.Effect.{Effect, HasEffect, ReadsTail}
-use Rattle.ghc_fire.specs.Tail.{IsTailBound}
-use Rattle.ghc_records.specs.Record.{Record}
-use Rattle.ghc_core.specs.World.{World, IsFull, HasRoom}
-use Rattle.ghc_core.specs.Laws.{IsOrderly}
-use Rattle.ghc_core.specs.Anyway.{TakesNothingAnyway}
+use Rattle.ghc_core.proofs.Words.{◌≡◌, ◌≢◌, ℕ, refl, ap, ◌∙◌, sym, subst, inl, inr, [], ◌∷◌, ◌++◌, Some, None, Result, Err, Option, IfSome, IfNone, VarName, GoalName, Fault, variable, stream, StoreValue, value_at, comes_leads, EndsIn, Act, Closed as closed, effect_once, Effect, HasEffect, ReadsTail, IsTailBound, Record, World, IsFull, HasRoom, IsOrderly, TakesNothingAnyway, IsStreamAt, StreamFails, IsStreamStep}
 use Rattle.ghc_core.proofs.Naming.{known_of_act}
 use Rattle.ghc_core.proofs.Refusing.{stream_fails_once, tail_bound}
 use Rattle.ghc_core.proofs.Stepping.{bound_or_open, stream_full}
-use Rattle.ghc_core.specs.Streams.{IsStreamAt, StreamFails, IsStreamStep}
 
 -- what is known of what was found, where it was found, and where not
 pub if_some : {T : Type 0} (P : T → Type 0) (o : Option T) (t : T) → o ≡ Some t → IfSome o P → P t

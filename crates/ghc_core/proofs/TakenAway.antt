@@ -1,19 +1,7 @@
 -- A kept step that nothing depends on is taken away.
-use Rattle.std.proofs.Common.{◌≡◌, List, [], ◌∷◌, ◌++◌, refl, subst}
+use Rattle.ghc_core.proofs.Words.{◌≡◌, List, [], ◌∷◌, ◌++◌, refl, subst, State, Record, Shelf, IsTakenBack, Entry, undid, picks_once, IsWithout, IsSplitAt, is_without, without_once, World, IsReplay, Goes as goes, Going, CanChange, Changes, IsStanding}
 use Rattle.std.specs.FinMap as finite
-use Rattle.ghc_records.specs.Record.{State, Record, Shelf}
-use Rattle.ghc_records.specs.State.{IsTakenBack}
-use Rattle.ghc_records.specs.Journal.{Entry, undid}
-use Rattle.ghc_records.proofs.OrderLemmas.{picks_once}
-use Rattle.ghc_depend.specs.Kept.{IsWithout, IsSplitAt}
 use Rattle.ghc_depend.proofs.Undoing as undoing
-use Rattle.ghc_depend.proofs.TakingBack.{is_without}
-use Rattle.ghc_depend.proofs.Comparing.{without_once}
-use Rattle.ghc_core.specs.World.{World, IsReplay}
-use Rattle.ghc_core.specs.declared.change.Change.TheVariants.{Goes as goes}
-use Rattle.ghc_core.specs.declared.change.Going.{Going}
-use Rattle.ghc_core.specs.Change.{CanChange, Changes}
-use Rattle.ghc_core.specs.Core.{IsStanding}
 use Rattle.ghc_core.proofs.Alone.{others_left, none_follow}
 use Rattle.ghc_core.proofs.Preparing.{same_world}
 use Rattle.ghc_core.proofs.Reaching.{reached_good}

@@ -1,44 +1,8 @@
 -- Events can do each change, so they lead where changes lead; and the next step binds what no kept step bound.
-use Rattle.std.proofs.Common.{◌≡◌, ◌≢◌, ◌⊎◌, List, [], true, inl, inr, refl, sym, ap, ◌∙◌, subst, arith, Option, Some, None}
-use Rattle.std.specs.Prelude.{is_some}
+use Rattle.ghc_core.proofs.Words.{◌≡◌, ◌≢◌, ◌⊎◌, List, [], true, inl, inr, refl, sym, ap, ◌∙◌, subst, arith, Option, Some, None, is_some, nat_cmp_total, VarName, GoalName, Tree, Goal, call, unify, assign, stream, In, value_at, Program, Query, variables_of_goals, Act, ByClause as by_clause, Unified as unified, Assigned as assigned, Given as given, Closed as closed, Asked as asked, NameNoneOf, variables_asked, asks_back, Effect, HasEffect, no_step, effect_each, State, Record, Fires, Replays, first_in, Binds, not_both, results_of, firing, step_binds, Hands, no_hands, IsHand, with_hand, emptied, World, IsNextStep, with_step, Change, Comes as comes, Goes as goes, Reorders as reorders, Coming, Going, CanChange, Changes, Command, input, finish, undo, roll, redo, arrange, ask, propose, commit, command, held, stepped, IsReduction, IsCommitOf, Asks, to_give, to_close, to_undo, to_roll, to_redo, to_arrange, to_ask, told_of, by_hand, by_command, Says, Answers, makes, says, Reaches, from_opening, by_change, IsProper, IsReachable, at_opening, by_event, with_other_hands, NoStepIsFree, choice_of}
 use Rattle.std.specs.FinMap as finite
-use Rattle.std.specs.Cmp.{nat_cmp_total}
-use Rattle.ghc_term.specs.declared.var_name.VarName.{VarName}
-use Rattle.ghc_term.specs.declared.goal_name.GoalName.{GoalName}
-use Rattle.ghc_term.specs.Tree.{Tree}
-use Rattle.ghc_term.specs.Goal.{Goal, call, unify, assign, stream}
-use Rattle.ghc_term.specs.Lists.{In}
-use Rattle.ghc_term.specs.Store.{value_at}
-use Rattle.ghc_flat.specs.Clause.{Program, Query}
-use Rattle.ghc_flat.specs.Variables.{variables_of_goals}
-use Rattle.ghc_fire.specs.declared.act.Act.{Act}
-use Rattle.ghc_fire.specs.declared.act.Act.TheVariants.{ByClause as by_clause, Unified as unified, Assigned as assigned, Given as given, Closed as closed, Asked as asked}
-use Rattle.ghc_fire.specs.Asked.{NameNoneOf, variables_asked}
-use Rattle.ghc_fire.proofs.Asking.{asks_back}
-use Rattle.ghc_fire.specs.Effect.{Effect, HasEffect, no_step}
-use Rattle.ghc_fire.proofs.Steps.{effect_each}
 use Rattle.ghc_fire.specs.Proposal.{Proposal}
-use Rattle.ghc_records.specs.Record.{State, Record, Fires}
-use Rattle.ghc_records.specs.Replay.{Replays}
-use Rattle.ghc_records.proofs.Heads.{first_in}
-use Rattle.ghc_depend.specs.Depend.{Binds}
-use Rattle.ghc_depend.proofs.Finding.{not_both}
-use Rattle.ghc_depend.proofs.Placing.{results_of}
-use Rattle.ghc_depend.proofs.Results.{firing, step_binds}
-use Rattle.ghc_core.specs.World.{Hands, no_hands, IsHand, with_hand, emptied, World, IsNextStep, with_step}
-use Rattle.ghc_core.specs.declared.change.Change.{Change}
-use Rattle.ghc_core.specs.declared.change.Change.TheVariants.{Comes as comes, Goes as goes, Reorders as reorders}
-use Rattle.ghc_core.specs.declared.change.Coming.{Coming}
-use Rattle.ghc_core.specs.declared.change.Going.{Going}
-use Rattle.ghc_core.specs.Change.{CanChange, Changes}
-use Rattle.ghc_core.specs.Events.{Command, input, finish, undo, roll, redo, arrange, ask, propose, commit, command, held, stepped}
-use Rattle.ghc_core.specs.Proposes.{IsReduction, IsCommitOf}
-use Rattle.ghc_core.specs.Answers.{Asks, to_give, to_close, to_undo, to_roll, to_redo, to_arrange, to_ask, told_of, by_hand, by_command, Says, Answers, makes, says}
-use Rattle.ghc_core.specs.Reached.{Reaches, from_opening, by_change}
-use Rattle.ghc_core.specs.Legal.{IsProper, IsReachable, at_opening, by_event, with_other_hands}
-use Rattle.ghc_core.specs.Laws.{NoStepIsFree}
 use Rattle.ghc_core.specs.Laws as laws
-use Rattle.ghc_core.specs.Core.{choice_of}
 use Rattle.ghc_core.proofs.Moving.{reachable_reached}
 use Rattle.ghc_core.proofs.Committing.{still_proposed}
 use Rattle.ghc_core.proofs.Standing.{standing_apart}

@@ -1,13 +1,5 @@
 -- Just what tells of a change adds an entry, and then no memory was refused.
-use Rattle.std.proofs.Common.{◌≡◌, true, false, [], ◌∷◌, ◌++◌, refl, sym, ap, ◌∙◌, subst}
-use Rattle.std.specs.Prelude.{MatchBool}
-use Rattle.ghc_records.specs.Journal.{Entry}
-use Rattle.ghc_core.specs.declared.change.Change.{Change}
-use Rattle.ghc_core.specs.declared.change.Change.TheVariants.{Comes as comes, Goes as goes, Reorders as reorders}
-use Rattle.ghc_core.specs.World.{Hands, World}
-use Rattle.ghc_core.specs.Events.{Event, Reply}
-use Rattle.ghc_core.specs.Answers.{told_of, Says, Answers, no_hand, makes, says, fails, no_memory}
-use Rattle.ghc_core.specs.Playing.{tells_change, AnswersAddWhatTheyTell}
+use Rattle.ghc_core.proofs.Words.{◌≡◌, true, false, [], ◌∷◌, ◌++◌, refl, sym, ap, ◌∙◌, subst, MatchBool, Entry, Change, Comes as comes, Goes as goes, Reorders as reorders, Hands, World, Event, Reply, told_of, Says, Answers, no_hand, makes, says, fails, no_memory, tells_change, AnswersAddWhatTheyTell}
 use Rattle.ghc_core.proofs.Moving.{change_enters}
 
 -- what is told of a change tells of one

@@ -1,12 +1,5 @@
 -- A chronicle that a text tells can be carried out.
-use Rattle.std.proofs.Common.{ℕ, List, subst}
-use Rattle.ghc_term.specs.Lists.{In}
-use Rattle.ghc_term.proofs.ListsLemmas.{at_of_in}
-use Rattle.ghc_fire.specs.declared.act.Act.{Act}
-use Rattle.ghc_records.specs.Journal.{Step}
-use Rattle.ghc_records.specs.HistoryText.{SaysAct, SaysStep}
-use Rattle.ghc_records.specs.Chronicle.{Chronicle}
-use Rattle.ghc_records.specs.ChronicleText.{TellsChronicle}
+use Rattle.ghc_core.proofs.Words.{ℕ, List, subst, In, at_of_in, Act, Step, SaysAct, SaysStep, Chronicle, TellsChronicle}
 use Rattle.ghc_core.specs.ResumeLaws as laws
 
 module _ (text : List ℕ) (c : Chronicle) (told : TellsChronicle text c) where

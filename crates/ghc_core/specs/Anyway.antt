@@ -13,19 +13,23 @@ use Rattle.ghc_core.specs.Events.{Command, input, finish, undo, roll, redo, arra
 use Rattle.ghc_core.specs.Proposes.{AttemptAnswers, IsNoCandidate}
 use Rattle.ghc_core.specs.AskedGoals.{AskFails}
 use Rattle.ghc_core.specs.Streams.{StreamFails}
-use Rattle.ghc_core.specs.Refusals.{UndoFails, RedoFails}
+use Rattle.ghc_core.specs.Refusals.{IsToldWhere, OrElse, UndoFails, RedoFails}
 
--- A hand is not given a proposal: there is no such hand, no such goal, or no such clause of the goal's predicate.
-pub data IsNotProposedAnyway (w : World) (hands : Hands) (h : ℕ) (g : GoalName) (choice : Option ℕ) : Fault → Type 0 where
-  no_hand : ¬ IsHand hands h → IsNotProposedAnyway w hands h g choice Fault.Command
-  no_goal : IsHand hands h → AttemptAnswers w g choice (attempt.refused Fault.NoGoal) → IsNotProposedAnyway w hands h g choice Fault.NoGoal
-  no_clause : IsHand hands h → AttemptAnswers w g choice (attempt.refused Fault.NoClause) → IsNotProposedAnyway w hands h g choice Fault.NoClause
+-- An attempt finds no such goal, or no such clause of the goal's predicate.
+abbrev pub FindsNothing : World → GoalName → Option ℕ → Fault → Type 0
+FindsNothing w g choice f = ((f ≡ Fault.NoGoal) × AttemptAnswers w g choice (attempt.refused Fault.NoGoal)) ⊎ ((f ≡ Fault.NoClause) × AttemptAnswers w g choice (attempt.refused Fault.NoClause))
 
--- What a hand holds is not committed: there is no such hand, it holds nothing, or the goal of what it holds is not there any more.
-pub data IsNotCommittedAnyway (w : World) (hands : Hands) (h : ℕ) : Fault → Type 0 where
-  no_hand : ¬ IsHand hands h → IsNotCommittedAnyway w hands h Fault.Command
-  empty : IsHand hands h → finite.get hands.held h ≡ None → IsNotCommittedAnyway w hands h Fault.Stale
-  gone : (p : Proposal) → IsHand hands h → finite.get hands.held h ≡ Some p → finite.get w.state.goals p.goal ≡ None → IsNotCommittedAnyway w hands h Fault.Stale
+-- A hand is not given a proposal: there is no such hand; or else there is no such goal, or no such clause.
+pub record IsNotProposedAnyway (w : World) (hands : Hands) (h : ℕ) (g : GoalName) (choice : Option ℕ) (f : Fault) : Type 0 where
+  pub first : OrElse (IsToldWhere Fault.Command (¬ IsHand hands h)) (FindsNothing w g choice) f
+
+-- The hand holds nothing, or the goal of what it holds is not there any more.
+abbrev pub HoldsNoGoal : World → Hands → ℕ → Type 0
+HoldsNoGoal w hands h = (finite.get hands.held h ≡ None) ⊎ ((p : Proposal) × (finite.get hands.held h ≡ Some p) × (finite.get w.state.goals p.goal ≡ None))
+
+-- What a hand holds is not committed: there is no such hand; or else it holds nothing, or a goal that is not there any more.
+pub record IsNotCommittedAnyway (w : World) (hands : Hands) (h : ℕ) (f : Fault) : Type 0 where
+  pub first : OrElse (IsToldWhere Fault.Command (¬ IsHand hands h)) (IsToldWhere Fault.Stale (HoldsNoGoal w hands h)) f
 
 -- A stream takes neither input nor close: there is no such stream, or it is closed; or its tail ends in a value.
 abbrev pub TakesNothingAnyway : World → ℕ → Fault → Type 0

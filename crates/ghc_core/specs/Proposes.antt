@@ -63,10 +63,13 @@ IsCommitOf w p r = StillHolds w p × IsNextStep w r × (r.goal ≡ Some p.goal) 
 abbrev pub IsStepOf : World → GoalName → Option ℕ → Record → Type 0
 IsStepOf w g choice r = (p : Proposal) × (p.goal ≡ g) × AttemptAnswers w g choice (attempt.proposes p.act p.effect) × IsCommitOf w p r
 
--- Why no step of the goal is taken: the attempt is refused, and else the world is full.
-pub data StepFails (w : World) (g : GoalName) (choice : Option ℕ) : Fault → Type 0 where
-  refused_attempt : {f : Fault} → AttemptAnswers w g choice (attempt.refused f) → StepFails w g choice f
-  no_room : (p : Proposal) → p.goal ≡ g → AttemptAnswers w g choice (attempt.proposes p.act p.effect) → IsFull w → StepFails w g choice Fault.Full
+-- An attempt at the goal named g proposes a step, and the world is full.
+abbrev pub ProposesInFull : World → GoalName → Option ℕ → Type 0
+ProposesInFull w g choice = (p : Proposal) × (p.goal ≡ g) × AttemptAnswers w g choice (attempt.proposes p.act p.effect) × IsFull w
+
+-- Why no step of the goal is taken: the attempt is refused, or else the world is full.
+pub record StepFails (w : World) (g : GoalName) (choice : Option ℕ) (f : Fault) : Type 0 where
+  pub first : OrElse (λ e. AttemptAnswers w g choice (attempt.refused e)) (IsToldWhere Fault.Full (ProposesInFull w g choice)) f
 
 -- There is no goal of this name to try: none at all, or a stream goal.
 abbrev pub IsNoCandidate : World → GoalName → Type 0

@@ -53,7 +53,6 @@ pub(crate) fn strike(records: &mut Records, number: u32)
 
 impl Core {
     // Makes room for the step that comes.
-    #[inline(always)]
     pub(crate) fn reserve_to_add(&mut self, addition: &Addition) -> Result<(), AllocError>
         ensures room { OnOk result (HasRoomFor self.new.world self.new.room (comes Coming.Next addition.now)) }
         ensures stays { Stays self.old self.new }
@@ -126,7 +125,7 @@ impl Core {
     /// each goal that looked at what it binds; to take one away, and what `Records::remove` costs; to take away a step with its
     /// consequences, as much for each; to put the record into another order, the letting go of the old one. A table that is full
     /// moves to one of about twice its size.
-    #[inline(always)]
+    #[inline(never)]
     pub fn make(&mut self, change: Change) -> Result<(), AllocError>
         requires found { CanChange self.old.world change }
         ensures changed { OnOk result (Changes self.old.world change self.new.world) }

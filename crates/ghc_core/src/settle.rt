@@ -13,6 +13,12 @@ use ghc_hooks::{Note, try_goal};
 use ghc_term::{Fault, Goal, GoalName, GoalView};
 use std::alloc::{AllocError, Global};
 
+// Lets go of a note: apart, so that no frame of a try has room for it.
+#[inline(never)]
+fn let_go(note: Note) {
+    let _note = note;
+}
+
 impl Core {
     // The goal of this name, where it can be tried: one look-up.
     fn candidate(&self, goal: GoalName) -> Option<&Goal>
@@ -53,6 +59,7 @@ impl Core {
         ensures meter { self.new.meter ≡ self.old.meter }
     {
         if !self.tries.is_untried(goal) {
+            let_go(note);
             return Ok(());
         }
         self.tries.note(goal, note)?;

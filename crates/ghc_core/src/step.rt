@@ -29,6 +29,7 @@ impl Core {
         ensures stays { Stays self.old self.new }
         ensures counted { self.new.meter ≡ fired self.old.meter }
     {
+        self.stands();
         match self.attempt_as_next(alloc, goal, choice) {
             Ok(proposal) => self.proposed_as_next(alloc, proposal),
             Err(fault) => Err(fault),

@@ -1,28 +1,6 @@
 -- From a step one goes to its users and to theirs, always to the first that is ahead: so its consequences come in recorded order.
-use Rattle.std.proofs.Common.{◌≡◌, ℕ, zero, suc, ◌+◌, ◌-◌, ◌<◌, ◌≤◌, ◌⊎◌, List, [], ◌∷◌, ◌++◌, length, map, take, refl, sym, ap, ◌∙◌, subst, inl, inr, arith}
-use Rattle.std.specs.Prelude.{◌↔◌, Some, All, slice_get}
-use Rattle.std.specs.declared.cmp.Ordering.{Ordering}
-use Rattle.std.specs.declared.cmp.Ordering.TheVariants.{Less, Equal, Greater}
-use Rattle.std.specs.Ordering.{nat_cmp, match_ordering, MatchOrdering}
-use Rattle.std.specs.Cmp.{ranks}
-use Rattle.std.specs.BTreeSet.{insert_key}
-use Rattle.std.specs.BTreeMap.Range.{IsLtBy}
-use Rattle.std.proofs.lemmas.List.Elements.{All-contains}
-use Rattle.std.proofs.lemmas.Bool.{cases_lt}
-use Rattle.std.proofs.lemmas.List.{take_all, length-map}
-use Rattle.ghc_term.specs.Lists.{In}
-use Rattle.ghc_term.proofs.ListsLemmas.{in_contains, in_left, in_more, in_last, in_at}
-use Rattle.ghc_records.specs.Orders.{Picks, nothing, take as taken, leave, AreDistinct}
-use Rattle.ghc_records.specs.Record.{Record, numbers}
-use Rattle.ghc_records.specs.Slots.{SlotList, held_in, StandsIn}
-use Rattle.ghc_records.specs.UseIndex.{StepDependsOn}
-use Rattle.ghc_records.proofs.SlotLemmas.{stands_held}
-use Rattle.ghc_records.proofs.SlotClosing.{once_of}
-use Rattle.ghc_records.proofs.SlotRanks.{rank, rank_stands, rank_back, rank_less, of_map, map_of}
-use Rattle.ghc_records.proofs.OrderLemmas.{is_before, before_in, record_once, numbers_append}
-use Rattle.ghc_records.proofs.PickLemmas.{picks_in, picks_has, pick_last, leave_last}
-use Rattle.ghc_depend.specs.Depend.{DependsOn, Follows, directly, further}
-use Rattle.ghc_depend.specs.Places.{IsPlaceOfUser}
+use Rattle.ghc_depend.proofs.Words.{◌≡◌, ℕ, zero, suc, ◌+◌, ◌-◌, ◌<◌, ◌≤◌, ◌⊎◌, List, [], ◌∷◌, ◌++◌, length, map, take, refl, sym, ap, ◌∙◌, subst, inl, inr, arith, ◌↔◌, Some, All, slice_get, Ordering, Less, Equal, Greater, nat_cmp, match_ordering, MatchOrdering, ranks, insert_key, IsLtBy, All-contains, cases_lt, take_all, length-map, In, in_contains, in_left, in_more, in_last, in_at, Picks, nothing, leave, AreDistinct, Record, numbers, SlotList, held_in, StandsIn, StepDependsOn, stands_held, once_of, rank, rank_stands, rank_back, rank_less, of_map, map_of, is_before, before_in, record_once, numbers_append, picks_in, picks_has, pick_last, leave_last, DependsOn, Follows, directly, further, IsPlaceOfUser}
+use Rattle.ghc_records.specs.Orders.{take as taken}
 use Rattle.ghc_depend.proofs.Finding.{same_value}
 use Rattle.ghc_depend.proofs.Following.{follows_in}
 use Rattle.ghc_depend.proofs.Causes.{at_split, place_at, place_within, place_before}

@@ -1,18 +1,7 @@
 -- The run of append: who depends on whom, and which orders are lawful.
-use Rattle.std.specs.Prelude.{Option, None}
-use Rattle.std.proofs.Common.{◌≡◌, ℕ, ◌<◌, [], ◌∷◌, refl, sym, ap, ◌∙◌, subst, inl, inr, arith, Some, cond, nat_eq, true, false, subst₂}
+use Rattle.ghc_depend.proofs.Words.{Option, None, ◌≡◌, ℕ, ◌<◌, [], ◌∷◌, refl, sym, ap, ◌∙◌, subst, inl, inr, arith, Some, cond, nat_eq, true, false, subst₂, GoalName, In, name_cmp, variables_asked, Precedes, nothing, leave, Record, is_before, before_in, precedes_rises, Rises, Consumes, DependsOn, Follows, directly, further, by_making, IsTooEarly, wrong, missing, too_early, step_1, step_2, step_3, step_4, run, AppendDepends, AppendOrders}
 use Rattle.std.specs.FinSet as set
-use Rattle.ghc_term.specs.declared.goal_name.GoalName.{GoalName}
-use Rattle.ghc_term.specs.Lists.{In}
-use Rattle.ghc_term.specs.Bindings.{name_cmp}
-use Rattle.ghc_fire.specs.Asked.{variables_asked}
-use Rattle.ghc_records.specs.Orders.{Precedes, nothing, take, leave}
-use Rattle.ghc_records.specs.Record.{Record}
-use Rattle.ghc_records.proofs.OrderLemmas.{is_before, before_in, precedes_rises, Rises}
-use Rattle.ghc_depend.specs.Depend.{Consumes, DependsOn, Follows, directly, further}
-use Rattle.ghc_depend.specs.Cause.{by_making}
-use Rattle.ghc_depend.specs.Lawful.{IsTooEarly, wrong, missing, too_early}
-use Rattle.ghc_depend.specs.Facts.{step_1, step_2, step_3, step_4, run, AppendDepends, AppendOrders}
+use Rattle.ghc_records.specs.Orders.{take}
 
 -- the number of a record
 abbrev number : Record → ℕ

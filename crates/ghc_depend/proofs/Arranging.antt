@@ -1,15 +1,5 @@
 -- A lawful order of a replay replays to the same state, and so do two neighbouring steps that change places.
-use Rattle.std.proofs.Common.{◌≡◌, ◌↔◌, ℕ, ◌⊎◌, List, [], ◌∷◌, ◌++◌, refl, sym, subst, inl, inr}
-use Rattle.ghc_term.specs.Lists.{In}
-use Rattle.ghc_term.proofs.ListsLemmas.{in_either}
-use Rattle.ghc_records.specs.Orders.{AreDistinct}
-use Rattle.ghc_records.specs.Record.{Record, numbers}
-use Rattle.ghc_records.specs.Replay.{Replays}
-use Rattle.ghc_records.proofs.OrderLemmas.{Before, is_before, before_is, before_in, before_once, number_in, number_of, records_distinct}
-use Rattle.ghc_records.proofs.Replaying.{replay_well}
-use Rattle.ghc_depend.specs.Depend.{DependsOn}
-use Rattle.ghc_depend.specs.Lawful.{IsLawful, IsInOrder}
-use Rattle.ghc_depend.specs.Laws.{LawfulOrderKeepsReplay, NeighboursChangePlaces}
+use Rattle.ghc_depend.proofs.Words.{◌≡◌, ◌↔◌, ℕ, ◌⊎◌, List, [], ◌∷◌, ◌++◌, refl, sym, subst, inl, inr, In, in_either, AreDistinct, Record, numbers, Replays, Before, is_before, before_is, before_in, before_once, number_in, number_of, records_distinct, replay_well, DependsOn, IsLawful, IsInOrder, LawfulOrderKeepsReplay, NeighboursChangePlaces}
 use Rattle.ghc_depend.proofs.Decided.{by_numbers, by_records}
 use Rattle.ghc_depend.proofs.Picking.{behind_before}
 use Rattle.ghc_depend.proofs.Placing.{results_of}

@@ -1,26 +1,6 @@
 -- Why a step depends directly on an earlier one: places in recorded order, the least variable, and what woke a goal.
-use Rattle.std.proofs.Common.{◌≡◌, ◌≢◌, ℕ, zero, suc, ◌+◌, ◌<◌, ◌≤◌, ◌⊎◌, Bool, true, false, not, cond, List, [], ◌∷◌, ◌++◌, length, take, refl, sym, ap, ◌∙◌, subst, subst₂, inl, inr, arith}
-use Rattle.std.specs.Prelude.{◌↔◌, Option, Some, None, IsTrue, IfSome, IfNone, slice_get}
-use Rattle.std.specs.declared.cmp.Ordering.TheVariants.{Less, Equal, Greater}
-use Rattle.std.specs.Ordering.{is_lt, ord_min, ordering_reverse}
+use Rattle.ghc_depend.proofs.Words.{◌≡◌, ◌≢◌, ℕ, zero, suc, ◌+◌, ◌<◌, ◌≤◌, ◌⊎◌, Bool, true, false, not, cond, List, [], ◌∷◌, ◌++◌, length, take, refl, sym, ap, ◌∙◌, subst, subst₂, inl, inr, arith, ◌↔◌, Option, Some, None, IsTrue, IfSome, IfNone, slice_get, Less, Equal, Greater, is_lt, ord_min, ordering_reverse, cases_order, VarName, GoalName, In, name_cmp, name_total, name_antisymmetric, has_member, in_left, in_right, in_more, in_at, is_member, Precedes, AreDistinct, Record, numbers, Before, is_before, before_is, before_in, before_once, record_once, records_distinct, StepBinds, SlotList, HasNumberIn, StandsIn, held_in, rank, rank_less, rank_least, ranked, ranked_at, variables_asked, MakesGoal, MakesVariable, Consumes, Binds, ReadsFrom, NamesFrom, IsKeptAs, Made as made, Read as read, Named as named, CanWait, WasThereBefore, IsBoundBehind, ReadsBehind, IsWokenBy, IsLeastRead, IsLeastNamed, by_making, by_reading, by_naming, IsDirect}
 use Rattle.std.specs.FinSet as set
-use Rattle.std.proofs.lemmas.Bool.{cases_order}
-use Rattle.ghc_term.specs.declared.var_name.VarName.{VarName}
-use Rattle.ghc_term.specs.declared.goal_name.GoalName.{GoalName}
-use Rattle.ghc_term.specs.Lists.{In}
-use Rattle.ghc_term.specs.Bindings.{name_cmp}
-use Rattle.ghc_term.proofs.Names.{name_total, name_antisymmetric}
-use Rattle.ghc_term.proofs.Members.{has_member}
-use Rattle.ghc_term.proofs.ListsLemmas.{in_left, in_right, in_more, in_at}
-use Rattle.ghc_term.proofs.SetsLemmas.{is_member}
-use Rattle.ghc_records.specs.Orders.{Precedes, AreDistinct}
-use Rattle.ghc_records.specs.Record.{Record, numbers}
-use Rattle.ghc_records.proofs.OrderLemmas.{Before, is_before, before_is, before_in, before_once, record_once, records_distinct}
-use Rattle.ghc_records.specs.UseIndex.{StepBinds}
-use Rattle.ghc_fire.specs.Asked.{variables_asked}
-use Rattle.ghc_depend.specs.Depend.{MakesGoal, MakesVariable, Consumes, Binds, ReadsFrom, NamesFrom, IsKeptAs}
-use Rattle.ghc_depend.specs.declared.cause.Cause.TheVariants.{Made as made, Read as read, Named as named}
-use Rattle.ghc_depend.specs.Cause.{CanWait, WasThereBefore, IsBoundBehind, ReadsBehind, IsWokenBy, IsLeastRead, IsLeastNamed, by_making, by_reading, by_naming, IsDirect}
 use Rattle.ghc_depend.proofs.Finding.{same_value}
 
 module _ {X : Type 0} where
@@ -223,27 +203,50 @@ woken rs b a false can was h = (λ _. (can, was, λ r. let clash : false ≡ tru
 pub placed : (rs : List Record) (n place : ℕ) (a : Record) → AreDistinct (numbers rs) → StandsAt rs n place → IsKeptAs rs n a → slice_get rs place ≡ Some a
 placed rs n place a distinct p k = subst (λ z. slice_get rs place ≡ Some z) (record_once rs p.0 a distinct (in_at rs place p.0 p.1) k.0 (p.2 ∙ sym k.1)) p.1
 
-module _ (rs : List Record) (later earlier place behind : ℕ) (first : StandsAt rs earlier place) (second : StandsAt rs later behind) where
+-- two steps that are held at places of slots
+module _ (rs : List Record) (ss : SlotList) (is : rs ≡ held_in ss) (later earlier place behind : ℕ) (first : HasNumberIn ss place earlier) (second : HasNumberIn ss behind later) where
+  there : StandsAt rs earlier (rank ss place)
+  there = ranked rs ss is place earlier first
+
+  there_behind : StandsAt rs later (rank ss behind)
+  there_behind = ranked rs ss is behind later second
+
   -- a step that does not stand behind does not depend
   pub not_behind : AreDistinct (numbers rs) → behind ≤ place → IsDirect rs later earlier None
   not_behind distinct high b a kb ka d =
-      let low = place_before rs place behind a b (placed rs earlier place a distinct first ka) (placed rs later behind b distinct second kb) distinct d.0 in
-      omega arith
+      let low = place_before rs (rank ss place) (rank ss behind) a b (placed rs earlier (rank ss place) a distinct there ka) (placed rs later (rank ss behind) b distinct there_behind kb) distinct d.0 in
+      let least = rank_least ss behind place high in
+      omega (arith, low, least)
 
-  module _ (b a : Record) (at : slice_get rs place ≡ Some a) (at_behind : slice_get rs behind ≡ Some b) where
+  module _ (b a : Record) (at : StandsIn ss place a) (at_behind : StandsIn ss behind b) where
+    ranked_there : slice_get rs (rank ss place) ≡ Some a
+    ranked_there = ranked_at rs ss is place a at
+
+    ranked_behind : slice_get rs (rank ss behind) ≡ Some b
+    ranked_behind = ranked_at rs ss is behind b at_behind
+
+    kept : IsKeptAs rs earlier a
+    kept = kept_at rs (rank ss place) earlier a there ranked_there
+
+    kept_later : IsKeptAs rs later b
+    kept_later = kept_at rs (rank ss behind) later b there_behind ranked_behind
+
+    precedes : place < behind → Precedes rs a b
+    precedes low = stands_before rs (rank ss place) (rank ss behind) a b ranked_there ranked_behind (rank_less ss place behind a at low)
+
     pub is_made : place < behind → Consumes b a → IsDirect rs later earlier (Some made)
-    is_made low c = (b, a, kept_at rs behind later b second at_behind, kept_at rs place earlier a first at, by_making (stands_before rs place behind a b at at_behind low) c)
+    is_made low c = (b, a, kept_later, kept, by_making (precedes low) c)
 
     pub is_read : (x : VarName) (woke : Bool) → place < behind → ¬ Consumes b a → IsLeastRead b a x → (IsTrue woke ↔ IsWokenBy rs b a) → IsDirect rs later earlier (Some (read x woke))
-    is_read x woke low n least marked = (b, a, kept_at rs behind later b second at_behind, kept_at rs place earlier a first at, by_reading (stands_before rs place behind a b at at_behind low) n least marked)
+    is_read x woke low n least marked = (b, a, kept_later, kept, by_reading (precedes low) n least marked)
 
     pub is_named : (x : VarName) → place < behind → ¬ Consumes b a → ((y : VarName) → ¬ ReadsFrom b a y) → IsLeastNamed b a x → IsDirect rs later earlier (Some (named x))
-    is_named x low n none least = (b, a, kept_at rs behind later b second at_behind, kept_at rs place earlier a first at, by_naming (stands_before rs place behind a b at at_behind low) n none least)
+    is_named x low n none least = (b, a, kept_later, kept, by_naming (precedes low) n none least)
 
     pub is_none : AreDistinct (numbers rs) → ¬ Consumes b a → ((x : VarName) → ¬ ReadsFrom b a x) → ((x : VarName) → ¬ NamesFrom b a x) → IsDirect rs later earlier None
     is_none distinct n none unnamed c d kc kd depends =
-        let same : c ≡ b = same_value (placed rs later behind c distinct second kc) at_behind in
-        let other : d ≡ a = same_value (placed rs earlier place d distinct first kd) at in
+        let same : c ≡ b = same_value (placed rs later (rank ss behind) c distinct there_behind kc) ranked_behind in
+        let other : d ≡ a = same_value (placed rs earlier (rank ss place) d distinct there kd) ranked_there in
         elim depends.1 [
           | inl k ↦ n (subst₂ Consumes same other k)
           | inr (inl r) ↦ none r.0 (subst₂ (λ y z. ReadsFrom y z r.0) same other r.1)

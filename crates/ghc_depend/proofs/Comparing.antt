@@ -1,23 +1,6 @@
 -- States that lists of steps left: with the same steps they are one state, and with fewer steps one is the other without the rest.
-use Rattle.std.proofs.Common.{◌≡◌, ◌≤◌, ◌⊎◌, List, sym, ap, ◌∙◌, subst, inl, inr, arith, Some, None, true, false}
-use Rattle.std.specs.Prelude.{is_some}
-use Rattle.std.specs.Ordering.{is_eq}
+use Rattle.ghc_depend.proofs.Words.{◌≡◌, ◌≤◌, ◌⊎◌, List, sym, ap, ◌∙◌, subst, inl, inr, arith, Some, None, true, false, is_some, is_eq, VarName, GoalName, Tree, Goal, In, value_at, name_total, name_antisymmetric, Program, Query, goal_cmp, State, Record, query_state, Replays, goal_total, same_goal, Binds, IsBoundIn, IsMadeIn, IsConsumedIn, IsWithoutSteps, WithoutStepsIsOne}
 use Rattle.std.specs.FinMap as finite
-use Rattle.ghc_term.specs.declared.var_name.VarName.{VarName}
-use Rattle.ghc_term.specs.declared.goal_name.GoalName.{GoalName}
-use Rattle.ghc_term.specs.Tree.{Tree}
-use Rattle.ghc_term.specs.Goal.{Goal}
-use Rattle.ghc_term.specs.Lists.{In}
-use Rattle.ghc_term.specs.Store.{value_at}
-use Rattle.ghc_term.proofs.Names.{name_total, name_antisymmetric}
-use Rattle.ghc_flat.specs.Clause.{Program, Query}
-use Rattle.ghc_fire.specs.Goals.{goal_cmp}
-use Rattle.ghc_records.specs.Record.{State, Record}
-use Rattle.ghc_records.specs.Replay.{query_state, Replays}
-use Rattle.ghc_fire.proofs.GoalNames.{goal_total, same_goal}
-use Rattle.ghc_depend.specs.Depend.{Binds}
-use Rattle.ghc_depend.specs.Deletion.{IsBoundIn, IsMadeIn, IsConsumedIn, IsWithoutSteps}
-use Rattle.ghc_depend.specs.Laws.{WithoutStepsIsOne}
 use Rattle.ghc_depend.proofs.Finding.{by_option, not_both, find_value, find_consumed, own, own_made, made_own}
 use Rattle.ghc_depend.proofs.Results.{taken_at, IsUntaken, IsUnmade, Results, of_query, goal_by}
 use Rattle.ghc_depend.proofs.Placing.{results_of, place_of, front_in, consumed_once, bound_once, numbered_once}

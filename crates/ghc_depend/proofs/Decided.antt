@@ -1,24 +1,9 @@
 -- Whether an order is lawful is decided by going over order and record.
-use Rattle.std.proofs.Common.{◌≡◌, ◌≢◌, ℕ, ◌≤◌, ◌⊎◌, List, [], ◌∷◌, ◌++◌, map, length, refl, sym, ap, ◌∙◌, subst, inl, inr, arith, Some, None, append_assoc, append-nil}
-use Rattle.std.specs.Prelude.{Option, is_some}
+use Rattle.ghc_depend.proofs.Words.{◌≡◌, ◌≢◌, ℕ, ◌≤◌, ◌⊎◌, List, [], ◌∷◌, ◌++◌, map, length, refl, sym, ap, ◌∙◌, subst, inl, inr, arith, Some, None, append_assoc, append-nil, Option, is_some, VarName, GoalName, cases_lt, In, in_right, in_either, in_splits, Decided, decided_by, decided_both, decided_either, true_decided, nat_decided, in_decided, key_in, Precedes, AreDistinct, Record, numbers, Before, is_before, before_is, before_in, number_in, number_of, record_once, variables_asked, MakesGoal, MakesVariable, ReadsFrom, NamesFrom, DependsOn, IsOfKept, IsOrderOf, IsTooEarly, IsInOrder, IsUnlawful, wrong, missing, too_early, OrdersAreDecided}
 use Rattle.std.specs.FinMap as finite
 use Rattle.std.specs.FinSet as set
-use Rattle.ghc_term.specs.declared.var_name.VarName.{VarName}
-use Rattle.ghc_term.specs.declared.goal_name.GoalName.{GoalName}
-use Rattle.std.proofs.lemmas.Bool.{cases_lt}
-use Rattle.ghc_term.specs.Lists.{In}
-use Rattle.ghc_term.proofs.ListsLemmas.{in_right, in_either, in_splits}
-use Rattle.ghc_term.proofs.Decided.{Decided, decided_by, decided_both, decided_either, true_decided, nat_decided, in_decided}
-use Rattle.ghc_term.proofs.MapsLemmas.{key_in}
-use Rattle.ghc_records.specs.Orders.{Precedes, AreDistinct}
-use Rattle.ghc_records.specs.Record.{Record, numbers}
-use Rattle.ghc_records.proofs.OrderLemmas.{Before, is_before, before_is, before_in, number_in, number_of, record_once}
-use Rattle.ghc_fire.specs.Asked.{variables_asked}
-use Rattle.ghc_depend.specs.Depend.{MakesGoal, MakesVariable, ReadsFrom, NamesFrom, DependsOn}
 use Rattle.ghc_depend.proofs.Finding.{ends}
 use Rattle.ghc_depend.proofs.Picking.{distinct_push}
-use Rattle.ghc_depend.specs.Lawful.{IsOfKept, IsOrderOf, IsTooEarly, IsInOrder, IsUnlawful, wrong, missing, too_early}
-use Rattle.ghc_depend.specs.Laws.{OrdersAreDecided}
 
 le_decided : (a b : ℕ) → Decided (a ≤ b)
 le_decided a b = elim (cases_lt b a) [ inr l ↦ inl l | inl l ↦ inr (λ k. omega arith) ]

@@ -1,21 +1,6 @@
 -- The law of deletion.
-use Rattle.std.proofs.Common.{◌≡◌, ◌⊎◌, List, ◌∷◌, refl, sym, ◌∙◌, subst, inl, inr, arith}
+use Rattle.ghc_depend.proofs.Words.{◌≡◌, ◌⊎◌, List, ◌∷◌, refl, sym, ◌∙◌, subst, inl, inr, arith, VarName, In, IsAcyclic, value_at, in_right, in_either, Program, Query, IsQuery, AreDistinct, State, Record, Replays, Before, is_before, before_once, records_distinct, of_query, replay_well, Consumes, ReadsFrom, NamesFrom, DependsOn, directly, further, IsClosedUnder, IsPartedBy, IsWithoutSteps, LawOfDeletion}
 use Rattle.std.specs.FinMap as finite
-use Rattle.ghc_term.specs.declared.var_name.VarName.{VarName}
-use Rattle.ghc_term.specs.Lists.{In}
-use Rattle.ghc_term.specs.Bindings.{IsAcyclic}
-use Rattle.ghc_term.specs.Store.{value_at}
-use Rattle.ghc_term.proofs.ListsLemmas.{in_right, in_either}
-use Rattle.ghc_flat.specs.Clause.{Program, Query}
-use Rattle.ghc_flat.specs.Flat.{IsQuery}
-use Rattle.ghc_records.specs.Orders.{AreDistinct}
-use Rattle.ghc_records.specs.Record.{State, Record}
-use Rattle.ghc_records.specs.Replay.{Replays}
-use Rattle.ghc_records.proofs.OrderLemmas.{Before, is_before, before_once, records_distinct}
-use Rattle.ghc_records.proofs.Replaying.{of_query, replay_well}
-use Rattle.ghc_depend.specs.Depend.{Consumes, ReadsFrom, NamesFrom, DependsOn, directly, further}
-use Rattle.ghc_depend.specs.Deletion.{IsClosedUnder, IsPartedBy, IsWithoutSteps}
-use Rattle.ghc_depend.specs.Laws.{LawOfDeletion}
 use Rattle.ghc_depend.proofs.Finding.{ends}
 use Rattle.ghc_depend.proofs.Results.{taken_at, step_binds, bound_by, is_old}
 use Rattle.ghc_depend.proofs.Placing.{Place, place_of, front_in, bound_once, numbered_once}

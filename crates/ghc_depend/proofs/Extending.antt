@@ -1,35 +1,8 @@
 -- A step has the same effect in each store that has more bindings, where these leave alone what the step binds, and close no cycle with it.
-use Rattle.std.proofs.Common.{◌≡◌, ℕ, ℤ, cond, List, [], ◌∷◌, refl, sym, ap, ◌∙◌, subst, inl, inr, ◌⊎◌}
-use Rattle.std.specs.Prelude.{Option, Some, None, IsTrue}
-use Rattle.std.specs.Option.{option_or}
+use Rattle.ghc_depend.proofs.Words.{◌≡◌, ℕ, ℤ, cond, List, [], ◌∷◌, refl, sym, ap, ◌∙◌, subst, inl, inr, ◌⊎◌, Option, Some, None, IsTrue, option_or, VarName, Tree, integer, Expression, Goal, call, unify, assign, stream, In, IsAcyclic, name_cmp, with_binding, StoreValue, value_at, leads_once, leads_agree, name_total, In_either, set_of, Program, leaf_variables, EndsIn, Number, of_integer, of_variable, computed, accepts, number_there, outcome_there, Unifies, with_bindings, by_value, comes_more, Hold, all_extend, bound_by, Fresh, is_bound, keeps, moves_fresh, has_value, unbound_before, itself, bound_is, Act, ByClause as by_clause, Unified as unified, Assigned as assigned, Given as given, Closed as closed, Effect, HasEffect, IsOnChainsOf, ReadsTail, effect_local, effect_binds}
 use Rattle.std.specs.FinMap as finite
 use Rattle.std.specs.FinSet as set
-use Rattle.ghc_term.specs.declared.var_name.VarName.{VarName}
-use Rattle.ghc_term.specs.Tree.{Tree, integer}
-use Rattle.ghc_term.specs.Expression.{Expression}
-use Rattle.ghc_term.specs.Goal.{Goal, call, unify, assign, stream}
-use Rattle.ghc_term.specs.Lists.{In}
-use Rattle.ghc_term.specs.Bindings.{IsAcyclic, name_cmp, with_binding}
-use Rattle.ghc_term.specs.Store.{StoreValue, value_at}
-use Rattle.ghc_term.proofs.Chains.{leads_once, leads_agree}
-use Rattle.ghc_term.proofs.Names.{name_total}
-use Rattle.ghc_term.proofs.Searches.{In_either}
-use Rattle.ghc_term.proofs.Sets.{set_of}
-use Rattle.ghc_flat.specs.Clause.{Program}
-use Rattle.ghc_flat.specs.Variables.{leaf_variables}
-use Rattle.ghc_match.specs.Position.{EndsIn}
-use Rattle.ghc_match.specs.Value.{Number, of_integer, of_variable, computed}
-use Rattle.ghc_match.specs.Match.{accepts}
-use Rattle.ghc_match.proofs.Values.{number_there}
-use Rattle.ghc_match.proofs.Outcomes.{outcome_there}
-use Rattle.ghc_unify.specs.Unify.{Unifies, with_bindings}
-use Rattle.ghc_unify.proofs.Locality.{by_value, comes_more}
-use Rattle.ghc_unify.proofs.Extension.{Hold, all_extend}
-use Rattle.ghc_unify.proofs.Bound.{bound_by, IsBoundIn, Fresh, is_bound, keeps, moves_fresh, has_value, unbound_before, itself, bound_is}
-use Rattle.ghc_fire.specs.declared.act.Act.{Act}
-use Rattle.ghc_fire.specs.declared.act.Act.TheVariants.{ByClause as by_clause, Unified as unified, Assigned as assigned, Given as given, Closed as closed}
-use Rattle.ghc_fire.specs.Effect.{Effect, HasEffect, IsOnChainsOf, ReadsTail}
-use Rattle.ghc_fire.proofs.Steps.{effect_local, effect_binds}
+use Rattle.ghc_unify.proofs.Bound.{IsBoundIn}
 
 -- S' has the bindings of S, leaves alone what is bound, and closes no cycle with it
 pub record IsMore (binds : StoreValue) (S S' : VarName → Option Tree) : Type 0 where

@@ -1,18 +1,6 @@
 -- What a list has or has not, goals by name, and what a step makes.
-use Rattle.std.proofs.Common.{◌≡◌, ℕ, ◌+◌, ◌≤◌, ◌<◌, ◌⊎◌, true, false, cond, List, [], ◌∷◌, length, refl, sym, ap, ◌∙◌, subst, inl, inr, arith, Some, None}
-use Rattle.std.specs.Prelude.{Option}
-use Rattle.std.specs.Option.{option_or}
-use Rattle.std.specs.Ordering.{eq_by_cmp, is_eq}
-use Rattle.std.specs.Cmp.{tied_itself}
+use Rattle.ghc_depend.proofs.Words.{◌≡◌, ℕ, ◌+◌, ◌≤◌, ◌<◌, ◌⊎◌, true, false, cond, List, [], ◌∷◌, length, refl, sym, ap, ◌∙◌, subst, inl, inr, arith, Some, None, Option, option_or, eq_by_cmp, is_eq, tied_itself, GoalName, Goal, In, goal_cmp, Goals, Record, with_makes, without_goal, goal_total, same_goal, same_parts, is_before, before_in, MakesGoal, DependsOn}
 use Rattle.std.specs.FinMap as finite
-use Rattle.ghc_term.specs.declared.goal_name.GoalName.{GoalName}
-use Rattle.ghc_term.specs.Goal.{Goal}
-use Rattle.ghc_term.specs.Lists.{In}
-use Rattle.ghc_fire.specs.Goals.{goal_cmp, Goals}
-use Rattle.ghc_records.specs.Record.{Record, with_makes, without_goal}
-use Rattle.ghc_fire.proofs.GoalNames.{goal_total, same_goal, same_parts}
-use Rattle.ghc_records.proofs.OrderLemmas.{is_before, before_in}
-use Rattle.ghc_depend.specs.Depend.{MakesGoal, DependsOn}
 
 -- by whether there is a value
 pub by_option : {A P : Type 0} (o : Option A) → (o ≡ None → P) → ((a : A) → o ≡ Some a → P) → P

@@ -1,19 +1,5 @@
 -- The first place where one of some records stands, and the first consequence of a step.
-use Rattle.std.proofs.Common.{◌≡◌, ℕ, ◌<◌, ◌≤◌, ◌⊎◌, List, [], ◌∷◌, ◌++◌, length, refl, sym, ap, ◌∙◌, subst, inl, inr, arith}
-use Rattle.std.specs.Prelude.{◌↔◌, Option, Some, None, IfSome, slice_get, option_map}
-use Rattle.std.proofs.lemmas.Bool.{cases_order}
-use Rattle.ghc_term.specs.Lists.{In}
-use Rattle.ghc_term.proofs.ListsLemmas.{in_at, in_more, in_left, in_last}
-use Rattle.ghc_records.specs.Orders.{Precedes, AreDistinct}
-use Rattle.ghc_records.specs.Record.{Record, numbers}
-use Rattle.ghc_records.specs.Slots.{SlotList, held_in, StandsIn}
-use Rattle.ghc_records.specs.UseIndex.{StepDependsOn}
-use Rattle.ghc_records.proofs.SlotLemmas.{stands_held}
-use Rattle.ghc_records.proofs.SlotClosing.{once_of}
-use Rattle.ghc_records.proofs.SlotRanks.{rank, rank_stands, rank_back, rank_least}
-use Rattle.ghc_records.proofs.OrderLemmas.{Before, is_before, before_in, before_once, record_once, records_distinct}
-use Rattle.ghc_depend.specs.Depend.{Uses, Follows, IsKeptAs, IsFirstConsequence}
-use Rattle.ghc_depend.specs.Places.{IsFirstAmong}
+use Rattle.ghc_depend.proofs.Words.{◌≡◌, ℕ, ◌<◌, ◌≤◌, ◌⊎◌, List, [], ◌∷◌, ◌++◌, length, refl, sym, ap, ◌∙◌, subst, inl, inr, arith, ◌↔◌, Option, Some, None, IfSome, slice_get, option_map, cases_order, In, in_at, in_more, in_left, in_last, Precedes, AreDistinct, Record, numbers, SlotList, held_in, StandsIn, StepDependsOn, stands_held, once_of, rank, rank_stands, rank_back, rank_least, Before, is_before, before_in, before_once, record_once, records_distinct, Uses, Follows, IsKeptAs, IsFirstConsequence, IsFirstAmong}
 use Rattle.ghc_depend.proofs.Finding.{same_value}
 use Rattle.ghc_depend.proofs.Causes.{NoneBetween, place_at, places_before, stands_before, place_before}
 use Rattle.ghc_depend.proofs.Nearest.{is_first, none_of_it}

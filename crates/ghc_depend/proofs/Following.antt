@@ -1,13 +1,6 @@
 -- Consequences of kept steps: which there are, the first, and the sets that are closed under them.
-use Rattle.std.proofs.Common.{◌≡◌, ◌⊎◌, List, [], ◌∷◌, ◌++◌, refl, sym, ap, ◌∙◌, subst, inl, inr, append_assoc, append-nil}
-use Rattle.ghc_term.specs.Lists.{In}
-use Rattle.ghc_term.proofs.ListsLemmas.{in_left, in_right, in_either}
-use Rattle.ghc_term.proofs.Decided.{Decided, decided_both, decided_either, nat_decided}
-use Rattle.ghc_records.specs.Orders.{Picks, nothing, take, leave, AreDistinct}
-use Rattle.ghc_records.specs.Record.{Record, numbers}
-use Rattle.ghc_records.proofs.OrderLemmas.{Before, is_before, before_is, before_in, number_in, record_once, records_distinct}
-use Rattle.ghc_depend.specs.Depend.{DependsOn, Follows, directly, further, GoesWith, IsFirstConsequence}
-use Rattle.ghc_depend.specs.Deletion.{IsClosedUnder, IsPartedBy}
+use Rattle.ghc_depend.proofs.Words.{◌≡◌, ◌⊎◌, List, [], ◌∷◌, ◌++◌, refl, sym, ap, ◌∙◌, subst, inl, inr, append_assoc, append-nil, In, in_left, in_right, in_either, Decided, decided_both, decided_either, nat_decided, Picks, nothing, leave, AreDistinct, Record, numbers, Before, is_before, before_is, before_in, number_in, record_once, records_distinct, DependsOn, Follows, directly, further, GoesWith, IsFirstConsequence, IsClosedUnder, IsPartedBy}
+use Rattle.ghc_records.specs.Orders.{take}
 use Rattle.ghc_depend.proofs.Decided.{known_depends}
 use Rattle.ghc_depend.proofs.Picking.{behind_before, stands_in_front, pick}
 

@@ -1,18 +1,5 @@
 -- Which step of an order is the first that stands too early.
-use Rattle.std.proofs.Common.{◌≡◌, ℕ, zero, suc, ◌+◌, ◌<◌, ◌≤◌, List, [], ◌∷◌, ◌++◌, length, take, refl, sym, ap, ◌∙◌, subst, inl, inr, arith}
-use Rattle.std.specs.Prelude.{Some, slice_get}
-use Rattle.std.proofs.lemmas.Bool.{cases_lt}
-use Rattle.std.proofs.Math.Nat.{eq-or-lt_of_le}
-use Rattle.ghc_term.specs.Lists.{In}
-use Rattle.ghc_term.proofs.ListsLemmas.{in_at, in_more}
-use Rattle.ghc_records.specs.Orders.{AreDistinct}
-use Rattle.ghc_records.specs.Record.{Record, numbers}
-use Rattle.ghc_records.specs.Slots.{SlotList, held_in, StandsIn}
-use Rattle.ghc_records.specs.UseIndex.{StepDependsOn}
-use Rattle.ghc_records.proofs.SlotRanks.{rank, rank_back, rank_least}
-use Rattle.ghc_records.proofs.OrderLemmas.{is_before, before_is, before_in, record_once}
-use Rattle.ghc_depend.specs.Depend.{Uses}
-use Rattle.ghc_depend.specs.Lawful.{IsTooEarly, StandsBehind, IsNoFurther, IsInTime, AreInTime, IsFirstNeeded, IsFirstTooEarly}
+use Rattle.ghc_depend.proofs.Words.{◌≡◌, ℕ, zero, suc, ◌+◌, ◌<◌, ◌≤◌, List, [], ◌∷◌, ◌++◌, length, take, refl, sym, ap, ◌∙◌, subst, inl, inr, arith, Some, slice_get, cases_lt, eq-or-lt_of_le, In, in_at, in_more, AreDistinct, Record, numbers, SlotList, held_in, StandsIn, StepDependsOn, rank, rank_back, rank_least, is_before, before_is, before_in, record_once, Uses, IsTooEarly, StandsBehind, IsNoFurther, IsInTime, AreInTime, IsFirstNeeded, IsFirstTooEarly}
 use Rattle.ghc_depend.proofs.Finding.{same_value, ends}
 use Rattle.ghc_depend.proofs.OrderWalks.{place_in_front}
 use Rattle.ghc_depend.proofs.Causes.{at_split, stands_before, place_before, places_before, before_places, place_at, place_within}

@@ -1,38 +1,10 @@
 -- A journal that takes no number twice tells one kept list and one shelf.
-use Rattle.std.proofs.Common.{◌≡◌, ◌≢◌, ℕ, ◌+◌, ◌⊎◌, true, false, cond, List, [], ◌∷◌, ◌++◌, refl, sym, ap, ◌∙◌, subst, subst₂, inl, inr, Some, None, append-nil, append_assoc}
-use Rattle.std.specs.Prelude.{Option}
-use Rattle.std.specs.Ordering.{eq_by_cmp, is_eq, nat_cmp}
-use Rattle.std.specs.Cmp.{nat_cmp_total, tied_itself, ranked}
-use Rattle.std.specs.declared.cmp.Ordering.{Ordering}
-use Rattle.std.specs.declared.cmp.Ordering.TheVariants.{Less, Equal, Greater}
+use Rattle.ghc_depend.proofs.Words.{◌≡◌, ◌≢◌, ℕ, ◌+◌, ◌⊎◌, true, false, cond, List, [], ◌∷◌, ◌++◌, refl, sym, ap, ◌∙◌, subst, subst₂, inl, inr, Some, None, append-nil, append_assoc, Option, eq_by_cmp, is_eq, nat_cmp, nat_cmp_total, tied_itself, Ordering, Less, Equal, Greater, same_from_push, GoalName, Goal, In, IsAcyclic, value_at, in_left, in_right, in_more, Program, Query, IsProgram, IsQuery, Act, Asked as asking, asks_once, Effect, Goals, effect_once, AreDistinct, State, Record, numbers, Shelf, after, IsThere, HasStepEffect, Fires, query_state, Runs, Replays, Opening, Entry, took, undid, rolled, redid, reordered, step_of, picks_once, numbers_append, run_once, replay_well, IsKeptAs, GoesWith, IsInOrder, with_shelved, IsWithout, IsSplitAt, taken_numbers, Keeps, KeepsIsOne}
+use Rattle.std.specs.Cmp.{ranked}
 use Rattle.std.specs.FinMap as finite
-use Rattle.ghc_term.specs.declared.goal_name.GoalName.{GoalName}
-use Rattle.ghc_term.specs.Goal.{Goal}
-use Rattle.ghc_term.specs.Lists.{In}
-use Rattle.ghc_term.specs.Bindings.{IsAcyclic}
-use Rattle.ghc_term.specs.Store.{value_at}
-use Rattle.ghc_term.proofs.ListsLemmas.{in_left, in_right, in_more}
-use Rattle.ghc_flat.specs.Clause.{Program, Query}
-use Rattle.ghc_flat.specs.Flat.{IsProgram, IsQuery}
-use Rattle.ghc_fire.specs.declared.act.Act.{Act}
-use Rattle.ghc_fire.specs.declared.act.Act.TheVariants.{Asked as asking}
-use Rattle.ghc_fire.proofs.Asking.{asks_once}
-use Rattle.ghc_fire.specs.Effect.{Effect}
-use Rattle.ghc_fire.specs.Goals.{Goals}
-use Rattle.ghc_fire.proofs.Steps.{effect_once}
-use Rattle.ghc_records.specs.Orders.{AreDistinct}
-use Rattle.ghc_records.specs.Record.{State, Record, numbers, Shelf, after, IsThere, HasStepEffect, Fires}
-use Rattle.ghc_records.specs.Replay.{query_state, Runs, Replays}
-use Rattle.ghc_records.specs.Journal.{Opening, Entry, took, undid, rolled, redid, reordered, step_of}
-use Rattle.ghc_records.proofs.OrderLemmas.{picks_once, numbers_append}
-use Rattle.ghc_records.proofs.Replaying.{run_once, replay_well}
-use Rattle.ghc_depend.specs.Depend.{IsKeptAs, GoesWith}
-use Rattle.ghc_depend.specs.Lawful.{IsInOrder}
-use Rattle.ghc_depend.specs.Kept.{with_shelved, IsWithout, IsSplitAt, taken_numbers, Keeps}
-use Rattle.ghc_depend.specs.Laws.{KeepsIsOne}
 use Rattle.ghc_depend.proofs.Finding.{same_value}
 use Rattle.ghc_depend.proofs.Once.{same_records}
-use Rattle.ghc_depend.proofs.Picking.{never_nothing, last_once, distinct_left, distinct_last, picks_in}
+use Rattle.ghc_depend.proofs.Picking.{never_nothing, distinct_left, distinct_last, picks_in}
 
 pub taken_append : (es fs : List Entry) → taken_numbers (es ++ fs) ≡ taken_numbers es ++ taken_numbers fs
 taken_append [] fs = refl
@@ -164,19 +136,19 @@ Came o es (reordered order) kept shelf = (old : List Record) × Keeps o es old s
 came : {o : Opening} {fs : List Entry} {kept : List Record} {shelf : Shelf} → Keeps o fs kept shelf → (es : List Entry) (e : Entry) → fs ≡ es ++ e ∷ [] → Came o es e kept shelf
 came Keeps.at_first es e p = absurd (never_nothing es e (sym p))
 came {o} (Keeps.step {es = fs} {kept = kept} {shelf = shelf} r t k run) es e p =
-    let q = last_once fs es (took (step_of r)) e p in
+    let q = same_from_push fs es (took (step_of r)) e p in
     subst₂ (λ js j. Came o js j (kept ++ r ∷ []) shelf) q.0 q.1 (kept, r, t, k, run, refl, refl)
 came {o} (Keeps.undo {es = fs} {kept = kept} {left = left} {shelf = shelf} n r k i out) es e p =
-    let q = last_once fs es (undid n) e p in
+    let q = same_from_push fs es (undid n) e p in
     subst₂ (λ js j. Came o js j left (with_shelved (r ∷ []) shelf)) q.0 q.1 (kept, shelf, r, k, i, out, refl)
 came {o} (Keeps.roll {es = fs} {kept = kept} {left = left} {shelf = shelf} n r gone k i split) es e p =
-    let q = last_once fs es (rolled n) e p in
+    let q = same_from_push fs es (rolled n) e p in
     subst₂ (λ js j. Came o js j left (with_shelved gone shelf)) q.0 q.1 (kept, shelf, r, gone, k, i, split, refl)
 came {o} (Keeps.redo {es = fs} {kept = kept} {shelf = shelf} n r k i) es e p =
-    let q = last_once fs es (redid n) e p in
+    let q = same_from_push fs es (redid n) e p in
     subst₂ (λ js j. Came o js j (kept ++ r ∷ []) (finite.remove shelf n)) q.0 q.1 (kept, shelf, r, k, i, refl, refl)
 came {o} (Keeps.arrange {es = fs} {kept = kept} {new = new} {shelf = shelf} order k i) es e p =
-    let q = last_once fs es (reordered order) e p in
+    let q = same_from_push fs es (reordered order) e p in
     subst₂ (λ js j. Came o js j new shelf) q.0 q.1 (kept, k, i)
 
 nothing_kept : {o : Opening} {fs : List Entry} {kept : List Record} {shelf : Shelf} → Keeps o fs kept shelf → fs ≡ [] → ([] ≡ kept) × (finite.empty ≡ shelf)

@@ -23,3 +23,4 @@ pub mod KeptOnce
 pub mod TakenTogether
 pub mod OrderWalks
 pub mod InTime
+mod Words

@@ -1,11 +1,5 @@
 -- The first consequence of a step depends on it directly.
-use Rattle.std.proofs.Common.{◌≡◌, ℕ, ◌<◌, ◌≤◌, List, length, ap, ◌∙◌, subst, inl, inr, arith}
-use Rattle.std.specs.Prelude.{Some, slice_get}
-use Rattle.std.proofs.lemmas.Bool.{cases_lt}
-use Rattle.std.proofs.Math.Nat.{eq-or-lt_of_le}
-use Rattle.ghc_records.specs.Orders.{AreDistinct}
-use Rattle.ghc_records.specs.Record.{Record, numbers}
-use Rattle.ghc_depend.specs.Depend.{Uses, DependsOn, Follows, directly, further, IsKeptAs, IsFirstConsequence}
+use Rattle.ghc_depend.proofs.Words.{◌≡◌, ℕ, ◌<◌, ◌≤◌, List, length, ap, ◌∙◌, subst, inl, inr, arith, Some, slice_get, cases_lt, eq-or-lt_of_le, AreDistinct, Record, numbers, Uses, DependsOn, Follows, directly, further, IsKeptAs, IsFirstConsequence}
 use Rattle.ghc_depend.proofs.Finding.{same_value}
 use Rattle.ghc_depend.proofs.Following.{follows_in}
 use Rattle.ghc_depend.proofs.Causes.{NoneBetween, StandsAt, placed, place_at, place_within, stands_before, place_before}

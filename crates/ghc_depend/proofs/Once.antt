@@ -1,14 +1,6 @@
 -- Orders and consequences are determined.
-use Rattle.std.proofs.Common.{◌≡◌, ℕ, List, [], ◌∷◌, ◌++◌, refl, sym, ap, ◌∙◌, subst, inl, inr}
-use Rattle.ghc_term.specs.Lists.{In}
-use Rattle.ghc_term.proofs.ListsLemmas.{in_right, compare_splits}
-use Rattle.ghc_records.specs.Orders.{AreDistinct}
-use Rattle.ghc_records.specs.Record.{Record, numbers}
-use Rattle.ghc_records.proofs.OrderLemmas.{precedes_once, picks_once, number_in, record_once, records_distinct}
-use Rattle.ghc_depend.specs.Depend.{IsFirstConsequence}
-use Rattle.ghc_depend.specs.Lawful.{IsOfKept, IsOrderOf, IsTooEarly, IsLawful, IsFirstWrong, IsFirstMissing, IsFirstTooEarly, IsUnlawful, wrong, missing, too_early}
+use Rattle.ghc_depend.proofs.Words.{◌≡◌, ℕ, List, [], ◌∷◌, ◌++◌, refl, sym, ap, ◌∙◌, subst, inl, inr, In, in_right, compare_splits, AreDistinct, Record, numbers, precedes_once, picks_once, number_in, record_once, records_distinct, IsFirstConsequence, IsOfKept, IsOrderOf, IsTooEarly, IsLawful, IsFirstWrong, IsFirstMissing, IsFirstTooEarly, IsUnlawful, wrong, missing, too_early, OrdersHaveOneAnswer, ConsequencesHaveOneAnswer}
 use Rattle.ghc_depend.proofs.Finding.{ends}
-use Rattle.ghc_depend.specs.Laws.{OrdersHaveOneAnswer, ConsequencesHaveOneAnswer}
 use Rattle.ghc_depend.proofs.Picking.{head_of, tail_of}
 
 module _ {X : Type 0} where

@@ -1,38 +1,9 @@
 -- Walks over an order and over the record: which number is wrong, and which is missing.
-use Rattle.std.proofs.Common.{◌≡◌, ℕ, zero, suc, ◌+◌, ◌<◌, ◌≤◌, length, arith, ◌⊎◌, Bool, true, false, not, List, [], ◌∷◌, ◌++◌, take, get_or, refl, sym, ap, ◌∙◌, subst, inl, inr, nat_eq, ◌||◌}
-use Rattle.std.specs.Prelude.{Option, Some, None, IfNone, IsSome, slice_get}
-use Rattle.std.specs.Borrow.{Bor}
-use Rattle.std.specs.List.{list_any, position}
-use Rattle.std.proofs.lemmas.Bool.{eqb-true, eq-eqb, cases_order, cases_lt}
-use Rattle.std.proofs.lemmas.List.Quantifiers.{position-Some}
-use Rattle.std.proofs.lemmas.Option.{slice_get-get_or, slice_get_within}
-use Rattle.ghc_term.specs.Lists.{In}
-use Rattle.ghc_term.proofs.ListsLemmas.{in_more}
-use Rattle.ghc_records.specs.Orders.{AreDistinct}
-use Rattle.ghc_records.specs.Record.{Record, numbers}
-use Rattle.ghc_records.specs.Slots.{SlotList, held_in, StandsIn}
-use Rattle.ghc_records.proofs.OrderLemmas.{before_once, number_of}
-use Rattle.ghc_records.proofs.SlotLemmas.{held_stands}
-use Rattle.ghc_records.proofs.SlotRanks.{rank, rank_back, rank_least}
-use Rattle.ghc_depend.specs.Lawful.{IsOfKept, IsFirstWrong, IsFirstMissing}
+use Rattle.ghc_depend.proofs.Words.{◌≡◌, ℕ, zero, suc, ◌+◌, ◌<◌, ◌≤◌, length, arith, ◌⊎◌, Bool, true, false, not, List, [], ◌∷◌, ◌++◌, take, get_or, refl, sym, ap, ◌∙◌, subst, inl, inr, nat_eq, Option, Some, None, IfNone, IsSome, slice_get, Bor, list_any, position, eqb-true, cases_order, cases_lt, position-Some, slice_get-get_or, slice_get_within, In, in_more, AreDistinct, Record, numbers, SlotList, held_in, StandsIn, any_number, before_once, number_of, held_stands, rank, rank_back, rank_least, IsOfKept, IsFirstWrong, IsFirstMissing}
 use Rattle.ghc_depend.proofs.Causes.{at_split, places_before}
 use Rattle.ghc_depend.proofs.Picking.{distinct_push}
 
--- a number is in a list as the look-up says
-pub any_number : (n : ℕ) (ks : List ℕ) → In n ks → list_any (nat_eq n) ks ≡ true
-any_number n [] i = absurd i
-any_number n (k ∷ ks) (inl e) = ap (λ b. b || list_any (nat_eq n) ks) (eq-eqb n k e)
-any_number n (k ∷ ks) (inr i) = elim (nat_eq n k) as (λ b. (b || list_any (nat_eq n) ks) ≡ true) [ true ↦ refl | false ↦ any_number n ks i ]
-
-pub number_any : (n : ℕ) (ks : List ℕ) → list_any (nat_eq n) ks ≡ true → In n ks
-number_any n [] e = cc
-number_any n (k ∷ ks) e =
-    elim (nat_eq n k) as (λ b. nat_eq n k ≡ b → (b || list_any (nat_eq n) ks) ≡ true → In n (k ∷ ks)) [
-      | true ↦ λ p _. inl (eqb-true n k p)
-      | false ↦ λ p q. inr (number_any n ks q)
-    ] refl e
-
--- and one number more
+-- one number more of a list of kept ones
 pub one_of_kept : (kept : List Record) (done : List ℕ) (n : ℕ) → IsOfKept kept done → In n (numbers kept) → ¬ In n done → IsOfKept kept (done ++ n ∷ [])
 one_of_kept kept done n k there new = (
   (λ m i. elim (in_more done n m i) [ inl j ↦ k.0 m j | inr same ↦ subst (λ z. In z (numbers kept)) (sym same) there ]),

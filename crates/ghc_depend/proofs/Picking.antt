@@ -1,12 +1,8 @@
 -- Parts of a list, in its order.
-use Rattle.std.proofs.Common.{◌≡◌, ◌+◌, ◌≤◌, ◌⊎◌, List, [], ◌∷◌, ◌++◌, length, refl, sym, ap, ◌∙◌, subst, inl, inr, arith}
-use Rattle.std.proofs.lemmas.List.{length-append}
-use Rattle.ghc_term.specs.Lists.{In}
-use Rattle.ghc_term.proofs.ListsLemmas.{in_left, in_right, in_either, in_splits, in_more}
-use Rattle.ghc_records.specs.Orders.{Picks, nothing, take, leave, AreDistinct}
-use Rattle.ghc_records.specs.Record.{Record, numbers}
+use Rattle.ghc_depend.proofs.Words.{◌≡◌, ◌+◌, ◌≤◌, ◌⊎◌, List, [], ◌∷◌, ◌++◌, length, refl, sym, ap, ◌∙◌, subst, inl, inr, arith, length-append, In, in_left, in_right, in_either, in_splits, in_more, Picks, nothing, leave, AreDistinct, Record, numbers, Before, before_in, before_once, number_in, number_of, numbers_append}
+use Rattle.ghc_records.specs.Orders.{take}
+pub use Rattle.ghc_flat.proofs.DistinctLemmas.{distinct_left}
 pub use Rattle.ghc_records.proofs.PickLemmas.{before_left, before_right, before_across, picks_in, picks_has, picks_order, picks_keep, picks_distinct, pick_last, leave_last, no_longer}
-use Rattle.ghc_records.proofs.OrderLemmas.{Before, before_in, before_once, number_in, number_of, numbers_append}
 
 module _ {X : Type 0} where
   pub before_front : (done rest : List X) (r m : X) → In m done → Before (done ++ r ∷ rest) m r
@@ -35,17 +31,6 @@ module _ {X : Type 0} where
 
   pub tail_of : {x y : X} {xs ys : List X} → x ∷ xs ≡ y ∷ ys → xs ≡ ys
   tail_of e = cc
-
-  -- a list determines its last element, and what stands in front of that
-  pub last_once : (xs ys : List X) (x y : X) → xs ++ x ∷ [] ≡ ys ++ y ∷ [] → (xs ≡ ys) × (x ≡ y)
-  last_once [] [] x y e = (refl, head_of e)
-  last_once [] (z ∷ ys) x y e = absurd (never_nothing ys y (sym (tail_of e)))
-  last_once (z ∷ xs) [] x y e = absurd (never_nothing xs x (tail_of e))
-  last_once (z ∷ xs) (w ∷ ys) x y e = let p = last_once xs ys x y (tail_of e) in ((λ i. head_of e i ∷ p.0 i), p.1)
-
-  pub distinct_left : (xs ys : List X) → AreDistinct (xs ++ ys) → AreDistinct xs
-  distinct_left [] ys d = tt
-  distinct_left (x ∷ xs) ys d = ((λ i. d.0 (in_left xs ys x i)), distinct_left xs ys d.1)
 
   pub distinct_last : (xs : List X) (x : X) → AreDistinct (xs ++ x ∷ []) → ¬ In x xs
   distinct_last (y ∷ xs) x d (inl e) = d.0 (subst (λ z. In z (xs ++ x ∷ [])) e (in_right xs (x ∷ []) x (inl refl)))

@@ -1,17 +1,6 @@
 -- The state in which each step of a replay was taken.
-use Rattle.std.proofs.Common.{◌≡◌, ◌⊎◌, List, [], ◌∷◌, ◌++◌, refl, sym, ap, ◌∙◌, subst, inl, inr, Some, append_assoc, append-nil}
+use Rattle.ghc_depend.proofs.Words.{◌≡◌, ◌⊎◌, List, [], ◌∷◌, ◌++◌, refl, sym, ap, ◌∙◌, subst, inl, inr, Some, append_assoc, append-nil, VarName, GoalName, Tree, In, value_at, in_left, in_right, in_either, Program, Query, AreDistinct, State, Record, numbers, after, Fires, query_state, Runs, HaveStepNumbers, Replays, Before, before_once, number_in, record_once, records_distinct}
 use Rattle.std.specs.FinMap as finite
-use Rattle.ghc_term.specs.declared.var_name.VarName.{VarName}
-use Rattle.ghc_term.specs.declared.goal_name.GoalName.{GoalName}
-use Rattle.ghc_term.specs.Tree.{Tree}
-use Rattle.ghc_term.specs.Lists.{In}
-use Rattle.ghc_term.specs.Store.{value_at}
-use Rattle.ghc_term.proofs.ListsLemmas.{in_left, in_right, in_either}
-use Rattle.ghc_flat.specs.Clause.{Program, Query}
-use Rattle.ghc_records.specs.Orders.{AreDistinct}
-use Rattle.ghc_records.specs.Record.{State, Record, numbers, after, Fires}
-use Rattle.ghc_records.specs.Replay.{query_state, Runs, HaveStepNumbers, Replays}
-use Rattle.ghc_records.proofs.OrderLemmas.{Before, before_once, number_in, record_once, records_distinct}
 use Rattle.ghc_depend.proofs.Finding.{not_both}
 use Rattle.ghc_depend.proofs.Picking.{before_front, behind_before}
 use Rattle.ghc_depend.proofs.Results.{taken_at, step_binds, Results, at_first, with_step}

@@ -1,27 +1,7 @@
 -- What stands in a state that a list of steps left, whatever their order.
-use Rattle.std.proofs.Common.{◌≡◌, ◌≤◌, ◌⊎◌, List, [], ◌∷◌, ◌++◌, refl, sym, ap, ◌∙◌, subst, inl, inr, arith, Some, None}
-use Rattle.std.specs.Prelude.{Option}
-use Rattle.std.specs.Option.{option_or}
+use Rattle.ghc_depend.proofs.Words.{◌≡◌, ◌≤◌, ◌⊎◌, List, [], ◌∷◌, ◌++◌, refl, sym, ap, ◌∙◌, subst, inl, inr, arith, Some, None, Option, option_or, VarName, GoalName, Tree, Goal, In, name_cmp, value_at, in_left, in_right, in_either, Program, Query, holds_nothing, BindsAndReads, Act, Asked as asked, Asks, HasEffect, effect_binds, State, Record, after, without_goal, IsThere, HasStepEffect, Fires, query_state, bound_at, made_or_old}
 use Rattle.std.specs.FinMap as finite
-use Rattle.ghc_term.specs.declared.var_name.VarName.{VarName}
-use Rattle.ghc_term.specs.declared.goal_name.GoalName.{GoalName}
-use Rattle.ghc_term.specs.Tree.{Tree}
-use Rattle.ghc_term.specs.Goal.{Goal}
-use Rattle.ghc_term.specs.Lists.{In}
-use Rattle.ghc_term.specs.Bindings.{name_cmp}
-use Rattle.ghc_term.specs.Store.{value_at}
-use Rattle.ghc_term.proofs.ListsLemmas.{in_left, in_right, in_either}
-use Rattle.ghc_flat.specs.Clause.{Program, Query}
-use Rattle.ghc_term.proofs.SetsLemmas.{holds_nothing}
-use Rattle.ghc_unify.specs.Laws.{BindsAndReads}
-use Rattle.ghc_fire.specs.declared.act.Act.{Act}
-use Rattle.ghc_fire.specs.declared.act.Act.TheVariants.{Asked as asked}
-use Rattle.ghc_fire.specs.Asked.{Asks}
-use Rattle.ghc_fire.specs.Effect.{HasEffect}
-use Rattle.ghc_fire.proofs.Steps.{effect_binds, nothing}
-use Rattle.ghc_records.specs.Record.{State, Record, after, without_goal, IsThere, HasStepEffect, Fires}
-use Rattle.ghc_records.specs.Replay.{query_state}
-use Rattle.ghc_records.proofs.States.{bound_at, made_or_old}
+use Rattle.ghc_fire.proofs.Steps.{nothing}
 use Rattle.ghc_depend.proofs.Finding.{by_option, not_both, same_value, find_value, own, makes_at, own_made, without_it, without_other, without_none}
 
 -- the goal that a step consumed, as it was there, and the effect on it

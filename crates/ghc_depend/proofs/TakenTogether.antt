@@ -1,15 +1,7 @@
 -- Steps that are taken away together: a step and its consequences, the last one first.
-use Rattle.std.proofs.Common.{◌≡◌, ◌⊎◌, ℕ, true, false, cond, List, [], ◌∷◌, ◌++◌, refl, sym, ap, ◌∙◌, subst, inl, inr, Some, None}
-use Rattle.std.specs.Ordering.{eq_by_cmp, is_eq, nat_cmp}
-use Rattle.std.specs.Cmp.{nat_cmp_total, tied_itself}
+use Rattle.ghc_depend.proofs.Words.{◌≡◌, ◌⊎◌, ℕ, true, false, cond, List, [], ◌∷◌, ◌++◌, refl, sym, ap, ◌∙◌, subst, inl, inr, Some, None, eq_by_cmp, is_eq, nat_cmp, nat_cmp_total, tied_itself, In, in_right, in_either, Picks, nothing, leave, AreDistinct, Record, numbers, Shelf, Before, is_before, before_is, before_in, before_once, number_in, number_of, record_once, records_distinct, picks_once, DependsOn, Follows, directly, further, GoesWith, AreConsequencesOf, with_shelved, IsSplitAt}
 use Rattle.std.specs.FinMap as finite
-use Rattle.ghc_term.specs.Lists.{In}
-use Rattle.ghc_term.proofs.ListsLemmas.{in_right, in_either}
-use Rattle.ghc_records.specs.Orders.{Picks, nothing, take, leave, AreDistinct}
-use Rattle.ghc_records.specs.Record.{Record, numbers, Shelf}
-use Rattle.ghc_records.proofs.OrderLemmas.{Before, is_before, before_is, before_in, before_once, number_in, number_of, record_once, records_distinct, picks_once}
-use Rattle.ghc_depend.specs.Depend.{DependsOn, Follows, directly, further, GoesWith, AreConsequencesOf}
-use Rattle.ghc_depend.specs.Kept.{with_shelved, IsSplitAt}
+use Rattle.ghc_records.specs.Orders.{take}
 use Rattle.ghc_depend.proofs.Following.{split_closed, known_follows}
 use Rattle.ghc_depend.proofs.Once.{same_records}
 use Rattle.ghc_depend.proofs.Picking.{before_front, picks_in, picks_has, picks_order, picks_keep, picks_distinct, pick}

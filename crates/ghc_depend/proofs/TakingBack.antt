@@ -1,17 +1,6 @@
 -- A state from which a step was taken back is the state without that step.
-use Rattle.std.proofs.Common.{◌≡◌, true, false, [], ◌∷◌, refl, sym, ap, ◌∙◌, subst, inl, inr, Some, None}
-use Rattle.std.specs.Prelude.{is_some, if◌then◌else◌}
+use Rattle.ghc_depend.proofs.Words.{◌≡◌, true, false, [], ◌∷◌, refl, sym, ap, ◌∙◌, subst, inl, inr, Some, None, is_some, if◌then◌else◌, VarName, GoalName, In, value_at, Program, Query, State, Record, Replays, IsTakenBack, MakesGoal, Binds, IsMadeIn, IsConsumedIn, IsBoundIn, IsWithoutSteps}
 use Rattle.std.specs.FinMap as finite
-use Rattle.ghc_term.specs.declared.var_name.VarName.{VarName}
-use Rattle.ghc_term.specs.declared.goal_name.GoalName.{GoalName}
-use Rattle.ghc_term.specs.Lists.{In}
-use Rattle.ghc_term.specs.Store.{value_at}
-use Rattle.ghc_flat.specs.Clause.{Program, Query}
-use Rattle.ghc_records.specs.Record.{State, Record}
-use Rattle.ghc_records.specs.Replay.{Replays}
-use Rattle.ghc_records.specs.State.{IsTakenBack}
-use Rattle.ghc_depend.specs.Depend.{MakesGoal, Binds}
-use Rattle.ghc_depend.specs.Deletion.{IsMadeIn, IsConsumedIn, IsBoundIn, IsWithoutSteps}
 use Rattle.ghc_depend.proofs.Placing.{place_of}
 use Rattle.ghc_depend.proofs.Results.{taken_at}
 

@@ -1,8 +1,5 @@
 -- A step without consequences can be taken away, and each step with its consequences.
-use Rattle.std.proofs.Common.{◌≡◌, [], ◌∷◌}
-use Rattle.ghc_records.proofs.Replaying.{replay_well}
-use Rattle.ghc_depend.specs.Depend.{GoesWith}
-use Rattle.ghc_depend.specs.Laws.{UndoKeepsReplay, RollKeepsReplay}
+use Rattle.ghc_depend.proofs.Words.{◌≡◌, [], ◌∷◌, replay_well, GoesWith, UndoKeepsReplay, RollKeepsReplay}
 use Rattle.ghc_depend.proofs.Following.{alone, alone_closed, split, split_closed}
 use Rattle.ghc_depend.proofs.Deleting.{replays}
 

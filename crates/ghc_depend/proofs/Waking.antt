@@ -1,20 +1,7 @@
 -- A step that woke a goal.
-use Rattle.std.proofs.Common.{◌≡◌, ℕ, ◌||◌, [], ◌∷◌, length, refl, sym, ap, ◌∙◌, subst, inl, inr, arith, true, false, Bool}
+use Rattle.ghc_depend.proofs.Words.{◌≡◌, ℕ, ◌||◌, [], ◌∷◌, length, refl, sym, ap, ◌∙◌, subst, inl, inr, arith, true, false, Bool, eq_by_cmp, is_some, VarName, In, name_cmp, name_total, same_name, Precedes, Record, before_in, is_before, precedes_rises, Rises, Consumes, Binds, by_reading, first_wake, second_wake, third_wake, wake, WakingDepends}
 use Rattle.std.specs.FinMap as finite
 use Rattle.std.specs.FinSet as set
-use Rattle.std.specs.Ordering.{eq_by_cmp}
-use Rattle.std.specs.Prelude.{is_some}
-use Rattle.ghc_term.specs.declared.var_name.VarName.{VarName}
-use Rattle.ghc_term.specs.Lists.{In}
-use Rattle.ghc_term.specs.Bindings.{name_cmp}
-use Rattle.ghc_term.proofs.Names.{name_total}
-use Rattle.ghc_term.proofs.Total.{same_name}
-use Rattle.ghc_records.specs.Orders.{Precedes}
-use Rattle.ghc_records.specs.Record.{Record}
-use Rattle.ghc_records.proofs.OrderLemmas.{before_in, is_before, precedes_rises, Rises}
-use Rattle.ghc_depend.specs.Depend.{Consumes, Binds}
-use Rattle.ghc_depend.specs.Cause.{by_reading}
-use Rattle.ghc_depend.specs.Facts.{first_wake, second_wake, third_wake, wake, WakingDepends}
 
 abbrev number : Record → ℕ
 number r = r.number

@@ -1,22 +1,6 @@
 -- Steps of a replay can be taken again in every order in which each stands behind all on which it depends, and with every others left out on which none of them depends.
-use Rattle.std.proofs.Common.{◌≡◌, List, [], ◌∷◌, ◌++◌, refl, sym, ap, ◌∙◌, subst, inl, inr, arith, Some, append_assoc, append-nil}
-use Rattle.std.specs.Prelude.{Option, is_some}
-use Rattle.std.specs.Option.{option_or}
+use Rattle.ghc_depend.proofs.Words.{◌≡◌, List, [], ◌∷◌, ◌++◌, refl, sym, ap, ◌∙◌, subst, inl, inr, arith, Some, append_assoc, append-nil, Option, is_some, option_or, VarName, Tree, In, IsAcyclic, value_at, reaches_more, in_left, in_right, Program, Query, with_bindings, AreDistinct, State, Record, numbers, after, Fires, query_state, Runs, Replays, AreKnownIn, before_is, Uses, DependsOn}
 use Rattle.std.specs.FinMap as finite
-use Rattle.ghc_term.specs.declared.var_name.VarName.{VarName}
-use Rattle.ghc_term.specs.Tree.{Tree}
-use Rattle.ghc_term.specs.Lists.{In}
-use Rattle.ghc_term.specs.Bindings.{IsAcyclic}
-use Rattle.ghc_term.specs.Store.{value_at}
-use Rattle.ghc_term.proofs.Chains.{reaches_more}
-use Rattle.ghc_term.proofs.ListsLemmas.{in_left, in_right}
-use Rattle.ghc_flat.specs.Clause.{Program, Query}
-use Rattle.ghc_unify.specs.Unify.{with_bindings}
-use Rattle.ghc_records.specs.Orders.{AreDistinct}
-use Rattle.ghc_records.specs.Record.{State, Record, numbers, after, Fires}
-use Rattle.ghc_records.specs.Replay.{query_state, Runs, Replays, AreKnownIn}
-use Rattle.ghc_records.proofs.OrderLemmas.{before_is}
-use Rattle.ghc_depend.specs.Depend.{Uses, DependsOn}
 use Rattle.ghc_depend.proofs.Finding.{by_option, own, own_made}
 use Rattle.ghc_depend.proofs.Extending.{effect_elsewhere}
 use Rattle.ghc_depend.proofs.Results.{Taken, firing, asking_fires, step_binds, fires, IsUntaken, IsUnmade, Results, of_query, at_first, bound_by, goal_by, with_step}

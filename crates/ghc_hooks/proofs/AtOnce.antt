@@ -1,14 +1,6 @@
 -- What trees reach, where that is seen at once.
-use Rattle.std.proofs.Common.{◌≡◌, ℕ, ◌+◌, ◌<◌, List, length, get_or, take, refl, sym, ap, ◌∙◌, subst, inl, inr}
-use Rattle.std.specs.Prelude.{Bool, Option, Some, Result, Ok, Err, IsTrue, IfOk}
+use Rattle.ghc_hooks.proofs.Words.{◌≡◌, ℕ, ◌+◌, ◌<◌, List, length, get_or, take, refl, sym, ap, ◌∙◌, subst, inl, inr, Bool, Option, Some, Result, Ok, Err, IsTrue, IfOk, VarName, Tree, variable, node, trees, Occurs, IsClosed, Variables, IsSetOf, Reaches, here, through, one_inserted, holds_nothing, Gains, OneReaches}
 use Rattle.std.specs.FinSet as set
-use Rattle.ghc_term.specs.declared.var_name.VarName.{VarName}
-use Rattle.ghc_term.specs.Tree.{Tree, variable, node, trees, Occurs, IsClosed}
-use Rattle.ghc_term.specs.Sets.{Variables, IsSetOf}
-use Rattle.ghc_term.specs.Bindings.{Reaches, here, through}
-use Rattle.ghc_term.proofs.SetsLemmas.{one_inserted, holds_nothing}
-use Rattle.ghc_match.specs.Meeting.{Gains}
-use Rattle.ghc_hooks.specs.Reached.{OneReaches}
 use Rattle.ghc_hooks.proofs.LookingAll.{so_far, earlier, latest}
 use Rattle.ghc_hooks.proofs.Reaching.{occurs_among, argument_reaches}
 

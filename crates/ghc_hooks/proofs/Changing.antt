@@ -1,15 +1,7 @@
 -- Tries whose parts fit each other still do after a goal was added, noted, dropped or woken.
-use Rattle.std.proofs.Common.{◌≡◌, ◌<◌, ◌≤◌, ◌+◌, List, sym, ap, subst, ◌∙◌, inl, inr, arith}
-use Rattle.std.specs.Prelude.{◌↔◌, Some, None, IsTrue}
+use Rattle.ghc_hooks.proofs.Words.{◌≡◌, ◌<◌, ◌≤◌, ◌+◌, List, sym, ap, subst, ◌∙◌, inl, inr, arith, ◌↔◌, Some, None, IsTrue, VarName, GoalName, name_cmp, Table, GoalNames, Note, NotesByGoal, GoalsByVariable, looks, FitEachOther}
 use Rattle.std.specs.FinMap as finite
 use Rattle.std.specs.FinSet as set
-use Rattle.ghc_term.specs.declared.var_name.VarName.{VarName}
-use Rattle.ghc_term.specs.declared.goal_name.GoalName.{GoalName}
-use Rattle.ghc_term.specs.Bindings.{name_cmp}
-use Rattle.ghc_term.specs.Table.{Table}
-use Rattle.ghc_hooks.specs.Face.{GoalNames}
-use Rattle.ghc_hooks.specs.Notes.{Note, NotesByGoal}
-use Rattle.ghc_hooks.specs.Looks.{GoalsByVariable, looks, FitEachOther}
 use Rattle.ghc_hooks.proofs.Looking.{goal_put, goal_taken, goal_cases}
 use Rattle.ghc_hooks.proofs.LookingAll.{HasBesides, HasWithout}
 use Rattle.ghc_hooks.proofs.Fitting.{put_elsewhere, gone_here, gone_elsewhere, nothing_gone, one_more_note, one_note_less, follows_put, follows_gone}

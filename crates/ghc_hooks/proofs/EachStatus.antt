@@ -1,33 +1,6 @@
 -- Each goal has a status in an acyclic finite store.
-use Rattle.std.proofs.Common.{◌≡◌, ◌≢◌, ℕ, suc, false, List, length, refl, subst, inl, inr, ◌⊎◌, arith}
-use Rattle.std.specs.Prelude.{Option, Some, None}
-use Rattle.std.proofs.lemmas.Option.{slice_get_within}
-use Rattle.ghc_term.specs.declared.var_name.VarName.{VarName}
-use Rattle.ghc_term.specs.declared.fault.Fault.{Fault}
-use Rattle.ghc_term.specs.declared.fault.Fault.TheVariants.{Waits}
-use Rattle.ghc_term.specs.Tree.{Tree}
-use Rattle.ghc_term.specs.Expression.{Expression}
-use Rattle.ghc_term.specs.Goal.{Goal, call, unify, assign, stream}
-use Rattle.ghc_term.specs.Bindings.{IsAcyclic}
-use Rattle.ghc_term.specs.Store.{StoreValue, value_at}
-use Rattle.ghc_term.proofs.ListsLemmas.{in_at}
-use Rattle.ghc_flat.specs.Clause.{Clause, Program, IsClause, IsFor}
-use Rattle.ghc_flat.specs.Flat.{IsProgram, is_stream}
-use Rattle.ghc_flat.specs.Variables.{leaf_variables}
-use Rattle.ghc_match.specs.Position.{EndsIn}
-use Rattle.ghc_match.specs.Value.{Wants, Value, number, waits as waits_on, bad, HasValue}
-use Rattle.ghc_match.specs.Match.{WaitsFor, Outcome, refuses, waits, accepts, HasOutcome}
-use Rattle.ghc_match.proofs.EachOutcome.{each_outcome}
-use Rattle.ghc_match.proofs.EachValue.{each_value}
-use Rattle.ghc_match.proofs.Outcomes.{refuses_waits, accepts_waits}
-use Rattle.ghc_match.proofs.SetsOf.{SetOf, no_set, restated_set, below_set}
-use Rattle.ghc_match.proofs.Values.{number_waits_not, ends_once}
-use Rattle.ghc_fire.specs.Attempt.{Answer, proposes, refused, SomeWaitsFor, Attempts}
-use Rattle.ghc_fire.proofs.EachAnswer.{each_answer}
-use Rattle.ghc_fire.proofs.EachEffect.{clause_decided}
-use Rattle.ghc_fire.proofs.Steps.{clause_once}
-use Rattle.ghc_hooks.specs.Status.{Status, ready, waiting, failed, streaming, Awaits, HasStatus, is_ready, is_waiting, is_failed, is_stream_goal}
-use Rattle.ghc_hooks.specs.Laws.{EachGoalHasAStatus}
+use Rattle.ghc_hooks.proofs.Words.{◌≡◌, ◌≢◌, ℕ, suc, false, List, length, refl, subst, inl, inr, ◌⊎◌, arith, Option, Some, None, slice_get_within, VarName, Fault, Waits, Tree, Expression, Goal, call, unify, assign, stream, IsAcyclic, StoreValue, value_at, in_at, Clause, Program, IsClause, IsFor, IsProgram, is_stream, leaf_variables, EndsIn, Wants, Value, number, waits as waits_on, bad, HasValue, WaitsFor, Outcome, refuses, accepts, HasOutcome, each_outcome, each_value, refuses_waits, accepts_waits, SetOf, no_set, restated_set, below_set, number_waits_not, ends_once, Answer, proposes, refused, SomeWaitsFor, Attempts, each_answer, clause_decided, clause_once, Status, ready, waiting, failed, streaming, Awaits, HasStatus, is_ready, is_waiting, is_failed, is_stream_goal, EachGoalHasAStatus}
+use Rattle.ghc_match.specs.Match.{waits}
 
 -- the refusal is that of a goal that waits, or another one
 waits_or_not : (f : Fault) → (f ≡ Waits) ⊎ (f ≢ Waits)

@@ -1,15 +1,7 @@
 -- A state has one face.
-use Rattle.std.proofs.Common.{◌≡◌, refl, sym, ◌∙◌}
-use Rattle.std.specs.Prelude.{◌↔◌, Option, Some, None, IsTrue}
+use Rattle.ghc_hooks.proofs.Words.{◌≡◌, refl, sym, ◌∙◌, ◌↔◌, Option, Some, None, IsTrue, GoalName, StoreValue, Program, Goals, goal_total, goal_antisymmetric, Face, GoalNames, IsFace, FaceIsOne}
 use Rattle.std.specs.FinMap as finite
 use Rattle.std.specs.FinSet as set
-use Rattle.ghc_term.specs.declared.goal_name.GoalName.{GoalName}
-use Rattle.ghc_term.specs.Store.{StoreValue}
-use Rattle.ghc_flat.specs.Clause.{Program}
-use Rattle.ghc_fire.specs.Goals.{Goals}
-use Rattle.ghc_fire.proofs.GoalNames.{goal_total, goal_antisymmetric}
-use Rattle.ghc_hooks.specs.Face.{Face, GoalNames, IsFace}
-use Rattle.ghc_hooks.specs.Laws.{FaceIsOne}
 use Rattle.ghc_hooks.proofs.Few.{agree, same_goals}
 use Rattle.ghc_hooks.proofs.NotedFaces.{through, turned}
 use Rattle.ghc_hooks.proofs.Pairs.{clause_total, clause_antisymmetric, hook_total, hook_antisymmetric}

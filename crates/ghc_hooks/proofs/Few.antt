@@ -1,12 +1,6 @@
 -- Sets of one goal, and goals that are put in where they are, or taken out where they are not.
-use Rattle.std.proofs.Common.{◌≡◌, ◌+◌, Bool, true, false, cond, refl, sym, ap, ◌∙◌, inl, inr, arith}
-use Rattle.std.specs.Prelude.{◌↔◌, IsTrue}
+use Rattle.ghc_hooks.proofs.Words.{◌≡◌, ◌+◌, Bool, true, false, cond, refl, sym, ap, ◌∙◌, inl, inr, arith, ◌↔◌, IsTrue, GoalName, not_both, goal_cmp, goal_total, goal_antisymmetric, GoalNames}
 use Rattle.std.specs.FinSet as set
-use Rattle.ghc_term.specs.declared.goal_name.GoalName.{GoalName}
-use Rattle.ghc_term.proofs.ListsLemmas.{not_both}
-use Rattle.ghc_fire.specs.Goals.{goal_cmp}
-use Rattle.ghc_fire.proofs.GoalNames.{goal_total, goal_antisymmetric}
-use Rattle.ghc_hooks.specs.Face.{GoalNames}
 use Rattle.ghc_hooks.proofs.Looking.{goal_put, goal_taken}
 
 pub agree : (a b : Bool) → (IsTrue a → IsTrue b) → (IsTrue b → IsTrue a) → a ≡ b

@@ -1,19 +1,7 @@
 -- The parts of the tries fit each other after a change.
-use Rattle.std.proofs.Common.{◌≡◌, ℕ, zero, suc, ◌<◌, ◌+◌, ◌-◌, false, cond, List, refl, sym, ap, ◌∙◌, inl, inr, ◌⊎◌, arith}
-use Rattle.std.specs.Prelude.{◌↔◌, Some, None, IsTrue, is_some}
-use Rattle.std.specs.Ordering.{eq_by_cmp}
+use Rattle.ghc_hooks.proofs.Words.{◌≡◌, ℕ, zero, suc, ◌<◌, ◌+◌, ◌-◌, false, cond, List, refl, sym, ap, ◌∙◌, inl, inr, ◌⊎◌, arith, ◌↔◌, Some, None, IsTrue, is_some, eq_by_cmp, VarName, GoalName, name_cmp, not_both, has_member, is_member, goal_cmp, goal_total, goal_antisymmetric, Note, NotesByGoal, HasLookedAt, GoalsByVariable, looks}
 use Rattle.std.specs.FinMap as finite
 use Rattle.std.specs.FinSet as set
-use Rattle.ghc_term.specs.declared.var_name.VarName.{VarName}
-use Rattle.ghc_term.specs.declared.goal_name.GoalName.{GoalName}
-use Rattle.ghc_term.specs.Bindings.{name_cmp}
-use Rattle.ghc_term.proofs.ListsLemmas.{not_both}
-use Rattle.ghc_term.proofs.SetsLemmas.{has_member, is_member}
-use Rattle.ghc_fire.specs.Goals.{goal_cmp}
-use Rattle.ghc_fire.proofs.GoalNames.{goal_total, goal_antisymmetric}
-use Rattle.ghc_hooks.specs.Notes.{Note, NotesByGoal}
-use Rattle.ghc_hooks.specs.Tries.{HasLookedAt}
-use Rattle.ghc_hooks.specs.Looks.{GoalsByVariable, looks}
 use Rattle.ghc_hooks.proofs.Looking.{goal_itself, goal_cases}
 use Rattle.ghc_hooks.proofs.LookingAll.{HasBesides, HasWithout}
 

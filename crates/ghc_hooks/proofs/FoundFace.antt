@@ -1,33 +1,8 @@
 -- The parts of a face, as far as they have been found.
-use Rattle.std.proofs.Common.{◌≡◌, ℕ, ◌+◌, ◌<◌, Bor, List, [], ◌∷◌, map, length, get_or, take, refl, sym, ap, subst, ◌∙◌, inl, inr, ◌⊎◌}
-use Rattle.std.specs.Prelude.{◌↔◌, Option, Some, None, IsTrue, IfSome, IfNone, option_copied}
-use Rattle.std.specs.Option.{option_map}
-use Rattle.std.specs.Ordering.{nat_cmp}
+use Rattle.ghc_hooks.proofs.Words.{◌≡◌, ℕ, ◌+◌, ◌<◌, List, [], ◌∷◌, map, length, get_or, take, refl, sym, ap, subst, ◌∙◌, inl, inr, ◌⊎◌, ◌↔◌, Option, Some, None, IsTrue, IfSome, IfNone, option_copied, option_map, nat_cmp, GoalName, VarName, name_cmp, IsAcyclic, Goal, call, In, Variables, StoreValue, value_at, Tree, Clause, Program, IsClause, IsFor, AreNumbersFor, Outcome, HasOutcome, Tried, outcome_of, outcomes_exclude, clause_once, in_get, not_both, goal_cmp, Goals, goal_total, goal_antisymmetric, Kind, Status, waiting, HasStatus, GoalNames, StandsAs, ClauseSays, pair_cmp, StatusesByGoal, HookPairs, OutcomesByClause, SaysToCall, HaveOnly, HaveBesides, HooksBesides, TellsOutcomes, TellsStatuses, WaitsBy, TellsHooks, IsOfKind, TellsPool}
+use Rattle.std.proofs.Common.{Bor}
 use Rattle.std.specs.FinMap as finite
 use Rattle.std.specs.FinSet as set
-use Rattle.ghc_term.specs.declared.goal_name.GoalName.{GoalName}
-use Rattle.ghc_term.specs.declared.var_name.VarName.{VarName}
-use Rattle.ghc_term.specs.Bindings.{name_cmp, IsAcyclic}
-use Rattle.ghc_term.specs.Goal.{Goal, call}
-use Rattle.ghc_term.specs.Lists.{In}
-use Rattle.ghc_term.specs.Sets.{Variables}
-use Rattle.ghc_term.specs.Store.{StoreValue, value_at}
-use Rattle.ghc_term.specs.Tree.{Tree}
-use Rattle.ghc_flat.specs.Clause.{Clause, Program, IsClause, IsFor}
-use Rattle.ghc_flat.specs.Numbers.{AreNumbersFor}
-use Rattle.ghc_match.specs.Match.{Outcome, HasOutcome}
-use Rattle.ghc_match.specs.declared.trying.Tried.{Tried}
-use Rattle.ghc_match.specs.Told.{outcome_of}
-use Rattle.ghc_match.proofs.Outcomes.{outcomes_exclude}
-use Rattle.ghc_fire.proofs.Steps.{clause_once}
-use Rattle.ghc_term.proofs.ListsLemmas.{in_get, not_both}
-use Rattle.ghc_fire.specs.Goals.{goal_cmp, Goals}
-use Rattle.ghc_fire.proofs.GoalNames.{goal_total, goal_antisymmetric}
-use Rattle.ghc_hooks.specs.declared.face.status.Kind.{Kind}
-use Rattle.ghc_hooks.specs.Status.{Status, waiting, HasStatus}
-use Rattle.ghc_hooks.specs.Face.{GoalNames, StandsAs, ClauseSays, pair_cmp}
-use Rattle.ghc_hooks.specs.FaceCode.{StatusesByGoal, HookPairs, OutcomesByClause}
-use Rattle.ghc_hooks.specs.Parts.{SaysToCall, HaveOnly, HaveBesides, HooksBesides, TellsOutcomes, TellsStatuses, WaitsBy, TellsHooks, IsOfKind, TellsPool}
 use Rattle.ghc_hooks.proofs.Statuses.{status_once}
 use Rattle.ghc_hooks.proofs.Pairs.{hook_total, hook_antisymmetric, clause_total, clause_antisymmetric}
 use Rattle.ghc_hooks.proofs.Looking.{goal_put}

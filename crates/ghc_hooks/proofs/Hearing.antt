@@ -1,20 +1,7 @@
 -- What the clauses of some numbers say to a call.
-use Rattle.std.proofs.Common.{◌≡◌, ℕ, true, false, List, [], ◌∷◌, ◌++◌, refl, subst, inl, inr, ◌⊎◌}
-use Rattle.std.specs.Prelude.{◌↔◌, Option, IsTrue}
+use Rattle.ghc_hooks.proofs.Words.{◌≡◌, ℕ, true, false, List, [], ◌∷◌, ◌++◌, refl, subst, inl, inr, ◌⊎◌, ◌↔◌, Option, IsTrue, VarName, Tree, In, Variables, IsSetOf, in_left, in_last, in_more, not_both, holds_nothing, no_member, has_member, is_member, Clause, Program, IsClause, Accepts, Refuses, WaitsFor, LooksAt, HasOutcome, Gains, OneHas, has_more, refuses_waits, accepts_refuses, accepts_waits, clause_once, Heard}
 use Rattle.std.specs.FinSet as set
-use Rattle.ghc_term.specs.declared.var_name.VarName.{VarName}
-use Rattle.ghc_term.specs.Tree.{Tree}
-use Rattle.ghc_term.specs.Lists.{In}
-use Rattle.ghc_term.specs.Sets.{Variables, IsSetOf}
-use Rattle.ghc_term.proofs.ListsLemmas.{in_left, in_last, in_more, not_both}
-use Rattle.ghc_term.proofs.SetsLemmas.{holds_nothing, no_member, has_member, is_member}
-use Rattle.ghc_flat.specs.Clause.{Clause, Program, IsClause}
-use Rattle.ghc_match.specs.Match.{Accepts, Refuses, WaitsFor, LooksAt, waits, HasOutcome}
-use Rattle.ghc_match.specs.Meeting.{Gains}
-use Rattle.ghc_match.proofs.GainsLemmas.{OneHas, has_more}
-use Rattle.ghc_match.proofs.Outcomes.{refuses_waits, accepts_refuses, accepts_waits}
-use Rattle.ghc_fire.proofs.Steps.{clause_once}
-use Rattle.ghc_hooks.specs.declared.heard.Heard.{Heard}
+use Rattle.ghc_match.specs.Match.{waits}
 
 -- the empty set has all that no number has
 none_had : (R : ℕ → VarName → Type 0) (s : Variables) → s ≡ set.empty → IsSetOf s (OneHas R [])

@@ -22,3 +22,4 @@ pub mod Unblocking
 pub mod Under
 pub mod Marks
 pub mod AtOnce
+mod Words

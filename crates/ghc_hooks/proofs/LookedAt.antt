@@ -1,20 +1,5 @@
 -- A goal waits only for what it looks at, and what it looks at is decided by itself.
-use Rattle.std.proofs.Common.{◌≡◌, List, [], ◌∷◌, inl, inr, refl, sym, subst, ◌∙◌}
-use Rattle.std.specs.Prelude.{Option, true, false, IsTrue}
-use Rattle.ghc_term.specs.declared.var_name.VarName.{VarName}
-use Rattle.ghc_term.specs.Tree.{Tree, variable}
-use Rattle.ghc_term.specs.Expression.{Expression, leaf, operation}
-use Rattle.ghc_term.specs.Goal.{Goal, call, unify, assign, stream}
-use Rattle.ghc_term.specs.Bindings.{Leads, at_integer, at_node, at_free, along, Comes, now, on, Passes, Reaches, here, through}
-use Rattle.ghc_flat.specs.Clause.{Clause, Program}
-use Rattle.ghc_match.specs.Match.{WaitsFor, LooksAt}
-use Rattle.ghc_match.specs.Looked.{ExpressionReaches, GoalLooksAt}
-use Rattle.ghc_match.proofs.LooksAt.{looks_there, looks_back}
-use Rattle.ghc_match.proofs.Values.{leaf_reaches, passes_reaches}
-use Rattle.ghc_hooks.specs.Status.{Status, ready, waiting, failed, streaming, HasStatus, is_waiting}
-use Rattle.ghc_hooks.specs.Notes.{AgreeOnLooked}
-use Rattle.ghc_hooks.specs.Verdict.{awaits}
-use Rattle.ghc_hooks.specs.Laws.{GoalsWaitForWhatTheyLookAt, LookedIsOfWhatIsLookedAt, ExactNotesStayExact, ExactNotesAwaitWhatIsLookedAt}
+use Rattle.ghc_hooks.proofs.Words.{◌≡◌, List, [], ◌∷◌, inl, inr, refl, sym, subst, ◌∙◌, Option, true, false, IsTrue, VarName, Tree, variable, Expression, leaf, operation, Goal, call, unify, assign, stream, Leads, at_integer, at_node, at_free, along, Comes, now, on, Passes, Reaches, here, through, Clause, Program, WaitsFor, LooksAt, ExpressionReaches, GoalLooksAt, looks_there, looks_back, leaf_reaches, passes_reaches, Status, ready, waiting, failed, streaming, HasStatus, is_waiting, AgreeOnLooked, awaits, GoalsWaitForWhatTheyLookAt, LookedIsOfWhatIsLookedAt, ExactNotesStayExact, ExactNotesAwaitWhatIsLookedAt}
 use Rattle.ghc_hooks.proofs.Statuses.{status_there}
 
 -- where a chain ends in a variable it passes it

@@ -1,20 +1,6 @@
 -- Sets of goals with one goal more or less.
-use Rattle.std.proofs.Common.{◌≡◌, List, Bool, true, false, not, ◌&&◌, ◌||◌, refl, sym, ap, ◌∙◌, inl, inr, ◌⊎◌}
-use Rattle.std.specs.Prelude.{◌↔◌, IsTrue}
-use Rattle.std.specs.Ordering.{eq_by_cmp}
-use Rattle.std.specs.Cmp.{eq_by_cmp_equiv}
+use Rattle.ghc_hooks.proofs.Words.{◌≡◌, List, Bool, true, false, not, ◌&&◌, ◌||◌, refl, sym, ap, ◌∙◌, inl, inr, ◌⊎◌, ◌↔◌, IsTrue, eq_by_cmp, eq_by_cmp_equiv, or_cases, or_right, VarName, GoalName, name_cmp, list_any-from_Contains, Contains-from_any, In, not_both, in_contains, contains_in, same_name, goal_cmp, goal_total, same_goal, GoalNames}
 use Rattle.std.specs.FinSet as set
-use Rattle.std.proofs.lemmas.Bool.{or_cases, or_right}
-use Rattle.ghc_term.specs.declared.var_name.VarName.{VarName}
-use Rattle.ghc_term.specs.declared.goal_name.GoalName.{GoalName}
-use Rattle.ghc_term.specs.Bindings.{name_cmp}
-use Rattle.std.proofs.lemmas.Map.Views.{list_any-from_Contains, Contains-from_any}
-use Rattle.ghc_term.specs.Lists.{In}
-use Rattle.ghc_term.proofs.ListsLemmas.{not_both, in_contains, contains_in}
-use Rattle.ghc_term.proofs.Names.{same_name}
-use Rattle.ghc_fire.specs.Goals.{goal_cmp}
-use Rattle.ghc_fire.proofs.GoalNames.{goal_total, same_goal}
-use Rattle.ghc_hooks.specs.Face.{GoalNames}
 
 pub goal_itself : (g : GoalName) → eq_by_cmp goal_cmp g g ≡ true
 goal_itself g = (eq_by_cmp_equiv goal_total).refl g

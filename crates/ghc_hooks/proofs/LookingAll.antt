@@ -1,12 +1,5 @@
 -- Goals by variable with one goal more or less under each of some variables.
-use Rattle.std.proofs.Common.{◌≡◌, ℕ, ◌+◌, ◌<◌, List, [], ◌∷◌, ◌++◌, get_or, take, drop, length, sym, subst, ◌∙◌, inl, inr, ◌⊎◌}
-use Rattle.std.specs.Prelude.{◌↔◌, IsTrue}
-use Rattle.std.proofs.lemmas.List.{take_more, take-append-drop}
-use Rattle.ghc_term.specs.declared.var_name.VarName.{VarName}
-use Rattle.ghc_term.specs.declared.goal_name.GoalName.{GoalName}
-use Rattle.ghc_term.specs.Lists.{In}
-use Rattle.ghc_term.proofs.ListsLemmas.{in_more, in_left, in_last}
-use Rattle.ghc_hooks.specs.Looks.{GoalsByVariable, looks}
+use Rattle.ghc_hooks.proofs.Words.{◌≡◌, ℕ, ◌+◌, ◌<◌, List, [], ◌∷◌, ◌++◌, get_or, take, drop, length, sym, subst, ◌∙◌, inl, inr, ◌⊎◌, ◌↔◌, IsTrue, take_more, take-append-drop, VarName, GoalName, In, in_more, in_left, in_last, GoalsByVariable, looks}
 
 -- the goal g stands under each of these besides, or under none of them any more
 abbrev pub HasBesides : GoalsByVariable → List VarName → GoalName → GoalsByVariable → Type 0

@@ -1,25 +1,7 @@
 -- Where notes are exact and no goal is untried, what the notes show is the face of the state.
-use Rattle.std.proofs.Common.{◌≡◌, Bool, true, false, Some, None, refl, sym, subst, ap, ◌∙◌, inl, inr, ◌⊎◌}
-use Rattle.std.specs.Prelude.{◌↔◌, ◌≢◌, Option, IsTrue}
+use Rattle.ghc_hooks.proofs.Words.{◌≡◌, Bool, true, false, Some, None, refl, sym, subst, ap, ◌∙◌, inl, inr, ◌⊎◌, ◌↔◌, ◌≢◌, Option, IsTrue, VarName, GoalName, Fault, Goal, Tree, IsAcyclic, StoreValue, value_at, Variables, not_both, Program, is_stream, goal_cmp, Goals, Status, ready, waiting, failed, streaming, HasStatus, is_stream_goal, Face, GoalNames, IsFace, StandsAs, IsHookedOn, Note, NotesByGoal, AreExact, IsNotedOn, IsNotedFace, IsNotedAs, IsStreamGoal, SettledNotesShowTheFace}
 use Rattle.std.specs.FinMap as finite
 use Rattle.std.specs.FinSet as set
-use Rattle.ghc_term.specs.declared.var_name.VarName.{VarName}
-use Rattle.ghc_term.specs.declared.goal_name.GoalName.{GoalName}
-use Rattle.ghc_term.specs.declared.fault.Fault.{Fault}
-use Rattle.ghc_term.specs.Goal.{Goal}
-use Rattle.ghc_term.specs.Tree.{Tree}
-use Rattle.ghc_term.specs.Bindings.{IsAcyclic}
-use Rattle.ghc_term.specs.Store.{StoreValue, value_at}
-use Rattle.ghc_term.specs.Sets.{Variables}
-use Rattle.ghc_term.proofs.ListsLemmas.{not_both}
-use Rattle.ghc_flat.specs.Clause.{Program}
-use Rattle.ghc_flat.specs.Flat.{is_stream}
-use Rattle.ghc_fire.specs.Goals.{goal_cmp, Goals}
-use Rattle.ghc_hooks.specs.Status.{Status, ready, waiting, failed, streaming, HasStatus, is_stream_goal}
-use Rattle.ghc_hooks.specs.Face.{Face, GoalNames, IsFace, StandsAs, IsHookedOn}
-use Rattle.ghc_hooks.specs.Notes.{Note, NotesByGoal, AreExact, IsNotedOn}
-use Rattle.ghc_hooks.specs.NotedFace.{IsNotedFace, IsNotedAs, IsStreamGoal}
-use Rattle.ghc_hooks.specs.Laws.{SettledNotesShowTheFace}
 use Rattle.ghc_hooks.proofs.Statuses.{status_once}
 
 -- equivalences in a row

@@ -1,27 +1,8 @@
 -- Pairs in order, and tables whose keys are pairs.
-use Rattle.std.proofs.Common.{◌≡◌, ℕ, Bool, true, false, cond, ◌&&◌, List, [], ◌∷◌, map, refl, sym, ap, ◌∙◌, nat_eq}
-use Rattle.std.specs.Prelude.{Option, Some}
-use Rattle.std.specs.declared.cmp.Ordering.{Ordering}
-use Rattle.std.specs.declared.cmp.Ordering.TheVariants.{Less, Equal, Greater}
-use Rattle.std.specs.Map.{lookup}
-use Rattle.std.specs.Option.{option_map}
-use Rattle.std.specs.Ordering.{nat_cmp, ordering_then, eq_by_cmp, is_eq}
-use Rattle.std.specs.Cmp.{IsTotalOrder, nat_cmp_total, tied_then}
+use Rattle.ghc_hooks.proofs.Words.{◌≡◌, ℕ, Bool, true, false, cond, ◌&&◌, List, [], ◌∷◌, map, refl, sym, ap, ◌∙◌, nat_eq, Option, Some, Ordering, Less, Equal, Greater, lookup, option_map, nat_cmp, ordering_then, eq_by_cmp, is_eq, IsTotalOrder, nat_cmp_total, tied_then, IsAntisymmetric, nat_cmp-IsAntisymmetric, then_total, on_total, GoalName, VarName, name_cmp, tie, same as same_name, name_total, name_antisymmetric, goal_cmp, goal_total, goal_antisymmetric, same_is as goal_is, pair_cmp, outcomes_found, Tried, outcome_of, value_is, inserted}
 use Rattle.std.specs.FinMap as finite
-use Rattle.std.specs.FinMap.{IsAntisymmetric, nat_cmp-IsAntisymmetric}
-use Rattle.std.proofs.lemmas.Cmp.{then_total, on_total}
-use Rattle.ghc_term.specs.declared.goal_name.GoalName.{GoalName}
-use Rattle.ghc_term.specs.declared.var_name.VarName.{VarName}
-use Rattle.ghc_term.specs.Bindings.{name_cmp}
-use Rattle.ghc_term.proofs.Entries.{tie, same as same_name, same_is as name_is}
-use Rattle.ghc_term.proofs.Names.{name_total, name_antisymmetric}
-use Rattle.ghc_fire.specs.Goals.{goal_cmp}
-use Rattle.ghc_fire.proofs.GoalNames.{goal_total, goal_antisymmetric, same as same_goal, same_is as goal_is}
-use Rattle.ghc_hooks.specs.Face.{pair_cmp}
-use Rattle.ghc_hooks.specs.Found.{outcomes_found}
-use Rattle.ghc_match.specs.declared.trying.Tried.{Tried}
-use Rattle.ghc_match.specs.Told.{outcome_of}
-use Rattle.ghc_term.proofs.Indexed.{value_is, inserted}
+use Rattle.ghc_term.proofs.Entries.{same_is as name_is}
+use Rattle.ghc_fire.proofs.GoalNames.{same as same_goal}
 
 both : (a b : Ordering) → ordering_then a b ≡ Equal → (a ≡ Equal) × (b ≡ Equal)
 both Less b e = cc

@@ -1,20 +1,6 @@
 -- How far the search for all that trees reach has come: which variables were reached, and which trees are still open.
-use Rattle.std.proofs.Common.{◌≡◌, ℕ, ◌<◌, List, [], ◌∷◌, ◌++◌, refl, sym, ap, ◌∙◌, subst, inl, inr, ◌⊎◌, append-nil}
-use Rattle.std.specs.Prelude.{◌↔◌, Option, Some, None, IsTrue}
+use Rattle.ghc_hooks.proofs.Words.{◌≡◌, ℕ, ◌<◌, List, [], ◌∷◌, ◌++◌, refl, sym, ap, ◌∙◌, subst, inl, inr, ◌⊎◌, append-nil, ◌↔◌, Option, Some, None, IsTrue, VarName, Tree, variable, node, trees, Occurs, OccursIn, StoreValue, value_at, In, Variables, IsSetOf, Reaches, here, through, IsAcyclic, value_list, in_left, in_right, in_either, in_last, one_inserted, holds_nothing, StandsIn, sizes, falls_away, sees_falls, Expression, leaf, operation, ExpressionReaches, leaves, OneReaches, TakesUp}
 use Rattle.std.specs.FinSet as set
-use Rattle.ghc_term.specs.declared.var_name.VarName.{VarName}
-use Rattle.ghc_term.specs.Tree.{Tree, variable, node, trees, Occurs, OccursIn}
-use Rattle.ghc_term.specs.Store.{StoreValue, value_at}
-use Rattle.ghc_term.specs.Lists.{In}
-use Rattle.ghc_term.specs.Sets.{Variables, IsSetOf}
-use Rattle.ghc_term.specs.Bindings.{Reaches, here, through, IsAcyclic}
-use Rattle.ghc_term.specs.Seen.{value_list}
-use Rattle.ghc_term.proofs.ListsLemmas.{in_left, in_right, in_either, in_last}
-use Rattle.ghc_term.proofs.SetsLemmas.{one_inserted, holds_nothing}
-use Rattle.ghc_term.proofs.Searching.{StandsIn, sizes, falls_away, sees_falls}
-use Rattle.ghc_term.specs.Expression.{Expression, leaf, operation}
-use Rattle.ghc_match.specs.Looked.{ExpressionReaches}
-use Rattle.ghc_hooks.specs.Reached.{leaves, OneReaches, TakesUp}
 
 -- what stands in one of the trees stands in one of more of them
 stands_left : (ts us : List Tree) (y : VarName) → StandsIn y ts → StandsIn y (ts ++ us)

@@ -1,30 +1,5 @@
 -- A goal has one status, and it is decided by what the goal looks at.
-use Rattle.std.proofs.Common.{◌≡◌, true, refl, sym, ap, inr, Some, None, List, ℕ}
-use Rattle.std.specs.Prelude.{Option}
-use Rattle.ghc_term.specs.declared.var_name.VarName.{VarName}
-use Rattle.ghc_term.specs.Tree.{Tree, variable}
-use Rattle.ghc_term.specs.Lists.{In}
-use Rattle.ghc_term.specs.Expression.{Expression}
-use Rattle.ghc_term.specs.Goal.{Goal, call, unify, assign, stream}
-use Rattle.ghc_term.specs.Bindings.{Passes}
-use Rattle.ghc_term.proofs.ListsLemmas.{not_both as one_test}
-use Rattle.ghc_term.proofs.SetsLemmas.{one_set, set_of}
-use Rattle.ghc_flat.specs.Clause.{Program}
-use Rattle.ghc_flat.specs.Flat.{is_stream}
-use Rattle.ghc_term.specs.Sets.{Variables, IsSetOf}
-use Rattle.ghc_term.specs.declared.fault.Fault.{Fault}
-use Rattle.ghc_fire.specs.declared.act.Act.{Act}
-use Rattle.ghc_fire.specs.Effect.{Effect}
-use Rattle.ghc_fire.specs.Attempt.{Answer, proposes, refused, SomeWaitsFor, Attempts}
-use Rattle.ghc_fire.proofs.Tries.{attempt_once, attempt_there}
-use Rattle.ghc_flat.specs.Variables.{leaf_variables}
-use Rattle.ghc_match.specs.Looked.{ExpressionReaches, GoalLooksAt}
-use Rattle.ghc_match.proofs.Chains.{leads_there, leads_back}
-use Rattle.ghc_match.proofs.Values.{leaf_reaches, passes_reaches}
-use Rattle.ghc_match.proofs.LooksAt.{looks_back}
-use Rattle.ghc_match.proofs.Outcomes.{waits_there}
-use Rattle.ghc_hooks.specs.Status.{Awaits, waiting, failed, is_ready, is_waiting, is_failed, is_stream_goal}
-use Rattle.ghc_hooks.specs.Laws.{StatusIsOne, StatusIsOfWhatIsLookedAt}
+use Rattle.ghc_hooks.proofs.Words.{◌≡◌, true, refl, sym, ap, inr, Some, None, List, ℕ, Option, VarName, Tree, variable, In, Expression, Goal, call, unify, assign, stream, Passes, not_both as one_test, one_set, set_of, Program, is_stream, Variables, IsSetOf, Fault, Act, Effect, Answer, proposes, refused, SomeWaitsFor, Attempts, attempt_once, attempt_there, leaf_variables, ExpressionReaches, GoalLooksAt, leads_there, leads_back, leaf_reaches, passes_reaches, looks_back, waits_there, Awaits, waiting, failed, is_ready, is_waiting, is_failed, is_stream_goal, StatusIsOne, StatusIsOfWhatIsLookedAt}
 
 not_both : {a : Act} {e : Effect} {f : Fault} → proposes a e ≡ refused f → ⊥
 not_both p = cc

@@ -1,15 +1,8 @@
 -- Tables of keys, and of entries by key: the finite sets and maps that they stand for.
-use Rattle.std.proofs.Common.{◌≡◌, ◌+◌, Bool, true, false, cond, not, ◌&&◌, ◌||◌, List, [], ◌∷◌, length, map, refl, sym, ap, ◌∙◌, arith}
-use Rattle.std.specs.Prelude.{Some, None, is_some}
-use Rattle.std.specs.declared.cmp.Ordering.{Ordering}
-use Rattle.std.specs.List.{list_any, AllByRecursion, IsDistinct}
-use Rattle.std.specs.Map.{lookup}
-use Rattle.std.specs.Ordering.{eq_by_cmp}
-use Rattle.std.specs.Cmp.{IsTotalOrder, eq_by_cmp_equiv}
+use Rattle.ghc_hooks.proofs.Words.{◌≡◌, ◌+◌, Bool, true, false, cond, not, ◌&&◌, ◌||◌, List, [], ◌∷◌, length, map, refl, sym, ap, ◌∙◌, arith, Some, None, is_some, Ordering, list_any, AllByRecursion, lookup, eq_by_cmp, IsTotalOrder, eq_by_cmp_equiv, IsAntisymmetric, value_is}
+use Rattle.std.specs.List.{IsDistinct}
 use Rattle.std.specs.FinMap as finite
-use Rattle.std.specs.FinMap.{IsAntisymmetric}
 use Rattle.std.specs.FinSet as set
-use Rattle.ghc_term.proofs.Indexed.{value_is}
 
 by_or : (b c : Bool) → cond b true c ≡ (b || c)
 by_or true c = refl

@@ -1,35 +1,6 @@
 -- From what clauses, unification and expressions say to the note of a goal.
-use Rattle.std.proofs.Common.{◌≡◌, ℕ, zero, suc, ◌<◌, ℤ, Bool, true, false, List, length, refl, sym, subst, ◌⊎◌, arith}
-use Rattle.std.specs.Prelude.{Option, Some, None, IsTrue}
+use Rattle.ghc_hooks.proofs.Words.{◌≡◌, ℕ, zero, suc, ◌<◌, ℤ, Bool, true, false, List, length, refl, sym, subst, ◌⊎◌, arith, Option, Some, None, IsTrue, VarName, Fault, Waits, NoMatch, Arithmetic, Tree, integer, Expression, Goal, call, unify, assign, In, IsAcyclic, Reaches, StoreValue, value_at, Variables, IsSetOf, not_both, member, no_member, set_of, Clause, Program, IsClause, IsFor, IsProgram, is_stream, AreNumbersFor, Accepts, WaitsFor, LooksAt, HasValue, number, waits as waits_on, bad, ExpressionReaches, GoalLooksAt, Unifies, UnifyFails, clashes, cycles, no_step, refused, SomeAccepts, SomeWaitsFor, CallAnswers, UnificationAnswers, AssignmentAnswers, Attempts, Unified as unified, Assigned as assigned, no_cycle, united, made_equal, clause_once, Heard, Status, ready, waiting, failed, HasStatus, is_ready, is_waiting, is_failed, is_stream_goal, Note, IsExact}
 use Rattle.std.specs.FinSet as set
-use Rattle.ghc_term.specs.declared.var_name.VarName.{VarName}
-use Rattle.ghc_term.specs.declared.fault.Fault.{Fault}
-use Rattle.ghc_term.specs.declared.fault.Fault.TheVariants.{Waits, NoMatch, Arithmetic}
-use Rattle.ghc_term.specs.Tree.{Tree, integer}
-use Rattle.ghc_term.specs.Expression.{Expression}
-use Rattle.ghc_term.specs.Goal.{Goal, call, unify, assign}
-use Rattle.ghc_term.specs.Lists.{In}
-use Rattle.ghc_term.specs.Bindings.{IsAcyclic, Reaches}
-use Rattle.ghc_term.specs.Store.{StoreValue, value_at}
-use Rattle.ghc_term.specs.Sets.{Variables, IsSetOf}
-use Rattle.ghc_term.proofs.ListsLemmas.{not_both}
-use Rattle.ghc_term.proofs.SetsLemmas.{member, no_member, set_of}
-use Rattle.ghc_flat.specs.Clause.{Clause, Program, IsClause, IsFor}
-use Rattle.ghc_flat.specs.Flat.{IsProgram, is_stream}
-use Rattle.ghc_flat.specs.Numbers.{AreNumbersFor}
-use Rattle.ghc_match.specs.Match.{Accepts, WaitsFor, LooksAt}
-use Rattle.ghc_match.specs.Value.{HasValue, number, waits as waits_on, bad}
-use Rattle.ghc_match.specs.Looked.{ExpressionReaches, GoalLooksAt}
-use Rattle.ghc_unify.specs.Unify.{Unifies, UnifyFails, clashes, cycles}
-use Rattle.ghc_fire.specs.Effect.{no_step}
-use Rattle.ghc_fire.specs.Attempt.{refused, SomeAccepts, SomeWaitsFor, CallAnswers, UnificationAnswers, AssignmentAnswers, Attempts}
-use Rattle.ghc_fire.specs.declared.act.Act.TheVariants.{Unified as unified, Assigned as assigned}
-use Rattle.ghc_fire.proofs.EachAnswer.{no_cycle}
-use Rattle.ghc_fire.proofs.EachEffect.{united, made_equal}
-use Rattle.ghc_fire.proofs.Steps.{clause_once}
-use Rattle.ghc_hooks.specs.declared.heard.Heard.{Heard}
-use Rattle.ghc_hooks.specs.Status.{Status, ready, waiting, failed, HasStatus, is_ready, is_waiting, is_failed, is_stream_goal}
-use Rattle.ghc_hooks.specs.Notes.{Note, IsExact}
 use Rattle.ghc_hooks.proofs.EachStatus.{each_status}
 use Rattle.ghc_hooks.proofs.Hearing.{IsHeard}
 use Rattle.ghc_hooks.proofs.LookedAt.{waits_for_looked}

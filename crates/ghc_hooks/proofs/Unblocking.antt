@@ -1,16 +1,7 @@
 -- The goals that do not wait, after a goal was noted, or lost its note.
-use Rattle.std.proofs.Common.{◌≡◌, sym, ap, subst, ◌∙◌, inl, inr}
-use Rattle.std.specs.Prelude.{◌↔◌, ◌⊎◌, Some, None, IsTrue}
+use Rattle.ghc_hooks.proofs.Words.{◌≡◌, sym, ap, subst, ◌∙◌, inl, inr, ◌↔◌, ◌⊎◌, Some, None, IsTrue, GoalName, not_both, goal_cmp, GoalNames, IsNoWait, Note, NotesByGoal, IsUnblocked, AreUnblocked, TakesIn}
 use Rattle.std.specs.FinMap as finite
 use Rattle.std.specs.FinSet as set
-use Rattle.ghc_term.specs.declared.goal_name.GoalName.{GoalName}
-use Rattle.ghc_term.proofs.ListsLemmas.{not_both}
-use Rattle.ghc_fire.specs.Goals.{goal_cmp}
-use Rattle.ghc_hooks.specs.Face.{GoalNames}
-use Rattle.ghc_hooks.specs.Status.{IsNoWait}
-use Rattle.ghc_hooks.specs.Notes.{Note, NotesByGoal}
-use Rattle.ghc_hooks.specs.Tries.{IsUnblocked}
-use Rattle.ghc_hooks.specs.Looks.{AreUnblocked, TakesIn}
 use Rattle.ghc_hooks.proofs.Looking.{goal_cases, goal_put, goal_taken}
 use Rattle.ghc_hooks.proofs.Fitting.{put_here, put_elsewhere, gone_here, gone_elsewhere, same_note}
 use Rattle.ghc_hooks.proofs.Changing.{still_noted}

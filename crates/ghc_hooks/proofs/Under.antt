@@ -1,20 +1,8 @@
 -- Goals by variable with one goal more or less.
-use Rattle.std.proofs.Common.{◌≡◌, List, cond, false, refl, sym, ap, ◌∙◌, subst, inl, inr}
-use Rattle.std.specs.Prelude.{Some, None}
-use Rattle.std.specs.Map.{lookup}
-use Rattle.std.specs.Ordering.{eq_by_cmp}
+use Rattle.ghc_hooks.proofs.Words.{◌≡◌, List, cond, false, refl, sym, ap, ◌∙◌, subst, inl, inr, Some, None, lookup, eq_by_cmp, VarName, GoalName, name_cmp, not_both, name_total, name_antisymmetric, itself, same, value_is, inserted, goal_cmp, GoalNames, GoalsByVariable, goals_in, goals_under, looks, HasOneMore, HasOneLess}
 use Rattle.std.specs.FinMap as finite
 use Rattle.std.specs.FinSet as set
-use Rattle.ghc_term.specs.declared.var_name.VarName.{VarName}
-use Rattle.ghc_term.specs.declared.goal_name.GoalName.{GoalName}
-use Rattle.ghc_term.specs.Bindings.{name_cmp}
-use Rattle.ghc_term.proofs.ListsLemmas.{not_both}
-use Rattle.ghc_term.proofs.Names.{name_total, name_antisymmetric, itself}
-use Rattle.ghc_term.proofs.Entries.{same, same_is}
-use Rattle.ghc_term.proofs.Indexed.{value_is, inserted}
-use Rattle.ghc_fire.specs.Goals.{goal_cmp}
-use Rattle.ghc_hooks.specs.Face.{GoalNames}
-use Rattle.ghc_hooks.specs.Looks.{GoalsByVariable, goals_in, goals_under, looks, HasOneMore, HasOneLess}
+use Rattle.ghc_term.proofs.Entries.{same_is}
 use Rattle.ghc_hooks.proofs.Looking.{name_cases, goal_put, goal_taken}
 use Rattle.ghc_hooks.proofs.Few.{put_again, in_one, take_from_none, take_the_one, take_another}
 

@@ -1,15 +1,7 @@
 -- Goals lose their notes one by one, and are untried again.
-use Rattle.std.proofs.Common.{◌≡◌, ℕ, ◌≤◌, ◌<◌, ◌+◌, Bool, true, false, List, [], ◌∷◌, length, get_or, take, refl, sym, ap, subst, ◌∙◌, inl, inr, ◌⊎◌, arith}
-use Rattle.std.specs.Prelude.{◌↔◌, Option, Some, None, IsTrue, IfSome, IfNone, slice_get}
+use Rattle.ghc_hooks.proofs.Words.{◌≡◌, ℕ, ◌≤◌, ◌<◌, ◌+◌, Bool, true, false, List, [], ◌∷◌, length, get_or, take, refl, sym, ap, subst, ◌∙◌, inl, inr, ◌⊎◌, arith, ◌↔◌, Option, Some, None, IsTrue, IfSome, IfNone, slice_get, VarName, GoalName, Variables, In, in_at, not_both, Note, NotesByGoal, Tries, HasLookedAt, AreSpared, AreWoken}
 use Rattle.std.specs.FinMap as finite
 use Rattle.std.specs.FinSet as set
-use Rattle.ghc_term.specs.declared.var_name.VarName.{VarName}
-use Rattle.ghc_term.specs.declared.goal_name.GoalName.{GoalName}
-use Rattle.ghc_term.specs.Sets.{Variables}
-use Rattle.ghc_term.specs.Lists.{In}
-use Rattle.ghc_term.proofs.ListsLemmas.{in_at, not_both}
-use Rattle.ghc_hooks.specs.Notes.{Note, NotesByGoal}
-use Rattle.ghc_hooks.specs.Tries.{Tries, HasLookedAt, AreSpared, AreWoken}
 use Rattle.ghc_hooks.proofs.Looking.{goal_put, goal_cases}
 use Rattle.ghc_hooks.proofs.LookingAll.{so_far, earlier, latest}
 use Rattle.ghc_hooks.proofs.Fitting.{gone_here, gone_elsewhere, same_note}

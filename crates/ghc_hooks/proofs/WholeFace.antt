@@ -1,24 +1,7 @@
 -- A face whose parts tell of all goals shows the state.
-use Rattle.std.proofs.Common.{◌≡◌, true, false, cond, List, [], ◌∷◌, map, refl, sym, subst, ◌∙◌, inl, inr}
-use Rattle.std.specs.Prelude.{◌↔◌, Some, IsTrue}
-use Rattle.std.specs.Ordering.{eq_by_cmp}
+use Rattle.ghc_hooks.proofs.Words.{◌≡◌, true, false, cond, List, [], ◌∷◌, map, refl, sym, subst, ◌∙◌, inl, inr, ◌↔◌, Some, IsTrue, eq_by_cmp, GoalName, Fault, Goal, In, Variables, StoreValue, Program, goal_cmp, Goals, same_goal, Kind, Ready, Waiting, Failed, Stream, Status, ready, waiting, failed, streaming, Face, GoalNames, StandsAs, IsFace, kind_of, TellsOutcomes, TellsStatuses, TellsHooks, TellsPool}
 use Rattle.std.specs.FinMap as finite
 use Rattle.std.specs.FinSet as set
-use Rattle.ghc_term.specs.declared.goal_name.GoalName.{GoalName}
-use Rattle.ghc_term.specs.declared.fault.Fault.{Fault}
-use Rattle.ghc_term.specs.Goal.{Goal}
-use Rattle.ghc_term.specs.Lists.{In}
-use Rattle.ghc_term.specs.Sets.{Variables}
-use Rattle.ghc_term.specs.Store.{StoreValue}
-use Rattle.ghc_flat.specs.Clause.{Program}
-use Rattle.ghc_fire.specs.Goals.{goal_cmp, Goals}
-use Rattle.ghc_fire.proofs.GoalNames.{same_goal}
-use Rattle.ghc_hooks.specs.declared.face.status.Kind.{Kind}
-use Rattle.ghc_hooks.specs.declared.face.status.Kind.TheVariants.{Ready, Waiting, Failed, Stream}
-use Rattle.ghc_hooks.specs.Status.{Status, ready, waiting, failed, streaming}
-use Rattle.ghc_hooks.specs.Face.{Face, GoalNames, StandsAs, IsFace}
-use Rattle.ghc_hooks.specs.Kinds.{kind_of}
-use Rattle.ghc_hooks.specs.Parts.{TellsOutcomes, TellsStatuses, TellsHooks, TellsPool}
 
 -- a goal that is there is listed
 listed : (es : List (GoalName × Goal)) (g : GoalName) (b : Goal) → finite.find goal_cmp g es ≡ Some b → In g (map (λ e. e.0) es)

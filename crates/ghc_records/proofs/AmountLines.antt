@@ -1,10 +1,5 @@
 -- Lemmas on lines that say numbers behind a word.
-use Rattle.std.proofs.Common.{◌≡◌, ◌≢◌, ◌<◌, ◌≤◌, ◌++◌, ◌∷◌, All, ℕ, List, Option, Some, None, IfNone, refl, sym, ap, ◌∙◌, arith, decimal}
-use Rattle.std.specs.Prelude.{codes}
-use Rattle.std.proofs.lemmas.List.{append_cancel_left}
-use Rattle.ghc_records.specs.Numbers.{kept_limit}
-use Rattle.ghc_records.specs.HistoryText.{greatest_number}
-use Rattle.ghc_records.specs.ChronicleText.{IsNext, opening_line}
+use Rattle.ghc_records.proofs.Words.{◌≡◌, ◌≢◌, ◌<◌, ◌≤◌, ◌++◌, ◌∷◌, All, ℕ, List, Option, Some, None, IfNone, refl, sym, ap, ◌∙◌, arith, decimal, codes, append_cancel_left, kept_limit, greatest_number, IsNext, opening_line}
 use Rattle.ghc_records.proofs.CutLemmas.{cut_once, no_cut, number_plain, one_number}
 
 -- what stands behind the same

@@ -1,24 +1,5 @@
 -- Lemmas on lines that say steps which ask for goals.
-use Rattle.std.proofs.Common.{◌≡◌, ◌≢◌, ◌≤◌, IfOk, IfSome, IfNone, ℕ, zero, suc, ◌+◌, ◌==◌, All, List, [], ◌∷◌, ◌++◌, Option, Some, None, Result, Ok, Err, Bool, true, false, inl, inr, refl, sym, ap, ◌∙◌, subst, arith, decimal, filter, drop, append_assoc, cond}
-use Rattle.std.specs.Prelude.{codes, is_some, MatchResult}
-use Rattle.std.specs.List.{list_all}
-use Rattle.std.proofs.lemmas.Bool.Decides.{Decides-eqb}
-use Rattle.std.proofs.lemmas.List.{append_cancel_left}
-use Rattle.ghc_term.specs.declared.fault.Fault.{Fault}
-use Rattle.ghc_term.specs.declared.var_name.VarName.{VarName}
-use Rattle.ghc_term.specs.Answered.{IsExact}
-use Rattle.ghc_term.specs.Goal.{Goal}
-use Rattle.ghc_term.specs.Lists.{In}
-use Rattle.ghc_term.specs.Variables.{variables_of_goals, firsts}
-use Rattle.ghc_reader.specs.Tests.{a_body, IsRefusal}
-use Rattle.ghc_reader.specs.Read.{IsReadBody}
-use Rattle.ghc_reader.specs.WrittenAsk.{WrittenAsk}
-use Rattle.ghc_fire.specs.declared.act.Act.TheVariants.{Asked as asked}
-use Rattle.ghc_fire.specs.Instance.{made}
-use Rattle.ghc_fire.specs.Asked.{asked_of, made_from}
-use Rattle.ghc_records.specs.Journal.{Step}
-use Rattle.ghc_records.specs.HistoryText.{greatest_number}
-use Rattle.ghc_records.specs.EntryText.{AreNewInOrder, SaysAsking, SaysGoals}
+use Rattle.ghc_records.proofs.Words.{◌≡◌, ◌≢◌, ◌≤◌, IfOk, IfSome, IfNone, ℕ, zero, suc, ◌+◌, ◌==◌, All, List, [], ◌∷◌, ◌++◌, Option, Some, None, Result, Ok, Err, Bool, true, false, inl, inr, refl, sym, ap, ◌∙◌, subst, arith, decimal, filter, drop, append_assoc, cond, codes, is_some, MatchResult, list_all, Decides-eqb, append_cancel_left, Fault, VarName, IsExact, Goal, In, variables_of_goals, firsts, a_body, IsRefusal, IsReadBody, WrittenAsk, Asked as asked, made, asked_of, made_from, Step, greatest_number, AreNewInOrder, SaysAsking, SaysGoals}
 use Rattle.ghc_records.proofs.CutLemmas.{cut_once, no_cut, number_plain, one_number}
 
 -- ---- lines

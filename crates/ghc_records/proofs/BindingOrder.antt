@@ -1,17 +1,6 @@
 -- Bindings that are put into a map one after another.
-use Rattle.std.proofs.Common.{◌≡◌, ◌+◌, ◌≤◌, Bool, true, false, cond, List, [], ◌∷◌, length, map, refl, sym, ap, ◌∙◌, subst, arith}
-use Rattle.std.specs.Prelude.{Option, Some, None, is_some, option_map}
-use Rattle.std.specs.List.Sorted.{IsStrictlySortedBy}
-use Rattle.std.specs.Map.{lookup, keys_of}
-use Rattle.std.specs.Ordering.{eq_by_cmp, is_eq}
+use Rattle.ghc_records.proofs.Words.{◌≡◌, ◌+◌, ◌≤◌, Bool, true, false, cond, List, [], ◌∷◌, length, map, refl, sym, ap, ◌∙◌, subst, arith, Option, Some, None, is_some, option_map, IsStrictlySortedBy, lookup, keys_of, eq_by_cmp, is_eq, VarName, name_cmp, StoreValue, Tree, name_total, name_antisymmetric, same_name, value_in, inserted, entries_are}
 use Rattle.std.specs.FinMap as finite
-use Rattle.ghc_term.specs.declared.var_name.VarName.{VarName}
-use Rattle.ghc_term.specs.Bindings.{name_cmp}
-use Rattle.ghc_term.specs.Store.{StoreValue}
-use Rattle.ghc_term.specs.Tree.{Tree}
-use Rattle.ghc_term.proofs.Names.{name_total, name_antisymmetric}
-use Rattle.ghc_term.proofs.Total.{same_name}
-use Rattle.ghc_fire.proofs.Ordered.{value_in, inserted, entries_are}
 
 -- no two of the bindings are of one variable
 abbrev Apart : List (VarName × Tree) → Type 0

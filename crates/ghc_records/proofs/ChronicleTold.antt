@@ -1,20 +1,6 @@
 -- Lemmas on texts that tell chronicles, and on the first line of a text that is wrong.
-use Rattle.std.proofs.Common.{◌≡◌, ◌≢◌, ℕ, ◌+◌, ◌≤◌, List, [], ◌∷◌, drop, get_or, length, decimal, sym, ap, ◌∙◌, subst, arith}
-use Rattle.std.specs.Prelude.{codes}
-use Rattle.std.specs.List.{join_with_byte}
-use Rattle.std.proofs.lemmas.List.{append_cancel_left, drop-drop, nil_from_length}
-use Rattle.std.proofs.lemmas.List.Splits.{join_with_byte-slice_split}
-use Rattle.ghc_term.specs.declared.fault.Fault.{Fault}
-use Rattle.ghc_records.specs.declared.predicate.Predicate.{Predicate}
-use Rattle.ghc_records.specs.Numbers.{kept_limit}
-use Rattle.ghc_records.specs.Journal.{Step, Entry}
-use Rattle.ghc_records.specs.History.{History}
-use Rattle.ghc_records.specs.HistoryText.{IsLine, IsLineOf, SaysStep, end_line, greatest_number, pieces_of}
-use Rattle.ghc_records.specs.Sections.{IsFirstWrongOf, TellsItems, TellsNoMoreItems, TellsSection}
-use Rattle.ghc_records.specs.Chronicle.{AreBelow, AreInTurn, entry_limit, next_behind, spy_limit}
-use Rattle.ghc_records.specs.EntryText.{SaysEntry}
-use Rattle.ghc_records.specs.Predicates.{GoTogether, SaysPredicate}
-use Rattle.ghc_records.specs.ChronicleText.{IsChronicleRefusal, IsFirstWrongInChronicle, IsNext, TellsChronicle, TellsEnd, TellsEntries, TellsOpening, TellsSpies, behind_lines, chronicle_heading, entries_line, lines_to_end, lines_to_spies, more, no_end, no_entry, no_opening, no_spy, no_step, opening_line, spies_line}
+use Rattle.ghc_records.proofs.Words.{◌≡◌, ◌≢◌, ℕ, ◌+◌, ◌≤◌, List, [], ◌∷◌, drop, get_or, length, decimal, sym, ap, ◌∙◌, subst, arith, codes, join_with_byte, append_cancel_left, drop-drop, nil_from_length, join_with_byte-slice_split, Fault, Predicate, kept_limit, Step, Entry, History, IsLine, IsLineOf, SaysStep, end_line, greatest_number, pieces_of, IsFirstWrongOf, TellsItems, TellsNoMoreItems, TellsSection, AreBelow, AreInTurn, entry_limit, next_behind, spy_limit, SaysEntry, GoTogether, SaysPredicate, IsChronicleRefusal, IsFirstWrongInChronicle, IsNext, TellsChronicle, TellsEnd, TellsEntries, TellsOpening, TellsSpies, behind_lines, chronicle_heading, entries_line, lines_to_end, lines_to_spies, no_end, no_entry, no_opening, no_spy, no_step, opening_line, spies_line}
+use Rattle.ghc_records.specs.ChronicleText.{more}
 use Rattle.ghc_records.proofs.CutLemmas.{line_stands, one_number}
 use Rattle.ghc_records.proofs.SectionParts.{first_stands, section_rest, section_told}
 

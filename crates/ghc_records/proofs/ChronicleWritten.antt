@@ -1,14 +1,5 @@
 -- The lines of chronicles, as they are written.
-use Rattle.std.proofs.Common.{◌≡◌, ℕ, ◌+◌, ◌<◌, zero, suc, List, [], ◌∷◌, ◌++◌, drop, get_or, length, map, refl, sym, ap, ◌∙◌, subst, append_assoc, decimal, Some, slice_get, arith}
-use Rattle.std.specs.Prelude.{codes}
-use Rattle.std.proofs.lemmas.List.{drop_more}
-use Rattle.ghc_records.specs.StepText.{step_text}
-use Rattle.ghc_records.specs.History.{History}
-use Rattle.ghc_records.specs.HistoryText.{end_line, lines_text}
-use Rattle.ghc_records.specs.EntryText.{entry_text, numbers_behind}
-use Rattle.ghc_records.specs.Predicates.{predicate_text}
-use Rattle.ghc_records.specs.Chronicle.{Chronicle}
-use Rattle.ghc_records.specs.ChronicleText.{chronicle_heading, chronicle_text, entries_line, opening_line, spies_line}
+use Rattle.ghc_records.proofs.Words.{◌≡◌, ℕ, ◌+◌, ◌<◌, zero, suc, List, [], ◌∷◌, ◌++◌, drop, get_or, length, map, refl, sym, ap, ◌∙◌, subst, append_assoc, decimal, Some, slice_get, arith, codes, drop_more, step_text, History, end_line, lines_text, entry_text, numbers_behind, predicate_text, Chronicle, chronicle_heading, chronicle_text, entries_line, opening_line, spies_line}
 use Rattle.ghc_records.proofs.HistoryLines.{lines_after}
 
 -- the thing at a place of a list, in front of those behind it

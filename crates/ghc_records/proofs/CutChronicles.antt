@@ -1,15 +1,5 @@
 -- A text of a chronicle that is cut off is refused with the line behind its last line feed.
-use Rattle.std.proofs.Common.{◌≡◌, ◌≢◌, ℕ, zero, suc, ◌+◌, ◌<◌, ◌≤◌, inl, inr, List, [], ◌∷◌, ◌++◌, drop, take, length, sym, ap, ◌∙◌, subst, arith, length-drop}
-use Rattle.std.proofs.lemmas.List.{drop-drop}
-use Rattle.ghc_records.specs.Numbers.{kept_limit}
-use Rattle.ghc_records.specs.Journal.{Step}
-use Rattle.ghc_records.specs.HistoryText.{IsLine, IsLineOf, SaysStep, end_line, pieces_of}
-use Rattle.ghc_records.specs.HistoryLaws.{line_feeds}
-use Rattle.ghc_records.specs.Sections.{TellsItems, TellsNoMoreItems}
-use Rattle.ghc_records.specs.Chronicle.{Chronicle, AreBelow, AreInTurn, entry_limit, next_after, next_behind, spy_limit}
-use Rattle.ghc_records.specs.EntryText.{SaysEntry}
-use Rattle.ghc_records.specs.Predicates.{GoTogether, SaysPredicate}
-use Rattle.ghc_records.specs.ChronicleText.{IsFirstWrongInChronicle, TellsChronicle, TellsEntries, TellsOpening, TellsSpies, chronicle_heading, entries_line, lines_to_end, lines_to_spies, no_end, no_entry, no_heading, no_opening, no_spy, no_step, opening_line, spies_line}
+use Rattle.ghc_records.proofs.Words.{◌≡◌, ◌≢◌, ℕ, zero, suc, ◌+◌, ◌<◌, ◌≤◌, inl, inr, List, [], ◌∷◌, ◌++◌, drop, take, length, sym, ap, ◌∙◌, subst, arith, length-drop, drop-drop, kept_limit, Step, IsLine, IsLineOf, SaysStep, end_line, pieces_of, line_feeds, TellsItems, TellsNoMoreItems, Chronicle, AreBelow, AreInTurn, entry_limit, next_after, next_behind, spy_limit, SaysEntry, GoTogether, SaysPredicate, IsFirstWrongInChronicle, TellsChronicle, TellsEntries, TellsOpening, TellsSpies, chronicle_heading, entries_line, lines_to_end, lines_to_spies, no_end, no_entry, no_heading, no_opening, no_spy, no_step, opening_line, spies_line}
 use Rattle.ghc_records.proofs.CutSections.{HoldsInFront, cut_behind, cut_section, first_length, kept_section, none_behind}
 use Rattle.ghc_records.proofs.ExactTexts.{in_front}
 use Rattle.ghc_records.proofs.CutTexts.{IsCut, cut_at, distinct_taken, feeds_of, less_or, line_kept, no_line_left, nothing_behind}

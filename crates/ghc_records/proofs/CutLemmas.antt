@@ -1,15 +1,6 @@
 -- Lemmas on bytes that are cut at a mark, and on the numbers that they say.
-use Rattle.std.proofs.Common.{◌≡◌, ◌≢◌, ℕ, zero, suc, ◌+◌, ◌*◌, ◌<◌, ◌≤◌, ◌^◌, ◌&&◌, Bool, true, false, eqb, All, List, [], ◌∷◌, ◌++◌, drop, get_or, length, refl, sym, ap, ◌∙◌, arith, decimal, drop_of_length-le}
-use Rattle.std.proofs.lemmas.Bool.{eq-eqb, ne_eqb}
-use Rattle.std.proofs.lemmas.List.{append_cancel_left, drop-drop, length-drop}
-use Rattle.std.proofs.lemmas.List.Splits.{slice_split_at, slice_split_none, length-slice_split}
-use Rattle.std.proofs.lemmas.Fmt.{decimal_is_IsNumeral, decimal-digits_value, decimal_digit, decimal_injective, first_decimal, decimal_nonempty}
-use Rattle.std.proofs.lemmas.Str.Parse.{IsDigitsTest, numerals_by_value, digit_from_value}
-use Rattle.std.proofs.Math.Seq.{drop-cons}
-use Rattle.std.specs.Char.{digit_value, is_ascii_digit}
-use Rattle.std.specs.List.{list_all, slice_split}
-use Rattle.std.specs.Str.Parse.{AllDigits, digits_value, digits_value_after}
-use Rattle.ghc_records.specs.HistoryText.{IsLineOf, greatest_number, pieces_of}
+use Rattle.ghc_records.proofs.Words.{◌≡◌, ◌≢◌, ℕ, zero, suc, ◌+◌, ◌*◌, ◌<◌, ◌≤◌, ◌^◌, ◌&&◌, Bool, true, false, eqb, All, List, [], ◌∷◌, ◌++◌, drop, get_or, length, refl, sym, ap, ◌∙◌, arith, decimal, drop_of_length-le, eq-eqb, ne_eqb, append_cancel_left, drop-drop, slice_split_at, slice_split_none, length-slice_split, decimal_is_IsNumeral, decimal-digits_value, decimal_digit, decimal_injective, first_decimal, decimal_nonempty, IsDigitsTest, numerals_by_value, digit_from_value, drop-cons, digit_value, is_ascii_digit, list_all, slice_split, AllDigits, digits_value, digits_value_after, IsLineOf, greatest_number, pieces_of}
+use Rattle.std.proofs.lemmas.List.{length-drop}
 
 -- the test that finds a byte says no of every other
 none_passes : (mark : ℕ) (bytes : List ℕ) → All (λ b. b ≢ mark) bytes → All (λ b. eqb b mark ≡ false) bytes

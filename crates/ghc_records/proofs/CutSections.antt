@@ -1,10 +1,6 @@
 -- Sections of a text that is cut off: those in front of the cut are told, and of the one in which it stands the line behind the last line feed is wrong.
-use Rattle.std.proofs.Common.{◌≡◌, ℕ, zero, suc, ◌+◌, ◌<◌, ◌≤◌, List, [], ◌∷◌, ◌++◌, drop, take, length, refl, sym, ap, ◌∙◌, subst, arith, length-drop}
-use Rattle.std.proofs.lemmas.List.{length-take-le}
-use Rattle.std.proofs.lemmas.Option.{slice_get_within}
-use Rattle.ghc_records.specs.Sections.{IsFirstWrongOf, TellsItems, TellsNoMoreItems, TellsSection, no_count, no_item}
+use Rattle.ghc_records.proofs.Words.{◌≡◌, ℕ, zero, suc, ◌+◌, ◌<◌, ◌≤◌, List, [], ◌∷◌, ◌++◌, drop, take, length, refl, sym, ap, ◌∙◌, subst, arith, length-drop, length-take-le, slice_get_within, IsFirstWrongOf, TellsItems, TellsNoMoreItems, TellsSection, no_count, no_item, push_last}
 use Rattle.ghc_records.proofs.CutTexts.{line_kept, no_line_left, taken_at}
-use Rattle.ghc_term.proofs.Placing.{push_last}
 
 -- the lines behind a place in front of the cut
 pub cut_behind : (d : ℕ) (lines : List (List ℕ)) (x : List ℕ) (others : List (List ℕ)) → d ≤ length lines → drop d (lines ++ x ∷ others) ≡ drop d lines ++ x ∷ others

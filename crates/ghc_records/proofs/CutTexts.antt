@@ -1,15 +1,7 @@
 -- A text that is cut off is refused with the line behind its last line feed.
-use Rattle.std.proofs.Common.{◌≡◌, ◌≢◌, ℕ, zero, suc, ◌+◌, ◌<◌, ◌≤◌, ◌⊎◌, inl, inr, true, false, nat_eq, List, [], ◌∷◌, ◌++◌, drop, take, get_or, length, map, refl, sym, ap, ◌∙◌, subst, arith, append-nil, Some, slice_get, length-append, length-drop}
-use Rattle.std.specs.List.{join_with_byte, onto_first}
-use Rattle.std.proofs.lemmas.List.{append_cancel_left, length-take-le}
-use Rattle.std.proofs.lemmas.List.Splits.{join_with_byte-slice_split, length-slice_split, slice_split-cons_no, slice_split-cons_yes}
-use Rattle.ghc_term.specs.Lists.{In}
-use Rattle.ghc_term.proofs.Placing.{push_last}
-use Rattle.ghc_records.specs.Orders.{AreDistinct}
-use Rattle.ghc_records.specs.Journal.{Step}
-use Rattle.ghc_records.specs.History.{History}
-use Rattle.ghc_records.specs.HistoryText.{IsFirstWrongLine, IsLine, IsLineOf, TellsCount, TellsHistory, TellsNext, TellsSteps, behind_count, count_line, end_line, heading, no_count, no_end, no_heading, no_step, pieces_of}
-use Rattle.ghc_records.specs.HistoryLaws.{line_feeds}
+use Rattle.ghc_records.proofs.Words.{◌≡◌, ◌≢◌, ℕ, zero, suc, ◌+◌, ◌<◌, ◌≤◌, ◌⊎◌, inl, inr, true, false, nat_eq, List, [], ◌∷◌, ◌++◌, drop, take, get_or, length, map, refl, sym, ap, ◌∙◌, subst, arith, Some, slice_get, length-append, length-drop, join_with_byte, onto_first, append_cancel_left, length-take-le, join_with_byte-slice_split, length-slice_split, slice_split-cons_no, slice_split-cons_yes, In, push_last, AreDistinct, Step, History, IsFirstWrongLine, IsLine, IsLineOf, TellsCount, TellsHistory, TellsNext, TellsSteps, behind_count, count_line, end_line, heading, pieces_of, line_feeds}
+use Rattle.std.proofs.Common.{append-nil}
+use Rattle.ghc_records.specs.HistoryText.{no_count, no_end, no_heading, no_step}
 use Rattle.ghc_records.proofs.CutLemmas.{some_first, some_piece}
 use Rattle.ghc_records.proofs.TellingSteps.{number_of}
 

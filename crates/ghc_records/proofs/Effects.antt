@@ -1,32 +1,9 @@
 -- The variables that an effect brings in, and the state after a step.
-use Rattle.std.proofs.Common.{◌≡◌, ◌==◌, ℕ, zero, suc, ◌+◌, ◌<◌, ◌≤◌, ◌⊎◌, Bool, true, false, cond, List, [], ◌∷◌, map, filter, refl, sym, ap, ◌∙◌, subst, inl, inr, arith, Some, None}
-use Rattle.std.specs.Prelude.{Option}
-use Rattle.std.specs.Option.{option_or}
+use Rattle.ghc_records.proofs.Words.{◌≡◌, ◌==◌, ℕ, zero, suc, ◌+◌, ◌<◌, ◌≤◌, ◌⊎◌, Bool, true, false, cond, List, [], ◌∷◌, map, filter, refl, sym, ap, ◌∙◌, subst, inl, inr, arith, Some, None, Option, option_or, VarName, GoalName, Tree, Goal, In, Reaches, here, through, IsAcyclic, name_cmp, StoreValue, value_at, eq-eqb, nat_decided, Program, variables_of_goal, is_stream, IsProgram, by_answers, made, Act, Asked as asked, Effect, HasEffect, ComesFrom, Asks, made_from, variables_asked, effect_acyclic, Inside, variables_come, Goals, State, Record, without_goal, after, IsThere, Fires, HasStepEffect}
 use Rattle.std.specs.FinMap as finite
-use Rattle.ghc_term.specs.declared.var_name.VarName.{VarName}
-use Rattle.ghc_term.specs.declared.goal_name.GoalName.{GoalName}
-use Rattle.ghc_term.specs.Tree.{Tree}
-use Rattle.ghc_term.specs.Goal.{Goal}
-use Rattle.ghc_term.specs.Lists.{In}
-use Rattle.ghc_term.specs.Bindings.{Reaches, here, through, IsAcyclic, name_cmp}
-use Rattle.ghc_term.specs.Store.{StoreValue, value_at}
-use Rattle.std.proofs.lemmas.Bool.{eq-eqb}
-use Rattle.ghc_term.proofs.Decided.{nat_decided}
-use Rattle.ghc_flat.specs.Clause.{Program}
-use Rattle.ghc_flat.specs.Variables.{variables_of_goal, variables_of_goals, firsts}
-use Rattle.ghc_flat.specs.Flat.{is_stream, IsProgram}
-use Rattle.ghc_term.proofs.Merged.{by_answers}
-use Rattle.ghc_fire.specs.Instance.{made}
-use Rattle.ghc_fire.specs.declared.act.Act.{Act}
-use Rattle.ghc_fire.specs.declared.act.Act.TheVariants.{Asked as asked}
-use Rattle.ghc_fire.specs.Effect.{Effect, HasEffect}
-use Rattle.ghc_fire.specs.Laws.{ComesFrom}
-use Rattle.ghc_fire.specs.Asked.{Asks, made_from, variables_asked}
-use Rattle.ghc_fire.proofs.Steps.{nothing, effect_acyclic}
-use Rattle.ghc_fire.proofs.Origins.{Inside, variables_come}
-use Rattle.ghc_fire.specs.Goals.{Goals}
+use Rattle.ghc_flat.specs.Variables.{variables_of_goals, firsts}
+use Rattle.ghc_fire.proofs.Steps.{nothing}
 use Rattle.ghc_records.specs.Replay.{Names}
-use Rattle.ghc_records.specs.Record.{State, Record, without_goal, after, IsThere, Fires, HasStepEffect}
 use Rattle.ghc_records.proofs.States.{bound_at, made_or_old, old_apart}
 use Rattle.ghc_records.proofs.Heads.{first_in, of_goals}
 

@@ -1,13 +1,5 @@
 -- Lemmas on lines that say entries.
-use Rattle.std.proofs.Common.{◌≡◌, ◌≢◌, ◌≤◌, ◌<◌, ℕ, ◌⊎◌, inl, inr, All, List, [], ◌∷◌, ◌++◌, Bool, true, false, Option, Some, None, IfNone, length, refl, sym, ap, ◌∙◌, subst, arith, decimal}
-use Rattle.std.specs.Prelude.{codes, ◌&&◌}
-use Rattle.std.specs.Char.{is_ascii_digit}
-use Rattle.std.specs.List.{list_all}
-use Rattle.std.proofs.lemmas.List.{append_cancel_left, append-nil}
-use Rattle.ghc_records.specs.Journal.{Step, Entry, took, undid, rolled, redid, reordered}
-use Rattle.ghc_records.specs.HistoryText.{IsLineOf, SaysStep, greatest_number, pieces_of}
-use Rattle.ghc_records.specs.Chronicle.{IsInTurn}
-use Rattle.ghc_records.specs.EntryText.{IsNamed, SaysAsking, SaysEntry, numbers_behind}
+use Rattle.ghc_records.proofs.Words.{◌≡◌, ◌≢◌, ◌≤◌, ◌<◌, ℕ, ◌⊎◌, inl, inr, All, List, [], ◌∷◌, ◌++◌, Bool, true, false, Option, Some, None, IfNone, length, refl, sym, ap, ◌∙◌, subst, arith, decimal, codes, ◌&&◌, is_ascii_digit, list_all, append_cancel_left, append-nil, Step, Entry, took, undid, rolled, redid, reordered, IsLineOf, SaysStep, greatest_number, pieces_of, IsInTurn, IsNamed, SaysAsking, SaysEntry, numbers_behind}
 use Rattle.ghc_records.proofs.CutLemmas.{cut_once, line_is, no_cut, number_plain, one_number, said_digits, some_digit}
 
 -- ---- lines begin with a digit where they say steps, and else with a letter

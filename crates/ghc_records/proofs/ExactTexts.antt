@@ -1,15 +1,6 @@
 -- A text tells one history, or has one first wrong line, and never both.
-use Rattle.std.proofs.Common.{◌≡◌, ℕ, zero, suc, ◌+◌, ◌<◌, ◌≤◌, inl, inr, List, [], ◌∷◌, ◌++◌, take, drop, length, refl, sym, ap, ◌∙◌, subst, arith, decimal, Some, Result, Ok, Err, slice_get}
-use Rattle.std.specs.Prelude.{codes}
-use Rattle.std.proofs.lemmas.List.{append_cancel_left, take_all}
-use Rattle.ghc_term.specs.declared.fault.Fault.{Fault}
-use Rattle.ghc_term.specs.Answered.{Answered, IsExact}
-use Rattle.ghc_term.specs.Lists.{In}
-use Rattle.ghc_term.specs.Tree.{Tree}
-use Rattle.ghc_reader.specs.Read.{IsReadTerm}
-use Rattle.ghc_records.specs.Journal.{Step}
-use Rattle.ghc_records.specs.History.{History}
-use Rattle.ghc_records.specs.HistoryText.{IsFirstWrongLine, IsHistoryRefusal, TellsCount, TellsHistory, TellsNext, TellsNoMore, TellsSteps, behind_count, count_line, more, no_count, no_end, no_heading, no_step, pieces_of}
+use Rattle.ghc_records.proofs.Words.{◌≡◌, ℕ, zero, suc, ◌+◌, ◌<◌, ◌≤◌, inl, inr, List, [], ◌∷◌, ◌++◌, take, drop, length, refl, sym, ap, ◌∙◌, subst, arith, decimal, Some, Result, Ok, Err, slice_get, codes, append_cancel_left, take_all, Fault, Answered, IsExact, In, Tree, IsReadTerm, Step, History, IsFirstWrongLine, IsHistoryRefusal, TellsCount, TellsHistory, TellsNext, TellsNoMore, TellsSteps, behind_count, count_line, pieces_of}
+use Rattle.ghc_records.specs.HistoryText.{more, no_count, no_end, no_heading, no_step}
 use Rattle.ghc_records.proofs.CutLemmas.{one_number}
 use Rattle.ghc_records.proofs.CutTexts.{distinct_taken, less_or, taken_at}
 use Rattle.ghc_records.proofs.OneStep.{one_at, one_line}

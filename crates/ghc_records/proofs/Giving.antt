@@ -1,15 +1,7 @@
 -- The steps that gave what is used, over which one goes one after another.
-use Rattle.std.proofs.Common.{◌≡◌, ◌≢◌, ℕ, ◌+◌, ◌<◌, List, [], ◌∷◌, get_or, take, length, sym, ap, ◌∙◌, subst, inl, inr, ◌⊎◌}
-use Rattle.std.specs.Prelude.{◌↔◌, Option, Some}
+use Rattle.ghc_records.proofs.Words.{◌≡◌, ◌≢◌, ℕ, ◌+◌, ◌<◌, List, [], ◌∷◌, get_or, take, length, sym, ap, ◌∙◌, subst, inl, inr, ◌⊎◌, ◌↔◌, Option, Some, Variables, is_member, has_member, take_more, VarName, In, in_more, in_left, in_last, in_get, UsersByStep, BindersByVariable, IsUser, CanTake, BoundOneOf, Gave}
 use Rattle.std.specs.FinMap as finite
 use Rattle.std.specs.FinSet as set
-use Rattle.ghc_term.specs.Sets.{Variables}
-use Rattle.ghc_term.proofs.SetsLemmas.{is_member, has_member}
-use Rattle.std.proofs.lemmas.List.{take_more}
-use Rattle.ghc_term.specs.declared.var_name.VarName.{VarName}
-use Rattle.ghc_term.specs.Lists.{In}
-use Rattle.ghc_term.proofs.ListsLemmas.{in_more, in_left, in_last, in_get}
-use Rattle.ghc_records.specs.UseIndex.{UsersByStep, BindersByVariable, IsUser, CanTake, BoundOneOf, Gave}
 
 some_is : {k m : ℕ} → Some k ≡ Some m → k ≡ m
 some_is e = cc

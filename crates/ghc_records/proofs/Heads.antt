@@ -1,15 +1,6 @@
 -- The variables that stand first in a list, and those of goals.
-use Rattle.std.proofs.Common.{◌≡◌, true, false, List, [], ◌∷◌, sym, ◌∙◌, subst, inl, inr}
-use Rattle.std.specs.List.{list_any}
-use Rattle.std.specs.Ordering.{eq_by_cmp}
-use Rattle.ghc_term.specs.declared.var_name.VarName.{VarName}
-use Rattle.ghc_term.specs.Goal.{Goal}
-use Rattle.ghc_term.specs.Lists.{In}
-use Rattle.ghc_term.specs.Bindings.{name_cmp}
-use Rattle.ghc_term.proofs.SetsLemmas.{in_any}
-use Rattle.ghc_term.proofs.ListsLemmas.{in_left, in_right}
-use Rattle.ghc_flat.specs.Variables.{variables_of_goal, variables_of_goals, firsts}
-use Rattle.ghc_fire.proofs.Origins.{firsts_have}
+use Rattle.ghc_records.proofs.Words.{◌≡◌, true, false, List, [], ◌∷◌, sym, ◌∙◌, subst, inl, inr, list_any, eq_by_cmp, VarName, Goal, In, name_cmp, in_any, in_left, in_right, variables_of_goal, firsts_have}
+use Rattle.ghc_flat.specs.Variables.{variables_of_goals, firsts}
 
 -- a variable that is not seen before is among the first ones
 pub first_in : (seen xs : List VarName) (z : VarName) → In z xs → list_any (eq_by_cmp name_cmp z) seen ≡ false → In z (firsts seen xs)

@@ -1,11 +1,5 @@
 -- The lines of histories, as they are written.
-use Rattle.std.proofs.Common.{◌≡◌, ℕ, ◌+◌, ◌<◌, List, [], ◌∷◌, ◌++◌, drop, get_or, length, map, refl, sym, ap, ◌∙◌, append_assoc, decimal}
-use Rattle.std.specs.Prelude.{codes}
-use Rattle.std.proofs.lemmas.List.{drop_more}
-use Rattle.ghc_records.specs.Journal.{Step}
-use Rattle.ghc_records.specs.StepText.{step_text}
-use Rattle.ghc_records.specs.History.{History}
-use Rattle.ghc_records.specs.HistoryText.{end_line, history_text, lines_text}
+use Rattle.ghc_records.proofs.Words.{◌≡◌, ℕ, ◌+◌, ◌<◌, List, [], ◌∷◌, ◌++◌, drop, get_or, length, map, refl, sym, ap, ◌∙◌, append_assoc, decimal, codes, drop_more, Step, step_text, History, end_line, history_text, lines_text}
 
 -- Where a text and the lines of the steps from a place on are all, so are the text with the line of the step there and the lines behind it.
 pub line_written : (steps : List Step) (i : ℕ) (s : Step) (before mid after whole : List ℕ) → i < length steps → s ≡ get_or steps i s → mid ≡ before ++ step_text s → after ≡ mid ++ codes "\n"

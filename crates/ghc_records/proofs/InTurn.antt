@@ -1,16 +1,6 @@
 -- Entries of a list that are put into a map one after another, the last of them first.
-use Rattle.std.proofs.Common.{◌≡◌, Bool, true, false, cond, List, [], ◌∷◌, ◌++◌, refl, sym, ap, subst, ◌∙◌, append_assoc}
-use Rattle.std.specs.Prelude.{Option, Some, option_map}
-use Rattle.std.specs.declared.cmp.Ordering.{Ordering}
-use Rattle.std.specs.List.Sorted.{IsStrictlySortedBy}
-use Rattle.std.specs.Map.{keys_of}
-use Rattle.std.specs.Ordering.{is_eq}
-use Rattle.std.specs.Cmp.{IsTotalOrder}
+use Rattle.ghc_records.proofs.Words.{◌≡◌, Bool, true, false, cond, List, [], ◌∷◌, ◌++◌, refl, sym, ap, subst, ◌∙◌, append_assoc, Option, Some, option_map, Ordering, IsStrictlySortedBy, keys_of, is_eq, IsTotalOrder, IsAntisymmetric, lookup-map_values, keys_of-map_values, shown_by, value_in, inserted, entries_are}
 use Rattle.std.specs.FinMap as finite
-use Rattle.std.specs.FinMap.{IsAntisymmetric}
-use Rattle.std.proofs.lemmas.Map.Made.{lookup-map_values, keys_of-map_values}
-use Rattle.ghc_fire.proofs.Gathering.{shown_by}
-use Rattle.ghc_fire.proofs.Ordered.{value_in, inserted, entries_are}
 
 either : {V X : Type 0} (shows : V → X) (b : Bool) (v : V) (o : Option V) → option_map shows (cond b (Some v) o) ≡ cond b (Some (shows v)) (option_map shows o)
 either shows true v o = refl

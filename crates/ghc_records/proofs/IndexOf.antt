@@ -1,20 +1,6 @@
 -- The index of a record, with one step more or less.
-use Rattle.std.proofs.Common.{◌≡◌, ◌≢◌, ℕ, Bool, true, false, cond, List, [], ◌∷◌, ◌++◌, refl, sym, ap, ◌∙◌, subst, inl, inr, ◌⊎◌}
-use Rattle.std.specs.Prelude.{◌↔◌, Option, Some, None, is_some}
-use Rattle.std.specs.Ordering.{nat_cmp}
+use Rattle.ghc_records.proofs.Words.{◌≡◌, ◌≢◌, ℕ, Bool, true, false, cond, List, [], ◌∷◌, ◌++◌, refl, sym, ap, ◌∙◌, subst, inl, inr, ◌⊎◌, ◌↔◌, Option, Some, None, is_some, nat_cmp, cases_Bool, VarName, In, name_cmp, value_at, in_left, in_last, in_more, Picks, AreDistinct, Record, numbers, GoalName, variables_asked, MakesGoal, Binds, Uses, UsersByStep, BindersByVariable, numbers_in, users_at, IsUser, CanTake, Gave, step_named, StepDependsOn, StepBinds, IsIndexOf, IsMakerFor, MadeOneOf}
 use Rattle.std.specs.FinMap as finite
-use Rattle.std.proofs.lemmas.Bool.{cases_Bool}
-use Rattle.ghc_term.specs.declared.var_name.VarName.{VarName}
-use Rattle.ghc_term.specs.Lists.{In}
-use Rattle.ghc_term.specs.Bindings.{name_cmp}
-use Rattle.ghc_term.specs.Store.{value_at}
-use Rattle.ghc_term.proofs.ListsLemmas.{in_left, in_last, in_more}
-use Rattle.ghc_records.specs.Orders.{Picks, AreDistinct}
-use Rattle.ghc_records.specs.Record.{Record, numbers}
-use Rattle.ghc_term.specs.declared.goal_name.GoalName.{GoalName}
-use Rattle.ghc_fire.specs.Asked.{variables_asked}
-use Rattle.ghc_records.specs.Uses.{MakesGoal, Binds, Uses}
-use Rattle.ghc_records.specs.UseIndex.{UsersByStep, BindersByVariable, numbers_in, users_at, IsUser, CanTake, Gave, step_named, StepDependsOn, StepBinds, IsIndexOf, IsMakerFor, MadeOneOf}
 use Rattle.ghc_records.proofs.OrderLemmas.{is_before, before_is, before_in, record_once, records_distinct}
 use Rattle.ghc_records.proofs.PickLemmas.{before_left, before_across, before_last, picks_in, picks_has, picks_order, picks_keep}
 

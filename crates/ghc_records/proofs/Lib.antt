@@ -63,3 +63,4 @@ pub mod ToldAsks
 pub mod ToldChronicles
 pub mod CutSections
 pub mod CutChronicles
+mod Words

@@ -1,6 +1,5 @@
 -- Texts that are written one after another, with a mark between them.
-use Rattle.std.proofs.Common.{◌≡◌, ℕ, List, [], ◌∷◌, ◌++◌, length, map, refl, ap, ◌∙◌, append_assoc}
-use Rattle.ghc_records.specs.StepText.{followed_by, listed}
+use Rattle.ghc_records.proofs.Words.{◌≡◌, ℕ, List, [], ◌∷◌, ◌++◌, length, map, refl, ap, ◌∙◌, append_assoc, followed_by, listed}
 
 -- the texts, the first of them behind this mark, and each other one behind the separator
 abbrev pub led : List ℕ → List ℕ → List (List ℕ) → List ℕ

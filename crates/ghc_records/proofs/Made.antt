@@ -1,12 +1,6 @@
 -- Goals are put there one after another, and taken away again.
-use Rattle.std.proofs.Common.{◌≡◌, ◌≢◌, ℕ, ◌+◌, true, false, List, [], ◌∷◌, ◌++◌, length, refl, ap, ◌∙◌, arith}
-use Rattle.std.specs.Ordering.{eq_by_cmp}
+use Rattle.ghc_records.proofs.Words.{◌≡◌, ◌≢◌, ℕ, ◌+◌, true, false, List, [], ◌∷◌, ◌++◌, length, refl, ap, ◌∙◌, arith, eq_by_cmp, GoalName, Goal, goal_cmp, Goals, with_makes, same_goal}
 use Rattle.std.specs.FinMap as finite
-use Rattle.ghc_term.specs.declared.goal_name.GoalName.{GoalName}
-use Rattle.ghc_term.specs.Goal.{Goal}
-use Rattle.ghc_fire.specs.Goals.{goal_cmp, Goals}
-use Rattle.ghc_records.specs.Record.{with_makes}
-use Rattle.ghc_fire.proofs.GoalNames.{same_goal}
 
 -- the name that step n gives at the place i
 abbrev pub name : ℕ → ℕ → GoalName

@@ -1,14 +1,5 @@
 -- The steps that made variables, over which one goes one after another.
-use Rattle.std.proofs.Common.{◌≡◌, ℕ, ◌+◌, ◌<◌, List, [], ◌∷◌, get_or, take, length, sym, ap, ◌∙◌, subst, inl, inr, ◌⊎◌}
-use Rattle.std.specs.Prelude.{◌↔◌, Option, Some, None}
-use Rattle.std.proofs.lemmas.List.{take_more}
-use Rattle.ghc_term.specs.declared.var_name.VarName.{VarName}
-use Rattle.ghc_term.specs.Lists.{In}
-use Rattle.ghc_term.proofs.ListsLemmas.{in_more, in_left, in_last, in_get}
-use Rattle.ghc_records.specs.Orders.{AreDistinct}
-use Rattle.ghc_records.specs.Record.{Record, numbers}
-use Rattle.ghc_records.specs.Replay.{MakesVariable}
-use Rattle.ghc_records.specs.UseIndex.{UsersByStep, IsUser, CanTake, IsMakerOf, MadeOneOf}
+use Rattle.ghc_records.proofs.Words.{◌≡◌, ℕ, ◌+◌, ◌<◌, List, [], ◌∷◌, get_or, take, length, sym, ap, ◌∙◌, subst, inl, inr, ◌⊎◌, ◌↔◌, Option, Some, None, take_more, VarName, In, in_more, in_left, in_last, in_get, AreDistinct, Record, numbers, MakesVariable, UsersByStep, IsUser, CanTake, IsMakerOf, MadeOneOf}
 use Rattle.ghc_records.proofs.OrderLemmas.{record_once}
 
 some_is : {k m : ℕ} → Some k ≡ Some m → k ≡ m

@@ -1,8 +1,5 @@
 -- The names that a step gives to the goals that it makes, one after another.
-use Rattle.std.proofs.Common.{◌≡◌, ℕ, ◌+◌, ◌<◌, List, [], ◌∷◌, length, drop, refl, arith}
-use Rattle.std.proofs.lemmas.List.{at_drop_more}
-use Rattle.ghc_term.specs.Goal.{Goal}
-use Rattle.ghc_records.specs.StepText.{names_given}
+use Rattle.ghc_records.proofs.Words.{◌≡◌, ℕ, ◌+◌, ◌<◌, List, [], ◌∷◌, length, drop, refl, arith, at_drop_more, Goal, names_given}
 
 -- the name of the goal at this place, and those behind it
 pub named_next : (n i : ℕ) (gs : List Goal) → i < length gs

@@ -1,20 +1,7 @@
 -- The names of a set in their order.
-use Rattle.std.proofs.Common.{◌≡◌, ℕ, ◌≤◌, Bool, true, false, cond, ◌||◌, List, [], ◌∷◌, length, map, drop, refl, sym, ap, ◌∙◌, subst}
-use Rattle.std.proofs.lemmas.List.{drop_all}
-use Rattle.std.specs.Prelude.{Some, None}
-use Rattle.std.specs.List.{list_any}
-use Rattle.std.specs.List.Sorted.{IsStrictlySortedBy}
-use Rattle.std.specs.Map.{keys_of}
-use Rattle.std.specs.Ordering.{eq_by_cmp, is_eq}
-use Rattle.std.specs.Cmp.{eq_by_cmp_equiv}
+use Rattle.ghc_records.proofs.Words.{◌≡◌, ℕ, ◌≤◌, Bool, true, false, cond, ◌||◌, List, [], ◌∷◌, length, map, drop, refl, sym, ap, ◌∙◌, subst, drop_all, Some, None, list_any, IsStrictlySortedBy, keys_of, eq_by_cmp, is_eq, eq_by_cmp_equiv, VarName, name_cmp, Variables, name_total, name_antisymmetric, entries_are, by_name}
 use Rattle.std.specs.FinSet as set
 use Rattle.std.specs.FinMap as finite
-use Rattle.ghc_term.specs.declared.var_name.VarName.{VarName}
-use Rattle.ghc_term.specs.Bindings.{name_cmp}
-use Rattle.ghc_term.specs.Sets.{Variables}
-use Rattle.ghc_term.proofs.Names.{name_total, name_antisymmetric}
-use Rattle.ghc_fire.proofs.Ordered.{entries_are}
-use Rattle.ghc_records.specs.StepText.{by_name}
 
 -- the name is among the names
 abbrev pub has : VarName → List VarName → Bool

@@ -1,14 +1,7 @@
 -- Users by step, where the steps of the first numbers stand in a list by number, in front of the entries of the others.
-use Rattle.std.proofs.Common.{◌≡◌, ◌≢◌, ◌<◌, ◌≤◌, ◌+◌, ℕ, zero, suc, cond, true, false, List, [], ◌∷◌, ◌++◌, length, get_or, refl, sym, ap, ◌∙◌, subst, inl, inr, ◌⊎◌, nat_eq, arith}
-use Rattle.std.proofs.lemmas.Bool.{eqb-true, eq-eqb, ne_eqb}
-use Rattle.std.specs.Prelude.{Option, Some, None, slice_set}
-use Rattle.std.specs.Map.{lookup}
+use Rattle.ghc_records.proofs.Words.{◌≡◌, ◌≢◌, ◌<◌, ◌≤◌, ◌+◌, ℕ, zero, suc, cond, true, false, List, [], ◌∷◌, ◌++◌, length, get_or, refl, sym, ap, ◌∙◌, subst, inl, inr, ◌⊎◌, nat_eq, arith, eqb-true, eq-eqb, ne_eqb, Option, Some, None, slice_set, lookup, In, in_either, Table, UsersByStep, numbered, users_in, numbers_in, room_in, users_at, CanTake, HasGrown, AreAllEmpty}
 use Rattle.std.specs.FinMap as finite
 use Rattle.std.proofs.lemmas.List.{append_assoc}
-use Rattle.ghc_term.specs.Lists.{In}
-use Rattle.ghc_term.proofs.ListsLemmas.{in_either}
-use Rattle.ghc_term.specs.Table.{Table}
-use Rattle.ghc_records.specs.UseIndex.{UsersByStep, numbered, users_in, numbers_in, room_in, users_at, CanTake, HasGrown, AreAllEmpty}
 use Rattle.ghc_records.proofs.StepUsers.{Differs, at_first, written, gone, unchanged}
 
 -- sets of numbers, by number, and with the numbers of their steps

@@ -1,8 +1,5 @@
 -- Lemmas on numbers behind spaces, as they are read one by one.
-use Rattle.std.proofs.Common.{◌≡◌, ℕ, suc, All, List, [], ◌∷◌, ◌++◌, refl, sym, ap, ◌∙◌, subst, arith, append_assoc, decimal}
-use Rattle.std.proofs.lemmas.List.{append-nil}
-use Rattle.std.proofs.lemmas.List.Elements.{All-nil, All-cons, All-append}
-use Rattle.ghc_records.specs.EntryText.{IsNamed, numbers_behind}
+use Rattle.ghc_records.proofs.Words.{◌≡◌, ℕ, suc, All, List, [], ◌∷◌, ◌++◌, refl, sym, ap, ◌∙◌, subst, arith, append_assoc, decimal, append-nil, All-nil, All-cons, All-append, IsNamed, numbers_behind}
 
 numbers_more : (ns : List ℕ) (n : ℕ) (rest : List ℕ) → numbers_behind (ns ++ n ∷ []) ++ rest ≡ numbers_behind ns ++ (32 ∷ (decimal n ++ rest))
 numbers_more [] n rest = ap (λ l. 32 ∷ (l ++ rest)) (append-nil (decimal n))

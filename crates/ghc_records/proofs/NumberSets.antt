@@ -1,13 +1,5 @@
 -- Numbers in a list or in a table of keys.
-use Rattle.std.proofs.Common.{◌≡◌, ◌≢◌, ℕ, Bool, true, false, cond, ◌||◌, List, [], ◌∷◌, refl, sym, ap, ◌∙◌, subst, inl, inr, ◌⊎◌, ◌<◌, ◌+◌, nat_eq, ◌++◌, length, take, get_or}
-use Rattle.std.specs.Prelude.{◌↔◌, Result, Ok, Err, IsOk, OnErr}
-use Rattle.std.specs.List.{list_any}
-use Rattle.std.proofs.lemmas.Bool.{eqb-true, eq-eqb}
-use Rattle.std.proofs.lemmas.List.{take_more}
-use Rattle.indexmap.specs.IndexSet.{insert_key}
-use Rattle.ghc_term.specs.Lists.{In}
-use Rattle.ghc_term.proofs.ListsLemmas.{in_left, in_right, in_either}
-use Rattle.ghc_records.specs.Orders.{AreDistinct}
+use Rattle.ghc_records.proofs.Words.{◌≡◌, ◌≢◌, ℕ, Bool, true, false, cond, ◌||◌, List, [], ◌∷◌, refl, sym, ap, ◌∙◌, subst, inl, inr, ◌⊎◌, ◌<◌, ◌+◌, nat_eq, ◌++◌, length, take, get_or, ◌↔◌, Result, Ok, Err, IsOk, OnErr, list_any, eqb-true, eq-eqb, take_more, insert_key, In, in_left, in_right, in_either, AreDistinct}
 
 -- numbers are one or they are not
 pub one_or_not : (n k : ℕ) → (n ≡ k) ⊎ (n ≢ k)

@@ -1,20 +1,6 @@
 -- A text tells one chronicle at most, and none where a line of it is wrong.
-use Rattle.std.proofs.Common.{◌≡◌, ℕ, zero, suc, ◌+◌, ◌≤◌, List, [], ◌∷◌, ◌++◌, take, drop, length, refl, sym, ap, ◌∙◌, subst, arith, decimal}
-use Rattle.std.specs.Prelude.{codes}
-use Rattle.std.proofs.lemmas.List.{append_cancel_left, drop-drop}
-use Rattle.ghc_term.specs.Tree.{Tree}
-use Rattle.ghc_reader.specs.Read.{IsReadBody, IsReadTerm}
-use Rattle.ghc_reader.specs.WrittenAsk.{WrittenAsk}
-use Rattle.ghc_records.specs.declared.predicate.Predicate.{Predicate}
-use Rattle.ghc_records.specs.Numbers.{kept_limit}
-use Rattle.ghc_records.specs.Journal.{Step, Entry}
-use Rattle.ghc_records.specs.History.{History}
-use Rattle.ghc_records.specs.HistoryText.{IsLine, SaysStep, greatest_number, pieces_of}
-use Rattle.ghc_records.specs.Sections.{TellsNoMoreItems, TellsSection}
-use Rattle.ghc_records.specs.Chronicle.{Chronicle, AreBelow, AreInTurn, entry_limit, next_after, next_behind, spy_limit}
-use Rattle.ghc_records.specs.EntryText.{SaysEntry}
-use Rattle.ghc_records.specs.Predicates.{GoTogether, SaysPredicate}
-use Rattle.ghc_records.specs.ChronicleText.{IsFirstWrongInChronicle, IsNext, TellsChronicle, TellsEnd, TellsEntries, TellsOpening, TellsSpies, behind_lines, entries_line, lines_to_end, lines_to_spies, more, no_end, no_entry, no_heading, no_opening, no_spy, no_step, opening_line, spies_line}
+use Rattle.ghc_records.proofs.Words.{◌≡◌, ℕ, zero, suc, ◌+◌, ◌≤◌, List, [], ◌∷◌, ◌++◌, take, drop, length, refl, sym, ap, ◌∙◌, subst, arith, decimal, codes, append_cancel_left, drop-drop, Tree, IsReadBody, IsReadTerm, WrittenAsk, Predicate, kept_limit, Step, Entry, History, IsLine, SaysStep, greatest_number, pieces_of, TellsNoMoreItems, TellsSection, Chronicle, AreBelow, AreInTurn, entry_limit, next_after, next_behind, spy_limit, SaysEntry, GoTogether, SaysPredicate, IsFirstWrongInChronicle, IsNext, TellsChronicle, TellsEnd, TellsEntries, TellsOpening, TellsSpies, behind_lines, entries_line, lines_to_end, lines_to_spies, no_end, no_entry, no_heading, no_opening, no_spy, no_step, opening_line, spies_line}
+use Rattle.ghc_records.specs.ChronicleText.{more}
 use Rattle.ghc_records.proofs.CutLemmas.{cut_once, number_plain, one_number}
 use Rattle.ghc_records.proofs.CutTexts.{distinct_taken}
 use Rattle.ghc_records.proofs.ExactTexts.{in_front}

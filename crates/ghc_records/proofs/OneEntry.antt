@@ -1,18 +1,5 @@
 -- A line says one entry, and one predicate.
-use Rattle.std.proofs.Common.{◌≡◌, ◌≢◌, ℕ, suc, inl, inr, All, List, [], ◌∷◌, ◌++◌, true, false, get_or, refl, sym, ap, ◌∙◌, subst, arith, append_assoc, decimal}
-use Rattle.std.specs.Prelude.{codes}
-use Rattle.std.proofs.lemmas.List.{append_cancel_left}
-use Rattle.ghc_term.specs.Tree.{Tree}
-use Rattle.ghc_reader.specs.Read.{IsReadBody, IsReadTerm}
-use Rattle.ghc_reader.specs.WrittenAsk.{WrittenAsk}
-use Rattle.ghc_fire.specs.Asked.{asked_of}
-use Rattle.ghc_fire.specs.declared.act.Act.TheVariants.{Asked as asked}
-use Rattle.ghc_records.specs.declared.predicate.Predicate.{Predicate}
-use Rattle.ghc_records.specs.Journal.{Step, Entry, took, undid, rolled, redid, reordered}
-use Rattle.ghc_records.specs.StepText.{goal_name_text}
-use Rattle.ghc_records.specs.HistoryText.{SaysStep}
-use Rattle.ghc_records.specs.EntryText.{IsNamed, SaysAsking, SaysEntry, numbers_behind}
-use Rattle.ghc_records.specs.Predicates.{SaysPredicate}
+use Rattle.ghc_records.proofs.Words.{◌≡◌, ◌≢◌, ℕ, suc, inl, inr, All, List, [], ◌∷◌, ◌++◌, true, false, get_or, refl, sym, ap, ◌∙◌, subst, arith, append_assoc, decimal, codes, append_cancel_left, Tree, IsReadBody, IsReadTerm, WrittenAsk, asked_of, Asked as asked, Predicate, Step, Entry, took, undid, rolled, redid, reordered, goal_name_text, SaysStep, IsNamed, SaysAsking, SaysEntry, numbers_behind, SaysPredicate}
 use Rattle.ghc_records.proofs.AskingLines.{asking_apart}
 use Rattle.ghc_records.proofs.CutLemmas.{number_plain, one_number}
 use Rattle.ghc_records.proofs.EntryLines.{cut_numbers, digit_first, one_word, step_alone}

@@ -1,8 +1,5 @@
 -- Pieces tell one section of items, and none where a line of it is wrong.
-use Rattle.std.proofs.Common.{◌≡◌, ℕ, suc, ◌≤◌, inl, inr, List, [], ◌∷◌, ◌++◌, take, drop, length, sym, ap, ◌∙◌, subst, arith}
-use Rattle.std.proofs.lemmas.List.{take_all}
-use Rattle.ghc_records.specs.HistoryText.{IsLineOf}
-use Rattle.ghc_records.specs.Sections.{IsFirstWrongOf, TellsItems, TellsNoMoreItems, TellsSection, no_count, no_item}
+use Rattle.ghc_records.proofs.Words.{◌≡◌, ℕ, suc, ◌≤◌, inl, inr, List, [], ◌∷◌, ◌++◌, take, drop, length, sym, ap, ◌∙◌, subst, arith, take_all, IsLineOf, IsFirstWrongOf, TellsItems, TellsNoMoreItems, TellsSection, no_count, no_item}
 use Rattle.ghc_records.proofs.CutTexts.{less_or, taken_at}
 use Rattle.ghc_records.proofs.ExactTexts.{begin_alike, one_longer}
 use Rattle.ghc_records.proofs.OneStep.{one_line}

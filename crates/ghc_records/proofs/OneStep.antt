@@ -1,15 +1,5 @@
 -- A line says one step, and pieces tell one list of steps.
-use Rattle.std.proofs.Common.{◌≡◌, ℕ, ◌≤◌, List, [], ◌∷◌, ◌++◌, get_or, refl, sym, ap, ◌∙◌, subst, arith, decimal, Some, slice_get}
-use Rattle.std.specs.Prelude.{codes}
-use Rattle.std.proofs.lemmas.List.{append_cancel_left}
-use Rattle.ghc_term.specs.declared.goal_name.GoalName.{GoalName}
-use Rattle.ghc_term.specs.Tree.{Tree}
-use Rattle.ghc_reader.specs.Read.{IsReadTerm}
-use Rattle.ghc_fire.specs.declared.act.Act.{Act}
-use Rattle.ghc_fire.specs.declared.act.Act.TheVariants.{ByClause as by_clause, Unified as unified, Assigned as assigned, Given as given, Closed as closed, Asked as asked}
-use Rattle.ghc_records.specs.Journal.{Step}
-use Rattle.ghc_records.specs.StepText.{goal_name_text}
-use Rattle.ghc_records.specs.HistoryText.{IsLineOf, SaysAct, SaysStep, TellsSteps, greatest_number}
+use Rattle.ghc_records.proofs.Words.{◌≡◌, ℕ, ◌≤◌, List, [], ◌∷◌, ◌++◌, get_or, refl, sym, ap, ◌∙◌, subst, arith, decimal, Some, slice_get, codes, append_cancel_left, GoalName, Tree, IsReadTerm, Act, ByClause as by_clause, Unified as unified, Assigned as assigned, Given as given, Closed as closed, Asked as asked, Step, goal_name_text, IsLineOf, SaysAct, SaysStep, TellsSteps, greatest_number}
 use Rattle.ghc_records.proofs.CutLemmas.{cut_once, number_plain, one_number}
 use Rattle.ghc_records.proofs.Saying.{goal_plain, line_apart, one_step_number}
 

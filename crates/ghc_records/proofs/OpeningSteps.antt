@@ -1,11 +1,5 @@
 -- Lemmas on steps with numbers of their own below the next one, as they are read one by one.
-use Rattle.std.proofs.Common.{◌≡◌, ℕ, ◌<◌, ◌⊎◌, inl, inr, List, [], ◌∷◌, ◌++◌, map, refl, sym, ap, ◌∙◌, subst}
-use Rattle.std.proofs.lemmas.List.{map-append}
-use Rattle.ghc_term.specs.Lists.{In}
-use Rattle.ghc_records.specs.Orders.{AreDistinct}
-use Rattle.ghc_records.specs.Journal.{Step}
-use Rattle.ghc_records.specs.HistoryText.{IsLineOf, SaysStep, pieces_of}
-use Rattle.ghc_records.specs.Chronicle.{AreBelow}
+use Rattle.ghc_records.proofs.Words.{◌≡◌, ℕ, ◌<◌, ◌⊎◌, inl, inr, List, [], ◌∷◌, ◌++◌, map, refl, sym, ap, ◌∙◌, subst, map-append, In, AreDistinct, Step, IsLineOf, SaysStep, pieces_of, AreBelow}
 use Rattle.ghc_records.proofs.CutLemmas.{line_is}
 use Rattle.ghc_records.proofs.NumberSets.{distinct_pushed}
 use Rattle.ghc_records.proofs.Saying.{one_step_number}

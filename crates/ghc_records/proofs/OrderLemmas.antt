@@ -1,10 +1,6 @@
 -- Lists in recorded order.
-use Rattle.std.proofs.Common.{◌≡◌, ℕ, ◌<◌, ◌⊎◌, List, [], ◌∷◌, ◌++◌, refl, sym, ap, ◌∙◌, subst, inl, inr}
-use Rattle.std.proofs.lemmas.List.{map-append}
-use Rattle.ghc_term.specs.Lists.{In}
-use Rattle.ghc_term.proofs.ListsLemmas.{in_right, in_splits}
-use Rattle.ghc_records.specs.Orders.{Precedes, Picks, nothing, take, leave, AreDistinct}
-use Rattle.ghc_records.specs.Record.{Record, numbers}
+use Rattle.ghc_records.proofs.Words.{◌≡◌, ℕ, ◌<◌, ◌⊎◌, List, [], ◌∷◌, ◌++◌, refl, sym, ap, ◌∙◌, subst, inl, inr, map-append, In, in_right, in_splits, Precedes, Picks, nothing, leave, AreDistinct, Record, numbers}
+use Rattle.ghc_records.specs.Orders.{take}
 
 module _ {X : Type 0} where
   -- a stands before b, by cases of the list

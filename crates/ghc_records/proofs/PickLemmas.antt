@@ -1,10 +1,7 @@
 -- What stands before what in a list, in a longer one, and in a part of it.
-use Rattle.std.proofs.Common.{◌≡◌, ◌+◌, ◌≤◌, ◌⊎◌, List, [], ◌∷◌, ◌++◌, length, refl, sym, ap, ◌∙◌, subst, inl, inr, arith}
+use Rattle.ghc_records.proofs.Words.{◌≡◌, ◌+◌, ◌≤◌, ◌⊎◌, List, [], ◌∷◌, ◌++◌, length, refl, sym, ap, ◌∙◌, subst, inl, inr, arith, In, in_left, in_right, in_more, in_either, in_splits, Picks, nothing, leave, AreDistinct, Record, numbers}
 use Rattle.std.proofs.lemmas.List.{length-append}
-use Rattle.ghc_term.specs.Lists.{In}
-use Rattle.ghc_term.proofs.ListsLemmas.{in_left, in_right, in_more, in_either, in_splits}
-use Rattle.ghc_records.specs.Orders.{Picks, nothing, take, leave, AreDistinct}
-use Rattle.ghc_records.specs.Record.{Record, numbers}
+use Rattle.ghc_records.specs.Orders.{take}
 use Rattle.ghc_records.proofs.OrderLemmas.{Before, before_once, number_in, number_of}
 
 module _ {X : Type 0} where

@@ -1,19 +1,6 @@
 -- No line feed stands in the text of goals that the grammar has a text for.
-use Rattle.std.proofs.Common.{◌≡◌, ℕ, List, [], ◌∷◌, ◌++◌, map, refl, sym, ap, subst, inl, inr, arith, decimal}
-use Rattle.std.specs.Prelude.{codes}
-use Rattle.ghc_term.specs.declared.var_name.VarName.{VarName}
-use Rattle.ghc_term.specs.declared.operator.Operator.{Operator}
-use Rattle.ghc_term.specs.declared.operator.Operator.TheVariants.{Add, Subtract, Multiply, Divide, Modulo}
-use Rattle.ghc_term.specs.Lists.{In}
-use Rattle.ghc_term.specs.Tree.{Tree, variable, integer, node, trees}
+use Rattle.ghc_records.proofs.Words.{◌≡◌, ℕ, List, [], ◌∷◌, ◌++◌, map, refl, sym, ap, subst, inl, inr, arith, decimal, codes, VarName, Operator, Add, Subtract, Multiply, Divide, Modulo, In, Tree, variable, integer, node, trees, Expression, leaf, operation, Goal, call, unify, assign, stream, arguments_text, term_text, variable_text, expression_text, goal_text, operand, operator_text, all_resolved, HasNumbers, IsWritableOperand, IsWritableExpression, IsWritableTarget, IsWritableGoal, body_text, followed_by}
 use Rattle.ghc_term.specs.Tree as tree
-use Rattle.ghc_term.specs.Expression.{Expression, leaf, operation}
-use Rattle.ghc_term.specs.Goal.{Goal, call, unify, assign, stream}
-use Rattle.ghc_term.specs.Text.{arguments_text, term_text, variable_text}
-use Rattle.ghc_term.specs.GoalText.{expression_text, goal_text, operand, operator_text}
-use Rattle.ghc_term.specs.Resolved.{all_resolved}
-use Rattle.ghc_reader.specs.PrintedGoals.{HasNumbers, IsWritableOperand, IsWritableExpression, IsWritableTarget, IsWritableGoal}
-use Rattle.ghc_records.specs.StepText.{body_text, followed_by}
 use Rattle.ghc_records.proofs.CutLemmas.{fits}
 use Rattle.ghc_records.proofs.PlainTexts.{HasNoFeed, arguments_plain, both, byte_first, decimal_text, integer_text, name_text, nothing, plain_codes, tree_plain}
 

@@ -1,18 +1,5 @@
 -- No line feed stands in the text of an input term, nor in that of a step or in another line of a history.
-use Rattle.std.proofs.Common.{◌≡◌, ◌≢◌, ℕ, suc, nat_eq, ◌<◌, ◌^◌, inl, inr, Bool, true, false, All, List, [], ◌∷◌, ◌++◌, refl, sym, ◌∙◌, subst, arith, decimal, ℤ, pos, negsuc, FitsSigned, w64}
-use Rattle.std.specs.Prelude.{codes, if◌then◌else◌, IsTrue, ◌&&◌, not}
-use Rattle.std.specs.Fmt.{signed_decimal}
-use Rattle.std.specs.Char.{is_ascii_lowercase}
-use Rattle.std.specs.List.{list_all}
-use Rattle.std.proofs.lemmas.Bool.{eq-eqb}
-use Rattle.std.proofs.lemmas.List.Elements.{All-nil, All-cons, All-append}
-use Rattle.std.proofs.lemmas.Fmt.{decimal_is_IsNumeral}
-use Rattle.std.proofs.lemmas.Slice.Eq.{bytes_eq-Decides}
-use Rattle.ghc_term.specs.declared.var_name.VarName.{VarName}
-use Rattle.ghc_term.specs.Tree.{Tree, variable, integer, node, Trees, none, more}
-use Rattle.ghc_term.specs.Text.{is_cell, is_nil, variable_text, term_text, cell_text, rest_text, arguments_text, further_text, barred}
-use Rattle.ghc_term.specs.InputTerm.{is_name_byte, IsNameText, IsHead, IsInGrammar, AllInGrammar}
-use Rattle.ghc_reader.specs.PrintedGoals.{IsWritable, AreWritable}
+use Rattle.ghc_records.proofs.Words.{◌≡◌, ◌≢◌, ℕ, suc, nat_eq, ◌<◌, ◌^◌, inl, inr, Bool, true, false, All, List, [], ◌∷◌, ◌++◌, refl, sym, ◌∙◌, subst, arith, decimal, ℤ, pos, negsuc, FitsSigned, w64, codes, if◌then◌else◌, IsTrue, ◌&&◌, not, signed_decimal, is_ascii_lowercase, list_all, eq-eqb, All-nil, All-cons, All-append, decimal_is_IsNumeral, bytes_eq-Decides, VarName, Tree, variable, integer, node, Trees, none, more, is_cell, is_nil, variable_text, term_text, cell_text, rest_text, arguments_text, further_text, barred, is_name_byte, IsNameText, IsHead, IsInGrammar, AllInGrammar, IsWritable, AreWritable}
 use Rattle.ghc_records.proofs.CutLemmas.{digits_plain}
 
 -- no byte is a line feed

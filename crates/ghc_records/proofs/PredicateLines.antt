@@ -1,13 +1,5 @@
 -- Lemmas on lines that say predicates.
-use Rattle.std.proofs.Common.{◌≡◌, ◌≢◌, ℕ, ◌<◌, zero, suc, All, List, [], ◌∷◌, ◌++◌, Bool, true, false, sym, ◌∙◌, subst, arith, decimal}
-use Rattle.std.specs.Prelude.{IsTrue}
-use Rattle.std.specs.Char.{is_ascii_lowercase}
-use Rattle.std.specs.List.{list_all}
-use Rattle.std.specs.Str.{IsAscii}
-use Rattle.std.proofs.lemmas.List.Elements.{All-nil, All-cons}
-use Rattle.ghc_term.specs.InputTerm.{is_name_byte, IsNameText}
-use Rattle.ghc_records.specs.declared.predicate.Predicate.{Predicate}
-use Rattle.ghc_records.specs.Predicates.{SaysPredicate}
+use Rattle.ghc_records.proofs.Words.{◌≡◌, ◌≢◌, ℕ, ◌<◌, zero, suc, All, List, [], ◌∷◌, ◌++◌, Bool, true, false, sym, ◌∙◌, subst, arith, decimal, IsTrue, is_ascii_lowercase, list_all, IsAscii, All-nil, All-cons, is_name_byte, IsNameText, Predicate, SaysPredicate}
 use Rattle.ghc_records.proofs.CutLemmas.{cut_once, no_cut}
 use Rattle.ghc_records.proofs.PlainTexts.{and_parts}
 

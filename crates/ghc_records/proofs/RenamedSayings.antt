@@ -1,19 +1,9 @@
 -- Goals that say parse trees still say them where their variables are renamed and called otherwise.
-use Rattle.std.proofs.Common.{◌≡◌, ℕ, List, [], ◌∷◌, ◌++◌, map, refl, ap, ◌∙◌, subst, inl}
-use Rattle.ghc_term.specs.declared.var_name.VarName.{VarName}
-use Rattle.ghc_term.specs.Lists.{In}
+use Rattle.ghc_records.proofs.Words.{◌≡◌, ℕ, List, [], ◌∷◌, ◌++◌, map, refl, ap, ◌∙◌, subst, inl, VarName, In, node, trees, Expression, variables, variables_of_list, variables_of_expression, variables_of_goals, in_left, in_right, structure, empty, cell, some, Value, number, named, product, sum, SaysBy, SaysAllBy, SaysValueBy, SaysGoalBy, Each, variables_of_trees, replace, replace_all, replace_in_expression, replace_in_goal, by}
 use Rattle.ghc_term.specs.Tree as term
-use Rattle.ghc_term.specs.Tree.{node, trees}
-use Rattle.ghc_term.specs.Expression.{Expression}
 use Rattle.ghc_term.specs.Goal as goal
-use Rattle.ghc_term.specs.Variables.{variables, variables_of_list, variables_of_expression, variables_of_goal, variables_of_goals}
-use Rattle.ghc_term.proofs.ListsLemmas.{in_left, in_right}
-use Rattle.ghc_reader.specs.Source.{Tree, Trees, variable, integer, structure, empty, cell, none, some, Value, number, named, product, sum, Goal, call, unify, assign}
-use Rattle.ghc_reader.specs.Lowered.{SaysBy, SaysAllBy, SaysValueBy, SaysGoalBy, Each}
-use Rattle.ghc_reader.proofs.TermsLowered.{variables_of_trees}
-use Rattle.ghc_unify.specs.Solutions.{replace, replace_all}
-use Rattle.ghc_fire.specs.Instance.{replace_in_expression, replace_in_goal}
-use Rattle.ghc_fire.proofs.Replaced.{by}
+use Rattle.ghc_term.specs.Variables.{variables_of_goal}
+use Rattle.ghc_reader.specs.Source.{Tree, Trees, variable, integer, none, Goal, call, unify, assign}
 
 replaced_trees : (s : VarName → term.Tree) (us : List term.Tree) → replace_all s (trees us) ≡ trees (map (replace s) us)
 replaced_trees s [] = refl

@@ -1,15 +1,5 @@
 -- Goals that the grammar has a text for, with other variables: it has a text for them too.
-use Rattle.std.proofs.Common.{◌≡◌, ℕ, suc, List, [], ◌∷◌, length, map, refl, sym, ap, ◌∙◌, subst, inl, inr, arith}
-use Rattle.std.proofs.lemmas.List.{length-map}
-use Rattle.ghc_term.specs.declared.var_name.VarName.{VarName}
-use Rattle.ghc_term.specs.Lists.{In}
-use Rattle.ghc_term.specs.Tree.{Tree, variable, integer, node, Trees, none, more, list_of, trees}
-use Rattle.ghc_term.specs.Expression.{Expression, leaf, operation}
-use Rattle.ghc_term.specs.Goal.{Goal, call, unify, assign, stream}
-use Rattle.ghc_term.specs.InputTerm.{IsHead}
-use Rattle.ghc_reader.specs.PrintedGoals.{IsWritable, AreWritable, IsWritableOperand, IsWritableExpression, IsWritableTarget, IsWritableGoal}
-use Rattle.ghc_unify.specs.Solutions.{replace, replace_all}
-use Rattle.ghc_fire.specs.Instance.{replace_in_expression, replace_in_goal}
+use Rattle.ghc_records.proofs.Words.{◌≡◌, ℕ, suc, List, [], ◌∷◌, length, map, refl, sym, ap, ◌∙◌, subst, inl, inr, arith, length-map, VarName, In, Tree, variable, integer, node, Trees, none, more, list_of, trees, Expression, leaf, operation, Goal, call, unify, assign, stream, IsHead, IsWritable, AreWritable, IsWritableOperand, IsWritableExpression, IsWritableTarget, IsWritableGoal, replace, replace_all, replace_in_expression, replace_in_goal}
 
 -- each variable of which V holds becomes one of which W holds
 module _ (V W : VarName → Type 0) (s : VarName → Tree) (becomes : (x : VarName) → V x → (y : VarName) × (s x ≡ variable y) × W y) where

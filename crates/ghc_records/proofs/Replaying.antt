@@ -1,20 +1,8 @@
 -- A replay is one, its store is acyclic, and its variables are the query's or made by its steps.
-use Rattle.std.proofs.Common.{◌≡◌, ℕ, suc, ◌≤◌, ◌⊎◌, List, [], ◌∷◌, ◌++◌, refl, sym, ap, ◌∙◌, subst, inl, inr, arith, Some, None, slice_get}
+use Rattle.ghc_records.proofs.Words.{◌≡◌, ℕ, suc, ◌≤◌, ◌⊎◌, List, [], ◌∷◌, ◌++◌, refl, sym, ap, ◌∙◌, subst, inl, inr, arith, Some, None, slice_get, VarName, In, IsAcyclic, name_cmp, value_at, empty_acyclic, Program, Query, IsProgram, IsQuery, made, goal_cmp, AreDistinct, State, Record, numbers, after, query_state, Runs, MakesVariable, IsVariableOf, ReplayIsOne, ReplayIsWellMade}
 use Rattle.std.specs.FinMap as finite
-use Rattle.ghc_term.specs.declared.var_name.VarName.{VarName}
-use Rattle.ghc_term.specs.Lists.{In}
-use Rattle.ghc_term.specs.Bindings.{IsAcyclic, name_cmp}
-use Rattle.ghc_term.specs.Store.{value_at}
-use Rattle.ghc_term.proofs.Total.{empty_acyclic}
-use Rattle.ghc_flat.specs.Clause.{Program, Query}
 use Rattle.ghc_flat.specs.Variables.{variables_of_goals, firsts}
-use Rattle.ghc_flat.specs.Flat.{IsProgram, IsQuery}
-use Rattle.ghc_fire.specs.Instance.{made}
-use Rattle.ghc_fire.specs.Goals.{goal_cmp}
-use Rattle.ghc_records.specs.Orders.{AreDistinct}
-use Rattle.ghc_records.specs.Record.{State, Record, numbers, after}
-use Rattle.ghc_records.specs.Replay.{query_state, Runs, MakesVariable, IsVariableOf, Names}
-use Rattle.ghc_records.specs.Laws.{ReplayIsOne, ReplayIsWellMade}
+use Rattle.ghc_records.specs.Replay.{Names}
 use Rattle.ghc_records.proofs.OrderLemmas.{number_in}
 use Rattle.ghc_records.proofs.States.{made_or_old}
 use Rattle.ghc_records.proofs.Heads.{first_in, of_goals}

@@ -1,16 +1,6 @@
 -- Numbers in ascending order, one more or one less.
-use Rattle.std.proofs.Common.{◌≡◌, ◌≢◌, ℕ, zero, suc, ◌+◌, ◌-◌, ◌<◌, ◌≤◌, List, [], ◌∷◌, ◌++◌, length, take, drop, get_or, refl, sym, ◌∙◌, subst, inl, inr, ◌⊎◌, arith, ltb, nat_cmp}
-use Rattle.std.specs.Prelude.{◌↔◌, IsTrue, Some, slice_get, Result, Ok, Err}
-use Rattle.std.specs.List.{insert, remove}
-use Rattle.std.specs.List.Sorted.{IsBinarySearchResult}
-use Rattle.std.proofs.lemmas.List.Sorted.{searched}
-use Rattle.std.proofs.lemmas.List.{take-append-drop, get_or_default}
-use Rattle.std.proofs.lemmas.Option.{get_or_from_slice_get, slice_get_within}
-use Rattle.std.proofs.lemmas.Bool.{ltb-true, lt-ltb}
-use Rattle.ghc_term.specs.Lists.{In}
-use Rattle.ghc_term.proofs.ListsLemmas.{in_contains, in_left, in_right, in_either, in_get, splits_at}
-use Rattle.ghc_records.specs.Orders.{AreDistinct}
-use Rattle.ghc_records.specs.NumberSet.{IsRising}
+use Rattle.ghc_records.proofs.Words.{◌≡◌, ◌≢◌, ℕ, zero, suc, ◌+◌, ◌-◌, ◌<◌, ◌≤◌, List, [], ◌∷◌, ◌++◌, length, take, drop, get_or, refl, sym, ◌∙◌, subst, inl, inr, ◌⊎◌, arith, ltb, ◌↔◌, IsTrue, Some, slice_get, Result, Ok, Err, insert, remove, IsBinarySearchResult, searched, take-append-drop, get_or_default, get_or_from_slice_get, slice_get_within, ltb-true, lt-ltb, In, in_contains, in_left, in_right, in_either, in_get, splits_at, AreDistinct, IsRising}
+use Rattle.std.proofs.Common.{nat_cmp}
 
 -- numbers rise where those of a front do, those of a back do, and each of the front is below each of the back
 pub joined : (xs ys : List ℕ) → IsRising xs → IsRising ys → ((m n : ℕ) → In m xs → In n ys → m < n) → IsRising (xs ++ ys)

@@ -1,16 +1,5 @@
 -- Lemmas on what lines say of steps.
-use Rattle.std.proofs.Common.{◌≡◌, ◌≢◌, ℕ, zero, suc, ◌≤◌, All, List, [], ◌∷◌, ◌++◌, get_or, refl, sym, ap, ◌∙◌, arith, decimal, subst}
-use Rattle.std.specs.Prelude.{codes}
-use Rattle.std.proofs.lemmas.List.{append_cancel_left}
-use Rattle.std.proofs.lemmas.List.Elements.{All-cons}
-use Rattle.ghc_term.specs.declared.goal_name.GoalName.{GoalName}
-use Rattle.ghc_fire.specs.declared.act.Act.{Act}
-use Rattle.ghc_fire.specs.declared.act.Act.TheVariants.{ByClause as by_clause, Unified as unified, Assigned as assigned, Given as given, Closed as closed, Asked as asked}
-use Rattle.ghc_reader.specs.Read.{IsReadTerm}
-use Rattle.ghc_term.specs.Tree.{Tree}
-use Rattle.ghc_records.specs.Journal.{Step}
-use Rattle.ghc_records.specs.StepText.{goal_name_text}
-use Rattle.ghc_records.specs.HistoryText.{SaysAct, SaysStep, greatest_number}
+use Rattle.ghc_records.proofs.Words.{◌≡◌, ◌≢◌, ℕ, zero, suc, ◌≤◌, All, List, [], ◌∷◌, ◌++◌, get_or, refl, sym, ap, ◌∙◌, arith, decimal, subst, codes, append_cancel_left, All-cons, GoalName, Act, ByClause as by_clause, Unified as unified, Assigned as assigned, Given as given, Closed as closed, Asked as asked, IsReadTerm, Tree, Step, goal_name_text, SaysAct, SaysStep, greatest_number}
 use Rattle.ghc_records.proofs.CutLemmas.{cut_once, no_cut, number_plain, one_number}
 
 plain_append : (mark : ℕ) (a b : List ℕ) → All (λ c. c ≢ mark) a → All (λ c. c ≢ mark) b → All (λ c. c ≢ mark) (a ++ b)

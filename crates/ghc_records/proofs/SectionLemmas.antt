@@ -1,9 +1,6 @@
 -- Lemmas on sections of a text.
-use Rattle.std.proofs.Common.{◌≡◌, ℕ, ◌+◌, ◌<◌, List, [], ◌∷◌, ◌++◌, drop, length, refl, sym, ap, ◌∙◌, subst, arith, inl, inr, length-append}
-use Rattle.ghc_records.specs.HistoryText.{IsLineOf, pieces_of}
-use Rattle.ghc_records.specs.Sections.{TellsItems, TellsNoMoreItems}
+use Rattle.ghc_records.proofs.Words.{◌≡◌, ℕ, ◌+◌, ◌<◌, List, [], ◌∷◌, ◌++◌, drop, length, refl, sym, ap, ◌∙◌, subst, arith, inl, inr, length-append, IsLineOf, pieces_of, TellsItems, TellsNoMoreItems, push_last, push_either}
 use Rattle.ghc_records.proofs.CutLemmas.{drop_next, line_stands}
-use Rattle.ghc_term.proofs.Placing.{push_last, push_either}
 
 module _ {A : Type 0} (Says : List ℕ → A → Type 0) (Fit : List A → Type 0) where
   -- the first line says an item, and others stand behind it

@@ -1,9 +1,5 @@
 -- Sections of a text, put together from the line that tells how many items there are and the lines of these.
-use Rattle.std.proofs.Common.{◌≡◌, ℕ, ◌+◌, ◌≤◌, ◌⊎◌, inl, inr, List, ◌∷◌, ◌++◌, drop, length, decimal, sym, ap, ◌∙◌, subst, arith}
-use Rattle.std.proofs.lemmas.List.{drop-drop}
-use Rattle.ghc_term.specs.declared.fault.Fault.{Fault}
-use Rattle.ghc_records.specs.HistoryText.{IsLineOf, pieces_of}
-use Rattle.ghc_records.specs.Sections.{IsFirstWrongOf, TellsItems, TellsNoMoreItems, TellsSection, no_count, no_item}
+use Rattle.ghc_records.proofs.Words.{◌≡◌, ℕ, ◌+◌, ◌≤◌, ◌⊎◌, inl, inr, List, ◌∷◌, ◌++◌, drop, length, decimal, sym, ap, ◌∙◌, subst, arith, drop-drop, Fault, IsLineOf, pieces_of, IsFirstWrongOf, TellsItems, TellsNoMoreItems, TellsSection, no_count, no_item}
 use Rattle.ghc_records.proofs.CutLemmas.{some_first, some_piece}
 
 -- the first line of pieces that others follow

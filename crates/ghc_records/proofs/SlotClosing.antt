@@ -1,12 +1,5 @@
 -- One slot for each number: what is found at the place of a number, and what is left where that is emptied.
-use Rattle.std.proofs.Common.{◌≡◌, ◌≢◌, ℕ, zero, suc, ◌∷◌, [], refl, sym, ap, ◌∙◌, subst}
-use Rattle.std.specs.Prelude.{◌↔◌, Option, Some, None, IfSome, IfNone, slice_set}
-use Rattle.std.specs.Option.{option_copied}
-use Rattle.std.specs.Borrow.{Bor}
-use Rattle.ghc_term.specs.Lists.{In}
-use Rattle.ghc_records.specs.Orders.{AreDistinct, Picks}
-use Rattle.ghc_records.specs.Record.{Record, numbers}
-use Rattle.ghc_records.specs.Slots.{SlotList, held_in, StandsIn, AreOnceIn, HasNumberIn}
+use Rattle.ghc_records.proofs.Words.{◌≡◌, ◌≢◌, ℕ, zero, suc, ◌∷◌, [], refl, sym, ap, ◌∙◌, subst, ◌↔◌, Option, Some, None, IfSome, IfNone, slice_set, option_copied, Bor, In, AreDistinct, Picks, Record, numbers, SlotList, held_in, StandsIn, AreOnceIn, HasNumberIn}
 use Rattle.ghc_records.proofs.OrderLemmas.{number_in, records_distinct}
 use Rattle.ghc_records.proofs.SlotLemmas.{stands_held, held_stands, held_without}
 use Rattle.ghc_records.proofs.SlotPlaces.{one_record}

@@ -1,12 +1,7 @@
 -- Records in slots: what is held, in which order, and what a slot more, a gap, or the gaps closed up leave.
-use Rattle.std.proofs.Common.{◌≡◌, ◌≢◌, ◌+◌, ◌<◌, ◌≤◌, ◌⊎◌, ℕ, zero, suc, [], ◌∷◌, ◌++◌, length, refl, sym, ap, ◌∙◌, subst, inl, inr, arith, filter}
-use Rattle.std.specs.Prelude.{Some, None, slice_set, is_some}
+use Rattle.ghc_records.proofs.Words.{◌≡◌, ◌≢◌, ◌+◌, ◌<◌, ◌≤◌, ◌⊎◌, ℕ, zero, suc, [], ◌∷◌, ◌++◌, length, refl, sym, ap, ◌∙◌, subst, inl, inr, arith, filter, Some, None, slice_set, is_some, In, in_more, Picks, leave, AreDistinct, Record, numbers, SlotList, held_in, StandsIn}
 use Rattle.std.proofs.lemmas.List.{length-append}
-use Rattle.ghc_term.specs.Lists.{In}
-use Rattle.ghc_term.proofs.ListsLemmas.{in_more}
-use Rattle.ghc_records.specs.Orders.{Picks, take, leave, AreDistinct}
-use Rattle.ghc_records.specs.Record.{Record, numbers}
-use Rattle.ghc_records.specs.Slots.{SlotList, held_in, StandsIn}
+use Rattle.ghc_records.specs.Orders.{take}
 use Rattle.ghc_records.proofs.OrderLemmas.{Before, number_in, number_of, records_distinct}
 use Rattle.ghc_records.proofs.PickLemmas.{others_all, picks_distinct}
 

@@ -1,16 +1,6 @@
 -- Places by number, and a number more or less among them.
-use Rattle.std.proofs.Common.{◌≡◌, ◌≢◌, ℕ, cond, List, sym, ap, ◌∙◌, nat_eq}
-use Rattle.std.specs.Prelude.{Option, Some, slice_get}
-use Rattle.std.specs.Ordering.{nat_cmp}
-use Rattle.std.specs.Cmp.{nat_cmp_total}
+use Rattle.ghc_records.proofs.Words.{◌≡◌, ◌≢◌, ℕ, cond, List, sym, ap, ◌∙◌, nat_eq, Option, Some, slice_get, nat_cmp, nat_cmp_total, nat_cmp-IsAntisymmetric as nat_antisymmetric, lookup, eq-eqb, ne_eqb, value_is, tie, Record, SlotList, PlacesByNumber, StandsIn}
 use Rattle.std.specs.FinMap as finite
-use Rattle.std.specs.FinMap.{nat_cmp-IsAntisymmetric as nat_antisymmetric}
-use Rattle.std.specs.Map.{lookup}
-use Rattle.std.proofs.lemmas.Bool.{eq-eqb, ne_eqb}
-use Rattle.ghc_term.proofs.Indexed.{value_is}
-use Rattle.ghc_term.proofs.Entries.{tie}
-use Rattle.ghc_records.specs.Record.{Record}
-use Rattle.ghc_records.specs.Slots.{SlotList, PlacesByNumber, StandsIn}
 
 abbrev pub places_in : List (ℕ × ℕ) → PlacesByNumber
 places_in es = finite.from_entries {R = nat_cmp} es

@@ -1,11 +1,6 @@
 -- How many records stand in front of a slot: by that the places of slots are places in the record.
-use Rattle.std.proofs.Common.{◌≡◌, ◌+◌, ◌<◌, ◌≤◌, ℕ, zero, suc, List, [], ◌∷◌, length, map, refl, sym, ap, ◌∙◌, subst, inl, inr, arith}
-use Rattle.std.specs.Prelude.{Option, Some, None, IsSome, slice_get, option_copied}
-use Rattle.std.specs.Borrow.{Bor}
-use Rattle.std.proofs.lemmas.Bool.{cases_order}
-use Rattle.ghc_term.specs.Lists.{In}
-use Rattle.ghc_records.specs.Record.{Record}
-use Rattle.ghc_records.specs.Slots.{SlotList, held_in, StandsIn, HasNumberIn}
+use Rattle.ghc_records.proofs.Words.{◌≡◌, ◌+◌, ◌<◌, ◌≤◌, ℕ, zero, suc, List, [], ◌∷◌, length, map, refl, sym, ap, ◌∙◌, subst, inl, inr, arith, Option, Some, None, IsSome, slice_get, Bor, cases_order, In, Record, SlotList, held_in, StandsIn, HasNumberIn}
+use Rattle.std.specs.Prelude.{option_copied}
 
 abbrev pub rank : SlotList → ℕ → ℕ
 rank [] p = 0

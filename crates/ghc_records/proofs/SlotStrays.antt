@@ -1,13 +1,6 @@
 -- The strays of slots, where a slot is put behind the others, where a record is taken out, and where gaps are closed up.
-use Rattle.std.proofs.Common.{◌≡◌, ◌≢◌, ◌+◌, ◌<◌, ◌≤◌, ℕ, zero, suc, cond, List, [], ◌∷◌, ◌++◌, length, take, filter, get_or, refl, sym, ap, ◌∙◌, subst, inl, inr, nat_eq, arith}
-use Rattle.std.specs.Prelude.{◌↔◌, Option, Some, None, is_some, slice_set}
+use Rattle.ghc_records.proofs.Words.{◌≡◌, ◌≢◌, ◌+◌, ◌<◌, ◌≤◌, ℕ, zero, suc, cond, List, [], ◌∷◌, ◌++◌, length, take, filter, get_or, refl, sym, ap, ◌∙◌, subst, inl, inr, nat_eq, arith, ◌↔◌, Option, Some, None, is_some, slice_set, lookup, filter_more, In, AreDistinct, Record, numbers, SlotList, PlacesByNumber, held_in, StandsIn, HasNumberIn, HasStrayIn, AreStraysOf}
 use Rattle.std.specs.FinMap as finite
-use Rattle.std.specs.Map.{lookup}
-use Rattle.std.proofs.lemmas.List.Elements.{filter_more}
-use Rattle.ghc_term.specs.Lists.{In}
-use Rattle.ghc_records.specs.Orders.{AreDistinct}
-use Rattle.ghc_records.specs.Record.{Record, numbers}
-use Rattle.ghc_records.specs.Slots.{SlotList, PlacesByNumber, held_in, StandsIn, HasNumberIn, HasStrayIn, AreStraysOf}
 use Rattle.ghc_records.proofs.NumberSets.{one_or_not}
 use Rattle.ghc_records.proofs.SlotLemmas.{stands_held, held_stands, held_closed, stands_more, stands_still, stands_last, stands_without, still_stands}
 use Rattle.ghc_records.proofs.SlotPlaces.{places_in, place_is, at_key, at_other, one_record}

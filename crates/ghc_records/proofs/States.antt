@@ -1,15 +1,7 @@
 -- What stands in a state after a step.
-use Rattle.std.proofs.Common.{◌≡◌, ◌≢◌, ℕ, ◌+◌, ◌⊎◌, true, false, cond, List, [], ◌∷◌, refl, sym, ap, ◌∙◌, subst, inl, inr, Some, None}
-use Rattle.std.specs.Ordering.{eq_by_cmp, is_eq}
-use Rattle.std.specs.Cmp.{tied_itself}
+use Rattle.ghc_records.proofs.Words.{◌≡◌, ◌≢◌, ℕ, ◌+◌, ◌⊎◌, true, false, cond, List, [], ◌∷◌, refl, sym, ap, ◌∙◌, subst, inl, inr, Some, None, eq_by_cmp, is_eq, tied_itself, GoalName, Goal, In, goal_cmp, Goals, with_makes, goal_total, same_goal}
 use Rattle.std.specs.FinMap as finite
-use Rattle.ghc_term.specs.declared.goal_name.GoalName.{GoalName}
-use Rattle.ghc_term.specs.Goal.{Goal}
-use Rattle.ghc_term.specs.Lists.{In}
 pub use Rattle.ghc_term.proofs.WithBinds.{bound_at}
-use Rattle.ghc_fire.specs.Goals.{goal_cmp, Goals}
-use Rattle.ghc_records.specs.Record.{with_makes}
-use Rattle.ghc_fire.proofs.GoalNames.{goal_total, same_goal}
 
 -- a goal of the state after a step was made by it, or was there under another name than the one consumed
 pub made_or_old : (n i : ℕ) (gs : List Goal) (m : Goals) (h : GoalName) (b : Goal) → finite.get (with_makes n i gs m) h ≡ Some b → ((h.step ≡ n) × In b gs) ⊎ (finite.get m h ≡ Some b)

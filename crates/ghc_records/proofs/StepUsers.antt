@@ -1,16 +1,6 @@
 -- Users by step, where what stands under one step is changed.
-use Rattle.std.proofs.Common.{◌≡◌, ◌≢◌, ◌<◌, ◌≤◌, ℕ, cond, List, refl, sym, ap, ◌∙◌, subst, inl, inr, ◌⊎◌, nat_eq, arith}
-use Rattle.std.specs.Prelude.{◌↔◌, Option, Some, None}
-use Rattle.std.specs.Cmp.{nat_cmp_total}
+use Rattle.ghc_records.proofs.Words.{◌≡◌, ◌≢◌, ◌<◌, ◌≤◌, ℕ, cond, List, refl, sym, ap, ◌∙◌, subst, inl, inr, ◌⊎◌, nat_eq, arith, ◌↔◌, Option, Some, None, nat_cmp_total, nat_cmp-IsAntisymmetric as nat_antisymmetric, lookup, eq-eqb, ne_eqb, In, Table, value_is, tie, UsersByStep, numbers_in, room_in, users_at, IsUser, CanTake}
 use Rattle.std.specs.FinMap as finite
-use Rattle.std.specs.FinMap.{nat_cmp-IsAntisymmetric as nat_antisymmetric}
-use Rattle.std.specs.Map.{lookup}
-use Rattle.std.proofs.lemmas.Bool.{eq-eqb, ne_eqb}
-use Rattle.ghc_term.specs.Lists.{In}
-use Rattle.ghc_term.specs.Table.{Table}
-use Rattle.ghc_term.proofs.Indexed.{value_is}
-use Rattle.ghc_term.proofs.Entries.{tie}
-use Rattle.ghc_records.specs.UseIndex.{UsersByStep, numbers_in, room_in, users_at, IsUser, CanTake}
 use Rattle.ghc_records.proofs.NumberSets.{one_or_not}
 
 -- under the step x stood o, and stands p from now on; under the others stands what stood there

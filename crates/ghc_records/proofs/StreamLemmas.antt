@@ -1,25 +1,6 @@
 -- A run keeps one goal a stream.
-use Rattle.std.proofs.Common.{◌≡◌, ◌≢◌, ℕ, zero, suc, ◌+◌, ◌⊎◌, true, false, cond, List, [], ◌∷◌, filter, refl, sym, ap, ◌∙◌, subst, inl, inr, arith, Some, None, slice_get}
-use Rattle.std.specs.Prelude.{Option}
-use Rattle.std.specs.Ordering.{eq_by_cmp}
+use Rattle.ghc_records.proofs.Words.{◌≡◌, ◌≢◌, ℕ, zero, suc, ◌+◌, ◌⊎◌, true, false, cond, List, [], ◌∷◌, filter, refl, sym, ap, ◌∙◌, subst, inl, inr, arith, Some, None, slice_get, Option, eq_by_cmp, VarName, GoalName, Tree, Goal, call, unify, assign, stream, In, value_at, in_at, Program, Query, is_stream, IsProgram, IsQuery, becomes, replace_in_goal, Act, ByClause as by_clause, Unified as unified, Assigned as assigned, Given as given, Closed as closed, Asked as asked, Effect, HasEffect, goal_cmp, Goals, State, Record, with_makes, without_goal, after, Fires, IsThere, HasStepEffect, query_state, Runs, goal_total, same_goal, same_parts}
 use Rattle.std.specs.FinMap as finite
-use Rattle.ghc_term.specs.declared.var_name.VarName.{VarName}
-use Rattle.ghc_term.specs.declared.goal_name.GoalName.{GoalName}
-use Rattle.ghc_term.specs.Tree.{Tree}
-use Rattle.ghc_term.specs.Goal.{Goal, call, unify, assign, stream}
-use Rattle.ghc_term.specs.Lists.{In}
-use Rattle.ghc_term.specs.Store.{value_at}
-use Rattle.ghc_term.proofs.ListsLemmas.{in_at}
-use Rattle.ghc_flat.specs.Clause.{Program, Query}
-use Rattle.ghc_flat.specs.Flat.{is_stream, IsProgram, IsQuery}
-use Rattle.ghc_fire.specs.Instance.{becomes, replace_in_goal}
-use Rattle.ghc_fire.specs.declared.act.Act.{Act}
-use Rattle.ghc_fire.specs.declared.act.Act.TheVariants.{ByClause as by_clause, Unified as unified, Assigned as assigned, Given as given, Closed as closed, Asked as asked}
-use Rattle.ghc_fire.specs.Effect.{Effect, HasEffect}
-use Rattle.ghc_fire.specs.Goals.{goal_cmp, Goals}
-use Rattle.ghc_records.specs.Record.{State, Record, with_makes, without_goal, after, Fires, IsThere, HasStepEffect}
-use Rattle.ghc_records.specs.Replay.{query_state, Runs}
-use Rattle.ghc_fire.proofs.GoalNames.{goal_total, same_goal, same_parts}
 use Rattle.ghc_records.proofs.States.{old_apart}
 use Rattle.ghc_records.proofs.Effects.{mapped, not_stream, kept_goal}
 

@@ -1,18 +1,7 @@
 -- What is there under each name after a step was taken back.
-use Rattle.std.proofs.Common.{◌≡◌, ℕ, zero, suc, ◌≤◌, true, false, cond, length, refl, sym, ap, ◌∙◌, subst, arith}
-use Rattle.std.specs.Prelude.{Option, Some, None}
-use Rattle.std.proofs.lemmas.Bool.{eqb-true, eq-eqb}
-use Rattle.std.specs.Prelude.{nat_eq}
-use Rattle.std.specs.Ordering.{eq_by_cmp, is_eq}
-use Rattle.std.specs.Cmp.{tied_itself}
+use Rattle.ghc_records.proofs.Words.{◌≡◌, ℕ, zero, suc, ◌≤◌, true, false, cond, length, refl, sym, ap, ◌∙◌, subst, arith, Option, Some, None, eqb-true, eq-eqb, nat_eq, eq_by_cmp, is_eq, tied_itself, GoalName, Goal, goal_cmp, Goals, Record, with_goal, without_makes, GoalsTakenBack, goal_total, same_parts}
 use Rattle.std.specs.FinMap as finite
-use Rattle.ghc_term.specs.declared.goal_name.GoalName.{GoalName}
-use Rattle.ghc_term.specs.Goal.{Goal}
-use Rattle.ghc_fire.specs.Goals.{goal_cmp, Goals}
-use Rattle.ghc_records.specs.Record.{Record}
-use Rattle.ghc_records.specs.State.{with_goal, without_makes, GoalsTakenBack}
 use Rattle.ghc_records.proofs.Made.{name, apart}
-use Rattle.ghc_fire.proofs.GoalNames.{goal_total, same_parts}
 
 -- what is there of the goals without one of them
 of_rest : (m : Goals) (h g : GoalName) → finite.get (finite.remove m h) g ≡ cond (eq_by_cmp goal_cmp g h) None (finite.get m g)

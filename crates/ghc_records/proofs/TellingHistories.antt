@@ -1,13 +1,7 @@
 -- Lemmas on texts that tell histories, and on the first line of a text that is wrong.
-use Rattle.std.proofs.Common.{◌≡◌, ℕ, ◌+◌, ◌<◌, ◌≤◌, List, [], ◌∷◌, drop, get_or, length, refl, sym, ap, ◌∙◌, subst, arith, decimal, Option, Some, None, IfSome, IfNone, Bor}
-use Rattle.std.specs.Prelude.{◌↔◌, codes, option_map}
-use Rattle.std.specs.List.{join_with_byte}
-use Rattle.std.proofs.lemmas.List.{append_cancel_left, drop-drop, nil_from_length}
-use Rattle.std.proofs.lemmas.List.Splits.{join_with_byte-slice_split}
-use Rattle.ghc_term.specs.declared.fault.Fault.{Fault}
-use Rattle.ghc_records.specs.Numbers.{kept_limit}
-use Rattle.ghc_records.specs.Journal.{Step}
-use Rattle.ghc_records.specs.HistoryText.{IsFirstWrongLine, IsHistoryRefusal, IsLine, IsLineOf, TellsCount, TellsHistory, TellsNext, TellsNoMore, TellsSteps, behind_count, count_line, end_line, heading, more, no_count, no_end, no_step, pieces_of}
+use Rattle.ghc_records.proofs.Words.{◌≡◌, ℕ, ◌+◌, ◌<◌, ◌≤◌, List, [], ◌∷◌, drop, get_or, length, refl, sym, ap, ◌∙◌, subst, arith, decimal, Option, Some, None, IfSome, IfNone, ◌↔◌, codes, option_map, join_with_byte, append_cancel_left, drop-drop, nil_from_length, join_with_byte-slice_split, Fault, kept_limit, Step, IsFirstWrongLine, IsHistoryRefusal, IsLine, IsLineOf, TellsCount, TellsHistory, TellsNext, TellsNoMore, TellsSteps, behind_count, count_line, end_line, heading, pieces_of}
+use Rattle.std.proofs.Common.{Bor}
+use Rattle.ghc_records.specs.HistoryText.{more, no_count, no_end, no_step}
 use Rattle.ghc_records.proofs.CutLemmas.{line_stands, one_number}
 use Rattle.ghc_records.proofs.TellingSteps.{IsWrongStep}
 

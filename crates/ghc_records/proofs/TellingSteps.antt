@@ -1,14 +1,5 @@
 -- Lemmas on lines that tell steps.
-use Rattle.std.proofs.Common.{◌≡◌, ℕ, ◌+◌, ◌<◌, inl, inr, List, [], ◌∷◌, ◌++◌, drop, length, map, refl, sym, ap, ◌∙◌, subst, arith, Option, Some, None, IfSome, length-append}
-use Rattle.std.specs.Prelude.{◌↔◌}
-use Rattle.std.proofs.lemmas.List.{map-append}
-use Rattle.ghc_term.specs.declared.fault.Fault.{Fault}
-use Rattle.ghc_term.specs.Lists.{In}
-use Rattle.ghc_term.proofs.ListsLemmas.{in_last, in_more}
-use Rattle.ghc_term.proofs.Placing.{push_last, push_either}
-use Rattle.ghc_records.specs.Orders.{AreDistinct}
-use Rattle.ghc_records.specs.Journal.{Step}
-use Rattle.ghc_records.specs.HistoryText.{IsLineOf, SaysStep, TellsNext, TellsNoMore, TellsSteps, pieces_of}
+use Rattle.ghc_records.proofs.Words.{◌≡◌, ℕ, ◌+◌, ◌<◌, inl, inr, List, [], ◌∷◌, ◌++◌, drop, length, map, refl, sym, ap, ◌∙◌, subst, arith, Option, Some, None, IfSome, length-append, ◌↔◌, map-append, Fault, In, in_last, in_more, push_last, push_either, AreDistinct, Step, IsLineOf, SaysStep, TellsNext, TellsNoMore, TellsSteps, pieces_of}
 use Rattle.ghc_records.proofs.CutLemmas.{drop_next, line_is, line_stands}
 use Rattle.ghc_records.proofs.NumberSets.{distinct_pushed}
 use Rattle.ghc_records.proofs.Saying.{one_step_number}

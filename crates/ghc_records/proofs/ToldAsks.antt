@@ -1,23 +1,6 @@
 -- Goals that a text says were asked for can be asked for in a text.
-use Rattle.std.proofs.Common.{◌≡◌, ◌≢◌, ℕ, zero, suc, ◌+◌, ◌-◌, ◌≤◌, true, false, cond, List, [], ◌∷◌, length, refl, sym, ap, ◌∙◌, subst, arith, Option, Some, None, slice_get}
-use Rattle.std.specs.Prelude.{unwrap_or}
-use Rattle.ghc_term.specs.declared.var_name.VarName.{VarName}
-use Rattle.ghc_term.specs.Lists.{In}
-use Rattle.ghc_term.specs.Tree.{variable}
-use Rattle.ghc_term.specs.Goal.{Goal}
-use Rattle.ghc_term.specs.Variables.{variables_of_goals, firsts}
-use Rattle.ghc_term.proofs.ListsLemmas.{in_at}
-use Rattle.ghc_reader.specs.Lowered.{Names, IsCalled, Each}
-use Rattle.ghc_reader.specs.Written.{IsWithinLimits}
-use Rattle.ghc_reader.specs.WrittenAsk.{WrittenAsk, IsNaming, IsWellPut, of_state, of_no_step, of_query, is_new}
-use Rattle.ghc_reader.specs.PrintedGoals.{HasNumbers, IsNamedIn, IsReadAs, IsWritableGoal}
-use Rattle.ghc_reader.proofs.Numbered.{is_seen}
-use Rattle.ghc_reader.proofs.WithinLimits.{ask_well_put}
+use Rattle.ghc_records.proofs.Words.{◌≡◌, ◌≢◌, ℕ, zero, suc, ◌+◌, ◌-◌, ◌≤◌, true, false, cond, List, [], ◌∷◌, length, refl, sym, ap, ◌∙◌, subst, arith, Option, Some, None, slice_get, unwrap_or, VarName, In, variable, Goal, variables_of_goals, firsts, in_at, Names, IsCalled, Each, IsWithinLimits, WrittenAsk, IsNaming, IsWellPut, of_state, of_no_step, of_query, is_new, HasNumbers, IsNamedIn, IsReadAs, IsWritableGoal, is_seen, ask_well_put, NameNoneOf, asked_of, called, called_by, named_so, written_askable, written_firsts, AreNewInOrder, SaysGoals, CanBeAsked}
 use Rattle.ghc_fire.specs.Effect.{no_step}
-use Rattle.ghc_fire.specs.Asked.{NameNoneOf, asked_of, called, called_by, named_so}
-use Rattle.ghc_fire.proofs.Asking.{written_askable, written_firsts}
-use Rattle.ghc_records.specs.EntryText.{AreNewInOrder, SaysGoals}
-use Rattle.ghc_records.specs.ChronicleLaws.{CanBeAsked}
 use Rattle.ghc_records.proofs.ReplacedGoals.{goals_stay}
 use Rattle.ghc_records.proofs.WritableGoals.{goals_have}
 use Rattle.ghc_records.proofs.WrittenAsks.{named_same}

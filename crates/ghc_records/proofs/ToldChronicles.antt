@@ -1,22 +1,5 @@
 -- A chronicle that a text tells is one that a text can tell.
-use Rattle.std.proofs.Common.{ℕ, ◌+◌, List, length, inl, inr}
-use Rattle.ghc_term.specs.Goal.{Goal}
-use Rattle.ghc_term.specs.Lists.{In}
-use Rattle.ghc_term.specs.Tree.{Tree}
-use Rattle.ghc_term.specs.InputTerm.{IsInputTerm}
-use Rattle.ghc_term.proofs.ListsLemmas.{at_of_in}
-use Rattle.ghc_reader.specs.Lowered.{Names, IsCalled}
-use Rattle.ghc_reader.specs.Read.{IsReadTerm}
-use Rattle.ghc_reader.specs.PrintedGoals.{IsNamedIn, IsReadAs, IsWritableGoal}
-use Rattle.ghc_records.specs.Numbers.{kept_limit}
-use Rattle.ghc_records.specs.Journal.{Entry, took, undid, rolled, redid, reordered}
-use Rattle.ghc_records.specs.HistoryText.{SaysStep}
-use Rattle.ghc_records.specs.Sections.{TellsSection}
-use Rattle.ghc_records.specs.Chronicle.{Chronicle, AreBelow, AreInTurn, entry_limit, spy_limit}
-use Rattle.ghc_records.specs.EntryText.{SaysEntry}
-use Rattle.ghc_records.specs.Predicates.{GoTogether, SaysPredicate}
-use Rattle.ghc_records.specs.ChronicleText.{TellsChronicle, behind_lines, entries_line, lines_to_spies, opening_line, spies_line}
-use Rattle.ghc_records.specs.ChronicleLaws.{CanBeSaid, CanBeTold}
+use Rattle.ghc_records.proofs.Words.{ℕ, ◌+◌, List, length, inl, inr, Goal, In, Tree, IsInputTerm, at_of_in, Names, IsCalled, IsReadTerm, IsNamedIn, IsReadAs, IsWritableGoal, kept_limit, Entry, took, undid, rolled, redid, reordered, SaysStep, TellsSection, Chronicle, AreBelow, AreInTurn, entry_limit, spy_limit, SaysEntry, GoTogether, SaysPredicate, TellsChronicle, behind_lines, entries_line, lines_to_spies, opening_line, spies_line, CanBeSaid, CanBeTold}
 use Rattle.ghc_records.proofs.ToldAsks.{can_be_asked}
 use Rattle.ghc_records.proofs.ToldHistories.{said_of_goal}
 

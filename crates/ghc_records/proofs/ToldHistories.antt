@@ -1,17 +1,5 @@
 -- A history that a text tells is of the form.
-use Rattle.std.proofs.Common.{◌≡◌, ℕ, ◌≤◌, List, sym, ◌∙◌, subst, Some}
-use Rattle.ghc_term.specs.declared.goal_name.GoalName.{GoalName}
-use Rattle.ghc_term.specs.Goal.{Goal}
-use Rattle.ghc_term.specs.Lists.{In}
-use Rattle.ghc_term.proofs.ListsLemmas.{at_of_in}
-use Rattle.ghc_term.specs.Tree.{Tree}
-use Rattle.ghc_term.specs.InputTerm.{IsInputTerm}
-use Rattle.ghc_reader.specs.Read.{IsReadTerm}
-use Rattle.ghc_fire.specs.declared.act.Act.TheVariants.{ByClause as by_clause, Given as given, Asked as asked}
-use Rattle.ghc_records.specs.Journal.{Step}
-use Rattle.ghc_records.specs.History.{History, IsHistory}
-use Rattle.ghc_records.specs.HistoryText.{SaysAct, SaysStep, TellsHistory}
-use Rattle.ghc_records.specs.HistoryLaws.{IsInRange, IsOfAGoal}
+use Rattle.ghc_records.proofs.Words.{◌≡◌, ℕ, ◌≤◌, List, sym, ◌∙◌, subst, Some, GoalName, Goal, In, at_of_in, Tree, IsInputTerm, IsReadTerm, ByClause as by_clause, Given as given, Asked as asked, Step, History, IsHistory, SaysAct, SaysStep, TellsHistory, IsInRange, IsOfAGoal}
 
 -- a line says each step
 line_of : (text : List ℕ) (h : History) → TellsHistory text h → (s : Step) → In s h.steps → (line : List ℕ) × SaysStep line s

@@ -1,8 +1,5 @@
 -- Lemmas on entries that follow each other.
-use Rattle.std.proofs.Common.{◌≡◌, ℕ, ◌+◌, ◌≤◌, List, [], ◌∷◌, ◌++◌, refl, arith}
-use Rattle.ghc_records.specs.Numbers.{number_limit}
-use Rattle.ghc_records.specs.Journal.{Entry, took, undid, rolled, redid, reordered}
-use Rattle.ghc_records.specs.Chronicle.{AreInTurn, IsInTurn, next_after, next_behind}
+use Rattle.ghc_records.proofs.Words.{◌≡◌, ℕ, ◌+◌, ◌≤◌, List, [], ◌∷◌, ◌++◌, refl, arith, number_limit, Entry, took, undid, rolled, redid, reordered, AreInTurn, IsInTurn, next_after, next_behind}
 
 pub turn_more : (n : ℕ) (es : List Entry) (e : Entry) → AreInTurn n es → IsInTurn (next_behind n es) e → AreInTurn n (es ++ e ∷ [])
 turn_more n [] e all last = (last, tt)

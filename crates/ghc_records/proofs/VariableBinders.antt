@@ -1,14 +1,6 @@
 -- Binders by variable, put and taken away one after another.
-use Rattle.std.proofs.Common.{◌≡◌, ℕ, true, false, cond, List, ◌∷◌, refl, sym, ap, ◌∙◌}
-use Rattle.std.specs.Prelude.{Option, Some, None, is_some}
-use Rattle.std.specs.Ordering.{eq_by_cmp}
+use Rattle.ghc_records.proofs.Words.{◌≡◌, ℕ, true, false, cond, List, ◌∷◌, refl, sym, ap, ◌∙◌, Option, Some, None, is_some, eq_by_cmp, VarName, Tree, name_cmp, StoreValue, value_at, name_total, BindersByVariable}
 use Rattle.std.specs.FinMap as finite
-use Rattle.ghc_term.specs.declared.var_name.VarName.{VarName}
-use Rattle.ghc_term.specs.Tree.{Tree}
-use Rattle.ghc_term.specs.Bindings.{name_cmp}
-use Rattle.ghc_term.specs.Store.{StoreValue, value_at}
-use Rattle.ghc_term.proofs.Names.{name_total}
-use Rattle.ghc_records.specs.UseIndex.{BindersByVariable}
 use Rattle.ghc_records.proofs.Bound.{found}
 
 -- the binders, with o under each variable that the bindings bind

@@ -1,15 +1,6 @@
 -- Goals that the grammar has a text for: what holds of their variables, and that no stream is among them.
-use Rattle.std.proofs.Common.{◌≡◌, List, [], ◌∷◌, false, refl, sym, ap, ◌∙◌, subst, inl, inr, cond}
-use Rattle.std.specs.Prelude.{filter}
-use Rattle.ghc_term.specs.declared.var_name.VarName.{VarName}
-use Rattle.ghc_term.specs.Lists.{In}
-use Rattle.ghc_term.specs.Tree.{Tree, variable, integer, node, Trees, none, more, trees}
-use Rattle.ghc_term.specs.Expression.{Expression, leaf, operation}
-use Rattle.ghc_term.specs.Goal.{Goal, call, unify, assign, stream}
-use Rattle.ghc_term.specs.Variables.{variables, variables_of_all, variables_of_list, variables_of_expression, variables_of_goal, variables_of_goals}
-use Rattle.ghc_term.proofs.ListsLemmas.{in_either}
-use Rattle.ghc_reader.specs.PrintedGoals.{IsWritable, AreWritable, IsWritableOperand, IsWritableExpression, IsWritableTarget, IsWritableGoal}
-use Rattle.ghc_flat.specs.Flat.{is_stream}
+use Rattle.ghc_records.proofs.Words.{◌≡◌, List, [], ◌∷◌, false, refl, sym, ap, ◌∙◌, subst, inl, inr, cond, filter, VarName, In, Tree, variable, integer, node, Trees, none, more, trees, Expression, leaf, operation, Goal, call, unify, assign, stream, variables, variables_of_all, variables_of_list, variables_of_expression, variables_of_goals, in_either, IsWritable, AreWritable, IsWritableOperand, IsWritableExpression, IsWritableTarget, IsWritableGoal, is_stream}
+use Rattle.ghc_term.specs.Variables.{variables_of_goal}
 
 module _ (V : VarName → Type 0) (x : VarName) where
   mutual

@@ -1,41 +1,7 @@
 -- Goals that are asked for and can be written are, printed, read again as themselves.
-use Rattle.std.proofs.Common.{◌≡◌, ◌≢◌, ℕ, zero, suc, ◌+◌, ◌-◌, ◌≤◌, Bool, true, false, cond, List, [], ◌∷◌, ◌++◌, length, map, refl, sym, ap, ◌∙◌, subst, inl, inr, arith, Some, None, slice_get, decimal, length-append}
-use Rattle.std.specs.Prelude.{◌||◌, codes, unwrap_or}
-use Rattle.std.specs.Ordering.{eq_by_cmp}
-use Rattle.std.specs.Char.{is_ascii_digit}
-use Rattle.std.proofs.lemmas.Bool.{ne_eqb}
-use Rattle.std.proofs.lemmas.List.{length-map}
-use Rattle.std.proofs.lemmas.Fmt.{decimal_is_IsNumeral}
-use Rattle.ghc_term.specs.declared.var_name.VarName.{VarName}
-use Rattle.ghc_term.specs.Lists.{In}
-use Rattle.ghc_term.specs.Tree.{variable}
-use Rattle.ghc_term.specs.Goal.{Goal}
-use Rattle.ghc_term.specs.GoalText.{goal_text}
-use Rattle.ghc_term.specs.Text.{variable_text}
-use Rattle.ghc_term.specs.Bindings.{name_cmp}
-use Rattle.ghc_term.specs.Variables.{variables_of_goals, firsts}
-use Rattle.ghc_term.proofs.ListsLemmas.{in_at}
-use Rattle.ghc_term.proofs.Names.{itself, same_name}
-use Rattle.ghc_reader.specs.Bytes.{IsRun}
-use Rattle.ghc_reader.specs.Lexed.{IsNumberedAs}
-use Rattle.ghc_reader.specs.Lowered.{Names, blank, IsCalled, AreNamed, Each, doing}
-use Rattle.ghc_reader.specs.Written.{AreNumbered, AreApart}
-use Rattle.ghc_reader.specs.WrittenAsk.{WrittenAsk, IsNaming, of_state}
-use Rattle.ghc_reader.specs.PrintedGoals.{HasNumbers, IsWritableGoal, IsPrintedAs, IsReadAs, further_goals, goals_text}
-use Rattle.ghc_reader.proofs.Numbered.{is_seen, test_cases}
-use Rattle.ghc_reader.proofs.PrintedNames.{one_variable}
-use Rattle.ghc_reader.proofs.TokenTexts.{run_of_digits}
-use Rattle.ghc_reader.proofs.Values.{numbered_by}
-use Rattle.ghc_fire.specs.Instance.{replace_in_goal}
+use Rattle.ghc_records.proofs.Words.{◌≡◌, ◌≢◌, ℕ, zero, suc, ◌+◌, ◌-◌, ◌≤◌, Bool, true, false, cond, List, [], ◌∷◌, ◌++◌, length, map, refl, sym, ap, ◌∙◌, subst, inl, inr, arith, Some, None, slice_get, decimal, length-append, ◌||◌, codes, unwrap_or, eq_by_cmp, is_ascii_digit, ne_eqb, length-map, decimal_is_IsNumeral, VarName, In, variable, Goal, goal_text, variable_text, name_cmp, variables_of_goals, firsts, in_at, itself, IsRun, IsNumberedAs, Names, blank, IsCalled, AreNamed, Each, doing, AreNumbered, AreApart, WrittenAsk, IsNaming, of_state, HasNumbers, IsWritableGoal, IsPrintedAs, IsReadAs, further_goals, goals_text, is_seen, test_cases, one_variable, run_of_digits, numbered_by, replace_in_goal, NameNoneOf, asked_of, called, called_by, named_so, firsts_in, renamed_firsts, firsts_have, in_goals, by, goals_renamed, same_goals, goals_twice, body_text, followed_by, SaysGoals}
+use Rattle.ghc_term.proofs.Names.{same_name}
 use Rattle.ghc_fire.specs.Effect.{no_step}
-use Rattle.ghc_fire.specs.Asked.{NameNoneOf, asked_of, called, called_by, named_so}
-use Rattle.ghc_fire.proofs.EachOnce.{firsts_in, renamed_firsts}
-use Rattle.ghc_fire.proofs.Origins.{firsts_have}
-use Rattle.ghc_fire.proofs.Renamed.{in_goals}
-use Rattle.ghc_fire.proofs.Replaced.{by, goals_renamed, same_goals}
-use Rattle.ghc_fire.proofs.Under.{goals_twice}
-use Rattle.ghc_records.specs.StepText.{body_text, followed_by}
-use Rattle.ghc_records.specs.EntryText.{SaysGoals}
 use Rattle.ghc_records.proofs.RenamedSayings.{goals_say}
 use Rattle.ghc_records.proofs.WritableGoals.{goals_have, none_streams}
 

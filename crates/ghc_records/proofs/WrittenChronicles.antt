@@ -1,27 +1,5 @@
 -- What is written of a chronicle is a text that tells it.
-use Rattle.std.proofs.Common.{◌≡◌, ℕ, suc, ◌+◌, ◌≤◌, All, List, [], ◌∷◌, ◌++◌, drop, length, map, refl, sym, ap, ◌∙◌, subst, arith, decimal, append_assoc, inl, inr}
-use Rattle.std.specs.Prelude.{codes}
-use Rattle.std.specs.List.{AllByRecursion}
-use Rattle.std.proofs.lemmas.List.{drop-drop}
-use Rattle.ghc_term.specs.Lists.{In}
-use Rattle.ghc_term.specs.Tree.{Tree}
-use Rattle.ghc_term.specs.Goal.{Goal}
-use Rattle.ghc_term.specs.Text.{term_text}
-use Rattle.ghc_term.specs.InputTerm.{IsInputTerm}
-use Rattle.ghc_term.specs.Variables.{variables_of_goals, firsts}
-use Rattle.ghc_reader.specs.Read.{IsReadTerm}
-use Rattle.ghc_reader.specs.Written.{IsWithinLimits}
-use Rattle.ghc_reader.specs.PrintedGoals.{HasNumbers, IsWritableGoal, IsPrintedAs, IsReadAs, goals_text}
-use Rattle.ghc_records.specs.declared.predicate.Predicate.{Predicate}
-use Rattle.ghc_records.specs.Numbers.{kept_limit}
-use Rattle.ghc_records.specs.Journal.{Step, Entry, took, undid, rolled, redid, reordered}
-use Rattle.ghc_records.specs.StepText.{act_text, body_text, consumed_text, step_text}
-use Rattle.ghc_records.specs.HistoryText.{SaysStep, end_line, pieces_of}
-use Rattle.ghc_records.specs.Chronicle.{Chronicle, AreBelow, AreInTurn, entry_limit, spy_limit}
-use Rattle.ghc_records.specs.EntryText.{IsNamed, SaysAsking, SaysEntry, SaysGoals, entry_text, numbers_behind}
-use Rattle.ghc_records.specs.Predicates.{GoTogether, SaysPredicate, predicate_text}
-use Rattle.ghc_records.specs.ChronicleText.{TellsChronicle, behind_lines, chronicle_heading, chronicle_lines, chronicle_text, entries_line, lines_to_end, lines_to_spies, opening_line, spies_line}
-use Rattle.ghc_records.specs.ChronicleLaws.{CanBeSaid, CanBeSpied, CanBeTold, IsOfNoGoal}
+use Rattle.ghc_records.proofs.Words.{◌≡◌, ℕ, suc, ◌+◌, ◌≤◌, All, List, [], ◌∷◌, ◌++◌, drop, length, map, refl, sym, ap, ◌∙◌, subst, arith, decimal, append_assoc, inl, inr, codes, AllByRecursion, drop-drop, In, Tree, Goal, term_text, IsInputTerm, variables_of_goals, firsts, IsReadTerm, IsWithinLimits, HasNumbers, IsWritableGoal, IsPrintedAs, IsReadAs, goals_text, Predicate, kept_limit, Step, Entry, took, undid, rolled, redid, reordered, act_text, body_text, consumed_text, step_text, SaysStep, end_line, pieces_of, Chronicle, AreBelow, AreInTurn, entry_limit, spy_limit, IsNamed, SaysAsking, SaysEntry, SaysGoals, entry_text, numbers_behind, GoTogether, SaysPredicate, predicate_text, TellsChronicle, behind_lines, chronicle_heading, chronicle_lines, chronicle_text, entries_line, lines_to_end, lines_to_spies, opening_line, spies_line, CanBeSaid, CanBeSpied, CanBeTold, IsOfNoGoal}
 use Rattle.ghc_records.proofs.CutLemmas.{fits}
 use Rattle.ghc_records.proofs.PlainTexts.{HasNoFeed, both, decimal_text, name_text, nothing, plain_codes}
 use Rattle.ghc_records.proofs.PlainGoals.{body_plain}

@@ -1,10 +1,5 @@
 -- Sections of a text as they are written: a line that tells how many items there are, a line for each, and other lines behind these.
-use Rattle.std.proofs.Common.{◌≡◌, ℕ, zero, suc, ◌+◌, ◌≤◌, List, [], ◌∷◌, ◌++◌, drop, length, map, refl, sym, ap, ◌∙◌, subst, arith, inl, inr, Some, slice_get}
-use Rattle.std.specs.List.{AllByRecursion}
-use Rattle.ghc_term.specs.Lists.{In}
-use Rattle.ghc_term.proofs.ListsLemmas.{in_at}
-use Rattle.ghc_records.specs.HistoryText.{IsLineOf}
-use Rattle.ghc_records.specs.Sections.{TellsSection}
+use Rattle.ghc_records.proofs.Words.{◌≡◌, ℕ, zero, suc, ◌+◌, ◌≤◌, List, [], ◌∷◌, ◌++◌, drop, length, map, refl, sym, ap, ◌∙◌, subst, arith, inl, inr, Some, slice_get, AllByRecursion, In, in_at, IsLineOf, TellsSection}
 use Rattle.ghc_records.proofs.PlainTexts.{HasNoFeed}
 
 module _ {A : Type 0} (f : A → List ℕ) where

@@ -1,23 +1,5 @@
 -- What is written of a history is a text that tells it.
-use Rattle.std.proofs.Common.{◌≡◌, ◌≢◌, ℕ, ◌+◌, ◌<◌, ◌≤◌, List, [], ◌∷◌, ◌++◌, drop, length, map, refl, sym, ap, ◌∙◌, subst, arith, decimal, append_assoc}
-use Rattle.std.specs.Prelude.{codes}
-use Rattle.std.specs.List.{AllByRecursion}
-use Rattle.std.proofs.lemmas.List.{drop-drop}
-use Rattle.ghc_term.specs.declared.goal_name.GoalName.{GoalName}
-use Rattle.ghc_term.specs.Lists.{In}
-use Rattle.ghc_term.proofs.ListsLemmas.{in_at}
-use Rattle.ghc_term.specs.Tree.{Tree}
-use Rattle.ghc_term.specs.Text.{term_text}
-use Rattle.ghc_term.specs.InputTerm.{IsInputTerm}
-use Rattle.ghc_reader.specs.Read.{IsReadTerm}
-use Rattle.ghc_term.specs.Goal.{Goal}
-use Rattle.ghc_fire.specs.declared.act.Act.{Act}
-use Rattle.ghc_fire.specs.declared.act.Act.TheVariants.{ByClause as by_clause, Unified as unified, Assigned as assigned, Given as given, Closed as closed, Asked as asked}
-use Rattle.ghc_records.specs.Journal.{Step}
-use Rattle.ghc_records.specs.StepText.{act_text, consumed_text, goal_name_text, step_text}
-use Rattle.ghc_records.specs.History.{History, IsHistory}
-use Rattle.ghc_records.specs.HistoryText.{IsLineOf, SaysAct, SaysStep, TellsHistory, TellsNext, behind_count, count_line, end_line, greatest_number, heading, history_lines, history_text, lines_text, pieces_of}
-use Rattle.ghc_records.specs.HistoryLaws.{IsInRange, IsOfAGoal}
+use Rattle.ghc_records.proofs.Words.{◌≡◌, ◌≢◌, ℕ, ◌+◌, ◌<◌, ◌≤◌, List, [], ◌∷◌, ◌++◌, drop, length, map, refl, sym, ap, ◌∙◌, subst, arith, decimal, append_assoc, codes, AllByRecursion, drop-drop, GoalName, In, in_at, Tree, term_text, IsInputTerm, IsReadTerm, Goal, Act, ByClause as by_clause, Unified as unified, Assigned as assigned, Given as given, Closed as closed, Asked as asked, Step, act_text, consumed_text, goal_name_text, step_text, History, IsHistory, IsLineOf, SaysAct, SaysStep, TellsHistory, TellsNext, behind_count, count_line, end_line, greatest_number, heading, history_lines, history_text, lines_text, pieces_of, IsInRange, IsOfAGoal}
 use Rattle.ghc_records.proofs.CutLemmas.{fits, first_piece}
 use Rattle.ghc_records.proofs.PlainTexts.{HasNoFeed, both, byte_first, decimal_text, nothing, plain_codes, term_plain}
 use Rattle.ghc_records.proofs.TellingHistories.{one_next}

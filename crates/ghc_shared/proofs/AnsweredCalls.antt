@@ -1,18 +1,7 @@
 -- What a pass is told of its call, by the words of the core.
-use Rattle.std.proofs.Common.{◌≡◌, ◌+◌, ◌++◌, ℕ, suc, List, [], ◌∷◌, length, map, refl, sym, ap, ◌∙◌, subst, arith, Bool, true, false}
-use Rattle.std.specs.Prelude.{MatchBool}
+use Rattle.ghc_shared.proofs.Words.{◌≡◌, ◌+◌, ◌++◌, ℕ, suc, List, [], ◌∷◌, length, map, refl, sym, ap, ◌∙◌, subst, arith, Bool, true, false, MatchBool, Entry, Item, entered, World, LegalIsReachable, LeavesIsOne, reply_of, Leaves, Begins, entry_count, Receipt, IsAccepted, IsTold, IsAnswered, Reply, Call, Known, IsAcceptedCall, IsRefusedCall, IsDecided, hands_of, event_of, receipt_behind, receipt_of, IsToldAnyway, IsAnswerTo, IsToldOnFront}
 use mathlib.Core.List.{IsPrefix}
-use Rattle.ghc_records.specs.Journal.{Entry, Item, entered}
-use Rattle.ghc_core.specs.World.{World}
-use Rattle.ghc_core.specs.HistoryLaws.{LegalIsReachable, LeavesIsOne}
-use Rattle.ghc_core.specs.EventCode.{reply_of}
-use Rattle.ghc_core.specs.Legal.{Leaves, Begins, entry_count, Receipt, IsAccepted, IsTold, IsAnswered}
-use Rattle.ghc_core.specs.declared.reply.Reply.{Reply}
 use Rattle.ghc_shared.specs.declared.receipt.Receipt as given
-use Rattle.ghc_shared.specs.declared.calls.Call.{Call}
-use Rattle.ghc_shared.specs.Passes.{Known}
-use Rattle.ghc_shared.specs.Receipts.{IsAcceptedCall, IsRefusedCall, IsDecided}
-use Rattle.ghc_shared.specs.Calls.{hands_of, event_of, receipt_behind, receipt_of, IsToldAnyway, IsAnswerTo, IsToldOnFront}
 
 -- the entries of a history are all its items but the opening
 pub entries_counted : (es : List Entry) → entry_count (map entered es) ≡ length es

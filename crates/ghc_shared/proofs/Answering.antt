@@ -1,27 +1,6 @@
 -- What a call does to the history of a core.
-use Rattle.std.proofs.Common.{◌≡◌, ◌⊎◌, ◌++◌, ◌∙◌, ℕ, List, [], ◌∷◌, refl, sym, ap, subst, subst₂, inl, inr, Some, None, Result, Err, Bool, true, false, arith}
-use Rattle.std.proofs.lemmas.List.{map-append}
-use Rattle.std.specs.Prelude.{MatchBool}
+use Rattle.ghc_shared.proofs.Words.{◌≡◌, ◌⊎◌, ◌++◌, ◌∙◌, ℕ, List, [], ◌∷◌, refl, sym, ap, subst, subst₂, inl, inr, Some, None, Result, Err, Bool, true, false, arith, map-append, MatchBool, nat_cmp_total, Fault, Opening, Entry, opened, entered, history, Proposal, Hands, no_hands, IsHand, emptied, World, IsCommitted, command_of, commit, command, stepped, refused, CommitFails, Fails, hands_after, Answers, fails, no_memory, IsNotCommittedAnyway, holds_no_goal, held_gone, hand_commits, hand_gives_up, Leaves, tells_change, AddsWhatItTells, AnswersAddWhatTheyTell, reply_of, Reply, Command, Call, AddsIfAccepted, holding, hands_of, event_of, IsToldAnyway, IsAnswerTo}
 use Rattle.std.specs.FinMap as finite
-use Rattle.std.specs.Cmp.{nat_cmp_total}
-use Rattle.ghc_term.specs.declared.fault.Fault.{Fault}
-use Rattle.ghc_records.specs.Journal.{Opening, Entry, opened, entered, history}
-use Rattle.ghc_core.specs.World.{Proposal, Hands, no_hands, IsHand, emptied, World}
-use Rattle.ghc_core.specs.Core.{IsCommitted}
-use Rattle.ghc_core.specs.CommandCode.{command_of}
-use Rattle.ghc_core.specs.Events.{commit, command, stepped, refused}
-use Rattle.ghc_core.specs.Proposes.{CommitFails}
-use Rattle.ghc_core.specs.Answers.{Fails, hands_after, Answers, fails, no_memory}
-use Rattle.ghc_core.specs.Anyway.{IsNotCommittedAnyway}
-use Rattle.ghc_core.proofs.Replying.{hand_commits, hand_gives_up}
-use Rattle.ghc_core.specs.Legal.{Leaves}
-use Rattle.ghc_core.specs.Playing.{tells_change, AddsWhatItTells, AnswersAddWhatTheyTell}
-use Rattle.ghc_core.specs.EventCode.{reply_of}
-use Rattle.ghc_core.specs.declared.reply.Reply.{Reply}
-use Rattle.ghc_core.specs.declared.command.Command.{Command}
-use Rattle.ghc_shared.specs.declared.calls.Call.{Call}
-use Rattle.ghc_shared.specs.Receipts.{AddsIfAccepted}
-use Rattle.ghc_shared.specs.Calls.{holding, hands_of, event_of, IsToldAnyway, IsAnswerTo}
 
 -- want of memory is an answer to each call
 pub starved : (w : World) (call : Call) → (left : Hands) × Answers (Unit {0}) w (hands_of call) (event_of call) (refused Fault.Memory) w left
@@ -49,11 +28,7 @@ not_obeyed w c f (inr why) = fails tt why
 
 -- the commit is refused whatever memory is left where its goal is gone, and for nothing else
 gone_alone : (w : World) (p : Proposal) (f : Fault) → IsNotCommittedAnyway w (holding p) 1 f → (f ≡ Fault.Stale) × (finite.get w.state.goals p.goal ≡ None)
-gone_alone w p f (IsNotCommittedAnyway.no_hand n) = absurd (n (one_hand p))
-gone_alone w p f (IsNotCommittedAnyway.empty i e) = let clash : Some p ≡ None = sym (held_there p) ∙ e in cc
-gone_alone w p f (IsNotCommittedAnyway.gone q i e g) =
-    let same : Some q ≡ Some p = sym e ∙ held_there p in
-    let one : q ≡ p = cc in (refl, subst (λ (x : Proposal). finite.get w.state.goals x.goal ≡ None) one g)
+gone_alone w p f why = let is = holds_no_goal w (holding p) 1 (one_hand p) why in (is.0, held_gone w (holding p) 1 p (held_there p) is.1)
 
 pub told_gone : {X : Type 0} (w : World) (p : Proposal) (result : Result X Fault) (f : Fault) → (finite.get w.state.goals p.goal ≡ None → result ≡ Err Fault.Stale) → IsNotCommittedAnyway w (holding p) 1 f → result ≡ Err f
 told_gone w p result f said anyway = let is = gone_alone w p f anyway in said is.1 ∙ ap (λ (x : Fault). Err x) (sym is.0)

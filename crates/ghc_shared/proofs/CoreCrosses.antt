@@ -2,13 +2,12 @@
 use denote.RattleType.{RattleType}
 use denote.Param.Send.{IsSend, IsSync}
 use Rattle.std.specs.declared.sync.ledger.Ledger as ledger
-use Rattle.ghc_core.proofs.Crosses.{core_send, core_sync}
+use Rattle.ghc_shared.proofs.Words.{core_send, core_sync, ghosts}
 use Rattle.ghc_core.specs.contracts.core_state.Core as core
 use Rattle.ghc_core.specs.contracts.reply.Reply as reply
 use Rattle.ghc_shared.specs.declared.naming.Naming as naming
 use Rattle.ghc_shared.specs.contracts.calls.Call as call
 use Rattle.ghc_shared.specs.contracts.calls.HistoryItem as item
-use Rattle.ghc_shared.specs.contracts.telling.CoreGrowing.TheImpl.{ghosts}
 use Rattle.ghc_shared.specs.contracts.shared.Shared as shared
 use Rattle.ghc_shared.specs.contracts.pass.Pass as pass
 use Rattle.ghc_shared.proofs.Crosses.{shared_sync, pass_send}

@@ -1,8 +1,6 @@
 -- Logs that get longer.
-use Rattle.std.proofs.Common.{◌⊎◌, inl, inr, ⊎_elim, ◌≡◌, ℕ, zero, suc, ◌+◌, ◌==◌, ◌≤◌, List, [], ◌∷◌, ◌++◌, length, map, drop, Bool, true, false, refl, sym, ap, ◌∙◌, subst, append-nil, arith, eq-eqb, ne_eqb, length-append}
-use Rattle.std.specs.Prelude.{MatchBool}
+use Rattle.ghc_shared.proofs.Words.{◌⊎◌, inl, inr, ⊎_elim, ◌≡◌, ℕ, zero, suc, ◌+◌, ◌==◌, ◌≤◌, List, [], ◌∷◌, ◌++◌, length, map, drop, Bool, true, false, refl, sym, ap, ◌∙◌, subst, append-nil, arith, eq-eqb, ne_eqb, length-append, MatchBool, items_of, opening_log, extended, AllBy, ArePlacesBy}
 use mathlib.Core.List.{IsPrefix}
-use Rattle.ghc_shared.specs.Logs.{items_of, opening_log, extended, AllBy, ArePlacesBy}
 
 at_match : (b c : Bool) (X Y : Type 0) → b ≡ c → MatchBool b X Y → MatchBool c X Y
 at_match b c X Y e h = subst (λ (d : Bool). MatchBool d X Y) e h

@@ -1,13 +1,6 @@
 -- What the keeper and a pass know once the keeper has caught up for the pass.
-use Rattle.std.proofs.Common.{◌≡◌, ℕ, ◌+◌, ◌≤◌, List, [], ◌∷◌, ◌++◌, length, drop, Bool, true, false, refl, sym, ap, ◌∙◌, subst, append-nil, arith, length-append, length-drop}
-use Rattle.std.specs.Prelude.{Option}
+use Rattle.ghc_shared.proofs.Words.{◌≡◌, ℕ, ◌+◌, ◌≤◌, List, [], ◌∷◌, ◌++◌, length, drop, Bool, true, false, refl, sym, ap, ◌∙◌, subst, append-nil, arith, length-append, length-drop, Option, Me, Knowledge, items_of, extended, AllBy, ArePlacesBy, keeper, front, IsPass, IsKeeper, AddsIfAccepted}
 use mathlib.Core.List.{IsPrefix}
-use Rattle.atomic_table.specs.Table.{Me}
-use Rattle.ghc_shared.specs.declared.knowledge.Knowledge.{Knowledge}
-use Rattle.ghc_shared.specs.Logs.{items_of, extended, AllBy, ArePlacesBy}
-use Rattle.ghc_shared.specs.Rule.{keeper, front}
-use Rattle.ghc_shared.specs.Passes.{IsPass, IsKeeper}
-use Rattle.ghc_shared.specs.Receipts.{AddsIfAccepted}
 use Rattle.ghc_shared.proofs.Moves.{prefix_more}
 use Rattle.ghc_shared.proofs.Extended.{items_append, length-items_of, prefix_items, extended_more, extended_same, drop_more, places_snoc, by_append, places_prefix}
 

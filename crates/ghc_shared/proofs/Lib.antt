@@ -8,3 +8,4 @@ pub mod ExclusiveCrosses
 pub mod Answering
 pub mod AnsweredCalls
 pub mod CoreCrosses
+mod Words

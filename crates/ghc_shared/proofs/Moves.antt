@@ -1,16 +1,9 @@
 -- Each step of the table keeps its rule.
-use Rattle.std.proofs.Common.{◌≡◌, ◌≢◌, ℕ, zero, suc, ◌==◌, List, [], ◌∷◌, ◌++◌, length, map, drop, set, true, false, true≢false, refl, sym, ap, ◌∙◌, subst, ⊎_elim, append_assoc, append-nil}
-use Rattle.std.specs.Prelude.{slice_index}
+use Rattle.ghc_shared.proofs.Words.{◌≡◌, ◌≢◌, ℕ, zero, suc, ◌==◌, List, [], ◌∷◌, ◌++◌, length, map, drop, set, true, false, true≢false, refl, sym, ap, ◌∙◌, subst, ⊎_elim, append_assoc, append-nil, slice_index, Snapshot, Me, step, keeps, Allows, Splits, Joins, opening, at_set, at_snoc, set_again, exchanged, Knowledge, extended, keeper, front, beside, Fits, IsOneLog, CatchesUp}
 use mathlib.Core.Option.{some, some-ne-none, some-injective}
 use mathlib.Core.List.{IsPrefix}
 use prog.Atomic.{either}
 use lib.ListN.{get_elem?}
-use Rattle.std.specs.declared.snapshot.Snapshot.{Snapshot}
-use Rattle.atomic_table.specs.Table.{Me, step, keeps, Allows, Splits, Joins, opening}
-use Rattle.atomic_table.proofs.Lists.{at_set, at_snoc, set_again, exchanged}
-use Rattle.ghc_shared.specs.declared.knowledge.Knowledge.{Knowledge}
-use Rattle.ghc_shared.specs.Logs.{extended}
-use Rattle.ghc_shared.specs.Rule.{keeper, front, beside, Fits, IsOneLog, CatchesUp}
 
 off : false ≡ true → ⊥
 off e = true≢false (sym e)

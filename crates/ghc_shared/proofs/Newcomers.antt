@@ -1,10 +1,5 @@
 -- The passes and the keeper at the opening.
-use Rattle.std.proofs.Common.{◌≡◌, ℕ, zero, suc, ◌<◌, List, [], ◌∷◌, ◌++◌, length, drop, refl, sym, ap, ◌∙◌, subst, arith, get_or}
-use Rattle.atomic_table.specs.Table.{Me}
-use Rattle.ghc_shared.specs.declared.knowledge.Knowledge.{Knowledge}
-use Rattle.ghc_shared.specs.Logs.{items_of, opening_log, AllBy}
-use Rattle.ghc_shared.specs.Rule.{keeper, front}
-use Rattle.ghc_shared.specs.Passes.{Known, newcomers, AreAll, IsPass, IsKeeper}
+use Rattle.ghc_shared.proofs.Words.{◌≡◌, ℕ, zero, suc, ◌<◌, List, [], ◌∷◌, ◌++◌, length, drop, refl, sym, ap, ◌∙◌, subst, arith, get_or, Me, Knowledge, items_of, opening_log, AllBy, keeper, front, Known, newcomers, AreAll, IsPass, IsKeeper}
 use Rattle.ghc_shared.proofs.Extended.{items_opening, length-opening_log, no_place, drop_all}
 
 module _ {E : Type 0} where

@@ -1,12 +1,7 @@
 -- Each place since the opening is a place of one pass, once.
-use Rattle.std.proofs.Common.{◌≡◌, ◌≢◌, ℕ, zero, suc, ◌+◌, ◌==◌, ◌<◌, ◌≤◌, List, [], ◌∷◌, ◌++◌, length, true, false, cond, refl, sym, ap, ◌∙◌, subst, arith, eq-eqb, ne_eqb}
-use Rattle.std.specs.Prelude.{MatchBool, slice_index}
+use Rattle.ghc_shared.proofs.Words.{◌≡◌, ◌≢◌, ℕ, zero, suc, ◌+◌, ◌==◌, ◌<◌, ◌≤◌, List, [], ◌∷◌, ◌++◌, length, true, false, cond, refl, sym, ap, ◌∙◌, subst, arith, eq-eqb, ne_eqb, MatchBool, slice_index, IsStrictlyIncreasing, ArePlacesBy, AllBy, Known, AreAll, weight, numbers_from, AreAllByTheirs, weight_of_places}
 use mathlib.Core.Logic.{dite}
 use native.Mathlib.Decide.{ℕ_discrete}
-use Rattle.std.specs.List.Sorted.{IsStrictlyIncreasing}
-use Rattle.ghc_shared.specs.Logs.{ArePlacesBy, AllBy}
-use Rattle.ghc_shared.specs.Passes.{Known, AreAll}
-use Rattle.ghc_shared.specs.Places.{weight, numbers_from, AreAllByTheirs, weight_of_places}
 
 pub weight-one : (xs : List ℕ) → weight (λ _. 1) xs ≡ length xs
 weight-one [] = refl

@@ -1,23 +1,6 @@
 -- The steps that bound the variables of a chain, one variable after another.
-use Rattle.std.proofs.Common.{◌≡◌, ℕ, ◌+◌, ◌≤◌, List, [], ◌∷◌, ◌++◌, length, map, drop, refl, sym, ap, ◌∙◌, subst, inl, inr, append_assoc, append-nil, drop_of_length-le}
-use Rattle.std.specs.Prelude.{Option, Some, None, is_some, IsTrue}
-use Rattle.std.specs.Option.{option_or}
+use Rattle.ghc_trace.proofs.Words.{◌≡◌, ℕ, ◌+◌, ◌≤◌, List, [], ◌∷◌, ◌++◌, length, map, drop, refl, sym, ap, ◌∙◌, subst, inl, inr, append_assoc, append-nil, drop_of_length-le, Option, Some, None, is_some, IsTrue, option_or, map-append, VarName, In, name_cmp, Tree, value_at, Program, State, Record, after, Runs, query_state, bound_at, Binds, World, IsReplay, Binder, Bound, no_more, free, bound, binder_of}
 use Rattle.std.specs.FinMap as finite
-use Rattle.std.proofs.lemmas.List.{map-append}
-use Rattle.ghc_term.specs.declared.var_name.VarName.{VarName}
-use Rattle.ghc_term.specs.Lists.{In}
-use Rattle.ghc_term.specs.Bindings.{name_cmp}
-use Rattle.ghc_term.specs.Tree.{Tree}
-use Rattle.ghc_term.specs.Store.{value_at}
-use Rattle.ghc_flat.specs.Clause.{Program}
-use Rattle.ghc_records.specs.Record.{State, Record, after}
-use Rattle.ghc_records.specs.Replay.{Runs, query_state}
-use Rattle.ghc_records.proofs.States.{bound_at}
-use Rattle.ghc_depend.specs.Depend.{Binds}
-use Rattle.ghc_core.specs.World.{World, IsReplay}
-use Rattle.ghc_trace.specs.declared.who_bound.Binder.{Binder}
-use Rattle.ghc_trace.specs.Binders.{Bound, no_more, free, bound}
-use Rattle.ghc_trace.specs.Who.{binder_of}
 
 not_bound : (o : Option Tree) → ¬ IsTrue (is_some o) → o ≡ None
 not_bound None h = refl

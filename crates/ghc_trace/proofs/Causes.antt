@@ -1,22 +1,5 @@
 -- Goals that are stuck in one way have one status: a goal fails for a refusal that tells nothing but its number.
-use Rattle.std.proofs.Common.{◌≡◌, false, List, [], ℕ, refl, sym, ap, ◌∙◌, subst}
-use Rattle.std.specs.Prelude.{Option, Some, None}
-use Rattle.ghc_term.specs.declared.var_name.VarName.{VarName}
-use Rattle.ghc_term.specs.declared.fault.Fault.{Fault}
-use Rattle.ghc_term.specs.Fault.{fault_number}
-use Rattle.ghc_term.specs.Tree.{Tree}
-use Rattle.ghc_term.specs.Expression.{Expression}
-use Rattle.ghc_term.specs.Goal.{Goal, call, unify, assign, stream}
-use Rattle.ghc_flat.specs.Clause.{Program}
-use Rattle.ghc_flat.specs.Flat.{is_stream}
-use Rattle.ghc_fire.specs.Effect.{no_step}
-use Rattle.ghc_fire.specs.Attempt.{Answer, proposes, refused, Attempts, CallAnswers, UnificationAnswers, AssignmentAnswers}
-use Rattle.ghc_hooks.specs.Status.{Status, ready, waiting, failed, streaming, HasStatus, is_ready, is_waiting, is_failed, is_stream_goal}
-use Rattle.ghc_hooks.specs.FaultCode.{told_by, fault_at, fault_back}
-use Rattle.ghc_trace.specs.News.{IsStuck}
-use Rattle.ghc_trace.specs.Disturbed.{stuck_of}
-use Rattle.ghc_trace.specs.declared.stuck.Stuck.{Stuck}
-use Rattle.ghc_trace.specs.declared.stuck.Stuck.TheVariants.{Waiting, Failed}
+use Rattle.ghc_trace.proofs.Words.{◌≡◌, false, List, [], ℕ, refl, sym, ap, ◌∙◌, subst, Option, Some, None, VarName, Fault, fault_number, Tree, Expression, Goal, call, unify, assign, stream, Program, is_stream, no_step, Answer, proposes, refused, Attempts, CallAnswers, UnificationAnswers, AssignmentAnswers, Status, ready, waiting, failed, streaming, HasStatus, is_ready, is_waiting, is_failed, is_stream_goal, told_by, fault_at, fault_back, IsStuck, stuck_of, Stuck, Waiting, Failed}
 
 -- The refusal tells nothing but its number.
 abbrev IsBare : Fault → Type 0

@@ -1,27 +1,6 @@
 -- The goals after a change were there before it, or it brings them.
-use Rattle.std.proofs.Common.{◌≡◌, ◌⊎◌, List, sym, ap, ◌∙◌, inl, inr}
-use Rattle.std.specs.Prelude.{Option, Some, None}
-use Rattle.std.specs.Option.{option_or}
-use Rattle.std.specs.Coded.{coded_option}
+use Rattle.ghc_trace.proofs.Words.{◌≡◌, ◌⊎◌, List, sym, ap, ◌∙◌, inl, inr, Option, Some, None, option_or, coded_option, GoalName, Goal, same_decided, some_decided, goal_name_code, State, Record, after, without_goal, MakesGoal, kept_goal, IsConsumedIn, IsWithoutSteps, own, makes_at, own_made, World, IsStanding, Change, Comes as comes, Goes as goes, Reorders as reorders, all_gone, CanChange, Changes, comes_last, going_leaves, Brings}
 use Rattle.std.specs.FinMap as finite
-use Rattle.ghc_term.specs.declared.goal_name.GoalName.{GoalName}
-use Rattle.ghc_term.specs.Goal.{Goal}
-use Rattle.ghc_term.proofs.Decided.{same_decided, some_decided}
-use Rattle.ghc_fire.specs.GoalsCode.{goal_name_code}
-use Rattle.ghc_records.specs.Record.{State, Record, after, without_goal}
-use Rattle.ghc_records.specs.Replay.{MakesGoal}
-use Rattle.ghc_records.proofs.Effects.{kept_goal}
-use Rattle.ghc_depend.specs.Deletion.{IsConsumedIn, IsWithoutSteps}
-use Rattle.ghc_depend.proofs.Finding.{own, makes_at, own_made}
-use Rattle.ghc_core.specs.World.{World}
-use Rattle.ghc_core.specs.Core.{IsStanding}
-use Rattle.ghc_core.specs.declared.change.Change.{Change}
-use Rattle.ghc_core.specs.declared.change.Change.TheVariants.{Comes as comes, Goes as goes, Reorders as reorders}
-use Rattle.ghc_core.specs.Gone.{all_gone}
-use Rattle.ghc_core.specs.Change.{CanChange, Changes}
-use Rattle.ghc_core.proofs.Arriving.{comes_last}
-use Rattle.ghc_core.proofs.Returning.{going_leaves}
-use Rattle.ghc_trace.specs.Laws.{Brings}
 
 found_in_either : (a b : Option Goal) (g : Goal) → option_or a b ≡ Some g → (a ≡ Some g) ⊎ (b ≡ Some g)
 found_in_either None b g e = inr e

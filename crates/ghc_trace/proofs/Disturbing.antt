@@ -1,31 +1,6 @@
 -- Which goals a change disturbs.
-use Rattle.std.proofs.Common.{◌≡◌, ℕ, ◌+◌, ◌≤◌, ◌⊎◌, List, [], ◌∷◌, ◌++◌, refl, sym, ap, ◌∙◌, subst, inl, inr, arith}
-use Rattle.std.proofs.lemmas.Bool.{cases_eq}
-use Rattle.std.specs.Prelude.{◌↔◌, Option, Some, None, is_some, option_copied}
-use Rattle.std.specs.Borrow.{Bor}
-use Rattle.std.specs.List.{list_any}
-use Rattle.std.specs.Map.{keys_of}
-use Rattle.std.specs.Ordering.{eq_by_cmp}
+use Rattle.ghc_trace.proofs.Words.{◌≡◌, ℕ, ◌+◌, ◌≤◌, ◌⊎◌, List, [], ◌∷◌, ◌++◌, refl, sym, ap, ◌∙◌, subst, inl, inr, arith, cases_eq, ◌↔◌, Option, Some, None, is_some, option_copied, Bor, list_any, keys_of, eq_by_cmp, is_some-find, GoalName, VarName, In, name_cmp, Tree, name_total, in_map, in_left, in_last, in_more, in_any, any_in, Record, mapped, same_parts, NotesByGoal, HasLookedAt, Binds, IsBoundIn, IsConsumedIn, stuck_by, Disturbed, IsOneOf, LooksWhere, AreDisturbed, Former, noted, Gathers}
 use Rattle.std.specs.FinMap as finite
-use Rattle.std.specs.FinMap.Entries.{is_some-find}
-use Rattle.ghc_term.specs.declared.goal_name.GoalName.{GoalName}
-use Rattle.ghc_term.specs.declared.var_name.VarName.{VarName}
-use Rattle.ghc_term.specs.Lists.{In}
-use Rattle.ghc_term.specs.Bindings.{name_cmp}
-use Rattle.ghc_term.specs.Tree.{Tree}
-use Rattle.ghc_term.proofs.Names.{name_total}
-use Rattle.ghc_term.proofs.ListsLemmas.{in_map, in_left, in_last, in_more}
-use Rattle.ghc_term.proofs.SetsLemmas.{in_any, any_in}
-use Rattle.ghc_records.specs.Record.{Record}
-use Rattle.ghc_records.proofs.Effects.{mapped}
-use Rattle.ghc_fire.proofs.GoalNames.{same_parts}
-use Rattle.ghc_hooks.specs.Notes.{NotesByGoal}
-use Rattle.ghc_hooks.specs.Tries.{HasLookedAt}
-use Rattle.ghc_depend.specs.Depend.{Binds}
-use Rattle.ghc_depend.specs.Deletion.{IsBoundIn, IsConsumedIn}
-use Rattle.ghc_trace.specs.Disturbed.{stuck_by, Disturbed, IsOneOf, LooksWhere, AreDisturbed}
-use Rattle.ghc_trace.specs.NewsCode.{Former}
-use Rattle.ghc_trace.specs.Gathering.{noted, Gathers}
 use Rattle.ghc_trace.proofs.Gathering.{names_noted}
 
 -- By its note the goal looked at the variable of one of these bindings.

@@ -1,27 +1,7 @@
 -- The entries of a map of goals, in their order.
-use Rattle.std.proofs.Common.{◌≡◌, Bool, true, List, [], ◌∷◌, length, map, refl, sym, ap, subst, ◌∙◌, inl, inr}
-use Rattle.std.proofs.lemmas.Cmp.{on_total}
-use Rattle.std.proofs.lemmas.List.Kept.{Any-dedup, Contains-from_dedup, IsStrictlySortedBy-dedup}
-use Rattle.std.proofs.lemmas.List.Sorted.{Contains-permutation, IsPermutation-sym}
-use Rattle.std.proofs.lemmas.Map.Keys.{IsDistinct-from_sorted, sorted_from_all_adjacent}
-use Rattle.std.proofs.lemmas.Map.Views.{Contains-from_lookup, lookup-from_Contains}
-use Rattle.std.specs.Prelude.{◌↔◌, ◌⊎◌, Option, Some, None, is_some, IsTrue}
-use Rattle.std.specs.declared.cmp.Ordering.{Ordering}
-use Rattle.std.specs.declared.cmp.Ordering.TheVariants.{Less, Equal, Greater}
-use Rattle.std.specs.Cmp.{IsTotalOrder, eq_by_cmp_equiv}
-use Rattle.std.specs.Ordering.{is_lt, eq_by_cmp}
-use Rattle.std.specs.List.{AllByRecursion, AllAdjacentBelow, Contains, dedup}
-use Rattle.std.specs.List.Sorted.{IsSorted, IsStrictlySortedBy, IsPermutation}
-use Rattle.std.specs.Map.{keys_of}
+use Rattle.ghc_trace.proofs.Words.{◌≡◌, Bool, true, List, [], ◌∷◌, length, map, refl, sym, ap, subst, ◌∙◌, inl, inr, on_total, Any-dedup, Contains-from_dedup, IsStrictlySortedBy-dedup, Contains-permutation, IsPermutation-sym, IsDistinct-from_sorted, sorted_from_all_adjacent, Contains-from_lookup, lookup-from_Contains, ◌↔◌, ◌⊎◌, Option, Some, None, is_some, IsTrue, Ordering, Less, Equal, Greater, IsTotalOrder, eq_by_cmp_equiv, is_lt, eq_by_cmp, AllByRecursion, AllAdjacentBelow, Contains, dedup, IsSorted, IsPermutation, keys_of, GoalName, In, not_both, in_contains, contains_in, in_map, goal_cmp, goal_total, goal_antisymmetric, same_goal, value_is, mapped, Before}
+use Rattle.std.specs.List.Sorted.{IsStrictlySortedBy}
 use Rattle.std.specs.FinMap as finite
-use Rattle.ghc_term.specs.declared.goal_name.GoalName.{GoalName}
-use Rattle.ghc_term.specs.Lists.{In}
-use Rattle.ghc_term.proofs.ListsLemmas.{not_both, in_contains, contains_in, in_map}
-use Rattle.ghc_fire.specs.Goals.{goal_cmp}
-use Rattle.ghc_fire.proofs.GoalNames.{goal_total, goal_antisymmetric, same_goal}
-use Rattle.ghc_fire.proofs.Ordered.{value_is}
-use Rattle.ghc_records.proofs.Effects.{mapped}
-use Rattle.ghc_records.proofs.OrderLemmas.{Before}
 
 -- a value that is found, or nothing
 pub found : {X : Type 0} (o : Option X) → ((x : X) × (o ≡ Some x)) ⊎ (o ≡ None)

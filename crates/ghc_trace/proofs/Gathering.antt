@@ -1,13 +1,5 @@
 -- Goals that are gathered one after another.
-use Rattle.std.proofs.Common.{◌≡◌, ◌⊎◌, List, [], ◌∷◌, ◌++◌, map, refl, sym, ap, ◌∙◌, inl, inr, append_assoc, append-nil}
-use Rattle.std.proofs.lemmas.List.{map-append}
-use Rattle.std.specs.Prelude.{◌↔◌}
-use Rattle.std.specs.Map.{keys_of}
-use Rattle.ghc_term.specs.declared.goal_name.GoalName.{GoalName}
-use Rattle.ghc_term.proofs.ListsLemmas.{in_left, in_right, in_either}
-use Rattle.ghc_hooks.specs.Notes.{NotesByGoal}
-use Rattle.ghc_trace.specs.NewsCode.{Former}
-use Rattle.ghc_trace.specs.Gathering.{noted, Gathers}
+use Rattle.ghc_trace.proofs.Words.{◌≡◌, ◌⊎◌, List, [], ◌∷◌, ◌++◌, map, refl, sym, ap, ◌∙◌, inl, inr, append_assoc, append-nil, map-append, ◌↔◌, keys_of, GoalName, in_left, in_right, in_either, NotesByGoal, Former, noted, Gathers}
 
 module _ (notes : NotesByGoal) where
   -- none is gathered to begin with

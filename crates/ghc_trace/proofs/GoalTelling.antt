@@ -1,19 +1,6 @@
 -- By notes that are exact, where no goal is untried, the lines of goals are those of the world.
-use Rattle.std.proofs.Common.{◌≡◌, ◌≢◌, ℕ, List, [], ◌∷◌, ◌++◌, length, refl, sym, ap, ◌∙◌, arith}
-use Rattle.std.specs.List.{AllZip, concat}
+use Rattle.ghc_trace.proofs.Words.{◌≡◌, ◌≢◌, ℕ, List, [], ◌∷◌, ◌++◌, length, refl, sym, ap, ◌∙◌, arith, AllZip, concat, Goal, In, StoreValue, goal_cmp, goal_name_text, Status, is_stream_goal, NotesByGoal, World, Stands, IsSettled, Named, TellsGoal, StandsByNote, as_stream, as_noted, NotesTellGoals, LinesAreOfGoals}
 use Rattle.std.specs.FinMap as finite
-use Rattle.ghc_term.specs.Goal.{Goal}
-use Rattle.ghc_term.specs.Lists.{In}
-use Rattle.ghc_term.specs.Store.{StoreValue}
-use Rattle.ghc_fire.specs.Goals.{goal_cmp}
-use Rattle.ghc_records.specs.StepText.{goal_name_text}
-use Rattle.ghc_hooks.specs.Status.{Status, is_stream_goal}
-use Rattle.ghc_hooks.specs.Notes.{NotesByGoal}
-use Rattle.ghc_core.specs.World.{World}
-use Rattle.ghc_trace.specs.News.{Stands}
-use Rattle.ghc_trace.specs.Laws.{IsSettled}
-use Rattle.ghc_trace.specs.GoalLines.{Named, TellsGoal, StandsByNote, as_stream, as_noted}
-use Rattle.ghc_trace.specs.GoalLaws.{NotesTellGoals, LinesAreOfGoals}
 use Rattle.ghc_trace.proofs.Lines.{each, listed}
 
 -- a goal of the world has the status that its note says

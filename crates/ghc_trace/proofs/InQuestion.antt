@@ -1,25 +1,7 @@
 -- The places of the steps that a step may depend on: the one that its goal names, those that bound what it read, and those of what it names.
-use Rattle.std.proofs.Common.{◌≡◌, ℕ, ◌⊎◌, List, [], ◌∷◌, ◌++◌, refl, sym, ap, ◌∙◌, subst, inl, inr}
-use Rattle.std.specs.Prelude.{◌↔◌, Some, None}
+use Rattle.ghc_trace.proofs.Words.{◌≡◌, ℕ, ◌⊎◌, List, [], ◌∷◌, ◌++◌, refl, sym, ap, ◌∙◌, subst, inl, inr, ◌↔◌, Some, None, nat_cmp, insert_key, VarName, GoalName, In, in_left, in_last, in_more, is_member, AreDistinct, Record, numbers, SlotList, held_in, StandsIn, HasNumberIn, variables_asked, Consumes, StepBinds, record_once, stands_held, once_of, in_inserted, IsPlaceOfBinder, IsPlaceOfStepOf, AreInQuestion}
 use Rattle.std.specs.FinSet as set
-use Rattle.std.specs.Ordering.{nat_cmp}
-use Rattle.std.specs.BTreeSet.{insert_key}
-use Rattle.ghc_term.specs.declared.var_name.VarName.{VarName}
-use Rattle.ghc_term.specs.declared.goal_name.GoalName.{GoalName}
-use Rattle.ghc_term.specs.Lists.{In}
-use Rattle.ghc_term.proofs.ListsLemmas.{in_left, in_last, in_more}
-use Rattle.ghc_term.proofs.SetsLemmas.{is_member}
-use Rattle.ghc_records.specs.Orders.{AreDistinct}
-use Rattle.ghc_records.specs.Record.{Record, numbers}
-use Rattle.ghc_records.specs.Slots.{SlotList, held_in, StandsIn, HasNumberIn}
-use Rattle.ghc_fire.specs.Asked.{variables_asked}
-use Rattle.ghc_records.specs.Uses.{Binds, Consumes}
-use Rattle.ghc_records.specs.UseIndex.{StepBinds}
-use Rattle.ghc_records.proofs.OrderLemmas.{record_once}
-use Rattle.ghc_records.proofs.SlotLemmas.{stands_held}
-use Rattle.ghc_records.proofs.SlotClosing.{once_of}
-use Rattle.ghc_depend.proofs.Ahead.{in_inserted}
-use Rattle.ghc_trace.specs.Why.{IsPlaceOfBinder, IsPlaceOfStepOf, AreInQuestion}
+use Rattle.ghc_records.specs.Uses.{Binds}
 
 -- the places of the steps that bound these variables were put to the old ones
 abbrev pub HasBindersOf : SlotList → List VarName → List ℕ → List ℕ → Type 0

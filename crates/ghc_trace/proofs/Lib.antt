@@ -14,3 +14,4 @@ pub mod BoundChain
 pub mod WayUp
 pub mod Spied
 pub mod SpyOrder
+mod Words

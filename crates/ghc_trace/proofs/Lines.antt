@@ -1,29 +1,7 @@
 -- Lines of goals, one after another.
-use Rattle.std.proofs.Common.{◌≡◌, ℕ, ◌≤◌, false, Bool, true, ◌&&◌, List, [], ◌∷◌, ◌++◌, length, refl, sym, ap, ◌∙◌, subst, inl, inr, append_assoc, append-nil, arith}
-use Rattle.std.specs.Prelude.{Option, Some, T}
-use Rattle.std.specs.declared.cmp.Ordering.{Ordering}
-use Rattle.std.specs.declared.cmp.Ordering.TheVariants.{Less, Equal, Greater}
-use Rattle.std.specs.List.{AllZip, AllByRecursion, concat}
+use Rattle.ghc_trace.proofs.Words.{◌≡◌, ℕ, ◌≤◌, false, Bool, true, ◌&&◌, List, [], ◌∷◌, ◌++◌, length, refl, sym, ap, ◌∙◌, subst, inl, inr, append_assoc, append-nil, arith, Option, Some, T, Ordering, Less, Equal, Greater, AllZip, AllByRecursion, concat, keys_of, is_lt, below_all, is_sorted, concat-append, VarName, GoalName, Tree, Goal, IsGoalTextOf, In, in_right, Bor, StoreValue, value_at, goal_cmp, Goals, goal_total, NotesByGoal, IsUntried, Named, TellsGoal, StandsByNote, AreLinesByNotes, IsTooLong, HasTooLong, print_limit, IsKnown, TellsShort, AddsLine, AddsLines, lent}
 use Rattle.std.specs.List.Sorted.{IsStrictlySortedBy}
-use Rattle.std.specs.Map.{keys_of}
-use Rattle.std.specs.Ordering.{is_lt}
 use Rattle.std.specs.FinMap as finite
-use Rattle.std.specs.FinMap.Entries.{below_all, is_sorted}
-use Rattle.std.proofs.lemmas.List.Folds.{concat-append}
-use Rattle.ghc_term.specs.declared.var_name.VarName.{VarName}
-use Rattle.ghc_term.specs.declared.goal_name.GoalName.{GoalName}
-use Rattle.ghc_term.specs.Tree.{Tree}
-use Rattle.ghc_term.specs.Goal.{Goal}
-use Rattle.ghc_term.specs.GoalText.{IsGoalTextOf}
-use Rattle.ghc_term.specs.Lists.{In}
-use Rattle.ghc_term.proofs.ListsLemmas.{in_right}
-use Rattle.std.specs.Borrow.{Bor}
-use Rattle.ghc_term.specs.Store.{StoreValue, value_at}
-use Rattle.ghc_fire.specs.Goals.{goal_cmp, Goals}
-use Rattle.ghc_fire.proofs.GoalNames.{goal_total}
-use Rattle.ghc_hooks.specs.Notes.{NotesByGoal, IsUntried}
-use Rattle.ghc_trace.specs.GoalLines.{Named, TellsGoal, StandsByNote, AreLinesByNotes, IsTooLong, HasTooLong, print_limit}
-use Rattle.ghc_trace.specs.GoalLinesCode.{IsKnown, TellsShort, AddsLine, AddsLines, lent}
 use Rattle.ghc_trace.proofs.Entries.{entry_in, in_entry}
 
 module _ {A B : Type 0} where

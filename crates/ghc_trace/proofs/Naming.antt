@@ -1,24 +1,6 @@
 -- What is picked out of the entries of a map of goals is named by name.
-use Rattle.std.proofs.Common.{◌≡◌, List, map, refl, sym, ap, ◌∙◌, subst, inl, inr}
-use Rattle.std.specs.Prelude.{◌↔◌, Option, Some}
-use Rattle.std.specs.declared.cmp.Ordering.TheVariants.{Less}
-use Rattle.std.specs.List.Sorted.{IsStrictlySortedBy}
-use Rattle.std.specs.Map.{keys_of}
+use Rattle.ghc_trace.proofs.Words.{◌≡◌, List, map, refl, sym, ap, ◌∙◌, subst, inl, inr, ◌↔◌, Option, Some, Less, IsStrictlySortedBy, keys_of, GoalName, In, in_map, goal_cmp, Precedes, Picks, Record, mapped, is_before, picks_in, picks_has, picks_order, NotesByGoal, WaitsWhereBound, AreResumedBy, AreStuckOtherwise, status_by, Standing, Former, IsNewsBy, standings, Stuck}
 use Rattle.std.specs.FinMap as finite
-use Rattle.ghc_term.specs.declared.goal_name.GoalName.{GoalName}
-use Rattle.ghc_term.specs.Lists.{In}
-use Rattle.ghc_term.proofs.ListsLemmas.{in_map}
-use Rattle.ghc_fire.specs.Goals.{goal_cmp}
-use Rattle.ghc_records.specs.Orders.{Precedes, Picks}
-use Rattle.ghc_records.specs.Record.{Record}
-use Rattle.ghc_records.proofs.Effects.{mapped}
-use Rattle.ghc_records.proofs.OrderLemmas.{is_before}
-use Rattle.ghc_depend.proofs.Picking.{picks_in, picks_has, picks_order}
-use Rattle.ghc_hooks.specs.Notes.{NotesByGoal}
-use Rattle.ghc_trace.specs.Disturbed.{WaitsWhereBound, AreResumedBy, AreStuckOtherwise, status_by}
-use Rattle.ghc_trace.specs.News.{Standing}
-use Rattle.ghc_trace.specs.NewsCode.{Former, IsNewsBy, standings}
-use Rattle.ghc_trace.specs.declared.stuck.Stuck.{Stuck}
 use Rattle.ghc_trace.proofs.Entries.{before_of_map, rises, entry_in, in_entry}
 
 module _ (es picked : List Former) (sorted : IsStrictlySortedBy goal_cmp (keys_of es)) where

@@ -1,23 +1,5 @@
 -- The steps on which a kept step depends are found one after another.
-use Rattle.std.proofs.Common.{◌≡◌, ℕ, zero, suc, ◌+◌, ◌-◌, ◌<◌, ◌≤◌, arith, List, [], ◌∷◌, ◌++◌, length, map, take, refl, sym, ap, ◌∙◌, subst, inl, inr}
-use Rattle.std.specs.Prelude.{Some, None, slice_get}
-use Rattle.std.proofs.lemmas.List.{map-append, take_all}
-use Rattle.std.proofs.lemmas.Option.{slice_get_within}
-use Rattle.ghc_term.specs.Lists.{In}
-use Rattle.ghc_term.proofs.ListsLemmas.{in_at, in_either}
-use Rattle.ghc_records.specs.Orders.{Picks, nothing, AreDistinct}
-use Rattle.ghc_records.specs.Record.{Record, numbers}
-use Rattle.ghc_records.proofs.OrderLemmas.{record_once}
-use Rattle.ghc_records.specs.Slots.{SlotList, held_in}
-use Rattle.ghc_records.proofs.SlotRanks.{rank, rank_stands, rank_back, of_map, map_of}
-use Rattle.ghc_depend.specs.declared.cause.Cause.{Cause}
-use Rattle.ghc_depend.specs.Depend.{DependsOn, IsKeptAs}
-use Rattle.ghc_depend.specs.Cause.{HasCause, by_making, by_reading, by_naming, IsDirect}
-use Rattle.ghc_depend.proofs.Picking.{pick_last, leave_last}
-use Rattle.ghc_depend.proofs.Causes.{at_split}
-use Rattle.ghc_trace.specs.declared.reasons.Reason.{Reason}
-use Rattle.ghc_records.specs.Uses.{Uses}
-use Rattle.ghc_trace.specs.Why.{reason_of, AreReasonsTold, AreInQuestion}
+use Rattle.ghc_trace.proofs.Words.{◌≡◌, ℕ, zero, suc, ◌+◌, ◌-◌, ◌<◌, ◌≤◌, arith, List, [], ◌∷◌, ◌++◌, length, map, take, refl, sym, ap, ◌∙◌, subst, inl, inr, Some, None, slice_get, map-append, take_all, slice_get_within, In, in_at, in_either, Picks, nothing, AreDistinct, Record, numbers, record_once, SlotList, held_in, rank, rank_stands, rank_back, of_map, map_of, Cause, DependsOn, IsKeptAs, HasCause, by_making, by_reading, by_naming, IsDirect, pick_last, leave_last, at_split, Reason, Uses, reason_of, AreReasonsTold, AreInQuestion}
 
 -- of the first i records, found are those on which b depends, as told
 pub record Gathered (kept : List Record) (b : Record) (i : ℕ) (items : List Reason) : Type 0 where

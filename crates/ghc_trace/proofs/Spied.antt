@@ -1,16 +1,5 @@
 -- The order of predicates, and predicates as keys of a table.
-use Rattle.std.proofs.Common.{◌≡◌, Bool, ◌&&◌, refl, ap, ◌∙◌, nat_eq}
-use Rattle.std.specs.declared.cmp.Ordering.{Ordering}
-use Rattle.std.specs.declared.cmp.Ordering.TheVariants.{Less, Equal, Greater}
-use Rattle.std.specs.Ordering.{nat_cmp, ordering_then, eq_by_cmp, is_eq}
-use Rattle.std.specs.Cmp.{IsTotalOrder, nat_cmp_total, tied_then}
-use Rattle.std.specs.Cmp.Lexicographic.{slice_cmp, nat_list_cmp_total, texts_ties}
-use Rattle.std.specs.FinMap.{IsAntisymmetric, nat_cmp-IsAntisymmetric, slice_cmp-IsAntisymmetric}
-use Rattle.std.proofs.lemmas.Cmp.{then_total, on_total}
-use Rattle.ghc_term.proofs.Entries.{tie}
-use Rattle.ghc_flat.specs.Numbers.{is_same_key}
-use Rattle.ghc_trace.specs.declared.spies.Predicate.{Predicate}
-use Rattle.ghc_trace.specs.Spies.{predicate_cmp}
+use Rattle.ghc_trace.proofs.Words.{◌≡◌, Bool, ◌&&◌, refl, ap, ◌∙◌, nat_eq, Ordering, Less, Equal, Greater, nat_cmp, ordering_then, eq_by_cmp, is_eq, IsTotalOrder, nat_cmp_total, tied_then, slice_cmp, nat_list_cmp_total, texts_ties, IsAntisymmetric, nat_cmp-IsAntisymmetric, slice_cmp-IsAntisymmetric, then_total, on_total, tie, is_same_key, Predicate, predicate_cmp}
 
 pub predicate_total : IsTotalOrder predicate_cmp
 predicate_total = then_total (on_total (λ (p : Predicate). p.name) nat_list_cmp_total) (on_total (λ (p : Predicate). p.arity) nat_cmp_total)

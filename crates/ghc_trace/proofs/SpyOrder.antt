@@ -1,20 +1,8 @@
 -- The spies of a set in their order, what is said of each of them, and sets of written predicates.
-use Rattle.std.proofs.Common.{◌≡◌, ℕ, ◌+◌, ◌≤◌, ◌<◌, Bool, true, false, cond, ◌||◌, List, [], ◌∷◌, length, map, take, drop, get_or, All, refl, sym, ap, ◌∙◌, subst}
-use Rattle.std.proofs.lemmas.List.{drop_all, take_more, map-append}
-use Rattle.std.proofs.lemmas.List.Elements.{All-contains}
-use Rattle.std.proofs.lemmas.Map.Views.{All-from_any, Contains-from_any}
-use Rattle.std.specs.Prelude.{Some, None, is_some}
-use Rattle.std.specs.List.{list_any}
-use Rattle.std.specs.List.Sorted.{IsStrictlySortedBy}
-use Rattle.std.specs.Map.{keys_of}
-use Rattle.std.specs.Ordering.{eq_by_cmp, is_eq}
-use Rattle.std.specs.Cmp.{IsEquivalence, eq_by_cmp_equiv, Equal-is}
+use Rattle.ghc_trace.proofs.Words.{◌≡◌, ℕ, ◌+◌, ◌≤◌, ◌<◌, Bool, true, false, cond, ◌||◌, List, [], ◌∷◌, length, map, take, drop, get_or, All, refl, sym, ap, ◌∙◌, subst, drop_all, take_more, map-append, All-contains, All-from_any, Contains-from_any, Some, None, is_some, list_any, IsStrictlySortedBy, keys_of, eq_by_cmp, is_eq, IsEquivalence, eq_by_cmp_equiv, Equal-is, entries_are, Predicate, Spies, predicate, predicate_cmp, as_written, in_order, spied_of, spies_in_order}
 use Rattle.std.specs.FinSet as set
 use Rattle.std.specs.FinMap as finite
-use Rattle.ghc_fire.proofs.Ordered.{entries_are}
 use Rattle.ghc_records.specs.declared.predicate.Predicate as written
-use Rattle.ghc_trace.specs.declared.spies.Predicate.{Predicate}
-use Rattle.ghc_trace.specs.Spies.{Spies, predicate, predicate_cmp, as_written, in_order, spied_of, spies_in_order}
 use Rattle.ghc_trace.proofs.Spied.{predicate_total, predicate_antisymmetric, same, same_is}
 
 -- the predicate is among the predicates

@@ -1,46 +1,9 @@
 -- By notes that are exact, where nothing is untried, goals are told to be resumed or stuck as they are.
-use Rattle.std.proofs.Common.{◌≡◌, ◌≢◌, true, false, ◌⊎◌, List, refl, sym, ap, ◌∙◌, subst, inl, inr}
-use Rattle.std.specs.Prelude.{◌↔◌, Option, Some, None, is_some, IsTrue}
+use Rattle.ghc_trace.proofs.Words.{◌≡◌, ◌≢◌, true, false, ◌⊎◌, List, refl, sym, ap, ◌∙◌, subst, inl, inr, ◌↔◌, Option, Some, None, is_some, IsTrue, VarName, GoalName, IsAcyclic, Tree, Goal, In, Variables, StoreValue, value_at, Decided, some_decided, true_decided, not_both, any_in, in_any, Program, is_stream, goal_cmp, Goals, Record, MakesGoal, Binds, Status, ready, waiting, failed, streaming, HasStatus, is_stream_goal, StandsAs, IsHookedOn, Note, NotesByGoal, AreExact, AreLeft, IsUntried, awaits, status_once, exact_awaits, Opening, World, Change, Comes as comes, Goes as goes, Reorders as reorders, all_gone, IsBoundBy, opening_stays, reached_good, IsStuck, Standing, IsSettled, Brings, NotesTellPorts, NotesTellNews, stuck_of, stuck_by, Disturbed, IsOneOf, AreAsNoted, AreDisturbed, WaitsWhereBound, AreResumedBy, IsStuckOtherwise, AreStuckOtherwise, status_by, Stuck, Waiting}
 use Rattle.std.specs.FinMap as finite
 use Rattle.std.specs.FinSet as set
-use Rattle.ghc_term.specs.declared.var_name.VarName.{VarName}
-use Rattle.ghc_term.specs.declared.goal_name.GoalName.{GoalName}
-use Rattle.ghc_term.specs.Bindings.{IsAcyclic}
-use Rattle.ghc_term.specs.Tree.{Tree}
-use Rattle.ghc_term.specs.Goal.{Goal}
-use Rattle.ghc_term.specs.Lists.{In}
-use Rattle.ghc_term.specs.Sets.{Variables}
-use Rattle.ghc_term.specs.Store.{StoreValue, value_at}
-use Rattle.ghc_term.proofs.Decided.{Decided, some_decided, true_decided}
-use Rattle.ghc_term.proofs.ListsLemmas.{not_both}
-use Rattle.ghc_term.proofs.SetsLemmas.{any_in, in_any}
-use Rattle.ghc_flat.specs.Clause.{Program}
-use Rattle.ghc_flat.specs.Flat.{is_stream}
-use Rattle.ghc_fire.specs.Goals.{goal_cmp, Goals}
-use Rattle.ghc_records.specs.Record.{Record}
-use Rattle.ghc_records.specs.Replay.{MakesGoal}
-use Rattle.ghc_depend.specs.Depend.{Binds}
-use Rattle.ghc_hooks.specs.Status.{Status, ready, waiting, failed, streaming, HasStatus, is_stream_goal}
-use Rattle.ghc_hooks.specs.Face.{StandsAs, IsHookedOn}
-use Rattle.ghc_hooks.specs.Notes.{Note, NotesByGoal, AreExact, AreLeft, IsUntried}
-use Rattle.ghc_hooks.specs.Verdict.{awaits}
-use Rattle.ghc_hooks.proofs.Statuses.{status_once}
-use Rattle.ghc_hooks.proofs.LookedAt.{exact_awaits}
-use Rattle.ghc_records.specs.Journal.{Opening}
-use Rattle.ghc_core.specs.World.{World}
-use Rattle.ghc_core.specs.declared.change.Change.{Change}
-use Rattle.ghc_core.specs.declared.change.Change.TheVariants.{Comes as comes, Goes as goes, Reorders as reorders}
-use Rattle.ghc_core.specs.Gone.{all_gone}
-use Rattle.ghc_core.specs.Change.{IsBoundBy}
-use Rattle.ghc_core.proofs.Moving.{opening_stays}
-use Rattle.ghc_core.proofs.Reaching.{reached_good}
-use Rattle.ghc_trace.specs.News.{IsStuck, Standing}
-use Rattle.ghc_trace.specs.Laws.{IsSettled, Brings, NotesTellPorts, NotesTellNews}
 use Rattle.ghc_trace.proofs.Changed.{changed_from}
 use Rattle.ghc_trace.proofs.Entries.{found}
-use Rattle.ghc_trace.specs.Disturbed.{stuck_of, stuck_by, Disturbed, IsOneOf, AreAsNoted, AreDisturbed, WaitsWhereBound, AreResumedBy, IsStuckOtherwise, AreStuckOtherwise, status_by}
-use Rattle.ghc_trace.specs.declared.stuck.Stuck.{Stuck}
-use Rattle.ghc_trace.specs.declared.stuck.Stuck.TheVariants.{Waiting}
 use Rattle.ghc_trace.proofs.Causes.{some_stuck, stuck_once}
 
 some_once : {X : Type 0} {x y : X} → Some x ≡ Some y → x ≡ y

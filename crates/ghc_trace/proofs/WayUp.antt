@@ -1,20 +1,6 @@
 -- The way up from a goal by the steps that made goals, and why it ends.
-use Rattle.std.proofs.Common.{◌≡◌, ℕ, zero, suc, ◌<◌, ◌≤◌, Bool, true, false, not, cond, nat_eq, List, [], ◌∷◌, ◌++◌, length, refl, sym, ap, ◌∙◌, subst, inl, inr, arith, Some}
-use Rattle.std.specs.Prelude.{◌↔◌}
-use Rattle.std.proofs.lemmas.Bool.{eq-eqb, ne_eqb}
-use Rattle.ghc_term.specs.declared.goal_name.GoalName.{GoalName}
-use Rattle.ghc_term.specs.Lists.{In}
-use Rattle.ghc_fire.proofs.GoalNames.{same, same_is, same_goal}
-use Rattle.ghc_flat.specs.Clause.{Program, Query}
-use Rattle.ghc_records.specs.Orders.{AreDistinct}
-use Rattle.ghc_records.specs.Record.{State, Record, numbers}
-use Rattle.ghc_records.specs.Replay.{Replays}
-use Rattle.ghc_records.proofs.OrderLemmas.{number_in, record_once}
-use Rattle.ghc_depend.specs.Depend.{MakesGoal, Descends, itself, made_by}
-use Rattle.ghc_depend.proofs.Finding.{same_value}
-use Rattle.ghc_hooks.proofs.Looking.{goal_itself}
-use Rattle.ghc_depend.proofs.Results.{taken, is_old}
-use Rattle.ghc_depend.proofs.Placing.{place_of, apart_at}
+use Rattle.ghc_trace.proofs.Words.{◌≡◌, ℕ, zero, suc, ◌<◌, ◌≤◌, Bool, true, false, not, cond, nat_eq, List, [], ◌∷◌, ◌++◌, length, refl, sym, ap, ◌∙◌, subst, inl, inr, arith, Some, ◌↔◌, eq-eqb, ne_eqb, GoalName, In, same, same_is, same_goal, Program, Query, AreDistinct, State, Record, numbers, Replays, number_in, record_once, Descends, itself, made_by, same_value, goal_itself, taken, is_old, place_of, apart_at}
+use Rattle.ghc_depend.specs.Depend.{MakesGoal}
 
 -- where it stands, one more than that
 abbrev later : ℕ → ℕ

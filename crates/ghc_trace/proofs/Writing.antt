@@ -1,9 +1,6 @@
 -- What is written of some of the goals of a list, one after another.
-use Rattle.std.proofs.Common.{◌≡◌, true, ℕ, ◌+◌, ◌<◌, ◌++◌, List, [], ◌∷◌, length, get_or, drop, refl, sym, ap, subst, ◌∙◌, append_assoc, append-nil}
-use Rattle.std.proofs.lemmas.List.{drop_more}
-use Rattle.std.specs.Prelude.{Result, Ok, Err, is_ok, OnOk}
-use Rattle.ghc_records.specs.Orders.{Picks, nothing, take, leave}
-use Rattle.ghc_trace.specs.NewsCode.{Former}
+use Rattle.ghc_trace.proofs.Words.{◌≡◌, true, ℕ, ◌+◌, ◌<◌, ◌++◌, List, [], ◌∷◌, length, get_or, drop, refl, sym, ap, subst, ◌∙◌, append_assoc, append-nil, drop_more, Result, Ok, Err, is_ok, OnOk, Picks, nothing, leave, Former}
+use Rattle.ghc_records.specs.Orders.{take}
 
 -- the next of the goals left
 pub next_left : (es : List Former) (i : ℕ) (e : Former) → i < length es → e ≡ get_or es i e → drop i es ≡ e ∷ drop (i + 1) es

@@ -1,6 +1,4 @@
-use Rattle.std.proofs.Common.{subst}
-use Rattle.ghc_term.specs.Lists.{In}
-use Rattle.ghc_records.specs.UseIndex.{RecordsTables}
+use Rattle.ghc_core.proofs.Words.{subst, In, RecordsTables}
 use Rattle.ghc_core.proofs.arrange.boxed_in_order.Goals as goal
 
 pub returns-clause-kept : goal.returns-clause-kept

@@ -1,6 +1,5 @@
-use Rattle.std.proofs.Common.{sym, ap, ◌∙◌, subst}
-use Rattle.ghc_fire.specs.Asked.{Asks, asked_as}
-use Rattle.ghc_records.specs.Record.{Record}
+use Rattle.ghc_core.proofs.Words.{sym, ap, ◌∙◌, subst, asked_as, Record}
+use Rattle.ghc_fire.specs.Asked.{Asks}
 use Rattle.ghc_core.proofs.ask.ask_addition.Goals as goal
 
 pub returns-clause-effect : goal.returns-clause-effect

@@ -1,11 +1,5 @@
-use Rattle.std.proofs.Common.{◌≡◌, ◌≢◌, true, false, [], refl, sym, ◌∙◌, subst, arith}
-use Rattle.std.proofs.lemmas.List.{take_all}
-use Rattle.ghc_term.specs.Lists.{In}
+use Rattle.ghc_core.proofs.Words.{◌≡◌, ◌≢◌, true, false, [], refl, sym, ◌∙◌, subst, arith, take_all, In, one_more_member, In_at, no_step, first_in, IsVariableOf}
 use Rattle.ghc_term.specs.Variables.{variables_of_goals}
-use Rattle.ghc_term.proofs.Members.{one_more_member, In_at}
-use Rattle.ghc_fire.specs.Effect.{no_step}
-use Rattle.ghc_records.proofs.Heads.{first_in}
-use Rattle.ghc_records.specs.Replay.{IsVariableOf}
 use Rattle.ghc_core.proofs.QueryVariables.{of_firsts}
 use Rattle.ghc_core.proofs.ask.ask_is_known.Goals as goal
 

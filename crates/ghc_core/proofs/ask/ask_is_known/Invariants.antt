@@ -1,8 +1,4 @@
-use Rattle.std.proofs.Common.{◌≢◌, take}
-use Rattle.ghc_term.specs.declared.var_name.VarName.{VarName}
-use Rattle.ghc_term.specs.Lists.{In}
-use Rattle.ghc_fire.specs.Effect.{no_step}
-use Rattle.ghc_records.specs.Replay.{IsVariableOf}
+use Rattle.ghc_core.proofs.Words.{◌≢◌, take, VarName, In, no_step, IsVariableOf}
 use Rattle.ghc_core.proofs.ask.ask_is_known.Given as goal
 
 abbrev pub invariant-loop-x : goal.invariant-loop-x

@@ -1,8 +1,4 @@
-use Rattle.std.proofs.Common.{◌≡◌, ◌∙◌, true, false, sym, subst, length}
-use Rattle.ghc_term.specs.Lists.{In}
-use Rattle.ghc_term.proofs.ListsLemmas.{in_place}
-use Rattle.ghc_flat.proofs.Clauses.{calls_next, first_undefined, same_call, not_a_call}
-use Rattle.ghc_core.specs.AskedGoals.{HasClauseFor}
+use Rattle.ghc_core.proofs.Words.{◌≡◌, ◌∙◌, true, false, sym, subst, length, In, in_place, calls_next, first_undefined, same_call, not_a_call, HasClauseFor}
 use Rattle.ghc_core.proofs.ask.check_calls.Goals as goal
 use Rattle.ghc_core.proofs.ask.check_calls.Goals.{in-Call+else-not-is_defined, in_default}
 

@@ -1,6 +1,4 @@
-use Rattle.std.proofs.Common.{take}
-use Rattle.ghc_flat.specs.Checked.{AllCalls}
-use Rattle.ghc_core.specs.AskedGoals.{HasClauseFor}
+use Rattle.ghc_core.proofs.Words.{take, AllCalls, HasClauseFor}
 use Rattle.ghc_core.proofs.ask.check_calls.Given as goal
 
 abbrev pub invariant-loop-goal : goal.invariant-loop-goal

@@ -1,7 +1,4 @@
-use Rattle.std.proofs.Common.{◌≡◌, true, false, refl, sym, ◌∙◌, subst}
-use Rattle.std.proofs.lemmas.List.{take_all}
-use Rattle.ghc_term.proofs.ListsLemmas.{each_next, in_place}
-use Rattle.ghc_core.specs.AskedAgain.{CanBeAskedFor, CanBeAsked}
+use Rattle.ghc_core.proofs.Words.{◌≡◌, true, false, refl, sym, ◌∙◌, subst, take_all, each_next, in_place, CanBeAskedFor, CanBeAsked}
 use Rattle.ghc_core.proofs.asked_again.can_all_be_asked_for.Goals as goal
 
 pub returns-then-not-can_be_asked_for : goal.returns-then-not-can_be_asked_for

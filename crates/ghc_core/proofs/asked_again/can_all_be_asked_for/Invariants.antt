@@ -1,5 +1,4 @@
-use Rattle.std.proofs.Common.{take}
-use Rattle.ghc_core.specs.AskedAgain.{CanBeAsked}
+use Rattle.ghc_core.proofs.Words.{take, CanBeAsked}
 use Rattle.ghc_core.proofs.asked_again.can_all_be_asked_for.Given as goal
 
 abbrev pub invariant-loop-goal : goal.invariant-loop-goal

@@ -1,5 +1,4 @@
-use Rattle.std.proofs.Common.{◌≡◌, true, false, sym, ap, ◌∙◌}
-use Rattle.ghc_fire.specs.Asked.{made_from}
+use Rattle.ghc_core.proofs.Words.{◌≡◌, true, false, sym, ap, ◌∙◌, made_from}
 use Rattle.ghc_core.proofs.AskedAgain.{own, own_more, own_other, own_never}
 use Rattle.ghc_core.proofs.asked_again.own_count.Goals as goal
 use Rattle.ghc_core.proofs.asked_again.own_count.Goals.{then-x-number+else-not-is_next_place, else-x-number}

@@ -1,5 +1,4 @@
-use Rattle.std.proofs.Common.{◌≡◌, take}
-use Rattle.ghc_fire.specs.Asked.{made_from}
+use Rattle.ghc_core.proofs.Words.{◌≡◌, take, made_from}
 use Rattle.ghc_core.proofs.AskedAgain.{own}
 use Rattle.ghc_core.proofs.asked_again.own_count.Given as goal
 

@@ -1,10 +1,5 @@
-use Rattle.std.proofs.Common.{ap, subst, ◌∙◌, length}
-use Rattle.ghc_term.specs.Store.{StoreValue}
-use Rattle.ghc_hooks.specs.Tries.{AreSpared, AreWoken}
+use Rattle.ghc_core.proofs.Words.{ap, subst, ◌∙◌, length, StoreValue, AreSpared, AreWoken, Effect, Binds, ConsumedToTry, IsBound, IsGiven, AreDropped}
 use Rattle.ghc_records.specs.Replay.{MakesGoal}
-use Rattle.ghc_fire.specs.Effect.{Effect}
-use Rattle.ghc_depend.specs.Depend.{Binds}
-use Rattle.ghc_core.specs.Carried.{ConsumedToTry, IsBound, IsGiven, AreDropped}
 use Rattle.ghc_core.proofs.Carried.{carried, none_stays}
 use Rattle.ghc_core.proofs.carrying.carry_back.Goals as goal
 

@@ -1,9 +1,4 @@
-use Rattle.std.proofs.Common.{◌≡◌, Some, length, ap, subst, ◌∙◌, arith}
-use Rattle.ghc_term.specs.Store.{StoreValue}
-use Rattle.ghc_hooks.specs.Tries.{AreSpared, AreWoken}
-use Rattle.ghc_fire.specs.Effect.{Effect}
-use Rattle.ghc_depend.specs.Depend.{Binds}
-use Rattle.ghc_core.specs.Carried.{Consumed, MadeToTry, IsBound, IsToTry, AreDropped, AreMarked}
+use Rattle.ghc_core.proofs.Words.{◌≡◌, Some, length, ap, subst, ◌∙◌, arith, StoreValue, AreSpared, AreWoken, Effect, Binds, Consumed, MadeToTry, IsBound, IsToTry, AreDropped, AreMarked}
 use Rattle.ghc_core.proofs.Carried.{carried, none_stays}
 use Rattle.ghc_core.proofs.carrying.carry_over.Goals as goal
 

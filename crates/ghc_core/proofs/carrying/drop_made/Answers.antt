@@ -1,5 +1,4 @@
-use Rattle.std.proofs.Common.{◌≡◌, ◌+◌, ◌-◌, arith}
-use Rattle.ghc_records.proofs.Made.{name}
+use Rattle.ghc_core.proofs.Words.{◌≡◌, ◌+◌, ◌-◌, arith, name}
 use Rattle.ghc_core.proofs.Carried.{one_dropped, next_dropped}
 use Rattle.ghc_core.proofs.carrying.drop_made.Goals as goal
 

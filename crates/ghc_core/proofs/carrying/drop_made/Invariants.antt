@@ -1,5 +1,4 @@
-use Rattle.std.proofs.Common.{◌≤◌}
-use Rattle.ghc_core.specs.Carried.{AreDropped, IsGiven}
+use Rattle.ghc_core.proofs.Words.{◌≤◌, AreDropped, IsGiven}
 use Rattle.ghc_core.proofs.carrying.drop_made.Given as goal
 
 abbrev pub decreases-loop-place : goal.decreases-loop-place

@@ -1,8 +1,4 @@
-use Rattle.std.proofs.Common.{◌≡◌, ◌+◌, ◌<◌, false, [], length, subst, arith}
-use Rattle.std.proofs.lemmas.List.{length-take-le}
-use Rattle.ghc_flat.specs.Flat.{is_stream}
-use Rattle.ghc_core.specs.Carried.{AreMarked, IsToTry}
-use Rattle.ghc_records.proofs.Made.{name}
+use Rattle.ghc_core.proofs.Words.{◌≡◌, ◌+◌, ◌<◌, false, [], length, subst, arith, length-take-le, is_stream, AreMarked, IsToTry, name}
 use Rattle.ghc_core.proofs.Carried.{none_marked, none_to_try, next_marked}
 use Rattle.ghc_core.proofs.carrying.mark_made.Goals as goal
 

@@ -1,5 +1,4 @@
-use Rattle.std.proofs.Common.{◌≤◌, ◌+◌, take}
-use Rattle.ghc_core.specs.Carried.{AreMarked, IsToTry}
+use Rattle.ghc_core.proofs.Words.{◌≤◌, ◌+◌, take, AreMarked, IsToTry}
 use Rattle.ghc_core.proofs.carrying.mark_made.Given as goal
 
 abbrev pub invariant-loop-index : goal.invariant-loop-index

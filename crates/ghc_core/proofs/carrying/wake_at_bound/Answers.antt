@@ -1,6 +1,4 @@
-use Rattle.std.proofs.Common.{◌≡◌, subst, arith}
-use Rattle.ghc_hooks.specs.Tries.{AreSpared, AreWoken}
-use Rattle.ghc_core.specs.Carried.{IsBound}
+use Rattle.ghc_core.proofs.Words.{◌≡◌, subst, arith, AreSpared, AreWoken, IsBound}
 use Rattle.ghc_core.proofs.Carried.{Firsts, spared_more, woken_more, spared_as, woken_as, firsts_bound, bound_firsts}
 use Rattle.ghc_core.proofs.carrying.wake_at_bound.Goals as goal
 

@@ -1,5 +1,4 @@
-use Rattle.std.proofs.Common.{◌≤◌}
-use Rattle.ghc_hooks.specs.Tries.{AreSpared, AreWoken}
+use Rattle.ghc_core.proofs.Words.{◌≤◌, AreSpared, AreWoken}
 use Rattle.ghc_core.proofs.Carried.{Firsts}
 use Rattle.ghc_core.proofs.carrying.wake_at_bound.Given as goal
 

@@ -1,10 +1,5 @@
-use Rattle.std.proofs.Common.{get_or, ap, sym, subst, ◌∙◌, inl, inr}
+use Rattle.ghc_core.proofs.Words.{get_or, ap, sym, subst, ◌∙◌, inl, inr, take_all, VarName, In, holds_nothing, one_inserted, same_held, has_member, is_member, so_far, earlier, latest}
 use Rattle.std.specs.FinSet as set
-use Rattle.std.proofs.lemmas.List.{take_all}
-use Rattle.ghc_term.specs.declared.var_name.VarName.{VarName}
-use Rattle.ghc_term.specs.Lists.{In}
-use Rattle.ghc_term.proofs.SetsLemmas.{holds_nothing, one_inserted, same_held, has_member, is_member}
-use Rattle.ghc_hooks.proofs.LookingAll.{so_far, earlier, latest}
 use Rattle.ghc_core.proofs.copies.variables_again.Goals as goal
 
 pub loop-x-init : goal.loop-x-init

@@ -1,8 +1,5 @@
-use Rattle.std.proofs.Common.{take}
-use Rattle.std.specs.Prelude.{◌↔◌, IsTrue}
+use Rattle.ghc_core.proofs.Words.{take, ◌↔◌, IsTrue, VarName, In}
 use Rattle.std.specs.FinSet as set
-use Rattle.ghc_term.specs.declared.var_name.VarName.{VarName}
-use Rattle.ghc_term.specs.Lists.{In}
 use Rattle.ghc_core.proofs.copies.variables_again.Given as goal
 
 abbrev pub invariant-loop-x : goal.invariant-loop-x

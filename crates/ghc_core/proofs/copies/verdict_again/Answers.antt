@@ -1,5 +1,4 @@
-use Rattle.std.proofs.Common.{ap}
-use Rattle.ghc_hooks.specs.Verdict.{status_of}
+use Rattle.ghc_core.proofs.Words.{ap, status_of}
 use Rattle.ghc_core.proofs.copies.verdict_again.Goals as goal
 
 pub cause_again-requires : goal.cause_again-requires

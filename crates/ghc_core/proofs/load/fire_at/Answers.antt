@@ -1,7 +1,4 @@
-use Rattle.std.proofs.Common.{sym, subst, ◌∙◌, Some}
-use Rattle.std.specs.Prelude.{IfSome, IfNone}
-use Rattle.ghc_term.specs.Store.{value_at}
-use Rattle.ghc_fire.specs.Effect.{Effect, HasEffect}
+use Rattle.ghc_core.proofs.Words.{sym, subst, ◌∙◌, Some, IfSome, IfNone, value_at, Effect, HasEffect}
 use Rattle.ghc_core.proofs.Loading.{possible_as, impossible_there}
 use Rattle.ghc_core.proofs.load.fire_at.Goals as goal
 

@@ -1,13 +1,7 @@
-use Rattle.std.proofs.Common.{◌≡◌, inl, inr, refl, subst, sym, ap, ◌∙◌, Some, Option, ℕ}
+use Rattle.ghc_core.proofs.Words.{◌≡◌, inl, inr, refl, subst, sym, ap, ◌∙◌, Some, Option, ℕ, GoalName, Act, Effect, Answer, proposes, World, choice_of, AttemptAnswers, IsReduction}
 use Rattle.std.specs.FinMap as finite
-use Rattle.ghc_term.specs.declared.goal_name.GoalName.{GoalName}
-use Rattle.ghc_fire.specs.declared.act.Act.{Act}
-use Rattle.ghc_fire.specs.Effect.{Effect}
-use Rattle.ghc_fire.specs.Attempt.{Answer, proposes, refused}
+use Rattle.ghc_fire.specs.Attempt.{refused}
 use Rattle.ghc_fire.specs.Proposal.{Proposal}
-use Rattle.ghc_core.specs.World.{World}
-use Rattle.ghc_core.specs.Core.{choice_of}
-use Rattle.ghc_core.specs.Proposes.{AttemptAnswers, IsReduction}
 use Rattle.ghc_core.proofs.Committing.{not_refused, same_again, answered_holds}
 use Rattle.ghc_core.proofs.recheck.recheck.Goals as goal
 

@@ -1,7 +1,4 @@
-use Rattle.std.specs.Option.{option_copied}
-use Rattle.std.proofs.Common.{refl, ap, sym, subst, ◌∙◌, Some}
-use Rattle.ghc_term.specs.Store.{value_at}
-use Rattle.ghc_records.specs.Record.{IsThere, HasStepEffect}
+use Rattle.ghc_core.proofs.Words.{option_copied, refl, ap, sym, subst, ◌∙◌, Some, value_at, IsThere, HasStepEffect}
 use Rattle.ghc_core.proofs.Redone.{if_ok}
 use Rattle.ghc_core.proofs.redo.fires.Goals as goal
 

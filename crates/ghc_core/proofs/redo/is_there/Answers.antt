@@ -1,7 +1,5 @@
-use Rattle.std.proofs.Common.{◌≡◌, ap, sym, subst, ◌∙◌, Some}
+use Rattle.ghc_core.proofs.Words.{◌≡◌, ap, sym, subst, ◌∙◌, Some, IsThere, same_value}
 use Rattle.std.specs.FinMap as finite
-use Rattle.ghc_records.specs.Record.{IsThere}
-use Rattle.ghc_depend.proofs.Finding.{same_value}
 use Rattle.ghc_core.proofs.Redone.{if_ok}
 use Rattle.ghc_core.proofs.redo.is_there.Goals as goal
 

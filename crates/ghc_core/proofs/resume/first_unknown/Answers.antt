@@ -1,7 +1,4 @@
-use Rattle.std.proofs.Common.{◌≡◌, true, false, sym, ◌∙◌, subst}
-use Rattle.std.proofs.lemmas.List.{take_all}
-use Rattle.ghc_term.proofs.ListsLemmas.{each_next}
-use Rattle.ghc_core.specs.Resume.{IsPredicateOf, ArePredicatesOf}
+use Rattle.ghc_core.proofs.Words.{◌≡◌, true, false, sym, ◌∙◌, subst, take_all, each_next, IsPredicateOf, ArePredicatesOf}
 use Rattle.ghc_core.proofs.ResumeSteps.{lacks_here}
 use Rattle.ghc_core.proofs.resume.first_unknown.Goals as goal
 

@@ -1,5 +1,4 @@
-use Rattle.std.proofs.Common.{take}
-use Rattle.ghc_core.specs.Resume.{ArePredicatesOf}
+use Rattle.ghc_core.proofs.Words.{take, ArePredicatesOf}
 use Rattle.ghc_core.proofs.resume.first_unknown.Given as goal
 
 abbrev pub invariant-loop-index : goal.invariant-loop-index

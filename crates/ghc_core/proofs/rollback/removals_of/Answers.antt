@@ -1,9 +1,4 @@
-use Rattle.std.proofs.Common.{◌≡◌, ◌++◌, [], ◌∷◌, sym, ap, ◌∙◌, subst, inl, inr}
-use Rattle.std.proofs.lemmas.List.{take_more}
-use Rattle.ghc_term.specs.Lists.{In}
-use Rattle.ghc_term.proofs.ListsLemmas.{in_get, in_more}
-use Rattle.ghc_records.specs.Record.{Record, numbers}
-use Rattle.ghc_records.proofs.OrderLemmas.{numbers_append}
+use Rattle.ghc_core.proofs.Words.{◌≡◌, ◌++◌, [], ◌∷◌, sym, ap, ◌∙◌, subst, inl, inr, take_more, In, in_get, in_more, Record, numbers, numbers_append}
 use Rattle.ghc_core.proofs.RolledBack.{found_there, found_is}
 use Rattle.ghc_core.proofs.rollback.removals_of.Goals as goal
 

@@ -1,6 +1,4 @@
-use Rattle.std.proofs.Common.{◌≡◌, take}
-use Rattle.ghc_term.specs.Lists.{In}
-use Rattle.ghc_records.specs.Record.{Record, numbers}
+use Rattle.ghc_core.proofs.Words.{◌≡◌, take, In, Record, numbers}
 use Rattle.ghc_core.proofs.rollback.removals_of.Given as goal
 
 abbrev pub invariant-loop-number : goal.invariant-loop-number

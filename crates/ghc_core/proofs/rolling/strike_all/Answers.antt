@@ -1,12 +1,4 @@
-use Rattle.std.proofs.Common.{◌≡◌, Some, slice_get, take, sym, ap, ◌∙◌, subst, arith}
-use Rattle.std.proofs.lemmas.List.{take_all}
-use Rattle.std.proofs.lemmas.Option.{slice_get-get_or}
-use Rattle.ghc_term.specs.Lists.{In}
-use Rattle.ghc_term.proofs.ListsLemmas.{in_at}
-use Rattle.ghc_records.specs.Orders.{Picks}
-use Rattle.ghc_records.specs.Record.{Record}
-use Rattle.ghc_records.proofs.InOrder.{not_again}
-use Rattle.ghc_depend.proofs.Causes.{at_split}
+use Rattle.ghc_core.proofs.Words.{◌≡◌, Some, slice_get, take, sym, ap, ◌∙◌, subst, arith, take_all, slice_get-get_or, In, in_at, Picks, Record, not_again, at_split}
 use Rattle.ghc_core.proofs.RolledBack.{struck_none, struck_next}
 use Rattle.ghc_core.proofs.rolling.strike_all.Goals as goal
 

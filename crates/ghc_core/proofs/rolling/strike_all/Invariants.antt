@@ -1,6 +1,4 @@
-use Rattle.std.proofs.Common.{take}
-use Rattle.ghc_term.specs.Lists.{In}
-use Rattle.ghc_records.specs.Orders.{Picks}
+use Rattle.ghc_core.proofs.Words.{take, In, Picks}
 use Rattle.ghc_core.proofs.rolling.strike_all.Given as goal
 
 abbrev pub invariant-loop-removal : goal.invariant-loop-removal

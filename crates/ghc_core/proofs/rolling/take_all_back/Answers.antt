@@ -1,8 +1,6 @@
-use Rattle.std.proofs.Common.{[], ◌∷◌, ◌++◌, length, sym, ap, ◌∙◌, refl, subst, inl, arith, length-append, append_assoc}
+use Rattle.ghc_core.proofs.Words.{[], ◌∷◌, ◌++◌, length, sym, ap, ◌∙◌, refl, subst, inl, arith, append_assoc, In, in_left, in_right, told_back}
+use Rattle.std.proofs.Common.{length-append}
 use Rattle.std.specs.FinMap as finite
-use Rattle.ghc_term.specs.Lists.{In}
-use Rattle.ghc_term.proofs.ListsLemmas.{in_left, in_right}
-use Rattle.ghc_core.specs.StreamGoals.{told_back}
 use Rattle.ghc_core.proofs.RolledBack.{none_again}
 use Rattle.ghc_core.proofs.rolling.take_all_back.Goals as goal
 

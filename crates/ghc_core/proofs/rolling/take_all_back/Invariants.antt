@@ -1,9 +1,4 @@
-use Rattle.std.proofs.Common.{◌≡◌, ◌≤◌, ◌+◌, List, ◌++◌, length}
-use Rattle.ghc_records.specs.Record.{Record}
-use Rattle.ghc_records.specs.State.{AreTakenBack}
-use Rattle.ghc_depend.specs.Kept.{with_shelved}
-use Rattle.ghc_core.specs.Carried.{AreAllCarriedBack}
-use Rattle.ghc_core.specs.StreamGoals.{all_told_back}
+use Rattle.ghc_core.proofs.Words.{◌≡◌, ◌≤◌, ◌+◌, List, ◌++◌, length, Record, AreTakenBack, with_shelved, AreAllCarriedBack, all_told_back}
 use Rattle.ghc_core.proofs.rolling.take_all_back.Given as goal
 
 abbrev pub invariant-loop-removal : goal.invariant-loop-removal

@@ -1,5 +1,4 @@
-use Rattle.std.proofs.Common.{◌≡◌, true, false, refl, sym, ◌∙◌, subst, arith}
-use Rattle.ghc_core.specs.Load.{AskForGoals}
+use Rattle.ghc_core.proofs.Words.{◌≡◌, true, false, refl, sym, ◌∙◌, subst, arith, AskForGoals}
 use Rattle.ghc_core.proofs.SavedSteps.{none_asks_next, none_asks, asks_in}
 use Rattle.ghc_core.proofs.saving.ask_for_goals.Goals as goal
 

@@ -1,8 +1,4 @@
-use Rattle.std.proofs.Common.{◌≡◌, true, false, refl, sym, ap, ◌∙◌}
-use Rattle.std.specs.Prelude.{Some, None}
-use Rattle.std.specs.Option.{option_copied}
-use Rattle.ghc_records.specs.Record.{Record}
-use Rattle.ghc_records.proofs.SlotPlaces.{one_record}
+use Rattle.ghc_core.proofs.Words.{◌≡◌, true, false, refl, sym, ap, ◌∙◌, Some, None, option_copied, Record, one_record}
 use Rattle.ghc_core.proofs.saving.asks_at.Goals as goal
 
 pub returns-in_default : goal.returns-in_default

@@ -1,7 +1,4 @@
-use Rattle.std.proofs.Common.{◌≡◌, [], ◌∷◌, ◌++◌, ap, sym, ◌∙◌, inl, inr, refl}
-use Rattle.std.specs.Prelude.{Some, None}
-use Rattle.std.specs.Option.{option_copied}
-use Rattle.ghc_records.specs.Journal.{Step}
+use Rattle.ghc_core.proofs.Words.{◌≡◌, [], ◌∷◌, ◌++◌, ap, sym, ◌∙◌, inl, inr, refl, Some, None, option_copied, Step}
 use Rattle.ghc_core.proofs.saving.push_at.Goals as goal
 
 pub returns-in_default : goal.returns-in_default

@@ -1,5 +1,4 @@
-use Rattle.std.proofs.Common.{sym, ap, ◌∙◌, map, arith}
-use Rattle.ghc_records.specs.Journal.{step_of}
+use Rattle.ghc_core.proofs.Words.{sym, ap, ◌∙◌, map, arith, step_of}
 use Rattle.ghc_core.proofs.SavedSteps.{slot_on, none_yet, all_found}
 use Rattle.ghc_core.proofs.saving.steps_of.Goals as goal
 

@@ -1,7 +1,4 @@
-use Rattle.std.proofs.Common.{◌≡◌, ◌++◌, drop, map}
-use Rattle.ghc_records.specs.Journal.{step_of}
-use Rattle.ghc_records.specs.Slots.{held_in}
-use Rattle.ghc_records.proofs.SlotRanks.{rank}
+use Rattle.ghc_core.proofs.Words.{◌≡◌, ◌++◌, drop, map, step_of, held_in, rank}
 use Rattle.ghc_core.proofs.saving.steps_of.Given as goal
 
 abbrev pub invariant-loop-place : goal.invariant-loop-place

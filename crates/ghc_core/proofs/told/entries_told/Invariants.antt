@@ -1,5 +1,4 @@
-use Rattle.std.proofs.Common.{◌≡◌, ◌++◌, map, drop}
-use Rattle.ghc_records.specs.WrittenEntryCode.{said_by}
+use Rattle.ghc_core.proofs.Words.{◌≡◌, ◌++◌, map, drop, said_by}
 use Rattle.ghc_core.proofs.told.entries_told.Given as goal
 
 abbrev pub invariant-loop-place : goal.invariant-loop-place

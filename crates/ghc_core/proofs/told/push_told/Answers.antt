@@ -1,7 +1,4 @@
-use Rattle.std.proofs.Common.{◌++◌, ◌+◌, map, drop, sym, ap, ◌∙◌}
-use Rattle.std.specs.Prelude.{option_map}
-use Rattle.ghc_records.specs.EntryCode.{entry_of}
-use Rattle.ghc_records.specs.WrittenEntryCode.{said_by}
+use Rattle.ghc_core.proofs.Words.{◌++◌, ◌+◌, map, drop, sym, ap, ◌∙◌, option_map, entry_of, said_by}
 use Rattle.ghc_core.proofs.ResumeSteps.{told_pushed, there_is}
 use Rattle.ghc_core.proofs.told.push_told.Goals as goal
 

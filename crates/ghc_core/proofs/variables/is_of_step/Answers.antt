@@ -1,5 +1,4 @@
-use Rattle.std.proofs.Common.{◌≡◌, ◌≤◌, ◌∙◌, false, IsTrue, ap, sym, arith}
-use Rattle.ghc_records.specs.Record.{Record}
+use Rattle.ghc_core.proofs.Words.{◌≡◌, ◌≤◌, ◌∙◌, false, IsTrue, ap, sym, arith, Record}
 use Rattle.ghc_core.proofs.QueryVariables.{made_by}
 use Rattle.ghc_core.proofs.variables.is_of_step.Goals as goal
 

@@ -1,6 +1,4 @@
-use Rattle.std.proofs.Common.{subst₂}
-use Rattle.std.specs.Prelude.{◌↔◌, IsTrue}
-use Rattle.ghc_records.specs.Replay.{IsVariableOf}
+use Rattle.ghc_core.proofs.Words.{subst₂, ◌↔◌, IsTrue, IsVariableOf}
 use Rattle.ghc_core.proofs.variables.is_variable_of.Goals as goal
 
 pub returns : goal.returns

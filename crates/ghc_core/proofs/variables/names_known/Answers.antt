@@ -1,9 +1,4 @@
-use Rattle.std.proofs.Common.{◌≡◌, ◌≢◌, true, false, refl, sym, ap, ◌∙◌, subst, arith}
-use Rattle.std.proofs.lemmas.List.{take_all}
-use Rattle.ghc_term.specs.Lists.{In}
-use Rattle.ghc_term.proofs.Members.{one_more_member, In_at}
-use Rattle.ghc_fire.specs.Asked.{variables_asked}
-use Rattle.ghc_records.specs.Replay.{IsVariableOf}
+use Rattle.ghc_core.proofs.Words.{◌≡◌, ◌≢◌, true, false, refl, sym, ap, ◌∙◌, subst, arith, take_all, In, one_more_member, In_at, variables_asked, IsVariableOf}
 use Rattle.ghc_core.proofs.variables.names_known.Goals as goal
 
 pub returns-then-not-is_own_or_of : goal.returns-then-not-is_own_or_of

@@ -1,7 +1,4 @@
-use Rattle.std.proofs.Common.{◌≢◌, take}
-use Rattle.ghc_term.specs.declared.var_name.VarName.{VarName}
-use Rattle.ghc_term.specs.Lists.{In}
-use Rattle.ghc_records.specs.Replay.{IsVariableOf}
+use Rattle.ghc_core.proofs.Words.{◌≢◌, take, VarName, In, IsVariableOf}
 use Rattle.ghc_core.proofs.variables.names_known.Given as goal
 
 abbrev pub invariant-loop-x : goal.invariant-loop-x

@@ -1,6 +1,4 @@
-use Rattle.std.proofs.Common.{◌≡◌, true, false}
-use Rattle.std.proofs.lemmas.Bool.{ltb-true, lt-ltb}
-use Rattle.ghc_records.proofs.SlotRanks.{rank, rank_less, less_rank, ranked, ranked_at}
+use Rattle.ghc_depend.proofs.Words.{◌≡◌, true, false, ltb-true, lt-ltb, rank, rank_less, less_rank, ranked, ranked_at}
 use Rattle.ghc_depend.proofs.Causes.{not_bound, binder_kept, bound_behind, place_behind}
 use Rattle.ghc_depend.proofs.cause.is_bound_behind.Goals as goal
 

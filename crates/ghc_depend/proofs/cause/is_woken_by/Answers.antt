@@ -1,5 +1,4 @@
-use Rattle.std.proofs.Common.{◌≡◌, true, false, sym, ◌∙◌, subst}
-use Rattle.ghc_depend.specs.Cause.{CanWait}
+use Rattle.ghc_depend.proofs.Words.{◌≡◌, true, false, sym, ◌∙◌, subst, CanWait}
 use Rattle.ghc_depend.proofs.Causes.{woken}
 use Rattle.ghc_depend.proofs.cause.is_woken_by.Goals as goal
 use Rattle.ghc_depend.proofs.cause.is_woken_by.Goals.{then-can_wait, else-can_wait}

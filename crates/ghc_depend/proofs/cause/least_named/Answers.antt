@@ -1,9 +1,4 @@
-use Rattle.std.proofs.Common.{◌≡◌, ◌≢◌, ◌+◌, true, false, [], ◌∷◌, ◌++◌, get_or, take, sym, ap, ◌∙◌, subst, arith}
-use Rattle.std.specs.Prelude.{Some}
-use Rattle.std.proofs.lemmas.List.{take_more, take_all}
-use Rattle.ghc_term.specs.declared.var_name.VarName.{VarName}
-use Rattle.ghc_fire.specs.Asked.{variables_asked}
-use Rattle.ghc_depend.specs.Depend.{MakesVariable}
+use Rattle.ghc_depend.proofs.Words.{◌≡◌, ◌≢◌, ◌+◌, true, false, [], ◌∷◌, ◌++◌, get_or, take, sym, ap, ◌∙◌, subst, arith, Some, take_more, take_all, VarName, variables_asked, MakesVariable}
 use Rattle.ghc_depend.proofs.Causes.{IsLeastOf, least_passed, least_taken, named_is, named_none}
 use Rattle.ghc_depend.proofs.cause.least_named.Goals as goal
 use Rattle.ghc_depend.proofs.cause.least_named.Goals.{then-names, else-names}

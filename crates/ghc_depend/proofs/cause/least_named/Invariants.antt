@@ -1,5 +1,4 @@
-use Rattle.std.proofs.Common.{◌≢◌, take}
-use Rattle.ghc_depend.specs.Depend.{MakesVariable}
+use Rattle.ghc_depend.proofs.Words.{◌≢◌, take, MakesVariable}
 use Rattle.ghc_depend.proofs.Causes.{IsLeastOf}
 use Rattle.ghc_depend.proofs.cause.least_named.Given as goal
 

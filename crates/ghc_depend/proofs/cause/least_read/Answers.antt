@@ -1,9 +1,5 @@
-use Rattle.std.proofs.Common.{◌≡◌, ◌+◌, true, false, [], ◌∷◌, ◌++◌, get_or, take, sym, ap, ◌∙◌, subst, arith}
-use Rattle.std.specs.Prelude.{Some}
+use Rattle.ghc_depend.proofs.Words.{◌≡◌, ◌+◌, true, false, [], ◌∷◌, ◌++◌, get_or, take, sym, ap, ◌∙◌, subst, arith, Some, take_more, take_all, VarName, Binds}
 use Rattle.std.specs.FinSet as set
-use Rattle.std.proofs.lemmas.List.{take_more, take_all}
-use Rattle.ghc_term.specs.declared.var_name.VarName.{VarName}
-use Rattle.ghc_depend.specs.Depend.{Binds}
 use Rattle.ghc_depend.proofs.Causes.{IsLeastOf, least_passed, least_taken, least_is, least_none}
 use Rattle.ghc_depend.proofs.cause.least_read.Goals as goal
 use Rattle.ghc_depend.proofs.cause.least_read.Goals.{then-binds, else-binds}

@@ -1,5 +1,4 @@
-use Rattle.std.proofs.Common.{take}
-use Rattle.ghc_depend.specs.Depend.{Binds}
+use Rattle.ghc_depend.proofs.Words.{take, Binds}
 use Rattle.ghc_depend.proofs.Causes.{IsLeastOf}
 use Rattle.ghc_depend.proofs.cause.least_read.Given as goal
 

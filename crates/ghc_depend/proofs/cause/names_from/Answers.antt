@@ -1,9 +1,4 @@
-use Rattle.std.proofs.Common.{◌≡◌, ◌≢◌, true, false, refl, sym, ap, ◌∙◌, subst, arith}
-use Rattle.std.proofs.lemmas.List.{take_all}
-use Rattle.ghc_term.specs.Lists.{In}
-use Rattle.ghc_term.proofs.Members.{one_more_member, In_at}
-use Rattle.ghc_fire.specs.Asked.{variables_asked}
-use Rattle.ghc_depend.specs.Depend.{MakesVariable}
+use Rattle.ghc_depend.proofs.Words.{◌≡◌, ◌≢◌, true, false, refl, sym, ap, ◌∙◌, subst, arith, take_all, In, one_more_member, In_at, variables_asked, MakesVariable}
 use Rattle.ghc_depend.proofs.cause.names_from.Goals as goal
 
 pub returns-then-names : goal.returns-then-names

@@ -1,7 +1,4 @@
-use Rattle.std.proofs.Common.{◌≢◌, take}
-use Rattle.ghc_term.specs.declared.var_name.VarName.{VarName}
-use Rattle.ghc_term.specs.Lists.{In}
-use Rattle.ghc_depend.specs.Depend.{MakesVariable}
+use Rattle.ghc_depend.proofs.Words.{◌≢◌, take, VarName, In, MakesVariable}
 use Rattle.ghc_depend.proofs.cause.names_from.Given as goal
 
 abbrev pub invariant-loop-x : goal.invariant-loop-x

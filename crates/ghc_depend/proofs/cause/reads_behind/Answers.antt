@@ -1,12 +1,5 @@
-use Rattle.std.proofs.Common.{◌≡◌, true, false, refl, sym, ap, ◌∙◌, subst, arith}
+use Rattle.ghc_depend.proofs.Words.{◌≡◌, true, false, refl, sym, ap, ◌∙◌, subst, arith, take_all, In, one_more_member, In_at, has_member, is_member, Record, StandsIn, IsBoundBehind}
 use Rattle.std.specs.FinSet as set
-use Rattle.std.proofs.lemmas.List.{take_all}
-use Rattle.ghc_term.specs.Lists.{In}
-use Rattle.ghc_term.proofs.Members.{one_more_member, In_at, has_member}
-use Rattle.ghc_term.proofs.SetsLemmas.{is_member}
-use Rattle.ghc_records.specs.Record.{Record}
-use Rattle.ghc_records.specs.Slots.{StandsIn}
-use Rattle.ghc_depend.specs.Cause.{IsBoundBehind}
 use Rattle.ghc_depend.proofs.cause.reads_behind.Goals as goal
 
 pub returns-then-is_bound_behind : goal.returns-then-is_bound_behind

@@ -1,10 +1,5 @@
-use Rattle.std.proofs.Common.{◌≡◌, true, false, refl, sym, ap, ◌∙◌, subst, arith}
+use Rattle.ghc_depend.proofs.Words.{◌≡◌, true, false, refl, sym, ap, ◌∙◌, subst, arith, take_all, In, one_more_member, In_at, has_member, is_member, Binds}
 use Rattle.std.specs.FinSet as set
-use Rattle.std.proofs.lemmas.List.{take_all}
-use Rattle.ghc_term.specs.Lists.{In}
-use Rattle.ghc_term.proofs.Members.{one_more_member, In_at, has_member}
-use Rattle.ghc_term.proofs.SetsLemmas.{is_member}
-use Rattle.ghc_depend.specs.Depend.{Binds}
 use Rattle.ghc_depend.proofs.cause.reads_from.Goals as goal
 
 pub returns-then-binds : goal.returns-then-binds

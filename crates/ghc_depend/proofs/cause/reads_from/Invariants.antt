@@ -1,7 +1,4 @@
-use Rattle.std.proofs.Common.{take}
-use Rattle.ghc_term.specs.declared.var_name.VarName.{VarName}
-use Rattle.ghc_term.specs.Lists.{In}
-use Rattle.ghc_depend.specs.Depend.{Binds}
+use Rattle.ghc_depend.proofs.Words.{take, VarName, In, Binds}
 use Rattle.ghc_depend.proofs.cause.reads_from.Given as goal
 
 abbrev pub invariant-loop-x : goal.invariant-loop-x

@@ -1,7 +1,5 @@
-use Rattle.std.proofs.Common.{◌≡◌, true, false, refl, sym, ap, ◌∙◌}
+use Rattle.ghc_depend.proofs.Words.{◌≡◌, true, false, refl, sym, ap, ◌∙◌, ltb-true, lt-ltb, rank, rank_less, less_rank, ranked, ranked_at, some_of}
 use Rattle.std.specs.Prelude.{option_copied}
-use Rattle.std.proofs.lemmas.Bool.{ltb-true, lt-ltb}
-use Rattle.ghc_records.proofs.SlotRanks.{rank, rank_less, less_rank, ranked, ranked_at, some_of}
 use Rattle.ghc_depend.proofs.Causes.{kept_at, before_none, before_other, was_there, place_there}
 use Rattle.ghc_depend.proofs.cause.was_there_before.Goals as goal
 

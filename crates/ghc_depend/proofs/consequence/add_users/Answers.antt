@@ -1,10 +1,4 @@
-use Rattle.std.proofs.Common.{◌≡◌, ℕ, [], ◌∷◌, ◌++◌, take, get_or, sym, subst}
-use Rattle.std.specs.Prelude.{◌↔◌}
-use Rattle.std.proofs.lemmas.List.{take_more, take_all}
-use Rattle.ghc_term.specs.Lists.{In}
-use Rattle.ghc_records.specs.Orders.{AreDistinct}
-use Rattle.ghc_records.specs.Record.{Record, numbers}
-use Rattle.ghc_records.specs.UseIndex.{StepDependsOn}
+use Rattle.ghc_depend.proofs.Words.{◌≡◌, ℕ, [], ◌∷◌, ◌++◌, take, get_or, sym, subst, ◌↔◌, take_more, take_all, In, AreDistinct, Record, numbers, StepDependsOn}
 use Rattle.ghc_depend.proofs.Ahead.{HasPlacesOf, places_still, places_more, places_all}
 use Rattle.ghc_depend.proofs.consequence.add_users.Goals.{in-Some+in-Ok, in_default}
 use Rattle.ghc_depend.proofs.consequence.add_users.Goals as goal

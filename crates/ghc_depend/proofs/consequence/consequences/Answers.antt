@@ -1,15 +1,5 @@
-use Rattle.std.proofs.Common.{◌≡◌, ℕ, ◌+◌, ◌<◌, ◌⊎◌, true, false, List, [], ◌∷◌, ◌++◌, length, map, Result, Ok, Err, refl, sym, ap, ◌∙◌, subst, inl, inr, arith, length-append}
-use Rattle.std.specs.Prelude.{◌↔◌}
-use Rattle.std.specs.Option.{option_copied}
-use Rattle.std.specs.Result.{OnErr}
-use Rattle.ghc_term.specs.Lists.{In}
-use Rattle.ghc_records.specs.Orders.{AreDistinct}
-use Rattle.ghc_records.specs.Record.{Record, numbers}
-use Rattle.ghc_records.specs.Slots.{held_in}
-use Rattle.ghc_records.proofs.SlotLemmas.{stands_held}
-use Rattle.ghc_records.proofs.SlotRanks.{rank, rank_stands, some_of}
-use Rattle.ghc_depend.specs.Depend.{IsKeptAs, AreConsequencesOf}
-use Rattle.ghc_depend.specs.Places.{IsPlaceOfUser}
+use Rattle.ghc_depend.proofs.Words.{◌≡◌, ℕ, ◌+◌, ◌<◌, ◌⊎◌, true, false, List, [], ◌∷◌, ◌++◌, length, map, Result, Ok, Err, refl, sym, ap, ◌∙◌, subst, inl, inr, arith, ◌↔◌, option_copied, OnErr, In, AreDistinct, Record, numbers, held_in, stands_held, rank, rank_stands, some_of, IsKeptAs, AreConsequencesOf, IsPlaceOfUser}
+use Rattle.std.proofs.Common.{length-append}
 use Rattle.ghc_depend.proofs.Ahead.{IsGathered, users_ranked, behind_ranked, gather_begin, gather_next, gather_fewer, gather_end, all_behind}
 use Rattle.ghc_depend.proofs.consequence.consequences.Goals as goal
 

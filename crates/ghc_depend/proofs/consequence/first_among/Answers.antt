@@ -1,9 +1,4 @@
-use Rattle.std.proofs.Common.{◌≡◌, take, get_or, Some, sym, subst}
-use Rattle.std.proofs.lemmas.List.{take_more, take_all}
-use Rattle.ghc_term.specs.Lists.{In}
-use Rattle.ghc_records.specs.Orders.{AreDistinct}
-use Rattle.ghc_records.specs.Record.{Record, numbers}
-use Rattle.ghc_depend.specs.Places.{IsFirstAmong}
+use Rattle.ghc_depend.proofs.Words.{◌≡◌, take, get_or, Some, sym, subst, take_more, take_all, In, AreDistinct, Record, numbers, IsFirstAmong}
 use Rattle.ghc_depend.proofs.FirstPlace.{first_still, first_more}
 use Rattle.ghc_depend.proofs.consequence.first_among.Goals.{in-Some, in_default}
 use Rattle.ghc_depend.proofs.consequence.first_among.Goals as goal

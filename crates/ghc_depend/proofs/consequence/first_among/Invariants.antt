@@ -1,5 +1,4 @@
-use Rattle.std.proofs.Common.{take}
-use Rattle.ghc_depend.specs.Places.{IsFirstAmong}
+use Rattle.ghc_depend.proofs.Words.{take, IsFirstAmong}
 use Rattle.ghc_depend.proofs.consequence.first_among.Given as goal
 
 abbrev pub invariant-loop-n : goal.invariant-loop-n

@@ -1,6 +1,4 @@
-use Rattle.std.proofs.Common.{get_or, subst, arith}
-use Rattle.std.proofs.lemmas.Option.{slice_get-get_or}
-use Rattle.ghc_depend.specs.Lawful.{IsNoFurther}
+use Rattle.ghc_depend.proofs.Words.{get_or, subst, arith, slice_get-get_or, IsNoFurther}
 use Rattle.ghc_depend.proofs.InTime.{none_in_front_more, none_in_front_all}
 use Rattle.ghc_depend.proofs.lawful_order.count_in_time.Goals as goal
 

@@ -1,7 +1,5 @@
-use Rattle.std.proofs.Common.{◌≡◌, sym, ap, ◌∙◌, subst, arith}
-use Rattle.std.specs.Prelude.{Some, option_copied}
-use Rattle.ghc_records.proofs.SlotRanks.{rank, rank_less, ranked, ranked_at, some_of}
-use Rattle.ghc_depend.specs.Lawful.{StandsBehind, IsInTime}
+use Rattle.ghc_depend.proofs.Words.{◌≡◌, sym, ap, ◌∙◌, subst, arith, Some, rank, rank_less, ranked, ranked_at, some_of, StandsBehind, IsInTime}
+use Rattle.std.specs.Prelude.{option_copied}
 use Rattle.ghc_depend.proofs.Causes.{kept_at}
 use Rattle.ghc_depend.proofs.InTime.{NoneNeeded, not_kept_in_time, none_needed_more, none_ranked, first_step, no_step}
 use Rattle.ghc_depend.proofs.lawful_order.first_needed.Goals as goal

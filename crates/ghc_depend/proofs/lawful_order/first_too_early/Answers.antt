@@ -1,7 +1,4 @@
-use Rattle.std.proofs.Common.{get_or, sym, ap, ◌∙◌, subst, arith}
-use Rattle.std.specs.Prelude.{Some}
-use Rattle.std.proofs.lemmas.Option.{slice_get-get_or}
-use Rattle.ghc_depend.specs.Lawful.{IsInTime, IsFirstNeeded}
+use Rattle.ghc_depend.proofs.Words.{get_or, sym, ap, ◌∙◌, subst, arith, Some, slice_get-get_or, IsInTime, IsFirstNeeded}
 use Rattle.ghc_depend.proofs.InTime.{time_next, all_in_time, is_too_early}
 use Rattle.ghc_depend.proofs.lawful_order.first_too_early.Goals as goal
 

@@ -1,6 +1,4 @@
-use Rattle.std.proofs.Common.{take, get_or, sym, subst}
-use Rattle.std.proofs.lemmas.List.{take_more, take_all}
-use Rattle.ghc_term.specs.Lists.{In}
+use Rattle.ghc_depend.proofs.Words.{take, get_or, sym, subst, take_more, take_all, In}
 use Rattle.ghc_depend.proofs.InTime.{AreNoFurther, no_further_more}
 use Rattle.ghc_depend.proofs.lawful_order.first_user.Goals as goal
 

@@ -1,6 +1,4 @@
-use Rattle.std.proofs.Common.{refl, subst, subst₂, inl, inr}
-use Rattle.ghc_term.specs.Lists.{In}
-use Rattle.ghc_depend.specs.Lawful.{IsOrderOf, IsFirstMissing, IsUnlawful, wrong, missing, too_early}
+use Rattle.ghc_depend.proofs.Words.{refl, subst, subst₂, inl, inr, In, IsOrderOf, IsFirstMissing, IsUnlawful, wrong, missing, too_early}
 use Rattle.ghc_depend.proofs.lawful_order.lawful.Goals as goal
 
 pub returns-in-Err-clause-fault : goal.returns-in-Err-clause-fault

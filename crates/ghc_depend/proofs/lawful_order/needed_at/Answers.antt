@@ -1,10 +1,4 @@
-use Rattle.std.proofs.Common.{◌≡◌, true, false, sym, ap, ◌∙◌, subst, refl}
-use Rattle.std.specs.Prelude.{Some, None}
-use Rattle.std.specs.Option.{option_copied}
-use Rattle.ghc_records.specs.Record.{Record}
-use Rattle.ghc_records.proofs.SlotPlaces.{one_record}
-use Rattle.ghc_depend.specs.Depend.{Uses}
-use Rattle.ghc_depend.specs.Lawful.{StandsBehind}
+use Rattle.ghc_depend.proofs.Words.{◌≡◌, true, false, sym, ap, ◌∙◌, subst, refl, Some, None, option_copied, Record, one_record, Uses, StandsBehind}
 use Rattle.ghc_depend.proofs.lawful_order.needed_at.Goals.{else-stands_behind-via-then-stands_behind+else-uses, else-stands_behind-via-else-stands_behind}
 use Rattle.ghc_depend.proofs.lawful_order.needed_at.Goals as goal
 

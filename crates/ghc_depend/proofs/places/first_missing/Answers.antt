@@ -1,9 +1,4 @@
-use Rattle.std.proofs.Common.{◌≡◌, sym, ap, subst, arith}
-use Rattle.ghc_term.specs.Lists.{In}
-use Rattle.ghc_records.specs.Record.{numbers}
-use Rattle.ghc_records.specs.Slots.{held_in}
-use Rattle.ghc_records.proofs.SlotRanks.{rank, rank_stands}
-use Rattle.ghc_depend.specs.Lawful.{IsFirstMissing}
+use Rattle.ghc_depend.proofs.Words.{◌≡◌, sym, ap, subst, arith, In, numbers, held_in, rank, rank_stands, IsFirstMissing}
 use Rattle.ghc_depend.proofs.OrderWalks.{slots_next, have_ranked, is_missing, all_slots, none_missing}
 use Rattle.ghc_depend.proofs.places.first_missing.Goals as goal
 

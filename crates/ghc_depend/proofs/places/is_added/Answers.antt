@@ -1,6 +1,5 @@
-use Rattle.std.proofs.Common.{inl, inr}
-use Rattle.ghc_records.proofs.OrderLemmas.{number_in, number_of}
-use Rattle.ghc_depend.proofs.OrderWalks.{number_any, not_any, when_new, when_old}
+use Rattle.ghc_depend.proofs.Words.{inl, inr, number_in, number_of, number_any}
+use Rattle.ghc_depend.proofs.OrderWalks.{not_any, when_new, when_old}
 use Rattle.ghc_depend.proofs.places.is_added.Goals as goal
 
 pub returns-in_default-clause-wrong : goal.returns-in_default-clause-wrong

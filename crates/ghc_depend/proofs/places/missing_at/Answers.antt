@@ -1,10 +1,5 @@
-use Rattle.std.proofs.Common.{◌≡◌, sym, ap, ◌∙◌, subst, refl}
-use Rattle.std.specs.Prelude.{Some, None}
-use Rattle.std.specs.Option.{option_copied}
-use Rattle.ghc_term.specs.Lists.{In}
-use Rattle.ghc_records.specs.Record.{Record}
-use Rattle.ghc_records.proofs.SlotPlaces.{one_record}
-use Rattle.ghc_depend.proofs.OrderWalks.{number_any, not_any}
+use Rattle.ghc_depend.proofs.Words.{◌≡◌, sym, ap, ◌∙◌, subst, refl, Some, None, option_copied, In, Record, one_record, number_any}
+use Rattle.ghc_depend.proofs.OrderWalks.{not_any}
 use Rattle.ghc_depend.proofs.places.missing_at.Goals as goal
 
 pub returns-in_default-clause-none : goal.returns-in_default-clause-none

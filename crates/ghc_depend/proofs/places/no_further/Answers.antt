@@ -1,5 +1,4 @@
-use Rattle.std.proofs.Common.{sym, arith}
-use Rattle.ghc_term.proofs.ListsLemmas.{in_at}
+use Rattle.ghc_depend.proofs.Words.{sym, arith, in_at}
 use Rattle.ghc_depend.proofs.OrderWalks.{not_any, one_place, place_found}
 use Rattle.ghc_depend.proofs.places.no_further.Goals as goal
 

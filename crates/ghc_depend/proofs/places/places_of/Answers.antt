@@ -1,7 +1,4 @@
-use Rattle.std.proofs.Common.{◌++◌, ◌∷◌, [], get_or, refl, sym, ap, ◌∙◌, subst, inl, inr, arith}
-use Rattle.std.proofs.lemmas.List.{take_all}
-use Rattle.std.proofs.lemmas.Option.{slice_get-get_or}
-use Rattle.ghc_term.specs.Lists.{In}
+use Rattle.ghc_depend.proofs.Words.{◌++◌, ◌∷◌, [], get_or, refl, sym, ap, ◌∙◌, subst, inl, inr, arith, take_all, slice_get-get_or, In}
 use Rattle.ghc_depend.proofs.Causes.{at_split}
 use Rattle.ghc_depend.proofs.OrderWalks.{first_unkept, next_of_kept, is_wrong}
 use Rattle.ghc_depend.proofs.places.places_of.Goals as goal

@@ -1,5 +1,4 @@
-use Rattle.std.proofs.Common.{◌≡◌, take}
-use Rattle.ghc_depend.specs.Lawful.{IsOfKept}
+use Rattle.ghc_depend.proofs.Words.{◌≡◌, take, IsOfKept}
 use Rattle.ghc_depend.proofs.places.places_of.Given as goal
 
 abbrev pub invariant-loop-number : goal.invariant-loop-number

@@ -1,6 +1,4 @@
-use Rattle.std.proofs.Common.{◌≡◌, ◌<◌, true, false, sym, subst}
-use Rattle.std.proofs.lemmas.Bool.{ltb-true, lt-ltb}
-use Rattle.ghc_term.proofs.ListsLemmas.{in_at}
+use Rattle.ghc_depend.proofs.Words.{◌≡◌, ◌<◌, true, false, sym, subst, ltb-true, lt-ltb, in_at}
 use Rattle.ghc_depend.proofs.OrderWalks.{not_any, one_place, place_found}
 use Rattle.ghc_depend.proofs.places.stands_behind.Goals as goal
 

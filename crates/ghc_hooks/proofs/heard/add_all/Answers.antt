@@ -1,9 +1,4 @@
-use Rattle.std.proofs.Common.{take, get_or, sym, subst}
-use Rattle.std.proofs.lemmas.List.{take_more}
-use Rattle.ghc_term.specs.declared.var_name.VarName.{VarName}
-use Rattle.ghc_term.specs.Lists.{In}
-use Rattle.ghc_match.specs.Meeting.{Gains}
-use Rattle.ghc_fire.proofs.Gathered.{gains_one}
+use Rattle.ghc_hooks.proofs.Words.{take, get_or, sym, subst, take_more, VarName, In, Gains, gains_one}
 use Rattle.ghc_hooks.proofs.heard.add_all.Goals as goal
 
 pub loop-name-preserved : goal.loop-name-preserved

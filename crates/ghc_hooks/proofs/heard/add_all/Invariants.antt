@@ -1,6 +1,4 @@
-use Rattle.std.proofs.Common.{take}
-use Rattle.ghc_term.specs.Lists.{In}
-use Rattle.ghc_match.specs.Meeting.{Gains}
+use Rattle.ghc_hooks.proofs.Words.{take, In, Gains}
 use Rattle.ghc_hooks.proofs.heard.add_all.Given as goal
 
 abbrev pub invariant-loop-name : goal.invariant-loop-name

@@ -1,6 +1,5 @@
-use Rattle.std.proofs.Common.{◌≡◌, rules}
+use Rattle.ghc_hooks.proofs.Words.{◌≡◌, rules, on_ok_weaker}
 use Rattle.std.specs.FinSet as set
-use Rattle.std.proofs.lemmas.Result.{on_ok_weaker}
 use Rattle.ghc_hooks.proofs.Hearing.{taken_over, members_added}
 use Rattle.ghc_hooks.proofs.heard.join.Goals as goal
 

@@ -1,7 +1,4 @@
-use Rattle.std.proofs.Common.{◌≡◌, ◌∙◌, sym}
-use Rattle.std.specs.Prelude.{Some, None}
-use Rattle.ghc_term.specs.Tree.{Tree, IsClosed}
-use Rattle.ghc_term.specs.Store.{value_at}
+use Rattle.ghc_hooks.proofs.Words.{◌≡◌, ◌∙◌, sym, Some, None, Tree, IsClosed, value_at}
 use Rattle.ghc_hooks.proofs.AtOnce.{gains_one, shut_value}
 use Rattle.ghc_hooks.proofs.reached.add_leaf.Goals as goal
 use Rattle.ghc_hooks.proofs.reached.add_leaf.Goals.{in-Some+else-not-is_closed, in_default-get}

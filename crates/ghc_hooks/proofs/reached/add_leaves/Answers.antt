@@ -1,7 +1,4 @@
-use Rattle.std.proofs.Common.{subst}
-use Rattle.ghc_term.specs.Bindings.{Reaches}
-use Rattle.ghc_term.specs.Store.{value_at}
-use Rattle.ghc_match.specs.Meeting.{Gains}
+use Rattle.ghc_hooks.proofs.Words.{subst, Reaches, value_at, Gains}
 use Rattle.ghc_hooks.proofs.AtOnce.{gains_next}
 use Rattle.ghc_hooks.proofs.reached.add_leaves.Goals as goal
 

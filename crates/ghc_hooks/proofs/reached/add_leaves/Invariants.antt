@@ -1,7 +1,4 @@
-use Rattle.std.proofs.Common.{take}
-use Rattle.ghc_term.specs.Store.{value_at}
-use Rattle.ghc_match.specs.Meeting.{Gains}
-use Rattle.ghc_hooks.specs.Reached.{OneReaches}
+use Rattle.ghc_hooks.proofs.Words.{take, value_at, Gains, OneReaches}
 use Rattle.ghc_hooks.proofs.reached.add_leaves.Given as goal
 
 abbrev pub invariant-loop-term : goal.invariant-loop-term

@@ -1,7 +1,4 @@
-use Rattle.std.proofs.Common.{◌≡◌, ◌++◌, map}
-use Rattle.std.specs.Prelude.{reverse}
-use Rattle.ghc_hooks.specs.Reached.{leaves}
-use Rattle.ghc_match.proofs.PushLeaves.{parts}
+use Rattle.ghc_hooks.proofs.Words.{◌≡◌, ◌++◌, map, reverse, leaves, parts}
 use Rattle.ghc_hooks.proofs.Leaves.{all_leaves}
 use Rattle.ghc_hooks.proofs.reached.push_leaves.Given as goal
 

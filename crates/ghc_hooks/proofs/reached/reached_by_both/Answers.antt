@@ -1,6 +1,4 @@
-use Rattle.std.specs.Prelude.{◌⊎◌}
-use Rattle.ghc_term.specs.Bindings.{Reaches}
-use Rattle.ghc_term.specs.Store.{value_at}
+use Rattle.ghc_hooks.proofs.Words.{◌⊎◌, Reaches, value_at}
 use Rattle.ghc_hooks.proofs.AtOnce.{all_gained}
 use Rattle.ghc_hooks.proofs.reached.reached_by_both.Goals as goal
 

@@ -1,8 +1,4 @@
-use Rattle.std.proofs.Common.{◌≡◌, ◌<◌, [], map, subst}
-use Rattle.std.specs.Borrow.{Bor}
-use Rattle.ghc_term.specs.Tree.{Tree}
-use Rattle.ghc_term.specs.Store.{value_at}
-use Rattle.ghc_term.proofs.Searching.{sizes, popped, falls_away, unfold_falls, nothing_open}
+use Rattle.ghc_hooks.proofs.Words.{◌≡◌, ◌<◌, [], map, subst, Bor, Tree, value_at, sizes, popped, falls_away, unfold_falls, nothing_open}
 use Rattle.ghc_hooks.proofs.Reaching.{Reaching, started, skips, unfolds, takes_up, takes_up_falls, finished}
 use Rattle.ghc_hooks.proofs.reached.reached_from.Goals as goal
 

@@ -1,6 +1,4 @@
-use Rattle.std.proofs.Common.{map}
-use Rattle.ghc_term.specs.Store.{value_at}
-use Rattle.ghc_term.proofs.Searching.{sizes}
+use Rattle.ghc_hooks.proofs.Words.{map, value_at, sizes}
 use Rattle.ghc_hooks.proofs.Reaching.{Reaching}
 use Rattle.ghc_hooks.proofs.reached.reached_from.Given as goal
 

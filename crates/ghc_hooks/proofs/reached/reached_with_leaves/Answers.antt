@@ -1,7 +1,4 @@
-use Rattle.std.proofs.Common.{◌≡◌, ◌∷◌, map, rules}
-use Rattle.std.proofs.lemmas.Result.{IfOk-weaker}
-use Rattle.ghc_term.specs.Store.{value_at}
-use Rattle.ghc_hooks.specs.Reached.{leaves}
+use Rattle.ghc_hooks.proofs.Words.{◌≡◌, ◌∷◌, map, rules, IfOk-weaker, value_at, leaves}
 use Rattle.ghc_hooks.proofs.Reaching.{with_leaves}
 use Rattle.ghc_hooks.proofs.reached.reached_with_leaves.Goals as goal
 

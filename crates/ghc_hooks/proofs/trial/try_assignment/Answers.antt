@@ -1,14 +1,6 @@
-use Rattle.std.proofs.Common.{◌≡◌, [], rules, ap, ◌∙◌, subst}
-use Rattle.std.specs.Prelude.{MatchOption}
-use Rattle.std.proofs.lemmas.Int.{to_z-of_z}
+use Rattle.ghc_hooks.proofs.Words.{◌≡◌, [], rules, ap, ◌∙◌, subst, MatchOption, to_z-of_z, Variables, StoreValue, value_at, integer, HasValue, value_of, Unifies, UnifyFails}
 use mir.Val.{SFits}
 use mir.Syntax.{w64}
-use Rattle.ghc_term.specs.Sets.{Variables}
-use Rattle.ghc_term.specs.Store.{StoreValue, value_at}
-use Rattle.ghc_term.specs.Tree.{integer}
-use Rattle.ghc_match.specs.Value.{HasValue}
-use Rattle.ghc_match.specs.Told.{value_of}
-use Rattle.ghc_unify.specs.Unify.{Unifies, UnifyFails}
 use Rattle.ghc_hooks.proofs.Trying.{wanted_is_looked_at, waiting_note, bad_note, assigned_note, unassigned_note}
 use Rattle.ghc_hooks.proofs.trial.try_assignment.Goals as goal
 

@@ -1,9 +1,4 @@
-use Rattle.std.proofs.Common.{◌≤◌, length, take, take_all, slice_index_or, refl, subst, arith}
-use Rattle.std.proofs.lemmas.Option.{MatchOption-at_some}
-use Rattle.ghc_term.specs.Store.{value_at}
-use Rattle.ghc_term.proofs.ListsLemmas.{in_at}
-use Rattle.ghc_flat.specs.Clause.{IsClause}
-use Rattle.ghc_fire.proofs.Calling.{numbered_for, take_number, some_there}
+use Rattle.ghc_hooks.proofs.Words.{◌≤◌, length, take, take_all, slice_index_or, refl, subst, arith, MatchOption-at_some, value_at, in_at, IsClause, numbered_for, take_number, some_there}
 use Rattle.ghc_hooks.proofs.Hearing.{IsHeard, heard_nothing, heard_more}
 use Rattle.ghc_hooks.proofs.Trying.{awaited_is_looked_at, heard_note}
 use Rattle.ghc_hooks.proofs.trial.try_call.Goals as goal

@@ -1,5 +1,4 @@
-use Rattle.std.proofs.Common.{take}
-use Rattle.ghc_term.specs.Store.{value_at}
+use Rattle.ghc_hooks.proofs.Words.{take, value_at}
 use Rattle.ghc_hooks.proofs.Hearing.{IsHeard}
 use Rattle.ghc_hooks.proofs.trial.try_call.Given as goal
 

@@ -1,8 +1,4 @@
-use Rattle.std.proofs.Common.{subst}
-use Rattle.std.specs.Prelude.{MatchOption}
-use Rattle.ghc_term.specs.Sets.{Variables}
-use Rattle.ghc_term.specs.Store.{StoreValue, value_at}
-use Rattle.ghc_unify.specs.Unify.{Unifies, UnifyFails}
+use Rattle.ghc_hooks.proofs.Words.{subst, MatchOption, Variables, StoreValue, value_at, Unifies, UnifyFails}
 use Rattle.ghc_hooks.proofs.Trying.{united_note, apart_note}
 use Rattle.ghc_hooks.proofs.trial.try_unification.Goals as goal
 

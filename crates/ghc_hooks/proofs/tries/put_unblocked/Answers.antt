@@ -1,6 +1,4 @@
-use Rattle.std.proofs.Common.{◌≡◌, ◌∙◌, sym, ap}
-use Rattle.ghc_hooks.specs.Status.{ready, waiting, failed}
-use Rattle.ghc_hooks.specs.Verdict.{status_of}
+use Rattle.ghc_hooks.proofs.Words.{◌≡◌, ◌∙◌, sym, ap, ready, waiting, failed, status_of}
 use Rattle.ghc_hooks.proofs.Unblocking.{put_in, left_out}
 use Rattle.ghc_hooks.proofs.tries.put_unblocked.Goals as goal
 

@@ -1,6 +1,4 @@
-use Rattle.std.proofs.Common.{◌+◌, get_or, sym, subst, arith}
-use Rattle.std.proofs.lemmas.List.{drop_more}
-use Rattle.ghc_fire.specs.Instance.{made}
+use Rattle.ghc_records.proofs.Words.{◌+◌, get_or, sym, subst, arith, drop_more, made}
 use Rattle.ghc_records.proofs.AskingLines.{AreMade, counted, out_of_order, passed}
 use Rattle.ghc_records.proofs.asking_reading.are_in_order.Goals as goal
 use Rattle.ghc_records.proofs.asking_reading.are_in_order.Goals.{then-variable-step+else-from-place, else-variable-step}

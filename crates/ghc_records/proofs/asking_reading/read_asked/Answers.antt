@@ -1,7 +1,4 @@
-use Rattle.std.proofs.Common.{◌≡◌, List, true, false, IfSome, IfNone, sym, ap, ◌∙◌, subst}
-use Rattle.ghc_term.specs.Goal.{Goal}
-use Rattle.ghc_fire.specs.declared.act.Act.TheVariants.{Asked as asks}
-use Rattle.ghc_records.specs.EntryText.{AreNewInOrder, SaysGoals}
+use Rattle.ghc_records.proofs.Words.{◌≡◌, List, true, false, IfSome, IfNone, sym, ap, ◌∙◌, subst, Goal, Asked as asks, AreNewInOrder, SaysGoals}
 use Rattle.ghc_records.proofs.AskingLines.{in_order_of, new_in_order}
 use Rattle.ghc_records.proofs.asking_reading.read_asked.Goals as goal
 

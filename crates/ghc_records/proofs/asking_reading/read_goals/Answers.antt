@@ -1,6 +1,4 @@
-use Rattle.std.proofs.Common.{sym, ap, ◌∙◌}
-use Rattle.std.specs.Prelude.{is_some}
-use Rattle.std.specs.List.{list_all}
+use Rattle.ghc_records.proofs.Words.{sym, ap, ◌∙◌, is_some, list_all}
 use Rattle.ghc_records.proofs.AskingLines.{all_named, none_read, one_unnamed, same_goals, unnamed_read}
 use Rattle.ghc_records.proofs.asking_reading.read_goals.Goals as goal
 

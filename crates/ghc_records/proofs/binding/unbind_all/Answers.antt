@@ -1,5 +1,4 @@
-use Rattle.std.proofs.Common.{◌+◌, drop, get_or, sym, ap, ◌∙◌, subst}
-use Rattle.std.proofs.lemmas.List.{drop_all, drop_more}
+use Rattle.ghc_records.proofs.Words.{◌+◌, drop, get_or, sym, ap, ◌∙◌, subst, drop_all, drop_more}
 use Rattle.std.specs.FinMap as finite
 use Rattle.ghc_records.proofs.Bound.{IsUnbound, unbind_begin, unbind_next}
 use Rattle.ghc_records.proofs.binding.unbind_all.Goals as goal

@@ -1,5 +1,4 @@
-use Rattle.std.proofs.Common.{subst}
-use Rattle.ghc_records.specs.ChronicleText.{TellsChronicle}
+use Rattle.ghc_records.proofs.Words.{subst, TellsChronicle}
 use Rattle.ghc_records.proofs.CutChronicles.{chronicle_refused}
 use Rattle.ghc_records.proofs.chronicle_laws.cut_chronicles_are_refused.Goals as goal
 

@@ -1,7 +1,4 @@
-use Rattle.std.proofs.Common.{◌≡◌, ℕ, List, Ok}
-use Rattle.ghc_term.specs.Tree.{Tree}
-use Rattle.ghc_reader.specs.Read.{IsReadBody, IsReadTerm}
-use Rattle.ghc_reader.specs.WrittenAsk.{WrittenAsk}
+use Rattle.ghc_records.proofs.Words.{◌≡◌, ℕ, List, Ok, Tree, IsReadBody, IsReadTerm, WrittenAsk}
 use Rattle.ghc_records.proofs.OneChronicle.{never_wrong, one_chronicle}
 use Rattle.ghc_records.proofs.chronicle_laws.texts_tell_one_chronicle.Goals as goal
 

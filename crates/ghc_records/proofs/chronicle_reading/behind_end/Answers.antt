@@ -1,6 +1,4 @@
-use Rattle.std.proofs.Common.{arith}
-use Rattle.std.specs.Prelude.{codes}
-use Rattle.ghc_records.specs.HistoryText.{pieces_of}
+use Rattle.ghc_records.proofs.Words.{arith, codes, pieces_of}
 use Rattle.ghc_records.proofs.ChronicleTold.{other_end}
 use Rattle.ghc_records.proofs.SectionParts.{fronted, unfronted}
 use Rattle.ghc_records.proofs.chronicle_reading.behind_end.Goals as goal

@@ -1,10 +1,4 @@
-use Rattle.std.proofs.Common.{◌+◌, map, refl}
-use Rattle.std.specs.Prelude.{codes}
-use Rattle.ghc_records.specs.HistoryText.{pieces_of}
-use Rattle.ghc_records.specs.Chronicle.{AreInTurn, entry_limit}
-use Rattle.ghc_records.specs.EntryText.{SaysEntry}
-use Rattle.ghc_records.specs.ChronicleText.{entries_line}
-use Rattle.ghc_records.specs.WrittenEntryCode.{said_by}
+use Rattle.ghc_records.proofs.Words.{◌+◌, map, refl, codes, pieces_of, AreInTurn, entry_limit, SaysEntry, entries_line, said_by}
 use Rattle.ghc_records.proofs.SectionParts.{fronted, section_rest, section_told, unfronted, wrong_first, wrong_line}
 use Rattle.ghc_records.proofs.chronicle_reading.entries_of.Goals as goal
 

@@ -1,6 +1,4 @@
-use Rattle.std.proofs.Common.{◌≡◌, ◌+◌, length, inl, inr, refl, sym, subst}
-use Rattle.ghc_records.specs.HistoryText.{pieces_of}
-use Rattle.ghc_records.specs.ChronicleText.{TellsOpening, behind_lines, no_heading}
+use Rattle.ghc_records.proofs.Words.{◌≡◌, ◌+◌, length, inl, inr, refl, sym, subst, pieces_of, TellsOpening, behind_lines, no_heading}
 use Rattle.ghc_records.proofs.ChronicleTold.{opening_rest, opening_told, wrong_opening, wrong_step}
 use Rattle.ghc_records.proofs.chronicle_reading.open.Goals as goal
 

@@ -1,12 +1,4 @@
-use Rattle.std.proofs.Common.{◌≡◌, ◌+◌, length, map, ap, inl, inr, subst, arith, rules}
-use Rattle.std.proofs.lemmas.List.{length-map}
-use Rattle.ghc_term.specs.declared.fault.Fault.{Fault}
-use Rattle.ghc_records.specs.HistoryText.{pieces_of}
-use Rattle.ghc_records.specs.Sections.{IsFirstWrongOf}
-use Rattle.ghc_records.specs.Chronicle.{AreInTurn, entry_limit}
-use Rattle.ghc_records.specs.EntryText.{SaysEntry}
-use Rattle.ghc_records.specs.ChronicleText.{entries_line, lines_to_end, lines_to_spies}
-use Rattle.ghc_records.specs.WrittenEntryCode.{said_by}
+use Rattle.ghc_records.proofs.Words.{◌≡◌, ◌+◌, length, map, ap, inl, inr, subst, arith, rules, length-map, Fault, pieces_of, IsFirstWrongOf, AreInTurn, entry_limit, SaysEntry, entries_line, lines_to_end, lines_to_spies, said_by}
 use Rattle.ghc_records.proofs.ChronicleTold.{chronicle_told, read_to_end, read_to_spies, wrong_end, wrong_entry, wrong_rest, wrong_spy}
 use Rattle.ghc_records.proofs.chronicle_reading.read_chronicle.Goals as goal
 

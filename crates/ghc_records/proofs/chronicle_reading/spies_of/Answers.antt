@@ -1,9 +1,4 @@
-use Rattle.std.proofs.Common.{◌+◌, refl}
-use Rattle.std.specs.Prelude.{codes}
-use Rattle.ghc_records.specs.HistoryText.{pieces_of}
-use Rattle.ghc_records.specs.Chronicle.{spy_limit}
-use Rattle.ghc_records.specs.Predicates.{GoTogether, SaysPredicate}
-use Rattle.ghc_records.specs.ChronicleText.{spies_line}
+use Rattle.ghc_records.proofs.Words.{◌+◌, refl, codes, pieces_of, spy_limit, GoTogether, SaysPredicate, spies_line}
 use Rattle.ghc_records.proofs.SectionParts.{fronted, section_rest, section_told, unfronted, wrong_first, wrong_line}
 use Rattle.ghc_records.proofs.chronicle_reading.spies_of.Goals as goal
 

@@ -1,5 +1,4 @@
-use Rattle.std.proofs.Common.{◌<◌, length, arith, string_bytes}
-use Rattle.ghc_records.specs.EntryText.{entry_text}
+use Rattle.ghc_records.proofs.Words.{◌<◌, length, arith, string_bytes, entry_text}
 use Rattle.ghc_records.proofs.ChronicleWritten.{line_put, there}
 use Rattle.ghc_records.proofs.chronicle_writing.write_entries.Goals as goal
 

@@ -1,7 +1,4 @@
-use Rattle.std.proofs.Common.{◌≡◌, ◌++◌, ◌∷◌, drop, length, map, string_bytes}
-use Rattle.ghc_records.specs.HistoryText.{lines_text}
-use Rattle.ghc_records.specs.EntryText.{entry_text}
-use Rattle.ghc_records.specs.ChronicleText.{entries_line}
+use Rattle.ghc_records.proofs.Words.{◌≡◌, ◌++◌, ◌∷◌, drop, length, map, string_bytes, lines_text, entry_text, entries_line}
 use Rattle.ghc_records.proofs.chronicle_writing.write_entries.Given as goal
 
 abbrev pub invariant-loop-place : goal.invariant-loop-place

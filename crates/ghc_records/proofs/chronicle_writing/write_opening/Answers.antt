@@ -1,6 +1,4 @@
-use Rattle.std.proofs.Common.{◌++◌, length, map, ap, ◌∙◌, decimal, string_bytes}
-use Rattle.ghc_records.specs.StepText.{step_text}
-use Rattle.ghc_records.specs.HistoryText.{lines_text}
+use Rattle.ghc_records.proofs.Words.{◌++◌, length, map, ap, ◌∙◌, decimal, string_bytes, step_text, lines_text}
 use Rattle.ghc_records.proofs.ChronicleWritten.{opening_written}
 use Rattle.ghc_records.proofs.chronicle_writing.write_opening.Goals as goal
 

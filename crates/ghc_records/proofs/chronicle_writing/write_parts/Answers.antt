@@ -1,8 +1,4 @@
-use Rattle.std.proofs.Common.{◌++◌, ◌∷◌, drop, length, map, ap, ◌∙◌, string_bytes}
-use Rattle.ghc_records.specs.HistoryText.{lines_text}
-use Rattle.ghc_records.specs.Chronicle.{chronicle_of}
-use Rattle.ghc_records.specs.EntryText.{entry_text}
-use Rattle.ghc_records.specs.ChronicleText.{entries_line}
+use Rattle.ghc_records.proofs.Words.{◌++◌, ◌∷◌, drop, length, map, ap, ◌∙◌, string_bytes, lines_text, chronicle_of, entry_text, entries_line}
 use Rattle.ghc_records.proofs.ChronicleWritten.{chronicle_written}
 use Rattle.ghc_records.proofs.chronicle_writing.write_parts.Goals as goal
 

@@ -1,7 +1,4 @@
-use Rattle.std.proofs.Common.{◌≡◌, ◌++◌, ◌∷◌, drop, length, map, string_bytes}
-use Rattle.ghc_records.specs.HistoryText.{lines_text}
-use Rattle.ghc_records.specs.Predicates.{predicate_text}
-use Rattle.ghc_records.specs.ChronicleText.{spies_line}
+use Rattle.ghc_records.proofs.Words.{◌≡◌, ◌++◌, ◌∷◌, drop, length, map, string_bytes, lines_text, predicate_text, spies_line}
 use Rattle.ghc_records.proofs.chronicle_writing.write_spies.Given as goal
 
 abbrev pub invariant-loop-predicate : goal.invariant-loop-predicate

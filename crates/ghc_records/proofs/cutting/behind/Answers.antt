@@ -1,6 +1,5 @@
-use Rattle.std.proofs.Common.{◌≡◌, ◌≢◌, ◌++◌, List, ℕ, Option, Some, None, Bor, IfSome, IfNone, MatchOption}
-use Rattle.std.proofs.lemmas.Bool.Decides.{Decides-eqb}
-use Rattle.std.proofs.lemmas.Slice.Eq.{strip_prefix_is}
+use Rattle.ghc_records.proofs.Words.{◌≡◌, ◌≢◌, ◌++◌, List, ℕ, Option, Some, None, IfSome, IfNone, MatchOption, Decides-eqb, strip_prefix_is}
+use Rattle.std.proofs.Common.{Bor}
 use Rattle.ghc_records.proofs.cutting.behind.Goals as goal
 
 some : (bytes front : List ℕ) (r : Option (Bor (List ℕ))) → MatchOption r ((rest : List ℕ) → bytes ≢ front ++ rest) (λ x. bytes ≡ front ++ x.now) → IfSome r (λ rest. bytes ≡ front ++ rest.now)

@@ -1,8 +1,4 @@
-use Rattle.std.proofs.Common.{◌≡◌, ◌≢◌, ◌<◌, ◌≤◌, ℕ, List, true, length, get_or, Option, Some, None, IfSome, IfNone, sym, ap, ◌∙◌, arith, decimal, rules}
-use Rattle.std.specs.Char.{is_ascii_digit}
-use Rattle.std.specs.List.{list_all}
-use Rattle.std.specs.Str.Parse.{digits_value}
-use Rattle.ghc_records.specs.HistoryText.{greatest_number}
+use Rattle.ghc_records.proofs.Words.{◌≡◌, ◌≢◌, ◌<◌, ◌≤◌, ℕ, List, true, length, get_or, Option, Some, None, IfSome, IfNone, sym, ap, ◌∙◌, arith, decimal, rules, is_ascii_digit, list_all, digits_value, greatest_number}
 use Rattle.ghc_records.proofs.CutLemmas.{digits_say, said_digits, said_value, lone_zero, some_digit}
 use Rattle.ghc_records.proofs.cutting.number.Goals as goal
 

@@ -1,5 +1,4 @@
-use Rattle.std.proofs.Common.{◌≡◌, ◌≢◌, ◌≤◌, ℕ, List, sym, ◌∙◌, arith, decimal, rules}
-use Rattle.ghc_records.specs.HistoryText.{greatest_number}
+use Rattle.ghc_records.proofs.Words.{◌≡◌, ◌≢◌, ◌≤◌, ℕ, List, sym, ◌∙◌, arith, decimal, rules, greatest_number}
 use Rattle.ghc_records.proofs.CutLemmas.{one_number}
 use Rattle.ghc_records.proofs.cutting.positive.Goals as goal
 

@@ -1,7 +1,4 @@
-use Rattle.std.proofs.Common.{IfSome, IfNone, subst}
-use Rattle.ghc_records.specs.Journal.{Entry}
-use Rattle.ghc_records.specs.EntryText.{SaysEntry}
-use Rattle.ghc_records.specs.WrittenEntryCode.{said_by}
+use Rattle.ghc_records.proofs.Words.{IfSome, IfNone, subst, Entry, SaysEntry, said_by}
 use Rattle.ghc_records.proofs.EntryLines.{none_said, not_in_turn}
 use Rattle.ghc_records.proofs.entries_reading.next_entry.Goals as goal
 

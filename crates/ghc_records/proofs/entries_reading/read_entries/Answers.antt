@@ -1,11 +1,4 @@
-use Rattle.std.proofs.Common.{◌≡◌, ◌+◌, ◌∷◌, ◌++◌, [], ℕ, List, IfSome, IfNone, inr, ap, sym, ◌∙◌, subst, map}
-use Rattle.std.proofs.lemmas.List.{map-append}
-use Rattle.ghc_term.specs.declared.fault.Fault.{Fault}
-use Rattle.ghc_records.specs.Journal.{Entry}
-use Rattle.ghc_records.specs.HistoryText.{IsLineOf, pieces_of}
-use Rattle.ghc_records.specs.Chronicle.{AreInTurn, IsInTurn, next_after, next_behind}
-use Rattle.ghc_records.specs.EntryText.{SaysEntry}
-use Rattle.ghc_records.specs.WrittenEntryCode.{said_by}
+use Rattle.ghc_records.proofs.Words.{◌≡◌, ◌+◌, ◌∷◌, ◌++◌, [], ℕ, List, IfSome, IfNone, inr, ap, sym, ◌∙◌, subst, map, map-append, Fault, Entry, IsLineOf, pieces_of, AreInTurn, IsInTurn, next_after, next_behind, SaysEntry, said_by}
 use Rattle.ghc_records.proofs.SectionLemmas.{HasRead, SaysNext, no_more_read, nothing_read, one_more_read}
 use Rattle.ghc_records.proofs.TurnLemmas.{next_more, turn_last, turn_more}
 use Rattle.ghc_records.proofs.entries_reading.read_entries.Goals as goal

@@ -1,9 +1,4 @@
-use Rattle.std.proofs.Common.{◌≡◌, ◌≤◌, map}
-use Rattle.ghc_records.specs.Numbers.{number_limit}
-use Rattle.ghc_records.specs.HistoryText.{pieces_of}
-use Rattle.ghc_records.specs.Chronicle.{AreInTurn, next_behind}
-use Rattle.ghc_records.specs.EntryText.{SaysEntry}
-use Rattle.ghc_records.specs.WrittenEntryCode.{said_by}
+use Rattle.ghc_records.proofs.Words.{◌≡◌, ◌≤◌, map, number_limit, pieces_of, AreInTurn, next_behind, SaysEntry, said_by}
 use Rattle.ghc_records.proofs.SectionLemmas.{HasRead}
 use Rattle.ghc_records.proofs.entries_reading.read_entries.Given as goal
 

@@ -1,6 +1,4 @@
-use Rattle.std.proofs.Common.{ℕ, List, IfNone, subst}
-use Rattle.ghc_records.specs.Journal.{Step, reordered, took}
-use Rattle.ghc_records.specs.EntryText.{SaysEntry}
+use Rattle.ghc_records.proofs.Words.{ℕ, List, IfNone, subst, Step, reordered, took, SaysEntry}
 use Rattle.ghc_records.proofs.EntryLines.{no_entry}
 use Rattle.ghc_records.proofs.entry_reading.read_entry.Goals as goal
 

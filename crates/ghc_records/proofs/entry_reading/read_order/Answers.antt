@@ -1,5 +1,4 @@
-use Rattle.std.proofs.Common.{◌≢◌, ◌++◌, All, ℕ, List, IfNone, ap, sym, ◌∙◌, subst}
-use Rattle.ghc_records.specs.EntryText.{IsNamed, numbers_behind}
+use Rattle.ghc_records.proofs.Words.{◌≢◌, ◌++◌, All, ℕ, List, IfNone, ap, sym, ◌∙◌, subst, IsNamed, numbers_behind}
 use Rattle.ghc_records.proofs.EntryLines.{no_order}
 use Rattle.ghc_records.proofs.entry_reading.read_order.Goals as goal
 

@@ -1,7 +1,4 @@
-use Rattle.std.proofs.Common.{IfNone, subst}
-use Rattle.ghc_records.specs.Journal.{Step}
-use Rattle.ghc_records.specs.HistoryText.{SaysStep}
-use Rattle.ghc_records.specs.EntryText.{SaysAsking}
+use Rattle.ghc_records.proofs.Words.{IfNone, subst, Step, SaysStep, SaysAsking}
 use Rattle.ghc_records.proofs.EntryLines.{no_step}
 use Rattle.ghc_records.proofs.entry_reading.read_taken.Goals as goal
 

@@ -1,5 +1,4 @@
-use Rattle.std.proofs.Common.{get_or, string_bytes}
-use Rattle.std.proofs.lemmas.List.{drop_more}
+use Rattle.ghc_records.proofs.Words.{get_or, string_bytes, drop_more}
 use Rattle.ghc_records.proofs.ChronicleWritten.{number_put}
 use Rattle.ghc_records.proofs.entry_text.write_numbers.Goals as goal
 

@@ -1,5 +1,4 @@
-use Rattle.std.proofs.Common.{◌≡◌, ◌++◌, drop, string_bytes}
-use Rattle.ghc_records.specs.EntryText.{numbers_behind}
+use Rattle.ghc_records.proofs.Words.{◌≡◌, ◌++◌, drop, string_bytes, numbers_behind}
 use Rattle.ghc_records.proofs.entry_text.write_numbers.Given as goal
 
 abbrev pub invariant-loop-number : goal.invariant-loop-number

@@ -1,5 +1,4 @@
-use Rattle.std.proofs.Common.{subst}
-use Rattle.ghc_records.specs.HistoryText.{TellsHistory}
+use Rattle.ghc_records.proofs.Words.{subst, TellsHistory}
 use Rattle.ghc_records.proofs.CutTexts.{refused}
 use Rattle.ghc_records.proofs.history_laws.cut_texts_are_refused.Goals as goal
 

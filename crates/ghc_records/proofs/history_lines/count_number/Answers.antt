@@ -1,8 +1,4 @@
-use Rattle.std.proofs.Common.{◌≡◌, ◌≢◌, ◌<◌, ◌≤◌, ◌++◌, ℕ, List, sym, ap, ◌∙◌, arith, decimal, rules}
-use Rattle.std.specs.Prelude.{codes}
-use Rattle.std.proofs.lemmas.List.{append_cancel_left}
-use Rattle.ghc_records.specs.Numbers.{kept_limit}
-use Rattle.ghc_records.specs.HistoryText.{count_line, greatest_number}
+use Rattle.ghc_records.proofs.Words.{◌≡◌, ◌≢◌, ◌<◌, ◌≤◌, ◌++◌, ℕ, List, sym, ap, ◌∙◌, arith, decimal, rules, codes, append_cancel_left, kept_limit, count_line, greatest_number}
 use Rattle.ghc_records.proofs.CutLemmas.{one_number}
 use Rattle.ghc_records.proofs.history_lines.count_number.Goals as goal
 

@@ -1,5 +1,4 @@
-use Rattle.std.proofs.Common.{◌∷◌, ap, ◌∙◌}
-use Rattle.ghc_records.specs.HistoryText.{pieces_of, end_line}
+use Rattle.ghc_records.proofs.Words.{◌∷◌, ap, ◌∙◌, pieces_of, end_line}
 use Rattle.ghc_records.proofs.CutLemmas.{drop_next, line_stands}
 use Rattle.ghc_records.proofs.history_lines.find_end.Goals as goal
 

@@ -1,5 +1,4 @@
-use Rattle.std.proofs.Common.{◌∙◌, rules}
-use Rattle.ghc_records.specs.HistoryText.{pieces_of}
+use Rattle.ghc_records.proofs.Words.{◌∙◌, rules, pieces_of}
 use Rattle.ghc_records.proofs.CutLemmas.{drop_next, none_behind}
 use Rattle.ghc_records.proofs.history_lines.skip_lines.Goals as goal
 

@@ -1,5 +1,4 @@
-use Rattle.std.proofs.Common.{◌≡◌, drop}
-use Rattle.ghc_records.specs.HistoryText.{pieces_of}
+use Rattle.ghc_records.proofs.Words.{◌≡◌, drop, pieces_of}
 use Rattle.ghc_records.proofs.history_lines.skip_lines.Given as goal
 
 abbrev pub invariant-loop-index : goal.invariant-loop-index

@@ -1,9 +1,4 @@
-use Rattle.std.proofs.Common.{List, [], ◌∷◌, inl, inr, sym, subst}
-use Rattle.std.specs.List.{AllByRecursion}
-use Rattle.std.proofs.lemmas.List.Elements.{recursion_from_All}
-use Rattle.ghc_term.specs.Lists.{In}
-use Rattle.ghc_records.specs.Journal.{Step}
-use Rattle.ghc_records.specs.HistoryLaws.{IsInRange}
+use Rattle.ghc_records.proofs.Words.{List, [], ◌∷◌, inl, inr, sym, subst, AllByRecursion, recursion_from_All, In, Step, IsInRange}
 use Rattle.ghc_records.proofs.history_range.history_is_in_range.Goals as goal
 
 each : (steps : List Step) → AllByRecursion IsInRange steps → (s : Step) → In s steps → IsInRange s

@@ -1,8 +1,4 @@
-use Rattle.std.proofs.Common.{◌≡◌, ◌+◌, ◌<◌, ◌++◌, ◌∷◌, [], ℕ, List, All, get_or, length, take, sym, ◌∙◌, ap, subst}
-use Rattle.std.proofs.lemmas.List.{take_more}
-use Rattle.std.proofs.lemmas.List.Elements.{All-push}
-use Rattle.ghc_records.specs.Journal.{Step}
-use Rattle.ghc_records.specs.HistoryLaws.{IsInRange}
+use Rattle.ghc_records.proofs.Words.{◌≡◌, ◌+◌, ◌<◌, ◌++◌, ◌∷◌, [], ℕ, List, All, get_or, length, take, sym, ◌∙◌, ap, subst, take_more, All-push, Step, IsInRange}
 use Rattle.ghc_records.proofs.history_range.steps_are_in_range.Goals as goal
 
 one_more : (steps : List Step) (i : ℕ) (s : Step) → i < length steps → s ≡ get_or steps i s → All IsInRange (take i steps) → IsInRange s → All IsInRange (take (i + 1) steps)

@@ -1,5 +1,4 @@
-use Rattle.std.proofs.Common.{All, take}
-use Rattle.ghc_records.specs.HistoryLaws.{IsInRange}
+use Rattle.ghc_records.proofs.Words.{All, take, IsInRange}
 use Rattle.ghc_records.proofs.history_range.steps_are_in_range.Given as goal
 
 abbrev pub invariant-loop-step : goal.invariant-loop-step

@@ -1,6 +1,4 @@
-use Rattle.std.proofs.Common.{◌≡◌, ℕ, Bool, true, false, not, List, nat_eq, refl, sym, ap, ◌∙◌}
-use Rattle.std.specs.List.{list_any}
-use Rattle.ghc_term.specs.Lists.{In}
+use Rattle.ghc_records.proofs.Words.{◌≡◌, ℕ, Bool, true, false, not, List, nat_eq, refl, sym, ap, ◌∙◌, list_any, In}
 use Rattle.ghc_records.proofs.NumberSets.{any_number, number_any}
 use Rattle.ghc_records.proofs.history_reading.add_number.Goals as goal
 

@@ -1,7 +1,4 @@
-use Rattle.std.proofs.Common.{◌≡◌, ◌∷◌, ℕ, ◌<◌, Bool, true, false, List, Option, IfSome, IfNone, refl, sym, ◌∙◌, subst}
-use Rattle.std.specs.Prelude.{◌↔◌}
-use Rattle.ghc_records.specs.Journal.{Step}
-use Rattle.ghc_records.specs.HistoryText.{IsLineOf, SaysStep, pieces_of}
+use Rattle.ghc_records.proofs.Words.{◌≡◌, ◌∷◌, ℕ, ◌<◌, Bool, true, false, List, Option, IfSome, IfNone, refl, sym, ◌∙◌, subst, ◌↔◌, Step, IsLineOf, SaysStep, pieces_of}
 use Rattle.ghc_records.proofs.CutLemmas.{line_is}
 use Rattle.ghc_records.proofs.Saying.{one_step_number}
 use Rattle.ghc_records.proofs.history_reading.next_step.Goals as goal

@@ -1,7 +1,4 @@
-use Rattle.std.proofs.Common.{◌<◌, ℕ, List, IfSome, IfNone, inr, subst}
-use Rattle.ghc_term.specs.Lists.{In}
-use Rattle.ghc_records.specs.Journal.{Step}
-use Rattle.ghc_records.specs.HistoryText.{IsLineOf, SaysStep, pieces_of}
+use Rattle.ghc_records.proofs.Words.{◌<◌, ℕ, List, IfSome, IfNone, inr, subst, In, Step, IsLineOf, SaysStep, pieces_of}
 use Rattle.ghc_records.proofs.TellingSteps.{SaysFirst, nothing_told, one_more_put, wrong_again, wrong_line}
 use Rattle.ghc_records.proofs.history_reading.read_steps.Goals as goal
 

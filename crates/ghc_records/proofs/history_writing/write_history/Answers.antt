@@ -1,5 +1,4 @@
-use Rattle.std.proofs.Common.{◌≡◌, ◌++◌, sym, ap, ◌∙◌, subst, string_bytes}
-use Rattle.ghc_records.specs.HistoryText.{TellsHistory, history_text}
+use Rattle.ghc_records.proofs.Words.{◌≡◌, ◌++◌, sym, ap, ◌∙◌, subst, string_bytes, TellsHistory, history_text}
 use Rattle.ghc_records.proofs.history_writing.write_history.Goals as goal
 
 pub returns-clause-told : goal.returns-clause-told

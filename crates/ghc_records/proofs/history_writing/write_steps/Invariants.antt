@@ -1,6 +1,4 @@
-use Rattle.std.proofs.Common.{◌≡◌, ◌++◌, drop, map, string_bytes}
-use Rattle.ghc_records.specs.StepText.{step_text}
-use Rattle.ghc_records.specs.HistoryText.{lines_text}
+use Rattle.ghc_records.proofs.Words.{◌≡◌, ◌++◌, drop, map, string_bytes, step_text, lines_text}
 use Rattle.ghc_records.proofs.history_writing.write_steps.Given as goal
 
 abbrev pub invariant-loop-step : goal.invariant-loop-step

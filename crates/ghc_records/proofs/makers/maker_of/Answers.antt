@@ -1,6 +1,4 @@
-use Rattle.std.proofs.Common.{◌≡◌, ◌∙◌, sym, ap, arith}
-use Rattle.std.proofs.lemmas.Bool.Decides.{nat_tests}
-use Rattle.ghc_records.specs.Slots.{held_in}
+use Rattle.ghc_records.proofs.Words.{◌≡◌, ◌∙◌, sym, ap, arith, nat_tests, held_in}
 use Rattle.ghc_records.proofs.MakersOf.{none_made, one_made, not_by_it}
 use Rattle.ghc_records.proofs.makers.maker_of.Goals.{then-x-eq0-via-then-x-eq0, then-x-eq0-via-else-x-eq0+then-x-fresh}
 use Rattle.ghc_records.proofs.makers.maker_of.Goals as goal

@@ -1,6 +1,4 @@
-use Rattle.std.proofs.Common.{subst}
-use Rattle.std.proofs.lemmas.List.{take_all}
-use Rattle.ghc_records.specs.Slots.{held_in}
+use Rattle.ghc_records.proofs.Words.{subst, take_all, held_in}
 use Rattle.ghc_records.proofs.MakersOf.{HasUnder, under_none, under_next, this_one}
 use Rattle.ghc_records.proofs.makers.put_under_makers.Goals as goal
 

@@ -1,6 +1,4 @@
-use Rattle.std.proofs.Common.{ℕ, take}
-use Rattle.ghc_records.specs.Slots.{held_in}
-use Rattle.ghc_records.specs.UseIndex.{CanTake}
+use Rattle.ghc_records.proofs.Words.{ℕ, take, held_in, CanTake}
 use Rattle.ghc_records.proofs.MakersOf.{HasUnder}
 use Rattle.ghc_records.proofs.makers.put_under_makers.Given as goal
 

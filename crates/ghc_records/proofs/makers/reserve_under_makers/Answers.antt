@@ -1,7 +1,4 @@
-use Rattle.std.proofs.Common.{ℕ, ◌∙◌, subst}
-use Rattle.std.proofs.lemmas.List.{take_all}
-use Rattle.ghc_records.specs.Slots.{held_in}
-use Rattle.ghc_records.specs.UseIndex.{CanTake, MadeOneOf}
+use Rattle.ghc_records.proofs.Words.{ℕ, ◌∙◌, subst, take_all, held_in, CanTake, MadeOneOf}
 use Rattle.ghc_records.proofs.MakersOf.{can_next}
 use Rattle.ghc_records.proofs.makers.reserve_under_makers.Goals as goal
 

@@ -1,6 +1,4 @@
-use Rattle.std.proofs.Common.{◌≡◌, ℕ, take}
-use Rattle.ghc_records.specs.Slots.{held_in}
-use Rattle.ghc_records.specs.UseIndex.{users_at, CanTake, MadeOneOf}
+use Rattle.ghc_records.proofs.Words.{◌≡◌, ℕ, take, held_in, users_at, CanTake, MadeOneOf}
 use Rattle.ghc_records.proofs.makers.reserve_under_makers.Given as goal
 
 abbrev pub invariant-loop-x : goal.invariant-loop-x

@@ -1,5 +1,4 @@
-use Rattle.std.proofs.Common.{take}
-use Rattle.ghc_records.specs.Slots.{held_in}
+use Rattle.ghc_records.proofs.Words.{take, held_in}
 use Rattle.ghc_records.proofs.MakersOf.{HasNotUnder}
 use Rattle.ghc_records.proofs.makers.take_from_under_makers.Given as goal
 

@@ -1,8 +1,5 @@
-use Rattle.std.proofs.Common.{◌≡◌, ◌+◌, ℕ, List, [], ◌∷◌, ◌++◌, length, sym, ap, ◌∙◌, arith, length-append}
+use Rattle.ghc_records.proofs.Words.{◌≡◌, ◌+◌, ℕ, List, [], ◌∷◌, ◌++◌, length, sym, ap, ◌∙◌, arith, length-append, Goal, Goals, with_makes}
 use Rattle.std.specs.FinMap as finite
-use Rattle.ghc_term.specs.Goal.{Goal}
-use Rattle.ghc_fire.specs.Goals.{Goals}
-use Rattle.ghc_records.specs.Record.{with_makes}
 use Rattle.ghc_records.proofs.Made.{name, last_first}
 use Rattle.ghc_records.proofs.making.make_list.Goals as goal
 

@@ -1,5 +1,4 @@
-use Rattle.std.proofs.Common.{◌≡◌, ◌≤◌, length}
-use Rattle.ghc_records.specs.Record.{with_makes}
+use Rattle.ghc_records.proofs.Words.{◌≡◌, ◌≤◌, length, with_makes}
 use Rattle.ghc_records.proofs.making.make_list.Given as goal
 
 abbrev pub invariant-loop-goal : goal.invariant-loop-goal

@@ -1,5 +1,4 @@
-use Rattle.std.proofs.Common.{◌≡◌, ◌≤◌}
-use Rattle.ghc_records.specs.State.{without_makes}
+use Rattle.ghc_records.proofs.Words.{◌≡◌, ◌≤◌, without_makes}
 use Rattle.ghc_records.proofs.making.unmake_goals.Given as goal
 
 abbrev pub invariant-loop-place : goal.invariant-loop-place

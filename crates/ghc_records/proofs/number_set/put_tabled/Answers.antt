@@ -1,5 +1,4 @@
-use Rattle.std.proofs.Common.{is_ok, ap, refl}
-use Rattle.ghc_term.proofs.Indexed.{done}
+use Rattle.ghc_records.proofs.Words.{is_ok, ap, refl, done}
 use Rattle.ghc_records.proofs.NumberSets.{succeeds_with, number_put}
 use Rattle.ghc_records.proofs.number_set.put_tabled.Goals as goal
 

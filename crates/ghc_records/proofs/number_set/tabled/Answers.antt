@@ -1,6 +1,4 @@
-use Rattle.std.proofs.Common.{◌++◌, ◌∷◌, [], get_or, sym, ap, ◌∙◌, subst}
-use Rattle.std.proofs.lemmas.List.{take_more}
-use Rattle.ghc_term.specs.Lists.{In}
+use Rattle.ghc_records.proofs.Words.{◌++◌, ◌∷◌, [], get_or, sym, ap, ◌∙◌, subst, take_more, In}
 use Rattle.ghc_records.proofs.InOrder.{not_again}
 use Rattle.ghc_records.proofs.NumberSets.{pushed}
 use Rattle.ghc_records.proofs.number_set.tabled.Goals as goal

@@ -1,9 +1,4 @@
-use Rattle.std.proofs.Common.{◌+◌, ◌<◌, ℕ, List, IfSome, IfNone, inr, ap, sym, ◌∙◌, subst, map}
-use Rattle.ghc_term.specs.declared.fault.Fault.{Fault}
-use Rattle.ghc_term.specs.Lists.{In}
-use Rattle.ghc_records.specs.Journal.{Step}
-use Rattle.ghc_records.specs.HistoryText.{IsLineOf, SaysStep, pieces_of}
-use Rattle.ghc_records.specs.Chronicle.{AreBelow}
+use Rattle.ghc_records.proofs.Words.{◌+◌, ◌<◌, ℕ, List, IfSome, IfNone, inr, ap, sym, ◌∙◌, subst, map, Fault, In, Step, IsLineOf, SaysStep, pieces_of, AreBelow}
 use Rattle.ghc_records.proofs.OpeningSteps.{below_last, below_more, keys_more, none_again}
 use Rattle.ghc_records.proofs.SectionLemmas.{HasRead, SaysNext, no_more_read, nothing_read, one_more_read}
 use Rattle.ghc_records.proofs.TellingSteps.{number_of}

@@ -1,6 +1,4 @@
-use Rattle.std.proofs.Common.{◌≡◌, map}
-use Rattle.ghc_records.specs.HistoryText.{SaysStep, pieces_of}
-use Rattle.ghc_records.specs.Chronicle.{AreBelow}
+use Rattle.ghc_records.proofs.Words.{◌≡◌, map, SaysStep, pieces_of, AreBelow}
 use Rattle.ghc_records.proofs.SectionLemmas.{HasRead}
 use Rattle.ghc_records.proofs.TellingSteps.{number_of}
 use Rattle.ghc_records.proofs.opening_reading.read_opening_steps.Given as goal

@@ -1,8 +1,4 @@
-use Rattle.std.proofs.Common.{◌+◌, ℕ, List, IfSome, IfNone, inr, ap, sym, subst}
-use Rattle.ghc_term.specs.declared.fault.Fault.{Fault}
-use Rattle.ghc_records.specs.declared.predicate.Predicate.{Predicate}
-use Rattle.ghc_records.specs.HistoryText.{IsLineOf, pieces_of}
-use Rattle.ghc_records.specs.Predicates.{GoTogether, SaysPredicate}
+use Rattle.ghc_records.proofs.Words.{◌+◌, ℕ, List, IfSome, IfNone, inr, ap, sym, subst, Fault, Predicate, IsLineOf, pieces_of, GoTogether, SaysPredicate}
 use Rattle.ghc_records.proofs.SectionLemmas.{HasRead, SaysNext, no_more_read, nothing_read, one_more_read}
 use Rattle.ghc_records.proofs.predicate_reading.read_predicates.Goals as goal
 

@@ -1,5 +1,4 @@
-use Rattle.ghc_records.specs.HistoryText.{pieces_of}
-use Rattle.ghc_records.specs.Predicates.{GoTogether, SaysPredicate}
+use Rattle.ghc_records.proofs.Words.{pieces_of, GoTogether, SaysPredicate}
 use Rattle.ghc_records.proofs.SectionLemmas.{HasRead}
 use Rattle.ghc_records.proofs.predicate_reading.read_predicates.Given as goal
 

@@ -1,9 +1,4 @@
-use Rattle.std.proofs.Common.{is_ok, inl, inr, sym, ap, ◌∙◌, subst, cond, ℕ, ◌≡◌, ◌⊎◌, ◌<◌, arith}
-use Rattle.std.specs.Prelude.{◌↔◌}
-use Rattle.std.specs.List.{insert}
-use Rattle.ghc_term.specs.Lists.{In}
-use Rattle.ghc_term.proofs.ListsLemmas.{in_get}
-use Rattle.ghc_records.specs.NumberSet.{IsRising}
+use Rattle.ghc_records.proofs.Words.{is_ok, inl, inr, sym, ap, ◌∙◌, subst, cond, ℕ, ◌≡◌, ◌⊎◌, ◌<◌, arith, ◌↔◌, insert, In, in_get, IsRising}
 use Rattle.ghc_records.proofs.NumberSets.{in_pushed}
 use Rattle.ghc_records.proofs.RisingNumbers.{rising_pushed, place_of, place_for, is_absent, rising_inserted, in_inserted, with_present}
 use Rattle.ghc_records.proofs.rising.put_rising.Goals as goal

@@ -1,7 +1,4 @@
-use Rattle.std.proofs.Common.{◌≢◌, get_or, refl, inl, inr, subst, ◌<◌, ℕ, ◌≡◌, List, [], ◌∷◌, length, arith}
-use Rattle.ghc_term.specs.Lists.{In}
-use Rattle.ghc_term.proofs.ListsLemmas.{in_get}
-use Rattle.ghc_records.specs.NumberSet.{IsRising}
+use Rattle.ghc_records.proofs.Words.{◌≢◌, get_or, refl, inl, inr, subst, ◌<◌, ℕ, ◌≡◌, List, [], ◌∷◌, length, arith, In, in_get, IsRising}
 use Rattle.ghc_records.proofs.rising.rising_three.Goals as goal
 
 -- the first of two numbers that rise is below the second

@@ -1,7 +1,4 @@
-use Rattle.std.proofs.Common.{sym, subst, ◌≢◌}
-use Rattle.std.specs.Prelude.{◌↔◌}
-use Rattle.ghc_term.specs.Lists.{In}
-use Rattle.ghc_records.specs.NumberSet.{IsRising}
+use Rattle.ghc_records.proofs.Words.{sym, subst, ◌≢◌, ◌↔◌, In, IsRising}
 use Rattle.ghc_records.proofs.RisingNumbers.{place_of, place_for, is_absent, removed, without_absent}
 use Rattle.ghc_records.proofs.rising.take_rising.Goals as goal
 

@@ -1,9 +1,5 @@
-use Rattle.std.proofs.Common.{◌≡◌, ◌≢◌, ◌+◌, ◌++◌, ◌∷◌, [], ℕ, cond, filter, length, take, refl, sym, ap, ◌∙◌, subst, arith, nat_eq}
-use Rattle.std.specs.Prelude.{Some, is_some}
-use Rattle.std.specs.Map.{lookup}
-use Rattle.std.proofs.lemmas.List.{append-nil, length-append, take_all}
-use Rattle.std.proofs.lemmas.Option.{slice_get_read}
-use Rattle.ghc_records.specs.Slots.{SlotList, AreStraysOf}
+use Rattle.ghc_records.proofs.Words.{◌≡◌, ◌≢◌, ◌+◌, ◌++◌, ◌∷◌, [], ℕ, cond, filter, length, take, refl, sym, ap, ◌∙◌, subst, arith, nat_eq, Some, is_some, lookup, append-nil, take_all, slice_get_read, SlotList, AreStraysOf}
+use Rattle.std.proofs.lemmas.List.{length-append}
 use Rattle.ghc_records.proofs.SlotPlaces.{places_in}
 use Rattle.ghc_records.proofs.SlotStrays.{strays_none, strays_same, strays_one, closed_more, closed_few, front_apart}
 use Rattle.ghc_records.proofs.slots.strays_when_closed.Goals.{in-Some, then-not-is_just_below+in_ok-insert, else-not-is_just_below, in_default}

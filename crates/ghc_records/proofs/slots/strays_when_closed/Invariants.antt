@@ -1,6 +1,4 @@
-use Rattle.std.proofs.Common.{◌≡◌, filter, length, take}
-use Rattle.std.specs.Prelude.{is_some}
-use Rattle.ghc_records.specs.Slots.{AreStraysOf}
+use Rattle.ghc_records.proofs.Words.{◌≡◌, filter, length, take, is_some, AreStraysOf}
 use Rattle.ghc_records.proofs.SlotPlaces.{places_in}
 use Rattle.ghc_records.proofs.slots.strays_when_closed.Given as goal
 

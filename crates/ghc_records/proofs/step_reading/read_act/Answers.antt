@@ -1,9 +1,4 @@
-use Rattle.std.proofs.Common.{◌≡◌, ◌≢◌, ◌++◌, ℕ, List, Option, Some, None, Result, Ok, Err, IfOk, IfNone}
-use Rattle.std.specs.Prelude.{codes}
-use Rattle.ghc_term.specs.Tree.{Tree}
-use Rattle.ghc_reader.specs.Read.{IsReadTerm}
-use Rattle.ghc_fire.specs.declared.act.Act.{Act}
-use Rattle.ghc_records.specs.HistoryText.{SaysAct}
+use Rattle.ghc_records.proofs.Words.{◌≡◌, ◌≢◌, ◌++◌, ℕ, List, Option, Some, None, Result, Ok, Err, IfOk, IfNone, codes, Tree, IsReadTerm, Act, SaysAct}
 use Rattle.ghc_records.proofs.Saying.{in_only, none_only}
 use Rattle.ghc_records.proofs.step_reading.read_act.Goals as goal
 

@@ -1,7 +1,4 @@
-use Rattle.std.proofs.Common.{◌≡◌, ◌≢◌, ◌≤◌, ◌∷◌, ◌++◌, All, ℕ, List, Option, Some, None, IfNone, decimal}
-use Rattle.ghc_term.specs.declared.goal_name.GoalName.{GoalName}
-use Rattle.ghc_records.specs.StepText.{goal_name_text}
-use Rattle.ghc_records.specs.HistoryText.{greatest_number}
+use Rattle.ghc_records.proofs.Words.{◌≡◌, ◌≢◌, ◌≤◌, ◌∷◌, ◌++◌, All, ℕ, List, Option, Some, None, IfNone, decimal, GoalName, goal_name_text, greatest_number}
 use Rattle.ghc_records.proofs.Saying.{goal_apart, no_goal}
 use Rattle.ghc_records.proofs.step_reading.read_goal_name.Goals as goal
 

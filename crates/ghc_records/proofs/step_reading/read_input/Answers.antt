@@ -1,10 +1,4 @@
-use Rattle.std.proofs.Common.{◌≡◌, ◌≢◌, List, ℕ, Result, Err, subst}
-use Rattle.std.specs.Prelude.{MatchResult}
-use Rattle.ghc_term.specs.declared.fault.Fault.{Fault}
-use Rattle.ghc_term.specs.Answered.{IsExact}
-use Rattle.ghc_term.specs.Tree.{Tree}
-use Rattle.ghc_reader.specs.Tests.{a_term, IsRefusal}
-use Rattle.ghc_reader.specs.Read.{IsReadTerm}
+use Rattle.ghc_records.proofs.Words.{◌≡◌, ◌≢◌, List, ℕ, Result, Err, subst, MatchResult, Fault, IsExact, Tree, a_term, IsRefusal, IsReadTerm}
 use Rattle.ghc_records.proofs.step_reading.read_input.Goals as goal
 
 no_term : (text : List ℕ) (r : Result Tree Fault) (f : Fault) → IsExact (IsReadTerm text) (IsRefusal a_term text) r → r ≡ Err f → f ≢ Fault.Memory → (u : Tree) → ¬ IsReadTerm text u

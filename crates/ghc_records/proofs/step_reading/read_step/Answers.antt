@@ -1,6 +1,4 @@
-use Rattle.std.proofs.Common.{◌≡◌, ◌∷◌, ◌++◌, IfOk, IfNone, decimal, sym, ap, ◌∙◌, subst}
-use Rattle.ghc_records.specs.Journal.{Step}
-use Rattle.ghc_records.specs.HistoryText.{SaysStep}
+use Rattle.ghc_records.proofs.Words.{◌≡◌, ◌∷◌, ◌++◌, IfOk, IfNone, decimal, sym, ap, ◌∙◌, subst, Step, SaysStep}
 use Rattle.ghc_records.proofs.Saying.{line_apart, no_blank}
 use Rattle.ghc_records.proofs.step_reading.read_step.Goals as goal
 

@@ -1,7 +1,4 @@
-use Rattle.std.proofs.Common.{◌≡◌, ◌≢◌, ◌≤◌, ◌∷◌, ◌++◌, All, ℕ, List, Option, Some, None, Result, Ok, Err, IfOk, IfNone, decimal, sym, subst, arith}
-use Rattle.ghc_fire.specs.declared.act.Act.{Act}
-use Rattle.ghc_records.specs.Journal.{Step}
-use Rattle.ghc_records.specs.HistoryText.{SaysAct, SaysStep, greatest_number}
+use Rattle.ghc_records.proofs.Words.{◌≡◌, ◌≢◌, ◌≤◌, ◌∷◌, ◌++◌, All, ℕ, List, Option, Some, None, Result, Ok, Err, IfOk, IfNone, decimal, sym, subst, arith, Act, Step, SaysAct, SaysStep, greatest_number}
 use Rattle.ghc_records.proofs.Saying.{act_apart, no_act}
 use Rattle.ghc_records.proofs.step_reading.step_behind.Goals as goal
 

@@ -1,5 +1,4 @@
-use Rattle.std.proofs.Common.{◌+◌, drop, ap, ◌∙◌, sym}
-use Rattle.std.proofs.lemmas.List.{drop_all, drop_more}
+use Rattle.ghc_records.proofs.Words.{◌+◌, drop, ap, ◌∙◌, sym, drop_all, drop_more}
 use Rattle.std.specs.FinMap as finite
 use Rattle.ghc_records.proofs.BindingOrder.{poured, poured_all, poured_more, poured_end, shown}
 use Rattle.ghc_records.proofs.step_text.by_variable.Goals as goal

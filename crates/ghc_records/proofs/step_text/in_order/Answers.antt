@@ -1,5 +1,4 @@
-use Rattle.std.proofs.Common.{◌||◌, ◌+◌, drop, get_or, ap}
-use Rattle.std.proofs.lemmas.List.{at_drop_more}
+use Rattle.ghc_records.proofs.Words.{◌||◌, ◌+◌, drop, get_or, ap, at_drop_more}
 use Rattle.ghc_records.proofs.NameOrder.{has, one_put, put_in_order}
 use Rattle.ghc_records.proofs.step_text.in_order.Goals as goal
 

@@ -1,5 +1,4 @@
-use Rattle.std.proofs.Common.{◌≡◌, ◌||◌, drop}
-use Rattle.ghc_term.specs.declared.var_name.VarName.{VarName}
+use Rattle.ghc_records.proofs.Words.{◌≡◌, ◌||◌, drop, VarName}
 use Rattle.ghc_records.proofs.NameOrder.{has}
 use Rattle.ghc_records.proofs.step_text.in_order.Given as goal
 

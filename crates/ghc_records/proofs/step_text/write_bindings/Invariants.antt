@@ -1,9 +1,6 @@
-use Rattle.std.proofs.Common.{◌≡◌, ◌++◌, map, string_bytes}
-use Rattle.std.specs.Prelude.{codes}
+use Rattle.ghc_records.proofs.Words.{◌≡◌, ◌++◌, map, string_bytes, codes, StartsWith, binding_text, bindings_text}
 use denote.Text.{Utf8}
 use denote.Shadow.{shadow}
-use Rattle.std.specs.Io.{StartsWith}
-use Rattle.ghc_records.specs.StepText.{binding_text, bindings_text}
 use Rattle.ghc_records.proofs.Listing.{led}
 use Rattle.ghc_records.proofs.BindingOrder.{shown}
 use Rattle.ghc_records.proofs.step_text.write_bindings.Given as goal

@@ -1,10 +1,4 @@
-use Rattle.std.proofs.Common.{rules, ◌≡◌, ◌+◌, ◌++◌, ◌==◌, true, false, List, [], ◌∷◌, length, map, drop, refl, sym, ap, ◌∙◌, arith, string_bytes}
-use Rattle.std.specs.Prelude.{codes}
-use Rattle.std.proofs.lemmas.List.{drop_more}
-use Rattle.std.proofs.lemmas.Grind.{common_steps}
-use Rattle.ghc_term.specs.Goal.{Goal}
-use Rattle.ghc_term.specs.GoalText.{goal_text}
-use Rattle.ghc_records.specs.StepText.{body_text}
+use Rattle.ghc_records.proofs.Words.{rules, ◌≡◌, ◌+◌, ◌++◌, ◌==◌, true, false, List, [], ◌∷◌, length, map, drop, refl, sym, ap, ◌∙◌, arith, string_bytes, codes, drop_more, common_steps, Goal, goal_text, body_text}
 use Rattle.ghc_records.proofs.Listing.{led, led_next}
 use Rattle.ghc_records.proofs.step_text.write_body.Goals as goal
 

@@ -1,10 +1,6 @@
-use Rattle.std.proofs.Common.{◌≡◌, ◌++◌, map, drop, string_bytes}
-use Rattle.std.specs.Prelude.{codes}
+use Rattle.ghc_records.proofs.Words.{◌≡◌, ◌++◌, map, drop, string_bytes, codes, StartsWith, goal_text, body_text}
 use denote.Text.{Utf8}
 use denote.Shadow.{shadow}
-use Rattle.std.specs.Io.{StartsWith}
-use Rattle.ghc_term.specs.GoalText.{goal_text}
-use Rattle.ghc_records.specs.StepText.{body_text}
 use Rattle.ghc_records.proofs.Listing.{led}
 use Rattle.ghc_records.proofs.step_text.write_body.Given as goal
 

@@ -1,7 +1,4 @@
-use Rattle.std.proofs.Common.{rules, ◌+◌, ◌++◌, map, drop, sym, ap, ◌∙◌, arith, string_bytes}
-use Rattle.std.specs.Prelude.{codes}
-use Rattle.std.proofs.lemmas.Grind.{common_steps}
-use Rattle.ghc_records.specs.StepText.{goal_name_text, names_given}
+use Rattle.ghc_records.proofs.Words.{rules, ◌+◌, ◌++◌, map, drop, sym, ap, ◌∙◌, arith, string_bytes, codes, common_steps, goal_name_text, names_given}
 use Rattle.ghc_records.proofs.Listing.{led, led_all, led_next}
 use Rattle.ghc_records.proofs.Makes.{named_next, as_many_named}
 use Rattle.ghc_records.proofs.step_text.write_makes.Goals as goal

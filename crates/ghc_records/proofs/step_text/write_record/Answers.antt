@@ -1,6 +1,4 @@
-use Rattle.std.proofs.Common.{ℕ, List, arith, string_bytes}
-use Rattle.std.proofs.lemmas.Grind.{common_steps}
-use Rattle.std.specs.Io.{StartsWith}
+use Rattle.ghc_records.proofs.Words.{ℕ, List, arith, string_bytes, common_steps, StartsWith}
 use Rattle.ghc_records.proofs.step_text.write_record.Goals as goal
 
 through : (old mid new : List ℕ) → StartsWith mid old → StartsWith new mid → StartsWith new old

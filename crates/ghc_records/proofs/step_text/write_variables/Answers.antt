@@ -1,7 +1,4 @@
-use Rattle.std.proofs.Common.{rules, ◌++◌, map, sym, ap, ◌∙◌, arith, string_bytes}
-use Rattle.std.specs.Prelude.{codes}
-use Rattle.std.proofs.lemmas.Grind.{common_steps}
-use Rattle.ghc_term.specs.Text.{variable_text}
+use Rattle.ghc_records.proofs.Words.{rules, ◌++◌, map, sym, ap, ◌∙◌, arith, string_bytes, codes, common_steps, variable_text}
 use Rattle.ghc_records.proofs.Listing.{led, led_next}
 use Rattle.ghc_records.proofs.step_text.write_variables.Goals as goal
 

@@ -1,10 +1,6 @@
-use Rattle.std.proofs.Common.{◌≡◌, ◌++◌, map, string_bytes}
-use Rattle.std.specs.Prelude.{codes}
+use Rattle.ghc_records.proofs.Words.{◌≡◌, ◌++◌, map, string_bytes, codes, StartsWith, variable_text, variables_text}
 use denote.Text.{Utf8}
 use denote.Shadow.{shadow}
-use Rattle.std.specs.Io.{StartsWith}
-use Rattle.ghc_term.specs.Text.{variable_text}
-use Rattle.ghc_records.specs.StepText.{variables_text}
 use Rattle.ghc_records.proofs.Listing.{led}
 use Rattle.ghc_records.proofs.step_text.write_variables.Given as goal
 

@@ -1,7 +1,4 @@
-use Rattle.std.proofs.Common.{◌≡◌, ℕ, ◌⊎◌, ◌∙◌, sym, subst}
-use Rattle.std.specs.Prelude.{◌↔◌, Some}
-use Rattle.ghc_records.specs.UseIndex.{IsUser}
-use Rattle.std.proofs.lemmas.List.{take_all}
+use Rattle.ghc_records.proofs.Words.{◌≡◌, ℕ, ◌⊎◌, ◌∙◌, sym, subst, ◌↔◌, Some, IsUser, take_all}
 use Rattle.ghc_records.proofs.Giving.{HasUnder, under_none, under_next, this_one}
 use Rattle.ghc_records.proofs.use_index.put_under.Goals as goal
 

@@ -1,5 +1,4 @@
-use Rattle.std.proofs.Common.{ℕ, take}
-use Rattle.ghc_records.specs.UseIndex.{CanTake}
+use Rattle.ghc_records.proofs.Words.{ℕ, take, CanTake}
 use Rattle.ghc_records.proofs.Giving.{HasUnder}
 use Rattle.ghc_records.proofs.use_index.put_under.Given as goal
 

@@ -1,6 +1,4 @@
-use Rattle.std.proofs.Common.{ℕ, ◌∙◌, subst}
-use Rattle.std.proofs.lemmas.List.{take_all}
-use Rattle.ghc_records.specs.UseIndex.{CanTake, BoundOneOf}
+use Rattle.ghc_records.proofs.Words.{ℕ, ◌∙◌, subst, take_all, CanTake, BoundOneOf}
 use Rattle.ghc_records.proofs.Giving.{can_next}
 use Rattle.ghc_records.proofs.use_index.reserve_under.Goals as goal
 

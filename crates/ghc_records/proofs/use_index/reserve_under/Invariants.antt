@@ -1,5 +1,4 @@
-use Rattle.std.proofs.Common.{◌≡◌, ℕ, take}
-use Rattle.ghc_records.specs.UseIndex.{users_at, CanTake, BoundOneOf}
+use Rattle.ghc_records.proofs.Words.{◌≡◌, ℕ, take, users_at, CanTake, BoundOneOf}
 use Rattle.ghc_records.proofs.use_index.reserve_under.Given as goal
 
 abbrev pub invariant-loop-x : goal.invariant-loop-x

@@ -1,7 +1,4 @@
-use Rattle.std.proofs.Common.{◌≡◌, ℕ, subst}
-use Rattle.std.specs.Prelude.{◌↔◌, Some}
-use Rattle.std.proofs.lemmas.List.{take_all}
-use Rattle.ghc_records.specs.UseIndex.{IsUser}
+use Rattle.ghc_records.proofs.Words.{◌≡◌, ℕ, subst, ◌↔◌, Some, take_all, IsUser}
 use Rattle.ghc_records.proofs.Giving.{HasNotUnder, not_under_none, not_under_next}
 use Rattle.ghc_records.proofs.use_index.take_from_under.Goals as goal
 

@@ -1,5 +1,4 @@
-use Rattle.std.proofs.Common.{sym, subst, arith}
-use Rattle.ghc_records.specs.UseIndex.{HasGrown}
+use Rattle.ghc_records.proofs.Words.{sym, subst, arith, HasGrown}
 use Rattle.ghc_records.proofs.NearUsers.{grown_once}
 use Rattle.ghc_records.proofs.users.grow.Goals as goal
 

@@ -1,5 +1,4 @@
-use Rattle.std.proofs.Common.{◌≡◌, ◌≤◌, ◌+◌, vec_len, vec_capacity}
-use Rattle.ghc_records.specs.UseIndex.{HasGrown}
+use Rattle.ghc_records.proofs.Words.{◌≡◌, ◌≤◌, ◌+◌, vec_len, vec_capacity, HasGrown}
 use Rattle.ghc_records.proofs.users.grow.Given as goal
 
 abbrev pub invariant-loop : goal.invariant-loop

@@ -1,13 +1,5 @@
-use Rattle.std.proofs.Common.{drop, sym, subst, ◌∙◌, arith, length-append, ◌∷◌, []}
-use Rattle.std.specs.Prelude.{All}
-use Rattle.std.specs.List.Sorted.{IsStrictlyIncreasing}
-use Rattle.std.proofs.lemmas.List.{map-id}
-use Rattle.std.proofs.lemmas.List.Elements.{All-append, All-cons, All-nil}
-use Rattle.std.proofs.lemmas.Iterator.Adapters.{YieldsList-from_vec}
-use Rattle.std.proofs.lemmas.Iterator.Consumers.{YieldsList-end}
+use Rattle.ghc_shared.proofs.Words.{drop, sym, subst, ◌∙◌, arith, length-append, ◌∷◌, [], All, IsStrictlyIncreasing, map-id, All-append, All-cons, All-nil, YieldsList-from_vec, YieldsList-end, ArePlacesBy, Known}
 use mathlib.Core.List.{IsPrefix}
-use Rattle.ghc_shared.specs.Logs.{ArePlacesBy}
-use Rattle.ghc_shared.specs.Passes.{Known}
 use Rattle.ghc_shared.proofs.PlacesOnce.{weight-one, weight_more, theirs_too, increasing}
 use Rattle.ghc_shared.proofs.closing.take_all_back.Goals as goal
 

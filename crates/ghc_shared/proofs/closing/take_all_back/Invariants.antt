@@ -1,8 +1,5 @@
-use Rattle.std.proofs.Common.{◌≡◌, ◌+◌, length, drop}
-use Rattle.std.specs.Prelude.{All}
-use Rattle.std.specs.List.Sorted.{IsStrictlyIncreasing}
+use Rattle.ghc_shared.proofs.Words.{◌≡◌, ◌+◌, length, drop, All, IsStrictlyIncreasing, AreAllByTheirs, weight_of_places}
 use mathlib.Core.List.{IsPrefix}
-use Rattle.ghc_shared.specs.Places.{AreAllByTheirs, weight_of_places}
 use Rattle.ghc_shared.proofs.closing.take_all_back.Given as goal
 
 abbrev pub invariant-loop-pass : goal.invariant-loop-pass

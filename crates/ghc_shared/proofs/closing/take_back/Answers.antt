@@ -1,7 +1,5 @@
-use Rattle.std.proofs.Common.{drop, ap, subst}
+use Rattle.ghc_shared.proofs.Words.{drop, ap, subst, items_of, ArePlacesBy, Known}
 use mathlib.Core.List.{IsPrefix}
-use Rattle.ghc_shared.specs.Logs.{items_of, ArePlacesBy}
-use Rattle.ghc_shared.specs.Passes.{Known}
 use Rattle.ghc_shared.proofs.Extended.{prefix_items, places_prefix}
 use Rattle.ghc_shared.proofs.closing.take_back.Goals as goal
 

@@ -1,6 +1,4 @@
-use Rattle.std.proofs.Common.{◌<◌, length, sym, ap, ◌∙◌, arith}
-use Rattle.ghc_shared.specs.Logs.{extended}
-use Rattle.ghc_shared.specs.Rule.{beside}
+use Rattle.ghc_shared.proofs.Words.{◌<◌, length, sym, ap, ◌∙◌, arith, extended, beside}
 use Rattle.ghc_shared.proofs.Moves.{copies, compares, catches_as}
 use Rattle.ghc_shared.proofs.keeper.catch_up.Goals as goal
 

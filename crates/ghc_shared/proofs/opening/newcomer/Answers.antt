@@ -1,5 +1,4 @@
-use Rattle.std.proofs.Common.{◌<◌, [], refl, ap, sym, ◌∙◌, arith}
-use Rattle.ghc_shared.specs.Rule.{front}
+use Rattle.ghc_shared.proofs.Words.{◌<◌, [], refl, ap, sym, ◌∙◌, arith, front}
 use Rattle.ghc_shared.proofs.Moves.{copies}
 use Rattle.ghc_shared.proofs.Newcomers.{newcomer_is, told_opening}
 use Rattle.ghc_shared.proofs.opening.newcomer.Goals as goal

@@ -1,13 +1,4 @@
-use Rattle.std.proofs.Common.{◌≡◌, sym, subst, refl, Ok, Err}
-use Rattle.ghc_term.specs.declared.fault.Fault.{Fault}
-use Rattle.ghc_core.specs.World.{no_hands, emptied}
-use Rattle.ghc_core.specs.Events.{refused}
-use Rattle.ghc_core.specs.EventCode.{reply_of}
-use Rattle.ghc_core.specs.Answers.{Answers}
-use Rattle.ghc_core.specs.Anyway.{IsRefusedAnyway}
-use Rattle.ghc_core.proofs.CertainRefusals.{note_refused_anyway}
-use Rattle.ghc_core.proofs.Moving.{noted_answers}
-use Rattle.ghc_shared.specs.Calls.{holding, hands_of, event_of}
+use Rattle.ghc_shared.proofs.Words.{◌≡◌, sym, subst, refl, Ok, Err, Fault, no_hands, emptied, refused, reply_of, Answers, IsRefusedAnyway, note_refused_anyway, noted_answers, holding, hands_of, event_of}
 use Rattle.ghc_shared.proofs.Answering.{starved, gives_up, not_obeyed, told_gone}
 use Rattle.ghc_shared.proofs.telling.refuse_to.Goals as goal
 

@@ -1,13 +1,4 @@
-use Rattle.std.proofs.Common.{◌≡◌, sym, subst, Ok, Err}
-use Rattle.ghc_term.specs.declared.fault.Fault.{Fault}
-use Rattle.ghc_core.specs.World.{no_hands, emptied}
-use Rattle.ghc_core.specs.Events.{note, stepped, refused}
-use Rattle.ghc_core.specs.EventCode.{reply_of}
-use Rattle.ghc_core.specs.Answers.{Answers}
-use Rattle.ghc_core.specs.Anyway.{IsRefusedAnyway}
-use Rattle.ghc_core.proofs.CertainRefusals.{note_refused_anyway}
-use Rattle.ghc_core.proofs.Moving.{obeyed_answers, noted_answers}
-use Rattle.ghc_shared.specs.Calls.{holding, hands_of, event_of}
+use Rattle.ghc_shared.proofs.Words.{◌≡◌, sym, subst, Ok, Err, Fault, no_hands, emptied, note, stepped, refused, reply_of, Answers, IsRefusedAnyway, note_refused_anyway, obeyed_answers, noted_answers, holding, hands_of, event_of}
 use Rattle.ghc_shared.proofs.Answering.{commits, gives_up, told_gone}
 use Rattle.ghc_shared.proofs.telling.reply_to.Goals as goal
 

@@ -1,6 +1,4 @@
-use Rattle.std.proofs.Common.{◌≡◌, ◌<◌, true, false, refl, sym, ◌∙◌, subst}
-use Rattle.ghc_term.specs.Lists.{In}
-use Rattle.ghc_depend.specs.Depend.{Descends, itself}
+use Rattle.ghc_trace.proofs.Words.{◌≡◌, ◌<◌, true, false, refl, sym, ◌∙◌, subst, In, Descends, itself}
 use Rattle.ghc_trace.proofs.WayUp.{far, unmade, of_none, of_maker, nearer, one_goal, other_goal}
 use Rattle.ghc_trace.proofs.descent.descends.Goals as goal
 

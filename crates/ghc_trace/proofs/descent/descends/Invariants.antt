@@ -1,5 +1,4 @@
-use Rattle.std.specs.Prelude.{◌↔◌}
-use Rattle.ghc_depend.specs.Depend.{Descends}
+use Rattle.ghc_trace.proofs.Words.{◌↔◌, Descends}
 use Rattle.ghc_trace.proofs.WayUp.{far}
 use Rattle.ghc_trace.proofs.descent.descends.Given as goal
 

@@ -1,5 +1,4 @@
-use Rattle.std.proofs.Common.{◌≡◌, ◌∙◌, sym, ap, length, arith}
-use Rattle.std.proofs.lemmas.Bool.Decides.{nat_tests}
+use Rattle.ghc_trace.proofs.Words.{◌≡◌, ◌∙◌, sym, ap, length, arith, nat_tests}
 use Rattle.ghc_trace.proofs.WayUp.{not_of_it}
 use Rattle.ghc_trace.proofs.descent.maker_of.Goals.{then-goal-eq0-via-then-goal-eq0, then-goal-eq0-via-else-goal-eq0+then-goal-made}
 use Rattle.ghc_trace.proofs.descent.maker_of.Goals as goal

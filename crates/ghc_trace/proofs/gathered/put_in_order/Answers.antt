@@ -1,12 +1,4 @@
-use Rattle.std.proofs.Common.{◌≡◌, rules, ◌∙◌, subst}
-use Rattle.std.proofs.lemmas.Fn.{always_returns_same, dedup_same}
-use Rattle.std.specs.Prelude.{None}
-use Rattle.std.specs.List.{dedup}
-use Rattle.std.specs.List.Sorted.{IsSorted, IsStrictlySortedBy}
-use Rattle.std.specs.Map.{keys_of}
-use Rattle.ghc_fire.specs.Goals.{goal_cmp}
-use Rattle.ghc_fire.proofs.GoalNames.{same, same_is}
-use Rattle.ghc_trace.specs.NewsCode.{Former}
+use Rattle.ghc_trace.proofs.Words.{◌≡◌, rules, ◌∙◌, subst, always_returns_same, dedup_same, None, dedup, IsSorted, IsStrictlySortedBy, keys_of, goal_cmp, same, same_is, Former}
 use Rattle.ghc_trace.proofs.Entries.{by_name, lesser, alike, rising_by_neighbours, left_rise, left_of, names_left}
 use Rattle.ghc_trace.proofs.gathered.put_in_order.Goals as goal
 

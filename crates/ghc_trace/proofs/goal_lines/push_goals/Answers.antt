@@ -1,6 +1,4 @@
-use Rattle.std.proofs.Common.{◌∙◌, subst, string_bytes}
-use Rattle.ghc_term.specs.Lists.{In}
-use Rattle.ghc_trace.specs.GoalLinesCode.{AddsLines}
+use Rattle.ghc_trace.proofs.Words.{◌∙◌, subst, string_bytes, In, AddsLines}
 use Rattle.ghc_trace.proofs.Lines.{known, all_told, none_long, one_long}
 use Rattle.ghc_trace.proofs.goal_lines.push_goals.Goals as goal
 

@@ -1,6 +1,4 @@
-use Rattle.std.proofs.Common.{refl, arith, string_bytes}
-use Rattle.std.proofs.lemmas.Grind.{common_steps}
-use Rattle.ghc_trace.specs.GoalLines.{goal_line}
+use Rattle.ghc_trace.proofs.Words.{refl, arith, string_bytes, common_steps, goal_line}
 use Rattle.ghc_trace.proofs.Lines.{not_long}
 use Rattle.ghc_trace.proofs.goal_lines.write_line.Goals as goal
 

@@ -1,7 +1,4 @@
-use Rattle.std.proofs.Common.{◌≡◌, ◌++◌, [], ◌∷◌, sym, ap, ◌∙◌, arith, append_assoc, append-nil, subst, string_bytes}
-use Rattle.std.proofs.lemmas.Grind.{common_steps}
-use Rattle.ghc_trace.specs.GoalLines.{Named}
-use Rattle.ghc_trace.specs.GoalLinesCode.{AddsLines, lent}
+use Rattle.ghc_trace.proofs.Words.{◌≡◌, ◌++◌, [], ◌∷◌, sym, ap, ◌∙◌, arith, append_assoc, append-nil, subst, string_bytes, common_steps, Named, AddsLines, lent}
 use Rattle.ghc_trace.proofs.Lines.{adds_one, next_in, nothing_added}
 use Rattle.ghc_trace.proofs.goal_lines.write_lines.Goals as goal
 

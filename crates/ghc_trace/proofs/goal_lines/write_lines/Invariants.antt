@@ -1,7 +1,4 @@
-use Rattle.std.proofs.Common.{◌≡◌, ◌++◌, string_bytes, List}
-use Rattle.std.specs.Io.{StartsWith}
-use Rattle.ghc_trace.specs.GoalLines.{Named}
-use Rattle.ghc_trace.specs.GoalLinesCode.{AddsLines, lent}
+use Rattle.ghc_trace.proofs.Words.{◌≡◌, ◌++◌, string_bytes, List, StartsWith, Named, AddsLines, lent}
 use Rattle.ghc_trace.proofs.goal_lines.write_lines.Given as goal
 
 abbrev pub invariant-loop-name : goal.invariant-loop-name

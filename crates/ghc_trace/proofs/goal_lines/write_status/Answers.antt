@@ -1,8 +1,4 @@
-use Rattle.std.proofs.Common.{◌++◌, sym, ap, ◌∙◌, string_bytes}
-use Rattle.std.specs.Prelude.{option_copied}
-use Rattle.ghc_hooks.specs.Status.{streaming}
-use Rattle.ghc_trace.specs.News.{status_text}
-use Rattle.ghc_trace.specs.GoalLines.{as_stream, as_noted}
+use Rattle.ghc_trace.proofs.Words.{◌++◌, sym, ap, ◌∙◌, string_bytes, option_copied, streaming, status_text, as_stream, as_noted}
 use Rattle.ghc_trace.proofs.goal_lines.write_status.Goals as goal
 
 pub returns-then-is_stream-clause-text : goal.returns-then-is_stream-clause-text

@@ -1,11 +1,5 @@
-use Rattle.std.proofs.Common.{◌≡◌, true, false, get_or, refl, ap, sym, subst, ◌∙◌}
-use Rattle.std.specs.Prelude.{IsTrue, is_some}
+use Rattle.ghc_trace.proofs.Words.{◌≡◌, true, false, get_or, refl, ap, sym, subst, ◌∙◌, IsTrue, is_some, take_all, In, VarName, each_next, in_get, not_both, has_member, is_member}
 use Rattle.std.specs.FinMap as finite
-use Rattle.std.proofs.lemmas.List.{take_all}
-use Rattle.ghc_term.specs.Lists.{In}
-use Rattle.ghc_term.specs.declared.var_name.VarName.{VarName}
-use Rattle.ghc_term.proofs.ListsLemmas.{each_next, in_get, not_both}
-use Rattle.ghc_term.proofs.SetsLemmas.{has_member, is_member}
 use Rattle.ghc_trace.proofs.Disturbing.{handled}
 use Rattle.ghc_trace.proofs.news.binds_one_of.Goals as goal
 

@@ -1,10 +1,4 @@
-use Rattle.std.proofs.Common.{◌+◌, ◌++◌, drop, sym, ap, arith, refl, string_bytes}
-use Rattle.std.specs.Io.{StartsWith}
-use Rattle.std.proofs.lemmas.Grind.{common_steps}
-use Rattle.std.proofs.lemmas.List.{drop_all}
-use Rattle.ghc_hooks.specs.Verdict.{status_of}
-use Rattle.ghc_trace.specs.News.{news_line}
-use Rattle.ghc_trace.specs.NewsCode.{IsNewsBy, standings_text}
+use Rattle.ghc_trace.proofs.Words.{◌+◌, ◌++◌, drop, sym, ap, arith, refl, string_bytes, StartsWith, common_steps, drop_all, status_of, news_line, IsNewsBy, standings_text}
 use Rattle.ghc_trace.proofs.Writing.{next_left, written_on, passed_by, all_written}
 use Rattle.ghc_trace.proofs.news.write_each_news.Goals as goal
 use Rattle.ghc_trace.proofs.news.write_each_news.Goals.{in-Some+in_ok-write_news, in_default}

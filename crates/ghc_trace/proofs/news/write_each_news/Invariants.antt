@@ -1,6 +1,4 @@
-use Rattle.std.proofs.Common.{drop, string_bytes}
-use Rattle.std.specs.Io.{StartsWith}
-use Rattle.ghc_trace.specs.NewsCode.{IsNewsBy, standings_text}
+use Rattle.ghc_trace.proofs.Words.{drop, string_bytes, StartsWith, IsNewsBy, standings_text}
 use Rattle.ghc_trace.proofs.Writing.{IsWritten}
 use Rattle.ghc_trace.proofs.news.write_each_news.Given as goal
 

@@ -1,13 +1,4 @@
-use Rattle.std.proofs.Common.{◌+◌, ◌++◌, drop, [], ◌∷◌, sym, ap, ◌∙◌, append_assoc, arith, refl, string_bytes}
-use Rattle.std.specs.Prelude.{codes}
-use Rattle.std.specs.Io.{StartsWith}
-use Rattle.std.proofs.lemmas.Grind.{common_steps}
-use Rattle.std.proofs.lemmas.List.{drop_all}
-use Rattle.ghc_term.proofs.ListsLemmas.{not_both}
-use Rattle.ghc_trace.specs.Ports.{resumed}
-use Rattle.ghc_trace.specs.PortText.{port_text, ports_text}
-use Rattle.ghc_trace.specs.Disturbed.{WaitsWhereBound}
-use Rattle.ghc_trace.specs.NewsCode.{Former, resumed_text}
+use Rattle.ghc_trace.proofs.Words.{◌+◌, ◌++◌, drop, [], ◌∷◌, sym, ap, ◌∙◌, append_assoc, arith, refl, string_bytes, codes, StartsWith, common_steps, drop_all, not_both, resumed, port_text, ports_text, WaitsWhereBound, Former, resumed_text}
 use Rattle.ghc_trace.proofs.Writing.{next_left, written_on, passed_by, all_written}
 use Rattle.ghc_trace.proofs.news.write_each_resumed.Goals as goal
 use Rattle.ghc_trace.proofs.news.write_each_resumed.Goals.{then-waits_where_bound+in_ok-write_resumed, else-waits_where_bound}

@@ -1,7 +1,4 @@
-use Rattle.std.proofs.Common.{drop, string_bytes}
-use Rattle.std.specs.Io.{StartsWith}
-use Rattle.ghc_trace.specs.Disturbed.{WaitsWhereBound}
-use Rattle.ghc_trace.specs.NewsCode.{resumed_text}
+use Rattle.ghc_trace.proofs.Words.{drop, string_bytes, StartsWith, WaitsWhereBound, resumed_text}
 use Rattle.ghc_trace.proofs.Writing.{IsWritten}
 use Rattle.ghc_trace.proofs.news.write_each_resumed.Given as goal
 

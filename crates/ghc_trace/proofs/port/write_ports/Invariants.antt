@@ -1,7 +1,4 @@
-use Rattle.std.proofs.Common.{◌≡◌, ◌++◌, map, drop, string_bytes}
-use Rattle.std.specs.Io.{StartsWith}
-use Rattle.ghc_trace.specs.PortCode.{port_of}
-use Rattle.ghc_trace.specs.PortText.{ports_text}
+use Rattle.ghc_trace.proofs.Words.{◌≡◌, ◌++◌, map, drop, string_bytes, StartsWith, port_of, ports_text}
 use Rattle.ghc_trace.proofs.port.write_ports.Given as goal
 
 abbrev pub invariant-loop-port : goal.invariant-loop-port

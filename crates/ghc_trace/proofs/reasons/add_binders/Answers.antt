@@ -1,11 +1,4 @@
-use Rattle.std.proofs.Common.{◌≡◌, ◌+◌, ◌∷◌, [], ◌++◌, ℕ, get_or, take, sym, ◌∙◌, subst, arith}
-use Rattle.std.specs.Prelude.{◌↔◌, Some, None}
-use Rattle.std.proofs.lemmas.List.{take_more, take_all}
-use Rattle.ghc_term.specs.declared.var_name.VarName.{VarName}
-use Rattle.ghc_records.specs.Orders.{AreDistinct}
-use Rattle.ghc_records.specs.Record.{numbers}
-use Rattle.ghc_records.specs.Slots.{held_in}
-use Rattle.ghc_records.specs.UseIndex.{StepBinds}
+use Rattle.ghc_trace.proofs.Words.{◌≡◌, ◌+◌, ◌∷◌, [], ◌++◌, ℕ, get_or, take, sym, ◌∙◌, subst, arith, ◌↔◌, Some, None, take_more, take_all, VarName, AreDistinct, numbers, held_in, StepBinds}
 use Rattle.ghc_trace.proofs.InQuestion.{HasBindersOf, not_bound, bound}
 use Rattle.ghc_trace.proofs.reasons.add_binders.Goals as goal
 use Rattle.ghc_trace.proofs.reasons.add_binders.Goals.{in-Some+in_ok-add_place, in_default}

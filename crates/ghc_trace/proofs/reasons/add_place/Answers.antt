@@ -1,10 +1,4 @@
-use Rattle.std.proofs.Common.{◌⊎◌, sym, subst, inl, inr}
-use Rattle.std.specs.Prelude.{◌↔◌}
-use Rattle.ghc_term.specs.Lists.{In}
-use Rattle.ghc_records.specs.Orders.{AreDistinct}
-use Rattle.ghc_records.specs.Record.{numbers}
-use Rattle.ghc_records.specs.Slots.{HasNumberIn}
-use Rattle.ghc_records.proofs.SlotLemmas.{stands_held}
+use Rattle.ghc_trace.proofs.Words.{◌⊎◌, sym, subst, inl, inr, ◌↔◌, In, AreDistinct, numbers, HasNumberIn, stands_held}
 use Rattle.ghc_trace.proofs.InQuestion.{place_added}
 use Rattle.ghc_trace.proofs.reasons.add_place.Goals as goal
 

@@ -1,6 +1,4 @@
-use Rattle.std.proofs.Common.{◌≡◌, ◌+◌, ◌∷◌, [], ◌++◌, get_or, take, sym, subst, arith}
-use Rattle.std.proofs.lemmas.List.{take_more, take_all}
-use Rattle.ghc_term.specs.declared.var_name.VarName.{VarName}
+use Rattle.ghc_trace.proofs.Words.{◌≡◌, ◌+◌, ◌∷◌, [], ◌++◌, get_or, take, sym, subst, arith, take_more, take_all, VarName}
 use Rattle.ghc_trace.proofs.InQuestion.{HasStepsOf, steps_none, step_more}
 use Rattle.ghc_trace.proofs.reasons.add_steps_of.Goals as goal
 

@@ -1,9 +1,5 @@
-use Rattle.std.proofs.Common.{◌≡◌, ◌⊎◌, ℕ, sym, ap, ◌∙◌, subst}
-use Rattle.std.specs.Prelude.{◌↔◌}
+use Rattle.ghc_trace.proofs.Words.{◌≡◌, ◌⊎◌, ℕ, sym, ap, ◌∙◌, subst, ◌↔◌, In, variables_asked, HasNumberIn}
 use Rattle.std.specs.FinSet as set
-use Rattle.ghc_term.specs.Lists.{In}
-use Rattle.ghc_fire.specs.Asked.{variables_asked}
-use Rattle.ghc_records.specs.Slots.{HasNumberIn}
 use Rattle.ghc_trace.proofs.InQuestion.{HasStepsOf, HasMakerOf, has_maker, has_no_maker, all_in_question}
 use Rattle.ghc_trace.proofs.reasons.in_question.Goals as goal
 use Rattle.ghc_trace.proofs.reasons.in_question.Goals.{in-Some+in_ok-add_place, in_default}

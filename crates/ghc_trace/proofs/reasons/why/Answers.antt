@@ -1,14 +1,5 @@
-use Rattle.std.proofs.Common.{◌≡◌, ◌<◌, ℕ, false, true, List, [], ◌∷◌, ◌++◌, length, map, refl, sym, ap, ◌∙◌, subst, inl, inr, arith}
+use Rattle.ghc_trace.proofs.Words.{◌≡◌, ◌<◌, ℕ, false, true, List, [], ◌∷◌, ◌++◌, length, map, refl, sym, ap, ◌∙◌, subst, inl, inr, arith, In, IsDirect, AreDistinct, numbers, held_in, rank, rank_stands, some_of, IsKeptAs, all_behind, behind_ranked, AreReasonsTold}
 use Rattle.std.specs.Option.{option_copied}
-use Rattle.ghc_term.specs.Lists.{In}
-use Rattle.ghc_depend.specs.Cause.{IsDirect}
-use Rattle.ghc_records.specs.Orders.{AreDistinct}
-use Rattle.ghc_records.specs.Record.{numbers}
-use Rattle.ghc_records.specs.Slots.{held_in}
-use Rattle.ghc_records.proofs.SlotRanks.{rank, rank_stands, some_of}
-use Rattle.ghc_depend.specs.Depend.{IsKeptAs}
-use Rattle.ghc_depend.proofs.Ahead.{all_behind, behind_ranked}
-use Rattle.ghc_trace.specs.Why.{AreReasonsTold}
 use Rattle.ghc_trace.proofs.Reasoning.{search, up_to, behind_it, none_ahead, gathered, passed, finished}
 use Rattle.ghc_trace.proofs.reasons.why.Goals as goal
 

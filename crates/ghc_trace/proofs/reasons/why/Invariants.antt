@@ -1,9 +1,4 @@
-use Rattle.std.proofs.Common.{ℕ, length, map}
-use Rattle.ghc_term.specs.Lists.{In}
-use Rattle.ghc_records.specs.Record.{Record}
-use Rattle.ghc_records.specs.Slots.{held_in, StandsIn}
-use Rattle.ghc_records.proofs.SlotRanks.{rank}
-use Rattle.ghc_depend.specs.Depend.{IsKeptAs}
+use Rattle.ghc_trace.proofs.Words.{ℕ, length, map, In, Record, held_in, StandsIn, rank, IsKeptAs}
 use Rattle.ghc_trace.proofs.Reasoning.{IsSearched}
 use Rattle.ghc_trace.proofs.reasons.why.Given as goal
 

@@ -1,8 +1,5 @@
-use Rattle.std.proofs.Common.{◌≡◌, ◌<◌, ◌++◌, [], ◌∷◌, map, sym, ap, ◌∙◌, arith, append_assoc, append-nil}
-use Rattle.std.proofs.lemmas.List.Elements.{All-same, All-head, All-tail}
+use Rattle.ghc_trace.proofs.Words.{◌≡◌, ◌<◌, ◌++◌, [], ◌∷◌, map, sym, ap, ◌∙◌, arith, append_assoc, append-nil, All-same, All-head, All-tail, Predicate, as_written}
 use Rattle.ghc_records.specs.declared.predicate.Predicate as written
-use Rattle.ghc_trace.specs.declared.spies.Predicate.{Predicate}
-use Rattle.ghc_trace.specs.Spies.{as_written}
 use Rattle.ghc_trace.proofs.spies.written.Goals as goal
 
 abbrev IsSmall : Predicate → Type 0

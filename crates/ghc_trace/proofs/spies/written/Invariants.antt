@@ -1,5 +1,4 @@
-use Rattle.std.proofs.Common.{◌≡◌, ◌++◌, ◌<◌, All, map}
-use Rattle.ghc_trace.specs.Spies.{as_written}
+use Rattle.ghc_trace.proofs.Words.{◌≡◌, ◌++◌, ◌<◌, All, map, as_written}
 use Rattle.ghc_trace.proofs.spies.written.Given as goal
 
 abbrev pub invariant-loop-spied : goal.invariant-loop-spied

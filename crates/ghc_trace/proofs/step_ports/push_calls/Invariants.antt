@@ -1,6 +1,4 @@
-use Rattle.std.proofs.Common.{◌≡◌, ◌+◌, ◌++◌, map, drop}
-use Rattle.ghc_trace.specs.Ports.{calls}
-use Rattle.ghc_trace.specs.PortCode.{port_of}
+use Rattle.ghc_trace.proofs.Words.{◌≡◌, ◌+◌, ◌++◌, map, drop, calls, port_of}
 use Rattle.ghc_trace.proofs.step_ports.push_calls.Given as goal
 
 abbrev pub invariant-loop-index : goal.invariant-loop-index

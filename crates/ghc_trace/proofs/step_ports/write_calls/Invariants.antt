@@ -1,7 +1,4 @@
-use Rattle.std.proofs.Common.{◌≡◌, ◌+◌, ◌++◌, drop, string_bytes}
-use Rattle.std.specs.Io.{StartsWith}
-use Rattle.ghc_trace.specs.Ports.{calls}
-use Rattle.ghc_trace.specs.PortText.{ports_text}
+use Rattle.ghc_trace.proofs.Words.{◌≡◌, ◌+◌, ◌++◌, drop, string_bytes, StartsWith, calls, ports_text}
 use Rattle.ghc_trace.proofs.step_ports.write_calls.Given as goal
 
 abbrev pub invariant-loop-index : goal.invariant-loop-index

@@ -1,7 +1,4 @@
-use Rattle.std.proofs.Common.{get_or, refl, sym, subst}
-use Rattle.std.proofs.lemmas.List.{drop_more}
-use Rattle.ghc_term.specs.Lists.{In}
-use Rattle.ghc_term.specs.declared.var_name.VarName.{VarName}
+use Rattle.ghc_trace.proofs.Words.{get_or, refl, sym, subst, drop_more, In, VarName}
 use Rattle.ghc_trace.proofs.BoundChain.{begin, paired, passed, finished, unbound}
 use Rattle.ghc_trace.proofs.who_bound.binders_of.Goals as goal
 use Rattle.ghc_trace.proofs.who_bound.binders_of.Goals.{in-Some+in_ok-push, in_default}

@@ -1,20 +1,5 @@
-use Rattle.std.proofs.Common.{◌≡◌, ◌+◌, [], ◌∷◌, ◌++◌, refl, subst, sym, ap, ◌∙◌}
+use Rattle.ghc_core.proofs.Words.{◌≡◌, ◌+◌, [], ◌∷◌, ◌++◌, refl, subst, sym, ap, ◌∙◌, In, State, Record, numbers, HasRoomToKeep, redid, loaded_opening, number_in, AreLeft, MakesGoal, Binds, World, Core, IsConsistent, AreCarriedOver, told, Comes as comes, Coming, with_coming, CanChange}
 use Rattle.std.specs.FinMap as finite
-use Rattle.ghc_term.specs.Lists.{In}
-use Rattle.ghc_records.specs.Record.{State, Record, numbers}
-use Rattle.ghc_records.specs.UseIndex.{HasRoomToKeep}
-use Rattle.ghc_records.specs.Journal.{redid}
-use Rattle.ghc_records.specs.History.{loaded_opening}
-use Rattle.ghc_records.proofs.OrderLemmas.{number_in}
-use Rattle.ghc_hooks.specs.Notes.{AreLeft}
-use Rattle.ghc_depend.specs.Depend.{MakesGoal, Binds}
-use Rattle.ghc_core.specs.World.{World}
-use Rattle.ghc_core.specs.Core.{Core, IsConsistent}
-use Rattle.ghc_core.specs.Carried.{AreCarriedOver}
-use Rattle.ghc_core.specs.StreamGoals.{told}
-use Rattle.ghc_core.specs.declared.change.Change.TheVariants.{Comes as comes}
-use Rattle.ghc_core.specs.declared.change.Coming.{Coming}
-use Rattle.ghc_core.specs.Change.{with_coming, CanChange}
 use Rattle.ghc_core.proofs.Arriving.{comes_new, comes_acyclic, comes_consistent, comes_left}
 use Rattle.ghc_core.proofs.Standing.{standing_replay}
 use Rattle.ghc_core.proofs.Taking.{unbound_there}

@@ -1,21 +1,9 @@
-use Rattle.std.proofs.Common.{◌≡◌, [], ◌∷◌, ◌++◌, subst, sym, ap, ◌∙◌}
-use Rattle.ghc_term.specs.Lists.{In}
-use Rattle.ghc_records.specs.Record.{Record, numbers}
-use Rattle.ghc_records.specs.UseIndex.{HasRoomToKeep}
-use Rattle.ghc_records.specs.History.{loaded_opening}
-use Rattle.ghc_hooks.specs.Notes.{AreLeft}
-use Rattle.ghc_depend.specs.Depend.{MakesGoal, Binds}
-use Rattle.ghc_core.specs.World.{World, Opens}
-use Rattle.ghc_core.specs.Core.{Core, IsConsistent}
-use Rattle.ghc_core.specs.Carried.{AreCarriedOver}
-use Rattle.ghc_core.specs.Load.{CanLoad, with_loaded}
-use Rattle.ghc_core.specs.StreamGoals.{told}
+use Rattle.ghc_core.proofs.Words.{◌≡◌, [], ◌∷◌, ◌++◌, subst, sym, ap, ◌∙◌, In, Record, numbers, HasRoomToKeep, loaded_opening, AreLeft, MakesGoal, Binds, World, Opens, Core, IsConsistent, AreCarriedOver, CanLoad, with_loaded, told, number_in}
 use Rattle.ghc_core.proofs.Standing.{standing_replay, standing_well_made}
 use Rattle.ghc_core.proofs.Taking.{unbound_there}
 use Rattle.ghc_core.proofs.StreamNames.{stands_over}
 use Rattle.ghc_core.proofs.Exactness.{unnoted, not_there, over_exact, over_left}
 use Rattle.ghc_core.proofs.Loading.{loaded_opens, loaded_stands, loaded_is_new, loaded_world, room_to_load, none_noted}
-use Rattle.ghc_records.proofs.OrderLemmas.{number_in}
 use Rattle.ghc_core.proofs.core_state.Core.add_loaded.Goals as goal
 
 -- the world before the step, and what is known of it

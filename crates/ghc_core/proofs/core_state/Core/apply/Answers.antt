@@ -1,6 +1,4 @@
-use Rattle.std.proofs.Common.{sym, subst}
-use Rattle.ghc_hooks.specs.Notes.{AreLeft}
-use Rattle.ghc_core.specs.Change.{IsBoundBy}
+use Rattle.ghc_core.proofs.Words.{sym, subst, AreLeft, IsBoundBy}
 use Rattle.ghc_core.proofs.core_state.Core.apply.Goals as goal
 
 pub returns-in-Comes-clause-notes : goal.returns-in-Comes-clause-notes

@@ -1,8 +1,4 @@
-use Rattle.std.proofs.Common.{refl, sym, subst}
-use Rattle.ghc_core.specs.World.{World}
-use Rattle.ghc_core.specs.declared.change.Change.TheVariants.{Reorders as reorders}
-use Rattle.ghc_core.specs.Change.{CanChange, Changes}
-use Rattle.ghc_core.specs.Answers.{to_arrange, does}
+use Rattle.ghc_core.proofs.Words.{refl, sym, subst, World, Reorders as reorders, CanChange, Changes, to_arrange, does}
 use Rattle.ghc_core.proofs.core_state.Core.arrange.Goals as goal
 
 pub put_in_order-requires-clause-found : goal.put_in_order-requires-clause-found

@@ -1,11 +1,4 @@
-use Rattle.std.proofs.Common.{◌≡◌, true, false, None, sym, ap, ◌∙◌, subst}
-use Rattle.ghc_fire.specs.Asked.{own_variables, made_from, effect_of_asking}
-use Rattle.ghc_fire.specs.declared.act.Act.TheVariants.{Asked as asked}
-use Rattle.ghc_records.specs.Record.{Record}
-use Rattle.ghc_records.specs.Replay.{AreKnownIn}
-use Rattle.ghc_core.specs.AskedAgain.{CanBeAsked}
-use Rattle.ghc_core.specs.Core.{Core}
-use Rattle.ghc_core.specs.World.{World, IsKnown}
+use Rattle.ghc_core.proofs.Words.{◌≡◌, true, false, None, sym, ap, ◌∙◌, subst, own_variables, made_from, effect_of_asking, Asked as asked, Record, AreKnownIn, CanBeAsked, Core, World, IsKnown}
 use Rattle.ghc_core.proofs.AskedAgain.{asking_next, asking_each, asking_known}
 use Rattle.ghc_core.proofs.core_state.Core.asking_step.Goals as goal
 

@@ -1,8 +1,5 @@
-use Rattle.std.proofs.Common.{◌≡◌, map, take}
+use Rattle.ghc_core.proofs.Words.{◌≡◌, map, take, after_firings, firings_of_entries, CarriesOutEach, said_by}
 use Rattle.std.specs.FinMap as finite
-use Rattle.ghc_core.specs.Counting.{after_firings, firings_of_entries}
-use Rattle.ghc_core.specs.Resume.{CarriesOutEach}
-use Rattle.ghc_records.specs.WrittenEntryCode.{said_by}
 use Rattle.ghc_core.proofs.core_state.Core.carry_out_each.Given as goal
 
 abbrev pub invariant-loop-index : goal.invariant-loop-index

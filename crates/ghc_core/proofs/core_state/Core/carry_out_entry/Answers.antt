@@ -1,11 +1,4 @@
-use Rattle.std.proofs.Common.{◌≡◌, sym, ap, ◌∙◌, subst}
-use Rattle.std.specs.Prelude.{IfOk}
-use Rattle.ghc_records.specs.Journal.{reordered}
-use Rattle.ghc_core.specs.Counting.{after_firings, firings_of_entry}
-use Rattle.ghc_core.specs.declared.taken_again.Outcome.TheVariants.{CarriedOut, Refused}
-use Rattle.ghc_core.specs.Events.{undo, roll, redo, arrange}
-use Rattle.ghc_core.specs.Resume.{CarriesOut, IsRefusedEntry}
-use Rattle.ghc_records.specs.WrittenEntryCode.{said_by}
+use Rattle.ghc_core.proofs.Words.{◌≡◌, sym, ap, ◌∙◌, subst, IfOk, reordered, after_firings, firings_of_entry, CarriedOut, Refused, undo, roll, redo, arrange, CarriesOut, IsRefusedEntry, said_by}
 use Rattle.ghc_core.proofs.Redone.{if_ok}
 use Rattle.ghc_core.proofs.Resuming.{IsCommandOf, for_undo, for_roll, for_redo, for_arrange, command_carried, command_refused}
 use Rattle.ghc_core.proofs.core_state.Core.carry_out_entry.Goals as goal

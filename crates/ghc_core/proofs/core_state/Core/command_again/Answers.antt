@@ -1,6 +1,4 @@
-use Rattle.std.proofs.Common.{◌∙◌, inl, inr}
-use Rattle.ghc_core.specs.Change.{IsBoundBy}
-use Rattle.ghc_core.specs.CommandCode.{command_of}
+use Rattle.ghc_core.proofs.Words.{◌∙◌, inl, inr, IsBoundBy, command_of}
 use Rattle.ghc_core.proofs.Loading.{none_noted}
 use Rattle.ghc_core.proofs.Resuming.{refused_asks_nothing}
 use Rattle.ghc_core.proofs.core_state.Core.command_again.Goals as goal

@@ -1,7 +1,4 @@
-use Rattle.std.proofs.Common.{subst, sym, ap, ◌∙◌}
-use Rattle.ghc_hooks.specs.Notes.{AreLeft}
-use Rattle.ghc_depend.specs.Depend.{Binds}
-use Rattle.ghc_core.specs.World.{World, IsReplay, with_step}
+use Rattle.ghc_core.proofs.Words.{subst, sym, ap, ◌∙◌, AreLeft, Binds, World, IsReplay, with_step}
 use Rattle.ghc_core.proofs.core_state.Core.commit.Goals as goal
 
 pub returns-in_err-addition-clause-replay : goal.returns-in_err-addition-clause-replay

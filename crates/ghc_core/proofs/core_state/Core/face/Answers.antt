@@ -1,11 +1,4 @@
-use Rattle.std.proofs.Common.{subst}
-use Rattle.std.specs.Prelude.{IfOk}
-use Rattle.std.proofs.lemmas.Result.{IfOk-weaker}
-use Rattle.ghc_term.specs.Bindings.{IsAcyclic}
-use Rattle.ghc_term.specs.Store.{value_at}
-use Rattle.ghc_hooks.specs.Face.{Face, IsFace}
-use Rattle.ghc_hooks.proofs.NotedFaces.{settled_notes}
-use Rattle.ghc_core.specs.Core.{IsFaceOf, IsNotedFaceOf}
+use Rattle.ghc_core.proofs.Words.{subst, IfOk, IfOk-weaker, IsAcyclic, value_at, Face, IsFace, settled_notes, IsFaceOf, IsNotedFaceOf}
 use Rattle.ghc_core.proofs.core_state.Core.face.Goals as goal
 
 pub returns-clause-scratch : goal.returns-clause-scratch

@@ -1,7 +1,5 @@
-use Rattle.std.proofs.Common.{refl, subst, inl, inr}
-use Rattle.ghc_term.specs.declared.fault.Fault.{Fault}
-use Rattle.ghc_core.specs.CommandCode.{command_of}
-use Rattle.ghc_core.specs.Streams.{Foresees, refuses}
+use Rattle.ghc_core.proofs.Words.{refl, subst, inl, inr, Fault, command_of, Foresees}
+use Rattle.ghc_core.specs.Streams.{refuses}
 use Rattle.ghc_core.proofs.AskedGoals.{ask_told}
 use Rattle.ghc_core.proofs.core_state.Core.foresee.Goals as goal
 

@@ -1,9 +1,5 @@
-use Rattle.std.proofs.Common.{◌≤◌, inr, refl, List, length, map, sym, subst}
-use Rattle.ghc_records.specs.Numbers.{kept_limit}
-use Rattle.ghc_records.specs.Journal.{Step, step_of}
+use Rattle.ghc_core.proofs.Words.{◌≤◌, inr, refl, List, length, map, sym, subst, kept_limit, Step, step_of, Core, AskForGoals}
 use Rattle.ghc_term.proofs.ListsLemmas.{not_both}
-use Rattle.ghc_core.specs.Core.{Core}
-use Rattle.ghc_core.specs.Load.{AskForGoals}
 use Rattle.ghc_core.proofs.SavedSteps.{saved_form}
 use Rattle.ghc_core.proofs.core_state.Core.history.Goals as goal
 

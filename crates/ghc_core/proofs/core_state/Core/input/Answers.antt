@@ -1,6 +1,4 @@
-use Rattle.std.proofs.Common.{◌≡◌, ap, sym, ◌∙◌, Ok, Err}
-use Rattle.ghc_core.specs.Answers.{to_give, does}
-use Rattle.ghc_core.specs.Events.{stepped}
+use Rattle.ghc_core.proofs.Words.{◌≡◌, ap, sym, ◌∙◌, Ok, Err, to_give, does, stepped}
 use Rattle.ghc_core.proofs.core_state.Core.input.Goals as goal
 
 pub returns-clause-answer : goal.returns-clause-answer

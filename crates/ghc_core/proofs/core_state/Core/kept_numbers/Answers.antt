@@ -1,6 +1,4 @@
-use Rattle.std.proofs.Common.{sym, ap, ◌∙◌, arith}
-use Rattle.ghc_records.specs.Record.{numbers}
-use Rattle.ghc_core.specs.Core.{Core}
+use Rattle.ghc_core.proofs.Words.{sym, ap, ◌∙◌, arith, numbers, Core}
 use Rattle.ghc_core.proofs.SavedSteps.{slot_on, none_yet, all_found}
 use Rattle.ghc_core.proofs.core_state.Core.kept_numbers.Goals as goal
 

@@ -1,11 +1,5 @@
-use Rattle.std.proofs.Common.{◌≡◌, ℕ, ◌+◌, ◌<◌, List, [], length, get_or, slice_get, refl, ap, subst, ◌∙◌, inr, arith, Some}
-use Rattle.std.proofs.lemmas.Option.{slice_get_read}
-use Rattle.ghc_records.specs.History.{loaded_opening}
-use Rattle.ghc_core.specs.World.{Opens}
+use Rattle.ghc_core.proofs.Words.{◌≡◌, ℕ, ◌+◌, ◌<◌, List, [], length, get_or, slice_get, refl, ap, subst, ◌∙◌, inr, arith, Some, slice_get_read, loaded_opening, Opens, Meter, fired, Step}
 use Rattle.ghc_core.proofs.Loading.{nothing_loaded, own_step, own_goal, one_more_loaded, stopped_at, all_loaded}
-use Rattle.ghc_fire.specs.declared.meter.Meter.{Meter}
-use Rattle.ghc_fire.specs.Meter.{fired}
-use Rattle.ghc_records.specs.Journal.{Step}
 use Rattle.ghc_core.proofs.core_state.Core.load.Goals as goal
 
 -- A firing more is counted, far below the greatest count.

@@ -1,9 +1,4 @@
-use Rattle.std.proofs.Common.{◌≡◌, sym, subst, ◌∙◌, ap}
-use Rattle.std.specs.Prelude.{IfSome, IfNone}
-use Rattle.ghc_fire.specs.Meter.{fired}
-use Rattle.ghc_records.specs.Journal.{step_of}
-use Rattle.ghc_core.specs.World.{World, Opens}
-use Rattle.ghc_core.specs.Load.{CanLoad, IsPossibleAs, IsImpossible, with_loaded}
+use Rattle.ghc_core.proofs.Words.{◌≡◌, sym, subst, ◌∙◌, ap, IfSome, IfNone, fired, step_of, World, Opens, CanLoad, IsPossibleAs, IsImpossible, with_loaded}
 use Rattle.ghc_core.proofs.core_state.Core.load_step.Goals as goal
 
 pub returns-in_default-clause-refused : goal.returns-in_default-clause-refused

@@ -1,6 +1,4 @@
-use Rattle.std.proofs.Common.{subst}
-use Rattle.ghc_hooks.specs.Notes.{AreLeft}
-use Rattle.ghc_core.specs.Change.{IsBoundBy}
+use Rattle.ghc_core.proofs.Words.{subst, AreLeft, IsBoundBy}
 use Rattle.ghc_core.proofs.core_state.Core.make.Goals as goal
 
 pub returns-clause-notes : goal.returns-clause-notes

@@ -1,12 +1,5 @@
-use Rattle.std.proofs.Common.{◌≡◌, subst, sym, ap, ◌∙◌, arith}
+use Rattle.ghc_core.proofs.Words.{◌≡◌, subst, sym, ap, ◌∙◌, arith, IsProgram, query_state, goal_cmp, IsToTry, AreMarked, Opens, IsConsistent, TellStreams, opened as names_of}
 use Rattle.std.specs.FinMap as finite
-use Rattle.ghc_flat.specs.Flat.{IsProgram}
-use Rattle.ghc_records.specs.Replay.{query_state}
-use Rattle.ghc_fire.specs.Goals.{goal_cmp}
-use Rattle.ghc_core.specs.Carried.{IsToTry, AreMarked}
-use Rattle.ghc_core.specs.World.{Opens}
-use Rattle.ghc_core.specs.Core.{IsConsistent}
-use Rattle.ghc_core.specs.StreamGoals.{TellStreams, opened as names_of}
 use Rattle.ghc_core.proofs.Standing.{empty_opening, same_empty, empty_opens, empty_stands}
 use Rattle.ghc_core.proofs.Exactness.{opened_exact}
 use Rattle.ghc_core.proofs.StreamNames.{opened_tells}

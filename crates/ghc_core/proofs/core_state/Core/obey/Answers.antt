@@ -1,11 +1,5 @@
-use Rattle.std.proofs.Common.{◌∙◌, refl, subst, inl, inr}
+use Rattle.ghc_core.proofs.Words.{◌∙◌, refl, subst, inl, inr, AreLeft, World, does, Changes, IsBoundBy, command_of, Moves}
 use Rattle.ghc_term.specs.declared.fault.Fault.TheVariants as fault
-use Rattle.ghc_hooks.specs.Notes.{AreLeft}
-use Rattle.ghc_core.specs.World.{World}
-use Rattle.ghc_core.specs.Answers.{does}
-use Rattle.ghc_core.specs.Change.{Changes, IsBoundBy}
-use Rattle.ghc_core.specs.CommandCode.{command_of}
-use Rattle.ghc_core.specs.Meets.{Moves}
 use Rattle.ghc_core.proofs.Replying.{not_obeyed}
 use Rattle.ghc_core.proofs.Playable.{moved_grows}
 use Rattle.ghc_core.proofs.core_state.Core.obey.Goals as goal

@@ -1,11 +1,4 @@
-use Rattle.std.proofs.Common.{◌∙◌, ap, sym, subst, subst₂}
-use Rattle.ghc_term.specs.Tree.{IsValue}
-use Rattle.ghc_term.specs.Store.{value_at}
-use Rattle.ghc_term.specs.Bindings.{Leads}
-use Rattle.ghc_term.specs.declared.fault.Fault.{Fault}
-use Rattle.ghc_match.specs.Position.{EndsIn}
-use Rattle.ghc_match.proofs.AlikeLemmas.{shown_value}
-use Rattle.ghc_core.specs.Core.{Core}
+use Rattle.ghc_core.proofs.Words.{◌∙◌, ap, sym, subst, subst₂, IsValue, value_at, Leads, Fault, EndsIn, shown_value, Core}
 use Rattle.ghc_core.proofs.Refusing.{no_stream, tail_bound}
 use Rattle.ghc_core.proofs.StreamSteps.{refused_anyway, takes_something}
 use Rattle.ghc_core.proofs.core_state.Core.open_stream.Goals as goal

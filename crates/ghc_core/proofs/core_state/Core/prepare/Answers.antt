@@ -1,7 +1,5 @@
-use Rattle.std.proofs.Common.{inl, inr, subst, sym}
-use Rattle.ghc_core.specs.Proposes.{CommitFails}
+use Rattle.ghc_core.proofs.Words.{inl, inr, subst, sym, CommitFails, next_record}
 use Rattle.ghc_core.proofs.Refusing.{stale}
-use Rattle.ghc_core.specs.Core.{next_record}
 use Rattle.ghc_core.proofs.Preparing.{IsNext, commit_answered}
 use Rattle.ghc_core.proofs.core_state.Core.prepare.Goals as goal
 

@@ -1,6 +1,4 @@
-use Rattle.std.proofs.Common.{◌≡◌, ℕ, List, sym, subst}
-use Rattle.ghc_depend.specs.Lawful.{IsLawful, IsInOrder}
-use Rattle.ghc_core.specs.Core.{Core}
+use Rattle.ghc_core.proofs.Words.{◌≡◌, ℕ, List, sym, subst, IsLawful, IsInOrder, Core}
 use Rattle.ghc_core.proofs.Arranged.{is_in_order}
 use Rattle.ghc_core.proofs.core_state.Core.prepare_arrange.Goals as goal
 

@@ -1,11 +1,6 @@
-use Rattle.std.proofs.Common.{◌≡◌, inl, inr, ap, sym, subst, ◌∙◌, Err, None}
-use Rattle.ghc_fire.specs.declared.act.Act.TheVariants.{Asked as asked}
-use Rattle.ghc_fire.specs.Asked.{NameNoneOf, Asks, asked_as}
+use Rattle.ghc_core.proofs.Words.{◌≡◌, inl, inr, ap, sym, subst, ◌∙◌, Err, None, Asked as asked, NameNoneOf, asked_as, AreNarrow, AllCalls, IsFirstCallWithout, HasClauseFor, NameKnown, AskFails, Core}
+use Rattle.ghc_fire.specs.Asked.{Asks}
 use Rattle.ghc_term.proofs.ListsLemmas.{not_both}
-use Rattle.ghc_reader.specs.Written.{AreNarrow}
-use Rattle.ghc_flat.specs.Checked.{AllCalls, IsFirstCallWithout}
-use Rattle.ghc_core.specs.AskedGoals.{HasClauseFor, NameKnown, AskFails}
-use Rattle.ghc_core.specs.Core.{Core}
 use Rattle.ghc_core.proofs.AskedGoals.{defined_by, undefined_told, unknown_told, full_told, one_ask_refusal, undefined_first, ask_not_refused, none_of_next, ask_step}
 use Rattle.ghc_core.proofs.core_state.Core.prepare_ask.Goals as goal
 

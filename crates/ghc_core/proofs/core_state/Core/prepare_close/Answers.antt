@@ -1,9 +1,4 @@
-use Rattle.std.proofs.Common.{◌≡◌, inr, ap, subst, ◌∙◌, Some, Ok, Err}
-use Rattle.ghc_term.specs.Store.{value_at}
-use Rattle.ghc_term.specs.Goal.{stream}
-use Rattle.ghc_fire.specs.Effect.{Closes}
-use Rattle.ghc_fire.specs.declared.act.Act.TheVariants.{Closed as closed}
-use Rattle.ghc_core.specs.Core.{Core, IsStanding}
+use Rattle.ghc_core.proofs.Words.{◌≡◌, inr, ap, subst, ◌∙◌, Some, Ok, Err, value_at, stream, Closes, Closed as closed, Core, IsStanding}
 use Rattle.ghc_core.proofs.Standing.{standing_orderly}
 use Rattle.ghc_core.proofs.StreamSteps.{if_some, if_none, is_bound, is_full, stream_step}
 use Rattle.ghc_core.proofs.core_state.Core.prepare_close.Goals as goal

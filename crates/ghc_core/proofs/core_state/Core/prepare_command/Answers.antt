@@ -1,15 +1,5 @@
-use Rattle.std.proofs.Common.{◌≡◌, sym, ap, ◌∙◌, subst, inl, inr, Ok, Err}
-use Rattle.ghc_term.specs.declared.fault.Fault.{Fault}
-use Rattle.ghc_core.specs.Anyway.{IsNotObeyedAnyway}
-use Rattle.ghc_core.specs.Answers.{to_give, to_close, to_undo, to_roll, to_redo, to_arrange, to_ask, Fails}
-use Rattle.ghc_core.specs.Asked.{IsAskedFor}
-use Rattle.ghc_core.specs.CommandCode.{command_of}
-use Rattle.ghc_core.specs.Counting.{CountsInObeying, after_firings, firings_of_command}
+use Rattle.ghc_core.proofs.Words.{◌≡◌, sym, ap, ◌∙◌, subst, inl, inr, Ok, Err, Fault, IsNotObeyedAnyway, to_give, to_close, to_undo, to_roll, to_redo, to_arrange, to_ask, Fails, IsAskedFor, command_of, CountsInObeying, after_firings, firings_of_command, arrange, Comes as comes, Goes as goes, Reorders as reorders, Coming, Going}
 use Rattle.ghc_core.proofs.Counted.{redo_counted}
-use Rattle.ghc_core.specs.Events.{arrange}
-use Rattle.ghc_core.specs.declared.change.Change.TheVariants.{Comes as comes, Goes as goes, Reorders as reorders}
-use Rattle.ghc_core.specs.declared.change.Coming.{Coming}
-use Rattle.ghc_core.specs.declared.change.Going.{Going}
 use Rattle.ghc_core.proofs.CertainRefusals.{undo_cannot_fail, one_undo_refusal}
 use Rattle.ghc_core.proofs.Replying.{Why}
 use Rattle.ghc_core.proofs.core_state.Core.prepare_command.Goals as goal

@@ -1,17 +1,7 @@
-use Rattle.std.proofs.Common.{◌≡◌, refl, inr, ap, sym, subst, ◌∙◌, Some, arith}
+use Rattle.ghc_core.proofs.Words.{◌≡◌, refl, inr, ap, sym, subst, ◌∙◌, Some, arith, Fault, Record, loaded_opening, same_value, not_both as both_found, Core, RedoFails, LacksGoal, asking_fires, Comes as comes, Coming, CanChange}
 use Rattle.std.specs.FinMap as finite
-use Rattle.ghc_term.specs.declared.fault.Fault.{Fault}
 use Rattle.ghc_term.proofs.ListsLemmas.{not_both}
-use Rattle.ghc_records.specs.Record.{Record}
-use Rattle.ghc_records.specs.History.{loaded_opening}
-use Rattle.ghc_depend.proofs.Finding.{same_value, not_both as both_found}
-use Rattle.ghc_core.specs.Core.{Core}
-use Rattle.ghc_core.specs.Refusals.{RedoFails, LacksGoal}
-use Rattle.ghc_depend.proofs.Results.{asking_fires}
 use Rattle.ghc_core.proofs.Refusing.{not_shelved, no_goal, no_variable, changed, full}
-use Rattle.ghc_core.specs.declared.change.Change.TheVariants.{Comes as comes}
-use Rattle.ghc_core.specs.declared.change.Coming.{Coming}
-use Rattle.ghc_core.specs.Change.{CanChange}
 use Rattle.ghc_core.proofs.Reaching.{reached_good}
 use Rattle.ghc_core.proofs.Replayed.{replayed}
 use Rattle.ghc_core.proofs.Redone.{said_not_shelved, said_no_goal, known_not_refused}

@@ -1,13 +1,4 @@
-use Rattle.std.proofs.Common.{refl, sym, ap, ◌∙◌, subst, inl, inr}
-use Rattle.ghc_term.specs.Lists.{In}
-use Rattle.ghc_records.specs.Record.{Record}
-use Rattle.ghc_depend.specs.Depend.{IsKeptAs, IsNotKept}
-use Rattle.ghc_depend.specs.Kept.{IsSplitAt}
-use Rattle.ghc_core.specs.Core.{Core}
-use Rattle.ghc_core.specs.declared.change.Change.TheVariants.{Goes as goes}
-use Rattle.ghc_core.specs.declared.change.Going.{Going}
-use Rattle.ghc_core.specs.Change.{CanChange}
-use Rattle.ghc_core.specs.Gone.{all_gone}
+use Rattle.ghc_core.proofs.Words.{refl, sym, ap, ◌∙◌, subst, inl, inr, In, Record, IsKeptAs, IsNotKept, IsSplitAt, Core, Goes as goes, Going, CanChange, all_gone}
 use Rattle.ghc_core.proofs.core_state.Core.prepare_rollback.Goals as goal
 
 pub returns-in_default-clause-fault : goal.returns-in_default-clause-fault

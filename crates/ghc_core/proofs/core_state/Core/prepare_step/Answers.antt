@@ -1,6 +1,4 @@
-use Rattle.std.proofs.Common.{inl, inr, subst}
-use Rattle.ghc_core.specs.Proposes.{refused_attempt}
-use Rattle.ghc_core.specs.Core.{record_as}
+use Rattle.ghc_core.proofs.Words.{inl, inr, subst, record_as}
 use Rattle.ghc_core.proofs.Preparing.{IsNext, step_answered}
 use Rattle.ghc_core.proofs.core_state.Core.prepare_step.Goals as goal
 
@@ -9,13 +7,13 @@ returns-in-Ok-clause-answer c =
     let w = c.args.self.now.world in
     let same = c.in-Ok.ensures.stays.world in
     let next = subst (λ v. IsNext v (record_as v.next c.in-Ok.proposal) c.proposed_as_next.result) same (c.proposed_as_next.ensures.step, c.proposed_as_next.ensures.room, c.proposed_as_next.ensures.fault) in
-    step_answered w c.args.goal c.args.choice c.in-Ok.proposal c.proposed_as_next.result c.in-Ok.ensures.answer.0 next
+    step_answered w c.stands.ensures.orderly.acyclic c.args.goal c.args.choice c.in-Ok.proposal c.proposed_as_next.result c.in-Ok.ensures.answer.0 next
 
 pub returns-in-Err-clause-answer : goal.returns-in-Err-clause-answer
 returns-in-Err-clause-answer c = (
   tt,
   elim c.in-Err.ensures.answer.1 [
     | inl m ↦ inl m
-    | inr q ↦ inr (refused_attempt q)
+    | inr q ↦ inr (record { first = inl q })
   ],
 )

@@ -1,13 +1,6 @@
-use Rattle.std.proofs.Common.{◌≡◌, List, [], refl, sym, ◌∙◌, subst, inl, inr}
-use Rattle.ghc_term.specs.Lists.{In}
-use Rattle.ghc_records.specs.Record.{Record}
-use Rattle.ghc_depend.specs.Kept.{IsSplitAt}
-use Rattle.ghc_core.specs.Gone.{Gone, all_gone}
+use Rattle.ghc_core.proofs.Words.{◌≡◌, List, [], refl, sym, ◌∙◌, subst, inl, inr, In, Record, IsSplitAt, Gone, all_gone, Fault, Core, CanUndo, UndoFails}
 use Rattle.ghc_core.proofs.Alone.{goes_alone}
 use Rattle.ghc_core.proofs.Reaching.{reached_good}
-use Rattle.ghc_term.specs.declared.fault.Fault.{Fault}
-use Rattle.ghc_core.specs.Core.{Core}
-use Rattle.ghc_core.specs.Refusals.{CanUndo, UndoFails}
 use Rattle.ghc_core.proofs.Refusing.{not_kept, has_consequence}
 use Rattle.ghc_core.proofs.core_state.Core.prepare_undo.Goals as goal
 

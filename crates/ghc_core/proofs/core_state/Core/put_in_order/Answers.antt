@@ -1,13 +1,4 @@
-use Rattle.std.proofs.Common.{◌≡◌, ◌∙◌, ap, refl, subst, sym}
-use Rattle.ghc_records.specs.History.{loaded_opening}
-use Rattle.ghc_records.specs.UseIndex.{RecordsTables}
-use Rattle.ghc_hooks.specs.Notes.{AreLeft}
-use Rattle.ghc_core.specs.World.{World}
-use Rattle.ghc_core.specs.Core.{Core}
-use Rattle.ghc_core.specs.Arrangement.{Arrangement}
-use Rattle.ghc_core.specs.declared.change.Change.TheVariants.{Reorders as reorders}
-use Rattle.ghc_core.specs.Change.{CanChange, Changes}
-use Rattle.ghc_core.specs.Reached.{by_change}
+use Rattle.ghc_core.proofs.Words.{◌≡◌, ◌∙◌, ap, refl, subst, sym, loaded_opening, RecordsTables, AreLeft, World, Core, Arrangement, Reorders as reorders, CanChange, Changes, by_change}
 use Rattle.ghc_core.proofs.Arranged.{all_left}
 use Rattle.ghc_core.proofs.Preparing.{same_world}
 use Rattle.ghc_core.proofs.core_state.Core.put_in_order.Goals as goal

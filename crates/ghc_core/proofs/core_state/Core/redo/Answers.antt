@@ -1,14 +1,5 @@
-use Rattle.std.proofs.Common.{◌≡◌, sym, subst, ap, ◌∙◌, Some, Ok, Err}
-use Rattle.ghc_term.specs.declared.fault.Fault.{Fault}
-use Rattle.ghc_core.specs.World.{World}
-use Rattle.ghc_core.specs.declared.change.Change.TheVariants.{Comes as comes}
-use Rattle.ghc_core.specs.declared.change.Coming.{Coming}
+use Rattle.ghc_core.proofs.Words.{◌≡◌, sym, subst, ap, ◌∙◌, Some, Ok, Err, Fault, World, Comes as comes, Coming, AreLeft, Binds, stepped, to_redo, does, with_coming, CanChange}
 use Rattle.std.specs.FinMap as finite
-use Rattle.ghc_hooks.specs.Notes.{AreLeft}
-use Rattle.ghc_depend.specs.Depend.{Binds}
-use Rattle.ghc_core.specs.Events.{stepped}
-use Rattle.ghc_core.specs.Answers.{to_redo, does}
-use Rattle.ghc_core.specs.Change.{with_coming, CanChange}
 use Rattle.ghc_core.proofs.core_state.Core.redo.Goals as goal
 
 pub returns-clause-ok : goal.returns-clause-ok

@@ -1,6 +1,4 @@
-use Rattle.std.proofs.Common.{sym, ap, ◌∙◌}
-use Rattle.ghc_hooks.specs.Verdict.{status_of}
-use Rattle.ghc_core.specs.Proposes.{Notes}
+use Rattle.ghc_core.proofs.Words.{sym, ap, ◌∙◌, status_of, Notes}
 use Rattle.ghc_core.proofs.Replying.{note_refused, note_told_so, note_failure}
 use Rattle.ghc_core.proofs.core_state.Core.reply_to_note.Goals as goal
 

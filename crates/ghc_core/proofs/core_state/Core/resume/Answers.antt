@@ -1,18 +1,4 @@
-use Rattle.std.proofs.Common.{◌≡◌, ◌⊎◌, ℕ, ◌+◌, inl, inr, length, List, sym, ap, ◌∙◌, subst, arith}
-use Rattle.std.specs.Prelude.{Ok, Err}
-use Rattle.std.proofs.lemmas.List.{length-map}
-use Rattle.ghc_records.specs.WrittenEntryCode.{said_by}
-use Rattle.ghc_term.specs.declared.fault.Fault.{Fault}
-use Rattle.ghc_flat.specs.Clause.{Program}
-use Rattle.ghc_records.specs.History.{History}
-use Rattle.ghc_records.specs.Journal.{Step, Entry}
-use Rattle.ghc_records.specs.declared.predicate.Predicate.{Predicate}
-use Rattle.ghc_fire.specs.declared.meter.Meter.{Meter}
-use Rattle.ghc_core.specs.Counting.{after_firings, firings_of_entries}
-use Rattle.ghc_core.specs.Core.{Core}
-use Rattle.ghc_core.specs.Load.{Loads}
-use Rattle.ghc_core.specs.World.{World}
-use Rattle.ghc_core.specs.Resume.{CarriesOutEach, StopsBehind, ArePredicatesOf, LacksBehind, resumes}
+use Rattle.ghc_core.proofs.Words.{◌≡◌, ◌⊎◌, ℕ, ◌+◌, inl, inr, length, List, sym, ap, ◌∙◌, subst, arith, Ok, Err, length-map, said_by, Fault, Program, History, Step, Entry, Predicate, Meter, after_firings, firings_of_entries, Core, Loads, World, CarriesOutEach, StopsBehind, ArePredicatesOf, LacksBehind, resumes}
 use Rattle.ghc_core.proofs.Firings.{resumed_count}
 use Rattle.ghc_core.proofs.ResumeSteps.{loaded_opened, opening_refused, entry_refused, spy_refused, program_stays}
 use Rattle.ghc_core.proofs.core_state.Core.resume.Goals as goal

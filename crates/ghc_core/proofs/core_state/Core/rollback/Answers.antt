@@ -1,7 +1,4 @@
-use Rattle.std.proofs.Common.{ap, inl, inr, Err}
-use Rattle.ghc_core.specs.Events.{undone}
-use Rattle.ghc_core.specs.Answers.{to_roll, does}
-use Rattle.ghc_core.specs.Gone.{all_gone}
+use Rattle.ghc_core.proofs.Words.{ap, inl, inr, Err, undone, to_roll, does, all_gone}
 use Rattle.ghc_core.proofs.core_state.Core.rollback.Goals as goal
 
 pub returns-in-Err-clause-refused : goal.returns-in-Err-clause-refused

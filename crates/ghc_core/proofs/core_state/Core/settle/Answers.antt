@@ -1,11 +1,6 @@
-use Rattle.std.proofs.Common.{◌≡◌, ◌+◌, ◌≤◌, refl, subst, sym, ap, ◌∙◌, arith}
+use Rattle.ghc_core.proofs.Words.{◌≡◌, ◌+◌, ◌≤◌, refl, subst, sym, ap, ◌∙◌, arith, err_from_is_err_and, goal_cmp, tried, Meter, AreNoted, tried_often}
 use Rattle.std.specs.FinSet as set
-use Rattle.std.proofs.lemmas.Result.{err_from_is_err_and}
 use Rattle.ghc_term.proofs.ListsLemmas.{not_both}
-use Rattle.ghc_fire.specs.Goals.{goal_cmp}
-use Rattle.ghc_fire.specs.Meter.{tried}
-use Rattle.ghc_fire.specs.declared.meter.Meter.{Meter}
-use Rattle.ghc_core.specs.Settling.{AreNoted, tried_often}
 use Rattle.ghc_core.proofs.Settling.{none_noted, one_noted, one_less, tried_none, tried_more}
 use Rattle.ghc_core.proofs.core_state.Core.settle.Goals as goal
 

@@ -1,6 +1,5 @@
-use Rattle.std.proofs.Common.{◌≡◌, ℕ}
+use Rattle.ghc_core.proofs.Words.{◌≡◌, ℕ, AreNoted, tried_often}
 use Rattle.std.specs.FinSet as set
-use Rattle.ghc_core.specs.Settling.{AreNoted, tried_often}
 use Rattle.ghc_core.proofs.core_state.Core.settle.Given as goal
 
 abbrev pub invariant-loop-goal : goal.invariant-loop-goal

@@ -1,5 +1,4 @@
-use Rattle.std.proofs.Common.{subst}
-use Rattle.ghc_core.specs.Core.{Core, IsStanding, AreExactIn}
+use Rattle.ghc_core.proofs.Words.{subst, Core, IsStanding, AreExactIn}
 use Rattle.ghc_core.proofs.Standing.{standing_replay, standing_well_made, standing_named, standing_orderly, standing_apart, standing_keeps}
 use Rattle.ghc_core.proofs.Histories.{reached_legal}
 use Rattle.ghc_core.proofs.core_state.Core.stands.Goals as goal

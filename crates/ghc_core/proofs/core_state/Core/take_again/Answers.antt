@@ -1,10 +1,4 @@
-use Rattle.std.proofs.Common.{◌≡◌, sym, ap, ◌∙◌, subst}
-use Rattle.std.specs.Prelude.{IfSome, IfNone}
-use Rattle.ghc_core.specs.Counting.{after_firings, firings_of_entry}
-use Rattle.ghc_records.specs.Journal.{step_of, took}
-use Rattle.ghc_records.specs.Record.{Record}
-use Rattle.ghc_core.specs.World.{World, IsNextStep, with_step}
-use Rattle.ghc_depend.specs.Depend.{Binds}
+use Rattle.ghc_core.proofs.Words.{◌≡◌, sym, ap, ◌∙◌, subst, IfSome, IfNone, after_firings, firings_of_entry, step_of, took, Record, World, IsNextStep, with_step, Binds}
 use Rattle.ghc_core.proofs.Loading.{none_noted}
 use Rattle.ghc_core.proofs.Resuming.{step_carried, step_refused}
 use Rattle.ghc_core.proofs.core_state.Core.take_again.Goals as goal

@@ -1,20 +1,5 @@
-use Rattle.std.proofs.Common.{List, [], ◌∷◌, ◌++◌, refl, ap, ◌∙◌, sym, subst, inl, inr}
+use Rattle.ghc_core.proofs.Words.{List, [], ◌∷◌, ◌++◌, refl, ap, ◌∙◌, sym, subst, inl, inr, In, AreDistinct, Picks, Record, loaded_opening, AreLeft, IsBoundIn, IsSplitAt, World, Core, told_back, TellStreams, Goes as goes, Going, Gone, all_gone, Changes, GoWithIt, gone_kept, gone_distinct}
 use Rattle.std.specs.FinMap as finite
-use Rattle.ghc_term.specs.Lists.{In}
-use Rattle.ghc_records.specs.Orders.{AreDistinct, Picks}
-use Rattle.ghc_records.specs.Record.{Record}
-use Rattle.ghc_records.specs.History.{loaded_opening}
-use Rattle.ghc_hooks.specs.Notes.{AreLeft}
-use Rattle.ghc_depend.specs.Deletion.{IsBoundIn}
-use Rattle.ghc_depend.specs.Kept.{IsSplitAt}
-use Rattle.ghc_core.specs.World.{World}
-use Rattle.ghc_core.specs.Core.{Core}
-use Rattle.ghc_core.specs.StreamGoals.{told_back, TellStreams}
-use Rattle.ghc_core.specs.declared.change.Change.TheVariants.{Goes as goes}
-use Rattle.ghc_core.specs.declared.change.Going.{Going}
-use Rattle.ghc_core.specs.Gone.{Gone, all_gone}
-use Rattle.ghc_core.specs.Change.{Changes, GoWithIt}
-use Rattle.ghc_depend.proofs.TakenTogether.{gone_kept, gone_distinct}
 use Rattle.ghc_core.proofs.Reaching.{reached_good}
 use Rattle.ghc_core.proofs.RolledBack.{struck_first, none_again, unnoted_roll, RolledAway, rolled_away}
 use Rattle.ghc_core.proofs.core_state.Core.take_away.Goals as goal

@@ -1,5 +1,4 @@
-use Rattle.std.proofs.Common.{inr}
-use Rattle.ghc_core.specs.Proposes.{no_goal}
+use Rattle.ghc_core.proofs.Words.{inr, no_goal}
 use Rattle.ghc_core.proofs.core_state.Core.try_named.Goals as goal
 
 pub returns-in_default-clause-answer : goal.returns-in_default-clause-answer

@@ -1,9 +1,4 @@
-use Rattle.std.proofs.Common.{List, ◌∷◌, sym, ap, subst, inl, inr, Err}
-use Rattle.ghc_records.specs.Record.{Record, numbers}
-use Rattle.ghc_hooks.specs.Notes.{AreLeft}
-use Rattle.ghc_depend.specs.Deletion.{IsBoundIn}
-use Rattle.ghc_core.specs.Events.{undone}
-use Rattle.ghc_core.specs.Answers.{to_undo, does}
+use Rattle.ghc_core.proofs.Words.{List, ◌∷◌, sym, ap, subst, inl, inr, Err, Record, numbers, AreLeft, IsBoundIn, undone, to_undo, does}
 use Rattle.ghc_core.proofs.CertainRefusals.{undo_cannot_fail, one_undo_refusal}
 use Rattle.ghc_core.proofs.core_state.Core.undo.Goals as goal
 

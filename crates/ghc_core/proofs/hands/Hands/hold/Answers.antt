@@ -1,10 +1,4 @@
-use Rattle.std.proofs.Common.{◌∙◌, ap, nat_eq}
-use Rattle.std.specs.Cmp.{nat_cmp_total}
-use Rattle.std.specs.FinMap.{nat_cmp-IsAntisymmetric as nat_antisymmetric}
-use Rattle.ghc_term.proofs.Indexed.{inserted}
-use Rattle.ghc_term.proofs.Entries.{tie}
-use Rattle.ghc_core.specs.World.{with_hand}
-use Rattle.ghc_core.specs.Playing.{hands_with}
+use Rattle.ghc_core.proofs.Words.{◌∙◌, ap, nat_eq, nat_cmp_total, nat_cmp-IsAntisymmetric as nat_antisymmetric, inserted, tie, with_hand, hands_with}
 use Rattle.ghc_core.proofs.hands.Hands.hold.Goals as goal
 
 pub returns-clause-ok : goal.returns-clause-ok

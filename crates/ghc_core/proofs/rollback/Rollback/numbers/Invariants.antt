@@ -1,5 +1,4 @@
-use Rattle.std.proofs.Common.{◌≡◌, ◌++◌, take}
-use Rattle.ghc_records.specs.Record.{numbers}
+use Rattle.ghc_core.proofs.Words.{◌≡◌, ◌++◌, take, numbers}
 use Rattle.ghc_core.proofs.rollback.Rollback.numbers.Given as goal
 
 abbrev pub invariant-loop-removal : goal.invariant-loop-removal

@@ -1,7 +1,4 @@
-use Rattle.std.proofs.Common.{◌≡◌, sym, ap, ◌∙◌, subst}
-use Rattle.ghc_term.specs.Lists.{In}
-use Rattle.ghc_records.specs.Record.{Record}
-use Rattle.ghc_depend.proofs.TakenTogether.{found_behind, split_found, picked_number}
+use Rattle.ghc_core.proofs.Words.{◌≡◌, sym, ap, ◌∙◌, subst, In, Record, found_behind, split_found, picked_number}
 use Rattle.ghc_core.proofs.rollback.Rollback.of.Goals as goal
 
 pub removals_of-requires : goal.removals_of-requires

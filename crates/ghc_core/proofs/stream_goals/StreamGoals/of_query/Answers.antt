@@ -1,8 +1,5 @@
-use Rattle.std.proofs.Common.{◌≡◌, suc, ◌+◌, List, [], ◌∷◌, ◌++◌, take, sym, ap, ◌∙◌, arith}
-use Rattle.std.proofs.lemmas.Option.{slice_get_read}
+use Rattle.ghc_core.proofs.Words.{◌≡◌, suc, ◌+◌, List, [], ◌∷◌, ◌++◌, take, sym, ap, ◌∙◌, arith, slice_get_read, GoalName, opened}
 use Rattle.std.proofs.lemmas.List.{append-nil}
-use Rattle.ghc_term.specs.declared.goal_name.GoalName.{GoalName}
-use Rattle.ghc_core.specs.StreamGoals.{opened}
 use Rattle.ghc_core.proofs.StreamNames.{opened_more, opened_one, opened_none}
 use Rattle.ghc_core.proofs.stream_goals.StreamGoals.of_query.Goals as goal
 use Rattle.ghc_core.proofs.stream_goals.StreamGoals.of_query.Goals.{then-is_stream+in_ok-push, else-is_stream}

@@ -1,5 +1,4 @@
-use Rattle.std.proofs.Common.{◌≡◌, take}
-use Rattle.ghc_core.specs.StreamGoals.{opened}
+use Rattle.ghc_core.proofs.Words.{◌≡◌, take, opened}
 use Rattle.ghc_core.proofs.stream_goals.StreamGoals.of_query.Given as goal
 
 abbrev pub invariant-loop-index : goal.invariant-loop-index

@@ -1,9 +1,4 @@
-use Rattle.std.proofs.Common.{refl, ap, sym, subst, inl, inr}
-use Rattle.ghc_core.specs.World.{World}
-use Rattle.ghc_core.specs.Core.{Core}
-use Rattle.ghc_core.specs.Events.{commit}
-use Rattle.ghc_core.specs.EventCode.{event_of, reply_of}
-use Rattle.ghc_core.specs.Meets.{Meets}
+use Rattle.ghc_core.proofs.Words.{refl, ap, sym, subst, inl, inr, World, Core, commit, event_of, reply_of, Meets}
 use Rattle.ghc_core.proofs.CertainRefusals.{note_refused_anyway}
 use Rattle.ghc_core.proofs.Playable.{core_stays, left_so, moved_grows}
 use Rattle.ghc_core.proofs.Moving.{answered_moves, obeyed_answers, noted_answers}

@@ -1,11 +1,7 @@
-use Rattle.std.proofs.Common.{refl, sym, inl, inr, Ok, Err}
+use Rattle.ghc_core.proofs.Words.{refl, sym, inl, inr, Ok, Err, no_hand, Fault, Comes as comes, Coming}
 use Rattle.ghc_term.proofs.ListsLemmas.{not_both}
-use Rattle.ghc_core.specs.Answers.{no_hand}
 use Rattle.ghc_core.proofs.Replying.{hand_commits, hand_gives_up, hand_was_empty}
 use Rattle.ghc_core.proofs.CertainRefusals.{no_hand_committed, empty_hand_committed, commit_refused_anyway}
-use Rattle.ghc_term.specs.declared.fault.Fault.{Fault}
-use Rattle.ghc_core.specs.declared.change.Change.TheVariants.{Comes as comes}
-use Rattle.ghc_core.specs.declared.change.Coming.{Coming}
 use Rattle.ghc_core.proofs.Playable.{core_stays}
 use Rattle.ghc_core.proofs.world.World.commit.Goals as goal
 

@@ -1,6 +1,4 @@
-use Rattle.std.proofs.Common.{ap}
-use Rattle.ghc_core.specs.World.{Hands}
-use Rattle.ghc_core.specs.Legal.{with_other_hands}
+use Rattle.ghc_core.proofs.Words.{ap, Hands, with_other_hands}
 use Rattle.ghc_core.proofs.Taking.{reached_reachable}
 use Rattle.ghc_core.proofs.world.World.new.Goals as goal
 

@@ -1,9 +1,4 @@
-use Rattle.std.proofs.Common.{map, Some, sym, ap, ◌∙◌, subst, arith}
-use Rattle.std.proofs.lemmas.List.{take_all}
-use Rattle.std.proofs.lemmas.Option.{slice_get-get_or}
-use Rattle.ghc_core.specs.Answers.{Plays}
-use Rattle.ghc_core.specs.EventCode.{event_of, reply_of}
-use Rattle.ghc_core.specs.Meets.{MeetsEach}
+use Rattle.ghc_core.proofs.Words.{map, Some, sym, ap, ◌∙◌, subst, arith, take_all, slice_get-get_or, Plays, event_of, reply_of, MeetsEach}
 use Rattle.ghc_core.proofs.Playable.{met_next, met_played}
 use Rattle.ghc_core.proofs.world.World.play.Goals as goal
 

@@ -1,7 +1,4 @@
-use Rattle.std.proofs.Common.{◌≡◌, ◌≤◌, length, map, take}
-use Rattle.std.specs.Prelude.{vec_len, vec_capacity}
-use Rattle.ghc_core.specs.EventCode.{event_of, reply_of}
-use Rattle.ghc_core.specs.Meets.{MeetsEach}
+use Rattle.ghc_core.proofs.Words.{◌≡◌, ◌≤◌, length, map, take, vec_len, vec_capacity, event_of, reply_of, MeetsEach}
 use Rattle.ghc_core.proofs.world.World.play.Given as goal
 
 abbrev pub invariant-loop-event : goal.invariant-loop-event

@@ -1,8 +1,5 @@
-use Rattle.std.proofs.Common.{refl, sym, subst, inl, inr, Ok, Err}
-use Rattle.ghc_term.specs.declared.fault.Fault.{Fault}
-use Rattle.ghc_core.specs.Events.{propose, refused}
+use Rattle.ghc_core.proofs.Words.{refl, sym, subst, inl, inr, Ok, Err, Fault, propose, refused, Answers, no_hand, no_memory}
 use Rattle.ghc_term.proofs.ListsLemmas.{not_both}
-use Rattle.ghc_core.specs.Answers.{Answers, no_hand, no_memory}
 use Rattle.ghc_core.proofs.Replying.{Unknown, hand_holds, hand_refused}
 use Rattle.ghc_core.proofs.CertainRefusals.{no_hand_proposed, attempt_refused_anyway}
 use Rattle.ghc_core.proofs.world.World.propose.Goals as goal

@@ -1,8 +1,5 @@
-use Rattle.std.proofs.Common.{◌≡◌, map, ap, ◌∙◌}
+use Rattle.ghc_hooks.proofs.Words.{◌≡◌, map, ap, ◌∙◌, IfOk-weaker, GoalName, Goal}
 use Rattle.std.specs.FinMap as finite
-use Rattle.std.proofs.lemmas.Result.{IfOk-weaker}
-use Rattle.ghc_term.specs.declared.goal_name.GoalName.{GoalName}
-use Rattle.ghc_term.specs.Goal.{Goal}
 use Rattle.ghc_hooks.proofs.FoundFace.{names_kept}
 use Rattle.ghc_hooks.proofs.face.pools.names_of.Goals as goal
 

@@ -1,6 +1,4 @@
-use Rattle.std.proofs.Common.{◌+◌, take, sym, subst}
-use Rattle.ghc_term.proofs.ListsLemmas.{not_both}
-use Rattle.ghc_hooks.specs.Parts.{TellsPool}
+use Rattle.ghc_hooks.proofs.Words.{◌+◌, take, sym, subst, not_both, TellsPool}
 use Rattle.ghc_hooks.proofs.FoundFace.{no_pool, pooled, not_pooled}
 use Rattle.ghc_hooks.proofs.face.pools.pool_of.Goals.{then-is_of+in_ok-insert, else-is_of}
 use Rattle.ghc_hooks.proofs.face.pools.pool_of.Goals as goal

@@ -1,5 +1,4 @@
-use Rattle.std.proofs.Common.{take}
-use Rattle.ghc_hooks.specs.Parts.{TellsPool}
+use Rattle.ghc_hooks.proofs.Words.{take, TellsPool}
 use Rattle.ghc_hooks.proofs.face.pools.pool_of.Given as goal
 
 -- those of the goals so far that are of the kind

@@ -1,7 +1,6 @@
-use Rattle.std.proofs.Common.{◌≡◌, ◌∙◌, Bool, true, false, not, refl, ap, sym}
+use Rattle.ghc_hooks.proofs.Words.{◌≡◌, ◌∙◌, Bool, true, false, not, refl, ap, sym, same_is, same_goal, goals_held}
 use Rattle.std.specs.FinSet as set
-use Rattle.ghc_fire.proofs.GoalNames.{same, same_is, same_goal}
-use Rattle.ghc_hooks.specs.FewGoals.{goals_held}
+use Rattle.ghc_fire.proofs.GoalNames.{same}
 use Rattle.ghc_hooks.proofs.Few.{put_again, in_one}
 use Rattle.ghc_hooks.proofs.few_goals.FewGoals.insert.Goals as goal
 

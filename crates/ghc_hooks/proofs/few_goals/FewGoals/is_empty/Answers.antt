@@ -1,5 +1,4 @@
-use Rattle.std.proofs.Common.{sym, ap, ◌∙◌}
-use Rattle.ghc_hooks.specs.FewGoals.{goals_held}
+use Rattle.ghc_hooks.proofs.Words.{sym, ap, ◌∙◌, goals_held}
 use Rattle.ghc_hooks.proofs.Few.{one_is_something}
 use Rattle.ghc_hooks.proofs.few_goals.FewGoals.is_empty.Goals as goal
 

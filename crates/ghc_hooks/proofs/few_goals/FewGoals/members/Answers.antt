@@ -1,7 +1,5 @@
-use Rattle.std.proofs.Common.{◌∙◌, ap, sym}
+use Rattle.ghc_hooks.proofs.Words.{◌∙◌, ap, sym, goal_cmp, goals_held}
 use Rattle.std.specs.FinSet as set
-use Rattle.ghc_fire.specs.Goals.{goal_cmp}
-use Rattle.ghc_hooks.specs.FewGoals.{goals_held}
 use Rattle.ghc_hooks.proofs.Few.{one_counted}
 use Rattle.ghc_hooks.proofs.few_goals.FewGoals.members.Goals as goal
 

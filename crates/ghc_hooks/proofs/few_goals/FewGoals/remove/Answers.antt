@@ -1,10 +1,6 @@
-use Rattle.std.proofs.Common.{◌≡◌, ◌∙◌, ap, sym, subst, arith}
+use Rattle.ghc_hooks.proofs.Words.{◌≡◌, ◌∙◌, ap, sym, subst, arith, eq_by_cmp, not_both, goal_cmp, same_is, same_goal, goals_held}
 use Rattle.std.specs.FinSet as set
-use Rattle.std.specs.Ordering.{eq_by_cmp}
-use Rattle.ghc_term.proofs.ListsLemmas.{not_both}
-use Rattle.ghc_fire.specs.Goals.{goal_cmp}
-use Rattle.ghc_fire.proofs.GoalNames.{same, same_is, same_goal}
-use Rattle.ghc_hooks.specs.FewGoals.{goals_held}
+use Rattle.ghc_fire.proofs.GoalNames.{same}
 use Rattle.ghc_hooks.proofs.Looking.{goal_itself}
 use Rattle.ghc_hooks.proofs.Few.{take_from_none, take_the_one, take_another}
 use Rattle.ghc_hooks.proofs.few_goals.FewGoals.remove.Goals as goal

@@ -1,5 +1,4 @@
-use Rattle.std.proofs.Common.{◌∙◌, ap, sym}
-use Rattle.std.specs.Prelude.{IsTrue}
+use Rattle.ghc_hooks.proofs.Words.{◌∙◌, ap, sym, IsTrue}
 use Rattle.std.specs.FinSet as set
 use Rattle.ghc_hooks.proofs.Looking.{goal_in_set}
 use Rattle.ghc_hooks.proofs.Waking.{first_is}

@@ -1,6 +1,5 @@
-use Rattle.std.proofs.Common.{◌∙◌, ap, sym}
+use Rattle.ghc_hooks.proofs.Words.{◌∙◌, ap, sym, in_names}
 use Rattle.std.specs.FinSet as set
-use Rattle.ghc_term.proofs.GoalMaps.{in_names}
 use Rattle.ghc_hooks.proofs.goal_set.GoalSet.contains.Goals as goal
 
 pub returns : goal.returns

@@ -1,7 +1,5 @@
-use Rattle.std.proofs.Common.{◌≡◌, sym, ap, ◌∙◌, arith}
-use Rattle.std.proofs.lemmas.Bool.Decides.{nat_tests}
+use Rattle.ghc_hooks.proofs.Words.{◌≡◌, sym, ap, ◌∙◌, arith, nat_tests, goal_cmp}
 use Rattle.std.specs.FinSet as set
-use Rattle.ghc_fire.specs.Goals.{goal_cmp}
 use Rattle.ghc_hooks.proofs.goal_set.GoalSet.is_empty.Goals as goal
 
 pub returns : goal.returns

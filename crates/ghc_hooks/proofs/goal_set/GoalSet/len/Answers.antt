@@ -1,6 +1,5 @@
-use Rattle.std.proofs.Common.{◌∙◌, ap, sym}
+use Rattle.ghc_hooks.proofs.Words.{◌∙◌, ap, sym, count_of_names}
 use Rattle.std.specs.FinSet as set
-use Rattle.ghc_term.proofs.GoalMaps.{count_of_names}
 use Rattle.ghc_hooks.proofs.goal_set.GoalSet.len.Goals as goal
 
 pub returns : goal.returns

@@ -1,6 +1,4 @@
-use Rattle.std.proofs.Common.{◌∙◌, ap}
-use Rattle.ghc_term.specs.GoalMap.{names_of}
-use Rattle.ghc_term.proofs.GoalMaps.{no_names}
+use Rattle.ghc_hooks.proofs.Words.{◌∙◌, ap, names_of, no_names}
 use Rattle.ghc_hooks.proofs.goal_set.GoalSet.new.Goals as goal
 
 pub returns : goal.returns

@@ -1,7 +1,5 @@
-use Rattle.std.proofs.Common.{◌∙◌, ap}
+use Rattle.ghc_hooks.proofs.Words.{◌∙◌, ap, names_of, put_name}
 use Rattle.std.specs.FinSet as set
-use Rattle.ghc_term.specs.GoalMap.{names_of}
-use Rattle.ghc_term.proofs.GoalMaps.{put_name}
 use Rattle.ghc_hooks.proofs.goal_set.GoalSet.put.Goals as goal
 
 pub returns-clause-held : goal.returns-clause-held

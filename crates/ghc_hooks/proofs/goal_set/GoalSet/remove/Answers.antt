@@ -1,8 +1,5 @@
-use Rattle.std.proofs.Common.{◌∙◌, ap, sym}
-use Rattle.std.specs.Prelude.{is_some}
+use Rattle.ghc_hooks.proofs.Words.{◌∙◌, ap, sym, is_some, names_of, in_names, taken_name}
 use Rattle.std.specs.FinSet as set
-use Rattle.ghc_term.specs.GoalMap.{names_of}
-use Rattle.ghc_term.proofs.GoalMaps.{in_names, taken_name}
 use Rattle.ghc_hooks.proofs.goal_set.GoalSet.remove.Goals as goal
 
 pub returns-clause-there : goal.returns-clause-there

@@ -1,5 +1,4 @@
-use Rattle.std.proofs.Common.{◌∙◌, ap}
-use Rattle.ghc_term.specs.GoalMap.{names_of}
+use Rattle.ghc_hooks.proofs.Words.{◌∙◌, ap, names_of}
 use Rattle.ghc_hooks.proofs.goal_set.GoalSet.reserve.Goals as goal
 
 pub returns-clause-held : goal.returns-clause-held

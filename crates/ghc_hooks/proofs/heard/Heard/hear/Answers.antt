@@ -1,9 +1,4 @@
-use Rattle.std.proofs.Common.{sym, subst}
-use Rattle.std.proofs.lemmas.Result.{on_ok_weaker}
-use Rattle.ghc_term.specs.Store.{value_at}
-use Rattle.ghc_match.specs.Match.{LooksAt, HasOutcome}
-use Rattle.ghc_match.specs.Meeting.{Gains}
-use Rattle.ghc_match.specs.Told.{told}
+use Rattle.ghc_hooks.proofs.Words.{sym, subst, on_ok_weaker, value_at, LooksAt, HasOutcome, Gains, told}
 use Rattle.ghc_hooks.proofs.Hearing.{HeardToo, refusal_heard, wait_heard, acceptance_heard, gains_as}
 use Rattle.ghc_hooks.proofs.heard.Heard.hear.Goals as goal
 use Rattle.ghc_hooks.proofs.heard.Heard.hear.Goals.{in-Refuses, in-Waits+in_ok-join-in-Waits, in-Accepts}

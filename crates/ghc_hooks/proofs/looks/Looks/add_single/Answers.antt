@@ -1,6 +1,5 @@
-use Rattle.std.proofs.Common.{◌≡◌, ◌∙◌, ap, sym}
+use Rattle.ghc_hooks.proofs.Words.{◌≡◌, ◌∙◌, ap, sym, same_is, same_goal}
 use Rattle.std.specs.FinMap as finite
-use Rattle.ghc_fire.proofs.GoalNames.{same_is, same_goal}
 use Rattle.ghc_hooks.proofs.Under.{put_twice, put_single}
 use Rattle.ghc_hooks.proofs.looks.Looks.add_single.Goals as goal
 

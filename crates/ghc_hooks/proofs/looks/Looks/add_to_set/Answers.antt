@@ -1,10 +1,6 @@
-use Rattle.std.proofs.Common.{◌∙◌, ap, refl, sym, subst}
-use Rattle.std.specs.Prelude.{IsSome}
+use Rattle.ghc_hooks.proofs.Words.{◌∙◌, ap, refl, sym, subst, IsSome, on_ok_weaker, on_err_weaker, value_is, same, name_total, name_antisymmetric}
 use Rattle.std.specs.FinMap as finite
-use Rattle.std.proofs.lemmas.Result.{on_ok_weaker, on_err_weaker}
-use Rattle.ghc_term.proofs.Indexed.{value_is}
-use Rattle.ghc_term.proofs.Entries.{same, same_is}
-use Rattle.ghc_term.proofs.Names.{name_total, name_antisymmetric}
+use Rattle.ghc_term.proofs.Entries.{same_is}
 use Rattle.ghc_hooks.proofs.Under.{put_through, keep_through}
 use Rattle.ghc_hooks.proofs.looks.Looks.add_to_set.Goals as goal
 

@@ -1,7 +1,6 @@
-use Rattle.std.proofs.Common.{◌∙◌, ap, sym}
+use Rattle.ghc_hooks.proofs.Words.{◌∙◌, ap, sym, goal_cmp}
 use Rattle.std.specs.FinMap as finite
 use Rattle.std.specs.FinSet as set
-use Rattle.ghc_fire.specs.Goals.{goal_cmp}
 use Rattle.ghc_hooks.proofs.Few.{one_counted}
 use Rattle.ghc_hooks.proofs.Under.{one_under, none_under}
 use Rattle.ghc_hooks.proofs.looks.Looks.at.Goals as goal

@@ -1,9 +1,6 @@
-use Rattle.std.proofs.Common.{◌≡◌, ◌∙◌, ap}
+use Rattle.ghc_hooks.proofs.Words.{◌≡◌, ◌∙◌, ap, removed, same, name_total, name_antisymmetric, GoalsByVariable, looks}
 use Rattle.std.specs.FinMap as finite
-use Rattle.ghc_term.proofs.Indexed.{removed}
-use Rattle.ghc_term.proofs.Entries.{same, same_is}
-use Rattle.ghc_term.proofs.Names.{name_total, name_antisymmetric}
-use Rattle.ghc_hooks.specs.Looks.{GoalsByVariable, looks}
+use Rattle.ghc_term.proofs.Entries.{same_is}
 use Rattle.ghc_hooks.proofs.Under.{forgotten}
 use Rattle.ghc_hooks.proofs.looks.Looks.forget.Goals as goal
 

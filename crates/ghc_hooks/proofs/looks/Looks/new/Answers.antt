@@ -1,6 +1,5 @@
-use Rattle.std.proofs.Common.{◌∙◌, ap}
+use Rattle.ghc_hooks.proofs.Words.{◌∙◌, ap, name_cmp}
 use Rattle.std.specs.FinMap as finite
-use Rattle.ghc_term.specs.Bindings.{name_cmp}
 use Rattle.ghc_hooks.proofs.Under.{none_under}
 use Rattle.ghc_hooks.proofs.looks.Looks.new.Goals as goal
 

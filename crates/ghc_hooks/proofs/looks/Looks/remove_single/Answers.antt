@@ -1,10 +1,6 @@
-use Rattle.std.proofs.Common.{◌≡◌, ◌∙◌, ap, sym}
-use Rattle.std.specs.Prelude.{Some}
-use Rattle.std.specs.Ordering.{eq_by_cmp}
+use Rattle.ghc_hooks.proofs.Words.{◌≡◌, ◌∙◌, ap, sym, Some, eq_by_cmp, not_both, goal_cmp, same_is, same_goal}
 use Rattle.std.specs.FinMap as finite
-use Rattle.ghc_term.proofs.ListsLemmas.{not_both}
-use Rattle.ghc_fire.specs.Goals.{goal_cmp}
-use Rattle.ghc_fire.proofs.GoalNames.{same, same_is, same_goal}
+use Rattle.ghc_fire.proofs.GoalNames.{same}
 use Rattle.ghc_hooks.proofs.Looking.{goal_itself}
 use Rattle.ghc_hooks.proofs.Under.{take_single, other_stays, none_stays}
 use Rattle.ghc_hooks.proofs.looks.Looks.remove_single.Goals as goal

@@ -1,9 +1,6 @@
-use Rattle.std.proofs.Common.{◌∙◌, ap}
+use Rattle.ghc_hooks.proofs.Words.{◌∙◌, ap, value_is, same, name_total, name_antisymmetric, none_in}
 use Rattle.std.specs.FinMap as finite
-use Rattle.ghc_term.proofs.Indexed.{value_is}
-use Rattle.ghc_term.proofs.Entries.{same, same_is}
-use Rattle.ghc_term.proofs.Names.{name_total, name_antisymmetric}
-use Rattle.ghc_term.proofs.VariableMaps.{none_in}
+use Rattle.ghc_term.proofs.Entries.{same_is}
 use Rattle.ghc_hooks.proofs.looks.Looks.set_of.Goals as goal
 
 pub returns-then-is_empty : goal.returns-then-is_empty

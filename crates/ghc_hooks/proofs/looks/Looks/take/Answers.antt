@@ -1,9 +1,6 @@
-use Rattle.std.proofs.Common.{◌∙◌, ap, refl, sym, subst}
-use Rattle.std.specs.Prelude.{IsSome}
+use Rattle.ghc_hooks.proofs.Words.{◌∙◌, ap, refl, sym, subst, IsSome, value_is, same, name_total, name_antisymmetric}
 use Rattle.std.specs.FinMap as finite
-use Rattle.ghc_term.proofs.Indexed.{value_is}
-use Rattle.ghc_term.proofs.Entries.{same, same_is}
-use Rattle.ghc_term.proofs.Names.{name_total, name_antisymmetric}
+use Rattle.ghc_term.proofs.Entries.{same_is}
 use Rattle.ghc_hooks.proofs.Under.{take_through, none_through}
 use Rattle.ghc_hooks.proofs.looks.Looks.take.Goals as goal
 

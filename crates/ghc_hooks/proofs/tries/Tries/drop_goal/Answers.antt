@@ -1,5 +1,4 @@
-use Rattle.std.proofs.Common.{◌≡◌, ◌+◌, ◌∙◌, ap, refl, sym, arith}
-use Rattle.std.specs.Prelude.{None}
+use Rattle.ghc_hooks.proofs.Words.{◌≡◌, ◌+◌, ◌∙◌, ap, refl, sym, arith, None}
 use Rattle.std.specs.FinMap as finite
 use Rattle.ghc_hooks.proofs.Fitting.{one_note_less, nothing_gone}
 use Rattle.ghc_hooks.proofs.Changing.{fit_dropped, fit_unmarked}

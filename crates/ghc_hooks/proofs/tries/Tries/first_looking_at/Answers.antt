@@ -1,5 +1,4 @@
-use Rattle.std.proofs.Common.{◌∙◌}
-use Rattle.ghc_hooks.specs.Tries.{HasLookedAt}
+use Rattle.ghc_hooks.proofs.Words.{◌∙◌, HasLookedAt}
 use Rattle.ghc_hooks.proofs.Waking.{first_is, first_is_none}
 use Rattle.ghc_hooks.proofs.tries.Tries.first_looking_at.Goals as goal
 

@@ -1,8 +1,5 @@
-use Rattle.std.proofs.Common.{◌≡◌, sym, ap, subst, ◌∙◌}
+use Rattle.ghc_hooks.proofs.Words.{◌≡◌, sym, ap, subst, ◌∙◌, goal_cmp, looks, HasLookedAt}
 use Rattle.std.specs.FinSet as set
-use Rattle.ghc_fire.specs.Goals.{goal_cmp}
-use Rattle.ghc_hooks.specs.Looks.{looks}
-use Rattle.ghc_hooks.specs.Tries.{HasLookedAt}
 use Rattle.ghc_hooks.proofs.Looking.{goal_in_set, set_in_goals}
 use Rattle.ghc_hooks.proofs.tries.Tries.looking_at.Goals as goal
 

@@ -1,10 +1,6 @@
-use Rattle.std.proofs.Common.{◌≡◌, Some, None, sym, ap, ◌∙◌, arith}
+use Rattle.ghc_hooks.proofs.Words.{◌≡◌, Some, None, sym, ap, ◌∙◌, arith, not_both, goal_cmp, Note, looks}
 use Rattle.std.specs.FinMap as finite
 use Rattle.std.specs.FinSet as set
-use Rattle.ghc_term.proofs.ListsLemmas.{not_both}
-use Rattle.ghc_fire.specs.Goals.{goal_cmp}
-use Rattle.ghc_hooks.specs.Notes.{Note}
-use Rattle.ghc_hooks.specs.Looks.{looks}
 use Rattle.ghc_hooks.proofs.Unblocking.{none_unblocked}
 use Rattle.ghc_hooks.proofs.tries.Tries.new.Goals as goal
 

@@ -1,9 +1,6 @@
-use Rattle.std.proofs.Common.{◌≡◌, ◌+◌, ◌∙◌, ap, refl, sym, subst₂, arith}
-use Rattle.std.specs.Prelude.{IsTrue}
+use Rattle.ghc_hooks.proofs.Words.{◌≡◌, ◌+◌, ◌∙◌, ap, refl, sym, subst₂, arith, IsTrue, IsNoWait, TakesIn}
 use Rattle.std.specs.FinMap as finite
 use Rattle.std.specs.FinSet as set
-use Rattle.ghc_hooks.specs.Status.{IsNoWait}
-use Rattle.ghc_hooks.specs.Looks.{TakesIn}
 use Rattle.ghc_hooks.proofs.Fitting.{one_more_note}
 use Rattle.ghc_hooks.proofs.Changing.{fit_same, fit_noted}
 use Rattle.ghc_hooks.proofs.Unblocking.{unblocked_same, unblocked_noted}

@@ -1,6 +1,5 @@
-use Rattle.std.proofs.Common.{◌∙◌, sym, ap, subst}
+use Rattle.ghc_hooks.proofs.Words.{◌∙◌, sym, ap, subst, IsUnblocked}
 use Rattle.std.specs.FinSet as set
-use Rattle.ghc_hooks.specs.Tries.{IsUnblocked}
 use Rattle.ghc_hooks.proofs.Looking.{goal_in_set, set_in_goals}
 use Rattle.ghc_hooks.proofs.tries.Tries.unblocked.Goals as goal
 

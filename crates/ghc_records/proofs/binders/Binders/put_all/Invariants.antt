@@ -1,5 +1,4 @@
-use Rattle.std.proofs.Common.{◌+◌, ◌≤◌, drop, length}
-use Rattle.std.specs.Prelude.{Some}
+use Rattle.ghc_records.proofs.Words.{◌+◌, ◌≤◌, drop, length, Some}
 use Rattle.ghc_records.proofs.VariableBinders.{IsBeingSet}
 use Rattle.ghc_records.proofs.binders.Binders.put_all.Given as goal
 

@@ -1,8 +1,5 @@
-use Rattle.std.proofs.Common.{◌+◌, drop, get_or, ap, ◌∙◌, subst}
-use Rattle.std.specs.Prelude.{None}
-use Rattle.std.proofs.lemmas.List.{drop_all, drop_more}
+use Rattle.ghc_records.proofs.Words.{◌+◌, drop, get_or, ap, ◌∙◌, subst, None, drop_all, drop_more, name_total}
 use Rattle.std.specs.FinMap as finite
-use Rattle.ghc_term.proofs.Names.{name_total}
 use Rattle.ghc_records.proofs.VariableBinders.{IsBeingSet, IsSetTo, set_begin, set_next}
 use Rattle.ghc_records.proofs.binders.Binders.remove_all.Goals as goal
 

@@ -1,5 +1,4 @@
-use Rattle.std.proofs.Common.{drop}
-use Rattle.std.specs.Prelude.{None}
+use Rattle.ghc_records.proofs.Words.{drop, None}
 use Rattle.ghc_records.proofs.VariableBinders.{IsBeingSet}
 use Rattle.ghc_records.proofs.binders.Binders.remove_all.Given as goal
 

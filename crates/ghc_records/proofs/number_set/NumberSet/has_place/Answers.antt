@@ -1,5 +1,4 @@
-use Rattle.std.proofs.Common.{◌<◌, ℕ, List, subst}
-use Rattle.ghc_term.specs.Table.{Table}
+use Rattle.ghc_records.proofs.Words.{◌<◌, ℕ, List, subst, Table}
 use Rattle.ghc_records.proofs.number_set.NumberSet.has_place.Goals as goal
 
 pub returns : goal.returns

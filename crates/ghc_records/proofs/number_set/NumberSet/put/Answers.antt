@@ -1,8 +1,5 @@
-use Rattle.std.proofs.Common.{◌≡◌, ◌⊎◌, ◌<◌, [], ◌∷◌, sym, ap, ◌∙◌, subst, inl, inr}
-use Rattle.std.specs.Prelude.{◌↔◌}
+use Rattle.ghc_records.proofs.Words.{◌≡◌, ◌⊎◌, ◌<◌, [], ◌∷◌, sym, ap, ◌∙◌, subst, inl, inr, ◌↔◌, In, numbers_of, room_of}
 use Rattle.indexmap.specs.IndexSet.{spare}
-use Rattle.ghc_term.specs.Lists.{In}
-use Rattle.ghc_records.specs.NumberSet.{numbers_of, room_of}
 use Rattle.ghc_records.proofs.NumberSets.{found}
 use Rattle.ghc_records.proofs.number_set.NumberSet.put.Goals as goal
 use Rattle.ghc_records.proofs.number_set.NumberSet.put.Goals.{in-Listed-2, in-Tabled-2, in-Nothing-2, in-Listed-3, in-Tabled-3, in-Nothing-3}

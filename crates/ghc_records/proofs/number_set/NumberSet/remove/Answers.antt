@@ -1,9 +1,4 @@
-use Rattle.std.proofs.Common.{◌≢◌, ◌+◌, ◌≤◌, ℕ, List, take, sym, ap, ◌∙◌, subst, arith}
-use Rattle.std.specs.Prelude.{◌↔◌}
-use Rattle.std.proofs.lemmas.List.{take_all}
-use Rattle.ghc_term.specs.Lists.{In}
-use Rattle.ghc_term.specs.Table.{Table}
-use Rattle.ghc_records.specs.NumberSet.{numbers_of}
+use Rattle.ghc_records.proofs.Words.{◌≢◌, ◌+◌, ◌≤◌, ℕ, List, take, sym, ap, ◌∙◌, subst, arith, ◌↔◌, take_all, In, Table, numbers_of}
 use Rattle.ghc_records.proofs.NumberSets.{number_taken, next_is_put, next_is_left}
 use Rattle.ghc_records.proofs.number_set.NumberSet.remove.Goals as goal
 use Rattle.ghc_records.proofs.number_set.NumberSet.remove.Goals.{then-one-number, else-one-number}

@@ -1,6 +1,4 @@
-use Rattle.std.proofs.Common.{◌≢◌, ◌+◌, ◌≤◌, ℕ, take}
-use Rattle.std.specs.Prelude.{◌↔◌}
-use Rattle.ghc_term.specs.Lists.{In}
+use Rattle.ghc_records.proofs.Words.{◌≢◌, ◌+◌, ◌≤◌, ℕ, take, ◌↔◌, In}
 use Rattle.ghc_records.proofs.number_set.NumberSet.remove.Given as goal
 
 abbrev pub invariant-loop-one : goal.invariant-loop-one

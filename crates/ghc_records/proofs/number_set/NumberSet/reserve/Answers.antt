@@ -1,6 +1,4 @@
-use Rattle.std.proofs.Common.{sym, ap, ◌∙◌, subst}
-use Rattle.ghc_records.specs.NumberSet.{HoldsEachOnce}
-use Rattle.ghc_records.specs.Orders.{AreDistinct}
+use Rattle.ghc_records.proofs.Words.{sym, ap, ◌∙◌, subst, HoldsEachOnce, AreDistinct}
 use Rattle.ghc_records.proofs.RisingNumbers.{rising_distinct}
 use Rattle.ghc_records.proofs.number_set.NumberSet.reserve.Goals as goal
 

@@ -1,7 +1,5 @@
-use Rattle.std.proofs.Common.{◌≡◌, sym, subst}
-use Rattle.std.specs.Prelude.{◌↔◌, Some}
+use Rattle.ghc_records.proofs.Words.{◌≡◌, sym, subst, ◌↔◌, Some, StepBinds}
 use Rattle.std.specs.FinMap as finite
-use Rattle.ghc_records.specs.UseIndex.{StepBinds}
 use Rattle.ghc_records.proofs.records.Records.binder_of.Goals as goal
 
 pub returns : goal.returns

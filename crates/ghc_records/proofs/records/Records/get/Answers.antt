@@ -1,7 +1,4 @@
-use Rattle.std.proofs.Common.{◌≢◌, subst}
-use Rattle.std.specs.Prelude.{IfNone}
-use Rattle.ghc_term.specs.Lists.{In}
-use Rattle.ghc_records.specs.Record.{Record}
+use Rattle.ghc_records.proofs.Words.{◌≢◌, subst, IfNone, In, Record}
 use Rattle.ghc_records.proofs.records.Records.get.Goals as goal
 
 pub returns-clause-none : goal.returns-clause-none

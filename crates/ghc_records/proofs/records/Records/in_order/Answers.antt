@@ -1,12 +1,4 @@
-use Rattle.std.proofs.Common.{◌≡◌, ◌≢◌, ℕ, List, ◌∷◌, ◌++◌, [], get_or, sym, ap, ◌∙◌, subst}
-use Rattle.std.specs.Prelude.{Option, Some, None, IfSome, IfNone, IsSome, true}
-use Rattle.std.specs.Borrow.{Bor}
-use Rattle.ghc_term.specs.Lists.{In}
-use Rattle.ghc_term.proofs.ListsLemmas.{in_get}
-use Rattle.ghc_term.proofs.MapsLemmas.{at_some}
-use Rattle.ghc_records.specs.Record.{Record, numbers}
-use Rattle.ghc_records.specs.Slots.{held_in}
-use Rattle.ghc_records.specs.UseIndex.{RecordsTables}
+use Rattle.ghc_records.proofs.Words.{◌≡◌, ◌≢◌, ℕ, List, ◌∷◌, ◌++◌, [], get_or, sym, ap, ◌∙◌, subst, Option, Some, None, IfSome, IfNone, IsSome, true, Bor, In, in_get, at_some, Record, numbers, held_in, RecordsTables}
 use Rattle.ghc_records.proofs.OrderLemmas.{number_of}
 use Rattle.ghc_records.proofs.IndexOf.{bound_once}
 use Rattle.ghc_records.proofs.InOrder.{one_more, is_new, still_of}

@@ -1,5 +1,4 @@
-use Rattle.std.proofs.Common.{◌≡◌, ◌∙◌, sym, ap, length, arith}
-use Rattle.std.proofs.lemmas.Bool.Decides.{nat_tests}
+use Rattle.ghc_records.proofs.Words.{◌≡◌, ◌∙◌, sym, ap, length, arith, nat_tests}
 use Rattle.ghc_records.proofs.IndexOf.{none_made, one_made, not_by_it}
 use Rattle.ghc_records.proofs.records.Records.maker_for.Goals.{then-name-eq0-via-then-name-eq0, then-name-eq0-via-else-name-eq0+then-name-made}
 use Rattle.ghc_records.proofs.records.Records.maker_for.Goals as goal

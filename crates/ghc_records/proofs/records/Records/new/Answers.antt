@@ -1,6 +1,4 @@
-use Rattle.std.proofs.Common.{sym, subst}
-use Rattle.ghc_records.specs.Slots.{held_in}
-use Rattle.ghc_records.specs.UseIndex.{IsIndexOf}
+use Rattle.ghc_records.proofs.Words.{sym, subst, held_in, IsIndexOf}
 use Rattle.ghc_records.proofs.IndexOf.{index_none}
 use Rattle.ghc_records.proofs.records.Records.new.Goals as goal
 

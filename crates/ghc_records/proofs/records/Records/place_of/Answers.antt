@@ -1,8 +1,4 @@
-use Rattle.std.proofs.Common.{◌≡◌, ◌≢◌, ℕ, refl, subst}
-use Rattle.std.specs.Prelude.{◌↔◌, Option, Some, None, IfSome, IfNone}
-use Rattle.ghc_term.specs.Lists.{In}
-use Rattle.ghc_records.specs.Record.{Record}
-use Rattle.ghc_records.specs.Slots.{SlotList, held_in, HasNumberIn}
+use Rattle.ghc_records.proofs.Words.{◌≡◌, ◌≢◌, ℕ, refl, subst, ◌↔◌, Option, Some, None, IfSome, IfNone, In, Record, SlotList, held_in, HasNumberIn}
 use Rattle.ghc_records.proofs.SlotLemmas.{held_stands}
 use Rattle.ghc_records.proofs.records.Records.place_of.Goals as goal
 

@@ -1,15 +1,5 @@
-use Rattle.std.proofs.Common.{cond, ◌≡◌, ◌≢◌, ℕ, [], ◌∷◌, ◌++◌, sym, ap, ◌∙◌, subst, inl, inr}
+use Rattle.ghc_records.proofs.Words.{cond, ◌≡◌, ◌≢◌, ℕ, [], ◌∷◌, ◌++◌, sym, ap, ◌∙◌, subst, inl, inr, value_at, is_some, ◌↔◌, Some, variables_asked, VarName, In, Record, held_in, Table, BindersByVariable, RecordsTables, IsIndexOf, HasRoomToKeep, IsMakerFor, Gave, MadeOneOf, Binds}
 use Rattle.std.specs.FinMap as finite
-use Rattle.ghc_term.specs.Store.{value_at}
-use Rattle.std.specs.Prelude.{is_some, ◌↔◌, Some}
-use Rattle.ghc_fire.specs.Asked.{variables_asked}
-use Rattle.ghc_term.specs.declared.var_name.VarName.{VarName}
-use Rattle.ghc_term.specs.Lists.{In}
-use Rattle.ghc_records.specs.Record.{Record}
-use Rattle.ghc_records.specs.Slots.{held_in}
-use Rattle.ghc_term.specs.Table.{Table}
-use Rattle.ghc_records.specs.UseIndex.{BindersByVariable, RecordsTables, IsIndexOf, HasRoomToKeep, IsMakerFor, Gave, MadeOneOf}
-use Rattle.ghc_records.specs.Uses.{Binds}
 use Rattle.ghc_records.proofs.IndexOf.{index_put, room_given, put_again}
 use Rattle.ghc_records.proofs.SlotLemmas.{held_last}
 use Rattle.ghc_records.proofs.records.Records.put.Goals as goal

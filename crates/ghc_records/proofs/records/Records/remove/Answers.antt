@@ -1,15 +1,5 @@
-use Rattle.std.proofs.Common.{cond, ◌≢◌, ◌≡◌, ap, sym, subst}
+use Rattle.ghc_records.proofs.Words.{cond, ◌≢◌, ◌≡◌, ap, sym, subst, VarName, value_at, is_some, None, variables_asked, In, AreDistinct, Record, numbers, held_in, Table, BindersByVariable, Gave, MadeOneOf, step_named}
 use Rattle.std.specs.FinMap as finite
-use Rattle.ghc_term.specs.declared.var_name.VarName.{VarName}
-use Rattle.ghc_term.specs.Store.{value_at}
-use Rattle.std.specs.Prelude.{is_some, None}
-use Rattle.ghc_fire.specs.Asked.{variables_asked}
-use Rattle.ghc_term.specs.Lists.{In}
-use Rattle.ghc_records.specs.Orders.{AreDistinct}
-use Rattle.ghc_records.specs.Record.{Record, numbers}
-use Rattle.ghc_records.specs.Slots.{held_in}
-use Rattle.ghc_term.specs.Table.{Table}
-use Rattle.ghc_records.specs.UseIndex.{BindersByVariable, Gave, MadeOneOf, step_named}
 use Rattle.ghc_records.proofs.IndexOf.{index_taken, taken_again}
 use Rattle.ghc_records.proofs.records.Records.remove.Goals as goal
 

@@ -1,10 +1,5 @@
-use Rattle.std.proofs.Common.{◌≡◌, ◌≤◌, refl, sym, ap, subst, ◌∙◌, arith, inl, inr}
-use Rattle.std.proofs.lemmas.Result.{on_ok_weaker}
-use Rattle.ghc_term.specs.Lists.{In}
+use Rattle.ghc_records.proofs.Words.{◌≡◌, ◌≤◌, refl, sym, ap, subst, ◌∙◌, arith, inl, inr, on_ok_weaker, In, held_in, Table, BindersByVariable, RecordsTables, IsIndexOf, HasRoomToKeep, step_named}
 use Rattle.std.specs.FinMap as finite
-use Rattle.ghc_records.specs.Slots.{held_in}
-use Rattle.ghc_term.specs.Table.{Table}
-use Rattle.ghc_records.specs.UseIndex.{BindersByVariable, RecordsTables, IsIndexOf, HasRoomToKeep, step_named}
 use Rattle.ghc_records.proofs.IndexOf.{Gives, index_same, given_by_name}
 use Rattle.ghc_records.proofs.records.Records.reserve_for.Goals as goal
 

@@ -1,7 +1,4 @@
-use Rattle.std.proofs.Common.{sym, subst}
-use Rattle.std.specs.Prelude.{◌↔◌}
-use Rattle.ghc_term.specs.Lists.{In}
-use Rattle.ghc_records.specs.UseIndex.{IsUser, StepDependsOn}
+use Rattle.ghc_records.proofs.Words.{sym, subst, ◌↔◌, In, IsUser, StepDependsOn}
 use Rattle.ghc_records.proofs.records.Records.users_of.Goals as goal
 
 pub returns : goal.returns

@@ -1,9 +1,7 @@
-use Rattle.std.proofs.Common.{◌++◌, append-nil, ap, ◌∙◌}
+use Rattle.ghc_records.proofs.Words.{◌++◌, ap, ◌∙◌, nat_cmp-IsAntisymmetric, nat_cmp, shown_by}
+use Rattle.std.proofs.Common.{append-nil}
 use Rattle.std.proofs.lemmas.Cmp.{nat_cmp_total}
 use Rattle.std.specs.FinMap as finite
-use Rattle.std.specs.FinMap.{nat_cmp-IsAntisymmetric}
-use Rattle.std.specs.Ordering.{nat_cmp}
-use Rattle.ghc_fire.proofs.Gathering.{shown_by}
 use Rattle.ghc_records.proofs.InTurn.{one_more, gathered}
 use Rattle.ghc_records.proofs.shelf.Shelf.by_number.Goals as goal
 

@@ -1,6 +1,5 @@
-use Rattle.std.proofs.Common.{◌≡◌, ◌++◌}
+use Rattle.ghc_records.proofs.Words.{◌≡◌, ◌++◌, shown_by}
 use Rattle.std.specs.FinMap as finite
-use Rattle.ghc_fire.proofs.Gathering.{shown_by}
 use Rattle.ghc_records.proofs.shelf.Shelf.by_number.Given as goal
 
 abbrev pub invariant-loop-number : goal.invariant-loop-number

@@ -1,9 +1,6 @@
-use Rattle.std.proofs.Common.{◌<◌, ◌∙◌, ap, sym, subst, nat_eq}
-use Rattle.std.specs.Cmp.{nat_cmp_total}
+use Rattle.ghc_records.proofs.Words.{◌<◌, ◌∙◌, ap, sym, subst, nat_eq, nat_cmp_total, nat_cmp-IsAntisymmetric as nat_antisymmetric, done, tie}
 use Rattle.std.specs.FinMap as finite
-use Rattle.std.specs.FinMap.{nat_cmp-IsAntisymmetric as nat_antisymmetric}
-use Rattle.ghc_term.proofs.Indexed.{inserted, done}
-use Rattle.ghc_term.proofs.Entries.{tie}
+use Rattle.ghc_term.proofs.Indexed.{inserted}
 use Rattle.ghc_records.proofs.shelf.Shelf.put.Goals as goal
 
 pub returns-clause-held : goal.returns-clause-held

@@ -1,9 +1,5 @@
-use Rattle.std.proofs.Common.{◌∙◌, ap, nat_eq}
-use Rattle.std.specs.Cmp.{nat_cmp_total}
+use Rattle.ghc_records.proofs.Words.{◌∙◌, ap, nat_eq, nat_cmp_total, nat_cmp-IsAntisymmetric as nat_antisymmetric, value_is, removed, tie}
 use Rattle.std.specs.FinMap as finite
-use Rattle.std.specs.FinMap.{nat_cmp-IsAntisymmetric as nat_antisymmetric}
-use Rattle.ghc_term.proofs.Indexed.{value_is, removed}
-use Rattle.ghc_term.proofs.Entries.{tie}
 use Rattle.ghc_records.proofs.shelf.Shelf.remove.Goals as goal
 
 pub returns-clause-value : goal.returns-clause-value

@@ -1,7 +1,4 @@
-use Rattle.std.proofs.Common.{◌≡◌, ap, ◌∙◌, subst}
-use Rattle.std.specs.Prelude.{◌↔◌, Some}
-use Rattle.std.specs.Option.{option_copied}
-use Rattle.ghc_records.specs.Slots.{StandsIn}
+use Rattle.ghc_records.proofs.Words.{◌≡◌, ap, ◌∙◌, subst, ◌↔◌, Some, option_copied, StandsIn}
 use Rattle.ghc_records.proofs.slots.Slots.at.Goals as goal
 
 pub returns : goal.returns

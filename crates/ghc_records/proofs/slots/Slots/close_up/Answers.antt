@@ -1,9 +1,4 @@
-use Rattle.std.proofs.Common.{rules, ◌≡◌, true, false, filter, length, ap, sym, ◌∙◌, subst}
-use Rattle.std.specs.Prelude.{is_some}
-use Rattle.std.proofs.lemmas.Fn.{filter_same}
-use Rattle.ghc_records.specs.Orders.{AreDistinct}
-use Rattle.ghc_records.specs.Record.{numbers}
-use Rattle.ghc_records.specs.Slots.{held_in, AreStraysOf}
+use Rattle.ghc_records.proofs.Words.{rules, ◌≡◌, true, false, filter, length, ap, sym, ◌∙◌, subst, is_some, filter_same, AreDistinct, numbers, held_in, AreStraysOf}
 use Rattle.ghc_records.proofs.SlotLemmas.{held_closed}
 use Rattle.ghc_records.proofs.SlotPlaces.{places_in}
 use Rattle.ghc_records.proofs.slots.Slots.close_up.Goals as goal

@@ -1,7 +1,4 @@
-use Rattle.std.proofs.Common.{length, ap, ◌∙◌, subst}
-use Rattle.ghc_records.specs.Orders.{AreDistinct}
-use Rattle.ghc_records.specs.Record.{numbers}
-use Rattle.ghc_records.specs.Slots.{held_in}
+use Rattle.ghc_records.proofs.Words.{length, ap, ◌∙◌, subst, AreDistinct, numbers, held_in}
 use Rattle.ghc_records.proofs.slots.Slots.len.Goals as goal
 
 pub returns-clause-count : goal.returns-clause-count

@@ -1,9 +1,4 @@
-use Rattle.std.proofs.Common.{◌≡◌, ◌+◌, ℕ, sym, ap, ◌∙◌, subst, arith}
-use Rattle.std.specs.Prelude.{◌↔◌, Option, Some, None}
-use Rattle.std.specs.Borrow.{Bor}
-use Rattle.std.specs.Option.{option_copied}
-use Rattle.ghc_records.specs.Record.{Record}
-use Rattle.ghc_records.specs.Slots.{SlotList, StandsIn, HasNumberIn}
+use Rattle.ghc_records.proofs.Words.{◌≡◌, ◌+◌, ℕ, sym, ap, ◌∙◌, subst, arith, ◌↔◌, Option, Some, None, Bor, option_copied, Record, SlotList, StandsIn, HasNumberIn}
 use Rattle.ghc_records.proofs.NearUsers.{no_entries}
 use Rattle.ghc_records.proofs.SlotStrays.{just_below}
 use Rattle.ghc_records.proofs.slots.Slots.likely_place_of.Goals as goal

@@ -1,7 +1,4 @@
-use Rattle.std.proofs.Common.{◌≡◌, length, sym, subst, arith}
-use Rattle.ghc_records.specs.Orders.{AreDistinct}
-use Rattle.ghc_records.specs.Record.{numbers}
-use Rattle.ghc_records.specs.Slots.{SlotList, held_in, AreStraysOf}
+use Rattle.ghc_records.proofs.Words.{◌≡◌, length, sym, subst, arith, AreDistinct, numbers, SlotList, held_in, AreStraysOf}
 use Rattle.ghc_records.proofs.SlotPlaces.{places_in}
 use Rattle.ghc_records.proofs.slots.Slots.make_room.Goals as goal
 

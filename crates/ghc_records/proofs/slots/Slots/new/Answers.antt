@@ -1,7 +1,4 @@
-use Rattle.std.proofs.Common.{◌≡◌, true, false, length, sym, subst, refl}
-use Rattle.ghc_records.specs.Orders.{AreDistinct}
-use Rattle.ghc_records.specs.Record.{numbers}
-use Rattle.ghc_records.specs.Slots.{held_in}
+use Rattle.ghc_records.proofs.Words.{◌≡◌, true, false, length, sym, subst, refl, AreDistinct, numbers, held_in}
 use Rattle.ghc_records.proofs.SlotStrays.{strays_none}
 use Rattle.ghc_records.proofs.slots.Slots.new.Goals as goal
 

@@ -1,6 +1,4 @@
-use Rattle.std.proofs.Common.{◌≡◌, ◌+◌, ℕ, ◌∙◌, ap, subst, sym}
-use Rattle.std.specs.Prelude.{◌↔◌, Some, None}
-use Rattle.ghc_records.specs.Slots.{HasNumberIn}
+use Rattle.ghc_records.proofs.Words.{◌≡◌, ◌+◌, ℕ, ◌∙◌, ap, subst, sym, ◌↔◌, Some, None, HasNumberIn}
 use Rattle.ghc_records.proofs.SlotPlaces.{places_in}
 use Rattle.ghc_records.proofs.SlotStrays.{found_below, found_stray}
 use Rattle.ghc_records.proofs.slots.Slots.place_of.Goals as goal

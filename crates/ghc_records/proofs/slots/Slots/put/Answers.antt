@@ -1,11 +1,4 @@
-use Rattle.std.proofs.Common.{ℕ, ◌≡◌, ◌≢◌, ◌+◌, ◌<◌, ◌++◌, ◌∷◌, [], ◌∙◌, ◌-◌, true, false, cond, length, ap, arith, sym, subst, nat_eq}
-use Rattle.std.specs.Prelude.{Some, min, vec_len, vec_capacity}
-use Rattle.std.specs.Map.{lookup}
-use Rattle.indexmap.specs.IndexMap.{spare}
-use Rattle.ghc_term.specs.Lists.{In}
-use Rattle.ghc_records.specs.Orders.{AreDistinct}
-use Rattle.ghc_records.specs.Record.{Record, numbers}
-use Rattle.ghc_records.specs.Slots.{held_in, AreStraysOf}
+use Rattle.ghc_records.proofs.Words.{ℕ, ◌≡◌, ◌≢◌, ◌+◌, ◌<◌, ◌++◌, ◌∷◌, [], ◌∙◌, ◌-◌, true, false, cond, length, ap, arith, sym, subst, nat_eq, Some, min, vec_len, vec_capacity, lookup, spare, In, AreDistinct, Record, numbers, held_in, AreStraysOf}
 use Rattle.ghc_records.proofs.SlotLemmas.{held_few, held_more, more_distinct}
 use Rattle.ghc_records.proofs.SlotPlaces.{places_in}
 use Rattle.ghc_records.proofs.SlotStrays.{strays_same, strays_one}

@@ -1,6 +1,4 @@
-use Rattle.std.proofs.Common.{◌≡◌, sym, subst}
-use Rattle.ghc_records.specs.Orders.{Picks}
-use Rattle.ghc_records.specs.Slots.{held_in}
+use Rattle.ghc_records.proofs.Words.{◌≡◌, sym, subst, Picks, held_in}
 use Rattle.ghc_records.proofs.SlotClosing.{others_left, taken_held}
 use Rattle.ghc_records.proofs.slots.Slots.remove.Goals as goal
 

@@ -1,11 +1,4 @@
-use Rattle.std.proofs.Common.{ℕ, ◌≡◌, ◌≢◌, ◌<◌, ◌∙◌, ◌-◌, true, false, ap, sym, subst, arith, length}
-use Rattle.std.specs.Prelude.{Some, None, IfSome, IfNone, slice_set}
-use Rattle.std.proofs.lemmas.Option.{slice_get_within, get_or_from_slice_get}
-use Rattle.indexmap.specs.IndexMap.{spare}
-use Rattle.ghc_term.specs.Lists.{In}
-use Rattle.ghc_records.specs.Orders.{AreDistinct}
-use Rattle.ghc_records.specs.Record.{Record, numbers}
-use Rattle.ghc_records.specs.Slots.{held_in, StandsIn, AreStraysOf, HasNumberIn}
+use Rattle.ghc_records.proofs.Words.{ℕ, ◌≡◌, ◌≢◌, ◌<◌, ◌∙◌, ◌-◌, true, false, ap, sym, subst, arith, length, Some, None, IfSome, IfNone, slice_set, slice_get_within, get_or_from_slice_get, spare, In, AreDistinct, Record, numbers, held_in, StandsIn, AreStraysOf, HasNumberIn}
 use Rattle.ghc_records.proofs.SlotLemmas.{held_fewer, without_distinct}
 use Rattle.ghc_records.proofs.SlotPlaces.{places_in}
 use Rattle.ghc_records.proofs.SlotClosing.{none_in}

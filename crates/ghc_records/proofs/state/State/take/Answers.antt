@@ -1,11 +1,5 @@
-use Rattle.std.proofs.Common.{◌≡◌, sym, ap, ◌∙◌, subst}
+use Rattle.ghc_records.proofs.Words.{◌≡◌, sym, ap, ◌∙◌, subst, IsAcyclic, StoreValue, value_at, with_binds, Goals, State, Record, with_makes, without_goal, after, StateTables, goals_of}
 use Rattle.std.specs.FinMap as finite
-use Rattle.ghc_term.specs.Bindings.{IsAcyclic}
-use Rattle.ghc_term.specs.Store.{StoreValue, value_at, with_binds}
-use Rattle.ghc_fire.specs.Goals.{Goals}
-use Rattle.ghc_records.specs.Record.{State, Record, with_makes, without_goal, after}
-use Rattle.ghc_records.specs.State.{StateTables}
-use Rattle.ghc_records.specs.Handles.{goals_of}
 use Rattle.ghc_records.proofs.state.State.take.Goals as goal
 
 -- a state of equal parts

@@ -1,5 +1,4 @@
-use Rattle.std.proofs.Common.{rules, ◌≡◌, length, sym, subst}
-use Rattle.ghc_records.specs.State.{StateTables, with_goal, without_makes, GoalsTakenBack}
+use Rattle.ghc_records.proofs.Words.{rules, ◌≡◌, length, sym, subst, StateTables, with_goal, without_makes, GoalsTakenBack}
 use Rattle.ghc_records.proofs.TakenBack.{goals_back}
 use Rattle.ghc_records.proofs.state.State.take_back.Goals as goal
 

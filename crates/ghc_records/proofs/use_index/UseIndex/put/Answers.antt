@@ -1,6 +1,4 @@
-use Rattle.std.proofs.Common.{◌≡◌, ℕ, ◌⊎◌, ◌∙◌, ap, sym, subst, inl, inr}
-use Rattle.std.specs.Prelude.{◌↔◌}
-use Rattle.ghc_records.specs.UseIndex.{Index, IsUser, CanTake, Gave}
+use Rattle.ghc_records.proofs.Words.{◌≡◌, ℕ, ◌⊎◌, ◌∙◌, ap, sym, subst, inl, inr, ◌↔◌, Index, IsUser, CanTake, Gave}
 use Rattle.ghc_records.proofs.Giving.{gave, put_both}
 use Rattle.ghc_records.proofs.use_index.UseIndex.put.Goals as goal
 

@@ -1,8 +1,4 @@
-use Rattle.std.proofs.Common.{◌≡◌, ℕ, ◌⊎◌, ◌∙◌, ap, sym, subst}
-use Rattle.std.specs.Prelude.{◌↔◌}
-use Rattle.ghc_fire.specs.Asked.{variables_asked}
-use Rattle.ghc_records.specs.Slots.{held_in}
-use Rattle.ghc_records.specs.UseIndex.{Index, IsUser, CanTake, MadeOneOf}
+use Rattle.ghc_records.proofs.Words.{◌≡◌, ℕ, ◌⊎◌, ◌∙◌, ap, sym, subst, ◌↔◌, variables_asked, held_in, Index, IsUser, CanTake, MadeOneOf}
 use Rattle.ghc_records.proofs.use_index.UseIndex.put_named.Goals as goal
 
 pub put_under_makers-requires : goal.put_under_makers-requires

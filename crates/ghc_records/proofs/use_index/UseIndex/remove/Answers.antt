@@ -1,6 +1,4 @@
-use Rattle.std.proofs.Common.{◌≡◌, ◌≢◌, ℕ, ◌∙◌, ap, subst}
-use Rattle.std.specs.Prelude.{◌↔◌, Some}
-use Rattle.ghc_records.specs.UseIndex.{Index, IsUser, Gave, step_named}
+use Rattle.ghc_records.proofs.Words.{◌≡◌, ◌≢◌, ℕ, ◌∙◌, ap, subst, ◌↔◌, Some, Index, IsUser, Gave, step_named}
 use Rattle.ghc_records.proofs.Giving.{taken_both, forgotten_too}
 use Rattle.ghc_records.proofs.use_index.UseIndex.remove.Goals as goal
 

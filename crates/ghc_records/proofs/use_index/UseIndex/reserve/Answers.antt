@@ -1,7 +1,4 @@
-use Rattle.std.proofs.Common.{ℕ, ◌∙◌, sym, ap, subst}
-use Rattle.std.specs.Prelude.{Result, Ok, Err, OnOk}
-use Rattle.ghc_fire.specs.Effect.{Effect}
-use Rattle.ghc_records.specs.UseIndex.{Index, CanTake, Gave}
+use Rattle.ghc_records.proofs.Words.{ℕ, ◌∙◌, sym, ap, subst, Result, Ok, Err, OnOk, Effect, Index, CanTake, Gave}
 use Rattle.ghc_records.proofs.Giving.{can_both}
 use Rattle.ghc_records.proofs.use_index.UseIndex.reserve.Goals as goal
 

@@ -1,8 +1,4 @@
-use Rattle.std.proofs.Common.{◌≡◌, ℕ, ◌∙◌, ap, sym, subst}
-use Rattle.std.proofs.lemmas.Result.{on_ok_weaker}
-use Rattle.ghc_fire.specs.Asked.{variables_asked}
-use Rattle.ghc_records.specs.Slots.{held_in}
-use Rattle.ghc_records.specs.UseIndex.{Index, users_at, CanTake, MadeOneOf}
+use Rattle.ghc_records.proofs.Words.{◌≡◌, ℕ, ◌∙◌, ap, sym, subst, on_ok_weaker, variables_asked, held_in, Index, users_at, CanTake, MadeOneOf}
 use Rattle.ghc_records.proofs.use_index.UseIndex.reserve_named.Goals as goal
 
 pub returns-clause-users : goal.returns-clause-users

@@ -1,8 +1,4 @@
-use Rattle.std.proofs.Common.{◌≡◌, ℕ, ◌∙◌, ap, subst}
-use Rattle.std.specs.Prelude.{◌↔◌}
-use Rattle.ghc_fire.specs.Asked.{variables_asked}
-use Rattle.ghc_records.specs.Slots.{held_in}
-use Rattle.ghc_records.specs.UseIndex.{Index, IsUser, MadeOneOf}
+use Rattle.ghc_records.proofs.Words.{◌≡◌, ℕ, ◌∙◌, ap, subst, ◌↔◌, variables_asked, held_in, Index, IsUser, MadeOneOf}
 use Rattle.ghc_records.proofs.use_index.UseIndex.take_named.Goals as goal
 
 pub returns-clause-users : goal.returns-clause-users

@@ -1,7 +1,4 @@
-use Rattle.std.proofs.Common.{◌≡◌, ◌<◌, ◌≤◌, length, get_or, ◌∙◌, ap, sym, subst, arith}
-use Rattle.std.proofs.lemmas.Bool.{ltb-false}
-use Rattle.std.specs.Prelude.{Some, None}
-use Rattle.ghc_records.specs.UseIndex.{numbers_in}
+use Rattle.ghc_records.proofs.Words.{◌≡◌, ◌<◌, ◌≤◌, length, get_or, ◌∙◌, ap, sym, subst, arith, ltb-false, Some, None, numbers_in}
 use Rattle.ghc_records.proofs.NearUsers.{near_at, far_at}
 use Rattle.ghc_records.proofs.users.Users.at.Goals as goal
 

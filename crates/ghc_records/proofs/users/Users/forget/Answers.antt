@@ -1,8 +1,5 @@
-use Rattle.std.proofs.Common.{refl, subst, arith}
-use Rattle.std.specs.Prelude.{Some, None, slice_set, vec_len}
+use Rattle.ghc_records.proofs.Words.{refl, subst, arith, Some, None, slice_set, vec_len, In, users_in}
 use Rattle.std.specs.FinMap as finite
-use Rattle.ghc_term.specs.Lists.{In}
-use Rattle.ghc_records.specs.UseIndex.{users_in}
 use Rattle.ghc_records.proofs.StepUsers.{users_forgotten}
 use Rattle.ghc_records.proofs.NearUsers.{past, near_written, far_gone}
 use Rattle.ghc_records.proofs.users.Users.forget.Goals as goal

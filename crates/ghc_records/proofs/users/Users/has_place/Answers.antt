@@ -1,5 +1,4 @@
-use Rattle.std.proofs.Common.{◌≡◌, ◌<◌, length, get_or, ◌∙◌, ap, sym, subst, inl}
-use Rattle.ghc_records.specs.UseIndex.{room_in}
+use Rattle.ghc_records.proofs.Words.{◌≡◌, ◌<◌, length, get_or, ◌∙◌, ap, sym, subst, inl, room_in}
 use Rattle.ghc_records.proofs.NearUsers.{near_at}
 use Rattle.ghc_records.proofs.users.Users.has_place.Goals as goal
 

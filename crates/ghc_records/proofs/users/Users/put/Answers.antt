@@ -1,7 +1,4 @@
-use Rattle.std.proofs.Common.{◌<◌, ◌⊎◌, refl, subst, inr, arith}
-use Rattle.std.specs.Prelude.{IsSome, Some, None, slice_set, vec_len}
-use Rattle.ghc_term.specs.Lists.{In}
-use Rattle.ghc_records.specs.UseIndex.{users_in, numbers_in, room_in}
+use Rattle.ghc_records.proofs.Words.{◌<◌, ◌⊎◌, refl, subst, inr, arith, IsSome, Some, None, slice_set, vec_len, In, users_in, numbers_in, room_in}
 use Rattle.ghc_records.proofs.StepUsers.{user_put, can_still, can_not}
 use Rattle.ghc_records.proofs.NearUsers.{past, near_at, far_at, near_written, far_written}
 use Rattle.ghc_records.proofs.users.Users.put.Goals as goal

@@ -1,8 +1,4 @@
-use Rattle.std.proofs.Common.{◌≡◌, ℕ, cond, ap, refl, sym, ◌∙◌, subst, nat_eq, arith}
-use Rattle.std.specs.Map.{lookup}
-use Rattle.std.specs.Prelude.{IsSome, Some, None, slice_set, vec_len}
-use Rattle.std.proofs.lemmas.Result.{on_ok_weaker}
-use Rattle.ghc_records.specs.UseIndex.{CanTake, users_in}
+use Rattle.ghc_records.proofs.Words.{◌≡◌, ℕ, cond, ap, refl, sym, ◌∙◌, subst, nat_eq, arith, lookup, IsSome, Some, None, slice_set, vec_len, on_ok_weaker, CanTake, users_in}
 use Rattle.ghc_records.proofs.StepUsers.{users_kept, can_kept, can_take}
 use Rattle.ghc_records.proofs.NearUsers.{past, near_written, far_written}
 use Rattle.ghc_records.proofs.users.Users.reserve.Goals as goal

@@ -1,6 +1,4 @@
-use Rattle.std.proofs.Common.{ap, refl, subst, arith}
-use Rattle.std.specs.Prelude.{IsSome, Some, None, slice_set, vec_len}
-use Rattle.ghc_records.specs.UseIndex.{users_in}
+use Rattle.ghc_records.proofs.Words.{ap, refl, subst, arith, IsSome, Some, None, slice_set, vec_len, users_in}
 use Rattle.ghc_records.proofs.StepUsers.{user_taken}
 use Rattle.ghc_records.proofs.NearUsers.{past, near_written, far_written, far_unchanged}
 use Rattle.ghc_records.proofs.users.Users.take.Goals as goal

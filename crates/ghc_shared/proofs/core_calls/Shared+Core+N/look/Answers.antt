@@ -1,9 +1,4 @@
-use Rattle.std.proofs.Common.{◌≡◌, ◌∙◌, ℕ, List, length, sym, ap, subst}
-use Rattle.ghc_records.specs.Journal.{Entry, Item, history}
-use Rattle.ghc_records.specs.Record.{numbers}
-use Rattle.ghc_core.specs.World.{World}
-use Rattle.ghc_core.specs.Core.{Core}
-use Rattle.ghc_core.specs.Legal.{Leaves, entry_count, Shows}
+use Rattle.ghc_shared.proofs.Words.{◌≡◌, ◌∙◌, ℕ, List, length, sym, ap, subst, Entry, Item, history, numbers, World, Core, Leaves, entry_count, Shows}
 use Rattle.ghc_shared.proofs.AnsweredCalls.{entries_counted}
 use Rattle.ghc_shared.proofs.core_calls.Shared+Core+N.look.Goals as goal
 

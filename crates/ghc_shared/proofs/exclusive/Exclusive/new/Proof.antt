@@ -32,12 +32,9 @@ use mir.Syntax.{Ty, Sym, ty_struct}
 use mir.Val.{has_ty, WT}
 use denote.Struct.Struct.{as_fields}
 use denote.Laws.{Typed}
-use Rattle.std.proofs.raw_atomic.Walks.{proved_at, leaves}
-use Rattle.ghc_shared.specs.declared.exclusive.Exclusive.TheInside.{Inside}
+use Rattle.ghc_shared.proofs.Words.{proved_at, leaves, Inside, ended, clauses, name as #self}
 use Rattle.ghc_shared.specs.contracts.exclusive.Exclusive as outer
 use Rattle.ghc_shared.specs.contracts.exclusive.Exclusive.TheInside as inside
-use Rattle.ghc_shared.specs.contracts.exclusive.Exclusive.new.{ended, clauses}
-use Rattle.ghc_shared.specs.contracts.exclusive.Exclusive.new.Key.{name as #self}
 use Rattle.ghc_shared.proofs.exclusive.Exclusive.new.Statement.{statement}
 use Rattle.ghc_shared.proofs.exclusive.Exclusive.new.Code as code
 

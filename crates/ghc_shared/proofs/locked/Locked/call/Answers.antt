@@ -1,7 +1,5 @@
-use Rattle.std.proofs.Common.{◌<◌, ◌++◌, [], ◌∷◌, length, sym, ap, ◌∙◌, subst, arith}
-use Rattle.std.specs.Prelude.{Some, None}
+use Rattle.ghc_shared.proofs.Words.{◌<◌, ◌++◌, [], ◌∷◌, length, sym, ap, ◌∙◌, subst, arith, Some, None, items_of}
 use mathlib.Core.List.{IsPrefix}
-use Rattle.ghc_shared.specs.Logs.{items_of}
 use Rattle.ghc_shared.proofs.Moves.{copies}
 use Rattle.ghc_shared.proofs.Extended.{length-items_of, length-extended}
 use Rattle.ghc_shared.proofs.Keeping.{grown, had_seen, sees, makes}

@@ -1,6 +1,5 @@
-use Rattle.std.proofs.Common.{◌<◌, refl, sym, ap, ◌∙◌, subst, arith}
+use Rattle.ghc_shared.proofs.Words.{◌<◌, refl, sym, ap, ◌∙◌, subst, arith, items_of}
 use mathlib.Core.List.{IsPrefix}
-use Rattle.ghc_shared.specs.Logs.{items_of}
 use Rattle.ghc_shared.proofs.Moves.{copies}
 use Rattle.ghc_shared.proofs.Keeping.{sees}
 use Rattle.ghc_shared.proofs.locked.Locked.look.Goals as goal

@@ -1,5 +1,4 @@
-use Rattle.std.proofs.Common.{◌≡◌, length, sym, ap, ◌∙◌, subst, arith}
-use Rattle.ghc_shared.specs.Passes.{newcomers, AreAll}
+use Rattle.ghc_shared.proofs.Words.{◌≡◌, length, sym, ap, ◌∙◌, subst, arith, newcomers, AreAll}
 use Rattle.ghc_shared.proofs.Newcomers.{keeper_is, all_newcomers}
 use Rattle.ghc_shared.proofs.opening.Opening.named.Goals as goal
 

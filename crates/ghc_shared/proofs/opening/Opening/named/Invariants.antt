@@ -1,8 +1,4 @@
-use Rattle.std.proofs.Common.{◌≡◌, ◌+◌, [], ◌≤◌, vec_len}
-use Rattle.std.specs.Vec.{vec_capacity}
-use Rattle.ghc_shared.specs.Logs.{opening_log}
-use Rattle.ghc_shared.specs.Rule.{keeper}
-use Rattle.ghc_shared.specs.Passes.{newcomers}
+use Rattle.ghc_shared.proofs.Words.{◌≡◌, ◌+◌, [], ◌≤◌, vec_len, vec_capacity, opening_log, keeper, newcomers}
 use Rattle.ghc_shared.proofs.opening.Opening.named.Given as goal
 
 abbrev pub invariant-loop-number : goal.invariant-loop-number

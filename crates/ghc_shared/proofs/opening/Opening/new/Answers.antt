@@ -1,5 +1,4 @@
-use Rattle.std.proofs.Common.{length, sym, ap, ◌∙◌}
-use Rattle.ghc_shared.specs.Logs.{opening_log}
+use Rattle.ghc_shared.proofs.Words.{length, sym, ap, ◌∙◌, opening_log}
 use Rattle.ghc_shared.proofs.Moves.{begins_at}
 use Rattle.ghc_shared.proofs.Extended.{length-opening_log}
 use Rattle.ghc_shared.proofs.opening.Opening.new.Goals as goal

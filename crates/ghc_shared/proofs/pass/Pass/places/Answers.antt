@@ -1,5 +1,4 @@
-use Rattle.std.proofs.Common.{drop, subst}
-use Rattle.std.specs.List.Sorted.{IsStrictlyIncreasing}
+use Rattle.ghc_shared.proofs.Words.{drop, subst, IsStrictlyIncreasing}
 use Rattle.ghc_shared.proofs.PlacesOnce.{increasing}
 use Rattle.ghc_shared.proofs.pass.Pass.places.Goals as goal
 

@@ -1,5 +1,4 @@
-use Rattle.std.proofs.Common.{◌≡◌, ◌-◌, length, drop, ap, sym, ◌∙◌, arith, length-drop}
-use Rattle.ghc_shared.specs.Places.{weight, numbers_from, weight_of_places}
+use Rattle.ghc_shared.proofs.Words.{◌≡◌, ◌-◌, length, drop, ap, sym, ◌∙◌, arith, length-drop, weight, numbers_from, weight_of_places}
 use Rattle.ghc_shared.proofs.Extended.{length-items_of}
 use Rattle.ghc_shared.proofs.PlacesOnce.{each_once, all_length}
 use Rattle.ghc_shared.proofs.shared.Shared.close.Goals as goal

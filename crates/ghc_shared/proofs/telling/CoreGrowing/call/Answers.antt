@@ -1,7 +1,4 @@
-use Rattle.std.proofs.Common.{ap}
-use Rattle.ghc_records.specs.Journal.{Opening}
-use Rattle.ghc_core.specs.EventCode.{reply_of}
-use Rattle.ghc_shared.specs.Calls.{hands_of, event_of, code_of}
+use Rattle.ghc_shared.proofs.Words.{ap, Opening, reply_of, hands_of, event_of, code_of}
 use Rattle.ghc_shared.proofs.Answering.{called}
 use Rattle.ghc_shared.proofs.telling.CoreGrowing.call.Goals as goal
 

@@ -1,5 +1,4 @@
-use Rattle.std.proofs.Common.{List, length, ap, arith}
-use Rattle.ghc_records.specs.Journal.{Entry}
+use Rattle.ghc_shared.proofs.Words.{List, length, ap, arith, Entry}
 use Rattle.ghc_shared.proofs.AnsweredCalls.{entries_length}
 use Rattle.ghc_shared.proofs.telling.CoreGrowing.len.Goals as goal
 

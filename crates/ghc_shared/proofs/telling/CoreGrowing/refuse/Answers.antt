@@ -1,7 +1,4 @@
-use Rattle.std.proofs.Common.{ap, refl}
-use Rattle.ghc_records.specs.Journal.{history}
-use Rattle.ghc_core.specs.World.{World}
-use Rattle.ghc_shared.specs.Calls.{code_of}
+use Rattle.ghc_shared.proofs.Words.{ap, refl, history, World, code_of}
 use Rattle.ghc_shared.proofs.telling.CoreGrowing.refuse.Goals as goal
 
 pub returns-clause-same : goal.returns-clause-same

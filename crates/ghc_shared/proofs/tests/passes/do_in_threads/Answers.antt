@@ -1,10 +1,7 @@
-use Rattle.std.proofs.Common.{◌≡◌, length, ap, ◌∙◌, sym, subst, arith, get_or}
+use Rattle.ghc_shared.proofs.Words.{◌≡◌, length, ap, ◌∙◌, sym, subst, arith, get_or, crosses, with_items_is, AreAll}
 use mir.Syntax.{named}
 use denote.Param.{param}
 use denote.Param.Send.{sendable}
-use Rattle.std.proofs.Crossing.{crosses}
-use Rattle.std.proofs.lemmas.List.{with_items_is}
-use Rattle.ghc_shared.specs.Passes.{AreAll}
 use Rattle.ghc_shared.proofs.CoreCrosses.{core_pass_send}
 use Rattle.ghc_shared.proofs.Newcomers.{all_given}
 use Rattle.ghc_shared.proofs.tests.passes.Crosses.{hands_sync}

@@ -1,6 +1,4 @@
-use Rattle.std.specs.Prelude.{◌+◌, length}
-use Rattle.ghc_records.specs.Journal.{history}
-use Rattle.ghc_shared.specs.Calls.{code_of}
+use Rattle.ghc_shared.proofs.Words.{◌+◌, length, history, code_of}
 use Rattle.ghc_shared.proofs.tests.passes.four_passes.Given as goal
 
 abbrev pub ghosts-four_named-N-Naming : goal.ghosts-four_named-N-Naming

@@ -1,6 +1,4 @@
-use Rattle.std.proofs.Common.{◌⊎◌, subst, inl, inr}
-use Rattle.ghc_trace.specs.Disturbed.{LooksWhere}
-use Rattle.ghc_trace.specs.Gathering.{Gathers}
+use Rattle.ghc_trace.proofs.Words.{◌⊎◌, subst, inl, inr, LooksWhere, Gathers}
 use Rattle.ghc_trace.proofs.Gathering.{gathers_none}
 use Rattle.ghc_trace.proofs.Disturbing.{gathered_disturbed}
 use Rattle.ghc_trace.proofs.disturbed.Disturbed.by_arranging.Goals as goal

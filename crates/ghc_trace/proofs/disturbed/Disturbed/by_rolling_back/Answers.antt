@@ -1,9 +1,4 @@
-use Rattle.std.proofs.Common.{◌≡◌, ◌+◌, [], ◌∷◌, ◌++◌, take, sym, ap, subst, ◌∙◌}
-use Rattle.std.proofs.lemmas.List.{take_more, take_all}
-use Rattle.ghc_records.specs.Record.{Record}
-use Rattle.ghc_depend.specs.Deletion.{IsBoundIn, IsConsumedIn}
-use Rattle.ghc_core.specs.Gone.{all_gone}
-use Rattle.ghc_trace.specs.Gathering.{Gathers}
+use Rattle.ghc_trace.proofs.Words.{◌≡◌, ◌+◌, [], ◌∷◌, ◌++◌, take, sym, ap, subst, ◌∙◌, take_more, take_all, Record, IsBoundIn, IsConsumedIn, all_gone, Gathers}
 use Rattle.ghc_trace.proofs.Gathering.{gathers_both, gathers_alike}
 use Rattle.ghc_trace.proofs.Disturbing.{IsOf, IsOfOneOf, of_one, of_one_more, gathered_disturbed}
 use Rattle.ghc_trace.proofs.disturbed.Disturbed.by_rolling_back.Goals as goal

@@ -1,7 +1,4 @@
-use Rattle.std.proofs.Common.{◌≡◌, [], ◌∷◌, take}
-use Rattle.ghc_records.specs.Record.{Record}
-use Rattle.ghc_core.specs.Gone.{all_gone}
-use Rattle.ghc_trace.specs.Gathering.{Gathers}
+use Rattle.ghc_trace.proofs.Words.{◌≡◌, [], ◌∷◌, take, Record, all_gone, Gathers}
 use Rattle.ghc_trace.proofs.Disturbing.{IsOfOneOf}
 use Rattle.ghc_trace.proofs.disturbed.Disturbed.by_rolling_back.Given as goal
 

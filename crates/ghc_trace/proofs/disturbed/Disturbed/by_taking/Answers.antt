@@ -1,8 +1,4 @@
-use Rattle.std.proofs.Common.{◌⊎◌, [], subst}
-use Rattle.ghc_records.specs.Replay.{MakesGoal}
-use Rattle.ghc_depend.specs.Depend.{Binds}
-use Rattle.ghc_trace.specs.Disturbed.{LooksWhere}
-use Rattle.ghc_trace.specs.Gathering.{Gathers}
+use Rattle.ghc_trace.proofs.Words.{◌⊎◌, [], subst, MakesGoal, Binds, LooksWhere, Gathers}
 use Rattle.ghc_trace.proofs.Gathering.{gathers_both}
 use Rattle.ghc_trace.proofs.Disturbing.{gathered_disturbed}
 use Rattle.ghc_trace.proofs.disturbed.Disturbed.by_taking.Goals as goal

@@ -1,7 +1,4 @@
-use Rattle.std.proofs.Common.{subst, ◌∙◌}
-use Rattle.ghc_records.specs.Orders.{Picks}
-use Rattle.ghc_trace.specs.NewsCode.{IsNewsBy, standings}
-use Rattle.ghc_trace.specs.Disturbed.{AreStuckOtherwise}
+use Rattle.ghc_trace.proofs.Words.{subst, ◌∙◌, Picks, IsNewsBy, standings, AreStuckOtherwise}
 use Rattle.ghc_trace.proofs.Naming.{news_named}
 use Rattle.ghc_trace.proofs.Writing.{when_ok}
 use Rattle.ghc_trace.proofs.disturbed.Disturbed.push_news.Goals as goal

@@ -1,7 +1,4 @@
-use Rattle.std.proofs.Common.{map, subst, ◌∙◌}
-use Rattle.ghc_records.specs.Orders.{Picks}
-use Rattle.ghc_trace.specs.NewsCode.{Former}
-use Rattle.ghc_trace.specs.Disturbed.{WaitsWhereBound, AreResumedBy}
+use Rattle.ghc_trace.proofs.Words.{map, subst, ◌∙◌, Picks, Former, WaitsWhereBound, AreResumedBy}
 use Rattle.ghc_trace.proofs.Naming.{resumed_named}
 use Rattle.ghc_trace.proofs.Writing.{when_ok}
 use Rattle.ghc_trace.proofs.disturbed.Disturbed.push_resumed.Goals as goal

@@ -1,9 +1,4 @@
-use Rattle.std.proofs.Common.{◌≡◌, ◌+◌, get_or, take, subst, inl, inr}
-use Rattle.std.proofs.lemmas.List.{take_all}
-use Rattle.ghc_term.specs.Lists.{In}
-use Rattle.ghc_term.specs.declared.goal_name.GoalName.{GoalName}
-use Rattle.ghc_hooks.proofs.LookingAll.{so_far, earlier, latest}
-use Rattle.ghc_trace.specs.Gathering.{Gathers}
+use Rattle.ghc_trace.proofs.Words.{◌≡◌, ◌+◌, get_or, take, subst, inl, inr, take_all, In, GoalName, so_far, earlier, latest, Gathers}
 use Rattle.ghc_trace.proofs.Gathering.{gathers_none, gathers_one, gathers_both}
 use Rattle.ghc_trace.proofs.gathered.Gathered.add_all.Goals as goal
 

@@ -1,6 +1,4 @@
-use Rattle.std.proofs.Common.{take}
-use Rattle.ghc_term.specs.Lists.{In}
-use Rattle.ghc_trace.specs.Gathering.{Gathers}
+use Rattle.ghc_trace.proofs.Words.{take, In, Gathers}
 use Rattle.ghc_trace.proofs.gathered.Gathered.add_all.Given as goal
 
 abbrev pub invariant-loop-goal : goal.invariant-loop-goal

@@ -1,11 +1,4 @@
-use Rattle.std.proofs.Common.{◌+◌, take, ap, sym, subst, ◌∙◌, inl, inr}
-use Rattle.std.proofs.lemmas.List.{take_all}
-use Rattle.ghc_term.specs.Lists.{In}
-use Rattle.ghc_depend.specs.Depend.{Binds}
-use Rattle.ghc_hooks.specs.Tries.{HasLookedAt}
-use Rattle.ghc_hooks.proofs.LookingAll.{so_far, earlier, latest}
-use Rattle.ghc_trace.specs.Disturbed.{LooksWhere}
-use Rattle.ghc_trace.specs.Gathering.{Gathers}
+use Rattle.ghc_trace.proofs.Words.{◌+◌, take, ap, sym, subst, ◌∙◌, inl, inr, take_all, In, Binds, HasLookedAt, so_far, earlier, latest, LooksWhere, Gathers}
 use Rattle.ghc_trace.proofs.Gathering.{gathers_none, gathers_both, gathers_alike}
 use Rattle.ghc_trace.proofs.Disturbing.{looks_where_bound, LooksAtOneOf}
 use Rattle.ghc_trace.proofs.gathered.Gathered.add_looking.Goals as goal

@@ -1,5 +1,4 @@
-use Rattle.std.proofs.Common.{take}
-use Rattle.ghc_trace.specs.Gathering.{Gathers}
+use Rattle.ghc_trace.proofs.Words.{take, Gathers}
 use Rattle.ghc_trace.proofs.Disturbing.{LooksAtOneOf}
 use Rattle.ghc_trace.proofs.gathered.Gathered.add_looking.Given as goal
 

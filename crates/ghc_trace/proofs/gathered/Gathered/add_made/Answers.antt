@@ -1,6 +1,4 @@
-use Rattle.std.proofs.Common.{◌≡◌, ◌≤◌, ◌+◌, ◌∙◌, length, sym, ap, inl, inr, arith, rules}
-use Rattle.ghc_term.specs.declared.goal_name.GoalName.{GoalName}
-use Rattle.ghc_records.specs.Replay.{MakesGoal}
+use Rattle.ghc_trace.proofs.Words.{◌≡◌, ◌≤◌, ◌+◌, ◌∙◌, length, sym, ap, inl, inr, arith, rules, GoalName, MakesGoal}
 use Rattle.ghc_trace.proofs.Gathering.{gathers_none, gathers_one, gathers_both, gathers_alike}
 use Rattle.ghc_trace.proofs.Disturbing.{up_to}
 use Rattle.ghc_trace.proofs.gathered.Gathered.add_made.Goals as goal

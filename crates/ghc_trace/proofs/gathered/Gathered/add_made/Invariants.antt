@@ -1,5 +1,4 @@
-use Rattle.std.proofs.Common.{◌≡◌, ◌≤◌}
-use Rattle.ghc_trace.specs.Gathering.{Gathers}
+use Rattle.ghc_trace.proofs.Words.{◌≡◌, ◌≤◌, Gathers}
 use Rattle.ghc_trace.proofs.gathered.Gathered.add_made.Given as goal
 
 abbrev pub invariant-loop-index : goal.invariant-loop-index

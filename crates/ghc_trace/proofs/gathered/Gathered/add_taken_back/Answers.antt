@@ -1,7 +1,4 @@
-use Rattle.std.proofs.Common.{◌≡◌, sym, ap, ◌∙◌, inl, inr, rules}
-use Rattle.std.specs.Prelude.{Some, None}
-use Rattle.ghc_depend.specs.Depend.{Binds}
-use Rattle.ghc_trace.specs.Disturbed.{LooksWhere}
+use Rattle.ghc_trace.proofs.Words.{◌≡◌, sym, ap, ◌∙◌, inl, inr, rules, Some, None, Binds, LooksWhere}
 use Rattle.ghc_trace.proofs.Gathering.{gathers_one, gathers_both, gathers_alike}
 use Rattle.ghc_trace.proofs.Disturbing.{IsOf, one_name, no_name}
 use Rattle.ghc_trace.proofs.gathered.Gathered.add_taken_back.Goals as goal

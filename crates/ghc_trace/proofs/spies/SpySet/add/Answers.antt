@@ -1,8 +1,5 @@
-use Rattle.std.proofs.Common.{◌∙◌, ap}
+use Rattle.ghc_trace.proofs.Words.{◌∙◌, ap, done, key_put, predicate}
 use Rattle.std.specs.FinSet as set
-use Rattle.ghc_term.proofs.Indexed.{done}
-use Rattle.ghc_hooks.proofs.Tables.{key_put}
-use Rattle.ghc_trace.specs.Spies.{predicate}
 use Rattle.ghc_trace.proofs.Spied.{predicate_total, predicate_antisymmetric, same, same_is}
 use Rattle.ghc_trace.proofs.spies.SpySet.add.Goals as goal
 

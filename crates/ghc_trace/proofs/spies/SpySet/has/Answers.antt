@@ -1,7 +1,5 @@
-use Rattle.std.proofs.Common.{◌≡◌, ◌∙◌, ap, sym}
+use Rattle.ghc_trace.proofs.Words.{◌≡◌, ◌∙◌, ap, sym, has_key, predicate}
 use Rattle.std.specs.FinSet as set
-use Rattle.ghc_hooks.proofs.Tables.{has_key}
-use Rattle.ghc_trace.specs.Spies.{predicate}
 use Rattle.ghc_trace.proofs.Spied.{predicate_total, predicate_antisymmetric, same, same_is}
 use Rattle.ghc_trace.proofs.spies.SpySet.has.Goals as goal
 

@@ -1,11 +1,5 @@
-use Rattle.std.proofs.Common.{◌≡◌, ◌<◌, ◌||◌, ◌+◌, true, cond, [], drop, get_or, map, Result, Ok, Err, IfOk, sym, ap, ◌∙◌, subst}
-use Rattle.std.proofs.lemmas.List.{at_drop_more}
-use Rattle.std.proofs.lemmas.List.Elements.{All-same, All-nil, All-get_or}
-use Rattle.std.proofs.lemmas.Map.Views.{All-insert_key}
-use Rattle.std.specs.Ordering.{is_eq}
+use Rattle.ghc_trace.proofs.Words.{◌≡◌, ◌<◌, ◌||◌, ◌+◌, true, cond, [], drop, get_or, map, Result, Ok, Err, IfOk, sym, ap, ◌∙◌, subst, at_drop_more, All-same, All-nil, All-get_or, All-insert_key, is_eq, Predicate, predicate, predicate_cmp, as_written}
 use Rattle.std.specs.FinSet as set
-use Rattle.ghc_trace.specs.declared.spies.Predicate.{Predicate}
-use Rattle.ghc_trace.specs.Spies.{predicate, predicate_cmp, as_written}
 use Rattle.ghc_trace.proofs.SpyOrder.{has, one_put, put_in_order}
 use Rattle.ghc_trace.proofs.spies.SpySet.in_order.Goals as goal
 

@@ -1,5 +1,4 @@
-use Rattle.std.proofs.Common.{◌≡◌, ◌||◌, ◌<◌, All, drop}
-use Rattle.ghc_trace.specs.declared.spies.Predicate.{Predicate}
+use Rattle.ghc_trace.proofs.Words.{◌≡◌, ◌||◌, ◌<◌, All, drop, Predicate}
 use Rattle.ghc_trace.proofs.SpyOrder.{has}
 use Rattle.ghc_trace.proofs.spies.SpySet.in_order.Given as goal
 

@@ -1,8 +1,5 @@
-use Rattle.std.proofs.Common.{◌≡◌, sym, ap, ◌∙◌, arith}
-use Rattle.std.proofs.lemmas.Bool.Decides.{nat_tests}
+use Rattle.ghc_trace.proofs.Words.{◌≡◌, sym, ap, ◌∙◌, arith, nat_tests, count_of_keys, predicate_cmp}
 use Rattle.std.specs.FinSet as set
-use Rattle.ghc_hooks.proofs.Tables.{count_of_keys}
-use Rattle.ghc_trace.specs.Spies.{predicate_cmp}
 use Rattle.ghc_trace.proofs.Spied.{predicate_total, predicate_antisymmetric, same, same_is}
 use Rattle.ghc_trace.proofs.spies.SpySet.is_empty.Goals as goal
 

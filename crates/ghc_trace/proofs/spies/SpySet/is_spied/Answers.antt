@@ -1,6 +1,4 @@
-use Rattle.std.proofs.Common.{◌≡◌, true, false, sym, subst}
-use Rattle.std.specs.Prelude.{◌↔◌, IsTrue}
-use Rattle.ghc_trace.specs.Spies.{IsSpied}
+use Rattle.ghc_trace.proofs.Words.{◌≡◌, true, false, sym, subst, ◌↔◌, IsTrue, IsSpied}
 use Rattle.ghc_trace.proofs.spies.SpySet.is_spied.Goals as goal
 
 pub returns-in-Call : goal.returns-in-Call

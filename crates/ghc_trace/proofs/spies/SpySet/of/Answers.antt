@@ -1,8 +1,6 @@
-use Rattle.std.proofs.Common.{take, sym, ap, ◌∙◌}
-use Rattle.std.proofs.lemmas.List.{take_all}
+use Rattle.ghc_trace.proofs.Words.{take, sym, ap, ◌∙◌, take_all, predicate, spied_of}
 use Rattle.std.specs.FinSet as set
 use Rattle.ghc_records.specs.declared.predicate.Predicate as written
-use Rattle.ghc_trace.specs.Spies.{predicate, spied_of}
 use Rattle.ghc_trace.proofs.SpyOrder.{one_spied}
 use Rattle.ghc_trace.proofs.spies.SpySet.of.Goals as goal
 

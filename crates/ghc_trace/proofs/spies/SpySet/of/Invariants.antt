@@ -1,5 +1,4 @@
-use Rattle.std.proofs.Common.{◌≡◌, take}
-use Rattle.ghc_trace.specs.Spies.{spied_of}
+use Rattle.ghc_trace.proofs.Words.{◌≡◌, take, spied_of}
 use Rattle.ghc_trace.proofs.spies.SpySet.of.Given as goal
 
 abbrev pub invariant-loop-predicate : goal.invariant-loop-predicate

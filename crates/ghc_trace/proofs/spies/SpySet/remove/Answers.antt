@@ -1,7 +1,5 @@
-use Rattle.std.proofs.Common.{◌∙◌, ap, ◌<◌}
+use Rattle.ghc_trace.proofs.Words.{◌∙◌, ap, ◌<◌, key_taken, predicate}
 use Rattle.std.specs.FinSet as set
-use Rattle.ghc_hooks.proofs.Tables.{key_taken}
-use Rattle.ghc_trace.specs.Spies.{predicate}
 use Rattle.ghc_trace.proofs.Spied.{predicate_total, predicate_antisymmetric, same, same_is}
 use Rattle.ghc_trace.proofs.SpyOrder.{kept_of_each}
 use Rattle.ghc_trace.proofs.spies.SpySet.remove.Goals as goal

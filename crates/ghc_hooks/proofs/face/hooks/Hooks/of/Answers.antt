@@ -1,6 +1,4 @@
-use Rattle.std.proofs.Common.{◌+◌, take, take_all, sym, subst}
-use Rattle.ghc_term.proofs.SetsLemmas.{has_member, is_member}
-use Rattle.ghc_hooks.specs.Parts.{TellsHooks}
+use Rattle.ghc_hooks.proofs.Words.{◌+◌, take, take_all, sym, subst, has_member, is_member, TellsHooks}
 use Rattle.ghc_hooks.proofs.FoundFace.{no_hooks, hooked, unhooked}
 use Rattle.ghc_hooks.proofs.face.hooks.Hooks.of.Goals.{in-Some+in_ok-put_all, in_default}
 use Rattle.ghc_hooks.proofs.face.hooks.Hooks.of.Goals as goal

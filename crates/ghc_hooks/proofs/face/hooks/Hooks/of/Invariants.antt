@@ -1,5 +1,4 @@
-use Rattle.std.proofs.Common.{take}
-use Rattle.ghc_hooks.specs.Parts.{TellsHooks}
+use Rattle.ghc_hooks.proofs.Words.{take, TellsHooks}
 use Rattle.ghc_hooks.proofs.face.hooks.Hooks.of.Given as goal
 
 -- the hooks of the goals so far

@@ -1,5 +1,4 @@
-use Rattle.std.proofs.Common.{take}
-use Rattle.ghc_hooks.specs.Parts.{HooksBesides}
+use Rattle.ghc_hooks.proofs.Words.{take, HooksBesides}
 use Rattle.ghc_hooks.proofs.face.hooks.Hooks.put_all.Given as goal
 
 -- the goal is hooked on the variables so far

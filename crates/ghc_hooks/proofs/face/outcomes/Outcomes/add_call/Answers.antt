@@ -1,9 +1,4 @@
-use Rattle.std.proofs.Common.{length, take_all, slice_index_or, refl, subst, arith, ◌≤◌}
-use Rattle.std.proofs.lemmas.Option.{MatchOption-at_some}
-use Rattle.ghc_term.proofs.ListsLemmas.{in_at}
-use Rattle.ghc_flat.specs.Clause.{IsClause}
-use Rattle.ghc_match.specs.Told.{outcome_of}
-use Rattle.ghc_fire.proofs.Calling.{numbered_for, some_there}
+use Rattle.ghc_hooks.proofs.Words.{length, take_all, slice_index_or, refl, subst, arith, ◌≤◌, MatchOption-at_some, in_at, IsClause, outcome_of, numbered_for, some_there}
 use Rattle.ghc_hooks.proofs.FoundFace.{OutcomesBesides, outcomes_next, all_outcomes, number_says}
 use Rattle.ghc_hooks.proofs.face.outcomes.Outcomes.add_call.Goals as goal
 

@@ -1,5 +1,4 @@
-use Rattle.std.proofs.Common.{Some, sym, ap, ◌∙◌}
-use Rattle.std.proofs.lemmas.Result.{on_ok_weaker}
+use Rattle.ghc_hooks.proofs.Words.{Some, sym, ap, ◌∙◌, on_ok_weaker}
 use Rattle.ghc_hooks.proofs.FoundFace.{call_told}
 use Rattle.ghc_hooks.proofs.face.outcomes.Outcomes.add_goal.Goals as goal
 

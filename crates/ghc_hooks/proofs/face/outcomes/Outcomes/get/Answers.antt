@@ -1,7 +1,5 @@
-use Rattle.std.proofs.Common.{ap, ◌∙◌}
+use Rattle.ghc_hooks.proofs.Words.{ap, ◌∙◌, option_map, outcome_of}
 use Rattle.std.specs.FinMap as finite
-use Rattle.std.specs.Option.{option_map}
-use Rattle.ghc_match.specs.Told.{outcome_of}
 use Rattle.ghc_hooks.proofs.Pairs.{outcome_found}
 use Rattle.ghc_hooks.proofs.FoundFace.{tells_some, tells_none}
 use Rattle.ghc_hooks.proofs.face.outcomes.Outcomes.get.Goals as goal

@@ -1,5 +1,4 @@
-use Rattle.std.proofs.Common.{take_all, subst}
-use Rattle.ghc_hooks.specs.Parts.{TellsOutcomes}
+use Rattle.ghc_hooks.proofs.Words.{take_all, subst, TellsOutcomes}
 use Rattle.ghc_hooks.proofs.FoundFace.{no_outcomes, outcomes_more}
 use Rattle.ghc_hooks.proofs.face.outcomes.Outcomes.of.Goals as goal
 

@@ -1,5 +1,4 @@
-use Rattle.std.proofs.Common.{take}
-use Rattle.ghc_hooks.specs.Parts.{TellsOutcomes}
+use Rattle.ghc_hooks.proofs.Words.{take, TellsOutcomes}
 use Rattle.ghc_hooks.proofs.face.outcomes.Outcomes.of.Given as goal
 
 -- the outcomes of the goals so far

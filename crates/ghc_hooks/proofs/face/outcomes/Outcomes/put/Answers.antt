@@ -1,6 +1,5 @@
-use Rattle.std.proofs.Common.{◌∙◌, ap}
+use Rattle.ghc_hooks.proofs.Words.{◌∙◌, ap, outcome_of}
 use Rattle.std.specs.FinMap as finite
-use Rattle.ghc_match.specs.Told.{outcome_of}
 use Rattle.ghc_hooks.proofs.Pairs.{outcome_inserted}
 use Rattle.ghc_hooks.proofs.face.outcomes.Outcomes.put.Goals as goal
 

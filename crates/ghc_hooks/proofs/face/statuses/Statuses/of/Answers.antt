@@ -1,5 +1,4 @@
-use Rattle.std.proofs.Common.{◌+◌, take, take_all, sym, subst}
-use Rattle.ghc_hooks.specs.Parts.{TellsStatuses}
+use Rattle.ghc_hooks.proofs.Words.{◌+◌, take, take_all, sym, subst, TellsStatuses}
 use Rattle.ghc_hooks.proofs.FoundFace.{no_statuses, status_put, status_passed}
 use Rattle.ghc_hooks.proofs.face.statuses.Statuses.of.Goals.{in-Some+in_ok-of+in_ok-put, in_default}
 use Rattle.ghc_hooks.proofs.face.statuses.Statuses.of.Goals as goal

@@ -1,5 +1,4 @@
-use Rattle.std.proofs.Common.{take}
-use Rattle.ghc_hooks.specs.Parts.{TellsStatuses}
+use Rattle.ghc_hooks.proofs.Words.{take, TellsStatuses}
 use Rattle.ghc_hooks.proofs.face.statuses.Statuses.of.Given as goal
 
 -- the statuses of the goals so far

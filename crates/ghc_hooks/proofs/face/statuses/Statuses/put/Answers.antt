@@ -1,7 +1,6 @@
-use Rattle.std.proofs.Common.{◌∙◌, ap}
+use Rattle.ghc_hooks.proofs.Words.{◌∙◌, ap, inserted, goal_total, goal_antisymmetric, same_is}
 use Rattle.std.specs.FinMap as finite
-use Rattle.ghc_term.proofs.Indexed.{inserted}
-use Rattle.ghc_fire.proofs.GoalNames.{goal_total, goal_antisymmetric, same, same_is}
+use Rattle.ghc_fire.proofs.GoalNames.{same}
 use Rattle.ghc_hooks.proofs.face.statuses.Statuses.put.Goals as goal
 
 pub returns : goal.returns
