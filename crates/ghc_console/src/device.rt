@@ -53,6 +53,7 @@ pub trait Device {
 }
 
 /// Writes all the bytes, or a front of them where a call fails, which is the last call. At most one call for each byte.
+#[inline(always)]
 pub fn write_all<D: Device>(device: &mut D, bytes: &[u8]) -> Result<(), Broken>
     ensures bytes { WritesFront (D.written device.old) (D.written device.new) result bytes.now }
     ensures unread { Keeps (D.unread device.old) (D.unread device.new) }
