@@ -1,22 +1,6 @@
 -- What was made by steps that took goals in question is in question.
-use Rattle.std.proofs.Common.{◌≡◌, ℕ, ◌≤◌, [], ◌∷◌, ◌++◌, ap, ◌∙◌, inl, inr, arith, Some, None}
-use Rattle.std.specs.Prelude.{Option}
+use Rattle.ghc_pool.proofs.Words.{◌≡◌, ℕ, ◌≤◌, [], ◌∷◌, ◌++◌, ap, ◌∙◌, inl, inr, arith, Some, None, Option, GoalName, Goal, in_either, Record, MakesGoal, made_by, own_made, goal_by, of_query, results_of, World, IsStanding, reached_good, standing_replay, standing_below, Spies, IsInQuestion, IsRunStep, TookInQuestion}
 use Rattle.std.specs.FinMap as finite
-use Rattle.ghc_term.specs.declared.goal_name.GoalName.{GoalName}
-use Rattle.ghc_term.specs.Goal.{Goal}
-use Rattle.ghc_term.proofs.ListsLemmas.{in_either}
-use Rattle.ghc_records.specs.Record.{Record}
-use Rattle.ghc_depend.specs.Depend.{MakesGoal, made_by}
-use Rattle.ghc_depend.proofs.Finding.{own_made}
-use Rattle.ghc_depend.proofs.Results.{goal_by, of_query}
-use Rattle.ghc_depend.proofs.Placing.{results_of}
-use Rattle.ghc_core.specs.World.{World}
-use Rattle.ghc_core.specs.Core.{IsStanding}
-use Rattle.ghc_core.proofs.Reaching.{reached_good}
-use Rattle.ghc_core.proofs.Standing.{standing_replay, standing_below}
-use Rattle.ghc_trace.specs.Spies.{Spies}
-use Rattle.ghc_pool.specs.Runs.{IsInQuestion, IsRunStep}
-use Rattle.ghc_pool.specs.Meeting.{TookInQuestion}
 use Rattle.ghc_pool.proofs.AtTheEnd.{still_in_question, named_one}
 
 -- with no step of this number or a greater one

@@ -1,17 +1,5 @@
 -- What a run adds to the record and the journal.
-use Rattle.std.proofs.Common.{◌≡◌, ℕ, List, [], ◌∷◌, ◌++◌, map, refl, sym, ap, ◌∙◌, subst, inl, inr, arith, append_assoc, append-nil, length-append, Some, None}
-use Rattle.std.proofs.lemmas.List.{map-append}
-use Rattle.std.specs.Prelude.{Option}
-use Rattle.ghc_term.specs.declared.goal_name.GoalName.{GoalName}
-use Rattle.ghc_term.proofs.ListsLemmas.{in_left, in_either}
-use Rattle.ghc_records.specs.Record.{Record}
-use Rattle.ghc_records.specs.Journal.{Entry, took, step_of}
-use Rattle.ghc_depend.specs.Depend.{Descends, itself, made_by}
-use Rattle.ghc_core.specs.World.{World}
-use Rattle.ghc_core.specs.Proposes.{IsReduction}
-use Rattle.ghc_trace.specs.Spies.{Spies}
-use Rattle.ghc_pool.specs.Runs.{IsInQuestion, IsRunStep, at_start, and_step}
-use Rattle.ghc_pool.specs.Laws.{AddsAtTheEnd, RunsAddAtTheEnd, RunsReduce}
+use Rattle.ghc_pool.proofs.Words.{◌≡◌, ℕ, List, [], ◌∷◌, ◌++◌, map, refl, sym, ap, ◌∙◌, subst, inl, inr, arith, append_assoc, append-nil, length-append, Some, None, map-append, Option, GoalName, in_left, in_either, Record, Entry, took, step_of, Descends, itself, made_by, World, IsReduction, Spies, IsInQuestion, IsRunStep, at_start, and_step, AddsAtTheEnd, RunsAddAtTheEnd, RunsReduce}
 
 -- the entry of a step that was taken
 abbrev entry : Record → Entry

@@ -4,7 +4,7 @@ use denote.Ref.{NamedLft, ShrRef}
 use denote.Struct.Field.{row_field}
 use denote.Param.Send.{IsSync, sendable, shr_sync}
 use denote.Param.SendFields.{declared_sync, as_row_sync}
-use Rattle.std.proofs.Crossing.{crosses}
+use Rattle.ghc_pool.proofs.Words.{crosses, ghosts, shared_core_sync}
 use Rattle.std.proofs.MapsCrossing as maps
 use Rattle.std.proofs.MapsCrossingOver as over
 use Rattle.std.specs.declared.sync.ledger.Ledger as ledger
@@ -13,9 +13,7 @@ use Rattle.ghc_core.specs.contracts.reply.Reply as reply
 use Rattle.ghc_shared.specs.declared.naming.Naming as naming
 use Rattle.ghc_shared.specs.contracts.calls.Call as call
 use Rattle.ghc_shared.specs.contracts.calls.HistoryItem as item
-use Rattle.ghc_shared.specs.contracts.telling.CoreGrowing.TheImpl.{ghosts}
 use Rattle.ghc_shared.specs.contracts.shared.Shared as shared
-use Rattle.ghc_shared.proofs.CoreCrosses.{shared_core_sync}
 use Rattle.ghc_trace.specs.contracts.spies.SpySet as spies
 use Rattle.ghc_pool.specs.contracts.deciding.Deciding as deciding
 use Rattle.ghc_pool.specs.contracts.scope.Scope as scope

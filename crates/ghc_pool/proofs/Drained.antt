@@ -1,15 +1,7 @@
 -- What is known of workers while the deques are drained.
-use Rattle.std.proofs.Common.{◌≡◌, ℕ, zero, suc, ◌+◌, ◌<◌, List, [], ◌∷◌, length, set, refl, sym, ap, ◌∙◌, subst, arith}
+use Rattle.ghc_pool.proofs.Words.{◌≡◌, ℕ, zero, suc, ◌+◌, ◌<◌, List, [], ◌∷◌, length, set, refl, sym, ap, ◌∙◌, subst, arith, worker_view, GoalName, Victim, Worker, Taken, all_parts, weigh, Work, work_of, works, AreVictims, deques, stolen, over, total_work, put_of, stolen_of, in_of, out_of, offered_in, taken_in, left_in, submits_of, submits_by, Keeps, AreReady, HaveParts, AreReleased, IsPending, ArePending, IsDrained, AreDrained, AreDrainedTo, AreTold, FirstBegins}
 use mathlib.Core.List.{IsPrefix}
 use lib.ListN.{get_or}
-use Rattle.crossbeam_deque.specs.Handles.{worker_view}
-use Rattle.ghc_term.specs.declared.goal_name.GoalName.{GoalName}
-use Rattle.ghc_pool.specs.declared.rounds.victim.Victim.{Victim}
-use Rattle.ghc_pool.specs.declared.rounds.worker.Worker.{Worker}
-use Rattle.ghc_pool.specs.Answers.{Taken}
-use Rattle.ghc_pool.specs.Fair.{all_parts, weigh}
-use Rattle.ghc_pool.specs.Workers.{Work, work_of, works, AreVictims, deques, stolen, over, total_work, put_of, stolen_of, in_of, out_of, offered_in, taken_in, left_in, submits_of, submits_by, Keeps}
-use Rattle.ghc_pool.specs.Gathered.{AreReady, HaveParts, AreReleased, IsPending, ArePending, IsDrained, AreDrained, AreDrainedTo, AreTold, FirstBegins}
 use Rattle.ghc_pool.proofs.Stealing.{prefix_after}
 
 pub drained_from : (ws : List Worker) → ArePending ws → AreDrainedTo 0 ws

@@ -1,19 +1,6 @@
 -- What is known of workers and their jobs at the start and behind the threads.
-use Rattle.std.proofs.Common.{◌≡◌, ◌⊎◌, ℕ, zero, suc, ◌+◌, ◌<◌, ◌++◌, List, [], ◌∷◌, Some, None, inl, inr, length, set, drop, take, refl, sym, ap, ◌∙◌, subst, arith, append-nil}
+use Rattle.ghc_pool.proofs.Words.{◌≡◌, ◌⊎◌, ℕ, zero, suc, ◌+◌, ◌<◌, ◌++◌, List, [], ◌∷◌, Some, None, inl, inr, length, set, drop, take, refl, sym, ap, ◌∙◌, subst, arith, append-nil, Global, RowsId, worker_deque, worker_flavor, worker_view, GoalName, RoundStop, Worker, Job, Taken, IsReason, weigh, AreVictims, deques, stolen, work_of, works, names, submits, over, total_work, put_of, got_of, stolen_of, in_of, out_of, offered_in, taken_in, left_in, IsRoomier, Keeps, KeepsRoom, IsOfferedOrStopped, IsWell, AreWell, own_deques, all_victims, AreReady, HaveParts, HaveGivenBack, AreTold, FirstBegins, IsStarting, AreStarting, AreNew, IsCounted, AreCounted, Works, HasWorked, IsJob, AreJobs, workers_in, passes_in}
 use lib.ListN.{get_or}
-use Rattle.std.specs.declared.alloc.Global.{Global}
-use Rattle.atomic_blocks.specs.Lent.{RowsId}
-use Rattle.crossbeam_deque.specs.Handles.{worker_deque, worker_flavor, worker_view}
-use Rattle.ghc_term.specs.declared.goal_name.GoalName.{GoalName}
-use Rattle.ghc_pool.specs.declared.answer.RoundStop.{RoundStop}
-use Rattle.ghc_pool.specs.declared.rounds.worker.Worker.{Worker}
-use Rattle.ghc_pool.specs.declared.rounds.working.Job.{Job}
-use Rattle.ghc_pool.specs.Answers.{Taken, IsReason}
-use Rattle.ghc_pool.specs.Fair.{weigh}
-use Rattle.ghc_pool.specs.Workers.{AreVictims, deques, stolen, work_of, works, names, submits, over, total_work, put_of, got_of, stolen_of, in_of, out_of, offered_in, taken_in, left_in, IsRoomier, Keeps, KeepsRoom, IsOfferedOrStopped}
-use Rattle.ghc_pool.specs.Stops.{IsWell, AreWell}
-use Rattle.ghc_pool.specs.Gathered.{own_deques, all_victims, AreReady, HaveParts, HaveGivenBack, AreTold, FirstBegins}
-use Rattle.ghc_pool.specs.Opened.{IsStarting, AreStarting, AreNew, IsCounted, AreCounted, Works, HasWorked, IsJob, AreJobs, workers_in, passes_in}
 use Rattle.ghc_pool.proofs.Stealing.{prefix_after}
 use Rattle.ghc_pool.proofs.Wells.{some_none}
 

@@ -1,11 +1,6 @@
 -- What is known of the reason to stop.
-use Rattle.std.proofs.Common.{◌≡◌, ◌<◌, ◌++◌, ℕ, zero, suc, List, [], ◌∷◌, length, set, Option, Some, None, inl, inr, refl, sym, ◌∙◌, subst, arith}
+use Rattle.ghc_pool.proofs.Words.{◌≡◌, ◌<◌, ◌++◌, ℕ, zero, suc, List, [], ◌∷◌, length, set, Option, Some, None, inl, inr, refl, sym, ◌∙◌, subst, arith, RoundStop, Memory, Limit, Full, Spied, Clash, Taken, IsReason, Work, joined, IsWell, IsOpen, GoesOn, IsJudged, WentOn, AreOpen, AreFed, OneAsks, AreJudged}
 use lib.ListN.{get_or}
-use Rattle.ghc_pool.specs.declared.answer.RoundStop.{RoundStop}
-use Rattle.ghc_pool.specs.declared.answer.RoundStop.TheVariants.{Memory, Limit, Full, Spied, Clash}
-use Rattle.ghc_pool.specs.Answers.{Taken, IsReason}
-use Rattle.ghc_pool.specs.Workers.{Work}
-use Rattle.ghc_pool.specs.Stops.{joined, IsWell, IsOpen, GoesOn, IsJudged, WentOn, AreOpen, AreFed, OneAsks, AreJudged}
 use Rattle.ghc_pool.proofs.Wells.{some_none}
 
 module _ (fed : List Taken → Type 0) (asks : List Taken → RoundStop → Type 0) where

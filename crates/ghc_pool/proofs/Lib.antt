@@ -20,3 +20,4 @@ pub mod RoundPlaces
 pub mod RoundTakes
 pub mod Unworked
 pub mod Crosses
+mod Words

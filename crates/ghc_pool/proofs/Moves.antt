@@ -1,12 +1,8 @@
 -- Each step keeps the rule.
-use Rattle.std.proofs.Common.{◌≡◌, ◌≢◌, ℕ, zero, suc, ◌+◌, ◌-◌, ◌<◌, ◌≤◌, List, [], ◌∷◌, ◌++◌, length, set, refl, sym, ap, ◌∙◌, subst, ⊎_elim, arith, length-append}
+use Rattle.ghc_pool.proofs.Words.{◌≡◌, ◌≢◌, ℕ, zero, suc, ◌+◌, ◌-◌, ◌<◌, ◌≤◌, List, [], ◌∷◌, ◌++◌, length, set, refl, sym, ap, ◌∙◌, subst, ⊎_elim, arith, length-append, Pushes, Forks, Merges, Finds, GoalName, at_set, at_snoc, Hand, hand, all_parts, weigh, total, IdleIsEmpty, Balanced}
 use mathlib.Core.Option.{some, some-ne-none, some-injective}
 use lib.ListN.{get_elem?}
-use Rattle.crossbeam_deque.specs.Tasks.{Pushes, Takes, Forks, Merges, Finds}
-use Rattle.ghc_term.specs.declared.goal_name.GoalName.{GoalName}
-use Rattle.crossbeam_deque.proofs.Lists.{at_set, at_snoc}
-use Rattle.ghc_pool.specs.declared.rounds.rule.Hand.{Hand}
-use Rattle.ghc_pool.specs.Fair.{hand, all_parts, weigh, total, IdleIsEmpty, Balanced}
+use Rattle.crossbeam_deque.specs.Tasks.{Takes}
 
 pub weigh-append : (h : GoalName → ℕ) (xs ys : List GoalName) → weigh h (xs ++ ys) ≡ weigh h xs + weigh h ys
 weigh-append h [] ys = omega arith

@@ -1,13 +1,6 @@
 -- What a note says of a goal.
-use Rattle.std.proofs.Common.{◌≡◌, Bool, sym, ap, ◌∙◌, Some}
-use Rattle.std.specs.Prelude.{◌↔◌, IsTrue}
+use Rattle.ghc_pool.proofs.Words.{◌≡◌, Bool, sym, ap, ◌∙◌, Some, ◌↔◌, IsTrue, GoalName, Variables, Status, ready, waiting, Note, NotesByGoal, same_value, IsNotedReady, IsNotedWaiting}
 use Rattle.std.specs.FinMap as finite
-use Rattle.ghc_term.specs.declared.goal_name.GoalName.{GoalName}
-use Rattle.ghc_term.specs.Sets.{Variables}
-use Rattle.ghc_hooks.specs.Status.{Status, ready, waiting}
-use Rattle.ghc_hooks.specs.Notes.{Note, NotesByGoal}
-use Rattle.ghc_depend.proofs.Finding.{same_value}
-use Rattle.ghc_pool.specs.Meeting.{IsNotedReady, IsNotedWaiting}
 
 module _ (notes : NotesByGoal) (g : GoalName) (note : Note) (there : finite.get notes g ≡ Some note) (s : Status) (says : note.status ≡ s) (t : Bool) where
   other : (n : Note) → finite.get notes g ≡ Some n → n.status ≡ s

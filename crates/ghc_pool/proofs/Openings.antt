@@ -1,17 +1,6 @@
 -- What is known of deques when passes are made.
-use Rattle.std.proofs.Common.{◌≡◌, None, inl, ℕ, zero, suc, ◌<◌, ◌≤◌, ◌++◌, List, [], ◌∷◌, length, set, drop, refl, sym, ap, ◌∙◌, arith, append-nil, length-append}
+use Rattle.ghc_pool.proofs.Words.{◌≡◌, None, inl, ℕ, zero, suc, ◌<◌, ◌≤◌, ◌++◌, List, [], ◌∷◌, length, set, drop, refl, sym, ap, ◌∙◌, arith, append-nil, length-append, vec_capacity, Vec, Global, RowsId, worker_deque, stealer_deque, Worker, Victim, weigh, IsVictim, AreVictims, deques, names, own_deques, Owner, IsFresh, AreFresh, AreFreshFrom, deques_of, IsHandful, AreHandfuls, IsStarting, AreNew}
 use lib.ListN.{get_or}
-use Rattle.std.specs.Vec.{vec_capacity}
-use Rattle.std.specs.Global.{Vec}
-use Rattle.std.specs.declared.alloc.Global.{Global}
-use Rattle.atomic_blocks.specs.Lent.{RowsId}
-use Rattle.crossbeam_deque.specs.Handles.{worker_deque, stealer_deque}
-use Rattle.ghc_pool.specs.declared.rounds.worker.Worker.{Worker}
-use Rattle.ghc_pool.specs.declared.rounds.victim.Victim.{Victim}
-use Rattle.ghc_pool.specs.Fair.{weigh}
-use Rattle.ghc_pool.specs.Workers.{IsVictim, AreVictims, deques, names}
-use Rattle.ghc_pool.specs.Gathered.{own_deques}
-use Rattle.ghc_pool.specs.Opened.{Owner, IsFresh, AreFresh, AreFreshFrom, deques_of, IsHandful, AreHandfuls, IsStarting, AreNew}
 
 abbrev first_or : RowsId × Global → List (RowsId × Global) → RowsId × Global
 first_or z [] = z

@@ -1,18 +1,6 @@
 -- What is known of workers when passes come back.
-use Rattle.std.proofs.Common.{◌≡◌, ℕ, zero, suc, ◌+◌, ◌<◌, ◌++◌, List, [], ◌∷◌, length, set, refl, sym, ap, ◌∙◌, subst, arith, append-nil}
+use Rattle.ghc_pool.proofs.Words.{◌≡◌, ℕ, zero, suc, ◌+◌, ◌<◌, ◌++◌, List, [], ◌∷◌, length, set, refl, sym, ap, ◌∙◌, subst, arith, append-nil, vec_capacity, vec_len, Vec, Global, RowsId, worker_deque, worker_view, stealer_deque, view, GoalName, Hand, Victim, Worker, weigh, Work, work_of, works, over, stolen_of, deques, IsVictim, AreVictims, stolen, IsAbsorbed, own_deques, all_victims, IsReady, AreReady, HaveParts, HavePartsFrom, HaveGivenBack, AreReleased}
 use lib.ListN.{get_or}
-use Rattle.std.specs.Vec.{vec_capacity, vec_len}
-use Rattle.std.specs.Global.{Vec}
-use Rattle.std.specs.declared.alloc.Global.{Global}
-use Rattle.atomic_blocks.specs.Lent.{RowsId}
-use Rattle.crossbeam_deque.specs.Handles.{worker_deque, worker_view, stealer_deque, view}
-use Rattle.ghc_term.specs.declared.goal_name.GoalName.{GoalName}
-use Rattle.ghc_pool.specs.declared.rounds.rule.Hand.{Hand}
-use Rattle.ghc_pool.specs.declared.rounds.victim.Victim.{Victim}
-use Rattle.ghc_pool.specs.declared.rounds.worker.Worker.{Worker}
-use Rattle.ghc_pool.specs.Fair.{weigh}
-use Rattle.ghc_pool.specs.Workers.{Work, work_of, works, over, stolen_of, deques, IsVictim, AreVictims, stolen}
-use Rattle.ghc_pool.specs.Gathered.{IsAbsorbed, own_deques, all_victims, IsReady, AreReady, HaveParts, HavePartsFrom, HaveGivenBack, AreReleased}
 
 pub over_set : (f : Worker → ℕ) (ws : List Worker) (i : ℕ) (d w : Worker) (a b : ℕ) → i < length ws → f w + a ≡ f (get_or ws i d) + b → over f (set ws i w) + a ≡ over f ws + b
 over_set f [] i d w a b low e = absurd (omega (arith, low))

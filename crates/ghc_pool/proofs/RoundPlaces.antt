@@ -1,26 +1,10 @@
 -- Each place of a round's passes is that of a step which stands in the history.
-use Rattle.std.proofs.Common.{◌≡◌, ◌≢◌, ◌⊎◌, ℕ, zero, suc, ◌+◌, ◌==◌, ◌<◌, ◌≤◌, List, [], ◌∷◌, ◌++◌, length, Bool, true, false, cond, refl, sym, ap, ◌∙◌, subst, inl, inr, arith, eq-eqb, ne_eqb, length-append}
-use Rattle.std.specs.Prelude.{All}
-use Rattle.std.proofs.lemmas.List.Elements.{All-head, All-tail}
+use Rattle.ghc_pool.proofs.Words.{◌≡◌, ◌≢◌, ◌⊎◌, ℕ, zero, suc, ◌+◌, ◌==◌, ◌<◌, ◌≤◌, List, [], ◌∷◌, ◌++◌, length, Bool, true, false, cond, refl, sym, ap, ◌∙◌, subst, inl, inr, arith, eq-eqb, ne_eqb, length-append, All, All-head, All-tail, GoalName, Item, Proposal, Reply, Known, newcomers, weight, numbers_from, weight_of_places, Spies, Answer, Submitted, Noted, Starved, Scope, Taken, submits_in, Work, submits, total_work, submits_by, AreTold, IsInScope, StandsIn, IsUnspiedStep, IsAnswerOf, AreAnswers, places_if, places_in, step_places, IsPassAfter}
 use mathlib.Core.Logic.{dite}
 use mathlib.Core.List.{IsPrefix}
 use native.Mathlib.Decide.{ℕ_discrete}
 use base.Stored.{Gv}
-use Rattle.ghc_term.specs.declared.goal_name.GoalName.{GoalName}
-use Rattle.ghc_records.specs.Journal.{Item}
-use Rattle.ghc_core.specs.World.{Proposal}
-use Rattle.ghc_core.specs.declared.reply.Reply.{Reply}
 use Rattle.ghc_shared.specs.declared.receipt.Receipt as given
-use Rattle.ghc_shared.specs.Passes.{Known, newcomers}
-use Rattle.ghc_shared.specs.Places.{weight, numbers_from, weight_of_places}
-use Rattle.ghc_trace.specs.Spies.{Spies}
-use Rattle.ghc_pool.specs.declared.answer.Answer.{Answer}
-use Rattle.ghc_pool.specs.declared.answer.Answer.TheVariants.{Submitted, Noted, Starved}
-use Rattle.ghc_pool.specs.declared.scope.Scope.{Scope}
-use Rattle.ghc_pool.specs.Answers.{Taken, submits_in}
-use Rattle.ghc_pool.specs.Workers.{Work, submits, total_work, submits_by}
-use Rattle.ghc_pool.specs.Gathered.{AreTold}
-use Rattle.ghc_pool.specs.Told.{IsInScope, StandsIn, IsUnspiedStep, IsAnswerOf, AreAnswers, places_if, places_in, step_places, IsPassAfter}
 use Rattle.ghc_pool.proofs.Telling.{stands_later, prefix_chain}
 
 -- 1 for this number, and 0 for any other

@@ -1,39 +1,8 @@
 -- What a round over a shared core takes, a run of several workers may take.
-use Rattle.std.proofs.Common.{◌≡◌, ℕ, zero, suc, ◌+◌, ◌-◌, ◌<◌, ◌≤◌, List, [], ◌∷◌, ◌++◌, length, true, Option, Some, None, refl, sym, ap, ◌∙◌, subst, inl, inr, arith, append-nil, length-append}
-use Rattle.std.specs.Prelude.{All}
+use Rattle.ghc_pool.proofs.Words.{◌≡◌, ℕ, zero, suc, ◌+◌, ◌-◌, ◌<◌, ◌≤◌, List, [], ◌∷◌, ◌++◌, length, true, Option, Some, None, refl, sym, ap, ◌∙◌, subst, inl, inr, arith, append-nil, length-append, All, nat_cmp_total, GoalName, Goal, Record, Entry, Item, entered, history, opening_code, same_value, Change, Proposal, Hands, World, with_step, IsStanding, Changes, reply_of, AsksFor, Answers, Leaves, and_entry, IsCommitOf, not_longer, reached_legal, legal_reachable, leaves_once, reachable_reached, Known, newcomers, AreEachOnce, places_since, holding, code_of, weight-one, Spies, Scope, Any, Of, IsInQuestion, IsRunStep, Takes, at_start, and_step, AddsAtTheEnd, TookInQuestion, Work, total_work, submits_by, AreTold, IsInScope, Covers, IsPassAfter}
 use Rattle.std.specs.FinMap as finite
-use Rattle.std.specs.Cmp.{nat_cmp_total}
 use mathlib.Core.List.{IsPrefix}
-use Rattle.ghc_term.specs.declared.goal_name.GoalName.{GoalName}
-use Rattle.ghc_term.specs.Goal.{Goal}
-use Rattle.ghc_records.specs.Record.{Record}
-use Rattle.ghc_records.specs.Journal.{Entry, Item, entered, history}
-use Rattle.ghc_records.specs.RecordCode.{opening_code}
-use Rattle.ghc_depend.proofs.Finding.{same_value}
-use Rattle.ghc_core.specs.declared.change.Change.{Change}
-use Rattle.ghc_core.specs.World.{Proposal, Hands, World, with_step}
-use Rattle.ghc_core.specs.Core.{IsStanding}
-use Rattle.ghc_core.specs.Change.{Changes}
 use Rattle.ghc_core.specs.Events as events
-use Rattle.ghc_core.specs.EventCode.{reply_of}
-use Rattle.ghc_core.specs.Answers.{AsksFor, Answers}
-use Rattle.ghc_core.specs.Legal.{Leaves, and_entry}
-use Rattle.ghc_core.specs.Proposes.{IsCommitOf}
-use Rattle.ghc_core.proofs.Histories.{not_longer, reached_legal, legal_reachable, leaves_once}
-use Rattle.ghc_core.proofs.Moving.{reachable_reached}
-use Rattle.ghc_shared.specs.Passes.{Known, newcomers}
-use Rattle.ghc_shared.specs.Places.{AreEachOnce, places_since}
-use Rattle.ghc_shared.specs.Calls.{holding, code_of}
-use Rattle.ghc_shared.proofs.PlacesOnce.{weight-one}
-use Rattle.ghc_trace.specs.Spies.{Spies}
-use Rattle.ghc_pool.specs.declared.scope.Scope.{Scope}
-use Rattle.ghc_pool.specs.declared.scope.Scope.TheVariants.{Any, Of}
-use Rattle.ghc_pool.specs.Runs.{IsInQuestion, IsRunStep, Takes, at_start, and_step}
-use Rattle.ghc_pool.specs.Laws.{AddsAtTheEnd}
-use Rattle.ghc_pool.specs.Meeting.{TookInQuestion}
-use Rattle.ghc_pool.specs.Workers.{Work, total_work, submits_by}
-use Rattle.ghc_pool.specs.Gathered.{AreTold}
-use Rattle.ghc_pool.specs.Told.{IsInScope, Covers, IsPassAfter}
 use Rattle.ghc_pool.proofs.AtTheEnd.{adds_at_the_end, still_in_question}
 use Rattle.ghc_pool.proofs.Asked.{none_since, one_since, made_since}
 use Rattle.ghc_pool.proofs.SameCalls.{held_unspied}

@@ -1,24 +1,6 @@
 -- A step that was proposed of a goal that is not spied takes no spied goal, wherever it holds.
-use Rattle.std.proofs.Common.{◌≡◌, ◌∙◌, ℕ, List, length, sym, ap, subst, subst₂, Option, Some, None}
+use Rattle.ghc_pool.proofs.Words.{◌≡◌, ◌∙◌, ℕ, List, length, sym, ap, subst, subst₂, Option, Some, None, VarName, GoalName, Tree, Goal, call, unify, assign, stream, value_at, Clause, Program, IsClause, IsFor, Act, ByClause as by_clause, proposes, Effect, HasEffect, no_step, clause_once, Opening, same_value, Proposal, World, AttemptAnswers, StillHolds, proposed_holds, Spies, HasPredicate, IsSpied, IsSpiedIn}
 use Rattle.std.specs.FinMap as finite
-use Rattle.ghc_term.specs.declared.var_name.VarName.{VarName}
-use Rattle.ghc_term.specs.declared.goal_name.GoalName.{GoalName}
-use Rattle.ghc_term.specs.Tree.{Tree}
-use Rattle.ghc_term.specs.Goal.{Goal, call, unify, assign, stream}
-use Rattle.ghc_term.specs.Store.{value_at}
-use Rattle.ghc_flat.specs.Clause.{Clause, Program, IsClause, IsFor}
-use Rattle.ghc_fire.specs.declared.act.Act.{Act}
-use Rattle.ghc_fire.specs.declared.act.Act.TheVariants.{ByClause as by_clause}
-use Rattle.ghc_fire.specs.Attempt.{proposes}
-use Rattle.ghc_fire.specs.Effect.{Effect, HasEffect, no_step}
-use Rattle.ghc_fire.proofs.Steps.{clause_once}
-use Rattle.ghc_records.specs.Journal.{Opening}
-use Rattle.ghc_depend.proofs.Finding.{same_value}
-use Rattle.ghc_core.specs.World.{Proposal, World}
-use Rattle.ghc_core.specs.Proposes.{AttemptAnswers, StillHolds}
-use Rattle.ghc_core.proofs.Committing.{proposed_holds}
-use Rattle.ghc_trace.specs.Spies.{Spies, HasPredicate, IsSpied}
-use Rattle.ghc_pool.specs.Runs.{IsSpiedIn}
 
 -- one clause is for calls of one predicate
 one_predicate : (P : Program) (spies : Spies) (f h : List ℕ) (ts us : List Tree) (k : ℕ) (c d : Clause) → IsClause P k c → IsFor f ts c → IsClause P k d → IsFor h us d → HasPredicate spies h (length us) → HasPredicate spies f (length ts)

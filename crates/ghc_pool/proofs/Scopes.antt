@@ -1,14 +1,5 @@
 -- Which goals are in a scope.
-use Rattle.std.proofs.Common.{◌≡◌, ℕ, ◌<◌, ◌≤◌, Bool, true, refl, sym, ◌∙◌, inl, inr, arith}
-use Rattle.std.specs.Prelude.{◌↔◌, IsTrue}
-use Rattle.std.specs.BTreeSet.{BTreeSet, contains}
-use Rattle.std.proofs.lemmas.Map.Views.{btree_set_contains_iff}
-use Rattle.ghc_term.specs.declared.goal_name.GoalName.{GoalName}
-use Rattle.ghc_term.proofs.ListsLemmas.{in_contains, contains_in}
-use Rattle.ghc_fire.specs.Goals.{goal_cmp}
-use Rattle.ghc_fire.proofs.GoalNames.{goal_total, goal_antisymmetric}
-use Rattle.ghc_pool.specs.declared.scope.Scope.TheVariants.{Of}
-use Rattle.ghc_pool.specs.Told.{IsInScope}
+use Rattle.ghc_pool.proofs.Words.{◌≡◌, ℕ, ◌<◌, ◌≤◌, Bool, true, refl, sym, ◌∙◌, inl, inr, arith, ◌↔◌, IsTrue, BTreeSet, contains, btree_set_contains_iff, GoalName, in_contains, contains_in, goal_cmp, goal_total, goal_antisymmetric, Of, IsInScope}
 
 module _ (names : BTreeSet GoalName) (since : ℕ) (goal : GoalName) where
   -- a goal that a later step made

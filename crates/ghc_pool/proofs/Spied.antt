@@ -1,14 +1,8 @@
 -- Whether a goal is spied.
-use Rattle.std.proofs.Common.{◌≡◌, ◌∙◌, Bool, true, false, length, sym, subst, Some, None}
-use Rattle.std.specs.Prelude.{◌↔◌, IsTrue}
+use Rattle.ghc_pool.proofs.Words.{◌≡◌, ◌∙◌, Bool, true, false, length, sym, subst, Some, None, ◌↔◌, IsTrue, GoalName, Goal, call, unify, assign, stream, same_value, World, Spies, IsSpied, predicate, predicate_cmp, IsSpiedIn}
 use Rattle.std.specs.FinMap as finite
 use Rattle.std.specs.FinSet as set
-use Rattle.ghc_term.specs.declared.goal_name.GoalName.{GoalName}
-use Rattle.ghc_term.specs.Goal.{Goal, call, unify, assign, stream}
-use Rattle.ghc_depend.proofs.Finding.{same_value, not_both as some_or_none}
-use Rattle.ghc_core.specs.World.{World}
-use Rattle.ghc_trace.specs.Spies.{Spies, IsSpied, predicate, predicate_cmp}
-use Rattle.ghc_pool.specs.Runs.{IsSpiedIn}
+use Rattle.ghc_depend.proofs.Finding.{not_both as some_or_none}
 
 -- no goal is a call of a predicate of no set
 unspied : (b : Goal) → ¬ IsSpied set.empty b

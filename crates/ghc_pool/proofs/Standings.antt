@@ -1,30 +1,8 @@
 -- What a goal is to a run, by its note, where no goal is untried.
-use Rattle.std.proofs.Common.{◌≡◌, Bool, true, false, refl, sym, ap, ◌∙◌, subst, inl, inr, Some, None}
-use Rattle.std.specs.Prelude.{List, Option, ◌≢◌, ◌↔◌, ◌⊎◌}
+use Rattle.ghc_pool.proofs.Words.{◌≡◌, Bool, true, false, refl, sym, ap, ◌∙◌, subst, inl, inr, Some, None, List, Option, ◌≢◌, ◌↔◌, ◌⊎◌, GoalName, Fault, Goal, IsAcyclic, Variables, value_at, In, not_both, is_stream, goal_cmp, GoalNames, Status, ready, waiting, failed, streaming, HasStatus, is_stream_goal, Note, NotesByGoal, IsUntried, IsUnblocked, status_once, same_value, World, AreExactIn, Stands, IsInQuestion, HasFailed, StandsTo, Idle as idle, Ready as by_ready, Failed as by_failed}
 use Rattle.std.specs.FinMap as finite
 use Rattle.std.specs.FinSet as set
-use Rattle.ghc_term.specs.declared.goal_name.GoalName.{GoalName}
-use Rattle.ghc_term.specs.declared.fault.Fault.{Fault}
-use Rattle.ghc_term.specs.Goal.{Goal}
-use Rattle.ghc_term.specs.Bindings.{IsAcyclic}
-use Rattle.ghc_term.specs.Sets.{Variables}
-use Rattle.ghc_term.specs.Store.{value_at}
-use Rattle.ghc_term.specs.Lists.{In}
-use Rattle.ghc_term.proofs.ListsLemmas.{not_both}
-use Rattle.ghc_flat.specs.Flat.{is_stream}
-use Rattle.ghc_fire.specs.Goals.{goal_cmp}
-use Rattle.ghc_hooks.specs.Face.{GoalNames}
-use Rattle.ghc_hooks.specs.Status.{Status, ready, waiting, failed, streaming, HasStatus, is_stream_goal}
-use Rattle.ghc_hooks.specs.Notes.{Note, NotesByGoal, IsUntried}
-use Rattle.ghc_hooks.specs.Tries.{IsUnblocked}
-use Rattle.ghc_hooks.proofs.Statuses.{status_once}
-use Rattle.ghc_depend.proofs.Finding.{same_value}
-use Rattle.ghc_core.specs.World.{World}
-use Rattle.ghc_core.specs.Core.{AreExactIn}
-use Rattle.ghc_trace.specs.News.{Stands}
-use Rattle.ghc_pool.specs.Runs.{IsInQuestion, IsReady, HasFailed}
-use Rattle.ghc_pool.specs.Survey.{StandsTo}
-use Rattle.ghc_pool.specs.declared.survey.Standing.TheVariants.{Idle as idle, Ready as by_ready, Failed as by_failed}
+use Rattle.ghc_pool.specs.Runs.{IsReady}
 
 no_note : {o : Option Note} {note : Note} → o ≡ None → ¬ (o ≡ Some note)
 no_note e f = cc

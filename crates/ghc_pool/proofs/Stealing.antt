@@ -1,15 +1,7 @@
 -- What a worker's steps leave.
-use Rattle.std.proofs.Common.{◌≡◌, ℕ, zero, suc, ◌+◌, ◌<◌, ◌++◌, List, [], ◌∷◌, length, set, refl, sym, ap, ◌∙◌, arith, append_assoc, append-nil}
+use Rattle.ghc_pool.proofs.Words.{◌≡◌, ℕ, zero, suc, ◌+◌, ◌<◌, ◌++◌, List, [], ◌∷◌, length, set, refl, sym, ap, ◌∙◌, arith, append_assoc, append-nil, vec_len, with_item, stealer_deque, view, GoalName, Victim, Worker, Taken, submits_in, weigh, IsVictim, AreVictims, deques, stolen, names, submits, IsAble, Keeps, DidNothing}
 use mathlib.Core.List.{IsPrefix}
 use lib.ListN.{get_or}
-use Rattle.std.specs.Vec.{vec_len, with_item}
-use Rattle.crossbeam_deque.specs.Handles.{stealer_deque, view}
-use Rattle.ghc_term.specs.declared.goal_name.GoalName.{GoalName}
-use Rattle.ghc_pool.specs.declared.rounds.victim.Victim.{Victim}
-use Rattle.ghc_pool.specs.declared.rounds.worker.Worker.{Worker}
-use Rattle.ghc_pool.specs.Answers.{Taken, submits_in}
-use Rattle.ghc_pool.specs.Fair.{weigh}
-use Rattle.ghc_pool.specs.Workers.{IsVictim, AreVictims, deques, stolen, names, submits, IsAble, Keeps, DidNothing}
 use Rattle.ghc_pool.proofs.Moves.{weigh-append}
 
 pub victim_at : (vs : List Victim) (i : ℕ) (d : Victim) → i < length vs → AreVictims vs → IsVictim (get_or vs i d)

@@ -1,17 +1,6 @@
 -- What the goals in question give a run.
-use Rattle.std.proofs.Common.{◌≡◌, ℕ, List, [], ◌∷◌, ◌++◌, length, refl, sym, ap, ◌∙◌, subst, inl, inr, true, false, arith}
-use Rattle.std.specs.Prelude.{◌⊎◌, Option}
-use Rattle.std.proofs.Math.Dec.{eqb}
-use Rattle.std.proofs.lemmas.Bool.{eqb-true, eqb-false}
-use Rattle.ghc_term.specs.declared.goal_name.GoalName.{GoalName}
-use Rattle.ghc_term.specs.Lists.{In}
-use Rattle.ghc_term.proofs.ListsLemmas.{in_left, in_right, in_either}
-use Rattle.ghc_hooks.specs.Notes.{NotesByGoal, IsUntried}
-use Rattle.ghc_core.specs.World.{World, IsFull}
-use Rattle.ghc_trace.specs.Spies.{Spies}
-use Rattle.ghc_pool.specs.declared.stop.Stop.{Stop}
-use Rattle.ghc_pool.specs.Runs.{IsSpiedIn, HasFailed, IsReady, AsksForNoStop, CanGoOn, Holds, has_failed, is_spied, starved, is_quiet}
-use Rattle.ghc_pool.specs.Survey.{AreListed, IsStopped}
+use Rattle.ghc_pool.proofs.Words.{◌≡◌, ℕ, List, [], ◌∷◌, ◌++◌, length, refl, sym, ap, ◌∙◌, subst, inl, inr, true, false, arith, ◌⊎◌, Option, eqb, eqb-true, eqb-false, GoalName, In, in_left, in_right, in_either, NotesByGoal, IsUntried, World, IsFull, Spies, Stop, IsSpiedIn, HasFailed, AsksForNoStop, CanGoOn, Holds, has_failed, is_spied, starved, is_quiet, AreListed, IsStopped}
+use Rattle.ghc_pool.specs.Runs.{IsReady}
 
 module _ (root : Option GoalName) (w : World) where
   -- no goals

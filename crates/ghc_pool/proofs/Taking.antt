@@ -1,13 +1,5 @@
 -- Steps of runs, one after another.
-use Rattle.std.proofs.Common.{ℕ, inl, inr, List, [], ◌∷◌, ◌++◌, refl, sym, subst, arith, append_assoc, append-nil, None}
-use Rattle.std.specs.Prelude.{Option}
-use Rattle.ghc_term.specs.declared.goal_name.GoalName.{GoalName}
-use Rattle.ghc_records.specs.Record.{Record}
-use Rattle.ghc_core.specs.World.{World, IsFull, HasRoom, with_step}
-use Rattle.ghc_core.specs.Core.{IsStanding}
-use Rattle.ghc_core.specs.Proposes.{IsStepOf}
-use Rattle.ghc_trace.specs.Spies.{Spies}
-use Rattle.ghc_pool.specs.Runs.{IsInQuestion, IsSpiedIn, IsRunStep, Takes, at_start, and_step}
+use Rattle.ghc_pool.proofs.Words.{ℕ, inl, inr, List, [], ◌∷◌, ◌++◌, refl, sym, subst, arith, append_assoc, append-nil, None, Option, GoalName, Record, World, IsFull, HasRoom, with_step, IsStanding, IsStepOf, Spies, IsInQuestion, IsSpiedIn, IsRunStep, Takes, at_start, and_step}
 
 -- steps behind steps
 pub takes_more : (workers : ℕ) (spies : Spies) (root : Option GoalName) (w v u : World) (first more : List Record) → Takes workers spies root w first v → Takes workers spies root v more u → Takes workers spies root w (first ++ more) u

@@ -1,40 +1,11 @@
 -- What is told of a pass, when the pass goes on.
-use Rattle.std.proofs.Common.{◌≡◌, ◌≤◌, ◌<◌, ◌++◌, ◌∙◌, ℕ, suc, List, [], ◌∷◌, length, drop, Bool, true, false, Option, Some, None, Ok, refl, sym, ap, subst, inl, inr, arith, append-nil, append_assoc, length-append}
-use Rattle.std.specs.Prelude.{MatchBool}
+use Rattle.ghc_pool.proofs.Words.{◌≡◌, ◌≤◌, ◌<◌, ◌++◌, ◌∙◌, ℕ, suc, List, [], ◌∷◌, length, drop, Bool, true, false, Option, Some, None, Ok, refl, sym, ap, subst, inl, inr, arith, append-nil, append_assoc, length-append, MatchBool, in_more, in_last, GoalName, Goal, Fault, Entry, Item, entered, Status, Proposal, Hands, World, no_hands, Answers, Begins, Receipt, IsReceipt, IsAnswered, Reply, Call, Submit, Known, AreAll, IsAcceptedCall, IsRefusedCall, IsDecided, holding, receipt_of, IsProposal, IsAnswerTo, Spies, IsSpied, Answer, Submitted, Noted, Starved, RoundStop, Memory, Limit, Full, Spied, Clash, Decided, Scope, Worker, Taken, one_if, IsReason, Work, work_of, works, AreTold, IsSpiedIn, IsSubmitStop, IsSettlingStop, IsNoteStop, GoesOnWithout, IsDecidedAs, IsInScope, StandsIn, IsSpiedGoal, IsStarvedGoal, IsUnspiedStep, IsNotedFor, IsAnswerOf, AreAnswers, places_if, places_in, step_places, IsPassAfter, IsStarved, AreFedAnswers, IsAskedBy, Asks}
 use base.Stored.{Gv}
 use mathlib.Core.List.{IsPrefix}
 use lib.ListN.{get_or}
-use Rattle.ghc_term.proofs.ListsLemmas.{in_more, in_last}
-use Rattle.ghc_term.specs.declared.goal_name.GoalName.{GoalName}
-use Rattle.ghc_term.specs.Goal.{Goal}
-use Rattle.ghc_term.specs.declared.fault.Fault.{Fault}
-use Rattle.ghc_records.specs.Journal.{Entry, Item, entered}
-use Rattle.ghc_hooks.specs.Status.{Status}
-use Rattle.ghc_core.specs.World.{Proposal, Hands, World, no_hands}
 use Rattle.ghc_core.specs.Events as events
-use Rattle.ghc_core.specs.Answers.{Answers}
-use Rattle.ghc_core.specs.Legal.{Begins, Receipt, IsReceipt, IsAnswered}
-use Rattle.ghc_core.specs.declared.reply.Reply.{Reply}
 use Rattle.ghc_shared.specs.declared.receipt.Receipt as given
-use Rattle.ghc_shared.specs.declared.calls.Call.{Call}
-use Rattle.ghc_shared.specs.declared.calls.Call.TheVariants.{Submit, Note}
-use Rattle.ghc_shared.specs.Passes.{Known, AreAll}
-use Rattle.ghc_shared.specs.Receipts.{IsAcceptedCall, IsRefusedCall, IsDecided}
-use Rattle.ghc_shared.specs.Calls.{holding, receipt_of, IsProposal, IsAnswerTo}
-use Rattle.ghc_trace.specs.Spies.{Spies, IsSpied}
-use Rattle.ghc_pool.specs.declared.answer.Answer.{Answer}
-use Rattle.ghc_pool.specs.declared.answer.Answer.TheVariants.{Submitted, Noted, Starved}
-use Rattle.ghc_pool.specs.declared.answer.RoundStop.{RoundStop}
-use Rattle.ghc_pool.specs.declared.answer.RoundStop.TheVariants.{Memory, Limit, Full, Spied, Clash}
-use Rattle.ghc_pool.specs.declared.craft.Decided.{Decided}
-use Rattle.ghc_pool.specs.declared.scope.Scope.{Scope}
-use Rattle.ghc_pool.specs.declared.rounds.worker.Worker.{Worker}
-use Rattle.ghc_pool.specs.Answers.{Taken, one_if, IsReason}
-use Rattle.ghc_pool.specs.Workers.{Work, work_of, works}
-use Rattle.ghc_pool.specs.Gathered.{AreTold}
-use Rattle.ghc_pool.specs.Runs.{IsSpiedIn}
-use Rattle.ghc_pool.specs.Plans.{IsSubmitStop, IsSettlingStop, IsNoteStop, GoesOnWithout, IsDecidedAs}
-use Rattle.ghc_pool.specs.Told.{IsInScope, StandsIn, IsSpiedGoal, IsStarvedGoal, IsUnspiedStep, IsNotedFor, IsAnswerOf, AreAnswers, places_if, places_in, step_places, IsPassAfter, IsStarved, AreFedAnswers, IsAskedBy, Asks}
+use Rattle.ghc_shared.specs.declared.calls.Call.TheVariants.{Note}
 
 -- an answer is a receipt in what is known now
 pub receipt_of_answer : (Starved : Type 0) (old new : List Item) (hands : Hands) (e : events.Event) (r : Receipt) → IsAnswered Starved old new hands e r → IsReceipt Starved new hands e r

@@ -1,20 +1,6 @@
 -- What a round adds to the record, and that the world is as it was where its passes made no call.
-use Rattle.std.proofs.Common.{◌≡◌, ℕ, ◌+◌, ◌-◌, ◌<◌, ◌≤◌, List, [], ◌∷◌, ◌++◌, length, sym, ap, ◌∙◌, subst, arith, append-nil, length-append}
-use Rattle.std.specs.Prelude.{All, Option}
-use Rattle.std.proofs.lemmas.List.Elements.{All-head}
+use Rattle.ghc_pool.proofs.Words.{◌≡◌, ℕ, ◌+◌, ◌-◌, ◌<◌, ◌≤◌, List, [], ◌∷◌, ◌++◌, length, sym, ap, ◌∙◌, subst, arith, append-nil, length-append, All, Option, All-head, GoalName, Record, Item, history, World, IsStanding, Leaves, reached_legal, leaves_once, Known, newcomers, weight, weight_of_places, places_since, AreEachOnce, weight-one, Spies, Takes}
 use mathlib.Core.List.{IsPrefix}
-use Rattle.ghc_term.specs.declared.goal_name.GoalName.{GoalName}
-use Rattle.ghc_records.specs.Record.{Record}
-use Rattle.ghc_records.specs.Journal.{Item, history}
-use Rattle.ghc_core.specs.World.{World}
-use Rattle.ghc_core.specs.Core.{IsStanding}
-use Rattle.ghc_core.specs.Legal.{Leaves}
-use Rattle.ghc_core.proofs.Histories.{reached_legal, leaves_once}
-use Rattle.ghc_shared.specs.Passes.{Known, newcomers}
-use Rattle.ghc_shared.specs.Places.{weight, weight_of_places, places_since, AreEachOnce}
-use Rattle.ghc_shared.proofs.PlacesOnce.{weight-one}
-use Rattle.ghc_trace.specs.Spies.{Spies}
-use Rattle.ghc_pool.specs.Runs.{Takes}
 use Rattle.ghc_pool.proofs.AtTheEnd.{adds_at_the_end}
 use Rattle.ghc_pool.proofs.RoundPlaces.{AreNewcomers, are_newcomers, newcomers_length, numbers_length}
 

@@ -1,12 +1,6 @@
 -- What stays well when a worker goes on.
-use Rattle.std.proofs.Common.{◌≡◌, ◌⊎◌, ◌≤◌, ◌<◌, ◌++◌, ℕ, List, [], ◌∷◌, length, Bool, true, false, Option, Some, None, inl, inr, sym, ap, ◌∙◌, subst, arith}
+use Rattle.ghc_pool.proofs.Words.{◌≡◌, ◌⊎◌, ◌≤◌, ◌<◌, ◌++◌, ℕ, List, [], ◌∷◌, length, Bool, true, false, Option, Some, None, inl, inr, sym, ap, ◌∙◌, subst, arith, vec_capacity, vec_len, RoundStop, Worker, Taken, one_if, IsReason, Work, work_of, DidNothing, KeepsRoom, IsOfferedOrStopped, IsWell}
 use Rattle.std.specs.Prelude.{refl}
-use Rattle.std.specs.Vec.{vec_capacity, vec_len}
-use Rattle.ghc_pool.specs.declared.answer.RoundStop.{RoundStop}
-use Rattle.ghc_pool.specs.declared.rounds.worker.Worker.{Worker}
-use Rattle.ghc_pool.specs.Answers.{Taken, one_if, IsReason}
-use Rattle.ghc_pool.specs.Workers.{Work, work_of, DidNothing, KeepsRoom, IsOfferedOrStopped}
-use Rattle.ghc_pool.specs.Stops.{IsWell}
 
 pub enough : (b : Bool) (permits n : ℕ) → n ≤ one_if b → (b ≡ true → 0 < permits) → n ≤ permits
 enough true permits n few some = omega (arith, few, some refl)

@@ -1,6 +1,4 @@
-use Rattle.std.proofs.Common.{subst, sym}
-use Rattle.ghc_core.specs.World.{World}
-use Rattle.ghc_pool.specs.Meeting.{TookInQuestion}
+use Rattle.ghc_pool.proofs.Words.{subst, sym, World, TookInQuestion}
 use Rattle.ghc_pool.proofs.drain.among_listed.Goals as goal
 
 pub meet-requires-clause-took : goal.meet-requires-clause-took

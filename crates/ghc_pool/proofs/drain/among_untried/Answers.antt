@@ -1,8 +1,5 @@
-use Rattle.std.proofs.Common.{subst, sym, ap, ◌∙◌, arith}
+use Rattle.ghc_pool.proofs.Words.{subst, sym, ap, ◌∙◌, arith, World, one_less, TookInQuestion}
 use Rattle.std.specs.FinSet as set
-use Rattle.ghc_core.specs.World.{World}
-use Rattle.ghc_core.proofs.Settling.{one_less}
-use Rattle.ghc_pool.specs.Meeting.{TookInQuestion}
 use Rattle.ghc_pool.proofs.drain.among_untried.Goals as goal
 
 pub meet-requires-clause-took : goal.meet-requires-clause-took

@@ -1,7 +1,4 @@
-use Rattle.std.proofs.Common.{[], ◌∷◌, ◌++◌, refl, sym, subst, arith, length-append}
-use Rattle.ghc_core.specs.World.{World}
-use Rattle.ghc_pool.specs.Runs.{Takes, at_start, and_step}
-use Rattle.ghc_pool.specs.Meeting.{TookInQuestion}
+use Rattle.ghc_pool.proofs.Words.{[], ◌∷◌, ◌++◌, refl, sym, subst, arith, length-append, World, Takes, at_start, and_step, TookInQuestion}
 use Rattle.ghc_pool.proofs.Asked.{none_since, one_since}
 use Rattle.ghc_pool.proofs.drain.drain.Goals as goal
 

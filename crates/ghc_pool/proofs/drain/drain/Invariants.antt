@@ -1,7 +1,4 @@
-use Rattle.std.proofs.Common.{◌≡◌, List, length}
-use Rattle.ghc_records.specs.Record.{Record}
-use Rattle.ghc_pool.specs.Runs.{Takes}
-use Rattle.ghc_pool.specs.Meeting.{TookInQuestion}
+use Rattle.ghc_pool.proofs.Words.{◌≡◌, List, length, Record, Takes, TookInQuestion}
 use Rattle.ghc_pool.proofs.drain.drain.Given as goal
 
 abbrev pub invariant-loop-taken : goal.invariant-loop-taken

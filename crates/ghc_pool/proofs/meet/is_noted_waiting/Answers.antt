@@ -1,7 +1,5 @@
-use Rattle.std.proofs.Common.{sym, ap, ◌∙◌}
+use Rattle.ghc_pool.proofs.Words.{sym, ap, ◌∙◌, status_of, NotesByGoal}
 use Rattle.std.specs.FinMap as finite
-use Rattle.ghc_hooks.specs.Verdict.{status_of}
-use Rattle.ghc_hooks.specs.Notes.{NotesByGoal}
 use Rattle.ghc_pool.proofs.Noting.{noted_waiting}
 use Rattle.ghc_pool.proofs.meet.is_noted_waiting.Goals as goal
 

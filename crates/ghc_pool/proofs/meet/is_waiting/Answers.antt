@@ -1,5 +1,4 @@
-use Rattle.std.proofs.Common.{refl, ap}
-use Rattle.ghc_hooks.specs.Verdict.{status_of}
+use Rattle.ghc_pool.proofs.Words.{refl, ap, status_of}
 use Rattle.ghc_pool.proofs.meet.is_waiting.Goals as goal
 
 pub returns-in-Waiting : goal.returns-in-Waiting

@@ -1,8 +1,4 @@
-use Rattle.std.proofs.Common.{sym, subst}
-use Rattle.ghc_term.proofs.ListsLemmas.{not_both}
-use Rattle.ghc_core.specs.World.{World}
-use Rattle.ghc_pool.specs.Runs.{IsSpiedIn, IsRunStep}
-use Rattle.ghc_pool.specs.Meeting.{IsMet}
+use Rattle.ghc_pool.proofs.Words.{sym, subst, not_both, World, IsSpiedIn, IsRunStep, IsMet}
 use Rattle.ghc_pool.proofs.Taking.{step_of_one}
 use Rattle.ghc_pool.proofs.meet.meet.Goals as goal
 

@@ -1,7 +1,4 @@
-use Rattle.std.proofs.Common.{true, sym, subst, refl}
-use Rattle.std.specs.Prelude.{◌↔◌, IsTrue, Option}
-use Rattle.ghc_term.specs.declared.goal_name.GoalName.{GoalName}
-use Rattle.ghc_pool.specs.Runs.{IsInQuestion}
+use Rattle.ghc_pool.proofs.Words.{true, sym, subst, refl, ◌↔◌, IsTrue, Option, GoalName, IsInQuestion}
 use Rattle.ghc_pool.proofs.question.is_in_question.Goals as goal
 
 pub returns-in-Some : goal.returns-in-Some

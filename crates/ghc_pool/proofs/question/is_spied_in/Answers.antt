@@ -1,6 +1,5 @@
-use Rattle.std.proofs.Common.{◌≡◌, true, false, sym, ap, ◌∙◌}
+use Rattle.ghc_pool.proofs.Words.{◌≡◌, true, false, sym, ap, ◌∙◌, Goals}
 use Rattle.std.specs.FinMap as finite
-use Rattle.ghc_fire.specs.Goals.{Goals}
 use Rattle.ghc_pool.proofs.Spied.{spied_there, none_spied, nothing_spied}
 use Rattle.ghc_pool.proofs.question.is_spied_in.Goals as goal
 

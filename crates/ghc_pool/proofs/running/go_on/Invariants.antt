@@ -1,6 +1,4 @@
-use Rattle.std.proofs.Common.{◌≡◌, ◌≤◌, ◌-◌, List, length}
-use Rattle.ghc_records.specs.Record.{Record}
-use Rattle.ghc_pool.specs.Runs.{Takes, CanGoOn}
+use Rattle.ghc_pool.proofs.Words.{◌≡◌, ◌≤◌, ◌-◌, List, length, Record, Takes, CanGoOn}
 use Rattle.ghc_pool.proofs.running.go_on.Given as goal
 
 abbrev pub invariant-loop-added : goal.invariant-loop-added

@@ -1,6 +1,4 @@
-use Rattle.std.proofs.Common.{[], refl, subst, sym, arith}
-use Rattle.ghc_core.specs.World.{World}
-use Rattle.ghc_pool.specs.Runs.{Runs, Takes, CanGoOn, at_start}
+use Rattle.ghc_pool.proofs.Words.{[], refl, subst, sym, arith, World, Runs, Takes, CanGoOn, at_start}
 use Rattle.ghc_pool.proofs.running.run.Goals as goal
 
 pub go_on-requires : goal.go_on-requires

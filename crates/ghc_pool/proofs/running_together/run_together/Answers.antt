@@ -1,7 +1,4 @@
-use Rattle.std.proofs.Common.{◌≡◌, sym, subst}
-use Rattle.ghc_pool.specs.declared.mode.Mode.{Mode}
-use Rattle.ghc_pool.specs.Modes.{root_of}
-use Rattle.ghc_pool.specs.Runs.{RunsIn, CanGoOn}
+use Rattle.ghc_pool.proofs.Words.{◌≡◌, sym, subst, Mode, root_of, RunsIn, CanGoOn}
 use Rattle.ghc_pool.proofs.running_together.run_together.Goals as goal
 
 pub returns-in-Leap-clause-ran : goal.returns-in-Leap-clause-ran

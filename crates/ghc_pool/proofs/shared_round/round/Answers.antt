@@ -1,10 +1,7 @@
-use Rattle.std.proofs.Common.{arith}
+use Rattle.ghc_pool.proofs.Words.{arith, crosses, core_pass_send, works}
 use mir.Syntax.{named}
 use denote.Param.{param}
 use denote.Param.Send.{sendable}
-use Rattle.std.proofs.Crossing.{crosses}
-use Rattle.ghc_shared.proofs.CoreCrosses.{core_pass_send}
-use Rattle.ghc_pool.specs.Workers.{works}
 use Rattle.ghc_pool.proofs.Crosses.{deciding_sync}
 use Rattle.ghc_pool.proofs.Telling.{told_count, works_count}
 use Rattle.ghc_pool.proofs.shared_round.round.Goals as goal

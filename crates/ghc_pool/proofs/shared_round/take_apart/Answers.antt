@@ -1,6 +1,4 @@
-use Rattle.std.proofs.Common.{◌<◌, ◌++◌, ◌∷◌, length, drop, sym, ap, ◌∙◌, arith}
-use Rattle.ghc_pool.specs.declared.rounds.worker.Worker.{Worker}
-use Rattle.ghc_pool.specs.Workers.{work_of, works}
+use Rattle.ghc_pool.proofs.Words.{◌<◌, ◌++◌, ◌∷◌, length, drop, sym, ap, ◌∙◌, arith, Worker, work_of, works}
 use Rattle.ghc_pool.proofs.Telling.{first_work, work_between}
 use Rattle.ghc_pool.proofs.shared_round.take_apart.Goals as goal
 

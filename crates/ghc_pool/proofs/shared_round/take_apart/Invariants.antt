@@ -1,6 +1,4 @@
-use Rattle.std.proofs.Common.{◌≡◌, ◌≤◌, ◌+◌, ◌++◌}
-use Rattle.std.specs.Vec.{vec_capacity, vec_len}
-use Rattle.ghc_pool.specs.Workers.{works}
+use Rattle.ghc_pool.proofs.Words.{◌≡◌, ◌≤◌, ◌+◌, ◌++◌, vec_capacity, vec_len, works}
 use Rattle.ghc_pool.proofs.shared_round.take_apart.Given as goal
 
 abbrev pub invariant-loop-moved : goal.invariant-loop-moved

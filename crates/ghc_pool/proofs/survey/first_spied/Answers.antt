@@ -1,11 +1,4 @@
-use Rattle.std.proofs.Common.{get_or, inl, inr, subst, sym}
-use Rattle.std.proofs.lemmas.List.{take_all}
-use Rattle.std.proofs.lemmas.List.Elements.{Contains-get_or}
-use Rattle.ghc_term.specs.declared.goal_name.GoalName.{GoalName}
-use Rattle.ghc_term.specs.Lists.{In}
-use Rattle.ghc_term.proofs.ListsLemmas.{not_both, contains_in}
-use Rattle.ghc_hooks.proofs.LookingAll.{so_far}
-use Rattle.ghc_pool.specs.Runs.{IsSpiedIn}
+use Rattle.ghc_pool.proofs.Words.{get_or, inl, inr, subst, sym, take_all, Contains-get_or, GoalName, In, not_both, contains_in, so_far, IsSpiedIn}
 use Rattle.ghc_pool.proofs.survey.first_spied.Goals as goal
 
 pub returns-then-is_spied_in-clause-some : goal.returns-then-is_spied_in-clause-some

@@ -1,8 +1,4 @@
-use Rattle.std.proofs.Common.{[], get_or, take, ◌+◌, sym, ap, subst, ◌∙◌}
-use Rattle.std.proofs.lemmas.List.{take_all}
-use Rattle.ghc_term.specs.declared.goal_name.GoalName.{GoalName}
-use Rattle.ghc_hooks.proofs.LookingAll.{so_far}
-use Rattle.ghc_pool.specs.Survey.{AreListed}
+use Rattle.ghc_pool.proofs.Words.{[], get_or, take, ◌+◌, sym, ap, subst, ◌∙◌, take_all, GoalName, so_far, AreListed}
 use Rattle.ghc_pool.proofs.Surveyed.{none_listed, idle_more, ready_more}
 use Rattle.ghc_pool.proofs.survey.ready_ones.Goals.{in-Idle, in-Ready+in-Ok}
 use Rattle.ghc_pool.proofs.survey.ready_ones.Goals as goal

@@ -1,5 +1,4 @@
-use Rattle.std.proofs.Common.{take}
-use Rattle.ghc_pool.specs.Survey.{AreListed}
+use Rattle.ghc_pool.proofs.Words.{take, AreListed}
 use Rattle.ghc_pool.proofs.survey.ready_ones.Given as goal
 
 abbrev pub invariant-loop-name : goal.invariant-loop-name

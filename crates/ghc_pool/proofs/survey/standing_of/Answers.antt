@@ -1,8 +1,5 @@
-use Rattle.std.proofs.Common.{sym, subst, ap, ◌∙◌}
+use Rattle.ghc_pool.proofs.Words.{sym, subst, ap, ◌∙◌, status_of, NotesByGoal, StandsTo}
 use Rattle.std.specs.FinMap as finite
-use Rattle.ghc_hooks.specs.Verdict.{status_of}
-use Rattle.ghc_hooks.specs.Notes.{NotesByGoal}
-use Rattle.ghc_pool.specs.Survey.{StandsTo}
 use Rattle.ghc_pool.proofs.Standings.{idle_without, idle_waiting, ready_inside, failed_inside}
 use Rattle.ghc_pool.proofs.survey.standing_of.Goals.{in-Ready, in-Failed}
 use Rattle.ghc_pool.proofs.survey.standing_of.Goals as goal

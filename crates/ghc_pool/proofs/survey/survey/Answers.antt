@@ -1,7 +1,4 @@
-use Rattle.std.proofs.Common.{sym, subst, ◌∙◌}
-use Rattle.ghc_term.specs.declared.goal_name.GoalName.{GoalName}
-use Rattle.ghc_term.specs.Lists.{In}
-use Rattle.ghc_pool.specs.Runs.{starved, is_full}
+use Rattle.ghc_pool.proofs.Words.{sym, subst, ◌∙◌, GoalName, In, starved, is_full}
 use Rattle.ghc_pool.proofs.Standings.{none_untried, are_met}
 use Rattle.ghc_pool.proofs.Surveyed.{no_stop, goes_on, spied_holds, quiet_holds, stopped_holds, some_member, empty_is, empty_not}
 use Rattle.ghc_pool.proofs.Taking.{not_full}

@@ -1,12 +1,4 @@
-use Rattle.std.proofs.Common.{sym, subst}
-use Rattle.std.specs.Prelude.{Option}
-use Rattle.std.proofs.lemmas.List.Elements.{All-contains}
-use Rattle.ghc_term.specs.declared.goal_name.GoalName.{GoalName}
-use Rattle.ghc_term.specs.Lists.{In}
-use Rattle.ghc_term.proofs.ListsLemmas.{in_contains}
-use Rattle.ghc_pool.specs.declared.scope.Scope.{Scope}
-use Rattle.ghc_pool.specs.Runs.{IsInQuestion}
-use Rattle.ghc_pool.specs.Told.{Covers}
+use Rattle.ghc_pool.proofs.Words.{sym, subst, Option, All-contains, GoalName, In, in_contains, Scope, IsInQuestion, Covers}
 use Rattle.ghc_pool.proofs.team.scope_of.Goals as goal
 
 pub returns-in-None : goal.returns-in-None

@@ -1,10 +1,4 @@
-use Rattle.std.proofs.Common.{List, get_or, sym, subst}
-use Rattle.std.specs.Prelude.{All}
-use Rattle.std.proofs.lemmas.List.Elements.{All-nil, Contains-get_or}
-use Rattle.std.proofs.lemmas.Map.Views.{All-insert_key}
-use Rattle.ghc_term.specs.declared.goal_name.GoalName.{GoalName}
-use Rattle.ghc_term.specs.Lists.{In}
-use Rattle.ghc_term.proofs.ListsLemmas.{contains_in}
+use Rattle.ghc_pool.proofs.Words.{List, get_or, sym, subst, All, All-nil, Contains-get_or, All-insert_key, GoalName, In, contains_in}
 use Rattle.ghc_pool.proofs.team.set_of.Goals as goal
 
 pub loop-name-init : goal.loop-name-init

@@ -1,5 +1,4 @@
-use Rattle.std.specs.Prelude.{All}
-use Rattle.ghc_term.specs.Lists.{In}
+use Rattle.ghc_pool.proofs.Words.{All, In}
 use Rattle.ghc_pool.proofs.team.set_of.Given as goal
 
 abbrev pub invariant-loop-name : goal.invariant-loop-name

@@ -1,13 +1,5 @@
-use Rattle.std.proofs.Common.{[], length, sym, subst, ap, ◌∙◌, arith, true}
+use Rattle.ghc_pool.proofs.Words.{[], length, sym, subst, ap, ◌∙◌, arith, true, history, Core, code_of, AreEachOnce, places_since, Takes, at_start, AreTold, IsPassAfter, TakesAtMost}
 use base.Stored.{Gv}
-use Rattle.ghc_records.specs.Journal.{history}
-use Rattle.ghc_core.specs.Core.{Core}
-use Rattle.ghc_shared.specs.Calls.{code_of}
-use Rattle.ghc_shared.specs.Places.{AreEachOnce, places_since}
-use Rattle.ghc_pool.specs.Runs.{Takes, at_start}
-use Rattle.ghc_pool.specs.Gathered.{AreTold}
-use Rattle.ghc_pool.specs.Told.{IsPassAfter}
-use Rattle.ghc_pool.specs.Stretches.{TakesAtMost}
 use Rattle.ghc_pool.proofs.Telling.{told_all}
 use Rattle.ghc_pool.proofs.RoundPlaces.{newcomers_length}
 use Rattle.ghc_pool.proofs.RoundTakes.{round_takes}

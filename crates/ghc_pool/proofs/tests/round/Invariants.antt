@@ -1,5 +1,4 @@
-use Rattle.std.proofs.Common.{◌≡◌}
-use Rattle.std.specs.Vec.{vec_len}
+use Rattle.ghc_pool.proofs.Words.{◌≡◌, vec_len}
 use Rattle.ghc_pool.proofs.tests.round.Given as goal
 
 abbrev pub invariant-loop-pass : goal.invariant-loop-pass

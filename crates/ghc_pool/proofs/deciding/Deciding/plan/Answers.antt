@@ -1,8 +1,4 @@
-use Rattle.std.proofs.Common.{sym, subst, None, Err}
-use Rattle.ghc_term.specs.declared.fault.Fault.{Fault}
-use Rattle.ghc_core.specs.World.{World}
-use Rattle.ghc_shared.specs.Calls.{IsProposal}
-use Rattle.ghc_trace.specs.Spies.{IsSpied}
+use Rattle.ghc_pool.proofs.Words.{sym, subst, None, Err, Fault, World, IsProposal, IsSpied}
 use Rattle.ghc_pool.proofs.Telling.{spied_goal, unspied_step, opposite}
 use Rattle.ghc_pool.proofs.deciding.Deciding.plan.Goals as goal
 

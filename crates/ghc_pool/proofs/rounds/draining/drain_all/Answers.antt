@@ -1,9 +1,6 @@
-use Rattle.std.proofs.Common.{◌≡◌, ◌+◌, ◌<◌, suc, set, length, refl, sym, ap, ◌∙◌, subst, arith}
+use Rattle.ghc_pool.proofs.Words.{◌≡◌, ◌+◌, ◌<◌, suc, set, length, refl, sym, ap, ◌∙◌, subst, arith, Work, work_of, works, in_of, out_of, submits_of, IsSpent, GoesOn, WentOn, AreJudged, IsPending, AreDrainedTo, AreTold, FirstBegins}
 use mathlib.Core.List.{IsPrefix}
 use lib.ListN.{get_or}
-use Rattle.ghc_pool.specs.Workers.{Work, work_of, works, in_of, out_of, submits_of}
-use Rattle.ghc_pool.specs.Stops.{IsSpent, GoesOn, WentOn, AreJudged}
-use Rattle.ghc_pool.specs.Gathered.{IsPending, AreDrainedTo, AreTold, FirstBegins}
 use Rattle.ghc_pool.proofs.Returned.{over_set}
 use Rattle.ghc_pool.proofs.Judging.{judged_set, on_at}
 use Rattle.ghc_pool.proofs.Drained.{drained_from, drained_at, drained_set, drained_end, is_drained, works_at, works_with, length-works, told_set, begins_set, balance_set}

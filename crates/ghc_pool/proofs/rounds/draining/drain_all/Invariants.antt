@@ -1,9 +1,4 @@
-use Rattle.std.proofs.Common.{◌≡◌, ◌+◌, ℕ, List}
-use Rattle.std.specs.Vec.{vec_len}
-use Rattle.ghc_term.specs.declared.goal_name.GoalName.{GoalName}
-use Rattle.ghc_pool.specs.Workers.{works, over, in_of, out_of, submits_of}
-use Rattle.ghc_pool.specs.Stops.{IsSpent, AreJudged}
-use Rattle.ghc_pool.specs.Gathered.{AreDrainedTo, AreTold, FirstBegins}
+use Rattle.ghc_pool.proofs.Words.{◌≡◌, ◌+◌, ℕ, List, vec_len, GoalName, works, over, in_of, out_of, submits_of, IsSpent, AreJudged, AreDrainedTo, AreTold, FirstBegins}
 use Rattle.ghc_pool.proofs.rounds.draining.drain_all.Given as goal
 
 abbrev pub invariant-loop-index : goal.invariant-loop-index

@@ -1,11 +1,5 @@
-use Rattle.std.proofs.Common.{◌≡◌, ◌+◌, ◌<◌, suc, length, set, sym, ap, ◌∙◌, subst, arith}
+use Rattle.ghc_pool.proofs.Words.{◌≡◌, ◌+◌, ◌<◌, suc, length, set, sym, ap, ◌∙◌, subst, arith, vec_capacity, vec_len, worker_deque, worker_flavor, worker_view, Worker, weigh, Work, work_of, AreVictims, deques, stolen, put_of, got_of, stolen_of, IsReady, HaveGivenBack, own_deques, all_victims}
 use lib.ListN.{get_or}
-use Rattle.std.specs.Vec.{vec_capacity, vec_len}
-use Rattle.crossbeam_deque.specs.Handles.{worker_deque, worker_flavor, worker_view}
-use Rattle.ghc_pool.specs.declared.rounds.worker.Worker.{Worker}
-use Rattle.ghc_pool.specs.Fair.{weigh}
-use Rattle.ghc_pool.specs.Workers.{Work, work_of, AreVictims, deques, stolen, put_of, got_of, stolen_of}
-use Rattle.ghc_pool.specs.Gathered.{IsReady, HaveGivenBack, own_deques, all_victims}
 use Rattle.ghc_pool.proofs.Returned.{over_set, over_kept, ready_at, ready_set, own_set, given_at, given_set, all_stolen, stolen_all, none_stolen, parts_kept, parts_plus, same_count, same_view, length-set-workers, works_set, released}
 use Rattle.ghc_pool.proofs.rounds.gathering.gather.Goals as goal
 

@@ -1,8 +1,4 @@
-use Rattle.std.proofs.Common.{◌≡◌, ◌+◌, ℕ}
-use Rattle.std.specs.Vec.{vec_len}
-use Rattle.ghc_term.specs.declared.goal_name.GoalName.{GoalName}
-use Rattle.ghc_pool.specs.Workers.{works, over, put_of, got_of, stolen_of}
-use Rattle.ghc_pool.specs.Gathered.{own_deques, all_victims, AreReady, HaveParts, HaveGivenBack}
+use Rattle.ghc_pool.proofs.Words.{◌≡◌, ◌+◌, ℕ, vec_len, GoalName, works, over, put_of, got_of, stolen_of, own_deques, all_victims, AreReady, HaveParts, HaveGivenBack}
 use Rattle.ghc_pool.proofs.rounds.gathering.gather.Given as goal
 
 abbrev pub invariant-loop-from : goal.invariant-loop-from

@@ -1,11 +1,5 @@
-use Rattle.std.proofs.Common.{◌≡◌, ◌+◌, ◌++◌, [], ◌∷◌, ℕ, length, set, refl, sym, ap, ◌∙◌, subst, arith, length-append, append-nil}
+use Rattle.ghc_pool.proofs.Words.{◌≡◌, ◌+◌, ◌++◌, [], ◌∷◌, ℕ, length, set, refl, sym, ap, ◌∙◌, subst, arith, length-append, append-nil, worker_deque, worker_view, stealer_deque, view, IsPassOf, Worker, GoalName, weigh, work_of, put_of, got_of, stolen, IsReady, HaveParts, HavePartsFrom}
 use lib.ListN.{get_or}
-use Rattle.crossbeam_deque.specs.Handles.{worker_deque, worker_view, stealer_deque, view, IsPassOf}
-use Rattle.ghc_pool.specs.declared.rounds.worker.Worker.{Worker}
-use Rattle.ghc_term.specs.declared.goal_name.GoalName.{GoalName}
-use Rattle.ghc_pool.specs.Fair.{weigh}
-use Rattle.ghc_pool.specs.Workers.{work_of, put_of, got_of, stolen}
-use Rattle.ghc_pool.specs.Gathered.{IsReady, HaveParts, HavePartsFrom}
 use Rattle.ghc_pool.proofs.Moves.{weigh-append}
 use Rattle.ghc_pool.proofs.Returned.{over_set, over_kept, ready_at, ready_set, own_set, victims_kept, parts_set, parts_all, parts_end, last_of, stolen-append, ready_absorbed, same_length, last_at, works_set}
 use Rattle.ghc_pool.proofs.rounds.gathering.give_back.Goals as goal

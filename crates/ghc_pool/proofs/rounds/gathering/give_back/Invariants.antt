@@ -1,9 +1,4 @@
-use Rattle.std.proofs.Common.{◌≡◌, ◌+◌, ◌++◌, ℕ, List, length}
-use Rattle.std.specs.declared.alloc.Global.{Global}
-use Rattle.atomic_blocks.specs.Lent.{RowsId}
-use Rattle.ghc_term.specs.declared.goal_name.GoalName.{GoalName}
-use Rattle.ghc_pool.specs.Workers.{works, AreVictims, deques, stolen, over, put_of, got_of}
-use Rattle.ghc_pool.specs.Gathered.{own_deques, all_victims, AreReady, HaveParts, HavePartsFrom}
+use Rattle.ghc_pool.proofs.Words.{◌≡◌, ◌+◌, ◌++◌, ℕ, List, length, Global, RowsId, GoalName, works, AreVictims, deques, stolen, over, put_of, got_of, own_deques, all_victims, AreReady, HaveParts, HavePartsFrom}
 use Rattle.ghc_pool.proofs.rounds.gathering.give_back.Given as goal
 
 abbrev pub invariant-loop-victim : goal.invariant-loop-victim

@@ -1,9 +1,5 @@
-use Rattle.std.proofs.Common.{◌≡◌, ◌+◌, ◌<◌, ◌++◌, [], ◌∷◌, suc, length, set, refl, sym, ap, ◌∙◌, subst, arith, length-append}
+use Rattle.ghc_pool.proofs.Words.{◌≡◌, ◌+◌, ◌<◌, ◌++◌, [], ◌∷◌, suc, length, set, refl, sym, ap, ◌∙◌, subst, arith, length-append, worker_deque, weigh, AreVictims, deques, stolen, Owner, IsFresh, AreFresh, AreFreshFrom, deques_of}
 use lib.ListN.{get_or}
-use Rattle.crossbeam_deque.specs.Handles.{worker_deque}
-use Rattle.ghc_pool.specs.Fair.{weigh}
-use Rattle.ghc_pool.specs.Workers.{AreVictims, deques, stolen}
-use Rattle.ghc_pool.specs.Opened.{Owner, IsFresh, AreFresh, AreFreshFrom, deques_of}
 use Rattle.ghc_pool.proofs.Returned.{stolen-append}
 use Rattle.ghc_pool.proofs.Openings.{fresh_from, fresh_end, fresh_at, fresh_set, of_set, of_at, of_end, victims_more, deques_more}
 use Rattle.ghc_pool.proofs.rounds.opening.handful.Goals as goal

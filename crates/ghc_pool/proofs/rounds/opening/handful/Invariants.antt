@@ -1,10 +1,4 @@
-use Rattle.std.proofs.Common.{◌≡◌, ◌++◌, ℕ, List, length}
-use Rattle.std.specs.Vec.{vec_len}
-use Rattle.std.specs.declared.alloc.Global.{Global}
-use Rattle.atomic_blocks.specs.Lent.{RowsId}
-use Rattle.ghc_term.specs.declared.goal_name.GoalName.{GoalName}
-use Rattle.ghc_pool.specs.Workers.{AreVictims, deques, stolen}
-use Rattle.ghc_pool.specs.Opened.{AreFreshFrom, deques_of}
+use Rattle.ghc_pool.proofs.Words.{◌≡◌, ◌++◌, ℕ, List, length, vec_len, Global, RowsId, GoalName, AreVictims, deques, stolen, AreFreshFrom, deques_of}
 use Rattle.ghc_pool.proofs.rounds.opening.handful.Given as goal
 
 abbrev pub invariant-loop-index : goal.invariant-loop-index

@@ -1,6 +1,4 @@
-use Rattle.std.proofs.Common.{sym, subst, arith}
-use Rattle.ghc_pool.specs.Fair.{all_parts}
-use Rattle.ghc_pool.specs.Opened.{AreFresh}
+use Rattle.ghc_pool.proofs.Words.{sym, subst, arith, all_parts, AreFresh}
 use Rattle.ghc_pool.proofs.Openings.{fresh_more}
 use Rattle.ghc_pool.proofs.rounds.opening.new_deques.Goals as goal
 

@@ -1,7 +1,4 @@
-use Rattle.std.proofs.Common.{◌≡◌}
-use Rattle.std.specs.Vec.{vec_len}
-use Rattle.ghc_pool.specs.Fair.{all_parts}
-use Rattle.ghc_pool.specs.Opened.{AreFresh}
+use Rattle.ghc_pool.proofs.Words.{◌≡◌, vec_len, all_parts, AreFresh}
 use Rattle.ghc_pool.proofs.rounds.opening.new_deques.Given as goal
 
 abbrev pub invariant-loop-made : goal.invariant-loop-made

@@ -1,5 +1,4 @@
-use Rattle.std.proofs.Common.{◌<◌, ap, arith}
-use Rattle.crossbeam_deque.specs.Handles.{worker_view}
+use Rattle.ghc_pool.proofs.Words.{◌<◌, ap, arith, worker_view}
 use Rattle.ghc_pool.proofs.Moves.{forks}
 use Rattle.ghc_pool.proofs.rounds.opening.victim_of.Goals as goal
 

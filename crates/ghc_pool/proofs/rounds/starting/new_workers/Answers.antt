@@ -1,9 +1,4 @@
-use Rattle.std.proofs.Common.{◌≡◌, ◌+◌, ◌-◌, ◌<◌, ◌++◌, ◌∷◌, None, length, drop, refl, sym, ap, ◌∙◌, subst, arith}
-use Rattle.crossbeam_deque.specs.Handles.{worker_deque}
-use Rattle.ghc_pool.specs.declared.rounds.worker.Worker.{Worker}
-use Rattle.ghc_pool.specs.Fair.{all_parts}
-use Rattle.ghc_pool.specs.Opened.{Owner, IsFresh, AreFresh, IsHandful, AreHandfuls, AreNew, deques_of}
-use Rattle.ghc_pool.specs.Gathered.{own_deques}
+use Rattle.ghc_pool.proofs.Words.{◌≡◌, ◌+◌, ◌-◌, ◌<◌, ◌++◌, ◌∷◌, None, length, drop, refl, sym, ap, ◌∙◌, subst, arith, worker_deque, Worker, all_parts, Owner, IsFresh, AreFresh, IsHandful, AreHandfuls, AreNew, deques_of, own_deques}
 use Rattle.ghc_pool.proofs.Openings.{first_fresh, handfuls_more, handfuls_cut, new_more, own_more, new_worker}
 use Rattle.ghc_pool.proofs.rounds.starting.new_workers.Goals as goal
 

@@ -1,8 +1,4 @@
-use Rattle.std.proofs.Common.{◌≡◌, ◌+◌, ◌-◌, ◌++◌}
-use Rattle.std.specs.Vec.{vec_len}
-use Rattle.ghc_pool.specs.Fair.{all_parts}
-use Rattle.ghc_pool.specs.Opened.{AreFresh, AreHandfuls, AreNew, deques_of}
-use Rattle.ghc_pool.specs.Gathered.{own_deques}
+use Rattle.ghc_pool.proofs.Words.{◌≡◌, ◌+◌, ◌-◌, ◌++◌, vec_len, all_parts, AreFresh, AreHandfuls, AreNew, deques_of, own_deques}
 use Rattle.ghc_pool.proofs.rounds.starting.new_workers.Given as goal
 
 abbrev pub invariant-loop-made : goal.invariant-loop-made

@@ -1,9 +1,5 @@
-use Rattle.std.proofs.Common.{◌≡◌, ◌<◌, length, sym, ap, ◌∙◌, subst, arith}
+use Rattle.ghc_pool.proofs.Words.{◌≡◌, ◌<◌, length, sym, ap, ◌∙◌, subst, arith, worker_deque, Worker, IsStarting, AreStarting, own_deques}
 use lib.ListN.{get_or}
-use Rattle.crossbeam_deque.specs.Handles.{worker_deque}
-use Rattle.ghc_pool.specs.declared.rounds.worker.Worker.{Worker}
-use Rattle.ghc_pool.specs.Opened.{IsStarting, AreStarting}
-use Rattle.ghc_pool.specs.Gathered.{own_deques}
 use Rattle.ghc_pool.proofs.Jobs.{starting_roomier, starting_offered, new_first, starting_first, set_again, at_first}
 use Rattle.ghc_pool.proofs.rounds.starting.offer_first.Goals as goal
 

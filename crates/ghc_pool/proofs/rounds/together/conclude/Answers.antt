@@ -1,8 +1,4 @@
-use Rattle.std.proofs.Common.{◌≡◌, length, sym, ap, subst, arith}
-use Rattle.ghc_pool.specs.Workers.{works, over, in_of, out_of, submits_of}
-use Rattle.ghc_pool.specs.Stops.{AreWell}
-use Rattle.ghc_pool.specs.Gathered.{own_deques, all_victims, AreReady, HaveParts, HaveGivenBack, AreTold, FirstBegins}
-use Rattle.ghc_pool.specs.Opened.{workers_in}
+use Rattle.ghc_pool.proofs.Words.{◌≡◌, length, sym, ap, subst, arith, works, over, in_of, out_of, submits_of, AreWell, own_deques, all_victims, AreReady, HaveParts, HaveGivenBack, AreTold, FirstBegins, workers_in}
 use Rattle.ghc_pool.proofs.Jobs.{jobs_counted, jobs_told, jobs_well, jobs_ready, length-workers_in, length-passes_in}
 use Rattle.ghc_pool.proofs.rounds.together.conclude.Goals as goal
 

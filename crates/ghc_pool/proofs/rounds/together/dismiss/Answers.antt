@@ -1,7 +1,4 @@
-use Rattle.std.proofs.Common.{◌<◌, ◌++◌, ◌∷◌, length, drop, sym, ap, ◌∙◌, subst, arith}
-use Rattle.ghc_pool.specs.declared.rounds.working.Job.{Job}
-use Rattle.ghc_pool.specs.Workers.{over, submits_of}
-use Rattle.ghc_pool.specs.Opened.{IsCounted, AreCounted, workers_in, passes_in}
+use Rattle.ghc_pool.proofs.Words.{◌<◌, ◌++◌, ◌∷◌, length, drop, sym, ap, ◌∙◌, subst, arith, Job, over, submits_of, IsCounted, AreCounted, workers_in, passes_in}
 use Rattle.ghc_pool.proofs.Jobs.{first_counted, over_last, put_between}
 use Rattle.ghc_pool.proofs.rounds.together.dismiss.Goals as goal
 

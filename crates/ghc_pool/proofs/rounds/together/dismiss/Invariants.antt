@@ -1,7 +1,4 @@
-use Rattle.std.proofs.Common.{◌≡◌, ◌≤◌, ◌+◌, ◌++◌}
-use Rattle.std.specs.Vec.{vec_capacity, vec_len}
-use Rattle.ghc_pool.specs.Workers.{over, submits_of}
-use Rattle.ghc_pool.specs.Opened.{AreCounted, workers_in, passes_in}
+use Rattle.ghc_pool.proofs.Words.{◌≡◌, ◌≤◌, ◌+◌, ◌++◌, vec_capacity, vec_len, over, submits_of, AreCounted, workers_in, passes_in}
 use Rattle.ghc_pool.proofs.rounds.together.dismiss.Given as goal
 
 abbrev pub invariant-loop-moved : goal.invariant-loop-moved

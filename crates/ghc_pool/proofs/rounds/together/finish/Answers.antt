@@ -1,9 +1,4 @@
-use Rattle.std.proofs.Common.{◌≡◌, ◌+◌, true, sym, ap, subst, arith}
-use Rattle.std.specs.Vec.{vec_len}
-use Rattle.ghc_pool.specs.Fair.{all_parts}
-use Rattle.ghc_pool.specs.Workers.{works, over, total_work, in_of, out_of, offered_in, taken_in, left_in, submits_by}
-use Rattle.ghc_pool.specs.Stops.{IsSpent, AreJudged}
-use Rattle.ghc_pool.specs.Gathered.{AreTold, FirstBegins}
+use Rattle.ghc_pool.proofs.Words.{◌≡◌, ◌+◌, true, sym, ap, subst, arith, vec_len, all_parts, works, over, total_work, in_of, out_of, offered_in, taken_in, left_in, submits_by, IsSpent, AreJudged, AreTold, FirstBegins}
 use Rattle.ghc_pool.proofs.Returned.{parts_plus}
 use Rattle.ghc_pool.proofs.Judging.{judged_more}
 use Rattle.ghc_pool.proofs.Drained.{pending_all, over_works, none_stolen_of, over_submits}

@@ -1,8 +1,5 @@
-use Rattle.std.proofs.Common.{◌≡◌, ◌+◌, ◌<◌, ◌++◌, [], ◌∷◌, suc, take, length, refl, sym, ap, ◌∙◌, subst, arith}
+use Rattle.ghc_pool.proofs.Words.{◌≡◌, ◌+◌, ◌<◌, ◌++◌, [], ◌∷◌, suc, take, length, refl, sym, ap, ◌∙◌, subst, arith, Worker, works, work_of, IsWell, AreJudged}
 use lib.ListN.{get_or}
-use Rattle.ghc_pool.specs.declared.rounds.worker.Worker.{Worker}
-use Rattle.ghc_pool.specs.Workers.{works, work_of}
-use Rattle.ghc_pool.specs.Stops.{IsWell, AreJudged}
 use Rattle.ghc_pool.proofs.Judging.{judged_join}
 use Rattle.ghc_pool.proofs.Jobs.{works_take, well_at}
 use Rattle.ghc_pool.proofs.rounds.together.first_stop.Goals as goal

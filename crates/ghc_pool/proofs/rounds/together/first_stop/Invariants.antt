@@ -1,6 +1,4 @@
-use Rattle.std.proofs.Common.{take}
-use Rattle.ghc_pool.specs.Workers.{works}
-use Rattle.ghc_pool.specs.Stops.{AreJudged}
+use Rattle.ghc_pool.proofs.Words.{take, works, AreJudged}
 use Rattle.ghc_pool.proofs.rounds.together.first_stop.Given as goal
 
 abbrev pub invariant-loop-worker : goal.invariant-loop-worker

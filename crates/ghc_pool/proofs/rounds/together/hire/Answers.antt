@@ -1,6 +1,4 @@
-use Rattle.std.proofs.Common.{◌≡◌, ◌<◌, ◌++◌, [], ◌∷◌, length, drop, refl, sym, ap, ◌∙◌, subst, arith}
-use Rattle.ghc_pool.specs.declared.rounds.working.Job.{Job}
-use Rattle.ghc_pool.specs.Opened.{IsStarting, AreStarting, AreJobs, workers_in}
+use Rattle.ghc_pool.proofs.Words.{◌≡◌, ◌<◌, ◌++◌, [], ◌∷◌, length, drop, refl, sym, ap, ◌∙◌, subst, arith, Job, IsStarting, AreStarting, AreJobs, workers_in}
 use Rattle.ghc_pool.proofs.Jobs.{first_starting, first_rest, workers_more, new_job, jobs_more, put_between}
 use Rattle.ghc_pool.proofs.rounds.together.hire.Goals as goal
 

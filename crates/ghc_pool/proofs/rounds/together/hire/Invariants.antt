@@ -1,8 +1,4 @@
-use Rattle.std.proofs.Common.{◌≡◌, ◌+◌, ◌++◌, ℕ, List}
-use Rattle.std.specs.Vec.{vec_capacity, vec_len}
-use Rattle.std.specs.declared.alloc.Global.{Global}
-use Rattle.atomic_blocks.specs.Lent.{RowsId}
-use Rattle.ghc_pool.specs.Opened.{AreStarting, AreJobs, workers_in}
+use Rattle.ghc_pool.proofs.Words.{◌≡◌, ◌+◌, ◌++◌, ℕ, List, vec_capacity, vec_len, Global, RowsId, AreStarting, AreJobs, workers_in}
 use Rattle.ghc_pool.proofs.rounds.together.hire.Given as goal
 
 abbrev pub invariant-loop-number : goal.invariant-loop-number

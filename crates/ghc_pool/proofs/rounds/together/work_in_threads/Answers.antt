@@ -1,9 +1,5 @@
-use Rattle.std.proofs.Common.{◌≡◌, length, sym, ap, ◌∙◌, subst, arith}
+use Rattle.ghc_pool.proofs.Words.{◌≡◌, length, sym, ap, ◌∙◌, subst, arith, with_items_is, works, own_deques, FirstBegins, AreJobs, Works, HasWorked, workers_in}
 use lib.ListN.{get_or}
-use Rattle.std.proofs.lemmas.List.{with_items_is}
-use Rattle.ghc_pool.specs.Workers.{works}
-use Rattle.ghc_pool.specs.Gathered.{own_deques, FirstBegins}
-use Rattle.ghc_pool.specs.Opened.{AreJobs, Works, HasWorked, workers_in}
 use Rattle.ghc_pool.proofs.Jobs.{job_works, have_worked}
 use Rattle.ghc_pool.proofs.rounds.together.work_in_threads.Goals as goal
 

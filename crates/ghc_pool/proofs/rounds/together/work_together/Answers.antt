@@ -1,8 +1,4 @@
-use Rattle.std.proofs.Common.{◌≡◌, ◌-◌, refl, sym, ap, ◌∙◌, subst, arith}
-use Rattle.ghc_pool.specs.Fair.{all_parts}
-use Rattle.ghc_pool.specs.Workers.{works}
-use Rattle.ghc_pool.specs.Gathered.{own_deques, FirstBegins}
-use Rattle.ghc_pool.specs.Opened.{AreJobs, workers_in}
+use Rattle.ghc_pool.proofs.Words.{◌≡◌, ◌-◌, refl, sym, ap, ◌∙◌, subst, arith, all_parts, works, own_deques, FirstBegins, AreJobs, workers_in}
 use Rattle.ghc_pool.proofs.rounds.together.work_together.Goals as goal
 
 pub work_in_threads-budget-requires-clause-jobs : goal.work_in_threads-budget-requires-clause-jobs

@@ -1,5 +1,4 @@
-use Rattle.std.proofs.Common.{[], ◌∷◌, ap, sym, subst, arith}
-use Rattle.ghc_pool.specs.Workers.{submits}
+use Rattle.ghc_pool.proofs.Words.{[], ◌∷◌, ap, sym, subst, arith, submits}
 use Rattle.ghc_pool.proofs.Stealing.{keeps_after}
 use Rattle.ghc_pool.proofs.Wells.{room_same, room_after, well_same}
 use Rattle.ghc_pool.proofs.rounds.working.work.Goals as goal

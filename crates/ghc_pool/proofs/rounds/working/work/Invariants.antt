@@ -1,6 +1,4 @@
-use Rattle.std.proofs.Common.{◌≡◌, ◌≤◌, ◌+◌, []}
-use Rattle.ghc_pool.specs.Workers.{work_of, submits, Keeps, KeepsRoom}
-use Rattle.ghc_pool.specs.Stops.{IsWell}
+use Rattle.ghc_pool.proofs.Words.{◌≡◌, ◌≤◌, ◌+◌, [], work_of, submits, Keeps, KeepsRoom, IsWell}
 use Rattle.ghc_pool.proofs.rounds.working.work.Given as goal
 
 abbrev pub invariant-loop : goal.invariant-loop

@@ -1,7 +1,4 @@
-use Rattle.std.proofs.Common.{true, refl, sym, subst}
-use Rattle.std.specs.Prelude.{◌↔◌, IsTrue}
-use Rattle.ghc_pool.specs.declared.scope.Scope.{Scope}
-use Rattle.ghc_pool.specs.Told.{IsInScope}
+use Rattle.ghc_pool.proofs.Words.{true, refl, sym, subst, ◌↔◌, IsTrue, Scope, IsInScope}
 use Rattle.ghc_pool.proofs.Scopes.{named_in, late_in}
 use Rattle.ghc_pool.proofs.scope.Scope.has.Goals as goal
 

@@ -1,5 +1,4 @@
-use Rattle.std.proofs.Common.{◌+◌, [], ◌++◌, refl, sym, subst, arith, length-append}
-use Rattle.ghc_pool.specs.Runs.{Takes, at_start, starved, all_taken}
+use Rattle.ghc_pool.proofs.Words.{◌+◌, [], ◌++◌, refl, sym, subst, arith, length-append, Takes, at_start, starved, all_taken}
 use Rattle.ghc_pool.proofs.Taking.{takes_more}
 use Rattle.ghc_pool.proofs.team.Team.go_on.Goals as goal
 

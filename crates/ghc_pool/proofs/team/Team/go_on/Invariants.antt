@@ -1,8 +1,4 @@
-use Rattle.std.proofs.Common.{◌≡◌, ◌≤◌, ◌-◌, List, length}
-use Rattle.ghc_term.specs.declared.goal_name.GoalName.{GoalName}
-use Rattle.ghc_term.specs.Lists.{In}
-use Rattle.ghc_records.specs.Record.{Record}
-use Rattle.ghc_pool.specs.Runs.{IsInQuestion, Takes, CanGoOn}
+use Rattle.ghc_pool.proofs.Words.{◌≡◌, ◌≤◌, ◌-◌, List, length, GoalName, In, Record, IsInQuestion, Takes, CanGoOn}
 use Rattle.ghc_pool.proofs.team.Team.go_on.Given as goal
 
 abbrev pub invariant-loop-added : goal.invariant-loop-added

@@ -1,6 +1,4 @@
-use Rattle.std.proofs.Common.{◌≡◌, ℕ, [], refl, subst, sym, arith}
-use Rattle.ghc_core.specs.World.{World}
-use Rattle.ghc_pool.specs.Runs.{Runs, Takes, CanGoOn, at_start}
+use Rattle.ghc_pool.proofs.Words.{◌≡◌, ℕ, [], refl, subst, sym, arith, World, Runs, Takes, CanGoOn, at_start}
 use Rattle.ghc_pool.proofs.team.Team.run.Goals as goal
 
 pub returns-then-count-eq1-clause-runs : goal.returns-then-count-eq1-clause-runs

@@ -1,8 +1,4 @@
-use Rattle.std.proofs.Common.{[], sym, subst, arith}
-use Rattle.ghc_core.specs.Core.{Core, IsStanding}
-use Rattle.ghc_pool.specs.Runs.{at_start}
-use Rattle.ghc_pool.specs.Told.{Covers}
-use Rattle.ghc_pool.specs.Stretches.{TakesAtMost}
+use Rattle.ghc_pool.proofs.Words.{[], sym, subst, arith, Core, IsStanding, at_start, Covers, TakesAtMost}
 use Rattle.ghc_pool.proofs.team.Team.share.Goals as goal
 
 pub returns-in_default : goal.returns-in_default

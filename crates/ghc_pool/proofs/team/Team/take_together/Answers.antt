@@ -1,7 +1,4 @@
-use Rattle.std.proofs.Common.{length, take, drop, ap, ◌∙◌, subst, arith}
-use Rattle.std.proofs.lemmas.List.{take-append-drop}
-use Rattle.ghc_term.specs.Lists.{In}
-use Rattle.ghc_term.proofs.ListsLemmas.{in_left}
+use Rattle.ghc_pool.proofs.Words.{length, take, drop, ap, ◌∙◌, subst, arith, take-append-drop, In, in_left}
 use Rattle.ghc_pool.proofs.Unworked.{kept_count}
 use Rattle.ghc_pool.proofs.team.Team.take_together.Goals as goal
 

@@ -5,7 +5,7 @@ use denote.Param.{param}
 use denote.Struct.Field.{row_field}
 use denote.Param.Send.{IsSync, sendable, shr_sync}
 use denote.Param.SendFields.{declared_sync, as_row_sync}
-use Rattle.std.proofs.Crossing.{crosses}
+use Rattle.ghc_pool.proofs.Words.{crosses, ghosts, shared_core_sync, core_pass_send}
 use Rattle.std.specs.declared.sync.ledger.Ledger as ledger
 use Rattle.std.proofs.sync.atomic.AtomicU64.TheSendSync as word
 use Rattle.ghc_core.specs.contracts.core_state.Core as core
@@ -13,9 +13,7 @@ use Rattle.ghc_core.specs.contracts.reply.Reply as reply
 use Rattle.ghc_shared.specs.declared.naming.Naming as naming
 use Rattle.ghc_shared.specs.contracts.calls.Call as call
 use Rattle.ghc_shared.specs.contracts.calls.HistoryItem as item
-use Rattle.ghc_shared.specs.contracts.telling.CoreGrowing.TheImpl.{ghosts}
 use Rattle.ghc_shared.specs.contracts.shared.Shared as shared
-use Rattle.ghc_shared.proofs.CoreCrosses.{shared_core_sync, core_pass_send}
 use Rattle.ghc_pool.specs.contracts.tests.undoing.Undoing as undoing
 use Rattle.ghc_pool.proofs.tests.undoing.undo_named.Goals as goal
 

@@ -1,6 +1,4 @@
-use Rattle.std.specs.Prelude.{◌+◌, length}
-use Rattle.ghc_records.specs.Journal.{history}
-use Rattle.ghc_shared.specs.Calls.{code_of}
+use Rattle.ghc_pool.proofs.Words.{◌+◌, length, history, code_of}
 use Rattle.ghc_pool.proofs.tests.undoing.undo_under_a_held_proposal.Given as goal
 
 abbrev pub ghosts-undo_named-N-Naming : goal.ghosts-undo_named-N-Naming

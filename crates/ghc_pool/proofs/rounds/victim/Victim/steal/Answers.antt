@@ -1,5 +1,4 @@
-use Rattle.std.proofs.Common.{◌<◌, arith}
-use Rattle.crossbeam_deque.specs.Handles.{view}
+use Rattle.ghc_pool.proofs.Words.{◌<◌, arith, view}
 use Rattle.ghc_pool.proofs.Moves.{takes}
 use Rattle.ghc_pool.proofs.rounds.victim.Victim.steal.Goals as goal
 

@@ -1,6 +1,4 @@
-use Rattle.std.proofs.Common.{[], ◌∷◌, refl, ap, arith}
-use Rattle.ghc_pool.specs.Fair.{weigh}
-use Rattle.ghc_pool.specs.Workers.{names}
+use Rattle.ghc_pool.proofs.Words.{[], ◌∷◌, refl, ap, arith, weigh, names}
 use Rattle.ghc_pool.proofs.Moves.{weigh-append}
 use Rattle.ghc_pool.proofs.Stealing.{names-append, prefix_same}
 use Rattle.ghc_pool.proofs.rounds.worker.Worker.answer.Goals as goal

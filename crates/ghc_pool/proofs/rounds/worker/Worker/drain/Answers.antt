@@ -1,9 +1,4 @@
-use Rattle.std.proofs.Common.{[], ◌∷◌, length, refl, ap, ◌∙◌, arith}
-use Rattle.crossbeam_deque.specs.Handles.{worker_view}
-use Rattle.ghc_pool.specs.declared.rounds.worker.Worker.{Worker}
-use Rattle.ghc_pool.specs.Fair.{weigh}
-use Rattle.ghc_pool.specs.Workers.{work_of, Keeps}
-use Rattle.ghc_pool.specs.Stops.{IsSpent}
+use Rattle.ghc_pool.proofs.Words.{[], ◌∷◌, length, refl, ap, ◌∙◌, arith, worker_view, Worker, weigh, work_of, Keeps, IsSpent}
 use Rattle.ghc_pool.proofs.Moves.{takes_last, finds, weigh-append}
 use Rattle.ghc_pool.proofs.Stealing.{keeps_after, prefix_same}
 use Rattle.ghc_pool.proofs.Judging.{went_after}

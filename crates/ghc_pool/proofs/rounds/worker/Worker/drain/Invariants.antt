@@ -1,7 +1,5 @@
-use Rattle.std.proofs.Common.{◌≡◌, ◌+◌, [], length}
-use Rattle.crossbeam_deque.specs.Handles.{worker_view}
-use Rattle.ghc_pool.specs.Workers.{work_of, HasRoom, Keeps, submits}
-use Rattle.ghc_pool.specs.Stops.{IsSpent, WentOn}
+use Rattle.ghc_pool.proofs.Words.{◌≡◌, ◌+◌, [], length, worker_view, work_of, Keeps, submits, IsSpent, WentOn}
+use Rattle.ghc_pool.specs.Workers.{HasRoom}
 use Rattle.ghc_pool.proofs.rounds.worker.Worker.drain.Given as goal
 
 abbrev pub invariant-loop : goal.invariant-loop

@@ -1,6 +1,4 @@
-use Rattle.std.proofs.Common.{◌≤◌, ap, arith}
-use Rattle.ghc_pool.specs.Answers.{submits_in}
-use Rattle.ghc_pool.specs.Workers.{submits}
+use Rattle.ghc_pool.proofs.Words.{◌≤◌, ap, arith, submits_in, submits}
 use Rattle.ghc_pool.proofs.Stealing.{submits-append}
 use Rattle.ghc_pool.proofs.Wells.{enough, room_after}
 use Rattle.ghc_pool.proofs.rounds.worker.Worker.handle.Goals as goal

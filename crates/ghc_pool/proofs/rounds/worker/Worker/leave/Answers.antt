@@ -1,5 +1,4 @@
-use Rattle.std.proofs.Common.{[], ◌∷◌, refl, ap, arith}
-use Rattle.ghc_pool.specs.Fair.{weigh}
+use Rattle.ghc_pool.proofs.Words.{[], ◌∷◌, refl, ap, arith, weigh}
 use Rattle.ghc_pool.proofs.Moves.{weigh-append}
 use Rattle.ghc_pool.proofs.Stealing.{prefix_same}
 use Rattle.ghc_pool.proofs.rounds.worker.Worker.leave.Goals as goal

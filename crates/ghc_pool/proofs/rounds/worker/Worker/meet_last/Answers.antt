@@ -1,5 +1,4 @@
-use Rattle.std.proofs.Common.{length, ap, arith}
-use Rattle.crossbeam_deque.specs.Handles.{worker_view}
+use Rattle.ghc_pool.proofs.Words.{length, ap, arith, worker_view}
 use Rattle.ghc_pool.proofs.rounds.worker.Worker.meet_last.Goals as goal
 
 pub returns-clause-room : goal.returns-clause-room

@@ -1,5 +1,4 @@
-use Rattle.std.proofs.Common.{◌≡◌, ◌++◌, ◌-◌, [], length, take}
-use Rattle.ghc_pool.specs.Workers.{HasRoomToOffer, Keeps, KeepsRoom, IsOfferedOrStopped}
+use Rattle.ghc_pool.proofs.Words.{◌≡◌, ◌++◌, ◌-◌, [], length, take, HasRoomToOffer, Keeps, KeepsRoom, IsOfferedOrStopped}
 use Rattle.ghc_pool.proofs.rounds.worker.Worker.offer_all.Given as goal
 
 abbrev pub invariant-loop-name : goal.invariant-loop-name

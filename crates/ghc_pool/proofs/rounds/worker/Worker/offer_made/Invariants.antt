@@ -1,6 +1,4 @@
-use Rattle.std.proofs.Common.{◌≡◌, []}
-use Rattle.crossbeam_deque.specs.Handles.{worker_view}
-use Rattle.ghc_pool.specs.Workers.{Keeps, KeepsRoom, IsOfferedOrStopped}
+use Rattle.ghc_pool.proofs.Words.{◌≡◌, [], worker_view, Keeps, KeepsRoom, IsOfferedOrStopped}
 use Rattle.ghc_pool.proofs.rounds.worker.Worker.offer_made.Given as goal
 
 abbrev pub invariant-loop-index : goal.invariant-loop-index

@@ -1,6 +1,4 @@
-use Rattle.std.proofs.Common.{[], ◌∷◌, length, refl, sym, ap, ◌∙◌, arith, length-append}
-use Rattle.crossbeam_deque.specs.Handles.{worker_view}
-use Rattle.ghc_pool.specs.Fair.{weigh}
+use Rattle.ghc_pool.proofs.Words.{[], ◌∷◌, length, refl, sym, ap, ◌∙◌, arith, length-append, worker_view, weigh}
 use Rattle.ghc_pool.proofs.Moves.{puts, weigh-append}
 use Rattle.ghc_pool.proofs.rounds.worker.Worker.offer_reserved.Goals as goal
 

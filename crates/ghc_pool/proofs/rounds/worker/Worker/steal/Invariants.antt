@@ -1,6 +1,4 @@
-use Rattle.std.proofs.Common.{◌≡◌, []}
-use Rattle.std.specs.Vec.{vec_len}
-use Rattle.ghc_pool.specs.Workers.{Keeps, DidNothing, HasRoomToAnswer}
+use Rattle.ghc_pool.proofs.Words.{◌≡◌, [], vec_len, Keeps, DidNothing, HasRoomToAnswer}
 use Rattle.ghc_pool.proofs.rounds.worker.Worker.steal.Given as goal
 
 abbrev pub invariant-loop-index : goal.invariant-loop-index

@@ -1,7 +1,4 @@
-use Rattle.std.proofs.Common.{◌<◌, ◌++◌, [], ◌∷◌, length, sym, ap, ◌∙◌, subst, arith, append-nil}
-use Rattle.crossbeam_deque.specs.Handles.{stealer_deque, view}
-use Rattle.ghc_pool.specs.declared.rounds.victim.Victim.{Victim}
-use Rattle.ghc_pool.specs.Workers.{IsVictim}
+use Rattle.ghc_pool.proofs.Words.{◌<◌, ◌++◌, [], ◌∷◌, length, sym, ap, ◌∙◌, subst, arith, append-nil, stealer_deque, view, Victim, IsVictim}
 use Rattle.ghc_pool.proofs.Stealing.{victim_at, stole}
 use Rattle.ghc_pool.proofs.rounds.worker.Worker.steal_from.Goals as goal
 

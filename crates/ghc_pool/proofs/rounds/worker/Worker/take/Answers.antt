@@ -1,7 +1,4 @@
-use Rattle.std.proofs.Common.{[], ◌∷◌, length, refl, ap, ◌∙◌, arith}
-use Rattle.crossbeam_deque.specs.Handles.{worker_view}
-use Rattle.ghc_pool.specs.Fair.{weigh}
-use Rattle.ghc_pool.specs.Workers.{names}
+use Rattle.ghc_pool.proofs.Words.{[], ◌∷◌, length, refl, ap, ◌∙◌, arith, worker_view, weigh, names}
 use Rattle.ghc_pool.proofs.Moves.{takes, weigh-append}
 use Rattle.ghc_pool.proofs.Stealing.{prefix_same}
 use Rattle.ghc_pool.proofs.rounds.worker.Worker.take.Goals as goal
