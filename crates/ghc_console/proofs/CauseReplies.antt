@@ -1,10 +1,6 @@
 -- What the replies say that tell lists, and causes among them.
-use Rattle.std.proofs.Common.{◌≡◌, ◌≢◌, ◌⊎◌, inl, inr, sym, subst, ap, ◌∙◌, List, [], ◌∷◌, ℕ, codes}
-use Rattle.ghc_term.specs.declared.fault.Fault.{Fault}
+use Rattle.ghc_console.proofs.Words.{◌≡◌, ◌≢◌, ◌⊎◌, inl, inr, sym, subst, ap, ◌∙◌, List, [], ◌∷◌, ℕ, codes, Fault, IsNotKept, World, RepliesToWhy, not_kept, lined, lines_or_none, refusal, text_lines}
 use Rattle.ghc_term.specs.declared.fault.Fault.TheVariants as fault
-use Rattle.ghc_depend.specs.Depend.{IsNotKept}
-use Rattle.ghc_core.specs.World.{World}
-use Rattle.ghc_console.specs.Replies.{RepliesToWhy, not_kept, lined, lines_or_none, refusal, text_lines}
 
 some_line : (t : List ℕ) (ts : List (List ℕ)) → text_lines (t ∷ ts) ≢ []
 some_line [] ts e = cc

@@ -1,7 +1,5 @@
 -- The first line of a text that is in memory.
-use Rattle.std.proofs.Common.{◌≡◌, ◌≢◌, ℕ, All, List, [], ◌∷◌, ◌++◌, length, map, eqb, false, sym, ap, ◌∙◌}
-use Rattle.std.specs.Io.BufRead.{strip_last}
-use Rattle.ghc_console.specs.Lines.{line_of, lines_of}
+use Rattle.ghc_console.proofs.Words.{◌≡◌, ◌≢◌, ℕ, All, List, [], ◌∷◌, ◌++◌, length, map, eqb, false, sym, ap, ◌∙◌, strip_last, line_of, lines_of}
 use Rattle.ghc_console.proofs.Rows.{rows-ended, rows-last}
 
 -- A line feed ends the first line.

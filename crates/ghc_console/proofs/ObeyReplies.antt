@@ -1,17 +1,6 @@
 -- What the texts of replies to commands of the core say.
-use Rattle.std.proofs.Common.{◌≡◌, ◌≢◌, ◌⊎◌, ◌∙◌, inl, inr, sym, subst, ap, List, ℕ, Result, Ok, Err, OnOk, OnErr}
-use Rattle.ghc_term.specs.declared.fault.Fault.{Fault}
+use Rattle.ghc_console.proofs.Words.{◌≡◌, ◌≢◌, ◌⊎◌, ◌∙◌, inl, inr, sym, subst, ap, List, ℕ, Result, Ok, Err, OnOk, OnErr, Fault, a_term, an_ask, IsRefusal, Meter, one_more, World, Command, input, finish, undo, roll, redo, arrange, ask, Fails, opening_stays, CountsInObeying, FiresInObeying, IsObeyed, obeys, refuses, RepliesToAsk, RepliesToInput, unasked, unread, refusal}
 use Rattle.ghc_term.specs.declared.fault.Fault.TheVariants as fault
-use Rattle.ghc_reader.specs.Tests.{a_term, an_ask, IsRefusal}
-use Rattle.ghc_fire.specs.declared.meter.Meter.{Meter}
-use Rattle.ghc_fire.specs.Meter.{one_more}
-use Rattle.ghc_core.specs.World.{World}
-use Rattle.ghc_core.specs.Events.{Command, input, finish, undo, roll, redo, arrange, ask}
-use Rattle.ghc_core.specs.Answers.{Fails}
-use Rattle.ghc_core.proofs.Moving.{opening_stays}
-use Rattle.ghc_core.specs.Counting.{CountsInObeying}
-use Rattle.ghc_console.specs.Firing.{FiresInObeying}
-use Rattle.ghc_console.specs.Replies.{IsObeyed, obeys, refuses, RepliesToAsk, RepliesToInput, unasked, unread, refusal}
 
 -- a command that is refused
 pub command_refused : (w v : World) (c : Command) (f : Fault) (text : List ℕ) → v ≡ w → (f ≡ fault.Memory) ⊎ Fails w c f → text ≡ refusal f → f ≢ fault.Memory → IsObeyed w c text v

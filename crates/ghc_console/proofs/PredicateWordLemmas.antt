@@ -1,10 +1,5 @@
 -- Lemmas on words that name predicates.
-use Rattle.std.proofs.Common.{◌≡◌, ◌≢◌, ℕ, ◌+◌, true, false, cond, eqb, zero, suc, All, Option, Some, None, inl, inr, List, [], ◌∷◌, ◌++◌, take, drop, refl, sym, ap, ◌∙◌, arith}
-use Rattle.std.proofs.lemmas.Bool.{false≢true}
-use Rattle.std.specs.List.{slice_split}
-use Rattle.std.specs.Str.{IsAscii}
-use Rattle.ghc_console.specs.PredicateWords.{is_name, predicate_named, predicate_of, predicate_of_parts}
-use Rattle.ghc_console.specs.Words.{number_of}
+use Rattle.ghc_console.proofs.Words.{◌≡◌, ◌≢◌, ℕ, ◌+◌, true, false, cond, eqb, zero, suc, All, Option, Some, None, inl, inr, List, [], ◌∷◌, ◌++◌, take, drop, refl, sym, ap, ◌∙◌, arith, false≢true, slice_split, IsAscii, is_name, predicate_named, predicate_of, predicate_of_parts, number_of}
 use Rattle.ghc_console.proofs.WordLemmas.{IsOnePartOrNone, ascii_names, split-first, split-last, one_part_or_none, no_number}
 
 -- the part in front of the first stroke, and all behind it

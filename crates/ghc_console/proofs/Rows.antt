@@ -1,13 +1,5 @@
 -- Lemmas on rows, and on a part of a buffer.
-use Rattle.std.proofs.Common.{◌≡◌, ◌≢◌, ℕ, ◌+◌, ◌-◌, ◌<◌, ◌≤◌, true, false, cond, eqb, All, Option, None, Some, List, [], ◌∷◌, ◌++◌, length, map, take, drop, refl, sym, ap, ◌∙◌, arith, inl, inr, rules, append-nil, ◌⊎◌}
-use Rattle.std.proofs.lemmas.List.{drop-drop, drop-take, length-take}
-use Rattle.std.proofs.lemmas.List.Elements.{All-head, All-tail}
-use Rattle.std.specs.Io.KnownBytes.{Consumes, IsAtEnd}
-use Rattle.std.proofs.lemmas.List.Sums.{sum_by-append}
-use Rattle.ghc_console.specs.Lines.{onto, rows_of, line_feeds, line_of, lines_of}
-use Rattle.ghc_console.specs.Reading.{HasGathered, IsMadeOf, IsNextLine, TakesFront, TakesLine}
-use Rattle.ghc_console.specs.declared.line_buffer.Gathered.{Gathered}
-use Rattle.ghc_console.specs.declared.reading.Line.{Line}
+use Rattle.ghc_console.proofs.Words.{◌≡◌, ◌≢◌, ℕ, ◌+◌, ◌-◌, ◌<◌, ◌≤◌, true, false, cond, eqb, All, Option, None, Some, List, [], ◌∷◌, ◌++◌, length, map, take, drop, refl, sym, ap, ◌∙◌, arith, inl, inr, rules, append-nil, ◌⊎◌, drop-drop, drop-take, length-take, All-head, All-tail, Consumes, IsAtEnd, sum_by-append, onto, rows_of, line_feeds, line_of, lines_of, HasGathered, IsMadeOf, IsNextLine, TakesFront, TakesLine, Gathered, Line}
 use Rattle.ghc_console.specs.declared.reading.Line.TheVariants as line
 
 -- what is left of a window into a buffer

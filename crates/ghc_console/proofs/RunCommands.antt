@@ -1,22 +1,7 @@
 -- What commands that run are answered with.
-use Rattle.std.proofs.Common.{◌≡◌, ◌≤◌, ℕ, true, false, List, length, refl, sym, subst, Bor}
-use Rattle.std.specs.Prelude.{Option, Some, None, is_some, option_copied}
+use Rattle.ghc_console.proofs.Words.{◌≡◌, ◌≤◌, ℕ, true, false, List, length, refl, sym, subst, Bor, Option, Some, None, is_some, option_copied, GoalName, Goal, World, Spies, command_of, line_limit, Fires, RepliesToSkip, no_goal, skips, Answers, IsReply, quits, replies, refusal, AsksForRun, leap_asks, skip_asks, IsAnsweredBy, IsCommandAnsweredBy, HasRun, SessionState, LineCommand, Answered, Told as told, Ends as ends, Asks as asks}
 use Rattle.std.specs.FinMap as finite
 use Rattle.ghc_term.specs.declared.fault.Fault.TheVariants as fault
-use Rattle.ghc_term.specs.declared.goal_name.GoalName.{GoalName}
-use Rattle.ghc_term.specs.Goal.{Goal}
-use Rattle.ghc_core.specs.World.{World}
-use Rattle.ghc_trace.specs.Spies.{Spies}
-use Rattle.ghc_console.specs.Commands.{command_of}
-use Rattle.ghc_console.specs.Reading.{line_limit}
-use Rattle.ghc_console.specs.Firing.{Fires}
-use Rattle.ghc_console.specs.RunReplies.{RepliesToSkip, no_goal, skips}
-use Rattle.ghc_console.specs.Replies.{Answers, IsReply, quits, replies, refusal}
-use Rattle.ghc_console.specs.Answered.{AsksForRun, leap_asks, skip_asks, IsAnsweredBy, IsCommandAnsweredBy, HasRun}
-use Rattle.ghc_console.specs.SessionState.{SessionState}
-use Rattle.ghc_console.specs.declared.command.LineCommand.{LineCommand}
-use Rattle.ghc_console.specs.declared.answered.Answered.{Answered}
-use Rattle.ghc_console.specs.declared.answered.Answered.TheVariants.{Told as told, Ends as ends, Asks as asks}
 
 -- What a command is answered with, its line is.
 pub line_answered : (s t : SessionState) (line text : List ℕ) (a : Answered) → length line ≤ line_limit → IsCommandAnsweredBy s (command_of line) text t a → IsAnsweredBy s line text t a

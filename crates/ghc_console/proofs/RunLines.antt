@@ -1,26 +1,5 @@
 -- The lines of runs: how far their writing has come, and of which steps they are.
-use Rattle.std.proofs.Common.{◌≡◌, ℕ, zero, suc, ◌+◌, ◌-◌, ◌<◌, ◌≤◌, List, [], ◌∷◌, ◌++◌, length, map, take, drop, refl, sym, ap, ◌∙◌, subst, inl, inr, ◌⊎◌, slice_get, append_assoc, append-nil, take-append-drop, drop_of_length-le, length-append, arith}
-use Rattle.std.specs.Prelude.{Option, Some, None, Result, Ok, Err}
-use Rattle.std.proofs.lemmas.List.{length-drop}
-use Rattle.std.proofs.lemmas.Option.{slice_get_cases}
-use Rattle.std.proofs.Math.Seq.{take-append_seam, drop-append_seam}
-use Rattle.std.specs.Io.KnownBytes.{Appends}
-use Rattle.std.proofs.KnownBytes.{Appends-trans, Appends-nil}
-use Rattle.ghc_term.specs.declared.goal_name.GoalName.{GoalName}
-use Rattle.ghc_term.specs.Lists.{In}
-use Rattle.ghc_term.proofs.ListsLemmas.{in_at, in_right}
-use Rattle.ghc_records.specs.Record.{Record, numbers}
-use Rattle.ghc_records.specs.Orders.{AreDistinct}
-use Rattle.ghc_records.proofs.OrderLemmas.{record_once}
-use Rattle.ghc_hooks.specs.Notes.{NotesByGoal}
-use Rattle.ghc_core.specs.World.{World}
-use Rattle.ghc_trace.specs.Spies.{Spies}
-use Rattle.ghc_pool.specs.declared.stop.Report.{Report}
-use Rattle.ghc_pool.specs.declared.mode.Mode.{Mode}
-use Rattle.ghc_pool.specs.Runs.{Runs, RunsIn, Takes, at_start, and_step}
-use Rattle.ghc_pool.specs.Laws.{RunsAddAtTheEnd}
-use Rattle.ghc_console.specs.RunReplies.{AreLinesTold, no_line, and_line, IsAdded, IsLineTold, TellsRun, last_of, mode_of, run_lines, step_line}
-use Rattle.ghc_console.specs.WritesTold.{WritesTold}
+use Rattle.ghc_console.proofs.Words.{◌≡◌, ℕ, zero, suc, ◌+◌, ◌-◌, ◌<◌, ◌≤◌, List, [], ◌∷◌, ◌++◌, length, map, take, drop, refl, sym, ap, ◌∙◌, subst, inl, inr, ◌⊎◌, slice_get, append_assoc, append-nil, take-append-drop, drop_of_length-le, length-append, arith, Option, Some, None, Result, Ok, Err, length-drop, slice_get_cases, take-append_seam, drop-append_seam, Appends, Appends-trans, Appends-nil, GoalName, In, in_at, in_right, Record, numbers, AreDistinct, record_once, NotesByGoal, World, Spies, Report, Mode, Runs, RunsIn, Takes, at_start, and_step, RunsAddAtTheEnd, AreLinesTold, no_line, and_line, IsAdded, IsLineTold, TellsRun, last_of, mode_of, run_lines, step_line, WritesTold}
 use Rattle.ghc_console.proofs.RecordLines.{drop_at}
 
 -- Lines that are told, and more behind them.

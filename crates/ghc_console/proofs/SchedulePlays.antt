@@ -1,17 +1,6 @@
 -- How far a schedule has come.
-use Rattle.std.proofs.Common.{◌≡◌, ℕ, List, [], ◌∷◌, ◌++◌, Option, Result, Ok, Err, take, ap, sym, ◌∙◌, subst, append_assoc}
-use Rattle.std.specs.Io.KnownBytes.{Appends}
-use Rattle.std.proofs.KnownBytes.{Appends-nil, Appends-trans}
-use Rattle.ghc_term.specs.declared.fault.Fault.{Fault}
-use Rattle.ghc_core.specs.Core.{Core}
-use Rattle.ghc_core.specs.Events.{Reply}
-use Rattle.ghc_core.specs.Playing.{empty_hands}
-use Rattle.ghc_core.specs.World.{Hands}
+use Rattle.ghc_console.proofs.Words.{◌≡◌, ℕ, List, [], ◌∷◌, ◌++◌, Option, Result, Ok, Err, take, ap, sym, ◌∙◌, subst, append_assoc, Appends, Appends-nil, Appends-trans, Fault, Core, Reply, empty_hands, Hands, WritesFront, records_text, Hears, told_text, ArePlayedOut, BrokenOff, Schedule, WritesSchedule, part_of_records, part_of_reply, hand_count, then_begun, then_whole, told_at_end, with_hands}
 use Rattle.ghc_core.specs.declared.world.World.{World as Played}
-use Rattle.ghc_console.specs.Device.{WritesFront}
-use Rattle.ghc_console.specs.Replies.{records_text}
-use Rattle.ghc_console.specs.ScheduleReplies.{Hears, told_text}
-use Rattle.ghc_console.specs.ScheduleText.{ArePlayedOut, BrokenOff, Schedule, WritesSchedule, part_of_records, part_of_reply, hand_count, then_begun, then_whole, told_at_end, with_hands}
 
 -- what the rest gives, behind what was done, is what the whole gives
 pub record Onward (first now : Played) (all rest : List (List ℕ)) (done : List ℕ) : Type 0 where

@@ -1,16 +1,10 @@
 -- What is told in a schedule of a text that the reader refuses, and of want of memory.
-use Rattle.std.proofs.Common.{◌≡◌, ◌⊎◌, ◌∙◌, inl, inr, refl, sym, ap, subst, List, ℕ, Option, Some, Result, codes}
-use Rattle.ghc_term.specs.declared.fault.Fault.{Fault}
+use Rattle.ghc_console.proofs.Words.{◌≡◌, ◌⊎◌, ◌∙◌, inl, inr, refl, sym, ap, subst, List, ℕ, Option, Some, Result, codes, Fault, a_term, an_ask, IsRefusal, reply_of, refused, Refused, WritesFront, IsAskedOf, IsGiven, reply_text}
 use Rattle.ghc_term.specs.declared.fault.Fault.TheVariants as fault
-use Rattle.ghc_reader.specs.Tests.{a_term, an_ask, IsRefusal}
-use Rattle.ghc_core.specs.EventCode.{reply_of}
-use Rattle.ghc_core.specs.Events.{refused}
 use Rattle.ghc_core.specs.declared.reply.Reply.{Reply}
-use Rattle.ghc_core.specs.declared.reply.Reply.TheVariants.{Refused}
 use Rattle.ghc_core.specs.declared.world.World.{World as Played}
-use Rattle.ghc_console.specs.Device.{WritesFront}
 use Rattle.ghc_console.specs.TextLines.{refusal}
-use Rattle.ghc_console.specs.ScheduleReplies.{IsAskedOf, IsGiven, reply_text, unasked, unread}
+use Rattle.ghc_console.specs.ScheduleReplies.{unasked, unread}
 
 -- A text that the reader refuses is given to no stream.
 pub given_refused : (old : Played) (k : ℕ) (given : List ℕ) (f : Fault) → (f ≡ fault.Memory) ⊎ IsRefusal a_term given f → IsGiven k given old (Some (refused f)) old

@@ -1,18 +1,6 @@
 -- What it is to have served a line.
-use Rattle.std.proofs.Common.{◌≡◌, ◌≤◌, ℕ, Bool, true, false, Option, List, length, take, refl, sym, subst}
-use Rattle.std.specs.Prelude.{Result, Ok, Err, MatchResult}
-use Rattle.std.specs.Io.KnownBytes.{Appends}
+use Rattle.ghc_console.proofs.Words.{◌≡◌, ◌≤◌, ℕ, Bool, true, false, Option, List, length, take, refl, sym, subst, Result, Ok, Err, MatchResult, Appends, GoalName, AsksForRun, HasRun, IsAnsweredBy, ServesSo, command_of, Counts, WritesFront, line_limit, IsReply, refusal, Served, SessionState, Answered, Told as told, Ends as ends, Asks as asks}
 use Rattle.ghc_term.specs.declared.fault.Fault.TheVariants as fault
-use Rattle.ghc_term.specs.declared.goal_name.GoalName.{GoalName}
-use Rattle.ghc_console.specs.Answered.{AsksForRun, HasRun, IsAnsweredBy, ServesSo}
-use Rattle.ghc_console.specs.Commands.{command_of}
-use Rattle.ghc_console.specs.Device.{Counts, WritesFront}
-use Rattle.ghc_console.specs.Reading.{line_limit}
-use Rattle.ghc_console.specs.Replies.{IsReply, refusal}
-use Rattle.ghc_console.specs.Session.{Served}
-use Rattle.ghc_console.specs.SessionState.{SessionState}
-use Rattle.ghc_console.specs.declared.answered.Answered.{Answered}
-use Rattle.ghc_console.specs.declared.answered.Answered.TheVariants.{Told as told, Ends as ends, Asks as asks}
 use Rattle.ghc_console.proofs.RunCommands.{run_replied}
 
 -- what is said of the answer to a line, with the text that was written for it

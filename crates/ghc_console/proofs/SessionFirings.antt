@@ -1,15 +1,7 @@
 -- How many firings a session has come to.
-use Rattle.std.proofs.Common.{◌≡◌, ◌≤◌, ◌+◌, ◌∙◌, ℕ, Option, None, Some, IfSome, List, [], ◌∷◌, inl, inr, ap, arith}
-use Rattle.std.proofs.lemmas.List.Sums.{sum_by-append}
+use Rattle.ghc_console.proofs.Words.{◌≡◌, ◌≤◌, ◌+◌, ◌∙◌, ℕ, Option, None, Some, IfSome, List, [], ◌∷◌, inl, inr, ap, arith, sum_by-append, Command, command_of, Fires, FiresInObeying, firings_in, firings_of, firings_of_obeying, runs_in, runs_of, lines_of, TakesLine, LineCommand, Nothing, Step, Obey, Show, Records, Goals, Why, Who, Shelf, Save, SaveSteps, Spy, Unspy, Input, Ask, Leap, Skip, Quit, Unknown}
 use Rattle.ghc_core.specs.CommandCode.{command_of as core_command_of}
-use Rattle.ghc_core.specs.Events.{Command}
 use Rattle.ghc_core.specs.Events as command
-use Rattle.ghc_console.specs.Commands.{command_of}
-use Rattle.ghc_console.specs.Firing.{Fires, FiresInObeying, firings_in, firings_of, firings_of_obeying, runs_in, runs_of}
-use Rattle.ghc_console.specs.Lines.{lines_of}
-use Rattle.ghc_console.specs.Reading.{TakesLine}
-use Rattle.ghc_console.specs.declared.command.LineCommand.{LineCommand}
-use Rattle.ghc_console.specs.declared.command.LineCommand.TheVariants.{Nothing, Step, Obey, Show, Records, Goals, Why, Who, Shelf, Save, SaveSteps, Spy, Unspy, Input, Ask, Leap, Skip, Quit, Unknown}
 
 -- obeying a command of the core may fire nothing
 pub obeys_nothing : (c : Command) (m n : ℕ) → n ≡ m → FiresInObeying c m n

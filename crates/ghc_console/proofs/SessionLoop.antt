@@ -1,13 +1,5 @@
 -- How far a session has come.
-use Rattle.std.proofs.Common.{◌≡◌, ◌≤◌, ◌+◌, ◌-◌, ℕ, Bool, true, false, Option, None, Some, List, [], ◌++◌, length, inl, inr, take, refl, sym, ap, ◌∙◌, subst, append_assoc, append-nil, length-append, arith}
-use Rattle.std.proofs.Math.Seq.{take-append_seam}
-use Rattle.std.specs.Io.KnownBytes.{Appends, IsAtEnd, Keeps, prepend_known}
-use Rattle.std.proofs.KnownBytes.{Appends-trans, Appends-kept, Appends-nil}
-use Rattle.ghc_console.specs.Lines.{line_feeds, lines_of}
-use Rattle.ghc_console.specs.Reading.{AsksAtNeed, CountsGiven, TakesFirst, TakesLine}
-use Rattle.ghc_console.specs.Replies.{IsReply}
-use Rattle.ghc_console.specs.SessionState.{SessionState}
-use Rattle.ghc_console.specs.Session.{Session, Began, Tells, at_end, ends, goes_on, nothing_yet, broken, went_on}
+use Rattle.ghc_console.proofs.Words.{◌≡◌, ◌≤◌, ◌+◌, ◌-◌, ℕ, Bool, true, false, Option, None, Some, List, [], ◌++◌, length, inl, inr, take, refl, sym, ap, ◌∙◌, subst, append_assoc, append-nil, length-append, arith, take-append_seam, Appends, IsAtEnd, Keeps, prepend_known, Appends-trans, Appends-kept, Appends-nil, line_feeds, lines_of, AsksAtNeed, CountsGiven, TakesFirst, TakesLine, IsReply, SessionState, Session, Began, Tells, at_end, ends, goes_on, nothing_yet, broken, went_on}
 use Rattle.ghc_console.proofs.Rows.{feeds_append, feeds_plain}
 
 -- what the rest gives, behind `count` lines and what was done, is what the whole gives

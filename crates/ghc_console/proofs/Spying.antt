@@ -1,9 +1,5 @@
 -- What commands leave spied.
-use Rattle.std.proofs.Common.{◌≡◌, ◌↔◌, ℕ, Bool, false, not, eqb, IsTrue, List, [], ◌∷◌, length, inl, refl, sym, ap, ◌∙◌, rules, Result, Ok, Err, OnOk}
-use Rattle.std.proofs.lemmas.Bool.{false≢true}
-use Rattle.ghc_flat.specs.Clause.{Program}
-use Rattle.ghc_flat.specs.Numbers.{AreNumbersFor}
-use Rattle.ghc_console.specs.SessionState.{HasClauseFor}
+use Rattle.ghc_console.proofs.Words.{◌≡◌, ◌↔◌, ℕ, Bool, false, not, eqb, IsTrue, List, [], ◌∷◌, length, inl, refl, sym, ap, ◌∙◌, rules, Result, Ok, Err, OnOk, false≢true, Program, AreNumbersFor, HasClauseFor}
 
 -- What holds is known of an answer too.
 pub always : {T E : Type 0} (r : Result T E) {P : Type 0} → P → OnOk r P

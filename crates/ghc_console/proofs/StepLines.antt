@@ -1,19 +1,6 @@
 -- The lines that say `step`, a space and the name of a goal, and nothing else.
-use Rattle.std.proofs.Common.{◌≡◌, ◌≢◌, ℕ, Bool, true, false, cond, eqb, leb, not, ◌&&◌, ◌||◌, All, Option, Some, None, List, [], ◌∷◌, ◌++◌, filter, get_or, length, take, drop, suc, refl, sym, ap, ap₂, subst, ◌∙◌, arith, bytes_eq, codes}
-use Rattle.std.specs.Prelude.{IfSome}
-use Rattle.std.specs.Char.{is_ascii_digit}
-use Rattle.std.specs.List.{AllPass, join_with_byte, list_all, slice_split}
-use Rattle.std.specs.Str.Parse.{digits_value}
-use Rattle.std.proofs.lemmas.Bool.{ne_eqb}
+use Rattle.ghc_console.proofs.Words.{◌≡◌, ◌≢◌, ℕ, Bool, true, false, cond, eqb, leb, not, ◌&&◌, ◌||◌, All, Option, Some, None, List, [], ◌∷◌, ◌++◌, filter, get_or, length, take, drop, suc, refl, sym, ap, ap₂, subst, ◌∙◌, arith, bytes_eq, codes, IfSome, is_ascii_digit, AllPass, join_with_byte, list_all, slice_split, digits_value, ne_eqb, All-append, All-cons, join_with_byte-slice_split, AllPass-from_list_all, list_all-from_AllPass, bytes_eq-Decides, GoalName, goal_name_of, goal_named, goal_of_parts, is_printable, number_of, words_of, command_of, command_of_words, step_with, Step, Unknown}
 use Rattle.std.proofs.lemmas.List.{take-append-drop}
-use Rattle.std.proofs.lemmas.List.Elements.{All-append, All-cons}
-use Rattle.std.proofs.lemmas.List.Splits.{join_with_byte-slice_split}
-use Rattle.std.proofs.lemmas.List.Sums.{AllPass-from_list_all, list_all-from_AllPass}
-use Rattle.std.proofs.lemmas.Slice.Eq.{bytes_eq-Decides}
-use Rattle.ghc_term.specs.declared.goal_name.GoalName.{GoalName}
-use Rattle.ghc_console.specs.Words.{goal_name_of, goal_named, goal_of_parts, is_printable, number_of, words_of}
-use Rattle.ghc_console.specs.Commands.{command_of, command_of_words, step_with}
-use Rattle.ghc_console.specs.declared.command.LineCommand.TheVariants.{Step, Unknown}
 use Rattle.ghc_console.proofs.WordLemmas.{filled, split-last}
 
 -- a byte of the name of a goal: a digit or a point

@@ -1,25 +1,8 @@
 -- What the texts of replies say.
-use Rattle.std.proofs.Common.{◌≡◌, ◌≢◌, ◌⊎◌, ◌<◌, inl, inr, refl, sym, subst, subst₂, ap, ◌∙◌, List, [], ◌∷◌, ◌++◌, append_assoc, ℕ, length, codes, Result, Ok, Err, IfOk, OnOk, OnErr, MatchResult, Option}
-use Rattle.ghc_term.specs.declared.fault.Fault.{Fault}
+use Rattle.ghc_console.proofs.Words.{◌≡◌, ◌≢◌, ◌⊎◌, ◌<◌, inl, inr, refl, sym, subst, subst₂, ap, ◌∙◌, List, [], ◌∷◌, ◌++◌, append_assoc, ℕ, length, codes, Result, Ok, Err, IfOk, OnOk, OnErr, MatchResult, Option, Fault, GoalName, VarName, variable, value_at, IsTextOf, Proposal, Record, World, Comes as comes, Coming, IsCommitOf, StepFails, Port, port_text, ports_text, LinesAreOfGoals, AreGoalLines, HasTooLong, IsVariableNamed, Settled, TellsChange, takes, full, RepliesToStep, steps, fails, RepliesToShow, too_long, RepliesToGoals, no_goals, lists, goal_too_long, lined, refusal, print_limit}
 use Rattle.ghc_term.specs.declared.fault.Fault.TheVariants as fault
-use Rattle.ghc_term.specs.declared.goal_name.GoalName.{GoalName}
 use Rattle.ghc_term.specs.declared.limit.Limit.TheVariants as limit
-use Rattle.ghc_term.specs.declared.var_name.VarName.{VarName}
-use Rattle.ghc_term.specs.Tree.{variable}
-use Rattle.ghc_term.specs.Store.{value_at}
-use Rattle.ghc_term.specs.Resolved.{IsTextOf}
-use Rattle.ghc_fire.specs.Proposal.{Proposal}
-use Rattle.ghc_records.specs.Record.{Record}
-use Rattle.ghc_core.specs.World.{World}
-use Rattle.ghc_core.specs.declared.change.Change.TheVariants.{Comes as comes}
-use Rattle.ghc_core.specs.declared.change.Coming.{Coming}
-use Rattle.ghc_core.specs.Proposes.{IsCommitOf, StepFails}
-use Rattle.ghc_trace.specs.Ports.{Port}
-use Rattle.ghc_trace.specs.PortText.{port_text, ports_text}
-use Rattle.ghc_trace.specs.GoalLaws.{LinesAreOfGoals}
-use Rattle.ghc_trace.specs.GoalLines.{AreGoalLines, HasTooLong}
-use Rattle.ghc_console.specs.VariableNamed.{IsVariableNamed}
-use Rattle.ghc_console.specs.Replies.{Settled, TellsChange, Takes, takes, full, RepliesToStep, steps, fails, RepliesToShow, too_long, RepliesToGoals, no_goals, lists, goal_too_long, lined, refusal, print_limit}
+use Rattle.ghc_console.specs.Replies.{Takes}
 
 -- What is known of an answer leads to more about it.
 pub if_ok : {T E : Type 0} (r : Result T E) {P Q R : T → Type 0} → IfOk r P → IfOk r Q → ((t : T) → P t → Q t → R t) → IfOk r R

@@ -1,15 +1,6 @@
 -- Lemmas on words, numbers and names of goals.
-use Rattle.std.proofs.Common.{◌≡◌, ◌≢◌, ℕ, ◌+◌, ◌-◌, ◌*◌, ◌≤◌, Bool, true, false, cond, eqb, All, Option, Some, None, inl, inr, ◌⊎◌, List, [], ◌&&◌, ◌<◌, not, leb, zero, suc, length, filter, get_or, take, drop, ◌∷◌, ◌++◌, refl, sym, ap, ◌∙◌, arith, rules}
-use Rattle.std.proofs.lemmas.Bool.{eq-eqb, eqb-true, false≢true, ne_eqb}
-use Rattle.std.proofs.lemmas.List.{take_rest, drop-drop}
-use Rattle.std.proofs.lemmas.List.Splits.{slice_split-cons_no, slice_split-cons_yes, slice_split_at, slice_split_none}
-use Rattle.std.specs.Char.{digit_value, is_ascii_digit}
-use Rattle.std.specs.List.{list_all, slice_split, onto_first}
-use Rattle.std.specs.Str.Parse.{digits_value, digits_value_after}
-use Rattle.std.specs.Str.{IsAscii}
-use Rattle.ghc_term.specs.InputTerm.{is_name_byte}
+use Rattle.ghc_console.proofs.Words.{◌≡◌, ◌≢◌, ℕ, ◌+◌, ◌-◌, ◌*◌, ◌≤◌, Bool, true, false, cond, eqb, All, Option, Some, None, inl, inr, ◌⊎◌, List, [], ◌&&◌, ◌<◌, not, leb, zero, suc, length, filter, get_or, take, drop, ◌∷◌, ◌++◌, refl, sym, ap, ◌∙◌, arith, rules, eq-eqb, eqb-true, false≢true, ne_eqb, take_rest, drop-drop, slice_split-cons_no, slice_split-cons_yes, slice_split_at, slice_split_none, digit_value, is_ascii_digit, list_all, slice_split, onto_first, digits_value, digits_value_after, IsAscii, is_name_byte, goal_name_of, goal_named, goal_of_parts, is_variable, number_of, words_of}
 use Rattle.std.proofs.Math.Seq.{drop-cons}
-use Rattle.ghc_console.specs.Words.{goal_name_of, goal_named, goal_of_parts, is_variable, number_of, words_of}
 
 -- the test that finds a byte says no of every other
 pub none_passes : (wanted : ℕ) (bytes : List ℕ) → All (λ b. b ≢ wanted) bytes → All (λ b. eqb b wanted ≡ false) bytes

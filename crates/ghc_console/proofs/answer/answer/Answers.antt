@@ -1,11 +1,5 @@
-use Rattle.std.proofs.Common.{◌≤◌, length, string_bytes, refl, sym, subst, ◌∙◌, false, IfOk}
-use Rattle.ghc_console.specs.Reading.{LineSays, line_limit}
-use Rattle.ghc_console.specs.Answered.{IsAnsweredBy}
-use Rattle.ghc_console.specs.Replies.{IsReply, too_long, no_memory, refusal}
+use Rattle.ghc_console.proofs.Words.{◌≤◌, length, string_bytes, refl, sym, subst, ◌∙◌, false, IfOk, LineSays, line_limit, IsAnsweredBy, IsReply, too_long, no_memory, refusal, command_of, state_of, Fires}
 use Rattle.ghc_term.specs.declared.fault.Fault.TheVariants as fault
-use Rattle.ghc_console.specs.Commands.{command_of}
-use Rattle.ghc_console.specs.SessionState.{state_of}
-use Rattle.ghc_console.specs.Firing.{Fires}
 use Rattle.ghc_console.proofs.SessionFirings.{fires_nothing}
 use Rattle.ghc_console.proofs.StepReplies.{either}
 use Rattle.ghc_console.proofs.answer.answer.Goals as goal

@@ -1,5 +1,4 @@
-use Rattle.std.proofs.Common.{None, refl, sym, subst}
-use Rattle.ghc_console.specs.Answered.{AsksForRun, leap_asks}
+use Rattle.ghc_console.proofs.Words.{None, refl, sym, subst, AsksForRun, leap_asks}
 use Rattle.ghc_console.proofs.answer.execute.Goals as goal
 
 pub returns-in-Leap-clause-answered : goal.returns-in-Leap-clause-answered

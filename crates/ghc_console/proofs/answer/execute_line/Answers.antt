@@ -1,6 +1,4 @@
-use Rattle.std.proofs.Common.{string_bytes, subst}
-use Rattle.ghc_console.specs.Answered.{IsCommandAnsweredBy}
-use Rattle.ghc_console.specs.SessionState.{state_of}
+use Rattle.ghc_console.proofs.Words.{string_bytes, subst, IsCommandAnsweredBy, state_of}
 use Rattle.ghc_console.proofs.RunCommands.{line_answered}
 use Rattle.ghc_console.proofs.StepReplies.{if_ok}
 use Rattle.ghc_console.proofs.answer.execute_line.Goals as goal

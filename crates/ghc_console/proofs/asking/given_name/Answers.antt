@@ -1,6 +1,4 @@
-use Rattle.std.proofs.Common.{◌≡◌, ◌≢◌, ◌<◌, length, subst, refl}
-use Rattle.std.specs.Prelude.{All, HoldsAt, codes}
-use Rattle.ghc_term.proofs.ListsLemmas.{not_both}
+use Rattle.ghc_console.proofs.Words.{◌≡◌, ◌≢◌, ◌<◌, length, subst, refl, All, HoldsAt, codes, not_both}
 use Rattle.ghc_console.proofs.GivenNames.{given, none_given}
 use Rattle.ghc_console.proofs.asking.given_name.Goals as goal
 

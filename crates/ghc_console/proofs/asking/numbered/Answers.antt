@@ -1,7 +1,4 @@
-use Rattle.std.proofs.Common.{◌≡◌, ◌∙◌, ◌+◌, ◌∷◌, take, ap, sym}
-use Rattle.std.proofs.lemmas.List.{take_rest}
-use Rattle.ghc_console.specs.VariableNamed.{numbered_of, variable_numbered}
-use Rattle.ghc_console.specs.Words.{number_of}
+use Rattle.ghc_console.proofs.Words.{◌≡◌, ◌∙◌, ◌+◌, ◌∷◌, take, ap, sym, take_rest, numbered_of, variable_numbered, number_of}
 use Rattle.ghc_console.proofs.NumberedWords.{one_bar, two_bars}
 use Rattle.ghc_console.proofs.asking.numbered.Goals as goal
 

@@ -1,7 +1,4 @@
-use Rattle.std.proofs.Common.{◌≡◌, ◌∙◌, Some, None, inl, inr, subst, sym}
-use Rattle.ghc_term.proofs.ListsLemmas.{not_both}
-use Rattle.ghc_records.specs.Replay.{IsVariableOf}
-use Rattle.ghc_console.specs.VariableNamed.{IsGivenName}
+use Rattle.ghc_console.proofs.Words.{◌≡◌, ◌∙◌, Some, None, inl, inr, subst, sym, not_both, IsVariableOf, IsGivenName}
 use Rattle.ghc_console.proofs.asking.variable_named.Goals as goal
 
 pub returns-in_default-numbered-clause-none : goal.returns-in_default-numbered-clause-none

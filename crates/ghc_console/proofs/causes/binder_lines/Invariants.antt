@@ -1,6 +1,4 @@
-use Rattle.std.proofs.Common.{◌≡◌, ◌++◌, map, drop, string_bytes}
-use Rattle.ghc_trace.specs.Who.{binder_text}
-use Rattle.ghc_console.specs.Replies.{text_lines}
+use Rattle.ghc_console.proofs.Words.{◌≡◌, ◌++◌, map, drop, string_bytes, binder_text, text_lines}
 use Rattle.ghc_console.proofs.causes.binder_lines.Given as goal
 
 abbrev pub invariant-loop-binder : goal.invariant-loop-binder

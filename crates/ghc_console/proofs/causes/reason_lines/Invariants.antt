@@ -1,6 +1,4 @@
-use Rattle.std.proofs.Common.{◌≡◌, ◌++◌, map, drop, string_bytes}
-use Rattle.ghc_trace.specs.ReasonText.{reason_text}
-use Rattle.ghc_console.specs.Replies.{text_lines}
+use Rattle.ghc_console.proofs.Words.{◌≡◌, ◌++◌, map, drop, string_bytes, reason_text, text_lines}
 use Rattle.ghc_console.proofs.causes.reason_lines.Given as goal
 
 abbrev pub invariant-loop-reason : goal.invariant-loop-reason

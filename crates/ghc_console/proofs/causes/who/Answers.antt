@@ -1,8 +1,4 @@
-use Rattle.std.proofs.Common.{◌≡◌, ◌++◌, List, ℕ, map, sym, subst, ap, ◌∙◌, string_bytes}
-use Rattle.ghc_term.specs.declared.var_name.VarName.{VarName}
-use Rattle.ghc_trace.specs.Who.{binder_text}
-use Rattle.ghc_console.specs.VariableNamed.{IsVariableNamed}
-use Rattle.ghc_console.specs.Replies.{RepliesToWho, tells_binders, names_nothing, text_lines}
+use Rattle.ghc_console.proofs.Words.{◌≡◌, ◌++◌, List, ℕ, map, sym, subst, ap, ◌∙◌, string_bytes, VarName, binder_text, IsVariableNamed, RepliesToWho, tells_binders, names_nothing, text_lines}
 use Rattle.ghc_console.proofs.CauseReplies.{lines_told}
 use Rattle.ghc_console.proofs.StepReplies.{if_ok}
 use Rattle.ghc_console.proofs.causes.who.Goals as goal

@@ -1,6 +1,4 @@
-use Rattle.std.proofs.Common.{◌≡◌, ◌⊎◌, length}
-use Rattle.ghc_console.specs.LineMemory.{BeginsWithNumber}
-use Rattle.ghc_console.specs.Words.{numbers_of, words_of}
+use Rattle.ghc_console.proofs.Words.{◌≡◌, ◌⊎◌, length, BeginsWithNumber, numbers_of, words_of}
 use Rattle.ghc_console.proofs.Ordering.{behind}
 use Rattle.ghc_console.proofs.command.arrange_command.Given as goal
 

@@ -1,8 +1,4 @@
-use Rattle.std.proofs.Common.{subst, string_bytes}
-use Rattle.ghc_hooks.specs.Notes.{NotesByGoal}
-use Rattle.ghc_core.specs.Change.{IsBoundBy}
-use Rattle.ghc_trace.specs.Disturbed.{AreDisturbed}
-use Rattle.ghc_trace.specs.Laws.{Brings}
+use Rattle.ghc_console.proofs.Words.{subst, string_bytes, NotesByGoal, IsBoundBy, AreDisturbed, Brings}
 use Rattle.ghc_console.proofs.StepReplies.{if_ok}
 use Rattle.ghc_console.proofs.obey_reply.carry_out.Goals as goal
 

@@ -1,8 +1,4 @@
-use Rattle.std.proofs.Common.{IfOk, sym, subst}
-use Rattle.ghc_core.specs.Change.{IsBoundBy}
-use Rattle.ghc_core.specs.declared.change.Change.{Change}
-use Rattle.ghc_trace.specs.Disturbed.{AreDisturbed}
-use Rattle.ghc_trace.specs.Laws.{Brings}
+use Rattle.ghc_console.proofs.Words.{IfOk, sym, subst, IsBoundBy, Change, AreDisturbed, Brings}
 use Rattle.ghc_console.proofs.obey_reply.disturbed_by.Goals as goal
 
 pub returns-in-Goes : goal.returns-in-Goes

@@ -1,5 +1,4 @@
-use Rattle.std.proofs.Common.{string_bytes}
-use Rattle.ghc_console.specs.Replies.{reads}
+use Rattle.ghc_console.proofs.Words.{string_bytes, reads}
 use Rattle.ghc_console.proofs.ObeyReplies.{text_refused}
 use Rattle.ghc_console.proofs.StepReplies.{if_ok, on_ok}
 use Rattle.ghc_console.proofs.obey_reply.input.Goals as goal

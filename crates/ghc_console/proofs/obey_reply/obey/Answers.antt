@@ -1,8 +1,5 @@
-use Rattle.std.proofs.Common.{sym, subst, refl, ◌∙◌, string_bytes}
-use Rattle.ghc_core.specs.World.{World}
-use Rattle.ghc_core.specs.Change.{CanChange}
+use Rattle.ghc_console.proofs.Words.{sym, subst, refl, ◌∙◌, string_bytes, World, CanChange, IsObeyed, TellsChange, obeys}
 use Rattle.ghc_core.specs.CommandCode.{command_of}
-use Rattle.ghc_console.specs.Replies.{IsObeyed, TellsChange, obeys}
 use Rattle.ghc_console.proofs.ObeyReplies.{command_refused, fires_as_counted, opening_left}
 use Rattle.ghc_console.proofs.SessionFirings.{obeys_nothing}
 use Rattle.ghc_console.proofs.StepReplies.{if_ok, on_ok}

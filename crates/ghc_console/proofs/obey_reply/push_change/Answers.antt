@@ -1,9 +1,4 @@
-use Rattle.std.proofs.Common.{◌≡◌, List, sym, subst, string_bytes}
-use Rattle.ghc_records.specs.Record.{Record}
-use Rattle.ghc_core.specs.declared.change.Change.{Change}
-use Rattle.ghc_trace.specs.Ports.{Port, ArePorts}
-use Rattle.ghc_trace.specs.PortText.{ports_text}
-use Rattle.ghc_console.specs.Replies.{IsFrontOf}
+use Rattle.ghc_console.proofs.Words.{◌≡◌, List, sym, subst, string_bytes, Record, Change, Port, ArePorts, ports_text, IsFrontOf}
 use Rattle.ghc_console.proofs.StepReplies.{on_ok}
 use Rattle.ghc_console.proofs.obey_reply.push_change.Goals as goal
 

@@ -1,8 +1,4 @@
-use Rattle.std.proofs.Common.{rules, ◌+◌, ◌++◌, map, drop, get_or, sym, ap, ◌∙◌, string_bytes}
-use Rattle.std.specs.Prelude.{codes}
-use Rattle.std.specs.Fmt.{decimal}
-use Rattle.std.proofs.lemmas.List.{drop_more}
-use Rattle.ghc_records.proofs.Listing.{led, led_next}
+use Rattle.ghc_console.proofs.Words.{rules, ◌+◌, ◌++◌, map, drop, get_or, sym, ap, ◌∙◌, string_bytes, codes, decimal, drop_more, led, led_next}
 use Rattle.ghc_console.proofs.obey_reply.write_numbers.Goals as goal
 
 pub loop-number-preserved : goal.loop-number-preserved

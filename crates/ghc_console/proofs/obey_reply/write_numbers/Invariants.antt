@@ -1,10 +1,6 @@
-use Rattle.std.proofs.Common.{◌≡◌, ◌++◌, map, drop, string_bytes}
-use Rattle.std.specs.Prelude.{codes}
-use Rattle.std.specs.Fmt.{decimal}
+use Rattle.ghc_console.proofs.Words.{◌≡◌, ◌++◌, map, drop, string_bytes, codes, decimal, led, numbers_text}
 use denote.Text.{Utf8}
 use denote.Shadow.{shadow}
-use Rattle.ghc_records.proofs.Listing.{led}
-use Rattle.ghc_console.specs.Replies.{numbers_text}
 use Rattle.ghc_console.proofs.obey_reply.write_numbers.Given as goal
 
 abbrev pub invariant-loop-number : goal.invariant-loop-number

@@ -1,7 +1,4 @@
-use Rattle.std.proofs.Common.{◌∙◌, ◌+◌, ap, drop, sym, take}
-use Rattle.std.proofs.lemmas.List.{take_rest}
-use Rattle.ghc_console.specs.PredicateWords.{predicate_named}
-use Rattle.ghc_console.specs.Words.{number_of}
+use Rattle.ghc_console.proofs.Words.{◌∙◌, ◌+◌, ap, drop, sym, take, take_rest, predicate_named, number_of}
 use Rattle.ghc_console.proofs.PredicateWordLemmas.{at_stroke, no_name, no_stroke, with_arity}
 use Rattle.ghc_console.proofs.predicate_words.predicate_parts.Goals as goal
 

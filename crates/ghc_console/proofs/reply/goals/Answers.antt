@@ -1,6 +1,4 @@
-use Rattle.std.proofs.Common.{◌≡◌, ◌++◌, sym, ap, subst, ◌∙◌, string_bytes, Err}
-use Rattle.ghc_trace.proofs.Telling.{none_untried}
-use Rattle.ghc_console.specs.Replies.{RepliesToGoals}
+use Rattle.ghc_console.proofs.Words.{◌≡◌, ◌++◌, sym, ap, subst, ◌∙◌, string_bytes, Err, none_untried, RepliesToGoals}
 use Rattle.ghc_console.proofs.StepReplies.{if_ok, goals_told, goals_refused}
 use Rattle.ghc_console.proofs.reply.goals.Goals as goal
 

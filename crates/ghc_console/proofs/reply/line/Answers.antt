@@ -1,5 +1,4 @@
-use Rattle.std.proofs.Common.{◌≡◌, ap, sym, ◌∙◌, inl, inr, string_bytes, refl}
-use Rattle.std.specs.Prelude.{Some, None}
+use Rattle.ghc_console.proofs.Words.{◌≡◌, ap, sym, ◌∙◌, inl, inr, string_bytes, refl, Some, None}
 use Rattle.std.specs.Option.{option_copied}
 use Rattle.ghc_console.proofs.RecordLines.{one_line}
 use Rattle.ghc_console.proofs.reply.line.Goals as goal

@@ -1,7 +1,4 @@
-use Rattle.std.proofs.Common.{◌≡◌, [], sym, ap, ◌∙◌, ◌++◌, drop, string_bytes, append-nil, drop_of_length-le, arith}
-use Rattle.ghc_records.specs.Slots.{held_in}
-use Rattle.ghc_records.proofs.SlotRanks.{rank, rank_zero, rank_end}
-use Rattle.ghc_console.specs.Replies.{record_lines}
+use Rattle.ghc_console.proofs.Words.{◌≡◌, [], sym, ap, ◌∙◌, ◌++◌, drop, string_bytes, append-nil, drop_of_length-le, arith, held_in, rank, rank_zero, rank_end, record_lines}
 use Rattle.ghc_console.proofs.RecordLines.{slot_on}
 use Rattle.ghc_console.proofs.reply.lines.Goals as goal
 

@@ -1,7 +1,4 @@
-use Rattle.std.proofs.Common.{◌≡◌, ◌++◌, drop, string_bytes}
-use Rattle.ghc_records.specs.Slots.{held_in}
-use Rattle.ghc_records.proofs.SlotRanks.{rank}
-use Rattle.ghc_console.specs.Replies.{record_lines}
+use Rattle.ghc_console.proofs.Words.{◌≡◌, ◌++◌, drop, string_bytes, held_in, rank, record_lines}
 use Rattle.ghc_console.proofs.reply.lines.Given as goal
 
 abbrev pub invariant-loop-place : goal.invariant-loop-place

@@ -1,6 +1,4 @@
-use Rattle.std.proofs.Common.{◌++◌, map, sym, ap, ◌∙◌}
-use Rattle.ghc_trace.specs.Ports.{resumed, taken_ports}
-use Rattle.ghc_trace.specs.PortText.{ports_text}
+use Rattle.ghc_console.proofs.Words.{◌++◌, map, sym, ap, ◌∙◌, resumed, taken_ports, ports_text}
 use Rattle.ghc_console.proofs.StepReplies.{ports_joined}
 use Rattle.ghc_console.proofs.reply.push_ports.Goals as goal
 

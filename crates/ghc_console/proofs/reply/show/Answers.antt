@@ -1,11 +1,4 @@
-use Rattle.std.proofs.Common.{◌≡◌, sym, subst, ap, ◌∙◌, Err, List, ℕ, ◌++◌, string_bytes}
-use Rattle.std.specs.Prelude.{codes}
-use Rattle.ghc_term.specs.Tree.{Tree, variable}
-use Rattle.ghc_term.specs.Store.{StoreValue, value_at}
-use Rattle.ghc_term.specs.Resolved.{IsTextOf}
-use Rattle.ghc_term.specs.declared.var_name.VarName.{VarName}
-use Rattle.ghc_console.specs.VariableNamed.{IsVariableNamed}
-use Rattle.ghc_console.specs.Replies.{RepliesToShow, shows, no_variable, lined}
+use Rattle.ghc_console.proofs.Words.{◌≡◌, sym, subst, ap, ◌∙◌, Err, List, ℕ, ◌++◌, string_bytes, codes, Tree, variable, StoreValue, value_at, IsTextOf, VarName, IsVariableNamed, RepliesToShow, shows, no_variable, lined}
 use Rattle.ghc_console.proofs.StepReplies.{if_ok, printed_refused}
 use Rattle.ghc_console.proofs.reply.show.Goals as goal
 

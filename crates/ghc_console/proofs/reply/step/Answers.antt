@@ -1,9 +1,4 @@
-use Rattle.std.proofs.Common.{sym, subst, string_bytes}
-use Rattle.ghc_core.specs.World.{World}
-use Rattle.ghc_core.specs.Change.{CanChange}
-use Rattle.ghc_core.specs.declared.change.Change.TheVariants.{Comes as comes}
-use Rattle.ghc_core.specs.declared.change.Coming.{Coming}
-use Rattle.ghc_console.specs.Replies.{RepliesToStep, TellsChange, steps}
+use Rattle.ghc_console.proofs.Words.{sym, subst, string_bytes, World, CanChange, Comes as comes, Coming, RepliesToStep, TellsChange, steps}
 use Rattle.ghc_console.proofs.StepReplies.{if_ok, on_ok, step_refused, step_taken}
 use Rattle.ghc_console.proofs.reply.step.Goals as goal
 

@@ -1,5 +1,4 @@
-use Rattle.std.proofs.Common.{◌∙◌, inl, inr}
-use Rattle.ghc_console.specs.RunReplies.{step_line}
+use Rattle.ghc_console.proofs.Words.{◌∙◌, inl, inr, step_line}
 use Rattle.ghc_console.proofs.RunLines.{one_told}
 use Rattle.ghc_console.proofs.run_lines.write_step.Goals as goal
 

@@ -1,9 +1,4 @@
-use Rattle.std.proofs.Common.{◌+◌, ◌-◌, ◌<◌, [], ◌∷◌, drop, map, sym, subst, ◌∙◌, arith}
-use Rattle.std.proofs.KnownBytes.{Keeps-trans}
-use Rattle.ghc_term.specs.Lists.{In}
-use Rattle.ghc_records.specs.Record.{numbers}
-use Rattle.ghc_records.specs.Orders.{AreDistinct}
-use Rattle.ghc_console.specs.RunReplies.{last_of, step_line}
+use Rattle.ghc_console.proofs.Words.{◌+◌, ◌-◌, ◌<◌, [], ◌∷◌, drop, map, sym, subst, ◌∙◌, arith, Keeps-trans, In, numbers, AreDistinct, last_of, step_line}
 use Rattle.ghc_console.proofs.RunLines.{Going, going_at, going_broken, going_end, going_on, is_there, none_left}
 use Rattle.ghc_console.proofs.run_lines.write_steps.Goals as goal
 

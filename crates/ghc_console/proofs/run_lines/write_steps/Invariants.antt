@@ -1,6 +1,4 @@
-use Rattle.std.proofs.Common.{◌≡◌, ◌≤◌, ◌-◌, drop, map}
-use Rattle.std.specs.Io.KnownBytes.{Keeps}
-use Rattle.ghc_console.specs.RunReplies.{last_of, step_line}
+use Rattle.ghc_console.proofs.Words.{◌≡◌, ◌≤◌, ◌-◌, drop, map, Keeps, last_of, step_line}
 use Rattle.ghc_console.proofs.RunLines.{Going}
 use Rattle.ghc_console.proofs.run_lines.write_steps.Given as goal
 

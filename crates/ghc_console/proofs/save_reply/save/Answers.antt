@@ -1,8 +1,4 @@
-use Rattle.std.proofs.Common.{◌≡◌, [], ◌++◌, ◌∙◌, ℕ, List, is_ok, if◌then◌else◌, Result, Ok, Err, OnOk, string_bytes}
-use Rattle.ghc_records.specs.Chronicle.{chronicle_of}
-use Rattle.ghc_records.specs.ChronicleText.{chronicle_text}
-use Rattle.ghc_trace.specs.Spies.{spies_in_order}
-use Rattle.ghc_console.specs.Replies.{saved_text}
+use Rattle.ghc_console.proofs.Words.{◌≡◌, [], ◌++◌, ◌∙◌, ℕ, List, is_ok, if◌then◌else◌, Result, Ok, Err, OnOk, string_bytes, chronicle_of, chronicle_text, spies_in_order, saved_text}
 use Rattle.ghc_console.proofs.save_reply.save.Goals as goal
 
 -- a text that was added to none is told

@@ -1,11 +1,7 @@
-use Rattle.std.proofs.Common.{◌≡◌, ℕ, ◌++◌, List, [], Result, Ok, Err, is_ok, if◌then◌else◌, OnOk, inr, inl, sym, subst, ap, ◌∙◌, string_bytes}
+use Rattle.ghc_console.proofs.Words.{◌≡◌, ℕ, ◌++◌, List, [], Result, Ok, Err, is_ok, if◌then◌else◌, OnOk, inr, inl, sym, subst, ap, ◌∙◌, string_bytes, history_text, World, AskForGoals, history_of, RepliesToSaveSteps, tells_history, has_asked}
 use Rattle.ghc_term.specs.declared.fault.Fault.TheVariants as fault
 use Rattle.ghc_term.specs.declared.limit.Limit.TheVariants as limit
-use Rattle.ghc_records.specs.HistoryText.{history_text}
-use Rattle.ghc_core.specs.World.{World}
-use Rattle.ghc_core.specs.Load.{AskForGoals, history_of}
 use Rattle.ghc_console.specs.TextLines.{refusal}
-use Rattle.ghc_console.specs.Replies.{RepliesToSaveSteps, tells_history, has_asked}
 use Rattle.ghc_console.proofs.StepReplies.{if_ok}
 use Rattle.ghc_console.proofs.save_reply.save_steps.Goals as goal
 

@@ -1,6 +1,4 @@
-use Rattle.std.proofs.Common.{◌≡◌, length}
-use Rattle.std.specs.Io.KnownBytes.{Keeps}
-use Rattle.ghc_console.specs.Lines.{lines_of}
+use Rattle.ghc_console.proofs.Words.{◌≡◌, length, Keeps, lines_of}
 use Rattle.ghc_console.proofs.SchedulePlays.{Going}
 use Rattle.ghc_console.proofs.schedule_play.play_lines.Given as goal
 

@@ -1,7 +1,4 @@
-use Rattle.std.proofs.Common.{[], sym, subst}
-use Rattle.std.proofs.KnownBytes.{Appends-nil}
-use Rattle.ghc_console.specs.Lines.{lines_of}
-use Rattle.ghc_console.specs.ScheduleText.{ArePlayedOut, nothing_more, with_hands}
+use Rattle.ghc_console.proofs.Words.{[], sym, subst, Appends-nil, lines_of, ArePlayedOut, nothing_more, with_hands}
 use Rattle.ghc_console.proofs.SchedulePlays.{opened}
 use Rattle.ghc_console.proofs.schedule_play.schedule.Goals as goal
 

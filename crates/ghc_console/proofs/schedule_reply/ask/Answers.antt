@@ -1,7 +1,4 @@
-use Rattle.std.proofs.Common.{refl, subst}
-use Rattle.ghc_core.specs.Core.{Core}
-use Rattle.ghc_core.specs.EventCode.{reply_of}
-use Rattle.ghc_console.specs.AskedFor.{IsReadAskFor}
+use Rattle.ghc_console.proofs.Words.{refl, subst, Core, reply_of, IsReadAskFor}
 use Rattle.ghc_console.specs.ScheduleReplies.{asks}
 use Rattle.ghc_console.proofs.ScheduleSaid.{ask_refused}
 use Rattle.ghc_console.proofs.schedule_reply.ask.Goals as goal

@@ -1,7 +1,4 @@
-use Rattle.std.proofs.Common.{◌∙◌, ap, sym, subst, Some}
-use Rattle.ghc_core.specs.EventCode.{reply_of}
-use Rattle.ghc_console.specs.declared.command.LineCommand.TheVariants.{Input as input, Ask as ask}
-use Rattle.ghc_console.specs.ScheduleReplies.{PlaysCommand}
+use Rattle.ghc_console.proofs.Words.{◌∙◌, ap, sym, subst, Some, reply_of, Input as input, Ask as ask, PlaysCommand}
 use Rattle.ghc_console.proofs.schedule_reply.carry_out.Goals as goal
 
 pub returns-in-Input : goal.returns-in-Input

@@ -1,6 +1,4 @@
-use Rattle.std.proofs.Common.{option_map, rules, subst}
-use Rattle.ghc_core.specs.EventCode.{reply_of}
-use Rattle.ghc_console.specs.ScheduleReplies.{IsDoneBy, does}
+use Rattle.ghc_console.proofs.Words.{option_map, rules, subst, reply_of, IsDoneBy, does}
 use Rattle.ghc_console.proofs.schedule_reply.hear.Goals as goal
 
 pub returns-in-AsConsole : goal.returns-in-AsConsole

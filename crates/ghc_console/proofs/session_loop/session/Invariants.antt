@@ -1,7 +1,4 @@
-use Rattle.std.proofs.Common.{◌≡◌, ◌+◌, ◌-◌}
-use Rattle.std.specs.Io.KnownBytes.{prepend_known}
-use Rattle.ghc_console.specs.Reading.{CountsGiven}
-use Rattle.ghc_console.specs.SessionState.{state_of}
+use Rattle.ghc_console.proofs.Words.{◌≡◌, ◌+◌, ◌-◌, prepend_known, CountsGiven, state_of}
 use Rattle.ghc_console.proofs.SessionFirings.{FiredSo}
 use Rattle.ghc_console.proofs.SessionLoop.{Going}
 use Rattle.ghc_console.proofs.session_loop.session.Given as goal

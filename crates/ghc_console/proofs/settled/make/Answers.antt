@@ -1,5 +1,4 @@
-use Rattle.std.proofs.Common.{subst, string_bytes}
-use Rattle.ghc_console.specs.Replies.{Settled}
+use Rattle.ghc_console.proofs.Words.{subst, string_bytes, Settled}
 use Rattle.ghc_console.proofs.settled.make.Goals as goal
 
 pub returns-clause-told : goal.returns-clause-told

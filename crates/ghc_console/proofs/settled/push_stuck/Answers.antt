@@ -1,8 +1,4 @@
-use Rattle.std.proofs.Common.{rules, ◌≡◌, ◌++◌, [], sym, ap, subst, ◌∙◌, append-nil, string_bytes}
-use Rattle.std.proofs.lemmas.List.{nil_from_length}
-use Rattle.ghc_trace.specs.Disturbed.{AreStuckOtherwise}
-use Rattle.ghc_trace.specs.News.{news_text}
-use Rattle.ghc_console.specs.Told.{IsJustChanged}
+use Rattle.ghc_console.proofs.Words.{rules, ◌≡◌, ◌++◌, [], sym, ap, subst, ◌∙◌, append-nil, string_bytes, nil_from_length, AreStuckOtherwise, news_text, IsJustChanged}
 use Rattle.ghc_console.proofs.Settling.{appended, told_by_notes}
 use Rattle.ghc_console.proofs.settled.push_stuck.Goals as goal
 

@@ -1,6 +1,5 @@
-use Rattle.std.proofs.Common.{◌++◌, sym, ap, subst, ◌∙◌, string_bytes, arith}
+use Rattle.ghc_console.proofs.Words.{◌++◌, sym, ap, subst, ◌∙◌, string_bytes, arith, Settled, unsettled, refusal}
 use Rattle.ghc_term.specs.declared.fault.Fault.TheVariants as fault
-use Rattle.ghc_console.specs.Replies.{Settled, unsettled, refusal}
 use Rattle.ghc_console.proofs.Settling.{put, where_refused}
 use Rattle.ghc_console.proofs.settled.tell_stuck.Goals as goal
 

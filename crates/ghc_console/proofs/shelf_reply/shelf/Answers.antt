@@ -1,6 +1,5 @@
-use Rattle.std.proofs.Common.{◌≡◌, ◌++◌, ap, ◌∙◌, string_bytes}
+use Rattle.ghc_console.proofs.Words.{◌≡◌, ◌++◌, ap, ◌∙◌, string_bytes, steps_told, text_lines}
 use Rattle.std.specs.FinMap as finite
-use Rattle.ghc_console.specs.Replies.{steps_told, text_lines}
 use Rattle.ghc_console.proofs.CauseReplies.{lines_told}
 use Rattle.ghc_console.proofs.StepReplies.{if_ok}
 use Rattle.ghc_console.proofs.shelf_reply.shelf.Goals as goal

@@ -1,9 +1,5 @@
-use Rattle.std.proofs.Common.{◌↔◌, IsTrue, ap, refl, subst, sym, ◌∙◌}
-use Rattle.std.proofs.lemmas.Bool.{false≢true}
+use Rattle.ghc_console.proofs.Words.{◌↔◌, IsTrue, ap, refl, subst, sym, ◌∙◌, false≢true, Program, RepliesToSpy, is_spied, is_undefined, refusal, HasClauseFor}
 use Rattle.ghc_term.specs.declared.fault.Fault.TheVariants as fault
-use Rattle.ghc_flat.specs.Clause.{Program}
-use Rattle.ghc_console.specs.Replies.{RepliesToSpy, is_spied, is_undefined, refusal}
-use Rattle.ghc_console.specs.SessionState.{HasClauseFor}
 use Rattle.ghc_console.proofs.Spying.{always}
 use Rattle.ghc_console.proofs.StepReplies.{on_ok}
 use Rattle.ghc_console.proofs.spy_reply.spy.Goals as goal

@@ -1,6 +1,4 @@
-use Rattle.std.proofs.Common.{◌∙◌, ◌∷◌, ◌+◌, ap, sym, take, drop}
-use Rattle.std.proofs.lemmas.List.{take_rest}
-use Rattle.ghc_console.specs.Lines.{lines_of}
+use Rattle.ghc_console.proofs.Words.{◌∙◌, ◌∷◌, ◌+◌, ap, sym, take, drop, take_rest, lines_of}
 use Rattle.ghc_console.proofs.CutRows.{cut, uncut}
 use Rattle.ghc_console.proofs.text_rows.next_row.Goals as goal
 

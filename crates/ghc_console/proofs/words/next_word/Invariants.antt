@@ -1,5 +1,4 @@
-use Rattle.std.proofs.Common.{◌≡◌, length}
-use Rattle.ghc_console.specs.Words.{unindented, words_of}
+use Rattle.ghc_console.proofs.Words.{◌≡◌, length, unindented, words_of}
 use Rattle.ghc_console.proofs.words.next_word.Given as goal
 
 -- the words that are left are all, and so is what stands behind the spaces in front

@@ -1,7 +1,4 @@
-use Rattle.std.proofs.Common.{◌≡◌, ◌≤◌, drop}
-use Rattle.std.specs.Char.{is_ascii_digit}
-use Rattle.std.specs.List.{list_all}
-use Rattle.std.specs.Str.Parse.{digits_value, digits_value_after}
+use Rattle.ghc_console.proofs.Words.{◌≡◌, ◌≤◌, drop, is_ascii_digit, list_all, digits_value, digits_value_after}
 use Rattle.ghc_console.proofs.words.number.Given as goal
 
 abbrev pub invariant-loop-byte : goal.invariant-loop-byte

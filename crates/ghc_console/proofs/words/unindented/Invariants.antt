@@ -1,5 +1,4 @@
-use Rattle.std.proofs.Common.{◌≡◌, length}
-use Rattle.ghc_console.specs.Words.{unindented}
+use Rattle.ghc_console.proofs.Words.{◌≡◌, length, unindented}
 use Rattle.ghc_console.proofs.words.unindented.Given as goal
 
 abbrev pub invariant-loop-rest : goal.invariant-loop-rest
