@@ -1,15 +1,5 @@
 -- A parse of the program's command finds FILE and the query.
-use Rattle.std.proofs.Common.{zero, suc, ◌≡◌, ◌∙◌, ◌<◌, ℕ, true, false, List, [], ◌∷◌, slice_index, is_some, codes, refl, sym, inl, inr, arith}
-use Rattle.std.specs.List.{All, slice_index_or}
-use Rattle.std.specs.Str.{bytes_eq}
-use Rattle.std.proofs.lemmas.Slice.Eq.{bytes_eq-Decides}
-use Rattle.clap.specs.Words.{IsParsedFrom, IsPlainArg, first_value, found_of}
-use Rattle.clap.specs.Built.{FitsChain, HasDistinctIds}
-use Rattle.clap.specs.declared.builder.arg.Arg.{Arg}
-use Rattle.clap.specs.declared.builder.command.Command.{Command}
-use Rattle.clap.specs.declared.parser.matches.ArgMatches.{ArgMatches}
-use Rattle.clap.proofs.CallerLemmas.{required_in_chain}
-use Rattle.ghcdb.specs.CommandLine.{IsGhcdb, IsOptionalValue, IsRequiredValue, IsWorkersValue}
+use Rattle.ghcdb.proofs.Words.{zero, suc, ◌≡◌, ◌∙◌, ◌<◌, ℕ, true, false, List, [], ◌∷◌, slice_index, is_some, codes, refl, sym, inl, inr, arith, All, slice_index_or, bytes_eq, bytes_eq-Decides, IsParsedFrom, IsPlainArg, first_value, found_of, FitsChain, HasDistinctIds, Arg, Command, ArgMatches, required_in_chain, IsGhcdb, IsOptionalValue, IsRequiredValue, IsWorkersValue}
 
 -- the id of an argument begins with the first byte of its name
 first_byte : (id : List ℕ) (a : Arg) → a.id.now ≡ id → (other : List ℕ) → a.id.now ≡ other → slice_index other 0 ≡ slice_index id 0

@@ -1,16 +1,7 @@
 -- Of a program no more need be read than a byte past its limit.
-use Rattle.std.proofs.Common.{◌≡◌, ◌<◌, ◌≤◌, ◌↔◌, ◌⊎◌, ℕ, List, inl, inr, refl, subst, sym, length, take, arith}
-use Rattle.std.proofs.lemmas.List.{take_all, length-take-le}
-use Rattle.std.proofs.lemmas.Bool.{cases_lt}
-use Rattle.ghc_term.specs.declared.fault.Fault.{Fault}
+use Rattle.ghcdb.proofs.Words.{◌≡◌, ◌<◌, ◌≤◌, ◌↔◌, ◌⊎◌, ℕ, List, inl, inr, refl, subst, sym, length, take, arith, take_all, length-take-le, cases_lt, Fault, most_bytes, IsReadProgram, a_program, IsRefusal, too_long, by_tokens, WrittenClause, answered_once, one_program_tree, most_read, FrontTells}
 use Rattle.ghc_term.specs.declared.fault.Fault.TheVariants as fault
 use Rattle.ghc_term.specs.declared.limit.Limit.TheVariants as limit
-use Rattle.ghc_reader.specs.Lexed.{most_bytes}
-use Rattle.ghc_reader.specs.Read.{IsReadProgram}
-use Rattle.ghc_reader.specs.Tests.{a_program, IsRefusal, too_long, by_tokens}
-use Rattle.ghc_reader.specs.Written.{WrittenClause}
-use Rattle.ghc_reader.proofs.OneReading.{answered_once, one_program_tree}
-use Rattle.ghcdb.specs.ProgramText.{most_read, FrontTells}
 
 -- a text that is too long is refused as that
 refused_long : (text : List ℕ) → most_bytes < length text → IsRefusal a_program text (fault.Limit limit.Text)

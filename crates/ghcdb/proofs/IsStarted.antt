@@ -1,18 +1,6 @@
 -- A refusal by the checker, of texts that were read, is a refusal of the start; and texts start one thing alone, or are refused in one way.
-use Rattle.std.proofs.Common.{◌≡◌, ◌⊎◌, ℕ, List, inl, inr, refl, sym, ◌∙◌, subst}
-use Rattle.ghc_term.proofs.Exact.{exact}
-use Rattle.ghc_reader.specs.Written.{WrittenClause, WrittenQuery}
-use Rattle.ghc_reader.specs.Read.{IsReadProgram, IsReadQuery}
-use Rattle.ghc_reader.proofs.OneMeaning.{one_program_read, one_query_read}
-use Rattle.ghc_reader.proofs.ExactReading.{no_program_refused, one_program_refusal, no_query_refused, one_query_refusal}
-use Rattle.ghc_flat.specs.declared.refused.Refused.{Refused}
+use Rattle.ghcdb.proofs.Words.{◌≡◌, ◌⊎◌, ℕ, List, inl, inr, refl, sym, ◌∙◌, subst, exact, WrittenClause, WrittenQuery, IsReadProgram, IsReadQuery, one_program_read, one_query_read, no_program_refused, one_program_refusal, no_query_refused, one_query_refusal, Refused, IsRefusedAs, HasClause, AreMadeOf, IsProgramFault, IsFault, program_once, fault_once, accepted_no_fault, first_fault_no, Refusal, Started, IsStarted, AreRead, IsOutOfMemory, for_program, IsStartRefusal, of_program, of_query, of_clauses, of_calls, StartIsExact, told_of}
 use Rattle.ghc_flat.specs.declared.refused.Refused.TheVariants as refused
-use Rattle.ghc_flat.specs.Refused.{IsRefusedAs}
-use Rattle.ghc_flat.specs.Checked.{HasClause, AreMadeOf, IsProgramFault, IsFault}
-use Rattle.ghc_flat.proofs.Faults.{program_once, fault_once, accepted_no_fault, first_fault_no}
-use Rattle.ghcdb.specs.declared.refusal.Refusal.{Refusal}
-use Rattle.ghcdb.specs.declared.start.Started.{Started}
-use Rattle.ghcdb.specs.Start.{IsStarted, AreRead, IsOutOfMemory, for_program, IsStartRefusal, of_program, of_query, of_clauses, of_calls, StartIsExact, told_of}
 
 pub told : (p q : List ℕ) (ws : List WrittenClause) (asked : WrittenQuery) (r : Refused) → IsReadProgram p ws → IsReadQuery q asked → IsRefusedAs ws asked.goals r → IsOutOfMemory p (told_of r) ⊎ IsStartRefusal p q (told_of r)
 told p q ws asked (refused.Program e) a b (inl m) = inl (for_program (record { fault = m; part_is = refl }))

@@ -1,28 +1,9 @@
 -- A parse of the program's command finds a number of workers within its bounds, or none.
-use Rattle.std.proofs.Common.{zero, suc, ◌≡◌, ◌∙◌, ◌<◌, ◌≤◌, ◌++◌, ◌||◌, ℕ, true, false, List, [], ◌∷◌, length, slice_index, codes, refl, sym, ap, subst, inl, inr, arith}
-use Rattle.std.specs.Prelude.{IfNone, IfSome, Option, Some, None, Result, Ok, Err, option_map, slice_get, unwrap_or}
-use Rattle.std.specs.Option.{IsSome}
-use Rattle.std.specs.Borrow.{Bor}
-use Rattle.std.specs.List.{All, slice_index_or}
-use Rattle.std.specs.Str.{bytes_eq}
-use Rattle.std.specs.Str.Parse.{ParsesUnsigned}
-use Rattle.std.proofs.lemmas.List.Elements.{All-get_or, All-nil}
-use Rattle.std.proofs.lemmas.Slice.Eq.{bytes_eq-Decides}
-use Rattle.clap.specs.Built.{AddsArg, IsAuto, IsParsedFrom, IsPlain, IsPlainArg}
-use Rattle.clap.specs.Facts.{args_of, groups_of, Entry, EntryPasses, HasReading, PassesArg, parser_of, parser_of_value}
-use Rattle.clap.specs.Matches.{ReadsOne, first_value, found_of, matched_of, one_text}
-use Rattle.clap.specs.Values.{Accepts, IsUnsignedIn, read_as, reading_of}
-use Rattle.clap.specs.declared.builder.arg.Arg.{Arg}
-use Rattle.clap.specs.declared.builder.command.Command.{Command}
-use Rattle.clap.specs.declared.builder.command.Command.TheViews.{out-Command}
+use Rattle.ghcdb.proofs.Words.{zero, suc, ◌≡◌, ◌∙◌, ◌<◌, ◌≤◌, ◌++◌, ◌||◌, ℕ, true, false, List, [], ◌∷◌, length, slice_index, codes, refl, sym, ap, subst, inl, inr, arith, IfNone, IfSome, Option, Some, None, Result, Ok, Err, option_map, slice_get, unwrap_or, IsSome, Bor, All, slice_index_or, bytes_eq, ParsesUnsigned, All-get_or, All-nil, bytes_eq-Decides, AddsArg, IsAuto, IsPlain, args_of, groups_of, Entry, EntryPasses, HasReading, PassesArg, parser_of, parser_of_value, ReadsOne, matched_of, one_text, Accepts, IsUnsignedIn, read_as, reading_of, Arg, Command, out-Command, ValueParser, ArgMatches, Found, MatchedArg, added_plain, entry_by_id, same_rules_by_id, IsGhcdb, SaysWorkers}
+use Rattle.clap.specs.Built.{IsParsedFrom, IsPlainArg}
+use Rattle.clap.specs.Matches.{first_value, found_of}
 use Rattle.clap.specs.declared.builder.value_parser.Reading.TheVariants as reading
-use Rattle.clap.specs.declared.builder.value_parser.ValueParser.{ValueParser}
 use Rattle.clap.specs.declared.builder.value_parser.ValueParser.TheVariants as parser
-use Rattle.clap.specs.declared.parser.matches.ArgMatches.{ArgMatches}
-use Rattle.clap.specs.declared.parser.matches.Found.{Found}
-use Rattle.clap.specs.declared.parser.matches.MatchedArg.{MatchedArg}
-use Rattle.clap.proofs.CallerLemmas.{added_plain, entry_by_id, same_rules_by_id}
-use Rattle.ghcdb.specs.CommandLine.{IsGhcdb, SaysWorkers}
 use Rattle.ghcdb.proofs.CommandLine.{differ}
 
 -- what a parser of a number of workers takes

@@ -1,15 +1,7 @@
 -- What is answered for the texts of a program and a query, and then of a history, is answered for all of them.
-use Rattle.std.proofs.Common.{◌≡◌, ◌⊎◌, List, ℕ, Bor, inl, inr, refl, sym, subst, ◌∙◌, Option, Some, None, option_map}
-use Rattle.std.specs.Prelude.{Result, Ok, Err}
-use Rattle.ghc_term.specs.Answered.{AnsweredUnless}
-use Rattle.ghc_term.specs.declared.fault.Fault.{Fault}
-use Rattle.ghc_term.specs.declared.fault.Fault.TheVariants.{Memory}
-use Rattle.ghc_console.specs.declared.debugger.Debugger.{Debugger}
-use Rattle.ghcdb.specs.declared.refusal.Refusal.{Refusal}
-use Rattle.ghcdb.specs.declared.start.Started.{Started}
+use Rattle.ghcdb.proofs.Words.{◌≡◌, ◌⊎◌, List, ℕ, inl, inr, refl, sym, subst, ◌∙◌, Option, Some, None, option_map, Result, Ok, Err, AnsweredUnless, Fault, Memory, Debugger, Refusal, Started, IsStarted, IsStartRefusal, IsNoMemoryFor, IsOutOfMemory, for_program, OpensOn, IsHistoryFault, IsHistoryRefused, IsDebuggerOf, IsOpenRefusal, of_start, of_history, IsWithoutMemory, at_start, for_history}
+use Rattle.std.proofs.Common.{Bor}
 use Rattle.ghcdb.specs.declared.refused_part.RefusedPart.TheVariants as part
-use Rattle.ghcdb.specs.Start.{IsStarted, IsStartRefusal, IsNoMemoryFor, IsOutOfMemory, for_program}
-use Rattle.ghcdb.specs.Opening.{OpensOn, IsHistoryFault, IsHistoryRefused, IsDebuggerOf, IsOpenRefusal, of_start, of_history, IsWithoutMemory, at_start, for_history}
 
 -- an answer, in other words
 answers_as : {A E : Type 0} {M N : E → Type 0} {G H : A → Type 0} {R S : E → Type 0} (result : Result A E) → ((a : A) → G a → H a) → ((e : E) → M e ⊎ R e → N e ⊎ S e)

@@ -1,8 +1,5 @@
 -- What a session begins with does not depend on how many workers make its runs.
-use Rattle.std.proofs.Common.{◌≡◌, ℕ, List, ap, subst₂, sym}
-use Rattle.std.specs.Prelude.{Option}
-use Rattle.ghc_console.specs.declared.debugger.Debugger.{Debugger}
-use Rattle.ghcdb.specs.Opening.{IsDebuggerOf, OpensOn}
+use Rattle.ghcdb.proofs.Words.{◌≡◌, ℕ, List, ap, subst₂, sym, Option, Debugger, IsDebuggerOf, OpensOn}
 
 pub opened_for : (program query : List ℕ) (history : Option (List ℕ)) (d e : Debugger) → e.core ≡ d.core → e.spies ≡ d.spies → IsDebuggerOf program query history d → IsDebuggerOf program query history e
 opened_for program query history d e core spies o = record {

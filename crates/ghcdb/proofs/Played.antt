@@ -1,13 +1,6 @@
 -- What was told of a schedule still stands where more of it is handed on.
-use Rattle.std.proofs.Common.{ℕ, List, [], Option, Result, Ok, Err, length, subst}
-use Rattle.std.proofs.Math.Seq.{take-length}
-use Rattle.std.specs.Io.KnownBytes.{Keeps}
-use Rattle.std.proofs.KnownBytes.{Appends-kept}
-use Rattle.ghc_term.specs.declared.fault.Fault.{Fault}
-use Rattle.ghc_core.specs.Core.{Core}
+use Rattle.ghcdb.proofs.Words.{ℕ, List, [], Option, Result, Ok, Err, length, subst, take-length, Keeps, Appends-kept, Fault, Core, records_text, BrokenOff, IsScheduleOf, Schedule, part_of_records, then_begun, then_whole, told_at_end}
 use Rattle.ghc_core.specs.declared.world.World.{World as Played}
-use Rattle.ghc_console.specs.Replies.{records_text}
-use Rattle.ghc_console.specs.ScheduleText.{BrokenOff, IsScheduleOf, Schedule, part_of_records, then_begun, then_whole, told_at_end}
 
 -- A whole text begins itself.
 whole_begins : {old new : Played} {lines : List (List ℕ)} {out : List ℕ} → Schedule old lines out new → BrokenOff old lines out new

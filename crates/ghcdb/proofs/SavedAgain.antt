@@ -1,32 +1,7 @@
 -- What is saved of a session opens again as that session.
-use Rattle.std.proofs.Common.{◌≡◌, ℕ, List, [], ◌∷◌, map, get_or, sym, ap, ◌∙◌, subst, arith}
-use Rattle.std.proofs.lemmas.Map.Views.{list_any-from_Contains}
-use Rattle.std.specs.Cmp.{eq_by_cmp_equiv}
+use Rattle.ghcdb.proofs.Words.{◌≡◌, ℕ, List, [], ◌∷◌, map, get_or, sym, ap, ◌∙◌, subst, arith, list_any-from_Contains, eq_by_cmp_equiv, Result, Ok, Err, Option, Some, None, Fault, In, in_contains, in_map, Program, Query, IsLine, heading, Chronicle, TellsChronicle, chronicle_heading, TextsTellOneChronicle, HasClauseFor, World, no_hands, EventsLeadWhereChangesLead, ArePredicatesOf, Resumes, chronicle_of_world, WhatIsToldIsCarriedOut, Spies, HasPredicate, spied_of, spies_in_order, ListedSpiesComeBack, predicate_total, saved_text, Refusal, Started, WrittenChroniclesAreReadAgain, GivesBack, loads, resumes, IsHistoryFault, of_text, of_step, of_chronicle, of_entry, IsHistoryRefused, OpensAs, SavedSessionsOpenAgain}
 use Rattle.std.specs.FinSet as set
-use Rattle.std.specs.Prelude.{Result, Ok, Err, Option, Some, None}
-use Rattle.ghc_term.specs.declared.fault.Fault.{Fault}
-use Rattle.ghc_term.specs.Lists.{In}
-use Rattle.ghc_term.proofs.ListsLemmas.{in_contains, in_map}
-use Rattle.ghc_flat.specs.Clause.{Program, Query}
-use Rattle.ghc_records.specs.HistoryText.{IsLine, heading}
-use Rattle.ghc_records.specs.Chronicle.{Chronicle}
-use Rattle.ghc_records.specs.ChronicleText.{TellsChronicle, chronicle_heading}
-use Rattle.ghc_records.specs.ChronicleLaws.{TextsTellOneChronicle}
 use Rattle.ghc_records.specs.declared.predicate.Predicate as written
-use Rattle.ghc_core.specs.AskedGoals.{HasClauseFor}
-use Rattle.ghc_core.specs.World.{World, no_hands}
-use Rattle.ghc_core.specs.Laws.{EventsLeadWhereChangesLead}
-use Rattle.ghc_core.specs.Resume.{ArePredicatesOf, Resumes, chronicle_of_world}
-use Rattle.ghc_core.specs.ResumeLaws.{WhatIsToldIsCarriedOut}
-use Rattle.ghc_trace.specs.Spies.{Spies, HasPredicate, spied_of, spies_in_order}
-use Rattle.ghc_trace.specs.SpyLaws.{ListedSpiesComeBack}
-use Rattle.ghc_trace.proofs.Spied.{predicate_total}
-use Rattle.ghc_console.specs.Replies.{saved_text}
-use Rattle.ghcdb.specs.declared.refusal.Refusal.{Refusal}
-use Rattle.ghcdb.specs.declared.start.Started.{Started}
-use Rattle.ghc_records.specs.ChronicleLaws.{WrittenChroniclesAreReadAgain}
-use Rattle.ghcdb.specs.Opening.{GivesBack, loads, resumes, IsHistoryFault, of_text, of_step, of_chronicle, of_entry, IsHistoryRefused}
-use Rattle.ghcdb.specs.Saving.{OpensAs, SavedSessionsOpenAgain}
 use Rattle.ghcdb.proofs.SessionsOpened.{told}
 
 -- a predicate that is written is in the set of what is written

@@ -1,34 +1,9 @@
 -- What opens on program and query that are started is a session on them.
-use Rattle.std.proofs.Common.{◌≡◌, ℕ, true, false, List, [], ◌∷◌, map, inl, inr, refl, sym, ap, ◌∙◌, subst, Option, Some, None}
-use Rattle.std.specs.List.{list_any}
-use Rattle.std.specs.Ordering.{eq_by_cmp}
-use Rattle.std.specs.Cmp.{Equal-is}
+use Rattle.ghcdb.proofs.Words.{◌≡◌, ℕ, true, false, List, [], ◌∷◌, map, inl, inr, refl, sym, ap, ◌∙◌, subst, Option, Some, None, list_any, eq_by_cmp, Equal-is, Contains-from_any, In, contains_in, Program, Opening, History, loaded_opening, Chronicle, World, Opens, IsSound, from_opening, EventsLeadWhereChangesLead, LegalIsReachable, HasClauseFor, IsStanding, ArePredicatesOf, IsCarriedOut, Resumes, CarriedOutIsLegal, Predicate, Spies, HasPredicate, predicate, predicate_cmp, spied_of, predicate_total, predicate_antisymmetric, Started, IsStarted, OpensOn, loads, resumes, IsSessionOf, WhatOpensIsASession}
 use Rattle.std.specs.FinSet as set
-use Rattle.std.proofs.lemmas.Map.Views.{Contains-from_any}
-use Rattle.ghc_term.specs.Lists.{In}
-use Rattle.ghc_term.proofs.ListsLemmas.{contains_in}
-use Rattle.ghc_flat.specs.Clause.{Program}
-use Rattle.ghc_records.specs.Journal.{Opening}
-use Rattle.ghc_records.specs.History.{History, loaded_opening}
-use Rattle.ghc_records.specs.Chronicle.{Chronicle}
 use Rattle.ghc_records.specs.declared.predicate.Predicate as written
-use Rattle.ghc_core.specs.World.{World, Opens}
-use Rattle.ghc_core.specs.Reached.{IsSound, from_opening}
-use Rattle.ghc_core.specs.Laws.{EventsLeadWhereChangesLead}
-use Rattle.ghc_core.specs.HistoryLaws.{LegalIsReachable}
-use Rattle.ghc_core.specs.AskedGoals.{HasClauseFor}
-use Rattle.ghc_core.specs.Core.{IsStanding}
 use Rattle.ghc_core.specs.Load as load
-use Rattle.ghc_core.specs.Resume.{ArePredicatesOf, IsCarriedOut, Resumes}
 use Rattle.ghc_core.specs.Resume as resume
-use Rattle.ghc_core.specs.ResumeLaws.{CarriedOutIsLegal}
-use Rattle.ghc_trace.specs.declared.spies.Predicate.{Predicate}
-use Rattle.ghc_trace.specs.Spies.{Spies, HasPredicate, predicate, predicate_cmp, spied_of}
-use Rattle.ghc_trace.proofs.Spied.{predicate_total, predicate_antisymmetric}
-use Rattle.ghcdb.specs.declared.start.Started.{Started}
-use Rattle.ghcdb.specs.Start.{IsStarted}
-use Rattle.ghcdb.specs.Opening.{OpensOn, loads, resumes}
-use Rattle.ghcdb.specs.Sessions.{IsSessionOf, WhatOpensIsASession}
 
 -- ---- the predicates of a set
 

@@ -1,12 +1,5 @@
 -- What a session told stays told where nothing more is written; and what a whole session told is what one that is broken off may tell.
-use Rattle.std.proofs.Common.{◌≡◌, ℕ, Option, None, Some, Result, Ok, Err, List, [], ◌∷◌, length, refl, sym, ap, ◌∙◌, subst, append-nil}
-use Rattle.std.specs.Prelude.{MatchResult, OnOk}
-use Rattle.std.proofs.Math.Seq.{take-length}
-use Rattle.std.specs.Io.KnownBytes.{Keeps, append_known}
-use Rattle.std.proofs.KnownBytes.{Appends-kept}
-use Rattle.ghc_console.specs.Session.{Session, Began, Tells, at_end, ends, goes_on, nothing_yet, broken, went_on}
-use Rattle.ghc_console.specs.SessionState.{SessionState}
-use Rattle.ghcdb.specs.Outputs.{HasBeginning, HasReplies}
+use Rattle.ghcdb.proofs.Words.{◌≡◌, ℕ, Option, None, Some, Result, Ok, Err, List, [], ◌∷◌, length, refl, sym, ap, ◌∙◌, subst, append-nil, MatchResult, OnOk, take-length, Keeps, append_known, Appends-kept, Session, Began, Tells, at_end, ends, goes_on, nothing_yet, broken, went_on, SessionState, HasBeginning, HasReplies}
 
 pub told_kept : (Run : ℕ → SessionState → List (List ℕ) → List ℕ → SessionState → Type 0) (s t : SessionState) (unread written now later : Option (List ℕ)) (before : ℕ)
     → Tells Run s unread written now before t → Keeps now later → Tells Run s unread written later before t

@@ -1,9 +1,5 @@
 -- The front of a text that was taken from a reader.
-use Rattle.std.specs.Prelude.{Option}
-use Rattle.std.proofs.Common.{◌≡◌, ◌++◌, ◌≤◌, ℕ, List, None, Some, IfSome, sym, ap, ◌∙◌, length, take}
-use Rattle.std.proofs.lemmas.List.{take_all, take-append-le}
-use Rattle.std.specs.Io.KnownBytes.{Consumes, IsAtEnd}
-use Rattle.std.proofs.KnownBytes.{Consumes-whole}
+use Rattle.ghcdb.proofs.Words.{Option, ◌≡◌, ◌++◌, ◌≤◌, ℕ, List, None, Some, IfSome, sym, ap, ◌∙◌, length, take, take_all, take-append-le, Consumes, IsAtEnd, Consumes-whole}
 
 -- bytes that were taken up to the end are a front of any length that they do not pass
 pub front_at_end : (a b : Option (List ℕ)) (bytes : List ℕ) (n : ℕ) → Consumes a b bytes → IsAtEnd b → length bytes ≤ n → IfSome a (λ whole. bytes ≡ take n whole)

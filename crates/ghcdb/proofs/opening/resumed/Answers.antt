@@ -1,6 +1,4 @@
-use Rattle.std.proofs.Common.{inl, inr, refl, sym, ap, ◌∙◌, subst}
-use Rattle.ghc_trace.specs.Spies.{spied_of}
-use Rattle.ghcdb.specs.Opening.{GivesBack, resumes, of_chronicle, of_entry}
+use Rattle.ghcdb.proofs.Words.{inl, inr, refl, sym, ap, ◌∙◌, subst, spied_of, GivesBack, resumes, of_chronicle, of_entry}
 use Rattle.ghcdb.proofs.Opened.{told_of_history}
 use Rattle.ghcdb.proofs.opening.resumed.Goals as goal
 

@@ -1,9 +1,5 @@
-use Rattle.std.proofs.Common.{rules, ◌≡◌, ◌++◌, ◌<◌, ◌≤◌, ℕ, List, length, subst, sym}
-use Rattle.std.proofs.lemmas.List.{places}
-use Rattle.std.specs.Io.KnownBytes.{Consumes}
-use Rattle.std.proofs.KnownBytes.{Consumes-trans}
+use Rattle.ghcdb.proofs.Words.{rules, ◌≡◌, ◌++◌, ◌<◌, ◌≤◌, ℕ, List, length, subst, sym, places, Consumes, Consumes-trans, TakesAtMost, most_read}
 use Rattle.ghcdb.proofs.TextFront.{front_at_end, front_in_full}
-use Rattle.ghcdb.specs.ProgramText.{TakesAtMost, most_read}
 use Rattle.ghcdb.proofs.program_text.read_text.Goals as goal
 
 -- src/program_text.rt:64:22

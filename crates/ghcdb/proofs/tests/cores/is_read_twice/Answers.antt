@@ -1,8 +1,7 @@
 use denote.Param.Send.{sendable}
-use Rattle.std.proofs.Crossing.{crosses}
+use Rattle.ghcdb.proofs.Words.{crosses, core_send, core_sync}
 use Rattle.std.proofs.alloc.Global.TheSendSync as global
 use Rattle.std.proofs.sync.RwLock.TheSendSync as lock
-use Rattle.ghc_core.proofs.Crosses.{core_send, core_sync}
 use Rattle.ghcdb.proofs.tests.cores.is_read_twice.Goals as goal
 
 pub spawn-requires-send-F : goal.spawn-requires-send-F
