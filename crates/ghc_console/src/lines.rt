@@ -187,6 +187,7 @@ impl<R: Read, W: Write + Drop, L: Ledger> Device for Lines<R, W, L> {
     }
 
     /// As `Device` has it; where a call has failed before, it fails, and hands nothing on.
+    #[inline(always)]
     fn write(&mut self, bytes: &[u8]) -> Result<usize, Broken>
         ensures bound { WritesAtMost result bytes.now }
         ensures some { 0 < length bytes.now → IfOk result (λ n. 0 < n) }

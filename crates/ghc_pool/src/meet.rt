@@ -123,6 +123,7 @@ fn take(core: &mut Core, addition: Addition) -> Met
 // Meets a goal: a step of it is taken, with one attempt, or the run goes by it or may have to stop. It is noted only where its
 // step is refused since it waits, where it is spied, or where it is not in question. Since the number given each kept step took a
 // goal in question.
+#[inline(always)]
 pub fn meet(
     core: &mut Core,
     alloc: Global,
