@@ -1,5 +1,5 @@
 -- What the replies say that tell lists, and causes among them.
-use Rattle.ghc_console.proofs.Words.{◌≡◌, ◌≢◌, ◌⊎◌, inl, inr, sym, subst, ap, ◌∙◌, List, [], ◌∷◌, ℕ, codes, Fault, IsNotKept, World, RepliesToWhy, not_kept, lined, lines_or_none, refusal, text_lines}
+use Rattle.ghc_console.proofs.CitedWords.{◌≡◌, ◌≢◌, ◌⊎◌, inl, inr, sym, subst, ap, ◌∙◌, List, [], ◌∷◌, ℕ, codes, Fault, IsNotKept, World, RepliesToWhy, not_kept, lined, lines_or_none, refusal, text_lines}
 use Rattle.ghc_term.specs.declared.fault.Fault.TheVariants as fault
 
 some_line : (t : List ℕ) (ts : List (List ℕ)) → text_lines (t ∷ ts) ≢ []

@@ -1,5 +1,5 @@
 -- The first line of a text that is in memory.
-use Rattle.ghc_console.proofs.Words.{◌≡◌, ◌≢◌, ℕ, All, List, [], ◌∷◌, ◌++◌, length, map, eqb, false, sym, ap, ◌∙◌, strip_last, line_of, lines_of}
+use Rattle.ghc_console.proofs.CitedWords.{◌≡◌, ◌≢◌, ℕ, All, List, [], ◌∷◌, ◌++◌, length, map, eqb, false, sym, ap, ◌∙◌, strip_last, line_of, lines_of}
 use Rattle.ghc_console.proofs.Rows.{rows-ended, rows-last}
 
 -- A line feed ends the first line.

@@ -1,5 +1,5 @@
 -- Lemmas on the names of the variables of a query.
-use Rattle.ghc_console.proofs.Words.{◌≡◌, ◌≢◌, ℕ, ◌+◌, ◌<◌, List, length, Some, refl, ap, ◌∙◌, slice_get_within, slice_get-get_or, get_or_from_slice_get, All, HoldsAt, codes, VarName, var_inj as same_parts, asked, IsGivenName}
+use Rattle.ghc_console.proofs.CitedWords.{◌≡◌, ◌≢◌, ℕ, ◌+◌, ◌<◌, List, length, Some, refl, ap, ◌∙◌, slice_get_within, slice_get-get_or, get_or_from_slice_get, All, HoldsAt, codes, VarName, var_inj as same_parts, asked, IsGivenName}
 
 -- the word at a place of the names names the variable of that place
 pub given : (names : List (List ℕ)) (word : List ℕ) (i place : ℕ) → i < length names → HoldsAt (λ name. name ≡ word) names i → word ≢ codes "_" → place ≡ i + 1

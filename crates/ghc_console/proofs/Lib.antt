@@ -23,4 +23,4 @@ pub mod RunCommands
 mod Served
 mod ScheduleSaid
 mod SchedulePlays
-mod Words
+mod CitedWords

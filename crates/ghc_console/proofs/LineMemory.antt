@@ -1,5 +1,5 @@
 -- When reading a line takes memory.
-use Rattle.ghc_console.proofs.Words.{◌≡◌, ◌∙◌, ℕ, true, ap, List, ◌∷◌, Result, Ok, Err, OnErr, bytes_eq, codes, list_all, bytes_eq-Decides, is_printable, words_of, BeginsWithNumber, TakesMemory, for_numbers}
+use Rattle.ghc_console.proofs.CitedWords.{◌≡◌, ◌∙◌, ℕ, true, ap, List, ◌∷◌, Result, Ok, Err, OnErr, bytes_eq, codes, list_all, bytes_eq-Decides, is_printable, words_of, BeginsWithNumber, TakesMemory, for_numbers}
 
 -- An order takes memory from its first number on.
 pub order_read : {T E : Type 0} (line name : List ℕ) (words : List (List ℕ)) (r : Result T E) → list_all is_printable line ≡ true → words_of line ≡ name ∷ words → bytes_eq name (codes "arrange") ≡ true

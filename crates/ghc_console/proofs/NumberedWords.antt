@@ -1,5 +1,5 @@
 -- Lemmas on words that name variables by numbers.
-use Rattle.ghc_console.proofs.Words.{◌≡◌, ◌≢◌, ℕ, ◌+◌, All, Option, Some, None, inl, inr, List, [], ◌∷◌, ◌++◌, eqb, take, drop, refl, sym, ap, ◌∙◌, slice_split-cons_yes, slice_split, numbered_of, variable_numbered, variable_of_parts, number_of}
+use Rattle.ghc_console.proofs.CitedWords.{◌≡◌, ◌≢◌, ℕ, ◌+◌, All, Option, Some, None, inl, inr, List, [], ◌∷◌, ◌++◌, eqb, take, drop, refl, sym, ap, ◌∙◌, slice_split-cons_yes, slice_split, numbered_of, variable_numbered, variable_of_parts, number_of}
 use Rattle.ghc_console.proofs.WordLemmas.{IsOnePartOrNone, split-first, split-last, one_part_or_none, no_number}
 
 -- behind a first bar, the parts are those of what stands there

@@ -1,5 +1,5 @@
 -- What the texts of replies to commands of the core say.
-use Rattle.ghc_console.proofs.Words.{◌≡◌, ◌≢◌, ◌⊎◌, ◌∙◌, inl, inr, sym, subst, ap, List, ℕ, Result, Ok, Err, OnOk, OnErr, Fault, a_term, an_ask, IsRefusal, Meter, one_more, World, Command, input, finish, undo, roll, redo, arrange, ask, Fails, opening_stays, CountsInObeying, FiresInObeying, IsObeyed, obeys, refuses, RepliesToAsk, RepliesToInput, unasked, unread, refusal}
+use Rattle.ghc_console.proofs.CitedWords.{◌≡◌, ◌≢◌, ◌⊎◌, ◌∙◌, inl, inr, sym, subst, ap, List, ℕ, Result, Ok, Err, OnOk, OnErr, Fault, a_term, an_ask, IsRefusal, Meter, one_more, World, Command, input, finish, undo, roll, redo, arrange, ask, Fails, opening_stays, CountsInObeying, FiresInObeying, IsObeyed, obeys, refuses, RepliesToAsk, RepliesToInput, unasked, unread, refusal}
 use Rattle.ghc_term.specs.declared.fault.Fault.TheVariants as fault
 
 -- a command that is refused

@@ -1,5 +1,5 @@
 -- Lemmas on words that name predicates.
-use Rattle.ghc_console.proofs.Words.{◌≡◌, ◌≢◌, ℕ, ◌+◌, true, false, cond, eqb, zero, suc, All, Option, Some, None, inl, inr, List, [], ◌∷◌, ◌++◌, take, drop, refl, sym, ap, ◌∙◌, arith, false≢true, slice_split, IsAscii, is_name, predicate_named, predicate_of, predicate_of_parts, number_of}
+use Rattle.ghc_console.proofs.CitedWords.{◌≡◌, ◌≢◌, ℕ, ◌+◌, true, false, cond, eqb, zero, suc, All, Option, Some, None, inl, inr, List, [], ◌∷◌, ◌++◌, take, drop, refl, sym, ap, ◌∙◌, arith, false≢true, slice_split, IsAscii, is_name, predicate_named, predicate_of, predicate_of_parts, number_of}
 use Rattle.ghc_console.proofs.WordLemmas.{IsOnePartOrNone, ascii_names, split-first, split-last, one_part_or_none, no_number}
 
 -- the part in front of the first stroke, and all behind it

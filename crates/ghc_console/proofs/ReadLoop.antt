@@ -1,5 +1,5 @@
 -- How far the reading of a line has come.
-use Rattle.ghc_console.proofs.Words.{◌≡◌, ◌≢◌, ℕ, ◌+◌, All, Option, None, Some, List, [], ◌∷◌, ◌++◌, length, IfSome, inl, inr, refl, sym, ap, ◌∙◌, subst, append_assoc, length-append, arith, drop_of_length-le, Bool, false, All-append, Consumes, IsAtEnd, Keeps, prepend_known, Consumes-kept, Consumes-nil, Keeps-refl, Keeps-trans, prepend_known-nil, AsksAtNeed, CountsGiven, HasGathered, TakesFront, Gathered}
+use Rattle.ghc_console.proofs.CitedWords.{◌≡◌, ◌≢◌, ℕ, ◌+◌, All, Option, None, Some, List, [], ◌∷◌, ◌++◌, length, IfSome, inl, inr, refl, sym, ap, ◌∙◌, subst, append_assoc, length-append, arith, drop_of_length-le, Bool, false, All-append, Consumes, IsAtEnd, Keeps, prepend_known, Consumes-kept, Consumes-nil, Keeps-refl, Keeps-trans, prepend_known-nil, AsksAtNeed, CountsGiven, HasGathered, TakesFront, Gathered}
 
 -- these bytes of the line were taken, no call has failed, and each read was needed: `first` and `given` are the bytes given at the start and now, `before` and `asked` those before the last read
 pub record Begun (ahead held : List ℕ) (unread left : Option (List ℕ)) (line : Gathered) (written now : Option (List ℕ)) (failed failures first given before asked : ℕ) : Type 0 where

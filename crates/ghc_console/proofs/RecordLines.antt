@@ -1,5 +1,5 @@
 -- The lines of records, one more at a time.
-use Rattle.ghc_console.proofs.Words.{◌≡◌, ℕ, suc, ◌+◌, List, [], ◌∷◌, ◌++◌, drop, drop-cons, sym, ap, ◌∙◌, subst, inl, inr, slice_get, append_assoc, append-nil, arith, Some, slice_get_within, get_or_from_slice_get, Record, SlotList, held_in, rank, rank_stands, rank_next, rank_gap, record_text, lined, record_lines, TellsSlot}
+use Rattle.ghc_console.proofs.CitedWords.{◌≡◌, ℕ, suc, ◌+◌, List, [], ◌∷◌, ◌++◌, drop, drop-cons, sym, ap, ◌∙◌, subst, inl, inr, slice_get, append_assoc, append-nil, arith, Some, slice_get_within, get_or_from_slice_get, Record, SlotList, held_in, rank, rank_stands, rank_next, rank_gap, record_text, lined, record_lines, TellsSlot}
 
 -- What is left from a place on is the record there and the rest.
 pub drop_at : (rs : List Record) (i : ℕ) (r : Record) → slice_get rs i ≡ Some r → drop i rs ≡ r ∷ drop (i + 1) rs

@@ -1,5 +1,5 @@
 -- What commands that run are answered with.
-use Rattle.ghc_console.proofs.Words.{◌≡◌, ◌≤◌, ℕ, true, false, List, length, refl, sym, subst, Bor, Option, Some, None, is_some, option_copied, GoalName, Goal, World, Spies, command_of, line_limit, Fires, RepliesToSkip, no_goal, skips, Answers, IsReply, quits, replies, refusal, AsksForRun, leap_asks, skip_asks, IsAnsweredBy, IsCommandAnsweredBy, HasRun, SessionState, LineCommand, Answered, Told as told, Ends as ends, Asks as asks}
+use Rattle.ghc_console.proofs.CitedWords.{◌≡◌, ◌≤◌, ℕ, true, false, List, length, refl, sym, subst, Bor, Option, Some, None, is_some, option_copied, GoalName, Goal, World, Spies, command_of, line_limit, Fires, RepliesToSkip, no_goal, skips, Answers, IsReply, quits, replies, refusal, AsksForRun, leap_asks, skip_asks, IsAnsweredBy, IsCommandAnsweredBy, HasRun, SessionState, LineCommand, Answered, Told as told, Ends as ends, Asks as asks}
 use Rattle.std.specs.FinMap as finite
 use Rattle.ghc_term.specs.declared.fault.Fault.TheVariants as fault
 

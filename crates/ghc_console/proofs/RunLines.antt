@@ -1,5 +1,5 @@
 -- The lines of runs: how far their writing has come, and of which steps they are.
-use Rattle.ghc_console.proofs.Words.{◌≡◌, ℕ, zero, suc, ◌+◌, ◌-◌, ◌<◌, ◌≤◌, List, [], ◌∷◌, ◌++◌, length, map, take, drop, refl, sym, ap, ◌∙◌, subst, inl, inr, ◌⊎◌, slice_get, append_assoc, append-nil, take-append-drop, drop_of_length-le, length-append, arith, Option, Some, None, Result, Ok, Err, length-drop, slice_get_cases, take-append_seam, drop-append_seam, Appends, Appends-trans, Appends-nil, GoalName, In, in_at, in_right, Record, numbers, AreDistinct, record_once, NotesByGoal, World, Spies, Report, Mode, Runs, RunsIn, Takes, at_start, and_step, RunsAddAtTheEnd, AreLinesTold, no_line, and_line, IsAdded, IsLineTold, TellsRun, last_of, mode_of, run_lines, step_line, WritesTold}
+use Rattle.ghc_console.proofs.CitedWords.{◌≡◌, ℕ, zero, suc, ◌+◌, ◌-◌, ◌<◌, ◌≤◌, List, [], ◌∷◌, ◌++◌, length, map, take, drop, refl, sym, ap, ◌∙◌, subst, inl, inr, ◌⊎◌, slice_get, append_assoc, append-nil, take-append-drop, drop_of_length-le, length-append, arith, Option, Some, None, Result, Ok, Err, length-drop, slice_get_cases, take-append_seam, drop-append_seam, Appends, Appends-trans, Appends-nil, GoalName, In, in_at, in_right, Record, numbers, AreDistinct, record_once, NotesByGoal, World, Spies, Report, Mode, Runs, RunsIn, Takes, at_start, and_step, RunsAddAtTheEnd, AreLinesTold, no_line, and_line, IsAdded, IsLineTold, TellsRun, last_of, mode_of, run_lines, step_line, WritesTold}
 use Rattle.ghc_console.proofs.RecordLines.{drop_at}
 
 -- Lines that are told, and more behind them.

@@ -1,5 +1,5 @@
 -- How far a schedule has come.
-use Rattle.ghc_console.proofs.Words.{◌≡◌, ℕ, List, [], ◌∷◌, ◌++◌, Option, Result, Ok, Err, take, ap, sym, ◌∙◌, subst, append_assoc, Appends, Appends-nil, Appends-trans, Fault, Core, Reply, empty_hands, Hands, WritesFront, records_text, Hears, told_text, ArePlayedOut, BrokenOff, Schedule, WritesSchedule, part_of_records, part_of_reply, hand_count, then_begun, then_whole, told_at_end, with_hands}
+use Rattle.ghc_console.proofs.CitedWords.{◌≡◌, ℕ, List, [], ◌∷◌, ◌++◌, Option, Result, Ok, Err, take, ap, sym, ◌∙◌, subst, append_assoc, Appends, Appends-nil, Appends-trans, Fault, Core, Reply, empty_hands, Hands, WritesFront, records_text, Hears, told_text, ArePlayedOut, BrokenOff, Schedule, WritesSchedule, part_of_records, part_of_reply, hand_count, then_begun, then_whole, told_at_end, with_hands}
 use Rattle.ghc_core.specs.declared.world.World.{World as Played}
 
 -- what the rest gives, behind what was done, is what the whole gives

@@ -1,5 +1,5 @@
 -- What is told in a schedule of a text that the reader refuses, and of want of memory.
-use Rattle.ghc_console.proofs.Words.{◌≡◌, ◌⊎◌, ◌∙◌, inl, inr, refl, sym, ap, subst, List, ℕ, Option, Some, Result, codes, Fault, a_term, an_ask, IsRefusal, reply_of, refused, Refused, WritesFront, IsAskedOf, IsGiven, reply_text}
+use Rattle.ghc_console.proofs.CitedWords.{◌≡◌, ◌⊎◌, ◌∙◌, inl, inr, refl, sym, ap, subst, List, ℕ, Option, Some, Result, codes, Fault, a_term, an_ask, IsRefusal, reply_of, refused, Refused, WritesFront, IsAskedOf, IsGiven, reply_text}
 use Rattle.ghc_term.specs.declared.fault.Fault.TheVariants as fault
 use Rattle.ghc_core.specs.declared.reply.Reply.{Reply}
 use Rattle.ghc_core.specs.declared.world.World.{World as Played}

@@ -1,5 +1,5 @@
 -- What it is to have served a line.
-use Rattle.ghc_console.proofs.Words.{◌≡◌, ◌≤◌, ℕ, Bool, true, false, Option, List, length, take, refl, sym, subst, Result, Ok, Err, MatchResult, Appends, GoalName, AsksForRun, HasRun, IsAnsweredBy, ServesSo, command_of, Counts, WritesFront, line_limit, IsReply, refusal, Served, SessionState, Answered, Told as told, Ends as ends, Asks as asks}
+use Rattle.ghc_console.proofs.CitedWords.{◌≡◌, ◌≤◌, ℕ, Bool, true, false, Option, List, length, take, refl, sym, subst, Result, Ok, Err, MatchResult, Appends, GoalName, AsksForRun, HasRun, IsAnsweredBy, ServesSo, command_of, Counts, WritesFront, line_limit, IsReply, refusal, Served, SessionState, Answered, Told as told, Ends as ends, Asks as asks}
 use Rattle.ghc_term.specs.declared.fault.Fault.TheVariants as fault
 use Rattle.ghc_console.proofs.RunCommands.{run_replied}
 

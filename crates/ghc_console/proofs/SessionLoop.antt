@@ -1,5 +1,5 @@
 -- How far a session has come.
-use Rattle.ghc_console.proofs.Words.{◌≡◌, ◌≤◌, ◌+◌, ◌-◌, ℕ, Bool, true, false, Option, None, Some, List, [], ◌++◌, length, inl, inr, take, refl, sym, ap, ◌∙◌, subst, append_assoc, append-nil, length-append, arith, take-append_seam, Appends, IsAtEnd, Keeps, prepend_known, Appends-trans, Appends-kept, Appends-nil, line_feeds, lines_of, AsksAtNeed, CountsGiven, TakesFirst, TakesLine, IsReply, SessionState, Session, Began, Tells, at_end, ends, goes_on, nothing_yet, broken, went_on}
+use Rattle.ghc_console.proofs.CitedWords.{◌≡◌, ◌≤◌, ◌+◌, ◌-◌, ℕ, Bool, true, false, Option, None, Some, List, [], ◌++◌, length, inl, inr, take, refl, sym, ap, ◌∙◌, subst, append_assoc, append-nil, length-append, arith, take-append_seam, Appends, IsAtEnd, Keeps, prepend_known, Appends-trans, Appends-kept, Appends-nil, line_feeds, lines_of, AsksAtNeed, CountsGiven, TakesFirst, TakesLine, IsReply, SessionState, Session, Began, Tells, at_end, ends, goes_on, nothing_yet, broken, went_on}
 use Rattle.ghc_console.proofs.Rows.{feeds_append, feeds_plain}
 
 -- what the rest gives, behind `count` lines and what was done, is what the whole gives

@@ -1,5 +1,5 @@
 -- What is told behind a change.
-use Rattle.ghc_console.proofs.Words.{◌≡◌, ℕ, List, ◌++◌, Result, Ok, Err, OnOk, OnErr, IsOk, is_ok, false, if◌then◌else◌, sym, subst, NotesByGoal, World, AreKept, Change, Disturbed, AreStuckOtherwise, IsSettled, NotesTellNews, Standing, news_text, Settled, settled, IsJustChanged}
+use Rattle.ghc_console.proofs.CitedWords.{◌≡◌, ℕ, List, ◌++◌, Result, Ok, Err, OnOk, OnErr, IsOk, is_ok, false, if◌then◌else◌, sym, subst, NotesByGoal, World, AreKept, Change, Disturbed, AreStuckOtherwise, IsSettled, NotesTellNews, Standing, news_text, Settled, settled, IsJustChanged}
 
 -- what holds where a text was put behind another holds where that was not refused
 pub appended : {T E : Type 0} (r : Result T E) {Q : Type 0} (text front more : List ℕ) → text ≡ (if is_ok r then front ++ more else front) → (text ≡ front ++ more → Q) → OnOk r Q

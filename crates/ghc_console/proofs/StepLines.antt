@@ -1,5 +1,5 @@
 -- The lines that say `step`, a space and the name of a goal, and nothing else.
-use Rattle.ghc_console.proofs.Words.{◌≡◌, ◌≢◌, ℕ, Bool, true, false, cond, eqb, leb, not, ◌&&◌, ◌||◌, All, Option, Some, None, List, [], ◌∷◌, ◌++◌, filter, get_or, length, take, drop, suc, refl, sym, ap, ap₂, subst, ◌∙◌, arith, bytes_eq, codes, IfSome, is_ascii_digit, AllPass, join_with_byte, list_all, slice_split, digits_value, ne_eqb, All-append, All-cons, join_with_byte-slice_split, AllPass-from_list_all, list_all-from_AllPass, bytes_eq-Decides, GoalName, goal_name_of, goal_named, goal_of_parts, is_printable, number_of, words_of, command_of, command_of_words, step_with, Step, Unknown}
+use Rattle.ghc_console.proofs.CitedWords.{◌≡◌, ◌≢◌, ℕ, Bool, true, false, cond, eqb, leb, not, ◌&&◌, ◌||◌, All, Option, Some, None, List, [], ◌∷◌, ◌++◌, filter, get_or, length, take, drop, suc, refl, sym, ap, ap₂, subst, ◌∙◌, arith, bytes_eq, codes, IfSome, is_ascii_digit, AllPass, join_with_byte, list_all, slice_split, digits_value, ne_eqb, All-append, All-cons, join_with_byte-slice_split, AllPass-from_list_all, list_all-from_AllPass, bytes_eq-Decides, GoalName, goal_name_of, goal_named, goal_of_parts, is_printable, number_of, words_of, command_of, command_of_words, step_with, Step, Unknown}
 use Rattle.std.proofs.lemmas.List.{take-append-drop}
 use Rattle.ghc_console.proofs.WordLemmas.{filled, split-last}
 

@@ -1,5 +1,5 @@
 -- What the texts of replies say.
-use Rattle.ghc_console.proofs.Words.{◌≡◌, ◌≢◌, ◌⊎◌, ◌<◌, inl, inr, refl, sym, subst, subst₂, ap, ◌∙◌, List, [], ◌∷◌, ◌++◌, append_assoc, ℕ, length, codes, Result, Ok, Err, IfOk, OnOk, OnErr, MatchResult, Option, Fault, GoalName, VarName, variable, value_at, IsTextOf, Proposal, Record, World, Comes as comes, Coming, IsCommitOf, StepFails, Port, port_text, ports_text, LinesAreOfGoals, AreGoalLines, HasTooLong, IsVariableNamed, Settled, TellsChange, takes, full, RepliesToStep, steps, fails, RepliesToShow, too_long, RepliesToGoals, no_goals, lists, goal_too_long, lined, refusal, print_limit}
+use Rattle.ghc_console.proofs.CitedWords.{◌≡◌, ◌≢◌, ◌⊎◌, ◌<◌, inl, inr, refl, sym, subst, subst₂, ap, ◌∙◌, List, [], ◌∷◌, ◌++◌, append_assoc, ℕ, length, codes, Result, Ok, Err, IfOk, OnOk, OnErr, MatchResult, Option, Fault, GoalName, VarName, variable, value_at, IsTextOf, Proposal, Record, World, Comes as comes, Coming, IsCommitOf, StepFails, Port, port_text, ports_text, LinesAreOfGoals, AreGoalLines, HasTooLong, IsVariableNamed, Settled, TellsChange, takes, full, RepliesToStep, steps, fails, RepliesToShow, too_long, RepliesToGoals, no_goals, lists, goal_too_long, lined, refusal, print_limit}
 use Rattle.ghc_term.specs.declared.fault.Fault.TheVariants as fault
 use Rattle.ghc_term.specs.declared.limit.Limit.TheVariants as limit
 use Rattle.ghc_console.specs.Replies.{Takes}

@@ -1,5 +1,5 @@
 -- What stands behind the words of a line.
-use Rattle.ghc_console.proofs.Words.{◌≡◌, ◌≢◌, ℕ, ◌+◌, ◌-◌, All, true, false, List, [], ◌∷◌, ◌++◌, cond, eqb, length, take, drop, refl, sym, ap, ◌∙◌, append-nil, eqb-true, ne_eqb, take_rest, drop-drop, nil_from_length, All-head, All-tail, behind, from_space, unindented}
+use Rattle.ghc_console.proofs.CitedWords.{◌≡◌, ◌≢◌, ℕ, ◌+◌, ◌-◌, All, true, false, List, [], ◌∷◌, ◌++◌, cond, eqb, length, take, drop, refl, sym, ap, ◌∙◌, append-nil, eqb-true, ne_eqb, take_rest, drop-drop, nil_from_length, All-head, All-tail, behind, from_space, unindented}
 
 -- a word in front stays
 word_stays : (word more : List ℕ) → All (λ b. b ≢ 32) word → eqb (length word) 0 ≡ false → unindented (word ++ more) ≡ word ++ more

@@ -1,4 +1,4 @@
-use Rattle.ghc_console.proofs.Words.{◌≤◌, length, string_bytes, refl, sym, subst, ◌∙◌, false, IfOk, LineSays, line_limit, IsAnsweredBy, IsReply, too_long, no_memory, refusal, command_of, state_of, Fires}
+use Rattle.ghc_console.proofs.CitedWords.{◌≤◌, length, string_bytes, refl, sym, subst, ◌∙◌, false, IfOk, LineSays, line_limit, IsAnsweredBy, IsReply, too_long, no_memory, refusal, command_of, state_of, Fires}
 use Rattle.ghc_term.specs.declared.fault.Fault.TheVariants as fault
 use Rattle.ghc_console.proofs.SessionFirings.{fires_nothing}
 use Rattle.ghc_console.proofs.StepReplies.{either}

@@ -1,4 +1,4 @@
-use Rattle.ghc_console.proofs.Words.{None, refl, sym, subst, AsksForRun, leap_asks}
+use Rattle.ghc_console.proofs.CitedWords.{None, refl, sym, subst, AsksForRun, leap_asks}
 use Rattle.ghc_console.proofs.answer.execute.Goals as goal
 
 pub returns-in-Leap-clause-answered : goal.returns-in-Leap-clause-answered

@@ -1,4 +1,4 @@
-use Rattle.ghc_console.proofs.Words.{string_bytes, subst, IsCommandAnsweredBy, state_of}
+use Rattle.ghc_console.proofs.CitedWords.{string_bytes, subst, IsCommandAnsweredBy, state_of}
 use Rattle.ghc_console.proofs.RunCommands.{line_answered}
 use Rattle.ghc_console.proofs.StepReplies.{if_ok}
 use Rattle.ghc_console.proofs.answer.execute_line.Goals as goal

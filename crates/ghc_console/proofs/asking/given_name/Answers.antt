@@ -1,4 +1,4 @@
-use Rattle.ghc_console.proofs.Words.{◌≡◌, ◌≢◌, ◌<◌, length, subst, refl, All, HoldsAt, codes, not_both}
+use Rattle.ghc_console.proofs.CitedWords.{◌≡◌, ◌≢◌, ◌<◌, length, subst, refl, All, HoldsAt, codes, not_both}
 use Rattle.ghc_console.proofs.GivenNames.{given, none_given}
 use Rattle.ghc_console.proofs.asking.given_name.Goals as goal
 

@@ -1,4 +1,4 @@
-use Rattle.ghc_console.proofs.Words.{◌≡◌, ◌∙◌, ◌+◌, ◌∷◌, take, ap, sym, take_rest, numbered_of, variable_numbered, number_of}
+use Rattle.ghc_console.proofs.CitedWords.{◌≡◌, ◌∙◌, ◌+◌, ◌∷◌, take, ap, sym, take_rest, numbered_of, variable_numbered, number_of}
 use Rattle.ghc_console.proofs.NumberedWords.{one_bar, two_bars}
 use Rattle.ghc_console.proofs.asking.numbered.Goals as goal
 

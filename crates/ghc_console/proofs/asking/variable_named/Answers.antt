@@ -1,4 +1,4 @@
-use Rattle.ghc_console.proofs.Words.{◌≡◌, ◌∙◌, Some, None, inl, inr, subst, sym, not_both, IsVariableOf, IsGivenName}
+use Rattle.ghc_console.proofs.CitedWords.{◌≡◌, ◌∙◌, Some, None, inl, inr, subst, sym, not_both, IsVariableOf, IsGivenName}
 use Rattle.ghc_console.proofs.asking.variable_named.Goals as goal
 
 pub returns-in_default-numbered-clause-none : goal.returns-in_default-numbered-clause-none

@@ -1,4 +1,4 @@
-use Rattle.ghc_console.proofs.Words.{◌≡◌, ◌++◌, map, drop, string_bytes, binder_text, text_lines}
+use Rattle.ghc_console.proofs.CitedWords.{◌≡◌, ◌++◌, map, drop, string_bytes, binder_text, text_lines}
 use Rattle.ghc_console.proofs.causes.binder_lines.Given as goal
 
 abbrev pub invariant-loop-binder : goal.invariant-loop-binder

@@ -1,4 +1,4 @@
-use Rattle.ghc_console.proofs.Words.{◌≡◌, ◌++◌, map, drop, string_bytes, reason_text, text_lines}
+use Rattle.ghc_console.proofs.CitedWords.{◌≡◌, ◌++◌, map, drop, string_bytes, reason_text, text_lines}
 use Rattle.ghc_console.proofs.causes.reason_lines.Given as goal
 
 abbrev pub invariant-loop-reason : goal.invariant-loop-reason

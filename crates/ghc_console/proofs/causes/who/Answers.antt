@@ -1,4 +1,4 @@
-use Rattle.ghc_console.proofs.Words.{◌≡◌, ◌++◌, List, ℕ, map, sym, subst, ap, ◌∙◌, string_bytes, VarName, binder_text, IsVariableNamed, RepliesToWho, tells_binders, names_nothing, text_lines}
+use Rattle.ghc_console.proofs.CitedWords.{◌≡◌, ◌++◌, List, ℕ, map, sym, subst, ap, ◌∙◌, string_bytes, VarName, binder_text, IsVariableNamed, RepliesToWho, tells_binders, names_nothing, text_lines}
 use Rattle.ghc_console.proofs.CauseReplies.{lines_told}
 use Rattle.ghc_console.proofs.StepReplies.{if_ok}
 use Rattle.ghc_console.proofs.causes.who.Goals as goal

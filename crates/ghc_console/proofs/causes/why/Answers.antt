@@ -1,4 +1,4 @@
-use Rattle.ghc_console.proofs.Words.{◌≡◌, ◌++◌, List, inl, inr, sym, subst, ap, ◌∙◌, map, string_bytes, Record, reason_text, AreReasonsTold, RepliesToWhy, tells_reasons, text_lines}
+use Rattle.ghc_console.proofs.CitedWords.{◌≡◌, ◌++◌, List, inl, inr, sym, subst, ap, ◌∙◌, map, string_bytes, Record, reason_text, AreReasonsTold, RepliesToWhy, tells_reasons, text_lines}
 use Rattle.ghc_console.proofs.CauseReplies.{lines_told, why_refused}
 use Rattle.ghc_console.proofs.StepReplies.{if_ok}
 use Rattle.ghc_console.proofs.causes.why.Goals as goal

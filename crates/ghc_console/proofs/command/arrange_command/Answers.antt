@@ -1,4 +1,4 @@
-use Rattle.ghc_console.proofs.Words.{ap, inl, inr, refl, sym, ◌∙◌, arrange_with, in_front, numbers_of, words_of}
+use Rattle.ghc_console.proofs.CitedWords.{ap, inl, inr, refl, sym, ◌∙◌, arrange_with, in_front, numbers_of, words_of}
 use Rattle.ghc_console.proofs.Ordering.{all_there, begun, behind, none_there, one_more}
 use Rattle.ghc_console.proofs.command.arrange_command.Goals as goal
 

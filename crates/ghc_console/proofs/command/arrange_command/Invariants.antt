@@ -1,4 +1,4 @@
-use Rattle.ghc_console.proofs.Words.{◌≡◌, ◌⊎◌, length, BeginsWithNumber, numbers_of, words_of}
+use Rattle.ghc_console.proofs.CitedWords.{◌≡◌, ◌⊎◌, length, BeginsWithNumber, numbers_of, words_of}
 use Rattle.ghc_console.proofs.Ordering.{behind}
 use Rattle.ghc_console.proofs.command.arrange_command.Given as goal
 

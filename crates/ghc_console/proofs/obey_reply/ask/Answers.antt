@@ -1,4 +1,4 @@
-use Rattle.ghc_console.proofs.Words.{string_bytes, asks}
+use Rattle.ghc_console.proofs.CitedWords.{string_bytes, asks}
 use Rattle.ghc_console.proofs.ObeyReplies.{ask_refused}
 use Rattle.ghc_console.proofs.StepReplies.{if_ok, on_ok}
 use Rattle.ghc_console.proofs.obey_reply.ask.Goals as goal

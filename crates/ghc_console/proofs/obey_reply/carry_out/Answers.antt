@@ -1,4 +1,4 @@
-use Rattle.ghc_console.proofs.Words.{subst, string_bytes, NotesByGoal, IsBoundBy, AreDisturbed, Brings}
+use Rattle.ghc_console.proofs.CitedWords.{subst, string_bytes, NotesByGoal, IsBoundBy, AreDisturbed, Brings}
 use Rattle.ghc_console.proofs.StepReplies.{if_ok}
 use Rattle.ghc_console.proofs.obey_reply.carry_out.Goals as goal
 

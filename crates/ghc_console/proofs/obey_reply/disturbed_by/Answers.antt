@@ -1,4 +1,4 @@
-use Rattle.ghc_console.proofs.Words.{IfOk, sym, subst, IsBoundBy, Change, AreDisturbed, Brings}
+use Rattle.ghc_console.proofs.CitedWords.{IfOk, sym, subst, IsBoundBy, Change, AreDisturbed, Brings}
 use Rattle.ghc_console.proofs.obey_reply.disturbed_by.Goals as goal
 
 pub returns-in-Goes : goal.returns-in-Goes

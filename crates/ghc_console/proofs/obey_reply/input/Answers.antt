@@ -1,4 +1,4 @@
-use Rattle.ghc_console.proofs.Words.{string_bytes, reads}
+use Rattle.ghc_console.proofs.CitedWords.{string_bytes, reads}
 use Rattle.ghc_console.proofs.ObeyReplies.{text_refused}
 use Rattle.ghc_console.proofs.StepReplies.{if_ok, on_ok}
 use Rattle.ghc_console.proofs.obey_reply.input.Goals as goal

@@ -1,4 +1,4 @@
-use Rattle.ghc_console.proofs.Words.{sym, subst, refl, ◌∙◌, string_bytes, World, CanChange, IsObeyed, TellsChange, obeys}
+use Rattle.ghc_console.proofs.CitedWords.{sym, subst, refl, ◌∙◌, string_bytes, World, CanChange, IsObeyed, TellsChange, obeys}
 use Rattle.ghc_core.specs.CommandCode.{command_of}
 use Rattle.ghc_console.proofs.ObeyReplies.{command_refused, fires_as_counted, opening_left}
 use Rattle.ghc_console.proofs.SessionFirings.{obeys_nothing}

@@ -1,4 +1,4 @@
-use Rattle.ghc_console.proofs.Words.{◌≡◌, List, sym, subst, string_bytes, Record, Change, Port, ArePorts, ports_text, IsFrontOf}
+use Rattle.ghc_console.proofs.CitedWords.{◌≡◌, List, sym, subst, string_bytes, Record, Change, Port, ArePorts, ports_text, IsFrontOf}
 use Rattle.ghc_console.proofs.StepReplies.{on_ok}
 use Rattle.ghc_console.proofs.obey_reply.push_change.Goals as goal
 

@@ -1,4 +1,4 @@
-use Rattle.ghc_console.proofs.Words.{rules, ◌+◌, ◌++◌, map, drop, get_or, sym, ap, ◌∙◌, string_bytes, codes, decimal, drop_more, led, led_next}
+use Rattle.ghc_console.proofs.CitedWords.{rules, ◌+◌, ◌++◌, map, drop, get_or, sym, ap, ◌∙◌, string_bytes, codes, decimal, drop_more, led, led_next}
 use Rattle.ghc_console.proofs.obey_reply.write_numbers.Goals as goal
 
 pub loop-number-preserved : goal.loop-number-preserved

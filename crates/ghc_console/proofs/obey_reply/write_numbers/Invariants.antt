@@ -1,4 +1,4 @@
-use Rattle.ghc_console.proofs.Words.{◌≡◌, ◌++◌, map, drop, string_bytes, codes, decimal, led, numbers_text}
+use Rattle.ghc_console.proofs.CitedWords.{◌≡◌, ◌++◌, map, drop, string_bytes, codes, decimal, led, numbers_text}
 use denote.Text.{Utf8}
 use denote.Shadow.{shadow}
 use Rattle.ghc_console.proofs.obey_reply.write_numbers.Given as goal

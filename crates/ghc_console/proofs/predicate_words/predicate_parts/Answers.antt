@@ -1,4 +1,4 @@
-use Rattle.ghc_console.proofs.Words.{◌∙◌, ◌+◌, ap, drop, sym, take, take_rest, predicate_named, number_of}
+use Rattle.ghc_console.proofs.CitedWords.{◌∙◌, ◌+◌, ap, drop, sym, take, take_rest, predicate_named, number_of}
 use Rattle.ghc_console.proofs.PredicateWordLemmas.{at_stroke, no_name, no_stroke, with_arity}
 use Rattle.ghc_console.proofs.predicate_words.predicate_parts.Goals as goal
 

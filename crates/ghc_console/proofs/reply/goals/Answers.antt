@@ -1,4 +1,4 @@
-use Rattle.ghc_console.proofs.Words.{◌≡◌, ◌++◌, sym, ap, subst, ◌∙◌, string_bytes, Err, none_untried, RepliesToGoals}
+use Rattle.ghc_console.proofs.CitedWords.{◌≡◌, ◌++◌, sym, ap, subst, ◌∙◌, string_bytes, Err, none_untried, RepliesToGoals}
 use Rattle.ghc_console.proofs.StepReplies.{if_ok, goals_told, goals_refused}
 use Rattle.ghc_console.proofs.reply.goals.Goals as goal
 

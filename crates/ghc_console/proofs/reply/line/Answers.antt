@@ -1,4 +1,4 @@
-use Rattle.ghc_console.proofs.Words.{◌≡◌, ap, sym, ◌∙◌, inl, inr, string_bytes, refl, Some, None}
+use Rattle.ghc_console.proofs.CitedWords.{◌≡◌, ap, sym, ◌∙◌, inl, inr, string_bytes, refl, Some, None}
 use Rattle.std.specs.Option.{option_copied}
 use Rattle.ghc_console.proofs.RecordLines.{one_line}
 use Rattle.ghc_console.proofs.reply.line.Goals as goal

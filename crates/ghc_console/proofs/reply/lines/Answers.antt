@@ -1,4 +1,4 @@
-use Rattle.ghc_console.proofs.Words.{◌≡◌, [], sym, ap, ◌∙◌, ◌++◌, drop, string_bytes, append-nil, drop_of_length-le, arith, held_in, rank, rank_zero, rank_end, record_lines}
+use Rattle.ghc_console.proofs.CitedWords.{◌≡◌, [], sym, ap, ◌∙◌, ◌++◌, drop, string_bytes, append-nil, drop_of_length-le, arith, held_in, rank, rank_zero, rank_end, record_lines}
 use Rattle.ghc_console.proofs.RecordLines.{slot_on}
 use Rattle.ghc_console.proofs.reply.lines.Goals as goal
 

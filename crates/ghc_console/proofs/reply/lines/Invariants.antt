@@ -1,4 +1,4 @@
-use Rattle.ghc_console.proofs.Words.{◌≡◌, ◌++◌, drop, string_bytes, held_in, rank, record_lines}
+use Rattle.ghc_console.proofs.CitedWords.{◌≡◌, ◌++◌, drop, string_bytes, held_in, rank, record_lines}
 use Rattle.ghc_console.proofs.reply.lines.Given as goal
 
 abbrev pub invariant-loop-place : goal.invariant-loop-place

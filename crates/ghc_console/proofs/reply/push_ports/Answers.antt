@@ -1,4 +1,4 @@
-use Rattle.ghc_console.proofs.Words.{◌++◌, map, sym, ap, ◌∙◌, resumed, taken_ports, ports_text}
+use Rattle.ghc_console.proofs.CitedWords.{◌++◌, map, sym, ap, ◌∙◌, resumed, taken_ports, ports_text}
 use Rattle.ghc_console.proofs.StepReplies.{ports_joined}
 use Rattle.ghc_console.proofs.reply.push_ports.Goals as goal
 

@@ -1,4 +1,4 @@
-use Rattle.ghc_console.proofs.Words.{◌≡◌, sym, subst, ap, ◌∙◌, Err, List, ℕ, ◌++◌, string_bytes, codes, Tree, variable, StoreValue, value_at, IsTextOf, VarName, IsVariableNamed, RepliesToShow, shows, no_variable, lined}
+use Rattle.ghc_console.proofs.CitedWords.{◌≡◌, sym, subst, ap, ◌∙◌, Err, List, ℕ, ◌++◌, string_bytes, codes, Tree, variable, StoreValue, value_at, IsTextOf, VarName, IsVariableNamed, RepliesToShow, shows, no_variable, lined}
 use Rattle.ghc_console.proofs.StepReplies.{if_ok, printed_refused}
 use Rattle.ghc_console.proofs.reply.show.Goals as goal
 

@@ -1,4 +1,4 @@
-use Rattle.ghc_console.proofs.Words.{sym, subst, string_bytes, World, CanChange, Comes as comes, Coming, RepliesToStep, TellsChange, steps}
+use Rattle.ghc_console.proofs.CitedWords.{sym, subst, string_bytes, World, CanChange, Comes as comes, Coming, RepliesToStep, TellsChange, steps}
 use Rattle.ghc_console.proofs.StepReplies.{if_ok, on_ok, step_refused, step_taken}
 use Rattle.ghc_console.proofs.reply.step.Goals as goal
 

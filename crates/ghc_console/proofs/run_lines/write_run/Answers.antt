@@ -1,4 +1,4 @@
-use Rattle.ghc_console.proofs.Words.{[], ◌∷◌, map, last_of, run_lines, step_line, stop_line}
+use Rattle.ghc_console.proofs.CitedWords.{[], ◌∷◌, map, last_of, run_lines, step_line, stop_line}
 use Rattle.ghc_console.proofs.RunLines.{going_broken, going_last, going_on, going_start}
 use Rattle.ghc_console.proofs.run_lines.write_run.Goals as goal
 

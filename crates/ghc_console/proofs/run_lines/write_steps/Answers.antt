@@ -1,4 +1,4 @@
-use Rattle.ghc_console.proofs.Words.{◌+◌, ◌-◌, ◌<◌, [], ◌∷◌, drop, map, sym, subst, ◌∙◌, arith, Keeps-trans, In, numbers, AreDistinct, last_of, step_line}
+use Rattle.ghc_console.proofs.CitedWords.{◌+◌, ◌-◌, ◌<◌, [], ◌∷◌, drop, map, sym, subst, ◌∙◌, arith, Keeps-trans, In, numbers, AreDistinct, last_of, step_line}
 use Rattle.ghc_console.proofs.RunLines.{Going, going_at, going_broken, going_end, going_on, is_there, none_left}
 use Rattle.ghc_console.proofs.run_lines.write_steps.Goals as goal
 

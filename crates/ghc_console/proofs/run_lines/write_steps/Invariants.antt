@@ -1,4 +1,4 @@
-use Rattle.ghc_console.proofs.Words.{◌≡◌, ◌≤◌, ◌-◌, drop, map, Keeps, last_of, step_line}
+use Rattle.ghc_console.proofs.CitedWords.{◌≡◌, ◌≤◌, ◌-◌, drop, map, Keeps, last_of, step_line}
 use Rattle.ghc_console.proofs.RunLines.{Going}
 use Rattle.ghc_console.proofs.run_lines.write_steps.Given as goal
 

@@ -1,4 +1,4 @@
-use Rattle.ghc_console.proofs.Words.{◌∙◌, inl, inr, stop_line}
+use Rattle.ghc_console.proofs.CitedWords.{◌∙◌, inl, inr, stop_line}
 use Rattle.ghc_console.proofs.RunLines.{one_told}
 use Rattle.ghc_console.proofs.run_lines.write_stop.Goals as goal
 

@@ -1,4 +1,4 @@
-use Rattle.ghc_console.proofs.Words.{ap, not, refl, ◌∙◌, skip_asks}
+use Rattle.ghc_console.proofs.CitedWords.{ap, not, refl, ◌∙◌, skip_asks}
 use Rattle.std.specs.FinMap as finite
 use Rattle.ghc_console.proofs.RunCommands.{goal_there, skip_refused}
 use Rattle.ghc_console.proofs.run_reply.skip.Goals as goal

@@ -1,4 +1,4 @@
-use Rattle.ghc_console.proofs.Words.{◌≡◌, [], ◌++◌, ◌∙◌, ℕ, List, is_ok, if◌then◌else◌, Result, Ok, Err, OnOk, string_bytes, chronicle_of, chronicle_text, spies_in_order, saved_text}
+use Rattle.ghc_console.proofs.CitedWords.{◌≡◌, [], ◌++◌, ◌∙◌, ℕ, List, is_ok, if◌then◌else◌, Result, Ok, Err, OnOk, string_bytes, chronicle_of, chronicle_text, spies_in_order, saved_text}
 use Rattle.ghc_console.proofs.save_reply.save.Goals as goal
 
 -- a text that was added to none is told

@@ -1,4 +1,4 @@
-use Rattle.ghc_console.proofs.Words.{◌≡◌, ℕ, ◌++◌, List, [], Result, Ok, Err, is_ok, if◌then◌else◌, OnOk, inr, inl, sym, subst, ap, ◌∙◌, string_bytes, history_text, World, AskForGoals, history_of, RepliesToSaveSteps, tells_history, has_asked}
+use Rattle.ghc_console.proofs.CitedWords.{◌≡◌, ℕ, ◌++◌, List, [], Result, Ok, Err, is_ok, if◌then◌else◌, OnOk, inr, inl, sym, subst, ap, ◌∙◌, string_bytes, history_text, World, AskForGoals, history_of, RepliesToSaveSteps, tells_history, has_asked}
 use Rattle.ghc_term.specs.declared.fault.Fault.TheVariants as fault
 use Rattle.ghc_term.specs.declared.limit.Limit.TheVariants as limit
 use Rattle.ghc_console.specs.TextLines.{refusal}

@@ -1,4 +1,4 @@
-use Rattle.ghc_console.proofs.Words.{◌∙◌, Keeps-trans}
+use Rattle.ghc_console.proofs.CitedWords.{◌∙◌, Keeps-trans}
 use Rattle.ghc_console.proofs.SchedulePlays.{going_broken, going_last, going_on}
 use Rattle.ghc_console.proofs.schedule_play.play_lines.Goals as goal
 

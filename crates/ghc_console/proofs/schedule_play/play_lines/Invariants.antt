@@ -1,4 +1,4 @@
-use Rattle.ghc_console.proofs.Words.{◌≡◌, length, Keeps, lines_of}
+use Rattle.ghc_console.proofs.CitedWords.{◌≡◌, length, Keeps, lines_of}
 use Rattle.ghc_console.proofs.SchedulePlays.{Going}
 use Rattle.ghc_console.proofs.schedule_play.play_lines.Given as goal
 

@@ -1,4 +1,4 @@
-use Rattle.ghc_console.proofs.Words.{[], sym, subst, Appends-nil, lines_of, ArePlayedOut, nothing_more, with_hands}
+use Rattle.ghc_console.proofs.CitedWords.{[], sym, subst, Appends-nil, lines_of, ArePlayedOut, nothing_more, with_hands}
 use Rattle.ghc_console.proofs.SchedulePlays.{opened}
 use Rattle.ghc_console.proofs.schedule_play.schedule.Goals as goal
 

@@ -1,4 +1,4 @@
-use Rattle.ghc_console.proofs.Words.{refl, subst, Core, reply_of, IsReadAskFor}
+use Rattle.ghc_console.proofs.CitedWords.{refl, subst, Core, reply_of, IsReadAskFor}
 use Rattle.ghc_console.specs.ScheduleReplies.{asks}
 use Rattle.ghc_console.proofs.ScheduleSaid.{ask_refused}
 use Rattle.ghc_console.proofs.schedule_reply.ask.Goals as goal

@@ -1,4 +1,4 @@
-use Rattle.ghc_console.proofs.Words.{◌∙◌, ap, sym, subst, Some, reply_of, Input as input, Ask as ask, PlaysCommand}
+use Rattle.ghc_console.proofs.CitedWords.{◌∙◌, ap, sym, subst, Some, reply_of, Input as input, Ask as ask, PlaysCommand}
 use Rattle.ghc_console.proofs.schedule_reply.carry_out.Goals as goal
 
 pub returns-in-Input : goal.returns-in-Input

@@ -1,4 +1,4 @@
-use Rattle.ghc_console.proofs.Words.{refl, reply_of}
+use Rattle.ghc_console.proofs.CitedWords.{refl, reply_of}
 use Rattle.ghc_console.specs.ScheduleReplies.{reads}
 use Rattle.ghc_console.proofs.ScheduleSaid.{given_refused}
 use Rattle.ghc_console.proofs.schedule_reply.give.Goals as goal

@@ -1,4 +1,4 @@
-use Rattle.ghc_console.proofs.Words.{option_map, rules, subst, reply_of, IsDoneBy, does}
+use Rattle.ghc_console.proofs.CitedWords.{option_map, rules, subst, reply_of, IsDoneBy, does}
 use Rattle.ghc_console.proofs.schedule_reply.hear.Goals as goal
 
 pub returns-in-AsConsole : goal.returns-in-AsConsole

@@ -1,4 +1,4 @@
-use Rattle.ghc_console.proofs.Words.{refl, starves}
+use Rattle.ghc_console.proofs.CitedWords.{refl, starves}
 use Rattle.ghc_console.proofs.schedule_reply.reply_as_console.Goals as goal
 
 pub returns-in-Err : goal.returns-in-Err

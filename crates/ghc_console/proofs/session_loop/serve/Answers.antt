@@ -1,4 +1,4 @@
-use Rattle.ghc_console.proofs.Words.{◌≡◌, false, refl, string_bytes, true, Told as told, Ends as ends, Asks as asks, state_of}
+use Rattle.ghc_console.proofs.CitedWords.{◌≡◌, false, refl, string_bytes, true, Told as told, Ends as ends, Asks as asks, state_of}
 use Rattle.ghc_console.proofs.Served.{asks_run, breaks, ends_reply, serves, starved_reply, told_reply}
 use Rattle.ghc_console.proofs.session_loop.serve.Goals as goal
 

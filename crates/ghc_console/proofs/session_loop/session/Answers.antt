@@ -1,4 +1,4 @@
-use Rattle.ghc_console.proofs.Words.{◌∙◌, arith, refl, rules, sym, Keeps-trans, prepend_known-nil, command_of}
+use Rattle.ghc_console.proofs.CitedWords.{◌∙◌, arith, refl, rules, sym, Keeps-trans, prepend_known-nil, command_of}
 use Rattle.ghc_console.proofs.RunCommands.{run_fires}
 use Rattle.ghc_console.proofs.Served.{counts_same, has_asked, has_broken, has_broken_run, has_ended, has_run, has_told}
 use Rattle.ghc_console.proofs.SessionFirings.{fired_start, fired_on, fired_end}

@@ -1,4 +1,4 @@
-use Rattle.ghc_console.proofs.Words.{◌≡◌, ◌+◌, ◌-◌, prepend_known, CountsGiven, state_of}
+use Rattle.ghc_console.proofs.CitedWords.{◌≡◌, ◌+◌, ◌-◌, prepend_known, CountsGiven, state_of}
 use Rattle.ghc_console.proofs.SessionFirings.{FiredSo}
 use Rattle.ghc_console.proofs.SessionLoop.{Going}
 use Rattle.ghc_console.proofs.session_loop.session.Given as goal

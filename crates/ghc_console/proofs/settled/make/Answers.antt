@@ -1,4 +1,4 @@
-use Rattle.ghc_console.proofs.Words.{subst, string_bytes, Settled}
+use Rattle.ghc_console.proofs.CitedWords.{subst, string_bytes, Settled}
 use Rattle.ghc_console.proofs.settled.make.Goals as goal
 
 pub returns-clause-told : goal.returns-clause-told

@@ -1,4 +1,4 @@
-use Rattle.ghc_console.proofs.Words.{rules, ◌≡◌, ◌++◌, [], sym, ap, subst, ◌∙◌, append-nil, string_bytes, nil_from_length, AreStuckOtherwise, news_text, IsJustChanged}
+use Rattle.ghc_console.proofs.CitedWords.{rules, ◌≡◌, ◌++◌, [], sym, ap, subst, ◌∙◌, append-nil, string_bytes, nil_from_length, AreStuckOtherwise, news_text, IsJustChanged}
 use Rattle.ghc_console.proofs.Settling.{appended, told_by_notes}
 use Rattle.ghc_console.proofs.settled.push_stuck.Goals as goal
 

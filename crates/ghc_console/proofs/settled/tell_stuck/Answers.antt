@@ -1,4 +1,4 @@
-use Rattle.ghc_console.proofs.Words.{◌++◌, sym, ap, subst, ◌∙◌, string_bytes, arith, Settled, unsettled, refusal}
+use Rattle.ghc_console.proofs.CitedWords.{◌++◌, sym, ap, subst, ◌∙◌, string_bytes, arith, Settled, unsettled, refusal}
 use Rattle.ghc_term.specs.declared.fault.Fault.TheVariants as fault
 use Rattle.ghc_console.proofs.Settling.{put, where_refused}
 use Rattle.ghc_console.proofs.settled.tell_stuck.Goals as goal

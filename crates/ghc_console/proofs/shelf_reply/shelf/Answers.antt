@@ -1,4 +1,4 @@
-use Rattle.ghc_console.proofs.Words.{◌≡◌, ◌++◌, ap, ◌∙◌, string_bytes, steps_told, text_lines}
+use Rattle.ghc_console.proofs.CitedWords.{◌≡◌, ◌++◌, ap, ◌∙◌, string_bytes, steps_told, text_lines}
 use Rattle.std.specs.FinMap as finite
 use Rattle.ghc_console.proofs.CauseReplies.{lines_told}
 use Rattle.ghc_console.proofs.StepReplies.{if_ok}

@@ -1,4 +1,4 @@
-use Rattle.ghc_console.proofs.Words.{◌≡◌, ◌++◌, map, string_bytes, steps_told, text_lines}
+use Rattle.ghc_console.proofs.CitedWords.{◌≡◌, ◌++◌, map, string_bytes, steps_told, text_lines}
 use Rattle.ghc_console.proofs.shelf_reply.step_lines.Given as goal
 
 abbrev pub invariant-loop-taken : goal.invariant-loop-taken

@@ -1,4 +1,4 @@
-use Rattle.ghc_console.proofs.Words.{◌↔◌, IsTrue, ap, refl, subst, sym, ◌∙◌, false≢true, Program, RepliesToSpy, is_spied, is_undefined, refusal, HasClauseFor}
+use Rattle.ghc_console.proofs.CitedWords.{◌↔◌, IsTrue, ap, refl, subst, sym, ◌∙◌, false≢true, Program, RepliesToSpy, is_spied, is_undefined, refusal, HasClauseFor}
 use Rattle.ghc_term.specs.declared.fault.Fault.TheVariants as fault
 use Rattle.ghc_console.proofs.Spying.{always}
 use Rattle.ghc_console.proofs.StepReplies.{on_ok}

@@ -1,4 +1,4 @@
-use Rattle.ghc_console.proofs.Words.{◌∙◌, ◌∷◌, ◌+◌, ap, sym, take, drop, take_rest, lines_of}
+use Rattle.ghc_console.proofs.CitedWords.{◌∙◌, ◌∷◌, ◌+◌, ap, sym, take, drop, take_rest, lines_of}
 use Rattle.ghc_console.proofs.CutRows.{cut, uncut}
 use Rattle.ghc_console.proofs.text_rows.next_row.Goals as goal
 

@@ -1,4 +1,4 @@
-use Rattle.ghc_console.proofs.Words.{◌∙◌, ◌+◌, ap, sym, take, take_rest, goal_named, number_of}
+use Rattle.ghc_console.proofs.CitedWords.{◌∙◌, ◌+◌, ap, sym, take, take_rest, goal_named, number_of}
 use Rattle.ghc_console.proofs.WordLemmas.{goal_at_point, no_point}
 use Rattle.ghc_console.proofs.words.goal_name.Goals as goal
 

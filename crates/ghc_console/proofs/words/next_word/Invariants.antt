@@ -1,4 +1,4 @@
-use Rattle.ghc_console.proofs.Words.{◌≡◌, length, unindented, words_of}
+use Rattle.ghc_console.proofs.CitedWords.{◌≡◌, length, unindented, words_of}
 use Rattle.ghc_console.proofs.words.next_word.Given as goal
 
 -- the words that are left are all, and so is what stands behind the spaces in front

@@ -1,4 +1,4 @@
-use Rattle.ghc_console.proofs.Words.{◌≡◌, ◌≤◌, drop, is_ascii_digit, list_all, digits_value, digits_value_after}
+use Rattle.ghc_console.proofs.CitedWords.{◌≡◌, ◌≤◌, drop, is_ascii_digit, list_all, digits_value, digits_value_after}
 use Rattle.ghc_console.proofs.words.number.Given as goal
 
 abbrev pub invariant-loop-byte : goal.invariant-loop-byte

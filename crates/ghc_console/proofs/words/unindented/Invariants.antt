@@ -1,4 +1,4 @@
-use Rattle.ghc_console.proofs.Words.{◌≡◌, length, unindented}
+use Rattle.ghc_console.proofs.CitedWords.{◌≡◌, length, unindented}
 use Rattle.ghc_console.proofs.words.unindented.Given as goal
 
 abbrev pub invariant-loop-rest : goal.invariant-loop-rest

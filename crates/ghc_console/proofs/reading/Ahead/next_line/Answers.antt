@@ -1,4 +1,4 @@
-use Rattle.ghc_console.proofs.Words.{◌≢◌, ◌+◌, ◌++◌, rules, All-append, prepend_known}
+use Rattle.ghc_console.proofs.CitedWords.{◌≢◌, ◌+◌, ◌++◌, rules, All-append, prepend_known}
 use Rattle.ghc_console.proofs.ReadLoop.{Begun, begun_at_start, begun_filled, begun_fed, asked_more, taken_off, ends_there, refilled}
 use Rattle.ghc_console.proofs.Rows.{ended, last}
 use Rattle.ghc_console.proofs.reading.Ahead.next_line.Goals as goal
