@@ -1,5 +1,5 @@
 -- A parse of the program's command finds FILE and the query.
-use Rattle.ghcdb.proofs.Words.{zero, suc, ◌≡◌, ◌∙◌, ◌<◌, ℕ, true, false, List, [], ◌∷◌, slice_index, is_some, codes, refl, sym, inl, inr, arith, All, slice_index_or, bytes_eq, bytes_eq-Decides, IsParsedFrom, IsPlainArg, first_value, found_of, FitsChain, HasDistinctIds, Arg, Command, ArgMatches, required_in_chain, IsGhcdb, IsOptionalValue, IsRequiredValue, IsWorkersValue}
+use Rattle.ghcdb.proofs.CitedWords.{zero, suc, ◌≡◌, ◌∙◌, ◌<◌, ℕ, true, false, List, [], ◌∷◌, slice_index, is_some, codes, refl, sym, inl, inr, arith, All, slice_index_or, bytes_eq, bytes_eq-Decides, IsParsedFrom, IsPlainArg, first_value, found_of, FitsChain, HasDistinctIds, Arg, Command, ArgMatches, required_in_chain, IsGhcdb, IsOptionalValue, IsRequiredValue, IsWorkersValue}
 
 -- the id of an argument begins with the first byte of its name
 first_byte : (id : List ℕ) (a : Arg) → a.id.now ≡ id → (other : List ℕ) → a.id.now ≡ other → slice_index other 0 ≡ slice_index id 0

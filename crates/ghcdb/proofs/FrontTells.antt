@@ -1,5 +1,5 @@
 -- Of a program no more need be read than a byte past its limit.
-use Rattle.ghcdb.proofs.Words.{◌≡◌, ◌<◌, ◌≤◌, ◌↔◌, ◌⊎◌, ℕ, List, inl, inr, refl, subst, sym, length, take, arith, take_all, length-take-le, cases_lt, Fault, most_bytes, IsReadProgram, a_program, IsRefusal, too_long, by_tokens, WrittenClause, answered_once, one_program_tree, most_read, FrontTells}
+use Rattle.ghcdb.proofs.CitedWords.{◌≡◌, ◌<◌, ◌≤◌, ◌↔◌, ◌⊎◌, ℕ, List, inl, inr, refl, subst, sym, length, take, arith, take_all, length-take-le, cases_lt, Fault, most_bytes, IsReadProgram, a_program, IsRefusal, too_long, by_tokens, WrittenClause, answered_once, one_program_tree, most_read, FrontTells}
 use Rattle.ghc_term.specs.declared.fault.Fault.TheVariants as fault
 use Rattle.ghc_term.specs.declared.limit.Limit.TheVariants as limit
 

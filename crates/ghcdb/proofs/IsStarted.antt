@@ -1,5 +1,5 @@
 -- A refusal by the checker, of texts that were read, is a refusal of the start; and texts start one thing alone, or are refused in one way.
-use Rattle.ghcdb.proofs.Words.{◌≡◌, ◌⊎◌, ℕ, List, inl, inr, refl, sym, ◌∙◌, subst, exact, WrittenClause, WrittenQuery, IsReadProgram, IsReadQuery, one_program_read, one_query_read, no_program_refused, one_program_refusal, no_query_refused, one_query_refusal, Refused, IsRefusedAs, HasClause, AreMadeOf, IsProgramFault, IsFault, program_once, fault_once, accepted_no_fault, first_fault_no, Refusal, Started, IsStarted, AreRead, IsOutOfMemory, for_program, IsStartRefusal, of_program, of_query, of_clauses, of_calls, StartIsExact, told_of}
+use Rattle.ghcdb.proofs.CitedWords.{◌≡◌, ◌⊎◌, ℕ, List, inl, inr, refl, sym, ◌∙◌, subst, exact, WrittenClause, WrittenQuery, IsReadProgram, IsReadQuery, one_program_read, one_query_read, no_program_refused, one_program_refusal, no_query_refused, one_query_refusal, Refused, IsRefusedAs, HasClause, AreMadeOf, IsProgramFault, IsFault, program_once, fault_once, accepted_no_fault, first_fault_no, Refusal, Started, IsStarted, AreRead, IsOutOfMemory, for_program, IsStartRefusal, of_program, of_query, of_clauses, of_calls, StartIsExact, told_of}
 use Rattle.ghc_flat.specs.declared.refused.Refused.TheVariants as refused
 
 pub told : (p q : List ℕ) (ws : List WrittenClause) (asked : WrittenQuery) (r : Refused) → IsReadProgram p ws → IsReadQuery q asked → IsRefusedAs ws asked.goals r → IsOutOfMemory p (told_of r) ⊎ IsStartRefusal p q (told_of r)

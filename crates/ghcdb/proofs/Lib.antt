@@ -10,4 +10,4 @@ mod SavedAgain
 mod Tells
 mod TextFront
 mod Played
-mod Words
+mod CitedWords

@@ -1,5 +1,5 @@
 -- A parse of the program's command finds a number of workers within its bounds, or none.
-use Rattle.ghcdb.proofs.Words.{zero, suc, ◌≡◌, ◌∙◌, ◌<◌, ◌≤◌, ◌++◌, ◌||◌, ℕ, true, false, List, [], ◌∷◌, length, slice_index, codes, refl, sym, ap, subst, inl, inr, arith, IfNone, IfSome, Option, Some, None, Result, Ok, Err, option_map, slice_get, unwrap_or, IsSome, Bor, All, slice_index_or, bytes_eq, ParsesUnsigned, All-get_or, All-nil, bytes_eq-Decides, AddsArg, IsAuto, IsPlain, args_of, groups_of, Entry, EntryPasses, HasReading, PassesArg, parser_of, parser_of_value, ReadsOne, matched_of, one_text, Accepts, IsUnsignedIn, read_as, reading_of, Arg, Command, out-Command, ValueParser, ArgMatches, Found, MatchedArg, added_plain, entry_by_id, same_rules_by_id, IsGhcdb, SaysWorkers}
+use Rattle.ghcdb.proofs.CitedWords.{zero, suc, ◌≡◌, ◌∙◌, ◌<◌, ◌≤◌, ◌++◌, ◌||◌, ℕ, true, false, List, [], ◌∷◌, length, slice_index, codes, refl, sym, ap, subst, inl, inr, arith, IfNone, IfSome, Option, Some, None, Result, Ok, Err, option_map, slice_get, unwrap_or, IsSome, Bor, All, slice_index_or, bytes_eq, ParsesUnsigned, All-get_or, All-nil, bytes_eq-Decides, AddsArg, IsAuto, IsPlain, args_of, groups_of, Entry, EntryPasses, HasReading, PassesArg, parser_of, parser_of_value, ReadsOne, matched_of, one_text, Accepts, IsUnsignedIn, read_as, reading_of, Arg, Command, out-Command, ValueParser, ArgMatches, Found, MatchedArg, added_plain, entry_by_id, same_rules_by_id, IsGhcdb, SaysWorkers}
 use Rattle.clap.specs.Built.{IsParsedFrom, IsPlainArg}
 use Rattle.clap.specs.Matches.{first_value, found_of}
 use Rattle.clap.specs.declared.builder.value_parser.Reading.TheVariants as reading

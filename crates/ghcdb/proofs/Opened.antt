@@ -1,5 +1,5 @@
 -- What is answered for the texts of a program and a query, and then of a history, is answered for all of them.
-use Rattle.ghcdb.proofs.Words.{◌≡◌, ◌⊎◌, List, ℕ, inl, inr, refl, sym, subst, ◌∙◌, Option, Some, None, option_map, Result, Ok, Err, AnsweredUnless, Fault, Memory, Debugger, Refusal, Started, IsStarted, IsStartRefusal, IsNoMemoryFor, IsOutOfMemory, for_program, OpensOn, IsHistoryFault, IsHistoryRefused, IsDebuggerOf, IsOpenRefusal, of_start, of_history, IsWithoutMemory, at_start, for_history}
+use Rattle.ghcdb.proofs.CitedWords.{◌≡◌, ◌⊎◌, List, ℕ, inl, inr, refl, sym, subst, ◌∙◌, Option, Some, None, option_map, Result, Ok, Err, AnsweredUnless, Fault, Memory, Debugger, Refusal, Started, IsStarted, IsStartRefusal, IsNoMemoryFor, IsOutOfMemory, for_program, OpensOn, IsHistoryFault, IsHistoryRefused, IsDebuggerOf, IsOpenRefusal, of_start, of_history, IsWithoutMemory, at_start, for_history}
 use Rattle.std.proofs.Common.{Bor}
 use Rattle.ghcdb.specs.declared.refused_part.RefusedPart.TheVariants as part
 

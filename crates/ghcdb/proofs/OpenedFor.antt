@@ -1,5 +1,5 @@
 -- What a session begins with does not depend on how many workers make its runs.
-use Rattle.ghcdb.proofs.Words.{◌≡◌, ℕ, List, ap, subst₂, sym, Option, Debugger, IsDebuggerOf, OpensOn}
+use Rattle.ghcdb.proofs.CitedWords.{◌≡◌, ℕ, List, ap, subst₂, sym, Option, Debugger, IsDebuggerOf, OpensOn}
 
 pub opened_for : (program query : List ℕ) (history : Option (List ℕ)) (d e : Debugger) → e.core ≡ d.core → e.spies ≡ d.spies → IsDebuggerOf program query history d → IsDebuggerOf program query history e
 opened_for program query history d e core spies o = record {

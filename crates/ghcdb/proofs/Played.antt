@@ -1,5 +1,5 @@
 -- What was told of a schedule still stands where more of it is handed on.
-use Rattle.ghcdb.proofs.Words.{ℕ, List, [], Option, Result, Ok, Err, length, subst, take-length, Keeps, Appends-kept, Fault, Core, records_text, BrokenOff, IsScheduleOf, Schedule, part_of_records, then_begun, then_whole, told_at_end}
+use Rattle.ghcdb.proofs.CitedWords.{ℕ, List, [], Option, Result, Ok, Err, length, subst, take-length, Keeps, Appends-kept, Fault, Core, records_text, BrokenOff, IsScheduleOf, Schedule, part_of_records, then_begun, then_whole, told_at_end}
 use Rattle.ghc_core.specs.declared.world.World.{World as Played}
 
 -- A whole text begins itself.

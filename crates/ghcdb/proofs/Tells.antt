@@ -1,5 +1,5 @@
 -- What a session told stays told where nothing more is written; and what a whole session told is what one that is broken off may tell.
-use Rattle.ghcdb.proofs.Words.{◌≡◌, ℕ, Option, None, Some, Result, Ok, Err, List, [], ◌∷◌, length, refl, sym, ap, ◌∙◌, subst, append-nil, MatchResult, OnOk, take-length, Keeps, append_known, Appends-kept, Session, Began, Tells, at_end, ends, goes_on, nothing_yet, broken, went_on, SessionState, HasBeginning, HasReplies}
+use Rattle.ghcdb.proofs.CitedWords.{◌≡◌, ℕ, Option, None, Some, Result, Ok, Err, List, [], ◌∷◌, length, refl, sym, ap, ◌∙◌, subst, append-nil, MatchResult, OnOk, take-length, Keeps, append_known, Appends-kept, Session, Began, Tells, at_end, ends, goes_on, nothing_yet, broken, went_on, SessionState, HasBeginning, HasReplies}
 
 pub told_kept : (Run : ℕ → SessionState → List (List ℕ) → List ℕ → SessionState → Type 0) (s t : SessionState) (unread written now later : Option (List ℕ)) (before : ℕ)
     → Tells Run s unread written now before t → Keeps now later → Tells Run s unread written later before t

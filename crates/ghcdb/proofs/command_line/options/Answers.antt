@@ -1,4 +1,4 @@
-use Rattle.ghcdb.proofs.Words.{ℕ, codes, rules, subst, sym, ◌∙◌, ExplainsUnsignedError, HasUnsignedDigitsIfOk, ParsesUnsigned, first_value, found_of, SaysWorkers, some_of_text}
+use Rattle.ghcdb.proofs.CitedWords.{ℕ, codes, rules, subst, sym, ◌∙◌, ExplainsUnsignedError, HasUnsignedDigitsIfOk, ParsesUnsigned, first_value, found_of, SaysWorkers, some_of_text}
 use Rattle.ghcdb.proofs.CommandLine.{file_found, query_found}
 use Rattle.ghcdb.proofs.NumberOfWorkers.{is_made, made_is, says, says_one}
 use Rattle.ghcdb.proofs.command_line.options.Goals as goal

@@ -1,4 +1,4 @@
-use Rattle.ghcdb.proofs.Words.{inl, inr, sym, ap, ◌∙◌, subst, GivesBack, loads, of_text, of_step}
+use Rattle.ghcdb.proofs.CitedWords.{inl, inr, sym, ap, ◌∙◌, subst, GivesBack, loads, of_text, of_step}
 use Rattle.ghcdb.proofs.Opened.{told_of_history}
 use Rattle.ghcdb.proofs.opening.loaded.Goals as goal
 

@@ -1,4 +1,4 @@
-use Rattle.ghcdb.proofs.Words.{inl, inr, refl, sym, ap, ◌∙◌, subst, spied_of, GivesBack, resumes, of_chronicle, of_entry}
+use Rattle.ghcdb.proofs.CitedWords.{inl, inr, refl, sym, ap, ◌∙◌, subst, spied_of, GivesBack, resumes, of_chronicle, of_entry}
 use Rattle.ghcdb.proofs.Opened.{told_of_history}
 use Rattle.ghcdb.proofs.opening.resumed.Goals as goal
 

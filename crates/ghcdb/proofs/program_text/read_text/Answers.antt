@@ -1,4 +1,4 @@
-use Rattle.ghcdb.proofs.Words.{rules, ◌≡◌, ◌++◌, ◌<◌, ◌≤◌, ℕ, List, length, subst, sym, places, Consumes, Consumes-trans, TakesAtMost, most_read}
+use Rattle.ghcdb.proofs.CitedWords.{rules, ◌≡◌, ◌++◌, ◌<◌, ◌≤◌, ℕ, List, length, subst, sym, places, Consumes, Consumes-trans, TakesAtMost, most_read}
 use Rattle.ghcdb.proofs.TextFront.{front_at_end, front_in_full}
 use Rattle.ghcdb.proofs.program_text.read_text.Goals as goal
 

@@ -1,4 +1,4 @@
-use Rattle.ghcdb.proofs.Words.{◌≤◌, ◌-◌, length, Consumes, most_read}
+use Rattle.ghcdb.proofs.CitedWords.{◌≤◌, ◌-◌, length, Consumes, most_read}
 use Rattle.ghcdb.proofs.program_text.read_text.Given as goal
 
 -- What was taken from the reader is the text, which is not too long.

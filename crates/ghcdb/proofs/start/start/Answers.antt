@@ -1,4 +1,4 @@
-use Rattle.ghcdb.proofs.Words.{◌⊎◌, sym, subst, inl, inr, refl, IsStartRefusal, IsOutOfMemory, for_program, for_query, of_program, of_query}
+use Rattle.ghcdb.proofs.CitedWords.{◌⊎◌, sym, subst, inl, inr, refl, IsStartRefusal, IsOutOfMemory, for_program, for_query, of_program, of_query}
 use Rattle.ghcdb.proofs.IsStarted.{told}
 use Rattle.ghcdb.proofs.start.start.Goals as goal
 

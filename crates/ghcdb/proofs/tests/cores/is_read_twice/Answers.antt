@@ -1,5 +1,5 @@
 use denote.Param.Send.{sendable}
-use Rattle.ghcdb.proofs.Words.{crosses, core_send, core_sync}
+use Rattle.ghcdb.proofs.CitedWords.{crosses, core_send, core_sync}
 use Rattle.std.proofs.alloc.Global.TheSendSync as global
 use Rattle.std.proofs.sync.RwLock.TheSendSync as lock
 use Rattle.ghcdb.proofs.tests.cores.is_read_twice.Goals as goal
