@@ -5,7 +5,7 @@ use Rattle.std.specs.FinSet as set
 use Rattle.ghc_depend.proofs.Finding.{ends}
 use Rattle.ghc_depend.proofs.Picking.{distinct_push}
 
-le_decided : (a b : ℕ) → Decided (a ≤ b)
+pub le_decided : (a b : ℕ) → Decided (a ≤ b)
 le_decided a b = elim (cases_lt b a) [ inr l ↦ inl l | inl l ↦ inr (λ k. omega arith) ]
 
 known_before : (ns : List ℕ) (a b : ℕ) → Decided (Before ns a b)

@@ -94,7 +94,7 @@ called_own i [] = refl
 called_own i (None ∷ os) = ap (λ l. made no_step i ∷ l) (called_own (i + 1) os)
 called_own i (Some x ∷ os) = rw (named_test x) (called_own i os)
 
-called_length : (i : ℕ) (os : List (Option VarName)) → length (called i os) ≡ length os
+pub called_length : (i : ℕ) (os : List (Option VarName)) → length (called i os) ≡ length os
 called_length i [] = refl
 called_length i (None ∷ os) = ap suc (called_length (i + 1) os)
 called_length i (Some x ∷ os) = ap suc (called_length i os)

@@ -3,7 +3,7 @@ use Rattle.ghc_fire.proofs.Words.{◌≡◌, Bool, true, false, cond, ◌||◌, 
 use Rattle.std.specs.FinMap as finite
 use Rattle.ghc_fire.proofs.Ordered.{value_in, inserted, entries_are}
 
-either : {V X : Type 0} (shows : V → X) (b : Bool) (v : V) (o : Option V) → option_map shows (cond b (Some v) o) ≡ cond b (Some (shows v)) (option_map shows o)
+pub either : {V X : Type 0} (shows : V → X) (b : Bool) (v : V) (o : Option V) → option_map shows (cond b (Some v) o) ≡ cond b (Some (shows v)) (option_map shows o)
 either shows true v o = refl
 either shows false v o = refl
 
@@ -11,7 +11,7 @@ or_false : (b : Bool) → (b || false) ≡ b
 or_false true = refl
 or_false false = refl
 
-or_true : (b : Bool) → (b || true) ≡ true
+pub or_true : (b : Bool) → (b || true) ≡ true
 or_true true = refl
 or_true false = refl
 
@@ -37,7 +37,7 @@ module _ {K V X : Type 0} {R : K → K → Ordering} (o : IsTotalOrder R) (alike
   abbrev shown : List (K × V) → List (K × X)
   shown es = shown_by shows es
 
-  one_put : (es new : List (K × V)) (k : K) (v : V) → ((q : K) → value_in R q new ≡ cond (is_eq (R k q)) (Some v) (value_in R q es))
+  pub one_put : (es new : List (K × V)) (k : K) (v : V) → ((q : K) → value_in R q new ≡ cond (is_eq (R k q)) (Some v) (value_in R q es))
       → finite.from_entries {R = R} (shown new) ≡ finite.insert (finite.from_entries (shown es)) k (shows v)
   one_put es new k v h = inserted o alike (shown es) (shown new) k (shows v) (λ q.
       lookup-map_values shows (λ n. is_eq (R q n)) new ∙ ap (option_map shows) (h q) ∙ either shows (is_eq (R k q)) v (value_in R q es)

@@ -5,7 +5,7 @@ use Rattle.std.specs.FinSet as set
 use Rattle.ghc_match.specs.Match.{waits}
 
 -- each variable of an expression with a value ends in an integer
-number_ends : {E : VarName → Tree → Type 0} {a : Expression} {k : ℤ} {y : VarName} → Number E a k → In y (leaf_variables a) → (j : ℤ) × E y (integer j)
+pub number_ends : {E : VarName → Tree → Type 0} {a : Expression} {k : ℤ} {y : VarName} → Number E a k → In y (leaf_variables a) → (j : ℤ) × E y (integer j)
 number_ends of_integer i = absurd i
 number_ends {E = E} (of_variable {x = x} {k = k} p) (inl e) = (k, subst (λ z. E z (integer k)) (sym e) p)
 number_ends (of_variable p) (inr i) = absurd i

@@ -29,7 +29,7 @@ repeated_once : (w : WrittenClause) (v u : List ℕ) → IsRepeated w v → IsRe
 repeated_once w v u p q = named_once w p.0 q.0 v u (same_twice (variables_of_list w.head) p.0 q.0 p.1 q.1) p.2 q.2
 
 module _ (D : List ℕ → ℕ → Type 0) where
-  call_once : (gs : List Goal) (f h : List ℕ) (n k : ℕ) → IsFirstCallWithout D gs f n → IsFirstCallWithout D gs h k → (f ≡ h) × (n ≡ k)
+  pub call_once : (gs : List Goal) (f h : List ℕ) (n k : ℕ) → IsFirstCallWithout D gs f n → IsFirstCallWithout D gs h k → (f ≡ h) × (n ≡ k)
   call_once gs f h n k p q =
       elim (compare_splits p.front q.front (call f p.arguments) (call h q.arguments) p.back q.back (sym p.splits ∙ q.splits)) [
         | inl e ↦ (call_name f h p.arguments q.arguments e.1, p.arity ∙ call_arity f h p.arguments q.arguments e.1 ∙ sym q.arity)
@@ -39,7 +39,7 @@ module _ (D : List ℕ → ℕ → Type 0) where
         ]
       ]
 
-  no_call : (gs : List Goal) (f : List ℕ) (n : ℕ) → AllCalls D gs → ¬ IsFirstCallWithout D gs f n
+  pub no_call : (gs : List Goal) (f : List ℕ) (n : ℕ) → AllCalls D gs → ¬ IsFirstCallWithout D gs f n
   no_call gs f n all p = p.without (subst (D f) (sym p.arity) (all f p.arguments (subst (In (call f p.arguments)) (sym p.splits) (in_middle p.front (call f p.arguments) p.back))))
 
   clause_fault_once : (k : ℕ) (w : WrittenClause) (e d : Fault) → IsClauseFault D k w e → IsClauseFault D k w d → e ≡ d

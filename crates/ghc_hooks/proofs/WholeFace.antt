@@ -4,7 +4,7 @@ use Rattle.std.specs.FinMap as finite
 use Rattle.std.specs.FinSet as set
 
 -- a goal that is there is listed
-listed : (es : List (GoalName × Goal)) (g : GoalName) (b : Goal) → finite.find goal_cmp g es ≡ Some b → In g (map (λ e. e.0) es)
+pub listed : (es : List (GoalName × Goal)) (g : GoalName) (b : Goal) → finite.find goal_cmp g es ≡ Some b → In g (map (λ e. e.0) es)
 listed [] g b e = cc
 listed (x ∷ es) g b e =
     elim (eq_by_cmp goal_cmp g x.0) as (λ c. eq_by_cmp goal_cmp g x.0 ≡ c → cond c (Some x.1) (finite.find goal_cmp g es) ≡ Some b → In g (map (λ e. e.0) (x ∷ es))) [

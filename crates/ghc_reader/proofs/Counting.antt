@@ -95,7 +95,7 @@ counted_step vs i x keys n further more less is counted known tells more_is =
 pub few_step : (n i : ℕ) (further : Bool) (more : ℕ) → n ≤ i → more ≡ (if further then 1 else 0) → n + more ≤ i + 1
 few_step n i further more few more_is = omega (arith, at_most_one further, more_is)
 
-or_false : (b : Bool) → (b || false) ≡ b
+pub or_false : (b : Bool) → (b || false) ≡ b
 or_false true = refl
 or_false false = refl
 

@@ -52,7 +52,7 @@ get_seam [] [] x e = cc
 get_seam [] (y ∷ ys) x e = (ys, (let same : y ≡ x = cc in ap (λ z. z ∷ ys) same))
 get_seam (y ∷ xs) ys x e = get_seam xs ys x e
 
-none_left : {X : Type 0} (xs : List X) → length xs ≡ 0 → xs ≡ []
+pub none_left : {X : Type 0} (xs : List X) → length xs ≡ 0 → xs ≡ []
 none_left [] e = refl
 none_left (x ∷ xs) e = absurd (omega arith)
 

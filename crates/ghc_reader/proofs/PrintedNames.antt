@@ -34,7 +34,7 @@ variable_run v p =
 
 -- ---- of no other variable
 
-decimal_run : (n : ℕ) → n ≤ 4294967295 → IsRun is_ascii_digit is_ascii_digit (decimal n)
+pub decimal_run : (n : ℕ) → n ≤ 4294967295 → IsRun is_ascii_digit is_ascii_digit (decimal n)
 decimal_run n small = let k = decimal_is_IsNumeral n (omega arith) in run_of_digits (decimal n) k.0.0 k.0.1
 
 -- digits that such a word is made of have the values of its numbers

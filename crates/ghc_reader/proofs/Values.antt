@@ -138,7 +138,7 @@ no_value text bs same form none =
 
 -- ---- numbers of 32 bits
 
-digits_told : IsDigitsTest (λ ds. list_all is_ascii_digit ds ≡ true)
+pub digits_told : IsDigitsTest (λ ds. list_all is_ascii_digit ds ≡ true)
 digits_told = search rules
 
 number_parsed : {E : Type 0} (ds : List ℕ) (r : Result ℕ E) → ParsesUnsigned 32 10 ds r → AreDigits ds → OkIff r ((0 < length ds) × (digits_value 10 ds < 2 ^ 32)) (digits_value 10 ds)

@@ -45,7 +45,7 @@ module _ (text : List ℕ) (r : Result WrittenAsk Fault) (exact : IsExact (IsRea
 -- ---- new variables in order
 
 -- one more
-made_more : (n i k : ℕ) → made_from n i k ++ made n (i + k) ∷ [] ≡ made_from n i (suc k)
+pub made_more : (n i k : ℕ) → made_from n i k ++ made n (i + k) ∷ [] ≡ made_from n i (suc k)
 made_more n i zero = let same : i + 0 ≡ i = omega arith in ap (λ j. made n j ∷ []) same
 made_more n i (suc k) =
     let same : i + suc k ≡ (i + 1) + k = omega arith in

@@ -12,7 +12,7 @@ made_or_old n i (g ∷ gs) m h b e =
       | false ↦ λ p q. elim (made_or_old n (i + 1) gs m h b q) [ inl a ↦ inl (a.0, inr a.1) | inr a ↦ inr a ]
     ] refl (sym (finite.get-insert goal_total (with_makes n (i + 1) gs m) (record { step = n; place = i }) g h) ∙ e)
 
-tied : (h g : GoalName) → h ≡ g → eq_by_cmp goal_cmp h g ≡ true
+pub tied : (h g : GoalName) → h ≡ g → eq_by_cmp goal_cmp h g ≡ true
 tied h g same = subst (λ z. eq_by_cmp goal_cmp h z ≡ true) same (ap is_eq (tied_itself goal_total h))
 
 -- what is there without a goal was there, under another name

@@ -92,7 +92,7 @@ stops p all rest e n l = n (alike_rest rest (p ∷ []) (subst AreAlike e l)).0
 pub names_apart : (f g : List ℕ) (b : Bool) → b ≡ not (bytes_eq f g) → b ≡ true → ¬ (f ≡ g)
 names_apart f g b e t same = let yes = (bytes_eq-Decides f g).1 same in let clash : true ≡ false = sym t ∙ e ∙ ap not yes in cc
 
-not_false : (a : Bool) → not a ≡ false → a ≡ true
+pub not_false : (a : Bool) → not a ≡ false → a ≡ true
 not_false true e = refl
 not_false false e = let clash : true ≡ false = e in cc
 

@@ -5,7 +5,7 @@ use Rattle.ghc_term.proofs.Entries.{tie}
 pub goal_total : IsTotalOrder goal_cmp
 goal_total = then_total (on_total (λ (g : GoalName). g.step) nat_cmp_total) (on_total (λ (g : GoalName). g.place) nat_cmp_total)
 
-both : (a b : Ordering) → ordering_then a b ≡ Equal → (a ≡ Equal) × (b ≡ Equal)
+pub both : (a b : Ordering) → ordering_then a b ≡ Equal → (a ≡ Equal) × (b ≡ Equal)
 both Less b e = cc
 both Equal b e = (refl, e)
 both Greater b e = cc

@@ -48,7 +48,7 @@ small_letter b h k = plain b k
     (λ e. let clash : false ≡ true = subst (λ c. IsTrue (is_ascii_lowercase c)) e h in cc)
     (λ e. let clash : false ≡ true = subst (λ c. IsTrue (is_ascii_lowercase c)) e h in cc)
 
-and_parts : (a b : Bool) → IsTrue (a && b) → IsTrue a × IsTrue b
+pub and_parts : (a b : Bool) → IsTrue (a && b) → IsTrue a × IsTrue b
 and_parts true b h = (refl, h)
 and_parts false b h = cc
 

@@ -25,12 +25,12 @@ occurs_among [] y o = absurd o
 occurs_among (t ∷ ts) y (inl o) = (t, inl refl, o)
 occurs_among (t ∷ ts) y (inr o) = let r = occurs_among ts y o in (r.0, inr r.1, r.2)
 
-among_occurs : (ts : List Tree) (t : Tree) (y : VarName) → In t ts → Occurs y t → OccursIn y (trees ts)
+pub among_occurs : (ts : List Tree) (t : Tree) (y : VarName) → In t ts → Occurs y t → OccursIn y (trees ts)
 among_occurs [] t y i o = absurd i
 among_occurs (u ∷ ts) t y (inl e) o = inl (subst (Occurs y) e o)
 among_occurs (u ∷ ts) t y (inr i) o = inr (among_occurs ts t y i o)
 
-argument_reaches : {T : VarName → Option Tree} {t : Tree} {z : VarName} (f : List ℕ) (ts : List Tree) → In t ts → Reaches T t z → Reaches T (node f (trees ts)) z
+pub argument_reaches : {T : VarName → Option Tree} {t : Tree} {z : VarName} (f : List ℕ) (ts : List Tree) → In t ts → Reaches T t z → Reaches T (node f (trees ts)) z
 argument_reaches f ts i (here o) = here (among_occurs ts _ _ i o)
 argument_reaches f ts i (through o e r) = through (among_occurs ts _ _ i o) e r
 
@@ -39,7 +39,7 @@ pub value_in_list : (o : Option Tree) (t : Tree) → o ≡ Some t → In t (valu
 value_in_list None t e = cc
 value_in_list (Some u) t e = inl (cc)
 
-list_is_value : (o : Option Tree) (t : Tree) → In t (value_list o) → o ≡ Some t
+pub list_is_value : (o : Option Tree) (t : Tree) → In t (value_list o) → o ≡ Some t
 list_is_value None t i = absurd i
 list_is_value (Some u) t (inl e) = ap Some (sym e)
 list_is_value (Some u) t (inr i) = absurd i

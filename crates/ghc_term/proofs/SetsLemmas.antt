@@ -60,7 +60,7 @@ pub no_member : (s : Variables) → set.len s ≡ 0 → (x : VarName) → ¬ IsT
 no_member s h x = holds_nothing s (set.empty_of_len s h) x
 
 -- a set is given by what it holds
-agree : (a b : Bool) → (IsTrue a → IsTrue b) → (IsTrue b → IsTrue a) → a ≡ b
+pub agree : (a b : Bool) → (IsTrue a → IsTrue b) → (IsTrue b → IsTrue a) → a ≡ b
 agree true b f g = sym (f refl)
 agree false true f g = g refl
 agree false false f g = refl

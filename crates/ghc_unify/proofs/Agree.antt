@@ -71,15 +71,15 @@ module _ {D : VarName → Type 0} {S T S' T' : VarName → Option Tree} (f : Ali
   both_met : (a b : List VarName) → ((x : VarName) → In x a → D x) → ((x : VarName) → In x b → D x) → met S' a ++ met S' b ≡ met S a ++ met S b
   both_met a b i j = ap (λ z. z ++ met S' b) (met_agree S S' a (λ x k. f.old x (i x k))) ∙ ap (λ z. met S a ++ z) (met_agree S S' b (λ x k. f.old x (j x k)))
 
-pairs_inside : {D : VarName → Type 0} {ts us : Trees} {es : List (Tree × Tree)} → Pairs ts us es → ((x : VarName) → OccursIn x ts → D x) → ((x : VarName) → OccursIn x us → D x) → AllInside D es
+pub pairs_inside : {D : VarName → Type 0} {ts us : Trees} {es : List (Tree × Tree)} → Pairs ts us es → ((x : VarName) → OccursIn x ts → D x) → ((x : VarName) → OccursIn x us → D x) → AllInside D es
 pairs_inside no_more i j = tt
 pairs_inside (one_more p) i j = (λ x o. i x (inl o), λ x o. j x (inl o), pairs_inside p (λ x o. i x (inr o)) (λ x o. j x (inr o)))
 
-meets_inside : {D : VarName → Type 0} {e f : Tree} {es : List (Tree × Tree)} → Meets e f es → Inside D e → Inside D f → AllInside D es
+pub meets_inside : {D : VarName → Type 0} {e f : Tree} {es : List (Tree × Tree)} → Meets e f es → Inside D e → Inside D f → AllInside D es
 meets_inside integers i j = tt
 meets_inside (nodes p) i j = pairs_inside p i j
 
-append_inside : (D : VarName → Type 0) (es fs : List (Tree × Tree)) → AllInside D es → AllInside D fs → AllInside D (es ++ fs)
+pub append_inside : (D : VarName → Type 0) (es fs : List (Tree × Tree)) → AllInside D es → AllInside D fs → AllInside D (es ++ fs)
 append_inside D [] fs i j = j
 append_inside D (e ∷ es) fs i j = (i.0, i.1, append_inside D es fs i.2 j)
 

@@ -5,7 +5,7 @@ use Rattle.ghc_unify.proofs.Extension.{Hold, all_extend}
 use Rattle.ghc_unify.proofs.Bound.{bound_by, IsBoundIn, Fresh, is_bound, is_in, untouched, same_bound, unbound_before, keeps, moves_fresh, mono, has_value}
 
 -- what is bound, and to what
-bound_to : (bs : List (VarName × Tree)) (T : VarName → Option Tree) → Fresh bs T → (W : VarName → Option Tree) (F : VarName → Option Tree)
+pub bound_to : (bs : List (VarName × Tree)) (T : VarName → Option Tree) → Fresh bs T → (W : VarName → Option Tree) (F : VarName → Option Tree)
     → ((x : VarName) → IsBoundIn bs x → W x ≡ None) → ((x : VarName) (t : Tree) → bound_by bs T x ≡ Some t → F x ≡ Some t) → Hold bs W F
 bound_to [] T f W F w h = tt
 bound_to (b ∷ bs) T f W F w h =
