@@ -43,15 +43,6 @@ fn addition_of(alloc: Global, proposal: Proposal, number: u32) -> Result<Additio
     Addition::of(alloc, step)
 }
 
-// Lets go of a proposal for whose step there is no room: apart, so that no frame of a step has room for it.
-#[inline(never)]
-fn no_room_for(proposal: Proposal) -> Fault
-    ensures { result ≡ Fault.Full }
-{
-    let _proposal = proposal;
-    Fault::Full
-}
-
 impl Core {
     /// Proposes a step of the goal of this name, with a clause chosen or not, and counts a firing on the meter given. The
     /// refusals, and their order, are those of an attempt at the goal in the present state. The core stays as it is.
@@ -167,7 +158,7 @@ impl Core {
         ensures fault { IfErr result (λ f. (f ≡ Fault.Memory) ⊎ ((f ≡ Fault.Full) × IsFull self.now.world)) }
     {
         if self.is_full() {
-            return Err(no_room_for(proposal));
+            return Err(Fault::Full);
         }
         Ok(addition_of(alloc, proposal, self.next)?)
     }
