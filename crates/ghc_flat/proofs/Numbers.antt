@@ -9,13 +9,13 @@ same_key f n p e =
       | false ↦ λ d q. cc
     ] refl e
   where
-    pub same_number : (k n : ℕ) → nat_eq k n ≡ true → k ≡ n
+    same_number : (k n : ℕ) → nat_eq k n ≡ true → k ≡ n
     same_number k n q = grind (arith, nat_tests)
 
 pub key_itself : (f : List ℕ) (n : ℕ) (p : List ℕ × ℕ) → p.0 ≡ f → p.1 ≡ n → is_same_key f n p ≡ true
 key_itself f n p e d = ap (λ b. b && nat_eq p.1 n) ((bytes_eq-Decides p.0 f).1 e) ∙ number p.1 n d
   where
-    pub number : (k n : ℕ) → k ≡ n → nat_eq k n ≡ true
+    number : (k n : ℕ) → k ≡ n → nat_eq k n ≡ true
     number k n q = grind (arith, nat_tests)
 
 -- the numbers of one key more
