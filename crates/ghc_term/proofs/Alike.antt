@@ -1,7 +1,8 @@
 -- Pairs that are to be compared, and what the comparison of one of them says of all.
-use Rattle.ghc_term.proofs.Words.{◌≡◌, ◌≢◌, ℕ, suc, ◌+◌, ◌-◌, ◌<◌, ◌≤◌, Bool, true, false, List, [], ◌∷◌, ◌++◌, length, get_or, drop, refl, sym, ap, ◌∙◌, subst, append_assoc, append-nil, drop-cons, arith, ◌↔◌, IsTrue, not, Bor, bytes_eq-Decides, Pair, Terms, TermView, Var, Int, Atom, Struct, Tree, node, none, trees, list_of, atom, shown, HasArgument, nodes_of_all, IsAlike, AreAlike, left_nodes, all_left_nodes, Adds, Compared}
+use Rattle.ghc_term.proofs.Words.{◌≡◌, ◌≢◌, ℕ, suc, ◌+◌, ◌-◌, ◌<◌, ◌≤◌, Bool, true, false, List, [], ◌∷◌, ◌++◌, length, get_or, drop, refl, sym, ap, ◌∙◌, subst, append_assoc, append-nil, drop-cons, arith, ◌↔◌, IsTrue, not, Bor, bytes_eq-Decides, Pair, Terms, TermView, Atom, Struct, Tree, node, none, trees, list_of, atom, shown, HasArgument, nodes_of_all, IsAlike, AreAlike, left_nodes, all_left_nodes, Adds, Compared}
 use Rattle.std.specs.Str.{bytes_eq}
 use Rattle.ghc_term.proofs.Goals.{list_of-trees}
+use Rattle.ghc_term.proofs.Texts.{no_arguments}
 
 alike_join : (ps qs : List Pair) → AreAlike ps → AreAlike qs → AreAlike (ps ++ qs)
 alike_join [] qs a b = b
@@ -99,26 +100,17 @@ not_false false e = let clash : true ≡ false = e in cc
 pub names_same : (f g : List ℕ) (b : Bool) → b ≡ not (bytes_eq f g) → b ≡ false → f ≡ g
 names_same f g b e t = (bytes_eq-Decides f g).0 (not_false (bytes_eq f g) (sym e ∙ t))
 
-no_arguments : (ts : List Tree) → ts ≢ [] → trees ts ≢ none
-no_arguments [] n e = n refl
-no_arguments (t ∷ ts) n e = cc
-
 -- what is lent as no atom is none
 pub lent_atom : (f : List ℕ) (v : TermView) → HasArgument v → ((g : Bor (List ℕ)) → v ≢ Atom g) → shown v ≢ atom f
-lent_atom f (Var x) h n q = cc
-lent_atom f (Int k) h n q = cc
 lent_atom f (Atom g) h n q = n g refl
 lent_atom f (Struct g ts) h n q = no_arguments ts.now h (cc)
+lent_atom f v h n q = cc
 
 -- what is lent as no structure is none
 pub lent_structure : (f : List ℕ) (ts : List Tree) (v : TermView) → ts ≢ [] → ((g : Bor (List ℕ)) (us : Bor (List Tree)) → v ≢ Struct g us) → shown v ≢ node f (trees ts)
-lent_structure f ts (Var x) h n q = cc
-lent_structure f ts (Int k) h n q = cc
 lent_structure f ts (Atom g) h n q = let e : none ≡ trees ts = cc in no_arguments ts h (sym e)
 lent_structure f ts (Struct g us) h n q = n g us refl
-
-trees_inj : (ts us : List Tree) → trees ts ≡ trees us → ts ≡ us
-trees_inj ts us e = sym (list_of-trees ts) ∙ ap list_of e ∙ list_of-trees us
+lent_structure f ts v h n q = cc
 
 -- structures are the same where their names and their arguments are
 pub same_structure : (f g : List ℕ) (ts us : List Tree) (l r : Tree) → node f (trees ts) ≡ l → node g (trees us) ≡ r → (f ≡ g) × (ts ≡ us) → l ≡ r
@@ -129,4 +121,4 @@ same_parts f g ts us l r p q e =
     let whole : node f (trees ts) ≡ node g (trees us) = p ∙ e ∙ sym q in
     let names : f ≡ g = cc in
     let args : trees ts ≡ trees us = cc in
-    (names, trees_inj ts us args)
+    (names, sym (list_of-trees ts) ∙ ap list_of args ∙ list_of-trees us)

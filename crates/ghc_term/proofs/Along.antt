@@ -1,5 +1,6 @@
 -- A term measured part by part, along last arguments and list tails.
-use Rattle.ghc_term.proofs.Words.{◌≡◌, ℕ, ◌+◌, ◌≤◌, ◌<◌, List, [], ◌∷◌, ◌++◌, length, take, drop, get_or, sym, ap, ◌∙◌, subst, arith, Option, Some, None, take_more, take-append-drop, Tree, node, trees, height, height_of_all, IsHead, IsInGrammar, AllInGrammar, nodes, nodes_of_all, deepest, HasRoom, Leaves, Enters, MeasuredAt, MeasuredAll, bytes_at, nesting_at, bytes_of_all, own_bytes, own_nesting, Room, Inside, Place, Alone}
+use Rattle.ghc_term.proofs.Words.{◌≡◌, ℕ, ◌+◌, ◌≤◌, ◌<◌, List, [], ◌∷◌, ◌++◌, length, take, drop, get_or, sym, ap, ◌∙◌, subst, arith, Option, Some, None, take_more, take-append-drop, Tree, node, trees, height, IsHead, IsInGrammar, AllInGrammar, nodes, nodes_of_all, deepest, HasRoom, Leaves, Enters, MeasuredAt, MeasuredAll, bytes_at, nesting_at, bytes_of_all, own_bytes, own_nesting, Room, Inside, Place, Alone}
+use Rattle.ghc_term.proofs.Trees.{height_last}
 use Rattle.ghc_term.proofs.Written.{nodes-append, bytes-append, deepest-append, grammar_parts, grammar_whole, node_bytes, node_nesting}
 
 abbrev pub RoomAt : Place → Tree → ℕ → Room → Type 0
@@ -59,11 +60,6 @@ module _ (p : Place) (f : List ℕ) (ts : List Tree) (t : Tree) (d : ℕ) (r : R
       text = omega (arith, node_bytes p f ts t, h.text, e.text, l.text, ap (λ q. bytes_at q t) e.last);
       nested = omega (arith, node_nesting p f ts t, h.nested, e.nested, l.nested, ap (λ q. nesting_at q t) e.last);
     }
-
--- the last argument is lower than the structure
-height_last : (ts : List Tree) (t : Tree) → height t < height_of_all (trees (ts ++ t ∷ []))
-height_last [] t = omega arith
-height_last (u ∷ us) t = omega (arith, height_last us t)
 
 module _ (t : Tree) (d : ℕ) (r : Room) (p : Place) (u : Tree) (within : ℕ) (left : Room) (a : Along t d r p u within left) (f : List ℕ) (args front : List Tree) (last : Tree)
     (is : u ≡ node f (trees args)) (split : args ≡ front ++ last ∷ []) where

@@ -86,7 +86,7 @@ pub added : (es new : Entries) (x : VarName) (v : Tree) → ¬ In x (keys_of es)
 added es new x v n e = ap map_of e ∙ finite.from_entries_push name_total name_antisymmetric es x v (no_value es x n)
 
 -- what no test finds is not there
-entry_of : (es : Entries) (x : VarName) → In x (keys_of es) → (e : VarName × Tree) × In e es × (e.0 ≡ x)
+pub entry_of : (es : Entries) (x : VarName) → In x (keys_of es) → (e : VarName × Tree) × In e es × (e.0 ≡ x)
 entry_of [] x i = absurd i
 entry_of (e ∷ es) x (inl s) = (e, inl refl, sym s)
 entry_of (e ∷ es) x (inr i) = let r = entry_of es x i in (r.0, inr r.1, r.2)

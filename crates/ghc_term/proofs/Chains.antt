@@ -16,12 +16,11 @@ module _ {S : VarName → Option Tree} where
 
   -- a term reaches the variables of its chain
   pub leads_reaches : {t e : Tree} {xs : List VarName} {y : VarName} → Leads S t xs e → In y xs → Reaches S t y
-  leads_reaches at_integer h = absurd h
-  leads_reaches at_node h = absurd h
   leads_reaches (at_free p) (inl e) = here e
   leads_reaches (at_free p) (inr h) = absurd h
   leads_reaches (along p a) (inl e) = here e
   leads_reaches (along p a) (inr h) = through refl p (leads_reaches a h)
+  leads_reaches l h = absurd h
 
   -- the chain is the same in another store that agrees on it
   pub leads_agree : {S' : VarName → Option Tree} {t e : Tree} {xs : List VarName} → Leads S t xs e → ((x : VarName) → In x xs → S' x ≡ S x) → Leads S' t xs e

@@ -37,17 +37,12 @@ name_decided x y =
 
 code_decided : (a b : Gv) → Decided (a ≡ b)
 code_decided gnil gnil = inl refl
-code_decided gnil (gnum n) = inr (λ e. cc)
-code_decided gnil (gcons a b) = inr (λ e. cc)
-code_decided (gnum n) gnil = inr (λ e. cc)
 code_decided (gnum n) (gnum m) = elim (nat_decided n m) [ inl e ↦ inl (ap gnum e) | inr d ↦ inr (λ e. d (cc)) ]
-code_decided (gnum n) (gcons a b) = inr (λ e. cc)
-code_decided (gcons a b) gnil = inr (λ e. cc)
-code_decided (gcons a b) (gnum n) = inr (λ e. cc)
 code_decided (gcons a b) (gcons c d) = elim (code_decided a c) [
   | inr n ↦ inr (λ e. n (cc))
   | inl p ↦ elim (code_decided b d) [ inr n ↦ inr (λ e. n (cc)) | inl q ↦ inl (cc) ]
 ]
+code_decided a b = inr (λ e. cc)
 
 -- two things are one where their codes are
 pub same_decided : {A : Type 0} → Coded A → (x y : A) → Decided (x ≡ y)

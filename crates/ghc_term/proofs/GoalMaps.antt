@@ -1,5 +1,5 @@
 -- Values under the names of goals.
-use Rattle.ghc_term.proofs.Words.{◌≡◌, ◌+◌, Bool, true, false, cond, not, ◌&&◌, ◌||◌, List, [], ◌∷◌, length, refl, sym, ap, ◌∙◌, arith, Option, None, Some, is_some, T, list_any, AllByRecursion, lookup, keys_of, eq_by_cmp, is_eq, is_lt, Ordering, Less, Equal, Greater, below_all, is_sorted, GoalName, goal_cmp, names_of}
+use Rattle.ghc_term.proofs.Words.{◌≡◌, ◌+◌, Bool, true, false, cond, not, ◌&&◌, ◌||◌, List, [], ◌∷◌, length, refl, sym, ap, ◌∙◌, arith, Option, None, Some, is_some, T, list_any, keys_of, eq_by_cmp, is_eq, is_lt, Ordering, Equal, below_all, is_sorted, GoalName, goal_cmp, names_of}
 use Rattle.std.specs.List.{IsDistinct}
 use Rattle.std.specs.FinMap as finite
 use Rattle.std.specs.FinSet as set
@@ -43,9 +43,8 @@ taken_name m k = set.same_set goal_total goal_antisymmetric _ _ (λ q.
     ∙ ap (λ b. not (eq_by_cmp goal_cmp q k) && b) (sym (in_names m q)) ∙ sym (set.contains-remove goal_total (names_of m) k q))
 
 less_apart : (o : Ordering) → T (is_lt o) → is_eq o ≡ false
-less_apart Less p = refl
 less_apart Equal p = absurd p
-less_apart Greater p = refl
+less_apart o p = refl
 
 parts : (a b : Bool) → T (a && b) → T a × T b
 parts true b p = (tt, p)
@@ -67,19 +66,6 @@ counted (e ∷ es) p =
 pub count_of_names : {V : Type 0} (m : finite.FinMap goal_cmp V) → set.len (names_of m) ≡ finite.len m
 count_of_names m = counted (finite.entries m) (finite.entries_sorted m) ∙ sym (finite.len-entries m)
 
-not_found : {V : Type 0} (k : GoalName) (es : List (GoalName × V)) → AllByRecursion (λ y. same k y ≡ false) (keys_of es) → lookup (same k) es ≡ None
-not_found k [] a = refl
-not_found k (e ∷ es) a = ap (λ b. cond b (Some e.1) (lookup (same k) es)) a.0 ∙ not_found k es a.1
-
 -- entries of different names are as many as the map is large
 pub count_of_entries : {V : Type 0} (es : List (GoalName × V)) → IsDistinct same (keys_of es) → finite.len (finite.from_entries {R = goal_cmp} es) ≡ length es
-unfolding IsDistinct
-count_of_entries {V} [] d = finite.len-empty goal_cmp V
-count_of_entries (e ∷ es) d =
-    let head : finite.from_entries {R = goal_cmp} (e ∷ es) ≡ finite.insert (finite.from_entries es) e.0 e.1 =
-    finite.same_map goal_total goal_antisymmetric _ _ (λ q.
-    finite.get-from_entries goal_total (e ∷ es) q ∙ ap (cond (eq_by_cmp goal_cmp q e.0) (Some e.1)) (sym (finite.get-from_entries goal_total es q)) ∙ sym (finite.get-insert goal_total (finite.from_entries es) e.0 e.1 q)) in
-    let absent : finite.get (finite.from_entries {R = goal_cmp} es) e.0 ≡ None = sym (indexed.value_is goal_total goal_antisymmetric same same_is e.0 es) ∙ not_found e.0 es d.0 in
-    let n = finite.len (finite.from_entries {R = goal_cmp} es) in
-    let grown = ap finite.len head ∙ finite.len-insert goal_total (finite.from_entries es) e.0 e.1 ∙ ap (λ u. cond (is_some u) n (n + 1)) absent in
-    omega (arith, grown, count_of_entries es d.1)
+count_of_entries = indexed.counted goal_total goal_antisymmetric same same_is

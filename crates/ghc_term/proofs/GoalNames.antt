@@ -1,14 +1,10 @@
 -- The order of goal names.
-use Rattle.ghc_term.proofs.Words.{◌≡◌, ◌≢◌, Bool, true, false, ◌&&◌, refl, sym, ap, ◌∙◌, nat_eq, Ordering, Less, Equal, Greater, nat_cmp, ordering_then, eq_by_cmp, is_eq, IsTotalOrder, ranked, nat_cmp_total, tied_then, eq_by_cmp_equiv, IsAntisymmetric, then_total, on_total, tells_apart, GoalName, goal_cmp}
+use Rattle.ghc_term.proofs.Words.{◌≡◌, ◌≢◌, Bool, true, false, false_from_ne_true, ◌&&◌, sym, ap, ◌∙◌, nat_eq, Equal, nat_cmp, eq_by_cmp, is_eq, IsTotalOrder, ranked, nat_cmp_total, tied_then, eq_by_cmp_equiv, IsAntisymmetric, then_total, on_total, tells_apart, GoalName, goal_cmp}
+pub use Rattle.ghc_term.proofs.Names.{both}
 use Rattle.ghc_term.proofs.Entries.{tie}
 
 pub goal_total : IsTotalOrder goal_cmp
 goal_total = then_total (on_total (λ (g : GoalName). g.step) nat_cmp_total) (on_total (λ (g : GoalName). g.place) nat_cmp_total)
-
-pub both : (a b : Ordering) → ordering_then a b ≡ Equal → (a ≡ Equal) × (b ≡ Equal)
-both Less b e = cc
-both Equal b e = (refl, e)
-both Greater b e = cc
 
 pub goal_antisymmetric : IsAntisymmetric goal_cmp
 goal_antisymmetric g h e =
@@ -36,8 +32,4 @@ pub itself : (g : GoalName) → eq_by_cmp goal_cmp g g ≡ true
 itself = (eq_by_cmp_equiv goal_total).refl
 
 pub apart : (g h : GoalName) → g ≢ h → eq_by_cmp goal_cmp g h ≡ false
-apart g h n =
-    elim (eq_by_cmp goal_cmp g h) as (λ b. eq_by_cmp goal_cmp g h ≡ b → b ≡ false) [
-      | true ↦ λ e. absurd (n (same_goal g h e))
-      | false ↦ λ e. refl
-    ] refl
+apart g h n = false_from_ne_true _ (λ e. n (same_goal g h e))

@@ -3,10 +3,9 @@ use Rattle.ghc_term.proofs.Words.{◌≡◌, ◌≢◌, ℕ, ◌+◌, ◌≤◌,
 use Rattle.ghc_term.proofs.Goals.{list_of-trees}
 
 pub is_cell_by_count : (f : List ℕ) (ts : List Tree) → bytes_eq f (codes ".") ≡ true → nat_eq (length ts) 2 ≡ is_cell f (trees ts)
-is_cell_by_count f [] e = refl
-is_cell_by_count f (t ∷ []) e = refl
 is_cell_by_count f (t ∷ (u ∷ [])) e = sym e
 is_cell_by_count f (t ∷ (u ∷ (v ∷ ts))) e = grind (arith, nat_tests)
+is_cell_by_count f ts e = refl
 
 pub head_parts : (f : List ℕ) (ts : List Tree) → ts ≢ [] → is_cell f (trees ts) ≡ false → IsHead f (trees ts) → IsNameText f × (length ts ≤ 255)
 head_parts f [] n e h = absurd (n refl)

@@ -33,6 +33,7 @@ pub mod Alike
 pub mod Members
 pub mod VariableLists
 pub mod BindingLists
+pub mod Slots
 pub mod VariableMaps
 pub mod GoalPlaces
 pub mod Placing

@@ -1,9 +1,10 @@
 -- Maps from variables: what they hold, and the lists of their bindings.
-use Rattle.ghc_term.proofs.Words.{◌≡◌, ℕ, zero, suc, ◌+◌, ◌-◌, ◌<◌, Bool, true, false, cond, List, [], ◌∷◌, length, map, refl, sym, ap, ◌∙◌, subst, inl, inr, arith, ◌↔◌, Option, Some, None, is_some, IfSome, slice_get, AllByRecursion, Ordering, eq_by_cmp, IsTotalOrder, eq_by_cmp_equiv, IsAntisymmetric, tells_apart, VarName, name_cmp, In, StoreValue, value_at, Tree, IsWithin}
+use Rattle.ghc_term.proofs.Words.{◌≡◌, ℕ, zero, suc, ◌-◌, ◌<◌, Bool, true, false, cond, List, [], ◌∷◌, length, map, refl, sym, ap, ◌∙◌, subst, inl, inr, arith, ◌↔◌, Option, Some, None, is_some, IfSome, slice_get, Ordering, eq_by_cmp, IsTotalOrder, eq_by_cmp_equiv, IsAntisymmetric, tells_apart, VarName, name_cmp, In, StoreValue, value_at, Tree, IsWithin}
 use Rattle.std.specs.List.{IsDistinct}
 use Rattle.std.specs.FinMap as finite
 use Rattle.ghc_term.proofs.Names.{name_total, name_antisymmetric, same_name}
 use Rattle.ghc_term.proofs.Entries.{same, same_is}
+use Rattle.ghc_term.proofs.Indexed.{counted}
 
 same_answer : (o p : Option Tree) → ((t : Tree) → o ≡ Some t → p ≡ Some t) → ((t : Tree) → p ≡ Some t → o ≡ Some t) → o ≡ p
 same_answer (Some t) p f g = sym (f t refl)
@@ -58,20 +59,8 @@ module _ {K X : Type 0} {R : K → K → Ordering} (o : IsTotalOrder R) (alike :
             (whole n (finite.remove a x.0) (finite.remove b x.0) (one_less n a x.0 x.1 here p) (one_less n b x.0 x.1 there q) (still_within a b x.0 h))
       ] refl
 
-not_found : (k : VarName) (es : List (VarName × Tree)) → AllByRecursion (λ y. same k y ≡ false) (map (λ (e : VarName × Tree). e.0) es) → finite.find name_cmp k es ≡ None
-not_found k [] a = refl
-not_found k (e ∷ es) a = ap (λ b. cond b (Some e.1) (finite.find name_cmp k es)) (sym (same_is k e.0) ∙ a.0) ∙ not_found k es a.1
-
 pub entries_len : (es : List (VarName × Tree)) → IsDistinct same (map (λ (e : VarName × Tree). e.0) es) → finite.len (finite.from_entries {R = name_cmp} es) ≡ length es
-unfolding IsDistinct
-entries_len [] d = finite.len-empty name_cmp Tree
-entries_len (e ∷ es) d =
-    let head : finite.from_entries {R = name_cmp} (e ∷ es) ≡ finite.insert (finite.from_entries es) e.0 e.1 =
-    finite.same_map name_total name_antisymmetric _ _ (λ q. finite.get-from_entries name_total (e ∷ es) q ∙ ap (λ o. cond (eq_by_cmp name_cmp q e.0) (Some e.1) o) (sym (finite.get-from_entries name_total es q)) ∙ sym (finite.get-insert name_total (finite.from_entries es) e.0 e.1 q)) in
-    let absent : value_at (finite.from_entries es) e.0 ≡ None = finite.get-from_entries name_total es e.0 ∙ not_found e.0 es d.0 in
-    let n = finite.len (finite.from_entries {R = name_cmp} es) in
-    let grown = ap finite.len head ∙ finite.len-insert name_total (finite.from_entries es) e.0 e.1 ∙ ap (λ o. cond (is_some o) n (n + 1)) absent in
-    omega (arith, grown, entries_len es d.1)
+entries_len = counted name_total name_antisymmetric same same_is
 
 -- a binding that is found has a place
 pub place_of : (x : VarName) (t : Tree) (es : List (VarName × Tree)) → finite.find name_cmp x es ≡ Some t → (i : ℕ) × (i < length es) × (slice_get es i ≡ Some (x, t))

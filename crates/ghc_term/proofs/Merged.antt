@@ -1,7 +1,8 @@
 -- A store with some bindings more, as one finite map.
-use Rattle.ghc_term.proofs.Words.{◌≡◌, true, false, cond, List, [], ◌∷◌, ◌++◌, refl, sym, ap, ◌∙◌, subst, Option, Some, None, option_or, eq_by_cmp, VarName, Overlay, Tree, name_cmp, IsAcyclic, with_binding, StoreValue, value_at, with_bindings, value_in}
+use Rattle.ghc_term.proofs.Words.{◌≡◌, true, false, cond, ◌++◌, refl, sym, ap, ◌∙◌, subst, Option, Some, None, option_or, eq_by_cmp, VarName, Overlay, Tree, name_cmp, IsAcyclic, with_binding, StoreValue, value_at, with_bindings, value_in}
 use Rattle.std.specs.FinMap as finite
 use Rattle.ghc_term.proofs.Names.{name_total}
+use Rattle.ghc_term.proofs.Slots.{joined}
 
 -- look-ups that answer alike are one
 pub by_answers : {S T : VarName → Option Tree} → ((x : VarName) → S x ≡ T x) → S ≡ T
@@ -10,17 +11,9 @@ by_answers h i x = h x i
 abbrev pub merged : StoreValue → StoreValue → StoreValue
 merged B S = finite.from_entries (finite.entries B ++ finite.entries S)
 
-find_append : (x : VarName) (es fs : List (VarName × Tree)) → finite.find name_cmp x (es ++ fs) ≡ option_or (finite.find name_cmp x es) (finite.find name_cmp x fs)
-find_append x [] fs = refl
-find_append x (e ∷ es) fs =
-    elim (eq_by_cmp name_cmp x e.0) as (λ b. cond b (Some e.1) (finite.find name_cmp x (es ++ fs)) ≡ option_or (cond b (Some e.1) (finite.find name_cmp x es)) (finite.find name_cmp x fs)) [
-      | true ↦ refl
-      | false ↦ find_append x es fs
-    ]
-
 merged_at : (B S : StoreValue) (x : VarName) → value_at (merged B S) x ≡ with_bindings B (value_at S) x
 merged_at B S x =
-    finite.get-from_entries name_total (finite.entries B ++ finite.entries S) x ∙ find_append x (finite.entries B) (finite.entries S)
+    finite.get-from_entries name_total (finite.entries B ++ finite.entries S) x ∙ joined name_cmp (finite.entries B) (finite.entries S) x
     ∙ ap (λ o. option_or o (finite.find name_cmp x (finite.entries S))) (sym (finite.get-entries B x)) ∙ ap (λ o. option_or (value_at B x) o) (sym (finite.get-entries S x))
 
 pub merged_is : (B S : StoreValue) → value_at (merged B S) ≡ with_bindings B (value_at S)

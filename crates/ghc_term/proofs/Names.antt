@@ -1,13 +1,12 @@
 -- The order of names.
-use Rattle.ghc_term.proofs.Words.{◌≡◌, ◌≢◌, true, false, refl, sym, Ordering, Less, Equal, Greater, nat_cmp, ordering_then, eq_by_cmp, IsTotalOrder, ranked, nat_cmp_total, eq_by_cmp_equiv, IsAntisymmetric, then_total, on_total, tells_apart, VarName, var_inj, name_cmp}
+use Rattle.ghc_term.proofs.Words.{◌≡◌, ◌≢◌, false, false_from_ne_true, true, refl, sym, Ordering, Equal, nat_cmp, ordering_then, eq_by_cmp, IsTotalOrder, ranked, nat_cmp_total, eq_by_cmp_equiv, IsAntisymmetric, then_total, on_total, tells_apart, VarName, var_inj, name_cmp}
 
 pub name_total : IsTotalOrder name_cmp
 name_total = then_total (on_total (λ (x : VarName). x.step) nat_cmp_total) (on_total (λ (x : VarName). x.place) nat_cmp_total)
 
-both : (a b : Ordering) → ordering_then a b ≡ Equal → (a ≡ Equal) × (b ≡ Equal)
-both Less b e = cc
+pub both : (a b : Ordering) → ordering_then a b ≡ Equal → (a ≡ Equal) × (b ≡ Equal)
 both Equal b e = (refl, e)
-both Greater b e = cc
+both a b e = cc
 
 pub name_antisymmetric : IsAntisymmetric name_cmp
 name_antisymmetric x y e = let p = both (nat_cmp x.step y.step) (nat_cmp x.place y.place) e in var_inj x y (ranked x.step y.step Equal (sym p.0)) (ranked x.place y.place Equal (sym p.1))
@@ -20,8 +19,4 @@ pub itself : (x : VarName) → eq_by_cmp name_cmp x x ≡ true
 itself = (eq_by_cmp_equiv name_total).refl
 
 pub apart : (x y : VarName) → x ≢ y → eq_by_cmp name_cmp x y ≡ false
-apart x y n =
-    elim (eq_by_cmp name_cmp x y) as (λ b. eq_by_cmp name_cmp x y ≡ b → b ≡ false) [
-      | true ↦ λ e. absurd (n (same_name x y e))
-      | false ↦ λ e. refl
-    ] refl
+apart x y n = false_from_ne_true _ (λ e. n (same_name x y e))

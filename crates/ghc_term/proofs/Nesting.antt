@@ -34,19 +34,16 @@ byte_first b bs n p q k rest = ap (λ j. max k (most_open j (bs ++ rest))) (p k)
 byte_first_close : (b : ℕ) (bs : List ℕ) (n : ℕ) → IsPlain b → Closes bs n → Closes (b ∷ bs) n
 byte_first_close b bs n p q k rest = ap (λ j. max (k + 1) (most_open j (bs ++ rest))) (p (k + 1)) ∙ omega (arith, q k rest)
 
+by_test : (p : ℕ → Bool) (b : ℕ) → IsTrue (p b) → p 40 ≡ false → p 91 ≡ false → p 41 ≡ false → p 93 ≡ false → IsPlain b
+by_test p b h v w x y k =
+    let apart : (c : ℕ) → p c ≡ false → b ≢ c = λ c n e. let clash : false ≡ true = sym n ∙ ap p (sym e) ∙ h in cc in
+    plain b k (apart 40 v) (apart 91 w) (apart 41 x) (apart 93 y)
+
 name_byte : (b : ℕ) → IsTrue (is_name_byte b) → IsPlain b
-name_byte b h k = plain b k
-    (λ e. let clash : false ≡ true = subst (λ c. IsTrue (is_name_byte c)) e h in cc)
-    (λ e. let clash : false ≡ true = subst (λ c. IsTrue (is_name_byte c)) e h in cc)
-    (λ e. let clash : false ≡ true = subst (λ c. IsTrue (is_name_byte c)) e h in cc)
-    (λ e. let clash : false ≡ true = subst (λ c. IsTrue (is_name_byte c)) e h in cc)
+name_byte b h = by_test is_name_byte b h refl refl refl refl
 
 small_letter : (b : ℕ) → IsTrue (is_ascii_lowercase b) → IsPlain b
-small_letter b h k = plain b k
-    (λ e. let clash : false ≡ true = subst (λ c. IsTrue (is_ascii_lowercase c)) e h in cc)
-    (λ e. let clash : false ≡ true = subst (λ c. IsTrue (is_ascii_lowercase c)) e h in cc)
-    (λ e. let clash : false ≡ true = subst (λ c. IsTrue (is_ascii_lowercase c)) e h in cc)
-    (λ e. let clash : false ≡ true = subst (λ c. IsTrue (is_ascii_lowercase c)) e h in cc)
+small_letter b h = by_test is_ascii_lowercase b h refl refl refl refl
 
 pub and_parts : (a b : Bool) → IsTrue (a && b) → IsTrue a × IsTrue b
 and_parts true b h = (refl, h)
@@ -97,17 +94,10 @@ behind_name f xs n p q k rest = both f xs 0 n p q k rest ∙ omega arith
 after_bar : (xs : List ℕ) (n : ℕ) → Nests xs n → Closes (barred xs) n
 after_bar xs n p = byte_first_close 124 (xs ++ codes "]") n (λ k. refl) (closed_behind xs n p)
 
-choose : (b : Bool) (xs ys : List ℕ) (m n : ℕ) → (b ≡ true → Nests xs m) → (b ≡ false → Nests ys n) → Nests (if b then xs else ys) (if b then m else n)
-choose true xs ys m n p q = p refl
-choose false xs ys m n p q = q refl
-
-choose_depth : (b : Bool) (xs : List ℕ) (m n : ℕ) → (b ≡ true → Nests xs m) → (b ≡ false → Nests xs n) → Nests xs (if b then m else n)
-choose_depth true xs m n p q = p refl
-choose_depth false xs m n p q = q refl
-
-choose_close : (b : Bool) (xs ys : List ℕ) (m n : ℕ) → (b ≡ true → Closes xs m) → (b ≡ false → Closes ys n) → Closes (if b then xs else ys) (if b then m else n)
-choose_close true xs ys m n p q = p refl
-choose_close false xs ys m n p q = q refl
+choose : (P : List ℕ → ℕ → Type 0) (b : Bool) (xs ys : List ℕ) (m n : ℕ) → (b ≡ true → P xs m) → (b ≡ false → P ys n)
+    → P (if b then xs else ys) (if b then m else n)
+choose P true xs ys m n p q = p refl
+choose P false xs ys m n p q = q refl
 
 -- the empty list by itself is a pair of brackets
 nil_text : (f : List ℕ) (ts : Trees) → is_nil f ts ≡ true → Nests (f ++ arguments_text ts) 1
@@ -124,23 +114,23 @@ mutual
   text_nests (variable x) g = absurd g
   text_nests (integer k) g = integer_text k g
   text_nests (node f ts) g =
-      choose (is_cell f ts) (codes "[" ++ cell_text ts) (f ++ arguments_text ts) (1 + cell_nesting ts) (if is_nil f ts then 1 else arguments_nesting ts)
+      choose Nests (is_cell f ts) (codes "[" ++ cell_text ts) (f ++ arguments_text ts) (1 + cell_nesting ts) (if is_nil f ts then 1 else arguments_nesting ts)
       (λ e. opened (cell_text ts) (cell_nesting ts) (cell_closes f ts e g.1))
-      (λ e. choose_depth (is_nil f ts) (f ++ arguments_text ts) 1 (arguments_nesting ts) (nil_text f ts) (λ n. behind_name f (arguments_text ts) (arguments_nesting ts) (head_text f ts n e g.0) (arguments_nest ts g.1)))
+      (λ e. choose (λ _. Nests (f ++ arguments_text ts)) (is_nil f ts) [] [] 1 (arguments_nesting ts)
+      (nil_text f ts) (λ n. behind_name f (arguments_text ts) (arguments_nesting ts) (head_text f ts n e g.0) (arguments_nest ts g.1)))
 
   cell_closes : (f : List ℕ) (ts : Trees) → is_cell f ts ≡ true → AllInGrammar ts → Closes (cell_text ts) (cell_nesting ts)
-  cell_closes f none e g = cc
-  cell_closes f (more t none) e g = cc
   cell_closes f (more t (more u none)) e g = both_close (term_text t) (rest_text u) (nesting t) (rest_nesting u) (text_nests t g.0) (rest_closes u g.1.0)
-  cell_closes f (more t (more u (more v vs))) e g = cc
+  cell_closes f ts e g = cc
 
   rest_closes : (t : Tree) → IsInGrammar t → Closes (rest_text t) (rest_nesting t)
   rest_closes (variable x) g = absurd g
   rest_closes (integer k) g = after_bar (signed_decimal k) 0 (integer_text k g)
   rest_closes (node f ts) g =
-      choose_close (is_nil f ts) (codes "]") (if is_cell f ts then codes "," ++ cell_text ts else barred (f ++ arguments_text ts)) 0 (if is_cell f ts then cell_nesting ts else arguments_nesting ts)
+      choose Closes (is_nil f ts) (codes "]") (if is_cell f ts then codes "," ++ cell_text ts else barred (f ++ arguments_text ts)) 0
+      (if is_cell f ts then cell_nesting ts else arguments_nesting ts)
       (λ n. closing)
-      (λ n. choose_close (is_cell f ts) (codes "," ++ cell_text ts) (barred (f ++ arguments_text ts)) (cell_nesting ts) (arguments_nesting ts)
+      (λ n. choose Closes (is_cell f ts) (codes "," ++ cell_text ts) (barred (f ++ arguments_text ts)) (cell_nesting ts) (arguments_nesting ts)
       (λ e. byte_first_close 44 (cell_text ts) (cell_nesting ts) (λ k. refl) (cell_closes f ts e g.1))
       (λ e. after_bar (f ++ arguments_text ts) (arguments_nesting ts) (behind_name f (arguments_text ts) (arguments_nesting ts) (head_text f ts n e g.0) (arguments_nest ts g.1))))
 

@@ -1,5 +1,5 @@
 -- Names and values in two lists beside each other, and the place of each name in them.
-use Rattle.ghc_term.proofs.Words.{◌≡◌, ◌≢◌, ◌<◌, ℕ, zero, suc, cond, false, List, [], ◌∷◌, inl, inr, length, refl, sym, ap, ◌∙◌, subst, arith, Option, Some, None, slice_get, is_some, zip, AllByRecursion, keys_of, eq_by_cmp, slice_get_within, slice_get_cases, GoalName, goal_cmp, values_by, names_of, ArePlaces}
+use Rattle.ghc_term.proofs.Words.{◌≡◌, ◌≢◌, ◌<◌, ℕ, zero, suc, cond, false, List, [], ◌∷◌, inl, inr, length, refl, sym, ap, ◌∙◌, subst, arith, Option, Some, None, slice_get, is_some, zip, AllByRecursion, keys_of, length-keys_of, eq_by_cmp, slice_get_within, slice_get_cases, GoalName, goal_cmp, values_by, names_of, ArePlaces}
 use Rattle.std.specs.List.{IsDistinct}
 use Rattle.std.specs.FinMap as finite
 use Rattle.std.specs.FinSet as set
@@ -23,10 +23,9 @@ module _ {V : Type 0} where
       ∙ found_at ns vs q i e (λ j g. let at = once (suc j) g in omega (arith, at))
 
   not_found : (ns : List GoalName) (vs : List V) (q : GoalName) → ((j : ℕ) → ¬ (slice_get ns j ≡ Some q)) → finite.find goal_cmp q (zip ns vs) ≡ None
-  not_found [] vs q none = refl
-  not_found (n ∷ ns) [] q none = refl
   not_found (n ∷ ns) (v ∷ vs) q none =
       ap (λ b. cond b (Some v) (finite.find goal_cmp q (zip ns vs))) (apart q n (λ s. none zero (ap Some (sym s)))) ∙ not_found ns vs q (λ j. none (suc j))
+  not_found ns vs q none = refl
 
   module _ (ns : List GoalName) (vs : List V) (places : finite.FinMap goal_cmp ℕ) (h : ArePlaces ns (length vs) places) where
     -- under each name stands the value at its place
@@ -57,11 +56,6 @@ keys_are [] vs e = refl
 keys_are (n ∷ ns) [] e = absurd (omega (arith, e))
 keys_are (n ∷ ns) (v ∷ vs) e = ap (λ l. n ∷ l) (keys_are ns vs (omega (arith, e)))
 
-zip_length : {V : Type 0} (ns : List GoalName) (vs : List V) → length vs ≡ length ns → length (zip ns vs) ≡ length ns
-zip_length [] vs e = refl
-zip_length (n ∷ ns) [] e = absurd (omega (arith, e))
-zip_length (n ∷ ns) (v ∷ vs) e = ap suc (zip_length ns vs (omega (arith, e)))
-
 -- the names of the values are those of the list
 pub list_is : {V : Type 0} (ns : List GoalName) (vs : List V) → length vs ≡ length ns → set.from_list ns ≡ names_of (values_by ns vs)
 list_is ns vs e = ap (λ l. set.from_list {R = goal_cmp} l) (sym (keys_are ns vs e)) ∙ names_are (zip ns vs)
@@ -82,4 +76,4 @@ distinct (k ∷ ks) u = (
 pub count_is : {V : Type 0} (ns : List GoalName) (vs : List V) (places : finite.FinMap goal_cmp ℕ) → ArePlaces ns (length vs) places → finite.len (values_by ns vs) ≡ length ns
 count_is ns vs places h =
     let each = distinct ns (λ q i j a b. one_value i j (sym ((h.2 q i).1 a) ∙ (h.2 q j).1 b)) in
-    count_of_entries (zip ns vs) (subst (IsDistinct same) (sym (keys_are ns vs h.0)) each) ∙ zip_length ns vs h.0
+    count_of_entries (zip ns vs) (subst (IsDistinct same) (sym (keys_are ns vs h.0)) each) ∙ sym (length-keys_of (zip ns vs)) ∙ ap length (keys_are ns vs h.0)

@@ -1,11 +1,12 @@
 -- Variables that reach none but each other, and the walks that add to them.
-use Rattle.ghc_term.proofs.Words.{◌≡◌, ◌≢◌, ℕ, true, false, List, [], ◌∷◌, ◌++◌, refl, sym, ap, ◌∙◌, subst, inl, inr, ◌⊎◌, append-nil, Option, Some, None, is_some, IfNone, eq_by_cmp, eq_by_cmp_equiv, keys_of, option_or, VarName, Tree, variable, node, trees, Occurs, In, Reaches, here, through, name_cmp, AreKnown, AreKnownBut, StoreValue, value_at, with_binds, Sees, value_list}
+use Rattle.ghc_term.proofs.Words.{◌≡◌, ◌≢◌, ℕ, true, false, List, [], ◌∷◌, ◌++◌, refl, sym, ap, ◌∙◌, subst, inl, inr, ◌⊎◌, append-nil, Option, Some, None, is_some, IfNone, eq_by_cmp, eq_by_cmp_equiv, option_or, VarName, Tree, variable, node, trees, Occurs, In, Reaches, here, through, name_cmp, AreKnown, AreKnownBut, StoreValue, value_at, with_binds, Sees, value_list}
 use Rattle.std.specs.FinMap as finite
+use Rattle.ghc_term.proofs.BindingLists.{entry_of}
 use Rattle.ghc_term.proofs.ListsLemmas.{in_left, in_right, in_more}
 use Rattle.ghc_term.proofs.MapsLemmas.{key_in}
 use Rattle.ghc_term.proofs.Names.{name_total, same_name}
 use Rattle.ghc_term.proofs.WithBinds.{bound_at}
-use Rattle.ghc_term.proofs.Searching.{StandsIn, stands_left, stands_right, stands_last, occurs_among, value_in_list}
+use Rattle.ghc_term.proofs.Searching.{StandsIn, stands_right, give_way, occurs_among, value_in_list}
 
 -- what a variable of a tree reaches, the tree reaches
 pub reaches_in : {S : VarName → Option Tree} {t : Tree} {x y : VarName} → Occurs y t → Reaches S (variable y) x → Reaches S t x
@@ -29,12 +30,6 @@ module _ {S : VarName → Option Tree} where
 pub not_there : {P : Type 0} (o : Option ℕ) → is_some o ≡ false → IfNone o P → P
 not_there None e p = p
 not_there (Some i) e p = cc
-
--- an entry of each key
-entry_of : (es : List (VarName × Tree)) (y : VarName) → In y (keys_of es) → (e : VarName × Tree) × In e es × (e.0 ≡ y)
-entry_of [] y i = absurd i
-entry_of (e ∷ es) y (inl same) = (e, inl refl, sym same)
-entry_of (e ∷ es) y (inr i) = let r = entry_of es y i in (r.0, inr r.1, r.2)
 
 -- variables stay known where others are bound, or but one of them
 pub stay_known : (s s' m : StoreValue) (es : List (VarName × Tree)) (x : VarName) (known known' : List VarName) → AreKnown (value_at s) known → known' ≡ known → finite.from_entries es ≡ m
@@ -64,13 +59,7 @@ module _ {T : VarName → Option Tree} where
 
   -- a tree is taken from the end of the open ones, and others come in its place
   replaced : (known : List VarName) (rest new : List Tree) (t : Tree) → Walking T known (rest ++ t ∷ []) → ((y : VarName) → Occurs y t → In y known ⊎ StandsIn y new) → Walking T known (rest ++ new)
-  replaced known rest new t w all x i u e y o = elim (w x i u e y o) [
-    | inl j ↦ inl j
-    | inr s ↦ elim (stands_last rest t y s) [
-      | inl a ↦ inr (stands_left rest new y a)
-      | inr b ↦ elim (all y b) [ inl j ↦ inl j | inr c ↦ inr (stands_right rest new y c) ]
-    ]
-  ]
+  replaced known rest new t w all x i u e y o = give_way {A = λ z. In z known} rest new t (λ z a. a) all y (w x i u e y o)
 
   -- nothing that is not known stands in the tree
   pub passed : (known : List VarName) (all rest : List Tree) (t : Tree) → all ≡ rest ++ t ∷ [] → Walking T known all → ((y : VarName) → Occurs y t → In y known) → Walking T known rest
@@ -84,10 +73,7 @@ module _ {T : VarName → Option Tree} where
   -- a variable is known, and its value, if there is one, comes in its place
   met : (known : List VarName) (rest : List Tree) (x : VarName) → Walking T known (rest ++ variable x ∷ []) → Walking T (known ++ x ∷ []) (rest ++ value_list (T x))
   met known rest x w z i u e y o = elim (in_more known x z i) [
-    | inl j ↦ elim (w z j u e y o) [
-      | inl k ↦ inl (in_left known (x ∷ []) y k)
-      | inr s ↦ elim (stands_last rest (variable x) y s) [ inl a ↦ inr (stands_left rest (value_list (T x)) y a) | inr b ↦ inl (in_right known (x ∷ []) y (inl b)) ]
-    ]
+    | inl j ↦ give_way rest (value_list (T x)) (variable x) (λ v k. in_left known (x ∷ []) v k) (λ v b. inl (in_right known (x ∷ []) v (inl b))) y (w z j u e y o)
     | inr same ↦ inr (stands_right rest (value_list (T x)) y (u, value_in_list (T x) u (ap T (sym same) ∙ e), o))
   ]
 

@@ -1,6 +1,7 @@
 -- In an acyclic store each tree resolves to exactly one tree.
-use Rattle.ghc_term.proofs.Words.{◌≡◌, ℕ, zero, suc, ◌+◌, ◌-◌, ◌≤◌, List, [], ◌∷◌, refl, sym, ap, ◌∙◌, subst, arith, Option, Some, None, codes, VarName, Tree, variable, integer, node, Trees, none, more, trees, cons, StoreValue, value_at, Leads, at_integer, at_node, at_free, along, IsAcyclic, name_cmp, term_text, IsTextOf, IsResolution, all_resolved, Resolves, an_integer, unbound, bound, a_node, ResolvesAll, no_more, one_more, Goal, goal_text_by, IsGoalTextOf, IsLeaf, IsMeasure, total}
+use Rattle.ghc_term.proofs.Words.{◌≡◌, ℕ, zero, suc, ◌+◌, ◌-◌, ◌≤◌, List, [], ◌∷◌, refl, sym, ap, ◌∙◌, subst, arith, Option, Some, None, codes, VarName, Tree, variable, integer, node, Trees, none, more, trees, cons, StoreValue, value_at, Leads, at_free, along, IsAcyclic, name_cmp, term_text, IsTextOf, IsResolution, all_resolved, Resolves, an_integer, unbound, bound, a_node, ResolvesAll, no_more, one_more, Goal, goal_text_by, IsGoalTextOf, IsLeaf, IsMeasure, total}
 use Rattle.std.specs.FinMap as finite
+use Rattle.ghc_term.proofs.Searching.{size_positive}
 use Rattle.ghc_term.proofs.Weights.{size, size_all, size_variable, size_end}
 
 module _ {S : VarName → Option Tree} where
@@ -19,16 +20,13 @@ module _ {S : VarName → Option Tree} where
 
   -- a term resolves as the end of its chain does
   pub resolves_end : {t e u : Tree} {xs : List VarName} → Leads S t xs e → Resolves S e u → Resolves S t u
-  resolves_end at_integer h = h
-  resolves_end at_node h = h
-  resolves_end (at_free p) h = h
   resolves_end (along p a) h = bound p (resolves_end a h)
+  resolves_end l h = h
 
   pub end_free : {t e : Tree} {xs : List VarName} → Leads S t xs e → (x : VarName) → e ≡ variable x → S x ≡ None
-  end_free at_integer x e = cc
-  end_free at_node x e = cc
-  end_free (at_free p) x e = cc
   end_free (along p a) x e = end_free a x e
+  end_free (at_free p) x e = cc
+  end_free l x e = cc
 
   module _ (r : Tree → Tree) (g : IsResolution S r) where
     pub same_end : {t e : Tree} {xs : List VarName} → Leads S t xs e → r t ≡ r e
@@ -61,16 +59,13 @@ module _ {S : VarName → Option Tree} where
   pub is_text : (r : Tree → Tree) → IsResolution S r → (t : Tree) (text : List ℕ) → text ≡ term_text (r t) → IsTextOf S t text
   is_text r g t text e = record { resolved = r t; resolves = g t; only = λ u d. resolves_once d (g t); written = e }
 
-  one_resolution : (r q : Tree → Tree) → IsResolution S r → IsResolution S q → q ≡ r
-  one_resolution r q g h i t = resolves_once (h t) (g t) i
-
   -- the text of a goal whose trees are resolved
   pub is_goal_text : (r : Tree → Tree) → IsResolution S r → (goal : Goal) (text : List ℕ) → text ≡ goal_text_by r goal → IsGoalTextOf S goal text
   is_goal_text r g goal text e = record {
     resolved = r;
     resolves = g;
     written = e;
-    only = λ q h. ap (λ f. goal_text_by f goal) (one_resolution r q g h) ∙ sym e;
+    only = λ q h. let same : q ≡ r = λ i t. resolves_once (h t) (g t) i in ap (λ f. goal_text_by f goal) same ∙ sym e;
   }
 
   -- a cell resolves part by part
@@ -94,11 +89,6 @@ module _ {S : VarName → Option Tree} where
 pub each_itself : (S : StoreValue) → S ≡ finite.empty → IsResolution (value_at S) (λ t. t)
 each_itself S e = resolves_itself (λ x. ap (λ s. value_at s x) e ∙ finite.get-empty name_cmp x)
 
-positive : (S : StoreValue) (t : Tree) → 1 ≤ size S t
-positive S (variable x) = omega arith
-positive S (integer k) = omega arith
-positive S (node f ts) = omega arith
-
 all_exist : (S : StoreValue) (n : ℕ) → ((t : Tree) → size S t ≤ n → (u : Tree) × Resolves (value_at S) t u) → (ts : Trees) → size_all S ts ≤ n → (us : Trees) × ResolvesAll (value_at S) ts us
 all_exist S n each none h = (none, no_more)
 all_exist S n each (more t ts) h =
@@ -107,7 +97,7 @@ all_exist S n each (more t ts) h =
     (more first.0 rest.0, one_more first.1 rest.1)
 
 pub exists : (n : ℕ) (S : StoreValue) → IsAcyclic (value_at S) → (t : Tree) → size S t ≤ n → (u : Tree) × Resolves (value_at S) t u
-exists zero S h t le = absurd (omega (arith, positive S t))
+exists zero S h t le = absurd (omega (arith, size_positive S t))
 exists (suc n) S h (integer k) le = (integer k, an_integer)
 exists (suc n) S h (node f ts) le = let all = all_exist S n (exists n S h) ts (omega arith) in (node f all.0, a_node all.1)
 exists (suc n) S h (variable x) le =
@@ -126,7 +116,7 @@ measure S t = size S t - 1
 
 total_size : (S : StoreValue) (ts : List Tree) → total (measure S) ts ≡ size_all S (trees ts)
 total_size S [] = refl
-total_size S (t ∷ ts) = omega (arith, positive S t, total_size S ts)
+total_size S (t ∷ ts) = omega (arith, size_positive S t, total_size S ts)
 
 pub is_measure : (S : StoreValue) → IsAcyclic (value_at S) → IsMeasure (value_at S) (measure S)
 is_measure S h = record {

@@ -19,6 +19,15 @@ stands_last ts t y s = elim (in_either ts (t ∷ []) s.0 s.1) [
   | inr j ↦ elim j [ inl e ↦ inr (subst (Occurs y) e s.2) | inr n ↦ absurd n ]
 ]
 
+-- where another tree is open in place of the last, or others are
+pub give_way : {A B : VarName → Type 0} (rest new : List Tree) (t : Tree) → ((y : VarName) → A y → B y) → ((y : VarName) → Occurs y t → B y ⊎ StandsIn y new)
+    → (y : VarName) → A y ⊎ StandsIn y (rest ++ t ∷ []) → B y ⊎ StandsIn y (rest ++ new)
+give_way rest new t wider all y (inl a) = inl (wider y a)
+give_way rest new t wider all y (inr s) = elim (stands_last rest t y s) [
+  | inl a ↦ inr (stands_left rest new y a)
+  | inr o ↦ elim (all y o) [ inl b ↦ inl b | inr c ↦ inr (stands_right rest new y c) ]
+]
+
 -- an argument of a structure
 pub occurs_among : (ts : List Tree) (y : VarName) → OccursIn y (trees ts) → StandsIn y ts
 occurs_among [] y o = absurd o
@@ -73,14 +82,7 @@ module _ {T : VarName → Option Tree} {to : VarName} {from : Tree} where
       → ((y : VarName) → Occurs y t → Settled T to seen y ⊎ StandsIn y new) → ((u : Tree) → In u new → (z : VarName) → Reaches T u z → Reaches T t z)
       → Searching T to from seen (rest ++ new)
   replaced seen rest new t s all back =
-      let on_ : (y : VarName) → Settled T to seen y ⊎ StandsIn y (rest ++ t ∷ []) → Settled T to seen y ⊎ StandsIn y (rest ++ new) = λ y c.
-      elim c [
-        | inl i ↦ inl i
-        | inr st ↦ elim (stands_last rest t y st) [
-          | inl a ↦ inr (stands_left rest new y a)
-          | inr o ↦ elim (all y o) [ inl i ↦ inl i | inr b ↦ inr (stands_right rest new y b) ]
-        ]
-      ] in
+      let on_ = give_way {A = Settled T to seen} rest new t (λ y a. a) all in
       record {
         first = λ y o. on_ y (s.first y o);
         next = λ x i u e y o. on_ y (s.next x i u e y o);
@@ -102,11 +104,8 @@ module _ {T : VarName → Option Tree} {to : VarName} {from : Tree} where
   -- a variable is seen, and its value, if there is one, comes in its place
   met : (seen : List VarName) (rest : List Tree) (x : VarName) → ¬ (x ≡ to) → Searching T to from seen (rest ++ variable x ∷ []) → Searching T to from (seen ++ x ∷ []) (rest ++ value_list (T x))
   met seen rest x n s =
-      let on_ : (y : VarName) → Settled T to seen y ⊎ StandsIn y (rest ++ variable x ∷ []) → Settled T to (seen ++ x ∷ []) y ⊎ StandsIn y (rest ++ value_list (T x)) = λ y c.
-      elim c [
-        | inl i ↦ inl (elim i [ inl j ↦ inl (in_left seen (x ∷ []) y j) | inr m ↦ inr m ])
-        | inr st ↦ elim (stands_last rest (variable x) y st) [ inl a ↦ inr (stands_left rest (value_list (T x)) y a) | inr o ↦ inl (inl (in_right seen (x ∷ []) y (inl o))) ]
-      ] in
+      let on_ = give_way {A = Settled T to seen} {B = Settled T to (seen ++ x ∷ [])} rest (value_list (T x)) (variable x)
+      (λ y i. elim i [ inl j ↦ inl (in_left seen (x ∷ []) y j) | inr m ↦ inr m ]) (λ y o. inl (inl (in_right seen (x ∷ []) y (inl o)))) in
       record {
         first = λ y o. on_ y (s.first y o);
         next = λ z i v b y o. elim (in_more seen x z i) [
@@ -140,9 +139,8 @@ sizes_append s [] us = omega arith
 sizes_append s (t ∷ ts) us = let r = sizes_append s ts us in omega (arith, r)
 
 pub size_positive : (s : StoreValue) (t : Tree) → 0 < size s t
-size_positive s (variable x) = omega arith
 size_positive s (integer k) = omega arith
-size_positive s (node f ts) = omega arith
+size_positive s t = omega arith
 
 -- a tree is taken from the end
 pub popped : (items rest : List (Bor Tree)) (t : Bor Tree) → items ≡ rest ++ t ∷ [] → map (λ (b : Bor Tree). b.now) items ≡ map (λ (b : Bor Tree). b.now) rest ++ t.now ∷ []

@@ -1,5 +1,5 @@
 -- Sets of variables: what they hold, and the lists that hold the same.
-use Rattle.ghc_term.proofs.Words.{◌≡◌, ◌+◌, ◌<◌, Bool, true, false, cond, ◌||◌, List, [], ◌∷◌, ◌++◌, length, refl, sym, ap, ◌∙◌, inl, inr, ◌⊎◌, arith, ◌↔◌, IsTrue, list_any, AllByRecursion, eq_by_cmp, eq_by_cmp_equiv, or_cases, or_right, list_any-from_Contains, Contains-from_any, VarName, name_cmp, In, Variables, IsSetOf}
+use Rattle.ghc_term.proofs.Words.{◌≡◌, ◌+◌, ◌<◌, Bool, true, false, cond, ◌||◌, List, [], ◌∷◌, length, refl, sym, ap, ◌∙◌, inl, inr, ◌⊎◌, arith, ◌↔◌, IsTrue, list_any, AllByRecursion, eq_by_cmp, eq_by_cmp_equiv, or_cases, or_right, list_any-from_Contains, Contains-from_any, VarName, name_cmp, In, Variables, IsSetOf}
 use Rattle.std.specs.List.{IsDistinct}
 use Rattle.std.specs.FinSet as set
 use Rattle.ghc_term.proofs.Names.{name_total, name_antisymmetric, same_name, itself}
@@ -98,8 +98,6 @@ pub list_len : (ks : List VarName) → IsDistinct same ks → set.len (set.from_
 unfolding IsDistinct
 list_len [] d = set.len-empty name_cmp
 list_len (k ∷ ks) d =
-    let head : set.from_list {R = name_cmp} (k ∷ ks) ≡ set.insert (set.from_list ks) k =
-    set.same_set name_total name_antisymmetric _ _ (λ q. set.contains-from_list name_total (k ∷ ks) q ∙ ap (λ b. eq_by_cmp name_cmp q k || b) (sym (set.contains-from_list name_total ks q)) ∙ sym (set.contains-insert name_total (set.from_list ks) k q)) in
     let absent : set.contains (set.from_list {R = name_cmp} ks) k ≡ false = sym (has_at k ks) ∙ other_than k ks d.0 in
-    let grown = ap set.len head ∙ set.len-insert name_total (set.from_list ks) k ∙ ap (λ b. cond b (set.len (set.from_list {R = name_cmp} ks)) (set.len (set.from_list {R = name_cmp} ks) + 1)) absent in
+    let grown = set.len-insert name_total (set.from_list ks) k ∙ ap (λ b. cond b (set.len (set.from_list {R = name_cmp} ks)) (set.len (set.from_list {R = name_cmp} ks) + 1)) absent in
     omega (arith, grown, list_len ks d.1)

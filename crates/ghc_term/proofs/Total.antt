@@ -56,20 +56,15 @@ chain (suc n) S le h (variable x) =
 
 -- how many variables a walk from t passes, of at most n
 abbrev pub walk : ℕ → StoreValue → Tree → ℕ
-walk zero S t = 0
 walk (suc n) S (variable x) = elim (value_at S x) [ Some t ↦ suc (walk n S t) | None ↦ 1 ]
-walk (suc n) S (integer k) = 0
-walk (suc n) S (node f ts) = 0
+walk n S t = 0
 
 pub walk_is : (n : ℕ) (S : StoreValue) {t e : Tree} {xs : List VarName} → Leads (value_at S) t xs e → length xs ≤ n → walk n S t ≡ length xs
-walk_is zero S at_integer h = refl
-walk_is zero S at_node h = refl
 walk_is zero S (at_free p) h = absurd (omega arith)
 walk_is zero S (along p a) h = absurd (omega arith)
-walk_is (suc n) S at_integer h = refl
-walk_is (suc n) S at_node h = refl
 walk_is (suc n) S (at_free p) h = rw (p, walk)
 walk_is (suc n) S (along p a) h = rw (p, walk) (ap suc (walk_is n S a (omega arith)))
+walk_is n S l h = refl
 
 -- a walk is shorter after one step
 pub walk_step : (S : StoreValue) → IsAcyclic (value_at S) → (x : VarName) (t : Tree) → value_at S x ≡ Some t → walk (finite.len S + 1) S t < walk (finite.len S + 1) S (variable x)

@@ -1,5 +1,5 @@
 -- Lists of distinct variables: where a variable stands, and one more at the end.
-use Rattle.ghc_term.proofs.Words.{◌≡◌, ℕ, ◌<◌, true, false, cond, List, [], ◌∷◌, ◌++◌, length, get_or, take, slice_get, position, Option, Some, None, is_some, IfSome, IfNone, All, refl, sym, ap, ◌∙◌, subst, ◌≢◌, arith, list_any, position-Some, All-contains, slice_get-get_or, get_or-take, get_or_default, length-take-le, IsDistinct-push, apart_from_distinct, IsEquivalence, eq_by_cmp_equiv, insert_key, VarName, In, AreDifferent, is_same, name_cmp}
+use Rattle.ghc_term.proofs.Words.{◌≡◌, ℕ, ◌<◌, true, false, cond, List, [], ◌∷◌, ◌++◌, length, get_or, take, slice_get, position, Option, Some, None, is_some, IfSome, IfNone, All, refl, sym, ap, ◌∙◌, subst, ◌≢◌, arith, list_any, false_from_ne_true, position-Some, All-contains, slice_get-get_or, get_or-take, get_or_default, length-take-le, IsDistinct-push, apart_from_distinct, IsEquivalence, eq_by_cmp_equiv, insert_key, VarName, In, AreDifferent, is_same, name_cmp}
 use Rattle.std.specs.List.{IsDistinct}
 use Rattle.ghc_term.proofs.Names.{name_total, same_name, itself}
 use Rattle.ghc_term.proofs.Entries.{same_is}
@@ -12,14 +12,7 @@ pub none_in : (xs : List VarName) (x : VarName) → All (λ y. y ≢ x) xs → �
 none_in xs x a i = All-contains (λ y. y ≢ x) xs x a (in_contains xs x i) refl
 
 pub not_any : (xs : List VarName) (x : VarName) → ¬ In x xs → list_any (is_same x) xs ≡ false
-not_any xs x n =
-    elim (list_any (is_same x) xs) as (λ b. list_any (is_same x) xs ≡ b → b ≡ false) [
-      | true ↦ λ e. absurd (n (any_in x xs (sym (any_same x xs) ∙ e)))
-      | false ↦ λ e. refl
-    ] refl
-
-pub any_not : (xs : List VarName) (x : VarName) → list_any (is_same x) xs ≡ false → ¬ In x xs
-any_not xs x e i = not_both (list_any (is_same x) xs) e (any_same x xs ∙ in_any x xs i)
+not_any xs x n = false_from_ne_true _ (λ e. n (any_in x xs (sym (any_same x xs) ∙ e)))
 
 -- the place that a table gives
 pub at_position : (xs : List VarName) (x : VarName) (o : Option ℕ) → o ≡ position (is_same x) xs → IfSome o (λ i. slice_get xs i ≡ Some x)
@@ -37,7 +30,7 @@ pub found_at : (o : Option ℕ) (xs ys : List VarName) (x : VarName) → xs ≡ 
 found_at o xs ys x e p = subst (λ l. IfSome o (λ i. slice_get l i ≡ Some x)) e (at_position xs x o p)
 
 pub absent_at : (o : Option ℕ) (xs ys : List VarName) (x : VarName) → xs ≡ ys → is_some o ≡ list_any (is_same x) xs → IfNone o (¬ In x ys)
-absent_at None xs ys x e h = subst (λ l. ¬ In x l) e (any_not xs x (sym h))
+absent_at None xs ys x e h = subst (λ l. ¬ In x l) e (λ i. not_both (list_any (is_same x) xs) (sym h) (any_same x xs ∙ in_any x xs i))
 absent_at (Some i) xs ys x e h = tt
 
 -- a key that is not there goes to the end
@@ -78,11 +71,7 @@ one_alone x = (tt, tt)
 -- whether a place is found says whether the variable is in the set
 pub placed : (o : Option ℕ) (xs : List VarName) (x : VarName) → IfSome o (λ i. slice_get xs i ≡ Some x) → IfNone o (¬ In x xs) → is_some o ≡ set.contains (set.from_list {R = name_cmp} xs) x
 placed (Some i) xs x f n = sym (in_set x xs (in_at xs i x f))
-placed None xs x f n =
-    elim (set.contains (set.from_list {R = name_cmp} xs) x) as (λ b. set.contains (set.from_list {R = name_cmp} xs) x ≡ b → false ≡ b) [
-      | true ↦ λ e. absurd (n (set_in x xs e))
-      | false ↦ λ e. refl
-    ] refl
+placed None xs x f n = sym (false_from_ne_true _ (λ e. n (set_in x xs e)))
 
 pub is_there : (o : Option ℕ) (xs : List VarName) (x : VarName) → is_some o ≡ true → IfSome o (λ i. slice_get xs i ≡ Some x) → In x xs
 is_there None xs x e f = cc

@@ -1,5 +1,5 @@
 -- How large a tree is once its variables are replaced by what they lead to: a number that falls where a structure is taken apart.
-use Rattle.ghc_term.proofs.Words.{◌≡◌, ℕ, zero, suc, ◌+◌, ◌≤◌, List, refl, sym, ap, ◌∙◌, subst, inl, inr, arith, Option, Some, None, VarName, Tree, variable, integer, node, Trees, none, more, Occurs, OccursIn, StoreValue, value_at, Leads, at_integer, at_node, at_free, along, Reaches, here, through, IsAcyclic}
+use Rattle.ghc_term.proofs.Words.{◌≡◌, ℕ, zero, suc, ◌+◌, ◌≤◌, List, refl, sym, ap, ◌∙◌, subst, inl, inr, arith, Option, Some, None, VarName, Tree, variable, integer, node, Trees, none, more, Occurs, OccursIn, StoreValue, value_at, Leads, along, Reaches, here, through, IsAcyclic}
 use Rattle.std.specs.FinMap as finite
 use Rattle.ghc_term.proofs.Total.{removed_apart, removed_acyclic, fewer, none_bound}
 
@@ -80,10 +80,8 @@ size_variable S h x u e =
 
 -- the end of a chain is no larger
 pub size_end : (S : StoreValue) → IsAcyclic (value_at S) → {t e : Tree} {xs : List VarName} → Leads (value_at S) t xs e → size S e ≤ size S t
-size_end S h at_integer = omega arith
-size_end S h at_node = omega arith
-size_end S h (at_free p) = omega arith
 size_end S h (along {x = x} {t = u} p a) = omega (arith, size_variable S h x u p, size_end S h a)
+size_end S h l = omega arith
 
 abbrev pub size_all : StoreValue → Trees → ℕ
 size_all S ts = weigh_all (behind (finite.len S) (value_at S)) ts

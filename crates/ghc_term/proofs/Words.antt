@@ -44,16 +44,16 @@ pub use Rattle.ghc_term.specs.declared.var_name.VarName.{VarName}
 pub use Rattle.ghc_term.specs.declared.view.TermView.{TermView}
 pub use Rattle.ghc_term.specs.declared.view.TermView.TheVariants.{Atom, Int, Struct, Var}
 pub use Rattle.indexmap.specs.IndexSet.{insert_key}
-pub use Rattle.std.proofs.Common.{All, Bool, Err, FitsSigned, IfNone, IfOk, IfSome, IsOk, IsSome, IsTrue, List, None, Ok, OnOk, Option, Result, Some, T, [], ap, append-nil, append_assoc, arith, bytes_eq, codes, cond, drop, drop-cons, false, get_or, if◌then◌else◌, inl, inr, is_ok, is_some, length, length-append, length-drop, map, max, nat_eq, negsuc, not, pos, position, refl, replicate, rules, slice_get, slice_index_or, slice_set, string_bytes, subst, suc, sym, take, take_all, true, vec_capacity, vec_len, w64, zero, ℕ, ℤ, ◌&&◌, ◌*◌, ◌++◌, ◌+◌, ◌-◌, ◌<◌, ◌^◌, ◌||◌, ◌↔◌, ◌∙◌, ◌∷◌, ◌≡◌, ◌≢◌, ◌≤◌, ◌⊎◌}
+pub use Rattle.std.proofs.Common.{All, Bool, Err, FitsSigned, IfNone, IfOk, IfSome, IsOk, IsSome, IsTrue, List, None, Ok, OnOk, Option, Result, Some, T, [], add-one, ap, append-nil, append_assoc, arith, bytes_eq, codes, cond, drop, drop-cons, false, get_or, if◌then◌else◌, inl, inr, is_ok, is_some, length, length-append, length-drop, map, max, nat_eq, negsuc, not, pos, position, refl, replicate, rules, slice_get, slice_index_or, slice_set, string_bytes, subst, suc, sym, take, take_all, true, vec_capacity, vec_len, w64, zero, ℕ, ℤ, ◌&&◌, ◌*◌, ◌++◌, ◌+◌, ◌-◌, ◌<◌, ◌^◌, ◌||◌, ◌↔◌, ◌∙◌, ◌∷◌, ◌≡◌, ◌≢◌, ◌≤◌, ◌⊎◌}
 pub use Rattle.std.proofs.Math.Seq.{drop-length}
-pub use Rattle.std.proofs.lemmas.Bool.{cases_eq, cases_lt, eqb-false, eqb-true, or_cases, or_right}
+pub use Rattle.std.proofs.lemmas.Bool.{cases_eq, cases_lt, eqb-false, eqb-true, false_from_ne_true, or_cases, or_right}
 pub use Rattle.std.proofs.lemmas.Bool.Decides.{nat_tests}
 pub use Rattle.std.proofs.lemmas.Cmp.{on_total, then_total}
 pub use Rattle.std.proofs.lemmas.Fmt.{IsAscii-decimal, decimal-digits_of, decimal_digit, length-decimal-le}
 pub use Rattle.std.proofs.lemmas.Grind.{common_steps}
 pub use Rattle.std.proofs.lemmas.Int.{to_z-of_z}
 pub use Rattle.std.proofs.lemmas.Int.Digits.{all_below_base_digits_of}
-pub use Rattle.std.proofs.lemmas.List.{drop_all, drop_more, get_or-map, get_or-set_other, get_or-set_same, get_or-take, get_or_default, length-set, length-take-le, map-append, take-append-drop, take-map, take_more}
+pub use Rattle.std.proofs.lemmas.List.{drop_all, drop_more, get_or-map, get_or-set_other, get_or-set_same, get_or-take, get_or_default, get_or_past, length-set, length-take-le, map-append, take-append-drop, take-map, take_more}
 pub use Rattle.std.proofs.lemmas.List.Elements.{All-contains, Contains-append_cases, Contains-append_left, Contains-append_right, Contains-get_or}
 pub use Rattle.std.proofs.lemmas.List.Quantifiers.{position-Some}
 pub use Rattle.std.proofs.lemmas.Map.Entries.{length-keys_of, lookup_from_place}
@@ -74,7 +74,7 @@ pub use Rattle.std.specs.Int.Digits.{AllBelowBase, digits_of}
 pub use Rattle.std.specs.Io.{StartsWith}
 pub use Rattle.std.specs.List.{AllByRecursion, Contains, list_all, list_any, swap_remove, zip}
 pub use Rattle.std.specs.Map.{keys_of, lookup}
-pub use Rattle.std.specs.Option.{option_or}
+pub use Rattle.std.specs.Option.{option_map, option_or}
 pub use Rattle.std.specs.Ordering.{eq_by_cmp, is_eq, is_lt, nat_cmp, ordering_then}
 pub use Rattle.std.specs.Str.{IsAscii, IsUtf8}
 pub use Rattle.std.specs.String.{string_len}

@@ -30,10 +30,9 @@ length-arguments t ts = omega (arith, length-append (term_text t) (further_text 
 
 -- a list cell has one argument before its last
 cell_parts : (f : List ℕ) (ts : List Tree) (t : Tree) → is_cell f (trees (ts ++ t ∷ [])) ≡ true → (h : Tree) × (ts ≡ h ∷ [])
-cell_parts f [] t e = cc
 cell_parts f (h ∷ []) t e = (h, refl)
 cell_parts f (h ∷ (u ∷ [])) t e = cc
-cell_parts f (h ∷ (u ∷ (v ∷ vs))) t e = cc
+cell_parts f ts t e = cc
 
 module _ (f : List ℕ) (h t : Tree) where
   abbrev pair : Trees
@@ -70,17 +69,11 @@ module _ (p : Place) (f : List ℕ) (h t : Tree) (e : is_cell f (more h (more t 
   two_last : last_place f two ≡ Rest
   two_last = ap (λ b. if b then Rest else Alone) e
 
-  two_own_bytes : own_bytes p f two ≡ 0
-  two_own_bytes = ap (λ b. if b then 0 else length f + 2 + marks_at p) e
-
-  two_own_nesting : own_nesting p f two ≡ opened_at p
-  two_own_nesting = ap (λ b. if b then opened_at p else 1) e
-
   two_bytes : bytes_at p (node f two) ≡ own_bytes p f two + bytes_of_all (more h none) + bytes_at (last_place f two) t
-  two_bytes = omega (arith, cell_bytes f h t p e, two_own_bytes, ap (λ q. bytes_at q t) two_last)
+  two_bytes = omega (arith, cell_bytes f h t p e, ap (λ b. if b then 0 else length f + 2 + marks_at p) e, ap (λ q. bytes_at q t) two_last)
 
   two_nesting : nesting_at p (node f two) ≡ own_nesting p f two + max (deepest (more h none)) (nesting_at (last_place f two) t)
-  two_nesting = omega (arith, cell_depth f h t p e, two_own_nesting, ap (λ q. nesting_at q t) two_last)
+  two_nesting = omega (arith, cell_depth f h t p e, ap (λ b. if b then opened_at p else 1) e, ap (λ q. nesting_at q t) two_last)
 
 -- any other structure
 module _ (p : Place) (f : List ℕ) (ts : List Tree) (t : Tree) (e : is_cell f (trees (ts ++ t ∷ [])) ≡ false) where
@@ -105,28 +98,26 @@ module _ (p : Place) (f : List ℕ) (ts : List Tree) (t : Tree) (e : is_cell f (
       let own : own_nesting p f whole ≡ 1 = ap (λ b. if b then opened_at p else 1) e in
       omega (arith, (plain_at (ts ++ t ∷ []) refl).0, own, ap (λ q. nesting_at q t) last, deepest-append ts (t ∷ []))
 
+-- a list cell, or any other structure
+by_cell : (f : List ℕ) (ts : List Tree) (t : Tree) (P : List Tree → Type 0) → ((h : Tree) → is_cell f (trees (h ∷ t ∷ [])) ≡ true → P (h ∷ []))
+    → (is_cell f (trees (ts ++ t ∷ [])) ≡ false → P ts) → P ts
+by_cell f ts t P cell other = elim (is_cell f (trees (ts ++ t ∷ []))) as (λ b. is_cell f (trees (ts ++ t ∷ [])) ≡ b → P ts) [
+  | true ↦ λ e. let q = cell_parts f ts t e in subst P (sym q.1) (cell q.0 (subst (λ l. is_cell f (trees (l ++ t ∷ [])) ≡ true) q.1 e))
+  | false ↦ other
+] refl
+
 -- a structure's text is its own, its first arguments' and its last argument's
 pub node_bytes : (p : Place) (f : List ℕ) (ts : List Tree) (t : Tree)
     → bytes_at p (node f (trees (ts ++ t ∷ []))) ≡ own_bytes p f (trees (ts ++ t ∷ [])) + bytes_of_all (trees ts) + bytes_at (last_place f (trees (ts ++ t ∷ []))) t
-node_bytes p f ts t =
-    elim (is_cell f (trees (ts ++ t ∷ []))) as (λ b. is_cell f (trees (ts ++ t ∷ [])) ≡ b
-    → bytes_at p (node f (trees (ts ++ t ∷ []))) ≡ own_bytes p f (trees (ts ++ t ∷ [])) + bytes_of_all (trees ts) + bytes_at (last_place f (trees (ts ++ t ∷ []))) t) [
-      | true ↦ λ e.
-          let q = cell_parts f ts t e in
-          subst (λ l. bytes_at p (node f (trees (l ++ t ∷ []))) ≡ own_bytes p f (trees (l ++ t ∷ [])) + bytes_of_all (trees l) + bytes_at (last_place f (trees (l ++ t ∷ []))) t)
-          (sym q.1) (two_bytes p f q.0 t (subst (λ l. is_cell f (trees (l ++ t ∷ [])) ≡ true) q.1 e))
-      | false ↦ λ e. other_bytes p f ts t e
-    ] refl
+node_bytes p f ts t = by_cell f ts t
+    (λ l. bytes_at p (node f (trees (l ++ t ∷ [])))
+    ≡ own_bytes p f (trees (l ++ t ∷ [])) + bytes_of_all (trees l) + bytes_at (last_place f (trees (l ++ t ∷ []))) t)
+    (λ h e. two_bytes p f h t e) (other_bytes p f ts t)
 
 -- .. and so are its brackets
 pub node_nesting : (p : Place) (f : List ℕ) (ts : List Tree) (t : Tree)
     → nesting_at p (node f (trees (ts ++ t ∷ []))) ≡ own_nesting p f (trees (ts ++ t ∷ [])) + max (deepest (trees ts)) (nesting_at (last_place f (trees (ts ++ t ∷ []))) t)
-node_nesting p f ts t =
-    elim (is_cell f (trees (ts ++ t ∷ []))) as (λ b. is_cell f (trees (ts ++ t ∷ [])) ≡ b
-    → nesting_at p (node f (trees (ts ++ t ∷ []))) ≡ own_nesting p f (trees (ts ++ t ∷ [])) + max (deepest (trees ts)) (nesting_at (last_place f (trees (ts ++ t ∷ []))) t)) [
-      | true ↦ λ e.
-          let q = cell_parts f ts t e in
-          subst (λ l. nesting_at p (node f (trees (l ++ t ∷ []))) ≡ own_nesting p f (trees (l ++ t ∷ [])) + max (deepest (trees l)) (nesting_at (last_place f (trees (l ++ t ∷ []))) t))
-          (sym q.1) (two_nesting p f q.0 t (subst (λ l. is_cell f (trees (l ++ t ∷ [])) ≡ true) q.1 e))
-      | false ↦ λ e. other_nesting p f ts t e
-    ] refl
+node_nesting p f ts t = by_cell f ts t
+    (λ l. nesting_at p (node f (trees (l ++ t ∷ [])))
+    ≡ own_nesting p f (trees (l ++ t ∷ [])) + max (deepest (trees l)) (nesting_at (last_place f (trees (l ++ t ∷ []))) t))
+    (λ h e. two_nesting p f h t e) (other_nesting p f ts t)

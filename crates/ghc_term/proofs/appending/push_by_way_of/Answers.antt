@@ -1,4 +1,4 @@
-use Rattle.ghc_term.proofs.Words.{◌≡◌, ℕ, ◌<◌, ◌+◌, ◌-◌, ◌^◌, List, ◌++◌, ◌∙◌, ap, subst, sym, drop, take, length, arith, take_all, length-drop, append-nil, IsAscii-decimal, IsUtf8-from_ascii, drop-length, decimal, IsAscii, IsUtf8}
+use Rattle.ghc_term.proofs.Words.{◌≡◌, ℕ, ◌<◌, ◌-◌, ◌^◌, List, ◌++◌, ◌∙◌, ap, subst, sym, drop, take, length, arith, take_all, length-drop, append-nil, IsAscii-decimal, IsUtf8-from_ascii, drop-length, decimal, IsAscii, IsUtf8}
 use Rattle.ghc_term.proofs.appending.push_by_way_of.Goals as goal
 
 digits_alone : (number : ℕ) (place rest : List ℕ) → rest ≡ decimal number ++ drop (length place) place → rest ≡ decimal number

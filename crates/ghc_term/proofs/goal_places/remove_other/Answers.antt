@@ -1,14 +1,14 @@
-use Rattle.std.proofs.Common.{◌∙◌}
+use Rattle.ghc_term.proofs.Words.{◌∙◌, goal_cmp}
 use Rattle.ghc_term.proofs.Indexed.{value_is, removed}
 use Rattle.ghc_term.proofs.GoalNames.{goal_total, goal_antisymmetric, same, same_is}
-use Rattle.ghc_term.proofs.GoalPlaces.{none_in, none_fewer}
+use Rattle.ghc_term.proofs.Slots.{none_in, none_fewer}
 use Rattle.ghc_term.proofs.goal_places.remove_other.Goals as goal
 
 pub returns-then-is_empty-clause-value : goal.returns-then-is_empty-clause-value
-returns-then-is_empty-clause-value c = none_in c.args.others.now.entries c.args.name (c.is_empty.ensures.0 c.if-is_empty.true)
+returns-then-is_empty-clause-value c = none_in goal_cmp c.args.others.now.entries c.args.name (c.is_empty.ensures.0 c.if-is_empty.true)
 
 pub returns-then-is_empty-clause-held : goal.returns-then-is_empty-clause-held
-returns-then-is_empty-clause-held c = none_fewer c.args.others.now.entries c.args.name (c.is_empty.ensures.0 c.if-is_empty.true)
+returns-then-is_empty-clause-held c = none_fewer goal_total goal_antisymmetric c.args.others.now.entries c.args.name (c.is_empty.ensures.0 c.if-is_empty.true)
 
 pub returns-clause-value : goal.returns-clause-value
 returns-clause-value c = c.swap_remove.ensures.value ∙ value_is goal_total goal_antisymmetric same same_is c.args.name c.args.others.now.entries

@@ -1,7 +1,9 @@
 use Rattle.ghc_term.proofs.Words.{◌<◌, sym, ap, subst, length, ◌∙◌, arith, slice_get_read, ArePlaces}
 use Rattle.std.specs.FinMap as finite
 use Rattle.ghc_term.proofs.PlacedGoals.{value_at, held_is, within}
-use Rattle.ghc_term.proofs.ChangedPlaces.{gone_same, end_places, end_held, moved_is_there, moved_places, moved_held}
+use Rattle.ghc_term.proofs.GoalNames.{goal_total, goal_antisymmetric}
+use Rattle.ghc_term.proofs.Slots.{gone_same}
+use Rattle.ghc_term.proofs.ChangedPlaces.{end_is, moved_is_there, moved_is}
 use Rattle.ghc_term.proofs.goal_map.GoalMap.remove.Goals as goal
 use Rattle.ghc_term.proofs.goal_map.GoalMap.remove.Goals.{then-place-len, else-place-len}
 
@@ -9,7 +11,8 @@ pub invariant_of-self : goal.invariant_of-self
 invariant_of-self g c =
     let i = c.self.inside in
     let h = c.self.invariant.1 in (
-      subst (ArePlaces i.names.items (length i.values.items)) (sym (c.in_err-place.ensures.held ∙ gone_same i.places.held c.args.name c.in_err-place.ensures.value)) c.self.invariant.0,
+      subst (ArePlaces i.names.items (length i.values.items))
+          (sym (c.in_err-place.ensures.held ∙ gone_same goal_total goal_antisymmetric i.places.held c.args.name c.in_err-place.ensures.value)) c.self.invariant.0,
       (h.0, h.1, omega (arith, h.2, c.in_err-place.ensures.room), h.3),
     )
 
@@ -22,7 +25,7 @@ pub returns-in_err-place-clause-held : goal.returns-in_err-place-clause-held
 returns-in_err-place-clause-held g c =
     let i = c.self.inside in
     let none = ap (λ o. value_at o i.values.items) c.in_err-place.ensures.value ∙ sym (held_is i.names.items i.values.items i.places.held c.self.invariant.0 c.args.name) ∙ ap (λ t. finite.get t.held c.args.name) c.self.view_is in
-    ap (λ t. t.held) c.self.view_is ∙ sym (gone_same c.args.self.now.held c.args.name none)
+    ap (λ t. t.held) c.self.view_is ∙ sym (gone_same goal_total goal_antisymmetric c.args.self.now.held c.args.name none)
 
 pub swap_remove-value-requires : goal.swap_remove-value-requires
 swap_remove-value-requires g c =
@@ -42,9 +45,8 @@ replace-requires-clause-there g c =
     let ns = c.swap_remove.new.self in
     let vs = c.swap_remove-value.new.self in
     let before : c.in_ok-place.place < length ns.items = omega (arith, c.if-place-len.true, c.len.ensures, ns.ok.0) in
-    moved_is_there i.names.items i.values.items i.places.held c.self.invariant.0 c.args.name c.in_ok-place.place (sym c.in_ok-place.ensures.value) c.swap_remove.result c.swap_remove-value.result (length ns.items) ns.items vs.items
-    c.remove.new.self.held c.swap_remove.ensures.items c.swap_remove-value.ensures.items c.in_ok-place.ensures.held (omega (arith, c.swap_remove.ensures.len, ns.ok.0, i.names.ok.0))
-    (omega (arith, c.swap_remove.ensures.len, ns.ok.0, i.names.ok.0)) (omega (arith, c.swap_remove-value.ensures.len, vs.ok.0, i.values.ok.0)) c.index.result.now before
+    moved_is_there i.names.items i.values.items i.places.held c.self.invariant.0 c.args.name c.in_ok-place.place (sym c.in_ok-place.ensures.value) c.swap_remove.result c.swap_remove-value.result ns.items vs.items
+    c.swap_remove.ensures.items c.swap_remove-value.ensures.items c.remove.new.self.held c.in_ok-place.ensures.held c.index.result.now before
     (slice_get_read ns.items _ c.in_ok-place.place c.index.result.now ns.ok.0 (omega (arith, before, ns.ok.0)) c.index.ensures)
 
 pub invariant_of-self-then-place-len : goal.invariant_of-self-then-place-len
@@ -55,10 +57,9 @@ invariant_of-self-then-place-len g c =
     let before : c.in_ok-place.place < length ns.items = omega (arith, c.if-place-len.true, c.len.ensures, ns.ok.0) in
     let h = c.self.invariant.1 in
     let less = c.swap_remove.ensures.len in (
-      moved_places i.names.items i.values.items i.places.held c.self.invariant.0 c.args.name c.in_ok-place.place (sym c.in_ok-place.ensures.value) c.swap_remove.result c.swap_remove-value.result (length ns.items) ns.items vs.items
-          c.remove.new.self.held c.swap_remove.ensures.items c.swap_remove-value.ensures.items c.in_ok-place.ensures.held (omega (arith, c.swap_remove.ensures.len, ns.ok.0, i.names.ok.0))
-          (omega (arith, c.swap_remove.ensures.len, ns.ok.0, i.names.ok.0)) (omega (arith, c.swap_remove-value.ensures.len, vs.ok.0, i.values.ok.0)) c.index.result.now before
-          (slice_get_read ns.items _ c.in_ok-place.place c.index.result.now ns.ok.0 (omega (arith, before, ns.ok.0)) c.index.ensures) c.replace.new.self.held c.replace.ensures.held,
+      (moved_is i.names.items i.values.items i.places.held c.self.invariant.0 c.args.name c.in_ok-place.place (sym c.in_ok-place.ensures.value) c.swap_remove.result c.swap_remove-value.result ns.items vs.items
+          c.swap_remove.ensures.items c.swap_remove-value.ensures.items c.remove.new.self.held c.in_ok-place.ensures.held c.index.result.now before
+          (slice_get_read ns.items _ c.in_ok-place.place c.index.result.now ns.ok.0 (omega (arith, before, ns.ok.0)) c.index.ensures) c.replace.new.self.held c.replace.ensures.held).0,
       (
         omega (arith, h.0, less, c.swap_remove.ensures.capacity),
         omega (arith, h.1, less, c.swap_remove-value.ensures.capacity),
@@ -72,12 +73,10 @@ invariant_of-self-else-place-len g c =
     let i = c.self.inside in
     let ns = c.swap_remove.new.self in
     let vs = c.swap_remove-value.new.self in
-    let at = within i.names.items i.values.items i.places.held c.self.invariant.0 c.args.name c.in_ok-place.place (sym c.in_ok-place.ensures.value) in
     let h = c.self.invariant.1 in
     let less = c.swap_remove.ensures.len in (
-      end_places i.names.items i.values.items i.places.held c.self.invariant.0 c.args.name c.in_ok-place.place (sym c.in_ok-place.ensures.value) c.swap_remove.result c.swap_remove-value.result (length ns.items) ns.items vs.items
-          c.remove.new.self.held c.swap_remove.ensures.items c.swap_remove-value.ensures.items c.in_ok-place.ensures.held (omega (arith, c.swap_remove.ensures.len, ns.ok.0, i.names.ok.0))
-          (omega (arith, c.swap_remove.ensures.len, ns.ok.0, i.names.ok.0)) (omega (arith, c.swap_remove-value.ensures.len, vs.ok.0, i.values.ok.0)) (omega (arith, c.if-place-len.false, c.len.ensures, c.swap_remove.ensures.len, ns.ok.0, i.names.ok.0, at)),
+      (end_is i.names.items i.values.items i.places.held c.self.invariant.0 c.args.name c.in_ok-place.place (sym c.in_ok-place.ensures.value) c.swap_remove.result c.swap_remove-value.result ns.items vs.items
+          c.swap_remove.ensures.items c.swap_remove-value.ensures.items c.remove.new.self.held c.in_ok-place.ensures.held (omega (arith, c.if-place-len.false, c.len.ensures, ns.ok.0))).0,
       (
         omega (arith, h.0, less, c.swap_remove.ensures.capacity),
         omega (arith, h.1, less, c.swap_remove-value.ensures.capacity),
@@ -102,16 +101,13 @@ returns-clause-held g c =
       | then-place-len w ↦
           let before : c.in_ok-place.place < length ns.items = omega (arith, w.if-place-len.true, c.len.ensures, ns.ok.0) in
           ap (λ t. t.held) w.self-is
-          ∙ moved_held i.names.items i.values.items i.places.held c.self.invariant.0 c.args.name c.in_ok-place.place (sym c.in_ok-place.ensures.value) c.swap_remove.result c.swap_remove-value.result (length ns.items) ns.items vs.items
-          c.remove.new.self.held c.swap_remove.ensures.items c.swap_remove-value.ensures.items c.in_ok-place.ensures.held (omega (arith, c.swap_remove.ensures.len, ns.ok.0, i.names.ok.0))
-          (omega (arith, c.swap_remove.ensures.len, ns.ok.0, i.names.ok.0)) (omega (arith, c.swap_remove-value.ensures.len, vs.ok.0, i.values.ok.0)) w.index.result.now before
-          (slice_get_read ns.items _ c.in_ok-place.place w.index.result.now ns.ok.0 (omega (arith, before, ns.ok.0)) w.index.ensures) w.replace.new.self.held w.replace.ensures.held
+          ∙ (moved_is i.names.items i.values.items i.places.held c.self.invariant.0 c.args.name c.in_ok-place.place (sym c.in_ok-place.ensures.value) c.swap_remove.result c.swap_remove-value.result ns.items vs.items
+          c.swap_remove.ensures.items c.swap_remove-value.ensures.items c.remove.new.self.held c.in_ok-place.ensures.held w.index.result.now before
+          (slice_get_read ns.items _ c.in_ok-place.place w.index.result.now ns.ok.0 (omega (arith, before, ns.ok.0)) w.index.ensures) w.replace.new.self.held w.replace.ensures.held).1
           ∙ ap (λ t. finite.remove t.held c.args.name) c.self.view_is
       | else-place-len w ↦
-          let at = within i.names.items i.values.items i.places.held c.self.invariant.0 c.args.name c.in_ok-place.place (sym c.in_ok-place.ensures.value) in
           ap (λ t. t.held) w.self-is
-          ∙ end_held i.names.items i.values.items i.places.held c.self.invariant.0 c.args.name c.in_ok-place.place (sym c.in_ok-place.ensures.value) c.swap_remove.result c.swap_remove-value.result (length ns.items) ns.items vs.items
-          c.remove.new.self.held c.swap_remove.ensures.items c.swap_remove-value.ensures.items c.in_ok-place.ensures.held (omega (arith, c.swap_remove.ensures.len, ns.ok.0, i.names.ok.0))
-          (omega (arith, c.swap_remove.ensures.len, ns.ok.0, i.names.ok.0)) (omega (arith, c.swap_remove-value.ensures.len, vs.ok.0, i.values.ok.0)) (omega (arith, w.if-place-len.false, c.len.ensures, c.swap_remove.ensures.len, ns.ok.0, i.names.ok.0, at))
+          ∙ (end_is i.names.items i.values.items i.places.held c.self.invariant.0 c.args.name c.in_ok-place.place (sym c.in_ok-place.ensures.value) c.swap_remove.result c.swap_remove-value.result ns.items vs.items
+          c.swap_remove.ensures.items c.swap_remove-value.ensures.items c.remove.new.self.held c.in_ok-place.ensures.held (omega (arith, w.if-place-len.false, c.len.ensures, ns.ok.0))).1
           ∙ ap (λ t. finite.remove t.held c.args.name) c.self.view_is
     ]

@@ -1,9 +1,12 @@
 use Rattle.std.proofs.Common.{arith}
-use Rattle.ghc_term.proofs.GoalPlaces.{put_near, put_far, put_past, near_put}
+use Rattle.ghc_term.proofs.GoalNames.{goal_total, goal_antisymmetric}
+use Rattle.ghc_term.specs.GoalPlaces.{IsNear}
+use Rattle.ghc_term.proofs.Slots.{none_put}
+use Rattle.ghc_term.proofs.GoalPlaces.{put_near, put_far, put_past}
 use Rattle.ghc_term.proofs.goal_places.GoalPlaces.put.Goals as goal
 
 pub invariant_of-self : goal.invariant_of-self
-invariant_of-self c none = near_put c.self.inside.others.entries c.put_other.new.others.entries c.args.name c.args.number c.in_default.ensures.none c.put_other.ensures.held (c.self.invariant none)
+invariant_of-self c none = none_put goal_total goal_antisymmetric IsNear _ _ c.args.name c.args.number c.in_default.ensures.none c.put_other.ensures.held (c.self.invariant none)
 
 pub returns-in_default-clause-held : goal.returns-in_default-clause-held
 returns-in_default-clause-held c = put_far c.self.inside.near.items c.self.inside.others.entries c.self.view_is c.args.name c.args.number c.put_other.new.others.entries c.in_default.ensures.none c.put_other.ensures.held

@@ -1,6 +1,8 @@
-use Rattle.ghc_term.proofs.Words.{sym, subst, arith, IsTrue}
+use Rattle.ghc_term.proofs.Words.{sym, subst, arith, IsTrue, IsNear}
 use Rattle.std.specs.FinMap as finite
-use Rattle.ghc_term.proofs.GoalPlaces.{put_near, put_far, put_past, near_put, near_written, there_far, there_past}
+use Rattle.ghc_term.proofs.GoalNames.{goal_total, goal_antisymmetric}
+use Rattle.ghc_term.proofs.Slots.{none_put}
+use Rattle.ghc_term.proofs.GoalPlaces.{put_near, put_far, put_past, near_written, there_far, there_past}
 use Rattle.ghc_term.proofs.goal_places.GoalPlaces.replace.Goals as goal
 
 pub replace_other-requires : goal.replace_other-requires
@@ -9,7 +11,7 @@ replace_other-requires c =
     there_far i.near.items i.others.entries c.args.name c.in_default.ensures.none (subst (λ t. IsTrue (finite.contains_key t.held c.args.name)) (sym c.self.view_is) c.requires.there)
 
 pub invariant_of-self : goal.invariant_of-self
-invariant_of-self c none = near_put c.self.inside.others.entries c.replace_other.new.others.entries c.args.name c.args.number c.in_default.ensures.none c.replace_other.ensures.held (c.self.invariant none)
+invariant_of-self c none = none_put goal_total goal_antisymmetric IsNear _ _ c.args.name c.args.number c.in_default.ensures.none c.replace_other.ensures.held (c.self.invariant none)
 
 pub returns-in_default-clause-held : goal.returns-in_default-clause-held
 returns-in_default-clause-held c = put_far c.self.inside.near.items c.self.inside.others.entries c.self.view_is c.args.name c.args.number c.replace_other.new.others.entries c.in_default.ensures.none c.replace_other.ensures.held

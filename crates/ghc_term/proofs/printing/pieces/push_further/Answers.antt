@@ -1,4 +1,4 @@
-use Rattle.ghc_term.proofs.Words.{◌≡◌, ◌≤◌, ◌-◌, ◌++◌, [], ◌∷◌, length, take, drop, append-nil, append_assoc, sym, ap, ◌∙◌, arith, string_bytes, if◌then◌else◌, common_steps, term_text, further_text, all_resolved, total, arguments_size}
+use Rattle.ghc_term.proofs.Words.{◌≡◌, ◌-◌, ◌++◌, [], ◌∷◌, length, take, drop, append-nil, append_assoc, sym, ap, ◌∙◌, arith, string_bytes, if◌then◌else◌, common_steps, term_text, further_text, all_resolved, total, arguments_size}
 use Rattle.ghc_term.proofs.Pieces.{as_said, resumed, left_two, first_rest}
 use Rattle.ghc_term.proofs.Resolving.{same_end, same_leaf}
 use Rattle.ghc_term.proofs.printing.pieces.push_further.Goals as goal

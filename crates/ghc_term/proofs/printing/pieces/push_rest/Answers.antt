@@ -1,4 +1,4 @@
-use Rattle.ghc_term.proofs.Words.{◌≡◌, ◌≢◌, ◌++◌, [], ◌∷◌, true, false, refl, sym, append-nil, append_assoc, ap, ◌∙◌, arith, string_bytes, codes, if◌then◌else◌, IfOk-weaker, term_text, rest_text, barred, nil}
+use Rattle.ghc_term.proofs.Words.{◌≡◌, ◌≢◌, ◌++◌, [], true, false, refl, sym, append-nil, append_assoc, ap, ◌∙◌, arith, string_bytes, codes, if◌then◌else◌, IfOk-weaker, term_text, rest_text, barred, nil}
 use Rattle.ghc_term.proofs.Pieces.{as_said, wrote, left_two, if_written}
 use Rattle.ghc_term.proofs.Texts.{rest_barred, no_new_nil, no_new_cell}
 use Rattle.ghc_term.proofs.Resolving.{same_end, same_leaf, same_node, same_cell, cell_room, end_free}

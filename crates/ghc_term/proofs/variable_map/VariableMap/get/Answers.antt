@@ -1,10 +1,14 @@
 use Rattle.ghc_term.proofs.Words.{sym, ap, ◌∙◌, option_or, values_in, first_at}
 use Rattle.std.specs.FinMap as finite
-use Rattle.ghc_term.proofs.VariableMaps.{value_first, value_other}
+use Rattle.ghc_term.proofs.Slots.{value_unlisted}
+use Rattle.ghc_term.proofs.VariableMaps.{firsts, far, value_first}
 use Rattle.ghc_term.proofs.variable_map.VariableMap.get.Goals as goal
 
 pub returns-then-x-ne1 : goal.returns-then-x-ne1
-returns-then-x-ne1 g c = c.other.ensures ∙ sym (value_other c.self.inside.firsts.items c.self.inside.others.entries c.args.x c.if-x-ne1.true) ∙ ap (λ t. finite.get t.held c.args.x) c.self.view_is
+returns-then-x-ne1 g c =
+    let i = c.self.inside in
+    c.other.ensures ∙ sym (value_unlisted firsts i.firsts.items i.others.entries c.args.x (far i.firsts.items c.args.x c.if-x-ne1.true))
+    ∙ ap (λ t. finite.get t.held c.args.x) c.self.view_is
 
 pub returns-in-Some : goal.returns-in-Some
 returns-in-Some g c =
