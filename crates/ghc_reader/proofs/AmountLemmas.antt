@@ -1,9 +1,10 @@
 -- The amounts of lists of terms, goals and clauses, one element after the other.
-use Rattle.ghc_reader.proofs.Words.{◌≡◌, ℕ, ◌+◌, ◌<◌, ◌≤◌, List, [], ◌∷◌, ◌++◌, length, get_or, take, drop, map, refl, sym, ap, ◌∙◌, arith, append_assoc, Box, Global, Vec, vec_len, max, flat_map, ord_max, nat_cmp, common_steps, flat_map-append, take_more, take-append-drop, map-append, max_push, SourceTerm, SourceExpression, Sum, Product, Tree, Trees, none, some, Value, product, sum, cells, products, sums, view, views, value_view, factor_views, summand_views, count, largest, widest, widest_of, names, names_of, names_in, nodes, nodes_of}
+use Rattle.ghc_reader.proofs.Words.{◌≡◌, ℕ, ◌+◌, ◌<◌, ◌≤◌, List, [], ◌∷◌, ◌++◌, length, get_or, take, drop, map, refl, sym, ap, ◌∙◌, arith, append_assoc, Box, Global, Vec, vec_len, max, flat_map, ord_max, nat_cmp, common_steps, flat_map-append, take-append-drop, map-append, max_push, SourceTerm, SourceExpression, Sum, Product, Tree, Trees, none, some, Value, product, sum, cells, products, sums, view, views, value_view, factor_views, summand_views, count, largest, widest, widest_of, names, names_of, names_in, nodes, nodes_of}
 use Rattle.std.proofs.Common.{append-nil}
 use Rattle.ghc_reader.specs.declared.source.SourceTerm.TheViews as w
 use Rattle.ghc_reader.specs.declared.source.SourceExpression.TheViews as ew
 use Rattle.ghc_reader.specs.Source.{trees_of}
+use Rattle.ghc_reader.proofs.ExpressionsLowered.{mapped_more}
 use Rattle.ghc_reader.proofs.Misplaced.{count_views}
 use Rattle.ghc_reader.proofs.Views.{view_list, view_structure, view_products, view_sums}
 
@@ -11,20 +12,15 @@ use Rattle.ghc_reader.proofs.Views.{view_list, view_structure, view_products, vi
 pub max_is : (a b : ℕ) → ord_max nat_cmp a b ≡ max a b
 max_is a b = grind (arith, common_steps)
 
--- the views of one more element
-views_more : {A B : Type 0} (v : A → B) (xs : List A) (i : ℕ) (x : A) → i < length xs → x ≡ get_or xs i x → map v (take (i + 1) xs) ≡ map v (take i xs) ++ v x ∷ []
-views_more v xs i x less is =
-    ap (map v) (take_more xs i x less ∙ ap (λ y. take i xs ++ y ∷ []) (sym is)) ∙ map-append v (take i xs) (x ∷ [])
-
 -- the largest of one more
 pub largest_more : {A B : Type 0} (f : B → ℕ) (v : A → B) (xs : List A) (i : ℕ) (x : A) → i < length xs → x ≡ get_or xs i x → largest f (map v (take (i + 1) xs)) ≡ max (largest f (map v (take i xs))) (f (v x))
 largest_more f v xs i x less is =
-    ap (largest f) (views_more v xs i x less is) ∙ max_push (largest f) f refl (λ x xs. refl) (map v (take i xs)) (v x)
+    ap (largest f) (mapped_more v xs i x less is) ∙ max_push (largest f) f refl (λ x xs. refl) (map v (take i xs)) (v x)
 
 -- the lists of one more, joined
 pub joined_more : {A B C : Type 0} (f : B → List C) (v : A → B) (xs : List A) (i : ℕ) (x : A) → i < length xs → x ≡ get_or xs i x → flat_map f (map v (take (i + 1) xs)) ≡ flat_map f (map v (take i xs)) ++ f (v x)
 joined_more f v xs i x less is =
-    ap (flat_map f) (views_more v xs i x less is) ∙ flat_map-append f (map v (take i xs)) (v x ∷ []) ∙ ap (λ l. flat_map f (map v (take i xs)) ++ l) (append-nil (f (v x)))
+    ap (flat_map f) (mapped_more v xs i x less is) ∙ flat_map-append f (map v (take i xs)) (v x ∷ []) ∙ ap (λ l. flat_map f (map v (take i xs)) ++ l) (append-nil (f (v x)))
 
 -- so a loop that adds what each element has at the end of a list goes on
 pub push_more : {A B C : Type 0} (f : B → List C) (v : A → B) (xs : List A) (i : ℕ) (x : A) (start now new : List C) → i < length xs → x ≡ get_or xs i x
@@ -61,7 +57,7 @@ nodes_push (x ∷ us) u = omega (arith, nodes_push us u)
 
 pub nodes_more : (ts : List SourceTerm) (i : ℕ) (t : SourceTerm) → i < length ts → t ≡ get_or ts i t → nodes_of (views (take (i + 1) ts)) ≡ nodes_of (views (take i ts)) + nodes (view t)
 nodes_more ts i t less is =
-    ap (λ l. nodes_of (trees_of l)) (views_more view ts i t less is) ∙ nodes_push (map view (take i ts)) (view t)
+    ap (λ l. nodes_of (trees_of l)) (mapped_more view ts i t less is) ∙ nodes_push (map view (take i ts)) (view t)
 
 -- the nodes of the first terms and of the next one are among those of all
 nodes_front : (us vs : List Tree) → nodes_of (trees_of us) ≤ nodes_of (trees_of (us ++ vs))

@@ -1,7 +1,7 @@
 -- The tokens that follow a derivation stay behind it.
-use Rattle.ghc_reader.proofs.Words.{◌≡◌, ℕ, List, [], ◌∷◌, ◌++◌, refl, ap, ◌∙◌, Open, Close, OpenList, CloseList, Comma, Bar, Equals, Assign, Define, Stop, Token, Term, variable, integer, call, list, Arguments, without, within, Rest, closed, whole, partial, Terms, one, more, Operand, nested, Factors, factor, factors, Expression, summand, summands, Item, goal, unify, assign, Test, plain_test, compare, Tests, last_test, next_test, Body, last, next, Right, unguarded, guarded, Clause, fact, rule, term, arguments, rest, terms, operand, expression, item, test, tests, body, right, clause}
+use Rattle.ghc_reader.proofs.Words.{◌≡◌, ℕ, List, [], ◌∷◌, ◌++◌, refl, ap, ◌∙◌, Open, Close, OpenList, CloseList, Comma, Bar, Equals, Assign, Define, Stop, Token, Term, call, list, Arguments, without, within, Rest, closed, whole, partial, Terms, one, more, Operand, nested, Factors, factor, factors, Expression, summand, summands, Item, goal, unify, assign, Test, plain_test, compare, Tests, last_test, next_test, Body, last, next, Right, unguarded, guarded, Clause, fact, rule, term, arguments, rest, terms, operand, expression, item, test, tests, body, right, clause}
 use Rattle.ghc_reader.specs.declared.token.Token.TheVariants as token
-use Rattle.ghc_reader.specs.Grammar.{number, named, product}
+use Rattle.ghc_reader.specs.Grammar.{product}
 
 -- a name, where an example needs one
 abbrev pub some_name : List ℕ
@@ -13,10 +13,9 @@ some_variable = 88 ∷ []
 
 mutual
   pub term_append : (c : Term) (a b : List Token) → term c (a ++ b) ≡ term c a ++ b
-  term_append (variable v) a b = refl
-  term_append (integer n) a b = refl
   term_append (call f x) a b = ap (λ l. token.Name f ∷ l) (arguments_append x a b)
   term_append (list r) a b = ap (λ l. token.Mark OpenList ∷ l) (rest_append r a b)
+  term_append c a b = refl
 
   pub arguments_append : (c : Arguments) (a b : List Token) → arguments c (a ++ b) ≡ arguments c a ++ b
   arguments_append without a b = refl
@@ -36,9 +35,8 @@ mutual
 
 mutual
   pub operand_append : (c : Operand) (a b : List Token) → operand c (a ++ b) ≡ operand c a ++ b
-  operand_append (number n) a b = refl
-  operand_append (named v) a b = refl
   operand_append (nested e) a b = ap (λ l. token.Mark Open ∷ l) (expression_append e (token.Mark Close ∷ a) b)
+  operand_append c a b = refl
 
   pub product_append : (c : Factors) (a b : List Token) → product c (a ++ b) ≡ product c a ++ b
   product_append (factor u) a b = operand_append u a b

@@ -1,5 +1,5 @@
 -- A fault in a part of a clause is one of the program.
-use Rattle.ghc_reader.proofs.Words.{◌≡◌, ◌≢◌, ℕ, List, [], ◌∷◌, ◌++◌, length, None, refl, sym, ap, ◌∙◌, subst, ◌⊎◌, inl, inr, ⊎_elim, Bar, Define, Stop, Token, first, Begins, IsNotNamed, Arguments, without, goal, Tests, Body, last, Right, unguarded, guarded, Clause, fact, rule, Program, done, clauses, arguments, tests, body, right, clause, program, EndsArguments, EndsTests, EndsBody, EndsRight, EndsClause, EndsProgram, Fault}
+use Rattle.ghc_reader.proofs.Words.{◌≡◌, ◌≢◌, ℕ, List, [], ◌∷◌, ◌++◌, length, None, refl, sym, ap, ◌∙◌, subst, ◌⊎◌, inl, inr, ⊎_elim, Bar, Define, Stop, Token, first, Begins, IsNotNamed, Arguments, without, goal, Tests, Body, last, Right, unguarded, guarded, Clause, fact, rule, Program, done, clauses, arguments, tests, body, right, clause, program, EndsArguments, EndsTests, EndsBody, EndsRight, EndsClause, EndsProgram, Fault, arith}
 use Rattle.ghc_reader.specs.declared.token.Token.TheVariants as token
 use Rattle.ghc_reader.proofs.Append.{some_name, arguments_append, tests_append, body_append, right_append, clause_append}
 use Rattle.ghc_reader.proofs.Ends.{stop_ends_tests, bar_ends_tests, stop_ends_body, stop_ends_arguments, define_ends_arguments}
@@ -14,13 +14,9 @@ tests_of_right (guarded t x) us r e = (t, token.Mark Bar ∷ body x (token.Mark 
 
 pub tests_in_right : (ts : List Token) (left : ℕ) → Fault Tests tests EndsTests ts left → Fault Right right EndsRight ts left
 tests_in_right ts left f =
-    inside Tests Right tests right EndsTests EndsRight (λ l. l) ts left
-    (record {
-      pre_append = λ a b. refl;
-      append = tests_append;
-      completes = λ c. (guarded c (last (goal some_name without)), token.Mark Bar ∷ token.Name some_name ∷ token.Mark Stop ∷ [], refl);
-      inverts = λ us same d r p e. tests_of_right d us r e;
-    }) f
+    inside (λ l. l) f (λ a b. refl) tests_append
+    (λ c. (guarded c (last (goal some_name without)), token.Mark Bar ∷ token.Name some_name ∷ token.Mark Stop ∷ [], refl))
+    (λ us same d r p e. tests_of_right d us r e)
 
 -- behind the tests stands a bar, or a full stop where they are a body
 behind_tests : (t : Tests) (d : Right) (us r : List Token) → EndsTests t (first us) → tests t us ≡ right d r → ((b : Body) × (t ≡ as_tests b) × (us ≡ token.Mark Stop ∷ r)) ⊎ ((b : Body) × (us ≡ token.Mark Bar ∷ body b (token.Mark Stop ∷ r)))
@@ -48,13 +44,8 @@ body_of_right t d us r e =
 
 pub body_in_right : (t : Tests) (ts : List Token) (left : ℕ) → Fault Body body EndsBody ts left → Fault Right right EndsRight (tests t (token.Mark Bar ∷ ts)) left
 body_in_right t ts left f =
-    inside Body Right body right EndsBody EndsRight (λ l. tests t (token.Mark Bar ∷ l)) ts left
-    (record {
-      pre_append = λ a b. tests_append t (token.Mark Bar ∷ a) b;
-      append = body_append;
-      completes = λ c. (guarded t c, token.Mark Stop ∷ [], refl);
-      inverts = λ us same d r p e. let x = body_of_right t d us r e in (x.0, token.Mark Stop ∷ r, stop_ends_body x.0, x.1);
-    }) f
+    inside (λ l. tests t (token.Mark Bar ∷ l)) f (λ a b. tests_append t (token.Mark Bar ∷ a) b) body_append (λ c. (guarded t c, token.Mark Stop ∷ [], refl))
+    (λ us same d r p e. let x = body_of_right t d us r e in (x.0, token.Mark Stop ∷ r, stop_ends_body x.0, x.1))
 
 pub stop_missing : (t : Tests) (b : Body) (ts : List Token) → EndsBody b (first ts) → ¬ Begins Stop ts → Fault Right right EndsRight (tests t (token.Mark Bar ∷ body b ts)) (length ts)
 stop_missing t b ts p n =
@@ -80,13 +71,8 @@ arguments_of_clause f (rule g x q) us r e = (x, token.Mark Define ∷ right q r,
 
 pub arguments_in_clause : (f : List ℕ) (ts : List Token) (left : ℕ) → Fault Arguments arguments EndsArguments ts left → Fault Clause clause EndsClause (token.Name f ∷ ts) left
 arguments_in_clause f ts left h =
-    inside Arguments Clause arguments clause EndsArguments EndsClause (λ l. token.Name f ∷ l) ts left
-    (record {
-      pre_append = λ a b. refl;
-      append = arguments_append;
-      completes = λ c. (fact f c, token.Mark Stop ∷ [], refl);
-      inverts = λ us same d r p e. arguments_of_clause f d us r e;
-    }) h
+    inside (λ l. token.Name f ∷ l) h (λ a b. refl) arguments_append (λ c. (fact f c, token.Mark Stop ∷ [], refl))
+    (λ us same d r p e. arguments_of_clause f d us r e)
 
 pub define_missing : (f : List ℕ) (x : Arguments) (ts : List Token) → EndsArguments x (first ts) → ¬ Begins Stop ts → ¬ Begins Define ts → Fault Clause clause EndsClause (token.Name f ∷ arguments x ts) (length ts)
 define_missing f x ts p n m =
@@ -110,13 +96,10 @@ right_of_clause f x (rule g y q) us r e =
 
 pub right_in_clause : (f : List ℕ) (x : Arguments) (ts : List Token) (left : ℕ) → Fault Right right EndsRight ts left → Fault Clause clause EndsClause (token.Name f ∷ arguments x (token.Mark Define ∷ ts)) left
 right_in_clause f x ts left h =
-    inside Right Clause right clause EndsRight EndsClause (λ l. token.Name f ∷ arguments x (token.Mark Define ∷ l)) ts left
-    (record {
-      pre_append = λ a b. ap (λ l. token.Name f ∷ l) (arguments_append x (token.Mark Define ∷ a) b);
-      append = right_append;
-      completes = λ c. (rule f x c, [], refl);
-      inverts = λ us same d r p e. let y = right_of_clause f x d us r e in (y.0, r, tt, y.1);
-    }) h
+    inside (λ l. token.Name f ∷ arguments x (token.Mark Define ∷ l)) h
+    (λ a b. ap (λ l. token.Name f ∷ l) (arguments_append x (token.Mark Define ∷ a) b)) right_append
+    (λ c. (rule f x c, [], refl))
+    (λ us same d r p e. let y = right_of_clause f x d us r e in (y.0, r, tt, y.1))
 
 program_append : (c : Program) (a b : List Token) → program c (a ++ b) ≡ program c a ++ b
 program_append done a b = refl
@@ -137,17 +120,11 @@ clause_of_program done (clauses c q) us r p n e = (c, program q r, e)
 clause_of_program (clauses c x) done us r p n e = absurd (begins_clause c (program x us) (ap first e ∙ p))
   where
     begins_clause : (c : Clause) (a : List Token) → first (clause c a) ≡ None → ⊥
-    begins_clause (fact f x) a h = cc
-    begins_clause (rule f x q) a h = cc
+    begins_clause c a h = grind arith
 clause_of_program (clauses c x) (clauses d y) us r p n e =
     let s = one_clause c d (program x us) (program y r) e in clause_of_program x y us r p n s.behind
 
 pub clause_in_program : (x : Program) (ts : List Token) (left : ℕ) → first ts ≢ None → Fault Clause clause EndsClause ts left → Fault Program program EndsProgram (program x ts) left
 clause_in_program x ts left n f =
-    inside Clause Program clause program EndsClause EndsProgram (λ l. program x l) ts left
-    (record {
-      pre_append = λ a b. program_append x a b;
-      append = clause_append;
-      completes = λ c. (and_clause x c, [], sym (program_and x c []));
-      inverts = λ us same d r p e. let y = clause_of_program x d us r p (λ h. n (sym same ∙ h)) e in (y.0, y.1, tt, y.2);
-    }) f
+    inside (λ l. program x l) f (λ a b. program_append x a b) clause_append (λ c. (and_clause x c, [], sym (program_and x c [])))
+    (λ us same d r p e. let y = clause_of_program x d us r p (λ h. n (sym same ∙ h)) e in (y.0, y.1, tt, y.2))

@@ -1,12 +1,11 @@
 -- The derivation of clauses, from those of their parts, and the faults behind them.
-use Rattle.ghc_reader.proofs.Words.{◌≡◌, ◌≢◌, ℕ, List, [], ◌∷◌, ◌++◌, length, refl, sym, ap, ◌∙◌, subst, Comparison, Comma, Bar, Define, Stop, Token, first, Begins, plain_test, compare, Tests, last_test, next_test, Body, last, next, Right, unguarded, guarded, Clause, fact, rule, Program, arguments, rest, tests, body, right, clause, program, EndsTests, EndsRight, EndsClause, EndsProgram, FoundAt, Fault, call_of, item_of, tests_of, goals_of, right_of, clause_of, Tree, Trees, Goal, Value}
+use Rattle.ghc_reader.proofs.Words.{◌≡◌, ◌≢◌, ℕ, List, [], ◌∷◌, ◌++◌, length, refl, sym, ap, ◌∙◌, subst, Comparison, Comma, Bar, Define, Stop, Token, first, Begins, plain_test, compare, Tests, last_test, next_test, Body, last, next, Right, unguarded, guarded, Clause, fact, rule, Program, arguments, rest, tests, body, right, clause, program, EndsTests, EndsRight, EndsClause, EndsProgram, FoundAt, Fault, call_of, item_of, tests_of, goals_of, right_of, clause_of, Trees, Goal, Value}
 use Rattle.ghc_reader.specs.declared.token.Token.TheVariants as token
 use Rattle.ghc_reader.specs.Source as tree
 use Rattle.ghc_reader.proofs.OneGoal.{as_tests, tests_body}
 use Rattle.ghc_reader.proofs.GoalLoops.{TestsSoFar, ends_at_last_test, ClausesSoFar}
 use Rattle.ghc_reader.proofs.TermFounds.{ArgumentsFound}
-use Rattle.ghc_reader.proofs.GoalFounds.{TestFault, BodyFound, BodyFault, call_is, not_none}
-use Rattle.ghc_reader.proofs.TestFaults as test_faults
+use Rattle.ghc_reader.proofs.GoalFounds.{BodyFound, call_is, not_none}
 use Rattle.ghc_reader.proofs.ClauseFaults as faults
 
 abbrev pub TestsFound : List Token → List tree.Test → List Token → Type 0
@@ -14,10 +13,6 @@ TestsFound = FoundAt Tests (List tree.Test) tests tests_of EndsTests
 
 pub found_tests : (ts behind : List Token) (a : List tree.Test) → TestsSoFar ts a behind → ¬ Begins Comma behind → TestsFound ts a behind
 found_tests ts behind a x n = record { derivation = x.so_far; spelled = x.spelled; sees = x.sees; stops = ends_at_last_test x.so_far (first behind) x.stops n }
-
-pub in_next_test : (ts behind inside : List Token) (a : List tree.Test) (left : ℕ) → TestsSoFar ts a behind → behind ≡ token.Mark Comma ∷ inside → TestFault inside left → Fault Tests tests EndsTests ts left
-in_next_test ts behind inside a left x e f =
-    subst (λ l. Fault Tests tests EndsTests l left) (sym (x.spelled ∙ ap (tests x.so_far) e)) (test_faults.next_in_tests x.so_far inside left f)
 
 abbrev pub RightFound : List Token → tree.Right → List Token → Type 0
 RightFound = FoundAt Right tree.Right right right_of EndsRight
@@ -33,12 +28,7 @@ ClauseFault = Fault Clause clause EndsClause
 
 -- tests of which none is a comparison are a body
 as_goals : (t : Tests) (ts : List Token) (gs : List Goal) → tests_of t ts ≡ tree.plains gs → (b : Body) × (t ≡ as_tests b) × (goals_of b ts ≡ gs)
-as_goals (last_test (plain_test i)) ts [] e = cc
 as_goals (last_test (plain_test i)) ts (g ∷ []) e = (last i, refl, cc)
-as_goals (last_test (plain_test i)) ts (g ∷ h ∷ gs) e = cc
-as_goals (last_test (compare a o b)) ts [] e = cc
-as_goals (last_test (compare a o b)) ts (g ∷ gs) e = cc
-as_goals (next_test (plain_test i) x) ts [] e = cc
 as_goals (next_test (plain_test i) x) ts (g ∷ gs) e =
     let tail : tests_of x ts ≡ tree.plains gs = cc in
     let head : item_of i (token.Mark Comma ∷ tests x ts) ≡ g = cc in
@@ -48,8 +38,9 @@ as_goals (next_test (plain_test i) x) ts (g ∷ gs) e =
       ap (next_test (plain_test i)) r.1,
       ap (λ l. item_of i (token.Mark Comma ∷ l) ∷ goals_of r.0 ts) (sym inside) ∙ ap (λ y. y ∷ goals_of r.0 ts) head ∙ ap (λ l. g ∷ l) r.2,
     )
-as_goals (next_test (compare a o b) x) ts [] e = cc
+as_goals (last_test (compare a o b)) ts (g ∷ gs) e = cc
 as_goals (next_test (compare a o b) x) ts (g ∷ gs) e = cc
+as_goals t ts gs e = cc
 
 tests_of_body : (b : Body) (ts : List Token) → tests_of (as_tests b) ts ≡ tree.plains (goals_of b ts)
 tests_of_body (last i) ts = refl
@@ -93,16 +84,10 @@ at_stop ts behind after a x e n =
     (faults.bar_missing x.derivation behind x.stops (λ h. let same = ap first e in cc) (λ b same h. n (goals_of b behind) (sym x.sees ∙ ap (λ t. tests_of t behind) same ∙ tests_of_body b behind)))
 
 pub at_bar : (ts behind : List Token) (a : List tree.Test) → TestsFound ts a behind → ¬ Begins Stop behind → ¬ Begins Bar behind → RightFault ts (length behind)
-at_bar ts behind a x n m =
-    subst (λ l. RightFault l (length behind)) (sym x.spelled) (faults.bar_missing x.derivation behind x.stops m (λ b same. n))
-
-pub in_guarded : (ts behind inside : List Token) (a : List tree.Test) (left : ℕ) → TestsFound ts a behind → behind ≡ token.Mark Bar ∷ inside → BodyFault inside left → RightFault ts left
-in_guarded ts behind inside a left x e f =
-    subst (λ l. RightFault l left) (sym (x.spelled ∙ ap (tests x.derivation) e)) (faults.body_in_right x.derivation inside left f)
+at_bar ts behind a x n m = rw x.spelled (faults.bar_missing x.derivation behind x.stops m (λ b same. n))
 
 pub at_body_stop : (ts behind inside rest : List Token) (a : List tree.Test) (gs : List Goal) → TestsFound ts a behind → behind ≡ token.Mark Bar ∷ inside → BodyFound inside gs rest → ¬ Begins Stop rest → RightFault ts (length rest)
-at_body_stop ts behind inside rest a gs x e y n =
-    subst (λ l. RightFault l (length rest)) (sym (x.spelled ∙ ap (tests x.derivation) (e ∙ ap (λ l. token.Mark Bar ∷ l) y.spelled))) (faults.stop_missing x.derivation y.derivation rest y.stops n)
+at_body_stop ts behind inside rest a gs x e y n = rw (x.spelled, e, y.spelled) (faults.stop_missing x.derivation y.derivation rest y.stops n)
 
 pub found_fact : (ts behind rest after : List Token) (n : ℕ) (f : List ℕ) (a : Trees) → n ≡ length ts → ts ≡ token.Name f ∷ behind → ArgumentsFound behind a rest → rest ≡ token.Mark Stop ∷ after → ClauseFound ts (record { head = record { left = n; name = f; arguments = a }; guard = []; body = [] }) after
 found_fact ts behind rest after n f a m e x h = record {
@@ -123,20 +108,16 @@ found_rule ts behind rest inside after n f a r m e x h y =
     }
 
 pub at_define : (ts behind rest : List Token) (f : List ℕ) (a : Trees) → ts ≡ token.Name f ∷ behind → ArgumentsFound behind a rest → ¬ Begins Stop rest → ¬ Begins Define rest → ClauseFault ts (length rest)
-at_define ts behind rest f a e x n m =
-    subst (λ l. ClauseFault l (length rest)) (sym (e ∙ ap (λ l. token.Name f ∷ l) x.spelled)) (faults.define_missing f x.derivation rest x.stops n m)
+at_define ts behind rest f a e x n m = rw (e, x.spelled) (faults.define_missing f x.derivation rest x.stops n m)
 
 pub in_right_side : (ts behind rest inside : List Token) (f : List ℕ) (a : Trees) (left : ℕ) → ts ≡ token.Name f ∷ behind → ArgumentsFound behind a rest → rest ≡ token.Mark Define ∷ inside → RightFault inside left → ClauseFault ts left
-in_right_side ts behind rest inside f a left e x h y =
-    subst (λ l. ClauseFault l left) (sym (e ∙ ap (λ l. token.Name f ∷ l) (x.spelled ∙ ap (arguments x.derivation) h))) (faults.right_in_clause f x.derivation inside left y)
+in_right_side ts behind rest inside f a left e x h y = rw (e, x.spelled, h) (faults.right_in_clause f x.derivation inside left y)
 
 pub in_clause : (ts behind : List Token) (a : List tree.Clause) (left : ℕ) → ClausesSoFar ts a behind → behind ≢ [] → ClauseFault behind left → Fault Program program EndsProgram ts left
-in_clause ts behind a left x n f =
-    subst (λ l. Fault Program program EndsProgram l left) (sym x.spelled) (faults.clause_in_program x.so_far behind left (not_none behind n) f)
+in_clause ts behind a left x n f = rw x.spelled (faults.clause_in_program x.so_far behind left (not_none behind n) f)
 
 -- a comparison is no goal
 pub no_goals : (xs ys : List tree.Test) (a b : Value) (o : Comparison) (gs : List Goal) → (xs ++ tree.compare a o b ∷ []) ++ ys ≢ tree.plains gs
-no_goals [] ys a b o [] e = cc
-no_goals [] ys a b o (g ∷ gs) e = cc
-no_goals (x ∷ xs) ys a b o [] e = cc
 no_goals (x ∷ xs) ys a b o (g ∷ gs) e = let tail : (xs ++ tree.compare a o b ∷ []) ++ ys ≡ tree.plains gs = cc in no_goals xs ys a b o gs tail
+no_goals [] ys a b o (g ∷ gs) e = cc
+no_goals xs ys a b o gs e = cc

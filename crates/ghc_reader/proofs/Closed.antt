@@ -1,6 +1,6 @@
 -- Terms without variables have tokens without variables, and the other way round.
 
-use Rattle.ghc_reader.proofs.Words.{◌≡◌, ◌≢◌, ℕ, List, [], ◌∷◌, ◌++◌, map, refl, ap, ◌∙◌, map-append, Open, Close, OpenList, CloseList, Comma, Bar, Token, NoVariable, Term, variable, integer, call, list, Arguments, without, within, Rest, closed, whole, partial, Terms, one, more, term, arguments, rest, terms, AreClosedArguments, IsClosedRest}
+use Rattle.ghc_reader.proofs.Words.{◌≡◌, ℕ, List, [], ◌∷◌, ◌++◌, map, refl, ap, ◌∙◌, map-append, Open, Close, OpenList, CloseList, Comma, Bar, Token, NoVariable, Term, variable, integer, call, list, Arguments, without, within, Rest, closed, whole, partial, Terms, one, more, term, arguments, rest, terms, AreClosedArguments, IsClosedRest}
 use Rattle.ghc_reader.specs.declared.token.Token.TheVariants as token
 use Rattle.ghc_reader.proofs.Append.{some_name}
 use Rattle.ghc_reader.specs.Grammar.{IsClosed, AreClosed}
@@ -84,10 +84,9 @@ abbrev mutual
 
 mutual
   pub fill_closed : (c : Term) → IsClosed (fill c)
-  fill_closed (variable v) = tt
-  fill_closed (integer k) = tt
   fill_closed (call f x) = fill_closed_arguments x
   fill_closed (list r) = fill_closed_rest r
+  fill_closed c = tt
 
   fill_closed_arguments : (c : Arguments) → AreClosedArguments (fill_arguments c)
   fill_closed_arguments without = tt
@@ -104,10 +103,9 @@ mutual
 
 mutual
   pub fill_tokens : (c : Term) (ts : List Token) → term (fill c) (filled ts) ≡ filled (term c ts)
-  fill_tokens (variable v) ts = refl
-  fill_tokens (integer k) ts = refl
   fill_tokens (call f x) ts = ap (λ l. token.Name f ∷ l) (fill_tokens_arguments x ts)
   fill_tokens (list r) ts = ap (λ l. token.Mark OpenList ∷ l) (fill_tokens_rest r ts)
+  fill_tokens c ts = refl
 
   fill_tokens_arguments : (c : Arguments) (ts : List Token) → arguments (fill_arguments c) (filled ts) ≡ filled (arguments c ts)
   fill_tokens_arguments without ts = refl
@@ -128,13 +126,8 @@ mutual
 -- tokens among which is no variable stay
 pub filled_same : (ts : List Token) → NoVariable ts → filled ts ≡ ts
 filled_same [] n = refl
-filled_same (token.Name f ∷ ts) n = ap (λ l. token.Name f ∷ l) (filled_same ts n)
 filled_same (token.Variable v ∷ ts) n = absurd n
-filled_same (token.Integer k ∷ ts) n = ap (λ l. token.Integer k ∷ l) (filled_same ts n)
-filled_same (token.Mark m ∷ ts) n = ap (λ l. token.Mark m ∷ l) (filled_same ts n)
-filled_same (token.Comparison o ∷ ts) n = ap (λ l. token.Comparison o ∷ l) (filled_same ts n)
-filled_same (token.Sum o ∷ ts) n = ap (λ l. token.Sum o ∷ l) (filled_same ts n)
-filled_same (token.Product o ∷ ts) n = ap (λ l. token.Product o ∷ l) (filled_same ts n)
+filled_same (t ∷ ts) n = ap (λ l. t ∷ l) (filled_same ts n)
 
 pub filled_append : (a b : List Token) → filled (a ++ b) ≡ filled a ++ filled b
 filled_append a b = map-append filled_token a b
@@ -142,42 +135,17 @@ filled_append a b = map-append filled_token a b
 -- a variable stays among the tokens behind others
 pub variable_among : (a : List Token) (v : List ℕ) (b : List Token) → NoVariable (a ++ token.Variable v ∷ b) → ⊥
 variable_among [] v b n = n
-variable_among (token.Name f ∷ a) v b n = variable_among a v b n
 variable_among (token.Variable w ∷ a) v b n = n
-variable_among (token.Integer k ∷ a) v b n = variable_among a v b n
-variable_among (token.Mark m ∷ a) v b n = variable_among a v b n
-variable_among (token.Comparison o ∷ a) v b n = variable_among a v b n
-variable_among (token.Sum o ∷ a) v b n = variable_among a v b n
-variable_among (token.Product o ∷ a) v b n = variable_among a v b n
+variable_among (t ∷ a) v b n = variable_among a v b n
 
 -- one more token that is no variable
 pub no_variable_push : (a : List Token) (t : Token) → NoVariable a → NoVariable (t ∷ []) → NoVariable (a ++ t ∷ [])
 no_variable_push [] t n m = m
-no_variable_push (token.Name f ∷ a) t n m = no_variable_push a t n m
 no_variable_push (token.Variable w ∷ a) t n m = absurd n
-no_variable_push (token.Integer k ∷ a) t n m = no_variable_push a t n m
-no_variable_push (token.Mark k ∷ a) t n m = no_variable_push a t n m
-no_variable_push (token.Comparison o ∷ a) t n m = no_variable_push a t n m
-no_variable_push (token.Sum o ∷ a) t n m = no_variable_push a t n m
-no_variable_push (token.Product o ∷ a) t n m = no_variable_push a t n m
+no_variable_push (u ∷ a) t n m = no_variable_push a t n m
 
 -- the front of tokens among which is no variable
 pub no_variable_front : (a b : List Token) → NoVariable (a ++ b) → NoVariable a
 no_variable_front [] b n = tt
-no_variable_front (token.Name f ∷ a) b n = no_variable_front a b n
 no_variable_front (token.Variable w ∷ a) b n = absurd n
-no_variable_front (token.Integer k ∷ a) b n = no_variable_front a b n
-no_variable_front (token.Mark k ∷ a) b n = no_variable_front a b n
-no_variable_front (token.Comparison o ∷ a) b n = no_variable_front a b n
-no_variable_front (token.Sum o ∷ a) b n = no_variable_front a b n
-no_variable_front (token.Product o ∷ a) b n = no_variable_front a b n
-
--- a token that is no variable
-pub not_variable : (t : Token) → ((v : List ℕ) → t ≢ token.Variable v) → NoVariable (t ∷ [])
-not_variable (token.Name f) n = tt
-not_variable (token.Variable w) n = absurd (n w refl)
-not_variable (token.Integer k) n = tt
-not_variable (token.Mark k) n = tt
-not_variable (token.Comparison o) n = tt
-not_variable (token.Sum o) n = tt
-not_variable (token.Product o) n = tt
+no_variable_front (t ∷ a) b n = no_variable_front a b n

@@ -10,53 +10,14 @@ eq_sym : (x y : List ℕ) → bytes_eq x y ≡ bytes_eq y x
 eq_sym x y =
     same_from_decides (bytes_eq x y) (bytes_eq y x) (bytes_eq-Decides x y) (λ e. sym ((bytes_eq-Decides y x).0 e), λ e. (bytes_eq-Decides y x).1 (sym e))
 
--- two names that are the same: only the last one counts, and only the first one does
-same_name : (u a : Bool) (n : ℕ) → and_one (u || not (a || (true || false))) (and_one (u || not a) n) ≡ and_one (u || not (true || a)) (and_one (u || not a) n)
-same_name true true n = refl
-same_name true false n = refl
-same_name false true n = refl
-same_name false false n = refl
-
--- two other names: each counts or does not, whatever the other does
-other_name : (u a v b : Bool) (n : ℕ) → and_one (u || not (a || (false || false))) (and_one (v || not b) n) ≡ and_one (v || not (false || b)) (and_one (u || not a) n)
-other_name true true true true n = refl
-other_name true true true false n = refl
-other_name true true false true n = refl
-other_name true true false false n = refl
-other_name true false true true n = refl
-other_name true false true false n = refl
-other_name true false false true n = refl
-other_name true false false false n = refl
-other_name false true true true n = refl
-other_name false true true false n = refl
-other_name false true false true n = refl
-other_name false true false false n = refl
-other_name false false true true n = refl
-other_name false false true false n = refl
-other_name false false false true n = refl
-other_name false false false false n = refl
-
 pub one_more : (vs : List (List ℕ)) (x : List ℕ) → variables (vs ++ x ∷ []) ≡ and_one (is_unnamed x || not (list_any (bytes_eq x) vs)) (variables vs)
 one_more [] x = refl
 one_more (v ∷ vs) x =
-    ap (λ b. and_one (is_unnamed v || not b) (variables (vs ++ x ∷ []))) (list_any-append (bytes_eq v) vs (x ∷ []))
-    ∙ ap (and_one (is_unnamed v || not (list_any (bytes_eq v) vs || (bytes_eq v x || false)))) (one_more vs x)
-    ∙ by_same (bytes_eq v x) refl
+    rw (list_any-append (bytes_eq v) vs (x ∷ []), one_more vs x) (by_same (bytes_eq v x) refl)
   where
     by_same : (e : Bool) → bytes_eq v x ≡ e → and_one (is_unnamed v || not (list_any (bytes_eq v) vs || (bytes_eq v x || false))) (and_one (is_unnamed x || not (list_any (bytes_eq x) vs)) (variables vs)) ≡ and_one (is_unnamed x || not (list_any (bytes_eq x) (v ∷ vs))) (variables (v ∷ vs))
-    by_same true e =
-        let same : v ≡ x = (bytes_eq-Decides v x).0 e in
-        let back : bytes_eq x v ≡ true = eq_sym x v ∙ e in
-        ap (λ b. and_one (is_unnamed v || not (list_any (bytes_eq v) vs || (b || false))) (and_one (is_unnamed x || not (list_any (bytes_eq x) vs)) (variables vs))) e
-        ∙ ap (λ y. and_one (is_unnamed v || not (list_any (bytes_eq v) vs || (true || false))) (and_one (is_unnamed y || not (list_any (bytes_eq y) vs)) (variables vs))) (sym same)
-        ∙ same_name (is_unnamed v) (list_any (bytes_eq v) vs) (variables vs)
-        ∙ ap (λ y. and_one (is_unnamed y || not (true || list_any (bytes_eq y) vs)) (variables (v ∷ vs))) same
-        ∙ ap (λ b. and_one (is_unnamed x || not (b || list_any (bytes_eq x) vs)) (variables (v ∷ vs))) (sym back)
-    by_same false e =
-        let back : bytes_eq x v ≡ false = eq_sym x v ∙ e in
-        ap (λ b. and_one (is_unnamed v || not (list_any (bytes_eq v) vs || (b || false))) (and_one (is_unnamed x || not (list_any (bytes_eq x) vs)) (variables vs))) e
-        ∙ other_name (is_unnamed v) (list_any (bytes_eq v) vs) (is_unnamed x) (list_any (bytes_eq x) vs) (variables vs)
-        ∙ ap (λ b. and_one (is_unnamed x || not (b || list_any (bytes_eq x) vs)) (variables (v ∷ vs))) (sym back)
+    by_same true e = let same : v ≡ x = (bytes_eq-Decides v x).0 e in grind (arith, e, eq_sym v x, ap is_unnamed same, ap (λ y. list_any (bytes_eq y) vs) same)
+    by_same false e = grind (arith, e, eq_sym v x)
 
 -- the same at a step of a loop
 pub counted_more : (vs : List (List ℕ)) (i : ℕ) (x : List ℕ) → i < length vs → x ≡ get_or vs i x → variables (take (i + 1) vs) ≡ and_one (is_unnamed x || not (list_any (bytes_eq x) (take i vs))) (variables (take i vs))
@@ -69,44 +30,23 @@ met_more vs i x v less is =
 
 -- the names met so far tell whether a name is one variable more
 further_is : (x : List ℕ) (keys vs : List (List ℕ)) → (is_unnamed x ≡ false → list_any (bytes_eq x) keys ≡ list_any (bytes_eq x) vs) → (is_unnamed x || not (list_any (bytes_eq x) keys)) ≡ (is_unnamed x || not (list_any (bytes_eq x) vs))
-further_is x keys vs known = by_name (is_unnamed x) refl
-  where
-    by_name : (u : Bool) → is_unnamed x ≡ u → (u || not (list_any (bytes_eq x) keys)) ≡ (u || not (list_any (bytes_eq x) vs))
-    by_name true e = refl
-    by_name false e = ap not (known e)
+further_is x keys vs known = grind (arith, known)
 
 plus_one : (b : Bool) (n : ℕ) → n + (if b then 1 else 0) ≡ and_one b n
-plus_one true n = refl
-plus_one false n = omega arith
-
-at_most_one : (b : Bool) → (if b then 1 else 0) ≤ 1
-at_most_one true = omega arith
-at_most_one false = omega arith
+plus_one b n = grind arith
 
 -- a step of the loop that counts
 pub counted_step : (vs : List (List ℕ)) (i : ℕ) (x : List ℕ) (keys : List (List ℕ)) (n : ℕ) (further : Bool) (more : ℕ) → i < length vs → x ≡ get_or vs i x → n ≡ variables (take i vs) → ((v : List ℕ) → is_unnamed v ≡ false → list_any (bytes_eq v) keys ≡ list_any (bytes_eq v) (take i vs)) → further ≡ (is_unnamed x || not (list_any (bytes_eq x) keys)) → more ≡ (if further then 1 else 0) → n + more ≡ variables (take (i + 1) vs)
 counted_step vs i x keys n further more less is counted known tells more_is =
-    ap (λ m. n + m) more_is
-    ∙ plus_one further n
-    ∙ ap (λ b. and_one b n) (tells ∙ further_is x keys (take i vs) (known x))
-    ∙ ap (and_one (is_unnamed x || not (list_any (bytes_eq x) (take i vs)))) counted
-    ∙ sym (counted_more vs i x less is)
+    grind (arith, counted_more vs i x less is, known x, tells, more_is, counted)
 
 pub few_step : (n i : ℕ) (further : Bool) (more : ℕ) → n ≤ i → more ≡ (if further then 1 else 0) → n + more ≤ i + 1
-few_step n i further more few more_is = omega (arith, at_most_one further, more_is)
-
-pub or_false : (b : Bool) → (b || false) ≡ b
-or_false true = refl
-or_false false = refl
+few_step n i further more few more_is = grind arith
 
 pub met_step : (vs : List (List ℕ)) (i : ℕ) (x : List ℕ) (keys new : List (List ℕ)) → i < length vs → x ≡ get_or vs i x → ((v : List ℕ) → is_unnamed v ≡ false → list_any (bytes_eq v) keys ≡ list_any (bytes_eq v) (take i vs)) → ((v : List ℕ) → is_unnamed v ≡ false → list_any (bytes_eq v) new ≡ (list_any (bytes_eq v) keys || bytes_eq v x)) → (v : List ℕ) → is_unnamed v ≡ false → list_any (bytes_eq v) new ≡ list_any (bytes_eq v) (take (i + 1) vs)
 met_step vs i x keys new less is known met v named =
-    met v named
-    ∙ ap (λ b. b || bytes_eq v x) (known v named)
-    ∙ ap (λ b. list_any (bytes_eq v) (take i vs) || b) (sym (or_false (bytes_eq v x)))
-    ∙ sym (met_more vs i x v less is)
+    grind (arith, met v named, known v named, met_more vs i x v less is)
 
 -- a truth value as a number
 pub as_number : (b : Bool) → bool_byte b ≡ (if b then 1 else 0)
-as_number true = refl
-as_number false = refl
+as_number b = grind arith

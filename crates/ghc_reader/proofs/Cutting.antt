@@ -1,8 +1,7 @@
 -- What the loop over the pieces of a text keeps.
-use Rattle.ghc_reader.proofs.Words.{◌≡◌, ◌≢◌, ◌⊎◌, ℕ, ◌+◌, ◌^◌, ◌<◌, ◌≤◌, Bool, true, List, [], ◌∷◌, ◌++◌, length, Option, Some, None, refl, sym, ap, subst, ◌∙◌, inl, inr, arith, append_assoc, length-append, Result, Ok, Err, IfErr, append-nil, All-push, filter_map-append, filter_map, option_to_list, Piece, HasForm, HasNoPiece, Stands, IsFront, spelled, Cuts, signs_behind, signs_after, start, place_behind, fault_at, piece_of, token_of, IsRefused, IsCutInto, place_of_token, token_places, IsBadAt, IsLexFault, most_bytes, IsCutFault, greatest_number, Token, Place, Front, Reserved}
+use Rattle.ghc_reader.proofs.Words.{◌≡◌, ◌≢◌, ◌⊎◌, ℕ, ◌+◌, ◌^◌, ◌<◌, ◌≤◌, Bool, true, List, [], ◌∷◌, ◌++◌, length, Option, Some, None, refl, sym, ap, subst, ◌∙◌, arith, append_assoc, length-append, Result, IfErr, append-nil, All-push, filter_map-append, filter_map, option_to_list, Piece, HasForm, HasNoPiece, Stands, IsFront, spelled, Cuts, signs_behind, signs_after, start, place_behind, fault_at, piece_of, token_of, IsRefused, IsCutInto, place_of_token, token_places, IsBadAt, IsLexFault, most_bytes, IsCutFault, greatest_number, Token, Place, Front, Reserved}
 use Rattle.ghc_term.specs.declared.fault.Fault.{Fault}
 use Rattle.ghc_term.specs.declared.fault.Fault.TheVariants as fault
-use Rattle.ghc_reader.specs.declared.lexer.front.Kind.TheVariants as kind
 use Rattle.ghc_reader.proofs.OnePiece.{one_piece}
 use Rattle.ghc_reader.proofs.PlaceLemmas.{behind_within, place_behind-append}
 
@@ -28,8 +27,7 @@ signs_after-push signs [] p = refl
 signs_after-push signs (q ∷ ps) p = signs_after-push (signs_behind signs q.kind) ps p
 
 place_of_token-append : (t : Option Token) (place : Place) (a b : List Place) → place_of_token t place (a ++ b) ≡ place_of_token t place a ++ b
-place_of_token-append None place a b = refl
-place_of_token-append (Some t) place a b = refl
+place_of_token-append t place a b = grind arith
 
 pub token_places-push : (place : Place) (ps : List Piece) (p : Piece) → token_places place (ps ++ p ∷ []) ≡ token_places place ps ++ place_of_token (token_of p) (place_behind place (spelled ps [])) []
 token_places-push place [] p = refl
@@ -111,14 +109,8 @@ module _ (reserved : Reserved) (text : List ℕ) (tokens : List Token) (places :
 
 -- a token that is refused is the fault of the text
 pub refused_fault : (reserved : Reserved) (text : List ℕ) (place : Place) (Bad : Type 0) (f : Fault) → (f ≡ fault.Memory) ⊎ ((f ≡ fault_at place) × Bad) → (Bad → IsBadAt reserved text place) → IsCutFault reserved text f
-refused_fault reserved text place Bad f (inl memory) is_bad = inl memory
-refused_fault reserved text place Bad f (inr (there, bad)) is_bad = inr (place, is_bad bad, there)
+refused_fault reserved text place Bad f h is_bad = grind arith
 
 -- of a text that is not too long
-short_fault : (reserved : Reserved) (text : List ℕ) (f : Fault) → length text ≤ most_bytes → IsCutFault reserved text f → IsLexFault reserved text f
-short_fault reserved text f short (inl memory) = subst (IsLexFault reserved text) (sym memory) tt
-short_fault reserved text f short (inr (place, bad, there)) = subst (IsLexFault reserved text) (sym there) (short, bad)
-
 pub short_faults : {T : Type 0} (reserved : Reserved) (text : List ℕ) (r : Result T Fault) → length text ≤ most_bytes → IfErr r (IsCutFault reserved text) → IfErr r (IsLexFault reserved text)
-short_faults reserved text (Ok t) short h = h
-short_faults reserved text (Err f) short h = short_fault reserved text f short h
+short_faults reserved text r short h = grind arith

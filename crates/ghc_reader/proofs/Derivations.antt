@@ -1,5 +1,5 @@
 -- The derivation of a tree in its shortest form, with lists in brackets, and that its tree is this one.
-use Rattle.ghc_reader.proofs.Words.{◌≡◌, ℕ, true, false, List, ◌∷◌, refl, ap, ◌∙◌, Close, CloseList, Comma, Bar, Token, Term, variable, integer, call, list, Arguments, without, within, Rest, closed, whole, partial, Terms, one, more, terms, IsClosedRest, Tree, Trees, tree_of, arguments_of, trees_of}
+use Rattle.ghc_reader.proofs.Words.{◌≡◌, ℕ, true, false, List, ◌∷◌, refl, ap, ◌∙◌, Close, CloseList, Comma, Bar, Token, Term, variable, integer, call, list, Arguments, without, within, Rest, closed, whole, partial, Terms, one, more, terms, Tree, Trees, tree_of, arguments_of, trees_of, arith}
 use Rattle.ghc_reader.specs.declared.token.Token.TheVariants as token
 use Rattle.ghc_reader.specs.Grammar.{IsClosed, AreClosed}
 use Rattle.ghc_reader.specs.Grammar as grammar
@@ -47,17 +47,13 @@ abbrev mutual
 -- ---- its tree
 
 put_back : (d : Term) (r : Rest) → list_of (put d r) ≡ tree.cell (tree_of d) (list_of r)
-put_back d closed = refl
-put_back d (whole a) = refl
-put_back d (partial a t) = refl
+put_back d r = grind arith
 
 mutual
   pub derive_back : (s : Tree) → tree_of (derive s) ≡ s
-  derive_back (tree.variable v) = refl
-  derive_back (tree.integer k) = refl
   derive_back (tree.structure f ts) = ap (tree.structure f) (arguments_back ts)
-  derive_back tree.empty = refl
   derive_back (tree.cell t u) = list_back (derive t) u ∙ ap (λ x. tree.cell x u) (derive_back t)
+  derive_back s = refl
 
   pub arguments_back : (ts : Trees) → arguments_of (derive_arguments ts) ≡ ts
   arguments_back tree.none = refl
@@ -68,12 +64,10 @@ mutual
   terms_back d (tree.some t ts) = ap (tree.some (tree_of d)) (terms_back (derive t) ts ∙ ap (λ x. tree.some x ts) (derive_back t))
 
   list_back : (d : Term) (u : Tree) → list_of (derive_list d u) ≡ tree.cell (tree_of d) u
-  list_back d (tree.variable v) = refl
-  list_back d (tree.integer k) = refl
   list_back d (tree.structure f ts) = ap (λ x. tree.cell (tree_of d) (tree.structure f x)) (arguments_back ts)
-  list_back d tree.empty = refl
   list_back d (tree.cell t u) =
       put_back d (derive_list (derive t) u) ∙ ap (tree.cell (tree_of d)) (list_back (derive t) u ∙ ap (λ x. tree.cell x u) (derive_back t))
+  list_back d u = refl
 
 -- ---- the tokens of a list
 
@@ -83,34 +77,22 @@ HasElement closed = ⊥
 HasElement (whole a) = Unit {0}
 HasElement (partial a t) = Unit {0}
 
-put_has : (d : Term) (r : Rest) → HasElement (put d r)
-put_has d closed = tt
-put_has d (whole a) = tt
-put_has d (partial a t) = tt
-
 pub derive_has : (d : Term) (u : Tree) → HasElement (derive_list d u)
-derive_has d (tree.variable v) = tt
-derive_has d (tree.integer k) = tt
-derive_has d (tree.structure f ts) = tt
-derive_has d tree.empty = tt
-derive_has d (tree.cell t u) = put_has d (derive_list (derive t) u)
+derive_has d (tree.cell t u) = grind arith
+derive_has d u = tt
 
 pub put_tokens : (d : Term) (r : Rest) (ts : List Token) → HasElement r → grammar.rest (put d r) ts ≡ grammar.term d (token.Mark Comma ∷ grammar.rest r ts)
-put_tokens d closed ts has = absurd has
-put_tokens d (whole a) ts has = refl
-put_tokens d (partial a t) ts has = refl
+put_tokens d r ts has = grind arith
 
 -- ---- any derivation of a sound tree has no variable
 
 mutual
   pub closed_term : (c : Term) → IsSound (tree_of c) → IsClosed c
   closed_term (variable v) s = s
-  closed_term (integer k) s = tt
-  closed_term (call f without) s = tt
   closed_term (call f (within a)) s = closed_terms a s.1
-  closed_term (list closed) s = tt
   closed_term (list (whole a)) s = closed_terms a (cells_sound NoVariable a tree.empty s).0
   closed_term (list (partial a t)) s = let parts = cells_sound NoVariable a (tree_of t) s in (closed_terms a parts.0, closed_term t parts.1)
+  closed_term c s = tt
 
   closed_terms : (a : Terms) → AreSound (trees_of a) → AreClosed a
   closed_terms (one t) s = closed_term t s.0

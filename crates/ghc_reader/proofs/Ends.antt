@@ -1,14 +1,10 @@
 -- What ends a part.
-use Rattle.ghc_reader.proofs.Words.{◌≢◌, [], Some, Comparison, Sum, Mark, Open, Comma, Bar, Equals, Define, Stop, Term, variable, integer, call, list, Arguments, without, within, Terms, one, more, Factors, Expression, Item, goal, unify, assign, Test, plain_test, compare, Tests, last_test, next_test, Body, last, next, EndsArguments, EndsTerm, EndsTerms, EndsProduct, EndsExpression, EndsItem, EndsTest, EndsTests, EndsBody}
+use Rattle.ghc_reader.proofs.Words.{◌≢◌, [], Some, Comparison, Sum, Mark, Open, Comma, Bar, Equals, Define, Stop, Term, call, Arguments, Terms, one, more, Factors, Expression, Item, goal, unify, assign, Test, plain_test, compare, Tests, last_test, next_test, Body, last, next, EndsArguments, EndsTerm, EndsTerms, EndsProduct, EndsExpression, EndsItem, EndsTest, EndsTests, EndsBody, arith}
 use Rattle.ghc_reader.specs.declared.token.Token.TheVariants as token
 
 -- marks that go on with nothing
 pub ends_term : (m : Mark) → m ≢ Open → (c : Term) → EndsTerm c (Some (token.Mark m))
-ends_term m h (variable v) = tt
-ends_term m h (integer n) = tt
-ends_term m h (call f without) = λ e. h (cc)
-ends_term m h (call f (within x)) = tt
-ends_term m h (list r) = tt
+ends_term m h c = grind arith
 
 pub ends_terms : (m : Mark) → m ≢ Open → m ≢ Comma → (c : Terms) → EndsTerms c (Some (token.Mark m))
 ends_terms m h k (one t) = (ends_term m h t, λ e. k (cc))

@@ -1,9 +1,9 @@
 -- Every text is cut up to its end, or up to a first bad byte.
-use Rattle.ghc_reader.proofs.Words.{◌≡◌, ◌≢◌, ◌⊎◌, ℕ, zero, suc, ◌<◌, ◌≤◌, Bool, true, List, [], ◌∷◌, ◌++◌, length, take, drop, All, refl, sym, ap, subst, ◌∙◌, inl, inr, arith, codes, length-append, ltb, Decides-ltb, take-append-drop, All-nil, All-cons, take-append_seam, is_ascii_digit, is_ascii_lowercase, list_all, filter_map, is_blank, is_word, begins_variable, IsRun, spelling, Piece, IsByte, IsNegative, HasForm, Stands, HasNoPiece, spelled, Cuts, signs_behind, signs_after, start, place_behind, IsRefused, token_of, token_places, IsCutInto, EveryTextIsRead, NoTextIsReadTwice, Kind, Reserved}
+use Rattle.ghc_reader.proofs.Words.{◌≡◌, ◌≢◌, ◌⊎◌, ℕ, zero, suc, ◌<◌, ◌≤◌, Bool, true, List, [], ◌∷◌, ◌++◌, length, take, drop, All, refl, sym, ap, subst, ◌∙◌, inl, inr, arith, codes, length-append, cases_lt, take-append-drop, All-nil, All-cons, take-append_seam, is_ascii_digit, is_ascii_lowercase, list_all, filter_map, is_blank, is_word, begins_variable, IsRun, spelling, Piece, IsByte, IsNegative, HasForm, Stands, HasNoPiece, spelled, Cuts, signs_behind, signs_after, start, place_behind, IsRefused, token_of, token_places, IsCutInto, EveryTextIsRead, NoTextIsReadTwice, Kind, Reserved}
 use Rattle.std.proofs.Common.{length-take-le}
 use Rattle.ghc_reader.specs.declared.lexer.front.Kind.TheVariants as kind
 use Rattle.ghc_reader.proofs.Forms.{no_form_is_empty}
-use Rattle.ghc_reader.proofs.OnePiece.{symbol_of, symbol_of-spelling, one_piece}
+use Rattle.ghc_reader.proofs.OnePiece.{kind_of, kind_of_form, one_piece}
 use Rattle.ghc_reader.proofs.OneLexing.{one_lexing, never_both, one_bad_byte}
 use Rattle.ghc_reader.proofs.SoOrNot.{IsSoOrNot, true_or_not, both_or_not, one_or_not, not_or_so, same_or_not}
 use Rattle.ghc_reader.proofs.RefusedOrNot.{refused_or_not}
@@ -34,41 +34,10 @@ abbrev IsFormed : Bool → List ℕ → Type 0
 IsFormed signs bs = (k : Kind) × HasForm signs k bs
 
 formed_or_not : (signs : Bool) (bs : List ℕ) → IsSoOrNot (IsFormed signs bs)
-formed_or_not signs bs =
-    elim (form_or_not signs kind.Blank bs) [
-      | inl form ↦ inl (kind.Blank, form)
-      | inr no_blank ↦
-          elim (form_or_not signs kind.Comment bs) [
-            | inl form ↦ inl (kind.Comment, form)
-            | inr no_comment ↦
-                elim (form_or_not signs kind.Name bs) [
-                  | inl form ↦ inl (kind.Name, form)
-                  | inr no_name ↦
-                      elim (form_or_not signs kind.Variable bs) [
-                        | inl form ↦ inl (kind.Variable, form)
-                        | inr no_variable ↦
-                            elim (form_or_not signs kind.Integer bs) [
-                              | inl form ↦ inl (kind.Integer, form)
-                              | inr no_integer ↦
-                                  elim (form_or_not signs (kind.Symbol (symbol_of bs)) bs) [
-                                    | inl form ↦ inl (kind.Symbol (symbol_of bs), form)
-                                    | inr no_symbol ↦
-                                        inr (λ formed. none no_blank no_comment no_name no_variable no_integer no_symbol formed.0 formed.1)
-                                  ]
-                            ]
-                      ]
-                ]
-          ]
-    ]
-  where
-    none : ¬ (HasForm signs kind.Blank bs) → ¬ (HasForm signs kind.Comment bs) → ¬ (HasForm signs kind.Name bs) → ¬ (HasForm signs kind.Variable bs) → ¬ (HasForm signs kind.Integer bs) → ¬ (HasForm signs (kind.Symbol (symbol_of bs)) bs) → (k : Kind) → HasForm signs k bs → ⊥
-    none no_blank no_comment no_name no_variable no_integer no_symbol kind.Blank form = no_blank form
-    none no_blank no_comment no_name no_variable no_integer no_symbol kind.Comment form = no_comment form
-    none no_blank no_comment no_name no_variable no_integer no_symbol kind.Name form = no_name form
-    none no_blank no_comment no_name no_variable no_integer no_symbol kind.Variable form = no_variable form
-    none no_blank no_comment no_name no_variable no_integer no_symbol kind.Integer form = no_integer form
-    none no_blank no_comment no_name no_variable no_integer no_symbol (kind.Symbol s) form =
-        no_symbol (form ∙ ap spelling (sym (ap symbol_of form ∙ symbol_of-spelling s)))
+formed_or_not signs bs = elim (form_or_not signs (kind_of bs) bs) [
+  | inl form ↦ inl (kind_of bs, form)
+  | inr none ↦ inr (λ formed. none (subst (λ k. HasForm signs k bs) (sym (kind_of_form signs formed.0 bs formed.1)) formed.1))
+]
 
 -- ---- the longest beginning of a text that has a form
 
@@ -81,11 +50,8 @@ record LongestBeginning (signs : Bool) (text : List ℕ) (bound : ℕ) : Type 0 
 longest_or_none : (signs : Bool) (text : List ℕ) (bound : ℕ) → LongestBeginning signs text bound ⊎ ((m : ℕ) → m ≤ bound → IsFormed signs (take m text) → ⊥)
 longest_or_none signs text zero = elim (formed_or_not signs (take 0 text)) [
   | inl formed ↦ inl (record { bytes = 0; within = omega arith; formed = formed; longest = λ m h f. h })
-  | inr none ↦ inr (λ m h f. none (subst (λ n. IsFormed signs (take n text)) (at_zero m h) f))
+  | inr none ↦ inr (λ m h f. let at_zero : m ≡ 0 = omega arith in none (subst (λ n. IsFormed signs (take n text)) at_zero f))
 ]
-  where
-    at_zero : (m : ℕ) → m ≤ 0 → m ≡ 0
-    at_zero m h = omega arith
 longest_or_none signs text (suc bound) = elim (formed_or_not signs (take (suc bound) text)) [
   | inl formed ↦ inl (record { bytes = suc bound; within = omega arith; formed = formed; longest = λ m h f. h })
   | inr none ↦ elim (longest_or_none signs text bound) [
@@ -95,13 +61,10 @@ longest_or_none signs text (suc bound) = elim (formed_or_not signs (take (suc bo
 ]
   where
     below : (m : ℕ) → ¬ (IsFormed signs (take (suc bound) text)) → m ≤ suc bound → IsFormed signs (take m text) → m ≤ bound
-    below m none h f = elim (true_or_not (ltb m (suc bound))) [
-      | inl lt ↦ let l = (Decides-ltb m (suc bound)).0 lt in omega arith
-      | inr ge ↦ let same : m ≡ suc bound = at_bound m h (λ l. ge ((Decides-ltb m (suc bound)).1 l)) in absurd (none (subst (λ n. IsFormed signs (take n text)) same f))
+    below m none h f = elim (cases_lt m (suc bound)) [
+      | inl less ↦ omega arith
+      | inr more ↦ let at_bound : m ≡ suc bound = omega arith in absurd (none (subst (λ n. IsFormed signs (take n text)) at_bound f))
     ]
-      where
-        at_bound : (m : ℕ) → m ≤ suc bound → ¬ (m < suc bound) → m ≡ suc bound
-        at_bound m h n = omega arith
 
 -- the beginning of a text that a front is
 take_front : (text front rest : List ℕ) → text ≡ front ++ rest → take (length front) text ≡ front
@@ -135,10 +98,6 @@ piece_or_none signs text = elim (longest_or_none signs text (length text)) [
 
 -- ---- the cut
 
-positive : (signs : Bool) (k : Kind) (bs : List ℕ) → HasForm signs k bs → 0 < length bs
-positive signs k [] form = absurd (no_form_is_empty signs k form)
-positive signs k (b ∷ bs) form = omega arith
-
 record CutText (r : Reserved) (signs : Bool) (text : List ℕ) : Type 0 where
   pieces : List Piece
   rest : List ℕ
@@ -147,29 +106,22 @@ record CutText (r : Reserved) (signs : Bool) (text : List ℕ) : Type 0 where
   none_refused : All (λ p. ¬ (IsRefused r p)) pieces
   ends : (rest ≡ []) ⊎ ((rest ≢ []) × ((p : Piece) (more : List ℕ) → rest ≡ p.bytes ++ more → Stands (signs_after signs pieces) p more → IsRefused r p))
 
+nothing_cut : (r : Reserved) (signs : Bool) (text : List ℕ)
+    → (text ≡ []) ⊎ ((text ≢ []) × ((p : Piece) (more : List ℕ) → text ≡ p.bytes ++ more → Stands signs p more → IsRefused r p))
+    → CutText r signs text
+nothing_cut r signs text ends =
+    record { pieces = []; rest = text; whole = refl; each_stands = tt; none_refused = All-nil (λ p. ¬ (IsRefused r p)); ends = ends }
+
 cut_text : (n : ℕ) (r : Reserved) (signs : Bool) (text : List ℕ) → length text ≤ n → CutText r signs text
-cut_text n r signs [] short = record { pieces = []; rest = []; whole = refl; each_stands = tt; none_refused = All-nil (λ p. ¬ (IsRefused r p)); ends = inl refl }
+cut_text n r signs [] short = nothing_cut r signs [] (inl refl)
 cut_text zero r signs (b ∷ bs) short = absurd (omega arith)
 cut_text (suc n) r signs (b ∷ bs) short = elim (piece_or_none signs (b ∷ bs)) [
-  | inr none ↦ record {
-    pieces = [];
-    rest = b ∷ bs;
-    whole = refl;
-    each_stands = tt;
-    none_refused = All-nil (λ p. ¬ (IsRefused r p));
-    ends = inr (λ e. cc, λ p more e stands. absurd (none p more e stands.form));
-  }
+  | inr none ↦ nothing_cut r signs (b ∷ bs) (inr (λ e. cc, λ p more e stands. absurd (none p more e stands.form)))
   | inl found ↦ elim (refused_or_not r (token_of found.piece)) [
-    | inl bad ↦ record {
-      pieces = [];
-      rest = b ∷ bs;
-      whole = refl;
-      each_stands = tt;
-      none_refused = All-nil (λ p. ¬ (IsRefused r p));
-      ends = inr (λ e. cc, λ p more e stands. subst (IsRefused r) (one_piece signs found.piece p found.rest more found.stands stands (sym found.split ∙ e)) bad);
-    }
+    | inl bad ↦ nothing_cut r signs (b ∷ bs)
+        (inr (λ e. cc, λ p more e stands. subst (IsRefused r) (one_piece signs found.piece p found.rest more found.stands stands (sym found.split ∙ e)) bad))
     | inr fine ↦
-        let has = positive signs found.piece.kind found.piece.bytes found.stands.form in
+        let has : 0 < length found.piece.bytes = grind (arith, no_form_is_empty, found.stands.form) in
         let shorter : length found.rest ≤ n = omega (arith, has, ap length found.split, length-append found.piece.bytes found.rest) in
         let others = cut_text n r (signs_behind signs found.piece.kind) found.rest shorter in
         record {

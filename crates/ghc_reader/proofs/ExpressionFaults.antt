@@ -1,20 +1,19 @@
 -- A fault in a part of an expression is one of the expression.
 use Rattle.ghc_reader.proofs.Words.{◌≡◌, ◌≢◌, ℕ, List, [], ◌∷◌, length, Option, Some, None, refl, sym, ap, ◌∙◌, subst, Sum, Product, Open, Close, Token, first, Begins, Operand, nested, Factors, factor, factors, Expression, summand, summands, operand, expression, EndsOperand, EndsProduct, EndsExpression, Fault}
 use Rattle.ghc_reader.specs.declared.token.Token.TheVariants as token
-use Rattle.ghc_reader.specs.Grammar.{number, named, product}
+use Rattle.ghc_reader.specs.Grammar.{named, product}
 use Rattle.ghc_reader.proofs.Append.{some_variable, operand_append, product_append, expression_append}
 use Rattle.ghc_reader.proofs.Ends.{ends_expression, sum_ends}
 use Rattle.ghc_reader.proofs.OneExpression.{one_operand, one_product, one_expression, BeginsNoOperand}
-use Rattle.ghc_reader.proofs.Faults.{inside, here}
+use Rattle.ghc_reader.proofs.Faults.{in_front, inside, here}
 
 abbrev pub NoOperandAt : Option Token → Type 0
 NoOperandAt None = Unit {0}
 NoOperandAt (Some t) = BeginsNoOperand t
 
 operand_at : (c : Operand) (r : List Token) → NoOperandAt (first (operand c r)) → ⊥
-operand_at (number n) r h = h
-operand_at (named v) r h = h
 operand_at (nested x) r h = h refl
+operand_at c r h = h
 
 pub no_operand_here : (ts : List Token) → NoOperandAt (first ts) → Fault Operand operand EndsOperand ts (length ts)
 no_operand_here ts h =
@@ -22,19 +21,13 @@ no_operand_here ts h =
     (λ us same d r q e. operand_at d r (subst NoOperandAt (sym same ∙ ap first e) h))
 
 expression_of_operand : (d : Operand) (us r : List Token) → token.Mark Open ∷ us ≡ operand d r → (c : Expression) × (us ≡ expression c (token.Mark Close ∷ r))
-expression_of_operand (number n) us r e = cc
-expression_of_operand (named v) us r e = cc
 expression_of_operand (nested x) us r e = (x, cc)
+expression_of_operand d us r e = cc
 
 pub expression_in_operand : (ts : List Token) (left : ℕ) → Fault Expression expression EndsExpression ts left → Fault Operand operand EndsOperand (token.Mark Open ∷ ts) left
 expression_in_operand ts left f =
-    inside Expression Operand expression operand EndsExpression EndsOperand (λ l. token.Mark Open ∷ l) ts left
-    (record {
-      pre_append = λ a b. refl;
-      append = expression_append;
-      completes = λ c. (nested c, token.Mark Close ∷ [], refl);
-      inverts = λ us same d r p e. let x = expression_of_operand d us r e in (x.0, token.Mark Close ∷ r, ends_expression Close x.0, x.1);
-    }) f
+    inside (λ l. token.Mark Open ∷ l) f (λ a b. refl) expression_append (λ c. (nested c, token.Mark Close ∷ [], refl))
+    (λ us same d r p e. let x = expression_of_operand d us r e in (x.0, token.Mark Close ∷ r, ends_expression Close x.0, x.1))
 
 pub operand_close_missing : (x : Expression) (ts : List Token) → EndsExpression x (first ts) → ¬ Begins Close ts → Fault Operand operand EndsOperand (token.Mark Open ∷ expression x ts) (length ts)
 operand_close_missing x ts p n =
@@ -50,13 +43,8 @@ first_of_product (factors u o x) us r e = (u, token.Product o ∷ product x r, e
 
 pub first_in_product : (ts : List Token) (left : ℕ) → Fault Operand operand EndsOperand ts left → Fault Factors product EndsProduct ts left
 first_in_product ts left f =
-    inside Operand Factors operand product EndsOperand EndsProduct (λ l. l) ts left
-    (record {
-      pre_append = λ a b. refl;
-      append = operand_append;
-      completes = λ c. (factor c, [], refl);
-      inverts = λ us same d r p e. let x = first_of_product d us r e in (x.0, x.1, tt, x.2);
-    }) f
+    inside (λ l. l) f (λ a b. refl) operand_append (λ c. (factor c, [], refl))
+    (λ us same d r p e. let x = first_of_product d us r e in (x.0, x.1, tt, x.2))
 
 -- one more factor at the end
 abbrev pub also_factor : Factors → Product → Operand → Factors
@@ -67,30 +55,23 @@ pub product_also : (x : Factors) (o : Product) (v : Operand) (ts : List Token) �
 product_also (factor u) o v ts = refl
 product_also (factors u k x) o v ts = ap (λ l. operand u (token.Product k ∷ l)) (product_also x o v ts)
 
-next_of_product : (x : Factors) (o : Product) (d : Factors) (us r : List Token) → EndsProduct d (first r) → product x (token.Product o ∷ us) ≡ product d r → (c : Operand) × (r' : List Token) × (us ≡ operand c r')
-next_of_product (factor u) o (factor v) us r p e =
-    let s = one_operand u v (token.Product o ∷ us) r e in absurd (p o (sym (ap first s.behind)))
-next_of_product (factor u) o (factors v k y) us r p e =
+-- the factors behind a first one
+others_of_product : (u : Operand) (o : Product) (d : Factors) (us r : List Token) → EndsProduct d (first r)
+    → operand u (token.Product o ∷ us) ≡ product d r → (y : Factors) × (r' : List Token) × EndsProduct y (first r') × (us ≡ product y r')
+others_of_product u o (factor v) us r p e = let s = one_operand u v (token.Product o ∷ us) r e in absurd (p o (sym (ap first s.behind)))
+others_of_product u o (factors v k y) us r p e =
     let s = one_operand u v (token.Product o ∷ us) (token.Product k ∷ product y r) e in
-    let behind = s.behind in
-    let tail : us ≡ product y r = cc in first_of_product y us r tail
-next_of_product (factors u j x) o (factor v) us r p e =
-    let s = one_operand u v (token.Product j ∷ product x (token.Product o ∷ us)) r e in absurd (p j (sym (ap first s.behind)))
-next_of_product (factors u j x) o (factors v k y) us r p e =
-    let s = one_operand u v (token.Product j ∷ product x (token.Product o ∷ us)) (token.Product k ∷ product y r) e in
-    let behind = s.behind in
-    let tail : product x (token.Product o ∷ us) ≡ product y r = cc in
-    next_of_product x o y us r p tail
+    (y, r, p, cc)
+
+behind_factor : (u : Operand) (o : Product) (ts : List Token) (left : ℕ) → Fault Factors product EndsProduct ts left
+    → Fault Factors product EndsProduct (operand u (token.Product o ∷ ts)) left
+behind_factor u o ts left f =
+    inside (λ l. operand u (token.Product o ∷ l)) f (λ a b. operand_append u (token.Product o ∷ a) b) product_append (λ c. (factors u o c, [], refl))
+    (λ us same d r p e. others_of_product u o d us r p e)
 
 pub next_in_product : (x : Factors) (o : Product) (ts : List Token) (left : ℕ) → Fault Operand operand EndsOperand ts left → Fault Factors product EndsProduct (product x (token.Product o ∷ ts)) left
-next_in_product x o ts left f =
-    inside Operand Factors operand product EndsOperand EndsProduct (λ l. product x (token.Product o ∷ l)) ts left
-    (record {
-      pre_append = λ a b. product_append x (token.Product o ∷ a) b;
-      append = operand_append;
-      completes = λ c. (also_factor x o c, [], sym (product_also x o c []));
-      inverts = λ us same d r p e. let y = next_of_product x o d us r p e in (y.0, y.1, tt, y.2);
-    }) f
+next_in_product (factor u) o ts left f = behind_factor u o ts left (first_in_product ts left f)
+next_in_product (factors u k x) o ts left f = behind_factor u k (product x (token.Product o ∷ ts)) left (next_in_product x o ts left f)
 
 first_of_expression : (d : Expression) (us r : List Token) → EndsExpression d (first r) → us ≡ expression d r → (c : Factors) × (r' : List Token) × EndsProduct c (first r') × (us ≡ product c r')
 first_of_expression (summand x) us r p e = (x, r, p.product, e)
@@ -98,13 +79,7 @@ first_of_expression (summands x o c) us r p e = (x, token.Sum o ∷ expression c
 
 pub first_in_expression : (ts : List Token) (left : ℕ) → Fault Factors product EndsProduct ts left → Fault Expression expression EndsExpression ts left
 first_in_expression ts left f =
-    inside Factors Expression product expression EndsProduct EndsExpression (λ l. l) ts left
-    (record {
-      pre_append = λ a b. refl;
-      append = product_append;
-      completes = λ c. (summand c, [], refl);
-      inverts = λ us same d r p e. first_of_expression d us r p e;
-    }) f
+    in_front f product_append (λ c. (summand c, [], refl)) first_of_expression
 
 abbrev pub also_summand : Expression → Sum → Factors → Expression
 also_summand (summand u) o v = summands u o (summand v)
@@ -114,27 +89,21 @@ pub expression_also : (x : Expression) (o : Sum) (v : Factors) (ts : List Token)
 expression_also (summand u) o v ts = refl
 expression_also (summands u k x) o v ts = ap (λ l. product u (token.Sum k ∷ l)) (expression_also x o v ts)
 
-next_of_expression : (x : Expression) (o : Sum) (d : Expression) (us r : List Token) → EndsExpression d (first r) → expression x (token.Sum o ∷ us) ≡ expression d r → (c : Factors) × (r' : List Token) × EndsProduct c (first r') × (us ≡ product c r')
-next_of_expression (summand u) o (summand v) us r p e =
+-- the summands behind a first one
+others_of_expression : (u : Factors) (o : Sum) (d : Expression) (us r : List Token) → EndsExpression d (first r)
+    → product u (token.Sum o ∷ us) ≡ expression d r → (y : Expression) × (r' : List Token) × EndsExpression y (first r') × (us ≡ expression y r')
+others_of_expression u o (summand v) us r p e =
     let s = one_product u v (token.Sum o ∷ us) r (sum_ends o u) p.product e in absurd (p.sum o (sym (ap first s.behind)))
-next_of_expression (summand u) o (summands v k y) us r p e =
+others_of_expression u o (summands v k y) us r p e =
     let s = one_product u v (token.Sum o ∷ us) (token.Sum k ∷ expression y r) (sum_ends o u) (sum_ends k v) e in
-    let behind = s.behind in
-    let tail : us ≡ expression y r = cc in first_of_expression y us r (record { product = p.product; sum = p.sum }) tail
-next_of_expression (summands u j x) o (summand v) us r p e =
-    let s = one_product u v (token.Sum j ∷ expression x (token.Sum o ∷ us)) r (sum_ends j u) p.product e in absurd (p.sum j (sym (ap first s.behind)))
-next_of_expression (summands u j x) o (summands v k y) us r p e =
-    let s = one_product u v (token.Sum j ∷ expression x (token.Sum o ∷ us)) (token.Sum k ∷ expression y r) (sum_ends j u) (sum_ends k v) e in
-    let behind = s.behind in
-    let tail : expression x (token.Sum o ∷ us) ≡ expression y r = cc in
-    next_of_expression x o y us r (record { product = p.product; sum = p.sum }) tail
+    (y, r, record { product = p.product; sum = p.sum }, cc)
+
+behind_summand : (u : Factors) (o : Sum) (ts : List Token) (left : ℕ) → Fault Expression expression EndsExpression ts left
+    → Fault Expression expression EndsExpression (product u (token.Sum o ∷ ts)) left
+behind_summand u o ts left f =
+    inside (λ l. product u (token.Sum o ∷ l)) f (λ a b. product_append u (token.Sum o ∷ a) b) expression_append (λ c. (summands u o c, [], refl))
+    (λ us same d r p e. others_of_expression u o d us r p e)
 
 pub next_in_expression : (x : Expression) (o : Sum) (ts : List Token) (left : ℕ) → Fault Factors product EndsProduct ts left → Fault Expression expression EndsExpression (expression x (token.Sum o ∷ ts)) left
-next_in_expression x o ts left f =
-    inside Factors Expression product expression EndsProduct EndsExpression (λ l. expression x (token.Sum o ∷ l)) ts left
-    (record {
-      pre_append = λ a b. expression_append x (token.Sum o ∷ a) b;
-      append = product_append;
-      completes = λ c. (also_summand x o c, [], sym (expression_also x o c []));
-      inverts = λ us same d r p e. next_of_expression x o d us r p e;
-    }) f
+next_in_expression (summand u) o ts left f = behind_summand u o ts left (first_in_expression ts left f)
+next_in_expression (summands u k x) o ts left f = behind_summand u k (expression x (token.Sum o ∷ ts)) left (next_in_expression x o ts left f)

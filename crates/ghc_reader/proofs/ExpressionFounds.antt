@@ -1,5 +1,5 @@
 -- The derivation of an expression, from those of its parts, and the faults behind them.
-use Rattle.ghc_reader.proofs.Words.{◌≡◌, ◌≢◌, ℕ, ℤ, List, [], ◌∷◌, length, Some, sym, ap, ◌∙◌, subst, Sum, Product, Mark, Open, Close, Token, first, Begins, Operand, nested, Factors, Expression, operand, expression, EndsOperand, EndsProduct, EndsExpression, Found, Fault, operand_of, product_of, value_of, Value, value_view}
+use Rattle.ghc_reader.proofs.Words.{◌≡◌, ◌≢◌, ℕ, ℤ, List, ◌∷◌, length, Some, sym, ap, ◌∙◌, subst, Sum, Product, Mark, Open, Close, Token, first, Begins, Operand, nested, Factors, Expression, operand, expression, EndsOperand, EndsProduct, EndsExpression, Found, Fault, operand_of, product_of, value_of, Value, value_view}
 use Rattle.ghc_reader.specs.declared.token.Token.TheVariants as token
 use Rattle.ghc_reader.specs.Grammar.{number, named, product}
 use Rattle.ghc_reader.specs.declared.source.SourceExpression.TheVariants as ev
@@ -20,12 +20,6 @@ ExpressionFound = Found Expression Value expression value_of EndsExpression
 abbrev pub OperandFault : List Token → ℕ → Type 0
 OperandFault = Fault Operand operand EndsOperand
 
-abbrev pub FactorsFault : List Token → ℕ → Type 0
-FactorsFault = Fault Factors product EndsProduct
-
-abbrev pub ExpressionFault : List Token → ℕ → Type 0
-ExpressionFault = Fault Expression expression EndsExpression
-
 pub found_named : (ts behind : List Token) (n : List ℕ) → ts ≡ token.Variable n ∷ behind → OperandFound ts (value_view (ev.Variable n)) behind
 found_named ts behind n e = record { derivation = named n; spelled = e; sees = sym (view_named n); stops = tt }
 
@@ -41,8 +35,7 @@ found_nested ts inside behind after a e x f = record {
 }
 
 pub at_operand_close : (ts inside behind : List Token) (a : Value) → ts ≡ token.Mark Open ∷ inside → ExpressionFound inside a behind → ¬ Begins Close behind → OperandFault ts (length behind)
-at_operand_close ts inside behind a e x n =
-    subst (λ l. OperandFault l (length behind)) (sym (e ∙ ap (λ l. token.Mark Open ∷ l) x.spelled)) (faults.operand_close_missing x.derivation behind x.stops n)
+at_operand_close ts inside behind a e x n = rw (e, x.spelled) (faults.operand_close_missing x.derivation behind x.stops n)
 
 pub at_no_operand : (ts behind : List Token) (t : Token) → BeginsNoOperand t → ts ≡ t ∷ behind → OperandFault ts (length ts)
 at_no_operand ts behind t h e = faults.no_operand_here ts (subst (λ l. faults.NoOperandAt (first l)) (sym e) h)
@@ -50,19 +43,8 @@ at_no_operand ts behind t h e = faults.no_operand_here ts (subst (λ l. faults.N
 pub at_no_operand_mark : (ts behind : List Token) (m : Mark) → ts ≡ token.Mark m ∷ behind → ¬ Begins Open ts → OperandFault ts (length ts)
 at_no_operand_mark ts behind m e n = at_no_operand ts behind (token.Mark m) (λ same. n (ap first e ∙ ap (λ k. Some (token.Mark k)) same)) e
 
-pub at_no_token : (ts : List Token) → ts ≡ [] → OperandFault ts 0
-at_no_token ts e = subst (λ l. OperandFault l 0) (sym e) (faults.no_operand_here [] tt)
-
 pub found_factors : (ts behind : List Token) (a b : Value) → FactorsSoFar ts a behind → ((k : Product) → first behind ≢ Some (token.Product k)) → b ≡ a → FactorsFound ts b behind
 found_factors ts behind a b x n e = record { derivation = x.so_far; spelled = x.spelled; sees = x.sees ∙ sym e; stops = n }
 
-pub in_next_operand : (ts behind inside : List Token) (a : Value) (o : Product) (left : ℕ) → FactorsSoFar ts a behind → behind ≡ token.Product o ∷ inside → OperandFault inside left → FactorsFault ts left
-in_next_operand ts behind inside a o left x e f =
-    subst (λ l. FactorsFault l left) (sym (x.spelled ∙ ap (product x.so_far) e)) (faults.next_in_product x.so_far o inside left f)
-
 pub found_expression : (ts behind : List Token) (a b : Value) → ExpressionSoFar ts a behind → ((k : Sum) → first behind ≢ Some (token.Sum k)) → b ≡ a → ExpressionFound ts b behind
 found_expression ts behind a b x n e = record { derivation = x.so_far; spelled = x.spelled; sees = x.sees ∙ sym e; stops = record { product = x.product; sum = n } }
-
-pub in_next_factors : (ts behind inside : List Token) (a : Value) (o : Sum) (left : ℕ) → ExpressionSoFar ts a behind → behind ≡ token.Sum o ∷ inside → FactorsFault inside left → ExpressionFault ts left
-in_next_factors ts behind inside a o left x e f =
-    subst (λ l. ExpressionFault l left) (sym (x.spelled ∙ ap (expression x.so_far) e)) (faults.next_in_expression x.so_far o inside left f)

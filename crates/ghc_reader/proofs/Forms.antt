@@ -1,5 +1,5 @@
 -- What form the first byte of a piece leaves to the rest of it, and when a piece is the longest at its place.
-use Rattle.ghc_reader.proofs.Words.{◌≡◌, ◌≢◌, ◌⊎◌, ℕ, ◌≤◌, Bool, true, false, List, [], ◌∷◌, ◌++◌, length, get_or, refl, sym, ap, subst, ◌∙◌, inl, inr, arith, IsTrue, ◌==◌, ◌+◌, take, drop, one-add, not, codes, nat_tests, is_ascii_digit, is_ascii_lowercase, list_all, is_blank, is_word, begins_variable, BeginsNegative, Lacks, IsRun, take-append_seam, drop-append_seam, spelling, IsLongest, Piece, IsNegative, HasForm, Stands, Open, Less, Plus, Modulo, Symbol, Kind}
+use Rattle.ghc_reader.proofs.Words.{◌≡◌, ◌≢◌, ◌⊎◌, ℕ, ◌≤◌, Bool, true, false, List, [], ◌∷◌, ◌++◌, length, get_or, refl, sym, ap, subst, ◌∙◌, inl, inr, arith, IsTrue, ◌==◌, ◌||◌, or_parts, ◌+◌, take, drop, one-add, not, codes, nat_tests, is_ascii_digit, is_ascii_lowercase, list_all, is_blank, is_word, begins_variable, BeginsNegative, Lacks, IsRun, take-append_seam, drop-append_seam, spelling, IsLongest, Piece, IsNegative, HasForm, Stands, Modulo, Symbol, Kind}
 use Rattle.ghc_reader.specs.Bytes.{Begins}
 use Rattle.ghc_reader.specs.declared.lexer.symbol.Symbol.TheVariants as symbol
 use Rattle.ghc_reader.specs.declared.lexer.front.Kind.TheVariants as kind
@@ -11,10 +11,7 @@ run_is_longest test (b ∷ v) less [] rest all stops e =
     let lacks = subst (Lacks test) e stops in
     absurd (grind (arith, lacks, all))
 run_is_longest test (b ∷ v) less (c ∷ w) rest all stops e =
-    let behind : list_all test v ≡ true = grind (arith, all) in
-    let tails : w ++ rest ≡ v ++ less = cc in
-    let shorter = run_is_longest test v less w rest behind stops tails in
-    omega arith
+    let shorter = run_is_longest test v less w rest (grind (arith, all)) stops (cc) in omega arith
 
 -- the bytes behind the first byte of any piece that begins with b pass the test
 abbrev pub LeavesOnly : Bool → ℕ → (ℕ → Bool) → Type 0
@@ -35,105 +32,40 @@ run_stands signs p rest test b w begins form stops leaves = record {
         let shorter = run_is_longest test v more w rest (leaves k v (subst (λ x. HasForm signs k (x ∷ v)) first other)) stops tails in
         omega (arith, ap length begins)
 
--- a symbol that a word byte begins is `mod`
-pub symbol_of_word : (s : Symbol) (b : ℕ) (v : List ℕ) → is_word b ≡ true → b ∷ v ≡ spelling s → v ≡ 111 ∷ 100 ∷ []
-symbol_of_word (symbol.Mark Open) b v word e = cc
-symbol_of_word (symbol.Comparison Less) b v word e = cc
-symbol_of_word (symbol.Sum Plus) b v word e = cc
-symbol_of_word (symbol.Product Modulo) b v word e = cc
-symbol_of_word s b v word e = cc
-
 -- what the first byte of a symbol is not
 pub record IsSymbolByte (b : ℕ) : Type 0 where
   pub no_digit : is_ascii_digit b ≡ false
   pub no_blank : is_blank b ≡ false
   pub no_percent : (b == 37) ≡ false
 
-pub symbol_byte : (s : Symbol) (b : ℕ) (v : List ℕ) → b ∷ v ≡ spelling s → IsSymbolByte b
-symbol_byte (symbol.Mark Open) b v e = record {
-  no_digit = ap (λ l. is_ascii_digit (get_or l 0 0)) e;
-  no_blank = ap (λ l. is_blank (get_or l 0 0)) e;
-  no_percent = ap (λ l. get_or l 0 0 == 37) e;
-}
-symbol_byte (symbol.Comparison Less) b v e = record {
-  no_digit = ap (λ l. is_ascii_digit (get_or l 0 0)) e;
-  no_blank = ap (λ l. is_blank (get_or l 0 0)) e;
-  no_percent = ap (λ l. get_or l 0 0 == 37) e;
-}
-symbol_byte (symbol.Sum Plus) b v e = record {
-  no_digit = ap (λ l. is_ascii_digit (get_or l 0 0)) e;
-  no_blank = ap (λ l. is_blank (get_or l 0 0)) e;
-  no_percent = ap (λ l. get_or l 0 0 == 37) e;
-}
-symbol_byte (symbol.Product Modulo) b v e = record {
-  no_digit = ap (λ l. is_ascii_digit (get_or l 0 0)) e;
-  no_blank = ap (λ l. is_blank (get_or l 0 0)) e;
-  no_percent = ap (λ l. get_or l 0 0 == 37) e;
-}
-symbol_byte s b v e = record {
-  no_digit = ap (λ l. is_ascii_digit (get_or l 0 0)) e;
-  no_blank = ap (λ l. is_blank (get_or l 0 0)) e;
-  no_percent = ap (λ l. get_or l 0 0 == 37) e;
-}
+abbrev is_no_symbol_byte : ℕ → Bool
+is_no_symbol_byte b = is_ascii_digit b || (is_blank b || b == 37)
 
--- a symbol that a minus begins is one byte long
-pub symbol_of_minus : (s : Symbol) (b : ℕ) (v : List ℕ) → b ≡ 45 → b ∷ v ≡ spelling s → v ≡ []
-symbol_of_minus (symbol.Mark Open) b v minus e = cc
-symbol_of_minus (symbol.Comparison Less) b v minus e = cc
-symbol_of_minus (symbol.Sum Plus) b v minus e = cc
-symbol_of_minus (symbol.Product Modulo) b v minus e = cc
-symbol_of_minus s b v minus e = cc
+pub symbol_byte : (s : Symbol) (b : ℕ) (v : List ℕ) → b ∷ v ≡ spelling s → IsSymbolByte b
+symbol_byte s b v e =
+    let none = or_parts (is_ascii_digit b) (is_blank b || b == 37) (ap (λ l. is_no_symbol_byte (get_or l 0 0)) e ∙ grind arith) in
+    let others = or_parts (is_blank b) (b == 37) none.1 in
+    record { no_digit = none.0; no_blank = others.0; no_percent = others.1 }
 
 -- a letter or `_` begins only pieces of letters, digits and `_`
 pub word_leaves : (signs : Bool) (b : ℕ) → is_word b ≡ true → is_ascii_digit b ≡ false → LeavesOnly signs b is_word
-word_leaves signs b word no_digit kind.Blank v form = ap (list_all is_word) form.1
-word_leaves signs b word no_digit kind.Comment v form = absurd (grind (arith, nat_tests))
-word_leaves signs b word no_digit kind.Name v form = form.0.1
-word_leaves signs b word no_digit kind.Variable v form = form.1
-word_leaves signs b word no_digit kind.Integer v (inl digits) = absurd (grind (arith, nat_tests))
-word_leaves signs b word no_digit kind.Integer v (inr (_, negative)) = absurd (grind (arith, nat_tests, negative.0))
-word_leaves signs b word no_digit (kind.Symbol s) v form = ap (list_all is_word) (symbol_of_word s b v word form)
+word_leaves signs b word no_digit k v form = grind (arith, nat_tests)
 
 -- a digit begins only integers
 pub digit_leaves : (signs : Bool) (b : ℕ) → is_ascii_digit b ≡ true → LeavesOnly signs b is_ascii_digit
-digit_leaves signs b digit kind.Blank v form = ap (list_all is_ascii_digit) form.1
-digit_leaves signs b digit kind.Comment v form = absurd (grind (arith, nat_tests))
-digit_leaves signs b digit kind.Name v form = absurd (grind (arith, nat_tests))
-digit_leaves signs b digit kind.Variable v form = absurd (grind (arith, nat_tests))
-digit_leaves signs b digit kind.Integer v (inl digits) = digits.1
-digit_leaves signs b digit kind.Integer v (inr (_, negative)) = absurd (grind (arith, nat_tests, negative.0))
-digit_leaves signs b digit (kind.Symbol s) v form = let byte = symbol_byte s b v form in absurd (grind (arith, byte.no_digit))
+digit_leaves signs b digit k v form = grind (arith, nat_tests, symbol_byte)
 
 -- a percent sign begins only comments
 pub percent_leaves : (signs : Bool) (b : ℕ) → b ≡ 37 → LeavesOnly signs b (λ c. not (c == 10))
-percent_leaves signs b percent kind.Blank v form = ap (list_all (λ c. not (c == 10))) form.1
-percent_leaves signs b percent kind.Comment v form = form.1
-percent_leaves signs b percent kind.Name v form = absurd (grind (arith, nat_tests))
-percent_leaves signs b percent kind.Variable v form = absurd (grind (arith, nat_tests))
-percent_leaves signs b percent kind.Integer v (inl digits) = absurd (grind (arith, nat_tests))
-percent_leaves signs b percent kind.Integer v (inr (_, negative)) = absurd (grind (arith, nat_tests, negative.0))
-percent_leaves signs b percent (kind.Symbol s) v form = let byte = symbol_byte s b v form in absurd (grind (arith, nat_tests, byte.no_percent))
+percent_leaves signs b percent k v form = grind (arith, nat_tests, symbol_byte)
 
 -- a blank is a piece alone
 pub blank_leaves : (signs : Bool) (b : ℕ) → is_blank b ≡ true → LeavesOnly signs b (λ _. false)
-blank_leaves signs b blank kind.Blank v form = ap (list_all (λ _. false)) form.1
-blank_leaves signs b blank kind.Comment v form = absurd (grind (arith, nat_tests))
-blank_leaves signs b blank kind.Name v form = absurd (grind (arith, nat_tests))
-blank_leaves signs b blank kind.Variable v form = absurd (grind (arith, nat_tests))
-blank_leaves signs b blank kind.Integer v (inl digits) = absurd (grind (arith, nat_tests))
-blank_leaves signs b blank kind.Integer v (inr (_, negative)) = absurd (grind (arith, nat_tests, negative.0))
-blank_leaves signs b blank (kind.Symbol s) v form = let byte = symbol_byte s b v form in absurd (grind (arith, byte.no_blank))
+blank_leaves signs b blank k v form = grind (arith, nat_tests, symbol_byte)
 
 -- a minus begins only itself and integers
 pub minus_leaves : (signs : Bool) (b : ℕ) → b ≡ 45 → LeavesOnly signs b is_ascii_digit
-minus_leaves signs b minus kind.Blank v form = ap (list_all is_ascii_digit) form.1
-minus_leaves signs b minus kind.Comment v form = absurd (grind (arith, nat_tests))
-minus_leaves signs b minus kind.Name v form = absurd (grind (arith, nat_tests))
-minus_leaves signs b minus kind.Variable v form = absurd (grind (arith, nat_tests))
-minus_leaves signs b minus kind.Integer v (inl digits) = absurd (grind (arith, nat_tests))
-minus_leaves signs b minus kind.Integer [] (inr (_, negative)) = refl
-minus_leaves signs b minus kind.Integer (d ∷ ds) (inr (_, negative)) = grind (arith, negative.1.0, negative.1.1)
-minus_leaves signs b minus (kind.Symbol s) v form = ap (list_all is_ascii_digit) (symbol_of_minus s b v minus form)
+minus_leaves signs b minus k v form = grind (arith, nat_tests)
 
 -- a byte that begins neither a blank, a comment, a word nor digits begins a symbol, or is the sign of an integer
 pub record BeginsSymbol (b : ℕ) : Type 0 where
@@ -144,11 +76,10 @@ pub record BeginsSymbol (b : ℕ) : Type 0 where
 pub symbol_or_negative : (signs : Bool) (b : ℕ) → BeginsSymbol b → (k : Kind) (v : List ℕ) → HasForm signs k (b ∷ v) → ((s : Symbol) × (b ∷ v ≡ spelling s)) ⊎ (IsTrue signs × IsNegative (b ∷ v))
 symbol_or_negative signs b starts kind.Blank v form = absurd (grind (arith, starts.no_blank))
 symbol_or_negative signs b starts kind.Comment v form = absurd (grind (arith, nat_tests, starts.no_percent))
-symbol_or_negative signs b starts kind.Name v form = absurd (grind (arith, nat_tests, starts.no_word))
-symbol_or_negative signs b starts kind.Variable v form = absurd (grind (arith, nat_tests, starts.no_word))
 symbol_or_negative signs b starts kind.Integer v (inl digits) = absurd (grind (arith, nat_tests, starts.no_word))
 symbol_or_negative signs b starts kind.Integer v (inr negative) = inr negative
 symbol_or_negative signs b starts (kind.Symbol s) v form = inl (s, form)
+symbol_or_negative signs b starts k v form = absurd (grind (arith, nat_tests, starts.no_word))
 
 -- what is split off where a run begins is a run
 run_of_split : (first each : ℕ → Bool) (text bytes rest : List ℕ) → text ≡ bytes ++ rest → list_all each bytes ≡ true → Lacks each rest → Begins first text → ((b : ℕ) → first b ≡ true → each b ≡ true) → IsRun first each bytes
@@ -158,9 +89,7 @@ run_of_split first each text [] rest split all stops begins goes = absurd (nowhe
     nowhere [] begins stops = begins
     nowhere (b ∷ bs) begins stops = let passes = goes b begins in grind (arith, passes, stops)
 run_of_split first each text (b ∷ w) rest split all stops begins goes =
-    let first_passes : first b ≡ true = subst (Begins first) split begins in
-    let others_pass : list_all each w ≡ true = grind (arith, all) in
-    (first_passes, others_pass)
+    (subst (Begins first) split begins, grind (arith, all))
 
 first_of_run : (first each : ℕ → Bool) (bytes : List ℕ) → IsRun first each bytes → (b : ℕ) × (w : List ℕ) × (bytes ≡ b ∷ w) × (first b ≡ true)
 first_of_run first each [] run = absurd run
@@ -211,21 +140,8 @@ negative_stands (b ∷ bs) digits more bytes rest begins split all stops front b
     }
 
 -- every piece has a byte
-pub no_symbol_is_empty : (s : Symbol) → [] ≡ spelling s → ⊥
-no_symbol_is_empty (symbol.Mark Open) e = cc
-no_symbol_is_empty (symbol.Comparison Less) e = cc
-no_symbol_is_empty (symbol.Sum Plus) e = cc
-no_symbol_is_empty (symbol.Product Modulo) e = cc
-no_symbol_is_empty s e = cc
-
 pub no_form_is_empty : (signs : Bool) (k : Kind) → HasForm signs k [] → ⊥
-no_form_is_empty signs kind.Blank form = form
-no_form_is_empty signs kind.Comment form = form
-no_form_is_empty signs kind.Name form = form.0
-no_form_is_empty signs kind.Variable form = form
-no_form_is_empty signs kind.Integer (inl form) = form
-no_form_is_empty signs kind.Integer (inr form) = form.1
-no_form_is_empty signs (kind.Symbol s) form = no_symbol_is_empty s form
+no_form_is_empty signs k form = grind arith
 
 -- the front of a text that begins neither a blank, a comment nor a word, and where no sign stands
 pub record BeginsNoRun (signs : Bool) (text : List ℕ) : Type 0 where
@@ -233,11 +149,6 @@ pub record BeginsNoRun (signs : Bool) (text : List ℕ) : Type 0 where
   pub no_blank : Lacks is_blank text
   pub no_percent : Lacks (λ b. b == 37) text
   pub no_sign : ¬ (IsTrue signs × BeginsNegative text)
-
-negative_begins : (bytes rest : List ℕ) → IsNegative bytes → BeginsNegative (bytes ++ rest)
-negative_begins [] rest negative = absurd negative
-negative_begins (b ∷ []) rest negative = absurd negative.1
-negative_begins (b ∷ d ∷ ds) rest negative = (negative.0, negative.1.0)
 
 -- a piece at the front of such a text is a symbol
 pub only_symbols : (signs : Bool) (text : List ℕ) → BeginsNoRun signs text → (q : Piece) (more : List ℕ) → text ≡ q.bytes ++ more → HasForm signs q.kind q.bytes → (s : Symbol) × (q.bytes ≡ spelling s)
@@ -253,7 +164,7 @@ only_symbols signs text begins q more split form = by_bytes q.kind q.bytes split
         } in
         elim (symbol_or_negative signs b starts k v form) [
           | inl found ↦ found
-          | inr sign ↦ absurd (begins.no_sign (sign.0, subst BeginsNegative (sym split) (negative_begins (b ∷ v) more sign.1)))
+          | inr sign ↦ absurd (begins.no_sign (sign.0, subst BeginsNegative (sym split) (grind (arith, sign.1))))
         ]
 
 pub symbol_stands : (signs : Bool) (text bytes rest : List ℕ) (s : Symbol) → BeginsNoRun signs text → text ≡ bytes ++ rest → bytes ≡ spelling s → IsLongest s rest → Stands signs (record { kind = kind.Symbol s; bytes = bytes }) rest

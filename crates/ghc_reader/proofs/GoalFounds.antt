@@ -1,10 +1,10 @@
 -- The derivation of goals and tests, from those of their parts, and the faults behind them.
-use Rattle.ghc_reader.proofs.Words.{◌≡◌, ◌≢◌, ℕ, List, [], ◌∷◌, length, Some, None, false, refl, sym, ap, ◌∙◌, subst, Comparison, Comma, Equals, Assign, Stop, Token, first, item_like, Begins, IsNotNamed, IsNotAssigned, Term, Item, goal, unify, assign, Test, plain_test, compare, Body, Query, plain, stopped, term, expression, item, test, body, query, EndsTerm, EndsItem, EndsTest, EndsBody, EndsQuery, FoundAt, Fault, tree_of, arguments_of, value_of, call_of, item_of, test_of, goals_of, query_of, Tree, Trees, Goal, Value, cells}
+use Rattle.ghc_reader.proofs.Words.{◌≡◌, ◌≢◌, ℕ, List, [], ◌∷◌, length, Some, None, false, sym, ap, ◌∙◌, subst, Comparison, Comma, Equals, Assign, Stop, Token, first, item_like, Begins, IsNotNamed, IsNotAssigned, Term, Item, goal, unify, assign, Test, plain_test, compare, Body, Query, plain, stopped, term, expression, item, test, body, query, EndsTerm, EndsItem, EndsTest, EndsBody, EndsQuery, FoundAt, Fault, tree_of, arguments_of, value_of, call_of, item_of, test_of, goals_of, query_of, Tree, Trees, Goal, Value, arith}
 use Rattle.ghc_reader.specs.declared.token.Token.TheVariants as token
 use Rattle.ghc_reader.specs.Source as tree
 use Rattle.ghc_reader.proofs.GoalLoops.{BodySoFar, ends_at_last_item}
 use Rattle.ghc_reader.proofs.TermFounds.{TermFound, ArgumentsFound}
-use Rattle.ghc_reader.proofs.ExpressionFounds.{ExpressionFound, ExpressionFault}
+use Rattle.ghc_reader.proofs.ExpressionFounds.{ExpressionFound}
 use Rattle.ghc_reader.proofs.GoalFaults as faults
 use Rattle.ghc_reader.proofs.TestFaults as test_faults
 use Rattle.ghc_reader.proofs.QueryFaults as query_faults
@@ -27,12 +27,7 @@ found_compare ts behind inside after a b o x e y = record {
 }
 
 pub at_comparison : (ts behind : List Token) (a : Value) → item_like ts ≡ false → ExpressionFound ts a behind → ((o : Comparison) → first behind ≢ Some (token.Comparison o)) → TestFault ts (length behind)
-at_comparison ts behind a l x n =
-    subst (λ l. TestFault l (length behind)) (sym x.spelled) (test_faults.comparison_missing x.derivation behind (ap item_like (sym x.spelled) ∙ l) x.stops n)
-
-pub in_right_operand : (ts behind inside : List Token) (a : Value) (o : Comparison) (left : ℕ) → ExpressionFound ts a behind → behind ≡ token.Comparison o ∷ inside → ExpressionFault inside left → TestFault ts left
-in_right_operand ts behind inside a o left x e f =
-    subst (λ l. TestFault l left) (sym (x.spelled ∙ ap (expression x.derivation) e)) (test_faults.right_in_test x.derivation o inside left f)
+at_comparison ts behind a l x n = rw x.spelled (test_faults.comparison_missing x.derivation behind (ap item_like (sym x.spelled) ∙ l) x.stops n)
 
 abbrev pub ItemFound : List Token → Goal → List Token → Type 0
 ItemFound = FoundAt Item Goal item item_of EndsItem
@@ -42,9 +37,6 @@ ItemFault = Fault Item item EndsItem
 
 abbrev pub BodyFound : List Token → List Goal → List Token → Type 0
 BodyFound = FoundAt Body (List Goal) body goals_of EndsBody
-
-abbrev pub BodyFault : List Token → ℕ → Type 0
-BodyFault = Fault Body body EndsBody
 
 -- the call that was read, with its place
 pub call_is : (ts behind after : List Token) (n : ℕ) (f : List ℕ) (a : Trees) → n ≡ length ts → ts ≡ token.Name f ∷ behind → (x : ArgumentsFound behind a after) → call_of f x.derivation after ≡ record { left = n; name = f; arguments = a }
@@ -69,8 +61,7 @@ found_unify ts behind inside after s u x e y = record {
 }
 
 pub in_right : (ts behind inside : List Token) (s : Tree) (left : ℕ) → TermFound ts s behind → behind ≡ token.Mark Equals ∷ inside → Fault Term term EndsTerm inside left → ItemFault ts left
-in_right ts behind inside s left x e f =
-    subst (λ l. ItemFault l left) (sym (x.spelled ∙ ap (term x.derivation) e)) (faults.right_in_item x.derivation inside left f)
+in_right ts behind inside s left x e f = rw (x.spelled, e) (faults.right_in_item x.derivation inside left f)
 
 pub at_equals : (ts behind : List Token) (s : Tree) → TermFound ts s behind → IsNotNamed ts → IsNotAssigned ts → ¬ Begins Equals behind → ItemFault ts (length behind)
 at_equals ts behind s x unnamed m n =
@@ -92,10 +83,6 @@ found_assign ts inside after v a e x = record {
 pub found_body : (ts behind : List Token) (a : List Goal) → BodySoFar ts a behind → ¬ Begins Comma behind → BodyFound ts a behind
 found_body ts behind a x n = record { derivation = x.so_far; spelled = x.spelled; sees = x.sees; stops = ends_at_last_item x.so_far (first behind) x.stops n }
 
-pub in_next_item : (ts behind inside : List Token) (a : List Goal) (left : ℕ) → BodySoFar ts a behind → behind ≡ token.Mark Comma ∷ inside → ItemFault inside left → BodyFault ts left
-in_next_item ts behind inside a left x e f =
-    subst (λ l. BodyFault l left) (sym (x.spelled ∙ ap (body x.so_far) e)) (faults.next_in_body x.so_far inside left f)
-
 abbrev pub QueryFault : List Token → ℕ → Type 0
 QueryFault = Fault Query query EndsQuery
 
@@ -108,13 +95,10 @@ found_stopped ts behind after a x e f =
     (stopped x.derivation, x.spelled ∙ ap (body x.derivation) last_token, ap (goals_of x.derivation) (sym last_token) ∙ x.sees)
 
 pub not_none : (ts : List Token) → ts ≢ [] → first ts ≢ None
-not_none [] n e = n refl
-not_none (t ∷ ts) n e = cc
+not_none ts n e = grind arith
 
 pub at_end : (ts behind : List Token) (a : List Goal) → BodyFound ts a behind → behind ≢ [] → ¬ Begins Stop behind → QueryFault ts (length behind)
-at_end ts behind a x n m =
-    subst (λ l. QueryFault l (length behind)) (sym x.spelled) (query_faults.end_missing x.derivation behind x.stops (not_none behind n) m)
+at_end ts behind a x n m = rw x.spelled (query_faults.end_missing x.derivation behind x.stops (not_none behind n) m)
 
 pub behind_stop : (ts behind after : List Token) (a : List Goal) → BodyFound ts a behind → behind ≡ token.Mark Stop ∷ after → after ≢ [] → QueryFault ts (length after)
-behind_stop ts behind after a x e n =
-    subst (λ l. QueryFault l (length after)) (sym (x.spelled ∙ ap (body x.derivation) e)) (query_faults.more_behind_stop x.derivation after (not_none after n))
+behind_stop ts behind after a x e n = rw (x.spelled, e) (query_faults.more_behind_stop x.derivation after (not_none after n))

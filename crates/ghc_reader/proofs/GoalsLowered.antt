@@ -1,5 +1,5 @@
 -- What goals say, and which variables they meet.
-use Rattle.ghc_reader.proofs.Words.{◌≡◌, ℕ, ◌+◌, ◌<◌, List, [], ◌∷◌, ◌++◌, length, take, get_or, refl, sym, ap, ◌∙◌, subst, append_assoc, Bool, true, false, cond, Option, Some, None, Box, Global, Vec, vec_len, arith, inl, inr, ◌⊎◌, ◌==◌, ◌&&◌, not, MatchOption, bytes_eq, nat_eq, codes, append-nil, filter-append, nat_tests, VarName, variables_of_expression, variables_of_goal, variables_of_goals, SourceTerm, SourceExpression, SourceCall, SourceGoal, Goal, cells, view, views, value_view, goal_view, goal_views, Names, IsCalled, Says, SaysValue, SaysGoal, SaysAsked, Each, is_true, doing, variable_of, first_variable, tail_of, count, MeetsAll}
+use Rattle.ghc_reader.proofs.Words.{◌≡◌, ℕ, ◌+◌, ◌<◌, List, [], ◌∷◌, ◌++◌, length, take, get_or, refl, sym, ap, ◌∙◌, subst, append_assoc, Bool, true, false, cond, Option, Some, None, Box, Global, Vec, vec_len, arith, inl, inr, ◌⊎◌, ◌==◌, not, MatchOption, bytes_eq, nat_eq, codes, append-nil, filter-append, VarName, variables_of_expression, variables_of_goal, variables_of_goals, SourceTerm, SourceExpression, SourceCall, SourceGoal, Goal, cells, view, views, value_view, goal_view, goal_views, Names, IsCalled, Says, SaysValue, SaysGoal, SaysAsked, Each, is_true, doing, variable_of, tail_of, MeetsAll}
 use Rattle.ghc_term.specs.Tree as term
 use Rattle.ghc_term.specs.Expression.{Expression}
 use Rattle.ghc_term.specs.Goal as goal
@@ -40,15 +40,13 @@ assign_says g v e b c x left r u is made at h met k =
 
 pub each_still : {X Y : Type 0} (R S : X → Y → Type 0) → ((x : X) (y : Y) → R x y → S x y) → (xs : List X) (ys : List Y) → Each R xs ys → Each S xs ys
 each_still R S f [] [] h = tt
-each_still R S f [] (y ∷ ys) h = absurd h
-each_still R S f (x ∷ xs) [] h = absurd h
 each_still R S f (x ∷ xs) (y ∷ ys) h = (f x y h.0, each_still R S f xs ys h.1)
+each_still R S f xs ys h = absurd h
 
 pub each_push : {X Y : Type 0} (R : X → Y → Type 0) (xs : List X) (ys : List Y) (x : X) (y : Y) → Each R xs ys → R x y → Each R (xs ++ x ∷ []) (ys ++ y ∷ [])
 each_push R [] [] x y h k = (k, tt)
-each_push R [] (y' ∷ ys) x y h k = absurd h
-each_push R (x' ∷ xs) [] x y h k = absurd h
 each_push R (x' ∷ xs) (y' ∷ ys) x y h k = (h.0, each_push R xs ys x y h.1 k)
+each_push R xs ys x y h k = absurd h
 
 pub variables_goal_push : (gs : List goal.Goal) (g : goal.Goal) → variables_of_goals (gs ++ g ∷ []) ≡ variables_of_goals gs ++ variables_of_goal g
 variables_goal_push [] g = append-nil (variables_of_goal g)
@@ -67,27 +65,17 @@ goals_skipped R goals i g us less is e h =
 
 pub goals_more : (R S : Goal → goal.Goal → Type 0) (goals : List SourceGoal) (i : ℕ) (g : SourceGoal) (us new : List goal.Goal) (u : goal.Goal) → ((x : Goal) (y : goal.Goal) → R x y → S x y) → i < length goals → g ≡ get_or goals i g → is_true (goal_view g) ≡ false → new ≡ us ++ u ∷ [] → Each R (doing (goal_views (take i goals))) us → S (goal_view g) u → Each S (doing (goal_views (take (i + 1) goals))) new
 goals_more R S goals i g us new u still less is e grown h k =
-    subst (λ l. Each S l new) (sym (doing_more goals i g false less is e))
-    (subst (Each S (doing (goal_views (take i goals)) ++ goal_view g ∷ [])) (sym grown)
-    (each_push S (doing (goal_views (take i goals))) us (goal_view g) u (each_still R S still (doing (goal_views (take i goals))) us h) k))
+    rw (doing_more goals i g false less is e, grown)
+    (each_push S (doing (goal_views (take i goals))) us (goal_view g) u (each_still R S still (doing (goal_views (take i goals))) us h) k)
 
 pub goals_meet : (first a b : Names) (us new : List goal.Goal) (u : goal.Goal) → new ≡ us ++ u ∷ [] → MeetsAll first (variables_of_goals us) a → MeetsAll a (variables_of_goal u) b → MeetsAll first (variables_of_goals new) b
 goals_meet first a b us new u grown m n =
     subst (λ xs. MeetsAll first xs b) (sym (ap variables_of_goals grown ∙ variables_goal_push us u)) (met_also (variables_of_goals us) (variables_of_goal u) first a b m n)
 
 -- no variable where the call is another
-no_tail_named : (n : Bool) (k : Bool) (o : Option (List ℕ)) → n ≡ false → cond (n && k) o None ≡ None
-no_tail_named false k o e = refl
-no_tail_named true k o e = cc
-
-no_tail_counted : (n : Bool) (k : Bool) (o : Option (List ℕ)) → k ≡ false → cond (n && k) o None ≡ None
-no_tail_counted false k o e = refl
-no_tail_counted true k o e = ap (λ b. cond b o None) e
-
 pub another_has_no_tail : (g : SourceGoal) (c : SourceCall) → g ≡ source.Call c → (bytes_eq c.name (codes "instream") ≡ false) ⊎ (nat_eq (length c.arguments.items) 1 ≡ false) → tail_of (goal_view g) ≡ None
-another_has_no_tail g c is (inl e) = ap (λ x. tail_of (goal_view x)) is ∙ no_tail_named (bytes_eq c.name (codes "instream")) (nat_eq (count (views c.arguments.items)) 1) (first_variable (views c.arguments.items)) e
-another_has_no_tail g c is (inr e) =
-    ap (λ x. tail_of (goal_view x)) is ∙ no_tail_counted (bytes_eq c.name (codes "instream")) (nat_eq (count (views c.arguments.items)) 1) (first_variable (views c.arguments.items)) (ap (λ n. nat_eq n 1) (count_views c.arguments.items) ∙ e)
+another_has_no_tail g c is (inl e) = ap (λ x. tail_of (goal_view x)) is ∙ grind (arith, e)
+another_has_no_tail g c is (inr e) = ap (λ x. tail_of (goal_view x)) is ∙ grind (arith, ap (λ n. nat_eq n 1) (count_views c.arguments.items) ∙ e)
 
 option_still : (o : Option (List ℕ)) (g : Goal) (a b : Names) (u : goal.Goal) → Grows a b → MatchOption o (SaysGoal a g u) (λ v. (k : ℕ) × (x : VarName) × (u ≡ goal.stream k x) × IsCalled a v x) → MatchOption o (SaysGoal b g u) (λ v. (k : ℕ) × (x : VarName) × (u ≡ goal.stream k x) × IsCalled b v x)
 option_still None g a b u grow h = goal_still g a b u grow h
@@ -104,22 +92,12 @@ pub record GoalsSoFar (R : Names → Goal → goal.Goal → Type 0) (gs : List G
 -- A goal `true` is left out.
 pub goals_skip : (R : Names → Goal → goal.Goal → Type 0) (goals : List SourceGoal) (i : ℕ) (g : SourceGoal) (first a later : Names) (us now : List goal.Goal) → later ≡ a → now ≡ us → i < length goals → g ≡ get_or goals i g → is_true (goal_view g) ≡ true → Each (R a) (doing (goal_views (take i goals))) us → MeetsAll first (variables_of_goals us) a → GoalsSoFar R (doing (goal_views (take (i + 1) goals))) first later now
 goals_skip R goals i g first a later us now e f less is t h m =
-    subst (λ names. GoalsSoFar R (doing (goal_views (take (i + 1) goals))) first names now) (sym e)
-    (subst (λ vs. GoalsSoFar R (doing (goal_views (take (i + 1) goals))) first a vs) (sym f) (record { says = goals_skipped (R a) goals i g us less is t h; met = m }))
+    rw (e, f) (record { says = goals_skipped (R a) goals i g us less is t h; met = m })
 
 -- Any other goal is said.
 pub goals_step : (R : Names → Goal → goal.Goal → Type 0) → ((g : Goal) (a b : Names) (u : goal.Goal) → Grows a b → R a g u → R b g u) → (goals : List SourceGoal) (i : ℕ) (g : SourceGoal) (first a b later : Names) (us new now : List goal.Goal) (u : goal.Goal) → later ≡ b → now ≡ new → i < length goals → g ≡ get_or goals i g → is_true (goal_view g) ≡ false → new ≡ us ++ u ∷ [] → Each (R a) (doing (goal_views (take i goals))) us → MeetsAll first (variables_of_goals us) a → R b (goal_view g) u → MeetsAll a (variables_of_goal u) b → GoalsSoFar R (doing (goal_views (take (i + 1) goals))) first later now
 goals_step R still goals i g first a b later us new now u e f less is t grown h m k n =
-    subst (λ names. GoalsSoFar R (doing (goal_views (take (i + 1) goals))) first names now) (sym e)
-    (subst (λ vs. GoalsSoFar R (doing (goal_views (take (i + 1) goals))) first b vs) (sym f)
-    (record {
+    rw (e, f) (record {
       says = goals_more (R a) (R b) goals i g us new u (λ x y r. still x a b y (grows (variables_of_goal u) a b n) r) less is t grown h k;
       met = goals_meet first a b us new u grown m n;
-    }))
-
-pub is_not : (b : Bool) → not b ≡ true → b ≡ false
-is_not true e = cc
-is_not false e = refl
-
-pub another_length : (n m : ℕ) → n ≡ m → (m ≡ 1 → ⊥) → nat_eq n 1 ≡ false
-another_length n m e other = grind (arith, nat_tests)
+    })

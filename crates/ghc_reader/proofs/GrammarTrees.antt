@@ -1,5 +1,5 @@
 -- Each tree that the grammar has a text for is said by a parse tree.
-use Rattle.ghc_reader.proofs.Words.{◌≡◌, ℕ, ◌≤◌, true, false, List, [], ◌∷◌, length, refl, ap, inl, inr, arith, IsTrue, codes, bytes_eq-Decides, VarName, node, trees, list_of, is_cell, is_nil, IsHead, IsInGrammar, AllInGrammar, Tree, Trees, structure, empty, cell, none, some, count, widest, widest_of, SaysBy, SaysAllBy, IsCalled, IsWritable, AreWritable}
+use Rattle.ghc_reader.proofs.Words.{◌≡◌, ℕ, ◌≤◌, List, [], ◌∷◌, length, refl, ap, inl, inr, arith, IsTrue, codes, bytes_eq-Decides, VarName, node, trees, list_of, is_cell, is_nil, IsHead, IsInGrammar, AllInGrammar, Tree, Trees, structure, empty, cell, none, some, count, widest, widest_of, SaysBy, SaysAllBy, IsCalled, IsWritable, AreWritable, false≢true}
 use Rattle.ghc_term.specs.Tree as term
 use Rattle.ghc_reader.specs.Source.{variable, integer}
 use Rattle.ghc_reader.proofs.Meanings.{IsSoundBy, AreSoundBy, NoVariable}
@@ -21,9 +21,6 @@ pub record AreMeant (C : List ℕ → VarName → Type 0) (W : List ℕ → Type
   pub say : SaysAllBy C all listed
   pub counted : count all ≡ length (list_of us)
 
-never : false ≡ true → ⊥
-never e = cc
-
 -- where V holds of the variables, each of which is called by a name that passes W
 module _ (V : VarName → Type 0) (C : List ℕ → VarName → Type 0) (W : List ℕ → Type 0) (call : (x : VarName) → V x → (v : List ℕ) × C v x × W v) where
   abbrev EachIsMeant : term.Trees → Type 0
@@ -37,11 +34,9 @@ module _ (V : VarName → Type 0) (C : List ℕ → VarName → Type 0) (W : Lis
     width = omega arith;
     says = ap (λ g. node g term.none) ((bytes_eq-Decides f (codes "[]")).0 e);
   }
-  nil_meant f (term.more u us) e = absurd (never e)
+  nil_meant f (term.more u us) e = absurd (false≢true e)
 
   cell_meant : (f : List ℕ) (us : term.Trees) → IsTrue (is_cell f us) → EachIsMeant us → IsMeant C W (node f us)
-  cell_meant f term.none e parts = absurd (never e)
-  cell_meant f (term.more a term.none) e parts = absurd (never e)
   cell_meant f (term.more a (term.more b term.none)) e parts =
       let t = parts.0 in
       let u = parts.1.0 in
@@ -51,7 +46,7 @@ module _ (V : VarName → Type 0) (C : List ℕ → VarName → Type 0) (W : Lis
         width = omega (arith, t.width, u.width);
         says = (a, b, ap (λ g. node g (term.more a (term.more b term.none))) ((bytes_eq-Decides f (codes ".")).0 e), t.says, u.says);
       }
-  cell_meant f (term.more a (term.more b (term.more c us))) e parts = absurd (never e)
+  cell_meant f us e parts = absurd (false≢true e)
 
   gathered : (us : term.Trees) → EachIsMeant us → AreMeant C W us
   gathered term.none parts = record { all = none; sound = tt; width = omega arith; listed = []; are = refl; say = refl; counted = refl }

@@ -1,13 +1,12 @@
 -- The fault of an input term: the first variable, or what is amiss in front of it.
 
-use Rattle.ghc_reader.proofs.Words.{◌≡◌, ◌≢◌, ℕ, ◌+◌, ◌-◌, ◌<◌, List, [], ◌∷◌, ◌++◌, length, take, drop, refl, sym, ap, ◌∙◌, subst, arith, append_assoc, length-append, ⊎_elim, take-append-drop, take-append-le, append-nil, eq-or-lt_of_le, take-append_seam, take-append-add, Token, first, NoVariable, StartsWithVariable, Tree, tree_of, Term, Input, term, input, Viable, FaultAt, EndsTerm, EndsWhole, ClosedFront, Found, Fault}
+use Rattle.ghc_reader.proofs.Words.{◌≡◌, ◌≢◌, ℕ, ◌+◌, ◌<◌, List, [], ◌∷◌, ◌++◌, length, take, drop, refl, sym, ap, ◌∙◌, subst, arith, append_assoc, length-append, ⊎_elim, take-append-drop, take-append-le, append-nil, eq-or-lt_of_le, take-append_seam, take-append-add, Token, first, NoVariable, StartsWithVariable, Tree, tree_of, Term, Input, term, input, Viable, FaultAt, EndsTerm, EndsWhole, ClosedFront, Found, Fault}
 use Rattle.ghc_reader.specs.declared.token.Token.TheVariants as token
 use Rattle.ghc_reader.proofs.Append.{term_append}
 use Rattle.ghc_reader.proofs.OneTerm.{one_term}
 use Rattle.ghc_reader.proofs.Faults.{here}
 use Rattle.ghc_reader.proofs.QueryFaults.{none_ends}
 use Rattle.ghc_reader.proofs.GoalFounds.{not_none}
-use Rattle.ghc_reader.proofs.Whole.{fault_in}
 use Rattle.ghc_reader.proofs.Closed.{no_variable, is_closed, filled, fill, fill_closed, fill_tokens, filled_same, filled_append, variable_among, no_variable_push, no_variable_front}
 
 -- ---- a term that is the whole text
@@ -32,9 +31,6 @@ behind_whole ts behind seen x n =
 
 pub whole_found : (ts behind : List Token) (seen : Tree) → Found Term Tree term tree_of EndsTerm ts seen behind → behind ≡ [] → (d : Term) × (ts ≡ term d []) × (tree_of d ≡ seen)
 whole_found ts behind seen x e = (x.derivation, x.spelled ∙ ap (term x.derivation) e, x.sees)
-
-pub whole_fault_at : (ts : List Token) (left : ℕ) → Fault Term term EndsWhole ts left → FaultAt Term term ts (length ts - left)
-whole_fault_at = fault_in Term term EndsWhole (λ q. refl)
 
 -- ---- without variables
 
@@ -70,12 +66,7 @@ fault_before front rest n h s f = record {
     at_end [] s same less v = omega (arith, same, less, length-append front [])
     at_end (token.Variable w ∷ ts) s same less v =
         not_viable front w (subst (Viable Input input) (ap (λ k. take (k + 1) (front ++ token.Variable w ∷ ts)) same ∙ take-append-add front (token.Variable w ∷ ts) 1) v)
-    at_end (token.Name f ∷ ts) s same less v = s
-    at_end (token.Integer k ∷ ts) s same less v = s
-    at_end (token.Mark m ∷ ts) s same less v = s
-    at_end (token.Comparison o ∷ ts) s same less v = s
-    at_end (token.Sum o ∷ ts) s same less v = s
-    at_end (token.Product o ∷ ts) s same less v = s
+    at_end ts s same less v = s
 
     whole_text : (rest : List Token) → n ≡ length (front ++ rest) → (i : Input) → input i [] ≢ front ++ rest
     whole_text [] same i e = f.end (omega (arith, same, length-append front [])) i.term (e ∙ append-nil front)
@@ -93,12 +84,7 @@ variable_stops front (token.Variable w ∷ ts) h s n d e = record {
   token = λ less v. not_viable front w (subst (Viable Input input) (take-append-add front (token.Variable w ∷ ts) 1) v);
   end = λ same i x. omega (arith, same, length-append front (token.Variable w ∷ ts));
 }
-variable_stops front (token.Name f ∷ ts) h s n d e = absurd s
-variable_stops front (token.Integer k ∷ ts) h s n d e = absurd s
-variable_stops front (token.Mark m ∷ ts) h s n d e = absurd s
-variable_stops front (token.Comparison o ∷ ts) h s n d e = absurd s
-variable_stops front (token.Sum o ∷ ts) h s n d e = absurd s
-variable_stops front (token.Product o ∷ ts) h s n d e = absurd s
+variable_stops front ts h s n d e = absurd s
 
 pub at_variable : (ts front : List Token) → ClosedFront ts front → length front ≢ length ts → (d : Term) → front ≡ term d [] → FaultAt Input input ts (length front)
 at_variable ts front c n d e =

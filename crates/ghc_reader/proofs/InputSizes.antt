@@ -1,5 +1,5 @@
 -- What is printed for an input term is no longer than its tokens, and opens no more brackets than they do.
-use Rattle.ghc_reader.proofs.Words.{◌≡◌, ℕ, ◌+◌, ◌-◌, ◌≤◌, max, Bool, true, false, List, [], ◌∷◌, ◌++◌, length, refl, ap, ◌∙◌, arith, length-append, inl, inr, codes, if◌then◌else◌, cases_lt, signed_decimal, node, is_cell, is_nil, term_text, rest_text, cell_text, arguments_text, further_text, barred, IsNameText, nesting, rest_nesting, cell_nesting, arguments_nesting, deepest, Close, CloseList, Comma, Bar, Token, open_behind, open_after, IsTooDeep, Term, variable, integer, call, list, Arguments, without, within, Rest, closed, whole, partial, Terms, one, more, terms, tree_of, trees_of, cells_of}
+use Rattle.ghc_reader.proofs.Words.{◌≡◌, ℕ, ◌+◌, ◌-◌, ◌≤◌, max, Bool, false, List, [], ◌∷◌, ◌++◌, length, refl, ap, ◌∙◌, arith, length-append, inl, inr, codes, if◌then◌else◌, cases_lt, signed_decimal, node, is_cell, is_nil, term_text, rest_text, cell_text, arguments_text, further_text, barred, IsNameText, nesting, rest_nesting, cell_nesting, arguments_nesting, deepest, Close, CloseList, Comma, Bar, Token, open_behind, open_after, IsTooDeep, Term, variable, integer, call, list, without, within, closed, whole, partial, Terms, one, more, terms, tree_of, trees_of, cells_of}
 use Rattle.std.proofs.Common.{append-nil}
 use Rattle.ghc_term.specs.Tree as term
 use Rattle.ghc_reader.specs.declared.token.Token.TheVariants as token
@@ -26,25 +26,17 @@ module _ (f : List ℕ) (ts : term.Trees) (name : IsNameText f) where
 -- ---- the rest of a list is at most a bar and a bracket longer than its tail, and nested no deeper
 
 rest_length : (n c : Bool) (x y : List ℕ) → length (if n then codes "]" else if c then codes "," ++ x else barred y) ≤ 2 + length (if c then codes "[" ++ x else y)
-rest_length true c x y = omega arith
-rest_length false true x y = omega arith
-rest_length false false x y = omega (arith, length-append y (codes "]"))
+rest_length n c x y = grind (arith, length-append)
 
 rest_bytes : (u : term.Tree) → length (rest_text u) ≤ 2 + length (term_text u)
 rest_bytes (term.variable x) = rest_length false false [] (term_text (term.variable x))
 rest_bytes (term.integer k) = rest_length false false [] (signed_decimal k)
 rest_bytes (node f ts) = rest_length (is_nil f ts) (is_cell f ts) (cell_text ts) (f ++ arguments_text ts)
 
-rest_depth : (n c : Bool) (x y : ℕ) → (if n then 0 else if c then x else y) ≤ (if c then 1 + x else if n then 1 else y)
-rest_depth true true x y = omega arith
-rest_depth true false x y = omega arith
-rest_depth false true x y = omega arith
-rest_depth false false x y = omega arith
-
 rest_deep : (u : term.Tree) → rest_nesting u ≤ nesting u
 rest_deep (term.variable x) = omega arith
 rest_deep (term.integer k) = omega arith
-rest_deep (node f ts) = rest_depth (is_nil f ts) (is_cell f ts) (cell_nesting ts) (arguments_nesting ts)
+rest_deep (node f ts) = grind arith
 
 -- ---- bytes
 

@@ -1,9 +1,10 @@
 -- What the loops over terms and operands keep.
-use Rattle.ghc_reader.proofs.Words.{◌≡◌, ◌≢◌, List, [], ◌∷◌, ◌++◌, map, Option, Some, refl, sym, ap, ◌∙◌, Sum, Product, Comma, Token, first, Term, Terms, one, more, Operand, Factors, factor, factors, Expression, summand, summands, term, terms, operand, expression, EndsTerm, EndsTerms, EndsOperand, EndsProduct, Found, tree_of, trees_of, operand_of, product_of, product_onto, value_of, sum_onto, map_push, SourceTerm, SourceExpression, Tree, Trees, none, some, Goal, cell, cells, Value, products, sums, view, views, value_view, factor_views, summand_views}
+use Rattle.ghc_reader.proofs.Words.{◌≡◌, ◌≢◌, List, [], ◌∷◌, ◌++◌, map, Option, Some, refl, sym, ap, ◌∙◌, Sum, Product, Comma, Token, first, Term, Terms, one, more, Operand, Factors, factor, factors, Expression, summand, summands, term, terms, operand, expression, EndsTerm, EndsTerms, EndsOperand, EndsProduct, Found, tree_of, trees_of, operand_of, product_of, product_onto, value_of, sum_onto, map_push, SourceTerm, SourceExpression, Tree, Trees, none, some, Value, products, sums, view, views, value_view, factor_views, summand_views}
 use Rattle.ghc_reader.specs.declared.token.Token.TheVariants as token
 use Rattle.ghc_reader.specs.Grammar.{product}
 use Rattle.ghc_reader.specs.Source as tree
 use Rattle.ghc_reader.proofs.TermFaults.{also, terms_also}
+use Rattle.ghc_reader.proofs.ExpressionsLowered.{products_push, sums_push}
 use Rattle.ghc_reader.proofs.ExpressionFaults.{also_factor, product_also, also_summand, expression_also}
 
 -- the last term is whole, and a comma may follow it
@@ -87,21 +88,13 @@ sum_also_of : (x : Expression) (o : Sum) (u : Factors) → value_of (also_summan
 sum_also_of (summand v) o u = refl
 sum_also_of (summands v j x) o u = sum_onto_also (product_of v) j o x u
 
-products_push : (left : Value) (xs : List (Product × Value)) (o : Product) (a : Value) → products left (xs ++ (o, a) ∷ []) ≡ tree.product o (products left xs) a
-products_push left [] o a = refl
-products_push left (x ∷ xs) o a = products_push (tree.product x.0 left x.1) xs o a
-
-sums_push : (left : Value) (xs : List (Sum × Value)) (o : Sum) (a : Value) → sums left (xs ++ (o, a) ∷ []) ≡ tree.sum o (sums left xs) a
-sums_push left [] o a = refl
-sums_push left (x ∷ xs) o a = sums_push (tree.sum x.0 left x.1) xs o a
-
 factors_push : (left : Value) (a b : List (Product × SourceExpression)) (o : Product) (u : SourceExpression) → b ≡ a ++ (o, u) ∷ [] → products left (factor_views b) ≡ tree.product o (products left (factor_views a)) (value_view u)
 factors_push left a b o u e =
-    ap (λ l. products left (factor_views l)) e ∙ ap (products left) (map_push (λ x. (x.0, value_view x.1)) a (o, u)) ∙ products_push left (factor_views a) o (value_view u)
+    ap (λ l. products left (factor_views l)) e ∙ ap (products left) (map_push (λ x. (x.0, value_view x.1)) a (o, u)) ∙ products_push left (factor_views a) (o, value_view u)
 
 summands_push : (left : Value) (a b : List (Sum × SourceExpression)) (o : Sum) (u : SourceExpression) → b ≡ a ++ (o, u) ∷ [] → sums left (summand_views b) ≡ tree.sum o (sums left (summand_views a)) (value_view u)
 summands_push left a b o u e =
-    ap (λ l. sums left (summand_views l)) e ∙ ap (sums left) (map_push (λ x. (x.0, value_view x.1)) a (o, u)) ∙ sums_push left (summand_views a) o (value_view u)
+    ap (λ l. sums left (summand_views l)) e ∙ ap (sums left) (map_push (λ x. (x.0, value_view x.1)) a (o, u)) ∙ sums_push left (summand_views a) (o, value_view u)
 
 pub factors_one : (ts behind : List Token) (a : Value) (others : List (Product × SourceExpression)) → others ≡ [] → Found Operand Value operand operand_of EndsOperand ts a behind → FactorsSoFar ts (products a (factor_views others)) behind
 factors_one ts behind a others e x = record {

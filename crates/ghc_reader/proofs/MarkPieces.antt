@@ -1,5 +1,5 @@
 -- Each mark of an input term stands at the front of any text that begins with it.
-use Rattle.ghc_reader.proofs.Words.{◌≡◌, ℕ, ◌≤◌, ◌==◌, ◌||◌, Bool, true, false, List, [], ◌∷◌, ◌++◌, length, get_or, refl, ap, ◌∙◌, arith, IsTrue, nat_tests, is_blank, is_word, spelling, Stands, Mark, Open, Close, OpenList, CloseList, Comma, Bar, Equals, Assign, Define, Stop, Less, Greater, Plus, Minus, Modulo, Symbol}
+use Rattle.ghc_reader.proofs.Words.{◌≡◌, ℕ, ◌≤◌, ◌==◌, ◌||◌, Bool, true, false, List, [], ◌∷◌, ◌++◌, length, get_or, refl, ap, ◌∙◌, arith, IsTrue, nat_tests, is_blank, is_word, spelling, Stands, Mark, Open, Close, OpenList, CloseList, Comma, Bar, Symbol, false≢true}
 use Rattle.ghc_reader.specs.declared.lexer.symbol.Symbol.TheVariants as symbol
 use Rattle.ghc_reader.specs.declared.lexer.front.Kind.TheVariants as kind
 use Rattle.ghc_reader.proofs.Forms.{symbol_stands}
@@ -12,40 +12,22 @@ is_plain OpenList = true
 is_plain CloseList = true
 is_plain Comma = true
 is_plain Bar = true
-is_plain Equals = false
-is_plain Assign = false
-is_plain Define = false
-is_plain Stop = false
+is_plain _ = false
 
 -- a longer symbol begins with the byte
 abbrev begins_long : ℕ → Bool
 begins_long b = b == 58 || b == 61 || b == 62 || b == 109
 
 pub alone : (other : Symbol) (b : ℕ) (rest more : List ℕ) → begins_long b ≡ false → b ∷ rest ≡ spelling other ++ more → length (spelling other) ≤ 1
-alone other b rest more short e = by_symbol other (ap (λ l. get_or l 0 0) e)
-  where
-    by_symbol : (s : Symbol) → b ≡ get_or (spelling s ++ more) 0 0 → length (spelling s) ≤ 1
-    by_symbol (symbol.Mark Assign) first = absurd (grind (arith, nat_tests))
-    by_symbol (symbol.Mark Define) first = absurd (grind (arith, nat_tests))
-    by_symbol (symbol.Mark m) first = omega arith
-    by_symbol (symbol.Comparison Less) first = omega arith
-    by_symbol (symbol.Comparison Greater) first = omega arith
-    by_symbol (symbol.Comparison c) first = absurd (grind (arith, nat_tests))
-    by_symbol (symbol.Sum Plus) first = omega arith
-    by_symbol (symbol.Sum Minus) first = omega arith
-    by_symbol (symbol.Product Modulo) first = absurd (grind (arith, nat_tests))
-    by_symbol (symbol.Product p) first = omega arith
+alone other b rest more short e = let first = ap (λ l. get_or l 0 0) e in grind (arith, nat_tests, first)
 
 -- a symbol of one byte that begins nothing else
 pub alone_stands : (signs : Bool) (s : Symbol) (b : ℕ) (rest : List ℕ) → b ∷ [] ≡ spelling s → begins_long b ≡ false
     → is_word b ≡ false → is_blank b ≡ false → (b == 37) ≡ false → (b == 45) ≡ false
     → Stands signs (record { kind = kind.Symbol s; bytes = b ∷ [] }) rest
 alone_stands signs s b rest spelled short word blank percent minus =
-    symbol_stands signs (b ∷ rest) (b ∷ []) rest s (record { no_word = word; no_blank = blank; no_percent = percent; no_sign = λ h. no_minus h.1.0 }) refl spelled
+    symbol_stands signs (b ∷ rest) (b ∷ []) rest s (record { no_word = word; no_blank = blank; no_percent = percent; no_sign = λ h. grind (arith, nat_tests, h.1.0) }) refl spelled
     (λ other more e. omega (arith, ap length spelled, alone other b rest more short (ap (λ l. l ++ rest) spelled ∙ e)))
-  where
-    no_minus : b ≡ 45 → ⊥
-    no_minus e = absurd (grind (arith, nat_tests))
 
 pub mark_stands : (signs : Bool) (m : Mark) (rest : List ℕ) → IsTrue (is_plain m) → Stands signs (record { kind = kind.Symbol (symbol.Mark m); bytes = spelling (symbol.Mark m) }) rest
 mark_stands signs Open rest plain = alone_stands signs (symbol.Mark Open) 40 rest refl refl refl refl refl refl
@@ -54,7 +36,4 @@ mark_stands signs OpenList rest plain = alone_stands signs (symbol.Mark OpenList
 mark_stands signs CloseList rest plain = alone_stands signs (symbol.Mark CloseList) 93 rest refl refl refl refl refl refl
 mark_stands signs Comma rest plain = alone_stands signs (symbol.Mark Comma) 44 rest refl refl refl refl refl refl
 mark_stands signs Bar rest plain = alone_stands signs (symbol.Mark Bar) 124 rest refl refl refl refl refl refl
-mark_stands signs m rest plain = absurd (not_plain plain)
-  where
-    not_plain : false ≡ true → ⊥
-    not_plain e = cc
+mark_stands signs m rest plain = absurd (false≢true plain)

@@ -1,5 +1,5 @@
 -- The one term that a parse tree without variables says.
-use Rattle.ghc_reader.proofs.Words.{◌≡◌, ℕ, ◌≤◌, List, [], ◌∷◌, length, true, false, refl, sym, ap, ◌∙◌, subst, inl, inr, arith, FitsSigned, w64, bytes_eq, IsTrue, is_ascii_lowercase, bytes_eq-Decides, node, trees, nil, cons, list_of, is_cell, is_nil, IsNameText, IsInGrammar, AllInGrammar, Tree, Trees, structure, empty, cell, none, some, count, widest, widest_of, nodes, nodes_of, Says, SaysAll}
+use Rattle.ghc_reader.proofs.Words.{◌≡◌, ℕ, ◌≤◌, List, [], ◌∷◌, length, false, refl, ap, ◌∙◌, inl, inr, arith, FitsSigned, w64, bytes_eq, is_ascii_lowercase, node, trees, nil, cons, list_of, is_cell, is_nil, IsNameText, IsInGrammar, AllInGrammar, Tree, Trees, structure, empty, cell, none, some, count, widest, widest_of, nodes, nodes_of, Says, SaysAll, nat_tests}
 use Rattle.ghc_term.specs.Tree as term
 use Rattle.ghc_term.specs.InputTerm as input
 use Rattle.ghc_reader.specs.Source.{variable, integer}
@@ -20,10 +20,9 @@ abbrev mutual
 mutual
   pub said : (t : Tree) (u : term.Tree) → Says [] t u → u ≡ meaning t
   said (variable v) u s = let clash = s.2.1 in cc
-  said (integer n) u s = s
   said (structure f ts) u s = s.1 ∙ ap (node f) (all_said ts s.0 s.2)
-  said empty u s = s
   said (cell t rest) u s = s.2 ∙ (λ i. cons (said t s.0 s.3 i) (said rest s.1 s.4 i))
+  said t u s = s
 
   all_said : (ts : Trees) (us : List term.Tree) → SaysAll [] ts us → trees us ≡ meanings ts
   all_said none us s = ap trees s
@@ -31,11 +30,9 @@ mutual
 
 mutual
   pub nodes_of_meaning : (t : Tree) → input.nodes (meaning t) ≡ nodes t
-  nodes_of_meaning (variable v) = refl
-  nodes_of_meaning (integer n) = refl
   nodes_of_meaning (structure f ts) = omega (arith, nodes_of_meanings ts)
-  nodes_of_meaning empty = refl
   nodes_of_meaning (cell t rest) = omega (arith, nodes_of_meaning t, nodes_of_meaning rest)
+  nodes_of_meaning t = refl
 
   nodes_of_meanings : (ts : Trees) → input.nodes_of_all (meanings ts) ≡ nodes_of ts
   nodes_of_meanings none = refl
@@ -91,26 +88,12 @@ mutual
 -- ---- a name of the grammar is neither that of a list cell nor that of the empty list
 
 no_text : (f : List ℕ) (b : ℕ) (bs : List ℕ) → is_ascii_lowercase b ≡ false → IsNameText f → bytes_eq f (b ∷ bs) ≡ false
-no_text f b bs other name =
-    elim (bytes_eq f (b ∷ bs)) as (λ v. bytes_eq f (b ∷ bs) ≡ v → v ≡ false) [
-      | true ↦ λ e. absurd (clash f name ((bytes_eq-Decides f (b ∷ bs)).0 e))
-      | false ↦ λ e. refl
-    ] refl
-  where
-    clash : (g : List ℕ) → IsNameText g → g ≡ b ∷ bs → ⊥
-    clash [] n e = n
-    clash (c ∷ cs) n e =
-        let same : c ≡ b = cc in
-        let lower : is_ascii_lowercase b ≡ true = subst (λ x. IsTrue (is_ascii_lowercase x)) same n.0 in
-        let both : true ≡ false = sym lower ∙ other in
-        cc
+no_text [] b bs other name = absurd name
+no_text (c ∷ cs) b bs other name = grind (arith, nat_tests, name.0)
 
 pub name_no_cell : (f : List ℕ) (ts : term.Trees) → IsNameText f → is_cell f ts ≡ false
-name_no_cell f term.none n = refl
-name_no_cell f (term.more t term.none) n = refl
 name_no_cell f (term.more t (term.more u term.none)) n = no_text f 46 [] refl n
-name_no_cell f (term.more t (term.more u (term.more v vs))) n = refl
+name_no_cell f ts n = refl
 
 pub name_no_nil : (f : List ℕ) (ts : term.Trees) → IsNameText f → is_nil f ts ≡ false
-name_no_nil f term.none n = no_text f 91 (93 ∷ []) refl n
-name_no_nil f (term.more t ts) n = refl
+name_no_nil f ts n = grind (arith, no_text)

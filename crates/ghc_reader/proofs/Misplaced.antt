@@ -5,8 +5,7 @@ use Rattle.ghc_reader.specs.declared.source.SourceTerm.TheViews as w
 use Rattle.ghc_reader.proofs.Views.{view_list}
 
 first_of : (a b : List ℕ) (n : ℕ) → Some n ≡ first_place a → first_place (a ++ b) ≡ first_place a
-first_of [] b n e = cc
-first_of (m ∷ a) b n e = refl
+first_of a b n e = grind arith
 
 -- the list around one of its elements
 around : {A : Type 0} (xs : List A) (i : ℕ) (x : A) → i < length xs → x ≡ get_or xs i x → xs ≡ take i xs ++ x ∷ drop (suc i) xs

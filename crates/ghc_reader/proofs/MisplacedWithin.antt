@@ -16,8 +16,7 @@ wider : (m k : ℕ) (ns : List ℕ) → m ≤ k → StartsWithin m ns → Starts
 wider m k ns less within n e = let h = within n e in omega arith
 
 joined : (m : ℕ) (a b : List ℕ) → StartsWithin m a → StartsWithin m b → StartsWithin m (a ++ b)
-joined m [] b within within' n e = within' n e
-joined m (x ∷ a) b within within' n e = within n e
+joined m a b within within' n e = grind arith
 
 placed : (m : ℕ) (b : Bool) (c : Call) → c.left ≤ m → StartsWithin m (place_if b c)
 placed m true c less n e =

@@ -1,10 +1,10 @@
 -- The names that stand in a parse tree, in order; and what says the tree has variables that are called so, in order.
-use Rattle.ghc_reader.proofs.Words.{◌≡◌, ℕ, List, [], ◌∷◌, ◌++◌, Bool, true, false, cond, Option, Some, None, refl, sym, ap, ◌∙◌, subst, arith, MatchOption, ◌&&◌, not, bytes_eq, nat_eq, codes, flat_map, append-nil, nat_tests, VarName, variables_of_list, variables_of_expression, leaf_variables, variables_of_goal, variables_of_goals, Guard, Tree, Trees, structure, empty, cell, none, some, Value, number, named, product, sum, Goal, WrittenClause, WrittenQuery, variables_of_guard, variables_of_guards, variables_of_written, Names, IsCalled, SaysBy, SaysAllBy, SaysValueBy, SaysGoalBy, SaysValue, SaysGoal, SaysAsked, SaysGuard, SaysClause, SaysQuery, Each, first_variable, tail_of, is_true, doing, count, names as names_in, names_of as names_in_all, names_in as names_in_value, names_of_goal as names_in_goal, names_of_goals, names_of_test as names_in_test, names_of_clause}
+use Rattle.ghc_reader.proofs.Words.{◌≡◌, ℕ, List, [], ◌∷◌, ◌++◌, Bool, true, false, cond, Option, Some, None, refl, sym, ap, ◌∙◌, subst, arith, MatchOption, ◌&&◌, not, bytes_eq, nat_eq, codes, flat_map, append-nil, nat_tests, VarName, variables_of_list, variables_of_expression, leaf_variables, variables_of_goal, variables_of_goals, Guard, Tree, Trees, structure, cell, none, some, Value, number, named, product, sum, Goal, WrittenClause, WrittenQuery, variables_of_guard, variables_of_guards, variables_of_written, Names, IsCalled, SaysBy, SaysAllBy, SaysValueBy, SaysGoalBy, SaysValue, SaysGoal, SaysAsked, SaysGuard, SaysClause, SaysQuery, Each, first_variable, tail_of, is_true, doing, count, names as names_in, names_of as names_in_all, names_in as names_in_value, names_of_goal as names_in_goal, names_of_goals, names_of_test as names_in_test, names_of_clause}
 use Rattle.ghc_term.specs.Tree as term
 use Rattle.ghc_term.specs.Expression.{Expression}
 use Rattle.ghc_term.specs.Goal as goal
 use Rattle.ghc_term.specs.Variables.{variables}
-use Rattle.ghc_reader.specs.Source.{variable, integer, call, unify, assign, Test, plain, compare, Clause}
+use Rattle.ghc_reader.specs.Source.{variable, call, unify, assign, Test, plain, compare, Clause}
 use Rattle.ghc_reader.specs.Reserved.{is_stream}
 use Rattle.ghc_reader.proofs.TermsLowered.{variables_of_trees}
 use Rattle.ghc_reader.proofs.ClausesLowered.{leaves_are_all}
@@ -12,8 +12,7 @@ use Rattle.ghc_reader.proofs.ClausesLowered.{leaves_are_all}
 -- ---- the names of the goals that do something are those of all
 
 second : (a b : Bool) → (a && b) ≡ true → b ≡ true
-second true b e = e
-second false b e = cc
+second a b e = grind arith
 
 no_arguments : (ts : Trees) → nat_eq (count ts) 0 ≡ true → names_in_all ts ≡ []
 no_arguments none e = refl
@@ -34,13 +33,9 @@ doing_names (g ∷ gs) = by_test (is_true g) refl (doing_names gs)
     by_test false e same = ap (λ l. names_in_goal g ++ l) same
 
 one_argument : (ts : Trees) (v : List ℕ) → nat_eq (count ts) 1 ≡ true → first_variable ts ≡ Some v → names_in_all ts ≡ v ∷ []
-one_argument none v n e = cc
 one_argument (some (variable w) none) v n e = let same : w ≡ v = cc in ap (λ x. x ∷ []) same
 one_argument (some (variable w) (some t ts)) v n e = absurd (grind (arith, nat_tests, n))
-one_argument (some (integer i) ts) v n e = cc
-one_argument (some (structure f us) ts) v n e = cc
-one_argument (some empty ts) v n e = cc
-one_argument (some (cell t u) ts) v n e = cc
+one_argument ts v n e = cc
 
 -- a stream has the variable of its tail
 tail_names : (g : Goal) (v : List ℕ) → tail_of g ≡ Some v → names_in_goal g ≡ v ∷ []
@@ -56,9 +51,8 @@ tail_names (assign w a) v e = cc
 
 each_join : {X Y : Type 0} (R : X → Y → Type 0) (xs ws : List X) (ys zs : List Y) → Each R xs ys → Each R ws zs → Each R (xs ++ ws) (ys ++ zs)
 each_join R [] ws [] zs h k = k
-each_join R [] ws (y ∷ ys) zs h k = absurd h
-each_join R (x ∷ xs) ws [] zs h k = absurd h
 each_join R (x ∷ xs) ws (y ∷ ys) zs h k = (h.0, each_join R xs ws ys zs h.1 k)
+each_join R xs ws ys zs h k = absurd h
 
 variables_of_goals_are : (gs : List goal.Goal) → flat_map variables_of_goal gs ≡ variables_of_goals gs
 variables_of_goals_are [] = refl
@@ -80,42 +74,35 @@ module _ (C : List ℕ → VarName → Type 0) where
   mutual
     called_term : (t : Tree) (u : term.Tree) → SaysBy C t u → AreCalled (names_in t) (variables u)
     called_term (variable v) u h = subst (λ w. AreCalled (v ∷ []) (variables w)) (sym h.1) (h.2, tt)
-    called_term (integer n) u h = subst (λ w. AreCalled [] (variables w)) (sym h) tt
     called_term (structure f ts) u h = subst (AreCalled (names_in_all ts)) (sym (ap variables h.1 ∙ variables_of_trees h.0)) (called_terms ts h.0 h.2)
-    called_term empty u h = subst (λ w. AreCalled [] (variables w)) (sym h) tt
     called_term (cell t rest) u h =
-        subst (AreCalled (names_in t ++ names_in rest)) (sym (ap variables h.2 ∙ ap (λ xs. variables h.0 ++ xs) (append-nil (variables h.1))))
-        (join (names_in t) (names_in rest) (variables h.0) (variables h.1) (called_term t h.0 h.3) (called_term rest h.1 h.4))
+        rw (h.2, append-nil (variables h.1)) (join _ _ _ _ (called_term t h.0 h.3) (called_term rest h.1 h.4))
+    called_term t u h = subst (λ w. AreCalled [] (variables w)) (sym h) tt
 
     called_terms : (ts : Trees) (us : List term.Tree) → SaysAllBy C ts us → AreCalled (names_in_all ts) (variables_of_list us)
     called_terms none us h = subst (λ w. AreCalled [] (variables_of_list w)) (sym h) tt
     called_terms (some t ts) us h =
-        subst (λ w. AreCalled (names_in t ++ names_in_all ts) (variables_of_list w)) (sym h.2)
-        (join (names_in t) (names_in_all ts) (variables h.0) (variables_of_list h.1) (called_term t h.0 h.3) (called_terms ts h.1 h.4))
+        rw h.2 (join (names_in t) (names_in_all ts) (variables h.0) (variables_of_list h.1) (called_term t h.0 h.3) (called_terms ts h.1 h.4))
 
   called_value : (v : Value) (e : Expression) → SaysValueBy C v e → AreCalled (names_in_value v) (variables_of_expression e)
   called_value (number n) e h = subst (λ w. AreCalled [] (variables_of_expression w)) (sym h) tt
   called_value (named v) e h = subst (λ w. AreCalled (v ∷ []) (variables_of_expression w)) (sym h.1) (h.2, tt)
   called_value (product o a b) e h =
-      subst (λ w. AreCalled (names_in_value a ++ names_in_value b) (variables_of_expression w)) (sym h.2)
-      (join (names_in_value a) (names_in_value b) (variables_of_expression h.0) (variables_of_expression h.1) (called_value a h.0 h.3) (called_value b h.1 h.4))
+      rw h.2 (join _ _ _ _ (called_value a h.0 h.3) (called_value b h.1 h.4))
   called_value (sum o a b) e h =
-      subst (λ w. AreCalled (names_in_value a ++ names_in_value b) (variables_of_expression w)) (sym h.2)
-      (join (names_in_value a) (names_in_value b) (variables_of_expression h.0) (variables_of_expression h.1) (called_value a h.0 h.3) (called_value b h.1 h.4))
+      rw h.2 (join _ _ _ _ (called_value a h.0 h.3) (called_value b h.1 h.4))
 
   called_goal : (g : Goal) (w : goal.Goal) → SaysGoalBy C g w → AreCalled (names_in_goal g) (variables_of_goal w)
   called_goal (call c) w h = subst (λ x. AreCalled (names_in_all c.arguments) (variables_of_goal x)) (sym h.1) (called_terms c.arguments h.0 h.2)
   called_goal (unify s t) w h =
-      subst (λ x. AreCalled (names_in s ++ names_in t) (variables_of_goal x)) (sym h.2)
-      (join (names_in s) (names_in t) (variables h.0) (variables h.1) (called_term s h.0 h.3) (called_term t h.1 h.4))
+      rw h.2 (join (names_in s) (names_in t) (variables h.0) (variables h.1) (called_term s h.0 h.3) (called_term t h.1 h.4))
   called_goal (assign v e) w h = subst (λ x. AreCalled (v ∷ names_in_value e) (variables_of_goal x)) (sym h.2) (h.3, called_value e h.1 h.4)
 
   -- of each in a list
   called_each : {X Y : Type 0} (R : X → Y → Type 0) (f : X → Names) (g : Y → List VarName) → ((x : X) (y : Y) → R x y → AreCalled (f x) (g y)) → (xs : List X) (ys : List Y) → Each R xs ys → AreCalled (flat_map f xs) (flat_map g ys)
   called_each R f g one [] [] h = tt
-  called_each R f g one [] (y ∷ ys) h = absurd h
-  called_each R f g one (x ∷ xs) [] h = absurd h
   called_each R f g one (x ∷ xs) (y ∷ ys) h = join (f x) (flat_map f xs) (g y) (flat_map g ys) (one x y h.0) (called_each R f g one xs ys h.1)
+  called_each R f g one xs ys h = absurd h
 
   called_goals : (gs : List Goal) (ws : List goal.Goal) → Each (SaysGoalBy C) gs ws → AreCalled (flat_map names_in_goal gs) (variables_of_goals ws)
   called_goals gs ws h = subst (AreCalled (flat_map names_in_goal gs)) (variables_of_goals_are ws) (called_each (SaysGoalBy C) names_in_goal variables_of_goal called_goal gs ws h)
@@ -128,8 +115,7 @@ module _ (names : Names) where
   called_guard : (t : Test) (w : Guard) → SaysGuard names t w → AreCalled (IsCalled names) (names_in_test t) (variables_of_guard w)
   called_guard (plain g) w h = subst (λ x. AreCalled (IsCalled names) (names_in_goal g) (variables_of_guard x)) (sym h.1) (called_goal (IsCalled names) g h.0 h.2)
   called_guard (compare a o b) w h =
-      subst (λ x. AreCalled (IsCalled names) (names_in_value a ++ names_in_value b) (variables_of_guard x)) (sym h.2)
-      (join (IsCalled names) (names_in_value a) (names_in_value b) (leaf_variables h.0) (leaf_variables h.1) (called_leaves a h.0 h.3) (called_leaves b h.1 h.4))
+      rw h.2 (join (IsCalled names) _ _ _ _ (called_leaves a h.0 h.3) (called_leaves b h.1 h.4))
     where
       called_leaves : (v : Value) (e : Expression) → SaysValue names v e → AreCalled (IsCalled names) (names_in_value v) (leaf_variables e)
       called_leaves v e k = subst (AreCalled (IsCalled names) (names_in_value v)) (sym (leaves_are_all v names e k)) (called_value (IsCalled names) v e k)
@@ -139,7 +125,7 @@ module _ (names : Names) where
 
   called_asked : (gs : List Goal) (ws : List goal.Goal) → Each (SaysAsked names) gs ws → AreCalled (IsCalled names) (flat_map names_in_goal gs) (variables_of_goals ws)
   called_asked gs ws h =
-      subst (AreCalled (IsCalled names) (flat_map names_in_goal gs)) (variables_of_goals_are ws)
+      rw (variables_of_goals_are ws) at
       (called_each (IsCalled names) (SaysAsked names) names_in_goal variables_of_goal (λ g w s. called_by_tail (tail_of g) g w refl s) gs ws h)
 
 -- The variables of a written clause are called as the names in its parse tree.

@@ -1,6 +1,5 @@
 -- Variables that are met from no names on are numbered by first occurrence, each with its name.
-use Rattle.ghc_reader.proofs.Words.{◌≡◌, ◌≢◌, ◌⊎◌, ℕ, ◌+◌, ◌<◌, zero, suc, List, [], ◌∷◌, ◌++◌, length, Bool, true, false, cond, Some, refl, sym, ap, ◌∙◌, subst, inl, inr, arith, slice_get, list_any, ◌||◌, Ordering, eq_by_cmp, is_eq, cases_lt, eq_by_cmp_equiv, length_push, slice_get_within, VarName, name_cmp, firsts, name_total, name_antisymmetric, Names, blank, IsCalled, AreNamed, IsFresh, IsKnown, Meets, MeetsAll}
-use Rattle.std.specs.declared.cmp.Ordering.TheVariants.{Less, Equal, Greater}
+use Rattle.ghc_reader.proofs.Words.{◌≡◌, ◌≢◌, ◌⊎◌, ℕ, ◌+◌, ◌<◌, zero, suc, List, [], ◌∷◌, ◌++◌, length, Bool, true, false, cond, Some, refl, sym, ap, ◌∙◌, subst, inl, inr, arith, slice_get, list_any, eq_by_cmp, cases_lt, or_cases, or_left, or_right, length_push, slice_get_within, VarName, name_cmp, firsts, itself, same_name, Names, blank, IsCalled, AreNamed, IsFresh, IsKnown, Meets, MeetsAll, false≢true, false_from_ne_true}
 use Rattle.ghc_reader.proofs.Names.{get_left, get_last, get_push}
 use Rattle.ghc_reader.proofs.Scopes.{grows, grows_met, grows_twice, called_still}
 
@@ -17,44 +16,18 @@ pub record Seen (n : ℕ) (seen : List VarName) : Type 0 where
   pub below : (x : VarName) → is_seen x seen ≡ true → (i : ℕ) × (i < n) × (x ≡ number (i + 1))
   pub all : (i : ℕ) → i < n → is_seen (number (i + 1)) seen ≡ true
 
-is_equal : (o : Ordering) → is_eq o ≡ true → o ≡ Equal
-is_equal Less e = cc
-is_equal Equal e = refl
-is_equal Greater e = cc
-
-pub one_name : (x y : VarName) → eq_by_cmp name_cmp x y ≡ true → x ≡ y
-one_name x y e = name_antisymmetric x y (is_equal (name_cmp x y) e)
-
-itself : (x : VarName) → eq_by_cmp name_cmp x x ≡ true
-itself x = (eq_by_cmp_equiv name_total).refl x
-
-either : (a b : Bool) → (a || b) ≡ true → (a ≡ true) ⊎ (b ≡ true)
-either true b e = inl refl
-either false b e = inr e
-
-or_left : (a b : Bool) → a ≡ true → (a || b) ≡ true
-or_left true b e = refl
-or_left false b e = cc
-
-or_right : (a b : Bool) → b ≡ true → (a || b) ≡ true
-or_right true b e = refl
-or_right false b e = e
-
 pub test_cases : (b : Bool) → (b ≡ true) ⊎ (b ≡ false)
 test_cases true = inl refl
 test_cases false = inr refl
 
 pub seen_none : Seen 0 []
-seen_none = record { below = λ x e. absurd (nothing e); all = λ i h. absurd (omega arith) }
-  where
-    nothing : false ≡ true → ⊥
-    nothing e = cc
+seen_none = record { below = λ x e. absurd (false≢true e); all = λ i h. absurd (omega arith) }
 
 pub seen_next : (n : ℕ) (seen : List VarName) (x : VarName) → x ≡ number (n + 1) → Seen n seen → Seen (n + 1) (x ∷ seen)
 seen_next n seen x is s = record { below = below; all = all }
   where
     below : (y : VarName) → is_seen y (x ∷ seen) ≡ true → (i : ℕ) × (i < n + 1) × (y ≡ number (i + 1))
-    below y e = elim (either (eq_by_cmp name_cmp y x) (is_seen y seen) e) [ inl h ↦ (n, omega arith, one_name y x h ∙ is) | inr h ↦ let b = s.below y h in (b.0, omega (arith, b.1), b.2) ]
+    below y e = elim (or_cases (eq_by_cmp name_cmp y x) (is_seen y seen) e) [ inl h ↦ (n, omega arith, same_name y x h ∙ is) | inr h ↦ let b = s.below y h in (b.0, omega (arith, b.1), b.2) ]
 
     all : (i : ℕ) → i < n + 1 → is_seen (number (i + 1)) (x ∷ seen) ≡ true
     all i h = elim (cases_lt i n) [
@@ -68,12 +41,10 @@ known_is_seen : (names : Names) (seen : List VarName) (x : VarName) → Seen (le
 known_is_seen names seen x s k = ap (λ y. is_seen y seen) k.4 ∙ s.all k.0 (slice_get_within names k.0 k.1 k.2)
 
 next_is_unseen : (n : ℕ) (seen : List VarName) (x : VarName) → Seen n seen → x ≡ number (n + 1) → is_seen x seen ≡ false
-next_is_unseen n seen x s is = elim (test_cases (is_seen x seen)) [
-  | inl found ↦ let b = s.below x found in
-      let same_place : n + 1 ≡ b.0 + 1 = ap (λ y. y.place) (sym is ∙ b.2) in
-      absurd (omega (arith, b.1, same_place))
-  | inr absent ↦ absent
-]
+next_is_unseen n seen x s is = false_from_ne_true _ (λ found.
+    let b = s.below x found in
+    let same_place : n + 1 ≡ b.0 + 1 = ap (λ y. y.place) (sym is ∙ b.2) in
+    omega (arith, b.1, same_place))
 
 -- From these names on, the variables that are met first are the next numbers, and the later names are as many more.
 record Follow (names later : Names) (new : List VarName) : Type 0 where

@@ -10,9 +10,7 @@ mutual
   one_operand (number m) (number n) a b e = record { derivation = cc; behind = cc }
   one_operand (named v) (named w) a b e = record { derivation = cc; behind = cc }
   one_operand (nested x) (nested y) a b e =
-      let tail : expression x (token.Mark Close ∷ a) ≡ expression y (token.Mark Close ∷ b) = cc in
-      let s = one_expression x y (token.Mark Close ∷ a) (token.Mark Close ∷ b) (ends_expression Close x) (ends_expression Close y) tail in
-      let behind = s.behind in
+      let s = one_expression x y (token.Mark Close ∷ a) (token.Mark Close ∷ b) (ends_expression Close x) (ends_expression Close y) (cc) in
       record { derivation = ap nested s.derivation; behind = cc }
   one_operand c d a b e = cc
 
@@ -25,11 +23,7 @@ mutual
       let s = one_operand u v (token.Product o ∷ product x a) b e in absurd (q o (sym (ap first s.behind)))
   one_product (factors u o x) (factors v k y) a b p q e =
       let s = one_operand u v (token.Product o ∷ product x a) (token.Product k ∷ product y b) e in
-      let behind = s.behind in
-      let tail : product x a ≡ product y b = cc in
-      let same_operator : o ≡ k = cc in
-      let s2 = one_product x y a b p q tail in
-      let same = s.derivation in let same2 = s2.derivation in
+      let s2 = one_product x y a b p q (cc) in
       record { derivation = cc; behind = s2.behind }
 
   pub one_expression : (c d : Expression) (a b : List Token) → EndsExpression c (first a) → EndsExpression d (first b) → expression c a ≡ expression d b → Same c d a b
@@ -41,11 +35,7 @@ mutual
       let s = one_product x y (token.Sum o ∷ expression c a) b (sum_ends o x) q.product e in absurd (q.sum o (sym (ap first s.behind)))
   one_expression (summands x o c) (summands y k d) a b p q e =
       let s = one_product x y (token.Sum o ∷ expression c a) (token.Sum k ∷ expression d b) (sum_ends o x) (sum_ends k y) e in
-      let behind = s.behind in
-      let tail : expression c a ≡ expression d b = cc in
-      let same_operator : o ≡ k = cc in
-      let s2 = one_expression c d a b (record { product = p.product; sum = p.sum }) (record { product = q.product; sum = q.sum }) tail in
-      let same = s.derivation in let same2 = s2.derivation in
+      let s2 = one_expression c d a b (record { product = p.product; sum = p.sum }) (record { product = q.product; sum = q.sum }) (cc) in
       record { derivation = cc; behind = s2.behind }
 
 -- an expression that begins with a variable or an integer, before what is no operator, is that alone
@@ -65,13 +55,10 @@ alone (summands (factors (nested y) o x) k c) a l t u h p q e = absurd (h Open (
 
 -- a token that no expression begins with
 abbrev pub BeginsNoOperand : Token → Type 0
-BeginsNoOperand (token.Name f) = Unit {0}
 BeginsNoOperand (token.Variable v) = ⊥
 BeginsNoOperand (token.Integer n) = ⊥
 BeginsNoOperand (token.Mark m) = m ≢ Open
-BeginsNoOperand (token.Comparison o) = Unit {0}
-BeginsNoOperand (token.Sum o) = Unit {0}
-BeginsNoOperand (token.Product o) = Unit {0}
+BeginsNoOperand _ = Unit {0}
 
 pub no_operand : (t : Token) (l : List Token) → BeginsNoOperand t → (u : Operand) (a : List Token) → operand u a ≡ t ∷ l → ⊥
 no_operand t l h (number n) a e = let same : token.Integer n ≡ t = cc in subst BeginsNoOperand (sym same) h

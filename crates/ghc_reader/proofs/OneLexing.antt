@@ -1,5 +1,5 @@
 -- A text is cut in one way, up to its end or up to its first bad byte.
-use Rattle.ghc_reader.proofs.Words.{◌≡◌, ◌⊎◌, ℕ, ◌≤◌, ◌+◌, Bool, true, List, [], ◌∷◌, ◌++◌, length, length-append, Option, Some, None, All, Result, Ok, Err, IfOk, IfErr, MatchResult, refl, sym, ap, subst, ◌∙◌, inl, inr, arith, append_cancel_left, All-head, All-tail, filter_map, cons_option, Piece, HasForm, Stands, spelled, Cuts, signs_behind, signs_after, start, place_behind, fault_at, token_of, IsRefused, place_of_token, token_places, IsLexed, IsBadAt, IsLexFault, most_bytes, IsErrAnd, Lexed, Token, Place, Reserved}
+use Rattle.ghc_reader.proofs.Words.{◌≡◌, ◌⊎◌, ℕ, ◌≤◌, ◌+◌, Bool, true, List, [], ◌∷◌, ◌++◌, length, length-append, All, Result, Ok, Err, IfOk, IfErr, MatchResult, refl, sym, ap, subst, ◌∙◌, inl, inr, arith, append_cancel_left, All-head, All-tail, filter_map, Piece, HasForm, Stands, spelled, Cuts, signs_behind, signs_after, start, place_behind, fault_at, token_of, IsRefused, token_places, IsLexed, IsBadAt, IsLexFault, most_bytes, IsErrAnd, Lexed, Token, Place, Reserved, Kind}
 use Rattle.ghc_term.specs.declared.fault.Fault.{Fault}
 use Rattle.ghc_term.specs.declared.fault.Fault.TheVariants as fault
 use Rattle.ghc_term.specs.declared.limit.Limit.TheVariants as limit
@@ -7,12 +7,9 @@ use Rattle.ghc_reader.proofs.Forms.{no_form_is_empty}
 use Rattle.ghc_reader.proofs.OnePiece.{one_piece}
 
 -- a piece has a byte
-no_piece_is_empty : (signs : Bool) (p : Piece) (rest behind : List ℕ) → HasForm signs p.kind p.bytes → p.bytes ++ behind ≡ [] → ⊥
-no_piece_is_empty signs p rest behind form e = by_bytes p.bytes form e
-  where
-    by_bytes : (bytes : List ℕ) → HasForm signs p.kind bytes → bytes ++ behind ≡ [] → ⊥
-    by_bytes [] form e = no_form_is_empty signs p.kind form
-    by_bytes (b ∷ bs) form e = cc
+no_piece_is_empty : (signs : Bool) (k : Kind) (bytes behind : List ℕ) → HasForm signs k bytes → bytes ++ behind ≡ [] → ⊥
+no_piece_is_empty signs k [] behind form e = no_form_is_empty signs k form
+no_piece_is_empty signs k (b ∷ bs) behind form e = cc
 
 -- where a cut ends: at the end of the text, or where every piece is refused
 abbrev pub Ends : Reserved → Bool → List ℕ → Type 0
@@ -26,7 +23,7 @@ pub record SameCut (ps qs : List Piece) (rest more : List ℕ) : Type 0 where
 module _ (reserved : Reserved) where
   -- no cut that ends goes on
   no_further : (signs : Bool) (rest : List ℕ) (q : Piece) (more : List ℕ) → Ends reserved signs rest → rest ≡ q.bytes ++ more → Stands signs q more → ¬ (IsRefused reserved q) → ⊥
-  no_further signs rest q more (inl ended) e stands fine = no_piece_is_empty signs q rest more stands.form (sym e ∙ ended)
+  no_further signs rest q more (inl ended) e stands fine = no_piece_is_empty signs q.kind q.bytes more stands.form (sym e ∙ ended)
   no_further signs rest q more (inr refused) e stands fine = fine (refused q more e stands)
 
   pub same_cut : (signs : Bool) (ps qs : List Piece) (rest more : List ℕ) → Cuts signs ps rest → Cuts signs qs more → All (λ p. ¬ (IsRefused reserved p)) ps → All (λ p. ¬ (IsRefused reserved p)) qs → Ends reserved (signs_after signs ps) rest → Ends reserved (signs_after signs qs) more → spelled ps rest ≡ spelled qs more → SameCut ps qs rest more
@@ -69,7 +66,6 @@ module _ (reserved : Reserved) where
   only_lexing text (Err (fault.Syntax line column)) found fails tokens places short other =
       absurd (never_both text tokens places (record { line = line; column = column }) other fails.1)
   only_lexing text (Err (fault.Limit limit.Text)) found fails tokens places short other = absurd (omega arith)
-  only_lexing text (Err (fault.Limit l)) found fails tokens places short other = absurd fails
   only_lexing text (Err f) found fails tokens places short other = absurd fails
 
   pub only_bad_byte : (text : List ℕ) (r : Result Lexed Fault) → IfOk r (λ lexed. IsLexed reserved text lexed.tokens.items lexed.places.items) → IfErr r (IsLexFault reserved text) → (place : Place) → length text ≤ most_bytes → IsBadAt reserved text place → IsErrAnd r (λ f. (f ≡ fault_at place) ⊎ (f ≡ fault.Memory))
@@ -79,17 +75,12 @@ module _ (reserved : Reserved) where
   only_bad_byte text (Err (fault.Syntax line column)) found fails place short bad =
       inl (ap fault_at (one_bad_byte text (record { line = line; column = column }) place fails.1 bad))
   only_bad_byte text (Err (fault.Limit limit.Text)) found fails place short bad = absurd (omega arith)
-  only_bad_byte text (Err (fault.Limit l)) found fails place short bad = absurd fails
   only_bad_byte text (Err f) found fails place short bad = absurd fails
-
-length-place_of_token : (t : Option Token) (place : Place) (places : List Place) (tokens : List Token) → length places ≡ length tokens → length (place_of_token t place places) ≡ length (cons_option t tokens)
-length-place_of_token None place places tokens same = same
-length-place_of_token (Some t) place places tokens same = omega arith
 
 length-token_places : (place : Place) (ps : List Piece) → length (token_places place ps) ≡ length (filter_map token_of ps)
 length-token_places place [] = refl
 length-token_places place (p ∷ ps) =
-    length-place_of_token (token_of p) place (token_places (place_behind place p.bytes) ps) (filter_map token_of ps) (length-token_places (place_behind place p.bytes) ps)
+    grind (arith, length-token_places (place_behind place p.bytes) ps)
 
 -- each token has a place, and so has the end
 pub places_of_tokens : (reserved : Reserved) (text : List ℕ) (r : Result Lexed Fault) → IfOk r (λ lexed. IsLexed reserved text lexed.tokens.items lexed.places.items) → IfOk r (λ lexed. length lexed.places.items ≡ length lexed.tokens.items + 1)

@@ -1,7 +1,8 @@
 -- A parse tree says one term, clause or query, so a text is read in one way.
-use Rattle.ghc_reader.proofs.Words.{◌≡◌, ℕ, ◌+◌, List, [], ◌∷◌, ◌++◌, Option, Some, refl, sym, ap, ◌∙◌, subst, append_assoc, VarName, variables_of_list, variables_of_goals, Goal, a_program, a_query, a_term, an_ask, a_body, WrittenClause, WrittenQuery, AreApart, variables_of_guards, variables_of_written, WrittenAsk, IsNaming, of_state, of_no_step, is_new, SaysAsk, Names, IsCalled, Each, SaysClause, SaysQuery, doing, Says, IsReadProgram, IsReadQuery, IsReadTerm, IsReadAsk, IsReadBody, IsReadInOneWay, names_of_clause, names_of_goals, greatest_number}
+use Rattle.ghc_reader.proofs.Words.{◌≡◌, ℕ, ◌+◌, List, [], ◌∷◌, ◌++◌, Option, Some, refl, sym, ap, ◌∙◌, subst, append_assoc, VarName, variables_of_list, variables_of_goals, Goal, a_program, a_query, a_term, an_ask, a_body, WrittenClause, WrittenQuery, AreApart, variables_of_guards, variables_of_written, WrittenAsk, IsNaming, of_state, of_no_step, is_new, SaysAsk, Names, IsCalled, Each, SaysClause, SaysQuery, doing, Says, IsReadProgram, IsReadQuery, IsReadTerm, IsReadAsk, IsReadBody, IsReadInOneWay, names_of_clause, names_of_goals, greatest_number, IsRead}
 use Rattle.ghc_term.specs.Tree as term
 use Rattle.ghc_reader.specs.Source.{Clause}
+use Rattle.ghc_reader.specs.Tests.{Kind}
 use Rattle.ghc_reader.specs.WrittenAsk.{of_query}
 use Rattle.ghc_reader.proofs.Whole.{one_query}
 use Rattle.ghc_reader.proofs.OneReading.{answered_once, one_program_tree, one_input_tree}
@@ -22,17 +23,17 @@ one_clause c w z s t =
     let name = s.name ∙ sym t.name in
     λ i. record { name = name i; head = head.0 i; guards = guards.0 i; body = body i; variables = naming.1 i }
 
--- parse trees of clauses say one program
-one_source : (cs : List Clause) (ws zs : List WrittenClause) → Each SaysClause cs ws → Each SaysClause cs zs → ws ≡ zs
-one_source [] [] [] h k = refl
-one_source [] (w ∷ ws) zs h k = absurd h
-one_source [] [] (z ∷ zs) h k = absurd k
-one_source (c ∷ cs) [] zs h k = absurd h
-one_source (c ∷ cs) (w ∷ ws) [] h k = absurd k
-one_source (c ∷ cs) (w ∷ ws) (z ∷ zs) h k =
-    let first = one_clause c w z h.0 k.0 in
-    let second = one_source cs ws zs h.1 k.1 in
+-- what each says is one, where what one says is one
+each_one : {X Y : Type 0} (R : X → Y → Type 0) → ((x : X) (y z : Y) → R x y → R x z → y ≡ z) → (xs : List X) (ys zs : List Y) → Each R xs ys
+    → Each R xs zs → ys ≡ zs
+each_one R one [] [] [] h k = refl
+each_one R one (x ∷ xs) (y ∷ ys) (z ∷ zs) h k =
+    let first = one x y z h.0 k.0 in
+    let second = each_one R one xs ys zs h.1 k.1 in
     λ i. first i ∷ second i
+each_one R one [] (y ∷ ys) zs h k = absurd h
+each_one R one (x ∷ xs) [] zs h k = absurd h
+each_one R one xs ys zs h k = absurd k
 
 -- parse trees of goals say one query
 one_asking : (gs : List Goal) (q r : WrittenQuery) → SaysQuery gs q → SaysQuery gs r → q ≡ r
@@ -65,51 +66,35 @@ module _ (query : Names) (apart : AreApart query) where
   one_name v o p (is_new none absent) (of_query j none' named' at') = absurd (named' (absent j at'))
   one_name v o p (is_new none absent) (is_new none' absent') = refl
 
-  one_namings : (vs : Names) (os ps : List (Option VarName)) → Each (IsNaming query) vs os → Each (IsNaming query) vs ps → os ≡ ps
-  one_namings [] [] [] h k = refl
-  one_namings [] (o ∷ os) ps h k = absurd h
-  one_namings [] [] (p ∷ ps) h k = absurd k
-  one_namings (v ∷ vs) [] ps h k = absurd h
-  one_namings (v ∷ vs) (o ∷ os) [] h k = absurd k
-  one_namings (v ∷ vs) (o ∷ os) (p ∷ ps) h k =
-      let first = one_name v o p h.0 k.0 in
-      let second = one_namings vs os ps h.1 k.1 in
-      λ i. first i ∷ second i
-
   -- parse trees of goals ask for one thing
   one_ask : (gs : List Goal) (a b : WrittenAsk) → SaysAsk query gs a → SaysAsk query gs b → a ≡ b
   one_ask gs a b s t =
       let naming = one_naming (names_of_goals gs) (variables_of_goals a.goals) (variables_of_goals b.goals) s.names t.names s.variables t.variables (asked_called (IsCalled s.names) gs a.goals s.goals) (asked_called (IsCalled t.names) gs b.goals t.goals) in
       let goals = one_body s.names t.names (doing gs) a.goals b.goals s.goals t.goals naming.0 in
-      let named = one_namings t.names a.named b.named (subst (λ vs. Each (IsNaming query) vs a.named) naming.1 s.named) t.named in
+      let named = each_one (IsNaming query) one_name t.names a.named b.named (subst (λ vs. Each (IsNaming query) vs a.named) naming.1 s.named) t.named in
       λ i. record { goals = goals i; named = named i }
 
 -- ---- texts
 
+one_read : (K : Kind) → ((d e : K.Derivation) → K.spell d [] ≡ K.spell e [] → K.tree d ≡ K.tree e) → {A : Type 0} (R : K.Seen → A → Type 0)
+    → ((s : K.Seen) (a b : A) → R s a → R s b → a ≡ b) → (text : List ℕ) (a b : A)
+    → (s : K.Seen) × IsRead K text s × R s a → (s : K.Seen) × IsRead K text s × R s b → a ≡ b
+one_read K one R same text a b x y = same y.0 a b (subst (λ s. R s a) ((answered_once K one text).one_tree x.0 y.0 x.1 y.1) x.2) y.2
+
 pub one_program_read : (text : List ℕ) (ws zs : List WrittenClause) → IsReadProgram text ws → IsReadProgram text zs → ws ≡ zs
-one_program_read text ws zs x y =
-    let tree = (answered_once a_program one_program_tree text).one_tree x.0 y.0 x.1 y.1 in
-    one_source y.0 ws zs (subst (λ cs. Each SaysClause cs ws) tree x.2) y.2
+one_program_read = one_read a_program one_program_tree (Each SaysClause) (each_one SaysClause one_clause)
 
 pub one_query_read : (text : List ℕ) (q r : WrittenQuery) → IsReadQuery text q → IsReadQuery text r → q ≡ r
-one_query_read text q r x y =
-    let tree = (answered_once a_query one_query text).one_tree x.0 y.0 x.1 y.1 in
-    one_asking y.0 q r (subst (λ gs. SaysQuery gs q) tree x.2) y.2
+one_query_read = one_read a_query one_query SaysQuery one_asking
 
 pub one_term_read : (text : List ℕ) (u w : term.Tree) → IsReadTerm text u → IsReadTerm text w → u ≡ w
-one_term_read text u w x y =
-    let tree = (answered_once a_term one_input_tree text).one_tree x.0 y.0 x.1 y.1 in
-    said y.0 u (subst (λ t. Says [] t u) tree x.2) ∙ sym (said y.0 w y.2)
+one_term_read = one_read a_term one_input_tree (Says []) (λ s u w h k. said s u h ∙ sym (said s w k))
 
 pub one_ask_read : (query : Names) → AreApart query → (text : List ℕ) (a b : WrittenAsk) → IsReadAsk query text a → IsReadAsk query text b → a ≡ b
-one_ask_read query apart text a b x y =
-    let tree = (answered_once an_ask one_query text).one_tree x.0 y.0 x.1 y.1 in
-    one_ask query apart y.0 a b (subst (λ gs. SaysAsk query gs a) tree x.2) y.2
+one_ask_read query apart = one_read an_ask one_query (SaysAsk query) (one_ask query apart)
 
 pub one_body_read : (text : List ℕ) (a b : WrittenAsk) → IsReadBody text a → IsReadBody text b → a ≡ b
-one_body_read text a b x y =
-    let tree = (answered_once a_body one_query text).one_tree x.0 y.0 x.1 y.1 in
-    one_ask [] (λ i j v e f named. cc) y.0 a b (subst (λ gs. SaysAsk [] gs a) tree x.2) y.2
+one_body_read = one_read a_body one_query (SaysAsk []) (one_ask [] (λ i j v e f named. cc))
 
 pub read_in_one_way : (text : List ℕ) → IsReadInOneWay text
 read_in_one_way text = record { program = one_program_read text; query = one_query_read text; term = one_term_read text; ask = λ query a other apart x y. one_ask_read query apart text a other x y }

@@ -1,8 +1,8 @@
 -- Variables that are named are determined by the names of the text in order.
-use Rattle.ghc_reader.proofs.Words.{◌≡◌, ◌≢◌, ◌⊎◌, ℕ, ◌+◌, ◌<◌, zero, suc, List, [], ◌∷◌, ◌++◌, length, Bool, true, false, cond, Some, refl, sym, ap, ◌∙◌, subst, inl, inr, arith, slice_get, append_assoc, ◌||◌, bytes_eq, eq_by_cmp, append-nil, length_push, slice_get_within, bytes_eq-Decides, VarName, name_cmp, firsts, Names, blank, IsCalled, AreNamed, Each, IsFresh}
+use Rattle.ghc_reader.proofs.Words.{or_from, same_name, ◌≡◌, ◌≢◌, ◌⊎◌, ℕ, ◌+◌, ◌<◌, zero, suc, List, [], ◌∷◌, ◌++◌, length, true, false, cond, Some, refl, sym, ap, ◌∙◌, subst, inl, inr, arith, slice_get, append_assoc, bytes_eq, eq_by_cmp, append-nil, length_push, slice_get_within, bytes_eq-Decides, VarName, name_cmp, firsts, Names, blank, IsCalled, AreNamed, Each, IsFresh}
 use Rattle.std.proofs.lemmas.List.{length-append}
 use Rattle.ghc_reader.proofs.Names.{get_left}
-use Rattle.ghc_reader.proofs.Numbered.{number, is_seen, Seen, seen_none, seen_next, one_name, test_cases, Apart, apart_next}
+use Rattle.ghc_reader.proofs.Numbered.{number, is_seen, Seen, seen_none, seen_next, test_cases, Apart, apart_next}
 
 -- Where a variable called v is met, it is x, and the names become the later ones.
 abbrev pub MeetsCalled : Names → List ℕ → VarName → Names → Type 0
@@ -56,10 +56,6 @@ pub none_left : {X : Type 0} (xs : List X) → length xs ≡ 0 → xs ≡ []
 none_left [] e = refl
 none_left (x ∷ xs) e = absurd (omega arith)
 
-neither : (a b : Bool) → a ≡ false → b ≡ false → (a || b) ≡ false
-neither true b e f = cc
-neither false b e f = f
-
 known_step : (names prefix : Names) (v : List ℕ) (x : VarName) (xs seen : List VarName) → Run names prefix (x ∷ xs) seen → IsCalled names v x → is_seen x seen ≡ true → MeetsCalled prefix v x prefix × Run names prefix xs seen
 known_step names prefix v x xs seen r called found =
     let b = r.seen_is.below x found in
@@ -98,8 +94,8 @@ next_step names prefix v x xs seen apart r called absent =
         numbers = λ i y e. r.numbers (suc i) y (ap (λ l. slice_get l (suc i)) same ∙ e) ∙ ap number (omega (arith, longer));
         count = r.count ∙ ap (λ l. n + length l) same ∙ omega (arith, longer);
         unseen = λ j y e c. elim (test_cases (eq_by_cmp name_cmp y x)) [
-          | inl again ↦ absurd (twice j y e c (one_name y x again))
-          | inr other ↦ neither (eq_by_cmp name_cmp y x) (is_seen y seen) other (r.unseen (suc j) y e c)
+          | inl again ↦ absurd (twice j y e c (same_name y x again))
+          | inr other ↦ or_from (eq_by_cmp name_cmp y x) (is_seen y seen) other (r.unseen (suc j) y e c)
         ];
         alone = λ i j y e f c. let h = r.alone (suc i) (suc j) y e f c in cc;
       },
@@ -120,13 +116,12 @@ run_is : (vs : List (List ℕ)) (xs : List VarName) (names prefix : Names) (seen
 run_is [] [] names prefix seen apart r h =
     let none : r.rest ≡ [] = none_left r.rest (omega (arith, r.count, ap length r.whole, length-append prefix r.rest)) in
     (refl, r.whole ∙ ap (λ l. prefix ++ l) none ∙ append-nil prefix)
-run_is [] (x ∷ xs) names prefix seen apart r h = absurd h
-run_is (v ∷ vs) [] names prefix seen apart r h = absurd h
 run_is (v ∷ vs) (x ∷ xs) names prefix seen apart r h = elim (test_cases (is_seen x seen)) [
   | inl found ↦ let step = known_step names prefix v x xs seen r h.0 found in (x, xs, prefix, refl, step.0, run_is vs xs names prefix seen apart step.1 h.1)
   | inr absent ↦ let step = next_step names prefix v x xs seen apart r h.0 absent in
       (x, xs, prefix ++ v ∷ [], refl, step.0, run_is vs xs names (prefix ++ v ∷ []) (x ∷ seen) apart step.1 h.1)
 ]
+run_is vs xs names prefix seen apart r h = absurd h
 
 -- Variables that are named are met in one way.
 pub named_are_met : (vs : List (List ℕ)) (xs : List VarName) (names : Names) → AreNamed names xs → Each (IsCalled names) vs xs → MeetsEach [] vs xs names
@@ -142,7 +137,4 @@ named_are_met vs xs names n h = run_is vs xs names [] [] n.apart (record {
 
 -- Texts with the same names have the same variables.
 pub one_naming : (vs : List (List ℕ)) (xs ys : List VarName) (a b : Names) → AreNamed a xs → AreNamed b ys → Each (IsCalled a) vs xs → Each (IsCalled b) vs ys → (xs ≡ ys) × (a ≡ b)
-one_naming vs xs ys a b n m h k = one_run vs [] xs ys a b nothing (named_are_met vs xs a n h) (named_are_met vs ys b m k)
-  where
-    nothing : Apart []
-    nothing i j v e f g = cc
+one_naming vs xs ys a b n m h k = one_run vs [] xs ys a b (λ i j v e f g. cc) (named_are_met vs xs a n h) (named_are_met vs ys b m k)

@@ -18,7 +18,6 @@ module _ (reserved : Reserved) where
   lex_refusal text fault.Memory h = inl refl
   lex_refusal text (fault.Syntax line column) h = inr (bad_byte (record { line = line; column = column }) (λ _. h.0) h.1 refl)
   lex_refusal text (fault.Limit limit.Text) h = inr (too_long refl h refl)
-  lex_refusal text (fault.Limit l) h = absurd h
   lex_refusal text f h = absurd h
 
 -- the same of a text of any length and depth
@@ -30,8 +29,7 @@ cut_refusal reserved text f (inl memory) = inl memory
 cut_refusal reserved text f (inr (place, bad, is)) = inr (bad_byte place (λ e. cc) bad is)
 
 pub any_tokens_found : {T : Type 0} (reserved : Reserved) (text : List ℕ) (r : Result T Fault) (ts : T → List Token) (ps : T → List Place) → IfOk r (λ t. IsLexed reserved text (ts t) (ps t)) → IfOk r (λ t. IsShallow reserved false text (ts t) (ps t))
-any_tokens_found reserved text (Ok t) ts ps h = any_tokens reserved text (ts t) (ps t) h
-any_tokens_found reserved text (Err f) ts ps h = tt
+any_tokens_found reserved text r ts ps h = grind (arith, any_tokens)
 
 pub cut_refusals : {T : Type 0} (reserved : Reserved) (text : List ℕ) (r : Result T Fault) → IfErr r (IsCutFault reserved text) → IfErr r (λ f. (f ≡ fault.Memory) ⊎ IsTokenRefusal reserved false text f)
 cut_refusals reserved text (Ok t) h = h

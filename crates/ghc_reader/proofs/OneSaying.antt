@@ -110,26 +110,24 @@ module _ (a b : Names) where
 
   pub one_guards : (ts : List Test) (us ws : List Guard) (xs ys : List VarName) → Each (SaysGuard a) ts us → Each (SaysGuard b) ts ws → variables_of_guards us ++ xs ≡ variables_of_guards ws ++ ys → Same us ws xs ys
   one_guards [] [] [] xs ys h k e = (refl, e)
-  one_guards [] (u ∷ us) ws xs ys h k e = absurd h
-  one_guards [] [] (w ∷ ws) xs ys h k e = absurd k
-  one_guards (t ∷ ts) [] ws xs ys h k e = absurd h
-  one_guards (t ∷ ts) (u ∷ us) [] xs ys h k e = absurd k
   one_guards (t ∷ ts) (u ∷ us) (w ∷ ws) xs ys h k e =
       let split = apart (variables_of_guard u) (variables_of_guards us) (variables_of_guard w) (variables_of_guards ws) xs ys e in
       let first = one_guard t u w (variables_of_guards us ++ xs) (variables_of_guards ws ++ ys) h.0 k.0 split in
       let second = one_guards ts us ws xs ys h.1 k.1 first.1 in
       ((λ i. first.0 i ∷ second.0 i), second.1)
+  one_guards [] (u ∷ us) ws xs ys h k e = absurd h
+  one_guards (t ∷ ts) [] ws xs ys h k e = absurd h
+  one_guards ts us ws xs ys h k e = absurd k
 
   pub one_body : (gs : List Goal) (us ws : List goal.Goal) → Each (SaysGoal a) gs us → Each (SaysGoal b) gs ws → variables_of_goals us ≡ variables_of_goals ws → us ≡ ws
   one_body [] [] [] h k e = refl
-  one_body [] (u ∷ us) ws h k e = absurd h
-  one_body [] [] (w ∷ ws) h k e = absurd k
-  one_body (g ∷ gs) [] ws h k e = absurd h
-  one_body (g ∷ gs) (u ∷ us) [] h k e = absurd k
   one_body (g ∷ gs) (u ∷ us) (w ∷ ws) h k e =
       let first = one_goal g u w (variables_of_goals us) (variables_of_goals ws) h.0 k.0 e in
       let second = one_body gs us ws h.1 k.1 first.1 in
       λ i. first.0 i ∷ second i
+  one_body [] (u ∷ us) ws h k e = absurd h
+  one_body (g ∷ gs) [] ws h k e = absurd h
+  one_body gs us ws h k e = absurd k
 
   -- ---- the goals of a query
 
@@ -175,14 +173,13 @@ module _ (a b : Names) where
 
   one_asked : (n : ℕ) (gs : List Goal) (us ws : List goal.Goal) → Each (SaysAsked a) gs us → Each (SaysAsked b) gs ws → CountFrom n us → CountFrom n ws → variables_of_goals us ≡ variables_of_goals ws → us ≡ ws
   one_asked n [] [] [] h k c d e = refl
-  one_asked n [] (u ∷ us) ws h k c d e = absurd h
-  one_asked n [] [] (w ∷ ws) h k c d e = absurd k
-  one_asked n (g ∷ gs) [] ws h k c d e = absurd h
-  one_asked n (g ∷ gs) (u ∷ us) [] h k c d e = absurd k
   one_asked n (g ∷ gs) (u ∷ us) (w ∷ ws) h k c d e =
       let first = one_asked_by (tail_of g) g n u w us ws (variables_of_goals us) (variables_of_goals ws) h.0 k.0 c d e in
       let second = one_asked first.count gs us ws h.1 k.1 first.left first.right first.same.1 in
       λ i. first.same.0 i ∷ second i
+  one_asked n [] (u ∷ us) ws h k c d e = absurd h
+  one_asked n (g ∷ gs) [] ws h k c d e = absurd h
+  one_asked n gs us ws h k c d e = absurd k
 
   pub one_question : (gs : List Goal) (us ws : List goal.Goal) → Each (SaysAsked a) gs us → Each (SaysAsked b) gs ws → AreCounted us → AreCounted ws → variables_of_goals us ≡ variables_of_goals ws → us ≡ ws
   one_question gs us ws h k c d e = one_asked 0 gs us ws h k (λ i l x f. c i l x f ∙ omega arith) (λ i l x f. d i l x f ∙ omega arith) e

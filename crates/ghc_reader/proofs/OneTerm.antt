@@ -10,10 +10,8 @@ pub record Same {C : Type 0} (c d : C) (a b : List Token) : Type 0 where
 
 -- a mark that no term begins with
 pub no_term : (m : Mark) (ts : List Token) → m ≢ OpenList → (c : Term) (a : List Token) → token.Mark m ∷ ts ≡ term c a → ⊥
-no_term m ts h (variable v) a e = cc
-no_term m ts h (integer n) a e = cc
-no_term m ts h (call f x) a e = cc
 no_term m ts h (list r) a e = h (cc)
+no_term m ts h c a e = cc
 
 pub no_terms : (m : Mark) (ts : List Token) → m ≢ OpenList → (c : Terms) (a : List Token) → token.Mark m ∷ ts ≡ terms c a → ⊥
 no_terms m ts h (one t) a e = no_term m ts h t a e
@@ -31,7 +29,7 @@ bar_ends = ends_terms Bar (λ h. cc) (λ h. cc)
 comma_ends : (c : Term) → EndsTerm c (Some (token.Mark Comma))
 comma_ends = ends_term Comma (λ h. cc)
 
-equals_ends : (c : Term) → EndsTerm c (Some (token.Mark Equals))
+pub equals_ends : (c : Term) → EndsTerm c (Some (token.Mark Equals))
 equals_ends = ends_term Equals (λ h. cc)
 
 mutual
@@ -41,11 +39,9 @@ mutual
   one_term (call f x) (call h y) a b p q e =
       let tail : arguments x a ≡ arguments y b = cc in
       let s = one_arguments x y a b p q tail in
-      let same = s.derivation in
       record { derivation = cc; behind = s.behind }
   one_term (list r) (list s) a b p q e =
-      let tail : rest r a ≡ rest s b = cc in
-      let s = one_rest r s a b tail in
+      let s = one_rest r s a b (cc) in
       record { derivation = ap list s.derivation; behind = s.behind }
   one_term c d a b p q e = cc
 
@@ -54,9 +50,7 @@ mutual
   one_arguments without (within y) a b p q e = absurd (p (ap first e))
   one_arguments (within x) without a b p q e = absurd (q (sym (ap first e)))
   one_arguments (within x) (within y) a b p q e =
-      let tail : terms x (token.Mark Close ∷ a) ≡ terms y (token.Mark Close ∷ b) = cc in
-      let s = one_terms x y (token.Mark Close ∷ a) (token.Mark Close ∷ b) (close_ends x) (close_ends y) tail in
-      let behind = s.behind in
+      let s = one_terms x y (token.Mark Close ∷ a) (token.Mark Close ∷ b) (close_ends x) (close_ends y) (cc) in
       record { derivation = ap within s.derivation; behind = cc }
 
   pub one_rest : (c d : Rest) (a b : List Token) → rest c a ≡ rest d b → Same c d a b
@@ -67,20 +61,16 @@ mutual
   one_rest (partial x t) closed a b e = absurd (no_terms CloseList b (λ h. cc) x (token.Mark Bar ∷ term t (token.Mark CloseList ∷ a)) (sym e))
   one_rest (whole x) (whole y) a b e =
       let s = one_terms x y (token.Mark CloseList ∷ a) (token.Mark CloseList ∷ b) (close_list_ends x) (close_list_ends y) e in
-      let behind = s.behind in
       record { derivation = ap whole s.derivation; behind = cc }
   one_rest (whole x) (partial y t) a b e =
       let s = one_terms x y (token.Mark CloseList ∷ a) (token.Mark Bar ∷ term t (token.Mark CloseList ∷ b)) (close_list_ends x) (bar_ends y) e in
-      let behind = s.behind in cc
+      cc
   one_rest (partial x t) (whole y) a b e =
       let s = one_terms x y (token.Mark Bar ∷ term t (token.Mark CloseList ∷ a)) (token.Mark CloseList ∷ b) (bar_ends x) (close_list_ends y) e in
-      let behind = s.behind in cc
+      cc
   one_rest (partial x t) (partial y u) a b e =
       let s = one_terms x y (token.Mark Bar ∷ term t (token.Mark CloseList ∷ a)) (token.Mark Bar ∷ term u (token.Mark CloseList ∷ b)) (bar_ends x) (bar_ends y) e in
-      let behind = s.behind in
-      let tail : term t (token.Mark CloseList ∷ a) ≡ term u (token.Mark CloseList ∷ b) = cc in
-      let s2 = one_term t u (token.Mark CloseList ∷ a) (token.Mark CloseList ∷ b) (ends_term CloseList (λ h. cc) t) (ends_term CloseList (λ h. cc) u) tail in
-      let same = s.derivation in let same2 = s2.derivation in let behind2 = s2.behind in
+      let s2 = one_term t u (token.Mark CloseList ∷ a) (token.Mark CloseList ∷ b) (ends_term CloseList (λ h. cc) t) (ends_term CloseList (λ h. cc) u) (cc) in
       record { derivation = cc; behind = cc }
 
   pub one_terms : (c d : Terms) (a b : List Token) → EndsTerms c (first a) → EndsTerms d (first b) → terms c a ≡ terms d b → Same c d a b
@@ -92,8 +82,5 @@ mutual
       let s = one_term t u (token.Mark Comma ∷ terms x a) b (comma_ends t) q.0 e in absurd (q.1 (sym (ap first s.behind)))
   one_terms (more t x) (more u y) a b p q e =
       let s = one_term t u (token.Mark Comma ∷ terms x a) (token.Mark Comma ∷ terms y b) (comma_ends t) (comma_ends u) e in
-      let behind = s.behind in
-      let tail : terms x a ≡ terms y b = cc in
-      let s2 = one_terms x y a b p q tail in
-      let same = s.derivation in let same2 = s2.derivation in
+      let s2 = one_terms x y a b p q (cc) in
       record { derivation = cc; behind = s2.behind }

@@ -1,5 +1,5 @@
 -- A space stands at the front of any text that begins with it, and so does an operator with a space behind it.
-use Rattle.ghc_reader.proofs.Words.{◌≡◌, ℕ, ◌≤◌, Bool, true, false, List, [], ◌∷◌, ◌++◌, length, get_or, refl, ap, arith, IsTrue, codes, Lacks, spelling, Piece, Stands, Equals, Assign, Define, Less, Greater, Equal, NotEqual, Plus, Minus, Times, Divide, Modulo, Symbol}
+use Rattle.ghc_reader.proofs.Words.{ℕ, Bool, true, false, List, [], ◌∷◌, ◌++◌, get_or, refl, ap, arith, IsTrue, codes, spelling, Piece, Stands, Equals, Assign, Plus, Minus, Times, Divide, Modulo, Symbol, false≢true}
 use Rattle.ghc_reader.specs.declared.lexer.symbol.Symbol.TheVariants as symbol
 use Rattle.ghc_reader.specs.declared.lexer.front.Kind.TheVariants as kind
 use Rattle.ghc_reader.proofs.Forms.{run_stands, blank_leaves, modulo_stands, symbol_stands}
@@ -11,12 +11,8 @@ use Rattle.ghc_reader.proofs.MarkPieces.{alone, alone_stands}
 abbrev pub space : Piece
 space = record { kind = kind.Blank; bytes = 32 ∷ [] }
 
-nothing_passes : (rest : List ℕ) → Lacks (λ _. false) rest
-nothing_passes [] = tt
-nothing_passes (b ∷ bs) = refl
-
 pub space_stands : (signs : Bool) (rest : List ℕ) → Stands signs space rest
-space_stands signs rest = run_stands signs space rest (λ _. false) 32 [] refl (refl, refl) (nothing_passes rest) (blank_leaves signs 32 refl)
+space_stands signs rest = run_stands signs space rest (λ _. false) 32 [] refl (refl, refl) (grind arith) (blank_leaves signs 32 refl)
 
 -- ---- operators
 
@@ -28,49 +24,22 @@ symbol_piece s = record { kind = kind.Symbol s; bytes = spelling s }
 abbrev pub is_wide : Symbol → Bool
 is_wide (symbol.Mark Equals) = true
 is_wide (symbol.Mark Assign) = true
-is_wide (symbol.Mark m) = false
-is_wide (symbol.Comparison c) = false
 is_wide (symbol.Sum s) = true
 is_wide (symbol.Product p) = true
-
-no_symbol : false ≡ true → ⊥
-no_symbol e = cc
-
-equals_longest : (s : Symbol) (more : List ℕ) → 61 ≡ get_or (spelling s ++ more) 0 0 → 32 ≡ get_or (spelling s ++ more) 1 0 → length (spelling s) ≤ 1
-equals_longest (symbol.Mark Assign) more first second = absurd (omega arith)
-equals_longest (symbol.Mark Define) more first second = absurd (omega arith)
-equals_longest (symbol.Mark m) more first second = omega arith
-equals_longest (symbol.Comparison Less) more first second = omega arith
-equals_longest (symbol.Comparison Greater) more first second = omega arith
-equals_longest (symbol.Comparison c) more first second = absurd (omega arith)
-equals_longest (symbol.Sum Plus) more first second = omega arith
-equals_longest (symbol.Sum Minus) more first second = omega arith
-equals_longest (symbol.Product Modulo) more first second = absurd (omega arith)
-equals_longest (symbol.Product p) more first second = omega arith
-
-assign_longest : (s : Symbol) (more : List ℕ) → 58 ≡ get_or (spelling s ++ more) 0 0 → length (spelling s) ≤ 2
-assign_longest (symbol.Mark Define) more first = omega arith
-assign_longest (symbol.Mark m) more first = omega arith
-assign_longest (symbol.Comparison Equal) more first = absurd (omega arith)
-assign_longest (symbol.Comparison NotEqual) more first = absurd (omega arith)
-assign_longest (symbol.Comparison c) more first = omega arith
-assign_longest (symbol.Sum Plus) more first = omega arith
-assign_longest (symbol.Sum Minus) more first = omega arith
-assign_longest (symbol.Product Modulo) more first = absurd (omega arith)
-assign_longest (symbol.Product p) more first = omega arith
+is_wide _ = false
 
 pub wide_stands : (signs : Bool) (s : Symbol) (rest : List ℕ) → IsTrue (is_wide s) → Stands signs (symbol_piece s) (32 ∷ rest)
 wide_stands signs (symbol.Mark Equals) rest wide =
     symbol_stands signs (61 ∷ 32 ∷ rest) (61 ∷ []) (32 ∷ rest) (symbol.Mark Equals) (record { no_word = refl; no_blank = refl; no_percent = refl; no_sign = λ h. absurd (omega (arith, h.1.0)) }) refl refl
-    (λ other more e. equals_longest other more (ap (λ l. get_or l 0 0) e) (ap (λ l. get_or l 1 0) e))
+    (λ other more e. grind (arith, ap (λ l. get_or l 0 0) e, ap (λ l. get_or l 1 0) e))
 wide_stands signs (symbol.Mark Assign) rest wide =
     symbol_stands signs (58 ∷ 61 ∷ 32 ∷ rest) (codes ":=") (32 ∷ rest) (symbol.Mark Assign) (record { no_word = refl; no_blank = refl; no_percent = refl; no_sign = λ h. absurd (omega (arith, h.1.0)) }) refl refl
-    (λ other more e. assign_longest other more (ap (λ l. get_or l 0 0) e))
-wide_stands signs (symbol.Mark m) rest wide = absurd (no_symbol wide)
-wide_stands signs (symbol.Comparison c) rest wide = absurd (no_symbol wide)
+    (λ other more e. grind (arith, ap (λ l. get_or l 0 0) e))
+wide_stands signs (symbol.Mark m) rest wide = absurd (false≢true wide)
+wide_stands signs (symbol.Comparison c) rest wide = absurd (false≢true wide)
 wide_stands signs (symbol.Sum Plus) rest wide = alone_stands signs (symbol.Sum Plus) 43 (32 ∷ rest) refl refl refl refl refl refl
 wide_stands signs (symbol.Sum Minus) rest wide =
-    symbol_stands signs (45 ∷ 32 ∷ rest) (45 ∷ []) (32 ∷ rest) (symbol.Sum Minus) (record { no_word = refl; no_blank = refl; no_percent = refl; no_sign = λ h. no_symbol h.1.1 }) refl refl
+    symbol_stands signs (45 ∷ 32 ∷ rest) (45 ∷ []) (32 ∷ rest) (symbol.Sum Minus) (record { no_word = refl; no_blank = refl; no_percent = refl; no_sign = λ h. false≢true h.1.1 }) refl refl
     (λ other more e. alone other 45 (32 ∷ rest) more refl e)
 wide_stands signs (symbol.Product Times) rest wide = alone_stands signs (symbol.Product Times) 42 (32 ∷ rest) refl refl refl refl refl refl
 wide_stands signs (symbol.Product Divide) rest wide = alone_stands signs (symbol.Product Divide) 47 (32 ∷ rest) refl refl refl refl refl refl

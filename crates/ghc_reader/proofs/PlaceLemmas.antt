@@ -1,6 +1,5 @@
 -- Where the text goes on behind a piece.
-use Rattle.ghc_reader.proofs.Words.{◌≡◌, ◌⊎◌, ℕ, ◌+◌, ◌≤◌, Bool, true, false, List, [], ◌∷◌, ◌++◌, length, refl, sym, ap, subst, ◌∙◌, inl, inr, arith, ◌==◌, not, add-zero, nat_tests, eqb_tells, is_ascii_digit, list_all, is_word, behind_byte, place_behind, HasForm, Place, Open, Less, Plus, Modulo, spelling, Symbol, Kind}
-use Rattle.ghc_reader.specs.declared.lexer.symbol.Symbol.TheVariants as symbol
+use Rattle.ghc_reader.proofs.Words.{◌≡◌, ◌⊎◌, ℕ, ◌+◌, ◌≤◌, Bool, true, false, List, [], ◌∷◌, ◌++◌, length, refl, sym, ap, subst, ◌∙◌, inl, inr, arith, ◌==◌, not, add-zero, nat_tests, eqb_tells, is_ascii_digit, list_all, is_word, behind_byte, place_behind, HasForm, Place, Kind}
 use Rattle.ghc_reader.specs.declared.lexer.front.Kind.TheVariants as kind
 
 -- no line feed
@@ -10,10 +9,8 @@ no_feed b = not (b == 10)
 all_weaker : (p q : ℕ → Bool) → ((b : ℕ) → p b ≡ true → q b ≡ true) → (bs : List ℕ) → list_all p bs ≡ true → list_all q bs ≡ true
 all_weaker p q weaker [] all = refl
 all_weaker p q weaker (b ∷ bs) all =
-    let first : p b ≡ true = grind (arith, all) in
-    let others : list_all p bs ≡ true = grind (arith, all) in
-    let this = weaker b first in
-    let those = all_weaker p q weaker bs others in
+    let this = weaker b (grind (arith, all)) in
+    let those = all_weaker p q weaker bs (grind (arith, all)) in
     grind (arith, this, those)
 
 -- behind bytes of one line
@@ -21,18 +18,10 @@ pub behind_line : (place : Place) (bs : List ℕ) → list_all no_feed bs ≡ tr
 behind_line place [] all = ap (λ c. record { line = place.line; column = c }) (sym (add-zero place.column))
 behind_line place (b ∷ bs) all =
     let first : (b == 10) ≡ false = grind (arith, all) in
-    let others : list_all no_feed bs ≡ true = grind (arith, all) in
     let here : behind_byte place b ≡ record { line = place.line; column = place.column + 1 } = rw first refl in
-    let next = behind_line (record { line = place.line; column = place.column + 1 }) bs others in
+    let next = behind_line (record { line = place.line; column = place.column + 1 }) bs (grind (arith, all)) in
     let sums : place.column + 1 + length bs ≡ place.column + length (b ∷ bs) = omega arith in
     ap (λ p. place_behind p bs) here ∙ next ∙ ap (λ c. record { line = place.line; column = c }) sums
-
-symbol_in_line : (s : Symbol) → list_all no_feed (spelling s) ≡ true
-symbol_in_line (symbol.Mark Open) = refl
-symbol_in_line (symbol.Comparison Less) = refl
-symbol_in_line (symbol.Sum Plus) = refl
-symbol_in_line (symbol.Product Modulo) = refl
-symbol_in_line s = refl
 
 -- a piece is a line feed or stands in one line
 pub feed_or_line : (signs : Bool) (k : Kind) (bs : List ℕ) → HasForm signs k bs → (bs ≡ 10 ∷ []) ⊎ (list_all no_feed bs ≡ true)
@@ -57,7 +46,7 @@ feed_or_line signs kind.Integer (b ∷ d ∷ ds) (inr negative) =
     let i = negative.1.1.0 in
     let r = all_weaker is_ascii_digit no_feed (λ c p. grind (arith, nat_tests)) ds negative.1.1.1 in
     inr (grind (arith, nat_tests, h, i, r))
-feed_or_line signs (kind.Symbol s) (b ∷ bs) form = inr (subst (λ l. list_all no_feed l ≡ true) (sym form) (symbol_in_line s))
+feed_or_line signs (kind.Symbol s) (b ∷ bs) form = inr (subst (λ l. list_all no_feed l ≡ true) (sym form) (grind arith))
 
 -- behind a piece that is no line feed
 pub behind_other : (place : Place) (signs : Bool) (k : Kind) (bs : List ℕ) → HasForm signs k bs → ¬ (bs ≡ 10 ∷ []) → place_behind place bs ≡ record { line = place.line; column = place.column + length bs }
@@ -70,19 +59,15 @@ pub record Within (place end : Place) (n : ℕ) : Type 0 where
   pub column : end.column ≤ place.column + n
   pub first_column : 1 ≤ place.column → 1 ≤ end.column
 
+byte_within : (place : Place) (b : ℕ) → 1 ≤ place.column → Within place (behind_byte place b) 1
+byte_within place b positive = grind (arith, nat_tests)
+
 pub behind_within : (place : Place) (bs : List ℕ) → 1 ≤ place.column → Within place (place_behind place bs) (length bs)
 behind_within place [] positive = record { line = omega arith; column = omega arith; first_column = λ h. h }
 behind_within place (b ∷ bs) positive =
-    elim (eqb_tells b 10) [
-      | inl (feed, _) ↦
-          let here : behind_byte place b ≡ record { line = place.line + 1; column = 1 } = rw feed refl in
-          let more = behind_within (record { line = place.line + 1; column = 1 }) bs (omega arith) in
-          subst (λ p. Within place (place_behind p bs) (length (b ∷ bs))) (sym here) (record { line = omega (arith, more.line); column = omega (arith, more.column); first_column = λ h. more.first_column (omega arith) })
-      | inr (other, _) ↦
-          let here : behind_byte place b ≡ record { line = place.line; column = place.column + 1 } = rw other refl in
-          let more = behind_within (record { line = place.line; column = place.column + 1 }) bs (omega arith) in
-          subst (λ p. Within place (place_behind p bs) (length (b ∷ bs))) (sym here) (record { line = omega (arith, more.line); column = omega (arith, more.column); first_column = λ h. more.first_column (omega arith) })
-    ]
+    let step = byte_within place b positive in
+    let more = behind_within (behind_byte place b) bs (step.first_column positive) in
+    record { line = omega arith; column = omega arith; first_column = λ h. more.first_column (step.first_column h) }
 
 pub place_behind-append : (place : Place) (front bs : List ℕ) → place_behind place (front ++ bs) ≡ place_behind (place_behind place front) bs
 place_behind-append place [] bs = refl

@@ -1,9 +1,9 @@
 -- No two lists of goals that the grammar has a text for are printed alike.
-use Rattle.ghc_reader.proofs.Words.{◌≡◌, List, [], ◌∷◌, refl, sym, ap, ◌∙◌, subst, inl, inr, In, node, trees, cons, leaf, operation, IsLexed, Allowed, Tree, structure, empty, cell, Trees, none, some, Value, number, named, product, sum, Goal, query_of, SaysBy, SaysAllBy, SaysValueBy, SaysGoalBy, Each, doing, product_operator, sum_operator, goals_text, HasNumbers, IsWritable, AreWritable, IsWritableExpression, IsWritableGoal, IsPrintedAs}
+use Rattle.ghc_reader.proofs.Words.{◌≡◌, List, [], ◌∷◌, refl, sym, ap, ◌∙◌, subst, inl, inr, In, node, trees, cons, leaf, operation, IsLexed, Allowed, Tree, structure, cell, Trees, none, some, Value, number, named, product, sum, Goal, query_of, SaysBy, SaysAllBy, SaysValueBy, SaysGoalBy, Each, doing, product_operator, sum_operator, goals_text, HasNumbers, IsWritable, AreWritable, IsWritableExpression, IsWritableGoal, IsPrintedAs}
 use Rattle.ghc_term.specs.Tree as term
 use Rattle.ghc_term.specs.Expression as shown
 use Rattle.ghc_term.specs.Goal as goal
-use Rattle.ghc_reader.specs.Source.{variable, integer, call, unify, assign}
+use Rattle.ghc_reader.specs.Source.{variable, call, unify, assign}
 use Rattle.ghc_reader.proofs.OneLexing.{one_lexing}
 use Rattle.ghc_reader.proofs.Whole.{one_query}
 use Rattle.ghc_reader.proofs.PrintedNames.{one_variable}
@@ -15,18 +15,17 @@ mutual
   one_tree : (t : Tree) (u w : term.Tree) → SaysBy IsPrintedAs t u → SaysBy IsPrintedAs t w → IsWritable HasNumbers u → IsWritable HasNumbers w → u ≡ w
   one_tree (variable v) u w h k a b =
       h.1 ∙ ap term.variable (one_variable h.0 k.0 (subst (IsWritable HasNumbers) h.1 a) (subst (IsWritable HasNumbers) k.1 b) (sym h.2 ∙ k.2)) ∙ sym k.1
-  one_tree (integer n) u w h k a b = h ∙ sym k
   one_tree (structure f ts) u w h k a b =
       let inner = subst (IsWritable HasNumbers) h.1 a in
       let other = subst (IsWritable HasNumbers) k.1 b in
       h.1 ∙ ap (λ l. node f (trees l)) (one_list ts h.0 k.0 h.2 k.2 inner.1 other.1) ∙ sym k.1
-  one_tree empty u w h k a b = h ∙ sym k
   one_tree (cell t rest) u w h k a b =
       let inner = subst (IsWritable HasNumbers) h.2 a in
       let other = subst (IsWritable HasNumbers) k.2 b in
       let first = one_tree t h.0 k.0 h.3 k.3 inner.1.0 other.1.0 in
       let second = one_tree rest h.1 k.1 h.4 k.4 inner.1.1.0 other.1.1.0 in
       h.2 ∙ (λ i. cons (first i) (second i)) ∙ sym k.2
+  one_tree t u w h k a b = h ∙ sym k
 
   one_list : (ts : Trees) (us ws : List term.Tree) → SaysAllBy IsPrintedAs ts us → SaysAllBy IsPrintedAs ts ws → AreWritable HasNumbers (trees us) → AreWritable HasNumbers (trees ws) → us ≡ ws
   one_list none us ws h k a b = h ∙ sym k
@@ -77,14 +76,13 @@ one_goal (assign v e) g h p q a b =
 each_one : (xs : List Goal) (gs hs : List goal.Goal) → Each (SaysGoalBy IsPrintedAs) xs gs → Each (SaysGoalBy IsPrintedAs) xs hs
     → ((g : goal.Goal) → In g gs → IsWritableGoal HasNumbers g) → ((h : goal.Goal) → In h hs → IsWritableGoal HasNumbers h) → gs ≡ hs
 each_one [] [] [] p q a b = refl
-each_one [] [] (h ∷ hs) p q a b = absurd q
-each_one [] (g ∷ gs) hs p q a b = absurd p
-each_one (x ∷ xs) [] hs p q a b = absurd p
-each_one (x ∷ xs) (g ∷ gs) [] p q a b = absurd q
 each_one (x ∷ xs) (g ∷ gs) (h ∷ hs) p q a b =
     let first = one_goal x g h p.0 q.0 (a g (inl refl)) (b h (inl refl)) in
     let others = each_one xs gs hs p.1 q.1 (λ y stands. a y (inr stands)) (λ y stands. b y (inr stands)) in
     λ i. first i ∷ others i
+each_one [] (g ∷ gs) hs p q a b = absurd p
+each_one (x ∷ xs) [] hs p q a b = absurd p
+each_one xs gs hs p q a b = absurd q
 
 -- ---- the texts
 

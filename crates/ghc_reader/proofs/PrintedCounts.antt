@@ -1,30 +1,20 @@
 -- A text of printed goals has no more variables than the goals, and exceeds no limit where they are within the limits.
-use Rattle.ghc_reader.proofs.Words.{◌≡◌, ℕ, ◌+◌, ◌≤◌, Bool, true, false, List, [], ◌∷◌, ◌++◌, length, Some, None, refl, sym, ap, ◌∙◌, inl, inr, arith, cond, append_assoc, length-append, ◌||◌, not, bytes_eq, list_any, decimal, eq_by_cmp, append-nil, list_any-append, bytes_eq-Decides, VarName, name_cmp, variable_text, variables_of_goals, firsts, Goal, widest_goals, names_of_goals, is_unnamed, variables, first_exceeded, of_query, SaysGoalBy, Each, doing, IsPrintedAs}
-use Rattle.ghc_term.specs.declared.limit.Limit.TheVariants as limit
+use Rattle.ghc_reader.proofs.Words.{same_name, ◌≡◌, ℕ, ◌+◌, ◌≤◌, Bool, true, false, List, [], ◌∷◌, ◌++◌, length, None, sym, ap, ◌∙◌, inl, inr, arith, cond, append_assoc, length-append, ◌||◌, not, bytes_eq, list_any, decimal, eq_by_cmp, append-nil, list_any-append, bytes_eq-Decides, VarName, name_cmp, variable_text, variables_of_goals, firsts, Goal, widest_goals, names_of_goals, is_unnamed, variables, first_exceeded, of_query, SaysGoalBy, Each, doing, IsPrintedAs, false≢true, nat_tests, false_from_ne_true}
 use Rattle.ghc_term.specs.Goal as goal
 use Rattle.ghc_reader.proofs.Counting.{and_one, one_more}
-use Rattle.ghc_reader.proofs.Numbered.{is_seen, one_name, test_cases}
+use Rattle.ghc_reader.proofs.Numbered.{is_seen, test_cases}
 use Rattle.ghc_reader.proofs.NamesIn.{asked_called}
-use Rattle.ghc_reader.proofs.ReadAgain.{not_more}
 
 -- ---- variables
 
 -- what is printed of a variable is not `_`
 is_named : (x : VarName) → is_unnamed (variable_text x) ≡ false
-is_named x = elim (test_cases (is_unnamed (variable_text x))) [
-  | inl same ↦
-      let e = (bytes_eq-Decides (variable_text x) (95 ∷ [])).0 same in
-      absurd (omega (arith, ap length e, length-append (decimal x.step) (95 ∷ decimal x.place)))
-  | inr differs ↦ differs
-]
+is_named x = false_from_ne_true _ (λ same.
+    let e = (bytes_eq-Decides (variable_text x) (95 ∷ [])).0 same in
+    omega (arith, ap length e, length-append (decimal x.step) (95 ∷ decimal x.place)))
 
 at_most_one : (b : Bool) (n : ℕ) → and_one b n ≤ n + 1
-at_most_one true n = omega arith
-at_most_one false n = omega arith
-
-last_found : (b c : Bool) → c ≡ true → (b || (c || false)) ≡ true
-last_found true c e = refl
-last_found false c e = ap (λ a. a || false) e
+at_most_one b n = grind arith
 
 -- The names met hold those of the variables seen.
 abbrev AreMet : List (List ℕ) → List VarName → Type 0
@@ -34,11 +24,11 @@ still_met : (met : List (List ℕ)) (v w : List ℕ) → list_any (bytes_eq w) m
 still_met met v w found = list_any-append (bytes_eq w) met (v ∷ []) ∙ ap (λ b. b || (bytes_eq w v || false)) found
 
 met_now : (met : List (List ℕ)) (v w : List ℕ) → w ≡ v → list_any (bytes_eq w) (met ++ v ∷ []) ≡ true
-met_now met v w same = list_any-append (bytes_eq w) met (v ∷ []) ∙ last_found (list_any (bytes_eq w) met) (bytes_eq w v) ((bytes_eq-Decides w v).1 same)
+met_now met v w same = list_any-append (bytes_eq w) met (v ∷ []) ∙ grind (arith, (bytes_eq-Decides w v).1 same)
 
 one_more_met : (met : List (List ℕ)) (v : List ℕ) (x : VarName) (seen : List VarName) → v ≡ variable_text x → AreMet met seen → AreMet (met ++ v ∷ []) (x ∷ seen)
 one_more_met met v x seen printed known y found = elim (test_cases (eq_by_cmp name_cmp y x)) [
-  | inl same ↦ met_now met v (variable_text y) (ap variable_text (one_name y x same) ∙ sym printed)
+  | inl same ↦ met_now met v (variable_text y) (ap variable_text (same_name y x same) ∙ sym printed)
   | inr other ↦ still_met met v (variable_text y) (known y (sym (ap (λ a. a || is_seen y seen) other) ∙ found))
 ]
 
@@ -63,13 +53,9 @@ few_more (v ∷ vs) met (x ∷ xs) seen known h = elim (test_cases (is_seen x se
 
 pub few_variables : (xs : List Goal) (gs : List goal.Goal) → Each (SaysGoalBy IsPrintedAs) (doing xs) gs → variables (names_of_goals xs) ≤ length (firsts [] (variables_of_goals gs))
 few_variables xs gs says =
-    omega (arith, few_more (names_of_goals xs) [] (variables_of_goals gs) [] (λ y e. absurd (nothing e)) (asked_called IsPrintedAs xs gs says))
-  where
-    nothing : false ≡ true → ⊥
-    nothing e = cc
+    omega (arith, few_more (names_of_goals xs) [] (variables_of_goals gs) [] (λ y e. absurd (false≢true e)) (asked_called IsPrintedAs xs gs says))
 
 -- ---- limits
 
 pub none_exceeded : (xs : List Goal) → widest_goals xs ≤ 255 → length xs ≤ 1000 → variables (names_of_goals xs) ≤ 1000 → first_exceeded (of_query xs) ≡ None
-none_exceeded xs width many few =
-    λ i. cond (not_more 255 (widest_goals xs) width i) (Some limit.Arity) (cond (not_more 1000 (length xs) many i) (Some limit.Goals) (cond (not_more 1000 (variables (names_of_goals xs)) few i) (Some limit.Variables) None))
+none_exceeded xs width many few = grind (arith, nat_tests)

@@ -1,5 +1,5 @@
 -- Each goal that the grammar has a text for is said by a derivation, whose tokens have as their text what is printed of the goal.
-use Rattle.ghc_reader.proofs.Words.{◌≡◌, ℕ, ◌≤◌, Bool, true, false, List, [], ◌∷◌, ◌++◌, length, refl, sym, ap, ◌∙◌, subst, arith, append_assoc, codes, bytes_eq, nat_eq, ◌&&◌, nat_tests, bytes_eq-Decides, VarName, node, trees, list_of, variable_text, term_text, arguments_text, all_resolved, stream, goal_text, expression_text, list_of-trees, Piece, Equals, Token, Item, Tree, structure, tree_of, arguments_of, item_of, count, misplaced_goal, place_if, widest, widest_of, widest_goal, SaysBy, SaysAllBy, SaysValueBy, SaysGoalBy, is_true, IsWritable, IsWritableExpression, IsWritableGoal}
+use Rattle.ghc_reader.proofs.Words.{◌≡◌, ℕ, ◌≤◌, true, false, List, [], ◌∷◌, ◌++◌, length, refl, sym, ap, ◌∙◌, subst, arith, append_assoc, codes, bytes_eq, nat_eq, ◌&&◌, nat_tests, bytes_eq-Decides, VarName, node, trees, list_of, variable_text, term_text, arguments_text, all_resolved, stream, goal_text, expression_text, list_of-trees, Piece, Equals, Token, Item, Tree, structure, tree_of, arguments_of, item_of, count, misplaced_goal, place_if, widest, widest_of, widest_goal, SaysBy, SaysAllBy, SaysValueBy, SaysGoalBy, is_true, IsWritable, IsWritableExpression, IsWritableGoal}
 use Rattle.ghc_term.specs.Tree as term
 use Rattle.ghc_term.specs.Expression as shown
 use Rattle.ghc_term.specs.Goal.{Goal, call, unify, assign}
@@ -25,15 +25,7 @@ pub record IsMeantGoal (C : List ℕ → VarName → Type 0) (W : List ℕ → T
 -- ---- a call that is another than some one
 
 another_call : (name f : List ℕ) (k n : ℕ) → ¬ ((f ≡ name) × (n ≡ k)) → (bytes_eq f name && nat_eq n k) ≡ false
-another_call name f k n other =
-    elim (bytes_eq f name) as (λ b. bytes_eq f name ≡ b → (b && nat_eq n k) ≡ false) [
-      | true ↦ λ e. another_arity (nat_eq n k) (λ same. other ((bytes_eq-Decides f name).0 e, same)) refl
-      | false ↦ λ e. refl
-    ] refl
-  where
-    another_arity : (b : Bool) → ¬ (n ≡ k) → nat_eq n k ≡ b → b ≡ false
-    another_arity true differs e = absurd (differs (grind (arith, nat_tests)))
-    another_arity false differs e = refl
+another_call name f k n other = grind (arith, nat_tests, bytes_eq-Decides)
 
 unresolved : (us : List term.Tree) → all_resolved (λ t. t) us ≡ trees us
 unresolved [] = refl

@@ -16,11 +16,7 @@ decimal_digits n small = all_digits (decimal n) (decimal_is_IsNumeral n (omega a
 
 digits_are_word : (ds : List ℕ) → list_all is_ascii_digit ds ≡ true → list_all is_word ds ≡ true
 digits_are_word [] all = refl
-digits_are_word (d ∷ ds) all =
-    let first : is_ascii_digit d ≡ true = grind (arith, all) in
-    let others = digits_are_word ds (grind (arith, all)) in
-    let word : is_word d ≡ true = grind (arith, nat_tests, first) in
-    grind (arith, word, others)
+digits_are_word (d ∷ ds) all = let others = digits_are_word ds (grind (arith, all)) in grind (arith, nat_tests, others)
 
 -- ---- a word
 

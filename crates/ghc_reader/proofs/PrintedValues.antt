@@ -1,5 +1,5 @@
 -- Expressions as they are printed, each operand that has an operator in brackets: their derivations, tokens and texts.
-use Rattle.ghc_reader.proofs.Words.{◌≡◌, ℕ, true, false, List, ◌∷◌, ◌++◌, refl, sym, ap, ◌∙◌, append_assoc, FitsSigned, w64, codes, VarName, variable_text, leaf, operation, operator_text, expression_text, Piece, Close, Sum, Plus, Minus, Product, Times, Divide, Modulo, Token, Operand, factor, factors, Expression, summand, summands, Value, number, named, product, sum, operand_of, value_of, SaysValueBy, product_operator, sum_operator, IsWritableExpression}
+use Rattle.ghc_reader.proofs.Words.{◌≡◌, ℕ, true, false, List, ◌∷◌, ◌++◌, refl, sym, ap, ◌∙◌, append_assoc, FitsSigned, w64, codes, VarName, variable_text, leaf, operation, operator_text, expression_text, Piece, Close, Sum, Plus, Minus, Product, Times, Divide, Modulo, Token, Operand, factor, factors, Expression, summand, summands, Value, number, named, product, sum, operand_of, value_of, SaysValueBy, product_operator, sum_operator, IsWritableExpression, arith, Operator}
 use Rattle.ghc_term.specs.declared.operator.Operator.TheVariants as operator
 use Rattle.ghc_term.specs.Tree as term
 use Rattle.ghc_term.specs.Expression as shown
@@ -23,16 +23,14 @@ derive_value (product o a b) = summand (factors (derive_operand a) o (factor (de
 derive_value (sum o a b) = summands (factor (derive_operand a)) o (summand (factor (derive_operand b)))
 
 operand_back : (s : Value) → operand_of (derive_operand s) ≡ s
-operand_back (number n) = refl
-operand_back (named v) = refl
 operand_back (product o a b) = λ i. product o (operand_back a i) (operand_back b i)
 operand_back (sum o a b) = λ i. sum o (operand_back a i) (operand_back b i)
+operand_back s = refl
 
 pub value_back : (s : Value) → value_of (derive_value s) ≡ s
-value_back (number n) = refl
-value_back (named v) = refl
 value_back (product o a b) = λ i. product o (operand_back a i) (operand_back b i)
 value_back (sum o a b) = λ i. sum o (operand_back a i) (operand_back b i)
+value_back s = refl
 
 -- ---- its tokens are spaced
 
@@ -45,18 +43,16 @@ module _ (W : List ℕ → Type 0) where
   IsSoundValue (sum o a b) = IsSoundValue a × IsSoundValue b
 
   spaced_operand : (s : Value) (ts : List Token) → IsSoundValue s → AreSpaced W false ts → AreSpaced W true (grammar.operand (derive_operand s) ts)
-  spaced_operand (number n) ts s behind = ((refl, s), behind)
-  spaced_operand (named v) ts s behind = ((refl, s), behind)
   spaced_operand (product o a b) ts s behind =
       (tt, spaced_operand a (token.Product o ∷ grammar.operand (derive_operand b) (token.Mark Close ∷ ts)) s.0 (tt, spaced_operand b (token.Mark Close ∷ ts) s.1 (tt, behind)))
   spaced_operand (sum o a b) ts s behind =
       (tt, spaced_operand a (token.Sum o ∷ grammar.operand (derive_operand b) (token.Mark Close ∷ ts)) s.0 (tt, spaced_operand b (token.Mark Close ∷ ts) s.1 (tt, behind)))
+  spaced_operand v ts s behind = ((refl, s), behind)
 
   pub spaced_value : (s : Value) (ts : List Token) → IsSoundValue s → AreSpaced W false ts → AreSpaced W true (grammar.expression (derive_value s) ts)
-  spaced_value (number n) ts s behind = ((refl, s), behind)
-  spaced_value (named v) ts s behind = ((refl, s), behind)
   spaced_value (product o a b) ts s behind = spaced_operand a (token.Product o ∷ grammar.operand (derive_operand b) ts) s.0 (tt, spaced_operand b ts s.1 behind)
   spaced_value (sum o a b) ts s behind = spaced_operand a (token.Sum o ∷ grammar.operand (derive_operand b) ts) s.0 (tt, spaced_operand b ts s.1 behind)
+  spaced_value v ts s behind = ((refl, s), behind)
 
 -- ---- its text is what is printed
 
@@ -78,25 +74,19 @@ module _ (C : List ℕ → VarName → Type 0) (called : (v : List ℕ) (x : Var
   joined a b c d = ap (λ l. a ++ l) (sym (append_assoc b c d)) ∙ sym (append_assoc a (b ++ c) d)
 
   product_mark : (o : Product) (ts : List Token) → text (token.Product o ∷ ts) ≡ operator_text (product_operator o) ++ text ts
-  product_mark Times ts = refl
-  product_mark Divide ts = refl
-  product_mark Modulo ts = refl
+  product_mark o ts = grind arith
 
   sum_mark : (o : Sum) (ts : List Token) → text (token.Sum o ∷ ts) ≡ operator_text (sum_operator o) ++ text ts
-  sum_mark Plus ts = refl
-  sum_mark Minus ts = refl
+  sum_mark o ts = grind arith
 
-  product_text : (o : Product) (a b : Value) (l r : shown.Expression) → IsOperandText a l → IsOperandText b r → IsValueText (product o a b) (operation (product_operator o) l r)
-  product_text o a b l r left right ts =
-      left (token.Product o ∷ grammar.operand (derive_operand b) ts)
-      ∙ ap (λ x. printed_operand l ++ x) (product_mark o (grammar.operand (derive_operand b) ts) ∙ ap (λ x. operator_text (product_operator o) ++ x) (right ts))
-      ∙ joined (printed_operand l) (operator_text (product_operator o)) (printed_operand r) (text ts)
-
-  sum_text : (o : Sum) (a b : Value) (l r : shown.Expression) → IsOperandText a l → IsOperandText b r → IsValueText (sum o a b) (operation (sum_operator o) l r)
-  sum_text o a b l r left right ts =
-      left (token.Sum o ∷ grammar.operand (derive_operand b) ts)
-      ∙ ap (λ x. printed_operand l ++ x) (sum_mark o (grammar.operand (derive_operand b) ts) ∙ ap (λ x. operator_text (sum_operator o) ++ x) (right ts))
-      ∙ joined (printed_operand l) (operator_text (sum_operator o)) (printed_operand r) (text ts)
+  -- an operation, of which the mark has the operator's text
+  operation_text : (mark : Token) (o : Operator) (a b : Value) (l r : shown.Expression) → ((ts : List Token) → text (mark ∷ ts) ≡ operator_text o ++ text ts)
+      → IsOperandText a l → IsOperandText b r → (ts : List Token)
+      → text (grammar.operand (derive_operand a) (mark ∷ grammar.operand (derive_operand b) ts)) ≡ expression_text (operation o l r) ++ text ts
+  operation_text mark o a b l r marked left right ts =
+      left (mark ∷ grammar.operand (derive_operand b) ts)
+      ∙ ap (λ x. printed_operand l ++ x) (marked (grammar.operand (derive_operand b) ts) ∙ ap (λ x. operator_text o ++ x) (right ts))
+      ∙ joined (printed_operand l) (operator_text o) (printed_operand r) (text ts)
 
   -- a text in brackets
   bracketed : (x more : List ℕ) (ts : List Token) → more ≡ x ++ text (token.Mark Close ∷ ts) → 40 ∷ more ≡ (codes "(" ++ (x ++ codes ")")) ++ text ts
@@ -106,25 +96,26 @@ module _ (C : List ℕ → VarName → Type 0) (called : (v : List ℕ) (x : Var
   operand_printed (number n) e says ts = ap (λ x. printed_operand x ++ text ts) (sym says)
   operand_printed (named v) e says ts = ap (λ l. l ++ text ts) (called v says.0 says.2 ∙ ap printed_operand (sym says.1))
   operand_printed (product o a b) e says ts =
-      let l = says.0 in
-      let r = says.1 in
-      bracketed (expression_text (operation (product_operator o) l r)) (text (grammar.expression (derive_value (product o a b)) (token.Mark Close ∷ ts))) ts
-      (product_text o a b l r (operand_printed a l says.3) (operand_printed b r says.4) (token.Mark Close ∷ ts))
+      bracketed (expression_text (operation (product_operator o) says.0 says.1)) _ ts
+      (operation_text (token.Product o) (product_operator o) a b says.0 says.1 (product_mark o)
+      (operand_printed a says.0 says.3) (operand_printed b says.1 says.4) (token.Mark Close ∷ ts))
       ∙ ap (λ x. printed_operand x ++ text ts) (sym says.2)
   operand_printed (sum o a b) e says ts =
-      let l = says.0 in
-      let r = says.1 in
-      bracketed (expression_text (operation (sum_operator o) l r)) (text (grammar.expression (derive_value (sum o a b)) (token.Mark Close ∷ ts))) ts
-      (sum_text o a b l r (operand_printed a l says.3) (operand_printed b r says.4) (token.Mark Close ∷ ts))
+      bracketed (expression_text (operation (sum_operator o) says.0 says.1)) _ ts
+      (operation_text (token.Sum o) (sum_operator o) a b says.0 says.1 (sum_mark o)
+      (operand_printed a says.0 says.3) (operand_printed b says.1 says.4) (token.Mark Close ∷ ts))
       ∙ ap (λ x. printed_operand x ++ text ts) (sym says.2)
 
   pub value_printed : (s : Value) (e : shown.Expression) → SaysValueBy C s e → IsValueText s e
   value_printed (number n) e says ts = ap (λ x. expression_text x ++ text ts) (sym says)
   value_printed (named v) e says ts = ap (λ l. l ++ text ts) (called v says.0 says.2 ∙ ap expression_text (sym says.1))
   value_printed (product o a b) e says ts =
-      product_text o a b says.0 says.1 (operand_printed a says.0 says.3) (operand_printed b says.1 says.4) ts ∙ ap (λ x. expression_text x ++ text ts) (sym says.2)
+      operation_text (token.Product o) (product_operator o) a b says.0 says.1 (product_mark o)
+      (operand_printed a says.0 says.3) (operand_printed b says.1 says.4) ts
+      ∙ ap (λ x. expression_text x ++ text ts) (sym says.2)
   value_printed (sum o a b) e says ts =
-      sum_text o a b says.0 says.1 (operand_printed a says.0 says.3) (operand_printed b says.1 says.4) ts ∙ ap (λ x. expression_text x ++ text ts) (sym says.2)
+      operation_text (token.Sum o) (sum_operator o) a b says.0 says.1 (sum_mark o) (operand_printed a says.0 says.3) (operand_printed b says.1 says.4) ts
+      ∙ ap (λ x. expression_text x ++ text ts) (sym says.2)
 
 -- ---- each expression that the grammar has a text for is said
 

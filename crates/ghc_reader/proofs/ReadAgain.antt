@@ -1,7 +1,6 @@
 -- What was read as an input term is, printed, read again as itself.
-use Rattle.ghc_reader.proofs.Words.{◌≡◌, ℕ, ◌≤◌, true, false, List, [], ◌∷◌, ◌++◌, length, Option, Some, None, refl, sym, ap, ◌∙◌, subst, arith, cond, nat_lt, nat_tests, VarName, node, variable_text, term_text, Resolves, an_integer, a_node, ResolvesAll, no_more, one_more, IsTextOf, IsInGrammar, AllInGrammar, IsInputTerm, nesting, Token, Place, Refused, Input, Tree, tree_of, IsLexed, token_places, start, place_behind, widest, nodes, first_exceeded, of_term, Says, IsCalled, a_term, IsRead, IsReadTerm, IsSpelledBy}
+use Rattle.ghc_reader.proofs.Words.{◌≡◌, ℕ, ◌≤◌, true, List, [], ◌∷◌, ◌++◌, length, Option, refl, sym, ap, ◌∙◌, subst, arith, nat_tests, VarName, node, variable_text, term_text, Resolves, an_integer, a_node, ResolvesAll, no_more, one_more, IsTextOf, IsInGrammar, AllInGrammar, IsInputTerm, nesting, Token, Place, Refused, Input, tree_of, IsLexed, token_places, start, place_behind, nodes, Says, IsCalled, a_term, IsRead, IsReadTerm, IsSpelledBy}
 use Rattle.std.proofs.Common.{append-nil}
-use Rattle.ghc_term.specs.declared.limit.Limit.TheVariants as limit
 use Rattle.ghc_term.specs.Tree as term
 use Rattle.ghc_term.specs.InputTerm as input_term
 use Rattle.ghc_reader.specs.Grammar as grammar
@@ -61,12 +60,6 @@ term_is_spelled u g = spelled_by u (closed_meant u g)
 
 -- ---- an input term is what its text is read as
 
-pub not_more : (most n : ℕ) → n ≤ most → nat_lt most n ≡ false
-not_more most n h = grind (arith, nat_tests)
-
-within_limits : (s : Tree) → widest s ≤ 255 → nodes s ≤ 10000 → first_exceeded (of_term s) ≡ None
-within_limits s width size = λ i. cond (not_more 255 (widest s) width i) (Some limit.Arity) (cond (not_more 10000 (nodes s) size i) (Some limit.Term) None)
-
 pub input_is_read : (u : term.Tree) → IsInputTerm u → IsReadTerm (term_text u) u
 input_is_read u input =
     let m = closed_meant u input.grammar in
@@ -85,7 +78,7 @@ input_is_read u input =
         sees = derive_back s;
       };
       placed = refl;
-      within = within_limits s m.width size;
+      within = grind (arith, nat_tests, m.width, size);
     } in
     (s, read, m.says)
 

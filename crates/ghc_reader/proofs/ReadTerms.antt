@@ -1,7 +1,6 @@
 -- What is read as an input term is one: in the grammar, and within the limits.
-use Rattle.ghc_reader.proofs.Words.{◌≡◌, ℕ, ◌≤◌, Bool, true, false, List, [], ◌∷◌, length, Some, None, refl, sym, ap, ◌∙◌, subst, arith, cond, nat_lt, nat_tests, IsInputTerm, Close, CloseList, Comma, Bar, Token, Place, Refused, Term, variable, integer, call, list, Arguments, without, within, Rest, closed, whole, partial, Terms, one, more, Input, input, terms, tree_of, trees_of, cells_of, IsTooDeep, IsLexed, most_bytes, widest, nodes, Says, IsClosed, AreClosed, IsReadTerm}
+use Rattle.ghc_reader.proofs.Words.{◌≡◌, ℕ, ◌≤◌, true, List, [], ◌∷◌, length, None, refl, sym, ap, ◌∙◌, subst, arith, IsInputTerm, Close, CloseList, Comma, Bar, Token, Place, Refused, Term, variable, integer, call, list, without, within, closed, whole, partial, Terms, one, more, Input, input, terms, tree_of, trees_of, cells_of, IsTooDeep, IsLexed, most_bytes, widest, nodes, Says, IsClosed, AreClosed, IsReadTerm, first_exceeded, of_term, nat_tests}
 use Rattle.ghc_term.specs.Tree as term
-use Rattle.ghc_term.specs.declared.limit.Limit.TheVariants as limit
 use Rattle.ghc_reader.specs.declared.token.Token.TheVariants as token
 use Rattle.ghc_reader.specs.Grammar as grammar
 use Rattle.ghc_reader.specs.Source as tree
@@ -75,20 +74,13 @@ lexed_is_input text tokens places i u short lexed spelled shallow size width say
 
 -- ---- the limits
 
-within_both : (wide many : Bool) → cond wide (Some limit.Arity) (cond many (Some limit.Term) None) ≡ None → (wide ≡ false) × (many ≡ false)
-within_both true many e = cc
-within_both false true e = cc
-within_both false false e = (refl, refl)
-
-at_most : (most n : ℕ) → nat_lt most n ≡ false → n ≤ most
-at_most most n e = grind (arith, nat_tests)
+limits_of_term : (s : tree.Tree) → first_exceeded (of_term s) ≡ None → (widest s ≤ 255) × (nodes s ≤ 10000)
+limits_of_term s none = grind (arith, nat_tests)
 
 pub read_is_input : (text : List ℕ) (u : term.Tree) → IsReadTerm text u → IsInputTerm u
 read_is_input text u (seen, read, says) =
     let derived = read.derived in
     let i = derived.derivation in
-    let limits = within_both (nat_lt 255 (widest seen)) (nat_lt 10000 (nodes seen)) read.within in
-    let wide = at_most 255 (widest seen) limits.0 in
-    let many = at_most 10000 (nodes seen) limits.1 in
+    let (wide, many) = limits_of_term seen read.within in
     lexed_is_input text read.tokens read.places i u (derived.scanned.has_tokens.short refl) derived.scanned.has_tokens.lexed derived.spelled (derived.scanned.shallow refl)
     (omega (arith, many, ap nodes derived.sees)) (omega (arith, wide, ap widest derived.sees)) (subst (λ t. Says [] t u) (sym derived.sees) says)

@@ -19,8 +19,7 @@ split_run_of test (b ∷ bs) = by_test (test b) refl (split_run_of test bs)
   where
     by_test : (t : Bool) → test b ≡ t → SplitRun test bs → SplitRun test (b ∷ bs)
     by_test true passes more =
-        let all = more.each in
-        record { front = b ∷ more.front; rest = more.rest; split = ap (λ l. b ∷ l) more.split; each = grind (arith, all, passes); stops = more.stops }
+        record { front = b ∷ more.front; rest = more.rest; split = ap (λ l. b ∷ l) more.split; each = grind (arith, more.each, passes); stops = more.stops }
     by_test false fails more = record { front = []; rest = b ∷ bs; split = refl; each = refl; stops = fails }
 
 number_or_none : (text : List ℕ) → ((digits rest : List ℕ) × BeginsNumber text digits rest) ⊎ ((digits more : List ℕ) → AreDigits digits → text ≢ 95 ∷ (digits ++ more))
@@ -37,9 +36,7 @@ number_or_none (b ∷ bs) = elim (same_or_not (b ∷ []) (95 ∷ [])) [
     by_front : (front rest : List ℕ) → b ∷ [] ≡ 95 ∷ [] → bs ≡ front ++ rest → list_all is_ascii_digit front ≡ true → Lacks is_ascii_digit rest → ((digits rest : List ℕ) × BeginsNumber (b ∷ bs) digits rest) ⊎ ((digits more : List ℕ) → AreDigits digits → b ∷ bs ≢ 95 ∷ (digits ++ more))
     by_front [] rest same split each stops = inr (λ digits more run e. none_there rest digits more split stops run (cc))
     by_front (d ∷ ds) rest same split each stops =
-        let first : is_ascii_digit d ≡ true = grind (arith, each) in
-        let others : list_all is_ascii_digit ds ≡ true = grind (arith, each) in
-        inl (d ∷ ds, rest, ((first, others), cc, stops))
+        inl (d ∷ ds, rest, ((grind (arith, each), grind (arith, each)), cc, stops))
 
 reserved_or_not : (bs : List ℕ) → IsSoOrNot (IsReserved bs)
 reserved_or_not bs = elim (number_or_none bs) [
@@ -68,7 +65,7 @@ too_great_or_not bs = elim (reserved_or_not bs) [
     low : (n : ℕ) → ¬ (greatest_number < n) → n ≤ greatest_number
     low n never = elim (cases_lt greatest_number n) [ inl great ↦ absurd (never great) | inr fits ↦ fits ]
 
-fits_or_not : (z : ℤ) → IsSoOrNot (FitsSigned w64 z)
+pub fits_or_not : (z : ℤ) → IsSoOrNot (FitsSigned w64 z)
 fits_or_not z = below_or_not (FitsSigned w64 z) _ _ (λ h. record { sfits = h }) (λ fits. fits.sfits)
 
 pub refused_or_not : (r : Reserved) (t : Option Token) → IsSoOrNot (IsRefusedToken r t)
@@ -76,5 +73,4 @@ refused_or_not reserved.Refused (Some (token.Integer value)) = not_or_so _ (fits
 refused_or_not reserved.Allowed (Some (token.Integer value)) = not_or_so _ (fits_or_not value)
 refused_or_not reserved.Refused (Some (token.Variable bs)) = reserved_or_not bs
 refused_or_not reserved.Allowed (Some (token.Variable bs)) = too_great_or_not bs
-refused_or_not reserved.Refused t = inr (λ h. h)
-refused_or_not reserved.Allowed t = inr (λ h. h)
+refused_or_not r t = inr (λ h. h)

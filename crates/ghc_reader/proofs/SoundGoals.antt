@@ -1,5 +1,5 @@
 -- Goals of good tokens have names of the grammar and integers of 64 bits; and what such goals say within the limits the grammar has a text for.
-use Rattle.ghc_reader.proofs.Words.{◌≡◌, ℕ, ◌≤◌, true, false, List, [], ◌∷◌, ◌++◌, length, refl, sym, ap, ◌∙◌, subst, inl, inr, arith, cond, None, codes, bytes_eq, nat_eq, nat_lt, ◌&&◌, not, nat_tests, bytes_eq-Decides, VarName, In, trees, list_of, IsNameText, list_of-trees, Close, Comma, Equals, Stop, Sum, Product, Token, Allowed, Operand, Factors, factor, factors, Expression, summand, summands, Item, Body, last, next, Query, plain, stopped, query, Tree, Trees, Value, Goal, operand_of, product_of, product_onto, value_of, sum_onto, item_of, goals_of, query_of, count, place_if, misplaced_goal, misplaced_body, first_place, widest, widest_of, widest_goal, widest_goals, names_of_goals, variables, Names, IsCalled, SaysBy, SaysAllBy, SaysValueBy, SaysGoalBy, Each, doing, is_true, IsWritable, AreWritable, IsWritableExpression, IsWritableGoal, IsReadAs, IsNamedIn}
+use Rattle.ghc_reader.proofs.Words.{◌≡◌, ℕ, ◌≤◌, true, false, List, [], ◌∷◌, ◌++◌, length, refl, sym, ap, ◌∙◌, subst, inl, inr, arith, cond, codes, bytes_eq, nat_eq, ◌&&◌, not, nat_tests, bytes_eq-Decides, VarName, In, trees, IsNameText, list_of-trees, Close, Comma, Equals, Stop, Sum, Product, Token, Allowed, Operand, Factors, factor, factors, Expression, summand, summands, Item, Body, last, next, Query, plain, stopped, query, Tree, Trees, Value, Goal, operand_of, product_of, product_onto, value_of, sum_onto, item_of, goals_of, query_of, count, place_if, misplaced_goal, misplaced_body, widest, widest_of, widest_goal, widest_goals, Names, IsCalled, SaysBy, SaysAllBy, SaysValueBy, SaysGoalBy, Each, doing, is_true, IsWritable, AreWritable, IsWritableExpression, IsWritableGoal, IsReadAs, IsNamedIn, false≢true}
 use Rattle.ghc_term.specs.Tree as term
 use Rattle.ghc_term.specs.Expression as shown
 use Rattle.ghc_term.specs.Goal as goal
@@ -10,7 +10,7 @@ use Rattle.ghc_reader.proofs.Meanings.{AnyVariable, IsSoundBy, AreSoundBy}
 use Rattle.ghc_reader.proofs.Numbered.{test_cases}
 use Rattle.ghc_reader.proofs.TokenBytes.{AreGood, good_tokens}
 use Rattle.ghc_reader.proofs.ReadTerms.{sound_tree}
-use Rattle.ghc_reader.proofs.WithinLimits.{each_false, at_most}
+use Rattle.ghc_reader.proofs.WithinLimits.{limits_of_query}
 use Rattle.ghc_reader.proofs.PrintedValues.{IsSoundValue}
 
 -- ---- a derivation of good tokens is sound
@@ -72,13 +72,7 @@ sound_query (stopped b) good = sound_body b (token.Mark Stop ∷ []) good
 -- ---- what it says the grammar has a text for
 
 this_call : (name f : List ℕ) (k n : ℕ) → f ≡ name → n ≡ k → (bytes_eq f name && nat_eq n k) ≡ true
-this_call name f k n same arity =
-    let named = (bytes_eq-Decides f name).1 same in
-    let counted : nat_eq n k ≡ true = grind (arith, nat_tests) in
-    λ i. named i && counted i
-
-never : true ≡ false → ⊥
-never e = cc
+this_call name f k n same arity = grind (arith, nat_tests, bytes_eq-Decides)
 
 nothing_first : {X : Type 0} (a b : List X) → a ++ b ≡ [] → (a ≡ []) × (b ≡ [])
 nothing_first [] b e = (refl, e)
@@ -105,30 +99,26 @@ module _ (C : List ℕ → VarName → Type 0) (V : VarName → Type 0) (passes 
     writable_trees : (ts : Trees) (us : List term.Tree) → SaysAllBy C ts us → AreSoundBy AnyVariable ts → widest_of ts ≤ 255 → AreWritable V (trees us)
     writable_trees source.none us says sound width = subst (λ l. AreWritable V (trees l)) (sym says) tt
     writable_trees (source.some t ts) us says sound width =
-        subst (λ l. AreWritable V (trees l)) (sym says.2)
-        (writable_tree t says.0 says.3 sound.0 (omega (arith, width)), writable_trees ts says.1 says.4 sound.1 (omega (arith, width)))
+        rw says.2 (writable_tree t says.0 says.3 sound.0 (omega (arith, width)), writable_trees ts says.1 says.4 sound.1 (omega (arith, width)))
 
   writable_value : (s : Value) (e : shown.Expression) → SaysValueBy C s e → IsSoundValue AnyVariable s → IsWritableExpression V e
   writable_value (source.number n) e says sound = subst (IsWritableExpression V) (sym says) sound
   writable_value (source.named v) e says sound = subst (IsWritableExpression V) (sym says.1) (passes v says.0 says.2)
-  writable_value (source.product o a b) e says sound =
-      subst (IsWritableExpression V) (sym says.2) (writable_value a says.0 says.3 sound.0, writable_value b says.1 says.4 sound.1)
-  writable_value (source.sum o a b) e says sound =
-      subst (IsWritableExpression V) (sym says.2) (writable_value a says.0 says.3 sound.0, writable_value b says.1 says.4 sound.1)
+  writable_value (source.product o a b) e says sound = rw says.2 (writable_value a says.0 says.3 sound.0, writable_value b says.1 says.4 sound.1)
+  writable_value (source.sum o a b) e says sound = rw says.2 (writable_value a says.0 says.3 sound.0, writable_value b says.1 says.4 sound.1)
 
   writable_goal : (x : Goal) (g : goal.Goal) → SaysGoalBy C x g → IsSoundGoal x → widest_goal x ≤ 255 → is_true x ≡ false → misplaced_goal x ≡ [] → IsWritableGoal V g
   writable_goal (source.call c) g says sound width plain_call placed =
       let many = counted c.arguments says.0 says.2 in
-      let no_true : ¬ ((c.name ≡ codes "true") × (length says.0 ≡ 0)) = λ h. never (sym (this_call (codes "true") c.name 0 (count c.arguments) h.0 (omega (arith, many, h.1))) ∙ plain_call) in
+      let no_true : ¬ ((c.name ≡ codes "true") × (length says.0 ≡ 0)) = λ h.
+      false≢true (sym plain_call ∙ this_call (codes "true") c.name 0 (count c.arguments) h.0 (omega (arith, many, h.1))) in
       let no_stream : ¬ ((c.name ≡ codes "instream") × (length says.0 ≡ 1)) = λ h.
       absurd (omega (arith, ap length (sym placed ∙ ap (λ b. place_if b c) (this_call (codes "instream") c.name 1 (count c.arguments) h.0 (omega (arith, many, h.1)))))) in
       subst (IsWritableGoal V) (sym says.1)
       (sound.0, omega (arith, width, many), writable_trees c.arguments says.0 says.2 sound.1 (omega (arith, width)), no_true, no_stream)
   writable_goal (source.unify s t) g says sound width plain_call placed =
-      subst (IsWritableGoal V) (sym says.2)
-      (writable_tree s says.0 says.3 sound.0 (omega (arith, width)), writable_tree t says.1 says.4 sound.1 (omega (arith, width)))
-  writable_goal (source.assign v e) g says sound width plain_call placed =
-      subst (IsWritableGoal V) (sym says.2) (passes v says.0 says.3, writable_value e says.1 says.4 sound)
+      rw says.2 (writable_tree s says.0 says.3 sound.0 (omega (arith, width)), writable_tree t says.1 says.4 sound.1 (omega (arith, width)))
+  writable_goal (source.assign v e) g says sound width plain_call placed = rw says.2 (passes v says.0 says.3, writable_value e says.1 says.4 sound)
 
   each_writable : (xs : List Goal) (gs : List goal.Goal) → Each (SaysGoalBy C) (doing xs) gs → EachIsSound xs → misplaced_body xs ≡ [] → widest_goals xs ≤ 255 → (g : goal.Goal) → In g gs → IsWritableGoal V g
   each_writable [] [] says sound placed width g stands = absurd stands
@@ -151,15 +141,10 @@ module _ (C : List ℕ → VarName → Type 0) (V : VarName → Type 0) (passes 
 
 -- ---- the whole text
 
-nothing_misplaced : (places : List ℕ) → first_place places ≡ None → places ≡ []
-nothing_misplaced [] e = refl
-nothing_misplaced (n ∷ ns) e = cc
-
 pub read_writable : (names : Names) (text : List ℕ) (gs : List goal.Goal) → IsReadAs (IsCalled names) text gs → (g : goal.Goal) → In g gs → IsWritableGoal (IsNamedIn names) g
 read_writable names text gs (xs, read, says) =
     let derived = read.derived in
     let lexed = derived.scanned.has_tokens.lexed in
     let good = subst AreGood (sym lexed.tokens_are ∙ derived.spelled) (good_tokens Allowed true lexed.pieces [] lexed.cut.each_stands lexed.cut.none_refused) in
     let sound = subst EachIsSound derived.sees (sound_query derived.derivation good) in
-    let limits = each_false false (nat_lt 255 (widest_goals xs)) (nat_lt 1000 (length xs)) (nat_lt 1000 (variables (names_of_goals xs))) read.within in
-    each_writable (IsCalled names) (IsNamedIn names) (λ v x called. (v, called)) xs gs says sound (nothing_misplaced (misplaced_body xs) read.placed) (at_most 255 (widest_goals xs) limits.1)
+    each_writable (IsCalled names) (IsNamedIn names) (λ v x called. (v, called)) xs gs says sound (grind (arith, read.placed)) (limits_of_query xs read.within).0

@@ -47,6 +47,5 @@ no_stream (assign v e) names u h = ap is_stream h.2
 
 pub no_streams : (gs : List Goal) (names : Names) (us : List goal.Goal) → Each (SaysGoal names) gs us → filter is_stream us ≡ []
 no_streams [] names [] h = refl
-no_streams [] names (u ∷ us) h = absurd h
-no_streams (g ∷ gs) names [] h = absurd h
 no_streams (g ∷ gs) names (u ∷ us) h = ap (λ b. cond b (u ∷ filter is_stream us) (filter is_stream us)) (no_stream g names u h.0) ∙ no_streams gs names us h.1
+no_streams gs names us h = absurd h

@@ -1,10 +1,10 @@
 -- A fault in a part of a term is one of the term.
-use Rattle.ghc_reader.proofs.Words.{◌≡◌, ◌≢◌, ℕ, List, [], ◌∷◌, length, Option, Some, None, refl, sym, ap, ◌∙◌, subst, Mark, Open, Close, OpenList, CloseList, Comma, Bar, Token, first, Begins, Term, variable, integer, call, list, Arguments, without, within, Rest, closed, whole, partial, Terms, one, more, term, arguments, rest, terms, EndsArguments, EndsTerm, EndsTerms, EndsRest, Fault}
+use Rattle.ghc_reader.proofs.Words.{◌≡◌, ◌≢◌, ℕ, List, [], ◌∷◌, length, Option, Some, refl, sym, ap, ◌∙◌, subst, Mark, Open, Close, OpenList, CloseList, Comma, Bar, Token, first, Begins, Term, variable, call, list, Arguments, without, within, Rest, closed, whole, partial, Terms, one, more, term, arguments, rest, terms, EndsArguments, EndsTerm, EndsTerms, EndsRest, Fault}
 use Rattle.ghc_reader.specs.declared.token.Token.TheVariants as token
 use Rattle.ghc_reader.proofs.Append.{some_variable, term_append, arguments_append, rest_append, terms_append}
 use Rattle.ghc_reader.proofs.Ends.{ends_term, ends_terms}
 use Rattle.ghc_reader.proofs.OneTerm.{no_terms, one_term, one_terms}
-use Rattle.ghc_reader.proofs.Faults.{inside, here}
+use Rattle.ghc_reader.proofs.Faults.{in_front, inside, here}
 
 first_of_terms : (d : Terms) (us r : List Token) → EndsTerms d (first r) → us ≡ terms d r → (c : Term) × (r' : List Token) × EndsTerm c (first r') × (us ≡ term c r')
 first_of_terms (one t) us r p e = (t, r, p.0, e)
@@ -12,13 +12,7 @@ first_of_terms (more t x) us r p e = (t, token.Mark Comma ∷ terms x r, ends_te
 
 pub first_in_terms : (ts : List Token) (left : ℕ) → Fault Term term EndsTerm ts left → Fault Terms terms EndsTerms ts left
 first_in_terms ts left f =
-    inside Term Terms term terms EndsTerm EndsTerms (λ l. l) ts left
-    (record {
-      pre_append = λ a b. refl;
-      append = term_append;
-      completes = λ c. (one c, [], refl);
-      inverts = λ us same d r p e. first_of_terms d us r p e;
-    }) f
+    in_front f term_append (λ c. (one c, [], refl)) first_of_terms
 
 -- one more term at the end
 abbrev pub also : Terms → Term → Terms
@@ -29,32 +23,23 @@ pub terms_also : (x : Terms) (u : Term) (ts : List Token) → terms (also x u) t
 terms_also (one t) u ts = refl
 terms_also (more t x) u ts = ap (λ l. term t (token.Mark Comma ∷ l)) (terms_also x u ts)
 
--- what follows a comma behind these terms
-next_of_terms : (x d : Terms) (us r : List Token) → EndsTerms d (first r) → terms x (token.Mark Comma ∷ us) ≡ terms d r → (c : Term) × (r' : List Token) × EndsTerm c (first r') × (us ≡ term c r')
-next_of_terms (one t) (one u) us r p e =
+-- the terms behind a first one
+others_of_terms : (t : Term) (d : Terms) (us r : List Token) → EndsTerms d (first r) → term t (token.Mark Comma ∷ us) ≡ terms d r
+    → (y : Terms) × (r' : List Token) × EndsTerms y (first r') × (us ≡ terms y r')
+others_of_terms t (one u) us r p e =
     let s = one_term t u (token.Mark Comma ∷ us) r (ends_term Comma (λ h. cc) t) p.0 e in absurd (p.1 (sym (ap first s.behind)))
-next_of_terms (one t) (more u y) us r p e =
+others_of_terms t (more u y) us r p e =
     let s = one_term t u (token.Mark Comma ∷ us) (token.Mark Comma ∷ terms y r) (ends_term Comma (λ h. cc) t) (ends_term Comma (λ h. cc) u) e in
-    let behind = s.behind in
-    let tail : us ≡ terms y r = cc in
-    first_of_terms y us r p tail
-next_of_terms (more t x) (one u) us r p e =
-    let s = one_term t u (token.Mark Comma ∷ terms x (token.Mark Comma ∷ us)) r (ends_term Comma (λ h. cc) t) p.0 e in absurd (p.1 (sym (ap first s.behind)))
-next_of_terms (more t x) (more u y) us r p e =
-    let s = one_term t u (token.Mark Comma ∷ terms x (token.Mark Comma ∷ us)) (token.Mark Comma ∷ terms y r) (ends_term Comma (λ h. cc) t) (ends_term Comma (λ h. cc) u) e in
-    let behind = s.behind in
-    let tail : terms x (token.Mark Comma ∷ us) ≡ terms y r = cc in
-    next_of_terms x y us r p tail
+    (y, r, p, cc)
+
+behind_first : (t : Term) (ts : List Token) (left : ℕ) → Fault Terms terms EndsTerms ts left → Fault Terms terms EndsTerms (term t (token.Mark Comma ∷ ts)) left
+behind_first t ts left f =
+    inside (λ l. term t (token.Mark Comma ∷ l)) f (λ a b. term_append t (token.Mark Comma ∷ a) b) terms_append (λ c. (more t c, [], refl))
+    (λ us same d r p e. others_of_terms t d us r p e)
 
 pub next_in_terms : (x : Terms) (ts : List Token) (left : ℕ) → Fault Term term EndsTerm ts left → Fault Terms terms EndsTerms (terms x (token.Mark Comma ∷ ts)) left
-next_in_terms x ts left f =
-    inside Term Terms term terms EndsTerm EndsTerms (λ l. terms x (token.Mark Comma ∷ l)) ts left
-    (record {
-      pre_append = λ a b. terms_append x (token.Mark Comma ∷ a) b;
-      append = term_append;
-      completes = λ c. (also x c, [], sym (terms_also x c []));
-      inverts = λ us same d r p e. next_of_terms x d us r p e;
-    }) f
+next_in_terms (one t) ts left f = behind_first t ts left (first_in_terms ts left f)
+next_in_terms (more t x) ts left f = behind_first t (terms x (token.Mark Comma ∷ ts)) left (next_in_terms x ts left f)
 
 -- ---- what stands after a name
 
@@ -64,13 +49,8 @@ terms_of_arguments (within x) us r p e = (x, cc)
 
 pub terms_in_arguments : (ts : List Token) (left : ℕ) → Fault Terms terms EndsTerms ts left → Fault Arguments arguments EndsArguments (token.Mark Open ∷ ts) left
 terms_in_arguments ts left f =
-    inside Terms Arguments terms arguments EndsTerms EndsArguments (λ l. token.Mark Open ∷ l) ts left
-    (record {
-      pre_append = λ a b. refl;
-      append = terms_append;
-      completes = λ c. (within c, token.Mark Close ∷ [], refl);
-      inverts = λ us same d r p e. let x = terms_of_arguments d us r p e in (x.0, token.Mark Close ∷ r, ends_terms Close (λ h. cc) (λ h. cc) x.0, x.1);
-    }) f
+    inside (λ l. token.Mark Open ∷ l) f (λ a b. refl) terms_append (λ c. (within c, token.Mark Close ∷ [], refl))
+    (λ us same d r p e. let x = terms_of_arguments d us r p e in (x.0, token.Mark Close ∷ r, ends_terms Close (λ h. cc) (λ h. cc) x.0, x.1))
 
 pub close_missing : (x : Terms) (ts : List Token) → EndsTerms x (first ts) → ¬ Begins Close ts → Fault Arguments arguments EndsArguments (token.Mark Open ∷ terms x ts) (length ts)
 close_missing x ts p n =
@@ -83,51 +63,34 @@ close_missing x ts p n =
 -- ---- a term
 
 pub arguments_of_term : (f : List ℕ) (d : Term) (us r : List Token) → EndsTerm d (first r) → token.Name f ∷ us ≡ term d r → (c : Arguments) × EndsArguments c (first r) × (us ≡ arguments c r)
-arguments_of_term f (variable v) us r p e = cc
-arguments_of_term f (integer n) us r p e = cc
 arguments_of_term f (call g x) us r p e = (x, p, cc)
-arguments_of_term f (list x) us r p e = cc
+arguments_of_term f d us r p e = cc
 
 pub arguments_in_term : (f : List ℕ) (ts : List Token) (left : ℕ) → Fault Arguments arguments EndsArguments ts left → Fault Term term EndsTerm (token.Name f ∷ ts) left
 arguments_in_term f ts left h =
-    inside Arguments Term arguments term EndsArguments EndsTerm (λ l. token.Name f ∷ l) ts left
-    (record {
-      pre_append = λ a b. refl;
-      append = arguments_append;
-      completes = λ c. (call f c, [], refl);
-      inverts = λ us same d r p e. let x = arguments_of_term f d us r p e in (x.0, r, x.1, x.2);
-    }) h
+    inside (λ l. token.Name f ∷ l) h (λ a b. refl) arguments_append (λ c. (call f c, [], refl))
+    (λ us same d r p e. let x = arguments_of_term f d us r p e in (x.0, r, x.1, x.2))
 
 rest_of_term : (d : Term) (us r : List Token) → token.Mark OpenList ∷ us ≡ term d r → (c : Rest) × (us ≡ rest c r)
-rest_of_term (variable v) us r e = cc
-rest_of_term (integer n) us r e = cc
-rest_of_term (call g x) us r e = cc
 rest_of_term (list x) us r e = (x, cc)
+rest_of_term d us r e = cc
 
 pub rest_in_term : (ts : List Token) (left : ℕ) → Fault Rest rest EndsRest ts left → Fault Term term EndsTerm (token.Mark OpenList ∷ ts) left
 rest_in_term ts left h =
-    inside Rest Term rest term EndsRest EndsTerm (λ l. token.Mark OpenList ∷ l) ts left
-    (record {
-      pre_append = λ a b. refl;
-      append = rest_append;
-      completes = λ c. (list c, [], refl);
-      inverts = λ us same d r p e. let x = rest_of_term d us r e in (x.0, r, tt, x.1);
-    }) h
+    inside (λ l. token.Mark OpenList ∷ l) h (λ a b. refl) rest_append (λ c. (list c, [], refl))
+    (λ us same d r p e. let x = rest_of_term d us r e in (x.0, r, tt, x.1))
 
 -- a token that no term begins with, or the end
 abbrev pub BeginsNoTerm : Option Token → Type 0
-BeginsNoTerm None = Unit {0}
 BeginsNoTerm (Some (token.Name f)) = ⊥
 BeginsNoTerm (Some (token.Variable v)) = ⊥
 BeginsNoTerm (Some (token.Integer n)) = ⊥
 BeginsNoTerm (Some (token.Mark m)) = m ≢ OpenList
-BeginsNoTerm (Some _) = Unit {0}
+BeginsNoTerm _ = Unit {0}
 
 begins_term : (c : Term) (r : List Token) → BeginsNoTerm (first (term c r)) → ⊥
-begins_term (variable v) r h = h
-begins_term (integer n) r h = h
-begins_term (call f x) r h = h
 begins_term (list x) r h = h refl
+begins_term c r h = h
 
 pub no_term_here : (ts : List Token) → BeginsNoTerm (first ts) → Fault Term term EndsTerm ts (length ts)
 no_term_here ts h =
@@ -143,13 +106,8 @@ terms_of_rest (partial x t) us r n e = (x, token.Mark Bar ∷ term t (token.Mark
 
 pub terms_in_rest : (ts : List Token) (left : ℕ) → ¬ Begins CloseList ts → Fault Terms terms EndsTerms ts left → Fault Rest rest EndsRest ts left
 terms_in_rest ts left n f =
-    inside Terms Rest terms rest EndsTerms EndsRest (λ l. l) ts left
-    (record {
-      pre_append = λ a b. refl;
-      append = terms_append;
-      completes = λ c. (whole c, token.Mark CloseList ∷ [], refl);
-      inverts = λ us same d r p e. terms_of_rest d us r (λ b. n (sym same ∙ b)) e;
-    }) f
+    inside (λ l. l) f (λ a b. refl) terms_append (λ c. (whole c, token.Mark CloseList ∷ [], refl))
+    (λ us same d r p e. terms_of_rest d us r (λ b. n (sym same ∙ b)) e)
 
 terms_begin : (m : Mark) (x : Terms) (a r : List Token) → m ≢ OpenList → terms x a ≡ token.Mark m ∷ r → ⊥
 terms_begin m x a r h e = no_terms m r h x a (sym e)
@@ -177,13 +135,9 @@ term_of_rest x d us r e =
 
 pub term_in_rest : (x : Terms) (ts : List Token) (left : ℕ) → Fault Term term EndsTerm ts left → Fault Rest rest EndsRest (terms x (token.Mark Bar ∷ ts)) left
 term_in_rest x ts left f =
-    inside Term Rest term rest EndsTerm EndsRest (λ l. terms x (token.Mark Bar ∷ l)) ts left
-    (record {
-      pre_append = λ a b. terms_append x (token.Mark Bar ∷ a) b;
-      append = term_append;
-      completes = λ c. (partial x c, token.Mark CloseList ∷ [], refl);
-      inverts = λ us same d r p e. let y = term_of_rest x d us r e in (y.0, token.Mark CloseList ∷ r, ends_term CloseList (λ h. cc) y.0, y.1);
-    }) f
+    inside (λ l. terms x (token.Mark Bar ∷ l)) f (λ a b. terms_append x (token.Mark Bar ∷ a) b) term_append
+    (λ c. (partial x c, token.Mark CloseList ∷ [], refl))
+    (λ us same d r p e. let y = term_of_rest x d us r e in (y.0, token.Mark CloseList ∷ r, ends_term CloseList (λ h. cc) y.0, y.1))
 
 pub tail_end_missing : (x : Terms) (t : Term) (ts : List Token) → EndsTerm t (first ts) → ¬ Begins CloseList ts → Fault Rest rest EndsRest (terms x (token.Mark Bar ∷ term t ts)) (length ts)
 tail_end_missing x t ts p n =

@@ -1,5 +1,5 @@
 -- The derivation of a term, from those of its parts, and the faults behind them.
-use Rattle.ghc_reader.proofs.Words.{◌≡◌, ℕ, ℤ, List, [], ◌∷◌, length, Some, Result, Ok, Err, IfErr, refl, sym, ap, ◌∙◌, subst, Box, Global, Vec, Mark, Open, Close, OpenList, CloseList, Comma, Bar, Token, first, Begins, Term, variable, integer, call, list, Arguments, without, within, Rest, closed, whole, partial, Terms, one, more, term, arguments, rest, terms, EndsArguments, EndsTerm, EndsTerms, EndsRest, Found, Fault, tree_of, arguments_of, trees_of, cells_of, SourceTerm, ParseError, IfSyntax, Tree, Trees, Goal, Value, cells, view, views}
+use Rattle.ghc_reader.proofs.Words.{◌≡◌, ℕ, ℤ, List, [], ◌∷◌, length, Some, Result, Ok, Err, IfErr, IsErrAnd, refl, sym, ap, ◌∙◌, subst, Box, Global, Vec, Mark, Open, Close, OpenList, CloseList, Comma, Bar, Token, first, Begins, Term, variable, integer, call, list, Arguments, without, within, Rest, closed, whole, partial, Terms, one, more, term, arguments, rest, terms, EndsArguments, EndsTerm, EndsTerms, EndsRest, Found, Fault, tree_of, arguments_of, trees_of, cells_of, SourceTerm, ParseError, IfSyntax, Tree, Trees, cells, view, views, arith}
 use Rattle.ghc_reader.specs.declared.token.Token.TheVariants as token
 use Rattle.ghc_reader.specs.Derived.{list_of}
 use Rattle.ghc_reader.specs.declared.source.SourceTerm.TheVariants as v
@@ -11,12 +11,11 @@ use Rattle.ghc_reader.proofs.Loops.{TermsSoFar, ends_at_last}
 use Rattle.ghc_reader.proofs.TermFaults as faults
 
 -- a fault that `?` hands on
-pub passes : {T : Type 0} (r : Result T ParseError) (e y : ParseError) (P Q : ℕ → Type 0) → r ≡ Err y → y ≡ e → ((n : ℕ) → P n → Q n) → IfSyntax e P → IfErr r (λ y. IfSyntax y Q)
-passes r e y P Q was same f h = subst (λ q. IfErr q (λ y. IfSyntax y Q)) (sym was) (subst (λ y. IfSyntax y Q) (sym same) (there e h))
-  where
-    there : (e : ParseError) → IfSyntax e P → IfSyntax e Q
-    there parse_error.Memory h = tt
-    there (parse_error.Syntax n) h = f n h
+pub passes : {T : Type 0} (r : Result T ParseError) (e : ParseError) (P Q : ℕ → Type 0) → IsErrAnd r (λ y. y ≡ e) → ((n : ℕ) → P n → Q n) → IfSyntax e P
+    → IfErr r (λ y. IfSyntax y Q)
+passes (Ok x) e P Q same f h = tt
+passes (Err y) parse_error.Memory P Q same f h = subst (λ y. IfSyntax y Q) (sym same) tt
+passes (Err y) (parse_error.Syntax n) P Q same f h = subst (λ y. IfSyntax y Q) (sym same) (f n h)
 
 abbrev pub TermFound : List Token → Tree → List Token → Type 0
 TermFound = Found Term Tree term tree_of EndsTerm
@@ -87,23 +86,13 @@ found_partial ts behind inside rest after a u end x e y f g = record {
 }
 
 pub at_close : (ts inside behind : List Token) (a : Trees) → ts ≡ token.Mark Open ∷ inside → TermsFound inside a behind → ¬ Begins Close behind → Fault Arguments arguments EndsArguments ts (length behind)
-at_close ts inside behind a e x n =
-    subst (λ l. Fault Arguments arguments EndsArguments l (length behind)) (sym (e ∙ ap (λ l. token.Mark Open ∷ l) x.spelled)) (faults.close_missing x.derivation behind x.stops n)
+at_close ts inside behind a e x n = rw (e, x.spelled) (faults.close_missing x.derivation behind x.stops n)
 
 pub at_list_end : (ts behind : List Token) (a : Trees) → TermsFound ts a behind → ¬ Begins CloseList behind → ¬ Begins Bar behind → Fault Rest rest EndsRest ts (length behind)
-at_list_end ts behind a x n m =
-    subst (λ l. Fault Rest rest EndsRest l (length behind)) (sym x.spelled) (faults.list_end_missing x.derivation behind x.stops n m)
-
-pub in_tail : (ts behind inside : List Token) (a : Trees) (left : ℕ) → TermsFound ts a behind → behind ≡ token.Mark Bar ∷ inside → Fault Term term EndsTerm inside left → Fault Rest rest EndsRest ts left
-in_tail ts behind inside a left x e f =
-    subst (λ l. Fault Rest rest EndsRest l left) (sym (x.spelled ∙ ap (terms x.derivation) e)) (faults.term_in_rest x.derivation inside left f)
+at_list_end ts behind a x n m = rw x.spelled (faults.list_end_missing x.derivation behind x.stops n m)
 
 pub at_tail_end : (ts behind inside after : List Token) (a : Trees) (u : Tree) → TermsFound ts a behind → behind ≡ token.Mark Bar ∷ inside → TermFound inside u after → ¬ Begins CloseList after → Fault Rest rest EndsRest ts (length after)
-at_tail_end ts behind inside after a u x e y n =
-    subst (λ l. Fault Rest rest EndsRest l (length after)) (sym (x.spelled ∙ ap (terms x.derivation) (e ∙ ap (λ l. token.Mark Bar ∷ l) y.spelled))) (faults.tail_end_missing x.derivation y.derivation after y.stops n)
-
-pub at_nothing : (ts : List Token) → ts ≡ [] → Fault Term term EndsTerm ts 0
-at_nothing ts e = subst (λ l. Fault Term term EndsTerm l 0) (sym e) (faults.no_term_here [] tt)
+at_tail_end ts behind inside after a u x e y n = rw (x.spelled, e, y.spelled) (faults.tail_end_missing x.derivation y.derivation after y.stops n)
 
 pub at_mark : (ts behind : List Token) (m : Mark) → ts ≡ token.Mark m ∷ behind → ¬ Begins OpenList ts → Fault Term term EndsTerm ts (length ts)
 at_mark ts behind m e n =
@@ -112,15 +101,9 @@ at_mark ts behind m e n =
 pub at_other : (ts behind : List Token) (t : Token) → faults.BeginsNoTerm (Some t) → ts ≡ t ∷ behind → Fault Term term EndsTerm ts (length ts)
 at_other ts behind t h e = faults.no_term_here ts (subst (λ l. faults.BeginsNoTerm (first l)) (sym e) h)
 
-pub in_next : (ts behind inside : List Token) (a : Trees) (left : ℕ) → TermsSoFar ts a behind → behind ≡ token.Mark Comma ∷ inside → Fault Term term EndsTerm inside left → Fault Terms terms EndsTerms ts left
-in_next ts behind inside a left x e f =
-    subst (λ l. Fault Terms terms EndsTerms l left) (sym (x.spelled ∙ ap (terms x.so_far) e)) (faults.next_in_terms x.so_far inside left f)
-
 pub found_terms : (ts behind : List Token) (a : Trees) → TermsSoFar ts a behind → ¬ Begins Comma behind → TermsFound ts a behind
 found_terms ts behind a x n = record { derivation = x.so_far; spelled = x.spelled; sees = x.sees; stops = ends_at_last x.so_far (first behind) x.stops n }
 
 -- a fault that is handed on
 pub hands_on : {T : Type 0} (r : Result T ParseError) (P Q : ℕ → Type 0) → ((n : ℕ) → P n → Q n) → IfErr r (λ e. IfSyntax e P) → IfErr r (λ e. IfSyntax e Q)
-hands_on (Ok x) P Q f h = tt
-hands_on (Err parse_error.Memory) P Q f h = tt
-hands_on (Err (parse_error.Syntax n)) P Q f h = f n h
+hands_on r P Q f h = grind (arith, f)

@@ -1,10 +1,11 @@
 -- What terms say, and which variables they meet.
-use Rattle.ghc_reader.proofs.Words.{◌≡◌, ℕ, ◌+◌, ◌<◌, List, [], ◌∷◌, ◌++◌, length, map, take, get_or, refl, sym, ap, ◌∙◌, subst, append_assoc, Box, Global, Vec, append-nil, map_push, take_more, node, trees, cons, nil, variables_of_all, variables_of_list, SourceTerm, Tree, Trees, structure, empty, cell, cells, none, some, view, views, Names, Says, SaysAll, MeetsAll, conses}
+use Rattle.ghc_reader.proofs.Words.{◌≡◌, ℕ, ◌+◌, ◌<◌, List, [], ◌∷◌, ◌++◌, length, map, take, get_or, refl, sym, ap, ◌∙◌, subst, append_assoc, Box, Global, Vec, append-nil, node, trees, variables_of_all, variables_of_list, SourceTerm, Tree, Trees, structure, empty, cell, cells, none, some, view, views, Names, Says, SaysAll, MeetsAll, conses}
 use Rattle.ghc_term.specs.Tree as term
 use Rattle.ghc_term.specs.Variables.{variables}
 use Rattle.ghc_reader.specs.declared.source.SourceTerm.TheViews as w
 use Rattle.ghc_reader.proofs.Views.{view_list}
 use Rattle.ghc_reader.specs.Source.{variable, integer, trees_of}
+use Rattle.ghc_reader.proofs.ExpressionsLowered.{mapped_more}
 use Rattle.ghc_reader.proofs.Scopes.{Grows, grows, met_also, called_still}
 
 pub variables_of_trees : (us : List term.Tree) → variables_of_all (trees us) ≡ variables_of_list us
@@ -44,11 +45,8 @@ says_push (s ∷ ts) t names us u h k = (h.0, h.1 ++ u ∷ [], ap (λ l. l ++ u 
 -- one term more
 pub says_more : (terms : List SourceTerm) (i : ℕ) (t : SourceTerm) (a b : Names) (us new : List term.Tree) (u : term.Tree) → i < length terms → t ≡ get_or terms i t → new ≡ us ++ u ∷ [] → SaysAll a (views (take i terms)) us → Says b (view t) u → MeetsAll a (variables u) b → SaysAll b (views (take (i + 1) terms)) new
 says_more terms i t a b us new u less is grown all one met =
-    let more : take (i + 1) terms ≡ take i terms ++ t ∷ [] = take_more terms i t less ∙ ap (λ x. take i terms ++ x ∷ []) (sym is) in
-    let seen : map view (take (i + 1) terms) ≡ map view (take i terms) ++ view t ∷ [] = ap (map view) more ∙ map_push view (take i terms) t in
-    subst (SaysAll b (views (take (i + 1) terms))) (sym grown)
-    (subst (λ ts. SaysAll b (trees_of ts) (us ++ u ∷ [])) (sym seen)
-    (says_push (map view (take i terms)) (view t) b us u (says_all_still (views (take i terms)) a b us (grows (variables u) a b met) all) one))
+    rw (grown, mapped_more view terms i t less is)
+    (says_push (map view (take i terms)) (view t) b us u (says_all_still (views (take i terms)) a b us (grows (variables u) a b met) all) one)
 
 pub meets_more : (first a b : Names) (us new : List term.Tree) (u : term.Tree) → new ≡ us ++ u ∷ [] → MeetsAll first (variables_of_list us) a → MeetsAll a (variables u) b → MeetsAll first (variables_of_list new) b
 meets_more first a b us new u grown m n =
@@ -61,9 +59,8 @@ structure_meets a b f us u e m = subst (λ xs. MeetsAll a xs b) (sym (ap variabl
 -- a list says what its elements and its tail say
 pub list_says : (t : SourceTerm) (elements : Vec SourceTerm Global) (tail : Box SourceTerm Global) (items : List SourceTerm) (last : SourceTerm) (b c : Names) (us : List term.Tree) (end u : term.Tree) → t ≡ w.List elements tail → items ≡ elements.items → last ≡ tail.value → u ≡ conses us end → SaysAll b (views items) us → MeetsAll b (variables end) c → Says c (view last) end → Says c (view t) u
 list_says t elements tail items last b c us end u is is_items is_last made all met one =
-    let seen : view t ≡ cells (views items) (view last) = ap view is ∙ view_list elements tail ∙ ap (λ l. cells (views l) (view tail.value)) (sym is_items) ∙ ap (λ l. cells (views items) (view l)) (sym is_last) in
-    subst (λ l. Says c l u) (sym seen)
-    (subst (Says c (cells (views items) (view last))) (sym made) (says_cells (views items) (view last) c us end (says_all_still (views items) b c us (grows (variables end) b c met) all) one))
+    rw (is, view_list elements tail, ← is_items, ← is_last, made)
+    (says_cells (views items) (view last) c us end (says_all_still (views items) b c us (grows (variables end) b c met) all) one)
 
 -- a list meets what its elements meet, and then what its tail meets
 pub list_meets : (a b c : Names) (us : List term.Tree) (end u : term.Tree) → u ≡ conses us end → MeetsAll a (variables_of_list us) b → MeetsAll b (variables end) c → MeetsAll a (variables u) c

@@ -1,35 +1,24 @@
 -- A fault in a part of a test is one of the tests.
-use Rattle.ghc_reader.proofs.Words.{◌≡◌, ◌≢◌, ℕ, List, [], ◌∷◌, ◌++◌, length, Option, Some, None, true, false, refl, sym, ap, ◌∙◌, subst, append_assoc, ◌⊎◌, inl, inr, ⊎_elim, Comparison, Less, Sum, Product, Mark, OpenList, Comma, Equals, Token, first, second, item_like, like, like_equation, like_assignment, variable, integer, call, list, nested, factor, factors, Expression, summand, summands, Item, goal, unify, assign, Test, plain_test, compare, Tests, last_test, next_test, rest, expression, item, test, tests, EndsExpression, EndsItem, EndsTest, EndsTests, Fault}
+use Rattle.ghc_reader.proofs.Words.{◌≡◌, ◌≢◌, ℕ, List, [], ◌∷◌, ◌++◌, length, Option, Some, None, true, false, refl, sym, ap, ◌∙◌, subst, append_assoc, ◌⊎◌, inl, inr, ⊎_elim, Comparison, Less, Sum, Product, OpenList, Comma, Equals, Token, first, second, item_like, like, like_equation, like_assignment, variable, integer, factor, factors, Expression, summand, summands, Item, unify, Test, plain_test, compare, Tests, last_test, next_test, rest, expression, item, test, tests, EndsExpression, EndsItem, EndsTest, EndsTests, Fault}
 use Rattle.ghc_reader.specs.declared.token.Token.TheVariants as token
 use Rattle.ghc_reader.specs.Grammar.{number, named}
 use Rattle.ghc_reader.proofs.Append.{some_variable, expression_append, test_append, tests_append}
-use Rattle.ghc_reader.proofs.Ends.{ends_test, comparison_ends}
+use Rattle.ghc_reader.proofs.Ends.{comparison_ends}
 use Rattle.ghc_reader.proofs.OneExpression.{one_expression}
-use Rattle.ghc_reader.proofs.OneGoal.{no_comparison, one_test}
-use Rattle.ghc_reader.proofs.Faults.{first_append, inside, here}
+use Rattle.ghc_reader.proofs.OneGoal.{comma_ends_test, no_comparison, one_test}
+use Rattle.ghc_reader.proofs.Faults.{first_append, in_front, inside, here}
 
 -- an item and a comparison are told apart by the first two tokens
 item_likes : (i : Item) (r : List Token) → item_like (item i r) ≡ true
-item_likes (goal f x) r = refl
 item_likes (unify (variable v) t) r = refl
-item_likes (unify (integer n) t) r = refl
-item_likes (unify (call f x) t) r = refl
-item_likes (unify (list x) t) r = refl
-item_likes (assign v x) r = refl
+item_likes i r = refl
 
 comparison_likes : (c : Expression) (o : Comparison) (r : List Token) → item_like (expression c (token.Comparison o ∷ r)) ≡ false
 comparison_likes (summand (factor (number n))) o r = refl
-comparison_likes (summand (factor (named v))) o r = refl
-comparison_likes (summand (factor (nested x))) o r = refl
 comparison_likes (summand (factors (number n) k x)) o r = refl
-comparison_likes (summand (factors (named v) k x)) o r = refl
-comparison_likes (summand (factors (nested y) k x)) o r = refl
 comparison_likes (summands (factor (number n)) j c) o r = refl
-comparison_likes (summands (factor (named v)) j c) o r = refl
-comparison_likes (summands (factor (nested x)) j c) o r = refl
 comparison_likes (summands (factors (number n) k x) j c) o r = refl
-comparison_likes (summands (factors (named v) k x) j c) o r = refl
-comparison_likes (summands (factors (nested y) k x) j c) o r = refl
+comparison_likes c o r = refl
 
 -- behind tokens that are not none, the first two are those that were there
 second_append : (front a b : List Token) → front ≢ [] → first a ≡ first b → second (front ++ a) ≡ second (front ++ b)
@@ -48,43 +37,25 @@ BeginsBoth (Some (token.Integer n)) = Unit {0}
 BeginsBoth (Some _) = ⊥
 
 item_front : (ts : List Token) (left : ℕ) (f : Fault Item item EndsItem ts left) → BeginsBoth (first ts) → f.front ≢ []
-item_front [] left f b h = b
-item_front (token.Name g ∷ ts) left f b h = b
-item_front (token.Mark m ∷ ts) left f b h = b
-item_front (token.Comparison m ∷ ts) left f b h = b
-item_front (token.Sum m ∷ ts) left f b h = b
-item_front (token.Product m ∷ ts) left f b h = b
 item_front (token.Variable v ∷ ts) left f b h =
     f.stuck (token.Variable v ∷ token.Mark Equals ∷ token.Variable some_variable ∷ []) (ap first (f.split ∙ ap (λ l. l ++ f.rest) h)) (unify (variable v) (variable some_variable)) [] tt (ap (λ l. l ++ (token.Variable v ∷ token.Mark Equals ∷ token.Variable some_variable ∷ [])) h)
 item_front (token.Integer n ∷ ts) left f b h =
     f.stuck (token.Integer n ∷ token.Mark Equals ∷ token.Variable some_variable ∷ []) (ap first (f.split ∙ ap (λ l. l ++ f.rest) h)) (unify (integer n) (variable some_variable)) [] tt (ap (λ l. l ++ (token.Integer n ∷ token.Mark Equals ∷ token.Variable some_variable ∷ [])) h)
+item_front ts left f b h = absurd b
 
 expression_front : (ts : List Token) (left : ℕ) (f : Fault Expression expression EndsExpression ts left) → BeginsBoth (first ts) → f.front ≢ []
-expression_front [] left f b h = b
-expression_front (token.Name g ∷ ts) left f b h = b
-expression_front (token.Mark m ∷ ts) left f b h = b
-expression_front (token.Comparison m ∷ ts) left f b h = b
-expression_front (token.Sum m ∷ ts) left f b h = b
-expression_front (token.Product m ∷ ts) left f b h = b
 expression_front (token.Variable v ∷ ts) left f b h =
     f.stuck (token.Variable v ∷ []) (ap first (f.split ∙ ap (λ l. l ++ f.rest) h)) (summand (factor (named v))) [] (record { product = λ k e. cc; sum = λ k e. cc }) (ap (λ l. l ++ (token.Variable v ∷ [])) h)
 expression_front (token.Integer n ∷ ts) left f b h =
     f.stuck (token.Integer n ∷ []) (ap first (f.split ∙ ap (λ l. l ++ f.rest) h)) (summand (factor (number n))) [] (record { product = λ k e. cc; sum = λ k e. cc }) (ap (λ l. l ++ (token.Integer n ∷ [])) h)
+expression_front ts left f b h = absurd b
 
 -- each token begins items alone, comparisons alone, both or none
 mutual_first : (o : Option Token) → BeginsBoth o ⊎ ((a b : Option Token) → like o a ≡ like o b)
-mutual_first None = inr (λ a b. refl)
-mutual_first (Some (token.Name f)) = inr (λ a b. refl)
 mutual_first (Some (token.Variable v)) = inl tt
 mutual_first (Some (token.Integer n)) = inl tt
-mutual_first (Some (token.Mark m)) = inr (λ a b. by_mark m a b)
-  where
-    by_mark : (m : Mark) (a b : Option Token) → like (Some (token.Mark m)) a ≡ like (Some (token.Mark m)) b
-    by_mark OpenList a b = refl
-    by_mark _ a b = refl
-mutual_first (Some (token.Comparison m)) = inr (λ a b. refl)
-mutual_first (Some (token.Sum m)) = inr (λ a b. refl)
-mutual_first (Some (token.Product m)) = inr (λ a b. refl)
+mutual_first (Some (token.Mark OpenList)) = inr (λ a b. refl)
+mutual_first o = inr (λ a b. refl)
 
 -- so where a front is none only if it may be, the two texts are alike
 same_likes : (ts front rest us : List Token) → ts ≡ front ++ rest → first us ≡ first rest → (BeginsBoth (first ts) → front ≢ []) → item_like (front ++ us) ≡ item_like ts
@@ -132,16 +103,10 @@ left_in_test ts left l f = record {
 expression_likes : (c : Expression) (a b : List Token) → first a ≡ first b → item_like (expression c a) ≡ item_like (expression c b)
 expression_likes (summand (factor (number n))) a b e = ap like_equation e
 expression_likes (summand (factor (named v))) a b e = ap like_assignment e
-expression_likes (summand (factor (nested x))) a b e = refl
 expression_likes (summand (factors (number n) k x)) a b e = refl
-expression_likes (summand (factors (named v) k x)) a b e = refl
-expression_likes (summand (factors (nested y) k x)) a b e = refl
 expression_likes (summands (factor (number n)) j c) a b e = refl
-expression_likes (summands (factor (named v)) j c) a b e = refl
-expression_likes (summands (factor (nested x)) j c) a b e = refl
 expression_likes (summands (factors (number n) k x) j c) a b e = refl
-expression_likes (summands (factors (named v) k x) j c) a b e = refl
-expression_likes (summands (factors (nested y) k x) j c) a b e = refl
+expression_likes c a b e = refl
 
 same_ends : (x : Expression) (a b : Option Token) → a ≡ b → EndsExpression x b → EndsExpression x a
 same_ends x a b e p = record { product = subst (λ o. (k : Product) → o ≢ Some (token.Product k)) (sym e) p.product; sum = subst (λ o. (k : Sum) → o ≢ Some (token.Sum k)) (sym e) p.sum }
@@ -161,32 +126,21 @@ right_of_test : (x : Expression) (o : Comparison) (d : Test) (us r : List Token)
 right_of_test x o (plain_test i) us r p e = absurd (no_comparison i r x o us (sym e))
 right_of_test x o (compare y k z) us r p e =
     let s = one_expression x y (token.Comparison o ∷ us) (token.Comparison k ∷ expression z r) (comparison_ends o x) (comparison_ends k y) e in
-    let behind = s.behind in
     (z, p, cc)
 
 pub right_in_test : (x : Expression) (o : Comparison) (ts : List Token) (left : ℕ) → Fault Expression expression EndsExpression ts left → Fault Test test EndsTest (expression x (token.Comparison o ∷ ts)) left
 right_in_test x o ts left f =
-    inside Expression Test expression test EndsExpression EndsTest (λ l. expression x (token.Comparison o ∷ l)) ts left
-    (record {
-      pre_append = λ a b. expression_append x (token.Comparison o ∷ a) b;
-      append = expression_append;
-      completes = λ c. (compare x o c, [], refl);
-      inverts = λ us same d r p e. let y = right_of_test x o d us r p e in (y.0, r, y.1, y.2);
-    }) f
+    inside (λ l. expression x (token.Comparison o ∷ l)) f (λ a b. expression_append x (token.Comparison o ∷ a) b) expression_append
+    (λ c. (compare x o c, [], refl))
+    (λ us same d r p e. let y = right_of_test x o d us r p e in (y.0, r, y.1, y.2))
 
 first_of_tests : (d : Tests) (us r : List Token) → EndsTests d (first r) → us ≡ tests d r → (c : Test) × (r' : List Token) × EndsTest c (first r') × (us ≡ test c r')
 first_of_tests (last_test i) us r p e = (i, r, p.0, e)
-first_of_tests (next_test i x) us r p e = (i, token.Mark Comma ∷ tests x r, ends_test Comma (λ h. cc) (λ h. cc) i, e)
+first_of_tests (next_test i x) us r p e = (i, token.Mark Comma ∷ tests x r, comma_ends_test i, e)
 
 pub first_in_tests : (ts : List Token) (left : ℕ) → Fault Test test EndsTest ts left → Fault Tests tests EndsTests ts left
 first_in_tests ts left f =
-    inside Test Tests test tests EndsTest EndsTests (λ l. l) ts left
-    (record {
-      pre_append = λ a b. refl;
-      append = test_append;
-      completes = λ c. (last_test c, [], refl);
-      inverts = λ us same d r p e. first_of_tests d us r p e;
-    }) f
+    in_front f test_append (λ c. (last_test c, [], refl)) first_of_tests
 
 -- one more test at the end
 abbrev pub and_also : Tests → Test → Tests
@@ -197,31 +151,20 @@ pub tests_and_also : (x : Tests) (j : Test) (ts : List Token) → tests (and_als
 tests_and_also (last_test i) j ts = refl
 tests_and_also (next_test i x) j ts = ap (λ l. test i (token.Mark Comma ∷ l)) (tests_and_also x j ts)
 
-comma_ends_test : (c : Test) → EndsTest c (Some (token.Mark Comma))
-comma_ends_test = ends_test Comma (λ h. cc) (λ h. cc)
-
-next_of_tests : (x d : Tests) (us r : List Token) → EndsTests d (first r) → tests x (token.Mark Comma ∷ us) ≡ tests d r → (c : Test) × (r' : List Token) × EndsTest c (first r') × (us ≡ test c r')
-next_of_tests (last_test i) (last_test j) us r p e =
+-- the tests behind a first one
+others_of_tests : (i : Test) (d : Tests) (us r : List Token) → EndsTests d (first r) → test i (token.Mark Comma ∷ us) ≡ tests d r
+    → (y : Tests) × (r' : List Token) × EndsTests y (first r') × (us ≡ tests y r')
+others_of_tests i (last_test j) us r p e =
     let s = one_test i j (token.Mark Comma ∷ us) r (comma_ends_test i) p.0 e in absurd (p.1 (sym (ap first s.behind)))
-next_of_tests (last_test i) (next_test j y) us r p e =
+others_of_tests i (next_test j y) us r p e =
     let s = one_test i j (token.Mark Comma ∷ us) (token.Mark Comma ∷ tests y r) (comma_ends_test i) (comma_ends_test j) e in
-    let behind = s.behind in
-    let tail : us ≡ tests y r = cc in
-    first_of_tests y us r p tail
-next_of_tests (next_test i x) (last_test j) us r p e =
-    let s = one_test i j (token.Mark Comma ∷ tests x (token.Mark Comma ∷ us)) r (comma_ends_test i) p.0 e in absurd (p.1 (sym (ap first s.behind)))
-next_of_tests (next_test i x) (next_test j y) us r p e =
-    let s = one_test i j (token.Mark Comma ∷ tests x (token.Mark Comma ∷ us)) (token.Mark Comma ∷ tests y r) (comma_ends_test i) (comma_ends_test j) e in
-    let behind = s.behind in
-    let tail : tests x (token.Mark Comma ∷ us) ≡ tests y r = cc in
-    next_of_tests x y us r p tail
+    (y, r, p, cc)
+
+behind_first : (i : Test) (ts : List Token) (left : ℕ) → Fault Tests tests EndsTests ts left → Fault Tests tests EndsTests (test i (token.Mark Comma ∷ ts)) left
+behind_first i ts left f =
+    inside (λ l. test i (token.Mark Comma ∷ l)) f (λ a b. test_append i (token.Mark Comma ∷ a) b) tests_append (λ c. (next_test i c, [], refl))
+    (λ us same d r p e. others_of_tests i d us r p e)
 
 pub next_in_tests : (x : Tests) (ts : List Token) (left : ℕ) → Fault Test test EndsTest ts left → Fault Tests tests EndsTests (tests x (token.Mark Comma ∷ ts)) left
-next_in_tests x ts left f =
-    inside Test Tests test tests EndsTest EndsTests (λ l. tests x (token.Mark Comma ∷ l)) ts left
-    (record {
-      pre_append = λ a b. tests_append x (token.Mark Comma ∷ a) b;
-      append = test_append;
-      completes = λ c. (and_also x c, [], sym (tests_and_also x c []));
-      inverts = λ us same d r p e. next_of_tests x d us r p e;
-    }) f
+next_in_tests (last_test i) ts left f = behind_first i ts left (first_in_tests ts left f)
+next_in_tests (next_test i x) ts left f = behind_first i (tests x (token.Mark Comma ∷ ts)) left (next_in_tests x ts left f)

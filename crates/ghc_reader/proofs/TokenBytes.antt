@@ -1,8 +1,9 @@
 -- What the pieces of a text say of its tokens: their names are those of the grammar, their integers have 64 bits, and none is longer than its piece.
-use Rattle.ghc_reader.proofs.Words.{◌≡◌, ◌≢◌, ℕ, ◌+◌, ◌^◌, ◌≤◌, ◌<◌, Bool, true, false, ℤ, pos, negsuc, zero, suc, List, [], ◌∷◌, length, Option, Some, None, refl, sym, ap, subst, inl, inr, arith, length-append, FitsSigned, w64, codes, All, cond, neg_ℤ, decimal, signed_decimal, filter_map, cons_option, digits_value, starts_with_minus, without_leading_sign, signed_digits_value, is_ascii_digit, is_ascii_lowercase, cases_lt, nat_tests, length-decimal-le, digits_value-lt, All-head, All-tail, IsNameText, IsRun, is_word, Piece, HasForm, Cuts, signs_behind, spelled, spelling, token_of_symbol, token_of_bytes, token_of, IsRefusedToken, IsRefused, Token, Open, Symbol, Kind, Reserved, Refused}
+use Rattle.ghc_reader.proofs.Words.{◌≡◌, ℕ, ◌+◌, ◌^◌, ◌≤◌, ◌<◌, Bool, true, ℤ, pos, zero, suc, List, [], ◌∷◌, length, Option, Some, None, sym, ap, subst, inl, inr, arith, length-append, FitsSigned, w64, All, cond, neg_ℤ, decimal, signed_decimal, filter_map, cons_option, digits_value, starts_with_minus, without_leading_sign, signed_digits_value, is_ascii_digit, nat_tests, length-decimal-le, digits_value-lt, All-head, All-tail, IsNameText, IsRun, Piece, HasForm, Cuts, signs_behind, spelled, spelling, token_of_symbol, token_of_bytes, token_of, IsRefusedToken, IsRefused, Token, Symbol, Kind, Reserved, Refused}
 use Rattle.ghc_reader.specs.declared.token.Token.TheVariants as token
-use Rattle.ghc_reader.specs.declared.lexer.symbol.Symbol.TheVariants as symbol
 use Rattle.ghc_reader.specs.declared.lexer.front.Kind.TheVariants as kind
+use Rattle.ghc_reader.proofs.RefusedOrNot.{fits_or_not}
+use Rattle.ghc_reader.proofs.TokenTexts.{unsigned_value}
 use Rattle.ghc_reader.proofs.Values.{all_of_run, digits_of_all}
 use Rattle.ghc_reader.proofs.InputSizes.{weight, weights}
 
@@ -27,14 +28,7 @@ weight_if_any (Some t) = weight t
 -- ---- integers
 
 not_refused : (z : ℤ) → ¬ (¬ (FitsSigned w64 z)) → FitsSigned w64 z
-not_refused (pos n) h = elim (cases_lt n (2 ^ 63)) [
-  | inl less ↦ record { sfits = less }
-  | inr more ↦ absurd (h (λ fits. absurd (omega (arith, fits.sfits, more))))
-]
-not_refused (negsuc n) h = elim (cases_lt n (2 ^ 63)) [
-  | inl less ↦ record { sfits = less }
-  | inr more ↦ absurd (h (λ fits. absurd (omega (arith, fits.sfits, more))))
-]
+not_refused z h = elim (fits_or_not z) [ inl fits ↦ fits | inr never ↦ absurd (h never) ]
 
 digits_length : (ds : List ℕ) → IsRun is_ascii_digit is_ascii_digit ds → digits_value 10 ds < 2 ^ 64 → length (decimal (digits_value 10 ds)) ≤ length ds
 digits_length [] run fits = absurd run
@@ -49,17 +43,12 @@ integer_length : (signs : Bool) (bs : List ℕ) → HasForm signs kind.Integer b
 integer_length signs [] (inl run) fits = absurd run
 integer_length signs [] (inr negative) fits = absurd negative.1
 integer_length signs (b ∷ bs) (inl run) fits =
-    let first = run.0 in
-    let plain : starts_with_minus (b ∷ bs) ≡ false = grind (arith, nat_tests) in
-    let unsigned : without_leading_sign (b ∷ bs) ≡ b ∷ bs = grind (arith, nat_tests) in
-    let value : signed_digits_value 10 (b ∷ bs) ≡ pos (digits_value 10 (b ∷ bs)) =
-    (λ i. cond (plain i) (neg_ℤ (pos (digits_value 10 (unsigned i)))) (pos (digits_value 10 (unsigned i)))) in
+    let value = unsigned_value (b ∷ bs) (omega arith) (digits_of_all (b ∷ bs) (all_of_run (b ∷ bs) run)) in
     let small : FitsSigned w64 (pos (digits_value 10 (b ∷ bs))) = subst (FitsSigned w64) value fits in
     subst (λ z. length (signed_decimal z) ≤ length (b ∷ bs)) (sym value) (digits_length (b ∷ bs) run (omega (arith, small.sfits)))
 integer_length signs (b ∷ bs) (inr negative) fits =
-    let minus = negative.1.0 in
-    let signed : starts_with_minus (b ∷ bs) ≡ true = grind (arith, nat_tests) in
-    let behind : without_leading_sign (b ∷ bs) ≡ bs = grind (arith, nat_tests) in
+    let signed : starts_with_minus (b ∷ bs) ≡ true = grind (arith, nat_tests, negative.1.0) in
+    let behind : without_leading_sign (b ∷ bs) ≡ bs = grind (arith, nat_tests, negative.1.0) in
     let value : signed_digits_value 10 (b ∷ bs) ≡ neg_ℤ (pos (digits_value 10 bs)) =
     (λ i. cond (signed i) (neg_ℤ (pos (digits_value 10 (behind i)))) (pos (digits_value 10 (behind i)))) in
     let bound = negative_length (digits_value 10 bs) (length bs) (subst (FitsSigned w64) value fits) (digits_length bs negative.1.1) in
@@ -68,44 +57,23 @@ integer_length signs (b ∷ bs) (inr negative) fits =
 -- ---- one piece
 
 mark_length : (s : Symbol) → weight (token_of_symbol s) ≤ length (spelling s)
-mark_length (symbol.Mark Open) = omega arith
-mark_length (symbol.Mark m) = omega arith
-mark_length (symbol.Comparison c) = omega arith
-mark_length (symbol.Sum c) = omega arith
-mark_length (symbol.Product c) = omega arith
-
-name_of_run : (bs : List ℕ) → IsRun is_ascii_lowercase is_word bs → bs ≢ codes "mod" → IsNameText bs
-name_of_run [] run other = run
-name_of_run (b ∷ bs) run other = (run.0, run.1, other)
+mark_length s = grind arith
 
 piece_good : (reserved : Reserved) (signs : Bool) (k : Kind) (bs : List ℕ) → HasForm signs k bs → ¬ (IsRefusedToken reserved (token_of_bytes k bs)) → IsGoodIfAny (token_of_bytes k bs)
-piece_good reserved signs kind.Blank bs form fine = tt
-piece_good reserved signs kind.Comment bs form fine = tt
-piece_good reserved signs kind.Name bs form fine = name_of_run bs form.0 form.1
-piece_good reserved signs kind.Variable bs form fine = tt
-piece_good reserved signs kind.Integer bs form fine = not_refused (signed_digits_value 10 bs) fine
-piece_good reserved signs (kind.Symbol (symbol.Mark m)) bs form fine = tt
-piece_good reserved signs (kind.Symbol (symbol.Comparison c)) bs form fine = tt
-piece_good reserved signs (kind.Symbol (symbol.Sum c)) bs form fine = tt
-piece_good reserved signs (kind.Symbol (symbol.Product c)) bs form fine = tt
+piece_good reserved signs k bs form fine = grind (arith, not_refused)
 
 piece_length : (signs : Bool) (k : Kind) (bs : List ℕ) → HasForm signs k bs → IsGoodIfAny (token_of_bytes k bs) → weight_if_any (token_of_bytes k bs) ≤ length bs
-piece_length signs kind.Blank bs form good = omega arith
-piece_length signs kind.Comment bs form good = omega arith
-piece_length signs kind.Name bs form good = omega arith
-piece_length signs kind.Variable bs form good = omega arith
 piece_length signs kind.Integer bs form good = integer_length signs bs form good
 piece_length signs (kind.Symbol s) bs form good = omega (arith, mark_length s, ap length form)
+piece_length signs k bs form good = omega arith
 
 -- ---- the tokens of a text
 
 one_more : (t : Option Token) (ts : List Token) → IsGoodIfAny t → AreGood ts → AreGood (cons_option t ts)
-one_more None ts good goods = goods
-one_more (Some t) ts good goods = (good, goods)
+one_more t ts good goods = grind arith
 
 weight_more : (t : Option Token) (ts : List Token) → weights (cons_option t ts) ≡ weight_if_any t + weights ts
-weight_more None ts = omega arith
-weight_more (Some t) ts = refl
+weight_more t ts = grind arith
 
 pub good_tokens : (reserved : Reserved) (signs : Bool) (ps : List Piece) (rest : List ℕ) → Cuts signs ps rest → All (λ p. ¬ (IsRefused reserved p)) ps → AreGood (filter_map token_of ps)
 good_tokens reserved signs [] rest cuts fine = tt

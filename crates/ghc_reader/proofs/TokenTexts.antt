@@ -1,5 +1,5 @@
 -- The text of tokens as they are printed, with a space on each side of an operator and none elsewhere, and that it is cut into these tokens.
-use Rattle.ghc_reader.proofs.Words.{◌≡◌, ℕ, ◌<◌, Bool, true, false, ℤ, pos, negsuc, suc, List, [], ◌∷◌, ◌++◌, length, refl, sym, ap, ◌∙◌, subst, inr, arith, IsTrue, FitsSigned, w64, cond, neg_ℤ, Some, All, decimal, signed_decimal, filter_map, list_all, AllDigits, digits_value, starts_with_minus, without_leading_sign, signed_digits_value, is_ascii_digit, nat_tests, decimal_is_IsNumeral, digit_from_value, All-nil, All-cons, IsNameText, IsRun, Lacks, is_word, begins_variable, spelling, Piece, Stands, Cuts, signs_behind, spelled, start, place_behind, token_of, IsRefusedToken, IsRefused, IsLexed, token_places, Close, CloseList, Equals, Assign, Define, Stop, Token, Symbol, Reserved}
+use Rattle.ghc_reader.proofs.Words.{◌≡◌, ℕ, ◌<◌, Bool, true, false, ℤ, pos, negsuc, suc, List, [], ◌∷◌, ◌++◌, length, refl, sym, ap, ◌∙◌, subst, inr, arith, IsTrue, FitsSigned, w64, cond, neg_ℤ, Some, All, decimal, signed_decimal, filter_map, list_all, AllDigits, digits_value, starts_with_minus, without_leading_sign, signed_digits_value, is_ascii_digit, nat_tests, decimal_is_IsNumeral, digit_from_value, All-nil, All-cons, IsNameText, IsRun, Lacks, is_word, begins_variable, spelling, Piece, Stands, Cuts, signs_behind, spelled, start, place_behind, token_of, IsRefusedToken, IsRefused, IsLexed, token_places, Close, CloseList, Equals, Assign, Define, Stop, Token, Symbol, Reserved, false≢true}
 use Rattle.std.proofs.Common.{append-nil}
 use Rattle.ghc_reader.specs.Bytes.{Begins}
 use Rattle.ghc_reader.specs.declared.token.Token.TheVariants as token
@@ -59,10 +59,8 @@ module _ (W : List ℕ → Type 0) where
   MayStand free (token.Integer k) = (free ≡ true) × FitsSigned w64 k
   MayStand free (token.Mark Define) = ⊥
   MayStand free (token.Mark Stop) = ⊥
-  MayStand free (token.Mark m) = Unit {0}
   MayStand free (token.Comparison c) = ⊥
-  MayStand free (token.Sum o) = Unit {0}
-  MayStand free (token.Product o) = Unit {0}
+  MayStand free _ = Unit {0}
 
   -- The tokens can be printed, and no two names, variables or integers are neighbours, and none is behind a bracket that closes.
   abbrev pub AreSpaced : Bool → List Token → Type 0
@@ -73,21 +71,16 @@ module _ (W : List ℕ → Type 0) where
 
 pub all_digits : (ds : List ℕ) → AllDigits 10 ds → list_all is_ascii_digit ds ≡ true
 all_digits [] d = refl
-all_digits (c ∷ cs) d =
-    let digit = digit_from_value c d.0 in
-    let first : is_ascii_digit c ≡ true = grind (arith, nat_tests, digit) in
-    let others = all_digits cs d.1 in
-    grind (arith, first, others)
+all_digits (c ∷ cs) d = let digit = digit_from_value c d.0 in grind (arith, nat_tests, digit, all_digits cs d.1)
 
 pub run_of_digits : (ds : List ℕ) → 0 < length ds → AllDigits 10 ds → IsRun is_ascii_digit is_ascii_digit ds
 run_of_digits [] some d = absurd (omega arith)
 run_of_digits (c ∷ cs) some d = let digit = digit_from_value c d.0 in (grind (arith, nat_tests, digit), all_digits cs d.1)
 
 run_begins : (ds rest : List ℕ) → IsRun is_ascii_digit is_ascii_digit ds → Begins is_ascii_digit (ds ++ rest)
-run_begins [] rest run = absurd run
-run_begins (c ∷ cs) rest run = run.0
+run_begins ds rest run = grind arith
 
-unsigned_value : (ds : List ℕ) → 0 < length ds → AllDigits 10 ds → signed_digits_value 10 ds ≡ pos (digits_value 10 ds)
+pub unsigned_value : (ds : List ℕ) → 0 < length ds → AllDigits 10 ds → signed_digits_value 10 ds ≡ pos (digits_value 10 ds)
 unsigned_value [] some d = absurd (omega arith)
 unsigned_value (c ∷ cs) some d =
     let digit = digit_from_value c d.0 in
@@ -105,24 +98,17 @@ integer_back (negsuc n) fits =
 
 -- ---- each token stands where it is
 
-no_word : false ≡ true → ⊥
-no_word e = cc
-
 name_at : (signs : Bool) (f rest : List ℕ) → IsNameText f → Lacks is_word rest → Stands signs (record { kind = kind.Name; bytes = f }) rest
 name_at signs [] rest name ends = absurd name
 name_at signs (b ∷ bs) rest name ends =
-    let first = name.0 in
-    let others = name.1 in
-    let whole : list_all is_word (b ∷ bs) ≡ true = grind (arith, nat_tests, first, others) in
-    name_stands signs (b ∷ bs ++ rest) (b ∷ bs) rest refl whole ends first name.2
+    let whole : list_all is_word (b ∷ bs) ≡ true = grind (arith, nat_tests, name.0, name.1) in
+    name_stands signs (b ∷ bs ++ rest) (b ∷ bs) rest refl whole ends name.0 name.2
 
 variable_at : (signs : Bool) (v rest : List ℕ) → IsRun begins_variable is_word v → Lacks is_word rest → Stands signs (record { kind = kind.Variable; bytes = v }) rest
 variable_at signs [] rest run ends = absurd run
 variable_at signs (b ∷ bs) rest run ends =
-    let first = run.0 in
-    let others = run.1 in
-    let whole : list_all is_word (b ∷ bs) ≡ true = grind (arith, nat_tests, first, others) in
-    variable_stands signs (b ∷ bs ++ rest) (b ∷ bs) rest refl whole ends first
+    let whole : list_all is_word (b ∷ bs) ≡ true = grind (arith, nat_tests, run.0, run.1) in
+    variable_stands signs (b ∷ bs ++ rest) (b ∷ bs) rest refl whole ends run.0
 
 integer_at : (k : ℤ) (rest : List ℕ) → FitsSigned w64 k → Lacks is_ascii_digit rest → Stands true (record { kind = kind.Integer; bytes = signed_decimal k }) rest
 integer_at (pos n) rest fits ends =
@@ -138,21 +124,10 @@ integer_at (negsuc n) rest fits ends =
 abbrev pub CutBehind : Bool → List Piece → Type 0
 CutBehind free ps = (signs : Bool) → (free ≡ true → signs ≡ true) → Cuts signs ps []
 
-no_sign : (signs : Bool) → false ≡ true → signs ≡ true
-no_sign signs e = absurd (no_word e)
-
-signs_behind_wide : (signs : Bool) (s : Symbol) → IsTrue (is_wide s) → signs_behind signs (kind.Symbol s) ≡ true
-signs_behind_wide signs (symbol.Mark Equals) wide = refl
-signs_behind_wide signs (symbol.Mark Assign) wide = refl
-signs_behind_wide signs (symbol.Mark m) wide = absurd (no_word wide)
-signs_behind_wide signs (symbol.Comparison c) wide = absurd (no_word wide)
-signs_behind_wide signs (symbol.Sum o) wide = refl
-signs_behind_wide signs (symbol.Product o) wide = refl
-
 wide_cuts : (signs : Bool) (s : Symbol) (ps : List Piece) → IsTrue (is_wide s) → CutBehind true ps → Cuts signs (with_spaces s ps) []
 wide_cuts signs s ps wide behind =
     let after = signs_behind signs (kind.Symbol s) in
-    (space_stands signs (spelling s ++ (32 ∷ spelled ps [])), (wide_stands signs s (spelled ps []) wide, (space_stands after (spelled ps []), behind after (λ _. signs_behind_wide signs s wide))))
+    (space_stands signs (spelling s ++ (32 ∷ spelled ps [])), (wide_stands signs s (spelled ps []) wide, (space_stands after (spelled ps []), behind after (λ _. grind (arith, wide)))))
 
 -- a piece that is not refused
 abbrev pub IsKept : Reserved → Piece → Type 0
@@ -179,18 +154,16 @@ module _ (reserved : Reserved) (W : List ℕ → Type 0) (form : (v : List ℕ) 
   word_ends : (free : Bool) (ts : List Token) (ps : List Piece) → AreSpaced W free ts → EndsWord false (spelled ps []) → EndsWord free (text_of ts ps)
   word_ends true ts ps s ends = tt
   word_ends false [] ps s ends = ends
-  word_ends false (token.Name f ∷ ts) ps s ends = absurd (no_word s.0.0)
-  word_ends false (token.Variable v ∷ ts) ps s ends = absurd (no_word s.0.0)
-  word_ends false (token.Integer k ∷ ts) ps s ends = absurd (no_word s.0.0)
+  word_ends false (token.Name f ∷ ts) ps s ends = absurd (false≢true s.0.0)
+  word_ends false (token.Variable v ∷ ts) ps s ends = absurd (false≢true s.0.0)
+  word_ends false (token.Integer k ∷ ts) ps s ends = absurd (false≢true s.0.0)
   word_ends false (token.Mark Define ∷ ts) ps s ends = absurd s.0
   word_ends false (token.Mark Stop ∷ ts) ps s ends = absurd s.0
-  word_ends false (token.Mark m ∷ ts) ps s ends = (refl, refl)
   word_ends false (token.Comparison c ∷ ts) ps s ends = absurd s.0
-  word_ends false (token.Sum o ∷ ts) ps s ends = (refl, refl)
-  word_ends false (token.Product o ∷ ts) ps s ends = (refl, refl)
+  word_ends false (t ∷ ts) ps s ends = (refl, refl)
 
   pub cuts : (free : Bool) (ts : List Token) (ps : List Piece) → AreSpaced W free ts → EndsWord false (spelled ps []) → CutBehind false ps → CutBehind free (pieces_of ts ps)
-  cuts free [] ps s ends behind = λ signs may. behind signs (no_sign signs)
+  cuts free [] ps s ends behind = λ signs may. behind signs (λ e. absurd (false≢true e))
   cuts free (t ∷ ts) ps s ends behind = token_cuts free t (pieces_of ts ps) s.0 (word_ends (frees t) ts ps s.1 ends) (cuts (frees t) ts ps s.1 ends behind)
 
   -- ---- the tokens of the text
@@ -216,15 +189,7 @@ module _ (reserved : Reserved) (W : List ℕ → Type 0) (form : (v : List ℕ) 
   none_refused free (t ∷ ts) ps s others = token_kept free t (pieces_of ts ps) s.0 (none_refused (frees t) ts ps s.1 others)
 
   token_back : (free : Bool) (t : Token) (ps : List Piece) → MayStand W free t → filter_map token_of (put t ps) ≡ t ∷ filter_map token_of ps
-  token_back free (token.Name f) ps s = refl
-  token_back free (token.Variable v) ps s = refl
-  token_back free (token.Integer k) ps s = ap (λ z. token.Integer z ∷ filter_map token_of ps) (integer_back k s.1)
-  token_back free (token.Mark Equals) ps s = refl
-  token_back free (token.Mark Assign) ps s = refl
-  token_back free (token.Mark m) ps s = refl
-  token_back free (token.Comparison c) ps s = absurd s
-  token_back free (token.Sum o) ps s = refl
-  token_back free (token.Product o) ps s = refl
+  token_back free t ps s = grind (arith, integer_back)
 
   pub tokens_back : (free : Bool) (ts : List Token) (ps : List Piece) → AreSpaced W free ts → filter_map token_of (pieces_of ts ps) ≡ ts ++ filter_map token_of ps
   tokens_back free [] ps s = refl

@@ -1,5 +1,5 @@
 -- Reserved variables, and what the bytes of an integer stand for.
-use Rattle.ghc_reader.proofs.Words.{◌≡◌, ◌≢◌, ◌⊎◌, ℕ, ◌<◌, ◌≤◌, Bool, true, List, [], ◌∷◌, ◌++◌, length, Result, Ok, Err, MatchResult, OkIff, Option, Some, None, is_some, IsTrue, MatchOption, ◌↔◌, ◌^◌, not, false, rules, refl, sym, ap, subst, ◌∙◌, inl, inr, arith, ◌==◌, FitsSigned, IsOk, AllDigits, IsNumeral, without_leading_sign, digits_value, signed_digits_value, ParsesUnsigned, is_ascii_digit, list_all, append-nil, cases_lt, false≢true, nat_tests, IsDigitsTest, numerals_by_value, parse_digits, IsRun, Lacks, HasForm, AreDigits, BeginsNumber, IsReserved, IsReservedBy, IsReservedAs, IsNumberedAs, IsTooGreat, greatest_number}
+use Rattle.ghc_reader.proofs.Words.{◌≡◌, ◌≢◌, ◌⊎◌, ℕ, ◌<◌, ◌≤◌, Bool, true, List, [], ◌∷◌, ◌++◌, length, Result, Err, MatchResult, OkIff, Option, Some, None, is_some, IsTrue, MatchOption, ◌↔◌, ◌^◌, not, false, rules, refl, sym, ap, subst, ◌∙◌, inl, inr, arith, ◌==◌, FitsSigned, IsOk, AllDigits, IsNumeral, without_leading_sign, digits_value, signed_digits_value, ParsesUnsigned, is_ascii_digit, list_all, append-nil, cases_lt, false≢true, nat_tests, IsDigitsTest, numerals_by_value, parse_digits, IsRun, Lacks, HasForm, AreDigits, BeginsNumber, IsReserved, IsReservedBy, IsReservedAs, IsNumberedAs, IsTooGreat, greatest_number}
 use Rattle.std.specs.Int.{w64}
 use Rattle.ghc_reader.specs.declared.lexer.front.Kind.TheVariants as kind
 
@@ -17,11 +17,7 @@ one_split test [] b [] d all stops all' stops' e = record { front = refl; back =
 one_split test [] b (x ∷ c) d all stops all' stops' e = let lacks = subst (Lacks test) e stops in absurd (grind (arith, lacks, all'))
 one_split test (x ∷ a) b [] d all stops all' stops' e = let lacks = subst (Lacks test) (sym e) stops' in absurd (grind (arith, lacks, all))
 one_split test (x ∷ a) b (y ∷ c) d all stops all' stops' e =
-    let tails : a ++ b ≡ c ++ d = cc in
-    let heads : x ≡ y = cc in
-    let more : list_all test a ≡ true = grind (arith, all) in
-    let more' : list_all test c ≡ true = grind (arith, all') in
-    let same = one_split test a b c d more stops more' stops' tails in
+    let same = one_split test a b c d (grind (arith, all)) stops (grind (arith, all')) stops' (cc) in
     record { front = cc (same.front); back = same.back }
 
 -- ---- reserved variables
@@ -55,7 +51,6 @@ one_spelling : (bs a b c d : List ℕ) → IsReservedBy bs a b → IsReservedBy 
 one_spelling bs a b c d h k =
     let whole : a ++ 95 ∷ b ≡ c ++ 95 ∷ d = cc in
     let same = one_split is_ascii_digit a (95 ∷ b) c (95 ∷ d) (all_of_run a h.0) refl (all_of_run c k.0) refl whole in
-    let behind = same.back in
     record { front = same.front; back = cc }
 
 -- a reserved variable has these numbers alone
@@ -108,26 +103,21 @@ tests_numbers bs (Some numbers) false e reserved h = (λ wrong. absurd (false≢
 -- ---- integers
 
 nonempty : (ds : List ℕ) → AreDigits ds → 0 < length ds
-nonempty [] run = absurd run
-nonempty (d ∷ ds) run = omega arith
+nonempty ds run = grind arith
 
 pub digits_of_all : (bs : List ℕ) → list_all is_ascii_digit bs ≡ true → AllDigits 10 bs
 digits_of_all [] all = tt
 digits_of_all (b ∷ bs) all =
-    let first : is_ascii_digit b ≡ true = grind (arith, all) in
-    let others : list_all is_ascii_digit bs ≡ true = grind (arith, all) in
-    (grind (arith, nat_tests), digits_of_all bs others)
+    (grind (arith, nat_tests, all), digits_of_all bs (grind (arith, all)))
 
 pub numeral_of_form : (bs : List ℕ) → HasForm true kind.Integer bs → IsNumeral 10 (without_leading_sign bs)
 numeral_of_form [] (inl run) = absurd run
 numeral_of_form [] (inr negative) = absurd negative.1
 numeral_of_form (b ∷ bs) (inl run) =
-    let first = run.0 in
-    let unsigned : without_leading_sign (b ∷ bs) ≡ b ∷ bs = grind (arith, nat_tests) in
+    let unsigned : without_leading_sign (b ∷ bs) ≡ b ∷ bs = grind (arith, nat_tests, run.0) in
     subst (IsNumeral 10) (sym unsigned) (omega arith, digits_of_all (b ∷ bs) (all_of_run (b ∷ bs) run))
 numeral_of_form (b ∷ bs) (inr negative) =
-    let minus = negative.1.0 in
-    let signed : without_leading_sign (b ∷ bs) ≡ bs = grind (arith, nat_tests) in
+    let signed : without_leading_sign (b ∷ bs) ≡ bs = grind (arith, nat_tests, negative.1.0) in
     subst (IsNumeral 10) (sym signed) (nonempty bs negative.1.1, digits_of_all bs (all_of_run bs negative.1.1))
 
 -- where `parse` fails, the value does not fit
@@ -157,5 +147,4 @@ pub test_from_empty : (bs : List ℕ) (b : Bool) → b ≡ (length bs == 0) → 
 test_from_empty bs b is none = is ∙ ap (λ l. length l == 0) none
 
 pub ok_from_cases : {T E : Type 0} (P : T → Type 0) (Q : E → Type 0) (U : Type 0) (r : Result T E) → MatchResult r P (λ e. (¬ U) × Q e) → U → IsOk r
-ok_from_cases P Q U (Ok x) cases utf8 = refl
-ok_from_cases P Q U (Err e) cases utf8 = absurd (cases.0 utf8)
+ok_from_cases P Q U r cases utf8 = grind arith

@@ -1,41 +1,30 @@
 -- From the fault of a part that is the whole text to the fault of the text.
-use Rattle.ghc_reader.proofs.Words.{◌≡◌, ◌≢◌, ℕ, ◌+◌, ◌-◌, ◌<◌, List, Option, None, [], ◌∷◌, ◌++◌, length, take, true, false, refl, sym, ap, ◌∙◌, subst, arith, append_assoc, length-append, drop, ⊎_elim, ◌==◌, nat_tests, take-append-drop, eq-or-lt_of_le, take-append_seam, take-append-add, Stop, Token, first, Program, program, Query, plain, stopped, query, query_of, goals_of, FaultAt, EndsQuery, EndsProgram, Fault}
+use Rattle.ghc_reader.proofs.Words.{◌≡◌, ◌≢◌, ℕ, ◌+◌, ◌-◌, List, Option, None, [], ◌∷◌, ◌++◌, length, true, false, refl, sym, ap, ◌∙◌, subst, arith, append_assoc, length-append, drop, ⊎_elim, ◌==◌, nat_tests, take-append-drop, eq-or-lt_of_le, take-append_seam, take-append-add, Stop, Token, first, Query, plain, stopped, query, query_of, goals_of, FaultAt, Fault}
 use Rattle.ghc_reader.specs.declared.token.Token.TheVariants as token
+use Rattle.ghc_reader.proofs.Ends.{stop_ends_body}
 use Rattle.ghc_reader.proofs.OneGoal.{one_body}
-use Rattle.ghc_reader.proofs.QueryFaults.{none_ends_body, stop_ends}
-
-is_zero : (n : ℕ) → true ≡ (n == 0) → n ≡ 0
-is_zero n e = grind (arith, nat_tests)
-
-not_zero : (n : ℕ) → false ≡ (n == 0) → 0 < n
-not_zero n e = grind (arith, nat_tests)
+use Rattle.ghc_reader.proofs.QueryFaults.{none_ends_body}
 
 pub is_nothing : (xs : List Token) → true ≡ (length xs == 0) → xs ≡ []
 is_nothing [] e = refl
-is_nothing (x ∷ xs) e = let h = is_zero (length (x ∷ xs)) e in absurd (omega arith)
+is_nothing (x ∷ xs) e = grind (arith, nat_tests)
 
 pub not_nothing : (xs : List Token) → false ≡ (length xs == 0) → xs ≢ []
-not_nothing [] e h = let n = not_zero 0 e in omega arith
-not_nothing (x ∷ xs) e h = cc
+not_nothing xs e h = grind (arith, nat_tests)
 
-take_front : (a b : List Token) → take (length a) (a ++ b) ≡ a
-take_front a b = take-append_seam a b
-
-take_one_more : (a : List Token) (t : Token) (b : List Token) → take (length a + 1) (a ++ t ∷ b) ≡ a ++ t ∷ []
-take_one_more a t b = take-append-add a (t ∷ b) 1
-
-module _ (C : Type 0) (spell : C → List Token → List Token) (Ends : C → Option Token → Type 0) (ends : (c : C) → Ends c None) where
+module _ {C : Type 0} {spell : C → List Token → List Token} (Ends : C → Option Token → Type 0) (ends : (c : C) → Ends c None) where
   fault_of : (front rest : List Token) → ((q : C) × (more : List Token) × (front ++ more ≡ spell q [])) → ((us : List Token) → first us ≡ first rest → (q : C) (behind : List Token) → Ends q (first behind) → front ++ us ≡ spell q behind → ⊥) → FaultAt C spell (front ++ rest) (length front)
   fault_of front [] g stuck = record {
     place = omega (arith, length-append front []);
-    before = (g.0, g.1, sym g.2 ∙ ap (λ l. l ++ g.1) (sym (take_front front [])));
+    before = (g.0, g.1, sym g.2 ∙ ap (λ l. l ++ g.1) (sym (take-append_seam front [])));
     token = λ h v. omega (arith, length-append front []);
     end = λ h q e. stuck [] refl q [] (ends q) (sym e);
   }
   fault_of front (t ∷ rest) g stuck = record {
     place = omega (arith, length-append front (t ∷ rest));
-    before = (g.0, g.1, sym g.2 ∙ ap (λ l. l ++ g.1) (sym (take_front front (t ∷ rest))));
-    token = λ h v. stuck (t ∷ v.1) refl v.0 [] (ends v.0) (sym (v.2 ∙ ap (λ l. l ++ v.1) (take_one_more front t rest) ∙ append_assoc front (t ∷ []) v.1));
+    before = (g.0, g.1, sym g.2 ∙ ap (λ l. l ++ g.1) (sym (take-append_seam front (t ∷ rest))));
+    token = λ h v.
+        stuck (t ∷ v.1) refl v.0 [] (ends v.0) (sym (v.2 ∙ ap (λ l. l ++ v.1) (take-append-add front (t ∷ rest) 1) ∙ append_assoc front (t ∷ []) v.1));
     end = λ h q e. omega (arith, length-append front (t ∷ rest));
   }
 
@@ -48,28 +37,16 @@ module _ (C : Type 0) (spell : C → List Token → List Token) (Ends : C → Op
   pub no_fault_in : (ts : List Token) (left : ℕ) (q : C) → ts ≡ spell q [] → Fault C spell Ends ts left → ⊥
   no_fault_in ts left q e f = f.stuck f.rest refl q [] (ends q) (sym f.split ∙ e)
 
-pub fault_at : (ts : List Token) (left : ℕ) → Fault Query query EndsQuery ts left → FaultAt Query query ts (length ts - left)
-fault_at = fault_in Query query EndsQuery (λ q. refl)
-
-pub program_fault_at : (ts : List Token) (left : ℕ) → Fault Program program EndsProgram ts left → FaultAt Program program ts (length ts - left)
-program_fault_at = fault_in Program program EndsProgram (λ q. refl)
-
-pub no_fault : (ts : List Token) (left : ℕ) (q : Query) → ts ≡ query q [] → Fault Query query EndsQuery ts left → ⊥
-no_fault = no_fault_in Query query EndsQuery (λ q. refl)
-
-pub no_program_fault : (ts : List Token) (left : ℕ) (q : Program) → ts ≡ program q [] → Fault Program program EndsProgram ts left → ⊥
-no_program_fault = no_fault_in Program program EndsProgram (λ q. refl)
-
 -- a text has one derivation, but for the stop at its end
 pub one_query : (p q : Query) → query p [] ≡ query q [] → query_of p [] ≡ query_of q []
 one_query (plain x) (plain y) e = ap (λ b. goals_of b []) (one_body x y [] [] (none_ends_body x) (none_ends_body y) e).derivation
 one_query (plain x) (stopped y) e =
-    let s = one_body x y [] (token.Mark Stop ∷ []) (none_ends_body x) (stop_ends y) e in
-    let behind = s.behind in cc
+    let s = one_body x y [] (token.Mark Stop ∷ []) (none_ends_body x) (stop_ends_body y) e in
+    cc
 one_query (stopped x) (plain y) e =
-    let s = one_body x y (token.Mark Stop ∷ []) [] (stop_ends x) (none_ends_body y) e in
-    let behind = s.behind in cc
-one_query (stopped x) (stopped y) e = ap (λ b. goals_of b (token.Mark Stop ∷ [])) (one_body x y (token.Mark Stop ∷ []) (token.Mark Stop ∷ []) (stop_ends x) (stop_ends y) e).derivation
+    let s = one_body x y (token.Mark Stop ∷ []) [] (stop_ends_body x) (none_ends_body y) e in
+    cc
+one_query (stopped x) (stopped y) e = ap (λ b. goals_of b (token.Mark Stop ∷ [])) (one_body x y (token.Mark Stop ∷ []) (token.Mark Stop ∷ []) (stop_ends_body x) (stop_ends_body y) e).derivation
 
 -- a text of the grammar has no fault
 pub no_fault_at : (C : Type 0) (spell : C → List Token → List Token) (ts : List Token) (n : ℕ) → FaultAt C spell ts n → (c : C) → ts ≡ spell c [] → ⊥

@@ -1,6 +1,5 @@
 -- What parse trees within the limits say is within them too.
-use Rattle.ghc_reader.proofs.Words.{◌≡◌, ◌≢◌, ℕ, ◌+◌, ◌<◌, ◌≤◌, List, [], ◌∷◌, ◌++◌, length, take, filter, Bool, true, false, cond, Option, Some, None, refl, sym, ap, ◌∙◌, subst, inl, inr, arith, slice_get, append_assoc, ◌||◌, not, max, MatchOption, bytes_eq, nat_lt, list_any, append-nil, length_push, length-map, length-take-le, length-filter_both, list_any-append, bytes_eq-Decides, nat_tests, VarName, In, SourceGoal, goal_view, goal_views, Trees, none, some, Goal, count, largest, widest_goal, widest_goals, widest_clause, goals_of_clause, names_of_goals, names_of_clause, is_unnamed, variables, first_exceeded, of_program, of_query, WrittenClause, WrittenQuery, is_stream, IsWithinLimits, IsWellWritten, AreWellWritten, IsWellAsked, Names, blank, IsCalled, AreNamed, Each, SaysAll, SaysGoal, SaysAsked, SaysClause, SaysQuery, is_true, doing, tail_of, IsFresh, WrittenAsk, IsNaming, SaysAsk, IsWellPut}
-use Rattle.ghc_term.specs.declared.limit.Limit.TheVariants as limit
+use Rattle.ghc_reader.proofs.Words.{◌≡◌, ◌≢◌, ℕ, ◌+◌, ◌<◌, ◌≤◌, List, [], ◌∷◌, ◌++◌, length, take, filter, Bool, true, Option, Some, None, refl, sym, ap, ◌∙◌, subst, inl, inr, arith, slice_get, append_assoc, ◌||◌, not, MatchOption, bytes_eq, list_any, append-nil, length_push, length-map, length-take-le, length-filter_both, list_any-append, bytes_eq-Decides, nat_tests, VarName, In, SourceGoal, goal_view, goal_views, Trees, none, some, Goal, count, largest, widest_goal, widest_goals, widest_clause, goals_of_clause, names_of_goals, names_of_clause, is_unnamed, variables, first_exceeded, of_program, of_query, WrittenClause, WrittenQuery, is_stream, IsWithinLimits, IsWellWritten, AreWellWritten, IsWellAsked, Names, blank, IsCalled, AreNamed, Each, SaysAll, SaysGoal, SaysAsked, SaysClause, SaysQuery, is_true, doing, tail_of, IsFresh, WrittenAsk, IsNaming, SaysAsk, IsWellPut, false≢true}
 use Rattle.ghc_term.specs.Tree as term
 use Rattle.ghc_term.specs.Goal as goal
 use Rattle.ghc_reader.specs.Source.{call, unify, assign, Clause}
@@ -23,20 +22,14 @@ record IsCovered (met : List (List ℕ)) (names : Names) : Type 0 where
   few : length names ≤ variables met
 
 at_most_one_more : (b : Bool) (n : ℕ) → n ≤ and_one b n
-at_most_one_more true n = omega arith
-at_most_one_more false n = omega arith
-
-either : (a b : Bool) → (a || (b || false)) ≡ true → a ≡ false → b ≡ true
-either true b e f = cc
-either false true e f = refl
-either false false e f = cc
+at_most_one_more b n = grind arith
 
 known_more : (met : List (List ℕ)) (v : List ℕ) (names later : Names) → AreKnown met names → ((i : ℕ) (w : List ℕ) → slice_get names i ≡ Some w → slice_get later i ≡ Some w)
     → ((i : ℕ) × (slice_get later i ≡ Some v)) → AreKnown (met ++ v ∷ []) later
 known_more met v names later known still here w found named = elim (test_cases (list_any (bytes_eq w) met)) [
   | inl old ↦ let k = known w old named in (k.0, still k.0 w k.1)
   | inr absent ↦
-      let same = (bytes_eq-Decides w v).0 (either (list_any (bytes_eq w) met) (bytes_eq w v) (sym (list_any-append (bytes_eq w) met (v ∷ [])) ∙ found) absent) in
+      let same = (bytes_eq-Decides w v).0 (grind (arith, sym (list_any-append (bytes_eq w) met (v ∷ [])) ∙ found, absent)) in
       (here.0, here.1 ∙ ap Some (sym same))
 ]
 
@@ -71,18 +64,14 @@ covered (v ∷ vs) met xs names later c m =
 
 -- A text has no more variables than are counted in its names.
 few_names : (vs : List (List ℕ)) (xs : List VarName) (names : Names) → AreNamed names xs → Each (IsCalled names) vs xs → length names ≤ variables vs
-few_names vs xs names n h = covered vs [] xs [] names (record { known = λ v e named. absurd (nothing e); few = omega arith }) (named_are_met vs xs names n h)
-  where
-    nothing : false ≡ true → ⊥
-    nothing e = cc
+few_names vs xs names n h = covered vs [] xs [] names (record { known = λ v e named. absurd (false≢true e); few = omega arith }) (named_are_met vs xs names n h)
 
 -- ---- goals
 
 each_length : {X Y : Type 0} (R : X → Y → Type 0) (xs : List X) (ys : List Y) → Each R xs ys → length ys ≡ length xs
 each_length R [] [] h = refl
-each_length R [] (y ∷ ys) h = absurd h
-each_length R (x ∷ xs) [] h = absurd h
 each_length R (x ∷ xs) (y ∷ ys) h = omega (arith, each_length R xs ys h.1)
+each_length R xs ys h = absurd h
 
 doing_length : (gs : List Goal) → length (doing gs) ≤ length gs
 doing_length gs = omega (arith, length-filter_both (λ g. not (is_true g)) (λ g. not (not (is_true g))) (λ g. refl) gs)
@@ -96,11 +85,7 @@ streams_below goals i n names us less few says counted =
 
 doing_widest : (gs : List Goal) → widest_goals (doing gs) ≤ widest_goals gs
 doing_widest [] = omega arith
-doing_widest (g ∷ gs) = by_test (not (is_true g)) (doing_widest gs)
-  where
-    by_test : (b : Bool) → widest_goals (doing gs) ≤ widest_goals gs → widest_goals (cond b (g ∷ doing gs) (doing gs)) ≤ max (widest_goal g) (widest_goals gs)
-    by_test true narrow = omega (arith, narrow)
-    by_test false narrow = omega (arith, narrow)
+doing_widest (g ∷ gs) = grind (arith, doing_widest gs)
 
 -- ---- arguments
 
@@ -121,25 +106,15 @@ asked_width g names f us h = by_tail (tail_of g) h
     by_tail None h = said_width g names f us h
     by_tail (Some v) h = cc
 
-each_width : (R : Goal → goal.Goal → Type 0) → ((g : Goal) (f : List ℕ) (us : List term.Tree) → R g (goal.call f us) → length us ≤ widest_goal g) → (gs : List Goal) (ws : List goal.Goal) (f : List ℕ) (us : List term.Tree)
-    → Each R gs ws → In (goal.call f us) ws → length us ≤ widest_goals gs
-each_width R one [] [] f us h i = absurd i
-each_width R one [] (w ∷ ws) f us h i = absurd h
-each_width R one (g ∷ gs) [] f us h i = absurd h
-each_width R one (g ∷ gs) (w ∷ ws) f us h (inl is) = omega (arith, one g f us (subst (R g) (sym is) h.0))
-each_width R one (g ∷ gs) (w ∷ ws) f us h (inr i) = omega (arith, each_width R one gs ws f us h.1 i)
-
 -- ---- the limits
 
-pub at_most : (n m : ℕ) → nat_lt n m ≡ false → m ≤ n
-at_most n m e = grind (arith, nat_tests)
+limits_of_program : (cs : List Clause) → first_exceeded (of_program cs) ≡ None
+    → (length cs ≤ 10000) × (largest widest_clause cs ≤ 255) × (largest goals_of_clause cs ≤ 1000) × (largest (λ c. variables (names_of_clause c)) cs ≤ 1000)
+limits_of_program cs within = grind (arith, nat_tests)
 
-pub each_false : (a b c d : Bool) → cond a (Some limit.Clauses) (cond b (Some limit.Arity) (cond c (Some limit.Goals) (cond d (Some limit.Variables) None))) ≡ None → (a ≡ false) × (b ≡ false) × (c ≡ false) × (d ≡ false)
-each_false true b c d e = cc
-each_false false true c d e = cc
-each_false false false true d e = cc
-each_false false false false true e = cc
-each_false false false false false e = (refl, refl, refl, refl)
+pub limits_of_query : (gs : List Goal) → first_exceeded (of_query gs) ≡ None
+    → (widest_goals gs ≤ 255) × (length gs ≤ 1000) × (variables (names_of_goals gs) ≤ 1000)
+limits_of_query gs within = grind (arith, nat_tests)
 
 largest_has : {X : Type 0} (f : X → ℕ) (xs : List X) (x : X) → In x xs → f x ≤ largest f xs
 largest_has f [] x i = absurd i
@@ -148,10 +123,14 @@ largest_has f (y ∷ xs) x (inr i) = omega (arith, largest_has f xs x i)
 
 each_has : {X Y : Type 0} (R : X → Y → Type 0) (xs : List X) (ys : List Y) (y : Y) → Each R xs ys → In y ys → (x : X) × In x xs × R x y
 each_has R [] [] y h i = absurd i
-each_has R [] (z ∷ ys) y h i = absurd h
-each_has R (x ∷ xs) [] y h i = absurd h
 each_has R (x ∷ xs) (z ∷ ys) y h (inl is) = (x, inl refl, subst (R x) (sym is) h.0)
 each_has R (x ∷ xs) (z ∷ ys) y h (inr i) = let r = each_has R xs ys y h.1 i in (r.0, inr r.1, r.2)
+each_has R xs ys y h i = absurd h
+
+each_width : (R : Goal → goal.Goal → Type 0) → ((g : Goal) (f : List ℕ) (us : List term.Tree) → R g (goal.call f us) → length us ≤ widest_goal g)
+    → (gs : List Goal) (ws : List goal.Goal) (f : List ℕ) (us : List term.Tree)
+    → Each R gs ws → In (goal.call f us) ws → length us ≤ widest_goals gs
+each_width R one gs ws f us h i = let r = each_has R gs ws (goal.call f us) h i in omega (arith, one r.0 f us r.2, largest_has widest_goal gs r.0 r.1)
 
 goals_within : (R : Goal → goal.Goal → Type 0) → ((g : Goal) (f : List ℕ) (us : List term.Tree) → R g (goal.call f us) → length us ≤ widest_goal g) → (gs : List Goal) (ws : List goal.Goal) (n : ℕ)
     → Each R (doing gs) ws → length gs ≤ 1000 → n ≤ 1000 → widest_goals gs ≤ 255 → IsWithinLimits ws n
@@ -174,14 +153,7 @@ clause_well_written c w s few_goals few_variables narrow =
 
 pub program_well_written : (cs : List Clause) (ws : List WrittenClause) → first_exceeded (of_program cs) ≡ None → Each SaysClause cs ws → AreWellWritten ws
 program_well_written cs ws within says =
-    let goals = largest goals_of_clause cs in
-    let names = largest (λ c. variables (names_of_clause c)) cs in
-    let width = largest widest_clause cs in
-    let passed = each_false (nat_lt 10000 (length cs)) (nat_lt 255 width) (nat_lt 1000 goals) (nat_lt 1000 names) within in
-    let few = at_most 10000 (length cs) passed.0 in
-    let narrow = at_most 255 width passed.1 in
-    let few_goals = at_most 1000 goals passed.2 in
-    let few_names = at_most 1000 names passed.3 in
+    let (few, narrow, few_goals, few_names) = limits_of_program cs within in
     record {
       few = omega (arith, each_length SaysClause cs ws says, few);
       each = λ w i.
@@ -191,18 +163,12 @@ program_well_written cs ws within says =
 
 -- The goals of a query are no more than it may have.
 pub few_asked : (goals : List SourceGoal) → first_exceeded (of_query (goal_views goals)) ≡ None → length goals ≤ 1000
-few_asked goals within =
-    let gs = goal_views goals in
-    let passed = each_false false (nat_lt 255 (widest_goals gs)) (nat_lt 1000 (length gs)) (nat_lt 1000 (variables (names_of_goals gs))) within in
-    omega (arith, at_most 1000 (length gs) passed.2, length-map goals goal_view)
+few_asked goals within = omega (arith, (limits_of_query (goal_views goals) within).1, length-map goals goal_view)
 
 pub query_well_asked : (gs : List Goal) (q : WrittenQuery) → first_exceeded (of_query gs) ≡ None → SaysQuery gs q → IsWellAsked q
 query_well_asked gs q within s =
-    let passed = each_false false (nat_lt 255 (widest_goals gs)) (nat_lt 1000 (length gs)) (nat_lt 1000 (variables (names_of_goals gs))) within in
+    let (narrow, few_goals, few_variables) = limits_of_query gs within in
     let names = few_names (names_of_goals gs) _ q.variables s.variables (query_called gs q s) in
-    let narrow = at_most 255 (widest_goals gs) passed.1 in
-    let few_goals = at_most 1000 (length gs) passed.2 in
-    let few_variables = at_most 1000 (variables (names_of_goals gs)) passed.3 in
     record {
       numbered = s.variables.numbered;
       named = s.variables.named;
@@ -213,13 +179,10 @@ query_well_asked gs q within s =
 
 pub ask_well_put : (query : Names) (gs : List Goal) (a : WrittenAsk) → first_exceeded (of_query gs) ≡ None → SaysAsk query gs a → IsWellPut a
 ask_well_put query gs a within s =
-    let passed = each_false false (nat_lt 255 (widest_goals gs)) (nat_lt 1000 (length gs)) (nat_lt 1000 (variables (names_of_goals gs))) within in
+    let (narrow, few_goals, few_variables) = limits_of_query gs within in
     let called = asked_called (IsCalled s.names) gs a.goals s.goals in
     let few = few_names (names_of_goals gs) _ s.names s.variables called in
     let told = each_length (IsNaming query) s.names a.named s.named in
-    let narrow = at_most 255 (widest_goals gs) passed.1 in
-    let few_goals = at_most 1000 (length gs) passed.2 in
-    let few_variables = at_most 1000 (variables (names_of_goals gs)) passed.3 in
     record {
       numbered = s.variables.numbered;
       told = told ∙ s.variables.named;

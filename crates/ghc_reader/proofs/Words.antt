@@ -51,7 +51,7 @@ pub use Rattle.ghc_reader.specs.declared.token.Token.{Token}
 pub use Rattle.ghc_reader.specs.declared.written.Guard.{Guard}
 pub use Rattle.ghc_term.proofs.Exact.{exact}
 pub use Rattle.ghc_term.proofs.Goals.{list_of-trees}
-pub use Rattle.ghc_term.proofs.Names.{name_antisymmetric, name_total}
+pub use Rattle.ghc_term.proofs.Names.{itself, same_name}
 pub use Rattle.ghc_term.specs.Bindings.{name_cmp}
 pub use Rattle.ghc_term.specs.Expression.{leaf, operation}
 pub use Rattle.ghc_term.specs.Goal.{stream}
@@ -68,11 +68,11 @@ pub use Rattle.ghc_term.specs.declared.limit.Limit.{Limit}
 pub use Rattle.ghc_term.specs.declared.operator.Operator.{Operator}
 pub use Rattle.ghc_term.specs.declared.var_name.VarName.{VarName}
 pub use Rattle.indexmap.specs.IndexMap.{get}
-pub use Rattle.std.proofs.Common.{All, Bool, Bor, Box, Err, FitsSigned, Global, IfErr, IfOk, IsTrue, List, MatchOption, MatchResult, None, Ok, OkIff, OnErr, OnOk, Option, Result, Some, Vec, [], add-zero, ap, append_assoc, arith, bytes_eq, codes, cond, drop, false, filter, get_or, if◌then◌else◌, inl, inr, is_some, length, length-append, ltb, map, max, nat_eq, nat_lt, neg_ℤ, negsuc, not, one-add, pos, refl, reverse, rules, slice_get, subst, suc, sym, take, take_all, true, vec_len, w64, zero, ℕ, ℤ, ⊎_elim, ◌&&◌, ◌*◌, ◌++◌, ◌+◌, ◌-◌, ◌<◌, ◌==◌, ◌^◌, ◌||◌, ◌↔◌, ◌∙◌, ◌∷◌, ◌≡◌, ◌≢◌, ◌≤◌, ◌⊎◌}
+pub use Rattle.std.proofs.Common.{All, Bool, Bor, Box, Err, FitsSigned, Global, IfErr, IfOk, IsTrue, List, MatchOption, MatchResult, None, Ok, OkIff, OnErr, OnOk, Option, Result, Some, Vec, [], add-zero, ap, append_assoc, arith, bytes_eq, codes, cond, drop, false, filter, get_or, if◌then◌else◌, inl, inr, is_some, length, length-append, map, max, nat_eq, nat_lt, neg_ℤ, negsuc, not, one-add, pos, refl, reverse, rules, slice_get, subst, suc, sym, take, take_all, true, vec_len, w64, zero, ℕ, ℤ, ⊎_elim, ◌&&◌, ◌*◌, ◌++◌, ◌+◌, ◌-◌, ◌<◌, ◌==◌, ◌^◌, ◌||◌, ◌↔◌, ◌∙◌, ◌∷◌, ◌≡◌, ◌≢◌, ◌≤◌, ◌⊎◌}
 pub use Rattle.std.proofs.Math.Nat.{eq-or-lt_of_le}
 pub use Rattle.std.proofs.Math.Seq.{drop-append_seam, take-append-add, take-append_seam, take-suc}
-pub use Rattle.std.proofs.lemmas.Bool.{cases_lt, false≢true}
-pub use Rattle.std.proofs.lemmas.Bool.Decides.{Decides-ltb, eqb_tells, nat_tests, same_from_decides}
+pub use Rattle.std.proofs.lemmas.Bool.{cases_lt, false_from_ne_true, false≢true, or_cases, or_from, or_left, or_parts, or_right}
+pub use Rattle.std.proofs.lemmas.Bool.Decides.{eqb_tells, nat_tests, same_from_decides}
 pub use Rattle.std.proofs.lemmas.Fmt.{decimal_is_IsNumeral, length-decimal-le}
 pub use Rattle.std.proofs.lemmas.Grind.{common_steps, flat_map-append}
 pub use Rattle.std.proofs.lemmas.Int.{to_z-of_z}
@@ -89,14 +89,12 @@ pub use Rattle.std.proofs.lemmas.Slice.Eq.{bytes_eq-Decides}
 pub use Rattle.std.proofs.lemmas.Str.Parse.{IsDigitsTest, digit_from_value, numerals_by_value, parse_digits}
 pub use Rattle.std.specs.BTreeMap.{BTreeMap, IsUnchanged, UpdatesBy, get_by, is_at}
 pub use Rattle.std.specs.Char.{is_ascii_digit, is_ascii_lowercase}
-pub use Rattle.std.specs.Cmp.{eq_by_cmp_equiv}
 pub use Rattle.std.specs.Cmp.Lexicographic.{slice_cmp}
 pub use Rattle.std.specs.Fmt.{decimal, signed_decimal}
 pub use Rattle.std.specs.HashMap.{HashMap, Updates}
 pub use Rattle.std.specs.List.{cons_option, filter_map, flat_map, list_all, list_any}
 pub use Rattle.std.specs.Map.{lookup}
 pub use Rattle.std.specs.Option.{option_to_list}
-pub use Rattle.std.specs.Ordering.{eq_by_cmp, is_eq, nat_cmp, ord_max}
+pub use Rattle.std.specs.Ordering.{eq_by_cmp, nat_cmp, ord_max}
 pub use Rattle.std.specs.Result.{IsErrAnd, IsOk, is_err}
 pub use Rattle.std.specs.Str.Parse.{AllDigits, IsNumeral, ParsesUnsigned, digits_value, signed_digits_value, starts_with_minus, without_leading_sign}
-pub use Rattle.std.specs.declared.cmp.Ordering.{Ordering}

@@ -1,4 +1,4 @@
-use Rattle.ghc_reader.proofs.Words.{[], ◌∷◌, length, refl, sym, ap, ◌∙◌, subst, err_from_is_err_and, Call, views, goal_views, test_views}
+use Rattle.ghc_reader.proofs.Words.{[], ◌∷◌, length, refl, sym, ap, ◌∙◌, subst, Call, views, goal_views, test_views}
 use Rattle.ghc_reader.specs.declared.token.Token.TheVariants as token
 use Rattle.ghc_reader.proofs.ClauseFaults as faults
 use Rattle.ghc_reader.proofs.ClauseFounds as founds
@@ -11,9 +11,8 @@ returns-in_default-clause-fault c =
 
 pub returns-in_err-arguments-clause-fault : goal.returns-in_err-arguments-clause-fault
 returns-in_err-arguments-clause-fault c =
-    let r = c.from_residual in
-    let p = err_from_is_err_and r.result r.ensures.1 in
-    passes r.result c.in_err-arguments.field-0.0 p.0 _ _ p.1 p.2 (λ n f. subst (λ ts. founds.ClauseFault ts n) (sym c.in-Some.ensures) (faults.arguments_in_clause c.in-Some.name.now c.in-Some.behind.now n f)) c.in_err-arguments.ensures.fault
+    passes c.from_residual.result c.in_err-arguments.field-0.0 _ _ c.from_residual.ensures.1
+    (λ n f. subst (λ ts. founds.ClauseFault ts n) (sym c.in-Some.ensures) (faults.arguments_in_clause c.in-Some.name.now c.in-Some.behind.now n f)) c.in_err-arguments.ensures.fault
 
 pub returns-in-Some-eat-clause-found : goal.returns-in-Some-eat-clause-found
 returns-in-Some-eat-clause-found c =
@@ -28,9 +27,8 @@ returns-in_default-eat-2-clause-fault c =
 
 pub returns-in_err-right-clause-fault : goal.returns-in_err-right-clause-fault
 returns-in_err-right-clause-fault c =
-    let r = c.from_residual-in_err-right in
-    let p = err_from_is_err_and r.result r.ensures.1 in
-    passes r.result c.in_err-right.field-0.0 p.0 _ _ p.1 p.2 (λ n f. founds.in_right_side c.args.tokens.now c.in-Some.behind.now c.in_ok-arguments.rest.now c.in-Some-eat-2.inside.now c.in-Some.name.now _ n c.in-Some.ensures c.in_ok-arguments.ensures.found c.in-Some-eat-2.ensures f) c.in_err-right.ensures.fault
+    passes c.from_residual-in_err-right.result c.in_err-right.field-0.0 _ _ c.from_residual-in_err-right.ensures.1
+    (λ n f. founds.in_right_side c.args.tokens.now c.in-Some.behind.now c.in_ok-arguments.rest.now c.in-Some-eat-2.inside.now c.in-Some.name.now _ n c.in-Some.ensures c.in_ok-arguments.ensures.found c.in-Some-eat-2.ensures f) c.in_err-right.ensures.fault
 
 pub returns-clause-found : goal.returns-clause-found
 returns-clause-found c =

@@ -1,4 +1,4 @@
-use Rattle.ghc_reader.proofs.Words.{sym, ap, subst, err_from_is_err_and, goal_views, test_views}
+use Rattle.ghc_reader.proofs.Words.{sym, ap, subst, goal_views, test_views}
 use Rattle.ghc_reader.proofs.ClauseFaults as faults
 use Rattle.ghc_reader.proofs.ClauseFounds as founds
 use Rattle.ghc_reader.proofs.TermFounds.{passes}
@@ -6,9 +6,7 @@ use Rattle.ghc_reader.proofs.clause_parser.right.Goals as goal
 
 pub returns-in_err-tests-clause-fault : goal.returns-in_err-tests-clause-fault
 returns-in_err-tests-clause-fault c =
-    let r = c.from_residual in
-    let p = err_from_is_err_and r.result r.ensures.1 in
-    passes r.result c.in_err-tests.field-0.0 p.0 _ _ p.1 p.2 (λ n f. faults.tests_in_right c.args.tokens.now n f) c.in_err-tests.ensures.fault
+    passes c.from_residual.result c.in_err-tests.field-0.0 _ _ c.from_residual.ensures.1 (faults.tests_in_right c.args.tokens.now) c.in_err-tests.ensures.fault
 
 pub returns-in_default-2-clause-fault : goal.returns-in_default-2-clause-fault
 returns-in_default-2-clause-fault c =
@@ -25,9 +23,9 @@ returns-in_default-eat-clause-fault c =
 
 pub returns-in_err-body-2-clause-fault : goal.returns-in_err-body-2-clause-fault
 returns-in_err-body-2-clause-fault c =
-    let r = c.from_residual-in_err-body-2 in
-    let p = err_from_is_err_and r.result r.ensures.1 in
-    passes r.result c.in_err-body-2.field-0.0 p.0 _ _ p.1 p.2 (λ n f. founds.in_guarded c.args.tokens.now c.in_ok-tests.rest.now c.in-Some-eat.behind.now _ n c.in_ok-tests.ensures.found c.in-Some-eat.ensures f) c.in_err-body-2.ensures.fault
+    let found = c.in_ok-tests.ensures.found in
+    passes c.from_residual-in_err-body-2.result c.in_err-body-2.field-0.0 _ _ c.from_residual-in_err-body-2.ensures.1
+    (λ n f. rw (found.spelled, c.in-Some-eat.ensures) (faults.body_in_right found.derivation c.in-Some-eat.behind.now n f)) c.in_err-body-2.ensures.fault
 
 pub returns-in-None-clause-fault : goal.returns-in-None-clause-fault
 returns-in-None-clause-fault c =

@@ -1,4 +1,4 @@
-use Rattle.ghc_reader.proofs.Words.{sym, err_from_is_err_and}
+use Rattle.ghc_reader.proofs.Words.{sym}
 use Rattle.ghc_reader.proofs.TestFaults as faults
 use Rattle.ghc_reader.proofs.GoalFounds as founds
 use Rattle.ghc_reader.proofs.TermFounds.{passes}
@@ -6,8 +6,7 @@ use Rattle.ghc_reader.proofs.clause_parser.test.Goals as goal
 
 pub returns-in_err-item-clause-fault : goal.returns-in_err-item-clause-fault
 returns-in_err-item-clause-fault c =
-    let p = err_from_is_err_and c.from_residual.result c.from_residual.ensures.1 in
-    passes c.from_residual.result c.in_err-item.field-0.0 p.0 _ _ p.1 p.2
+    passes c.from_residual.result c.in_err-item.field-0.0 _ _ c.from_residual.ensures.1
     (λ n f. faults.item_in_test c.args.tokens.now n (sym c.if-item_like.ensures) f)
     c.in_err-item.ensures.fault
 
@@ -16,9 +15,7 @@ returns-then-item_like-clause-found c = founds.found_plain_test c.args.tokens.no
 
 pub returns-in_err-left-clause-fault : goal.returns-in_err-left-clause-fault
 returns-in_err-left-clause-fault c =
-    let r = c.from_residual-in_err-left in
-    let p = err_from_is_err_and r.result r.ensures.1 in
-    passes r.result c.in_err-left.field-0.0 p.0 _ _ p.1 p.2
+    passes c.from_residual-in_err-left.result c.in_err-left.field-0.0 _ _ c.from_residual-in_err-left.ensures.1
     (λ n f. faults.left_in_test c.args.tokens.now n (sym c.if-item_like.ensures) f)
     c.in_err-left.ensures.fault
 
@@ -27,10 +24,9 @@ returns-in_default-clause-fault c = founds.at_comparison c.args.tokens.now c.in_
 
 pub returns-in_err-right-clause-fault : goal.returns-in_err-right-clause-fault
 returns-in_err-right-clause-fault c =
-    let r = c.from_residual-in_err-right in
-    let p = err_from_is_err_and r.result r.ensures.1 in
-    passes r.result c.in_err-right.field-0.0 p.0 _ _ p.1 p.2
-    (λ n f. founds.in_right_operand c.args.tokens.now c.in_ok-left.rest.now c.in-Some.after.now _ c.in-Some.operator n c.in_ok-left.ensures.found c.in-Some.ensures f)
+    let found = c.in_ok-left.ensures.found in
+    passes c.from_residual-in_err-right.result c.in_err-right.field-0.0 _ _ c.from_residual-in_err-right.ensures.1
+    (λ n f. rw (found.spelled, c.in-Some.ensures) (faults.right_in_test found.derivation c.in-Some.operator c.in-Some.after.now n f))
     c.in_err-right.ensures.fault
 
 pub returns-clause-found : goal.returns-clause-found

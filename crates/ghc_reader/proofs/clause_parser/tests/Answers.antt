@@ -1,4 +1,4 @@
-use Rattle.ghc_reader.proofs.Words.{length, [], ◌∷◌, ◌++◌, ap, ◌∙◌, arith, err_from_is_err_and}
+use Rattle.ghc_reader.proofs.Words.{length, [], ◌∷◌, ◌++◌, ap, ◌∙◌, arith}
 use Rattle.ghc_reader.proofs.GoalLoops.{tests_one, tests_more}
 use Rattle.ghc_reader.proofs.TestFaults as faults
 use Rattle.ghc_reader.proofs.ClauseFounds as founds
@@ -7,8 +7,7 @@ use Rattle.ghc_reader.proofs.clause_parser.tests.Goals as goal
 
 pub returns-in_err-first-clause-fault : goal.returns-in_err-first-clause-fault
 returns-in_err-first-clause-fault c =
-    let p = err_from_is_err_and c.from_residual.result c.from_residual.ensures.1 in
-    passes c.from_residual.result c.in_err-first.field-0.0 p.0 _ _ p.1 p.2 (λ n f. faults.first_in_tests c.args.tokens.now n f) c.in_err-first.ensures.fault
+    passes c.from_residual.result c.in_err-first.field-0.0 _ _ c.from_residual.ensures.1 (faults.first_in_tests c.args.tokens.now) c.in_err-first.ensures.fault
 
 pub loop-after-init : goal.loop-after-init
 loop-after-init c = record {
@@ -18,9 +17,8 @@ loop-after-init c = record {
 
 pub returns-in_err-next-clause-fault : goal.returns-in_err-next-clause-fault
 returns-in_err-next-clause-fault c =
-    let p = err_from_is_err_and c.from_residual-in_err-next.result c.from_residual-in_err-next.ensures.1 in
-    passes c.from_residual-in_err-next.result c.in_err-next.field-0.0 p.0 _ _ p.1 p.2
-    (λ n f. founds.in_next_test c.args.tokens.now c.loop-after.rest.now c.in-Some.after.now _ n c.loop-after.invariant.read c.in-Some.ensures f)
+    passes c.from_residual-in_err-next.result c.in_err-next.field-0.0 _ _ c.from_residual-in_err-next.ensures.1
+    (λ n f. rw (c.loop-after.invariant.read.spelled, c.in-Some.ensures) (faults.next_in_tests c.loop-after.invariant.read.so_far c.in-Some.after.now n f))
     c.in_err-next.ensures.fault
 
 pub loop-after-preserved : goal.loop-after-preserved

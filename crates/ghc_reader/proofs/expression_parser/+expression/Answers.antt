@@ -1,4 +1,4 @@
-use Rattle.ghc_reader.proofs.Words.{◌∷◌, length, sym, ap, ◌∙◌, subst, arith, rules, to_z-of_z, err_from_is_err_and, value_view}
+use Rattle.ghc_reader.proofs.Words.{[], ◌∷◌, length, sym, ap, ◌∙◌, subst, arith, rules, to_z-of_z, value_view}
 use mir.Val.{SFits}
 use mir.Syntax.{w64}
 use Rattle.ghc_reader.specs.declared.token.Token.TheVariants as token
@@ -12,8 +12,8 @@ use Rattle.ghc_reader.proofs.expression_parser.+expression.Goals as goal
 -- expression
 pub expression-returns-in_err-first-clause-fault : goal.expression-returns-in_err-first-clause-fault
 expression-returns-in_err-first-clause-fault t c =
-    let p = err_from_is_err_and c.from_residual.result c.from_residual.ensures.1 in
-    passes c.from_residual.result c.in_err-first.field-0.0 p.0 _ _ p.1 p.2 (λ n f. faults.first_in_expression c.args.tokens.now n f) c.in_err-first.ensures.fault
+    passes c.from_residual.result c.in_err-first.field-0.0 _ _ c.from_residual.ensures.1
+    (faults.first_in_expression c.args.tokens.now) c.in_err-first.ensures.fault
 
 pub expression-loop-operator-init : goal.expression-loop-operator-init
 expression-loop-operator-init t c = record {
@@ -23,10 +23,9 @@ expression-loop-operator-init t c = record {
 
 pub expression-returns-in_err-next-clause-fault : goal.expression-returns-in_err-next-clause-fault
 expression-returns-in_err-next-clause-fault t c =
-    let r = c.from_residual-in_err-next in
-    let p = err_from_is_err_and r.result r.ensures.1 in
-    passes r.result c.in_err-next.field-0.0 p.0 _ _ p.1 p.2
-    (λ n f. founds.in_next_factors c.args.tokens.now c.loop-operator.rest.now c.in-Some.after.now _ c.in-Some.operator n c.loop-operator.invariant.read c.in-Some.ensures f)
+    let read = c.loop-operator.invariant.read in
+    passes c.from_residual-in_err-next.result c.in_err-next.field-0.0 _ _ c.from_residual-in_err-next.ensures.1
+    (λ n f. rw (read.spelled, c.in-Some.ensures) (faults.next_in_expression read.so_far c.in-Some.operator c.in-Some.after.now n f))
     c.in_err-next.ensures.fault
 
 pub expression-loop-operator-preserved : goal.expression-loop-operator-preserved
@@ -41,8 +40,8 @@ expression-returns-clause-found t c = founds.found_expression c.args.tokens.now 
 -- factors
 pub factors-returns-in_err-first-clause-fault : goal.factors-returns-in_err-first-clause-fault
 factors-returns-in_err-first-clause-fault t c =
-    let p = err_from_is_err_and c.from_residual.result c.from_residual.ensures.1 in
-    passes c.from_residual.result c.in_err-first.field-0.0 p.0 _ _ p.1 p.2 (λ n f. faults.first_in_product c.args.tokens.now n f) c.in_err-first.ensures.fault
+    passes c.from_residual.result c.in_err-first.field-0.0 _ _ c.from_residual.ensures.1
+    (faults.first_in_product c.args.tokens.now) c.in_err-first.ensures.fault
 
 pub factors-loop-operator-init : goal.factors-loop-operator-init
 factors-loop-operator-init t c = record {
@@ -52,10 +51,9 @@ factors-loop-operator-init t c = record {
 
 pub factors-returns-in_err-next-clause-fault : goal.factors-returns-in_err-next-clause-fault
 factors-returns-in_err-next-clause-fault t c =
-    let r = c.from_residual-in_err-next in
-    let p = err_from_is_err_and r.result r.ensures.1 in
-    passes r.result c.in_err-next.field-0.0 p.0 _ _ p.1 p.2
-    (λ n f. founds.in_next_operand c.args.tokens.now c.loop-operator.rest.now c.in-Some.after.now _ c.in-Some.operator n c.loop-operator.invariant.read c.in-Some.ensures f)
+    let read = c.loop-operator.invariant.read in
+    passes c.from_residual-in_err-next.result c.in_err-next.field-0.0 _ _ c.from_residual-in_err-next.ensures.1
+    (λ n f. rw (read.spelled, c.in-Some.ensures) (faults.next_in_product read.so_far c.in-Some.operator c.in-Some.after.now n f))
     c.in_err-next.ensures.fault
 
 pub factors-loop-operator-preserved : goal.factors-loop-operator-preserved
@@ -69,16 +67,14 @@ factors-returns-clause-found t c = founds.found_factors c.args.tokens.now c.loop
 
 -- operand
 pub operand-returns-in_default-clause-fault : goal.operand-returns-in_default-clause-fault
-operand-returns-in_default-clause-fault t c = founds.at_no_token c.args.tokens.now c.in_default.ensures
+operand-returns-in_default-clause-fault t c = rw c.in_default.ensures (faults.no_operand_here [] tt)
 
 pub operand-returns-in_default-eat-clause-fault : goal.operand-returns-in_default-eat-clause-fault
 operand-returns-in_default-eat-clause-fault t c = founds.at_no_operand_mark c.args.tokens.now c.in-Some.behind.now _ (c.in-Some.ensures ∙ ap (λ x. x ∷ c.in-Some.behind.now) c.in-Mark.is) c.in_default-eat.ensures
 
 pub operand-returns-in_err-value-in-Mark-clause-fault : goal.operand-returns-in_err-value-in-Mark-clause-fault
 operand-returns-in_err-value-in-Mark-clause-fault t c =
-    let r = c.from_residual-in_err-value-in-Mark in
-    let p = err_from_is_err_and r.result r.ensures.1 in
-    passes r.result c.in_err-value-in-Mark.field-0.0 p.0 _ _ p.1 p.2
+    passes c.from_residual-in_err-value-in-Mark.result c.in_err-value-in-Mark.field-0.0 _ _ c.from_residual-in_err-value-in-Mark.ensures.1
     (λ n f. subst (λ ts. founds.OperandFault ts n) (sym c.in-Some-eat.ensures) (faults.expression_in_operand c.in-Some-eat.inside.now n f))
     c.in_err-value-in-Mark.ensures.fault
 

@@ -1,4 +1,4 @@
-use Rattle.ghc_reader.proofs.Words.{◌∷◌, refl, sym, ap, ◌∙◌, subst, Assign, err_from_is_err_and}
+use Rattle.ghc_reader.proofs.Words.{◌∷◌, refl, sym, ap, ◌∙◌, subst, Assign}
 use Rattle.ghc_reader.specs.declared.token.Token.TheVariants as token
 use Rattle.ghc_reader.proofs.GoalFaults as faults
 use Rattle.ghc_reader.proofs.GoalFounds as founds
@@ -8,17 +8,14 @@ use Rattle.ghc_reader.proofs.goal_parser.item.Goals as goal
 
 pub returns-in_err-arguments-clause-fault : goal.returns-in_err-arguments-clause-fault
 returns-in_err-arguments-clause-fault c =
-    let p = err_from_is_err_and c.from_residual.result c.from_residual.ensures.1 in
-    passes c.from_residual.result c.in_err-arguments.field-0.0 p.0 _ _ p.1 p.2
+    passes c.from_residual.result c.in_err-arguments.field-0.0 _ _ c.from_residual.ensures.1
     (λ n f. subst (λ ts. founds.ItemFault ts n) (sym c.in-Some.ensures) (faults.arguments_in_item c.in-Some.name.now c.in-Some.behind.now n f))
     c.in_err-arguments.ensures.fault
 
 pub returns-in_err-right-in-Some-eat-clause-fault : goal.returns-in_err-right-in-Some-eat-clause-fault
 returns-in_err-right-in-Some-eat-clause-fault c =
-    let r = c.from_residual-in_err-right-in-Some-eat in
-    let p = err_from_is_err_and r.result r.ensures.1 in
     let left = terms.found_call c.args.tokens.now c.in-Some.behind.now c.in_ok-arguments.rest.now c.in_ok-name.name c.in_ok-arguments.arguments (c.in-Some.ensures ∙ ap (λ n. token.Name n ∷ c.in-Some.behind.now) (sym c.in_ok-name.ensures.same)) c.in_ok-arguments.ensures.found in
-    passes r.result c.in_err-right-in-Some-eat.field-0.0 p.0 _ _ p.1 p.2
+    passes c.from_residual-in_err-right-in-Some-eat.result c.in_err-right-in-Some-eat.field-0.0 _ _ c.from_residual-in_err-right-in-Some-eat.ensures.1
     (λ n f. founds.in_right c.args.tokens.now c.in_ok-arguments.rest.now c.in-Some-eat.after.now _ n left c.in-Some-eat.ensures f)
     c.in_err-right-in-Some-eat.ensures.fault
 
@@ -33,9 +30,7 @@ returns-in_ok-right-in-Some-eat-clause-found c =
 
 pub returns-in_err-value-clause-fault : goal.returns-in_err-value-clause-fault
 returns-in_err-value-clause-fault c =
-    let r = c.from_residual-in_err-value in
-    let p = err_from_is_err_and r.result r.ensures.1 in
-    passes r.result c.in_err-value.field-0.0 p.0 _ _ p.1 p.2
+    passes c.from_residual-in_err-value.result c.in_err-value.field-0.0 _ _ c.from_residual-in_err-value.ensures.1
     (λ n f. subst (λ ts. founds.ItemFault ts n) (sym c.in-Some-assigned.ensures) (faults.expression_in_item c.in-Some-assigned.variable.now c.in-Some-assigned.after.now n f))
     c.in_err-value.ensures.fault
 
@@ -45,17 +40,13 @@ returns-in-Some-assigned-clause-found c =
 
 pub returns-in_err-left-clause-fault : goal.returns-in_err-left-clause-fault
 returns-in_err-left-clause-fault c =
-    let r = c.from_residual-in_err-left in
-    let p = err_from_is_err_and r.result r.ensures.1 in
-    passes r.result c.in_err-left.field-0.0 p.0 _ _ p.1 p.2
+    passes c.from_residual-in_err-left.result c.in_err-left.field-0.0 _ _ c.from_residual-in_err-left.ensures.1
     (λ n f. faults.term_in_item c.args.tokens.now n c.in_default.ensures f)
     c.in_err-left.ensures.fault
 
 pub returns-in_err-right-in-Some-eat-2-clause-fault : goal.returns-in_err-right-in-Some-eat-2-clause-fault
 returns-in_err-right-in-Some-eat-2-clause-fault c =
-    let r = c.from_residual-in_err-right-in-Some-eat-2 in
-    let p = err_from_is_err_and r.result r.ensures.1 in
-    passes r.result c.in_err-right-in-Some-eat-2.field-0.0 p.0 _ _ p.1 p.2
+    passes c.from_residual-in_err-right-in-Some-eat-2.result c.in_err-right-in-Some-eat-2.field-0.0 _ _ c.from_residual-in_err-right-in-Some-eat-2.ensures.1
     (λ n f. founds.in_right c.args.tokens.now c.in_ok-left.rest.now c.in-Some-eat-2.after.now _ n c.in_ok-left.ensures.found c.in-Some-eat-2.ensures f)
     c.in_err-right-in-Some-eat-2.ensures.fault
 

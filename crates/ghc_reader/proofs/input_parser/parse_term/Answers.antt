@@ -1,15 +1,15 @@
-use Rattle.ghc_reader.proofs.Words.{sym, ◌∙◌, Input, input}
-use Rattle.ghc_reader.proofs.Whole.{no_fault_at}
-use Rattle.ghc_reader.proofs.InputFaults.{closed_fault, at_variable, closed_found, one_input, whole_fault_at}
+use Rattle.ghc_reader.proofs.Words.{refl, EndsWhole, sym, ◌∙◌, Input, input}
+use Rattle.ghc_reader.proofs.Whole.{fault_in, no_fault_at}
+use Rattle.ghc_reader.proofs.InputFaults.{closed_fault, at_variable, closed_found, one_input}
 use Rattle.ghc_reader.proofs.input_parser.parse_term.Goals as goal
 
 pub returns-in-Err-Syntax-clause-fault : goal.returns-in-Err-Syntax-clause-fault
 returns-in-Err-Syntax-clause-fault c =
-    closed_fault c.args.tokens.now c.closed_front-closed.result.now _ c.closed_front-closed.ensures (whole_fault_at c.closed_front-closed.result.now c.in-Err-Syntax.left (rw c.in-Err-Syntax.field-0-is at c.in-Err-Syntax.ensures.fault))
+    closed_fault c.args.tokens.now c.closed_front-closed.result.now _ c.closed_front-closed.ensures (fault_in EndsWhole (λ q. refl) c.closed_front-closed.result.now c.in-Err-Syntax.left (rw c.in-Err-Syntax.field-0-is at c.in-Err-Syntax.ensures.fault))
 
 pub returns-in-Err-Syntax-clause-only : goal.returns-in-Err-Syntax-clause-only
 returns-in-Err-Syntax-clause-only c = λ i e. absurd (no_fault_at Input input c.args.tokens.now _
-    (closed_fault c.args.tokens.now c.closed_front-closed.result.now _ c.closed_front-closed.ensures (whole_fault_at c.closed_front-closed.result.now c.in-Err-Syntax.left (rw c.in-Err-Syntax.field-0-is at c.in-Err-Syntax.ensures.fault))) i e)
+    (closed_fault c.args.tokens.now c.closed_front-closed.result.now _ c.closed_front-closed.ensures (fault_in EndsWhole (λ q. refl) c.closed_front-closed.result.now c.in-Err-Syntax.left (rw c.in-Err-Syntax.field-0-is at c.in-Err-Syntax.ensures.fault))) i e)
 
 pub returns-then-closed-tokens-clause-found : goal.returns-then-closed-tokens-clause-found
 returns-then-closed-tokens-clause-found c =

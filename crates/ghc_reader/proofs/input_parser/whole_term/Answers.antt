@@ -1,4 +1,3 @@
-use Rattle.std.proofs.lemmas.Result.{err_from_is_err_and}
 use Rattle.ghc_reader.proofs.TermFounds.{passes}
 use Rattle.ghc_reader.proofs.InputFaults.{term_in_whole, behind_whole, whole_found}
 use Rattle.ghc_reader.proofs.Whole.{is_nothing, not_nothing}
@@ -6,8 +5,7 @@ use Rattle.ghc_reader.proofs.input_parser.whole_term.Goals as goal
 
 pub returns-in_err-term-clause-fault : goal.returns-in_err-term-clause-fault
 returns-in_err-term-clause-fault c =
-    let p = err_from_is_err_and c.from_residual.result c.from_residual.ensures.1 in
-    passes c.from_residual.result c.in_err-term.field-0.0 p.0 _ _ p.1 p.2 (λ n f. term_in_whole c.args.tokens.now n f) c.in_err-term.ensures.fault
+    passes c.from_residual.result c.in_err-term.field-0.0 _ _ c.from_residual.ensures.1 (term_in_whole c.args.tokens.now) c.in_err-term.ensures.fault
 
 pub returns-else-is_empty-clause-fault : goal.returns-else-is_empty-clause-fault
 returns-else-is_empty-clause-fault c = behind_whole c.args.tokens.now c.in_ok-term.rest.now _ c.in_ok-term.ensures.found (not_nothing c.in_ok-term.rest.now c.if-is_empty.ensures)

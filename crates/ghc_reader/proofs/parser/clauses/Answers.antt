@@ -1,4 +1,3 @@
-use Rattle.std.proofs.lemmas.Result.{err_from_is_err_and}
 use Rattle.ghc_reader.proofs.GoalLoops as loops
 use Rattle.ghc_reader.proofs.Whole as whole
 use Rattle.ghc_reader.proofs.ClauseFounds as founds
@@ -7,9 +6,8 @@ use Rattle.ghc_reader.proofs.parser.clauses.Goals as goal
 
 pub returns-in_err-next-clause-fault : goal.returns-in_err-next-clause-fault
 returns-in_err-next-clause-fault c =
-    let r = c.from_residual in
-    let p = err_from_is_err_and r.result r.ensures.1 in
-    passes r.result c.in_err-next.field-0.0 p.0 _ _ p.1 p.2 (λ n f. founds.in_clause c.args.tokens.now c.loop-rest.rest.now _ n c.loop-rest.invariant (whole.not_nothing c.loop-rest.rest.now c.loop-rest-test.ensures) f) c.in_err-next.ensures.fault
+    passes c.from_residual.result c.in_err-next.field-0.0 _ _ c.from_residual.ensures.1
+    (λ n f. founds.in_clause c.args.tokens.now c.loop-rest.rest.now _ n c.loop-rest.invariant (whole.not_nothing c.loop-rest.rest.now c.loop-rest-test.ensures) f) c.in_err-next.ensures.fault
 
 pub loop-rest-preserved : goal.loop-rest-preserved
 loop-rest-preserved c =

@@ -1,4 +1,3 @@
-use Rattle.std.proofs.lemmas.Result.{err_from_is_err_and}
 use Rattle.ghc_reader.proofs.QueryFaults as faults
 use Rattle.ghc_reader.proofs.GoalFounds as founds
 use Rattle.ghc_reader.proofs.Whole.{is_nothing, not_nothing}
@@ -7,8 +6,7 @@ use Rattle.ghc_reader.proofs.parser.goals.Goals as goal
 
 pub returns-in_err-goals-clause-fault : goal.returns-in_err-goals-clause-fault
 returns-in_err-goals-clause-fault c =
-    let p = err_from_is_err_and c.from_residual.result c.from_residual.ensures.1 in
-    passes c.from_residual.result c.in_err-goals.field-0.0 p.0 _ _ p.1 p.2 (λ n f. faults.body_in_query c.args.tokens.now n f) c.in_err-goals.ensures.fault
+    passes c.from_residual.result c.in_err-goals.field-0.0 _ _ c.from_residual.ensures.1 (faults.body_in_query c.args.tokens.now) c.in_err-goals.ensures.fault
 
 pub returns-then-is_empty-clause-found : goal.returns-then-is_empty-clause-found
 returns-then-is_empty-clause-found c =

@@ -1,5 +1,5 @@
-use Rattle.ghc_reader.proofs.Words.{[], sym, ap, ◌∙◌, clauses_of}
-use Rattle.ghc_reader.proofs.Whole.{program_fault_at, no_program_fault}
+use Rattle.ghc_reader.proofs.Words.{[], refl, EndsProgram, sym, ap, ◌∙◌, clauses_of}
+use Rattle.ghc_reader.proofs.Whole.{fault_in, no_fault_in}
 use Rattle.ghc_reader.proofs.OneClause.{one_program}
 use Rattle.ghc_reader.proofs.parser.parse_program.Goals as goal
 
@@ -8,7 +8,9 @@ returns-in-Ok-clause-only c =
     λ q e. let f = c.in-Ok.ensures.found in ap (λ p. clauses_of p []) (one_program q f.0 (sym e ∙ f.1)) ∙ f.2
 
 pub returns-in-Err-Syntax-clause-only : goal.returns-in-Err-Syntax-clause-only
-returns-in-Err-Syntax-clause-only c = λ q e. absurd (no_program_fault c.args.tokens.now c.in-Err-Syntax.left q e (rw c.in-Err-Syntax.field-0-is at c.in-Err-Syntax.ensures.fault))
+returns-in-Err-Syntax-clause-only c = λ q e.
+    absurd (no_fault_in EndsProgram (λ q. refl) c.args.tokens.now c.in-Err-Syntax.left q e (rw c.in-Err-Syntax.field-0-is at c.in-Err-Syntax.ensures.fault))
 
 pub returns-in-Err-Syntax-clause-fault : goal.returns-in-Err-Syntax-clause-fault
-returns-in-Err-Syntax-clause-fault c = program_fault_at c.args.tokens.now c.in-Err-Syntax.left (rw c.in-Err-Syntax.field-0-is at c.in-Err-Syntax.ensures.fault)
+returns-in-Err-Syntax-clause-fault c =
+    fault_in EndsProgram (λ q. refl) c.args.tokens.now c.in-Err-Syntax.left (rw c.in-Err-Syntax.field-0-is at c.in-Err-Syntax.ensures.fault)

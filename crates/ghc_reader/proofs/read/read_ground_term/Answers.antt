@@ -3,9 +3,6 @@ use Rattle.ghc_reader.proofs.ClosedTrees.{input_is_closed}
 use Rattle.ghc_reader.proofs.ReadTerms.{read_is_input}
 use Rattle.ghc_reader.proofs.read.read_ground_term.Goals as goal
 
-pub returns-in-Err-clause-answer : goal.returns-in-Err-clause-answer
-returns-in-Err-clause-answer c = (tt, c.in-Err.ensures.fault)
-
 pub lower_closed-requires : goal.lower_closed-requires
 lower_closed-requires c =
     let read = c.in-Ok.ensures.found in input_is_closed read.derived.derivation (view c.in-Ok.parsed) read.derived.sees

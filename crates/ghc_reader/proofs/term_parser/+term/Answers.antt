@@ -1,4 +1,4 @@
-use Rattle.ghc_reader.proofs.Words.{[], ◌∷◌, ◌++◌, length, sym, ap, ◌∙◌, subst, arith, rules, to_z-of_z, err_from_is_err_and, IfOk-weaker, view, Arguments, Term, arguments, term, EndsTerm, EndsArguments, Fault}
+use Rattle.ghc_reader.proofs.Words.{[], ◌∷◌, ◌++◌, length, sym, ap, ◌∙◌, subst, arith, rules, to_z-of_z, IfOk-weaker, view, Arguments, Term, arguments, term, EndsTerm, EndsArguments, Fault}
 use mir.Val.{SFits}
 use mir.Syntax.{w64}
 use Rattle.ghc_reader.specs.declared.source.SourceTerm.TheVariants as tree
@@ -15,8 +15,7 @@ arguments-returns-in_default-clause-found t c = founds.found_without c.args.toke
 
 pub arguments-returns-in_err-args-clause-fault : goal.arguments-returns-in_err-args-clause-fault
 arguments-returns-in_err-args-clause-fault t c =
-    let p = err_from_is_err_and c.from_residual.result c.from_residual.ensures.1 in
-    passes c.from_residual.result c.in_err-args.field-0.0 p.0 _ _ p.1 p.2
+    passes c.from_residual.result c.in_err-args.field-0.0 _ _ c.from_residual.ensures.1
     (λ n f. subst (λ ts. Fault Arguments arguments EndsArguments ts n) (sym c.in-Some.ensures) (faults.terms_in_arguments c.in-Some.inside.now n f))
     c.in_err-args.ensures.fault
 
@@ -32,8 +31,8 @@ list-returns-in-Some-clause-found t c = founds.found_empty c.args.tokens.now c.i
 
 pub list-returns-in_err-items-clause-fault : goal.list-returns-in_err-items-clause-fault
 list-returns-in_err-items-clause-fault t c =
-    let p = err_from_is_err_and c.from_residual.result c.from_residual.ensures.1 in
-    passes c.from_residual.result c.in_err-items.field-0.0 p.0 _ _ p.1 p.2 (λ n f. faults.terms_in_rest c.args.tokens.now n c.in_default.ensures f) c.in_err-items.ensures.fault
+    passes c.from_residual.result c.in_err-items.field-0.0 _ _ c.from_residual.ensures.1
+    (λ n f. faults.terms_in_rest c.args.tokens.now n c.in_default.ensures f) c.in_err-items.ensures.fault
 
 pub list-returns-in-Some-eat-clause-found : goal.list-returns-in-Some-eat-clause-found
 list-returns-in-Some-eat-clause-found t c = founds.found_whole c.args.tokens.now c.in_ok-items.rest.now c.in-Some-eat.after.now c.in_ok-items.items c.in_ok-end.end c.in_ok-items.ensures.found c.in-Some-eat.ensures c.in_ok-end.ensures.ok
@@ -43,9 +42,9 @@ list-returns-in_default-eat-2-clause-fault t c = founds.at_list_end c.args.token
 
 pub list-returns-in_err-tail-clause-fault : goal.list-returns-in_err-tail-clause-fault
 list-returns-in_err-tail-clause-fault t c =
-    let p = err_from_is_err_and c.from_residual-in_err-tail.result c.from_residual-in_err-tail.ensures.1 in
-    passes c.from_residual-in_err-tail.result c.in_err-tail.field-0.0 p.0 _ _ p.1 p.2
-    (λ n f. founds.in_tail c.args.tokens.now c.in_ok-items.rest.now c.in-Some-eat-2.behind.now _ n c.in_ok-items.ensures.found c.in-Some-eat-2.ensures f)
+    let found = c.in_ok-items.ensures.found in
+    passes c.from_residual-in_err-tail.result c.in_err-tail.field-0.0 _ _ c.from_residual-in_err-tail.ensures.1
+    (λ n f. rw (found.spelled, c.in-Some-eat-2.ensures) (faults.term_in_rest found.derivation c.in-Some-eat-2.behind.now n f))
     c.in_err-tail.ensures.fault
 
 pub list-returns-in-None-clause-fault : goal.list-returns-in-None-clause-fault
@@ -57,14 +56,12 @@ list-returns-in_ok-new-in-Some-eat-3-clause-found t c =
 
 -- term
 pub term-returns-in_default-clause-fault : goal.term-returns-in_default-clause-fault
-term-returns-in_default-clause-fault t c = founds.at_nothing c.args.tokens.now c.in_default.ensures
+term-returns-in_default-clause-fault t c = rw c.in_default.ensures (faults.no_term_here [] tt)
 
 pub term-returns-in_err-args-in-Name-clause-fault : goal.term-returns-in_err-args-in-Name-clause-fault
 term-returns-in_err-args-in-Name-clause-fault t c =
-    let r = c.from_residual-in_err-args-in-Name in
-    let p = err_from_is_err_and r.result r.ensures.1 in
     let e = c.in-Some.ensures ∙ ap (λ x. x ∷ c.in-Some.behind.now) c.in-Name.is in
-    passes r.result c.in_err-args-in-Name.field-0.0 p.0 _ _ p.1 p.2
+    passes c.from_residual-in_err-args-in-Name.result c.in_err-args-in-Name.field-0.0 _ _ c.from_residual-in_err-args-in-Name.ensures.1
     (λ n f. subst (λ ts. Fault Term term EndsTerm ts n) (sym e) (faults.arguments_in_term c.in-Name.name c.in-Some.behind.now n f))
     c.in_err-args-in-Name.ensures.fault
 
@@ -90,8 +87,7 @@ term-returns-in-Some-eat-clause-fault t c =
 -- terms
 pub terms-returns-in_err-first-clause-fault : goal.terms-returns-in_err-first-clause-fault
 terms-returns-in_err-first-clause-fault t c =
-    let p = err_from_is_err_and c.from_residual.result c.from_residual.ensures.1 in
-    passes c.from_residual.result c.in_err-first.field-0.0 p.0 _ _ p.1 p.2 (λ n f. faults.first_in_terms c.args.tokens.now n f) c.in_err-first.ensures.fault
+    passes c.from_residual.result c.in_err-first.field-0.0 _ _ c.from_residual.ensures.1 (faults.first_in_terms c.args.tokens.now) c.in_err-first.ensures.fault
 
 pub terms-loop-after-init : goal.terms-loop-after-init
 terms-loop-after-init t c = record {
@@ -101,9 +97,8 @@ terms-loop-after-init t c = record {
 
 pub terms-returns-in_err-next-clause-fault : goal.terms-returns-in_err-next-clause-fault
 terms-returns-in_err-next-clause-fault t c =
-    let p = err_from_is_err_and c.from_residual-in_err-next.result c.from_residual-in_err-next.ensures.1 in
-    passes c.from_residual-in_err-next.result c.in_err-next.field-0.0 p.0 _ _ p.1 p.2
-    (λ n f. founds.in_next c.args.tokens.now c.loop-after.rest.now c.in-Some.after.now _ n c.loop-after.invariant.read c.in-Some.ensures f)
+    passes c.from_residual-in_err-next.result c.in_err-next.field-0.0 _ _ c.from_residual-in_err-next.ensures.1
+    (λ n f. rw (c.loop-after.invariant.read.spelled, c.in-Some.ensures) (faults.next_in_terms c.loop-after.invariant.read.so_far c.in-Some.after.now n f))
     c.in_err-next.ensures.fault
 
 pub terms-loop-after-preserved : goal.terms-loop-after-preserved

@@ -4,10 +4,8 @@ use Rattle.ghc_reader.proofs.limits.names.+names.Goals as goal
 
 pub push_term-returns-in_ok-push_terms-in-List : goal.push_term-returns-in_ok-push_terms-in-List
 push_term-returns-in_ok-push_terms-in-List t c =
-    let here = ap (λ u. names (view u)) c.in-List.is ∙ names_list c.in-List.items c.in-List.tail in
-    grind (arith, common_steps, here)
+    grind (arith, common_steps, ap (λ u. names (view u)) c.in-List.is ∙ names_list c.in-List.items c.in-List.tail)
 
 pub push_terms-loop-term-preserved : goal.push_terms-loop-term-preserved
 push_terms-loop-term-preserved t c =
-    let next = names_more c.args.terms.now c.loop-term.term-index c.term-item.result c.loop-term-test.true c.term-item.is in
-    grind (arith, common_steps, next)
+    grind (arith, common_steps, names_more c.args.terms.now c.loop-term.term-index c.term-item.result c.loop-term-test.true c.term-item.is)

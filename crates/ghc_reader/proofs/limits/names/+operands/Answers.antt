@@ -5,14 +5,12 @@ use Rattle.ghc_reader.proofs.limits.names.+operands.Goals as goal
 pub push_expression-returns-in_ok-push_expression-in-Products :
     goal.push_expression-returns-in_ok-push_expression-in-Products
 push_expression-returns-in_ok-push_expression-in-Products t c =
-    let here = ap (λ u. names_in (value_view u)) c.in-Products.is ∙ names_of_products c.in-Products.first c.in-Products.others in
-    grind (arith, common_steps, here)
+    grind (arith, common_steps, ap (λ u. names_in (value_view u)) c.in-Products.is ∙ names_of_products c.in-Products.first c.in-Products.others)
 
 pub push_expression-returns-in_ok-push_expression-in-Sums :
     goal.push_expression-returns-in_ok-push_expression-in-Sums
 push_expression-returns-in_ok-push_expression-in-Sums t c =
-    let here = ap (λ u. names_in (value_view u)) c.in-Sums.is ∙ names_of_sums c.in-Sums.first c.in-Sums.others in
-    grind (arith, common_steps, here)
+    grind (arith, common_steps, ap (λ u. names_in (value_view u)) c.in-Sums.is ∙ names_of_sums c.in-Sums.first c.in-Sums.others)
 
 pub push_factors-loop-factor-preserved : goal.push_factors-loop-factor-preserved
 push_factors-loop-factor-preserved t c = push_more (λ x. names_in x.1) (λ x. (x.0, value_view x.1)) c.args.factors.now c.loop-factor.factor-index c.loop-factor-item.result _ _ _ c.loop-factor-test.true c.loop-factor-item.is c.loop-factor.invariant c.in_ok-push_expression.ensures
