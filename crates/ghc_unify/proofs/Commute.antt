@@ -19,7 +19,6 @@ pub commute : (S : VarName → Option Tree) (l r l' r' : Tree) (bs cs : List (Va
 commute S l r l' r' bs cs rs qs a b none acyclic =
     let A = bound_by bs S in
     let B = bound_by cs S in
-    let F = bound_by cs A in
     let fresh_a = moves_fresh a.1 in
     let fresh_b = moves_fresh b.1 in
     let first : Solved S l' r' cs qs = locality A S l' r' cs qs b (record { less = λ x t e. keeps bs S x t fresh_a e; kept = λ x i. sym (untouched bs S x (none x i)) }) in
@@ -27,15 +26,14 @@ commute S l r l' r' bs cs rs qs a b none acyclic =
     -- no variable is bound by both
     let apart_from : (x : VarName) → IsBoundIn bs x → ¬ IsBoundIn cs x = λ x i j.
     let v = has_value bs S x i in
-    let clash : None ≡ Some v.0 = sym (unbound_before cs A x fresh_b j) ∙ v.1 in
-    cc in
+    let none = unbound_before cs A x fresh_b j in cc in
     let second : Solved B l r bs rs = all_extend acyclic a.1 (record {
       more = λ x t e. keeps cs S x t fresh_c e;
       old = λ x t e. keeps cs S x t fresh_c e;
-      new = λ x t n e. let clash : None ≡ Some t = sym n ∙ e in cc;
+      new = λ x t n e. cc;
       none = λ x n m. m;
       within = mono cs S A (λ x t e. keeps bs S x t fresh_a e);
-    }) (bound_to bs S fresh_a B F (λ x i. untouched cs S x (apart_from x i) ∙ unbound_before bs S x fresh_a i) (λ x t e. keeps cs A x t fresh_b e)) in (
+    }) (bound_to bs S fresh_a B _ (λ x i. untouched cs S x (apart_from x i) ∙ unbound_before bs S x fresh_a i) (λ x t e. keeps cs A x t fresh_b e)) in (
       first,
       second,
       λ x. elim (is_in bs x) [

@@ -1,6 +1,6 @@
 -- A unification is the same on every store that has more bindings, where these bind none of its variables and the bindings of both close no cycle.
-use Rattle.ghc_unify.proofs.Words.{◌≡◌, true, false, cond, List, [], ◌∷◌, ◌++◌, refl, sym, ap, ◌∙◌, subst, inl, inr, ◌⊎◌, Option, Some, None, eq_by_cmp, VarName, Tree, variable, IsValue, In, Leads, at_integer, at_node, at_free, along, Reaches, here, through, Comes, now, on, Passes, IsAcyclic, name_cmp, with_binding, reaches_more, same_name, Meets, integers, nodes, met, Move, shared, left, right, both, Moves, stay, go}
-use Rattle.ghc_unify.proofs.Locality.{comes_more, met_agree, by_value}
+use Rattle.ghc_unify.proofs.Words.{◌≡◌, List, [], ◌∷◌, ◌++◌, refl, sym, ap, ◌∙◌, subst, inl, inr, ◌⊎◌, Option, Some, None, VarName, Tree, variable, IsValue, In, Leads, at_integer, at_node, at_free, along, Reaches, here, through, Comes, now, on, Passes, IsAcyclic, with_binding, reaches_more, Meets, integers, nodes, Move, shared, left, right, both, Moves, stay, go}
+use Rattle.ghc_unify.proofs.Locality.{comes_more, met_agree, both_met, by_binding, by_value}
 
 -- S is the store before and T the store by now, which S+ and T+ extend; all bindings hold in F
 pub record More (F S T S+ T+ : VarName → Option Tree) : Type 0 where
@@ -31,11 +31,10 @@ passed_on {T = T} {y = y} (on {x = z} {t = u} e c) (inl p) = (u, ap T p ∙ e, (
 passed_on (on e c) (inr i) = passed_on c i
 
 pub leads_bound : {T : VarName → Option Tree} {t e : Tree} {xs : List VarName} {x : VarName} → Leads T t xs e → IsValue e → In x xs → (u : Tree) × (T x ≡ Some u)
-leads_bound at_integer v i = absurd i
-leads_bound at_node v i = absurd i
 leads_bound (at_free p) v i = absurd v
 leads_bound {T = T} (along {t = u} p a) v (inl q) = (u, ap T q ∙ p)
 leads_bound (along p a) v (inr i) = leads_bound a v i
+leads_bound l v i = absurd i
 
 -- of two variables of one chain, one comes to the other
 pub earlier : {T : VarName → Option Tree} {t : Tree} {xs ys : List VarName} {x y : VarName} → Comes T t xs x → Comes T t ys y → In y xs ⊎ Passes T (variable x) y
@@ -64,28 +63,24 @@ module _ {F S T S+ T+ : VarName → Option Tree} (acyclic : IsAcyclic F) (f : Mo
   kept : (x : VarName) (u : Tree) → T x ≡ Some u → S+ x ≡ S x
   kept x u e = by_value (S x) (λ n. f.new x u n e ∙ sym n) (λ t b. f.old x t b ∙ sym b)
 
+  passed_kept : {t : Tree} {xs : List VarName} {y : VarName} → Comes T t xs y → (x : VarName) → In x xs → S+ x ≡ S x
+  passed_kept c x i = let o = passed_on c i in kept x o.0 o.1
+
+  led_kept : {t e : Tree} {xs : List VarName} → Leads T t xs e → IsValue e → (x : VarName) → In x xs → S+ x ≡ S x
+  led_kept l v x i = let o = leads_bound l v i in kept x o.0 o.1
+
   more_with : (x : VarName) (t : Tree) → S+ x ≡ None → F x ≡ Some t → More F S (with_binding T x t) S+ (with_binding T+ x t)
   more_with x t n b = record {
-    more = λ y u. elim (eq_by_cmp name_cmp y x) as (λ c. cond c (Some t) (T y) ≡ Some u → cond c (Some t) (T+ y) ≡ Some u) [ true ↦ λ e. e | false ↦ f.more y u ];
+    more = λ y u. by_binding (λ o p. o ≡ Some u → p ≡ Some u) T T+ x t y (λ _ e. e) (f.more y u);
     old = f.old;
-    new = λ y u m.
-        elim (eq_by_cmp name_cmp y x) as (λ c. eq_by_cmp name_cmp y x ≡ c → cond c (Some t) (T y) ≡ Some u → S+ y ≡ None) [
-          | true ↦ λ p _. ap S+ (same_name y x p) ∙ n
-          | false ↦ λ p. f.new y u m
-        ] refl;
-    none = λ y. elim (eq_by_cmp name_cmp y x) as (λ c. cond c (Some t) (T y) ≡ None → S+ y ≡ None → cond c (Some t) (T+ y) ≡ None) [ true ↦ λ e _. e | false ↦ f.none y ];
-    within = λ y u.
-        elim (eq_by_cmp name_cmp y x) as (λ c. eq_by_cmp name_cmp y x ≡ c → cond c (Some t) (T+ y) ≡ Some u → F y ≡ Some u) [
-          | true ↦ λ p e. ap F (same_name y x p) ∙ b ∙ e
-          | false ↦ λ p. f.within y u
-        ] refl;
+    new = λ y u m. by_binding (λ o _. o ≡ Some u → S+ y ≡ None) T T+ x t y (λ s _. ap S+ s ∙ n) (f.new y u m);
+    none = λ y. by_binding (λ o p. o ≡ None → S+ y ≡ None → p ≡ None) T T+ x t y (λ _ e _. e) (f.none y);
+    within = λ y u. by_binding (λ _ p. p ≡ Some u → F y ≡ Some u) T T+ x t y (λ s e. ap F s ∙ b ∙ e) (f.within y u);
   }
 
   extend : {es fs : List (Tree × Tree)} {U : VarName → Option Tree} {bs : List (VarName × Tree)} {rs : List VarName} → Move S T es U fs bs rs
       → Hold bs S+ F → (U+ : VarName → Option Tree) × Move S+ T+ es U+ fs bs rs × More F S U S+ U+
-  extend (shared {l = l} {r = r} {a = a} {b = b} {m = m} {es = es} p q first) h =
-      let reads : met S+ a ++ met S+ b ≡ met S a ++ met S b =
-      ap (λ z. z ++ met S+ b) (met_agree S S+ a (λ x i. let o = passed_on p i in kept x o.0 o.1)) ∙ ap (λ z. met S a ++ z) (met_agree S S+ b (λ x i. let o = passed_on q i in kept x o.0 o.1)) in
+  extend (shared {r = r} {a = a} {b = b} p q first) h =
       let still : (x : VarName) → In x a → ¬ Passes T+ r x = λ x i c. elim (earlier (comes_more q f.more) c.1) [
         | inl j ↦ first x i (before q j)
         | inr d ↦
@@ -93,26 +88,16 @@ module _ {F S T S+ T+ : VarName → Option Tree} (acyclic : IsAcyclic F) (f : Mo
             let round = comes_on (comes_more o.2.1 (λ y u e. f.within y u (f.more y u e))) (comes_more d.1 f.within) in
             acyclic x o.0 (f.within x o.0 (f.more x o.0 o.1)) (comes_reaches round.1)
       ] in
-      (T+, subst (λ z. Move S+ T+ ((l, r) ∷ es) T+ es [] z) reads (shared (comes_more p f.more) (comes_more q f.more) still), f)
-  extend (left {l = l} {r = r} {a = a} {x = x} {es = es} p n o) h = (
-    with_binding T+ x r,
-    subst (λ z. Move S+ T+ ((l, r) ∷ es) (with_binding T+ x r) es ((x, r) ∷ []) z) (met_agree S S+ a (λ y i. let b = passed_on p i in kept y b.0 b.1))
-        (left (comes_more p f.more) (f.none x n h.0) (λ c. acyclic x r h.1 (reaches_more c f.within))),
-    more_with x r h.0 h.1,
-  )
-  extend (right {l = l} {r = r} {a = a} {b = b} {y = y} {es = es} p v q n o) h =
-      let reads : met S+ a ++ met S+ b ≡ met S a ++ met S b =
-      ap (λ z. z ++ met S+ b) (met_agree S S+ a (λ x i. let o = leads_bound p v i in kept x o.0 o.1)) ∙ ap (λ z. met S a ++ z) (met_agree S S+ b (λ x i. let o = passed_on q i in kept x o.0 o.1)) in (
-        with_binding T+ y l,
-        subst (λ z. Move S+ T+ ((l, r) ∷ es) (with_binding T+ y l) es ((y, l) ∷ []) z) reads
-            (right (leads_more p v f.more) v (comes_more q f.more) (f.none y n h.0) (λ c. acyclic y l h.1 (reaches_more c f.within))),
-        more_with y l h.0 h.1,
-      )
-  extend (both {l = l} {r = r} {a = a} {b = b} {es = es} {new = new} p q apart m) h =
+      (T+, rw (← both_met S S+ a b (passed_kept p) (passed_kept q)) (shared (comes_more p f.more) (comes_more q f.more) still), f)
+  extend (left {r = r} {a = a} {x = x} p n o) h =
+      let move = left (comes_more p f.more) (f.none x n h.0) (λ c. acyclic x r h.1 (reaches_more c f.within)) in
+      (with_binding T+ x r, rw (← met_agree S S+ a (passed_kept p)) move, more_with x r h.0 h.1)
+  extend (right {l = l} {a = a} {b = b} {y = y} p v q n o) h =
+      let move = right (leads_more p v f.more) v (comes_more q f.more) (f.none y n h.0) (λ c. acyclic y l h.1 (reaches_more c f.within)) in
+      (with_binding T+ y l, rw (← both_met S S+ a b (led_kept p v) (passed_kept q)) move, more_with y l h.0 h.1)
+  extend (both {a = a} {b = b} p q apart m) h =
       let v = values m in
-      let reads : met S+ a ++ met S+ b ≡ met S a ++ met S b =
-      ap (λ z. z ++ met S+ b) (met_agree S S+ a (λ x i. let o = leads_bound p v.0 i in kept x o.0 o.1)) ∙ ap (λ z. met S a ++ z) (met_agree S S+ b (λ x i. let o = leads_bound q v.1 i in kept x o.0 o.1)) in
-      (T+, subst (λ z. Move S+ T+ ((l, r) ∷ es) T+ (new ++ es) [] z) reads (both (leads_more p v.0 f.more) (leads_more q v.1 f.more) apart m), f)
+      (T+, rw (← both_met S S+ a b (led_kept p v.0) (led_kept q v.1)) (both (leads_more p v.0 f.more) (leads_more q v.1 f.more) apart m), f)
 
 Hold_left : (bs cs : List (VarName × Tree)) (S F : VarName → Option Tree) → Hold (bs ++ cs) S F → Hold bs S F × Hold cs S F
 Hold_left [] cs S F h = (tt, h)

@@ -1,13 +1,7 @@
 -- What does not reach a variable, as is seen at a glance.
-use Rattle.ghc_unify.proofs.Words.{◌≡◌, ℕ, List, [], ◌∷◌, ◌++◌, sym, ap, ◌∙◌, refl, subst, ◌⊎◌, inl, inr, Option, Some, None, VarName, Tree, variable, node, trees, Occurs, OccursIn, IsClosed, Reaches, here, through, now, with_binding, StoreValue, Unifies, left, go, stay}
+use Rattle.ghc_unify.proofs.Words.{◌≡◌, ℕ, List, [], ◌∷◌, ◌++◌, sym, ap, ◌∙◌, refl, subst, inl, inr, Option, Some, None, VarName, Tree, variable, node, trees, OccursIn_push, IsClosed, Reaches, here, through, now, with_binding, StoreValue, Unifies, left, go, stay}
 use Rattle.std.specs.FinMap as finite
 use Rattle.std.specs.FinSet as set
-
-occurs_more : (ts : List Tree) (t : Tree) (y : VarName) → OccursIn y (trees (ts ++ t ∷ [])) → OccursIn y (trees ts) ⊎ Occurs y t
-occurs_more [] t y (inl o) = inr o
-occurs_more [] t y (inr o) = absurd o
-occurs_more (u ∷ ts) t y (inl o) = inl (inl o)
-occurs_more (u ∷ ts) t y (inr o) = elim (occurs_more ts t y o) [ inl p ↦ inl (inr p) | inr p ↦ inr p ]
 
 module _ {S : VarName → Option Tree} {x : VarName} where
   pub closed_apart : {t : Tree} → IsClosed t → ¬ Reaches S t x
@@ -20,17 +14,11 @@ module _ {S : VarName → Option Tree} {x : VarName} where
 
   pub bound_apart : {y : VarName} {v : Tree} → ¬ (y ≡ x) → S y ≡ Some v → IsClosed v → ¬ Reaches S (variable y) x
   bound_apart n e h (here o) = n (sym o)
-  bound_apart {v = v} n e h (through {u = u} o p r) =
-      let both : Some v ≡ Some u = sym e ∙ ap S (sym o) ∙ p in
-      let same : v ≡ u = cc in
-      closed_apart h (subst (λ t. Reaches S t x) (sym same) r)
-
-  pub none_apart : (f : List ℕ) → ¬ Reaches S (node f (trees [])) x
-  none_apart f = closed_apart (λ y o. o)
+  bound_apart {v = v} n e h (through {u = u} o p r) = let same : u ≡ v = cc in closed_apart h (subst (λ t. Reaches S t x) same r)
 
   pub one_more_apart : (f : List ℕ) (ts : List Tree) (t : Tree) → ¬ Reaches S (node f (trees ts)) x → ¬ Reaches S t x → ¬ Reaches S (node f (trees (ts ++ t ∷ []))) x
-  one_more_apart f ts t n m (here o) = elim (occurs_more ts t _ o) [ inl p ↦ n (here p) | inr p ↦ m (here p) ]
-  one_more_apart f ts t n m (through o e r) = elim (occurs_more ts t _ o) [ inl p ↦ n (through p e r) | inr p ↦ m (through p e r) ]
+  one_more_apart f ts t n m (here o) = elim (OccursIn_push ts t _ o) [ inl p ↦ n (here p) | inr p ↦ m (here p) ]
+  one_more_apart f ts t n m (through o e r) = elim (OccursIn_push ts t _ o) [ inl p ↦ n (through p e r) | inr p ↦ m (through p e r) ]
 
 -- the one move where the left side is an unbound variable that the right side does not reach
 pub bound_at_once : (S : VarName → Option Tree) (x : VarName) (l r : Tree) (binds : StoreValue) → variable x ≡ l → S x ≡ None → ¬ Reaches S r x → binds ≡ finite.insert finite.empty x r → Unifies S l r binds set.empty

@@ -1,44 +1,26 @@
 -- The laws, from runs with lists to bindings as maps and reads as sets.
-use Rattle.ghc_unify.proofs.Words.{◌≡◌, true, false, cond, List, [], ◌∷◌, refl, sym, ap, ◌∙◌, subst, inl, inr, Option, Some, None, IsTrue, is_some, option_or, eq_by_cmp, VarName, Fault, Tree, exact, In, IsAcyclic, name_cmp, value_at, Unifies, UnifyFails, clashes, cycles, Solved, solved, clash, cycle, with_bindings, met, Move, shared, left, right, both, Moves, stay, go, UnificationIsLocal, UnificationBindsAndReads, UnificationKeepsAcyclic, UnificationHasOneEnding, UnifyIsExact, UnificationsCommute, name_total, same_name, In_either, in_set, set_in}
+use Rattle.ghc_unify.proofs.Words.{◌≡◌, List, [], ◌∷◌, refl, sym, ap, ◌∙◌, subst, inl, inr, Option, Some, None, IsTrue, option_or, VarName, Fault, Tree, exact, In, IsAcyclic, value_at, Unifies, UnifyFails, clashes, cycles, Solved, solved, clash, cycle, with_bindings, met, Move, shared, left, right, both, Moves, stay, go, UnificationIsLocal, UnificationBindsAndReads, UnificationKeepsAcyclic, UnificationHasOneEnding, UnifyIsExact, UnificationsCommute, name_total, In_either, in_set, set_in}
 use Rattle.std.specs.FinMap as finite
 use Rattle.std.specs.FinSet as set
 use Rattle.ghc_unify.specs.declared.solve.Solved.{Solved as Answer}
-use Rattle.ghc_unify.proofs.Locality.{locality}
-use Rattle.ghc_unify.proofs.Bound.{bound_by, bound_is, moves_bound, moves_fresh, unbound_before, IsBoundIn, Fresh, has_value}
+use Rattle.ghc_unify.proofs.Locality.{by_value, locality}
+use Rattle.ghc_unify.proofs.Bound.{bound_by, bound_is, map_bound, moves_bound, moves_fresh, unbound_before, IsBoundIn, Fresh, has_value}
 use Rattle.ghc_unify.proofs.Acyclic.{moves_acyclic}
 use Rattle.ghc_unify.proofs.Once.{solved_once, solved_no_clash, solved_no_cycle, clash_no_cycle}
 use Rattle.ghc_unify.proofs.Commute.{commute}
 
--- the store of a solved run
-solved_store : (S : VarName → Option Tree) (l r : Tree) (bs : List (VarName × Tree)) (rs : List VarName) (u : Solved S l r bs rs) → u.0 ≡ with_bindings (finite.from_entries bs) S
-solved_store S l r bs rs u = moves_bound u.1 ∙ bound_is bs S (moves_fresh u.1)
-
 pub is_local : UnificationIsLocal
-is_local S S' l r binds reads u c = (
-  u.0,
-  u.1,
-  locality S S' l r u.0 u.1 u.2 (record { less = c.less; kept = λ x i. c.kept x (subst (λ s. IsTrue (set.contains s x)) (sym u.4) (in_set x u.1 i)) }),
-  u.3,
-  u.4,
-)
-
--- what the map binds, the run binds
-map_bound : (bs : List (VarName × Tree)) (x : VarName) (t : Tree) → finite.find name_cmp x bs ≡ Some t → IsBoundIn bs x
-map_bound [] x t e = let clash : None ≡ Some t = e in cc
-map_bound (b ∷ bs) x t e =
-    elim (eq_by_cmp name_cmp x b.0) as (λ c. eq_by_cmp name_cmp x b.0 ≡ c → cond c (Some b.1) (finite.find name_cmp x bs) ≡ Some t → IsBoundIn (b ∷ bs) x) [
-      | true ↦ λ p _. inl (same_name x b.0 p)
-      | false ↦ λ p q. inr (map_bound bs x t q)
-    ] refl e
+is_local S S' l r binds reads u c =
+    let same : Solved S' l r u.0 u.1 = locality S S' l r u.0 u.1 u.2 (record { less = c.less; kept = λ x i. c.kept x (rw u.4 (in_set x u.1 i)) }) in
+    (u.0, u.1, same, u.3, u.4)
 
 -- what the run reads was bound before it
 met_bound : (S : VarName → Option Tree) (a : List VarName) (x : VarName) → In x (met S a) → (t : Tree) × (S x ≡ Some t)
 met_bound S [] x i = absurd i
 met_bound S (y ∷ a) x i =
-    elim (S y) as (λ o. S y ≡ o → In x (cond (is_some o) (y ∷ met S a) (met S a)) → (t : Tree) × (S x ≡ Some t)) [
-      | None ↦ λ p j. met_bound S a x j
-      | Some t ↦ λ p j. elim j [ inl e ↦ (t, ap S e ∙ p) | inr k ↦ met_bound S a x k ]
-    ] refl i
+    by_value (S y) (λ n. met_bound S a x (rw n at i)) (λ t e.
+    let j : In x (y ∷ met S a) = rw e at i in
+    elim j [ inl p ↦ (t, ap S p ∙ e) | inr k ↦ met_bound S a x k ])
 
 read_bound : {S T U : VarName → Option Tree} {es fs : List (Tree × Tree)} {bs : List (VarName × Tree)} {rs : List VarName} → Move S T es U fs bs rs → (x : VarName) → In x rs → (t : Tree) × (S x ≡ Some t)
 read_bound {S = S} (shared {a = a} {b = b} p q f) x i = elim (In_either (met S a) (met S b) x i) [ inl j ↦ met_bound S a x j | inr j ↦ met_bound S b x j ]
@@ -57,29 +39,25 @@ binds_and_reads S l r binds reads u = record {
 }
 
 pub keeps_acyclic : UnificationKeepsAcyclic
-keeps_acyclic S l r binds reads h u = subst IsAcyclic (solved_store S l r u.0 u.1 u.2 ∙ ap (λ m. with_bindings m S) (sym u.3)) (moves_acyclic u.2.1 h)
+keeps_acyclic S l r binds reads h u =
+    let is = moves_bound u.2.1 ∙ bound_is u.0 S (moves_fresh u.2.1) ∙ ap (λ m. with_bindings m S) (sym u.3) in
+    subst IsAcyclic is (moves_acyclic u.2.1 h)
 
 pub one_ending : UnificationHasOneEnding
-one_ending S l r (solved binds reads) (solved binds' reads') h u v =
-    let o = solved_once h u.2 v.2 in
-    let b : binds ≡ binds' = u.3 ∙ ap finite.from_entries o.0 ∙ sym v.3 in
-    let s : reads ≡ reads' = u.4 ∙ ap set.from_list o.1 ∙ sym v.4 in
-    ap (λ m. solved m reads) b ∙ ap (λ z. solved binds' z) s
+one_ending S l r (solved binds reads) (solved binds' reads') h u v = let o = solved_once h u.2 v.2 in cc
 one_ending S l r (solved binds reads) clash h u v = absurd (solved_no_clash h u.2 v)
 one_ending S l r (solved binds reads) cycle h u v = absurd (solved_no_cycle h u.2 v)
 one_ending S l r clash (solved binds reads) h u v = absurd (solved_no_clash h v.2 u)
-one_ending S l r clash clash h u v = refl
 one_ending S l r clash cycle h u v = absurd (clash_no_cycle h u v)
 one_ending S l r cycle (solved binds reads) h u v = absurd (solved_no_cycle h v.2 u)
 one_ending S l r cycle clash h u v = absurd (clash_no_cycle h v u)
-one_ending S l r cycle cycle h u v = refl
+one_ending S l r e f h u v = refl
 
 -- bindings that the map does not have, the run does not have
 not_bound : (bs : List (VarName × Tree)) (S : VarName → Option Tree) (x : VarName) → Fresh bs S → value_at (finite.from_entries bs) x ≡ None → ¬ IsBoundIn bs x
 not_bound bs S x f e i =
-    let was : S x ≡ None = unbound_before bs S x f i in
     let v = has_value bs S x i in
-    let clash : None ≡ Some v.0 = sym (ap (λ T. T x) (bound_is bs S f) ∙ ap (λ o. option_or o (S x)) e ∙ was) ∙ v.1 in
+    let clash : None ≡ Some v.0 = sym (ap (λ T. T x) (bound_is bs S f) ∙ ap (λ o. option_or o (S x)) e ∙ unbound_before bs S x f i) ∙ v.1 in
     cc
 
 pub change_places : UnificationsCommute
@@ -111,10 +89,9 @@ one_solved S l r acyclic s t u v =
     λ i. record { binds = binds i; reads = reads i }
 
 one_failure : (S : VarName → Option Tree) (l r : Tree) → IsAcyclic S → (f g : Fault) → UnifyFails S l r f → UnifyFails S l r g → f ≡ g
-one_failure S l r acyclic f g (clashes a) (clashes b) = refl
 one_failure S l r acyclic f g (clashes a) (cycles b) = let same : clash ≡ cycle = one_ending S l r clash cycle acyclic a b in cc
 one_failure S l r acyclic f g (cycles a) (clashes b) = let same : cycle ≡ clash = one_ending S l r cycle clash acyclic a b in cc
-one_failure S l r acyclic f g (cycles a) (cycles b) = refl
+one_failure S l r acyclic f g p q = refl
 
 never_fails : (S : VarName → Option Tree) (l r : Tree) → IsAcyclic S → (s : Answer) (f : Fault) → Unifies S l r s.binds s.reads → ¬ UnifyFails S l r f
 never_fails S l r acyclic s f u (clashes a) = let same : solved s.binds s.reads ≡ clash = one_ending S l r (solved s.binds s.reads) clash acyclic u a in cc

@@ -1,18 +1,9 @@
 -- In an acyclic store at most one move is possible, and none where an equation clashes or closes a cycle.
-use Rattle.ghc_unify.proofs.Words.{◌≡◌, List, [], ◌∷◌, ◌++◌, refl, sym, ap, ◌∙◌, subst, inl, inr, Option, Some, None, VarName, Tree, Trees, IsValue, In, Leads, at_integer, at_node, at_free, along, Reaches, Comes, now, on, Passes, IsAcyclic, with_binding, leads_once, Pairs, no_more, one_more, Meets, integers, nodes, met, Move, shared, left, right, both, Moves, stay, go, IsClash, IsCycle, Solved, Clashes, Cycles}
+use Rattle.ghc_unify.proofs.Words.{◌≡◌, List, [], ◌∷◌, ◌++◌, refl, sym, ap, ◌∙◌, subst, inl, inr, Option, Some, None, VarName, Tree, Trees, IsValue, In, Leads, Reaches, Comes, now, on, Passes, IsAcyclic, with_binding, leads_once, Pairs, no_more, one_more, Meets, integers, nodes, met, Move, shared, left, right, both, Moves, stay, go, IsClash, IsCycle, Solved, Clashes, Cycles}
 use Rattle.ghc_unify.proofs.Extension.{comes_reaches, comes_on, passed_on, earlier, values}
+use Rattle.ghc_unify.proofs.Partings.{on_chain}
 use Rattle.ghc_unify.proofs.SolutionLemmas.{value_end}
 use Rattle.ghc_unify.proofs.Acyclic.{move_acyclic}
-
--- the same chain, up to its unbound end
-pub comes_end : {T : VarName → Option Tree} {t : Tree} {a b : List VarName} {x y : VarName} → Comes T t a x → T x ≡ None → Comes T t b y → T y ≡ None → (a ≡ b) × (x ≡ y)
-comes_end now n now m = (refl, refl)
-comes_end now n (on e d) m = cc
-comes_end (on e c) n now m = cc
-comes_end {T = T} (on {x = z} {t = u} {xs = a} e c) n (on {y = y} {t = v} {xs = b} g d) m =
-    let same : v ≡ u = let s : Some v ≡ Some u = sym g ∙ e in cc in
-    let rest = comes_end c n (subst (λ w. Comes T w b y) same d) m in
-    (ap (λ l. z ∷ l) rest.0, rest.1)
 
 -- the first variable of which Q holds on a chain
 first_once : {T : VarName → Option Tree} {t : Tree} {a b : List VarName} {x y : VarName} (Q : VarName → Type 0) → Comes T t a x → Q x → ((z : VarName) → In z a → ¬ Q z)
@@ -25,24 +16,17 @@ first_once {T = T} Q (on {x = z} {t = u} {xs = a} e c) q f (on {y = y} {t = v} {
     let rest = first_once Q c q (λ w i. f w (inr i)) (subst (λ w. Comes T w b y) same d) p (λ w i. g w (inr i)) in
     (ap (λ l. z ∷ l) rest.0, rest.1)
 
--- in an acyclic store a chain comes to a variable once
-comes_once : {T : VarName → Option Tree} {t : Tree} {a b : List VarName} {x y : VarName} → IsAcyclic T → Comes T t a x → Comes T t b y → x ≡ y → a ≡ b
-comes_once h now now s = refl
-comes_once {T = T} h now (on {x = z} {t = u} e d) s = absurd (h z u e (subst (λ w. Reaches T u w) (sym s) (comes_reaches d)))
-comes_once {T = T} h (on {x = z} {t = u} e c) now s = absurd (h z u e (subst (λ w. Reaches T u w) s (comes_reaches c)))
-comes_once {T = T} h (on {x = z} {t = u} e c) (on {y = y} {t = v} {xs = b} g d) s =
-    let same : v ≡ u = let q : Some v ≡ Some u = sym g ∙ e in cc in
-    ap (λ l. z ∷ l) (comes_once h c (subst (λ w. Comes T w b y) same d) s)
+-- what a chain passes is bound
+passed_bound : {T : VarName → Option Tree} {t : Tree} {xs : List VarName} {x y : VarName} → Comes T t xs y → In x xs → T x ≡ None → ⊥
+passed_bound c i n = let o = passed_on c i in let clash : None ≡ Some o.0 = sym n ∙ o.1 in cc
 
--- what a chain comes to before a value is on it
-leads_has : {T : VarName → Option Tree} {t e : Tree} {xs ys : List VarName} {x : VarName} → Leads T t xs e → IsValue e → Comes T t ys x → In x xs
-leads_has at_integer v c = elim c [ ]
-leads_has at_node v c = elim c [ ]
-leads_has (at_free p) v c = absurd v
-leads_has (along p a) v now = inl refl
-leads_has {T = T} (along {x = z} {t = u} p a) v (on {y = y} {t = w} {xs = b} g d) =
-    let same : w ≡ u = let s : Some w ≡ Some u = sym g ∙ p in cc in
-    inr (leads_has a v (subst (λ k. Comes T k b y) same d))
+-- the same chain, up to its unbound end
+pub comes_end : {T : VarName → Option Tree} {t : Tree} {a b : List VarName} {x y : VarName} → Comes T t a x → T x ≡ None → Comes T t b y → T y ≡ None → (a ≡ b) × (x ≡ y)
+comes_end {T = T} c n d m = first_once (λ z. T z ≡ None) c n (λ z i. passed_bound c i) d m (λ z i. passed_bound d i)
+
+-- in an acyclic store a chain comes to a variable once
+not_again : {T : VarName → Option Tree} {t : Tree} {a : List VarName} {x : VarName} → IsAcyclic T → Comes T t a x → (z : VarName) → In z a → ¬ (z ≡ x)
+not_again {T = T} h c z i e = let o = passed_on c i in h z o.0 o.1 (subst (Reaches T o.0) (sym e) (comes_reaches o.2.1))
 
 pairs_once : {ts us : Trees} {es fs : List (Tree × Tree)} → Pairs ts us es → Pairs ts us fs → es ≡ fs
 pairs_once no_more no_more = refl
@@ -50,16 +34,8 @@ pairs_once (one_more {t = t} {u = u} p) (one_more q) = ap (λ l. (t, u) ∷ l) (
 
 meets_once : {e f e' f' : Tree} {es fs : List (Tree × Tree)} → Meets e f es → Meets e' f' fs → e ≡ e' → f ≡ f' → es ≡ fs
 meets_once integers integers p q = refl
-meets_once integers (nodes m) p q = cc
-meets_once (nodes m) integers p q = cc
-meets_once (nodes {ts = ts} {us = us} m) (nodes {ts = vs} {us = ws} {es = fs} n) p q =
-    let one : vs ≡ ts = cc in
-    let two : ws ≡ us = cc in
-    pairs_once m (subst (λ v. Pairs v us fs) one (subst (λ w. Pairs vs w fs) two n))
-
--- what a chain passes is bound
-passed_bound : {T : VarName → Option Tree} {t : Tree} {xs : List VarName} {x y : VarName} → Comes T t xs y → In x xs → T x ≡ None → ⊥
-passed_bound c i n = let o = passed_on c i in let clash : None ≡ Some o.0 = sym n ∙ o.1 in cc
+meets_once (nodes {us = us} m) (nodes {ts = vs} {es = fs} n) p q = pairs_once m (subst (λ v. Pairs v us fs) (cc) (subst (λ w. Pairs vs w fs) (cc) n))
+meets_once m n p q = cc
 
 -- of a variable on both chains: the unbound end of the one is the other's
 joined : {T : VarName → Option Tree} {l r : Tree} {a b c : List VarName} {m x : VarName} → Comes T l a m → Comes T r b m → Comes T l c x → T x ≡ None → Passes T r x
@@ -73,7 +49,7 @@ shared_right p q k v g n = value_end k v n (joined q p g n)
 
 shared_both : {T : VarName → Option Tree} {l r e f : Tree} {a b c d : List VarName} {m : VarName} → Comes T l a m → Comes T r b m → Leads T l c e → Leads T r d f → IsValue e → IsValue f
     → ((x : VarName) → In x c → ¬ In x d) → ⊥
-shared_both {m = m} p q k h v w apart = apart m (leads_has k v p) (leads_has h w q)
+shared_both {m = m} p q k h v w apart = apart m (on_chain k p) (on_chain h q)
 
 left_value : {T : VarName → Option Tree} {l e : Tree} {a c : List VarName} {x : VarName} → Comes T l a x → T x ≡ None → Leads T l c e → IsValue e → ⊥
 left_value {a = a} p n k v = value_end k v n (a, p)
@@ -81,52 +57,37 @@ left_value {a = a} p n k v = value_end k v n (a, p)
 abbrev Same : (VarName → Option Tree) → List (Tree × Tree) → List (VarName × Tree) → List VarName → (VarName → Option Tree) → List (Tree × Tree) → List (VarName × Tree) → List VarName → Type 0
 Same U fs bs rs V gs cs qs = (U ≡ V) × (fs ≡ gs) × (bs ≡ cs) × (rs ≡ qs)
 
-module _ {S T : VarName → Option Tree} (h : IsAcyclic T) where
-  once_shared : {l r : Tree} {es : List (Tree × Tree)} {a b : List VarName} {m : VarName} → Comes T l a m → Comes T r b m → ((x : VarName) → In x a → ¬ Passes T r x)
-      → {V : VarName → Option Tree} {gs : List (Tree × Tree)} {cs : List (VarName × Tree)} {qs : List VarName} → Move S T ((l, r) ∷ es) V gs cs qs → Same T es [] (met S a ++ met S b) V gs cs qs
-  once_shared {r = r} {a = a} {b = b} p q f (shared {a = c} {b = d} k g i) =
-      let one = first_once (λ x. Passes T r x) p (b, q) f k (d, g) i in
-      (refl, refl, refl, ap (λ x. met S x ++ met S b) one.0 ∙ ap (λ x. met S c ++ met S x) (comes_once h q g one.1))
-  once_shared p q f (left k n o) = absurd (shared_left p q k n o)
-  once_shared p q f (right k v g n o) = absurd (shared_right p q k v g n)
-  once_shared p q f (both k g apart m) = let v = values m in absurd (shared_both p q k g v.0 v.1 apart)
-
-  once_left : {l r : Tree} {es : List (Tree × Tree)} {a : List VarName} {x : VarName} → Comes T l a x → T x ≡ None → ¬ Reaches T r x
-      → {V : VarName → Option Tree} {gs : List (Tree × Tree)} {cs : List (VarName × Tree)} {qs : List VarName} → Move S T ((l, r) ∷ es) V gs cs qs → Same (with_binding T x r) es ((x, r) ∷ []) (met S a) V gs cs qs
-  once_left p n o (shared k g i) = absurd (shared_left k g p n o)
-  once_left {r = r} p n o (left q m i) =
-      let one = comes_end p n q m in
-      (ap (λ x. with_binding T x r) one.1, refl, ap (λ x. (x, r) ∷ []) one.1, ap (met S) one.0)
-  once_left p n o (right k v g m i) = absurd (left_value p n k v)
-  once_left p n o (both k g apart m) = absurd (left_value p n k (values m).0)
-
-  once_right : {l r e : Tree} {es : List (Tree × Tree)} {a b : List VarName} {y : VarName} → Leads T l a e → IsValue e → Comes T r b y → T y ≡ None
-      → {V : VarName → Option Tree} {gs : List (Tree × Tree)} {cs : List (VarName × Tree)} {qs : List VarName} → Move S T ((l, r) ∷ es) V gs cs qs → Same (with_binding T y l) es ((y, l) ∷ []) (met S a ++ met S b) V gs cs qs
-  once_right k v g n (shared p q f) = absurd (shared_right p q k v g n)
-  once_right k v g n (left p m i) = absurd (left_value p m k v)
-  once_right {l = l} {b = b} k v g n (right {a = c} p w q m i) =
-      let one = leads_once k p in
-      let two = comes_end g n q m in
-      (ap (λ x. with_binding T x l) two.1, refl, ap (λ x. (x, l) ∷ []) two.1, ap (λ x. met S x ++ met S b) one.0 ∙ ap (λ x. met S c ++ met S x) two.0)
-  once_right k v g n (both p q apart m) = absurd (left_value g n q (values m).1)
-
-  once_both : {l r e f : Tree} {es new : List (Tree × Tree)} {a b : List VarName} → Leads T l a e → Leads T r b f → ((x : VarName) → In x a → ¬ In x b) → Meets e f new
-      → {V : VarName → Option Tree} {gs : List (Tree × Tree)} {cs : List (VarName × Tree)} {qs : List VarName} → Move S T ((l, r) ∷ es) V gs cs qs → Same T (new ++ es) [] (met S a ++ met S b) V gs cs qs
-  once_both k g apart m (shared p q f) = let v = values m in absurd (shared_both p q k g v.0 v.1 apart)
-  once_both k g apart m (left p n o) = absurd (left_value p n k (values m).0)
-  once_both p q apart m (right k v g n o) = absurd (left_value g n q (values m).1)
-  once_both {es = es} {b = b} p q apart m (both {a = c} k g away i) =
-      let one = leads_once p k in
-      let two = leads_once q g in
-      (refl, ap (λ x. x ++ es) (meets_once m i one.1 two.1), refl, ap (λ x. met S x ++ met S b) one.0 ∙ ap (λ x. met S c ++ met S x) two.0)
-
-  -- one move is possible at most
-  step_once : {U V : VarName → Option Tree} {es fs gs : List (Tree × Tree)} {bs cs : List (VarName × Tree)} {rs qs : List VarName}
-      → Move S T es U fs bs rs → Move S T es V gs cs qs → Same U fs bs rs V gs cs qs
-  step_once (shared p q f) n = once_shared p q f n
-  step_once (left p m o) n = once_left p m o n
-  step_once (right k v g m o) n = once_right k v g m n
-  step_once (both p q apart m) n = once_both p q apart m n
+-- one move is possible at most
+step_once : {S T U : VarName → Option Tree} {es fs : List (Tree × Tree)} {bs : List (VarName × Tree)} {rs : List VarName} → IsAcyclic T → Move S T es U fs bs rs
+    → {V : VarName → Option Tree} {gs : List (Tree × Tree)} {cs : List (VarName × Tree)} {qs : List VarName} → Move S T es V gs cs qs
+    → Same U fs bs rs V gs cs qs
+step_once {S = S} {T = T} h (shared {r = r} {a = a} {b = b} {m = m} p q f) (shared {a = c} {b = d} k g i) =
+    let one = first_once (λ x. Passes T r x) p (b, q) f k (d, g) i in
+    let two = first_once (λ x. x ≡ m) q refl (not_again h q) g (sym one.1) (λ x j e. not_again h g x j (e ∙ one.1)) in
+    (refl, refl, refl, ap (λ x. met S x ++ met S b) one.0 ∙ ap (λ x. met S c ++ met S x) two.0)
+step_once h (shared p q f) (left k n o) = absurd (shared_left p q k n o)
+step_once h (shared p q f) (right k v g n o) = absurd (shared_right p q k v g n)
+step_once h (shared p q f) (both k g apart m) = let v = values m in absurd (shared_both p q k g v.0 v.1 apart)
+step_once h (left p n o) (shared k g i) = absurd (shared_left k g p n o)
+step_once {S = S} {T = T} h (left {r = r} p n o) (left q m i) =
+    let one = comes_end p n q m in
+    (ap (λ x. with_binding T x r) one.1, refl, ap (λ x. (x, r) ∷ []) one.1, ap (met S) one.0)
+step_once h (left p n o) (right k v g m i) = absurd (left_value p n k v)
+step_once h (left p n o) (both k g apart m) = absurd (left_value p n k (values m).0)
+step_once h (right k v g n o) (shared p q f) = absurd (shared_right p q k v g n)
+step_once h (right k v g n o) (left p m i) = absurd (left_value p m k v)
+step_once {S = S} {T = T} h (right {l = l} {b = b} k v g n o) (right {a = c} p w q m i) =
+    let one = leads_once k p in
+    let two = comes_end g n q m in
+    (ap (λ x. with_binding T x l) two.1, refl, ap (λ x. (x, l) ∷ []) two.1, ap (λ x. met S x ++ met S b) one.0 ∙ ap (λ x. met S c ++ met S x) two.0)
+step_once h (right k v g n o) (both p q apart m) = absurd (left_value g n q (values m).1)
+step_once h (both k g apart m) (shared p q f) = let v = values m in absurd (shared_both p q k g v.0 v.1 apart)
+step_once h (both k g apart m) (left p n o) = absurd (left_value p n k (values m).0)
+step_once h (both p q apart m) (right k v g n o) = absurd (left_value g n q (values m).1)
+step_once {S = S} h (both {b = b} {es = es} p q apart m) (both {a = c} k g away i) =
+    let one = leads_once p k in
+    let two = leads_once q g in
+    (refl, ap (λ x. x ++ es) (meets_once m i one.1 two.1), refl, ap (λ x. met S x ++ met S b) one.0 ∙ ap (λ x. met S c ++ met S x) two.0)
 
 -- no move is possible from the equations
 abbrev Stuck : (VarName → Option Tree) → (VarName → Option Tree) → List (Tree × Tree) → Type 0
@@ -156,9 +117,6 @@ pub not_both : (T : VarName → Option Tree) (l r : Tree) → IsClash T l r → 
 not_both T l r c (inl d) = left_value d.2 d.3 c.4 c.6
 not_both T l r c (inr d) = left_value d.6 d.7 c.5 c.7
 
-moved : {S W X V : VarName → Option Tree} {fs gs hs : List (Tree × Tree)} {bs : List (VarName × Tree)} {rs : List VarName} → X ≡ W → fs ≡ gs → Moves S W gs V hs bs rs → Moves S X fs V hs bs rs
-moved {S = S} {W = W} {V = V} {fs = fs} {hs = hs} {bs = bs} {rs = rs} p q m = subst (λ X. Moves S X fs V hs bs rs) (sym p) (subst (λ x. Moves S W x V hs bs rs) (sym q) m)
-
 -- runs to a place from which no move is possible are one
 runs_once : {S T U V : VarName → Option Tree} {es fs gs : List (Tree × Tree)} {bs cs : List (VarName × Tree)} {rs qs : List VarName} → IsAcyclic T
     → Moves S T es U fs bs rs → Stuck S U fs → Moves S T es V gs cs qs → Stuck S V gs → Same U fs bs rs V gs cs qs
@@ -167,7 +125,7 @@ runs_once h stay s (go m ms) t = absurd (s _ _ _ _ m)
 runs_once h (go m ms) s stay t = absurd (t _ _ _ _ m)
 runs_once h (go {cs = cs} {qs = qs} m ms) s (go {bs = ds} {rs = us} n ns) t =
     let one = step_once h m n in
-    let rest = runs_once (move_acyclic m h) ms s (moved one.0 one.1 ns) t in
+    let rest = runs_once (move_acyclic m h) ms s (rw (← one.0, ← one.1) at ns) t in
     (rest.0, rest.1, ap (λ x. x ++ cs) one.2 ∙ ap (λ x. ds ++ x) rest.2, ap (λ x. x ++ qs) one.3 ∙ ap (λ x. us ++ x) rest.3)
 
 -- a solved run and its end
@@ -188,6 +146,5 @@ solved_no_cycle {S = S} h u c = solved_not h u c.6 (cycled S c.0 c.1 c.2 c.3 c.7
 pub clash_no_cycle : {S : VarName → Option Tree} {l r : Tree} → IsAcyclic S → Clashes S l r → ¬ Cycles S l r
 clash_no_cycle {S = S} h c d =
     let o = runs_once h c.6 (clashed S c.0 c.1 c.2 c.3 c.7) d.6 (cycled S d.0 d.1 d.2 d.3 d.7) in
-    let first : List (Tree × Tree) → Tree × Tree = λ es. elim es [ [] ↦ (c.1, c.2) | e ∷ _ ↦ e ] in
-    let same : (c.1, c.2) ≡ (d.1, d.2) = ap first o.1 in
+    let same : (c.1, c.2) ≡ (d.1, d.2) = cc in
     not_both d.0 d.1 d.2 (subst (λ T. IsClash T d.1 d.2) o.0 (subst (λ (e : Tree × Tree). IsClash c.0 e.0 e.1) same c.7)) d.7

@@ -1,6 +1,7 @@
 -- In an acyclic finite store it is decided whether a tree reaches a variable.
-use Rattle.ghc_unify.proofs.Words.{◌≡◌, ℕ, zero, suc, ◌≤◌, refl, sym, ap, ◌∙◌, subst, inl, inr, ℤ, List, Option, Some, None, VarName, Tree, variable, integer, node, Trees, none, more, StoreValue, value_at, Reaches, here, through, IsAcyclic, reaches_more, Decided, name_decided, removed_apart, removed_less, removed_acyclic, fewer, none_bound}
+use Rattle.ghc_unify.proofs.Words.{◌≡◌, ℕ, zero, suc, ◌≤◌, refl, sym, ◌∙◌, subst, inl, inr, ◌⊎◌, Option, Some, VarName, Tree, variable, integer, node, Trees, none, more, Occurs, OccursIn, StoreValue, value_at, Reaches, here, through, IsAcyclic, reaches_more, Decided, decided_by, decided_either, name_decided, removed_apart, removed_less, removed_acyclic, fewer, none_bound}
 use Rattle.std.specs.FinMap as finite
+use Rattle.ghc_unify.proofs.Locality.{by_value}
 
 -- what a tree reaches without passing y, it reaches where y's binding is taken away
 around : (s : StoreValue) (y : VarName) {t : Tree} {x : VarName} → ¬ Reaches (value_at s) t y → Reaches (value_at s) t x → Reaches (value_at (finite.remove s y)) t x
@@ -8,59 +9,39 @@ around s y n (here o) = here o
 around s y {t = t} n (through {u = u} {y = z} o e r) =
     through o (removed_apart s y z (λ same. n (subst (Reaches (value_at s) t) same (here o))) ∙ e) (around s y (λ q. n (through o e q)) r)
 
--- an integer and an atom reach nothing, and a node what its arguments reach
-integer_none : {S : VarName → Option Tree} {k : ℤ} {x : VarName} → ¬ Reaches S (integer k) x
-integer_none (here o) = o
-integer_none (through o e r) = o
+-- a tree reaches x by one of its variables
+module _ (S : VarName → Option Tree) (x : VarName) where
+  abbrev By : VarName → Type 0
+  By y = (x ≡ y) ⊎ ((u : Tree) × (S y ≡ Some u) × Reaches S u x)
 
-atom_none : {S : VarName → Option Tree} {f : List ℕ} {x : VarName} → ¬ Reaches S (node f none) x
-atom_none (here o) = o
-atom_none (through o e r) = o
+  by_one : {t : Tree} → Reaches S t x → (y : VarName) × Occurs y t × By y
+  by_one (here o) = (x, o, inl refl)
+  by_one (through {u = u} {y = y} o e r) = (y, o, inr (u, e, r))
 
-first : {S : VarName → Option Tree} {f : List ℕ} {t : Tree} {ts : Trees} {x : VarName} → Reaches S t x → Reaches S (node f (more t ts)) x
-first (here o) = here (inl o)
-first (through o e r) = through (inl o) e r
+  reached : {t : Tree} → (y : VarName) × Occurs y t × By y → Reaches S t x
+  reached {t = t} h = elim h.2 [ inl e ↦ here (subst (λ z. Occurs z t) (sym e) h.1) | inr n ↦ through h.1 n.1 n.2 ]
 
-later : {S : VarName → Option Tree} {f : List ℕ} {t : Tree} {ts : Trees} {x : VarName} → Reaches S (node f ts) x → Reaches S (node f (more t ts)) x
-later (here o) = here (inr o)
-later (through o e r) = through (inr o) e r
+  -- where it is decided of each value, it is decided of each tree
+  module _ (of_value : (y : VarName) (u : Tree) → S y ≡ Some u → Decided (Reaches S u x)) where
+    by_decided : (y : VarName) → Decided (By y)
+    by_decided y = decided_either (name_decided x y) (by_value (S y)
+        (λ n. inr (λ r. cc))
+        (λ u e. decided_by (λ r. (u, e, r)) (λ r. let same : r.0 ≡ u = cc in subst (λ w. Reaches S w x) same r.2) (of_value y u e)))
 
-neither : {S : VarName → Option Tree} {f : List ℕ} {t : Tree} {ts : Trees} {x : VarName} → ¬ Reaches S t x → ¬ Reaches S (node f ts) x → ¬ Reaches S (node f (more t ts)) x
-neither n m (here (inl o)) = n (here o)
-neither n m (here (inr o)) = m (here o)
-neither n m (through (inl o) e r) = n (through o e r)
-neither n m (through (inr o) e r) = m (through o e r)
+    mutual
+      some_by : (t : Tree) → Decided ((y : VarName) × Occurs y t × By y)
+      some_by (variable y) = decided_by (λ e. (y, refl, e)) (λ h. subst By h.1 h.2) (by_decided y)
+      some_by (integer k) = inr (λ h. h.1)
+      some_by (node f ts) = some_of_all ts
 
--- where it is decided of each value, it is decided of each tree
-module _ (S : VarName → Option Tree) (x : VarName) (of_value : (y : VarName) (u : Tree) → S y ≡ Some u → Decided (Reaches S u x)) where
-  no_more : (y : VarName) → ¬ (x ≡ y) → ((u : Tree) → S y ≡ Some u → ¬ Reaches S u x) → ¬ Reaches S (variable y) x
-  no_more y n h (here o) = n o
-  no_more y n h (through {u = u} o e r) = h u (ap S (sym o) ∙ e) r
+      some_of_all : (ts : Trees) → Decided ((y : VarName) × OccursIn y ts × By y)
+      some_of_all none = inr (λ h. h.1)
+      some_of_all (more t ts) = decided_by
+          (λ e. elim e [ inl h ↦ (h.0, inl h.1, h.2) | inr h ↦ (h.0, inr h.1, h.2) ])
+          (λ h. elim h.1 [ inl o ↦ inl (h.0, o, h.2) | inr o ↦ inr (h.0, o, h.2) ]) (decided_either (some_by t) (some_of_all ts))
 
-  of_variable : (y : VarName) → Decided (Reaches S (variable y) x)
-  of_variable y = elim (name_decided x y) [
-    | inl same ↦ inl (here same)
-    | inr n ↦ elim (S y) as (λ o. S y ≡ o → Decided (Reaches S (variable y) x)) [
-      | None ↦ λ e. inr (no_more y n (λ u p. let clash : None ≡ Some u = sym e ∙ p in cc))
-      | Some u ↦ λ e. elim (of_value y u e) [
-        | inl r ↦ inl (through refl e r)
-        | inr m ↦ inr (no_more y n (λ v p. let both : Some u ≡ Some v = sym e ∙ p in let same : u ≡ v = cc in subst (λ w. ¬ Reaches S w x) same m))
-      ]
-    ] refl
-  ]
-
-  mutual
     of_tree : (t : Tree) → Decided (Reaches S t x)
-    of_tree (variable y) = of_variable y
-    of_tree (integer k) = inr integer_none
-    of_tree (node f ts) = of_all f ts
-
-    of_all : (f : List ℕ) (ts : Trees) → Decided (Reaches S (node f ts) x)
-    of_all f none = inr atom_none
-    of_all f (more t ts) = elim (of_tree t) [
-      | inl r ↦ inl (first r)
-      | inr n ↦ elim (of_all f ts) [ inl r ↦ inl (later r) | inr m ↦ inr (neither n m) ]
-    ]
+    of_tree t = decided_by reached by_one (some_by t)
 
 pub reaches_decided : (n : ℕ) (s : StoreValue) → finite.len s ≤ n → IsAcyclic (value_at s) → (x : VarName) (t : Tree) → Decided (Reaches (value_at s) t x)
 reaches_decided zero s le h x t = of_tree (value_at s) x (λ y u e. absurd (none_bound s y u le e)) t

@@ -1,12 +1,12 @@
 use Rattle.ghc_unify.proofs.Words.{◌++◌, ◌∷◌, [], ◌∙◌, take, take_all, sym, ap, subst, take_more, node, trees, Reaches, value_at}
-use Rattle.ghc_unify.proofs.Gaps.{closed_apart, none_apart, one_more_apart}
+use Rattle.ghc_unify.proofs.Gaps.{closed_apart, one_more_apart}
 use Rattle.ghc_unify.proofs.apart.is_apart.Goals as goal
 
 pub returns-then-is_closed : goal.returns-then-is_closed
 returns-then-is_closed c h = closed_apart (c.is_closed.ensures.0 c.if-is_closed.true)
 
 pub loop-argument-init : goal.loop-argument-init
-loop-argument-init c f = none_apart f
+loop-argument-init c f = closed_apart (λ y o. o)
 
 pub loop-argument-preserved : goal.loop-argument-preserved
 loop-argument-preserved c f =

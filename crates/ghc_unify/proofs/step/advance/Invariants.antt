@@ -4,7 +4,9 @@ use Rattle.ghc_unify.proofs.Advancing.{Quiet}
 use Rattle.ghc_unify.proofs.step.advance.Given as goal
 
 abbrev pub invariant-loop-left : goal.invariant-loop-left
-invariant-loop-left l = Quiet (value_at l.store.held) (with_bindings l.binds (value_at l.store.held)) l.initial.equations.items l.equations.items l.initial.reads l.reads
+invariant-loop-left l =
+    let S = value_at l.store.held in
+    Quiet S (with_bindings l.binds S) (reverse l.initial.equations.items) (reverse l.equations.items) l.initial.reads l.reads
 
 abbrev pub decreases-loop-left : goal.decreases-loop-left
 decreases-loop-left l = weights (merged l.binds l.store.held) (reverse l.equations.items)

@@ -1,7 +1,7 @@
-use Rattle.ghc_unify.proofs.Words.{◌≡◌, [], rules, sym, ap, ◌∙◌, reverse, Var, Int, Atom, Struct, none, trees, no_more}
+use Rattle.ghc_unify.proofs.Words.{[], rules, ap, ◌∙◌, reverse, none, trees, no_more, names_apart, names_same}
 use mir.Val.{SFits}
 use mir.Syntax.{w64}
-use Rattle.ghc_unify.proofs.TopAgreement.{unlike, structures_alike, names_apart, names_same, integers_meet, structures_meet, same_integer}
+use Rattle.ghc_unify.proofs.TopAgreement.{unlike, structures_alike, integers_meet, structures_meet, same_integer}
 use Rattle.ghc_unify.proofs.step.meet.Goals as goal
 use Rattle.ghc_unify.proofs.step.meet.Goals.{then-ne-2-via-then-ne-2, then-ne-2-via-else-ne-2+then-lefts-rights, in_default-via-in-Int+in_default, in_default-via-in-Atom+in_default, in_default-via-in-Struct+in_default, in_default-via-in_default, in-Int-Int+else-i-k, in-Atom-Atom+else-ne, in-Struct-Struct+else-ne-2+else-lefts-rights+in_ok-push_pairs-in-Struct-Struct}
 
@@ -18,22 +18,10 @@ pub returns-in_default-clause-clash : goal.returns-in_default-clause-clash
 returns-in_default-clause-clash c _ new m =
     let apart = unlike c.view.result c.view-2.result c.args.left.now c.args.right.now c.view.ensures.shown c.view-2.ensures.shown c.view.ensures.arguments c.view-2.ensures.arguments in
     elim c.in_default.branch [
-      | in_default-via-in-Int+in_default w ↦ apart
-          (λ j k p q. w.in_default.not-Int-1 k q)
-          (λ f g p q. let clash : Int w.in_default.field-0-0 ≡ Atom f = sym w.in_default.is-0 ∙ p in cc)
-          (λ f g ts us p q. let clash : Int w.in_default.field-0-0 ≡ Struct f ts = sym w.in_default.is-0 ∙ p in cc) new m
-      | in_default-via-in-Atom+in_default w ↦ apart
-          (λ j k p q. let clash : Atom w.in_default.field-0-0 ≡ Int j = sym w.in_default.is-0 ∙ p in cc)
-          (λ f g p q. w.in_default.not-Atom-1 g q)
-          (λ f g ts us p q. let clash : Atom w.in_default.field-0-0 ≡ Struct f ts = sym w.in_default.is-0 ∙ p in cc) new m
-      | in_default-via-in-Struct+in_default w ↦ apart
-          (λ j k p q. let clash : Struct w.in_default.field-0-0 w.in_default.field-1-0 ≡ Int j = sym w.in_default.is-0 ∙ p in cc)
-          (λ f g p q. let clash : Struct w.in_default.field-0-0 w.in_default.field-1-0 ≡ Atom f = sym w.in_default.is-0 ∙ p in cc)
-          (λ f g ts us p q. w.in_default.not-Struct-1 g us q) new m
-      | in_default-via-in_default w ↦ apart
-          (λ j k p q. let clash : Var w.in_default.field-0-0 ≡ Int j = sym w.in_default.is-0 ∙ p in cc)
-          (λ f g p q. let clash : Var w.in_default.field-0-0 ≡ Atom f = sym w.in_default.is-0 ∙ p in cc)
-          (λ f g ts us p q. let clash : Var w.in_default.field-0-0 ≡ Struct f ts = sym w.in_default.is-0 ∙ p in cc) new m
+      | in_default-via-in-Int+in_default w ↦ apart (λ j k p q. w.in_default.not-Int-1 k q) (λ f g p q. cc) (λ f g ts us p q. cc) new m
+      | in_default-via-in-Atom+in_default w ↦ apart (λ j k p q. cc) (λ f g p q. w.in_default.not-Atom-1 g q) (λ f g ts us p q. cc) new m
+      | in_default-via-in-Struct+in_default w ↦ apart (λ j k p q. cc) (λ f g p q. cc) (λ f g ts us p q. w.in_default.not-Struct-1 g us q) new m
+      | in_default-via-in_default w ↦ apart (λ j k p q. cc) (λ f g p q. cc) (λ f g ts us p q. cc) new m
     ]
 
 pub returns-clause-ok : goal.returns-clause-ok
