@@ -1,5 +1,5 @@
 -- Lemmas on lines that say steps which ask for goals.
-use Rattle.ghc_records.proofs.Words.{◌≡◌, ◌≢◌, ◌≤◌, IfOk, IfSome, IfNone, ℕ, zero, suc, ◌+◌, ◌==◌, All, List, [], ◌∷◌, ◌++◌, Option, Some, None, Result, Ok, Err, Bool, true, false, inl, inr, refl, sym, ap, ◌∙◌, subst, arith, decimal, filter, drop, append_assoc, cond, codes, is_some, MatchResult, list_all, Decides-eqb, append_cancel_left, Fault, VarName, IsExact, Goal, In, variables_of_goals, firsts, a_body, IsRefusal, IsReadBody, WrittenAsk, Asked as asked, made, asked_of, made_from, Step, greatest_number, AreNewInOrder, SaysAsking, SaysGoals}
+use Rattle.ghc_records.proofs.Words.{◌≡◌, ◌≢◌, ◌≤◌, IfOk, IfSome, IfNone, ℕ, zero, suc, ◌+◌, ◌==◌, All, List, [], ◌∷◌, ◌++◌, Option, Some, None, Result, Ok, Err, true, false, inl, inr, refl, sym, ap, ◌∙◌, subst, arith, decimal, filter, drop, append_assoc, codes, is_some, MatchResult, list_all, eq-eqb, ne_eqb, append_cancel_left, none_weaker, Fault, VarName, IsExact, Goal, In, variables_of_goals, firsts, a_body, IsRefusal, IsReadBody, WrittenAsk, made, asked_of, made_from, Step, greatest_number, AreNewInOrder, SaysAsking, SaysGoals}
 use Rattle.ghc_records.proofs.CutLemmas.{cut_once, no_cut, number_plain, one_number}
 
 -- ---- lines
@@ -53,12 +53,11 @@ made_more n i (suc k) =
 
 -- where made ones come first and another behind them, and all are made ones, it is the next
 next_made : (n i p k : ℕ) (x : VarName) (xs : List VarName) → made_from n i p ++ x ∷ xs ≡ made_from n i k → x.place ≡ i + p
-next_made n i zero zero x xs e = cc
 next_made n i zero (suc k) x xs e = let same : x ≡ made n i = cc in ap (λ y. y.place) same ∙ omega arith
-next_made n i (suc p) zero x xs e = cc
 next_made n i (suc p) (suc k) x xs e =
     let rest : made_from n (i + 1) p ++ x ∷ xs ≡ made_from n (i + 1) k = cc in
     next_made n (i + 1) p k x xs rest ∙ omega arith
+next_made n i p k x xs e = cc
 
 -- the variables of a step
 abbrev pub own : ℕ → List VarName → List VarName
@@ -68,22 +67,13 @@ own n xs = filter (λ x. x.step == n) xs
 abbrev pub AreMade : List VarName → ℕ → ℕ → ℕ → Type 0
 AreMade xs n i p = own n xs ≡ made_from n 1 p ++ own n (drop i xs)
 
-own_first : (n : ℕ) (x : VarName) (xs : List VarName) (b : Bool) → (x.step == n) ≡ b → own n (x ∷ xs) ≡ cond b (x ∷ own n xs) (own n xs)
-own_first n x xs b e = ap (λ c. cond c (x ∷ own n xs) (own n xs)) e
-
-no_true : (b : Bool) → ¬ (b ≡ true) → b ≡ false
-no_true true h = absurd (h refl)
-no_true false h = refl
-
-module _ (xs : List VarName) (n i p : ℕ) (x : VarName) (at : drop i xs ≡ x ∷ drop (i + 1) xs) (so_far : AreMade xs n i p) where
+module _ (xs : List VarName) (n i p : ℕ) (x : VarName) (here : drop i xs ≡ x ∷ drop (i + 1) xs) (so_far : AreMade xs n i p) where
   -- one of another step changes nothing
   pub passed : x.step ≢ n → AreMade xs n (i + 1) p
-  passed other =
-      so_far ∙ ap (λ l. made_from n 1 p ++ own n l) at
-      ∙ ap (λ l. made_from n 1 p ++ l) (own_first n x (drop (i + 1) xs) false (no_true (x.step == n) (λ e. other ((Decides-eqb x.step n).0 e))))
+  passed other = rw (here, ne_eqb x.step n other) at so_far
 
   found : x.step ≡ n → own n xs ≡ made_from n 1 p ++ x ∷ own n (drop (i + 1) xs)
-  found step = so_far ∙ ap (λ l. made_from n 1 p ++ own n l) at ∙ ap (λ l. made_from n 1 p ++ l) (own_first n x (drop (i + 1) xs) true ((Decides-eqb x.step n).1 step))
+  found step = rw (here, eq-eqb x.step n step) at so_far
 
   -- the next one is one more
   pub counted : x.step ≡ n → x.place ≡ p + 1 → AreMade xs n (i + 1) (p + 1)
@@ -111,13 +101,12 @@ one_asking line word rest front text n r cut begins at is says =
 
 pub no_asking : {E : Type 0} (line word rest front text : List ℕ) (n : ℕ) (r : Result (Option Step) E) → line ≡ word ++ 32 ∷ rest → All (λ c. c ≢ 32) word → rest ≡ front ++ text → front ≡ codes "- ask " → word ≡ decimal n → n ≤ greatest_number
     → IfOk r (λ found. IfNone found ((gs : List Goal) → SaysGoals text gs → ¬ AreNewInOrder n gs)) → IfOk r (λ found. IfNone found ((s : Step) → ¬ SaysAsking line s))
-no_asking line word rest front text n (Err e) cut plain begins at is small none = tt
-no_asking line word rest front text n (Ok (Some s)) cut plain begins at is small none = tt
-no_asking line word rest front text n (Ok None) cut plain begins at is small none = λ s says.
+no_asking line word rest front text n r cut plain begins at is small = none_weaker r
+    (λ (none : (gs : List Goal) → SaysGoals text gs → ¬ AreNewInOrder n gs). λ s says.
     let parts = asking_apart line word rest s cut plain says in
     let number = one_number n s.number small says.number.1 (sym is ∙ parts.0) in
     let body : says.body ≡ text = sym (append_cancel_left (codes "- ask ") text says.body (ap (λ f. f ++ text) (sym at) ∙ sym begins ∙ parts.1)) in
-    none says.goals (subst (λ l. SaysGoals l says.goals) body says.says) (subst (λ m. AreNewInOrder m says.goals) (sym number) says.new)
+    none says.goals (subst (λ l. SaysGoals l says.goals) body says.says) (subst (λ m. AreNewInOrder m says.goals) (sym number) says.new))
 
 -- where those of an ask are in order, so are those of its variables
 pub in_order_of : (gs : List Goal) (xs : List VarName) (n : ℕ) → xs ≡ firsts [] (variables_of_goals gs) → AreNewInOrder n gs → (k : ℕ) × (own n xs ≡ made_from n 1 k)

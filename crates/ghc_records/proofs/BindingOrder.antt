@@ -1,5 +1,5 @@
 -- Bindings that are put into a map one after another.
-use Rattle.ghc_records.proofs.Words.{◌≡◌, ◌+◌, ◌≤◌, Bool, true, false, cond, List, [], ◌∷◌, length, map, refl, sym, ap, ◌∙◌, subst, arith, Option, Some, None, is_some, option_map, IsStrictlySortedBy, lookup, keys_of, eq_by_cmp, is_eq, VarName, name_cmp, StoreValue, Tree, name_total, name_antisymmetric, same_name, value_in, inserted, entries_are}
+use Rattle.ghc_records.proofs.Words.{◌≡◌, ◌+◌, ◌≤◌, Bool, true, false, cond, List, [], ◌∷◌, length, refl, sym, ap, ◌∙◌, subst, arith, Option, Some, None, is_some, IsStrictlySortedBy, keys_of, keys_of-map_values, eq_by_cmp, is_eq, VarName, name_cmp, StoreValue, Tree, name_total, name_antisymmetric, same_name, one_put, shown_by, value_in, entries_are}
 use Rattle.std.specs.FinMap as finite
 
 -- no two of the bindings are of one variable
@@ -69,34 +69,16 @@ poured_all binds es e n = poured_apart es (apart es (n ∙ ap finite.len (sym e)
 module _ {X : Type 0} (shows : X → Tree) where
   -- the entries with their values shown
   abbrev pub shown : List (VarName × X) → List (VarName × Tree)
-  shown es = map (λ b. (b.0, shows b.1)) es
-
-  shown_keys : (es : List (VarName × X)) → keys_of (shown es) ≡ keys_of es
-  shown_keys [] = refl
-  shown_keys (b ∷ bs) = ap (λ ks. b.0 ∷ ks) (shown_keys bs)
-
-  shown_value : (p : VarName → Bool) (es : List (VarName × X)) → lookup p (shown es) ≡ option_map shows (lookup p es)
-  shown_value p [] = refl
-  shown_value p (b ∷ bs) =
-      elim (p b.0) as (λ t. cond t (Some (shows b.1)) (lookup p (shown bs)) ≡ option_map shows (cond t (Some b.1) (lookup p bs))) [
-        | true ↦ refl
-        | false ↦ shown_value p bs
-      ]
-
-  shown_either : (b : Bool) (x : X) (o : Option X) → option_map shows (cond b (Some x) o) ≡ cond b (Some (shows x)) (option_map shows o)
-  shown_either true x o = refl
-  shown_either false x o = refl
+  shown es = shown_by shows es
 
   -- one more binding is put in
   pub poured_more : (es new : List (VarName × X)) (k : VarName) (x : X) → ((q : VarName) → value_in name_cmp q new ≡ cond (is_eq (name_cmp k q)) (Some x) (value_in name_cmp q es))
       → finite.from_entries (shown new) ≡ finite.insert (finite.from_entries {R = name_cmp} (shown es)) k (shows x)
-  poured_more es new k x h = inserted name_total name_antisymmetric (shown es) (shown new) k (shows x) (λ q.
-      shown_value (λ n. is_eq (name_cmp q n)) new ∙ ap (option_map shows) (h q) ∙ shown_either (is_eq (name_cmp k q)) x (value_in name_cmp q es)
-      ∙ ap (cond (is_eq (name_cmp k q)) (Some (shows x))) (sym (shown_value (λ n. is_eq (name_cmp q n)) es)))
+  poured_more es new k x h = one_put name_total name_antisymmetric shows es new k x h
 
   -- all are put in
   pub poured_end : (binds : StoreValue) (es : List (VarName × X)) (rest : List (VarName × Tree)) → poured (finite.from_entries (shown es)) rest ≡ binds → rest ≡ []
       → IsStrictlySortedBy name_cmp (keys_of es) → shown es ≡ finite.entries binds
   poured_end binds es rest p none order =
-      sym (entries_are name_total name_antisymmetric (shown es) (subst (IsStrictlySortedBy name_cmp) (sym (shown_keys es)) order))
+      sym (entries_are name_total name_antisymmetric (shown es) (subst (IsStrictlySortedBy name_cmp) (sym (keys_of-map_values shows es)) order))
       ∙ ap finite.entries (ap (poured (finite.from_entries (shown es))) (sym none) ∙ p)

@@ -1,7 +1,7 @@
 -- Lemmas on texts that tell chronicles, and on the first line of a text that is wrong.
-use Rattle.ghc_records.proofs.Words.{◌≡◌, ◌≢◌, ℕ, ◌+◌, ◌≤◌, List, [], ◌∷◌, drop, get_or, length, decimal, sym, ap, ◌∙◌, subst, arith, codes, join_with_byte, append_cancel_left, drop-drop, nil_from_length, join_with_byte-slice_split, Fault, Predicate, kept_limit, Step, Entry, History, IsLine, IsLineOf, SaysStep, end_line, greatest_number, pieces_of, IsFirstWrongOf, TellsItems, TellsNoMoreItems, TellsSection, AreBelow, AreInTurn, entry_limit, next_behind, spy_limit, SaysEntry, GoTogether, SaysPredicate, IsChronicleRefusal, IsFirstWrongInChronicle, IsNext, TellsChronicle, TellsEnd, TellsEntries, TellsOpening, TellsSpies, behind_lines, chronicle_heading, entries_line, lines_to_end, lines_to_spies, no_end, no_entry, no_opening, no_spy, no_step, opening_line, spies_line}
+use Rattle.ghc_records.proofs.Words.{◌≡◌, ◌≢◌, ℕ, ◌+◌, ◌≤◌, List, [], ◌∷◌, drop, get_or, length, decimal, sym, ap, ◌∙◌, subst, arith, codes, append_cancel_left, drop-drop, nil_from_length, Fault, Predicate, kept_limit, Step, Entry, History, IsLine, IsLineOf, SaysStep, end_line, greatest_number, pieces_of, IsFirstWrongOf, TellsItems, TellsNoMoreItems, TellsSection, AreBelow, AreInTurn, entry_limit, next_behind, spy_limit, SaysEntry, GoTogether, SaysPredicate, IsChronicleRefusal, IsFirstWrongInChronicle, IsNext, TellsChronicle, TellsEnd, TellsEntries, TellsOpening, TellsSpies, behind_lines, chronicle_heading, entries_line, lines_to_end, lines_to_spies, no_end, no_entry, no_opening, no_spy, no_step, opening_line, spies_line}
 use Rattle.ghc_records.specs.ChronicleText.{more}
-use Rattle.ghc_records.proofs.CutLemmas.{line_stands, one_number}
+use Rattle.ghc_records.proofs.CutLemmas.{behind_both, line_stands, one_number, one_text}
 use Rattle.ghc_records.proofs.SectionParts.{first_stands, section_rest, section_told}
 
 -- lines counted from a place on
@@ -35,8 +35,7 @@ module _ (text counted told : List ℕ) (count next : ℕ) (first : pieces_of te
 
   pub opening_rest : (steps : List Step) (rest : List ℕ) → length steps ≡ count → drop count (pieces_of told) ≡ pieces_of rest → behind_lines (length steps + 2) text ≡ pieces_of rest
   opening_rest steps rest all e =
-      let places : length steps + 2 ≡ 1 + (length steps + 1) = omega arith in
-      ap (λ n. drop n (pieces_of text)) places ∙ sym (drop-drop (length steps + 1) 1 (pieces_of text)) ∙ ap (drop (length steps + 1)) (sym one)
+      behind_both (pieces_of text) 1 (length steps + 1) (length steps + 2) (omega arith) ∙ ap (drop (length steps + 1)) (sym one)
       ∙ section_rest SaysStep (AreBelow next) (opening_line next) kept_limit (pieces_of counted) count told second few steps rest all e
 
   pub wrong_step : (fault : Fault) (steps : List Step) → fault ≡ Fault.History (length steps + 3) → TellsNoMoreItems SaysStep (AreBelow next) (pieces_of told) count steps → IsChronicleRefusal text fault
@@ -62,8 +61,7 @@ module _ (text counted : List ℕ) (o : History) (opens : TellsOpening text o) (
 
   entries_rest : (es : List Entry) (rest : List ℕ) → drop (length es + 1) (pieces_of counted) ≡ pieces_of rest → behind_lines (lines_to_spies o es) text ≡ pieces_of rest
   entries_rest es rest e =
-      let places : lines_to_spies o es ≡ (length o.steps + 2) + (length es + 1) = omega arith in
-      ap (λ n. drop n (pieces_of text)) places ∙ sym (drop-drop (length es + 1) (length o.steps + 2) (pieces_of text)) ∙ ap (drop (length es + 1)) behind ∙ e
+      behind_both (pieces_of text) (length o.steps + 2) (length es + 1) (lines_to_spies o es) (omega arith) ∙ ap (drop (length es + 1)) behind ∙ e
 
 -- ---- spies
 
@@ -80,8 +78,7 @@ module _ (text told : List ℕ) (o : History) (es : List Entry) (tells : TellsEn
 
   spies_rest : (ps : List Predicate) (rest : List ℕ) → drop (length ps + 1) (pieces_of told) ≡ pieces_of rest → behind_lines (lines_to_end o es ps) text ≡ pieces_of rest
   spies_rest ps rest e =
-      let places : lines_to_end o es ps ≡ lines_to_spies o es + (length ps + 1) = omega arith in
-      ap (λ n. drop n (pieces_of text)) places ∙ sym (drop-drop (length ps + 1) (lines_to_spies o es) (pieces_of text)) ∙ ap (drop (length ps + 1)) behind ∙ e
+      behind_both (pieces_of text) (lines_to_spies o es) (length ps + 1) (lines_to_end o es ps) (omega arith) ∙ ap (drop (length ps + 1)) behind ∙ e
 
 -- ---- what was read so far
 
@@ -96,44 +93,42 @@ pub record IsReadToEnd (text rest : List ℕ) (o : History) (es : List Entry) (p
   pub tells : TellsSpies text o es ps
   pub behind : behind_lines (lines_to_end o es ps) text ≡ pieces_of rest
 
-pub read_to_spies : (text counted told : List ℕ) (o : History) (first : ℕ) (es : List Entry) (n : ℕ) → TellsOpening text o → behind_lines (length o.steps + 2) text ≡ pieces_of counted → first ≡ o.next
+pub read_to_spies : {text : List ℕ} (counted told : List ℕ) {o : History} {first : ℕ} (es : List Entry) {n : ℕ} → TellsOpening text o → behind_lines (length o.steps + 2) text ≡ pieces_of counted → first ≡ o.next
     → TellsSection SaysEntry (AreInTurn first) entries_line entry_limit (pieces_of counted) es → n ≡ next_behind first es → drop (length es + 1) (pieces_of counted) ≡ pieces_of told → IsReadToSpies text told o es n
-read_to_spies text counted told o first es n opens behind is says number rest = record {
+read_to_spies {text} counted told {o} es opens behind is says number rest = record {
   tells = entries_told text counted o opens behind es (subst (λ m. TellsSection SaysEntry (AreInTurn m) entries_line entry_limit (pieces_of counted) es) is says);
   behind = entries_rest text counted o opens behind es told rest;
   turn = number ∙ ap (λ m. next_behind m es) is;
 }
 
-pub read_to_end : (text told ending : List ℕ) (o : History) (es : List Entry) (n : ℕ) (ps : List Predicate) → IsReadToSpies text told o es n
+pub read_to_end : {text told : List ℕ} (ending : List ℕ) {o : History} {es : List Entry} {n : ℕ} (ps : List Predicate) → IsReadToSpies text told o es n
     → TellsSection SaysPredicate GoTogether spies_line spy_limit (pieces_of told) ps → drop (length ps + 1) (pieces_of told) ≡ pieces_of ending → IsReadToEnd text ending o es ps
-read_to_end text told ending o es n ps read says rest = record {
+read_to_end {text} {told} ending {o} {es} ps read says rest = record {
   tells = spies_told text told o es read.tells read.behind ps says;
   behind = spies_rest text told o es read.tells read.behind ps ending rest;
 }
 
 -- ---- the end
 
-nothing : (rest : List ℕ) → pieces_of rest ≡ [] ∷ [] → rest ≡ []
-nothing rest e = sym (join_with_byte-slice_split 10 rest) ∙ ap (join_with_byte 10) e
-
-module _ (text ending : List ℕ) (o : History) (es : List Entry) (ps : List Predicate) (n : ℕ) (tells : TellsSpies text o es ps) (behind : behind_lines (lines_to_end o es ps) text ≡ pieces_of ending) (turn : n ≡ next_behind o.next es) where
+module _ {text told ending : List ℕ} {o : History} {es : List Entry} {ps : List Predicate} {n : ℕ}
+    (entries : IsReadToSpies text told o es n) (spies : IsReadToEnd text ending o es ps) where
   pub wrong_end : ¬ IsLineOf (pieces_of ending) 0 (end_line n) → IsFirstWrongInChronicle text (lines_to_end o es ps + 1)
   wrong_end none =
-      no_end {o = o} {es = es} {ps = ps} tells
-      (λ stands. none (line_from (pieces_of text) (lines_to_end o es ps) ending (end_line n) behind (subst (λ m. IsLine text (lines_to_end o es ps) (end_line m)) (sym turn) stands)))
+      no_end {o = o} {es = es} {ps = ps} spies.tells
+      (λ stands. none (line_from (pieces_of text) (lines_to_end o es ps) ending (end_line n) spies.behind (subst (λ m. IsLine text (lines_to_end o es ps) (end_line m)) (sym entries.turn) stands)))
 
   module _ (rest : List ℕ) (last : pieces_of ending ≡ end_line n ∷ pieces_of rest) where
     ends : TellsEnd text o es ps
-    ends = subst (λ m. IsLine text (lines_to_end o es ps) (end_line m)) turn (line_stands (pieces_of text) (lines_to_end o es ps) ending (end_line n) rest behind last)
+    ends = subst (λ m. IsLine text (lines_to_end o es ps) (end_line m)) entries.turn (line_stands (pieces_of text) (lines_to_end o es ps) ending (end_line n) rest spies.behind last)
 
     behind_all : behind_lines (lines_to_end o es ps + 1) text ≡ pieces_of rest
-    behind_all = sym (drop-drop 1 (lines_to_end o es ps) (pieces_of text)) ∙ ap (drop 1) (behind ∙ last)
+    behind_all = sym (drop-drop 1 (lines_to_end o es ps) (pieces_of text)) ∙ ap (drop 1) (spies.behind ∙ last)
 
     pub chronicle_told : length rest ≡ 0 → TellsChronicle text (record { opening = o; entries = es; spies = ps; next = n })
-    chronicle_told none = record { spies = tells; end = ends; next = turn; whole = behind_all ∙ ap pieces_of (nil_from_length rest none) }
+    chronicle_told none = record { spies = spies.tells; end = ends; next = entries.turn; whole = behind_all ∙ ap pieces_of (nil_from_length rest none) }
 
     pub wrong_rest : length rest ≢ 0 → IsFirstWrongInChronicle text (lines_to_end o es ps + 2)
-    wrong_rest some = more {o = o} {es = es} {ps = ps} tells ends (λ e. some (ap length (nothing rest (sym behind_all ∙ e))))
+    wrong_rest some = more {o = o} {es = es} {ps = ps} spies.tells ends (λ e. some (ap length (one_text rest [] (sym behind_all ∙ e))))
 
 -- ---- the line of the end
 

@@ -25,9 +25,7 @@ put_first old line rest new e = ap (λ l. l ++ rest) e ∙ append_assoc old (lin
 -- Where a text and the lines from a place on are all, so are the text with the line of the thing there and the lines behind it.
 pub line_put : {A : Type 0} (f : A → List ℕ) (xs : List A) (i : ℕ) (x : A) (before after whole : List ℕ) → drop i xs ≡ x ∷ drop (i + 1) xs → after ≡ before ++ (f x ++ codes "\n")
     → before ++ lines_text (map f (drop i xs)) ≡ whole → after ++ lines_text (map f (drop (i + 1) xs)) ≡ whole
-line_put f xs i x before after whole at wrote all =
-    let rest = lines_text (map f (drop (i + 1) xs)) in
-    put_first before (f x) rest after wrote ∙ ap (λ l. before ++ lines_text (map f l)) (sym at) ∙ all
+line_put f xs i x before after whole here wrote all = simp (wrote, append_assoc) (rw here at all)
 
 -- in two pieces
 pub ended : (before mid after text : List ℕ) → mid ≡ before ++ text → after ≡ mid ++ codes "\n" → after ≡ before ++ (text ++ codes "\n")
@@ -36,37 +34,15 @@ ended before mid after text wrote fed = fed ∙ ap (λ l. l ++ codes "\n") wrote
 -- a number that is put behind a space
 pub number_put : (ns : List ℕ) (i n : ℕ) (before after whole : List ℕ) → drop i ns ≡ n ∷ drop (i + 1) ns → after ≡ before ++ (codes " " ++ decimal n)
     → before ++ numbers_behind (drop i ns) ≡ whole → after ++ numbers_behind (drop (i + 1) ns) ≡ whole
-number_put ns i n before after whole at wrote all =
-    let rest = numbers_behind (drop (i + 1) ns) in
-    ap (λ l. l ++ rest) wrote ∙ append_assoc before (codes " " ++ decimal n) rest ∙ ap (λ l. before ++ numbers_behind l) (sym at) ∙ all
+number_put ns i n before after whole here wrote all = simp (wrote, append_assoc) (rw here at all)
 
 -- piece by piece, heading and opening are written
 pub opening_written : (o : History) (old a b c d e f : List ℕ) → a ≡ old ++ codes "ghc-history 2\nopening " → b ≡ a ++ decimal (length o.steps) → c ≡ b ++ codes " " → d ≡ c ++ decimal o.next → e ≡ d ++ codes "\n"
     → f ≡ e ++ lines_text (map step_text o.steps) → f ≡ old ++ lines_text (chronicle_heading ∷ opening_line o.next (length o.steps) ∷ map step_text o.steps)
-opening_written o old a b c d e f a_is b_is c_is d_is e_is f_is =
-    let first = codes "ghc-history 2\nopening " in
-    let count = decimal (length o.steps) in
-    let next = decimal o.next in
-    let lines = lines_text (map step_text o.steps) in
-    let whole : f ≡ (((((old ++ first) ++ count) ++ codes " ") ++ next) ++ codes "\n") ++ lines =
-    f_is ∙ ap (λ l. l ++ lines) (e_is ∙ ap (λ l. l ++ codes "\n") (d_is ∙ ap (λ l. l ++ next) (c_is ∙ ap (λ l. l ++ codes " ") (b_is ∙ ap (λ l. l ++ count) a_is)))) in
-    whole ∙ append_assoc ((((old ++ first) ++ count) ++ codes " ") ++ next) (codes "\n") lines ∙ append_assoc (((old ++ first) ++ count) ++ codes " ") next (codes "\n" ++ lines)
-    ∙ append_assoc ((old ++ first) ++ count) (codes " ") (next ++ (codes "\n" ++ lines)) ∙ append_assoc (old ++ first) count (codes " " ++ (next ++ (codes "\n" ++ lines)))
-    ∙ append_assoc old first (count ++ (codes " " ++ (next ++ (codes "\n" ++ lines))))
-    ∙ ap (λ l. old ++ (first ++ l)) (sym (append_assoc count (codes " " ++ next) (codes "\n" ++ lines)))
+opening_written o old a b c d e f a_is b_is c_is d_is e_is f_is = simp (f_is, e_is, d_is, c_is, b_is, a_is, append_assoc)
 
 -- part by part, a chronicle is written
 pub chronicle_written : (x : Chronicle) (old a b c d : List ℕ) → a ≡ old ++ lines_text (chronicle_heading ∷ opening_line x.opening.next (length x.opening.steps) ∷ map step_text x.opening.steps)
     → b ≡ a ++ lines_text (entries_line (length x.entries) ∷ map entry_text x.entries) → c ≡ b ++ lines_text (spies_line (length x.spies) ∷ map predicate_text x.spies)
     → d ≡ c ++ (end_line x.next ++ codes "\n") → d ≡ old ++ chronicle_text x
-chronicle_written x old a b c d a_is b_is c_is d_is =
-    let first = chronicle_heading ∷ opening_line x.opening.next (length x.opening.steps) ∷ map step_text x.opening.steps in
-    let second = entries_line (length x.entries) ∷ map entry_text x.entries in
-    let third = spies_line (length x.spies) ∷ map predicate_text x.spies in
-    let last = end_line x.next ∷ [] in
-    let fourth : end_line x.next ++ codes "\n" ≡ lines_text last = refl in
-    let whole : d ≡ ((old ++ lines_text first) ++ lines_text second) ++ (lines_text third ++ lines_text last) =
-    d_is ∙ ap (λ l. l ++ lines_text last) (c_is ∙ ap (λ l. l ++ lines_text third) (b_is ∙ ap (λ l. l ++ lines_text second) a_is)) ∙ append_assoc ((old ++ lines_text first) ++ lines_text second) (lines_text third) (lines_text last) in
-    whole ∙ ap (λ l. ((old ++ lines_text first) ++ lines_text second) ++ l) (sym (lines_after third last))
-    ∙ append_assoc (old ++ lines_text first) (lines_text second) (lines_text (third ++ last)) ∙ ap (λ l. (old ++ lines_text first) ++ l) (sym (lines_after second (third ++ last)))
-    ∙ append_assoc old (lines_text first) (lines_text (second ++ (third ++ last))) ∙ ap (λ l. old ++ l) (sym (lines_after first (second ++ (third ++ last))))
+chronicle_written x old a b c d a_is b_is c_is d_is = simp (d_is, c_is, b_is, a_is, append_assoc, lines_after)

@@ -1,19 +1,8 @@
 -- A text of a chronicle that is cut off is refused with the line behind its last line feed.
-use Rattle.ghc_records.proofs.Words.{◌≡◌, ◌≢◌, ℕ, zero, suc, ◌+◌, ◌<◌, ◌≤◌, inl, inr, List, [], ◌∷◌, ◌++◌, drop, take, length, sym, ap, ◌∙◌, subst, arith, length-drop, drop-drop, kept_limit, Step, IsLine, IsLineOf, SaysStep, end_line, pieces_of, line_feeds, TellsItems, TellsNoMoreItems, Chronicle, AreBelow, AreInTurn, entry_limit, next_after, next_behind, spy_limit, SaysEntry, GoTogether, SaysPredicate, IsFirstWrongInChronicle, TellsChronicle, TellsEntries, TellsOpening, TellsSpies, chronicle_heading, entries_line, lines_to_end, lines_to_spies, no_end, no_entry, no_heading, no_opening, no_spy, no_step, opening_line, spies_line}
-use Rattle.ghc_records.proofs.CutSections.{HoldsInFront, cut_behind, cut_section, first_length, kept_section, none_behind}
-use Rattle.ghc_records.proofs.ExactTexts.{in_front}
-use Rattle.ghc_records.proofs.CutTexts.{IsCut, cut_at, distinct_taken, feeds_of, less_or, line_kept, no_line_left, nothing_behind}
-
-below_in_front : (next : ℕ) → HoldsInFront (AreBelow next)
-below_in_front next n steps fit = (distinct_taken n steps fit.0, λ s i. fit.1 s (in_front n steps s i))
-
-turns_in_front : (next : ℕ) → HoldsInFront (AreInTurn next)
-turns_in_front next zero es fit = tt
-turns_in_front next (suc n) [] fit = tt
-turns_in_front next (suc n) (e ∷ es) fit = (fit.0, turns_in_front (next_after next e) n es fit.1)
-
-spies_in_front : HoldsInFront GoTogether
-spies_in_front n ps fit = tt
+use Rattle.ghc_records.proofs.Words.{◌≡◌, ◌≢◌, ℕ, ◌+◌, ◌<◌, ◌≤◌, cases_lt, inl, inr, List, [], ◌∷◌, ◌++◌, drop, take, length, sym, ap, ◌∙◌, subst, arith, length-drop, drop-drop, kept_limit, Step, IsLine, IsLineOf, SaysStep, end_line, pieces_of, line_feeds, TellsItems, TellsNoMoreItems, Chronicle, AreBelow, AreInTurn, entry_limit, next_behind, spy_limit, SaysEntry, GoTogether, SaysPredicate, IsFirstWrongInChronicle, TellsChronicle, TellsEntries, TellsOpening, TellsSpies, chronicle_heading, entries_line, lines_to_end, lines_to_spies, no_end, no_entry, no_heading, no_opening, no_spy, no_step, opening_line, spies_line}
+use Rattle.ghc_records.proofs.CutSections.{cut_behind, cut_section, first_length, kept_section, none_behind}
+use Rattle.ghc_records.proofs.OneChronicle.{fewer_entries, fewer_steps}
+use Rattle.ghc_records.proofs.CutTexts.{IsCut, cut_at, feeds_of, line_kept, no_line_left, nothing_behind}
 
 module _ (front back : List ℕ) (c : Chronicle) (some : back ≢ []) (told : TellsChronicle (front ++ back) c) (lines : List (List ℕ)) (cut : IsCut front back lines) where
   abbrev steps : List Step
@@ -37,7 +26,7 @@ module _ (front back : List ℕ) (c : Chronicle) (some : back ≢ []) (told : Te
 
   -- not all lines stand in front of the cut
   not_all : length lines < to_end + 1
-  not_all = elim (less_or (length lines) (to_end + 1)) [
+  not_all = elim (cases_lt (length lines) (to_end + 1)) [
     | inl low ↦ low
     | inr far ↦ absurd (some (nothing_behind front back (to_end + 1) lines cut far told.whole))
   ]
@@ -66,8 +55,8 @@ module _ (front back : List ℕ) (c : Chronicle) (some : back ≢ []) (told : Te
 
     wrong_step : IsFirstWrongInChronicle front (length lines + 1)
     wrong_step =
-        let none = none_behind SaysStep (AreBelow c.opening.next) (below_in_front c.opening.next) x cut.last cut.others rest steps items_told (omega (arith, rest_length, low)) in
-        let size = first_length SaysStep (AreBelow c.opening.next) (below_in_front c.opening.next) x cut.last cut.others rest steps items_told (omega (arith, rest_length, low)) in
+        let none = none_behind SaysStep (AreBelow c.opening.next) (fewer_steps c.opening.next) x cut.last cut.others rest steps items_told (omega (arith, rest_length, low)) in
+        let size = first_length SaysStep (AreBelow c.opening.next) (fewer_steps c.opening.next) x cut.last cut.others rest steps items_told (omega (arith, rest_length, low)) in
         let there = sym (ap (drop 2) cut.front_pieces ∙ cut_behind 2 lines cut.last [] far) in
         let place : length (take (length rest) steps) + 3 ≡ length lines + 1 = omega (arith, size, rest_length) in
         subst (IsFirstWrongInChronicle front) place
@@ -79,14 +68,14 @@ module _ (front back : List ℕ) (c : Chronicle) (some : back ≢ []) (told : Te
     front_opens : TellsOpening front c.opening
     front_opens = record {
       begins = heading_there (omega (arith, far));
-      steps = kept_section SaysStep (AreBelow c.opening.next) (below_in_front c.opening.next) x cut.last cut.others (opening_line c.opening.next) kept_limit steps lines 1 (pieces_of front) (pieces_of (front ++ back))
+      steps = kept_section SaysStep (AreBelow c.opening.next) (fewer_steps c.opening.next) x cut.last cut.others (opening_line c.opening.next) kept_limit steps lines 1 (pieces_of front) (pieces_of (front ++ back))
           cut.front_pieces cut.text_pieces opens.steps (omega (arith, far)) (omega (arith, far));
       next = opens.next;
     }
 
     wrong_entry : length lines < to_spies → IsFirstWrongInChronicle front (length lines + 1)
     wrong_entry low =
-        let k = cut_section SaysEntry (AreInTurn c.opening.next) (turns_in_front c.opening.next) x cut.last cut.others entries_line entry_limit c.entries lines (length steps + 2) (pieces_of front) (pieces_of (front ++ back))
+        let k = cut_section SaysEntry (AreInTurn c.opening.next) (fewer_entries c.opening.next) x cut.last cut.others entries_line entry_limit c.entries lines (length steps + 2) (pieces_of front) (pieces_of (front ++ back))
         cut.front_pieces cut.text_pieces told.spies.entries.entries far (omega (arith, low)) in
         let place : length steps + 3 + k.0 ≡ length lines + 1 = omega (arith, k.1) in
         subst (IsFirstWrongInChronicle front) place (no_entry {o = c.opening} {i = k.0} front_opens k.2)
@@ -95,13 +84,13 @@ module _ (front back : List ℕ) (c : Chronicle) (some : back ≢ []) (told : Te
     front_enters : TellsEntries front c.opening c.entries
     front_enters = record {
       opening = front_opens (omega (arith, far));
-      entries = kept_section SaysEntry (AreInTurn c.opening.next) (turns_in_front c.opening.next) x cut.last cut.others entries_line entry_limit c.entries lines (length steps + 2) (pieces_of front) (pieces_of (front ++ back))
+      entries = kept_section SaysEntry (AreInTurn c.opening.next) (fewer_entries c.opening.next) x cut.last cut.others entries_line entry_limit c.entries lines (length steps + 2) (pieces_of front) (pieces_of (front ++ back))
           cut.front_pieces cut.text_pieces told.spies.entries.entries (omega (arith, far)) (omega (arith, far));
     }
 
     wrong_spy : length lines < to_end → IsFirstWrongInChronicle front (length lines + 1)
     wrong_spy low =
-        let k = cut_section SaysPredicate GoTogether spies_in_front x cut.last cut.others spies_line spy_limit c.spies lines to_spies (pieces_of front) (pieces_of (front ++ back))
+        let k = cut_section SaysPredicate GoTogether (λ n ps fit. tt) x cut.last cut.others spies_line spy_limit c.spies lines to_spies (pieces_of front) (pieces_of (front ++ back))
         cut.front_pieces cut.text_pieces told.spies.spies far (omega (arith, low)) in
         let place : to_spies + 1 + k.0 ≡ length lines + 1 = omega (arith, k.1) in
         subst (IsFirstWrongInChronicle front) place (no_spy {o = c.opening} {es = c.entries} {i = k.0} front_enters k.2)
@@ -110,7 +99,7 @@ module _ (front back : List ℕ) (c : Chronicle) (some : back ≢ []) (told : Te
     wrong_end all =
         let spies : TellsSpies front c.opening c.entries c.spies = record {
           entries = front_enters;
-          spies = kept_section SaysPredicate GoTogether spies_in_front x cut.last cut.others spies_line spy_limit c.spies lines to_spies (pieces_of front) (pieces_of (front ++ back))
+          spies = kept_section SaysPredicate GoTogether (λ n ps fit. tt) x cut.last cut.others spies_line spy_limit c.spies lines to_spies (pieces_of front) (pieces_of (front ++ back))
               cut.front_pieces cut.text_pieces told.spies.spies far (omega (arith, all));
         } in
         let place : to_end + 1 ≡ length lines + 1 = omega (arith, all, not_all) in
@@ -119,20 +108,20 @@ module _ (front back : List ℕ) (c : Chronicle) (some : back ≢ []) (told : Te
 
   -- the line behind those in front of the cut is wrong
   refused_behind : 2 ≤ length lines → IsFirstWrongInChronicle front (length lines + 1)
-  refused_behind far = elim (less_or (length lines) (length steps + 2)) [
+  refused_behind far = elim (cases_lt (length lines) (length steps + 2)) [
     | inl low ↦ wrong_step far low
-    | inr opened ↦ elim (less_or (length lines) to_spies) [
+    | inr opened ↦ elim (cases_lt (length lines) to_spies) [
       | inl low ↦ wrong_entry opened low
-      | inr entered ↦ elim (less_or (length lines) to_end) [ inl low ↦ wrong_spy entered low | inr all ↦ wrong_end entered all ]
+      | inr entered ↦ elim (cases_lt (length lines) to_end) [ inl low ↦ wrong_spy entered low | inr all ↦ wrong_end entered all ]
     ]
   ]
 
   refused_at : IsFirstWrongInChronicle front (length lines + 1)
-  refused_at = elim (less_or (length lines) 1) [
+  refused_at = elim (cases_lt (length lines) 1) [
     | inl none ↦
         let place : 1 ≡ length lines + 1 = omega (arith, none) in
         subst (IsFirstWrongInChronicle front) place (no_heading (λ is. none_stands 0 chronicle_heading (omega (arith, none)) is))
-    | inr one ↦ elim (less_or (length lines) 2) [
+    | inr one ↦ elim (cases_lt (length lines) 2) [
       | inl low ↦
           let place : 2 ≡ length lines + 1 = omega (arith, one, low) in
           subst (IsFirstWrongInChronicle front) place (no_opening (heading_there one) (λ next count fits few is. none_stands 1 (opening_line next count) (omega (arith, low)) is))

@@ -1,5 +1,5 @@
 -- Lemmas on bytes that are cut at a mark, and on the numbers that they say.
-use Rattle.ghc_records.proofs.Words.{◌≡◌, ◌≢◌, ℕ, zero, suc, ◌+◌, ◌*◌, ◌<◌, ◌≤◌, ◌^◌, ◌&&◌, Bool, true, false, eqb, All, List, [], ◌∷◌, ◌++◌, drop, get_or, length, refl, sym, ap, ◌∙◌, arith, decimal, drop_of_length-le, eq-eqb, ne_eqb, append_cancel_left, drop-drop, slice_split_at, slice_split_none, length-slice_split, decimal_is_IsNumeral, decimal-digits_value, decimal_digit, decimal_injective, first_decimal, decimal_nonempty, IsDigitsTest, numerals_by_value, digit_from_value, drop-cons, digit_value, is_ascii_digit, list_all, slice_split, AllDigits, digits_value, digits_value_after, IsLineOf, greatest_number, pieces_of}
+use Rattle.ghc_records.proofs.Words.{◌≡◌, ◌≢◌, ℕ, zero, suc, ◌+◌, ◌*◌, ◌<◌, ◌≤◌, ◌^◌, true, false, eqb, All, List, [], ◌∷◌, ◌++◌, drop, get_or, length, refl, sym, ap, ◌∙◌, arith, decimal, drop_of_length-le, eq-eqb, ne_eqb, append_cancel_left, drop-drop, slice_split_at, slice_split_none, length-slice_split, join_with_byte, join_with_byte-slice_split, decimal_is_IsNumeral, decimal-digits_value, decimal_digit, decimal_injective, first_decimal, decimal_nonempty, digits_told, numerals_by_value, digit_from_value, drop-cons, digit_value, is_ascii_digit, list_all, slice_split, AllDigits, digits_value, digits_value_after, IsLineOf, greatest_number, pieces_of}
 use Rattle.std.proofs.lemmas.List.{length-drop}
 
 -- the test that finds a byte says no of every other
@@ -34,6 +34,10 @@ no_cut mark a b bytes p h e =
     let none : slice_split (λ b. eqb b mark) b ≡ [] = cc in
     some_piece mark b none
 
+-- pieces make one text
+pub one_text : (a b : List ℕ) → pieces_of a ≡ pieces_of b → a ≡ b
+one_text a b e = sym (join_with_byte-slice_split 10 a) ∙ ap (join_with_byte 10) e ∙ join_with_byte-slice_split 10 b
+
 -- the line in front of a line feed
 pub first_line : (text a b : List ℕ) → text ≡ a ++ 10 ∷ b → All (λ b. b ≢ 10) a → pieces_of text ≡ a ∷ pieces_of b
 first_line text a b e h = ap pieces_of e ∙ first_piece 10 a b h
@@ -55,17 +59,6 @@ number_plain mark n other h = digits_plain mark other (decimal n) (decimal_is_Is
 pub one_number : (m n : ℕ) → m ≤ greatest_number → n ≤ greatest_number → decimal m ≡ decimal n → m ≡ n
 one_number m n p q e = decimal_injective m n (fits m p) (fits n q) e
 
-both : (a b : Bool) → (a && b) ≡ true → (a ≡ true) × (b ≡ true)
-both true b e = (refl, e)
-both false b e = cc
-
-digits_told : IsDigitsTest (λ ds. list_all is_ascii_digit ds ≡ true)
-digits_told = record {
-  empty = refl;
-  parts = λ c cs e. let k = both (is_ascii_digit c) (list_all is_ascii_digit cs) e in (grind (arith, k.0), k.1);
-  more = λ c cs k e. grind (arith, k, e);
-}
-
 -- digits without a leading zero are the number of their value
 pub digits_say : (word : List ℕ) → list_all is_ascii_digit word ≡ true → 0 < length word → (get_or word 0 0 ≡ 48 → length word ≡ 1) → digits_value 10 word ≤ greatest_number → decimal (digits_value 10 word) ≡ word
 digits_say word digits some lead small = decimal-digits_value (numerals_by_value _ digits_told) word digits some lead (fits _ small)
@@ -78,7 +71,7 @@ pub said_value : (n : ℕ) → n ≤ greatest_number → digits_value 10 (decima
 said_value n h = (decimal_is_IsNumeral n (fits n h)).1
 
 -- more digits make no smaller number
-pub value_after_le : (n : ℕ) (bytes : List ℕ) → n ≤ digits_value_after 10 n bytes
+value_after_le : (n : ℕ) (bytes : List ℕ) → n ≤ digits_value_after 10 n bytes
 value_after_le n [] = omega arith
 value_after_le n (byte ∷ bytes) = omega (arith, value_after_le (n * 10 + digit_value byte) bytes)
 
@@ -112,6 +105,10 @@ line_is pieces i rest line behind other e f (next, more, g) = let same : other �
 -- where no line feed is left, there is no line
 pub no_line : (pieces : List (List ℕ)) (i : ℕ) (rest other : List ℕ) → drop i pieces ≡ pieces_of rest → pieces_of rest ≡ rest ∷ [] → ¬ IsLineOf pieces i other
 no_line pieces i rest other e f (next, more, g) = let same : other ∷ next ∷ more ≡ rest ∷ [] = sym g ∙ e ∙ f in cc
+
+-- so many lines, and so many more
+pub behind_both : (pieces : List (List ℕ)) (n m k : ℕ) → k ≡ n + m → drop k pieces ≡ drop m (drop n pieces)
+behind_both pieces n m k e = ap (λ i. drop i pieces) e ∙ sym (drop-drop m n pieces)
 
 -- one line further
 pub drop_next : (pieces : List (List ℕ)) (i : ℕ) (line : List ℕ) (behind : List (List ℕ)) → drop i pieces ≡ line ∷ behind → drop (i + 1) pieces ≡ behind

@@ -1,9 +1,9 @@
 -- A text that is cut off is refused with the line behind its last line feed.
-use Rattle.ghc_records.proofs.Words.{◌≡◌, ◌≢◌, ℕ, zero, suc, ◌+◌, ◌<◌, ◌≤◌, ◌⊎◌, inl, inr, true, false, nat_eq, List, [], ◌∷◌, ◌++◌, drop, take, get_or, length, map, refl, sym, ap, ◌∙◌, subst, arith, Some, slice_get, length-append, length-drop, join_with_byte, onto_first, append_cancel_left, length-take-le, join_with_byte-slice_split, length-slice_split, slice_split-cons_no, slice_split-cons_yes, In, push_last, AreDistinct, Step, History, IsFirstWrongLine, IsLine, IsLineOf, TellsCount, TellsHistory, TellsNext, TellsSteps, behind_count, count_line, end_line, heading, pieces_of, line_feeds}
+use Rattle.ghc_records.proofs.Words.{◌≡◌, ◌≢◌, ℕ, zero, suc, ◌+◌, ◌<◌, ◌≤◌, cases_lt, inl, inr, true, false, nat_eq, List, [], ◌∷◌, ◌++◌, drop, take, get_or, length, map, refl, sym, ap, ◌∙◌, subst, arith, Some, slice_get, length-append, length-drop, onto_first, append_cancel_left, length-take-le, length-slice_split, slice_split-cons_no, slice_split-cons_yes, map-append, take-append-drop, In, in_left, push_last, AreDistinct, Step, History, IsFirstWrongLine, IsLine, IsLineOf, TellsCount, TellsHistory, TellsNext, TellsSteps, behind_count, count_line, end_line, heading, pieces_of, line_feeds}
 use Rattle.std.proofs.Common.{append-nil}
 use Rattle.ghc_records.specs.HistoryText.{no_count, no_end, no_heading, no_step}
-use Rattle.ghc_records.proofs.CutLemmas.{some_first, some_piece}
-use Rattle.ghc_records.proofs.TellingSteps.{number_of}
+use Rattle.ghc_records.proofs.CutLemmas.{one_text, some_first, some_piece}
+use Rattle.ghc_records.proofs.TellingSteps.{AreApart, number_of}
 
 -- The pieces of a front are the lines of the text in front of the cut, and what the cut leaves of the next one.
 pub record IsCut (front back : List ℕ) (lines : List (List ℕ)) : Type 0 where
@@ -74,16 +74,21 @@ taken_at (suc n) [] i x e = cc
 taken_at (suc n) (y ∷ xs) zero x e = (omega arith, e)
 taken_at (suc n) (y ∷ xs) (suc i) x e = let (low, at) = taken_at n xs i x e in (omega (arith, low), at)
 
-in_taken : (n : ℕ) (steps : List Step) (k : ℕ) → In k (map number_of (take n steps)) → In k (map number_of steps)
-in_taken zero steps k i = absurd i
-in_taken (suc n) [] k i = absurd i
-in_taken (suc n) (s ∷ steps) k (inl e) = inl e
-in_taken (suc n) (s ∷ steps) k (inr i) = inr (in_taken n steps k i)
+in_front : {X : Type 0} (n : ℕ) (xs : List X) (x : X) → In x (take n xs) → In x xs
+in_front n xs x i = subst (In x) (take-append-drop n xs) (in_left (take n xs) (drop n xs) x i)
 
-pub distinct_taken : (n : ℕ) (steps : List Step) → AreDistinct (map number_of steps) → AreDistinct (map number_of (take n steps))
+in_taken : (n : ℕ) (steps : List Step) (k : ℕ) → In k (map number_of (take n steps)) → In k (map number_of steps)
+in_taken n steps k i =
+    subst (In k) (sym (map-append number_of (take n steps) (drop n steps)) ∙ ap (map number_of) (take-append-drop n steps))
+    (in_left (map number_of (take n steps)) (map number_of (drop n steps)) k i)
+
+distinct_taken : (n : ℕ) (steps : List Step) → AreDistinct (map number_of steps) → AreDistinct (map number_of (take n steps))
 distinct_taken zero steps d = tt
 distinct_taken (suc n) [] d = tt
 distinct_taken (suc n) (s ∷ steps) d = ((λ i. d.0 (in_taken n steps s.number i)), distinct_taken n steps d.1)
+
+pub fewer_apart : (P : Step → Type 0) (n : ℕ) (steps : List Step) → AreApart P steps → AreApart P (take n steps)
+fewer_apart P n steps fit = (distinct_taken n steps fit.0, λ s i. fit.1 s (in_front n steps s i))
 
 -- the lines in front of the cut tell the first steps
 module _ (lines : List (List ℕ)) (x last : List ℕ) (others : List (List ℕ)) (count : ℕ) (steps : List Step) (told : TellsSteps (lines ++ x ∷ others) count steps) (all : length steps ≡ count) (low : length lines ≤ count) where
@@ -104,15 +109,6 @@ module _ (lines : List (List ℕ)) (x last : List ℕ) (others : List (List ℕ)
   none_more s more =
       let (line, stands, says) = more.each (length (take (length lines) steps)) s (push_last (take (length lines) steps) s) in
       no_line_left lines last (length (take (length lines) steps)) line (omega (arith, first_length)) stands
-
-pub less_or : (m n : ℕ) → (m < n) ⊎ (n ≤ m)
-less_or m zero = inr (omega arith)
-less_or zero (suc n) = inl (omega arith)
-less_or (suc m) (suc n) = elim (less_or m n) [ inl low ↦ inl (omega (arith, low)) | inr far ↦ inr (omega (arith, far)) ]
-
--- pieces make one text
-one_text : (a b : List ℕ) → pieces_of a ≡ pieces_of b → a ≡ b
-one_text a b e = sym (join_with_byte-slice_split 10 a) ∙ ap (join_with_byte 10) e ∙ join_with_byte-slice_split 10 b
 
 -- a cut behind all lines leaves nothing
 all_lines : (lines : List (List ℕ)) (x : List ℕ) (others : List (List ℕ)) (n : ℕ) → drop n (lines ++ x ∷ others) ≡ [] ∷ [] → n ≤ length lines → (x ≡ []) × (others ≡ []) × (n ≡ length lines)
@@ -142,7 +138,7 @@ feeds_of front back lines c = omega (arith, length-slice_split (λ byte. nat_eq 
 module _ (front back : List ℕ) (h : History) (some : back ≢ []) (told : TellsHistory (front ++ back) h) where
   -- not all lines stand in front of the cut
   few : (lines : List (List ℕ)) → IsCut front back lines → length lines < length h.steps + 3
-  few lines c = elim (less_or (length lines) (length h.steps + 3)) [
+  few lines c = elim (cases_lt (length lines) (length h.steps + 3)) [
     | inl low ↦ low
     | inr far ↦ absurd (some (nothing_behind front back (length h.steps + 3) lines c far told.whole))
   ]
@@ -166,7 +162,7 @@ module _ (front back : List ℕ) (h : History) (some : back ≢ []) (told : Tell
       let behind : lines ++ c.last ∷ [] ≡ behind_count front = sym (ap (drop 2) c.front_pieces) in
       let first = subst (λ p. TellsSteps p count (take (length lines) h.steps)) behind (first_told lines (c.last ++ c.more) c.last c.others count h.steps steps refl low) in
       let size = first_length lines (c.last ++ c.more) c.last c.others count h.steps steps refl low in
-      elim (less_or (length lines) count) [
+      elim (cases_lt (length lines) count) [
         | inl less ↦
             let none = subst (λ p. (s : Step) → ¬ TellsSteps p count (take (length lines) h.steps ++ s ∷ [])) behind (none_more lines (c.last ++ c.more) c.last c.others count h.steps steps refl low) in
             let place : length (take (length lines) h.steps) + 3 ≡ length (l ∷ m ∷ lines) + 1 = omega (arith, size) in

@@ -1,5 +1,5 @@
 -- The variables that an effect brings in, and the state after a step.
-use Rattle.ghc_records.proofs.Words.{◌≡◌, ◌==◌, ℕ, zero, suc, ◌+◌, ◌<◌, ◌≤◌, ◌⊎◌, Bool, true, false, cond, List, [], ◌∷◌, map, filter, refl, sym, ap, ◌∙◌, subst, inl, inr, arith, Some, None, Option, option_or, VarName, GoalName, Tree, Goal, In, Reaches, here, through, IsAcyclic, name_cmp, StoreValue, value_at, eq-eqb, nat_decided, Program, variables_of_goal, is_stream, IsProgram, by_answers, made, Act, Asked as asked, Effect, HasEffect, ComesFrom, Asks, made_from, variables_asked, effect_acyclic, Inside, variables_come, Goals, State, Record, without_goal, after, IsThere, Fires, HasStepEffect}
+use Rattle.ghc_records.proofs.Words.{◌≡◌, ◌==◌, ℕ, zero, suc, ◌+◌, ◌<◌, ◌≤◌, ◌⊎◌, Bool, true, false, cond, List, [], ◌∷◌, map, filter, refl, sym, ap, ◌∙◌, subst, inl, inr, arith, Some, None, Option, option_or, VarName, GoalName, Tree, Goal, In, Reaches, here, through, IsAcyclic, name_cmp, StoreValue, value_at, eq-eqb, false_from_ne_true, nat_decided, Program, variables_of_goal, is_stream, IsProgram, by_answers, made, Act, Asked as asked, Effect, HasEffect, ComesFrom, Asks, made_from, variables_asked, effect_acyclic, Inside, variables_come, Goals, State, Record, without_goal, after, IsThere, Fires, HasStepEffect}
 use Rattle.std.specs.FinMap as finite
 use Rattle.ghc_flat.specs.Variables.{variables_of_goals, firsts}
 use Rattle.ghc_fire.proofs.Steps.{nothing}
@@ -22,13 +22,20 @@ mapped f [] y i = absurd i
 mapped f (x ∷ xs) y (inl e) = (x, inl refl, e)
 mapped f (x ∷ xs) y (inr i) = let p = mapped f xs y i in (p.0, inr p.1, p.2)
 
+-- a filter has what passes the test
+filter_has : {X : Type 0} (test : X → Bool) (xs : List X) (x : X) → In x xs → test x ≡ true → In x (filter test xs)
+filter_has test [] x i t = absurd i
+filter_has test (y ∷ xs) x i t =
+    elim (test y) as (λ b. test y ≡ b → In x (cond b (y ∷ filter test xs) (filter test xs))) [
+      | true ↦ λ p. elim i [ inl e ↦ inl e | inr j ↦ inr (filter_has test xs x j t) ]
+      | false ↦ λ p. elim i [
+        | inl e ↦ let clash : false ≡ true = sym p ∙ ap test (sym e) ∙ t in cc
+        | inr j ↦ filter_has test xs x j t
+      ]
+    ] refl
+
 pub not_stream : (gs : List Goal) (g : Goal) → filter is_stream gs ≡ [] → In g gs → is_stream g ≡ false
-not_stream [] g e i = absurd i
-not_stream (h ∷ gs) g e i =
-    elim (is_stream h) as (λ b. is_stream h ≡ b → cond b (h ∷ filter is_stream gs) (filter is_stream gs) ≡ [] → is_stream g ≡ false) [
-      | true ↦ λ p q. cc
-      | false ↦ λ p q. elim i [ inl same ↦ ap is_stream same ∙ p | inr j ↦ not_stream gs g q j ]
-    ] refl e
+not_stream gs g e i = false_from_ne_true (is_stream g) (λ t. subst (In g) e (filter_has is_stream gs g i t))
 
 -- D holds of what a step brings in, where it holds of the variables of the goal and of the store, and of those that the step makes
 brings_in : (D : VarName → Type 0) (s : StoreValue) → ((x : VarName) (t : Tree) → value_at s x ≡ Some t → Inside D t) → (P : Program) (g : Goal) (a : Act) (n : ℕ) (e : Effect) → IsProgram P → IsAcyclic (value_at s)
@@ -44,18 +51,6 @@ brings_in D s shut P g a n e accepted acyclic h new d =
       values = λ x t p y o. has y ((came.bound x t p).1 y o);
       goals = λ b y i j. has y (came.made y (of_goals e.makes b y i j));
     }
-
--- a filter has what passes the test
-filter_has : {X : Type 0} (test : X → Bool) (xs : List X) (x : X) → In x xs → test x ≡ true → In x (filter test xs)
-filter_has test [] x i t = absurd i
-filter_has test (y ∷ xs) x i t =
-    elim (test y) as (λ b. test y ≡ b → In x (cond b (y ∷ filter test xs) (filter test xs))) [
-      | true ↦ λ p. elim i [ inl e ↦ inl e | inr j ↦ inr (filter_has test xs x j t) ]
-      | false ↦ λ p. elim i [
-        | inl e ↦ let clash : false ≡ true = sym p ∙ ap test (sym e) ∙ t in cc
-        | inr j ↦ filter_has test xs x j t
-      ]
-    ] refl
 
 made_bounds : (n i k : ℕ) (x : VarName) → In x (made_from n i k) → (x.step ≡ n) × (i ≤ x.place) × (x.place < i + k)
 made_bounds n i zero x j = absurd j
@@ -104,7 +99,7 @@ either_bound (Some u) b t e = inl e
 
 module _ (P : Program) (s : State) (r : Record) (fires : Fires P s r) where
   -- a goal that is there fires, or the step consumes none and asks for goals
-  pub firing : ((b : Goal) × ((D : VarName → Type 0) → HasOnly D s → (y : VarName) → In y (variables_of_goal b) → D y) × HasEffect P b r.act r.number (value_at s.store) r.effect)
+  pub firing : ((g : GoalName) × (b : Goal) × (r.goal ≡ Some g) × (finite.get s.goals g ≡ Some b) × HasEffect P b r.act r.number (value_at s.store) r.effect)
       ⊎ ((gs : List Goal) × (r.act ≡ asked gs) × Asks P gs r.number r.effect × (r.goal ≡ None))
   firing = by_goal r.goal r.consumed refl fires.0 fires.1
     where
@@ -113,17 +108,17 @@ module _ (P : Program) (s : State) (r : Record) (fires : Fires P s r) where
       by_act a e f = absurd f
 
       by_goal : (o : Option GoalName) (c : Option Goal) → r.goal ≡ o → IsThere s.goals o c → HasStepEffect P c r.act r.number (value_at s.store) r.effect
-          → ((b : Goal) × ((D : VarName → Type 0) → HasOnly D s → (y : VarName) → In y (variables_of_goal b) → D y) × HasEffect P b r.act r.number (value_at s.store) r.effect)
+          → ((g : GoalName) × (b : Goal) × (r.goal ≡ Some g) × (finite.get s.goals g ≡ Some b) × HasEffect P b r.act r.number (value_at s.store) r.effect)
           ⊎ ((gs : List Goal) × (r.act ≡ asked gs) × Asks P gs r.number r.effect × (r.goal ≡ None))
       by_goal None None q e f = let a = by_act r.act refl f in inr (a.0, a.1, a.2, q)
       by_goal None (Some b) q e f = cc
       by_goal (Some g) None q e f = let clash : None ≡ Some e.0 = e.1 in cc
-      by_goal (Some g) (Some b) q e f = inl (b, (λ D h y i. h.goals g b y (let same : b ≡ e.0 = cc in e.2 ∙ ap Some (sym same)) i), f)
+      by_goal (Some g) (Some b) q e f = inl (g, b, q, (let same : b ≡ e.0 = cc in e.2 ∙ ap Some (sym same)), f)
 
   pub after_has : (D : VarName → Type 0) → IsProgram P → IsAcyclic (value_at s.store) → HasOnly D s → ((y : VarName) → Made r.number r.effect.fresh y → D y) → ((y : VarName) → Names r y → D y) → HasOnly D (after s r)
   after_has D accepted acyclic h new named =
       let brings : BringsIn D r.effect = elim firing [
-        | inl f ↦ brings_in D s.store h.values P f.0 r.act r.number r.effect accepted acyclic (f.1 D h) new f.2
+        | inl f ↦ brings_in D s.store h.values P f.1 r.act r.number r.effect accepted acyclic (λ y i. h.goals f.0 f.1 y f.3 i) new f.4
         | inr a ↦ asked_brings P D r a.0 a.1 a.2 new named
       ] in
       let bound : (x : VarName) (t : Tree) → value_at (after s r).store x ≡ Some t → (value_at r.effect.binds x ≡ Some t) ⊎ (value_at s.store x ≡ Some t) =
@@ -144,9 +139,9 @@ module _ (P : Program) (s : State) (r : Record) (fires : Fires P s r) where
   pub after_acyclic : (D : VarName → Type 0) → IsAcyclic (value_at s.store) → HasOnly D s → ((i : ℕ) → ¬ D (made r.number i)) → IsAcyclic (value_at (after s r).store)
   after_acyclic D acyclic h new =
       subst IsAcyclic (by_answers (λ x. sym (bound_at r.effect.binds s.store x))) (elim firing [
-        | inl f ↦ effect_acyclic P f.0 r.act r.number (value_at s.store) r.effect acyclic (λ i. (
+        | inl f ↦ effect_acyclic P f.1 r.act r.number (value_at s.store) r.effect acyclic (λ i. (
           elim (value_at s.store (made r.number i)) as (λ v. value_at s.store (made r.number i) ≡ v → v ≡ None) [ None ↦ λ p. refl | Some t ↦ λ p. absurd (new i (h.keys (made r.number i) t p)) ] refl,
-          λ k tail same q. new i (reached D h q (λ y o. f.1 D h y (subst (λ b. In y (variables_of_goal b)) (sym same) (inl o)))),
-        )) f.2
+          λ k tail same q. new i (reached D h q (λ y o. h.goals f.0 f.1 y f.3 (subst (λ b. In y (variables_of_goal b)) (sym same) (inl o)))),
+        )) f.4
         | inr a ↦ subst IsAcyclic (by_answers (λ y. ap (λ o. option_or o (value_at s.store y)) (sym (finite.get-empty name_cmp y) ∙ ap (λ z. value_at z y) (sym a.2.binds)))) acyclic
       ])

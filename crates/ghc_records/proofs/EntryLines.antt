@@ -1,18 +1,14 @@
 -- Lemmas on lines that say entries.
-use Rattle.ghc_records.proofs.Words.{◌≡◌, ◌≢◌, ◌≤◌, ◌<◌, ℕ, ◌⊎◌, inl, inr, All, List, [], ◌∷◌, ◌++◌, Bool, true, false, Option, Some, None, IfNone, length, refl, sym, ap, ◌∙◌, subst, arith, decimal, codes, ◌&&◌, is_ascii_digit, list_all, append_cancel_left, append-nil, Step, Entry, took, undid, rolled, redid, reordered, IsLineOf, SaysStep, greatest_number, pieces_of, IsInTurn, IsNamed, SaysAsking, SaysEntry, numbers_behind}
+use Rattle.ghc_records.proofs.Words.{◌≡◌, ◌≢◌, ◌≤◌, ◌<◌, ℕ, ◌⊎◌, inl, inr, All, List, [], ◌∷◌, ◌++◌, Bool, true, false, Option, Some, None, IfNone, get_or, length, refl, sym, ap, ◌∙◌, subst, arith, decimal, codes, and_parts, is_ascii_digit, list_all, append_cancel_left, append-nil, Step, Entry, took, undid, rolled, redid, reordered, IsLineOf, SaysStep, greatest_number, pieces_of, IsInTurn, IsNamed, SaysAsking, SaysEntry, entry_text, numbers_behind}
 use Rattle.ghc_records.proofs.CutLemmas.{cut_once, line_is, no_cut, number_plain, one_number, said_digits, some_digit}
 
 -- ---- lines begin with a digit where they say steps, and else with a letter
-
-both : (a b : Bool) → (a && b) ≡ true → a ≡ true
-both true b e = refl
-both false b e = cc
 
 first_digit : (ds rest more : List ℕ) (b : ℕ) → list_all is_ascii_digit ds ≡ true → 0 < length ds → ds ++ rest ≡ b ∷ more → is_ascii_digit b ≡ true
 first_digit [] rest more b digits some e = absurd (omega (arith, some))
 first_digit (d ∷ ds) rest more b digits some e =
     let same : d ≡ b = cc in
-    ap is_ascii_digit (sym same) ∙ both (is_ascii_digit d) (list_all is_ascii_digit ds) digits
+    ap is_ascii_digit (sym same) ∙ (and_parts (is_ascii_digit d) (list_all is_ascii_digit ds) digits).0
 
 -- a line that begins with a number begins with a digit
 pub digit_first : (line rest more : List ℕ) (n b : ℕ) → n ≤ greatest_number → line ≡ decimal n ++ rest → line ≡ b ∷ more → is_ascii_digit b ≡ true
@@ -36,10 +32,7 @@ step_alone line s (took t) says other =
     let l = number_first line t other in
     let same = cut_once 32 (decimal t.number) l.0 (decimal s.number) k.0 (number_plain 32 t.number refl l.2) (number_plain 32 s.number refl k.2) (sym l.1 ∙ k.1) in
     (t, refl, one_number t.number s.number l.2 k.2 same.0)
-step_alone line s (undid n) says other = absurd (no_letter line _ s 117 refl says other.0)
-step_alone line s (rolled n) says other = absurd (no_letter line _ s 114 refl says other.0)
-step_alone line s (redid n) says other = absurd (no_letter line _ s 114 refl says other.0)
-step_alone line s (reordered ns) says other = absurd (no_letter line _ s 97 refl says other.0)
+step_alone line s e says other = absurd (no_letter line _ s (get_or (entry_text e) 0 0) refl says other.0)
 
 -- where a line says an entry that can follow, each entry that it says can follow
 pub one_turn : (line : List ℕ) (n : ℕ) (e f : Entry) → SaysEntry line e → SaysEntry line f → IsInTurn n f → IsInTurn n e
@@ -47,10 +40,7 @@ one_turn line n (took s) f says other turn =
     let k = step_alone line s f says other in
     let again : IsInTurn n (took k.0) = subst (IsInTurn n) k.1 turn in
     (sym k.2 ∙ again.0, again.1)
-one_turn line n (undid m) f says other turn = tt
-one_turn line n (rolled m) f says other turn = tt
-one_turn line n (redid m) f says other turn = tt
-one_turn line n (reordered ms) f says other turn = tt
+one_turn line n e f says other turn = tt
 
 -- ---- numbers behind spaces
 
@@ -64,9 +54,7 @@ cut_numbers (n ∷ ns) = inr (_, refl)
 
 -- words without a space are cut in one way
 pub one_word : (a b x y : List ℕ) → All (λ c. c ≢ 32) a → All (λ c. c ≢ 32) b → IsCut x → IsCut y → a ++ x ≡ b ++ y → (a ≡ b) × (x ≡ y)
-one_word a b x y p q (inl k) (inl l) e =
-    let words : a ≡ b = sym (append-nil a) ∙ ap (λ z. a ++ z) (sym k) ∙ e ∙ ap (λ z. b ++ z) l ∙ append-nil b in
-    (words, k ∙ sym l)
+one_word a b x y p q (inl k) (inl l) e = (simp (k, l, append-nil) at e, k ∙ sym l)
 one_word a b x y p q (inl k) (inr l) e = absurd (no_cut 32 b l.0 a q p (sym (append-nil a) ∙ ap (λ z. a ++ z) (sym k) ∙ e ∙ ap (λ z. b ++ z) l.1))
 one_word a b x y p q (inr k) (inl l) e = absurd (no_cut 32 a k.0 b p q (sym (append-nil b) ∙ ap (λ z. b ++ z) (sym l) ∙ sym e ∙ ap (λ z. a ++ z) k.1))
 one_word a b x y p q (inr k) (inr l) e =
@@ -88,10 +76,6 @@ not_in_turn text line rest n e b found says is never other f stands other_says t
     let same : other ≡ line = line_is (pieces_of text) 0 text line rest other refl found stands in
     let clash : true ≡ false = sym (is (one_turn line n e f says (subst (λ l. SaysEntry l f) same other_says) turn)) ∙ never in
     cc
-
-pub none_said : (text line rest : List ℕ) (n : ℕ) → pieces_of text ≡ line ∷ pieces_of rest → ((e : Entry) → ¬ SaysEntry line e)
-    → (other : List ℕ) (f : Entry) → IsLineOf (pieces_of text) 0 other → SaysEntry other f → ¬ IsInTurn n f
-none_said text line rest n found none other f stands says turn = none f (subst (λ l. SaysEntry l f) (line_is (pieces_of text) 0 text line rest other refl found stands) says)
 
 -- ---- what a line does not say
 

@@ -1,36 +1,12 @@
 -- A text tells one history, or has one first wrong line, and never both.
-use Rattle.ghc_records.proofs.Words.{◌≡◌, ℕ, zero, suc, ◌+◌, ◌<◌, ◌≤◌, inl, inr, List, [], ◌∷◌, ◌++◌, take, drop, length, refl, sym, ap, ◌∙◌, subst, arith, decimal, Some, Result, Ok, Err, slice_get, codes, append_cancel_left, take_all, Fault, Answered, IsExact, In, Tree, IsReadTerm, Step, History, IsFirstWrongLine, IsHistoryRefusal, TellsCount, TellsHistory, TellsNext, TellsNoMore, TellsSteps, behind_count, count_line, pieces_of}
+use Rattle.ghc_records.proofs.Words.{◌≡◌, ℕ, ◌+◌, ◌≤◌, inl, inr, List, [], ◌∷◌, ◌++◌, drop, length, refl, sym, ap, ◌∙◌, subst, arith, decimal, Result, Ok, Err, codes, append_cancel_left, Fault, Answered, IsExact, Tree, IsReadTerm, Step, SaysStep, History, IsFirstWrongLine, IsHistoryRefusal, TellsCount, TellsHistory, TellsNext, TellsNoMore, TellsSteps, behind_count, count_line, pieces_of}
 use Rattle.ghc_records.specs.HistoryText.{more, no_count, no_end, no_heading, no_step}
 use Rattle.ghc_records.proofs.CutLemmas.{one_number}
-use Rattle.ghc_records.proofs.CutTexts.{distinct_taken, less_or, taken_at}
-use Rattle.ghc_records.proofs.OneStep.{one_at, one_line}
+use Rattle.ghc_records.proofs.CutTexts.{fewer_apart}
+use Rattle.ghc_records.proofs.OneStep.{one_line, one_step}
+use Rattle.ghc_records.proofs.OneSection as section
+use Rattle.ghc_records.proofs.TellingSteps.{AreApart, IsBelow, as_items, as_steps}
 use Rattle.ghc_records.proofs.TellingHistories.{one_next}
-
--- lists that agree at each place begin alike
-pub begin_alike : {X : Type 0} (xs ys : List X) → ((i : ℕ) (x y : X) → slice_get xs i ≡ Some x → slice_get ys i ≡ Some y → x ≡ y) → length xs ≤ length ys → xs ≡ take (length xs) ys
-begin_alike [] ys same low = refl
-begin_alike (x ∷ xs) [] same low = absurd (omega (arith, low))
-begin_alike (x ∷ xs) (y ∷ ys) same low =
-    ap (λ z. z ∷ xs) (same 0 x y refl refl) ∙ ap (λ l. y ∷ l) (begin_alike xs ys (λ i a b e f. same (suc i) a b e f) (omega (arith, low)))
-
-pub one_longer : {X : Type 0} (xs : List X) (n : ℕ) → n < length xs → (x : X) × (take (suc n) xs ≡ take n xs ++ x ∷ [])
-one_longer [] n low = absurd (omega (arith, low))
-one_longer (x ∷ xs) zero low = (x, refl)
-one_longer (x ∷ xs) (suc n) low = let (y, e) = one_longer xs n (omega (arith, low)) in (y, ap (λ l. x ∷ l) e)
-
-pub in_front : {X : Type 0} (n : ℕ) (xs : List X) (x : X) → In x (take n xs) → In x xs
-in_front zero xs x i = absurd i
-in_front (suc n) [] x i = absurd i
-in_front (suc n) (y ∷ xs) x (inl e) = inl e
-in_front (suc n) (y ∷ xs) x (inr i) = inr (in_front n xs x i)
-
--- fewer steps are told too
-fewer_told : (pieces : List (List ℕ)) (count n : ℕ) (steps : List Step) → TellsSteps pieces count steps → TellsSteps pieces count (take n steps)
-fewer_told pieces count n steps told = record {
-  each = λ i s e. told.each i s (taken_at n steps i s e).1;
-  distinct = distinct_taken n steps told.distinct;
-  below = λ next s ends i. told.below next s ends (in_front n steps s i);
-}
 
 pub one_count : (text : List ℕ) (m n : ℕ) → TellsCount text m → TellsCount text n → m ≡ n
 one_count text m n h k =
@@ -38,24 +14,19 @@ one_count text m n h k =
     one_number m n (omega (arith, h.1)) (omega (arith, k.1)) (append_cancel_left (codes "steps ") (decimal m) (decimal n) same)
 
 module _ (one_term : (text : List ℕ) (u other : Tree) → IsReadTerm text u → IsReadTerm text other → u ≡ other) where
-  alike : (pieces : List (List ℕ)) (count n : ℕ) (steps others : List Step) → TellsSteps pieces count steps → TellsSteps pieces n others → length steps ≤ length others → steps ≡ take (length steps) others
-  alike pieces count n steps others h k low = begin_alike steps others (one_at one_term pieces count n steps others h k) low
-
   -- no more steps are told than where no further one is
   not_longer : (pieces : List (List ℕ)) (count : ℕ) (stopped steps : List Step) → TellsNoMore pieces count stopped → TellsSteps pieces count steps → length steps ≤ length stopped
-  not_longer pieces count stopped steps h told = elim (less_or (length stopped) (length steps)) [
-    | inl low ↦
-        let (s, e) = one_longer steps (length stopped) low in
-        let begins : stopped ≡ take (length stopped) steps = alike pieces count count stopped steps h.0 told (omega (arith, low)) in
-        absurd (h.2 s (subst (TellsSteps pieces count) (e ∙ ap (λ l. l ++ s ∷ []) (sym begins)) (fewer_told pieces count (suc (length stopped)) steps told)))
-    | inr far ↦ far
-  ]
+  not_longer pieces count stopped steps h told =
+      section.not_longer SaysStep (AreApart (IsBelow pieces count)) (one_step one_term) (fewer_apart (IsBelow pieces count)) pieces count stopped steps
+      (as_items pieces count stopped h.0, h.1, λ s more. h.2 s (as_steps pieces count (stopped ++ s ∷ []) more)) (as_items pieces count steps told)
 
   pub one_history : (text : List ℕ) (h k : History) → TellsHistory text h → TellsHistory text k → h ≡ k
   one_history text h k told other =
       let lengths : length h.steps ≡ length k.steps = one_count text (length h.steps) (length k.steps) told.count other.count in
-      let begins = alike (behind_count text) (length h.steps) (length k.steps) h.steps k.steps told.steps other.steps (omega (arith, lengths)) in
-      let steps : h.steps ≡ k.steps = begins ∙ take_all (length h.steps) k.steps (omega (arith, lengths)) in
+      let same = subst (λ n. TellsSteps (behind_count text) n k.steps) (sym lengths) other.steps in
+      let fit = IsBelow (behind_count text) (length h.steps) in
+      let steps : h.steps ≡ k.steps = section.one_list SaysStep (AreApart fit) (one_step one_term) (fewer_apart fit) (behind_count text) h.steps k.steps
+      (as_items (behind_count text) (length h.steps) h.steps told.steps) (as_items (behind_count text) (length h.steps) k.steps same) lengths in
       let next : h.next ≡ k.next = one_next (behind_count text) (length h.steps) h.next k.next told.next (subst (λ n. TellsNext (behind_count text) n k.next) (sym lengths) other.next) in
       ap (λ l. record { steps = l; next = h.next }) steps ∙ ap (λ n. record { steps = k.steps; next = n }) next
 

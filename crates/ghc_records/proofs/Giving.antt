@@ -3,13 +3,10 @@ use Rattle.ghc_records.proofs.Words.{◌≡◌, ◌≢◌, ℕ, ◌+◌, ◌<◌
 use Rattle.std.specs.FinMap as finite
 use Rattle.std.specs.FinSet as set
 
-some_is : {k m : ℕ} → Some k ≡ Some m → k ≡ m
-some_is e = cc
-
 -- the one that is named
 module _ (old new : UsersByStep) (o : Option ℕ) (k u : ℕ) (is : o ≡ Some k) where
   named : (m : ℕ) → o ≡ Some m → m ≡ k
-  named m e = sym (some_is (sym is ∙ e))
+  named m e = cc
 
   naming : (m : ℕ) → m ≡ k → o ≡ Some m
   naming m e = is ∙ ap Some (sym e)
@@ -29,56 +26,65 @@ module _ (old new : UsersByStep) (o : Option ℕ) (k u : ℕ) (is : o ≡ Some k
   pub can_named : ((n : ℕ) → CanTake new k n) → (m n : ℕ) → o ≡ Some m → CanTake new m n
   can_named h m n e = subst (λ z. CanTake new z n) (sym (named m e)) (h n)
 
--- no variables
-pub none_bound : (binders : BindersByVariable) (m : ℕ) → ¬ BoundOneOf binders [] m
-none_bound binders m b = b.1
+-- m gave one of the variables of the list, where G says what gave which
+abbrev pub GaveOneOf : (VarName → ℕ → Type 0) → List VarName → ℕ → Type 0
+GaveOneOf G xs m = (x : VarName) × In x xs × G x m
 
--- under each step that bound one of these stands the number besides, or no longer
-abbrev pub HasUnder : BindersByVariable → UsersByStep → List VarName → ℕ → UsersByStep → Type 0
-HasUnder binders old xs u new = (m n : ℕ) → IsUser new m n ↔ (IsUser old m n ⊎ (BoundOneOf binders xs m × (n ≡ u)))
+-- the step that bound a variable gave it
+abbrev pub IsBinderOf : BindersByVariable → VarName → ℕ → Type 0
+IsBinderOf binders x m = finite.get binders x ≡ Some m
 
-abbrev pub HasNotUnder : BindersByVariable → UsersByStep → List VarName → ℕ → UsersByStep → Type 0
-HasNotUnder binders old xs u new = (m n : ℕ) → IsUser new m n ↔ (IsUser old m n × ¬ (BoundOneOf binders xs m × (n ≡ u)))
+pub found_so : {o p : Option ℕ} → o ≡ p → (m : ℕ) → (o ≡ Some m) ↔ (p ≡ Some m)
+found_so e m = (λ f. sym e ∙ f, λ f. e ∙ f)
 
-pub under_none : (binders : BindersByVariable) (old : UsersByStep) (u : ℕ) → HasUnder binders old [] u old
-under_none binders old u m n = (λ i. inl i, λ c. elim c [ inl i ↦ i | inr b ↦ absurd (none_bound binders m b.0) ])
+-- under each step that gave one of these stands the number besides, or no longer
+module _ (G : VarName → ℕ → Type 0) (old : UsersByStep) where
+  abbrev pub HasUnder : List VarName → ℕ → UsersByStep → Type 0
+  HasUnder xs u new = (m n : ℕ) → IsUser new m n ↔ (IsUser old m n ⊎ (GaveOneOf G xs m × (n ≡ u)))
 
-pub not_under_none : (binders : BindersByVariable) (old : UsersByStep) (u : ℕ) → HasNotUnder binders old [] u old
-not_under_none binders old u m n = (λ i. (i, λ b. none_bound binders m b.0), λ c. c.0)
+  abbrev pub HasNotUnder : List VarName → ℕ → UsersByStep → Type 0
+  HasNotUnder xs u new = (m n : ℕ) → IsUser new m n ↔ (IsUser old m n × ¬ (GaveOneOf G xs m × (n ≡ u)))
 
--- one variable more
-module _ (binders : BindersByVariable) (xs : List VarName) (i : ℕ) (d : VarName) (within : i < length xs) where
-  more : (m : ℕ) → BoundOneOf binders (take (i + 1) xs) m → BoundOneOf binders (take i xs) m ⊎ (finite.get binders (get_or xs i d) ≡ Some m)
+  pub under_none : (u : ℕ) → HasUnder [] u old
+  under_none u m n = (λ i. inl i, λ c. elim c [ inl i ↦ i | inr b ↦ absurd b.0.1 ])
+
+  pub not_under_none : (u : ℕ) → HasNotUnder [] u old
+  not_under_none u m n = (λ i. (i, λ b. b.0.1), λ c. c.0)
+
+-- one variable more, which o gave
+module _ (G : VarName → ℕ → Type 0) (xs : List VarName) (i : ℕ) (d : VarName) (within : i < length xs)
+    (o : Option ℕ) (is : (m : ℕ) → (o ≡ Some m) ↔ G (get_or xs i d) m) where
+  more : (m : ℕ) → GaveOneOf G (take (i + 1) xs) m → GaveOneOf G (take i xs) m ⊎ (o ≡ Some m)
   more m b = elim (in_more (take i xs) (get_or xs i d) b.0 (subst (In b.0) (take_more xs i d within) b.1)) [
     | inl k ↦ inl (b.0, k, b.2)
-    | inr e ↦ inr (ap (λ y. finite.get binders y) (sym e) ∙ b.2)
+    | inr e ↦ inr ((is m).1 (subst (λ y. G y m) e b.2))
   ]
 
-  earlier : (m : ℕ) → BoundOneOf binders (take i xs) m → BoundOneOf binders (take (i + 1) xs) m
+  earlier : (m : ℕ) → GaveOneOf G (take i xs) m → GaveOneOf G (take (i + 1) xs) m
   earlier m b = (b.0, subst (In b.0) (sym (take_more xs i d within)) (in_left (take i xs) (get_or xs i d ∷ []) b.0 b.1), b.2)
 
-  latest : (m : ℕ) → finite.get binders (get_or xs i d) ≡ Some m → BoundOneOf binders (take (i + 1) xs) m
-  latest m e = (get_or xs i d, subst (In (get_or xs i d)) (sym (take_more xs i d within)) (in_last (take i xs) (get_or xs i d)), e)
+  latest : (m : ℕ) → o ≡ Some m → GaveOneOf G (take (i + 1) xs) m
+  latest m e = (get_or xs i d, subst (In (get_or xs i d)) (sym (take_more xs i d within)) (in_last (take i xs) (get_or xs i d)), (is m).0 e)
 
-  pub this_one : (m : ℕ) → finite.get binders (get_or xs i d) ≡ Some m → BoundOneOf binders xs m
-  this_one m e = (get_or xs i d, in_get xs i d within, e)
+  pub this_one : (m : ℕ) → o ≡ Some m → GaveOneOf G xs m
+  this_one m e = (get_or xs i d, in_get xs i d within, (is m).0 e)
 
   module _ (old now new : UsersByStep) (u : ℕ) where
-    pub under_next : HasUnder binders old (take i xs) u now → ((m n : ℕ) → IsUser new m n ↔ (IsUser now m n ⊎ ((finite.get binders (get_or xs i d) ≡ Some m) × (n ≡ u))))
-        → HasUnder binders old (take (i + 1) xs) u new
+    pub under_next : HasUnder G old (take i xs) u now → ((m n : ℕ) → IsUser new m n ↔ (IsUser now m n ⊎ ((o ≡ Some m) × (n ≡ u))))
+        → HasUnder G old (take (i + 1) xs) u new
     under_next before step m n = (
       λ k. elim ((step m n).0 k) [
-        | inl j ↦ elim ((before m n).0 j) [ inl o ↦ inl o | inr b ↦ inr (earlier m b.0, b.1) ]
+        | inl j ↦ elim ((before m n).0 j) [ inl p ↦ inl p | inr b ↦ inr (earlier m b.0, b.1) ]
         | inr e ↦ inr (latest m e.0, e.1)
       ],
       λ k. (step m n).1 (elim k [
-        | inl o ↦ inl ((before m n).1 (inl o))
+        | inl p ↦ inl ((before m n).1 (inl p))
         | inr b ↦ elim (more m b.0) [ inl a ↦ inl ((before m n).1 (inr (a, b.1))) | inr e ↦ inr (e, b.1) ]
       ]),
     )
 
-    pub not_under_next : HasNotUnder binders old (take i xs) u now → ((m n : ℕ) → IsUser new m n ↔ (IsUser now m n × ¬ ((finite.get binders (get_or xs i d) ≡ Some m) × (n ≡ u))))
-        → HasNotUnder binders old (take (i + 1) xs) u new
+    pub not_under_next : HasNotUnder G old (take i xs) u now → ((m n : ℕ) → IsUser new m n ↔ (IsUser now m n × ¬ ((o ≡ Some m) × (n ≡ u))))
+        → HasNotUnder G old (take (i + 1) xs) u new
     not_under_next before step m n = (
       λ k.
           let s = (step m n).0 k in
@@ -87,8 +93,8 @@ module _ (binders : BindersByVariable) (xs : List VarName) (i : ℕ) (d : VarNam
       λ k. (step m n).1 ((before m n).1 (k.0, λ p. k.1 (earlier m p.0, p.1)), λ p. k.1 (latest m p.0, p.1)),
     )
 
-  pub can_next : (now new : UsersByStep) → ((m n : ℕ) → BoundOneOf binders (take i xs) m → CanTake now m n) → ((m n : ℕ) → CanTake now m n → CanTake new m n)
-      → ((m n : ℕ) → finite.get binders (get_or xs i d) ≡ Some m → CanTake new m n) → (m n : ℕ) → BoundOneOf binders (take (i + 1) xs) m → CanTake new m n
+  pub can_next : (now new : UsersByStep) → ((m n : ℕ) → GaveOneOf G (take i xs) m → CanTake now m n) → ((m n : ℕ) → CanTake now m n → CanTake new m n)
+      → ((m n : ℕ) → o ≡ Some m → CanTake new m n) → (m n : ℕ) → GaveOneOf G (take (i + 1) xs) m → CanTake new m n
   can_next now new before kept here m n b = elim (more m b) [ inl a ↦ kept m n (before m n a) | inr e ↦ here m n e ]
 
 -- the list of what is read, and the set
@@ -100,7 +106,7 @@ module _ (binders : BindersByVariable) (maker : Option ℕ) (reads : Variables) 
   )
 
   module _ (old mid new : UsersByStep) (u v : ℕ) (same : u ≡ v) where
-    pub put_both : ((m n : ℕ) → IsUser mid m n ↔ (IsUser old m n ⊎ ((maker ≡ Some m) × (n ≡ u)))) → HasUnder binders mid xs u new
+    pub put_both : ((m n : ℕ) → IsUser mid m n ↔ (IsUser old m n ⊎ ((maker ≡ Some m) × (n ≡ u)))) → HasUnder (IsBinderOf binders) mid xs u new
         → (m n : ℕ) → IsUser new m n ↔ (IsUser old m n ⊎ (Gave binders maker reads m × (n ≡ v)))
     put_both first then m n = (
       λ k. elim ((then m n).0 k) [
@@ -113,7 +119,7 @@ module _ (binders : BindersByVariable) (maker : Option ℕ) (reads : Variables) 
       ]),
     )
 
-    pub taken_both : ((m n : ℕ) → IsUser mid m n ↔ (IsUser old m n × ¬ ((maker ≡ Some m) × (n ≡ u)))) → HasNotUnder binders mid xs u new
+    pub taken_both : ((m n : ℕ) → IsUser mid m n ↔ (IsUser old m n × ¬ ((maker ≡ Some m) × (n ≡ u)))) → HasNotUnder (IsBinderOf binders) mid xs u new
         → (m n : ℕ) → IsUser new m n ↔ (IsUser old m n × ¬ (Gave binders maker reads m × (n ≡ v)))
     taken_both first then m n = (
       λ k.

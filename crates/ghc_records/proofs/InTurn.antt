@@ -1,20 +1,10 @@
 -- Entries of a list that are put into a map one after another, the last of them first.
-use Rattle.ghc_records.proofs.Words.{◌≡◌, Bool, true, false, cond, List, [], ◌∷◌, ◌++◌, refl, sym, ap, subst, ◌∙◌, append_assoc, Option, Some, option_map, Ordering, IsStrictlySortedBy, keys_of, is_eq, IsTotalOrder, IsAntisymmetric, lookup-map_values, keys_of-map_values, shown_by, value_in, inserted, entries_are}
+use Rattle.ghc_records.proofs.Words.{◌≡◌, cond, List, [], ◌∷◌, ◌++◌, sym, ap, subst, ◌∙◌, append_assoc, Some, Ordering, IsStrictlySortedBy, keys_of, is_eq, IsTotalOrder, IsAntisymmetric, keys_of-map_values, one_put, shown_by, value_in, entries_are}
 use Rattle.std.specs.FinMap as finite
-
-either : {V X : Type 0} (shows : V → X) (b : Bool) (v : V) (o : Option V) → option_map shows (cond b (Some v) o) ≡ cond b (Some (shows v)) (option_map shows o)
-either shows true v o = refl
-either shows false v o = refl
 
 module _ {K V X : Type 0} {R : K → K → Ordering} (o : IsTotalOrder R) (alike : IsAntisymmetric R) (shows : V → X) where
   abbrev shown : List (K × V) → List (K × X)
   shown es = shown_by shows es
-
-  one_put : (es new : List (K × V)) (k : K) (v : V) → ((q : K) → value_in R q new ≡ cond (is_eq (R k q)) (Some v) (value_in R q es))
-      → finite.from_entries {R = R} (shown new) ≡ finite.insert (finite.from_entries (shown es)) k (shows v)
-  one_put es new k v h = inserted o alike (shown es) (shown new) k (shows v) (λ q.
-      lookup-map_values shows (λ n. is_eq (R q n)) new ∙ ap (option_map shows) (h q) ∙ either shows (is_eq (R k q)) v (value_in R q es)
-      ∙ ap (cond (is_eq (R k q)) (Some (shows v))) (sym (lookup-map_values shows (λ n. is_eq (R q n)) es)))
 
   behind : (left es new : List (K × X)) → finite.from_entries {R = R} new ≡ finite.from_entries es → finite.from_entries {R = R} (left ++ new) ≡ finite.from_entries (left ++ es)
   behind [] es new e = e
@@ -24,7 +14,7 @@ module _ {K V X : Type 0} {R : K → K → Ordering} (o : IsTotalOrder R) (alike
   pub one_more : (whole : finite.FinMap R X) (left rest : List (K × X)) (es new : List (K × V)) (k : K) (v : V) → finite.from_entries (left ++ shown es) ≡ whole → left ≡ rest ++ (k, shows v) ∷ []
       → ((q : K) → value_in R q new ≡ cond (is_eq (R k q)) (Some v) (value_in R q es)) → finite.from_entries (rest ++ shown new) ≡ whole
   one_more whole left rest es new k v h last put =
-      behind rest ((k, shows v) ∷ shown es) (shown new) (one_put es new k v put) ∙ ap (λ l. finite.from_entries l) (sym (append_assoc rest ((k, shows v) ∷ []) (shown es)))
+      behind rest ((k, shows v) ∷ shown es) (shown new) (one_put o alike shows es new k v put) ∙ ap (λ l. finite.from_entries l) (sym (append_assoc rest ((k, shows v) ∷ []) (shown es)))
       ∙ ap (λ l. finite.from_entries (l ++ shown es)) (sym last) ∙ h
 
   -- all are put

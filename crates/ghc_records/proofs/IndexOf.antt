@@ -1,17 +1,8 @@
 -- The index of a record, with one step more or less.
-use Rattle.ghc_records.proofs.Words.{◌≡◌, ◌≢◌, ℕ, Bool, true, false, cond, List, [], ◌∷◌, ◌++◌, refl, sym, ap, ◌∙◌, subst, inl, inr, ◌⊎◌, ◌↔◌, Option, Some, None, is_some, nat_cmp, cases_Bool, VarName, In, name_cmp, value_at, in_left, in_last, in_more, Picks, AreDistinct, Record, numbers, GoalName, variables_asked, MakesGoal, Binds, Uses, UsersByStep, BindersByVariable, numbers_in, users_at, IsUser, CanTake, Gave, step_named, StepDependsOn, StepBinds, IsIndexOf, IsMakerFor, MadeOneOf}
+use Rattle.ghc_records.proofs.Words.{◌≡◌, ◌≢◌, ℕ, cond, List, [], ◌∷◌, ◌++◌, refl, sym, ap, ◌∙◌, subst, inl, inr, ◌⊎◌, ◌↔◌, Option, Some, None, is_some, nat_cmp, cases_Bool, VarName, In, name_cmp, value_at, in_left, in_last, in_more, Picks, AreDistinct, Record, numbers, GoalName, variables_asked, MakesGoal, Consumes, Binds, Uses, not_both, one_value, UsersByStep, BindersByVariable, numbers_in, users_at, IsUser, CanTake, Gave, step_named, StepDependsOn, StepBinds, IsIndexOf, IsMakerFor, MadeOneOf}
 use Rattle.std.specs.FinMap as finite
 use Rattle.ghc_records.proofs.OrderLemmas.{is_before, before_is, before_in, record_once, records_distinct}
 use Rattle.ghc_records.proofs.PickLemmas.{before_left, before_across, before_last, picks_in, picks_has, picks_order, picks_keep}
-
-some_is : {k m : ℕ} → Some k ≡ Some m → k ≡ m
-some_is e = cc
-
-not_none : {k : ℕ} → ¬ (None ≡ Some k)
-not_none {k} e = let clash : None ≡ Some k = e in cc
-
-clash : {b : Bool} → b ≡ false → b ≡ true → ⊥
-clash {b} f t = let never : true ≡ false = sym t ∙ f in cc
 
 -- what gave something to a step: the maker of its goal, a step that bound what it read, a step that made what it names
 abbrev pub Gives : List Record → BindersByVariable → Option ℕ → Record → ℕ → Type 0
@@ -95,7 +86,7 @@ module _ (rs : List Record) (users : UsersByStep) (binders : BindersByVariable) 
       bound_put x n = elim (cases_Bool (is_some (value_at r.effect.binds x))) [
         | inl here ↦
             let now : finite.get binders' x ≡ Some r.number = bound x ∙ ap (λ b. cond b (Some r.number) (finite.get binders x)) here in (
-              λ e. (r, in_last rs r, some_is (sym now ∙ e), here),
+              λ e. (r, in_last rs r, one_value _ _ (sym now ∙ e), here),
               λ s. elim (in_more rs r s.0 s.1) [
                 | inl i ↦ absurd (fresh s.0 x i s.3 here)
                 | inr same ↦ now ∙ ap Some (ap (λ z. z.number) (sym same) ∙ s.2)
@@ -106,7 +97,7 @@ module _ (rs : List Record) (users : UsersByStep) (binders : BindersByVariable) 
               λ e. let s = (is.bound x n).0 (sym now ∙ e) in (s.0, in_left rs (r ∷ []) s.0 s.1, s.2, s.3),
               λ s. elim (in_more rs r s.0 s.1) [
                 | inl i ↦ now ∙ (is.bound x n).1 (s.0, i, s.2, s.3)
-                | inr same ↦ absurd (clash other (subst (λ z. Binds z x) same s.3))
+                | inr same ↦ absurd (not_both _ other (subst (λ z. Binds z x) same s.3))
               ],
             )
       ]
@@ -156,16 +147,16 @@ module _ (rs left : List Record) (users : UsersByStep) (binders : BindersByVaria
   bound_taken x n = elim (cases_Bool (is_some (value_at r.effect.binds x))) [
     | inl here ↦
         let now : finite.get binders' x ≡ None = unbound x ∙ ap (λ b. cond b None (finite.get binders x)) here in (
-          λ e. absurd (not_none (sym now ∙ e)),
+          λ e. let never : None ≡ Some n = sym now ∙ e in cc,
           λ s.
               let i = picks_in rs left s.0 rest s.1 in
               let mine = (is.bound x r.number).1 (r, there, refl, here) in
               let its = (is.bound x n).1 (s.0, i.0, s.2, s.3) in
-              absurd (i.1 (once s.0 i.0 (s.2 ∙ some_is (sym its ∙ mine)))),
+              absurd (i.1 (once s.0 i.0 (s.2 ∙ one_value _ _ (sym its ∙ mine)))),
         )
     | inr other ↦
         let now : finite.get binders' x ≡ finite.get binders x = unbound x ∙ ap (λ b. cond b None (finite.get binders x)) other in (
-          λ e. let s = (is.bound x n).0 (sym now ∙ e) in (s.0, still s.0 s.1 (λ same. clash other (subst (λ z. Binds z x) same s.3)), s.2, s.3),
+          λ e. let s = (is.bound x n).0 (sym now ∙ e) in (s.0, still s.0 s.1 (λ same. not_both _ other (subst (λ z. Binds z x) same s.3)), s.2, s.3),
           λ s. let i = picks_in rs left s.0 rest s.1 in now ∙ (is.bound x n).1 (s.0, i.0, s.2, s.3),
         )
   ]
@@ -174,8 +165,8 @@ module _ (rs left : List Record) (users : UsersByStep) (binders : BindersByVaria
   index_taken = record { used = used_taken; bound = bound_taken }
 
 -- two steps that bound one variable are one step, by its number
-pub bound_once : (rs : List Record) (users : UsersByStep) (binders : BindersByVariable) → IsIndexOf rs users binders → (a b : Record) (x : VarName) → In a rs → In b rs → Binds a x → Binds b x → a.number ≡ b.number
-bound_once rs users binders is a b x i j p q = some_is (sym ((is.bound x a.number).1 (a, i, refl, p)) ∙ (is.bound x b.number).1 (b, j, refl, q))
+pub bound_once : {rs : List Record} {users : UsersByStep} {binders : BindersByVariable} → IsIndexOf rs users binders → (a b : Record) (x : VarName) → In a rs → In b rs → Binds a x → Binds b x → a.number ≡ b.number
+bound_once is a b x i j p q = one_value _ _ (sym ((is.bound x a.number).1 (a, i, refl, p)) ∙ (is.bound x b.number).1 (b, j, refl, q))
 
 -- no steps
 pub index_none : (users : UsersByStep) (binders : BindersByVariable) → users ≡ finite.empty → binders ≡ finite.empty → IsIndexOf [] users binders
@@ -183,34 +174,16 @@ index_none users binders e f =
     let nobody : (m : ℕ) → finite.get users m ≡ None = λ m. ap (λ z. finite.get z m) e ∙ finite.get-empty nat_cmp m in
     let nothing : (x : VarName) → finite.get binders x ≡ None = λ x. ap (λ z. finite.get z x) f ∙ finite.get-empty name_cmp x in record {
       used = λ m n. (λ i. absurd (subst (λ o. In n (numbers_in o)) (nobody m) i), λ d. absurd (is_before [] d.0 d.1 d.4.0));
-      bound = λ x n. (λ q. absurd (not_none (sym (nothing x) ∙ q)), λ s. absurd s.1);
+      bound = λ x n. (λ q. let never : None ≡ Some n = sym (nothing x) ∙ q in cc, λ s. absurd s.1);
     }
 
 -- the index of a record is that of one that is the same, and the users of a step are the same where they are listed anew
-pub index_same : (rs : List Record) (users users' : UsersByStep) (binders binders' : BindersByVariable) → IsIndexOf rs users binders → ((m : ℕ) → users_at users' m ≡ users_at users m) → binders' ≡ binders → IsIndexOf rs users' binders'
-index_same rs users users' binders binders' is same alike = record {
+pub index_same : {rs : List Record} {users users' : UsersByStep} {binders binders' : BindersByVariable} → IsIndexOf rs users binders → ((m : ℕ) → users_at users' m ≡ users_at users m) → binders' ≡ binders → IsIndexOf rs users' binders'
+index_same {rs} is same alike = record {
   used = λ m n. subst (λ l. In n l ↔ StepDependsOn rs n m) (sym (same m)) (is.used m n);
   bound = λ x n. subst (λ z. (finite.get z x ≡ Some n) ↔ StepBinds rs n x) (sym alike) (is.bound x n);
 }
 
--- the maker of the goal that a step consumed
-same_goal : {g h : GoalName} → Some g ≡ Some h → g ≡ h
-same_goal e = cc
-
-pub none_made : (rs : List Record) (r : Record) (name : GoalName) → r.goal ≡ Some name → ((a : Record) → In a rs → a.number ≡ name.step → ¬ MakesGoal a name) → (m : ℕ) → (None ≡ Some m) ↔ IsMakerFor rs r m
-none_made rs r name e h m = (
-  λ q. absurd (not_none q),
-  λ a.
-      let makes = subst (MakesGoal a.0) (same_goal (sym a.3.1 ∙ e)) a.3.2 in
-      absurd (h a.0 a.1 (sym makes.0) makes),
-)
-
-pub one_made : (rs : List Record) (r maker : Record) (name : GoalName) → r.goal ≡ Some name → In maker rs → MakesGoal maker name → (m : ℕ) → (Some name.step ≡ Some m) ↔ IsMakerFor rs r m
-one_made rs r maker name e i makes m = (
-  λ q. (maker, i, sym makes.0 ∙ some_is q, (name, e, makes)),
-  λ a. ap Some ((subst (MakesGoal a.0) (same_goal (sym a.3.1 ∙ e)) a.3.2).0 ∙ a.2),
-)
-
--- the one record of the number did not make the goal
-pub not_by_it : (rs : List Record) (maker : Record) (name : GoalName) → AreDistinct (numbers rs) → In maker rs → maker.number ≡ name.step → ¬ MakesGoal maker name → (a : Record) → In a rs → a.number ≡ name.step → ¬ MakesGoal a name
-not_by_it rs maker name d i e not a j f makes = not (subst (λ z. MakesGoal z name) (record_once rs a maker d j i (f ∙ sym e)) makes)
+-- the goal that a step consumed is one, so its maker made the goal of that name
+pub made_named : (r a : Record) (name : GoalName) → r.goal ≡ Some name → Consumes r a → MakesGoal a name
+made_named r a name e c = let same : c.0 ≡ name = cc in subst (MakesGoal a) same c.2

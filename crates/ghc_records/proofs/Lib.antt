@@ -5,7 +5,6 @@ pub mod Effects
 pub mod Replaying
 pub mod StreamLemmas
 pub mod Made
-pub mod Bound
 pub mod Listing
 pub mod NameOrder
 pub mod BindingOrder
@@ -46,7 +45,6 @@ pub mod AmountLines
 pub mod AskingLines
 pub mod EntryLines
 pub mod NumberLists
-pub mod OpeningSteps
 pub mod SectionParts
 pub mod TurnLemmas
 pub mod ChronicleTold

@@ -1,5 +1,5 @@
 -- Texts that are written one after another, with a mark between them.
-use Rattle.ghc_records.proofs.Words.{◌≡◌, ℕ, List, [], ◌∷◌, ◌++◌, length, map, refl, ap, ◌∙◌, append_assoc, followed_by, listed}
+use Rattle.ghc_records.proofs.Words.{◌≡◌, ℕ, List, [], ◌∷◌, ◌++◌, length, map, refl, append_assoc, followed_by, listed}
 
 -- the texts, the first of them behind this mark, and each other one behind the separator
 abbrev pub led : List ℕ → List ℕ → List (List ℕ) → List ℕ
@@ -18,7 +18,4 @@ led_further separator (text ∷ texts) = refl
 -- the mark and the next text are written
 pub led_next : (separator mark text : List ℕ) (texts : List (List ℕ)) (before between behind whole : List ℕ)
     → between ≡ before ++ mark → behind ≡ between ++ text → before ++ led separator mark (text ∷ texts) ≡ whole → behind ++ led separator separator texts ≡ whole
-led_next separator mark text texts before between behind whole p q w =
-    ap (λ l. l ++ led separator separator texts) (q ∙ ap (λ l. l ++ text) p) ∙ append_assoc (before ++ mark) text (led separator separator texts)
-    ∙ append_assoc before mark (text ++ led separator separator texts)
-    ∙ ap (λ l. before ++ (mark ++ (text ++ l))) (led_further separator texts) ∙ w
+led_next separator mark text texts before between behind whole p q w = simp (q, p, append_assoc, led_further) w

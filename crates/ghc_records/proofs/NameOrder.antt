@@ -1,5 +1,6 @@
 -- The names of a set in their order.
 use Rattle.ghc_records.proofs.Words.{◌≡◌, ℕ, ◌≤◌, Bool, true, false, cond, ◌||◌, List, [], ◌∷◌, length, map, drop, refl, sym, ap, ◌∙◌, subst, drop_all, Some, None, list_any, IsStrictlySortedBy, keys_of, eq_by_cmp, is_eq, eq_by_cmp_equiv, VarName, name_cmp, Variables, name_total, name_antisymmetric, entries_are, by_name}
+use Rattle.std.proofs.Math.Bool.{or-false}
 use Rattle.std.specs.FinSet as set
 use Rattle.std.specs.FinMap as finite
 
@@ -34,17 +35,13 @@ alike xs ys h =
     finite.get-from_entries name_total (marked xs) q ∙ found_marked q xs ∙ ap (λ b. cond b (Some (tt {0})) None) (h q)
     ∙ sym (finite.get-from_entries name_total (marked ys) q ∙ found_marked q ys)))
 
-or_nothing : (a : Bool) → (a || false) ≡ a
-or_nothing true = refl
-or_nothing false = refl
-
 -- the names that a set holds, once they are all put in order
 pub put_in_order : (s : Variables) (members names : List VarName) (i : ℕ) → set.from_list members ≡ s → length members ≤ i
     → ((q : VarName) → (has q names || has q (drop i members)) ≡ has q members) → IsStrictlySortedBy name_cmp names → names ≡ by_name (set.items s)
 put_in_order s members names i e all h order =
     let none_left : drop i members ≡ [] = drop_all i members all in
     sym (rising names order) ∙ alike names (set.items s) (λ q.
-    sym (or_nothing (has q names)) ∙ ap (λ l. has q names || has q l) (sym none_left) ∙ h q ∙ sym (set.contains-from_list name_total members q)
+    sym (or-false (has q names)) ∙ ap (λ l. has q names || has q l) (sym none_left) ∙ h q ∙ sym (set.contains-from_list name_total members q)
     ∙ ap (λ t. set.contains t q) e ∙ set.contains-items s q)
 
 moved : (a b c d : Bool) → (a || (b || c)) ≡ d → (cond b true a || c) ≡ d

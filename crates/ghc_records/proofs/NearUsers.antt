@@ -88,10 +88,6 @@ module _ (ts : Sets) (es : Entries) (m : UsersByStep) (x : ℕ) (is : users_in t
     pub far_unchanged : None ≡ lookup (nat_eq x) es → new ≡ es → Differs m (users_in ts new) x None None
     far_unchanged none same = unchanged (numbered 0 ts ++ es) (numbered 0 ts ++ new) m x is (none ∙ sym (far 0 x x ts es (first x) h)) (ap (λ l. numbered 0 ts ++ l) same)
 
-pub no_entries : {X : Type 0} (es : List X) → length es ≡ 0 → es ≡ []
-no_entries [] e = refl
-no_entries (x ∷ es) e = absurd (omega (arith, e))
-
 -- a list that has grown by sets of no numbers
 pub grown_once : (old ts : Sets) (t : Table (List ℕ)) → HasGrown old ts → t.held ≡ [] → HasGrown old (ts ++ t ∷ [])
 grown_once old ts t g e = (

@@ -6,12 +6,6 @@ numbers_more [] n rest = ap (λ l. 32 ∷ (l ++ rest)) (append-nil (decimal n))
 numbers_more (m ∷ ns) n rest =
     ap (λ l. 32 ∷ l) (append_assoc (decimal m) (numbers_behind (ns ++ n ∷ [])) rest ∙ ap (λ l. decimal m ++ l) (numbers_more ns n rest) ∙ sym (append_assoc (decimal m) (numbers_behind ns) (32 ∷ (decimal n ++ rest))))
 
-first_of : (P : ℕ → Type 0) (n : ℕ) (ns : List ℕ) → All P (n ∷ ns) → P n
-first_of P n ns all = all 0 0 (omega arith)
-
-others_of : (P : ℕ → Type 0) (n : ℕ) (ns : List ℕ) → All P (n ∷ ns) → All P ns
-others_of P n ns all = λ k d low. all (suc k) d (omega (arith, low))
-
 -- The bytes are the numbers, each behind a space, and then the rest; and whatever numbers they say, the rest says the others.
 pub record HasNumbers (bytes numbers rest : List ℕ) : Type 0 where
   pub said : bytes ≡ numbers_behind numbers ++ rest
@@ -31,4 +25,4 @@ module _ (bytes numbers rest : List ℕ) (has : HasNumbers bytes numbers rest) w
     where
       behind : (ms : List ℕ) → All IsNamed ms → rest ≡ numbers_behind ms → (ks : List ℕ) × All IsNamed ks × (further ≡ numbers_behind ks)
       behind [] all e = let clash : 32 ∷ (decimal n ++ further) ≡ [] = sym begins ∙ e in cc
-      behind (m ∷ ms) all e = (ms, others_of IsNamed m ms all, next m ms (first_of IsNamed m ms all) e)
+      behind (m ∷ ms) all e = (ms, (λ k d low. all (suc k) d (omega (arith, low))), next m ms (all 0 0 (omega arith)) e)

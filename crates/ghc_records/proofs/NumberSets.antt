@@ -1,38 +1,22 @@
 -- Numbers in a list or in a table of keys.
-use Rattle.ghc_records.proofs.Words.{◌≡◌, ◌≢◌, ℕ, Bool, true, false, cond, ◌||◌, List, [], ◌∷◌, refl, sym, ap, ◌∙◌, subst, inl, inr, ◌⊎◌, ◌<◌, ◌+◌, nat_eq, ◌++◌, length, take, get_or, ◌↔◌, Result, Ok, Err, IsOk, OnErr, list_any, eqb-true, eq-eqb, take_more, insert_key, In, in_left, in_right, in_either, AreDistinct}
+use Rattle.ghc_records.proofs.Words.{◌≡◌, ◌≢◌, ℕ, Bool, true, false, cond, ◌||◌, List, [], ◌∷◌, refl, sym, ap, ◌∙◌, subst, inl, inr, ◌⊎◌, ◌<◌, ◌+◌, nat_eq, ◌++◌, length, take, get_or, ◌↔◌, Result, Ok, Err, IsOk, OnErr, list_any, eqb-true, eq-eqb, ne_eqb, nat_tests, or_cases, or_right, false_from_ne_true, arith, take_more, insert_key, In, in_left, in_more, in_right, nat_decided, AreDistinct}
 
 -- numbers are one or they are not
 pub one_or_not : (n k : ℕ) → (n ≡ k) ⊎ (n ≢ k)
-one_or_not n k = elim (nat_eq n k) as (λ b. nat_eq n k ≡ b → (n ≡ k) ⊎ (n ≢ k)) [
-  | true ↦ λ p. inl (eqb-true n k p)
-  | false ↦ λ p. inr (λ e. let clash : true ≡ false = sym (eq-eqb n k e) ∙ p in cc)
-] refl
+one_or_not n k = nat_decided n k
 
 turned : (k n : ℕ) → nat_eq k n ≡ nat_eq n k
-turned k n = elim (nat_eq k n) as (λ b. nat_eq k n ≡ b → b ≡ nat_eq n k) [
-  | true ↦ λ e. sym (eq-eqb n k (sym (eqb-true k n e)))
-  | false ↦ λ e. elim (nat_eq n k) as (λ b. nat_eq n k ≡ b → false ≡ b) [
-    | true ↦ λ f. sym e ∙ eq-eqb k n (sym (eqb-true n k f))
-    | false ↦ λ f. refl
-  ] refl
-] refl
-
-or_true : (b : Bool) → (b || true) ≡ true
-or_true true = refl
-or_true false = refl
+turned k n = grind (arith, nat_tests)
 
 -- a test that finds a number, and the number in the list
 pub number_any : (n : ℕ) (ks : List ℕ) → list_any (nat_eq n) ks ≡ true → In n ks
 number_any n [] e = cc
-number_any n (k ∷ ks) e = elim (nat_eq n k) as (λ b. nat_eq n k ≡ b → (b || list_any (nat_eq n) ks) ≡ true → In n (k ∷ ks)) [
-  | true ↦ λ p q. inl (eqb-true n k p)
-  | false ↦ λ p q. inr (number_any n ks q)
-] refl e
+number_any n (k ∷ ks) e = elim (or_cases (nat_eq n k) (list_any (nat_eq n) ks) e) [ inl p ↦ inl (eqb-true n k p) | inr q ↦ inr (number_any n ks q) ]
 
 pub any_number : (n : ℕ) (ks : List ℕ) → In n ks → list_any (nat_eq n) ks ≡ true
 any_number n [] i = absurd i
 any_number n (k ∷ ks) (inl e) = ap (λ b. b || list_any (nat_eq n) ks) (eq-eqb n k e)
-any_number n (k ∷ ks) (inr i) = ap (λ b. nat_eq n k || b) (any_number n ks i) ∙ or_true (nat_eq n k)
+any_number n (k ∷ ks) (inr i) = or_right (nat_eq n k) (list_any (nat_eq n) ks) (any_number n ks i)
 
 -- a table with one number more or less
 module _ (ks new : List ℕ) (k : ℕ) where
@@ -40,10 +24,7 @@ module _ (ks new : List ℕ) (k : ℕ) where
   same_case b c n e h = h ∙ ap (λ t. cond t b c) (eq-eqb k n (sym e))
 
   other_case : (b : Bool) (n : ℕ) → n ≢ k → list_any (nat_eq n) new ≡ cond (nat_eq k n) b (list_any (nat_eq n) ks) → list_any (nat_eq n) new ≡ list_any (nat_eq n) ks
-  other_case b n other h = elim (nat_eq k n) as (λ t. nat_eq k n ≡ t → list_any (nat_eq n) new ≡ cond t b (list_any (nat_eq n) ks) → list_any (nat_eq n) new ≡ list_any (nat_eq n) ks) [
-    | true ↦ λ p q. absurd (other (sym (eqb-true k n p)))
-    | false ↦ λ p q. q
-  ] refl h
+  other_case b n other h = h ∙ ap (λ t. cond t b (list_any (nat_eq n) ks)) (ne_eqb k n (λ e. other (sym e)))
 
   pub number_put : ((n : ℕ) → list_any (nat_eq n) new ≡ cond (nat_eq k n) true (list_any (nat_eq n) ks)) → (n : ℕ) → In n new ↔ (In n ks ⊎ (n ≡ k))
   number_put h n = elim (one_or_not n k) [
@@ -75,10 +56,7 @@ succeeds (Err x) b h e = let clash : true ≡ false = sym e ∙ h in cc
 
 -- a number that is not there goes to the end of the keys
 pub not_any : (ks : List ℕ) (n : ℕ) → ¬ In n ks → list_any (nat_eq n) ks ≡ false
-not_any ks n not_in = elim (list_any (nat_eq n) ks) as (λ b. list_any (nat_eq n) ks ≡ b → b ≡ false) [
-  | true ↦ λ e. absurd (not_in (number_any n ks e))
-  | false ↦ λ e. refl
-] refl
+not_any ks n not_in = false_from_ne_true (list_any (nat_eq n) ks) (λ e. not_in (number_any n ks e))
 
 pub pushed : (ks : List ℕ) (n : ℕ) → ¬ In n ks → insert_key nat_eq ks n ≡ ks ++ n ∷ []
 pushed ks n not_in = ap (λ b. cond b ks (ks ++ n ∷ [])) (not_any ks n not_in)
@@ -93,10 +71,7 @@ found ks n e = number_any n ks (sym (any_turned n ks) ∙ e)
 
 -- one more at the end of a list without it
 pub in_pushed : (ks : List ℕ) (k n : ℕ) → In n (ks ++ k ∷ []) ↔ (In n ks ⊎ (n ≡ k))
-in_pushed ks k n = (
-  λ i. elim (in_either ks (k ∷ []) n i) [ inl j ↦ inl j | inr (inl e) ↦ inr e | inr (inr never) ↦ absurd never ],
-  λ d. elim d [ inl i ↦ in_left ks (k ∷ []) n i | inr e ↦ in_right ks (k ∷ []) n (inl e) ],
-)
+in_pushed ks k n = (in_more ks k n, λ d. elim d [ inl i ↦ in_left ks (k ∷ []) n i | inr e ↦ in_right ks (k ∷ []) n (inl e) ])
 
 pub distinct_pushed : (ks : List ℕ) (k : ℕ) → AreDistinct ks → ¬ In k ks → AreDistinct (ks ++ k ∷ [])
 distinct_pushed [] k d n = ((λ never. never), tt)

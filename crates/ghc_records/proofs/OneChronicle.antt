@@ -2,18 +2,18 @@
 use Rattle.ghc_records.proofs.Words.{◌≡◌, ℕ, zero, suc, ◌+◌, ◌≤◌, List, [], ◌∷◌, ◌++◌, take, drop, length, refl, sym, ap, ◌∙◌, subst, arith, decimal, codes, append_cancel_left, drop-drop, Tree, IsReadBody, IsReadTerm, WrittenAsk, Predicate, kept_limit, Step, Entry, History, IsLine, SaysStep, greatest_number, pieces_of, TellsNoMoreItems, TellsSection, Chronicle, AreBelow, AreInTurn, entry_limit, next_after, next_behind, spy_limit, SaysEntry, GoTogether, SaysPredicate, IsFirstWrongInChronicle, IsNext, TellsChronicle, TellsEnd, TellsEntries, TellsOpening, TellsSpies, behind_lines, entries_line, lines_to_end, lines_to_spies, no_end, no_entry, no_heading, no_opening, no_spy, no_step, opening_line, spies_line}
 use Rattle.ghc_records.specs.ChronicleText.{more}
 use Rattle.ghc_records.proofs.CutLemmas.{cut_once, number_plain, one_number}
-use Rattle.ghc_records.proofs.CutTexts.{distinct_taken}
-use Rattle.ghc_records.proofs.ExactTexts.{in_front}
+use Rattle.ghc_records.proofs.CutTexts.{fewer_apart}
 use Rattle.ghc_records.proofs.OneEntry.{one_entry, one_predicate}
 use Rattle.ghc_records.proofs.OneSection as section
 use Rattle.ghc_records.proofs.OneStep.{one_line, one_step}
+use Rattle.ghc_records.proofs.TellingSteps.{IsUnder}
 
 -- ---- the first of what goes together goes together
 
-fewer_steps : (next n : ℕ) (steps : List Step) → AreBelow next steps → AreBelow next (take n steps)
-fewer_steps next n steps below = (distinct_taken n steps below.0, λ s i. below.1 s (in_front n steps s i))
+pub fewer_steps : (next n : ℕ) (steps : List Step) → AreBelow next steps → AreBelow next (take n steps)
+fewer_steps next = fewer_apart (IsUnder next)
 
-fewer_entries : (next n : ℕ) (es : List Entry) → AreInTurn next es → AreInTurn next (take n es)
+pub fewer_entries : (next n : ℕ) (es : List Entry) → AreInTurn next es → AreInTurn next (take n es)
 fewer_entries next zero es turn = tt
 fewer_entries next (suc n) [] turn = tt
 fewer_entries next (suc n) (e ∷ es) turn = (turn.0, fewer_entries (next_after next e) n es turn.1)
@@ -78,15 +78,6 @@ module _ (one_term : (text : List ℕ) (u other : Tree) → IsReadTerm text u �
 
   -- ---- chronicles
 
-  pub one_chronicle : (c d : Chronicle) → TellsChronicle text c → TellsChronicle text d → c ≡ d
-  one_chronicle c d h k =
-      let same = right_spies c.opening d.opening c.entries d.entries d.spies k.spies h.spies.entries in
-      let opening = same.0 in
-      let entries = same.1.0 in
-      let spies = one_spying c.opening c.entries c.spies d.spies h.spies same.1.1 in
-      let next : c.next ≡ d.next = h.next ∙ ap (λ o. next_behind o.next c.entries) opening ∙ ap (next_behind d.opening.next) entries ∙ sym k.next in
-      λ i. record { opening = opening i; entries = entries i; spies = spies i; next = next i }
-
   -- what is told is what the parts tell
   parts : (c : Chronicle) (o : History) (es : List Entry) (ps : List Predicate) → TellsChronicle text c → TellsSpies text o es ps → c ≡ record { opening = o; entries = es; spies = ps; next = c.next }
   parts c o es ps h k =
@@ -95,6 +86,12 @@ module _ (one_term : (text : List ℕ) (u other : Tree) → IsReadTerm text u �
       let entries = same.1.0 in
       let spies = one_spying c.opening c.entries c.spies ps h.spies same.1.1 in
       λ i. record { opening = opening i; entries = entries i; spies = spies i; next = c.next }
+
+  pub one_chronicle : (c d : Chronicle) → TellsChronicle text c → TellsChronicle text d → c ≡ d
+  one_chronicle c d h k =
+      let same = parts c d.opening d.entries d.spies h k.spies in
+      let next : c.next ≡ d.next = h.next ∙ ap (λ x. next_behind x.opening.next x.entries) same ∙ sym k.next in
+      same ∙ ap (λ n. record { opening = d.opening; entries = d.entries; spies = d.spies; next = n }) next
 
   pub never_wrong : (c : Chronicle) (line : ℕ) → TellsChronicle text c → ¬ IsFirstWrongInChronicle text line
   never_wrong c line h (no_heading none) = none h.spies.entries.opening.begins

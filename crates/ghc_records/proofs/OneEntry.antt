@@ -1,5 +1,5 @@
 -- A line says one entry, and one predicate.
-use Rattle.ghc_records.proofs.Words.{◌≡◌, ◌≢◌, ℕ, suc, inl, inr, All, List, [], ◌∷◌, ◌++◌, true, false, get_or, refl, sym, ap, ◌∙◌, subst, arith, append_assoc, decimal, codes, append_cancel_left, Tree, IsReadBody, IsReadTerm, WrittenAsk, asked_of, Asked as asked, Predicate, Step, Entry, took, undid, rolled, redid, reordered, goal_name_text, SaysStep, IsNamed, SaysAsking, SaysEntry, numbers_behind, SaysPredicate}
+use Rattle.ghc_records.proofs.Words.{◌≡◌, ◌≢◌, ℕ, suc, ◌+◌, inl, inr, All, List, [], ◌∷◌, ◌++◌, true, false, get_or, refl, sym, ap, ◌∙◌, subst, arith, append_assoc, decimal, codes, append_cancel_left, Tree, IsReadBody, IsReadTerm, WrittenAsk, asked_of, Asked as asked, Predicate, Step, Entry, took, undid, rolled, redid, reordered, goal_name_text, SaysStep, IsNamed, SaysAsking, SaysEntry, entry_text, numbers_behind, SaysPredicate}
 use Rattle.ghc_records.proofs.AskingLines.{asking_apart}
 use Rattle.ghc_records.proofs.CutLemmas.{number_plain, one_number}
 use Rattle.ghc_records.proofs.EntryLines.{cut_numbers, digit_first, one_word, step_alone}
@@ -9,8 +9,6 @@ use Rattle.ghc_records.proofs.PredicateLines.{name_plain, predicate_apart}
 -- numbers behind spaces are written in one way
 one_order : (ns ms : List ℕ) → All IsNamed ns → All IsNamed ms → numbers_behind ns ≡ numbers_behind ms → ns ≡ ms
 one_order [] [] all other e = refl
-one_order [] (m ∷ ms) all other e = cc
-one_order (n ∷ ns) [] all other e = cc
 one_order (n ∷ ns) (m ∷ ms) all other e =
     let small : IsNamed n = all 0 0 (omega arith) in
     let low : IsNamed m = other 0 0 (omega arith) in
@@ -18,14 +16,15 @@ one_order (n ∷ ns) (m ∷ ms) all other e =
     let parts = one_word (decimal n) (decimal m) (numbers_behind ns) (numbers_behind ms) (number_plain 32 n refl small.1) (number_plain 32 m refl low.1) (cut_numbers ns) (cut_numbers ms) rest in
     ap (λ k. k ∷ ns) (one_number n m small.1 low.1 parts.0)
     ∙ ap (λ l. m ∷ l) (one_order ns ms (λ k d less. all (suc k) d (omega (arith, less))) (λ k d less. other (suc k) d (omega (arith, less))) parts.1)
+one_order ns ms all other e = cc
 
 -- numbers behind one word
 same_number : (word : List ℕ) (line : List ℕ) (n m : ℕ) → line ≡ word ++ decimal n → line ≡ word ++ decimal m → IsNamed n → IsNamed m → n ≡ m
 same_number word line n m e f small low = one_number n m small.1 low.1 (append_cancel_left word (decimal n) (decimal m) (sym e ∙ f))
 
 -- lines that begin otherwise
-apart : (i : ℕ) (line a b : List ℕ) → get_or a i 0 ≢ get_or b i 0 → line ≡ a → line ≡ b → ⊥
-apart i line a b other e f = other (ap (λ l. get_or l i 0) (sym e ∙ f))
+apart : (line a b : List ℕ) → get_or a 0 0 + get_or a 1 0 ≢ get_or b 0 0 + get_or b 1 0 → line ≡ a → line ≡ b → ⊥
+apart line a b other e f = other (ap (λ l. get_or l 0 0 + get_or l 1 0) (sym e ∙ f))
 
 module _ (one_term : (text : List ℕ) (u other : Tree) → IsReadTerm text u → IsReadTerm text other → u ≡ other)
     (one_body : (text : List ℕ) (a other : WrittenAsk) → IsReadBody text a → IsReadBody text other → a ≡ other) where
@@ -61,27 +60,13 @@ module _ (one_term : (text : List ℕ) (u other : Tree) → IsReadTerm text u �
 
   pub one_entry : (line : List ℕ) (e f : Entry) → SaysEntry line e → SaysEntry line f → e ≡ f
   one_entry line (took s) f h k = taken_only line s f h k
-  one_entry line (undid n) (took t) h k = sym (taken_only line t (undid n) k h)
   one_entry line (undid n) (undid m) h k = ap undid (same_number (codes "undo ") line n m h.0 k.0 h.1 k.1)
-  one_entry line (undid n) (rolled m) h k = absurd (apart 0 line (codes "undo " ++ decimal n) (codes "roll " ++ decimal m) (λ e. omega (arith, e)) h.0 k.0)
-  one_entry line (undid n) (redid m) h k = absurd (apart 0 line (codes "undo " ++ decimal n) (codes "redo " ++ decimal m) (λ e. omega (arith, e)) h.0 k.0)
-  one_entry line (undid n) (reordered ms) h k = absurd (apart 0 line (codes "undo " ++ decimal n) (codes "arrange" ++ numbers_behind ms) (λ e. omega (arith, e)) h.0 k.0)
-  one_entry line (rolled n) (took t) h k = sym (taken_only line t (rolled n) k h)
-  one_entry line (rolled n) (undid m) h k = absurd (apart 0 line (codes "roll " ++ decimal n) (codes "undo " ++ decimal m) (λ e. omega (arith, e)) h.0 k.0)
   one_entry line (rolled n) (rolled m) h k = ap rolled (same_number (codes "roll ") line n m h.0 k.0 h.1 k.1)
-  one_entry line (rolled n) (redid m) h k = absurd (apart 1 line (codes "roll " ++ decimal n) (codes "redo " ++ decimal m) (λ e. omega (arith, e)) h.0 k.0)
-  one_entry line (rolled n) (reordered ms) h k = absurd (apart 0 line (codes "roll " ++ decimal n) (codes "arrange" ++ numbers_behind ms) (λ e. omega (arith, e)) h.0 k.0)
-  one_entry line (redid n) (took t) h k = sym (taken_only line t (redid n) k h)
-  one_entry line (redid n) (undid m) h k = absurd (apart 0 line (codes "redo " ++ decimal n) (codes "undo " ++ decimal m) (λ e. omega (arith, e)) h.0 k.0)
-  one_entry line (redid n) (rolled m) h k = absurd (apart 1 line (codes "redo " ++ decimal n) (codes "roll " ++ decimal m) (λ e. omega (arith, e)) h.0 k.0)
   one_entry line (redid n) (redid m) h k = ap redid (same_number (codes "redo ") line n m h.0 k.0 h.1 k.1)
-  one_entry line (redid n) (reordered ms) h k = absurd (apart 0 line (codes "redo " ++ decimal n) (codes "arrange" ++ numbers_behind ms) (λ e. omega (arith, e)) h.0 k.0)
-  one_entry line (reordered ns) (took t) h k = sym (taken_only line t (reordered ns) k h)
-  one_entry line (reordered ns) (undid m) h k = absurd (apart 0 line (codes "arrange" ++ numbers_behind ns) (codes "undo " ++ decimal m) (λ e. omega (arith, e)) h.0 k.0)
-  one_entry line (reordered ns) (rolled m) h k = absurd (apart 0 line (codes "arrange" ++ numbers_behind ns) (codes "roll " ++ decimal m) (λ e. omega (arith, e)) h.0 k.0)
-  one_entry line (reordered ns) (redid m) h k = absurd (apart 0 line (codes "arrange" ++ numbers_behind ns) (codes "redo " ++ decimal m) (λ e. omega (arith, e)) h.0 k.0)
   one_entry line (reordered ns) (reordered ms) h k =
       ap reordered (one_order ns ms h.1 k.1 (append_cancel_left (codes "arrange") (numbers_behind ns) (numbers_behind ms) (sym h.0 ∙ k.0)))
+  one_entry line e (took t) h k = sym (taken_only line t e k h)
+  one_entry line e f h k = absurd (apart line (entry_text e) (entry_text f) (λ same. omega (arith, same)) h.0 k.0)
 
 pub one_predicate : (line : List ℕ) (p q : Predicate) → SaysPredicate line p → SaysPredicate line q → p ≡ q
 one_predicate line p q h k =

@@ -1,8 +1,20 @@
 -- Pieces tell one section of items, and none where a line of it is wrong.
-use Rattle.ghc_records.proofs.Words.{◌≡◌, ℕ, suc, ◌≤◌, inl, inr, List, [], ◌∷◌, ◌++◌, take, drop, length, sym, ap, ◌∙◌, subst, arith, take_all, IsLineOf, IsFirstWrongOf, TellsItems, TellsNoMoreItems, TellsSection, no_count, no_item}
-use Rattle.ghc_records.proofs.CutTexts.{less_or, taken_at}
-use Rattle.ghc_records.proofs.ExactTexts.{begin_alike, one_longer}
+use Rattle.ghc_records.proofs.Words.{◌≡◌, ℕ, zero, suc, ◌<◌, ◌≤◌, cases_lt, inl, inr, List, [], ◌∷◌, ◌++◌, take, drop, length, refl, sym, ap, ◌∙◌, subst, arith, Some, slice_get, take_all, IsLineOf, IsFirstWrongOf, TellsItems, TellsNoMoreItems, TellsSection, no_count, no_item}
+use Rattle.ghc_records.proofs.CutTexts.{taken_at}
 use Rattle.ghc_records.proofs.OneStep.{one_line}
+
+-- lists that agree at each place begin alike
+begin_alike : {X : Type 0} (xs ys : List X) → ((i : ℕ) (x y : X) → slice_get xs i ≡ Some x → slice_get ys i ≡ Some y → x ≡ y)
+    → length xs ≤ length ys → xs ≡ take (length xs) ys
+begin_alike [] ys same low = refl
+begin_alike (x ∷ xs) [] same low = absurd (omega (arith, low))
+begin_alike (x ∷ xs) (y ∷ ys) same low =
+    ap (λ z. z ∷ xs) (same 0 x y refl refl) ∙ ap (λ l. y ∷ l) (begin_alike xs ys (λ i a b e f. same (suc i) a b e f) (omega (arith, low)))
+
+one_longer : {X : Type 0} (xs : List X) (n : ℕ) → n < length xs → (x : X) × (take (suc n) xs ≡ take n xs ++ x ∷ [])
+one_longer [] n low = absurd (omega (arith, low))
+one_longer (x ∷ xs) zero low = (x, refl)
+one_longer (x ∷ xs) (suc n) low = let (y, e) = one_longer xs n (omega (arith, low)) in (y, ap (λ l. x ∷ l) e)
 
 module _ {A : Type 0} (Says : List ℕ → A → Type 0) (Fit : List A → Type 0) (one : (line : List ℕ) (a b : A) → Says line a → Says line b → a ≡ b) (fewer : (n : ℕ) (items : List A) → Fit items → Fit (take n items)) where
   module _ (pieces : List (List ℕ)) where
@@ -20,7 +32,7 @@ module _ {A : Type 0} (Says : List ℕ → A → Type 0) (Fit : List A → Type 
 
     -- no more items are told than where no further one is
     pub not_longer : (count : ℕ) (stopped xs : List A) → TellsNoMoreItems Says Fit pieces count stopped → TellsItems Says Fit pieces xs → length xs ≤ length stopped
-    not_longer count stopped xs h told = elim (less_or (length stopped) (length xs)) [
+    not_longer count stopped xs h told = elim (cases_lt (length stopped) (length xs)) [
       | inl low ↦
           let k = one_longer xs (length stopped) low in
           let begins : stopped ≡ take (length stopped) xs = alike stopped xs h.0 told (omega (arith, low)) in

@@ -1,5 +1,5 @@
 -- No line feed stands in the text of goals that the grammar has a text for.
-use Rattle.ghc_records.proofs.Words.{◌≡◌, ℕ, List, [], ◌∷◌, ◌++◌, map, refl, sym, ap, subst, inl, inr, arith, decimal, codes, VarName, Operator, Add, Subtract, Multiply, Divide, Modulo, In, Tree, variable, integer, node, trees, Expression, leaf, operation, Goal, call, unify, assign, stream, arguments_text, term_text, variable_text, expression_text, goal_text, operand, operator_text, all_resolved, HasNumbers, IsWritableOperand, IsWritableExpression, IsWritableTarget, IsWritableGoal, body_text, followed_by}
+use Rattle.ghc_records.proofs.Words.{◌≡◌, ℕ, List, [], ◌∷◌, ◌++◌, map, refl, sym, ap, subst, inl, inr, arith, decimal, codes, VarName, Operator, Add, In, Tree, variable, integer, node, trees, Expression, leaf, operation, Goal, call, unify, assign, stream, arguments_text, term_text, variable_text, expression_text, goal_text, operand, operator_text, all_resolved, HasNumbers, IsWritableOperand, IsWritableExpression, IsWritableTarget, IsWritableGoal, body_text, followed_by}
 use Rattle.ghc_term.specs.Tree as tree
 use Rattle.ghc_records.proofs.CutLemmas.{fits}
 use Rattle.ghc_records.proofs.PlainTexts.{HasNoFeed, arguments_plain, both, byte_first, decimal_text, integer_text, name_text, nothing, plain_codes, tree_plain}
@@ -16,15 +16,11 @@ operand_plain (node f ts) w = absurd w
 
 target_plain : (t : Tree) → IsWritableTarget HasNumbers t → HasNoFeed (term_text t)
 target_plain (variable x) w = variable_plain x w
-target_plain (integer k) w = absurd w
-target_plain (node f ts) w = absurd w
+target_plain t w = absurd w
 
 operator_plain : (o : Operator) → HasNoFeed (operator_text o)
-operator_plain Add = plain_codes (codes " + ") refl
-operator_plain Subtract = plain_codes (codes " - ") refl
-operator_plain Multiply = plain_codes (codes " * ") refl
-operator_plain Divide = plain_codes (codes " / ") refl
-operator_plain Modulo = plain_codes (codes " mod ") refl
+operator_plain Add = plain_codes (operator_text Add) refl
+operator_plain o = plain_codes (operator_text o) refl
 
 in_brackets : (e : Expression) (text : List ℕ) → HasNoFeed text → HasNoFeed (operand e text)
 in_brackets (leaf t) text h = h

@@ -1,5 +1,5 @@
 -- No line feed stands in the text of an input term, nor in that of a step or in another line of a history.
-use Rattle.ghc_records.proofs.Words.{◌≡◌, ◌≢◌, ℕ, suc, nat_eq, ◌<◌, ◌^◌, inl, inr, Bool, true, false, All, List, [], ◌∷◌, ◌++◌, refl, sym, ◌∙◌, subst, arith, decimal, ℤ, pos, negsuc, FitsSigned, w64, codes, if◌then◌else◌, IsTrue, ◌&&◌, not, signed_decimal, is_ascii_lowercase, list_all, eq-eqb, All-nil, All-cons, All-append, decimal_is_IsNumeral, bytes_eq-Decides, VarName, Tree, variable, integer, node, Trees, none, more, is_cell, is_nil, variable_text, term_text, cell_text, rest_text, arguments_text, further_text, barred, is_name_byte, IsNameText, IsHead, IsInGrammar, AllInGrammar, IsWritable, AreWritable}
+use Rattle.ghc_records.proofs.Words.{◌≡◌, ◌≢◌, ℕ, suc, nat_eq, ◌<◌, ◌^◌, inl, inr, Bool, true, false, All, List, [], ◌∷◌, ◌++◌, refl, sym, ◌∙◌, subst, arith, decimal, ℤ, pos, negsuc, FitsSigned, w64, codes, if◌then◌else◌, IsTrue, ◌&&◌, not, signed_decimal, is_ascii_lowercase, list_all, eq-eqb, All-nil, All-cons, All-append, decimal_is_IsNumeral, bytes_eq-Decides, and_parts, not_both, VarName, Tree, variable, integer, node, Trees, none, more, is_cell, is_nil, variable_text, term_text, cell_text, rest_text, arguments_text, further_text, barred, is_name_byte, IsNameText, IsHead, IsInGrammar, AllInGrammar, IsWritable, AreWritable}
 use Rattle.ghc_records.proofs.CutLemmas.{digits_plain}
 
 -- no byte is a line feed
@@ -23,23 +23,20 @@ plain_codes (b ∷ bytes) e = elim (nat_eq b 10) as (λ t. nat_eq b 10 ≡ t →
   | false ↦ λ is rest. byte_first b bytes (λ same. let clash : true ≡ false = sym (eq-eqb b 10 same) ∙ is in cc) (plain_codes bytes rest)
 ] refl e
 
-name_byte : (b : ℕ) → IsTrue (is_name_byte b) → b ≢ 10
-name_byte b h e = let clash : false ≡ true = subst (λ c. IsTrue (is_name_byte c)) e h in cc
+-- nor a mark that is none of its bytes in a name
+name_bytes : (mark : ℕ) → is_name_byte mark ≡ false → (bs : List ℕ) → IsTrue (list_all is_name_byte bs) → All (λ b. b ≢ mark) bs
+name_bytes mark other [] h = All-nil (λ b. b ≢ mark)
+name_bytes mark other (b ∷ bs) h =
+    let p = and_parts (is_name_byte b) (list_all is_name_byte bs) h in
+    All-cons (λ c. c ≢ mark) b bs (λ e. not_both (is_name_byte mark) other (subst (λ c. IsTrue (is_name_byte c)) e p.0)) (name_bytes mark other bs p.1)
 
-small_letter : (b : ℕ) → IsTrue (is_ascii_lowercase b) → b ≢ 10
-small_letter b h e = let clash : false ≡ true = subst (λ c. IsTrue (is_ascii_lowercase c)) e h in cc
-
-pub and_parts : (a b : Bool) → IsTrue (a && b) → IsTrue a × IsTrue b
-and_parts true b h = (refl, h)
-and_parts false b h = cc
-
-name_bytes : (bs : List ℕ) → IsTrue (list_all is_name_byte bs) → HasNoFeed bs
-name_bytes [] h = nothing
-name_bytes (b ∷ bs) h = let p = and_parts (is_name_byte b) (list_all is_name_byte bs) h in byte_first b bs (name_byte b p.0) (name_bytes bs p.1)
+pub name_without : (mark : ℕ) → is_name_byte mark ≡ false → is_ascii_lowercase mark ≡ false → (f : List ℕ) → IsNameText f → All (λ b. b ≢ mark) f
+name_without mark other small [] h = absurd h
+name_without mark other small (b ∷ bs) h = All-cons (λ c. c ≢ mark) b bs
+    (λ e. not_both (is_ascii_lowercase mark) small (subst (λ c. IsTrue (is_ascii_lowercase c)) e h.0)) (name_bytes mark other bs h.1)
 
 pub name_text : (f : List ℕ) → IsNameText f → HasNoFeed f
-name_text [] h = absurd h
-name_text (b ∷ bs) h = byte_first b bs (small_letter b h.0) (name_bytes bs h.1)
+name_text = name_without 10 refl refl
 
 pub decimal_text : (n : ℕ) → n < 2 ^ 64 → HasNoFeed (decimal n)
 decimal_text n h = digits_plain 10 refl (decimal n) (decimal_is_IsNumeral n h).0.1

@@ -1,40 +1,21 @@
 -- Lemmas on lines that say predicates.
-use Rattle.ghc_records.proofs.Words.{◌≡◌, ◌≢◌, ℕ, ◌<◌, zero, suc, All, List, [], ◌∷◌, ◌++◌, Bool, true, false, sym, ◌∙◌, subst, arith, decimal, IsTrue, is_ascii_lowercase, list_all, IsAscii, All-nil, All-cons, is_name_byte, IsNameText, Predicate, SaysPredicate}
+use Rattle.ghc_records.proofs.Words.{◌≡◌, ◌≢◌, ℕ, zero, suc, All, List, [], ◌∷◌, ◌++◌, Bool, true, false, refl, sym, ◌∙◌, subst, arith, decimal, IsTrue, list_all, IsAscii, and_parts, is_name_byte, IsNameText, Predicate, SaysPredicate}
 use Rattle.ghc_records.proofs.CutLemmas.{cut_once, no_cut}
-use Rattle.ghc_records.proofs.PlainTexts.{and_parts}
-
-name_byte : (b : ℕ) → IsTrue (is_name_byte b) → b ≢ 47
-name_byte b h e = let clash : false ≡ true = subst (λ c. IsTrue (is_name_byte c)) e h in cc
-
-small_letter : (b : ℕ) → IsTrue (is_ascii_lowercase b) → b ≢ 47
-small_letter b h e = let clash : false ≡ true = subst (λ c. IsTrue (is_ascii_lowercase c)) e h in cc
-
-name_bytes : (bs : List ℕ) → IsTrue (list_all is_name_byte bs) → All (λ b. b ≢ 47) bs
-name_bytes [] h = All-nil (λ b. b ≢ 47)
-name_bytes (b ∷ bs) h =
-    let p = and_parts (is_name_byte b) (list_all is_name_byte bs) h in
-    All-cons (λ b. b ≢ 47) b bs (name_byte b p.0) (name_bytes bs p.1)
+use Rattle.ghc_records.proofs.PlainTexts.{name_without}
 
 -- no stroke stands in a name
 pub name_plain : (f : List ℕ) → IsNameText f → All (λ b. b ≢ 47) f
-name_plain [] h = absurd h
-name_plain (b ∷ bs) h = All-cons (λ b. b ≢ 47) b bs (small_letter b h.0) (name_bytes bs h.1)
-
-ascii_byte : (b : ℕ) → IsTrue (is_name_byte b) → b < 128
-ascii_byte b e = grind (arith, e)
-
-ascii_letter : (b : ℕ) → IsTrue (is_ascii_lowercase b) → b < 128
-ascii_letter b e = grind (arith, e)
+name_plain = name_without 47 refl refl
 
 ascii_bytes : (bs : List ℕ) → IsTrue (list_all is_name_byte bs) → IsAscii bs
 ascii_bytes [] e i = omega arith
-ascii_bytes (b ∷ bs) e zero = ascii_byte b (and_parts (is_name_byte b) (list_all is_name_byte bs) e).0
+ascii_bytes (b ∷ bs) e zero = let p = and_parts (is_name_byte b) (list_all is_name_byte bs) e in grind (arith, p.0)
 ascii_bytes (b ∷ bs) e (suc i) = ascii_bytes bs (and_parts (is_name_byte b) (list_all is_name_byte bs) e).1 i
 
 -- the bytes of a name are ASCII
 pub ascii_name : (f : List ℕ) → IsNameText f → IsAscii f
 ascii_name [] h i = absurd h
-ascii_name (b ∷ bs) h zero = ascii_letter b h.0
+ascii_name (b ∷ bs) h zero = grind (arith, h.0)
 ascii_name (b ∷ bs) h (suc i) = ascii_bytes bs h.1 i
 
 -- a line is cut at its first stroke in one way

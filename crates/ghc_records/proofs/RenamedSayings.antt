@@ -86,6 +86,5 @@ module _ (C D : List ℕ → VarName → Type 0) (f : VarName → VarName) where
 
   pub goals_say : (gs : List Goal) (ws : List goal.Goal) → Carries (variables_of_goals ws) → Each (SaysGoalBy C) gs ws → Each (SaysGoalBy D) gs (map (replace_in_goal (by f)) ws)
   goals_say [] [] k h = tt
-  goals_say [] (w ∷ ws) k h = absurd h
-  goals_say (g ∷ gs) [] k h = absurd h
   goals_say (g ∷ gs) (w ∷ ws) k h = (goal_says g w (front (variables_of_goal w) (variables_of_goals ws) k) h.0, goals_say gs ws (behind (variables_of_goal w) (variables_of_goals ws) k) h.1)
+  goals_say gs ws k h = absurd h

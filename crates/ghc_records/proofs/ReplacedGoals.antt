@@ -8,12 +8,10 @@ module _ (V W : VarName → Type 0) (s : VarName → Tree) (becomes : (x : VarNa
   as_many (more t ts) = ap suc (as_many ts)
 
   head_stays : (f : List ℕ) (ts : Trees) → IsHead f ts → IsHead f (replace_all s ts)
-  head_stays f none h = h
-  head_stays f (more t none) h = h
-  head_stays f (more t (more u none)) h = h
   head_stays f (more t (more u (more v ts))) (inl z) = inl z
   head_stays f (more t (more u (more v ts))) (inr (inl z)) = inr (inl z)
   head_stays f (more t (more u (more v ts))) (inr (inr p)) = inr (inr (p.0, omega (arith, p.1, as_many ts)))
+  head_stays f ts h = h
 
   mutual
     tree_stays : (t : Tree) → IsWritable V t → IsWritable W (replace s t)
@@ -40,8 +38,7 @@ module _ (V W : VarName → Type 0) (s : VarName → Tree) (becomes : (x : VarNa
 
   target_stays : (t : Tree) → IsWritableTarget V t → IsWritableTarget W (replace s t)
   target_stays (variable x) w = let k = becomes x w in subst (IsWritableTarget W) (sym k.1) k.2
-  target_stays (integer k) w = absurd w
-  target_stays (node f ts) w = absurd w
+  target_stays t w = absurd w
 
   goal_stays : (g : Goal) → IsWritableGoal V g → IsWritableGoal W (replace_in_goal s g)
   goal_stays (call f ts) w =

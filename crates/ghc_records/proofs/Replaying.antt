@@ -1,5 +1,5 @@
 -- A replay is one, its store is acyclic, and its variables are the query's or made by its steps.
-use Rattle.ghc_records.proofs.Words.{◌≡◌, ℕ, suc, ◌≤◌, ◌⊎◌, List, [], ◌∷◌, ◌++◌, refl, sym, ap, ◌∙◌, subst, inl, inr, arith, Some, None, slice_get, VarName, In, IsAcyclic, name_cmp, value_at, empty_acyclic, Program, Query, IsProgram, IsQuery, made, goal_cmp, AreDistinct, State, Record, numbers, after, query_state, Runs, MakesVariable, IsVariableOf, ReplayIsOne, ReplayIsWellMade}
+use Rattle.ghc_records.proofs.Words.{◌≡◌, ℕ, ◌≤◌, ◌⊎◌, List, [], ◌∷◌, ◌++◌, refl, sym, ap, ◌∙◌, subst, inl, inr, arith, Some, None, VarName, In, at_of_in, IsAcyclic, name_cmp, value_at, empty_acyclic, Program, Query, IsProgram, IsQuery, made, goal_cmp, AreDistinct, State, Record, numbers, after, query_state, Runs, MakesVariable, IsVariableOf, ReplayIsOne, ReplayIsWellMade}
 use Rattle.std.specs.FinMap as finite
 use Rattle.ghc_flat.specs.Variables.{variables_of_goals, firsts}
 use Rattle.ghc_records.specs.Replay.{Names}
@@ -15,15 +15,10 @@ run_once P s (r ∷ rs) t u p q = run_once P (after s r) rs t u p.1 q.1
 pub replay_once : ReplayIsOne
 replay_once P query rs s t p q = run_once P (query_state query) rs s t p.1 q.1
 
-index_of : (xs : List VarName) (x : VarName) → In x xs → (i : ℕ) × (slice_get xs i ≡ Some x)
-index_of [] x i = absurd i
-index_of (y ∷ xs) x (inl e) = (0, ap Some (sym e))
-index_of (y ∷ xs) x (inr i) = let p = index_of xs x i in (suc p.0, p.1)
-
 -- a variable of the query has the number 0
 pub of_query : (P : Program) (query : Query) (x : VarName) → IsQuery P query → In x (variables_of_goals query) → x.step ≡ 0
 of_query P query x q i =
-    let p = index_of (firsts [] (variables_of_goals query)) x (first_in [] (variables_of_goals query) x i refl) in
+    let p = at_of_in (firsts [] (variables_of_goals query)) x (first_in [] (variables_of_goals query) x i refl) in
     ap (λ (v : VarName). v.step) (q.numbered p.0 x p.1)
 
 -- the variables of a query and of the steps of which R holds

@@ -55,9 +55,8 @@ rising_pushed xs x a h = joined xs (x ∷ []) a ((λ n never. absurd never), tt)
 
 -- what a search by halves says of each place, said of the numbers
 front_below : (xs : List ℕ) (i x : ℕ) → ((k : ℕ) → k < i → get_or xs k 0 < x) → i ≤ length xs → (n : ℕ) → In n (take i xs) → n < x
-front_below [] zero x h l n j = absurd j
-front_below [] (suc i) x h l n j = absurd (omega (arith, l))
-front_below (y ∷ xs) zero x h l n j = absurd j
+front_below xs zero x h l n j = absurd j
+front_below [] (suc i) x h l n j = absurd j
 front_below (y ∷ xs) (suc i) x h l n (inl e) = subst (λ z. z < x) (sym e) (h 0 (omega arith))
 front_below (y ∷ xs) (suc i) x h l n (inr j) = front_below xs i x (λ k b. h (suc k) (omega (arith, b))) (omega (arith, l)) n j
 

@@ -1,16 +1,11 @@
 -- Lemmas on what lines say of steps.
-use Rattle.ghc_records.proofs.Words.{◌≡◌, ◌≢◌, ℕ, zero, suc, ◌≤◌, All, List, [], ◌∷◌, ◌++◌, get_or, refl, sym, ap, ◌∙◌, arith, decimal, subst, codes, append_cancel_left, All-cons, GoalName, Act, ByClause as by_clause, Unified as unified, Assigned as assigned, Given as given, Closed as closed, Asked as asked, IsReadTerm, Tree, Step, goal_name_text, SaysAct, SaysStep, greatest_number}
+use Rattle.ghc_records.proofs.Words.{◌≡◌, ◌≢◌, ℕ, ◌+◌, ◌≤◌, All, List, ◌∷◌, ◌++◌, get_or, refl, sym, ap, ◌∙◌, arith, decimal, subst, codes, append_cancel_left, All-append, All-cons, GoalName, Act, ByClause as by_clause, Unified as unified, Assigned as assigned, Given as given, Closed as closed, Asked as asked, IsReadTerm, Tree, Step, act_text, goal_name_text, SaysAct, SaysStep, greatest_number}
 use Rattle.ghc_records.proofs.CutLemmas.{cut_once, no_cut, number_plain, one_number}
-
-plain_append : (mark : ℕ) (a b : List ℕ) → All (λ c. c ≢ mark) a → All (λ c. c ≢ mark) b → All (λ c. c ≢ mark) (a ++ b)
-plain_append mark [] b p q k d low = q k d low
-plain_append mark (x ∷ a) b p q zero d low = p zero d (omega arith)
-plain_append mark (x ∷ a) b p q (suc k) d low = plain_append mark a b (λ j e m. p (suc j) e (omega (arith, m))) q k d (omega (arith, low))
 
 -- the name of a goal has no blank
 pub goal_plain : (g : GoalName) → g.step ≤ greatest_number → g.place ≤ greatest_number → All (λ c. c ≢ 32) (goal_name_text g)
 goal_plain g step place =
-    plain_append 32 (decimal g.step) (46 ∷ decimal g.place) (number_plain 32 g.step refl step) (All-cons (λ c. c ≢ 32) 46 (decimal g.place) (λ e. omega (arith, e)) (number_plain 32 g.place refl place))
+    All-append (λ c. c ≢ 32) (decimal g.step) (46 ∷ decimal g.place) (number_plain 32 g.step refl step) (All-cons (λ c. c ≢ 32) 46 (decimal g.place) (λ e. omega (arith, e)) (number_plain 32 g.place refl place))
 
 -- the name of a goal is cut at its point in one way
 pub goal_apart : (word a b : List ℕ) (g : GoalName) → word ≡ a ++ 46 ∷ b → All (λ c. c ≢ 46) a → g.step ≤ greatest_number → word ≡ goal_name_text g → (a ≡ decimal g.step) × (b ≡ decimal g.place)
@@ -47,9 +42,9 @@ one_step_number line s t h k =
     one_number s.number t.number h.number.1 k.number.1
     (line_apart line (decimal s.number) (goal_name_text h.goal ++ 32 ∷ h.act) t h.parts (number_plain 32 s.number refl h.number.1) k).0
 
--- bytes that differ at a place are no same bytes
-differ : (i : ℕ) (a b : List ℕ) → get_or a i 0 ≢ get_or b i 0 → a ≢ b
-differ i a b other e = other (ap (λ l. get_or l i 0) e)
+-- bytes that begin otherwise are no same bytes
+differ : (a b : List ℕ) → get_or a 0 0 + get_or a 1 0 ≢ get_or b 0 0 + get_or b 1 0 → a ≢ b
+differ a b other e = other (ap (λ l. get_or l 0 0 + get_or l 1 0) e)
 
 -- what begins with the one begins with the other
 begun : (bytes front word begins : List ℕ) → front ≡ begins → bytes ≡ front ++ word → begins ++ word ≡ bytes
@@ -57,14 +52,12 @@ begun bytes front word begins at cut = ap (λ l. l ++ word) (sym at) ∙ sym cut
 
 -- bytes that say an input
 pub in_only : (bytes front text : List ℕ) → front ≡ codes "in " → bytes ≡ front ++ text → ((u : Tree) → ¬ IsReadTerm text u) → (act : Act) → ¬ SaysAct bytes act
-in_only bytes front text at cut none (by_clause k) h = differ 0 (codes "in " ++ text) (codes "by " ++ decimal k) (λ e. omega (arith, e)) (begun bytes front text (codes "in ") at cut ∙ h.0)
-in_only bytes front text at cut none unified h = differ 0 (codes "in " ++ text) (codes "eq") (λ e. omega (arith, e)) (begun bytes front text (codes "in ") at cut ∙ h)
-in_only bytes front text at cut none assigned h = differ 1 (codes "in " ++ text) (codes "is") (λ e. omega (arith, e)) (begun bytes front text (codes "in ") at cut ∙ h)
 in_only bytes front text at cut none (given u) h =
     let same : text ≡ h.0 = append_cancel_left (codes "in ") text h.0 (begun bytes front text (codes "in ") at cut ∙ h.1) in
     none u (subst (λ l. IsReadTerm l u) (sym same) h.2)
-in_only bytes front text at cut none closed h = differ 0 (codes "in " ++ text) (codes "end") (λ e. omega (arith, e)) (begun bytes front text (codes "in ") at cut ∙ h)
 in_only bytes front text at cut none (asked gs) h = h
+in_only bytes front text at cut none (by_clause k) h = differ (codes "in " ++ text) (codes "by " ++ decimal k) (λ e. omega (arith, e)) (begun bytes front text (codes "in ") at cut ∙ h.0)
+in_only bytes front text at cut none act h = differ (codes "in " ++ text) (act_text act) (λ e. omega (arith, e)) (begun bytes front text (codes "in ") at cut ∙ h)
 
 -- bytes that begin neither way, and are no other act
 pub none_only : (bytes by given_front : List ℕ) → by ≡ codes "by " → given_front ≡ codes "in " → ((rest : List ℕ) → bytes ≢ by ++ rest) → ((rest : List ℕ) → bytes ≢ given_front ++ rest)

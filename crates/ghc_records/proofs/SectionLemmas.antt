@@ -1,6 +1,12 @@
 -- Lemmas on sections of a text.
 use Rattle.ghc_records.proofs.Words.{◌≡◌, ℕ, ◌+◌, ◌<◌, List, [], ◌∷◌, ◌++◌, drop, length, refl, sym, ap, ◌∙◌, subst, arith, inl, inr, length-append, IsLineOf, pieces_of, TellsItems, TellsNoMoreItems, push_last, push_either}
-use Rattle.ghc_records.proofs.CutLemmas.{drop_next, line_stands}
+use Rattle.ghc_records.proofs.CutLemmas.{drop_next, line_is, line_stands}
+
+-- where the first line says nothing, no first line does
+pub none_said : {A : Type 0} (Says : List ℕ → A → Type 0) (Fits : A → Type 0) (text line rest : List ℕ) → pieces_of text ≡ line ∷ pieces_of rest
+    → ((a : A) → ¬ Says line a) → (other : List ℕ) (a : A) → IsLineOf (pieces_of text) 0 other → Says other a → ¬ Fits a
+none_said Says Fits text line rest found none other a stands says fits =
+    none a (subst (λ l. Says l a) (line_is (pieces_of text) 0 text line rest other refl found stands) says)
 
 module _ {A : Type 0} (Says : List ℕ → A → Type 0) (Fit : List A → Type 0) where
   -- the first line says an item, and others stand behind it
@@ -41,7 +47,8 @@ module _ {A : Type 0} (Says : List ℕ → A → Type 0) (Fit : List A → Type 
 
     -- where no line tells an item that goes with these, no item more is told
     pub no_more_read : (count : ℕ) → index < count → ((line : List ℕ) (a : A) → IsLineOf (pieces_of rest) 0 line → Says line a → ¬ Fit (items ++ a ∷ [])) → TellsNoMoreItems Says Fit pieces count items
-    no_more_read count low none = (has.told, omega (arith, low, has.all), λ a told. let k = told.each (length items) a (push_last items a) in again a k.0 k.1 k.2 told.fit)
-      where
-        again : (a : A) (line : List ℕ) → IsLineOf pieces (length items) line → Says line a → ¬ Fit (items ++ a ∷ [])
-        again a line stands says = none line a (stands.0, stands.1, sym at_rest ∙ stands.2) says
+    no_more_read count low none = (
+      has.told,
+      omega (arith, low, has.all),
+      λ a told. let k = told.each (length items) a (push_last items a) in none k.0 a (k.1.0, k.1.1, sym at_rest ∙ k.1.2) k.2 told.fit,
+    )

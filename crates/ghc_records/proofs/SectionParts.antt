@@ -1,5 +1,5 @@
 -- Sections of a text, put together from the line that tells how many items there are and the lines of these.
-use Rattle.ghc_records.proofs.Words.{◌≡◌, ℕ, ◌+◌, ◌≤◌, ◌⊎◌, inl, inr, List, ◌∷◌, ◌++◌, drop, length, decimal, sym, ap, ◌∙◌, subst, arith, drop-drop, Fault, IsLineOf, pieces_of, IsFirstWrongOf, TellsItems, TellsNoMoreItems, TellsSection, no_count, no_item}
+use Rattle.ghc_records.proofs.Words.{◌≡◌, ℕ, ◌+◌, ◌≤◌, ◌⊎◌, inl, inr, List, ◌∷◌, drop, length, sym, ap, ◌∙◌, subst, arith, drop-drop, Fault, IsLineOf, pieces_of, IsFirstWrongOf, TellsItems, TellsNoMoreItems, TellsSection, no_count, no_item}
 use Rattle.ghc_records.proofs.CutLemmas.{some_first, some_piece}
 
 -- the first line of pieces that others follow
@@ -32,13 +32,6 @@ module _ {A : Type 0} (Says : List ℕ → A → Type 0) (Fit : List A → Type 
   wrong_line line first fault is (inr wrong) =
       let number : first + length wrong.0 ≡ line + (length wrong.0 + 1) = omega (arith, is) in
       inr (length wrong.0 + 1, wrong.1 ∙ ap Fault.History number, section_wrong wrong.0 wrong.2)
-
--- the front of a line, as it stands in the code
-pub fronted : (pieces : List (List ℕ)) (front word : List ℕ) (n : ℕ) (told : List ℕ) → front ≡ word → pieces ≡ (front ++ decimal n) ∷ pieces_of told → pieces ≡ (word ++ decimal n) ∷ pieces_of told
-fronted pieces front word n told at e = e ∙ ap (λ f. (f ++ decimal n) ∷ pieces_of told) at
-
-pub unfronted : (pieces : List (List ℕ)) (front word : List ℕ) (limit : ℕ) → front ≡ word → ((n : ℕ) → n ≤ limit → ¬ IsLineOf pieces 0 (front ++ decimal n)) → (n : ℕ) → n ≤ limit → ¬ IsLineOf pieces 0 (word ++ decimal n)
-unfronted pieces front word limit at none = subst (λ f. (n : ℕ) → n ≤ limit → ¬ IsLineOf pieces 0 (f ++ decimal n)) at none
 
 -- no line that tells how many there are
 pub wrong_first : {A : Type 0} (Says : List ℕ → A → Type 0) (Fit : List A → Type 0) (count_line : ℕ → List ℕ) (limit : ℕ) (pieces : List (List ℕ)) (line : ℕ) → ((n : ℕ) → n ≤ limit → ¬ IsLineOf pieces 0 (count_line n))

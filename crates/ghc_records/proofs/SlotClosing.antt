@@ -1,14 +1,11 @@
 -- One slot for each number: what is found at the place of a number, and what is left where that is emptied.
-use Rattle.ghc_records.proofs.Words.{◌≡◌, ◌≢◌, ℕ, zero, suc, ◌∷◌, [], refl, sym, ap, ◌∙◌, subst, ◌↔◌, Option, Some, None, IfSome, IfNone, slice_set, option_copied, Bor, In, AreDistinct, Picks, Record, numbers, SlotList, held_in, StandsIn, AreOnceIn, HasNumberIn}
+use Rattle.ghc_records.proofs.Words.{◌≡◌, ◌≢◌, ℕ, zero, suc, ◌∷◌, refl, sym, ap, ◌∙◌, subst, ◌↔◌, Option, Some, None, IfSome, IfNone, slice_set, option_copied, Bor, In, AreDistinct, Picks, Record, numbers, SlotList, held_in, StandsIn, AreOnceIn, HasNumberIn}
 use Rattle.ghc_records.proofs.OrderLemmas.{number_in, records_distinct}
 use Rattle.ghc_records.proofs.SlotLemmas.{stands_held, held_stands, held_without}
 use Rattle.ghc_records.proofs.SlotPlaces.{one_record}
 
 -- each record has one slot where the numbers are distinct
 pub once_of : (ss : SlotList) → AreDistinct (numbers (held_in ss)) → AreOnceIn ss
-once_of [] d p q a b h k e = cc
-once_of (None ∷ ss) d zero q a b h k e = cc
-once_of (None ∷ ss) d (suc p) zero a b h k e = cc
 once_of (None ∷ ss) d (suc p) (suc q) a b h k e = ap suc (once_of ss d p q a b h k e)
 once_of (Some s ∷ ss) d zero zero a b h k e = refl
 once_of (Some s ∷ ss) d zero (suc q) a b h k e =
@@ -18,18 +15,16 @@ once_of (Some s ∷ ss) d (suc p) zero a b h k e =
     let same : s ≡ b = cc in
     absurd (d.0 (subst (λ n. In n (numbers (held_in ss))) (e ∙ ap (λ (z : Record). z.number) (sym same)) (number_in (held_in ss) a (stands_held ss p a h))))
 once_of (Some s ∷ ss) d (suc p) (suc q) a b h k e = ap suc (once_of ss d.1 p q a b h k e)
+once_of ss d p q a b h k e = cc
 
 -- what is found at the place of a number
-pub found_in : (ss : SlotList) (p n : ℕ) (o : Option (Bor Record)) → HasNumberIn ss p n → ((r : Record) → (option_copied o ≡ Some r) ↔ StandsIn ss p r) → IfSome o (λ r. In r.now (held_in ss) × (r.now.number ≡ n))
-found_in ss p n None h at = tt
-found_in ss p n (Some r) h at =
+pub found_at : (ss : SlotList) (p n : ℕ) (o : Option (Bor Record)) → HasNumberIn ss p n → ((r : Record) → (option_copied o ≡ Some r) ↔ StandsIn ss p r)
+    → IfSome o (λ r. In r.now (held_in ss) × (r.now.number ≡ n)) × IfNone o ((r : Record) → In r (held_in ss) → r.number ≢ n)
+found_at ss p n (Some r) h at =
     let stands = (at r.now).0 refl in
     let same : r.now ≡ h.0 = one_record ss p p r.now h.0 stands h.1 refl in
-    (stands_held ss p r.now stands, ap (λ (z : Record). z.number) same ∙ h.2)
-
-pub found_none : (ss : SlotList) (p n : ℕ) (o : Option (Bor Record)) → HasNumberIn ss p n → ((r : Record) → (option_copied o ≡ Some r) ↔ StandsIn ss p r) → IfNone o ((r : Record) → In r (held_in ss) → r.number ≢ n)
-found_none ss p n (Some r) h at = tt
-found_none ss p n None h at = let clash : None ≡ Some h.0 = (at h.0).1 h.1 in cc
+    ((stands_held ss p r.now stands, ap (λ (z : Record). z.number) same ∙ h.2), tt)
+found_at ss p n None h at = let clash : None ≡ Some h.0 = (at h.0).1 h.1 in cc
 
 pub none_in : (ss : SlotList) (n : ℕ) (o : Option ℕ) → o ≡ None → ((p : ℕ) → (o ≡ Some p) ↔ HasNumberIn ss p n) → (r : Record) → In r (held_in ss) → r.number ≢ n
 none_in ss n o e h r i same = let q = held_stands ss r i in let clash : None ≡ Some q.0 = sym e ∙ (h q.0).1 (r, q.1, same) in cc

@@ -1,5 +1,5 @@
 -- Records in slots: what is held, in which order, and what a slot more, a gap, or the gaps closed up leave.
-use Rattle.ghc_records.proofs.Words.{◌≡◌, ◌≢◌, ◌+◌, ◌<◌, ◌≤◌, ◌⊎◌, ℕ, zero, suc, [], ◌∷◌, ◌++◌, length, refl, sym, ap, ◌∙◌, subst, inl, inr, arith, filter, Some, None, slice_set, is_some, In, in_more, Picks, leave, AreDistinct, Record, numbers, SlotList, held_in, StandsIn}
+use Rattle.ghc_records.proofs.Words.{◌≡◌, ◌≢◌, ◌+◌, ◌<◌, ◌≤◌, ◌⊎◌, ℕ, zero, suc, [], ◌∷◌, ◌++◌, length, refl, sym, ap, ◌∙◌, subst, inl, inr, arith, filter, Some, None, slice_set, is_some, slice_get_within, push_before, push_either, push_last, set_other, In, in_more, Picks, leave, AreDistinct, Record, numbers, SlotList, held_in, StandsIn}
 use Rattle.std.proofs.lemmas.List.{length-append}
 use Rattle.ghc_records.specs.Orders.{take}
 use Rattle.ghc_records.proofs.OrderLemmas.{Before, number_in, number_of, records_distinct}
@@ -7,11 +7,10 @@ use Rattle.ghc_records.proofs.PickLemmas.{others_all, picks_distinct}
 
 -- a record in a slot is held
 pub stands_held : (ss : SlotList) (p : ℕ) (r : Record) → StandsIn ss p r → In r (held_in ss)
-stands_held [] p r h = cc
 stands_held (Some s ∷ ss) zero r h = let same : s ≡ r = cc in inl (sym same)
-stands_held (None ∷ ss) zero r h = cc
 stands_held (Some s ∷ ss) (suc p) r h = inr (stands_held ss p r h)
 stands_held (None ∷ ss) (suc p) r h = stands_held ss p r h
+stands_held ss p r h = cc
 
 -- a record held has a slot
 pub held_stands : (ss : SlotList) (r : Record) → In r (held_in ss) → (p : ℕ) × StandsIn ss p r
@@ -22,12 +21,11 @@ held_stands (None ∷ ss) r i = let q = held_stands ss r i in (suc q.0, q.1)
 
 -- places are in recorded order
 pub stands_before : (ss : SlotList) (p q : ℕ) (a b : Record) → StandsIn ss p a → StandsIn ss q b → p < q → Before (held_in ss) a b
-stands_before [] p q a b h k l = cc
 stands_before (s ∷ ss) p zero a b h k l = absurd (omega (arith, l))
 stands_before (Some s ∷ ss) zero (suc q) a b h k l = let same : s ≡ a = cc in inl (sym same, stands_held ss q b k)
-stands_before (None ∷ ss) zero (suc q) a b h k l = cc
 stands_before (Some s ∷ ss) (suc p) (suc q) a b h k l = inr (stands_before ss p q a b h k (omega (arith, l)))
 stands_before (None ∷ ss) (suc p) (suc q) a b h k l = stands_before ss p q a b h k (omega (arith, l))
+stands_before ss p q a b h k l = cc
 
 -- one slot more
 pub held_last : (ss : SlotList) (r : Record) → held_in (ss ++ Some r ∷ []) ≡ held_in ss ++ r ∷ []
@@ -60,21 +58,19 @@ held_few (None ∷ ss) = omega (arith, held_few ss)
 
 -- a gap where a record stood takes just that one out
 pub held_without : (ss : SlotList) (p : ℕ) (r : Record) → AreDistinct (held_in ss) → StandsIn ss p r → Picks (λ s. ¬ (s ≡ r)) (held_in ss) (held_in (slice_set ss p None))
-held_without [] p r d h = cc
 held_without (Some s ∷ ss) zero r d h = let same : s ≡ r = cc in leave (λ k. k same) (others_all r (held_in ss) (subst (λ z. ¬ In z (held_in ss)) same d.0))
-held_without (None ∷ ss) zero r d h = cc
 held_without (Some s ∷ ss) (suc p) r d h = take (λ e. d.0 (subst (λ z. In z (held_in ss)) (sym e) (stands_held ss p r h))) (held_without ss p r d.1 h)
 held_without (None ∷ ss) (suc p) r d h = held_without ss p r d h
+held_without ss p r d h = cc
 
 pub without_distinct : (ss : SlotList) (p : ℕ) (r : Record) → AreDistinct (numbers (held_in ss)) → StandsIn ss p r → AreDistinct (numbers (held_in (slice_set ss p None)))
 without_distinct ss p r d h = picks_distinct (held_in ss) (held_in (slice_set ss p None)) (held_without ss p r (records_distinct (held_in ss) d) h) d
 
 pub held_fewer : (ss : SlotList) (p : ℕ) (r : Record) → StandsIn ss p r → length (held_in ss) ≡ length (held_in (slice_set ss p None)) + 1
-held_fewer [] p r h = cc
 held_fewer (Some s ∷ ss) zero r h = omega arith
-held_fewer (None ∷ ss) zero r h = cc
 held_fewer (Some s ∷ ss) (suc p) r h = omega (arith, held_fewer ss p r h)
 held_fewer (None ∷ ss) (suc p) r h = held_fewer ss p r h
+held_fewer ss p r h = cc
 
 -- and the other slots are as they were
 pub stands_without : (ss : SlotList) (p q : ℕ) (r : Record) → StandsIn (slice_set ss p None) q r → StandsIn ss q r × (q ≢ p)
@@ -85,11 +81,7 @@ stands_without (s ∷ ss) (suc p) zero r h = (h, λ e. omega (arith, e))
 stands_without (s ∷ ss) (suc p) (suc q) r h = let k = stands_without ss p q r h in (k.0, λ e. k.1 (omega (arith, e)))
 
 pub still_stands : (ss : SlotList) (p q : ℕ) (r : Record) → StandsIn ss q r → q ≢ p → StandsIn (slice_set ss p None) q r
-still_stands [] p q r h n = cc
-still_stands (s ∷ ss) zero zero r h n = absurd (n refl)
-still_stands (s ∷ ss) zero (suc q) r h n = h
-still_stands (s ∷ ss) (suc p) zero r h n = h
-still_stands (s ∷ ss) (suc p) (suc q) r h n = still_stands ss p q r h (λ e. n (ap suc e))
+still_stands ss p q r h n = set_other ss p q None n ∙ h
 
 -- gaps closed up leave what is held
 pub held_closed : (ss : SlotList) → held_in (filter is_some ss) ≡ held_in ss
@@ -99,16 +91,10 @@ held_closed (None ∷ ss) = held_closed ss
 
 -- one slot more has its record, and the others theirs
 pub stands_more : (ss : SlotList) (q : ℕ) (s r : Record) → StandsIn (ss ++ Some s ∷ []) q r → StandsIn ss q r ⊎ ((q ≡ length ss) × (r ≡ s))
-stands_more [] zero s r h = let same : s ≡ r = cc in inr (refl, sym same)
-stands_more [] (suc q) s r h = cc
-stands_more (x ∷ ss) zero s r h = inl h
-stands_more (x ∷ ss) (suc q) s r h = elim (stands_more ss q s r h) [ inl k ↦ inl k | inr k ↦ inr (omega (arith, k.0), k.1) ]
+stands_more ss q s r h = elim (push_either ss (Some s) (Some r) q h) [ inl k ↦ inl k | inr k ↦ let same : r ≡ s = cc in inr (k.0, same) ]
 
 pub stands_still : (ss : SlotList) (q : ℕ) (s r : Record) → StandsIn ss q r → StandsIn (ss ++ Some s ∷ []) q r
-stands_still [] q s r h = cc
-stands_still (x ∷ ss) zero s r h = h
-stands_still (x ∷ ss) (suc q) s r h = stands_still ss q s r h
+stands_still ss q s r h = push_before ss (Some s) q (slice_get_within ss q (Some r) h) ∙ h
 
 pub stands_last : (ss : SlotList) (s : Record) → StandsIn (ss ++ Some s ∷ []) (length ss) s
-stands_last [] s = refl
-stands_last (x ∷ ss) s = stands_last ss s
+stands_last ss s = push_last ss (Some s)

@@ -5,16 +5,17 @@ use Rattle.std.specs.FinMap as finite
 abbrev pub places_in : List (ℕ × ℕ) → PlacesByNumber
 places_in es = finite.from_entries {R = nat_cmp} es
 
-pub place_is : (es : List (ℕ × ℕ)) (n : ℕ) → lookup (nat_eq n) es ≡ finite.get (places_in es) n
+-- what is found under a number
+pub place_is : {V : Type 0} (es : List (ℕ × V)) (n : ℕ) → lookup (nat_eq n) es ≡ finite.get (finite.from_entries {R = nat_cmp} es) n
 place_is es n = value_is nat_cmp_total nat_antisymmetric nat_eq tie n es
 
 -- one slot has one record
 pub one_record : (ss : SlotList) (p q : ℕ) (a b : Record) → StandsIn ss p a → StandsIn ss q b → p ≡ q → a ≡ b
 one_record ss p q a b x y e = let same : Some (Some a) ≡ Some (Some b) = sym x ∙ ap (λ i. slice_get ss i) e ∙ y in cc
 
-module _ (es new : List (ℕ × ℕ)) (k : ℕ) (o : Option ℕ) (u : (q : ℕ) → lookup (nat_eq q) new ≡ cond (nat_eq k q) o (lookup (nat_eq q) es)) where
-  pub at_key : (n : ℕ) → n ≡ k → finite.get (places_in new) n ≡ o
+module _ {V : Type 0} (es new : List (ℕ × V)) (k : ℕ) (o : Option V) (u : (q : ℕ) → lookup (nat_eq q) new ≡ cond (nat_eq k q) o (lookup (nat_eq q) es)) where
+  pub at_key : (n : ℕ) → n ≡ k → finite.get (finite.from_entries {R = nat_cmp} new) n ≡ o
   at_key n e = sym (place_is new n) ∙ u n ∙ ap (λ b. cond b o (lookup (nat_eq n) es)) (eq-eqb k n (sym e))
 
-  pub at_other : (n : ℕ) → n ≢ k → finite.get (places_in new) n ≡ finite.get (places_in es) n
+  pub at_other : (n : ℕ) → n ≢ k → finite.get (finite.from_entries {R = nat_cmp} new) n ≡ finite.get (finite.from_entries {R = nat_cmp} es) n
   at_other n d = sym (place_is new n) ∙ u n ∙ ap (λ b. cond b o (lookup (nat_eq n) es)) (ne_eqb k n (λ e. d (sym e))) ∙ place_is es n

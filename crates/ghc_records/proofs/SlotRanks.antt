@@ -1,6 +1,7 @@
 -- How many records stand in front of a slot: by that the places of slots are places in the record.
-use Rattle.ghc_records.proofs.Words.{◌≡◌, ◌+◌, ◌<◌, ◌≤◌, ℕ, zero, suc, List, [], ◌∷◌, length, map, refl, sym, ap, ◌∙◌, subst, inl, inr, arith, Option, Some, None, IsSome, slice_get, Bor, cases_order, In, Record, SlotList, held_in, StandsIn, HasNumberIn}
+use Rattle.ghc_records.proofs.Words.{◌≡◌, ◌+◌, ◌<◌, ◌≤◌, ℕ, zero, suc, List, [], ◌∷◌, length, map, refl, sym, ap, ◌∙◌, subst, inl, inr, arith, Option, Some, None, IsSome, slice_get, Bor, cases_order, In, in_map, Record, SlotList, held_in, StandsIn, HasNumberIn}
 use Rattle.std.specs.Prelude.{option_copied}
+use Rattle.ghc_records.proofs.Effects.{mapped}
 
 abbrev pub rank : SlotList → ℕ → ℕ
 rank [] p = 0
@@ -14,11 +15,10 @@ rank_zero (s ∷ ss) = refl
 
 -- the record in a slot stands at its rank
 pub rank_stands : (ss : SlotList) (p : ℕ) (r : Record) → StandsIn ss p r → slice_get (held_in ss) (rank ss p) ≡ Some r
-rank_stands [] p r h = cc
-rank_stands (None ∷ ss) zero r h = cc
 rank_stands (Some s ∷ ss) zero r h = let same : s ≡ r = cc in ap Some same
 rank_stands (None ∷ ss) (suc p) r h = rank_stands ss p r h
 rank_stands (Some s ∷ ss) (suc p) r h = rank_stands ss p r h
+rank_stands ss p r h = cc
 
 -- and what stands in the record stands in a slot of that rank
 pub rank_back : (ss : SlotList) (i : ℕ) (r : Record) → slice_get (held_in ss) i ≡ Some r → (p : ℕ) × StandsIn ss p r × (rank ss p ≡ i)
@@ -29,12 +29,11 @@ rank_back (Some s ∷ ss) (suc i) r e = let q = rank_back ss i r e in (suc q.0, 
 
 -- ranks are in the order of places
 pub rank_less : (ss : SlotList) (p q : ℕ) (a : Record) → StandsIn ss p a → p < q → rank ss p < rank ss q
-rank_less [] p q a h l = cc
 rank_less (s ∷ ss) p zero a h l = absurd (omega (arith, l))
-rank_less (None ∷ ss) zero (suc q) a h l = cc
 rank_less (Some s ∷ ss) zero (suc q) a h l = omega arith
 rank_less (None ∷ ss) (suc p) (suc q) a h l = rank_less ss p q a h (omega (arith, l))
 rank_less (Some s ∷ ss) (suc p) (suc q) a h l = let k = rank_less ss p q a h (omega (arith, l)) in omega (arith, k)
+rank_less ss p q a h l = cc
 
 pub less_rank : (ss : SlotList) (p q : ℕ) (b : Record) → StandsIn ss q b → rank ss p < rank ss q → p < q
 less_rank ss p q b h l = elim (cases_order p q) [
@@ -52,11 +51,10 @@ rank_least (Some s ∷ ss) (suc p) (suc q) l = let k = rank_least ss p q (omega 
 
 -- a slot more
 pub rank_next : (ss : SlotList) (i : ℕ) (r : Record) → StandsIn ss i r → rank ss (i + 1) ≡ rank ss i + 1
-rank_next [] i r h = cc
-rank_next (None ∷ ss) zero r h = cc
 rank_next (Some s ∷ ss) zero r h = ap suc (rank_zero ss)
 rank_next (None ∷ ss) (suc i) r h = let e : suc i + 1 ≡ suc (i + 1) = omega arith in ap (rank (None ∷ ss)) e ∙ rank_next ss i r h
 rank_next (Some s ∷ ss) (suc i) r h = let e : suc i + 1 ≡ suc (i + 1) = omega arith in let k = rank_next ss i r h in ap (rank (Some s ∷ ss)) e ∙ (omega (arith, k))
+rank_next ss i r h = cc
 
 pub rank_gap : (ss : SlotList) (i : ℕ) → ((r : Record) → ¬ StandsIn ss i r) → rank ss (i + 1) ≡ rank ss i
 rank_gap [] i none = refl
@@ -87,11 +85,7 @@ module _ (kept : List Record) (ss : SlotList) (is : kept ≡ held_in ss) where
 
 -- ranks of a list of places
 pub of_map : (f : ℕ → ℕ) (ps : List ℕ) (q : ℕ) → In q (map f ps) → (p : ℕ) × In p ps × (f p ≡ q)
-of_map f [] q i = absurd i
-of_map f (p ∷ ps) q (inl e) = (p, inl refl, sym e)
-of_map f (p ∷ ps) q (inr i) = let w = of_map f ps q i in (w.0, inr w.1, w.2)
+of_map f ps q i = let (p, j, e) = mapped f ps q i in (p, j, sym e)
 
 pub map_of : (f : ℕ → ℕ) (ps : List ℕ) (p : ℕ) → In p ps → In (f p) (map f ps)
-map_of f [] p i = absurd i
-map_of f (q ∷ ps) p (inl e) = inl (ap f e)
-map_of f (q ∷ ps) p (inr i) = inr (map_of f ps p i)
+map_of = in_map

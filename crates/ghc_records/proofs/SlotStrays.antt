@@ -1,6 +1,7 @@
 -- The strays of slots, where a slot is put behind the others, where a record is taken out, and where gaps are closed up.
 use Rattle.ghc_records.proofs.Words.{◌≡◌, ◌≢◌, ◌+◌, ◌<◌, ◌≤◌, ℕ, zero, suc, cond, List, [], ◌∷◌, ◌++◌, length, take, filter, get_or, refl, sym, ap, ◌∙◌, subst, inl, inr, nat_eq, arith, ◌↔◌, Option, Some, None, is_some, slice_set, lookup, filter_more, In, AreDistinct, Record, numbers, SlotList, PlacesByNumber, held_in, StandsIn, HasNumberIn, HasStrayIn, AreStraysOf}
 use Rattle.std.specs.FinMap as finite
+use Rattle.ghc_records.proofs.CutTexts.{taken_at}
 use Rattle.ghc_records.proofs.NumberSets.{one_or_not}
 use Rattle.ghc_records.proofs.SlotLemmas.{stands_held, held_stands, held_closed, stands_more, stands_still, stands_last, stands_without, still_stands}
 use Rattle.ghc_records.proofs.SlotPlaces.{places_in, place_is, at_key, at_other, one_record}
@@ -114,16 +115,10 @@ closed_few [] (suc i) = omega arith
 closed_few (Some s ∷ ss) (suc i) = omega (arith, closed_few ss i)
 closed_few (None ∷ ss) (suc i) = omega (arith, closed_few ss i)
 
-front_stands : (ss : SlotList) (i q : ℕ) (a : Record) → StandsIn (take i ss) q a → StandsIn ss q a × (q < i)
-front_stands ss zero q a h = cc
-front_stands [] (suc i) q a h = cc
-front_stands (s ∷ ss) (suc i) zero a h = (h, omega arith)
-front_stands (s ∷ ss) (suc i) (suc q) a h = let k = front_stands ss i q a h in (k.0, omega (arith, k.1))
-
 -- whose records have other numbers than the one that is next
 pub front_apart : (ss : SlotList) (i : ℕ) (s : Record) → AreDistinct (numbers (held_in ss)) → StandsIn ss i s → (a : Record) → In a (held_in (filter is_some (take i ss))) → a.number ≢ s.number
 front_apart ss i s distinct here a j e =
     let w = held_stands (take i ss) a (subst (In a) (held_closed (take i ss)) j) in
-    let k = front_stands ss i w.0 a w.1 in
-    let same = once_of ss distinct w.0 i a s k.0 here e in
-    omega (arith, k.1, same)
+    let k = taken_at i ss w.0 (Some a) w.1 in
+    let same = once_of ss distinct w.0 i a s k.1 here e in
+    omega (arith, k.0, same)

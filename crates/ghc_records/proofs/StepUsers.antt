@@ -1,7 +1,8 @@
 -- Users by step, where what stands under one step is changed.
-use Rattle.ghc_records.proofs.Words.{◌≡◌, ◌≢◌, ◌<◌, ◌≤◌, ℕ, cond, List, refl, sym, ap, ◌∙◌, subst, inl, inr, ◌⊎◌, nat_eq, arith, ◌↔◌, Option, Some, None, nat_cmp_total, nat_cmp-IsAntisymmetric as nat_antisymmetric, lookup, eq-eqb, ne_eqb, In, Table, value_is, tie, UsersByStep, numbers_in, room_in, users_at, IsUser, CanTake}
+use Rattle.ghc_records.proofs.Words.{◌≡◌, ◌≢◌, ◌<◌, ◌≤◌, ℕ, cond, List, refl, sym, ap, ◌∙◌, subst, inl, inr, ◌⊎◌, nat_eq, arith, ◌↔◌, Option, Some, None, lookup, In, Table, UsersByStep, numbers_in, room_in, users_at, IsUser, CanTake}
 use Rattle.std.specs.FinMap as finite
 use Rattle.ghc_records.proofs.NumberSets.{one_or_not}
+use Rattle.ghc_records.proofs.SlotPlaces.{at_key, at_other, place_is}
 
 -- under the step x stood o, and stands p from now on; under the others stands what stood there
 abbrev pub Differs : UsersByStep → UsersByStep → ℕ → Option (Table (List ℕ)) → Option (Table (List ℕ)) → Type 0
@@ -48,27 +49,15 @@ can_not m x u e can = elim (subst (λ o. (0 < room_in o) ⊎ In u (numbers_in o)
 
 -- the tables of entries
 pub at_first : (es : List (ℕ × Table (List ℕ))) (m : UsersByStep) (x : ℕ) → finite.from_entries es ≡ m → (o : Option (Table (List ℕ))) → o ≡ lookup (nat_eq x) es → finite.get m x ≡ o
-at_first es m x is o e = sym (e ∙ value_is nat_cmp_total nat_antisymmetric nat_eq tie x es ∙ ap (λ z. finite.get z x) is)
+at_first es m x is o e = sym (e ∙ place_is es x ∙ ap (λ z. finite.get z x) is)
 
 module _ (es new : List (ℕ × Table (List ℕ))) (m : UsersByStep) (x : ℕ) (is : finite.from_entries es ≡ m) where
   pub written : (o : Option (Table (List ℕ))) (w : Table (List ℕ)) → o ≡ lookup (nat_eq x) es → ((q : ℕ) → lookup (nat_eq q) new ≡ cond (nat_eq x q) (Some w) (lookup (nat_eq q) es))
       → Differs m (finite.from_entries new) x o (Some w)
-  written o w had h = (
-    at_first es m x is o had,
-    sym (value_is nat_cmp_total nat_antisymmetric nat_eq tie x new) ∙ h x ∙ ap (λ b. cond b (Some w) (lookup (nat_eq x) es)) (eq-eqb x x refl),
-    λ y n.
-        sym (value_is nat_cmp_total nat_antisymmetric nat_eq tie y new) ∙ h y ∙ ap (λ b. cond b (Some w) (lookup (nat_eq y) es)) (ne_eqb x y (λ e. n (sym e)))
-        ∙ value_is nat_cmp_total nat_antisymmetric nat_eq tie y es ∙ ap (λ z. finite.get z y) is,
-  )
+  written o w had h = (at_first es m x is o had, at_key es new x (Some w) h x refl, λ y n. at_other es new x (Some w) h y n ∙ ap (λ z. finite.get z y) is)
 
   pub gone : ((q : ℕ) → lookup (nat_eq q) new ≡ cond (nat_eq x q) None (lookup (nat_eq q) es)) → Differs m (finite.from_entries new) x (finite.get m x) None
-  gone h = (
-    refl,
-    sym (value_is nat_cmp_total nat_antisymmetric nat_eq tie x new) ∙ h x ∙ ap (λ b. cond b None (lookup (nat_eq x) es)) (eq-eqb x x refl),
-    λ y n.
-        sym (value_is nat_cmp_total nat_antisymmetric nat_eq tie y new) ∙ h y ∙ ap (λ b. cond b None (lookup (nat_eq y) es)) (ne_eqb x y (λ e. n (sym e)))
-        ∙ value_is nat_cmp_total nat_antisymmetric nat_eq tie y es ∙ ap (λ z. finite.get z y) is,
-  )
+  gone h = (refl, at_key es new x None h x refl, λ y n. at_other es new x None h y n ∙ ap (λ z. finite.get z y) is)
 
   pub unchanged : None ≡ lookup (nat_eq x) es → new ≡ es → Differs m (finite.from_entries new) x None None
   unchanged none same =

@@ -1,33 +1,17 @@
 -- A run keeps one goal a stream.
-use Rattle.ghc_records.proofs.Words.{◌≡◌, ◌≢◌, ℕ, zero, suc, ◌+◌, ◌⊎◌, true, false, cond, List, [], ◌∷◌, filter, refl, sym, ap, ◌∙◌, subst, inl, inr, arith, Some, None, slice_get, Option, eq_by_cmp, VarName, GoalName, Tree, Goal, call, unify, assign, stream, In, value_at, in_at, Program, Query, is_stream, IsProgram, IsQuery, becomes, replace_in_goal, Act, ByClause as by_clause, Unified as unified, Assigned as assigned, Given as given, Closed as closed, Asked as asked, Effect, HasEffect, goal_cmp, Goals, State, Record, with_makes, without_goal, after, Fires, IsThere, HasStepEffect, query_state, Runs, goal_total, same_goal, same_parts}
+use Rattle.ghc_records.proofs.Words.{◌≡◌, ◌≢◌, ℕ, zero, suc, ◌+◌, true, false, cond, List, [], ◌∷◌, filter, refl, sym, ap, ◌∙◌, subst, inl, inr, arith, Some, None, slice_get, Option, VarName, GoalName, Tree, Goal, call, unify, assign, stream, In, value_at, in_at, Program, Query, is_stream, IsProgram, IsQuery, becomes, replace_in_goal, Act, ByClause as by_clause, Unified as unified, Assigned as assigned, Given as given, Closed as closed, Effect, HasEffect, goal_cmp, State, Record, without_goal, after, Fires, query_state, Runs, same_parts}
 use Rattle.std.specs.FinMap as finite
 use Rattle.ghc_records.proofs.States.{old_apart}
-use Rattle.ghc_records.proofs.Effects.{mapped, not_stream, kept_goal}
+pub use Rattle.ghc_records.proofs.States.{MadeAt, made_at}
+use Rattle.ghc_records.proofs.Effects.{firing, mapped, not_stream, kept_goal}
 
 -- each stream has one goal at most
 abbrev pub OneEach : State → Type 0
 OneEach s = (k : ℕ) (g h : GoalName) (x y : VarName) → finite.get s.goals g ≡ Some (stream k x) → finite.get s.goals h ≡ Some (stream k y) → g ≡ h
 
--- a goal of the state after a step was made by it at a place, or was there
-abbrev pub MadeAt : ℕ → ℕ → List Goal → GoalName → Goal → Type 0
-MadeAt n i gs h b = (j : ℕ) × (slice_get gs j ≡ Some b) × (h.step ≡ n) × (h.place ≡ i + j)
-
-pub made_at : (n i : ℕ) (gs : List Goal) (m : Goals) (h : GoalName) (b : Goal) → finite.get (with_makes n i gs m) h ≡ Some b → MadeAt n i gs h b ⊎ (finite.get m h ≡ Some b)
-made_at n i [] m h b e = inr e
-made_at n i (g ∷ gs) m h b e =
-    elim (eq_by_cmp goal_cmp h (record { step = n; place = i })) as (λ c. eq_by_cmp goal_cmp h (record { step = n; place = i }) ≡ c → cond c (Some g) (finite.get (with_makes n (i + 1) gs m) h) ≡ Some b → MadeAt n i (g ∷ gs) h b ⊎ (finite.get m h ≡ Some b)) [
-      | true ↦ λ p q.
-          let same = same_goal h (record { step = n; place = i }) p in
-          let place : h.place ≡ i = ap (λ (k : GoalName). k.place) same in
-          inl (0, q, ap (λ (k : GoalName). k.step) same, omega arith)
-      | false ↦ λ p q. elim (made_at n (i + 1) gs m h b q) [ inl a ↦ let place : h.place ≡ i + 1 + a.0 = a.3 in inl (suc a.0, a.1, a.2, omega arith) | inr a ↦ inr a ]
-    ] refl (sym (finite.get-insert goal_total (with_makes n (i + 1) gs m) (record { step = n; place = i }) g h) ∙ e)
-
 still : (s : VarName → Tree) (b : Goal) → is_stream (replace_in_goal s b) ≡ is_stream b
 still s (call f ts) = refl
-still s (unify l r) = refl
-still s (assign t a) = refl
-still s (stream k x) = refl
+still s b = refl
 
 one_made : (k l : ℕ) (x y : VarName) (j : ℕ) → slice_get (stream k x ∷ []) j ≡ Some (stream l y) → (j ≡ 0) × (k ≡ l)
 one_made k l x y zero e = (refl, cc)
@@ -51,19 +35,6 @@ stream_made P (stream l s) (given u) n S e accepted d j k x p =
 stream_made P (stream l s) closed n S e accepted d j k x p = absurd (none_made e.makes j (stream k x) d.3 p)
 stream_made P g a n S e accepted d j k x p = absurd d
 
--- the name of the goal that fires, or that the step consumes none and makes no stream goal
-named : (P : Program) (s : State) (r : Record) (o : Option GoalName) (c : Option Goal) → IsThere s.goals o c → HasStepEffect P c r.act r.number (value_at s.store) r.effect
-    → ((g : GoalName) × (b : Goal) × (o ≡ Some g) × (finite.get s.goals g ≡ Some b) × HasEffect P b r.act r.number (value_at s.store) r.effect)
-    ⊎ ((o ≡ None) × (filter is_stream r.effect.makes ≡ []))
-named P s r None None e f = inr (refl, by_act r.act f)
-  where
-    by_act : (a : Act) → HasStepEffect P None a r.number (value_at s.store) r.effect → filter is_stream r.effect.makes ≡ []
-    by_act (asked gs) f = ap (λ l. filter is_stream l) f.makes ∙ f.askable.plain
-    by_act a f = absurd f
-named P s r None (Some b) e f = cc
-named P s r (Some g) None e f = let clash : None ≡ Some e.0 = e.1 in cc
-named P s r (Some g) (Some b) e f = inl (g, b, refl, (let same : b ≡ e.0 = cc in e.2 ∙ ap Some (sym same)), f)
-
 -- no stream goal is among these
 none_stream : (gs : List Goal) (j k : ℕ) (x : VarName) → filter is_stream gs ≡ [] → slice_get gs j ≡ Some (stream k x) → ⊥
 none_stream gs j k x e p = let clash : true ≡ false = not_stream gs (stream k x) e (in_at gs j (stream k x) p) in cc
@@ -80,8 +51,8 @@ module _ (P : Program) (accepted : IsProgram P) where
       one k g h x y (old g x p) (old h y q)
 
   pub after_one_each : (s : State) (r : Record) → Fires P s r → OneEach s → OneEach (after s r)
-  after_one_each s r fires one k g h x y p q = elim (named P s r r.goal r.consumed fires.0 fires.1) [
-    | inr n ↦ after_asked s r n.0 n.1 one k g h x y p q
+  after_one_each s r fires one k g h x y p q = elim (firing P s r fires) [
+    | inr n ↦ after_asked s r n.3 (ap (filter is_stream) n.2.makes ∙ n.2.askable.plain) one k g h x y p q
     | inl f ↦
         let old : (i : GoalName) (b : Goal) → finite.get (without_goal r.goal s.goals) i ≡ Some b → (finite.get s.goals i ≡ Some b) × (i ≢ f.0) =
         λ i b e. old_apart s.goals f.0 i b (subst (λ o. finite.get (without_goal o s.goals) i ≡ Some b) f.2 e) in

@@ -1,7 +1,8 @@
 -- What is there under each name after a step was taken back.
-use Rattle.ghc_records.proofs.Words.{◌≡◌, ℕ, zero, suc, ◌≤◌, true, false, cond, length, refl, sym, ap, ◌∙◌, subst, arith, Option, Some, None, eqb-true, eq-eqb, nat_eq, eq_by_cmp, is_eq, tied_itself, GoalName, Goal, goal_cmp, Goals, Record, with_goal, without_makes, GoalsTakenBack, goal_total, same_parts}
+use Rattle.ghc_records.proofs.Words.{◌≡◌, ℕ, zero, suc, ◌≤◌, true, false, cond, length, refl, sym, ap, ◌∙◌, arith, Option, Some, None, eqb-true, eq-eqb, nat_eq, eq_by_cmp, apart, GoalName, Goal, goal_cmp, Goals, Record, with_goal, without_makes, GoalsTakenBack, goal_total, same_parts}
 use Rattle.std.specs.FinMap as finite
-use Rattle.ghc_records.proofs.Made.{name, apart}
+use Rattle.ghc_records.proofs.Made.{name}
+use Rattle.ghc_records.proofs.States.{tied}
 
 -- what is there of the goals without one of them
 of_rest : (m : Goals) (h g : GoalName) → finite.get (finite.remove m h) g ≡ cond (eq_by_cmp goal_cmp g h) None (finite.get m g)
@@ -21,8 +22,7 @@ made_gone n (suc k) m g s one most =
     elim (nat_eq g.place (suc k)) as (λ b. nat_eq g.place (suc k) ≡ b → finite.get (without_makes n k (finite.remove m (name n (suc k)))) g ≡ None) [
       | true ↦ λ p.
           let last : g ≡ name n (suc k) = same_parts g (name n (suc k)) s (eqb-true g.place (suc k) p) in
-          let tied : eq_by_cmp goal_cmp g (name n (suc k)) ≡ true = subst (λ z. eq_by_cmp goal_cmp g z ≡ true) last (ap is_eq (tied_itself goal_total g)) in
-          stays_gone n k (finite.remove m (name n (suc k))) g (of_rest m (name n (suc k)) g ∙ ap (λ b. cond b None (finite.get m g)) tied)
+          stays_gone n k (finite.remove m (name n (suc k))) g (of_rest m (name n (suc k)) g ∙ ap (λ b. cond b None (finite.get m g)) (tied g (name n (suc k)) last))
       | false ↦ λ p.
           let other : ¬ (g.place ≡ suc k) = λ e. let clash : true ≡ false = sym (eq-eqb g.place (suc k) e) ∙ p in cc in
           made_gone n k (finite.remove m (name n (suc k))) g s one (below g.place k most other)
@@ -43,18 +43,16 @@ others_stay n (suc k) m g never =
 
 -- the goal that the step consumed is put back
 put_back : (o : Option GoalName) (c : Option Goal) (m : Goals) (g : GoalName) (b : Goal) → o ≡ Some g → c ≡ Some b → finite.get (with_goal o c m) g ≡ Some b
-put_back None c m g b p q = cc
-put_back (Some h) None m g b p q = cc
 put_back (Some h) (Some d) m g b p q =
     let same : g ≡ h = cc in
     let goal : d ≡ b = cc in
-    finite.get-insert goal_total m h d g ∙ ap (λ t. cond t (Some d) (finite.get m g)) (subst (λ z. eq_by_cmp goal_cmp g z ≡ true) same (ap is_eq (tied_itself goal_total g))) ∙ ap Some goal
+    finite.get-insert goal_total m h d g ∙ ap (λ t. cond t (Some d) (finite.get m g)) (tied g h same) ∙ ap Some goal
+put_back o c m g b p q = cc
 
 -- under another name nothing is
 put_elsewhere : (o : Option GoalName) (c : Option Goal) (m : Goals) (g : GoalName) → ((b : Goal) → ¬ ((o ≡ Some g) × (c ≡ Some b))) → finite.get (with_goal o c m) g ≡ finite.get m g
-put_elsewhere None c m g n = refl
-put_elsewhere (Some h) None m g n = refl
 put_elsewhere (Some h) (Some d) m g n = finite.get-insert goal_total m h d g ∙ ap (λ t. cond t (Some d) (finite.get m g)) (apart g h (λ e. n d (ap Some (sym e), refl)))
+put_elsewhere o c m g n = refl
 
 -- the goals that are left where the consumed one is put back and then those that the step made are taken away
 pub goals_back : (r : Record) (m : Goals) → GoalsTakenBack r m (without_makes r.number (length r.effect.makes) (with_goal r.goal r.consumed m))

@@ -1,13 +1,8 @@
 -- Lemmas on texts that tell histories, and on the first line of a text that is wrong.
-use Rattle.ghc_records.proofs.Words.{◌≡◌, ℕ, ◌+◌, ◌<◌, ◌≤◌, List, [], ◌∷◌, drop, get_or, length, refl, sym, ap, ◌∙◌, subst, arith, decimal, Option, Some, None, IfSome, IfNone, ◌↔◌, codes, option_map, join_with_byte, append_cancel_left, drop-drop, nil_from_length, join_with_byte-slice_split, Fault, kept_limit, Step, IsFirstWrongLine, IsHistoryRefusal, IsLine, IsLineOf, TellsCount, TellsHistory, TellsNext, TellsNoMore, TellsSteps, behind_count, count_line, end_line, heading, pieces_of}
+use Rattle.ghc_records.proofs.Words.{◌≡◌, ℕ, ◌+◌, ◌<◌, ◌≤◌, List, [], ◌∷◌, drop, get_or, length, refl, sym, ap, ◌∙◌, subst, arith, decimal, Option, Some, None, IfSome, IfNone, ◌↔◌, codes, option_map, append_cancel_left, nil_from_length, Fault, kept_limit, Step, IsFirstWrongLine, IsHistoryRefusal, IsLine, IsLineOf, TellsCount, TellsHistory, TellsNext, TellsNoMore, TellsSteps, behind_count, count_line, end_line, heading, pieces_of}
 use Rattle.std.proofs.Common.{Bor}
 use Rattle.ghc_records.specs.HistoryText.{more, no_count, no_end, no_step}
-use Rattle.ghc_records.proofs.CutLemmas.{line_stands, one_number}
-use Rattle.ghc_records.proofs.TellingSteps.{IsWrongStep}
-
--- what is one piece without bytes has none
-nothing : (rest : List ℕ) → pieces_of rest ≡ [] ∷ [] → rest ≡ []
-nothing rest e = sym (join_with_byte-slice_split 10 rest) ∙ ap (join_with_byte 10) e
+use Rattle.ghc_records.proofs.CutLemmas.{behind_both, line_stands, one_number, one_text}
 
 -- the heading is there
 pub begins : (text counted : List ℕ) → pieces_of text ≡ heading ∷ pieces_of counted → IsLine text 0 heading
@@ -47,7 +42,8 @@ module _ (text counted told : List ℕ) (count : ℕ) (first : pieces_of text �
   steps_told : (steps : List Step) → TellsSteps (pieces_of told) count steps → TellsSteps (behind_count text) count steps
   steps_told steps h = subst (λ p. TellsSteps p count steps) (sym behind_two) h
 
-  pub wrong_step : (fault : Fault) → IsWrongStep (pieces_of told) count fault → IsHistoryRefusal text fault
+  pub wrong_step : (fault : Fault) → (steps : List Step) × (fault ≡ Fault.History (length steps + 3)) × TellsNoMore (pieces_of told) count steps
+      → IsHistoryRefusal text fault
   wrong_step fault (steps, is, h) = (length steps + 3, is, no_step {count = count} {steps = steps} (begins text counted first) counts (subst (λ p. TellsNoMore p count steps) (sym behind_two) h))
 
   pub wrong_end : (steps : List Step) → TellsSteps (pieces_of told) count steps → length steps ≡ count → ((next : ℕ) → ¬ TellsNext (pieces_of told) count next) → IsFirstWrongLine text (count + 3)
@@ -58,8 +54,7 @@ module _ (text counted told : List ℕ) (count : ℕ) (first : pieces_of text �
 
   behind_end : (rest : List ℕ) → drop (count + 1) (pieces_of told) ≡ pieces_of rest → drop (count + 3) (pieces_of text) ≡ pieces_of rest
   behind_end rest e =
-      let places : count + 3 ≡ 2 + (count + 1) = omega arith in
-      ap (λ n. drop n (pieces_of text)) places ∙ sym (drop-drop (count + 1) 2 (pieces_of text)) ∙ ap (drop (count + 1)) behind_two ∙ e
+      behind_both (pieces_of text) 2 (count + 1) (count + 3) (omega arith) ∙ ap (drop (count + 1)) behind_two ∙ e
 
   -- nothing stands behind the end
   pub is_told : (steps : List Step) (next : ℕ) (rest : List ℕ) → TellsSteps (pieces_of told) count steps → length steps ≡ count → TellsNext (pieces_of told) count next
@@ -76,4 +71,4 @@ module _ (text counted told : List ℕ) (count : ℕ) (first : pieces_of text �
   pub wrong_rest : (steps : List Step) (next : ℕ) (rest : List ℕ) → TellsSteps (pieces_of told) count steps → length steps ≡ count → TellsNext (pieces_of told) count next
       → drop (count + 1) (pieces_of told) ≡ pieces_of rest → 0 < length rest → IsFirstWrongLine text (count + 4)
   wrong_rest steps next rest h all ends behind some =
-      more {count = count} {next = next} {steps = steps} (begins text counted first) counts (steps_told steps h) all (next_told next ends) (λ e. let none : length rest ≡ 0 = ap length (nothing rest (sym (behind_end rest behind) ∙ e)) in omega (arith, none, some))
+      more {count = count} {next = next} {steps = steps} (begins text counted first) counts (steps_told steps h) all (next_told next ends) (λ e. let none : length rest ≡ 0 = ap length (one_text rest [] (sym (behind_end rest behind) ∙ e)) in omega (arith, none, some))

@@ -1,5 +1,5 @@
 -- Goals that a text says were asked for can be asked for in a text.
-use Rattle.ghc_records.proofs.Words.{◌≡◌, ◌≢◌, ℕ, zero, suc, ◌+◌, ◌-◌, ◌≤◌, true, false, cond, List, [], ◌∷◌, length, refl, sym, ap, ◌∙◌, subst, arith, Option, Some, None, slice_get, unwrap_or, VarName, In, variable, Goal, variables_of_goals, firsts, in_at, Names, IsCalled, Each, IsWithinLimits, WrittenAsk, IsNaming, IsWellPut, of_state, of_no_step, of_query, is_new, HasNumbers, IsNamedIn, IsReadAs, IsWritableGoal, is_seen, ask_well_put, NameNoneOf, asked_of, called, called_by, named_so, written_askable, written_firsts, AreNewInOrder, SaysGoals, CanBeAsked}
+use Rattle.ghc_records.proofs.Words.{◌≡◌, ◌≢◌, ℕ, zero, suc, ◌+◌, ◌-◌, ◌≤◌, true, false, cond, List, [], ◌∷◌, length, refl, sym, ap, ◌∙◌, subst, arith, Option, Some, None, slice_get, unwrap_or, VarName, In, variable, Goal, variables_of_goals, firsts, in_at, Names, IsCalled, Each, IsWithinLimits, WrittenAsk, IsNaming, IsWellPut, of_state, of_no_step, of_query, is_new, HasNumbers, IsNamedIn, IsReadAs, IsWritableGoal, is_seen, ask_well_put, NameNoneOf, asked_of, called, called_by, called_length, named_so, written_askable, written_firsts, AreNewInOrder, SaysGoals, CanBeAsked}
 use Rattle.ghc_fire.specs.Effect.{no_step}
 use Rattle.ghc_records.proofs.ReplacedGoals.{goals_stay}
 use Rattle.ghc_records.proofs.WritableGoals.{goals_have}
@@ -9,10 +9,9 @@ use Rattle.ghc_records.proofs.WrittenAsks.{named_same}
 
 each_at : {X Y : Type 0} (R : X → Y → Type 0) (xs : List X) (ys : List Y) (i : ℕ) (x : X) → Each R xs ys → slice_get xs i ≡ Some x → (y : Y) × (slice_get ys i ≡ Some y) × R x y
 each_at R [] [] i x h e = cc
-each_at R [] (y ∷ ys) i x h e = absurd h
-each_at R (z ∷ xs) [] i x h e = absurd h
 each_at R (z ∷ xs) (y ∷ ys) zero x h e = let same : z ≡ x = cc in (y, refl, subst (λ w. R w y) same h.0)
 each_at R (z ∷ xs) (y ∷ ys) (suc i) x h e = each_at R xs ys i x h.1 e
+each_at R xs ys i x h e = absurd h
 
 -- each once, they are no more
 fewer : (seen xs : List VarName) → length (firsts seen xs) ≤ length xs
@@ -21,11 +20,6 @@ fewer seen (x ∷ xs) = elim (is_seen x seen) as (λ b. length (cond b (firsts s
   | true ↦ omega (arith, fewer seen xs)
   | false ↦ omega (arith, fewer (x ∷ seen) xs)
 ]
-
-called_length : (i : ℕ) (os : List (Option VarName)) → length (called i os) ≡ length os
-called_length i [] = refl
-called_length i (None ∷ os) = ap suc (called_length (i + 1) os)
-called_length i (Some x ∷ os) = ap suc (called_length i os)
 
 called_at : (k i : ℕ) (os : List (Option VarName)) (y : VarName) → slice_get os i ≡ Some (Some y) → slice_get (called k os) i ≡ Some (named_so y)
 called_at k i [] y e = cc

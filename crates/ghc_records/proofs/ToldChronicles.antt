@@ -1,5 +1,5 @@
 -- A chronicle that a text tells is one that a text can tell.
-use Rattle.ghc_records.proofs.Words.{ℕ, ◌+◌, List, length, inl, inr, Goal, In, Tree, IsInputTerm, at_of_in, Names, IsCalled, IsReadTerm, IsNamedIn, IsReadAs, IsWritableGoal, kept_limit, Entry, took, undid, rolled, redid, reordered, SaysStep, TellsSection, Chronicle, AreBelow, AreInTurn, entry_limit, spy_limit, SaysEntry, GoTogether, SaysPredicate, TellsChronicle, behind_lines, entries_line, lines_to_spies, opening_line, spies_line, CanBeSaid, CanBeTold}
+use Rattle.ghc_records.proofs.Words.{ℕ, ◌+◌, List, length, inl, inr, Goal, In, Tree, IsInputTerm, at_of_in, Names, IsCalled, IsReadTerm, IsNamedIn, IsReadAs, IsWritableGoal, kept_limit, Entry, took, SaysStep, TellsSection, Chronicle, AreBelow, AreInTurn, entry_limit, spy_limit, SaysEntry, GoTogether, SaysPredicate, TellsChronicle, behind_lines, entries_line, lines_to_spies, opening_line, spies_line, CanBeSaid, CanBeTold}
 use Rattle.ghc_records.proofs.ToldAsks.{can_be_asked}
 use Rattle.ghc_records.proofs.ToldHistories.{said_of_goal}
 
@@ -13,10 +13,7 @@ module _ (only : (text : List ℕ) (u : Tree) → IsReadTerm text u → IsInputT
   entry_can : (line : List ℕ) (e : Entry) → SaysEntry line e → CanBeSaid e
   entry_can line (took s) (inl h) = inl (said_of_goal only line s h)
   entry_can line (took s) (inr h) = inr (record { number = h.number; none = h.of_none; goals = h.goals; asks = h.asks; can = can_be_asked writable h.body h.goals h.says s.number h.new })
-  entry_can line (undid n) h = h.1
-  entry_can line (rolled n) h = h.1
-  entry_can line (redid n) h = h.1
-  entry_can line (reordered ns) h = h.1
+  entry_can line e h = h.1
 
   pub can_be_told : (text : List ℕ) (c : Chronicle) → TellsChronicle text c → CanBeTold c
   can_be_told text c told =

@@ -1,5 +1,5 @@
 -- A history that a text tells is of the form.
-use Rattle.ghc_records.proofs.Words.{◌≡◌, ℕ, ◌≤◌, List, sym, ◌∙◌, subst, Some, GoalName, Goal, In, at_of_in, Tree, IsInputTerm, IsReadTerm, ByClause as by_clause, Given as given, Asked as asked, Step, History, IsHistory, SaysAct, SaysStep, TellsHistory, IsInRange, IsOfAGoal}
+use Rattle.ghc_records.proofs.Words.{◌≡◌, ℕ, ◌≤◌, List, subst, GoalName, In, at_of_in, Tree, IsInputTerm, IsReadTerm, Step, History, IsHistory, SaysAct, SaysStep, TellsHistory, IsInRange, IsOfAGoal}
 
 -- a line says each step
 line_of : (text : List ℕ) (h : History) → TellsHistory text h → (s : Step) → In s h.steps → (line : List ℕ) × SaysStep line s
@@ -8,40 +8,28 @@ line_of text h told s i =
     let (line, stands, says) = told.steps.each k s e in
     (line, says)
 
-said_clause : (bytes : List ℕ) (s : Step) (k : ℕ) → SaysAct bytes s.act → s.act ≡ by_clause k → SaysAct bytes (by_clause k)
-said_clause bytes s k says e = subst (SaysAct bytes) e says
-
-said_input : (bytes : List ℕ) (s : Step) (u : Tree) → SaysAct bytes s.act → s.act ≡ given u → SaysAct bytes (given u)
-said_input bytes s u says e = subst (SaysAct bytes) e says
-
-said_asked : (bytes : List ℕ) (s : Step) (gs : List Goal) → SaysAct bytes s.act → ¬ (s.act ≡ asked gs)
-said_asked bytes s gs says e = subst (SaysAct bytes) e says
-
 pub told_history : (text : List ℕ) (h : History) → TellsHistory text h → IsHistory h
 told_history text h told = record {
   few = told.count.1;
   numbered = λ s i. let (line, says) = line_of text h told s i in (says.number.0, told.steps.below h.next s told.next i);
   of_goals = λ s i. let (line, says) = line_of text h told s i in (says.goal, says.of_goal);
-  unasked = λ s gs i e. let (line, says) = line_of text h told s i in said_asked says.act s gs says.says e;
-  of_clauses = λ s k i e. let (line, says) = line_of text h told s i in (said_clause says.act s k says.says e).1;
+  unasked = λ s gs i e. let (line, says) = line_of text h told s i in subst (SaysAct says.act) e says.says;
+  of_clauses = λ s k i e. let (line, says) = line_of text h told s i in (subst (SaysAct says.act) e says.says).1;
   distinct = told.steps.distinct;
   next_number = (told.next.1, told.next.2);
 }
-
-same_goal : (g other : GoalName) → Some g ≡ Some other → g ≡ other
-same_goal g other e = cc
 
 -- a step that a line says consumes a goal
 pub said_of_goal : (only : (text : List ℕ) (u : Tree) → IsReadTerm text u → IsInputTerm u) (line : List ℕ) (s : Step) → SaysStep line s → IsOfAGoal s
 said_of_goal only line s says = record {
   number = says.number;
   goal = (says.goal, says.of_goal);
-  unasked = λ gs e. said_asked says.act s gs says.says e;
-  clause = λ k e. (said_clause says.act s k says.says e).1;
+  unasked = λ gs e. subst (SaysAct says.act) e says.says;
+  clause = λ k e. (subst (SaysAct says.act) e says.says).1;
   range = record {
-    goal = λ g e. let same = same_goal says.goal g (sym says.of_goal ∙ e) in (subst (λ (n : GoalName). n.step ≤ 4294967295) same says.goal_numbers.0, subst (λ (n : GoalName). n.place ≤ 4294967295) same says.goal_numbers.1);
-    clause = λ k e. (said_clause says.act s k says.says e).2;
-    input = λ u e. let told_input = said_input says.act s u says.says e in only told_input.0 u told_input.2;
+    goal = λ g e. let same : says.goal ≡ g = cc in (subst (λ (n : GoalName). n.step ≤ 4294967295) same says.goal_numbers.0, subst (λ (n : GoalName). n.place ≤ 4294967295) same says.goal_numbers.1);
+    clause = λ k e. (subst (SaysAct says.act) e says.says).2;
+    input = λ u e. let told_input = subst (SaysAct says.act) e says.says in only told_input.0 u told_input.2;
   };
 }
 

@@ -1,5 +1,5 @@
 -- Lemmas on entries that follow each other.
-use Rattle.ghc_records.proofs.Words.{◌≡◌, ℕ, ◌+◌, ◌≤◌, List, [], ◌∷◌, ◌++◌, refl, arith, number_limit, Entry, took, undid, rolled, redid, reordered, AreInTurn, IsInTurn, next_after, next_behind}
+use Rattle.ghc_records.proofs.Words.{◌≡◌, ℕ, ◌+◌, ◌≤◌, List, [], ◌∷◌, ◌++◌, refl, arith, number_limit, Entry, took, AreInTurn, IsInTurn, next_after, next_behind}
 
 pub turn_more : (n : ℕ) (es : List Entry) (e : Entry) → AreInTurn n es → IsInTurn (next_behind n es) e → AreInTurn n (es ++ e ∷ [])
 turn_more n [] e all last = (last, tt)
@@ -17,7 +17,4 @@ next_more n (f ∷ es) e = next_more (next_after n f) es e
 pub next_fits : (n : ℕ) (es : List Entry) → n ≤ number_limit → AreInTurn n es → next_behind n es ≤ number_limit
 next_fits n [] small all = small
 next_fits n (took s ∷ es) small all = next_fits (n + 1) es (omega (arith, all.0.1)) all.1
-next_fits n (undid k ∷ es) small all = next_fits n es small all.1
-next_fits n (rolled k ∷ es) small all = next_fits n es small all.1
-next_fits n (redid k ∷ es) small all = next_fits n es small all.1
-next_fits n (reordered ks ∷ es) small all = next_fits n es small all.1
+next_fits n (e ∷ es) small all = next_fits n es small all.1

@@ -1,8 +1,8 @@
 -- The words of other crates and of the definitions that the proofs cite, from one place.
-pub use Rattle.ghc_fire.proofs.Asking.{written_askable, written_firsts}
+pub use Rattle.ghc_fire.proofs.Asking.{called_length, written_askable, written_firsts}
 pub use Rattle.ghc_fire.proofs.EachOnce.{firsts_in, renamed_firsts}
-pub use Rattle.ghc_fire.proofs.Gathering.{shown_by}
-pub use Rattle.ghc_fire.proofs.GoalNames.{goal_total, same_goal, same_parts}
+pub use Rattle.ghc_fire.proofs.FoundEffects.{none_weaker}
+pub use Rattle.ghc_fire.proofs.Gathering.{one_put, shown_by}
 pub use Rattle.ghc_fire.proofs.Ordered.{entries_are, inserted, value_in}
 pub use Rattle.ghc_fire.proofs.Origins.{Inside, firsts_have, variables_come}
 pub use Rattle.ghc_fire.proofs.Renamed.{in_goals}
@@ -20,10 +20,10 @@ pub use Rattle.ghc_flat.specs.Clause.{Program, Query}
 pub use Rattle.ghc_flat.specs.Flat.{IsProgram, IsQuery, is_stream}
 pub use Rattle.ghc_flat.specs.Variables.{variables_of_goal}
 pub use Rattle.ghc_reader.proofs.Numbered.{is_seen, test_cases}
-pub use Rattle.ghc_reader.proofs.PrintedNames.{one_variable}
+pub use Rattle.ghc_reader.proofs.PrintedNames.{decimal_run, one_variable}
 pub use Rattle.ghc_reader.proofs.TermsLowered.{variables_of_trees}
 pub use Rattle.ghc_reader.proofs.TokenTexts.{run_of_digits}
-pub use Rattle.ghc_reader.proofs.Values.{numbered_by}
+pub use Rattle.ghc_reader.proofs.Values.{digits_told, numbered_by}
 pub use Rattle.ghc_reader.proofs.WithinLimits.{ask_well_put}
 pub use Rattle.ghc_reader.specs.Bytes.{IsRun}
 pub use Rattle.ghc_reader.specs.Lexed.{IsNumberedAs}
@@ -55,17 +55,18 @@ pub use Rattle.ghc_records.specs.Slots.{AreOnceIn, AreStraysOf, HasNumberIn, Has
 pub use Rattle.ghc_records.specs.State.{GoalsTakenBack, StateTables, with_goal, without_makes}
 pub use Rattle.ghc_records.specs.StepText.{act_text, binding_text, bindings_text, body_text, by_name, consumed_text, followed_by, goal_name_text, listed, makes_text, names_given, step_text, variables_text}
 pub use Rattle.ghc_records.specs.UseIndex.{AreAllEmpty, BindersByVariable, BoundOneOf, CanTake, Gave, HasGrown, HasRoomToKeep, Index, IsIndexOf, IsMakerFor, IsMakerOf, IsUser, MadeOneOf, RecordsTables, StepBinds, StepDependsOn, UsersByStep, numbered, numbers_in, room_in, step_named, users_at, users_in}
-pub use Rattle.ghc_records.specs.Uses.{Binds, MakesGoal, Uses}
+pub use Rattle.ghc_records.specs.Uses.{Binds, Consumes, MakesGoal, Uses}
 pub use Rattle.ghc_records.specs.WrittenEntryCode.{said_by}
 pub use Rattle.ghc_records.specs.declared.predicate.Predicate.{Predicate}
 pub use Rattle.ghc_term.proofs.Decided.{nat_decided}
 pub use Rattle.ghc_term.proofs.Entries.{tie}
+pub use Rattle.ghc_term.proofs.GoalNames.{apart, goal_total, same_goal, same_parts}
 pub use Rattle.ghc_term.proofs.Indexed.{done, removed, value_is}
-pub use Rattle.ghc_term.proofs.ListsLemmas.{at_of_in, in_at, in_contains, in_either, in_get, in_last, in_left, in_more, in_right, in_splits, splits_at}
+pub use Rattle.ghc_term.proofs.ListsLemmas.{at_of_in, in_at, in_contains, in_either, in_get, in_last, in_left, in_map, in_more, in_right, in_splits, not_both, splits_at}
 pub use Rattle.ghc_term.proofs.MapsLemmas.{at_some}
 pub use Rattle.ghc_term.proofs.Merged.{by_answers}
 pub use Rattle.ghc_term.proofs.Names.{itself, name_antisymmetric, name_total}
-pub use Rattle.ghc_term.proofs.Placing.{push_either, push_last}
+pub use Rattle.ghc_term.proofs.Placing.{one_value, push_before, push_either, push_last, set_other}
 pub use Rattle.ghc_term.proofs.SetsLemmas.{has_member, in_any, is_member}
 pub use Rattle.ghc_term.proofs.Total.{empty_acyclic, same_name}
 pub use Rattle.ghc_term.specs.Answered.{Answered, IsExact}
@@ -92,7 +93,7 @@ pub use Rattle.indexmap.specs.IndexMap.{spare}
 pub use Rattle.indexmap.specs.IndexSet.{insert_key}
 pub use Rattle.std.proofs.Common.{All, Bool, Err, FitsSigned, IfNone, IfOk, IfSome, IsOk, IsSome, IsTrue, List, MatchOption, MatchResult, None, Ok, OnErr, OnOk, Option, Result, Some, [], ap, append_assoc, arith, codes, cond, decimal, drop, drop_of_length-le, eqb, false, filter, get_or, if◌then◌else◌, inl, inr, is_ok, is_some, length, length-append, length-drop, ltb, map, min, nat_eq, negsuc, not, option_map, pos, refl, rules, slice_get, slice_set, string_bytes, subst, suc, sym, take, true, vec_capacity, vec_len, w64, zero, ℕ, ℤ, ◌&&◌, ◌*◌, ◌++◌, ◌+◌, ◌-◌, ◌<◌, ◌==◌, ◌^◌, ◌||◌, ◌↔◌, ◌∙◌, ◌∷◌, ◌≡◌, ◌≢◌, ◌≤◌, ◌⊎◌}
 pub use Rattle.std.proofs.Math.Seq.{drop-cons}
-pub use Rattle.std.proofs.lemmas.Bool.{cases_Bool, cases_order, eq-eqb, eqb-true, lt-ltb, ltb-false, ltb-true, ne_eqb}
+pub use Rattle.std.proofs.lemmas.Bool.{and_parts, cases_Bool, cases_lt, cases_order, eq-eqb, eqb-true, false_from_ne_true, lt-ltb, ltb-false, ltb-true, ne_eqb, or_cases, or_parts, or_right, true_from_ne_false}
 pub use Rattle.std.proofs.lemmas.Bool.Decides.{Decides-eqb, nat_tests}
 pub use Rattle.std.proofs.lemmas.Fmt.{decimal-digits_value, decimal_digit, decimal_injective, decimal_is_IsNumeral, decimal_nonempty, first_decimal}
 pub use Rattle.std.proofs.lemmas.Fn.{filter_same}
@@ -102,7 +103,7 @@ pub use Rattle.std.proofs.lemmas.List.Elements.{All-append, All-cons, All-nil, A
 pub use Rattle.std.proofs.lemmas.List.Sorted.{searched}
 pub use Rattle.std.proofs.lemmas.List.Splits.{join_with_byte-slice_split, length-slice_split, slice_split-cons_no, slice_split-cons_yes, slice_split_at, slice_split_none}
 pub use Rattle.std.proofs.lemmas.Map.Made.{keys_of-map_values, lookup-map_values}
-pub use Rattle.std.proofs.lemmas.Option.{get_or_from_slice_get, slice_get_read, slice_get_within}
+pub use Rattle.std.proofs.lemmas.Option.{get_or_from_slice_get, slice_get-map, slice_get_read, slice_get_within}
 pub use Rattle.std.proofs.lemmas.Result.{on_ok_weaker}
 pub use Rattle.std.proofs.lemmas.Slice.Eq.{bytes_eq-Decides, strip_prefix_is}
 pub use Rattle.std.proofs.lemmas.Str.Parse.{IsDigitsTest, digit_from_value, numerals_by_value}

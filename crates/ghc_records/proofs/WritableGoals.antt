@@ -31,8 +31,7 @@ module _ (V : VarName → Type 0) (x : VarName) where
   target_has : (t : Tree) → IsWritableTarget V t → In x (variables t) → V x
   target_has (variable y) w (inl e) = subst V (sym e) w
   target_has (variable y) w (inr i) = absurd i
-  target_has (integer k) w i = absurd w
-  target_has (node f ts) w i = absurd w
+  target_has t w i = absurd w
 
   goal_has : (g : Goal) → IsWritableGoal V g → In x (variables_of_goal g) → V x
   goal_has (call f ts) w i = list_has ts w.2 i
@@ -46,10 +45,8 @@ module _ (V : VarName → Type 0) (x : VarName) where
   goals_have (g ∷ gs) w i = elim (in_either (variables_of_goal g) (variables_of_goals gs) x i) [ inl j ↦ goal_has g (w g (inl refl)) j | inr j ↦ goals_have gs (λ h k. w h (inr k)) j ]
 
 no_stream : (V : VarName → Type 0) (g : Goal) → IsWritableGoal V g → is_stream g ≡ false
-no_stream V (call f ts) w = refl
-no_stream V (unify t u) w = refl
-no_stream V (assign t e) w = refl
 no_stream V (stream k x) w = absurd w
+no_stream V g w = refl
 
 pub none_streams : (V : VarName → Type 0) (gs : List Goal) → ((g : Goal) → In g gs → IsWritableGoal V g) → filter is_stream gs ≡ []
 none_streams V [] w = refl

@@ -1,7 +1,9 @@
 -- Goals that are asked for and can be written are, printed, read again as themselves.
-use Rattle.ghc_records.proofs.Words.{◌≡◌, ◌≢◌, ℕ, zero, suc, ◌+◌, ◌-◌, ◌≤◌, Bool, true, false, cond, List, [], ◌∷◌, ◌++◌, length, map, refl, sym, ap, ◌∙◌, subst, inl, inr, arith, Some, None, slice_get, decimal, length-append, ◌||◌, codes, unwrap_or, eq_by_cmp, is_ascii_digit, ne_eqb, length-map, decimal_is_IsNumeral, VarName, In, variable, Goal, goal_text, variable_text, name_cmp, variables_of_goals, firsts, in_at, itself, IsRun, IsNumberedAs, Names, blank, IsCalled, AreNamed, Each, doing, AreNumbered, AreApart, WrittenAsk, IsNaming, of_state, HasNumbers, IsWritableGoal, IsPrintedAs, IsReadAs, further_goals, goals_text, is_seen, test_cases, one_variable, run_of_digits, numbered_by, replace_in_goal, NameNoneOf, asked_of, called, called_by, named_so, firsts_in, renamed_firsts, firsts_have, in_goals, by, goals_renamed, same_goals, goals_twice, body_text, followed_by, SaysGoals}
+use Rattle.ghc_records.proofs.Words.{◌≡◌, ◌≢◌, ℕ, zero, suc, ◌+◌, ◌-◌, Bool, true, false, cond, List, [], ◌∷◌, ◌++◌, length, map, refl, sym, ap, ◌∙◌, subst, inl, inr, arith, Some, None, slice_get, slice_get-map, option_map, decimal, length-append, codes, unwrap_or, eq_by_cmp, ne_eqb, or_parts, length-map, decimal_is_IsNumeral, VarName, In, variable, Goal, goal_text, variable_text, name_cmp, variables_of_goals, firsts, in_at, IsNumberedAs, Names, blank, IsCalled, AreNamed, Each, doing, AreNumbered, AreApart, WrittenAsk, IsNaming, of_state, HasNumbers, IsWritableGoal, IsPrintedAs, IsReadAs, further_goals, goals_text, is_seen, test_cases, decimal_run, one_variable, numbered_by, replace_in_goal, NameNoneOf, asked_of, called, called_by, named_so, firsts_in, renamed_firsts, firsts_have, in_goals, by, goals_renamed, same_goals, goals_twice, body_text, followed_by, SaysGoals}
 use Rattle.ghc_term.proofs.Names.{same_name}
+use Rattle.ghc_unify.proofs.Bound.{itself as same_test}
 use Rattle.ghc_fire.specs.Effect.{no_step}
+use Rattle.ghc_records.proofs.Effects.{mapped}
 use Rattle.ghc_records.proofs.RenamedSayings.{goals_say}
 use Rattle.ghc_records.proofs.WritableGoals.{goals_have, none_streams}
 
@@ -24,13 +26,7 @@ get_map f (x ∷ xs) zero y e = let same : f x ≡ y = cc in (x, refl, sym same)
 get_map f (x ∷ xs) (suc i) y e = get_map f xs i y e
 
 map_get : {X Y : Type 0} (f : X → Y) (xs : List X) (i : ℕ) (x : X) → slice_get xs i ≡ Some x → slice_get (map f xs) i ≡ Some (f x)
-map_get f [] i x e = cc
-map_get f (y ∷ xs) zero x e = let same : y ≡ x = cc in ap (λ z. Some (f z)) same
-map_get f (y ∷ xs) (suc i) x e = map_get f xs i x e
-
-neither : (a b : Bool) → (a || b) ≡ false → (a ≡ false) × (b ≡ false)
-neither true b e = cc
-neither false b e = (refl, e)
+map_get f xs i x e = slice_get-map f xs i ∙ ap (option_map f) e
 
 -- ---- the place of a variable in a list
 
@@ -40,9 +36,6 @@ place (y ∷ ys) x = cond (eq_by_cmp name_cmp x y) 0 (suc (place ys x))
 
 place_here : (y : VarName) (ys : List VarName) (x : VarName) (b : Bool) → eq_by_cmp name_cmp x y ≡ b → place (y ∷ ys) x ≡ cond b 0 (suc (place ys x))
 place_here y ys x b e = ap (λ c. cond c 0 (suc (place ys x))) e
-
-same_test : (x y : VarName) → x ≡ y → eq_by_cmp name_cmp x y ≡ true
-same_test x y e = subst (λ z. eq_by_cmp name_cmp x z ≡ true) e (itself x)
 
 -- what is there stands at its place
 at_place : (ys : List VarName) (x : VarName) → In x ys → slice_get ys (place ys x) ≡ Some x
@@ -62,7 +55,7 @@ first_unseen seen (y ∷ xs) x i =
       | true ↦ λ p j. first_unseen seen xs x j
       | false ↦ λ p j. elim j [
         | inl e ↦ subst (λ z. is_seen z seen ≡ false) (sym e) p
-        | inr k ↦ (neither (eq_by_cmp name_cmp x y) (is_seen x seen) (first_unseen (y ∷ seen) xs x k)).1
+        | inr k ↦ (or_parts (eq_by_cmp name_cmp x y) (is_seen x seen) (first_unseen (y ∷ seen) xs x k)).1
       ]
     ] refl i
 
@@ -77,20 +70,17 @@ place_of seen [] i x e = cc
 place_of seen (y ∷ xs) i x e =
     elim (is_seen y seen) as (λ b. slice_get (cond b (firsts seen xs) (y ∷ firsts (y ∷ seen) xs)) i ≡ Some x → place (cond b (firsts seen xs) (y ∷ firsts (y ∷ seen) xs)) x ≡ i) [
       | true ↦ λ q. place_of seen xs i x q
-      | false ↦ λ q. place_behind y (firsts (y ∷ seen) xs) i x (λ j r. place_of (y ∷ seen) xs j x r) (λ k. (neither (eq_by_cmp name_cmp x y) (is_seen x seen) (first_unseen (y ∷ seen) xs x k)).0) q
+      | false ↦ λ q. place_behind y (firsts (y ∷ seen) xs) i x (λ j r. place_of (y ∷ seen) xs j x r) (λ k. (or_parts (eq_by_cmp name_cmp x y) (is_seen x seen) (first_unseen (y ∷ seen) xs x k)).0) q
     ] e
 
 -- ---- names
-
-number_run : (n : ℕ) → n ≤ 4294967295 → IsRun is_ascii_digit is_ascii_digit (decimal n)
-number_run n small = let k = decimal_is_IsNumeral n (omega (arith, small)) in run_of_digits (decimal n) k.0.0 k.0.1
 
 -- a variable is called by its numbers
 numbered_as : (x : VarName) → HasNumbers x → IsNumberedAs (variable_text x) x.step x.place
 numbered_as x n =
     let step = (decimal_is_IsNumeral x.step (omega (arith, n.step))).1 in
     let place = (decimal_is_IsNumeral x.place (omega (arith, n.place))).1 in
-    numbered_by (variable_text x) (decimal x.step) (decimal x.place) x.step x.place (number_run x.step n.step, number_run x.place n.place, refl) (sym step) (sym place) n.step n.place
+    numbered_by (variable_text x) (decimal x.step) (decimal x.place) x.step x.place (decimal_run x.step n.step, decimal_run x.place n.place, refl) (sym step) (sym place) n.step n.place
 
 not_blank : (x : VarName) → variable_text x ≢ blank
 not_blank x e = omega (arith, ap length e, length-append (decimal x.step) (95 ∷ decimal x.place))
@@ -101,9 +91,7 @@ namings (x ∷ xs) numbers none =
     (of_state {n = x.step} {m = x.place} (numbered_as x (numbers x (inl refl))) (none x (inl refl)), namings xs (λ y i. numbers y (inr i)) (λ y i. none y (inr i)))
 
 never_none : (xs : List VarName) → ¬ In None (map Some xs)
-never_none [] i = i
-never_none (x ∷ xs) (inl e) = cc
-never_none (x ∷ xs) (inr i) = never_none xs i
+never_none xs i = let k = mapped Some xs None i in cc
 
 pub named_same : (x : VarName) → x.step ≢ no_step → named_so x ≡ x
 named_same x d = rw (ne_eqb x.step no_step d) refl

@@ -1,6 +1,6 @@
 -- What is written of a chronicle is a text that tells it.
 use Rattle.ghc_records.proofs.Words.{◌≡◌, ℕ, suc, ◌+◌, ◌≤◌, All, List, [], ◌∷◌, ◌++◌, drop, length, map, refl, sym, ap, ◌∙◌, subst, arith, decimal, append_assoc, inl, inr, codes, AllByRecursion, drop-drop, In, Tree, Goal, term_text, IsInputTerm, variables_of_goals, firsts, IsReadTerm, IsWithinLimits, HasNumbers, IsWritableGoal, IsPrintedAs, IsReadAs, goals_text, Predicate, kept_limit, Step, Entry, took, undid, rolled, redid, reordered, act_text, body_text, consumed_text, step_text, SaysStep, end_line, pieces_of, Chronicle, AreBelow, AreInTurn, entry_limit, spy_limit, IsNamed, SaysAsking, SaysEntry, SaysGoals, entry_text, numbers_behind, GoTogether, SaysPredicate, predicate_text, TellsChronicle, behind_lines, chronicle_heading, chronicle_lines, chronicle_text, entries_line, lines_to_end, lines_to_spies, opening_line, spies_line, CanBeSaid, CanBeSpied, CanBeTold, IsOfNoGoal}
-use Rattle.ghc_records.proofs.CutLemmas.{fits}
+use Rattle.ghc_records.proofs.CutLemmas.{behind_both, fits}
 use Rattle.ghc_records.proofs.PlainTexts.{HasNoFeed, both, decimal_text, name_text, nothing, plain_codes}
 use Rattle.ghc_records.proofs.PlainGoals.{body_plain}
 use Rattle.ghc_records.proofs.TurnLemmas.{next_fits}
@@ -56,10 +56,7 @@ module _ (each : (u : Tree) → IsInputTerm u → IsReadTerm (term_text u) u)
   entry_is_said : (e : Entry) → CanBeSaid e → SaysEntry (entry_text e) e
   entry_is_said (took s) (inl h) = inl (step_is_said each s h)
   entry_is_said (took s) (inr h) = inr (asking_is_said s h)
-  entry_is_said (undid n) h = (refl, h)
-  entry_is_said (rolled n) h = (refl, h)
-  entry_is_said (redid n) h = (refl, h)
-  entry_is_said (reordered ns) h = (refl, h)
+  entry_is_said e h = (refl, h)
 
   entry_is_plain : (e : Entry) → CanBeSaid e → HasNoFeed (entry_text e)
   entry_is_plain (took s) (inl h) = step_is_plain each s h
@@ -135,19 +132,17 @@ module _ (each : (u : Tree) → IsInputTerm u → IsReadTerm (term_text u) u)
 
     at_entries : behind_lines (length steps + 2) text ≡ from_entries
     at_entries =
-        let places : length steps + 2 ≡ 1 + (length steps + 1) = omega arith in
-        ap (λ n. drop n (pieces_of text)) places ∙ sym (drop-drop (length steps + 1) 1 (pieces_of text)) ∙ behind_section step_text (opening_line c.opening.next (length steps)) steps from_entries (behind_lines 1 text) at_opening
+        behind_both (pieces_of text) 1 (length steps + 1) (length steps + 2) (omega arith)
+        ∙ behind_section step_text (opening_line c.opening.next (length steps)) steps from_entries (behind_lines 1 text) at_opening
 
     at_spies : behind_lines (lines_to_spies c.opening c.entries) text ≡ from_spies
     at_spies =
-        let places : lines_to_spies c.opening c.entries ≡ (length steps + 2) + (length c.entries + 1) = omega arith in
-        ap (λ n. drop n (pieces_of text)) places ∙ sym (drop-drop (length c.entries + 1) (length steps + 2) (pieces_of text))
+        behind_both (pieces_of text) (length steps + 2) (length c.entries + 1) (lines_to_spies c.opening c.entries) (omega arith)
         ∙ behind_section entry_text (entries_line (length c.entries)) c.entries from_spies (behind_lines (length steps + 2) text) at_entries
 
     at_end : behind_lines (lines_to_end c.opening c.entries c.spies) text ≡ from_end
     at_end =
-        let places : lines_to_end c.opening c.entries c.spies ≡ lines_to_spies c.opening c.entries + (length c.spies + 1) = omega arith in
-        ap (λ n. drop n (pieces_of text)) places ∙ sym (drop-drop (length c.spies + 1) (lines_to_spies c.opening c.entries) (pieces_of text))
+        behind_both (pieces_of text) (lines_to_spies c.opening c.entries) (length c.spies + 1) (lines_to_end c.opening c.entries c.spies) (omega arith)
         ∙ behind_section predicate_text (spies_line (length c.spies)) c.spies from_end (behind_lines (lines_to_spies c.opening c.entries) text) at_spies
 
     pub chronicle_is_told : TellsChronicle text c

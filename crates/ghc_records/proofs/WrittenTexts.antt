@@ -1,7 +1,7 @@
 -- What is written of a history is a text that tells it.
-use Rattle.ghc_records.proofs.Words.{◌≡◌, ◌≢◌, ℕ, ◌+◌, ◌<◌, ◌≤◌, List, [], ◌∷◌, ◌++◌, drop, length, map, refl, sym, ap, ◌∙◌, subst, arith, decimal, append_assoc, codes, AllByRecursion, drop-drop, GoalName, In, in_at, Tree, term_text, IsInputTerm, IsReadTerm, Goal, Act, ByClause as by_clause, Unified as unified, Assigned as assigned, Given as given, Closed as closed, Asked as asked, Step, act_text, consumed_text, goal_name_text, step_text, History, IsHistory, IsLineOf, SaysAct, SaysStep, TellsHistory, TellsNext, behind_count, count_line, end_line, greatest_number, heading, history_lines, history_text, lines_text, pieces_of, IsInRange, IsOfAGoal}
-use Rattle.ghc_records.proofs.CutLemmas.{fits, first_piece}
-use Rattle.ghc_records.proofs.PlainTexts.{HasNoFeed, both, byte_first, decimal_text, nothing, plain_codes, term_plain}
+use Rattle.ghc_records.proofs.Words.{◌≡◌, ◌≢◌, ℕ, ◌+◌, ◌<◌, ◌≤◌, List, [], ◌∷◌, ◌++◌, drop, length, map, refl, sym, ap, ◌∙◌, subst, arith, decimal, append_assoc, codes, AllByRecursion, drop-drop, GoalName, In, in_at, Tree, term_text, IsInputTerm, IsReadTerm, Goal, Act, ByClause as by_clause, Given as given, Asked as asked, Step, act_text, consumed_text, goal_name_text, step_text, History, IsHistory, IsLineOf, SaysAct, SaysStep, TellsHistory, TellsNext, behind_count, count_line, end_line, greatest_number, heading, history_lines, history_text, lines_text, pieces_of, IsInRange, IsOfAGoal}
+use Rattle.ghc_records.proofs.CutLemmas.{behind_both, fits, first_piece}
+use Rattle.ghc_records.proofs.PlainTexts.{HasNoFeed, both, byte_first, decimal_text, plain_codes, term_plain}
 use Rattle.ghc_records.proofs.TellingHistories.{one_next}
 use Rattle.ghc_records.proofs.WrittenSections.{behind_items, front_of, item_there, items_plain}
 
@@ -13,20 +13,16 @@ lines_cut (line ∷ lines) h = first_piece 10 line (lines_text lines) h.0 ∙ ap
 -- the act of a step is said by its text
 act_said : (act : Act) → ((k : ℕ) → act ≡ by_clause k → (1 ≤ k) × (k ≤ greatest_number)) → ((u : Tree) → act ≡ given u → IsReadTerm (term_text u) u) → ((gs : List Goal) → act ≢ asked gs) → SaysAct (act_text act) act
 act_said (by_clause k) clause input unasked = (refl, (clause k refl).0, (clause k refl).1)
-act_said unified clause input unasked = refl
-act_said assigned clause input unasked = refl
 act_said (given u) clause input unasked = (term_text u, refl, input u refl)
-act_said closed clause input unasked = refl
 act_said (asked gs) clause input unasked = absurd (unasked gs refl)
+act_said act clause input unasked = refl
 
 -- no line feed stands in it
 act_plain : (act : Act) → ((k : ℕ) → act ≡ by_clause k → k ≤ greatest_number) → ((u : Tree) → act ≡ given u → IsInputTerm u) → ((gs : List Goal) → act ≢ asked gs) → HasNoFeed (act_text act)
-act_plain (by_clause k) clause input unasked = both (codes "by ") (decimal k) (byte_first 98 (codes "y ") (λ e. omega (arith, e)) (byte_first 121 (codes " ") (λ e. omega (arith, e)) (byte_first 32 [] (λ e. omega (arith, e)) nothing))) (decimal_text k (fits k (clause k refl)))
-act_plain unified clause input unasked = byte_first 101 (codes "q") (λ e. omega (arith, e)) (byte_first 113 [] (λ e. omega (arith, e)) nothing)
-act_plain assigned clause input unasked = byte_first 105 (codes "s") (λ e. omega (arith, e)) (byte_first 115 [] (λ e. omega (arith, e)) nothing)
-act_plain (given u) clause input unasked = both (codes "in ") (term_text u) (byte_first 105 (codes "n ") (λ e. omega (arith, e)) (byte_first 110 (codes " ") (λ e. omega (arith, e)) (byte_first 32 [] (λ e. omega (arith, e)) nothing))) (term_plain u (input u refl).grammar)
-act_plain closed clause input unasked = byte_first 101 (codes "nd") (λ e. omega (arith, e)) (byte_first 110 (codes "d") (λ e. omega (arith, e)) (byte_first 100 [] (λ e. omega (arith, e)) nothing))
+act_plain (by_clause k) clause input unasked = both (codes "by ") (decimal k) (plain_codes (codes "by ") refl) (decimal_text k (fits k (clause k refl)))
+act_plain (given u) clause input unasked = both (codes "in ") (term_text u) (plain_codes (codes "in ") refl) (term_plain u (input u refl).grammar)
 act_plain (asked gs) clause input unasked = absurd (unasked gs refl)
+act_plain act clause input unasked = plain_codes (act_text act) refl
 
 -- a step that consumes a goal
 module _ (each : (u : Tree) → IsInputTerm u → IsReadTerm (term_text u) u) (s : Step) (is : IsOfAGoal s) where
@@ -103,7 +99,6 @@ module _ (each : (u : Tree) → IsInputTerm u → IsReadTerm (term_text u) u) (h
     };
     next = end_is_told;
     whole =
-        let places : length h.steps + 3 ≡ 2 + (length h.steps + 1) = omega arith in
-        ap (λ n. drop n (pieces_of (history_text h))) places ∙ sym (drop-drop (length h.steps + 1) 2 (pieces_of (history_text h))) ∙ ap (drop (length h.steps + 1)) behind_two
+        behind_both (pieces_of (history_text h)) 2 (length h.steps + 1) (length h.steps + 3) (omega arith) ∙ ap (drop (length h.steps + 1)) behind_two
         ∙ sym (drop-drop 1 (length h.steps) (map step_text h.steps ++ end_line h.next ∷ [] ∷ [])) ∙ ap (drop 1) (behind_items step_text h.steps (end_line h.next ∷ [] ∷ []));
   }

@@ -1,19 +1,20 @@
-use Rattle.ghc_records.proofs.Words.{◌+◌, drop, get_or, sym, ap, ◌∙◌, subst, drop_all, drop_more}
+use Rattle.ghc_records.proofs.Words.{◌+◌, drop, get_or, ap, ◌∙◌, None, drop_all, drop_more, name_total}
 use Rattle.std.specs.FinMap as finite
-use Rattle.ghc_records.proofs.Bound.{IsUnbound, unbind_begin, unbind_next}
+use Rattle.ghc_records.proofs.VariableBinders.{set_begin, set_next}
 use Rattle.ghc_records.proofs.binding.unbind_all.Goals as goal
 
 pub loop-x-init : goal.loop-x-init
-loop-x-init c = unbind_begin c.args.binds.now c.args.store.now.held c.entries-x-items.result.now c.entries-x-items.ensures.all
+loop-x-init c = set_begin None c.args.binds.now c.args.store.now.held c.entries-x-items.result.now c.entries-x-items.ensures.all
 
 pub loop-x-preserved : goal.loop-x-preserved
 loop-x-preserved c =
     let es = c.entries-x-items.result.now in
     let b = c.loop-x-item.result in
     let i = c.loop-x.x-index in
-    let before = subst (IsUnbound c.args.binds.now c.args.store.now.held c.loop-x.store.held) (drop_more es i b c.loop-x-test.true) c.loop-x.invariant in
-    subst (λ s. IsUnbound c.args.binds.now c.args.store.now.held s (drop (i + 1) es)) (sym (c.unbind.ensures.held ∙ ap (λ a. finite.remove c.loop-x.store.held a.0) c.loop-x-item.is))
-    (unbind_next c.args.binds.now c.args.store.now.held c.loop-x.store.held (get_or es i b) (drop (i + 1) es) before)
+    let now = c.loop-x.store.held in
+    let new = c.unbind.ensures.held ∙ ap (λ a. finite.remove now a.0) c.loop-x-item.is in
+    set_next None c.args.binds.now c.args.store.now.held now c.unbind.new.self.held (get_or es i b) (drop (i + 1) es)
+    (rw (drop_more es i b c.loop-x-test.true) at c.loop-x.invariant) (λ y. ap (λ m. finite.get m y) new ∙ finite.get-remove name_total now (get_or es i b).0 y)
 
 pub returns : goal.returns
-returns c = subst (IsUnbound c.args.binds.now c.args.store.now.held c.loop-x.store.held) (drop_all c.loop-x.x-index c.entries-x-items.result.now c.loop-x-test.false) c.loop-x.invariant
+returns c = rw (drop_all c.loop-x.x-index c.entries-x-items.result.now c.loop-x-test.false) at c.loop-x.invariant

@@ -1,29 +1,26 @@
-use Rattle.ghc_records.proofs.Words.{◌+◌, refl, codes, pieces_of, spy_limit, GoTogether, SaysPredicate, spies_line}
-use Rattle.ghc_records.proofs.SectionParts.{fronted, section_rest, section_told, unfronted, wrong_first, wrong_line}
+use Rattle.ghc_records.proofs.Words.{◌+◌, refl, pieces_of, spy_limit, GoTogether, SaysPredicate, spies_line}
+use Rattle.ghc_records.proofs.SectionParts.{section_rest, section_told, wrong_first, wrong_line}
 use Rattle.ghc_records.proofs.chronicle_reading.spies_of.Goals as goal
 
 pub returns-in_default-clause-fault : goal.returns-in_default-clause-fault
 returns-in_default-clause-fault c =
-    let pieces = pieces_of c.args.text.now in
-    wrong_first SaysPredicate GoTogether spies_line spy_limit pieces c.args.line (unfronted pieces c.as_slice.result.now (codes "spies ") spy_limit c.as_slice.ensures c.in_default.ensures.none)
+    wrong_first SaysPredicate GoTogether spies_line spy_limit (pieces_of c.args.text.now) c.args.line
+    (rw c.as_slice.ensures at c.in_default.ensures.none)
 
 pub returns-in-Ok-clause-told : goal.returns-in-Ok-clause-told
 returns-in-Ok-clause-told c =
-    let pieces = pieces_of c.args.text.now in
     let a = c.in-Some in
-    section_told SaysPredicate GoTogether spies_line spy_limit pieces a.count a.told.now (fronted pieces c.as_slice.result.now (codes "spies ") a.count a.told.now c.as_slice.ensures a.ensures.some) a.ensures.few
-    c.in-Ok.spies.items c.in-Ok.ensures.told c.in-Ok.ensures.all
+    section_told SaysPredicate GoTogether spies_line spy_limit (pieces_of c.args.text.now) a.count a.told.now
+    (rw c.as_slice.ensures at a.ensures.some) a.ensures.few c.in-Ok.spies.items c.in-Ok.ensures.told c.in-Ok.ensures.all
 
 pub returns-in-Ok-clause-rest : goal.returns-in-Ok-clause-rest
 returns-in-Ok-clause-rest c =
-    let pieces = pieces_of c.args.text.now in
     let a = c.in-Some in
-    section_rest SaysPredicate GoTogether spies_line spy_limit pieces a.count a.told.now (fronted pieces c.as_slice.result.now (codes "spies ") a.count a.told.now c.as_slice.ensures a.ensures.some) a.ensures.few
-    c.in-Ok.spies.items c.in-Ok.rest.now c.in-Ok.ensures.all c.in-Ok.ensures.rest
+    section_rest SaysPredicate GoTogether spies_line spy_limit (pieces_of c.args.text.now) a.count a.told.now
+    (rw c.as_slice.ensures at a.ensures.some) a.ensures.few c.in-Ok.spies.items c.in-Ok.rest.now c.in-Ok.ensures.all c.in-Ok.ensures.rest
 
 pub returns-in-Err-clause-fault : goal.returns-in-Err-clause-fault
 returns-in-Err-clause-fault c =
-    let pieces = pieces_of c.args.text.now in
     let a = c.in-Some in
-    wrong_line SaysPredicate GoTogether spies_line spy_limit pieces a.count a.told.now (fronted pieces c.as_slice.result.now (codes "spies ") a.count a.told.now c.as_slice.ensures a.ensures.some) a.ensures.few
-    c.args.line (c.args.line + 1) c.in-Err.fault refl c.in-Err.ensures.fault
+    wrong_line SaysPredicate GoTogether spies_line spy_limit (pieces_of c.args.text.now) a.count a.told.now
+    (rw c.as_slice.ensures at a.ensures.some) a.ensures.few c.args.line (c.args.line + 1) c.in-Err.fault refl c.in-Err.ensures.fault

@@ -1,5 +1,6 @@
-use Rattle.ghc_records.proofs.Words.{IfSome, IfNone, subst, Entry, SaysEntry, said_by}
-use Rattle.ghc_records.proofs.EntryLines.{none_said, not_in_turn}
+use Rattle.ghc_records.proofs.Words.{IfSome, subst, IsInTurn, SaysEntry, said_by}
+use Rattle.ghc_records.proofs.EntryLines.{not_in_turn}
+use Rattle.ghc_records.proofs.SectionLemmas.{none_said}
 use Rattle.ghc_records.proofs.entries_reading.next_entry.Goals as goal
 
 pub returns-else-is_in_turn-clause-none : goal.returns-else-is_in_turn-clause-none
@@ -9,5 +10,5 @@ returns-else-is_in_turn-clause-none c =
 
 pub returns-in-Ok-None-clause-none : goal.returns-in-Ok-None-clause-none
 returns-in-Ok-None-clause-none c =
-    none_said c.args.text.now c.in-Some.line.now c.in-Some.rest.now c.args.next c.in-Some.ensures.found
-    (subst (λ o. IfNone o ((e : Entry) → ¬ SaysEntry c.in-Some.line.now e)) c.in-Ok-None.field-0-is c.in-Ok-None.ensures.none)
+    none_said SaysEntry (IsInTurn c.args.next) c.args.text.now c.in-Some.line.now c.in-Some.rest.now c.in-Some.ensures.found
+    (rw c.in-Ok-None.field-0-is at c.in-Ok-None.ensures.none)

@@ -1,4 +1,4 @@
-use Rattle.ghc_records.proofs.Words.{◌≡◌, ℕ, Bool, true, false, not, List, nat_eq, refl, sym, ap, ◌∙◌, list_any, In}
+use Rattle.ghc_records.proofs.Words.{◌≡◌, ℕ, Bool, true, false, not, List, nat_eq, sym, ap, ◌∙◌, list_any, true_from_ne_false, In}
 use Rattle.ghc_records.proofs.NumberSets.{any_number, number_any}
 use Rattle.ghc_records.proofs.history_reading.add_number.Goals as goal
 
@@ -6,10 +6,7 @@ is_new : (ks : List ℕ) (n : ℕ) (b : Bool) → b ≡ not (list_any (nat_eq n)
 is_new ks n b is e i = let clash : true ≡ false = sym e ∙ is ∙ ap not (any_number n ks i) in cc
 
 is_known : (ks : List ℕ) (n : ℕ) (b : Bool) → b ≡ not (list_any (nat_eq n) ks) → b ≡ false → In n ks
-is_known ks n b is e = elim (list_any (nat_eq n) ks) as (λ t. list_any (nat_eq n) ks ≡ t → In n ks) [
-  | true ↦ λ any. number_any n ks any
-  | false ↦ λ any. let clash : true ≡ false = sym (ap not any) ∙ sym is ∙ e in cc
-] refl
+is_known ks n b is e = number_any n ks (true_from_ne_false (list_any (nat_eq n) ks) (λ none. let clash : true ≡ false = sym (ap not none) ∙ sym is ∙ e in cc))
 
 pub returns-in-Ok-clause-new : goal.returns-in-Ok-clause-new
 returns-in-Ok-clause-new c = is_new c.args.numbers.now.keys c.args.number c.in-Ok.new c.in-Ok.ensures.added

@@ -1,6 +1,7 @@
-use Rattle.ghc_records.proofs.Words.{◌≡◌, ◌∷◌, ℕ, ◌<◌, Bool, true, false, List, Option, IfSome, IfNone, refl, sym, ◌∙◌, subst, ◌↔◌, Step, IsLineOf, SaysStep, pieces_of}
+use Rattle.ghc_records.proofs.Words.{◌≡◌, ◌∷◌, ℕ, ◌<◌, Bool, true, false, List, Option, IfSome, refl, sym, ◌∙◌, subst, ◌↔◌, Step, IsLineOf, SaysStep, pieces_of}
 use Rattle.ghc_records.proofs.CutLemmas.{line_is}
 use Rattle.ghc_records.proofs.Saying.{one_step_number}
+use Rattle.ghc_records.proofs.SectionLemmas.{none_said}
 use Rattle.ghc_records.proofs.history_reading.next_step.Goals as goal
 
 not_below : (text line rest : List ℕ) (bound : Option ℕ) (t : Step) (n : ℕ) (b : Bool) → pieces_of text ≡ line ∷ pieces_of rest → SaysStep line t → n ≡ t.number → (b ≡ true ↔ IfSome bound (λ next. n < next)) → b ≡ false
@@ -11,10 +12,6 @@ not_below text line rest bound t n b found says here is never other s stands oth
     let clash : true ≡ false = sym (is.1 (subst (λ m. IfSome bound (λ next. m < next)) (sym number) low)) ∙ never in
     cc
 
-none_said : (text line rest : List ℕ) (bound : Option ℕ) → pieces_of text ≡ line ∷ pieces_of rest → ((s : Step) → ¬ SaysStep line s)
-    → (other : List ℕ) (s : Step) → IsLineOf (pieces_of text) 0 other → SaysStep other s → ¬ IfSome bound (λ next. s.number < next)
-none_said text line rest bound found none other s stands says low = none s (subst (λ l. SaysStep l s) (line_is (pieces_of text) 0 text line rest other refl found stands) says)
-
 pub returns-else-is_below-clause-none : goal.returns-else-is_below-clause-none
 returns-else-is_below-clause-none c =
     not_below c.args.text.now c.in-Some.line.now c.in-Some.rest.now c.args.bound c.in-Ok-Some.step c.number.result c.is_below.result c.in-Some.ensures.found
@@ -22,5 +19,5 @@ returns-else-is_below-clause-none c =
 
 pub returns-in-Ok-None-clause-none : goal.returns-in-Ok-None-clause-none
 returns-in-Ok-None-clause-none c =
-    none_said c.args.text.now c.in-Some.line.now c.in-Some.rest.now c.args.bound c.in-Some.ensures.found
-    (subst (λ o. IfNone o ((s : Step) → ¬ SaysStep c.in-Some.line.now s)) c.in-Ok-None.field-0-is c.in-Ok-None.ensures.none)
+    none_said SaysStep (λ (s : Step). IfSome c.args.bound (λ next. s.number < next)) c.args.text.now c.in-Some.line.now c.in-Some.rest.now
+    c.in-Some.ensures.found (rw c.in-Ok-None.field-0-is at c.in-Ok-None.ensures.none)

@@ -17,85 +17,69 @@ pub read_steps-requires-clause-bound : goal.read_steps-requires-clause-bound
 read_steps-requires-clause-bound c =
     bound_told (pieces_of c.in-Some-read_count.told.now) c.in-Some-read_count.count c.find_end-end.result c.next_of-bound.result c.next_of-bound.ensures c.find_end-end.ensures.some c.find_end-end.ensures.none
 
-pub returns-in-Err-clause-answer : goal.returns-in-Err-clause-answer
-returns-in-Err-clause-answer c =
-    let counted = c.in-Some-read_count in (
-      tt,
-      elim c.in-Err.ensures.fault [
-        | inl memory ↦ inl memory
-        | inr wrong ↦ inr (wrong_step c.args.text.now c.in-Some.counted.now counted.told.now counted.count c.in-Some.ensures.some counted.ensures.some counted.ensures.few c.in-Err.fault wrong)
-      ],
-    )
+pub returns-in-Err : goal.returns-in-Err
+returns-in-Err c =
+    let text = c.args.text.now in
+    let behind = c.in-Some.counted.now in
+    let some = c.in-Some.ensures.some in
+    let k = c.in-Some-read_count in
+    let stands = counts text behind k.told.now k.count some k.ensures.some k.ensures.few in
+    record {
+      answer = (
+        tt,
+        elim c.in-Err.ensures.fault [
+          | inl memory ↦ inl memory
+          | inr wrong ↦ inr (wrong_step text behind k.told.now k.count some k.ensures.some k.ensures.few c.in-Err.fault wrong)
+        ],
+      );
+      heading = λ other. absurd (other (begins text behind some));
+      count = λ _ none. absurd (none k.count stands);
+      no_steps = λ told _. let clash = c.in-Err.ensures.none (one_count text k.count 0 stands told) in cc;
+    }
 
-pub returns-in-Err-clause-heading : goal.returns-in-Err-clause-heading
-returns-in-Err-clause-heading c other = absurd (other (begins c.args.text.now c.in-Some.counted.now c.in-Some.ensures.some))
-
-pub returns-in-Err-clause-count : goal.returns-in-Err-clause-count
-returns-in-Err-clause-count c _ none =
-    let counted = c.in-Some-read_count in
-    absurd (none counted.count (counts c.args.text.now c.in-Some.counted.now counted.told.now counted.count c.in-Some.ensures.some counted.ensures.some counted.ensures.few))
-
-pub returns-in-Err-clause-no_steps : goal.returns-in-Err-clause-no_steps
-returns-in-Err-clause-no_steps c told _ =
-    let counted = c.in-Some-read_count in
-    let stands = counts c.args.text.now c.in-Some.counted.now counted.told.now counted.count c.in-Some.ensures.some counted.ensures.some counted.ensures.few in
-    let clash = c.in-Err.ensures.none (one_count c.args.text.now counted.count 0 stands told) in
-    cc
-
-pub returns-in-None-clause-answer : goal.returns-in-None-clause-answer
-returns-in-None-clause-answer c =
-    let counted = c.in-Some-read_count in
-    let told = c.in-Ok.ensures.ok in (
-      tt,
-      inr (
-        counted.count + 3,
-        refl,
-        wrong_end c.args.text.now c.in-Some.counted.now counted.told.now counted.count c.in-Some.ensures.some counted.ensures.some counted.ensures.few c.in-Ok.steps.items told.0 told.1 c.in-None.ensures.none,
-      ),
-    )
-
-pub returns-in-None-clause-heading : goal.returns-in-None-clause-heading
-returns-in-None-clause-heading c other = absurd (other (begins c.args.text.now c.in-Some.counted.now c.in-Some.ensures.some))
-
-pub returns-in-None-clause-count : goal.returns-in-None-clause-count
-returns-in-None-clause-count c _ none =
-    let counted = c.in-Some-read_count in
-    absurd (none counted.count (counts c.args.text.now c.in-Some.counted.now counted.told.now counted.count c.in-Some.ensures.some counted.ensures.some counted.ensures.few))
-
-pub returns-then-is_empty-clause-answer : goal.returns-then-is_empty-clause-answer
-returns-then-is_empty-clause-answer c =
-    let counted = c.in-Some-read_count in
+pub returns-in-None : goal.returns-in-None
+returns-in-None c =
+    let text = c.args.text.now in
+    let behind = c.in-Some.counted.now in
+    let some = c.in-Some.ensures.some in
+    let k = c.in-Some-read_count in
     let told = c.in-Ok.ensures.ok in
-    let end = c.in-Some-end in (
-      rw c.new.ensures (is_told c.args.text.now c.in-Some.counted.now counted.told.now counted.count c.in-Some.ensures.some counted.ensures.some counted.ensures.few c.in-Ok.steps.items end.next end.rest.now told.0 told.1 end.ensures.some end.ensures.rest (search rules)),
-      tt,
-    )
+    let wrong = wrong_end text behind k.told.now k.count some k.ensures.some k.ensures.few c.in-Ok.steps.items told.0 told.1 c.in-None.ensures.none in
+    record {
+      answer = (tt, inr (k.count + 3, refl, wrong));
+      heading = λ other. absurd (other (begins text behind some));
+      count = λ _ none. absurd (none k.count (counts text behind k.told.now k.count some k.ensures.some k.ensures.few));
+      no_steps = search rules;
+    }
 
-pub returns-then-is_empty-clause-heading : goal.returns-then-is_empty-clause-heading
-returns-then-is_empty-clause-heading c other = absurd (other (begins c.args.text.now c.in-Some.counted.now c.in-Some.ensures.some))
-
-pub returns-then-is_empty-clause-count : goal.returns-then-is_empty-clause-count
-returns-then-is_empty-clause-count c _ none =
-    let counted = c.in-Some-read_count in
-    absurd (none counted.count (counts c.args.text.now c.in-Some.counted.now counted.told.now counted.count c.in-Some.ensures.some counted.ensures.some counted.ensures.few))
-
-pub returns-clause-answer : goal.returns-clause-answer
-returns-clause-answer c =
-    let counted = c.in-Some-read_count in
+pub returns-then-is_empty : goal.returns-then-is_empty
+returns-then-is_empty c =
+    let text = c.args.text.now in
+    let behind = c.in-Some.counted.now in
+    let some = c.in-Some.ensures.some in
+    let k = c.in-Some-read_count in
     let told = c.in-Ok.ensures.ok in
-    let end = c.in-Some-end in (
-      tt,
-      inr (
-        counted.count + 4,
-        refl,
-        wrong_rest c.args.text.now c.in-Some.counted.now counted.told.now counted.count c.in-Some.ensures.some counted.ensures.some counted.ensures.few c.in-Ok.steps.items end.next end.rest.now told.0 told.1 end.ensures.some end.ensures.rest (search rules),
-      ),
-    )
+    let end = c.in-Some-end in
+    let all = is_told text behind k.told.now k.count some k.ensures.some k.ensures.few c.in-Ok.steps.items end.next end.rest.now told.0 told.1 in
+    record {
+      answer = (rw c.new.ensures (all end.ensures.some end.ensures.rest (search rules)), tt);
+      heading = λ other. absurd (other (begins text behind some));
+      count = λ _ none. absurd (none k.count (counts text behind k.told.now k.count some k.ensures.some k.ensures.few));
+      no_steps = search rules;
+    }
 
-pub returns-clause-heading : goal.returns-clause-heading
-returns-clause-heading c other = absurd (other (begins c.args.text.now c.in-Some.counted.now c.in-Some.ensures.some))
-
-pub returns-clause-count : goal.returns-clause-count
-returns-clause-count c _ none =
-    let counted = c.in-Some-read_count in
-    absurd (none counted.count (counts c.args.text.now c.in-Some.counted.now counted.told.now counted.count c.in-Some.ensures.some counted.ensures.some counted.ensures.few))
+pub returns : goal.returns
+returns c =
+    let text = c.args.text.now in
+    let behind = c.in-Some.counted.now in
+    let some = c.in-Some.ensures.some in
+    let k = c.in-Some-read_count in
+    let told = c.in-Ok.ensures.ok in
+    let end = c.in-Some-end in
+    let wrong = wrong_rest text behind k.told.now k.count some k.ensures.some k.ensures.few c.in-Ok.steps.items end.next end.rest.now told.0 told.1 in
+    record {
+      answer = (tt, inr (k.count + 4, refl, wrong end.ensures.some end.ensures.rest (search rules)));
+      heading = λ other. absurd (other (begins text behind some));
+      count = λ _ none. absurd (none k.count (counts text behind k.told.now k.count some k.ensures.some k.ensures.few));
+      no_steps = search rules;
+    }

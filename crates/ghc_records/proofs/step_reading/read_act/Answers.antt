@@ -1,12 +1,6 @@
-use Rattle.ghc_records.proofs.Words.{◌≡◌, ◌≢◌, ◌++◌, ℕ, List, Option, Some, None, Result, Ok, Err, IfOk, IfNone, codes, Tree, IsReadTerm, Act, SaysAct}
+use Rattle.ghc_records.proofs.Words.{◌≡◌, ◌≢◌, ◌++◌, ℕ, List, Option, Some, None, IfNone, codes, none_weaker, Act, SaysAct}
 use Rattle.ghc_records.proofs.Saying.{in_only, none_only}
 use Rattle.ghc_records.proofs.step_reading.read_act.Goals as goal
-
-no_input : {E : Type 0} (bytes front text : List ℕ) (r : Result (Option Act) E) → front ≡ codes "in " → bytes ≡ front ++ text → IfOk r (λ found. IfNone found ((u : Tree) → ¬ IsReadTerm text u))
-    → IfOk r (λ found. IfNone found ((act : Act) → ¬ SaysAct bytes act))
-no_input bytes front text (Ok None) at cut none = in_only bytes front text at cut none
-no_input bytes front text (Ok (Some act)) at cut none = tt
-no_input bytes front text (Err e) at cut none = tt
 
 no_plain : (bytes by_front in_front : List ℕ) (r : Option Act) → by_front ≡ codes "by " → in_front ≡ codes "in " → ((rest : List ℕ) → bytes ≢ by_front ++ rest) → ((rest : List ℕ) → bytes ≢ in_front ++ rest)
     → IfNone r ((bytes ≢ codes "eq") × (bytes ≢ codes "is") × (bytes ≢ codes "end")) → IfNone r ((act : Act) → ¬ SaysAct bytes act)
@@ -15,7 +9,7 @@ no_plain bytes by_front in_front (Some act) at here no_by no_in others = tt
 
 pub returns-in-Some-behind-clause-none : goal.returns-in-Some-behind-clause-none
 returns-in-Some-behind-clause-none c =
-    no_input c.args.bytes.now c.as_slice-2.result.now c.in-Some-behind.text.now c.read_input.result c.as_slice-2.ensures c.in-Some-behind.ensures.some c.read_input.ensures.none
+    none_weaker c.read_input.result (in_only c.args.bytes.now c.as_slice-2.result.now c.in-Some-behind.text.now c.as_slice-2.ensures c.in-Some-behind.ensures.some) c.read_input.ensures.none
 
 pub returns-clause-none : goal.returns-clause-none
 returns-clause-none c =

@@ -1,5 +1,5 @@
 use Rattle.ghc_records.proofs.Words.{ℕ, ◌∙◌, subst, take_all, CanTake, BoundOneOf}
-use Rattle.ghc_records.proofs.Giving.{can_next}
+use Rattle.ghc_records.proofs.Giving.{IsBinderOf, found_so, can_next}
 use Rattle.ghc_records.proofs.use_index.reserve_under.Goals as goal
 
 pub returns-in_err-reserve_at-clause-kept : goal.returns-in_err-reserve_at-clause-kept
@@ -8,8 +8,8 @@ returns-in_err-reserve_at-clause-kept c m n h = c.reserve_at.ensures.kept m n (c
 pub loop-x-preserved : goal.loop-x-preserved
 loop-x-preserved c = (
   λ m. c.reserve_at.ensures.held m ∙ c.loop-x.invariant.0 m,
-  can_next c.args.binders.now.held c.args.xs.now c.loop-x.x-index (record { step = 0; place = 0 }) c.loop-x-test.true c.loop-x.users c.reserve_at.new.self c.loop-x.invariant.1 c.reserve_at.ensures.kept
-      (λ m n e. c.in_ok-reserve_at.ensures.room m n (c.get.ensures ∙ e)),
+  can_next (IsBinderOf c.args.binders.now.held) c.args.xs.now c.loop-x.x-index _ c.loop-x-test.true c.get.result (found_so c.get.ensures)
+      c.loop-x.users c.reserve_at.new.self c.loop-x.invariant.1 c.reserve_at.ensures.kept c.in_ok-reserve_at.ensures.room,
   λ m n h. c.reserve_at.ensures.kept m n (c.loop-x.invariant.2 m n h),
 )
 

@@ -1,4 +1,4 @@
-use Rattle.ghc_records.proofs.Words.{◌≡◌, ◌≢◌, ℕ, List, ◌∷◌, ◌++◌, [], get_or, sym, ap, ◌∙◌, subst, Option, Some, None, IfSome, IfNone, IsSome, true, Bor, In, in_get, at_some, Record, numbers, held_in, RecordsTables}
+use Rattle.ghc_records.proofs.Words.{◌≡◌, ◌≢◌, ℕ, List, ◌∷◌, ◌++◌, [], get_or, sym, ap, ◌∙◌, subst, Option, Some, None, IfSome, IfNone, IsSome, true, Bor, In, in_get, at_some, Record, numbers}
 use Rattle.ghc_records.proofs.OrderLemmas.{number_of}
 use Rattle.ghc_records.proofs.IndexOf.{bound_once}
 use Rattle.ghc_records.proofs.InOrder.{one_more, is_new, still_of}
@@ -32,10 +32,7 @@ put-requires-clause-unbound c r x j p q =
     let step = c.in_ok-step.step in
     let mine = shared c.get.result c.unwrap.result c.args.self.now.held (get_or order i 0) step c.unwrap.ensures c.get.ensures.found c.in_ok-step.ensures in
     let before = subst (In r) c.reserve_for.ensures.held j in
-    let same = sym (ap (λ (t : RecordsTables). t.held) c.self.view_is) in
-    let first = subst (In r) same (c.loop-number.invariant.kept r before) in
-    let second = subst (In step) same mine.0 in
-    let one = bound_once (held_in c.self.inside.slots.held) c.self.inside.index.users c.self.inside.index.binders.held c.self.invariant r step x first second p q in
+    let one = bound_once c.self.invariant r step x (rw (← c.self.view_is) at (c.loop-number.invariant.kept r before)) (rw (← c.self.view_is) at mine.0) p q in
     is_new order i c.loop-number.new.held step c.loop-number-test.true c.loop-number.invariant.numbered mine.1 c.requires.distinct r before one
 
 pub loop-number-preserved : goal.loop-number-preserved

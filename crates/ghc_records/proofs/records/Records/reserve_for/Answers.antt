@@ -4,7 +4,7 @@ use Rattle.ghc_records.proofs.IndexOf.{Gives, index_same, given_by_name}
 use Rattle.ghc_records.proofs.records.Records.reserve_for.Goals as goal
 
 pub invariant_of-self : goal.invariant_of-self
-invariant_of-self c = index_same (held_in c.self.inside.slots.held) c.self.inside.index.users c.reserve.new.self.users c.self.inside.index.binders.held c.reserve.new.self.binders.held c.self.invariant c.reserve.ensures.users c.reserve.ensures.binders
+invariant_of-self c = index_same c.self.invariant c.reserve.ensures.users c.reserve.ensures.binders
 
 pub returns-in_err-reserve-clause-kept : goal.returns-in_err-reserve-clause-kept
 returns-in_err-reserve-clause-kept c r h =
@@ -13,8 +13,8 @@ returns-in_err-reserve-clause-kept c r h =
 
 pub invariant_of-self-in_err-reserve_named : goal.invariant_of-self-in_err-reserve_named
 invariant_of-self-in_err-reserve_named c =
-    index_same (held_in c.self.inside.slots.held) c.self.inside.index.users c.reserve_named.new.self.users c.self.inside.index.binders.held c.reserve_named.new.self.binders.held c.self.invariant
-    (λ m. c.reserve_named.ensures.users m ∙ c.reserve.ensures.users m) (ap (λ (b : Table BindersByVariable). b.held) c.reserve_named.ensures.binders ∙ c.reserve.ensures.binders)
+    index_same c.self.invariant (λ m. c.reserve_named.ensures.users m ∙ c.reserve.ensures.users m)
+    (ap (λ (b : Table BindersByVariable). b.held) c.reserve_named.ensures.binders ∙ c.reserve.ensures.binders)
 
 pub returns-in_err-reserve_named-clause-kept : goal.returns-in_err-reserve_named-clause-kept
 returns-in_err-reserve_named-clause-kept c r h =
@@ -24,8 +24,8 @@ returns-in_err-reserve_named-clause-kept c r h =
 pub invariant_of-self-2 : goal.invariant_of-self-2
 invariant_of-self-2 c =
     subst (λ ss. IsIndexOf (held_in ss) c.reserve_named.new.self.users c.reserve_named.new.self.binders.held) (sym c.reserve-2.ensures.held)
-    (index_same (held_in c.self.inside.slots.held) c.self.inside.index.users c.reserve_named.new.self.users c.self.inside.index.binders.held c.reserve_named.new.self.binders.held c.self.invariant
-    (λ m. c.reserve_named.ensures.users m ∙ c.reserve.ensures.users m) (ap (λ (b : Table BindersByVariable). b.held) c.reserve_named.ensures.binders ∙ c.reserve.ensures.binders))
+    (index_same c.self.invariant (λ m. c.reserve_named.ensures.users m ∙ c.reserve.ensures.users m)
+    (ap (λ (b : Table BindersByVariable). b.held) c.reserve_named.ensures.binders ∙ c.reserve.ensures.binders))
 
 pub returns-clause-kept : goal.returns-clause-kept
 returns-clause-kept c r h =

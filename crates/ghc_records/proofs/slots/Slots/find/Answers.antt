@@ -1,11 +1,10 @@
-use Rattle.ghc_records.proofs.SlotClosing.{found_in, found_none, none_in}
+use Rattle.ghc_records.proofs.SlotClosing.{found_at, none_in}
 use Rattle.ghc_records.proofs.slots.Slots.find.Goals as goal
 
-pub returns-in-Some-clause-found : goal.returns-in-Some-clause-found
-returns-in-Some-clause-found c = found_in c.args.self.now.held c.in-Some.place c.args.number c.at.result ((c.place_of.ensures c.in-Some.place).0 c.in-Some.is) c.at.ensures
-
-pub returns-in-Some-clause-none : goal.returns-in-Some-clause-none
-returns-in-Some-clause-none c = found_none c.args.self.now.held c.in-Some.place c.args.number c.at.result ((c.place_of.ensures c.in-Some.place).0 c.in-Some.is) c.at.ensures
+pub returns-in-Some : goal.returns-in-Some
+returns-in-Some c =
+    let (some, none) = found_at c.args.self.now.held c.in-Some.place c.args.number c.at.result ((c.place_of.ensures c.in-Some.place).0 c.in-Some.is) c.at.ensures in
+    record { found = some; none = none }
 
 pub returns-in-None-clause-none : goal.returns-in-None-clause-none
 returns-in-None-clause-none c = none_in c.args.self.now.held c.args.number c.place_of.result c.in-None.is c.place_of.ensures

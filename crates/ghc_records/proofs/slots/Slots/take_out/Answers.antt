@@ -1,4 +1,4 @@
-use Rattle.ghc_records.proofs.Words.{ℕ, ◌≡◌, ◌≢◌, ◌<◌, ◌∙◌, ◌-◌, true, false, ap, sym, subst, arith, length, Some, None, IfSome, IfNone, slice_set, slice_get_within, get_or_from_slice_get, spare, In, AreDistinct, Record, numbers, held_in, StandsIn, AreStraysOf, HasNumberIn}
+use Rattle.ghc_records.proofs.Words.{◌≡◌, ◌≢◌, ◌<◌, ◌∙◌, true, false, ap, sym, subst, arith, Some, None, IfNone, slice_set, slice_get_within, get_or_from_slice_get, In, Record, held_in, StandsIn, HasNumberIn}
 use Rattle.ghc_records.proofs.SlotLemmas.{held_fewer, without_distinct}
 use Rattle.ghc_records.proofs.SlotPlaces.{places_in}
 use Rattle.ghc_records.proofs.SlotClosing.{none_in}
@@ -35,54 +35,37 @@ invariant_of-self c =
     let ss = c.self.inside.slots.items in
     let es = c.self.inside.strays.entries in
     let place = c.in_ok-place.place in
-    let here : HasNumberIn ss place c.args.number = subst (λ l. HasNumberIn l place c.args.number) (sym (ap (λ t. t.held) c.self.view_is)) ((c.place_of.ensures place).0 c.in_ok-place.was) in
-    let slots_are : c.if-not-is_just_below.self-inside.slots.items ≡ slice_set ss place None = elim c.if-not-is_just_below.branch [
+    let n = c.args.number in
+    let (once, count, strays, takes) = c.self.invariant in
+    let here : HasNumberIn ss place n = subst (λ l. HasNumberIn l place n) (sym (ap (λ t. t.held) c.self.view_is)) ((c.place_of.ensures place).0 c.in_ok-place.was) in
+    let distinct = without_distinct ss place here.0 once here.1 in
+    let fewer = held_fewer ss place here.0 here.1 in
+    elim c.if-not-is_just_below.branch [
+      | then-not-is_just_below w ↦
+          let strays_are = gap_one ss es w.swap_remove.new.self.entries place n once strays here w.swap_remove.ensures.updates.0 in
+          rw (w.self-inside-is, c.replace-removed.ensures.after) (distinct, omega (arith, count, fewer), strays_are, λ t. let clash : false ≡ true = t in cc)
+      | else-not-is_just_below w ↦
+          let strays_are = gap_same ss (places_in es) place n once strays here (c.is_just_below.ensures.0 w.if-not-is_just_below.false) in
+          rw (w.self-inside-is, c.replace-removed.ensures.after) (distinct, omega (arith, count, fewer), strays_are, takes)
+    ]
+
+pub returns : goal.returns
+returns c =
+    let ss = c.self.inside.slots.items in
+    let place = c.in_ok-place.place in
+    let here = (c.place_of.ensures place).0 c.in_ok-place.was in
+    let stands = subst (λ l. StandsIn l place here.0) (sym (ap (λ t. t.held) c.self.view_is)) here.1 in
+    let is : c.replace-removed.result ≡ Some here.0 =
+    c.replace-removed.ensures.value ∙ c.index_mut.ensures.value ∙ get_or_from_slice_get ss place (Some here.0) c.index_mut.result.now stands in
+    let emptied : c.if-not-is_just_below.self-inside.slots.items ≡ slice_set ss place None = elim c.if-not-is_just_below.branch [
       | then-not-is_just_below w ↦ ap (λ t. t.slots.items) w.self-inside-is
       | else-not-is_just_below w ↦ ap (λ t. t.slots.items) w.self-inside-is
     ] ∙ ap (λ o. slice_set ss place o) c.replace-removed.ensures.after in
-    let count_is : c.if-not-is_just_below.self-inside.count ≡ length (held_in ss) = elim c.if-not-is_just_below.branch [
-      | then-not-is_just_below w ↦ ap (λ t. t.count) w.self-inside-is ∙ c.self.invariant.1
-      | else-not-is_just_below w ↦ ap (λ t. t.count) w.self-inside-is ∙ c.self.invariant.1
-    ] in
-    let strays_are : AreStraysOf (slice_set ss place None) (places_in c.if-not-is_just_below.self-inside.strays.entries) = elim c.if-not-is_just_below.branch [
-      | then-not-is_just_below w ↦ rw w.self-inside-is (gap_one ss es w.swap_remove.new.self.entries place c.args.number c.self.invariant.0 c.self.invariant.2 here w.swap_remove.ensures.updates.0)
-      | else-not-is_just_below w ↦ rw w.self-inside-is (gap_same ss (places_in es) place c.args.number c.self.invariant.0 c.self.invariant.2 here (c.is_just_below.ensures.0 w.if-not-is_just_below.false))
-    ] in
-    let takes_are : c.if-not-is_just_below.self-inside.takes_stray ≡ true → 0 < spare c.if-not-is_just_below.self-inside.strays = elim c.if-not-is_just_below.branch [
-      | then-not-is_just_below w ↦ rw w.self-inside-is (λ takes. let clash : false ≡ true = takes in cc)
-      | else-not-is_just_below w ↦ rw w.self-inside-is c.self.invariant.3
-    ] in
-    let fewer = held_fewer ss place here.0 here.1 in (
-      subst (λ l. AreDistinct (numbers (held_in l))) (sym slots_are) (without_distinct ss place here.0 c.self.invariant.0 here.1),
-      subst (λ l. c.if-not-is_just_below.self-inside.count - 1 ≡ length (held_in l)) (sym slots_are) (omega (arith, count_is, fewer)),
-      subst (λ l. AreStraysOf l (places_in c.if-not-is_just_below.self-inside.strays.entries)) (sym slots_are) strays_are,
-      takes_are,
-    )
-
-pub returns-clause-taken : goal.returns-clause-taken
-returns-clause-taken c =
-    let place = c.in_ok-place.place in
-    let here = (c.place_of.ensures place).0 c.in_ok-place.was in
-    let stands = subst (λ l. StandsIn l place here.0) (sym (ap (λ t. t.held) c.self.view_is)) here.1 in
-    let is : c.replace-removed.result ≡ Some here.0 = c.replace-removed.ensures.value ∙ c.index_mut.ensures.value ∙ get_or_from_slice_get c.self.inside.slots.items place (Some here.0) c.index_mut.result.now stands in
-    subst (λ o. IfSome o (λ r. (p : ℕ) × StandsIn c.args.self.now.held p r × (r.number ≡ c.args.number))) (sym is) (place, here.1, here.2)
-
-pub returns-clause-gap : goal.returns-clause-gap
-returns-clause-gap c p has =
-    let ss = c.self.inside.slots.items in
-    let place = c.in_ok-place.place in
-    let same : Some place ≡ Some p = sym c.in_ok-place.was ∙ (c.place_of.ensures p).1 has in
-    let one : place ≡ p = cc in
-    let emptied : c.if-not-is_just_below.self-inside.slots.items ≡ slice_set ss place c.replace-removed.new.dest = elim c.if-not-is_just_below.branch [
-      | then-not-is_just_below w ↦ ap (λ t. t.slots.items) w.self-inside-is
-      | else-not-is_just_below w ↦ ap (λ t. t.slots.items) w.self-inside-is
-    ] in
-    emptied ∙ ap (λ o. slice_set ss place o) c.replace-removed.ensures.after ∙ ap (λ i. slice_set ss i None) one ∙ ap (λ t. slice_set t.held p None) c.self.view_is
-
-pub returns-clause-none : goal.returns-clause-none
-returns-clause-none c =
-    let place = c.in_ok-place.place in
-    let here = (c.place_of.ensures place).0 c.in_ok-place.was in
-    let stands = subst (λ l. StandsIn l place here.0) (sym (ap (λ t. t.held) c.self.view_is)) here.1 in
-    let is : c.replace-removed.result ≡ Some here.0 = c.replace-removed.ensures.value ∙ c.index_mut.ensures.value ∙ get_or_from_slice_get c.self.inside.slots.items place (Some here.0) c.index_mut.result.now stands in
-    subst (λ o. IfNone o ((r : Record) → In r (held_in c.args.self.now.held) → r.number ≢ c.args.number)) (sym is) tt
+    record {
+      taken = rw is (place, here.1, here.2);
+      gap = λ p has.
+          let one : place ≡ p = let same = sym c.in_ok-place.was ∙ (c.place_of.ensures p).1 has in cc in
+          emptied ∙ ap (λ i. slice_set ss i None) one ∙ ap (λ t. slice_set t.held p None) c.self.view_is;
+      none = rw is tt;
+      none_left = rw is tt;
+    }

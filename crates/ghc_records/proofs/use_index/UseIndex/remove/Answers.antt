@@ -1,4 +1,4 @@
-use Rattle.ghc_records.proofs.Words.{◌≡◌, ◌≢◌, ℕ, ◌∙◌, ap, subst, ◌↔◌, Some, Index, IsUser, Gave, step_named}
+use Rattle.ghc_records.proofs.Words.{◌≡◌, ◌∙◌, ap, IsUser, Gave, step_named}
 use Rattle.ghc_records.proofs.Giving.{taken_both, forgotten_too}
 use Rattle.ghc_records.proofs.use_index.UseIndex.remove.Goals as goal
 
@@ -9,11 +9,9 @@ returns-clause-users c =
     let number = c.args.step.now.number in
     let maker = step_named c.args.step.now.goal in
     let u = c.number-number.result in
-    let new = c.forget.new.self in
     let old = c.self.inside.users in
     let binders = c.self.inside.binders.held in
-    let first = subst (λ o. (m n : ℕ) → IsUser c.take_at.new.self m n ↔ (IsUser old m n × ¬ ((o ≡ Some m) × (n ≡ u)))) (c.step_of_name.ensures ∙ ap step_named c.goal.ensures) c.take_at.ensures in
-    subst (λ (t : Index). (m n : ℕ) → IsUser new m n ↔ ((IsUser t.users m n × ¬ (Gave t.binders.held maker reads m × (n ≡ number))) × (m ≢ number))) c.self.view_is
-    (forgotten_too c.take_from_under.new.users new (λ m n. IsUser old m n × ¬ (Gave binders maker reads m × (n ≡ number))) u number c.number-number.ensures
-    (taken_both binders maker reads c.members.result.now all old c.take_at.new.self c.take_from_under.new.users u number c.number-number.ensures first c.take_from_under.ensures)
-    c.forget.ensures)
+    rw (← c.self.view_is) (forgotten_too c.take_from_under.new.users c.forget.new.self
+    (λ m n. IsUser old m n × ¬ (Gave binders maker reads m × (n ≡ number))) u number c.number-number.ensures
+    (taken_both binders maker reads c.members.result.now all old c.take_at.new.self c.take_from_under.new.users u number c.number-number.ensures
+    (rw (c.step_of_name.ensures, c.goal.ensures) at c.take_at.ensures) c.take_from_under.ensures) c.forget.ensures)
