@@ -1,5 +1,5 @@
 -- What is known of the clause that is made, and the faults of a written one.
-use Rattle.ghc_flat.proofs.Words.{◌-◌, arith, ◌≡◌, ◌≢◌, ℕ, ◌+◌, ◌<◌, List, [], ◌∷◌, ◌++◌, length, filter, inl, inr, get_or, take, drop, refl, sym, ap, ◌∙◌, subst, Result, Err, IfErr, VarName, Fault, In, Tree, Goal, call, Bor, GoalView, Call, Unify, Assign, Stream, shown, Guard, WrittenClause, IsWellWritten, IsWithinLimits, AreNumbered, variables_of_written, is_stream, Test, Clause, Program, IsWellMade, IsFlat, IsLinear, AreDistinct, firsts, fresh_variables, variables_of_list, variables_of_test, variables_of_goals, variables_of_clause, IsMadeOf, AreMadeOf, MakeTests, IsFlatWritten, IsLinearWritten, IsNotFlat, IsFaultless, AreFaultless, AllCalls, IsFirstCallWithout, IsClauseFault, IsFirstFault, Rises, IsAmong, AreAmong, MakesAmong, splits_at, next_in, in_either}
+use Rattle.ghc_flat.proofs.Words.{◌-◌, arith, ◌≡◌, ◌≢◌, ℕ, ◌+◌, ◌<◌, List, [], ◌∷◌, ◌++◌, length, filter, inl, inr, get_or, take, drop, refl, sym, ap, ◌∙◌, subst, Result, Err, IfErr, VarName, Fault, In, Tree, Goal, call, Bor, GoalView, Call, shown, Guard, WrittenClause, IsWellWritten, IsWithinLimits, AreNumbered, variables_of_written, is_stream, Test, Clause, Program, IsWellMade, IsFlat, IsLinear, AreDistinct, firsts, fresh_variables, variables_of_list, variables_of_test, variables_of_goals, variables_of_clause, IsMadeOf, AreMadeOf, MakeTests, IsFlatWritten, IsLinearWritten, IsNotFlat, IsFaultless, AreFaultless, AllCalls, IsFirstCallWithout, IsClauseFault, IsFirstFault, Rises, IsAmong, AreAmong, MakesAmong, splits_at, next_in, in_either}
 use Rattle.ghc_flat.proofs.FreshVariables.{fresh_left}
 use Rattle.ghc_flat.proofs.Rising.{rises_distinct, in_of_among}
 use Rattle.ghc_flat.proofs.Tests.{made_by, all_variables_made, not_flat_guard}
@@ -86,48 +86,33 @@ first_undefined D gs i g f ts h e before s missing = record {
   without = missing;
 }
 
--- what the arguments of a call are
-arguments : Goal → List Tree
-arguments (call f ts) = ts
-arguments _ = []
-
-name : Goal → List ℕ
-name (call f ts) = f
-name _ = []
-
-pub same_call : (D : List ℕ → ℕ → Type 0) (f h : List ℕ) (ts us : List Tree) → call f ts ≡ call h us → D f (length ts) → D h (length us)
-unfolding arguments name
-same_call D f h ts us e d = subst (λ n. D h n) (ap length (ap arguments e)) (subst (λ k. D k (length ts)) (ap name e) d)
-
 pub call_name : (f h : List ℕ) (ts us : List Tree) → call f ts ≡ call h us → f ≡ h
-unfolding name
-call_name f h ts us e = ap name e
+call_name f h ts us e = cc
 
 pub call_arity : (f h : List ℕ) (ts us : List Tree) → call f ts ≡ call h us → length ts ≡ length us
-unfolding arguments
-call_arity f h ts us e = ap length (ap arguments e)
+call_arity f h ts us e = cc
+
+pub same_call : (D : List ℕ → ℕ → Type 0) (f h : List ℕ) (ts us : List Tree) → call f ts ≡ call h us → D f (length ts) → D h (length us)
+same_call D f h ts us e d = rw (sym (call_name f h ts us e), sym (call_arity f h ts us e)) d
 
 -- one more clause
 pub made_more : (ws : List WrittenClause) (w : WrittenClause) (P : Program) (c : Clause) → AreMadeOf ws P → IsMadeOf w c → AreMadeOf (ws ++ w ∷ []) (P ++ c ∷ [])
 made_more [] w [] c m n = (n, tt)
-made_more [] w (d ∷ P) c m n = absurd m
-made_more (v ∷ ws) w [] c m n = absurd m
 made_more (v ∷ ws) w (d ∷ P) c m n = (m.0, made_more ws w P c m.1 n)
+made_more _ w _ c m n = absurd m
 
 -- a written clause of a program has its clause there
 pub made_clause : (ws : List WrittenClause) (P : Program) → AreMadeOf ws P → (w : WrittenClause) → In w ws → (c : Clause) × In c P × IsMadeOf w c
 made_clause [] [] m w i = absurd i
-made_clause [] (d ∷ P) m w i = absurd m
-made_clause (v ∷ ws) [] m w i = absurd m
 made_clause (v ∷ ws) (d ∷ P) m w (inl e) = (d, inl refl, subst (λ u. IsMadeOf u d) (sym e) m.0)
 made_clause (v ∷ ws) (d ∷ P) m w (inr i) = let r = made_clause ws P m.1 w i in (r.0, inr r.1, r.2)
+made_clause _ _ m w i = absurd m
 
 pub clause_made : (ws : List WrittenClause) (P : Program) → AreMadeOf ws P → (c : Clause) → In c P → (w : WrittenClause) × In w ws × IsMadeOf w c
 clause_made [] [] m c i = absurd i
-clause_made [] (d ∷ P) m c i = absurd m
-clause_made (v ∷ ws) [] m c i = absurd m
 clause_made (v ∷ ws) (d ∷ P) m c (inl e) = (v, inl refl, subst (IsMadeOf v) (sym e) m.0)
 clause_made (v ∷ ws) (d ∷ P) m c (inr i) = let r = clause_made ws P m.1 c i in (r.0, inr r.1, r.2)
+clause_made _ _ m c i = absurd m
 
 -- clauses that are sound are made of ones without fault
 pub all_faultless : (D : List ℕ → ℕ → Type 0) (ws : List WrittenClause) (P : Program) → AreMadeOf ws P → ((c : Clause) → In c P → IsWellMade c × AllCalls D c.body) → AreFaultless D ws
@@ -139,9 +124,7 @@ all_faultless D ws P m sound w i =
 -- what is lent as no call is none
 pub not_a_call : (v : GoalView) (f : List ℕ) (ts : List Tree) → ((g : Bor (List ℕ)) (us : Bor (List Tree)) → v ≢ Call g us) → shown v ≡ call f ts → ⊥
 not_a_call (Call g us) f ts h e = h g us refl
-not_a_call (Unify t u) f ts h e = cc
-not_a_call (Assign t u) f ts h e = cc
-not_a_call (Stream k x) f ts h e = cc
+not_a_call _ f ts h e = cc
 
 -- a fault that is passed on
 pub passed : {T : Type 0} (F : Fault → Type 0) (r : Result T Fault) (d e : Fault) → r ≡ Err d → d ≡ e → F e → IfErr r F

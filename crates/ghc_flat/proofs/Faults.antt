@@ -159,14 +159,13 @@ clause_once w c d p q =
 
 pub program_once : (ws : List WrittenClause) (P Q : Program) → AreMadeOf ws P → AreMadeOf ws Q → P ≡ Q
 program_once [] [] [] p q = refl
-program_once [] [] (d ∷ Q) p q = absurd q
-program_once [] (c ∷ P) Q p q = absurd p
-program_once (w ∷ ws) [] Q p q = absurd p
-program_once (w ∷ ws) (c ∷ P) [] p q = absurd q
 program_once (w ∷ ws) (c ∷ P) (d ∷ Q) p q =
     let first = clause_once w c d p.0 q.0 in
     let rest = program_once ws P Q p.1 q.1 in
     λ i. first i ∷ rest i
+program_once [] [] (d ∷ Q) p q = absurd q
+program_once (w ∷ ws) (c ∷ P) [] p q = absurd q
+program_once _ _ _ p q = absurd p
 
 -- so the answer is the only one
 -- what is answered is exact

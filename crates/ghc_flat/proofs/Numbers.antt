@@ -1,22 +1,12 @@
 -- The numbers of the clauses of a name and arity.
-use Rattle.ghc_flat.proofs.Words.{◌≡◌, ◌≢◌, ℕ, zero, suc, ◌+◌, ◌<◌, ◌≤◌, true, false, cond, ◌&&◌, List, [], ◌∷◌, ◌++◌, length, slice_index, inl, inr, refl, sym, ap, ◌∙◌, subst, arith, nat_eq, bytes_eq, Some, None, slice_get, IsStrictlyIncreasing, bytes_eq-Decides, nat_tests, In, WrittenClause, Clause, Program, AreMadeOf, HasClause, Index, IsIndexOf, numbers_at, AreNumbersFor, keys_of_program, keys_of_written, is_same_key, numbers_from}
+use Rattle.ghc_flat.proofs.Words.{◌≡◌, ◌≢◌, ℕ, zero, suc, ◌+◌, ◌<◌, ◌≤◌, true, false, cond, ◌&&◌, List, [], ◌∷◌, ◌++◌, length, slice_index, inl, inr, refl, sym, ap, ◌∙◌, subst, arith, nat_eq, bytes_eq, Some, None, slice_get, IsStrictlyIncreasing, bytes_eq-Decides, and_parts, eq-eqb, eqb-true, length-map, map_push, In, WrittenClause, Clause, Program, AreMadeOf, HasClause, Index, IsIndexOf, numbers_at, AreNumbersFor, keys_of_program, keys_of_written, is_same_key, numbers_from}
 
 -- what the test of a key says
 pub same_key : (f : List ℕ) (n : ℕ) (p : List ℕ × ℕ) → is_same_key f n p ≡ true → (p.0 ≡ f) × (p.1 ≡ n)
-same_key f n p e =
-    elim (bytes_eq p.0 f) as (λ b. bytes_eq p.0 f ≡ b → (b && nat_eq p.1 n) ≡ true → (p.0 ≡ f) × (p.1 ≡ n)) [
-      | true ↦ λ d q. ((bytes_eq-Decides p.0 f).0 d, same_number p.1 n q)
-      | false ↦ λ d q. cc
-    ] refl e
-  where
-    same_number : (k n : ℕ) → nat_eq k n ≡ true → k ≡ n
-    same_number k n q = grind (arith, nat_tests)
+same_key f n p e = let parts = and_parts (bytes_eq p.0 f) (nat_eq p.1 n) e in ((bytes_eq-Decides p.0 f).0 parts.0, eqb-true p.1 n parts.1)
 
 pub key_itself : (f : List ℕ) (n : ℕ) (p : List ℕ × ℕ) → p.0 ≡ f → p.1 ≡ n → is_same_key f n p ≡ true
-key_itself f n p e d = ap (λ b. b && nat_eq p.1 n) ((bytes_eq-Decides p.0 f).1 e) ∙ number p.1 n d
-  where
-    number : (k n : ℕ) → k ≡ n → nat_eq k n ≡ true
-    number k n q = grind (arith, nat_tests)
+key_itself f n p e d = ap (λ b. b && nat_eq p.1 n) ((bytes_eq-Decides p.0 f).1 e) ∙ eq-eqb p.1 n d
 
 -- the numbers of one key more
 pub numbers_push : (ps : List (List ℕ × ℕ)) (k : ℕ) (p : List ℕ × ℕ) (f : List ℕ) (n : ℕ)
@@ -84,13 +74,12 @@ numbers_climb (p ∷ ps) k f n =
 
 climbs_increasing : (k : ℕ) (js : List ℕ) → Climbs k js → IsStrictlyIncreasing js
 unfolding Climbs
-climbs_increasing k [] c i l = absurd (omega arith)
-climbs_increasing k (j ∷ []) c i l = absurd (omega arith)
 climbs_increasing k (j ∷ h ∷ js) c zero l = c.1.0
 climbs_increasing k (j ∷ h ∷ js) c (suc i) l =
     let rest = climbs_increasing j (h ∷ js) c.1 i (omega arith) in
     let same : suc i + 1 ≡ suc (i + 1) = omega arith in
     subst (λ m. slice_index (h ∷ js) i < slice_index (j ∷ h ∷ js) m) (sym same) rest
+climbs_increasing k _ c i l = absurd (omega arith)
 
 -- the look-up of the index is exact
 pub numbers_for : (P : Program) (f : List ℕ) (n : ℕ) → AreNumbersFor P f n (numbers_from 0 (keys_of_program P) f n)
@@ -105,13 +94,12 @@ numbers_for P f n = record {
 -- a program has the keys of the clauses that it is made of
 pub made_keys : (ws : List WrittenClause) (P : Program) → AreMadeOf ws P → keys_of_written ws ≡ keys_of_program P
 made_keys [] [] m = refl
-made_keys [] (c ∷ P) m = absurd m
-made_keys (w ∷ ws) [] m = absurd m
 made_keys (w ∷ ws) (c ∷ P) m =
     let name : w.name ≡ c.name = sym m.0.name in
     let arity : length w.head ≡ length c.head = ap length (sym m.0.head) in
     let rest = made_keys ws P m.1 in
     λ i. (name i, arity i) ∷ rest i
+made_keys _ _ m = absurd m
 
 -- the index knows a name and arity where a written clause has them
 pub known : (ws : List WrittenClause) (k : ℕ) (f : List ℕ) (n : ℕ) → HasClause ws f n → numbers_from k (keys_of_written ws) f n ≢ []
@@ -135,20 +123,14 @@ has_clause (w ∷ ws) k f n h =
       | false ↦ λ d q. let r = has_clause ws (k + 1) f n q in (r.0, inr r.1, r.2, r.3)
     ] refl h
 
-keys_push : (ws : List WrittenClause) (w : WrittenClause) → keys_of_written (ws ++ w ∷ []) ≡ keys_of_written ws ++ (w.name, length w.head) ∷ []
-keys_push [] w = refl
-keys_push (v ∷ ws) w = ap (λ l. (v.name, length v.head) ∷ l) (keys_push ws w)
-
-keys_many : (ws : List WrittenClause) → length (keys_of_written ws) ≡ length ws
-keys_many [] = refl
-keys_many (w ∷ ws) = ap (λ n. suc n) (keys_many ws)
-
 -- one clause more
 pub index_more : (ws : List WrittenClause) (w : WrittenClause) (old new : Index) (m : ℕ) → IsIndexOf (keys_of_written ws) old → m ≡ length ws + 1
     → ((f : List ℕ) (n : ℕ) → numbers_at new f n ≡ numbers_at old f n ++ cond (is_same_key f n (w.name, length w.head)) (m ∷ []) [])
     → IsIndexOf (keys_of_written (ws ++ w ∷ [])) new
 index_more ws w old new m is e more f n =
-    let same : m ≡ 0 + length (keys_of_written ws) + 1 = omega (arith, e, keys_many ws) in
+    let many : length (keys_of_written ws) ≡ length ws = length-map ws _ in
+    let pushed : keys_of_written (ws ++ w ∷ []) ≡ keys_of_written ws ++ (w.name, length w.head) ∷ [] = map_push _ ws w in
+    let same : m ≡ 0 + length (keys_of_written ws) + 1 = omega (arith, e, many) in
     more f n ∙ ap (λ l. l ++ cond (is_same_key f n (w.name, length w.head)) (m ∷ []) []) (is f n)
     ∙ ap (λ k. numbers_from 0 (keys_of_written ws) f n ++ cond (is_same_key f n (w.name, length w.head)) (k ∷ []) []) same
-    ∙ sym (numbers_push (keys_of_written ws) 0 (w.name, length w.head) f n) ∙ ap (λ ps. numbers_from 0 ps f n) (sym (keys_push ws w))
+    ∙ sym (numbers_push (keys_of_written ws) 0 (w.name, length w.head) f n) ∙ ap (λ ps. numbers_from 0 ps f n) (sym pushed)

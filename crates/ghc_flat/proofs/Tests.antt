@@ -1,5 +1,5 @@
 -- The tests that guards make, and whose variables they test.
-use Rattle.ghc_flat.proofs.Words.{◌≡◌, ℕ, Bool, List, [], ◌∷◌, ◌++◌, length, append_assoc, append-nil, inl, inr, refl, sym, ap, ◌∙◌, subst, arith, IsTrue, ◌↔◌, VarName, Comparison, variable, integer, node, Expression, call, unify, assign, stream, In, Guard, Item as item, variables_of_guard, variables_of_guards, Test, Compare as compare, IsPredefined, MakesTests, MakeTests, IsFlatGuard, variables_of_test, variables_of_tests, leaf_variables, Rises, IsAmong, AreAmong, MakesAmong, in_left, in_right, in_either}
+use Rattle.ghc_flat.proofs.Words.{◌≡◌, ℕ, Bool, List, [], ◌∷◌, ◌++◌, length, append_assoc, append-nil, inl, inr, refl, sym, ap, ◌∙◌, subst, arith, IsTrue, ◌↔◌, VarName, Comparison, variable, Expression, call, In, Guard, Item as item, variables_of_guard, variables_of_guards, Test, Compare as compare, IsPredefined, MakesTests, MakeTests, IsFlatGuard, variables_of_test, variables_of_tests, leaf_variables, Rises, IsAmong, AreAmong, MakesAmong, in_left, in_right, in_either}
 use Rattle.ghc_reader.specs.declared.written.Guard.TheVariants.{Comparison as comparison}
 use Rattle.ghc_flat.proofs.Rising.{among_of_in}
 
@@ -22,10 +22,7 @@ right_among n xs ys a y i = a y (in_right xs ys y i)
 
 -- a predefined test is of its variable
 pub predefined_variable : (f : List ℕ) (x : VarName) (g : Test) → IsPredefined f x g → variables_of_test g ≡ x ∷ []
-predefined_variable f x g (inl p) = ap variables_of_test p.1
-predefined_variable f x g (inr (inl p)) = ap variables_of_test p.1
-predefined_variable f x g (inr (inr (inl p))) = ap variables_of_test p.1
-predefined_variable f x g (inr (inr (inr p))) = ap variables_of_test p.1
+predefined_variable f x g p = grind arith
 
 pub not_among : (n : ℕ) (f : List ℕ) (x : VarName) → (¬ IsAmong n x) → (ts : List Test) → ¬ MakesAmong n (item (call f (variable x ∷ []))) ts
 not_among n f x other ts m =
@@ -54,13 +51,8 @@ make_more (h ∷ gs) g ts us d m = (d.0, d.1 ++ us, d.2, make_more gs g d.1 us d
 pub variables_made : (g : Guard) (ts : List Test) → MakesTests g ts → variables_of_tests ts ≡ variables_of_guard g
 variables_made (item (call f [])) ts m = ap variables_of_tests m.1
 variables_made (item (call f (variable x ∷ []))) ts m = ap variables_of_tests m.2 ∙ ap (λ l. l ++ []) (predefined_variable f x m.0 m.1)
-variables_made (item (call f (variable x ∷ u ∷ us))) ts m = absurd m
-variables_made (item (call f (integer k ∷ us))) ts m = absurd m
-variables_made (item (call f (node h vs ∷ us))) ts m = absurd m
-variables_made (item (unify l r)) ts m = absurd m
-variables_made (item (assign l r)) ts m = absurd m
-variables_made (item (stream k x)) ts m = absurd m
 variables_made (comparison o a b) ts m = ap variables_of_tests m ∙ append-nil (leaf_variables a ++ leaf_variables b)
+variables_made _ ts m = absurd m
 
 tests_append : (ts us : List Test) → variables_of_tests (ts ++ us) ≡ variables_of_tests ts ++ variables_of_tests us
 tests_append [] us = refl
@@ -82,41 +74,15 @@ made_by (h ∷ gs) ts d g (inr i) =
 pub not_flat_guard : (xs : List VarName) (n : ℕ) (g : Guard) → Rises 0 xs → n ≡ length xs → ((ts : List Test) → ¬ MakesAmong n g ts) → ¬ IsFlatGuard xs g
 not_flat_guard xs n g r e none f = none f.0 (f.1, λ t i x j. subst (λ k. IsAmong k x) (sym e) (among_of_in xs x r (f.2 t x i j)))
 
--- the first letter of a name
-letter : List ℕ → ℕ
-letter [] = 0
-letter (k ∷ _) = k
-
 predefined_once : (f : List ℕ) (x : VarName) (g h : Test) → IsPredefined f x g → IsPredefined f x h → g ≡ h
-unfolding letter
-predefined_once f x g h (inl p) (inl q) = p.1 ∙ sym q.1
-predefined_once f x g h (inl p) (inr (inl q)) = absurd (omega (arith, ap letter (sym p.0 ∙ q.0)))
-predefined_once f x g h (inl p) (inr (inr (inl q))) = absurd (omega (arith, ap letter (sym p.0 ∙ q.0)))
-predefined_once f x g h (inl p) (inr (inr (inr q))) = absurd (omega (arith, ap letter (sym p.0 ∙ q.0)))
-predefined_once f x g h (inr (inl p)) (inl q) = absurd (omega (arith, ap letter (sym p.0 ∙ q.0)))
-predefined_once f x g h (inr (inl p)) (inr (inl q)) = p.1 ∙ sym q.1
-predefined_once f x g h (inr (inl p)) (inr (inr (inl q))) = absurd (omega (arith, ap letter (sym p.0 ∙ q.0)))
-predefined_once f x g h (inr (inl p)) (inr (inr (inr q))) = absurd (omega (arith, ap letter (sym p.0 ∙ q.0)))
-predefined_once f x g h (inr (inr (inl p))) (inl q) = absurd (omega (arith, ap letter (sym p.0 ∙ q.0)))
-predefined_once f x g h (inr (inr (inl p))) (inr (inl q)) = absurd (omega (arith, ap letter (sym p.0 ∙ q.0)))
-predefined_once f x g h (inr (inr (inl p))) (inr (inr (inl q))) = p.1 ∙ sym q.1
-predefined_once f x g h (inr (inr (inl p))) (inr (inr (inr q))) = absurd (omega (arith, ap letter (sym p.0 ∙ q.0)))
-predefined_once f x g h (inr (inr (inr p))) (inl q) = absurd (omega (arith, ap letter (sym p.0 ∙ q.0)))
-predefined_once f x g h (inr (inr (inr p))) (inr (inl q)) = absurd (omega (arith, ap letter (sym p.0 ∙ q.0)))
-predefined_once f x g h (inr (inr (inr p))) (inr (inr (inl q))) = absurd (omega (arith, ap letter (sym p.0 ∙ q.0)))
-predefined_once f x g h (inr (inr (inr p))) (inr (inr (inr q))) = p.1 ∙ sym q.1
+predefined_once f x g h p q = grind arith
 
 -- the tests of a guard are determined
 pub makes_once : (g : Guard) (ts us : List Test) → MakesTests g ts → MakesTests g us → ts ≡ us
 makes_once (item (call f [])) ts us m d = m.1 ∙ sym d.1
 makes_once (item (call f (variable x ∷ []))) ts us m d = m.2 ∙ ap (λ t. t ∷ []) (predefined_once f x m.0 d.0 m.1 d.1) ∙ sym d.2
-makes_once (item (call f (variable x ∷ u ∷ rest))) ts us m d = absurd m
-makes_once (item (call f (integer k ∷ rest))) ts us m d = absurd m
-makes_once (item (call f (node h vs ∷ rest))) ts us m d = absurd m
-makes_once (item (unify l r)) ts us m d = absurd m
-makes_once (item (assign l r)) ts us m d = absurd m
-makes_once (item (stream k x)) ts us m d = absurd m
 makes_once (comparison o a b) ts us m d = m ∙ sym d
+makes_once _ ts us m d = absurd m
 
 pub make_once : (gs : List Guard) (ts us : List Test) → MakeTests gs ts → MakeTests gs us → ts ≡ us
 make_once [] ts us m d = m ∙ sym d

@@ -35,12 +35,12 @@ pub use Rattle.ghc_term.specs.declared.goal_view.GoalView.{GoalView}
 pub use Rattle.ghc_term.specs.declared.goal_view.GoalView.TheVariants.{Assign, Call, Stream, Unify}
 pub use Rattle.ghc_term.specs.declared.var_name.VarName.{VarName}
 pub use Rattle.std.proofs.Common.{Bool, Err, IfErr, IsTrue, List, MatchResult, None, Ok, Result, Some, [], ap, append-nil, append_assoc, arith, bytes_eq, cond, drop, false, filter, get_or, inl, inr, length, length-append, nat_eq, option_to_list, refl, reverse, slice_get, slice_index, subst, suc, sym, take, true, zero, ℕ, ◌&&◌, ◌*◌, ◌++◌, ◌+◌, ◌-◌, ◌<◌, ◌||◌, ◌↔◌, ◌∙◌, ◌∷◌, ◌≡◌, ◌≢◌, ◌≤◌, ◌⊎◌}
-pub use Rattle.std.proofs.lemmas.Bool.{false_from_ne_true}
+pub use Rattle.std.proofs.lemmas.Bool.{and_parts, eq-eqb, eqb-true, false_from_ne_true}
 pub use Rattle.std.proofs.lemmas.Bool.Decides.{nat_tests}
 pub use Rattle.std.proofs.lemmas.Grind.{common_steps}
 pub use Rattle.std.proofs.lemmas.Iterator.Adapters.{YieldsList-from_vec}
 pub use Rattle.std.proofs.lemmas.Iterator.Consumers.{YieldsList-so_far, YieldsList-turn}
-pub use Rattle.std.proofs.lemmas.List.{length-take, take-append-drop, take_more}
+pub use Rattle.std.proofs.lemmas.List.{length-map, length-take, map_push, take-append-drop, take_more}
 pub use Rattle.std.proofs.lemmas.List.Sorted.{IsPermutation-reverse, list_any-IsPermutation}
 pub use Rattle.std.proofs.lemmas.Option.{MatchOption-at_some, slice_get-get_or}
 pub use Rattle.std.proofs.lemmas.Result.{err_from_is_err_and}

@@ -2,9 +2,8 @@
 use Rattle.ghc_match.proofs.Words.{◌≡◌, ℕ, zero, suc, ◌-◌, ◌<◌, ◌≤◌, List, [], ◌∷◌, ◌++◌, length, take, slice_index_or, refl, sym, ap, ◌∙◌, subst, ◌⊎◌, inl, inr, append_assoc, append-nil, arith, zip, Tree, ahead_in, ahead_of, Places}
 
 pub zip_all : (hs ts : List Tree) → zip (take (length hs) hs) (take (length hs) ts) ≡ zip hs ts
-zip_all [] ts = refl
-zip_all (h ∷ hs) [] = refl
 zip_all (h ∷ hs) (t ∷ ts) = ap (λ l. (h, t) ∷ l) (zip_all hs ts)
+zip_all _ _ = refl
 
 zip_more : (hs ts : List Tree) (i : ℕ) (d e : Tree) → i < length hs → i < length ts → zip (take (suc i) hs) (take (suc i) ts) ≡ zip (take i hs) (take i ts) ++ (slice_index_or hs i d, slice_index_or ts i e) ∷ []
 zip_more [] ts i d e k l = absurd (omega (arith, k))

@@ -4,12 +4,11 @@ use Rattle.std.specs.FinMap as finite
 
 -- what is on a chain is passed
 pub leads_passes : {S : VarName → Option Tree} {t e : Tree} {xs : List VarName} {x : VarName} → Leads S t xs e → In x xs → Passes S t x
-leads_passes at_integer i = absurd i
-leads_passes at_node i = absurd i
 leads_passes {S = S} {x = x} (at_free {x = z} p) (inl e) = ([], subst (λ z. Comes S (variable z) [] x) e now)
 leads_passes (at_free p) (inr i) = absurd i
 leads_passes {S = S} {x = x} (along {x = z} p a) (inl e) = ([], subst (λ z. Comes S (variable z) [] x) e now)
 leads_passes (along {x = z} p a) (inr i) = let r = leads_passes a i in (z ∷ r.0, on p r.1)
+leads_passes _ i = absurd i
 
 -- S' agrees with S on the chain of t
 abbrev pub AgreesFrom : (VarName → Option Tree) → (VarName → Option Tree) → Tree → Type 0
@@ -42,14 +41,13 @@ chains s acyclic t = let k = chain (finite.len s) s (omega arith) acyclic t in (
 
 -- a chain that ends passes just its variables
 pub passes_in : {S : VarName → Option Tree} {t e : Tree} {xs ys : List VarName} {x : VarName} → Leads S t xs e → Comes S t ys x → In x xs
-passes_in at_integer c = elim c [ ]
-passes_in at_node c = elim c [ ]
 passes_in (at_free p) now = inl refl
 passes_in (at_free p) (on {t = u} e c) = let clash : None ≡ Some u = sym p ∙ e in cc
 passes_in (along p a) now = inl refl
 passes_in {S = S} (along {x = z} {t = u} p a) (on {y = y} {t = w} {xs = b} g d) =
     let same : w ≡ u = let s : Some w ≡ Some u = sym g ∙ p in cc in
     inr (passes_in a (subst (λ k. Comes S k b y) same d))
+passes_in _ c = elim c [ ]
 
 -- in a head a node is reached as written
 pub written : {t : Tree} {xs : List VarName} {f : List ℕ} {us : Trees} → Leads unbound t xs (node f us) → t ≡ node f us

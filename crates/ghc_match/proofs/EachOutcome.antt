@@ -1,5 +1,5 @@
 -- In an acyclic finite store each linear clause has an outcome.
-use Rattle.ghc_match.proofs.Words.{◌≡◌, true, false, cond, ℤ, List, [], ◌∷◌, refl, sym, ap, ◌∙◌, subst, inl, inr, Option, Some, codes, eq_by_cmp, clash_ℤ, by_lt_z, ℤ_discrete, coded_list, coded_ℕ, VarName, Comparison, Less, AtMost, Greater, AtLeast, Equal, NotEqual, Tree, variable, integer, node, none as no_tree, more, IsValue, In, Leads, Passes, IsAcyclic, name_cmp, StoreValue, value_at, leads_once, name_total, itself as itself_name, Decided, some_decided, same_decided, name_decided, each_in, not_both, Test, Wait as wait, IsInteger as is_integer, Compare as compare, Clause, IsLinear, variables_of_test, At, Number, Compares, IsAtom, IsList, StandsFor, HeadFits, StandsAt, Holds, TestWants, SaysNo, GuardSaysNo, GuardWants, WaitsFor, LooksAt, Outcome, refuses, waits, accepts, HasOutcome, EachClauseHasAnOutcome}
+use Rattle.ghc_match.proofs.Words.{◌≡◌, true, false, cond, ℤ, List, [], ◌∷◌, refl, sym, ap, ◌∙◌, subst, inl, inr, Option, Some, codes, eq_by_cmp, clash_ℤ, by_lt_z, ℤ_discrete, coded_list, coded_ℕ, VarName, Comparison, Less, AtMost, Greater, AtLeast, Equal, NotEqual, Tree, integer, node, none as no_tree, more, IsValue, In, Leads, Passes, IsAcyclic, name_cmp, StoreValue, value_at, leads_once, name_total, itself as itself_name, Decided, some_decided, same_decided, name_decided, each_in, not_both, Test, Wait as wait, IsInteger as is_integer, Compare as compare, Clause, IsLinear, variables_of_test, At, Number, Compares, IsAtom, IsList, StandsFor, HeadFits, StandsAt, Holds, TestWants, SaysNo, GuardSaysNo, GuardWants, WaitsFor, LooksAt, Outcome, refuses, waits, accepts, HasOutcome, EachClauseHasAnOutcome}
 use Rattle.std.specs.FinMap as finite
 use Rattle.ghc_flat.specs.declared.test.Test.TheVariants.{IsAtom as is_atom, IsList as is_list}
 use Rattle.ghc_match.specs.Match.{IsInteger}
@@ -21,23 +21,17 @@ compares_decided Equal j k = elim (ℤ_discrete j k) [ yes e ↦ inl e | no n �
 compares_decided NotEqual j k = elim (ℤ_discrete j k) [ yes e ↦ inr (λ n. n e) | no n ↦ inl n ]
 
 integer_decided : (e : Tree) → Decided (IsInteger e)
-integer_decided (variable x) = inr (λ i. i)
 integer_decided (integer k) = inl tt
-integer_decided (node f us) = inr (λ i. i)
+integer_decided _ = inr (λ i. i)
 
 atom_decided : (e : Tree) → Decided (IsAtom e)
-atom_decided (variable x) = inr (λ i. i)
-atom_decided (integer k) = inr (λ i. i)
 atom_decided (node f no_tree) = inl tt
-atom_decided (node f (more t us)) = inr (λ i. i)
+atom_decided _ = inr (λ i. i)
 
 list_decided : (e : Tree) → Decided (IsList e)
-list_decided (variable x) = inr (λ i. i)
-list_decided (integer k) = inr (λ i. i)
 list_decided (node f no_tree) = same_decided (coded_list coded_ℕ) f (codes "[]")
-list_decided (node f (more t no_tree)) = inr (λ i. i)
 list_decided (node f (more t (more u no_tree))) = same_decided (coded_list coded_ℕ) f (codes ".")
-list_decided (node f (more t (more u (more v us)))) = inr (λ i. i)
+list_decided _ = inr (λ i. i)
 
 -- what is listed under a name is found there
 found : (es : List (VarName × Tree)) (y : VarName) (t : Tree) → In {X = VarName × Tree} (y, t) es → (u : Tree) × (finite.find name_cmp y es ≡ Some u)

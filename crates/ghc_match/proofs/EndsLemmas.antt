@@ -1,5 +1,5 @@
 -- Where variables end.
-use Rattle.ghc_match.proofs.Words.{◌≡◌, ◌≢◌, ℤ, List, ◌∷◌, refl, sym, ap, ◌∙◌, subst, inl, inr, ◌⊎◌, Option, Some, None, IsTrue, ◌↔◌, VarName, TermView, Var, Int, Atom, Struct, Tree, variable, integer, IsValue, shown, Variables, leaf, StoreValue, value_at, Leads, at_free, along, leads_once, one_inserted, EndsIn, Number, ChainEnds, StandsAndEnds, EndsAt, TellsEnd, Scope, Goal, Head, End, Nowhere, Unbound, Value}
+use Rattle.ghc_match.proofs.Words.{◌≡◌, ◌≢◌, ℤ, List, ◌∷◌, refl, sym, ap, ◌∙◌, subst, inl, inr, ◌⊎◌, Option, Some, None, IsTrue, ◌↔◌, VarName, TermView, Int, Tree, variable, integer, IsValue, shown, Variables, leaf, StoreValue, value_at, Leads, at_free, along, leads_once, one_inserted, EndsIn, Number, ChainEnds, StandsAndEnds, EndsAt, TellsEnd, Scope, Goal, Head, End, Nowhere, Unbound, Value, Gains}
 use Rattle.std.specs.FinSet as set
 use Rattle.ghc_match.proofs.Values.{ends_once, variable_is}
 use Rattle.ghc_match.proofs.Positions.{value_not}
@@ -53,10 +53,8 @@ no_value P (Value t) once n h k p = absurd (n t refl)
 
 -- what is lent as no integer is none
 pub shown_no_integer : (v : TermView) → ((k : ℤ) → v ≢ Int k) → (k : ℤ) → ¬ (shown v ≡ integer k)
-shown_no_integer (Var x) n k e = cc
 shown_no_integer (Int j) n k e = n j refl
-shown_no_integer (Atom f) n k e = cc
-shown_no_integer (Struct f ts) n k e = cc
+shown_no_integer _ n k e = cc
 
 -- a leaf that is a variable has the value of its end
 pub leaf_number : (E : VarName → Tree → Type 0) (x : VarName) (t : Tree) (k : ℤ) → variable x ≡ t → Number E (leaf t) k → E x (integer k)
@@ -83,6 +81,17 @@ after_other P s new n e x = (
   λ c. inl (subst (λ z. IsTrue (set.contains z x)) e c),
   λ c. elim c [ inl a ↦ subst (λ z. IsTrue (set.contains z x)) (sym e) a | inr p ↦ absurd (n x p) ],
 )
+
+-- what is added for a variable of the head, which stands for a term: the end of its chain where that is unbound, and nothing where it is a value
+module _ (stands : StoreValue) (S : VarName → Option Tree) (x : VarName) (t e : Tree) (there : Some t ≡ value_at stands x) (l : ChainEnds S t e) where
+  pub unbound_added : (y : VarName) (s new : Variables) → variable y ≡ e → new ≡ set.insert s y → Gains s new (λ z. StandsAndEnds stands S x (variable z))
+  unbound_added y s new is g = after_unbound (StandsAndEnds stands S x) s new y (stands_ends_once stands S x) (t, sym there, rw is l) g
+
+  pub not_ended : IsValue e → (z : VarName) → ¬ StandsAndEnds stands S x (variable z)
+  not_ended v z p = value_not (stands_ends_once stands S x e (variable z) (t, sym there, l) p) v
+
+  pub none_added : (s : Variables) → IsValue e → Gains s s (λ z. StandsAndEnds stands S x (variable z))
+  none_added s v = after_other (StandsAndEnds stands S x) s s (not_ended v) refl
 
 -- what ends in no value that was told ends in no value
 pub no_value_told : (P : Tree → Type 0) (end : End) → ((e f : Tree) → P e → P f → e ≡ f) → ((t : _) → end ≢ Value t) → TellsEnd P end → (e : Tree) → P e → ¬ IsValue e

@@ -6,6 +6,9 @@ use Rattle.std.specs.FinSet as set
 abbrev pub Sees : (VarName → Option Tree) → Variables → Tree → VarName → Type 0
 Sees S s t x = IsTrue (set.contains s x) ⊎ Passes S t x
 
+pub both_ways : {A B C : Type 0} → A ↔ B → B ↔ C → A ↔ C
+both_ways f g = (λ a. g.0 (f.0 a), λ c. f.1 (g.1 c))
+
 -- a variable passes itself, and what its value passes
 passes_variable : (S : VarName → Option Tree) (x y : VarName) → Passes S (variable x) y → (y ≡ x) ⊎ ((t : Tree) × (S x ≡ Some t) × Passes S t y)
 passes_variable S x y p = by p.1 refl where

@@ -1,22 +1,19 @@
 -- What tests say, one after another.
-use Rattle.ghc_match.proofs.Words.{◌≡◌, Bool, true, false, List, [], ◌∷◌, ◌++◌, refl, sym, subst, inl, inr, ◌⊎◌, ◌↔◌, IsTrue, VarName, Tree, variable, integer, node, IsValue, in_left, in_right, in_more, Test, IsAtom, IsList, IsSaid, OneSaysNo, Says, Yes, No, Waits}
+use Rattle.ghc_match.proofs.Words.{◌≡◌, Bool, true, false, List, [], ◌∷◌, ◌++◌, refl, sym, subst, inl, inr, ◌⊎◌, ◌↔◌, IsTrue, VarName, Tree, integer, node, IsValue, in_left, in_right, in_more, Test, IsAtom, IsList, IsSaid, OneSaysNo, Says, Yes, No, Waits}
 use Rattle.ghc_match.specs.Match.{IsInteger}
 
 -- only values are integers, atoms or lists
 pub integer_value : (e : Tree) → IsInteger e → IsValue e
-integer_value (variable x) i = absurd i
 integer_value (integer k) i = tt
-integer_value (node f ts) i = absurd i
+integer_value _ i = absurd i
 
 pub atom_value : (e : Tree) → IsAtom e → IsValue e
-atom_value (variable x) i = absurd i
-atom_value (integer k) i = absurd i
 atom_value (node f ts) i = tt
+atom_value _ i = absurd i
 
 pub list_value : (e : Tree) → IsList e → IsValue e
-list_value (variable x) i = absurd i
-list_value (integer k) i = absurd i
 list_value (node f ts) i = tt
+list_value _ i = absurd i
 
 module _ (P T : Tree → Type 0) where
   -- a test of the value that a variable ends in

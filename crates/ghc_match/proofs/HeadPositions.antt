@@ -30,9 +30,8 @@ module _ (S : VarName → Option Tree) (chains : (t : Tree) → (xs : List VarNa
         n o.2 o.3 (leads_once l (subst (λ w. Leads S w o.1 (node o.2 o.3)) same o.5)).1
 
     at : (t : Tree) → slice_get ts i ≡ Some t → (xs : List VarName) (end : Tree) → Leads S t xs end → Decided (Opens ts i)
-    at t e xs (variable x) l = inr (other t e xs (variable x) l (λ f us q. cc))
-    at t e xs (integer k) l = inr (other t e xs (integer k) l (λ f us q. cc))
     at t e xs (node f us) l = inl (t, xs, f, us, e, l)
+    at t e xs end l = inr (other t e xs end l (λ f us q. cc))
 
   at_decided : (p : List ℕ) (ts : List Tree) → Decided ((t : Tree) × At S ts p t)
   at_decided [] ts = inr (λ a. elim a.1 [ ])
@@ -61,21 +60,16 @@ own_chain (integer k) = ([], integer k, at_integer)
 own_chain (node f us) = ([], node f us, at_node)
 
 alike_decided : (h e : Tree) → Decided (AreAlike h e)
-alike_decided (variable x) e = inr (λ a. a)
-alike_decided (integer j) (variable y) = inr (λ a. a)
 alike_decided (integer j) (integer k) = elim (ℤ_discrete j k) [ yes e ↦ inl e | no n ↦ inr n ]
-alike_decided (integer j) (node g us) = inr (λ a. a)
-alike_decided (node f ts) (variable y) = inr (λ a. a)
-alike_decided (node f ts) (integer k) = inr (λ a. a)
 alike_decided (node f ts) (node g us) = elim (same_decided (coded_list coded_ℕ) f g) [
   | inr n ↦ inr (λ a. n a.0)
   | inl e ↦ elim (ℕ_discrete (length (list_of ts)) (length (list_of us))) [ yes l ↦ inl (e, l) | no n ↦ inr (λ a. n a.1) ]
 ]
+alike_decided _ _ = inr (λ a. a)
 
 pub value_decided : (e : Tree) → Decided (IsValue e)
 value_decided (variable x) = inr (λ v. v)
-value_decided (integer k) = inl tt
-value_decided (node f us) = inl tt
+value_decided _ = inl tt
 
 module _ (c : Clause) (ts : List Tree) (s : StoreValue) (acyclic : IsAcyclic (value_at s)) where
   abbrev S : VarName → Option Tree
@@ -187,8 +181,7 @@ module _ (c : Clause) (ts : List Tree) (s : StoreValue) (acyclic : IsAcyclic (va
         let name : d.0 ≡ y = same_variable (at_once w.0 a) in
         let tree : d.1 ≡ t = at_once w.1 b in
         λ i. (name i, tree i))
-    head (integer k) a t b = none (λ d w. let no : integer k ≡ variable d.0 = at_once a w.0 in cc)
-    head (node f us) a t b = none (λ d w. let no : node f us ≡ variable d.0 = at_once a w.0 in cc)
+    head h a t b = none (λ d w. let no : h ≡ variable d.0 = at_once a w.0 in cc)
 
   -- what each variable of the head stands for
   pub standing : Listing (λ (b : VarName × Tree). StandsFor c ts S b.0 b.1)

@@ -1,5 +1,5 @@
 -- In a head without a variable twice, each variable stands at one position.
-use Rattle.ghc_match.proofs.Words.{◌≡◌, ℕ, zero, suc, List, [], ◌∷◌, refl, sym, ap, subst, inl, Some, None, slice_get, VarName, Tree, variable, integer, node, Trees, none, more, list_of, trees, In, in_left, in_right, AreDistinct, variables, variables_of_all, variables_of_list, distinct_left, distinct_right, distinct_apart, all_list, At, here, down, unbound}
+use Rattle.ghc_match.proofs.Words.{◌≡◌, ℕ, zero, suc, List, [], ◌∷◌, refl, sym, ap, subst, inl, Some, None, slice_get, VarName, Tree, variable, node, Trees, none, more, list_of, trees, In, in_left, in_right, AreDistinct, variables, variables_of_all, variables_of_list, distinct_left, distinct_right, distinct_apart, all_list, At, here, down, unbound}
 use Rattle.ghc_match.proofs.Chains.{written}
 use Rattle.ghc_match.proofs.Positions.{back_again}
 
@@ -23,11 +23,9 @@ mutual
   -- what stands in the tree is one of its variables
   occurs : (t : Tree) (p : List ℕ) (y : VarName) → Stands t p y → In y (variables t)
   occurs (variable x) [] y s = let same : x ≡ y = cc in inl (sym same)
-  occurs (variable x) (i ∷ p) y s = let no : variable x ≡ node s.0 s.1 = s.2 in cc
-  occurs (integer k) [] y s = cc
-  occurs (integer k) (i ∷ p) y s = let no : integer k ≡ node s.0 s.1 = s.2 in cc
-  occurs (node f us) [] y s = cc
   occurs (node f us) (i ∷ p) y s = let same : s.1 ≡ us = let e = s.2 in cc in occurs_all us i p y (within (subst (λ w. At unbound (list_of w) (i ∷ p) (variable y)) same s.3))
+  occurs t (i ∷ p) y s = let no : t ≡ node s.0 s.1 = s.2 in cc
+  occurs _ [] y s = cc
 
   occurs_all : (us : Trees) (i : ℕ) (p : List ℕ) (y : VarName) → At_number us i p y → In y (variables_of_all us)
   occurs_all none i p y a = let no : None ≡ Some a.0 = a.1 in cc
@@ -40,16 +38,14 @@ numbered e = cc
 mutual
   tree_once : (t : Tree) (p q : List ℕ) (y : VarName) → AreDistinct (variables t) → Stands t p y → Stands t q y → p ≡ q
   tree_once (variable x) [] [] y d a b = refl
-  tree_once (variable x) (i ∷ p) q y d a b = let no : variable x ≡ node a.0 a.1 = a.2 in cc
   tree_once (variable x) [] (j ∷ q) y d a b = let no : variable x ≡ node b.0 b.1 = b.2 in cc
-  tree_once (integer k) [] q y d a b = cc
-  tree_once (integer k) (i ∷ p) q y d a b = let no : integer k ≡ node a.0 a.1 = a.2 in cc
-  tree_once (node f us) [] q y d a b = cc
   tree_once (node f us) (i ∷ p) [] y d a b = cc
   tree_once (node f us) (i ∷ p) (j ∷ q) y d a b =
       let one : a.1 ≡ us = let e = a.2 in cc in
       let two : b.1 ≡ us = let e = b.2 in cc in
       all_once us i j p q y d (within (subst (λ w. At unbound (list_of w) (i ∷ p) (variable y)) one a.3)) (within (subst (λ w. At unbound (list_of w) (j ∷ q) (variable y)) two b.3))
+  tree_once t (i ∷ p) q y d a b = let no : t ≡ node a.0 a.1 = a.2 in cc
+  tree_once _ [] q y d a b = cc
 
   all_once : (us : Trees) (i j : ℕ) (p q : List ℕ) (y : VarName) → AreDistinct (variables_of_all us) → At_number us i p y → At_number us j q y → i ∷ p ≡ j ∷ q
   all_once none i j p q y d a b = let no : None ≡ Some a.0 = a.1 in cc

@@ -1,5 +1,5 @@
 -- All of which something holds, as a list.
-use Rattle.ghc_match.proofs.Words.{◌≡◌, List, [], ◌∷◌, ◌++◌, refl, subst, inl, inr, ◌⊎◌, sym, In, Each, each_in, in_left, in_right, each_both, each_as, Decided, some_decided, Tree, variable, integer, node}
+use Rattle.ghc_match.proofs.Words.{◌≡◌, List, [], ◌∷◌, ◌++◌, refl, subst, inl, inr, ◌⊎◌, sym, In, Each, each_in, in_left, in_right, each_both, each_as, Decided, some_decided, Tree, variable, integer}
 
 -- the list of all of which P holds
 pub record Listing {X : Type 0} (P : X → Type 0) : Type 0 where
@@ -61,10 +61,8 @@ through {P = P} R l f = restated (λ x h. (h.0, each_in l.items P h.0 l.each h.1
 -- the variable, and the integer, that a tree is
 pub the_variable : (e : Tree) → Listing (λ x. e ≡ variable x)
 the_variable (variable z) = one z refl (λ y q. let p : z ≡ y = cc in sym p)
-the_variable (integer k) = none (λ x q. cc)
-the_variable (node f us) = none (λ x q. cc)
+the_variable _ = none (λ x q. cc)
 
 pub the_integer : (e : Tree) → Listing (λ k. e ≡ integer k)
-the_integer (variable z) = none (λ k q. cc)
 the_integer (integer j) = one j refl (λ k q. let p : j ≡ k = cc in sym p)
-the_integer (node f us) = none (λ k q. cc)
+the_integer _ = none (λ k q. cc)

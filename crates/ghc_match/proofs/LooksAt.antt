@@ -1,6 +1,5 @@
 -- What a clause finds in a call is the same in every store that agrees with its own on what the clause looks at.
-use Rattle.ghc_match.proofs.Words.{◌≡◌, ℕ, List, [], ◌∷◌, refl, inl, inr, Option, Some, None, VarName, Tree, variable, node, Trees, IsValue, In, Leads, at_node, along, in_left, in_right, Test, Wait as wait, IsInteger as is_integer, Compare as compare, Clause, variables_of_test, leaf_variables, At, here, down, unbound, StandsFor, Mismatch, HeadWants, StandsAt, Holds, TestWants, LooksAt}
-use Rattle.ghc_flat.specs.declared.test.Test.TheVariants.{IsAtom as is_atom, IsList as is_list}
+use Rattle.ghc_match.proofs.Words.{◌≡◌, ℕ, List, [], ◌∷◌, refl, inl, inr, Option, Some, None, VarName, Tree, variable, node, Trees, IsValue, In, Leads, at_node, along, in_left, in_right, Test, Compare as compare, Clause, variables_of_test, leaf_variables, At, here, down, unbound, StandsFor, Mismatch, HeadWants, StandsAt, Holds, TestWants, LooksAt}
 use Rattle.ghc_match.proofs.Chains.{AgreesFrom, leads_there, leads_back, passes_there, passes_back}
 use Rattle.ghc_match.proofs.Values.{number_there}
 
@@ -66,10 +65,6 @@ module _ (c : Clause) (ts : List Tree) (S S' : VarName → Option Tree) (agree :
   wants_there g ig x w = (w.0, w.1, stands_at_there g ig w.0 (variable x) w.1 w.2)
 
   pub holds_there : (g : Test) → In g c.tests → Holds c ts S g → Holds c ts S' g
-  holds_there (wait y) ig h = (h.0, stands_at_there (wait y) ig y h.0 (inl refl) h.1, h.2)
-  holds_there (is_integer y) ig h = (h.0, stands_at_there (is_integer y) ig y h.0 (inl refl) h.1, h.2)
-  holds_there (is_atom y) ig h = (h.0, stands_at_there (is_atom y) ig y h.0 (inl refl) h.1, h.2)
-  holds_there (is_list y) ig h = (h.0, stands_at_there (is_list y) ig y h.0 (inl refl) h.1, h.2)
   holds_there (compare o a b) ig h = (
     h.0,
     h.1,
@@ -77,3 +72,4 @@ module _ (c : Clause) (ts : List Tree) (S S' : VarName → Option Tree) (agree :
     number_there h.3 (λ y e i. stands_at_there (compare o a b) ig y e (in_right (leaf_variables a) (leaf_variables b) y i)),
     h.4,
   )
+  holds_there g ig h = (h.0, stands_at_there g ig _ h.0 (inl refl) h.1, h.2)

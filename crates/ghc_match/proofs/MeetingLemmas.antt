@@ -34,8 +34,7 @@ module _ (S : VarName → Option Tree) (h t : Tree) where
 
 pub standing_value : (h t : Tree) (stands : StoreValue) → IsValue h → stands ≡ standing h t stands
 standing_value (variable x) t stands v = absurd v
-standing_value (integer k) t stands v = refl
-standing_value (node f ts) t stands v = refl
+standing_value _ t stands v = refl
 
 -- What the pairs that are done have shown.
 pub record Seen (S : VarName → Option Tree) (done : List (Tree × Tree)) (clashes : Bool) (stands : StoreValue) (wanted looked : Variables) : Type 0 where
@@ -84,18 +83,11 @@ stand_on done stands old (variable z) u free y t =
             read ∙ ap (λ b. cond b (Some u) (value_at stands y)) (ap (eq_by_cmp name_cmp y) (sym (same_variable a)) ∙ itself y) ∙ ap Some (sym b)
       ],
     )
-stand_on done stands old (integer k) u free y t = (
-  λ e. in_left done ((integer k, u) ∷ []) (variable y, t) ((old y t).0 e),
-  λ i. elim (in_more done (integer k, u) (variable y, t) i) [
+stand_on done stands old h u free y t = (
+  λ e. in_left done ((h, u) ∷ []) (variable y, t) ((old y t).0 e),
+  λ i. elim (in_more done (h, u) (variable y, t) i) [
     | inl j ↦ (old y t).1 j
-    | inr same ↦ absurd (let clash : variable y ≡ integer k = ap (λ (q : Tree × Tree). q.0) same in cc)
-  ],
-)
-stand_on done stands old (node f ts) u free y t = (
-  λ e. in_left done ((node f ts, u) ∷ []) (variable y, t) ((old y t).0 e),
-  λ i. elim (in_more done (node f ts, u) (variable y, t) i) [
-    | inl j ↦ (old y t).1 j
-    | inr same ↦ absurd (let clash : variable y ≡ node f ts = ap (λ (q : Tree × Tree). q.0) same in cc)
+    | inr same ↦ absurd (let clash : variable y ≡ h = ap (λ (q : Tree × Tree). q.0) same in cc)
   ],
 )
 
@@ -144,8 +136,7 @@ inner_names (node f ts) us = let r = zip_names (list_of ts) us in (r.0, all_list
 
 standing_free : (h t : Tree) (stands : StoreValue) (y : VarName) → value_at stands y ≡ None → ((z : VarName) → h ≡ variable z → ¬ (y ≡ z)) → value_at (standing h t stands) y ≡ None
 standing_free (variable z) t stands y e n = finite.get-insert name_total stands z t y ∙ ap (λ b. cond b (Some t) (value_at stands y)) (apart y z (n z refl)) ∙ e
-standing_free (integer k) t stands y e n = e
-standing_free (node f ts) t stands y e n = e
+standing_free _ t stands y e n = e
 
 -- the variables ahead stay fresh
 pub fresh_on : (S : VarName → Option Tree) (rest new : List (Tree × Tree)) (q : Tree × Tree) (stands stands' : StoreValue) → IsFresh stands (rest ++ q ∷ []) → Opens S q.0 q.1 rest new
@@ -169,8 +160,7 @@ fresh_on S rest new q stands stands' f o e =
     } where
       in_own : (h : Tree) (us : List Tree) (z : VarName) → h ≡ variable z → In z (inner_names h us).0
       in_own (variable x) us z is = inl (let same : z ≡ x = cc in same)
-      in_own (integer k) us z is = cc
-      in_own (node f ts) us z is = cc
+      in_own _ us z is = cc
 
 -- a variable of the last pair ahead stands for nothing yet
 pub fresh_last : (rest : List (Tree × Tree)) (q : Tree × Tree) (stands : StoreValue) → IsFresh stands (rest ++ q ∷ []) → (y : VarName) → q.0 ≡ variable y → value_at stands y ≡ None

@@ -17,13 +17,12 @@ gains_both R old mid new xs ys f g x = (
   ]),
 )
 
-module _ (E : VarName → Tree → Type 0) where
+-- where E gives each variable one end
+module _ {E : VarName → Tree → Type 0} (once : (x : VarName) (e f : Tree) → E x e → E x f → e ≡ f) where
   -- neither list wants a variable
   pub wants_none : (xs ys : List VarName) → ((x : VarName) → ¬ Wants E xs x) → ((x : VarName) → ¬ Wants E ys x) → (x : VarName) → ¬ Wants E (xs ++ ys) x
   wants_none xs ys n m x w = elim (in_either xs ys w.0 w.1) [ inl i ↦ n x (w.0, i, w.2) | inr i ↦ m x (w.0, i, w.2) ]
 
--- where E gives each variable one end
-module _ {E : VarName → Tree → Type 0} (once : (x : VarName) (e f : Tree) → E x e → E x f → e ≡ f) where
   -- a variable that ends in a value waits for nothing
   not_unbound : (y : VarName) (e : Tree) → E y e → IsValue e → (x : VarName) → ¬ Wants E (leaf_variables (leaf (variable y))) x
   not_unbound y e p v x w = elim w.1 [

@@ -1,16 +1,12 @@
 -- From what the head and the guard show to the outcome.
-use Rattle.ghc_match.proofs.Words.{◌≡◌, ◌<◌, Bool, true, false, List, inl, inr, sym, subst, ◌∙◌, ◌↔◌, Option, Some, IsTrue, VarName, In, Tree, variable, Variables, IsSetOf, StoreValue, value_at, member, no_member, Test, Wait as wait, IsInteger as is_integer, Compare as compare, Clause, variables_of_test, Wants, StandsAndEnds, HoldsBy, StandsFor, Mismatch, HeadWants, HeadFits, StandsAt, GuardSaysNo, LooksAt, refuses, waits, accepts, HasOutcome, Gains, HeadLooksAt, OneSaysNo, OneWants, GuardLooksAt}
+use Rattle.ghc_match.proofs.Words.{◌≡◌, ◌<◌, Bool, true, false, List, inl, inr, sym, subst, ◌∙◌, ◌↔◌, Option, Some, IsTrue, VarName, In, Tree, variable, Variables, IsSetOf, StoreValue, value_at, member, no_member, Test, Compare as compare, Clause, variables_of_test, Wants, StandsAndEnds, HoldsBy, StandsFor, Mismatch, HeadWants, HeadFits, StandsAt, GuardSaysNo, LooksAt, refuses, waits, accepts, HasOutcome, Gains, HeadLooksAt, OneSaysNo, OneWants, GuardLooksAt}
 use Rattle.std.specs.FinSet as set
-use Rattle.ghc_flat.specs.declared.test.Test.TheVariants.{IsAtom as is_atom, IsList as is_list}
 use Rattle.ghc_match.proofs.Values.{number_there}
 
 -- a test that holds where variables end as E says holds where they end as F says
 holds_there : (E F : VarName → Tree → Type 0) → ((y : VarName) (e : Tree) → E y e → F y e) → (g : Test) → HoldsBy E g → HoldsBy F g
-holds_there E F f (wait y) h = (h.0, f y h.0 h.1, h.2)
-holds_there E F f (is_integer y) h = (h.0, f y h.0 h.1, h.2)
-holds_there E F f (is_atom y) h = (h.0, f y h.0 h.1, h.2)
-holds_there E F f (is_list y) h = (h.0, f y h.0 h.1, h.2)
 holds_there E F f (compare o a b) h = (h.0, h.1, number_there h.2 (λ y e i. f y e), number_there h.3 (λ y e i. f y e), h.4)
+holds_there E F f _ h = (h.0, f _ h.0 h.1, h.2)
 
 -- what is added to an empty set
 gained_alone : (old new : Variables) (P : VarName → Type 0) → set.len old ≡ 0 → Gains old new P → IsSetOf new P

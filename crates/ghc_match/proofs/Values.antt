@@ -1,16 +1,13 @@
 -- The values of expressions: each has one, and hangs on the chains of its variables.
-use Rattle.ghc_match.proofs.Words.{◌≡◌, ℤ, List, refl, sym, ap, ◌∙◌, subst, inl, inr, ℕ, Option, VarName, Operator, Add, Subtract, Multiply, Divide, Modulo, Tree, variable, integer, node, Trees, Expression, leaf, operation, In, Comes, now, on, Reaches, through, leads_once, in_left, in_right, in_either, one_set, set_of, leaf_variables, EndsIn, Computes, Number, of_integer, of_variable, computed, Wants, number, bad, HasValue, ExpressionReaches, ValuesExclude, ValueLooksAtItsTerms}
+use Rattle.ghc_match.proofs.Words.{◌≡◌, ℤ, List, refl, sym, ap, ◌∙◌, subst, inl, inr, ℕ, Option, VarName, Operator, Divide, Modulo, Tree, variable, integer, node, Trees, Expression, leaf, operation, In, Comes, now, on, Reaches, through, leads_once, in_left, in_right, in_either, one_set, set_of, leaf_variables, EndsIn, Computes, Number, of_integer, of_variable, computed, Wants, number, bad, HasValue, ExpressionReaches, ValuesExclude, ValueLooksAtItsTerms}
 use Rattle.ghc_term.specs.Bindings.{here}
 use Rattle.ghc_match.specs.Value.{Value, waits}
 use Rattle.ghc_match.proofs.Chains.{leads_there, leads_back}
-use Rattle.ghc_match.proofs.Positions.{same_variable}
 
 pub computes_once : (o : Operator) (x y z w : ℤ) → Computes o x y z → Computes o x y w → z ≡ w
-computes_once Add x y z w p q = p.0 ∙ sym q.0
-computes_once Subtract x y z w p q = p.0 ∙ sym q.0
-computes_once Multiply x y z w p q = p.0 ∙ sym q.0
 computes_once Divide x y z w p q = p.1 ∙ sym q.1
 computes_once Modulo x y z w p q = p.1 ∙ sym q.1
+computes_once _ x y z w p q = p.0 ∙ sym q.0
 
 -- an operation's value comes from those of its sides
 pub sides : {E : VarName → Tree → Type 0} {o : Operator} {a b : Expression} {z : ℤ} → Number E (operation o a b) z → (x y : ℤ) × Number E a x × Number E b y × Computes o x y z
@@ -21,19 +18,11 @@ no_structure n = elim n [ ]
 
 -- an integer has itself as its value
 pub integer_is : {E : VarName → Tree → Type 0} {j k : ℤ} → Number E (leaf (integer j)) k → k ≡ j
-integer_is n = apart n refl where
-  apart : {E : VarName → Tree → Type 0} {a : Expression} {j k : ℤ} → Number E a k → a ≡ leaf (integer j) → k ≡ j
-  apart of_integer p = cc
-  apart (of_variable q) p = cc
-  apart (computed m n w) p = cc
+integer_is of_integer = refl
 
 -- a variable has the value at which it ends
 pub variable_is : {E : VarName → Tree → Type 0} {x : VarName} {k : ℤ} → Number E (leaf (variable x)) k → E x (integer k)
-variable_is {E = E} n = apart n refl where
-  apart : {E : VarName → Tree → Type 0} {a : Expression} {x : VarName} {k : ℤ} → Number E a k → a ≡ leaf (variable x) → E x (integer k)
-  apart of_integer p = cc
-  apart {E = E} (of_variable {x = y} {k = k} q) p = let same : variable y ≡ variable _ = cc in subst (λ z. E z (integer k)) (same_variable same) q
-  apart (computed m n w) p = cc
+variable_is (of_variable p) = p
 
 -- where E gives each variable one end
 module _ {E : VarName → Tree → Type 0} (once : (x : VarName) (e f : Tree) → E x e → E x f → e ≡ f) where
@@ -85,8 +74,7 @@ values_exclude S a bad bad p q = refl
 pub leaf_reaches : {S : VarName → Option Tree} (a : Expression) (y x : VarName) → In y (leaf_variables a) → Reaches S (variable y) x → ExpressionReaches S a x
 leaf_reaches {S = S} (leaf (variable z)) y x (inl e) r = subst (λ w. Reaches S (variable w) x) e r
 leaf_reaches (leaf (variable z)) y x (inr i) r = absurd i
-leaf_reaches (leaf (integer k)) y x i r = absurd i
-leaf_reaches (leaf (node f ts)) y x i r = absurd i
+leaf_reaches (leaf _) y x i r = absurd i
 leaf_reaches (operation o a b) y x i r =
     elim (in_either (leaf_variables a) (leaf_variables b) y i) [ inl j ↦ inl (leaf_reaches a y x j r) | inr j ↦ inr (leaf_reaches b y x j r) ]
 

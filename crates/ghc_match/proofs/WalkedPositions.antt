@@ -5,16 +5,14 @@ use Rattle.ghc_match.proofs.Chains.{written}
 
 -- what stands at one place of two lists
 in_zip : (hs ts : List Tree) (i : ℕ) (h t : Tree) → slice_get hs i ≡ Some h → slice_get ts i ≡ Some t → In {X = Tree × Tree} (h, t) (zip hs ts)
-in_zip [] ts i h t e g = cc
-in_zip (x ∷ hs) [] i h t e g = cc
 in_zip (x ∷ hs) (y ∷ ts) zero h t e g = let a : x ≡ h = cc in let b : y ≡ t = cc in inl (λ n. (sym a n, sym b n))
 in_zip (x ∷ hs) (y ∷ ts) (suc i) h t e g = inr (in_zip hs ts i h t e g)
+in_zip _ _ i h t e g = cc
 
 zip_in : (hs ts : List Tree) (q : Tree × Tree) → In q (zip hs ts) → (i : ℕ) × (slice_get hs i ≡ Some q.0) × (slice_get ts i ≡ Some q.1)
-zip_in [] ts q i = absurd i
-zip_in (x ∷ hs) [] q i = absurd i
 zip_in (x ∷ hs) (y ∷ ts) q (inl e) = (zero, ap (λ (z : Tree × Tree). Some z.0) (sym e), ap (λ (z : Tree × Tree). Some z.1) (sym e))
 zip_in (x ∷ hs) (y ∷ ts) q (inr i) = let r = zip_in hs ts q i in (suc r.0, r.1, r.2)
+zip_in _ _ q i = absurd i
 
 no_position : {S : VarName → Option Tree} {ts : List Tree} {p : List ℕ} {t : Tree} → At S ts p t → ¬ (ts ≡ [])
 no_position (here {ts = ts} {i = i} {t = t} e) n = let clash : None ≡ Some t = sym (ap (λ l. slice_get l i) n) ∙ e in cc
@@ -41,11 +39,9 @@ module _ (S : VarName → Option Tree) where
       ((s, r), in_zip hs ts i s r e g, inr (node f vs, (xs, l), (p, subst (λ z. At unbound (arguments z) p h) (sym (written m)) b, a)))
 
   below : (hs ts : List Tree) (i : ℕ) (h t e h' t' : Tree) → slice_get hs i ≡ Some h → slice_get ts i ≡ Some t → ChainEnds S t e → Meets (arguments h) (arguments e) h' t' → Meets hs ts h' t'
-  below hs ts i (variable x) t e h' t' p q l m = absurd (no_position m.1 refl)
-  below hs ts i (integer k) t e h' t' p q l m = absurd (no_position m.1 refl)
-  below hs ts i (node f us) t (variable x) h' t' p q l m = absurd (no_position m.2 refl)
-  below hs ts i (node f us) t (integer k) h' t' p q l m = absurd (no_position m.2 refl)
   below hs ts i (node f us) t (node g vs) h' t' p q l m = (i ∷ m.0, down p at_node m.1, down q l.1 m.2)
+  below hs ts i (node f us) t _ h' t' p q l m = absurd (no_position m.2 refl)
+  below hs ts i _ t e h' t' p q l m = absurd (no_position m.1 refl)
 
   under_meets : (hs ts : List Tree) (h t : Tree) → UnderOne (zip hs ts) h t → Meets hs ts h t
   under_meets hs ts h t u =
@@ -133,14 +129,12 @@ parts_append [] qs = omega arith
 parts_append (p ∷ ps) qs = omega (arith, parts_append ps qs)
 
 parts_zip : (ts : Trees) (us : List Tree) → head_parts (zip (list_of ts) us) ≤ parts_of_all ts
-parts_zip none us = omega arith
-parts_zip (more t ts) [] = omega arith
 parts_zip (more t ts) (u ∷ us) = omega (arith, parts_zip ts us)
+parts_zip _ _ = omega arith
 
 fewer_parts : (h : Tree) (us : List Tree) → head_parts (zip (arguments h) us) < parts h
-fewer_parts (variable x) us = omega arith
-fewer_parts (integer k) us = omega arith
 fewer_parts (node f ts) us = omega (arith, parts_zip ts us)
+fewer_parts _ us = omega arith
 
 -- with each pair that is done, fewer parts are ahead
 pub walk_ends : (S : VarName → Option Tree) (all rest new : List (Tree × Tree)) (q : Tree × Tree) → all ≡ rest ++ q ∷ [] → Opens S q.0 q.1 rest new → head_parts new < head_parts all

@@ -58,8 +58,8 @@ pub use Rattle.ghc_term.specs.declared.view.TermView.TheVariants.{Atom, Int, Str
 pub use Rattle.std.proofs.Common.{Bool, FitsSigned, IfOk, IsTrue, List, MatchOption, None, Option, Some, [], ap, append-nil, append_assoc, arith, codes, cond, drop, false, get_or, inl, inr, int_div, int_rem, length, map, nat_eq, not, option_copied, pos, refl, reverse, rules, slice_get, slice_index_or, slice_set, subst, suc, sym, take, true, zero, ℕ, ℤ, ◌*ℤ◌, ◌++◌, ◌+ℤ◌, ◌+◌, ◌-ℤ◌, ◌-◌, ◌<◌, ◌↔◌, ◌∙◌, ◌∷◌, ◌≡◌, ◌≢◌, ◌≤◌, ◌⊎◌}
 pub use Rattle.std.proofs.Math.Decide.{ℕ_discrete}
 pub use Rattle.std.proofs.Math.IntN.{ℤ_discrete}
-pub use Rattle.std.proofs.lemmas.Bool.{or_cases, or_left, or_right}
-pub use Rattle.std.proofs.lemmas.Bool.Decides.{nat_tests}
+pub use Rattle.std.proofs.lemmas.Bool.{eq-eqb, eqb-true, or_cases, or_left, or_right}
+pub use Rattle.std.proofs.lemmas.Grind.{common_steps}
 pub use Rattle.std.proofs.lemmas.Int.{SFits-int_wrap, by_lt_z, int_wrap_fits, to_z-of_z}
 pub use Rattle.std.proofs.lemmas.List.{reverse-append, take_all, take_more}
 pub use Rattle.std.proofs.lemmas.Option.{slice_get-get_or}

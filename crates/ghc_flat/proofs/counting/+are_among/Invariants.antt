@@ -5,6 +5,3 @@ use Rattle.ghc_flat.proofs.counting.+are_among.Given as goal
 abbrev pub invariant-loop-term : goal.invariant-loop-term
 invariant-loop-term l =
     (depth_of l.part ≤ depth_of l.fn.expression) × (AreAmong l.count (leaf_variables l.part) ↔ AreAmong l.count (leaf_variables l.fn.expression))
-
-abbrev pub decreases-loop-term : goal.decreases-loop-term
-decreases-loop-term l = depth_of l.part

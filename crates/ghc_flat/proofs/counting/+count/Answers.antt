@@ -1,14 +1,12 @@
-use Rattle.ghc_flat.proofs.Words.{◌≡◌, ◌<◌, ◌++◌, ◌∙◌, ap, sym, subst, arith, take, Ok, Err, MatchOption-at_some, err_from_is_err_and, trees, height, height_of_all, height_item, height_last, height_front, variables, variables_of_list, CountsTo}
+use Rattle.ghc_flat.proofs.Words.{◌≡◌, ◌++◌, ◌∙◌, ap, sym, subst, arith, take, Ok, Err, MatchOption-at_some, err_from_is_err_and, trees, height, height_of_all, height_item, height_last, height_front, variables, variables_of_list, CountsTo}
 use Rattle.ghc_flat.proofs.Counts.{counts_none, counts_append, counts_stop, node_variables, list_next, list_rest}
 use Rattle.ghc_flat.proofs.counting.+count.Goals as goal
 
 pub count_term-returns-in-Int : goal.count_term-returns-in-Int
-count_term-returns-in-Int t c =
-    c.loop-x.invariant.1 (Ok c.loop-x.last) (subst (λ u. CountsTo (variables u) c.loop-x.last (Ok c.loop-x.last)) c.in-Int.ensures.shown (counts_none c.loop-x.last))
+count_term-returns-in-Int t c = c.loop-x.invariant.1 (Ok c.loop-x.last) (rw (← c.in-Int.ensures.shown) (counts_none c.loop-x.last))
 
 pub count_term-returns-in-Atom : goal.count_term-returns-in-Atom
-count_term-returns-in-Atom t c =
-    c.loop-x.invariant.1 (Ok c.loop-x.last) (subst (λ u. CountsTo (variables u) c.loop-x.last (Ok c.loop-x.last)) c.in-Atom.ensures.shown (counts_none c.loop-x.last))
+count_term-returns-in-Atom t c = c.loop-x.invariant.1 (Ok c.loop-x.last) (rw (← c.in-Atom.ensures.shown) (counts_none c.loop-x.last))
 
 pub count_term-count_terms-requires : goal.count_term-count_terms-requires
 count_term-count_terms-requires t c =
@@ -30,10 +28,7 @@ count_term-returns-in_err-last-in-Struct t c =
 pub count_term-loop-x-smaller : goal.count_term-loop-x-smaller
 count_term-loop-x-smaller t c =
     let split = (MatchOption-at_some _ _ c.unwrap.result c.unwrap.ensures c.split_last.ensures.cases).0 in
-    let at : height_of_all (trees c.in-Struct.arguments.now) ≡ height c.loop-x.part.now = ap height c.in-Struct.ensures.shown in
-    let same = ap (λ l. height_of_all (trees l)) split in
-    let less : height c.unwrap.result.0.now < height c.loop-x.part.now = omega (arith, height_last c.unwrap.result.1.now c.unwrap.result.0.now, at, same) in
-    less
+    omega (arith, height_last c.unwrap.result.1.now c.unwrap.result.0.now, ap height c.in-Struct.ensures.shown, ap (λ l. height_of_all (trees l)) split)
 
 pub count_term-loop-x-preserved : goal.count_term-loop-x-preserved
 count_term-loop-x-preserved t c =

@@ -1,17 +1,16 @@
-use Rattle.ghc_flat.proofs.Words.{◌∙◌, [], ◌∷◌, ◌++◌, sym, subst, append-nil, length, refl, inr, YieldsList-from_vec, YieldsList-turn, option_to_list, In, Test, variables_of_test, MakeTests, AreAmong, MakesAmong, in_place}
+use Rattle.ghc_flat.proofs.Words.{◌∙◌, [], ◌∷◌, append-nil, length, refl, inr, YieldsList-from_vec, YieldsList-turn, in_place}
 use Rattle.ghc_flat.proofs.Tests.{tests_more}
 use Rattle.ghc_flat.proofs.guards.tests_of_guards.Goals as goal
 
 pub loop-guard-preserved-in-Continue-1 : goal.loop-guard-preserved-in-Continue-1
 loop-guard-preserved-in-Continue-1 c =
-    let pushed = c.in_ok-push-in-Ok-Some.ensures.items in
-    subst (λ ts. MakeTests (c.loop-guard.yielded ++ c.in-Some.guard ∷ []) ts × ((t : Test) → In t ts → AreAmong c.args.count (variables_of_test t))) (sym pushed)
-    (tests_more c.args.count c.loop-guard.yielded c.in-Some.guard c.loop-guard.tests.items (c.in-Ok-Some.test ∷ []) c.loop-guard.invariant (subst (λ o. MakesAmong c.args.count c.in-Some.guard (option_to_list o)) c.in-Ok-Some.field-0-is c.in-Ok-Some.ensures))
+    let made = rw c.in-Ok-Some.field-0-is at c.in-Ok-Some.ensures in
+    rw c.in_ok-push-in-Ok-Some.ensures.items (tests_more c.args.count _ _ _ (c.in-Ok-Some.test ∷ []) c.loop-guard.invariant made)
 
 pub loop-guard-preserved : goal.loop-guard-preserved
 loop-guard-preserved c =
-    subst (λ ts. MakeTests (c.loop-guard.yielded ++ c.in-Some.guard ∷ []) ts × ((t : Test) → In t ts → AreAmong c.args.count (variables_of_test t))) (append-nil c.loop-guard.tests.items)
-    (tests_more c.args.count c.loop-guard.yielded c.in-Some.guard c.loop-guard.tests.items [] c.loop-guard.invariant (subst (λ o. MakesAmong c.args.count c.in-Some.guard (option_to_list o)) c.in-Ok-None.field-0-is c.in-Ok-None.ensures))
+    let made = rw c.in-Ok-None.field-0-is at c.in-Ok-None.ensures in
+    rw append-nil at (tests_more c.args.count c.loop-guard.yielded c.in-Some.guard c.loop-guard.tests.items [] c.loop-guard.invariant made)
 
 pub returns-in-Err-clause-refused : goal.returns-in-Err-clause-refused
 returns-in-Err-clause-refused c =

@@ -1,21 +1,16 @@
-use Rattle.ghc_match.proofs.Words.{rules, sym, ◌∙◌, subst, to_z-of_z, integer, leaf, Number, of_integer, of_variable, EndsAt}
+use Rattle.ghc_match.proofs.Words.{rules, ◌∙◌, to_z-of_z, integer, of_integer, of_variable, EndsAt}
 use mir.Val.{SFits}
 use mir.Syntax.{w64}
 use Rattle.ghc_match.proofs.EndsLemmas.{once_at, no_value, shown_no_integer, leaf_number}
 use Rattle.ghc_match.proofs.number.integer_at.Goals as goal
 
 pub returns-in-Int : goal.returns-in-Int
-returns-in-Int c =
-    let E = EndsAt c.args.scope c.args.store.now.held in
-    let fits : SFits w64 c.in-Int.k = search rules in
-    subst (Number E (leaf c.args.term.now)) (sym (to_z-of_z w64 c.in-Int.k fits)) (subst (λ t. Number E (leaf t) c.in-Int.k) c.in-Int.ensures.shown of_integer)
+returns-in-Int c = let fits : SFits w64 c.in-Int.k = search rules in rw (to_z-of_z w64 c.in-Int.k fits, ← c.in-Int.ensures.shown) of_integer
 
 pub returns-in-Int-view : goal.returns-in-Int-view
 returns-in-Int-view c =
-    let E = EndsAt c.args.scope c.args.store.now.held in
     let fits : SFits w64 c.in-Int-view.k = search rules in
-    subst (Number E (leaf c.args.term.now)) (sym (to_z-of_z w64 c.in-Int-view.k fits))
-    (subst (λ t. Number E (leaf t) c.in-Int-view.k) c.in-Var.ensures.shown (of_variable (subst (E c.in-Var.x) (sym c.in-Int-view.ensures.shown) c.in-Value.ensures.0)))
+    rw (to_z-of_z w64 c.in-Int-view.k fits, ← c.in-Var.ensures.shown) (of_variable (rw (← c.in-Int-view.ensures.shown) at c.in-Value.ensures.0))
 
 pub returns-in_default-view : goal.returns-in_default-view
 returns-in_default-view c k n =
