@@ -1,5 +1,5 @@
 -- An attempt has no other answer than the one that is given.
-use Rattle.ghc_fire.proofs.Words.{◌≡◌, ℕ, sym, ◌∙◌, Some, Option, Fault, GoalName, IsAcyclic, Goal, StoreValue, value_at, exact, Program, Act, Effect, Goals, Proposal, Answer, proposes, refused, AttemptsAt, IsProposed, AttemptIsExact}
+use Rattle.ghc_fire.proofs.Words.{◌≡◌, ℕ, sym, ◌∙◌, Option, Fault, GoalName, IsAcyclic, StoreValue, value_at, exact, Program, Act, Effect, Goals, Proposal, Answer, proposes, refused, AttemptsAt, IsProposed, AttemptIsExact}
 use Rattle.std.specs.FinMap as finite
 use Rattle.ghc_fire.proofs.Tries.{attempt_once}
 
@@ -12,9 +12,6 @@ same_effect p = cc
 pub same_fault : {f g : Fault} → refused f ≡ refused g → f ≡ g
 same_fault p = cc
 
-same_goal : {b c : Goal} → Some b ≡ Some c → b ≡ c
-same_goal p = cc
-
 pub apart : {a : Act} {e : Effect} {f : Fault} → ¬ (proposes a e ≡ refused f)
 apart p = cc
 
@@ -25,7 +22,7 @@ module _ (P : Program) (G : Goals) (s : StoreValue) (g : GoalName) (choice : Opt
   one_proposal : (p q : Proposal) → IsProposed P G s g choice p → IsProposed P G s g choice q → p ≡ q
   one_proposal p q h k =
       let names : p.goal ≡ q.goal = h.named ∙ sym k.named in
-      let goals : p.consumed ≡ q.consumed = same_goal (sym h.there ∙ k.there) in
+      let goals : p.consumed ≡ q.consumed = cc in
       let answers = once (proposes p.act p.effect) (proposes q.act q.effect) h.proposed k.proposed in
       let acts : p.act ≡ q.act = same_act answers in
       let effects : p.effect ≡ q.effect = same_effect answers in

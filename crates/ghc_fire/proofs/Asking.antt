@@ -4,6 +4,7 @@ use Rattle.std.specs.FinMap as finite
 use Rattle.std.specs.FinSet as set
 use Rattle.ghc_fire.proofs.EachOnce.{map_in, firsts_in, renamed_firsts, firsts_twice, filtered_firsts, made_firsts}
 use Rattle.ghc_fire.proofs.Renamed.{in_goals}
+use Rattle.ghc_fire.proofs.Steps.{same_effect}
 use Rattle.ghc_fire.proofs.Under.{goals_twice}
 use Rattle.ghc_fire.proofs.Replaced.{by, goals_renamed, kept_plain, call_replaced, same_goals}
 
@@ -220,8 +221,4 @@ many n i (suc k) (suc l) e = ap suc (many n (i + 1) k l (let rest : made_from n 
 -- A step that asks for goals has one effect.
 pub asks_once : (P : Program) (gs : List Goal) (n : ℕ) (e f : Effect) → Asks P gs n e → Asks P gs n f → e ≡ f
 asks_once P gs n e f p q =
-    let reads : e.reads ≡ f.reads = p.reads ∙ sym q.reads in
-    let binds : e.binds ≡ f.binds = p.binds ∙ sym q.binds in
-    let makes : e.makes ≡ f.makes = p.makes ∙ sym q.makes in
-    let fresh : e.fresh ≡ f.fresh = many n 1 e.fresh f.fresh (sym p.own ∙ q.own) in
-    λ i. record { reads = reads i; binds = binds i; makes = makes i; fresh = fresh i }
+    same_effect e f (p.reads ∙ sym q.reads) (p.binds ∙ sym q.binds) (p.makes ∙ sym q.makes) (many n 1 e.fresh f.fresh (sym p.own ∙ q.own))

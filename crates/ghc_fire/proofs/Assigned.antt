@@ -1,23 +1,17 @@
 -- Why a unification is refused; what an assignment does, or why it is refused, by the value of its expression.
-use Rattle.ghc_fire.proofs.Words.{◌≡◌, ℤ, [], inl, inr, ◌⊎◌, Option, VarName, Fault, Memory, Waits, Tree, integer, Expression, Variables, Program, EndsIn, Number, waits, HasValue, Gains, Unifies, UnifyFails, clashes, cycles, Effect, IsOnChainsOf, Assigns, refused, UnificationAnswers, AssignmentAnswers}
+use Rattle.ghc_fire.proofs.Words.{◌≡◌, ℤ, [], inl, inr, ◌⊎◌, Option, VarName, Fault, Memory, Tree, integer, Expression, Variables, Program, EndsIn, Number, Gains, Unifies, UnifyFails, clashes, cycles, Effect, IsOnChainsOf, Assigns, refused, UnificationAnswers, AssignmentAnswers}
 use Rattle.ghc_fire.proofs.EachAnswer.{no_cycle}
 
 -- a unification that is not solved
-failed : (S : VarName → Option Tree) (l r : Tree) (f : Fault) (P : Program) → UnifyFails S l r f → UnificationAnswers P l r S (refused f)
-failed S l r f P (clashes c) = UnificationAnswers.clashes c
-failed S l r f P (cycles c) = UnificationAnswers.cycles c
-
 pub not_solved : (S : VarName → Option Tree) (l r : Tree) (f : Fault) → (f ≡ Memory) ⊎ UnifyFails S l r f → (f ≡ Memory) ⊎ ((P : Program) → UnificationAnswers P l r S (refused f))
 not_solved S l r f (inl e) = inl e
-not_solved S l r f (inr why) = inr (λ P. failed S l r f P why)
+not_solved S l r f (inr (clashes c)) = inr (λ P. UnificationAnswers.clashes c)
+not_solved S l r f (inr (cycles c)) = inr (λ P. UnificationAnswers.cycles c)
 
 module _ (S : VarName → Option Tree) (t : Tree) (b : Expression) where
   -- the fault is want of memory, or the answer to the assignment
   abbrev pub IsAnswer : Fault → Type 0
   IsAnswer f = (f ≡ Memory) ⊎ ((P : Program) → AssignmentAnswers P t b S (refused f))
-
-  pub waiting : (xs : Variables) → HasValue S b (waits xs) → IsAnswer Waits
-  waiting xs w = inr (λ P. AssignmentAnswers.waits xs w)
 
   module _ (v : ℤ) (worth : Number (EndsIn S) b v) where
     -- the unification with the value is refused

@@ -73,10 +73,6 @@ module _ (P : Program) (f : List ℕ) (ts : List Tree) (S : VarName → Option T
       ((c, ic, is, v.0), λ j d less id for a. n.none j d (lower_before ks numbers.increasing i k j l at less ((numbers.«exactly» j).1 (d, id, for.0, for.1))) id a)
       (v.1 P f k ic is)
 
-  -- a clause that is chosen reduces the call
-  pub chosen_reduces : (m k : ℕ) (c : Clause) (e : Effect) → IsClause P k c → IsFor f ts c → HasVerdict m c ts S (verdict.Reduces e) → ChoiceAnswers m P f ts k S (proposes (by_clause k) e)
-  chosen_reduces m k c e ic is v = ChoiceAnswers.by_choice (v.1 P f k ic is)
-
 -- where a clause has the number chosen and is for the call, the answer is not that there is none
 pub has_clause : (P : Program) (f : List ℕ) (ts : List Tree) (S : VarName → Option Tree) (k : ℕ) (c : Clause) → IsClause P k c → IsFor f ts c → ¬ ChoiceAnswers no_step P f ts k S (refused NoClause)
 has_clause P f ts S k c ic is (ChoiceAnswers.no_clause none) = none c ic is

@@ -1,5 +1,5 @@
 -- Each attempt has an answer in an acyclic finite store.
-use Rattle.ghc_fire.proofs.Words.{◌≡◌, ℕ, ◌<◌, suc, zero, ℤ, List, [], ◌∷◌, ◌++◌, length, refl, ap, ◌∙◌, subst, inl, inr, ◌⊎◌, arith, Option, Some, None, slice_get_within, VarName, Tree, integer, Expression, call, unify, assign, stream, Leads, at_integer, Reaches, here, through, IsAcyclic, StoreValue, value_at, leads_once, Decided, in_at, Clause, Program, IsClause, IsFor, IsProgram, Value, number, waits as waits_on, bad, HasValue, Accepts, WaitsFor, Outcome, refuses, accepts, HasOutcome, each_outcome, each_value, refuses_waits, accepts_refuses, accepts_waits, Meets, integers, nodes, Move, shared, left, right, both, Moves, stay, go, IsCycle, Cycles, Ending, solved, clash, cycle, HasEnding, each_ending, NoGoal, NoClause, Waits, NoMatch, Clash, Cycle, Arithmetic, ByClause as by_clause, Unified as unified, Assigned as assigned, Effect, HasEffect, no_step, Answer, proposes, refused, SomeAccepts, CallAnswers, ChoiceAnswers, UnificationAnswers, AssignmentAnswers, EachAttemptHasAnAnswer}
+use Rattle.ghc_fire.proofs.Words.{◌≡◌, ℕ, ◌<◌, suc, zero, ℤ, List, [], ◌∷◌, ◌++◌, length, refl, ap, ◌∙◌, subst, inl, inr, ◌⊎◌, arith, Option, Some, None, slice_get_within, VarName, Tree, integer, Expression, call, unify, assign, Leads, at_integer, IsAcyclic, StoreValue, value_at, leads_once, Decided, in_at, Clause, Program, IsClause, IsFor, IsProgram, Value, number, waits as waits_on, bad, HasValue, Accepts, WaitsFor, Outcome, refuses, accepts, HasOutcome, each_outcome, each_value, refuses_waits, accepts_refuses, accepts_waits, Meets, integers, nodes, Move, shared, both, Moves, stay, go, IsCycle, Cycles, Ending, solved, clash, cycle, HasEnding, each_ending, NoGoal, NoClause, Waits, NoMatch, Clash, Cycle, Arithmetic, ByClause as by_clause, Unified as unified, Assigned as assigned, Effect, HasEffect, no_step, Answer, proposes, refused, SomeAccepts, CallAnswers, ChoiceAnswers, UnificationAnswers, AssignmentAnswers, EachAttemptHasAnAnswer, from_integer}
 use Rattle.ghc_match.specs.Match.{waits}
 use Rattle.ghc_fire.proofs.EachEffect.{clause_decided, reduced, united, made_equal}
 use Rattle.ghc_fire.proofs.Steps.{clause_once}
@@ -24,9 +24,6 @@ second v (e ∷ es) = e.1
 
 -- an equation with an integer never comes to a cycle
 nothing_after : {S T U : VarName → Option Tree} {es fs : List (Tree × Tree)} {bs : List (VarName × Tree)} {rs : List VarName} (t : Tree) (v : ℤ) → Move S T es U fs bs rs → es ≡ (t, integer v) ∷ [] → fs ≡ []
-nothing_after t v (shared {es = es} p q first) e = let rest : es ≡ [] = cc in rest
-nothing_after t v (left {es = es} p n o) e = let rest : es ≡ [] = cc in rest
-nothing_after t v (right {es = es} p w q n o) e = let rest : es ≡ [] = cc in rest
 nothing_after {T = T} t v (both {r = r} {f = f} {b = b} {es = es} {new = new} p q apart m) e =
     let rest : es ≡ [] = cc in
     let side : r ≡ integer v = ap (second v) e in
@@ -38,6 +35,7 @@ nothing_after {T = T} t v (both {r = r} {f = f} {b = b} {es = es} {new = new} p 
     alone : {e x : Tree} {gs : List (Tree × Tree)} → Meets e x gs → x ≡ integer v → gs ++ [] ≡ []
     alone integers same = refl
     alone (nodes ps) same = cc
+nothing_after t v _ e = cc
 
 nothing_left : {S T U : VarName → Option Tree} {es fs : List (Tree × Tree)} {bs : List (VarName × Tree)} {rs : List VarName} → Moves S T es U fs bs rs → es ≡ [] → fs ≡ []
 nothing_left stay e = e
@@ -45,17 +43,11 @@ nothing_left (go m ms) e = absurd (no_move m e)
   where
     no_move : {S T U : VarName → Option Tree} {es fs : List (Tree × Tree)} {bs : List (VarName × Tree)} {rs : List VarName} → Move S T es U fs bs rs → ¬ (es ≡ [])
     no_move (shared p q first) e = cc
-    no_move (left p n o) e = cc
-    no_move (right p w q n o) e = cc
-    no_move (both p q apart m) e = cc
+    no_move _ e = cc
 
 first_or_none : {S T U : VarName → Option Tree} {es fs : List (Tree × Tree)} {bs : List (VarName × Tree)} {rs : List VarName} (t : Tree) (v : ℤ) → Moves S T es U fs bs rs → es ≡ (t, integer v) ∷ [] → (fs ≡ (t, integer v) ∷ []) ⊎ (fs ≡ [])
 first_or_none t v stay e = inl e
 first_or_none t v (go m ms) e = inr (nothing_left ms (nothing_after t v m e))
-
-no_variable : {T : VarName → Option Tree} {v : ℤ} {x : VarName} → ¬ Reaches T (integer v) x
-no_variable (here o) = o
-no_variable (through o e r) = o
 
 -- an integer on the right side of an equation never makes a cycle
 pub no_cycle : (S : VarName → Option Tree) (t : Tree) (v : ℤ) → ¬ Cycles S t (integer v)
@@ -64,7 +56,7 @@ no_cycle S t v c = elim (first_or_none t v c.6 refl) [
   | inl e ↦ let side : c.2 ≡ integer v = ap (second v) e in at (subst (IsCycle c.0 c.1) side c.7)
 ] where
   at : ¬ IsCycle c.0 c.1 (integer v)
-  at (inl h) = no_variable h.5
+  at (inl h) = from_integer h.5
   at (inr h) = elim h.6 [ ]
 
 module _ (P : Program) (accepted : IsProgram P) (s : StoreValue) (acyclic : IsAcyclic (value_at s)) where
@@ -92,21 +84,14 @@ module _ (P : Program) (accepted : IsProgram P) (s : StoreValue) (acyclic : IsAc
     waits_decided c (waits xs) h = inl h.1
     waits_decided c (accepts theta reads) h = inr (λ w. accepts_waits c ts S h.0 w.0 w.1)
 
-    accepts_at : (k : ℕ) → Decided (AcceptsAt k)
-    accepts_at k = elim (clause_decided P f ts k) [
+    -- clause k is for the call, and Q holds of it, where each outcome decides that
+    such_clause : (Q : Clause → Type 0) → ((c : Clause) (o : Outcome) → HasOutcome c ts S o → Decided (Q c)) → (k : ℕ)
+        → Decided ((c : Clause) × IsClause P k c × IsFor f ts c × Q c)
+    such_clause Q decided k = elim (clause_decided P f ts k) [
       | inr none ↦ inr (λ a. none (a.0, a.1, a.2))
-      | inl c ↦ let o = outcome c.0 ts k c.1 in elim (accepts_decided c.0 o.0 o.1) [
-        | inl a ↦ inl (c.0, c.1, c.2, a)
-        | inr n ↦ inr (λ a. n (subst (λ d. Accepts d ts S) (clause_once P a.1 c.1) a.3))
-      ]
-    ]
-
-    waits_at : (k : ℕ) → Decided (WaitsAt k)
-    waits_at k = elim (clause_decided P f ts k) [
-      | inr none ↦ inr (λ a. none (a.0, a.1, a.2))
-      | inl c ↦ let o = outcome c.0 ts k c.1 in elim (waits_decided c.0 o.0 o.1) [
-        | inl w ↦ inl (c.0, c.1, c.2, w)
-        | inr n ↦ inr (λ a. n (subst (λ d. (x : VarName) × WaitsFor d ts S x) (clause_once P a.1 c.1) a.3))
+      | inl c ↦ let o = outcome c.0 ts k c.1 in elim (decided c.0 o.0 o.1) [
+        | inl q ↦ inl (c.0, c.1, c.2, q)
+        | inr n ↦ inr (λ a. n (subst Q (clause_once P a.1 c.1) a.3))
       ]
     ]
 
@@ -122,14 +107,14 @@ module _ (P : Program) (accepted : IsProgram P) (s : StoreValue) (acyclic : IsAc
       by (accepts theta reads) h = reduced P no_step s acyclic f ts k c theta reads ic is h
 
     call_answer : (a : Answer) × CallAnswers no_step P f ts S a
-    call_answer = elim (least AcceptsAt accepts_at (suc (length P))) [
+    call_answer = elim (least AcceptsAt (such_clause (λ c. Accepts c ts S) accepts_decided) (suc (length P))) [
       | inl k ↦
           let c = k.1 in
           let e = fires k.0 c.0 c.1 c.2 c.3 in
           (proposes (by_clause k.0) e.0, CallAnswers.by_least (k.1, λ j d l ic is a. k.2 j l (d, ic, is, a)) e.1)
       | inr none ↦
           let nobody : ¬ SomeAccepts P f ts S = λ a. none a.0 (in_program a.0 a.1 a.2) (a.1, a.2, a.3, a.4) in
-          elim (least WaitsAt waits_at (suc (length P))) [
+          elim (least WaitsAt (such_clause (λ c. (x : VarName) × WaitsFor c ts S x) waits_decided) (suc (length P))) [
             | inl k ↦ let c = k.1 in (refused Waits, CallAnswers.waits nobody (k.0, c.0, c.1, c.2, c.3.1))
             | inr idle ↦ (refused NoMatch, CallAnswers.no_match nobody (λ x w. idle w.0 (in_program w.0 w.1 w.2) (w.1, w.2, w.3, (x, w.4))))
           ]
@@ -165,11 +150,10 @@ module _ (P : Program) (accepted : IsProgram P) (s : StoreValue) (acyclic : IsAc
     by bad w = (refused Arithmetic, AssignmentAnswers.has_no_value w)
 
 pub each_answer : EachAttemptHasAnAnswer
-each_answer P s None choice accepted acyclic = (refused NoGoal, refl)
-each_answer P s (Some (stream k y)) choice accepted acyclic = (refused NoGoal, refl)
 each_answer P s (Some (call f ts)) None accepted acyclic = call_answer P accepted s acyclic f ts
 each_answer P s (Some (call f ts)) (Some k) accepted acyclic = choice_answer P accepted s acyclic f ts k
 each_answer P s (Some (unify l r)) None accepted acyclic = unification_answer P accepted s acyclic l r
 each_answer P s (Some (unify l r)) (Some k) accepted acyclic = (refused NoClause, refl)
 each_answer P s (Some (assign t b)) None accepted acyclic = assignment_answer P accepted s acyclic t b
 each_answer P s (Some (assign t b)) (Some k) accepted acyclic = (refused NoClause, refl)
+each_answer P s _ choice accepted acyclic = (refused NoGoal, refl)

@@ -1,8 +1,7 @@
 -- Each act on a goal has an effect in an acyclic finite store, or has none.
-use Rattle.ghc_fire.proofs.Words.{◌≡◌, ℕ, suc, zero, ℤ, List, [], ◌∷◌, length, refl, sym, ◌∙◌, subst, inl, inr, ◌⊎◌, arith, Option, Some, None, slice_get, coded_list, coded_ℕ, VarName, Tree, variable, integer, node, Trees, none as no_tree, more, nil, cons, Occurs, OccursIn, Expression, call, unify, assign, stream, In, Variables, Leads, Comes, IsAcyclic, StoreValue, value_at, leads_once, Decided, nat_decided, same_decided, in_at, chain, Clause, Program, IsClause, IsFor, IsProgram, leaf_variables, fresh_variables, EndsIn, Number, Value, number, waits as waits_on, bad, HasValue, Outcome, refuses, accepts, HasOutcome, each_outcome, each_value, Listing, restated, itself, over, outcomes_exclude, either_set, listed_set, own_set, number_once, number_waits_not, ends_once, Unifies, Ending, solved, clash, cycle, HasEnding, each_ending, left_end, ends, one_ending, ByClause as by_clause, Unified as unified, Assigned as assigned, Given as given, Closed as closed, made, body_made, Effect, IsOnChainsOf, Reduces, Unites, Assigns, Feeds, Closes, HasEffect, effect_code, EachActHasAnEffectOrNone, EachEffectIsDecided}
+use Rattle.ghc_fire.proofs.Words.{◌≡◌, ℕ, suc, zero, ℤ, List, [], ◌∷◌, length, refl, sym, ◌∙◌, subst, inl, inr, ◌⊎◌, arith, Option, Some, None, slice_get, coded_list, coded_ℕ, VarName, Tree, variable, integer, node, Trees, none as no_tree, more, nil, cons, Occurs, OccursIn, Expression, call, unify, assign, stream, In, Variables, Leads, Comes, IsAcyclic, StoreValue, value_at, leads_once, Decided, nat_decided, same_decided, in_at, chain, Clause, Program, IsClause, IsFor, IsProgram, leaf_variables, fresh_variables, EndsIn, Number, Value, number, waits as waits_on, bad, HasValue, Outcome, accepts, HasOutcome, each_outcome, each_value, Listing, restated, itself, over, outcomes_exclude, either_set, listed_set, own_set, number_once, number_waits_not, ends_once, Unifies, Ending, solved, HasEnding, each_ending, left_end, ends, one_ending, ByClause as by_clause, Unified as unified, Assigned as assigned, Given as given, Closed as closed, made, body_made, Effect, IsOnChainsOf, Reduces, Unites, Assigns, Feeds, Closes, HasEffect, effect_code, EachActHasAnEffectOrNone, EachEffectIsDecided}
 use Rattle.std.specs.FinMap as finite
 use Rattle.std.specs.FinSet as set
-use Rattle.ghc_match.specs.Match.{waits}
 use Rattle.ghc_fire.proofs.Steps.{clause_once, effect_once}
 
 -- something has P, or nothing has it
@@ -63,9 +62,8 @@ module _ (P : Program) (n : ℕ) (s : StoreValue) (acyclic : IsAcyclic (value_at
     other c o ic h differs e r = differs r.1 e.reads (outcomes_exclude c ts S o (accepts r.1 e.reads) h (subst (λ d. HasOutcome d ts S (accepts r.1 e.reads)) (clause_once P r.2 ic) r.4))
 
     by : (c : Clause) → IsClause P k c → IsFor f ts c → (o : Outcome) → HasOutcome c ts S o → SomeOrNone (Reduces P f ts k n S)
-    by c ic is refuses h = inr (other c refuses ic h (λ t r e. cc))
-    by c ic is (waits xs) h = inr (other c (waits xs) ic h (λ t r e. cc))
     by c ic is (accepts theta reads) h = inl (reduced f ts k c theta reads ic is h)
+    by c ic is o h = inr (other c o ic h (λ t r e. cc))
 
   pub united : (l r : Tree) (binds : StoreValue) (reads : Variables) → Unifies S l r binds reads → (e : Effect) × Unites l r S e
   united l r binds reads u = (record { reads = reads; binds = binds; makes = []; fresh = 0 }, (u, refl, refl))
@@ -77,8 +75,7 @@ module _ (P : Program) (n : ℕ) (s : StoreValue) (acyclic : IsAcyclic (value_at
 
     by : (o : Ending) → HasEnding S l r o → SomeOrNone (Unites l r S)
     by (solved binds reads) h = inl (united l r binds reads h)
-    by clash h = inr (other clash h (λ b q e. cc))
-    by cycle h = inr (other cycle h (λ b q e. cc))
+    by o h = inr (other o h (λ b q e. cc))
 
   -- the variables on the chains of an expression
   on_chains : (a : Expression) → Listing (IsOnChainsOf S a)
@@ -100,8 +97,7 @@ module _ (P : Program) (n : ℕ) (s : StoreValue) (acyclic : IsAcyclic (value_at
 
     with_value : (v : ℤ) → Number (EndsIn S) a v → (o : Ending) → HasEnding S t (integer v) o → SomeOrNone (Assigns t a S)
     with_value v k (solved binds rest) h = inl (made_equal t a v binds rest k h)
-    with_value v k clash h = inr (other v k clash h (λ b q e. cc))
-    with_value v k cycle h = inr (other v k cycle h (λ b q e. cc))
+    with_value v k o h = inr (other v k o h (λ b q e. cc))
 
     by : (v : Value) → HasValue S a v → SomeOrNone (Assigns t a S)
     by (number v) k = let e = each_ending s t (integer v) acyclic in with_value v k e.0 e.1
@@ -116,8 +112,7 @@ module _ (P : Program) (n : ℕ) (s : StoreValue) (acyclic : IsAcyclic (value_at
 
     at : {xs : List VarName} (e : Tree) → Leads S (variable y) xs e → Decided ((x : VarName) × (ys : List VarName) × Comes S (variable y) ys x × (S x ≡ None))
     at (variable x) l = let c = left_end l in inl (x, c.0, c.2, c.3)
-    at (integer k) l = inr (bound (integer k) l (λ x e. cc))
-    at (node f us) l = inr (bound (node f us) l (λ x e. cc))
+    at e l = inr (bound e l (λ x q. cc))
 
   of_input : (k : ℕ) (y : VarName) (u : Tree) → SomeOrNone (Feeds k y u n S)
   of_input k y u = elim (open_or_closed u) [

@@ -23,10 +23,6 @@ firsts_in seen (x ∷ xs) y i =
 not_seen : (x : VarName) (seen : List VarName) → ¬ In x seen → is_seen x seen ≡ false
 not_seen x seen n = elim (is_seen x seen) as (λ b. is_seen x seen ≡ b → b ≡ false) [ true ↦ λ p. absurd (n (any_in x seen p)) | false ↦ λ p. refl ] refl
 
--- No two of the variables become one.
-abbrev pub StayApart : (VarName → VarName) → List VarName → Type 0
-StayApart f xs = (x y : VarName) → In x xs → In y xs → f x ≡ f y → x ≡ y
-
 module _ (f : VarName → VarName) where
   seen_renamed : (x : VarName) (seen : List VarName) → ((y : VarName) → In y seen → f x ≡ f y → x ≡ y) → is_seen (f x) (map f seen) ≡ is_seen x seen
   seen_renamed x seen h = elim (is_seen x seen) as (λ b. is_seen x seen ≡ b → is_seen (f x) (map f seen) ≡ b) [

@@ -1,8 +1,9 @@
 -- The facts, step by step.
-use Rattle.ghc_fire.proofs.Words.{◌≡◌, ℕ, cond, pos, List, [], ◌∷◌, map, refl, sym, ap, ◌∙◌, inl, inr, arith, Option, Some, None, unwrap_or, eq_by_cmp, VarName, Tree, variable, integer, nil, cons, at_node, along, Reaches, here, through, now, on, name_cmp, name_total, name_antisymmetric, Clause, fresh_variables, asked, v, store, append_nothing, append_cell, HasOutcome, accepts, accepts_by, stands_at, stands_value, value_not, left, stay, go, ends, replace_in_goal, made, place_in, body_made, list_1, list_2, partial_list, AppendRun, InputAndClose, InputReadsAlias, BoundTailTakesNothing}
+use Rattle.ghc_fire.proofs.Words.{◌≡◌, ℕ, cond, pos, List, [], ◌∷◌, map, refl, sym, ap, ◌∙◌, inl, inr, arith, Option, Some, unwrap_or, eq_by_cmp, VarName, Tree, variable, integer, nil, at_node, along, Reaches, now, on, name_cmp, name_total, name_antisymmetric, Clause, fresh_variables, asked, v, store, append_nothing, append_cell, HasOutcome, accepts, accepts_by, stands_at, stands_value, value_not, left, stay, go, ends, replace_in_goal, made, place_in, body_made, list_1, list_2, partial_list, AppendRun, InputAndClose, InputReadsAlias, BoundTailTakesNothing}
 use Rattle.std.specs.FinMap as finite
 use Rattle.std.specs.FinSet as set
 use Rattle.ghc_match.specs.Position as position
+use Rattle.ghc_fire.proofs.Steps.{given_open, closed_reaches}
 
 no_entry : finite.from_entries {R = name_cmp} [] ≡ finite.empty {X = Tree}
 no_entry = finite.same_map name_total name_antisymmetric _ _ (λ q. finite.get-from_entries name_total [] q ∙ sym (finite.get-empty name_cmp q))
@@ -57,21 +58,14 @@ nothing_accepts = accepts_by append_nothing rest after_one nothing_entries []
 apart : {x y : VarName} → ¬ (x.step ≡ y.step) → ¬ (x ≡ y)
 apart n e = n (λ i. (e i).step)
 
--- a cell of an integer and an unbound variable reaches that variable alone
-from_cell : {S : VarName → Option Tree} {x y : VarName} → S y ≡ None → ¬ (x ≡ y) → ¬ Reaches S (cons (integer (pos 1)) (variable y)) x
-from_cell n d (here o) = elim o [ inl i ↦ i | inr j ↦ elim j [ inl e ↦ d e | inr k ↦ k ] ]
-from_cell {S = S} n d (through {u = u} o e r) =
-    elim o [ inl i ↦ i | inr j ↦ elim j [ inl p ↦ let clash : None ≡ Some u = sym n ∙ ap S (sym p) ∙ e in cc | inr k ↦ k ] ]
-
 -- a closed list reaches nothing
 from_list_2 : {S : VarName → Option Tree} {x : VarName} → ¬ Reaches S list_2 x
-from_list_2 (here o) = elim o [ inl i ↦ i | inr j ↦ elim j [ inl e ↦ e | inr k ↦ k ] ]
-from_list_2 (through o e r) = elim o [ inl i ↦ i | inr j ↦ elim j [ inl e ↦ e | inr k ↦ k ] ]
+from_list_2 r = closed_reaches (λ x o. elim o [ inl i ↦ i | inr j ↦ elim j [ inl e ↦ e | inr k ↦ k ] ]) r
 
 pub append_run : AppendRun
 append_run = (
   (append_cell, finite.from_entries cell_entries, (1, refl, refl), (refl, refl), cell_accepts, no_entry, sym (body_is append_cell cell_entries 1), refl),
-  (((asked 1, partial_list) ∷ [], [], (_, go (left now refl (from_cell refl (apart (λ e. omega (arith, e))))) stay), refl, refl), refl, refl),
+  (((asked 1, partial_list) ∷ [], [], (_, go (left now refl (given_open _ _ _ _ (λ x o. o) refl (apart (λ e. omega arith)))) stay), refl, refl), refl, refl),
   (append_nothing, finite.from_entries nothing_entries, (0, refl, refl), (refl, refl), nothing_accepts, no_entry, sym (body_is append_nothing nothing_entries 3), refl),
   (((made 1 1, list_2) ∷ [], [], (_, go (left now refl from_list_2) stay), refl, refl), refl, refl),
 )

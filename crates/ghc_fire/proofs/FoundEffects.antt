@@ -29,13 +29,11 @@ module _ (S : VarName → Option Tree) (acyclic : IsAcyclic S) (fault : Fault) (
 -- What is known of a search that finds no effect is weakened.
 pub none_weaker : {E X A B : Type 0} (result : Result (Option X) E) → (A → B) → IfOk result (λ found. IfNone found A) → IfOk result (λ found. IfNone found B)
 none_weaker (Ok None) f h = f h
-none_weaker (Ok (Some x)) f h = tt
-none_weaker (Err e) f h = tt
+none_weaker _ f h = tt
 
 pub none_where : {E X A B : Type 0} (result : Result (Option X) E) → (A → B) → IfOk result (λ found. A) → IfOk result (λ found. IfNone found B)
 none_where (Ok None) f h = f h
-none_where (Ok (Some x)) f h = tt
-none_where (Err e) f h = tt
+none_where _ f h = tt
 
 -- An act that has an effect has another where that is the same.
 pub same_or_not : {E : Type 0} (result : Result Bool E) (P : Program) (g : Goal) (a : Act) (n : ℕ) (S : VarName → Option Tree) (found e : Effect) → IsAcyclic S → HasEffect P g a n S found

@@ -1,35 +1,7 @@
 -- The fresh variables of a clause, and their places.
-use Rattle.ghc_fire.proofs.Words.{◌≡◌, ℕ, ◌+◌, ◌<◌, true, false, cond, List, [], ◌∷◌, length, refl, sym, ap, ◌∙◌, inl, inr, arith, Some, None, slice_get, unwrap_or, nat_lt, find, position_or_len, eq_by_cmp, nat_tests, find_at, slice_get_within, VarName, name_cmp, In, Tree, StoreValue, value_at, Clause, asked, variables_of_list, fresh_variables, place_in, AreBehindHead}
-use Rattle.ghc_term.proofs.Names.{same_name, itself}
+use Rattle.ghc_fire.proofs.Words.{◌≡◌, ℕ, ◌+◌, sym, ap, ◌∙◌, inl, inr, arith, Some, None, slice_get, VarName, In, Tree, StoreValue, value_at, Clause, asked, variables_of_list, fresh_variables, place_in, AreBehindHead}
 use Rattle.ghc_flat.specs.Variables.{variables_of_goals}
-use Rattle.ghc_fire.proofs.Origins.{firsts_have}
-
--- the place of a variable in a list is where it stands
-place_got : (xs : List VarName) (y : VarName) → In y xs → (i : ℕ) × (place_in xs y ≡ i + 1) × (slice_get xs i ≡ Some y)
-place_got xs y i =
-    let n = position_or_len (eq_by_cmp name_cmp y) xs in
-    let got : slice_get xs n ≡ Some y = sym (find_at (eq_by_cmp name_cmp y) xs) ∙ found xs i in
-    (n, passed n (slice_get_within xs n y got), got)
-  where
-    found : (xs : List VarName) → In y xs → find (eq_by_cmp name_cmp y) xs ≡ Some y
-    found [] i = absurd i
-    found (x ∷ xs) i =
-        elim (eq_by_cmp name_cmp y x) as (λ b. eq_by_cmp name_cmp y x ≡ b → cond b (Some x) (find (eq_by_cmp name_cmp y) xs) ≡ Some y) [
-          | true ↦ λ p. ap Some (sym (same_name y x p))
-          | false ↦ λ p. elim i [
-            | inl e ↦
-                let yes : eq_by_cmp name_cmp y x ≡ true = ap (eq_by_cmp name_cmp y) (sym e) ∙ itself y in
-                let clash : true ≡ false = sym yes ∙ p in
-                cc
-            | inr j ↦ found xs j
-          ]
-        ] refl
-
-    passed : (n : ℕ) → n < length xs → unwrap_or (cond (nat_lt n (length xs)) (Some n) None) 0 + 1 ≡ n + 1
-    passed n l = elim (nat_lt n (length xs)) as (λ b. nat_lt n (length xs) ≡ b → unwrap_or (cond b (Some n) None) 0 + 1 ≡ n + 1) [
-      | true ↦ λ p. refl
-      | false ↦ λ p. absurd (grind (arith, nat_tests, p, l))
-    ] refl
+use Rattle.ghc_fire.proofs.Origins.{firsts_have, place_got}
 
 -- each variable of the clause's head stands for something
 abbrev pub StandAll : Clause → StoreValue → Type 0

@@ -1,5 +1,5 @@
 -- Entries of a map that are put into another, one after another.
-use Rattle.ghc_fire.proofs.Words.{◌≡◌, Bool, true, false, cond, ◌||◌, List, [], ◌∷◌, ◌++◌, map, refl, sym, ap, subst, ◌∙◌, Option, Some, None, option_map, is_some, Ordering, list_any, IsStrictlySortedBy, keys_of, eq_by_cmp, is_eq, IsTotalOrder, IsAntisymmetric, tells_apart, lookup-map_values, keys_of-map_values}
+use Rattle.ghc_fire.proofs.Words.{◌≡◌, Bool, true, false, cond, ◌||◌, List, [], ◌∷◌, ◌++◌, map, refl, sym, ap, subst, ◌∙◌, Option, Some, None, option_map, is_some, Ordering, list_any, IsStrictlySortedBy, keys_of, eq_by_cmp, is_eq, IsTotalOrder, IsAntisymmetric, tells_apart, lookup-map_values, keys_of-map_values, or-true, or-false, list_any-append, arith}
 use Rattle.std.specs.FinMap as finite
 use Rattle.ghc_fire.proofs.Ordered.{value_in, inserted, entries_are}
 
@@ -7,23 +7,8 @@ pub either : {V X : Type 0} (shows : V → X) (b : Bool) (v : V) (o : Option V) 
 either shows true v o = refl
 either shows false v o = refl
 
-or_false : (b : Bool) → (b || false) ≡ b
-or_false true = refl
-or_false false = refl
-
-pub or_true : (b : Bool) → (b || true) ≡ true
-or_true true = refl
-or_true false = refl
-
-or_assoc : (a b c : Bool) → (a || (b || c)) ≡ ((a || b) || c)
-or_assoc true b c = refl
-or_assoc false b c = refl
-
 nothing : {X : Type 0} (a b : Bool) (o : Option X) → o ≡ None → cond a o None ≡ cond b o None
-nothing true true o e = refl
-nothing true false o e = e
-nothing false true o e = sym e
-nothing false false o e = refl
+nothing a b o e = grind arith
 
 where_some : {X : Type 0} (o : Option X) → cond (is_some o) o None ≡ o
 where_some None = refl
@@ -51,8 +36,7 @@ module _ {K V X : Type 0} {R : K → K → Ordering} (o : IsTotalOrder R) (alike
   none_met whole es e q = ap (λ l. finite.get (finite.from_entries {R = R} (shown l)) q) e ∙ finite.get-empty R q
 
   any_push : (p : K → Bool) (ks : List K) (k : K) → list_any p (ks ++ k ∷ []) ≡ (list_any p ks || p k)
-  any_push p [] k = or_false (p k)
-  any_push p (x ∷ ks) k = ap (λ b. p x || b) (any_push p ks k) ∙ or_assoc (p x) (list_any p ks) (p k)
+  any_push p ks k = list_any-append p ks (k ∷ []) ∙ ap (λ b. list_any p ks || b) (or-false (p k))
 
   module _ (whole : finite.FinMap R X) (met : List K) (es : List (K × V)) (h : IsGathered whole met es) (k : K) where
     -- one more is met, which the map has
@@ -60,8 +44,8 @@ module _ {K V X : Type 0} {R : K → K → Ordering} (o : IsTotalOrder R) (alike
     one_more new v there put q =
         ap (λ m. finite.get m q) (one_put es new k v put) ∙ finite.get-insert o (finite.from_entries (shown es)) k (shows v) q
         ∙ elim (eq_by_cmp R q k) as (λ b. eq_by_cmp R q k ≡ b → cond b (Some (shows v)) (finite.get (finite.from_entries {R = R} (shown es)) q) ≡ cond (list_any (eq_by_cmp R q) met || b) (finite.get whole q) None) [
-          | true ↦ λ e. sym there ∙ ap (finite.get whole) (sym (tells_apart alike q k e)) ∙ sym (ap (λ b. cond b (finite.get whole q) None) (or_true (list_any (eq_by_cmp R q) met)))
-          | false ↦ λ e. h q ∙ ap (λ b. cond b (finite.get whole q) None) (sym (or_false (list_any (eq_by_cmp R q) met)))
+          | true ↦ λ e. sym there ∙ ap (finite.get whole) (sym (tells_apart alike q k e)) ∙ sym (ap (λ b. cond b (finite.get whole q) None) (or-true (list_any (eq_by_cmp R q) met)))
+          | false ↦ λ e. h q ∙ ap (λ b. cond b (finite.get whole q) None) (sym (or-false (list_any (eq_by_cmp R q) met)))
         ] refl ∙ ap (λ b. cond b (finite.get whole q) None) (sym (any_push (eq_by_cmp R q) met k))
 
     -- one more is met, which the map has not
@@ -69,7 +53,7 @@ module _ {K V X : Type 0} {R : K → K → Ordering} (o : IsTotalOrder R) (alike
     none_more none q =
         h q ∙ elim (eq_by_cmp R q k) as (λ b. eq_by_cmp R q k ≡ b → cond (list_any (eq_by_cmp R q) met) (finite.get whole q) None ≡ cond (list_any (eq_by_cmp R q) met || b) (finite.get whole q) None) [
           | true ↦ λ e. let gone = ap (finite.get whole) (tells_apart alike q k e) ∙ none in nothing (list_any (eq_by_cmp R q) met) (list_any (eq_by_cmp R q) met || true) (finite.get whole q) gone
-          | false ↦ λ e. ap (λ b. cond b (finite.get whole q) None) (sym (or_false (list_any (eq_by_cmp R q) met)))
+          | false ↦ λ e. ap (λ b. cond b (finite.get whole q) None) (sym (or-false (list_any (eq_by_cmp R q) met)))
         ] refl ∙ ap (λ b. cond b (finite.get whole q) None) (sym (any_push (eq_by_cmp R q) met k))
 
   -- all keys are met

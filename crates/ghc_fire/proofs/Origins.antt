@@ -1,10 +1,12 @@
 -- Where the variables of a step come from: its goal, the store, or the step itself.
-use Rattle.ghc_fire.proofs.Words.{◌≡◌, ℕ, suc, zero, ◌+◌, ◌<◌, ◌≤◌, true, false, cond, List, [], ◌∷◌, ◌++◌, length, map, refl, sym, ap, ◌∙◌, subst, inl, inr, ◌⊎◌, arith, Option, Some, None, slice_get, unwrap_or, filter, nat_lt, nat_tests, list_any, position_or_len, eq_by_cmp, VarName, Tree, variable, integer, node, Trees, none, more, list_of, trees, nil, cons, Occurs, OccursIn, IsValue, Expression, leaf, operation, Goal, call, unify, assign, stream, In, Leads, at_integer, at_node, at_free, along, Comes, now, on, IsAcyclic, name_cmp, with_binding, StoreValue, value_at, in_left, in_right, in_either, in_at, any_in, name_total, chain, same_name, Clause, Program, is_stream, IsProgram, variables_of_list, fresh_variables, At, down, unbound, AreAlike, HeadFits, StandsFor, written, Unifies, Pairs, no_more, one_more, Meets, integers, nodes, Move, shared, left, right, both, Moves, stay, go, replace, replace_all, by_value, replace_in_expression, replace_in_goal, made, place_in, becomes, Act, ByClause as by_clause, Unified as unified, Assigned as assigned, Given as given, Closed as closed, Effect, HasEffect, IsMadeBy, ComesFrom, EffectVariables}
+use Rattle.ghc_fire.proofs.Words.{◌≡◌, ℕ, suc, zero, ◌+◌, ◌<◌, true, false, cond, List, [], ◌∷◌, ◌++◌, length, map, refl, sym, ap, ◌∙◌, subst, inl, inr, ◌⊎◌, arith, Option, Some, None, slice_get, unwrap_or, filter, nat_lt, nat_tests, list_any, position_or_len, eq_by_cmp, VarName, Tree, variable, integer, node, Trees, none, more, list_of, trees, nil, cons, Occurs, OccursIn, IsValue, Expression, leaf, operation, Goal, call, unify, assign, stream, In, Leads, at_node, along, Comes, now, on, IsAcyclic, name_cmp, with_binding, StoreValue, value_at, in_left, in_right, in_either, in_at, any_in, name_total, chain, same_name, Clause, Program, is_stream, IsProgram, variables_of_list, fresh_variables, At, down, unbound, AreAlike, HeadFits, StandsFor, written, Unifies, Move, shared, left, right, both, Moves, stay, go, replace, replace_all, by_value, replace_in_expression, replace_in_goal, made, place_in, becomes, Act, ByClause as by_clause, Unified as unified, Assigned as assigned, Given as given, Closed as closed, Effect, HasEffect, IsMadeBy, ComesFrom, EffectVariables, find, find_at, slice_get_within, back_again, append_inside, meets_inside}
+use Rattle.ghc_term.proofs.Names.{itself}
 use Rattle.std.specs.FinMap as finite
 use Rattle.std.specs.FinSet as set
 use Rattle.ghc_flat.specs.Variables.{variables, variables_of_all, variables_of_expression, variables_of_goal, variables_of_goals, firsts}
 use Rattle.ghc_match.specs.Position.{here}
-use Rattle.ghc_fire.proofs.Steps.{nothing}
+use Rattle.ghc_fire.proofs.Replaced.{no_stream}
+use Rattle.ghc_fire.proofs.Steps.{nothing, only}
 
 mutual
   -- what stands in a tree is one of its variables
@@ -44,10 +46,8 @@ Inside Q t = (x : VarName) → Occurs x t → Q x
 
 module _ {S : VarName → Option Tree} {Q : VarName → Type 0} (closed : (y : VarName) (t : Tree) → S y ≡ Some t → Inside Q t) where
   leads_inside : {t e : Tree} {xs : List VarName} → Leads S t xs e → Inside Q t → Inside Q e
-  leads_inside at_integer i = i
-  leads_inside at_node i = i
-  leads_inside (at_free p) i = i
   leads_inside (along {x = x} {t = u} p a) i = leads_inside a (closed x u p)
+  leads_inside _ i = i
 
   -- a sub-term at a position
   pub at_inside : {ts : List Tree} {p : List ℕ} {t : Tree} → At S ts p t → ((x : VarName) → In x (variables_of_list ts) → Q x) → Inside Q t
@@ -74,9 +74,8 @@ AllFit S hs ts = (q : List ℕ) (k u : Tree) → At unbound hs q k → IsValue k
 
 module _ {S : VarName → Option Tree} where
   as_node : (f : List ℕ) (us : Trees) (r : Tree) (xs : List VarName) (w : Tree) → Leads S r xs w → SameArguments (node f us) w → (g : List ℕ) × (vs : Trees) × Leads S r xs (node g vs) × (length (list_of us) ≡ length (list_of vs))
-  as_node f us r xs (variable x) l s = absurd s
-  as_node f us r xs (integer k) l s = absurd s
   as_node f us r xs (node g vs) l s = (g, vs, l, s)
+  as_node f us r xs _ l s = absurd s
 
   -- where the goal fits the head, it has each position of the head
   exists_at : {hs : List Tree} {p : List ℕ} {h : Tree} → At unbound hs p h → (ts : List Tree) → length hs ≡ length ts → AllFit S hs ts → (t : Tree) × At S ts p t
@@ -90,17 +89,12 @@ module _ {S : VarName → Option Tree} where
       (rest.0, down r.1 n.2 rest.1)
 
 stable : (a b : ℕ) → ¬ ¬ (a ≡ b) → a ≡ b
-stable a b n =
-    let no_less : ¬ (a < b) = λ l. n (λ e. omega (arith, l, e)) in
-    let no_more : ¬ (b < a) = λ l. n (λ e. omega (arith, l, e)) in
-    omega (arith, no_less, no_more)
+stable a b n = grind arith
 
 same_arguments : (k e : Tree) → ¬ ¬ AreAlike k e → SameArguments k e
-same_arguments (variable x) e n = tt
-same_arguments (integer j) e n = tt
-same_arguments (node f us) (variable x) n = n (λ a. a)
-same_arguments (node f us) (integer j) n = n (λ a. a)
 same_arguments (node f us) (node g vs) n = stable (length (list_of us)) (length (list_of vs)) (λ m. n (λ a. m a.1))
+same_arguments (node f us) _ n = n (λ a. a)
+same_arguments _ e n = tt
 
 -- one argument more in front
 shift : {ts : List Tree} {p : List ℕ} {u : Tree} (t : Tree) → At unbound ts p u → (q : List ℕ) × At unbound (t ∷ ts) q u
@@ -141,14 +135,31 @@ firsts_have seen (x ∷ xs) y i =
       ]
     ] refl
 
--- a variable's place is one of the list's
-place_bound : (xs : List VarName) (y : VarName) → In y xs → place_in xs y ≤ length xs
-place_bound [] y i = absurd i
-place_bound (x ∷ xs) y i =
-    let n = position_or_len (eq_by_cmp name_cmp y) (x ∷ xs) in
-    elim (nat_lt n (length (x ∷ xs))) as (λ b. nat_lt n (length (x ∷ xs)) ≡ b → unwrap_or (cond b (Some n) None) 0 + 1 ≤ length (x ∷ xs)) [
-      | true ↦ λ p. grind (arith, nat_tests, p)
-      | false ↦ λ p. omega arith
+-- the place of a variable in a list is where it stands
+pub place_got : (xs : List VarName) (y : VarName) → In y xs → (i : ℕ) × (place_in xs y ≡ i + 1) × (slice_get xs i ≡ Some y)
+place_got xs y i =
+    let n = position_or_len (eq_by_cmp name_cmp y) xs in
+    let got : slice_get xs n ≡ Some y = sym (find_at (eq_by_cmp name_cmp y) xs) ∙ found xs i in
+    (n, passed n (slice_get_within xs n y got), got)
+  where
+    found : (xs : List VarName) → In y xs → find (eq_by_cmp name_cmp y) xs ≡ Some y
+    found [] i = absurd i
+    found (x ∷ xs) i =
+        elim (eq_by_cmp name_cmp y x) as (λ b. eq_by_cmp name_cmp y x ≡ b → cond b (Some x) (find (eq_by_cmp name_cmp y) xs) ≡ Some y) [
+          | true ↦ λ p. ap Some (sym (same_name y x p))
+          | false ↦ λ p. elim i [
+            | inl e ↦
+                let yes : eq_by_cmp name_cmp y x ≡ true = ap (eq_by_cmp name_cmp y) (sym e) ∙ itself y in
+                let clash : true ≡ false = sym yes ∙ p in
+                cc
+            | inr j ↦ found xs j
+          ]
+        ] refl
+
+    passed : (n : ℕ) → n < length xs → unwrap_or (cond (nat_lt n (length xs)) (Some n) None) 0 + 1 ≡ n + 1
+    passed n l = elim (nat_lt n (length xs)) as (λ b. nat_lt n (length xs) ≡ b → unwrap_or (cond b (Some n) None) 0 + 1 ≡ n + 1) [
+      | true ↦ λ p. refl
+      | false ↦ λ p. absurd (grind (arith, nat_tests, p, l))
     ] refl
 
 mutual
@@ -163,24 +174,24 @@ mutual
   replaced_all s (more t ts) x (inl o) = let r = replaced s t x o in (r.0, inl r.1, r.2)
   replaced_all s (more t ts) x (inr o) = let r = replaced_all s ts x o in (r.0, inr r.1, r.2)
 
+tree_replaced : (s : VarName → Tree) (t : Tree) (x : VarName) → In x (variables (replace s t)) → (y : VarName) × In y (variables t) × Occurs x (s y)
+tree_replaced s t x i = let r = replaced s t x (in_occurs (replace s t) x i) in (r.0, occurs_in t r.0 r.1, r.2)
+
+-- what comes from either of two lists comes from both
+from_either : {R : VarName → Type 0} (us vs xs ys : List VarName) (x : VarName) → (In x us → (y : VarName) × In y xs × R y)
+    → (In x vs → (y : VarName) × In y ys × R y) → In x (us ++ vs) → (y : VarName) × In y (xs ++ ys) × R y
+from_either us vs xs ys x f g i = elim (in_either us vs x i) [
+  | inl j ↦ let r = f j in (r.0, in_left xs ys r.0 r.1, r.2)
+  | inr j ↦ let r = g j in (r.0, in_right xs ys r.0 r.1, r.2)
+]
+
 expression_replaced : (s : VarName → Tree) (a : Expression) (x : VarName) → In x (variables_of_expression (replace_in_expression s a)) → (y : VarName) × In y (variables_of_expression a) × Occurs x (s y)
-expression_replaced s (leaf t) x i = let r = replaced s t x (in_occurs (replace s t) x i) in (r.0, occurs_in t r.0 r.1, r.2)
-expression_replaced s (operation o a b) x i =
-    elim (in_either (variables_of_expression (replace_in_expression s a)) (variables_of_expression (replace_in_expression s b)) x i) [
-      | inl j ↦ let r = expression_replaced s a x j in (r.0, in_left (variables_of_expression a) (variables_of_expression b) r.0 r.1, r.2)
-      | inr j ↦ let r = expression_replaced s b x j in (r.0, in_right (variables_of_expression a) (variables_of_expression b) r.0 r.1, r.2)
-    ]
+expression_replaced s (leaf t) x i = tree_replaced s t x i
+expression_replaced s (operation o a b) x i = from_either _ _ _ _ x (expression_replaced s a x) (expression_replaced s b x) i
 
 list_replaced : (s : VarName → Tree) (ts : List Tree) (x : VarName) → In x (variables_of_list (map (replace s) ts)) → (y : VarName) × In y (variables_of_list ts) × Occurs x (s y)
 list_replaced s [] x i = absurd i
-list_replaced s (t ∷ ts) x i =
-    elim (in_either (variables (replace s t)) (variables_of_list (map (replace s) ts)) x i) [
-      | inl j ↦ let r = replaced s t x (in_occurs (replace s t) x j) in (r.0, in_left (variables t) (variables_of_list ts) r.0 (occurs_in t r.0 r.1), r.2)
-      | inr j ↦ let r = list_replaced s ts x j in (r.0, in_right (variables t) (variables_of_list ts) r.0 r.1, r.2)
-    ]
-
-tree_replaced : (s : VarName → Tree) (t : Tree) (x : VarName) → In x (variables (replace s t)) → (y : VarName) × In y (variables t) × Occurs x (s y)
-tree_replaced s t x i = let r = replaced s t x (in_occurs (replace s t) x i) in (r.0, occurs_in t r.0 r.1, r.2)
+list_replaced s (t ∷ ts) x i = from_either _ _ (variables t) (variables_of_list ts) x (tree_replaced s t x) (λ j. list_replaced s ts x j) i
 
 -- the goal is no stream goal
 abbrev IsPlain : Goal → Type 0
@@ -188,32 +199,15 @@ IsPlain g = is_stream g ≡ false
 
 goal_replaced : (s : VarName → Tree) (g : Goal) (x : VarName) → IsPlain g → In x (variables_of_goal (replace_in_goal s g)) → (y : VarName) × In y (variables_of_goal g) × Occurs x (s y)
 goal_replaced s (call f ts) x p i = list_replaced s ts x i
-goal_replaced s (unify l r) x p i =
-    elim (in_either (variables (replace s l)) (variables (replace s r)) x i) [
-      | inl j ↦ let o = tree_replaced s l x j in (o.0, in_left (variables l) (variables r) o.0 o.1, o.2)
-      | inr j ↦ let o = tree_replaced s r x j in (o.0, in_right (variables l) (variables r) o.0 o.1, o.2)
-    ]
-goal_replaced s (assign t a) x p i =
-    elim (in_either (variables (replace s t)) (variables_of_expression (replace_in_expression s a)) x i) [
-      | inl j ↦ let o = tree_replaced s t x j in (o.0, in_left (variables t) (variables_of_expression a) o.0 o.1, o.2)
-      | inr j ↦ let o = expression_replaced s a x j in (o.0, in_right (variables t) (variables_of_expression a) o.0 o.1, o.2)
-    ]
+goal_replaced s (unify l r) x p i = from_either _ _ (variables l) (variables r) x (tree_replaced s l x) (tree_replaced s r x) i
+goal_replaced s (assign t a) x p i = from_either _ _ (variables t) (variables_of_expression a) x (tree_replaced s t x) (expression_replaced s a x) i
 goal_replaced s (stream k z) x p i = let clash : true ≡ false = p in cc
 
 goals_replaced : (s : VarName → Tree) (gs : List Goal) (x : VarName) → filter is_stream gs ≡ [] → In x (variables_of_goals (map (replace_in_goal s) gs)) → (y : VarName) × In y (variables_of_goals gs) × Occurs x (s y)
 goals_replaced s [] x p i = absurd i
 goals_replaced s (g ∷ gs) x p i =
-    elim (is_stream g) as (λ b. is_stream g ≡ b → cond b (g ∷ filter is_stream gs) (filter is_stream gs) ≡ [] → (y : VarName) × In y (variables_of_goals (g ∷ gs)) × Occurs x (s y)) [
-      | true ↦ λ q r. cc
-      | false ↦ λ q r. elim (in_either (variables_of_goal (replace_in_goal s g)) (variables_of_goals (map (replace_in_goal s) gs)) x i) [
-        | inl j ↦ let o = goal_replaced s g x q j in (o.0, in_left (variables_of_goal g) (variables_of_goals gs) o.0 o.1, o.2)
-        | inr j ↦ let o = goals_replaced s gs x r j in (o.0, in_right (variables_of_goal g) (variables_of_goals gs) o.0 o.1, o.2)
-      ]
-    ] refl p
-
-listed_again : (hs : List Tree) → hs ≡ list_of (trees hs)
-listed_again [] = refl
-listed_again (h ∷ hs) = ap (λ l. h ∷ l) (listed_again hs)
+    let plain = no_stream g gs p in
+    from_either _ _ (variables_of_goal g) (variables_of_goals gs) x (goal_replaced s g x plain.0) (goals_replaced s gs x plain.1) i
 
 -- the bindings of a run stay inside
 abbrev AllInside : (VarName → Type 0) → List (Tree × Tree) → Type 0
@@ -237,18 +231,6 @@ with_inside Q T x t v i y u =
       | true ↦ λ e. let same : t ≡ u = cc in subst (Inside Q) same i
       | false ↦ λ e. v y u e
     ]
-
-pairs_inside : {Q : VarName → Type 0} {ts us : Trees} {es : List (Tree × Tree)} → Pairs ts us es → ((x : VarName) → OccursIn x ts → Q x) → ((x : VarName) → OccursIn x us → Q x) → AllInside Q es
-pairs_inside no_more i j = tt
-pairs_inside (one_more p) i j = (λ x o. i x (inl o), λ x o. j x (inl o), pairs_inside p (λ x o. i x (inr o)) (λ x o. j x (inr o)))
-
-meets_inside : {Q : VarName → Type 0} {e f : Tree} {es : List (Tree × Tree)} → Meets e f es → Inside Q e → Inside Q f → AllInside Q es
-meets_inside integers i j = tt
-meets_inside (nodes p) i j = pairs_inside p i j
-
-append_inside : (Q : VarName → Type 0) (es fs : List (Tree × Tree)) → AllInside Q es → AllInside Q fs → AllInside Q (es ++ fs)
-append_inside Q [] fs i j = j
-append_inside Q (e ∷ es) fs i j = (i.0, i.1, append_inside Q es fs i.2 j)
 
 binds_append : (Q : VarName → Type 0) (bs cs : List (VarName × Tree)) → BindsInside Q bs → BindsInside Q cs → BindsInside Q (bs ++ cs)
 binds_append Q [] cs i j = j
@@ -281,11 +263,7 @@ unifies_inside S l r binds reads u v i j x t e =
 
 -- what the only binding binds
 only_inside : {Q : VarName → Type 0} (m : StoreValue) (x : VarName) (t : Tree) → m ≡ finite.insert finite.empty x t → Q x → Inside Q t → (y : VarName) (u : Tree) → value_at m y ≡ Some u → Q y × Inside Q u
-only_inside {Q = Q} m x t p q i y u e =
-    elim (eq_by_cmp name_cmp y x) as (λ c. eq_by_cmp name_cmp y x ≡ c → cond c (Some t) (value_at finite.empty y) ≡ Some u → Q y × Inside Q u) [
-      | true ↦ λ h f. let same : t ≡ u = cc in (subst Q (sym (same_name y x h)) q, subst (Inside Q) same i)
-      | false ↦ λ h f. let clash : None ≡ Some u = sym (finite.get-empty name_cmp y) ∙ f in cc
-    ] refl (sym (finite.get-insert name_total finite.empty x t y) ∙ ap (λ z. value_at z y) (sym p) ∙ e)
+only_inside {Q = Q} m x t p q i y u e = let o = only t m p y u e in (subst Q (sym o.0) q, subst (Inside Q) o.1 i)
 
 module _ (s : StoreValue) (acyclic : IsAcyclic (value_at s)) (c : Clause) (ts : List Tree) (same_length : length c.head ≡ length ts) (fits : HeadFits c ts (value_at s)) where
   head_fits : AllFit (value_at s) c.head ts
@@ -300,8 +278,8 @@ module _ (s : StoreValue) (acyclic : IsAcyclic (value_at s)) (c : Clause) (ts : 
   -- each variable of the head stands for something
   pub stands : (y : VarName) → In y (variables_of_list c.head) → (t : Tree) × StandsFor c ts (value_at s) y t
   stands y i =
-      let p = place_of_trees (trees c.head) y (list_occurs (trees c.head) y (subst (λ l. In y (variables_of_list l)) (listed_again c.head) i)) in
-      let a = subst (λ l. At unbound l p.0 (variable y)) (sym (listed_again c.head)) p.1 in
+      let p = place_of_trees (trees c.head) y (list_occurs (trees c.head) y (subst (λ l. In y (variables_of_list l)) (back_again c.head) i)) in
+      let a = subst (λ l. At unbound l p.0 (variable y)) (sym (back_again c.head)) p.1 in
       let t = exists_at a ts same_length head_fits in
       (t.0, (p.0, a, t.1))
 
@@ -325,8 +303,9 @@ stays_inside P (call f ts) (by_clause k) n s e Q program acyclic d goal values f
                 let clash : None ≡ Some t.0 = sym none ∙ (d.4.1 o.0 t.0).1 t.1 in
                 cc
             | inr h ↦
-                let le = place_bound (fresh_variables c) o.0 h in
-                fresh x (ap (λ z. z.step) it, omega (arith, ap (λ z. z.place) it), omega (arith, ap (λ z. z.place) it, le, d.7))
+                let p = place_got (fresh_variables c) o.0 h in
+                let le = slice_get_within (fresh_variables c) p.0 o.0 p.2 in
+                fresh x (ap (λ z. z.step) it, omega (arith, ap (λ z. z.place) it), omega (arith, ap (λ z. z.place) it, p.1, le, d.7))
           ])
           (λ t is. at_inside values ((d.4.1 o.0 t).0 is).2 goal x (subst (λ z. Occurs x (unwrap_or z (variable (made n (place_in (fresh_variables c) o.0))))) is o.2)),
     )

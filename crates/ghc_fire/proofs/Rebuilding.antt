@@ -1,5 +1,5 @@
 -- Terms and expressions with their variables replaced, from the inside out.
-use Rattle.ghc_fire.proofs.Words.{◌≡◌, ℕ, ◌+◌, List, [], ◌∷◌, ◌++◌, map, refl, sym, ap, ◌∙◌, inl, inr, map_push, VarName, Operator, Tree, variable, integer, node, Trees, none, more, trees, list_of, IsClosed, AreClosed, Expression, operation, call, IsCall, call_of, replace, replace_all, replace_in_goal, plugged, operated, Front}
+use Rattle.ghc_fire.proofs.Words.{◌≡◌, ℕ, List, [], ◌∷◌, ◌++◌, map, refl, sym, ap, ◌∙◌, inl, inr, map_push, VarName, Operator, Tree, variable, integer, node, Trees, none, more, trees, list_of, IsClosed, Expression, operation, call, IsCall, call_of, replace, replace_all, replace_in_goal, plugged, operated, Front, Occurs, OccursIn}
 
 pub plugged_push : (fs : List Front) (f : Front) (t : Tree) → plugged (fs ++ f ∷ []) t ≡ plugged fs (node f.name (trees (f.arguments.items ++ t ∷ [])))
 plugged_push [] f t = refl
@@ -14,15 +14,19 @@ module _ (s : VarName → Tree) where
   replace_trees [] = refl
   replace_trees (t ∷ ts) = ap (more (replace s t)) (replace_trees ts)
 
+  -- a tree stays where its variables do
   mutual
-    pub replace_closed : (t : Tree) → IsClosed t → replace s t ≡ t
-    replace_closed (variable x) h = absurd (h x refl)
-    replace_closed (integer k) h = refl
-    replace_closed (node f ts) h = ap (node f) (replace_all_closed ts h)
+    pub replace_kept : (t : Tree) → ((x : VarName) → Occurs x t → s x ≡ variable x) → replace s t ≡ t
+    replace_kept (variable x) h = h x refl
+    replace_kept (integer k) h = refl
+    replace_kept (node f ts) h = ap (node f) (replace_all_kept ts h)
 
-    replace_all_closed : (ts : Trees) → AreClosed ts → replace_all s ts ≡ ts
-    replace_all_closed none h = refl
-    replace_all_closed (more t ts) h = λ i. more (replace_closed t (λ x o. h x (inl o)) i) (replace_all_closed ts (λ x o. h x (inr o)) i)
+    replace_all_kept : (ts : Trees) → ((x : VarName) → OccursIn x ts → s x ≡ variable x) → replace_all s ts ≡ ts
+    replace_all_kept none h = refl
+    replace_all_kept (more t ts) h = λ i. more (replace_kept t (λ x o. h x (inl o)) i) (replace_all_kept ts (λ x o. h x (inr o)) i)
+
+  pub replace_closed : (t : Tree) → IsClosed t → replace s t ≡ t
+  replace_closed t h = replace_kept t (λ x o. absurd (h x o))
 
   list_replaced : (ts : Trees) → list_of (replace_all s ts) ≡ map (replace s) (list_of ts)
   list_replaced none = refl
@@ -30,9 +34,8 @@ module _ (s : VarName → Tree) where
 
   -- the tree as which a call is written
   pub call_replaced : (t : Tree) → IsCall t → IsCall (replace s t) × (call_of (replace s t) ≡ replace_in_goal s (call_of t))
-  call_replaced (variable x) h = absurd h
-  call_replaced (integer k) h = absurd h
   call_replaced (node f ts) h = (tt, ap (call f) (list_replaced ts))
+  call_replaced _ h = absurd h
 
   -- one structure further in
   pub further_in : (fs : List Front) (g : Front) (f : List ℕ) (whole front : List Tree) (last place : Tree) → node f (trees whole) ≡ place → whole ≡ front ++ last ∷ [] → g.name ≡ f → g.arguments.items ≡ map (replace s) front

@@ -1,10 +1,16 @@
 -- Goals whose variables are replaced: what becomes of their variables, their kinds and their calls.
-use Rattle.ghc_fire.proofs.Words.{◌≡◌, ℕ, true, false, cond, List, [], ◌∷◌, ◌++◌, length, map, refl, ap, ◌∙◌, inl, inr, arith, filter, map-append, length-map, VarName, Tree, variable, integer, node, Trees, none, more, Expression, leaf, operation, Goal, call, unify, assign, stream, In, variables, variables_of_all, variables_of_expression, variables_of_goal, variables_of_goals, replace, replace_all, is_stream, replace_in_expression, replace_in_goal}
+use Rattle.ghc_fire.proofs.Words.{◌≡◌, ℕ, true, false, List, [], ◌∷◌, ◌++◌, length, map, refl, ap, ◌∙◌, inl, inr, arith, filter, map-append, length-map, VarName, Tree, variable, integer, node, Trees, none, more, Expression, leaf, operation, Goal, call, unify, assign, stream, In, variables, variables_of_all, variables_of_expression, variables_of_goal, variables_of_goals, replace, replace_all, is_stream, replace_in_expression, replace_in_goal}
 use Rattle.ghc_term.specs.Variables.{variables_of_list}
+use Rattle.ghc_fire.proofs.Rebuilding.{replace_kept}
 
 -- joined where both parts are
 joined : (f : VarName → VarName) {us vs : List VarName} (xs ys : List VarName) → us ≡ map f xs → vs ≡ map f ys → us ++ vs ≡ map f (xs ++ ys)
 joined f {us} {vs} xs ys p q = rw (map-append f xs ys) (λ i. p i ++ q i)
+
+-- none of the goals is a stream, and so neither the first is one, nor one behind it
+pub no_stream : (g : Goal) (gs : List Goal) → filter is_stream (g ∷ gs) ≡ [] → (is_stream g ≡ false) × (filter is_stream gs ≡ [])
+no_stream (stream k x) gs p = cc
+no_stream _ gs p = (refl, p)
 
 module _ (f : VarName → VarName) where
   -- each variable as f renames it
@@ -38,26 +44,16 @@ module _ (f : VarName → VarName) where
   -- the variables of renamed goals, none of which is a stream, are the renamed ones
   pub goals_renamed : (gs : List Goal) → filter is_stream gs ≡ [] → variables_of_goals (map (replace_in_goal by) gs) ≡ map f (variables_of_goals gs)
   goals_renamed [] p = refl
-  goals_renamed (g ∷ gs) p =
-      elim (is_stream g) as (λ b. is_stream g ≡ b → cond b (g ∷ filter is_stream gs) (filter is_stream gs) ≡ [] → variables_of_goals (map (replace_in_goal by) (g ∷ gs)) ≡ map f (variables_of_goals (g ∷ gs))) [
-        | true ↦ λ q r. cc
-        | false ↦ λ q r. joined f (variables_of_goal g) (variables_of_goals gs) (goal_renamed g q) (goals_renamed gs r)
-      ] refl p
+  goals_renamed (g ∷ gs) p = let n = no_stream g gs p in joined f (variables_of_goal g) (variables_of_goals gs) (goal_renamed g n.0) (goals_renamed gs n.1)
 
 module _ (s : VarName → Tree) where
   kept_kind : (g : Goal) → is_stream (replace_in_goal s g) ≡ is_stream g
   kept_kind (call f ts) = refl
-  kept_kind (unify l r) = refl
-  kept_kind (assign t a) = refl
-  kept_kind (stream k x) = refl
+  kept_kind _ = refl
 
   pub kept_plain : (gs : List Goal) → filter is_stream gs ≡ [] → filter is_stream (map (replace_in_goal s) gs) ≡ []
   kept_plain [] p = refl
-  kept_plain (g ∷ gs) p =
-      elim (is_stream g) as (λ b. is_stream g ≡ b → cond b (g ∷ filter is_stream gs) (filter is_stream gs) ≡ [] → filter is_stream (map (replace_in_goal s) (g ∷ gs)) ≡ []) [
-        | true ↦ λ q r. cc
-        | false ↦ λ q r. rw (kept_kind g ∙ q) (kept_plain gs r)
-      ] refl p
+  kept_plain (g ∷ gs) p = let none = no_stream g gs p in rw (kept_kind g ∙ none.0) (kept_plain gs none.1)
 
   -- a call among replaced goals is one of as many arguments
   pub call_replaced : (gs : List Goal) (f : List ℕ) (ts : List Tree) → In (call f ts) (map (replace_in_goal s) gs) → (us : List Tree) × In (call f us) gs × (length us ≡ length ts)
@@ -67,20 +63,11 @@ module _ (s : VarName → Tree) where
       let name : f ≡ h = cc in
       let arguments : ts ≡ map (replace s) us = cc in
       (us, inl (ap (λ k. call k us) name), omega (arith, ap length arguments, length-map us (replace s)))
-  call_replaced (unify l r ∷ gs) f ts (inl e) = cc
-  call_replaced (assign t a ∷ gs) f ts (inl e) = cc
-  call_replaced (stream k x ∷ gs) f ts (inl e) = cc
+  call_replaced (_ ∷ gs) f ts (inl e) = cc
 
 -- replaced by themselves, they stay
-mutual
-  same_tree : (t : Tree) → replace variable t ≡ t
-  same_tree (variable x) = refl
-  same_tree (integer k) = refl
-  same_tree (node f ts) = ap (node f) (same_trees ts)
-
-  same_trees : (ts : Trees) → replace_all variable ts ≡ ts
-  same_trees none = refl
-  same_trees (more t ts) = let head = same_tree t in let tail = same_trees ts in cc
+same_tree : (t : Tree) → replace variable t ≡ t
+same_tree t = replace_kept variable t (λ x o. refl)
 
 same_list : (ts : List Tree) → map (replace variable) ts ≡ ts
 same_list [] = refl

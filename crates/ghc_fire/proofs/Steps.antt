@@ -1,8 +1,7 @@
 -- Effects: local, one at most, of what was unbound and bound.
-use Rattle.ghc_fire.proofs.Words.{◌≡◌, ℕ, ℤ, true, false, cond, List, [], ◌∷◌, length, refl, sym, ap, ◌∙◌, subst, inl, inr, ◌⊎◌, arith, Option, Some, None, IsTrue, slice_get, option_or, eq_by_cmp, VarName, Tree, variable, integer, nil, cons, Expression, call, unify, assign, stream, In, Reaches, here, through, IsAcyclic, name_cmp, with_binding, StoreValue, value_at, name_total, same_name, leads_once, leads_agree, in_either, Clause, Program, IsClause, leaf_variables, fresh_variables, Variables, EndsIn, Number, of_integer, of_variable, computed, HasOutcome, Outcome, accepts, refuses, LooksAt, Accepts, in_set, set_in, one_set, set_of, number_there, number_once, ends_once, outcome_there, outcomes_exclude, Unifies, Ending, solved, with_bindings, IsCutDown, BindsAndReads, by_value, comes_agree, passed_on, comes_reaches, leads_bound, comes_leads, binding_acyclic, by_answers, comes_end, is_local, one_ending, keeps_acyclic, binds_and_reads, made, body_made, ByClause as by_clause, Unified as unified, Assigned as assigned, Given as given, Closed as closed, Effect, IsOnChainsOf, Reduces, ReadsTail, IsClosed, EffectIsLocal, EffectIsOne, EffectBindsAndReads, EffectUnderEachNumber, EffectKeepsAcyclic}
+use Rattle.ghc_fire.proofs.Words.{◌≡◌, ℕ, ℤ, true, false, cond, List, [], ◌∷◌, length, refl, sym, ap, ◌∙◌, subst, inl, inr, ◌⊎◌, arith, Option, Some, None, IsTrue, slice_get, option_or, eq_by_cmp, VarName, Tree, variable, integer, nil, cons, Expression, call, unify, assign, stream, In, Reaches, here, through, IsAcyclic, name_cmp, with_binding, StoreValue, value_at, name_total, same_name, leads_once, leads_agree, in_either, Clause, Program, IsClause, leaf_variables, fresh_variables, Variables, EndsIn, Number, of_integer, of_variable, computed, HasOutcome, accepts, LooksAt, Accepts, in_set, set_in, one_set, set_of, number_there, number_once, ends_once, outcome_there, outcomes_exclude, Unifies, solved, with_bindings, IsCutDown, BindsAndReads, by_value, comes_agree, passed_on, comes_reaches, leads_bound, comes_leads, binding_acyclic, by_answers, comes_end, is_local, one_ending, keeps_acyclic, binds_and_reads, made, body_made, ByClause as by_clause, Unified as unified, Assigned as assigned, Given as given, Closed as closed, Effect, IsOnChainsOf, Reduces, ReadsTail, IsClosed, EffectIsLocal, EffectIsOne, EffectBindsAndReads, EffectUnderEachNumber, EffectKeepsAcyclic}
 use Rattle.std.specs.FinMap as finite
 use Rattle.std.specs.FinSet as set
-use Rattle.ghc_match.specs.Match.{waits}
 
 -- each variable of an expression with a value ends in an integer
 pub number_ends : {E : VarName → Tree → Type 0} {a : Expression} {k : ℤ} {y : VarName} → Number E a k → In y (leaf_variables a) → (j : ℤ) × E y (integer j)
@@ -53,31 +52,13 @@ clause_once P {c = c} {d = d} p q =
     let both : Some c ≡ Some d = sym p.2 ∙ ap (λ i. slice_get P i) same ∙ q.2 in
     cc
 
-abbrev theta_of : Outcome → StoreValue
-theta_of refuses = finite.empty
-theta_of (waits _) = finite.empty
-theta_of (accepts m _) = m
-
-abbrev reads_of : Outcome → Variables
-reads_of refuses = set.empty
-reads_of (waits _) = set.empty
-reads_of (accepts _ s) = s
-
-abbrev binds_of : Ending → StoreValue
-binds_of (solved m _) = m
-binds_of _ = finite.empty
-
-abbrev read_of : Ending → Variables
-read_of (solved _ s) = s
-read_of _ = set.empty
-
 -- an effect is its four parts
-same_effect : (e f : Effect) → e.reads ≡ f.reads → e.binds ≡ f.binds → e.makes ≡ f.makes → e.fresh ≡ f.fresh → e ≡ f
+pub same_effect : (e f : Effect) → e.reads ≡ f.reads → e.binds ≡ f.binds → e.makes ≡ f.makes → e.fresh ≡ f.fresh → e ≡ f
 same_effect e f p q r s i = record { reads = p i; binds = q i; makes = r i; fresh = s i }
 
 -- a unification binds one map and reads one set
 unifies_once : (S : VarName → Option Tree) (l r : Tree) (m n : StoreValue) (s t : Variables) → IsAcyclic S → Unifies S l r m s → Unifies S l r n t → (m ≡ n) × (s ≡ t)
-unifies_once S l r m n s t h u v = let e = one_ending S l r (solved m s) (solved n t) h u v in (ap binds_of e, ap read_of e)
+unifies_once S l r m n s t h u v = let e = one_ending S l r (solved m s) (solved n t) h u v in (cc, cc)
 
 tail_once : (e f : Effect) {s x y : VarName} {S : VarName → Option Tree} → ReadsTail s S x e → ReadsTail s S y f → (x ≡ y) × (e.reads ≡ f.reads)
 tail_once e f p q = let o = comes_end p.1 p.2 q.1 q.2 in (o.1, p.3 ∙ ap set.from_list o.0 ∙ sym q.3)
@@ -87,8 +68,8 @@ reduces_once P f ts k n S e g c ic d b =
     let left : d.0 ≡ c = clause_once P d.2 ic in
     let right : b.0 ≡ c = clause_once P b.2 ic in
     let o = outcomes_exclude c ts S (accepts d.1 e.reads) (accepts b.1 g.reads) (subst (λ z. HasOutcome z ts S (accepts d.1 e.reads)) left d.4) (subst (λ z. HasOutcome z ts S (accepts b.1 g.reads)) right b.4) in
-    let theta : d.1 ≡ b.1 = ap theta_of o in
-    same_effect e g (ap reads_of o) (d.5 ∙ sym b.5)
+    let theta : d.1 ≡ b.1 = cc in
+    same_effect e g (cc) (d.5 ∙ sym b.5)
     (d.6 ∙ ap (λ z. body_made z d.1 n) left ∙ ap (λ m. body_made c m n) theta ∙ sym (ap (λ z. body_made z b.1 n) right) ∙ sym b.6)
     (d.7 ∙ ap (λ z. length (fresh_variables z)) (left ∙ sym right) ∙ sym b.7)
 
@@ -117,10 +98,10 @@ looked_bound c ts S x a (inl l) = by_value (S x) (λ n. absurd (a.0.1 x (l.0, l.
 looked_bound c ts S x a (inr l) = by_value (S x) (λ n. absurd ((a.1 l.0 l.3).0 x (l.1, l.4, (l.2, _, l.5, comes_leads l.6.1 n)))) (λ t e. (t, e))
 
 -- the only binding
-only : {x : VarName} (t : Tree) (m : StoreValue) → m ≡ finite.insert finite.empty x t → (y : VarName) (u : Tree) → value_at m y ≡ Some u → y ≡ x
+pub only : {x : VarName} (t : Tree) (m : StoreValue) → m ≡ finite.insert finite.empty x t → (y : VarName) (u : Tree) → value_at m y ≡ Some u → (y ≡ x) × (t ≡ u)
 only {x = x} t m p y u e =
-    elim (eq_by_cmp name_cmp y x) as (λ b. eq_by_cmp name_cmp y x ≡ b → cond b (Some t) (value_at finite.empty y) ≡ Some u → y ≡ x) [
-      | true ↦ λ q _. same_name y x q
+    elim (eq_by_cmp name_cmp y x) as (λ b. eq_by_cmp name_cmp y x ≡ b → cond b (Some t) (value_at finite.empty y) ≡ Some u → (y ≡ x) × (t ≡ u)) [
+      | true ↦ λ q f. (same_name y x q, cc)
       | false ↦ λ q f. let clash : None ≡ Some u = sym (finite.get-empty name_cmp y) ∙ f in cc
     ] refl (sym (finite.get-insert name_total finite.empty x t y) ∙ ap (λ z. value_at z y) (sym p) ∙ e)
 
@@ -129,7 +110,7 @@ nothing m p y u e = let clash : None ≡ Some u = sym (finite.get-empty name_cmp
 
 tail_bound : (e : Effect) {s x : VarName} {S : VarName → Option Tree} (t : Tree) → ReadsTail s S x e → e.binds ≡ finite.insert finite.empty x t → BindsAndReads S e.binds e.reads
 tail_bound e {S = S} t r p = record {
-  binds_new = λ y u b. ap S (only t e.binds p y u b) ∙ r.2;
+  binds_new = λ y u b. ap S (only t e.binds p y u b).0 ∙ r.2;
   reads_bound = λ y i. let o = passed_on r.1 (set_in y r.0 (subst (λ z. IsTrue (set.contains z y)) r.3 i)) in (o.0, o.1);
 }
 
@@ -174,12 +155,12 @@ one_more S x t m p = by_answers (λ y.
     ∙ ap (λ o. option_or (cond (eq_by_cmp name_cmp y x) (Some t) o) (S y)) (sym (finite.get-empty name_cmp y))
     ∙ ap (λ o. option_or o (S y)) (sym (finite.get-insert name_total finite.empty x t y)) ∙ ap (λ z. option_or (value_at z y) (S y)) (sym p))
 
-closed_reaches : {S : VarName → Option Tree} {u : Tree} {x : VarName} → IsClosed u → ¬ Reaches S u x
+pub closed_reaches : {S : VarName → Option Tree} {u : Tree} {x : VarName} → IsClosed u → ¬ Reaches S u x
 closed_reaches c (here o) = c _ o
 closed_reaches c (through o e r) = c _ o
 
 -- a cell of a closed tree and an unbound variable reaches that variable alone
-given_open : (S : VarName → Option Tree) (u : Tree) (tail x : VarName) → IsClosed u → S tail ≡ None → ¬ (x ≡ tail) → ¬ Reaches S (cons u (variable tail)) x
+pub given_open : (S : VarName → Option Tree) (u : Tree) (tail x : VarName) → IsClosed u → S tail ≡ None → ¬ (x ≡ tail) → ¬ Reaches S (cons u (variable tail)) x
 given_open S u tail x c n apart (here o) = elim o [ inl i ↦ c x i | inr j ↦ elim j [ inl e ↦ apart e | inr k ↦ k ] ]
 given_open S u tail x c n apart (through {u = v} {y = y} o e r) =
     elim o [ inl i ↦ c y i | inr j ↦ elim j [ inl p ↦ let clash : None ≡ Some v = sym n ∙ ap S (sym p) ∙ e in cc | inr k ↦ k ] ]

@@ -1,5 +1,5 @@
 -- Attempts: one answer at most, and the same in stores that agree on what the goal looks at.
-use Rattle.ghc_fire.proofs.Words.{◌≡◌, ℕ, ◌<◌, ℤ, List, refl, sym, ap, ◌∙◌, subst, inl, inr, ◌⊎◌, arith, Option, Some, None, IsTrue, VarName, Tree, integer, Expression, Goal, call, unify, assign, stream, Variables, Reaches, here, through, IsAcyclic, Clause, Program, IsClause, IsFor, EndsIn, Number, number, waits, bad, HasValue, LooksAt, Accepts, Refuses, accepts, GoalLooksAt, ExpressionReaches, set_of, looks_back, value_looks, number_once, number_waits_not, ends_once, leaf_reaches, passes_reaches, leads_there, leads_back, outcome_there, refuses_waits, accepts_refuses, accepts_waits, refuses_there, waits_there, accepts_there, Clashes, solved, clash, cycle, solved_no_clash, solved_no_cycle, clash_no_cycle, looks_at_terms, Act, ByClause as by_clause, Unified as unified, Assigned as assigned, Effect, IsOnChainsOf, HasEffect, no_step, Answer, proposes, SomeAccepts, SomeWaitsFor, IsLeast, CallAnswers, ChoiceAnswers, UnificationAnswers, AssignmentAnswers, AttemptHasOneAnswer, AttemptIsOfWhatIsLookedAt}
+use Rattle.ghc_fire.proofs.Words.{◌≡◌, ℕ, ◌<◌, ℤ, List, refl, sym, ap, ◌∙◌, subst, inl, inr, ◌⊎◌, arith, Option, Some, None, IsTrue, VarName, Tree, integer, Expression, Goal, call, unify, assign, Variables, Reaches, IsAcyclic, Clause, Program, IsClause, IsFor, EndsIn, Number, number, waits, bad, HasValue, LooksAt, Accepts, Refuses, accepts, GoalLooksAt, ExpressionReaches, set_of, looks_back, value_looks, number_once, number_waits_not, ends_once, leaf_reaches, passes_reaches, leads_there, leads_back, outcome_there, refuses_waits, accepts_refuses, accepts_waits, refuses_there, waits_there, accepts_there, Clashes, solved, clash, cycle, solved_no_clash, solved_no_cycle, clash_no_cycle, looks_at_terms, Act, ByClause as by_clause, Unified as unified, Assigned as assigned, Effect, IsOnChainsOf, HasEffect, no_step, Answer, proposes, SomeAccepts, SomeWaitsFor, IsLeast, CallAnswers, ChoiceAnswers, UnificationAnswers, AssignmentAnswers, AttemptHasOneAnswer, AttemptIsOfWhatIsLookedAt, from_integer}
 use Rattle.std.specs.FinSet as set
 use Rattle.ghc_fire.proofs.Steps.{clause_once, effect_once}
 
@@ -96,14 +96,11 @@ module _ (P : Program) (S : VarName → Option Tree) (h : IsAcyclic S) where
   assignment_once t b a c (AssignmentAnswers.assigns {e = d} p) (AssignmentAnswers.assigns {e = e} q) = one_proposal P (assign t b) assigned S d e h p q
 
 pub attempt_once : AttemptHasOneAnswer
-attempt_once P S None choice a b h p q = p ∙ sym q
 attempt_once P S (Some (call f ts)) None a b h p q = call_once P f ts S h a b p q
 attempt_once P S (Some (call f ts)) (Some k) a b h p q = choice_once P f ts S h k a b p q
 attempt_once P S (Some (unify l r)) None a b h p q = unification_once P S h l r a b p q
-attempt_once P S (Some (unify l r)) (Some k) a b h p q = p ∙ sym q
 attempt_once P S (Some (assign t c)) None a b h p q = assignment_once P S h t c a b p q
-attempt_once P S (Some (assign t c)) (Some k) a b h p q = p ∙ sym q
-attempt_once P S (Some (stream k s)) choice a b h p q = p ∙ sym q
+attempt_once P S _ choice a b h p q = p ∙ sym q
 
 -- calls in stores that agree
 module _ (P : Program) (f : List ℕ) (ts : List Tree) (S S' : VarName → Option Tree) (h : (x : VarName) → GoalLooksAt P S (call f ts) x → S' x ≡ S x) where
@@ -141,11 +138,6 @@ module _ (P : Program) (f : List ℕ) (ts : List Tree) (S S' : VarName → Optio
   choice_there k a (ChoiceAnswers.by_choice {e = e} d) = ChoiceAnswers.by_choice (reduction_there P f ts S S' h k no_step e d)
   choice_there k a (ChoiceAnswers.waits {c = c} {x = x} ic is w) = ChoiceAnswers.waits ic is (waits_there c ts S S' (at_clause P f ts S S' h k c ic is) x w)
   choice_there k a (ChoiceAnswers.no_match {c = c} ic is r) = ChoiceAnswers.no_match ic is (refuses_there c ts S S' (at_clause P f ts S S' h k c ic is) r)
-
--- an integer reaches no variable
-from_integer : {S : VarName → Option Tree} {k : ℤ} {x : VarName} → ¬ Reaches S (integer k) x
-from_integer (here o) = o
-from_integer (through o e r) = o
 
 module _ (P : Program) (S S' : VarName → Option Tree) where
   unification_there : (l r : Tree) (a : Answer) → ((x : VarName) → GoalLooksAt P S (unify l r) x → S' x ≡ S x) → UnificationAnswers P l r S a → UnificationAnswers P l r S' a
@@ -190,7 +182,5 @@ pub attempt_there : AttemptIsOfWhatIsLookedAt
 attempt_there P S S' (call f ts) None a p h = call_there P f ts S S' h a p
 attempt_there P S S' (call f ts) (Some k) a p h = choice_there P f ts S S' h k a p
 attempt_there P S S' (unify l r) None a p h = unification_there P S S' l r a h p
-attempt_there P S S' (unify l r) (Some k) a p h = p
 attempt_there P S S' (assign t b) None a p h = assignment_there P S S' t b h a p
-attempt_there P S S' (assign t b) (Some k) a p h = p
-attempt_there P S S' (stream k s) choice a p h = p
+attempt_there P S S' _ choice a p h = p

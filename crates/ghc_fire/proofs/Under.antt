@@ -1,6 +1,7 @@
 -- The effect of a proposal as a step of some number has it.
-use Rattle.ghc_fire.proofs.Words.{◌≡◌, ℕ, ◌==◌, true, false, List, [], ◌∷◌, map, refl, sym, ap, ◌∙◌, inl, inr, Some, None, unwrap_or, if◌then◌else◌, eqb-true, VarName, Tree, variable, integer, node, Trees, none, more, OccursIn, Expression, leaf, operation, Goal, call, unify, assign, stream, StoreValue, value_at, Clause, fresh_variables, replace, replace_all, replace_in_expression, replace_in_goal, made, place_in, becomes, body_made, ByClause as by_clause, Unified as unified, Assigned as assigned, no_step, CallAnswers, ChoiceAnswers, UnificationAnswers, AssignmentAnswers, numbered, under, EffectUnderANumber, ProposalIsEffect, ProposalAsAStep}
+use Rattle.ghc_fire.proofs.Words.{◌≡◌, ℕ, ◌==◌, true, false, List, [], ◌∷◌, map, refl, sym, ap, ◌∙◌, Some, None, unwrap_or, if◌then◌else◌, eqb-true, VarName, Tree, variable, integer, node, Trees, none, more, Expression, leaf, operation, Goal, call, unify, assign, stream, StoreValue, value_at, Clause, fresh_variables, replace, replace_all, replace_in_expression, replace_in_goal, made, place_in, becomes, body_made, ByClause as by_clause, Unified as unified, Assigned as assigned, no_step, CallAnswers, ChoiceAnswers, UnificationAnswers, AssignmentAnswers, numbered, under, EffectUnderANumber, ProposalIsEffect, ProposalAsAStep}
 use Rattle.ghc_fire.proofs.Origins.{Inside, at_inside}
+use Rattle.ghc_fire.proofs.Rebuilding.{replace_kept}
 use Rattle.ghc_fire.proofs.Steps.{effect_each}
 
 -- the variable is not of a step
@@ -14,17 +15,6 @@ same_variable n x o =
       | true ↦ λ p. absurd (o (eqb-true x.step no_step p))
       | false ↦ λ _. refl
     ] refl
-
-mutual
-  -- so does a tree of such variables
-  same_tree : (n : ℕ) (t : Tree) → Inside (IsNotOf no_step) t → replace (numbered n) t ≡ t
-  same_tree n (variable x) o = same_variable n x (o x refl)
-  same_tree n (integer k) o = refl
-  same_tree n (node f ts) o = ap (node f) (same_trees n ts o)
-
-  same_trees : (n : ℕ) (ts : Trees) → ((x : VarName) → OccursIn x ts → IsNotOf no_step x) → replace_all (numbered n) ts ≡ ts
-  same_trees n none o = refl
-  same_trees n (more t ts) o = let head = same_tree n t (λ x i. o x (inl i)) in let tail = same_trees n ts (λ x i. o x (inr i)) in cc
 
 -- one replacement behind another is a third
 module _ (s u w : VarName → Tree) (both : (y : VarName) → replace s (u y) ≡ w y) where
@@ -61,7 +51,7 @@ becomes_under : (c : Clause) (theta : StoreValue) (n : ℕ) → ((y : VarName) (
 becomes_under c theta n h y =
     elim (value_at theta y) as (λ o. value_at theta y ≡ o → replace (numbered n) (unwrap_or o (variable (made no_step (place_in (fresh_variables c) y)))) ≡ unwrap_or o (variable (made n (place_in (fresh_variables c) y)))) [
       | None ↦ λ _. refl
-      | Some t ↦ λ p. same_tree n t (h y t p)
+      | Some t ↦ λ p. replace_kept (numbered n) t (λ x i. same_variable n x (h y t p x i))
     ] refl
 
 body_under : (c : Clause) (theta : StoreValue) (n : ℕ) → ((y : VarName) (t : Tree) → value_at theta y ≡ Some t → Inside (IsNotOf no_step) t) → body_made c theta n ≡ map (replace_in_goal (numbered n)) (body_made c theta no_step)
@@ -85,16 +75,12 @@ pub proposal_under : ProposalIsEffect
 proposal_under P (call f ts) None a n S e h (CallAnswers.by_least {k = k} l d) = effect_under P (call f ts) (by_clause k) n S e refl h d
 proposal_under P (call f ts) (Some k) a n S e h (ChoiceAnswers.by_choice d) = effect_under P (call f ts) (by_clause k) n S e refl h d
 proposal_under P (unify l r) None a n S e h (UnificationAnswers.solves d) = effect_under P (unify l r) unified n S e refl h d
-proposal_under P (unify l r) (Some k) a n S e h p = cc
 proposal_under P (assign t b) None a n S e h (AssignmentAnswers.assigns d) = effect_under P (assign t b) assigned n S e refl h d
-proposal_under P (assign t b) (Some k) a n S e h p = cc
-proposal_under P (stream k x) choice a n S e h p = cc
+proposal_under P g choice a n S e h p = cc
 
 pub proposal_as : ProposalAsAStep
 proposal_as P (call f ts) None a n S e (CallAnswers.by_least {k = k} l d) = let u = effect_each P (call f ts) (by_clause k) n no_step S e d in (d, (u.0, CallAnswers.by_least l u.1))
 proposal_as P (call f ts) (Some k) a n S e (ChoiceAnswers.by_choice d) = let u = effect_each P (call f ts) (by_clause k) n no_step S e d in (d, (u.0, ChoiceAnswers.by_choice u.1))
 proposal_as P (unify l r) None a n S e (UnificationAnswers.solves d) = (d, (e, UnificationAnswers.solves d))
-proposal_as P (unify l r) (Some k) a n S e p = cc
 proposal_as P (assign t b) None a n S e (AssignmentAnswers.assigns d) = (d, (e, AssignmentAnswers.assigns d))
-proposal_as P (assign t b) (Some k) a n S e p = cc
-proposal_as P (stream k x) choice a n S e p = cc
+proposal_as P g choice a n S e p = cc

@@ -28,7 +28,7 @@ pub use Rattle.ghc_match.proofs.Listings.{Listing, itself, over, restated}
 pub use Rattle.ghc_match.proofs.LooksAt.{looks_back}
 pub use Rattle.ghc_match.proofs.Outcomes.{accepts_refuses, accepts_there, accepts_waits, outcome_there, outcomes_exclude, refuses_there, refuses_waits, waits_there}
 pub use Rattle.ghc_match.proofs.OutcomesByPlaces.{accepts_by, stands_at, stands_value}
-pub use Rattle.ghc_match.proofs.Positions.{value_not}
+pub use Rattle.ghc_match.proofs.Positions.{back_again, value_not}
 pub use Rattle.ghc_match.proofs.PushLeaves.{leaves, parts}
 pub use Rattle.ghc_match.proofs.SetsOf.{either_set, listed_set, own_set}
 pub use Rattle.ghc_match.proofs.Values.{ends_once, leaf_reaches, number_once, number_there, number_waits_not, passes_reaches, value_looks}
@@ -67,10 +67,11 @@ pub use Rattle.ghc_term.specs.declared.fault.Fault.TheVariants.{Arithmetic, Clas
 pub use Rattle.ghc_term.specs.declared.goal_name.GoalName.{GoalName}
 pub use Rattle.ghc_term.specs.declared.operator.Operator.{Operator}
 pub use Rattle.ghc_term.specs.declared.var_name.VarName.{VarName}
-pub use Rattle.ghc_unify.proofs.Agree.{looks_at_terms}
+pub use Rattle.ghc_unify.proofs.Agree.{append_inside, looks_at_terms, meets_inside}
 pub use Rattle.ghc_unify.proofs.Endings.{each_ending}
 pub use Rattle.ghc_unify.proofs.Ends.{comes_leads, ends, left_end}
 pub use Rattle.ghc_unify.proofs.Extension.{comes_reaches, leads_bound, passed_on}
+pub use Rattle.ghc_unify.proofs.FactProofs.{from_integer}
 pub use Rattle.ghc_unify.proofs.LawProofs.{binds_and_reads, is_local, keeps_acyclic, one_ending}
 pub use Rattle.ghc_unify.proofs.Locality.{by_value, comes_agree}
 pub use Rattle.ghc_unify.proofs.Once.{clash_no_cycle, comes_end, solved_no_clash, solved_no_cycle}
@@ -79,10 +80,11 @@ pub use Rattle.ghc_unify.specs.Solutions.{replace, replace_all}
 pub use Rattle.ghc_unify.specs.Unify.{Clashes, Cycles, Ending, HasEnding, IsCycle, Meets, Move, Moves, Pairs, Unifies, UnifyFails, both, clash, clashes, cycle, cycles, go, integers, left, no_more, nodes, one_more, right, shared, solved, stay, with_bindings}
 pub use Rattle.std.proofs.Common.{Bool, Err, IfNone, IfOk, IfSome, IsSome, IsTrue, List, MatchOption, None, Ok, Option, Result, Some, T, [], ap, append_assoc, arith, cond, drop, false, filter, get_or, if◌then◌else◌, inl, inr, is_none, is_some, length, length-append, map, nat_lt, option_map, pos, refl, reverse, rules, slice_get, slice_index_or, subst, suc, sym, take, true, zero, ℕ, ℤ, ◌&&◌, ◌*◌, ◌++◌, ◌+◌, ◌-◌, ◌<◌, ◌==◌, ◌||◌, ◌↔◌, ◌∙◌, ◌∷◌, ◌≡◌, ◌≢◌, ◌≤◌, ◌⊎◌}
 pub use Rattle.std.proofs.lemmas.Bool.{eq-eqb, eqb-true, ne_eqb}
+pub use Rattle.std.proofs.Math.Bool.{or-false, or-true}
 pub use Rattle.std.proofs.lemmas.Bool.Decides.{eqb_tells, nat_tests}
 pub use Rattle.std.proofs.lemmas.Int.{to_z-of_z}
 pub use Rattle.std.proofs.lemmas.List.{at_drop_more, get_or-take, get_or_default, length-map, length-take-le, map-append, map_push, reverse-append, take-append-le, take_all, take_more}
-pub use Rattle.std.proofs.lemmas.List.Folds.{find_at}
+pub use Rattle.std.proofs.lemmas.List.Folds.{find_at, list_any-append}
 pub use Rattle.std.proofs.lemmas.List.Kept.{AllPairs-from_increasing}
 pub use Rattle.std.proofs.lemmas.Map.Made.{keys_of-map_values, lookup-map_values}
 pub use Rattle.std.proofs.lemmas.Map.Views.{tells_apart}

@@ -1,5 +1,4 @@
-use Rattle.ghc_fire.proofs.Words.{◌≡◌, ◌+◌, ◌∷◌, ◌++◌, [], drop, get_or, true, false, cond, ◌||◌, refl, sym, ap, ◌∙◌, append_assoc, list_any, eq_by_cmp, at_drop_more, name_cmp, firsts, name_total, made}
-use Rattle.std.specs.FinMap as finite
+use Rattle.ghc_fire.proofs.Words.{◌≡◌, ◌+◌, ◌∷◌, ◌++◌, [], drop, get_or, cond, ◌||◌, refl, sym, ap, ◌∙◌, append_assoc, list_any, eq_by_cmp, at_drop_more, name_cmp, firsts, name_total, made}
 use Rattle.std.specs.FinSet as set
 use Rattle.ghc_fire.proofs.called.each_once.Goals as goal
 use Rattle.ghc_fire.proofs.called.each_once.Goals.{then-not-contains+in_ok-insert+in_ok-push, else-not-contains}

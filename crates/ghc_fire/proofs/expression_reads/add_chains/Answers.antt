@@ -1,5 +1,5 @@
-use Rattle.ghc_fire.proofs.Words.{◌≡◌, [], ◌∷◌, ◌++◌, append_assoc, sym, ap, ◌∙◌, subst, reverse, ◌↔◌, reverse-append, value_at, leaf_variables, leaves, Gains}
-use Rattle.ghc_fire.proofs.Gathered.{Gathers, OnChains, gathers_first}
+use Rattle.ghc_fire.proofs.Words.{◌≡◌, [], ◌∷◌, ◌++◌, append_assoc, sym, ap, ◌∙◌, reverse, reverse-append, value_at, leaf_variables, leaves, subst, Gains}
+use Rattle.ghc_fire.proofs.Gathered.{OnChains, gathers_first}
 use Rattle.ghc_fire.proofs.expression_reads.add_chains.Goals as goal
 
 pub loop-part-preserved-in-Continue-branch-2 : goal.loop-part-preserved-in-Continue-branch-2
@@ -9,13 +9,12 @@ loop-part-preserved-in-Continue-branch-2 c x =
     let part = c.in-Some.part in
     let opened : leaves (reverse c.loop-part.waiting.items) ≡ leaf_variables part.now ++ rest = ap (λ l. leaves (reverse l)) c.in-Some.ensures.items ∙ ap leaves (reverse-append c.pop.new.self.items (part ∷ [])) in
     let added = subst (λ a. Gains c.loop-part.reads c.add_chain.new.reads (OnChains S (leaf_variables a))) c.in-Leaf.ensures c.in_ok-add_chain-in-Leaf.ensures in
-    let first = gathers_first S c.loop-part.reads c.add_chain.new.reads (leaf_variables part.now) rest added x in
-    let old = subst (λ ys. Gathers S c.loop-part.reads ys x ↔ Gathers S c.args.reads.now (leaf_variables c.args.expression.now) x) opened (c.loop-part.invariant x) in
+    let first = gathers_first (value_at c.args.store.now.held) c.loop-part.reads c.add_chain.new.reads (leaf_variables part.now) rest added x in
+    let old = rw opened at (c.loop-part.invariant x) in
     (λ h. old.0 (first.0 h), λ h. first.1 (old.1 h))
 
 pub loop-part-preserved : goal.loop-part-preserved
 loop-part-preserved c x =
-    let S = value_at c.args.store.now.held in
     let left = c.in-Operation.left in
     let right = c.in-Operation.right in
     let part = c.in-Some.part in
@@ -28,4 +27,4 @@ loop-part-preserved c x =
     let same : leaves (reverse c.loop-part.waiting.items) ≡ leaves (reverse c.push-in-Operation-2.new.self.items) =
     opened ∙ ap (λ l. l ++ rest) parted ∙ append_assoc (leaf_variables left.now) (leaf_variables right.now) rest ∙ sym (ap leaves turned)
     in
-    subst (λ ys. Gathers S c.loop-part.reads ys x ↔ Gathers S c.args.reads.now (leaf_variables c.args.expression.now) x) same (c.loop-part.invariant x)
+    rw same at (c.loop-part.invariant x)

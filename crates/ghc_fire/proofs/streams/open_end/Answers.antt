@@ -1,5 +1,4 @@
-use Rattle.ghc_fire.proofs.Words.{◌+◌, ◌<◌, [], ◌∷◌, ◌++◌, Some, sym, ap, ◌∙◌, subst, variable, IsValue, Leads, now, value_at, name_total, name_antisymmetric, walk, walk_step, at_value, shown_value}
-use Rattle.std.specs.FinMap as finite
+use Rattle.ghc_fire.proofs.Words.{[], ◌∷◌, ◌++◌, Some, sym, ap, ◌∙◌, subst, IsValue, now, name_total, name_antisymmetric, walk_step, at_value, shown_value, value_at}
 use Rattle.std.specs.FinSet as set
 use Rattle.ghc_fire.proofs.OpenTails.{comes_next, comes_to_value}
 use Rattle.ghc_fire.proofs.streams.open_end.Goals as goal
@@ -10,8 +9,7 @@ loop-value-init c = ([], now, c.new-before.ensures)
 pub loop-value-smaller : goal.loop-value-smaller
 loop-value-smaller c =
     let s = c.args.store.now.held in
-    subst (λ p. walk (finite.len s + 1) s p < walk (finite.len s + 1) s (variable c.loop-value.end)) (sym c.in-Var.ensures.shown)
-    (walk_step s c.acyclic.ensures c.loop-value.end c.in-Some.value.now (sym c.in-Some.ensures))
+    rw c.in-Var.ensures.shown (walk_step s c.acyclic.ensures c.loop-value.end c.in-Some.value.now (sym c.in-Some.ensures))
 
 pub loop-value-preserved : goal.loop-value-preserved
 loop-value-preserved c =
@@ -24,8 +22,7 @@ loop-value-preserved c =
 
 pub returns-in_default-view : goal.returns-in_default-view
 returns-in_default-view c =
-    let S = value_at c.args.store.now.held in
     let v = c.view.result in
     let value = c.view.ensures.shown in
-    let leads = subst (λ t. Leads S t [] t) value (at_value v c.in_default-view.not-Var) in
+    let leads = rw value at (at_value {S = value_at c.args.store.now.held} v c.in_default-view.not-Var) in
     record { «open» = tt; bound = (c.in-Some.value.now, comes_to_value c.loop-value.invariant.1 (sym c.in-Some.ensures) leads, subst IsValue value (shown_value v c.in_default-view.not-Var)) }

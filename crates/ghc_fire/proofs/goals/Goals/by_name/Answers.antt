@@ -1,7 +1,7 @@
-use Rattle.ghc_fire.proofs.Words.{◌+◌, take, get_or, sym, ap, subst, ◌∙◌, list_any, eq_by_cmp, take_more, take_all, GoalName, in_names, goal_cmp}
+use Rattle.ghc_fire.proofs.Words.{take, get_or, sym, ap, ◌∙◌, list_any, eq_by_cmp, take_more, take_all, GoalName, in_names, goal_cmp}
 use Rattle.std.specs.FinMap as finite
 use Rattle.std.specs.FinSet as set
-use Rattle.ghc_fire.proofs.Gathering.{IsGathered, none_met, one_more, none_more, gathered}
+use Rattle.ghc_fire.proofs.Gathering.{none_met, one_more, none_more, gathered}
 use Rattle.ghc_fire.proofs.GoalNames.{goal_total, goal_antisymmetric}
 use Rattle.ghc_fire.proofs.goals.Goals.by_name.Goals as goal
 use Rattle.ghc_fire.proofs.goals.Goals.by_name.Goals.{in-Some+in_ok-insert, in_default}
@@ -18,14 +18,12 @@ loop-name-preserved c =
     let held = c.args.self.now.held in
     let more = take_more ks i none c.loop-name-test.true in
     elim c.match-get.branch [
-      | in-Some+in_ok-insert w ↦
-          let there = sym w.in-Some.ensures in
-          let next = one_more goal_total goal_antisymmetric (λ t. t.now) held (take i ks) c.loop-name.goals.entries c.loop-name.invariant name w.insert.new.self.entries w.in-Some.goal there w.in_ok-insert.ensures.updates.0 in
-          subst (λ es. IsGathered goal_total goal_antisymmetric (λ t. t.now) held (take (i + 1) ks) es) (ap (λ m. m.entries) (sym w.goals-is)) (subst (λ met. IsGathered goal_total goal_antisymmetric (λ t. t.now) held met w.insert.new.self.entries) (sym more) next)
-      | in_default w ↦
-          let gone = sym w.in_default.ensures in
-          let next = none_more goal_total goal_antisymmetric (λ t. t.now) held (take i ks) c.loop-name.goals.entries c.loop-name.invariant name gone in
-          subst (λ es. IsGathered goal_total goal_antisymmetric (λ t. t.now) held (take (i + 1) ks) es) (ap (λ m. m.entries) (sym w.goals-is)) (subst (λ met. IsGathered goal_total goal_antisymmetric (λ t. t.now) held met c.loop-name.goals.entries) (sym more) next)
+      | in-Some+in_ok-insert w ↦ rw (w.goals-is, more)
+          (one_more goal_total goal_antisymmetric (λ t. t.now) held (take i ks) c.loop-name.goals.entries c.loop-name.invariant name w.insert.new.self.entries
+          w.in-Some.goal (sym w.in-Some.ensures) w.in_ok-insert.ensures.updates.0)
+      | in_default w ↦ rw (w.goals-is, more)
+          (none_more goal_total goal_antisymmetric (λ t. t.now) held (take i ks) c.loop-name.goals.entries
+          c.loop-name.invariant name (sym w.in_default.ensures))
     ]
 
 pub returns : goal.returns

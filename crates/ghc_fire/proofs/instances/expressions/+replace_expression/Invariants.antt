@@ -8,6 +8,3 @@ abbrev pub invariant-loop-term : goal.invariant-loop-term
 invariant-loop-term l =
     (depth_of l.place ≤ depth_of l.expression)
     × (operated l.rights.items (replace_in_expression (replacement l.by) l.place) ≡ replace_in_expression (replacement l.by) l.expression)
-
-abbrev pub decreases-loop-term : goal.decreases-loop-term
-decreases-loop-term l = depth_of l.place

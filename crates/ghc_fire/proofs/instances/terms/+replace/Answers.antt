@@ -17,10 +17,8 @@ replace_part-returns-then-is_closed t c = replace_closed (replacement c.args.by)
 
 pub replace_open-returns-then-is_closed : goal.replace_open-returns-then-is_closed
 replace_open-returns-then-is_closed t c =
-    let s = replacement c.args.by in
-    let place = c.loop-place.place.now in
-    let same = replace_closed s place (c.is_closed.ensures.0 c.if-is_closed.true) in
-    IfOk-weaker c.rebuild_some.result _ _ (walk_stays s c.args.term.now c.loop-place.fronts.items place c.loop-place.count c.loop-place.rest.now c.loop-place.invariant.walked same) c.rebuild_some.ensures
+    let same = replace_closed (replacement c.args.by) c.loop-place.place.now (c.is_closed.ensures.0 c.if-is_closed.true) in
+    IfOk-weaker c.rebuild_some.result _ _ (walk_stays _ c.args.term.now _ _ _ _ c.loop-place.invariant.walked same) c.rebuild_some.ensures
 
 pub replace_open-replace_each-requires : goal.replace_open-replace_each-requires
 replace_open-replace_each-requires t c =
@@ -32,42 +30,29 @@ replace_open-replace_each-requires t c =
 
 pub replace_open-loop-place-smaller-then-changed : goal.replace_open-loop-place-smaller-then-changed
 replace_open-loop-place-smaller-then-changed t c =
-    let split = (MatchOption-at_some _ _ c.unwrap.result c.unwrap.ensures c.split_last.ensures.cases).0 in
-    last_lower c.in-Struct.name.now c.in-Struct.arguments.now c.unwrap.result.1.now c.unwrap.result.0.now c.loop-place.place.now c.in-Struct.ensures.shown split
+    last_lower _ _ _ _ _ c.in-Struct.ensures.shown (MatchOption-at_some _ _ c.unwrap.result c.unwrap.ensures c.split_last.ensures.cases).0
 
-pub replace_open-loop-place-preserved-then-changed :
-    goal.replace_open-loop-place-preserved-then-changed
+pub replace_open-loop-place-preserved-then-changed : goal.replace_open-loop-place-preserved-then-changed
 replace_open-loop-place-preserved-then-changed t c =
-    let s = replacement c.args.by in
     let split = (MatchOption-at_some _ _ c.unwrap.result c.unwrap.ensures c.split_last.ensures.cases).0 in
-    let last = c.unwrap.result.0.now in
-    let front = c.unwrap.result.1.now in
-    let place = c.loop-place.place.now in
-    let f = c.in-Struct.name.now in
-    let less = last_lower f c.in-Struct.arguments.now front last place c.in-Struct.ensures.shown split in
+    let less = last_lower _ _ _ _ _ c.in-Struct.ensures.shown split in
     let counted : c.len-count.result ≡ length c.push.new.self.items = search rules in
     record {
       lower = omega (arith, less, c.loop-place.invariant.lower);
-      walked = walk_other s c.args.term.now c.loop-place.fronts.items place c.loop-place.count c.loop-place.rest.now c.loop-place.invariant.walked _ f c.in-Struct.arguments.now front last c.in-Struct.ensures.shown split
+      walked = walk_other (replacement c.args.by) c.args.term.now _ _ _ _ c.loop-place.invariant.walked _ _ _ _ _ c.in-Struct.ensures.shown split
           c.push.new.self.items c.in_ok-push-in-Struct.ensures.items c.in_ok-name-in-Struct.ensures.same c.in_ok-arguments-in-Struct.ensures.arguments c.len-count.result counted;
     }
 
 pub replace_open-loop-place-smaller : goal.replace_open-loop-place-smaller
 replace_open-loop-place-smaller t c =
-    let split = (MatchOption-at_some _ _ c.unwrap.result c.unwrap.ensures c.split_last.ensures.cases).0 in
-    last_lower c.in-Struct.name.now c.in-Struct.arguments.now c.unwrap.result.1.now c.unwrap.result.0.now c.loop-place.place.now c.in-Struct.ensures.shown split
+    last_lower _ _ _ _ _ c.in-Struct.ensures.shown (MatchOption-at_some _ _ c.unwrap.result c.unwrap.ensures c.split_last.ensures.cases).0
 
 pub replace_open-loop-place-preserved : goal.replace_open-loop-place-preserved
 replace_open-loop-place-preserved t c =
-    let s = replacement c.args.by in
     let split = (MatchOption-at_some _ _ c.unwrap.result c.unwrap.ensures c.split_last.ensures.cases).0 in
-    let last = c.unwrap.result.0.now in
-    let front = c.unwrap.result.1.now in
-    let place = c.loop-place.place.now in
-    let f = c.in-Struct.name.now in
-    let less = last_lower f c.in-Struct.arguments.now front last place c.in-Struct.ensures.shown split in
+    let less = last_lower _ _ _ _ _ c.in-Struct.ensures.shown split in
     record {
       lower = omega (arith, less, c.loop-place.invariant.lower);
-      walked = walk_same s c.args.term.now c.loop-place.fronts.items place c.loop-place.count c.loop-place.rest.now c.loop-place.invariant.walked _ f c.in-Struct.arguments.now front last c.in-Struct.ensures.shown split
+      walked = walk_same (replacement c.args.by) c.args.term.now _ _ _ _ c.loop-place.invariant.walked _ _ _ _ _ c.in-Struct.ensures.shown split
           c.push.new.self.items c.in_ok-push-in-Struct.ensures.items c.in_ok-name-in-Struct.ensures.same c.in_ok-arguments-in-Struct.ensures.arguments (c.in_ok-arguments-in-Struct.ensures.changed c.if-changed.false);
     }
