@@ -1,8 +1,7 @@
 -- What trees reach, where that is seen at once.
-use Rattle.ghc_hooks.proofs.Words.{◌≡◌, ℕ, ◌+◌, ◌<◌, List, length, get_or, take, refl, sym, ap, ◌∙◌, subst, inl, inr, Bool, Option, Some, Result, Ok, Err, IsTrue, IfOk, VarName, Tree, variable, node, trees, Occurs, IsClosed, Variables, IsSetOf, Reaches, here, through, one_inserted, holds_nothing, Gains, OneReaches}
+use Rattle.ghc_hooks.proofs.Words.{◌≡◌, ℕ, ◌+◌, ◌<◌, List, length, get_or, take, sym, ap, ◌∙◌, subst, Bool, Option, Some, Result, Ok, Err, IsTrue, IfOk, VarName, Tree, variable, node, trees, Occurs, IsClosed, Variables, IsSetOf, Reaches, here, through, one_inserted, holds_nothing, Gains, OneReaches, occurs_among, argument_reaches, one_value, take_more, gains_more, arith}
 use Rattle.std.specs.FinSet as set
-use Rattle.ghc_hooks.proofs.LookingAll.{so_far, earlier, latest}
-use Rattle.ghc_hooks.proofs.Reaching.{occurs_among, argument_reaches}
+use Rattle.ghc_hooks.proofs.Hearing.{gains_by}
 
 module _ {S : VarName → Option Tree} where
   -- what is closed reaches nothing
@@ -16,24 +15,12 @@ module _ {S : VarName → Option Tree} where
   only_itself x y shut (through {u = u} o e r) = absurd (closed_reaches u (shut u (ap S (sym o) ∙ e)) y r)
 
   pub gains_one : (old new : Variables) (x : VarName) (t : Tree) → variable x ≡ t → new ≡ set.insert old x → ((u : Tree) → S x ≡ Some u → (z : VarName) → ¬ Occurs z u) → Gains old new (Reaches S t)
-  gains_one old new x t is e shut y =
-      let one = one_inserted old x y in (
-        λ i. elim (one.0 (subst (λ s. IsTrue (set.contains s y)) e i)) [ inl was ↦ inl was | inr same ↦ inr (subst (λ u. Reaches S u y) is (here same)) ],
-        λ k. subst (λ s. IsTrue (set.contains s y)) (sym e) (one.1 (elim k [ inl was ↦ inl was | inr r ↦ inr (only_itself x y shut (subst (λ u. Reaches S u y) (sym is) r)) ])),
-      )
+  gains_one old new x t is e shut y = grind (arith, one_inserted, here, only_itself)
 
   -- one tree after another
   pub gains_next : (old now new : Variables) (ts : List Tree) (i : ℕ) (d : Tree) → i < length ts → Gains old now (OneReaches S (take i ts)) → Gains now new (Reaches S (get_or ts i d)) → Gains old new (OneReaches S (take (i + 1) ts))
-  gains_next old now new ts i d within before step x = (
-    λ k. elim ((step x).0 k) [
-      | inl n ↦ elim ((before x).0 n) [ inl o ↦ inl o | inr w ↦ inr (w.0, earlier ts i d within w.0 w.1, w.2) ]
-      | inr r ↦ inr (get_or ts i d, latest ts i d within (get_or ts i d) refl, r)
-    ],
-    λ k. (step x).1 (elim k [
-      | inl o ↦ inl ((before x).1 (inl o))
-      | inr w ↦ elim (so_far ts i d within w.0 w.1) [ inl e ↦ inl ((before x).1 (inr (w.0, e, w.2))) | inr e ↦ inr (subst (λ u. Reaches S u x) e w.2) ]
-    ]),
-  )
+  gains_next old now new ts i d within before step =
+      rw (take_more ts i d within) (gains_more (Reaches S) old now new (take i ts) (get_or ts i d) before step)
 
   -- a structure reaches what its arguments reach
   among : (f : List ℕ) (ts : List Tree) (x : VarName) → Reaches S (node f (trees ts)) x → OneReaches S ts x
@@ -41,26 +28,17 @@ module _ {S : VarName → Option Tree} where
   among f ts x (through {y = y} o e r) = let w = occurs_among ts y o in (w.0, w.1, through w.2 e r)
 
   gains_structure : (old new : Variables) (f : List ℕ) (ts : List Tree) (t : Tree) → node f (trees ts) ≡ t → Gains old new (OneReaches S ts) → Gains old new (Reaches S t)
-  gains_structure old new f ts t is all = subst (λ u. Gains old new (Reaches S u)) is (λ x. (
-    λ i. elim ((all x).0 i) [ inl o ↦ inl o | inr w ↦ inr (argument_reaches f ts w.1 w.2) ],
-    λ k. (all x).1 (elim k [ inl o ↦ inl o | inr r ↦ inr (among f ts x r) ]),
-  ))
+  gains_structure old new f ts t is all = rw (← is) (gains_by old new (λ x. (λ w. argument_reaches f ts w.1 w.2, among f ts x)) all)
 
 pub seen_structure : {E : Type 0} (S : VarName → Option Tree) (old new : Variables) (f : List ℕ) (ts : List Tree) (t : Tree) → node f (trees ts) ≡ t → (r : Result Bool E)
     → IfOk r (λ seen. IsTrue seen → Gains old new (OneReaches S ts)) → IfOk r (λ seen. IsTrue seen → Gains old new (Reaches S t))
 seen_structure S old new f ts t is (Ok seen) all = λ yes. gains_structure old new f ts t is (all yes)
 seen_structure S old new f ts t is (Err e) all = all
 
-one_value : {u v : Tree} → Some v ≡ Some u → v ≡ u
-one_value e = cc
-
 -- what an empty set gains is what it then has
 pub all_gained : (P : VarName → Type 0) (old new : Variables) → old ≡ set.empty → Gains old new P → IsSetOf new P
-all_gained P old new none all x = (
-  λ i. elim ((all x).0 i) [ inl o ↦ absurd (holds_nothing old none x o) | inr p ↦ p ],
-  λ p. (all x).1 (inr p),
-)
+all_gained P old new none all x = grind (arith, all x, holds_nothing old none x)
 
 -- the value of a variable is one
 pub shut_value : (o : Option Tree) (v : Tree) → o ≡ Some v → IsClosed v → (u : Tree) → o ≡ Some u → IsClosed u
-shut_value o v is shut u e = let same : Some v ≡ Some u = sym is ∙ e in subst IsClosed (one_value same) shut
+shut_value o v is shut u e = subst IsClosed (one_value v u (sym is ∙ e)) shut

@@ -4,44 +4,32 @@ use Rattle.std.specs.FinMap as finite
 use Rattle.std.specs.FinSet as set
 use Rattle.ghc_hooks.proofs.Looking.{goal_put, goal_taken, goal_cases}
 use Rattle.ghc_hooks.proofs.LookingAll.{HasBesides, HasWithout}
-use Rattle.ghc_hooks.proofs.Fitting.{put_elsewhere, gone_here, gone_elsewhere, nothing_gone, one_more_note, one_note_less, follows_put, follows_gone}
+use Rattle.ghc_hooks.proofs.NotedFaces.{through}
+use Rattle.ghc_hooks.proofs.Fitting.{put_elsewhere, gone_here, gone_elsewhere, one_more_note, one_note_less, follows_put, follows_gone}
 
 -- a note of what is left is one of what there was
 pub still_noted : (m : NotesByGoal) (g h : GoalName) (n : Note) → finite.get (finite.remove m g) h ≡ Some n → finite.get m h ≡ Some n
-still_noted m g h n there = elim (goal_cases h g) as (λ _. finite.get m h ≡ Some n) [
-  | inl p ↦ let clash : None ≡ Some n = sym (gone_here m g) ∙ ap (finite.get (finite.remove m g)) (sym p) ∙ there in absurd (cc)
-  | inr d ↦ sym (gone_elsewhere m g h d) ∙ there
-]
+still_noted m g h n there = grind (arith, goal_cases h g, gone_here m g, gone_elsewhere m g h)
 
 pub still_none : (m : NotesByGoal) (g h : GoalName) → finite.get m h ≡ None → finite.get (finite.remove m g) h ≡ None
-still_none m g h none = elim (goal_cases h g) as (λ _. finite.get (finite.remove m g) h ≡ None) [
-  | inl p ↦ ap (finite.get (finite.remove m g)) p ∙ gone_here m g
-  | inr d ↦ gone_elsewhere m g h d ∙ none
-]
+still_none m g h none = grind (arith, goal_cases h g, gone_here m g, gone_elsewhere m g h)
 
-module _ (m m' : NotesByGoal) (u u' : Table GoalNames) (b b' : GoalsByVariable) (g : GoalName) (fit : FitEachOther m u b) where
-  pub fit_same : m' ≡ m → u'.held ≡ u.held → u.room ≤ u'.room → ((y : VarName) (h : GoalName) → IsTrue (looks b' y h) ↔ IsTrue (looks b y h)) → FitEachOther m' u' b'
-  fit_same e held room same = subst (λ z. FitEachOther z u' b') (sym e) (record {
+module _ (m : NotesByGoal) (u u' : Table GoalNames) (b : GoalsByVariable) (fit : FitEachOther m u b) where
+  pub fit_same : (b' : GoalsByVariable) → u'.held ≡ u.held → u.room ≤ u'.room → ((y : VarName) (h : GoalName) → IsTrue (looks b' y h) ↔ IsTrue (looks b y h))
+      → FitEachOther m u' b'
+  fit_same b' held room same = record {
     apart = λ h there. fit.apart h (ap (λ s. set.contains s h) (sym held) ∙ there);
-    follows = λ y h. (λ k. (fit.follows y h).0 ((same y h).0 k), λ k. (same y h).1 ((fit.follows y h).1 k));
+    follows = λ y h. through (same y h) (fit.follows y h);
     room = let before = fit.room in omega (arith, before, room);
-  })
-
-  pub fit_added : finite.get m g ≡ None → u'.held ≡ set.insert u.held g → u.room ≤ u'.room + 1 → finite.len m < u.room → FitEachOther m u' b
-  fit_added none held room more = record {
-    apart = λ h there. elim ((goal_put u.held g h).0 (ap (λ s. set.contains s h) (sym held) ∙ there)) [ inl k ↦ fit.apart h k | inr p ↦ ap (finite.get m) p ∙ none ];
-    follows = fit.follows;
-    room = omega (arith, room, more);
   }
 
-  pub fit_unmarked : finite.get m g ≡ None → m' ≡ finite.remove m g → u'.held ≡ set.remove u.held g → u.room ≤ u'.room → FitEachOther m' u' b
-  fit_unmarked none e held room = subst (λ z. FitEachOther z u' b) (sym (e ∙ nothing_gone m g none)) (record {
-    apart = λ h there. fit.apart h ((goal_taken u.held g h).0 (ap (λ s. set.contains s h) (sym held) ∙ there)).0;
-    follows = fit.follows;
-    room = let before = fit.room in omega (arith, before, room);
-  })
+  pub fit_added : (g : GoalName) → finite.get m g ≡ None → u'.held ≡ set.insert u.held g → u.room ≤ u'.room + 1 → finite.len m < u.room → FitEachOther m u' b
+  fit_added g none held room more = grind (arith, goal_put)
 
-  module _ (n : Note) (xs : List VarName) (all : set.from_list {R = name_cmp} xs ≡ n.looked) where
+  pub fit_unmarked : (g : GoalName) → u'.held ≡ set.remove u.held g → u.room ≤ u'.room → FitEachOther m u' b
+  fit_unmarked g held room = grind (arith, goal_taken)
+
+  module _ (m' : NotesByGoal) (b' : GoalsByVariable) (g : GoalName) (n : Note) (xs : List VarName) (all : set.from_list {R = name_cmp} xs ≡ n.looked) where
     pub fit_noted : IsTrue (set.contains u.held g) → m' ≡ finite.insert m g n → u'.held ≡ set.remove u.held g → finite.len m + 1 ≤ u'.room → HasBesides b xs g b' → FitEachOther m' u' b'
     fit_noted marked e held room besides =
         let none : finite.get m g ≡ None = fit.apart g marked in

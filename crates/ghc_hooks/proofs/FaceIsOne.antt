@@ -1,8 +1,8 @@
 -- A state has one face.
-use Rattle.ghc_hooks.proofs.Words.{◌≡◌, refl, sym, ◌∙◌, ◌↔◌, Option, Some, None, IsTrue, GoalName, StoreValue, Program, Goals, goal_total, goal_antisymmetric, Face, GoalNames, IsFace, FaceIsOne}
+use Rattle.ghc_hooks.proofs.Words.{◌≡◌, refl, sym, ◌∙◌, ◌↔◌, Option, Some, None, IsTrue, GoalName, goal_total, goal_antisymmetric, GoalNames, FaceIsOne, agree}
 use Rattle.std.specs.FinMap as finite
 use Rattle.std.specs.FinSet as set
-use Rattle.ghc_hooks.proofs.Few.{agree, same_goals}
+use Rattle.ghc_hooks.proofs.Few.{same_goals}
 use Rattle.ghc_hooks.proofs.NotedFaces.{through, turned}
 use Rattle.ghc_hooks.proofs.Pairs.{clause_total, clause_antisymmetric, hook_total, hook_antisymmetric}
 

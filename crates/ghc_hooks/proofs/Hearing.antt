@@ -1,7 +1,11 @@
 -- What the clauses of some numbers say to a call.
-use Rattle.ghc_hooks.proofs.Words.{◌≡◌, ℕ, true, false, List, [], ◌∷◌, ◌++◌, refl, subst, inl, inr, ◌⊎◌, ◌↔◌, Option, IsTrue, VarName, Tree, In, Variables, IsSetOf, in_left, in_last, in_more, not_both, holds_nothing, no_member, has_member, is_member, Clause, Program, IsClause, Accepts, Refuses, WaitsFor, LooksAt, HasOutcome, Gains, OneHas, has_more, refuses_waits, accepts_refuses, accepts_waits, clause_once, Heard}
+use Rattle.ghc_hooks.proofs.Words.{◌≡◌, ℕ, true, false, List, [], ◌∷◌, ◌++◌, refl, subst, inl, inr, ◌⊎◌, ◌↔◌, Option, IsTrue, VarName, Tree, In, Variables, IsSetOf, in_left, in_last, in_more, not_both, holds_nothing, no_member, has_member, is_member, Clause, Program, IsClause, Accepts, Refuses, WaitsFor, LooksAt, HasOutcome, Gains, OneHas, has_more, refuses_waits, accepts_refuses, accepts_waits, clause_once, Heard, arith}
 use Rattle.std.specs.FinSet as set
 use Rattle.ghc_match.specs.Match.{waits}
+
+-- a set gains what holds of the same
+pub gains_by : {P Q : VarName → Type 0} (s new : Variables) → ((x : VarName) → P x ↔ Q x) → Gains s new P → Gains s new Q
+gains_by s new same g x = grind (arith, same x, g x)
 
 -- the empty set has all that no number has
 none_had : (R : ℕ → VarName → Type 0) (s : Variables) → s ≡ set.empty → IsSetOf s (OneHas R [])
@@ -12,13 +16,9 @@ module _ (P : Program) (ts : List Tree) (S : VarName → Option Tree) where
   abbrev pub AtNumber : (Clause → List Tree → (VarName → Option Tree) → VarName → Type 0) → ℕ → VarName → Type 0
   AtNumber Q k x = (c : Clause) × IsClause P k c × Q c ts S x
 
-  -- one of the clauses of these numbers accepts
-  abbrev pub OneAccepts : List ℕ → Type 0
-  OneAccepts ks = (k : ℕ) × (c : Clause) × In k ks × IsClause P k c × Accepts c ts S
-
   -- what the clauses of these numbers say
   pub record IsHeard (ks : List ℕ) (h : Heard) : Type 0 where
-    pub accepts : IsTrue h.accepts ↔ OneAccepts ks
+    pub accepts : IsTrue h.accepts ↔ ((k : ℕ) × (c : Clause) × In k ks × IsClause P k c × Accepts c ts S)
     pub awaited : IsSetOf h.awaited (OneHas (AtNumber WaitsFor) ks)
     pub looked : IsSetOf h.looked (OneHas (AtNumber LooksAt) ks)
 
@@ -32,10 +32,7 @@ module _ (P : Program) (ts : List Tree) (S : VarName → Option Tree) where
 
   -- what the clause has is what the clause of its number has
   by_number : (Q : Clause → List Tree → (VarName → Option Tree) → VarName → Type 0) (k : ℕ) (c : Clause) (s new : Variables) → IsClause P k c → Gains s new (Q c ts S) → Gains s new (AtNumber Q k)
-  by_number Q k c s new is g x = (
-    λ i. elim ((g x).0 i) [ inl a ↦ inl a | inr q ↦ inr (c, is, q) ],
-    λ d. (g x).1 (elim d [ inl a ↦ inl a | inr w ↦ inr (subst (λ z. Q z ts S x) (clause_once P w.1 is) w.2) ]),
-  )
+  by_number Q k c s new is = gains_by s new (λ x. (λ q. (c, is, q), λ w. subst (λ z. Q z ts S x) (clause_once P w.1 is) w.2))
 
   -- one clause more
   pub heard_more : (h more : Heard) (ks : List ℕ) (k : ℕ) (c : Clause) → IsClause P k c → IsHeard ks h → (IsTrue more.accepts ↔ (IsTrue h.accepts ⊎ Accepts c ts S)) → Gains h.awaited more.awaited (WaitsFor c ts S)
@@ -60,18 +57,9 @@ pub taken_over : (s t : Variables) → set.len s ≡ 0 → Gains s t (λ x. IsTr
 taken_over s t none x = (λ i. inr i, λ c. elim c [ inl i ↦ absurd (no_member s none x i) | inr i ↦ i ])
 
 pub members_added : (s new other : Variables) (xs : List VarName) → set.from_list xs ≡ other → Gains s new (λ x. In x xs) → Gains s new (λ x. IsTrue (set.contains other x))
-members_added s new other xs all g x = (
-  λ i. elim ((g x).0 i) [ inl a ↦ inl a | inr m ↦ inr (has_member other xs all x m) ],
-  λ c. (g x).1 (elim c [ inl a ↦ inl a | inr m ↦ inr (is_member other xs all x m) ]),
-)
+members_added s new other xs all = gains_by s new (λ x. (has_member other xs all x, is_member other xs all x))
 
--- a set gains what holds the same, and nothing from what holds of nothing
-pub gains_as : (s new other : Variables) (Q : VarName → Type 0) → IsSetOf other Q → Gains s new (λ x. IsTrue (set.contains other x)) → Gains s new Q
-gains_as s new other Q same g x = (
-  λ i. elim ((g x).0 i) [ inl a ↦ inl a | inr m ↦ inr ((same x).0 m) ],
-  λ c. (g x).1 (elim c [ inl a ↦ inl a | inr q ↦ inr ((same x).1 q) ]),
-)
-
+-- a set gains nothing from what holds of nothing
 gains_none : (s : Variables) (Q : VarName → Type 0) → ((x : VarName) → ¬ Q x) → Gains s s Q
 gains_none s Q never x = (λ i. inl i, λ c. elim c [ inl a ↦ a | inr q ↦ absurd (never x q) ])
 
@@ -87,7 +75,7 @@ module _ (c : Clause) (ts : List Tree) (S : VarName → Option Tree) (h : Heard)
   refusal_heard r = (same_acceptance (λ a. accepts_refuses c ts S a r), gains_none h.awaited (WaitsFor c ts S) (refuses_waits c ts S r), refl)
 
   pub wait_heard : (xs joined : Variables) → HasOutcome c ts S (waits xs) → Gains h.awaited joined (λ x. IsTrue (set.contains xs x)) → HeardToo (record h { awaited = joined })
-  wait_heard xs joined w g = (same_acceptance (λ a. accepts_waits c ts S a w.1.0 w.1.1), gains_as h.awaited joined xs (WaitsFor c ts S) w.0 g, refl)
+  wait_heard xs joined w g = (same_acceptance (λ a. accepts_waits c ts S a w.1.0 w.1.1), gains_by h.awaited joined w.0 g, refl)
 
   pub acceptance_heard : Accepts c ts S → HeardToo (record h { accepts = true })
   acceptance_heard a = ((λ i. inr a, λ o. refl), gains_none h.awaited (WaitsFor c ts S) (accepts_waits c ts S a), refl)

@@ -20,6 +20,5 @@ pub mod WholeFace
 pub mod FaceIsOne
 pub mod Unblocking
 pub mod Under
-pub mod Marks
 pub mod AtOnce
 mod Words

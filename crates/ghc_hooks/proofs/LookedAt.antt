@@ -1,5 +1,7 @@
 -- A goal waits only for what it looks at, and what it looks at is decided by itself.
-use Rattle.ghc_hooks.proofs.Words.{◌≡◌, List, [], ◌∷◌, inl, inr, refl, sym, subst, ◌∙◌, Option, true, false, IsTrue, VarName, Tree, variable, Expression, leaf, operation, Goal, call, unify, assign, stream, Leads, at_integer, at_node, at_free, along, Comes, now, on, Passes, Reaches, here, through, Clause, Program, WaitsFor, LooksAt, ExpressionReaches, GoalLooksAt, looks_there, looks_back, leaf_reaches, passes_reaches, Status, ready, waiting, failed, streaming, HasStatus, is_waiting, AgreeOnLooked, awaits, GoalsWaitForWhatTheyLookAt, LookedIsOfWhatIsLookedAt, ExactNotesStayExact, ExactNotesAwaitWhatIsLookedAt}
+use Rattle.ghc_hooks.proofs.Words.{◌≡◌, List, [], ◌∷◌, inl, inr, refl, sym, subst, ◌∙◌, Option, true, false, IsTrue, VarName, Tree, variable, Expression, leaf, operation, Goal, call, unify, assign, stream, Leads, at_integer, at_node, at_free, along, Comes, now, on, Passes, Reaches, here, through, Clause, Program, WaitsFor, LooksAt, ExpressionReaches, GoalLooksAt, looks_there, looks_back, leaf_reaches, passes_reaches, Status, ready, waiting, failed, streaming, HasStatus, is_waiting, awaits, GoalsWaitForWhatTheyLookAt, LookedIsOfWhatIsLookedAt, ExactNotesStayExact, ExactNotesAwaitWhatIsLookedAt, ◌⊎◌, ◌↔◌}
+use Rattle.std.proofs.Math.Logic.{⊎_map}
+use Rattle.ghc_hooks.proofs.NotedFaces.{through as in_turn}
 use Rattle.ghc_hooks.proofs.Statuses.{status_there}
 
 -- where a chain ends in a variable it passes it
@@ -19,6 +21,10 @@ waits_for_looked P S (unify l r) x w = absurd w
 waits_for_looked P S (assign t a) x w = let p = end_passed w.2.1 refl in inr (leaf_reaches a w.0 x w.1 (passes_reaches p.1))
 waits_for_looked P S (stream k y) x w = absurd w
 
+-- equivalences side by side
+either_alike : {A B C D : Type 0} → A ↔ B → C ↔ D → (A ⊎ C) ↔ (B ⊎ D)
+either_alike p q = (⊎_map p.0 q.0, ⊎_map p.1 q.1)
+
 module _ (S T : VarName → Option Tree) where
   reaches_there : {t : Tree} {x : VarName} → Reaches S t x → ((y : VarName) → Reaches S t y → S y ≡ T y) → Reaches T t x
   reaches_there (here o) h = here o
@@ -28,40 +34,25 @@ module _ (S T : VarName → Option Tree) where
   reaches_back (here o) h = here o
   reaches_back (through o p r) h = let was = h _ (here o) ∙ p in through o was (reaches_back r (λ z q. h z (through o was q)))
 
-  expression_there : (a : Expression) (x : VarName) → ExpressionReaches S a x → ((y : VarName) → ExpressionReaches S a y → S y ≡ T y) → ExpressionReaches T a x
-  expression_there (leaf t) x r h = reaches_there r h
-  expression_there (operation o a b) x (inl r) h = inl (expression_there a x r (λ y q. h y (inl q)))
-  expression_there (operation o a b) x (inr r) h = inr (expression_there b x r (λ y q. h y (inr q)))
+  both_ways : {t : Tree} → ((y : VarName) → Reaches S t y → S y ≡ T y) → (x : VarName) → Reaches S t x ↔ Reaches T t x
+  both_ways h x = (λ r. reaches_there r h, λ r. reaches_back r h)
 
-  expression_back : (a : Expression) (x : VarName) → ExpressionReaches T a x → ((y : VarName) → ExpressionReaches S a y → S y ≡ T y) → ExpressionReaches S a x
-  expression_back (leaf t) x r h = reaches_back r h
-  expression_back (operation o a b) x (inl r) h = inl (expression_back a x r (λ y q. h y (inl q)))
-  expression_back (operation o a b) x (inr r) h = inr (expression_back b x r (λ y q. h y (inr q)))
-
-looked_there : (P : Program) (S T : VarName → Option Tree) (g : Goal) → AgreeOnLooked P g S T → (x : VarName) → GoalLooksAt P S g x → GoalLooksAt P T g x
-looked_there P S T (call f ts) h x l = (l.0, l.1, l.2, l.3, looks_there l.1 ts S T (λ y m. sym (h y (l.0, l.1, l.2, l.3, m))) x l.4)
-looked_there P S T (unify l r) h x (inl k) = inl (reaches_there S T k (λ y q. h y (inl q)))
-looked_there P S T (unify l r) h x (inr k) = inr (reaches_there S T k (λ y q. h y (inr q)))
-looked_there P S T (assign t a) h x (inl k) = inl (reaches_there S T k (λ y q. h y (inl q)))
-looked_there P S T (assign t a) h x (inr k) = inr (expression_there S T a x k (λ y q. h y (inr q)))
-looked_there P S T (stream k s) h x l = l
-
-looked_back : (P : Program) (S T : VarName → Option Tree) (g : Goal) → AgreeOnLooked P g S T → (x : VarName) → GoalLooksAt P T g x → GoalLooksAt P S g x
-looked_back P S T (call f ts) h x l = (l.0, l.1, l.2, l.3, looks_back l.1 ts S T (λ y m. sym (h y (l.0, l.1, l.2, l.3, m))) x l.4)
-looked_back P S T (unify l r) h x (inl k) = inl (reaches_back S T k (λ y q. h y (inl q)))
-looked_back P S T (unify l r) h x (inr k) = inr (reaches_back S T k (λ y q. h y (inr q)))
-looked_back P S T (assign t a) h x (inl k) = inl (reaches_back S T k (λ y q. h y (inl q)))
-looked_back P S T (assign t a) h x (inr k) = inr (expression_back S T a x k (λ y q. h y (inr q)))
-looked_back P S T (stream k s) h x l = l
+  expression_alike : (a : Expression) → ((y : VarName) → ExpressionReaches S a y → S y ≡ T y)
+      → (x : VarName) → ExpressionReaches S a x ↔ ExpressionReaches T a x
+  expression_alike (leaf t) h x = both_ways h x
+  expression_alike (operation o a b) h x = either_alike (expression_alike a (λ y q. h y (inl q)) x) (expression_alike b (λ y q. h y (inr q)) x)
 
 pub looked_alike : LookedIsOfWhatIsLookedAt
-looked_alike P S T g h x = (looked_there P S T g h x, looked_back P S T g h x)
+looked_alike P S T (call f ts) h x = (
+  λ l. (l.0, l.1, l.2, l.3, looks_there l.1 ts S T (λ y m. sym (h y (l.0, l.1, l.2, l.3, m))) x l.4),
+  λ l. (l.0, l.1, l.2, l.3, looks_back l.1 ts S T (λ y m. sym (h y (l.0, l.1, l.2, l.3, m))) x l.4),
+)
+looked_alike P S T (unify l r) h x = either_alike (both_ways S T (λ y q. h y (inl q)) x) (both_ways S T (λ y q. h y (inr q)) x)
+looked_alike P S T (assign t a) h x = either_alike (both_ways S T (λ y q. h y (inl q)) x) (expression_alike S T a (λ y q. h y (inr q)) x)
+looked_alike P S T (stream k s) h x = (λ l. l, λ l. l)
 
 pub exact_stays : ExactNotesStayExact
-exact_stays P S T g note exact h = (
-  status_there P S T g note.status exact.0 h,
-  λ x. (λ i. looked_there P S T g h x ((exact.1 x).0 i), λ l. (exact.1 x).1 (looked_back P S T g h x l)),
-)
+exact_stays P S T g note exact h = (status_there P S T g note.status exact.0 h, λ x. in_turn (exact.1 x) (looked_alike P S T g h x))
 
 awaited_looked : (P : Program) (S : VarName → Option Tree) (g : Goal) (s : Status) → HasStatus P S g s → (x : VarName) → IsTrue (awaits s x) → GoalLooksAt P S g x
 awaited_looked P S g ready h x i = let clash : false ≡ true = i in cc

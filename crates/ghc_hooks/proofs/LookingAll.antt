@@ -1,5 +1,5 @@
 -- Goals by variable with one goal more or less under each of some variables.
-use Rattle.ghc_hooks.proofs.Words.{◌≡◌, ℕ, ◌+◌, ◌<◌, List, [], ◌∷◌, ◌++◌, get_or, take, drop, length, sym, subst, ◌∙◌, inl, inr, ◌⊎◌, ◌↔◌, IsTrue, take_more, take-append-drop, VarName, GoalName, In, in_more, in_left, in_last, GoalsByVariable, looks}
+use Rattle.ghc_hooks.proofs.Words.{◌≡◌, ℕ, ◌+◌, ◌<◌, List, [], ◌∷◌, ◌++◌, get_or, take, drop, length, sym, subst, ◌⊎◌, ◌↔◌, IsTrue, take_more, take-append-drop, VarName, GoalName, In, in_more, in_left, in_last, GoalsByVariable, looks, arith}
 
 -- the goal g stands under each of these besides, or under none of them any more
 abbrev pub HasBesides : GoalsByVariable → List VarName → GoalName → GoalsByVariable → Type 0
@@ -18,37 +18,17 @@ module _ {X : Type 0} (xs : List X) (i : ℕ) (d : X) (within : i < length xs) (
   pub latest : y ≡ get_or xs i d → In y (take (i + 1) xs)
   latest e = subst (In y) (sym (take_more xs i d within)) (subst (λ z. In z (take i xs ++ get_or xs i d ∷ [])) (sym e) (in_last (take i xs) (get_or xs i d)))
 
-pub in_front : (xs : List VarName) (i : ℕ) (y : VarName) → In y (take i xs) → In y xs
-in_front xs i y k = subst (In y) (take-append-drop i xs) (in_left (take i xs) (drop i xs) y k)
-
 module _ (old now new : GoalsByVariable) (xs : List VarName) (i : ℕ) (d : VarName) (g : GoalName) (within : i < length xs) where
   pub besides_next : HasBesides old (take i xs) g now → ((y : VarName) (h : GoalName) → IsTrue (looks new y h) ↔ (IsTrue (looks now y h) ⊎ ((y ≡ get_or xs i d) × (h ≡ g)))) → HasBesides old (take (i + 1) xs) g new
-  besides_next before step y h = (
-    λ k. elim ((step y h).0 k) [
-      | inl n ↦ elim ((before y h).0 n) [ inl o ↦ inl o | inr p ↦ inr (earlier xs i d within y p.0, p.1) ]
-      | inr p ↦ inr (latest xs i d within y p.0, p.1)
-    ],
-    λ k. (step y h).1 (elim k [
-      | inl o ↦ inl ((before y h).1 (inl o))
-      | inr p ↦ elim (so_far xs i d within y p.0) [ inl e ↦ inl ((before y h).1 (inr (e, p.1))) | inr e ↦ inr (e, p.1) ]
-    ]),
-  )
+  besides_next before step y h = grind (arith, before y h, step y h, so_far xs i d within y, earlier xs i d within y, latest xs i d within y)
 
   pub without_next : HasWithout old (take i xs) g now → ((y : VarName) (h : GoalName) → IsTrue (looks new y h) ↔ (IsTrue (looks now y h) × ¬ ((y ≡ get_or xs i d) × (h ≡ g)))) → HasWithout old (take (i + 1) xs) g new
-  without_next before step y h = (
-    λ k.
-        let s = (step y h).0 k in
-        let b = (before y h).0 s.0 in
-        (b.0, λ p. elim (so_far xs i d within y p.0) [ inl e ↦ b.1 (e, p.1) | inr e ↦ s.1 (e, p.1) ]),
-    λ k. (step y h).1 ((before y h).1 (k.0, λ p. k.1 (earlier xs i d within y p.0, p.1)), λ p. k.1 (latest xs i d within y p.0, p.1)),
-  )
+  without_next before step y h = grind (arith, before y h, step y h, so_far xs i d within y, earlier xs i d within y, latest xs i d within y)
 
 -- what was put under some of the variables and taken from all is as before
 pub taken_back : (old now now' new : GoalsByVariable) (xs : List VarName) (i : ℕ) (g : GoalName) → ((y : VarName) → ¬ IsTrue (looks old y g)) → HasBesides old (take i xs) g now
     → ((y : VarName) (h : GoalName) → looks now' y h ≡ looks now y h) → HasWithout now' xs g new → (y : VarName) (h : GoalName) → IsTrue (looks new y h) ↔ IsTrue (looks old y h)
-taken_back old now now' new xs i g fresh before same after y h = (
-  λ k.
-      let a = (after y h).0 k in
-      elim ((before y h).0 (sym (same y h) ∙ a.0)) [ inl o ↦ o | inr p ↦ absurd (a.1 (in_front xs i y p.0, p.1)) ],
-  λ k. (after y h).1 (same y h ∙ (before y h).1 (inl k), λ p. fresh y (subst (λ z. IsTrue (looks old y z)) p.1 k)),
-)
+taken_back old now now' new xs i g fresh before same after y h =
+    let front : In y (take i xs) → In y xs = λ k. rw (take-append-drop i xs) at (in_left (take i xs) (drop i xs) y k) in
+    let none : h ≡ g → ¬ IsTrue (looks old y h) = λ e. rw e (fresh y) in
+    grind (arith, before y h, same y h, after y h)

@@ -1,22 +1,15 @@
 -- Pairs in order, and tables whose keys are pairs.
-use Rattle.ghc_hooks.proofs.Words.{◌≡◌, ℕ, Bool, true, false, cond, ◌&&◌, List, [], ◌∷◌, map, refl, sym, ap, ◌∙◌, nat_eq, Option, Some, Ordering, Less, Equal, Greater, lookup, option_map, nat_cmp, ordering_then, eq_by_cmp, is_eq, IsTotalOrder, nat_cmp_total, tied_then, IsAntisymmetric, nat_cmp-IsAntisymmetric, then_total, on_total, GoalName, VarName, name_cmp, tie, same as same_name, name_total, name_antisymmetric, goal_cmp, goal_total, goal_antisymmetric, same_is as goal_is, pair_cmp, outcomes_found, Tried, outcome_of, value_is, inserted}
+use Rattle.ghc_hooks.proofs.Words.{◌≡◌, ℕ, Bool, true, false, cond, ◌&&◌, List, [], ◌∷◌, map, refl, sym, ap, ◌∙◌, nat_eq, Option, Some, Ordering, lookup, option_map, nat_cmp, eq_by_cmp, is_eq, IsTotalOrder, nat_cmp_total, tied_then, IsAntisymmetric, nat_cmp-IsAntisymmetric, then_total, on_total, GoalName, VarName, name_cmp, tie, same as same_name, name_total, name_antisymmetric, goal_cmp, goal_total, goal_antisymmetric, same_is as goal_is, pair_cmp, outcomes_found, Tried, outcome_of, value_is, inserted, both, arith}
 use Rattle.std.specs.FinMap as finite
 use Rattle.ghc_term.proofs.Entries.{same_is as name_is}
 use Rattle.ghc_fire.proofs.GoalNames.{same as same_goal}
-
-both : (a b : Ordering) → ordering_then a b ≡ Equal → (a ≡ Equal) × (b ≡ Equal)
-both Less b e = cc
-both Equal b e = (refl, e)
-both Greater b e = cc
 
 module _ {A B : Type 0} (R : A → A → Ordering) (S : B → B → Ordering) where
   pair_total : IsTotalOrder R → IsTotalOrder S → IsTotalOrder (pair_cmp R S)
   pair_total a b = then_total (on_total (λ (p : A × B). p.0) a) (on_total (λ (p : A × B). p.1) b)
 
   pair_antisymmetric : IsAntisymmetric R → IsAntisymmetric S → IsAntisymmetric (pair_cmp R S)
-  pair_antisymmetric a b p q e =
-      let k = both (R p.0 q.0) (S p.1 q.1) e in
-      λ i. (a p.0 q.0 k.0 i, b p.1 q.1 k.1 i)
+  pair_antisymmetric a b p q e = grind (arith, both)
 
   pair_same : (f : A → A → Bool) (g : B → B → Bool) → ((x y : A) → f x y ≡ eq_by_cmp R x y) → ((x y : B) → g x y ≡ eq_by_cmp S x y) → (p q : A × B) → (f p.0 q.0 && g p.1 q.1) ≡ eq_by_cmp (pair_cmp R S) p q
   pair_same f g a b p q = ap (λ c. c && g p.1 q.1) (a p.0 q.0) ∙ ap (λ c. is_eq (R p.0 q.0) && c) (b p.1 q.1) ∙ tied_then (R p.0 q.0) (S p.1 q.1)

@@ -1,16 +1,13 @@
 -- Tables of keys, and of entries by key: the finite sets and maps that they stand for.
-use Rattle.ghc_hooks.proofs.Words.{◌≡◌, ◌+◌, Bool, true, false, cond, not, ◌&&◌, ◌||◌, List, [], ◌∷◌, length, map, refl, sym, ap, ◌∙◌, arith, Some, None, is_some, Ordering, list_any, AllByRecursion, lookup, eq_by_cmp, IsTotalOrder, eq_by_cmp_equiv, IsAntisymmetric, value_is}
+use Rattle.ghc_hooks.proofs.Words.{◌≡◌, ◌+◌, Bool, true, false, cond, not, ◌&&◌, ◌||◌, List, [], ◌∷◌, length, refl, sym, ap, ◌∙◌, arith, Ordering, list_any, AllByRecursion, eq_by_cmp, IsTotalOrder, eq_by_cmp_equiv, IsAntisymmetric}
 use Rattle.std.specs.List.{IsDistinct}
-use Rattle.std.specs.FinMap as finite
 use Rattle.std.specs.FinSet as set
 
 by_or : (b c : Bool) → cond b true c ≡ (b || c)
-by_or true c = refl
-by_or false c = refl
+by_or b c = grind arith
 
 by_not : (b c : Bool) → cond b false c ≡ (not b && c)
-by_not true c = refl
-by_not false c = refl
+by_not b c = grind arith
 
 module _ {K : Type 0} {R : K → K → Ordering} (o : IsTotalOrder R) (alike : IsAntisymmetric R) (same : K → K → Bool) (same_is : (x y : K) → same x y ≡ eq_by_cmp R x y) where
   any_is : (q : K) (ks : List K) → list_any (same q) ks ≡ list_any (eq_by_cmp R q) ks
@@ -49,20 +46,3 @@ module _ {K : Type 0} {R : K → K → Ordering} (o : IsTotalOrder R) (alike : I
       let absent : set.contains (set.from_list {R = R} ks) k ≡ false = sym (has_key k ks) ∙ other_than k ks d.0 in
       let grown = ap set.len head ∙ set.len-insert o (set.from_list ks) k ∙ ap (λ b. cond b (set.len (set.from_list {R = R} ks)) (set.len (set.from_list {R = R} ks) + 1)) absent in
       omega (arith, grown, count_of_keys ks d.1)
-
-  module _ {X : Type 0} where
-    not_found : (k : K) (es : List (K × X)) → AllByRecursion (λ y. same k y ≡ false) (map (λ (e : K × X). e.0) es) → lookup (same k) es ≡ None
-    not_found k [] a = refl
-    not_found k (e ∷ es) a = ap (λ b. cond b (Some e.1) (lookup (same k) es)) a.0 ∙ not_found k es a.1
-
-    pub count_of_entries : (es : List (K × X)) → IsDistinct same (map (λ (e : K × X). e.0) es) → finite.len (finite.from_entries {R = R} es) ≡ length es
-    unfolding IsDistinct
-    count_of_entries [] d = finite.len-empty R X
-    count_of_entries (e ∷ es) d =
-        let head : finite.from_entries {R = R} (e ∷ es) ≡ finite.insert (finite.from_entries es) e.0 e.1 =
-        finite.same_map o alike _ _ (λ q.
-        finite.get-from_entries o (e ∷ es) q ∙ ap (cond (eq_by_cmp R q e.0) (Some e.1)) (sym (finite.get-from_entries o es q)) ∙ sym (finite.get-insert o (finite.from_entries es) e.0 e.1 q)) in
-        let absent : finite.get (finite.from_entries {R = R} es) e.0 ≡ None = sym (value_is o alike same same_is e.0 es) ∙ not_found e.0 es d.0 in
-        let n = finite.len (finite.from_entries {R = R} es) in
-        let grown = ap finite.len head ∙ finite.len-insert o (finite.from_entries es) e.0 e.1 ∙ ap (λ u. cond (is_some u) n (n + 1)) absent in
-        omega (arith, grown, count_of_entries es d.1)

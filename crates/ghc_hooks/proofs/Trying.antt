@@ -1,5 +1,5 @@
 -- From what clauses, unification and expressions say to the note of a goal.
-use Rattle.ghc_hooks.proofs.Words.{◌≡◌, ℕ, zero, suc, ◌<◌, ℤ, Bool, true, false, List, length, refl, sym, subst, ◌⊎◌, arith, Option, Some, None, IsTrue, VarName, Fault, Waits, NoMatch, Arithmetic, Tree, integer, Expression, Goal, call, unify, assign, In, IsAcyclic, Reaches, StoreValue, value_at, Variables, IsSetOf, not_both, member, no_member, set_of, Clause, Program, IsClause, IsFor, IsProgram, is_stream, AreNumbersFor, Accepts, WaitsFor, LooksAt, HasValue, number, waits as waits_on, bad, ExpressionReaches, GoalLooksAt, Unifies, UnifyFails, clashes, cycles, no_step, refused, SomeAccepts, SomeWaitsFor, CallAnswers, UnificationAnswers, AssignmentAnswers, Attempts, Unified as unified, Assigned as assigned, no_cycle, united, made_equal, clause_once, Heard, Status, ready, waiting, failed, HasStatus, is_ready, is_waiting, is_failed, is_stream_goal, Note, IsExact}
+use Rattle.ghc_hooks.proofs.Words.{◌≡◌, ℕ, zero, suc, ◌<◌, ℤ, Bool, true, false, List, length, refl, sym, subst, ◌⊎◌, arith, Option, Some, None, IsTrue, VarName, Fault, Waits, NoMatch, Arithmetic, Tree, integer, Expression, Goal, call, unify, assign, In, IsAcyclic, Reaches, StoreValue, value_at, Variables, IsSetOf, not_both, member, no_member, set_of, Clause, Program, IsClause, IsFor, IsProgram, is_stream, AreNumbersFor, Accepts, HasValue, number, waits as waits_on, bad, ExpressionReaches, GoalLooksAt, Unifies, UnifyFails, clashes, cycles, no_step, refused, SomeAccepts, SomeWaitsFor, CallAnswers, UnificationAnswers, AssignmentAnswers, Attempts, Unified as unified, Assigned as assigned, no_cycle, united, made_equal, clause_once, Heard, Status, ready, waiting, failed, HasStatus, is_ready, is_waiting, is_failed, is_stream_goal, Note, IsExact}
 use Rattle.std.specs.FinSet as set
 use Rattle.ghc_hooks.proofs.EachStatus.{each_status}
 use Rattle.ghc_hooks.proofs.Hearing.{IsHeard}
@@ -24,24 +24,16 @@ module _ (P : Program) (accepted : IsProgram P) (s : StoreValue) (acyclic : IsAc
 
   -- the clauses of these numbers are those for the call
   of_call : (Q : Clause → Type 0) → ((k : ℕ) × (c : Clause) × In k ks × IsClause P k c × Q c) → (k : ℕ) × (c : Clause) × IsClause P k c × IsFor f ts c × Q c
-  of_call Q w =
-      let found = (numbers.«exactly» w.0).0 w.2 in
-      (w.0, w.1, w.3, subst (IsFor f ts) (clause_once P found.1 w.3) (found.2, found.3), w.4)
+  of_call Q w = grind (arith, clause_once)
 
   by_number : (Q : Clause → Type 0) → ((k : ℕ) × (c : Clause) × IsClause P k c × IsFor f ts c × Q c) → (k : ℕ) × (c : Clause) × In k ks × IsClause P k c × Q c
   by_number Q w = (w.0, w.1, (numbers.«exactly» w.0).1 (w.1, w.2, w.3.0, w.3.1), w.2, w.4)
 
   awaited_is : IsSetOf h.awaited (SomeWaitsFor P f ts S)
-  awaited_is = set_of h.awaited _ (SomeWaitsFor P f ts S)
-      (λ x w. of_call (λ c. WaitsFor c ts S x) (w.0, w.2.0, w.1, w.2.1, w.2.2))
-      (λ x w. let v = by_number (λ c. WaitsFor c ts S x) w in (v.0, v.2, (v.1, v.3, v.4)))
-      heard.awaited
+  awaited_is = grind (arith, set_of, of_call, by_number)
 
   looked_is : IsSetOf h.looked (GoalLooksAt P S (call f ts))
-  looked_is = set_of h.looked _ (GoalLooksAt P S (call f ts))
-      (λ x w. of_call (λ c. LooksAt c ts S x) (w.0, w.2.0, w.1, w.2.1, w.2.2))
-      (λ x w. let v = by_number (λ c. LooksAt c ts S x) w in (v.0, v.2, (v.1, v.3, v.4)))
-      heard.looked
+  looked_is = grind (arith, set_of, of_call, by_number)
 
   pub awaited_is_looked_at : (x : VarName) → IsTrue (set.contains h.awaited x) → IsTrue (set.contains h.looked x)
   awaited_is_looked_at x i = (looked_is x).1 (waits_for_looked P S (call f ts) x ((awaited_is x).0 i))

@@ -1,5 +1,5 @@
 -- Goals by variable with one goal more or less.
-use Rattle.ghc_hooks.proofs.Words.{◌≡◌, List, cond, false, refl, sym, ap, ◌∙◌, subst, inl, inr, Some, None, lookup, eq_by_cmp, VarName, GoalName, name_cmp, not_both, name_total, name_antisymmetric, itself, same, value_is, inserted, goal_cmp, GoalNames, GoalsByVariable, goals_in, goals_under, looks, HasOneMore, HasOneLess}
+use Rattle.ghc_hooks.proofs.Words.{◌≡◌, List, cond, false, refl, sym, ap, ◌∙◌, subst, inl, inr, Some, None, lookup, eq_by_cmp, VarName, GoalName, name_cmp, not_both, name_total, name_antisymmetric, itself, same, value_is, inserted, goal_cmp, GoalNames, GoalsByVariable, goals_in, goals_under, looks, HasOneMore, HasOneLess, arith}
 use Rattle.std.specs.FinMap as finite
 use Rattle.std.specs.FinSet as set
 use Rattle.ghc_term.proofs.Entries.{same_is}
@@ -16,14 +16,10 @@ module _ (x : VarName) (old new : GoalsByVariable) (apart : (y : VarName) → eq
     | inl p ↦
         let now : looks new y h ≡ set.contains (set.insert (goals_under old x) g) h = ap (λ z. looks new z h) p ∙ ap (λ s. set.contains s h) e in
         let before : looks old y h ≡ set.contains (goals_under old x) h = ap (λ z. looks old z h) p in
-        let both = goal_put (goals_under old x) g h in (
-          λ k. elim (both.0 (sym now ∙ k)) [ inl c ↦ inl (before ∙ c) | inr q ↦ inr (p, q) ],
-          λ k. now ∙ both.1 (elim k [ inl c ↦ inl (sym before ∙ c) | inr q ↦ inr q.1 ]),
-        )
-    | inr d ↦ (
-      λ k. inl (sym (elsewhere y h d) ∙ k),
-      λ k. elim k [ inl c ↦ elsewhere y h d ∙ c | inr q ↦ absurd (not_both (eq_by_cmp name_cmp y x) d (ap (λ z. eq_by_cmp name_cmp z x) q.0 ∙ itself x)) ],
-    )
+        grind (arith, goal_put (goals_under old x) g h)
+    | inr d ↦
+        let other : ¬ (y ≡ x) = λ q. not_both (eq_by_cmp name_cmp y x) d (ap (λ z. eq_by_cmp name_cmp z x) q ∙ itself x) in
+        grind (arith, elsewhere y h d)
   ]
 
   pub one_taken : (g : GoalName) → goals_under new x ≡ set.remove (goals_under old x) g → HasOneLess x g old new
@@ -31,14 +27,10 @@ module _ (x : VarName) (old new : GoalsByVariable) (apart : (y : VarName) → eq
     | inl p ↦
         let now : looks new y h ≡ set.contains (set.remove (goals_under old x) g) h = ap (λ z. looks new z h) p ∙ ap (λ s. set.contains s h) e in
         let before : looks old y h ≡ set.contains (goals_under old x) h = ap (λ z. looks old z h) p in
-        let both = goal_taken (goals_under old x) g h in (
-          λ k. let r = both.0 (sym now ∙ k) in (before ∙ r.0, λ q. r.1 q.1),
-          λ k. now ∙ both.1 (sym before ∙ k.0, λ q. k.1 (p, q)),
-        )
-    | inr d ↦ (
-      λ k. (sym (elsewhere y h d) ∙ k, λ q. not_both (eq_by_cmp name_cmp y x) d (ap (λ z. eq_by_cmp name_cmp z x) q.0 ∙ itself x)),
-      λ k. elsewhere y h d ∙ k.0,
-    )
+        grind (arith, goal_taken (goals_under old x) g h)
+    | inr d ↦
+        let other : ¬ (y ≡ x) = λ q. not_both (eq_by_cmp name_cmp y x) d (ap (λ z. eq_by_cmp name_cmp z x) q ∙ itself x) in
+        grind (arith, elsewhere y h d)
   ]
 
   pub none_moved : goals_under new x ≡ goals_under old x → (y : VarName) (h : GoalName) → looks new y h ≡ looks old y h
@@ -58,9 +50,16 @@ module _ (m : GoalsByVariable) (x : VarName) (w : GoalNames) where
   pub set_apart : (y : VarName) → eq_by_cmp name_cmp y x ≡ false → goals_under with_set y ≡ goals_under m y
   set_apart y d = ap (λ o. goals_in o (finite.get m.single y)) (finite.get-insert name_total m.several x w y ∙ ap (λ b. cond b (Some w) (finite.get m.several y)) d)
 
--- the set under x, which was old, is w from now on
-module _ (es new : List (VarName × GoalNames)) (s : finite.FinMap name_cmp GoalName) (m : GoalsByVariable) (is : record { several = finite.from_entries es; single = s } ≡ m) (x : VarName) (old w : GoalNames)
-    (had : Some old ≡ lookup (same x) es) (written : (q : VarName) → lookup (same q) new ≡ cond (same x q) (Some w) (lookup (same q) es)) where
+-- a variable that has one goal, or none, and no set
+pub one_under : (m : GoalsByVariable) (x : VarName) (f : GoalName) → finite.get m.several x ≡ None → finite.get m.single x ≡ Some f → goals_under m x ≡ set.insert set.empty f
+one_under m x f none first = ap (λ o. goals_in o (finite.get m.single x)) none ∙ ap (goals_in None) first
+
+pub none_under : (m : GoalsByVariable) (x : VarName) → finite.get m.several x ≡ None → finite.get m.single x ≡ None → goals_under m x ≡ set.empty
+none_under m x none bare = ap (λ o. goals_in o (finite.get m.single x)) none ∙ ap (goals_in None) bare
+
+-- the entry of x is w from now on
+module _ (es new : List (VarName × GoalNames)) (s : finite.FinMap name_cmp GoalName) (m : GoalsByVariable) (is : record { several = finite.from_entries es; single = s } ≡ m) (x : VarName) (w : GoalNames)
+    (written : (q : VarName) → lookup (same q) new ≡ cond (same x q) (Some w) (lookup (same q) es)) where
   abbrev after : GoalsByVariable
   after = record { several = finite.from_entries new; single = s }
 
@@ -69,37 +68,30 @@ module _ (es new : List (VarName × GoalNames)) (s : finite.FinMap name_cmp Goal
       let sets : finite.from_entries new ≡ finite.insert m.several x w = inserted name_total name_antisymmetric same same_is es new x w written ∙ ap (λ z. finite.insert z.several x w) is in
       sym (λ i. record { several = sets i; single = ap (λ z. z.single) is i })
 
-  under : old ≡ goals_under m x
-  under = ap (λ o. goals_in o (finite.get m.single x)) (had ∙ value_is name_total name_antisymmetric same same_is x es ∙ ap (λ z. finite.get z.several x) is)
+  pub put_in_set : (g : GoalName) → w ≡ set.insert (goals_under m x) g → HasOneMore x g m after
+  put_in_set g e = subst (HasOneMore x g m) now (one_put x m (with_set m x w) (set_apart m x w) g (set_here m x w ∙ e))
 
-  pub put_through : (g : GoalName) → w ≡ set.insert old g → HasOneMore x g m after
-  put_through g e = subst (HasOneMore x g m) now (one_put x m (with_set m x w) (set_apart m x w) g (set_here m x w ∙ e ∙ ap (λ z. set.insert z g) under))
+  -- the variable gets a set with a second goal
+  pub second_put : (f g : GoalName) → finite.get m.several x ≡ None → finite.get m.single x ≡ Some f
+      → w ≡ set.insert (set.insert set.empty f) g → HasOneMore x g m after
+  second_put f g none first e = put_in_set g (e ∙ ap (λ z. set.insert z g) (sym (one_under m x f none first)))
 
-  pub take_through : (g : GoalName) → w ≡ set.remove old g → HasOneLess x g m after
-  take_through g e = subst (HasOneLess x g m) now (one_taken x m (with_set m x w) (set_apart m x w) g (set_here m x w ∙ e ∙ ap (λ z. set.remove z g) under))
+  -- it had the set old
+  module _ (old : GoalNames) (had : Some old ≡ lookup (same x) es) where
+    under : old ≡ goals_under m x
+    under = ap (λ o. goals_in o (finite.get m.single x)) (had ∙ value_is name_total name_antisymmetric same same_is x es ∙ ap (λ z. finite.get z.several x) is)
 
-  pub keep_through : w ≡ old → (y : VarName) (h : GoalName) → looks after y h ≡ looks m y h
-  keep_through e y h = ap (λ z. looks z y h) (sym now) ∙ none_moved x m (with_set m x w) (set_apart m x w) (set_here m x w ∙ e ∙ under) y h
+    pub put_through : (g : GoalName) → w ≡ set.insert old g → HasOneMore x g m after
+    put_through g e = put_in_set g (e ∙ ap (λ z. set.insert z g) under)
 
-  pub none_through : w ≡ set.empty → goals_under after x ≡ set.empty
-  none_through e = ap (λ z. goals_under z x) (sym now) ∙ set_here m x w ∙ e
+    pub take_through : (g : GoalName) → w ≡ set.remove old g → HasOneLess x g m after
+    take_through g e = subst (HasOneLess x g m) now (one_taken x m (with_set m x w) (set_apart m x w) g (set_here m x w ∙ e ∙ ap (λ z. set.remove z g) under))
 
--- a variable that has one goal, or none, and no set
-pub one_under : (m : GoalsByVariable) (x : VarName) (f : GoalName) → finite.get m.several x ≡ None → finite.get m.single x ≡ Some f → goals_under m x ≡ set.insert set.empty f
-one_under m x f none first = ap (λ o. goals_in o (finite.get m.single x)) none ∙ ap (goals_in None) first
+    pub keep_through : w ≡ old → (y : VarName) (h : GoalName) → looks after y h ≡ looks m y h
+    keep_through e y h = ap (λ z. looks z y h) (sym now) ∙ none_moved x m (with_set m x w) (set_apart m x w) (set_here m x w ∙ e ∙ under) y h
 
-pub none_under : (m : GoalsByVariable) (x : VarName) → finite.get m.several x ≡ None → finite.get m.single x ≡ None → goals_under m x ≡ set.empty
-none_under m x none bare = ap (λ o. goals_in o (finite.get m.single x)) none ∙ ap (goals_in None) bare
-
--- it gets a set with a second goal
-pub second_put : (es new : List (VarName × GoalNames)) (s : finite.FinMap name_cmp GoalName) (m : GoalsByVariable) → record { several = finite.from_entries es; single = s } ≡ m
-    → (x : VarName) (f g : GoalName) (w : GoalNames) → finite.get m.several x ≡ None → finite.get m.single x ≡ Some f
-    → ((q : VarName) → lookup (same q) new ≡ cond (same x q) (Some w) (lookup (same q) es)) → w ≡ set.insert (set.insert set.empty f) g
-    → HasOneMore x g m (record { several = finite.from_entries new; single = s })
-second_put es new s m is x f g w none first written e =
-    let sets : finite.from_entries new ≡ finite.insert m.several x w = inserted name_total name_antisymmetric same same_is es new x w written ∙ ap (λ z. finite.insert z.several x w) is in
-    let now : with_set m x w ≡ record { several = finite.from_entries new; single = s } = sym (λ i. record { several = sets i; single = ap (λ z. z.single) is i }) in
-    subst (HasOneMore x g m) now (one_put x m (with_set m x w) (set_apart m x w) g (set_here m x w ∙ e ∙ ap (λ z. set.insert z g) (sym (one_under m x f none first))))
+    pub none_through : w ≡ set.empty → goals_under after x ≡ set.empty
+    none_through e = ap (λ z. goals_under z x) (sym now) ∙ set_here m x w ∙ e
 
 -- its goal is put there again
 pub put_twice : (m : GoalsByVariable) (x : VarName) (f g : GoalName) → finite.get m.several x ≡ None → finite.get m.single x ≡ Some f → f ≡ g → HasOneMore x g m m
@@ -130,9 +122,7 @@ module _ (sets : finite.FinMap name_cmp GoalNames) (s : finite.FinMap name_cmp G
   -- it gets its first goal, or loses its only one
   module _ (m : GoalsByVariable) (is : before ≡ m) (g : GoalName) (none : finite.get m.several x ≡ None) (t : finite.FinMap name_cmp GoalName) where
     pub put_single : finite.get m.single x ≡ None → t ≡ finite.insert s x g → HasOneMore x g m (with t)
-    put_single bare e =
-        subst (λ z. HasOneMore x g z (with t)) is
-        (subst (λ u. HasOneMore x g before (with u)) (sym e) (first_put g (ap (λ z. finite.get z.several x) is ∙ none) (ap (λ z. finite.get z.single x) is ∙ bare)))
+    put_single bare e = grind (arith, first_put)
 
     pub take_single : finite.get m.single x ≡ Some g → t ≡ finite.remove s x → HasOneLess x g m (with t)
     take_single first e =
@@ -154,11 +144,4 @@ module _ (m : GoalsByVariable) (x : VarName) (g : GoalName) (none : finite.get m
 -- a variable under which no goal stands can go
 pub forgotten : (m : GoalsByVariable) (x : VarName) → goals_under m x ≡ set.empty → (y : VarName) (h : GoalName)
     → looks (record { several = finite.remove m.several x; single = finite.remove m.single x }) y h ≡ looks m y h
-forgotten m x e =
-    let new : GoalsByVariable = record { several = finite.remove m.several x; single = finite.remove m.single x } in
-    let set_gone : (y : VarName) → finite.get new.several y ≡ cond (eq_by_cmp name_cmp y x) None (finite.get m.several y) = finite.get-remove name_total m.several x in
-    let single_gone : (y : VarName) → finite.get new.single y ≡ cond (eq_by_cmp name_cmp y x) None (finite.get m.single y) = finite.get-remove name_total m.single x in
-    none_moved x m new
-    (λ y d. ap (λ o. goals_in o (finite.get new.single y)) (set_gone y ∙ ap (λ b. cond b None (finite.get m.several y)) d)
-    ∙ ap (goals_in (finite.get m.several y)) (single_gone y ∙ ap (λ b. cond b None (finite.get m.single y)) d))
-    (none_under new x (set_gone x ∙ ap (λ b. cond b None (finite.get m.several x)) (itself x)) (single_gone x ∙ ap (λ b. cond b None (finite.get m.single x)) (itself x)) ∙ sym e)
+forgotten m x e = grind (arith, finite.get-remove, name_total, none_moved, none_under, itself)

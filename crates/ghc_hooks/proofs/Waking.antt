@@ -1,5 +1,5 @@
 -- Goals lose their notes one by one, and are untried again.
-use Rattle.ghc_hooks.proofs.Words.{◌≡◌, ℕ, ◌≤◌, ◌<◌, ◌+◌, Bool, true, false, List, [], ◌∷◌, length, get_or, take, refl, sym, ap, subst, ◌∙◌, inl, inr, ◌⊎◌, arith, ◌↔◌, Option, Some, None, IsTrue, IfSome, IfNone, slice_get, VarName, GoalName, Variables, In, in_at, not_both, Note, NotesByGoal, Tries, HasLookedAt, AreSpared, AreWoken}
+use Rattle.ghc_hooks.proofs.Words.{◌≡◌, ℕ, ◌≤◌, ◌<◌, ◌+◌, List, [], ◌∷◌, length, get_or, take, refl, sym, ap, subst, ◌∙◌, inl, inr, ◌⊎◌, arith, ◌↔◌, Option, Some, None, IsTrue, IfSome, IfNone, slice_get, VarName, GoalName, In, in_at, Note, NotesByGoal, Tries, HasLookedAt, AreSpared, AreWoken, some_decided, true_decided}
 use Rattle.std.specs.FinMap as finite
 use Rattle.std.specs.FinSet as set
 use Rattle.ghc_hooks.proofs.Looking.{goal_put, goal_cases}
@@ -12,10 +12,10 @@ pub first_is : (P : GoalName → Type 0) (gs : List GoalName) → ((g : GoalName
 first_is P gs h (Some g) e = h g (in_at gs 0 g (sym e))
 first_is P gs h None e = tt
 
-pub first_is_none : (P : GoalName → Type 0) (gs : List GoalName) → ((g : GoalName) → P g → In g gs) → (o : Option GoalName) → o ≡ slice_get gs 0 → IfNone o ((g : GoalName) → ¬ P g)
-first_is_none P gs h (Some g) e = tt
-first_is_none P [] h None e = λ g p. h g p
-first_is_none P (k ∷ gs) h None e = let clash : None ≡ Some k = e in absurd (cc)
+pub first_is_none : {Q : Type 0} (gs : List GoalName) → (gs ≡ [] → Q) → (o : Option GoalName) → o ≡ slice_get gs 0 → IfNone o Q
+first_is_none gs h (Some g) e = tt
+first_is_none [] h None e = h refl
+first_is_none (k ∷ gs) h None e = let clash : None ≡ Some k = e in absurd (cc)
 
 -- what has become of the tries old when some goals that looked at x lost their notes
 pub record IsWaking (x : VarName) (old now : Tries) : Type 0 where
@@ -37,30 +37,19 @@ goes_on x old now new g w looked e u room =
     let at : (h : GoalName) → finite.get new.notes h ≡ finite.get (finite.remove now.notes g) h = λ h. ap (λ m. finite.get m h) e in
     record {
       kept = λ h n k. w.kept h n (still_noted now.notes g h n (sym (at h) ∙ k));
-      lost = λ h n k. elim (w.lost h n k) [
-        | inl a ↦ elim (goal_cases h g) as (λ _. (finite.get new.notes h ≡ Some n) ⊎ IsTrue (set.contains n.looked x)) [
-          | inl p ↦
-              let same : looked.0 ≡ n = same_note (sym looked.1 ∙ ap (finite.get now.notes) (sym p) ∙ a) in
-              inr (ap (λ z. set.contains z.looked x) (sym same) ∙ looked.2)
-          | inr d ↦ inl (at h ∙ gone_elsewhere now.notes g h d ∙ a)
-        ]
-        | inr l ↦ inr l
-      ];
+      lost = λ h n k.
+          let looked_too : h ≡ g → finite.get now.notes h ≡ Some n → IsTrue (set.contains n.looked x) = λ p a.
+          (let same : looked.0 ≡ n = same_note (sym looked.1 ∙ ap (finite.get now.notes) (sym p) ∙ a) in
+          ap (λ z. set.contains z.looked x) (sym same) ∙ looked.2) in
+          grind (arith, w.lost h n k, goal_cases h g, gone_elsewhere now.notes g h, at h);
       woken = λ h.
-          let both = goal_put now.untried g h in
-          let is : set.contains new.untried h ≡ set.contains (set.insert now.untried g) h = ap (λ s. set.contains s h) u in (
-            λ k. elim (both.0 (sym is ∙ k)) [
-              | inl a ↦ elim ((w.woken h).0 a) [ inl b ↦ inl b | inr p ↦ inr (p.0, at h ∙ still_none now.notes g h p.1) ]
-              | inr p ↦ inr ((looked.0, w.kept h looked.0 (ap (finite.get now.notes) p ∙ looked.1), looked.2), at h ∙ ap (finite.get (finite.remove now.notes g)) p ∙ gone_here now.notes g)
-            ],
-            λ k. is ∙ both.1 (elim k [
-              | inl b ↦ inl ((w.woken h).1 (inl b))
-              | inr p ↦ elim (goal_cases h g) as (λ _. IsTrue (set.contains now.untried h) ⊎ (h ≡ g)) [
-                | inl s ↦ inr s
-                | inr d ↦ inl ((w.woken h).1 (inr (p.0, sym (gone_elsewhere now.notes g h d) ∙ sym (at h) ∙ p.1)))
-              ]
-            ]),
-          );
+          let this_one : h ≡ g → HasLookedAt old.notes x h × (finite.get new.notes h ≡ None) = λ p. (
+            (looked.0, w.kept h looked.0 (ap (finite.get now.notes) p ∙ looked.1), looked.2),
+            at h ∙ ap (finite.get (finite.remove now.notes g)) p ∙ gone_here now.notes g,
+          ) in
+          let put = goal_put now.untried g h in
+          let is = ap (λ s. set.contains s h) u in
+          grind (arith, w.woken h, goal_cases h g, gone_elsewhere now.notes g h, still_none now.notes g h, at h);
       room = let before = w.room in omega (arith, before, room);
     }
 
@@ -94,16 +83,6 @@ module _ (x : VarName) (old now : Tries) (w : IsWaking x old now) (done : (g : G
     ]),
   )
 
--- whether one of the variables is in the set
-any_of : (s : Variables) (xs : List VarName) → ((y : VarName) × In y xs × IsTrue (set.contains s y)) ⊎ ((y : VarName) → In y xs → ¬ IsTrue (set.contains s y))
-any_of s [] = inr (λ y i. absurd i)
-any_of s (x ∷ xs) = by (set.contains s x) refl (any_of s xs) where
-  by : (b : Bool) → set.contains s x ≡ b → ((y : VarName) × In y xs × IsTrue (set.contains s y)) ⊎ ((y : VarName) → In y xs → ¬ IsTrue (set.contains s y))
-      → ((y : VarName) × In y (x ∷ xs) × IsTrue (set.contains s y)) ⊎ ((y : VarName) → In y (x ∷ xs) → ¬ IsTrue (set.contains s y))
-  by true e rest = inl (x, inl refl, e)
-  by false e (inl p) = inl (p.0, inr p.1, p.2)
-  by false e (inr none) = inr (λ y i. elim i [ inl q ↦ not_both (set.contains s y) (ap (set.contains s) q ∙ e) | inr j ↦ none y j ])
-
 -- and so for the variables of a list, one after another
 module _ (old now new : Tries) (xs : List VarName) (i : ℕ) (d : VarName) (within : i < length xs) where
   pub spared_next : AreSpared (λ y. In y (take i xs)) old.notes now.notes → AreSpared (λ y. y ≡ get_or xs i d) now.notes new.notes → AreSpared (λ y. In y (take (i + 1) xs)) old.notes new.notes
@@ -126,11 +105,11 @@ module _ (old now new : Tries) (xs : List VarName) (i : ℕ) (d : VarName) (with
       | inl b ↦ inl ((before g).1 (inl b))
       | inr p ↦
           let l = p.2 in
-          elim (any_of l.0.looked (take i xs)) [
+          elim (some_decided (take i xs) (λ y. IsTrue (set.contains l.0.looked y)) (λ y _. true_decided (set.contains l.0.looked y))) [
             | inl q ↦ inl ((before g).1 (inr (q.0, q.1, (l.0, l.1, q.2))))
             | inr none ↦ elim (so_far xs i d within p.0 p.1) [
-              | inl e ↦ absurd (none p.0 e l.2)
-              | inr e ↦ inr (p.0, e, (l.0, (left g l.0).1 (l.1, none), l.2))
+              | inl e ↦ absurd (none (p.0, e, l.2))
+              | inr e ↦ inr (p.0, e, (l.0, (left g l.0).1 (l.1, λ y j held. none (y, j, held)), l.2))
             ]
           ]
     ]),

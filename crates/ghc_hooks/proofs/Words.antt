@@ -1,4 +1,5 @@
 -- The words of other crates and of the definitions that the proofs cite, from one place.
+pub use Rattle.ghc_fire.proofs.Answering.{apart, same_fault}
 pub use Rattle.ghc_fire.proofs.Calling.{numbered_for, some_there, take_number}
 pub use Rattle.ghc_fire.proofs.EachAnswer.{each_answer, no_cycle}
 pub use Rattle.ghc_fire.proofs.EachEffect.{clause_decided, made_equal, united}
@@ -35,7 +36,7 @@ pub use Rattle.ghc_hooks.specs.declared.heard.Heard.{Heard}
 pub use Rattle.ghc_match.proofs.Chains.{leads_back, leads_there}
 pub use Rattle.ghc_match.proofs.EachOutcome.{each_outcome}
 pub use Rattle.ghc_match.proofs.EachValue.{each_value}
-pub use Rattle.ghc_match.proofs.GainsLemmas.{OneHas, has_more}
+pub use Rattle.ghc_match.proofs.GainsLemmas.{OneHas, gains_more, has_more}
 pub use Rattle.ghc_match.proofs.LooksAt.{looks_back, looks_there}
 pub use Rattle.ghc_match.proofs.Outcomes.{accepts_refuses, accepts_waits, outcomes_exclude, refuses_waits, waits_there}
 pub use Rattle.ghc_match.proofs.PushLeaves.{parts}
@@ -48,13 +49,16 @@ pub use Rattle.ghc_match.specs.Position.{EndsIn}
 pub use Rattle.ghc_match.specs.Told.{outcome_of, told, value_of}
 pub use Rattle.ghc_match.specs.Value.{HasValue, Value, Wants, bad, number, waits}
 pub use Rattle.ghc_match.specs.declared.trying.Tried.{Tried}
+pub use Rattle.ghc_term.proofs.Decided.{some_decided, true_decided}
 pub use Rattle.ghc_term.proofs.Entries.{same, tie}
+pub use Rattle.ghc_term.proofs.GoalNames.{both}
 pub use Rattle.ghc_term.proofs.GoalMaps.{count_of_names, in_names, no_names, put_name, taken_name}
 pub use Rattle.ghc_term.proofs.Indexed.{inserted, removed, value_is}
 pub use Rattle.ghc_term.proofs.ListsLemmas.{contains_in, in_at, in_contains, in_either, in_get, in_last, in_left, in_more, in_right, not_both}
 pub use Rattle.ghc_term.proofs.Names.{itself, name_antisymmetric, name_total, same_name}
-pub use Rattle.ghc_term.proofs.Searching.{StandsIn, falls_away, nothing_open, popped, sees_falls, sizes, unfold_falls}
-pub use Rattle.ghc_term.proofs.SetsLemmas.{has_member, holds_nothing, is_member, member, no_member, one_inserted, one_set, set_of}
+pub use Rattle.ghc_term.proofs.Placing.{one_value}
+pub use Rattle.ghc_term.proofs.Searching.{StandsIn, argument_reaches, falls_away, list_is_value, nothing_open, occurs_among, popped, sees_falls, sizes, stands_last, stands_left, stands_right, unfold_falls, value_in_list}
+pub use Rattle.ghc_term.proofs.SetsLemmas.{agree, has_member, holds_nothing, is_member, member, no_member, one_inserted, one_set, set_of}
 pub use Rattle.ghc_term.proofs.VariableMaps.{none_in}
 pub use Rattle.ghc_term.specs.Bindings.{Comes, IsAcyclic, Leads, Passes, Reaches, along, at_free, at_integer, at_node, here, name_cmp, now, on, through}
 pub use Rattle.ghc_term.specs.Expression.{Expression, leaf, operation}

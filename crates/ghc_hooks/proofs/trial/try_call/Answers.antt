@@ -1,4 +1,4 @@
-use Rattle.ghc_hooks.proofs.Words.{◌≤◌, length, take, take_all, slice_index_or, refl, subst, arith, MatchOption-at_some, value_at, in_at, IsClause, numbered_for, take_number, some_there}
+use Rattle.ghc_hooks.proofs.Words.{length, take, take_all, slice_index_or, refl, subst, arith, MatchOption-at_some, value_at, in_at, IsClause, numbered_for, take_number, some_there}
 use Rattle.ghc_hooks.proofs.Hearing.{IsHeard, heard_nothing, heard_more}
 use Rattle.ghc_hooks.proofs.Trying.{awaited_is_looked_at, heard_note}
 use Rattle.ghc_hooks.proofs.trial.try_call.Goals as goal
@@ -10,17 +10,12 @@ loop-number-init c =
 
 pub unwrap-clause-requires : goal.unwrap-clause-requires
 unwrap-clause-requires c =
-    let P = c.args.program.now in
-    let ks = c.clauses_for-number-items.result.now in
-    let i = c.loop-number.number-index in
-    let k = slice_index_or ks i 0 in
-    let n = numbered_for P c.args.name.now (length c.args.arguments.now) ks c.clauses_for-number-items.ensures i k c.loop-number-test.true refl in
-    some_there (IsClause P k) c.clause.result c.clause.ensures.none n.0 n.1
+    let n = numbered_for c.args.program.now c.args.name.now (length c.args.arguments.now) c.clauses_for-number-items.result.now
+    c.clauses_for-number-items.ensures c.loop-number.number-index _ c.loop-number-test.true refl in
+    some_there (IsClause c.args.program.now _) c.clause.result c.clause.ensures.none n.0 n.1
 
 pub hear-requires : goal.hear-requires
-hear-requires c =
-    let is = MatchOption-at_some _ _ c.unwrap-clause.result c.unwrap-clause.ensures c.clause.ensures.found in
-    (c.clauses.ensures.program c.unwrap-clause.result.now (in_at c.args.program.now is.0 c.unwrap-clause.result.now is.2)).linear
+hear-requires c = grind (arith, in_at)
 
 pub loop-number-preserved : goal.loop-number-preserved
 loop-number-preserved c =
@@ -37,19 +32,15 @@ loop-number-preserved c =
 
 pub into_note-requires : goal.into_note-requires
 into_note-requires c =
-    let P = c.args.program.now in
-    let ts = c.args.arguments.now in
     let ks = c.clauses_for-number-items.result.now in
-    let long : length ks ≤ c.loop-number.number-index = omega (arith, c.loop-number-test.false) in
-    let all = subst (λ l. IsHeard P ts (value_at c.args.store.now.held) l c.loop-number.heard) (take_all c.loop-number.number-index ks long) c.loop-number.invariant in
-    awaited_is_looked_at P c.clauses.ensures.program c.args.store.now.held c.acyclic.ensures c.args.name.now ts ks c.clauses_for-number-items.ensures c.loop-number.heard all
+    let all = rw (take_all c.loop-number.number-index ks (omega (arith, c.loop-number-test.false))) at c.loop-number.invariant in
+    awaited_is_looked_at c.args.program.now c.clauses.ensures.program c.args.store.now.held c.acyclic.ensures c.args.name.now c.args.arguments.now ks
+    c.clauses_for-number-items.ensures c.loop-number.heard all
 
 pub returns : goal.returns
 returns c =
-    let P = c.args.program.now in
-    let ts = c.args.arguments.now in
     let ks = c.clauses_for-number-items.result.now in
-    let long : length ks ≤ c.loop-number.number-index = omega (arith, c.loop-number-test.false) in
-    let all = subst (λ l. IsHeard P ts (value_at c.args.store.now.held) l c.loop-number.heard) (take_all c.loop-number.number-index ks long) c.loop-number.invariant in
+    let all = rw (take_all c.loop-number.number-index ks (omega (arith, c.loop-number-test.false))) at c.loop-number.invariant in
     let e = c.into_note.ensures in
-    heard_note P c.clauses.ensures.program c.args.store.now.held c.acyclic.ensures c.args.name.now ts ks c.clauses_for-number-items.ensures c.loop-number.heard all c.into_note.result e.accepted e.waits e.refused e.looked
+    heard_note c.args.program.now c.clauses.ensures.program c.args.store.now.held c.acyclic.ensures c.args.name.now c.args.arguments.now ks
+    c.clauses_for-number-items.ensures c.loop-number.heard all c.into_note.result e.accepted e.waits e.refused e.looked

@@ -1,6 +1,5 @@
-use Rattle.ghc_hooks.proofs.Words.{◌≡◌, ◌∙◌, ap, sym, subst, arith, eq_by_cmp, not_both, goal_cmp, same_is, same_goal, goals_held}
+use Rattle.ghc_hooks.proofs.Words.{◌≡◌, ◌∙◌, ap, sym, subst, arith, not_both, goal_cmp, same_is, same_goal, goals_held}
 use Rattle.std.specs.FinSet as set
-use Rattle.ghc_fire.proofs.GoalNames.{same}
 use Rattle.ghc_hooks.proofs.Looking.{goal_itself}
 use Rattle.ghc_hooks.proofs.Few.{take_from_none, take_the_one, take_another}
 use Rattle.ghc_hooks.proofs.few_goals.FewGoals.remove.Goals as goal
@@ -17,8 +16,4 @@ returns-then-eq c =
     grind (arith, gone)
 
 pub returns-else-eq : goal.returns-else-eq
-returns-else-eq c =
-    let one = ap goals_held (sym c.in-One.is) ∙ c.self.view_is in
-    take_another c.in-One.other c.args.goal
-    (λ p. not_both (same c.in-One.other c.args.goal) (sym c.eq.ensures ∙ c.if-eq.false) (same_is c.in-One.other c.args.goal ∙ ap (λ z. eq_by_cmp goal_cmp z c.args.goal) p ∙ goal_itself c.args.goal))
-    ∙ ap (λ s. set.remove s c.args.goal) one
+returns-else-eq c = grind (arith, goals_held, take_another, not_both, same_is, goal_itself)

@@ -1,5 +1,5 @@
-use Rattle.ghc_hooks.proofs.Words.{sym, subst, on_ok_weaker, value_at, LooksAt, HasOutcome, Gains, told}
-use Rattle.ghc_hooks.proofs.Hearing.{HeardToo, refusal_heard, wait_heard, acceptance_heard, gains_as}
+use Rattle.ghc_hooks.proofs.Words.{subst, on_ok_weaker, value_at, LooksAt, Gains}
+use Rattle.ghc_hooks.proofs.Hearing.{HeardToo, refusal_heard, wait_heard, acceptance_heard, gains_by}
 use Rattle.ghc_hooks.proofs.heard.Heard.hear.Goals as goal
 use Rattle.ghc_hooks.proofs.heard.Heard.hear.Goals.{in-Refuses, in-Waits+in_ok-join-in-Waits, in-Accepts}
 
@@ -11,13 +11,11 @@ said c =
     let h = c.args.self.now in
     let tried = c.in_ok-outcome.field-0 in
     elim c.match-outcome.branch [
-      | in-Refuses w ↦
-          subst (HeardToo clause ts S h) (sym w.self-is) (refusal_heard clause ts S h (subst (λ o. HasOutcome clause ts S (told o tried.looked)) w.in-Refuses.is c.in_ok-outcome.ensures.outcome))
+      | in-Refuses w ↦ rw w.self-is (refusal_heard clause ts S h (rw w.in-Refuses.is at c.in_ok-outcome.ensures.outcome))
       | in-Waits+in_ok-join-in-Waits w ↦
-          subst (HeardToo clause ts S h) (sym w.self-is)
-          (wait_heard clause ts S h w.in-Waits.awaited w.join.new.gathered (subst (λ o. HasOutcome clause ts S (told o tried.looked)) w.in-Waits.is c.in_ok-outcome.ensures.outcome) w.in_ok-join-in-Waits.ensures)
-      | in-Accepts w ↦
-          subst (HeardToo clause ts S h) (sym w.self-is) (acceptance_heard clause ts S h (subst (λ o. HasOutcome clause ts S (told o tried.looked)) w.in-Accepts.is c.in_ok-outcome.ensures.outcome).0)
+          let outcome = rw w.in-Waits.is at c.in_ok-outcome.ensures.outcome in
+          rw w.self-is (wait_heard clause ts S h w.in-Waits.awaited w.join.new.gathered outcome w.in_ok-join-in-Waits.ensures)
+      | in-Accepts w ↦ rw w.self-is (acceptance_heard clause ts S h (rw w.in-Accepts.is at c.in_ok-outcome.ensures.outcome).0)
     ]
 
 pub returns-clause-accepts : goal.returns-clause-accepts
@@ -30,4 +28,4 @@ pub returns-clause-looked : goal.returns-clause-looked
 returns-clause-looked c =
     let looks = LooksAt c.args.clause.now c.args.arguments.now (value_at c.args.store.now.held) in
     let tried = c.in_ok-outcome.field-0 in
-    on_ok_weaker c.join-2.result (λ g. subst (λ s. Gains s c.join-2.new.gathered looks) (said c).2 (gains_as c.match-outcome.self.looked c.join-2.new.gathered tried.looked looks c.in_ok-outcome.ensures.looked g)) c.join-2.ensures
+    on_ok_weaker c.join-2.result (λ g. subst (λ s. Gains s c.join-2.new.gathered looks) (said c).2 (gains_by c.match-outcome.self.looked c.join-2.new.gathered c.in_ok-outcome.ensures.looked g)) c.join-2.ensures

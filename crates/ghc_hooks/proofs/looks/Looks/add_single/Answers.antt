@@ -1,13 +1,10 @@
-use Rattle.ghc_hooks.proofs.Words.{◌≡◌, ◌∙◌, ap, sym, same_is, same_goal}
+use Rattle.ghc_hooks.proofs.Words.{◌∙◌, ap, sym, same_is, same_goal, arith}
 use Rattle.std.specs.FinMap as finite
 use Rattle.ghc_hooks.proofs.Under.{put_twice, put_single}
 use Rattle.ghc_hooks.proofs.looks.Looks.add_single.Goals as goal
 
 pub returns-then-eq-clause-ok : goal.returns-then-eq-clause-ok
-returns-then-eq-clause-ok c =
-    let f = c.in-Some.first.now in
-    let p : f ≡ c.args.goal = same_goal f c.args.goal (sym (same_is f c.args.goal) ∙ sym c.eq.ensures ∙ c.if-eq.true) in
-    put_twice c.args.self.now c.args.x f c.args.goal c.requires (sym (c.in-Some.ensures ∙ ap (λ m. finite.get m.single c.args.x) c.self.view_is)) p
+returns-then-eq-clause-ok c = grind (arith, same_goal, same_is, put_twice)
 
 pub returns-clause-ok : goal.returns-clause-ok
 returns-clause-ok c =

@@ -9,7 +9,7 @@ returns-in-Some-clause-ok c =
     let w = c.insert.new.self in
     let updates = (c.get_mut.follows.holds w).3 (subst IsSome c.in-Some.ensures.value refl) in
     on_ok_weaker c.insert.result
-    (put_through c.self.inside.several.entries (c.get_mut.follows.lender w).entries c.self.inside.single.held c.args.self.now c.self.view_is c.args.x c.in-Some.goals.now w c.in-Some.ensures.value updates.0 c.args.goal)
+    (put_through c.self.inside.several.entries (c.get_mut.follows.lender w).entries c.self.inside.single.held c.args.self.now c.self.view_is c.args.x w updates.0 c.in-Some.goals.now c.in-Some.ensures.value c.args.goal)
     c.insert.ensures.ok
 
 pub returns-in-Some-clause-err : goal.returns-in-Some-clause-err
@@ -17,7 +17,7 @@ returns-in-Some-clause-err c =
     let w = c.insert.new.self in
     let updates = (c.get_mut.follows.holds w).3 (subst IsSome c.in-Some.ensures.value refl) in
     on_err_weaker c.insert.result
-    (keep_through c.self.inside.several.entries (c.get_mut.follows.lender w).entries c.self.inside.single.held c.args.self.now c.self.view_is c.args.x c.in-Some.goals.now w c.in-Some.ensures.value updates.0)
+    (keep_through c.self.inside.several.entries (c.get_mut.follows.lender w).entries c.self.inside.single.held c.args.self.now c.self.view_is c.args.x w updates.0 c.in-Some.goals.now c.in-Some.ensures.value)
     c.insert.ensures.err
 
 pub returns-clause-ok : goal.returns-clause-ok

@@ -1,38 +1,39 @@
-use Rattle.ghc_hooks.proofs.Words.{◌≡◌, ◌+◌, ◌∙◌, ap, refl, sym, subst₂, arith, IsTrue, IsNoWait, TakesIn}
+use Rattle.ghc_hooks.proofs.Words.{◌≡◌, ◌∙◌, ap, sym, subst₂, arith, IsTrue, IsNoWait, TakesIn}
 use Rattle.std.specs.FinMap as finite
 use Rattle.std.specs.FinSet as set
 use Rattle.ghc_hooks.proofs.Fitting.{one_more_note}
 use Rattle.ghc_hooks.proofs.Changing.{fit_same, fit_noted}
-use Rattle.ghc_hooks.proofs.Unblocking.{unblocked_same, unblocked_noted}
+use Rattle.ghc_hooks.proofs.Unblocking.{unblocked_noted}
 use Rattle.ghc_hooks.proofs.tries.Tries.note.Goals as goal
 
 pub invariant_of-self : goal.invariant_of-self
-invariant_of-self c =
-    let t = c.self.inside in (
-      fit_same t.notes.held c.reserve.new.self.held t.untried t.untried t.looks t.looks c.args.goal c.self.invariant.0 c.reserve.ensures.held refl (omega arith) (λ y h. (λ k. k, λ k. k)),
-      unblocked_same t.notes.held c.reserve.new.self.held t.unblocked.held t.unblocked.held c.args.goal c.self.invariant.1 c.reserve.ensures.held refl,
-    )
+invariant_of-self c = rw c.reserve.ensures.held c.self.invariant
 
 pub invariant_of-self-in_err-reserve-2 : goal.invariant_of-self-in_err-reserve-2
 invariant_of-self-in_err-reserve-2 c =
-    let t = c.self.inside in (
-      fit_same t.notes.held c.reserve.new.self.held t.untried c.reserve-2.new.self t.looks t.looks c.args.goal c.self.invariant.0 c.reserve.ensures.held c.reserve-2.ensures.held c.reserve-2.ensures.kept (λ y h. (λ k. k, λ k. k)),
-      unblocked_same t.notes.held c.reserve.new.self.held t.unblocked.held t.unblocked.held c.args.goal c.self.invariant.1 c.reserve.ensures.held refl,
+    let t = c.self.inside in
+    rw c.reserve.ensures.held (
+      fit_same t.notes.held t.untried c.reserve-2.new.self t.looks c.self.invariant.0 t.looks c.reserve-2.ensures.held c.reserve-2.ensures.kept
+          (λ y h. (λ k. k, λ k. k)),
+      c.self.invariant.1,
     )
 
 pub invariant_of-self-in_err-reserve-3 : goal.invariant_of-self-in_err-reserve-3
 invariant_of-self-in_err-reserve-3 c =
-    let t = c.self.inside in (
-      fit_same t.notes.held c.reserve.new.self.held t.untried c.reserve-2.new.self t.looks t.looks c.args.goal c.self.invariant.0 c.reserve.ensures.held c.reserve-2.ensures.held c.reserve-2.ensures.kept (λ y h. (λ k. k, λ k. k)),
-      unblocked_same t.notes.held c.reserve.new.self.held t.unblocked.held c.reserve-3.new.self.held c.args.goal c.self.invariant.1 c.reserve.ensures.held c.reserve-3.ensures.held,
+    let t = c.self.inside in
+    rw (c.reserve.ensures.held, c.reserve-3.ensures.held) (
+      fit_same t.notes.held t.untried c.reserve-2.new.self t.looks c.self.invariant.0 t.looks c.reserve-2.ensures.held c.reserve-2.ensures.kept
+          (λ y h. (λ k. k, λ k. k)),
+      c.self.invariant.1,
     )
 
 pub invariant_of-self-in_err-add_all : goal.invariant_of-self-in_err-add_all
 invariant_of-self-in_err-add_all c =
-    let t = c.self.inside in (
-      fit_same t.notes.held c.reserve.new.self.held t.untried c.reserve-2.new.self t.looks c.add_all.new.self c.args.goal c.self.invariant.0 c.reserve.ensures.held c.reserve-2.ensures.held c.reserve-2.ensures.kept
+    let t = c.self.inside in
+    rw (c.reserve.ensures.held, c.reserve-3.ensures.held) (
+      fit_same t.notes.held t.untried c.reserve-2.new.self t.looks c.self.invariant.0 c.add_all.new.self c.reserve-2.ensures.held c.reserve-2.ensures.kept
           c.in_err-add_all.ensures.err,
-      unblocked_same t.notes.held c.reserve.new.self.held t.unblocked.held c.reserve-3.new.self.held c.args.goal c.self.invariant.1 c.reserve.ensures.held c.reserve-3.ensures.held,
+      c.self.invariant.1,
     )
 
 pub invariant_of-self-2 : goal.invariant_of-self-2
@@ -43,19 +44,11 @@ invariant_of-self-2 c =
     let kept = c.remove.ensures.room in
     let marked : IsTrue (set.contains t.untried.held c.args.goal) = ap (λ v. set.contains v.untried c.args.goal) c.self.view_is ∙ c.requires in
     let put = c.put.ensures ∙ ap (λ m. finite.insert m c.args.goal c.args.note) c.reserve.ensures.held in (
-      fit_noted t.notes.held c.put.new.self.held t.untried c.remove.new.self t.looks c.add_all.new.self c.args.goal c.self.invariant.0 c.args.note c.members.result.now (c.members.ensures.all ∙ c.looked.ensures)
+      fit_noted t.notes.held t.untried c.remove.new.self t.looks c.self.invariant.0 c.put.new.self.held c.add_all.new.self c.args.goal c.args.note c.members.result.now (c.members.ensures.all ∙ c.looked.ensures)
           marked put (c.remove.ensures.held ∙ ap (λ s. set.remove s c.args.goal) c.reserve-2.ensures.held) (omega (arith, count, reserved, kept)) c.in_ok-add_all.ensures.ok,
       unblocked_noted t.notes.held c.put.new.self.held t.unblocked.held c.put_unblocked.new.unblocked.held c.args.goal c.self.invariant.1 c.args.note (c.self.invariant.0.apart c.args.goal marked) put
           (subst₂ (λ s old. TakesIn (IsNoWait s) c.args.goal old c.put_unblocked.new.unblocked.held) (sym c.verdict.ensures) c.reserve-3.ensures.held c.put_unblocked.ensures),
     )
 
 pub returns-clause-room : goal.returns-clause-room
-returns-clause-room c =
-    let t = c.self.inside in
-    let room = ap (λ v. v.room) c.self.view_is in
-    let kept = c.remove.ensures.room in
-    let reserved = c.reserve-2.ensures.kept in
-    let marked : IsTrue (set.contains t.untried.held c.args.goal) = ap (λ v. set.contains v.untried c.args.goal) c.self.view_is ∙ c.requires in
-    let more : finite.len c.put.new.self.held ≡ finite.len t.notes.held + 1 =
-    ap (λ m. finite.len m) (c.put.ensures ∙ ap (λ m. finite.insert m c.args.goal c.args.note) c.reserve.ensures.held) ∙ one_more_note t.notes.held c.args.goal c.args.note (c.self.invariant.0.apart c.args.goal marked) in
-    omega (arith, room, kept, reserved, more)
+returns-clause-room c = grind (arith, one_more_note)

@@ -1,5 +1,4 @@
-use Rattle.std.proofs.Common.{◌+◌, ap, ◌∙◌, arith}
-use Rattle.std.specs.FinMap as finite
+use Rattle.std.proofs.Common.{arith}
 use Rattle.ghc_hooks.proofs.Fitting.{one_note_less}
 use Rattle.ghc_hooks.proofs.Waking.{starts, goes_on, spared, woken}
 use Rattle.ghc_hooks.proofs.tries.Tries.wake_at.Goals as goal
@@ -8,10 +7,7 @@ pub loop-goal-init : goal.loop-goal-init
 loop-goal-init c = starts c.args.x c.args.self.now
 
 pub loop-goal-smaller : goal.loop-goal-smaller
-loop-goal-smaller c =
-    let looked = c.in-Some.ensures.some in
-    let less = ap (λ m. finite.len m + 1) c.wake_goal.ensures.notes ∙ one_note_less c.loop-goal.self.notes c.in-Some.goal looked.0 looked.1 in
-    omega (arith, less)
+loop-goal-smaller c = grind (arith, one_note_less)
 
 pub loop-goal-preserved : goal.loop-goal-preserved
 loop-goal-preserved c =

@@ -1,4 +1,4 @@
-use Rattle.ghc_hooks.proofs.Words.{◌+◌, take, take_all, sym, subst, has_member, is_member, TellsHooks}
+use Rattle.ghc_hooks.proofs.Words.{take_all, subst, has_member, is_member, TellsHooks}
 use Rattle.ghc_hooks.proofs.FoundFace.{no_hooks, hooked, unhooked}
 use Rattle.ghc_hooks.proofs.face.hooks.Hooks.of.Goals.{in-Some+in_ok-put_all, in_default}
 use Rattle.ghc_hooks.proofs.face.hooks.Hooks.of.Goals as goal
@@ -8,19 +8,18 @@ loop-name-init c = no_hooks c.args.statuses.now c.new-hooks.result c.new-hooks.e
 
 pub loop-name-preserved : goal.loop-name-preserved
 loop-name-preserved c =
-    let m = c.args.statuses.now in
     let gs = c.args.names.now in
     let i = c.loop-name.name-index in
     elim c.match-awaited.branch [
       | in-Some+in_ok-put_all w ↦
           let xs = w.in-Some.awaited.now in
           let ys = w.members.result.now in
-          subst (TellsHooks m (take (i + 1) gs)) (sym w.hooks-is)
-          (hooked gs i (record { step = 0; place = 0 }) c.loop-name-test.true m c.loop-name.hooks w.put_all.new.self xs ys c.loop-name.invariant w.in-Some.ensures.some
-          (λ x. (has_member xs ys w.members.ensures.all x, is_member xs ys w.members.ensures.all x)) w.in_ok-put_all.ensures)
+          rw w.hooks-is (hooked gs i (record { step = 0; place = 0 }) c.loop-name-test.true c.args.statuses.now c.loop-name.hooks w.put_all.new.self xs ys
+          c.loop-name.invariant w.in-Some.ensures.some (λ x. (has_member xs ys w.members.ensures.all x, is_member xs ys w.members.ensures.all x))
+          w.in_ok-put_all.ensures)
       | in_default w ↦
-          subst (TellsHooks m (take (i + 1) gs)) (sym w.hooks-is)
-          (unhooked gs i (record { step = 0; place = 0 }) c.loop-name-test.true m c.loop-name.hooks c.loop-name.invariant w.in_default.ensures.none)
+          rw w.hooks-is (unhooked gs i (record { step = 0; place = 0 }) c.loop-name-test.true c.args.statuses.now c.loop-name.hooks c.loop-name.invariant
+          w.in_default.ensures.none)
     ]
 
 pub returns : goal.returns

@@ -1,4 +1,4 @@
-use Rattle.ghc_hooks.proofs.Words.{◌+◌, take, take_all, sym, subst, TellsStatuses}
+use Rattle.ghc_hooks.proofs.Words.{take_all, sym, subst, TellsStatuses}
 use Rattle.ghc_hooks.proofs.FoundFace.{no_statuses, status_put, status_passed}
 use Rattle.ghc_hooks.proofs.face.statuses.Statuses.of.Goals.{in-Some+in_ok-of+in_ok-put, in_default}
 use Rattle.ghc_hooks.proofs.face.statuses.Statuses.of.Goals as goal
@@ -15,12 +15,11 @@ loop-name-preserved c =
     let i = c.loop-name.name-index in
     elim c.match-get.branch [
       | in-Some+in_ok-of+in_ok-put w ↦
-          subst (TellsStatuses P G s (take (i + 1) gs)) (sym w.statuses-is)
-          (status_put gs i (record { step = 0; place = 0 }) c.loop-name-test.true P G s c.acyclic.ensures c.loop-name.statuses w.put.new.self w.in-Some.goal.now w.in_ok-of.field-0
-          c.loop-name.invariant (sym w.in-Some.ensures) w.in_ok-of.ensures w.in_ok-put.ensures)
+          rw w.statuses-is (status_put gs i (record { step = 0; place = 0 }) c.loop-name-test.true P G s c.acyclic.ensures c.loop-name.statuses w.put.new.self
+          w.in-Some.goal.now w.in_ok-of.field-0 c.loop-name.invariant (sym w.in-Some.ensures) w.in_ok-of.ensures w.in_ok-put.ensures)
       | in_default w ↦
-          subst (TellsStatuses P G s (take (i + 1) gs)) (sym w.statuses-is)
-          (status_passed gs i (record { step = 0; place = 0 }) c.loop-name-test.true P G s c.loop-name.statuses c.loop-name.invariant (sym w.in_default.ensures))
+          rw w.statuses-is (status_passed gs i (record { step = 0; place = 0 }) c.loop-name-test.true P G s c.loop-name.statuses c.loop-name.invariant
+          (sym w.in_default.ensures))
     ]
 
 pub returns : goal.returns
