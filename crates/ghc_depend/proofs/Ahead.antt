@@ -1,9 +1,9 @@
 -- From a step one goes to its users and to theirs, always to the first that is ahead: so its consequences come in recorded order.
-use Rattle.ghc_depend.proofs.Words.{◌≡◌, ℕ, zero, suc, ◌+◌, ◌-◌, ◌<◌, ◌≤◌, ◌⊎◌, List, [], ◌∷◌, ◌++◌, length, map, take, refl, sym, ap, ◌∙◌, subst, inl, inr, arith, ◌↔◌, Some, All, slice_get, Ordering, Less, Equal, Greater, nat_cmp, match_ordering, MatchOrdering, ranks, insert_key, IsLtBy, All-contains, cases_lt, take_all, length-map, In, in_contains, in_left, in_more, in_last, in_at, Picks, nothing, leave, AreDistinct, Record, numbers, SlotList, held_in, StandsIn, StepDependsOn, stands_held, once_of, rank, rank_stands, rank_back, rank_less, of_map, map_of, is_before, before_in, record_once, numbers_append, picks_in, picks_has, pick_last, leave_last, DependsOn, Follows, directly, further, IsPlaceOfUser}
+use Rattle.ghc_depend.proofs.Words.{◌≡◌, ℕ, zero, suc, ◌+◌, ◌-◌, ◌<◌, ◌≤◌, ◌⊎◌, List, [], ◌∷◌, ◌++◌, length, map, take, refl, sym, ap, ◌∙◌, subst, inl, inr, arith, ◌↔◌, Some, All, slice_get, Ordering, Less, Equal, Greater, nat_cmp, match_ordering, MatchOrdering, ranks, insert_key, IsLtBy, All-contains, cases_lt, take_all, length-map, In, in_contains, in_left, in_more, in_last, in_at, Picks, nothing, leave, AreDistinct, Record, numbers, SlotList, held_in, StandsIn, StepDependsOn, stands_held, once_of, rank, rank_stands, rank_back, rank_less, of_map, map_of, is_before, before_in, record_once, numbers_append, picks_in, picks_has, pick_last, leave_last, DependsOn, Follows, directly, further, IsPlaceOfUser, slice_get_within, slice_get_cases, length-take}
 use Rattle.ghc_records.specs.Orders.{take as taken}
 use Rattle.ghc_depend.proofs.Finding.{same_value}
 use Rattle.ghc_depend.proofs.Following.{follows_in}
-use Rattle.ghc_depend.proofs.Causes.{at_split, place_at, place_within, place_before}
+use Rattle.ghc_depend.proofs.Causes.{at_split, place_at, place_before}
 
 -- a place more, in its order
 pub in_inserted : (ks : List ℕ) (k p : ℕ) → In p (insert_key nat_cmp ks k) ↔ (In p ks ⊎ (p ≡ k))
@@ -12,12 +12,9 @@ in_inserted (x ∷ xs) k p = by_order (nat_cmp k x) (ranks k x) (insert_key nat_
   where
     by_order : (o : Ordering) → MatchOrdering o (k < x) (k ≡ x) (x < k) → (rest : List ℕ) → (In p rest ↔ (In p xs ⊎ (p ≡ k)))
         → In p (match_ordering o (k ∷ x ∷ xs) (x ∷ xs) (x ∷ rest)) ↔ (In p (x ∷ xs) ⊎ (p ≡ k))
-    by_order Less h rest more = (λ i. elim i [ inl e ↦ inr e | inr j ↦ inl j ], λ c. elim c [ inl j ↦ inr j | inr e ↦ inl e ])
-    by_order Equal h rest more = (λ i. inl i, λ c. elim c [ inl j ↦ j | inr e ↦ inl (e ∙ h) ])
-    by_order Greater h rest more = (
-      λ i. elim i [ inl e ↦ inl (inl e) | inr j ↦ elim (more.0 j) [ inl l ↦ inl (inr l) | inr e ↦ inr e ] ],
-      λ c. elim c [ inl (inl e) ↦ inl e | inl (inr j) ↦ inr (more.1 (inl j)) | inr e ↦ inr (more.1 (inr e)) ],
-    )
+    by_order Less h rest more = grind arith
+    by_order Equal h rest more = grind arith
+    by_order Greater h rest more = grind (arith, more.0, more.1)
 
 -- the places behind a place
 pub all_behind : (place : ℕ) (rest : List ℕ) → All (IsLtBy nat_cmp place) rest → (p : ℕ) → In p rest → place < p
@@ -130,15 +127,13 @@ module _ (kept : List Record) (distinct : AreDistinct (numbers kept)) (a : Recor
     picked_on zero high long = subst (λ k. Picks (Follows kept a) (take k kept) g.found) (let e : g.far ≡ g.far + 0 = omega arith in e) g.picked
     picked_on (suc d) high long =
         let before = picked_on d (omega (arith, high)) long in
-        let b = some_at kept (g.far + d) (omega (arith, high, long)) in
+        let b : (x : Record) × (slice_get kept (g.far + d) ≡ Some x) = elim (slice_get_cases kept (g.far + d)).1 [
+          | inl w ↦ (w.0, w.2)
+          | inr past ↦ absurd (omega (arith, high, long, past.0))
+        ] in
         let s = at_split kept (g.far + d) b.0 b.1 in
         subst (λ k. Picks (Follows kept a) (take k kept) g.found) (let e : (g.far + d) + 1 ≡ g.far + suc d = omega arith in e)
         (subst (λ l. Picks (Follows kept a) l g.found) (sym s.2) (leave_last (take (g.far + d) kept) g.found b.0 before (λ f. not_before f (g.far + d) b.1 (omega arith) (omega (arith, high)))))
-      where
-        some_at : (xs : List Record) (i : ℕ) → i < length xs → (x : Record) × (slice_get xs i ≡ Some x)
-        some_at [] i h = absurd (omega (arith, h))
-        some_at (x ∷ xs) zero h = (x, refl)
-        some_at (x ∷ xs) (suc i) h = some_at xs i (omega (arith, h))
 
     -- so up to that place the consequences are those found
     pub found_before : g.far ≤ place → place ≤ length kept → Picks (Follows kept a) (take place kept) g.found
@@ -175,7 +170,7 @@ module _ (kept : List Record) (distinct : AreDistinct (numbers kept)) (a : Recor
     reached = (g.next place).0 (subst (In place) (sym e) (inl refl))
 
     so_far : Picks (Follows kept a) (take place kept) g.found
-    so_far = let within = place_within kept place b at in found_before ahead items g place least reached.0 (omega (arith, within))
+    so_far = let within = slice_get_within kept place b at in found_before ahead items g place least reached.0 (omega (arith, within))
 
     it_follows : Follows kept a b
     it_follows = subst (Follows kept a) (same_value reached.3 at) (elim reached.4 [
@@ -214,9 +209,9 @@ module _ (kept : List Record) (distinct : AreDistinct (numbers kept)) (a : Recor
     -- fewer are found than are kept
     pub gather_fewer : length items < length kept
     gather_fewer =
-        let within = place_within kept place b at in
+        let within = slice_get_within kept place b at in
         let fewer = no_more (take place kept) g.found so_far in
-        let short = taken_short kept place in
+        let short = length-take place kept in
         let same : length (numbers g.found) ≡ length items = ap (λ l. length l) g.numbered in
         let all = length-map g.found (λ (r : Record). r.number) in
         omega (arith, within, fewer, short, same, all)
@@ -225,12 +220,6 @@ module _ (kept : List Record) (distinct : AreDistinct (numbers kept)) (a : Recor
         no_more [] ys nothing = omega arith
         no_more (x ∷ xs) ys (taken p k) = let h = no_more xs _ k in omega (arith, h)
         no_more (x ∷ xs) ys (leave p k) = let h = no_more xs _ k in omega (arith, h)
-
-        taken_short : (xs : List Record) (i : ℕ) → length (take i xs) ≤ i
-        taken_short [] zero = omega arith
-        taken_short [] (suc i) = omega arith
-        taken_short (x ∷ xs) zero = omega arith
-        taken_short (x ∷ xs) (suc i) = let h = taken_short xs i in omega (arith, h)
 
   -- where nothing is ahead any more, all are found
   pub gather_end : (ahead items : List ℕ) (g : IsGathered kept a ahead items) → ahead ≡ [] → (found : List Record) × Picks (Follows kept a) kept found × (numbers found ≡ items)

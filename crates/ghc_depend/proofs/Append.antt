@@ -1,5 +1,5 @@
 -- The run of append: who depends on whom, and which orders are lawful.
-use Rattle.ghc_depend.proofs.Words.{Option, None, ◌≡◌, ℕ, ◌<◌, [], ◌∷◌, refl, sym, ap, ◌∙◌, subst, inl, inr, arith, Some, cond, nat_eq, true, false, subst₂, GoalName, In, name_cmp, variables_asked, Precedes, nothing, leave, Record, is_before, before_in, precedes_rises, Rises, Consumes, DependsOn, Follows, directly, further, by_making, IsTooEarly, wrong, missing, too_early, step_1, step_2, step_3, step_4, run, AppendDepends, AppendOrders}
+use Rattle.ghc_depend.proofs.Words.{Option, None, ◌≡◌, ℕ, ◌<◌, [], ◌∷◌, refl, sym, ap, ◌∙◌, subst, inl, inr, arith, Some, cond, nat_eq, true, false, GoalName, In, name_cmp, variables_asked, Precedes, nothing, leave, Record, is_before, before_in, precedes_rises, Rises, Consumes, DependsOn, Follows, directly, further, by_making, IsTooEarly, wrong, missing, too_early, step_1, step_2, step_3, step_4, run, AppendDepends, AppendOrders, each_in, ◌⊎◌}
 use Rattle.std.specs.FinSet as set
 use Rattle.ghc_records.specs.Orders.{take}
 
@@ -10,30 +10,16 @@ number r = r.number
 rising : Rises number run
 rising = ((omega arith, (omega arith, (omega arith, tt))), ((omega arith, (omega arith, tt)), ((omega arith, tt), (tt, tt))))
 
--- no step of the run reads anything
-reads_nothing : (r : Record) → In r run → r.effect.reads ≡ set.empty
-reads_nothing r (inl e) = ap (λ (s : Record). s.effect.reads) e
-reads_nothing r (inr (inl e)) = ap (λ (s : Record). s.effect.reads) e
-reads_nothing r (inr (inr (inl e))) = ap (λ (s : Record). s.effect.reads) e
-reads_nothing r (inr (inr (inr (inl e)))) = ap (λ (s : Record). s.effect.reads) e
-reads_nothing r (inr (inr (inr (inr i)))) = absurd i
-
--- no step of the run names anything
-names_nothing : (r : Record) → In r run → variables_asked r.act ≡ []
-names_nothing r (inl e) = ap (λ (s : Record). variables_asked s.act) e
-names_nothing r (inr (inl e)) = ap (λ (s : Record). variables_asked s.act) e
-names_nothing r (inr (inr (inl e))) = ap (λ (s : Record). variables_asked s.act) e
-names_nothing r (inr (inr (inr (inl e)))) = ap (λ (s : Record). variables_asked s.act) e
-names_nothing r (inr (inr (inr (inr i)))) = absurd i
-
--- so dependence is by goals alone
+-- no step of the run reads or names anything, so dependence is by goals alone
 by_goal : (b a : Record) → DependsOn run b a → In a run × In b run × Consumes b a
 by_goal b a d =
     let i = before_in run a b (is_before run a b d.0) in
+    let (reads, names) = each_in run (λ s. (s.effect.reads ≡ set.empty) × (variables_asked s.act ≡ [])) b
+    ((refl, refl), ((refl, refl), ((refl, refl), ((refl, refl), tt)))) i.1 in
     elim d.1 [
       | inl c ↦ (i.0, i.1, c)
-      | inr (inl r) ↦ absurd (let e : true ≡ false = sym r.1.0 ∙ ap (λ s. set.contains s r.0) (reads_nothing b i.1) ∙ set.contains-empty name_cmp r.0 in cc)
-      | inr (inr n) ↦ absurd (subst (In n.0) (names_nothing b i.1) n.1.0.0)
+      | inr (inl r) ↦ absurd (let e : true ≡ false = sym r.1.0 ∙ ap (λ s. set.contains s r.0) reads ∙ set.contains-empty name_cmp r.0 in cc)
+      | inr (inr n) ↦ absurd (subst (In n.0) names n.1.0.0)
     ]
 
 -- two numbers are equal
@@ -75,14 +61,9 @@ nothing_on_2 : {b : Record} → ¬ Follows run step_2 b
 nothing_on_2 f =
     let l = first_link f in
     let g = by_goal l.0 step_2 l.1 in
-    let m : maker l.0.goal ≡ 2 = made_by l.0 step_2 g.2 in
-    elim g.1 [
-      | inl e ↦ let n : Same 0 2 = sym (ap (λ (r : Record). maker r.goal) e) ∙ m in omega arith
-      | inr (inl e) ↦ let n : Same 1 2 = sym (ap (λ (r : Record). maker r.goal) e) ∙ m in omega arith
-      | inr (inr (inl e)) ↦ let n : Same 1 2 = sym (ap (λ (r : Record). maker r.goal) e) ∙ m in omega arith
-      | inr (inr (inr (inl e))) ↦ let n : Same 3 2 = sym (ap (λ (r : Record). maker r.goal) e) ∙ m in omega arith
-      | inr (inr (inr (inr i))) ↦ absurd i
-    ]
+    each_in run (λ r. ¬ (maker r.goal ≡ 2)) l.0
+    ((λ (n : Same 0 2). omega arith), ((λ (n : Same 1 2). omega arith), ((λ (n : Same 1 2). omega arith), ((λ (n : Same 3 2). omega arith), tt))))
+    g.1 (made_by l.0 step_2 g.2)
 
 pub depends : AppendDepends
 depends = record {
@@ -94,13 +75,14 @@ depends = record {
   of_third = leave (λ f. let n = follows_rises f in omega arith) (leave (λ f. let n = follows_rises f in omega arith) (leave (λ f. let n = follows_rises f in omega arith) (take (directly depends_43) nothing)));
   first_of_first = (
     directly depends_21,
-    λ c f. elim (last_link f) [
-      | inl e ↦ absurd (let n = follows_rises f in let m : c.number ≡ 1 = ap number e in omega arith)
-      | inr (inl e) ↦ inl e
-      | inr (inr (inl e)) ↦ inr (subst (Precedes run step_2) (sym e) (step_1 ∷ [], [], step_4 ∷ [], refl))
-      | inr (inr (inr (inl e))) ↦ inr (subst (Precedes run step_2) (sym e) (step_1 ∷ [], step_3 ∷ [], [], refl))
-      | inr (inr (inr (inr i))) ↦ absurd i
-    ],
+    λ c f. each_in run (λ r. 1 < r.number → (r ≡ step_2) ⊎ Precedes run step_2 r) c (
+      (λ (n : 1 < 1). absurd (omega arith)),
+      (
+        (λ _. inl refl),
+        ((λ _. inr (step_1 ∷ [], [], step_4 ∷ [], refl)), ((λ _. inr (step_1 ∷ [], step_3 ∷ [], [], refl)), tt)),
+      ),
+    )
+        (last_link f) (follows_rises f),
   );
 }
 
@@ -116,80 +98,35 @@ none_early a b t =
     let g = by_goal b a t.0 in
     let m = made_by b a g.2 in
     let less = precedes_rises place (1 ∷ 3 ∷ 4 ∷ 2 ∷ []) b.number a.number places_rise t.1 in
-    elim g.1 [
-      | inl e ↦ elim g.0 [
-        | inl d ↦ let n : Same 0 1 = sym (ap (λ (r : Record). maker r.goal) e) ∙ m ∙ ap number d in omega arith
-        | inr (inl d) ↦ let n : Same 0 2 = sym (ap (λ (r : Record). maker r.goal) e) ∙ m ∙ ap number d in omega arith
-        | inr (inr (inl d)) ↦ let n : Same 0 3 = sym (ap (λ (r : Record). maker r.goal) e) ∙ m ∙ ap number d in omega arith
-        | inr (inr (inr (inl d))) ↦ let n : Same 0 4 = sym (ap (λ (r : Record). maker r.goal) e) ∙ m ∙ ap number d in omega arith
-        | inr (inr (inr (inr i))) ↦ absurd i
-      ]
-      | inr (inl e) ↦ let n : 3 < 0 = subst₂ (λ x y. place x < place y) (ap number e) (sym m ∙ ap (λ (r : Record). maker r.goal) e) less in omega arith
-      | inr (inr (inl e)) ↦ let n : 1 < 0 = subst₂ (λ x y. place x < place y) (ap number e) (sym m ∙ ap (λ (r : Record). maker r.goal) e) less in omega arith
-      | inr (inr (inr (inl e))) ↦ let n : 2 < 1 = subst₂ (λ x y. place x < place y) (ap number e) (sym m ∙ ap (λ (r : Record). maker r.goal) e) less in omega arith
-      | inr (inr (inr (inr i))) ↦ absurd i
-    ]
+    let positive : 0 < a.number = each_in run (λ r. 0 < r.number) a (omega arith, (omega arith, (omega arith, (omega arith, tt)))) g.0 in
+    each_in run (λ r. 0 < maker r.goal → place r.number < place (maker r.goal) → ⊥) b
+    ((λ (n : 0 < 0) _. omega arith), ((λ _ (n : 3 < 0). omega arith), ((λ _ (n : 1 < 0). omega arith), ((λ _ (n : 2 < 1). omega arith), tt))))
+    g.1 (subst (λ n. 0 < n) (sym m) positive) (subst (λ n. place b.number < place n) (sym m) less)
 
 -- the only step on which step 2 depends
 under_2 : (c : Record) → DependsOn run step_2 c → c ≡ step_1
 under_2 c d =
     let g = by_goal step_2 c d in
-    let m : Same 1 c.number = made_by step_2 c g.2 in
-    elim g.0 [
-      | inl e ↦ e
-      | inr (inl e) ↦ absurd (let n : Same 1 2 = m ∙ ap number e in omega arith)
-      | inr (inr (inl e)) ↦ absurd (let n : Same 1 3 = m ∙ ap number e in omega arith)
-      | inr (inr (inr (inl e))) ↦ absurd (let n : Same 1 4 = m ∙ ap number e in omega arith)
-      | inr (inr (inr (inr i))) ↦ absurd i
-    ]
+    each_in run (λ r. 1 ≡ r.number → r ≡ step_1) c
+    ((λ _. refl), ((λ (n : Same 1 2). absurd (omega arith)), ((λ (n : Same 1 3). absurd (omega arith)), ((λ (n : Same 1 4). absurd (omega arith)), tt))))
+    g.0 (made_by step_2 c g.2)
 
 pub orders : AppendOrders
 orders = record {
   lawful = (
-    (
-      (
-        λ n i. elim i [
-          | inl e ↦ inl e
-          | inr (inl e) ↦ inr (inr (inl e))
-          | inr (inr (inl e)) ↦ inr (inr (inr (inl e)))
-          | inr (inr (inr (inl e))) ↦ inr (inl e)
-          | inr (inr (inr (inr j))) ↦ absurd j
-        ],
-        (grind arith, (grind arith, (grind arith, (λ i. i, tt)))),
-      ),
-      λ n i. elim i [
-        | inl e ↦ inl e
-        | inr (inl e) ↦ inr (inr (inr (inl e)))
-        | inr (inr (inl e)) ↦ inr (inl e)
-        | inr (inr (inr (inl e))) ↦ inr (inr (inl e))
-        | inr (inr (inr (inr j))) ↦ absurd j
-      ],
-    ),
+    ((λ n i. grind arith, (grind arith, (grind arith, (grind arith, (λ i. i, tt))))), λ n i. grind arith),
     none_early,
   );
-  early = too_early {a = step_1} {b = step_2} (
-    (
-      λ n i. elim i [
-        | inl e ↦ inr (inl e)
-        | inr (inl e) ↦ inl e
-        | inr (inr j) ↦ inr (inr j)
-      ],
-      (grind arith, (grind arith, (grind arith, (λ i. i, tt)))),
-    ),
-    λ n i. elim i [
-      | inl e ↦ inr (inl e)
-      | inr (inl e) ↦ inl e
-      | inr (inr j) ↦ inr (inr j)
-    ],
-  ) (record { front = []; behind = 1 ∷ 3 ∷ 4 ∷ []; splits = refl; before = λ c d i. absurd i; early = (depends_21, ([], [], 3 ∷ 4 ∷ [], refl)); first = λ c t. inl (under_2 c t.0) });
-  missing = missing {r = step_4} (
-    λ n i. elim i [
-      | inl e ↦ inl e
-      | inr (inl e) ↦ inr (inl e)
-      | inr (inr (inl e)) ↦ inr (inr (inl e))
-      | inr (inr (inr j)) ↦ absurd j
-    ],
-    (grind arith, (grind arith, (λ i. i, tt))),
-  ) (record { front = step_1 ∷ step_2 ∷ step_3 ∷ []; behind = []; splits = refl; before = λ n i. i; absent = grind arith });
-  twice = wrong (record { front = 1 ∷ []; behind = 2 ∷ 3 ∷ []; splits = refl; before = (λ n i. elim i [ inl e ↦ inl e | inr j ↦ absurd j ], (λ i. i, tt)); not_new = inr (inl refl) });
+  early = too_early {a = step_1} {b = step_2} ((λ n i. grind arith, (grind arith, (grind arith, (grind arith, (λ i. i, tt))))), λ n i. grind arith)
+      (record {
+        front = [];
+        behind = 1 ∷ 3 ∷ 4 ∷ [];
+        splits = refl;
+        before = λ c d i. absurd i;
+        early = (depends_21, ([], [], 3 ∷ 4 ∷ [], refl));
+        first = λ c t. inl (under_2 c t.0);
+      });
+  missing = missing {r = step_4} (λ n i. grind arith, (grind arith, (grind arith, (λ i. i, tt))))
+      (record { front = step_1 ∷ step_2 ∷ step_3 ∷ []; behind = []; splits = refl; before = λ n i. i; absent = grind arith });
+  twice = wrong (record { front = 1 ∷ []; behind = 2 ∷ 3 ∷ []; splits = refl; before = (λ n i. grind arith, (λ i. i, tt)); not_new = inr (inl refl) });
 }

@@ -1,5 +1,5 @@
 -- A lawful order of a replay replays to the same state, and so do two neighbouring steps that change places.
-use Rattle.ghc_depend.proofs.Words.{◌≡◌, ◌↔◌, ℕ, ◌⊎◌, List, [], ◌∷◌, ◌++◌, refl, sym, subst, inl, inr, In, in_either, AreDistinct, Record, numbers, Replays, Before, is_before, before_is, before_in, before_once, number_in, number_of, records_distinct, replay_well, DependsOn, IsLawful, IsInOrder, LawfulOrderKeepsReplay, NeighboursChangePlaces}
+use Rattle.ghc_depend.proofs.Words.{◌≡◌, ◌↔◌, ℕ, ◌⊎◌, List, [], ◌∷◌, ◌++◌, refl, sym, subst, inl, inr, In, in_either, AreDistinct, Record, numbers, Replays, Before, is_before, before_is, before_in, before_once, number_in, number_of, records_distinct, replay_well, DependsOn, IsLawful, IsInOrder, LawfulOrderKeepsReplay, NeighboursChangePlaces, arith}
 use Rattle.ghc_depend.proofs.Decided.{by_numbers, by_records}
 use Rattle.ghc_depend.proofs.Picking.{behind_before}
 use Rattle.ghc_depend.proofs.Placing.{results_of}
@@ -27,19 +27,12 @@ arranged P query kept t order new accepted asked replay lawful o =
 module _ {X : Type 0} where
   -- two neighbours that change places
   swap_in : (front back : List X) (a b x : X) → In x (front ++ a ∷ b ∷ back) → In x (front ++ b ∷ a ∷ back)
-  swap_in [] back a b x (inl e) = inr (inl e)
-  swap_in [] back a b x (inr (inl e)) = inl e
-  swap_in [] back a b x (inr (inr i)) = inr (inr i)
-  swap_in (y ∷ front) back a b x (inl e) = inl e
-  swap_in (y ∷ front) back a b x (inr i) = inr (swap_in front back a b x i)
+  swap_in [] back a b x i = grind arith
+  swap_in (y ∷ front) back a b x i = grind (arith, swap_in front back a b x)
 
   swap_before : (front back : List X) (a b x y : X) → Before (front ++ b ∷ a ∷ back) x y → Before (front ++ a ∷ b ∷ back) x y ⊎ ((x ≡ b) × (y ≡ a))
-  swap_before [] back a b x y (inl (e, inl f)) = inr (e, f)
-  swap_before [] back a b x y (inl (e, inr i)) = inl (inr (inl (e, i)))
-  swap_before [] back a b x y (inr (inl (e, i))) = inl (inl (e, inr i))
-  swap_before [] back a b x y (inr (inr h)) = inl (inr (inr h))
-  swap_before (z ∷ front) back a b x y (inl (e, i)) = inl (inl (e, swap_in front back b a y i))
-  swap_before (z ∷ front) back a b x y (inr h) = elim (swap_before front back a b x y h) [ inl k ↦ inl (inr k) | inr p ↦ inr p ]
+  swap_before [] back a b x y h = grind arith
+  swap_before (z ∷ front) back a b x y h = grind (arith, swap_in front back b a y, swap_before front back a b x y)
 
 swap_distinct : (front back : List Record) (a b : Record) → AreDistinct (numbers (front ++ a ∷ b ∷ back)) → AreDistinct (numbers (front ++ b ∷ a ∷ back))
 swap_distinct [] back a b d = ((λ i. elim i [ inl e ↦ d.0 (inl (sym e)) | inr j ↦ d.1.0 j ]), ((λ i. d.0 (inr i)), d.1.1))

@@ -1,6 +1,7 @@
 -- Why a step depends directly on an earlier one: places in recorded order, the least variable, and what woke a goal.
-use Rattle.ghc_depend.proofs.Words.{◌≡◌, ◌≢◌, ℕ, zero, suc, ◌+◌, ◌<◌, ◌≤◌, ◌⊎◌, Bool, true, false, not, cond, List, [], ◌∷◌, ◌++◌, length, take, refl, sym, ap, ◌∙◌, subst, subst₂, inl, inr, arith, ◌↔◌, Option, Some, None, IsTrue, IfSome, IfNone, slice_get, Less, Equal, Greater, is_lt, ord_min, ordering_reverse, cases_order, VarName, GoalName, In, name_cmp, name_total, name_antisymmetric, has_member, in_left, in_right, in_more, in_at, is_member, Precedes, AreDistinct, Record, numbers, Before, is_before, before_is, before_in, before_once, record_once, records_distinct, StepBinds, SlotList, HasNumberIn, StandsIn, held_in, rank, rank_less, rank_least, ranked, ranked_at, variables_asked, MakesGoal, MakesVariable, Consumes, Binds, ReadsFrom, NamesFrom, IsKeptAs, Made as made, Read as read, Named as named, CanWait, WasThereBefore, IsBoundBehind, ReadsBehind, IsWokenBy, IsLeastRead, IsLeastNamed, by_making, by_reading, by_naming, IsDirect}
+use Rattle.ghc_depend.proofs.Words.{◌≡◌, ◌≢◌, ℕ, zero, suc, ◌+◌, ◌<◌, ◌≤◌, ◌⊎◌, Bool, true, false, not, cond, List, [], ◌∷◌, ◌++◌, take, refl, sym, ap, ◌∙◌, subst, subst₂, inl, inr, arith, ◌↔◌, Option, Some, None, IsTrue, IfSome, IfNone, slice_get, Less, is_lt, ord_min, ordering_reverse, cases_order, VarName, GoalName, In, name_cmp, name_total, name_antisymmetric, has_member, in_left, in_more, in_at, is_member, Precedes, AreDistinct, Record, numbers, Before, is_before, before_is, before_in, before_once, record_once, records_distinct, StepBinds, SlotList, HasNumberIn, StandsIn, held_in, rank, rank_less, rank_least, ranked, ranked_at, variables_asked, MakesGoal, MakesVariable, Consumes, Binds, ReadsFrom, NamesFrom, IsKeptAs, Made as made, Read as read, Named as named, CanWait, WasThereBefore, IsBoundBehind, ReadsBehind, IsWokenBy, IsLeastRead, IsLeastNamed, by_making, by_reading, by_naming, IsDirect, slice_get_within, get_or_from_slice_get, splits_at, take_more, drop, in_last}
 use Rattle.std.specs.FinSet as set
+pub use Rattle.ghc_term.proofs.ListsLemmas.{at_of_in as place_at}
 use Rattle.ghc_depend.proofs.Finding.{same_value}
 
 module _ {X : Type 0} where
@@ -15,35 +16,14 @@ module _ {X : Type 0} where
 
   -- what stands before stands at an earlier place
   pub before_places : (xs : List X) → AreDistinct xs → (i j : ℕ) (a b : X) → slice_get xs i ≡ Some a → slice_get xs j ≡ Some b → Before xs a b → i < j
-  before_places xs distinct i j a b p q h = elim (cases_order i j) [
-    | inr (inl l) ↦ l
-    | inl e ↦
-        let same : b ≡ a = same_value (ap (slice_get xs) e ∙ q) p in
-        let again = subst (Before xs a) same h in
-        absurd (before_once xs a a distinct again again)
-    | inr (inr l) ↦ absurd (before_once xs a b distinct h (places_before xs j i b a q p l))
-  ]
-
-  -- a place is within the list
-  pub place_within : (xs : List X) (i : ℕ) (a : X) → slice_get xs i ≡ Some a → i < length xs
-  place_within [] zero a p = cc
-  place_within [] (suc i) a p = cc
-  place_within (x ∷ xs) zero a p = omega arith
-  place_within (x ∷ xs) (suc i) a p = let h = place_within xs i a p in omega arith
-
-  pub if_some : {P : X → Type 0} (o : Option X) → ((a : X) → o ≡ Some a → P a) → IfSome o P
-  if_some None f = tt
-  if_some (Some a) f = f a refl
+  before_places xs distinct i j a b p q h = grind (arith, cases_order, same_value, before_once, places_before)
 
 -- an element of a list, and the lists in front of it and behind it
 pub at_split : {X : Type 0} (xs : List X) (i : ℕ) (b : X) → slice_get xs i ≡ Some b → (rest : List X) × (xs ≡ take i xs ++ b ∷ rest) × (take (i + 1) xs ≡ take i xs ++ b ∷ [])
-at_split [] zero b e = cc
-at_split [] (suc i) b e = cc
-at_split (x ∷ xs) zero b e = let same : x ≡ b = cc in (xs, ap (λ z. z ∷ xs) same, ap (λ z. z ∷ []) same)
-at_split (x ∷ xs) (suc i) b e =
-    let s = at_split xs i b e in
-    let next : suc i + 1 ≡ suc (i + 1) = omega arith in
-    (s.0, ap (λ l. x ∷ l) s.1, ap (λ k. take k (x ∷ xs)) next ∙ ap (λ l. x ∷ l) s.2)
+at_split xs i b e =
+    let within = slice_get_within xs i b e in
+    let is = get_or_from_slice_get xs i b b e in
+    (drop (i + 1) xs, splits_at xs i b within (sym is), take_more xs i b within ∙ ap (λ z. take i xs ++ z ∷ []) is)
 
 -- the record at the place of a number
 pub kept_at : (kept : List Record) (place n : ℕ) (a : Record) → ((r : Record) × (slice_get kept place ≡ Some r) × (r.number ≡ n)) → slice_get kept place ≡ Some a → IsKeptAs kept n a
@@ -66,22 +46,23 @@ abbrev pub IsLeastOf : (VarName → Type 0) → List VarName → Option VarName 
 IsLeastOf Q xs None = (x : VarName) → In x xs → ¬ Q x
 IsLeastOf Q xs (Some y) = In y xs × Q y × ((x : VarName) → In x xs → Q x → (x ≡ y) ⊎ (name_cmp y x ≡ Less))
 
--- the lesser of two, by their order
+-- z is at most w, by their order
+abbrev AtMost : VarName → VarName → Type 0
+AtMost z w = (w ≡ z) ⊎ (name_cmp z w ≡ Less)
+
+at_most_on : {x y z : VarName} → AtMost x y → AtMost y z → AtMost x z
+at_most_on {x} {y} {z} (inl p) q = subst (λ w. AtMost w z) p q
+at_most_on {x} {y} {z} (inr l) (inl q) = inr (subst (λ w. name_cmp x w ≡ Less) (sym q) l)
+at_most_on {x} {y} {z} (inr l) (inr m) = inr (name_total.trans x y z l m)
+
+-- the lesser of two
 abbrev IsLesser : VarName → VarName → VarName → Type 0
-IsLesser y x z = ((z ≡ x) × (name_cmp x y ≡ Less)) ⊎ ((z ≡ y) × ((x ≡ y) ⊎ (name_cmp y x ≡ Less)))
+IsLesser y x z = ((z ≡ x) ⊎ (z ≡ y)) × AtMost z x × AtMost z y
 
 is_lesser : (y x : VarName) → IsLesser y x (ord_min name_cmp y x)
-is_lesser y x =
-    elim (name_cmp x y) as (λ o. name_cmp x y ≡ o → IsLesser y x (cond (is_lt o) x y)) [
-      | Less ↦ λ e. inl (refl, e)
-      | Equal ↦ λ e. inr (refl, inl (name_antisymmetric x y e))
-      | Greater ↦ λ e. inr (refl, inr (name_total.antisymm y x ∙ ap ordering_reverse e))
-    ] refl
+is_lesser y x = grind (arith, cond, is_lt, name_antisymmetric, ordering_reverse)
 
 module _ (Q : VarName → Type 0) (xs : List VarName) (x : VarName) where
-  last : In x (xs ++ x ∷ [])
-  last = in_right xs (x ∷ []) x (inl refl)
-
   -- one variable more, which the step did not bind
   pub least_passed : (o : Option VarName) → IsLeastOf Q xs o → ¬ Q x → IsLeastOf Q (xs ++ x ∷ []) o
   least_passed None h n = λ z i b. elim (in_more xs x z i) [ inl j ↦ h z j b | inr e ↦ n (subst Q e b) ]
@@ -91,36 +72,17 @@ module _ (Q : VarName → Type 0) (xs : List VarName) (x : VarName) where
     λ z i b. elim (in_more xs x z i) [ inl j ↦ h.2 z j b | inr e ↦ absurd (n (subst Q e b)) ],
   )
 
-  first_one : IsLeastOf Q xs None → Q x → IsLeastOf Q (xs ++ x ∷ []) (Some x)
-  first_one h b = (last, b, λ z i c. elim (in_more xs x z i) [ inl j ↦ absurd (h z j c) | inr e ↦ inl e ])
-
-  lesser_one : (y : VarName) → IsLeastOf Q xs (Some y) → Q x → name_cmp x y ≡ Less → IsLeastOf Q (xs ++ x ∷ []) (Some x)
-  lesser_one y h b less = (
-    last,
-    b,
-    λ z i c. elim (in_more xs x z i) [
-      | inl j ↦ inr (elim (h.2 z j c) [ inl e ↦ subst (λ w. name_cmp x w ≡ Less) (sym e) less | inr l ↦ name_total.trans x y z less l ])
-      | inr e ↦ inl e
-    ],
-  )
-
-  same_one : (y : VarName) → IsLeastOf Q xs (Some y) → (x ≡ y) ⊎ (name_cmp y x ≡ Less) → IsLeastOf Q (xs ++ x ∷ []) (Some y)
-  same_one y h order = (
-    in_left xs (x ∷ []) y h.0,
-    h.1,
-    λ z i c. elim (in_more xs x z i) [
-      | inl j ↦ h.2 z j c
-      | inr e ↦ elim order [ inl f ↦ inl (e ∙ f) | inr l ↦ inr (subst (λ w. name_cmp y w ≡ Less) (sym e) l) ]
-    ],
-  )
-
   -- one more, which it bound
   pub least_taken : (o : Option VarName) (z : VarName) → IsLeastOf Q xs o → Q x → IfSome o (λ y. z ≡ ord_min name_cmp y x) → IfNone o (z ≡ x) → IsLeastOf Q (xs ++ x ∷ []) (Some z)
-  least_taken None z h b s n = subst (λ w. IsLeastOf Q (xs ++ x ∷ []) (Some w)) (sym n) (first_one h b)
-  least_taken (Some y) z h b s n = subst (λ w. IsLeastOf Q (xs ++ x ∷ []) (Some w)) (sym s) (elim (is_lesser y x) [
-    | inl l ↦ subst (λ w. IsLeastOf Q (xs ++ x ∷ []) (Some w)) (sym l.0) (lesser_one y h b l.1)
-    | inr l ↦ subst (λ w. IsLeastOf Q (xs ++ x ∷ []) (Some w)) (sym l.0) (same_one y h l.1)
-  ])
+  least_taken None z h b s n =
+      subst (λ w. IsLeastOf Q (xs ++ x ∷ []) (Some w)) (sym n) (in_last xs x, b, λ w i c. elim (in_more xs x w i) [ inl j ↦ absurd (h w j c) | inr e ↦ inl e ])
+  least_taken (Some y) z h b s n =
+      let l = subst (IsLesser y x) (sym s) (is_lesser y x) in
+      let of_both : (P : VarName → Type 0) → P x → P y → P z = λ P p q. elim l.0 [ inl e ↦ subst P (sym e) p | inr e ↦ subst P (sym e) q ] in (
+        of_both (λ w. In w (xs ++ x ∷ [])) (in_last xs x) (in_left xs (x ∷ []) y h.0),
+        of_both Q b h.1,
+        λ w i c. elim (in_more xs x w i) [ inl j ↦ at_most_on l.2 (h.2 w j c) | inr e ↦ subst (AtMost z) (sym e) l.1 ],
+      )
 
 -- the least of what a step read
 pub least_is : (b a : Record) (xs : List VarName) (o : Option VarName) → set.from_list xs ≡ b.effect.reads → IsLeastOf (Binds a) xs o → IfSome o (IsLeastRead b a)
@@ -166,12 +128,6 @@ module _ (rs : List Record) (distinct : AreDistinct (numbers rs)) (b : Record) w
 -- P holds of none of the steps behind this place and in front of the other
 abbrev pub NoneBetween : (Record → Type 0) → List Record → ℕ → ℕ → Type 0
 NoneBetween P rs place end_place = (k : ℕ) (c : Record) → place < k → k < end_place → slice_get rs k ≡ Some c → ¬ P c
-
--- an element of a list has a place
-pub place_at : {X : Type 0} (xs : List X) (x : X) → In x xs → (i : ℕ) × (slice_get xs i ≡ Some x)
-place_at [] x i = absurd i
-place_at (y ∷ xs) x (inl e) = (0, ap Some (sym e))
-place_at (y ∷ xs) x (inr i) = let p = place_at xs x i in (suc p.0, p.1)
 
 -- the step that bound a variable, by the look-up of its number
 module _ (rs : List Record) (distinct : AreDistinct (numbers rs)) (x : VarName) (o : Option ℕ) (bound : (n : ℕ) → (o ≡ Some n) ↔ StepBinds rs n x) where

@@ -1,5 +1,5 @@
 -- Steps that were taken out of the record can be taken again at its end.
-use Rattle.ghc_depend.proofs.Words.{List, ◌++◌, sym, subst, inl, inr, In, IsAcyclic, value_at, in_left, in_right, in_either, Program, Query, AreDistinct, State, Record, numbers, Replays, Before, is_before, records_distinct, replay_well, DependsOn, directly, IsClosedUnder, IsPartedBy, GoneComeBack}
+use Rattle.ghc_depend.proofs.Words.{List, ◌++◌, sym, subst, inl, inr, In, IsAcyclic, value_at, in_left, in_right, in_either, Program, Query, AreDistinct, State, Record, numbers, Replays, Before, is_before, records_distinct, replay_well, DependsOn, directly, IsClosedUnder, IsPartedBy, GoneComeBack, arith}
 use Rattle.ghc_depend.proofs.Comparing.{same_state}
 use Rattle.ghc_depend.proofs.Finding.{ends}
 use Rattle.ghc_depend.proofs.Deleting.{of_gone, of_left, apart, parted}
@@ -28,16 +28,13 @@ module _ (P : Program) (query : Query) (rs : List Record) (t : State) (replay : 
         let k = ends rs r a d in
         let before = is_before rs a r d.0 in
         let distinct = records_distinct rs replay.0.1 in
-        elim (parted P query rs t replay D gone left parts r k.1) [
-          | inl r_gone ↦ elim (parted P query rs t replay D gone left parts a k.0) [
-            | inl a_gone ↦ before_right left gone a r (picks_keep rs gone a r distinct parts.0 a_gone r_gone before)
-            | inr a_left ↦ before_across left gone a r a_left r_gone
-          ]
-          | inr r_left ↦ elim (parted P query rs t replay D gone left parts a k.0) [
-            | inl a_gone ↦ absurd ((picks_in rs left r parts.1 r_left).1 (shut a r (picks_in rs gone a parts.0 a_gone).1 (directly d)))
-            | inr a_left ↦ before_left left gone a r (picks_keep rs left a r distinct parts.1 a_left r_left before)
-          ]
-        ]
+        let closed : D a → D r = λ da. shut a r da (directly d) in
+        let of_r = parted P query rs t replay D gone left parts r k.1 in
+        let of_a = parted P query rs t replay D gone left parts a k.0 in
+        let both_gone = picks_keep rs gone a r distinct parts.0 in
+        let both_left = picks_keep rs left a r distinct parts.1 in
+        let across = before_across left gone a r in
+        grind (arith, picks_in rs gone a parts.0, picks_in rs left r parts.1, before_right left gone a r, before_left left gone a r)
 
     behind : StandBehind rs (left ++ gone)
     behind front back r a e d = stands_in_front (left ++ gone) front back r a (records_distinct (left ++ gone) both_distinct) e (order r a d)

@@ -1,12 +1,9 @@
 -- States that lists of steps left: with the same steps they are one state, and with fewer steps one is the other without the rest.
-use Rattle.ghc_depend.proofs.Words.{◌≡◌, ◌≤◌, ◌⊎◌, List, sym, ap, ◌∙◌, subst, inl, inr, arith, Some, None, true, false, is_some, is_eq, VarName, GoalName, Tree, Goal, In, value_at, name_total, name_antisymmetric, Program, Query, goal_cmp, State, Record, query_state, Replays, goal_total, same_goal, Binds, IsBoundIn, IsMadeIn, IsConsumedIn, IsWithoutSteps, WithoutStepsIsOne}
+use Rattle.ghc_depend.proofs.Words.{◌≡◌, ◌≤◌, ◌⊎◌, List, sym, ap, ◌∙◌, subst, inl, inr, arith, Some, None, true, false, is_some, VarName, GoalName, Tree, In, value_at, name_total, name_antisymmetric, Program, Query, State, Record, Replays, goal_total, Binds, IsBoundIn, IsMadeIn, IsConsumedIn, IsWithoutSteps, WithoutStepsIsOne, goal_antisymmetric}
 use Rattle.std.specs.FinMap as finite
 use Rattle.ghc_depend.proofs.Finding.{by_option, not_both, find_value, find_consumed, own, own_made, made_own}
-use Rattle.ghc_depend.proofs.Results.{taken_at, IsUntaken, IsUnmade, Results, of_query, goal_by}
+use Rattle.ghc_depend.proofs.Results.{taken_at, IsUntaken, Results, of_query, query_unmade, goal_by}
 use Rattle.ghc_depend.proofs.Placing.{results_of, place_of, front_in, consumed_once, bound_once, numbered_once}
-
-pub goal_antisymmetric : finite.IsAntisymmetric goal_cmp
-goal_antisymmetric g h e = same_goal g h (ap is_eq e)
 
 module _ (query : Query) (rs new : List Record) (s t : State) (h : Results query rs s) (k : Results query new t)
     (to : (r : Record) → In r rs → In r new) (back : (r : Record) → In r new → In r rs) where
@@ -40,15 +37,10 @@ module _ (P : Program) (query : Query) (rs gone left : List Record) (s t : State
 
   -- a step of the one part and a step of the other are two
   never : (r c : Record) → In r gone → In c left → ¬ (c ≡ r)
-  never r c i j e = apart c (subst_in e i) j
-    where
-      subst_in : {c r : Record} → c ≡ r → In r gone → In c gone
-      subst_in {c} {r} e i = subst (λ z. In z gone) (sym e) i
+  never r c i j e = apart c (subst (λ z. In z gone) (sym e) i) j
 
   unbound : (x : VarName) → IsBoundIn gone x → value_at t.store x ≡ None
-  unbound x b =
-      let v = bound_value b.0 x b.2 in
-      k.unbound x (λ c j. by_option (value_at c.effect.binds x) (λ n. n) (λ w f. absurd (never b.0 c b.1 j (bound_once P query rs s replay b.0 c x v.0 w (of_gone b.0 b.1) (of_left c j) v.1 f))))
+  unbound x b = grind (arith, bound_value, by_option, never, bound_once)
 
   bound : (x : VarName) → ¬ IsBoundIn gone x → value_at t.store x ≡ value_at s.store x
   bound x n = elim (find_value (λ (r : Record). value_at r.effect.binds x) left) [
@@ -62,23 +54,8 @@ module _ (P : Program) (query : Query) (rs gone left : List Record) (s t : State
   positive : (r : Record) → In r rs → 1 ≤ r.number
   positive r i = (replay.0.0 r i).0
 
-  -- a goal of the query is none that a step made
-  unmade_by_left : (g : GoalName) (b : Goal) → finite.get (query_state query).goals g ≡ Some b → IsUnmade left g
-  unmade_by_left g b q c j = by_option (own c g) (λ n. n) (λ w o.
-      let zero_step = of_query query g b q in
-      let number = (own_made c g w o).0 in
-      let first = positive c (of_left c j) in
-      absurd (omega arith))
-
   unmade : (g : GoalName) → IsMadeIn gone g → finite.get t.goals g ≡ None
-  unmade g m = by_option (finite.get t.goals g) (λ n. n) (λ b e. elim (goal_by query left t k g b e) [
-    | inl p ↦ absurd (never m.0 p.0 m.1 p.1 (numbered_once P query rs s replay m.0 p.0 (of_gone m.0 m.1) (of_left p.0 p.1) (sym m.2.0 ∙ (own_made p.0 g b p.2).0)))
-    | inr q ↦
-        let zero_step = of_query query g b q.1 in
-        let number = m.2.0 in
-        let first = positive m.0 (of_gone m.0 m.1) in
-        absurd (omega arith)
-  ])
+  unmade g m = grind (arith, by_option, goal_by, never, numbered_once, own_made, of_query, positive)
 
   given_back : (g : GoalName) (r : Record) → In r gone → r.goal ≡ Some g → ¬ IsMadeIn gone g → finite.get t.goals g ≡ r.consumed
   given_back g r i e n =
@@ -90,7 +67,7 @@ module _ (P : Program) (query : Query) (rs gone left : List Record) (s t : State
           | inl j ↦ absurd (n (m.0, j, own_made m.0 g a.0 m.2))
           | inr j ↦ k.made m.0 g a.0 j m.2 free
         ]
-        | inr q ↦ k.rest g (unmade_by_left g a.0 q.1) free ∙ q.1
+        | inr q ↦ k.rest g (query_unmade query left (λ c j. positive c (of_left c j)) g a.0 q.1) free ∙ q.1
       ] ∙ sym a.2
 
   others : (g : GoalName) → ¬ IsMadeIn gone g → ¬ IsConsumedIn gone g → finite.get t.goals g ≡ finite.get s.goals g

@@ -1,10 +1,9 @@
 -- The law of deletion.
-use Rattle.ghc_depend.proofs.Words.{◌≡◌, ◌⊎◌, List, ◌∷◌, refl, sym, ◌∙◌, subst, inl, inr, arith, VarName, In, IsAcyclic, value_at, in_right, in_either, Program, Query, IsQuery, AreDistinct, State, Record, Replays, Before, is_before, before_once, records_distinct, of_query, replay_well, Consumes, ReadsFrom, NamesFrom, DependsOn, directly, further, IsClosedUnder, IsPartedBy, IsWithoutSteps, LawOfDeletion}
-use Rattle.std.specs.FinMap as finite
+use Rattle.ghc_depend.proofs.Words.{◌≡◌, ◌⊎◌, List, ◌∷◌, refl, sym, ◌∙◌, subst, inl, inr, arith, VarName, In, IsAcyclic, value_at, in_right, Program, Query, IsQuery, State, Record, Replays, is_before, records_distinct, of_query, replay_well, Consumes, ReadsFrom, NamesFrom, DependsOn, directly, further, IsClosedUnder, IsPartedBy, IsWithoutSteps, LawOfDeletion}
 use Rattle.ghc_depend.proofs.Finding.{ends}
 use Rattle.ghc_depend.proofs.Results.{taken_at, step_binds, bound_by, is_old}
 use Rattle.ghc_depend.proofs.Placing.{Place, place_of, front_in, bound_once, numbered_once}
-use Rattle.ghc_depend.proofs.Picking.{behind_before, picks_in, picks_has, picks_order, picks_distinct}
+use Rattle.ghc_depend.proofs.Picking.{stands_in_front, picks_in, picks_has, picks_keep, picks_distinct}
 use Rattle.ghc_depend.proofs.Working.{StandBehind, works}
 use Rattle.ghc_depend.proofs.Comparing.{bound_value, without}
 
@@ -19,13 +18,7 @@ module _ (P : Program) (query : Query) (rs : List Record) (t : State) (replay : 
   apart r i j = (picks_in rs left r parts.1 j).1 (picks_in rs gone r parts.0 i).1
 
   pub parted : (r : Record) → In r rs → In r gone ⊎ In r left
-  parted r i = elim (picks_has rs gone r parts.0 i) [
-    | inl j ↦ inl j
-    | inr n ↦ elim (picks_has rs left r parts.1 i) [ inl j ↦ inr j | inr m ↦ absurd (m n) ]
-  ]
-
-  distinct : AreDistinct rs
-  distinct = records_distinct rs replay.0.1
+  parted r i = grind (arith, picks_has rs gone r parts.0 i, picks_has rs left r parts.1 i)
 
   -- where the set is closed, each step left stands behind all on which it depends
   behind : IsClosedUnder rs D → StandBehind rs left
@@ -34,11 +27,8 @@ module _ (P : Program) (query : Query) (rs : List Record) (t : State) (replay : 
       let before = is_before rs a r d.0 in
       elim (parted a (ends rs r a d).0) [
         | inl i ↦ absurd ((picks_in rs left r parts.1 r_left).1 (shut a r (picks_in rs gone a parts.0 i).1 (directly d)))
-        | inr i ↦ elim (in_either front (r ∷ back) a (subst (In a) e i)) [
-          | inl j ↦ j
-          | inr (inl same) ↦ let again = subst (λ z. Before rs z r) same before in absurd (before_once rs r r distinct again again)
-          | inr (inr j) ↦ absurd (before_once rs a r distinct before (picks_order rs left r a parts.1 (subst (λ z. Before z r a) (sym e) (behind_before front back r a j))))
-        ]
+        | inr i ↦ stands_in_front left front back r a (records_distinct left (picks_distinct rs left parts.1 replay.0.1)) e
+            (picks_keep rs left a r (records_distinct rs replay.0.1) parts.1 i r_left before)
       ]
 
   pub replays : IsAcyclic (value_at t.store) → IsClosedUnder rs D → (u : State) × Replays P query left u × IsWithoutSteps gone t u

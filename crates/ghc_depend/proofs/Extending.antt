@@ -1,5 +1,5 @@
 -- A step has the same effect in each store that has more bindings, where these leave alone what the step binds, and close no cycle with it.
-use Rattle.ghc_depend.proofs.Words.{◌≡◌, ℕ, ℤ, cond, List, [], ◌∷◌, refl, sym, ap, ◌∙◌, subst, inl, inr, ◌⊎◌, Option, Some, None, IsTrue, option_or, VarName, Tree, integer, Expression, Goal, call, unify, assign, stream, In, IsAcyclic, name_cmp, with_binding, StoreValue, value_at, leads_once, leads_agree, name_total, In_either, set_of, Program, leaf_variables, EndsIn, Number, of_integer, of_variable, computed, accepts, number_there, outcome_there, Unifies, with_bindings, by_value, comes_more, Hold, all_extend, bound_by, Fresh, is_bound, keeps, moves_fresh, has_value, unbound_before, itself, bound_is, Act, ByClause as by_clause, Unified as unified, Assigned as assigned, Given as given, Closed as closed, Effect, HasEffect, IsOnChainsOf, ReadsTail, effect_local, effect_binds}
+use Rattle.ghc_depend.proofs.Words.{◌≡◌, ℕ, cond, refl, sym, ap, ◌∙◌, subst, inl, inr, ◌⊎◌, Option, Some, None, IsTrue, option_or, VarName, Tree, integer, Goal, call, unify, assign, stream, In, IsAcyclic, name_cmp, StoreValue, value_at, leads_once, leads_agree, name_total, set_of, Program, leaf_variables, EndsIn, accepts, number_there, outcome_there, Unifies, with_bindings, by_value, comes_more, all_extend, bound_by, moves_fresh, has_value, unbound_before, itself, bound_is, Act, ByClause as by_clause, Unified as unified, Assigned as assigned, Given as given, Closed as closed, Effect, HasEffect, IsOnChainsOf, ReadsTail, effect_local, effect_binds, bound_to, number_ends}
 use Rattle.std.specs.FinMap as finite
 use Rattle.std.specs.FinSet as set
 use Rattle.ghc_unify.proofs.Bound.{IsBoundIn}
@@ -9,13 +9,6 @@ pub record IsMore (binds : StoreValue) (S S' : VarName → Option Tree) : Type 0
   pub more : (x : VarName) (t : Tree) → S x ≡ Some t → S' x ≡ Some t
   pub free : (x : VarName) (t : Tree) → value_at binds x ≡ Some t → S' x ≡ None
   pub acyclic : IsAcyclic (with_bindings binds S')
-
--- what is bound, and to what
-bound_to : (bs : List (VarName × Tree)) (T : VarName → Option Tree) → Fresh bs T → (W : VarName → Option Tree) (F : VarName → Option Tree)
-    → ((x : VarName) → IsBoundIn bs x → W x ≡ None) → ((x : VarName) (t : Tree) → bound_by bs T x ≡ Some t → F x ≡ Some t) → Hold bs W F
-bound_to [] T f W F w h = tt
-bound_to (b ∷ bs) T f W F w h =
-    (w b.0 (inl refl), h b.0 b.1 (keeps bs (with_binding T b.0 b.1) b.0 b.1 f.1 (is_bound b.0 b T refl)), bound_to bs (with_binding T b.0 b.1) f.1 W F (λ x i. w x (inr i)) h)
 
 module _ (S S' : VarName → Option Tree) (binds : StoreValue) (m : IsMore binds S S') where
   over : (x : VarName) (t : Tree) → with_bindings binds S x ≡ Some t → with_bindings binds S' x ≡ Some t
@@ -47,13 +40,6 @@ tail_more e r more open_end = (r.0, comes_more r.1 more, open_end, r.3)
 -- the only binding is a binding
 bound_alone : (x : VarName) (t : Tree) (m : StoreValue) → m ≡ finite.insert finite.empty x t → value_at m x ≡ Some t
 bound_alone x t m e = ap (λ z. value_at z x) e ∙ finite.get-insert name_total finite.empty x t x ∙ ap (λ b. cond b (Some t) (value_at finite.empty x)) (itself x x refl)
-
--- each variable of an expression with a value ends in an integer
-number_ends : {E : VarName → Tree → Type 0} {a : Expression} {k : ℤ} {y : VarName} → Number E a k → In y (leaf_variables a) → (j : ℤ) × E y (integer j)
-number_ends of_integer i = absurd i
-number_ends {E = E} (of_variable {x = x} {k = k} p) (inl e) = (k, subst (λ z. E z (integer k)) (sym e) p)
-number_ends (of_variable p) (inr i) = absurd i
-number_ends {y = y} (computed {a = a} {b = b} m n c) i = elim (In_either (leaf_variables a) (leaf_variables b) y i) [ inl j ↦ number_ends m j | inr j ↦ number_ends n j ]
 
 module _ (P : Program) (n : ℕ) (S S' : VarName → Option Tree) (e : Effect) (m : IsMore e.binds S S') where
   pub effect_more : (g : Goal) (a : Act) → HasEffect P g a n S e → HasEffect P g a n S' e

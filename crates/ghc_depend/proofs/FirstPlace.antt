@@ -1,7 +1,7 @@
 -- The first place where one of some records stands, and the first consequence of a step.
-use Rattle.ghc_depend.proofs.Words.{◌≡◌, ℕ, ◌<◌, ◌≤◌, ◌⊎◌, List, [], ◌∷◌, ◌++◌, length, refl, sym, ap, ◌∙◌, subst, inl, inr, arith, ◌↔◌, Option, Some, None, IfSome, slice_get, option_map, cases_order, In, in_at, in_more, in_left, in_last, Precedes, AreDistinct, Record, numbers, SlotList, held_in, StandsIn, StepDependsOn, stands_held, once_of, rank, rank_stands, rank_back, rank_least, Before, is_before, before_in, before_once, record_once, records_distinct, Uses, Follows, IsKeptAs, IsFirstConsequence, IsFirstAmong}
+use Rattle.ghc_depend.proofs.Words.{◌≡◌, ℕ, ◌<◌, ◌≤◌, ◌⊎◌, List, [], ◌∷◌, ◌++◌, length, refl, sym, ap, ◌∙◌, subst, inl, inr, arith, ◌↔◌, Option, Some, None, IfSome, slice_get, option_map, In, in_at, in_more, in_left, in_last, Precedes, AreDistinct, Record, numbers, SlotList, held_in, StandsIn, StepDependsOn, stands_held, once_of, rank, rank_stands, rank_back, rank_least, is_before, before_in, record_once, Uses, Follows, IsKeptAs, IsFirstConsequence, IsFirstAmong}
 use Rattle.ghc_depend.proofs.Finding.{same_value}
-use Rattle.ghc_depend.proofs.Causes.{NoneBetween, place_at, places_before, stands_before, place_before}
+use Rattle.ghc_depend.proofs.Causes.{NoneBetween, place_at, stands_before, place_before}
 use Rattle.ghc_depend.proofs.Nearest.{is_first, none_of_it}
 
 -- the first place in the record where one of these numbers stands

@@ -1,8 +1,8 @@
 -- Consequences of kept steps: which there are, the first, and the sets that are closed under them.
-use Rattle.ghc_depend.proofs.Words.{◌≡◌, ◌⊎◌, List, [], ◌∷◌, ◌++◌, refl, sym, ap, ◌∙◌, subst, inl, inr, append_assoc, append-nil, In, in_left, in_right, in_either, Decided, decided_both, decided_either, nat_decided, Picks, nothing, leave, AreDistinct, Record, numbers, Before, is_before, before_is, before_in, number_in, record_once, records_distinct, DependsOn, Follows, directly, further, GoesWith, IsFirstConsequence, IsClosedUnder, IsPartedBy}
+use Rattle.ghc_depend.proofs.Words.{◌≡◌, ◌⊎◌, List, [], ◌∷◌, ◌++◌, refl, sym, ap, ◌∙◌, subst, inl, inr, append_assoc, append-nil, In, in_left, in_right, Decided, decided_both, decided_either, nat_decided, Picks, nothing, leave, AreDistinct, Record, numbers, is_before, before_in, number_in, record_once, records_distinct, DependsOn, Follows, directly, further, GoesWith, IsFirstConsequence, IsClosedUnder, IsPartedBy, some_decided, in_more, arith}
 use Rattle.ghc_records.specs.Orders.{take}
 use Rattle.ghc_depend.proofs.Decided.{known_depends}
-use Rattle.ghc_depend.proofs.Picking.{behind_before, stands_in_front, pick}
+use Rattle.ghc_depend.proofs.Picking.{stands_in_front, pick, first_of}
 
 -- a consequence of a consequence is one
 pub follows_on : {rs : List Record} {a b c : Record} → Follows rs a b → Follows rs b c → Follows rs a c
@@ -15,25 +15,15 @@ follows_in {rs} (further {c = c} f d) = (before_in rs _ c (is_before rs _ c d.0)
 
 module _ (kept : List Record) (distinct : AreDistinct (numbers kept)) where
   pub known_itself : (s r : Record) → In s kept → In r kept → Decided (s ≡ r)
-  known_itself s r i j = elim (nat_decided s.number r.number) [
-    | inl e ↦ inl (record_once kept s r distinct i j e)
-    | inr n ↦ inr (λ e. n (ap (λ (z : Record). z.number) e))
-  ]
+  known_itself s r i j = grind (arith, nat_decided, record_once)
 
   module _ (a : Record) (kept_a : In a kept) where
     -- b depends directly on one of the steps that go with a, or on none
     link : (b : Record) → In b kept → (cs : List Record) → ((c : Record) → In c cs → In c kept × Decided (Follows kept a c))
-        → ((c : Record) × GoesWith kept a c × DependsOn kept b c) ⊎ ((c : Record) → In c cs → GoesWith kept a c → ¬ DependsOn kept b c)
-    link b kept_b [] known = inr (λ c i. absurd i)
-    link b kept_b (c ∷ cs) known =
-        let k = known c (inl refl) in
-        elim (decided_both (decided_either (known_itself c a k.0 kept_a) k.1) (known_depends kept distinct b c k.0 kept_b)) [
-          | inl p ↦ inl (c, p.0, p.1)
-          | inr n ↦ elim (link b kept_b cs (λ d i. known d (inr i))) [
-            | inl p ↦ inl p
-            | inr m ↦ inr (λ d i g dep. elim i [ inl same ↦ n (subst (λ z. GoesWith kept a z × DependsOn kept b z) same (g, dep)) | inr j ↦ m d j g dep ])
-          ]
-        ]
+        → Decided ((c : Record) × In c cs × (GoesWith kept a c × DependsOn kept b c))
+    link b kept_b cs known = some_decided cs (λ c. GoesWith kept a c × DependsOn kept b c) (λ c i.
+        let k = known c i in
+        decided_both (decided_either (known_itself c a k.0 kept_a) k.1) (known_depends kept distinct b c k.0 kept_b))
 
     in_front : (done rest : List Record) (b c : Record) → kept ≡ done ++ b ∷ rest → DependsOn kept b c → In c done
     in_front done rest b c e d = stands_in_front kept done rest b c (records_distinct kept distinct) e (is_before kept c b d.0)
@@ -43,46 +33,24 @@ module _ (kept : List Record) (distinct : AreDistinct (numbers kept)) where
     known_from done (b ∷ rest) e known c i =
         let kept_b : In b kept = subst (In b) (sym e) (in_right done (b ∷ rest) b (inl refl)) in
         let here : Decided (Follows kept a b) = elim (link b kept_b done (λ c i. (subst (In c) (sym e) (in_left done (b ∷ rest) c i), known c i))) [
-          | inl p ↦ inl (elim p.1 [ inl same ↦ directly (subst (DependsOn kept b) same p.2) | inr f ↦ further f p.2 ])
+          | inl p ↦ inl (elim p.2.0 [ inl same ↦ directly (subst (DependsOn kept b) same p.2.1) | inr f ↦ further f p.2.1 ])
           | inr n ↦ inr (λ f. elim f [
-            | directly {b = x} d ↦ n a (in_front done rest b a e d) (inl refl) d
-            | further {b = c} g d ↦ n c (in_front done rest b c e d) (inr g) d
+            | directly {b = x} d ↦ n (a, in_front done rest b a e d, (inl refl, d))
+            | further {b = c} g d ↦ n (c, in_front done rest b c e d, (inr g, d))
           ])
         ] in
-        known_from (done ++ b ∷ []) rest (e ∙ sym (append_assoc done (b ∷ []) rest)) (λ d k. elim (in_either done (b ∷ []) d k) [
+        known_from (done ++ b ∷ []) rest (e ∙ sym (append_assoc done (b ∷ []) rest)) (λ d k. elim (in_more done b d k) [
           | inl j ↦ known d j
-          | inr (inl same) ↦ subst (λ z. Decided (Follows kept a z)) (sym same) here
-          | inr (inr j) ↦ absurd j
+          | inr same ↦ subst (λ z. Decided (Follows kept a z)) (sym same) here
         ]) c i
 
     -- of each kept step it is known whether it is a consequence
     pub known_follows : (b : Record) → In b kept → Decided (Follows kept a b)
     known_follows = known_from [] kept refl (λ b i. absurd i)
 
-    first_from : (done rest : List Record) → kept ≡ done ++ rest → ((b : Record) → In b done → ¬ Follows kept a b) → ((b : Record) × IsFirstConsequence kept a b) ⊎ ((b : Record) → ¬ Follows kept a b)
-    first_from done [] e none = inr (λ b f. none b (subst (In b) (e ∙ append-nil done) (follows_in f)) f)
-    first_from done (b ∷ rest) e none = elim (known_follows b (subst (In b) (sym e) (in_right done (b ∷ rest) b (inl refl)))) [
-      | inl f ↦ inl (
-        b,
-        (
-          f,
-          λ c g. elim (in_either done (b ∷ rest) c (subst (In c) e (follows_in g))) [
-            | inl i ↦ absurd (none c i g)
-            | inr (inl same) ↦ inl same
-            | inr (inr i) ↦ inr (before_is kept b c (subst (λ z. Before z b c) (sym e) (behind_before done rest b c i)))
-          ],
-        ),
-      )
-      | inr n ↦ first_from (done ++ b ∷ []) rest (e ∙ sym (append_assoc done (b ∷ []) rest)) (λ c i. elim (in_either done (b ∷ []) c i) [
-        | inl j ↦ none c j
-        | inr (inl same) ↦ λ f. n (subst (Follows kept a) same f)
-        | inr (inr j) ↦ absurd j
-      ])
-    ]
-
     -- there is a first consequence, or none at all
     pub first_or_none : ((b : Record) × IsFirstConsequence kept a b) ⊎ ((b : Record) → ¬ Follows kept a b)
-    first_or_none = first_from [] kept refl (λ b i. absurd i)
+    first_or_none = first_of (Follows kept a) kept (λ b f. follows_in f) known_follows
 
     -- the step and its consequences part the kept list, and are closed
     pub split : (gone left : List Record) × IsPartedBy kept (GoesWith kept a) gone left

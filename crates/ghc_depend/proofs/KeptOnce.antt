@@ -1,10 +1,9 @@
 -- A journal that takes no number twice tells one kept list and one shelf.
-use Rattle.ghc_depend.proofs.Words.{◌≡◌, ◌≢◌, ℕ, ◌+◌, ◌⊎◌, true, false, cond, List, [], ◌∷◌, ◌++◌, refl, sym, ap, ◌∙◌, subst, subst₂, inl, inr, Some, None, append-nil, append_assoc, Option, eq_by_cmp, is_eq, nat_cmp, nat_cmp_total, tied_itself, Ordering, Less, Equal, Greater, same_from_push, GoalName, Goal, In, IsAcyclic, value_at, in_left, in_right, in_more, Program, Query, IsProgram, IsQuery, Act, Asked as asking, asks_once, Effect, Goals, effect_once, AreDistinct, State, Record, numbers, Shelf, after, IsThere, HasStepEffect, Fires, query_state, Runs, Replays, Opening, Entry, took, undid, rolled, redid, reordered, step_of, picks_once, numbers_append, run_once, replay_well, IsKeptAs, GoesWith, IsInOrder, with_shelved, IsWithout, IsSplitAt, taken_numbers, Keeps, KeepsIsOne}
-use Rattle.std.specs.Cmp.{ranked}
+use Rattle.ghc_depend.proofs.Words.{◌≡◌, ◌≢◌, ℕ, ◌⊎◌, true, List, [], ◌∷◌, ◌++◌, refl, sym, ap, ◌∙◌, subst, subst₂, inl, inr, Some, None, append-nil, append_assoc, Option, eq_by_cmp, nat_cmp, nat_cmp_total, tied_itself, same_from_push, GoalName, Goal, In, IsAcyclic, value_at, in_left, in_right, in_more, Program, Query, IsProgram, IsQuery, Act, Asked as asking, asks_once, Effect, Goals, effect_once, AreDistinct, State, Record, numbers, Shelf, after, IsThere, HasStepEffect, Fires, query_state, Runs, Replays, Opening, Entry, took, undid, rolled, redid, reordered, step_of, picks_once, numbers_append, run_once, replay_well, IsKeptAs, GoesWith, IsInOrder, with_shelved, IsWithout, IsSplitAt, taken_numbers, Keeps, KeepsIsOne, tells_apart, nat_cmp-IsAntisymmetric, arith}
 use Rattle.std.specs.FinMap as finite
 use Rattle.ghc_depend.proofs.Finding.{same_value}
 use Rattle.ghc_depend.proofs.Once.{same_records}
-use Rattle.ghc_depend.proofs.Picking.{never_nothing, distinct_left, distinct_last, picks_in}
+use Rattle.ghc_depend.proofs.Picking.{never_nothing, distinct_left, distinct_split, picks_in}
 
 pub taken_append : (es fs : List Entry) → taken_numbers (es ++ fs) ≡ taken_numbers es ++ taken_numbers fs
 taken_append [] fs = refl
@@ -22,28 +21,16 @@ distinct_front : (es : List Entry) (e : Entry) → AreDistinct (taken_numbers (e
 distinct_front es e d = distinct_left (taken_numbers es) (taken_numbers (e ∷ [])) (subst AreDistinct (taken_append es (e ∷ [])) d)
 
 -- the shelf
-tied : (r : Ordering) → is_eq r ≡ true → r ≡ Equal
-tied Less e = cc
-tied Equal e = refl
-tied Greater e = cc
-
 pub same_number : (m n : ℕ) → eq_by_cmp nat_cmp m n ≡ true → m ≡ n
-same_number m n e = ranked m n Equal (sym (tied (nat_cmp m n) e))
+same_number = tells_apart nat_cmp-IsAntisymmetric
 
 pub shelved : (gone : List Record) (shelf : Shelf) (n : ℕ) (r : Record) → finite.get (with_shelved gone shelf) n ≡ Some r → (In r gone × (r.number ≡ n)) ⊎ (finite.get shelf n ≡ Some r)
 shelved [] shelf n r e = inr e
 shelved (s ∷ gone) shelf n r e =
-    elim (eq_by_cmp nat_cmp n s.number) as (λ b. eq_by_cmp nat_cmp n s.number ≡ b → cond b (Some s) (finite.get (with_shelved gone shelf) n) ≡ Some r → (In r (s ∷ gone) × (r.number ≡ n)) ⊎ (finite.get shelf n ≡ Some r)) [
-      | true ↦ λ p q. let same : s ≡ r = cc in inl (inl (sym same), ap (λ (x : Record). x.number) (sym same) ∙ sym (same_number n s.number p))
-      | false ↦ λ p q. elim (shelved gone shelf n r q) [ inl a ↦ inl (inr a.0, a.1) | inr a ↦ inr a ]
-    ] refl (sym (finite.get-insert nat_cmp_total (with_shelved gone shelf) s.number s n) ∙ e)
+    grind (arith, finite.get-insert nat_cmp_total (with_shelved gone shelf) s.number s n, same_number n s.number, shelved gone shelf n r)
 
 pub unshelved : (shelf : Shelf) (n m : ℕ) (r : Record) → finite.get (finite.remove shelf n) m ≡ Some r → (finite.get shelf m ≡ Some r) × (m ≢ n)
-unshelved shelf n m r e =
-    elim (eq_by_cmp nat_cmp m n) as (λ b. eq_by_cmp nat_cmp m n ≡ b → cond b None (finite.get shelf m) ≡ Some r → (finite.get shelf m ≡ Some r) × (m ≢ n)) [
-      | true ↦ λ p q. cc
-      | false ↦ λ p q. (q, λ same. let clash : false ≡ true = sym p ∙ subst (λ z. eq_by_cmp nat_cmp m z ≡ true) same (ap is_eq (tied_itself nat_cmp_total m)) in cc)
-    ] refl (sym (finite.get-remove nat_cmp_total shelf n m) ∙ e)
+unshelved shelf n m r e = grind (arith, tied_itself, nat_cmp_total, finite.get-remove)
 
 -- a number has one kept record, whose number was taken, and none that is shelved
 record Told (ns : List ℕ) (kept : List Record) (shelf : Shelf) : Type 0 where
@@ -64,18 +51,12 @@ part f h = record {
 pushed : {ns : List ℕ} {kept : List Record} {shelf : Shelf} (r : Record) → Told ns kept shelf → In r.number ns → ((s : Record) → In s kept → ¬ (s.number ≡ r.number))
     → ((s : Record) → ¬ (finite.get shelf r.number ≡ Some s)) → Told ns (kept ++ r ∷ []) shelf
 pushed {ns} {kept} {shelf} r h i new free = record {
-  one = λ s u j k e. elim (in_more kept r s j) [
-    | inl a ↦ elim (in_more kept r u k) [ inl b ↦ h.one s u a b e | inr g ↦ absurd (new s a (e ∙ ap (λ (x : Record). x.number) g)) ]
-    | inr f ↦ elim (in_more kept r u k) [ inl b ↦ absurd (new u b (sym e ∙ ap (λ (x : Record). x.number) f)) | inr g ↦ f ∙ sym g ]
-  ];
+  one = λ s u j k e. grind (arith, in_more kept r s j, in_more kept r u k, h.one s u, new s, new u);
   taken = λ s j. elim (in_more kept r s j) [ inl a ↦ h.taken s a | inr f ↦ subst (λ (x : Record). In x.number ns) (sym f) i ];
   away = λ n s e. let a = h.away n s e in (
     a.0,
     a.1,
-    λ u j same. elim (in_more kept r u j) [
-      | inl b ↦ a.2 u b same
-      | inr f ↦ free s (subst (λ m. finite.get shelf m ≡ Some s) (sym same ∙ ap (λ (x : Record). x.number) f) e)
-    ],
+    λ u j same. grind (arith, in_more kept r u j, a.2 u, free s),
   );
 }
 
@@ -107,7 +88,7 @@ told (Keeps.step {es = es} {kept = kept} {shelf = shelf} r t k run) d =
     let split = taken_append es (took (step_of r) ∷ []) in
     let all : AreDistinct (taken_numbers es ++ r.number ∷ []) = subst AreDistinct split d in
     let h = told k (distinct_left (taken_numbers es) (r.number ∷ []) all) in
-    let new = distinct_last (taken_numbers es) r.number all in
+    let new = distinct_split (taken_numbers es) r.number [] all in
     subst (λ ns. Told ns (kept ++ r ∷ []) shelf) (sym split)
     (pushed r (more (λ n i. in_left (taken_numbers es) (r.number ∷ []) n i) h) (in_right (taken_numbers es) (r.number ∷ []) r.number (inl refl))
     (λ s i same. new (subst (λ n. In n (taken_numbers es)) same (h.taken s i))) (λ s e. new (h.away r.number s e).1))

@@ -1,8 +1,8 @@
 -- The first consequence of a step depends on it directly.
-use Rattle.ghc_depend.proofs.Words.{◌≡◌, ℕ, ◌<◌, ◌≤◌, List, length, ap, ◌∙◌, subst, inl, inr, arith, Some, slice_get, cases_lt, eq-or-lt_of_le, AreDistinct, Record, numbers, Uses, DependsOn, Follows, directly, further, IsKeptAs, IsFirstConsequence}
+use Rattle.ghc_depend.proofs.Words.{◌≡◌, ℕ, ◌<◌, ◌≤◌, List, length, subst, inl, inr, arith, Some, slice_get, cases_lt, AreDistinct, Record, numbers, Uses, DependsOn, Follows, directly, further, IsKeptAs, IsFirstConsequence, slice_get_within}
 use Rattle.ghc_depend.proofs.Finding.{same_value}
 use Rattle.ghc_depend.proofs.Following.{follows_in}
-use Rattle.ghc_depend.proofs.Causes.{NoneBetween, StandsAt, placed, place_at, place_within, stands_before, place_before}
+use Rattle.ghc_depend.proofs.Causes.{NoneBetween, StandsAt, placed, place_at, stands_before, place_before}
 
 module _ (rs : List Record) (distinct : AreDistinct (numbers rs)) (a : Record) (place : ℕ) (there : slice_get rs place ≡ Some a) where
   -- a step stands behind each on which it depends
@@ -23,22 +23,10 @@ module _ (rs : List Record) (distinct : AreDistinct (numbers rs)) (a : Record) (
         omega arith
 
     pub is_first : (b : Record) → slice_get rs i ≡ Some b → place < i → Uses b a → IsFirstConsequence rs a b
-    is_first b at behind used = (
-      directly (stands_before rs place i a b there at behind, used),
-      λ c f.
-          let p = place_at rs c (follows_in f) in
-          elim (eq-or-lt_of_le (not_before f p.0 p.1)) [
-            | inl e ↦ inl (same_value (ap (slice_get rs) e ∙ p.1) at)
-            | inr l ↦ inr (stands_before rs i p.0 b c at p.1 l)
-          ],
-    )
+    is_first b at behind used = grind (arith, directly, stands_before, place_at, follows_in, not_before, same_value)
 
     none_behind : length rs ≤ i → (b : Record) → ¬ Follows rs a b
-    none_behind long b f =
-        let p = place_at rs b (follows_in f) in
-        let within = place_within rs p.0 b p.1 in
-        let h : i ≤ p.0 = not_before f p.0 p.1 in
-        omega arith
+    none_behind long b f = grind (arith, place_at, follows_in, slice_get_within, not_before)
 
     -- nor has another record of its number a consequence
     pub none_of_it : length rs ≤ i → (n : ℕ) → StandsAt rs n place → (c b : Record) → IsKeptAs rs n c → ¬ Follows rs c b

@@ -1,19 +1,13 @@
 -- Orders and consequences are determined.
-use Rattle.ghc_depend.proofs.Words.{◌≡◌, ℕ, List, [], ◌∷◌, ◌++◌, refl, sym, ap, ◌∙◌, subst, inl, inr, In, in_right, compare_splits, AreDistinct, Record, numbers, precedes_once, picks_once, number_in, record_once, records_distinct, IsFirstConsequence, IsOfKept, IsOrderOf, IsTooEarly, IsLawful, IsFirstWrong, IsFirstMissing, IsFirstTooEarly, IsUnlawful, wrong, missing, too_early, OrdersHaveOneAnswer, ConsequencesHaveOneAnswer}
+use Rattle.ghc_depend.proofs.Words.{◌≡◌, ℕ, List, [], ◌∷◌, ◌++◌, refl, sym, ap, ◌∙◌, subst, inl, inr, In, in_right, compare_splits, AreDistinct, Record, numbers, precedes_once, picks_once, number_in, record_once, records_distinct, IsFirstConsequence, IsOfKept, IsOrderOf, IsTooEarly, IsLawful, IsFirstWrong, IsFirstMissing, IsFirstTooEarly, IsUnlawful, wrong, missing, too_early, OrdersHaveOneAnswer, ConsequencesHaveOneAnswer, arith}
 use Rattle.ghc_depend.proofs.Finding.{ends}
-use Rattle.ghc_depend.proofs.Picking.{head_of, tail_of}
-
-module _ {X : Type 0} where
-  new_at : (bs ds : List X) (s : X) → AreDistinct (bs ++ s ∷ ds) → ¬ In s bs
-  new_at [] ds s d i = i
-  new_at (b ∷ bs) ds s d (inl e) = d.0 (subst (λ z. In z (bs ++ s ∷ ds)) e (in_right bs (s ∷ ds) s (inl refl)))
-  new_at (b ∷ bs) ds s d (inr i) = new_at bs ds s d.1 i
+use Rattle.ghc_depend.proofs.Picking.{distinct_split}
 
 -- at a number of an order of kept ones, it is kept and new
 none_wrong : (kept : List Record) (order : List ℕ) (s : ℕ) → IsOfKept kept order → ¬ IsFirstWrong kept order s
 none_wrong kept order s k f = elim f.not_new [
   | inl n ↦ n (k.0 s (subst (In s) (sym f.splits) (in_right f.front (s ∷ f.behind) s (inl refl))))
-  | inr i ↦ new_at f.front f.behind s (subst AreDistinct f.splits k.1) i
+  | inr i ↦ distinct_split f.front s f.behind (subst AreDistinct f.splits k.1) i
 ]
 
 -- an order that has each kept number misses none
@@ -45,8 +39,8 @@ same_records kept one [] [] e p q = refl
 same_records kept one [] (y ∷ ys) e p q = cc
 same_records kept one (x ∷ xs) [] e p q = cc
 same_records kept one (x ∷ xs) (y ∷ ys) e p q =
-    let first : x ≡ y = one x y (p x (inl refl)) (q y (inl refl)) (head_of e) in
-    let rest : xs ≡ ys = same_records kept one xs ys (tail_of e) (λ r i. p r (inr i)) (λ r i. q r (inr i)) in
+    let first : x ≡ y = one x y (p x (inl refl)) (q y (inl refl)) (cc) in
+    let rest : xs ≡ ys = same_records kept one xs ys (cc) (λ r i. p r (inr i)) (λ r i. q r (inr i)) in
     λ i. first i ∷ rest i
 
 module _ (kept : List Record) (distinct : AreDistinct (numbers kept)) where
@@ -54,13 +48,9 @@ module _ (kept : List Record) (distinct : AreDistinct (numbers kept)) where
   early_once order a b c d f g = elim (compare_splits f.front g.front b.number d.number f.behind g.behind (sym f.splits ∙ g.splits)) [
     | inl k ↦
         let same : b ≡ d = record_once kept b d distinct (ends kept b a f.early.0).1 (ends kept d c g.early.0).1 k.1 in
-        let first : a ≡ c = elim (f.first c (subst (IsTooEarly kept order c) (sym same) g.early)) [
-          | inl z ↦ sym z
-          | inr before ↦ elim (g.first a (subst (IsTooEarly kept order a) same f.early)) [
-            | inl z ↦ z
-            | inr after ↦ absurd (precedes_once kept a c (records_distinct kept distinct) before after)
-          ]
-        ] in
+        let one_way = f.first c (subst (IsTooEarly kept order c) (sym same) g.early) in
+        let other_way = g.first a (subst (IsTooEarly kept order a) same f.early) in
+        let first : a ≡ c = grind (arith, precedes_once kept a c (records_distinct kept distinct)) in
         (first, same)
     | inr (inl k) ↦ absurd (g.before a b (subst (In b.number) (sym k.1) (in_right f.front (b.number ∷ k.0) b.number (inl refl))) f.early)
     | inr (inr k) ↦ absurd (f.before c d (subst (In d.number) (sym k.1) (in_right g.front (d.number ∷ k.0) d.number (inl refl))) g.early)
@@ -85,13 +75,7 @@ module _ (kept : List Record) (distinct : AreDistinct (numbers kept)) where
       (ap (λ (z : Record). z.number) same.0, ap (λ (z : Record). z.number) same.1)
 
   one_first : (r b c : Record) → IsFirstConsequence kept r b → IsFirstConsequence kept r c → b ≡ c
-  one_first r b c p q = elim (p.1 c q.0) [
-    | inl e ↦ sym e
-    | inr before ↦ elim (q.1 b p.0) [
-      | inl e ↦ e
-      | inr after ↦ absurd (precedes_once kept b c (records_distinct kept distinct) before after)
-    ]
-  ]
+  one_first r b c p q = grind (arith, p.1 c q.0, q.1 b p.0, precedes_once kept b c (records_distinct kept distinct))
 
 pub orders : OrdersHaveOneAnswer
 orders kept distinct = record {

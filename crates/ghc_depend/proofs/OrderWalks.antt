@@ -1,14 +1,12 @@
 -- Walks over an order and over the record: which number is wrong, and which is missing.
-use Rattle.ghc_depend.proofs.Words.{◌≡◌, ℕ, zero, suc, ◌+◌, ◌<◌, ◌≤◌, length, arith, ◌⊎◌, Bool, true, false, not, List, [], ◌∷◌, ◌++◌, take, get_or, refl, sym, ap, ◌∙◌, subst, inl, inr, nat_eq, Option, Some, None, IfNone, IsSome, slice_get, Bor, list_any, position, eqb-true, cases_order, cases_lt, position-Some, slice_get-get_or, slice_get_within, In, in_more, AreDistinct, Record, numbers, SlotList, held_in, StandsIn, any_number, before_once, number_of, held_stands, rank, rank_back, rank_least, IsOfKept, IsFirstWrong, IsFirstMissing}
+use Rattle.ghc_depend.proofs.Words.{◌≡◌, ℕ, zero, suc, ◌+◌, ◌<◌, ◌≤◌, length, arith, ◌⊎◌, true, false, List, [], ◌∷◌, ◌++◌, take, get_or, refl, sym, ap, ◌∙◌, subst, inl, inr, nat_eq, Some, slice_get, list_any, position, eqb-true, cases_order, cases_lt, position-Some, slice_get-get_or, slice_get_within, In, in_more, AreDistinct, Record, numbers, SlotList, held_in, StandsIn, any_number, before_once, number_of, held_stands, rank, rank_back, rank_least, IsOfKept, IsFirstWrong, IsFirstMissing}
+use borrow.Author.Count.{below_more}
 use Rattle.ghc_depend.proofs.Causes.{at_split, places_before}
 use Rattle.ghc_depend.proofs.Picking.{distinct_push}
 
 -- one number more of a list of kept ones
 pub one_of_kept : (kept : List Record) (done : List ℕ) (n : ℕ) → IsOfKept kept done → In n (numbers kept) → ¬ In n done → IsOfKept kept (done ++ n ∷ [])
-one_of_kept kept done n k there new = (
-  (λ m i. elim (in_more done n m i) [ inl j ↦ k.0 m j | inr same ↦ subst (λ z. In z (numbers kept)) (sym same) there ]),
-  distinct_push done n k.1 new,
-)
+one_of_kept kept done n k there new = grind (arith, in_more, distinct_push)
 
 module _ (kept : List Record) (order : List ℕ) (i : ℕ) (n : ℕ) (at : slice_get order i ≡ Some n) where
   -- one number more of the order
@@ -40,44 +38,19 @@ abbrev pub HaveSlots : SlotList → ℕ → List ℕ → Type 0
 HaveSlots ss i keys = (p : ℕ) (r : Record) → p < i → StandsIn ss p r → In r.number keys
 
 pub slots_next : (ss : SlotList) (keys : List ℕ) (i : ℕ) → HaveSlots ss i keys → ((r : Record) → StandsIn ss i r → In r.number keys) → HaveSlots ss (i + 1) keys
-slots_next ss keys i h here p r l at = elim (cases_lt p i) [
-  | inl before ↦ h p r before at
-  | inr behind ↦ let same : p ≡ i = omega (arith, l, behind) in here r (subst (λ k. StandsIn ss k r) same at)
-]
+slots_next ss keys i h here p r = below_more (λ k. StandsIn ss k r → In r.number keys) i (λ k l. h k r l) (here r) p
 
 pub have_ranked : (ss : SlotList) (keys : List ℕ) (i : ℕ) → HaveSlots ss i keys → HavePlaces (held_in ss) (rank ss i) keys
-have_ranked ss keys i h r j =
-    let k = place_in_front (held_in ss) (rank ss i) r j in
-    let w = rank_back ss k.0 r k.2 in
-    h w.0 r (elim (cases_lt w.0 i) [ inl before ↦ before | inr behind ↦ let l = rank_least ss i w.0 behind in absurd (omega (arith, l, w.2, k.1)) ]) w.1
+have_ranked ss keys i h r j = grind (arith, place_in_front, rank_back, cases_lt, rank_least)
 
 pub all_slots : (ss : SlotList) (keys : List ℕ) (i : ℕ) → length ss ≤ i → HaveSlots ss i keys → (r : Record) → In r (held_in ss) → In r.number keys
-all_slots ss keys i long h r j =
-    let w = held_stands ss r j in
-    let within = slice_get_within ss w.0 (Some r) w.1 in
-    h w.0 r (omega (arith, within, long)) w.1
+all_slots ss keys i long h r j = grind (arith, held_stands, slice_get_within)
 
 pub is_missing : (kept : List Record) (keys : List ℕ) (i : ℕ) (r : Record) → slice_get kept i ≡ Some r → HavePlaces kept i keys → ¬ In r.number keys → IsFirstMissing kept keys r
-is_missing kept keys i r at h absent =
-    let s = at_split kept i r at in
-    record {
-      front = take i kept;
-      behind = s.0;
-      splits = s.1;
-      before = λ n j. let q = number_of (take i kept) n j in subst (λ m. In m keys) q.2 (h q.0 q.1);
-      absent = absent;
-    }
+is_missing kept keys i r at h absent = grind (arith, at_split, number_of)
 
 pub none_missing : (kept : List Record) (keys : List ℕ) → ((r : Record) → In r kept → In r.number keys) → (n : ℕ) → In n (numbers kept) → In n keys
 none_missing kept keys h n i = let q = number_of kept n i in subst (λ m. In m keys) q.2 (h q.0 q.1)
-
-pub when_new : (a b : Bool) → a ≡ not b → a ≡ true → b ≡ false
-when_new a false e t = refl
-when_new a true e t = let clash : false ≡ true = sym e ∙ t in cc
-
-pub when_old : (a b : Bool) → a ≡ not b → a ≡ false → b ≡ true
-when_old a true e t = refl
-when_old a false e t = let clash : true ≡ false = sym e ∙ t in cc
 
 -- distinct elements have one place
 pub one_place : {X : Type 0} (xs : List X) (i j : ℕ) (x : X) → AreDistinct xs → slice_get xs i ≡ Some x → slice_get xs j ≡ Some x → i ≡ j
@@ -96,8 +69,3 @@ pub place_found : (ks : List ℕ) (n i : ℕ) → position (nat_eq n) ks ≡ Som
 place_found ks n i e =
     let p = position-Some (nat_eq n) ks i n e in
     slice_get-get_or ks i n p.0 ∙ ap Some (sym (eqb-true n (get_or ks i n) p.1))
-
--- a kept number is found
-pub is_found : (o : Option (Bor Record)) (kept : List Record) (n : ℕ) → In n (numbers kept) → IfNone o ((r : Record) → In r kept → ¬ (r.number ≡ n)) → IsSome o
-is_found (Some r) kept n i f = λ _. true
-is_found None kept n i f = let q = number_of kept n i in absurd (f q.0 q.1 q.2)

@@ -1,8 +1,8 @@
 -- Parts of a list, in its order.
-use Rattle.ghc_depend.proofs.Words.{◌≡◌, ◌+◌, ◌≤◌, ◌⊎◌, List, [], ◌∷◌, ◌++◌, length, refl, sym, ap, ◌∙◌, subst, inl, inr, arith, length-append, In, in_left, in_right, in_either, in_splits, in_more, Picks, nothing, leave, AreDistinct, Record, numbers, Before, before_in, before_once, number_in, number_of, numbers_append}
+use Rattle.ghc_depend.proofs.Words.{◌≡◌, ◌⊎◌, List, [], ◌∷◌, ◌++◌, refl, sym, ap, subst, inl, inr, In, in_right, in_either, in_more, Picks, nothing, leave, AreDistinct, Record, numbers, Before, before_in, before_once, number_in, number_of, numbers_append, Precedes, before_is, Decided, arith}
 use Rattle.ghc_records.specs.Orders.{take}
-pub use Rattle.ghc_flat.proofs.DistinctLemmas.{distinct_left}
-pub use Rattle.ghc_records.proofs.PickLemmas.{before_left, before_right, before_across, picks_in, picks_has, picks_order, picks_keep, picks_distinct, pick_last, leave_last, no_longer}
+pub use Rattle.ghc_flat.proofs.DistinctLemmas.{distinct_left, distinct_right, distinct_split}
+pub use Rattle.ghc_records.proofs.PickLemmas.{either_before, before_left, before_right, before_across, picks_in, picks_has, picks_order, picks_keep, picks_distinct, pick_last, leave_last, no_longer}
 
 module _ {X : Type 0} where
   pub before_front : (done rest : List X) (r m : X) → In m done → Before (done ++ r ∷ rest) m r
@@ -16,26 +16,43 @@ module _ {X : Type 0} where
 
   -- what stands before an element, stands in front of it
   pub stands_in_front : (xs front back : List X) (r a : X) → AreDistinct xs → xs ≡ front ++ r ∷ back → Before xs a r → In a front
-  stands_in_front xs front back r a distinct e before = elim (in_either front (r ∷ back) a (subst (In a) e (before_in xs a r before).0)) [
-    | inl i ↦ i
-    | inr (inl same) ↦ let again = subst (λ z. Before xs z r) same before in absurd (before_once xs r r distinct again again)
-    | inr (inr i) ↦ absurd (before_once xs a r distinct before (subst (λ z. Before z r a) (sym e) (behind_before front back r a i)))
+  stands_in_front xs front back r a distinct e before =
+      let either = in_either front (r ∷ back) a in
+      grind (arith, before_in xs a r before, before_once xs a r distinct, before_once xs r r distinct, behind_before front back r a)
+
+  -- the first element that is bad, where each is bad or good
+  pub first_bad : (Bad Good : X → Type 0) (xs : List X) → ((x : X) → In x xs → Bad x ⊎ Good x)
+      → ((front back : List X) × (x : X) × (xs ≡ front ++ x ∷ back) × Bad x × ((y : X) → In y front → Good y)) ⊎ ((x : X) → In x xs → Good x)
+  first_bad Bad Good [] f = inr (λ x i. absurd i)
+  first_bad Bad Good (x ∷ xs) f = elim (f x (inl refl)) [
+    | inl b ↦ inl ([], xs, x, refl, b, λ y i. absurd i)
+    | inr g ↦ elim (first_bad Bad Good xs (λ y i. f y (inr i))) [
+      | inl p ↦ inl (x ∷ p.0, p.1, p.2, ap (λ l. x ∷ l) p.3, p.4, λ y i. elim i [ inl e ↦ subst Good (sym e) g | inr j ↦ p.5 y j ])
+      | inr all ↦ inr (λ y i. elim i [ inl e ↦ subst Good (sym e) g | inr j ↦ all y j ])
+    ]
+  ]
+
+  -- the first element of which Q holds, or it holds of none
+  pub first_of : (Q : X → Type 0) (xs : List X) → ((x : X) → Q x → In x xs) → ((x : X) → In x xs → Decided (Q x))
+      → ((x : X) × (Q x × ((y : X) → Q y → (y ≡ x) ⊎ Precedes xs x y))) ⊎ ((x : X) → ¬ Q x)
+  first_of Q xs within known = elim (first_bad Q (λ x. ¬ Q x) xs known) [
+    | inl p ↦ inl (
+      p.2,
+      (
+        p.4,
+        λ y q. elim (in_either p.0 (p.2 ∷ p.1) y (subst (In y) p.3 (within y q))) [
+          | inl i ↦ absurd (p.5 y i q)
+          | inr (inl same) ↦ inl same
+          | inr (inr i) ↦ inr (before_is xs p.2 y (subst (λ z. Before z p.2 y) (sym p.3) (behind_before p.0 p.1 p.2 y i)))
+        ],
+      ),
+    )
+    | inr none ↦ inr (λ x q. none x (within x q) q)
   ]
 
   pub never_nothing : (xs : List X) (x : X) → ¬ (xs ++ x ∷ [] ≡ [])
   never_nothing [] x e = cc
   never_nothing (y ∷ xs) x e = cc
-
-  pub head_of : {x y : X} {xs ys : List X} → x ∷ xs ≡ y ∷ ys → x ≡ y
-  head_of e = cc
-
-  pub tail_of : {x y : X} {xs ys : List X} → x ∷ xs ≡ y ∷ ys → xs ≡ ys
-  tail_of e = cc
-
-  pub distinct_last : (xs : List X) (x : X) → AreDistinct (xs ++ x ∷ []) → ¬ In x xs
-  distinct_last (y ∷ xs) x d (inl e) = d.0 (subst (λ z. In z (xs ++ x ∷ [])) e (in_right xs (x ∷ []) x (inl refl)))
-  distinct_last (y ∷ xs) x d (inr i) = distinct_last xs x d.1 i
-  distinct_last [] x d i = i
 
   pub distinct_push : (xs : List X) (x : X) → AreDistinct xs → ¬ In x xs → AreDistinct (xs ++ x ∷ [])
   distinct_push [] x d new = ((λ i. i), tt)

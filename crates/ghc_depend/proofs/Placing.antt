@@ -1,8 +1,7 @@
 -- The state in which each step of a replay was taken.
-use Rattle.ghc_depend.proofs.Words.{◌≡◌, ◌⊎◌, List, [], ◌∷◌, ◌++◌, refl, sym, ap, ◌∙◌, subst, inl, inr, Some, append_assoc, append-nil, VarName, GoalName, Tree, In, value_at, in_left, in_right, in_either, Program, Query, AreDistinct, State, Record, numbers, after, Fires, query_state, Runs, HaveStepNumbers, Replays, Before, before_once, number_in, record_once, records_distinct}
-use Rattle.std.specs.FinMap as finite
+use Rattle.ghc_depend.proofs.Words.{◌≡◌, List, [], ◌∷◌, ◌++◌, refl, sym, ap, ◌∙◌, subst, inl, inr, Some, append_assoc, append-nil, VarName, GoalName, Tree, In, value_at, in_left, in_right, Program, Query, AreDistinct, State, Record, numbers, after, Fires, query_state, Runs, HaveStepNumbers, Replays, Before, number_in, record_once, records_distinct}
 use Rattle.ghc_depend.proofs.Finding.{not_both}
-use Rattle.ghc_depend.proofs.Picking.{before_front, behind_before}
+use Rattle.ghc_depend.proofs.Picking.{before_front, either_before, stands_in_front}
 use Rattle.ghc_depend.proofs.Results.{taken_at, step_binds, Results, at_first, with_step}
 
 -- where the number of an element is apart from those in front of it
@@ -52,19 +51,17 @@ module _ (P : Program) (query : Query) (rs : List Record) (t : State) (replay : 
   pub front_in : (r m : Record) (p : Place P query rs r) → In m p.before → In m rs
   front_in r m p i = subst (In m) (sym p.split) (in_left p.before (r ∷ p.behind) m i)
 
-  -- two steps are one, or one stands in front of the other
-  sides : (r c : Record) (p : Place P query rs r) (q : Place P query rs c) → In r rs → In c rs → (c ≡ r) ⊎ (In c p.before ⊎ In r q.before)
-  sides r c p q i j = elim (in_either p.before (r ∷ p.behind) c (subst (In c) p.split j)) [
-    | inl front ↦ inr (inl front)
-    | inr (inl same) ↦ inl same
-    | inr (inr later) ↦ elim (in_either q.before (c ∷ q.behind) r (subst (In r) q.split i)) [
-      | inl front ↦ inr (inr front)
-      | inr (inl same) ↦ inl (sym same)
-      | inr (inr twice) ↦ absurd (before_once rs r c (records_distinct rs replay.0.1)
-          (subst (λ z. Before z r c) (sym p.split) (behind_before p.before p.behind r c later))
-          (subst (λ z. Before z c r) (sym q.split) (behind_before q.before q.behind c r twice)))
-    ]
-  ]
+  -- two steps are one, where neither stands in front of the other
+  one_of : (r c : Record) → In r rs → In c rs → ((p : Place P query rs r) → ¬ In c p.before) → ((q : Place P query rs c) → ¬ In r q.before) → c ≡ r
+  one_of r c i j not_front not_behind =
+      let p = place_of P query rs t replay r i in
+      let q = place_of P query rs t replay c j in
+      let distinct = records_distinct rs replay.0.1 in
+      elim (either_before rs r c i j) [
+        | inl before ↦ absurd (not_behind q (stands_in_front rs q.before q.behind c r distinct q.split before))
+        | inr (inl before) ↦ absurd (not_front p (stands_in_front rs p.before p.behind r c distinct p.split before))
+        | inr (inr same) ↦ sym same
+      ]
 
   -- what a step in front consumed is not consumed again
   not_again : (r c : Record) (g : GoalName) (p : Place P query rs r) → In c p.before → c.goal ≡ Some g → r.goal ≡ Some g → ⊥
@@ -78,25 +75,11 @@ module _ (P : Program) (query : Query) (rs : List Record) (t : State) (replay : 
 
   -- a goal is consumed once
   pub consumed_once : (r c : Record) (g : GoalName) → In r rs → In c rs → r.goal ≡ Some g → c.goal ≡ Some g → c ≡ r
-  consumed_once r c g i j e f =
-      let p = place_of P query rs t replay r i in
-      let q = place_of P query rs t replay c j in
-      elim (sides r c p q i j) [
-        | inl same ↦ same
-        | inr (inl front) ↦ absurd (not_again r c g p front f e)
-        | inr (inr front) ↦ absurd (not_again c r g q front e f)
-      ]
+  consumed_once r c g i j e f = one_of r c i j (λ p front. not_again r c g p front f e) (λ q front. not_again c r g q front e f)
 
   -- a variable is bound once
   pub bound_once : (r c : Record) (x : VarName) (u w : Tree) → In r rs → In c rs → value_at r.effect.binds x ≡ Some u → value_at c.effect.binds x ≡ Some w → c ≡ r
-  bound_once r c x u w i j e f =
-      let p = place_of P query rs t replay r i in
-      let q = place_of P query rs t replay c j in
-      elim (sides r c p q i j) [
-        | inl same ↦ same
-        | inr (inl front) ↦ absurd (not_bound_again r c x w u p front f e)
-        | inr (inr front) ↦ absurd (not_bound_again c r x u w q front e f)
-      ]
+  bound_once r c x u w i j e f = one_of r c i j (λ p front. not_bound_again r c x w u p front f e) (λ q front. not_bound_again c r x u w q front e f)
 
   -- a number is that of one step
   pub numbered_once : (r c : Record) → In r rs → In c rs → r.number ≡ c.number → c ≡ r

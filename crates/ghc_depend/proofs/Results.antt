@@ -1,5 +1,5 @@
 -- What stands in a state that a list of steps left, whatever their order.
-use Rattle.ghc_depend.proofs.Words.{◌≡◌, ◌≤◌, ◌⊎◌, List, [], ◌∷◌, ◌++◌, refl, sym, ap, ◌∙◌, subst, inl, inr, arith, Some, None, Option, option_or, VarName, GoalName, Tree, Goal, In, name_cmp, value_at, in_left, in_right, in_either, Program, Query, holds_nothing, BindsAndReads, Act, Asked as asked, Asks, HasEffect, effect_binds, State, Record, after, without_goal, IsThere, HasStepEffect, Fires, query_state, bound_at, made_or_old}
+use Rattle.ghc_depend.proofs.Words.{◌≡◌, ◌≤◌, ◌⊎◌, List, [], ◌∷◌, ◌++◌, refl, sym, ap, ◌∙◌, subst, inl, inr, arith, Some, None, Option, option_or, VarName, GoalName, Tree, Goal, In, name_cmp, value_at, in_left, in_right, Program, Query, holds_nothing, BindsAndReads, Act, Asked as asked, Asks, HasEffect, effect_binds, State, Record, after, without_goal, IsThere, HasStepEffect, Fires, query_state, bound_at, made_or_old, in_more}
 use Rattle.std.specs.FinMap as finite
 use Rattle.ghc_fire.proofs.Steps.{nothing}
 use Rattle.ghc_depend.proofs.Finding.{by_option, not_both, same_value, find_value, own, makes_at, own_made, without_it, without_other, without_none}
@@ -50,20 +50,11 @@ fires P v r g b p q e d =
 
 -- a step that asks for goals is possible in each state
 pub asking_fires : (P : Program) (v : State) (r : Record) → IsAsking P r → Fires P v r
-asking_fires P v r a = (
-  subst (λ o. IsThere v.goals o r.consumed) (sym a.none) a.nothing,
-  subst (λ c. HasStepEffect P c r.act r.number (value_at v.store) r.effect) (sym a.nothing) (subst (λ act. HasStepEffect P None act r.number (value_at v.store) r.effect) (sym a.act) a.asks),
-)
+asking_fires P v r a = grind arith
 
 -- what a step binds was unbound, and what it reads was bound
 pub step_binds : (P : Program) (s : State) (r : Record) → Fires P s r → BindsAndReads (value_at s.store) r.effect.binds r.effect.reads
-step_binds P s r f = elim (firing P s r f) [
-  | inl t ↦ effect_binds P t.goal r.act r.number (value_at s.store) r.effect t.effect
-  | inr a ↦ record {
-    binds_new = λ x u b. absurd (nothing r.effect.binds a.asks.binds x u b);
-    reads_bound = λ x i. absurd (holds_nothing r.effect.reads a.asks.reads x i);
-  }
-]
+step_binds P s r f = grind (arith, firing, effect_binds, nothing, holds_nothing)
 
 -- none of the steps consumed the goal
 abbrev pub IsUntaken : List Record → GoalName → Type 0
@@ -92,6 +83,11 @@ of_query query g b e = elim (made_or_old 0 1 query finite.empty g b e) [
   | inl p ↦ p.0
   | inr n ↦ absurd (not_both n (finite.get-empty _ g))
 ]
+
+-- no step made a goal of the query
+pub query_unmade : (query : Query) (done : List Record) → ((r : Record) → In r done → 1 ≤ r.number)
+    → (g : GoalName) (b : Goal) → finite.get (query_state query).goals g ≡ Some b → IsUnmade done g
+query_unmade query done positive g b q r i = grind (arith, by_option, of_query, own_made)
 
 pub at_first : (query : Query) → Results query [] (query_state query)
 at_first query = record {
@@ -148,9 +144,6 @@ module _ (query : Query) (done : List Record) (s : State) (h : Results query don
     goal_kept : (g : GoalName) → own r g ≡ None → finite.get (after s r).goals g ≡ finite.get (without_goal r.goal s.goals) g
     goal_kept g n = goal_at g ∙ ap (λ o. option_or o (finite.get (without_goal r.goal s.goals) g)) n
 
-    goal_made : (g : GoalName) (b : Goal) → own r g ≡ Some b → finite.get (after s r).goals g ≡ Some b
-    goal_made g b e = goal_at g ∙ ap (λ o. option_or o (finite.get (without_goal r.goal s.goals) g)) e
-
     old_unmade : (g : GoalName) → IsOld done g → own r g ≡ None
     old_unmade g o = by_option (own r g) (λ n. n) (λ b e. absurd (not_old g o (own_made r g b e).0))
 
@@ -163,18 +156,12 @@ module _ (query : Query) (done : List Record) (s : State) (h : Results query don
     taken_old : (g : GoalName) → r.goal ≡ Some g → IsOld done g
     taken_old g e = let t = taken_at P s r f g e in is_old g t.0 t.1
 
-    last : List Record
-    last = r ∷ []
-
     either : (c : Record) → In c (done ++ r ∷ []) → In c done ⊎ (c ≡ r)
-    either c i = elim (in_either done (r ∷ []) c i) [ inl j ↦ inl j | inr (inl e) ↦ inr e | inr (inr j) ↦ absurd j ]
+    either c i = in_more done r c i
 
     older : (g : GoalName) → IsOld done g → IsOld (done ++ r ∷ []) g
     older g (inl z) = inl z
     older g (inr m) = inr (m.0, in_left done (r ∷ []) m.0 m.1, m.2)
-
-    before : {A : Record → Type 0} → ((c : Record) → In c (done ++ r ∷ []) → A c) → (c : Record) → In c done → A c
-    before k c i = k c (in_left done (r ∷ []) c i)
 
     itself : In r (done ++ r ∷ [])
     itself = in_right done (r ∷ []) r (inl refl)
@@ -196,7 +183,7 @@ module _ (query : Query) (done : List Record) (s : State) (h : Results query don
         | inl j ↦
             goal_kept g (by_option (own r g) (λ n. n) (λ w k. absurd (new c j (sym (own_made r g w k).0 ∙ (own_made c g b e).0))))
             ∙ without_other r.goal s.goals g (u r itself) ∙ h.made c g b j e (λ d k. u d (in_left done (r ∷ []) d k))
-        | inr same ↦ goal_made g b (ap (λ z. own z g) (sym same) ∙ e)
+        | inr same ↦ goal_at g ∙ ap (λ o. option_or o (finite.get (without_goal r.goal s.goals) g)) (ap (λ z. own z g) (sym same) ∙ e)
       ];
       rest = λ g m u. goal_kept g (m r itself) ∙ without_other r.goal s.goals g (u r itself) ∙ h.rest g (λ d k. m d (in_left done (r ∷ []) d k)) (λ d k. u d (in_left done (r ∷ []) d k));
       old = λ c g i e. elim (either c i) [

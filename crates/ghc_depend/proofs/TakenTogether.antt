@@ -1,23 +1,19 @@
 -- Steps that are taken away together: a step and its consequences, the last one first.
-use Rattle.ghc_depend.proofs.Words.{◌≡◌, ◌⊎◌, ℕ, true, false, cond, List, [], ◌∷◌, ◌++◌, refl, sym, ap, ◌∙◌, subst, inl, inr, Some, None, eq_by_cmp, is_eq, nat_cmp, nat_cmp_total, tied_itself, In, in_right, in_either, Picks, nothing, leave, AreDistinct, Record, numbers, Shelf, Before, is_before, before_is, before_in, before_once, number_in, number_of, record_once, records_distinct, picks_once, DependsOn, Follows, directly, further, GoesWith, AreConsequencesOf, with_shelved, IsSplitAt}
-use Rattle.std.specs.FinMap as finite
+use Rattle.ghc_depend.proofs.Words.{◌≡◌, ◌⊎◌, ℕ, List, [], ◌∷◌, ◌++◌, refl, sym, ◌∙◌, subst, inl, inr, In, in_right, in_either, Picks, nothing, leave, AreDistinct, Record, numbers, Before, is_before, before_is, before_in, before_once, number_in, number_of, record_once, records_distinct, picks_once, Follows, directly, further, GoesWith, AreConsequencesOf, IsSplitAt, arith}
 use Rattle.ghc_records.specs.Orders.{take}
 use Rattle.ghc_depend.proofs.Following.{split_closed, known_follows}
 use Rattle.ghc_depend.proofs.Once.{same_records}
-use Rattle.ghc_depend.proofs.Picking.{before_front, picks_in, picks_has, picks_order, picks_keep, picks_distinct, pick}
+use Rattle.ghc_depend.proofs.Picking.{before_front, distinct_right, picks_in, picks_has, picks_order, picks_keep, picks_distinct, pick}
 
 module _ {X : Type 0} where
   -- what stands behind an element, stands in the part behind it
   pub stands_behind : (xs front back : List X) (r a : X) → AreDistinct xs → xs ≡ front ++ r ∷ back → Before xs r a → In a back
-  stands_behind xs front back r a distinct e before = elim (in_either front (r ∷ back) a (subst (In a) e (before_in xs r a before).1)) [
-    | inl i ↦ absurd (before_once xs r a distinct before (subst (λ z. Before z a r) (sym e) (before_front front back r a i)))
-    | inr (inl same) ↦ let again = subst (λ z. Before xs r z) same before in absurd (before_once xs r r distinct again again)
-    | inr (inr i) ↦ i
-  ]
+  stands_behind xs front back r a distinct e before =
+      let either = in_either front (r ∷ back) a in
+      grind (arith, before_in xs r a before, before_once xs r a distinct, before_once xs r r distinct, before_front front back r a)
 
   pub apart_behind : (front back : List X) (r : X) → AreDistinct (front ++ r ∷ back) → ¬ In r back
-  apart_behind [] back r d i = d.0 i
-  apart_behind (x ∷ front) back r d i = apart_behind front back r d.1 i
+  apart_behind front back r d = (distinct_right front (r ∷ back) d).0
 
   -- the same is picked where the same holds of each element
   pub picks_as : {P Q : X → Type 0} (xs ys : List X) → ((x : X) → In x xs → P x → Q x) → ((x : X) → In x xs → ¬ P x → ¬ Q x) → Picks P xs ys → Picks Q xs ys
@@ -57,18 +53,11 @@ module _ {X : Type 0} where
 -- a consequence stands behind
 pub before_on : {X : Type 0} (xs : List X) (a b c : X) → AreDistinct xs → Before xs a b → Before xs b c → Before xs a c
 before_on [] a b c d h k = absurd h
-before_on (x ∷ xs) a b c d (inl h) (inl k) = absurd (d.0 (subst (λ z. In z xs) k.0 h.1))
-before_on (x ∷ xs) a b c d (inl h) (inr k) = inl (h.0, (before_in xs b c k).1)
-before_on (x ∷ xs) a b c d (inr h) (inl k) = absurd (d.0 (subst (λ z. In z xs) k.0 (before_in xs a b h).1))
-before_on (x ∷ xs) a b c d (inr h) (inr k) = inr (before_on xs a b c d.1 h k)
+before_on (x ∷ xs) a b c d h k = grind (arith, d.0, before_in xs a b, before_in xs b c, before_on xs a b c d.1)
 
 pub follows_behind : (kept : List Record) (a b : Record) → AreDistinct kept → Follows kept a b → Before kept a b
 follows_behind kept a b d (directly p) = is_before kept a b p.0
 follows_behind kept a b d (further {b = c} f p) = before_on kept a c b d (follows_behind kept a c d f) (is_before kept c b p.0)
-
--- what is picked depends as it did
-depends_picked : {P : Record → Type 0} (kept left : List Record) (a b : Record) → Picks P kept left → DependsOn left b a → DependsOn kept b a
-depends_picked kept left a b k d = (before_is kept a b (picks_order kept left a b k (is_before left a b d.0)), d.1)
 
 -- A step and its consequences, in recorded order, part the kept list.
 pub split_at : (kept : List Record) (r : Record) (found : List Record) → AreDistinct (numbers kept) → In r kept → Picks (Follows kept r) kept found → (left : List Record) × IsSplitAt kept r (r ∷ found) left
@@ -100,9 +89,7 @@ split_found kept r n found rs distinct i e own same of_rs =
 
 -- the numbers of records that were picked, are those of kept ones
 pub picked_number : {P : Record → Type 0} (kept found : List Record) (n : ℕ) → Picks P kept found → In n (numbers found) → In n (numbers kept)
-picked_number kept found n k i =
-    let at = number_of found n i in
-    subst (λ m. In m (numbers kept)) at.2 (number_in kept at.0 (picks_in kept found at.0 k at.1).0)
+picked_number kept found n k i = grind (arith, number_of, number_in, picks_in)
 
 module _ (kept : List Record) (distinct : AreDistinct (numbers kept)) (a : Record) (kept_a : In a kept) (gone left : List Record) (split : IsSplitAt kept a gone left) where
   each : AreDistinct kept
@@ -121,7 +108,8 @@ module _ (kept : List Record) (distinct : AreDistinct (numbers kept)) (a : Recor
       let before = is_before some r b d.0 in
       let b_some = (before_in some r b before).1 in
       let b_kept = picks_in kept some b k b_some in
-      let with_a : GoesWith kept a b = split_closed kept distinct a kept_a r b (picks_in kept gone r split.0 here).1 (directly (depends_picked kept some r b k d)) in
+      let with_a : GoesWith kept a b = split_closed kept distinct a kept_a r b (picks_in kept gone r split.0 here).1
+      (directly (before_is kept r b (picks_order kept some r b k before), d.1)) in
       elim (picks_has kept gone b split.0 b_kept.0) [
         | inl j ↦ b_kept.1 (stands_behind gone front back r b gone_distinct e (picks_keep kept gone r b each split.0 here j (picks_order kept some r b k before)))
         | inr n ↦ n with_a
@@ -133,15 +121,3 @@ module _ (kept : List Record) (distinct : AreDistinct (numbers kept)) (a : Recor
   rest_left some k = picks_once kept some left k (picks_as kept left
       (λ s i n j. n (picks_in kept gone s split.0 j).1)
       (λ s i nn none. nn (λ g. elim (picks_has kept gone s split.0 i) [ inl j ↦ none j | inr n ↦ n g ])) split.1)
-
--- what was put on the shelf is there
-on_shelf : (gone : List Record) (shelf : Shelf) (r : Record) → In r gone → ¬ (finite.get (with_shelved gone shelf) r.number ≡ None)
-on_shelf [] shelf r i e = i
-on_shelf (s ∷ gone) shelf r i e =
-    elim (eq_by_cmp nat_cmp r.number s.number) as (λ b. eq_by_cmp nat_cmp r.number s.number ≡ b → cond b (Some s) (finite.get (with_shelved gone shelf) r.number) ≡ None → ⊥) [
-      | true ↦ λ p q. cc
-      | false ↦ λ p q. elim i [
-        | inl same ↦ let clash : false ≡ true = sym p ∙ subst (λ (z : Record). eq_by_cmp nat_cmp r.number z.number ≡ true) same (ap is_eq (tied_itself nat_cmp_total r.number)) in cc
-        | inr j ↦ on_shelf gone shelf r j q
-      ]
-    ] refl (sym (finite.get-insert nat_cmp_total (with_shelved gone shelf) s.number s r.number) ∙ e)

@@ -9,8 +9,8 @@ pub use Rattle.ghc_depend.specs.Laws.{ConsequencesHaveOneAnswer, GoneComeBack, K
 pub use Rattle.ghc_depend.specs.Places.{IsFirstAmong, IsPlaceOfUser}
 pub use Rattle.ghc_depend.specs.declared.cause.Cause.TheVariants.{Made, Named, Read}
 pub use Rattle.ghc_fire.proofs.Asking.{asks_once}
-pub use Rattle.ghc_fire.proofs.GoalNames.{goal_total, same_goal, same_parts}
-pub use Rattle.ghc_fire.proofs.Steps.{effect_binds, effect_local, effect_once}
+pub use Rattle.ghc_fire.proofs.GoalNames.{goal_total, same_goal, same_parts, goal_antisymmetric}
+pub use Rattle.ghc_fire.proofs.Steps.{effect_binds, effect_local, effect_once, number_ends}
 pub use Rattle.ghc_fire.specs.Asked.{Asks, variables_asked}
 pub use Rattle.ghc_fire.specs.Effect.{Effect, HasEffect, IsOnChainsOf, ReadsTail}
 pub use Rattle.ghc_fire.specs.Goals.{Goals, goal_cmp}
@@ -41,11 +41,12 @@ pub use Rattle.ghc_records.specs.Slots.{HasNumberIn, SlotList, StandsIn, held_in
 pub use Rattle.ghc_records.specs.State.{IsTakenBack}
 pub use Rattle.ghc_records.specs.UseIndex.{StepBinds, StepDependsOn}
 pub use Rattle.ghc_term.proofs.Chains.{leads_agree, leads_once, reaches_more}
-pub use Rattle.ghc_term.proofs.Decided.{Decided, decided_both, decided_by, decided_either, in_decided, nat_decided, true_decided}
-pub use Rattle.ghc_term.proofs.ListsLemmas.{compare_splits, in_at, in_contains, in_either, in_last, in_left, in_more, in_right, in_splits}
+pub use Rattle.ghc_term.proofs.Decided.{Decided, decided_both, decided_by, decided_either, in_decided, nat_decided, true_decided, some_decided}
+pub use Rattle.ghc_term.proofs.ListsLemmas.{compare_splits, in_at, in_contains, in_either, in_last, in_left, in_more, in_right, in_splits, each_in, splits_at}
 pub use Rattle.ghc_term.proofs.MapsLemmas.{key_in}
 pub use Rattle.ghc_term.proofs.Members.{In_at, has_member, one_more_member}
 pub use Rattle.ghc_term.proofs.Names.{name_antisymmetric, name_total}
+pub use Rattle.ghc_term.proofs.Placing.{one_value}
 pub use Rattle.ghc_term.proofs.Searches.{In_either}
 pub use Rattle.ghc_term.proofs.Sets.{set_of}
 pub use Rattle.ghc_term.proofs.SetsLemmas.{holds_nothing, is_member}
@@ -59,21 +60,24 @@ pub use Rattle.ghc_term.specs.Tree.{Tree, integer}
 pub use Rattle.ghc_term.specs.declared.goal_name.GoalName.{GoalName}
 pub use Rattle.ghc_term.specs.declared.var_name.VarName.{VarName}
 pub use Rattle.ghc_unify.proofs.Bound.{Fresh, bound_by, bound_is, has_value, is_bound, itself, keeps, moves_fresh, unbound_before}
+pub use Rattle.ghc_unify.proofs.Commute.{bound_to}
 pub use Rattle.ghc_unify.proofs.Extension.{Hold, all_extend}
 pub use Rattle.ghc_unify.proofs.Locality.{by_value, comes_more}
 pub use Rattle.ghc_unify.specs.Laws.{BindsAndReads}
 pub use Rattle.ghc_unify.specs.Unify.{Unifies, with_bindings}
-pub use Rattle.std.proofs.Common.{All, Bool, Err, IfNone, IfSome, IsSome, IsTrue, List, None, Ok, Option, Result, Some, [], ap, append-nil, append_assoc, arith, cond, false, get_or, if◌then◌else◌, inl, inr, is_some, length, map, nat_eq, not, option_map, refl, slice_get, subst, subst₂, suc, sym, take, true, zero, ℕ, ℤ, ◌++◌, ◌+◌, ◌-◌, ◌<◌, ◌||◌, ◌↔◌, ◌∙◌, ◌∷◌, ◌≡◌, ◌≢◌, ◌≤◌, ◌⊎◌}
+pub use Rattle.std.proofs.Common.{All, Bool, Err, IfNone, IfSome, IsSome, IsTrue, List, None, Ok, Option, Result, Some, [], ap, append-nil, append_assoc, arith, cond, false, get_or, if◌then◌else◌, inl, inr, is_some, length, map, nat_eq, not, option_map, refl, slice_get, subst, subst₂, suc, sym, take, true, zero, ℕ, ℤ, ◌++◌, ◌+◌, ◌-◌, ◌<◌, ◌||◌, ◌↔◌, ◌∙◌, ◌∷◌, ◌≡◌, ◌≢◌, ◌≤◌, ◌⊎◌, drop}
 pub use Rattle.std.proofs.Math.Nat.{eq-or-lt_of_le}
-pub use Rattle.std.proofs.lemmas.Bool.{cases_lt, cases_order, eqb-true, lt-ltb, ltb-true}
-pub use Rattle.std.proofs.lemmas.List.{length-append, length-map, same_from_push, take_all, take_more}
+pub use Rattle.std.proofs.lemmas.Bool.{cases_lt, cases_order, eqb-true, lt-ltb, ltb-true, or_cases}
+pub use Rattle.std.proofs.lemmas.List.{length-append, length-map, same_from_push, take_all, take_more, length-take}
 pub use Rattle.std.proofs.lemmas.List.Elements.{All-contains}
 pub use Rattle.std.proofs.lemmas.List.Quantifiers.{position-Some}
-pub use Rattle.std.proofs.lemmas.Option.{slice_get-get_or, slice_get_within}
+pub use Rattle.std.proofs.lemmas.Map.Views.{tells_apart}
+pub use Rattle.std.proofs.lemmas.Option.{slice_get-get_or, slice_get_within, get_or_from_slice_get, slice_get_cases}
 pub use Rattle.std.specs.BTreeMap.Range.{IsLtBy}
 pub use Rattle.std.specs.BTreeSet.{insert_key}
 pub use Rattle.std.specs.Borrow.{Bor}
 pub use Rattle.std.specs.Cmp.{nat_cmp_total, ranks, tied_itself}
+pub use Rattle.std.specs.FinMap.{nat_cmp-IsAntisymmetric}
 pub use Rattle.std.specs.List.{list_any, position}
 pub use Rattle.std.specs.Option.{option_copied, option_or}
 pub use Rattle.std.specs.Ordering.{MatchOrdering, eq_by_cmp, is_eq, is_lt, match_ordering, nat_cmp, ord_min, ordering_reverse}

@@ -1,9 +1,9 @@
 -- Steps of a replay can be taken again in every order in which each stands behind all on which it depends, and with every others left out on which none of them depends.
-use Rattle.ghc_depend.proofs.Words.{◌≡◌, List, [], ◌∷◌, ◌++◌, refl, sym, ap, ◌∙◌, subst, inl, inr, arith, Some, append_assoc, append-nil, Option, is_some, option_or, VarName, Tree, In, IsAcyclic, value_at, reaches_more, in_left, in_right, Program, Query, with_bindings, AreDistinct, State, Record, numbers, after, Fires, query_state, Runs, Replays, AreKnownIn, before_is, Uses, DependsOn}
+use Rattle.ghc_depend.proofs.Words.{◌≡◌, List, [], ◌∷◌, ◌++◌, refl, sym, ap, ◌∙◌, subst, inl, inr, Some, append_assoc, append-nil, Option, is_some, option_or, VarName, Tree, In, IsAcyclic, value_at, reaches_more, in_left, in_right, Program, Query, with_bindings, AreDistinct, State, Record, numbers, after, Fires, query_state, Runs, Replays, AreKnownIn, before_is, Uses, DependsOn}
 use Rattle.std.specs.FinMap as finite
-use Rattle.ghc_depend.proofs.Finding.{by_option, own, own_made}
+use Rattle.ghc_depend.proofs.Finding.{by_option, own_made}
 use Rattle.ghc_depend.proofs.Extending.{effect_elsewhere}
-use Rattle.ghc_depend.proofs.Results.{Taken, firing, asking_fires, step_binds, fires, IsUntaken, IsUnmade, Results, of_query, at_first, bound_by, goal_by, with_step}
+use Rattle.ghc_depend.proofs.Results.{Taken, firing, asking_fires, step_binds, fires, IsUntaken, Results, query_unmade, at_first, bound_by, goal_by, with_step}
 use Rattle.ghc_depend.proofs.Placing.{apart_at, Place, results_of, place_of, in_front, front_in, consumed_once, bound_once}
 
 -- in the list, each step stands behind all on which it depends
@@ -51,18 +51,10 @@ module _ (P : Program) (query : Query) (rs : List Record) (t : State) (replay : 
         untaken : IsUntaken front step.name
         untaken c i f = not_itself c i (consumed_once P query rs t replay r c step.name there (front_there c i) step.named f)
 
-        -- a goal of the query is none that a step made
-        unmade : finite.get (query_state query).goals step.name ≡ Some step.goal → IsUnmade front step.name
-        unmade q c i = by_option (own c step.name) (λ n. n) (λ b o.
-            let zero_step = of_query query step.name step.goal q in
-            let number = (own_made c step.name b o).0 in
-            let positive = (replay.0.0 c (front_there c i)).0 in
-            absurd (omega arith))
-
         goal_there : finite.get v.goals step.name ≡ Some step.goal
         goal_there = elim (goal_by query place.before place.state place.results step.name step.goal step.there) [
           | inl m ↦ h.made m.0 step.name step.goal (depends m.0 m.1 (inl (step.name, step.named, own_made m.0 step.name step.goal m.2))) m.2 untaken
-          | inr q ↦ h.rest step.name (unmade q.1) untaken ∙ q.1
+          | inr q ↦ h.rest step.name (query_unmade query front (λ c i. (replay.0.0 c (front_there c i)).0) step.name step.goal q.1) untaken ∙ q.1
         ]
 
         taken_there : Fires P v r

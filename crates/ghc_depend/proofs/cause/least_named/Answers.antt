@@ -1,4 +1,4 @@
-use Rattle.ghc_depend.proofs.Words.{◌≡◌, ◌≢◌, ◌+◌, true, false, [], ◌∷◌, ◌++◌, get_or, take, sym, ap, ◌∙◌, subst, arith, Some, take_more, take_all, VarName, variables_asked, MakesVariable}
+use Rattle.ghc_depend.proofs.Words.{◌≡◌, ◌≢◌, ◌+◌, true, false, [], ◌∷◌, ◌++◌, get_or, take, sym, ◌∙◌, subst, arith, Some, take_more, take_all, VarName, MakesVariable}
 use Rattle.ghc_depend.proofs.Causes.{IsLeastOf, least_passed, least_taken, named_is, named_none}
 use Rattle.ghc_depend.proofs.cause.least_named.Goals as goal
 use Rattle.ghc_depend.proofs.cause.least_named.Goals.{then-names, else-names}
@@ -18,18 +18,5 @@ loop-name-preserved c =
           (least_passed Q (take i items) x c.loop-name.least c.loop-name.invariant (λ h. let clash : true ≡ false = sym (c.names.ensures.1 h) ∙ w.if-names.false in cc)))
     ]
 
-pub returns-clause-some : goal.returns-clause-some
-returns-clause-some c =
-    let Q : VarName → Type 0 = λ x. (x.step ≢ c.args.later.now.number) × MakesVariable c.args.earlier.now x in
-    let items = c.variables-name-items.result.now in
-    let all = c.variables-name-items.ensures ∙ ap variables_asked c.act.ensures in
-    named_is c.args.later.now c.args.earlier.now c.loop-name.least
-    (subst (λ l. IsLeastOf Q l c.loop-name.least) (take_all c.loop-name.name-index items (omega (arith, c.loop-name-test.false)) ∙ all) c.loop-name.invariant)
-
-pub returns-clause-none : goal.returns-clause-none
-returns-clause-none c =
-    let Q : VarName → Type 0 = λ x. (x.step ≢ c.args.later.now.number) × MakesVariable c.args.earlier.now x in
-    let items = c.variables-name-items.result.now in
-    let all = c.variables-name-items.ensures ∙ ap variables_asked c.act.ensures in
-    named_none c.args.later.now c.args.earlier.now c.loop-name.least
-    (subst (λ l. IsLeastOf Q l c.loop-name.least) (take_all c.loop-name.name-index items (omega (arith, c.loop-name-test.false)) ∙ all) c.loop-name.invariant)
+pub returns : goal.returns
+returns c = grind (arith, take_all, named_is, named_none)

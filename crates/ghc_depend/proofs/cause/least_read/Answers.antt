@@ -1,5 +1,4 @@
-use Rattle.ghc_depend.proofs.Words.{◌≡◌, ◌+◌, true, false, [], ◌∷◌, ◌++◌, get_or, take, sym, ap, ◌∙◌, subst, arith, Some, take_more, take_all, VarName, Binds}
-use Rattle.std.specs.FinSet as set
+use Rattle.ghc_depend.proofs.Words.{◌≡◌, ◌+◌, true, false, [], ◌∷◌, ◌++◌, get_or, take, sym, ◌∙◌, subst, arith, Some, take_more, take_all, VarName, Binds}
 use Rattle.ghc_depend.proofs.Causes.{IsLeastOf, least_passed, least_taken, least_is, least_none}
 use Rattle.ghc_depend.proofs.cause.least_read.Goals as goal
 use Rattle.ghc_depend.proofs.cause.least_read.Goals.{then-binds, else-binds}
@@ -19,16 +18,5 @@ loop-x-preserved c =
           (least_passed (Binds a) (take i items) x c.loop-x.least c.loop-x.invariant (λ h. let clash : true ≡ false = sym (c.binds.ensures.1 h) ∙ w.if-binds.false in cc)))
     ]
 
-pub returns-clause-some : goal.returns-clause-some
-returns-clause-some c =
-    let items = c.members-x-items.result.now in
-    let all : set.from_list items ≡ c.args.later.now.effect.reads = c.members-x-items.ensures.all ∙ c.reads.ensures ∙ ap (λ f. f.reads) c.effect.ensures in
-    least_is c.args.later.now c.args.earlier.now items c.loop-x.least all
-    (subst (λ l. IsLeastOf (Binds c.args.earlier.now) l c.loop-x.least) (take_all c.loop-x.x-index items (omega (arith, c.loop-x-test.false))) c.loop-x.invariant)
-
-pub returns-clause-none : goal.returns-clause-none
-returns-clause-none c =
-    let items = c.members-x-items.result.now in
-    let all : set.from_list items ≡ c.args.later.now.effect.reads = c.members-x-items.ensures.all ∙ c.reads.ensures ∙ ap (λ f. f.reads) c.effect.ensures in
-    least_none c.args.later.now c.args.earlier.now items c.loop-x.least all
-    (subst (λ l. IsLeastOf (Binds c.args.earlier.now) l c.loop-x.least) (take_all c.loop-x.x-index items (omega (arith, c.loop-x-test.false))) c.loop-x.invariant)
+pub returns : goal.returns
+returns c = grind (arith, take_all, least_is, least_none)

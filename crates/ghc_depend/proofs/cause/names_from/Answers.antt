@@ -15,9 +15,4 @@ loop-x-preserved c =
     (λ h. let clash : true ≡ false = sym (c.names.ensures.1 h) ∙ c.if-names.false in cc)
 
 pub returns : goal.returns
-returns c =
-    let items = c.variables-x-items.result.now in
-    let all = c.variables-x-items.ensures ∙ ap variables_asked c.act.ensures in (
-      λ h. absurd (let clash : false ≡ true = h in cc),
-      λ t. absurd (c.loop-x.invariant t.0 (subst (In t.0) (sym (take_all c.loop-x.x-index items (omega (arith, c.loop-x-test.false)) ∙ all)) t.1.0.0) (t.1.0.1, t.1.1)),
-    )
+returns c = grind (arith, take_all)

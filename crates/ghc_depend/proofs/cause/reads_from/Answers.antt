@@ -1,4 +1,4 @@
-use Rattle.ghc_depend.proofs.Words.{◌≡◌, true, false, refl, sym, ap, ◌∙◌, subst, arith, take_all, In, one_more_member, In_at, has_member, is_member, Binds}
+use Rattle.ghc_depend.proofs.Words.{◌≡◌, true, false, refl, sym, ap, ◌∙◌, arith, take_all, one_more_member, In_at, has_member, is_member, Binds}
 use Rattle.std.specs.FinSet as set
 use Rattle.ghc_depend.proofs.cause.reads_from.Goals as goal
 
@@ -15,9 +15,4 @@ loop-x-preserved c =
     (λ h. let clash : true ≡ false = sym (c.binds.ensures.1 h) ∙ c.if-binds.false in cc)
 
 pub returns : goal.returns
-returns c =
-    let items = c.members-x-items.result.now in
-    let all : set.from_list items ≡ c.args.later.now.effect.reads = c.members-x-items.ensures.all ∙ c.reads.ensures ∙ ap (λ f. f.reads) c.effect.ensures in (
-      λ h. absurd (let clash : false ≡ true = h in cc),
-      λ t. absurd (c.loop-x.invariant t.0 (subst (In t.0) (sym (take_all c.loop-x.x-index items (omega (arith, c.loop-x-test.false)))) (is_member c.args.later.now.effect.reads items all t.0 t.1.0)) t.1.1),
-    )
+returns c = grind (arith, take_all, is_member)

@@ -1,4 +1,4 @@
-use Rattle.ghc_depend.proofs.Words.{sym, ap, ◌∙◌, subst, Some, None, option_copied, rank, ranked_at, some_of}
+use Rattle.ghc_depend.proofs.Words.{sym, ap, subst, Some, None, option_copied, rank, ranked_at, some_of}
 use Rattle.ghc_depend.proofs.FirstPlace.{IsFirstOf, first_ranked, first_is, first_none}
 use Rattle.ghc_depend.proofs.consequence.first_consequence.Goals as goal
 

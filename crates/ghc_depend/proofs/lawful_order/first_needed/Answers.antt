@@ -1,4 +1,4 @@
-use Rattle.ghc_depend.proofs.Words.{◌≡◌, sym, ap, ◌∙◌, subst, arith, Some, rank, rank_less, ranked, ranked_at, some_of, StandsBehind, IsInTime}
+use Rattle.ghc_depend.proofs.Words.{sym, ap, ◌∙◌, subst, arith, Some, rank, rank_less, ranked, ranked_at, some_of, StandsBehind, IsInTime}
 use Rattle.std.specs.Prelude.{option_copied}
 use Rattle.ghc_depend.proofs.Causes.{kept_at}
 use Rattle.ghc_depend.proofs.InTime.{NoneNeeded, not_kept_in_time, none_needed_more, none_ranked, first_step, no_step}

@@ -1,15 +1,11 @@
-use Rattle.ghc_depend.proofs.Words.{refl, subst, subst₂, inl, inr, In, IsOrderOf, IsFirstMissing, IsUnlawful, wrong, missing, too_early}
+use Rattle.ghc_depend.proofs.Words.{refl, subst₂, inl, inr, IsOrderOf, IsUnlawful, wrong, missing, too_early, arith}
 use Rattle.ghc_depend.proofs.lawful_order.lawful.Goals as goal
 
 pub returns-in-Err-clause-fault : goal.returns-in-Err-clause-fault
 returns-in-Err-clause-fault c = elim c.in-Err.ensures.fault [ inl memory ↦ inl memory | inr w ↦ inr (w.0, w.0, w.1, wrong w.2) ]
 
 pub returns-in-Some-clause-fault : goal.returns-in-Some-clause-fault
-returns-in-Some-clause-fault c =
-    let kept = c.args.records.now.held in
-    let order = c.args.order.now in
-    let m = c.in-Some.ensures.missing in
-    inr (c.in-Some.number, 0, refl, subst (λ n. IsUnlawful kept order n 0) m.2 (missing c.in-Ok.ensures.kept (subst (λ o. IsFirstMissing kept o m.0) c.in-Ok.ensures.places m.1)))
+returns-in-Some-clause-fault c = grind (arith, missing)
 
 pub returns-in-Some-clause-first : goal.returns-in-Some-clause-first
 returns-in-Some-clause-first c s rest begins none = let clash = c.in-Ok.ensures.first s rest begins none in cc

@@ -1,4 +1,4 @@
-use Rattle.ghc_depend.proofs.Words.{◌≡◌, sym, ap, subst, arith, In, numbers, held_in, rank, rank_stands, IsFirstMissing}
+use Rattle.ghc_depend.proofs.Words.{sym, subst, arith, In, numbers, held_in, rank, rank_stands, IsFirstMissing}
 use Rattle.ghc_depend.proofs.OrderWalks.{slots_next, have_ranked, is_missing, all_slots, none_missing}
 use Rattle.ghc_depend.proofs.places.first_missing.Goals as goal
 

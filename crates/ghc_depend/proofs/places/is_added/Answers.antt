@@ -1,5 +1,6 @@
-use Rattle.ghc_depend.proofs.Words.{inl, inr, number_in, number_of, number_any}
-use Rattle.ghc_depend.proofs.OrderWalks.{not_any, when_new, when_old}
+use Rattle.ghc_depend.proofs.Words.{sym, ◌∙◌, inl, inr, number_in, number_of, number_any}
+use Rattle.std.proofs.lemmas.Bool.{not-true, not-false}
+use Rattle.ghc_depend.proofs.OrderWalks.{not_any}
 use Rattle.ghc_depend.proofs.places.is_added.Goals as goal
 
 pub returns-in_default-clause-wrong : goal.returns-in_default-clause-wrong
@@ -9,10 +10,10 @@ pub returns-in-Ok-clause-kept : goal.returns-in-Ok-clause-kept
 returns-in-Ok-clause-kept c _ = let found = c.in-Some.ensures.found in rw (← found.1) (number_in c.args.records.now.held _ found.0)
 
 pub returns-in-Ok-clause-new : goal.returns-in-Ok-clause-new
-returns-in-Ok-clause-new c t = not_any c.args.number c.args.places.now.keys (when_new _ _ c.in-Ok.ensures.added t)
+returns-in-Ok-clause-new c t = not_any c.args.number c.args.places.now.keys (not-true _ (sym c.in-Ok.ensures.added ∙ t))
 
 pub returns-in-Ok-clause-wrong : goal.returns-in-Ok-clause-wrong
-returns-in-Ok-clause-wrong c f = inr (number_any c.args.number c.args.places.now.keys (when_old _ _ c.in-Ok.ensures.added f))
+returns-in-Ok-clause-wrong c f = inr (number_any c.args.number c.args.places.now.keys (not-false _ (sym c.in-Ok.ensures.added ∙ f)))
 
 pub returns-in-Ok-clause-unkept : goal.returns-in-Ok-clause-unkept
 returns-in-Ok-clause-unkept c none = let found = c.in-Some.ensures.found in absurd (none (rw (← found.1) (number_in c.args.records.now.held _ found.0)))

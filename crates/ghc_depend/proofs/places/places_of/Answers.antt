@@ -16,19 +16,10 @@ returns-in-Ok-false-clause-fault c =
     inr (n, refl, wrong)
 
 pub returns-in-Ok-false-clause-first : goal.returns-in-Ok-false-clause-first
-returns-in-Ok-false-clause-first c s rest begins none =
-    let order = c.args.order.now in
-    let i = c.loop-number.number-index in
-    let first = first_unkept c.args.records.now.held order rest i (get_or order i 0) s (slice_get-get_or order i 0 c.loop-number-test.true) c.loop-number.invariant.kept begins none in
-    rw first refl
+returns-in-Ok-false-clause-first c s rest begins none = grind (arith, first_unkept, slice_get-get_or)
 
 pub returns-in-Err-clause-first : goal.returns-in-Err-clause-first
-returns-in-Err-clause-first c s rest begins none =
-    let order = c.args.order.now in
-    let i = c.loop-number.number-index in
-    let first = first_unkept c.args.records.now.held order rest i (get_or order i 0) s (slice_get-get_or order i 0 c.loop-number-test.true) c.loop-number.invariant.kept begins none in
-    let clash = c.in-Err.ensures.unkept (λ there. none (rw first at there)) in
-    cc
+returns-in-Err-clause-first c s rest begins none = grind (arith, first_unkept, slice_get-get_or)
 
 pub loop-number-preserved : goal.loop-number-preserved
 loop-number-preserved c =

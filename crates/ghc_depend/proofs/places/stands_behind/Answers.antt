@@ -1,4 +1,4 @@
-use Rattle.ghc_depend.proofs.Words.{◌≡◌, ◌<◌, true, false, sym, subst, ltb-true, lt-ltb, in_at}
+use Rattle.ghc_depend.proofs.Words.{◌<◌, sym, subst, ltb-true, lt-ltb, in_at, arith}
 use Rattle.ghc_depend.proofs.OrderWalks.{not_any, one_place, place_found}
 use Rattle.ghc_depend.proofs.places.stands_behind.Goals as goal
 
@@ -12,8 +12,4 @@ returns-in-Some c =
     )
 
 pub returns-in-None : goal.returns-in-None
-returns-in-None c =
-    let keys = c.args.places.now.keys in (
-      λ h. absurd (let clash : false ≡ true = h in cc),
-      λ w. absurd (not_any c.args.number keys (sym c.in-None.ensures.found) (in_at keys w.0 c.args.number w.1)),
-    )
+returns-in-None c = grind (arith, not_any, in_at)
