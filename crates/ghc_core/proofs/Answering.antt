@@ -1,8 +1,7 @@
 -- Each event has one answer at most.
-use Rattle.ghc_core.proofs.Words.{◌≡◌, ℕ, List, ◌∷◌, true, false, refl, sym, ap, ◌∙◌, subst, ◌⊎◌, inl, inr, Some, None, GoalName, Goal, value_at, is_stream, Given as given, Closed as closed, effect_once, attempt_once, Fault, Record, numbers, query_state, Runs, Entry, run_once, record_once, IsSplitAt, IsLawful, IsInOrder, orders, consequences, HasStatus, status_once, Option, Proposal, Hands, with_hand, World, with_step, Change, Goes as goes, Coming, Going, Gone, all_gone, with_coming, without_steps, with_order, entry_of_going, CanChange, AreTakenAway, Changes, Command, input, finish, undo, roll, redo, arrange, ask, Event, propose, commit, note, command, Reply, stepped, undone, noted, refused, Asks, to_give, to_close, to_undo, to_roll, to_redo, to_arrange, to_ask, told_of, Fails, HasHand, hands_after, AsksFor, by_hand, by_command, Says, IsRefusedFor, Answers, no_hand, makes, says, fails, no_memory, IsToldWhere, AttemptAnswers, CommitFails, same_act, same_effect, same_fault, apart, IsOrderly, OrderedHasOneAnswer, EventsHaveOneAnswer}
+use Rattle.ghc_core.proofs.Words.{◌≡◌, ℕ, List, ◌∷◌, refl, sym, ap, ◌∙◌, subst, ◌⊎◌, inl, inr, Some, GoalName, value_at, Given as given, Closed as closed, effect_once, attempt_once, Fault, Record, numbers, query_state, Runs, Entry, run_once, record_once, IsSplitAt, IsLawful, IsInOrder, orders, consequences, HasStatus, status_once, Option, Proposal, Hands, with_hand, World, with_step, Change, Goes as goes, Coming, Going, Gone, all_gone, with_coming, without_steps, with_order, entry_of_going, CanChange, AreTakenAway, Changes, Command, input, finish, undo, roll, redo, arrange, ask, Event, propose, commit, note, command, Reply, stepped, undone, noted, refused, Asks, to_give, to_close, to_undo, to_roll, to_redo, to_arrange, to_ask, told_of, Fails, HasHand, hands_after, AsksFor, by_hand, by_command, Says, IsRefusedFor, Answers, no_hand, makes, says, fails, no_memory, AttemptAnswers, CommitFails, same_act, same_effect, same_fault, apart, IsOrderly, OrderedHasOneAnswer, EventsHaveOneAnswer, Goal, is_stream, IsNoCandidate, true≢false, false, arith, IsToldWhere, None}
 use Rattle.std.specs.FinMap as finite
 use Rattle.ghc_core.proofs.Alone.{none_follow}
-use Rattle.ghc_core.specs.Proposes as asking
 use Rattle.ghc_fire.specs.Attempt as attempt
 use Rattle.ghc_core.proofs.AskedGoals.{ask_fails_once, ask_or_fail, one_ask}
 use Rattle.ghc_core.proofs.Reaching.{reached}
@@ -10,22 +9,10 @@ use Rattle.ghc_core.proofs.Refusing.{told_once, first_once, stream_fails_once, c
 use Rattle.ghc_core.proofs.Reversing.{undo_fails_once, undo_or_fail, redo_or_fail, redo_fails_once}
 use Rattle.ghc_core.proofs.Stepping.{step_once, commit_or_fail, stream_step_or_fail, one_stream_step}
 
-two_answers : (b : _) → b ≡ true → b ≡ false → ⊥
-two_answers b p q = let e : true ≡ false = sym p ∙ q in cc
-
--- neither a proposal nor a note asks for a change
-proposal_asks : {w : World} {hands : Hands} {e : Event} {change : Change} {h : ℕ} {g : GoalName} {choice : Option ℕ} → AsksFor w hands e change → e ≡ propose h g choice → ⊥
-proposal_asks (by_hand there c) same = cc
-proposal_asks (by_command a) same = cc
-
-note_asks : {w : World} {hands : Hands} {e : Event} {change : Change} {g : GoalName} → AsksFor w hands e change → e ≡ note g → ⊥
-note_asks (by_hand there c) same = cc
-note_asks (by_command a) same = cc
-
 module _ (w : World) (ordered : IsOrderly w) where
-  no_candidate : (g : GoalName) (b : Goal) → finite.get w.state.goals g ≡ Some b → is_stream b ≡ false → ¬ asking.IsNoCandidate w g
+  no_candidate : (g : GoalName) (b : Goal) → finite.get w.state.goals g ≡ Some b → is_stream b ≡ false → ¬ IsNoCandidate w g
   no_candidate g b e n (inl p) = has_not e p
-  no_candidate g b e n (inr p) = two_answers (is_stream b) (ap is_stream (value_once e p.1) ∙ p.2) n
+  no_candidate g b e n (inr p) = true≢false (sym p.2 ∙ ap is_stream (value_once p.1 e) ∙ n)
 
   -- a change that can be made is not refused
   made_or_fails : (c : Command) (change : Change) (f : Fault) → Asks c change → CanChange w change → ¬ Fails w c f
@@ -86,8 +73,8 @@ module _ (w : World) (ordered : IsOrderly w) where
   module _ (hands : Hands) where
     -- an event asks for a change, or says what it found
     asks_no_say : {e : Event} {change : Change} {reply : Reply} {left : Hands} → AsksFor w hands e change → Says w hands e reply left → ⊥
-    asks_no_say a (Says.holds p is) = proposal_asks a refl
-    asks_no_say a (Says.tells status) = note_asks a refl
+    asks_no_say (by_hand there c) said = elim said [ ]
+    asks_no_say (by_command a) said = elim said [ ]
 
     -- an event asks for one change, which is told in one way and leaves one world
     asked_once : {e : Event} {x y : Change} {u v : World} → AsksFor w hands e x → AsksFor w hands e y → CanChange w x → CanChange w y → Changes w x u → Changes w y v → (told_of x ≡ told_of y) × (u ≡ v)
@@ -140,10 +127,7 @@ Once {X} P = (x y : X) → P x → P y → x ≡ y
 
 -- Of two alternatives that exclude each other, each of one thing at most, one holds of one thing.
 either_once : {X : Type 0} (A B : X → Type 0) → Once A → Once B → ((x y : X) → A x → B y → ⊥) → Once (λ x. A x ⊎ B x)
-either_once A B one other never x y (inl p) (inl q) = one x y p q
-either_once A B one other never x y (inl p) (inr q) = absurd (never x y p q)
-either_once A B one other never x y (inr p) (inl q) = absurd (never y x q p)
-either_once A B one other never x y (inr p) (inr q) = other x y p q
+either_once A B one other never x y p q = grind arith
 
 -- what is left of an event: its reply, the world, and the hands
 abbrev Left : Type 0

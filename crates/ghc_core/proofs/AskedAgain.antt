@@ -1,12 +1,7 @@
 -- Steps that ask for goals, found again: which goals a step can ask for, and its own variables in order.
-use Rattle.ghc_core.proofs.Words.{◌≡◌, ◌≢◌, ℕ, zero, suc, ◌+◌, ◌<◌, ◌≤◌, ◌==◌, true, false, List, [], ◌∷◌, ◌++◌, length, take, drop, get_or, filter, refl, sym, ap, ◌∙◌, subst, inl, inr, arith, append-nil, None, eq-eqb, ne_eqb, take-suc, filter-append, VarName, Goal, call, unify, assign, stream, In, AreNarrow, Program, AllCalls, is_stream, most_goals, made, Asked as asked, own_variables, made_from, effect_of_asking, variables_asked, Record, Fires, Step, step_of, not_stream, not_both, firing, World, HasRoom, IsKnown, IsNextStep, HasClauseFor, CanBeAsked}
+use Rattle.ghc_core.proofs.Words.{◌≡◌, ◌≢◌, ℕ, zero, suc, ◌+◌, ◌<◌, ◌≤◌, ◌==◌, List, [], ◌∷◌, ◌++◌, length, take, drop, get_or, filter, refl, sym, ap, ◌∙◌, subst, inl, inr, arith, append-nil, None, eq-eqb, ne_eqb, filter-append, VarName, Goal, call, stream, In, AreNarrow, Program, AllCalls, is_stream, most_goals, made, Asked as asked, own_variables, made_from, effect_of_asking, variables_asked, Record, Fires, Step, step_of, not_stream, not_both, firing, World, HasRoom, IsKnown, IsNextStep, HasClauseFor, CanBeAsked, made_more, take_more, true≢false}
 use Rattle.ghc_fire.specs.Asked.{Asks}
 use Rattle.ghc_core.proofs.AskedGoals.{defined_by, defined_calls}
-
--- made variables, and one more
-made_push : (n i k : ℕ) → made_from n i k ++ made n (i + k) ∷ [] ≡ made_from n i (suc k)
-made_push n i zero = λ j. made n (let e : i + 0 ≡ i = omega arith in e j) ∷ []
-made_push n i (suc k) = let e : i + suc k ≡ i + 1 + k = omega arith in ap (λ l. made n i ∷ l) (ap (λ p. made_from n (i + 1) k ++ made n p ∷ []) e ∙ made_push n (i + 1) k)
 
 -- behind made variables stands the next one
 made_next : (n i c k : ℕ) (x : VarName) (rest : List VarName) → made_from n i c ++ x ∷ rest ≡ made_from n i k → x ≡ made n (i + c)
@@ -38,19 +33,16 @@ module _ (n : ℕ) (xs : List VarName) (i : ℕ) (d : VarName) (less : i < lengt
   abbrev x : VarName
   x = get_or xs i d
 
-  more : take (i + 1) xs ≡ take i xs ++ x ∷ []
-  more = ap (λ k. take k xs) (let p : i + 1 ≡ suc i = omega arith in p) ∙ take-suc xs i d less
-
   -- one variable more of the step is the next one
   pub own_more : x.step ≡ n → x.place ≡ c + 1 → own n (take (i + 1) xs) ≡ made_from n 1 x.place
   own_more step place =
       let same : x ≡ made n (1 + c) = let p : x.place ≡ 1 + c = omega (arith, place) in λ j. record { step = step j; place = p j } in
       let count : suc c ≡ x.place = omega (arith, place) in
-      ap (own n) more ∙ filter-append (λ y. y.step == n) (take i xs) (x ∷ []) ∙ ap (λ l. own n (take i xs) ++ l) (own_yes n x [] step) ∙ (λ j. before j ++ same j ∷ []) ∙ made_push n 1 c ∙ ap (made_from n 1) count
+      ap (own n) (take_more xs i d less) ∙ filter-append (λ y. y.step == n) (take i xs) (x ∷ []) ∙ ap (λ l. own n (take i xs) ++ l) (own_yes n x [] step) ∙ (λ j. before j ++ same j ∷ []) ∙ made_more n 1 c ∙ ap (made_from n 1) count
 
   -- one of another step is none
   pub own_other : x.step ≢ n → own n (take (i + 1) xs) ≡ made_from n 1 c
-  own_other other = ap (own n) more ∙ filter-append (λ y. y.step == n) (take i xs) (x ∷ []) ∙ ap (λ l. own n (take i xs) ++ l) (own_no n x [] other) ∙ append-nil (own n (take i xs)) ∙ before
+  own_other other = ap (own n) (take_more xs i d less) ∙ filter-append (λ y. y.step == n) (take i xs) (x ∷ []) ∙ ap (λ l. own n (take i xs) ++ l) (own_no n x [] other) ∙ append-nil (own n (take i xs)) ∙ before
 
   -- one that is not the next one is in no order
   pub own_never : (k : ℕ) → x.step ≡ n → x.place ≢ c + 1 → own n xs ≢ made_from n 1 k
@@ -64,23 +56,17 @@ module _ (n : ℕ) (xs : List VarName) (i : ℕ) (d : VarName) (less : i < lengt
 -- Goals that can be asked for, one by one, are so together.
 pub plain_by : (P : Program) (gs : List Goal) → CanBeAsked P gs → filter is_stream gs ≡ []
 plain_by P [] all = refl
-plain_by P (call f ts ∷ gs) all = plain_by P gs (λ g i. all g (inr i))
-plain_by P (unify l r ∷ gs) all = plain_by P gs (λ g i. all g (inr i))
-plain_by P (assign x t ∷ gs) all = plain_by P gs (λ g i. all g (inr i))
 plain_by P (stream k x ∷ gs) all = absurd (all (stream k x) (inl refl))
+plain_by P (g ∷ gs) all = plain_by P gs (λ h i. all h (inr i))
 
 -- no stream is among plain goals
 none_stream : (gs : List Goal) (k : ℕ) (x : VarName) → filter is_stream gs ≡ [] → ¬ In (stream k x) gs
-none_stream gs k x plain i = not_both_bool (not_stream gs (stream k x) plain i)
-  where
-    not_both_bool : true ≡ false → ⊥
-    not_both_bool e = cc
+none_stream gs k x plain i = true≢false (not_stream gs (stream k x) plain i)
 
 pub each_by : (P : Program) (gs : List Goal) → filter is_stream gs ≡ [] → AreNarrow gs → AllCalls (HasClauseFor P) gs → CanBeAsked P gs
 each_by P gs plain narrow all (call f ts) i = (narrow f ts i, all f ts i)
-each_by P gs plain narrow all (unify l r) i = tt
-each_by P gs plain narrow all (assign x t) i = tt
 each_by P gs plain narrow all (stream k x) i = absurd (none_stream gs k x plain i)
+each_by P gs plain narrow all g i = tt
 
 -- the step that asks for the goals under the next number
 abbrev pub asking : ℕ → List Goal → Step
@@ -114,9 +100,6 @@ module _ (w : World) (gs : List Goal) where
     -- Else it is not.
     pub asking_each : CanBeAsked w.opening.program gs
     asking_each = each_by w.opening.program gs asks.askable.plain asks.askable.narrow (defined_calls w.opening.program gs asks.defined)
-
-    pub asking_own : (k : ℕ) × (own_variables w.next gs ≡ made_from w.next 1 k)
-    asking_own = (r.effect.fresh, asks.own)
 
     -- what it names is known, so that of each record of the step is
     pub asking_known : (q : Record) → q.number ≡ w.next → q.act ≡ asked gs → IsKnown w q

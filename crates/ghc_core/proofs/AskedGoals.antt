@@ -1,9 +1,8 @@
 -- Asks: each is refused for one reason, or asks for one step.
-use Rattle.ghc_core.proofs.Words.{◌≡◌, ◌≢◌, ◌↔◌, ◌<◌, ℕ, ◌+◌, ◌⊎◌, Bool, false, not, eqb, IsTrue, List, [], ◌∷◌, length, map, filter, rules, refl, sym, ap, ◌∙◌, subst, inl, inr, arith, None, coded_list, coded_ℕ, false≢true, eqb_tells, length-map, Fault, VarName, IsAcyclic, Tree, Goal, call, unify, assign, stream, In, value_at, Decided, decided_by, decided_both, nat_decided, same_decided, some_decided, in_map, in_at, at_of_in, in_middle, compare_splits, Program, AllCalls, IsFirstCallWithout, AreDefined, is_stream, AreNumbersFor, variables_of_goals, firsts, same_call, call_name, call_arity, Asked as asked, IsAsk, NameNoneOf, asked_as, renumbered, variables_asked, Effect, no_step, replace, replace_in_goal, numbered, asks_as, asked_names, numbered_firsts, Record, first_in, of_query, not_both, fires_once, IsAsking, firing, HasClauseFor, HasUndefined, NameKnown, IsOfAsk, AskFails, IsNotAskedAnyway, World, IsFull, HasRoom, IsKnown, IsNextStep, IsStanding}
+use Rattle.ghc_core.proofs.Words.{◌≡◌, ◌≢◌, ◌↔◌, ◌<◌, ℕ, ◌+◌, ◌⊎◌, Bool, false, not, eqb, IsTrue, List, [], ◌∷◌, length, map, filter, rules, refl, sym, ap, ◌∙◌, subst, inl, inr, arith, None, coded_list, coded_ℕ, false≢true, eqb_tells, length-map, Fault, VarName, IsAcyclic, Tree, Goal, call, In, value_at, Decided, decided_by, decided_both, nat_decided, same_decided, some_decided, in_map, in_at, at_of_in, Program, AllCalls, IsFirstCallWithout, AreDefined, is_stream, AreNumbersFor, variables_of_goals, firsts, same_call, Asked as asked, IsAsk, NameNoneOf, asked_as, renumbered, variables_asked, Effect, no_step, replace, replace_in_goal, numbered, asks_as, asked_names, numbered_firsts, Record, first_in, of_query, not_both, fires_once, IsAsking, firing, HasClauseFor, HasUndefined, NameKnown, IsOfAsk, AskFails, IsNotAskedAnyway, World, IsFull, HasRoom, IsKnown, IsNextStep, IsStanding, call_once, no_call, firsts_in}
 use Rattle.ghc_fire.specs.Asked.{Asks}
 use Rattle.ghc_core.proofs.Answered.{room}
 use Rattle.ghc_core.proofs.Naming.{all_decided}
-use Rattle.ghc_core.proofs.QueryVariables.{of_firsts}
 use Rattle.ghc_core.proofs.Reaching.{reached_good}
 use Rattle.ghc_core.proofs.Refusing.{TellsOne, told_once, first_once}
 use Rattle.ghc_core.proofs.Standing.{standing_below, standing_sound}
@@ -65,20 +64,7 @@ module _ (D : List ℕ → ℕ → Type 0) where
     | inl d ↦ call_more (call f ts) gs (λ h us e. same_call D f h ts us (sym e) d) (calls_decided decide gs)
     | inr n ↦ inr (f, length ts, record { front = []; arguments = ts; back = gs; splits = refl; arity = refl; before = λ h us i. absurd i; without = n })
   ]
-  calls_decided decide (unify l r ∷ gs) = call_more (unify l r) gs (λ h us e. cc) (calls_decided decide gs)
-  calls_decided decide (assign t a ∷ gs) = call_more (assign t a) gs (λ h us e. cc) (calls_decided decide gs)
-  calls_decided decide (stream k s ∷ gs) = call_more (stream k s) gs (λ h us e. cc) (calls_decided decide gs)
-
-  -- there is one first call without, and none where D holds of all
-  pub first_call_once : (gs : List Goal) (f h : List ℕ) (n k : ℕ) → IsFirstCallWithout D gs f n → IsFirstCallWithout D gs h k → (f ≡ h) × (n ≡ k)
-  first_call_once gs f h n k p q = elim (compare_splits p.front q.front (call f p.arguments) (call h q.arguments) p.back q.back (sym p.splits ∙ q.splits)) [
-    | inl e ↦ (call_name f h p.arguments q.arguments e.1, p.arity ∙ call_arity f h p.arguments q.arguments e.1 ∙ sym q.arity)
-    | inr (inl m) ↦ absurd (p.without (subst (D f) (sym p.arity) (q.before f p.arguments (subst (In (call f p.arguments)) (sym m.1) (in_middle p.front (call f p.arguments) m.0)))))
-    | inr (inr m) ↦ absurd (q.without (subst (D h) (sym q.arity) (p.before h q.arguments (subst (In (call h q.arguments)) (sym m.1) (in_middle q.front (call h q.arguments) m.0)))))
-  ]
-
-  pub no_first_call : (gs : List Goal) (f : List ℕ) (n : ℕ) → AllCalls D gs → ¬ IsFirstCallWithout D gs f n
-  no_first_call gs f n all p = p.without (subst (D f) (sym p.arity) (all f p.arguments (subst (In (call f p.arguments)) (sym p.splits) (in_middle p.front (call f p.arguments) p.back))))
+  calls_decided decide (g ∷ gs) = call_more g gs (λ h us e. cc) (calls_decided decide gs)
 
 -- calls are defined just where the program has a clause for each
 pub defined_by : (P : Program) (gs : List Goal) → AllCalls (HasClauseFor P) gs → AreDefined P gs
@@ -92,7 +78,7 @@ module _ (w : World) (gs : List Goal) where
   undefined_told f n first = record { first = inl (f, n, refl, first) }
 
   none_undefined : AllCalls (HasClauseFor w.opening.program) gs → (f : Fault) → ¬ HasUndefined w gs f
-  none_undefined all f (name, n, e, first) = no_first_call (HasClauseFor w.opening.program) gs name n all first
+  none_undefined all f (name, n, e, first) = no_call (HasClauseFor w.opening.program) gs name n all first
 
   pub unknown_told : AllCalls (HasClauseFor w.opening.program) gs → ¬ NameKnown w gs → AskFails w gs Fault.NoVariable
   unknown_told all unknown = record { first = inr (none_undefined all, inl (refl, unknown)) }
@@ -102,33 +88,21 @@ module _ (w : World) (gs : List Goal) where
 
   -- An ask is refused for one reason.
   undefined_once : TellsOne (HasUndefined w gs)
-  undefined_once f g (a, n, e, p) (b, m, h, q) = let same = first_call_once (HasClauseFor w.opening.program) gs a b n m p q in e ∙ (λ i. Fault.Undefined (same.0 i) (same.1 i)) ∙ sym h
+  undefined_once f g (a, n, e, p) (b, m, h, q) = let same = call_once (HasClauseFor w.opening.program) gs a b n m p q in e ∙ (λ i. Fault.Undefined (same.0 i) (same.1 i)) ∙ sym h
 
   pub ask_fails_once : {f g : Fault} → AskFails w gs f → AskFails w gs g → f ≡ g
   ask_fails_once {f} {g} p q = first_once _ _ undefined_once (first_once _ _ (told_once _ _) (told_once _ _)) f g p.first q.first
 
   -- what is said where it is refused for these
   pub said_no_variable : {f : Fault} → AskFails w gs f → f ≡ Fault.NoVariable → ¬ NameKnown w gs
-  said_no_variable p same known = elim p.first [
-    | inl (name, n, e, first) ↦ let clash : Fault.Undefined name n ≡ Fault.NoVariable = sym e ∙ same in cc
-    | inr (_, inl (_, unknown)) ↦ unknown known
-    | inr (_, inr (_, (e, _))) ↦ let clash : Fault.Full ≡ Fault.NoVariable = sym e ∙ same in cc
-  ]
+  said_no_variable p same known = grind arith
 
   pub said_full : {f : Fault} → AskFails w gs f → f ≡ Fault.Full → IsFull w
-  said_full p same = elim p.first [
-    | inl (name, n, e, first) ↦ let clash : Fault.Undefined name n ≡ Fault.Full = sym e ∙ same in cc
-    | inr (_, inl (e, _)) ↦ let clash : Fault.NoVariable ≡ Fault.Full = sym e ∙ same in cc
-    | inr (_, inr (_, (_, many))) ↦ many
-  ]
+  said_full p same = grind arith
 
   -- An ask is refused for nothing but these.
   pub ask_told : {f : Fault} → AskFails w gs f → (f ≢ Fault.NoStream) × (f ≢ Fault.TailBound) × (f ≢ Fault.Command)
-  ask_told {f} p = elim p.first [
-    | inl (name, n, e, first) ↦ ((λ q. let clash : Fault.Undefined name n ≡ Fault.NoStream = sym e ∙ q in cc), (λ q. let clash : Fault.Undefined name n ≡ Fault.TailBound = sym e ∙ q in cc), (λ q. let clash : Fault.Undefined name n ≡ Fault.Command = sym e ∙ q in cc))
-    | inr (_, inl (e, _)) ↦ ((λ q. let clash : Fault.NoVariable ≡ Fault.NoStream = sym e ∙ q in cc), (λ q. let clash : Fault.NoVariable ≡ Fault.TailBound = sym e ∙ q in cc), (λ q. let clash : Fault.NoVariable ≡ Fault.Command = sym e ∙ q in cc))
-    | inr (_, inr (_, (e, _))) ↦ ((λ q. let clash : Fault.Full ≡ Fault.NoStream = sym e ∙ q in cc), (λ q. let clash : Fault.Full ≡ Fault.TailBound = sym e ∙ q in cc), (λ q. let clash : Fault.Full ≡ Fault.Command = sym e ∙ q in cc))
-  ]
+  ask_told p = grind arith
 
   -- what is told whatever memory is left is why
   pub one_ask_refusal : {f g : Fault} → AskFails w gs f → IsNotAskedAnyway w gs g → f ≡ g
@@ -189,7 +163,7 @@ module _ (w : World) (s : IsStanding w) (gs : List Goal) (ask : IsAsk gs) (known
 
   pub ask_known : (r : Record) → r.number ≡ w.next → r.act ≡ asked (asked_as w.next gs) → IsKnown w r
   ask_known r number act x named =
-      let there : In x (variables_of_goals (asked_as w.next gs)) = of_firsts [] (variables_of_goals (asked_as w.next gs)) x (subst (λ a. In x (variables_asked a)) act named.0) in
+      let there : In x (variables_of_goals (asked_as w.next gs)) = firsts_in [] (variables_of_goals (asked_as w.next gs)) x (subst (λ a. In x (variables_asked a)) act named.0) in
       let was = asked_names gs w.next x ask.0.plain none_of_next there (λ own. named.1 (own ∙ sym number)) in
       known x was.0 was.1
 

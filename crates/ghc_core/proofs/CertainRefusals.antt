@@ -1,8 +1,8 @@
 -- What is refused whatever memory is left.
-use Rattle.ghc_core.proofs.Words.{◌≡◌, ℕ, sym, ap, subst, ◌∙◌, inl, inr, Some, None, Result, Err, Option, GoalName, Fault, Record, Follows, IsKeptAs, Proposal, Hands, IsHand, World, IsStanding, Reply, refused, AttemptAnswers, IsNoCandidate, IsToldWhere, UndoFails, FindsNothing, IsNotProposedAnyway, HoldsNoGoal, IsNotCommittedAnyway}
+use Rattle.ghc_core.proofs.Words.{◌≡◌, ℕ, sym, ap, subst, ◌∙◌, inl, inr, Some, None, Result, Err, Option, GoalName, Fault, Record, Follows, IsKeptAs, Proposal, Hands, IsHand, World, IsStanding, Reply, refused, AttemptAnswers, IsNoCandidate, IsToldWhere, UndoFails, IsNotProposedAnyway, HoldsNoGoal, IsNotCommittedAnyway, arith}
 use Rattle.std.specs.FinMap as finite
 use Rattle.ghc_fire.specs.Attempt as attempt
-use Rattle.ghc_core.proofs.Refusing.{told_first, told_next, has_not, value_once}
+use Rattle.ghc_core.proofs.Refusing.{has_not, value_once}
 use Rattle.ghc_core.proofs.Reversing.{undo_fails_once, undo_or_fail}
 use Rattle.ghc_core.proofs.Standing.{standing_orderly}
 
@@ -21,22 +21,19 @@ module _ (w : World) where
   module _ (hands : Hands) (h : ℕ) where
     -- a hand that is not there
     pub no_hand_proposed : (g : GoalName) (choice : Option ℕ) {f : Fault} → ¬ IsHand hands h → IsNotProposedAnyway w hands h g choice f → refused Fault.Command ≡ refused f
-    no_hand_proposed g choice {f} none fails = ap refused (sym (told_first Fault.Command (¬ IsHand hands h) (FindsNothing w g choice) f none fails.first))
+    no_hand_proposed g choice none fails = grind arith
 
     pub no_hand_committed : {f : Fault} → ¬ IsHand hands h → IsNotCommittedAnyway w hands h f → refused Fault.Command ≡ refused f
-    no_hand_committed {f} none fails = ap refused (sym (told_first Fault.Command (¬ IsHand hands h) (IsToldWhere Fault.Stale (HoldsNoGoal w hands h)) f none fails.first))
+    no_hand_committed none fails = grind arith
 
     -- what an attempt is refused for, whatever memory is left
     pub attempt_refused_anyway : (g : GoalName) (choice : Option ℕ) (result : Result Proposal Fault) {f : Fault} → IsHand hands h → (AttemptAnswers w g choice (attempt.refused Fault.NoGoal) → result ≡ Err Fault.NoGoal)
         → (AttemptAnswers w g choice (attempt.refused Fault.NoClause) → result ≡ Err Fault.NoClause) → IsNotProposedAnyway w hands h g choice f → result ≡ Err f
-    attempt_refused_anyway g choice result {f} i goal clause fails = elim (told_next Fault.Command (¬ IsHand hands h) (FindsNothing w g choice) f (λ none. none i) fails.first) [
-      | inl p ↦ goal p.1 ∙ ap (λ (x : Fault). Err x) (sym p.0)
-      | inr p ↦ clause p.1 ∙ ap (λ (x : Fault). Err x) (sym p.0)
-    ]
+    attempt_refused_anyway g choice result i goal clause fails = grind arith
 
     -- a hand that is there holds no goal that is there
     pub holds_no_goal : {f : Fault} → IsHand hands h → IsNotCommittedAnyway w hands h f → IsToldWhere Fault.Stale (HoldsNoGoal w hands h) f
-    holds_no_goal {f} i fails = told_next Fault.Command (¬ IsHand hands h) (IsToldWhere Fault.Stale (HoldsNoGoal w hands h)) f (λ none. none i) fails.first
+    holds_no_goal i fails = grind arith
 
     -- a hand that holds nothing, and one that holds a proposal
     pub empty_hand_committed : {f : Fault} → IsHand hands h → finite.get hands.held h ≡ None → IsNotCommittedAnyway w hands h f → refused Fault.Stale ≡ refused f

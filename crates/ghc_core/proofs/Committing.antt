@@ -1,5 +1,5 @@
 -- Proposals that hold: what an attempt would propose, the step that they become, and the one answer of a commit.
-use Rattle.ghc_core.proofs.Words.{◌≡◌, false, ℕ, refl, sym, ap, ◌∙◌, subst, inl, inr, Some, None, Option, VarName, GoalName, Fault, Tree, Goal, call, unify, assign, stream, IsAcyclic, value_at, exact, Program, is_stream, Act, ByClause as by_clause, Unified as unified, Assigned as assigned, Given as given, Closed as closed, Asked as asked, Effect, HasEffect, no_step, under, Answer, proposes, CallAnswers, ChoiceAnswers, UnificationAnswers, AssignmentAnswers, Attempts, effect_once, attempt_once, effect_under, same_act, same_effect, same_fault, apart, Record, World, HasRoom, AttemptAnswers, IsReduction, StillHolds, IsCommitOf, IsStepOf, ProposesInFull, StepFails, IsStanding, choice_of, CommitIsExact, StepIsExact, StreamStepIsExact}
+use Rattle.ghc_core.proofs.Words.{◌≡◌, false, ℕ, refl, sym, ap, ◌∙◌, subst, inl, inr, Some, None, Option, VarName, GoalName, Fault, Tree, Goal, call, unify, assign, stream, IsAcyclic, value_at, exact, Program, is_stream, Act, ByClause as by_clause, Unified as unified, Assigned as assigned, Given as given, Closed as closed, Effect, HasEffect, no_step, under, Answer, proposes, CallAnswers, ChoiceAnswers, UnificationAnswers, AssignmentAnswers, Attempts, effect_once, attempt_once, effect_under, same_act, same_effect, same_fault, apart, Record, World, HasRoom, AttemptAnswers, IsReduction, StillHolds, IsCommitOf, IsStepOf, ProposesInFull, StepFails, IsStanding, choice_of, CommitIsExact, StepIsExact, StreamStepIsExact}
 use Rattle.std.specs.FinMap as finite
 use Rattle.ghc_fire.specs.Proposal.{Proposal}
 use Rattle.ghc_fire.specs.Attempt.{refused}
@@ -33,10 +33,8 @@ proposed : (P : Program) (S : VarName → Option Tree) (b : Goal) (choice : Opti
 proposed P S (call f ts) None a e (CallAnswers.by_least l d) = (d, tt)
 proposed P S (call f ts) (Some k) a e (ChoiceAnswers.by_choice d) = (d, tt)
 proposed P S (unify l r) None a e (UnificationAnswers.solves d) = (d, tt)
-proposed P S (unify l r) (Some k) a e p = cc
 proposed P S (assign t b) None a e (AssignmentAnswers.assigns d) = (d, tt)
-proposed P S (assign t b) (Some k) a e p = cc
-proposed P S (stream k x) choice a e p = cc
+proposed P S b choice a e p = cc
 
 -- What an attempt at a goal proposes has this effect on it now, and is a reduction.
 pub proposed_holds : (w : World) (g : GoalName) (choice : Option ℕ) (b : Goal) (a : Act) (e : Effect) → finite.get w.state.goals g ≡ Some b → AttemptAnswers w g choice (proposes a e)
@@ -51,15 +49,10 @@ answered_holds w p choice b there t = let h = proposed_holds w p.goal choice b p
 
 -- a goal that a reduction has an effect on is no stream goal
 pub no_stream : (P : Program) (b : Goal) (a : Act) (n : ℕ) (S : VarName → Option Tree) (e : Effect) → IsReduction a → HasEffect P b a n S e → is_stream b ≡ false
-no_stream P (call f ts) a n S e r h = refl
-no_stream P (unify l r) a n S e _ h = refl
-no_stream P (assign t x) a n S e r h = refl
 no_stream P (stream k x) (given u) n S e r h = absurd r
 no_stream P (stream k x) closed n S e r h = absurd r
-no_stream P (stream k x) (by_clause _) n S e r h = absurd h
-no_stream P (stream k x) unified n S e r h = absurd h
-no_stream P (stream k x) assigned n S e r h = absurd h
-no_stream P (stream k x) (asked _) n S e r h = absurd h
+no_stream P (stream k x) a n S e r h = absurd h
+no_stream P b a n S e r h = refl
 
 -- A proposal that still holds is committed, where there is room, as this next step.
 pub next_step : (w : World) (p : Proposal) (b : Goal) → IsStanding w → StillHolds w p → finite.get w.state.goals p.goal ≡ Some b → HasRoom w

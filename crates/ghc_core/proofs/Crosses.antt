@@ -9,13 +9,9 @@ use Rattle.ghc_term.proofs.operator.Operator.TheSendSync as operator
 use Rattle.ghc_term.specs.contracts.term.Term as term
 use Rattle.ghc_term.specs.contracts.expr.Expr as expression
 use Rattle.ghc_term.specs.contracts.goal.Goal as goal
-use Rattle.ghc_term.specs.contracts.store.Store as store
-use Rattle.ghc_term.specs.contracts.ground.Ground as ground
 use Rattle.ghc_term.specs.contracts.bindings.Bindings as bindings
 use Rattle.ghc_term.specs.contracts.variables.Variables as variables
 use Rattle.ghc_fire.specs.contracts.act.Act as act
-use Rattle.ghc_fire.specs.contracts.asked.Asked as asked
-use Rattle.ghc_fire.specs.contracts.made.Made as made
 use Rattle.ghc_fire.specs.contracts.made.MadeGoal as made_goal
 use Rattle.ghc_fire.specs.contracts.effect.Effect as effect
 use Rattle.ghc_fire.specs.contracts.goals.Goals as goals
@@ -25,13 +21,8 @@ use Rattle.ghc_records.specs.contracts.slots.Slots as slots
 use Rattle.ghc_records.specs.contracts.use_index.UseIndex as use_index
 use Rattle.ghc_records.specs.contracts.shelf.Shelf as shelf
 use Rattle.ghc_records.specs.contracts.state.State as state
-use Rattle.ghc_records.specs.contracts.journal.Journal as journal
-use Rattle.ghc_records.specs.contracts.step.Step as step
 use Rattle.ghc_records.specs.contracts.history.History as history
-use Rattle.ghc_flat.specs.contracts.test.Test as test
-use Rattle.ghc_flat.specs.contracts.clause.Clause as clause
 use Rattle.ghc_flat.specs.contracts.program.Program as program
-use Rattle.ghc_reader.specs.contracts.written.Query as query
 use Rattle.ghc_hooks.specs.contracts.note.Note as note
 use Rattle.ghc_hooks.specs.contracts.notes.Notes as notes
 use Rattle.ghc_hooks.specs.contracts.goal_set.GoalSet as goal_set
@@ -49,67 +40,43 @@ expression_send : IsSend expression.the_row
 expression_send = search (term_send, term_sync, operator.the_send, operator.the_sync, of_expressions.crosses, crosses, sendable) depth 60 fits 20000
 
 expression_sync : IsSync expression.the_row
-expression_sync = search (term_sync, term_send, operator.the_send, operator.the_sync, of_expressions.crosses, crosses, sendable) depth 60 fits 20000
+expression_sync = search (term_sync, term_send, operator.the_sync, operator.the_send, of_expressions.crosses, crosses, sendable) depth 60 fits 20000
 
-pub goal_send : IsSend goal.the_row
+goal_send : IsSend goal.the_row
 goal_send = search (term_send, expression_send, crosses, sendable) depth 60 fits 20000
 
-pub goal_sync : IsSync goal.the_row
+goal_sync : IsSync goal.the_row
 goal_sync = search (term_sync, expression_sync, crosses, sendable) depth 60 fits 20000
 
-store_send : IsSend store.the_row
-store_send = search (term_send, crosses, sendable) depth 60 fits 20000
-
-store_sync : IsSync store.the_row
-store_sync = search (term_sync, crosses, sendable) depth 60 fits 20000
-
-pub ground_send : IsSend ground.the_row
-ground_send = search (term_send, crosses, sendable) depth 60 fits 20000
-
-pub ground_sync : IsSync ground.the_row
-ground_sync = search (term_sync, crosses, sendable) depth 60 fits 20000
-
-pub bindings_send : IsSend bindings.the_row
+bindings_send : IsSend bindings.the_row
 bindings_send = search (term_send, crosses, sendable) depth 60 fits 20000
 
-pub bindings_sync : IsSync bindings.the_row
+bindings_sync : IsSync bindings.the_row
 bindings_sync = search (term_sync, crosses, sendable) depth 60 fits 20000
 
-pub variables_send : IsSend variables.the_row
-variables_send = search (crosses, sendable) depth 60 fits 20000
+act_send : IsSend act.the_field.row
+act_send = search (term_send, goal_send, goal_sync, crosses, sendable) depth 60 fits 20000
 
-pub variables_sync : IsSync variables.the_row
-variables_sync = search (crosses, sendable) depth 60 fits 20000
-
-asked_send : IsSend asked.the_row
-asked_send = search (goal_send, goal_sync, crosses, sendable) depth 60 fits 20000
-
-asked_sync : IsSync asked.the_row
-asked_sync = search (goal_sync, goal_send, crosses, sendable) depth 60 fits 20000
-
-pub act_send : IsSend act.the_field.row
-act_send = search (ground_send, asked_send, crosses, sendable) depth 60 fits 20000
-
-pub act_sync : IsSync act.the_field.row
-act_sync = search (ground_sync, asked_sync, crosses, sendable) depth 60 fits 20000
-
-made_send : IsSend made.the_row
-made_send = search (goal_send, goal_sync, crosses, sendable) depth 60 fits 20000
-
-made_sync : IsSync made.the_row
-made_sync = search (goal_sync, goal_send, crosses, sendable) depth 60 fits 20000
+act_sync : IsSync act.the_field.row
+act_sync = search (term_sync, goal_sync, goal_send, crosses, sendable) depth 60 fits 20000
 
 made_goal_send : IsSend made_goal.the_row
-made_goal_send = search (made_send, crosses, sendable) depth 60 fits 20000
+made_goal_send = search (goal_send, goal_sync, crosses, sendable) depth 60 fits 20000
 
 made_goal_sync : IsSync made_goal.the_row
-made_goal_sync = search (made_sync, crosses, sendable) depth 60 fits 20000
+made_goal_sync = search (goal_sync, goal_send, crosses, sendable) depth 60 fits 20000
 
-pub effect_send : IsSend effect.the_row
-effect_send = search (made_send, bindings_send, variables_send, crosses, sendable) depth 60 fits 20000
+effect_send : IsSend effect.the_row
+effect_send = search (bindings_send, goal_send, goal_sync, crosses, sendable) depth 60 fits 20000
 
-pub effect_sync : IsSync effect.the_row
-effect_sync = search (made_sync, bindings_sync, variables_sync, crosses, sendable) depth 60 fits 20000
+effect_sync : IsSync effect.the_row
+effect_sync = search (bindings_sync, goal_sync, goal_send, crosses, sendable) depth 60 fits 20000
+
+taken_send : IsSend taken.the_row
+taken_send = search (made_goal_send, made_goal_sync, act_send, act_sync, effect_send, effect_sync, goal_name.the_send, goal_name.the_sync, crosses, sendable) depth 60 fits 20000
+
+taken_sync : IsSync taken.the_row
+taken_sync = search (made_goal_sync, made_goal_send, act_sync, act_send, effect_sync, effect_send, goal_name.the_sync, goal_name.the_send, crosses, sendable) depth 60 fits 20000
 
 goals_send : IsSend goals.the_row
 goals_send = search (made_goal_send, goal_name.the_send, maps.crosses, crosses, sendable) depth 60 fits 20000
@@ -117,11 +84,11 @@ goals_send = search (made_goal_send, goal_name.the_send, maps.crosses, crosses, 
 goals_sync : IsSync goals.the_row
 goals_sync = search (made_goal_sync, goal_name.the_sync, maps.crosses, crosses, sendable) depth 60 fits 20000
 
-pub taken_send : IsSend taken.the_row
-taken_send = search (made_goal_send, made_goal_sync, act_send, act_sync, effect_send, effect_sync, goal_name.the_send, goal_name.the_sync, crosses, sendable) depth 60 fits 20000
+state_send : IsSend state.the_row
+state_send = search (goals_send, term_send, crosses, sendable) depth 60 fits 20000
 
-pub taken_sync : IsSync taken.the_row
-taken_sync = search (made_goal_sync, made_goal_send, act_sync, act_send, effect_sync, effect_send, goal_name.the_sync, goal_name.the_send, crosses, sendable) depth 60 fits 20000
+state_sync : IsSync state.the_row
+state_sync = search (goals_sync, term_sync, crosses, sendable) depth 60 fits 20000
 
 slots_send : IsSend slots.the_row
 slots_send = search (taken_send, crosses, sendable) depth 60 fits 20000
@@ -147,58 +114,28 @@ shelf_send = search (taken_send, maps.crosses, crosses, sendable) depth 60 fits 
 shelf_sync : IsSync shelf.the_row
 shelf_sync = search (taken_sync, maps.crosses, crosses, sendable) depth 60 fits 20000
 
-state_send : IsSend state.the_row
-state_send = search (goals_send, store_send, crosses, sendable) depth 60 fits 20000
-
-state_sync : IsSync state.the_row
-state_sync = search (goals_sync, store_sync, crosses, sendable) depth 60 fits 20000
-
-journal_send : IsSend journal.the_row
-journal_send = search (taken_send, crosses, sendable) depth 60 fits 20000
-
-journal_sync : IsSync journal.the_row
-journal_sync = search (taken_sync, crosses, sendable) depth 60 fits 20000
-
-step_send : IsSend step.the_row
-step_send = search (goal_name.the_send, act_send, crosses, sendable) depth 60 fits 20000
-
-step_sync : IsSync step.the_row
-step_sync = search (goal_name.the_sync, act_sync, crosses, sendable) depth 60 fits 20000
-
 history_send : IsSend history.the_row
-history_send = search (step_send, crosses, sendable) depth 60 fits 20000
+history_send = search (act_send, goal_name.the_send, crosses, sendable) depth 60 fits 20000
 
 history_sync : IsSync history.the_row
-history_sync = search (step_sync, crosses, sendable) depth 60 fits 20000
-
-test_send : IsSend test.the_row
-test_send = search (expression_send, crosses, sendable) depth 60 fits 20000
-
-test_sync : IsSync test.the_row
-test_sync = search (expression_sync, crosses, sendable) depth 60 fits 20000
-
-clause_send : IsSend clause.the_row
-clause_send = search (term_send, goal_send, test_send, crosses, sendable) depth 60 fits 20000
-
-clause_sync : IsSync clause.the_row
-clause_sync = search (term_sync, goal_sync, test_sync, crosses, sendable) depth 60 fits 20000
+history_sync = search (act_sync, goal_name.the_sync, crosses, sendable) depth 60 fits 20000
 
 program_send : IsSend program.the_row
-program_send = search (clause_send, crosses, sendable) depth 60 fits 20000
+program_send = search (term_send, expression_send, goal_send, crosses, sendable) depth 60 fits 20000
 
 program_sync : IsSync program.the_row
-program_sync = search (clause_sync, crosses, sendable) depth 60 fits 20000
+program_sync = search (term_sync, expression_sync, goal_sync, crosses, sendable) depth 60 fits 20000
 
-query_send : IsSend query.the_row
-query_send = search (goal_send, crosses, sendable) depth 60 fits 20000
+variables_send : IsSend variables.the_row
+variables_send = search (crosses, sendable) depth 60 fits 20000
 
-query_sync : IsSync query.the_row
-query_sync = search (goal_sync, crosses, sendable) depth 60 fits 20000
+variables_sync : IsSync variables.the_row
+variables_sync = search (crosses, sendable) depth 60 fits 20000
 
-pub note_send : IsSend note.the_row
+note_send : IsSend note.the_row
 note_send = search (variables_send, crosses, sendable) depth 60 fits 20000
 
-pub note_sync : IsSync note.the_row
+note_sync : IsSync note.the_row
 note_sync = search (variables_sync, crosses, sendable) depth 60 fits 20000
 
 notes_send : IsSend notes.the_row
@@ -226,7 +163,7 @@ tries_sync : IsSync tries.the_row
 tries_sync = search (notes_sync, goal_set_sync, looks_sync, crosses, sendable) depth 60 fits 20000
 
 pub core_send : IsSend core.the_row
-core_send = search (program_send, query_send, state_send, records_send, shelf_send, journal_send, history_send, tries_send, crosses, sendable) depth 60 fits 20000
+core_send = search (program_send, goal_send, state_send, records_send, shelf_send, taken_send, history_send, tries_send, crosses, sendable) depth 60 fits 20000
 
 pub core_sync : IsSync core.the_row
-core_sync = search (program_sync, query_sync, state_sync, records_sync, shelf_sync, journal_sync, history_sync, tries_sync, crosses, sendable) depth 60 fits 20000
+core_sync = search (program_sync, goal_sync, state_sync, records_sync, shelf_sync, taken_sync, history_sync, tries_sync, crosses, sendable) depth 60 fits 20000

@@ -1,5 +1,5 @@
 -- Each event has an answer.
-use Rattle.ghc_core.proofs.Words.{◌≡◌, ◌≢◌, ℕ, ◌≤◌, true, false, Bool, List, length, refl, sym, ap, ◌∙◌, subst, inl, inr, arith, Some, None, Option, GoalName, Fault, Goal, goal_code, IsAcyclic, value_at, Decided, decided_both, IsProgram, is_stream, Act, ByClause as by_clause, Unified as unified, Assigned as assigned, Given as given, Closed as closed, Asked as asked, Effect, HasEffect, no_step, IsAsk, same_decided, each_answer, effect_decided, effect_each, each_status, kept_limit, Record, IsThere, HasStepEffect, Fires, decided, by_option, asking_fires, Comes as comes, Reorders as reorders, Coming, Proposal, Hands, IsHand, with_hand, emptied, World, with_step, with_coming, with_order, Command, input, finish, undo, roll, redo, arrange, ask, Event, propose, commit, note, command, Reply, held, stepped, noted, arranged, refused, Asks, to_give, to_close, to_redo, to_arrange, to_ask, Fails, Obeys, does, refuses, by_hand, Says, Answers, no_hand, makes, says, fails, IsProper, Reaches, IsOrderly}
+use Rattle.ghc_core.proofs.Words.{◌≡◌, ◌≢◌, ℕ, true, false, Bool, List, length, refl, sym, ap, ◌∙◌, subst, inl, inr, arith, Some, None, Option, GoalName, Fault, Goal, goal_code, IsAcyclic, value_at, Decided, decided_both, IsProgram, is_stream, Act, Given as given, Closed as closed, Asked as asked, Effect, HasEffect, no_step, IsAsk, same_decided, each_answer, effect_decided, effect_each, each_status, kept_limit, Record, IsThere, HasStepEffect, Fires, decided, by_option, asking_fires, Comes as comes, Reorders as reorders, Coming, Proposal, Hands, IsHand, with_hand, emptied, World, with_step, with_coming, with_order, Command, input, finish, undo, roll, redo, arrange, ask, Event, propose, commit, note, command, Reply, held, stepped, noted, arranged, refused, Asks, to_give, to_close, to_redo, to_arrange, to_ask, Fails, Obeys, does, refuses, by_hand, Says, Answers, no_hand, makes, says, fails, IsProper, Reaches, IsOrderly, le_decided, IsNextStep}
 use Rattle.std.specs.FinMap as finite
 use Rattle.ghc_fire.specs.Attempt as attempt
 use Rattle.ghc_core.specs.Proposes as asking
@@ -9,27 +9,19 @@ use Rattle.ghc_core.proofs.Answered.{room, IsActAnswered, act_answered}
 use Rattle.ghc_core.proofs.Moving.{obeyed_answers, noted_answers, reachable_reached}
 use Rattle.ghc_core.proofs.AskedGoals.{ask_answered}
 use Rattle.ghc_core.proofs.Naming.{known_decided, known_of_act}
-use Rattle.ghc_core.proofs.Refusing.{has_not, not_shelved, no_goal, no_variable, changed, full, stale, no_room}
+use Rattle.ghc_core.proofs.Refusing.{has_not, value_once, not_shelved, no_goal, no_variable, changed, full, stale, no_room}
 use Rattle.ghc_core.proofs.Returning.{undoes_answered, rolls_answered}
 use Rattle.ghc_core.proofs.Reaching.{reached_good, reached}
 use Rattle.ghc_core.proofs.Replayed.{replayed}
 
-at_most : (a b : ℕ) → Decided (a ≤ b)
-at_most a b = grind arith
-
 hand_decided : (hands : Hands) (h : ℕ) → Decided (IsHand hands h)
-hand_decided hands h = elim (at_most 1 h) [
-  | inr n ↦ inr (λ i. n i.0)
-  | inl l ↦ elim (at_most h hands.count) [ inr n ↦ inr (λ i. n i.1) | inl m ↦ inl (l, m) ]
-]
+hand_decided hands h = decided_both (le_decided 1 h) (le_decided h hands.count)
 
 reduction_decided : (a : Act) → Decided (asking.IsReduction a)
-reduction_decided (by_clause k) = inl tt
-reduction_decided unified = inl tt
-reduction_decided assigned = inl tt
 reduction_decided (given u) = inr (λ r. r)
 reduction_decided closed = inr (λ r. r)
 reduction_decided (asked gs) = inr (λ r. r)
+reduction_decided a = inl tt
 
 -- the command has an answer
 abbrev IsObeyed : World → Command → Type 0
@@ -70,35 +62,28 @@ module _ (w : World) (accepted : IsProgram w.opening.program) (acyclic : IsAcycl
   holds_decided : (p : Proposal) → Decided (asking.StillHolds w p)
   holds_decided p = elim (reduction_decided p.act) [
     | inr n ↦ inr (λ h. n h.1)
-    | inl r ↦ elim (finite.get w.state.goals p.goal) as (λ o. finite.get w.state.goals p.goal ≡ o → Decided (asking.StillHolds w p)) [
-      | None ↦ λ e. inr (λ h. let no_goal : None ≡ Some h.0 = sym e ∙ h.2 in cc)
-      | Some b ↦ λ e. elim (effect_decided w.opening.program b p.act no_step w.state.store p.effect accepted acyclic) [
-        | inl d ↦ inl (b, r, e, d)
-        | inr n ↦ inr (λ h.
-            let both : Some h.0 ≡ Some b = sym h.2 ∙ e in
-            let same : h.0 ≡ b = cc in
-            n (subst (λ z. HasEffect w.opening.program z p.act no_step (value_at w.state.store) p.effect) same h.3))
-      ]
-    ] refl
+    | inl r ↦ by_option (finite.get w.state.goals p.goal) (λ e. inr (λ h. has_not h.2 e)) (λ b e.
+        elim (effect_decided w.opening.program b p.act no_step w.state.store p.effect accepted acyclic) [
+          | inl d ↦ inl (b, r, e, d)
+          | inr n ↦ inr (λ h. n (subst (λ z. HasEffect w.opening.program z p.act no_step (value_at w.state.store) p.effect) (value_once h.2 e) h.3))
+        ])
   ]
 
   committed : (hands : Hands) (h : ℕ) → Answered w hands (commit h)
   committed hands h = elim (hand_decided hands h) [
     | inr n ↦ (refused Fault.Command, w, hands, no_hand n)
-    | inl i ↦ elim (finite.get hands.held h) as (λ o. finite.get hands.held h ≡ o → Answered w hands (commit h)) [
-      | None ↦ λ e. (refused Fault.Stale, w, emptied h hands, fails i (inl (refl, e)))
-      | Some p ↦ λ e. elim (holds_decided p) [
-        | inr n ↦ (refused Fault.Stale, w, emptied h hands, fails i (inr ((λ f none. has_not e none.1), (p, e, stale n))))
-        | inl s ↦ elim (room w) [
-          | inr many ↦ (refused Fault.Full, w, emptied h hands, fails i (inr ((λ f none. has_not e none.1), (p, e, no_room s many))))
-          | inl free ↦
-              let f = effect_each w.opening.program s.0 p.act no_step w.next (value_at w.state.store) p.effect s.3 in
-              let r : Record = record { number = w.next; goal = Some p.goal; consumed = Some s.0; act = p.act; effect = f.0 } in
-              let known = known_of_act w.opening.program w.opening.query w.kept r s.0 w.next (value_at w.state.store) f.0 f.1 in
-              (stepped w.next, with_step r w, emptied h hands, makes {change = comes Coming.Next r} i (by_hand e (s, (refl, ((s.0, refl, s.2), f.1), free, known), refl, refl)) (refl, ((s.0, refl, s.2), f.1), free, known) refl refl)
-        ]
+    | inl i ↦ by_option (finite.get hands.held h) (λ e. (refused Fault.Stale, w, emptied h hands, fails i (inl (refl, e)))) (λ p e. elim (holds_decided p) [
+      | inr n ↦ (refused Fault.Stale, w, emptied h hands, fails i (inr ((λ f none. has_not e none.1), (p, e, stale n))))
+      | inl s ↦ elim (room w) [
+        | inr many ↦ (refused Fault.Full, w, emptied h hands, fails i (inr ((λ f none. has_not e none.1), (p, e, no_room s many))))
+        | inl free ↦
+            let f = effect_each w.opening.program s.0 p.act no_step w.next (value_at w.state.store) p.effect s.3 in
+            let r : Record = record { number = w.next; goal = Some p.goal; consumed = Some s.0; act = p.act; effect = f.0 } in
+            let known = known_of_act w.opening.program w.opening.query w.kept r s.0 w.next (value_at w.state.store) f.0 f.1 in
+            let next : IsNextStep w r = (refl, ((s.0, refl, s.2), f.1), free, known) in
+            (stepped w.next, with_step r w, emptied h hands, makes {change = comes Coming.Next r} i (by_hand e (s, next, refl, refl)) next refl refl)
       ]
-    ] refl
+    ])
   ]
 
   noted_so : (g : GoalName) (b : Goal) (stream : Bool) → finite.get w.state.goals g ≡ Some b → is_stream b ≡ stream → (reply : Reply) × asking.Notes ⊥ w g reply
@@ -106,28 +91,17 @@ module _ (w : World) (accepted : IsProgram w.opening.program) (acyclic : IsAcycl
   noted_so g b false e s = let t = each_status w.opening.program w.state.store b accepted acyclic in (noted g t.0, asking.Notes.tells (b, e, s, t.1))
 
   noticed : (g : GoalName) → (reply : Reply) × asking.Notes ⊥ w g reply
-  noticed g = elim (finite.get w.state.goals g) as (λ o. finite.get w.state.goals g ≡ o → (reply : Reply) × asking.Notes ⊥ w g reply) [
-    | None ↦ λ e. (refused Fault.NoGoal, asking.Notes.no_goal (inl e))
-    | Some b ↦ λ e. noted_so g b (is_stream b) e refl
-  ] refl
+  noticed g = by_option (finite.get w.state.goals g) (λ e. (refused Fault.NoGoal, asking.Notes.no_goal (inl e))) (λ b e. noted_so g b (is_stream b) e refl)
 
   -- what a step consumes is there, or is not
   there_decided : (g : Option GoalName) (consumed : Option Goal) → Decided (IsThere w.state.goals g consumed)
   there_decided None None = inl refl
   there_decided None (Some b) = inr (λ e. let no : Some b ≡ None = e in cc)
-  there_decided (Some g) consumed = elim (finite.get w.state.goals g) as (λ o. finite.get w.state.goals g ≡ o → Decided (IsThere w.state.goals (Some g) consumed)) [
-    | None ↦ λ e. inr (λ h. let no_goal : None ≡ Some h.0 = sym e ∙ h.2 in cc)
-    | Some b ↦ λ e. by_goal g b e consumed
-  ] refl where
-    by_goal : (g : GoalName) (b : Goal) → finite.get w.state.goals g ≡ Some b → (consumed : Option Goal) → Decided (IsThere w.state.goals (Some g) consumed)
-    by_goal g b e None = inr (λ h. let nothing : None ≡ Some h.0 = h.1 in cc)
-    by_goal g b e (Some c) = elim (same_decided goal_code b c) [
-      | inl p ↦ inl (b, ap Some (sym p), e)
-      | inr n ↦ inr (λ h.
-          let there : Some h.0 ≡ Some b = sym h.2 ∙ e in
-          let consumed : Some c ≡ Some h.0 = h.1 in
-          n (cc))
-    ]
+  there_decided (Some g) consumed = by_option (finite.get w.state.goals g) (λ e. inr (λ h. has_not h.2 e)) (λ b e.
+      by_option consumed (λ none. inr (λ h. has_not h.1 none)) (λ c some. elim (same_decided goal_code b c) [
+        | inl p ↦ inl (b, some ∙ ap Some (sym p), e)
+        | inr n ↦ inr (λ h. n (value_once e h.2 ∙ value_once h.1 some))
+      ]))
 
   step_decided : (b : Goal) (consumed : Option Goal) (a : Act) (n : ℕ) (e : Effect) → consumed ≡ Some b → Decided (HasStepEffect w.opening.program consumed a n (value_at w.state.store) e)
   step_decided b consumed a n e same =
@@ -145,7 +119,7 @@ module _ (w : World) (accepted : IsProgram w.opening.program) (acyclic : IsAcycl
     | inr unknown ↦ (refused Fault.NoVariable, w, refuses (no_variable r e there unknown))
     | inl known ↦ elim (fires_decided r (shelved n r e).1) [
       | inr other ↦ (refused Fault.Changed, w, refuses (changed r e there known other))
-      | inl f ↦ elim (at_most kept_limit (length w.kept)) [
+      | inl f ↦ elim (le_decided kept_limit (length w.kept)) [
         | inl many ↦ (refused Fault.Full, w, refuses (full r e known f many))
         | inr few ↦
             let number : r.number ≡ n = (shelved n r e).0 in
@@ -154,23 +128,13 @@ module _ (w : World) (accepted : IsProgram w.opening.program) (acyclic : IsAcycl
     ]
   ]
 
-  from_shelf : (n : ℕ) (r : Record) → finite.get w.shelf n ≡ Some r → (g : Option GoalName) → r.goal ≡ g → Redone n
-  from_shelf n r e None s = with_goal n r e (λ g t. let no_name : None ≡ Some g = sym s ∙ t in cc)
-  from_shelf n r e (Some g) s = elim (finite.get w.state.goals g) as (λ o. finite.get w.state.goals g ≡ o → Redone n) [
-    | None ↦ λ q. (refused Fault.NoGoal, w, refuses (no_goal r g e s q))
-    | Some b ↦ λ q. with_goal n r e (λ h t none.
-        let both : Some g ≡ Some h = sym s ∙ t in
-        let same : g ≡ h = cc in
-        let here : finite.get w.state.goals h ≡ Some b = subst (λ z. finite.get w.state.goals z ≡ Some b) same q in
-        let clash : Some b ≡ None = sym here ∙ none in
-        cc)
-  ] refl
+  from_shelf : (n : ℕ) (r : Record) → finite.get w.shelf n ≡ Some r → Redone n
+  from_shelf n r e = by_option r.goal (λ none. with_goal n r e (λ g named lacking. has_not named none)) (λ g s. by_option (finite.get w.state.goals g)
+      (λ q. (refused Fault.NoGoal, w, refuses (no_goal r g e s q)))
+      (λ b q. with_goal n r e (λ h t lacking. has_not q (ap (finite.get w.state.goals) (value_once s t) ∙ lacking))))
 
   redone : (n : ℕ) → Redone n
-  redone n = elim (finite.get w.shelf n) as (λ o. finite.get w.shelf n ≡ o → Redone n) [
-    | None ↦ λ e. (refused Fault.NotShelved, w, refuses (not_shelved e))
-    | Some r ↦ λ e. from_shelf n r e r.goal refl
-  ] refl
+  redone n = by_option (finite.get w.shelf n) (λ e. (refused Fault.NotShelved, w, refuses (not_shelved e))) (from_shelf n)
 
 -- an act on a stream is a change for which the command asks, or is refused
 acted : (w : World) (c : Command) (k : ℕ) (act : Act) → ((r : Record) → streams.IsOfStream k act r → Asks c (comes Coming.Next r)) → ((f : Fault) → streams.StreamFails w k f → Fails w c f) → IsActAnswered w k act → IsObeyed w c

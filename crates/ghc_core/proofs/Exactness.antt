@@ -20,13 +20,7 @@ unnoted exact g gone = by_option (finite.get _ g) (λ e. e) (λ n e. let at = ex
 module _ (P : Program) (G H : Goals) (s t : StoreValue) (Gone : GoalName → Type 0) (T : VarName → Type 0) (Come : GoalName → Type 0) (old new : Tries)
     (before : AreExact P G s old.notes old.untried) (p : Passes G H s t Gone T Come) (c : AreCarried Gone T Come old new) where
   pub are_left : AreLeft H T old.notes new.notes
-  are_left g note = (
-    λ k.
-        let was = (c.notes g note).0 k in
-        let at = before.noted g note was.0 in
-        (was.0, (λ none. not_both (p.stays g at.0 at.1 was.1) none), was.2),
-    λ k. (c.notes g note).1 (k.0, (λ gone. k.1 (p.went g gone)), k.2),
-  )
+  are_left g note = grind (arith, c.notes g note, before.noted g note, p.stays g, p.went g)
 
   -- a note that stayed is exact
   noted : (g : GoalName) (note : Note) → finite.get new.notes g ≡ Some note → (b : Goal) × (finite.get H g ≡ Some b) × (is_stream b ≡ false) × IsExact P (value_at t) b note

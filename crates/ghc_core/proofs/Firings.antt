@@ -1,5 +1,5 @@
 -- How many firings are counted where entries are carried out.
-use Rattle.ghc_core.proofs.Words.{◌≡◌, ℕ, zero, suc, ◌+◌, ◌<◌, ◌≤◌, List, [], ◌∷◌, ◌++◌, map, length, take, get_or, refl, sym, ap, ◌∙◌, subst, arith, Some, None, Option, take-suc, map-append, take_all, GoalName, Meter, fired, entry_limit, Entry, took, undid, rolled, redid, reordered, said_by, WrittenEntry, after_firings, firings_of_step, firings_of_entry, firings_of_entries}
+use Rattle.ghc_core.proofs.Words.{◌≡◌, ℕ, zero, suc, ◌+◌, ◌<◌, ◌≤◌, List, [], ◌∷◌, ◌++◌, map, length, take, get_or, refl, sym, ap, ◌∙◌, subst, arith, Some, None, Option, map-append, take_all, GoalName, Meter, fired, entry_limit, Entry, took, said_by, WrittenEntry, after_firings, firings_of_step, firings_of_entry, firings_of_entries, take_more}
 
 -- firings, and then others
 firings_in_turn : (n k : ℕ) (m : Meter) → after_firings (n + k) m ≡ after_firings k (after_firings n m)
@@ -20,8 +20,7 @@ pub one_more_counted : (entries : List WrittenEntry) (i : ℕ) (e : WrittenEntry
     → new ≡ after_firings (firings_of_entries (map said_by (take (i + 1) entries))) old
 one_more_counted entries i e less is old now new done one =
     let said : List Entry = map said_by (take i entries) in
-    let more : take (i + 1) entries ≡ take i entries ++ e ∷ [] =
-    ap (λ n. take n entries) (let p : i + 1 ≡ suc i = omega arith in p) ∙ take-suc entries i e less ∙ ap (λ x. take i entries ++ x ∷ []) (sym is) in
+    let more : take (i + 1) entries ≡ take i entries ++ e ∷ [] = take_more entries i e less ∙ ap (λ x. take i entries ++ x ∷ []) (sym is) in
     let written : map said_by (take (i + 1) entries) ≡ said ++ said_by e ∷ [] = ap (map said_by) more ∙ map-append said_by (take i entries) (e ∷ []) in
     let sum : firings_of_entries (map said_by (take (i + 1) entries)) ≡ firings_of_entries said + firings_of_entry (said_by e) = ap firings_of_entries written ∙ firings_pushed said (said_by e) in
     one ∙ ap (after_firings (firings_of_entry (said_by e))) done ∙ sym (ap (λ n. after_firings n old) sum ∙ firings_in_turn (firings_of_entries said) (firings_of_entry (said_by e)) old)
@@ -37,10 +36,7 @@ few_of_step (Some g) = omega arith
 
 few_of_entry : (e : Entry) → firings_of_entry e ≤ 1
 few_of_entry (took s) = few_of_step s.goal
-few_of_entry (undid n) = omega arith
-few_of_entry (rolled n) = omega arith
-few_of_entry (redid n) = omega arith
-few_of_entry (reordered order) = omega arith
+few_of_entry e = omega arith
 
 -- An entry counts one firing at most.
 few_firings : (es : List Entry) → firings_of_entries es ≤ length es

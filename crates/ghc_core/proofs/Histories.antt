@@ -1,12 +1,13 @@
 -- Legal histories and reachable worlds are the same, and a history leaves one world.
-use Rattle.ghc_core.proofs.Words.{◌≡◌, ℕ, suc, ◌+◌, ◌<◌, List, [], ◌∷◌, ◌++◌, map, length, refl, sym, ap, ◌∙◌, subst, subst₂, inl, inr, arith, append-nil, map-append, length-append, In, in_more, AreDistinct, Record, numbers, Shelf, query_state, Runs, Step, Opening, Entry, took, step_of, Item, entered, history, number_of, run_once, Keeps, taken_numbers, taken_append, keeps_once, distinct_push, Change, no_hands, emptied, World, Opens, CanChange, Changes, commit, command, Reply, stepped, told_of, by_command, makes, Reaches, from_opening, by_change, Leaves, the_opening, and_entry, NoStepIsFree}
+use Rattle.ghc_core.proofs.Words.{◌≡◌, ℕ, ◌+◌, ◌<◌, List, [], ◌∷◌, ◌++◌, map, length, refl, sym, ap, ◌∙◌, subst, subst₂, inl, inr, arith, map-append, length-append, In, in_more, AreDistinct, Record, numbers, Shelf, query_state, Runs, Step, Opening, Entry, took, step_of, Item, entered, history, number_of, run_once, Keeps, taken_numbers, taken_append, keeps_once, distinct_push, Change, no_hands, emptied, World, Opens, CanChange, Changes, commit, command, Reply, stepped, told_of, by_command, makes, Reaches, from_opening, by_change, Leaves, the_opening, and_entry, NoStepIsFree, length-map, taken_same}
 use Rattle.ghc_records.specs.Journal.{opened}
 use Rattle.ghc_core.specs.Legal as legal
 use Rattle.ghc_core.specs.HistoryLaws as laws
-use Rattle.ghc_core.proofs.Moving.{MovesOnce, answered_moves, Numbers, change_enters, opening_stays, reachable_reached}
+use Rattle.ghc_core.proofs.Moving.{MovesOnce, answered_moves, Numbers, change_enters, opening_stays}
 use Rattle.ghc_core.proofs.Reaching.{reached_good}
 use Rattle.ghc_core.proofs.Replayed.{replayed}
 use Rattle.ghc_core.proofs.Keeping.{reached_keeps}
+use Rattle.ghc_core.proofs.Loading.{step_numbers}
 use Rattle.ghc_core.proofs.Standing.{standing_apart}
 use Rattle.ghc_core.proofs.Taking.{change_done, holding, hand_commits, reached_reachable}
 
@@ -29,9 +30,6 @@ reached_legal (by_change {w = w} {v = v} change r can changes) =
     let by = change_entered w v change (standing_apart w r) can changes g.entry g.journal in
     let next : Leaves (history w.opening w.journal ++ entered g.entry ∷ []) v = and_entry g.entry by.0 (reached_legal r) by.1 in
     subst₂ (λ o es. Leaves (history o es) v) (sym g.opening) (sym g.journal) (subst (λ items. Leaves items v) (sym (history_push w.opening w.journal g.entry)) next)
-
-pub reachable_legal : laws.ReachableIsLegal
-reachable_legal w hands r = reached_legal (reachable_reached r)
 
 -- a journal is not itself with an entry more
 pub not_longer : (es : List Entry) (e : Entry) → ¬ (es ≡ es ++ e ∷ [])
@@ -69,76 +67,59 @@ loaded_numbers : (ss : List Step) → taken_numbers (map took ss) ≡ map (λ s.
 loaded_numbers [] = refl
 loaded_numbers (s ∷ ss) = ap (λ ns. s.number ∷ ns) (loaded_numbers ss)
 
-kept_numbers : (rs : List Record) → map (λ s. s.number) (map step_of rs) ≡ numbers rs
-kept_numbers [] = refl
-kept_numbers (r ∷ rs) = ap (λ ns. r.number ∷ ns) (kept_numbers rs)
-
-same_length : (rs : List Record) → length (numbers rs) ≡ length (map step_of rs)
-same_length [] = refl
-same_length (r ∷ rs) = ap suc (same_length rs)
-
 opened_counted : (o : Opening) (w : World) → Opens o w → Counted w
 opened_counted o w opens =
     let taken : taken_numbers w.journal ≡ numbers w.kept =
-    ap taken_numbers opens.journal ∙ loaded_numbers o.steps ∙ ap (λ ss. map (λ s. s.number) ss) (sym opens.steps) ∙ kept_numbers w.kept in
+    ap taken_numbers opens.journal ∙ loaded_numbers o.steps ∙ ap (λ ss. map (λ s. s.number) ss) (sym opens.steps) ∙ sym (step_numbers w.kept) in
     record {
       distinct = subst AreDistinct (sym taken) opens.state.0.1;
       below = λ n i. let r = number_of w.kept n (subst (In n) taken i) in subst₂ (λ a b. a < b) r.2 (sym opens.next) (opens.below r.0 r.1);
       next =
-          let few : length (taken_numbers w.journal) ≡ length o.steps = ap length taken ∙ same_length w.kept ∙ ap length opens.steps in
+          let few : length (taken_numbers w.journal) ≡ length w.kept = ap length taken ∙ length-map w.kept (λ r. r.number) in
+          let kept : length w.kept ≡ length o.steps = sym (length-map w.kept step_of) ∙ ap length opens.steps in
           let steps : length w.opening.steps ≡ length o.steps = ap (λ (p : Opening). length p.steps) opens.opening in
           let number : w.opening.next ≡ o.next = ap (λ (p : Opening). p.next) opens.opening in
           let now = opens.next in
-          omega (arith, few, steps, number, now);
+          omega (arith, few, kept, steps, number, now);
     }
 
 grown_counted : (w v : World) (entry : Entry) → v.journal ≡ w.journal ++ entry ∷ [] → v.opening ≡ w.opening → Numbers w entry v → Counted w → Counted v
-grown_counted w v entry j o (inl m) c =
-    let taken : taken_numbers w.journal ++ [] ≡ taken_numbers v.journal =
-    sym (ap taken_numbers j ∙ taken_append w.journal (entry ∷ []) ∙ ap (λ ns. taken_numbers w.journal ++ ns) m.0) in
-    let same : taken_numbers w.journal ≡ taken_numbers v.journal = sym (append-nil (taken_numbers w.journal)) ∙ taken in
-    record {
-      distinct = subst AreDistinct same c.distinct;
-      below = λ n i. subst (λ m. n < m) (sym m.1) (c.below n (subst (In n) (sym same) i));
-      next =
-          let count : length (taken_numbers w.journal) ≡ length (taken_numbers v.journal) = ap length same in
-          let steps : length v.opening.steps ≡ length w.opening.steps = ap (λ (p : Opening). length p.steps) o in
-          let first : v.opening.next ≡ w.opening.next = ap (λ (p : Opening). p.next) o in
-          let old = c.next in
-          let now = m.1 in
-          omega (arith, count, steps, first, old, now);
-    }
-grown_counted w v entry j o (inr m) c =
-    let taken : taken_numbers w.journal ++ w.next ∷ [] ≡ taken_numbers v.journal =
-    sym (ap taken_numbers j ∙ taken_append w.journal (entry ∷ []) ∙ ap (λ ns. taken_numbers w.journal ++ ns) m.0) in
-    record {
-      distinct = subst AreDistinct taken (distinct_push (taken_numbers w.journal) w.next c.distinct (λ i. let less = c.below w.next i in omega arith));
-      below = λ n i. elim (in_more (taken_numbers w.journal) w.next n (subst (In n) (sym taken) i)) [
-        | inl k ↦ let less = c.below n k in let now = m.1 in omega arith
-        | inr e ↦ let now = m.1 in omega (arith, e)
-      ];
-      next =
-          let count : length (taken_numbers w.journal) + 1 ≡ length (taken_numbers v.journal) = sym (length-append (taken_numbers w.journal) (w.next ∷ [])) ∙ ap length taken in
-          let steps : length v.opening.steps ≡ length w.opening.steps = ap (λ (p : Opening). length p.steps) o in
-          let first : v.opening.next ≡ w.opening.next = ap (λ (p : Opening). p.next) o in
-          let old = c.next in
-          let now = m.1 in
-          omega (arith, count, steps, first, old, now);
-    }
+grown_counted w v entry j o m c =
+    let before = taken_numbers w.journal in
+    let steps : length v.opening.steps ≡ length w.opening.steps = ap (λ (p : Opening). length p.steps) o in
+    let first : v.opening.next ≡ w.opening.next = ap (λ (p : Opening). p.next) o in
+    let old = c.next in
+    elim m [
+      | inl (none, now) ↦
+          let taken : taken_numbers v.journal ≡ before = ap taken_numbers j ∙ taken_same w.journal entry none in
+          record {
+            distinct = subst AreDistinct (sym taken) c.distinct;
+            below = λ n i. subst (λ m. n < m) (sym now) (c.below n (subst (In n) taken i));
+            next = omega (arith, ap length taken, steps, first, old, now);
+          }
+      | inr (one, now) ↦
+          let taken : taken_numbers v.journal ≡ before ++ w.next ∷ [] =
+          ap taken_numbers j ∙ taken_append w.journal (entry ∷ []) ∙ ap (λ ns. before ++ ns) one in
+          record {
+            distinct = subst AreDistinct (sym taken) (distinct_push before w.next c.distinct (λ i. let less = c.below w.next i in omega arith));
+            below = λ n i. elim (in_more before w.next n (subst (In n) taken i)) [
+              | inl k ↦ let less = c.below n k in omega arith
+              | inr e ↦ omega (arith, e)
+            ];
+            next = omega (arith, ap length taken ∙ length-append before (w.next ∷ []), steps, first, old, now);
+          }
+    ]
 
 counted : {w : World} → Reaches w → Counted w
 counted (from_opening {o = o} {w = w} sound opens) = opened_counted o w opens
 counted (by_change {w = w} {v = v} change r can changes) = let g = change_enters w v change can changes in grown_counted w v g.entry g.journal g.opening g.numbers (counted r)
 
-told_kept : {w : World} (kept : List Record) (shelf : Shelf) → Reaches w → Keeps w.opening w.journal kept shelf → (kept ≡ w.kept) × (shelf ≡ w.shelf)
+pub told_kept : {w : World} (kept : List Record) (shelf : Shelf) → Reaches w → Keeps w.opening w.journal kept shelf → (kept ≡ w.kept) × (shelf ≡ w.shelf)
 told_kept {w} kept shelf r k =
     let good = reached_good r in
     keeps_once w.opening w.journal kept w.kept shelf w.shelf good.accepted good.asked (counted r).distinct k (reached_keeps r)
 
-pub journal_tells : laws.JournalTellsWhatIsKept
-journal_tells w hands kept shelf r k = told_kept kept shelf (reachable_reached r) k
-
-reached_once : {w v : World} → Reaches w → Reaches v → w.opening ≡ v.opening → w.journal ≡ v.journal → w ≡ v
+pub reached_once : {w v : World} → Reaches w → Reaches v → w.opening ≡ v.opening → w.journal ≡ v.journal → w ≡ v
 reached_once {w} {v} r q o j =
     let same = told_kept v.kept v.shelf r (subst₂ (λ p es. Keeps p es v.kept v.shelf) (sym o) (sym j) (reached_keeps q)) in
     let walk : Runs w.opening.program (query_state w.opening.query) w.kept v.state =
@@ -152,9 +133,6 @@ reached_once {w} {v} r q o j =
     let taken : length (taken_numbers w.journal) ≡ length (taken_numbers v.journal) = ap (λ es. length (taken_numbers es)) j in
     omega (arith, one, other, steps, first, taken) in
     λ i. record { opening = o i; state = state i; kept = sym same.0 i; shelf = sym same.1 i; next = next i; journal = j i }
-
-pub reachable_once : laws.ReachableIsOne
-reachable_once w v hands others r q o j = reached_once (reachable_reached r) (reachable_reached q) o j
 
 -- a history has one opening and one journal
 opening_once : {o p : Opening} (es fs : List Entry) → history o es ≡ history p fs → o ≡ p

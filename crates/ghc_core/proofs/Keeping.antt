@@ -3,8 +3,6 @@ use Rattle.ghc_core.proofs.Words.{◌≡◌, List, [], ◌∷◌, ◌++◌, map,
 use Rattle.std.proofs.lemmas.List.{append-nil, append_assoc}
 use Rattle.std.specs.FinMap as finite
 use Rattle.ghc_core.proofs.Alone.{others_left}
-use Rattle.ghc_core.specs.Laws as laws
-use Rattle.ghc_core.proofs.Moving.{reachable_reached}
 use Rattle.ghc_core.proofs.Replayed.{Replayed, replayed}
 
 -- the journal of the world tells what it keeps
@@ -63,6 +61,3 @@ module _ (w : World) (k : Tells w) where
 pub reached_keeps : {w : World} → Reaches w → Tells w
 reached_keeps (from_opening {o = o} {w = w} sound opens) = opened_tells o w opens
 reached_keeps (by_change {w = w} {v = v} change r can changes) = changed_tells w (reached_keeps r) change v can changes (replayed (by_change change r can changes))
-
-pub reachable_keeps : laws.ReachableKeeps
-reachable_keeps w hands r = reached_keeps (reachable_reached r)

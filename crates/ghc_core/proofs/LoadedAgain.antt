@@ -1,5 +1,5 @@
 -- A history has one answer, and what is saved of a reachable world is loaded again: two runs from one state by the same steps are one run.
-use Rattle.ghc_core.proofs.Words.{◌≡◌, ℕ, ◌+◌, List, [], ◌∷◌, ◌++◌, map, length, refl, sym, ap, ◌∙◌, subst, inl, inr, arith, append_assoc, map-append, Result, Ok, Err, Fault, In, IsAcyclic, value_at, exact, in_left, in_right, compare_splits, Program, Query, IsProgram, IsQuery, AreDistinct, State, Record, numbers, after, Fires, query_state, Runs, HaveStepNumbers, NameWhatIsKnown, Replays, Step, Opening, step_of, History, IsHistory, loaded_opening, numbers_append, replay_well, fires_once, distinct_left, World, Opens, Loads, loads, stops, StopsAt, IsImpossible, history_of, reloaded}
+use Rattle.ghc_core.proofs.Words.{◌≡◌, ℕ, ◌+◌, List, [], ◌∷◌, ◌++◌, map, length, refl, sym, ap, ◌∙◌, subst, inl, inr, arith, append_assoc, map-append, Result, Ok, Err, Fault, In, IsAcyclic, value_at, in_left, in_right, compare_splits, Program, Query, IsProgram, IsQuery, AreDistinct, State, Record, numbers, after, Fires, query_state, Runs, HaveStepNumbers, NameWhatIsKnown, Replays, Step, Opening, step_of, History, IsHistory, loaded_opening, numbers_append, replay_well, fires_once, distinct_left, World, Opens, Loads, loads, stops, StopsAt, IsImpossible, history_of, reloaded, in_map}
 use Rattle.ghc_core.specs.Load.{no_memory}
 use Rattle.ghc_core.specs.LoadLaws as laws
 use Rattle.ghc_core.proofs.Reaching.{Good, reachable_good}
@@ -21,8 +21,6 @@ module _ (P : Program) (query : Query) (accepted : IsProgram P) (asked : IsQuery
     together : (done rest run : List Record) (s t u : State) → whole ≡ done ++ rest → Runs P (query_state query) done s → Runs P s rest t → Runs P s run u
         → map step_of rest ≡ map step_of run → (run ≡ rest) × (u ≡ t)
     together done [] [] s t u e d a b same = (refl, b ∙ sym a)
-    together done [] (q ∷ run) s t u e d a b same = cc
-    together done (r ∷ rest) [] s t u e d a b same = cc
     together done (r ∷ rest) (q ∷ run) s t u e d a b same =
         let first : step_of r ≡ step_of q = cc in
         let behind : map step_of rest ≡ map step_of run = cc in
@@ -30,12 +28,11 @@ module _ (P : Program) (query : Query) (accepted : IsProgram P) (asked : IsQuery
         let next = together (done ++ r ∷ []) rest run (after s r) t u (e ∙ sym (append_assoc done (r ∷ []) rest)) (runs_push P done r (query_state query) s d a.0) a.1
         (subst (λ z. Runs P (after s z) run u) one b.1) behind in
         ((λ i. one i ∷ next.0 i), next.1)
+    together done rest run s t u e d a b same = cc
 
     -- behind the steps done, a run of some of the steps that follow leaves a state in which the next one is possible
     goes_on : (done rest run : List Record) (s t u : State) (stopped : Step) (later : List Step) → whole ≡ done ++ rest → Runs P (query_state query) done s → Runs P s rest t → Runs P s run u
         → map step_of rest ≡ map step_of run ++ stopped ∷ later → ¬ IsImpossible P u stopped
-    goes_on done [] [] s t u stopped later e d a b same never = cc
-    goes_on done [] (q ∷ run) s t u stopped later e d a b same never = cc
     goes_on done (r ∷ rest) [] s t u stopped later e d a b same never =
         let first : step_of r ≡ stopped = cc in
         never r (first, subst (λ z. Fires P z r) (sym b) a.0)
@@ -45,6 +42,8 @@ module _ (P : Program) (query : Query) (accepted : IsProgram P) (asked : IsQuery
         let one : q ≡ r = sym (fires_once P s r q (front_acyclic done (r ∷ rest) s e d) first a.0 b.0) in
         goes_on (done ++ r ∷ []) rest run (after s r) t u stopped later (e ∙ sym (append_assoc done (r ∷ []) rest)) (runs_push P done r (query_state query) s d a.0) a.1
         (subst (λ z. Runs P (after s z) run u) one b.1) behind never
+    goes_on done [] (q ∷ run) s t u stopped later e d a b same never = cc
+    goes_on done [] run s t u stopped later e d a b same never = cc
 
   module _ (names : List (List ℕ)) (h : History) where
     -- what a world of the opening ran
@@ -75,15 +74,10 @@ module _ (P : Program) (query : Query) (accepted : IsProgram P) (asked : IsQuery
         (o.steps ∙ p.whole ∙ ap (λ ss. ss ++ p.stopped ∷ p.behind) (sym p.run_steps)) p.impossible
 
     module _ (form : IsHistory h) where
-      -- a step that is run is one of the records' steps
-      step_in : (rs : List Record) (r : Record) → In r rs → In (step_of r) (map step_of rs)
-      step_in [] r i = absurd i
-      step_in (q ∷ rs) r (inl e) = inl (ap step_of e)
-      step_in (q ∷ rs) r (inr i) = inr (step_in rs r i)
-
-      -- so it is one of the history
+      -- a step that is run is one of the history
       run_in : (run : List Record) (before behind : List Step) → h.steps ≡ before ++ behind → map step_of run ≡ before → (r : Record) → In r run → In (step_of r) h.steps
-      run_in run before behind whole same r i = subst (In (step_of r)) (sym whole) (in_left before behind (step_of r) (subst (In (step_of r)) same (step_in run r i)))
+      run_in run before behind whole same r i =
+          subst (In (step_of r)) (sym whole) (in_left before behind (step_of r) (subst (In (step_of r)) same (in_map step_of run r i)))
 
       -- the first steps of a history name nothing
       run_named : (run : List Record) (before behind : List Step) → h.steps ≡ before ++ behind → map step_of run ≡ before → NameWhatIsKnown query run
@@ -118,22 +112,17 @@ module _ (P : Program) (query : Query) (accepted : IsProgram P) (asked : IsQuery
         | inr (inr m) ↦ absurd (not_behind other line q p m.0 m.1)
       ]
 
-      one_refusal : (d e : Fault) → Loads ⊥ P query names h (Err d) → Loads ⊥ P query names h (Err e) → d ≡ e
+      pub one_refusal : (d e : Fault) → Loads ⊥ P query names h (Err d) → Loads ⊥ P query names h (Err e) → d ≡ e
       one_refusal _ _ (stops {line = line} p) (stops {line = other} q) = ap Fault.History (one_stop line other p q)
       one_refusal _ _ (stops p) (no_memory n) = absurd n
       one_refusal _ _ (no_memory n) q = absurd n
 
-    never_both : (w : World) (e : Fault) → Loads ⊥ P query names h (Ok w) → ¬ Loads ⊥ P query names h (Err e)
+    pub never_both : (w : World) (e : Fault) → Loads ⊥ P query names h (Ok w) → ¬ Loads ⊥ P query names h (Err e)
     never_both w _ (loads v o) (stops {line = line} p) = no_stop w line o p
     never_both w _ (loads v o) (no_memory n) = n
 
-    only_world : (w v : World) → Loads ⊥ P query names h (Ok w) → Loads ⊥ P query names h (Ok v) → w ≡ v
+    pub only_world : (w v : World) → Loads ⊥ P query names h (Ok w) → Loads ⊥ P query names h (Ok v) → w ≡ v
     only_world w v (loads _ o) (loads _ p) = one_world v w p o
-
--- What is answered for a load is exact.
-pub load_exact : laws.LoadIsExact
-load_exact P query names h result accepted asked form answer =
-    exact (only_world P query accepted asked names h) (one_refusal P query accepted asked names h form) (never_both P query accepted asked names h) result answer
 
 -- the world with its kept steps loaded is what their opening makes
 reloaded_opens : (w : World) → Good w → Replayed w → Opens (reloaded w).opening (reloaded w)

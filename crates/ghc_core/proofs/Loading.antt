@@ -1,8 +1,8 @@
 -- A history is loaded step by step: each step that is loaded leaves a world that its opening makes.
-use Rattle.ghc_core.proofs.Words.{◌≡◌, ℕ, suc, ◌+◌, ◌<◌, ◌≤◌, List, [], ◌∷◌, ◌++◌, length, map, slice_get, zero, refl, sym, ap, subst, subst₂, ◌∙◌, inl, inr, arith, append_assoc, append-nil, map-append, length-append, Some, None, Ok, Err, GoalName, Fault, In, in_either, in_right, Program, Query, Effect, HasEffect, Goal, value_at, AreDistinct, kept_limit, State, Record, numbers, after, query_state, Runs, Step, Opening, Entry, took, step_of, History, IsHistory, loaded_opening, number_in, Goals, goal_cmp, goal_total, goal_antisymmetric, NotesByGoal, AreLeft, VarName, same_value, by_option, not_both, taken, taken_at, is_old, results_of, World, Opens, IsStanding, CanLoad, with_loaded, IsPossibleAs, IsImpossible, Loads, loads, stops}
+use Rattle.ghc_core.proofs.Words.{◌≡◌, ℕ, suc, ◌+◌, ◌<◌, ◌≤◌, List, [], ◌∷◌, ◌++◌, length, map, slice_get, zero, refl, sym, ap, subst, subst₂, ◌∙◌, inl, inr, arith, append_assoc, append-nil, map-append, length-append, Some, None, Ok, Err, GoalName, Fault, In, in_right, Program, Query, Effect, HasEffect, Goal, value_at, AreDistinct, kept_limit, State, Record, numbers, after, query_state, Runs, Step, Opening, Entry, took, step_of, History, IsHistory, loaded_opening, number_in, Goals, goal_cmp, goal_total, goal_antisymmetric, NotesByGoal, AreLeft, VarName, same_value, by_option, not_both, taken, taken_at, is_old, results_of, World, Opens, IsStanding, CanLoad, with_loaded, IsPossibleAs, IsImpossible, Loads, loads, stops, distinct_last, distinct_left, no_entries, length-map}
 use Rattle.std.specs.FinMap as finite
 use Rattle.ghc_core.proofs.Naming.{known_of_goal}
-use Rattle.ghc_core.proofs.Reaching.{reached_good}
+use Rattle.ghc_core.proofs.Reaching.{each_more, reached_good}
 use Rattle.ghc_core.proofs.Replayed.{replayed, one_more, pushed}
 use Rattle.ghc_core.proofs.Standing.{standing_replay, standing_sound, opening_stands}
 use Rattle.ghc_core.proofs.Exactness.{IsNumberNew}
@@ -17,11 +17,7 @@ loaded_opens w s r o c =
       opening = refl;
       steps = map-append step_of w.kept (r ∷ []) ∙ ap (λ ss. ss ++ step_of r ∷ []) o.steps;
       state = pushed w (reached_good s) (replayed s) r c.possible c.known (c.positive, omega (arith, within, below, next)) c.own;
-      below = λ q i. elim (in_either w.kept (r ∷ []) q i) [
-        | inl j ↦ o.below q j
-        | inr (inl e) ↦ subst (λ (z : Record). z.number < w.opening.next) (sym e) (subst (λ n. r.number < n) o.next c.below)
-        | inr (inr j) ↦ absurd j
-      ];
+      below = each_more (λ q. q.number < w.opening.next) w.kept r o.below (subst (λ n. r.number < n) o.next c.below);
       numbered = o.numbered;
       few = one_more w.kept r c.few;
       shelf = o.shelf;
@@ -48,14 +44,10 @@ loaded_is_new w s r c g b there same =
       | inr m ↦ c.own (subst (λ n. In n (numbers w.kept)) (sym m.2 ∙ same) (number_in w.kept m.0 m.1))
     ]
 
-step_count : (rs : List Record) → length rs ≡ length (map step_of rs)
-step_count [] = refl
-step_count (r ∷ rs) = ap suc (step_count rs)
-
 -- Fewer steps are loaded than can be kept.
 pub room_to_load : (w : World) (r : Record) → Opens w.opening w → CanLoad w r → length w.opening.steps < kept_limit
 room_to_load w r o c =
-    let count : length w.kept ≡ length w.opening.steps = step_count w.kept ∙ ap length o.steps in
+    let count : length w.kept ≡ length w.opening.steps = sym (length-map w.kept step_of) ∙ ap length o.steps in
     let few = c.few in
     omega (arith, count, few)
 
@@ -89,17 +81,11 @@ split_at (y ∷ ys) behind (suc i) s e g = split_at ys behind i s (omega (arith,
 
 -- of distinct numbers one is none of those in front of it
 apart : (xs ys : List ℕ) (x : ℕ) → AreDistinct (xs ++ x ∷ ys) → ¬ In x xs
-apart [] ys x d i = absurd i
-apart (y ∷ xs) ys x d (inl e) = d.0 (subst (λ z. In z (xs ++ x ∷ ys)) e (in_right xs (x ∷ ys) x (inl refl)))
-apart (y ∷ xs) ys x d (inr j) = apart xs ys x d.1 j
+apart xs ys x d = distinct_last xs x (distinct_left (xs ++ x ∷ []) ys (subst AreDistinct (sym (append_assoc xs (x ∷ []) ys)) d))
 
 pub step_numbers : (rs : List Record) → numbers rs ≡ map (λ (s : Step). s.number) (map step_of rs)
 step_numbers [] = refl
 step_numbers (r ∷ rs) = ap (λ ns. r.number ∷ ns) (step_numbers rs)
-
-none_left : (steps : List Step) → length steps ≤ 0 → steps ≡ []
-none_left [] l = refl
-none_left (s ∷ steps) l = absurd (omega (arith, l))
 
 -- The first i steps of the history are loaded, which leaves the world w.
 pub record HasLoaded (P : Program) (query : Query) (names : List (List ℕ)) (h : History) (i : ℕ) (w : World) : Type 0 where
@@ -137,7 +123,7 @@ module _ (P : Program) (query : Query) (names : List (List ℕ)) (h : History) (
         let distinct : AreDistinct (map (λ (q : Step). q.number) l.before ++ s.number ∷ map (λ (q : Step). q.number) rest.0) =
         subst AreDistinct (ap (map (λ (q : Step). q.number)) whole ∙ map-append (λ (q : Step). q.number) l.before (s ∷ rest.0)) form.distinct in
         let kept : numbers w.kept ≡ map (λ (q : Step). q.number) l.before = step_numbers w.kept ∙ ap (map (λ (q : Step). q.number)) kept_steps in
-        let count : length w.kept ≡ length l.before = step_count w.kept ∙ ap length kept_steps in
+        let count : length w.kept ≡ length l.before = sym (length-map w.kept step_of) ∙ ap length kept_steps in
         let all : length h.steps ≡ length l.before + length (s ∷ rest.0) = ap length whole ∙ length-append l.before (s ∷ rest.0) in
         let first = numbered.0 in
         let less = numbered.1 in
@@ -187,7 +173,7 @@ module _ (P : Program) (query : Query) (names : List (List ℕ)) (h : History) (
   all_loaded most =
       let all : length h.steps ≡ length l.before + length l.behind = ap length l.whole ∙ length-append l.before l.behind in
       let count = l.count in
-      let none : l.behind ≡ [] = none_left l.behind (omega (arith, all, count, most)) in
+      let none : l.behind ≡ [] = no_entries l.behind (omega (arith, all, count, most)) in
       let steps : l.before ≡ h.steps = sym (append-nil l.before) ∙ ap (λ ss. l.before ++ ss) (sym none) ∙ sym l.whole in
       loads w (subst (λ o. Opens o w) (l.opening ∙ ap (λ ss. loaded_opening P query names (record { steps = ss; next = h.next })) steps) l.opens)
 

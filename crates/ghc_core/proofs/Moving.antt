@@ -1,5 +1,5 @@
 -- What an event does to a world, one change does, or nothing; and what each change does to opening, journal and next number.
-use Rattle.ghc_core.proofs.Words.{◌≡◌, ◌⊎◌, ◌+◌, ◌≤◌, [], ◌∷◌, ◌++◌, refl, sym, ap, subst, inl, inr, arith, Entry, took, redid, reordered, step_of, Record, taken_numbers, Change, Comes as comes, Goes as goes, Reorders as reorders, Coming, Going, Hands, World, CanChange, Changes, entry_of_going, GoalName, Command, Event, note, command, Reply, Obeys, does, refuses, starves, by_command, Says, Answers, no_hand, makes, says, fails, no_memory, Reaches, from_opening, by_change, IsReachable, at_opening, by_event, with_other_hands}
+use Rattle.ghc_core.proofs.Words.{◌≡◌, ◌⊎◌, ◌+◌, ◌≤◌, [], ◌∷◌, ◌++◌, refl, sym, ap, subst, inl, inr, arith, Entry, took, redid, reordered, step_of, Record, taken_numbers, Change, Comes as comes, Goes as goes, Reorders as reorders, Coming, Going, Hands, World, CanChange, Changes, entry_of_going, GoalName, Command, Event, note, command, Reply, Obeys, does, refuses, starves, by_command, Says, Answers, makes, says, fails, no_memory, Reaches, from_opening, by_change, IsReachable, at_opening, by_event, with_other_hands}
 use Rattle.ghc_core.specs.Proposes as asking
 
 -- The world moved by one change that could be made.
@@ -12,11 +12,8 @@ MovesOnce w v = (v ≡ w) ⊎ Moves w v
 
 -- An event moves the world once, or leaves it.
 pub answered_moves : {Starved : Type 0} (w : World) (hands left : Hands) (e : Event) (reply : Reply) (v : World) → Answers Starved w hands e reply v left → MovesOnce w v
-answered_moves w hands left e reply v (no_hand missing) = inl refl
 answered_moves w hands left e reply v (makes {change = change} has asks can changes told) = inr (change, can, changes)
-answered_moves w hands left e reply v (says has said) = inl refl
-answered_moves w hands left e reply v (fails has f) = inl refl
-answered_moves w hands left e reply v (no_memory starved) = inl refl
+answered_moves w hands left e reply v a = inl refl
 
 -- What a command does, and what a note says, is an answer to the event.
 module _ {Starved : Type 0} {w : World} (hands : Hands) where

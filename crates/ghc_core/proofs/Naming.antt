@@ -1,26 +1,18 @@
 -- What steps name: those that consume a goal name nothing; and whether what a step names is known.
-use Rattle.ghc_core.proofs.Words.{◌≡◌, ◌≢◌, ◌≤◌, ◌+◌, ℕ, List, [], ◌∷◌, ◌++◌, length, refl, sym, ap, ◌∙◌, subst, inl, inr, arith, Some, length-append, Option, VarName, GoalName, Goal, call, unify, assign, stream, Tree, In, value_at, Decided, decided_both, decided_either, nat_decided, name_decided, in_decided, some_decided, compare_splits, Program, Query, variables_of_goals, Act, ByClause as by_clause, Unified as unified, Assigned as assigned, Given as given, Closed as closed, Asked as asked, variables_asked, Effect, HasEffect, State, Record, Fires, MakesVariable, IsVariableOf, AreKnownIn, NameWhatIsKnown, taken}
+use Rattle.ghc_core.proofs.Words.{◌≡◌, ◌≢◌, ◌+◌, ℕ, List, [], ◌∷◌, ◌++◌, length, refl, sym, ap, ◌∙◌, subst, inl, inr, arith, Some, length-append, Option, VarName, GoalName, Goal, call, unify, assign, stream, Tree, In, value_at, Decided, decided_either, nat_decided, name_decided, in_decided, some_decided, compare_splits, Program, Query, variables_of_goals, Act, Asked as asked, variables_asked, Effect, HasEffect, State, Record, Fires, MakesVariable, IsVariableOf, AreKnownIn, NameWhatIsKnown, taken, le_decided}
 
 -- an act that has an effect on a goal names no variable
 act_names_nothing : (P : Program) (b : Goal) (a : Act) (n : ℕ) (S : VarName → Option Tree) (e : Effect) → HasEffect P b a n S e → variables_asked a ≡ []
-act_names_nothing P b (by_clause k) n S e h = refl
-act_names_nothing P b unified n S e h = refl
-act_names_nothing P b assigned n S e h = refl
-act_names_nothing P b (given u) n S e h = refl
-act_names_nothing P b closed n S e h = refl
 act_names_nothing P (call f ts) (asked gs) n S e h = absurd h
 act_names_nothing P (unify l r) (asked gs) n S e h = absurd h
 act_names_nothing P (assign t a) (asked gs) n S e h = absurd h
 act_names_nothing P (stream k s) (asked gs) n S e h = absurd h
+act_names_nothing P b a n S e h = refl
 
 -- an act that does not ask for goals names no variable
 pub unasked_names_nothing : (a : Act) → ((gs : List Goal) → a ≢ asked gs) → variables_asked a ≡ []
-unasked_names_nothing (by_clause k) n = refl
-unasked_names_nothing unified n = refl
-unasked_names_nothing assigned n = refl
-unasked_names_nothing (given u) n = refl
-unasked_names_nothing closed n = refl
 unasked_names_nothing (asked gs) n = absurd (n gs refl)
+unasked_names_nothing a n = refl
 
 -- where nothing is named, all that is named is known
 pub nothing_named : (query : Query) (rs : List Record) (r : Record) → variables_asked r.act ≡ [] → AreKnownIn query rs r
@@ -55,15 +47,9 @@ named_push query rs r named known front behind q e = elim (compare_splits rs fro
   | inr (inr m) ↦ named front m.0 q m.1
 ]
 
-at_most : (a b : ℕ) → Decided (a ≤ b)
-at_most a b = grind arith
-
 -- whether a step made the variable
 makes_decided : (r : Record) (x : VarName) → Decided (MakesVariable r x)
-makes_decided r x = elim (decided_both (nat_decided x.step r.number) (decided_both (at_most 1 x.place) (at_most x.place r.effect.fresh))) [
-  | inl m ↦ inl (m.0, m.1.0, m.1.1)
-  | inr n ↦ inr (λ m. n (m.0, (m.1, m.2)))
-]
+makes_decided r x = grind (arith, nat_decided x.step r.number, le_decided 1 x.place, le_decided x.place r.effect.fresh)
 
 -- whether the variable is the query's, or a step made it
 variable_decided : (query : Query) (rs : List Record) (x : VarName) → Decided (IsVariableOf query rs x)

@@ -1,5 +1,5 @@
 -- What a hand holds is judged alike as the next step and under the number that no step has.
-use Rattle.ghc_core.proofs.Words.{◌≡◌, ℕ, ◌<◌, ◌≤◌, ◌⊎◌, ◌==◌, true, false, cond, List, [], ◌∷◌, ◌++◌, map, refl, sym, ap, ◌∙◌, subst, inl, inr, arith, eqb-true, Some, None, if◌then◌else◌, eq_by_cmp, nat_cmp, nat_cmp_total, VarName, GoalName, Tree, variable, integer, node, Trees, none, more, Expression, leaf, operation, Goal, call, unify, assign, stream, In, value_at, variables, variables_of_all, variables_of_list, variables_of_expression, variables_of_goal, In_append, In_append_right, replace, replace_all, made, replace_in_expression, replace_in_goal, Act, Effect, HasEffect, no_step, numbered, under, variables_come, effect_once, effect_each, effect_under, IsVariableOf, Hands, with_hand, emptied, World, Event, propose, commit, note, command, Reply, hands_after, Says, Answers, no_hand, makes, says, fails, no_memory, IsReachable, at_opening, by_event, with_other_hands}
+use Rattle.ghc_core.proofs.Words.{◌≡◌, ℕ, ◌<◌, ◌≤◌, ◌⊎◌, ◌==◌, List, map, refl, sym, ap, ◌∙◌, subst, inl, inr, arith, Some, None, if◌then◌else◌, nat_cmp, nat_cmp_total, VarName, GoalName, Tree, variable, Goal, In, value_at, replace, made, replace_in_goal, Act, Effect, HasEffect, no_step, numbered, under, variables_come, effect_once, effect_each, effect_under, IsVariableOf, Hands, with_hand, emptied, World, Event, propose, commit, note, command, Reply, hands_after, Says, Answers, no_hand, makes, says, fails, no_memory, IsReachable, at_opening, by_event, with_other_hands, goals_twice, in_goals, same_goals, ne_eqb, eqb_tells}
 use Rattle.std.proofs.Common.{eq-eqb}
 use Rattle.std.specs.FinMap as finite
 use Rattle.ghc_term.specs.Variables.{variables_of_goals}
@@ -27,80 +27,25 @@ back_own : (n i : ℕ) → back n (made n i) ≡ variable (made no_step i)
 back_own n i = ap (λ b. if b then variable (made no_step i) else variable (made n i)) (eq-eqb n n refl)
 
 back_other : (n : ℕ) (x : VarName) → (x.step ≡ n → ⊥) → back n x ≡ variable x
-back_other n x other =
-    elim (x.step == n) as (λ b. (x.step == n) ≡ b → (if b then variable (made no_step x.place) else variable x) ≡ variable x) [
-      | true ↦ λ p. absurd (other (eqb-true x.step n p))
-      | false ↦ λ _. refl
-    ] refl
+back_other n x other = rw (ne_eqb x.step n other) refl
 
 back_variable : (n : ℕ) (x : VarName) → IsOld n x → replace (back n) (numbered n x) ≡ variable x
-back_variable n x old =
-    elim (x.step == no_step) as (λ b. (x.step == no_step) ≡ b → replace (back n) (if b then variable (made n x.place) else variable x) ≡ variable x) [
-      | true ↦ λ p. back_own n x.place ∙ ap (λ s. variable (made s x.place)) (sym (eqb-true x.step no_step p))
-      | false ↦ λ p. elim old [
-        | inl less ↦ back_other n x (λ e. omega arith)
-        | inr same ↦ absurd (let clash : true ≡ false = sym (eq-eqb no_step no_step refl) ∙ ap (λ s. s == no_step) (sym same) ∙ p in cc)
-      ]
-    ] refl
+back_variable n x old = elim (eqb_tells x.step no_step) [
+  | inl (e, p) ↦ rw e (back_own n x.place ∙ ap (λ s. variable (made s x.place)) (sym p))
+  | inr (e, p) ↦ rw e (back_other n x (λ own. elim old [ inl less ↦ omega arith | inr same ↦ p same ]))
+]
 
-left_of : {n : ℕ} (xs ys : List VarName) → AreOld n (xs ++ ys) → AreOld n xs
-left_of xs ys old x i = old x (In_append xs ys x i)
+-- goals of such variables, numbered and put back, are as they were
+back_goals : (n : ℕ) (gs : List Goal) → AreOld n (variables_of_goals gs) → map (replace_in_goal (back n)) (map (replace_in_goal (numbered n)) gs) ≡ gs
+back_goals n gs old =
+    let twice = λ (x : VarName). replace (back n) (numbered n x) in
+    goals_twice (back n) (numbered n) twice (λ x. refl) gs ∙ in_goals twice variable gs (λ x i. back_variable n x (old x i)) ∙ same_goals gs
 
-right_of : {n : ℕ} (xs ys : List VarName) → AreOld n (xs ++ ys) → AreOld n ys
-right_of xs ys old x i = old x (In_append_right xs ys x i)
-
-module _ (n : ℕ) where
-  mutual
-    back_tree : (t : Tree) → AreOld n (variables t) → replace (back n) (replace (numbered n) t) ≡ t
-    back_tree (variable x) old = back_variable n x (old x (inl refl))
-    back_tree (integer k) old = refl
-    back_tree (node f ts) old = ap (node f) (back_trees ts old)
-
-    back_trees : (ts : Trees) → AreOld n (variables_of_all ts) → replace_all (back n) (replace_all (numbered n) ts) ≡ ts
-    back_trees none old = refl
-    back_trees (more t ts) old =
-        let head = back_tree t (left_of (variables t) (variables_of_all ts) old) in
-        let tail = back_trees ts (right_of (variables t) (variables_of_all ts) old) in
-        cc
-
-  back_list : (ts : List Tree) → AreOld n (variables_of_list ts) → map (replace (back n)) (map (replace (numbered n)) ts) ≡ ts
-  back_list [] old = refl
-  back_list (t ∷ ts) old =
-      let head = back_tree t (left_of (variables t) (variables_of_list ts) old) in
-      let tail = back_list ts (right_of (variables t) (variables_of_list ts) old) in
-      cc
-
-  back_expression : (a : Expression) → AreOld n (variables_of_expression a) → replace_in_expression (back n) (replace_in_expression (numbered n) a) ≡ a
-  back_expression (leaf t) old = ap leaf (back_tree t old)
-  back_expression (operation o a b) old =
-      let left = back_expression a (left_of (variables_of_expression a) (variables_of_expression b) old) in
-      let right = back_expression b (right_of (variables_of_expression a) (variables_of_expression b) old) in
-      cc
-
-  back_goal : (g : Goal) → AreOld n (variables_of_goal g) → replace_in_goal (back n) (replace_in_goal (numbered n) g) ≡ g
-  back_goal (call f ts) old = ap (call f) (back_list ts old)
-  back_goal (unify l r) old =
-      let left = back_tree l (left_of (variables l) (variables r) old) in
-      let right = back_tree r (right_of (variables l) (variables r) old) in
-      cc
-  back_goal (assign t a) old =
-      let left = back_tree t (left_of (variables t) (variables_of_expression a) old) in
-      let right = back_expression a (right_of (variables t) (variables_of_expression a) old) in
-      cc
-  back_goal (stream k x) old = refl
-
-  back_goals : (gs : List Goal) → AreOld n (variables_of_goals gs) → map (replace_in_goal (back n)) (map (replace_in_goal (numbered n)) gs) ≡ gs
-  back_goals [] old = refl
-  back_goals (g ∷ gs) old =
-      let head = back_goal g (left_of (variables_of_goal g) (variables_of_goals gs) old) in
-      let tail = back_goals gs (right_of (variables_of_goal g) (variables_of_goals gs) old) in
-      cc
-
-  -- effects that are one as step n are one
-  under_once : (e f : Effect) → AreOld n (variables_of_goals e.makes) → AreOld n (variables_of_goals f.makes) → under n e ≡ under n f → e ≡ f
-  under_once e f old new same =
-      let makes : e.makes ≡ f.makes = sym (back_goals e.makes old) ∙ ap (λ (x : Effect). map (replace_in_goal (back n)) x.makes) same ∙ back_goals f.makes new in
-      λ i. record { reads = (same i).reads; binds = (same i).binds; makes = makes i; fresh = (same i).fresh }
+-- effects that are one as step n are one
+under_once : (n : ℕ) (e f : Effect) → AreOld n (variables_of_goals e.makes) → AreOld n (variables_of_goals f.makes) → under n e ≡ under n f → e ≡ f
+under_once n e f old new same =
+    let makes : e.makes ≡ f.makes = sym (back_goals n e.makes old) ∙ ap (λ (x : Effect). map (replace_in_goal (back n)) x.makes) same ∙ back_goals n f.makes new in
+    λ i. record { reads = (same i).reads; binds = (same i).binds; makes = makes i; fresh = (same i).fresh }
 
 -- What a reduction would make now, under no number, has variables of steps before the next one, and of no step.
 makes_old : (w : World) (hands : Hands) → IsReachable w hands → (g : GoalName) (b : Goal) (a : Act) (e : Effect) → finite.get w.state.goals g ≡ Some b
@@ -131,19 +76,11 @@ nothing_held hands h p empty e = let clash : None ≡ Some p = sym (finite.get-e
 
 -- a hand that was emptied holds nothing, and the others what they held
 still_held : (hands : Hands) (k h : ℕ) (p : Proposal) → finite.get (emptied k hands).held h ≡ Some p → finite.get hands.held h ≡ Some p
-still_held hands k h p e =
-    elim (eq_by_cmp nat_cmp h k) as (λ b. cond b None (finite.get hands.held h) ≡ Some p → finite.get hands.held h ≡ Some p) [
-      | true ↦ λ q. cc
-      | false ↦ λ q. q
-    ] (sym (finite.get-remove nat_cmp_total hands.held k h) ∙ e)
+still_held hands k h p e = grind (arith, finite.get-remove nat_cmp_total hands.held k h)
 
 -- a hand that got a proposal holds it, and the others what they held
 held_or : (hands : Hands) (k : ℕ) (q : Proposal) (h : ℕ) (p : Proposal) → finite.get (with_hand k q hands).held h ≡ Some p → (q ≡ p) ⊎ (finite.get hands.held h ≡ Some p)
-held_or hands k q h p e =
-    elim (eq_by_cmp nat_cmp h k) as (λ b. cond b (Some q) (finite.get hands.held h) ≡ Some p → (q ≡ p) ⊎ (finite.get hands.held h ≡ Some p)) [
-      | true ↦ λ s. inl cc
-      | false ↦ λ s. inr s
-    ] (sym (finite.get-insert nat_cmp_total hands.held k q h) ∙ e)
+held_or hands k q h p e = grind (arith, finite.get-insert nat_cmp_total hands.held k q h)
 
 module _ (w : World) (hands : Hands) (r : IsReachable w hands) (old : HoldsOld w hands) where
   said_old : (e : Event) (reply : Reply) (left : Hands) → Says w hands e reply left → HoldsOld w left

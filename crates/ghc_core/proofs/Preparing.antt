@@ -1,5 +1,5 @@
 -- The step that is prepared of a proposal, and what it answers.
-use Rattle.ghc_core.proofs.Words.{◌≡◌, ◌⊎◌, ℕ, List, inl, inr, refl, subst, sym, Option, Some, Result, Ok, Err, IfOk, IfErr, GoalName, Fault, IsAcyclic, value_at, Answered, Act, Effect, proposes, AttemptsAs, Attempts, under, proposal_as, State, Record, Shelf, Opening, Entry, World, IsFull, HasRoom, IsStanding, record_as, next_record, AttemptAnswers, IsProposedAsNext, StillHolds, IsCommitOf, CommitFails, IsStepOf, StepFails}
+use Rattle.ghc_core.proofs.Words.{◌≡◌, ◌⊎◌, ℕ, List, refl, Option, Some, Result, IfOk, IfErr, GoalName, Fault, IsAcyclic, value_at, Answered, proposes, proposal_as, State, Record, Shelf, Opening, Entry, World, IsFull, HasRoom, IsStanding, record_as, next_record, AttemptAnswers, IsProposedAsNext, StillHolds, IsCommitOf, CommitFails, IsStepOf, StepFails, arith}
 use Rattle.std.specs.FinMap as finite
 use Rattle.ghc_term.specs.declared.fault.Fault.TheVariants as fault
 use Rattle.ghc_fire.specs.Proposal.{Proposal}
@@ -10,12 +10,7 @@ use Rattle.ghc_core.proofs.Committing.{next_step, answered_holds, step_no_room}
 -- The step of a proposal that was made again is that of a commit of the proposal.
 prepared : (w : World) (p again : Proposal) → IsStanding w → StillHolds w p → finite.get w.state.goals again.goal ≡ Some again.consumed
     → again.goal ≡ p.goal → again.act ≡ p.act → again.effect ≡ p.effect → HasRoom w → IsCommitOf w p (next_record w again)
-prepared w p again standing holds there goal act effect room =
-    let found : finite.get w.state.goals p.goal ≡ Some again.consumed = subst (λ (g : GoalName). finite.get w.state.goals g ≡ Some again.consumed) goal there in
-    subst (λ (g : GoalName). IsCommitOf w p (record { number = w.next; goal = Some g; consumed = Some again.consumed; act = again.act; effect = under w.next again.effect })) (sym goal)
-    (subst (λ (a : Act). IsCommitOf w p (record { number = w.next; goal = Some p.goal; consumed = Some again.consumed; act = a; effect = under w.next again.effect })) (sym act)
-    (subst (λ (e : Effect). IsCommitOf w p (record { number = w.next; goal = Some p.goal; consumed = Some again.consumed; act = p.act; effect = under w.next e })) (sym effect)
-    (next_step w p again.consumed standing holds found room)))
+prepared w p again standing holds there goal act effect room = rw (goal, act, effect) (next_step w p again.consumed standing holds (rw goal at there) room)
 
 -- what is known of a next step that has this record
 abbrev pub IsNext : World → Record → Result Record Fault → Type 0
@@ -23,14 +18,7 @@ IsNext w r result = IfOk result (λ q. q ≡ r) × IfOk result (λ _. HasRoom w)
 
 answered : (Gives : Record → Type 0) (Refuses : Fault → Type 0) (w : World) (r : Record) (result : Result Record Fault) → IsNext w r result
     → (HasRoom w → Gives r) → (IsFull w → Refuses fault.Full) → Answered Gives Refuses result
-answered Gives Refuses w r (Ok q) next gives refuses = (subst Gives (sym next.0) (gives next.1), tt)
-answered Gives Refuses w r (Err f) next gives refuses = (
-  tt,
-  elim next.2 [
-    | inl m ↦ inl m
-    | inr q ↦ inr (subst Refuses (sym q.0) (refuses q.1))
-  ],
-)
+answered Gives Refuses w r result next gives refuses = grind arith
 
 -- The next step of a proposal that was made again answers a commit of the proposal.
 pub commit_answered : (w : World) (p again : Proposal) (result : Result Record Fault) → IsStanding w → StillHolds w p → finite.get w.state.goals again.goal ≡ Some again.consumed
@@ -44,12 +32,12 @@ pub step_answered : (w : World) (acyclic : IsAcyclic (value_at w.state.store)) (
 step_answered w acyclic g choice p result made next =
     let P = w.opening.program in
     let S = value_at w.state.store in
-    let there : finite.get w.state.goals p.goal ≡ Some p.consumed = subst (λ (h : GoalName). finite.get w.state.goals h ≡ Some p.consumed) (sym made.named) made.there in
-    let attempted : AttemptsAs w.next P S (Some p.consumed) choice (proposes p.act p.effect) = subst (λ o. AttemptsAs w.next P S o choice (proposes p.act p.effect)) made.there made.proposed in
+    let there : finite.get w.state.goals p.goal ≡ Some p.consumed = rw made.named made.there in
+    let attempted = rw made.there at made.proposed in
     let effect = proposal_as P p.consumed choice p.act w.next S p.effect attempted in
     let q : Proposal = record { goal = p.goal; consumed = p.consumed; act = p.act; effect = effect.1.0 } in
-    let proposed : AttemptAnswers w g choice (proposes q.act q.effect) = subst (λ o. Attempts P S o choice (proposes q.act q.effect)) (sym made.there) effect.1.1 in
-    let holds : StillHolds w q = answered_holds w q choice p.consumed there (subst (λ (h : GoalName). AttemptAnswers w h choice (proposes q.act q.effect)) (sym made.named) proposed) in
+    let proposed : AttemptAnswers w g choice (proposes q.act q.effect) = rw made.there effect.1.1 in
+    let holds : StillHolds w q = answered_holds w q choice p.consumed there (rw made.named proposed) in
     answered (IsStepOf w g choice) (StepFails w g choice) w (record_as w.next p) result next
     (λ room. (q, made.named, proposed, (holds, (refl, ((p.consumed, refl, there), effect.0), room, known_of_act P w.opening.query w.kept (record_as w.next p) p.consumed w.next S p.effect effect.0), refl, refl))) (λ full. step_no_room w acyclic g choice (q, made.named, proposed, full))
 

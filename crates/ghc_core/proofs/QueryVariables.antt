@@ -1,15 +1,6 @@
 -- Lemmas on the variables of a query and of its kept steps.
-use Rattle.ghc_core.proofs.Words.{◌≡◌, ℕ, ◌+◌, ◌-◌, ◌<◌, ◌≤◌, List, [], ◌∷◌, length, cond, true, false, get_or, refl, sym, ap, ◌∙◌, subst, inl, inr, arith, slice_get_within, slice_get-get_or, list_any, eq_by_cmp, VarName, name_cmp, In, WrittenQuery, IsWellAsked, AreNumbered, in_at, at_of_in, var_inj as same_parts, asked, AreDistinct, Record, numbers, MakesVariable, first_in, record_once}
+use Rattle.ghc_core.proofs.Words.{◌≡◌, ℕ, ◌+◌, ◌-◌, ◌<◌, ◌≤◌, List, [], length, get_or, refl, sym, ap, ◌∙◌, subst, arith, slice_get_within, slice_get-get_or, VarName, In, WrittenQuery, IsWellAsked, AreNumbered, in_at, at_of_in, var_inj as same_parts, asked, AreDistinct, Record, numbers, MakesVariable, first_in, record_once, firsts_in}
 use Rattle.ghc_term.specs.Variables.{firsts, variables_of_goals}
-
--- what stands among the first occurrences stands in the list
-pub of_firsts : (seen xs : List VarName) (x : VarName) → In x (firsts seen xs) → In x xs
-of_firsts seen [] x i = i
-of_firsts seen (y ∷ xs) x i =
-    elim (list_any (eq_by_cmp name_cmp y) seen) as (λ b. In x (cond b (firsts seen xs) (y ∷ firsts (y ∷ seen) xs)) → In x (y ∷ xs)) [
-      | true ↦ λ j. inr (of_firsts seen xs x j)
-      | false ↦ λ j. elim j [ inl e ↦ inl e | inr k ↦ inr (of_firsts (y ∷ seen) xs x k) ]
-    ] i
 
 -- a variable of a numbered list is one of its first occurrences, by number
 pub number_of_in : (xs : List VarName) (x : VarName) → AreNumbered xs → In x xs → (i : ℕ) × (x ≡ asked (i + 1)) × (i < length (firsts [] xs))
@@ -22,7 +13,7 @@ pub in_of_number : (xs : List VarName) (i : ℕ) → AreNumbered xs → i < leng
 in_of_number xs i numbered h =
     let x = get_or (firsts [] xs) i (asked 0) in
     let e = slice_get-get_or (firsts [] xs) i (asked 0) h in
-    subst (λ y. In y xs) (numbered i x e) (of_firsts [] xs x (in_at (firsts [] xs) i x e))
+    subst (λ y. In y xs) (numbered i x e) (firsts_in [] xs x (in_at (firsts [] xs) i x e))
 
 module _ (q : WrittenQuery) (well : IsWellAsked q) where
   -- a variable of the query is known by its step and its place

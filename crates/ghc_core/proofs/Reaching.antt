@@ -1,5 +1,5 @@
 -- A world that is reached is in order.
-use Rattle.ghc_core.proofs.Words.{◌≡◌, ℕ, ◌+◌, ◌<◌, ◌≤◌, ◌⊎◌, List, [], ◌∷◌, ◌++◌, refl, sym, ap, ◌∙◌, subst, inl, inr, arith, Some, None, nat_cmp, VarName, In, IsAcyclic, value_at, in_left, in_right, in_either, in_more, IsProgram, IsQuery, made, AreDistinct, State, Record, numbers, after, Fires, query_state, IsVariableOf, Opening, Entry, number_in, number_of, record_once, numbers_append, HasOnly, has_more, after_has, after_acyclic, of_query, replay_well, OneEach, after_one_each, run_one_each, query_one_each, GoesWith, IsLawful, IsInOrder, picks_in, records_push, shelved, unshelved, Hands, World, IsReplay, IsKnown, IsNextStep, with_step, Opens, Change, Comes as comes, Goes as goes, Reorders as reorders, Coming, all_gone, with_coming, without_steps, CanChange, Changes, AreNamesOf, IsSound, Reaches, from_opening, by_change, IsReachable}
+use Rattle.ghc_core.proofs.Words.{◌≡◌, ℕ, ◌+◌, ◌<◌, ◌≤◌, ◌⊎◌, List, [], ◌∷◌, ◌++◌, sym, ap, ◌∙◌, subst, inl, inr, arith, Some, None, nat_cmp, In, IsAcyclic, value_at, in_left, in_more, IsProgram, IsQuery, made, AreDistinct, State, Record, numbers, after, Fires, query_state, IsVariableOf, Opening, Entry, number_in, number_of, record_once, numbers_append, HasOnly, has_more, after_has, after_acyclic, of_query, replay_well, OneEach, after_one_each, run_one_each, query_one_each, GoesWith, IsLawful, IsInOrder, picks_in, records_push, shelved, unshelved, Hands, World, IsReplay, IsKnown, IsNextStep, with_step, Opens, Change, Comes as comes, Goes as goes, Reorders as reorders, Coming, all_gone, with_coming, without_steps, CanChange, Changes, AreNamesOf, IsSound, Reaches, from_opening, by_change, IsReachable, Shelf, in_last, ◌≢◌}
 use Rattle.std.specs.FinMap as finite
 use Rattle.ghc_core.specs.Laws as laws
 use Rattle.ghc_core.proofs.Moving.{reachable_reached}
@@ -27,39 +27,41 @@ pub record Good (w : World) : Type 0 where
 pushed : (rs : List Record) (r : Record) (n : ℕ) → In n (numbers (rs ++ r ∷ [])) → In n (numbers rs) ⊎ (n ≡ r.number)
 pushed rs r n i = in_more (numbers rs) r.number n (subst (In n) (numbers_append rs (r ∷ [])) i)
 
+-- what holds of each record, and of one more
+pub each_more : (P : Record → Type 0) (rs : List Record) (r : Record) → ((s : Record) → In s rs → P s) → P r → (s : Record) → In s (rs ++ r ∷ []) → P s
+each_more P rs r old own s i = elim (in_more rs r s i) [ inl j ↦ old s j | inr e ↦ subst P (sym e) own ]
+
 module _ (w : World) (good : Good w) where
-  -- a step more at the end of the record
-  module _ (r : Record) (fires : Fires w.opening.program w.state r) (positive : 1 ≤ r.number) (new : ¬ In r.number (numbers w.kept)) where
-    push_acyclic : IsAcyclic (value_at (after w.state r).store)
-    push_acyclic = after_acyclic w.opening.program w.state r fires (IsVariableOf w.opening.query w.kept) good.acyclic good.has (λ i known. elim known [
-      | inl q ↦ let n : r.number ≡ 0 = of_query w.opening.program w.opening.query (made r.number i) good.asked q in omega arith
-      | inr q ↦ new (subst (λ n. In n (numbers w.kept)) (sym q.2.0) (number_in w.kept q.0 q.1))
-    ])
-
-    longer : (x : VarName) → IsVariableOf w.opening.query w.kept x → IsVariableOf w.opening.query (w.kept ++ r ∷ []) x
-    longer x known = known_more w.opening.query w.kept (w.kept ++ r ∷ []) (λ s i. in_left w.kept (r ∷ []) s i) x known
-
-    push_has : IsKnown w r → HasOnly (IsVariableOf w.opening.query (w.kept ++ r ∷ [])) (after w.state r)
-    push_has known = after_has w.opening.program w.state r fires (IsVariableOf w.opening.query (w.kept ++ r ∷ [])) good.accepted good.acyclic
-        (has_more (IsVariableOf w.opening.query w.kept) (IsVariableOf w.opening.query (w.kept ++ r ∷ [])) w.state longer good.has)
-        (λ y m. inr (r, in_right w.kept (r ∷ []) r (inl refl), m)) (λ y n. longer y (known y n))
-
-    push_one : OneEach (after w.state r)
-    push_one = after_one_each w.opening.program good.accepted w.state r fires good.one
-
-    push_positive : (s : Record) → In s (w.kept ++ r ∷ []) → 1 ≤ s.number
-    push_positive s i = elim (in_either w.kept (r ∷ []) s i) [
-      | inl j ↦ good.positive s j
-      | inr (inl e) ↦ subst (λ (x : Record). 1 ≤ x.number) (sym e) positive
-      | inr (inr j) ↦ absurd j
-    ]
-
-    push_below : (n : ℕ) → w.next ≤ n → r.number < n → (s : Record) → In s (w.kept ++ r ∷ []) → s.number < n
-    push_below n le less s i = elim (in_either w.kept (r ∷ []) s i) [
-      | inl j ↦ let b = good.below s j in omega arith
-      | inr (inl e) ↦ subst (λ (x : Record). x.number < n) (sym e) less
-      | inr (inr j) ↦ absurd j
-    ]
+  -- a step more at the end of the record, which is not on the shelf
+  push_good : (r : Record) (next : ℕ) (shelf : Shelf) (journal : List Entry) → Fires w.opening.program w.state r → IsKnown w r → 1 ≤ r.number
+      → ¬ In r.number (numbers w.kept) → w.next ≤ next → r.number < next
+      → ((m : ℕ) (s : Record) → finite.get shelf m ≡ Some s → (finite.get w.shelf m ≡ Some s) × (m ≢ r.number))
+      → Good (record w { state = after w.state r; kept = w.kept ++ r ∷ []; shelf = shelf; next = next; journal = journal })
+  push_good r next shelf journal fires known positive new later less off =
+      let kept = w.kept ++ r ∷ [] in
+      let longer = known_more w.opening.query w.kept kept (in_left w.kept (r ∷ [])) in
+      let first = good.first in
+      record {
+        accepted = good.accepted;
+        asked = good.asked;
+        named = good.named;
+        kept_once = records_push w.kept r good.kept_once new;
+        positive = each_more (λ s. 1 ≤ s.number) w.kept r good.positive positive;
+        below = each_more (λ s. s.number < next) w.kept r (λ s j. let b = good.below s j in omega arith) less;
+        shelf = λ m s e.
+            let on = off m s e in
+            let (number, some, low, not) = good.shelf m s on.0 in
+            (number, some, omega arith, λ i. elim (pushed w.kept r m i) [ inl j ↦ not j | inr same ↦ on.1 same ]);
+        first = omega arith;
+        acyclic = after_acyclic w.opening.program w.state r fires (IsVariableOf w.opening.query w.kept) good.acyclic good.has (λ i is. elim is [
+          | inl q ↦ let n : r.number ≡ 0 = of_query w.opening.program w.opening.query (made r.number i) good.asked q in omega arith
+          | inr q ↦ new (subst (λ n. In n (numbers w.kept)) (sym q.2.0) (number_in w.kept q.0 q.1))
+        ]);
+        has = after_has w.opening.program w.state r fires (IsVariableOf w.opening.query kept) good.accepted good.acyclic
+            (has_more (IsVariableOf w.opening.query w.kept) (IsVariableOf w.opening.query kept) w.state longer good.has)
+            (λ y m. inr (r, in_last w.kept r, m)) (λ y n. longer y (known y n));
+        one = after_one_each w.opening.program good.accepted w.state r fires good.one;
+      }
 
   pub not_kept_next : ¬ In w.next (numbers w.kept)
   not_kept_next i = let q = number_of w.kept w.next i in let b = good.below q.0 q.1 in omega (arith, q.2)
@@ -67,37 +69,13 @@ module _ (w : World) (good : Good w) where
   step_good : (r : Record) → IsNextStep w r → Good (with_step r w)
   step_good r n =
       let new : ¬ In r.number (numbers w.kept) = λ i. not_kept_next (subst (λ m. In m (numbers w.kept)) n.0 i) in
-      let positive : 1 ≤ r.number = subst (λ m. 1 ≤ m) (sym n.0) good.first in
-      record {
-        accepted = good.accepted;
-        asked = good.asked;
-        named = good.named;
-        kept_once = records_push w.kept r good.kept_once new;
-        positive = push_positive r n.1 positive new;
-        below = push_below r n.1 positive new (w.next + 1) (omega arith) (omega (arith, n.0));
-        shelf = λ m s e. let o = good.shelf m s e in (o.0, o.1, omega (arith, o.2), λ i. elim (pushed w.kept r m i) [ inl j ↦ o.3 j | inr same ↦ let less = o.2 in let number = n.0 in omega arith ]);
-        first = omega arith;
-        acyclic = push_acyclic r n.1 positive new;
-        has = push_has r n.1 positive new n.3;
-        one = push_one r n.1 positive new;
-      }
+      push_good r (w.next + 1) w.shelf _ n.1 n.3 (subst (λ m. 1 ≤ m) (sym n.0) good.first) new (omega arith) (omega (arith, n.0))
+      (λ m s e. (e, λ same. let low = (good.shelf m s e).2 in omega (arith, low, same, n.0)))
 
   redone_good : (r : Record) → finite.get w.shelf r.number ≡ Some r → Fires w.opening.program w.state r → IsKnown w r → Good (with_coming Coming.Shelved r w)
   redone_good r e fires known =
       let on = good.shelf r.number r e in
-      record {
-        accepted = good.accepted;
-        asked = good.asked;
-        named = good.named;
-        kept_once = records_push w.kept r good.kept_once on.3;
-        positive = push_positive r fires on.1 on.3;
-        below = push_below r fires on.1 on.3 w.next (omega arith) on.2;
-        shelf = λ m s k. let u = unshelved w.shelf r.number m s k in let o = good.shelf m s u.0 in (o.0, o.1, o.2, λ i. elim (pushed w.kept r m i) [ inl j ↦ o.3 j | inr same ↦ u.1 same ]);
-        first = good.first;
-        acyclic = push_acyclic r fires on.1 on.3;
-        has = push_has r fires on.1 on.3 known;
-        one = push_one r fires on.1 on.3;
-      }
+      push_good r w.next (finite.remove w.shelf r.number) _ fires known on.1 on.3 (omega arith) on.2 (unshelved w.shelf r.number)
 
   without_good : (gone left : List Record) (t : State) (entry : Entry) → ((s : Record) → In s gone → In s w.kept) → ((s : Record) → In s left → In s w.kept) → ((s u : Record) → In s gone → In u left → ¬ (s ≡ u))
       → IsReplay w left t → Good (without_steps gone left t entry w)

@@ -1,5 +1,5 @@
 -- What an undo or a rollback took away can be redone, which gives back the old state.
-use Rattle.ghc_core.proofs.Words.{◌≡◌, ℕ, ◌+◌, ◌≤◌, true, false, cond, List, [], ◌∷◌, ◌++◌, map, length, refl, sym, ap, ◌∙◌, subst, subst₂, inl, inr, arith, Some, None, length-append, eq_by_cmp, is_eq, nat_cmp, nat_cmp_total, tied_itself, In, in_either, kept_limit, AreDistinct, State, Record, numbers, Shelf, query_state, Runs, NameWhatIsKnown, Entry, number_in, records_distinct, run_once, GoesWith, IsClosedUnder, IsPartedBy, with_shelved, both_distinct, come_back, split_closed, no_longer, picks_in, picks_distinct, same_number, runs_split, Change, Comes as comes, Goes as goes, Reorders as reorders, Coming, all_gone, Hands, World, IsReplay, with_coming, entry_of_going, without_steps, CanChange, Changes, Command, redo, command, stepped, undone, to_redo, told_of, Obeys, does, AnswersEach}
+use Rattle.ghc_core.proofs.Words.{◌≡◌, ℕ, ◌+◌, ◌≤◌, false, cond, List, [], ◌∷◌, ◌++◌, map, length, refl, sym, ap, ◌∙◌, subst, subst₂, inl, inr, arith, Some, None, length-append, eq_by_cmp, is_eq, nat_cmp, nat_cmp_total, tied_itself, In, in_either, kept_limit, AreDistinct, State, Record, numbers, Shelf, query_state, Runs, NameWhatIsKnown, Entry, number_in, records_distinct, run_once, GoesWith, IsClosedUnder, IsPartedBy, with_shelved, both_distinct, come_back, split_closed, no_longer, picks_in, picks_distinct, same_number, runs_split, Change, Comes as comes, Goes as goes, Reorders as reorders, Coming, all_gone, Hands, World, IsReplay, with_coming, entry_of_going, without_steps, CanChange, Changes, Command, redo, command, stepped, undone, to_redo, told_of, Obeys, does, AnswersEach, false_from_ne_true}
 use Rattle.std.proofs.lemmas.List.{append_assoc}
 use Rattle.std.specs.FinMap as finite
 use Rattle.ghc_core.specs.Returns as laws
@@ -8,11 +8,7 @@ use Rattle.ghc_core.proofs.Reaching.{Good, reached_good}
 use Rattle.ghc_core.proofs.Replayed.{Replayed, replayed}
 
 number_apart : (m n : ℕ) → ¬ (m ≡ n) → eq_by_cmp nat_cmp m n ≡ false
-number_apart m n apart =
-    elim (eq_by_cmp nat_cmp m n) as (λ b. eq_by_cmp nat_cmp m n ≡ b → eq_by_cmp nat_cmp m n ≡ false) [
-      | true ↦ λ p. absurd (apart (same_number m n p))
-      | false ↦ λ p. p
-    ] refl
+number_apart m n apart = false_from_ne_true (eq_by_cmp nat_cmp m n) (λ p. apart (same_number m n p))
 
 -- each of the steps put on the shelf is there
 on_shelf : (gone : List Record) (shelf : Shelf) → AreDistinct (numbers gone) → (r : Record) → In r gone → finite.get (with_shelved gone shelf) r.number ≡ Some r

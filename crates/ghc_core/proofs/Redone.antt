@@ -1,22 +1,15 @@
 -- What is known where a step is not redone.
-use Rattle.ghc_core.proofs.Words.{◌≡◌, ℕ, refl, sym, ◌∙◌, subst, inl, inr, Some, None, Result, Ok, Err, IfOk, Fault, Record, World, IsKnown, RedoFails, LacksGoal}
+use Rattle.ghc_core.proofs.Words.{◌≡◌, ℕ, refl, subst, Some, None, Result, IfOk, Fault, Record, World, IsKnown, RedoFails, LacksGoal, arith, sym, ◌∙◌, inl, inr}
 use Rattle.std.specs.FinMap as finite
 use Rattle.ghc_core.proofs.Refusing.{value_once}
 
 -- what is known of an answer leads to more about it
 pub if_ok : {T E : Type 0} (r : Result T E) {P Q : T → Type 0} → IfOk r P → ((t : T) → P t → Q t) → IfOk r Q
-if_ok (Ok t) p f = f t p
-if_ok (Err e) p f = tt
+if_ok r p f = grind arith
 
 -- what a refusal says
 pub said_not_shelved : {w : World} {n : ℕ} {f : Fault} → RedoFails w n f → f ≡ Fault.NotShelved → finite.get w.shelf n ≡ None
-said_not_shelved p same = elim p.first [
-  | inl q ↦ q.1
-  | inr (_, inl (e, _)) ↦ let clash : Fault.NoGoal ≡ Fault.NotShelved = sym e ∙ same in cc
-  | inr (_, inr (_, inl (e, _))) ↦ let clash : Fault.NoVariable ≡ Fault.NotShelved = sym e ∙ same in cc
-  | inr (_, inr (_, inr (_, inl (e, _)))) ↦ let clash : Fault.Changed ≡ Fault.NotShelved = sym e ∙ same in cc
-  | inr (_, inr (_, inr (_, inr (_, (e, _))))) ↦ let clash : Fault.Full ≡ Fault.NotShelved = sym e ∙ same in cc
-]
+said_not_shelved p same = grind arith
 
 pub said_no_goal : {w : World} {n : ℕ} {f : Fault} → RedoFails w n f → f ≡ Fault.NoGoal → (r : Record) × (finite.get w.shelf n ≡ Some r) × LacksGoal w.state.goals r
 said_no_goal p same = elim p.first [

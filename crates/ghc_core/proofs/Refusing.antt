@@ -1,5 +1,5 @@
 -- Refusals: each cause, which is told alone, and no cause where what is asked for can be done.
-use Rattle.ghc_core.proofs.Words.{◌≡◌, ◌≢◌, ℕ, ◌≤◌, List, Option, length, refl, sym, ◌∙◌, subst, inl, inr, Some, None, GoalName, VarName, Fault, Tree, IsValue, value_at, EndsIn, kept_limit, Goal, Record, IsThere, Fires, IsKeptAs, IsNotKept, IsFirstConsequence, Proposal, World, IsFull, IsKnown, IsToldWhere, OrElse, UndoFails, LacksGoal, IsShelvedWith, RedoFails, IsStreamAt, StreamFails, StillHolds, CommitFails}
+use Rattle.ghc_core.proofs.Words.{◌≡◌, ◌≢◌, ℕ, ◌≤◌, List, Option, length, refl, sym, ◌∙◌, subst, inl, inr, Some, None, GoalName, VarName, Fault, Tree, IsValue, value_at, EndsIn, kept_limit, Goal, Record, IsThere, Fires, IsKeptAs, IsNotKept, IsFirstConsequence, Proposal, World, IsFull, IsKnown, IsToldWhere, OrElse, UndoFails, LacksGoal, IsShelvedWith, RedoFails, IsStreamAt, StreamFails, StillHolds, CommitFails, arith}
 use Rattle.std.specs.FinMap as finite
 
 -- A cause tells one fault at most.
@@ -11,19 +11,7 @@ told_once told Holds f g p q = p.0 ∙ sym q.0
 
 -- Causes of which each tells one fault at most tell one, in their order.
 pub first_once : (First Next : Fault → Type 0) → TellsOne First → TellsOne Next → TellsOne (OrElse First Next)
-first_once First Next first next f g (inl p) (inl q) = first f g p q
-first_once First Next first next f g (inl p) (inr q) = absurd (q.0 f p)
-first_once First Next first next f g (inr p) (inl q) = absurd (p.0 g q)
-first_once First Next first next f g (inr p) (inr q) = next f g p.1 q.1
-
--- Where the first cause holds, it is told; where it does not, another one is the cause.
-pub told_first : (told : Fault) (Holds : Type 0) (Next : Fault → Type 0) (f : Fault) → Holds → OrElse (IsToldWhere told Holds) Next f → f ≡ told
-told_first told Holds Next f holds (inl p) = p.0
-told_first told Holds Next f holds (inr p) = absurd (p.0 told (refl, holds))
-
-pub told_next : (told : Fault) (Holds : Type 0) (Next : Fault → Type 0) (f : Fault) → ¬ Holds → OrElse (IsToldWhere told Holds) Next f → Next f
-told_next told Holds Next f none (inl p) = absurd (none p.1)
-told_next told Holds Next f none (inr p) = p.1
+first_once First Next first next f g p q = grind arith
 
 -- what a map has and has not at a key
 pub has_not : {A : Type 0} {x : A} {o : Option A} → o ≡ Some x → o ≡ None → ⊥
@@ -44,10 +32,10 @@ pub has_consequence : {kept : List Record} {n : ℕ} (r b : Record) → IsKeptAs
 has_consequence r b kept first = record { first = inr ((λ f none. none.1 r kept.0 kept.1), (r, b, refl, kept, first)) }
 
 -- the goal of a shelved step, if it has one, is there
-abbrev GoalIsThere : World → Record → Type 0
+abbrev pub GoalIsThere : World → Record → Type 0
 GoalIsThere w r = (g : GoalName) → r.goal ≡ Some g → finite.get w.state.goals g ≢ None
 
-has_goal : (w : World) (n : ℕ) (r : Record) → finite.get w.shelf n ≡ Some r → GoalIsThere w r → ¬ IsShelvedWith w n (LacksGoal w.state.goals)
+pub has_goal : (w : World) (n : ℕ) (r : Record) → finite.get w.shelf n ≡ Some r → GoalIsThere w r → ¬ IsShelvedWith w n (LacksGoal w.state.goals)
 has_goal w n r on there (s, at, (g, named, gone)) = there g (subst (λ (q : Record). q.goal ≡ Some g) (value_once at on) named) gone
 
 pub not_shelved : {w : World} {n : ℕ} → finite.get w.shelf n ≡ None → RedoFails w n Fault.NotShelved
@@ -68,18 +56,12 @@ changed {w} {n} r on there known other = record {
 }
 
 pub full : {w : World} {n : ℕ} (r : Record) → finite.get w.shelf n ≡ Some r → IsKnown w r → Fires w.opening.program w.state r → kept_limit ≤ length w.kept → RedoFails w n Fault.Full
-full {w} {n} r on known fires many = record {
-  first = inr (
-    (λ f none. has_not on none.1),
-    inr (
-      (λ f lacks. has_goal w n r on (λ g named none. has_not (finds w r g fires named).2 none) lacks.1),
-      inr (
-        (λ f unknown. is_known w n r on known unknown.1),
-        inr ((λ f other. other.1.2 (subst (Fires w.opening.program w.state) (value_once on other.1.1) fires)), (refl, many)),
-      ),
-    ),
-  );
-}
+full {w} {n} r on known fires many =
+    let there : GoalIsThere w r = λ g named none. has_not (finds w r g fires named).2 none in
+    let same = λ (s : Record) (at : finite.get w.shelf n ≡ Some s). subst (Fires w.opening.program w.state) (value_once on at) fires in
+    let lacks = has_goal w n r on there in
+    let known = is_known w n r on known in
+    record { first = inr ((λ f q. has_not on q.1), inr ((λ f q. lacks q.1), inr ((λ f q. known q.1), inr ((λ f q. q.1.2 (same q.1.0 q.1.1)), (refl, many))))) }
 
 pub no_stream : {w : World} {k : ℕ} → ((g : GoalName) (s : VarName) → ¬ IsStreamAt w k g s) → StreamFails w k Fault.NoStream
 no_stream none = record { first = inl (refl, none) }

@@ -1,11 +1,11 @@
 -- The state of a world that is reached is the replay of its kept steps.
-use Rattle.ghc_core.proofs.Words.{◌≡◌, ℕ, ◌+◌, ◌<◌, ◌≤◌, List, [], ◌∷◌, ◌++◌, length, sym, ap, ◌∙◌, subst, inl, inr, arith, Some, None, nat_cmp, length-append, In, in_either, Program, number_limit, kept_limit, IsStepNumber, AreDistinct, State, Record, Shelf, numbers, after, Fires, query_state, Runs, Entry, records_distinct, not_both, shelved, unshelved, no_longer, picks_in, records_push, place_of, IsAsking, firing, World, IsReplay, IsKnown, IsNextStep, Change, Comes as comes, Goes as goes, Reorders as reorders, Coming, all_gone, without_steps, CanChange, Changes, Reaches, from_opening, by_change}
+use Rattle.ghc_core.proofs.Words.{◌≡◌, ℕ, ◌+◌, ◌<◌, ◌≤◌, List, [], ◌∷◌, ◌++◌, length, sym, ap, ◌∙◌, subst, inl, inr, arith, Some, None, nat_cmp, length-append, In, Program, number_limit, kept_limit, IsStepNumber, AreDistinct, State, Record, Shelf, numbers, after, Fires, query_state, Runs, Entry, records_distinct, not_both, shelved, unshelved, no_longer, picks_in, records_push, place_of, IsAsking, firing, World, IsReplay, IsKnown, IsNextStep, Change, Comes as comes, Goes as goes, Reorders as reorders, Coming, all_gone, without_steps, CanChange, Changes, Reaches, from_opening, by_change}
 use Rattle.std.specs.FinMap as finite
 use Rattle.ghc_depend.proofs.Arranging.{arranged}
 use Rattle.ghc_core.specs.Returns as laws
 use Rattle.ghc_core.proofs.Moving.{reachable_reached}
 use Rattle.ghc_core.proofs.Naming.{named_push}
-use Rattle.ghc_core.proofs.Reaching.{Good, not_kept_next, reached_good}
+use Rattle.ghc_core.proofs.Reaching.{Good, each_more, not_kept_next, reached_good}
 
 -- each step on the shelf that consumed nothing asks for goals
 abbrev pub AskFromShelf : Program → Shelf → Type 0
@@ -34,14 +34,7 @@ module _ (w : World) (good : Good w) (h : Replayed w) where
   -- a step more at the end
   pub pushed : (r : Record) → Fires w.opening.program w.state r → IsKnown w r → IsStepNumber r.number → ¬ In r.number (numbers w.kept) → IsReplay w (w.kept ++ r ∷ []) (after w.state r)
   pushed r f known n new = (
-    (
-      λ s i. elim (in_either w.kept (r ∷ []) s i) [
-        | inl j ↦ h.replay.0.0 s j
-        | inr (inl e) ↦ subst (λ (z : Record). IsStepNumber z.number) (sym e) n
-        | inr (inr j) ↦ absurd j
-      ],
-      records_push w.kept r good.kept_once new,
-    ),
+    (each_more (λ z. IsStepNumber z.number) w.kept r h.replay.0.0 n, records_push w.kept r good.kept_once new),
     runs_push w.opening.program w.kept r (query_state w.opening.query) w.state h.replay.1 f,
     named_push w.opening.query w.kept r h.replay.2 known,
   )

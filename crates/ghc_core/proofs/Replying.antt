@@ -1,5 +1,5 @@
 -- What a core replies to commands and notes is the answer of the definitions.
-use Rattle.ghc_core.proofs.Words.{◌≡◌, ◌⊎◌, ℕ, refl, sym, ap, ◌∙◌, subst, subst₂, inl, inr, Some, None, Option, false, GoalName, Fault, Goal, call, unify, assign, stream, value_at, is_stream, Status, failed, HasStatus, Note, Proposal, Hands, IsHand, with_hand, emptied, World, IsCommitted, Command, propose, commit, Reply, held, stepped, noted, refused, IsNoteOf, Fails, Obeys, does, refuses, starves, by_hand, Says, Answers, makes, says, fails, no_memory, IsCauseOfFailure}
+use Rattle.ghc_core.proofs.Words.{◌≡◌, ◌⊎◌, ℕ, refl, sym, ap, ◌∙◌, subst, subst₂, inl, inr, Some, None, Option, false, GoalName, Fault, Goal, call, unify, assign, stream, value_at, is_stream, Status, failed, HasStatus, Note, Proposal, Hands, IsHand, with_hand, emptied, World, IsCommitted, Command, propose, commit, Reply, held, stepped, noted, refused, IsNoteOf, Fails, Obeys, refuses, starves, by_hand, Says, Answers, makes, says, fails, no_memory, IsCauseOfFailure}
 use Rattle.std.specs.FinMap as finite
 use Rattle.ghc_fire.specs.Attempt as attempt
 use Rattle.ghc_core.specs.Proposes as asking
@@ -14,12 +14,6 @@ abbrev pub Why : (Fault → Type 0) → Fault → Type 0
 Why Fails f = (f ≡ Fault.Memory) ⊎ Fails f
 
 module _ (w : World) where
-  -- what a command does, whether or not memory was refused
-  pub obeyed : (c : Command) (reply : Reply) (v : World) → Obeys ⊥ w c reply v → Obeys Unknown w c reply v
-  obeyed c reply v (does asks can changes told) = does asks can changes told
-  obeyed c reply v (refuses f) = refuses f
-  obeyed c reply v (starves starved) = absurd starved
-
   -- a command that is refused, for want of memory or for what is told
   pub not_obeyed : (c : Command) (f : Fault) (v : World) → Why (Fails w c) f → v ≡ w → Obeys Unknown w c (refused f) v
   not_obeyed c f v why same = subst (Obeys Unknown w c (refused f)) (sym same) (elim why [

@@ -1,20 +1,14 @@
 -- A chronicle is carried out entry by entry: what was done so far, and where it stops.
-use Rattle.ghc_core.proofs.Words.{◌≡◌, ◌⊎◌, ℕ, suc, ◌+◌, ◌<◌, ◌≤◌, List, [], ◌∷◌, ◌++◌, map, length, take, drop, get_or, refl, sym, ap, ◌∙◌, subst, inl, inr, arith, zero, slice_get, Some, None, append_assoc, take-suc, map-append, take_all, length-map, Ok, Err, Fault, splits_at, Program, Query, Opening, Entry, Predicate, WrittenEntry, Chronicle, said_by, World, Loads, loads, stops, CarriesOut, CarriesOutEach, IsRefusedEntry, StopsBehind, IsPredicateOf, ArePredicatesOf, LacksBehind, IsOpened, Resumes, no_entry, no_spy, line_of_entry, line_of_spy}
+use Rattle.ghc_core.proofs.Words.{◌≡◌, ◌⊎◌, ℕ, suc, ◌+◌, ◌<◌, List, [], ◌∷◌, ◌++◌, map, length, take, drop, get_or, sym, ap, ◌∙◌, subst, inl, inr, arith, zero, slice_get, Some, None, append_assoc, map-append, length-map, Ok, Err, Fault, splits_at, Program, Query, Opening, Entry, Predicate, WrittenEntry, Chronicle, said_by, World, Loads, loads, stops, CarriesOut, CarriesOutEach, IsRefusedEntry, StopsBehind, IsPredicateOf, ArePredicatesOf, LacksBehind, IsOpened, Resumes, no_entry, no_spy, line_of_entry, line_of_spy, take_more, length-take-le}
 use Rattle.ghc_core.specs.Load.{no_memory}
 use Rattle.ghc_core.specs.Resume.{no_step}
 use Rattle.ghc_core.proofs.ResumedOnce.{each_push, each_grown}
-
-taken_length : {X : Type 0} (xs : List X) (i : ℕ) → i ≤ length xs → length (take i xs) ≡ i
-taken_length xs zero l = refl
-taken_length [] (suc i) l = absurd (omega (arith, l))
-taken_length (x ∷ xs) (suc i) l = ap suc (taken_length xs i (omega (arith, l)))
 
 module _ (entries : List WrittenEntry) (i : ℕ) (e : WrittenEntry) (less : i < length entries) (is : e ≡ get_or entries i e) (w u : World) (done : CarriesOutEach w (map said_by (take i entries)) u) where
   -- one entry more
   pub one_more_carried : (v : World) → CarriesOut u (said_by e) v → CarriesOutEach w (map said_by (take (i + 1) entries)) v
   one_more_carried v one =
-      let more : take (i + 1) entries ≡ take i entries ++ e ∷ [] =
-      ap (λ n. take n entries) (let p : i + 1 ≡ suc i = omega arith in p) ∙ take-suc entries i e less ∙ ap (λ x. take i entries ++ x ∷ []) (sym is) in
+      let more : take (i + 1) entries ≡ take i entries ++ e ∷ [] = take_more entries i e less ∙ ap (λ x. take i entries ++ x ∷ []) (sym is) in
       subst (λ es. CarriesOutEach w es v) (sym (ap (map said_by) more ∙ map-append said_by (take i entries) (e ∷ []))) (each_push w u v (map said_by (take i entries)) (said_by e) done one)
 
   -- the entry is refused
@@ -24,15 +18,11 @@ module _ (entries : List WrittenEntry) (i : ℕ) (e : WrittenEntry) (less : i < 
     stopped = said_by e;
     behind = map said_by (drop (i + 1) entries);
     whole = ap (map said_by) (splits_at entries i e less is) ∙ map-append said_by (take i entries) (e ∷ drop (i + 1) entries);
-    count_is = sym (length-map (take i entries) said_by ∙ taken_length entries i (omega (arith, less)));
+    count_is = sym (length-map (take i entries) said_by ∙ length-take-le i entries (omega (arith, less)));
     world = u;
     carried = done;
     refused = refused;
   }
-
--- all are carried out
-pub all_carried : (entries : List WrittenEntry) (i : ℕ) (w u : World) → length entries ≤ i → CarriesOutEach w (map said_by (take i entries)) u → CarriesOutEach w (map said_by entries) u
-all_carried entries i w u most done = subst (λ es. CarriesOutEach w (map said_by es) u) (take_all i entries most) done
 
 -- one of the predicates has no clause
 pub lacks_here : (P : Program) (spies : List Predicate) (i : ℕ) (p : Predicate) → i < length spies → p ≡ get_or spies i p → ArePredicatesOf P (take i spies) → ¬ IsPredicateOf P p → LacksBehind P spies i
@@ -41,7 +31,7 @@ lacks_here P spies i p less is known unknown = record {
   lacking = p;
   behind = drop (i + 1) spies;
   whole = splits_at spies i p less is;
-  count_is = sym (taken_length spies i (omega (arith, less)));
+  count_is = sym (length-take-le i spies (omega (arith, less)));
   known = known;
   unknown = unknown;
 }

@@ -1,5 +1,5 @@
 -- A chronicle has one answer, what is told of a world is carried out again, and what is carried out is told again.
-use Rattle.ghc_core.proofs.Words.{◌≡◌, ℕ, List, [], ◌∷◌, ◌++◌, map, length, drop, refl, sym, ap, ◌∙◌, subst, subst₂, inl, inr, append_assoc, append-nil, Result, Ok, Err, Fault, exact, In, compare_splits, in_middle, Program, Query, Step, Opening, Entry, took, history, opening_journal, IsHistory, loaded_opening, Change, Comes as comes, Goes as goes, Reorders as reorders, Coming, Going, Predicate, Chronicle, next_after, next_behind, World, Opens, CanChange, Changes, IsSound, Reaches, from_opening, by_change, Leaves, the_opening, and_entry, CarriesOut, CarriesOutEach, StopsBehind, LacksBehind, IsCarriedOut, Resumes, resumes, no_entry, no_spy, line_of_entry, line_of_spy, opening_of, chronicle_of_world}
+use Rattle.ghc_core.proofs.Words.{◌≡◌, ℕ, List, [], ◌∷◌, ◌++◌, map, length, drop, refl, sym, ap, ◌∙◌, subst, subst₂, inl, inr, append_assoc, append-nil, Result, Ok, Err, Fault, In, compare_splits, in_middle, Program, Query, Step, Opening, Entry, took, history, opening_journal, IsHistory, loaded_opening, Change, Comes as comes, Goes as goes, Coming, Going, Predicate, Chronicle, next_after, next_behind, World, Opens, CanChange, Changes, IsSound, Reaches, from_opening, by_change, Leaves, the_opening, and_entry, CarriesOut, CarriesOutEach, StopsBehind, LacksBehind, IsCarriedOut, Resumes, resumes, no_entry, no_spy, line_of_entry, line_of_spy, opening_of, chronicle_of_world}
 use Rattle.ghc_core.specs.Resume.{no_step, no_memory}
 use Rattle.ghc_core.specs.ResumeLaws as laws
 use Rattle.ghc_core.proofs.Histories.{history_push, leaves_once}
@@ -81,27 +81,19 @@ module _ (P : Program) (query : Query) (names : List (List ℕ)) (c : Chronicle)
   never_both w _ (resumes _ a all) (no_spy v b p) = p.unknown (all p.lacking (subst (In p.lacking) (sym p.whole) (in_middle p.before p.lacking p.behind)))
   never_both w _ (resumes _ a all) (no_memory n) = n
 
-  one_refusal : IsHistory c.opening → (f g : Fault) → Resumes P query names c ⊥ (Err f) → Resumes P query names c ⊥ (Err g) → f ≡ g
+  pub one_refusal : IsHistory c.opening → (f g : Fault) → Resumes P query names c ⊥ (Err f) → Resumes P query names c ⊥ (Err g) → f ≡ g
   one_refusal form _ _ (no_step {line = line} p) (no_step {line = other} q) = ap Fault.History (one_stop P query sound.0 sound.1 names c.opening form line other p q)
   one_refusal form _ _ (no_step {line = line} p) (no_entry w opens q) = absurd (no_stop P query sound.0 sound.1 names c.opening w line opens p)
   one_refusal form _ _ (no_step {line = line} p) (no_spy w a q) = absurd (no_stop P query sound.0 sound.1 names c.opening a.0 line a.1 p)
-  one_refusal form _ _ (no_step p) (no_memory n) = absurd n
   one_refusal form _ _ (no_entry w opens p) (no_step {line = line} q) = absurd (no_stop P query sound.0 sound.1 names c.opening w line opens q)
   one_refusal form _ _ (no_entry w {n = n} opens p) (no_entry v {n = m} begins q) =
       ap (λ k. Fault.History (line_of_entry c k)) (stops_once o (opening_journal o) v c.entries n m (opened_legal v begins) (subst (λ z. StopsBehind z c.entries n) (opened_once w v opens begins) p) q)
   one_refusal form _ _ (no_entry w {n = n} opens p) (no_spy v a q) = absurd (never_stops v w n a opens p)
-  one_refusal form _ _ (no_entry w opens p) (no_memory n) = absurd n
   one_refusal form _ _ (no_spy w a p) (no_step {line = line} q) = absurd (no_stop P query sound.0 sound.1 names c.opening a.0 line a.1 q)
   one_refusal form _ _ (no_spy w a p) (no_entry v {n = m} opens q) = absurd (never_stops w v m a opens q)
   one_refusal form _ _ (no_spy w {n = n} a p) (no_spy v {n = m} b q) = ap (λ k. Fault.History (line_of_spy c k)) (lacks_once P c.spies n m p q)
-  one_refusal form _ _ (no_spy w a p) (no_memory n) = absurd n
   one_refusal form _ _ (no_memory n) q = absurd n
-
-pub resume_exact : laws.ResumeIsExact
-resume_exact P query names c result sound form answer = exact (only_world P query names c sound) (one_refusal P query names c sound form) (never_both P query names c sound) result answer
-
-pub legal_carried : laws.CarriedOutIsLegal
-legal_carried P query names c w sound carried = carried_legal P query names c sound w carried
+  one_refusal form _ _ p (no_memory n) = absurd n
 
 -- What a reachable world entered behind its opening is carried out.
 record Entered (w : World) : Type 0 where
@@ -161,11 +153,10 @@ told_carried w hands spies r known = (answer, only)
 
 -- the number that the next step gets behind a change
 change_next : (w v : World) (change : Change) → CanChange w change → Changes w change v → v.next ≡ next_after w.next (entered_by change)
-change_next w v (comes Coming.Next r) can e = ap (λ (z : World). z.next) e
-change_next w v (comes Coming.Shelved r) can e = ap (λ (z : World). z.next) e
 change_next w v (goes Going.Alone gone) can (left, split, (t, run, e)) = ap (λ (z : World). z.next) e
 change_next w v (goes Going.Together gone) can (left, split, (t, run, e)) = ap (λ (z : World). z.next) e
-change_next w v (reorders a) can e = ap (λ (z : World). z.next) e
+change_next w v (comes Coming.Next r) can e = ap (λ (z : World). z.next) e
+change_next w v change can e = ap (λ (z : World). z.next) e
 
 -- What stays and what grows where entries are carried out.
 pub record Grown (w : World) (entries : List Entry) (v : World) : Type 0 where

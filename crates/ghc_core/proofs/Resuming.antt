@@ -14,10 +14,9 @@ entered_by (goes how gone) = entry_of_going how gone.first
 entered_by (reorders a) = reordered a.order
 
 pub enters_own : (w v : World) (change : Change) → CanChange w change → Changes w change v → v.journal ≡ w.journal ++ entered_by change ∷ []
-enters_own w v (comes Coming.Next r) can e = ap (λ (z : World). z.journal) e
-enters_own w v (comes Coming.Shelved r) can e = ap (λ (z : World). z.journal) e
 enters_own w v (goes how gone) can (left, split, (t, run, e)) = ap (λ (z : World). z.journal) e
-enters_own w v (reorders a) can e = ap (λ (z : World). z.journal) e
+enters_own w v (comes Coming.Next r) can e = ap (λ (z : World). z.journal) e
+enters_own w v change can e = ap (λ (z : World). z.journal) e
 
 -- a list with one item more has one last item
 last_once : (es : List Entry) (a b : Entry) → es ++ a ∷ [] ≡ es ++ b ∷ [] → a ≡ b
@@ -45,10 +44,8 @@ step_carried w v s r standing next is e = carries w v (took s) standing (comes C
 
 step_added : (w v : World) (s : Step) (change : Change) → CanChange w change → Changes w change v → entered_by change ≡ took s → (r : Record) × (step_of r ≡ s) × IsNextStep w r
 step_added w v s (comes Coming.Next r) can changes e = (r, (let same : step_of r ≡ s = cc in same), can)
-step_added w v s (comes Coming.Shelved r) can changes e = cc
 step_added w v s (goes Going.Alone gone) can changes e = cc
-step_added w v s (goes Going.Together gone) can changes e = cc
-step_added w v s (reorders a) can changes e = cc
+step_added w v s change can changes e = cc
 
 -- A step that is not possible as the next one is refused.
 pub step_refused : (w : World) (s : Step) → ((r : Record) → step_of r ≡ s → ¬ IsNextStep w r) → IsRefusedEntry w (took s)
@@ -80,19 +77,20 @@ enters_asks (goes Going.Together gone) for_roll = to_roll refl
 enters_asks (reorders a) for_arrange = to_arrange refl
 
 -- What a command asks for carries out its entry.
-pub command_carried : (w v : World) (entry : Entry) (c : Command) (change : Change) → IsStanding w → IsCommandOf entry c → IsAskedFor w c change → Changes w change v → CarriesOut w entry v
-command_carried w v entry c change s of (asks, can) changes = carries w v entry s (change, can, changes, asks_enters of asks)
+pub command_carried : {w v : World} {entry : Entry} {c : Command} {T : Type 0} → IsCommandOf entry c → IsStanding w
+    → (T → (change : Change) × IsAskedFor w c change × Changes w change v) → T → CarriesOut w entry v
+command_carried {w} {v} {entry} of s by t = let (change, (asks, can), changes) = by t in carries w v entry s (change, can, changes, asks_enters of asks)
 
 -- Where it asks for nothing that can be made, its entry is refused.
-pub command_refused : (w : World) (entry : Entry) (c : Command) → IsCommandOf entry c → ((change : Change) (v : World) → IsAskedFor w c change → ¬ Changes w change v) → IsRefusedEntry w entry
-command_refused w entry c of never v carried =
+pub command_refused : {w : World} {entry : Entry} {c : Command} {T : Type 0} → IsCommandOf entry c
+    → (T → (change : Change) (v : World) → IsAskedFor w c change → ¬ Changes w change v) → T → IsRefusedEntry w entry
+command_refused {w} {entry} {c} of never t v carried =
     let by = carried_by w v entry carried in
-    never by.0 v (enters_asks by.0 (subst (λ e. IsCommandOf e c) (sym by.3) of), by.1) by.2
+    never t by.0 v (enters_asks by.0 (subst (λ e. IsCommandOf e c) (sym by.3) of), by.1) by.2
 
 told_not_refused : (change : Change) (f : Fault) → told_of change ≢ refused f
 told_not_refused (comes from r) f e = cc
-told_not_refused (goes how gone) f e = cc
-told_not_refused (reorders a) f e = cc
+told_not_refused change f e = cc
 
 -- A command that is refused asks for nothing that can be made.
 pub refused_asks_nothing : (w : World) → IsStanding w → (c : Command) (f : Fault) → Fails w c f → (change : Change) (v : World) → IsAskedFor w c change → ¬ Changes w change v

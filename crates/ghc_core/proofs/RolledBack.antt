@@ -1,5 +1,5 @@
 -- A kept step and its consequences are taken away, the last one first, and the world that is left stands.
-use Rattle.ghc_core.proofs.Words.{◌≡◌, ◌≢◌, ◌⊎◌, ℕ, List, [], ◌∷◌, ◌++◌, refl, sym, ap, ◌∙◌, subst, inl, inr, append_assoc, Option, Some, None, IsSome, IfSome, IfNone, VarName, GoalName, In, in_left, in_right, in_more, in_last, Goals, Picks, AreDistinct, State, Record, numbers, Shelf, IsTakenBack, AreTakenBack, Opening, Entry, undid, number_of, Note, NotesByGoal, AreLeft, Tries, Binds, IsBoundIn, with_shelved, IsSplitAt, by_option, not_both, alone, picks_has, results_of, apart_behind, picks_all, picks_within, alone_left, rest_left, gone_kept, gone_distinct, World, IsReplay, Goes as goes, Going, Gone, all_gone, by_change, IsStanding, AreExactIn, CanChange, Changes, entry_of_going, Consumed, AreCarriedBack, AreAllCarriedBack, told_back, all_told_back, TellStreams}
+use Rattle.ghc_core.proofs.Words.{◌≡◌, ◌≢◌, ◌⊎◌, ℕ, List, [], ◌∷◌, ◌++◌, refl, sym, ap, ◌∙◌, subst, inl, inr, append_assoc, Option, Some, None, IsSome, IfNone, VarName, GoalName, In, in_left, in_right, in_more, in_last, Goals, Picks, AreDistinct, State, Record, numbers, Shelf, IsTakenBack, AreTakenBack, Opening, Entry, undid, number_of, Note, NotesByGoal, AreLeft, Tries, Binds, IsBoundIn, with_shelved, IsSplitAt, by_option, not_both, alone, picks_has, results_of, apart_behind, picks_all, picks_within, alone_left, rest_left, gone_kept, gone_distinct, World, IsReplay, Goes as goes, Going, Gone, all_gone, by_change, IsStanding, AreExactIn, CanChange, Changes, entry_of_going, Consumed, AreCarriedBack, AreAllCarriedBack, told_back, all_told_back, TellStreams, arith}
 use Rattle.std.specs.FinMap as finite
 use Rattle.ghc_core.proofs.Exactness.{back_exact, back_left}
 use Rattle.ghc_core.proofs.Alone.{goes_alone}
@@ -13,13 +13,7 @@ use Rattle.ghc_core.proofs.TakenAway.{taken_away}
 left_twice : (H K : Goals) (T U V : VarName → Type 0) (a b c : NotesByGoal) → AreLeft H T a b → AreLeft K U b c
     → ((g : GoalName) (note : Note) → finite.get a g ≡ Some note → finite.get K g ≢ None → finite.get H g ≢ None)
     → ((x : VarName) → V x → U x ⊎ T x) → ((x : VarName) → T x → V x) → ((x : VarName) → U x → V x) → AreLeft K V a c
-left_twice H K T U V a b c first second stays parts of_first of_second g note = (
-  λ k.
-      let s = (second g note).0 k in
-      let f = (first g note).0 s.0 in
-      (f.0, s.1, λ x v. elim (parts x v) [ inl u ↦ s.2 x u | inr t ↦ f.2 x t ]),
-  λ k. (second g note).1 ((first g note).1 (k.0, stays g note k.0 k.1, λ x t. k.2 x (of_first x t)), k.1, λ x u. k.2 x (of_second x u)),
-)
+left_twice H K T U V a b c first second stays parts of_first of_second g note = grind (arith, first g note, second g note, stays g note)
 
 bound_parts : (r : Record) (rs : List Record) (x : VarName) → IsBoundIn (r ∷ rs) x → Binds r x ⊎ IsBoundIn rs x
 bound_parts r rs x (c, inl same, b) = inl (subst (λ z. Binds z x) same b)
@@ -218,6 +212,3 @@ rolled_away w s how gone can old new exact t p q some shelf es put picked told =
 pub found_there : {X : Type 0} (o : Option X) (rs : List Record) (n : ℕ) → In n (numbers rs) → IfNone o ((r : Record) → In r rs → r.number ≢ n) → IsSome o
 found_there (Some x) rs n i none = refl
 found_there None rs n i none = let at = number_of rs n i in absurd (none at.0 at.1 at.2)
-
-pub found_is : {X : Type 0} (o : Option X) (x : X) (P : X → Type 0) → IfSome o P → o ≡ Some x → P x
-found_is o x P p e = subst (λ q. IfSome q P) e p

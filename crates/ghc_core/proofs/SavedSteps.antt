@@ -1,7 +1,8 @@
 -- A part of each record, one slot more at a time; and the history of a standing world is of the form.
-use Rattle.ghc_core.proofs.Words.{◌≡◌, ℕ, suc, ◌+◌, ◌<◌, ◌≤◌, List, [], ◌∷◌, ◌++◌, drop, drop-cons, length, map, sym, ap, ◌∙◌, subst, inl, inr, slice_get, append_assoc, append-nil, drop_of_length-le, refl, arith, Option, Some, cases_lt, slice_get_within, get_or_from_slice_get, VarName, Tree, Goal, call, unify, assign, stream, In, in_at, value_at, Program, ByClause as by_clause, Effect, HasEffect, AreDistinct, Record, numbers, IsHistory, Step, step_of, SlotList, held_in, StandsIn, held_stands, rank, rank_zero, rank_end, rank_stands, rank_next, rank_gap, Taken, firing, Place, place_of, World, IsStanding, AsksForGoals, AskForGoals, KeepsSlot, history_of}
+use Rattle.ghc_core.proofs.Words.{◌≡◌, ℕ, suc, ◌+◌, ◌<◌, ◌≤◌, List, [], ◌∷◌, ◌++◌, drop, drop-cons, length, map, sym, ap, ◌∙◌, subst, inl, inr, slice_get, append_assoc, append-nil, drop_of_length-le, refl, arith, Option, Some, cases_lt, slice_get_within, get_or_from_slice_get, VarName, Tree, Goal, call, In, in_at, value_at, Program, ByClause as by_clause, Effect, HasEffect, AreDistinct, Record, IsHistory, Step, step_of, SlotList, held_in, StandsIn, held_stands, rank, rank_zero, rank_end, rank_stands, rank_next, rank_gap, Taken, firing, Place, place_of, World, IsStanding, AsksForGoals, AskForGoals, KeepsSlot, history_of, length-map}
 use Rattle.ghc_core.proofs.Reaching.{reached_good}
 use Rattle.ghc_core.proofs.Replayed.{replayed}
+use Rattle.ghc_core.proofs.Loading.{step_numbers}
 
 -- What is left from a place on is the record there and the rest.
 drop_at : (rs : List Record) (i : ℕ) (r : Record) → slice_get rs i ≡ Some r → drop i rs ≡ r ∷ drop (i + 1) rs
@@ -65,17 +66,7 @@ step_back (r ∷ rs) s (inr i) = let q = step_back rs s i in (q.0, inr q.1, q.2)
 -- a clause by which a goal is reduced has a number from 1 on
 clause_number : (P : Program) (b : Goal) (k n : ℕ) (S : VarName → Option Tree) (e : Effect) → HasEffect P b (by_clause k) n S e → 1 ≤ k
 clause_number P (call f ts) k n S e h = let same = h.2.1 in omega (arith, same)
-clause_number P (unify l r) k n S e h = absurd h
-clause_number P (assign t a) k n S e h = absurd h
-clause_number P (stream j s) k n S e h = absurd h
-
-step_numbers : (rs : List Record) → map (λ (s : Step). s.number) (map step_of rs) ≡ numbers rs
-step_numbers [] = refl
-step_numbers (r ∷ rs) = ap (λ ns. r.number ∷ ns) (step_numbers rs)
-
-step_count : (rs : List Record) → length (map step_of rs) ≡ length rs
-step_count [] = refl
-step_count (r ∷ rs) = ap suc (step_count rs)
+clause_number P b k n S e h = absurd h
 
 -- The history of a standing world of which no step asks for goals is of the form.
 pub saved_form : (w : World) → IsStanding w → ¬ AskForGoals w.kept → IsHistory (history_of w)
@@ -83,7 +74,7 @@ saved_form w stands unasked =
     let good = reached_good stands in
     let played = replayed stands in
     let few = played.few in
-    let count = step_count w.kept in
+    let count = length-map w.kept step_of in
     let used : (s : Step) → In s (map step_of w.kept) → (r : Record) × In r w.kept × (step_of r ≡ s) = step_back w.kept in
     let place : (r : Record) → In r w.kept → Place w.opening.program w.opening.query w.kept r = place_of w.opening.program w.opening.query w.kept w.state played.replay in
     let of : (r : Record) (i : In r w.kept) → Taken w.opening.program (place r i).state r = λ r i. elim (firing w.opening.program (place r i).state r (place r i).fires) [
@@ -98,6 +89,6 @@ saved_form w stands unasked =
       of_clauses = λ s k i by. let r = used s i in let at = place r.0 r.1 in let goal = of r.0 r.1 in
           clause_number w.opening.program goal.goal k r.0.number (value_at at.state.store) r.0.effect
           (subst (λ a. HasEffect w.opening.program goal.goal a r.0.number (value_at at.state.store) r.0.effect) (ap (λ (q : Step). q.act) r.2 ∙ by) goal.effect);
-      distinct = subst AreDistinct (sym (step_numbers w.kept)) good.kept_once;
+      distinct = subst AreDistinct (step_numbers w.kept) good.kept_once;
       next_number = (good.first, played.within);
     }

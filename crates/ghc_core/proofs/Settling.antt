@@ -1,5 +1,5 @@
 -- Goals are tried and noted one after another.
-use Rattle.ghc_core.proofs.Words.{◌≡◌, ℕ, zero, suc, ◌+◌, ◌-◌, ◌<◌, ◌≤◌, List, false, cond, refl, sym, ap, subst, ◌∙◌, inl, inr, arith, Some, None, IsTrue, eq_by_cmp, GoalName, Goal, StoreValue, value_at, Program, is_stream, goal_cmp, Goals, tried, Meter, goal_total, goal_antisymmetric, GoalNames, Note, NotesByGoal, IsExact, AreExact, goal_itself, goal_cases, goal_taken, put_here, put_elsewhere, same_note, World, IsConsistent, AreExactIn, tells, IsNoteOf, AreKept, IsNoted, AreNoted, tried_often}
+use Rattle.ghc_core.proofs.Words.{◌≡◌, ℕ, zero, suc, ◌+◌, ◌-◌, ◌<◌, ◌≤◌, List, false, cond, refl, sym, ap, subst, ◌∙◌, arith, Some, None, IsTrue, GoalName, Goal, StoreValue, value_at, Program, is_stream, goal_cmp, Goals, tried, Meter, goal_total, goal_antisymmetric, GoalNames, Note, NotesByGoal, IsExact, AreExact, goal_itself, goal_cases, goal_taken, put_here, put_elsewhere, World, IsConsistent, AreExactIn, tells, IsNoteOf, AreKept, IsNoted, AreNoted, tried_often, by_option}
 use Rattle.std.specs.FinMap as finite
 use Rattle.std.specs.FinSet as set
 use Rattle.ghc_term.proofs.ListsLemmas.{not_both}
@@ -7,49 +7,24 @@ use Rattle.ghc_term.proofs.ListsLemmas.{not_both}
 module _ (m : NotesByGoal) (g : GoalName) (n : Note) where
   -- a note that is there is put again in vain
   pub put_again : finite.get m g ≡ Some n → m ≡ finite.insert m g n
-  put_again there = finite.same_map goal_total goal_antisymmetric m (finite.insert m g n) (λ h. elim (goal_cases h g) as (λ _. finite.get m h ≡ finite.get (finite.insert m g n) h) [
-    | inl p ↦ ap (finite.get m) p ∙ there ∙ sym (put_here m g n) ∙ ap (finite.get (finite.insert m g n)) (sym p)
-    | inr d ↦ sym (put_elsewhere m g n h d)
-  ])
+  put_again there =
+      finite.same_map goal_total goal_antisymmetric m (finite.insert m g n) (λ h. grind (arith, goal_cases h g, put_here m g n, put_elsewhere m g n h))
 
   -- one that is put where there was none takes the place of none
   pub kept_put : finite.get m g ≡ None → AreKept m (finite.insert m g n)
-  kept_put none h k there = elim (goal_cases h g) as (λ _. finite.get (finite.insert m g n) h ≡ Some k) [
-    | inl p ↦ let clash : None ≡ Some k = sym none ∙ ap (finite.get m) (sym p) ∙ there in absurd (cc)
-    | inr d ↦ put_elsewhere m g n h d ∙ there
-  ]
+  kept_put none h k there = grind (arith, goal_cases h g, put_elsewhere m g n h)
 
 module _ {P : Program} {G : Goals} {S : StoreValue} {m : NotesByGoal} {u : GoalNames} (exact : AreExact P G S m u) (g : GoalName) (b : Goal) (there : finite.get G g ≡ Some b) (not : is_stream b ≡ false) where
   -- notes stay exact where an untried goal gets the note of its trial
   pub noted_exact : (n : Note) → IsExact P (value_at S) b n → AreExact P G S (finite.insert m g n) (set.remove u g)
   noted_exact n is = record {
-    noted = λ h k at. elim (goal_cases h g) as (λ _. (c : Goal) × (finite.get G h ≡ Some c) × (is_stream c ≡ false) × IsExact P (value_at S) c k) [
-      | inl p ↦
-          let same : n ≡ k = same_note (sym (put_here m g n) ∙ ap (finite.get (finite.insert m g n)) (sym p) ∙ at) in
-          (b, ap (finite.get G) p ∙ there, not, subst (IsExact P (value_at S) b) same is)
-      | inr d ↦ exact.noted h k (sym (put_elsewhere m g n h d) ∙ at)
-    ];
-    marked = λ h. (
-      λ k.
-          let r = (goal_taken u g h).0 k in
-          let q = (exact.marked h).0 r.0 in
-          (q.0, q.1, q.2, elim (goal_cases h g) as (λ _. finite.get (finite.insert m g n) h ≡ None) [ inl p ↦ absurd (r.1 p) | inr d ↦ put_elsewhere m g n h d ∙ q.3 ]),
-      λ q. elim (goal_cases h g) as (λ _. IsTrue (set.contains (set.remove u g) h)) [
-        | inl p ↦ let clash : Some n ≡ None = sym (put_here m g n) ∙ ap (finite.get (finite.insert m g n)) (sym p) ∙ q.3 in absurd (cc)
-        | inr d ↦ (goal_taken u g h).1 (
-          (exact.marked h).1 (q.0, q.1, q.2, sym (put_elsewhere m g n h d) ∙ q.3),
-          λ e. not_both (eq_by_cmp goal_cmp h g) d (ap (λ z. eq_by_cmp goal_cmp z g) e ∙ goal_itself g),
-        )
-      ],
-    );
+    noted = λ h k at. grind (arith, goal_cases h g, put_here m g n, put_elsewhere m g n h, exact.noted h k);
+    marked = λ h. grind (arith, goal_cases h g, put_here m g n, put_elsewhere m g n h, goal_taken u g h, exact.marked h, goal_itself g);
   }
 
   -- a goal that can be tried and is not untried has a note
   pub has_note : ¬ IsTrue (set.contains u g) → (n : Note) × (finite.get m g ≡ Some n)
-  has_note tried = elim (finite.get m g) as (λ o. finite.get m g ≡ o → (n : Note) × (finite.get m g ≡ Some n)) [
-    | None ↦ λ e. absurd (tried ((exact.marked g).1 (b, there, not, e)))
-    | Some n ↦ λ e. (n, e)
-  ] refl
+  has_note tried = by_option (finite.get m g) (λ e. absurd (tried ((exact.marked g).1 (b, there, not, e)))) (λ n e. (n, e))
 
 -- a goal that can be tried and has a note keeps it, and one that was untried has the note of its trial
 pub noted_before : (w : World) (m : NotesByGoal) (u : GoalNames) (g : GoalName) (n : Note) → AreExactIn w m u → IsNoteOf w g n → ¬ IsTrue (set.contains u g) → IsNoted w g m m

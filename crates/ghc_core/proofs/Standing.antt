@@ -1,10 +1,9 @@
 -- What is known of a world that a core can be in, and which worlds are so from the start.
-use Rattle.ghc_core.proofs.Words.{◌≡◌, ◌≢◌, ◌<◌, ◌≤◌, ℕ, List, [], refl, sym, inl, inr, arith, Some, VarName, GoalName, Goal, value_at, Program, Query, IsProgram, IsQuery, no_step, HasNoVariableOf, In, State, Record, Shelf, query_state, IsVariableOf, number_limit, Opening, Entry, History, loaded_opening, IsWellMade, Keeps, World, IsReplay, Opens, AreNamesOf, IsSound, from_opening, IsOrderly, IsStanding}
+use Rattle.ghc_core.proofs.Words.{◌≡◌, ◌≢◌, ◌<◌, ◌≤◌, ℕ, List, [], refl, sym, inl, inr, arith, Some, VarName, GoalName, Goal, value_at, Program, Query, IsProgram, IsQuery, no_step, HasNoVariableOf, In, State, Record, Shelf, query_state, IsVariableOf, number_limit, Opening, Entry, History, loaded_opening, IsWellMade, World, IsReplay, Opens, AreNamesOf, IsSound, from_opening, IsOrderly, IsStanding}
 use Rattle.std.specs.FinMap as finite
 use Rattle.ghc_records.proofs.Replaying as replaying
 use Rattle.ghc_core.proofs.Reaching.{reached_good}
 use Rattle.ghc_core.proofs.Replayed.{replayed}
-use Rattle.ghc_core.proofs.Keeping.{reached_keeps}
 use Rattle.ghc_core.proofs.Naming.{none_named}
 
 -- The state of a standing world is the replay of its kept steps.
@@ -15,17 +14,9 @@ standing_replay w s = (replayed s).replay
 pub standing_well_made : (w : World) → IsStanding w → IsWellMade w.opening.query w.kept w.state
 standing_well_made w s = let g = reached_good s in record { acyclic = g.acyclic; goals = g.has.goals; bound = g.has.keys; values = λ x y u p o. g.has.values x u p y o }
 
--- In a standing world the names are those of the query's variables.
-pub standing_named : (w : World) → IsStanding w → AreNamesOf w.opening.query w.opening.names
-standing_named w s = (reached_good s).named
-
 -- A standing world is orderly: no number is kept twice, and each stream has one goal at most.
 pub standing_orderly : (w : World) → IsStanding w → IsOrderly w
 standing_orderly w s = let g = reached_good s in record { kept_once = g.kept_once; acyclic = g.acyclic; streams_once = λ k n m s u p q. g.one k n m s u p q }
-
--- The journal of a standing world tells what is kept and what is on the shelf.
-pub standing_keeps : (w : World) → IsStanding w → Keeps w.opening w.journal w.kept w.shelf
-standing_keeps w s = reached_keeps s
 
 -- The program and the query of a standing world are accepted, and the names are those of the query's variables.
 pub standing_sound : (w : World) → IsStanding w → IsSound w.opening

@@ -1,7 +1,6 @@
 -- Proposing, committing, and acting on streams have one answer, where attempts and effects have.
-use Rattle.ghc_core.proofs.Words.{◌≡◌, ℕ, List, [], ◌∷◌, ◌++◌, refl, sym, ap, ◌∙◌, subst, subst₂, inl, inr, arith, Some, None, Option, VarName, GoalName, Tree, variable, IsValue, Goal, stream, value_at, Leads, along, at_free, now, on, IsAcyclic, leads_once, Program, EndsIn, Fault, Act, ByClause as by_clause, Unified as unified, Assigned as assigned, Given as given, Closed as closed, Asked as asked, Effect, HasEffect, EffectIsOne, Record, HasStepEffect, Proposal, World, IsFull, HasRoom, IsNextStep}
+use Rattle.ghc_core.proofs.Words.{◌≡◌, ℕ, List, [], ◌∷◌, ◌++◌, refl, sym, ap, ◌∙◌, subst, subst₂, inl, inr, arith, Some, Option, VarName, GoalName, Tree, variable, IsValue, Goal, stream, value_at, Leads, IsAcyclic, leads_once, Program, EndsIn, Fault, Act, Given as given, Closed as closed, Effect, HasEffect, EffectIsOne, Record, HasStepEffect, Proposal, World, IsFull, HasRoom, IsNextStep, comes_leads}
 use Rattle.std.specs.FinMap as finite
-use Rattle.ghc_term.specs.Bindings.{Comes}
 use Rattle.ghc_core.specs.Proposes as asking
 use Rattle.ghc_core.specs.Streams as streams
 use Rattle.ghc_core.proofs.Refusing.{value_once, finds}
@@ -36,19 +35,11 @@ module _ (effects : EffectIsOne) (w : World) (acyclic : IsAcyclic (value_at w.st
 pub commit_or_fail : (w : World) {p : Proposal} {f : Fault} (r : Record) → asking.IsCommitOf w p r → ¬ asking.CommitFails w p f
 commit_or_fail w r c p = elim p.first [ inl q ↦ q.1 c.0 | inr q ↦ room_or_full w c.1.2 q.1.1 ]
 
--- a chain that comes to an unbound variable ends there
-comes_leads : {S : VarName → Option Tree} {t : Tree} {xs : List VarName} {x : VarName} → Comes S t xs x → S x ≡ None → Leads S t (xs ++ x ∷ []) (variable x)
-comes_leads now n = at_free n
-comes_leads (on e c) n = along e (comes_leads c n)
-
 -- an act on a stream has an effect where its tail ends unbound alone
 tail_open : (P : Program) (k : ℕ) (s : VarName) (a : Act) (n : ℕ) (S : VarName → Option Tree) (e : Effect) → HasEffect P (stream k s) a n S e → (x : VarName) × (xs : List VarName) × Leads S (variable s) xs (variable x)
 tail_open P k s (given u) n S e f = (f.0, f.2.0 ++ f.0 ∷ [], comes_leads f.2.1 f.2.2)
 tail_open P k s closed n S e f = (f.0, f.1.0 ++ f.0 ∷ [], comes_leads f.1.1 f.1.2)
-tail_open P k s (by_clause _) n S e f = absurd f
-tail_open P k s unified n S e f = absurd f
-tail_open P k s assigned n S e f = absurd f
-tail_open P k s (asked _) n S e f = absurd f
+tail_open P k s a n S e f = absurd f
 
 same_tail : {k : ℕ} {s u : VarName} → stream k s ≡ stream k u → s ≡ u
 same_tail p = cc

@@ -1,54 +1,36 @@
 -- The names of the streams' goals stay in step with the goals.
-use Rattle.ghc_core.proofs.Words.{◌≡◌, ◌≢◌, ℕ, zero, suc, ◌+◌, ◌⊎◌, true, false, List, [], ◌∷◌, filter, refl, sym, ap, ◌∙◌, subst, inl, inr, arith, Some, None, slice_get, slice_set, take, ◌++◌, Option, VarName, GoalName, Goal, call, unify, assign, stream, In, in_at, value_at, Program, Query, is_stream, IsProgram, IsQuery, goal_cmp, Goals, same_parts, State, Record, without_goal, after, Fires, query_state, Runs, IsTakenBack, one_or_not, not_stream, made_or_old, made_at, stream_made, place_at, by_option, not_both, same_value, named_or_not, without_it, without_other, firing, World, IsStanding, name_of, with_name, opened, stream_of, first_made, renamed, told, told_back, TellStreams}
+use Rattle.ghc_core.proofs.Words.{◌≡◌, ◌≢◌, ℕ, zero, suc, ◌+◌, ◌⊎◌, true, false, List, [], ◌∷◌, filter, refl, sym, ap, ◌∙◌, subst, inl, inr, arith, Some, None, slice_get, slice_set, take, ◌++◌, Option, VarName, GoalName, Goal, stream, In, in_at, value_at, Program, Query, is_stream, IsProgram, IsQuery, goal_cmp, Goals, same_parts, State, Record, without_goal, after, Fires, query_state, Runs, IsTakenBack, one_or_not, not_stream, made_or_old, made_at, stream_made, place_at, by_option, not_both, same_value, named_or_not, without_it, without_other, firing, World, IsStanding, name_of, with_name, opened, stream_of, first_made, renamed, told, told_back, TellStreams, set_other, set_same, slice_get_within}
 use Rattle.std.specs.FinMap as finite
 use Rattle.ghc_core.proofs.Reaching.{reached_good}
 use Rattle.ghc_core.proofs.Standing.{standing_replay, standing_orderly}
 use Rattle.ghc_core.proofs.Exactness.{come_back, consumed_again}
 
--- a list with another value in a place, at the place and at the others
-set_here : {X : Type 0} (xs : List X) (i : ℕ) (x y : X) → slice_get xs i ≡ Some y → slice_get (slice_set xs i x) i ≡ Some x
-set_here [] i x y e = cc
-set_here (z ∷ xs) zero x y e = refl
-set_here (z ∷ xs) (suc i) x y e = set_here xs i x y e
-
-set_apart : {X : Type 0} (xs : List X) (i j : ℕ) (x : X) → i ≢ j → slice_get (slice_set xs j x) i ≡ slice_get xs i
-set_apart [] i j x n = refl
-set_apart (z ∷ xs) zero zero x n = absurd (n refl)
-set_apart (z ∷ xs) zero (suc j) x n = refl
-set_apart (z ∷ xs) (suc i) zero x n = refl
-set_apart (z ∷ xs) (suc i) (suc j) x n = set_apart xs i j x (λ e. n (ap suc e))
-
+-- a list with another value in a place has something where it had
 set_stays : {X : Type 0} (xs : List X) (i j : ℕ) (x : X) → slice_get xs i ≢ None → slice_get (slice_set xs j x) i ≢ None
-set_stays [] i j x n = n
 set_stays (z ∷ xs) zero zero x n = λ e. cc
-set_stays (z ∷ xs) zero (suc j) x n = n
-set_stays (z ∷ xs) (suc i) zero x n = n
 set_stays (z ∷ xs) (suc i) (suc j) x n = set_stays xs i j x n
+set_stays xs i j x n = n
 
 -- the same of names in the places of streams
 name_here : (k : ℕ) (g h : GoalName) (names : List GoalName) → name_of k names ≡ Some h → name_of k (with_name k g names) ≡ Some g
 name_here zero g h names e = cc
-name_here (suc i) g h names e = set_here names i g h e
+name_here (suc i) g h names e = set_same names i g (slice_get_within names i h e)
 
 name_apart : (k j : ℕ) (g : GoalName) (names : List GoalName) → k ≢ j → name_of k (with_name j g names) ≡ name_of k names
-name_apart k zero g names n = refl
-name_apart zero (suc j) g names n = refl
-name_apart (suc i) (suc j) g names n = set_apart names i j g (λ e. n (ap suc e))
+name_apart (suc i) (suc j) g names n = set_other names j i g (λ e. n (ap suc e))
+name_apart k j g names n = refl
 
 name_stays : (k j : ℕ) (g : GoalName) (names : List GoalName) → name_of k names ≢ None → name_of k (with_name j g names) ≢ None
-name_stays k zero g names n = n
-name_stays zero (suc j) g names n = n
 name_stays (suc i) (suc j) g names n = set_stays names i j g n
+name_stays k j g names n = n
 
 renamed_apart : (o : Option ℕ) (q : Option GoalName) (k : ℕ) (names : List GoalName) → o ≢ Some k → name_of k (renamed o q names) ≡ name_of k names
-renamed_apart None q k names n = refl
-renamed_apart (Some j) None k names n = refl
 renamed_apart (Some j) (Some g) k names n = name_apart k j g names (λ e. n (ap Some (sym e)))
+renamed_apart o q k names n = refl
 
 renamed_stays : (o : Option ℕ) (q : Option GoalName) (k : ℕ) (names : List GoalName) → name_of k names ≢ None → name_of k (renamed o q names) ≢ None
-renamed_stays None q k names n = n
-renamed_stays (Some j) None k names n = n
 renamed_stays (Some j) (Some g) k names n = name_stays k j g names n
+renamed_stays o q k names n = n
 
 renamed_here : (o : Option ℕ) (q : Option GoalName) (k : ℕ) (g h : GoalName) (names : List GoalName) → o ≡ Some k → q ≡ Some g → name_of k names ≡ Some h → name_of k (renamed o q names) ≡ Some g
 renamed_here o q k g h names same named e =
@@ -61,11 +43,8 @@ is_or_not (Some j) k = elim (one_or_not j k) [ inl e ↦ inl (ap Some e) | inr n
 
 -- a goal of the stream is its stream goal
 of_stream : (c : Option Goal) (k : ℕ) → stream_of c ≡ Some k → (s : VarName) × (c ≡ Some (stream k s))
-of_stream None k e = cc
-of_stream (Some (call f ts)) k e = cc
-of_stream (Some (unify l r)) k e = cc
-of_stream (Some (assign t a)) k e = cc
 of_stream (Some (stream j s)) k e = (s, (let same : j ≡ k = cc in ap (λ n. Some (stream n s)) same))
+of_stream c k e = cc
 
 first_is : (g : GoalName) (n : ℕ) (gs : List Goal) (j : ℕ) (b : Goal) → slice_get gs j ≡ Some b → j ≡ 0 → g.step ≡ n → g.place ≡ 1 + j → first_made n gs ≡ Some g
 first_is g n [] j b e z s p = cc
@@ -174,17 +153,13 @@ CountFrom n gs = (i k : ℕ) (x : VarName) → slice_get (filter is_stream gs) i
 opened_at : (gs : List Goal) (n p : ℕ) → CountFrom n gs → (j k : ℕ) (x : VarName) → slice_get gs j ≡ Some (stream k x)
     → (i : ℕ) × (k ≡ n + suc i) × (slice_get (opened p gs) i ≡ Some (record { step = 0; place = p + j }))
 opened_at [] n p c j k x e = cc
-opened_at (call f ts ∷ gs) n p c zero k x e = cc
-opened_at (call f ts ∷ gs) n p c (suc j) k x e = let q = opened_at gs n (p + 1) c j k x e in (q.0, q.1, q.2 ∙ ap (λ m. Some (record { step = 0; place = m })) (omega arith))
-opened_at (unify l r ∷ gs) n p c zero k x e = cc
-opened_at (unify l r ∷ gs) n p c (suc j) k x e = let q = opened_at gs n (p + 1) c j k x e in (q.0, q.1, q.2 ∙ ap (λ m. Some (record { step = 0; place = m })) (omega arith))
-opened_at (assign t a ∷ gs) n p c zero k x e = cc
-opened_at (assign t a ∷ gs) n p c (suc j) k x e = let q = opened_at gs n (p + 1) c j k x e in (q.0, q.1, q.2 ∙ ap (λ m. Some (record { step = 0; place = m })) (omega arith))
 opened_at (stream l y ∷ gs) n p c zero k x e = let number = c 0 k x e in (0, omega (arith, number), ap (λ m. Some (record { step = 0; place = m })) (omega arith))
 opened_at (stream l y ∷ gs) n p c (suc j) k x e =
     let q = opened_at gs (n + 1) (p + 1) (λ i k x e. let number = c (suc i) k x e in omega (arith, number)) j k x e in
     let number = q.1 in
     (suc q.0, omega (arith, number), q.2 ∙ ap (λ m. Some (record { step = 0; place = m })) (omega arith))
+opened_at (b ∷ gs) n p c zero k x e = cc
+opened_at (b ∷ gs) n p c (suc j) k x e = let q = opened_at gs n (p + 1) c j k x e in (q.0, q.1, q.2 ∙ ap (λ m. Some (record { step = 0; place = m })) (omega arith))
 
 -- The names of a query's stream goals tell where they are before any step.
 pub opened_tells : (P : Program) (query : Query) → IsQuery P query → TellStreams query (query_state query).goals (opened 1 query)
@@ -208,20 +183,14 @@ opened_tells P query asked =
 pub opened_more : (gs : List Goal) (i p : ℕ) (b : Goal) → slice_get gs i ≡ Some b → opened p (take (suc i) gs) ≡ opened p (take i gs) ++ opened (p + i) (b ∷ [])
 opened_more [] i p b e = cc
 opened_more (g ∷ gs) zero p b e = let same : g ≡ b = cc in ap (λ x. opened p (x ∷ [])) same ∙ ap (λ n. opened n (b ∷ [])) (omega arith)
-opened_more (call f ts ∷ gs) (suc i) p b e = opened_more gs i (p + 1) b e ∙ ap (λ n. opened (p + 1) (take i gs) ++ opened n (b ∷ [])) (omega arith)
-opened_more (unify l r ∷ gs) (suc i) p b e = opened_more gs i (p + 1) b e ∙ ap (λ n. opened (p + 1) (take i gs) ++ opened n (b ∷ [])) (omega arith)
-opened_more (assign t a ∷ gs) (suc i) p b e = opened_more gs i (p + 1) b e ∙ ap (λ n. opened (p + 1) (take i gs) ++ opened n (b ∷ [])) (omega arith)
 opened_more (stream k s ∷ gs) (suc i) p b e = ap (λ l. record { step = 0; place = p } ∷ l) (opened_more gs i (p + 1) b e ∙ ap (λ n. opened (p + 1) (take i gs) ++ opened n (b ∷ [])) (omega arith))
+opened_more (g ∷ gs) (suc i) p b e = opened_more gs i (p + 1) b e ∙ ap (λ n. opened (p + 1) (take i gs) ++ opened n (b ∷ [])) (omega arith)
 
 -- the name of one more goal, if it is a stream goal
 pub opened_one : (p : ℕ) (b : Goal) → is_stream b ≡ true → opened p (b ∷ []) ≡ record { step = 0; place = p } ∷ []
-opened_one p (call f ts) e = cc
-opened_one p (unify l r) e = cc
-opened_one p (assign t a) e = cc
 opened_one p (stream k s) e = refl
+opened_one p b e = cc
 
 pub opened_none : (p : ℕ) (b : Goal) → is_stream b ≡ false → opened p (b ∷ []) ≡ []
-opened_none p (call f ts) e = refl
-opened_none p (unify l r) e = refl
-opened_none p (assign t a) e = refl
 opened_none p (stream k s) e = cc
+opened_none p b e = refl

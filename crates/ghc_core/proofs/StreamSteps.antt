@@ -1,23 +1,12 @@
 -- The step of a stream that is prepared, and why none is.
-use Rattle.ghc_core.proofs.Words.{◌≡◌, ◌≢◌, ℕ, refl, ap, ◌∙◌, sym, subst, inl, inr, [], ◌∷◌, ◌++◌, Some, None, Result, Err, Option, IfSome, IfNone, VarName, GoalName, Fault, variable, stream, StoreValue, value_at, comes_leads, EndsIn, Act, Closed as closed, effect_once, Effect, HasEffect, ReadsTail, IsTailBound, Record, World, IsFull, HasRoom, IsOrderly, TakesNothingAnyway, IsStreamAt, StreamFails, IsStreamStep}
+use Rattle.ghc_core.proofs.Words.{◌≡◌, ◌≢◌, ℕ, refl, ap, ◌∙◌, sym, subst, inl, inr, [], ◌∷◌, ◌++◌, Some, None, Result, Err, Option, IfNone, VarName, GoalName, Fault, variable, stream, StoreValue, value_at, comes_leads, EndsIn, Act, Closed as closed, effect_once, Effect, HasEffect, ReadsTail, IsTailBound, Record, World, IsFull, HasRoom, IsOrderly, TakesNothingAnyway, IsStreamAt, StreamFails, IsStreamStep}
 use Rattle.ghc_core.proofs.Naming.{known_of_act}
 use Rattle.ghc_core.proofs.Refusing.{stream_fails_once, tail_bound}
 use Rattle.ghc_core.proofs.Stepping.{bound_or_open, stream_full}
 
--- what is known of what was found, where it was found, and where not
-pub if_some : {T : Type 0} (P : T → Type 0) (o : Option T) (t : T) → o ≡ Some t → IfSome o P → P t
-if_some P o t same p = subst (λ q. IfSome q P) same p
-
+-- what is known where nothing was found
 pub if_none : {T : Type 0} (P : Type 0) (o : Option T) → o ≡ None → IfNone o P → P
 if_none P o same p = subst (λ q. IfNone q P) same p
-
--- Where no stream is told, there is none.
-pub said_no_stream : {w : World} {k : ℕ} {f : Fault} → StreamFails w k f → f ≡ Fault.NoStream → (g : GoalName) (s : VarName) → ¬ IsStreamAt w k g s
-said_no_stream p e = elim p.first [
-  | inl q ↦ q.1
-  | inr (_, inl (f, _)) ↦ let clash : Fault.TailBound ≡ Fault.NoStream = sym f ∙ e in cc
-  | inr (_, inr (_, (f, _))) ↦ let clash : Fault.Full ≡ Fault.NoStream = sym f ∙ e in cc
-]
 
 -- The tail ends in a value.
 pub is_bound : (w : World) (k : ℕ) (g : GoalName) (s : VarName) (m : StoreValue) → m ≡ w.state.store → IsStreamAt w k g s → IsTailBound s (value_at m) → StreamFails w k Fault.TailBound

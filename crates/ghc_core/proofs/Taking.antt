@@ -2,8 +2,6 @@
 use Rattle.ghc_core.proofs.Words.{◌≡◌, ◌≢◌, ◌⊎◌, List, [], true, inl, inr, refl, sym, ap, ◌∙◌, subst, arith, Option, Some, None, is_some, nat_cmp_total, VarName, GoalName, Tree, Goal, call, unify, assign, stream, In, value_at, Program, Query, variables_of_goals, Act, ByClause as by_clause, Unified as unified, Assigned as assigned, Given as given, Closed as closed, Asked as asked, NameNoneOf, variables_asked, asks_back, Effect, HasEffect, no_step, effect_each, State, Record, Fires, Replays, first_in, Binds, not_both, results_of, firing, step_binds, Hands, no_hands, IsHand, with_hand, emptied, World, IsNextStep, with_step, Change, Comes as comes, Goes as goes, Reorders as reorders, Coming, Going, CanChange, Changes, Command, input, finish, undo, roll, redo, arrange, ask, propose, commit, command, held, stepped, IsReduction, IsCommitOf, Asks, to_give, to_close, to_undo, to_roll, to_redo, to_arrange, to_ask, told_of, by_hand, by_command, Says, Answers, makes, says, Reaches, from_opening, by_change, IsProper, IsReachable, at_opening, by_event, with_other_hands, NoStepIsFree, choice_of}
 use Rattle.std.specs.FinMap as finite
 use Rattle.ghc_fire.specs.Proposal.{Proposal}
-use Rattle.ghc_core.specs.Laws as laws
-use Rattle.ghc_core.proofs.Moving.{reachable_reached}
 use Rattle.ghc_core.proofs.Committing.{still_proposed}
 use Rattle.ghc_core.proofs.Standing.{standing_apart}
 
@@ -84,9 +82,6 @@ reached_reachable (by_change {w = w} {v = v} change r can changes) = elim (chang
   | inl (p, q, c, e) ↦ commit_reachable w v p q (reached_reachable r) c e
   | inr (c, asks, proper) ↦ by_event (command c) (told_of change) (reached_reachable r) proper (makes tt (by_command asks) can changes refl)
 ]
-
-pub same_reached : laws.EventsLeadWhereChangesLead
-same_reached = ((λ w hands r. reachable_reached r), λ w r. reached_reachable r)
 
 there : (o : Option Tree) → is_some o ≡ true → (t : Tree) × (o ≡ Some t)
 there (Some t) e = (t, refl)

@@ -1,12 +1,11 @@
 -- Just what tells of a change adds an entry, and then no memory was refused.
-use Rattle.ghc_core.proofs.Words.{◌≡◌, true, false, [], ◌∷◌, ◌++◌, refl, sym, ap, ◌∙◌, subst, MatchBool, Entry, Change, Comes as comes, Goes as goes, Reorders as reorders, Hands, World, Event, Reply, told_of, Says, Answers, no_hand, makes, says, fails, no_memory, tells_change, AnswersAddWhatTheyTell}
+use Rattle.ghc_core.proofs.Words.{◌≡◌, true, false, [], ◌∷◌, ◌++◌, refl, sym, ap, ◌∙◌, subst, MatchBool, Entry, Change, Comes as comes, Hands, World, Event, Reply, told_of, Says, Answers, makes, says, tells_change, AnswersAddWhatTheyTell}
 use Rattle.ghc_core.proofs.Moving.{change_enters}
 
 -- what is told of a change tells of one
 told_changes : (change : Change) → tells_change (told_of change) ≡ true
 told_changes (comes from r) = refl
-told_changes (goes how gone) = refl
-told_changes (reorders a) = refl
+told_changes change = refl
 
 -- what is said of no change tells of none
 pub said_changes_nothing : {w : World} {hands left : Hands} {e : Event} {reply : Reply} → Says w hands e reply left → tells_change reply ≡ false
@@ -14,7 +13,6 @@ said_changes_nothing (Says.holds p is) = refl
 said_changes_nothing (Says.tells status) = refl
 
 pub answers_add : AnswersAddWhatTheyTell
-answers_add w v hands left e reply (no_hand missing) = (refl, refl)
 answers_add w v hands left e reply (makes {change = change} has asks can changes told) =
     let g = change_enters w v change can changes in (
       g.opening,
@@ -25,5 +23,4 @@ answers_add w v hands left e reply (says has said) = (
   refl,
   subst (λ b. MatchBool b ((entry : Entry) × Answers ⊥ w hands e reply w left × (w.journal ≡ w.journal ++ entry ∷ [])) (w.journal ≡ w.journal)) (sym (said_changes_nothing said)) refl,
 )
-answers_add w v hands left e reply (fails has f) = (refl, refl)
-answers_add w v hands left e reply (no_memory starved) = (refl, refl)
+answers_add w v hands left e reply a = (refl, refl)

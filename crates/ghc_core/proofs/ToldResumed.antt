@@ -25,6 +25,3 @@ module _ (text : List ℕ) (c : Chronicle) (told : TellsChronicle text c) where
     spies = told.spies.spies.few;
     next = told.next;
   }
-
-pub read_resumed : laws.WhatIsReadCanBeResumed
-read_resumed text c told = can_be_resumed text c told

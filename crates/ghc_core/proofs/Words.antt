@@ -1,6 +1,6 @@
 -- The words of other crates and of the definitions that the proofs cite, from one place.
 pub use Rattle.ghc_core.specs.Answers.{Answers, AnswersEach, Asks, AsksFor, Fails, HasHand, IsRefusedFor, Obeys, Plays, Says, by_command, by_hand, does, fails, hands_after, makes, no_hand, no_memory, played, refuses, says, starves, to_arrange, to_ask, to_close, to_give, to_redo, to_roll, to_undo, told_of}
-pub use Rattle.ghc_core.specs.Anyway.{FindsNothing, HoldsNoGoal, IsNotAskedAnyway, IsNotCommittedAnyway, IsNotObeyedAnyway, IsNotProposedAnyway, TakesNothingAnyway}
+pub use Rattle.ghc_core.specs.Anyway.{HoldsNoGoal, IsNotAskedAnyway, IsNotCommittedAnyway, IsNotProposedAnyway, TakesNothingAnyway}
 pub use Rattle.ghc_core.specs.Arrangement.{Arrangement}
 pub use Rattle.ghc_core.specs.Asked.{IsAskedFor}
 pub use Rattle.ghc_core.specs.AskedAgain.{CanBeAsked, CanBeAskedFor}
@@ -9,7 +9,7 @@ pub use Rattle.ghc_core.specs.Carried.{AreAllCarriedBack, AreCarried, AreCarried
 pub use Rattle.ghc_core.specs.Change.{AreTakenAway, CanChange, Changes, GoWithIt, IsBoundBy, entry_of_going, with_coming, with_order, without_steps}
 pub use Rattle.ghc_core.specs.CommandCode.{command_of}
 pub use Rattle.ghc_core.specs.Core.{AreExactIn, Core, IsCommitted, IsConsistent, IsFaceOf, IsNotedFaceOf, IsStanding, Stays, choice_of, next_record, record_as}
-pub use Rattle.ghc_core.specs.Counting.{CountsInObeying, FiresOnce, TriesOnce, after_firings, firings_of_command, firings_of_entries, firings_of_entry, firings_of_step}
+pub use Rattle.ghc_core.specs.Counting.{FiresOnce, after_firings, firings_of_entries, firings_of_entry, firings_of_step}
 pub use Rattle.ghc_core.specs.EventCode.{event_of, reply_of}
 pub use Rattle.ghc_core.specs.Events.{Command, Event, Reply, arrange, arranged, ask, command, commit, finish, held, input, note, noted, propose, redo, refused, roll, stepped, undo, undone}
 pub use Rattle.ghc_core.specs.Facts.{RedoIsChanged, SecondHandIsStale, equals, query_world, two_hands}
@@ -26,23 +26,22 @@ pub use Rattle.ghc_core.specs.Refusals.{CanUndo, HasConsequence, IsShelvedWith, 
 pub use Rattle.ghc_core.specs.Resume.{ArePredicatesOf, CarriesOut, CarriesOutEach, IsCarriedOut, IsOpened, IsPredicateOf, IsRefusedEntry, LacksBehind, Resumes, StopsBehind, chronicle_of_world, line_of_entry, line_of_spy, no_entry, no_spy, opening_of, resumes}
 pub use Rattle.ghc_core.specs.Settling.{AreKept, AreNoted, IsNoteOf, IsNoted, tried_often}
 pub use Rattle.ghc_core.specs.StreamGoals.{TellStreams, all_told_back, first_made, name_of, opened, renamed, stream_of, told, told_back, with_name}
-pub use Rattle.ghc_core.specs.Streams.{Foresees, IsStreamAt, IsStreamStep, StreamFails}
+pub use Rattle.ghc_core.specs.Streams.{IsStreamAt, IsStreamStep, StreamFails}
 pub use Rattle.ghc_core.specs.World.{Hands, HasRoom, IsFull, IsHand, IsKnown, IsNextStep, IsReplay, Opens, Proposal, World, emptied, no_hands, with_hand, with_step}
 pub use Rattle.ghc_core.specs.declared.change.Change.{Change}
 pub use Rattle.ghc_core.specs.declared.change.Change.TheVariants.{Comes, Goes, Reorders}
 pub use Rattle.ghc_core.specs.declared.change.Coming.{Coming}
 pub use Rattle.ghc_core.specs.declared.change.Going.{Going}
-pub use Rattle.ghc_core.specs.declared.taken_again.Outcome.TheVariants.{CarriedOut, Refused}
 pub use Rattle.ghc_depend.proofs.Arranging.{neighbours_lawful}
 pub use Rattle.ghc_depend.proofs.Causes.{at_split, place_at}
 pub use Rattle.ghc_depend.proofs.ComingBack.{both_distinct, come_back}
 pub use Rattle.ghc_depend.proofs.Comparing.{without_once}
-pub use Rattle.ghc_depend.proofs.Decided.{decided}
+pub use Rattle.ghc_depend.proofs.Decided.{decided, le_decided}
 pub use Rattle.ghc_depend.proofs.Finding.{by_option, makes_at, named_or_not, not_both, own, own_made, same_value, without_it, without_other}
 pub use Rattle.ghc_depend.proofs.Following.{alone, first_or_none, follows_in, split_closed}
-pub use Rattle.ghc_depend.proofs.KeptOnce.{fires_once, keeps_once, runs_split, same_number, shelved, taken_append, unshelved}
+pub use Rattle.ghc_depend.proofs.KeptOnce.{fires_once, keeps_once, runs_split, same_number, shelved, taken_append, taken_same, unshelved}
 pub use Rattle.ghc_depend.proofs.Once.{consequences, orders}
-pub use Rattle.ghc_depend.proofs.Picking.{before_front, distinct_left, distinct_push, no_longer, picks_distinct, picks_has, picks_in, records_push}
+pub use Rattle.ghc_depend.proofs.Picking.{before_front, distinct_last, distinct_left, distinct_push, no_longer, picks_distinct, picks_has, picks_in, records_push}
 pub use Rattle.ghc_depend.proofs.Placing.{Place, apart_at, place_of, results_of}
 pub use Rattle.ghc_depend.proofs.Results.{IsAsking, Results, Taken, asking_fires, firing, is_old, step_binds, taken, taken_at}
 pub use Rattle.ghc_depend.proofs.TakenTogether.{alone_left, apart_behind, first_gone, follows_behind, found_behind, gone_distinct, gone_kept, picked_number, picks_all, picks_as, picks_within, rest_left, split_at, split_found}
@@ -55,16 +54,19 @@ pub use Rattle.ghc_fire.proofs.Answering.{apart, same_act, same_effect, same_fau
 pub use Rattle.ghc_fire.proofs.Asking.{asked_names, asks_as, asks_back, numbered_firsts}
 pub use Rattle.ghc_fire.proofs.EachAnswer.{each_answer}
 pub use Rattle.ghc_fire.proofs.EachEffect.{effect_decided}
-pub use Rattle.ghc_fire.proofs.GoalNames.{goal_antisymmetric, goal_total, same_goal, same_parts}
+pub use Rattle.ghc_fire.proofs.EachOnce.{firsts_in}
+pub use Rattle.ghc_fire.proofs.GoalNames.{goal_antisymmetric, goal_total, same_parts}
 pub use Rattle.ghc_fire.proofs.Origins.{variables_come}
+pub use Rattle.ghc_fire.proofs.Renamed.{in_goals}
+pub use Rattle.ghc_fire.proofs.Replaced.{same_goals}
 pub use Rattle.ghc_fire.proofs.Steps.{effect_binds, effect_each, effect_once}
 pub use Rattle.ghc_fire.proofs.Tries.{attempt_once}
-pub use Rattle.ghc_fire.proofs.Under.{effect_under, proposal_as}
+pub use Rattle.ghc_fire.proofs.Under.{effect_under, goals_twice, proposal_as}
 pub use Rattle.ghc_fire.specs.Asked.{IsAsk, NameNoneOf, asked_as, effect_of_asking, made_from, own_variables, renumbered, variables_asked}
-pub use Rattle.ghc_fire.specs.Attempt.{Answer, AssignmentAnswers, Attempts, AttemptsAs, CallAnswers, ChoiceAnswers, UnificationAnswers, proposes}
+pub use Rattle.ghc_fire.specs.Attempt.{Answer, AssignmentAnswers, Attempts, CallAnswers, ChoiceAnswers, UnificationAnswers, proposes}
 pub use Rattle.ghc_fire.specs.Effect.{Closes, Effect, Feeds, HasEffect, ReadsTail, no_step}
 pub use Rattle.ghc_fire.specs.Goals.{Goals, goal_cmp}
-pub use Rattle.ghc_fire.specs.Instance.{made, replace_in_expression, replace_in_goal}
+pub use Rattle.ghc_fire.specs.Instance.{made, replace_in_goal}
 pub use Rattle.ghc_fire.specs.Laws.{EffectIsOne, HasNoVariableOf}
 pub use Rattle.ghc_fire.specs.Meter.{fired, tried}
 pub use Rattle.ghc_fire.specs.Proposal.{numbered, under}
@@ -72,7 +74,8 @@ pub use Rattle.ghc_fire.specs.Tail.{IsTailBound}
 pub use Rattle.ghc_fire.specs.declared.act.Act.{Act}
 pub use Rattle.ghc_fire.specs.declared.act.Act.TheVariants.{Asked, Assigned, ByClause, Closed, Given, Unified}
 pub use Rattle.ghc_fire.specs.declared.meter.Meter.{Meter}
-pub use Rattle.ghc_flat.proofs.Clauses.{call_arity, call_name, calls_next, first_undefined, not_a_call, same_call}
+pub use Rattle.ghc_flat.proofs.Clauses.{calls_next, first_undefined, not_a_call, same_call}
+pub use Rattle.ghc_flat.proofs.Faults.{call_once, no_call}
 pub use Rattle.ghc_flat.specs.Checked.{AllCalls, IsFirstCallWithout}
 pub use Rattle.ghc_flat.specs.Clause.{Program, Query}
 pub use Rattle.ghc_flat.specs.Flat.{AreDefined, IsProgram, IsQuery, is_stream, most_goals}
@@ -82,14 +85,15 @@ pub use Rattle.ghc_flat.specs.Variables.{firsts, variables_of_goals}
 pub use Rattle.ghc_hooks.proofs.Changing.{still_noted}
 pub use Rattle.ghc_hooks.proofs.EachStatus.{each_status}
 pub use Rattle.ghc_hooks.proofs.Few.{take_absent}
-pub use Rattle.ghc_hooks.proofs.Fitting.{gone_elsewhere, gone_here, put_elsewhere, put_here, same_note}
+pub use Rattle.ghc_hooks.proofs.Fitting.{gone_elsewhere, gone_here, put_elsewhere, put_here}
 pub use Rattle.ghc_hooks.proofs.LookedAt.{exact_stays}
 pub use Rattle.ghc_hooks.proofs.Looking.{goal_cases, goal_itself, goal_put, goal_taken}
 pub use Rattle.ghc_hooks.proofs.LookingAll.{earlier, latest, so_far}
 pub use Rattle.ghc_hooks.proofs.NotedFaces.{settled_notes}
 pub use Rattle.ghc_hooks.proofs.Statuses.{status_once}
 pub use Rattle.ghc_hooks.proofs.Waking.{spared_next, woken_next}
-pub use Rattle.ghc_hooks.specs.Face.{Face, GoalNames, IsFace}
+pub use Rattle.ghc_hooks.proofs.WholeFace.{listed}
+pub use Rattle.ghc_hooks.specs.Face.{Face, GoalNames}
 pub use Rattle.ghc_hooks.specs.Notes.{AreExact, AreLeft, IsExact, Note, NotesByGoal}
 pub use Rattle.ghc_hooks.specs.Status.{HasStatus, Status, failed}
 pub use Rattle.ghc_hooks.specs.Tries.{AreSpared, AreWoken, Tries}
@@ -97,10 +101,12 @@ pub use Rattle.ghc_hooks.specs.Verdict.{status_of}
 pub use Rattle.ghc_match.proofs.AlikeLemmas.{shown_value}
 pub use Rattle.ghc_match.specs.Position.{EndsIn}
 pub use Rattle.ghc_reader.specs.Written.{AreNarrow, AreNumbered, IsWellAsked, WrittenQuery}
+pub use Rattle.ghc_records.proofs.AskingLines.{made_more}
 pub use Rattle.ghc_records.proofs.Effects.{HasOnly, after_acyclic, after_has, has_more, not_stream}
 pub use Rattle.ghc_records.proofs.Heads.{first_in}
 pub use Rattle.ghc_records.proofs.InOrder.{not_again}
 pub use Rattle.ghc_records.proofs.Made.{last_first, name}
+pub use Rattle.ghc_records.proofs.NearUsers.{no_entries}
 pub use Rattle.ghc_records.proofs.NumberSets.{one_or_not}
 pub use Rattle.ghc_records.proofs.OrderLemmas.{Before, before_in, before_once, is_before, number_in, number_of, numbers_append, picks_once, record_once, records_distinct}
 pub use Rattle.ghc_records.proofs.Replaying.{of_query, replay_well, run_once}
@@ -132,30 +138,28 @@ pub use Rattle.ghc_term.proofs.Entries.{tie}
 pub use Rattle.ghc_term.proofs.Exact.{exact}
 pub use Rattle.ghc_term.proofs.Indexed.{inserted, removed, value_is}
 pub use Rattle.ghc_term.proofs.ListsLemmas.{at_of_in, compare_splits, each_next, in_at, in_either, in_get, in_last, in_left, in_map, in_middle, in_more, in_place, in_right, splits_at}
+pub use Rattle.ghc_term.proofs.MapsLemmas.{at_some}
 pub use Rattle.ghc_term.proofs.Members.{In_at, one_more_member}
-pub use Rattle.ghc_term.proofs.Names.{itself, name_total, same_name}
-pub use Rattle.ghc_term.proofs.Searches.{In_append, In_append_right}
-pub use Rattle.ghc_term.proofs.SetsLemmas.{has_member, holds_nothing, is_member, one_inserted, same_held}
+pub use Rattle.ghc_term.proofs.Names.{name_total}
+pub use Rattle.ghc_term.proofs.Placing.{set_other, set_same}
+pub use Rattle.ghc_term.proofs.SetsLemmas.{any_in, has_member, holds_nothing, in_any, is_member, one_inserted, same_held}
 pub use Rattle.ghc_term.proofs.Total.{chain}
 pub use Rattle.ghc_term.specs.Answered.{Answered}
-pub use Rattle.ghc_term.specs.Bindings.{IsAcyclic, Leads, along, at_free, here, name_cmp, now, on, through}
+pub use Rattle.ghc_term.specs.Bindings.{IsAcyclic, Leads, here, name_cmp, now, through}
 pub use Rattle.ghc_term.specs.Code.{var_inj}
-pub use Rattle.ghc_term.specs.Expression.{Expression, leaf, operation}
 pub use Rattle.ghc_term.specs.Goal.{Goal, assign, call, stream, unify}
 pub use Rattle.ghc_term.specs.GoalCode.{goal_code}
 pub use Rattle.ghc_term.specs.Lists.{In}
 pub use Rattle.ghc_term.specs.Store.{StoreValue, value_at}
-pub use Rattle.ghc_term.specs.Tree.{IsClosed, IsValue, Tree, Trees, cons, integer, more, nil, node, none, variable}
-pub use Rattle.ghc_term.specs.Variables.{variables, variables_of_all, variables_of_expression, variables_of_goal, variables_of_list}
+pub use Rattle.ghc_term.specs.Tree.{IsClosed, IsValue, Tree, cons, integer, nil, variable}
 pub use Rattle.ghc_term.specs.declared.fault.Fault.{Fault}
 pub use Rattle.ghc_term.specs.declared.goal_name.GoalName.{GoalName}
 pub use Rattle.ghc_term.specs.declared.var_name.VarName.{VarName}
 pub use Rattle.ghc_unify.proofs.Ends.{comes_leads, left_end}
-pub use Rattle.ghc_unify.specs.Solutions.{replace, replace_all}
+pub use Rattle.ghc_unify.specs.Solutions.{replace}
 pub use Rattle.ghc_unify.specs.Unify.{go, left, stay}
-pub use Rattle.std.proofs.Common.{Bool, Err, IfErr, IfNone, IfOk, IfSome, IsSome, IsTrue, List, MatchBool, None, Ok, Option, Result, Some, [], ap, append-nil, append_assoc, arith, cond, drop, drop-cons, drop_of_length-le, eqb, eqb-true, false, filter, get_or, if◌then◌else◌, inl, inr, is_some, length, map, nat_eq, not, option_map, pos, refl, rules, slice_get, slice_set, subst, subst₂, suc, sym, take, true, vec_capacity, vec_len, zero, ℕ, ◌++◌, ◌+◌, ◌-◌, ◌<◌, ◌==◌, ◌↔◌, ◌∙◌, ◌∷◌, ◌≡◌, ◌≢◌, ◌≤◌, ◌⊎◌}
-pub use Rattle.std.proofs.Math.Seq.{take-suc}
-pub use Rattle.std.proofs.lemmas.Bool.{cases_eq, cases_lt, eq-eqb, false≢true, ne_eqb}
+pub use Rattle.std.proofs.Common.{Bool, Err, IfErr, IfNone, IfOk, IfSome, IsSome, IsTrue, List, MatchBool, None, Ok, Option, Result, Some, [], ap, append-nil, append_assoc, arith, cond, drop, drop-cons, drop_of_length-le, eqb, false, filter, get_or, if◌then◌else◌, inl, inr, is_some, length, map, nat_eq, not, option_map, pos, refl, rules, slice_get, slice_set, subst, subst₂, suc, sym, take, true, vec_capacity, vec_len, zero, ℕ, ◌++◌, ◌+◌, ◌-◌, ◌<◌, ◌==◌, ◌↔◌, ◌∙◌, ◌∷◌, ◌≡◌, ◌≢◌, ◌≤◌, ◌⊎◌}
+pub use Rattle.std.proofs.lemmas.Bool.{cases_eq, cases_lt, eq-eqb, false_from_ne_true, false≢true, ne_eqb, true≢false}
 pub use Rattle.std.proofs.lemmas.Bool.Decides.{eqb_tells}
 pub use Rattle.std.proofs.lemmas.List.{get_or-map, length-append, length-map, length-take-le, map-append, take_all, take_more}
 pub use Rattle.std.proofs.lemmas.List.Elements.{filter-append}
@@ -164,6 +168,7 @@ pub use Rattle.std.proofs.lemmas.Result.{IfOk-weaker, err_from_is_err_and}
 pub use Rattle.std.specs.Cmp.{nat_cmp_total, tied_itself}
 pub use Rattle.std.specs.Coded.{coded_list, coded_ℕ}
 pub use Rattle.std.specs.FinMap.{nat_cmp-IsAntisymmetric}
+pub use Rattle.std.specs.FinMap.Entries.{is_some-find}
 pub use Rattle.std.specs.List.{list_any}
 pub use Rattle.std.specs.Map.{keys_of}
 pub use Rattle.std.specs.Option.{option_copied, option_or}

@@ -1,17 +1,14 @@
-use Rattle.ghc_core.proofs.Words.{◌≡◌, ◌≢◌, true, false, [], refl, sym, ◌∙◌, subst, arith, take_all, In, one_more_member, In_at, no_step, first_in, IsVariableOf}
+use Rattle.ghc_core.proofs.Words.{◌≢◌, [], refl, sym, ◌∙◌, subst, arith, take_all, In, one_more_member, In_at, no_step, first_in, IsVariableOf, firsts_in, false≢true}
 use Rattle.ghc_term.specs.Variables.{variables_of_goals}
-use Rattle.ghc_core.proofs.QueryVariables.{of_firsts}
+use Rattle.ghc_term.proofs.ListsLemmas.{not_both}
 use Rattle.ghc_core.proofs.ask.ask_is_known.Goals as goal
 
 pub returns-then-not-is_own_or_of : goal.returns-then-not-is_own_or_of
 returns-then-not-is_own_or_of c =
     let items = c.variables-x-items.result.now in
-    let there = subst (In _) c.variables-x-items.ensures (In_at items c.loop-x.x-index (record { step = 0; place = 0 }) c.loop-x-test.true) in (
-      λ no. absurd (let clash : false ≡ true = no in cc),
-      λ known.
-          let yes = c.is_own_or_of.ensures.1 (λ other. known _ (of_firsts [] (variables_of_goals c.args.ask.now) _ there) other) in
-          absurd (let clash : true ≡ false = sym yes ∙ c.if-not-is_own_or_of.true in cc),
-    )
+    let there = subst (In _) c.variables-x-items.ensures (In_at items c.loop-x.x-index (record { step = 0; place = 0 }) c.loop-x-test.true) in
+    let among = firsts_in [] (variables_of_goals c.args.ask.now) _ there in
+    (λ no. absurd (false≢true no), λ known. absurd (not_both _ c.if-not-is_own_or_of.true (c.is_own_or_of.ensures.1 (known _ among))))
 
 pub loop-x-preserved : goal.loop-x-preserved
 loop-x-preserved c =

@@ -1,13 +1,11 @@
-use Rattle.ghc_core.proofs.Words.{◌≡◌, true, false, refl, sym, ◌∙◌, subst, take_all, each_next, in_place, CanBeAskedFor, CanBeAsked}
+use Rattle.ghc_core.proofs.Words.{refl, subst, take_all, each_next, in_place, CanBeAskedFor, CanBeAsked, false≢true}
+use Rattle.ghc_term.proofs.ListsLemmas.{not_both}
 use Rattle.ghc_core.proofs.asked_again.can_all_be_asked_for.Goals as goal
 
 pub returns-then-not-can_be_asked_for : goal.returns-then-not-can_be_asked_for
-returns-then-not-can_be_asked_for c = (
-  λ no. absurd (let clash : false ≡ true = no in cc),
-  λ all.
-      let yes = c.can_be_asked_for.ensures.1 (all c.goal-item.result (in_place c.args.goals.now c.loop-goal.goal-index c.goal-item.result c.loop-goal-test.true c.goal-item.is)) in
-      absurd (let clash : true ≡ false = sym yes ∙ c.if-not-can_be_asked_for.true in cc),
-)
+returns-then-not-can_be_asked_for c =
+    let there = in_place c.args.goals.now c.loop-goal.goal-index c.goal-item.result c.loop-goal-test.true c.goal-item.is in
+    (λ no. absurd (false≢true no), λ all. absurd (not_both _ c.if-not-can_be_asked_for.true (c.can_be_asked_for.ensures.1 (all _ there))))
 
 pub loop-goal-preserved : goal.loop-goal-preserved
 loop-goal-preserved c =

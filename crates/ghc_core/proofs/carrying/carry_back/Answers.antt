@@ -1,4 +1,4 @@
-use Rattle.ghc_core.proofs.Words.{ap, subst, ◌∙◌, length, StoreValue, AreSpared, AreWoken, Effect, Binds, ConsumedToTry, IsBound, IsGiven, AreDropped}
+use Rattle.ghc_core.proofs.Words.{ap, ◌∙◌, length, Effect, Binds, ConsumedToTry, IsBound, IsGiven}
 use Rattle.ghc_records.specs.Replay.{MakesGoal}
 use Rattle.ghc_core.proofs.Carried.{carried, none_stays}
 use Rattle.ghc_core.proofs.carrying.carry_back.Goals as goal
@@ -14,8 +14,5 @@ returns-clause-carried c =
     let binds = c.binds.ensures ∙ ap (λ (e : Effect). e.binds) c.effect-2.ensures in
     let made = c.made.ensures ∙ ap (λ (e : Effect). length e.makes) c.effect.ensures in
     carried (MakesGoal r) (Binds r) (ConsumedToTry r) c.args.tries.now c.drop_made.new.tries c.wake_at_bound.new.tries c.mark_consumed.new.tries
-    (subst (λ n. AreDropped (IsGiven n 0 (length r.effect.makes)) c.args.tries.now c.drop_made.new.tries) c.number.ensures
-    (subst (λ k. AreDropped (IsGiven c.number.result 0 k) c.args.tries.now c.drop_made.new.tries) made c.drop_made.ensures.dropped))
-    (subst (λ (b : StoreValue). AreSpared (IsBound b) c.drop_made.new.tries.notes c.wake_at_bound.new.tries.notes) binds c.wake_at_bound.ensures.notes)
-    (subst (λ (b : StoreValue). AreWoken (IsBound b) c.drop_made.new.tries.notes c.drop_made.new.tries.untried c.wake_at_bound.new.tries.untried) binds c.wake_at_bound.ensures.untried)
-    c.mark_consumed.ensures.marked
+    (rw (c.number.ensures, made) at c.drop_made.ensures.dropped) (rw binds at c.wake_at_bound.ensures.notes)
+    (rw binds at c.wake_at_bound.ensures.untried) c.mark_consumed.ensures.marked

@@ -1,4 +1,4 @@
-use Rattle.ghc_core.proofs.Words.{◌≡◌, Some, length, ap, subst, ◌∙◌, arith, StoreValue, AreSpared, AreWoken, Effect, Binds, Consumed, MadeToTry, IsBound, IsToTry, AreDropped, AreMarked}
+use Rattle.ghc_core.proofs.Words.{◌≡◌, Some, length, ap, ◌∙◌, arith, Effect, Binds, Consumed, MadeToTry, IsBound}
 use Rattle.ghc_core.proofs.Carried.{carried, none_stays}
 use Rattle.ghc_core.proofs.carrying.carry_over.Goals as goal
 
@@ -14,8 +14,5 @@ returns c =
     let binds = c.binds.ensures ∙ ap (λ (e : Effect). e.binds) c.effect-effect.ensures in
     let makes = c.makes.ensures ∙ ap (λ (e : Effect). e.makes) c.effect-effect.ensures in
     carried (Consumed c.args.step.now) (Binds c.args.step.now) (MadeToTry c.args.step.now) c.args.tries.now c.drop_named.new.tries c.wake_at_bound.new.tries c.mark_made.new.tries
-    (subst (λ o. AreDropped (λ g. o ≡ Some g) c.args.tries.now c.drop_named.new.tries) c.goal.ensures c.drop_named.ensures.dropped)
-    (subst (λ (b : StoreValue). AreSpared (IsBound b) c.drop_named.new.tries.notes c.wake_at_bound.new.tries.notes) binds c.wake_at_bound.ensures.notes)
-    (subst (λ (b : StoreValue). AreWoken (IsBound b) c.drop_named.new.tries.notes c.drop_named.new.tries.untried c.wake_at_bound.new.tries.untried) binds c.wake_at_bound.ensures.untried)
-    (subst (λ n. AreMarked (IsToTry n c.args.step.now.effect.makes) c.wake_at_bound.new.tries c.mark_made.new.tries) c.number.ensures
-    (subst (λ gs. AreMarked (IsToTry c.number.result gs) c.wake_at_bound.new.tries c.mark_made.new.tries) makes c.mark_made.ensures))
+    (rw c.goal.ensures at c.drop_named.ensures.dropped) (rw binds at c.wake_at_bound.ensures.notes) (rw binds at c.wake_at_bound.ensures.untried)
+    (rw (c.number.ensures, makes) at c.mark_made.ensures)

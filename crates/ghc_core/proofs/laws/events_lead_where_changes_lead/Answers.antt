@@ -1,5 +1,6 @@
-use Rattle.ghc_core.proofs.Taking.{same_reached}
+use Rattle.ghc_core.proofs.Moving.{reachable_reached}
+use Rattle.ghc_core.proofs.Taking.{reached_reachable}
 use Rattle.ghc_core.proofs.laws.events_lead_where_changes_lead.Goals as goal
 
 pub returns : goal.returns
-returns c = same_reached
+returns c = ((λ w hands r. reachable_reached r), λ w r. reached_reachable r)

@@ -1,4 +1,4 @@
-use Rattle.ghc_core.proofs.Words.{◌≡◌, inl, inr, refl, subst, sym, ap, ◌∙◌, Some, Option, ℕ, GoalName, Act, Effect, Answer, proposes, World, choice_of, AttemptAnswers, IsReduction}
+use Rattle.ghc_core.proofs.Words.{◌≡◌, inl, inr, refl, subst, sym, ap, ◌∙◌, Some, Option, ℕ, GoalName, Answer, proposes, World, choice_of, AttemptAnswers, IsReduction}
 use Rattle.std.specs.FinMap as finite
 use Rattle.ghc_fire.specs.Attempt.{refused}
 use Rattle.ghc_fire.specs.Proposal.{Proposal}
@@ -7,7 +7,7 @@ use Rattle.ghc_core.proofs.recheck.recheck.Goals as goal
 
 -- an answer under this name and choice is one at the goal of the proposal
 of_proposal : (w : World) (p : Proposal) (g : GoalName) (choice : Option ℕ) (a : Answer) → g ≡ p.goal → choice ≡ choice_of p.act → AttemptAnswers w g choice a → AttemptAnswers w p.goal (choice_of p.act) a
-of_proposal w p g choice a named chosen t = subst (λ (h : GoalName). AttemptAnswers w h (choice_of p.act) a) named (subst (λ (k : Option ℕ). AttemptAnswers w g k a) chosen t)
+of_proposal w p g choice a named chosen t = rw (named, chosen) at t
 
 pub returns-in-Err-clause-fault : goal.returns-in-Err-clause-fault
 returns-in-Err-clause-fault c = elim c.stale_unless_memory.ensures [
@@ -31,12 +31,11 @@ returns-in-Ok-true-clause-holds c =
     let p = c.args.proposal.now in
     let act : c.in-Ok.again.act ≡ p.act = c.in-Ok-true.ensures.acts c.in-Ok-true.field-0-test in
     let effect : c.in-Ok.again.effect ≡ p.effect = c.in-Ok-true.ensures.effects c.in-Ok-true.field-0-test in
-    let there : finite.get w.state.goals p.goal ≡ Some c.in-Ok.again.consumed = subst (λ (g : GoalName). finite.get w.state.goals g ≡ Some c.in-Ok.again.consumed) c.goal.ensures c.in-Ok.ensures.answer.0.there in
-    let answers : AttemptAnswers w p.goal (choice_of p.act) (proposes p.act p.effect) =
-    subst (λ (a : Act). AttemptAnswers w p.goal (choice_of p.act) (proposes a p.effect)) act
-    (subst (λ (e : Effect). AttemptAnswers w p.goal (choice_of p.act) (proposes c.in-Ok.again.act e)) effect
-    (of_proposal w p c.goal.result c.clause_of-choice.result (proposes c.in-Ok.again.act c.in-Ok.again.effect) c.goal.ensures (c.clause_of-choice.ensures ∙ ap choice_of c.act.ensures) c.in-Ok.ensures.answer.0.proposed)) in
-    answered_holds w p (choice_of p.act) c.in-Ok.again.consumed there answers
+    let there : finite.get w.state.goals p.goal ≡ Some c.in-Ok.again.consumed = rw c.goal.ensures at c.in-Ok.ensures.answer.0.there in
+    let answers : AttemptAnswers w p.goal (choice_of p.act) (proposes c.in-Ok.again.act c.in-Ok.again.effect) =
+    of_proposal w p c.goal.result c.clause_of-choice.result _ c.goal.ensures (c.clause_of-choice.ensures ∙ ap choice_of c.act.ensures)
+    c.in-Ok.ensures.answer.0.proposed in
+    answered_holds w p (choice_of p.act) c.in-Ok.again.consumed there (rw (act, effect) at answers)
 
 pub returns-in-Ok-false-clause-fault : goal.returns-in-Ok-false-clause-fault
 returns-in-Ok-false-clause-fault c = inr (

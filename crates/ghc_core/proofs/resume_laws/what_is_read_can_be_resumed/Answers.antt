@@ -1,5 +1,5 @@
-use Rattle.ghc_core.proofs.ToldResumed.{read_resumed}
+use Rattle.ghc_core.proofs.ToldResumed.{can_be_resumed}
 use Rattle.ghc_core.proofs.resume_laws.what_is_read_can_be_resumed.Goals as goal
 
 pub returns : goal.returns
-returns c = read_resumed
+returns c text d told = can_be_resumed text d told

@@ -1,5 +1,5 @@
-use Rattle.ghc_core.proofs.Words.{◌≡◌, ◌++◌, [], ◌∷◌, sym, ap, ◌∙◌, subst, inl, inr, take_more, In, in_get, in_more, Record, numbers, numbers_append}
-use Rattle.ghc_core.proofs.RolledBack.{found_there, found_is}
+use Rattle.ghc_core.proofs.Words.{◌≡◌, ◌++◌, [], ◌∷◌, sym, ap, ◌∙◌, subst, inl, inr, take_more, In, in_get, in_more, Record, numbers, numbers_append, at_some}
+use Rattle.ghc_core.proofs.RolledBack.{found_there}
 use Rattle.ghc_core.proofs.rollback.removals_of.Goals as goal
 
 pub unwrap-kept-requires : goal.unwrap-kept-requires
@@ -14,7 +14,7 @@ loop-number-preserved c =
     let i = c.loop-number.number-index in
     let r = c.in_ok-of.field-0 in
     let same : r ≡ c.unwrap-kept.result.now = c.in_ok-of.ensures in
-    let found = found_is c.get.result c.unwrap-kept.result _ c.get.ensures.found c.unwrap-kept.ensures in
+    let found = at_some _ c.get.result c.unwrap-kept.result c.unwrap-kept.ensures c.get.ensures.found in
     let last = ap (λ (q : Record). q.number) same ∙ found.1 in (
       ap numbers c.in_ok-push.ensures.items ∙ numbers_append removals (r ∷ []) ∙ (λ j. before.0 j ++ last j ∷ []) ∙ sym (take_more ns i 0 c.loop-number-test.true),
       λ s k. elim (in_more removals r s (subst (In s) c.in_ok-push.ensures.items k)) [

@@ -1,4 +1,4 @@
-use Rattle.ghc_core.proofs.Words.{◌≡◌, ◌≤◌, ◌∙◌, false, IsTrue, ap, sym, arith, Record}
+use Rattle.ghc_core.proofs.Words.{◌≡◌, ◌≤◌, ◌∙◌, ap, sym, arith, Record, false≢true}
 use Rattle.ghc_core.proofs.QueryVariables.{made_by}
 use Rattle.ghc_core.proofs.variables.is_of_step.Goals as goal
 
@@ -18,10 +18,4 @@ returns-in-Some c =
     )
 
 pub returns-in-None : goal.returns-in-None
-returns-in-None c = (
-  λ no. absurd (false_is_not no),
-  λ m. absurd (c.in-None.ensures.none m.0 m.1 (sym m.2.0)),
-)
-  where
-    false_is_not : IsTrue false → ⊥
-    false_is_not e = cc
+returns-in-None c = (λ no. absurd (false≢true no), λ m. absurd (c.in-None.ensures.none m.0 m.1 (sym m.2.0)))

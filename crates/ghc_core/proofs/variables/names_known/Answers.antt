@@ -1,15 +1,16 @@
-use Rattle.ghc_core.proofs.Words.{◌≡◌, ◌≢◌, true, false, refl, sym, ap, ◌∙◌, subst, arith, take_all, In, one_more_member, In_at, variables_asked, IsVariableOf}
+use Rattle.ghc_core.proofs.Words.{◌≢◌, refl, sym, ap, ◌∙◌, subst, arith, take_all, In, one_more_member, In_at, variables_asked, IsVariableOf, false≢true}
+use Rattle.ghc_term.proofs.ListsLemmas.{not_both}
 use Rattle.ghc_core.proofs.variables.names_known.Goals as goal
 
 pub returns-then-not-is_own_or_of : goal.returns-then-not-is_own_or_of
 returns-then-not-is_own_or_of c =
     let items = c.variables-x-items.result.now in
     let all = c.variables-x-items.ensures ∙ ap variables_asked c.act.ensures in
-    let there = In_at items c.loop-x.x-index (record { step = 0; place = 0 }) c.loop-x-test.true in (
-      λ no. absurd (let clash : false ≡ true = no in cc),
+    let there = subst (In _) all (In_at items c.loop-x.x-index (record { step = 0; place = 0 }) c.loop-x-test.true) in (
+      λ no. absurd (false≢true no),
       λ known.
-          let yes = c.is_own_or_of.ensures.1 (λ other. known _ (subst (In _) all there, λ own. other (own ∙ sym c.number-number.ensures))) in
-          absurd (let clash : true ≡ false = sym yes ∙ c.if-not-is_own_or_of.true in cc),
+          let yes = c.is_own_or_of.ensures.1 (λ other. known _ (there, λ own. other (own ∙ sym c.number-number.ensures))) in
+          absurd (not_both _ c.if-not-is_own_or_of.true yes),
     )
 
 pub loop-x-preserved : goal.loop-x-preserved

@@ -55,11 +55,10 @@ returns-in-Next-clause-world c =
 
 pub returns-in-Next-clause-notes : goal.returns-in-Next-clause-notes
 returns-in-Next-clause-notes c =
-    let w : World = record { opening = loaded_opening c.self.inside.program c.self.inside.query.goals c.self.inside.query.variables c.self.inside.loaded; state = c.self.inside.state.held; kept = c.self.inside.records.held; shelf = c.self.inside.shelf.held; next = c.self.inside.next; journal = c.self.inside.journal.held } in
     let carried = subst (λ r. AreCarriedOver r c.self.inside.tries c.carry_over.new.tries) c.take-step.ensures.record c.carry_over.ensures in
     subst (λ (x : Core). AreLeft c.take-step.new.self.held.goals (Binds c.args.addition) x.notes c.carry_over.new.tries.notes) c.self.view_is
     (subst (λ (t : State). AreLeft t.goals (Binds c.args.addition) c.self.inside.tries.notes c.carry_over.new.tries.notes) (sym c.take-step.ensures.state)
-    (comes_left w c.self.invariant.standing c.self.inside.tries c.carry_over.new.tries c.self.invariant.exact c.args.from c.args.addition (subst (λ (x : Core). CanChange x.world (comes c.args.from c.args.addition)) (sym c.self.view_is) c.requires.found) carried))
+    (comes_left _ c.self.invariant.standing c.self.inside.tries c.carry_over.new.tries c.self.invariant.exact c.args.from c.args.addition (subst (λ (x : Core). CanChange x.world (comes c.args.from c.args.addition)) (sym c.self.view_is) c.requires.found) carried))
 
 pub invariant_of-self-in-Shelved-1 : goal.invariant_of-self-in-Shelved-1
 invariant_of-self-in-Shelved-1 c =
@@ -89,8 +88,7 @@ returns-in-Shelved-clause-world c =
 
 pub returns-in-Shelved-clause-notes : goal.returns-in-Shelved-clause-notes
 returns-in-Shelved-clause-notes c =
-    let w : World = record { opening = loaded_opening c.self.inside.program c.self.inside.query.goals c.self.inside.query.variables c.self.inside.loaded; state = c.self.inside.state.held; kept = c.self.inside.records.held; shelf = c.self.inside.shelf.held; next = c.self.inside.next; journal = c.self.inside.journal.held } in
     let carried = subst (λ r. AreCarriedOver r c.self.inside.tries c.carry_over.new.tries) c.take-step.ensures.record c.carry_over.ensures in
     subst (λ (x : Core). AreLeft c.take-step.new.self.held.goals (Binds c.args.addition) x.notes c.carry_over.new.tries.notes) c.self.view_is
     (subst (λ (t : State). AreLeft t.goals (Binds c.args.addition) c.self.inside.tries.notes c.carry_over.new.tries.notes) (sym c.take-step.ensures.state)
-    (comes_left w c.self.invariant.standing c.self.inside.tries c.carry_over.new.tries c.self.invariant.exact c.args.from c.args.addition (subst (λ (x : Core). CanChange x.world (comes c.args.from c.args.addition)) (sym c.self.view_is) c.requires.found) carried))
+    (comes_left _ c.self.invariant.standing c.self.inside.tries c.carry_over.new.tries c.self.invariant.exact c.args.from c.args.addition (subst (λ (x : Core). CanChange x.world (comes c.args.from c.args.addition)) (sym c.self.view_is) c.requires.found) carried))

@@ -18,13 +18,11 @@ found c = subst (λ (x : Core). CanLoad x.world c.args.addition) (sym c.self.vie
 
 pub push-requires : goal.push-requires
 push-requires c =
-    let w : World = record { opening = loaded_opening c.self.inside.program c.self.inside.query.goals c.self.inside.query.variables c.self.inside.loaded; state = c.self.inside.state.held; kept = c.self.inside.records.held; shelf = c.self.inside.shelf.held; next = c.self.inside.next; journal = c.self.inside.journal.held } in
-    record { few = room_to_load w c.args.addition (subst (λ (x : Core). Opens x.world.opening x.world) (sym c.self.view_is) c.requires.opened) (subst (λ (x : Core). CanLoad x.world c.args.addition) (sym c.self.view_is) c.requires.found) }
+    record { few = room_to_load _ c.args.addition (subst (λ (x : Core). Opens x.world.opening x.world) (sym c.self.view_is) c.requires.opened) (subst (λ (x : Core). CanLoad x.world c.args.addition) (sym c.self.view_is) c.requires.found) }
 
 pub take-taken-requires-clause-acyclic : goal.take-taken-requires-clause-acyclic
 take-taken-requires-clause-acyclic c =
-    let w : World = record { opening = loaded_opening c.self.inside.program c.self.inside.query.goals c.self.inside.query.variables c.self.inside.loaded; state = c.self.inside.state.held; kept = c.self.inside.records.held; shelf = c.self.inside.shelf.held; next = c.self.inside.next; journal = c.self.inside.journal.held } in
-    (standing_well_made _ (loaded_stands w c.self.invariant.standing c.args.addition (subst (λ (x : Core). Opens x.world.opening x.world) (sym c.self.view_is) c.requires.opened) (subst (λ (x : Core). CanLoad x.world c.args.addition) (sym c.self.view_is) c.requires.found))).acyclic
+    (standing_well_made _ (loaded_stands _ c.self.invariant.standing c.args.addition (subst (λ (x : Core). Opens x.world.opening x.world) (sym c.self.view_is) c.requires.opened) (subst (λ (x : Core). CanLoad x.world c.args.addition) (sym c.self.view_is) c.requires.found))).acyclic
 
 pub put-requires-clause-new : goal.put-requires-clause-new
 put-requires-clause-new c r i same =

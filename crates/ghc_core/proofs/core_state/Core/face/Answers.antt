@@ -1,12 +1,8 @@
-use Rattle.ghc_core.proofs.Words.{subst, IfOk, IfOk-weaker, IsAcyclic, value_at, Face, IsFace, settled_notes, IsFaceOf, IsNotedFaceOf}
+use Rattle.ghc_core.proofs.Words.{subst, IfOk-weaker, IsAcyclic, value_at, Face, settled_notes, IsFaceOf, IsNotedFaceOf}
 use Rattle.ghc_core.proofs.core_state.Core.face.Goals as goal
 
 pub returns-clause-scratch : goal.returns-clause-scratch
-returns-clause-scratch c =
-    let w = c.args.self.now.world in
-    let at_store = subst (λ s. IfOk c.new.result (IsFace c.program.result.now c.goals.result.now.held s)) c.store-2.ensures c.new.ensures in
-    let at_goals = subst (λ g. IfOk c.new.result (IsFace c.program.result.now g w.state.store)) c.goals.ensures at_store in
-    subst (λ p. IfOk c.new.result (IsFace p w.state.goals w.state.store)) c.program.ensures at_goals
+returns-clause-scratch c = rw (c.program.ensures, c.goals.ensures, c.store-2.ensures) at c.new.ensures
 
 pub returns-clause-noted : goal.returns-clause-noted
 returns-clause-noted c settled =

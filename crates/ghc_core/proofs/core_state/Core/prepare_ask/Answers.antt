@@ -7,50 +7,37 @@ use Rattle.ghc_core.proofs.core_state.Core.prepare_ask.Goals as goal
 pub check_calls-requires : goal.check_calls-requires
 check_calls-requires c = subst AreNarrow (sym c.goals-goals.ensures.goals) c.goals-goals.ensures.proper.0.narrow
 
-pub returns-in-Err-clause-answer : goal.returns-in-Err-clause-answer
-returns-in-Err-clause-answer c =
+pub returns-in-Err : goal.returns-in-Err
+returns-in-Err c =
     let w = c.args.self.now.world in
     let gs = c.args.ask.now in
     let u = c.in-Err.ensures.refused in
-    let first = subst (λ (x : Core). IsFirstCallWithout (HasClauseFor x.world.opening.program) gs u.0 u.1) c.self.view_is (subst (λ l. IsFirstCallWithout (HasClauseFor c.self.inside.program) l u.0 u.1) c.goals-goals.ensures.goals u.2) in
-    (tt, elim u.3 [ inl m ↦ inl m | inr e ↦ inr (subst (AskFails w gs) (sym e) (undefined_told w gs u.0 u.1 first)) ])
+    let first = subst (λ (x : Core). IsFirstCallWithout (HasClauseFor x.world.opening.program) gs u.0 u.1) c.self.view_is
+    (rw c.goals-goals.ensures.goals at u.2) in
+    record {
+      answer = (tt, elim u.3 [ inl m ↦ inl m | inr e ↦ inr (subst (AskFails w gs) (sym e) (undefined_told w gs u.0 u.1 first)) ]);
+      anyway = λ f fails. absurd (undefined_first w gs u.0 u.1 first fails);
+    }
 
-pub returns-in-Err-clause-anyway : goal.returns-in-Err-clause-anyway
-returns-in-Err-clause-anyway c f fails =
-    let gs = c.args.ask.now in
-    let u = c.in-Err.ensures.refused in
-    let first = subst (λ (x : Core). IsFirstCallWithout (HasClauseFor x.world.opening.program) gs u.0 u.1) c.self.view_is (subst (λ l. IsFirstCallWithout (HasClauseFor c.self.inside.program) l u.0 u.1) c.goals-goals.ensures.goals u.2) in
-    absurd (undefined_first c.args.self.now.world gs u.0 u.1 first fails)
-
-pub returns-then-not-ask_is_known-clause-answer : goal.returns-then-not-ask_is_known-clause-answer
-returns-then-not-ask_is_known-clause-answer c =
+pub returns-then-not-ask_is_known : goal.returns-then-not-ask_is_known
+returns-then-not-ask_is_known c =
     let w = c.args.self.now.world in
     let gs = c.args.ask.now in
-    let all = subst (λ (x : Core). AllCalls (HasClauseFor x.world.opening.program) gs) c.self.view_is (subst (AllCalls (HasClauseFor c.self.inside.program)) c.goals-goals.ensures.goals c.in-Ok.ensures.defined) in
-    (tt, inr (unknown_told w gs all (λ known. not_both c.ask_is_known.result c.if-not-ask_is_known.true (c.ask_is_known.ensures.1 (subst (λ (x : Core). NameKnown x.world gs) (sym c.self.view_is) known)))))
+    let all = subst (λ (x : Core). AllCalls (HasClauseFor x.world.opening.program) gs) c.self.view_is
+    (rw c.goals-goals.ensures.goals at c.in-Ok.ensures.defined) in
+    let told = unknown_told w gs all (λ known. not_both _ c.if-not-ask_is_known.true
+    (c.ask_is_known.ensures.1 (subst (λ (x : Core). NameKnown x.world gs) (sym c.self.view_is) known))) in
+    record { answer = (tt, inr told); anyway = λ f fails. ap Err (one_ask_refusal w gs told fails) }
 
-pub returns-then-not-ask_is_known-clause-anyway : goal.returns-then-not-ask_is_known-clause-anyway
-returns-then-not-ask_is_known-clause-anyway c f fails =
+pub returns-then-is_full : goal.returns-then-is_full
+returns-then-is_full c =
     let w = c.args.self.now.world in
     let gs = c.args.ask.now in
-    let all = subst (λ (x : Core). AllCalls (HasClauseFor x.world.opening.program) gs) c.self.view_is (subst (AllCalls (HasClauseFor c.self.inside.program)) c.goals-goals.ensures.goals c.in-Ok.ensures.defined) in
-    ap Err (one_ask_refusal w gs (unknown_told w gs all (λ known. not_both c.ask_is_known.result c.if-not-ask_is_known.true (c.ask_is_known.ensures.1 (subst (λ (x : Core). NameKnown x.world gs) (sym c.self.view_is) known)))) fails)
-
-pub returns-then-is_full-clause-answer : goal.returns-then-is_full-clause-answer
-returns-then-is_full-clause-answer c =
-    let w = c.args.self.now.world in
-    let gs = c.args.ask.now in
-    let all = subst (λ (x : Core). AllCalls (HasClauseFor x.world.opening.program) gs) c.self.view_is (subst (AllCalls (HasClauseFor c.self.inside.program)) c.goals-goals.ensures.goals c.in-Ok.ensures.defined) in
+    let all = subst (λ (x : Core). AllCalls (HasClauseFor x.world.opening.program) gs) c.self.view_is
+    (rw c.goals-goals.ensures.goals at c.in-Ok.ensures.defined) in
     let known = subst (λ (x : Core). NameKnown x.world gs) c.self.view_is (c.ask_is_known.ensures.0 c.if-not-ask_is_known.false) in
-    (tt, inr (full_told w gs all known (c.is_full.ensures.full c.if-is_full.true)))
-
-pub returns-then-is_full-clause-anyway : goal.returns-then-is_full-clause-anyway
-returns-then-is_full-clause-anyway c f fails =
-    let w = c.args.self.now.world in
-    let gs = c.args.ask.now in
-    let all = subst (λ (x : Core). AllCalls (HasClauseFor x.world.opening.program) gs) c.self.view_is (subst (AllCalls (HasClauseFor c.self.inside.program)) c.goals-goals.ensures.goals c.in-Ok.ensures.defined) in
-    let known = subst (λ (x : Core). NameKnown x.world gs) c.self.view_is (c.ask_is_known.ensures.0 c.if-not-ask_is_known.false) in
-    ap Err (one_ask_refusal w gs (full_told w gs all known (c.is_full.ensures.full c.if-is_full.true)) fails)
+    let told = full_told w gs all known (c.is_full.ensures.full c.if-is_full.true) in
+    record { answer = (tt, inr told); anyway = λ f fails. ap Err (one_ask_refusal w gs told fails) }
 
 pub ask_addition-requires : goal.ask_addition-requires
 ask_addition-requires c =
@@ -64,22 +51,20 @@ returns-in_err-ask_addition-clause-anyway c f fails =
     let known = subst (λ (x : Core). NameKnown x.world gs) c.self.view_is (c.ask_is_known.ensures.0 c.if-not-ask_is_known.false) in
     absurd (ask_not_refused c.args.self.now.world gs known (c.is_full.ensures.room c.if-is_full.false) fails)
 
-pub returns-clause-anyway : goal.returns-clause-anyway
-returns-clause-anyway c f fails =
-    let gs = c.args.ask.now in
-    let known = subst (λ (x : Core). NameKnown x.world gs) c.self.view_is (c.ask_is_known.ensures.0 c.if-not-ask_is_known.false) in
-    absurd (ask_not_refused c.args.self.now.world gs known (c.is_full.ensures.room c.if-is_full.false) fails)
-
-pub returns-clause-answer : goal.returns-clause-answer
-returns-clause-answer c =
+pub returns : goal.returns
+returns c =
     let w = c.args.self.now.world in
     let gs = c.args.ask.now in
     let P = w.opening.program in
-    let all = subst (λ (x : Core). AllCalls (HasClauseFor x.world.opening.program) gs) c.self.view_is (subst (AllCalls (HasClauseFor c.self.inside.program)) c.goals-goals.ensures.goals c.in-Ok.ensures.defined) in
+    let all = subst (λ (x : Core). AllCalls (HasClauseFor x.world.opening.program) gs) c.self.view_is
+    (rw c.goals-goals.ensures.goals at c.in-Ok.ensures.defined) in
     let known = subst (λ (x : Core). NameKnown x.world gs) c.self.view_is (c.ask_is_known.ensures.0 c.if-not-ask_is_known.false) in
     let room = c.is_full.ensures.room c.if-is_full.false in
     let number : c.self.inside.next ≡ w.next = ap (λ (x : Core). x.world.next) c.self.view_is in
     let step = c.in_ok-ask_addition.field-0 in
     let asks = subst (λ n. Asks P (asked_as n gs) n step.effect) number (c.in_ok-ask_addition.ensures.effect P (defined_by P gs all)) in
     let is = c.in_ok-ask_addition.ensures.step ∙ ap (λ n. record { number = n; goal = None; consumed = None; act = asked (asked_as n gs); effect = step.effect }) number in
-    (ask_step w c.stands.ensures.standing gs c.goals-goals.ensures.proper known room.0 all room step.effect asks step is, tt)
+    record {
+      answer = (ask_step w c.stands.ensures.standing gs c.goals-goals.ensures.proper known room.0 all room step.effect asks step is, tt);
+      anyway = λ f fails. absurd (ask_not_refused w gs known room fails);
+    }

@@ -1,6 +1,6 @@
-use Rattle.ghc_core.proofs.Words.{◌≡◌, inr, ap, subst, ◌∙◌, Some, Ok, Err, value_at, stream, Closes, Closed as closed, Core, IsStanding}
+use Rattle.ghc_core.proofs.Words.{◌≡◌, inr, ap, subst, ◌∙◌, Some, Ok, Err, value_at, stream, Closes, Closed as closed, Core, IsStanding, at_some}
 use Rattle.ghc_core.proofs.Standing.{standing_orderly}
-use Rattle.ghc_core.proofs.StreamSteps.{if_some, if_none, is_bound, is_full, stream_step}
+use Rattle.ghc_core.proofs.StreamSteps.{if_none, is_bound, is_full, stream_step}
 use Rattle.ghc_core.proofs.core_state.Core.prepare_close.Goals as goal
 
 pub returns-in-Ok-None-clause-answer : goal.returns-in-Ok-None-clause-answer
@@ -11,7 +11,7 @@ returns-in-Ok-None-clause-answer c =
 pub returns-then-is_full-clause-answer : goal.returns-then-is_full-clause-answer
 returns-then-is_full-clause-answer c =
     let same = c.store.ensures ∙ ap (λ (x : Core). x.world.state.store) c.self.view_is in
-    let e = if_some (Closes c.in-Ok.open.1 (value_at c.store.result.now.held)) c.in-Ok-Some.field-0 c.in-Ok-Some.effect c.in-Ok-Some.field-0-is c.in-Ok-Some.ensures.closed in
+    let e = at_some (Closes c.in-Ok.open.1 (value_at c.store.result.now.held)) c.in-Ok-Some.field-0 c.in-Ok-Some.effect c.in-Ok-Some.field-0-is c.in-Ok-Some.ensures.closed in
     (tt, inr (is_full c.args.self.now.world (standing_orderly _ (subst (λ (x : Core). IsStanding x.world) c.self.view_is c.self.invariant.standing)) c.args.stream c.in-Ok.open.0 c.in-Ok.open.1 e.0 c.in-Ok-Some.effect c.store.result.now.held same c.in-Ok.ensures.found e.1 (c.is_full.ensures.full c.if-is_full.true)))
 
 pub returns-in-Err-clause-anyway : goal.returns-in-Err-clause-anyway
@@ -39,7 +39,7 @@ returns-clause-answer c =
     let s = c.in-Ok.open.1 in
     let e = c.in-Ok-Some.effect in
     let store = c.store.ensures ∙ ap (λ (x : Core). x.world.state.store) c.self.view_is in
-    let closes : Closes s (value_at w.state.store) e = subst (λ m. Closes s (value_at m) e) store (if_some (Closes s (value_at c.store.result.now.held)) c.in-Ok-Some.field-0 e c.in-Ok-Some.field-0-is c.in-Ok-Some.ensures.closed) in
+    let closes : Closes s (value_at w.state.store) e = subst (λ m. Closes s (value_at m) e) store (at_some (Closes s (value_at c.store.result.now.held)) c.in-Ok-Some.field-0 e c.in-Ok-Some.field-0-is c.in-Ok-Some.ensures.closed) in
     let number : c.self.inside.next ≡ w.next = ap (λ (x : Core). x.world.next) c.self.view_is in
     let made : c.in_ok-stream_addition.field-0 ≡ record { number = w.next; goal = Some c.in-Ok.open.0; consumed = Some (stream k s); act = closed; effect = e } =
     let a = c.in_ok-stream_addition.ensures in

@@ -1,6 +1,6 @@
-use Rattle.ghc_core.proofs.Words.{◌≡◌, inr, ap, subst, ◌∙◌, Some, Ok, Err, value_at, stream, Feeds, Given as given, Core, IsStanding}
+use Rattle.ghc_core.proofs.Words.{◌≡◌, inr, ap, subst, ◌∙◌, Some, Ok, Err, value_at, stream, Feeds, Given as given, Core, IsStanding, at_some}
 use Rattle.ghc_core.proofs.Standing.{standing_orderly}
-use Rattle.ghc_core.proofs.StreamSteps.{if_some, if_none, is_bound, is_full, stream_step}
+use Rattle.ghc_core.proofs.StreamSteps.{if_none, is_bound, is_full, stream_step}
 use Rattle.ghc_core.proofs.core_state.Core.prepare_input.Goals as goal
 
 pub returns-in-Ok-None-clause-answer : goal.returns-in-Ok-None-clause-answer
@@ -11,7 +11,7 @@ returns-in-Ok-None-clause-answer c =
 pub returns-then-is_full-clause-answer : goal.returns-then-is_full-clause-answer
 returns-then-is_full-clause-answer c =
     let same = c.store.ensures ∙ ap (λ (x : Core). x.world.state.store) c.self.view_is in
-    let e = if_some (Feeds c.args.stream c.in-Ok.open.1 c.args.input.now c.self.inside.next (value_at c.store.result.now.held)) c.in-Ok-Some.field-0 c.in-Ok-Some.effect c.in-Ok-Some.field-0-is c.in-Ok-Some.ensures.fed in
+    let e = at_some (Feeds c.args.stream c.in-Ok.open.1 c.args.input.now c.self.inside.next (value_at c.store.result.now.held)) c.in-Ok-Some.field-0 c.in-Ok-Some.effect c.in-Ok-Some.field-0-is c.in-Ok-Some.ensures.fed in
     (tt, inr (is_full c.args.self.now.world (standing_orderly _ (subst (λ (x : Core). IsStanding x.world) c.self.view_is c.self.invariant.standing)) c.args.stream c.in-Ok.open.0 c.in-Ok.open.1 e.0 c.in-Ok-Some.effect c.store.result.now.held same c.in-Ok.ensures.found e.2 (c.is_full.ensures.full c.if-is_full.true)))
 
 pub returns-clause-answer : goal.returns-clause-answer
@@ -24,7 +24,7 @@ returns-clause-answer c =
     let number : c.self.inside.next ≡ w.next = ap (λ (x : Core). x.world.next) c.self.view_is in
     let fed : Feeds k s c.args.input.now w.next (value_at w.state.store) e =
     subst (λ n. Feeds k s c.args.input.now n (value_at w.state.store) e) number
-    (subst (λ m. Feeds k s c.args.input.now c.self.inside.next (value_at m) e) store (if_some (Feeds c.args.stream c.in-Ok.open.1 c.args.input.now c.self.inside.next (value_at c.store.result.now.held)) c.in-Ok-Some.field-0 e c.in-Ok-Some.field-0-is c.in-Ok-Some.ensures.fed)) in
+    (subst (λ m. Feeds k s c.args.input.now c.self.inside.next (value_at m) e) store (at_some (Feeds c.args.stream c.in-Ok.open.1 c.args.input.now c.self.inside.next (value_at c.store.result.now.held)) c.in-Ok-Some.field-0 e c.in-Ok-Some.field-0-is c.in-Ok-Some.ensures.fed)) in
     let made : c.in_ok-stream_addition.field-0 ≡ record { number = w.next; goal = Some c.in-Ok.open.0; consumed = Some (stream k s); act = given c.args.input.now; effect = e } =
     let a = c.in_ok-stream_addition.ensures in
     let b = c.stream-goal.ensures in

@@ -1,18 +1,16 @@
-use Rattle.ghc_core.proofs.Words.{◌≡◌, ◌⊎◌, ℕ, ◌+◌, inl, inr, length, List, sym, ap, ◌∙◌, subst, arith, Ok, Err, length-map, said_by, Fault, Program, History, Step, Entry, Predicate, Meter, after_firings, firings_of_entries, Core, Loads, World, CarriesOutEach, StopsBehind, ArePredicatesOf, LacksBehind, resumes}
+use Rattle.ghc_core.proofs.Words.{◌≡◌, ◌⊎◌, ℕ, ◌+◌, inl, inr, length, List, sym, ap, ◌∙◌, subst, arith, Ok, length-map, said_by, Fault, Program, History, Step, Entry, Predicate, Meter, after_firings, firings_of_entries, Core, Loads, World, CarriesOutEach, StopsBehind, ArePredicatesOf, LacksBehind, resumes}
 use Rattle.ghc_core.proofs.Firings.{resumed_count}
 use Rattle.ghc_core.proofs.ResumeSteps.{loaded_opened, opening_refused, entry_refused, spy_refused, program_stays}
 use Rattle.ghc_core.proofs.core_state.Core.resume.Goals as goal
 
 pub returns-in-Err-clause-answer : goal.returns-in-Err-clause-answer
-returns-in-Err-clause-answer c =
-    let P = c.args.program in
-    let q = c.args.query in (
-      tt,
-      elim c.in-Err.ensures.answer.1 [
-        | inl memory ↦ inl memory
-        | inr loaded ↦ inr (opening_refused P q.goals q.variables c.args.chronicle.now (subst (λ (h : History). Loads ⊥ P q.goals q.variables h (Err c.in-Err.fault)) c.opening-opening.ensures loaded))
-      ],
-    )
+returns-in-Err-clause-answer c = (
+  tt,
+  elim c.in-Err.ensures.answer.1 [
+    | inl memory ↦ inl memory
+    | inr loaded ↦ inr (opening_refused _ _ _ c.args.chronicle.now (rw c.opening-opening.ensures at loaded))
+  ],
+)
 
 pub returns-in-Err-carry_out_each-clause-answer : goal.returns-in-Err-carry_out_each-clause-answer
 returns-in-Err-carry_out_each-clause-answer c =

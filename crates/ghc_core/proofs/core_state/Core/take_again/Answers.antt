@@ -1,24 +1,22 @@
-use Rattle.ghc_core.proofs.Words.{◌≡◌, sym, ap, ◌∙◌, subst, IfSome, IfNone, after_firings, firings_of_entry, step_of, took, Record, World, IsNextStep, with_step, Binds}
+use Rattle.ghc_core.proofs.Words.{sym, ap, ◌∙◌, subst, World, IsNextStep, with_step, Binds}
 use Rattle.ghc_core.proofs.Loading.{none_noted}
 use Rattle.ghc_core.proofs.Resuming.{step_carried, step_refused}
 use Rattle.ghc_core.proofs.core_state.Core.take_again.Goals as goal
 
 pub returns-in_default-clause-refused : goal.returns-in_default-clause-refused
-returns-in_default-clause-refused c _ =
-    let w : World = c.args.self.now.world in
-    step_refused w c.args.step.now (subst (λ o. IfNone o ((r : Record) → step_of r ≡ c.args.step.now → ¬ IsNextStep w r)) c.in_default.is c.in_ok-addition.ensures.none)
+returns-in_default-clause-refused c _ = step_refused c.args.self.now.world c.args.step.now (rw c.in_default.is at c.in_ok-addition.ensures.none)
 
 pub take_next-requires : goal.take_next-requires
 take_next-requires c =
-    let w : World = c.args.self.now.world in
-    record { found = subst (λ v. IsNextStep v c.in-Some.addition) (sym c.in_ok-addition.ensures.world) (subst (λ o. IfSome o (IsNextStep w)) c.in-Some.is c.in_ok-addition.ensures.next) }
+    let next = rw c.in-Some.is at c.in_ok-addition.ensures.next in
+    record { found = subst (λ (v : World). IsNextStep v c.in-Some.addition) (sym c.in_ok-addition.ensures.world) next }
 
 pub returns-clause-carried : goal.returns-clause-carried
 returns-clause-carried c _ =
     let w : World = c.args.self.now.world in
     let r = c.in-Some.addition in
-    step_carried w c.take_next.new.self.world c.args.step.now r c.stands.ensures.standing (subst (λ o. IfSome o (IsNextStep w)) c.in-Some.is c.in_ok-addition.ensures.next)
-    (subst (λ o. IfSome o (λ (q : Record). step_of q ≡ c.args.step.now)) c.in-Some.is c.in_ok-addition.ensures.step)
+    step_carried w c.take_next.new.self.world c.args.step.now r c.stands.ensures.standing (rw c.in-Some.is at c.in_ok-addition.ensures.next)
+    (rw c.in-Some.is at c.in_ok-addition.ensures.step)
     (c.in_ok-take_next.ensures.ok.1 ∙ ap (with_step r) c.in_ok-addition.ensures.world)
 
 pub returns-clause-notes : goal.returns-clause-notes
@@ -26,5 +24,4 @@ returns-clause-notes c none _ =
     none_noted c.take_next.new.self.world.state.goals (Binds c.in-Some.addition) c.next_as.new.self.notes c.take_next.new.self.notes c.in_ok-take_next.ensures.notes (c.in_ok-addition.ensures.notes ∙ none)
 
 pub returns-clause-meter : goal.returns-clause-meter
-returns-clause-meter c _ =
-    c.in_ok-take_next.ensures.meter ∙ subst (λ o. IfSome o (λ _. c.next_as.new.self.meter ≡ after_firings (firings_of_entry (took c.args.step.now)) c.args.self.now.meter)) c.in-Some.is c.in_ok-addition.ensures.meter
+returns-clause-meter c _ = c.in_ok-take_next.ensures.meter ∙ (rw c.in-Some.is at c.in_ok-addition.ensures.meter)

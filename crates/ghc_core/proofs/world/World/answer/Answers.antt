@@ -1,4 +1,4 @@
-use Rattle.ghc_core.proofs.Words.{refl, ap, sym, subst, inl, inr, World, Core, commit, event_of, reply_of, Meets}
+use Rattle.ghc_core.proofs.Words.{refl, ap, inl, inr, World, Core, commit, reply_of}
 use Rattle.ghc_core.proofs.CertainRefusals.{note_refused_anyway}
 use Rattle.ghc_core.proofs.Playable.{core_stays, left_so, moved_grows}
 use Rattle.ghc_core.proofs.Moving.{answered_moves, obeyed_answers, noted_answers}
@@ -6,12 +6,9 @@ use Rattle.ghc_core.proofs.world.World.answer.Goals as goal
 
 pub returns-in-Propose-clause-met : goal.returns-in-Propose-clause-met
 returns-in-Propose-clause-met c =
-    let old = c.args.self.now in
-    let new = c.propose.new.self in
-    let reply = reply_of c.propose.result in
-    let stays = core_stays old.core new.core c.propose.ensures.core in
-    subst (λ e. Meets old (event_of e) reply new) (sym c.in-Propose.is) (record {
-      answer = left_so new.core.world c.propose.ensures.answer stays.world;
+    let stays = core_stays c.args.self.now.core c.propose.new.self.core c.propose.ensures.core in
+    rw c.in-Propose.is (record {
+      answer = left_so c.propose.new.self.core.world c.propose.ensures.answer stays.world;
       anyway = c.propose.ensures.anyway;
       carries = inr stays;
       stays = λ _. stays;
@@ -23,15 +20,14 @@ pub returns-in-Propose-clause-entry : goal.returns-in-Propose-clause-entry
 returns-in-Propose-clause-entry c = inl (ap (λ (x : Core). x.world.journal) c.propose.ensures.core)
 
 pub returns-in-Commit-clause-met : goal.returns-in-Commit-clause-met
-returns-in-Commit-clause-met c =
-    subst (λ e. Meets c.args.self.now (event_of e) (reply_of c.commit.result) c.commit.new.self) (sym c.in-Commit.is) (record {
-      answer = c.commit.ensures.answer;
-      anyway = c.commit.ensures.anyway;
-      carries = c.commit.ensures.moves;
-      stays = c.commit.ensures.stays;
-      counts = c.commit.ensures.counted;
-      proposals = c.commit.ensures.meter;
-    })
+returns-in-Commit-clause-met c = rw c.in-Commit.is (record {
+  answer = c.commit.ensures.answer;
+  anyway = c.commit.ensures.anyway;
+  carries = c.commit.ensures.moves;
+  stays = c.commit.ensures.stays;
+  counts = c.commit.ensures.counted;
+  proposals = c.commit.ensures.meter;
+})
 
 pub returns-in-Commit-clause-entry : goal.returns-in-Commit-clause-entry
 returns-in-Commit-clause-entry c =
@@ -40,10 +36,9 @@ returns-in-Commit-clause-entry c =
 pub returns-in-Note-clause-met : goal.returns-in-Note-clause-met
 returns-in-Note-clause-met c =
     let old = c.args.self.now in
-    let reply = reply_of c.reply_to_note.result in
-    subst (λ e. Meets old (event_of e) reply (record old { core = c.reply_to_note.new.self })) (sym c.in-Note.is) (record {
+    rw c.in-Note.is (record {
       answer = left_so c.reply_to_note.new.self.world (noted_answers old.hands c.reply_to_note.ensures.answer) c.reply_to_note.ensures.world;
-      anyway = λ f fails. note_refused_anyway old.core.world c.in-Note.goal f reply c.reply_to_note.ensures.no_goal fails;
+      anyway = λ f. note_refused_anyway old.core.world c.in-Note.goal f (reply_of c.reply_to_note.result) c.reply_to_note.ensures.no_goal;
       carries = c.reply_to_note.ensures.noted;
       stays = c.reply_to_note.ensures.stays;
       counts = c.reply_to_note.ensures.counted;
@@ -54,13 +49,11 @@ pub returns-in-Note-clause-entry : goal.returns-in-Note-clause-entry
 returns-in-Note-clause-entry c = inl (ap (λ (w : World). w.journal) c.reply_to_note.ensures.world)
 
 pub returns-in-Command-clause-met : goal.returns-in-Command-clause-met
-returns-in-Command-clause-met c =
-    let old = c.args.self.now in
-    subst (λ e. Meets old (event_of e) (reply_of c.obey.result) (record old { core = c.obey.new.self })) (sym c.in-Command.is) (record {
-      answer = obeyed_answers c.args.self.now.hands c.obey.ensures.answer;
-      anyway = c.obey.ensures.anyway;
-      carries = c.obey.ensures.moves;
-      stays = c.obey.ensures.stays;
-      counts = c.obey.ensures.counted;
-      proposals = refl;
-    })
+returns-in-Command-clause-met c = rw c.in-Command.is (record {
+  answer = obeyed_answers c.args.self.now.hands c.obey.ensures.answer;
+  anyway = c.obey.ensures.anyway;
+  carries = c.obey.ensures.moves;
+  stays = c.obey.ensures.stays;
+  counts = c.obey.ensures.counted;
+  proposals = refl;
+})
