@@ -1,5 +1,5 @@
 -- Acts on streams have an answer.
-use Rattle.ghc_core.proofs.Words.{◌≡◌, ℕ, ◌⊎◌, List, [], ◌∷◌, map, length, refl, sym, ap, ◌∙◌, subst, inl, inr, arith, Some, Option, cases_eq, VarName, GoalName, Tree, variable, cons, nil, Goal, stream, Leads, value_at, chain, left_end, Fault, made, Act, Given as given, Closed as closed, Effect, HasEffect, IsClosed, number_limit, kept_limit, Record, World, IsFull, HasRoom, effect_once, Decided, some_decided, listed, cases_lt}
+use Rattle.ghc_core.proofs.Words.{◌≡◌, ℕ, ◌⊎◌, List, [], ◌∷◌, map, length, refl, sym, ap, ◌∙◌, subst, inl, inr, arith, Some, Option, cases_eq, VarName, GoalName, Tree, variable, cons, nil, Goal, stream, Leads, value_at, chain, left_end, Fault, made, Act, Given as given, Closed as closed, Effect, HasEffect, IsClosed, number_limit, kept_limit, Record, World, IsFull, HasRoom, effect_once, Decided, some_decided, cases_lt, Goals, goal_cmp, In, is_some, contains_in, Contains-from_any, same_goal}
 use Rattle.std.specs.FinMap as finite
 use Rattle.std.specs.FinSet as set
 use Rattle.ghc_core.specs.Streams as streams
@@ -15,6 +15,10 @@ is_of k (Some (stream l s)) = elim (cases_eq l k) [
   | inr n ↦ inr (λ p. n (let e = p.1 in let same : l ≡ k = cc in same))
 ]
 is_of k o = inr (λ p. let e = p.1 in cc)
+
+-- a goal that is there is listed
+listed : (m : Goals) (g : GoalName) (b : Goal) → finite.get m g ≡ Some b → In g (finite.keys m)
+listed m g b e = contains_in (finite.keys m) g (Contains-from_any same_goal g (finite.keys m) (sym (finite.contains_key-keys m g) ∙ ap is_some e))
 
 pub room : (w : World) → HasRoom w ⊎ IsFull w
 room w = elim (cases_lt w.next number_limit) [
@@ -58,5 +62,5 @@ act_answered w ordered k act a =
       | inl (g, i, (s, at)) ↦
           let c = chain (finite.len w.state.store) w.state.store (omega arith) ordered.acyclic (variable s) in
           by_end w ordered k act g s c.passed c.«end» a at c.leads
-      | inr n ↦ inr (Fault.NoStream, no_stream (λ g s at. n (g, listed es g (stream k s) (sym (finite.get-entries w.state.goals g) ∙ at), (s, at))))
+      | inr n ↦ inr (Fault.NoStream, no_stream (λ g s at. n (g, listed w.state.goals g (stream k s) at, (s, at))))
     ]

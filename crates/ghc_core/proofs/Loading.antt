@@ -1,5 +1,5 @@
 -- A history is loaded step by step: each step that is loaded leaves a world that its opening makes.
-use Rattle.ghc_core.proofs.Words.{◌≡◌, ℕ, suc, ◌+◌, ◌<◌, ◌≤◌, List, [], ◌∷◌, ◌++◌, length, map, slice_get, zero, refl, sym, ap, subst, subst₂, ◌∙◌, inl, inr, arith, append_assoc, append-nil, map-append, length-append, Some, None, Ok, Err, GoalName, Fault, In, in_right, Program, Query, Effect, HasEffect, Goal, value_at, AreDistinct, kept_limit, State, Record, numbers, after, query_state, Runs, Step, Opening, Entry, took, step_of, History, IsHistory, loaded_opening, number_in, Goals, goal_cmp, goal_total, goal_antisymmetric, NotesByGoal, AreLeft, VarName, same_value, by_option, not_both, taken, taken_at, is_old, results_of, World, Opens, IsStanding, CanLoad, with_loaded, IsPossibleAs, IsImpossible, Loads, loads, stops, distinct_last, distinct_left, no_entries, length-map}
+use Rattle.ghc_core.proofs.Words.{◌≡◌, ℕ, suc, ◌+◌, ◌<◌, ◌≤◌, List, [], ◌∷◌, ◌++◌, length, map, slice_get, zero, refl, sym, ap, subst, subst₂, ◌∙◌, inl, inr, arith, append_assoc, append-nil, map-append, length-append, Some, None, Ok, Err, GoalName, Fault, In, in_right, Program, Query, Effect, HasEffect, Goal, value_at, AreDistinct, kept_limit, State, Record, numbers, after, query_state, Runs, Step, Opening, Entry, took, step_of, History, IsHistory, loaded_opening, number_in, Goals, goal_cmp, goal_total, goal_antisymmetric, NotesByGoal, AreLeft, VarName, same_value, by_option, not_both, taken, taken_at, is_old, results_of, World, Opens, IsStanding, CanLoad, with_loaded, IsPossibleAs, IsImpossible, Loads, loads, stops, distinct_split, nil_from_length, length-map}
 use Rattle.std.specs.FinMap as finite
 use Rattle.ghc_core.proofs.Naming.{known_of_goal}
 use Rattle.ghc_core.proofs.Reaching.{each_more, reached_good}
@@ -79,10 +79,6 @@ split_at [] xs (suc i) s e g = absurd (omega (arith, e))
 split_at (y ∷ ys) behind zero s e g = absurd (omega (arith, e))
 split_at (y ∷ ys) behind (suc i) s e g = split_at ys behind i s (omega (arith, e)) g
 
--- of distinct numbers one is none of those in front of it
-apart : (xs ys : List ℕ) (x : ℕ) → AreDistinct (xs ++ x ∷ ys) → ¬ In x xs
-apart xs ys x d = distinct_last xs x (distinct_left (xs ++ x ∷ []) ys (subst AreDistinct (sym (append_assoc xs (x ∷ []) ys)) d))
-
 pub step_numbers : (rs : List Record) → numbers rs ≡ map (λ (s : Step). s.number) (map step_of rs)
 step_numbers [] = refl
 step_numbers (r ∷ rs) = ap (λ ns. r.number ∷ ns) (step_numbers rs)
@@ -133,7 +129,7 @@ module _ (P : Program) (query : Query) (names : List (List ℕ)) (h : History) (
           known = (let named = form.of_goals s there in known_of_goal w.opening.program w.state w.opening.query w.kept r p.1 named.0 (ap (λ (q : Step). q.goal) p.0 ∙ named.1));
           positive = omega (arith, first, number);
           below = omega (arith, less, number, next);
-          own = λ j. apart (map (λ (q : Step). q.number) l.before) (map (λ (q : Step). q.number) rest.0) s.number distinct (subst₂ In number kept j);
+          own = λ j. distinct_split (map (λ (q : Step). q.number) l.before) s.number (map (λ (q : Step). q.number) rest.0) distinct (subst₂ In number kept j);
           few = omega (arith, few, all, count);
         }
 
@@ -173,7 +169,7 @@ module _ (P : Program) (query : Query) (names : List (List ℕ)) (h : History) (
   all_loaded most =
       let all : length h.steps ≡ length l.before + length l.behind = ap length l.whole ∙ length-append l.before l.behind in
       let count = l.count in
-      let none : l.behind ≡ [] = no_entries l.behind (omega (arith, all, count, most)) in
+      let none : l.behind ≡ [] = nil_from_length l.behind (omega (arith, all, count, most)) in
       let steps : l.before ≡ h.steps = sym (append-nil l.before) ∙ ap (λ ss. l.before ++ ss) (sym none) ∙ sym l.whole in
       loads w (subst (λ o. Opens o w) (l.opening ∙ ap (λ ss. loaded_opening P query names (record { steps = ss; next = h.next })) steps) l.opens)
 

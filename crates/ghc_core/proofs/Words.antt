@@ -41,7 +41,7 @@ pub use Rattle.ghc_depend.proofs.Finding.{by_option, makes_at, named_or_not, not
 pub use Rattle.ghc_depend.proofs.Following.{alone, first_or_none, follows_in, split_closed}
 pub use Rattle.ghc_depend.proofs.KeptOnce.{fires_once, keeps_once, runs_split, same_number, shelved, taken_append, taken_same, unshelved}
 pub use Rattle.ghc_depend.proofs.Once.{consequences, orders}
-pub use Rattle.ghc_depend.proofs.Picking.{before_front, distinct_last, distinct_left, distinct_push, no_longer, picks_distinct, picks_has, picks_in, records_push}
+pub use Rattle.ghc_depend.proofs.Picking.{before_front, distinct_left, distinct_push, distinct_split, no_longer, picks_distinct, picks_has, picks_in, records_push}
 pub use Rattle.ghc_depend.proofs.Placing.{Place, apart_at, place_of, results_of}
 pub use Rattle.ghc_depend.proofs.Results.{IsAsking, Results, Taken, asking_fires, firing, is_old, step_binds, taken, taken_at}
 pub use Rattle.ghc_depend.proofs.TakenTogether.{alone_left, apart_behind, first_gone, follows_behind, found_behind, gone_distinct, gone_kept, picked_number, picks_all, picks_as, picks_within, rest_left, split_at, split_found}
@@ -55,7 +55,7 @@ pub use Rattle.ghc_fire.proofs.Asking.{asked_names, asks_as, asks_back, numbered
 pub use Rattle.ghc_fire.proofs.EachAnswer.{each_answer}
 pub use Rattle.ghc_fire.proofs.EachEffect.{effect_decided}
 pub use Rattle.ghc_fire.proofs.EachOnce.{firsts_in}
-pub use Rattle.ghc_fire.proofs.GoalNames.{goal_antisymmetric, goal_total, same_parts}
+pub use Rattle.ghc_fire.proofs.GoalNames.{goal_antisymmetric, goal_total, same_goal, same_parts}
 pub use Rattle.ghc_fire.proofs.Origins.{variables_come}
 pub use Rattle.ghc_fire.proofs.Renamed.{in_goals}
 pub use Rattle.ghc_fire.proofs.Replaced.{same_goals}
@@ -92,7 +92,6 @@ pub use Rattle.ghc_hooks.proofs.LookingAll.{earlier, latest, so_far}
 pub use Rattle.ghc_hooks.proofs.NotedFaces.{settled_notes}
 pub use Rattle.ghc_hooks.proofs.Statuses.{status_once}
 pub use Rattle.ghc_hooks.proofs.Waking.{spared_next, woken_next}
-pub use Rattle.ghc_hooks.proofs.WholeFace.{listed}
 pub use Rattle.ghc_hooks.specs.Face.{Face, GoalNames}
 pub use Rattle.ghc_hooks.specs.Notes.{AreExact, AreLeft, IsExact, Note, NotesByGoal}
 pub use Rattle.ghc_hooks.specs.Status.{HasStatus, Status, failed}
@@ -106,7 +105,6 @@ pub use Rattle.ghc_records.proofs.Effects.{HasOnly, after_acyclic, after_has, ha
 pub use Rattle.ghc_records.proofs.Heads.{first_in}
 pub use Rattle.ghc_records.proofs.InOrder.{not_again}
 pub use Rattle.ghc_records.proofs.Made.{last_first, name}
-pub use Rattle.ghc_records.proofs.NearUsers.{no_entries}
 pub use Rattle.ghc_records.proofs.NumberSets.{one_or_not}
 pub use Rattle.ghc_records.proofs.OrderLemmas.{Before, before_in, before_once, is_before, number_in, number_of, numbers_append, picks_once, record_once, records_distinct}
 pub use Rattle.ghc_records.proofs.Replaying.{of_query, replay_well, run_once}
@@ -137,7 +135,7 @@ pub use Rattle.ghc_term.proofs.Decided.{Decided, decided_both, decided_by, decid
 pub use Rattle.ghc_term.proofs.Entries.{tie}
 pub use Rattle.ghc_term.proofs.Exact.{exact}
 pub use Rattle.ghc_term.proofs.Indexed.{inserted, removed, value_is}
-pub use Rattle.ghc_term.proofs.ListsLemmas.{at_of_in, compare_splits, each_next, in_at, in_either, in_get, in_last, in_left, in_map, in_middle, in_more, in_place, in_right, splits_at}
+pub use Rattle.ghc_term.proofs.ListsLemmas.{at_of_in, compare_splits, contains_in, each_next, in_at, in_either, in_get, in_last, in_left, in_map, in_middle, in_more, in_place, in_right, splits_at}
 pub use Rattle.ghc_term.proofs.MapsLemmas.{at_some}
 pub use Rattle.ghc_term.proofs.Members.{In_at, one_more_member}
 pub use Rattle.ghc_term.proofs.Names.{name_total}
@@ -161,8 +159,9 @@ pub use Rattle.ghc_unify.specs.Unify.{go, left, stay}
 pub use Rattle.std.proofs.Common.{Bool, Err, IfErr, IfNone, IfOk, IfSome, IsSome, IsTrue, List, MatchBool, None, Ok, Option, Result, Some, [], ap, append-nil, append_assoc, arith, cond, drop, drop-cons, drop_of_length-le, eqb, false, filter, get_or, if◌then◌else◌, inl, inr, is_some, length, map, nat_eq, not, option_map, pos, refl, rules, slice_get, slice_set, subst, subst₂, suc, sym, take, true, vec_capacity, vec_len, zero, ℕ, ◌++◌, ◌+◌, ◌-◌, ◌<◌, ◌==◌, ◌↔◌, ◌∙◌, ◌∷◌, ◌≡◌, ◌≢◌, ◌≤◌, ◌⊎◌}
 pub use Rattle.std.proofs.lemmas.Bool.{cases_eq, cases_lt, eq-eqb, false_from_ne_true, false≢true, ne_eqb, true≢false}
 pub use Rattle.std.proofs.lemmas.Bool.Decides.{eqb_tells}
-pub use Rattle.std.proofs.lemmas.List.{get_or-map, length-append, length-map, length-take-le, map-append, take_all, take_more}
+pub use Rattle.std.proofs.lemmas.List.{get_or-map, length-append, length-map, length-take-le, map-append, nil_from_length, take_all, take_more}
 pub use Rattle.std.proofs.lemmas.List.Elements.{filter-append}
+pub use Rattle.std.proofs.lemmas.Map.Views.{Contains-from_any}
 pub use Rattle.std.proofs.lemmas.Option.{get_or_from_slice_get, slice_get-get_or, slice_get_read, slice_get_within}
 pub use Rattle.std.proofs.lemmas.Result.{IfOk-weaker, err_from_is_err_and}
 pub use Rattle.std.specs.Cmp.{nat_cmp_total, tied_itself}
