@@ -112,7 +112,7 @@ pub fn session<R: Threads + Wait + Sync, G: Gate + Sync, D: Device>(
         (D.earlier device.new - (D.earlier device.old + D.latest device.old)) (state_of result.0)) }
     ensures opening { result.0.core.world.opening ≡ debugger.core.world.opening }
 
-    // Where the bytes are known and no line is a run, each step of the lines fires at most once, and nothing else does.
+    // Where the bytes are known and no line is a run, there are at most as many firings as lines that step or redo.
     ensures fires { IfSome (D.unread device.old) (λ input. runs_in (lines_of input) ≡ 0 → result.0.core.meter.firings ≤ debugger.core.meter.firings + firings_in (lines_of input)) }
 
     // It fails only where the device did.

@@ -1,8 +1,8 @@
 -- The step of a stream that is prepared, and why none is.
-use Rattle.ghc_core.proofs.Words.{◌≡◌, ◌≢◌, ℕ, refl, ap, ◌∙◌, sym, subst, inl, inr, [], ◌∷◌, ◌++◌, Some, None, Result, Err, Option, IfNone, VarName, GoalName, Fault, variable, stream, StoreValue, value_at, comes_leads, EndsIn, Act, Closed as closed, effect_once, Effect, HasEffect, ReadsTail, IsTailBound, Record, World, IsFull, HasRoom, IsOrderly, TakesNothingAnyway, IsStreamAt, StreamFails, IsStreamStep}
+use Rattle.ghc_core.proofs.Words.{◌≡◌, ℕ, refl, ap, sym, subst, inl, inr, Some, None, Result, Err, Option, IfNone, VarName, GoalName, Fault, variable, stream, StoreValue, value_at, EndsIn, Act, Closed as closed, effect_once, Effect, HasEffect, IsTailBound, Record, World, IsFull, HasRoom, IsOrderly, IsStreamAt, StreamFails, IsStreamStep}
 use Rattle.ghc_core.proofs.Naming.{known_of_act}
 use Rattle.ghc_core.proofs.Refusing.{stream_fails_once, tail_bound}
-use Rattle.ghc_core.proofs.Stepping.{bound_or_open, stream_full}
+use Rattle.ghc_core.proofs.Stepping.{bound_or_open, room_or_full, stream_full}
 
 -- what is known where nothing was found
 pub if_none : {T : Type 0} (P : Type 0) (o : Option T) → o ≡ None → IfNone o P → P
@@ -22,33 +22,18 @@ stream_step w k act g s e r at has room same =
     ((g, s, refl, refl, refl), (refl, ((stream k s, refl, at), has), room, known_of_act w.opening.program w.opening.query w.kept t (stream k s) w.next (value_at w.state.store) e has))
 
 module _ (w : World) (ordered : IsOrderly w) (k : ℕ) where
-  -- a stream takes nothing for one reason
-  pub one_refusal : {f g : Fault} → StreamFails w k f → StreamFails w k g → f ≡ g
-  one_refusal p q = stream_fails_once p q
-
-  one_anyway : {f g : Fault} → StreamFails w k f → TakesNothingAnyway w k g → f ≡ g
-  one_anyway p (inl (e, q)) = one_refusal p q ∙ sym e
-  one_anyway p (inr (e, q)) = one_refusal p q ∙ sym e
-
   -- what is told where it takes nothing is why
-  pub refused_anyway : {A : Type 0} (f g : Fault) → StreamFails w k f → TakesNothingAnyway w k g → ◌≡◌ {A = Result A Fault} (Err f) (Err g)
-  refused_anyway f g p q = ap Err (one_anyway p q)
+  pub refused_anyway : {A : Type 0} (f g : Fault) → StreamFails w k f → StreamFails w k g → ◌≡◌ {A = Result A Fault} (Err f) (Err g)
+  refused_anyway f g p q = ap Err (stream_fails_once p q)
 
   -- the tail is open, and the world full
-  pub is_full : (g : GoalName) (s x : VarName) (e : Effect) (m : StoreValue) → m ≡ w.state.store → IsStreamAt w k g s → ReadsTail s (value_at m) x e → IsFull w → StreamFails w k Fault.Full
-  is_full g s x e m same at b f =
-      let t = subst (λ y. ReadsTail s (value_at y) x e) same b in
-      stream_full effect_once w ordered.acyclic ordered.streams_once k closed g s x at (t.0 ++ x ∷ [], comes_leads t.1 t.2) f
+  pub is_full : (g : GoalName) (s x : VarName) → IsStreamAt w k g s → EndsIn (value_at w.state.store) s (variable x) → IsFull w → StreamFails w k Fault.Full
+  is_full g s x at ends full = stream_full effect_once w ordered.acyclic ordered.streams_once k closed g s x at ends full
 
-  -- a stream whose tail ends in an unbound variable is refused nothing but for want of room
-  no_refusal : (g : GoalName) (s x : VarName) {f : Fault} → IsStreamAt w k g s → EndsIn (value_at w.state.store) s (variable x) → f ≢ Fault.Full → ¬ StreamFails w k f
-  no_refusal g s x at ends not p = elim p.first [
+  -- a stream whose tail ends in an unbound variable takes what it is given, where there is room
+  pub takes_something : (g : GoalName) (s x : VarName) {f : Fault} → IsStreamAt w k g s → EndsIn (value_at w.state.store) s (variable x) → HasRoom w → ¬ StreamFails w k f
+  takes_something g s x at ends room p = elim p.first [
     | inl (_, none) ↦ none g s at
     | inr (_, inl (_, (h, u, t, here, bound, v))) ↦ bound_or_open effect_once w ordered.acyclic ordered.streams_once k closed h g u s x t here bound v at ends
-    | inr (_, inr (_, (e, _))) ↦ not e
+    | inr (_, inr (_, (_, full))) ↦ room_or_full w room full
   ]
-
-  -- so it takes what it is given, where there is room
-  pub takes_something : (g : GoalName) (s x : VarName) {f : Fault} → IsStreamAt w k g s → EndsIn (value_at w.state.store) s (variable x) → ¬ TakesNothingAnyway w k f
-  takes_something g s x at ends (inl (e, q)) = no_refusal g s x at ends (λ same. let clash : Fault.NoStream ≡ Fault.Full = same in cc) q
-  takes_something g s x at ends (inr (e, q)) = no_refusal g s x at ends (λ same. let clash : Fault.TailBound ≡ Fault.Full = same in cc) q

@@ -1,6 +1,6 @@
 -- The words of other crates and of the definitions that the proofs cite, from one place.
 pub use Rattle.ghc_core.specs.Answers.{Answers, AnswersEach, Asks, AsksFor, Fails, HasHand, IsRefusedFor, Obeys, Plays, Says, by_command, by_hand, does, fails, hands_after, makes, no_hand, no_memory, played, refuses, says, starves, to_arrange, to_ask, to_close, to_give, to_redo, to_roll, to_undo, told_of}
-pub use Rattle.ghc_core.specs.Anyway.{HoldsNoGoal, IsNotAskedAnyway, IsNotCommittedAnyway, IsNotProposedAnyway, TakesNothingAnyway}
+pub use Rattle.ghc_core.specs.Anyway.{HoldsNoGoal, IsNotAskedAnyway, IsNotCommittedAnyway, IsNotProposedAnyway}
 pub use Rattle.ghc_core.specs.Arrangement.{Arrangement}
 pub use Rattle.ghc_core.specs.Asked.{IsAskedFor}
 pub use Rattle.ghc_core.specs.AskedAgain.{CanBeAsked, CanBeAskedFor}

@@ -31,10 +31,6 @@ HoldsNoGoal w hands h = (finite.get hands.held h ≡ None) ⊎ ((p : Proposal) �
 pub record IsNotCommittedAnyway (w : World) (hands : Hands) (h : ℕ) (f : Fault) : Type 0 where
   pub first : OrElse (IsToldWhere Fault.Command (¬ IsHand hands h)) (IsToldWhere Fault.Stale (HoldsNoGoal w hands h)) f
 
--- A stream takes neither input nor close: there is no such stream, or it is closed; or its tail ends in a value.
-abbrev pub TakesNothingAnyway : World → ℕ → Fault → Type 0
-TakesNothingAnyway w k f = ((f ≡ Fault.NoStream) × StreamFails w k Fault.NoStream) ⊎ ((f ≡ Fault.TailBound) × StreamFails w k Fault.TailBound)
-
 -- An order is not lawful from its first number on, which is not kept.
 abbrev pub BeginsUnkept : World → List ℕ → Fault → Type 0
 BeginsUnkept w [] f = ⊥
@@ -44,10 +40,10 @@ BeginsUnkept w (n ∷ ns) f = (f ≡ Fault.NotLawful n n) × ¬ In n (numbers w.
 abbrev pub IsNotAskedAnyway : World → List Goal → Fault → Type 0
 IsNotAskedAnyway w gs f = ((f ≡ Fault.NoVariable) × AskFails w gs Fault.NoVariable) ⊎ ((f ≡ Fault.Full) × AskFails w gs Fault.Full)
 
--- A command is not obeyed: there is no such stream, or its tail ends in a value; the step cannot be undone; it is not kept; it is not on the shelf, its goal is not there, or it names a variable that is not known; an order begins with a number that is not kept; or goals are asked for that name a variable that is not known, or for which a full world has no room.
+-- A command is not obeyed: there is no such stream, its tail ends in a value, or a full world has no room for what it takes; the step cannot be undone; it is not kept; it is not on the shelf, its goal is not there, or it names a variable that is not known; an order begins with a number that is not kept; or goals are asked for that name a variable that is not known, or for which a full world has no room.
 abbrev pub IsNotObeyedAnyway : World → Command → Fault → Type 0
-IsNotObeyedAnyway w (input k t) f = TakesNothingAnyway w k f
-IsNotObeyedAnyway w (finish k) f = TakesNothingAnyway w k f
+IsNotObeyedAnyway w (input k t) f = StreamFails w k f
+IsNotObeyedAnyway w (finish k) f = StreamFails w k f
 IsNotObeyedAnyway w (undo n) f = UndoFails w.kept n f
 IsNotObeyedAnyway w (roll n) f = (f ≡ Fault.NotKept) × IsNotKept w.kept n
 IsNotObeyedAnyway w (redo n) f = ((f ≡ Fault.NotShelved) × RedoFails w n Fault.NotShelved) ⊎ ((f ≡ Fault.NoGoal) × RedoFails w n Fault.NoGoal) ⊎ ((f ≡ Fault.NoVariable) × RedoFails w n Fault.NoVariable)

@@ -12,7 +12,7 @@ ghost use Rattle.ghc_depend.specs.Depend.{Binds};
 ghost use Rattle.ghc_core.specs.Answers.{Obeys};
 ghost use Rattle.ghc_core.specs.Events.{input as gives, finish, stepped};
 ghost use Rattle.ghc_core.specs.Core.{Stays};
-ghost use Rattle.ghc_core.specs.Anyway.{TakesNothingAnyway};
+ghost use Rattle.ghc_core.specs.World.{HasRoom};
 ghost use Rattle.ghc_core.specs.Streams.{IsStreamAt, StreamFails, IsStreamStep};
 
 use crate::core_state::Core;
@@ -66,12 +66,13 @@ impl Core {
         }
     }
 
-    // The name of the goal of this stream, and its tail, where that ends in an unbound variable; else why the stream takes neither
-    // input nor close: a look-up for each variable of the tail's chain.
+    // The name of the goal of this stream, and its tail, where that ends in an unbound variable and a new step has room; else why
+    // the stream takes neither input nor close: a look-up for each variable of the tail's chain.
     fn open_stream(&self, stream: u32) -> Result<(GoalName, VarName), Fault>
         ensures found { IfOk result (λ p. IsStreamAt self.now.world stream p.0 p.1) }
+        ensures room { IfOk result (λ _. HasRoom self.now.world) }
         ensures fault { IfErr result (StreamFails self.now.world stream) }
-        ensures anyway { (f : fault_spec) → TakesNothingAnyway self.now.world stream f → result ≡ Err f }
+        ensures anyway { (f : fault_spec) → StreamFails self.now.world stream f → result ≡ Err f }
     {
         self.stands();
         let Some((name, tail)) = self.stream_goal(stream) else {
@@ -79,15 +80,20 @@ impl Core {
         };
         let tail_term = Term::variable(tail);
         match self.state.store().end(&tail_term).view() {
-            TermView::Var(_) => Ok((name, tail)),
+            TermView::Var(_) => {
+                if self.is_full() {
+                    return Err(Fault::Full);
+                }
+                Ok((name, tail))
+            }
             _ => Err(Fault::TailBound),
         }
     }
 
     /// Finds what it takes to give the stream this input, as the next step: `NoStream` exactly where there is no such stream or it
-    /// is closed, else `TailBound` exactly where its tail ends in a value, which are told before memory is asked for; else `Full`
-    /// exactly where the numbers are used up or 1,000,000 steps are kept; else it fails for want of memory alone. Nothing is fired.
-    /// It costs a look-up for each variable of the tail's chain.
+    /// is closed, else `TailBound` exactly where its tail ends in a value, else `Full` exactly where the numbers are used up or
+    /// 1,000,000 steps are kept, all of which are told before memory is asked for; else it fails for want of memory alone. Nothing
+    /// is fired. It costs a look-up for each variable of the tail's chain.
     pub fn prepare_input(
         &self,
         alloc: Global,
@@ -95,7 +101,7 @@ impl Core {
         input: &Ground,
     ) -> Result<Addition, Fault>
         ensures answer { Answered (IsStreamStep self.now.world stream (given input.now)) (StreamFails self.now.world stream) result }
-        ensures anyway { (f : fault_spec) → TakesNothingAnyway self.now.world stream f → result ≡ Err f }
+        ensures anyway { (f : fault_spec) → StreamFails self.now.world stream f → result ≡ Err f }
     {
         let (name, tail) = match self.open_stream(stream) {
             Ok(open) => open,
@@ -106,9 +112,6 @@ impl Core {
             Ok(None) => return Err(Fault::TailBound),
             Err(_) => return Err(Fault::Memory),
         };
-        if self.is_full() {
-            return Err(Fault::Full);
-        }
         let act = Act::Given(input.share()?);
         let goal = Goal::stream(stream, tail);
         Ok(stream_addition(alloc, self.next, name, goal, act, effect)?)
@@ -117,7 +120,7 @@ impl Core {
     /// Finds what it takes to close the stream, as the next step. Refusals and cost are those of `prepare_input`.
     pub fn prepare_close(&self, alloc: Global, stream: u32) -> Result<Addition, Fault>
         ensures answer { Answered (IsStreamStep self.now.world stream closed) (StreamFails self.now.world stream) result }
-        ensures anyway { (f : fault_spec) → TakesNothingAnyway self.now.world stream f → result ≡ Err f }
+        ensures anyway { (f : fault_spec) → StreamFails self.now.world stream f → result ≡ Err f }
     {
         let (name, tail) = match self.open_stream(stream) {
             Ok(open) => open,
@@ -128,9 +131,6 @@ impl Core {
             Ok(None) => return Err(Fault::TailBound),
             Err(_) => return Err(Fault::Memory),
         };
-        if self.is_full() {
-            return Err(Fault::Full);
-        }
         let goal = Goal::stream(stream, tail);
         Ok(stream_addition(alloc, self.next, name, goal, Act::Closed, effect)?)
     }
@@ -141,7 +141,7 @@ impl Core {
     /// It costs what preparing and applying the step cost.
     pub fn input(&mut self, alloc: Global, stream: u32, input: &Ground) -> Result<u32, Fault>
         ensures answer { Answered (λ n. Obeys ⊥ self.old.world (gives stream input.now) (stepped n) self.new.world) (StreamFails self.old.world stream) result }
-        ensures anyway { (f : fault_spec) → TakesNothingAnyway self.old.world stream f → result ≡ Err f }
+        ensures anyway { (f : fault_spec) → StreamFails self.old.world stream f → result ≡ Err f }
         ensures stays { OnErr result (Stays self.old self.new) }
         ensures meter { self.new.meter ≡ self.old.meter }
 
@@ -160,7 +160,7 @@ impl Core {
     /// preparing and applying the step cost.
     pub fn close(&mut self, alloc: Global, stream: u32) -> Result<u32, Fault>
         ensures answer { Answered (λ n. Obeys ⊥ self.old.world (finish stream) (stepped n) self.new.world) (StreamFails self.old.world stream) result }
-        ensures anyway { (f : fault_spec) → TakesNothingAnyway self.old.world stream f → result ≡ Err f }
+        ensures anyway { (f : fault_spec) → StreamFails self.old.world stream f → result ≡ Err f }
         ensures stays { OnErr result (Stays self.old self.new) }
         ensures meter { self.new.meter ≡ self.old.meter }
 

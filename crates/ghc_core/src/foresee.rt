@@ -3,6 +3,7 @@ ghost use Rattle.std.specs.Prelude.{◌≡◌, ◌⊎◌, Ok, Err, IfOk, IfErr};
 ghost use Rattle.ghc_term.specs.declared.fault.Fault.{Fault as fault_spec};
 ghost use Rattle.ghc_term.specs.Answered.{Answered};
 ghost use Rattle.ghc_core.specs.CommandCode.{command_of};
+ghost use Rattle.ghc_core.specs.Anyway.{IsNotObeyedAnyway};
 ghost use Rattle.ghc_core.specs.Streams.{Foresees, adds, refuses};
 
 use crate::command::Command;
@@ -29,8 +30,9 @@ impl Core {
     /// memory is asked for. Nothing is taken, and nothing is fired. It costs what preparing the step costs.
     pub fn foresee(&self, alloc: Global, command: &Command) -> Result<Record, Fault>
         ensures answer { Answered (λ r. Foresees self.now.world (command_of command.now) (adds r)) (λ f. Foresees self.now.world (command_of command.now) (refuses f)) result }
-        ensures no_stream { Foresees self.now.world (command_of command.now) (refuses Fault.NoStream) → result ≡ Err Fault.NoStream }
-        ensures tail_bound { Foresees self.now.world (command_of command.now) (refuses Fault.TailBound) → result ≡ Err Fault.TailBound }
+
+        // What it is refused for whatever memory is left is told whatever memory is left.
+        ensures anyway { (f : fault_spec) → Foresees self.now.world (command_of command.now) (refuses f) → IsNotObeyedAnyway self.now.world (command_of command.now) f → result ≡ Err f }
         ensures other { Foresees self.now.world (command_of command.now) (refuses Fault.Command) → result ≡ Err Fault.Command }
     {
         match command {

@@ -2,7 +2,8 @@
 use crate::tests::building::{query, variable};
 use crate::tests::cores::{are_taken, core_of};
 use ghc_core::{Command, Core};
-use ghc_reader::read_ground_term;
+use ghc_fire::Ask;
+use ghc_reader::{read_ask, read_ground_term};
 use ghc_records::{Record, push_record};
 use ghc_term::{Fault, GoalName, VarName, print};
 use ghc_trace::{Binder, Port, ports, push_ports, who};
@@ -148,6 +149,44 @@ fn a_stream_is_fed_and_rolled_back(rt: HostRuntime) -> Result<(), Fail> {
     assert!(rt; are_taken(alloc, &mut core, SUMMED));
     assert!(rt; is_redone(alloc, &mut core));
     assert!(rt; has_ports(alloc, &core, 4, PORTS));
+    Ok(())
+}
+
+const ASKED: &str = "1 - ask _0_1 = [], _0_2 = _1_1 reads - binds - makes 1.1,1.2";
+
+// Asks for these goals, which is foreseen, and says whether that is the step of this number, with this record.
+fn is_asked(alloc: Global, core: &mut Core, text: &str, number: u32, wanted: &str) -> bool {
+    let Ok(written) = read_ask(alloc, text.as_bytes(), core.query().variables()) else {
+        return false;
+    };
+    let Ok(ask) = Ask::of_written(alloc, written) else {
+        return false;
+    };
+    let Ok(same) = ask.share() else {
+        return false;
+    };
+    is_foreseen(alloc, core, &Command::Ask(same), wanted)
+        && matches!(core.ask(alloc, &ask), Ok(taken) if taken == number)
+        && is_kept(alloc, core, number, wanted)
+}
+
+// Whether the chronicle of the core tells one entry, the step 1, behind an opening without steps.
+fn tells_one_entry(alloc: Global, core: &Core) -> bool {
+    match core.chronicle(alloc, Vec::new(alloc)) {
+        Ok(told) => told.opening().steps().is_empty()
+            && told.entries().len() == 1
+            && told.next() == 2,
+        Err(_) => false,
+    }
+}
+
+#[test]
+fn goals_are_asked_for(rt: HostRuntime) -> Result<(), Fail> {
+    let alloc = rt.alloc();
+    let mut core = core_of(alloc, SUM, "sum(S,A,R)").ok_or("a core")?;
+    assert!(rt; is_asked(alloc, &mut core, "S = [], A = X", 1, ASKED));
+    assert!(rt; keeps(alloc, &core, &[1]));
+    assert!(rt; tells_one_entry(alloc, &core));
     Ok(())
 }
 

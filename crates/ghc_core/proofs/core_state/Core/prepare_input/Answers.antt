@@ -1,18 +1,11 @@
-use Rattle.ghc_core.proofs.Words.{◌≡◌, inr, ap, subst, ◌∙◌, Some, Ok, Err, value_at, stream, Feeds, Given as given, Core, IsStanding, at_some}
-use Rattle.ghc_core.proofs.Standing.{standing_orderly}
-use Rattle.ghc_core.proofs.StreamSteps.{if_none, is_bound, is_full, stream_step}
+use Rattle.ghc_core.proofs.Words.{◌≡◌, inr, ap, subst, ◌∙◌, Some, Ok, Err, value_at, stream, Feeds, Given as given, Core, at_some}
+use Rattle.ghc_core.proofs.StreamSteps.{if_none, is_bound, stream_step}
 use Rattle.ghc_core.proofs.core_state.Core.prepare_input.Goals as goal
 
 pub returns-in-Ok-None-clause-answer : goal.returns-in-Ok-None-clause-answer
 returns-in-Ok-None-clause-answer c =
     let same = c.store.ensures ∙ ap (λ (x : Core). x.world.state.store) c.self.view_is in
     (tt, inr (is_bound c.args.self.now.world c.args.stream c.in-Ok.open.0 c.in-Ok.open.1 c.store.result.now.held same c.in-Ok.ensures.found (if_none _ c.in-Ok-None.field-0 c.in-Ok-None.field-0-is c.in-Ok-None.ensures.bound)))
-
-pub returns-then-is_full-clause-answer : goal.returns-then-is_full-clause-answer
-returns-then-is_full-clause-answer c =
-    let same = c.store.ensures ∙ ap (λ (x : Core). x.world.state.store) c.self.view_is in
-    let e = at_some (Feeds c.args.stream c.in-Ok.open.1 c.args.input.now c.self.inside.next (value_at c.store.result.now.held)) c.in-Ok-Some.field-0 c.in-Ok-Some.effect c.in-Ok-Some.field-0-is c.in-Ok-Some.ensures.fed in
-    (tt, inr (is_full c.args.self.now.world (standing_orderly _ (subst (λ (x : Core). IsStanding x.world) c.self.view_is c.self.invariant.standing)) c.args.stream c.in-Ok.open.0 c.in-Ok.open.1 e.0 c.in-Ok-Some.effect c.store.result.now.held same c.in-Ok.ensures.found e.2 (c.is_full.ensures.full c.if-is_full.true)))
 
 pub returns-clause-answer : goal.returns-clause-answer
 returns-clause-answer c =
@@ -30,7 +23,7 @@ returns-clause-answer c =
     let b = c.stream-goal.ensures in
     let d = c.in_ok-share.ensures in
     cc in
-    (stream_step w k (given c.args.input.now) c.in-Ok.open.0 s e c.in_ok-stream_addition.field-0 c.in-Ok.ensures.found fed (c.is_full.ensures.room c.if-is_full.false) made, tt)
+    (stream_step w k (given c.args.input.now) c.in-Ok.open.0 s e c.in_ok-stream_addition.field-0 c.in-Ok.ensures.found fed c.in-Ok.ensures.room made, tt)
 
 pub returns-in-Err-clause-anyway : goal.returns-in-Err-clause-anyway
 returns-in-Err-clause-anyway c f fails = let same : Err c.in-Err.fault ≡ Err f = c.in-Err.ensures.anyway f fails in cc
@@ -40,9 +33,6 @@ returns-in-Ok-None-clause-anyway c f fails = let no : Ok c.in-Ok.open ≡ Err f 
 
 pub returns-in-Err-feed-clause-anyway : goal.returns-in-Err-feed-clause-anyway
 returns-in-Err-feed-clause-anyway c f fails = let no : Ok c.in-Ok.open ≡ Err f = c.in-Ok.ensures.anyway f fails in cc
-
-pub returns-then-is_full-clause-anyway : goal.returns-then-is_full-clause-anyway
-returns-then-is_full-clause-anyway c f fails = let no : Ok c.in-Ok.open ≡ Err f = c.in-Ok.ensures.anyway f fails in cc
 
 pub returns-in_err-share-clause-anyway : goal.returns-in_err-share-clause-anyway
 returns-in_err-share-clause-anyway c f fails = let no : Ok c.in-Ok.open ≡ Err f = c.in-Ok.ensures.anyway f fails in cc
