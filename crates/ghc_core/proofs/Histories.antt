@@ -1,13 +1,12 @@
 -- Legal histories and reachable worlds are the same, and a history leaves one world.
-use Rattle.ghc_core.proofs.Words.{◌≡◌, ℕ, ◌+◌, ◌<◌, List, [], ◌∷◌, ◌++◌, map, length, refl, sym, ap, ◌∙◌, subst, subst₂, inl, inr, arith, map-append, length-append, In, in_more, AreDistinct, Record, numbers, Shelf, query_state, Runs, Step, Opening, Entry, took, step_of, Item, entered, history, number_of, run_once, Keeps, taken_numbers, taken_append, keeps_once, distinct_push, Change, no_hands, emptied, World, Opens, CanChange, Changes, commit, command, Reply, stepped, told_of, by_command, makes, Reaches, from_opening, by_change, Leaves, the_opening, and_entry, NoStepIsFree, length-map, taken_same}
+use Rattle.ghc_core.proofs.Words.{◌≡◌, ℕ, ◌+◌, ◌<◌, List, [], ◌∷◌, ◌++◌, map, length, refl, sym, ap, ◌∙◌, subst, subst₂, inl, inr, arith, map-append, length-append, In, in_more, AreDistinct, Record, numbers, Shelf, query_state, Runs, Opening, Entry, took, step_of, Item, entered, history, number_of, run_once, Keeps, taken_numbers, taken_append, keeps_once, distinct_push, Change, no_hands, emptied, World, CanChange, Changes, commit, command, Reply, stepped, told_of, by_command, makes, Reaches, from_opening, by_change, Leaves, the_opening, and_entry, NoStepIsFree, length-map, taken_same}
 use Rattle.ghc_records.specs.Journal.{opened}
 use Rattle.ghc_core.specs.Legal as legal
 use Rattle.ghc_core.specs.HistoryLaws as laws
-use Rattle.ghc_core.proofs.Moving.{MovesOnce, answered_moves, Numbers, change_enters, opening_stays}
+use Rattle.ghc_core.proofs.Moving.{Moves, answered_moves, Numbers, change_enters, opening_stays}
 use Rattle.ghc_core.proofs.Reaching.{reached_good}
 use Rattle.ghc_core.proofs.Replayed.{replayed}
 use Rattle.ghc_core.proofs.Keeping.{reached_keeps}
-use Rattle.ghc_core.proofs.Loading.{step_numbers}
 use Rattle.ghc_core.proofs.Standing.{standing_apart}
 use Rattle.ghc_core.proofs.Taking.{change_done, holding, hand_commits, reached_reachable}
 
@@ -33,24 +32,26 @@ reached_legal (by_change {w = w} {v = v} change r can changes) =
 
 -- a journal is not itself with an entry more
 pub not_longer : (es : List Entry) (e : Entry) → ¬ (es ≡ es ++ e ∷ [])
-not_longer es e p = let q : length es ≡ length es + 1 = ap length p ∙ length-append es (e ∷ []) in omega (arith, q)
+not_longer es e p = omega (arith, ap length p, length-append es (e ∷ []))
 
--- the opening stays
-same_opening : (w v : World) → MovesOnce w v → v.opening ≡ w.opening
-same_opening w v (inl same) = ap (λ (z : World). z.opening) same
-same_opening w v (inr (change, can, changes)) = opening_stays w v change can changes
+-- what enters an entry is a change
+pub entered_moves : (w v : World) (entry : Entry) (reply : Reply) → legal.Enters w entry reply v → Moves w v
+entered_moves w v entry reply n = elim (answered_moves w n.0 n.1 n.2 reply v n.3) [
+  | inl same ↦ absurd (not_longer w.journal entry (sym (ap (λ (z : World). z.journal) same) ∙ n.4))
+  | inr m ↦ m
+]
 
 legal_reached : {items : List Item} {w : World} → Leaves items w → Reaches w
 legal_reached (the_opening sound opens) = from_opening sound opens
-legal_reached (and_entry {w = w} {v = v} entry reply l n) = elim (answered_moves w n.0 n.1 n.2 reply v n.3) [
-  | inl same ↦ absurd (not_longer w.journal entry (sym (ap (λ (z : World). z.journal) same) ∙ n.4))
-  | inr m ↦ by_change m.0 (legal_reached l) m.1 m.2
-]
+legal_reached (and_entry {w = w} {v = v} entry reply l n) =
+    let (change, can, changes) = entered_moves w v entry reply n in
+    by_change change (legal_reached l) can changes
 
 legal_history : {items : List Item} {w : World} → Leaves items w → items ≡ history w.opening w.journal
 legal_history (the_opening sound opens) = λ i. history (sym opens.opening i) (sym opens.journal i)
 legal_history (and_entry {w = w} {v = v} entry reply l n) =
-    let opening : w.opening ≡ v.opening = sym (same_opening w v (answered_moves w n.0 n.1 n.2 reply v n.3)) in
+    let (change, can, changes) = entered_moves w v entry reply n in
+    let opening : w.opening ≡ v.opening = sym (opening_stays w v change can changes) in
     ap (λ xs. xs ++ entered entry ∷ []) (legal_history l) ∙ sym (history_push w.opening w.journal entry) ∙ (λ i. history (opening i) (sym n.4 i))
 
 pub legal_reachable : laws.LegalIsReachable
@@ -63,55 +64,37 @@ record Counted (w : World) : Type 0 where
   pub next : w.next + length w.opening.steps ≡ w.opening.next + length (taken_numbers w.journal)
 
 -- the numbers of loaded steps
-loaded_numbers : (ss : List Step) → taken_numbers (map took ss) ≡ map (λ s. s.number) ss
+loaded_numbers : (rs : List Record) → taken_numbers (map took (map step_of rs)) ≡ numbers rs
 loaded_numbers [] = refl
-loaded_numbers (s ∷ ss) = ap (λ ns. s.number ∷ ns) (loaded_numbers ss)
-
-opened_counted : (o : Opening) (w : World) → Opens o w → Counted w
-opened_counted o w opens =
-    let taken : taken_numbers w.journal ≡ numbers w.kept =
-    ap taken_numbers opens.journal ∙ loaded_numbers o.steps ∙ ap (λ ss. map (λ s. s.number) ss) (sym opens.steps) ∙ sym (step_numbers w.kept) in
-    record {
-      distinct = subst AreDistinct (sym taken) opens.state.0.1;
-      below = λ n i. let r = number_of w.kept n (subst (In n) taken i) in subst₂ (λ a b. a < b) r.2 (sym opens.next) (opens.below r.0 r.1);
-      next =
-          let few : length (taken_numbers w.journal) ≡ length w.kept = ap length taken ∙ length-map w.kept (λ r. r.number) in
-          let kept : length w.kept ≡ length o.steps = sym (length-map w.kept step_of) ∙ ap length opens.steps in
-          let steps : length w.opening.steps ≡ length o.steps = ap (λ (p : Opening). length p.steps) opens.opening in
-          let number : w.opening.next ≡ o.next = ap (λ (p : Opening). p.next) opens.opening in
-          let now = opens.next in
-          omega (arith, few, kept, steps, number, now);
-    }
+loaded_numbers (r ∷ rs) = ap (λ ns. r.number ∷ ns) (loaded_numbers rs)
 
 grown_counted : (w v : World) (entry : Entry) → v.journal ≡ w.journal ++ entry ∷ [] → v.opening ≡ w.opening → Numbers w entry v → Counted w → Counted v
-grown_counted w v entry j o m c =
+grown_counted w v entry j o (inl (none, now)) c =
+    let taken : taken_numbers v.journal ≡ taken_numbers w.journal = ap taken_numbers j ∙ taken_same w.journal entry none in
+    record {
+      distinct = rw taken c.distinct;
+      below = rw (taken, now) c.below;
+      next = rw (taken, now, o) c.next;
+    }
+grown_counted w v entry j o (inr (one, now)) c =
     let before = taken_numbers w.journal in
-    let steps : length v.opening.steps ≡ length w.opening.steps = ap (λ (p : Opening). length p.steps) o in
-    let first : v.opening.next ≡ w.opening.next = ap (λ (p : Opening). p.next) o in
-    let old = c.next in
-    elim m [
-      | inl (none, now) ↦
-          let taken : taken_numbers v.journal ≡ before = ap taken_numbers j ∙ taken_same w.journal entry none in
-          record {
-            distinct = subst AreDistinct (sym taken) c.distinct;
-            below = λ n i. subst (λ m. n < m) (sym now) (c.below n (subst (In n) taken i));
-            next = omega (arith, ap length taken, steps, first, old, now);
-          }
-      | inr (one, now) ↦
-          let taken : taken_numbers v.journal ≡ before ++ w.next ∷ [] =
-          ap taken_numbers j ∙ taken_append w.journal (entry ∷ []) ∙ ap (λ ns. before ++ ns) one in
-          record {
-            distinct = subst AreDistinct (sym taken) (distinct_push before w.next c.distinct (λ i. let less = c.below w.next i in omega arith));
-            below = λ n i. elim (in_more before w.next n (subst (In n) taken i)) [
-              | inl k ↦ let less = c.below n k in omega arith
-              | inr e ↦ omega (arith, e)
-            ];
-            next = omega (arith, ap length taken ∙ length-append before (w.next ∷ []), steps, first, old, now);
-          }
-    ]
+    let taken : taken_numbers v.journal ≡ before ++ w.next ∷ [] = ap taken_numbers j ∙ taken_append w.journal (entry ∷ []) ∙ ap (λ ns. before ++ ns) one in
+    record {
+      distinct = rw taken (distinct_push before w.next c.distinct (λ i. omega (arith, c.below w.next i)));
+      below = rw (taken, now) (λ n i. elim (in_more before w.next n i) [ inl k ↦ omega (arith, c.below n k) | inr e ↦ omega (arith, e) ]);
+      next = rw (taken, now, o) (omega (arith, length-append before (w.next ∷ []), c.next));
+    }
 
 counted : {w : World} → Reaches w → Counted w
-counted (from_opening {o = o} {w = w} sound opens) = opened_counted o w opens
+counted (from_opening {o = o} {w = w} sound opens) =
+    let taken : taken_numbers w.journal ≡ numbers w.kept = ap taken_numbers (opens.journal ∙ ap (map took) (sym opens.steps)) ∙ loaded_numbers w.kept in
+    let count : length (taken_numbers w.journal) ≡ length o.steps =
+    ap length taken ∙ length-map w.kept (λ r. r.number) ∙ sym (length-map w.kept step_of) ∙ ap length opens.steps in
+    record {
+      distinct = rw taken opens.state.0.1;
+      below = rw (taken, opens.next) (λ n i. let r = number_of w.kept n i in rw r.2 at (opens.below r.0 r.1));
+      next = omega (arith, count, ap (λ (p : Opening). length p.steps) opens.opening, ap (λ (p : Opening). p.next) opens.opening, opens.next);
+    }
 counted (by_change {w = w} {v = v} change r can changes) = let g = change_enters w v change can changes in grown_counted w v g.entry g.journal g.opening g.numbers (counted r)
 
 pub told_kept : {w : World} (kept : List Record) (shelf : Shelf) → Reaches w → Keeps w.opening w.journal kept shelf → (kept ≡ w.kept) × (shelf ≡ w.shelf)
@@ -121,37 +104,24 @@ told_kept {w} kept shelf r k =
 
 pub reached_once : {w v : World} → Reaches w → Reaches v → w.opening ≡ v.opening → w.journal ≡ v.journal → w ≡ v
 reached_once {w} {v} r q o j =
-    let same = told_kept v.kept v.shelf r (subst₂ (λ p es. Keeps p es v.kept v.shelf) (sym o) (sym j) (reached_keeps q)) in
-    let walk : Runs w.opening.program (query_state w.opening.query) w.kept v.state =
-    subst₂ (λ (p : Opening) rs. Runs p.program (query_state p.query) rs v.state) (sym o) same.0 (replayed q).replay.1 in
+    let same = told_kept v.kept v.shelf r (rw (o, j) (reached_keeps q)) in
+    let walk : Runs w.opening.program (query_state w.opening.query) w.kept v.state = rw (o, ← same.0) (replayed q).replay.1 in
     let state : w.state ≡ v.state = run_once w.opening.program (query_state w.opening.query) w.kept w.state v.state (replayed r).replay.1 walk in
-    let next : w.next ≡ v.next =
-    let one = (counted r).next in
-    let other = (counted q).next in
-    let steps : length w.opening.steps ≡ length v.opening.steps = ap (λ (p : Opening). length p.steps) o in
-    let first : w.opening.next ≡ v.opening.next = ap (λ (p : Opening). p.next) o in
-    let taken : length (taken_numbers w.journal) ≡ length (taken_numbers v.journal) = ap (λ es. length (taken_numbers es)) j in
-    omega (arith, one, other, steps, first, taken) in
+    let one : v.next + length v.opening.steps ≡ v.opening.next + length (taken_numbers v.journal) = (counted q).next in
+    let other : w.next + length v.opening.steps ≡ v.opening.next + length (taken_numbers v.journal) = rw (← o, ← j) (counted r).next in
+    let next : w.next ≡ v.next = omega (arith, one, other) in
     λ i. record { opening = o i; state = state i; kept = sym same.0 i; shelf = sym same.1 i; next = next i; journal = j i }
-
--- a history has one opening and one journal
-opening_once : {o p : Opening} (es fs : List Entry) → history o es ≡ history p fs → o ≡ p
-opening_once es fs e = cc
 
 entries_once : (es fs : List Entry) → map entered es ≡ map entered fs → es ≡ fs
 entries_once [] [] e = refl
-entries_once [] (f ∷ fs) e = cc
-entries_once (x ∷ es) [] e = cc
 entries_once (x ∷ es) (f ∷ fs) e =
-    let first : x ≡ f = cc in
     let behind : map entered es ≡ map entered fs = cc in
-    let rest : es ≡ fs = entries_once es fs behind in
-    λ i. first i ∷ rest i
+    cc (entries_once es fs behind)
+entries_once es fs e = cc
 
 pub leaves_once : laws.LeavesIsOne
 leaves_once items w v l m =
-    let r = legal_reached l in
-    let q = legal_reached m in
     let same : history w.opening w.journal ≡ history v.opening v.journal = sym (legal_history l) ∙ legal_history m in
+    let opening : w.opening ≡ v.opening = cc in
     let behind : map entered w.journal ≡ map entered v.journal = cc in
-    reached_once r q (opening_once w.journal v.journal same) (entries_once w.journal v.journal behind)
+    reached_once (legal_reached l) (legal_reached m) opening (entries_once w.journal v.journal behind)

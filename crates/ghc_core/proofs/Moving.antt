@@ -1,5 +1,5 @@
 -- What an event does to a world, one change does, or nothing; and what each change does to opening, journal and next number.
-use Rattle.ghc_core.proofs.Words.{◌≡◌, ◌⊎◌, ◌+◌, ◌≤◌, [], ◌∷◌, ◌++◌, refl, sym, ap, subst, inl, inr, arith, Entry, took, redid, reordered, step_of, Record, taken_numbers, Change, Comes as comes, Goes as goes, Reorders as reorders, Coming, Going, Hands, World, CanChange, Changes, entry_of_going, GoalName, Command, Event, note, command, Reply, Obeys, does, refuses, starves, by_command, Says, Answers, makes, says, fails, no_memory, Reaches, from_opening, by_change, IsReachable, at_opening, by_event, with_other_hands}
+use Rattle.ghc_core.proofs.Words.{◌≡◌, ◌⊎◌, ◌+◌, ◌≤◌, [], ◌∷◌, ◌++◌, refl, sym, ap, subst, inl, inr, arith, Entry, took, redid, reordered, step_of, taken_numbers, Change, Comes as comes, Goes as goes, Reorders as reorders, Coming, Going, Hands, World, CanChange, Changes, entry_of_going, GoalName, Command, Event, note, command, Reply, Obeys, does, refuses, starves, by_command, Says, Answers, makes, says, fails, no_memory, Reaches, from_opening, by_change, IsReachable, at_opening, by_event, with_other_hands}
 use Rattle.ghc_core.specs.Proposes as asking
 
 -- The world moved by one change that could be made.
@@ -51,16 +51,12 @@ pub record Enters (w v : World) : Type 0 where
 enters_none : (w v u : World) (entry : Entry) → v ≡ u → u.journal ≡ w.journal ++ entry ∷ [] → u.opening ≡ w.opening → taken_numbers (entry ∷ []) ≡ [] → u.next ≡ w.next → Enters w v
 enters_none w v u entry e journal opening none next = subst (Enters w) (sym e) (record { entry = entry; journal = journal; opening = opening; numbers = inl (none, next) })
 
--- steps that go take none
-going_takes_none : (how : Going) (r : Record) → taken_numbers (entry_of_going how r ∷ []) ≡ []
-going_takes_none Going.Alone r = refl
-going_takes_none Going.Together r = refl
-
 -- A change enters itself.
 pub change_enters : (w v : World) (change : Change) → CanChange w change → Changes w change v → Enters w v
 change_enters w v (comes Coming.Next r) can e = subst (Enters w) (sym e) (record { entry = took (step_of r); journal = refl; opening = refl; numbers = inr (ap (λ n. n ∷ []) can.0, refl) })
 change_enters w v (comes Coming.Shelved r) can e = enters_none w v _ (redid r.number) e refl refl refl refl
-change_enters w v (goes how gone) can (left, split, (t, run, e)) = enters_none w v _ (entry_of_going how gone.first) e refl refl (going_takes_none how gone.first) refl
+change_enters w v (goes Going.Alone gone) can (left, split, (t, run, e)) = enters_none w v _ (entry_of_going Going.Alone gone.first) e refl refl refl refl
+change_enters w v (goes Going.Together gone) can (left, split, (t, run, e)) = enters_none w v _ (entry_of_going Going.Together gone.first) e refl refl refl refl
 change_enters w v (reorders a) can e = enters_none w v _ (reordered a.order) e refl refl refl refl
 
 -- So the opening stays, and the next number does not go down.
@@ -69,4 +65,4 @@ opening_stays w v change can changes = (change_enters w v change can changes).op
 
 pub next_goes_on : (w v : World) → MovesOnce w v → w.next ≤ v.next
 next_goes_on w v (inl same) = let e : v.next ≡ w.next = ap (λ (z : World). z.next) same in omega (arith, e)
-next_goes_on w v (inr (change, can, changes)) = elim (change_enters w v change can changes).numbers [ inl n ↦ let e = n.1 in omega (arith, e) | inr n ↦ let e = n.1 in omega (arith, e) ]
+next_goes_on w v (inr (change, can, changes)) = omega (arith, (change_enters w v change can changes).numbers)

@@ -1,12 +1,10 @@
 -- What steps name: those that consume a goal name nothing; and whether what a step names is known.
-use Rattle.ghc_core.proofs.Words.{◌≡◌, ◌≢◌, ◌+◌, ℕ, List, [], ◌∷◌, ◌++◌, length, refl, sym, ap, ◌∙◌, subst, inl, inr, arith, Some, length-append, Option, VarName, GoalName, Goal, call, unify, assign, stream, Tree, In, value_at, Decided, decided_either, nat_decided, name_decided, in_decided, some_decided, compare_splits, Program, Query, variables_of_goals, Act, Asked as asked, variables_asked, Effect, HasEffect, State, Record, Fires, MakesVariable, IsVariableOf, AreKnownIn, NameWhatIsKnown, taken, le_decided}
+use Rattle.ghc_core.proofs.Words.{◌≡◌, ◌≢◌, ℕ, List, [], ◌∷◌, ◌++◌, length, refl, ap, subst, inl, inr, arith, Some, length-append, Option, VarName, GoalName, Goal, call, Tree, In, value_at, Decided, decided_either, nat_decided, name_decided, in_decided, some_decided, compare_splits, Program, Query, variables_of_goals, Act, Asked as asked, variables_asked, Effect, HasEffect, State, Record, Fires, IsVariableOf, AreKnownIn, NameWhatIsKnown, taken, le_decided}
 
 -- an act that has an effect on a goal names no variable
 act_names_nothing : (P : Program) (b : Goal) (a : Act) (n : ℕ) (S : VarName → Option Tree) (e : Effect) → HasEffect P b a n S e → variables_asked a ≡ []
 act_names_nothing P (call f ts) (asked gs) n S e h = absurd h
-act_names_nothing P (unify l r) (asked gs) n S e h = absurd h
-act_names_nothing P (assign t a) (asked gs) n S e h = absurd h
-act_names_nothing P (stream k s) (asked gs) n S e h = absurd h
+act_names_nothing P b (asked gs) n S e h = absurd h
 act_names_nothing P b a n S e h = refl
 
 -- an act that does not ask for goals names no variable
@@ -33,41 +31,29 @@ known_more query rs more among x (inr m) = inr (m.0, among m.0 m.1, m.2)
 
 -- no steps name nothing
 pub none_named : (query : Query) → NameWhatIsKnown query []
-none_named query [] behind r e = absurd (let clash : [] ≡ r ∷ behind = e in cc)
-none_named query (q ∷ front) behind r e = absurd (let clash : [] ≡ q ∷ (front ++ r ∷ behind) = e in cc)
+none_named query front behind r e = absurd (omega (arith, ap length e, length-append front (r ∷ behind)))
 
 -- a step more, which names what is known
 pub named_push : (query : Query) (rs : List Record) (r : Record) → NameWhatIsKnown query rs → AreKnownIn query rs r → NameWhatIsKnown query (rs ++ r ∷ [])
 named_push query rs r named known front behind q e = elim (compare_splits rs front r q [] behind e) [
   | inl same ↦ subst (λ l. AreKnownIn query l q) same.0 (subst (AreKnownIn query rs) same.1 known)
-  | inr (inl m) ↦
-      let long : length front ≡ length rs + length (r ∷ m.0) = ap length m.1 ∙ length-append rs (r ∷ m.0) in
-      let both : length rs + 1 ≡ length front + length (q ∷ behind) = sym (length-append rs (r ∷ [])) ∙ ap length e ∙ length-append front (q ∷ behind) in
-      absurd (omega (arith, long, both))
+  | inr (inl m) ↦ absurd (omega (arith, ap length m.1, ap length e, length-append rs (r ∷ m.0), length-append rs (r ∷ []), length-append front (q ∷ behind)))
   | inr (inr m) ↦ named front m.0 q m.1
 ]
 
--- whether a step made the variable
-makes_decided : (r : Record) (x : VarName) → Decided (MakesVariable r x)
-makes_decided r x = grind (arith, nat_decided x.step r.number, le_decided 1 x.place, le_decided x.place r.effect.fresh)
-
 -- whether the variable is the query's, or a step made it
 variable_decided : (query : Query) (rs : List Record) (x : VarName) → Decided (IsVariableOf query rs x)
-variable_decided query rs x = decided_either (in_decided name_decided x (variables_of_goals query)) (some_decided rs (λ r. MakesVariable r x) (λ r i. makes_decided r x))
+variable_decided query rs x =
+    decided_either (in_decided name_decided x (variables_of_goals query))
+    (some_decided rs _ (λ r i. grind (arith, nat_decided x.step r.number, le_decided 1 x.place, le_decided x.place r.effect.fresh)))
 
 -- whether all these variables, but for those of step n, are known
 pub all_decided : (query : Query) (rs : List Record) (n : ℕ) (xs : List VarName) → Decided ((x : VarName) → In x xs × (x.step ≢ n) → IsVariableOf query rs x)
-all_decided query rs n [] = inl (λ x i. absurd i.0)
-all_decided query rs n (y ∷ xs) = elim (all_decided query rs n xs) [
-  | inr no_rest ↦ inr (λ all. no_rest (λ x i. all x (inr i.0, i.1)))
-  | inl rest ↦ elim (nat_decided y.step n) [
-    | inl own ↦ inl (λ x i. elim i.0 [ inl e ↦ absurd (i.1 (ap (λ (v : VarName). v.step) e ∙ own)) | inr j ↦ rest x (j, i.1) ])
-    | inr other ↦ elim (variable_decided query rs y) [
-      | inl known ↦ inl (λ x i. elim i.0 [ inl e ↦ subst (IsVariableOf query rs) (sym e) known | inr j ↦ rest x (j, i.1) ])
-      | inr unknown ↦ inr (λ all. unknown (all y (inl refl, other)))
+all_decided query rs n xs =
+    elim (some_decided xs (λ x. (x.step ≢ n) × (¬ IsVariableOf query rs x)) (λ x i. grind (arith, nat_decided x.step n, variable_decided query rs x))) [
+      | inl (x, i, (other, unknown)) ↦ inr (λ all. unknown (all x (i, other)))
+      | inr none ↦ inl (λ x i. elim (variable_decided query rs x) [ inl known ↦ known | inr unknown ↦ absurd (none (x, i.0, (i.1, unknown))) ])
     ]
-  ]
-]
 
 -- Whether all that the step names is known.
 pub known_decided : (query : Query) (rs : List Record) (r : Record) → Decided (AreKnownIn query rs r)

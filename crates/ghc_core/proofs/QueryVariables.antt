@@ -19,19 +19,15 @@ module _ (q : WrittenQuery) (well : IsWellAsked q) where
   -- a variable of the query is known by its step and its place
   pub in_query : (x : VarName) → x.step ≡ 0 → 1 ≤ x.place → x.place ≤ length q.variables → In x (variables_of_goals q.goals)
   in_query x step low high =
-      let named = well.named in
-      let place : (x.place - 1) + 1 ≡ x.place = omega (arith, low) in
+      let place : (x.place - 1) + 1 ≡ x.place = omega arith in
       let same : asked ((x.place - 1) + 1) ≡ x = same_parts (asked ((x.place - 1) + 1)) x (sym step) place in
-      subst (λ y. In y (variables_of_goals q.goals)) same (in_of_number (variables_of_goals q.goals) (x.place - 1) well.numbered (omega (arith, low, high, named)))
+      subst (λ y. In y (variables_of_goals q.goals)) same (in_of_number (variables_of_goals q.goals) (x.place - 1) well.numbered (omega (arith, well.named)))
 
   pub of_query : (x : VarName) → In x (variables_of_goals q.goals) → (x.step ≡ 0) × (1 ≤ x.place) × (x.place ≤ length q.variables)
   of_query x i =
       let n = number_of_in (variables_of_goals q.goals) x well.numbered i in
-      let step : x.step ≡ 0 = ap (λ (y : VarName). y.step) n.1 in
       let place : x.place ≡ n.0 + 1 = ap (λ (y : VarName). y.place) n.1 in
-      let named = well.named in
-      let below : n.0 < length (firsts [] (variables_of_goals q.goals)) = n.2 in
-      (step, omega (arith, place), omega (arith, place, below, named))
+      (ap (λ (y : VarName). y.step) n.1, omega arith, omega (arith, n.2, well.named))
 
 -- what a step made is seen by the record of its number
 pub made_by : (rs : List Record) (r : Record) (x : VarName) → AreDistinct (numbers rs) → In r rs → r.number ≡ x.step → (s : Record) × In s rs × MakesVariable s x → (1 ≤ x.place) × (x.place ≤ r.effect.fresh)

@@ -1,15 +1,15 @@
 -- A chronicle is carried out entry by entry: what was done so far, and where it stops.
-use Rattle.ghc_core.proofs.Words.{◌≡◌, ◌⊎◌, ℕ, suc, ◌+◌, ◌<◌, List, [], ◌∷◌, ◌++◌, map, length, take, drop, get_or, sym, ap, ◌∙◌, subst, inl, inr, arith, zero, slice_get, Some, None, append_assoc, map-append, length-map, Ok, Err, Fault, splits_at, Program, Query, Opening, Entry, Predicate, WrittenEntry, Chronicle, said_by, World, Loads, loads, stops, CarriesOut, CarriesOutEach, IsRefusedEntry, StopsBehind, IsPredicateOf, ArePredicatesOf, LacksBehind, IsOpened, Resumes, no_entry, no_spy, line_of_entry, line_of_spy, take_more, length-take-le}
+use Rattle.ghc_core.proofs.Words.{◌≡◌, ◌⊎◌, ℕ, ◌+◌, ◌<◌, List, [], ◌∷◌, ◌++◌, map, length, take, drop, get_or, sym, slice_get_cases, ap, ◌∙◌, subst, inl, inr, arith, slice_get, Some, None, append_assoc, map-append, length-map, Ok, Err, Fault, splits_at, Program, Query, Opening, Entry, Predicate, WrittenEntry, Chronicle, said_by, World, Loads, loads, stops, CarriesOut, CarriesOutEach, IsRefusedEntry, StopsBehind, IsPredicateOf, ArePredicatesOf, LacksBehind, IsOpened, Resumes, no_entry, no_spy, line_of_entry, line_of_spy, take_more, length-take-le}
 use Rattle.ghc_core.specs.Load.{no_memory}
 use Rattle.ghc_core.specs.Resume.{no_step}
 use Rattle.ghc_core.proofs.ResumedOnce.{each_push, each_grown}
+use Rattle.ghc_core.proofs.SavedSteps.{drop_at}
 
 module _ (entries : List WrittenEntry) (i : ℕ) (e : WrittenEntry) (less : i < length entries) (is : e ≡ get_or entries i e) (w u : World) (done : CarriesOutEach w (map said_by (take i entries)) u) where
   -- one entry more
   pub one_more_carried : (v : World) → CarriesOut u (said_by e) v → CarriesOutEach w (map said_by (take (i + 1) entries)) v
   one_more_carried v one =
-      let more : take (i + 1) entries ≡ take i entries ++ e ∷ [] = take_more entries i e less ∙ ap (λ x. take i entries ++ x ∷ []) (sym is) in
-      subst (λ es. CarriesOutEach w es v) (sym (ap (map said_by) more ∙ map-append said_by (take i entries) (e ∷ []))) (each_push w u v (map said_by (take i entries)) (said_by e) done one)
+      rw (take_more entries i e less, ← is, map-append) (each_push w u v (map said_by (take i entries)) (said_by e) done one)
 
   -- the entry is refused
   pub stops_here : IsRefusedEntry u (said_by e) → StopsBehind w (map said_by entries) i
@@ -51,7 +51,7 @@ module _ (P : Program) (query : Query) (names : List (List ℕ)) (c : Chronicle)
   entry_refused o f first opens line (inl memory) = inl memory
   entry_refused o f first opens line (inr (n, is, p)) =
       let same : first + n ≡ line_of_entry c n = omega (arith, line) in
-      inr (subst (λ g. Resumes P query names c ⊥ (Err g)) (sym (is ∙ ap Fault.History same)) (no_entry o opens p))
+      inr (rw (is, same) (no_entry o opens p))
 
   -- one of the spies is
   pub spy_refused : (o w : World) (n line : ℕ) → IsOpened P query names c o → CarriesOutEach o c.entries w → LacksBehind P c.spies n → line ≡ line_of_spy c n → Resumes P query names c ⊥ (Err (Fault.History line))
@@ -61,22 +61,13 @@ module _ (P : Program) (query : Query) (names : List (List ℕ)) (c : Chronicle)
   pub program_stays : (o w : World) → IsOpened P query names c o → CarriesOutEach o c.entries w → w.opening.program ≡ P
   program_stays o w opens each = ap (λ (p : Opening). p.program) ((each_grown o w c.entries each).opening ∙ opens.opening)
 
--- the item of a place, and what stands from there on
-got : (es : List Entry) (i : ℕ) (x : Entry) → slice_get es i ≡ Some x → drop i es ≡ x ∷ drop (suc i) es
-got [] i x e = cc
-got (y ∷ es) zero x e = let same : y ≡ x = cc in ap (λ z. z ∷ es) same
-got (y ∷ es) (suc i) x e = got es i x e
-
 -- An entry more is told.
 pub told_pushed : (held : List Entry) (place : ℕ) (told : List WrittenEntry) (t : WrittenEntry) (x : Entry) → slice_get held place ≡ Some x → said_by t ≡ x
     → map said_by (told ++ t ∷ []) ++ drop (place + 1) held ≡ map said_by told ++ drop place held
 told_pushed held place told t x at is =
-    let next : place + 1 ≡ suc place = omega arith in
-    let one : said_by t ∷ drop (place + 1) held ≡ drop place held = (λ i. is i ∷ drop (next i) held) ∙ sym (got held place x at) in
-    ap (λ l. l ++ drop (place + 1) held) (map-append said_by told (t ∷ [])) ∙ append_assoc (map said_by told) (said_by t ∷ []) (drop (place + 1) held) ∙ ap (λ l. map said_by told ++ l) one
+    let one : said_by t ∷ drop (place + 1) held ≡ drop place held = ap (λ y. y ∷ drop (place + 1) held) is ∙ sym (drop_at held place x at) in
+    rw (map-append, append_assoc) (ap (λ l. map said_by told ++ l) one)
 
 -- at a place of a list there is an item
 pub there_is : (es : List Entry) (i : ℕ) → i < length es → ¬ (slice_get es i ≡ None)
-there_is [] i l e = omega (arith, l)
-there_is (x ∷ es) zero l e = cc
-there_is (x ∷ es) (suc i) l e = there_is es i (omega (arith, l)) e
+there_is es i l e = grind (arith, slice_get_cases es i)

@@ -1,8 +1,7 @@
 -- Entries are carried out by the changes that enter them, and each is carried out in one way.
-use Rattle.ghc_core.proofs.Words.{◌≡◌, ◌≢◌, ℕ, List, [], ◌∷◌, ◌++◌, refl, sym, ap, ◌∙◌, subst, inl, inr, Fault, Record, Step, Entry, took, undid, rolled, redid, reordered, step_of, Change, Comes as comes, Goes as goes, Reorders as reorders, Coming, Going, no_hands, World, IsNextStep, with_step, CanChange, Changes, entry_of_going, IsStanding, Command, undo, roll, redo, arrange, command, refused, Asks, to_undo, to_roll, to_redo, to_arrange, told_of, Fails, by_command, makes, fails, IsAskedFor, CarriesOut, IsRefusedEntry}
+use Rattle.ghc_core.proofs.Words.{◌≡◌, ◌≢◌, ℕ, List, [], ◌∷◌, ◌++◌, refl, sym, append_cancel_left, ap, ◌∙◌, subst, Fault, Record, Step, Entry, took, undid, rolled, redid, reordered, step_of, Change, Comes as comes, Goes as goes, Reorders as reorders, Coming, Going, no_hands, World, IsNextStep, with_step, CanChange, Changes, entry_of_going, IsStanding, Command, undo, roll, redo, arrange, command, refused, Asks, to_undo, to_roll, to_redo, to_arrange, told_of, Fails, by_command, makes, fails, IsAskedFor, CarriesOut, IsRefusedEntry}
 use Rattle.ghc_core.proofs.Answering.{events_once}
-use Rattle.ghc_core.proofs.Histories.{change_entered, not_longer}
-use Rattle.ghc_core.proofs.Moving.{answered_moves}
+use Rattle.ghc_core.proofs.Histories.{change_entered, entered_moves}
 use Rattle.ghc_core.proofs.Standing.{standing_apart}
 use Rattle.ghc_core.proofs.Taking.{reached_reachable}
 
@@ -18,21 +17,16 @@ enters_own w v (goes how gone) can (left, split, (t, run, e)) = ap (λ (z : Worl
 enters_own w v (comes Coming.Next r) can e = ap (λ (z : World). z.journal) e
 enters_own w v change can e = ap (λ (z : World). z.journal) e
 
--- a list with one item more has one last item
-last_once : (es : List Entry) (a b : Entry) → es ++ a ∷ [] ≡ es ++ b ∷ [] → a ≡ b
-last_once [] a b e = cc
-last_once (x ∷ es) a b e = last_once es a b (let behind : es ++ a ∷ [] ≡ es ++ b ∷ [] = cc in behind)
-
 -- Some change that can be made leads from the world w to v, and enters the entry.
 abbrev pub IsChangeOf : World → Entry → World → Type 0
 IsChangeOf w entry v = (change : Change) × CanChange w change × Changes w change v × (entered_by change ≡ entry)
 
 -- An entry is carried out by a change that enters it.
 pub carried_by : (w v : World) (entry : Entry) → CarriesOut w entry v → IsChangeOf w entry v
-carried_by w v entry (reply, n) = elim (answered_moves w n.0 n.1 n.2 reply v n.3) [
-  | inl same ↦ absurd (not_longer w.journal entry (sym (ap (λ (z : World). z.journal) same) ∙ n.4))
-  | inr m ↦ (m.0, m.1, m.2, last_once w.journal (entered_by m.0) entry (sym (enters_own w v m.0 m.1 m.2) ∙ n.4))
-]
+carried_by w v entry (reply, n) =
+    let (change, can, changes) = entered_moves w v entry reply n in
+    let last : entered_by change ∷ [] ≡ entry ∷ [] = append_cancel_left w.journal _ _ (sym (enters_own w v change can changes) ∙ n.4) in
+    (change, can, changes, (let same : entered_by change ≡ entry = cc in same))
 
 -- A change carries out what it enters.
 pub carries : (w v : World) (entry : Entry) → IsStanding w → IsChangeOf w entry v → CarriesOut w entry v
@@ -51,8 +45,8 @@ step_added w v s change can changes e = cc
 pub step_refused : (w : World) (s : Step) → ((r : Record) → step_of r ≡ s → ¬ IsNextStep w r) → IsRefusedEntry w (took s)
 step_refused w s never v carried =
     let by = carried_by w v (took s) carried in
-    let added = step_added w v s by.0 by.1 by.2 by.3 in
-    never added.0 added.1 added.2
+    let (r, is, next) = step_added w v s by.0 by.1 by.2 by.3 in
+    never r is next
 
 -- The command is that of an entry that takes no step.
 pub data IsCommandOf : Entry → Command → Type 0 where

@@ -1,57 +1,43 @@
 -- A part of each record, one slot more at a time; and the history of a standing world is of the form.
-use Rattle.ghc_core.proofs.Words.{◌≡◌, ℕ, suc, ◌+◌, ◌<◌, ◌≤◌, List, [], ◌∷◌, ◌++◌, drop, drop-cons, length, map, sym, ap, ◌∙◌, subst, inl, inr, slice_get, append_assoc, append-nil, drop_of_length-le, refl, arith, Option, Some, cases_lt, slice_get_within, get_or_from_slice_get, VarName, Tree, Goal, call, In, in_at, value_at, Program, ByClause as by_clause, Effect, HasEffect, AreDistinct, Record, IsHistory, Step, step_of, SlotList, held_in, StandsIn, held_stands, rank, rank_zero, rank_end, rank_stands, rank_next, rank_gap, Taken, firing, Place, place_of, World, IsStanding, AsksForGoals, AskForGoals, KeepsSlot, history_of, length-map}
+use Rattle.ghc_core.proofs.Words.{◌≡◌, ℕ, suc, ◌+◌, ◌<◌, ◌≤◌, List, [], ◌∷◌, ◌++◌, drop, drop-cons, length, map, sym, ap, ◌∙◌, subst, inl, inr, slice_get, append_assoc, append-nil, drop_of_length-le, refl, arith, Option, Some, slice_get_within, get_or_from_slice_get, VarName, Tree, Goal, call, In, in_at, value_at, Program, ByClause as by_clause, Effect, HasEffect, AreDistinct, Record, IsHistory, Step, step_of, SlotList, held_in, StandsIn, held_stands, rank, rank_zero, rank_end, rank_stands, rank_next, rank_gap, Taken, firing, Place, place_of, World, IsStanding, AsksForGoals, AskForGoals, KeepsSlot, history_of, length-map}
 use Rattle.ghc_core.proofs.Reaching.{reached_good}
 use Rattle.ghc_core.proofs.Replayed.{replayed}
 use Rattle.ghc_core.proofs.Loading.{step_numbers}
 
--- What is left from a place on is the record there and the rest.
-drop_at : (rs : List Record) (i : ℕ) (r : Record) → slice_get rs i ≡ Some r → drop i rs ≡ r ∷ drop (i + 1) rs
+-- What is left from a place on is the item there and the rest.
+pub drop_at : {X : Type 0} (rs : List X) (i : ℕ) (r : X) → slice_get rs i ≡ Some r → drop i rs ≡ r ∷ drop (i + 1) rs
 drop_at rs i r e =
     let more : suc i ≡ i + 1 = omega arith in
     drop-cons rs i r (slice_get_within rs i r e) ∙ (λ k. get_or_from_slice_get rs i r r e k ∷ drop (more k) rs)
 
 module _ {A : Type 0} (part : Record → A) where
-  -- Where the parts found and those from a place on are all parts, so are those found with the one there and those behind it.
-  part_on : (rs : List Record) (i : ℕ) (r : Record) (before later : List A) → slice_get rs i ≡ Some r → before ++ map part (drop i rs) ≡ map part rs
-      → later ≡ before ++ part r ∷ [] → later ++ map part (drop (i + 1) rs) ≡ map part rs
-  part_on rs i r before later there whole put =
-      let rest = map part (drop (i + 1) rs) in
-      ap (λ l. l ++ rest) put ∙ append_assoc before (part r ∷ []) rest ∙ ap (λ l. before ++ map part l) (sym (drop_at rs i r there)) ∙ whole
-
-  -- So it is slot by slot.
+  -- Where the parts found and those from a slot on are all parts, so are those found behind it and those of the next slot on.
   pub slot_on : (ss : SlotList) (i : ℕ) (before later : List A) → KeepsSlot part ss i before later → before ++ map part (drop (rank ss i) (held_in ss)) ≡ map part (held_in ss)
       → later ++ map part (drop (rank ss (i + 1)) (held_in ss)) ≡ map part (held_in ss)
   slot_on ss i before later (inl t) whole =
-      subst (λ k. later ++ map part (drop k (held_in ss)) ≡ map part (held_in ss)) (sym (rank_next ss i t.0 t.1)) (part_on (held_in ss) (rank ss i) t.0 before later (rank_stands ss i t.0 t.1) whole t.2)
-  slot_on ss i before later (inr t) whole =
-      subst (λ k. later ++ map part (drop k (held_in ss)) ≡ map part (held_in ss)) (sym (rank_gap ss i t.0)) (subst (λ l. l ++ map part (drop (rank ss i) (held_in ss)) ≡ map part (held_in ss)) (sym t.1) whole)
+      rw (rank_next ss i t.0 t.1, t.2, append_assoc) (rw (drop_at (held_in ss) (rank ss i) t.0 (rank_stands ss i t.0 t.1)) at whole)
+  slot_on ss i before later (inr t) whole = rw (rank_gap ss i t.0, t.1) whole
 
   -- at the start, and past the last slot
   pub none_yet : (ss : SlotList) (found : List A) → found ≡ [] → found ++ map part (drop (rank ss 0) (held_in ss)) ≡ map part (held_in ss)
-  none_yet ss found none = ap (λ l. l ++ map part (drop (rank ss 0) (held_in ss))) none ∙ ap (λ k. map part (drop k (held_in ss))) (rank_zero ss)
+  none_yet ss found none = rw (none, rank_zero ss)
 
   pub all_found : (ss : SlotList) (places : ℕ) (found : List A) → length ss ≤ places → found ++ map part (drop (rank ss places) (held_in ss)) ≡ map part (held_in ss) → found ≡ map part (held_in ss)
   all_found ss places found past whole =
-      let behind = rank_end ss places past in
-      let none : map part (drop (rank ss places) (held_in ss)) ≡ [] = ap (map part) (drop_of_length-le (held_in ss) {i = rank ss places} (omega (arith, behind))) in
-      sym (append-nil found) ∙ ap (λ l. found ++ l) (sym none) ∙ whole
+      rw (drop_of_length-le (held_in ss) {i = rank ss places} (omega (arith, rank_end ss places past)), append-nil) at whole
 
 -- none of the records in the slots in front of this place asks for goals
 abbrev pub NoneAsks : SlotList → ℕ → Type 0
 NoneAsks ss i = (p : ℕ) (r : Record) → p < i → StandsIn ss p r → ¬ AsksForGoals r
 
 pub none_asks_next : (ss : SlotList) (i : ℕ) → NoneAsks ss i → ((r : Record) → StandsIn ss i r → ¬ AsksForGoals r) → NoneAsks ss (i + 1)
-none_asks_next ss i before here p r l at = elim (cases_lt p i) [
-  | inl less ↦ before p r less at
-  | inr behind ↦ let same : p ≡ i = omega (arith, l, behind) in here r (subst (λ k. StandsIn ss k r) same at)
-]
+none_asks_next ss i before here p r l at = grind (arith, before p r, here r)
 
 -- so none does, where no slot is left
 pub none_asks : (ss : SlotList) (i : ℕ) → length ss ≤ i → NoneAsks ss i → ¬ AskForGoals (held_in ss)
 none_asks ss i long none (r, there, asks) =
     let w = held_stands ss r there in
-    let within = slice_get_within ss w.0 (Some r) w.1 in
-    none w.0 r (omega (arith, within, long)) w.1 asks
+    none w.0 r (omega (arith, slice_get_within ss w.0 (Some r) w.1)) w.1 asks
 
 -- one that stands in a slot is one of the records
 pub asks_in : (ss : SlotList) (p : ℕ) (r : Record) → StandsIn ss p r → AsksForGoals r → AskForGoals (held_in ss)
@@ -73,8 +59,6 @@ pub saved_form : (w : World) → IsStanding w → ¬ AskForGoals w.kept → IsHi
 saved_form w stands unasked =
     let good = reached_good stands in
     let played = replayed stands in
-    let few = played.few in
-    let count = length-map w.kept step_of in
     let used : (s : Step) → In s (map step_of w.kept) → (r : Record) × In r w.kept × (step_of r ≡ s) = step_back w.kept in
     let place : (r : Record) → In r w.kept → Place w.opening.program w.opening.query w.kept r = place_of w.opening.program w.opening.query w.kept w.state played.replay in
     let of : (r : Record) (i : In r w.kept) → Taken w.opening.program (place r i).state r = λ r i. elim (firing w.opening.program (place r i).state r (place r i).fires) [
@@ -82,7 +66,7 @@ saved_form w stands unasked =
       | inr a ↦ absurd (unasked (r, i, (a.goals, a.act)))
     ] in
     record {
-      few = omega (arith, few, count);
+      few = omega (arith, played.few, length-map w.kept step_of);
       numbered = λ s i. let r = used s i in subst (λ (q : Step). (1 ≤ q.number) × (q.number < w.next)) r.2 (good.positive r.0 r.1, good.below r.0 r.1);
       of_goals = λ s i. let r = used s i in let goal = of r.0 r.1 in (goal.name, sym (ap (λ (q : Step). q.goal) r.2) ∙ goal.named);
       unasked = λ s gs i e. let r = used s i in unasked (r.0, r.1, (gs, ap (λ (q : Step). q.act) r.2 ∙ e));

@@ -159,10 +159,10 @@ pub use Rattle.ghc_unify.specs.Unify.{go, left, stay}
 pub use Rattle.std.proofs.Common.{Bool, Err, IfErr, IfNone, IfOk, IfSome, IsSome, IsTrue, List, MatchBool, None, Ok, Option, Result, Some, [], ap, append-nil, append_assoc, arith, cond, drop, drop-cons, drop_of_length-le, eqb, false, filter, get_or, if◌then◌else◌, inl, inr, is_some, length, map, nat_eq, not, option_map, pos, refl, rules, slice_get, slice_set, subst, subst₂, suc, sym, take, true, vec_capacity, vec_len, zero, ℕ, ◌++◌, ◌+◌, ◌-◌, ◌<◌, ◌==◌, ◌↔◌, ◌∙◌, ◌∷◌, ◌≡◌, ◌≢◌, ◌≤◌, ◌⊎◌}
 pub use Rattle.std.proofs.lemmas.Bool.{cases_eq, cases_lt, eq-eqb, false_from_ne_true, false≢true, ne_eqb, true≢false}
 pub use Rattle.std.proofs.lemmas.Bool.Decides.{eqb_tells}
-pub use Rattle.std.proofs.lemmas.List.{get_or-map, length-append, length-map, length-take-le, map-append, nil_from_length, take_all, take_more}
+pub use Rattle.std.proofs.lemmas.List.{get_or-map, length-append, length-map, length-take-le, map-append, nil_from_length, take_all, take_more, append_cancel_left, take-append-drop}
 pub use Rattle.std.proofs.lemmas.List.Elements.{filter-append}
 pub use Rattle.std.proofs.lemmas.Map.Views.{Contains-from_any}
-pub use Rattle.std.proofs.lemmas.Option.{get_or_from_slice_get, slice_get-get_or, slice_get_read, slice_get_within}
+pub use Rattle.std.proofs.lemmas.Option.{get_or_from_slice_get, slice_get-get_or, slice_get_read, slice_get_within, slice_get_cases}
 pub use Rattle.std.proofs.lemmas.Result.{IfOk-weaker, err_from_is_err_and}
 pub use Rattle.std.specs.Cmp.{nat_cmp_total, tied_itself}
 pub use Rattle.std.specs.Coded.{coded_list, coded_ℕ}
