@@ -7,11 +7,6 @@ use Rattle.ghc_core.proofs.Naming.{known_of_act}
 use Rattle.ghc_core.proofs.Refusing as refusing
 use Rattle.ghc_core.proofs.Committing.{next_step, answered_holds, step_no_room}
 
--- The step of a proposal that was made again is that of a commit of the proposal.
-prepared : (w : World) (p again : Proposal) → IsStanding w → StillHolds w p → finite.get w.state.goals again.goal ≡ Some again.consumed
-    → again.goal ≡ p.goal → again.act ≡ p.act → again.effect ≡ p.effect → HasRoom w → IsCommitOf w p (next_record w again)
-prepared w p again standing holds there goal act effect room = rw (goal, act, effect) (next_step w p again.consumed standing holds (rw goal at there) room)
-
 -- what is known of a next step that has this record
 abbrev pub IsNext : World → Record → Result Record Fault → Type 0
 IsNext w r result = IfOk result (λ q. q ≡ r) × IfOk result (λ _. HasRoom w) × IfErr result (λ f. (f ≡ fault.Memory) ⊎ ((f ≡ fault.Full) × IsFull w))
@@ -24,7 +19,8 @@ answered Gives Refuses w r result next gives refuses = grind arith
 pub commit_answered : (w : World) (p again : Proposal) (result : Result Record Fault) → IsStanding w → StillHolds w p → finite.get w.state.goals again.goal ≡ Some again.consumed
     → (again.goal ≡ p.goal) × (again.act ≡ p.act) × (again.effect ≡ p.effect) → IsNext w (next_record w again) result → Answered (IsCommitOf w p) (CommitFails w p) result
 commit_answered w p again result standing holds there same next =
-    answered (IsCommitOf w p) (CommitFails w p) w (next_record w again) result next (prepared w p again standing holds there same.0 same.1 same.2) (refusing.no_room holds)
+    answered (IsCommitOf w p) (CommitFails w p) w (next_record w again) result next
+    (λ room. rw (same.0, same.1, same.2) (next_step w p again.consumed standing holds (rw same.0 at there) room)) (refusing.no_room holds)
 
 -- The next step, which an attempt proposed as that step, answers for the step of its goal.
 pub step_answered : (w : World) (acyclic : IsAcyclic (value_at w.state.store)) (g : GoalName) (choice : Option ℕ) (p : Proposal) (result : Result Record Fault) → IsProposedAsNext w g choice p

@@ -1,5 +1,5 @@
 -- The state of a world that is reached is the replay of its kept steps.
-use Rattle.ghc_core.proofs.Words.{◌≡◌, ℕ, ◌+◌, ◌<◌, ◌≤◌, List, [], ◌∷◌, ◌++◌, length, sym, ap, ◌∙◌, subst, inl, inr, arith, Some, None, nat_cmp, length-append, In, Program, number_limit, kept_limit, IsStepNumber, AreDistinct, State, Record, Shelf, numbers, after, Fires, query_state, Runs, Entry, records_distinct, not_both, shelved, unshelved, no_longer, picks_in, records_push, place_of, IsAsking, firing, World, IsReplay, IsKnown, IsNextStep, Change, Comes as comes, Goes as goes, Reorders as reorders, Coming, all_gone, without_steps, CanChange, Changes, Reaches, from_opening, by_change}
+use Rattle.ghc_core.proofs.Words.{[], ◌≡◌, ℕ, ◌+◌, ◌<◌, ◌≤◌, List, ◌∷◌, ◌++◌, length, sym, ap, ◌∙◌, subst, inl, inr, arith, Some, None, nat_cmp, length-append, In, Program, number_limit, kept_limit, IsStepNumber, AreDistinct, State, Record, Shelf, numbers, after, Fires, query_state, Runs, records_distinct, not_both, shelved, unshelved, no_longer, picks_in, records_push, place_of, IsAsking, firing, World, IsReplay, IsKnown, Change, Comes as comes, Goes as goes, Reorders as reorders, Coming, all_gone, CanChange, Changes, Reaches, from_opening, by_change}
 use Rattle.std.specs.FinMap as finite
 use Rattle.ghc_depend.proofs.Arranging.{arranged}
 use Rattle.ghc_core.specs.Returns as laws
@@ -39,9 +39,6 @@ module _ (w : World) (good : Good w) (h : Replayed w) where
     named_push w.opening.query w.kept r h.replay.2 known,
   )
 
-  next_number : (r : Record) → IsNextStep w r → IsStepNumber r.number
-  next_number r n = let first = good.first in let room = n.2.0 in let same = n.0 in (omega arith, omega arith)
-
   -- steps of the kept list are within the limit
   still_few : (rs : List Record) → AreDistinct (numbers rs) → ((r : Record) → In r rs → In r w.kept) → length rs ≤ kept_limit
   still_few rs d among = let l = no_longer rs w.kept (records_distinct rs d) among in let limit = h.few in omega arith
@@ -52,34 +49,31 @@ module _ (w : World) (good : Good w) (h : Replayed w) where
       let place = place_of w.opening.program w.opening.query w.kept w.state h.replay r i in
       elim (firing w.opening.program place.state r place.fires) [ inl t ↦ absurd (not_both t.consumed none) | inr a ↦ a ]
 
-  left_replayed : (gone left : List Record) (t : State) (entry : Entry) → IsReplay w left t → ((r : Record) → In r gone → In r w.kept) → ((r : Record) → In r left → In r w.kept) → Replayed (without_steps gone left t entry w)
-  left_replayed gone left t entry run of_gone among = record {
-    replay = run;
-    within = h.within;
-    few = still_few left run.0.1 among;
-    asking = λ n r e none. elim (shelved gone w.shelf n r e) [ inl g ↦ kept_asks r (of_gone r g.0) none | inr k ↦ h.asking n r k none ];
-  }
-
   changed : (change : Change) (v : World) → CanChange w change → Changes w change v → Replayed v
   changed (comes Coming.Next r) v can e = subst Replayed (sym e) (record {
-    replay = pushed r can.1 can.3 (next_number r can) (not_next w good r can.0);
-    within = (let room = can.2.0 in omega arith);
+    replay = (let first = good.first in pushed r can.1 can.3 (omega (arith, first, can.0, can.2.0), omega (arith, can.0, can.2.0)) (not_next w good r can.0));
+    within = omega (arith, can.2.0);
     few = one_more w.kept r can.2.1;
     asking = h.asking;
   })
   changed (comes Coming.Shelved r) v can e =
       let on = good.shelf r.number r can.0 in
-      let first = on.1 in
-      let less = on.2 in
       let limit = h.within in
       subst Replayed (sym e) (record {
-        replay = pushed r can.1 can.3 (omega arith, omega arith) on.3;
+        replay = pushed r can.1 can.3 (omega (arith, on.1), omega (arith, on.2, limit)) on.3;
         within = h.within;
         few = one_more w.kept r can.2;
         asking = λ n s e none. h.asking n s (unshelved w.shelf r.number n s e).0 none;
       })
-  changed (goes how gone) v can (left, split, (t, run, e)) =
-      subst Replayed (sym e) (left_replayed (all_gone gone) left t _ run (λ s i. (picks_in w.kept (all_gone gone) s split.0 i).0) (λ s i. (picks_in w.kept left s split.1 i).0))
+  changed (goes how gone) v can (left, split, (t, run, e)) = subst Replayed (sym e) (record {
+    replay = run;
+    within = h.within;
+    few = still_few left run.0.1 (λ s i. (picks_in w.kept left s split.1 i).0);
+    asking = λ n r e none. elim (shelved (all_gone gone) w.shelf n r e) [
+      | inl g ↦ kept_asks r (picks_in w.kept (all_gone gone) r split.0 g.0).0 none
+      | inr k ↦ h.asking n r k none
+    ];
+  })
   changed (reorders a) v can e =
       let run = arranged w.opening.program w.opening.query w.kept w.state a.order a.records good.accepted good.asked h.replay can.0 can.1 in
       subst Replayed (sym e) (record { replay = run; within = h.within; few = still_few a.records run.0.1 (λ s i. (can.1.1 s).0 i); asking = h.asking })

@@ -1,5 +1,5 @@
 -- A chronicle is carried out entry by entry: what was done so far, and where it stops.
-use Rattle.ghc_core.proofs.Words.{◌≡◌, ◌⊎◌, ℕ, ◌+◌, ◌<◌, List, [], ◌∷◌, ◌++◌, map, length, take, drop, get_or, sym, slice_get_cases, ap, ◌∙◌, subst, inl, inr, arith, slice_get, Some, None, append_assoc, map-append, length-map, Ok, Err, Fault, splits_at, Program, Query, Opening, Entry, Predicate, WrittenEntry, Chronicle, said_by, World, Loads, loads, stops, CarriesOut, CarriesOutEach, IsRefusedEntry, StopsBehind, IsPredicateOf, ArePredicatesOf, LacksBehind, IsOpened, Resumes, no_entry, no_spy, line_of_entry, line_of_spy, take_more, length-take-le}
+use Rattle.ghc_core.proofs.Words.{◌≡◌, ◌⊎◌, ℕ, ◌+◌, ◌<◌, List, [], ◌∷◌, ◌++◌, map, length, take, drop, get_or, sym, ap, ◌∙◌, subst, inl, inr, arith, slice_get, Some, append_assoc, map-append, length-map, Ok, Err, Fault, splits_at, Program, Query, Opening, Entry, Predicate, WrittenEntry, Chronicle, said_by, World, Loads, loads, stops, CarriesOut, CarriesOutEach, IsRefusedEntry, StopsBehind, IsPredicateOf, ArePredicatesOf, LacksBehind, IsOpened, Resumes, no_entry, no_spy, line_of_entry, line_of_spy, take_more, length-take-le}
 use Rattle.ghc_core.specs.Load.{no_memory}
 use Rattle.ghc_core.specs.Resume.{no_step}
 use Rattle.ghc_core.proofs.ResumedOnce.{each_push, each_grown}
@@ -67,7 +67,3 @@ pub told_pushed : (held : List Entry) (place : ℕ) (told : List WrittenEntry) (
 told_pushed held place told t x at is =
     let one : said_by t ∷ drop (place + 1) held ≡ drop place held = ap (λ y. y ∷ drop (place + 1) held) is ∙ sym (drop_at held place x at) in
     rw (map-append, append_assoc) (ap (λ l. map said_by told ++ l) one)
-
--- at a place of a list there is an item
-pub there_is : (es : List Entry) (i : ℕ) → i < length es → ¬ (slice_get es i ≡ None)
-there_is es i l e = grind (arith, slice_get_cases es i)

@@ -1,5 +1,5 @@
 -- Steps are taken away, and what was taken last is undone.
-use Rattle.ghc_core.proofs.Words.{◌≡◌, ℕ, true, false, List, [], ◌∷◌, ◌++◌, refl, sym, subst, inl, inr, ap, In, Fault, in_right, in_either, nat_decided, in_decided, nothing, leave, AreDistinct, State, Record, numbers, query_state, Runs, undid, rolled, run_once, picks_once, Before, is_before, before_in, before_once, number_in, number_of, records_distinct, DependsOn, Follows, directly, further, IsKeptAs, IsWithoutSteps, IsWithout, IsSplitAt, IsLawful, IsInOrder, neighbours_lawful, first_or_none, before_front, records_push, first_gone, Change, Comes as comes, Goes as goes, Reorders as reorders, Coming, Going, Gone, all_gone, no_hands, Hands, World, IsReplay, with_step, with_coming, without_steps, with_order, CanChange, Changes, undo, roll, Event, Reply, stepped, undone, refused, to_undo, to_roll, to_arrange, told_of, Obeys, does, refuses, Answers, makes, says, Reaches}
+use Rattle.ghc_core.proofs.Words.{[], ◌≡◌, ℕ, true, false, List, ◌∷◌, ◌++◌, refl, sym, subst, inl, inr, ap, In, Fault, in_last, in_more, nat_decided, in_decided, nothing, leave, AreDistinct, State, Record, Shelf, Entry, numbers, query_state, undid, rolled, run_once, picks_once, is_before, before_in, before_once, number_in, number_of, records_distinct, DependsOn, Follows, directly, further, IsKeptAs, IsWithoutSteps, IsWithout, IsSplitAt, IsLawful, IsInOrder, neighbours_lawful, first_or_none, before_front, records_push, first_gone, Change, Comes as comes, Goes as goes, Reorders as reorders, Coming, Going, Gone, all_gone, no_hands, World, IsReplay, without_steps, with_order, CanChange, Changes, undo, roll, Reply, stepped, undone, refused, to_undo, to_roll, to_arrange, told_of, Obeys, does, refuses, makes, says, Reaches}
 use Rattle.ghc_records.specs.Orders.{take}
 use Rattle.ghc_depend.proofs.Undoing as undoing
 use Rattle.ghc_core.proofs.Alone.{goes_alone, others_left}
@@ -41,18 +41,14 @@ roll_takes w hands n r reach k =
     (u.0, without_steps u.0 u.1 u.2 (rolled r.number) w, rolls_away w n r good.kept_once k u.0 u.1 u.2 u.3 u.4, u.3, u.5)
 
 module _ (w v : World) (s : Reaches w) where
-  -- replays of the same steps leave one state
-  one_state : (rest left : List Record) (x t : State) → rest ≡ left → IsReplay w rest x → IsReplay w left t → x ≡ t
-  one_state rest left x t same walk run =
-      run_once w.opening.program (query_state w.opening.query) left x t (subst (λ z. Runs w.opening.program (query_state w.opening.query) z x) same walk.1) run.1
-
   -- What takes steps away leaves the state without them.
   pub going_leaves : (how : Going) (gone : Gone) → CanChange w (goes how gone) → Changes w (goes how gone) v → IsWithoutSteps (all_gone gone) w.state v.state
   going_leaves how gone can (left, split, (t, run, e)) =
       let good = reached_good s in
       let u = undoing.rolled w.opening.program w.opening.query w.kept w.state gone.first good.accepted good.asked (replayed s).replay can.0 in
       let all : u.0 ≡ all_gone gone = picks_once w.kept u.0 (all_gone gone) u.3.0 split.0 in
-      let states : u.2 ≡ t = one_state u.1 left u.2 t (picks_once w.kept u.1 left u.3.1 split.1) u.4 run in
+      let run_u = rw (picks_once w.kept u.1 left u.3.1 split.1) at u.4 in
+      let states : u.2 ≡ t = run_once w.opening.program (query_state w.opening.query) left u.2 t run_u.1 run.1 in
       subst (λ (z : World). IsWithoutSteps (all_gone gone) w.state z.state) (sym e) (subst (λ (x : State). IsWithoutSteps (all_gone gone) w.state x) states (subst (λ g. IsWithoutSteps g w.state u.2) all u.5))
 
 pub undoes_answered : (w : World) (n : ℕ) → Reaches w → (reply : Reply) × (v : World) × Obeys ⊥ w (undo n) reply v
@@ -76,10 +72,9 @@ rolls_answered w n reach = elim (in_decided nat_decided n (numbers w.kept)) [
 last_alone : (rs : List Record) (r : Record) → AreDistinct (rs ++ r ∷ []) → {b : Record} → ¬ Follows (rs ++ r ∷ []) r b
 last_alone rs r distinct (directly {b = b} d) =
     let before = is_before (rs ++ r ∷ []) r b d.0 in
-    elim (in_either rs (r ∷ []) b (before_in (rs ++ r ∷ []) r b before).1) [
+    elim (in_more rs r b (before_in (rs ++ r ∷ []) r b before).1) [
       | inl i ↦ before_once (rs ++ r ∷ []) r b distinct before (before_front rs [] r b i)
-      | inr (inl same) ↦ let again = subst (λ z. Before (rs ++ r ∷ []) r z) same before in before_once (rs ++ r ∷ []) r r distinct again again
-      | inr (inr i) ↦ i
+      | inr same ↦ let again = rw same at before in before_once (rs ++ r ∷ []) r r distinct again again
     ]
 last_alone rs r distinct (further f d) = last_alone rs r distinct f
 
@@ -92,36 +87,31 @@ without_last (q ∷ rs) r apart = take (apart q (inl refl)) (without_last rs r (
 abbrev Undone : World → ℕ → World → Type 0
 Undone w n v = (u : World) × Obeys ⊥ v (undo n) (undone (n ∷ [])) u × (u.state ≡ w.state) × (u.kept ≡ w.kept)
 
-same_number : {m n : ℕ} → stepped m ≡ stepped n → m ≡ n
-same_number e = cc
-
 module _ (w : World) (good : Good w) (replay : IsReplay w w.kept w.state) where
-  -- a world with a step more at its end, that has the old opening
-  undo_last : (r : Record) (n : ℕ) (v : World) → v.opening ≡ w.opening → v.kept ≡ w.kept ++ r ∷ [] → r.number ≡ n → ¬ In r.number (numbers w.kept) → Undone w n v
-  undo_last r n v opening kept number new =
-      let distinct = records_distinct (w.kept ++ r ∷ []) (records_push w.kept r good.kept_once new) in (
+  -- a world with a step more at its end
+  undo_last : (r : Record) (s : State) (shelf : Shelf) (next : ℕ) (es : List Entry) → ¬ In r.number (numbers w.kept)
+      → Undone w r.number (record { opening = w.opening; state = s; kept = w.kept ++ r ∷ []; shelf = shelf; next = next; journal = es })
+  undo_last r s shelf next es new =
+      let v : World = record { opening = w.opening; state = s; kept = w.kept ++ r ∷ []; shelf = shelf; next = next; journal = es } in
+      let once = records_push w.kept r good.kept_once new in
+      let others = without_last w.kept r (λ s i e. new (rw (← e) (number_in w.kept s i))) in (
         without_steps (r ∷ []) w.kept w.state (undid r.number) v,
-        undoes_away v n r (subst (λ ks. AreDistinct (numbers ks)) (sym kept) (records_push w.kept r good.kept_once new)) (subst (In r) (sym kept) (in_right w.kept (r ∷ []) r (inl refl)), number)
-            (λ b f. last_alone w.kept r distinct (subst (λ z. Follows z r b) kept f)) w.kept w.state
-            (subst (λ z. IsWithout z r w.kept) (sym kept) (without_last w.kept r (λ s i e. new (subst (λ (z : Record). In z.number (numbers w.kept)) e (number_in w.kept s i)))))
-            (subst (λ o. IsReplay (record w { opening = o }) w.kept w.state) (sym opening) replay),
+        undoes_away v r.number r once (in_last w.kept r, refl) (λ b f. last_alone w.kept r (records_distinct _ once) f) w.kept w.state others replay,
         refl,
         refl,
       )
 
   -- a change that is told as a step took one
   undo_changed : (n : ℕ) (v : World) (change : Change) → CanChange w change → Changes w change v → stepped n ≡ told_of change → Undone w n v
-  undo_changed n v (comes Coming.Next r) can e told = subst (Undone w n) (sym e) (undo_last r n (with_step r w) refl refl (sym (same_number told)) (not_next w good r can.0))
-  undo_changed n v (comes Coming.Shelved r) can e told = subst (Undone w n) (sym e) (undo_last r n (with_coming Coming.Shelved r w) refl refl (sym (same_number told)) (good.shelf r.number r can.0).3)
+  undo_changed n v (comes Coming.Next r) can e told = let same : n ≡ r.number = cc in rw (e, same) (undo_last r _ _ _ _ (not_next w good r can.0))
+  undo_changed n v (comes Coming.Shelved r) can e told = let same : n ≡ r.number = cc in rw (e, same) (undo_last r _ _ _ _ (good.shelf r.number r can.0).3)
   undo_changed n v (goes how gone) can e told = cc
   undo_changed n v (reorders a) can e told = cc
 
-  undo_answered : (n : ℕ) (hands left : Hands) (e : Event) (v : World) → Answers (Unit {0}) w hands e (stepped n) v left → Undone w n v
-  undo_answered n hands left e v (makes {change = change} has asks can changes told) = undo_changed n v change can changes told
-  undo_answered n hands left e v (says has said) = let clash : true ≡ false = said_changes_nothing said in cc
-
 pub step_then_undo : laws.StepThenUndo
-step_then_undo w v hands left e n reach a = undo_answered w (reachable_good reach) (reachable_replay w hands reach) n hands left e v a
+step_then_undo w v hands left e n reach (makes {change = change} has asks can changes told) =
+    undo_changed w (reachable_good reach) (reachable_replay w hands reach) n v change can changes told
+step_then_undo w v hands left e n reach (says has said) = let clash : true ≡ false = said_changes_nothing said in cc
 
 -- two neighbours that do not depend on each other are in a lawful order the other way round
 pub neighbours_arranged : laws.NeighboursAreArranged

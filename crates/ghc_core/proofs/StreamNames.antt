@@ -1,6 +1,7 @@
 -- The names of the streams' goals stay in step with the goals.
-use Rattle.ghc_core.proofs.Words.{◌≡◌, ◌≢◌, ℕ, zero, suc, ◌+◌, ◌⊎◌, true, false, List, [], ◌∷◌, filter, refl, sym, ap, ◌∙◌, subst, inl, inr, arith, Some, None, slice_get, slice_set, take, ◌++◌, Option, VarName, GoalName, Goal, stream, In, in_at, value_at, Program, Query, is_stream, IsProgram, IsQuery, goal_cmp, Goals, same_parts, State, Record, without_goal, after, Fires, query_state, Runs, IsTakenBack, one_or_not, not_stream, made_or_old, made_at, stream_made, place_at, by_option, not_both, same_value, named_or_not, without_it, without_other, firing, World, IsStanding, name_of, with_name, opened, stream_of, first_made, renamed, told, told_back, TellStreams, set_other, set_same, slice_get_within}
+use Rattle.ghc_core.proofs.Words.{[], ◌≡◌, ◌≢◌, ℕ, zero, suc, ◌+◌, ◌⊎◌, true, false, List, ◌∷◌, filter, refl, sym, ap, ◌∙◌, subst, inl, inr, arith, Some, None, slice_get, slice_set, take, ◌++◌, Option, VarName, GoalName, Goal, stream, In, in_at, value_at, Program, Query, is_stream, IsProgram, IsQuery, goal_cmp, Goals, same_parts, State, Record, without_goal, after, Fires, query_state, Runs, IsTakenBack, coded_ℕ, same_decided, not_stream, made_or_old, made_at, stream_made, place_at, by_option, not_both, same_value, named_or_not, without_it, without_other, firing, World, IsStanding, name_of, with_name, opened, stream_of, first_made, renamed, told, told_back, TellStreams, set_other, set_same, slice_get_within}
 use Rattle.std.specs.FinMap as finite
+use Rattle.std.specs.Coded.{coded_option}
 use Rattle.ghc_core.proofs.Reaching.{reached_good}
 use Rattle.ghc_core.proofs.Standing.{standing_replay, standing_orderly}
 use Rattle.ghc_core.proofs.Exactness.{come_back, consumed_again}
@@ -33,13 +34,7 @@ renamed_stays (Some j) (Some g) k names n = name_stays k j g names n
 renamed_stays o q k names n = n
 
 renamed_here : (o : Option ℕ) (q : Option GoalName) (k : ℕ) (g h : GoalName) (names : List GoalName) → o ≡ Some k → q ≡ Some g → name_of k names ≡ Some h → name_of k (renamed o q names) ≡ Some g
-renamed_here o q k g h names same named e =
-    ap (λ p. name_of k (renamed p q names)) same ∙ ap (λ p. name_of k (renamed (Some k) p names)) named ∙ name_here k g h names e
-
--- whether it is the stream
-is_or_not : (o : Option ℕ) (k : ℕ) → (o ≡ Some k) ⊎ (o ≢ Some k)
-is_or_not None k = inr (λ e. cc)
-is_or_not (Some j) k = elim (one_or_not j k) [ inl e ↦ inl (ap Some e) | inr n ↦ inr (λ e. n (let same : j ≡ k = cc in same)) ]
+renamed_here o q k g h names same named e = rw (same, named) (name_here k g h names e)
 
 -- a goal of the stream is its stream goal
 of_stream : (c : Option Goal) (k : ℕ) → stream_of c ≡ Some k → (s : VarName) × (c ≡ Some (stream k s))
@@ -58,10 +53,7 @@ AreAsked query goals = (k : ℕ) (g : GoalName) (s : VarName) → finite.get goa
 module _ (P : Program) (accepted : IsProgram P) (s : State) (r : Record) (fires : Fires P s r) where
   -- A goal that the step consumed was there.
   consumed_there : (b : Goal) → r.consumed ≡ Some b → (h : GoalName) × (r.goal ≡ Some h) × (finite.get s.goals h ≡ Some b)
-  consumed_there b e = elim (firing P s r fires) [
-    | inl t ↦ (t.name, t.named, t.there ∙ sym t.consumed ∙ e)
-    | inr a ↦ absurd (not_both e a.nothing)
-  ]
+  consumed_there b e = grind (arith, firing P s r fires)
 
   -- A stream goal that is there then was there, and is not the one consumed; or the step made it first, and consumed a goal of its stream.
   from : (k : ℕ) (g : GoalName) (x : VarName) → finite.get (after s r).goals g ≡ Some (stream k x)
@@ -76,16 +68,13 @@ module _ (P : Program) (accepted : IsProgram P) (s : State) (r : Record) (fires 
           let clash : true ≡ false = not_stream r.effect.makes (stream k x) plain (in_at r.effect.makes m.0 (stream k x) m.1) in
           cc
     ]
-    | inr old ↦ elim (named_or_not r.goal g) [
-      | inl own ↦ absurd (not_both old (without_it r.goal s.goals g own))
-      | inr other ↦ inl (sym (without_other r.goal s.goals g other) ∙ old, other)
-    ]
+    | inr old ↦ grind (arith, old, named_or_not r.goal g, without_it r.goal s.goals g, without_other r.goal s.goals g)
   ]
 
   pub over : (query : Query) (names : List GoalName) → TellStreams query s.goals names → TellStreams query (after s r).goals (told r names)
   over query names tell = record {
     last = λ k g x e. elim (from k g x e) [
-      | inl old ↦ elim (is_or_not (stream_of r.consumed) k) [
+      | inl old ↦ elim (same_decided (coded_option coded_ℕ) (stream_of r.consumed) (Some k)) [
         | inl same ↦
             let t = of_stream r.consumed k same in
             let c = consumed_there (stream k t.0) t.1 in
@@ -125,13 +114,13 @@ stands_over w stands r fires names new same tell =
     subst (TellStreams w.opening.query (after w.state r).goals) (sym same) (over w.opening.program (reached_good stands).accepted w.state r fires w.opening.query names tell)
 
 -- In a standing world a step is taken back, which leaves the standing world z, and the names are told of it.
-pub stands_back : (w : World) → IsStanding w → (r : Record) → In r w.kept → (z : World) → IsStanding z → z.opening ≡ w.opening → IsTakenBack r w.state z.state → (names new : List GoalName)
-    → new ≡ told_back r names → TellStreams w.opening.query w.state.goals names → TellStreams w.opening.query z.state.goals new
-stands_back w stands r kept z left same_opening back names new same tell =
-    let asked : AreAsked w.opening.query z.state.goals = subst (λ (o : _). AreAsked o.query z.state.goals) same_opening (standing_asked z left) in
-    subst (TellStreams w.opening.query z.state.goals) (sym same) (record {
+pub stands_back : (w : World) → IsStanding w → (r : Record) → In r w.kept → (z : World) → IsStanding z → z.opening ≡ w.opening
+    → IsTakenBack r w.state z.state → (names : List GoalName) → TellStreams w.opening.query w.state.goals names
+    → TellStreams w.opening.query z.state.goals (told_back r names)
+stands_back w stands r kept z left same_opening back names tell =
+    let asked : AreAsked w.opening.query z.state.goals = subst (λ (o : _). AreAsked o.query z.state.goals) same_opening (standing_asked z left) in record {
       last = λ k g x there. elim (come_back w stands r kept z.state back g (stream k x) there) [
-        | inl old ↦ elim (is_or_not (stream_of r.consumed) k) [
+        | inl old ↦ elim (same_decided (coded_option coded_ℕ) (stream_of r.consumed) (Some k)) [
           | inl of ↦
               let t = of_stream r.consumed k of in
               let c = consumed_again w stands r kept z.state back (stream k t.0) t.1 in
@@ -143,7 +132,7 @@ stands_back w stands r kept z left same_opening back names new same tell =
             by_option (name_of k names) (λ none. absurd (tell.placed k a.0 a.1 none)) (λ h e. renamed_here (stream_of r.consumed) r.goal k g h names (ap stream_of c.1) c.0 e)
       ];
       placed = λ k x i. renamed_stays (stream_of r.consumed) r.goal k names (tell.placed k x i);
-    })
+    }
 
 -- the streams are counted from n + 1 on
 abbrev CountFrom : ℕ → List Goal → Type 0
@@ -155,22 +144,19 @@ opened_at : (gs : List Goal) (n p : ℕ) → CountFrom n gs → (j k : ℕ) (x :
 opened_at [] n p c j k x e = cc
 opened_at (stream l y ∷ gs) n p c zero k x e = let number = c 0 k x e in (0, omega (arith, number), ap (λ m. Some (record { step = 0; place = m })) (omega arith))
 opened_at (stream l y ∷ gs) n p c (suc j) k x e =
-    let q = opened_at gs (n + 1) (p + 1) (λ i k x e. let number = c (suc i) k x e in omega (arith, number)) j k x e in
-    let number = q.1 in
-    (suc q.0, omega (arith, number), q.2 ∙ ap (λ m. Some (record { step = 0; place = m })) (omega arith))
+    let (i, number, here) = opened_at gs (n + 1) (p + 1) (λ i k x e. let number = c (suc i) k x e in omega (arith, number)) j k x e in
+    (suc i, omega (arith, number), here ∙ ap (λ m. Some (record { step = 0; place = m })) (omega arith))
 opened_at (b ∷ gs) n p c zero k x e = cc
 opened_at (b ∷ gs) n p c (suc j) k x e = let q = opened_at gs n (p + 1) c j k x e in (q.0, q.1, q.2 ∙ ap (λ m. Some (record { step = 0; place = m })) (omega arith))
 
 -- The names of a query's stream goals tell where they are before any step.
 pub opened_tells : (P : Program) (query : Query) → IsQuery P query → TellStreams query (query_state query).goals (opened 1 query)
 opened_tells P query asked =
-    let counted : CountFrom 0 query = λ i k x e. let number = asked.streams i k x e in omega (arith, number) in
     let placed : (j k : ℕ) (x : VarName) → slice_get query j ≡ Some (stream k x) → name_of k (opened 1 query) ≡ Some (record { step = 0; place = 1 + j }) =
     λ j k x e.
-    let q = opened_at query 0 1 counted j k x e in
-    let number = q.1 in
-    let same : k ≡ suc q.0 = omega (arith, number) in
-    ap (λ n. name_of n (opened 1 query)) same ∙ q.2 in
+    let (i, number, here) = opened_at query 0 1 (λ i k x e. let number = asked.streams i k x e in omega (arith, number)) j k x e in
+    let same : k ≡ suc i = omega (arith, number) in
+    rw same here in
     record {
       last = λ k g x e. elim (made_at 0 1 query finite.empty g (stream k x) e) [
         | inl m ↦ placed m.0 k x m.1 ∙ ap Some (sym (same_parts g (record { step = 0; place = 1 + m.0 }) m.2 m.3))
@@ -188,9 +174,7 @@ opened_more (g ∷ gs) (suc i) p b e = opened_more gs i (p + 1) b e ∙ ap (λ n
 
 -- the name of one more goal, if it is a stream goal
 pub opened_one : (p : ℕ) (b : Goal) → is_stream b ≡ true → opened p (b ∷ []) ≡ record { step = 0; place = p } ∷ []
-opened_one p (stream k s) e = refl
-opened_one p b e = cc
+opened_one p b e = grind arith
 
 pub opened_none : (p : ℕ) (b : Goal) → is_stream b ≡ false → opened p (b ∷ []) ≡ []
-opened_none p (stream k s) e = cc
-opened_none p b e = refl
+opened_none p b e = grind arith

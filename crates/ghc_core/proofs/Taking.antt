@@ -1,5 +1,5 @@
 -- Events can do each change, so they lead where changes lead; and the next step binds what no kept step bound.
-use Rattle.ghc_core.proofs.Words.{◌≡◌, ◌≢◌, ◌⊎◌, List, [], true, inl, inr, refl, sym, ap, ◌∙◌, subst, arith, Option, Some, None, is_some, nat_cmp_total, VarName, GoalName, Tree, Goal, call, unify, assign, stream, In, value_at, Program, Query, variables_of_goals, Act, ByClause as by_clause, Unified as unified, Assigned as assigned, Given as given, Closed as closed, Asked as asked, NameNoneOf, variables_asked, asks_back, Effect, HasEffect, no_step, effect_each, State, Record, Fires, Replays, first_in, Binds, not_both, results_of, firing, step_binds, Hands, no_hands, IsHand, with_hand, emptied, World, IsNextStep, with_step, Change, Comes as comes, Goes as goes, Reorders as reorders, Coming, Going, CanChange, Changes, Command, input, finish, undo, roll, redo, arrange, ask, propose, commit, command, held, stepped, IsReduction, IsCommitOf, Asks, to_give, to_close, to_undo, to_roll, to_redo, to_arrange, to_ask, told_of, by_hand, by_command, Says, Answers, makes, says, Reaches, from_opening, by_change, IsProper, IsReachable, at_opening, by_event, with_other_hands, NoStepIsFree, choice_of}
+use Rattle.ghc_core.proofs.Words.{[], ◌≡◌, ◌⊎◌, List, true, inl, inr, refl, sym, ap, ◌∙◌, subst, arith, Option, Some, None, is_some, nat_cmp_total, VarName, GoalName, Tree, Goal, call, unify, assign, stream, In, value_at, Program, Query, variables_of_goals, Act, ByClause as by_clause, Unified as unified, Assigned as assigned, Given as given, Closed as closed, Asked as asked, NameNoneOf, variables_asked, asks_back, Effect, HasEffect, no_step, effect_each, State, Record, Fires, Replays, first_in, Binds, not_both, results_of, firing, step_binds, Hands, no_hands, IsHand, with_hand, emptied, World, IsNextStep, with_step, Change, Comes as comes, Goes as goes, Reorders as reorders, Coming, Going, CanChange, Changes, Command, input, finish, undo, roll, redo, arrange, ask, propose, commit, command, held, stepped, IsReduction, IsCommitOf, Asks, to_give, to_close, to_undo, to_roll, to_redo, to_arrange, to_ask, told_of, by_hand, by_command, Says, Answers, makes, says, Reaches, from_opening, by_change, IsProper, IsReachable, at_opening, by_event, with_other_hands, NoStepIsFree, choice_of}
 use Rattle.std.specs.FinMap as finite
 use Rattle.ghc_fire.specs.Proposal.{Proposal}
 use Rattle.ghc_core.proofs.Committing.{still_proposed}
@@ -10,17 +10,17 @@ abbrev IsAsked : World → Record → Type 0
 IsAsked w r = ((p : Proposal) × IsCommitOf w p r) ⊎ ((c : Command) × Asks c (comes Coming.Next r) × IsProper (command c))
 
 module _ (w : World) (r : Record) (next : IsNextStep w r) (g : GoalName) (named : r.goal ≡ Some g) where
-  by_commit : (b : Goal) (e : Effect) → IsReduction r.act → finite.get w.state.goals g ≡ Some b → HasEffect w.opening.program b r.act no_step (value_at w.state.store) e → IsAsked w r
-  by_commit b e reduces there has = inl (record { goal = g; consumed = b; act = r.act; effect = e }, ((b, reduces, there, has), next, named, refl))
+  by_commit : (b : Goal) (a : Act) (e : Effect) → r.act ≡ a → IsReduction a → finite.get w.state.goals g ≡ Some b
+      → HasEffect w.opening.program b a no_step (value_at w.state.store) e → IsAsked w r
+  by_commit b a e act reduces there has =
+      inl (record { goal = g; consumed = b; act = r.act; effect = e }, ((b, rw act reduces, there, rw act has), next, named, refl))
 
   by_act : (b : Goal) (a : Act) → r.act ≡ a → r.consumed ≡ Some b → finite.get w.state.goals g ≡ Some b → HasEffect w.opening.program b a r.number (value_at w.state.store) r.effect → IsAsked w r
   by_act (call f ts) (by_clause k) act consumed there has =
       let e = effect_each w.opening.program (call f ts) (by_clause k) r.number no_step (value_at w.state.store) r.effect has in
-      by_commit (call f ts) e.0 (subst IsReduction (sym act) tt) there (subst (λ a. HasEffect w.opening.program (call f ts) a no_step (value_at w.state.store) e.0) (sym act) e.1)
-  by_act (unify l t) unified act consumed there has =
-      by_commit (unify l t) r.effect (subst IsReduction (sym act) tt) there (subst (λ a. HasEffect w.opening.program (unify l t) a no_step (value_at w.state.store) r.effect) (sym act) has)
-  by_act (assign t x) assigned act consumed there has =
-      by_commit (assign t x) r.effect (subst IsReduction (sym act) tt) there (subst (λ a. HasEffect w.opening.program (assign t x) a no_step (value_at w.state.store) r.effect) (sym act) has)
+      by_commit (call f ts) (by_clause k) e.0 act tt there e.1
+  by_act (unify l t) unified act consumed there has = by_commit (unify l t) unified r.effect act tt there has
+  by_act (assign t x) assigned act consumed there has = by_commit (assign t x) assigned r.effect act tt there has
   by_act (stream k x) (given u) act consumed there has = inr (input k u, to_give (g, x, named, consumed, act), has.1)
   by_act (stream k x) closed act consumed there has = inr (finish k, to_close (g, x, named, consumed, act), tt)
   by_act b a act consumed there has = absurd has
@@ -30,13 +30,10 @@ step_asked : (w : World) (r : Record) → NoStepIsFree w → IsNextStep w r → 
 step_asked w r free next = elim (firing w.opening.program w.state r next.1) [
   | inl t ↦ by_act w r next t.name t.named t.goal r.act refl t.consumed t.there t.effect
   | inr a ↦
-      let number = next.0 in
-      let below = next.2.0 in
       let none : NameNoneOf no_step a.goals = λ x i no.
-      let other : x.step ≢ r.number = λ own. omega (arith, own, no, number, below) in
-      let named : In x (variables_asked r.act) = subst (λ act. In x (variables_asked act)) (sym a.act) (first_in [] (variables_of_goals a.goals) x i refl) in
-      free x (next.3 x (named, other)) no in
-      let back = asks_back w.opening.program a.goals r.number r.effect (λ no. omega (arith, no, number, below)) none a.asks in
+      let named : In x (variables_asked r.act) = rw a.act (first_in [] (variables_of_goals a.goals) x i refl) in
+      free x (next.3 x (named, λ own. omega (arith, own, no, next.0, next.2.0))) no in
+      let back = asks_back w.opening.program a.goals r.number r.effect (λ no. omega (arith, no, next.0, next.2.0)) none a.asks in
       inr (ask back.goals, to_ask (back.ask, back.none, a.none, a.act ∙ ap asked back.same), back.ask)
 ]
 

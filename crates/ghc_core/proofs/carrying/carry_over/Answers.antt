@@ -5,9 +5,8 @@ use Rattle.ghc_core.proofs.carrying.carry_over.Goals as goal
 pub mark_made-requires-clause-new : goal.mark_made-requires-clause-new
 mark_made-requires-clause-new c g given =
     let made = c.made.ensures ∙ ap (λ (e : Effect). length e.makes) c.effect-effect.ensures in
-    let place = given.2 in
     none_stays (λ h. c.goal.result ≡ Some h) (IsBound c.binds.result.now) c.args.tries.now c.drop_named.new.tries c.wake_at_bound.new.tries c.drop_named.ensures.dropped c.wake_at_bound.ensures.notes g
-    (c.requires.new g (given.0 ∙ c.number.ensures, given.1, omega (arith, place, made)))
+    (c.requires.new g (given.0 ∙ c.number.ensures, given.1, omega (arith, given.2, made)))
 
 pub returns : goal.returns
 returns c =

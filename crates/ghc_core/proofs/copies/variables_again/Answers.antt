@@ -1,5 +1,4 @@
-use Rattle.ghc_core.proofs.Words.{get_or, ap, sym, subst, ◌∙◌, inl, inr, take_all, VarName, In, holds_nothing, one_inserted, same_held, has_member, is_member, so_far, earlier, latest}
-use Rattle.std.specs.FinSet as set
+use Rattle.ghc_core.proofs.Words.{arith, get_or, sym, subst, take_all, VarName, In, holds_nothing, one_inserted, same_held, has_member, is_member, so_far, earlier, latest}
 use Rattle.ghc_core.proofs.copies.variables_again.Goals as goal
 
 pub loop-x-init : goal.loop-x-init
@@ -13,16 +12,9 @@ loop-x-preserved c y =
     let none : VarName = record { step = 0; place = 0 } in
     let xs = c.members-x-items.result.now in
     let i = c.loop-x.x-index in
-    let put = one_inserted c.loop-x.again (get_or xs i none) y in (
-      λ h. elim (put.0 (ap (λ s. set.contains s y) (sym c.in_ok-insert.ensures.ok) ∙ h)) [
-        | inl o ↦ earlier xs i none c.loop-x-test.true y ((c.loop-x.invariant y).0 o)
-        | inr e ↦ latest xs i none c.loop-x-test.true y e
-      ],
-      λ k. ap (λ s. set.contains s y) c.in_ok-insert.ensures.ok ∙ put.1 (elim (so_far xs i none c.loop-x-test.true y k) [
-        | inl o ↦ inl ((c.loop-x.invariant y).1 o)
-        | inr e ↦ inr e
-      ]),
-    )
+    let put = rw (← c.in_ok-insert.ensures.ok) at (one_inserted c.loop-x.again (get_or xs i none) y) in
+    let h = c.loop-x-test.true in
+    grind (arith, put, c.loop-x.invariant y, so_far xs i none h y, earlier xs i none h y, latest xs i none h y)
 
 pub returns : goal.returns
 returns c =

@@ -1,13 +1,7 @@
-use Rattle.std.proofs.Common.{◌≡◌, sym, subst, ◌∙◌, None, Some}
+use Rattle.std.proofs.Common.{◌≡◌, sym, subst, ◌∙◌, None}
 use Rattle.std.specs.FinMap as finite
 use Rattle.ghc_core.proofs.Loading.{impossible_gone}
 use Rattle.ghc_core.proofs.load.fire_step.Goals as goal
-
-pub returns-in_default-clause-none : goal.returns-in_default-clause-none
-returns-in_default-clause-none c = let clash : None ≡ Some c.requires.of_goal.0 = sym c.in_default.is ∙ c.goal.ensures ∙ c.requires.of_goal.1 in cc
-
-pub fire_at-requires-clause-named : goal.fire_at-requires-clause-named
-fire_at-requires-clause-named c = sym c.goal.ensures ∙ c.in-Some.is
 
 pub returns-in-None-clause-none : goal.returns-in-None-clause-none
 returns-in-None-clause-none c =

@@ -1,4 +1,4 @@
-use Rattle.ghc_core.proofs.Words.{◌≡◌, true, false, refl, sym, ◌∙◌, subst, arith, AskForGoals}
+use Rattle.ghc_core.proofs.Words.{◌≡◌, true, false, refl, sym, ◌∙◌, subst, arith, AskForGoals, false≢true}
 use Rattle.ghc_core.proofs.SavedSteps.{none_asks_next, none_asks, asks_in}
 use Rattle.ghc_core.proofs.saving.ask_for_goals.Goals as goal
 
@@ -12,7 +12,6 @@ loop-place-preserved c = none_asks_next c.args.records.now.slots c.loop-place.pl
     (λ r stands asks. let clash : true ≡ false = sym (c.asks_at.ensures.1 (r, stands, asks)) ∙ c.if-asks_at.false in cc)
 
 pub returns : goal.returns
-returns c = (
-  λ no. absurd (let clash : false ≡ true = no in cc),
-  λ a. absurd (none_asks c.args.records.now.slots c.loop-place.place (omega (arith, c.loop-place-test.false, c.places-place-end.ensures)) c.loop-place.invariant (subst AskForGoals c.len-count.ensures.slots a)),
-)
+returns c =
+    let none = none_asks c.args.records.now.slots c.loop-place.place (omega arith) c.loop-place.invariant in
+    (λ no. absurd (false≢true no), λ a. absurd (none (rw c.len-count.ensures.slots at a)))

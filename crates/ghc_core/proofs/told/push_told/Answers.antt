@@ -1,9 +1,6 @@
 use Rattle.ghc_core.proofs.Words.{◌++◌, ◌+◌, map, drop, sym, ap, ◌∙◌, option_map, entry_of, said_by}
-use Rattle.ghc_core.proofs.ResumeSteps.{told_pushed, there_is}
+use Rattle.ghc_core.proofs.ResumeSteps.{told_pushed}
 use Rattle.ghc_core.proofs.told.push_told.Goals as goal
-
-pub returns-in_default : goal.returns-in_default
-returns-in_default c = absurd (there_is c.args.journal.now.held c.args.place c.requires.there (sym c.at.ensures ∙ ap (option_map (λ e. entry_of e.now)) c.in_default.is))
 
 pub returns : goal.returns
 returns c =

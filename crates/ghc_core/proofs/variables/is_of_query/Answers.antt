@@ -1,4 +1,4 @@
-use Rattle.std.proofs.Common.{◌≤◌, length, ap, arith, rules}
+use Rattle.std.proofs.Common.{length, ap, arith, rules}
 use Rattle.ghc_core.proofs.QueryVariables.{in_query, of_query}
 use Rattle.ghc_core.proofs.variables.is_of_query.Goals as goal
 
@@ -7,14 +7,8 @@ returns-then-x-eq0 c =
     let q = c.args.query.now in
     let well = c.goals-goals.ensures.well_asked in
     let count = ap length c.variables.ensures in (
-      λ yes.
-          let within = c.is_place.ensures.0 yes in
-          let high : c.args.x.place ≤ length q.variables = omega (arith, within.1, count) in
-          in_query q well c.args.x c.if-x-eq0.true within.0 high,
-      λ i.
-          let known = of_query q well c.args.x i in
-          let high : c.args.x.place ≤ length c.variables.result.now = omega (arith, known.2, count) in
-          c.is_place.ensures.1 (known.1, high),
+      λ yes. let within = c.is_place.ensures.0 yes in in_query q well c.args.x c.if-x-eq0.true within.0 (omega (arith, within.1, count)),
+      λ i. let known = of_query q well c.args.x i in c.is_place.ensures.1 (known.1, omega (arith, known.2, count)),
     )
 
 pub returns-else-x-eq0 : goal.returns-else-x-eq0
