@@ -1,5 +1,5 @@
 -- Each event has one answer at most.
-use Rattle.ghc_core.proofs.Words.{◌≡◌, ℕ, List, ◌∷◌, refl, sym, ap, ◌∙◌, subst, ◌⊎◌, inl, inr, Some, GoalName, value_at, Given as given, Closed as closed, effect_once, attempt_once, Fault, Record, numbers, query_state, Runs, Entry, run_once, record_once, IsSplitAt, IsLawful, IsInOrder, orders, consequences, HasStatus, status_once, Option, Proposal, Hands, with_hand, World, with_step, Change, Goes as goes, Coming, Going, Gone, all_gone, with_coming, without_steps, with_order, entry_of_going, CanChange, AreTakenAway, Changes, Command, input, finish, undo, roll, redo, arrange, ask, Event, propose, commit, note, command, Reply, stepped, undone, noted, refused, Asks, to_give, to_close, to_undo, to_roll, to_redo, to_arrange, to_ask, told_of, Fails, HasHand, hands_after, AsksFor, by_hand, by_command, Says, IsRefusedFor, Answers, no_hand, makes, says, fails, no_memory, AttemptAnswers, CommitFails, same_act, same_effect, same_fault, apart, IsOrderly, OrderedHasOneAnswer, EventsHaveOneAnswer, Goal, is_stream, IsNoCandidate, true≢false, false, arith, IsToldWhere, None}
+use Rattle.ghc_core.proofs.Words.{◌≡◌, ℕ, List, ◌∷◌, refl, sym, ap, ◌∙◌, subst, inl, inr, Some, GoalName, value_at, Given as given, Closed as closed, effect_once, attempt_once, Fault, Record, numbers, query_state, Runs, Entry, run_once, record_once, IsSplitAt, IsLawful, IsInOrder, orders, consequences, HasStatus, status_once, Option, Proposal, Hands, with_hand, World, Change, Goes as goes, Coming, Going, Gone, all_gone, with_coming, without_steps, with_order, entry_of_going, CanChange, AreTakenAway, Changes, Command, undo, roll, redo, arrange, ask, Event, propose, commit, note, command, Reply, stepped, undone, noted, refused, Asks, to_give, to_close, to_undo, to_roll, to_redo, to_arrange, to_ask, told_of, Fails, AsksFor, by_hand, by_command, Says, IsRefusedFor, Answers, no_hand, makes, says, fails, no_memory, AttemptAnswers, CommitFails, same_act, same_effect, same_fault, apart, IsOrderly, OrderedHasOneAnswer, EventsHaveOneAnswer, Goal, is_stream, IsNoCandidate, true≢false, false, None}
 use Rattle.std.specs.FinMap as finite
 use Rattle.ghc_core.proofs.Alone.{none_follow}
 use Rattle.ghc_fire.specs.Attempt as attempt
@@ -28,13 +28,12 @@ module _ (w : World) (ordered : IsOrderly w) where
 
   -- a command is refused for one reason
   fails_once : (c : Command) (f g : Fault) → Fails w c f → Fails w c g → f ≡ g
-  fails_once (input k t) f g p q = stream_fails_once p q
-  fails_once (finish k) f g p q = stream_fails_once p q
   fails_once (undo n) f g p q = undo_fails_once w n ordered.kept_once p q
   fails_once (roll n) f g p q = p.0 ∙ sym q.0
   fails_once (redo n) f g p q = redo_fails_once w n p q
   fails_once (arrange order) f g p q = let one = (orders w.kept ordered.kept_once).one_pair order _ _ _ _ p.3 q.3 in p.2 ∙ (λ i. Fault.NotLawful (one.0 i) (one.1 i)) ∙ sym q.2
   fails_once (ask gs) f g p q = ask_fails_once w gs p q
+  fails_once c f g p q = stream_fails_once p q
 
   -- worlds from which the same steps were taken away are one
   taken_once : (entry : Entry) {gone far left rest : List Record} {u v : World} → gone ≡ far → left ≡ rest → AreTakenAway w gone left entry u → AreTakenAway w far rest entry v → u ≡ v
@@ -50,25 +49,25 @@ module _ (w : World) (ordered : IsOrderly w) where
       let lists = (consequences w.kept y.first ordered.kept_once).one_split (all_gone x) left (all_gone y) rest (subst (λ r. IsSplitAt w.kept r (all_gone x) left) same split) part in
       (ap (λ rs. undone (numbers rs)) lists.0, taken_once (entry_of_going how y.first) lists.0 lists.1 (subst (λ (r : Record). AreTakenAway w (all_gone x) left (entry_of_going how r) u) same t) z)
 
+  -- a step comes in one way
+  comes_once : (from : Coming) {u v : World} {r s : Record} → r ≡ s → u ≡ with_coming from r w → v ≡ with_coming from s w
+      → (stepped r.number ≡ stepped s.number) × (u ≡ v)
+  comes_once from same e f = (ap (λ (z : Record). stepped z.number) same, e ∙ ap (λ z. with_coming from z w) same ∙ sym f)
+
   -- a command asks for one change, which is told in one way and leaves one world
   change_once : (u v : World) {c : Command} {x y : Change} → Asks c x → Asks c y → CanChange w x → CanChange w y → Changes w x u → Changes w y v → (told_of x ≡ told_of y) × (u ≡ v)
   change_once u v (to_give {k = k} {t = t} {r = r} o) (to_give {r = s} p) m n e f =
-      let same : r ≡ s = one_stream_step effect_once w ordered.acyclic ordered.streams_once k (given t) r s (o, m) (p, n) in
-      (ap (λ (z : Record). stepped z.number) same, e ∙ ap (λ z. with_step z w) same ∙ sym f)
+      comes_once Coming.Next (one_stream_step effect_once w ordered.acyclic ordered.streams_once k (given t) r s (o, m) (p, n)) e f
   change_once u v (to_close {k = k} {r = r} o) (to_close {r = s} p) m n e f =
-      let same : r ≡ s = one_stream_step effect_once w ordered.acyclic ordered.streams_once k closed r s (o, m) (p, n) in
-      (ap (λ (z : Record). stepped z.number) same, e ∙ ap (λ z. with_step z w) same ∙ sym f)
+      comes_once Coming.Next (one_stream_step effect_once w ordered.acyclic ordered.streams_once k closed r s (o, m) (p, n)) e f
   change_once u v (to_undo a) (to_undo b) can may e f = gone_once u v Going.Alone _ _ (a ∙ sym b) can may e f
   change_once u v (to_roll a) (to_roll b) can may e f = gone_once u v Going.Together _ _ (a ∙ sym b) can may e f
   change_once u v (to_redo {n = n} {r = r} a) (to_redo {r = s} b) can may e f =
-      let same : r ≡ s = value_once (subst (λ m. finite.get w.shelf m ≡ Some r) (a ∙ sym b) can.0) may.0 in
-      (ap (λ (z : Record). stepped z.number) same, e ∙ ap (λ z. with_coming Coming.Shelved z w) same ∙ sym f)
+      comes_once Coming.Shelved (value_once (subst (λ m. finite.get w.shelf m ≡ Some r) (a ∙ sym b) can.0) may.0) e f
   change_once u v (to_arrange {order = order} {a = a} o) (to_arrange {a = b} p) can may e f =
       let same : a.records ≡ b.records = (orders w.kept ordered.kept_once).one_record order a.records b.records (subst (λ z. IsInOrder w.kept z a.records) o can.1) (subst (λ z. IsInOrder w.kept z b.records) p may.1) in
       (refl, e ∙ (λ i. with_order ((o ∙ sym p) i) (same i) w) ∙ sym f)
-  change_once u v (to_ask {gs = gs} {r = r} o) (to_ask {r = s} p) m n e f =
-      let same : r ≡ s = one_ask w ordered.acyclic gs r s o p m n in
-      (ap (λ (z : Record). stepped z.number) same, e ∙ ap (λ z. with_step z w) same ∙ sym f)
+  change_once u v (to_ask {gs = gs} {r = r} o) (to_ask {r = s} p) m n e f = comes_once Coming.Next (one_ask w ordered.acyclic gs r s o p m n) e f
 
   module _ (hands : Hands) where
     -- an event asks for a change, or says what it found
@@ -81,8 +80,7 @@ module _ (w : World) (ordered : IsOrderly w) where
     asked_once (by_hand {p = p} {r = r} there c) (by_hand {p = q} {r = s} here d) m n e f =
         let same : p ≡ q = value_once there here in
         let act : r.act ≡ s.act = c.3 ∙ ap (λ (x : Proposal). x.act) same ∙ sym d.3 in
-        let steps : r ≡ s = step_once effect_once w ordered.acyclic r s q.goal c.1 d.1 (c.2 ∙ ap (λ (x : Proposal). Some x.goal) same) d.2 act in
-        (ap (λ (z : Record). stepped z.number) steps, e ∙ ap (λ z. with_step z w) steps ∙ sym f)
+        comes_once Coming.Next (step_once effect_once w ordered.acyclic r s q.goal c.1 d.1 (c.2 ∙ ap (λ (x : Proposal). Some x.goal) same) d.2 act) e f
     asked_once {u = u} {v = v} (by_command a) (by_command b) m n e f = change_once u v a b m n e f
 
     -- an event that asks for a change that can be made is not refused
@@ -108,74 +106,39 @@ module _ (w : World) (ordered : IsOrderly w) where
     said_or_refused f (Says.holds {g = g} {choice = choice} p is) why = apart (one_attempt g choice is.proposed why)
     said_or_refused f (Says.tells {g = g} (b, there, plain, status)) why = no_candidate g b there plain why.1
 
-    -- why what the hand holds is not committed
-    abbrev HeldFails : ℕ → Fault → Type 0
-    HeldFails h f = (p : Proposal) × (finite.get hands.held h ≡ Some p) × CommitFails w p f
-
     -- an event is refused for one reason
     refused_once : (e : Event) (f g : Fault) → IsRefusedFor w hands e f → IsRefusedFor w hands e g → f ≡ g
     refused_once (propose h g choice) f k p q = same_fault (one_attempt g choice p q)
     refused_once (commit h) f g p q =
-        first_once (IsToldWhere Fault.Stale (finite.get hands.held h ≡ None)) (HeldFails h) (told_once Fault.Stale (finite.get hands.held h ≡ None))
+        first_once _ (λ f. (p : Proposal) × (finite.get hands.held h ≡ Some p) × CommitFails w p f) (told_once Fault.Stale (finite.get hands.held h ≡ None))
         (λ a b (x, k, c) (y, l, d). commit_fails_once (subst (λ z. CommitFails w z a) (value_once k l) c) d) f g p q
     refused_once (note g) f k p q = p.0 ∙ sym q.0
     refused_once (command c) f g p q = fails_once c f g p q
 
--- What holds of one thing at most.
-abbrev Once : {X : Type 0} → (X → Type 0) → Type 0
-Once {X} P = (x y : X) → P x → P y → x ≡ y
-
--- Of two alternatives that exclude each other, each of one thing at most, one holds of one thing.
-either_once : {X : Type 0} (A B : X → Type 0) → Once A → Once B → ((x y : X) → A x → B y → ⊥) → Once (λ x. A x ⊎ B x)
-either_once A B one other never x y p q = grind arith
-
--- what is left of an event: its reply, the world, and the hands
-abbrev Left : Type 0
-Left = Reply × World × Hands
-
-module _ (w : World) (hands : Hands) (e : Event) where
-  -- there is no hand of its number; or a change is made, or something said, or a refusal told
-  abbrev HasNone : Left → Type 0
-  HasNone x = (¬ HasHand hands e) × (x ≡ (refused Fault.Command, w, hands))
-
-  abbrev Makes : Left → Type 0
-  Makes x = (change : Change) × AsksFor w hands e change × CanChange w change × Changes w change x.1 × (x.0 ≡ told_of change) × (x.2 ≡ hands_after e hands)
-
-  abbrev Tells : Left → Type 0
-  Tells x = Says w hands e x.0 x.2 × (x.1 ≡ w)
-
-  abbrev Refuses : Left → Type 0
-  Refuses x = (f : Fault) × IsRefusedFor w hands e f × (x ≡ (refused f, w, hands_after e hands))
-
-  abbrev Has : Left → Type 0
-  Has x = HasHand hands e × (Makes x ⊎ (Tells x ⊎ Refuses x))
-
-  answer_left : {reply : Reply} {v : World} {left : Hands} → Answers ⊥ w hands e reply v left → HasNone (reply, v, left) ⊎ Has (reply, v, left)
-  answer_left (no_hand none) = inl (none, refl)
-  answer_left (makes {change = change} has asks can changes told) = inr (has, inl (change, asks, can, changes, told, refl))
-  answer_left (says has said) = inr (has, inr (inl (said, refl)))
-  answer_left (fails {f = f} has why) = inr (has, inr (inr (f, why, refl)))
-  answer_left (no_memory starved) = absurd starved
-
-  module _ (ordered : IsOrderly w) where
-    makes_once : Once Makes
-    makes_once x y (_, a, can, c, t, l) (_, b, may, d, s, m) = let same = asked_once w ordered hands a b can may c d in λ k. ((t ∙ same.0 ∙ sym s) k, same.1 k, (l ∙ sym m) k)
-
-    tells_once : Once Tells
-    tells_once x y (s, p) (t, q) = let same = said_once w ordered hands s t in λ k. (same.0 k, (p ∙ sym q) k, same.1 k)
-
-    refuses_once : Once Refuses
-    refuses_once x y (f, why, p) (g, reason, q) = p ∙ (λ k. (refused (refused_once w ordered hands e f g why reason k), w, hands_after e hands)) ∙ sym q
-
-    left_once : Once (λ x. HasNone x ⊎ Has x)
-    left_once =
-        let said = either_once Tells Refuses tells_once refuses_once (λ x y s f. said_or_refused w ordered hands f.0 s.0 f.1) in
-        let made = either_once Makes (λ x. Tells x ⊎ Refuses x) makes_once said (λ x y m t. elim t [ inl s ↦ asks_no_say w ordered hands m.1 s.0 | inr f ↦ asked_or_refused w ordered hands f.0 m.1 m.2 f.1 ]) in
-        either_once HasNone Has (λ x y p q. p.1 ∙ sym q.1) (λ x y p q. made x y p.1 q.1) (λ x y p q. p.0 q.0)
+    -- an event has one answer
+    answers_once : (e : Event) {reply said : Reply} {u v : World} {left other : Hands} → Answers ⊥ w hands e reply u left → Answers ⊥ w hands e said v other
+        → (reply ≡ said) × (u ≡ v) × (left ≡ other)
+    answers_once e (no_hand none) (no_hand _) = (refl, refl, refl)
+    answers_once e (no_hand none) (makes has _ _ _ _) = absurd (none has)
+    answers_once e (no_hand none) (says has _) = absurd (none has)
+    answers_once e (no_hand none) (fails has _) = absurd (none has)
+    answers_once e (makes has _ _ _ _) (no_hand none) = absurd (none has)
+    answers_once e (makes _ a can c t) (makes _ b may d s) = let same = asked_once a b can may c d in (t ∙ same.0 ∙ sym s, same.1, refl)
+    answers_once e (makes _ a _ _ _) (says _ s) = absurd (asks_no_say a s)
+    answers_once e (makes _ a can _ _) (fails {f = f} _ why) = absurd (asked_or_refused f a can why)
+    answers_once e (says has _) (no_hand none) = absurd (none has)
+    answers_once e (says _ s) (makes _ a _ _ _) = absurd (asks_no_say a s)
+    answers_once e (says _ s) (says _ t) = let same = said_once s t in (same.0, refl, same.1)
+    answers_once e (says _ s) (fails {f = f} _ why) = absurd (said_or_refused f s why)
+    answers_once e (fails has _) (no_hand none) = absurd (none has)
+    answers_once e (fails {f = f} _ why) (makes _ a can _ _) = absurd (asked_or_refused f a can why)
+    answers_once e (fails {f = f} _ why) (says _ s) = absurd (said_or_refused f s why)
+    answers_once e (fails {f = f} _ why) (fails {f = g} _ reason) = (ap refused (refused_once e f g why reason), refl, refl)
+    answers_once e (no_memory starved) b = absurd starved
+    answers_once e a (no_memory starved) = absurd starved
 
 pub ordered_once : OrderedHasOneAnswer
-ordered_once w u v hands left other e reply said ordered a b =
-    let same = left_once w hands e ordered (reply, u, left) (said, v, other) (answer_left w hands e a) (answer_left w hands e b) in (ap (λ (x : Left). x.0) same, ap (λ (x : Left). x.1) same, ap (λ (x : Left). x.2) same)
+ordered_once w u v hands left other e reply said ordered a b = answers_once w ordered hands e a b
 
 pub events_once : EventsHaveOneAnswer
 events_once w u v hands left other e reply said r p q = ordered_once w u v hands left other e reply said (reached w hands r) p q

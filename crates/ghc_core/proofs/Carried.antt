@@ -1,5 +1,5 @@
 -- Notes and marks are dropped, woken and marked one after another.
-use Rattle.ghc_core.proofs.Words.{◌≡◌, ℕ, ◌+◌, ◌<◌, ◌≤◌, ◌⊎◌, false, cond, List, [], ◌∷◌, ◌++◌, length, take, get_or, refl, sym, ap, subst, ◌∙◌, inl, inr, arith, Some, None, is_some, keys_of, eq_by_cmp, take_more, take_all, length-map, get_or-map, VarName, GoalName, Tree, Goal, name_cmp, StoreValue, In, name_total, is_stream, goal_cmp, Goals, Unified as unified, goal_total, same_parts, NotesByGoal, Tries, AreSpared, AreWoken, goal_itself, goal_cases, goal_put, goal_taken, gone_here, gone_elsewhere, still_noted, spared_next, woken_next, with_makes, name, last_first, by_option, makes_at, own_made, IsGiven, IsBound, IsToTry, AreDropped, AreMarked, AreCarried, any_in, in_any, is_some-find, list_any}
+use Rattle.ghc_core.proofs.Words.{◌≡◌, ℕ, ◌+◌, ◌<◌, ◌≤◌, ◌⊎◌, false, List, [], ◌∷◌, ◌++◌, length, take, get_or, refl, sym, ap, subst, ◌∙◌, inl, inr, arith, Some, None, is_some, keys_of, eq_by_cmp, take_more, take_all, length-map, get_or-map, VarName, GoalName, Tree, Goal, name_cmp, StoreValue, In, name_total, is_stream, goal_cmp, Goals, Unified as unified, goal_total, same_parts, NotesByGoal, Tries, AreSpared, AreWoken, goal_itself, goal_cases, goal_put, goal_taken, gone_here, gone_elsewhere, still_noted, spared_next, woken_next, with_makes, name, last_first, by_option, makes_at, own_made, IsGiven, IsBound, IsToTry, AreDropped, AreMarked, AreCarried, any_in, in_any, is_some-find, list_any}
 use Rattle.std.specs.FinMap as finite
 use Rattle.std.specs.FinSet as set
 
@@ -94,17 +94,6 @@ made_within : (n : ℕ) (gs : List Goal) (g : GoalName) (b : Goal) → finite.ge
 made_within n gs g b e =
     own_made (record { number = n; goal = None; consumed = None; act = unified; effect = record { reads = set.empty; binds = finite.empty; makes = gs; fresh = 0 } }) g b e
 
--- no goals
-abbrev nothing : Goals
-nothing = finite.empty
-
-single_there : (n i : ℕ) (b : Goal) → finite.get (finite.insert nothing (name n i) b) (name n i) ≡ Some b
-single_there n i b = finite.get-insert goal_total nothing (name n i) b (name n i) ∙ ap (λ t. cond t (Some b) (finite.get nothing (name n i))) (goal_itself (name n i))
-
-single_only : (n i : ℕ) (b c : Goal) (g : GoalName) → finite.get (finite.insert nothing (name n i) b) g ≡ Some c → (g ≡ name n i) × (b ≡ c)
-single_only n i b c g e =
-    grind (arith, goal_cases g (name n i), single_there n i b, finite.get-insert goal_total nothing (name n i) b g, finite.get-empty {X = Goal} goal_cmp g)
-
 -- a goal more of those that a step made
 module _ (n : ℕ) (front : List Goal) (b : Goal) where
   at : (g : GoalName) → finite.get (with_makes n 1 (front ++ b ∷ []) finite.empty) g ≡ finite.get (with_makes n 1 front (finite.insert finite.empty (name n (1 + length front)) b)) g
@@ -113,12 +102,27 @@ module _ (n : ℕ) (front : List Goal) (b : Goal) where
   pub to_try_more : (g : GoalName) → IsToTry n (front ++ b ∷ []) g → IsToTry n front g ⊎ ((g ≡ name n (1 + length front)) × (is_stream b ≡ false))
   to_try_more g t =
       let last : Goals = finite.insert finite.empty (name n (1 + length front)) b in
-      grind (arith, at g, makes_at n 1 front last g, λ (c : Goal). single_only n (1 + length front) b c g)
+      grind (
+        arith,
+        at g,
+        makes_at n 1 front last g,
+        goal_cases g (name n (1 + length front)),
+        finite.get-insert goal_total finite.empty (name n (1 + length front)) b g,
+        finite.get-empty {X = Goal} goal_cmp g,
+        goal_itself g,
+      )
 
   pub more_to_try : (g : GoalName) → IsToTry n front g ⊎ ((g ≡ name n (1 + length front)) × (is_stream b ≡ false)) → IsToTry n (front ++ b ∷ []) g
   more_to_try g t =
       let last : Goals = finite.insert finite.empty (name n (1 + length front)) b in
-      grind (arith, at g, makes_at n 1 front last g, single_there n (1 + length front) b, λ (c : Goal). made_within n front g c)
+      grind (
+        arith,
+        at g,
+        makes_at n 1 front last g,
+        finite.get-insert goal_total finite.empty (name n (1 + length front)) b g,
+        goal_itself g,
+        λ (c : Goal). made_within n front g c,
+      )
 
 -- nothing made is nothing to try
 pub none_to_try : (n : ℕ) (g : GoalName) → ¬ IsToTry n [] g
@@ -148,16 +152,13 @@ carried Gone T Come old one two new dropped spared woken marked =
         λ k. elim ((marked.untried g).0 k) [
           | inl a ↦ elim ((woken g).0 a) [
             | inl b ↦ let d = (dropped.untried g).0 b in inl (d.1, inl d.0)
-            | inr p ↦
-                let l = p.2 in
-                let d = (dropped.notes g l.0).0 l.1 in
-                inl (d.1, inr (p.0, p.1, (l.0, d.0, l.2)))
+            | inr (x, t, (n, e, l)) ↦ let d = (dropped.notes g n).0 e in inl (d.1, inr (x, t, (n, d.0, l)))
           ]
           | inr c ↦ inr c
         ],
         λ k. (marked.untried g).1 (elim k [
           | inl (stays, inl a) ↦ inl ((woken g).1 (inl ((dropped.untried g).1 (a, stays))))
-          | inl (stays, inr p) ↦ let l = p.2 in inl ((woken g).1 (inr (p.0, p.1, (l.0, (dropped.notes g l.0).1 (l.1, stays), l.2))))
+          | inl (stays, inr (x, t, (n, e, l))) ↦ inl ((woken g).1 (inr (x, t, (n, (dropped.notes g n).1 (e, stays), l))))
           | inr c ↦ inr c
         ]),
       );

@@ -23,9 +23,6 @@ module _ (w : World) where
     pub no_hand_proposed : (g : GoalName) (choice : Option ℕ) {f : Fault} → ¬ IsHand hands h → IsNotProposedAnyway w hands h g choice f → refused Fault.Command ≡ refused f
     no_hand_proposed g choice none fails = grind arith
 
-    pub no_hand_committed : {f : Fault} → ¬ IsHand hands h → IsNotCommittedAnyway w hands h f → refused Fault.Command ≡ refused f
-    no_hand_committed none fails = grind arith
-
     -- what an attempt is refused for, whatever memory is left
     pub attempt_refused_anyway : (g : GoalName) (choice : Option ℕ) (result : Result Proposal Fault) {f : Fault} → IsHand hands h → (AttemptAnswers w g choice (attempt.refused Fault.NoGoal) → result ≡ Err Fault.NoGoal)
         → (AttemptAnswers w g choice (attempt.refused Fault.NoClause) → result ≡ Err Fault.NoClause) → IsNotProposedAnyway w hands h g choice f → result ≡ Err f
@@ -35,15 +32,7 @@ module _ (w : World) where
     pub holds_no_goal : {f : Fault} → IsHand hands h → IsNotCommittedAnyway w hands h f → IsToldWhere Fault.Stale (HoldsNoGoal w hands h) f
     holds_no_goal i fails = grind arith
 
-    -- a hand that holds nothing, and one that holds a proposal
-    pub empty_hand_committed : {f : Fault} → IsHand hands h → finite.get hands.held h ≡ None → IsNotCommittedAnyway w hands h f → refused Fault.Stale ≡ refused f
-    empty_hand_committed i none fails = ap refused (sym (holds_no_goal i fails).0)
-
     -- the goal of the proposal that the hand holds is gone
     pub held_gone : (p : Proposal) → finite.get hands.held h ≡ Some p → HoldsNoGoal w hands h → finite.get w.state.goals p.goal ≡ None
     held_gone p held (inl none) = absurd (has_not held none)
     held_gone p held (inr (q, here, gone)) = subst (λ (x : Proposal). finite.get w.state.goals x.goal ≡ None) (value_once here held) gone
-
-    pub commit_refused_anyway : (p : Proposal) (result : Result ℕ Fault) {f : Fault} → IsHand hands h → finite.get hands.held h ≡ Some p → (finite.get w.state.goals p.goal ≡ None → result ≡ Err Fault.Stale)
-        → IsNotCommittedAnyway w hands h f → result ≡ Err f
-    commit_refused_anyway p result i held gone fails = let is = holds_no_goal i fails in gone (held_gone p held is.1) ∙ ap (λ (x : Fault). Err x) (sym is.0)

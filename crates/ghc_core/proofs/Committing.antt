@@ -1,5 +1,5 @@
 -- Proposals that hold: what an attempt would propose, the step that they become, and the one answer of a commit.
-use Rattle.ghc_core.proofs.Words.{◌≡◌, false, ℕ, refl, sym, ap, ◌∙◌, subst, inl, inr, Some, None, Option, VarName, GoalName, Fault, Tree, Goal, call, unify, assign, stream, IsAcyclic, value_at, exact, Program, is_stream, Act, ByClause as by_clause, Unified as unified, Assigned as assigned, Given as given, Closed as closed, Effect, HasEffect, no_step, under, Answer, proposes, CallAnswers, ChoiceAnswers, UnificationAnswers, AssignmentAnswers, Attempts, effect_once, attempt_once, effect_under, same_act, same_effect, same_fault, apart, Record, World, HasRoom, AttemptAnswers, IsReduction, StillHolds, IsCommitOf, IsStepOf, ProposesInFull, StepFails, IsStanding, choice_of, CommitIsExact, StepIsExact, StreamStepIsExact}
+use Rattle.ghc_core.proofs.Words.{◌≡◌, false, ℕ, arith, refl, sym, ap, ◌∙◌, subst, inl, inr, Some, None, Option, VarName, GoalName, Fault, Tree, Goal, call, unify, assign, stream, IsAcyclic, value_at, exact, Program, is_stream, Act, ByClause as by_clause, Unified as unified, Assigned as assigned, Effect, HasEffect, no_step, under, Answer, proposes, CallAnswers, ChoiceAnswers, UnificationAnswers, AssignmentAnswers, Attempts, effect_once, attempt_once, effect_under, same_act, same_effect, same_fault, apart, Record, World, HasRoom, AttemptAnswers, IsReduction, StillHolds, IsCommitOf, IsStepOf, ProposesInFull, StepFails, IsStanding, choice_of, CommitIsExact, StepIsExact, StreamStepIsExact}
 use Rattle.std.specs.FinMap as finite
 use Rattle.ghc_fire.specs.Proposal.{Proposal}
 use Rattle.ghc_fire.specs.Attempt.{refused}
@@ -14,9 +14,7 @@ attempted : (P : Program) (S : VarName → Option Tree) (b : Goal) (a : Act) (e 
 attempted P S (call f ts) (by_clause k) e r h = ChoiceAnswers.by_choice h
 attempted P S (unify l r) unified e _ h = UnificationAnswers.solves h
 attempted P S (assign t a) assigned e r h = AssignmentAnswers.assigns h
-attempted P S b (given u) e r h = absurd r
-attempted P S b closed e r h = absurd r
-attempted P S b a e r h = absurd h
+attempted P S b a e r h = grind arith
 
 -- A proposal that still holds is what an attempt at its goal proposes.
 pub still_proposed : (w : World) (p : Proposal) → StillHolds w p → AttemptAnswers w p.goal (choice_of p.act) (proposes p.act p.effect)
@@ -24,12 +22,9 @@ still_proposed w p h =
     subst (λ o. Attempts w.opening.program (value_at w.state.store) o (choice_of p.act) (proposes p.act p.effect)) (sym h.2)
     (attempted w.opening.program (value_at w.state.store) h.0 p.act p.effect h.1 h.3)
 
--- the act is a reduction that has this effect on the goal, under any number
-abbrev IsReducedBy : Program → (VarName → Option Tree) → Goal → Act → Effect → Type 0
-IsReducedBy P S b a e = HasEffect P b a no_step S e × IsReduction a
-
 -- what an attempt proposes has its effect, and is a reduction
-proposed : (P : Program) (S : VarName → Option Tree) (b : Goal) (choice : Option ℕ) (a : Act) (e : Effect) → Attempts P S (Some b) choice (proposes a e) → IsReducedBy P S b a e
+proposed : (P : Program) (S : VarName → Option Tree) (b : Goal) (choice : Option ℕ) (a : Act) (e : Effect) → Attempts P S (Some b) choice (proposes a e)
+    → HasEffect P b a no_step S e × IsReduction a
 proposed P S (call f ts) None a e (CallAnswers.by_least l d) = (d, tt)
 proposed P S (call f ts) (Some k) a e (ChoiceAnswers.by_choice d) = (d, tt)
 proposed P S (unify l r) None a e (UnificationAnswers.solves d) = (d, tt)
@@ -49,9 +44,7 @@ answered_holds w p choice b there t = let h = proposed_holds w p.goal choice b p
 
 -- a goal that a reduction has an effect on is no stream goal
 pub no_stream : (P : Program) (b : Goal) (a : Act) (n : ℕ) (S : VarName → Option Tree) (e : Effect) → IsReduction a → HasEffect P b a n S e → is_stream b ≡ false
-no_stream P (stream k x) (given u) n S e r h = absurd r
-no_stream P (stream k x) closed n S e r h = absurd r
-no_stream P (stream k x) a n S e r h = absurd h
+no_stream P (stream k x) a n S e r h = grind arith
 no_stream P b a n S e r h = refl
 
 -- A proposal that still holds is committed, where there is room, as this next step.
@@ -76,9 +69,6 @@ module _ (w : World) (acyclic : IsAcyclic (value_at w.state.store)) where
   pub same_again : (p : Proposal) (a : Act) (e : Effect) → StillHolds w p → AttemptAnswers w p.goal (choice_of p.act) (proposes a e) → (a ≡ p.act) × (e ≡ p.effect)
   same_again p a e holds t = let same = one_answer p.goal (choice_of p.act) t (still_proposed w p holds) in (same_act same, same_effect same)
 
-  one_commit : (p : Proposal) (r s : Record) → IsCommitOf w p r → IsCommitOf w p s → r ≡ s
-  one_commit p r s c d = stepping.step_once effect_once w acyclic r s p.goal c.1 d.1 c.2 d.2 (c.3 ∙ sym d.3)
-
   one_step : (g : GoalName) (choice : Option ℕ) (r s : Record) → IsStepOf w g choice r → IsStepOf w g choice s → r ≡ s
   one_step g choice r s (p, named, t, c) (q, called, u, d) =
       stepping.step_once effect_once w acyclic r s g c.1 d.1 (c.2 ∙ ap Some named) (d.2 ∙ ap Some called) (c.3 ∙ same_act (one_answer g choice t u) ∙ sym d.3)
@@ -100,7 +90,8 @@ module _ (w : World) (acyclic : IsAcyclic (value_at w.state.store)) where
 -- What is answered for a commit in a reachable world is exact.
 pub commit_exact : CommitIsExact
 commit_exact w hands p result reachable answer =
-    exact (one_commit w (known w hands reachable).acyclic p) (λ f g h k. commit_fails_once h k) (λ r f c d. stepping.commit_or_fail w r c d) result answer
+    exact (λ r s c d. stepping.step_once effect_once w (known w hands reachable).acyclic r s p.goal c.1 d.1 c.2 d.2 (c.3 ∙ sym d.3))
+    (λ f g h k. commit_fails_once h k) (λ r f c d. stepping.commit_or_fail w r c d) result answer
 
 -- What is answered for a step in a reachable world is exact.
 pub step_exact : StepIsExact

@@ -1,5 +1,5 @@
 -- In a world that is reached the journal tells what is kept and what is on the shelf.
-use Rattle.ghc_core.proofs.Words.{◌≡◌, List, [], ◌∷◌, ◌++◌, map, refl, sym, ap, ◌∙◌, subst, in_left, Program, Query, AreDistinct, State, Record, numbers, query_state, Replays, Opening, Entry, took, undid, step_of, numbers_append, Keeps, IsSplitAt, with_shelved, runs_split, distinct_left, World, with_step, Opens, Change, Comes as comes, Goes as goes, Reorders as reorders, Coming, Going, CanChange, Changes, all_gone, Reaches, from_opening, by_change}
+use Rattle.ghc_core.proofs.Words.{◌≡◌, List, [], ◌∷◌, ◌++◌, map, refl, sym, ap, ◌∙◌, subst, in_left, Program, Query, State, Record, numbers, query_state, Replays, Opening, Entry, took, undid, step_of, numbers_append, Keeps, IsSplitAt, with_shelved, runs_split, distinct_left, map-append, World, with_step, Opens, Change, Comes as comes, Goes as goes, Reorders as reorders, Coming, Going, CanChange, Changes, all_gone, Reaches, from_opening, by_change}
 use Rattle.std.proofs.lemmas.List.{append-nil, append_assoc}
 use Rattle.std.specs.FinMap as finite
 use Rattle.ghc_core.proofs.Alone.{others_left}
@@ -9,16 +9,13 @@ use Rattle.ghc_core.proofs.Replayed.{Replayed, replayed}
 abbrev pub Tells : World → Type 0
 Tells w = Keeps w.opening w.journal w.kept w.shelf
 
-distinct_front : (xs ys : List Record) → AreDistinct (numbers (xs ++ ys)) → AreDistinct (numbers xs)
-distinct_front xs ys d = distinct_left (numbers xs) (numbers ys) (subst AreDistinct (numbers_append xs ys) d)
-
 -- the first of the steps replay
 front_replays : (P : Program) (query : Query) (xs ys : List Record) (t : State) → Replays P query (xs ++ ys) t → (m : State) × Replays P query xs m
 front_replays P query xs ys t run =
     let split = runs_split P xs ys (query_state query) t run.1 in (
       split.0,
       (
-        ((λ r i. run.0.0 r (in_left xs ys r i)), distinct_front xs ys run.0.1),
+        ((λ r i. run.0.0 r (in_left xs ys r i)), distinct_left (numbers xs) (numbers ys) (rw numbers_append at run.0.1)),
         split.1,
         λ before behind r e x n. run.2 before (behind ++ ys) r (ap (λ l. l ++ ys) e ∙ append_assoc before (r ∷ behind) ys) x n,
       ),
@@ -28,18 +25,14 @@ front_replays P query xs ys t run =
 abbrev taken : List Record → List Entry
 taken rs = map took (map step_of rs)
 
-taken_push : (rs : List Record) (r : Record) → taken (rs ++ r ∷ []) ≡ taken rs ++ took (step_of r) ∷ []
-taken_push [] r = refl
-taken_push (q ∷ rs) r = ap (λ es. took (step_of q) ∷ es) (taken_push rs r)
-
 -- steps that replay were taken one after another
 loaded : (o : Opening) (front behind : List Record) (t : State) → Replays o.program o.query (front ++ behind) t → Keeps o (taken front) front finite.empty → Keeps o (taken (front ++ behind)) (front ++ behind) finite.empty
 loaded o front [] t run k = subst (λ rs. Keeps o (taken rs) rs finite.empty) (sym (append-nil front)) k
 loaded o front (r ∷ behind) t run k =
     let same : (front ++ r ∷ []) ++ behind ≡ front ++ r ∷ behind = append_assoc front (r ∷ []) behind in
-    let whole : Replays o.program o.query ((front ++ r ∷ []) ++ behind) t = subst (λ rs. Replays o.program o.query rs t) (sym same) run in
+    let whole : Replays o.program o.query ((front ++ r ∷ []) ++ behind) t = rw same run in
     let first = front_replays o.program o.query (front ++ r ∷ []) behind t whole in
-    let next : Keeps o (taken (front ++ r ∷ [])) (front ++ r ∷ []) finite.empty = subst (λ es. Keeps o es (front ++ r ∷ []) finite.empty) (sym (taken_push front r)) (Keeps.step r first.0 k first.1) in
+    let next : Keeps o (taken (front ++ r ∷ [])) (front ++ r ∷ []) finite.empty = simp map-append (Keeps.step r first.0 k first.1) in
     subst (λ rs. Keeps o (taken rs) rs finite.empty) same (loaded o (front ++ r ∷ []) behind t whole next)
 
 opened_tells : (o : Opening) (w : World) → Opens o w → Tells w

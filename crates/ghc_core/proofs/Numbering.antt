@@ -1,5 +1,5 @@
 -- What a hand holds is judged alike as the next step and under the number that no step has.
-use Rattle.ghc_core.proofs.Words.{◌≡◌, ℕ, ◌<◌, ◌≤◌, ◌⊎◌, ◌==◌, List, map, refl, sym, ap, ◌∙◌, subst, inl, inr, arith, Some, None, if◌then◌else◌, nat_cmp, nat_cmp_total, VarName, GoalName, Tree, variable, Goal, In, value_at, replace, made, replace_in_goal, Act, Effect, HasEffect, no_step, numbered, under, variables_come, effect_once, effect_each, effect_under, IsVariableOf, Hands, with_hand, emptied, World, Event, propose, commit, note, command, Reply, hands_after, Says, Answers, no_hand, makes, says, fails, no_memory, IsReachable, at_opening, by_event, with_other_hands, goals_twice, in_goals, same_goals, ne_eqb, eqb_tells}
+use Rattle.ghc_core.proofs.Words.{◌≡◌, ℕ, ◌<◌, ◌≤◌, ◌⊎◌, ◌==◌, List, map, refl, sym, ap, ◌∙◌, subst, inl, inr, arith, Some, None, if◌then◌else◌, nat_cmp, nat_cmp_total, VarName, GoalName, Tree, variable, Goal, In, value_at, replace, made, replace_in_goal, Act, Effect, HasEffect, no_step, numbered, under, variables_come, effect_once, effect_each, effect_under, IsVariableOf, Hands, with_hand, emptied, World, Event, commit, Reply, hands_after, Says, Answers, no_hand, makes, says, IsReachable, at_opening, by_event, with_other_hands, goals_twice, in_goals, same_goals, ne_eqb, eqb_tells}
 use Rattle.std.proofs.Common.{eq-eqb}
 use Rattle.std.specs.FinMap as finite
 use Rattle.ghc_term.specs.Variables.{variables_of_goals}
@@ -23,16 +23,10 @@ AreOld n xs = (x : VarName) → In x xs → IsOld n x
 abbrev back : ℕ → VarName → Tree
 back n x = if x.step == n then variable (made no_step x.place) else variable x
 
-back_own : (n i : ℕ) → back n (made n i) ≡ variable (made no_step i)
-back_own n i = ap (λ b. if b then variable (made no_step i) else variable (made n i)) (eq-eqb n n refl)
-
-back_other : (n : ℕ) (x : VarName) → (x.step ≡ n → ⊥) → back n x ≡ variable x
-back_other n x other = rw (ne_eqb x.step n other) refl
-
 back_variable : (n : ℕ) (x : VarName) → IsOld n x → replace (back n) (numbered n x) ≡ variable x
 back_variable n x old = elim (eqb_tells x.step no_step) [
-  | inl (e, p) ↦ rw e (back_own n x.place ∙ ap (λ s. variable (made s x.place)) (sym p))
-  | inr (e, p) ↦ rw e (back_other n x (λ own. elim old [ inl less ↦ omega arith | inr same ↦ p same ]))
+  | inl (e, p) ↦ rw (e, eq-eqb n n refl) (ap (λ s. variable (made s x.place)) (sym p))
+  | inr (e, p) ↦ rw (e, ne_eqb x.step n (λ own. elim old [ inl less ↦ omega arith | inr same ↦ p same ]))
 ]
 
 -- goals of such variables, numbered and put back, are as they were
@@ -83,28 +77,21 @@ held_or : (hands : Hands) (k : ℕ) (q : Proposal) (h : ℕ) (p : Proposal) → 
 held_or hands k q h p e = grind (arith, finite.get-insert nat_cmp_total hands.held k q h)
 
 module _ (w : World) (hands : Hands) (r : IsReachable w hands) (old : HoldsOld w hands) where
-  said_old : (e : Event) (reply : Reply) (left : Hands) → Says w hands e reply left → HoldsOld w left
-  said_old e reply left (Says.holds {h = k} {g = g} {choice = choice} q is) h p got = elim (held_or hands k q h p got) [
-    | inl new ↦ subst (λ (x : Proposal). AreOld w.next (variables_of_goals x.effect.makes)) new
-        (makes_old w hands r g q.consumed q.act q.effect is.there (proposed_holds w g choice q.consumed q.act q.effect is.there is.proposed).0)
-    | inr kept ↦ old h p kept
-  ]
-  said_old e reply left (Says.tells status) h p got = old h p got
-
   -- what a hand holds after an event that gives it nothing, it held before
   held_before : (e : Event) (h : ℕ) (p : Proposal) → finite.get (hands_after e hands).held h ≡ Some p → finite.get hands.held h ≡ Some p
-  held_before (propose k g choice) h p got = got
   held_before (commit k) h p got = still_held hands k h p got
-  held_before (note g) h p got = got
-  held_before (command c) h p got = got
+  held_before e h p got = got
 
   answered_old : (e : Event) (reply : Reply) (v : World) (left : Hands) → Answers (Unit {0}) w hands e reply v left → HoldsOld v left
   answered_old e reply v left (no_hand missing) h p got = old h p got
   answered_old e reply v left (makes {change = change} has asks can changes told) h p got =
       later w.next v.next (variables_of_goals p.effect.makes) (next_goes_on w v (inr (change, can, changes))) (old h p (held_before e h p got))
-  answered_old e reply v left (says has said) h p got = said_old e reply left said h p got
-  answered_old e reply v left (fails has f) h p got = old h p (held_before e h p got)
-  answered_old e reply v left (no_memory starved) h p got = old h p (held_before e h p got)
+  answered_old e reply v left (says has (Says.holds {h = k} {g = g} {choice = choice} q is)) h p got = elim (held_or hands k q h p got) [
+    | inl new ↦ rw new at
+        (makes_old w hands r g q.consumed q.act q.effect is.there (proposed_holds w g choice q.consumed q.act q.effect is.there is.proposed).0)
+    | inr kept ↦ old h p kept
+  ]
+  answered_old e reply v left a h p got = old h p (held_before e h p got)
 
 held_old : {w : World} {hands : Hands} → IsReachable w hands → HoldsOld w hands
 held_old (at_opening {hands = hands} sound opens empty) h p got = absurd (nothing_held hands h p empty got)

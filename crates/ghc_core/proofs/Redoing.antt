@@ -1,5 +1,5 @@
 -- What an undo or a rollback took away can be redone, which gives back the old state.
-use Rattle.ghc_core.proofs.Words.{◌≡◌, ℕ, ◌+◌, ◌≤◌, false, cond, List, [], ◌∷◌, ◌++◌, map, length, refl, sym, ap, ◌∙◌, subst, subst₂, inl, inr, arith, Some, None, length-append, eq_by_cmp, is_eq, nat_cmp, nat_cmp_total, tied_itself, In, in_either, kept_limit, AreDistinct, State, Record, numbers, Shelf, query_state, Runs, NameWhatIsKnown, Entry, number_in, records_distinct, run_once, GoesWith, IsClosedUnder, IsPartedBy, with_shelved, both_distinct, come_back, split_closed, no_longer, picks_in, picks_distinct, same_number, runs_split, Change, Comes as comes, Goes as goes, Reorders as reorders, Coming, all_gone, Hands, World, IsReplay, with_coming, entry_of_going, without_steps, CanChange, Changes, Command, redo, command, stepped, undone, to_redo, told_of, Obeys, does, AnswersEach, false_from_ne_true}
+use Rattle.ghc_core.proofs.Words.{◌≡◌, ℕ, ◌+◌, ◌≤◌, List, [], ◌∷◌, ◌++◌, map, length, refl, sym, subst, inl, inr, arith, Some, length-append, nat_cmp_total, In, in_either, kept_limit, AreDistinct, State, Record, numbers, Shelf, query_state, Runs, NameWhatIsKnown, Entry, number_in, records_distinct, run_once, GoesWith, IsClosedUnder, IsPartedBy, with_shelved, both_distinct, come_back, split_closed, no_longer, picks_in, picks_distinct, runs_split, Change, Comes as comes, Goes as goes, Coming, all_gone, Hands, World, IsReplay, with_coming, entry_of_going, without_steps, CanChange, Changes, Command, redo, command, stepped, undone, to_redo, told_of, Obeys, does, AnswersEach}
 use Rattle.std.proofs.lemmas.List.{append_assoc}
 use Rattle.std.specs.FinMap as finite
 use Rattle.ghc_core.specs.Returns as laws
@@ -7,19 +7,12 @@ use Rattle.ghc_core.proofs.Moving.{obeyed_answers, reachable_reached}
 use Rattle.ghc_core.proofs.Reaching.{Good, reached_good}
 use Rattle.ghc_core.proofs.Replayed.{Replayed, replayed}
 
-number_apart : (m n : ℕ) → ¬ (m ≡ n) → eq_by_cmp nat_cmp m n ≡ false
-number_apart m n apart = false_from_ne_true (eq_by_cmp nat_cmp m n) (λ p. apart (same_number m n p))
-
 -- each of the steps put on the shelf is there
 on_shelf : (gone : List Record) (shelf : Shelf) → AreDistinct (numbers gone) → (r : Record) → In r gone → finite.get (with_shelved gone shelf) r.number ≡ Some r
 on_shelf [] shelf d r i = absurd i
-on_shelf (s ∷ gone) shelf d r (inl e) =
-    subst (λ (z : Record). finite.get (with_shelved (s ∷ gone) shelf) z.number ≡ Some z) (sym e)
-    (finite.get-insert nat_cmp_total (with_shelved gone shelf) s.number s s.number ∙ ap (λ b. cond b (Some s) (finite.get (with_shelved gone shelf) s.number)) (ap is_eq (tied_itself nat_cmp_total s.number)))
+on_shelf (s ∷ gone) shelf d r (inl e) = grind (arith, finite.get-insert nat_cmp_total (with_shelved gone shelf) s.number s r.number)
 on_shelf (s ∷ gone) shelf d r (inr i) =
-    finite.get-insert nat_cmp_total (with_shelved gone shelf) s.number s r.number
-    ∙ ap (λ b. cond b (Some s) (finite.get (with_shelved gone shelf) r.number)) (number_apart r.number s.number (λ e. d.0 (subst (λ n. In n (numbers gone)) e (number_in gone r i))))
-    ∙ on_shelf gone shelf d.1 r i
+    grind (arith, d.0, number_in gone r i, finite.get-insert nat_cmp_total (with_shelved gone shelf) s.number s r.number, on_shelf gone shelf d.1 r i)
 
 -- steps that are on the shelf and run from here are redone one after another
 redo_each : (hands : Hands) (rest : List Record) (x : World) (goal : State) → Runs x.opening.program x.state rest goal → ((r : Record) → In r rest → finite.get x.shelf r.number ≡ Some r)
@@ -29,18 +22,15 @@ redo_each hands [] x goal run on d l named = (x, (refl, refl), sym run)
 redo_each hands (r ∷ rest) x goal run on d l named =
     let y = with_coming Coming.Shelved r x in
     let longer : length (x.kept ++ r ∷ []) ≡ length x.kept + 1 = length-append x.kept (r ∷ []) in
-    let next = redo_each hands rest y goal run.1 (λ s i.
-    finite.get-remove nat_cmp_total x.shelf r.number s.number
-    ∙ ap (λ b. cond b None (finite.get x.shelf s.number)) (number_apart s.number r.number (λ e. d.0 (subst (λ n. In n (numbers rest)) e (number_in rest s i))))
-    ∙ on s (inr i)) d.1 (omega arith) (subst (NameWhatIsKnown x.opening.query) (sym (append_assoc x.kept (r ∷ []) rest)) named) in
+    let left : (s : Record) → In s rest → finite.get y.shelf s.number ≡ Some s =
+    λ s i. grind (arith, d.0, number_in rest s i, finite.get-remove nat_cmp_total x.shelf r.number s.number, on s (inr i)) in
+    let next = redo_each hands rest y goal run.1 left d.1 (omega arith)
+    (subst (NameWhatIsKnown x.opening.query) (sym (append_assoc x.kept (r ∷ []) rest)) named) in
     (next.0, (y, hands, obeyed_answers hands (does {change = comes Coming.Shelved r} (to_redo refl) (on r (inl refl), run.0, omega arith, named x.kept rest r refl) refl refl), next.1), next.2)
 
 -- the steps of these numbers are redone from v on, which leaves the state of w
 abbrev Redone : World → World → Hands → List ℕ → Type 0
 Redone w v hands ns = (u : World) × AnswersEach (λ i. ⊥) v hands (map (λ m. command (redo m)) ns) (map stepped ns) u hands × (u.state ≡ w.state)
-
-same_list : {ms ns : List ℕ} → undone ms ≡ undone ns → ms ≡ ns
-same_list e = cc
 
 module _ (w : World) (good : Good w) (h : Replayed w) where
   -- steps that are closed under consequences
@@ -50,13 +40,9 @@ module _ (w : World) (good : Good w) (h : Replayed w) where
 
     short : length left + length gone ≤ kept_limit
     short =
-        let l = no_longer (left ++ gone) w.kept (records_distinct (left ++ gone) distinct) (λ r i. elim (in_either left gone r i) [
-          | inl j ↦ (picks_in w.kept left r parts.1 j).0
-          | inr j ↦ (picks_in w.kept gone r parts.0 j).0
-        ]) in
-        let both : length (left ++ gone) ≡ length left + length gone = length-append left gone in
-        let limit = h.few in
-        omega arith
+        let l = no_longer (left ++ gone) w.kept (records_distinct (left ++ gone) distinct)
+        (λ r i. grind (arith, in_either left gone r i, picks_in w.kept left r parts.1, picks_in w.kept gone r parts.0)) in
+        omega (arith, l, length-append left gone, h.few)
 
     back : Redone w (without_steps gone left t entry w) hands (numbers gone)
     back =
@@ -68,11 +54,12 @@ module _ (w : World) (good : Good w) (h : Replayed w) where
 
   -- a change that is told as steps undone took these away
   redo_changed : (hands : Hands) (ns : List ℕ) (v : World) (change : Change) → CanChange w change → Changes w change v → undone ns ≡ told_of change → Redone w v hands ns
-  redo_changed hands ns v (comes from r) can e told = cc
   redo_changed hands ns v (goes how gone) can (left, split, (t, run, e)) told =
-      subst₂ (λ z ms. Redone w z hands ms) (sym e) (sym (same_list told))
-      (back (GoesWith w.kept gone.first) (all_gone gone) left split (split_closed w.kept good.kept_once gone.first can.0) t run (entry_of_going how gone.first) hands)
-  redo_changed hands ns v (reorders a) can e told = cc
+      let same : ns ≡ numbers (all_gone gone) = cc in
+      rw (e, same)
+      (back (GoesWith w.kept gone.first) (all_gone gone) left split (split_closed w.kept good.kept_once gone.first can.0)
+      t run (entry_of_going how gone.first) hands)
+  redo_changed hands ns v change can e told = cc
 
   redo_obeyed : (hands : Hands) (ns : List ℕ) (v : World) (c : Command) → Obeys (Unit {0}) w c (undone ns) v → Redone w v hands ns
   redo_obeyed hands ns v c (does {change = change} asks can changes told) = redo_changed hands ns v change can changes told

@@ -1,5 +1,5 @@
 -- What a core replies to commands and notes is the answer of the definitions.
-use Rattle.ghc_core.proofs.Words.{◌≡◌, ◌⊎◌, ℕ, refl, sym, ap, ◌∙◌, subst, subst₂, inl, inr, Some, None, Option, false, GoalName, Fault, Goal, call, unify, assign, stream, value_at, is_stream, Status, failed, HasStatus, Note, Proposal, Hands, IsHand, with_hand, emptied, World, IsCommitted, Command, propose, commit, Reply, held, stepped, noted, refused, IsNoteOf, Fails, Obeys, refuses, starves, by_hand, Says, Answers, makes, says, fails, no_memory, IsCauseOfFailure}
+use Rattle.ghc_core.proofs.Words.{◌≡◌, ◌⊎◌, ℕ, refl, sym, ap, ◌∙◌, subst, inl, inr, Some, None, Option, false, GoalName, Fault, Goal, call, unify, assign, stream, value_at, is_stream, Status, failed, HasStatus, Note, Proposal, Hands, IsHand, with_hand, emptied, World, IsCommitted, Command, propose, commit, held, stepped, noted, refused, IsNoteOf, Fails, Obeys, refuses, starves, by_hand, Says, Answers, makes, says, fails, no_memory, IsCauseOfFailure}
 use Rattle.std.specs.FinMap as finite
 use Rattle.ghc_fire.specs.Attempt as attempt
 use Rattle.ghc_core.specs.Proposes as asking
@@ -16,10 +16,7 @@ Why Fails f = (f ≡ Fault.Memory) ⊎ Fails f
 module _ (w : World) where
   -- a command that is refused, for want of memory or for what is told
   pub not_obeyed : (c : Command) (f : Fault) (v : World) → Why (Fails w c) f → v ≡ w → Obeys Unknown w c (refused f) v
-  not_obeyed c f v why same = subst (Obeys Unknown w c (refused f)) (sym same) (elim why [
-    | inl m ↦ subst (λ g. Obeys Unknown w c (refused g) w) (sym m) (starves tt)
-    | inr o ↦ refuses o
-  ])
+  not_obeyed c f v why same = rw same (elim why [ inl m ↦ rw m (starves tt) | inr o ↦ refuses o ])
 
   -- a goal that is no stream goal and of which an attempt with no clause chosen is refused waits, or that is why it fails
   refusal_is : (f : Fault) (b : Goal) → is_stream b ≡ false → attempt.Attempts w.opening.program (value_at w.state.store) (Some b) None (attempt.refused f) → (f ≡ Fault.Waits) ⊎ IsCauseOfFailure f
@@ -33,12 +30,10 @@ module _ (w : World) where
   refusal_is f (stream k s) plain a = cc
 
   failure_is : (f : Fault) (b : Goal) (s : Status) → is_stream b ≡ false → HasStatus w.opening.program (value_at w.state.store) b s → s ≡ failed f → IsCauseOfFailure f
-  failure_is f b s plain (HasStatus.is_ready act e t) same = cc
-  failure_is f b s plain (HasStatus.is_waiting t is) same = cc
   failure_is f b s plain (HasStatus.is_failed {f = g} not t waits) same =
       let one : g ≡ f = cc in
       subst IsCauseOfFailure one (elim (refusal_is g b plain t) [ inl e ↦ absurd (waits e) | inr c ↦ c ])
-  failure_is f b s plain (HasStatus.is_stream_goal e) same = cc
+  failure_is f b s plain h same = cc
 
   -- what a note says of why its goal fails, and what is told of it
   pub note_failure : (g : GoalName) (n : Note) → IsNoteOf w g n → (f : Fault) → n.status ≡ failed f → IsCauseOfFailure f
@@ -47,14 +42,10 @@ module _ (w : World) where
   pub note_told_so : (g : GoalName) (n : Note) (s : Status) → IsNoteOf w g n → s ≡ n.status → asking.Notes Unknown w g (noted g s)
   note_told_so g n s (b, candidate, exact) same = asking.Notes.tells (b, candidate.0, candidate.1, subst (HasStatus w.opening.program (value_at w.state.store) b) (sym same) exact.0)
 
-  note_told : (g : GoalName) (reply : Reply) → asking.Notes ⊥ w g reply → asking.Notes Unknown w g reply
-  note_told g reply (asking.Notes.tells status) = asking.Notes.tells status
-  note_told g reply (asking.Notes.no_goal n) = asking.Notes.no_goal n
-  note_told g reply (asking.Notes.no_memory m) = absurd m
-
   pub note_refused : (g : GoalName) (f : Fault) → Why (λ f. asking.Notes ⊥ w g (refused f)) f → asking.Notes Unknown w g (refused f)
-  note_refused g f (inl m) = subst (λ h. asking.Notes Unknown w g (refused h)) (sym m) (asking.Notes.no_memory tt)
-  note_refused g f (inr n) = note_told g (refused f) n
+  note_refused g f (inl m) = rw m (asking.Notes.no_memory tt)
+  note_refused g f (inr (asking.Notes.no_goal n)) = asking.Notes.no_goal n
+  note_refused g f (inr (asking.Notes.no_memory m)) = absurd m
 
   module _ (hands : Hands) (h : ℕ) (has : IsHand hands h) where
     -- the hand holds what an attempt proposes
@@ -78,7 +69,7 @@ module _ (w : World) where
     pub hand_gives_up : (p : Proposal) (f : Fault) (v : World) (left : Hands) → finite.get hands.held h ≡ Some p → Why (asking.CommitFails w p) f → v ≡ w → left ≡ emptied h hands
         → Answers Unknown w hands (commit h) (refused f) v left
     hand_gives_up p f v left there why stays same =
-        subst₂ (λ u l. Answers Unknown w hands (commit h) (refused f) u l) (sym stays) (sym same) (elim why [
-          | inl m ↦ subst (λ e. Answers Unknown w hands (commit h) (refused e) w (emptied h hands)) (sym m) (no_memory tt)
+        rw (stays, same) (elim why [
+          | inl m ↦ rw m (no_memory tt)
           | inr c ↦ fails has (inr ((λ f none. has_not there none.1), (p, there, c)))
         ])

@@ -1,5 +1,5 @@
 -- Goals are tried and noted one after another.
-use Rattle.ghc_core.proofs.Words.{◌≡◌, ℕ, zero, suc, ◌+◌, ◌-◌, ◌<◌, ◌≤◌, List, false, cond, refl, sym, ap, subst, ◌∙◌, arith, Some, None, IsTrue, GoalName, Goal, StoreValue, value_at, Program, is_stream, goal_cmp, Goals, tried, Meter, goal_total, goal_antisymmetric, GoalNames, Note, NotesByGoal, IsExact, AreExact, goal_itself, goal_cases, goal_taken, put_here, put_elsewhere, World, IsConsistent, AreExactIn, tells, IsNoteOf, AreKept, IsNoted, AreNoted, tried_often, by_option}
+use Rattle.ghc_core.proofs.Words.{◌≡◌, ℕ, zero, suc, ◌+◌, ◌-◌, ◌<◌, ◌≤◌, List, false, cond, refl, ap, ◌∙◌, arith, Some, None, IsTrue, GoalName, Goal, StoreValue, value_at, Program, is_stream, goal_cmp, Goals, tried, Meter, goal_total, goal_antisymmetric, GoalNames, Note, NotesByGoal, IsExact, AreExact, goal_itself, goal_cases, goal_taken, put_here, put_elsewhere, World, IsConsistent, AreExactIn, tells, IsNoteOf, AreKept, IsNoted, AreNoted, tried_often, by_option}
 use Rattle.std.specs.FinMap as finite
 use Rattle.std.specs.FinSet as set
 use Rattle.ghc_term.proofs.ListsLemmas.{not_both}
@@ -39,8 +39,7 @@ noted_now w m new g n q put = record { note = n; told = tells (q.0, q.1.0, q.1.1
 pub consistent_now : (w : World) (m new : NotesByGoal) (u left : GoalNames) (names : List GoalName) (g : GoalName) (n : Note) → IsConsistent w m u names → IsNoteOf w g n → new ≡ finite.insert m g n → left ≡ set.remove u g
     → IsConsistent w new left names
 consistent_now w m new u left names g n c q put taken =
-    subst (λ v. IsConsistent w v left names) (sym put)
-    (subst (λ v. IsConsistent w (finite.insert m g n) v names) (sym taken) (record { standing = c.standing; exact = noted_exact c.exact g q.0 q.1.0 q.1.1 n q.2; streams = c.streams }))
+    rw (put, taken) (record { standing = c.standing; exact = noted_exact c.exact g q.0 q.1.0 q.1.1 n q.2; streams = c.streams })
 
 -- an untried goal is taken out
 pub one_less : (u : GoalNames) (g : GoalName) → IsTrue (set.contains u g) → set.len (set.remove u g) + 1 ≡ set.len u
@@ -57,15 +56,8 @@ one_less u g there =
 abbrev counted : Meter → ℕ → Meter
 counted m t = record { firings = m.firings; tries = t }
 
-pub tried_none : (m : Meter) → m.tries ≤ 18446744073709551615 → m ≡ tried_often 0 m
-tried_none m most = ap (counted m) (omega arith)
-
 pub tried_more : (k : ℕ) (m : Meter) → tried (tried_often k m) ≡ tried_often (k + 1) m
 tried_more k m = ap (counted m) (omega arith)
-
--- nothing was tried
-pub none_noted : (m : NotesByGoal) (u : GoalNames) → AreNoted 0 m u m u
-none_noted m u = record { kept = λ g n there. there; fewer = omega arith }
 
 -- one more was
 pub one_noted : {k : ℕ} {old now new : NotesByGoal} {u left : GoalNames} (g : GoalName) → AreNoted k old u now left → IsTrue (set.contains left g) → AreKept now new → AreNoted (k + 1) old u new (set.remove left g)

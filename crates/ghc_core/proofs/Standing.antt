@@ -1,5 +1,5 @@
 -- What is known of a world that a core can be in, and which worlds are so from the start.
-use Rattle.ghc_core.proofs.Words.{◌≡◌, ◌≢◌, ◌<◌, ◌≤◌, ℕ, List, [], refl, sym, inl, inr, arith, Some, VarName, GoalName, Goal, value_at, Program, Query, IsProgram, IsQuery, no_step, HasNoVariableOf, In, State, Record, Shelf, query_state, IsVariableOf, number_limit, Opening, Entry, History, loaded_opening, IsWellMade, World, IsReplay, Opens, AreNamesOf, IsSound, from_opening, IsOrderly, IsStanding}
+use Rattle.ghc_core.proofs.Words.{◌≡◌, ◌≢◌, ◌<◌, ◌≤◌, ℕ, List, [], refl, inl, inr, arith, Some, VarName, GoalName, Goal, value_at, Program, Query, IsProgram, IsQuery, no_step, HasNoVariableOf, In, State, Record, Shelf, query_state, IsVariableOf, number_limit, Opening, Entry, History, loaded_opening, IsWellMade, World, IsReplay, Opens, AreNamesOf, IsSound, from_opening, IsOrderly, IsStanding}
 use Rattle.std.specs.FinMap as finite
 use Rattle.ghc_records.proofs.Replaying as replaying
 use Rattle.ghc_core.proofs.Reaching.{reached_good}
@@ -24,10 +24,8 @@ standing_sound w s = let good = reached_good s in (good.accepted, good.asked, go
 
 -- No variable of a standing world is one of `no_step`.
 pub standing_apart : (w : World) → IsStanding w → (x : VarName) → IsVariableOf w.opening.query w.kept x → x.step ≢ no_step
-standing_apart w s x (inl i) e =
-    let zero : x.step ≡ 0 = replaying.of_query w.opening.program w.opening.query x (standing_sound w s).1 i in omega (arith, e)
-standing_apart w s x (inr m) e =
-    let below = ((standing_replay w s).0.0 m.0 m.1).1 in let step = m.2.0 in omega (arith, e)
+standing_apart w s x (inl i) e = omega (arith, replaying.of_query w.opening.program w.opening.query x (standing_sound w s).1 i, e)
+standing_apart w s x (inr m) e = omega (arith, ((standing_replay w s).0.0 m.0 m.1).1, m.2.0, e)
 
 -- In a standing world no variable of `no_step` stands in a goal that is there, or in a value of the store.
 pub standing_numbered : (w : World) → IsStanding w → (g : GoalName) (b : Goal) → finite.get w.state.goals g ≡ Some b → HasNoVariableOf no_step b (value_at w.state.store)
@@ -54,8 +52,7 @@ empty_world P query names n = record { opening = empty_opening P query names n; 
 pub same_empty : (P : Program) (query : Query) (names : List (List ℕ)) (n : ℕ) {loaded : History} {s : State} {rs : List Record} {shelf : Shelf} {es : List Entry}
     → loaded ≡ record { steps = []; next = n } → s ≡ query_state query → rs ≡ [] → shelf ≡ finite.empty → es ≡ []
     → empty_world P query names n ≡ record { opening = loaded_opening P query names loaded; state = s; kept = rs; shelf = shelf; next = n; journal = es }
-same_empty P query names n loaded state kept shelf journal i =
-    record { opening = loaded_opening P query names (sym loaded i); state = sym state i; kept = sym kept i; shelf = sym shelf i; next = n; journal = sym journal i }
+same_empty P query names n loaded state kept shelf journal = cc
 
 -- The opening of a program, a query, names and a number makes their world before any step.
 pub empty_opens : (P : Program) (query : Query) (names : List (List ℕ)) (n : ℕ) → 1 ≤ n → n ≤ number_limit → Opens (empty_opening P query names n) (empty_world P query names n)

@@ -41,14 +41,11 @@ tail_open P k s (given u) n S e f = (f.0, f.2.0 ++ f.0 ∷ [], comes_leads f.2.1
 tail_open P k s closed n S e f = (f.0, f.1.0 ++ f.0 ∷ [], comes_leads f.1.1 f.1.2)
 tail_open P k s a n S e f = absurd f
 
-same_tail : {k : ℕ} {s u : VarName} → stream k s ≡ stream k u → s ≡ u
-same_tail p = cc
-
 module _ (effects : EffectIsOne) (w : World) (acyclic : IsAcyclic (value_at w.state.store))
     (once : (k : ℕ) (g h : GoalName) (s u : VarName) → streams.IsStreamAt w k g s → streams.IsStreamAt w k h u → g ≡ h) (k : ℕ) (act : Act) where
   -- a stream has one tail
   one_tail : (g h : GoalName) (s u : VarName) → streams.IsStreamAt w k g s → streams.IsStreamAt w k h u → s ≡ u
-  one_tail g h s u p q = same_tail (value_once p (subst (λ z. streams.IsStreamAt w k z u) (sym (once k g h s u p q)) q))
+  one_tail g h s u p q = let same : stream k s ≡ stream k u = value_once p (rw (once k g h s u p q) q) in cc
 
   at_stream : (r : Record) (t : streams.IsStreamStep w k act r) → streams.IsStreamAt w k t.0.0 t.0.1
   at_stream r t = let f = step_effect w r t.0.0 t.1 t.0.2 in f.2 ∙ sym f.1 ∙ t.0.3

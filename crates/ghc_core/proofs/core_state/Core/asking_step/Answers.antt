@@ -1,13 +1,11 @@
-use Rattle.ghc_core.proofs.Words.{◌≡◌, true, false, None, sym, ap, ◌∙◌, subst, own_variables, made_from, effect_of_asking, Asked as asked, Record, AreKnownIn, CanBeAsked, Core, World, IsKnown}
+use Rattle.ghc_core.proofs.Words.{◌≡◌, None, sym, ap, ◌∙◌, subst, own_variables, made_from, effect_of_asking, Asked as asked, Record, AreKnownIn, CanBeAsked, Core, World, IsKnown}
 use Rattle.ghc_core.proofs.AskedAgain.{asking_next, asking_each, asking_known}
 use Rattle.ghc_core.proofs.core_state.Core.asking_step.Goals as goal
 
 pub returns-then-not-can_all_be_asked_for-clause-none : goal.returns-then-not-can_all_be_asked_for-clause-none
 returns-then-not-can_all_be_asked_for-clause-none c r is next =
-    let w : World = c.args.self.now.world in
-    let each = asking_each w c.args.asked.now r is next in
+    let each = asking_each c.args.self.now.world c.args.asked.now r is next in
     let yes = c.can_all_be_asked_for.ensures.1 (subst (CanBeAsked c.self.inside.program) (sym c.goals.ensures.goals) (subst (λ (x : Core). CanBeAsked x.world.opening.program c.args.asked.now) (sym c.self.view_is) each)) in
-    let clash : true ≡ false = sym yes ∙ c.if-not-can_all_be_asked_for.true in
     cc
 
 pub returns-then-not-names_known-clause-none : goal.returns-then-not-names_known-clause-none
@@ -16,7 +14,6 @@ returns-then-not-names_known-clause-none c r is next =
     let q = c.in_ok-record.record in
     let known : IsKnown w q = asking_known w c.args.asked.now r is next q (ap (λ (z : Record). z.number) c.in_ok-record.ensures ∙ ap (λ (x : Core). x.world.next) c.self.view_is) (ap (λ (z : Record). z.act) c.in_ok-record.ensures) in
     let yes = c.names_known.ensures.1 (subst (λ (x : Core). AreKnownIn x.world.opening.query x.world.kept q) (sym c.self.view_is) known) in
-    let clash : true ≡ false = sym yes ∙ c.if-not-names_known.true in
     cc
 
 pub returns-clause-next : goal.returns-clause-next

@@ -1,5 +1,5 @@
-use Rattle.std.proofs.Common.{inr, refl, arith}
-use Rattle.ghc_core.proofs.Firings.{one_more_counted, all_counted}
+use Rattle.std.proofs.Common.{inr, refl}
+use Rattle.ghc_core.proofs.Firings.{one_more_counted}
 use Rattle.ghc_core.proofs.ResumeSteps.{one_more_carried, stops_here}
 use Rattle.ghc_core.proofs.core_state.Core.carry_out_each.Goals as goal
 
@@ -23,6 +23,3 @@ loop-index-preserved c =
           (c.in-Ok-CarriedOut.ensures.meter yes);
       notes = λ none. c.in-Ok-CarriedOut.ensures.notes (c.loop-index.invariant.notes none) yes;
     }
-
-pub returns-clause-meter : goal.returns-clause-meter
-returns-clause-meter c = all_counted c.args.entries.now c.loop-index.index c.args.self.now.meter c.loop-index.self.meter (let most = c.loop-index-test.false in omega (arith, most)) c.loop-index.invariant.meter

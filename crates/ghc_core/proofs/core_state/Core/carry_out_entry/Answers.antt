@@ -43,18 +43,3 @@ returns-in_ok-numbers_again-in-Reordered-clause-carried c =
 pub returns-in_ok-numbers_again-in-Reordered-clause-refused : goal.returns-in_ok-numbers_again-in-Reordered-clause-refused
 returns-in_ok-numbers_again-in-Reordered-clause-refused c =
     if_ok _ c.command_again-in-Reordered.ensures.refused (λ yes. command_refused (of_entry c))
-
-pub returns-in-Took-clause-meter : goal.returns-in-Took-clause-meter
-returns-in-Took-clause-meter c = rw c.in-Took.is c.take_again.ensures.meter
-
-pub returns-in-Undid-clause-meter : goal.returns-in-Undid-clause-meter
-returns-in-Undid-clause-meter c = rw c.in-Undid.is c.command_again.ensures.meter
-
-pub returns-in-Rolled-clause-meter : goal.returns-in-Rolled-clause-meter
-returns-in-Rolled-clause-meter c = rw c.in-Rolled.is c.command_again-in-Rolled.ensures.meter
-
-pub returns-in-Redid-clause-meter : goal.returns-in-Redid-clause-meter
-returns-in-Redid-clause-meter c = rw c.in-Redid.is c.command_again-in-Redid.ensures.meter
-
-pub returns-in_ok-numbers_again-in-Reordered-clause-meter : goal.returns-in_ok-numbers_again-in-Reordered-clause-meter
-returns-in_ok-numbers_again-in-Reordered-clause-meter c = rw c.in-Reordered.is c.command_again-in-Reordered.ensures.meter

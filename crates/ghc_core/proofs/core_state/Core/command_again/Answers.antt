@@ -12,6 +12,3 @@ returns-in-Err-clause-refused c _ change v asked changes = elim c.in-Err.ensures
 pub returns-clause-notes : goal.returns-clause-notes
 returns-clause-notes c none _ =
     none_noted c.make.new.self.world.state.goals (IsBoundBy c.in-Ok.change) c.prepare_command.new.self.notes c.make.new.self.notes c.in_ok-make.ensures.notes (c.in-Ok.ensures.stays.notes ∙ none)
-
-pub returns-clause-meter : goal.returns-clause-meter
-returns-clause-meter c _ = c.in_ok-make.ensures.meter ∙ c.in-Ok.ensures.fired

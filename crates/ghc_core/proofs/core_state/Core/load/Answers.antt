@@ -1,10 +1,6 @@
-use Rattle.ghc_core.proofs.Words.{◌≡◌, ℕ, ◌+◌, ◌<◌, List, [], length, get_or, slice_get, refl, ap, subst, ◌∙◌, inr, arith, Some, slice_get_read, loaded_opening, Opens, Meter, fired, Step}
+use Rattle.ghc_core.proofs.Words.{◌≡◌, ℕ, ◌+◌, ◌<◌, List, [], length, get_or, slice_get, refl, ap, subst, ◌∙◌, inr, arith, Some, slice_get_read, loaded_opening, Opens, Meter, Step}
 use Rattle.ghc_core.proofs.Loading.{nothing_loaded, own_step, own_goal, one_more_loaded, stopped_at, all_loaded}
 use Rattle.ghc_core.proofs.core_state.Core.load.Goals as goal
-
--- A firing more is counted, far below the greatest count.
-fired_once : (old new : Meter) (i : ℕ) → new ≡ fired old → old.firings ≡ i → i < 1000000 → new.firings ≡ i + 1
-fired_once old new i is count few = ap (λ m. m.firings) is ∙ omega (arith, count, few)
 
 -- the step at the place that the loop is at
 at_place : (steps all : List Step) (i : ℕ) (s : Step) → steps ≡ all → i < length steps → s ≡ get_or steps i s → slice_get all i ≡ Some s
@@ -20,41 +16,35 @@ loop-index-init c = record {
 
 pub load_step-requires-clause-own : goal.load_step-requires-clause-own
 load_step-requires-clause-own c r possible =
-    let h = c.args.history.now in
-    let i = c.loop-index.index in
-    own_step c.args.program c.args.query.goals c.args.query.variables h i c.loop-index.core.world c.loop-index.invariant.loaded c.index-steps-index.result
-    (at_place c.steps-steps.result.now c.args.history.now.steps c.loop-index.index c.index-steps-index.result c.steps-steps.ensures.steps c.loop-index-test.true c.index-steps-index.is) r c.requires.history possible
+    let at = at_place _ _ _ _ c.steps-steps.ensures.steps c.loop-index-test.true c.index-steps-index.is in
+    own_step _ _ _ _ _ _ c.loop-index.invariant.loaded _ at r c.requires.history possible
 
 pub load_step-requires-clause-of_goal : goal.load_step-requires-clause-of_goal
 load_step-requires-clause-of_goal c =
-    own_goal c.args.program c.args.query.goals c.args.query.variables c.args.history.now c.loop-index.index c.loop-index.core.world c.loop-index.invariant.loaded c.index-steps-index.result
-    (at_place c.steps-steps.result.now c.args.history.now.steps c.loop-index.index c.index-steps-index.result c.steps-steps.ensures.steps c.loop-index-test.true c.index-steps-index.is) c.requires.history
+    let at = at_place _ _ _ _ c.steps-steps.ensures.steps c.loop-index-test.true c.index-steps-index.is in
+    own_goal _ _ _ _ _ _ c.loop-index.invariant.loaded _ at c.requires.history
 
 pub returns-in-Ok-Refused-clause-answer : goal.returns-in-Ok-Refused-clause-answer
 returns-in-Ok-Refused-clause-answer c =
-    let h = c.args.history.now in
-    let i = c.loop-index.index in (
+    let at = at_place _ _ _ _ c.steps-steps.ensures.steps c.loop-index-test.true c.index-steps-index.is in (
       tt,
-      inr (stopped_at c.args.program c.args.query.goals c.args.query.variables h i c.loop-index.core.world c.loop-index.invariant.loaded c.index-steps-index.result (at_place c.steps-steps.result.now c.args.history.now.steps c.loop-index.index c.index-steps-index.result c.steps-steps.ensures.steps c.loop-index-test.true c.index-steps-index.is) (i + 3)
+      inr (stopped_at _ _ _ _ _ _ c.loop-index.invariant.loaded _ at (c.loop-index.index + 3)
           (c.in-Ok-Refused.ensures.refused c.in-Ok-Refused.field-0-is) refl),
     )
 
 pub loop-index-preserved : goal.loop-index-preserved
 loop-index-preserved c =
-    let h = c.args.history.now in
-    let i = c.loop-index.index in
     let before = c.loop-index.invariant in
     let yes = c.in-Ok-CarriedOut.field-0-is in
     let taken = c.in-Ok-CarriedOut.ensures.carried yes in
-    let firings = before.firings in
+    let at = at_place _ _ _ _ c.steps-steps.ensures.steps c.loop-index-test.true c.index-steps-index.is in
     let few = c.requires.history.few in
     let more = c.loop-index-test.true in
-    let same : length c.steps-steps.result.now ≡ length h.steps = ap length c.steps-steps.ensures.steps in
+    let same : length c.steps-steps.result.now ≡ length c.args.history.now.steps = ap length c.steps-steps.ensures.steps in
     record {
-      loaded = one_more_loaded c.args.program c.args.query.goals c.args.query.variables h i c.loop-index.core.world before.loaded c.index-steps-index.result (at_place c.steps-steps.result.now c.args.history.now.steps c.loop-index.index c.index-steps-index.result c.steps-steps.ensures.steps c.loop-index-test.true c.index-steps-index.is)
-          c.load_step.new.self.world taken.0 taken.1 taken.2 (c.in-Ok-CarriedOut.ensures.opens yes);
+      loaded = one_more_loaded _ _ _ _ _ _ before.loaded _ at c.load_step.new.self.world taken.0 taken.1 taken.2 (c.in-Ok-CarriedOut.ensures.opens yes);
       notes = c.in-Ok-CarriedOut.ensures.notes before.notes yes;
-      firings = fired_once c.loop-index.core.meter c.load_step.new.self.meter i (c.in-Ok-CarriedOut.ensures.meter yes) before.firings (omega (arith, few, more, same));
+      firings = ap (λ (m : Meter). m.firings) (c.in-Ok-CarriedOut.ensures.meter yes) ∙ omega (arith, few, more, same);
       tries = ap (λ m. m.tries) (c.in-Ok-CarriedOut.ensures.meter yes) ∙ before.tries;
     }
 

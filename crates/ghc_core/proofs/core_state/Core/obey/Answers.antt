@@ -1,14 +1,10 @@
 use Rattle.ghc_core.proofs.Words.{◌∙◌, refl, subst, inl, inr, AreLeft, World, does, Changes, IsBoundBy, command_of, Moves}
 use Rattle.ghc_term.specs.declared.fault.Fault.TheVariants as fault
 use Rattle.ghc_core.proofs.Replying.{not_obeyed}
-use Rattle.ghc_core.proofs.Playable.{moved_grows}
 use Rattle.ghc_core.proofs.core_state.Core.obey.Goals as goal
 
 pub returns-in-Err-clause-answer : goal.returns-in-Err-clause-answer
 returns-in-Err-clause-answer c = not_obeyed c.args.self.now.world (command_of c.args.command.now) c.in-Err.refusal c.prepare_command.new.self.world c.in-Err.ensures.answer.1 c.in-Err.ensures.stays.world
-
-pub returns-in-Err-clause-moves : goal.returns-in-Err-clause-moves
-returns-in-Err-clause-moves c = inl (c.in-Err.refusal, refl)
 
 -- the change was made in the world in which it was found
 abbrev moved : (c : goal.In-Ok-carry_out) → Moves c.args.self.now c.carry_out.new.self
@@ -28,23 +24,6 @@ returns-in-Ok-carry_out-clause-moves c = inr (moved c)
 pub returns-in-Ok-carry_out-clause-answer : goal.returns-in-Ok-carry_out-clause-answer
 returns-in-Ok-carry_out-clause-answer c = let asked = c.in-Ok.ensures.answer.0 in does asked.0 asked.1 (moved c).changed c.in-Ok-carry_out.ensures.told
 
-pub returns-in-Ok-carry_out-clause-entry : goal.returns-in-Ok-carry_out-clause-entry
-returns-in-Ok-carry_out-clause-entry c =
-    let m = moved c in
-    moved_grows c.args.self.now.world c.carry_out.new.self.world (inr (m.change, m.possible, m.changed))
-
 pub returns-in-Err-carry_out-clause-answer : goal.returns-in-Err-carry_out-clause-answer
 returns-in-Err-carry_out-clause-answer c =
     not_obeyed c.args.self.now.world (command_of c.args.command.now) fault.Memory c.carry_out.new.self.world (inl refl) (c.in-Err-carry_out.ensures.stays.world ∙ c.in-Ok.ensures.stays.world)
-
-pub returns-in-Err-carry_out-clause-moves : goal.returns-in-Err-carry_out-clause-moves
-returns-in-Err-carry_out-clause-moves c = inl (fault.Memory, refl)
-
-pub returns-in-Err-clause-fired : goal.returns-in-Err-clause-fired
-returns-in-Err-clause-fired c = inl (c.in-Err.refusal, refl)
-
-pub returns-in-Ok-carry_out-clause-fired : goal.returns-in-Ok-carry_out-clause-fired
-returns-in-Ok-carry_out-clause-fired c = inr (c.carry_out.ensures.meter ∙ c.in-Ok.ensures.fired)
-
-pub returns-in-Err-carry_out-clause-fired : goal.returns-in-Err-carry_out-clause-fired
-returns-in-Err-carry_out-clause-fired c = inl (fault.Memory, refl)

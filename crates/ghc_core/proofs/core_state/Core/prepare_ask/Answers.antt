@@ -1,23 +1,19 @@
-use Rattle.ghc_core.proofs.Words.{◌≡◌, inl, inr, ap, sym, subst, ◌∙◌, Err, None, Asked as asked, NameNoneOf, asked_as, AreNarrow, AllCalls, IsFirstCallWithout, HasClauseFor, NameKnown, AskFails, Core}
+use Rattle.ghc_core.proofs.Words.{◌≡◌, inr, ap, sym, subst, ◌∙◌, Err, None, Asked as asked, NameNoneOf, asked_as, AreNarrow, AllCalls, IsFirstCallWithout, HasClauseFor, NameKnown, Core}
 use Rattle.ghc_fire.specs.Asked.{Asks}
 use Rattle.ghc_term.proofs.ListsLemmas.{not_both}
-use Rattle.ghc_core.proofs.AskedGoals.{defined_by, undefined_told, unknown_told, full_told, one_ask_refusal, undefined_first, ask_not_refused, none_of_next, ask_step}
+use Rattle.ghc_core.proofs.AskedGoals.{defined_by, unknown_told, full_told, one_ask_refusal, undefined_first, ask_not_refused, none_of_next, ask_step}
 use Rattle.ghc_core.proofs.core_state.Core.prepare_ask.Goals as goal
 
 pub check_calls-requires : goal.check_calls-requires
 check_calls-requires c = subst AreNarrow (sym c.goals-goals.ensures.goals) c.goals-goals.ensures.proper.0.narrow
 
-pub returns-in-Err : goal.returns-in-Err
-returns-in-Err c =
-    let w = c.args.self.now.world in
+pub returns-in-Err-clause-anyway : goal.returns-in-Err-clause-anyway
+returns-in-Err-clause-anyway c f fails =
     let gs = c.args.ask.now in
     let u = c.in-Err.ensures.refused in
     let first = subst (λ (x : Core). IsFirstCallWithout (HasClauseFor x.world.opening.program) gs u.0 u.1) c.self.view_is
     (rw c.goals-goals.ensures.goals at u.2) in
-    record {
-      answer = (tt, elim u.3 [ inl m ↦ inl m | inr e ↦ inr (subst (AskFails w gs) (sym e) (undefined_told w gs u.0 u.1 first)) ]);
-      anyway = λ f fails. absurd (undefined_first w gs u.0 u.1 first fails);
-    }
+    absurd (undefined_first c.args.self.now.world gs u.0 u.1 first fails)
 
 pub returns-then-not-ask_is_known : goal.returns-then-not-ask_is_known
 returns-then-not-ask_is_known c =

@@ -1,17 +1,6 @@
-use Rattle.ghc_core.proofs.Words.{◌≡◌, inr, ap, subst, ◌∙◌, Some, Ok, Err, value_at, stream, Closes, Closed as closed, Core, at_some}
-use Rattle.ghc_core.proofs.StreamSteps.{if_none, is_bound, stream_step}
+use Rattle.ghc_core.proofs.Words.{◌≡◌, ap, subst, ◌∙◌, Some, Ok, Err, value_at, stream, Closes, Closed as closed, Core, at_some}
+use Rattle.ghc_core.proofs.StreamSteps.{stream_step}
 use Rattle.ghc_core.proofs.core_state.Core.prepare_close.Goals as goal
-
-pub returns-in-Ok-None-clause-answer : goal.returns-in-Ok-None-clause-answer
-returns-in-Ok-None-clause-answer c =
-    let same = c.store.ensures ∙ ap (λ (x : Core). x.world.state.store) c.self.view_is in
-    (tt, inr (is_bound c.args.self.now.world c.args.stream c.in-Ok.open.0 c.in-Ok.open.1 c.store.result.now.held same c.in-Ok.ensures.found (if_none _ c.in-Ok-None.field-0 c.in-Ok-None.field-0-is c.in-Ok-None.ensures.bound)))
-
-pub returns-in-Err-clause-anyway : goal.returns-in-Err-clause-anyway
-returns-in-Err-clause-anyway c f fails = let same : Err c.in-Err.fault ≡ Err f = c.in-Err.ensures.anyway f fails in cc
-
-pub returns-in-Ok-None-clause-anyway : goal.returns-in-Ok-None-clause-anyway
-returns-in-Ok-None-clause-anyway c f fails = let no : Ok c.in-Ok.open ≡ Err f = c.in-Ok.ensures.anyway f fails in cc
 
 pub returns-in-Err-close-clause-anyway : goal.returns-in-Err-close-clause-anyway
 returns-in-Err-close-clause-anyway c f fails = let no : Ok c.in-Ok.open ≡ Err f = c.in-Ok.ensures.anyway f fails in cc
@@ -32,7 +21,5 @@ returns-clause-answer c =
     let closes : Closes s (value_at w.state.store) e = subst (λ m. Closes s (value_at m) e) store (at_some (Closes s (value_at c.store.result.now.held)) c.in-Ok-Some.field-0 e c.in-Ok-Some.field-0-is c.in-Ok-Some.ensures.closed) in
     let number : c.self.inside.next ≡ w.next = ap (λ (x : Core). x.world.next) c.self.view_is in
     let made : c.in_ok-stream_addition.field-0 ≡ record { number = w.next; goal = Some c.in-Ok.open.0; consumed = Some (stream k s); act = closed; effect = e } =
-    let a = c.in_ok-stream_addition.ensures in
-    let b = c.stream-goal.ensures in
-    cc in
+    cc (c.in_ok-stream_addition.ensures, c.stream-goal.ensures) in
     (stream_step w k closed c.in-Ok.open.0 s e c.in_ok-stream_addition.field-0 c.in-Ok.ensures.found closes c.in-Ok.ensures.room made, tt)

@@ -13,20 +13,11 @@ never p = cc
 pub returns-in-Ok-clause-answer : goal.returns-in-Ok-clause-answer
 returns-in-Ok-clause-answer c = rw c.in-Input.is ((to_give c.in-Ok.ensures.answer.0.0, c.in-Ok.ensures.answer.0.1), tt)
 
-pub returns-in-Err-clause-answer : goal.returns-in-Err-clause-answer
-returns-in-Err-clause-answer c = rw c.in-Input.is (tt, c.in-Err.ensures.answer.1)
-
 pub returns-in-Ok-prepare_close-clause-answer : goal.returns-in-Ok-prepare_close-clause-answer
 returns-in-Ok-prepare_close-clause-answer c = let found = c.in-Ok-prepare_close.ensures.answer.0 in rw c.in-Close.is ((to_close found.0, found.1), tt)
 
-pub returns-in-Err-prepare_close-clause-answer : goal.returns-in-Err-prepare_close-clause-answer
-returns-in-Err-prepare_close-clause-answer c = rw c.in-Close.is (tt, c.in-Err-prepare_close.ensures.answer.1)
-
 pub returns-in-Ok-prepare_ask-clause-answer : goal.returns-in-Ok-prepare_ask-clause-answer
 returns-in-Ok-prepare_ask-clause-answer c = rw c.in-Ask.is ((to_ask c.in-Ok-prepare_ask.ensures.answer.0.0, c.in-Ok-prepare_ask.ensures.answer.0.1), tt)
-
-pub returns-in-Err-prepare_ask-clause-answer : goal.returns-in-Err-prepare_ask-clause-answer
-returns-in-Err-prepare_ask-clause-answer c = rw c.in-Ask.is (tt, c.in-Err-prepare_ask.ensures.answer.1)
 
 pub returns-in-Ok-prepare_ask-clause-anyway : goal.returns-in-Ok-prepare_ask-clause-anyway
 returns-in-Ok-prepare_ask-clause-anyway c = rw c.in-Ask.is (λ f fails. never (c.in-Ok-prepare_ask.ensures.anyway f fails))
@@ -42,9 +33,6 @@ returns-in-Ok-prepare_undo-clause-anyway c =
     let found = c.in-Ok-prepare_undo.ensures in
     rw c.in-Undo.is (λ f fails. absurd (undo_cannot_fail _ c.stands.ensures.standing _ (found.found.0, found.step) found.alone fails))
 
-pub returns-in-Err-prepare_undo-clause-answer : goal.returns-in-Err-prepare_undo-clause-answer
-returns-in-Err-prepare_undo-clause-answer c = rw c.in-Undo.is (tt, elim c.in-Err-prepare_undo.ensures.fault [ inl m ↦ inl m.0 | inr fails ↦ inr fails ])
-
 pub returns-in-Err-prepare_undo-clause-anyway : goal.returns-in-Err-prepare_undo-clause-anyway
 returns-in-Err-prepare_undo-clause-anyway c = rw c.in-Undo.is (λ f why. elim c.in-Err-prepare_undo.ensures.fault [
   | inl memory ↦ absurd (undo_cannot_fail _ c.stands.ensures.standing memory.1.0 memory.1.1 memory.1.2 why)
@@ -59,9 +47,6 @@ returns-in-Ok-prepare_rollback-clause-anyway c =
     let found = c.in-Ok-prepare_rollback.ensures in
     rw c.in-Roll.is (λ f why. absurd (why.1 c.in-Ok-prepare_rollback.rollback.first found.found.0 found.step))
 
-pub returns-in-Err-prepare_rollback-clause-answer : goal.returns-in-Err-prepare_rollback-clause-answer
-returns-in-Err-prepare_rollback-clause-answer c = rw c.in-Roll.is (tt, elim c.in-Err-prepare_rollback.ensures.fault [ inl m ↦ inl m.0 | inr n ↦ inr n ])
-
 pub returns-in-Err-prepare_rollback-clause-anyway : goal.returns-in-Err-prepare_rollback-clause-anyway
 returns-in-Err-prepare_rollback-clause-anyway c = rw c.in-Roll.is (λ f why. elim c.in-Err-prepare_rollback.ensures.fault [
   | inl memory ↦ absurd (why.1 memory.1.0 memory.1.1.0 memory.1.1.1)
@@ -71,16 +56,10 @@ returns-in-Err-prepare_rollback-clause-anyway c = rw c.in-Roll.is (λ f why. eli
 pub returns-in-Ok-prepare_redo-clause-answer : goal.returns-in-Ok-prepare_redo-clause-answer
 returns-in-Ok-prepare_redo-clause-answer c = rw c.in-Redo.is ((to_redo c.in-Ok-prepare_redo.ensures.step, c.in-Ok-prepare_redo.ensures.found), tt)
 
-pub returns-in-Err-prepare_redo-clause-answer : goal.returns-in-Err-prepare_redo-clause-answer
-returns-in-Err-prepare_redo-clause-answer c = rw c.in-Redo.is (tt, c.in-Err-prepare_redo.ensures.fault)
-
 pub returns-in-Ok-prepare_arrange-clause-answer : goal.returns-in-Ok-prepare_arrange-clause-answer
 returns-in-Ok-prepare_arrange-clause-answer c =
     let found = c.in-Ok-prepare_arrange.ensures in
     rw c.in-Arrange.is ((to_arrange (found.order ∙ c.as_slice.ensures), found.found), tt)
-
-pub returns-in-Err-prepare_arrange-clause-answer : goal.returns-in-Err-prepare_arrange-clause-answer
-returns-in-Err-prepare_arrange-clause-answer c = rw c.in-Arrange.is (tt, rw c.as_slice.ensures at c.in-Err-prepare_arrange.ensures.fault)
 
 pub returns-in-Ok-clause-anyway : goal.returns-in-Ok-clause-anyway
 returns-in-Ok-clause-anyway c = rw c.in-Input.is (λ f fails. never (c.in-Ok.ensures.anyway f fails))

@@ -1,11 +1,6 @@
-use Rattle.ghc_core.proofs.Words.{◌≡◌, inr, ap, subst, ◌∙◌, Some, Ok, Err, value_at, stream, Feeds, Given as given, Core, at_some}
-use Rattle.ghc_core.proofs.StreamSteps.{if_none, is_bound, stream_step}
+use Rattle.ghc_core.proofs.Words.{◌≡◌, ap, ◌∙◌, Some, Ok, Err, value_at, stream, Feeds, Given as given, Core, at_some}
+use Rattle.ghc_core.proofs.StreamSteps.{stream_step}
 use Rattle.ghc_core.proofs.core_state.Core.prepare_input.Goals as goal
-
-pub returns-in-Ok-None-clause-answer : goal.returns-in-Ok-None-clause-answer
-returns-in-Ok-None-clause-answer c =
-    let same = c.store.ensures ∙ ap (λ (x : Core). x.world.state.store) c.self.view_is in
-    (tt, inr (is_bound c.args.self.now.world c.args.stream c.in-Ok.open.0 c.in-Ok.open.1 c.store.result.now.held same c.in-Ok.ensures.found (if_none _ c.in-Ok-None.field-0 c.in-Ok-None.field-0-is c.in-Ok-None.ensures.bound)))
 
 pub returns-clause-answer : goal.returns-clause-answer
 returns-clause-answer c =
@@ -16,20 +11,11 @@ returns-clause-answer c =
     let store = c.store.ensures ∙ ap (λ (x : Core). x.world.state.store) c.self.view_is in
     let number : c.self.inside.next ≡ w.next = ap (λ (x : Core). x.world.next) c.self.view_is in
     let fed : Feeds k s c.args.input.now w.next (value_at w.state.store) e =
-    subst (λ n. Feeds k s c.args.input.now n (value_at w.state.store) e) number
-    (subst (λ m. Feeds k s c.args.input.now c.self.inside.next (value_at m) e) store (at_some (Feeds c.args.stream c.in-Ok.open.1 c.args.input.now c.self.inside.next (value_at c.store.result.now.held)) c.in-Ok-Some.field-0 e c.in-Ok-Some.field-0-is c.in-Ok-Some.ensures.fed)) in
+    rw (number, store) at (at_some (Feeds c.args.stream c.in-Ok.open.1 c.args.input.now c.self.inside.next (value_at c.store.result.now.held))
+    c.in-Ok-Some.field-0 e c.in-Ok-Some.field-0-is c.in-Ok-Some.ensures.fed) in
     let made : c.in_ok-stream_addition.field-0 ≡ record { number = w.next; goal = Some c.in-Ok.open.0; consumed = Some (stream k s); act = given c.args.input.now; effect = e } =
-    let a = c.in_ok-stream_addition.ensures in
-    let b = c.stream-goal.ensures in
-    let d = c.in_ok-share.ensures in
-    cc in
+    cc (c.in_ok-stream_addition.ensures, c.stream-goal.ensures, c.in_ok-share.ensures) in
     (stream_step w k (given c.args.input.now) c.in-Ok.open.0 s e c.in_ok-stream_addition.field-0 c.in-Ok.ensures.found fed c.in-Ok.ensures.room made, tt)
-
-pub returns-in-Err-clause-anyway : goal.returns-in-Err-clause-anyway
-returns-in-Err-clause-anyway c f fails = let same : Err c.in-Err.fault ≡ Err f = c.in-Err.ensures.anyway f fails in cc
-
-pub returns-in-Ok-None-clause-anyway : goal.returns-in-Ok-None-clause-anyway
-returns-in-Ok-None-clause-anyway c f fails = let no : Ok c.in-Ok.open ≡ Err f = c.in-Ok.ensures.anyway f fails in cc
 
 pub returns-in-Err-feed-clause-anyway : goal.returns-in-Err-feed-clause-anyway
 returns-in-Err-feed-clause-anyway c f fails = let no : Ok c.in-Ok.open ≡ Err f = c.in-Ok.ensures.anyway f fails in cc

@@ -26,9 +26,5 @@ changed c = same_world (loaded_opening c.self.inside.program c.self.inside.query
 pub invariant_of-self : goal.invariant_of-self
 invariant_of-self c = record { standing = by_change (reorders (taken c)) c.self.invariant.standing (can c) (changed c); exact = c.self.invariant.exact; streams = c.self.invariant.streams }
 
-pub returns-clause-changed : goal.returns-clause-changed
-returns-clause-changed c =
-    subst (λ (a : Arrangement). Changes c.args.self.now.world (reorders a) (left c)) (is_taken c) (subst (λ (x : Core). Changes x.world (reorders (taken c)) (left c)) c.self.view_is (changed c))
-
 pub returns-clause-left : goal.returns-clause-left
 returns-clause-left c = subst (λ (x : Core). AreLeft c.self.inside.state.held.goals (λ v. ⊥) x.notes c.self.inside.tries.notes) c.self.view_is (all_left c.self.invariant.exact)

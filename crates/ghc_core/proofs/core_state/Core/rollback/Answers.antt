@@ -1,4 +1,4 @@
-use Rattle.ghc_core.proofs.Words.{ap, inl, inr, Err, undone, to_roll, does, all_gone}
+use Rattle.ghc_core.proofs.Words.{ap, inl, inr, Err, undone, to_roll, does}
 use Rattle.ghc_core.proofs.core_state.Core.rollback.Goals as goal
 
 pub returns-in-Err-clause-refused : goal.returns-in-Err-clause-refused
@@ -18,8 +18,3 @@ returns-clause-refused c none = let found = c.in-Ok.ensures in absurd (none c.in
 
 pub returns-clause-ok : goal.returns-clause-ok
 returns-clause-ok c = does (to_roll c.in-Ok.ensures.step) c.in-Ok.ensures.found c.in_ok-make.ensures.changed (ap undone c.in_ok-ns.ensures)
-
-pub returns-clause-notes : goal.returns-clause-notes
-returns-clause-notes c =
-    let found = c.in-Ok.ensures in
-    (c.in-Ok.rollback.first, all_gone c.in-Ok.rollback, found.found.1.0, (found.found.0, found.step), found.found.1.1, c.in_ok-make.ensures.notes)

@@ -1,22 +1,13 @@
-use Rattle.ghc_core.proofs.Words.{◌≡◌, ◌+◌, ◌≤◌, refl, subst, sym, ap, ◌∙◌, arith, err_from_is_err_and, goal_cmp, tried, Meter, AreNoted, tried_often}
+use Rattle.ghc_core.proofs.Words.{◌≡◌, ◌+◌, subst, sym, ap, ◌∙◌, arith, err_from_is_err_and, goal_cmp, tried, AreNoted, tried_often}
 use Rattle.std.specs.FinSet as set
 use Rattle.ghc_term.proofs.ListsLemmas.{not_both}
-use Rattle.ghc_core.proofs.Settling.{none_noted, one_noted, one_less, tried_none, tried_more}
+use Rattle.ghc_core.proofs.Settling.{one_noted, one_less, tried_more}
 use Rattle.ghc_core.proofs.core_state.Core.settle.Goals as goal
-
-pub loop-goal-init : goal.loop-goal-init
-loop-goal-init c =
-    let few = c.tries-counted.type_inv in
-    let same = c.tries-counted.ensures ∙ ap (λ (m : Meter). m.tries) c.meter.ensures in
-    let most : c.args.self.now.meter.tries ≤ 18446744073709551615 = omega (arith, few, same) in
-    record { world = refl; often = 0; noted = none_noted c.args.self.now.notes c.args.self.now.untried; counted = tried_none c.args.self.now.meter most }
 
 pub loop-goal-smaller : goal.loop-goal-smaller
 loop-goal-smaller c =
     let there = ap (λ s. set.contains s c.in-Some.goal) (sym c.tries-in-loop-goal.ensures.untried) ∙ c.in-Some.ensures.some in
-    let less = one_less c.loop-goal.self.untried c.in-Some.goal there in
-    let taken = ap set.len c.in_ok-try_untried.ensures.untried in
-    omega (arith, less, taken)
+    omega (arith, one_less c.loop-goal.self.untried c.in-Some.goal there, ap set.len c.in_ok-try_untried.ensures.untried)
 
 pub loop-goal-preserved : goal.loop-goal-preserved
 loop-goal-preserved c =

@@ -22,6 +22,3 @@ returns-clause-carried c _ =
 pub returns-clause-notes : goal.returns-clause-notes
 returns-clause-notes c none _ =
     none_noted c.take_next.new.self.world.state.goals (Binds c.in-Some.addition) c.next_as.new.self.notes c.take_next.new.self.notes c.in_ok-take_next.ensures.notes (c.in_ok-addition.ensures.notes ∙ none)
-
-pub returns-clause-meter : goal.returns-clause-meter
-returns-clause-meter c _ = c.in_ok-take_next.ensures.meter ∙ (rw c.in-Some.is at c.in_ok-addition.ensures.meter)

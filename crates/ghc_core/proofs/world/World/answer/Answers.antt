@@ -1,7 +1,7 @@
-use Rattle.ghc_core.proofs.Words.{refl, ap, inl, inr, World, Core, commit, reply_of}
+use Rattle.ghc_core.proofs.Words.{refl, ap, inr, Core, reply_of}
 use Rattle.ghc_core.proofs.CertainRefusals.{note_refused_anyway}
-use Rattle.ghc_core.proofs.Playable.{core_stays, left_so, moved_grows}
-use Rattle.ghc_core.proofs.Moving.{answered_moves, obeyed_answers, noted_answers}
+use Rattle.ghc_core.proofs.Playable.{core_stays, left_so}
+use Rattle.ghc_core.proofs.Moving.{obeyed_answers, noted_answers}
 use Rattle.ghc_core.proofs.world.World.answer.Goals as goal
 
 pub returns-in-Propose-clause-met : goal.returns-in-Propose-clause-met
@@ -16,9 +16,6 @@ returns-in-Propose-clause-met c =
       proposals = c.propose.ensures.counted;
     })
 
-pub returns-in-Propose-clause-entry : goal.returns-in-Propose-clause-entry
-returns-in-Propose-clause-entry c = inl (ap (λ (x : Core). x.world.journal) c.propose.ensures.core)
-
 pub returns-in-Commit-clause-met : goal.returns-in-Commit-clause-met
 returns-in-Commit-clause-met c = rw c.in-Commit.is (record {
   answer = c.commit.ensures.answer;
@@ -28,10 +25,6 @@ returns-in-Commit-clause-met c = rw c.in-Commit.is (record {
   counts = c.commit.ensures.counted;
   proposals = c.commit.ensures.meter;
 })
-
-pub returns-in-Commit-clause-entry : goal.returns-in-Commit-clause-entry
-returns-in-Commit-clause-entry c =
-    moved_grows c.args.self.now.core.world c.commit.new.self.core.world (answered_moves c.args.self.now.core.world c.args.self.now.hands c.commit.new.self.hands (commit c.in-Commit.hand) (reply_of c.commit.result) c.commit.new.self.core.world c.commit.ensures.answer)
 
 pub returns-in-Note-clause-met : goal.returns-in-Note-clause-met
 returns-in-Note-clause-met c =
@@ -44,9 +37,6 @@ returns-in-Note-clause-met c =
       counts = c.reply_to_note.ensures.counted;
       proposals = refl;
     })
-
-pub returns-in-Note-clause-entry : goal.returns-in-Note-clause-entry
-returns-in-Note-clause-entry c = inl (ap (λ (w : World). w.journal) c.reply_to_note.ensures.world)
 
 pub returns-in-Command-clause-met : goal.returns-in-Command-clause-met
 returns-in-Command-clause-met c = rw c.in-Command.is (record {

@@ -2,9 +2,6 @@ use Rattle.ghc_core.proofs.Words.{map, Some, sym, ap, ◌∙◌, subst, arith, t
 use Rattle.ghc_core.proofs.Playable.{met_next, met_played}
 use Rattle.ghc_core.proofs.world.World.play.Goals as goal
 
-pub put_reply-requires : goal.put_reply-requires
-put_reply-requires c = let before = c.loop-event.invariant in let below = c.loop-event-test.true in omega (arith, before.0, before.1, below)
-
 pub loop-event-preserved : goal.loop-event-preserved
 loop-event-preserved c =
     let before = c.loop-event.invariant in
