@@ -1,10 +1,10 @@
 -- The amounts of lists of terms, goals and clauses, one element after the other.
-use Rattle.ghc_reader.proofs.Words.{◌≡◌, ℕ, ◌+◌, ◌<◌, ◌≤◌, List, [], ◌∷◌, ◌++◌, length, get_or, take, drop, map, refl, sym, ap, ◌∙◌, arith, append_assoc, Box, Global, Vec, vec_len, max, flat_map, ord_max, nat_cmp, common_steps, flat_map-append, take-append-drop, map-append, max_push, SourceTerm, SourceExpression, Sum, Product, Tree, Trees, none, some, Value, product, sum, cells, products, sums, view, views, value_view, factor_views, summand_views, count, largest, widest, widest_of, names, names_of, names_in, nodes, nodes_of}
+use Rattle.ghc_reader.proofs.Words.{◌≡◌, ℕ, ◌+◌, ◌<◌, ◌≤◌, List, [], ◌∷◌, ◌++◌, length, get_or, take, drop, map, refl, sym, ap, ◌∙◌, arith, append_assoc, Box, Global, Vec, vec_len, max, min, flat_map, ord_max, nat_cmp, common_steps, flat_map-append, take-append-drop, map-append, max_push, SourceTerm, SourceExpression, Sum, Product, Tree, Trees, none, some, Value, product, sum, cells, products, sums, view, views, value_view, factor_views, summand_views, count, largest, levels, widest, widest_of, names, names_of, names_in, nodes, nodes_of}
 use Rattle.std.proofs.Common.{append-nil}
 use Rattle.ghc_reader.specs.declared.source.SourceTerm.TheViews as w
 use Rattle.ghc_reader.specs.declared.source.SourceExpression.TheViews as ew
 use Rattle.ghc_reader.specs.Source.{trees_of}
-use Rattle.ghc_reader.proofs.ExpressionsLowered.{mapped_more}
+use Rattle.ghc_reader.proofs.ExpressionsLowered.{mapped_more, products_push, sums_push}
 use Rattle.ghc_reader.proofs.Misplaced.{count_views}
 use Rattle.ghc_reader.proofs.Views.{view_list, view_structure, view_products, view_sums}
 
@@ -110,3 +110,22 @@ names_of_products a others = ap names_in (view_products a others) ∙ names_prod
 
 pub names_of_sums : (a : Box SourceExpression Global) (others : Vec (Sum × SourceExpression) Global) → names_in (value_view (ew.Sums a others)) ≡ names_in (value_view a.value) ++ flat_map (λ x. names_in x.1) (summand_views others.items)
 names_of_sums a others = ap names_in (view_sums a others) ∙ names_sums (value_view a.value) (summand_views others.items)
+
+-- ---- operators
+
+-- so many, counted up to one more than the most
+abbrev pub counted : ℕ → ℕ
+counted n = min n 1001
+
+pub counted_above : (a b n m r : ℕ) → n ≡ counted a → m ≡ counted b → r ≡ counted (max n m + 1) → r ≡ counted (max a b + 1)
+counted_above a b n m r first second over = omega (arith, first, second, over)
+
+pub levels_of_factors : (left : Value) (xs : List (Product × SourceExpression)) (i : ℕ) (x : Product × SourceExpression) → i < length xs → x ≡ get_or xs i x
+    → levels (products left (factor_views (take (i + 1) xs))) ≡ max (levels (products left (factor_views (take i xs)))) (levels (value_view x.1)) + 1
+levels_of_factors left xs i x less is =
+    ap (λ l. levels (products left l)) (mapped_more {B = Product × Value} (λ y. (y.0, value_view y.1)) xs i x less is) ∙ ap levels (products_push left (factor_views (take i xs)) (x.0, value_view x.1))
+
+pub levels_of_summands : (left : Value) (xs : List (Sum × SourceExpression)) (i : ℕ) (x : Sum × SourceExpression) → i < length xs → x ≡ get_or xs i x
+    → levels (sums left (summand_views (take (i + 1) xs))) ≡ max (levels (sums left (summand_views (take i xs)))) (levels (value_view x.1)) + 1
+levels_of_summands left xs i x less is =
+    ap (λ l. levels (sums left l)) (mapped_more {B = Sum × Value} (λ y. (y.0, value_view y.1)) xs i x less is) ∙ ap levels (sums_push left (summand_views (take i xs)) (x.0, value_view x.1))

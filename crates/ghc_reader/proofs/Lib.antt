@@ -54,6 +54,7 @@ pub mod ReadTerms
 pub mod NamesIn
 pub mod OneSaying
 pub mod WithinLimits
+pub mod AskReadings
 pub mod AsksLowered
 pub mod OneMeaning
 pub mod ExactReading

@@ -7,6 +7,7 @@ use Rattle.ghc_reader.specs.Source as source
 use Rattle.ghc_reader.proofs.TokenTexts.{pieces_of, text_of, spaced_lexed}
 use Rattle.ghc_reader.proofs.PrintedNames.{IsPrintedVariable, variable_run, numbers_back}
 use Rattle.ghc_reader.proofs.PrintedCounts.{few_variables, none_exceeded}
+use Rattle.ghc_reader.proofs.AskReadings.{within_query}
 use Rattle.ghc_reader.proofs.PrintedBodies.{goals_meant, goals_lexed}
 
 -- each variable is called by what is printed of it
@@ -96,5 +97,5 @@ asked_is_body text seen read = record {
     sees = read.derived.sees;
   };
   placed = read.placed;
-  within = read.within;
+  within = within_query seen read.within;
 }

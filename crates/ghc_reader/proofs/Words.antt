@@ -1,13 +1,13 @@
 -- The words of other crates and of the definitions that the proofs cite, from one place.
-pub use Rattle.ghc_reader.specs.Amounts.{goals_of_clause, is_unnamed, largest, names, names_in, names_of, names_of_clause, names_of_goal, names_of_goals, names_of_test, nodes, nodes_of, variables, widest, widest_clause, widest_goal, widest_goals, widest_of, widest_test}
+pub use Rattle.ghc_reader.specs.Amounts.{goals_of_clause, is_unnamed, largest, levels, levels_of_goal, names, names_in, names_of, names_of_clause, names_of_goal, names_of_goals, names_of_test, nodes, nodes_of, variables, widest, widest_clause, widest_goal, widest_goals, widest_of, widest_test}
 pub use Rattle.ghc_reader.specs.Bytes.{BeginsNegative, IsRun, Lacks, begins_variable, goes_on, is_blank, is_word}
-pub use Rattle.ghc_reader.specs.Depth.{IsTooDeep, open_after, open_behind}
+pub use Rattle.ghc_reader.specs.Depth.{IsDeeperThan, IsTooDeep, open_after, open_behind}
 pub use Rattle.ghc_reader.specs.Derived.{arguments_of, call_of, cells_of, clause_of, clauses_of, goals_of, item_of, operand_of, product_of, product_onto, query_of, right_of, sum_onto, test_of, tests_of, tree_of, trees_of, value_of}
 pub use Rattle.ghc_reader.specs.Front.{Begins, IsNotAssigned, IsNotNamed, NoVariable, StartsWithVariable, first, item_like, like, like_assignment, like_equation, second}
 pub use Rattle.ghc_reader.specs.Grammar.{AreClosedArguments, Arguments, Body, Clause, Expression, Factors, Input, IsClosedRest, Item, Operand, Program, Query, Rest, Right, Term, Terms, Test, Tests, arguments, assign, body, call, clause, clauses, closed, compare, done, expression, fact, factor, factors, goal, guarded, input, integer, item, last, last_test, list, more, nested, next, next_test, one, operand, partial, plain, plain_test, program, query, rest, right, rule, stopped, summand, summands, term, terms, test, tests, unguarded, unify, variable, whole, within, without}
 pub use Rattle.ghc_reader.specs.Laws.{IsSpelledBy, ReadAskIsExact, ReadBodyIsExact, ReadProgramIsExact, ReadQueryIsExact, ReadTermIsExact}
 pub use Rattle.ghc_reader.specs.Lexed.{AreDigits, BeginsNumber, EveryTextIsRead, IsBadAt, IsCutFault, IsCutInto, IsLexFault, IsLexed, IsNumberedAs, IsRefused, IsRefusedToken, IsReserved, IsReservedAs, IsReservedBy, IsTooGreat, NoTextIsReadTwice, greatest_number, most_bytes, piece_of, place_of_token, token_of, token_of_bytes, token_places}
-pub use Rattle.ghc_reader.specs.Limits.{first_exceeded, of_program, of_query, of_term}
+pub use Rattle.ghc_reader.specs.Limits.{first_exceeded, of_ask, of_program, of_query, of_term}
 pub use Rattle.ghc_reader.specs.Lowered.{AreClosed, AreCounted, AreNamed, Each, IsCalled, IsClosed, Names, Says, SaysAll, SaysAllBy, SaysAsked, SaysBy, SaysClause, SaysGoal, SaysGoalBy, SaysGuard, SaysQuery, SaysValue, SaysValueBy, blank, doing, first_variable, is_true, product_operator, sum_operator, tail_of, variable_of}
 pub use Rattle.ghc_reader.specs.Parts.{ClosedFront, EndsArguments, EndsBody, EndsClause, EndsExpression, EndsItem, EndsOperand, EndsProduct, EndsProgram, EndsQuery, EndsRest, EndsRight, EndsTerm, EndsTerms, EndsTest, EndsTests, EndsWhole, Fault, Found, FoundAt}
 pub use Rattle.ghc_reader.specs.Pieces.{Cuts, HasForm, HasNoPiece, IsByte, IsFront, IsNegative, Piece, Stands, signs_after, signs_behind, spelled}
@@ -68,7 +68,7 @@ pub use Rattle.ghc_term.specs.declared.limit.Limit.{Limit}
 pub use Rattle.ghc_term.specs.declared.operator.Operator.{Operator}
 pub use Rattle.ghc_term.specs.declared.var_name.VarName.{VarName}
 pub use Rattle.indexmap.specs.IndexMap.{get}
-pub use Rattle.std.proofs.Common.{All, Bool, Bor, Box, Err, FitsSigned, Global, IfErr, IfOk, IsTrue, List, MatchOption, MatchResult, None, Ok, OkIff, OnErr, OnOk, Option, Result, Some, Vec, [], add-zero, ap, append_assoc, arith, bytes_eq, codes, cond, drop, false, filter, get_or, if◌then◌else◌, inl, inr, is_some, length, length-append, map, max, nat_eq, nat_lt, neg_ℤ, negsuc, not, one-add, pos, refl, reverse, rules, slice_get, subst, suc, sym, take, take_all, true, vec_len, w64, zero, ℕ, ℤ, ⊎_elim, ◌&&◌, ◌*◌, ◌++◌, ◌+◌, ◌-◌, ◌<◌, ◌==◌, ◌^◌, ◌||◌, ◌↔◌, ◌∙◌, ◌∷◌, ◌≡◌, ◌≢◌, ◌≤◌, ◌⊎◌}
+pub use Rattle.std.proofs.Common.{All, Bool, Bor, Box, Err, FitsSigned, Global, IfErr, IfOk, IsTrue, List, MatchOption, MatchResult, None, Ok, OkIff, OnErr, OnOk, Option, Result, Some, Vec, [], add-zero, ap, append_assoc, arith, bytes_eq, codes, cond, drop, false, filter, get_or, if◌then◌else◌, inl, inr, is_some, length, length-append, map, max, min, nat_eq, nat_lt, neg_ℤ, negsuc, not, one-add, pos, refl, reverse, rules, slice_get, subst, suc, sym, take, take_all, true, vec_len, w64, zero, ℕ, ℤ, ⊎_elim, ◌&&◌, ◌*◌, ◌++◌, ◌+◌, ◌-◌, ◌<◌, ◌==◌, ◌^◌, ◌||◌, ◌↔◌, ◌∙◌, ◌∷◌, ◌≡◌, ◌≢◌, ◌≤◌, ◌⊎◌}
 pub use Rattle.std.proofs.Math.Nat.{eq-or-lt_of_le}
 pub use Rattle.std.proofs.Math.Seq.{drop-append_seam, take-append-add, take-append_seam, take-suc}
 pub use Rattle.std.proofs.lemmas.Bool.{cases_lt, false_from_ne_true, false≢true, or_cases, or_from, or_left, or_parts, or_right}

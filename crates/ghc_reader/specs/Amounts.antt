@@ -95,6 +95,20 @@ abbrev pub variables : List (List ℕ) → ℕ
 variables [] = 0
 variables (v ∷ vs) = if is_unnamed v || not (list_any (bytes_eq v) vs) then variables vs + 1 else variables vs
 
+-- ---- operators
+
+-- How deep the operators of an expression stand inside one another. As it is printed, each of them but the outermost has brackets around it.
+abbrev pub levels : Value → ℕ
+levels (number _) = 0
+levels (named _) = 0
+levels (product _ a b) = max (levels a) (levels b) + 1
+levels (sum _ a b) = max (levels a) (levels b) + 1
+
+abbrev pub levels_of_goal : Goal → ℕ
+levels_of_goal (call _) = 0
+levels_of_goal (unify _ _) = 0
+levels_of_goal (assign _ e) = levels e
+
 -- ---- nodes
 
 abbrev mutual

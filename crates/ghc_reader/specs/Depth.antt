@@ -17,6 +17,10 @@ abbrev pub open_after : ℕ → List Token → ℕ
 open_after n [] = n
 open_after n (t ∷ ts) = open_after (open_behind n t) ts
 
+-- more than so many brackets are open at one place
+abbrev pub IsDeeperThan : ℕ → List Token → Type 0
+IsDeeperThan most ts = (front rest : List Token) × (ts ≡ front ++ rest) × (most < open_after 0 front)
+
 -- more than 64 brackets are open at one place
 abbrev pub IsTooDeep : List Token → Type 0
-IsTooDeep ts = (front rest : List Token) × (ts ≡ front ++ rest) × (64 < open_after 0 front)
+IsTooDeep ts = IsDeeperThan 64 ts

@@ -4,11 +4,11 @@ use Rattle.std.specs.List.{find}
 use Rattle.ghc_term.specs.declared.limit.Limit.{Limit}
 use Rattle.ghc_term.specs.declared.limit.Limit.TheVariants as limit
 use Rattle.ghc_reader.specs.Source.{Tree, Goal, Clause}
-use Rattle.ghc_reader.specs.Amounts.{largest, widest, widest_goals, widest_clause, goals_of_clause, names_of_goals, names_of_clause, variables, nodes}
+use Rattle.ghc_reader.specs.Amounts.{largest, widest, widest_goals, widest_clause, goals_of_clause, names_of_goals, names_of_clause, variables, levels_of_goal, nodes}
 
 -- the limits on trees, in the order in which they are tested
 abbrev pub in_order : List Limit
-in_order = limit.Clauses ∷ limit.Arity ∷ limit.Goals ∷ limit.Variables ∷ limit.Term ∷ []
+in_order = limit.Clauses ∷ limit.Arity ∷ limit.Goals ∷ limit.Variables ∷ limit.Depth ∷ limit.Term ∷ []
 
 -- the most that a tree may have of it
 abbrev pub most : Limit → ℕ
@@ -16,6 +16,7 @@ most limit.Clauses = 10000
 most limit.Arity = 255
 most limit.Goals = 1000
 most limit.Variables = 1000
+most limit.Depth = 1000
 most limit.Term = 10000
 most _ = 0
 
@@ -37,6 +38,14 @@ of_query gs limit.Arity = widest_goals gs
 of_query gs limit.Goals = length gs
 of_query gs limit.Variables = variables (names_of_goals gs)
 of_query gs _ = 0
+
+-- how much is asked for in mid-run: as in a query, and operators inside one another
+abbrev pub of_ask : List Goal → Limit → ℕ
+of_ask gs limit.Arity = widest_goals gs
+of_ask gs limit.Goals = length gs
+of_ask gs limit.Variables = variables (names_of_goals gs)
+of_ask gs limit.Depth = largest levels_of_goal gs
+of_ask gs _ = 0
 
 -- how much an input term has: arguments of one structure, nodes
 abbrev pub of_term : Tree → Limit → ℕ

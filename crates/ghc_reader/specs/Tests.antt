@@ -16,7 +16,7 @@ use Rattle.ghc_reader.specs.Grammar.{Program, Query, Input, program, query, inpu
 use Rattle.ghc_reader.specs.Derived.{clauses_of, query_of, tree_of}
 use Rattle.ghc_reader.specs.Source.{Tree, Goal, Clause}
 use Rattle.ghc_reader.specs.Reserved.{misplaced_program, misplaced_query, misplaced_body, first_place}
-use Rattle.ghc_reader.specs.Limits.{first_exceeded, of_program, of_query, of_term}
+use Rattle.ghc_reader.specs.Limits.{first_exceeded, of_program, of_query, of_ask, of_term}
 
 -- A kind of text: the derivations of its grammar, with the tokens and the tree of each; the places of what is misplaced in a
 -- tree, each as the number of tokens that the text has left there; how much of what is limited a tree has; whether reserved
@@ -56,24 +56,24 @@ a_query = record {
 }
 
 -- what is asked for in mid-run: the grammar of a query, in which no stream stands
-abbrev pub asked : Bool → Kind
-asked measured = record {
+abbrev pub asked : Bool → (List Goal → Limit → ℕ) → Kind
+asked measured amount = record {
   Derivation = Query;
   Seen = List Goal;
   spell = query;
   tree = λ q. query_of q [];
   misplaced = misplaced_body;
-  amount = of_query;
+  amount = amount;
   reserved = Allowed;
   measured = measured;
 }
 
 abbrev pub an_ask : Kind
-an_ask = asked true
+an_ask = asked true of_ask
 
 -- the same as a history has it, of any length and depth
 abbrev pub a_body : Kind
-a_body = asked false
+a_body = asked false of_query
 
 abbrev pub a_term : Kind
 a_term = record {

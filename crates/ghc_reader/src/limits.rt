@@ -5,6 +5,7 @@ ghost use Rattle.ghc_reader.specs.Limits.{first_exceeded, of_program, of_query, 
 
 pub(crate) mod arguments;
 pub(crate) mod goals;
+pub(crate) mod levels;
 pub(crate) mod names;
 pub(crate) mod nodes;
 pub(crate) mod variables;

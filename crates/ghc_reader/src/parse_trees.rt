@@ -3,15 +3,17 @@ ghost use Rattle.std.specs.Prelude.{true, false, Bool, List, ℕ, ◌≡◌, ◌
 ghost use Rattle.ghc_reader.specs.Views.{view, goal_views, clause_views};
 ghost use Rattle.ghc_reader.specs.declared.lexer.value.Reserved.TheVariants.{Allowed};
 ghost use Rattle.ghc_reader.specs.Lexed.{most_bytes};
+ghost use Rattle.ghc_reader.specs.Limits.{of_query};
 ghost use Rattle.ghc_reader.specs.Viable.{IfSyntax};
 ghost use Rattle.ghc_reader.specs.Tests.{a_program, a_query, asked, an_ask, a_body, a_term, IsShallow, IsRead, IsFaultAt, IsTokenRefusal, IsRefusal};
 
 pub(crate) mod laws;
 
-use crate::depth::is_too_deep;
+use crate::depth::{MOST_OPEN_IN_BODY, is_deeper_than, is_too_deep};
 use crate::input_parser::parse_term;
 use crate::lexer::value::Reserved;
 use crate::lexer::{Lexed, all_tokens, tokens};
+use crate::limits::levels::{MOST_LEVELS, most_levels};
 use crate::limits::{program_limit, query_limit, term_limit};
 use crate::parse_error::ParseError;
 use crate::parser::{parse_program, parse_query};
@@ -105,32 +107,46 @@ pub(crate) fn parsed_query(alloc: Global, text: &[u8]) -> Result<Vec<SourceGoal>
     Ok(goals)
 }
 
-/// The goals that the text of what is asked for says, or its refusal, as `parsed_program`. Reserved variables may stand in it.
+/// The goals that the text of what is asked for says, or its refusal, as `parsed_program`. Reserved variables may stand in it. Last
+/// it is tested how deep operators stand inside one another.
 pub(crate) fn parsed_ask(alloc: Global, text: &[u8]) -> Result<Vec<SourceGoal>, Fault>
     ensures found { IfOk result (λ goals. IsRead an_ask text.now (goal_views goals.items)) }
     ensures fault { IfErr result (λ fault. (fault ≡ Fault.Memory) ⊎ IsRefusal an_ask text.now fault) }
     ensures too_long { most_bytes < length text.now → result ≡ Err (Fault.Limit Limit.Text) }
 {
     let lexed = shallow_tokens(alloc, text, Reserved::Allowed)?;
-    asked_goals(alloc, &lexed)
+    let goals = asked_goals(alloc, &lexed)?;
+    if most_levels(&goals) > MOST_LEVELS {
+        return Err(Fault::Limit(Limit::Depth));
+    }
+    Ok(goals)
 }
 
-/// The goals that a text of any length and depth asks for, as a history has it, or its refusal, as `parsed_ask`.
+/// The goals that a text of any length asks for, as a history has it, or its refusal, as `parsed_ask`. `Memory` also where the stack
+/// may not hold what the parser calls: where more than `MOST_OPEN_IN_BODY` brackets are open at one place, or would be in the text that
+/// is printed of the goals.
 pub(crate) fn parsed_body(alloc: Global, text: &[u8]) -> Result<Vec<SourceGoal>, Fault>
     ensures found { IfOk result (λ goals. IsRead a_body text.now (goal_views goals.items)) }
     ensures fault { IfErr result (λ fault. (fault ≡ Fault.Memory) ⊎ IsRefusal a_body text.now fault) }
 {
     let lexed = body_tokens(alloc, text)?;
-    asked_goals(alloc, &lexed)
+    if is_deeper_than(MOST_OPEN_IN_BODY, &lexed.tokens) {
+        return Err(Fault::Memory);
+    }
+    let goals = asked_goals(alloc, &lexed)?;
+    if most_levels(&goals) > MOST_LEVELS {
+        return Err(Fault::Memory);
+    }
+    Ok(goals)
 }
 
 // The goals that the tokens of a text ask for, whether or not its length and its depth were tested.
 fn asked_goals(alloc: Global, lexed: &Lexed) -> Result<Vec<SourceGoal>, Fault>
     requires { length lexed.now.places.items ≡ length lexed.now.tokens.items + 1 }
     ensures found { (measured : Bool) (text : List ℕ) → IsShallow Allowed measured text lexed.now.tokens.items lexed.now.places.items
-        → IfOk result (λ goals. IsRead (asked measured) text (goal_views goals.items)) }
+        → IfOk result (λ goals. IsRead (asked measured of_query) text (goal_views goals.items)) }
     ensures fault { (measured : Bool) (text : List ℕ) → IsShallow Allowed measured text lexed.now.tokens.items lexed.now.places.items
-        → IfErr result (λ fault. (fault ≡ Fault.Memory) ⊎ IsRefusal (asked measured) text fault) }
+        → IfErr result (λ fault. (fault ≡ Fault.Memory) ⊎ IsRefusal (asked measured of_query) text fault) }
 {
     let goals = match parse_query(alloc, &lexed.tokens) {
         Ok(goals) => goals,

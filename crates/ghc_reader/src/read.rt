@@ -44,8 +44,9 @@ pub fn read_query(alloc: Global, text: &[u8]) -> Result<Query, Fault>
 
 /// What a text asks for in mid-run, where the variables of the query have these names; or its refusal, as `read_query`. Here a
 /// variable `_n_m` names one of the state, by the values of its digits, and is a syntax error at its first byte where one of them
-/// is over 4294967295; and any `instream` of one argument is a syntax error at its first byte. Time and memory grow with the
-/// text and the names.
+/// is over 4294967295; and any `instream` of one argument is a syntax error at its first byte. Last, it is `Limit::Depth` where more
+/// than 1,000 operators stand inside one another: printed, each but the outermost has brackets. Time and memory grow with the text
+/// and the names.
 pub fn read_ask(alloc: Global, text: &[u8], query: &[Name]) -> Result<WrittenAsk, Fault>
     ensures answer { Answered (IsReadAsk query.now text.now) (IsRefusal an_ask text.now) result }
     ensures too_long { most_bytes < length text.now → result ≡ Err (Fault.Limit Text) }
@@ -58,8 +59,9 @@ pub fn read_ask(alloc: Global, text: &[u8], query: &[Name]) -> Result<WrittenAsk
     Ok(asked)
 }
 
-/// What a text asks for as a history has it, of any length and depth; or its refusal, as `read_ask`, but for the tests of these. A
-/// variable that is not of the form `_n_m` is new. `Memory` also where the text has more bytes than numbers of 32 bits count.
+/// What a text asks for as a history has it, of any length; or its refusal, as `read_ask`, but for the tests of length and depth. A
+/// variable that is not of the form `_n_m` is new. `Memory` also where the text has more bytes than numbers of 32 bits count, and where
+/// more than 1,000 brackets are open at one place or more than 1,000 operators stand inside one another.
 pub fn read_body(alloc: Global, text: &[u8]) -> Result<WrittenAsk, Fault>
     ensures { Answered (IsReadBody text.now) (IsRefusal a_body text.now) result }
 {

@@ -1,11 +1,11 @@
-use Rattle.ghc_reader.proofs.Words.{arith, asked}
+use Rattle.ghc_reader.proofs.Words.{arith, asked, of_query}
 use Rattle.ghc_reader.proofs.MisplacedWithin.{misplaced_in_body_tokens}
 use Rattle.ghc_reader.proofs.OneReading.{parse_refusal}
 use Rattle.ghc_reader.proofs.parse_trees.asked_goals.Goals as goal
 
 pub returns-in-Err-clause-fault : goal.returns-in-Err-clause-fault
 returns-in-Err-clause-fault c measured text shallow =
-    parse_refusal (asked measured) text _ _ _ shallow c.deref-in-Err.ensures.value c.in-Err.error (rw c.deref.ensures.value at c.in-Err.ensures.fault) c.fault_of.result c.fault_of.ensures.memory c.fault_of.ensures.syntax
+    parse_refusal (asked measured of_query) text _ _ _ shallow c.deref-in-Err.ensures.value c.in-Err.error (rw c.deref.ensures.value at c.in-Err.ensures.fault) c.fault_of.result c.fault_of.ensures.memory c.fault_of.ensures.syntax
 
 pub overflow_sub-len : goal.overflow_sub-len
 overflow_sub-len c =
