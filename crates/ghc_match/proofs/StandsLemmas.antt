@@ -1,5 +1,5 @@
 -- Maps that a few terms, by the places of their variables, are laid over.
-use Rattle.ghc_match.proofs.Words.{◌≡◌, ◌≢◌, ℕ, zero, suc, ◌+◌, ◌<◌, ◌≤◌, true, false, cond, List, [], ◌∷◌, length, slice_get, slice_set, Some, None, refl, sym, ap, ◌∙◌, arith, Option, Bor, eq_by_cmp, VarName, name_cmp, var_inj, Tree, StoreValue, value_at, name_total, name_antisymmetric, same_name, itself, apart, with_one, laid_over}
+use Rattle.ghc_match.proofs.Words.{◌≡◌, ◌≢◌, ℕ, zero, suc, ◌+◌, ◌<◌, ◌≤◌, true, false, cond, List, [], ◌∷◌, length, slice_get, slice_set, Some, None, refl, sym, ap, ◌∙◌, arith, Option, Bor, eq_by_cmp, VarName, name_cmp, var_inj, Tree, StoreValue, value_at, name_total, name_antisymmetric, same_name, itself, apart, option_copied, with_one, laid_over, HasNoneBefore}
 use Rattle.std.specs.FinMap as finite
 
 abbrev Lent : Type 0
@@ -92,6 +92,16 @@ missing k (None ∷ os) m (suc i) x e s p = missing (suc k) os m i x e s (omega 
 missing k (Some u ∷ os) m (suc i) x e s p =
     elsewhere (laid_over (suc k) os m) (at_place k) u.now x (λ q. let same : x.place ≡ k = ap (λ (y : VarName). y.place) q in omega (arith, same, p))
     ∙ missing (suc k) os m i x e s (omega (arith, p))
+
+-- a variable at one of the first places stands for what is lent there
+pub lent_there : (os : Lent) (m : StoreValue) (x : VarName) (o : Option (Bor Tree)) → HasNoneBefore 8 m → slice_get os x.place ≡ Some o → x.step ≡ 0 → x.place < 8 → option_copied o ≡ value_at (laid_over 0 os m) x
+lent_there os m x None none e s p = sym (missing 0 os m x.place x e s (omega arith) ∙ none x s p)
+lent_there os m x (Some t) none e s p = sym (found 0 os m x.place x t e s (omega arith))
+
+-- the others stand for nothing at the first places
+pub none_before_put : (n : ℕ) (m : StoreValue) (x : VarName) (t : Tree) → HasNoneBefore n m → (x.step ≡ 0 → n ≤ x.place) → HasNoneBefore n (finite.insert m x t)
+none_before_put n m x t none behind y s p =
+    elsewhere m x t y (λ q. let step = ap (λ (z : VarName). z.step) q in let place = ap (λ (z : VarName). z.place) q in let far = behind (sym step ∙ s) in omega (arith, far, place, p)) ∙ none y s p
 
 pub put_there : (k : ℕ) (os : Lent) (m : StoreValue) (i : ℕ) (x : VarName) (t : Bor Tree) → i < length os → x.step ≡ 0 → x.place ≡ k + i → laid_over k (slice_set os i (Some t)) m ≡ finite.insert (laid_over k os m) x t.now
 put_there k [] m i x t h s p = absurd (omega (arith, h))

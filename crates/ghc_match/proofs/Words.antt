@@ -18,7 +18,7 @@ pub use Rattle.ghc_match.specs.Meeting.{Asks, Clashes, Gains, HeadLooksAt, Opens
 pub use Rattle.ghc_match.specs.Places.{ahead_in, ahead_of, all_ahead}
 pub use Rattle.ghc_match.specs.Position.{At, EndsIn, down, here, unbound}
 pub use Rattle.ghc_match.specs.Small.{ComparesOf, ComputesOf, IsAsked, spelled}
-pub use Rattle.ghc_match.specs.Stands.{laid_over, with_one}
+pub use Rattle.ghc_match.specs.Stands.{HasNoneBefore, laid_over, with_one}
 pub use Rattle.ghc_match.specs.Tasks.{IsWorth, Makes, steps, steps_of}
 pub use Rattle.ghc_match.specs.Value.{Computes, HasValue, Number, Wants, bad, computed, number, of_integer, of_variable}
 pub use Rattle.ghc_match.specs.declared.guard.Says.{Says}
@@ -34,7 +34,7 @@ pub use Rattle.ghc_match.specs.declared.scope.Scope.TheVariants.{Goal, Head}
 pub use Rattle.ghc_match.specs.declared.small.Asked.TheVariants.{Worth}
 pub use Rattle.ghc_term.proofs.Chains.{leads_agree, leads_once}
 pub use Rattle.ghc_term.proofs.Decided.{Decided, name_decided, same_decided, some_decided}
-pub use Rattle.ghc_term.proofs.ListsLemmas.{Each, each_as, each_both, each_in, in_at, in_either, in_last, in_left, in_map, in_more, in_right, not_both}
+pub use Rattle.ghc_term.proofs.ListsLemmas.{Each, each_as, each_both, each_in, in_at, in_either, in_last, in_left, in_map, in_more, in_place, in_right, not_both}
 pub use Rattle.ghc_term.proofs.MapsLemmas.{one_map, place_of}
 pub use Rattle.ghc_term.proofs.Names.{apart, itself, name_antisymmetric, name_total, same_name}
 pub use Rattle.ghc_term.proofs.SetsLemmas.{holds_nothing, member, no_member, one_inserted, one_set, set_by, set_of}

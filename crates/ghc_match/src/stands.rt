@@ -41,7 +41,7 @@ fn share_few(few: &[Option<&Term>], others: Bindings) -> Result<Bindings, AllocE
 
 impl<'a> Model for Stands<'a> {
     ghost use Rattle.ghc_term.specs.Store.{StoreValue, store_code};
-    ghost use Rattle.ghc_match.specs.Stands.{laid_over};
+    ghost use Rattle.ghc_match.specs.Stands.{laid_over, HasNoneBefore};
 
     ghost Value = { StoreValue };
 
@@ -51,7 +51,7 @@ impl<'a> Model for Stands<'a> {
 
     ghost view = { λ s. laid_over 0 s.few s.many };
 
-    ghost invariant = { λ s. length s.few ≡ 8 };
+    ghost invariant = { λ s. (length s.few ≡ 8) × HasNoneBefore 8 s.many };
 }
 
 impl<'a> Stands<'a> {
@@ -89,10 +89,7 @@ impl<'a> Stands<'a> {
         let place = x.place as usize;
         if x.step == 0 && place < FEW {
             let few = &self.few[..];
-            match few[place] {
-                Some(term) => return Some(term),
-                None => {}
-            }
+            return few[place];
         }
         self.many.get(x)
     }
