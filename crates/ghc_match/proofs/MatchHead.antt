@@ -23,6 +23,14 @@ head_goes_on S hs ts b c stands stands' wanted wanted' looked looked' all rest n
       fresh = fresh_on S rest new q stands stands' fresh o e;
     }
 
+-- a clash so far is a mismatch
+pub clash_found : (c : Clause) (ts : List Tree) (S : VarName → Option Tree) (b : Bool) (stands : StoreValue) (wanted looked : Variables) (ahead : List (Tree × Tree)) → HeadSoFar S c.head ts b stands wanted looked ahead → IsTrue b → Mismatch c ts S
+clash_found c ts S b stands wanted looked ahead far i =
+    let w = far.seen.clash.0 i in
+    let m = far.walked.done_meets w.0 w.1 in
+    let k = w.2.1 in
+    (m.0, w.0.0, w.0.1, k.0, k.1.0, (m.1, w.2.0), m.2, k.1.1, k.2, k.3)
+
 -- at the end
 module _ (c : Clause) (ts : List Tree) (S : VarName → Option Tree) (b : Bool) (stands : StoreValue) (wanted looked : Variables) (end : HeadSoFar S c.head ts b stands wanted looked []) where
   is_done : (h t : Tree) → Meets S c.head ts h t → In {X = Tree × Tree} (h, t) end.done
@@ -30,11 +38,7 @@ module _ (c : Clause) (ts : List Tree) (S : VarName → Option Tree) (b : Bool) 
 
   pub all_clashes : IsTrue b ↔ Mismatch c ts S
   all_clashes = (
-    λ i.
-        let w = end.seen.clash.0 i in
-        let m = end.walked.done_meets w.0 w.1 in
-        let k = w.2.1 in
-        (m.0, w.0.0, w.0.1, k.0, k.1.0, (m.1, w.2.0), m.2, k.1.1, k.2, k.3),
+    clash_found c ts S b stands wanted looked [] end,
     λ m. end.seen.clash.1 ((m.1, m.2), is_done m.1 m.2 (m.0, m.5.0, m.6), (m.5.1, (m.3, (m.4, m.7), m.8, m.9))),
   )
 

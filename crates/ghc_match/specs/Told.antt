@@ -1,8 +1,11 @@
 -- What the answers tell.
-use Rattle.std.specs.Prelude.{◌≡◌, false}
+use Rattle.std.specs.Prelude.{◌≡◌, false, List, Option}
 use Rattle.std.specs.FinMap as finite
 use Rattle.std.specs.FinSet as set
+use Rattle.ghc_term.specs.declared.var_name.VarName.{VarName}
+use Rattle.ghc_term.specs.Tree.{Tree}
 use Rattle.ghc_term.specs.Sets.{Variables}
+use Rattle.ghc_flat.specs.Clause.{Clause}
 use Rattle.ghc_match.specs.Value as value
 use Rattle.ghc_match.specs.Match as clause
 use Rattle.ghc_match.specs.declared.value.Value.{Value}
@@ -35,6 +38,12 @@ abbrev pub outcome_laid : Says → Met → clause.Outcome
 outcome_laid Yes m = clause.accepts m.stands m.looked
 outcome_laid No m = clause.refuses
 outcome_laid Waits m = clause.waits m.wanted
+
+-- The clause c says so to a call with the arguments ts in the store S, where this has been shown: only where it accepts, all that was shown counts.
+abbrev pub IsAnswer : Clause → List Tree → (VarName → Option Tree) → Says → Met → Type 0
+IsAnswer c ts S Yes m = clause.HasOutcome c ts S (clause.accepts m.stands m.looked)
+IsAnswer c ts S No m = clause.Refuses c ts S
+IsAnswer c ts S Waits m = (x : VarName) × clause.WaitsFor c ts S x
 
 -- the outcome that an answer of `try_clause` tells
 abbrev pub outcome_of : Tried → clause.Outcome

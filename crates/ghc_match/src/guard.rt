@@ -89,7 +89,7 @@ fn look_at_all(
 }
 
 // What the test says. What it waits for is wanted, and the chains of its variables are looked at.
-fn try_test(
+pub fn try_test(
     alloc: Global,
     store: &Store,
     stands: &Stands<'_>,

@@ -45,7 +45,7 @@ impl<'a> Met<'a> {
 
 // Sees the pair at one position, where a variable of the head does not stand for anything yet, and gives the places just below it.
 #[inline(always)]
-fn visit<'a>(
+pub fn visit<'a>(
     store: &'a Store,
     head: &'a Term,
     term: &'a Term,

@@ -18,6 +18,7 @@ mod small;
 mod stands;
 mod test_holds;
 mod trying;
+mod until_no;
 mod value;
 
 pub use evaluation::evaluate;
@@ -31,4 +32,5 @@ pub use laws::{
 };
 pub use stands::Stands;
 pub use trying::{Outcome, Tried, lay_clause, try_clause};
+pub use until_no::lay_until_no;
 pub use value::Value;
