@@ -9,7 +9,7 @@ use crate::act::Act;
 use crate::effect::Effect;
 use crate::instances::instance;
 use ghc_flat::{Clause, Program};
-use ghc_match::{Met, Says, first_end, lay_clause, refuses_at_first};
+use ghc_match::{Met, Says, first_end, lay_until_no, refuses_at_first};
 use ghc_term::{Bindings, Fault, Name, Store, Term};
 use std::alloc::{AllocError, Global};
 
@@ -37,7 +37,7 @@ fn try_clause_as_step(
     store.acyclic();
     let head_variables = clause.head_variables();
     let mut met = Met::new(alloc);
-    match lay_clause(alloc, clause, arguments, store, &mut met)? {
+    match lay_until_no(alloc, clause, arguments, store, &mut met)? {
         Says::No => Ok(Verdict::Refuses),
         Says::Waits => Ok(Verdict::Waits),
         Says::Yes => {
