@@ -11,7 +11,7 @@ ghost use Rattle.ghc_hooks.specs.Status.{ready, waiting, failed};
 
 use crate::note::Note;
 use ghc_flat::Clause;
-use ghc_match::{Outcome, Tried, try_clause};
+use ghc_match::{Met, Says, lay_clause};
 use ghc_term::{Fault, Store, Term, VarName, Variables};
 use std::alloc::{AllocError, Global};
 
@@ -58,25 +58,28 @@ impl Heard {
         }
     }
 
-    // Tries one clause more on the call with these arguments, and adds what it says. It costs what `try_clause` does, and a look-up for
-    // each variable at which the clause looks or for which it waits.
-    pub fn hear(
+    // Lays one clause more over the call with these arguments, and adds what it says. It costs what `lay_clause` does, and a look-up for
+    // each variable at which the clause looks or for which it waits. No term is copied.
+    pub fn hear<'x>(
         &mut self,
         alloc: Global,
-        clause: &Clause,
-        arguments: &[Term],
-        store: &Store,
+        clause: &'x Clause,
+        arguments: &'x [Term],
+        store: &'x Store,
     ) -> Result<(), AllocError>
         requires { IsLinear clause.now }
         ensures accepts { OnOk result (IsTrue self.new.accepts ↔ (IsTrue self.old.accepts ⊎ Accepts clause.now arguments.now (value_at store.now.held))) }
         ensures awaited { OnOk result (Gains self.old.awaited self.new.awaited (WaitsFor clause.now arguments.now (value_at store.now.held))) }
         ensures looked { OnOk result (Gains self.old.looked self.new.looked (LooksAt clause.now arguments.now (value_at store.now.held))) }
     {
-        let Tried { outcome, looked } = try_clause(alloc, clause, arguments, store)?;
-        match outcome {
-            Outcome::Refuses => {}
-            Outcome::Waits(awaited) => join(&mut self.awaited, awaited)?,
-            Outcome::Accepts(_stands) => self.accepts = true,
+        let mut met = Met::new(alloc);
+        let says = lay_clause(alloc, clause, arguments, store, &mut met)?;
+        let awaited = met.wanted;
+        let looked = met.looked;
+        match says {
+            Says::No => {}
+            Says::Waits => join(&mut self.awaited, awaited)?,
+            Says::Yes => self.accepts = true,
         }
         join(&mut self.looked, looked)
     }
