@@ -1,21 +1,14 @@
 -- The strays of slots, where a slot is put behind the others, where a record is taken out, and where gaps are closed up.
-use Rattle.ghc_records.proofs.Words.{◌≡◌, ◌≢◌, ◌+◌, ◌<◌, ◌≤◌, ℕ, zero, suc, cond, List, [], ◌∷◌, ◌++◌, length, take, filter, get_or, refl, sym, ap, ◌∙◌, subst, inl, inr, nat_eq, arith, ◌↔◌, Option, Some, None, is_some, slice_set, lookup, filter_more, In, AreDistinct, Record, numbers, SlotList, PlacesByNumber, held_in, StandsIn, HasNumberIn, HasStrayIn, AreStraysOf}
+use Rattle.ghc_records.proofs.Words.{◌≡◌, ◌≢◌, ◌+◌, ◌<◌, ◌≤◌, ℕ, zero, suc, cond, List, [], ◌∷◌, ◌++◌, length, take, filter, get_or, refl, sym, ap, ◌∙◌, subst, inl, inr, nat_eq, arith, ◌↔◌, Option, Some, None, is_some, slice_set, nat_cmp, filter_more, In, AreDistinct, Record, numbers, SlotList, PlacesByNumber, held_in, StandsIn, HasNumberIn, HasStrayIn, AreStraysOf, IsChangedAt}
 use Rattle.std.specs.FinMap as finite
 use Rattle.ghc_records.proofs.CutTexts.{taken_at}
 use Rattle.ghc_records.proofs.NumberSets.{one_or_not}
 use Rattle.ghc_records.proofs.SlotLemmas.{stands_held, held_stands, held_closed, stands_more, stands_still, stands_last, stands_without, still_stands}
-use Rattle.ghc_records.proofs.SlotPlaces.{places_in, place_is, at_key, at_other, one_record}
+use Rattle.ghc_records.proofs.SlotPlaces.{one_record}
 use Rattle.ghc_records.proofs.SlotClosing.{once_of}
 
--- under the number stands this now, and under each other one what stood there
-abbrev Changes : PlacesByNumber → PlacesByNumber → ℕ → Option ℕ → Type 0
-Changes old new k o = (finite.get new k ≡ o) × ((n : ℕ) → n ≢ k → finite.get new n ≡ finite.get old n)
-
-changed : (es new : List (ℕ × ℕ)) (k : ℕ) (o : Option ℕ) → ((q : ℕ) → lookup (nat_eq q) new ≡ cond (nat_eq k q) o (lookup (nat_eq q) es)) → Changes (places_in es) (places_in new) k o
-changed es new k o u = (at_key es new k o u k refl, at_other es new k o u)
-
 -- nothing stands under the number of no stray
-none_there : (ss : SlotList) (strays : PlacesByNumber) (k : ℕ) → AreStraysOf ss strays → ((p : ℕ) → ¬ HasStrayIn ss p k) → Changes strays strays k None
+none_there : (ss : SlotList) (strays : PlacesByNumber) (k : ℕ) → AreStraysOf ss strays → ((p : ℕ) → ¬ HasStrayIn ss p k) → IsChangedAt strays strays k None
 none_there ss strays k h none = (
   elim (finite.get strays k) as (λ o. finite.get strays k ≡ o → o ≡ None) [
     | None ↦ λ e. refl
@@ -24,22 +17,25 @@ none_there ss strays k h none = (
   λ n d. refl,
 )
 
-pub strays_none : (ss : SlotList) (es : List (ℕ × ℕ)) → ss ≡ [] → es ≡ [] → AreStraysOf ss (places_in es)
-strays_none ss es s e = subst (λ l. AreStraysOf l (places_in es)) (sym s) (subst (λ l. AreStraysOf [] (places_in l)) (sym e) (λ n p. (
-  λ g. absurd (let clash : None ≡ Some p = place_is [] n ∙ g in cc),
+nothing_under : (strays : PlacesByNumber) (n p : ℕ) → strays ≡ finite.empty → finite.get strays n ≢ Some p
+nothing_under strays n p e g = let clash : None ≡ Some p = sym (finite.get-empty nat_cmp n) ∙ ap (λ m. finite.get m n) (sym e) ∙ g in cc
+
+pub strays_none : (ss : SlotList) (strays : PlacesByNumber) → ss ≡ [] → strays ≡ finite.empty → AreStraysOf ss strays
+strays_none ss strays s e = subst (λ l. AreStraysOf l strays) (sym s) (λ n p. (
+  λ g. absurd (nothing_under strays n p e g),
   λ w. absurd (let clash : None ≡ Some (Some w.0.0) = w.0.1 in cc),
-)))
+))
 
 -- where there are no strays, each record stands just below its number
-pub just_below : (ss : SlotList) (es : List (ℕ × ℕ)) (p : ℕ) (r : Record) → AreStraysOf ss (places_in es) → es ≡ [] → StandsIn ss p r → p + 1 ≡ r.number
-just_below ss es p r h e stands = elim (one_or_not (p + 1) r.number) [
+pub just_below : (ss : SlotList) (strays : PlacesByNumber) (p : ℕ) (r : Record) → AreStraysOf ss strays → strays ≡ finite.empty → StandsIn ss p r → p + 1 ≡ r.number
+just_below ss strays p r h e stands = elim (one_or_not (p + 1) r.number) [
   | inl same ↦ same
-  | inr d ↦ absurd (let clash : None ≡ Some p = place_is [] r.number ∙ (subst (λ l. AreStraysOf ss (places_in l)) e h r.number p).1 ((r, stands, refl), d) in cc)
+  | inr d ↦ absurd (nothing_under strays r.number p e ((h r.number p).1 ((r, stands, refl), d)))
 ]
 
 -- one slot more
 strays_more : (ss : SlotList) (old new : PlacesByNumber) (s : Record) (o : Option ℕ) → AreStraysOf ss old → ((r : Record) → In r (held_in ss) → r.number ≢ s.number)
-    → Changes old new s.number o → ((p : ℕ) → (o ≡ Some p) ↔ ((p ≡ length ss) × (p + 1 ≢ s.number))) → AreStraysOf (ss ++ Some s ∷ []) new
+    → IsChangedAt old new s.number o → ((p : ℕ) → (o ≡ Some p) ↔ ((p ≡ length ss) × (p + 1 ≢ s.number))) → AreStraysOf (ss ++ Some s ∷ []) new
 strays_more ss old new s o h fresh change here n p = elim (one_or_not n s.number) [
   | inl e ↦
       let there = ap (finite.get new) e ∙ change.0 in (
@@ -62,16 +58,16 @@ strays_same ss strays s h fresh below = strays_more ss strays strays s None h fr
 ))
 
 -- with a stray
-pub strays_one : (ss : SlotList) (es new : List (ℕ × ℕ)) (s : Record) → AreStraysOf ss (places_in es) → ((r : Record) → In r (held_in ss) → r.number ≢ s.number)
-    → length ss + 1 ≢ s.number → ((q : ℕ) → lookup (nat_eq q) new ≡ cond (nat_eq s.number q) (Some (length ss)) (lookup (nat_eq q) es)) → AreStraysOf (ss ++ Some s ∷ []) (places_in new)
-strays_one ss es new s h fresh other u = strays_more ss (places_in es) (places_in new) s (Some (length ss)) h fresh (changed es new s.number (Some (length ss)) u) (λ p. (
-  λ e. let same : length ss ≡ p = cc in (sym same, λ q. other (ap (λ i. i + 1) same ∙ q)),
-  λ w. ap Some (sym w.0),
+pub strays_one : (ss : SlotList) (old new : PlacesByNumber) (s : Record) (place : ℕ) → AreStraysOf ss old → ((r : Record) → In r (held_in ss) → r.number ≢ s.number)
+    → place ≡ length ss → length ss + 1 ≢ s.number → IsChangedAt old new s.number (Some place) → AreStraysOf (ss ++ Some s ∷ []) new
+strays_one ss old new s place h fresh at other change = strays_more ss old new s (Some place) h fresh change (λ p. (
+  λ e. let same : place ≡ p = cc in (sym same ∙ at, λ q. other (ap (λ i. i + 1) (sym at ∙ same) ∙ q)),
+  λ w. ap Some (at ∙ sym w.0),
 ))
 
 -- a gap more
 strays_without : (ss : SlotList) (old new : PlacesByNumber) (place k : ℕ) → AreDistinct (numbers (held_in ss)) → AreStraysOf ss old → HasNumberIn ss place k
-    → Changes old new k None → AreStraysOf (slice_set ss place None) new
+    → IsChangedAt old new k None → AreStraysOf (slice_set ss place None) new
 strays_without ss old new place k distinct h stood change n p = elim (one_or_not n k) [
   | inl e ↦ (
     λ g. absurd (let clash : None ≡ Some p = sym (ap (finite.get new) e ∙ change.0) ∙ g in cc),
@@ -91,9 +87,9 @@ gap_same ss strays place k distinct h stood below = strays_without ss strays str
     (none_there ss strays k h (λ p w. w.1 (ap (λ i. i + 1) (once_of ss distinct p place w.0.0 stood.0 w.0.1 stood.1 (w.0.2 ∙ sym stood.2)) ∙ below)))
 
 -- where a stray stood
-pub gap_one : (ss : SlotList) (es new : List (ℕ × ℕ)) (place k : ℕ) → AreDistinct (numbers (held_in ss)) → AreStraysOf ss (places_in es) → HasNumberIn ss place k
-    → ((q : ℕ) → lookup (nat_eq q) new ≡ cond (nat_eq k q) None (lookup (nat_eq q) es)) → AreStraysOf (slice_set ss place None) (places_in new)
-gap_one ss es new place k distinct h stood u = strays_without ss (places_in es) (places_in new) place k distinct h stood (changed es new k None u)
+pub gap_one : (ss : SlotList) (old new : PlacesByNumber) (place k : ℕ) → AreDistinct (numbers (held_in ss)) → AreStraysOf ss old → HasNumberIn ss place k
+    → IsChangedAt old new k None → AreStraysOf (slice_set ss place None) new
+gap_one ss old new place k distinct h stood change = strays_without ss old new place k distinct h stood change
 
 -- what the look-ups find, just below the number or else among the strays
 pub found_below : (ss : SlotList) (place n : ℕ) → AreDistinct (numbers (held_in ss)) → HasNumberIn ss place n → (p : ℕ) → (Some place ≡ Some p) ↔ HasNumberIn ss p n

@@ -1,7 +1,7 @@
 -- Lemmas on lines that tell steps with numbers of their own, as they are read one by one.
-use Rattle.ghc_records.proofs.Words.{◌≡◌, ℕ, ◌+◌, ◌<◌, inl, inr, List, [], ◌∷◌, ◌++◌, length, map, refl, sym, ap, ◌∙◌, subst, Option, Some, None, IfSome, ◌↔◌, map-append, Fault, In, in_last, in_more, AreDistinct, Step, IsLineOf, SaysStep, TellsItems, TellsNext, TellsNoMore, TellsNoMoreItems, TellsSteps, pieces_of}
+use Rattle.ghc_records.proofs.Words.{◌≡◌, ℕ, ◌+◌, ◌<◌, ◌⊎◌, inl, inr, List, [], ◌∷◌, ◌++◌, length, map, refl, sym, ap, ◌∙◌, subst, Option, Some, None, IfSome, ◌↔◌, map-append, Fault, In, in_last, in_more, AreDistinct, Step, IsLineOf, SaysStep, TellsItems, TellsNext, TellsNoMore, TellsNoMoreItems, TellsSteps, pieces_of}
 use Rattle.ghc_records.proofs.CutLemmas.{line_is}
-use Rattle.ghc_records.proofs.NumberSets.{distinct_pushed}
+use Rattle.ghc_records.proofs.NumberSets.{distinct_pushed, in_pushed}
 use Rattle.ghc_records.proofs.Saying.{one_step_number}
 use Rattle.ghc_records.proofs.SectionLemmas.{HasRead, SaysNext, no_more_read, nothing_read, one_more_read}
 
@@ -21,16 +21,20 @@ AreApart P steps = AreDistinct (map number_of steps) × ((s : Step) → In s ste
 abbrev IsWrongStep : (Step → Type 0) → List (List ℕ) → ℕ → Fault → Type 0
 IsWrongStep P pieces count fault = (steps : List Step) × (fault ≡ Fault.History (length steps + 3)) × TellsNoMoreItems SaysStep (AreApart P) pieces count steps
 
+-- The keys are the numbers of the steps.
+abbrev HaveNumbers : List ℕ → List Step → Type 0
+HaveNumbers keys steps = (n : ℕ) → In n keys ↔ In n (map number_of steps)
+
 -- the first of these pieces are lines that tell such steps, which have these numbers
 abbrev pub HasTold : (Step → Type 0) → List (List ℕ) → ℕ → List ℕ → List ℕ → List Step → Type 0
-HasTold P pieces index rest keys steps = HasRead SaysStep (AreApart P) pieces index rest steps × (keys ≡ map number_of steps)
+HasTold P pieces index rest keys steps = HasRead SaysStep (AreApart P) pieces index rest steps × HaveNumbers keys steps
 
 module _ (P : Step → Type 0) where
   -- at the start nothing is told
   pub nothing_told : (text keys : List ℕ) (steps : List Step) → keys ≡ [] → steps ≡ [] → HasTold P (pieces_of text) 0 text keys steps
   nothing_told text keys steps no_keys no_steps = (
     nothing_read SaysStep (AreApart P) text steps no_steps (tt, λ s i. absurd i),
-    no_keys ∙ ap (map number_of) (sym no_steps),
+    subst (HaveNumbers keys) (sym no_steps) (subst (λ l. HaveNumbers l []) (sym no_keys) (λ n. (λ i. i, λ i. i))),
   )
 
   module _ (pieces : List (List ℕ)) (count index : ℕ) (rest keys : List ℕ) (steps : List Step) (has : HasTold P pieces index rest keys steps) where
@@ -43,7 +47,7 @@ module _ (P : Step → Type 0) where
     wrong_again s behind low (line, is, says) i = wrong low (λ other t stands other_says fit.
         let same = line_is (pieces_of rest) 0 rest line behind other refl is stands in
         let number = one_step_number line s t says (subst (λ l. SaysStep l t) same other_says) in
-        let told = subst (λ n. In n (map number_of steps)) number (subst (In s.number) has.1 i) in
+        let told = subst (λ n. In n (map number_of steps)) number ((has.1 s.number).0 i) in
         last_is_new (map number_of steps) t.number (subst AreDistinct (map-append number_of steps (t ∷ [])) fit.0) told)
 
     -- no line says a step of which P holds
@@ -51,18 +55,20 @@ module _ (P : Step → Type 0) where
     wrong_line low none = wrong low (λ line s stands says fit. none line s stands says (fit.1 s (in_last steps s)))
 
     -- one line more tells one step more
-    pub one_more_put : (s : Step) (behind : List ℕ) (n : ℕ) (new_keys : List ℕ) (new_steps : List Step) → SaysNext SaysStep (AreApart P) rest s behind → n ≡ s.number → ¬ In n keys → P s → new_keys ≡ keys ++ n ∷ []
+    pub one_more_put : (s : Step) (behind : List ℕ) (n : ℕ) (new_keys : List ℕ) (new_steps : List Step) → SaysNext SaysStep (AreApart P) rest s behind → n ≡ s.number → ¬ In n keys → P s → ((m : ℕ) → In m new_keys ↔ (In m keys ⊎ (m ≡ n)))
         → new_steps ≡ steps ++ s ∷ [] → HasTold P pieces (index + 1) behind new_keys new_steps
     one_more_put s behind n new_keys new_steps says is new holds put pushed =
-        let unused = λ (i : In s.number (map number_of steps)). new (subst (In n) (sym has.1) (subst (λ m. In m (map number_of steps)) (sym is) i)) in
+        let unused = λ (i : In s.number (map number_of steps)). new ((has.1 n).1 (subst (λ m. In m (map number_of steps)) (sym is) i)) in
         let fit : AreApart P (steps ++ s ∷ []) = (
           subst AreDistinct (sym (map-append number_of steps (s ∷ []))) (distinct_pushed (map number_of steps) s.number has.0.told.fit.0 unused),
           λ t i. elim (in_more steps s t i) [ inl h ↦ has.0.told.fit.1 t h | inr e ↦ subst P (sym e) holds ],
         ) in (
           subst (HasRead SaysStep (AreApart P) pieces (index + 1) behind) (sym pushed)
               (one_more_read SaysStep (AreApart P) pieces index rest steps has.0 s behind says fit),
-          put ∙ ap (λ l. l ++ n ∷ []) has.1 ∙ ap (λ m. map number_of steps ++ m ∷ []) is
-              ∙ sym (map-append number_of steps (s ∷ [])) ∙ ap (map number_of) (sym pushed),
+          subst (HaveNumbers new_keys) (sym pushed) (λ m. subst (λ l. In m new_keys ↔ In m l) (sym (map-append number_of steps (s ∷ []))) (
+            λ i. (in_pushed (map number_of steps) s.number m).1 (elim ((put m).0 i) [ inl j ↦ inl ((has.1 m).0 j) | inr e ↦ inr (e ∙ is) ]),
+            λ i. (put m).1 (elim ((in_pushed (map number_of steps) s.number m).0 i) [ inl j ↦ inl ((has.1 m).1 j) | inr e ↦ inr (e ∙ sym is) ]),
+          )),
         )
 
 -- ---- below the next step

@@ -20,7 +20,7 @@ use Rattle.ghc_fire.specs.EffectCode.{effect_code}
 use Rattle.ghc_records.specs.Record.{State, Record, Shelf}
 use Rattle.ghc_records.specs.State.{StateRoom, StateTables}
 use Rattle.ghc_records.specs.UseIndex.{UsersByStep, BindersByVariable, Index, RecordsRoom, RecordsTables}
-use Rattle.ghc_records.specs.Slots.{SlotList}
+use Rattle.ghc_records.specs.Slots.{SlotList, PlacesByNumber}
 use Rattle.ghc_records.specs.Journal.{Step, Entry, took, undid, rolled, redid, reordered, Opening}
 
 abbrev pub state_code : Coded State
@@ -45,6 +45,9 @@ records_code = coded_list record_code
 
 abbrev pub slots_code : Coded SlotList
 slots_code = coded_list (coded_option record_code)
+
+abbrev pub places_code : Coded PlacesByNumber
+places_code = finite.code coded_ℕ coded_ℕ
 
 abbrev pub numbers_code : Coded (List ℕ)
 numbers_code = coded_list coded_ℕ

@@ -34,5 +34,19 @@ HasStrayIn slots place n = HasNumberIn slots place n × (place + 1 ≢ n)
 abbrev pub PlacesByNumber : Type 0
 PlacesByNumber = finite.FinMap nat_cmp ℕ
 
+-- The places of strays: those of a list, and that of the newest stray, if it stands by itself.
+abbrev pub places_of : Option (ℕ × ℕ) → List (ℕ × ℕ) → PlacesByNumber
+places_of None older = finite.from_entries older
+places_of (Some newest) older = finite.insert (finite.from_entries older) newest.0 newest.1
+
+-- There is room for one stray where none stands by itself.
+abbrev pub room_beside : Option (ℕ × ℕ) → ℕ
+room_beside None = 1
+room_beside (Some newest) = 0
+
+-- Under the number stands this now, and under each other number what stood there.
+abbrev pub IsChangedAt : PlacesByNumber → PlacesByNumber → ℕ → Option ℕ → Type 0
+IsChangedAt old new k o = (finite.get new k ≡ o) × ((n : ℕ) → n ≢ k → finite.get new n ≡ finite.get old n)
+
 abbrev pub AreStraysOf : SlotList → PlacesByNumber → Type 0
 AreStraysOf slots strays = (n p : ℕ) → (finite.get strays n ≡ Some p) ↔ HasStrayIn slots p n

@@ -13,8 +13,8 @@ use crate::history_lines::{behind_heading, find_end, next_of, read_count};
 use crate::step::Step;
 use crate::step_reading::read_step;
 use ghc_term::Fault;
-use indexmap::IndexSet;
 use std::alloc::{AllocError, Global};
+use std::collections::BTreeSet;
 
 // Whether a number is below the bound, if there is one.
 fn is_below(number: u32, bound: Option<u32>) -> bool
@@ -54,10 +54,10 @@ pub(crate) fn next_step<'a>(
     }
 }
 
-// Puts a number behind the others, and says whether it is none of them.
-pub(crate) fn add_number(numbers: &mut IndexSet<u32>, number: u32) -> Result<bool, AllocError>
+// Puts a number among the others, and says whether it is none of them: a search among n numbers, log n whatever they are.
+pub(crate) fn add_number(numbers: &mut BTreeSet<u32>, number: u32) -> Result<bool, AllocError>
     ensures new { IfOk result (λ new. new ≡ true → ¬ In number numbers.old.keys) }
-    ensures keys { IfOk result (λ new. new ≡ true → numbers.new.keys ≡ numbers.old.keys ++ number ∷ []) }
+    ensures keys { IfOk result (λ new. new ≡ true → (n : ℕ) → In n numbers.new.keys ↔ (In n numbers.old.keys ⊎ (n ≡ number))) }
     ensures known { IfOk result (λ new. new ≡ false → In number numbers.old.keys) }
 {
     match numbers.insert(number) {
@@ -82,7 +82,7 @@ fn read_steps(
         ⊎ ((steps : List step_spec) × (fault ≡ fault_spec.History (length steps + 3)) × TellsNoMore (pieces_of text.now) count steps)) }
 {
     let mut steps = Vec::new(alloc);
-    let mut numbers = IndexSet::new(alloc);
+    let mut numbers = BTreeSet::new(alloc);
     let mut rest = text;
     for index in 0..count {
         match next_step(alloc, rest, bound) {

@@ -10,8 +10,8 @@ ghost use Rattle.ghc_records.specs.Chronicle.{AreBelow};
 use crate::history_reading::{add_number, next_step};
 use crate::step::Step;
 use ghc_term::Fault;
-use indexmap::IndexSet;
 use std::alloc::Global;
+use std::collections::BTreeSet;
 
 // So many steps, which the first lines say, with numbers of their own, below the next one, and what stands behind them; or the first of these
 // lines that is wrong, where the first is the third line of the text.
@@ -29,7 +29,7 @@ pub(crate) fn read_opening_steps<'a>(
         × TellsNoMoreItems SaysStep (AreBelow next) (pieces_of text.now) count items)) }
 {
     let mut steps = Vec::new(alloc);
-    let mut numbers = IndexSet::new(alloc);
+    let mut numbers = BTreeSet::new(alloc);
     let mut rest = text;
     for index in 0..count {
         match next_step(alloc, rest, Some(next)) {

@@ -1,18 +1,14 @@
 // Records in slots, in recorded order: one that is taken out leaves a gap, and those behind stay where they are.
 ghost use Rattle.std.specs.Prelude.{◌≡◌, ◌≢◌, ◌↔◌, ◌+◌, ◌<◌, ◌≤◌, ◌++◌, ◌∷◌, [], length, slice_set, filter, is_some, ℕ, IsTrue, IfSome, IfNone, IfOk, OnOk, Some, None};
 ghost use Rattle.ghc_term.specs.Lists.{In};
-ghost use Rattle.std.specs.FinMap as finite;
 ghost use Rattle.std.specs.Option.{option_copied};
 ghost use Rattle.ghc_records.specs.Orders.{AreDistinct};
 ghost use Rattle.ghc_records.specs.Record.{Record as record_spec, numbers};
 ghost use Rattle.ghc_records.specs.Slots.{held_in, StandsIn, HasNumberIn, AreStraysOf};
 
 use crate::record::Record;
-use crate::strays::{put_stray, reserve_stray, stray_place};
-use ghc_term::NameMap;
-use indexmap::IndexMap;
+use crate::strays::Strays;
 use std::alloc::{AllocError, Global};
-use std::hash::BuildHasherDefault;
 use std::marker::Model;
 use std::mem;
 
@@ -22,16 +18,12 @@ use std::mem;
 #[derive(Drop)]
 pub(crate) struct Slots {
     slots: Vec<Option<Record>>,
-    strays: NameMap<u32, usize>,
+    strays: Strays,
     count: usize,
-    // whether the table is known to take one more stray without memory
-    takes_stray: bool,
 }
 
 impl Model for Slots {
-    ghost use Rattle.std.specs.Prelude.{◌≡◌, ◌-◌, ◌<◌, true, min, length, vec_len, vec_capacity};
-    ghost use Rattle.std.specs.FinMap as finite;
-    ghost use Rattle.indexmap.specs.IndexMap.{spare};
+    ghost use Rattle.std.specs.Prelude.{◌≡◌, ◌-◌, min, length, vec_len, vec_capacity};
     ghost use Rattle.ghc_term.specs.Table.{Table, table_code};
     ghost use Rattle.ghc_records.specs.Record.{numbers};
     ghost use Rattle.ghc_records.specs.Orders.{AreDistinct};
@@ -42,10 +34,9 @@ impl Model for Slots {
 
     ghost coded = { table_code slots_code };
 
-    ghost view = { λ s. record { held = s.slots.items; room = min (vec_capacity s.slots - vec_len s.slots) (spare s.strays) } };
+    ghost view = { λ s. record { held = s.slots.items; room = min (vec_capacity s.slots - vec_len s.slots) s.strays.room } };
 
-    ghost invariant = { λ s. AreDistinct (numbers (held_in s.slots.items)) × (s.count ≡ length (held_in s.slots.items)) × AreStraysOf s.slots.items (finite.from_entries s.strays.entries)
-        × (s.takes_stray ≡ true → 0 < spare s.strays) };
+    ghost invariant = { λ s. AreDistinct (numbers (held_in s.slots.items)) × (s.count ≡ length (held_in s.slots.items)) × AreStraysOf s.slots.items s.strays.held };
 }
 
 // The record in the slot of this place, if it has one: one step.
@@ -67,19 +58,17 @@ fn is_just_below(place: usize, number: u32) -> bool
 
 // The strays among the records of these slots as they will stand when the gaps are closed up: one pass, with a look-up for each
 // stray. It fails for want of memory alone.
-fn strays_when_closed(
-    alloc: Global,
-    slots: &[Option<Record>],
-) -> Result<NameMap<u32, usize>, AllocError>
+fn strays_when_closed(alloc: Global, slots: &[Option<Record>]) -> Result<Strays, AllocError>
     requires { AreDistinct (numbers (held_in slots.now)) }
-    ensures { IfOk result (λ strays. AreStraysOf (filter is_some slots.now) (finite.from_entries strays.entries)) }
+    ensures { IfOk result (λ strays. AreStraysOf (filter is_some slots.now) strays.held) }
 {
-    let mut strays = IndexMap::with_hasher(alloc, BuildHasherDefault::new());
+    let mut strays = Strays::new(alloc);
     let mut place = 0;
     for slot in slots {
         if let Some(record) = slot {
             if !is_just_below(place, record.number()) {
-                strays.insert(record.number(), place)?;
+                strays.reserve()?;
+                strays.put(record.number(), place);
             }
             place += 1;
         }
@@ -97,9 +86,8 @@ impl Slots {
     {
         Slots {
             slots: Vec::new(alloc),
-            strays: IndexMap::with_hasher(alloc, BuildHasherDefault::new()),
+            strays: Strays::new(alloc),
             count: 0,
-            takes_stray: false,
         }
     }
 
@@ -145,7 +133,7 @@ impl Slots {
         if let Some(place) = self.likely_place_of(number) {
             return Some(place);
         }
-        stray_place(strays, number)
+        strays.get(number)
     }
 
     // The record in the slot of this place, if it has one: one step.
@@ -188,12 +176,7 @@ impl Slots {
         ensures kept { self.old.room ≤ self.new.room }
     {
         self.slots.reserve(1)?;
-        if self.takes_stray {
-            return Ok(());
-        }
-        reserve_stray(&mut self.strays)?;
-        self.takes_stray = true;
-        Ok(())
+        self.strays.reserve()
     }
 
     // Makes room for one more record: mostly two tests. The records stay, and so does the room where memory is refused.
@@ -203,7 +186,7 @@ impl Slots {
         ensures room { OnOk result (0 < self.new.room) }
         ensures kept { self.old.room ≤ self.new.room }
     {
-        if self.takes_stray && self.slots.len() < self.slots.capacity() {
+        if self.strays.has_place() && self.slots.len() < self.slots.capacity() {
             return Ok(());
         }
         self.make_room()
@@ -218,8 +201,7 @@ impl Slots {
     {
         let place = self.slots.len();
         if !is_just_below(place, step.number()) {
-            self.takes_stray = false;
-            put_stray(&mut self.strays, step.number(), place);
+            self.strays.put(step.number(), place);
         }
         self.count += 1;
         self.slots.push_reserved(Some(step));
@@ -235,8 +217,7 @@ impl Slots {
         let place = self.place_of(number)?;
         let removed = mem::replace(&mut self.slots[place], None);
         if !is_just_below(place, number) {
-            self.takes_stray = false;
-            self.strays.swap_remove(&number);
+            self.strays.remove(number);
         }
         self.count -= 1;
         removed
@@ -253,7 +234,6 @@ impl Slots {
         };
         self.slots.retain(|slot: &Option<Record>| slot.is_some());
         self.strays = strays;
-        self.takes_stray = false;
     }
 
     // Takes the record of the step of this number out, if there is one; the others keep their order. Two look-ups at most; where

@@ -4,10 +4,8 @@ ghost use Rattle.std.specs.FinMap as finite;
 ghost use Rattle.ghc_records.specs.UseIndex.{users_at, IsUser, CanTake, HasGrown};
 
 use crate::number_set::NumberSet;
-use ghc_term::NameMap;
-use indexmap::IndexMap;
 use std::alloc::{AllocError, Global};
-use std::hash::BuildHasherDefault;
+use std::collections::BTreeMap;
 use std::marker::Model;
 
 // How many places the list grows by past the one that is asked for, so that it grows once for many steps.
@@ -16,12 +14,12 @@ const FURTHER: usize = 15;
 // How far a number may be past the list and past the slots of a record, and its step still stands in the list.
 const MOST_AHEAD: usize = 16;
 
-// The numbers of steps by the number of the step that they used: a list by number for the steps of the first numbers, and a table
-// for the others.
+// The numbers of steps by the number of the step that they used: a list by number for the steps of the first numbers, and a tree in
+// the order of the numbers for the others, so that no numbers make them slow to find.
 #[derive(Drop)]
 pub(crate) struct Users {
     near: Vec<NumberSet>,
-    far: NameMap<u32, NumberSet>,
+    far: BTreeMap<u32, NumberSet>,
 }
 
 impl Model for Users {
@@ -58,7 +56,7 @@ impl Users {
     {
         Users {
             near: Vec::new(alloc),
-            far: IndexMap::with_hasher(alloc, BuildHasherDefault::new()),
+            far: BTreeMap::new(alloc),
         }
     }
 
@@ -111,7 +109,7 @@ impl Users {
         ensures kept { (m n : ℕ) → CanTake self.old m n → CanTake self.new m n }
     {
         self.widen(step, slots)?;
-        let alloc = *self.far.allocator();
+        let alloc = *self.near.allocator();
         if let Some(users) = self.near.get_mut(step as usize) {
             return users.reserve();
         }
@@ -164,7 +162,7 @@ impl Users {
             *users = NumberSet::new(alloc);
             return;
         }
-        self.far.swap_remove(&step);
+        self.far.remove(&step);
     }
 
     // Makes room for one more number under the step, if one is named, of a record of so many slots: mostly one step.

@@ -1,6 +1,5 @@
 use Rattle.ghc_records.proofs.Words.{rules, ◌≡◌, true, false, filter, length, ap, sym, ◌∙◌, subst, is_some, filter_same, AreDistinct, numbers, held_in, AreStraysOf}
 use Rattle.ghc_records.proofs.SlotLemmas.{held_closed}
-use Rattle.ghc_records.proofs.SlotPlaces.{places_in}
 use Rattle.ghc_records.proofs.slots.Slots.close_up.Goals as goal
 
 pub strays_when_closed-requires : goal.strays_when_closed-requires
@@ -11,11 +10,10 @@ invariant_of-self c =
     let ss = c.self.inside.slots.items in
     let closed : c.retain.new.self.items ≡ filter is_some ss = filter_same _ _ _ (λ x b f k. search rules) _ _ c.retain.ensures.filtered in
     let same : held_in ss ≡ held_in c.retain.new.self.items = sym (ap held_in closed ∙ held_closed ss) in
-    let strays_are = subst (λ l. AreStraysOf (filter is_some l) (places_in c.in-Ok.strays.entries)) c.as_slice.ensures.value c.in-Ok.ensures in (
+    let strays_are = subst (λ l. AreStraysOf (filter is_some l) c.in-Ok.strays.held) c.as_slice.ensures.value c.in-Ok.ensures in (
       subst (λ l. AreDistinct (numbers l)) same c.self.invariant.0,
       c.self.invariant.1 ∙ ap length same,
-      subst (λ l. AreStraysOf l (places_in c.in-Ok.strays.entries)) (sym closed) strays_are,
-      λ takes. let clash : false ≡ true = takes in cc,
+      subst (λ l. AreStraysOf l c.in-Ok.strays.held) (sym closed) strays_are,
     )
 
 pub returns : goal.returns

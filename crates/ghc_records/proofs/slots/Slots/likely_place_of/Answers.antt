@@ -29,9 +29,9 @@ returns-then-is_empty c p =
     let r = c.in_ok-record.record.now in
     let place = c.in_ok-place.place in
     let stands = (c.at.ensures r).0 (ap option_copied c.in_ok-record.was) in
-    let empty = nil_from_length c.self.inside.strays.entries (c.is_empty.ensures.0 c.if-is_empty.true) in
+    let empty = c.is_empty.ensures c.if-is_empty.true in
     let held = subst (λ l. StandsIn l place r) (sym (ap (λ t. t.held) c.self.view_is)) stands in
-    let below : place + 1 ≡ r.number = just_below c.self.inside.slots.items c.self.inside.strays.entries place r c.self.invariant.2 empty held in
+    let below : place + 1 ≡ r.number = just_below c.self.inside.slots.items c.self.inside.strays.held place r c.self.invariant.2 empty held in
     there c.args.self.now.held place p c.args.number (r, stands, omega (arith, below, c.in_ok-place.ensures)) (omega (arith, c.in_ok-place.ensures))
 
 pub returns-then-number : goal.returns-then-number

@@ -6,6 +6,5 @@ pub invariant_of-result : goal.invariant_of-result
 invariant_of-result c = (
   subst (λ l. AreDistinct (numbers (held_in l))) (sym c.new.ensures.items) tt,
   subst (λ l. 0 ≡ length (held_in l)) (sym c.new.ensures.items) refl,
-  strays_none c.new.result.items c.with_hasher.result.entries c.new.ensures.items c.with_hasher.ensures.empty,
-  λ takes. let clash : false ≡ true = takes in cc,
+  strays_none c.new.result.items c.new-2.result.held c.new.ensures.items c.new-2.ensures,
 )

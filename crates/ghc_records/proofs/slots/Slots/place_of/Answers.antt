@@ -1,5 +1,4 @@
 use Rattle.ghc_records.proofs.Words.{◌≡◌, ◌+◌, ℕ, ◌∙◌, ap, subst, sym, ◌↔◌, Some, None, HasNumberIn}
-use Rattle.ghc_records.proofs.SlotPlaces.{places_in}
 use Rattle.ghc_records.proofs.SlotStrays.{found_below, found_stray}
 use Rattle.ghc_records.proofs.slots.Slots.place_of.Goals as goal
 
@@ -13,9 +12,8 @@ returns-in-Some c p =
 pub returns : goal.returns
 returns c p =
     let ss = c.self.inside.slots.items in
-    let es = c.self.inside.strays.entries in
     let held = ap (λ t. t.held) c.self.view_is in
     let none : (q : ℕ) → q + 1 ≡ c.args.number → ¬ HasNumberIn ss q c.args.number = λ q below w.
     let clash : None ≡ Some q = sym c.in_default.is ∙ (c.likely_place_of.ensures q).1 (subst (λ l. HasNumberIn l q c.args.number) held w, below) in cc in
-    subst (λ l. (c.stray_place.result ≡ Some p) ↔ HasNumberIn l p c.args.number) held
-    (subst (λ o. (o ≡ Some p) ↔ HasNumberIn ss p c.args.number) (sym c.stray_place.ensures) (found_stray ss (places_in es) c.args.number c.self.invariant.2 none p))
+    subst (λ l. (c.get.result ≡ Some p) ↔ HasNumberIn l p c.args.number) held
+    (subst (λ o. (o ≡ Some p) ↔ HasNumberIn ss p c.args.number) (sym c.get.ensures) (found_stray ss c.self.inside.strays.held c.args.number c.self.invariant.2 none p))

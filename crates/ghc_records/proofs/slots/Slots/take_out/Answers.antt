@@ -1,6 +1,5 @@
 use Rattle.ghc_records.proofs.Words.{◌≡◌, ◌≢◌, ◌<◌, ◌∙◌, true, false, ap, sym, subst, arith, Some, None, IfNone, slice_set, slice_get_within, get_or_from_slice_get, In, Record, held_in, StandsIn, HasNumberIn}
 use Rattle.ghc_records.proofs.SlotLemmas.{held_fewer, without_distinct}
-use Rattle.ghc_records.proofs.SlotPlaces.{places_in}
 use Rattle.ghc_records.proofs.SlotClosing.{none_in}
 use Rattle.ghc_records.proofs.SlotStrays.{gap_same, gap_one}
 use Rattle.ghc_records.proofs.slots.Slots.take_out.Goals.{then-not-is_just_below, else-not-is_just_below}
@@ -33,20 +32,20 @@ overflow_sub-self c =
 pub invariant_of-self : goal.invariant_of-self
 invariant_of-self c =
     let ss = c.self.inside.slots.items in
-    let es = c.self.inside.strays.entries in
+    let old = c.self.inside.strays.held in
     let place = c.in_ok-place.place in
     let n = c.args.number in
-    let (once, count, strays, takes) = c.self.invariant in
+    let (once, count, strays) = c.self.invariant in
     let here : HasNumberIn ss place n = subst (λ l. HasNumberIn l place n) (sym (ap (λ t. t.held) c.self.view_is)) ((c.place_of.ensures place).0 c.in_ok-place.was) in
     let distinct = without_distinct ss place here.0 once here.1 in
     let fewer = held_fewer ss place here.0 here.1 in
     elim c.if-not-is_just_below.branch [
       | then-not-is_just_below w ↦
-          let strays_are = gap_one ss es w.swap_remove.new.self.entries place n once strays here w.swap_remove.ensures.updates.0 in
-          rw (w.self-inside-is, c.replace-removed.ensures.after) (distinct, omega (arith, count, fewer), strays_are, λ t. let clash : false ≡ true = t in cc)
+          let strays_are = gap_one ss old w.remove.new.self.held place n once strays here w.remove.ensures in
+          rw (w.self-inside-is, c.replace-removed.ensures.after) (distinct, omega (arith, count, fewer), strays_are)
       | else-not-is_just_below w ↦
-          let strays_are = gap_same ss (places_in es) place n once strays here (c.is_just_below.ensures.0 w.if-not-is_just_below.false) in
-          rw (w.self-inside-is, c.replace-removed.ensures.after) (distinct, omega (arith, count, fewer), strays_are, takes)
+          let strays_are = gap_same ss old place n once strays here (c.is_just_below.ensures.0 w.if-not-is_just_below.false) in
+          rw (w.self-inside-is, c.replace-removed.ensures.after) (distinct, omega (arith, count, fewer), strays_are)
     ]
 
 pub returns : goal.returns

@@ -1,6 +1,7 @@
-use Rattle.ghc_records.proofs.Words.{length, ◌<◌, ◌⊎◌, refl, subst, inr, arith, IsSome, Some, None, slice_set, vec_len, In, users_in, numbers_in, room_in}
+use Rattle.ghc_records.proofs.Words.{length, ◌<◌, ◌⊎◌, ◌∙◌, refl, subst, inr, arith, IsSome, Some, None, slice_set, vec_len, In, users_in, numbers_in, room_in}
 use Rattle.ghc_records.proofs.StepUsers.{user_put, can_still, can_not}
 use Rattle.ghc_records.proofs.NearUsers.{past, near_at, far_at, near_written, far_written}
+use Rattle.ghc_records.proofs.SlotPlaces.{found_by, updated_by}
 use Rattle.ghc_records.proofs.users.Users.put.Goals as goal
 
 pub put-requires : goal.put-requires
@@ -24,12 +25,12 @@ returns-in-Some c =
 
 pub returns-in_default-get_mut-clause-users : goal.returns-in_default-get_mut-clause-users
 returns-in_default-get_mut-clause-users c =
-    let none = far_at c.self.inside.near.items c.self.inside.far.entries c.args.self.now c.args.step c.self.view_is None (past c.args.step (vec_len c.self.inside.near) c.self.inside.near.items c.self.inside.near.ok.0 c.in_default.ensures.variant.1) c.in_default-get_mut.ensures.value in
+    let none = far_at c.self.inside.near.items c.self.inside.far.entries c.args.self.now c.args.step c.self.view_is None (past c.args.step (vec_len c.self.inside.near) c.self.inside.near.items c.self.inside.near.ok.0 c.in_default.ensures.variant.1) (c.in_default-get_mut.ensures.value ∙ found_by c.self.inside.far.entries c.args.step) in
     absurd (can_not c.args.self.now c.args.step c.args.user none c.requires)
 
 pub put-requires-2 : goal.put-requires-2
 put-requires-2 c =
-    let was = far_at c.self.inside.near.items c.self.inside.far.entries c.args.self.now c.args.step c.self.view_is (Some c.in-Some-get_mut.users.now) (past c.args.step (vec_len c.self.inside.near) c.self.inside.near.items c.self.inside.near.ok.0 c.in_default.ensures.variant.1) c.in-Some-get_mut.ensures.value in
+    let was = far_at c.self.inside.near.items c.self.inside.far.entries c.args.self.now c.args.step c.self.view_is (Some c.in-Some-get_mut.users.now) (past c.args.step (vec_len c.self.inside.near) c.self.inside.near.items c.self.inside.near.ok.0 c.in_default.ensures.variant.1) (c.in-Some-get_mut.ensures.value ∙ found_by c.self.inside.far.entries c.args.step) in
     subst (λ o. (0 < room_in o) ⊎ In c.args.user (numbers_in o)) was c.requires
 
 pub returns : goal.returns
@@ -41,7 +42,7 @@ returns c =
     let updates = (c.get_mut-2.follows.holds w).3 (subst IsSome c.in-Some-get_mut.ensures.value refl) in
     let es = (c.get_mut-2.follows.lender w).entries in
     let behind = past c.args.step (vec_len c.self.inside.near) near c.self.inside.near.ok.0 c.in_default.ensures.variant.1 in
-    let d = far_written near c.self.inside.far.entries m0 c.args.step c.self.view_is es behind was w c.in-Some-get_mut.ensures.value updates.0 in
+    let d = far_written near c.self.inside.far.entries m0 c.args.step c.self.view_is es behind was w (c.in-Some-get_mut.ensures.value ∙ found_by c.self.inside.far.entries c.args.step) (updated_by c.self.inside.far.entries es c.args.step (Some w) updates.0) in
     record {
       users = user_put m0 (users_in near es) c.args.step was (Some w) d c.args.user c.put-2.ensures.numbers;
       room = can_still m0 (users_in near es) c.args.step was (Some w) d c.args.user ((c.put-2.ensures.numbers c.args.user).1 (inr refl));

@@ -1,6 +1,7 @@
 use Rattle.ghc_records.proofs.Words.{length, ◌<◌, ◌≡◌, ℕ, cond, ap, refl, sym, ◌∙◌, subst, nat_eq, arith, lookup, IsSome, Some, None, slice_set, vec_len, on_ok_weaker, CanTake, users_in}
 use Rattle.ghc_records.proofs.StepUsers.{users_kept, can_kept, can_take}
 use Rattle.ghc_records.proofs.NearUsers.{past, near_written, far_written}
+use Rattle.ghc_records.proofs.SlotPlaces.{found_by, updated_by}
 use Rattle.ghc_records.proofs.users.Users.reserve.Goals as goal
 
 pub returns-in-Some : goal.returns-in-Some
@@ -29,7 +30,7 @@ returns-in-Some-get_mut c =
     let es = (c.get_mut-2.follows.lender w).entries in
     let new = users_in near es in
     let behind = past c.args.step (vec_len c.self.inside.near) near c.self.inside.near.ok.0 c.in_default.ensures.variant.1 in
-    let d = far_written near c.self.inside.far.entries m0 c.args.step c.self.view_is es behind was w c.in-Some-get_mut.ensures.value updates.0 in
+    let d = far_written near c.self.inside.far.entries m0 c.args.step c.self.view_is es behind was w (c.in-Some-get_mut.ensures.value ∙ found_by c.self.inside.far.entries c.args.step) (updated_by c.self.inside.far.entries es c.args.step (Some w) updates.0) in
     record {
       held = λ m. users_kept m0 new c.args.step was (Some w) d put.ensures.held m ∙ c.in_ok-widen.ensures.held m;
       room = on_ok_weaker put.result (can_take m0 new c.args.step was (Some w) d) put.ensures.room;
@@ -54,9 +55,9 @@ returns c =
     let same = ap (λ t. t.entries) c.get_mut-2.follows.holds-at-none in
     let es = c.insert.new.self.entries in
     let new = users_in near es in
-    let updates = subst (λ l. (q : ℕ) → lookup (nat_eq q) es ≡ cond (nat_eq c.args.step q) (Some w) (lookup (nat_eq q) l)) same c.in_ok-insert.ensures.updates.0 in
+    let updates = subst (λ l. (q : ℕ) → lookup (nat_eq q) es ≡ cond (nat_eq c.args.step q) (Some w) (lookup (nat_eq q) l)) same (updated_by c.get_mut-2.follows.lender-at-none.entries es c.args.step (Some w) c.in_ok-insert.ensures.updates.0) in
     let behind = past c.args.step (vec_len c.self.inside.near) near c.self.inside.near.ok.0 c.in_default.ensures.variant.1 in
-    let d = far_written near c.self.inside.far.entries m0 c.args.step c.self.view_is es behind None w c.in_default-get_mut.ensures.value updates in
+    let d = far_written near c.self.inside.far.entries m0 c.args.step c.self.view_is es behind None w (c.in_default-get_mut.ensures.value ∙ found_by c.self.inside.far.entries c.args.step) updates in
     let held = c.reserve-2.ensures.held ∙ c.new-users.ensures.held in
     record {
       held = λ m. users_kept m0 new c.args.step None (Some w) d held m ∙ c.in_ok-widen.ensures.held m;
