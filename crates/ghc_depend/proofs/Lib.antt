@@ -10,6 +10,7 @@ pub mod Working
 pub mod Picking
 pub mod Comparing
 pub mod Deleting
+pub mod Slicing
 pub mod Following
 pub mod Causes
 pub mod Nearest

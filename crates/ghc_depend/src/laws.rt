@@ -1,5 +1,6 @@
 // Laws about the definitions, each as the contract of a function.
 ghost use Rattle.ghc_depend.specs.Laws.{OrdersHaveOneAnswer, OrdersAreDecided, ConsequencesHaveOneAnswer, LawOfDeletion, LawfulOrderKeepsReplay, NeighboursChangePlaces, UndoKeepsReplay, RollKeepsReplay, GoneComeBack, WithoutStepsIsOne, KeepsIsOne};
+ghost use Rattle.ghc_depend.specs.Slices.{SlicesAreLeast, GoalSlicesAreLeast};
 
 /// An order is lawful or has one pair that tells why not, and not both.
 pub fn orders_have_one_answer()
@@ -54,4 +55,16 @@ pub fn without_steps_is_one()
 /// A journal that takes no number twice tells one kept list and one shelf.
 pub fn keeps_is_one()
     ensures { KeepsIsOne }
+{}
+
+/// The slice of a variable replays alone, with the effects recorded, and gives the variable the term that it has; each part of the
+/// record that does so has the slice.
+pub fn slices_are_least()
+    ensures { SlicesAreLeast }
+{}
+
+/// The slice of a goal replays alone, with the effects recorded, and has the goal with all at which it looks; each part of the
+/// record that does so has the slice.
+pub fn goal_slices_are_least()
+    ensures { GoalSlicesAreLeast }
 {}

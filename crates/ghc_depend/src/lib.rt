@@ -13,7 +13,8 @@ pub use consequence::{consequences, first_consequence};
 pub use facts::{append_depends, append_orders, waking_depends};
 pub use lawful_order::lawful;
 pub use laws::{
-    consequences_have_one_answer, gone_come_back, keeps_is_one, law_of_deletion,
-    lawful_order_keeps_replay, neighbours_change_places, orders_are_decided,
-    orders_have_one_answer, roll_keeps_replay, undo_keeps_replay, without_steps_is_one,
+    consequences_have_one_answer, goal_slices_are_least, gone_come_back, keeps_is_one,
+    law_of_deletion, lawful_order_keeps_replay, neighbours_change_places, orders_are_decided,
+    orders_have_one_answer, roll_keeps_replay, slices_are_least, undo_keeps_replay,
+    without_steps_is_one,
 };
