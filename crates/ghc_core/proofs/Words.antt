@@ -9,7 +9,7 @@ pub use Rattle.ghc_core.specs.Carried.{AreAllCarriedBack, AreCarried, AreCarried
 pub use Rattle.ghc_core.specs.Change.{AreTakenAway, CanChange, Changes, GoWithIt, IsBoundBy, entry_of_going, with_coming, with_order, without_steps}
 pub use Rattle.ghc_core.specs.CommandCode.{command_of}
 pub use Rattle.ghc_core.specs.Core.{AreExactIn, Core, IsCommitted, IsConsistent, IsFaceOf, IsNotedFaceOf, IsStanding, Stays, choice_of, next_record, record_as}
-pub use Rattle.ghc_core.specs.Counting.{FiresOnce, after_firings, firings_of_entries, firings_of_entry, firings_of_step}
+pub use Rattle.ghc_core.specs.Counting.{FiresUnless, IsNotRedoneAnyway, after_firings, firings_of_entries, firings_of_entry, firings_of_step}
 pub use Rattle.ghc_core.specs.EventCode.{event_of, reply_of}
 pub use Rattle.ghc_core.specs.Events.{Command, Event, Reply, arrange, arranged, ask, command, commit, finish, held, input, note, noted, propose, redo, refused, roll, stepped, undo, undone}
 pub use Rattle.ghc_core.specs.Facts.{RedoIsChanged, SecondHandIsStale, equals, query_world, two_hands}

@@ -34,8 +34,8 @@ pub record Meets (old : Played) (e : Event) (reply : Reply) (new : Played) : Typ
   pub anyway : (f : Fault) → IsRefusedAnyway old.core.world old.hands e f → reply ≡ refused f
   pub carries : IsRefusal reply ⊎ CarriesNotes e old.core new.core
   pub stays : IsRefusal reply → Stays old.core new.core
-  pub counts : Counts e old.core.meter new.core.meter
-  pub proposals : CountsProposal e old.meter new.meter
+  pub counts : Counts old.core.world old.hands e old.core.meter new.core.meter
+  pub proposals : CountsProposal old.hands e old.meter new.meter
 
 -- The events are met one after another, each with its reply.
 abbrev pub MeetsEach : Played → List Event → List Reply → Played → Type 0

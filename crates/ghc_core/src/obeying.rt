@@ -8,7 +8,7 @@ ghost use Rattle.ghc_core.specs.Anyway.{IsNotObeyedAnyway};
 ghost use Rattle.ghc_core.specs.Change.{CanChange, Changes, IsBoundBy};
 ghost use Rattle.ghc_core.specs.CommandCode.{command_of};
 ghost use Rattle.ghc_core.specs.Core.{Stays};
-ghost use Rattle.ghc_core.specs.Counting.{TriesOnce, CountsInObeying, after_firings, firings_of_command};
+ghost use Rattle.ghc_core.specs.Counting.{TriesUnless, CountsInObeying, after_firings, firings_of_command};
 ghost use Rattle.ghc_core.specs.EventCode.{reply_of};
 ghost use Rattle.ghc_core.specs.Events.{refused};
 ghost use Rattle.ghc_core.specs.Meets.{Moves};
@@ -64,7 +64,7 @@ impl Core {
 
         // A note stays just where its goal is still there and did not look at what the steps of the change bind.
         ensures moves { IsRefusal (reply_of result) ⊎ Moves self.old self.new }
-        ensures counted { CountsInObeying (command_of command.now) self.old.meter self.new.meter }
+        ensures counted { CountsInObeying self.old.world (command_of command.now) self.old.meter self.new.meter }
 
         // A redo that is obeyed fired once.
         ensures fired { IsRefusal (reply_of result) ⊎ (self.new.meter ≡ after_firings (firings_of_command (command_of command.now)) self.old.meter) }
@@ -88,7 +88,7 @@ impl Core {
         ensures noted { IsRefusal (reply_of result) ⊎ (IsNoted self.old.world goal self.old.notes self.new.notes × (self.new.untried ≡ set.remove self.old.untried goal)) }
         ensures kept { AreKept self.old.notes self.new.notes }
         ensures stays { IsRefusal (reply_of result) → Stays self.old self.new }
-        ensures counted { TriesOnce self.old.meter self.new.meter }
+        ensures counted { TriesUnless (IsNoCandidate self.old.world goal) self.old.meter self.new.meter }
     {
         let note = match self.try_named(alloc, goal) {
             Ok(note) => note,

@@ -26,7 +26,7 @@ impl Core {
         // its goal, that what is named is not known, that there is no room for an ask, or that the first number of an order is not kept.
         ensures anyway { (f : fault_spec) → IsNotObeyedAnyway self.old.world (command_of command.now) f → result ≡ Err f }
         ensures stays { Stays self.old self.new }
-        ensures counted { CountsInObeying (command_of command.now) self.old.meter self.new.meter }
+        ensures counted { CountsInObeying self.old.world (command_of command.now) self.old.meter self.new.meter }
 
         // A redo that is found fired once.
         ensures fired { OnOk result (self.new.meter ≡ after_firings (firings_of_command (command_of command.now)) self.old.meter) }

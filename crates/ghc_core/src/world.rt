@@ -4,13 +4,13 @@ ghost use Rattle.ghc_term.specs.declared.fault.Fault.{Fault as fault_spec};
 ghost use Rattle.ghc_core.specs.Answers.{Answers, Plays};
 ghost use Rattle.ghc_core.specs.Anyway.{IsNotProposedAnyway, IsNotCommittedAnyway};
 ghost use Rattle.ghc_core.specs.Core.{Stays};
-ghost use Rattle.ghc_core.specs.Counting.{FiresOnce};
+ghost use Rattle.ghc_core.specs.Counting.{FiresWhere, HoldsProposal};
 ghost use Rattle.ghc_core.specs.EventCode.{event_of, reply_of};
 ghost use Rattle.ghc_core.specs.Events.{propose, commit, refused};
 ghost use Rattle.ghc_core.specs.Legal.{IsReachable};
 ghost use Rattle.ghc_core.specs.Meets.{Moves, Meets, MeetsEach};
 ghost use Rattle.ghc_core.specs.Playing.{empty_hands, AddsOneAtMost, IsRefusal};
-ghost use Rattle.ghc_core.specs.World.{IsReplay};
+ghost use Rattle.ghc_core.specs.World.{IsHand, IsReplay};
 
 use crate::core_state::Core;
 use crate::event::Event;
@@ -99,7 +99,7 @@ impl World {
         ensures answer { Answers (Unit {0}) self.old.core.world self.old.hands (propose hand goal choice) (reply_of result) self.old.core.world self.new.hands }
         ensures anyway { (f : fault_spec) → IsNotProposedAnyway self.old.core.world self.old.hands hand goal choice f → reply_of result ≡ refused f }
         ensures core { self.new.core ≡ self.old.core }
-        ensures counted { FiresOnce self.old.meter self.new.meter }
+        ensures counted { FiresWhere (IsHand self.old.hands hand) self.old.meter self.new.meter }
     {
         if !self.hands.has(hand) {
             return Reply::Refused(Fault::Command);
@@ -120,7 +120,7 @@ impl World {
         ensures anyway { (f : fault_spec) → IsNotCommittedAnyway self.old.core.world self.old.hands hand f → reply_of result ≡ refused f }
         ensures moves { IsRefusal (reply_of result) ⊎ Moves self.old.core self.new.core }
         ensures stays { IsRefusal (reply_of result) → Stays self.old.core self.new.core }
-        ensures counted { FiresOnce self.old.core.meter self.new.core.meter }
+        ensures counted { FiresWhere (HoldsProposal self.old.hands hand) self.old.core.meter self.new.core.meter }
         ensures meter { self.new.meter ≡ self.old.meter }
     {
         if !self.hands.has(hand) {

@@ -23,3 +23,11 @@ pub returns-clause-answer : goal.returns-clause-answer
 returns-clause-answer c =
     hand_gives_up _ _ _ (c.has.ensures.0 c.if-not-has.false) c.in-Some.proposal c.in-Err.fault _ _
     (sym c.in-Some.ensures.value) c.in-Err.ensures.answer.1 c.in-Err.ensures.stays.world c.in-Some.ensures.left
+
+pub returns-in-Ok-clause-counted : goal.returns-in-Ok-clause-counted
+returns-in-Ok-clause-counted c =
+    (λ _. c.in-Ok.ensures.counted, λ none. absurd (none (c.has.ensures.0 c.if-not-has.false, (c.in-Some.proposal, sym c.in-Some.ensures.value))))
+
+pub returns-clause-counted : goal.returns-clause-counted
+returns-clause-counted c =
+    (λ _. c.in-Err.ensures.counted, λ none. absurd (none (c.has.ensures.0 c.if-not-has.false, (c.in-Some.proposal, sym c.in-Some.ensures.value))))

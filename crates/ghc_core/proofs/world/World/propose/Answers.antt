@@ -1,4 +1,4 @@
-use Rattle.ghc_core.proofs.Words.{refl, inl, inr, Ok, Err, no_hand, no_memory, IsHand}
+use Rattle.ghc_core.proofs.Words.{refl, Ok, Err, no_hand, no_memory, IsHand}
 use Rattle.ghc_term.proofs.ListsLemmas.{not_both}
 use Rattle.ghc_core.proofs.Replying.{hand_holds, hand_refused}
 use Rattle.ghc_core.proofs.CertainRefusals.{no_hand_proposed, attempt_refused_anyway}
@@ -11,7 +11,7 @@ returns-then-not-has c =
       answer = no_hand none;
       anyway = λ f fails. no_hand_proposed c.args.self.now.core.world c.args.self.now.hands c.args.hand c.args.goal c.args.choice none fails;
       core = refl;
-      counted = inl refl;
+      counted = (λ there. absurd (none there), λ _. refl);
     }
 
 pub returns-in-Err : goal.returns-in-Err
@@ -22,7 +22,7 @@ returns-in-Err c =
       anyway = λ f fails.
           let said = attempt_refused_anyway _ _ _ c.args.goal _ (Err c.in-Err.fault) has c.in-Err.ensures.no_goal c.in-Err.ensures.no_clause fails in cc;
       core = refl;
-      counted = inr c.in-Err.ensures.counted;
+      counted = (λ _. c.in-Err.ensures.counted, λ none. absurd (none has));
     }
 
 pub returns-in-Ok-hold : goal.returns-in-Ok-hold
@@ -33,7 +33,7 @@ returns-in-Ok-hold c =
       anyway = λ f fails.
           let said = attempt_refused_anyway _ _ _ c.args.goal _ (Ok c.in-Ok.proposal) has c.in-Ok.ensures.no_goal c.in-Ok.ensures.no_clause fails in cc;
       core = refl;
-      counted = inr c.in-Ok.ensures.counted;
+      counted = (λ _. c.in-Ok.ensures.counted, λ none. absurd (none has));
     }
 
 pub returns-in-Err-hold : goal.returns-in-Err-hold
@@ -44,5 +44,5 @@ returns-in-Err-hold c =
       anyway = λ f fails.
           let said = attempt_refused_anyway _ _ _ c.args.goal _ (Ok c.in-Ok.proposal) has c.in-Ok.ensures.no_goal c.in-Ok.ensures.no_clause fails in cc;
       core = refl;
-      counted = inr c.in-Ok.ensures.counted;
+      counted = (λ _. c.in-Ok.ensures.counted, λ none. absurd (none has));
     }
