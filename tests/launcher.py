@@ -1,10 +1,10 @@
 #!/usr/bin/env python3
-"""Tries the launcher ./ghcdb, on a copy of it with stubs of `rt`, of the program and of `rlwrap`, in pipes and at a terminal.
+"""Tries the launcher ./ghcdb on a copy of it, with a PATH of its own: stubs of `rt`, Node, the programs, `rlwrap` and git.
 
     python3 tests/launcher.py
 
-Nothing is proved and nothing of the repository is run but the launcher. The last line is `N passed, M failed`; the exit
-status is 1 where a case failed.
+Nothing is proved, and nothing of the repository is run but the launcher and its tools. The last line is `N passed, M failed`; the
+exit status is 1 where a case failed.
 """
 
 import os
@@ -18,7 +18,11 @@ from pathlib import Path
 
 ROOT = Path(__file__).resolve().parent.parent
 SECONDS = 20
-TOOLS = ("bash", "env", "dirname", "readlink", "find", "sed", "touch", "cp", "mkdir", "basename")
+TABLE = (ROOT / "tools" / "proof-seconds.txt").read_text()
+SECONDS_OF = {name: int(seconds) for name, seconds in re.findall(r"^(\w+) (\d+)$", TABLE, re.MULTILINE)}
+TOOLS = (
+    "bash", "basename", "cat", "cp", "cut", "dirname", "env", "find", "mkdir", "mv", "readlink", "sed", "sha256sum", "sort", "touch",
+)
 
 PROGRAM = """#!/usr/bin/env bash
 printf '%s\\n' "the program: $*"
@@ -29,9 +33,19 @@ RT = """#!/usr/bin/env bash
 here=$(basename "$PWD")
 echo "rt $* in $here" >> "$ASKED"
 echo "what rt says of $here"
-[ "$here" != "${LONG:-}" ] || printf '%s\\n' 'so far: 0 of 9 functions checked; the verdict comes last' 'so far: 5 of 9 functions checked'
+[ "$here" != "${LONG:-}" ] || printf '%s\\n' 'so far: 0 of 9 functions checked; the verdict comes last' 'so far: 3 of 9 functions checked'
 [ "$here" != "${REFUSED:-}" ] || exit 1
+[ "$here" != "${CHANGING:-}" ] || echo >> src/lib.rt
 [ "$1" = lib ] || { mkdir -p out; cp "$STUB" out/ghcdb; }
+"""
+NODE = """#!/usr/bin/env bash
+[ "$*" != --version ] || { echo "${NODE_VERSION:-v18.0.0}"; exit; }
+printf '%s\\n' "node: ${1##*/} ${*:2}${GHCDB_CLOSED:+, closed: $GHCDB_CLOSED}"
+[ "$2" = --version ] || exit 4
+"""
+PYTHON = """#!/usr/bin/env bash
+printf '%s\\n' "python: ${1##*/} ${*:2} on ${GHCDB##*/}"
+exit 6
 """
 GIT = """#!/usr/bin/env bash
 case $3 in
@@ -43,26 +57,40 @@ RLWRAP = """#!/usr/bin/env bash
 printf '%s\\n' "rlwrap: $*"
 exit 5
 """
+# Tells that 8 times 2 GB of memory are free; all else is awk's.
+AWK = f"""#!/usr/bin/env bash
+[[ $* != *meminfo* ]] || {{ echo 8; exit; }}
+exec {shutil.which("awk")} "$@"
+"""
 
 
 class Copy:
-    """A copy of the launcher in a folder of its own, with no program yet."""
+    """A copy of the launcher in a folder of its own, with no program and no page yet."""
 
     def __init__(self, folder):
         self.folder = Path(folder)
+        self.program = self.folder / "crates" / "ghcdb" / "out" / "ghcdb"
+        self.noted = self.program.with_name("ghcdb.proved")
+        self.page = self.folder / "web" / "ghcdb.html"
+        self.page.parent.mkdir()
         for name in ("ghcdb", "crates.txt", "commands.txt"):
             shutil.copy(ROOT / name, self.folder)
+        shutil.copytree(ROOT / "tools", self.folder / "tools")
         lines = (ROOT / "crates.txt").read_text().splitlines()
         self.crates = [line.partition(":")[0].split()[0] for line in lines if ":" in line and not line.startswith("#")]
         for name in self.crates:
-            (self.folder / "crates" / name / "src").mkdir(parents=True)
-            (self.folder / "crates" / name / "src" / "lib.rt").touch()
+            self.source(name).parent.mkdir(parents=True)
+            self.source(name).touch()
         for name in TOOLS:
             self.tool("tools", name).symlink_to(shutil.which(name))
         self.write(self.folder / "stub", PROGRAM)
-        self.write(self.tool("rt", "rt"), RT)
-        self.write(self.tool("rlwrap", "rlwrap"), RLWRAP)
-        self.write(self.tool("git", "git"), GIT)
+        stubs = {"awk": AWK, "nproc": "#!/bin/sh\necho 4\n", "rt": RT, "node": NODE, "python3": PYTHON, "rlwrap": RLWRAP, "git": GIT}
+        for name, text in stubs.items():
+            self.write(self.tool("tools" if name in ("awk", "nproc") else name, name), text)
+
+    def source(self, crate):
+        """The root file of a crate."""
+        return self.folder / "crates" / crate / "src" / "lib.rt"
 
     def tool(self, folder, name):
         """The path of a program in a folder that can stand on the PATH."""
@@ -74,13 +102,34 @@ class Copy:
         path.write_text(text)
         path.chmod(0o755)
 
-    def run(self, *words, path=("rt", "rlwrap"), refused="", long="", changed="", terminal="xterm", **streams):
+    def sum(self):
+        """The sum of its sources."""
+        return subprocess.run([self.folder / "tools" / "sources-sum"], capture_output=True, text=True, check=True).stdout.strip()
+
+    def put_page(self, sources, proved="true"):
+        """Puts a page there that says of which sources its program is."""
+        made_with = f'{{"commit": "0abc", "kit": "the kit of the page", "proved": {proved}, "sources": "{sources}"}}'
+        self.page.write_text(f"<script>\nconst MADE_WITH = {made_with};\n</script>\n")
+
+    def put_program(self):
+        """Puts a native program there that is newer than its sources."""
+        self.program.parent.mkdir(exist_ok=True)
+        self.write(self.program, PROGRAM)
+
+    def change(self, crate):
+        """Changes a source, and makes it newer than the program."""
+        source = self.source(crate)
+        source.write_text(source.read_text() + "// changed\n")
+        later = self.program.stat().st_mtime + 10
+        os.utime(source, (later, later))
+
+    def run(self, *words, path=(), terminal="xterm", settings=(), **streams):
         """What the launcher writes to pipes, and its status; `streams` puts others in the place of pipes."""
         places = [str(self.folder / "bin" / name) for name in ("tools", *path)]
-        known = {"PATH": ":".join(places), "ASKED": str(self.folder / "asked"), "STUB": str(self.folder / "stub")}
-        known |= {"REFUSED": refused, "LONG": long, "CHANGED": changed, "TERM": terminal}
+        known = {"PATH": ":".join(places), "ASKED": str(self.folder / "asked"), "STUB": str(self.folder / "stub"), "TERM": terminal}
         streams = {"stdin": subprocess.DEVNULL, "stdout": subprocess.PIPE, "stderr": subprocess.PIPE} | streams
-        ended = subprocess.run([self.folder / "ghcdb", *words], env=known, timeout=SECONDS, text=True, **streams)
+        environment = known | dict(settings)
+        ended = subprocess.run([self.folder / "ghcdb", *words], env=environment, timeout=SECONDS, text=True, **streams)
         return ended.stdout, ended.stderr, ended.returncode
 
     def run_at_terminal(self, *words, **given):
@@ -103,52 +152,171 @@ def commands():
     return sorted({word for cell in table for word in re.findall(r"`([a-z]+)", cell)})
 
 
-def cases(copy):
-    """The cases in their order: a name, what came, what is wanted."""
-    program = copy.folder / "crates" / "ghcdb" / "out" / "ghcdb"
-    begin = f"ghcdb: proving and building {program} (the first time takes long)\n"
-    told = [f"ghcdb: proving {name} ({k} of {len(copy.crates)})\n" for k, name in enumerate(copy.crates, 1)]
-    written = "the program: a b c\n"
+ESTIMATE = f"about {(sum(SECONDS_OF.values()) + 30) // 60} minutes on four processors"
+PROVE = "; ./ghcdb --prove proves and builds the native one here ({})\n"
+ENGINE = "ghcdb: this is the proved program of {}, compiled for WebAssembly and run by Node"
+HERE, OTHER = "the sources that stand here", "OTHER SOURCES than those here, of commit 0abc"
+NATIVE_OF_OTHER = "ghcdb: this is the native proved program of OTHER SOURCES than those here; ./ghcdb --prove proves and builds it of these ({})\n"
+SCREEN = """ghcdb: no program can run here yet. Do one of these:
+  - Open web/ghcdb.html in a browser: the whole debugger, with pictures of runs. There is nothing to install.
+  - Install Node 18 or newer ({}), as by `apt-get install nodejs`: then ./ghcdb answers at once.
+  - With Rattle's `rt` on the PATH ({}), ./ghcdb --prove proves and builds the native program ({}).
+"""
+MISSING = "not found here"
 
-    no_rt = "ghcdb: the proved program is missing or older than its sources, and there is no `rt` on the PATH to build it\n"
-    yield "no rt", copy.run("a", path=()), ("", no_rt, 127)
-    third = copy.crates[2]
+
+def engine_line(sources=HERE, time=ESTIMATE):
+    """The line that tells that the program of the page runs."""
+    return ENGINE.format(sources) + PROVE.format(time)
+
+
+def without_a_native_program(copy):
+    """Cases where no native program was built."""
+    yield "nothing is there", copy.run("a"), ("", SCREEN.format(MISSING, MISSING, ESTIMATE), 127)
+    yield "a page alone is of no help", copy.run("a", path=["node"]), ("", SCREEN.format("here it is v18.0.0", MISSING, ESTIMATE), 127)
+    copy.put_page(copy.sum())
+    yield "rt alone proves nothing unasked", copy.run("a", path=["rt"]), ("", SCREEN.format(MISSING, "it is here", ESTIMATE), 127)
+    old = copy.run("a", path=["node"], settings={"NODE_VERSION": "v16.20.2"})
+    yield "a Node that is too old", old, ("", SCREEN.format("here it is v16.20.2", MISSING, ESTIMATE), 127)
+    yield "no rows where nothing runs", copy.run("--test"), ("", SCREEN.format(MISSING, MISSING, ESTIMATE), 127)
+    yield "the engine", copy.run("a", "b c", path=["node"]), ("node: console a b c\n", engine_line(), 4)
+    yield "the engine, though rt is there", copy.run("a", path=["node", "rt"]), ("node: console a\n", engine_line(), 4)
+    quiet = copy.run("a", path=["node"], settings={"GHCDB_QUIET": "1"})
+    yield "the engine, and nothing is said", quiet, ("node: console a\n", "", 4)
+    one = "ghcdb: it has one thread, so one worker makes each run\n"
+    workers = copy.run("a", "--workers", "4", path=["node"])
+    yield "the engine with workers", workers, ("node: console a --workers 4\n", engine_line() + one, 4)
+    closed = subprocess.run(
+        ["bash", "-c", './ghcdb a <&-'], cwd=copy.folder, capture_output=True, text=True,
+        env={"PATH": ":".join(str(copy.folder / "bin" / name) for name in ("tools", "node"))},
+    )
+    yield "the engine, and the input is closed", closed.stdout, "node: console a, closed: 0\n"
+    yield "the rows on the engine", copy.run("--test", "a", path=["node", "python3"]), ("node: rows.js a\n", engine_line(), 4)
+    no_python = "ghcdb: the rows are read by python3, which is not on the PATH\n"
+    yield "the rows without Python", copy.run("--test", path=["node"]), ("", engine_line() + no_python, 127)
+    version = "node: console --version\ncommit {}\nkit the kit of the page\n"
+    yield "the version on the engine", copy.run("--version", path=["node"]), (version.format("unknown"), engine_line(), 0)
+    copy.put_page(copy.sum(), proved="false")
+    unproved = engine_line().replace("the proved program", "a program WITHOUT PROOF")
+    yield "a page whose program is not proved", copy.run("a", path=["node"]), ("node: console a\n", unproved, 4)
+    copy.put_page("0")
+    yield "a page of other sources", copy.run("a", path=["node", "rt"]), ("node: console a\n", engine_line(OTHER), 4)
+    copy.page.write_text("<script>\nconst MADE_WITH = {\"commit\": \"0abc\", \"kit\": \"k\", \"proved\": true};\n</script>\n")
+    yield "a page that names no sources", copy.run("a", path=["node"]), ("node: console a\n", engine_line(OTHER), 4)
+
+
+def proving(copy):
+    """Cases of --prove."""
+    rest = [sum(SECONDS_OF[name] for name in copy.crates[k:]) for k in range(len(copy.crates))]
+    left = [f"about {(seconds + 30) // 60} minutes left" for seconds in rest]
+    begin = f"ghcdb: proving and building {copy.program}, {left[0]}\n"
+    told = [f"ghcdb: proving {name} ({k + 1} of {len(copy.crates)}), {left[k]}\n" for k, name in enumerate(copy.crates)]
+    third, rt = copy.crates[2], {"path": ["rt"]}
+    no_rt = "ghcdb: to prove, Rattle's rt has to be on the PATH\n"
+    yield "no proof without rt", copy.run("--prove", path=["node"]), ("", no_rt, 127)
     said = f"what rt says of {third}\nghcdb: {third} was not proved: see above\n"
-    yield "a crate is refused", copy.run("a", refused=third), ("", begin + "".join(told[:3]) + said, 70)
-    parts = [f"ghcdb: proving {third}: {done} of 9 functions done\n" for done in (0, 5)]
-    spoken = "".join(f"so far: {done} of 9 functions checked{more}\n" for done, more in ((0, "; the verdict comes last"), (5, "")))
-    said = f"what rt says of {third}\n{spoken}ghcdb: {third} was not proved: see above\n"
-    yield "a long proof is refused", copy.run("a", refused=third, long=third), ("", begin + "".join(told[:3] + parts) + said, 70)
+    refused = copy.run("--prove", **rt, settings={"REFUSED": third})
+    yield "a crate is refused", refused, ("", begin + "".join(told[:3]) + said, 70)
+    within = [f"about {(rest[2] - SECONDS_OF[third] * part // 9 + 30) // 60} minutes left" for part in (0, 3)]
+    parts = [f"ghcdb: proving {third}: {part} of 9 functions done, {it}\n" for part, it in zip((0, 3), within)]
     (copy.folder / "asked").unlink()
-    yield "it builds, crate by crate", copy.run("a", "b c", long=third), (written, begin + "".join(told[:3] + parts + told[3:]), 3)
-    asked = [f"rt lib in {name}\n" for name in copy.crates[:-1]] + [f"rt run -- --help in {copy.crates[-1]}\n"]
+    proved = copy.run("--prove", **rt, settings={"LONG": third})
+    end = f"ghcdb: proved and built in 1 minutes: {copy.program}\n"
+    proved = proved[0], re.sub(r"built in \d+ minutes", "built in 1 minutes", proved[1]), proved[2]
+    yield "all is proved, crate by crate", proved, ("", begin + "".join(told[:3] + parts + told[3:]) + end, 0)
+    one_job = {"ghc_trace", "ghc_pool", "ghc_console"}
+    asked = [f"rt lib{' --jobs 4' if name in one_job else ''} in {name}\n" for name in copy.crates[:-1]]
+    asked.append(f"rt run --jobs 4 -- --help in {copy.crates[-1]}\n")
     yield "what it asked of rt", (copy.folder / "asked").read_text(), "".join(asked)
-    yield "it does not build again", copy.run("a", "b c", path=()), (written, "", 3)
+    yield "what it noted: nothing was timed, for all was kept", copy.noted.read_text(), f"sources {copy.sum()}\n"
+    there = f"ghcdb: the native proved program is there, and nothing is newer: {copy.program}\n"
+    yield "nothing is left to prove", copy.run("--prove"), ("", there, 0)
+    changing = copy.run("--prove", path=["rt"], settings={"CHANGING": third})
+    yield "a proof is asked for again, and nothing is newer", changing, ("", there, 0)
+    copy.change(third)
+    changed = copy.run("--prove", path=["rt"], settings={"CHANGING": third})
+    again = "ghcdb: sources changed while they were proved: run ./ghcdb --prove once more\n"
+    yield "a source changes meanwhile", changed[1:], (begin + "".join(told) + again, 70)
+    table = copy.folder / "tools" / "proof-seconds.txt"
+    kept = table.read_text()
+    table.write_text("".join(f"{name} 0\n" for name in copy.crates))
+    copy.change(third)
+    copy.run("--prove", path=["rt"])
+    table.write_text(kept)
+    yield "what it noted, with the time", re.sub(r"seconds \d+", "seconds N", copy.noted.read_text()), f"sources {copy.sum()}\nseconds N\n"
 
-    wrapped = f"rlwrap: --substitute-prompt >  --file {copy.folder}/commands.txt {program} a b c\n"
-    yield "at a terminal with rlwrap", copy.run_at_terminal("a", "b c"), (wrapped, 5)
-    yield "at a terminal without it", copy.run_at_terminal("a", "b c", path=()), (written, 3)
-    yield "at a dumb terminal", copy.run_at_terminal("a", "b c", terminal="dumb"), (written, 3)
+
+def with_a_native_program(copy):
+    """Cases where there is one, of these sources or of others."""
+    all_there = {"path": ["node", "rt"]}
+    native = ("the program: a b c\n", "", 3)
+    copy.put_page("0")
+    yield "a native program of these sources", copy.run("a", "b c", **all_there), native
+    yield "the rows on it", copy.run("--test", "a", path=["python3"]), ("python: run_rows.py a on ghcdb\n", "", 6)
+    third = copy.crates[2]
+    later = copy.program.stat().st_mtime + 10
+    os.utime(copy.source(third), (later, later))
+    yield "a source was only touched, as the note tells", copy.run("a", "b c", **all_there), native
+    copy.noted.write_text(f"sources {copy.sum()}\nseconds 2441\n")
+    copy.change(third)
+    time = "it took 41 minutes here"
+    stale = NATIVE_OF_OTHER.format(time)
+    yield "a source has changed", copy.run("a", "b c", **all_there), ("the program: a b c\n", stale, 3)
+    yield "and there is no Node", copy.run("a", "b c", path=["rt"]), ("the program: a b c\n", stale, 3)
+    yield "the rows on a program of other sources", copy.run("--test", path=["python3"]), ("python: run_rows.py  on ghcdb\n", stale, 6)
+    copy.put_page(copy.sum())
+    yield "the page is of the changed source", copy.run("a", **all_there), ("node: console a\n", engine_line(time=time), 4)
+    copy.noted.unlink()
+    yield "and nothing is noted", copy.run("a", **all_there), ("node: console a\n", engine_line(), 4)
+    copy.put_program()
+    os.utime(copy.program, (later + 20, later + 20))
+    yield "a program that was built without the launcher", copy.run("a", "b c", **all_there), native
+    tests = copy.source(third).with_name("tests.rt")
+    tests.touch()
+    os.utime(tests, (later + 30, later + 30))
+    yield "a test is newer", copy.run("a", "b c", **all_there), native
+    tests.unlink()
+
+
+def at_a_terminal(copy):
+    """Cases with a native program of these sources, at a terminal."""
+    written = "the program: a b c\n"
+    wrapped = f"rlwrap: --substitute-prompt >  --file {copy.folder}/commands.txt {copy.program} a b c\n"
+    yield "at a terminal with rlwrap", copy.run_at_terminal("a", "b c", path=["rlwrap"]), (wrapped, 5)
+    yield "at a terminal without it", copy.run_at_terminal("a", "b c"), (written, 3)
+    yield "at a dumb terminal", copy.run_at_terminal("a", "b c", path=["rlwrap"], terminal="dumb"), (written, 3)
     for name in ("stdin", "stdout", "stderr"):
-        status = copy.run_at_terminal("a", **{name: subprocess.DEVNULL})[1]
+        status = copy.run_at_terminal("a", path=["rlwrap"], **{name: subprocess.DEVNULL})[1]
         yield f"at a terminal, but for {name}", status, 3
-
     greeting = "ghcdb: type goals, step G, leap, records, why N, undo N or quit; ./ghcdb --help tells all commands\n"
     words = ("a", "--query", "q")
-    yield "a session at a terminal is greeted", copy.run_at_terminal(*words, path=()), (f"{greeting}the program: a --query q\n", 3)
+    yield "a session at a terminal is greeted", copy.run_at_terminal(*words), (f"{greeting}the program: a --query q\n", 3)
     yield "one in a pipe is not", copy.run(*words), ("the program: a --query q\n", "", 3)
-    yield "nor is a schedule", copy.run_at_terminal(*words, "--schedule", "s", path=()), ("the program: a --query q --schedule s\n", 3)
+    yield "nor is a schedule", copy.run_at_terminal(*words, "--schedule", "s"), ("the program: a --query q --schedule s\n", 3)
+
+
+def versions(copy):
+    """Cases of --version with a native program of these sources."""
     version = "the program: --version\ncommit {}\nkit {}\n"
-    yield "the version", copy.run("--version", path=("rt", "git")), (version.format("0123abc", "kit of a stub"), "", 0)
-    changed = copy.run("--version", path=("rt", "git"), changed=" M x")
+    told = {"path": ["rt", "git"]}
+    yield "the version", copy.run("--version", **told), (version.format("0123abc", "kit of a stub"), "", 0)
+    changed = copy.run("--version", **told, settings={"CHANGED": " M x"})
     yield "the version of changed sources", changed, (version.format("0123abc, with changes", "kit of a stub"), "", 0)
-    yield "the version where nothing is known", copy.run("--version", path=()), (version.format("unknown", "unknown"), "", 0)
+    yield "the version where nothing is known", copy.run("--version"), (version.format("unknown", "unknown"), "", 0)
+
+
+def texts(copy):
+    """The commands that other texts list are those of docs/FORMATS.md."""
     helped = (ROOT / "crates" / "ghcdb" / "src" / "help.rt").read_text().partition("a line each:\n")[2].partition("\n\n")[0]
     named = {word for line in helped.splitlines() for word in re.findall(r"(?:^  |, )([a-z]+)", line[:20].partition("   ")[0])}
     yield "the commands that --help lists", sorted(named), commands()
     yield "the words that are completed", (copy.folder / "commands.txt").read_text().split(), commands()
-    os.utime(copy.folder / "crates" / third / "src" / "lib.rt", (2**33, 2**33))
-    yield "a source is newer", copy.run("a", path=()), ("", no_rt, 127)
+
+
+def cases(copy):
+    """The cases in their order: a name, what came, what is wanted."""
+    for group in (without_a_native_program, proving, with_a_native_program, at_a_terminal, versions, texts):
+        yield from group(copy)
 
 
 def main():

@@ -3,7 +3,9 @@
 one that the environment names as GHCDB.
 
     python3 tests/run_rows.py [WORD..]     the files whose names hold one of the words; without words, all
-    python3 tests/run_rows.py --tell       runs nothing, and tells all rows as JSON, a line each, for others who play them
+    python3 tests/run_rows.py --tell [WORD..]     runs nothing, and tells these rows as JSON, a line each, for others who play them
+
+./ghcdb is a program, too: here it says nothing of itself on standard error.
 
 Each row runs in a fresh folder of its own, for at most 60 seconds, as many rows side by side as there are
 processors. Standard output, standard error and exit status have to be exactly those of the row. The last line is
@@ -427,12 +429,13 @@ def all_rows(words):
 
 
 def main():
-    if sys.argv[1:] == ["--tell"]:
-        print("\n".join(told(name, row) for name, row in all_rows([])))
+    if sys.argv[1:2] == ["--tell"]:
+        print("\n".join(told(name, row) for name, row in all_rows(sys.argv[2:])))
         return 0
+    os.environ["GHCDB_QUIET"] = "1"
     rows = all_rows(sys.argv[1:])
     if not PROGRAM.is_file():
-        print(f"{PROGRAM} is not there: `rt ci` makes it", file=sys.stderr)
+        print(f"{PROGRAM} is not there: `./ghcdb --prove` makes it", file=sys.stderr)
         rows = []
     with ThreadPoolExecutor(os.cpu_count()) as pool:
         judged = list(zip(rows, pool.map(judge, (row for _, row in rows))))
