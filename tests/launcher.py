@@ -278,10 +278,17 @@ def with_a_native_program(copy):
     tests.unlink()
 
 
+def the_gate(copy):
+    """The case of --check."""
+    (copy.folder / ".ci").mkdir()
+    copy.write(copy.folder / ".ci" / "run", "echo the gate; exit 7\n")
+    yield "the gate", copy.run("--check"), ("the gate\n", "", 7)
+
+
 def at_a_terminal(copy):
     """Cases with a native program of these sources, at a terminal."""
     written = "the program: a b c\n"
-    wrapped = f"rlwrap: --substitute-prompt >  --file {copy.folder}/commands.txt {copy.program} a b c\n"
+    wrapped = f"rlwrap: --command-name ghcdb --substitute-prompt >  --file {copy.folder}/commands.txt {copy.program} a b c\n"
     yield "at a terminal with rlwrap", copy.run_at_terminal("a", "b c", path=["rlwrap"]), (wrapped, 5)
     yield "at a terminal without it", copy.run_at_terminal("a", "b c"), (written, 3)
     yield "at a dumb terminal", copy.run_at_terminal("a", "b c", path=["rlwrap"], terminal="dumb"), (written, 3)
@@ -315,7 +322,7 @@ def texts(copy):
 
 def cases(copy):
     """The cases in their order: a name, what came, what is wanted."""
-    for group in (without_a_native_program, proving, with_a_native_program, at_a_terminal, versions, texts):
+    for group in (without_a_native_program, proving, with_a_native_program, the_gate, at_a_terminal, versions, texts):
         yield from group(copy)
 
 
