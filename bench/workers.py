@@ -61,7 +61,7 @@ def main():
     parser.add_argument("--workers", type=lambda text: [int(word) for word in text.split(",")], default=[1, 2, 4])
     given = parser.parse_args()
     if not os.access(given.program, os.X_OK):
-        sys.exit(f"there is no program {given.program}: build it first, as by ./ghcdb --help")
+        sys.exit(f"there is no program {given.program}: build it first, by ./ghcdb --prove")
     print(f"{'':28}{'steps':>9}" + "".join(f"{f'{it} workers':>14}{'processor':>11}{'times':>7}" for it in given.workers))
     for name, (file, query) in ROWS.items():
         if given.only not in name:

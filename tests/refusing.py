@@ -80,7 +80,7 @@ def compile_library(folder):
 def tried(name, check):
     """Calls the check with a folder that has the library, which gives how many things passed and failed, and gives the status."""
     if not Path(PROGRAM).is_file():
-        print(f"{PROGRAM} is not there: `rt ci` makes it", file=sys.stderr)
+        print(f"{PROGRAM} is not there: `./ghcdb --prove` makes it", file=sys.stderr)
         return 1
     with tempfile.TemporaryDirectory(prefix="ghcdb-refused-") as folder:
         if not compile_library(folder):

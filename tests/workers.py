@@ -179,7 +179,7 @@ def main():
     parser.add_argument("--only")
     given = parser.parse_args()
     if not Path(PROGRAM).is_file():
-        print(f"{PROGRAM} is not there: `rt ci` makes it", file=sys.stderr)
+        print(f"{PROGRAM} is not there: `./ghcdb --prove` makes it", file=sys.stderr)
         return 1
     shown = [] if given.only not in (None, *SHOWN) else [given.only] if given.only else list(SHOWN)
     played = [] if given.only in SHOWN else cases(given)
