@@ -4,7 +4,7 @@ the program that the page carries, by Node, with the system's own streams and fi
 
     python3 tests/by_node.py [--all]     with those of the tables, too
 
-Each row starts Node, so the 769 rows of the tables, which differ in a text alone, are left out without --all: web/test plays them on the
+Each row starts Node, so the rows of the tables, which differ in a text alone, are left out without --all: web/test plays them on the
 same program in one process. So it takes half a minute, with --all two. Left out are the lines of a shell that limit the memory, for
 Node takes more. Where there is no Node, that is said and nothing is tried. The last line is `N passed, M failed`; the exit status is 1
 where one failed.
