@@ -165,6 +165,12 @@ SCREEN = """ghcdb: no program can run here yet. Do one of these:
 MISSING = "not found here"
 
 
+def minutes(seconds):
+    """Seconds in minutes, in words."""
+    number = max(1, (seconds + 30) // 60)
+    return f"{number} minute{'s' if number > 1 else ''}"
+
+
 def engine_line(sources=HERE, time=ESTIMATE):
     """The line that tells that the program of the page runs."""
     return ENGINE.format(sources) + PROVE.format(time)
@@ -208,7 +214,7 @@ def without_a_native_program(copy):
 def proving(copy):
     """Cases of --prove."""
     rest = [sum(SECONDS_OF[name] for name in copy.crates[k:]) for k in range(len(copy.crates))]
-    left = [f"about {(seconds + 30) // 60} minutes left" for seconds in rest]
+    left = [f"about {minutes(seconds)} left" for seconds in rest]
     begin = f"ghcdb: proving and building {copy.program}, {left[0]}\n"
     told = [f"ghcdb: proving {name} ({k + 1} of {len(copy.crates)}), {left[k]}\n" for k, name in enumerate(copy.crates)]
     third, rt = copy.crates[2], {"path": ["rt"]}
@@ -217,12 +223,12 @@ def proving(copy):
     said = f"what rt says of {third}\nghcdb: {third} was not proved: see above\n"
     refused = copy.run("--prove", **rt, settings={"REFUSED": third})
     yield "a crate is refused", refused, ("", begin + "".join(told[:3]) + said, 70)
-    within = [f"about {(rest[2] - SECONDS_OF[third] * part // 9 + 30) // 60} minutes left" for part in (0, 3)]
+    within = [f"about {minutes(rest[2] - SECONDS_OF[third] * part // 9)} left" for part in (0, 3)]
     parts = [f"ghcdb: proving {third}: {part} of 9 functions done, {it}\n" for part, it in zip((0, 3), within)]
     (copy.folder / "asked").unlink()
     proved = copy.run("--prove", **rt, settings={"LONG": third})
-    end = f"ghcdb: proved and built in 1 minutes: {copy.program}\n"
-    proved = proved[0], re.sub(r"built in \d+ minutes", "built in 1 minutes", proved[1]), proved[2]
+    end = f"ghcdb: proved and built in about 1 minute: {copy.program}\n"
+    proved = proved[0], re.sub(r"in about \d+ minutes?:", "in about 1 minute:", proved[1]), proved[2]
     yield "all is proved, crate by crate", proved, ("", begin + "".join(told[:3] + parts + told[3:]) + end, 0)
     one_job = {"ghc_trace", "ghc_pool", "ghc_console"}
     asked = [f"rt lib{' --jobs 4' if name in one_job else ''} in {name}\n" for name in copy.crates[:-1]]
