@@ -18,7 +18,7 @@ const Graph = (() => {
     return parts;
   }
 
-  const listed = (text) => (text === "-" ? [] : splitOutside(text, ","));
+  const listed = (text) => (text === "-" ? [] : text.indexOf(",") < 0 ? [text] : text.split(","));
 
   function readBinding(text) {
     const sign = text.indexOf("=");
@@ -36,12 +36,13 @@ const Graph = (() => {
     return step - otherStep || place - otherPlace;
   };
 
-  /** What an act does: `reduce`, `unify`, `assign`, `input`, `close` or `ask`; and the clause of a reduction. */
-  function readAct(act) {
-    const clause = /^by (\d+)$/.exec(act);
-    if (clause) return { kind: "reduce", clause: Number(clause[1]) };
-    const kind = { eq: "unify", is: "assign", end: "close" }[act] || (act.startsWith("ask ") ? "ask" : "input");
-    return { kind, clause: null };
+  const ACTS = { eq: "unify", is: "assign", end: "close" };
+
+  /** What an act does: `reduce`, `unify`, `assign`, `input`, `close` or `ask`; none where it is no act. */
+  function kindOf(act) {
+    if (ACTS[act] !== undefined) return ACTS[act];
+    if (/^by \d+$/.test(act)) return "reduce";
+    return act.startsWith("in ") ? "input" : act.startsWith("ask ") ? "ask" : undefined;
   }
 
   /** The variables that an act of the step of a number names, the least first: those of an ask that are not its own. */
@@ -50,33 +51,36 @@ const Graph = (() => {
     return variablesIn(act).filter((variable) => numbersOf(variable)[0] !== number).sort(byNumbers);
   }
 
-  const ACT = "(by \\d+|eq|is|end|in .+|ask .+)";
-  const STEP = `(\\d+) (\\d+\\.\\d+|-) ${ACT}`;
-  const RECORD = new RegExp(`^${STEP} reads (\\S+) binds (\\S+) makes (\\S+)$`);
-  const SHELVED = new RegExp(`^${STEP}$`);
+  const NONE_AT_ALL = Object.freeze([]);
 
-  /** A step as its line tells it. An ask consumes no goal: its `goal` is null. */
-  const readStep = (number, goal, act) => ({ number: Number(number), goal: goal === "-" ? null : goal, act, ...readAct(act) });
+  /** A step as its line tells it, of the number, the goal and the act; null where that is no step. An ask consumes no goal: its `goal` is null. */
+  function readStep(number, goal, act) {
+    const kind = kindOf(act);
+    if (kind === undefined || !/^\d+$/.test(number) || !/^(\d+\.\d+|-)$/.test(goal)) return null;
+    return { number: Number(number), goal: goal === "-" ? null : goal, act, kind, clause: kind === "reduce" ? Number(act.slice(3)) : null };
+  }
 
+  /** A step of a line such as `3 0.1 by 2 reads _0_1 binds - makes 3.1,3.2`, read from its end, since an act can hold these words. */
   function readRecord(line) {
-    const found = RECORD.exec(line);
-    if (!found) return null;
-    const [, number, goal, act, reads, binds, makes] = found;
-    return {
-      ...readStep(number, goal, act), names: namesIn(act, Number(number)), reads: listed(reads),
-      binds: binds === "-" ? [] : splitOutside(binds, ";").map(readBinding),
-      makes: listed(makes),
-    };
+    const makes = line.lastIndexOf(" makes "), binds = line.lastIndexOf(" binds ", makes - 1), reads = line.lastIndexOf(" reads ", binds - 1);
+    const first = line.indexOf(" "), second = line.indexOf(" ", first + 1);
+    if (second < 0 || second >= reads || reads < 0) return null;
+    const step = readStep(line.slice(0, first), line.slice(first + 1, second), line.slice(second + 1, reads));
+    if (step === null) return null;
+    const bound = line.slice(binds + 7, makes);
+    step.names = step.kind === "ask" ? namesIn(step.act, step.number) : NONE_AT_ALL;
+    step.reads = listed(line.slice(reads + 7, binds));
+    step.binds = bound === "-" ? NONE_AT_ALL : bound.indexOf(";") < 0 ? [readBinding(bound)] : splitOutside(bound, ";").map(readBinding);
+    step.makes = listed(line.slice(makes + 7));
+    return step;
   }
 
   /** The steps of the reply to `records`, in recorded order. */
   const readRecords = (lines) => lines.map(readRecord).filter(Boolean);
 
   /** The steps of the reply to `shelf`. */
-  function readShelf(lines) {
-    return lines.map((line) => SHELVED.exec(line)).filter(Boolean)
-      .map(([, number, goal, act]) => readStep(number, goal, act));
-  }
+  const readShelf = (lines) => lines.map((line) => /^(\d+) (\S+) (.+)$/.exec(line)).filter(Boolean)
+    .map(([, number, goal, act]) => readStep(number, goal, act)).filter(Boolean);
 
   /** What a step consumes and does, in words: `goal 1.1 by 2`, or the act alone where it consumes no goal. */
   const wordsOf = (step) => (step.goal === null ? step.act : `goal ${step.goal} ${step.act}`);
@@ -114,100 +118,330 @@ const Graph = (() => {
     return texts.map((text) => ({ text: `${text}.`, predicate: predicateOf(text.split(":-")[0].trim()) }));
   }
 
-  /** The causes of one step, by who made its goal, who bound what it read, and who made what it names. */
-  function causesOf(step, maker, binder, place) {
-    const causes = new Map();
-    const add = (from, kind, variables) => {
-      if (!causes.has(from)) causes.set(from, { from, to: step.number, kind, variables: [], woke: false });
-      causes.get(from).variables.push(...variables);
-    };
-    if (maker.has(step.goal)) add(maker.get(step.goal), "made", []);
-    for (const variable of step.reads) if (binder.has(variable)) add(binder.get(variable), "read", [variable]);
-    for (const variable of step.names) {
-      const [number] = numbersOf(variable);
-      if (place.has(number)) add(number, "named", [variable]);
+  const KINDS = ["reduce", "unify", "assign", "input", "close", "ask"];
+  const MOST_WITH_IMPLIED = 3000; // steps; of a longer run it is not looked for which edges others imply
+  const MOST_KEPT = 20000; // steps and lists of causes that are kept after they were read
+  const MOST_WAITING_EDGES = 20000;
+  const NONE = -1;
+
+  /** A list of numbers that grows at its end. */
+  class Numbers {
+    constructor(Kind) {
+      this.all = new Kind(1024);
+      this.length = 0;
     }
-    return causes;
+
+    push(value) {
+      if (this.length === this.all.length) {
+        const larger = new this.all.constructor(this.length * 2);
+        larger.set(this.all);
+        this.all = larger;
+      }
+      this.all[this.length] = value;
+      this.length += 1;
+    }
+
+    at(index) {
+      return this.all[index];
+    }
   }
 
-  /** Marks the cause that a waiting goal waited for last, as docs/LANGUAGE.md says under `woke`. */
-  function markWoke(step, causes, place, maker) {
+  /** A few things by their indexes, which are forgotten when they are too many. */
+  class Known {
+    constructor() {
+      this.map = new Map();
+    }
+
+    get(index, make) {
+      if (!this.map.has(index)) {
+        if (this.map.size >= MOST_KEPT) this.map.clear();
+        this.map.set(index, make());
+      }
+      return this.map.get(index);
+    }
+  }
+
+  /** A goal's name as the number of the step that made it and the place among the goals that it made. */
+  function nameParts(goal) {
+    const point = goal.indexOf(".");
+    return [Number(goal.slice(0, point)), Number(goal.slice(point + 1))];
+  }
+
+  /** A variable as a key: a number where its place allows that. Another term is its own key. */
+  function keyOfVariable(variable) {
+    if (!variable.startsWith("_")) return variable;
+    const bar = variable.indexOf("_", 1), place = Number(variable.slice(bar + 1));
+    return place < 0x100000 ? Number(variable.slice(1, bar)) * 0x100000 + place : variable;
+  }
+
+  /**
+   * The graph of a run of any length. A step comes at the end (`push`) or goes from there (`pop`), and both cost what that step alone
+   * costs. Steps go by their index in the record, or by their number. A step is kept as its line, and read where it is asked for.
+   */
+  class RunGraph {
+    constructor() {
+      this.told = []; // for each step its line, or the step as it was given
+      this.indexes = new Map(); // by number
+      this.binders = new Map(); // by variable
+      this.queryConsumers = new Map(); // by place in the query
+      this.kinds = new Numbers(Uint8Array);
+      for (const name of ["numbers", "makers"]) this[name] = new Numbers(Float64Array); // of the step, and of what made its goal
+      for (const name of ["clauses", "places", "depths", "deepest", "firstMade", "firstCause", "lastEffect"]) this[name] = new Numbers(Int32Array);
+      this.consumers = new Numbers(Int32Array); // for each goal that was made: the index of the step that consumed it
+      for (const name of ["from", "to", "effectBefore"]) this[name] = new Numbers(Int32Array); // for each edge
+      this.forget();
+      const accessor = (of) => ({ get: (number) => (this.indexes.has(number) ? of(this.indexes.get(number)) : undefined), has: (number) => this.indexes.has(number) });
+      this.byNumber = accessor((index) => this.stepAt(index));
+      this.causes = accessor((index) => this.causesAt(index));
+      this.effects = accessor((index) => this.effectsAt(index));
+      this.depth = accessor((index) => this.depths.at(index));
+      this.store = { has: (variable) => this.binderOf(variable) !== undefined, get: (variable) => this.termOf(variable) };
+    }
+
+    forget() {
+      this.knownSteps = new Known();
+      this.knownCauses = new Known();
+      this.listed = null;
+    }
+
+    get count() {
+      return this.told.length;
+    }
+
+    /** The longest chain of causes, in steps. */
+    get deepestChain() {
+      return this.count === 0 ? 0 : this.deepest.at(this.count - 1) + 1;
+    }
+
+    indexOf(number) {
+      return this.indexes.has(number) ? this.indexes.get(number) : NONE;
+    }
+
+    stepAt(index) {
+      const told = this.told[index];
+      return typeof told === "string" ? this.knownSteps.get(index, () => readRecord(told)) : told;
+    }
+
+    slice(from, to) {
+      const steps = [];
+      for (let index = from; index < Math.min(to, this.count); index++) steps.push(this.stepAt(index));
+      return steps;
+    }
+
+    /** All steps. It reads each of them: for a run that is not long. */
+    get steps() {
+      this.listed = this.listed || this.slice(0, this.count);
+      return this.listed;
+    }
+
+    /** All direct dependences, each an edge from the cause to the step that depends on it. For a run that is not long. */
+    get edges() {
+      if (!this.areImplied && this.count <= MOST_WITH_IMPLIED) markImplied(this);
+      this.areImplied = true;
+      return this.steps.flatMap((step, index) => this.causesAt(index));
+    }
+
+    /** The number of the step that bound a variable. */
+    binderOf(variable) {
+      return this.binders.get(keyOfVariable(variable));
+    }
+
+    /** What a variable was bound to. */
+    termOf(variable) {
+      const number = this.binderOf(variable);
+      return number === undefined ? undefined : this.byNumber.get(number).binds.find((binding) => binding.variable === variable).term;
+    }
+
+    /** Where the step that consumed a goal is told: NONE if none did; undefined if the goal was not made by a kept step or the query. */
+    consumerOf(goal) {
+      const [maker, place] = nameParts(goal);
+      return this.consumerAt(maker, place);
+    }
+
+    consumerAt(maker, place) {
+      if (maker === 0) return this.queryConsumers.has(place) ? this.queryConsumers.get(place) : NONE;
+      const at = this.madeAt(maker, place);
+      return at === NONE ? undefined : this.consumers.at(at);
+    }
+
+    /** Where a goal stands among all that were made. */
+    madeAt(maker, place) {
+      const index = this.indexOf(maker);
+      if (index === NONE) return NONE;
+      const at = this.firstMade.at(index) + place - 1;
+      return at < this.madeEnd(index) ? at : NONE;
+    }
+
+    madeEnd(index) {
+      return index + 1 < this.count ? this.firstMade.at(index + 1) : this.consumers.length;
+    }
+
+    causeEnd(index) {
+      return index + 1 < this.count ? this.firstCause.at(index + 1) : this.from.length;
+    }
+
+    setConsumer(step, index) {
+      if (step.goal === null) return;
+      const [maker, place] = nameParts(step.goal);
+      if (maker === 0) {
+        if (index === NONE) this.queryConsumers.delete(place);
+        else this.queryConsumers.set(place, index);
+      } else {
+        const at = this.madeAt(maker, place);
+        if (at !== NONE) this.consumers.all[at] = index;
+      }
+    }
+
+    /** The causes of a step: who made its goal, who bound what it read, who made what it names, by their places in the record. */
+    findCauses(step) {
+      const causes = [];
+      if (step.goal !== null) this.addCause(causes, step, nameParts(step.goal)[0], "made", null);
+      for (const variable of step.reads) this.addCause(causes, step, this.binderOf(variable), "read", variable);
+      for (const variable of step.names) this.addCause(causes, step, numbersOf(variable)[0], "named", variable);
+      if (causes.length > 1) causes.sort((one, other) => this.indexes.get(one.from) - this.indexes.get(other.from));
+      return causes;
+    }
+
+    addCause(causes, step, from, kind, variable) {
+      if (from === undefined || !this.indexes.has(from)) return;
+      let cause = causes.find((one) => one.from === from);
+      if (cause === undefined) {
+        cause = { from, to: step.number, kind, variables: [], woke: false, implied: false };
+        causes.push(cause);
+      }
+      if (variable !== null) cause.variables.push(variable);
+    }
+
+    causesAt(index) {
+      return this.knownCauses.get(index, () => {
+        const step = this.stepAt(index), causes = this.findCauses(step);
+        markWoke(step, causes);
+        return causes;
+      });
+    }
+
+    effectsAt(index) {
+      const effects = [], number = this.numbers.at(index);
+      for (let edge = this.lastEffect.at(index); edge !== NONE; edge = this.effectBefore.at(edge)) {
+        effects.push(this.causesAt(this.to.at(edge)).find((cause) => cause.from === number));
+      }
+      return effects.reverse();
+    }
+
+    /** Puts a step, or the line that tells it, at the end. */
+    push(told) {
+      const step = typeof told === "string" ? readRecord(told) : told;
+      if (step === null) return;
+      const index = this.count, causes = this.findCauses(step), [maker, place] = step.goal === null ? [NONE, NONE] : nameParts(step.goal);
+      let depth = 0;
+      for (const cause of causes) depth = Math.max(depth, this.depths.at(this.indexes.get(cause.from)) + 1);
+      this.numbers.push(step.number);
+      this.kinds.push(KINDS.indexOf(step.kind));
+      this.clauses.push(step.clause || 0);
+      this.makers.push(maker);
+      this.places.push(place);
+      this.depths.push(depth);
+      this.deepest.push(Math.max(depth, index > 0 ? this.deepest.at(index - 1) : 0));
+      this.firstMade.push(this.consumers.length);
+      this.firstCause.push(this.from.length);
+      this.lastEffect.push(NONE);
+      for (const cause of causes) this.addEdge(this.indexes.get(cause.from), index);
+      this.told.push(told);
+      this.indexes.set(step.number, index);
+      this.setConsumer(step, index);
+      for (let made = 0; made < step.makes.length; made++) this.consumers.push(NONE);
+      for (const binding of step.binds) this.binders.set(keyOfVariable(binding.variable), step.number);
+      this.changed();
+    }
+
+    addEdge(from, to) {
+      this.effectBefore.push(this.lastEffect.at(from));
+      this.lastEffect.all[from] = this.from.length;
+      this.from.push(from);
+      this.to.push(to);
+    }
+
+    /** Takes the last step away. No step that stays depends on it. */
+    pop() {
+      const index = this.count - 1, step = this.stepAt(index);
+      for (let edge = this.from.length - 1; edge >= this.firstCause.at(index); edge--) this.lastEffect.all[this.from.at(edge)] = this.effectBefore.at(edge);
+      for (const list of [this.from, this.to, this.effectBefore]) list.length = this.firstCause.at(index);
+      for (const binding of step.binds) this.binders.delete(keyOfVariable(binding.variable));
+      this.setConsumer(step, NONE);
+      this.consumers.length = this.firstMade.at(index);
+      this.indexes.delete(step.number);
+      this.told.pop();
+      for (const list of [this.numbers, this.kinds, this.clauses, this.makers, this.places, this.depths, this.deepest, this.firstMade, this.firstCause, this.lastEffect]) list.length = index;
+      this.knownSteps.map.delete(index);
+      this.knownCauses.map.delete(index);
+      this.changed();
+    }
+
+    changed() {
+      this.listed = null;
+      this.areImplied = false;
+    }
+  }
+
+  /** Marks the cause that a waiting goal waited for last, as docs/LANGUAGE.md says under `woke`. The causes stand in recorded order. */
+  function markWoke(step, causes) {
     if (step.kind !== "reduce" && step.kind !== "assign") return;
-    const readers = [...causes.values()].filter((cause) => cause.variables.length > 0);
+    const readers = causes.filter((cause) => cause.variables.length > 0);
     if (readers.length === 0) return;
-    const last = readers.reduce((late, cause) => (place.get(cause.from) > place.get(late.from) ? cause : late));
-    const made = maker.has(step.goal) ? place.get(maker.get(step.goal)) : -1;
-    last.woke = last.kind === "read" && made < place.get(last.from);
-  }
-
-  /** The direct dependences of a record: each an edge from the cause to the step that depends on it. */
-  function edgesOf(steps) {
-    const maker = new Map(), binder = new Map(), edges = [];
-    const place = new Map(steps.map((step, index) => [step.number, index]));
-    for (const step of steps) {
-      const causes = causesOf(step, maker, binder, place);
-      markWoke(step, causes, place, maker);
-      edges.push(...[...causes.values()].sort((one, other) => place.get(one.from) - place.get(other.from)));
-      for (const goal of step.makes) maker.set(goal, step.number);
-      for (const binding of step.binds) binder.set(binding.variable, step.number);
-    }
-    return edges;
-  }
-
-  /** The length of the longest chain of causes before each step. */
-  function depthsOf(steps, causes) {
-    const depth = new Map();
-    for (const step of steps) {
-      const before = causes.get(step.number).map((edge) => depth.get(edge.from) + 1);
-      depth.set(step.number, Math.max(0, ...before));
-    }
-    return depth;
+    const last = readers[readers.length - 1], made = causes.findIndex((cause) => step.goal !== null && cause.from === nameParts(step.goal)[0]);
+    last.woke = last.kind === "read" && made < causes.indexOf(last);
   }
 
   /** Marks each edge that a longer chain of causes implies: the picture draws these faintly. */
-  function markImplied(steps, causes) {
-    const words = (steps.length >> 5) + 1;
-    const place = new Map(steps.map((step, index) => [step.number, index]));
-    const before = new Map();
-    for (const step of steps) {
-      const all = new Uint32Array(words), edges = causes.get(step.number);
-      for (const edge of edges) before.get(edge.from).forEach((word, index) => { all[index] |= word; });
-      for (const edge of edges) {
-        const index = place.get(edge.from);
-        edge.implied = ((all[index >> 5] >>> (index & 31)) & 1) === 1;
-      }
-      for (const edge of edges) all[place.get(edge.from) >> 5] |= 1 << (place.get(edge.from) & 31);
-      before.set(step.number, all);
+  function markImplied(graph) {
+    const words = (graph.count >> 5) + 1, before = [];
+    for (let index = 0; index < graph.count; index++) {
+      const all = new Uint32Array(words), edges = graph.causesAt(index), at = (edge) => graph.indexes.get(edge.from);
+      for (const edge of edges) before[at(edge)].forEach((word, part) => { all[part] |= word; });
+      for (const edge of edges) edge.implied = ((all[at(edge) >> 5] >>> (at(edge) & 31)) & 1) === 1;
+      for (const edge of edges) all[at(edge) >> 5] |= 1 << (at(edge) & 31);
+      before.push(all);
     }
   }
 
-  /** The graph of a record: its steps, edges, each step's causes and effects, and its depth. */
+  /** The graph of steps in recorded order. */
   function graphOf(steps) {
-    const edges = edgesOf(steps);
-    const causes = new Map(steps.map((step) => [step.number, []]));
-    const effects = new Map(steps.map((step) => [step.number, []]));
-    for (const edge of edges) {
-      causes.get(edge.to).push(edge);
-      effects.get(edge.from).push(edge);
-    }
-    markImplied(steps, causes);
-    const byNumber = new Map(steps.map((step) => [step.number, step]));
-    return { steps, edges, causes, effects, byNumber, depth: depthsOf(steps, causes) };
+    const graph = new RunGraph();
+    for (const step of steps) graph.push(step);
+    return graph;
   }
 
-  /** All that one comes to from a step along its edges, the step itself among them. */
-  function reached(number, edgesFrom, end) {
-    const seen = new Set([number]), left = [number];
-    while (left.length > 0) {
-      for (const edge of edgesFrom.get(left.pop()) || []) {
-        if (!seen.has(edge[end])) left.push(edge[end]);
-        seen.add(edge[end]);
-      }
-    }
-    return seen;
+  /** For each step by its index, 1 where one comes to it from the step of an index along the edges, that step among them; and how many. */
+  function reached(graph, index, goesOn) {
+    const isIn = new Uint8Array(graph.count), left = [index];
+    let count = 1;
+    isIn[index] = 1;
+    const add = (other) => {
+      if (isIn[other] === 1) return;
+      isIn[other] = 1;
+      count += 1;
+      left.push(other);
+    };
+    while (left.length > 0) goesOn(left.pop(), add);
+    return { isIn, count };
   }
-  const allCauses = (graph, number) => reached(number, graph.causes, "from");
-  const allEffects = (graph, number) => reached(number, graph.effects, "to");
+
+  const causesReached = (graph, index) => reached(graph, index, (at, add) => {
+    for (let edge = graph.firstCause.at(at); edge < graph.causeEnd(at); edge++) add(graph.from.at(edge));
+  });
+  const effectsReached = (graph, index) => reached(graph, index, (at, add) => {
+    for (let edge = graph.lastEffect.at(at); edge !== NONE; edge = graph.effectBefore.at(edge)) add(graph.to.at(edge));
+  });
+
+  function numbersIn(graph, { isIn }) {
+    const numbers = new Set();
+    isIn.forEach((is, index) => { if (is === 1) numbers.add(graph.numbers.at(index)); });
+    return numbers;
+  }
+
+  /** The numbers of a step and of all that it depends on, or that depends on it. */
+  const allCauses = (graph, number) => numbersIn(graph, causesReached(graph, graph.indexOf(number)));
+  const allEffects = (graph, number) => numbersIn(graph, effectsReached(graph, graph.indexOf(number)));
 
   /** The reply to `why N` that this graph stands for. */
   function whyLines(graph, number) {
@@ -218,15 +452,18 @@ const Graph = (() => {
 
   /** Another lawful order: each process goes on as far as it can. `laneOf` gives the lane of a step's number. */
   function tidyOrder(graph, laneOf) {
-    const left = new Map(graph.steps.map((step) => [step.number, step])), order = [];
-    const free = (step) => graph.causes.get(step.number).every((edge) => !left.has(edge.from));
+    const missing = graph.steps.map((step, index) => graph.causeEnd(index) - graph.firstCause.at(index)), order = [];
+    const free = missing.flatMap((count, index) => (count === 0 ? [index] : [])); // by their places in the record
     let lane = null;
-    while (left.size > 0) {
-      const ready = [...left.values()].filter(free);
-      const next = ready.find((step) => laneOf(step.number) === lane) || ready[0];
-      order.push(next.number);
-      left.delete(next.number);
-      lane = laneOf(next.number);
+    const add = (index) => {
+      missing[index] -= 1;
+      if (missing[index] === 0) free.splice(free.findIndex((other) => other > index) >>> 0, 0, index);
+    };
+    while (free.length > 0) {
+      const same = free.findIndex((index) => laneOf(graph.numbers.at(index)) === lane), [index] = free.splice(Math.max(0, same), 1);
+      order.push(graph.numbers.at(index));
+      lane = laneOf(graph.numbers.at(index));
+      for (let edge = graph.lastEffect.at(index); edge !== NONE; edge = graph.effectBefore.at(edge)) add(graph.to.at(edge));
     }
     return order;
   }
@@ -243,7 +480,10 @@ const Graph = (() => {
     return holders;
   }
 
-  /** For each waiting goal and each variable that it waits for: the goals that have that variable, and do not wait for it too. */
+  /**
+   * For each waiting goal and each variable that it waits for: the goals that have that variable, and do not wait for it too. Of more
+   * edges than a picture or a sentence can use the first are found.
+   */
   function waitingEdges(goals) {
     const holders = holdersOf(goals), edges = [];
     for (const goal of goals) {
@@ -251,6 +491,7 @@ const Graph = (() => {
         const others = (holders.get(variable) || []).filter((other) => other !== goal && !other.waitsFor.includes(variable));
         for (const other of others) edges.push({ from: goal.name, to: other.name, variable });
       }
+      if (edges.length > MOST_WAITING_EDGES) break;
     }
     return edges;
   }
@@ -260,26 +501,30 @@ const Graph = (() => {
     const next = new Map(goals.filter((goal) => goal.status === "waits").map((goal) => [goal.name, []]));
     for (const edge of waitingEdges(goals)) if (next.has(edge.to)) next.get(edge.from).push(edge.to);
     const done = new Set();
-    function walk(name, way) {
-      if (way.includes(name)) return way.slice(way.indexOf(name));
-      if (done.has(name)) return [];
-      done.add(name);
-      for (const other of next.get(name)) {
-        const circle = walk(other, [...way, name]);
-        if (circle.length > 0) return circle;
+    for (const start of next.keys()) {
+      const way = [], onWay = new Map(), left = done.has(start) ? [] : [{ name: start, at: 0 }];
+      while (left.length > 0) {
+        const top = left[left.length - 1];
+        if (top.at === 0) {
+          onWay.set(top.name, way.length);
+          way.push(top.name);
+        }
+        const others = next.get(top.name), other = others[top.at];
+        top.at += 1;
+        if (other !== undefined && onWay.has(other)) return way.slice(onWay.get(other));
+        if (other !== undefined && !done.has(other)) left.push({ name: other, at: 0 });
+        if (top.at <= others.length) continue;
+        done.add(top.name);
+        onWay.delete(way.pop());
+        left.pop();
       }
-      return [];
-    }
-    for (const name of next.keys()) {
-      const circle = walk(name, []);
-      if (circle.length > 0) return circle;
     }
     return [];
   }
 
   return {
     splitOutside, variablesIn, wordsOf, readRecords, readShelf, readGoals, readClauses, predicateOf, sortOfText, graphOf,
-    allCauses, allEffects, whyLines, tidyOrder, waitingEdges, circleOf,
+    allCauses, allEffects, whyLines, tidyOrder, waitingEdges, circleOf, RunGraph, causesReached, effectsReached, nameParts, readRecord, NONE,
   };
 })();
 if (typeof module !== "undefined") module.exports = Graph;

@@ -12,86 +12,213 @@ const Lanes = ((Graph, Terms) => {
   const NARROW = 600; // the room below which names are short
   const BOLD_LETTER = 0.62, LETTER = 0.56; // the width of a letter, as a part of the font's size
 
-  /** What each goal is, by its name: `call` (with its predicate), `unification`, `assignment` or `stream`. */
-  function goalKinds(run) {
-    const kinds = new Map();
-    const sorts = { reduce: "call", unify: "unification", assign: "assignment", input: "stream", close: "stream" };
-    for (const step of run.graph.steps) {
-      if (step.goal === null) continue;
-      const predicate = step.kind === "reduce" ? (run.clauses[step.clause - 1] || { predicate: "?" }).predicate : null;
-      kinds.set(step.goal, { sort: sorts[step.kind], predicate });
+  const SORTS = ["call", "unification", "assignment", "stream", "stream"]; // of the goal of a step, by the step's kind
+
+  /** What each goal of a run is, by its name: `call` (with its predicate), `unification`, `assignment` or `stream`. */
+  class GoalKinds {
+    constructor(run) {
+      this.run = run;
+      this.there = new Map(run.goals.map((goal) => [goal.name, { sort: goal.sort, predicate: goal.sort === "call" ? Graph.predicateOf(goal.text) : null }]));
+      this.consumed = new Map();
     }
-    for (const goal of run.goals) {
-      kinds.set(goal.name, { sort: goal.sort, predicate: goal.sort === "call" ? Graph.predicateOf(goal.text) : null });
+
+    /** The kind of the goal that a step consumed. */
+    ofConsumer(index) {
+      const { graph, clauses } = this.run, kind = graph.kinds.at(index), clause = graph.clauses.at(index), key = kind === 0 ? clause : -kind;
+      if (!this.consumed.has(key)) this.consumed.set(key, { sort: SORTS[kind], predicate: kind === 0 ? (clauses[clause - 1] || { predicate: "?" }).predicate : null });
+      return this.consumed.get(key);
     }
-    return kinds;
+
+    at(maker, place) {
+      const index = this.run.graph.consumerAt(maker, place);
+      return index === undefined || index === Graph.NONE ? this.there.get(`${maker}.${place}`) : this.ofConsumer(index);
+    }
+
+    get(name) {
+      return name === null ? undefined : this.at(...Graph.nameParts(name));
+    }
+
+    has(name) {
+      return this.get(name) !== undefined;
+    }
   }
 
   const isSmall = (kind) => kind !== undefined && (kind.sort === "unification" || kind.sort === "assignment");
 
-  /**
-   * The goal in which a process goes on: the last one made of the same predicate, else the last call, else the stream's rest. An ask
-   * goes on in the last call that it made.
-   */
-  function goesOnIn(step, kinds) {
-    const calls = step.makes.filter((goal) => kinds.has(goal) && !isSmall(kinds.get(goal)));
-    const same = calls.filter((goal) => step.goal !== null && kinds.get(goal).predicate === kinds.get(step.goal).predicate);
-    const goals = same.length > 0 ? same : calls;
-    return goals[goals.length - 1];
-  }
-
-  /** A lane begins where its `parent` made its first goal, or with an ask, which nothing made, or at the left. */
-  const newLane = (name, parent) => ({ name, parent, asked: null, steps: [], goals: [], predicates: [] });
-
   /** What a step's lane is found by: its goal, or the number of an ask, which has none. */
   const keyOf = (step) => (step.goal === null ? String(step.number) : step.goal);
 
-  /** The lane of each goal that a step makes: its own process goes on, small goals stay with it, other calls begin lanes beside it. */
-  function placeMade(step, lanes, laneOf, kinds) {
-    const lane = laneOf.get(keyOf(step)), goesOn = goesOnIn(step, kinds);
-    let behind = lanes.indexOf(lane) + 1;
-    for (const goal of step.makes) {
-      if (goal === goesOn || isSmall(kinds.get(goal))) {
-        laneOf.set(goal, lane);
-        continue;
-      }
-      const child = newLane(goal, step);
-      const stands = goesOn !== undefined && byName(goal, goesOn) < 0 ? lanes.indexOf(lane) : behind;
-      lanes.splice(stands, 0, child);
-      laneOf.set(goal, child);
-      behind = Math.max(behind, stands) + 1;
+  /** Lanes in their order, among which others are put; `before` of the ring itself is its end. */
+  class Ring {
+    constructor() {
+      this.next = this;
+      this.previous = this;
+    }
+
+    put(lane, before) {
+      lane.next = before;
+      lane.previous = before.previous;
+      before.previous.next = lane;
+      before.previous = lane;
+    }
+
+    takeOut(lane) {
+      lane.previous.next = lane.next;
+      lane.next.previous = lane.previous;
+    }
+
+    all() {
+      const lanes = [];
+      for (let lane = this.next; lane !== this; lane = lane.next) lanes.push(lane);
+      return lanes;
     }
   }
 
-  function addPredicate(lane, kind) {
-    if (kind && kind.predicate && !lane.predicates.includes(kind.predicate)) lane.predicates.push(kind.predicate);
+  /**
+   * The lanes of a run, which grow and shrink with its graph: a step that comes or goes at the end costs what that step alone costs. A
+   * lane begins where a step (`parent`, by its index) made its first goal, or with an ask (`asked`), which nothing made, or at the left.
+   */
+  class RunLanes {
+    constructor() {
+      this.ring = new Ring();
+      this.lanes = []; // as they began
+      this.ofStep = []; // by index
+      this.ofMade = []; // by the places of the goals that were made
+      this.ofQuery = new Map(); // by place in the query
+      this.order = null;
+    }
+
+    begin(name, before, index, parent, asked) {
+      const lane = { name, parent, asked, bornAt: index, slot: this.lanes.length, predicates: [], since: [], index: 0 };
+      this.lanes.push(lane);
+      this.ring.put(lane, before);
+      this.order = null;
+      return lane;
+    }
+
+    /** The lane of a goal that is there or was; undefined where nothing is known of it. */
+    ofGoal(graph, name) {
+      const [maker, place] = Graph.nameParts(name);
+      return maker === 0 ? this.ofQuery.get(place) : this.ofMade[graph.madeAt(maker, place)];
+    }
+
+    /** The lanes of the query's goals, from the top. */
+    beginQuery(places) {
+      if (this.lanes.length > 0) return;
+      for (const place of places) this.ofQuery.set(place, this.begin(`0.${place}`, this.ring, -1, null, null));
+    }
+
+    /** Takes away what came with the steps from an index on. */
+    cut(graph, count) {
+      if (this.ofStep.length > count) this.ofMade.length = Math.min(this.ofMade.length, count < graph.count ? graph.firstMade.at(count) : graph.consumers.length);
+      while (this.ofStep.length > count) {
+        const lane = this.ofStep.pop();
+        while (lane.since.length > 0 && lane.since[lane.since.length - 1] >= count) {
+          lane.since.pop();
+          lane.predicates.pop();
+        }
+      }
+      while (this.lanes.length > 0 && this.lanes[this.lanes.length - 1].bornAt >= count) {
+        this.ring.takeOut(this.lanes.pop());
+        this.order = null;
+      }
+    }
+
+    /** Gives the next step its lane, and the goals that it made theirs: its own process goes on, small goals stay with it, other calls begin lanes beside it. */
+    add(graph, kinds) {
+      const index = this.ofStep.length, maker = graph.makers.at(index);
+      const known = maker === Graph.NONE ? undefined : maker === 0 ? this.ofQuery.get(graph.places.at(index)) : this.ofMade[graph.madeAt(maker, graph.places.at(index))];
+      const lane = known || this.begin(maker === Graph.NONE ? String(graph.numbers.at(index)) : `${maker}.${graph.places.at(index)}`, this.ring, index, null, maker === Graph.NONE ? index : null);
+      this.ofStep.push(lane);
+      const own = maker === Graph.NONE ? undefined : kinds.ofConsumer(index);
+      if (own && own.predicate && !lane.predicates.includes(own.predicate)) {
+        lane.predicates.push(own.predicate);
+        lane.since.push(index);
+      }
+      this.placeMade(graph, kinds, index, lane, own);
+    }
+
+    placeMade(graph, kinds, index, lane, own) {
+      const number = graph.numbers.at(index), count = graph.madeEnd(index) - graph.firstMade.at(index);
+      const made = Array.from({ length: count }, (none, place) => kinds.at(number, place + 1)), goesOn = goesOnIn(made, own);
+      let last = lane;
+      made.forEach((kind, place) => {
+        if (place === goesOn || isSmall(kind)) {
+          this.ofMade.push(lane);
+          return;
+        }
+        const before = goesOn >= 0 && place < goesOn ? lane : last.next, child = this.begin(`${number}.${place + 1}`, before, index, index, null);
+        this.ofMade.push(child);
+        if (before !== lane) last = child;
+      });
+    }
+
+    /** All lanes from the top, each with its index. */
+    inOrder() {
+      if (this.order === null) {
+        this.order = this.ring.all();
+        this.order.forEach((lane, index) => { lane.index = index; });
+      }
+      return this.order;
+    }
+  }
+
+  /**
+   * The place, among the goals that a step made, of the one in which its process goes on: the last one of the same predicate, else the
+   * last call, else the stream's rest; -1 where there is none. An ask goes on in the last call that it made.
+   */
+  function goesOnIn(made, own) {
+    let last = -1, same = -1;
+    made.forEach((kind, place) => {
+      if (kind === undefined || isSmall(kind)) return;
+      last = place;
+      if (own && kind.predicate === own.predicate) same = place;
+    });
+    return same >= 0 ? same : last;
+  }
+
+  /** The places of the query's goals, those that are there and those that were consumed. */
+  function queryPlaces(run) {
+    const there = run.goals.map((goal) => Graph.nameParts(goal.name)).filter(([maker]) => maker === 0).map(([, place]) => place);
+    return [...new Set([...there, ...run.graph.queryConsumers.keys()])].sort((one, other) => one - other);
+  }
+
+  /** The lanes of a run that was not put into lanes yet. */
+  function runLanes(run) {
+    const lanes = new RunLanes(), kinds = new GoalKinds(run);
+    lanes.beginQuery(queryPlaces(run));
+    while (lanes.ofStep.length < run.graph.count) lanes.add(run.graph, kinds);
+    return lanes;
+  }
+
+  /** The lanes of some steps of a run, from one index up to another, each with its steps and the goals that are there. */
+  function lanesIn(run, whole, from, to, goals) {
+    const { graph } = run, kinds = new GoalKinds(run), parts = new Map(), laneOf = new Map();
+    const kept = (index) => (index !== null && index >= from && index < to ? graph.stepAt(index) : null);
+    const partOf = (lane) => {
+      if (!parts.has(lane)) parts.set(lane, { ...lane, parent: kept(lane.parent), asked: kept(lane.asked), steps: [], goals: [], predicates: [...lane.predicates] });
+      return parts.get(lane);
+    };
+    whole.inOrder();
+    if (from === 0) for (const lane of whole.ofQuery.values()) partOf(lane);
+    for (let index = from; index < to; index++) {
+      const part = partOf(whole.ofStep[index]), step = graph.stepAt(index);
+      part.steps.push(step);
+      laneOf.set(keyOf(step), part);
+    }
+    for (const goal of goals) {
+      const lane = whole.ofGoal(graph, goal.name), kind = kinds.get(goal.name);
+      if (lane === undefined) continue;
+      const part = partOf(lane);
+      part.goals.push(goal);
+      laneOf.set(goal.name, part);
+      if (kind && kind.predicate && !part.predicates.includes(kind.predicate)) part.predicates.push(kind.predicate);
+    }
+    return { lanes: [...parts.values()].sort((one, other) => one.index - other.index), laneOf, kinds };
   }
 
   /** The lanes of a run, from the top, each with its steps and the goals that are there. */
-  function lanesOf(run) {
-    const kinds = goalKinds(run), lanes = [], laneOf = new Map();
-    const begin = (name) => {
-      if (laneOf.has(name)) return;
-      const lane = newLane(name, null);
-      lanes.push(lane);
-      laneOf.set(name, lane);
-    };
-    [...kinds.keys()].filter((name) => name.startsWith("0.")).sort(byName).forEach(begin);
-    for (const step of run.graph.steps) {
-      begin(keyOf(step));
-      const lane = laneOf.get(keyOf(step));
-      lane.steps.push(step);
-      if (step.goal === null) lane.asked = step;
-      addPredicate(lane, kinds.get(step.goal));
-      placeMade(step, lanes, laneOf, kinds);
-    }
-    for (const goal of run.goals) {
-      begin(goal.name);
-      laneOf.get(goal.name).goals.push(goal);
-      addPredicate(laneOf.get(goal.name), kinds.get(goal.name));
-    }
-    return { lanes, laneOf, kinds };
-  }
+  const lanesOf = (run) => lanesIn(run, runLanes(run), 0, run.graph.count, run.goals);
 
   const shortName = (predicate) => predicate.split("/")[0];
 
@@ -177,11 +304,13 @@ const Lanes = ((Graph, Terms) => {
     return 70 + Math.max(...labels) + Math.min(3, edges.length) * arcWidth(edges);
   }
 
-  function axis(columns, dx, x) {
-    const every = [1, 5, 10, 20, 50].find((number) => number * dx >= 34) || 100;
+  /** The numbers above the columns; `before` is how many columns of the run stand before the first one. */
+  function axis(columns, dx, x, before) {
+    const every = [1, 5, 10, 20, 50, 100, 200, 500].find((number) => number * dx >= 20 + 7 * String(columns + before).length) || 1000;
     const ticks = [];
     for (let column = 1; column <= columns; column++) {
-      if (column === 1 || column % every === 0) ticks.push({ x: x(column - 1), text: String(column) });
+      const isFirst = column === 1 && every - (before % every) - 1 >= (before > 0 ? every / 2 : 0);
+      if (isFirst || (column + before) % every === 0) ticks.push({ x: x(column - 1), text: String(column + before) });
     }
     return ticks;
   }
@@ -246,11 +375,11 @@ const Lanes = ((Graph, Terms) => {
    * width that there is, and `options.top` the room above the first lane.
    */
   function layout(run, options) {
-    const { lanes, laneOf, kinds } = lanesOf(run);
+    const { lanes, laneOf, kinds } = run.placed || lanesOf(run);
     const place = new Map(run.graph.steps.map((step, index) => [step.number, index]));
     const columnOf = options.by === "depth" ? (step) => run.graph.depth.get(step.number) : (step) => place.get(step.number);
     const columns = run.graph.steps.reduce((most, step) => Math.max(most, columnOf(step) + 1), 0);
-    const rows = new Map(), store = Terms.storeOf(run.graph.steps);
+    const rows = new Map(), store = run.store || run.graph.store;
     const makerOf = new Map(run.graph.steps.flatMap((step) => step.makes.map((goal) => [goal, step])));
     for (const lane of lanes) {
       placeInLane(lane, kinds, columnOf, makerOf, rows, columns);
@@ -264,7 +393,7 @@ const Lanes = ((Graph, Terms) => {
     view.yOf = (lane, row) => lane.y + row * sizes.leafRow;
     view.thereX = left + columns * sizes.dx + sizes.radius + 6;
     view.bottom = placeLanes(view, options.top);
-    view.ticks = axis(columns, sizes.dx, x);
+    view.ticks = axis(columns, sizes.dx, x, options.by === "depth" ? 0 : run.before || 0);
     for (const step of run.graph.steps) {
       const lane = laneOf.get(keyOf(step)), row = rows.get(step.number);
       const isLeaf = step.kind === "unify" || step.kind === "assign";
@@ -275,6 +404,6 @@ const Lanes = ((Graph, Terms) => {
     return view;
   }
 
-  return { layout, lanesOf, shortName };
+  return { layout, lanesOf, lanesIn, RunLanes, GoalKinds, queryPlaces, shortName };
 })(typeof require === "undefined" ? Graph : require("./graph.js"), typeof require === "undefined" ? Terms : require("./terms.js"));
 if (typeof module !== "undefined") module.exports = Lanes;
