@@ -9,20 +9,22 @@ const Canvas = (() => {
 
   /** Draws the run anew, as wide as the window and the zoom say. */
   function draw() {
-    if (Talk.refusal) {
+    if (Talk.refusal || !Talk.session) {
       find("canvas").textContent = "";
       return;
     }
     const area = find("canvas"), isScrolled = area.scrollLeft > 0 || area.scrollTop > 0;
-    const room = Math.max(320, area.clientWidth - 8) * canvas.zoom;
-    const drawn = Picture.draw(Talk.run, { by: canvas.by, theme: canvas.theme, room, legend: true, titles: false });
+    const room = Math.max(320, area.clientWidth - 8) * (Overview.isOn() ? 1 : canvas.zoom);
+    Overview.draw();
+    const drawn = Picture.draw(Overview.shownRun(), { by: canvas.by, theme: canvas.theme, room, legend: true, titles: false });
     area.innerHTML = drawn.svg;
     canvas.view = drawn.view;
-    if (canvas.chosen && !placeOf(canvas.chosen)) canvas.chosen = null;
+    if (canvas.chosen && !isThere(canvas.chosen)) canvas.chosen = null;
     if (isScrolled) stayInSight();
     if (canvas.chosen) showChosen();
   }
 
+  const isThere = (chosen) => (chosen.step !== undefined ? Talk.run.graph.byNumber.has(chosen.step) : Talk.run.goals.some((goal) => goal.name === chosen.goal));
   const placeOf = (chosen) => (chosen.step !== undefined ? canvas.view.marks.get(chosen.step) : canvas.view.goals.get(chosen.goal));
 
   /** The element of a step or goal in the picture. */
@@ -65,6 +67,7 @@ const Canvas = (() => {
   function choose(chosen) {
     canvas.chosen = chosen;
     showChosen();
+    Overview.draw();
     Panels.showDetail(chosen);
   }
 
@@ -78,15 +81,17 @@ const Canvas = (() => {
 
   /** Scrolls so far that what is chosen is in sight. */
   function scrollTo(chosen) {
+    if (chosen.step !== undefined && Overview.show(chosen.step)) draw();
     const area = find("canvas"), place = placeOf(chosen), left = canvas.view.left;
+    if (!place) return;
     if (place.x - left < area.scrollLeft) area.scrollLeft = place.x - left - 60;
     if (place.x > area.scrollLeft + area.clientWidth - 40) area.scrollLeft = place.x - area.clientWidth + 120;
     if (place.y < area.scrollTop + 60) area.scrollTop = place.y - 90;
     if (place.y > area.scrollTop + area.clientHeight - 30) area.scrollTop = place.y - area.clientHeight + 80;
   }
 
-  /** All that can be chosen, in the order of the picture: the steps, then the goals. */
-  const choices = () => [...Talk.run.graph.steps.map((step) => ({ step: step.number })), ...Talk.run.goals.map((goal) => ({ goal: goal.name }))];
+  /** All that can be chosen of what is shown, in the order of the picture: the steps, then the goals. */
+  const choices = () => [...[...canvas.view.marks.keys()].map((step) => ({ step })), ...[...canvas.view.goals.keys()].map((goal) => ({ goal }))];
 
   /** What is told of a step or of an arrow of the picture. */
   function wordsFor(element) {
@@ -133,5 +138,5 @@ const Canvas = (() => {
     return true;
   }
 
-  return Object.assign(canvas, { draw, choose, ring, stayInSight, onKey, addTitle });
+  return Object.assign(canvas, { draw, choose, scrollTo, ring, stayInSight, onKey, addTitle });
 })();

@@ -3,7 +3,7 @@ const Panels = (() => {
   "use strict";
 
   const { find, make, lineButton, withCode } = Elements;
-  const MOST_ROWS = 100, MOST_LINES = 5000;
+  const MOST_ROWS = 100, MOST_LINES = 1000, MOST_TIDIED = 3000, MOST_LOOKED_AT = 2000;
   const plural = (count, word) => `${count} ${word}${count === 1 ? "" : "s"}`;
   const isRefusal = (line) => /^F\d+ /.test(line) || /^(program|query|history|session): /.test(line);
   let shown = 0;
@@ -11,10 +11,11 @@ const Panels = (() => {
   function addTold(entry) {
     const told = find("told");
     told.append(make("div", { class: "typed" }, `> ${entry.line}`));
-    if (entry.reply.length === 0) return;
-    const isRefused = entry.reply.length === 1 && isRefusal(entry.reply[0]), more = entry.reply.length - MOST_LINES;
-    if (more > 0) told.append(make("div", { class: "dim" }, `(${more} lines that are not shown here)`));
-    told.append(make("div", { class: isRefused ? "refused" : null }, entry.reply.slice(-MOST_LINES).join("\n")));
+    if (entry.note) told.append(make("div", { class: "dim" }, entry.note));
+    if (entry.length === 0) return;
+    const lines = entry.tail(MOST_LINES), isRefused = entry.length === 1 && isRefusal(lines[0]), more = entry.length - lines.length;
+    if (more > 0) told.append(make("div", { class: "dim" }, `(${plural(more, "line")} before these, which Save writes)`));
+    told.append(make("div", { class: isRefused ? "refused" : null }, lines.join("\n")));
   }
 
   /** With what the page was made. */
@@ -22,7 +23,7 @@ const Panels = (() => {
 
   /** Adds to the console what was typed and told since it was filled last. */
   function showTold(what) {
-    if (what === "start") {
+    if (what === "start" || what === "again") {
       find("told").replaceChildren(make("div", { class: "made-with dim" }, madeWith()));
       shown = 0;
       if (Talk.refusal) find("told").append(make("div", { class: "refused" }, Talk.refusal));
@@ -39,8 +40,8 @@ const Panels = (() => {
     return make("div", { class: "line-row" }, text, goal.status === "ready" ? lineButton("Step", `step ${goal.name}`, { class: "small" }) : null);
   }
 
-  function fill(panel, rows, empty) {
-    const area = find(panel), more = rows.length - MOST_ROWS;
+  function fill(panel, rows, empty, count = rows.length) {
+    const area = find(panel), more = count - Math.min(rows.length, MOST_ROWS);
     area.replaceChildren(...rows.slice(0, MOST_ROWS).map((row) => row()));
     if (more > 0) area.append(make("div", { class: "dim" }, `and ${more} more`));
     if (rows.length === 0) area.append(make("span", { class: "dim" }, empty));
@@ -58,8 +59,12 @@ const Panels = (() => {
   /** The values of the query's variables, then all bindings, the newest first. */
   function showStore() {
     const values = Talk.run.values.map((line) => /^(\S+) = (.*)$/.exec(line)).filter(Boolean).map(([, name, text]) => () => valueRow(name, text));
-    const bindings = Talk.run.graph.steps.flatMap((step) => step.binds.map((binding) => () => valueRow(binding.variable, binding.term, step.number)));
-    fill("store", [...values, ...bindings.reverse()], "nothing is bound");
+    const bindings = [], { graph } = Talk.run;
+    for (let at = graph.count - 1; at >= 0 && at > graph.count - MOST_LOOKED_AT && bindings.length < MOST_ROWS; at--) {
+      const step = graph.stepAt(at);
+      for (const binding of [...step.binds].reverse()) bindings.push(() => valueRow(binding.variable, binding.term, step.number));
+    }
+    fill("store", [...values, ...bindings], "nothing is bound", values.length + graph.binders.size);
     if (values.length > 0) find("store").children[values.length - 1].classList.add("last-value");
   }
 
@@ -77,8 +82,11 @@ const Panels = (() => {
       area.replaceChildren(make("span", { class: "dim" }, "Click a step in the picture."));
       return;
     }
-    const causes = Graph.whyLines(Talk.run.graph, step.number).filter((line) => line !== "none").map((line) => `because of ${line}`);
-    area.textContent = [Picture.tellStep(Talk.run, step), ...causes].join("\n");
+    const causes = Graph.whyLines(Talk.run.graph, step.number).filter((line) => line !== "none");
+    const effects = Talk.run.graph.effects.get(step.number).map((edge) => edge.to);
+    const goTo = (number, words) => make("button", { class: "link", "data-goto": number, title: `goes to step ${number}` }, words);
+    area.replaceChildren(Picture.tellStep(Talk.run, step), ...causes.flatMap((line) => ["\nbecause of ", goTo(line.split(" ")[0], line)]),
+      ...effects.slice(0, 20).flatMap((number, index) => [index === 0 ? "\nneeded by " : ", ", goTo(number, String(number))]));
   }
 
   /** Words above the picture where there is something that one should know. */
@@ -88,8 +96,7 @@ const Panels = (() => {
     if (Talk.refusal) return `Refused: ${Talk.refusal}`;
     if (Talk.session.hasEnded) return "The session has ended. Start begins a new one.";
     if (failed) return `Goal ${failed.name} has failed (${failed.refusal}). Take back a step that it read, and it may be ready again.`;
-    if (Talk.isTooLong) return "This run has more than 3,000 steps: too many for a picture. The console goes on, and `undo`, `roll` or Start lead back.";
-    if (isReady && graph.steps.length === 0) return "A green ring is a goal that is ready: click it, or press Run.";
+    if (isReady && graph.count === 0) return "A green ring is a goal that is ready: click it, or press Run.";
     if (isReady) return "";
     if (circle.length > 0) return `Nothing is ready: ${[...circle, circle[0]].join(" waits for ")}, in a circle.`;
     if (stream) return `Nothing is ready. Click the stream ${stream.name} and give it an input.`;
@@ -98,18 +105,17 @@ const Panels = (() => {
   }
 
   function showCount() {
-    const { graph, goals } = Talk.run, ready = goals.filter((goal) => goal.status === "ready"), steps = graph.steps;
-    const deepest = steps.length > 0 ? Math.max(...graph.depth.values()) + 1 : 0;
-    find("count").textContent = `${plural(steps.length, "step")}, depth ${deepest}, ${ready.length} ready`;
-    const last = steps[steps.length - 1];
+    const { graph, goals } = Talk.run, ready = goals.filter((goal) => goal.status === "ready");
+    find("count").textContent = `${plural(graph.count, "step")}, depth ${graph.deepestChain}, ${ready.length} ready`;
+    const last = graph.count > 0 ? graph.numbers.at(graph.count - 1) : undefined;
     const isOver = !Talk.session || Talk.session.hasEnded;
     for (const name of ["step", "leap", "leap-ten"]) find(name).disabled = isOver || ready.length === 0;
-    find("undo-last").disabled = isOver || !last;
-    find("tidy").disabled = isOver || steps.length < 3;
+    find("undo-last").disabled = isOver || last === undefined;
+    find("tidy").disabled = isOver || graph.count < 3 || graph.count > MOST_TIDIED;
     find("ask-more").disabled = isOver || Boolean(Talk.refusal);
-    if (last) find("undo-last").dataset.line = `undo ${last.number}`;
+    if (last !== undefined) find("undo-last").dataset.line = `undo ${last}`;
     if (ready.length > 0) find("step").dataset.line = `step ${ready[0].name}`;
-    find("note").textContent = noteWords();
+    find("note").replaceChildren(...withCode(noteWords()));
     find("note").hidden = find("note").textContent === "";
     find("note").classList.toggle("refused", Boolean(Talk.refusal));
   }
@@ -132,5 +138,14 @@ const Panels = (() => {
     showDetail(Canvas.chosen);
   }
 
-  return { showAll, showDetail, showLookAt, madeWith };
+  /** Where a line takes long, this tells how long and lets one stop it. */
+  function showBusy() {
+    const { busy } = Talk, seconds = busy ? (performance.now() - busy.since) / 1000 : 0, isLong = seconds > 0.3;
+    document.body.classList.toggle("busy", isLong);
+    find("busy").hidden = !isLong;
+    if (isLong) find("busy-words").textContent = `${busy.line ? `${Terms.cut(busy.line, 60)}: ` : ""}at work for ${seconds.toFixed(1)} s${busy.memory ? `, ${Math.round(busy.memory / 1e6)} MB` : ""}`;
+    find("stop").disabled = !busy || !busy.line;
+  }
+
+  return { showAll, showBusy, showDetail, showLookAt, madeWith };
 })();

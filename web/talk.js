@@ -1,66 +1,198 @@
-// Keeps the session: types lines at the console, gathers what is told, and tells those who listen when something has changed.
+// Keeps what is known of the session: types lines at the console, one after another, and tells those who listen what has changed. The
+// session lives in a worker, so that the page goes on meanwhile; what a line leads to comes later, and is read in slices of time.
 const Talk = (() => {
   "use strict";
 
-  const NO_RUN = { graph: Graph.graphOf([]), goals: [], shelf: [], texts: new Map(), clauses: [], values: [] };
-  const talk = { engine: null, session: null, given: { program: "", query: "", history: "" }, entries: [], spied: new Set(), run: NO_RUN, refusal: "", isTooLong: false };
-  const MOST_DRAWN = 3000; // steps; of a longer run no picture is drawn
-  const listeners = [];
+  const SLICE = 12; // milliseconds that the page reads without a pause
+  const talk = { session: null, given: { program: "", query: "", history: "" }, entries: [], spied: new Set(), run: new RunModel(""), refusal: "", busy: null };
+  const listeners = [], late = [];
+  let last = Promise.resolve(), ready = null, isStopped = false;
 
   const listen = (listener) => listeners.push(listener);
   const changed = (what) => listeners.forEach((listener) => listener(what));
 
-  const open = ({ program, query, history }) => talk.engine.open({ program, query, history: history || undefined });
+  /** A pause in which the browser can draw and take clicks. */
+  const pause = () => new Promise((done) => {
+    const { port1, port2 } = new MessageChannel();
+    port1.onmessage = () => { port1.close(); done(); };
+    port2.postMessage(0);
+  });
 
-  /** What is to be shown after the lines so far: all of it is told by the console. */
-  function look() {
-    const { program, query, history } = talk.given;
-    const told = Asking.whereItStands(talk.session, query);
-    talk.isTooLong = told.records.length > MOST_DRAWN;
-    const steps = talk.isTooLong ? [] : Graph.readRecords(told.records), goals = Graph.readGoals(told.goals);
-    const { texts } = talk.run;
-    if (steps.length === 0) for (const goal of goals) texts.set(goal.name, goal.text);
-    Asking.completeTexts(texts, steps, query, () => open({ program, query }));
-    talk.run = { graph: Graph.graphOf(steps), goals, shelf: Graph.readShelf(told.shelf), texts, clauses: Graph.readClauses(program), values: told.values };
+  /** Does what yields how far it is, with a pause after each slice of time. */
+  async function inSlices(work, tell) {
+    let until = performance.now() + SLICE;
+    for (const at of work) {
+      if (performance.now() < until) continue;
+      tell(at);
+      await pause();
+      if (isStopped) throw Service.STOPPED;
+      until = performance.now() + SLICE;
+    }
+  }
+
+  /** The lines of bytes, a part at a time, so that no part takes long. */
+  function* linesOf(bytes) {
+    const decoder = new TextDecoder(), PIECE = 0x20000;
+    let rest = "";
+    for (let at = 0; at < bytes.length; at += PIECE) {
+      const lines = (rest + decoder.decode(bytes.subarray(at, at + PIECE), { stream: true })).split("\n");
+      rest = lines.pop();
+      yield* lines;
+    }
+  }
+
+  /** Takes up what a line led to, after what was told late before it. */
+  async function take(look) {
+    const looks = [...late.splice(0), look].filter(Boolean);
+    for (const one of looks) {
+      const isLong = one.come.length > 0x10000;
+      await inSlices(talk.run.change(one.kept, linesOf(one.come), one), (count) => {
+        if (isLong && talk.busy) talk.busy.read = count;
+      });
+    }
+  }
+
+  /** Does one thing after another; while one takes long, the page is told. */
+  function queued(line, does) {
+    last = last.then(async () => {
+      talk.busy = { line, since: performance.now(), memory: 0, read: 0, canStop: line !== "" && Service.canStop() };
+      isStopped = false;
+      changed("busy");
+      try {
+        await does();
+      } catch (error) {
+        talk.trouble = `The page came upon a fault of its own: ${error.message}. The lines are kept: Save writes them.`;
+        changed("lines");
+      } finally {
+        talk.busy = null;
+        changed("idle");
+      }
+    });
+    return last;
+  }
+
+  async function open() {
+    late.length = 0;
+    ready = ready || Service.start();
+    await ready;
+    const told = await Service.ask("open", { given: talk.given });
+    talk.refusal = told.refusal;
+    talk.session = { hasEnded: Boolean(told.refusal) };
+    talk.run = new RunModel(talk.given.program);
+    if (told.look) await take(told.look);
   }
 
   /** Begins a session from nothing, or from a history. */
-  function start(given) {
+  const start = (given) => queued("", async () => {
     talk.given = { history: "", ...given };
     talk.entries = [];
     talk.spied = new Set();
-    talk.run = { ...NO_RUN, texts: new Map(), clauses: Graph.readClauses(talk.given.program) };
-    talk.session = open(talk.given);
-    talk.refusal = talk.session.refused ? talk.session.start.trim() : "";
-    if (!talk.refusal) look();
+    talk.trouble = "";
+    await open();
     changed("start");
-  }
+  });
 
   function noteSpies(reply) {
-    for (const line of reply) {
+    for (const line of reply.slice(0, 2)) {
       const found = /^(not )?spying (\S+)$/.exec(line);
       if (found) talk.spied[found[1] ? "delete" : "add"](found[2]);
     }
   }
 
-  /** Types a line and keeps its reply, without looking at what it led to. */
-  function type(line) {
-    const reply = talk.session.line(line);
-    talk.entries.push({ line, reply });
-    noteSpies(reply);
-    Asking.addCalls(talk.run.texts, reply);
+  /** A line that was typed, with its reply; a long one is kept as bytes, and read where somebody asks for it. */
+  function newEntry(line, reply) {
+    if (Array.isArray(reply)) return { line, reply, length: reply.length, tail: (most) => reply.slice(-most) };
+    const decode = (bytes) => new TextDecoder().decode(bytes).split("\n").slice(0, -1);
+    let length = 0;
+    for (let at = reply.indexOf(10); at >= 0; at = reply.indexOf(10, at + 1)) length++;
+    return {
+      line, length,
+      get reply() { return decode(reply); },
+      tail: (most) => {
+        let at = reply.length;
+        for (let count = 0; count <= most && at > 0; count++) at = reply.lastIndexOf(10, at - 1);
+        return decode(reply.subarray(at + 1));
+      },
+    };
+  }
+
+  async function type(lines) {
+    const told = await Service.ask("lines", { lines });
+    if (isStopped) throw Service.STOPPED;
+    const fresh = told.replies.map((reply, index) => newEntry(lines[index], reply));
+    for (const entry of fresh) if (entry.length < 3) noteSpies(entry.reply);
+    if (told.look) await take(told.look);
+    talk.entries.push(...fresh);
+    talk.session.hasEnded = told.hasEnded;
+    const stopped = fresh.flatMap((entry) => entry.tail(1)).find((line) => line.startsWith("the engine stopped"));
+    if (stopped) talk.trouble = `${stopped}. The lines are kept: Save writes them.`;
+  }
+
+  /** Plays lines without a new entry for each. */
+  async function playAgain(lines) {
+    await open();
+    if (lines.length === 0) return;
+    const told = await Service.ask("lines", { lines });
+    if (told.look) await take(told.look);
+  }
+
+  const typedLines = () => talk.entries.filter((entry) => !entry.note).map((entry) => entry.line);
+
+  /** After a stop: a new worker plays the lines before it again; the line that was at work is not taken. */
+  async function goBack(lines, seconds) {
+    ready = Service.start();
+    isStopped = false;
+    talk.busy = { ...talk.busy, line: "playing the lines before it again", since: performance.now(), read: 0, canStop: false };
+    await playAgain(typedLines());
+    talk.entries.push({ line: lines.join("; "), reply: [], length: 0, tail: () => [], note: `stopped by hand after ${seconds} s: not taken; the run stands where it stood` });
   }
 
   /** Types lines one after the other, and shows where they led. */
-  function send(...lines) {
+  const send = (...lines) => queued(lines.join("; "), async () => {
     if (!talk.session || talk.refusal || talk.session.hasEnded) return;
-    for (const line of lines) {
-      if (line.trim() === "quit") look(); // behind it nothing can be asked
-      type(line);
+    const { since } = talk.busy;
+    talk.typed = lines;
+    talk.trouble = "";
+    try {
+      await type(lines);
+    } catch (error) {
+      if (error !== Service.STOPPED) throw error;
+      await goBack(lines, Math.round((performance.now() - since) / 100) / 10);
     }
-    if (!talk.session.hasEnded) look();
     changed("lines");
+  });
+
+  /** After the engine has stopped: a new one plays all lines but the last. */
+  const again = () => queued("", async () => {
+    const lines = typedLines().slice(0, -1);
+    talk.entries = talk.entries.filter((entry) => !entry.note).slice(0, -1);
+    talk.trouble = "";
+    ready = null;
+    await playAgain(lines);
+    changed("again");
+  });
+
+  Service.listen("progress", (memory) => {
+    if (!talk.busy) return;
+    talk.busy.memory = memory;
+    changed("busy");
+  });
+
+  Service.listen("late", (look) => {
+    late.push(look);
+    queued("", async () => {
+      if (late.length === 0) return;
+      await take(null);
+      changed("late");
+    });
+  });
+
+  /** Stops the line that is at work. */
+  function stop() {
+    if (!talk.busy || !talk.busy.canStop) return;
+    isStopped = true;
+    Service.stop();
   }
 
-  return Object.assign(talk, { listen, start, send });
+  return Object.assign(talk, { trouble: "", typed: [], listen, start, send, stop, again, typedLines, inSlices, settled: () => last });
 })();
