@@ -3,7 +3,10 @@ const Canvas = (() => {
   "use strict";
 
   const { find } = Elements;
-  const canvas = { by: "record", theme: "light", zoom: 1, chosen: null, view: null };
+  const canvas = { by: "record", theme: "light", zoom: 1, isFit: false, chosen: null, way: [], view: null };
+  const LEGEND = 70; // points below the lanes
+  const OWN_SCROLL = 250; // milliseconds in which the browser tells of a scrolling that the page did
+  let scrolledAt = -OWN_SCROLL;
 
   const marks = () => find("canvas").querySelectorAll(".mark");
 
@@ -14,9 +17,10 @@ const Canvas = (() => {
       return;
     }
     const area = find("canvas"), isScrolled = area.scrollLeft > 0 || area.scrollTop > 0;
-    const room = Math.max(320, area.clientWidth - 8) * (Overview.isOn() ? 1 : canvas.zoom);
+    const room = Math.max(320, area.clientWidth - 8) * (Overview.isOn() || canvas.isFit ? 1 : canvas.zoom);
+    const high = canvas.isFit ? Math.max(120, area.clientHeight - LEGEND) : undefined;
     Overview.draw();
-    const drawn = Picture.draw(Overview.shownRun(), { by: canvas.by, theme: canvas.theme, room, legend: true, titles: false });
+    const drawn = Picture.draw(Overview.shownRun(), { by: canvas.by, theme: canvas.theme, room, high, legend: true, titles: false });
     area.innerHTML = drawn.svg;
     canvas.view = drawn.view;
     if (canvas.chosen && !isThere(canvas.chosen)) canvas.chosen = null;
@@ -53,6 +57,7 @@ const Canvas = (() => {
       mark.classList.toggle("chosen", number === step);
       mark.classList.toggle("cause", causes.has(number) && number !== step);
       mark.classList.toggle("effect", effects.has(number) && number !== step);
+      mark.classList.toggle("way", canvas.way.includes(number));
       mark.classList.remove("going");
     }
     for (const goal of svg.querySelectorAll(".goal")) goal.classList.toggle("chosen", Boolean(chosen) && goal.dataset.goal === chosen.goal);
@@ -64,11 +69,25 @@ const Canvas = (() => {
     for (const mark of marks()) mark.classList.toggle("going", numbers.has(Number(mark.dataset.step)));
   }
 
+  /** Rings the steps on the way to a part of a value. */
+  function markWay(numbers) {
+    canvas.way = numbers;
+    for (const mark of marks()) mark.classList.toggle("way", canvas.way.includes(Number(mark.dataset.step)));
+  }
+
+  /** The clause by which a chosen step went. */
+  function clauseOf(chosen) {
+    const step = chosen && chosen.step !== undefined ? Talk.run.graph.byNumber.get(chosen.step) : undefined;
+    return (step && step.clause && Talk.run.clauses[step.clause - 1]) || null;
+  }
+
   function choose(chosen) {
     canvas.chosen = chosen;
+    canvas.way = [];
     showChosen();
     Overview.draw();
     Panels.showDetail(chosen);
+    Program.markClause(clauseOf(chosen));
   }
 
   /** Lane names and the axis stay where one sees them while the picture is scrolled. */
@@ -79,15 +98,37 @@ const Canvas = (() => {
     svg.querySelector(".axis").setAttribute("transform", `translate(0 ${area.scrollTop})`);
   }
 
+  /** Scrolls the picture; that closes no menu. */
+  function scroll(left, top) {
+    const area = find("canvas");
+    if (Math.abs(left - area.scrollLeft) < 1 && Math.abs(top - area.scrollTop) < 1) return;
+    scrolledAt = performance.now();
+    area.scrollTo(left, top);
+  }
+
+  const isOwnScroll = () => performance.now() - scrolledAt < OWN_SCROLL;
+
+  /** After lines: scrolls to what is there now, the goals at the right, and the first that is ready among them. */
+  function showThere() {
+    const area = find("canvas"), places = canvas.view ? [...canvas.view.goals.values()] : [];
+    if (canvas.chosen !== null || !canvas.view) return;
+    const first = places.find((place) => place.goal.status === "ready") || places[0];
+    const isAway = first && (first.y < area.scrollTop + 40 || first.y > area.scrollTop + area.clientHeight - 20);
+    const { thereX, left } = canvas.view, beyond = thereX - area.clientWidth + Math.min(area.clientWidth - left - 40, 260);
+    scroll(Math.max(0, Math.min(beyond, area.scrollWidth - area.clientWidth)), isAway ? Math.max(0, first.y - area.clientHeight / 2) : area.scrollTop);
+  }
+
   /** Scrolls so far that what is chosen is in sight. */
   function scrollTo(chosen) {
     if (chosen.step !== undefined && Overview.show(chosen.step)) draw();
     const area = find("canvas"), place = placeOf(chosen), left = canvas.view.left;
     if (!place) return;
-    if (place.x - left < area.scrollLeft) area.scrollLeft = place.x - left - 60;
-    if (place.x > area.scrollLeft + area.clientWidth - 40) area.scrollLeft = place.x - area.clientWidth + 120;
-    if (place.y < area.scrollTop + 60) area.scrollTop = place.y - 90;
-    if (place.y > area.scrollTop + area.clientHeight - 30) area.scrollTop = place.y - area.clientHeight + 80;
+    let { scrollLeft: toLeft, scrollTop: toTop } = area;
+    if (place.x - left < toLeft) toLeft = Math.max(0, place.x - left - 60);
+    if (place.x > toLeft + area.clientWidth - 40) toLeft = place.x - area.clientWidth + 120;
+    if (place.y < toTop + 60) toTop = Math.max(0, place.y - 90);
+    if (place.y > toTop + area.clientHeight - 30) toTop = place.y - area.clientHeight + 80;
+    scroll(toLeft, toTop);
   }
 
   /** All that can be chosen of what is shown, in the order of the picture: the steps, then the goals. */
@@ -138,5 +179,5 @@ const Canvas = (() => {
     return true;
   }
 
-  return Object.assign(canvas, { draw, choose, scrollTo, ring, stayInSight, onKey, addTitle });
+  return Object.assign(canvas, { draw, choose, markWay, showThere, isOwnScroll, scrollTo, ring, stayInSight, onKey, addTitle });
 })();

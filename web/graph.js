@@ -112,10 +112,16 @@ const Graph = (() => {
   /** The goals of the reply to `goals`. */
   const readGoals = (lines) => lines.map(readGoal).filter(Boolean);
 
-  /** The clauses of a program text: a full stop ends a clause, and stands nowhere else but in comments. */
+  /** The clauses of a program text, with their first and last lines: a full stop ends a clause, and stands nowhere else but in comments. */
   function readClauses(program) {
-    const texts = program.replace(/%[^\n]*/g, " ").split(".").map((text) => text.trim().replace(/\s+/g, " ")).filter(Boolean);
-    return texts.map((text) => ({ text: `${text}.`, predicate: predicateOf(text.split(":-")[0].trim()) }));
+    const clauses = [], lineEnds = (text) => text.split("\n").length - 1;
+    let line = 1;
+    for (const part of program.replace(/%[^\n]*/g, " ").split(".")) {
+      const text = part.trim().replace(/\s+/g, " "), from = line + lineEnds(part.slice(0, part.length - part.trimStart().length)), to = line + lineEnds(part.trimEnd());
+      if (text !== "") clauses.push({ text: `${text}.`, predicate: predicateOf(text.split(":-")[0].trim()), from, to });
+      line += lineEnds(part);
+    }
+    return clauses;
   }
 
   const KINDS = ["reduce", "unify", "assign", "input", "close", "ask"];

@@ -274,21 +274,34 @@ const Lanes = ((Graph, Terms) => {
   }
 
   /** How large all is drawn: what the room allows, from steps that stand side by side as points to circles with numbers. */
-  function sizesFor(room, columns, lanes, sides) {
-    const least = columns <= 30 ? 27 : 7;
+  function sizesFor(room, columns, lanes, sides, isFit) {
+    const least = isFit ? 0.5 : columns <= 30 ? 27 : 7;
     const dx = between(least, (room - sides) / Math.max(1, columns), 56);
     const most = lanes > 80 ? 4 : lanes > 30 ? 6 : lanes > 16 ? 8 : 11;
-    const radius = between(3, dx * 0.3, most);
+    const radius = between(isFit ? 1 : 3, dx * 0.3, most);
     const kind = radius >= 8 ? "roomy" : radius >= 5 ? "dense" : "tiny";
     const font = room < NARROW ? 10.5 : { roomy: 12.5, dense: 11, tiny: 9.5 }[kind];
     return { dx, radius, kind, font, leaf: radius * 0.6, row: 13 + 2.3 * radius, leafRow: kind === "roomy" ? 25 : 7 + 1.3 * radius };
   }
 
-  /** What stands behind a goal that is there. */
-  function goalLabel(goal, kind) {
-    if (kind === "tiny") return "";
-    if (kind === "dense") return goal.name;
-    const told = { waits: ` waits ${goal.waitsFor.join(",")}`, failed: ` failed ${goal.refusal}`, ready: "", stream: "" }[goal.status];
+  const RANKS = { tiny: 0, dense: 1, roomy: 2 };
+  const LOOKS = [["roomy", "long"], ["roomy", "name"], ["roomy", "none"], ["dense", "name"], ["dense", "none"], ["tiny", "none"]];
+
+  /** The sizes of the best look for which there is room: large marks go before long labels of goals. */
+  function bestSizes(run, options, columns, lanes, letters) {
+    const looks = LOOKS.map(([kind, labels]) => {
+      const sides = letters * 7.4 + roomForGoals(run, labels), sizes = sizesFor(options.room, columns, lanes, sides, options.high !== undefined);
+      return { isLarge: RANKS[sizes.kind] >= RANKS[kind], fits: sides + columns * sizes.dx < options.room + 1, sizes: { ...sizes, labels } };
+    });
+    const scrolled = looks.filter(({ isLarge, sizes }) => isLarge && sizes.labels !== "long"); // where nothing fits, one scrolls
+    return (looks.find(({ isLarge, fits }) => isLarge && fits) || scrolled[0] || looks[looks.length - 1]).sizes;
+  }
+
+  /** What stands behind a goal that is there: `labels` is `long`, `name` or `none`. */
+  function goalLabel(goal, labels) {
+    if (labels === "none") return "";
+    if (labels === "name") return goal.name;
+    const told = { waits: ` waits ${goal.waitsFor.join(",")}`, failed: ` failed ${goal.refusal}` }[goal.status] || "";
     return `${goal.name} ${Terms.cut(goal.text, 26)}${Terms.cut(told, 22)}`;
   }
 
@@ -296,12 +309,12 @@ const Lanes = ((Graph, Terms) => {
   const arcWidth = (edges) => 10 + Math.max(0, ...edges.map((edge) => edge.variable.length)) * 6;
 
   /** About how much room the goals that are there take up, with their labels, what was taken back from them, and the arcs of waits. */
-  function roomForGoals(run) {
+  function roomForGoals(run, labels) {
     if (run.goals.length === 0) return 96;
     const taken = (goal) => Math.min(3, run.shelf.filter((step) => step.goal === goal.name).length);
-    const labels = run.goals.map((goal) => goalLabel(goal, "roomy").length * 7 + taken(goal) * 30);
+    const widths = run.goals.map((goal) => goalLabel(goal, labels).length * 7 + taken(goal) * 30);
     const edges = Graph.waitingEdges(run.goals).slice(0, MOST_ARCS);
-    return 70 + Math.max(...labels) + Math.min(3, edges.length) * arcWidth(edges);
+    return 70 + Math.max(...widths) + Math.min(3, edges.length) * arcWidth(edges);
   }
 
   /** The numbers above the columns; `before` is how many columns of the run stand before the first one. */
@@ -321,7 +334,7 @@ const Lanes = ((Graph, Terms) => {
     for (const lane of view.lanes) {
       for (const goal of lane.goals) {
         const x = view.thereX, y = view.yOf(lane, view.rows.get(goal.name));
-        const label = goalLabel(goal, sizes.kind);
+        const label = goalLabel(goal, sizes.labels);
         let end = x + sizes.radius + 6 + label.length * sizes.font * LETTER;
         const taken = run.shelf.filter((step) => step.goal === goal.name).slice(-3);
         for (const step of taken) {
@@ -365,14 +378,21 @@ const Lanes = ((Graph, Terms) => {
     let y = top;
     for (const lane of view.lanes) {
       lane.y = y + view.sizes.row / 2;
-      y += view.sizes.row + (lane.rows - 1) * view.sizes.leafRow + (lane.rows > 1 && view.sizes.kind === "roomy" ? 8 : 0) + 2;
+      y += view.sizes.row + (lane.rows - 1) * view.sizes.leafRow + ((lane.rows > 1 && view.sizes.kind === "roomy" ? 8 : 0) + 2) * (view.sizes.gap || 1);
     }
     return y;
   }
 
+  /** Makes all rows so much lower that they fit into the height that there is. */
+  function shrink(view, options) {
+    const { sizes } = view, part = Math.max(0.05, (options.high - options.top) / (view.bottom - options.top));
+    Object.assign(sizes, { row: sizes.row * part, leafRow: sizes.leafRow * part, gap: part, radius: Math.max(1, Math.min(sizes.radius, sizes.row * part * 0.45)) });
+    Object.assign(sizes, { leaf: sizes.radius * 0.6, kind: sizes.radius >= 8 ? "roomy" : sizes.radius >= 5 ? "dense" : "tiny" });
+  }
+
   /**
    * The places of a run. `run` has graph, goals, shelf, texts and clauses; `options.by` is `record` or `depth`, `options.room` the
-   * width that there is, and `options.top` the room above the first lane.
+   * width that there is, `options.top` the room above the first lane, and `options.high` the height that all is to fit into, if it is.
    */
   function layout(run, options) {
     const { lanes, laneOf, kinds } = run.placed || lanesOf(run);
@@ -386,13 +406,17 @@ const Lanes = ((Graph, Terms) => {
       lane.text = laneText(lane, run, kinds, store, options.room < NARROW ? 13 : 30);
     }
     const letters = Math.max(8, ...lanes.map((lane) => lane.name.length + lane.text.length + 2));
-    const sizes = sizesFor(options.room, columns, lanes.length, letters * 7.4 + roomForGoals(run));
+    const sizes = bestSizes(run, options, columns, lanes.length, letters);
     const left = 24 + letters * sizes.font * BOLD_LETTER;
     const x = (column) => left + column * sizes.dx + sizes.dx / 2;
     const view = { by: options.by, lanes, laneOf, kinds, rows, makerOf, sizes, left, columns, store, marks: new Map(), goals: new Map(), taken: [], waits: [] };
     view.yOf = (lane, row) => lane.y + row * sizes.leafRow;
     view.thereX = left + columns * sizes.dx + sizes.radius + 6;
     view.bottom = placeLanes(view, options.top);
+    if (options.high !== undefined && view.bottom > options.high) {
+      shrink(view, options);
+      view.bottom = placeLanes(view, options.top);
+    }
     view.ticks = axis(columns, sizes.dx, x, options.by === "depth" ? 0 : run.before || 0);
     for (const step of run.graph.steps) {
       const lane = laneOf.get(keyOf(step)), row = rows.get(step.number);

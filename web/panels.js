@@ -2,8 +2,10 @@
 const Panels = (() => {
   "use strict";
 
-  const { find, make, lineButton, withCode } = Elements;
+  const { find, make, lineButton, withCode, goTo, linkedLines } = Elements;
   const MOST_ROWS = 100, MOST_LINES = 1000, MOST_TIDIED = 3000, MOST_LOOKED_AT = 2000;
+  const LONGEST_GOAL = 200; // letters
+  const MOST_LINKED = 60; // lines of a reply in which numbers are links
   const plural = (count, word) => `${count} ${word}${count === 1 ? "" : "s"}`;
   const isRefusal = (line) => /^F\d+ /.test(line) || /^(program|query|history|session): /.test(line);
   let shown = 0;
@@ -15,7 +17,7 @@ const Panels = (() => {
     if (entry.length === 0) return;
     const lines = entry.tail(MOST_LINES), isRefused = entry.length === 1 && isRefusal(lines[0]), more = entry.length - lines.length;
     if (more > 0) told.append(make("div", { class: "dim" }, `(${plural(more, "line")} before these, which Save writes)`));
-    told.append(make("div", { class: isRefused ? "refused" : null }, lines.join("\n")));
+    told.append(make("div", { class: isRefused ? "refused" : null }, ...(lines.length > MOST_LINKED ? [lines.join("\n")] : linkedLines(lines))));
   }
 
   /** With what the page was made. */
@@ -36,7 +38,7 @@ const Panels = (() => {
     const waits = goal.waitsFor.length > 0 ? make("span", { class: "dim" }, ` waits for ${goal.waitsFor.join(", ")}`) : null;
     const failed = goal.refusal ? make("span", { class: "dim" }, ` ${goal.refusal}`) : null;
     const text = make("button", { class: "row", "data-goal": goal.name }, make("span", { class: `status ${goal.status}` }, goal.status),
-      make("span", { class: "dim" }, `${goal.name} `), goal.text, waits, failed);
+      make("span", { class: "dim" }, `${goal.name} `), make("span", { title: goal.text.length > LONGEST_GOAL ? Terms.cut(goal.text, 2000) : null }, Terms.cut(goal.text, LONGEST_GOAL)), waits, failed);
     return make("div", { class: "line-row" }, text, goal.status === "ready" ? lineButton("Step", `step ${goal.name}`, { class: "small" }) : null);
   }
 
@@ -84,24 +86,39 @@ const Panels = (() => {
     }
     const causes = Graph.whyLines(Talk.run.graph, step.number).filter((line) => line !== "none");
     const effects = Talk.run.graph.effects.get(step.number).map((edge) => edge.to);
-    const goTo = (number, words) => make("button", { class: "link", "data-goto": number, title: `goes to step ${number}` }, words);
     area.replaceChildren(Picture.tellStep(Talk.run, step), ...causes.flatMap((line) => ["\nbecause of ", goTo(line.split(" ")[0], line)]),
       ...effects.slice(0, 20).flatMap((number, index) => [index === 0 ? "\nneeded by " : ", ", goTo(number, String(number))]));
   }
 
-  /** Words above the picture where there is something that one should know. */
-  function noteWords() {
+  /** Why a goal has failed, with links to the steps that brought it there. */
+  function tellFailure(goal) {
+    const { words, binders } = Explain.failureOf(Talk.run, goal);
+    const bound = binders.flatMap(({ variable, term, step }) => ["Step ", goTo(step), " bound ", make("code", null, `${variable} = ${Terms.cut(term, 60)}`), ". "]);
+    return [`Goal ${goal.name} has failed: `, ...withCode(words), ". ", ...bound, "Take back a step that it read, and it may be ready again."];
+  }
+
+  /** What is said above the picture where there is something that one should know. */
+  function noteParts() {
     const { goals, graph } = Talk.run, circle = Graph.circleOf(goals), isReady = goals.some((goal) => goal.status === "ready");
     const failed = goals.find((goal) => goal.status === "failed"), stream = goals.find((goal) => goal.status === "stream");
-    if (Talk.refusal) return `Refused: ${Talk.refusal}`;
-    if (Talk.session.hasEnded) return "The session has ended. Start begins a new one.";
-    if (failed) return `Goal ${failed.name} has failed (${failed.refusal}). Take back a step that it read, and it may be ready again.`;
-    if (isReady && graph.count === 0) return "A green ring is a goal that is ready: click it, or press Run.";
-    if (isReady) return "";
-    if (circle.length > 0) return `Nothing is ready: ${[...circle, circle[0]].join(" waits for ")}, in a circle.`;
-    if (stream) return `Nothing is ready. Click the stream ${stream.name} and give it an input.`;
-    if (goals.length > 0) return "Nothing is ready, and some goals wait.";
-    return "";
+    if (Talk.trouble) return [Talk.trouble, ...(Talk.session && Talk.session.hasEnded ? [" ", make("button", { class: "small", id: "again" }, "Go on without the last line")] : [])];
+    if (Talk.refusal) return [`Refused: ${Talk.refusal}`];
+    if (Talk.session.hasEnded) return ["The session has ended. Start begins a new one."];
+    if (Overview.until !== null) return [`This is the run after ${plural(Overview.until, "step")}: nothing was taken back. `, make("button", { class: "small", id: "show-all-steps" }, "Show all steps")];
+    if (failed) return tellFailure(failed);
+    if (isReady && graph.count === 0) return ["A green ring is a goal that is ready: click it, or press Run."];
+    if (isReady) return [];
+    if (circle.length > 0) return [`Nothing is ready: ${Terms.cut([...circle, circle[0]].join(" waits for "), 400)}, in a circle.`];
+    if (stream) return [`Nothing is ready. Click the stream ${stream.name} and give it an input.`];
+    if (goals.length > 0) return ["Nothing is ready, and some goals wait."];
+    return [];
+  }
+
+  function showNote() {
+    const parts = noteParts();
+    find("note").replaceChildren(...parts);
+    find("note").hidden = parts.length === 0;
+    find("note").classList.toggle("refused", Boolean(Talk.refusal || Talk.trouble));
   }
 
   function showCount() {
@@ -115,9 +132,7 @@ const Panels = (() => {
     find("ask-more").disabled = isOver || Boolean(Talk.refusal);
     if (last !== undefined) find("undo-last").dataset.line = `undo ${last}`;
     if (ready.length > 0) find("step").dataset.line = `step ${ready[0].name}`;
-    find("note").replaceChildren(...withCode(noteWords()));
-    find("note").hidden = find("note").textContent === "";
-    find("note").classList.toggle("refused", Boolean(Talk.refusal));
+    showNote();
   }
 
   /** What the comment of an example says, above its program. */
@@ -129,23 +144,34 @@ const Panels = (() => {
     area.replaceChildren(make("p", null, make("b", null, "Look at: "), ...withCode(notes.lookAt)), ...(larger ? [larger] : []));
   }
 
-  function showAll(what) {
-    showTold(what);
-    showGoals();
-    showStore();
-    showShelf();
-    showCount();
-    showDetail(Canvas.chosen);
+  /** What an element is known by, when it was made anew. */
+  const nameOf = (element) => ["data-line", "data-goal", "data-variable", "data-goto", "id"].map((name) => element.getAttribute(name)).find(Boolean) || element.textContent;
+
+  /** Makes a panel anew; what had the focus in it has it afterwards, or what stands in its place. */
+  function keepFocus(name, does) {
+    const panel = find(name), before = [...panel.querySelectorAll("button")], at = before.indexOf(document.activeElement), was = at < 0 ? "" : nameOf(before[at]);
+    does();
+    if (at < 0) return;
+    const after = [...panel.querySelectorAll("button")], same = after.find((button) => nameOf(button) === was);
+    (same || after[Math.min(at, after.length - 1)] || find("step")).focus({ preventScroll: true });
   }
+
+  /** What is made anew after lines, in parts between which the page may pause. */
+  const PARTS = [
+    (what) => showTold(what), () => keepFocus("goals", showGoals), () => keepFocus("store", showStore), () => keepFocus("shelf", showShelf), () => showCount(),
+    (what) => { showDetail(Canvas.chosen); Answers.show(what); },
+  ];
 
   /** Where a line takes long, this tells how long and lets one stop it. */
   function showBusy() {
     const { busy } = Talk, seconds = busy ? (performance.now() - busy.since) / 1000 : 0, isLong = seconds > 0.3;
     document.body.classList.toggle("busy", isLong);
     find("busy").hidden = !isLong;
-    if (isLong) find("busy-words").textContent = `${busy.line ? `${Terms.cut(busy.line, 60)}: ` : ""}at work for ${seconds.toFixed(1)} s${busy.memory ? `, ${Math.round(busy.memory / 1e6)} MB` : ""}`;
-    find("stop").disabled = !busy || !busy.line;
+    if (!isLong) return;
+    const how = busy.read > 0 ? `, ${busy.read.toLocaleString("en")} steps read` : busy.memory > 0 ? `, ${Math.round(busy.memory / 1e6)} MB` : "";
+    find("busy-words").textContent = `${busy.line ? `${Terms.cut(busy.line, 60)}: ` : ""}at work for ${seconds.toFixed(1)} s${how}`;
+    find("stop").hidden = !busy.canStop;
   }
 
-  return { showAll, showBusy, showDetail, showLookAt, madeWith };
+  return { PARTS, showBusy, showNote, showDetail, showLookAt, madeWith };
 })();

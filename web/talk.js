@@ -9,7 +9,7 @@ const Talk = (() => {
   let last = Promise.resolve(), ready = null, isStopped = false;
 
   const listen = (listener) => listeners.push(listener);
-  const changed = (what) => listeners.forEach((listener) => listener(what));
+  const changed = async (what) => { for (const listener of listeners) await listener(what); };
 
   /** A pause in which the browser can draw and take clicks. */
   const pause = () => new Promise((done) => {
@@ -62,7 +62,7 @@ const Talk = (() => {
         await does();
       } catch (error) {
         talk.trouble = `The page came upon a fault of its own: ${error.message}. The lines are kept: Save writes them.`;
-        changed("lines");
+        await changed("lines");
       } finally {
         talk.busy = null;
         changed("idle");
@@ -89,7 +89,7 @@ const Talk = (() => {
     talk.spied = new Set();
     talk.trouble = "";
     await open();
-    changed("start");
+    await changed("start");
   });
 
   function noteSpies(reply) {
@@ -159,7 +159,7 @@ const Talk = (() => {
       if (error !== Service.STOPPED) throw error;
       await goBack(lines, Math.round((performance.now() - since) / 100) / 10);
     }
-    changed("lines");
+    await changed("lines");
   });
 
   /** After the engine has stopped: a new one plays all lines but the last. */
@@ -169,7 +169,7 @@ const Talk = (() => {
     talk.trouble = "";
     ready = null;
     await playAgain(lines);
-    changed("again");
+    await changed("again");
   });
 
   Service.listen("progress", (memory) => {
@@ -183,7 +183,7 @@ const Talk = (() => {
     queued("", async () => {
       if (late.length === 0) return;
       await take(null);
-      changed("late");
+      await changed("late");
     });
   });
 
@@ -194,5 +194,5 @@ const Talk = (() => {
     Service.stop();
   }
 
-  return Object.assign(talk, { trouble: "", typed: [], listen, start, send, stop, again, typedLines, inSlices, settled: () => last });
+  return Object.assign(talk, { pause, trouble: "", typed: [], listen, start, send, stop, again, typedLines, inSlices, settled: () => last });
 })();

@@ -1,0 +1,133 @@
+// Says where a value comes from: which step gave each part of a term, what of a run a value rests on, and why a goal has failed. Pure functions.
+const Explain = ((Graph, Terms) => {
+  "use strict";
+
+  const VARIABLE = /^_\d+_\d+$/;
+  const MOST_BINDERS = 3; // that are told of a goal that has failed
+  const isVariable = (text) => VARIABLE.test(text);
+
+  /** The arguments of a term as it is written, a list being a cell with a head and a rest; none of what has no arguments. */
+  function argumentsOf(term) {
+    if (term.startsWith("[") && term !== "[]") {
+      const [heads, rest] = Graph.splitOutside(term.slice(1, -1), "|"), [head, ...others] = Graph.splitOutside(heads, ",");
+      const end = rest === undefined ? "[]" : rest;
+      return [head, others.length > 0 ? `[${others.join(",")}${rest === undefined ? "" : `|${rest}`}]` : end];
+    }
+    const open = term.indexOf("(");
+    return open < 0 ? [] : Graph.splitOutside(term.slice(open + 1, -1), ",");
+  }
+
+  /** What a term has outside its arguments: `f/2`, `./2` of a list's cell, or the term itself. */
+  function functorOf(term) {
+    if (term.startsWith("[") && term !== "[]") return "./2";
+    return argumentsOf(term).length > 0 ? Graph.predicateOf(term) : term;
+  }
+
+  /** Follows a chain of bindings, and notes each step on it. */
+  function follow(graph, term, steps) {
+    let end = term;
+    while (isVariable(end) && graph.binderOf(end) !== undefined) {
+      steps.push(graph.binderOf(end));
+      end = graph.termOf(end);
+    }
+    return end;
+  }
+
+  /**
+   * Where a part of a term comes from. `path` leads to the part by the places of arguments, from 0; of a list's cell 0 is the head and
+   * 1 the rest. Gives the steps on the way, the last one being that which gave the part; and the part itself, undefined where there is none.
+   */
+  function explain(graph, term, path) {
+    const steps = [];
+    let part = follow(graph, term, steps);
+    for (const place of path) {
+      const parts = argumentsOf(part);
+      if (place >= parts.length) return { steps, by: undefined, part: undefined };
+      part = follow(graph, parts[place], steps);
+    }
+    return { steps, by: steps[steps.length - 1], part };
+  }
+
+  /** The elements of a list as far as they are known, `most` at most, each with its path; and the path of what comes behind them. */
+  function elementsOf(graph, term, most) {
+    const elements = [], none = [];
+    let rest = follow(graph, term, none), path = [];
+    while (rest.startsWith("[") && rest !== "[]" && elements.length < most) {
+      const [head, tail] = argumentsOf(rest);
+      elements.push({ term: head, path: [...path, 0] });
+      path = [...path, 1];
+      rest = follow(graph, tail, none);
+    }
+    return { elements, rest, path };
+  }
+
+  /** The steps on which a variable's value rests: those that bound what it reaches, and all their causes. */
+  function sliceOf(graph, variable) {
+    const isIn = new Uint8Array(graph.count), left = [variable], seen = new Set();
+    while (left.length > 0) {
+      const next = left.pop(), number = seen.has(next) ? undefined : graph.binderOf(next);
+      seen.add(next);
+      if (number === undefined) continue;
+      const index = graph.indexOf(number);
+      if (isIn[index] === 0) Graph.causesReached(graph, index).isIn.forEach((is, at) => { isIn[at] |= is; });
+      left.push(...Graph.variablesIn(graph.termOf(next)));
+    }
+    return isIn;
+  }
+
+  /** The steps that have to be rolled back, one after another, so that a slice alone is left; and the numbers of all that go. */
+  function rollsTo(graph, isIn) {
+    const isGone = new Uint8Array(graph.count), rolls = [], gone = new Set();
+    for (let index = 0; index < graph.count; index++) {
+      if (isIn[index] === 1) continue;
+      gone.add(graph.numbers.at(index));
+      if (isGone[index] === 0) {
+        rolls.push(graph.numbers.at(index));
+        Graph.effectsReached(graph, index).isIn.forEach((is, at) => { isGone[at] |= is; });
+      }
+    }
+    return { rolls, gone };
+  }
+
+  /** The first pair of parts, from the left, in which two terms differ; null where they do not. */
+  function clashOf(one, other) {
+    const left = [[one, other]];
+    while (left.length > 0) {
+      const [first, second] = left.pop();
+      if (isVariable(first) || isVariable(second)) continue;
+      if (functorOf(first) !== functorOf(second)) return [first, second];
+      const seconds = argumentsOf(second);
+      left.push(...argumentsOf(first).map((part, place) => [part, seconds[place]]).reverse());
+    }
+    return null;
+  }
+
+  /** The bindings that a text used, as far as it was written: each with the step that made it. */
+  function bindersOf(graph, text) {
+    const found = [], left = Graph.variablesIn(text);
+    while (left.length > 0 && found.length < MOST_BINDERS) {
+      const variable = left.shift(), step = graph.binderOf(variable);
+      if (step === undefined) continue;
+      const term = graph.termOf(variable);
+      found.push({ variable, term, step });
+      if (isVariable(term)) left.unshift(term);
+    }
+    return found;
+  }
+
+  /** Why a goal has failed, in words where `code` stands between back quotes, and the bindings that brought it there. */
+  function failureOf(run, goal) {
+    const code = (text) => `\`${Terms.cut(text, 60)}\``, written = run.texts.get(goal.name) || "";
+    const [left, right] = goal.text.split(" = "), clash = goal.sort === "unification" ? clashOf(left, right) : null;
+    const words = {
+      F10: () => `no clause of ${code(Graph.predicateOf(goal.text))} says yes to ${code(goal.text)} (F10)`,
+      F11: () => (clash ? `${code(clash[0])} and ${code(clash[1])} are two different things (F11, a clash)` : `${code(goal.text)} has another value already (F11, a clash)`),
+      F12: () => `${code(goal.text)} would make a term that holds itself (F12)`,
+      F13: () => `${code(goal.text)} has no value (F13)`,
+    }[goal.refusal];
+    return { words: words ? words() : goal.refusal, binders: bindersOf(run.graph, written) };
+  }
+
+  return { argumentsOf, explain, elementsOf, sliceOf, rollsTo, clashOf, failureOf, isVariable };
+})(typeof require === "undefined" ? Graph : require("./graph.js"), typeof require === "undefined" ? Terms : require("./terms.js"));
+if (typeof module !== "undefined") module.exports = Explain;
