@@ -25,7 +25,7 @@ const Canvas = (() => {
     canvas.view = drawn.view;
     if (canvas.chosen && !isThere(canvas.chosen)) canvas.chosen = null;
     if (isScrolled) stayInSight();
-    if (canvas.chosen) showChosen();
+    if (canvas.chosen || Overview.hits.length > 0) showChosen();
   }
 
   const isThere = (chosen) => (chosen.step !== undefined ? Talk.run.graph.byNumber.has(chosen.step) : Talk.run.goals.some((goal) => goal.name === chosen.goal));
@@ -49,8 +49,9 @@ const Canvas = (() => {
   function showChosen() {
     const svg = find("canvas").querySelector("svg"), { chosen } = canvas, { graph } = Talk.run;
     if (!svg) return;
-    const step = chosen && chosen.step;
+    const step = chosen && graph.byNumber.has(chosen.step) ? chosen.step : undefined;
     const causes = step ? Graph.allCauses(graph, step) : new Set(), effects = step ? Graph.allEffects(graph, step) : new Set();
+    const hits = new Set(Overview.hits.map((index) => graph.numbers.at(index)));
     svg.classList.toggle("looking", Boolean(step));
     for (const mark of marks()) {
       const number = Number(mark.dataset.step);
@@ -58,6 +59,7 @@ const Canvas = (() => {
       mark.classList.toggle("cause", causes.has(number) && number !== step);
       mark.classList.toggle("effect", effects.has(number) && number !== step);
       mark.classList.toggle("way", canvas.way.includes(number));
+      mark.classList.toggle("hit", hits.has(number));
       mark.classList.remove("going");
     }
     for (const goal of svg.querySelectorAll(".goal")) goal.classList.toggle("chosen", Boolean(chosen) && goal.dataset.goal === chosen.goal);

@@ -191,12 +191,36 @@ const Lanes = ((Graph, Terms) => {
     return lanes;
   }
 
-  /** The lanes of some steps of a run, from one index up to another, each with its steps and the goals that are there. */
-  function lanesIn(run, whole, from, to, goals) {
+  /** Which lane a lane is folded into, with all that came of it: the highest of its ancestors that is to be folded, by name; null where none is. */
+  function foldsOf(whole, folded) {
+    const known = new Map();
+    const parentOf = (lane) => (lane.parent === null ? null : whole.ofStep[lane.parent]);
+    return (lane) => {
+      const way = [];
+      let at = lane;
+      while (at !== null && !known.has(at)) {
+        way.push(at);
+        at = parentOf(at);
+      }
+      let into = at === null ? null : known.get(at);
+      for (const one of way.reverse()) {
+        into = into || (folded.has(one.name) ? one : null);
+        known.set(one, into);
+      }
+      return into;
+    };
+  }
+
+  /**
+   * The lanes of some steps of a run, from one index up to another, each with its steps and the goals that are there. `foldOf` gives the
+   * lane that a lane is folded into, or null.
+   */
+  function lanesIn(run, whole, from, to, goals, foldOf = () => null) {
     const { graph } = run, kinds = new GoalKinds(run), parts = new Map(), laneOf = new Map();
     const kept = (index) => (index !== null && index >= from && index < to ? graph.stepAt(index) : null);
-    const partOf = (lane) => {
-      if (!parts.has(lane)) parts.set(lane, { ...lane, parent: kept(lane.parent), asked: kept(lane.asked), steps: [], goals: [], predicates: [...lane.predicates] });
+    const partOf = (own) => {
+      const into = foldOf(own), lane = into || own;
+      if (!parts.has(lane)) parts.set(lane, { ...lane, isFolded: into !== null, parent: kept(lane.parent), asked: kept(lane.asked), steps: [], goals: [], predicates: [...lane.predicates] });
       return parts.get(lane);
     };
     whole.inOrder();
@@ -259,7 +283,7 @@ const Lanes = ((Graph, Terms) => {
     const isLeaf = (name) => isSmall(kinds.get(name)) && name !== lane.name;
     const rows = [];
     const place = (key, goal, to) => {
-      if (!isLeaf(goal)) {
+      if (lane.isFolded || !isLeaf(goal)) {
         rowOf.set(key, 0);
         return;
       }
@@ -403,7 +427,7 @@ const Lanes = ((Graph, Terms) => {
     const makerOf = new Map(run.graph.steps.flatMap((step) => step.makes.map((goal) => [goal, step])));
     for (const lane of lanes) {
       placeInLane(lane, kinds, columnOf, makerOf, rows, columns);
-      lane.text = laneText(lane, run, kinds, store, options.room < NARROW ? 13 : 30);
+      lane.text = laneText(lane, run, kinds, store, options.room < NARROW ? 13 : run.placed ? 22 : 30);
     }
     const letters = Math.max(8, ...lanes.map((lane) => lane.name.length + lane.text.length + 2));
     const sizes = bestSizes(run, options, columns, lanes.length, letters);
@@ -421,13 +445,13 @@ const Lanes = ((Graph, Terms) => {
     for (const step of run.graph.steps) {
       const lane = laneOf.get(keyOf(step)), row = rows.get(step.number);
       const isLeaf = step.kind === "unify" || step.kind === "assign";
-      view.marks.set(step.number, { step, lane, x: x(columnOf(step)), y: view.yOf(lane, row), isLeaf, row });
+      view.marks.set(step.number, { step, lane, isFolded: lane.isFolded, x: x(columnOf(step)), y: view.yOf(lane, row), isLeaf, row });
     }
     placeGoals(view, run);
     view.width = Math.max(placeWaits(view, run), left + columns * sizes.dx + (sizes.kind === "roomy" ? 80 : 30));
     return view;
   }
 
-  return { layout, lanesOf, lanesIn, RunLanes, GoalKinds, queryPlaces, shortName };
+  return { layout, lanesOf, lanesIn, foldsOf, RunLanes, GoalKinds, queryPlaces, shortName };
 })(typeof require === "undefined" ? Graph : require("./graph.js"), typeof require === "undefined" ? Terms : require("./terms.js"));
 if (typeof module !== "undefined") module.exports = Lanes;

@@ -4,18 +4,22 @@ const Overview = (() => {
 
   const { find } = Elements;
   const LEAST_STEPS = 250; // a shorter run is shown whole
-  const LEAST_SIZE = 10, MOST_SIZE = 600; // steps in the window
+  const LEAST_SIZE = 6, MOST_SIZE = 600; // steps in the window
   const MOST_GOALS = 120; // that the picture shows
   const EDGE = 10, FOOT = 18, TOP = 8; // points of the strip beside its dots
   const LEVELS = { leaf: 1, reduction: 2, lit: 3, hit: 4, chosen: 5 };
   // `size` is null until somebody sets it; `until` is how many steps of the record are shown, null for all of them.
-  const overview = { from: 0, size: null, until: null, hits: [], wasCount: 0 };
+  const overview = { from: 0, size: null, until: null, hits: [], folded: new Set(), wasCount: 0 };
 
   const run = () => Talk.run;
   const count = () => (overview.until === null ? run().graph.count : Math.min(overview.until, run().graph.count));
   const isOn = () => count() > LEAST_STEPS;
   const between = (least, value, most) => Math.max(least, Math.min(value, most));
-  const usualSize = () => between(LEAST_SIZE, Math.round((find("canvas").clientWidth - 260) / 27), 60);
+  /** As many steps as have room side by side, with numbers in them. */
+  function usualSize() {
+    const room = find("canvas").clientWidth;
+    return between(LEAST_SIZE, Math.floor((room - (room < 600 ? 190 : 320)) / 27.5), 60);
+  }
   const size = () => Math.min(overview.size === null ? usualSize() : overview.size, Math.max(1, count()));
   const setFrom = (from) => { overview.from = between(0, Math.round(from), Math.max(0, count() - size())); };
 
@@ -56,13 +60,14 @@ const Overview = (() => {
   /** What the picture shows: the whole run, or the steps in the window, with the goals that are there where it reaches the end. */
   function shownRun() {
     const whole = run(), { graph } = whole;
-    if (!isOn() && overview.until === null && whole.goals.length <= MOST_GOALS) return whole;
+    if (!isOn() && overview.until === null && whole.goals.length <= MOST_GOALS && overview.folded.size === 0) return whole;
     setFrom(overview.from);
     const from = isOn() ? overview.from : 0, to = isOn() ? Math.min(count(), from + size()) : count();
-    const goals = to >= count() ? fewOf(goalsAfter(count())) : [];
+    const foldOf = Lanes.foldsOf(whole.lanes, overview.folded), isFolded = (goal) => foldOf(whole.lanes.ofGoal(graph, goal.name)) !== null;
+    const goals = to >= count() ? fewOf(goalsAfter(count()).filter((goal) => whole.lanes.ofGoal(graph, goal.name) && !isFolded(goal))) : [];
     return {
       ...whole, graph: Graph.graphOf(graph.slice(from, to)), goals, shelf: overview.until === null && to >= graph.count ? whole.shelf : [], store: graph.store,
-      placed: Lanes.lanesIn(whole, whole.lanes, from, to, goals), before: from, incoming: incoming(from, to),
+      placed: Lanes.lanesIn(whole, whole.lanes, from, to, goals, foldOf), before: from, incoming: incoming(from, to),
     };
   }
 
@@ -70,7 +75,10 @@ const Overview = (() => {
   function follow(what) {
     const now = run().graph.count;
     if (what === "late") return;
-    if (what === "start") overview.size = null;
+    if (what === "start") {
+      overview.size = null;
+      overview.folded = new Set();
+    }
     overview.until = null;
     overview.hits = [];
     if (now !== overview.wasCount && (now > overview.wasCount || overview.from + size() > now)) overview.from = now;
@@ -90,6 +98,26 @@ const Overview = (() => {
     const middle = overview.from + size() / 2;
     overview.size = between(LEAST_SIZE, Math.round(size() / factor), MOST_SIZE);
     setFrom(middle - size() / 2);
+  }
+
+  /** The lane of a step or of a goal that is there. */
+  function laneOf(chosen) {
+    const { graph, lanes } = run();
+    return chosen.step !== undefined ? lanes.ofStep[graph.indexOf(chosen.step)] : lanes.ofGoal(graph, chosen.goal);
+  }
+
+  /** How many steps there are in a lane and in all that came of it. */
+  function stepsUnder(lane) {
+    const { lanes, graph } = run(), foldOf = Lanes.foldsOf(lanes, new Set([lane.name]));
+    let steps = 0;
+    for (let index = 0; index < graph.count; index++) if (foldOf(lanes.ofStep[index]) === lane) steps++;
+    return steps;
+  }
+
+  /** Shows as many steps of the record, from its beginning; nothing is taken back. */
+  function showUntil(steps) {
+    overview.until = steps >= run().graph.count ? null : Math.max(0, steps);
+    overview.from = count();
   }
 
   /** As much of the run as a picture can show. */
@@ -241,5 +269,5 @@ const Overview = (() => {
     area.addEventListener("wheel", (event) => { event.preventDefault(); zoom(event.deltaY < 0 ? 1.2 : 1 / 1.2); goTo(overview.from); }, { passive: false });
   }
 
-  return Object.assign(overview, { isOn, count, shownRun, follow, show, zoom, fit, draw, listenToAll, sizeNow: size });
+  return Object.assign(overview, { isOn, count, shownRun, follow, show, showUntil, laneOf, stepsUnder, zoom, fit, draw, listenToAll, sizeNow: size });
 })();

@@ -3,7 +3,7 @@ const Panels = (() => {
   "use strict";
 
   const { find, make, lineButton, withCode, goTo, linkedLines } = Elements;
-  const MOST_ROWS = 100, MOST_LINES = 1000, MOST_TIDIED = 3000, MOST_LOOKED_AT = 2000;
+  const MOST_ROWS = 100, MOST_LINES = 1000, MOST_TIDIED = 3000;
   const LONGEST_GOAL = 200; // letters
   const MOST_LINKED = 60; // lines of a reply in which numbers are links
   const plural = (count, word) => `${count} ${word}${count === 1 ? "" : "s"}`;
@@ -54,21 +54,6 @@ const Panels = (() => {
     const spied = [...Talk.spied].map((predicate) => lineButton(`spied: ${predicate} ×`, `nospy ${predicate}`, { class: "chip" }));
     if (spied.length > 0) find("goals").prepend(make("div", null, ...spied));
   };
-
-  const valueRow = (variable, text, by) => make("button", { class: "row", "data-variable": variable },
-    make("b", null, variable), ` = ${Terms.cut(text, 160)}`, by ? make("span", { class: "dim" }, `  by ${by}`) : null);
-
-  /** The values of the query's variables, then all bindings, the newest first. */
-  function showStore() {
-    const values = Talk.run.values.map((line) => /^(\S+) = (.*)$/.exec(line)).filter(Boolean).map(([, name, text]) => () => valueRow(name, text));
-    const bindings = [], { graph } = Talk.run;
-    for (let at = graph.count - 1; at >= 0 && at > graph.count - MOST_LOOKED_AT && bindings.length < MOST_ROWS; at--) {
-      const step = graph.stepAt(at);
-      for (const binding of [...step.binds].reverse()) bindings.push(() => valueRow(binding.variable, binding.term, step.number));
-    }
-    fill("store", [...values, ...bindings], "nothing is bound", values.length + graph.binders.size);
-    if (values.length > 0) find("store").children[values.length - 1].classList.add("last-value");
-  }
 
   function showShelf() {
     const chips = Talk.run.shelf.map((step) => () =>
@@ -145,7 +130,7 @@ const Panels = (() => {
   }
 
   /** What an element is known by, when it was made anew. */
-  const nameOf = (element) => ["data-line", "data-goal", "data-variable", "data-goto", "id"].map((name) => element.getAttribute(name)).find(Boolean) || element.textContent;
+  const nameOf = (element) => ["data-line", "data-goal", "data-variable", "data-root", "data-path", "data-goto", "id"].map((name) => element.getAttribute(name) || "").join(" ") + element.textContent;
 
   /** Makes a panel anew; what had the focus in it has it afterwards, or what stands in its place. */
   function keepFocus(name, does) {
@@ -158,7 +143,7 @@ const Panels = (() => {
 
   /** What is made anew after lines, in parts between which the page may pause. */
   const PARTS = [
-    (what) => showTold(what), () => keepFocus("goals", showGoals), () => keepFocus("store", showStore), () => keepFocus("shelf", showShelf), () => showCount(),
+    (what) => showTold(what), () => keepFocus("goals", showGoals), () => keepFocus("store", Store.show), () => keepFocus("shelf", showShelf), () => showCount(),
     (what) => { showDetail(Canvas.chosen); Answers.show(what); },
   ];
 

@@ -1,0 +1,118 @@
+// The panel of the store: each value in parts that one can click, which lights the steps that gave them; and what a value rests on alone.
+const Store = (() => {
+  "use strict";
+
+  const { find, make, goTo } = Elements;
+  const MOST_ROWS = 100, MOST_LOOKED_AT = 2000, MOST_PARTS = 40, MOST_DEEP = 6, LONGEST_ATOM = 60;
+  const plural = (count, word) => `${count} ${word}${count === 1 ? "" : "s"}`;
+  const { isVariable, argumentsOf } = Explain;
+
+  /** A part of a value as a button; `path` leads to it from the row's variable. */
+  const part = (root, path, ...words) => make("button", { class: "part", type: "button", "data-root": root, "data-path": path.join("."), title: "lights the step that gave this" }, ...words);
+
+  /** The end of a chain of bindings. */
+  function endOf(term) {
+    const { store } = Talk.run.graph;
+    let end = term;
+    while (isVariable(end) && store.has(end)) end = store.get(end);
+    return end;
+  }
+
+  function listParts(root, path, term, room) {
+    const parts = [part(root, path, "[")];
+    let rest = term, at = path, count = 0;
+    while (rest.startsWith("[") && rest !== "[]") {
+      if (room.parts <= 0 || count > MOST_PARTS) return [...parts, ",…", part(root, path, "]")];
+      const [head, tail] = argumentsOf(rest);
+      parts.push(...(count > 0 ? [","] : []), ...termParts(root, [...at, 0], head, room));
+      at = [...at, 1];
+      rest = endOf(tail);
+      count += 1;
+    }
+    return [...parts, ...(rest === "[]" ? [] : ["|", ...termParts(root, at, rest, room)]), part(root, at, "]")];
+  }
+
+  /** A term as far as it is known, each part of it a button. `room` has how many parts more there may be. */
+  function termParts(root, path, term, room) {
+    const end = endOf(term);
+    room.parts -= 1;
+    if (room.parts <= 0 || path.filter((place) => place === 0).length > MOST_DEEP) return ["…"];
+    if (end.startsWith("[") && end !== "[]") return listParts(root, path, end, room);
+    const parts = argumentsOf(end);
+    if (parts.length === 0) return [part(root, path, Terms.cut(end, LONGEST_ATOM))];
+    const inner = parts.flatMap((one, place) => [...(place > 0 ? [","] : []), ...termParts(root, [...path, place], one, room)]);
+    return [part(root, path, `${end.slice(0, end.indexOf("("))}(`), ...inner, ")"];
+  }
+
+  const row = (name, variable, by, room) => make("div", { class: "row value" }, make("button", { class: "name", "data-variable": name, title: "show, who, what it rests on" }, make("b", null, name)), " = ",
+    ...termParts(variable, [], variable, room), by === undefined ? null : make("span", { class: "dim" }, "  by ", goTo(by)));
+
+  /** The values of the query's variables, then all bindings, the newest first. */
+  function rows() {
+    const { graph } = Talk.run, { query } = Talk.given, values = [], bindings = [];
+    for (const [name, variable] of Asking.queryVariables(query)) values.push(() => row(name, variable, undefined, { parts: MOST_PARTS * 3 }));
+    for (let at = graph.count - 1; at >= 0 && at > graph.count - MOST_LOOKED_AT && bindings.length < MOST_ROWS; at--) {
+      const step = graph.stepAt(at);
+      for (const { variable } of [...step.binds].reverse()) bindings.push(() => bindingRow(variable, step.number));
+    }
+    return { values, bindings };
+  }
+
+  /** A binding as it was made, with no binding followed. */
+  function bindingRow(variable, by) {
+    const term = Talk.run.graph.termOf(variable);
+    return make("div", { class: "row value" }, make("button", { class: "name", "data-variable": variable, title: "show, who, what it rests on" }, make("b", null, variable)), " = ",
+      part(variable, [], Terms.cut(term, 160)), make("span", { class: "dim" }, "  by ", goTo(by)));
+  }
+
+  function show() {
+    const { values, bindings } = rows(), all = [...values, ...bindings].slice(0, MOST_ROWS), more = values.length + Talk.run.graph.binders.size - all.length;
+    find("store").replaceChildren(...all.map((one) => one()));
+    if (more > 0) find("store").append(make("div", { class: "dim" }, `and ${more} more`));
+    if (all.length === 0) find("store").append(make("span", { class: "dim" }, "nothing is bound"));
+    if (values.length > 0) find("store").children[values.length - 1].classList.add("last-value");
+  }
+
+  /** Lights the steps that gave a part of a value, and tells them. */
+  function explain(root, path) {
+    const { graph } = Talk.run, { steps, by, part: term } = Explain.explain(graph, root, path), way = [...new Set(steps)].filter((step) => step !== by);
+    for (const one of find("store").querySelectorAll(".part.told")) one.classList.remove("told");
+    const words = make("code", null, Terms.cut(term === undefined ? root : term, 60));
+    if (by === undefined) {
+      Answers.put(false, words, isVariable(term || "") ? " is not bound." : " stands in the query.");
+      return;
+    }
+    Canvas.choose({ step: by });
+    Canvas.scrollTo({ step: by });
+    Canvas.markWay(way);
+    const shown = way.slice(-8), before = way.length > shown.length ? `${way.length - shown.length} steps, and ` : "";
+    Answers.put(false, words, isVariable(term) ? " is where step " : " was given by step ", goTo(by), isVariable(term) ? " left it open" : "",
+      ...(shown.length > 0 ? [`. On the way to it: ${before}step `, ...shown.flatMap((step, index) => [index > 0 ? ", " : "", goTo(step)])] : []), ". Its causes are lit.");
+  }
+
+  /** Rings what would go if the value of a variable were to stand alone, and asks once more. */
+  function askKeep(name) {
+    const variable = Asking.queryVariables(Talk.given.query).get(name) || name, { graph } = Talk.run;
+    const { rolls, gone } = Explain.rollsTo(graph, Explain.sliceOf(graph, variable)), rest = graph.count - gone.size;
+    Canvas.choose(null);
+    Canvas.ring(gone);
+    const does = make("button", { class: "danger", disabled: rolls.length === 0 }, gone.size === 0 ? "Nothing would go" : `Take back ${gone.size}`);
+    does.addEventListener("click", () => { Menus.close(); Talk.send(...rolls.map((step) => `roll ${step}`)); });
+    return [make("div", { class: "menu-title" }, make("b", null, `Keep what ${name} rests on`)),
+      make("p", null, `${plural(rest, "step")} of ${graph.count} gave this value. The ringed ${plural(gone.size, "step")} would be taken back, by ${plural(rolls.length, "roll")}.`),
+      make("div", { class: "buttons" }, does, make("button", { "data-close": true }, "Leave it"))];
+  }
+
+  /** Lights all steps on which the value of a variable rests. */
+  function lightSlice(name) {
+    const variable = Asking.queryVariables(Talk.given.query).get(name) || name, { graph } = Talk.run, isIn = Explain.sliceOf(graph, variable);
+    const numbers = [];
+    isIn.forEach((is, index) => { if (is === 1) numbers.push(graph.numbers.at(index)); });
+    Canvas.choose(null);
+    Canvas.markWay(numbers);
+    Answers.put(false, make("code", null, name), ` rests on ${plural(numbers.length, "step")} of ${graph.count}`, ...(numbers.length > 0 ? [": ", ...numbers.slice(0, 12).flatMap((step, index) => [index > 0 ? ", " : "", goTo(step)])] : []),
+      numbers.length > 12 ? ` and ${numbers.length - 12} more.` : ".");
+  }
+
+  return { show, explain, askKeep, lightSlice };
+})();
