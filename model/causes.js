@@ -1,0 +1,114 @@
+// Texts that say why: behind a refusal of a program, a query or a line the place, the cause in a reader's words, and what to write
+// instead; and notes on texts that are accepted but seldom meant. Nothing is refused or accepted here. Pure.
+//
+// A cause is `{ which, line, column, length, title, hints }`: `which` is the text's name, the column counts bytes from 1.
+const Causes = ((Tokens, Reader, SyntaxCauses, CheckerCauses, Nearest) => {
+  "use strict";
+
+  const caused = (which, { token, title, hints }) => ({ which, line: token.line, column: token.column, length: Math.max(1, token.text.length), title, hints });
+
+  /** The cause of a refusal such as `F2 syntax at 1:8`, of a text; undefined where there is nothing to say. */
+  function causeOf(refusal, { text, which, isQuery = false, program = text }) {
+    const [, number, rest] = /^(F\d+) (.*)$/.exec(refusal) ?? [];
+    const syntax = /^syntax at (\d+):(\d+)$/.exec(rest), clause = /^not flat in clause (\d+)$/.exec(rest);
+    const twice = /^variable (\w+) repeated in the head of clause (\d+)$/.exec(rest), call = /^undefined (\w+)\/(\d+)$/.exec(rest);
+    if (number === "F2" && syntax) {
+      const found = SyntaxCauses.causeOf(text, { line: Number(syntax[1]), column: Number(syntax[2]) }, isQuery);
+      return caused(which, { ...found, title: `syntax: ${found.title}` });
+    }
+    const tokens = Tokens.tokensOf(text);
+    if (number === "F3" && clause) return caused(which, CheckerCauses.notFlat(tokens, Number(clause[1])));
+    if (number === "F4" && twice) return caused(which, CheckerCauses.notLinear(tokens, twice[1], Number(twice[2])));
+    if (number === "F5" && call) return caused(which, CheckerCauses.undefinedCall(Tokens.tokensOf(program), tokens, call[1], Number(call[2]), isQuery));
+    return undefined;
+  }
+
+  const bytesOf = (text) => new TextEncoder().encode(text);
+
+  /** The lines that show a cause: title, place, the text's line with a caret, hints. */
+  function linesOf({ which, line, column, length, title, hints }, text) {
+    const source = (text.split("\n")[line - 1] ?? "").replace(/\r$/, "");
+    const before = new TextDecoder().decode(bytesOf(source).slice(0, column - 1)).replace(/[^\t]/g, " ");
+    const number = String(line), margin = " ".repeat(number.length);
+    return [
+      title, `${margin}--> ${which}:${line}:${column}`, `${margin} |`, `${number} | ${source}`, `${margin} | ${before}${"^".repeat(length)}`,
+      ...hints.map((hint) => `${margin} = ${hint}`),
+    ];
+  }
+
+  const UNUSED = "what nobody else names is read or bound by nobody";
+
+  const lettersOf = (name) => name.replace(/\d+$/, "");
+  const mayBeMeant = (name, other) => name.length > 2 && other.length > 2 && lettersOf(name) !== lettersOf(other);
+
+  /** Notes on the variables of a clause that stand once in it. */
+  function loneVariables(clause, number, which) {
+    const places = new Map();
+    for (const token of clause) if (token.kind === "variable" && !token.text.startsWith("_")) places.set(token.text, [...(places.get(token.text) ?? []), token]);
+    const lone = [...places.values()].filter((tokens) => tokens.length === 1).map(([token]) => token);
+    const names = [...lone.map(({ text }) => text), ...places.keys()]; // two that stand once may be meant to be one
+    return lone.map((token) => {
+      const near = Nearest.nearest(token.text, names.filter((name) => mayBeMeant(token.text, name)));
+      const hint = near === undefined ? `${UNUSED}; write _ where that is meant` : `is it ${near}? ${UNUSED}`;
+      return caused(which, { token, title: `note: ${token.text} stands once in clause ${number}`, hints: [hint] });
+    });
+  }
+
+  /** Notes on assignments that wait for what they are to bind. */
+  function ownAssignments(clause, number, which) {
+    const notes = [];
+    clause.forEach((token, place) => {
+      if (token.text !== ":=") return;
+      const left = clause[place - 1], behind = clause.slice(place + 1), end = behind.findIndex(({ text }) => text === "," || text === ".");
+      if (!behind.slice(0, end).some(({ kind, text }) => kind === "variable" && text === left.text)) return;
+      notes.push(caused(which, { token: left, title: `note: ${left.text} stands on both sides of := in clause ${number}`, hints: [`a variable gets one value; name a new one: ${left.text}1 := ${left.text} + ..`] }));
+    });
+    return notes;
+  }
+
+  /** Notes on predicates whose clauses stand apart. */
+  function scattered(clauses, which) {
+    const seen = new Map(), notes = [];
+    let last;
+    clauses.forEach((clause, place) => {
+      const predicate = `${clause[0].text}/${Tokens.arityAt(clause, 0)}`;
+      if (seen.has(predicate) && last !== predicate) notes.push(caused(which, { token: clause[0], title: `note: clause ${place + 1} of ${predicate} stands apart from clause ${seen.get(predicate)}`, hints: ["clauses of one predicate are read more easily side by side"] }));
+      seen.set(predicate, place + 1);
+      last = predicate;
+    });
+    return notes;
+  }
+
+  /** The clause of a predicate that binds the argument at a place, which is a variable of its head; undefined where none does. */
+  function binderOf(clauses, predicate, place) {
+    return clauses.find((clause) => {
+      const name = clause.predicate === predicate ? clause.head.arguments[place].variable : undefined;
+      return name !== undefined && clause.body.some((goal) => goal.left?.variable === name && goal.sort !== "true");
+    });
+  }
+
+  /** Notes on results that stand in a head, which binds nothing, where another clause of the predicate binds that argument in its body. */
+  function resultsInHeads(program, which) {
+    const clauses = Reader.readProgram(program), notes = [];
+    for (const clause of clauses) {
+      clause.head.arguments.forEach((argument, place) => {
+        const binder = argument.variable === undefined ? binderOf(clauses, clause.predicate, place) : undefined;
+        if (binder === undefined) return;
+        const token = { line: clause.line, column: clause.letter, text: clause.name };
+        notes.push(caused(which, { token, title: `note: clause ${clause.number} waits until argument ${place + 1} is bound`, hints: [`a head binds nothing; clause ${binder.number} binds that argument in its body, by =`] }));
+      });
+    }
+    return notes;
+  }
+
+  /** The notes on a program that was accepted, in the order of its text. */
+  function notesOn(program, which) {
+    const clauses = Tokens.clausesOf(Tokens.tokensOf(program));
+    const notes = clauses.flatMap((clause, place) => [...loneVariables(clause, place + 1, which), ...ownAssignments(clause, place + 1, which)]);
+    return [...notes, ...resultsInHeads(program, which), ...scattered(clauses, which)].sort((one, other) => one.line - other.line || one.column - other.column);
+  }
+
+  return { causeOf, notesOn, linesOf, LIMITS: CheckerCauses.LIMITS };
+})(...(typeof require === "undefined" ? [Tokens, Reader, SyntaxCauses, CheckerCauses, Nearest] :
+  [require("./tokens.js"), require("./reader.js"), require("./syntax_causes.js"), require("./checker_causes.js"), require("./nearest.js")]));
+if (typeof module !== "undefined") module.exports = Causes;

@@ -1,0 +1,184 @@
+// Why a text is refused at a place (F2): the cause in a reader's words, and what to write instead. It refuses nothing by itself; ghcdb
+// has told the place, and the first rule that knows a cause there is the answer. Pure.
+const SyntaxCauses = ((Tokens, Habits) => {
+  "use strict";
+
+  const COMPARISONS = new Set(["<", ">", "=<", ">=", "=:=", "=\\="]);
+  const CLAUSE = "a clause is: head :- guard | body.";
+  const ARGUMENT = ["an argument is a term, and is not computed", "compute it first: N1 := N - 1, fact(N1,F)"];
+  const BEHIND_NUMBER = "numbers are integers, written in digits alone";
+
+  const quoted = (token) => `'${token.text}'`;
+  const cause = (title, ...hints) => ({ title, hints });
+  const touches = (left, right) => left !== undefined && left.end === right.at;
+  const endsTerm = (token) => token !== undefined && (["name", "variable", "integer"].includes(token.kind) || [")", "]"].includes(token.text));
+  const hasComparison = (tokens) => tokens.some(({ text }) => COMPARISONS.has(text));
+
+  /** What the rules look at: the token at the place, its neighbours, and the tokens of its clause before it. */
+  function surroundings(text, at, isQuery) {
+    const tokens = Tokens.tokensOf(text);
+    const found = tokens.findIndex((token) => token.line === at.line && token.column === at.column);
+    const place = found < 0 ? tokens.length - 1 : found, token = tokens[place];
+    const stop = tokens.slice(0, place).findLastIndex((other) => other.text === ".");
+    const behind = tokens.slice(place), end = behind.findIndex((other) => other.text === ".");
+    return {
+      text, isQuery, tokens, place, token, before: tokens[place - 1], next: tokens[place + 1] ?? token, here: tokens.slice(stop + 1, place),
+      later: end < 0 ? behind : behind.slice(0, end), rest: text.slice(token.at), depth: Tokens.depthOf(tokens.slice(stop + 1, place)),
+    };
+  }
+
+  function foreignMark({ rest, text, token }) {
+    if (text.startsWith("\ufeff") && token.at <= 1) return cause(Habits.MARKS.find(([pattern]) => pattern.test("\ufeff"))[1], "save it as UTF-8 without BOM");
+    const found = Habits.MARKS.find(([pattern]) => pattern.test(rest));
+    if (found === undefined || (token.kind !== "wrong" && !/^\/[*/]/.test(rest))) return undefined;
+    return cause(found[1], found[2]);
+  }
+
+  function badToken({ token }) {
+    if (token.kind === "variable" && /^_\d+_\d+$/.test(token.text)) return cause(`${token.text} is a name of the running state`, "name the variable otherwise; such names may stand in `ask` and `show` alone");
+    if (token.kind !== "integer") return undefined;
+    const value = BigInt(token.text);
+    if (value <= 2n ** 63n - 1n && value >= -(2n ** 63n)) return undefined;
+    return cause("the integer does not fit into 64 bits", "integers go from -9223372036854775808 to 9223372036854775807");
+  }
+
+  function foreignPair({ token, before, next }) {
+    const pairs = [touches(before, token) ? before.text + token.text : "", touches(token, next) ? token.text + next.text : ""];
+    const found = pairs.find((pair) => Object.hasOwn(Habits.PAIRS, pair));
+    return found === undefined ? undefined : cause(...Habits.PAIRS[found]);
+  }
+
+  function endOfText({ token, here, isQuery, before }) {
+    if (token.kind !== "end") return undefined;
+    if (isQuery) return cause(here.length > 0 ? "the query ends too early" : "the query is empty", "write goals, as append([1],[2],R); for none: true");
+    const open = Tokens.openBrackets(here).at(-1);
+    const hint = open === undefined ? `write a full stop behind ${quoted(before)}` : `${quoted(open)} of line ${open.line}, column ${open.column} is not closed`;
+    return { ...cause("the text ends within a clause", hint), behind: before };
+  }
+
+  function beginning({ token, here, next, isQuery, before }) {
+    if (here.length > 0) return undefined;
+    if (isQuery && before?.text === ".") return cause("a query is one row of goals", "separate goals by commas");
+    if (token.text === ":-") return cause("a clause begins with a name", "there are no directives and modules: drop this line");
+    if (["true", "otherwise", "alternatively", "instream"].includes(token.text)) return cause(`no clause is for ${token.text}`, "it has a meaning of its own; name the predicate otherwise");
+    if (token.kind === "variable" && !isQuery && (next.text === "=" || next.text === ":=")) return cause(`a clause begins with a name, and not with ${quoted(token)}`, "goals stand in a clause's body, or in the query");
+    if (token.kind === "variable") return cause(`${token.text} is a variable, and no ${isQuery ? "goal" : "clause"} begins with one`, `names of predicates begin with a small letter: ${token.text[0].toLowerCase()}${token.text.slice(1)}`);
+    if (isQuery) return cause(`no goal begins with ${quoted(token)}`, "write goals, as append([1],[2],R)");
+    return cause(`no clause begins with ${quoted(token)}`, CLAUSE);
+  }
+
+  function foreignWord({ token, before, next }) {
+    if (token.text === "mod" && next.text === "(") return cause("mod is an operator", "X mod 2, and not mod(X,2)");
+    if (token.text === "is" && before?.kind === "variable") return cause("`is` is written :=", `${before.text} := ..`);
+    if (token.kind === "name" && Object.hasOwn(Habits.WORDS, token.text) && endsTerm(before)) return cause(...Habits.WORDS[token.text]);
+    if (before?.kind === "name" && Object.hasOwn(Habits.WORDS, before.text) && before.text !== "is") return cause(...Habits.WORDS[before.text]);
+    return undefined;
+  }
+
+  function numbers({ token, before, next, tokens, place }) {
+    const first = tokens[place - 2];
+    if (token.kind === "integer" && before?.text === "." && touches(before, token) && first?.kind === "integer") return cause("there are no fractions", "numbers are integers of 64 bits");
+    if (before?.kind === "integer" && touches(before, token) && (token.kind === "name" || token.kind === "variable")) return cause(`${quoted(token)} cannot follow ${quoted(before)}`, BEHIND_NUMBER);
+    if (token.text === "-" && next.kind === "integer" && !touches(token, next) && !endsTerm(before)) return cause("a space stands between the sign and the number", `write -${next.text}`);
+    return undefined;
+  }
+
+  const BEFORE_OPERAND = new Set([":=", "<", ">", "=<", ">=", "=:=", "=\\=", "+", "-", "*", "/", "mod", "(", "|"]);
+
+  function arithmetic({ token, before, depth, here, later }) {
+    const isOperator = ["+", "-", "*", "/", "mod"].includes(token.text);
+    if (token.text === "-" && before?.text !== "(" && BEFORE_OPERAND.has(before?.text)) return cause("there is no minus before a variable or a bracket", "write 0 - X");
+    if (isOperator && depth > 0) return cause(...ARGUMENT);
+    if (token.text.startsWith("-") && token.kind === "integer" && depth > 0) return cause(...ARGUMENT);
+    if (isOperator && [...here, ...later].some(({ text }) => text === "=")) return cause("= does not compute", "to compute write :=, as Y := X + 1");
+    if (token.text === ":=") return cause("only a variable stands before :=", "turn it round, as X := 3, or compare numbers by =:= in the guard");
+    if (token.kind === "name" && BEFORE_OPERAND.has(before?.text) && here.some(({ text }) => text === ":=" || COMPARISONS.has(text))) return cause(`${quoted(token)} is no number`, "an expression has variables, integers, + - * / mod and brackets; to name a term write =");
+    return undefined;
+  }
+
+  function bars({ token, before, here, depth }) {
+    const bar = here.find(({ text }, place) => text === "|" && Tokens.depthOf(here.slice(0, place)) === 0);
+    if (token.text === "|" && before?.text === ":-") return cause("the guard is empty", "write true |, or leave out the bar too");
+    if (token.text === "|" && depth > 0 && here.some(({ text }) => text === "|")) return cause("one tail stands behind the bar of a list", "[A,B|C], and not [A|B|C]");
+    if (token.text === "|" && before?.kind === "variable") return cause(`${quoted(before)} is no test`, "to wait until it is bound write wait(X)");
+    if (token.text === "|" && bar !== undefined) return cause("a second bar in one clause", "a clause is head :- guard | body. with one bar: all tests stand before it");
+    return undefined;
+  }
+
+  function comparisonBehindBar({ token, here, later }) {
+    const hasBar = here.some(({ text }, place) => text === "|" && Tokens.depthOf(here.slice(0, place)) === 0);
+    if (!COMPARISONS.has(token.text) || !hasBar || !later.some(({ text }) => text === "|")) return undefined;
+    return cause("a comparison stands behind the first bar", "a clause has one bar: all tests stand before it, with commas, as true, X > 0 |");
+  }
+
+  function comparison({ token, before, here, isQuery, tokens, place }) {
+    const chained = COMPARISONS.has(token.text) && hasComparison([tokens[place - 2] ?? {}]);
+    if (chained) return cause("a comparison has two sides", `write two: X < Y, Y < Z`);
+    const isCompared = COMPARISONS.has(token.text) || ([".", ","].includes(token.text) && hasComparison(here)) || (token.kind === "end" && hasComparison(here));
+    if (!isCompared || before === undefined) return undefined;
+    if (isQuery) return cause("a comparison stands in the query", "comparisons are tests of clauses; to compute write Y := X + 1, and look at it by `show`");
+    return cause("a comparison stands in the body", "tests stand before the bar: head :- X > Y | body.", "a clause without a bar has the guard true, and all of it is body");
+  }
+
+  function brackets({ token, before, here, depth }) {
+    const open = Tokens.openBrackets(here).at(-1), missing = open?.text === "(" ? ")" : "]";
+    const where = open && `${quoted(open)} of line ${open.line}, column ${open.column}`;
+    const isClosing = token.text === ")" || token.text === "]";
+    if ((token.text === "." || token.text === ":-") && depth > 0) return cause(`${where} is not closed`, `missing: ${missing}`);
+    if (isClosing && open === undefined) return cause(`${quoted(token)} closes nothing`, "there is one bracket too many, or one before it is missing");
+    if (isClosing && missing !== token.text) return cause(`${quoted(token)} does not close ${where}`, `missing: ${missing}`);
+    if (isClosing && before?.text === "(") return cause("no arguments stand between the brackets", "an atom, or a goal without arguments, has no brackets");
+    if (token.text === "(" && before?.text === "(") return cause("brackets group expressions alone", "write the term without them");
+    return undefined;
+  }
+
+  function streams({ token, isQuery }) {
+    if (token.text !== "instream") return undefined;
+    if (isQuery) return cause("instream takes a variable", "write instream(S), and feed it by `in 1 TERM`");
+    return cause("instream stands in queries alone", "give the process a variable, and write instream(S) in the query");
+  }
+
+  function neighbours({ token, before, isQuery }) {
+    if (token.kind === "variable" && before?.kind === "name" && before.line === token.line) return cause(`${quoted(token)} cannot follow ${quoted(before)}`, `arguments stand in brackets: ${before.text}(${token.text})`);
+    if (!endsTerm(before) || !["name", "variable", "integer"].includes(token.kind)) return undefined;
+    const isNewLine = before.line < token.line && !isQuery;
+    return cause(`${quoted(token)} cannot follow ${quoted(before)}`, isNewLine ? `is there a full stop missing behind ${quoted(before)} in line ${before.line}?` : "a comma or an operator is missing");
+  }
+
+  function variableAsGoal({ token, before, tokens, place, depth }) {
+    const isEnd = token.text === "." || token.text === "," || token.kind === "end";
+    if (depth > 0 || before?.kind !== "variable" || !isEnd) return undefined;
+    return [",", "|", ":-", undefined].includes(tokens[place - 2]?.text) ? cause(`the variable ${before.text} is no goal`, "goals are calls, as p(X), and X = Y, X := E; there is no call of a term") : undefined;
+  }
+
+  function behindMark({ token, before }) {
+    if (before?.text === ",") return cause(`a goal or a term is expected behind the comma, and ${quoted(token)} is none`, "drop the comma, or write what is missing");
+    if (["=", ":="].includes(before?.text)) return cause(`${quoted(token)} cannot stand behind ${quoted(before)}`, before.text === "=" ? "a term stands there, as [A|X]" : "an expression stands there, as X + 1");
+    if ([":-", "|"].includes(before?.text)) return cause(`no goal begins with ${quoted(token)}`, CLAUSE);
+    return undefined;
+  }
+
+  function anything({ token, before }) {
+    return cause(`${quoted(token)} cannot stand here${before === undefined ? "" : `, behind ${quoted(before)}`}`, CLAUSE);
+  }
+
+  const RULES = [
+    badToken, foreignMark, foreignPair, comparisonBehindBar, comparison, variableAsGoal, endOfText, numbers, streams, beginning, foreignWord, bars, arithmetic, brackets, neighbours, behindMark, anything,
+  ];
+
+  /** The cause of a refusal at a place of a text: its title, its hints, and the token at which it stands. */
+  function causeOf(text, at, isQuery) {
+    const where = surroundings(text, at, isQuery);
+    for (const rule of RULES) {
+      const found = rule(where);
+      if (found === undefined) continue;
+      const { behind, ...told } = found;
+      if (behind === undefined) return { ...told, token: where.token };
+      return { ...told, token: { line: behind.line, column: behind.column + behind.text.length, text: " " } };
+    }
+    return undefined;
+  }
+
+  return { causeOf };
+})(...(typeof require === "undefined" ? [Tokens, Habits] : [require("./tokens.js"), require("./habits.js")]));
+if (typeof module !== "undefined") module.exports = SyntaxCauses;

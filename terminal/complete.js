@@ -1,0 +1,35 @@
+// What the Tab key offers: commands at a line's beginning, and behind them ready goals, kept steps, variables, predicates. Pure but for
+// what it asks of the session.
+"use strict";
+
+const { NAMES, commandOf } = require("./commands.js");
+
+const numbersOf = (lines) => lines.map((line) => line.split(" ")[0]).filter((word) => /^\d+$/.test(word));
+
+/** The variables of the query, and those that goals have. */
+async function variables(session) {
+  const texts = (await session.goals()).flatMap(({ text }) => text.match(/\b_\d+_\d+\b/g) ?? []);
+  return [...new Set([...session.variables, ...texts])];
+}
+
+const goals = async (session, statuses) => (await session.goals()).filter(({ status }) => statuses.includes(status)).map(({ name }) => name);
+const steps = (session) => [...session.kept.steps.keys()].map(String);
+
+const OFFERS = {
+  step: (session) => goals(session, ["ready"]), skip: (session) => goals(session, ["ready"]), clauses: (session) => goals(session, ["ready", "waits", "failed"]),
+  undo: steps, roll: steps, why: steps, goal: steps, arrange: steps, redo: async (session) => numbersOf(await session.ask("shelf")),
+  show: variables, who: variables, explain: variables, holders: variables, watch: variables,
+  spy: (session) => session.predicates, nospy: (session) => session.predicates, list: (session) => session.predicates, records: (session) => session.predicates,
+  help: () => NAMES,
+};
+
+/** The words that may stand at the end of a line, and the beginning of them that is there. */
+async function completionsOf(session, line) {
+  const words = line.split(" "), last = words.at(-1);
+  if (words.length === 1) return { begun: last, words: NAMES.filter((name) => name.startsWith(last)).map((name) => `${name} `) };
+  const offer = OFFERS[commandOf(words[0])];
+  const offered = offer === undefined || (words.length > 2 && commandOf(words[0]) !== "arrange") ? [] : await offer(session);
+  return { begun: last, words: offered.filter((word) => word.startsWith(last)) };
+}
+
+module.exports = { completionsOf };

@@ -1,0 +1,42 @@
+// The thread in which the engine of web/ghcdb.html runs, for program.js: it is told lines, and tells their replies.
+"use strict";
+
+const fs = require("node:fs");
+const { parentPort, workerData } = require("node:worker_threads");
+const { engineOfPage } = require("../web/tests/engine_of_page.js");
+const { readWords } = require("./words.js");
+
+const encode = (text) => new TextEncoder().encode(text);
+const decode = (bytes) => Buffer.from(bytes).toString("latin1");
+
+/** The files that the words name, as far as they can be read; the engine tells which cannot. */
+function filesOf(words) {
+  const { file, load } = readWords(words), files = new Map();
+  for (const name of [file, load]) {
+    try {
+      if (name !== undefined) files.set(name, fs.readFileSync(name));
+    } catch {
+      continue;
+    }
+  }
+  return files;
+}
+
+async function main() {
+  const { words } = workerData, { engine } = await engineOfPage();
+  const run = engine.start({ words: words.map(encode), files: filesOf(words) });
+  const tellEnd = () => {
+    const errors = decode(run.takeErrors()) + (run.broken === undefined ? "" : `the engine stopped: ${run.broken}\n`);
+    parentPort.postMessage({ errors, status: run.status ?? 70 });
+    parentPort.close();
+  };
+  if (!run.waits) return tellEnd();
+  parentPort.on("message", (line) => {
+    run.give(encode(`${line}\n`));
+    if (!run.waits) return tellEnd();
+    return parentPort.postMessage({ reply: decode(run.takeOutput()).split("\n").slice(0, -1) });
+  });
+  return undefined;
+}
+
+main();

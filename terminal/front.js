@@ -1,0 +1,313 @@
+// The terminal in front of ghcdb's console: it hands lines on, and adds what a person needs. Each added line begins with the mark; all
+// others are the console's own, as it told them.
+"use strict";
+
+const fs = require("node:fs");
+const Causes = require("../model/causes.js");
+const { Ended } = require("./program.js");
+const { Session, isRefusal } = require("./session.js");
+const { asksConsole, helpLines, meaningOf, suggestion, usageOf } = require("./commands.js");
+const Own = require("./own.js");
+const { behind, plural } = require("./telling.js");
+
+const MARK = "% ";
+const FIRST = 20, LAST = 10, LONG = 40; // lines of a long run that are shown, and how many a run has that is shown whole
+const PROMPT_STEPS = 1000; // a run of so many steps ends soon: it is not prepared for being ended
+const MOST_WATCHED = 1_000_000;
+const ASK_AGAIN = { quit: "quit again ends", restart: "restart again begins anew" };
+
+const isLongRun = (meaning) => meaning.name === "skip" || (meaning.name === "leap" && !(Number(meaning.words[0]) <= PROMPT_STEPS));
+
+class Front {
+  /** `out` and `errors` take whole lines for standard output and standard error. */
+  constructor({ words, native, out, errors }) {
+    this.session = new Session(words, native);
+    this.out = out;
+    this.errors = errors;
+    this.hasEnded = false;
+    this.status = 0;
+    this.isRunning = false; // a run is being made that may be long
+    this.isInterrupted = false;
+    this.warned = undefined; // for which command and number of changes unsaved steps were told
+  }
+
+  note(...lines) {
+    lines.forEach((line) => this.out(MARK + line));
+  }
+
+  /** Starts the program; where it is refused, says why. Afterwards either `hasEnded`, or the greeting was told. */
+  async begin() {
+    try {
+      await this.session.begin();
+    } catch (error) {
+      if (!(error instanceof Ended)) throw error;
+      this.refuse(error);
+      return;
+    }
+    const { file } = this.session.given;
+    for (const cause of Causes.notesOn(this.session.text, file)) this.note(...Causes.linesOf(cause, this.session.text));
+    this.note("Flat GHC. help lists the commands; step alone takes a step, leap runs, back goes back.");
+  }
+
+  /** Tells why the program has ended. */
+  refuse({ errors, status }) {
+    this.hasEnded = true;
+    this.status = status;
+    for (const line of errors.trimEnd().split("\n")) {
+      this.errors(line);
+      this.whyRefused(line).forEach((told) => this.errors(MARK + told));
+    }
+  }
+
+  whyRefused(line) {
+    const { text, given } = this.session;
+    const [, who, refusal] = /^(program|query|history|schedule): (F\d+ .*)$/.exec(line) ?? [];
+    if (who === undefined) return [];
+    const file = who === "history" ? given.load : given.file;
+    if (refusal.startsWith("F26")) return whyNotRead(file);
+    if (who === "history") return whyNotLoaded(file, refusal);
+    const isQuery = who === "query", source = isQuery ? given.query : text;
+    const cause = Causes.causeOf(refusal, { text: source, which: isQuery ? "query" : file, isQuery, program: text });
+    const limit = /^F6 limit: (\w+)$/.exec(refusal);
+    if (limit !== null) return [Causes.LIMITS[limit[1]]];
+    return cause === undefined ? [] : Causes.linesOf(cause, source);
+  }
+
+  /** Does what a typed line asks for. One line at a time. */
+  async answer(typed) {
+    if (typed.trim() === "") return;
+    const meaning = meaningOf(typed);
+    this.isInterrupted = false;
+    try {
+      if (meaning.name !== undefined) await this.act(meaning, typed);
+      else await this.passOn(meaning, typed);
+    } catch (error) {
+      if (!(error instanceof Ended)) throw error;
+      await this.afterEnd(error);
+    }
+  }
+
+  /** What no command of the terminal is goes to the console, which may know more. */
+  async passOn(meaning, typed) {
+    const reply = await this.session.ask(typed);
+    reply.forEach((line) => this.out(line));
+    if (reply[0] === "F25 command") this.note(suggestion(typed.trim().split(/\s+/)[0]));
+  }
+
+  async act(meaning, typed) {
+    const own = this[`on_${meaning.name}`];
+    if (own !== undefined && await own.call(this, meaning, typed) !== false) return;
+    await this.send(meaning, typed);
+  }
+
+  /** Sends a line of the console, and tells its reply with what is to be added. */
+  async send(meaning, typed = "") {
+    if (typed.trim().replace(/ +/g, " ") !== meaning.line.replace(/ +/g, " ")) this.note(`sent: ${meaning.line}`);
+    const reply = await this.run(meaning);
+    if (reply[0] === "F25 command") {
+      this.out(reply[0]);
+      return this.note(usageOf(meaning.name));
+    }
+    this.show(reply);
+    return this.note(...await behind(this.session, meaning, reply));
+  }
+
+  async run(meaning) {
+    if (!isLongRun(meaning)) return this.session.ask(meaning.line);
+    await this.session.prepareForEnding();
+    this.isRunning = true;
+    try {
+      return await this.session.ask(meaning.line);
+    } finally {
+      this.isRunning = false;
+    }
+  }
+
+  /** Tells a reply; of a long run its first and last lines. */
+  show(reply) {
+    const isRun = reply.length > LONG && reply.at(-1).startsWith("stopped ");
+    if (!isRun) return reply.forEach((line) => this.out(line));
+    reply.slice(0, FIRST).forEach((line) => this.out(line));
+    this.note(`.. ${plural(reply.length - 1 - FIRST - LAST, "step")} more (records shows all) ..`);
+    return reply.slice(-LAST - 1).forEach((line) => this.out(line));
+  }
+
+  /** What ^C asks for. True where it ends something. */
+  interrupt() {
+    if (this.isInterrupted) return;
+    this.isInterrupted = true;
+    if (this.isRunning) this.ending = this.session.endRun();
+  }
+
+  /** The program has ended beneath a line: by ^C, or by itself. */
+  async afterEnd(error) {
+    if (this.ending === undefined) return this.refuse(error);
+    const ending = this.ending;
+    this.ending = undefined;
+    await ending;
+    return this.note("the run was ended; the session stands as before it. leap 1000 runs for 1000 steps at most");
+  }
+
+  // ---- commands that the terminal answers itself, or completes. A reply of `false` leaves the line to the console.
+
+  on_help({ words }) {
+    this.note(...helpLines(words));
+  }
+
+  async on_step({ words }) {
+    if (words.length > 0) return false;
+    const goals = await this.session.goals(), ready = goals.find(({ status }) => status === "ready");
+    if (ready !== undefined) await this.send({ name: "step", words: [ready.name], line: `step ${ready.name}` });
+    else this.note(goals.length === 0 ? "no goal is ready: all is done" : "no goal is ready", ...(goals.length === 0 ? [] : await Own.stuck(this.session)));
+    return true;
+  }
+
+  async takeBack() {
+    const { last } = this.session.kept;
+    if (last === undefined) this.note("no step is kept");
+    else await this.send({ name: "undo", words: [String(last)], line: `undo ${last}` });
+    return last !== undefined;
+  }
+
+  async on_undo({ words }) {
+    return words.length > 0 ? false : this.takeBack();
+  }
+
+  async on_back({ words: [word = "1"] }) {
+    if (!/^\d{1,9}$/.test(word)) return this.note(usageOf("back"));
+    for (let left = Number(word); left > 0 && !this.isInterrupted; left -= 1) if (!await this.takeBack()) break;
+    return undefined;
+  }
+
+  async on_show({ words }) {
+    if (words.length > 0) return false;
+    if (this.session.variables.length === 0) this.note("the query has no variables");
+    for (const name of this.session.variables) await this.send({ name: "show", words: [name], line: `show ${name}` });
+    return true;
+  }
+
+  on_list({ words }) {
+    this.note(...Own.list(this.session, words));
+  }
+
+  async on_stuck() {
+    this.note(...await Own.stuck(this.session));
+  }
+
+  async on_holders({ words }) {
+    this.note(...(words.length === 1 ? await Own.holders(this.session, words) : [usageOf("holders")]));
+  }
+
+  async on_stat() {
+    this.note(...await Own.stat(this.session));
+  }
+
+  async on_records({ words }) {
+    if (words.length !== 1) return false;
+    this.note(...await Own.records(this.session, words));
+    return true;
+  }
+
+  on_goal(meaning, typed) {
+    return this.askFirst(meaning, typed);
+  }
+
+  on_clauses(meaning, typed) {
+    return this.askFirst(meaning, typed);
+  }
+
+  on_explain(meaning, typed) {
+    return this.askFirst(meaning, typed);
+  }
+
+  /** The console is asked first; where it does not know the command, it is answered from the run. */
+  async askFirst(meaning, typed) {
+    if (meaning.words.length !== 1) return this.note(usageOf(meaning.name));
+    const reply = asksConsole(meaning.name) ? await this.session.ask(meaning.line) : ["F25 command"];
+    if (reply[0] === "F25 command") return this.note(...await Own[meaning.name](this.session, meaning.words));
+    if (typed.trim() !== meaning.line) this.note(`sent: ${meaning.line}`);
+    this.show(reply);
+    return this.note(...await behind(this.session, meaning, reply));
+  }
+
+  async on_watch({ words: [name] }) {
+    if (name === undefined) return this.note(usageOf("watch"));
+    const line = `show ${name}`, was = await this.session.ask(line);
+    if (isRefusal(was)) return this.send({ name: "show", words: [name], line }, line);
+    let now = was, last = "";
+    for (let taken = 0; taken < MOST_WATCHED && !this.isInterrupted && now[0] === was[0]; taken += 1) {
+      last = (await this.session.ask("leap 1")).at(-1);
+      if (last !== "stopped limit") break;
+      now = await this.session.ask(line);
+    }
+    now = await this.session.ask(line);
+    this.show(now);
+    if (now[0] !== was[0]) return this.note(`bound by step ${this.session.kept.last}; before it ${was[0]}`);
+    return this.note(this.isInterrupted ? "ended: it is not bound" : `it is not bound: ${last}`);
+  }
+
+  async on_save({ words }) {
+    const version = words[0] === "1" ? "1" : "", file = words.slice(version === "" ? 0 : 1).join(" ");
+    if (file === "") return false;
+    if (isOtherFile(file)) return this.note(`${file} is there and is no history: name another file`);
+    try {
+      const refusal = await this.session.save(file, version);
+      if (refusal !== undefined) this.out(refusal);
+      return this.note(refusal === undefined ? `saved in ${file}; --load ${file} goes on from it` : "save alone writes a history with what was asked for");
+    } catch (error) {
+      if (error instanceof Ended) throw error;
+      return this.note(`${file}: ${error.message}`);
+    }
+  }
+
+  /** Tells once that steps would be lost; true where that was told just now. */
+  warnsOfLoss(name) {
+    const { session } = this, state = `${name} ${session.kept.changes}`;
+    if (session.isSaved || this.warned === state) return false;
+    this.warned = state;
+    this.note(`${plural(session.kept.steps.size, "step")} kept and not saved: save FILE keeps them; ${ASK_AGAIN[name]}`);
+    return true;
+  }
+
+  async on_restart() {
+    if (this.warnsOfLoss("restart")) return;
+    await this.session.end();
+    await this.begin();
+  }
+
+  async on_quit() {
+    if (this.warnsOfLoss("quit")) return;
+    this.status = await this.session.end();
+    this.hasEnded = true;
+  }
+}
+
+function whyNotRead(file) {
+  try {
+    fs.readFileSync(file);
+    return [];
+  } catch (error) {
+    const reason = { ENOENT: "no such file", EACCES: "reading it is not allowed", EISDIR: "it is a folder" }[error.code] ?? error.message;
+    return [`${file}: ${reason}`];
+  }
+}
+
+/** The line of a history at which loading it stopped. */
+function whyNotLoaded(file, refusal) {
+  const [, number] = /^F24 history line (\d+)$/.exec(refusal) ?? [];
+  if (number === undefined) return [];
+  const line = fs.readFileSync(file, "latin1").split("\n")[number - 1];
+  return [`${file}:${number}: ${line ?? "the file ends before this line"}`, "the line is not of its form, or its step cannot be taken: is it of this program and query?"];
+}
+
+/** Is it a file that holds something else than a history? */
+function isOtherFile(file) {
+  try {
+    const text = fs.readFileSync(file, "latin1");
+    return text !== "" && !text.startsWith("ghc-history ");
+  } catch {
+    return false;
+  }
+}
+
+module.exports = { Front, MARK };

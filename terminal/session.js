@@ -1,0 +1,122 @@
+// A session as the terminal and the editors keep it: the program that runs, the steps that its replies told, and a look at the run,
+// which is taken only when something has changed and somebody asks.
+"use strict";
+
+const fs = require("node:fs");
+const os = require("node:os");
+const path = require("node:path");
+const Graph = require("../web/graph.js");
+const Kept = require("../model/kept.js");
+const Reader = require("../model/reader.js");
+const Run = require("../model/run.js");
+const Program = require("./program.js");
+const { readWords, wordsFrom } = require("./words.js");
+
+const isRefusal = (reply) => /^F\d+ /.test(reply[0] ?? "");
+
+/** The text of a file; empty where it cannot be read, which ghcdb tells. */
+function textOf(file) {
+  try {
+    return fs.readFileSync(file, "utf8");
+  } catch {
+    return "";
+  }
+}
+
+class Session {
+  /** A session for the words of a command line, which is not begun yet. */
+  constructor(words, native = Program.nativeProgram()) {
+    this.words = words;
+    this.native = native;
+    this.given = readWords(words);
+    this.savedAt = 0; // the number of changes when the session was saved last
+  }
+
+  /** Begins anew with the files as they are now. Throws `Program.Ended` where ghcdb refuses them. */
+  async begin() {
+    this.text = textOf(this.given.file);
+    this.program = Program.open(this.words, this.native);
+    const goals = await this.program.ask("goals");
+    this.clauses = Reader.readProgram(this.text);
+    this.kept = new Kept();
+    if (this.given.load !== undefined) this.kept.begin(await this.program.ask("records"));
+    this.run = new Run(this.clauses, this.given.query, this.kept);
+    this.seen = { records: -1, goals: 0, list: Graph.readGoals(goals) };
+    this.savedAt = 0;
+  }
+
+  /** The names of the query's variables, as far as they are written. */
+  get variables() {
+    return this.run.query.variables.filter(Reader.isWritten);
+  }
+
+  get predicates() {
+    return [...new Set(this.clauses.map(({ predicate }) => predicate))];
+  }
+
+  get isSaved() {
+    return this.kept.steps.size === 0 || this.kept.changes === this.savedAt;
+  }
+
+  /** The lines of the reply to a line. */
+  async ask(line) {
+    const reply = await this.program.ask(line);
+    this.kept.learn(line, reply);
+    return reply;
+  }
+
+  /** The goals as they stand. */
+  async goals() {
+    if (this.seen.goals !== this.kept.changes) {
+      this.seen.list = Graph.readGoals(await this.program.ask("goals"));
+      this.seen.goals = this.kept.changes;
+    }
+    return this.seen.list;
+  }
+
+  async goalNamed(name) {
+    return (await this.goals()).find((goal) => goal.name === name);
+  }
+
+  /** The run with all that `records` tells of it. */
+  async look() {
+    if (this.seen.records !== this.kept.changes) {
+      this.run.learn(await this.program.ask("records"));
+      this.seen.records = this.kept.changes;
+    }
+    return this.run;
+  }
+
+  /** Keeps what brings the session back where a run has to be ended. */
+  async prepareForEnding() {
+    this.before = await this.program.ask("save");
+  }
+
+  /** Ends the program in the midst of a run, and goes on from where it stood before. */
+  async endRun() {
+    await this.program.kill();
+    const folder = fs.mkdtempSync(path.join(os.tmpdir(), "ghcdb-")), history = path.join(folder, "session.history");
+    try {
+      fs.writeFileSync(history, `${this.before.join("\n")}\n`);
+      this.program = Program.open(wordsFrom(this.words, history), this.native);
+      await this.program.ask("goals");
+    } finally {
+      fs.rmSync(folder, { recursive: true });
+    }
+  }
+
+  /** Writes the session into a file, as a history; `version` is "1" for that of the kept steps alone. The refusal, where there is one. */
+  async save(file, version = "") {
+    const reply = await this.program.ask(`save ${version}`.trim());
+    if (isRefusal(reply)) return reply[0];
+    fs.writeFileSync(file, `${reply.join("\n")}\n`);
+    this.savedAt = this.kept.changes;
+    return undefined;
+  }
+
+  end() {
+    return this.program.end();
+  }
+}
+
+module.exports = { Session, isRefusal };

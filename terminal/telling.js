@@ -1,0 +1,178 @@
+// What the terminal adds behind a reply: why it was refused and what would help, what a stop means, and the names of variables.
+"use strict";
+
+const Causes = require("../model/causes.js");
+const Choices = require("../model/choices.js");
+const Print = require("../model/print.js");
+const Stuck = require("../model/stuck.js");
+const { nearest } = require("../model/nearest.js");
+const { REFUSALS } = require("./commands.js");
+const { isRefusal } = require("./session.js");
+
+const MOST = 12; // lines of a kind that are told
+
+const plural = (count, word) => `${count} ${word}${count === 1 ? "" : "s"}`;
+const some = (words) => (words.length > MOST ? [...words.slice(0, MOST), ".."] : words);
+
+const labelOf = (session) => (variable) => session.run.labelOf(variable);
+
+/** What each clause says to a call that has failed. */
+async function whyNoClause(session, goal, clause) {
+  const run = await session.look();
+  return Choices.choicesOf(run, goal)
+    .filter((choice) => choice.says === "no" && (clause === undefined || choice.clause.number === Number(clause)))
+    .map((choice) => `clause ${choice.clause.number}: ${choice.why}`);
+}
+
+/** What could not be made equal, or be computed. */
+async function whyNoValue(session, name) {
+  const run = await session.look(), goal = run.goalOf(name);
+  if (goal?.right === undefined) return [];
+  const [left, right] = [goal.left, goal.right].map((term) => Print.term(term, { store: run, most: 60 }));
+  const why = goal.sort === "assignment" ? Choices.whyNoValue(goal.right, run) : undefined;
+  return [why === undefined ? `${left} and ${right}` : `${right}: ${why}`];
+}
+
+async function whyWaits(session, name) {
+  return Stuck.linesOfGoal(await session.goals(), name, labelOf(session));
+}
+
+async function noGoal(session, [name]) {
+  const taker = session.kept.takers.get(name);
+  if (taker !== undefined) return [`${name} was taken by step ${taker}; goals lists those that are there`];
+  if ((await session.goalNamed(name))?.status === "stream") return [`${name} is an input stream: in K TERM feeds it`];
+  return ["goals lists those that are there"];
+}
+
+async function noSuchClause(session, [name]) {
+  await session.look();
+  const predicate = session.run.predicateOf(name);
+  const numbers = session.clauses.filter((clause) => clause.predicate === predicate).map(({ number }) => number);
+  return [predicate === undefined ? `${name} is no call, and is stepped without a clause` : `the clauses of ${predicate}: ${numbers.join(", ")}`];
+}
+
+async function noOpenStream(session) {
+  const open = (await session.goals()).filter(({ status }) => status === "stream");
+  return [open.length === 0 ? "no input stream is open; instream(S) in the query makes one" : `open: ${open.map(({ text }) => text.split(" ")[1]).join(", ")}`];
+}
+
+async function notKept(session, [number]) {
+  const shelf = await session.ask("shelf");
+  return shelf.some((line) => line.startsWith(`${Number(number)} `)) ? [`step ${Number(number)} was taken back: redo ${Number(number)} puts it there again`] : ["records lists the kept steps"];
+}
+
+async function hasConsequences(session, [number]) {
+  const all = (await session.look()).consequencesOf(Number(number));
+  return [`roll ${Number(number)} takes it back with all that depends on it: ${some(all).join(",")}${all.length > MOST ? ` (${all.length} steps)` : ""}`];
+}
+
+async function notLawful(session, words, reply) {
+  const [, later, earlier] = /^F21 not lawful: (\d+) (\d+)$/.exec(reply[0]);
+  return [earlier === "0" ? `step ${later} is kept, and is not in the list` : later === earlier ? `${later} is no kept step, or stands twice` : `step ${earlier} depends on step ${later}`];
+}
+
+function noVariable(session, [name = ""]) {
+  const near = nearest(name, session.variables);
+  const all = session.variables.length === 0 ? "the query has no variables" : `the query's variables: ${session.variables.join(", ")}`;
+  const named = session.run.variablesNamed(name);
+  if (named.length > 0) return [`${name} is ${some(named.map((variable) => session.run.labelOf(variable))).join(", ")}`];
+  return [near === undefined ? all : `${near}?  ${all}`];
+}
+
+function noPredicate(session, words, reply) {
+  const [, wanted] = /^F5 undefined (\S+)$/.exec(reply[0]), near = nearest(wanted, session.predicates);
+  return [near === undefined ? `the program's predicates: ${some(session.predicates).join(", ")}` : `${near}?`];
+}
+
+/** Why the text behind `ask` or `in` is refused. */
+function badText(session, meaning, reply) {
+  const text = meaning.line.replace(meaning.name === "in" ? /^in +\S+ +/ : /^ask +/, "");
+  const cause = Causes.causeOf(reply[0], { text, which: meaning.name, isQuery: true, program: session.text });
+  return cause === undefined ? undefined : Causes.linesOf(cause, text);
+}
+
+const HELPERS = {
+  F5: noPredicate, F7: noGoal, F8: noSuchClause, F9: (session, [name]) => whyWaits(session, name), F10: (session, [name, clause]) => whyNoClause(session, name, clause),
+  F11: (session, [name]) => whyNoValue(session, name), F13: (session, [name]) => whyNoValue(session, name), F14: noOpenStream, F16: notKept, F17: hasConsequences,
+  F21: notLawful, F23: noVariable,
+};
+
+/** What helps with a refusal. */
+async function behindRefusal(session, meaning, reply) {
+  const [number] = reply[0].split(" ");
+  if (["ask", "in"].includes(meaning.name)) {
+    const told = badText(session, meaning, reply);
+    if (told !== undefined) return told;
+  }
+  const limit = /^F6 limit: (\w+)$/.exec(reply[0]);
+  if (limit !== null) return [Causes.LIMITS[limit[1]]];
+  const told = await HELPERS[number]?.(session, meaning.words, reply);
+  return told === undefined || told.length === 0 ? [REFUSALS[number]] : told;
+}
+
+async function whyFailed(session, name, refusal) {
+  if (refusal === "F10") return whyNoClause(session, name);
+  return ["F11", "F13"].includes(refusal) ? whyNoValue(session, name) : [REFUSALS[refusal]];
+}
+
+/** What the last line of a run means. */
+async function behindStop(session, line) {
+  const [, reason, name] = line.split(" "), goals = await session.goals();
+  const goal = goals.find((other) => other.name === name);
+  if (reason === "quiet") {
+    const count = goals.filter(({ status }) => status === "waits").length, streams = goals.filter(({ status }) => status === "stream").length;
+    const open = streams > 0 ? [`${plural(streams, "input stream")} open: in K TERM feeds one, end K closes it`] : [];
+    if (count > 0) return [`${plural(count, "goal")} wait${count === 1 ? "s" : ""}: stuck tells why`, ...open];
+    return open.length > 0 ? open : [goals.length === 0 ? "all is done" : "nothing that comes of it is left to do"];
+  }
+  if (reason === "clash" && goal) return [`${goal.text} has failed: ${goal.refusal}`, ...await whyFailed(session, name, goal.refusal)];
+  if (reason === "spied" && goal) return [`next is ${goal.text}: step ${name} takes it`];
+  return reason === "limit" ? ["leap goes on"] : [];
+}
+
+/** Behind SUSP and FAIL lines: for what a goal waits, by the names of the text; why it has failed. */
+async function behindSettling(session, reply) {
+  const told = [];
+  for (const line of reply) {
+    const [port, name, rest] = line.split(" ");
+    if (port === "SUSP" && told.length < MOST) {
+      const names = rest.split(",").filter((variable) => session.run.nameOf(variable) !== undefined);
+      if (names.length > 0) told.push(`${name} waits for ${names.map(labelOf(session)).join(" and ")}`);
+    }
+    if (port === "FAIL") told.push(`${name} has failed: ${rest}`, ...await whyFailed(session, name, rest));
+  }
+  return told;
+}
+
+/** Who could bind a variable that `show` tells to be unbound. */
+async function behindShow(session, reply) {
+  const [, variable] = /^\S+ = (_\d+_\d+)$/.exec(reply[0]) ?? [];
+  if (variable === undefined) return [];
+  const holders = Stuck.holdersOf(await session.goals()).get(variable) ?? [];
+  const held = holders.length === 0 ? "no goal has it" : `held by ${some(holders.map(({ name }) => name)).join(", ")}`;
+  return [`${session.run.labelOf(variable)} is unbound; ${held}`];
+}
+
+function behindGoals(session, reply) {
+  const waited = new Set(reply.flatMap((line) => /^\S+ waits (\S+) /.exec(line)?.[1].split(",") ?? []));
+  const named = [...waited].filter((variable) => session.run.nameOf(variable) !== undefined);
+  return named.length === 0 ? [] : [`waited for: ${some(named.map(labelOf(session))).join(", ")}`];
+}
+
+function behindWho(session, reply) {
+  const named = reply.map((line) => line.split(" ")[0]).filter((variable) => session.run.nameOf(variable) !== undefined);
+  return named.length === 0 ? [] : [some(named.map(labelOf(session))).join(", ")];
+}
+
+/** All that is added behind a reply to a line of the console. */
+async function behind(session, meaning, reply) {
+  if (isRefusal(reply)) return behindRefusal(session, meaning, reply);
+  const last = reply.at(-1) ?? "";
+  if (last.startsWith("stopped ")) return behindStop(session, last);
+  if (meaning.name === "show") return behindShow(session, reply);
+  if (meaning.name === "goals") return behindGoals(session, reply);
+  if (meaning.name === "who") return behindWho(session, reply);
+  return behindSettling(session, reply);
+}
+
+module.exports = { behind, whyNoClause, plural, some };

@@ -1,0 +1,33 @@
+// The words of ghcdb's command line, as far as those must know them who stand before the program. Pure.
+"use strict";
+
+const WITH_VALUE = ["--query", "--load", "--schedule", "--workers"];
+
+/** What the words name: the program's file, and the value of each option. */
+function readWords(words) {
+  const given = { file: undefined, asksOnly: false };
+  for (let at = 0; at < words.length; at += 1) {
+    const word = words[at], sign = word.indexOf("=");
+    const name = sign > 0 && word.startsWith("--") ? word.slice(0, sign) : word;
+    if (["--help", "-h", "--version", "-V"].includes(word)) given.asksOnly = true;
+    else if (!WITH_VALUE.includes(name)) given.file ??= word;
+    else if (name !== word) given[name.slice(2)] = word.slice(sign + 1);
+    else given[name.slice(2)] = words[at += 1];
+  }
+  return given;
+}
+
+/** Do the words ask for a session, in which lines are typed? */
+const isSession = (given) => !given.asksOnly && given.file !== undefined && given.query !== undefined && given.schedule === undefined;
+
+/** The words with which the same session goes on from a history in another file. */
+function wordsFrom(words, history) {
+  const kept = [];
+  for (let at = 0; at < words.length; at += 1) {
+    if (words[at] === "--load") at += 1;
+    else if (!words[at].startsWith("--load=")) kept.push(words[at]);
+  }
+  return [...kept, "--load", history];
+}
+
+module.exports = { readWords, isSession, wordsFrom };
