@@ -18,9 +18,9 @@ const Nearest = (() => {
     return last[other.length];
   }
 
-  /** The nearest word, where no more than a third of its letters differ; else undefined. */
+  /** The nearest word, where no more than a third of its letters differ; else undefined. One letter is near to nothing. */
   function nearest(word, words) {
-    let best, least = Infinity;
+    let best, least = word.length > 1 ? Infinity : 0;
     for (const other of words) {
       const far = distance(word.toLowerCase(), other.toLowerCase());
       if (far < least && far <= Math.max(1, Math.floor(Math.max(word.length, other.length) / 3))) [best, least] = [other, far];

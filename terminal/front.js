@@ -235,15 +235,14 @@ class Front {
     const line = `show ${name}`, was = await this.session.ask(line);
     if (isRefusal(was)) return this.send({ name: "show", words: [name], line }, line);
     let now = was, last = "";
-    for (let taken = 0; taken < MOST_WATCHED && !this.isInterrupted && now[0] === was[0]; taken += 1) {
+    for (let taken = 0; taken < MOST_WATCHED && !this.isInterrupted && isUnbound(now); taken += 1) {
       last = (await this.session.ask("leap 1")).at(-1);
       if (last !== "stopped limit") break;
       now = await this.session.ask(line);
     }
-    now = await this.session.ask(line);
-    this.show(now);
-    if (now[0] !== was[0]) return this.note(`bound by step ${this.session.kept.last}; before it ${was[0]}`);
-    return this.note(this.isInterrupted ? "ended: it is not bound" : `it is not bound: ${last}`);
+    this.show(now = await this.session.ask(line));
+    if (isUnbound(now)) return this.note(this.isInterrupted ? "ended: it is not bound" : `it is not bound: ${last}`);
+    return this.note(isUnbound(was) ? `bound by step ${this.session.kept.last}` : "it is bound already");
   }
 
   async on_save({ words }) {
@@ -281,6 +280,9 @@ class Front {
     this.hasEnded = true;
   }
 }
+
+/** Does a reply to `show` tell a variable that nothing has bound? */
+const isUnbound = ([line]) => / = _\d+_\d+$/.test(line);
 
 function whyNotRead(file) {
   try {

@@ -1,0 +1,58 @@
+// The table of mistakes: on each text the engine refuses what it has to, and the cause is the one of the table.
+"use strict";
+
+const assert = require("node:assert");
+const fs = require("node:fs");
+const path = require("node:path");
+const test = require("node:test");
+const Causes = require("../causes.js");
+const { engineOfPage } = require("../../web/tests/engine_of_page.js");
+const MISTAKES = require("./mistakes.js");
+
+const ROOT = path.join(__dirname, "..", "..");
+const programsIn = (folder) => fs.readdirSync(path.join(ROOT, folder)).filter((name) => name.endsWith(".ghc")).map((name) => path.join(ROOT, folder, name));
+
+/** The cause of what the engine says, or the first note where it accepts the text. */
+function causeOf(said, program, query) {
+  const [, who, refusal] = /^(program|query): (.*)$/.exec(said) ?? [];
+  if (who === undefined) return Causes.notesOn(program, "program")[0];
+  const isQuery = who === "query";
+  return Causes.causeOf(refusal, { text: isQuery ? query : program, which: who, isQuery, program });
+}
+
+test("each mistake is told with its cause", async () => {
+  const { engine } = await engineOfPage();
+  assert.ok(MISTAKES.length >= 66);
+  for (const [what, program, query, said, place, title, hints] of MISTAKES) {
+    const session = engine.open({ program, query });
+    assert.strictEqual(session.start.trim(), said, what);
+    const cause = causeOf(said, program, query);
+    assert.strictEqual(`${cause.which}:${cause.line}:${cause.column}`, place, what);
+    assert.strictEqual(cause.title, title, what);
+    assert.strictEqual(cause.hints.join(" / "), hints, what);
+  }
+});
+
+test("the caret stands below the place, whatever letters and tabs are before it", () => {
+  const program = "p(X) :-\ttrue | X = \"ä\".\n";
+  const cause = Causes.causeOf("F2 syntax at 1:20", { text: program, which: "m.ghc" });
+  const [, , , source, caret] = Causes.linesOf(cause, program);
+  assert.strictEqual(source.indexOf("\""), caret.indexOf("^"));
+  assert.strictEqual(caret.includes("\t"), true);
+  const wide = "% ä\np(ä).\n", at = Causes.linesOf(Causes.causeOf("F2 syntax at 2:3", { text: wide, which: "m.ghc" }), wide);
+  assert.strictEqual(at[3].indexOf("ä"), at[4].indexOf("^"));
+});
+
+test("a cause is told for every text that is cut short", () => {
+  const program = "app([A|X],Y,Z) :- X =\\= 1, true | Z = [A|Z1], N := 1 + 2, app(X,Y,Z1).\n";
+  for (let length = 1; length < program.length - 2; length += 1) {
+    const text = program.slice(0, length), cause = Causes.causeOf(`F2 syntax at 1:${length + 1}`, { text, which: "m.ghc" });
+    assert.ok(cause.title.length > 10 && cause.hints.length > 0, text);
+  }
+});
+
+test("the examples get no note, and of the wrong ones those with a lone variable", () => {
+  for (const file of programsIn("examples")) assert.deepStrictEqual(Causes.notesOn(fs.readFileSync(file, "utf8"), file), [], file);
+  const noted = programsIn("examples/wrong").filter((file) => Causes.notesOn(fs.readFileSync(file, "utf8"), file).length > 0);
+  assert.deepStrictEqual(noted.map((file) => path.basename(file)), ["buffer.ghc", "sieve.ghc"]);
+});

@@ -1,0 +1,244 @@
+#!/usr/bin/env python3
+"""Plays sessions at a pseudo-terminal: what people type who have not read the manual, ^C, ^D, Tab, the tutorial, and examples/wrong.
+
+    python3 terminal/tests/played.py        GHCDB names the native program; without it see terminal/ghcdb
+
+The last line is `N passed, M failed`; the exit status is 1 where a test failed.
+"""
+
+import json
+import os
+import re
+import subprocess
+import sys
+import tempfile
+import time
+import traceback
+from pathlib import Path
+
+sys.path.insert(0, str(Path(__file__).resolve().parent))
+from pseudo_terminal import Terminal  # noqa: E402
+from typed import SESSIONS  # noqa: E402
+
+ROOT = Path(__file__).resolve().parents[2]
+FRONT = str(ROOT / "terminal" / "ghcdb")
+MARK = "% "
+ENDLESS = "p(N) :- true | M := N + 1, p(M).\n"
+
+
+def start(home, *words, wait=30.0):
+    environment = {"HOME": home, "COLUMNS": "220", "GHCDB": os.environ.get("GHCDB", "")}
+    return Terminal(["node", FRONT, *words], environment, wait)
+
+
+def wants(condition, told):
+    if not condition:
+        raise AssertionError(told)
+
+
+def is_met(pattern, lines):
+    """Does a line match? A pattern is text that the line has; with a leading = it is the whole line."""
+    return any(line == pattern[1:] if pattern.startswith("=") else pattern in line for line in lines)
+
+
+def play_typed(home, name):
+    """A session of typed.py: each typed line with what has to be shown."""
+    program, query, lines = SESSIONS[name]
+    terminal = start(home, str(ROOT / program), "--query", query)
+    try:
+        for typed, *patterns in lines:
+            shown = terminal.type(typed)
+            for pattern in patterns:
+                wants(is_met(pattern, shown), f"{typed!r} shows {shown}, without {pattern!r}")
+    finally:
+        terminal.end()
+
+
+def tutorial_rows():
+    told = subprocess.run([sys.executable, str(ROOT / "tests" / "run_rows.py"), "--tell"], capture_output=True, text=True, check=True).stdout
+    return [row for row in map(json.loads, told.splitlines()) if row["name"].startswith("docs/TUTORIAL.md")]
+
+
+def play_row(home, row):
+    """A session of a manual: the lines without the mark are exactly its replies."""
+    with tempfile.TemporaryDirectory() as folder:
+        for name, text in row["files"].items():
+            Path(folder, name).write_text(text)
+        words = [str(Path(folder, word)) if word in row["files"] else word for word in row["words"]]
+        terminal = start(home, *words)
+        try:
+            shown = [line for typed in row["input"].splitlines() for line in terminal.type(typed)]
+        finally:
+            terminal.end()
+    told = [line for line in shown if not line.startswith(MARK)]
+    wants("\n".join(told) + "\n" == row["output"], f"{row['name']}: {told}")
+
+
+def test_greeting_follows_the_program(home):
+    terminal = start(home, str(ROOT / "examples/bill.ghc"), "--query", "bill(12,3,T)")
+    wants(terminal.start.startswith("% Flat GHC. help lists the commands"), terminal.start)
+    terminal.end()
+    refused = start(home, str(ROOT / "examples/bill.ghc"), "--query", "bill(12,3,T")
+    shown = refused.start.splitlines()
+    wants(refused.status == 1 and shown[0] == "query: F2 syntax at 1:12", str(shown))
+    wants(all(line.startswith(MARK) for line in shown[1:]) and "the query ends too early" in shown[1], str(shown))
+
+
+def test_file_that_is_not_there(home):
+    terminal = start(home, "nosuch.ghc", "--query", "true")
+    wants(terminal.start.splitlines() == ["program: F26 device", "% nosuch.ghc: no such file"] and terminal.status == 3, terminal.start)
+
+
+def test_interrupt_at_the_prompt(home):
+    terminal = start(home, str(ROOT / "examples/bill.ghc"), "--query", "bill(12,3,T)")
+    terminal.type("step")
+    terminal.press("garbage\x03")
+    shown = terminal.read()
+    wants("% quit ends; the session stands" in shown, shown)
+    wants(is_met("=1 0.1 by 1 reads - binds - makes 1.1,1.2,1.3", terminal.type("records")), "the session is gone")
+    terminal.end()
+
+
+def test_interrupt_in_a_run(home):
+    with tempfile.TemporaryDirectory() as folder:
+        program = Path(folder, "endless.ghc")
+        program.write_text(ENDLESS)
+        terminal = start(home, str(program), "--query", "p(0)", wait=60.0)
+        terminal.type("leap 3")
+        before = terminal.type("records")
+        terminal.press("leap\r")
+        time.sleep(0.1)
+        terminal.press("\x03")
+        shown = terminal.read()
+        wants("% the run was ended; the session stands as before it" in shown, shown[-500:])
+        wants(terminal.type("records") == before, "the session is another one")
+        wants(is_met("stopped limit", terminal.type("leap 5")), "no run behind it")
+        terminal.end()
+
+
+def test_long_run_is_shortened(home):
+    terminal = start(home, str(ROOT / "examples/primes.ghc"), "--query", "primes(40,Ps)")
+    shown = terminal.type("run")
+    steps = int(terminal.type("stat")[-1].split()[1])
+    wants(len([line for line in shown if line.startswith("REDU ")]) == 30, str(shown))
+    wants(f"% .. {steps - 30} steps more (records shows all) .." in shown, str(shown))
+    wants(shown[0] == "% sent: leap" and shown[-2:] == ["stopped quiet", "% all is done"], str(shown[-3:]))
+    terminal.end()
+
+
+def test_end_of_input_asks_once(home):
+    terminal = start(home, str(ROOT / "examples/bill.ghc"), "--query", "bill(12,3,T)")
+    terminal.type("leap")
+    terminal.press("\x04")
+    shown = terminal.read()
+    wants("% 6 steps kept and not saved: save FILE keeps them; quit again ends" in shown, shown)
+    wants(is_met("T = 150", terminal.type("show T")), "the session is gone")
+    terminal.press("\x04")
+    terminal.read()
+    wants(terminal.status == 0, f"status {terminal.status}")
+
+
+def test_end_of_input_ends_at_once_where_nothing_is_lost(home):
+    terminal = start(home, str(ROOT / "examples/bill.ghc"), "--query", "bill(12,3,T)")
+    terminal.press("\x04")
+    terminal.read()
+    wants(terminal.status == 0, f"status {terminal.status}")
+
+
+def test_save_and_load(home):
+    with tempfile.TemporaryDirectory() as folder:
+        file = str(Path(folder, "run.history"))
+        words = [str(ROOT / "examples/bill.ghc"), "--query", "bill(12,3,T)"]
+        terminal = start(home, *words)
+        terminal.type("leap")
+        wants(is_met(f"saved in {file}", terminal.type(f"save {file}")), "not saved")
+        wants(is_met("is there and is no history", terminal.type(f"save {ROOT / 'README.md'}")), "would be written over")
+        terminal.type("quit")
+        wants(terminal.status == 0, "asks though it is saved")
+        loaded = start(home, *words, "--load", file)
+        wants(is_met("T = 150", loaded.type("T")), "not loaded")
+        wants(is_met("undone 6", loaded.type("back")), "does not know its steps")
+        loaded.end()
+
+
+def test_restart(home):
+    with tempfile.TemporaryDirectory() as folder:
+        program = Path(folder, "bill.ghc")
+        program.write_text((ROOT / "examples/bill.ghc").read_text())
+        terminal = start(home, str(program), "--query", "bill(12,3,T)")
+        terminal.type("leap")
+        program.write_text(program.read_text().replace("N > 0 |", "N > 0, N < 10 |"))
+        wants(is_met("restart again begins anew", terminal.type("restart")), "steps are lost without a word")
+        wants(is_met("Flat GHC.", terminal.type("restart")), "no new beginning")
+        terminal.type("leap")
+        wants(is_met("T = 126", terminal.type("T")), "the old program")
+        terminal.end()
+
+
+def test_tab(home):
+    terminal = start(home, str(ROOT / "examples/bill.ghc"), "--query", "bill(12,3,Total)")
+    for line, wanted in [("lea", "leap"), ("step ", "step 0.1"), ("show T", "show Total"), ("spy pr", "spy price/2")]:
+        wants(terminal.complete(line).rstrip() == wanted, f"{line!r} becomes {terminal.complete(line)!r}")
+    terminal.type("step")
+    wants(terminal.complete("undo ").rstrip() == "undo 1", "no kept step is offered")
+    terminal.end()
+
+
+def test_history_is_kept(home):
+    terminal = start(home, str(ROOT / "examples/bill.ghc"), "--query", "bill(12,3,T)")
+    terminal.type("show T")
+    terminal.end()
+    again = start(home, str(ROOT / "examples/bill.ghc"), "--query", "bill(12,3,T)")
+    again.press("\x1b[A\r")
+    wants("T = _0_1" in again.read(), "the line before is not there")
+    again.end()
+
+
+def test_note_on_a_lone_variable(home):
+    terminal = start(home, str(ROOT / "examples/wrong/buffer.ghc"), "--query", "go(5,Sum)")
+    wants("% note: Tai1 stands once in clause 6" in terminal.start and "is it Tail1?" in terminal.start, terminal.start)
+    terminal.end()
+
+
+def test_on_a_pipe_nothing_is_added(home):
+    program = os.environ.get("GHCDB") or str(ROOT / "crates/ghcdb/out/ghcdb")
+    if not os.access(program, os.X_OK):
+        return
+    words = [str(ROOT / "examples/append.ghc"), "--query", "append([1],[2],R)"]
+    lines = "help\nstep\nR\nleap\nundo\nshow R\n\n\xff\n".encode("latin-1")
+    alone = subprocess.run([program, *words], input=lines, capture_output=True)
+    front = subprocess.run(["node", FRONT, *words], input=lines, capture_output=True, env={**os.environ, "GHCDB": program})
+    wants((front.stdout, front.stderr, front.returncode) == (alone.stdout, alone.stderr, alone.returncode), str(front))
+
+
+def tests():
+    """All tests, each with its name."""
+    for name, test in sorted(globals().items()):
+        if name.startswith("test_"):
+            yield name, test
+    for name in SESSIONS:
+        yield f"typed: {name}", lambda home, name=name: play_typed(home, name)
+    for row in tutorial_rows():
+        yield row["name"], lambda home, row=row: play_row(home, row)
+
+
+def main():
+    passed = failed = 0
+    for name, test in tests():
+        if not re.search(sys.argv[1] if len(sys.argv) > 1 else "", name):
+            continue
+        with tempfile.TemporaryDirectory() as home:
+            try:
+                test(home)
+                passed += 1
+            except (AssertionError, TimeoutError, OSError) as error:
+                failed += 1
+                print(f"failed: {name}: {error}")
+                if not isinstance(error, AssertionError):
+                    traceback.print_exc()
+    print(f"{passed} passed, {failed} failed")
+    sys.exit(1 if failed or not passed else 0)
+
+
+if __name__ == "__main__":
+    main()

@@ -1,0 +1,81 @@
+"""A program at a pseudo-terminal: keys are typed, and what is shown up to the next prompt is read."""
+
+import fcntl
+import os
+import pty
+import re
+import select
+import signal
+import struct
+import termios
+import time
+
+PROMPT = b"> \x1b[3G"  # how the line editor shows the prompt, and waits
+CONTROLS = re.compile(r"\x1b\[[0-9;?]*[A-Za-z]")
+ROWS, COLUMNS = 50, 220  # so wide that no line of a test is broken
+
+
+class Terminal:
+    def __init__(self, words, environment, wait=30.0):
+        self.wait = wait
+        self.child, self.device = pty.fork()
+        if self.child == 0:
+            os.environ.update(environment, TERM="xterm")
+            os.execvp(words[0], words)
+        fcntl.ioctl(self.device, termios.TIOCSWINSZ, struct.pack("HHHH", ROWS, COLUMNS, 0, 0))
+        self.status = None
+        self.start = self.read()
+
+    def read(self, until=PROMPT):
+        """What is shown up to a prompt, or up to the program's end."""
+        shown, end = b"", time.monotonic() + self.wait
+        while time.monotonic() < end:
+            ready, _, _ = select.select([self.device], [], [], 0.5)
+            if not ready:
+                continue
+            try:
+                piece = os.read(self.device, 65536)
+            except OSError:
+                piece = b""
+            if piece == b"":
+                self.status = os.waitstatus_to_exitcode(os.waitpid(self.child, 0)[1])
+                return text_of(shown)
+            shown += piece
+            if shown.endswith(until):
+                return text_of(shown)
+        raise TimeoutError(f"no prompt behind {text_of(shown)[-300:]!r}")
+
+    def press(self, keys):
+        os.write(self.device, keys.encode())
+
+    def type(self, line):
+        """Types a line, and gives the lines that are shown up to the next prompt."""
+        self.press(line + "\r")
+        shown = self.read()
+        return shown.split("\n")[1:-1] if self.status is None else shown.split("\n")[1:]
+
+    def complete(self, line):
+        """Types the beginning of a line and the Tab key; what stands in the line then. The line is dropped again."""
+        self.press(line + "\t")
+        shown, quiet = b"", time.monotonic() + 0.25
+        while time.monotonic() < quiet:
+            if select.select([self.device], [], [], 0.05)[0]:
+                shown += os.read(self.device, 65536)
+                quiet = time.monotonic() + 0.25
+        self.press("\x15")
+        self.read_quietly()
+        return text_of(shown).split("> ")[-1].strip("\n")
+
+    def read_quietly(self):
+        while select.select([self.device], [], [], 0.1)[0]:
+            os.read(self.device, 65536)
+
+    def end(self):
+        if self.status is None:
+            os.kill(self.child, signal.SIGKILL)
+            os.waitpid(self.child, 0)
+        os.close(self.device)
+
+
+def text_of(shown):
+    return CONTROLS.sub("", shown.decode("utf-8", "replace")).replace("\r", "")
