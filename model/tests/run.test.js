@@ -53,7 +53,7 @@ test("goals are as the console wrote them, also where a run told none of them", 
       compared += 1;
     }
   }
-  assert.ok(compared > 1000, `${compared} goals`);
+  assert.ok(compared > 900, `${compared} goals`);
 });
 
 test("clauses say what the console says of them", async () => {

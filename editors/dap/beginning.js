@@ -1,0 +1,157 @@
+// Requests with which a session begins and ends, and those that set breakpoints.
+"use strict";
+
+const fs = require("node:fs");
+const path = require("node:path");
+const Causes = require("../../model/causes.js");
+const { Ended } = require("../../terminal/program.js");
+const { Session } = require("../../terminal/session.js");
+const { Inside } = require("./inside.js");
+const { Places, queryOf } = require("./places.js");
+const { Processes } = require("./processes.js");
+const { refused } = require("./refused.js");
+
+const FILTERS = [{ filter: "stuck", label: "Goals wait, and none is ready", default: true }];
+const CAN = ["ConfigurationDoneRequest", "FunctionBreakpoints", "ConditionalBreakpoints", "HitConditionalBreakpoints", "LogPoints", "DataBreakpoints", "EvaluateForHovers",
+  "StepBack", "RestartFrame", "RestartRequest", "GotoTargetsRequest", "StepInTargetsRequest", "CompletionsRequest", "SetVariable", "SetExpression", "LoadedSourcesRequest",
+  "ExceptionInfoRequest", "TerminateRequest", "SingleThreadExecutionRequests", "BreakpointLocationsRequest"];
+
+/** The words of ghcdb's command line for a launch configuration. */
+function wordsOf({ load, workers }, program, query) {
+  return [program, "--query", query, ...(load ? ["--load", load] : []), ...(workers ? ["--workers", String(workers)] : [])];
+}
+
+/** Why ghcdb refused program or query, as the editor's user is told. */
+function whyRefused({ errors }, program, query, file) {
+  const [, who, refusal] = /^(program|query): (F\d+ .*)$/m.exec(errors) ?? [], isQuery = who === "query", text = isQuery ? query : program;
+  const cause = who && Causes.causeOf(refusal, { text, which: isQuery ? "query" : path.basename(file), isQuery, program });
+  return [errors.trim(), ...(cause ? Causes.linesOf(cause, text) : [])].join("\n");
+}
+
+/** The breakpoints of an editor's list, each made by `make`, which gives none or why there is none. */
+function answers(adapter, list, make) {
+  return (list ?? []).map((given) => {
+    const made = make(given);
+    if (typeof made !== "string") return made;
+    return { id: adapter.breakpoints.last += 1, verified: false, message: made };
+  });
+}
+
+module.exports = {
+  on_initialize({ linesStartAt1 = true }) {
+    this.first = linesStartAt1 ? 1 : 0;
+    return { ...Object.fromEntries(CAN.map((name) => [`supports${name}`, true])), exceptionBreakpointFilters: FILTERS };
+  },
+
+  async on_launch(given) {
+    await this.launch(given);
+    this.later(() => this.event("initialized"));
+  },
+
+  async launch(given) {
+    if (typeof given.program !== "string") throw refused("no program: give `program` in the launch configuration");
+    const file = path.resolve(given.program), program = fs.readFileSync(file, "utf8"), query = given.query || queryOf(program);
+    if (query === undefined) throw refused("no query: give `query` in the launch configuration, or a comment `% Query: ..` in the program");
+    this.given = given;
+    this.slice = Number(given.slice ?? 1000);
+    this.session = new Session(wordsOf(given, file, query), this.native);
+    try {
+      await this.session.begin();
+    } catch (error) {
+      throw error instanceof Ended ? refused(whyRefused(error, program, query, file)) : error;
+    }
+    this.places = new Places(file, program, query, this.first);
+    this.processes = new Processes(this.session);
+    this.inside = new Inside(this.session);
+    this.live = new Set();
+    this.breakpoints.spied = new Set();
+    this.later(() => this.tell(Causes.notesOn(program, path.basename(file)).flatMap((cause) => Causes.linesOf(cause, program)), "important"));
+  },
+
+  on_attach() {
+    throw refused("there is nothing to attach to: use launch");
+  },
+
+  on_configurationDone() {
+    this.later(() => (this.given.stopOnEntry === false ? this.forward() : this.stopped("entry", "before the first step")));
+  },
+
+  async on_restart({ arguments: given }) {
+    await this.session.end();
+    await this.launch(given ?? this.given);
+    await this.breakpoints.spy(this.session);
+    this.later(() => this.stopped("entry", "begun anew"));
+  },
+
+  clauseAt(line) {
+    return this.session.clauses.find((clause) => clause.line <= line && line <= clause.endLine);
+  },
+
+  on_breakpointLocations({ line, endLine = line }) {
+    const [from, to] = [line, endLine].map((number) => this.places.meant(number));
+    const found = this.session.clauses.filter((clause) => clause.line <= to && clause.endLine >= from);
+    return { breakpoints: found.map((clause) => ({ line: this.places.shown(clause.line) })) };
+  },
+
+  async on_setBreakpoints({ source, breakpoints }) {
+    const isOurs = source.path !== undefined && path.resolve(source.path) === this.places.file, points = [];
+    const answered = answers(this, breakpoints, (given) => {
+      const clause = isOurs ? this.clauseAt(this.places.meant(given.line)) : undefined;
+      if (clause === undefined) return "no clause stands here";
+      const point = this.breakpoints.made("clause", { ...given, own: { predicate: clause.predicate, clause: clause.number } });
+      points.push(point);
+      return { id: point.id, verified: true, line: this.places.shown(clause.line), source: this.places.source(), message: `stops before a goal to which clause ${clause.number} says yes` };
+    });
+    if (isOurs) this.breakpoints.clauses = points;
+    await this.breakpoints.spy(this.session);
+    return { breakpoints: answered };
+  },
+
+  async on_setFunctionBreakpoints({ breakpoints }) {
+    const points = [], { predicates } = this.session;
+    const answered = answers(this, breakpoints, (given) => {
+      const found = predicates.filter((predicate) => predicate === given.name || predicate.split("/")[0] === given.name);
+      if (found.length === 0) return `no such predicate; there are: ${predicates.join(", ")}`;
+      const made = found.map((predicate) => this.breakpoints.made("predicate", { ...given, own: { predicate } }));
+      points.push(...made);
+      return { id: made[0].id, verified: true };
+    });
+    this.breakpoints.predicates = points;
+    await this.breakpoints.spy(this.session);
+    return { breakpoints: answered };
+  },
+
+  on_setExceptionBreakpoints({ filters }) {
+    this.breakpoints.stopsWhereStuck = filters.includes("stuck");
+    return { breakpoints: filters.map(() => ({ verified: true })) };
+  },
+
+  async on_dataBreakpointInfo({ name, variablesReference, frameId }) {
+    const term = await this.inside.termNamed(name, variablesReference ?? frameId) ?? await this.termShown(name, variablesReference);
+    if (term?.variable === undefined) return { dataId: null, description: `${name} is no variable of the run` };
+    return { dataId: term.variable, description: `${term.variable}: forwards, where it is bound; backwards, before the step that bound it`, accessTypes: ["write"], canPersist: false };
+  },
+
+  on_setDataBreakpoints({ breakpoints }) {
+    this.breakpoints.variables = (breakpoints ?? []).map(({ dataId }) => ({ id: this.breakpoints.last += 1, variable: dataId }));
+    return { breakpoints: this.breakpoints.variables.map(({ id }) => ({ id, verified: true })) };
+  },
+
+  async on_disconnect() {
+    await this.session?.end();
+    this.later(() => this.leave());
+  },
+
+  async on_terminate() {
+    await this.session?.end();
+    this.later(() => this.event("terminated"));
+  },
+
+  // For a picture: what the page's picture is drawn of.
+  async on_ghcdb_graph() {
+    const [records, goals, shelf] = [await this.session.ask("records"), await this.session.ask("goals"), await this.session.ask("shelf")];
+    const run = await this.session.look(), texts = {};
+    for (const { number, goal } of this.session.kept.steps.values()) texts[number] = run.textOf(goal);
+    return { records, goals, shelf, texts };
+  },
+};

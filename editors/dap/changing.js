@@ -1,0 +1,62 @@
+// Requests that change a session otherwise than by a step of a process: lines of the console, values given by hand, undo, roll, redo.
+"use strict";
+
+const { isRefusal } = require("../../terminal/session.js");
+const { behind } = require("../../terminal/telling.js");
+const { suggestion, NAMES } = require("../../terminal/commands.js");
+const { goalsMade } = require("./told.js");
+const { refused } = require("./refused.js");
+
+module.exports = {
+  /** A line of the console as it was typed; where it changed the session, the editor hears of a stop. */
+  async typed(line, word) {
+    const before = this.session.kept.changes, reply = await this.session.ask(line);
+    if (reply[0] === "F25 command" && !NAMES.includes(word)) throw refused(suggestion(word));
+    if (!isRefusal(reply)) {
+      if (this.session.kept.changes !== before) this.later(() => this.stopped("step", line));
+      return reply;
+    }
+    return [...reply, ...await behind(this.session, { name: word, words: line.split(/ +/).slice(1), line }, reply)];
+  },
+
+  /** An unbound variable is bound by goals asked for: a step like any other, which can be taken back. */
+  async on_setVariable({ variablesReference, name, value }) {
+    return this.bind(await this.termShown(name, variablesReference) ?? await this.inside.termNamed(name, variablesReference), value);
+  },
+
+  async on_setExpression({ expression, value, frameId }) {
+    return this.bind(await this.inside.termNamed(expression, frameId), value);
+  },
+
+  async bind(term, value) {
+    const run = await this.session.look(), end = term && run.endOf(term);
+    if (term?.variable === undefined) throw refused("this is no variable");
+    if (end.variable === undefined) throw refused(`${run.labelOf(term.variable)} is bound: take back the step that bound it (who ${term.variable}), then set it`);
+    const asked = await this.change(`ask ${end.variable} = ${value}`), [goal] = goalsMade(asked);
+    const reply = await this.session.ask(`step ${goal}`);
+    if (isRefusal(reply)) {
+      await this.session.ask(`undo ${/^REDU (\d+)/.exec(asked[0])[1]}`);
+      throw refused(reply[0]);
+    }
+    this.tell(reply);
+    this.later(() => this.stopped("step", `${run.labelOf(end.variable)} was bound by hand`));
+    return { value };
+  },
+
+  on_ghcdb_undo({ step }) {
+    return this.changed(`undo ${step}`);
+  },
+
+  on_ghcdb_roll({ step }) {
+    return this.changed(`roll ${step}`);
+  },
+
+  on_ghcdb_redo({ step }) {
+    return this.changed(`redo ${step}`);
+  },
+
+  async changed(line) {
+    await this.change(line);
+    this.later(() => this.stopped("step", line));
+  },
+};

@@ -1,0 +1,129 @@
+// Requests that look at a stop and change nothing: threads, frames, scopes, variables, texts, values.
+"use strict";
+
+const path = require("node:path");
+const Choices = require("../../model/choices.js");
+const Own = require("../../terminal/own.js");
+const Stuck = require("../../model/stuck.js");
+const { NAMES, commandOf, helpLines } = require("../../terminal/commands.js");
+const { completionsOf } = require("../../terminal/complete.js");
+const { whyNoClause } = require("../../terminal/telling.js");
+const { QUERY, STEPS, SHELF } = require("./places.js");
+const { refused } = require("./refused.js");
+
+const MOST_THREADS = 1000, MOST_FRAMES = 200, LONGEST_NAME = 300;
+
+const statusOf = ({ status, waitsFor, refusal }) => `${status}${waitsFor.length > 0 ? ` for ${waitsFor.join(", ")}` : ""}${refusal ? ` ${refusal}` : ""}`;
+
+module.exports = {
+  async on_threads() {
+    const threads = new Map();
+    for (const goal of await this.look()) {
+      const id = this.processes.of(goal.name);
+      if (!threads.has(id) && threads.size < MOST_THREADS) threads.set(id, { id, name: `${goal.name} ${goal.text.slice(0, 60)}   ${statusOf(goal)}` });
+    }
+    const all = [...threads.values()].sort((one, other) => one.id - other.id);
+    return { threads: all.length > 0 ? all : [{ id: 1, name: "all is done" }] };
+  },
+
+  async on_stackTrace({ threadId, startFrame = 0, levels }) {
+    const goal = await this.goalOf(threadId), { run } = this.session;
+    if (goal === undefined) return { stackFrames: [{ id: this.inside.reference("done"), name: "all is done", ...this.places.spotOf(undefined) }], totalFrames: 1 };
+    const steps = [];
+    for (let step = run.makerOf(goal.name); step !== undefined; step = step.goal === null ? undefined : run.makerOf(step.goal)) steps.push(step);
+    const shown = [goal, ...steps].slice(startFrame, startFrame + (levels || MOST_FRAMES));
+    if (shown.some(({ name, goal: consumed }) => name === undefined && consumed !== null && run.textOf(consumed) === "")) await this.session.look();
+    return { stackFrames: shown.map((one) => (one === goal ? this.frameOfGoal(goal) : this.frameOfStep(one))), totalFrames: steps.length + 1 };
+  },
+
+  frameOfGoal(goal) {
+    return { id: this.inside.reference("goal", goal), name: goal.text.slice(0, LONGEST_NAME), ...this.places.spotOf(this.session.run.placeOf(goal.name)) };
+  },
+
+  frameOfStep({ number, goal, act }) {
+    const { run } = this.session, text = goal === null ? "" : `${run.textOf(goal) || goal} `;
+    const place = goal === null ? undefined : run.placeOf(goal);
+    return { id: this.inside.reference("step", number), name: `step ${number}: ${text.slice(0, LONGEST_NAME)}${act}`, canRestart: true, ...this.places.spotOf(place) };
+  },
+
+  on_scopes({ frameId }) {
+    if (this.inside.referred(frameId) === undefined) throw refused("this frame is of a stop that is over");
+    return { scopes: this.inside.scopesOf(frameId) };
+  },
+
+  async on_variables({ variablesReference, start = 0, count }) {
+    const variables = await this.inside.variablesOf(variablesReference);
+    if (variables === undefined) throw refused("this is of a stop that is over");
+    return { variables: variables.slice(start, count ? start + count : undefined) };
+  },
+
+  /** The term of a variable that is shown in a scope under a name. */
+  async termShown(name, reference) {
+    const shown = reference === undefined ? undefined : (await this.inside.variablesOf(reference))?.find((variable) => variable.name === name);
+    return shown?.evaluateName === undefined ? undefined : { variable: shown.evaluateName };
+  },
+
+  async on_exceptionInfo() {
+    const goals = await this.session.goals(), failed = goals.find(({ status }) => status === "failed");
+    if (failed === undefined) return { exceptionId: "stuck", description: Stuck.linesOf(goals, (variable) => this.session.run.labelOf(variable)).join("\n"), breakMode: "always" };
+    const why = failed.refusal === "F10" ? await whyNoClause(this.session, failed.name) : [];
+    return { exceptionId: `failed ${failed.refusal}`, description: [`${failed.name} ${failed.text}`, ...why].join("\n"), breakMode: "always" };
+  },
+
+  async on_stepInTargets({ frameId }) {
+    const { kind, what } = this.inside.referred(frameId) ?? {};
+    const choices = kind === "goal" ? Choices.choicesOf(await this.session.look(), what.name) : [];
+    return { targets: choices.filter(({ says }) => says === "yes").map(({ clause }) => ({ id: clause.number, label: `clause ${clause.number}: ${clause.text.replace(/\s+/g, " ").slice(0, 90)}` })) };
+  },
+
+  async on_gotoTargets({ source, line }) {
+    const isOurs = source?.path === undefined || path.resolve(source.path) === this.places.file;
+    const clause = isOurs ? this.clauseAt(this.places.meant(line)) : undefined, run = await this.session.look();
+    const steps = [...this.session.kept.steps.values()].filter((step) => clause !== undefined && step.clause === clause.number).reverse().slice(0, 50);
+    return { targets: steps.map(({ number, goal }) => ({ id: number, label: `before step ${number}: ${run.textOf(goal).slice(0, 80)}`, line: this.places.shown(clause.line) })) };
+  },
+
+  async on_completions({ text, column }) {
+    const line = text.slice(0, this.places.meant(column) - 1), { words, begun } = await completionsOf(this.session, line);
+    return { targets: words.slice(0, 100).map((word) => ({ label: word.trim(), start: line.length - begun.length, length: begun.length })) };
+  },
+
+  on_loadedSources() {
+    return { sources: [this.places.source(), ...[QUERY, STEPS, SHELF].map((reference) => this.places.virtual(reference))] };
+  },
+
+  async on_source({ source, sourceReference = source?.sourceReference }) {
+    if (sourceReference === QUERY) return { content: this.session.given.query };
+    if (sourceReference === SHELF) return { content: (await this.session.ask("shelf")).map((line) => `${line}\n`).join("") };
+    if (sourceReference !== STEPS) throw refused("no such text");
+    const run = await this.session.look(), lines = [];
+    for (const { number, goal, act } of this.session.kept.steps.values()) lines.push(`${String(number).padStart(5)} ${goal === null ? "" : run.textOf(goal)}   ${act}\n`);
+    return { content: lines.join("") };
+  },
+
+  /** A variable's value; in the console also each line of ghcdb's, and some commands of the terminal. */
+  async on_evaluate({ expression, context, frameId }) {
+    const line = expression.trim(), term = /^[A-Z_]\w*$/.test(line) ? await this.inside.termNamed(line, frameId) : undefined;
+    if (term !== undefined) {
+      const { value, type, variablesReference } = this.inside.variable(line, term);
+      return { result: value, variablesReference, ...(type && { type }) };
+    }
+    if (context === "hover" || context === "watch") throw refused(`${line} is no variable here`);
+    return { result: (await this.consoleLine(line)).join("\n"), variablesReference: 0 };
+  },
+
+  /** The lines that a line of the editor's console is answered by. */
+  async consoleLine(line) {
+    const [word, ...words] = line.split(/ +/), name = NAMES.includes(word) ? word : undefined;
+    if (commandOf(word) === "help") return helpLines(words);
+    if (["stuck", "stat"].includes(name)) return Own[name](this.session, words);
+    if (["holders", "list"].includes(name) && words.length < 2) return Own[name](this.session, words);
+    if (["goal", "clauses", "explain"].includes(name) && words.length === 1) return this.askFirst(name, line, words);
+    return this.typed(line, word);
+  },
+
+  async askFirst(name, line, words) {
+    const reply = await this.session.ask(line);
+    return reply[0] === "F25 command" ? Own[name](this.session, words) : reply;
+  },
+};
