@@ -128,8 +128,8 @@ class Adapter {
     this.inside.forget();
     const shown = goals.find(({ status }) => status === "failed") ?? goals.find(({ status }) => status === "ready") ?? goals[0];
     const isThere = thread !== undefined && this.live.has(thread);
-    const threadId = isThere ? thread : shown === undefined ? 1 : this.processes.of(shown.name);
-    this.event("stopped", { reason, description: text, text, threadId, allThreadsStopped: true, ...(hit && { hitBreakpointIds: [hit.id] }) });
+    this.shown = isThere ? thread : shown === undefined ? 1 : this.processes.of(shown.name);
+    this.event("stopped", { reason, description: text, text, threadId: this.shown, allThreadsStopped: true, ...(hit && { hitBreakpointIds: [hit.id] }) });
   }
 
   /** Sends a line that changes the session; where it is refused, the request is. */

@@ -13,7 +13,7 @@ module.exports = {
     const before = this.session.kept.changes, reply = await this.session.ask(line);
     if (reply[0] === "F25 command" && !NAMES.includes(word)) throw refused(suggestion(word));
     if (!isRefusal(reply)) {
-      if (this.session.kept.changes !== before) this.later(() => this.stopped("step", line));
+      if (this.session.kept.changes !== before) this.later(() => this.stoppedAnew(line));
       return reply;
     }
     return [...reply, ...await behind(this.session, { name: word, words: line.split(/ +/).slice(1), line }, reply)];
@@ -39,7 +39,7 @@ module.exports = {
       throw refused(reply[0]);
     }
     this.tell(reply);
-    this.later(() => this.stopped("step", `${run.labelOf(end.variable)} was bound by hand`));
+    this.later(() => this.stoppedAnew(`${run.labelOf(end.variable)} was bound by hand`));
     return { value };
   },
 
@@ -57,6 +57,12 @@ module.exports = {
 
   async changed(line) {
     await this.change(line);
-    this.later(() => this.stopped("step", line));
+    this.later(() => this.stoppedAnew(line));
+  },
+
+  /** A stop to which no request for a step has led: the editor hears first that the process that it shows went on. */
+  stoppedAnew(text) {
+    this.event("continued", { threadId: this.shown, allThreadsContinued: true });
+    return this.stopped("step", text);
   },
 };

@@ -67,6 +67,7 @@ module.exports = {
     const thread = this.processes.of(name);
     if (hit !== undefined) return [hit.kind === "predicate" ? "function breakpoint" : "breakpoint", `${name} ${this.session.run.textOf(name)}`, { thread, hit }];
     const reply = await this.session.ask(`step ${name}`);
+    this.tell(reply.filter((line) => line.startsWith("REDU ")));
     return isRefusal(reply) ? ["pause", reply[0], { thread }] : undefined;
   },
 

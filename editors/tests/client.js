@@ -45,8 +45,9 @@ function check(value, form, where) {
 }
 
 class Client {
-  constructor() {
-    this.child = spawn(process.execPath, [ADAPTER], { stdio: ["pipe", "pipe", "inherit"] });
+  /** Starts the adapter, that of the repository where no other is named. */
+  constructor({ adapter = ADAPTER, env = {}, cwd } = {}) {
+    this.child = spawn(process.execPath, [adapter], { stdio: ["pipe", "pipe", "inherit"], env: { ...process.env, ...env }, cwd });
     this.sent = 0;
     this.answers = new Map();
     this.events = [];
