@@ -3,7 +3,6 @@
 
 const fs = require("node:fs");
 const { parentPort, workerData } = require("node:worker_threads");
-const { engineOfPage } = require("../web/tests/engine_of_page.js");
 const { readWords } = require("./words.js");
 
 const encode = (text) => new TextEncoder().encode(text);
@@ -22,9 +21,9 @@ function filesOf(words) {
   return files;
 }
 
-async function main() {
-  const { words } = workerData, { engine } = await engineOfPage();
-  const run = engine.start({ words: words.map(encode), files: filesOf(words) });
+function main() {
+  const { words, scripts, compiled } = workerData, Engine = new Function(`${scripts}\nreturn Engine;`)();
+  const run = new Engine(compiled).start({ words: words.map(encode), files: filesOf(words) });
   const tellEnd = () => {
     const errors = decode(run.takeErrors()) + (run.broken === undefined ? "" : `the engine stopped: ${run.broken}\n`);
     parentPort.postMessage({ errors, status: run.status ?? 70 });
@@ -32,7 +31,7 @@ async function main() {
   };
   if (!run.waits) return tellEnd();
   parentPort.on("message", (line) => {
-    run.give(encode(`${line}\n`));
+    run.give(Buffer.concat([Buffer.from(line), Buffer.from("\n")]));
     if (!run.waits) return tellEnd();
     return parentPort.postMessage({ reply: decode(run.takeOutput()).split("\n").slice(0, -1) });
   });

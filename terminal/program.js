@@ -6,6 +6,7 @@ const fs = require("node:fs");
 const path = require("node:path");
 const { spawn } = require("node:child_process");
 const { Worker } = require("node:worker_threads");
+const { scriptOf, PAGE } = require("../web/tests/engine_of_page.js");
 
 const NATIVE = path.join(__dirname, "..", "crates", "ghcdb", "out", "ghcdb");
 
@@ -64,12 +65,12 @@ class NativeSession {
     resolve(text.slice(0, -MARK_REPLY.length - 1).split("\n"));
   }
 
-  /** The lines of the reply to a line, which has a word at least. One line at a time. */
+  /** The lines of the reply to a line, a text or bytes, which has a word at least. One line at a time. */
   ask(line) {
     if (this.ended) return Promise.reject(this.ended);
     return new Promise((resolve, reject) => {
       this.waiting = { resolve, reject };
-      this.child.stdin.write(`${line}\n${MARK}\n`);
+      this.child.stdin.write(Buffer.concat([Buffer.from(line), Buffer.from(`\n${MARK}\n`)]));
     });
   }
 
@@ -86,9 +87,21 @@ class NativeSession {
   }
 }
 
+/** What the page carries: the scripts of the engine, and its module, which is compiled once. */
+const ofPage = (() => {
+  let made;
+  return () => {
+    if (made !== undefined) return made;
+    const page = fs.readFileSync(PAGE, "utf8"), script = (name) => scriptOf(page, name);
+    const bytes = new Function(`${script("module.js")}\nreturn MODULE;`)();
+    made = { scripts: ["heap.js", "host.js", "engine.js"].map(script).join("\n"), compiled: new WebAssembly.Module(Buffer.from(bytes, "base64")) };
+    return made;
+  };
+})();
+
 class EngineSession {
   constructor(words) {
-    this.worker = new Worker(path.join(__dirname, "engine_thread.js"), { workerData: { words } });
+    this.worker = new Worker(path.join(__dirname, "engine_thread.js"), { workerData: { words, ...ofPage() } });
     this.waiting = undefined;
     this.worker.on("message", (told) => this.hear(told));
     this.worker.on("error", (error) => this.close(new Ended(error.message, 70)));

@@ -12,7 +12,7 @@ const Run = require("../model/run.js");
 const Program = require("./program.js");
 const { readWords, wordsFrom } = require("./words.js");
 
-const isRefusal = (reply) => /^F\d+ /.test(reply[0] ?? "");
+const isRefusal = (reply) => /^F\d+ (?!= )/.test(reply[0] ?? ""); // `F1 = 2` is the value of a variable
 
 /** The text of a file; empty where it cannot be read, which ghcdb tells. */
 function textOf(file) {
@@ -61,7 +61,7 @@ class Session {
   /** The lines of the reply to a line. */
   async ask(line) {
     const reply = await this.program.ask(line);
-    this.kept.learn(line, reply);
+    this.kept.learn(String(line), reply);
     return reply;
   }
 

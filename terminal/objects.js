@@ -1,0 +1,63 @@
+// Replies as objects, for programs that read JSON. Pure.
+"use strict";
+
+const Graph = require("../web/graph.js");
+const { isRefusal } = require("./session.js");
+
+const CHANGES = new Set(["step", "leap", "skip", "in", "end", "ask", "undo", "roll", "redo", "arrange", "keep"]);
+
+/** A line of a port. */
+function port(line) {
+  const [name, second, third, ...rest] = line.split(" ");
+  if (name === "REDU") return { port: name, step: Number(second), goal: third === "-" ? null : third, act: rest.join(" ") };
+  if (name === "CALL") return { port: name, goal: second, text: line.slice(`CALL ${second} `.length) };
+  if (name === "SUSP") return { port: name, goal: second, waitsFor: third.split(",") };
+  return name === "FAIL" ? { port: name, goal: second, refusal: third } : { port: name, goal: second };
+}
+
+/** What the reply to a line that changes the session tells. */
+function change(reply) {
+  const told = { ports: [] };
+  for (const line of reply) {
+    if (line.startsWith("undone ")) told.undone = [...(told.undone ?? []), ...line.slice("undone ".length).split(",").map(Number)];
+    else if (line.startsWith("stopped ")) told.stopped = line.slice("stopped ".length);
+    else if (/^(REDU|CALL|RESU|SUSP|FAIL) /.test(line)) told.ports.push(port(line));
+    else told.told = line;
+  }
+  return told;
+}
+
+/** A kept step, with the text of the goal that it consumed. */
+function step({ number, goal, act, clause, reads, binds, makes }, textOf) {
+  return { step: number, goal, text: goal === null ? null : textOf(goal), act, ...(clause !== null && { clause }), reads, binds: Object.fromEntries(binds.map(({ variable, term }) => [variable, term])), makes };
+}
+
+function goal({ name, status, waitsFor, refusal, text }) {
+  return { goal: name, status, ...(waitsFor.length > 0 && { waitsFor }), ...(refusal && { refusal }), text };
+}
+
+function cause(line) {
+  const [number, kind, variable, woke] = line.split(" ");
+  return { step: Number(number), kind, ...(variable && { variable }), ...(woke && { woke: true }) };
+}
+
+const told = (reply) => (reply[0] === "none" ? [] : reply);
+
+const REPLIES = {
+  records: (reply, textOf) => ({ steps: Graph.readRecords(reply).map((record) => step(record, textOf)) }),
+  goals: (reply) => ({ goals: Graph.readGoals(reply).map(goal) }),
+  show: ([line]) => ({ variable: line.slice(0, line.indexOf(" ")), value: line.slice(line.indexOf(" = ") + 3) }),
+  why: (reply) => ({ causes: told(reply).map(cause) }),
+  who: (reply) => ({ bound: told(reply).map((line) => line.split(" by ")).map(([variable, number]) => ({ variable, step: Number(number) })) }),
+  shelf: (reply) => ({ steps: Graph.readShelf(reply).map(({ number, goal: name, act }) => ({ step: number, goal: name, act })) }),
+};
+
+/** The object of a line and its reply. `textOf` gives the text of a goal by its name. */
+function objectOf(line, reply, textOf) {
+  const [word] = line.trim().split(/ +/), start = { command: line, ok: !isRefusal(reply) };
+  if (!start.ok) return { ...start, refused: reply[0] };
+  if (CHANGES.has(word)) return { ...start, ...change(reply) };
+  return { ...start, ...(REPLIES[word]?.(reply, textOf) ?? { lines: reply }) };
+}
+
+module.exports = { objectOf };
