@@ -132,7 +132,7 @@ const Run = ((Graph, Reader, Print) => {
         if (!pattern.arguments?.length) continue;
         const end = this.endOf(term);
         if (end.name !== pattern.name || end.arguments.length !== pattern.arguments.length) continue;
-        pattern.arguments.forEach((argument, place) => left.push([argument, end.arguments[place]]));
+        left.push(...pattern.arguments.map((argument, place) => [argument, end.arguments[place]]).reverse());
       }
     }
 

@@ -44,7 +44,7 @@ const byName = new Map(COMMANDS.map((command) => [command.name, command]));
 const OTHER_NAMES = new Map(Object.entries({
   s: "step", n: "step", next: "step", stepi: "step", r: "leap", run: "leap", c: "leap", cont: "leap", continue: "leap", go: "leap", j: "leap",
   finish: "skip", p: "show", print: "show", inspect: "show", x: "show", l: "list", ls: "list", listing: "list", w: "goals", where: "goals", bt: "goals",
-  backtrace: "goals", info: "goals", threads: "goals", ps: "goals", b: "spy", break: "spy", breakpoint: "spy", tbreak: "spy", delete: "nospy", clear: "nospy",
+  backtrace: "goals", info: "goals", threads: "goals", b: "spy", break: "spy", breakpoint: "spy", tbreak: "spy", delete: "nospy", clear: "nospy",
   u: "undo", "reverse-step": "back", prev: "back", previous: "back", retry: "back", q: "quit", exit: "quit", bye: "quit", halt: "quit", h: "help",
   "?": "help", man: "help", commands: "help", deadlock: "stuck", history: "records", trace: "records", log: "records", reload: "restart", reset: "restart",
   load: "restart", write: "save", call: "ask", query: "ask", rollback: "roll", rewind: "roll",
@@ -53,24 +53,28 @@ const OTHER_NAMES = new Map(Object.entries({
 const VARIABLE = /^[A-Z_]\w*$/;
 const FREE = new Set(["ask", "in", "save"]); // behind these stands a text, which is left as it was typed
 
-/** The command that a word means; undefined where it means none. */
+/** The command that a word means; undefined where it means none. A beginning is written in small letters. */
 function commandOf(word) {
   const name = word.toLowerCase();
   if (byName.has(name)) return name;
   if (OTHER_NAMES.has(name)) return OTHER_NAMES.get(name);
-  const begun = NAMES.filter((other) => other.startsWith(name));
+  const begun = NAMES.filter((other) => other.startsWith(word));
   return begun.length === 1 ? begun[0] : undefined;
 }
 
 /** A word without the marks that people put around names and numbers. */
 const bare = (word) => word.replace(/^[("']+/, "").replace(/[.,;)"']+$/, "");
 
-/** What a typed line means: a command's name and words, and the line of the console that says so. A variable alone asks for its value. */
-function meaningOf(typed) {
+/** Does a word alone ask for a variable's value? One of the query does; another one where it means no command. */
+function isVariable(word, variables) {
+  return variables.includes(word) || (VARIABLE.test(word) && (word.length === 1 || commandOf(word) === undefined));
+}
+
+/** What a typed line means: a command's name and words, and the line of the console that says so. `variables` are the query's. */
+function meaningOf(typed, variables = []) {
   const text = typed.trim(), words = text.split(/[ \t]+/);
   const first = byName.has(words[0]) ? words[0] : bare(words[0]) || words[0];
-  if (words.length === 1 && VARIABLE.test(first) && commandOf(first) === undefined) return { name: "show", words: [first], line: `show ${first}` };
-  if (words.length === 1 && VARIABLE.test(first) && first.length === 1) return { name: "show", words: [first], line: `show ${first}` };
+  if (words.length === 1 && isVariable(first, variables)) return { name: "show", words: [first], line: `show ${first}` };
   const name = commandOf(first);
   if (name === undefined) return { name: undefined, words: words.slice(1), line: typed };
   const rest = text.slice(words[0].length).trim();

@@ -76,7 +76,7 @@ class Front {
   /** Does what a typed line asks for. One line at a time. */
   async answer(typed) {
     if (typed.trim() === "") return;
-    const meaning = meaningOf(typed);
+    const meaning = meaningOf(typed, this.session.variables);
     this.isInterrupted = false;
     try {
       if (meaning.name !== undefined) await this.act(meaning, typed);

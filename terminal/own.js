@@ -9,7 +9,7 @@ const Stuck = require("../model/stuck.js");
 const { plural } = require("./telling.js");
 
 const SHOWN = 70; // letters of a goal or a value that are shown
-const DEEPEST = 12; // links of an explanation
+const DEEPEST = 12, LONGEST = 24; // links of an explanation, and its lines
 
 /** Is a clause or goal of the predicate that a word names, as `price/2` or `price`? */
 const isOf = (predicate, word) => predicate === word || predicate?.split("/")[0] === word;
@@ -40,7 +40,8 @@ async function holders(session, [word]) {
 
 async function clauses(session, [name]) {
   const run = await session.look(), found = Choices.choicesOf(run, name);
-  if (found.length === 0 || session.kept.takers.has(name)) return [`no call ${name} is there`];
+  if (session.kept.takers.has(name)) return [`${name} was taken by step ${session.kept.takers.get(name)}; goals lists those that are there`];
+  if (found.length === 0) return [`no call ${name} is there`];
   const behind = ({ says, why, waitsFor }) => (says === "no" ? `: ${why}` : says === "waits" ? ` for ${waitsFor.map((variable) => run.labelOf(variable)).join(", ")}` : "");
   return found.map((choice) => `clause ${choice.clause.number} (line ${choice.clause.line}) ${choice.says === "waits" ? "waits" : `says ${choice.says}`}${behind(choice)}`);
 }
@@ -76,7 +77,7 @@ function bindingLine(run, variable, step) {
 async function explain(session, [word]) {
   const run = await session.look(), lines = [], told = new Set();
   const left = variablesOf(session, word).slice(0, 1).map((variable) => ({ variable, depth: 0 }));
-  while (left.length > 0) {
+  while (left.length > 0 && lines.length < LONGEST) {
     const { variable, depth } = left.pop(), step = session.kept.steps.get(run.binders.get(variable)), margin = "  ".repeat(depth);
     if (step === undefined) lines.push(`${margin}${run.labelOf(variable)} is unbound`);
     else {
@@ -86,6 +87,7 @@ async function explain(session, [word]) {
       told.add(step.number);
     }
   }
+  if (left.length > 0) lines.push(".. explain one of these variables for more ..");
   return lines.length > 0 ? lines : [`${word} is no variable of the run`];
 }
 

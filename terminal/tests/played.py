@@ -26,9 +26,9 @@ MARK = "% "
 ENDLESS = "p(N) :- true | M := N + 1, p(M).\n"
 
 
-def start(home, *words, wait=30.0):
+def start(home, *words, wait=30.0, folder=None):
     environment = {"HOME": home, "COLUMNS": "220", "GHCDB": os.environ.get("GHCDB", "")}
-    return Terminal(["node", FRONT, *words], environment, wait)
+    return Terminal(["node", FRONT, *words], environment, wait, folder)
 
 
 def wants(condition, told):
@@ -72,6 +72,35 @@ def play_row(home, row):
             terminal.end()
     told = [line for line in shown if not line.startswith(MARK)]
     wants("\n".join(told) + "\n" == row["output"], f"{row['name']}: {told}")
+
+
+def answers():
+    """The sessions of examples/wrong/ANSWERS.md, each as its lines."""
+    text = (ROOT / "examples/wrong/ANSWERS.md").read_text()
+    return [block.splitlines() for block in re.findall(r"^```\n(\$.*?)^```$", text, re.M | re.S)]
+
+
+def play_answer(home, block):
+    """A session of the answers, exactly as it stands there. A line in brackets stands for the file's being mended."""
+    _, file, query = re.fullmatch(r'\$ (\S+) (\S+) --query "(.*)"', block[0]).groups()
+    with tempfile.TemporaryDirectory() as folder:
+        program = Path(folder, file)
+        program.parent.mkdir(parents=True)
+        program.write_text((ROOT / file).read_text())
+        terminal = start(home, file, "--query", query, folder=folder)
+        try:
+            shown = [block[0], *terminal.start.splitlines()[:-1]]
+            for line in block:
+                if line.startswith("("):
+                    program.write_text((ROOT / "examples/wrong/mended" / program.name).read_text())
+                    shown.append(line)
+                elif line.startswith("> "):
+                    shown += [line, *terminal.type(line[2:])]
+        finally:
+            terminal.end()
+    for wanted, got in zip(block, shown):
+        wants(wanted == got, f"{file}: {got!r} in place of {wanted!r}")
+    wants(len(block) == len(shown), f"{file}: {len(shown)} lines in place of {len(block)}")
 
 
 def test_greeting_follows_the_program(home):
@@ -218,6 +247,8 @@ def tests():
             yield name, test
     for name in SESSIONS:
         yield f"typed: {name}", lambda home, name=name: play_typed(home, name)
+    for block in answers():
+        yield f"answers: {block[0]}", lambda home, block=block: play_answer(home, block)
     for row in tutorial_rows():
         yield row["name"], lambda home, row=row: play_row(home, row)
 

@@ -16,11 +16,13 @@ ROWS, COLUMNS = 50, 220  # so wide that no line of a test is broken
 
 
 class Terminal:
-    def __init__(self, words, environment, wait=30.0):
+    def __init__(self, words, environment, wait=30.0, folder=None):
         self.wait = wait
         self.child, self.device = pty.fork()
         if self.child == 0:
             os.environ.update(environment, TERM="xterm")
+            if folder is not None:
+                os.chdir(folder)
             os.execvp(words[0], words)
         fcntl.ioctl(self.device, termios.TIOCSWINSZ, struct.pack("HHHH", ROWS, COLUMNS, 0, 0))
         self.status = None
