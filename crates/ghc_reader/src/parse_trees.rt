@@ -122,9 +122,8 @@ pub(crate) fn parsed_ask(alloc: Global, text: &[u8]) -> Result<Vec<SourceGoal>, 
     Ok(goals)
 }
 
-/// The goals that a text of any length asks for, as a history has it, or its refusal, as `parsed_ask`. `Memory` also where the stack
-/// may not hold what the parser calls: where more than `MOST_OPEN_IN_BODY` brackets are open at one place, or would be in the text that
-/// is printed of the goals.
+/// The goals that a text of any length asks for, as a history has it, or its refusal, as `parsed_ask`. `Memory` also where more than
+/// `MOST_OPEN_IN_BODY` brackets are open at one place, as the stack may not hold what the parser calls.
 pub(crate) fn parsed_body(alloc: Global, text: &[u8]) -> Result<Vec<SourceGoal>, Fault>
     ensures found { IfOk result (λ goals. IsRead a_body text.now (goal_views goals.items)) }
     ensures fault { IfErr result (λ fault. (fault ≡ Fault.Memory) ⊎ IsRefusal a_body text.now fault) }
@@ -133,11 +132,7 @@ pub(crate) fn parsed_body(alloc: Global, text: &[u8]) -> Result<Vec<SourceGoal>,
     if is_deeper_than(MOST_OPEN_IN_BODY, &lexed.tokens) {
         return Err(Fault::Memory);
     }
-    let goals = asked_goals(alloc, &lexed)?;
-    if most_levels(&goals) > MOST_LEVELS {
-        return Err(Fault::Memory);
-    }
-    Ok(goals)
+    asked_goals(alloc, &lexed)
 }
 
 // The goals that the tokens of a text ask for, whether or not its length and its depth were tested.

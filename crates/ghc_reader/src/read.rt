@@ -61,7 +61,7 @@ pub fn read_ask(alloc: Global, text: &[u8], query: &[Name]) -> Result<WrittenAsk
 
 /// What a text asks for as a history has it, of any length; or its refusal, as `read_ask`, but for the tests of length and depth. A
 /// variable that is not of the form `_n_m` is new. `Memory` also where the text has more bytes than numbers of 32 bits count, and where
-/// more than 1,000 brackets are open at one place or more than 1,000 operators stand inside one another.
+/// more than 1,000 brackets are open at one place.
 pub fn read_body(alloc: Global, text: &[u8]) -> Result<WrittenAsk, Fault>
     ensures { Answered (IsReadBody text.now) (IsRefusal a_body text.now) result }
 {
