@@ -78,7 +78,17 @@ SHELLS = [
         "program: F6 limit: text\n",
     ),
     Shell("the program cannot be read", "$ghcdb /proc/self/mem --query true", "", "program: F26 device\n", 3),
-    Shell("the history has no end", "ulimit -v 60000; $ghcdb append.ghc --query true --load /dev/zero", "", "history: F1 no memory\n", 1),
+    Shell("a history is none and has no end", "ulimit -v 60000; $ghcdb append.ghc --query true --load /dev/zero", "", "history: F24 history line 1\n", 1),
+    Shell(
+        "no more is read of a file that is no history than the first line of one has",
+        "yes ghc-history 3 | head -c 2000000 | { $ghcdb append.ghc --query true --load /dev/stdin; wc -c; }",
+        f"{2000000 - 14}\n",
+        "history: F24 history line 1\n",
+    ),
+    Shell(
+        "a history has no end",
+        "ulimit -v 60000; { echo ghc-history 1; cat /dev/zero; } | { $ghcdb append.ghc --query true --load /dev/stdin; }", "", "history: F1 no memory\n", 1,
+    ),
 ]
 
 

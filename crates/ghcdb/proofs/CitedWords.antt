@@ -42,7 +42,7 @@ pub use Rattle.ghc_records.specs.Chronicle.{Chronicle}
 pub use Rattle.ghc_records.specs.ChronicleLaws.{TextsTellOneChronicle, WrittenChroniclesAreReadAgain}
 pub use Rattle.ghc_records.specs.ChronicleText.{TellsChronicle, chronicle_heading}
 pub use Rattle.ghc_records.specs.History.{History, loaded_opening}
-pub use Rattle.ghc_records.specs.HistoryText.{IsLine, heading}
+pub use Rattle.ghc_records.specs.HistoryText.{IsFirstWrongLine, IsLine, TellsHistory, heading, no_heading}
 pub use Rattle.ghc_records.specs.Journal.{Opening}
 pub use Rattle.ghc_term.proofs.Exact.{exact}
 pub use Rattle.ghc_term.proofs.ListsLemmas.{contains_in, in_contains, in_map}
@@ -55,6 +55,7 @@ pub use Rattle.ghc_trace.specs.Spies.{HasPredicate, Spies, predicate, predicate_
 pub use Rattle.ghc_trace.specs.SpyLaws.{ListedSpiesComeBack}
 pub use Rattle.ghc_trace.specs.declared.spies.Predicate.{Predicate}
 pub use Rattle.ghcdb.specs.CommandLine.{IsGhcdb, IsOptionalValue, IsRequiredValue, IsWorkersValue, SaysWorkers}
+pub use Rattle.ghcdb.specs.HistoryFront.{IsHeadingLine, IsReadOf, WhatIsReadTells, heading_bytes}
 pub use Rattle.ghcdb.specs.Opening.{GivesBack, IsDebuggerOf, IsHistoryFault, IsHistoryRefused, IsOpenRefusal, IsWithoutMemory, OpensOn, at_start, for_history, loads, of_chronicle, of_entry, of_history, of_start, of_step, of_text, resumes}
 pub use Rattle.ghcdb.specs.Outputs.{HasBeginning, HasReplies}
 pub use Rattle.ghcdb.specs.ProgramText.{FrontTells, TakesAtMost, most_read}
@@ -68,14 +69,15 @@ pub use Rattle.std.proofs.Crossing.{crosses}
 pub use Rattle.std.proofs.KnownBytes.{Appends-kept, Consumes-trans, Consumes-whole}
 pub use Rattle.std.proofs.Math.Seq.{take-length}
 pub use Rattle.std.proofs.lemmas.Bool.{cases_lt}
-pub use Rattle.std.proofs.lemmas.List.{length-take-le, places, take-append-le, take_all}
+pub use Rattle.std.proofs.lemmas.List.{length-take, length-take-le, places, take-append-le, take_all}
+pub use Rattle.std.proofs.lemmas.List.Splits.{join_with_byte-slice_split}
 pub use Rattle.std.proofs.lemmas.List.Elements.{All-get_or, All-nil}
 pub use Rattle.std.proofs.lemmas.Map.Views.{Contains-from_any, list_any-from_Contains}
 pub use Rattle.std.proofs.lemmas.Slice.Eq.{bytes_eq-Decides}
 pub use Rattle.std.specs.Borrow.{Bor}
 pub use Rattle.std.specs.Cmp.{Equal-is, eq_by_cmp_equiv}
 pub use Rattle.std.specs.Io.KnownBytes.{Consumes, IsAtEnd, Keeps, append_known}
-pub use Rattle.std.specs.List.{All, list_any, slice_index_or}
+pub use Rattle.std.specs.List.{All, join_with_byte, list_any, slice_index_or}
 pub use Rattle.std.specs.Option.{IsSome}
 pub use Rattle.std.specs.Ordering.{eq_by_cmp}
 pub use Rattle.std.specs.Prelude.{unwrap_or}

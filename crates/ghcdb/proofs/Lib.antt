@@ -2,6 +2,7 @@
 mod CommandLine
 mod NumberOfWorkers
 mod FrontTells
+mod HistoryFronts
 mod IsStarted
 mod Opened
 mod OpenedFor

@@ -7,6 +7,7 @@ pub mod Opening
 pub mod Sessions
 pub mod Saving
 pub mod Outputs
+pub mod HistoryFront
 pub mod ProgramText
 pub mod Status
 pub mod Texts

@@ -1,13 +1,14 @@
 // The files that the command line names.
 ghost use Rattle.ghcdb.specs.ProgramText.{most_read};
+ghost use Rattle.ghcdb.specs.declared.refused_part.RefusedPart.TheVariants as part;
 ghost use Rattle.ghcdb.specs.Texts.{IsNotRead, IsReadRefusal, HaveTexts};
 ghost use Rattle.std.specs.Prelude.{◌≡◌, ◌≤◌, ◌⊎◌, IfErr, IfOk, Ok, false, is_ok, is_some, length};
 ghost use Rattle.ghc_term.specs.declared.fault.Fault.{Fault};
 
-use crate::program_text::read_text;
 use crate::refusal::Refusal;
 use crate::refused_part::RefusedPart;
 use crate::settings::Options;
+use crate::text_front::{read_history_text, read_program_text};
 use ghc_term::Fault;
 use std::io::ErrorKind;
 use std::rt::Files;
@@ -26,19 +27,19 @@ fn received(read: io::Result<Vec<u8>>) -> Result<Vec<u8>, Fault>
     }
 }
 
-/// The bytes of a file. It fails for want of memory, or since the file cannot be read.
-pub fn read_file<R: Files + AllocGlobal>(rt: &R, name: &str) -> Result<Vec<u8>, Fault>
-    ensures { IfErr result (λ fault. (fault ≡ Fault.Memory) ⊎ (fault ≡ Fault.Device)) }
-{
-    received(fs::read(rt, name))
-}
-
-// The text of the program in a file, of which no more is read than `read_text` takes.
+// The text of the program in a file, of which no more is read than `read_program_text` takes.
 fn read_program<R: Files + AllocGlobal>(rt: &R, name: &str) -> io::Result<Vec<u8>>
     ensures { IfOk result (λ text. length text.items ≤ most_read) }
 {
     let mut file = fs::open(rt, name)?;
-    let text = read_text(rt.alloc(), &mut file)?;
+    let text = read_program_text(rt.alloc(), &mut file)?;
+    Ok(text)
+}
+
+// The text of the history in a file, of which no more is read than `read_history_text` takes.
+fn read_history<R: Files + AllocGlobal>(rt: &R, name: &str) -> io::Result<Vec<u8>> {
+    let mut file = fs::open(rt, name)?;
+    let text = read_history_text(rt.alloc(), &mut file)?;
     Ok(text)
 }
 
@@ -53,21 +54,45 @@ pub struct Texts {
     pub schedule: Option<Vec<u8>>,
 }
 
-// The bytes of the file, where one is named. The refusal is told of this part.
-fn read_named<R: Files + AllocGlobal>(
-    rt: &R,
-    name: Option<&str>,
-    part: RefusedPart,
-) -> Result<Option<Vec<u8>>, Refusal>
-    ensures read { IfOk result (λ text. is_some text ≡ is_some name.entry) }
-    ensures refused { IfErr result (IsNotRead (is_some name.entry) part) }
+// The bytes of the file, where one is named. A refusal is of this part.
+fn named(read: Option<io::Result<Vec<u8>>>, part: RefusedPart) -> Result<Option<Vec<u8>>, Refusal>
+    ensures read { IfOk result (λ text. is_some text ≡ is_some read) }
+    ensures refused { IfErr result (IsNotRead (is_some read) part) }
 {
-    let Some(name) = name else {
+    let Some(read) = read else {
         return Ok(None);
     };
-    match read_file(rt, name) {
+    match received(read) {
         Ok(text) => Ok(Some(text)),
         Err(fault) => Err(Refusal { part, fault }),
+    }
+}
+
+// What is read of the history, where one is named.
+fn history_of<R: Files + AllocGlobal>(
+    rt: &R,
+    options: Options<'_>,
+) -> Result<Option<Vec<u8>>, Refusal>
+    ensures read { IfOk result (λ text. is_some text ≡ is_some options.entry.load) }
+    ensures refused { IfErr result (IsNotRead (is_some options.entry.load) part.History) }
+{
+    match options.load {
+        Some(name) => named(Some(read_history(rt, name)), RefusedPart::History),
+        None => named(None, RefusedPart::History),
+    }
+}
+
+// What is read of the schedule, where one is named.
+fn schedule_of<R: Files + AllocGlobal>(
+    rt: &R,
+    options: Options<'_>,
+) -> Result<Option<Vec<u8>>, Refusal>
+    ensures read { IfOk result (λ text. is_some text ≡ is_some options.entry.schedule) }
+    ensures refused { IfErr result (IsNotRead (is_some options.entry.schedule) part.Schedule) }
+{
+    match options.schedule {
+        Some(name) => named(Some(fs::read(rt, name)), RefusedPart::Schedule),
+        None => named(None, RefusedPart::Schedule),
     }
 }
 
@@ -84,11 +109,11 @@ pub fn read_texts<R: Files + AllocGlobal>(rt: &R, options: Options<'_>) -> Resul
             return Err(Refusal { part, fault });
         }
     };
-    let history = match read_named(rt, options.load, RefusedPart::History) {
+    let history = match history_of(rt, options) {
         Ok(history) => history,
         Err(refusal) => return Err(refusal),
     };
-    let schedule = match read_named(rt, options.schedule, RefusedPart::Schedule) {
+    let schedule = match schedule_of(rt, options) {
         Ok(schedule) => schedule,
         Err(refusal) => return Err(refusal),
     };

@@ -1,4 +1,5 @@
 // Laws of the start, of what opens and of what is saved, each as the contract of a function.
+ghost use Rattle.ghcdb.specs.HistoryFront.{WhatIsReadTells};
 ghost use Rattle.ghcdb.specs.ProgramText.{FrontTells};
 ghost use Rattle.ghcdb.specs.Saving.{SavedSessionsOpenAgain};
 ghost use Rattle.ghcdb.specs.Sessions.{WhatOpensIsASession};
@@ -19,6 +20,11 @@ pub fn start_is_exact()
 /// What is read of a program's text, at most a byte more than it may have, tells as much of the program as the whole text.
 pub fn a_front_tells_the_program()
     ensures { FrontTells }
+{}
+
+/// What is read of the text of a history tells the histories that the whole text tells, and is refused as it is.
+pub fn a_front_tells_no_history()
+    ensures { WhatIsReadTells }
 {}
 
 /// What opens on program and query that are started is a session on them: changes lead to its world, which is of that program and query,

@@ -10,12 +10,12 @@ mod laws;
 mod no_gate;
 mod opening;
 mod playing;
-mod program_text;
 mod refusal;
 mod refused_part;
 mod settings;
 mod start;
 mod status;
+mod text_front;
 
 use debugger::run;
 use status::Status;

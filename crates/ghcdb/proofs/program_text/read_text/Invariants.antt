@@ -1,9 +1,0 @@
-use Rattle.ghcdb.proofs.CitedWords.{◌≤◌, ◌-◌, length, Consumes, most_read}
-use Rattle.ghcdb.proofs.program_text.read_text.Given as goal
-
--- What was taken from the reader is the text, which is not too long.
-abbrev pub invariant-loop-piece : goal.invariant-loop-piece
-invariant-loop-piece g l = Consumes (g.R.Read.remaining l.initial.reader) (g.R.Read.remaining l.reader) l.text.items × (length l.text.items ≤ most_read)
-
-abbrev pub decreases-loop-piece : goal.decreases-loop-piece
-decreases-loop-piece g l = most_read - length l.text.items
