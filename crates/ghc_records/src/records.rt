@@ -13,7 +13,8 @@ use std::marker::Model;
 
 /// Records in recorded order, no two of one number, each found by its number, with the steps that depend directly on each, and
 /// the step that bound each variable. A place is that of a slot: of two records that one stands before the other whose place is
-/// less. Places are compared, never counted: a record that is taken out leaves a gap, which may be closed up at a later removal.
+/// less. Places are compared, never counted: a record that is taken out leaves a gap, which may be closed up at a later removal. A
+/// look-up by number is one step where numbers run with the places, else the logarithm of how many do not, whatever they are.
 #[derive(Drop)]
 pub struct Records {
     slots: Slots,

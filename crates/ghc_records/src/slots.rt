@@ -13,7 +13,8 @@ use std::marker::Model;
 use std::mem;
 
 // Records in slots, no two of one number, and how many these are. The record of a step mostly stands at the place just below its
-// number; of each other one, a stray, the place stands under its number. Where memory allows, no more than half of the slots, and
+// number; of each other one, a stray, the place stands under its number, and is found by a search: the logarithm of how many strays
+// there are, whatever their numbers. Where memory allows, no more than half of the slots, and
 // one, are gaps.
 #[derive(Drop)]
 pub(crate) struct Slots {
@@ -56,8 +57,8 @@ fn is_just_below(place: usize, number: u32) -> bool
     (number as usize).checked_sub(place) == Some(1)
 }
 
-// The strays among the records of these slots as they will stand when the gaps are closed up: one pass, with a look-up for each
-// stray. It fails for want of memory alone.
+// The strays among the records of these slots as they will stand when the gaps are closed up: one pass, with a search for each
+// stray among those found. It fails for want of memory alone.
 fn strays_when_closed(alloc: Global, slots: &[Option<Record>]) -> Result<Strays, AllocError>
     requires { AreDistinct (numbers (held_in slots.now)) }
     ensures { IfOk result (λ strays. AreStraysOf (filter is_some slots.now) strays.held) }
@@ -124,7 +125,7 @@ impl Slots {
         None
     }
 
-    // The place of the record of the step of this number: one step where it is the likely one, or else one look-up.
+    // The place of the record of the step of this number: one step where it is the likely one, or else a search among the strays.
     #[inline(always)]
     pub(crate) fn place_of(&self, number: u32) -> Option<usize>
         ensures { (p : ℕ) → (result ≡ Some p) ↔ HasNumberIn self.now.held p number }
@@ -144,7 +145,7 @@ impl Slots {
         record_in(self.slots.as_slice(), place)
     }
 
-    // The record of the step of this number, wherever it stands: one look-up.
+    // The record of the step of this number, wherever it stands: a search among the strays at most.
     #[inline(never)]
     fn find(&self, number: u32) -> Option<&Record>
         ensures found { IfSome result (λ r. In r.now (held_in self.now.held) × (r.now.number ≡ number)) }
@@ -156,7 +157,8 @@ impl Slots {
         }
     }
 
-    // The record of the step of this number: one step where it stands at the likely place, or else one look-up.
+    // The record of the step of this number: one step where it stands at the likely place, or else a search
+    // among the strays.
     #[inline(always)]
     pub(crate) fn get(&self, number: u32) -> Option<&Record>
         ensures found { IfSome result (λ r. In r.now (held_in self.now.held) × (r.now.number ≡ number)) }
@@ -192,7 +194,7 @@ impl Slots {
         self.make_room()
     }
 
-    // Puts a record in a slot behind the others, whose number no other has, where there is room: one look-up if it is a stray.
+    // Puts a record in a slot behind the others, whose number no other has, where there is room: one step.
     #[inline(always)]
     pub(crate) fn put(&mut self, step: Record)
         requires room { 0 < self.old.room }
@@ -207,7 +209,8 @@ impl Slots {
         self.slots.push_reserved(Some(step));
     }
 
-    // Takes the record of the step of this number out, if there is one, and leaves a gap: two look-ups if it was a stray.
+    // Takes the record of the step of this number out, if there is one, and leaves a gap: two searches among the strays if it
+    // was one.
     fn take_out(&mut self, number: u32) -> Option<Record>
         ensures taken { IfSome result (λ r. (p : ℕ) × StandsIn self.old.held p r × (r.number ≡ number)) }
         ensures gap { (p : ℕ) → HasNumberIn self.old.held p number → self.new.held ≡ slice_set self.old.held p None }
@@ -223,7 +226,7 @@ impl Slots {
         removed
     }
 
-    // Closes the gaps up, where there is memory for the strays that this leaves: two passes over the slots, with a look-up for each
+    // Closes the gaps up, where there is memory for the strays that this leaves: two passes over the slots, with a search for each
     // stray. Where memory is refused, the gaps stay, and the next removal tries again.
     fn close_up(&mut self)
         ensures { held_in self.new.held ≡ held_in self.old.held }
@@ -236,8 +239,8 @@ impl Slots {
         self.strays = strays;
     }
 
-    // Takes the record of the step of this number out, if there is one; the others keep their order. Two look-ups at most; where
-    // then more than half of the slots are gaps, these are closed up, if memory allows: so it is as if each removal cost two look-ups
+    // Takes the record of the step of this number out, if there is one; the others keep their order. Two searches among the strays at most; where
+    // then more than half of the slots are gaps, these are closed up, if memory allows: so it is as if each removal cost two searches
     // more.
     pub(crate) fn remove(&mut self, number: u32) -> Option<Record>
         ensures found { IfSome result (λ r. In r (held_in self.old.held) × (r.number ≡ number)) }

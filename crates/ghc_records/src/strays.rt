@@ -34,7 +34,7 @@ impl Model for Strays {
 }
 
 impl Strays {
-    // No strays, which take no memory, and room for one.
+    // No strays, which take no memory.
     pub(crate) fn new(alloc: Global) -> Strays
         ensures { result.held ≡ finite.empty }
     {

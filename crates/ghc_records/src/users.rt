@@ -15,7 +15,7 @@ const FURTHER: usize = 15;
 const MOST_AHEAD: usize = 16;
 
 // The numbers of steps by the number of the step that they used: a list by number for the steps of the first numbers, and a tree in
-// the order of the numbers for the others, so that no numbers make them slow to find.
+// the order of the numbers for the others: a search in it is the logarithm of how many it has, whatever their numbers.
 #[derive(Drop)]
 pub(crate) struct Users {
     near: Vec<NumberSet>,
@@ -60,7 +60,7 @@ impl Users {
         }
     }
 
-    // The numbers under the step of this number: one step, or one look-up.
+    // The numbers under the step of this number: one step, or a search in the tree.
     pub(crate) fn at(&self, step: u32) -> &[u32]
         ensures { result.now ≡ users_at self.now step }
     {
@@ -74,7 +74,7 @@ impl Users {
     }
 
     // Makes the list longer until it has the step, of a record of so many slots, and a few more: one step for each place that it grows
-    // by. Where the table has a step, or the number is more than a few past list and slots, the list stays, so that no number makes it
+    // by. Where the tree has a step, or the number is more than a few past list and slots, the list stays, so that no number makes it
     // large.
     fn widen(&mut self, step: u32, slots: usize) -> Result<(), AllocError>
         ensures held { (m : ℕ) → users_at self.new m ≡ users_at self.old m }
@@ -101,7 +101,7 @@ impl Users {
     }
 
     // Makes room for one more number under the step, of a record of so many slots: one step, and one for each place that the list
-    // grows by, or some look-ups.
+    // grows by, or two searches in the tree.
     #[inline(never)]
     fn reserve(&mut self, step: u32, slots: usize) -> Result<(), AllocError>
         ensures held { (m : ℕ) → users_at self.new m ≡ users_at self.old m }
@@ -122,7 +122,7 @@ impl Users {
         Ok(())
     }
 
-    // Puts a number under the step, where it stands already or there is room: one step, or two look-ups.
+    // Puts a number under the step, where it stands already or there is room: one step, or a search in the tree and a look-up.
     #[inline(always)]
     fn put(&mut self, step: u32, user: u32)
         requires { CanTake self.old step user }
@@ -139,7 +139,7 @@ impl Users {
         users.put(user);
     }
 
-    // Takes a number from under the step: one step, or two look-ups.
+    // Takes a number from under the step: one step, or a search in the tree and a look-up.
     fn take(&mut self, step: u32, user: u32)
         ensures { (m n : ℕ) → IsUser self.new m n ↔ (IsUser self.old m n × ¬ ((m ≡ step) × (n ≡ user))) }
     {
@@ -153,7 +153,7 @@ impl Users {
         users.remove(user);
     }
 
-    // Takes all numbers from under the step, and their memory: one step, or one look-up.
+    // Takes all numbers from under the step, and their memory: one step, or a search in the tree.
     pub(crate) fn forget(&mut self, step: u32)
         ensures { (m n : ℕ) → IsUser self.new m n ↔ (IsUser self.old m n × (m ≢ step)) }
     {
