@@ -1,5 +1,5 @@
 -- The places of strays, where the newest stands by itself in front of a tree of the others.
-use Rattle.ghc_records.proofs.Words.{◌≡◌, ◌≢◌, ◌<◌, ◌+◌, ℕ, cond, true, false, List, [], refl, sym, ap, ◌∙◌, subst, inl, inr, nat_eq, arith, Option, Some, None, nat_cmp, nat_cmp_total, nat_cmp-IsAntisymmetric as nat_antisymmetric, lookup, is_eq, value_in, inserted, tie, eq-eqb, ne_eqb, PlacesByNumber, IsChangedAt, places_of, room_beside}
+use Rattle.ghc_records.proofs.Words.{◌≡◌, ◌≢◌, ◌<◌, ℕ, cond, List, refl, sym, ap, ◌∙◌, subst, inl, inr, arith, Option, Some, None, nat_cmp, nat_cmp_total, nat_cmp-IsAntisymmetric as nat_antisymmetric, is_eq, value_in, inserted, tie, eq-eqb, ne_eqb, PlacesByNumber, IsChangedAt, places_of, room_beside}
 use Rattle.std.specs.FinMap as finite
 use Rattle.ghc_records.proofs.NumberSets.{one_or_not}
 use Rattle.ghc_records.proofs.SlotPlaces.{places_in, place_is, found_by, updated_by, at_key, at_other}

@@ -1,4 +1,4 @@
-use Rattle.ghc_records.proofs.Words.{◌≡◌, ◌≢◌, ◌+◌, ◌++◌, ◌∷◌, [], ℕ, cond, filter, length, take, refl, sym, ap, ◌∙◌, subst, arith, Some, is_some, append-nil, take_all, slice_get_read, SlotList, AreStraysOf, IsChangedAt}
+use Rattle.ghc_records.proofs.Words.{◌≡◌, ◌≢◌, ◌+◌, ◌++◌, ◌∷◌, [], cond, filter, length, take, refl, sym, ap, ◌∙◌, subst, arith, Some, is_some, append-nil, take_all, slice_get_read, SlotList, AreStraysOf, IsChangedAt}
 use Rattle.std.proofs.lemmas.List.{length-append}
 use Rattle.ghc_records.proofs.SlotStrays.{strays_none, strays_same, strays_one, closed_more, closed_few, front_apart}
 use Rattle.ghc_records.proofs.slots.strays_when_closed.Goals.{in-Some, then-not-is_just_below+in_ok-reserve, else-not-is_just_below, in_default}

@@ -1,4 +1,4 @@
-use Rattle.ghc_records.proofs.Words.{rules, ◌≡◌, true, false, filter, length, ap, sym, ◌∙◌, subst, is_some, filter_same, AreDistinct, numbers, held_in, AreStraysOf}
+use Rattle.ghc_records.proofs.Words.{rules, ◌≡◌, filter, length, ap, sym, ◌∙◌, subst, is_some, filter_same, AreDistinct, numbers, held_in, AreStraysOf}
 use Rattle.ghc_records.proofs.SlotLemmas.{held_closed}
 use Rattle.ghc_records.proofs.slots.Slots.close_up.Goals as goal
 

@@ -1,4 +1,4 @@
-use Rattle.ghc_records.proofs.Words.{◌≡◌, ◌≢◌, ◌+◌, nil_from_length, ℕ, sym, ap, ◌∙◌, subst, arith, ◌↔◌, Option, Some, None, Bor, option_copied, Record, SlotList, StandsIn, HasNumberIn}
+use Rattle.ghc_records.proofs.Words.{◌≡◌, ◌≢◌, ◌+◌, ℕ, sym, ap, ◌∙◌, subst, arith, ◌↔◌, Option, Some, None, Bor, option_copied, Record, SlotList, StandsIn, HasNumberIn}
 use Rattle.ghc_records.proofs.SlotStrays.{just_below}
 use Rattle.ghc_records.proofs.slots.Slots.likely_place_of.Goals as goal
 

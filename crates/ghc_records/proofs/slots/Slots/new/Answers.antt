@@ -1,4 +1,4 @@
-use Rattle.ghc_records.proofs.Words.{◌≡◌, true, false, length, sym, subst, refl, AreDistinct, numbers, held_in}
+use Rattle.ghc_records.proofs.Words.{◌≡◌, length, sym, subst, refl, AreDistinct, numbers, held_in}
 use Rattle.ghc_records.proofs.SlotStrays.{strays_none}
 use Rattle.ghc_records.proofs.slots.Slots.new.Goals as goal
 

@@ -1,4 +1,4 @@
-use Rattle.ghc_records.proofs.Words.{ℕ, ◌≡◌, ◌≢◌, ◌+◌, ◌∙◌, true, false, length, ap, arith, sym, subst, Some, In, Record, held_in, IsChangedAt}
+use Rattle.ghc_records.proofs.Words.{◌≡◌, ◌≢◌, ◌+◌, ◌∙◌, length, ap, arith, sym, subst, Some, In, Record, held_in, IsChangedAt}
 use Rattle.ghc_records.proofs.SlotLemmas.{held_few, held_more, more_distinct}
 use Rattle.ghc_records.proofs.SlotStrays.{strays_same, strays_one}
 use Rattle.ghc_records.proofs.slots.Slots.put.Goals.{then-not-is_just_below, else-not-is_just_below}

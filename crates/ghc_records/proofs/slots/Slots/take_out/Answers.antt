@@ -1,4 +1,4 @@
-use Rattle.ghc_records.proofs.Words.{◌≡◌, ◌≢◌, ◌<◌, ◌∙◌, true, false, ap, sym, subst, arith, Some, None, IfNone, slice_set, slice_get_within, get_or_from_slice_get, In, Record, held_in, StandsIn, HasNumberIn}
+use Rattle.ghc_records.proofs.Words.{◌≡◌, ◌≢◌, ◌<◌, ◌∙◌, ap, sym, subst, arith, Some, None, IfNone, slice_set, slice_get_within, get_or_from_slice_get, In, Record, held_in, StandsIn, HasNumberIn}
 use Rattle.ghc_records.proofs.SlotLemmas.{held_fewer, without_distinct}
 use Rattle.ghc_records.proofs.SlotClosing.{none_in}
 use Rattle.ghc_records.proofs.SlotStrays.{gap_same, gap_one}

@@ -1,4 +1,4 @@
-use Rattle.ghc_records.proofs.Words.{◌<◌, ap, sym, subst, Some, IsChangedAt, places_of}
+use Rattle.ghc_records.proofs.Words.{◌<◌, sym, subst, Some, IsChangedAt, places_of}
 use Rattle.ghc_records.proofs.StrayPlaces.{put_by_itself}
 use Rattle.ghc_records.proofs.strays.Strays.put.Goals as goal
 
