@@ -62,7 +62,6 @@ impl Strays {
     }
 
     // The place of the stray of this number, if it is one: the logarithm of how many there are, whatever their numbers.
-    #[inline(never)]
     pub(crate) fn get(&self, number: u32) -> Option<usize>
         ensures { result ≡ finite.get self.now.held number }
     {
@@ -75,7 +74,6 @@ impl Strays {
     }
 
     // Makes room for one more stray, and leaves them as they are: the logarithm of how many there are.
-    #[inline(never)]
     pub(crate) fn reserve(&mut self) -> Result<(), AllocError>
         ensures held { self.new.held ≡ self.old.held }
         ensures room { OnOk result (0 < self.new.room) }
@@ -99,7 +97,6 @@ impl Strays {
     }
 
     // Takes the place of the stray of this number away, if it is one: the logarithm of how many there are.
-    #[inline(never)]
     pub(crate) fn remove(&mut self, number: u32)
         ensures { IsChangedAt self.old.held self.new.held number None }
     {
