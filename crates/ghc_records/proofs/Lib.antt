@@ -44,6 +44,7 @@ pub mod PredicateLines
 pub mod ChronicleWritten
 pub mod AmountLines
 pub mod AskingLines
+pub mod OpenBytes
 pub mod EntryLines
 pub mod NumberLists
 pub mod SectionParts

@@ -91,4 +91,4 @@ module _ (writable : (names : Names) (text : List ℕ) (gs : List Goal) → IsRe
       subst (λ hs. IsWithinLimits hs (length (firsts [] (variables_of_goals hs)))) (sym says.3) (record { goals = askable.few; variables = few; arguments = askable.narrow })
 
   pub can_be_asked : (n : ℕ) → AreNewInOrder n gs → CanBeAsked n gs
-  can_be_asked n new = record { writable = each_writable; limited = are_limited; of_steps = none_of_no_step; new = new }
+  can_be_asked n new = record { writable = each_writable; limited = are_limited; of_steps = none_of_no_step; new = new; shallow = says.5 }

@@ -37,7 +37,7 @@ pub use Rattle.ghc_reader.specs.WrittenAsk.{IsNaming, IsWellPut, WrittenAsk, is_
 pub use Rattle.ghc_records.specs.Chronicle.{AreBelow, AreInTurn, Chronicle, IsInTurn, chronicle_of, entry_limit, next_after, next_behind, spy_limit}
 pub use Rattle.ghc_records.specs.ChronicleLaws.{CanBeAsked, CanBeSaid, CanBeSpied, CanBeTold, IsOfNoGoal}
 pub use Rattle.ghc_records.specs.ChronicleText.{IsChronicleRefusal, IsFirstWrongInChronicle, IsNext, TellsChronicle, TellsEnd, TellsEntries, TellsOpening, TellsSpies, behind_lines, chronicle_heading, chronicle_lines, chronicle_text, entries_line, lines_to_end, lines_to_spies, no_end, no_entry, no_heading, no_opening, no_spy, no_step, opening_line, spies_line}
-pub use Rattle.ghc_records.specs.EntryText.{AreNewInOrder, IsNamed, SaysAsking, SaysEntry, SaysGoals, entry_text, numbers_behind}
+pub use Rattle.ghc_records.specs.EntryText.{AreNewInOrder, IsNamed, OpensFew, SaysAsking, SaysEntry, SaysGoals, entry_text, numbers_behind}
 pub use Rattle.ghc_records.specs.Handles.{goals_of}
 pub use Rattle.ghc_records.specs.History.{History, IsHistory}
 pub use Rattle.ghc_records.specs.HistoryLaws.{IsInRange, IsOfAGoal, line_feeds}
@@ -74,7 +74,7 @@ pub use Rattle.ghc_term.specs.Bindings.{IsAcyclic, Reaches, here, name_cmp, thro
 pub use Rattle.ghc_term.specs.Expression.{Expression, leaf, operation}
 pub use Rattle.ghc_term.specs.Goal.{Goal, assign, call, stream, unify}
 pub use Rattle.ghc_term.specs.GoalText.{expression_text, goal_text, operand, operator_text}
-pub use Rattle.ghc_term.specs.InputTerm.{AllInGrammar, IsHead, IsInGrammar, IsInputTerm, IsNameText, is_name_byte}
+pub use Rattle.ghc_term.specs.InputTerm.{AllInGrammar, IsHead, IsInGrammar, IsInputTerm, IsNameText, is_name_byte, most_open, open_behind}
 pub use Rattle.ghc_term.specs.Lists.{In}
 pub use Rattle.ghc_term.specs.Resolved.{all_resolved}
 pub use Rattle.ghc_term.specs.Sets.{Variables}

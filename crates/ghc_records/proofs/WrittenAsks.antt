@@ -1,5 +1,5 @@
 -- Goals that are asked for and can be written are, printed, read again as themselves.
-use Rattle.ghc_records.proofs.Words.{◌≡◌, ◌≢◌, ℕ, zero, suc, ◌+◌, ◌-◌, Bool, true, false, cond, List, [], ◌∷◌, ◌++◌, length, map, refl, sym, ap, ◌∙◌, subst, inl, inr, arith, Some, None, slice_get, slice_get-map, option_map, decimal, length-append, codes, unwrap_or, eq_by_cmp, ne_eqb, or_parts, length-map, decimal_is_IsNumeral, VarName, In, variable, Goal, goal_text, variable_text, name_cmp, variables_of_goals, firsts, in_at, IsNumberedAs, Names, blank, IsCalled, AreNamed, Each, doing, AreNumbered, AreApart, WrittenAsk, IsNaming, of_state, HasNumbers, IsWritableGoal, IsPrintedAs, IsReadAs, further_goals, goals_text, is_seen, test_cases, decimal_run, one_variable, numbered_by, replace_in_goal, NameNoneOf, asked_of, called, called_by, named_so, firsts_in, renamed_firsts, firsts_have, in_goals, by, goals_renamed, same_goals, goals_twice, body_text, followed_by, SaysGoals}
+use Rattle.ghc_records.proofs.Words.{◌≡◌, ◌≢◌, ℕ, zero, suc, ◌+◌, ◌-◌, Bool, true, false, cond, List, [], ◌∷◌, ◌++◌, length, map, refl, sym, ap, ◌∙◌, subst, inl, inr, arith, Some, None, slice_get, slice_get-map, option_map, decimal, length-append, codes, unwrap_or, eq_by_cmp, ne_eqb, or_parts, length-map, decimal_is_IsNumeral, VarName, In, variable, Goal, goal_text, variable_text, name_cmp, variables_of_goals, firsts, in_at, IsNumberedAs, Names, blank, IsCalled, AreNamed, Each, doing, AreNumbered, AreApart, WrittenAsk, IsNaming, of_state, HasNumbers, IsWritableGoal, IsPrintedAs, IsReadAs, further_goals, goals_text, is_seen, test_cases, decimal_run, one_variable, numbered_by, replace_in_goal, NameNoneOf, asked_of, called, called_by, named_so, firsts_in, renamed_firsts, firsts_have, in_goals, by, goals_renamed, same_goals, goals_twice, body_text, followed_by, OpensFew, SaysGoals}
 use Rattle.ghc_term.proofs.Names.{same_name}
 use Rattle.ghc_unify.proofs.Bound.{itself as same_test}
 use Rattle.ghc_fire.specs.Effect.{no_step}
@@ -180,8 +180,8 @@ module _ (gs : List Goal) (writable : (g : Goal) → In g gs → IsWritableGoal 
         ∙ in_goals (λ x. called_by xs (told x)) variable gs back_one
         ∙ same_goals gs
 
-    pub asked_again : (text : List ℕ) → IsReadAs IsPrintedAs text gs → SaysGoals text gs
-    asked_again text read = (
+    pub asked_again : (text : List ℕ) → IsReadAs IsPrintedAs text gs → OpensFew text → OpensFew (body_text gs) → SaysGoals text gs
+    asked_again text read few printed = (
       ask,
       (
         read.0,
@@ -195,4 +195,6 @@ module _ (gs : List Goal) (writable : (g : Goal) → In g gs → IsWritableGoal 
       ),
       never_none xs,
       sym back,
+      few,
+      printed,
     )

@@ -33,7 +33,7 @@ module _ (each : (u : Tree) → IsInputTerm u → IsReadTerm (term_text u) u)
     asking_parts = λ i. decimal s.number ++ (codes " " ++ (consumed_text (is.none i) ++ act_text (is.asks i)))
 
     body_says : SaysGoals (body_text is.goals) is.goals
-    body_says = asked_again is.goals is.can.writable is.can.of_steps (body_text is.goals) (subst (λ t. IsReadAs IsPrintedAs t is.goals) (sym (same_text is.goals)) (goals_again is.goals is.can.writable is.can.limited))
+    body_says = asked_again is.goals is.can.writable is.can.of_steps (body_text is.goals) (subst (λ t. IsReadAs IsPrintedAs t is.goals) (sym (same_text is.goals)) (goals_again is.goals is.can.writable is.can.limited)) is.can.shallow is.can.shallow
 
     asking_is_said : SaysAsking (step_text s) s
     asking_is_said = record {

@@ -15,7 +15,8 @@ use Rattle.ghc_records.specs.Journal.{Step, Entry, took, undid, rolled, redid, r
 use Rattle.ghc_records.specs.HistoryText.{greatest_number}
 use Rattle.ghc_records.specs.HistoryLaws.{IsOfAGoal, line_feeds}
 use Rattle.ghc_records.specs.Chronicle.{Chronicle, AreBelow, AreInTurn, entry_limit, next_behind, spy_limit}
-use Rattle.ghc_records.specs.EntryText.{AreNewInOrder, IsNamed}
+use Rattle.ghc_records.specs.StepText.{body_text}
+use Rattle.ghc_records.specs.EntryText.{AreNewInOrder, IsNamed, OpensFew}
 use Rattle.ghc_records.specs.ChronicleText.{IsNext, TellsChronicle, IsFirstWrongInChronicle, chronicle_text}
 
 -- A text tells one chronicle at most, and none where a line of it is wrong: so just the texts that tell one are read, as what they tell.
@@ -25,12 +26,13 @@ pub record TextsTellOneChronicle : Type 0 where
 
 -- ---- chronicles that can be written
 
--- Goals for which step n can ask in a text: the grammar has a text for each, with variables whose numbers have 32 bits; goals and variables are within the limits; no variable is one of no step; and those of the step itself stand in order.
+-- Goals for which step n can ask in a text: the grammar has a text for each, with variables whose numbers have 32 bits; goals and variables are within the limits; no variable is one of no step; those of the step itself stand in order; and what is printed of the goals opens few brackets.
 pub record CanBeAsked (n : ℕ) (gs : List Goal) : Type 0 where
   pub writable : (g : Goal) → In g gs → IsWritableGoal HasNumbers g
   pub limited : IsWithinLimits gs (length (firsts [] (variables_of_goals gs)))
   pub of_steps : NameNoneOf no_step gs
   pub new : AreNewInOrder n gs
+  pub shallow : OpensFew (body_text gs)
 
 -- The step asks for goals for which it can ask in a text, and consumes none.
 pub record IsOfNoGoal (s : Step) : Type 0 where

@@ -2,13 +2,14 @@
 use Rattle.std.specs.Prelude.{◌≡◌, ◌⊎◌, ℕ, ◌≤◌, All, List, ◌++◌, codes, map, None}
 use Rattle.std.specs.Fmt.{decimal}
 use Rattle.ghc_term.specs.Goal.{Goal}
+use Rattle.ghc_term.specs.InputTerm.{most_open}
 use Rattle.ghc_term.specs.Lists.{In}
 use Rattle.ghc_reader.specs.Read.{IsReadBody}
 use Rattle.ghc_reader.specs.WrittenAsk.{WrittenAsk}
 use Rattle.ghc_fire.specs.Asked.{asked_of, own_variables, made_from}
 use Rattle.ghc_fire.specs.declared.act.Act.TheVariants.{Asked as asked}
 use Rattle.ghc_records.specs.Journal.{Step, Entry, took, undid, rolled, redid, reordered}
-use Rattle.ghc_records.specs.StepText.{followed_by, step_text}
+use Rattle.ghc_records.specs.StepText.{body_text, followed_by, step_text}
 use Rattle.ghc_records.specs.HistoryText.{SaysStep, greatest_number}
 
 -- numbers, each behind a space
@@ -27,9 +28,13 @@ entry_text (reordered ns) = codes "arrange" ++ numbers_behind ns
 abbrev pub IsNamed : ℕ → Type 0
 IsNamed n = (1 ≤ n) × (n ≤ greatest_number)
 
--- The text is read as goals that are asked for, each variable of which it calls `_n_m`, and these are the goals.
+-- At no place of the text more than 1,000 brackets are open.
+abbrev pub OpensFew : List ℕ → Type 0
+OpensFew text = most_open 0 text ≤ 1000
+
+-- The text is read as goals that are asked for, each variable of which it calls `_n_m`, and these are the goals. It opens few brackets, and so does what is printed of the goals.
 abbrev pub SaysGoals : List ℕ → List Goal → Type 0
-SaysGoals text gs = (a : WrittenAsk) × IsReadBody text a × ¬ In None a.named × (gs ≡ asked_of a)
+SaysGoals text gs = (a : WrittenAsk) × IsReadBody text a × ¬ In None a.named × (gs ≡ asked_of a) × OpensFew text × OpensFew (body_text gs)
 
 -- The variables of step n in the goals are `_n_1`, `_n_2`, .. by first occurrence.
 abbrev pub AreNewInOrder : ℕ → List Goal → Type 0

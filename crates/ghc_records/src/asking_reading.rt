@@ -1,17 +1,21 @@
 // Reading the lines of steps that ask for goals, as chronicles have them.
-ghost use Rattle.std.specs.Prelude.{◌≡◌, ◌≢◌, ◌↔◌, ◌≤◌, ◌∷◌, ◌++◌, ◌==◌, ℕ, List, None, Some, filter, codes, is_some, IsTrue, IfOk, IfSome, IfNone};
+ghost use Rattle.std.specs.Prelude.{◌≡◌, ◌≢◌, ◌↔◌, ◌<◌, ◌≤◌, ◌∷◌, ◌++◌, ◌==◌, ℕ, List, None, Some, filter, codes, is_some, IsTrue, IfOk, IfSome, IfNone};
 ghost use Rattle.std.specs.Fmt.{decimal};
 ghost use Rattle.std.specs.List.{list_all};
 ghost use Rattle.ghc_term.specs.Goal.{Goal as goal_spec};
+ghost use Rattle.ghc_term.specs.InputTerm.{most_open};
 ghost use Rattle.ghc_fire.specs.Asked.{made_from};
 ghost use Rattle.ghc_fire.specs.declared.act.Act.{Act as act_spec};
 ghost use Rattle.ghc_fire.specs.declared.act.Act.TheVariants.{Asked as asks};
 ghost use Rattle.ghc_records.specs.Journal.{Step as step_spec};
+ghost use Rattle.ghc_records.specs.StepText.{body_text};
 ghost use Rattle.ghc_records.specs.EntryText.{AreNewInOrder, SaysAsking, SaysGoals};
 
+use crate::brackets::{MOST_OPEN, opens_many};
 use crate::cutting::{behind, cut, positive};
 use crate::step::Step;
 use crate::step_reading::is_memory;
+use crate::step_text::write_body;
 use ghc_fire::{Act, Ask, Asked};
 use ghc_reader::{read_body, read_body_is_exact};
 use ghc_term::{Goal, VarName};
@@ -73,12 +77,24 @@ fn asked_by(alloc: Global, ask: &Ask) -> Result<Asked, AllocError>
     Asked::of(alloc, goals, variables)
 }
 
+// Whether what is printed of the goals opens more than `MOST_OPEN` brackets at one place.
+fn are_printed_deep(alloc: Global, goals: &[Goal]) -> Result<bool, AllocError>
+    ensures { IfOk result (λ deep. IsTrue deep ↔ (MOST_OPEN < most_open 0 (body_text goals.now))) }
+{
+    let mut text = String::new(alloc);
+    write_body(goals, &mut text)?;
+    Ok(opens_many(text.as_bytes()))
+}
+
 // The goals that a text says are asked for; none where it says none.
 fn read_goals(alloc: Global, text: &[u8]) -> Result<Option<Ask>, AllocError>
     ensures some { IfOk result (λ found. IfSome found (λ ask. SaysGoals text.now ask)) }
     ensures one { IfOk result (λ found. IfSome found (λ ask. (gs : List goal_spec) → SaysGoals text.now gs → gs ≡ ask)) }
     ensures none { IfOk result (λ found. IfNone found ((gs : List goal_spec) → ¬ SaysGoals text.now gs)) }
 {
+    if opens_many(text) {
+        return Ok(None);
+    }
     // Called for its clause that a text is read in one way, which the proof cites.
     read_body_is_exact();
     let written = match read_body(alloc, text) {
@@ -94,6 +110,10 @@ fn read_goals(alloc: Global, text: &[u8]) -> Result<Option<Ask>, AllocError>
         return Ok(None);
     }
     let ask = Ask::of_written(alloc, written)?;
+    let is_deep = are_printed_deep(alloc, ask.goals())?;
+    if is_deep {
+        return Ok(None);
+    }
     Ok(Some(ask))
 }
 

@@ -5,6 +5,7 @@ mod addition;
 mod asking_reading;
 mod binders;
 mod binding;
+mod brackets;
 mod chronicle;
 mod chronicle_laws;
 mod chronicle_lines;

@@ -36,8 +36,8 @@ pub fn push_goal_name(name: GoalName, out: &mut String) -> Result<(), AllocError
     or_cut_back(out, length, written)
 }
 
-// Writes goals as they are written, with a comma and a space between them, and `true` where there is none.
-fn write_body(goals: &[Goal], out: &mut String) -> Result<(), AllocError>
+/// Writes goals as they are written, with a comma and a space between them, and `true` where there is none.
+pub(crate) fn write_body(goals: &[Goal], out: &mut String) -> Result<(), AllocError>
     ensures text { OnOk result (string_bytes out.new ≡ string_bytes out.old ++ body_text goals.now) }
     ensures begun { StartsWith (string_bytes out.new) (string_bytes out.old) }
 {
