@@ -3,6 +3,7 @@ pub mod Places
 pub mod Cause
 pub mod Deletion
 pub mod Slices
+pub mod Sources
 pub mod Lawful
 pub mod Kept
 pub mod Facts

@@ -1,5 +1,5 @@
 -- Places of steps: those of the slots in which they stand, in recorded order.
-use Rattle.std.specs.Prelude.{◌≡◌, ◌≤◌, ℕ, List, Option, Some, None}
+use Rattle.std.specs.Prelude.{◌≤◌, ℕ, List, Option, Some, None}
 use Rattle.ghc_term.specs.Lists.{In}
 use Rattle.ghc_records.specs.Record.{Record}
 use Rattle.ghc_records.specs.Slots.{SlotList, held_in, StandsIn}

@@ -7,6 +7,7 @@ mod facts;
 mod lawful_order;
 mod laws;
 mod places;
+mod sources;
 
 pub use cause::{Cause, direct};
 pub use consequence::{consequences, first_consequence};
@@ -18,3 +19,4 @@ pub use laws::{
     orders_have_one_answer, roll_keeps_replay, slices_are_least, undo_keeps_replay,
     without_steps_is_one,
 };
+pub use sources::{Sources, place_of_binder, place_of_goal_maker, place_of_maker};

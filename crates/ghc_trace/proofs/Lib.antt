@@ -8,7 +8,8 @@ pub mod Changed
 pub mod Telling
 pub mod Lines
 pub mod GoalTelling
-pub mod InQuestion
+pub mod CausePlaces
+pub mod Slicing
 pub mod Reasoning
 pub mod BoundChain
 pub mod WayUp

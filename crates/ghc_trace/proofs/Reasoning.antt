@@ -1,5 +1,7 @@
 -- The steps on which a kept step depends are found one after another.
-use Rattle.ghc_trace.proofs.Words.{◌≡◌, ℕ, zero, suc, ◌+◌, ◌-◌, ◌<◌, ◌≤◌, arith, List, [], ◌∷◌, ◌++◌, length, map, take, refl, sym, ap, ◌∙◌, subst, inl, inr, Some, None, slice_get, map-append, take_all, slice_get_within, In, in_at, in_either, Picks, nothing, AreDistinct, Record, numbers, record_once, SlotList, held_in, rank, rank_stands, rank_back, of_map, map_of, Cause, DependsOn, IsKeptAs, HasCause, by_making, by_reading, by_naming, IsDirect, pick_last, leave_last, at_split, Reason, Uses, reason_of, AreReasonsTold, AreInQuestion}
+use Rattle.ghc_trace.proofs.Words.{◌≡◌, ℕ, zero, suc, ◌+◌, ◌-◌, ◌<◌, ◌≤◌, arith, List, [], ◌∷◌, ◌++◌, length, map, take, refl, sym, ap, ◌∙◌, subst, inl, inr, Some, None, slice_get, map-append, take_all, slice_get_within, In, in_at, in_either, Picks, nothing, AreDistinct, Record, numbers, record_once, SlotList, held_in, rank, rank_stands, rank_back, of_map, map_of, Cause, DependsOn, IsKeptAs, HasCause, by_making, by_reading, by_naming, IsDirect, pick_last, leave_last, at_split, Reason, Uses, reason_of, AreReasonsTold, StandsIn, HasNumberIn, stands_held}
+use Rattle.ghc_trace.specs.Causes.{HasInFront}
+use Rattle.ghc_trace.proofs.Slicing.{in_front_of}
 
 -- of the first i records, found are those on which b depends, as told
 pub record Gathered (kept : List Record) (b : Record) (i : ℕ) (items : List Reason) : Type 0 where
@@ -61,7 +63,7 @@ some_at (x ∷ xs) zero h = (x, refl)
 some_at (x ∷ xs) (suc i) h = some_at xs i (omega (arith, h))
 
 module _ (kept : List Record) (b : Record) (far : ℕ) (items : List Reason) where
-  none_between : Gathered kept b far items → (d : ℕ) → far + d ≤ length kept → ((a : Record) (p : ℕ) → slice_get kept p ≡ Some a → far ≤ p → p < far + d → ¬ Uses b a) → Gathered kept b (far + d) items
+  none_between : Gathered kept b far items → (d : ℕ) → far + d ≤ length kept → ((a : Record) (p : ℕ) → slice_get kept p ≡ Some a → far ≤ p → p < far + d → ¬ DependsOn kept b a) → Gathered kept b (far + d) items
   none_between g zero within none = subst (λ k. Gathered kept b k items) (let e : far ≡ far + 0 = omega arith in e) g
   none_between g (suc d) within none =
       let before = none_between g d (omega (arith, within)) (λ a p at near high. none a p at near (omega (arith, high))) in
@@ -69,12 +71,12 @@ module _ (kept : List Record) (b : Record) (far : ℕ) (items : List Reason) whe
       subst (λ k. Gathered kept b k items) (let e : (far + d) + 1 ≡ far + suc d = omega arith in e) (record {
         found = before.found;
         picked = subst (λ l. Picks (DependsOn kept b) l (map (λ p. p.0) before.found)) (sym (at_split kept (far + d) a.0 a.1).2)
-            (leave_last (take (far + d) kept) (map (λ p. p.0) before.found) a.0 before.picked (λ depends. none a.0 (far + d) a.1 (omega arith) (omega arith) depends.1));
+            (leave_last (take (far + d) kept) (map (λ p. p.0) before.found) a.0 before.picked (λ depends. none a.0 (far + d) a.1 (omega arith) (omega arith) depends));
         caused = before.caused;
         told = before.told;
       })
 
-  pub skipped : Gathered kept b far items → (place : ℕ) → far ≤ place → place ≤ length kept → ((a : Record) (p : ℕ) → slice_get kept p ≡ Some a → far ≤ p → p < place → ¬ Uses b a) → Gathered kept b place items
+  pub skipped : Gathered kept b far items → (place : ℕ) → far ≤ place → place ≤ length kept → ((a : Record) (p : ℕ) → slice_get kept p ≡ Some a → far ≤ p → p < place → ¬ DependsOn kept b a) → Gathered kept b place items
   skipped g place near within none =
       let same : far + (place - far) ≡ place = omega (arith, near) in
       subst (λ k. Gathered kept b k items) same (none_between g (place - far) (omega (arith, near, within)) (λ a p at l h. none a p at l (omega (arith, near, h))))
@@ -86,7 +88,7 @@ pub record IsSearched (kept : List Record) (b : Record) (ahead : List ℕ) (item
   pub short : far ≤ length kept
   pub within : (p : ℕ) → In p ahead → p < length kept
   pub near : (p : ℕ) → In p ahead → far ≤ p
-  pub all : (a : Record) (p : ℕ) → slice_get kept p ≡ Some a → far ≤ p → Uses b a → In p ahead
+  pub all : (a : Record) (p : ℕ) → slice_get kept p ≡ Some a → far ≤ p → DependsOn kept b a → In p ahead
 
 module _ (kept : List Record) (b : Record) (ahead : List ℕ) (items : List Reason) (s : IsSearched kept b ahead items) where
   -- up to the first place ahead there is no other
@@ -110,16 +112,27 @@ module _ (kept : List Record) (b : Record) (ahead : List ℕ) (items : List Reas
   pub none_ahead : ahead ≡ [] → Gathered kept b (length kept) items
   none_ahead e = skipped kept b s.far items s.so_far (length kept) s.short (omega arith) (λ a p at l high u. subst (In p) e (s.all a p at l u))
 
--- at first the places in question are ahead
-pub search : (ss : SlotList) (b : Record) (ahead : List ℕ) (items : List Reason) → AreInQuestion ss b ahead → items ≡ [] → IsSearched (held_in ss) b (map (rank ss) ahead) items
-search ss b ahead items q e = record {
+-- a step stands at each place in front
+pub stands_ahead : (ss : SlotList) (place : ℕ) (P : Record → Type 0) (ahead : List ℕ) → HasInFront ss place P [] ahead → (p : ℕ) → In p ahead → (a : Record) × StandsIn ss p a
+stands_ahead ss place P ahead q p i = elim ((q p).0 i) [ inl never ↦ absurd never | inr f ↦ (f.1, f.2) ]
+
+-- a number that has a place is kept
+pub still_kept : (rs : List Record) (ss : SlotList) → rs ≡ held_in ss → (place n : ℕ) → HasNumberIn ss place n → ¬ ((r : Record) → In r rs → ¬ (r.number ≡ n))
+still_kept rs ss is place n f none = none f.0 (subst (In f.0) (sym is) (stands_held ss place f.0 f.1)) f.2
+
+-- at first the places of those on which it depends are ahead
+pub search : (ss : SlotList) → AreDistinct (numbers (held_in ss)) → (place : ℕ) (b : Record) (at : StandsIn ss place b) (ahead : List ℕ) (items : List Reason)
+    → HasInFront ss place (Uses b) [] ahead → items ≡ [] → IsSearched (held_in ss) b (map (rank ss) ahead) items
+search ss distinct place b at ahead items q e = record {
   far = 0;
   so_far = record { found = []; picked = nothing; caused = λ p i. absurd i; told = e };
   short = omega arith;
   within = λ i j.
       let w = of_map (rank ss) ahead i j in
-      let a = q.0 w.0 w.1 in
+      let a = stands_ahead ss place (Uses b) ahead q w.0 w.1 in
       subst (λ k. k < length (held_in ss)) w.2 (slice_get_within (held_in ss) (rank ss w.0) a.0 (rank_stands ss w.0 a.0 a.1));
   near = λ p i. omega arith;
-  all = λ a i at l u. let w = rank_back ss i a at in subst (λ k. In k (map (rank ss) ahead)) w.2 (map_of (rank ss) ahead w.0 (q.1 a w.0 w.1 u));
+  all = λ a i there l d.
+      let w = rank_back ss i a there in
+      subst (λ k. In k (map (rank ss) ahead)) w.2 (map_of (rank ss) ahead w.0 ((q w.0).1 (inr (in_front_of ss distinct w.0 place a b w.1 at d.0, a, w.1, d.1))));
 }

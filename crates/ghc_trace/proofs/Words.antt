@@ -86,7 +86,7 @@ pub use Rattle.ghc_trace.specs.PortText.{port_text, ports_text}
 pub use Rattle.ghc_trace.specs.Ports.{calls, resumed}
 pub use Rattle.ghc_trace.specs.Spies.{IsSpied, Spies, as_written, in_order, predicate, predicate_cmp, spied_of, spies_in_order}
 pub use Rattle.ghc_trace.specs.Who.{binder_of}
-pub use Rattle.ghc_trace.specs.Why.{AreInQuestion, AreReasonsTold, IsPlaceOfBinder, IsPlaceOfStepOf, reason_of}
+pub use Rattle.ghc_trace.specs.Why.{AreReasonsTold, reason_of}
 pub use Rattle.ghc_trace.specs.declared.reasons.Reason.{Reason}
 pub use Rattle.ghc_trace.specs.declared.spies.Predicate.{Predicate}
 pub use Rattle.ghc_trace.specs.declared.stuck.Stuck.{Stuck}

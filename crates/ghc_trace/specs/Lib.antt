@@ -11,6 +11,7 @@ pub mod Laws
 pub mod GoalLines
 pub mod GoalLinesCode
 pub mod GoalLaws
+pub mod Causes
 pub mod Why
 pub mod ReasonText
 pub mod Who

@@ -2,6 +2,7 @@
 //! a chain, which goals descend from a goal, and which predicates are spied.
 #![tactic(auto)]
 
+mod cause_places;
 mod descent;
 mod disturbed;
 mod gathered;
@@ -12,6 +13,7 @@ mod news;
 mod port;
 mod reason_text;
 mod reasons;
+mod slices;
 mod spies;
 mod spy_laws;
 mod status_text;
@@ -27,6 +29,7 @@ pub use laws::{notes_tell_news, notes_tell_ports};
 pub use port::{Port, push_port, push_ports};
 pub use reason_text::push_reason;
 pub use reasons::{Reason, why};
+pub use slices::slice;
 pub use spies::SpySet;
 pub use spy_laws::listed_spies_come_back;
 pub use status_text::push_status;

@@ -1,40 +1,68 @@
-use Rattle.ghc_trace.proofs.Words.{◌≡◌, ◌<◌, ℕ, false, true, List, [], ◌∷◌, ◌++◌, length, map, refl, sym, ap, ◌∙◌, subst, inl, inr, arith, In, IsDirect, AreDistinct, numbers, held_in, rank, rank_stands, some_of, IsKeptAs, all_behind, behind_ranked, AreReasonsTold}
+use Rattle.ghc_trace.proofs.Words.{◌≡◌, ◌<◌, ℕ, false, true, List, [], ◌∷◌, ◌++◌, length, map, refl, sym, ap, ◌∙◌, subst, inl, inr, arith, In, IsDirect, AreDistinct, numbers, held_in, rank, rank_stands, some_of, record_once, IsKeptAs, all_behind, behind_ranked, AreReasonsTold}
 use Rattle.std.specs.Option.{option_copied}
-use Rattle.ghc_trace.proofs.Reasoning.{search, up_to, behind_it, none_ahead, gathered, passed, finished}
+use Rattle.ghc_trace.proofs.Reasoning.{search, stands_ahead, still_kept, up_to, behind_it, none_ahead, gathered, passed, finished}
+use Rattle.ghc_trace.proofs.Slicing.{nothing_left}
+use Rattle.ghc_trace.specs.Causes.{HasInFront}
+use Rattle.ghc_depend.proofs.Sourcing.{kept_as}
+use Rattle.ghc_depend.specs.Sources.{AreSources}
+use Rattle.ghc_records.specs.Uses.{Uses}
 use Rattle.ghc_trace.proofs.reasons.why.Goals as goal
 
 pub returns-in_default-clause-fault : goal.returns-in_default-clause-fault
 returns-in_default-clause-fault c = inr (refl, c.in_default.ensures.none)
 
-pub returns-in_err-ahead-clause-not_kept : goal.returns-in_err-ahead-clause-not_kept
-returns-in_err-ahead-clause-not_kept c none = absurd (none c.in-Some.kept.now c.in-Some.ensures.found.0 c.in-Some.ensures.found.1)
+pub unwrap-kept-requires : goal.unwrap-kept-requires
+unwrap-kept-requires c = let f = c.in-Some.ensures.found in some_of c.at.result f.0 ((c.at.ensures f.0).1 f.1)
 
-pub loop-place-init : goal.loop-place-init
-loop-place-init c =
+pub returns-in_err-sources-clause-not_kept : goal.returns-in_err-sources-clause-not_kept
+returns-in_err-sources-clause-not_kept c none = absurd (still_kept c.args.records.now.held c.args.records.now.slots c.len-count.ensures.slots c.in-Some.place c.args.number c.in-Some.ensures.found none)
+
+pub add_causes-requires : goal.add_causes-requires
+add_causes-requires c = (c.at.ensures c.unwrap-kept.result.now).0 (ap option_copied c.unwrap-kept.ensures)
+
+pub returns-in_err-add_causes-clause-not_kept : goal.returns-in_err-add_causes-clause-not_kept
+returns-in_err-add_causes-clause-not_kept c none = absurd (still_kept c.args.records.now.held c.args.records.now.slots c.len-count.ensures.slots c.in-Some.place c.args.number c.in-Some.ensures.found none)
+
+pub loop-earlier-init : goal.loop-earlier-init
+loop-earlier-init c =
     let ss = c.args.records.now.slots in
-    let b = c.in-Some.kept.now in
-    (b, subst (λ l. IsKeptAs l c.args.number b) c.len-count.ensures.slots c.in-Some.ensures.found, search ss b c.in_ok-ahead.ahead.keys c.new-reasons.result.items c.in_ok-ahead.ensures c.new-reasons.ensures.items, c.in_ok-ahead.ensures.0)
+    let distinct = subst (λ l. AreDistinct (numbers l)) c.len-count.ensures.slots c.len-count.ensures.distinct in
+    let b = c.unwrap-kept.result.now in
+    let at = (c.at.ensures b).0 (ap option_copied c.unwrap-kept.ensures) in
+    let ahead = c.add_causes.new.places.keys in
+    let causes = subst (λ old. HasInFront ss c.in-Some.place (Uses b) old ahead) c.new-ahead.ensures.empty c.in_ok-add_causes.ensures in
+    (b, kept_as (held_in ss) ss refl c.in-Some.place c.args.number c.in-Some.ensures.found b at, search ss distinct c.in-Some.place b at ahead c.new-reasons.result.items causes c.new-reasons.ensures.items, stands_ahead ss c.in-Some.place (Uses b) ahead causes)
+
+pub direct-requires : goal.direct-requires
+direct-requires c b own =
+    let ss = c.args.records.now.slots in
+    let is = c.len-count.ensures.slots in
+    let kept = c.unwrap-kept.result.now in
+    let at = (c.at.ensures kept).0 (ap option_copied c.unwrap-kept.ensures) in
+    let there = kept_as c.args.records.now.held ss is c.in-Some.place c.args.number c.in-Some.ensures.found kept at in
+    let same : kept ≡ b = record_once c.args.records.now.held kept b c.len-count.ensures.distinct there.0 own.0 (there.1 ∙ sym own.1) in
+    subst (λ z. AreSources ss z c.in_ok-sources.sources) same c.in_ok-sources.ensures
 
 pub unwrap-requires : goal.unwrap-requires
 unwrap-requires c =
-    let place = c.in-Some-pop_first.place in
-    let a = c.loop-place.invariant.3 place (subst (In place) (sym c.in-Some-pop_first.ensures.removal) (inl refl)) in
-    some_of c.at.result a.0 ((c.at.ensures a.0).1 a.1)
+    let place = c.in-Some-pop_first.earlier in
+    let a = c.loop-earlier.invariant.3 place (subst (In place) (sym c.in-Some-pop_first.ensures.removal) (inl refl)) in
+    some_of c.at-in-Some-pop_first.result a.0 ((c.at-in-Some-pop_first.ensures a.0).1 a.1)
 
-pub loop-place-preserved-in-Ok : goal.loop-place-preserved-in-Ok
-loop-place-preserved-in-Ok c =
+pub loop-earlier-preserved-in-Ok : goal.loop-earlier-preserved-in-Ok
+loop-earlier-preserved-in-Ok c =
     let ss = c.args.records.now.slots in
     let is = c.len-count.ensures.slots in
     let kept = held_in ss in
     let distinct = subst (λ l. AreDistinct (numbers l)) is c.len-count.ensures.distinct in
     let n = c.args.number in
-    let inv = c.loop-place.invariant in
-    let place = c.in-Some-pop_first.place in
+    let inv = c.loop-earlier.invariant in
+    let place = c.in-Some-pop_first.earlier in
     let rest = c.pop_first.new.self.keys in
-    let ahead = map (rank ss) c.loop-place.ahead.keys in
-    let items = c.loop-place.reasons.items in
+    let ahead = map (rank ss) c.loop-earlier.ahead.keys in
+    let items = c.loop-earlier.reasons.items in
     let a = c.unwrap.result.now in
-    let stands = (c.at.ensures a).0 (ap option_copied c.unwrap.ensures) in
+    let stands = (c.at-in-Some-pop_first.ensures a).0 (ap option_copied c.unwrap.ensures) in
     let at = rank_stands ss place a stands in
     let direct = subst (λ l. IsDirect l n a.number c.direct.result) is (subst (λ m. IsDirect c.args.records.now.held n m c.direct.result) c.number-step.ensures c.direct.ensures) in
     let removal = ap (λ l. map (rank ss) l) c.in-Some-pop_first.ensures.removal in
@@ -51,22 +79,22 @@ loop-place-preserved-in-Ok c =
     )
 
 pub returns-in-Err-clause-not_kept : goal.returns-in-Err-clause-not_kept
-returns-in-Err-clause-not_kept c none = absurd (none c.in-Some.kept.now c.in-Some.ensures.found.0 c.in-Some.ensures.found.1)
+returns-in-Err-clause-not_kept c none = absurd (still_kept c.args.records.now.held c.args.records.now.slots c.len-count.ensures.slots c.in-Some.place c.args.number c.in-Some.ensures.found none)
 
-pub loop-place-preserved : goal.loop-place-preserved
-loop-place-preserved c =
+pub loop-earlier-preserved : goal.loop-earlier-preserved
+loop-earlier-preserved c =
     let ss = c.args.records.now.slots in
     let is = c.len-count.ensures.slots in
     let kept = held_in ss in
     let distinct = subst (λ l. AreDistinct (numbers l)) is c.len-count.ensures.distinct in
     let n = c.args.number in
-    let inv = c.loop-place.invariant in
-    let place = c.in-Some-pop_first.place in
+    let inv = c.loop-earlier.invariant in
+    let place = c.in-Some-pop_first.earlier in
     let rest = c.pop_first.new.self.keys in
-    let ahead = map (rank ss) c.loop-place.ahead.keys in
-    let items = c.loop-place.reasons.items in
+    let ahead = map (rank ss) c.loop-earlier.ahead.keys in
+    let items = c.loop-earlier.reasons.items in
     let a = c.unwrap.result.now in
-    let stands = (c.at.ensures a).0 (ap option_copied c.unwrap.ensures) in
+    let stands = (c.at-in-Some-pop_first.ensures a).0 (ap option_copied c.unwrap.ensures) in
     let at = rank_stands ss place a stands in
     let direct = subst (λ l. IsDirect l n a.number c.direct.result) is (subst (λ m. IsDirect c.args.records.now.held n m c.direct.result) c.number-step.ensures c.direct.ensures) in
     let removal = ap (λ l. map (rank ss) l) c.in-Some-pop_first.ensures.removal in
@@ -80,22 +108,18 @@ loop-place-preserved c =
       others,
     )
 
-nothing_left : (ks : List ℕ) → (0 < length ks → false ≡ true) → ks ≡ []
-nothing_left [] h = refl
-nothing_left (k ∷ ks) h = absurd (let clash : false ≡ true = h (omega arith) in cc)
-
 pub returns-clause-found : goal.returns-clause-found
 returns-clause-found c =
     let ss = c.args.records.now.slots in
     let is = c.len-count.ensures.slots in
     let kept = held_in ss in
     let distinct = subst (λ l. AreDistinct (numbers l)) is c.len-count.ensures.distinct in
-    let inv = c.loop-place.invariant in
-    let items = c.loop-place.reasons.items in
-    let ahead = map (rank ss) c.loop-place.ahead.keys in
-    let none = ap (λ l. map (rank ss) l) (nothing_left c.loop-place.ahead.keys c.in_default-pop_first.ensures.variant.1) in
+    let inv = c.loop-earlier.invariant in
+    let items = c.loop-earlier.reasons.items in
+    let ahead = map (rank ss) c.loop-earlier.ahead.keys in
+    let none = ap (λ l. map (rank ss) l) (nothing_left c.loop-earlier.ahead.keys c.in_default-pop_first.ensures.variant.1) in
     subst (λ l. AreReasonsTold l c.args.number items) (sym is)
     (finished kept distinct c.args.number inv.0 inv.1 (length kept) items (none_ahead kept inv.0 ahead items inv.2 none) (omega arith))
 
 pub returns-clause-not_kept : goal.returns-clause-not_kept
-returns-clause-not_kept c none = absurd (none c.in-Some.kept.now c.in-Some.ensures.found.0 c.in-Some.ensures.found.1)
+returns-clause-not_kept c none = absurd (still_kept c.args.records.now.held c.args.records.now.slots c.len-count.ensures.slots c.in-Some.place c.args.number c.in-Some.ensures.found none)

@@ -1,6 +1,0 @@
-use Rattle.std.proofs.Common.{take}
-use Rattle.ghc_trace.proofs.InQuestion.{HasBindersOf}
-use Rattle.ghc_trace.proofs.reasons.add_binders.Given as goal
-
-abbrev pub invariant-loop-x : goal.invariant-loop-x
-invariant-loop-x l = HasBindersOf l.records.slots (take l.x-index l.xs) l.initial.places.keys l.places.keys

@@ -1,0 +1,27 @@
+-- The places of the steps on which a step depends directly, and the steps of a slice.
+use Rattle.std.specs.Prelude.{◌≡◌, ◌⊎◌, ◌↔◌, ◌<◌, ℕ, List}
+use Rattle.ghc_term.specs.Lists.{In}
+use Rattle.ghc_records.specs.Orders.{Picks}
+use Rattle.ghc_records.specs.Record.{Record, numbers}
+use Rattle.ghc_records.specs.Slots.{SlotList, StandsIn}
+use Rattle.ghc_depend.specs.Slices.{IsCauseOf}
+
+-- At the place p, in front of the other place, stands a step of which P holds.
+abbrev pub IsInFront : SlotList → ℕ → (Record → Type 0) → ℕ → Type 0
+IsInFront ss place P p = (p < place) × (a : Record) × StandsIn ss p a × P a
+
+-- To the old places those were put that are in front of the other place, and where a step stands of which P holds.
+abbrev pub HasInFront : SlotList → ℕ → (Record → Type 0) → List ℕ → List ℕ → Type 0
+HasInFront ss place P old new = (p : ℕ) → In p new ↔ (In p old ⊎ IsInFront ss place P p)
+
+-- To the old places those of the steps of these numbers were put.
+abbrev pub HasNumbered : SlotList → List ℕ → List ℕ → List ℕ → Type 0
+HasNumbered ss ns old new = (p : ℕ) → In p new ↔ (In p old ⊎ ((a : Record) × StandsIn ss p a × In a.number ns))
+
+-- The step has one of these numbers.
+abbrev pub IsNumbered : List ℕ → Record → Type 0
+IsNumbered ns r = In r.number ns
+
+-- Of the kept steps, found are those of these numbers and all on which they depend, in recorded order, by their numbers.
+abbrev pub IsSliceTold : List Record → List ℕ → List ℕ → Type 0
+IsSliceTold kept roots told = (found : List Record) × Picks (IsCauseOf kept (IsNumbered roots)) kept found × (numbers found ≡ told)
