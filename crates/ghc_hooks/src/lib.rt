@@ -20,5 +20,6 @@ pub use laws::{
     settled_notes_show_the_face, status_is_of_what_is_looked_at, status_is_one,
 };
 pub use note::{Note, Verdict};
+pub use reached::reached_from;
 pub use trial::try_goal;
 pub use tries::Tries;

@@ -61,8 +61,8 @@ fn take_up<'a>(
     Ok(())
 }
 
-// All variables that the terms reach in the store. It goes by a loop, once through each term and through the value of each variable,
-// and past what is closed as written.
+/// All variables that the terms reach in the store. It goes by a loop, once through each term and through the value of each variable,
+/// and past what is closed as written. It fails for want of memory alone.
 pub fn reached_from<'a>(
     alloc: Global,
     store: &'a Store,

@@ -10,6 +10,7 @@ pub mod Lines
 pub mod GoalTelling
 pub mod CausePlaces
 pub mod Slicing
+pub mod Giving
 pub mod Reasoning
 pub mod BoundChain
 pub mod WayUp

@@ -1,10 +1,11 @@
 -- The places of the steps on which a step depends directly, and the steps of a slice.
 use Rattle.std.specs.Prelude.{◌≡◌, ◌⊎◌, ◌↔◌, ◌<◌, ℕ, List}
+use Rattle.ghc_term.specs.declared.var_name.VarName.{VarName}
 use Rattle.ghc_term.specs.Lists.{In}
 use Rattle.ghc_records.specs.Orders.{Picks}
-use Rattle.ghc_records.specs.Record.{Record, numbers}
+use Rattle.ghc_records.specs.Record.{State, Record, numbers}
 use Rattle.ghc_records.specs.Slots.{SlotList, StandsIn}
-use Rattle.ghc_depend.specs.Slices.{IsCauseOf}
+use Rattle.ghc_depend.specs.Slices.{IsCauseOf, IsSliceOf}
 
 -- At the place p, in front of the other place, stands a step of which P holds.
 abbrev pub IsInFront : SlotList → ℕ → (Record → Type 0) → ℕ → Type 0
@@ -25,3 +26,7 @@ IsNumbered ns r = In r.number ns
 -- Of the kept steps, found are those of these numbers and all on which they depend, in recorded order, by their numbers.
 abbrev pub IsSliceTold : List Record → List ℕ → List ℕ → Type 0
 IsSliceTold kept roots told = (found : List Record) × Picks (IsCauseOf kept (IsNumbered roots)) kept found × (numbers found ≡ told)
+
+-- Told are the steps of the slice of x, in recorded order, by their numbers.
+abbrev pub IsToldSliceOf : List Record → State → VarName → List ℕ → Type 0
+IsToldSliceOf kept t x told = (found rest : List Record) × IsSliceOf kept t x found rest × (numbers found ≡ told)

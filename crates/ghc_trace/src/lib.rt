@@ -6,6 +6,7 @@ mod cause_places;
 mod descent;
 mod disturbed;
 mod gathered;
+mod given;
 mod goal_laws;
 mod goal_lines;
 mod laws;
@@ -23,6 +24,7 @@ mod who_bound;
 
 pub use descent::descends;
 pub use disturbed::Disturbed;
+pub use given::slice_of;
 pub use goal_laws::{lines_are_of_goals, notes_tell_goals};
 pub use goal_lines::push_goals;
 pub use laws::{notes_tell_news, notes_tell_ports};

@@ -1,0 +1,10 @@
+use Rattle.ghc_trace.proofs.Words.{◌∙◌, ap, subst}
+use Rattle.ghc_trace.specs.Causes.{IsSliceTold}
+use Rattle.ghc_trace.proofs.Giving.{if_ok, told_slice}
+use Rattle.ghc_trace.proofs.given.slice_of.Goals as goal
+
+pub returns : goal.returns
+returns c = if_ok c.slice.result c.slice.ensures (λ told h.
+    let w = c.args.core.now.world in
+    told_slice w.kept w.state c.args.x c.in_ok-givers.givers.items told.items c.in_ok-givers.ensures
+    (subst (λ kept. IsSliceTold kept c.in_ok-givers.givers.items told.items) c.records.ensures (subst (λ ns. IsSliceTold c.records.result.now.held ns told.items) c.as_slice.ensures.value h)))
