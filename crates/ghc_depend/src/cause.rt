@@ -1,13 +1,13 @@
 // Why a step depends directly on an earlier one.
-ghost use Rattle.std.specs.Prelude.{◌≡◌, ◌≢◌, ◌↔◌, slice_get, Some, IsTrue};
+ghost use Rattle.std.specs.Prelude.{◌≡◌, ◌≢◌, ◌↔◌, slice_get, Some, IsTrue, IfSome, IfNone};
 ghost use Rattle.ghc_term.specs.declared.var_name.VarName.{VarName};
 ghost use Rattle.ghc_records.specs.Record.{Record};
 ghost use Rattle.ghc_records.specs.Slots.{StandsIn};
 ghost use Rattle.ghc_depend.specs.Depend.{MakesGoal, MakesVariable, Consumes, Binds, ReadsFrom, NamesFrom, IsKeptAs, Uses};
-ghost use Rattle.ghc_depend.specs.Cause.{CanWait, WasThereBefore, IsBoundBehind, ReadsBehind, IsWokenBy, IsDirect};
+ghost use Rattle.ghc_depend.specs.Cause.{CanWait, WasThereBefore, IsBoundBehind, ReadsBehind, IsWokenBy, IsLeastRead, IsLeastNamed, IsDirect};
 ghost use Rattle.ghc_depend.specs.Sources.{AreLeastReads, AreSources};
 
-use crate::sources::Sources;
+use crate::sources::{Sources, lesser};
 use ghc_fire::Act;
 use ghc_records::{Record, Records};
 use ghc_term::{GoalName, VarName};
@@ -49,6 +49,20 @@ fn binds(binder: &Record, x: VarName) -> bool
     binder.effect().binds().get(x).is_some()
 }
 
+// The least variable that the later step read and the earlier one bound: one look-up for each that it read.
+fn least_read(later: &Record, earlier: &Record) -> Option<VarName>
+    ensures some { IfSome result (IsLeastRead later.now earlier.now) }
+    ensures none { IfNone result ((x : VarName) → ¬ ReadsFrom later.now earlier.now x) }
+{
+    let mut least = None;
+    for x in later.effect().reads().members() {
+        if binds(earlier, *x) {
+            least = Some(lesser(least, *x));
+        }
+    }
+    least
+}
+
 // Whether the later step read a variable that the earlier one bound: one look-up for each that it read.
 fn reads_from(later: &Record, earlier: &Record) -> bool
     ensures { IsTrue result ↔ ((x : VarName) × ReadsFrom later.now earlier.now x) }
@@ -69,6 +83,20 @@ fn names(later: &Record, earlier: &Record, x: VarName) -> bool
         && x.step == earlier.number()
         && 1 <= x.place
         && x.place <= earlier.effect().fresh()
+}
+
+// The least variable that the later step names and the earlier one made: one step for each variable of its goals.
+fn least_named(later: &Record, earlier: &Record) -> Option<VarName>
+    ensures some { IfSome result (IsLeastNamed later.now earlier.now) }
+    ensures none { IfNone result ((x : VarName) → ¬ NamesFrom later.now earlier.now x) }
+{
+    let mut least = None;
+    for name in later.act().variables() {
+        if names(later, earlier, *name) {
+            least = Some(lesser(least, *name));
+        }
+    }
+    least
 }
 
 // Whether the later step names a variable that the earlier one made: one step for each variable of its goals.
@@ -152,6 +180,33 @@ fn is_woken_by(records: &Records, later: &Record, place: usize) -> bool
         && !reads_behind(records, later, place)
 }
 
+/// Why the step numbered `later` depends directly on the one numbered `earlier`, if it does: for a goal that it made, and else for
+/// the least variable. None where one of them is not kept. It costs two look-ups, and one for each variable that the later step
+/// read; the mark `woke` costs one more, and two for each variable.
+pub fn direct(records: &Records, later: u32, earlier: u32) -> Option<Cause>
+    ensures { IsDirect records.now.held later earlier result }
+{
+    let _count = records.len();
+    let place = records.place_of(earlier)?;
+    let behind = records.place_of(later)?;
+    if behind <= place {
+        return None;
+    }
+    let maker = records.at(place).unwrap();
+    let taken = records.at(behind).unwrap();
+    if consumes(taken, maker) {
+        let cause = Cause::Made;
+        return Some(cause);
+    }
+    if let Some(variable) = least_read(taken, maker) {
+        let woke = is_woken_by(records, taken, place);
+        let cause = Cause::Read { variable, woke };
+        return Some(cause);
+    }
+    let variable = least_named(taken, maker)?;
+    Some(Cause::Named { variable })
+}
+
 // Whether the step at this place woke the goal of the later one, by what that read: some look-ups. It goes once over what the later
 // step read where no step behind this one bound any of it, so for one of the places at most.
 fn woke(records: &Records, sources: &Sources, later: &Record, place: usize) -> bool
@@ -170,7 +225,12 @@ fn woke(records: &Records, sources: &Sources, later: &Record, place: usize) -> b
 /// Why the step numbered `later`, of which these are the sources, depends directly on the one numbered `earlier`, if it does: for a
 /// goal that it made, and else for the least variable. None where one of them is not kept. It costs some look-ups; for one of the
 /// earlier steps also two for each variable that the later step read.
-pub fn direct(records: &Records, sources: &Sources, later: u32, earlier: u32) -> Option<Cause>
+pub fn direct_by_sources(
+    records: &Records,
+    sources: &Sources,
+    later: u32,
+    earlier: u32,
+) -> Option<Cause>
     requires { (b : Record) → IsKeptAs records.now.held later b → AreSources records.now.slots b sources.now }
     ensures { IsDirect records.now.held later earlier result }
 {

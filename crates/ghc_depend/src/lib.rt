@@ -9,7 +9,7 @@ mod laws;
 mod places;
 mod sources;
 
-pub use cause::{Cause, direct};
+pub use cause::{Cause, direct, direct_by_sources};
 pub use consequence::{consequences, first_consequence};
 pub use facts::{append_depends, append_orders, waking_depends};
 pub use lawful_order::lawful;

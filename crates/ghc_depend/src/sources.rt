@@ -56,7 +56,7 @@ fn place_of_other_maker(records: &Records, later: &Record, x: VarName) -> Option
 }
 
 // The lesser of a variable and the least so far, if there is one.
-fn lesser(least: Option<VarName>, x: VarName) -> VarName
+pub(crate) fn lesser(least: Option<VarName>, x: VarName) -> VarName
     ensures second { IfSome least (λ y. result ≡ ord_min name_cmp y x) }
     ensures alone { IfNone least (result ≡ x) }
 {

@@ -4,7 +4,7 @@ ghost use Rattle.ghc_depend.specs.Depend.{IsNotKept};
 ghost use Rattle.ghc_trace.specs.Why.{AreReasonsTold};
 
 use crate::cause_places::add_causes;
-use ghc_depend::{Cause, Sources, direct};
+use ghc_depend::{Cause, Sources, direct_by_sources};
 use ghc_records::Records;
 use ghc_term::Fault;
 use std::alloc::{AllocError, Global};
@@ -36,7 +36,7 @@ pub fn why(alloc: Global, records: &Records, number: u32) -> Result<Vec<Reason>,
     let mut reasons = Vec::new(alloc);
     while let Some(earlier) = ahead.pop_first() {
         let step = records.at(earlier).unwrap().number();
-        if let Some(cause) = direct(records, &sources, number, step) {
+        if let Some(cause) = direct_by_sources(records, &sources, number, step) {
             match reasons.push(Reason { step, cause }) {
                 Ok(()) => {}
                 Err(_) => return Err(Fault::Memory),
