@@ -1,5 +1,5 @@
 -- What a call does to the history of a core.
-use Rattle.ghc_shared.proofs.Words.{◌≡◌, ◌⊎◌, ◌++◌, ◌∙◌, ℕ, List, [], ◌∷◌, refl, sym, ap, subst, subst₂, inl, inr, Some, None, Result, Err, Bool, true, false, arith, map-append, MatchBool, nat_cmp_total, Fault, Opening, Entry, opened, entered, history, Proposal, Hands, no_hands, IsHand, emptied, World, IsCommitted, command_of, commit, command, stepped, refused, CommitFails, Fails, hands_after, Answers, fails, no_memory, IsNotCommittedAnyway, holds_no_goal, held_gone, hand_commits, hand_gives_up, Leaves, tells_change, AddsWhatItTells, AnswersAddWhatTheyTell, reply_of, Reply, Command, Call, AddsIfAccepted, holding, hands_of, event_of, IsToldAnyway, IsAnswerTo}
+use Rattle.ghc_shared.proofs.Words.{◌≡◌, ◌⊎◌, ◌++◌, ◌∙◌, ℕ, List, [], ◌∷◌, refl, sym, ap, subst, subst₂, inl, inr, Some, None, Result, Err, Bool, true, false, arith, map-append, MatchBool, nat_cmp_total, Fault, Opening, Entry, opened, entered, history, Proposal, Hands, no_hands, IsHand, emptied, World, IsCommitted, command_of, commit, command, stepped, refused, CommitFails, Fails, hands_after, Counts, Meter, fired, Answers, fails, no_memory, IsNotCommittedAnyway, holds_no_goal, held_gone, hand_commits, hand_gives_up, Leaves, tells_change, AddsWhatItTells, AnswersAddWhatTheyTell, reply_of, Reply, Command, Call, AddsIfAccepted, holding, hands_of, event_of, IsToldAnyway, IsAnswerTo}
 use Rattle.std.specs.FinMap as finite
 
 -- want of memory is an answer to each call
@@ -12,6 +12,10 @@ held_there p = finite.get-insert nat_cmp_total finite.empty 1 p 1
 
 one_hand : (p : Proposal) → IsHand (holding p) 1
 one_hand p = (omega arith, omega arith)
+
+-- a submit fires once, since the hand holds the proposal
+pub submit_counts : (w : World) (p : Proposal) (m n : Meter) → n ≡ fired m → Counts w (holding p) (commit 1) m n
+submit_counts w p m n once = (λ _. once, λ none. absurd (none (one_hand p, (p, held_there p))))
 
 -- the hand commits what it holds
 pub commits : (w v : World) (p : Proposal) (n : ℕ) → IsCommitted w p v n → Answers (Unit {0}) w (holding p) (commit 1) (stepped n) v (emptied 1 (holding p))

@@ -9,6 +9,7 @@ pub use Rattle.ghc_core.specs.Answers.{Answers, Fails, fails, hands_after, no_me
 pub use Rattle.ghc_core.specs.Anyway.{IsNotCommittedAnyway, IsRefusedAnyway}
 pub use Rattle.ghc_core.specs.CommandCode.{command_of}
 pub use Rattle.ghc_core.specs.Core.{Core, IsCommitted}
+pub use Rattle.ghc_core.specs.Counting.{Counts}
 pub use Rattle.ghc_core.specs.EventCode.{reply_of}
 pub use Rattle.ghc_core.specs.Events.{command, commit, note, refused, stepped}
 pub use Rattle.ghc_core.specs.HistoryLaws.{LeavesIsOne, LegalIsReachable}
@@ -18,6 +19,8 @@ pub use Rattle.ghc_core.specs.Proposes.{CommitFails}
 pub use Rattle.ghc_core.specs.World.{Hands, IsHand, Proposal, World, emptied, no_hands}
 pub use Rattle.ghc_core.specs.declared.command.Command.{Command}
 pub use Rattle.ghc_core.specs.declared.reply.Reply.{Reply}
+pub use Rattle.ghc_fire.specs.Meter.{fired}
+pub use Rattle.ghc_fire.specs.declared.meter.Meter.{Meter}
 pub use Rattle.ghc_records.specs.Journal.{Entry, Item, Opening, entered, history, opened}
 pub use Rattle.ghc_records.specs.Record.{numbers}
 pub use Rattle.ghc_shared.specs.Calls.{IsAnswerTo, IsToldAnyway, IsToldOnFront, code_of, event_of, hands_of, holding, receipt_behind, receipt_of}

@@ -1,6 +1,6 @@
 -- Calls of a shared core, and what is told of them.
 use base.Stored.{Gv}
-use Rattle.std.specs.Prelude.{◌≡◌, ℕ, ◌-◌, false, List, Option, Some, None, Result, Err}
+use Rattle.std.specs.Prelude.{◌≡◌, ◌⊎◌, ℕ, ◌-◌, false, List, Option, Some, None, Result, Err}
 use Rattle.std.specs.FinMap as finite
 use Rattle.ghc_term.specs.declared.goal_name.GoalName.{GoalName}
 use Rattle.ghc_term.specs.declared.fault.Fault.{Fault}
@@ -9,12 +9,14 @@ use Rattle.ghc_fire.specs.Attempt.{refused}
 use Rattle.ghc_records.specs.Journal.{Opening, Entry, Item, entered}
 use Rattle.ghc_records.specs.RecordCode.{opening_code}
 use Rattle.ghc_core.specs.World.{Proposal, Hands, no_hands, World}
-use Rattle.ghc_core.specs.Core.{IsStanding}
+use Rattle.ghc_core.specs.Core.{Core, IsStanding, Stays}
+use Rattle.ghc_core.specs.Counting.{Counts}
+use Rattle.ghc_core.specs.Meets.{CarriesNotes}
 use Rattle.ghc_core.specs.Events as events
 use Rattle.ghc_core.specs.Proposes.{IsProposedIn, AttemptAnswers}
 use Rattle.ghc_core.specs.Anyway.{IsRefusedAnyway}
 use Rattle.ghc_core.specs.Legal.{Leaves, Receipt, entry_count, IsAccepted, IsTold}
-use Rattle.ghc_core.specs.Playing.{hands_with}
+use Rattle.ghc_core.specs.Playing.{hands_with, IsRefusal}
 use Rattle.ghc_core.specs.CommandCode.{command_of}
 use Rattle.ghc_core.specs.EventCode.{reply_of}
 use Rattle.ghc_core.specs.declared.reply.Reply.{Reply}
@@ -60,6 +62,12 @@ abbrev pub IsAnswerTo : List Item → Call → Reply → Option Item → Type 0
 IsAnswerTo items call reply (Some item) =
     (entry : Entry) × (item ≡ entered entry) × IsAccepted items (hands_of call) (event_of call) (receipt_behind items reply) entry
 IsAnswerTo items call reply None = IsToldCall items call reply
+
+-- What a call with this reply does to notes, untried goals and counts of a core: what the event does that the call is; a refused one leaves notes and untried goals as they were.
+pub record CallDoes (old : Core) (call : Call) (reply : Reply) (new : Core) : Type 0 where
+  pub carries : IsRefusal (reply_of reply) ⊎ CarriesNotes (event_of call) old new
+  pub stays : IsRefusal (reply_of reply) → Stays old new
+  pub counts : Counts old.world (hands_of call) (event_of call) old.meter new.meter
 
 -- Where the call was not accepted, it is told what it is refused for, whatever memory is left, in the world that the front leaves.
 abbrev pub IsToldOnFront : List Item → Call → given.Receipt Reply → Type 0

@@ -28,11 +28,15 @@ pub trait Growing {
     /// What may be replied to a call behind these items: with the item that it adds, where it is accepted, and else with none.
     ghost answers: { List Self.Item → Self.Ask → Self.Reply → Option Self.Item → Type 0 };
 
+    /// What a call with this reply may do to the value beside its history.
+    ghost does: { Self → Self.Ask → Self.Reply → Self → Type 0 };
+
     /// The reply to a call whose place there is no room for: it is not made, and the history stays.
     fn refuse(&mut self, alloc: Global, ask: &Self::Ask) -> Self::Reply
         ensures same { history self.new ≡ history self.old }
         ensures opened { opened self.new ≡ opened self.old }
-        ensures reply { answers (history self.old) ask.now result None };
+        ensures reply { answers (history self.old) ask.now result None }
+        ensures does { does self.old ask.now result self.new };
 
     /// How many items the history has. It is asked twice in each call, so it should cost no more than a look.
     fn len(&self) -> u64
@@ -42,5 +46,6 @@ pub trait Growing {
     /// Makes a call, and says beside the reply whether it was accepted. Where memory is refused, so is the call.
     fn call(&mut self, alloc: Global, ask: Self::Ask) -> (Self::Reply, bool)
         ensures adds { AddsIfAccepted answers result.1 (history self.old) (history self.new) ask result.0 }
-        ensures opened { opened self.new ≡ opened self.old };
+        ensures opened { opened self.new ≡ opened self.old }
+        ensures does { does self.old ask result.0 self.new };
 }

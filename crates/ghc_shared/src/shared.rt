@@ -28,17 +28,6 @@ pub struct Shared<C: Growing, N: Naming> {
 }
 
 impl<C: Growing, N: Naming> Shared<C, N> {
-    /// The pass sees the history as it is now. It takes no memory, and is never refused; it costs one look at the value's length,
-    /// and a few steps on one word. (That what it sees is the present history, and not only one that goes on with its front, no
-    /// clause can say, since other threads call meanwhile.)
-    pub fn see<R: Wait>(&self, rt: &R, me: &mut Pass<C, N>)
-        ensures begins { IsPrefix me.old.front me.new.front }
-        ensures legal { C.legal me.new.front }
-        ensures same { (me.new.number ≡ me.old.number) × (me.new.places ≡ me.old.places) }
-    {
-        self.lock.write(rt).look(&self.table, me)
-    }
-
     /// Makes a call of the value, and gives its receipt: accepted, the call is the last item of the pass's front, at the receipt's
     /// place; refused, it was decided on just the pass's front. Where memory is refused for the place that the pass is to keep, the
     /// value refuses the call. It costs the value's call, two looks at its length, and a few steps on one word.

@@ -5,7 +5,7 @@ ghost use Rattle.ghc_core.specs.Answers.{Answers};
 ghost use Rattle.ghc_core.specs.EventCode.{reply_of};
 ghost use Rattle.ghc_core.specs.Legal.{IsLegal};
 ghost use Rattle.ghc_core.specs.World.{Hands};
-ghost use Rattle.ghc_shared.specs.Calls.{hands_of, event_of, IsToldAnyway, IsAnswerTo, code_of};
+ghost use Rattle.ghc_shared.specs.Calls.{hands_of, event_of, CallDoes, IsToldAnyway, IsAnswerTo, code_of};
 
 use crate::calls::{Call, HistoryItem};
 use crate::growing::Growing;
@@ -17,6 +17,7 @@ use std::alloc::Global;
 fn reply_to(core: &mut Core, alloc: Global, call: &Call) -> Reply
     ensures answer { (left : Hands) × Answers (Unit {0}) core.old.world (hands_of call.now) (event_of call.now) (reply_of result) core.new.world left }
     ensures anyway { IsToldAnyway core.old.world call.now result }
+    ensures does { CallDoes core.old call.now result core.new }
 {
     match call {
         Call::Submit(proposal) => match core.commit(alloc, proposal) {
@@ -33,6 +34,7 @@ fn refuse_to(core: &mut Core, alloc: Global, call: &Call) -> Reply
     ensures answer { (left : Hands) × Answers (Unit {0}) core.old.world (hands_of call.now) (event_of call.now) (reply_of result) core.old.world left }
     ensures anyway { IsToldAnyway core.old.world call.now result }
     ensures world { core.new.world ≡ core.old.world }
+    ensures does { CallDoes core.old call.now result core.new }
 {
     match call {
         Call::Submit(proposal) => match core.prepare(alloc, proposal) {
@@ -61,6 +63,8 @@ impl Growing for Core {
     ghost legal = { IsLegal };
 
     ghost answers = { IsAnswerTo };
+
+    ghost does = { CallDoes };
 
     fn refuse(&mut self, alloc: Global, ask: &Call) -> Reply {
         self.stands();

@@ -1,5 +1,6 @@
 use Rattle.ghc_shared.proofs.Words.{◌≡◌, sym, subst, refl, Ok, Err, Fault, no_hands, emptied, refused, reply_of, Answers, IsRefusedAnyway, note_refused_anyway, noted_answers, holding, hands_of, event_of}
-use Rattle.ghc_shared.proofs.Answering.{starved, gives_up, not_obeyed, told_gone}
+use Rattle.std.proofs.Common.{inl}
+use Rattle.ghc_shared.proofs.Answering.{starved, gives_up, not_obeyed, submit_counts, told_gone}
 use Rattle.ghc_shared.proofs.telling.refuse_to.Goals as goal
 
 pub returns-in-Ok-clause-answer : goal.returns-in-Ok-clause-answer
@@ -61,3 +62,28 @@ pub returns-in-Err-prepare_command-clause-anyway : goal.returns-in-Err-prepare_c
 returns-in-Err-prepare_command-clause-anyway c =
     let w = c.args.core.now.world in
     subst (λ e. (f : Fault) → IsRefusedAnyway w (hands_of e) (event_of e) f → refused c.in-Err-prepare_command.refusal ≡ refused f) (sym c.in-Command.is) (λ f fails. let said = c.in-Err-prepare_command.ensures.anyway f fails in cc)
+
+pub returns-in-Ok-clause-does : goal.returns-in-Ok-clause-does
+returns-in-Ok-clause-does c =
+    let found = c.in-Ok.ensures in
+    rw c.in-Submit.is (record { carries = inl (Fault.Memory, refl); stays = λ _. found.stays; counts = submit_counts c.args.core.now.world c.in-Submit.proposal _ _ found.counted })
+
+pub returns-in-Err-clause-does : goal.returns-in-Err-clause-does
+returns-in-Err-clause-does c =
+    let told = c.in-Err.ensures in
+    rw c.in-Submit.is (record { carries = inl (c.in-Err.reason, refl); stays = λ _. told.stays; counts = submit_counts c.args.core.now.world c.in-Submit.proposal _ _ told.counted })
+
+pub returns-in-Note-clause-does : goal.returns-in-Note-clause-does
+returns-in-Note-clause-does c =
+    let noted = c.reply_to_note.ensures in
+    rw c.in-Note.is (record { carries = noted.noted; stays = noted.stays; counts = noted.counted })
+
+pub returns-in-Ok-prepare_command-clause-does : goal.returns-in-Ok-prepare_command-clause-does
+returns-in-Ok-prepare_command-clause-does c =
+    let found = c.in-Ok-prepare_command.ensures in
+    rw c.in-Command.is (record { carries = inl (Fault.Memory, refl); stays = λ _. found.stays; counts = found.counted })
+
+pub returns-in-Err-prepare_command-clause-does : goal.returns-in-Err-prepare_command-clause-does
+returns-in-Err-prepare_command-clause-does c =
+    let told = c.in-Err-prepare_command.ensures in
+    rw c.in-Command.is (record { carries = inl (c.in-Err-prepare_command.refusal, refl); stays = λ _. told.stays; counts = told.counted })

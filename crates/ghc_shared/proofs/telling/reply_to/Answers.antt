@@ -1,5 +1,8 @@
 use Rattle.ghc_shared.proofs.Words.{◌≡◌, sym, subst, Ok, Err, Fault, no_hands, emptied, note, stepped, refused, reply_of, Answers, IsRefusedAnyway, note_refused_anyway, obeyed_answers, noted_answers, holding, hands_of, event_of}
-use Rattle.ghc_shared.proofs.Answering.{commits, gives_up, told_gone}
+use Rattle.std.proofs.Common.{inl, inr, refl}
+use Rattle.ghc_core.specs.declared.change.Change.TheVariants.{Comes as comes}
+use Rattle.ghc_core.specs.declared.change.Coming.{Coming}
+use Rattle.ghc_shared.proofs.Answering.{commits, gives_up, submit_counts, told_gone}
 use Rattle.ghc_shared.proofs.telling.reply_to.Goals as goal
 
 pub returns-in-Ok-clause-answer : goal.returns-in-Ok-clause-answer
@@ -59,3 +62,28 @@ returns-in-Command-clause-anyway c =
     let w = c.args.core.now.world in
     let reply = reply_of c.obey.result in
     subst (λ e. (f : Fault) → IsRefusedAnyway w (hands_of e) (event_of e) f → reply ≡ refused f) (sym c.in-Command.is) c.obey.ensures.anyway
+
+pub returns-in-Ok-clause-does : goal.returns-in-Ok-clause-does
+returns-in-Ok-clause-does c = let moved = c.in-Ok.ensures.notes in
+    rw c.in-Submit.is (record {
+      carries = inr (record { change = comes Coming.Next moved.0; possible = moved.1.1; changed = moved.2; notes = moved.3 });
+      stays = λ r. let clash = r.1 in cc;
+      counts = submit_counts c.args.core.now.world c.in-Submit.proposal _ _ c.in-Ok.ensures.counted;
+    })
+
+pub returns-in-Err-clause-does : goal.returns-in-Err-clause-does
+returns-in-Err-clause-does c = rw c.in-Submit.is (record {
+  carries = inl (c.in-Err.fault, refl);
+  stays = λ _. c.in-Err.ensures.stays;
+  counts = submit_counts c.args.core.now.world c.in-Submit.proposal _ _ c.in-Err.ensures.counted;
+})
+
+pub returns-in-Note-clause-does : goal.returns-in-Note-clause-does
+returns-in-Note-clause-does c =
+    let noted = c.reply_to_note.ensures in
+    rw c.in-Note.is (record { carries = noted.noted; stays = noted.stays; counts = noted.counted })
+
+pub returns-in-Command-clause-does : goal.returns-in-Command-clause-does
+returns-in-Command-clause-does c =
+    let obeyed = c.obey.ensures in
+    rw c.in-Command.is (record { carries = obeyed.moves; stays = obeyed.stays; counts = obeyed.counted })
