@@ -20,8 +20,9 @@ const Canvas = (() => {
     const room = Math.max(320, area.clientWidth - 8) * (Overview.isOn() || canvas.isFit ? 1 : canvas.zoom);
     const high = canvas.isFit ? Math.max(120, area.clientHeight - LEGEND) : undefined;
     Overview.draw();
-    const drawn = Picture.draw(Overview.shownRun(), { by: canvas.by, theme: canvas.theme, room, high, legend: true, titles: false });
+    const drawn = Picture.draw(Overview.shownRun(), { by: canvas.by, theme: canvas.theme, room, high, leastColumns: canvas.by === "depth" ? Beside.columns() : 0, legend: true, titles: false });
     area.innerHTML = drawn.svg;
+    Beside.draw({ theme: canvas.theme, room, titles: false });
     canvas.view = drawn.view;
     if (canvas.chosen && !isThere(canvas.chosen)) canvas.chosen = null;
     if (isScrolled) stayInSight();

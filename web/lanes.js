@@ -422,7 +422,7 @@ const Lanes = ((Graph, Terms) => {
     const { lanes, laneOf, kinds } = run.placed || lanesOf(run);
     const place = new Map(run.graph.steps.map((step, index) => [step.number, index]));
     const columnOf = options.by === "depth" ? (step) => run.graph.depth.get(step.number) : (step) => place.get(step.number);
-    const columns = run.graph.steps.reduce((most, step) => Math.max(most, columnOf(step) + 1), 0);
+    const columns = run.graph.steps.reduce((most, step) => Math.max(most, columnOf(step) + 1), options.leastColumns || 0);
     const rows = new Map(), store = run.store || run.graph.store;
     const makerOf = new Map(run.graph.steps.flatMap((step) => step.makes.map((goal) => [goal, step])));
     for (const lane of lanes) {

@@ -269,5 +269,5 @@ const Overview = (() => {
     area.addEventListener("wheel", (event) => { event.preventDefault(); zoom(event.deltaY < 0 ? 1.2 : 1 / 1.2); goTo(overview.from); }, { passive: false });
   }
 
-  return Object.assign(overview, { isOn, count, shownRun, follow, show, showUntil, laneOf, stepsUnder, zoom, fit, draw, listenToAll, sizeNow: size });
+  return Object.assign(overview, { MOST_SIZE, incoming, isOn, count, shownRun, follow, show, showUntil, laneOf, stepsUnder, zoom, fit, draw, listenToAll, sizeNow: size });
 })();

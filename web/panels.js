@@ -90,6 +90,7 @@ const Panels = (() => {
     if (Talk.refusal) return [`Refused: ${Talk.refusal}`];
     if (Talk.session.hasEnded) return ["The session has ended. Start begins a new one."];
     if (Overview.until !== null) return [`This is the run after ${plural(Overview.until, "step")}: nothing was taken back. `, make("button", { class: "small", id: "show-all-steps" }, "Show all steps")];
+    if (Beside.isOn()) return Beside.noteParts();
     if (failed) return tellFailure(failed);
     if (isReady && graph.count === 0) return ["A green ring is a goal that is ready: click it, or press Run."];
     if (isReady) return [];
