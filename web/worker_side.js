@@ -49,6 +49,7 @@ const WorkerSide = ((Graph, Asking) => {
       this.engine = engine;
       this.mostQuick = mostQuick;
       this.session = null;
+      this.quick = [];
     }
 
     /** Begins a session, from nothing or from a history. */

@@ -1,0 +1,34 @@
+// Tries the page in each headless browser that is there. One that is not there is not tried, and that is said.
+import path from "node:path";
+import { pathToFileURL, fileURLToPath } from "node:url";
+import test from "node:test";
+import assert from "node:assert/strict";
+import { ChromiumPage, chromiumName } from "./chromium.mjs";
+import { FirefoxPage, firefoxName } from "./firefox.mjs";
+
+export const FILE = path.join(path.dirname(fileURLToPath(import.meta.url)), "..", "ghcdb.html");
+export const PAGE = pathToFileURL(FILE).href;
+export const STARTED = 'document.body.classList.contains("started") && !Talk.busy';
+
+const BROWSERS = [{ name: "Chromium", Page: ChromiumPage, isThere: chromiumName() }, { name: "Firefox", Page: FirefoxPage, isThere: firefoxName() }];
+
+/** Opens an address of the page, or of another file. */
+export async function open(page, address, size, file = PAGE) {
+  if (size) await page.size(...size);
+  await page.go(`${file}${address}`, STARTED);
+}
+
+/** Tries the page in each browser that is there. */
+export function inBrowsers(words, does) {
+  for (const { name, Page, isThere } of BROWSERS) {
+    test(`${name}: ${words}`, { skip: isThere ? false : `there is no ${name}: the page was not tried in it` }, async () => {
+      const page = await Page.open();
+      try {
+        await does(page);
+        assert.deepEqual(await page.thrown(), []);
+      } finally {
+        await page.close();
+      }
+    });
+  }
+}

@@ -1,0 +1,93 @@
+// Tests of web/ghcdb.html with runs of any length, in a headless Chromium and a headless Firefox: 100,000 steps are drawn while the page goes on,
+// a step is lit with its causes, a line that is at work is stopped. With GHCDB_LONG=1 a run of 1,000,000 steps is tried, too.
+import assert from "node:assert/strict";
+import { inBrowsers, open } from "./in_browsers.mjs";
+
+const LONGEST_FREEZE = 100, LONGEST_STEP = 100, LONGEST_LIGHT = 500; // milliseconds on a machine that does nothing else
+const MOST_ROUNDS = 4; // the least time of some rounds counts, for other work may be done on the machine
+const PRIMES = "#example=primes&query=primes(20000,Ps)";
+
+/** Puts up what measures: how long the page stands still, and by how much other work makes this machine slower at this time. */
+const WATCH = `(() => {
+  const channel = new MessageChannel();
+  let last = 0, longest = 0, isOn = false;
+  channel.port1.onmessage = () => {
+    const now = performance.now();
+    longest = Math.max(longest, now - last);
+    last = now;
+    if (isOn) channel.port2.postMessage(0);
+  };
+  const work = () => { const start = performance.now(); let sum = 0; for (let at = 0; at < 400000; at++) sum += at % 7; return performance.now() - start + sum * 0; };
+  window.slowness = async () => {
+    const times = [];
+    for (let round = 0; round < 40; round++) { times.push(work()); await new Promise((done) => setTimeout(done, 2)); }
+    const sorted = [...times].sort((one, other) => one - other);
+    return Math.max(1, sorted[36] / Math.max(0.1, sorted[2]));
+  };
+  window.measured = async (does) => {
+    last = performance.now();
+    longest = 0;
+    isOn = true;
+    channel.port2.postMessage(0);
+    const start = performance.now();
+    await does();
+    const took = performance.now() - start;
+    await new Promise((done) => setTimeout(done, 100));
+    isOn = false;
+    return { took: Math.round(took), freeze: Math.round(longest), slowness: await window.slowness() };
+  };
+  return true;
+})()`;
+const measured = (page, does) => page.value(`measured(() => ${does})`);
+
+/** Tries something until a round is as quick as it has to be. */
+async function quickEnough(words, isQuick, does) {
+  const told = [];
+  for (let round = 0; round < MOST_ROUNDS; round++) {
+    told.push(await does());
+    if (isQuick(told[told.length - 1])) return;
+  }
+  assert.fail(`${words}: ${JSON.stringify(told)}`);
+}
+
+inBrowsers("a run of 100,000 steps is drawn while the page goes on; a further step and 33,333 causes are shown quickly", async (page) => {
+  await quickEnough("the run", ({ freeze, slowness }) => freeze <= LONGEST_FREEZE * slowness, async () => {
+    await open(page, PRIMES, [1440, 900]);
+    await page.value(WATCH);
+    return measured(page, 'Talk.send("leap 100000")');
+  });
+  assert.equal(await page.value('document.getElementById("count").textContent'), "100000 steps, depth 40003, 2 ready");
+  assert.ok(await page.value('!document.getElementById("overview").hidden && document.querySelectorAll("#canvas .mark").length > 10'));
+  await quickEnough("a step", ({ took, slowness }) => took <= LONGEST_STEP * slowness, async () => {
+    await new Promise((done) => setTimeout(done, 1500)); // the record of the step before is printed meanwhile
+    return measured(page, 'Talk.send("step " + Talk.run.goals.find((goal) => goal.status === "ready").name)');
+  });
+  await quickEnough("lighting", ({ took, slowness }) => took <= LONGEST_LIGHT * slowness, () => measured(page, '(Canvas.choose(null), Canvas.choose({ step: 50000 }))'));
+  assert.match(await page.value('document.getElementById("overview").getAttribute("aria-valuetext")'), /step 50000: 33333 causes \(blue\), 16\d\d\d consequences/);
+  const record = 'Service.ask("lines", { lines: ["records"] }).then((told) => new TextDecoder().decode(told.replies[0]).split("\\n").filter(Boolean))';
+  await page.value("new Promise((done) => setTimeout(done, 2500))");
+  assert.equal(await page.value(`${record}.then((lines) => lines.length === Talk.run.graph.count && lines.every((line, index) => line === Talk.run.graph.told[index]))`), true, "the page's record is the console's");
+});
+
+inBrowsers("a line that is at work is stopped: the run stands where it stood, the line is told and not saved, and the next one is right", async (page) => {
+  await open(page, "", [1440, 900]);
+  await page.value('(Page.begin({ program: "loop :- true | loop.\\n", query: "loop" }), Talk.send("leap 20"))');
+  await page.value('(Talk.send("leap 1000000"), new Promise((done) => setTimeout(done, 600)))');
+  await page.click("#stop");
+  await page.value("Talk.settled()");
+  assert.equal(await page.value('document.getElementById("count").textContent'), "20 steps, depth 20, 1 ready");
+  assert.match(await page.value('document.getElementById("told").textContent'), /stopped by hand after [\d.]+ s: not taken; the run stands where it stood/);
+  assert.doesNotMatch(await page.value("Files.sessionText()"), /1000000/);
+  await page.value('Talk.send("leap 5")');
+  assert.equal(await page.value("Talk.run.graph.count"), 25);
+});
+
+if (process.env.GHCDB_LONG === "1") {
+  inBrowsers("a run of 1,000,000 steps is shown with true counts", async (page) => {
+    await open(page, "", [1440, 900]);
+    await page.value('(Page.begin({ program: "loop :- true | loop.\\n", query: "loop" }), Talk.send("leap"))');
+    assert.equal(await page.value('document.getElementById("count").textContent'), "1000000 steps, depth 1000000, 1 ready");
+    assert.match(await page.value('document.getElementById("overview").getAttribute("aria-valuetext")'), /of 1000000/);
+    assert.equal(await page.value('document.getElementById("undo-last").dataset.line'), "undo 1000000");
+  });
+}

@@ -1,0 +1,83 @@
+// Tests of how web/ghcdb.html looks, in a headless Chromium and a headless Firefox: no text of the picture beyond its edge or over another
+// one, no part of the page beyond the window, and enough contrast, on wide and narrow windows, light and dark.
+import assert from "node:assert/strict";
+import { inBrowsers, open } from "./in_browsers.mjs";
+
+const SIZES = { wide: [1440, 900], phone: [390, 800] };
+const RUNS = [
+  "#example=bill&query=bill(12,3,T)&lines=leap 3", "#example=quicksort&query=quicksort([3,1,2],R)&lines=leap", "#example=deadlock&lines=leap",
+  "#example=buffer&query=produce(1,6,[A,B|E]), consume([A,B|E],E,Out)&lines=leap 20", "#example=merge&query=instream(X), instream(Y), merge(X,Y,Z)&lines=in 1 a;in 2 b;leap;in 1 f(a,[b])",
+  "#example=append&query=append([1],[2],R)&lines=step 0.1;ask _1_1 = [7];step 2.1;step 1.2", "#example=primes&query=primes(80,Ps)&lines=leap 300", "#example=primes&query=primes(30,Ps)&lines=leap 50",
+];
+
+/** The texts of the picture that stand beyond its edge, and the pairs of them that stand over each other. */
+const TEXTS = `(() => {
+  const svg = document.querySelector("#canvas svg"), edge = svg.getBoundingClientRect(), wrong = [];
+  const texts = [...svg.querySelectorAll("text")].filter((one) => one.textContent.trim() !== "" && one.getClientRects().length > 0);
+  const boxes = texts.map((one) => ({ words: one.textContent, kind: one.getAttribute("class") || one.parentNode.getAttribute("class"), box: one.getBoundingClientRect() }));
+  for (const { words, box } of boxes) if (box.left < edge.left - 1 || box.right > edge.right + 1 || box.top < edge.top - 1 || box.bottom > edge.bottom + 1) wrong.push("beyond the edge: " + words);
+  for (let at = 0; at < boxes.length; at++) for (let other = at + 1; other < boxes.length; other++) {
+    const one = boxes[at].box, two = boxes[other].box, across = Math.min(one.right, two.right) - Math.max(one.left, two.left), down = Math.min(one.bottom, two.bottom) - Math.max(one.top, two.top);
+    if (across > 3 && down > 4) wrong.push(boxes[at].words + " over " + boxes[other].words);
+  }
+  return wrong;
+})()`;
+
+/** The texts of the page whose contrast with what is behind them is below 4.5; what is switched off does not count. */
+const CONTRAST = `(() => {
+  const light = ([red, green, blue]) => [red, green, blue].map((value) => value / 255).map((part) => (part <= 0.03928 ? part / 12.92 : ((part + 0.055) / 1.055) ** 2.4)).reduce((sum, part, at) => sum + part * [0.2126, 0.7152, 0.0722][at], 0);
+  const parts = (colour) => (colour.match(/[\\d.]+/g) || []).map(Number), ratio = (one, other) => (Math.max(one, other) + 0.05) / (Math.min(one, other) + 0.05);
+  const behind = (element) => { for (let at = element; at; at = at.parentElement) { const found = parts(getComputedStyle(at).backgroundColor); if (found.length === 3 || found[3] === 1) return found; } return [255, 255, 255]; };
+  const wrong = [];
+  for (const element of document.querySelectorAll("body *:not(svg *)")) {
+    const isText = [...element.childNodes].some((node) => node.nodeType === 3 && node.textContent.trim() !== "") || element.matches("input:not([type=range]), textarea, select");
+    if (!isText || element.getClientRects().length === 0 || element.closest(":disabled, option, script, style, #program-lines")) continue;
+    const value = ratio(light(parts(getComputedStyle(element).color)), light(behind(element)));
+    if (value < 4.5) wrong.push(value.toFixed(2) + " " + element.tagName + " " + (element.id || element.className) + " " + element.textContent.slice(0, 20));
+  }
+  const ground = light(parts(getComputedStyle(document.getElementById("canvas")).backgroundColor));
+  for (const text of document.querySelectorAll("#canvas svg text:not([pointer-events]):not(.number)")) for (const part of text.children.length > 0 ? text.children : [text]) {
+    if (part.tagName === "title") continue;
+    const value = ratio(light(parts(getComputedStyle(part).fill)), ground);
+    if (value < 4.5) wrong.push(value.toFixed(2) + " in the picture " + part.textContent);
+  }
+  return wrong;
+})()`;
+
+/** The parts of the page that reach beyond the window's width, and labels of buttons that are cut. */
+const PARTS = `(() => {
+  const wrong = [];
+  for (const element of document.querySelectorAll("header *, .tools *, #answer *, #note *, #panels h2 *")) {
+    const box = element.getBoundingClientRect();
+    if (box.width === 0 || element.closest("option, select, [hidden]")) continue;
+    if (box.right > innerWidth + 1) wrong.push("beyond the window: " + (element.id || element.textContent));
+    if (element.tagName === "BUTTON" && element.scrollWidth > element.clientWidth + 1) wrong.push("cut: " + element.textContent);
+  }
+  return wrong;
+})()`;
+
+inBrowsers("no text is cut or over another one, nothing reaches beyond the window, and texts have a contrast of 4.5", async (page) => {
+  for (const [name, size] of Object.entries(SIZES)) {
+    for (const run of RUNS) {
+      for (const theme of ["light", "dark"]) {
+        await open(page, `${run}&theme=${theme}`, size);
+        const words = `${run} on a ${name} window, ${theme}`;
+        assert.deepEqual(await page.value(CONTRAST), [], words);
+        if (theme === "dark") continue;
+        assert.deepEqual(await page.value(TEXTS), [], words);
+        assert.deepEqual(await page.value(PARTS), [], words);
+      }
+    }
+  }
+});
+
+inBrowsers("all of a run fits where that is asked for, and after a run one looks at what is there now", async (page) => {
+  await open(page, "#example=tree&query=empty([insert(5),insert(2),insert(8),has(3,A),has(8,B),has(2,C)])&lines=leap", [900, 600]);
+  const fits = '(() => { const area = document.getElementById("canvas"); return [area.scrollWidth <= area.clientWidth + 1, area.scrollHeight <= area.clientHeight + 1]; })()';
+  await page.click("#fit");
+  assert.deepEqual(await page.value(fits), [true, true]);
+  await page.click("#fit");
+  await open(page, "#example=primes&query=primes(80,Ps)&lines=leap 200", [900, 600]);
+  const isThere = '(() => { const goal = document.querySelector("#canvas .goal .body").getBoundingClientRect(), area = document.getElementById("canvas").getBoundingClientRect(); return goal.left > area.left && goal.right < area.right && goal.top > area.top && goal.bottom < area.bottom; })()';
+  assert.ok(await page.value(isThere), "the first goal that is there is in sight");
+});

@@ -1,0 +1,187 @@
+// Tests of web/ghcdb.html for real work, in a headless Chromium and a headless Firefox, from a file: what is told and where, values explained,
+// lines that are kept, two runs side by side, the program's pane, what is saved, and what one looks for.
+import fs from "node:fs";
+import os from "node:os";
+import path from "node:path";
+import { pathToFileURL } from "node:url";
+import assert from "node:assert/strict";
+import { FILE, inBrowsers, open } from "./in_browsers.mjs";
+
+const PHONE = [390, 800], WIDE = [1440, 900];
+const text = (id) => `document.getElementById(${JSON.stringify(id)}).textContent`;
+const isSeen = (id) => `(() => { const box = document.getElementById(${JSON.stringify(id)}).getBoundingClientRect(); return box.height > 0 && box.top >= 0 && box.bottom <= innerHeight; })()`;
+const numbers = (selector, name = "step") => `[...document.querySelectorAll(${JSON.stringify(selector)})].map((one) => Number(one.dataset.${name}))`;
+const lines = "[...document.querySelectorAll('#told > .typed')].map((one) => one.textContent.slice(2))";
+const FAILED = "#example=append&query=append([1],[2],R)&lines=step 0.1;ask _1_1 = [7];step 2.1;step 1.2";
+
+/** A copy of the page in which a script comes first. */
+function pageWith(script) {
+  const folder = fs.mkdtempSync(path.join(os.tmpdir(), "ghcdb-page-")), file = path.join(folder, "page.html");
+  fs.writeFileSync(file, fs.readFileSync(FILE, "utf8").replace("<script data-file=", `<script>${script}</script>\n<script data-file=`));
+  return { file: pathToFileURL(file).href, remove: () => fs.rmSync(folder, { recursive: true }) };
+}
+
+inBrowsers("a refusal stands above the picture, also on a phone, and its step is a link", async (page) => {
+  for (const size of [WIDE, PHONE]) {
+    await open(page, "#example=bill&query=bill(12,3,T)&lines=leap;undo 2", size);
+    assert.equal(await page.value(text("answer")), "undo 2 was refused: F17 step 3 depends on it×");
+    assert.ok(await page.value(isSeen("answer")));
+    await page.click("#answer [data-goto]");
+    assert.deepEqual(await page.value("Canvas.chosen"), { step: 3 });
+    await page.click("#close-answer");
+    assert.ok(await page.value('document.getElementById("answer").hidden'));
+  }
+});
+
+inBrowsers("a failed goal tells what clashed and which step bound it; an error in the program is scrolled into sight with its line", async (page) => {
+  await open(page, FAILED, WIDE);
+  assert.match(await page.value(text("note")), /^Goal 4\.1 has failed: (2 and 7|7 and 2) are two different things \(F11, a clash\)\. Step 3 bound _1_1 = \[7\]\. Take back/);
+  await page.click("#note [data-goto]");
+  assert.deepEqual(await page.value("Canvas.chosen"), { step: 3 });
+  const program = `${"p(a) :- true | true.\n".repeat(40)}p(b) :- true | q(.\n`;
+  await page.value(`(Files.openText(${JSON.stringify(program)}), Talk.settled())`);
+  assert.equal(await page.value(text("note")), "Refused: program: F2 syntax at 41:18");
+  assert.equal(await page.value(text("answer")), "Line 41, column 18: this fits nowhere: . behind p(b) :- true | q(.×");
+  assert.ok(await page.value('(() => { const line = document.querySelector("#program-lines .wrong").getBoundingClientRect(), pane = document.getElementById("program-pane").getBoundingClientRect(); return line.top >= pane.top && line.bottom <= pane.bottom; })()'), "the line is in sight");
+});
+
+inBrowsers("a bad session, no WebAssembly, refused workers and an engine that stopped are told, and the lines are kept", async (page) => {
+  await open(page, "#example=append&lines=step 0.1", WIDE);
+  await page.value('Files.openText("example: none.ghc\\nsession:\\n| > goals\\n")');
+  assert.equal(await page.value(text("answer")), "This text was not opened: the session names the example none.ghc, which is not here.×");
+  await page.value('(Service.asked = Service.ask, Service.ask = async () => ({ replies: [["the engine stopped: a stand-in"]], hasEnded: true, look: null }), Talk.send("goals"))');
+  assert.match(await page.value(text("note")), /^the engine stopped: a stand-in\. The lines are kept: Save writes them\. Go on without the last line$/);
+  assert.deepEqual(await page.value(lines), ["step 0.1", "goals"]);
+  await page.value("(Service.ask = Service.asked, true)");
+  await page.click("#again");
+  assert.deepEqual(await page.value(lines), ["step 0.1"]);
+  assert.deepEqual(await page.value(numbers("#canvas .mark")), [1]);
+  const without = pageWith("delete window.WebAssembly;");
+  await page.go(without.file, 'document.getElementById("note").textContent !== ""');
+  assert.match(await page.value(text("note")), /could not start in this browser: it has no WebAssembly/);
+  without.remove();
+  const refused = pageWith('window.Worker = class { constructor() { throw new Error("refused"); } };');
+  await open(page, "#example=append&lines=leap", WIDE, refused.file);
+  assert.deepEqual(await page.value(numbers("#canvas .mark")), [1, 2, 3, 4]);
+  refused.remove();
+});
+
+inBrowsers("the focus stays where a row is made anew; the menu has a name, and Tab goes round in it", async (page) => {
+  await open(page, "#example=buffer&query=produce(1,6,[A,B|E]), consume([A,B|E],E,Out)", WIDE);
+  await page.value(`document.querySelector('#goals [data-line="step 0.1"]').focus()`);
+  await page.key("Enter");
+  assert.deepEqual(await page.value(lines), ["step 0.1"]);
+  assert.equal(await page.value('Boolean(document.activeElement.closest("#goals"))'), true);
+  await page.click('#canvas [data-step="1"]');
+  assert.match(await page.value('document.getElementById("menu").getAttribute("aria-label")'), /^Step 1 goal 0\.1/);
+  const count = await page.value('document.querySelectorAll("#menu button:not([disabled]), #menu input").length');
+  for (let at = 0; at < count + 2; at++) {
+    await page.key("Tab");
+    assert.ok(await page.value('Boolean(document.activeElement.closest("#menu"))'));
+  }
+});
+
+inBrowsers("a part of a value is explained by a click, who and why light up, a value is kept alone after a ring", async (page) => {
+  await open(page, "#example=quicksort&query=quicksort([5,2,8,1,9,3],R)&lines=leap", WIDE);
+  assert.equal(await page.value('document.querySelector("#store .row").textContent'), "R = [1,2,3,5,8,9]");
+  await page.click('#store [data-root="_0_1"][data-path="1.1.1.1.0"]');
+  assert.equal(await page.value(text("answer")), "8 was given by step 47. On the way to it: step 29, 31, 37, 39. Its causes are lit.×");
+  assert.deepEqual(await page.value(numbers("#canvas .chosen")), [47]);
+  assert.deepEqual(await page.value(numbers("#canvas .way")), [29, 31, 37, 39]);
+  await page.value('Talk.send("who R")');
+  assert.equal(await page.value(text("answer")), "who R _0_1 by 29×");
+  assert.deepEqual(await page.value(numbers("#canvas .chosen")), [29]);
+  await page.click('#store [data-variable="_2_3"]');
+  await page.click('#menu [data-keep="_2_3"]');
+  const ringed = await page.value(numbers("#canvas .going")), told = await page.value('document.querySelector("#menu .danger").textContent');
+  assert.equal(told, `Take back ${ringed.length}`);
+  await page.click("#menu .danger");
+  assert.equal(await page.value("Talk.run.graph.count"), 55 - ringed.length);
+  assert.equal(await page.value('Service.ask("lines", { lines: ["show _2_3"] }).then((told) => told.replies[0][0])'), "_2_3 = [8,9]");
+});
+
+inBrowsers("after a reload the page offers to go on; Open tells the first reply that is another; a link holds all; nothing gets out", async (page) => {
+  await open(page, "", WIDE);
+  await page.value('Talk.send("step 0.1", "step 1.1")');
+  await open(page, "", WIDE);
+  assert.match(await page.value(text("answer")), /^2 lines on quicksort\(\[3,1,2\],R\) are kept from the last time/);
+  await page.click("#go-on");
+  assert.deepEqual(await page.value(numbers("#canvas .mark")), [1, 2]);
+  const saved = await page.value("Files.sessionText()");
+  await page.value(`(Files.openText(${JSON.stringify(saved.replace("quicksort([3,1,2],R)", "quicksort([3,1],R)"))}), Talk.settled().then(() => new Promise((done) => setTimeout(done, 50))))`);
+  assert.match(await page.value(text("answer")), /^Line 1, step 0\.1, is answered otherwise than in the text: there /);
+  await page.value("Keeping.makeLink()");
+  const link = await page.value("location.href"), entries = await page.value(lines);
+  assert.ok(link.includes("#s=") && link.length < 8400);
+  await page.go(link, 'document.body.classList.contains("started") && !Talk.busy && Talk.entries.length > 0');
+  assert.deepEqual(await page.value(lines), entries);
+  assert.equal(await page.value("Talk.given.query"), "quicksort([3,1],R)");
+  await open(page, "#s=none", WIDE);
+  assert.equal(await page.value(text("answer")), "The address holds no session that can be read.×");
+  const out = `(async () => {
+    const told = [];
+    document.addEventListener("securitypolicyviolation", (event) => told.push(event.effectiveDirective));
+    await fetch("https://example.org/").catch(() => 0);
+    const image = new Image();
+    image.src = "https://example.org/a.png";
+    await new Promise((done) => setTimeout(done, 300));
+    return told.sort();
+  })()`;
+  assert.deepEqual(await page.value(out), ["connect-src", "img-src"]);
+});
+
+inBrowsers("two choices of a clause stand side by side, with what differs ringed and told", async (page) => {
+  await open(page, "#example=bill&query=bill(12,3,T)&lines=leap", WIDE);
+  await page.click('#canvas [data-step="2"]');
+  await page.click('#menu [data-try="2 3"]');
+  await page.value('Talk.send("leap")');
+  assert.deepEqual((await page.value(lines)).slice(-3), ["roll 2", "step 1.1 3", "leap"]);
+  assert.deepEqual(await page.value(numbers("#beside .mark", "kept")), [1, 2, 3, 4, 5, 6]);
+  assert.deepEqual(await page.value(numbers("#beside .alone", "kept")), [2, 3]);
+  assert.deepEqual(await page.value(numbers("#canvas .alone")), [7, 8]);
+  assert.match(await page.value(text("note")), /4 steps in both, 2 in that one alone, 2 in this one \(ringed\)\. The first that differs: step 2 above \(goal 1\.1 by 2\), here step 7 \(goal 1\.1 by 3\)/);
+  await page.click("#swap-runs");
+  await page.value("Talk.settled()");
+  assert.deepEqual(await page.value(numbers("#canvas .alone")), [2, 3]);
+  await page.click("#drop-run");
+  assert.ok(await page.value('document.getElementById("beside").hidden'));
+});
+
+inBrowsers("the chosen step's clause is marked in the program, lines wrap, the divider moves", async (page) => {
+  await open(page, "#example=bill&query=bill(12,3,T)&lines=leap", WIDE);
+  await page.click('#canvas [data-step="2"]');
+  const marked = '[...document.querySelectorAll("#program-lines .marked")].map((one) => one.textContent)';
+  assert.deepEqual(await page.value(marked), ["price(N,P) :- N > 0 | P := N * 10."]);
+  await page.value('Canvas.choose({ step: 3 })');
+  assert.deepEqual(await page.value(marked), []);
+  const high = 'document.getElementById("program-lines").offsetHeight', before = await page.value(high);
+  await page.click("#wrap");
+  assert.ok((await page.value(high)) > before, "long lines go on in the next row");
+  assert.equal(await page.value('document.getElementById("program").scrollHeight - document.getElementById("program-lines").offsetHeight < 30 || document.getElementById("program").scrollHeight === document.getElementById("program").clientHeight'), true);
+  const wide = 'document.getElementById("source").offsetWidth', narrow = await page.value(wide);
+  await page.value('document.getElementById("divider").focus()');
+  await page.key("ArrowRight");
+  assert.equal(await page.value(wide), narrow + 24);
+});
+
+inBrowsers("the record is shown up to a step, steps are found, a lane folds to a bar, a part of a picture is saved", async (page) => {
+  await open(page, "#example=quicksort&query=quicksort([3,1,2],R)&lines=leap", WIDE);
+  await page.value('(document.getElementById("until").value = "5", document.getElementById("until").dispatchEvent(new Event("input")))');
+  assert.deepEqual(await page.value(numbers("#canvas .mark")), [1, 2, 3, 4, 5]);
+  assert.match(await page.value(text("note")), /^This is the run after 5 steps: nothing was taken back/);
+  assert.deepEqual(await page.value('[...document.querySelectorAll("#canvas .goal")].map((one) => one.dataset.goal).sort()'), ["2.2", "2.3", "5.1", "5.2"]);
+  await page.click("#show-all-steps");
+  assert.equal(await page.value('document.querySelectorAll("#canvas .mark").length'), 27);
+  await page.value('(document.getElementById("search").value = "part", Looking.seek())');
+  const hits = await page.value(numbers("#canvas .hit"));
+  assert.deepEqual(hits, await page.value('Talk.run.graph.steps.filter((step) => step.clause >= 4).map((step) => step.number)'));
+  assert.equal(await page.value(text("hits")), `1 of ${hits.length}`);
+  const under = await page.value('Overview.stepsUnder(Overview.laneOf({ goal: "2.1", step: 3 }))');
+  await page.value('Looking.fold("2.1", true)');
+  assert.equal((await page.value('document.querySelector("#canvas .bar").textContent')).startsWith(`${under} steps`), true);
+  assert.equal(await page.value('document.querySelectorAll("#canvas .mark").length'), 27 - under);
+  await page.click('#canvas .bar rect');
+  assert.equal(await page.value('document.querySelectorAll("#canvas .mark").length'), 27);
+  assert.deepEqual(await page.value('[...Files.pictureText({ theme: "dark", from: 2, to: 5 }).matchAll(/data-step="(\\d+)"/g)].map(([, step]) => Number(step))'), [2, 3, 4, 5]);
+  assert.deepEqual(await page.value('Files.pngOf(Files.pictureText({ theme: "dark" })).then((blob) => [blob.type, blob.size > 10000])'), ["image/png", true]);
+});
