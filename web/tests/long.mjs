@@ -63,7 +63,7 @@ inBrowsers("a run of 100,000 steps is drawn while the page goes on; a further st
     return measured(page, 'Talk.send("step " + Talk.run.goals.find((goal) => goal.status === "ready").name)');
   });
   await quickEnough("lighting", ({ took, slowness }) => took <= LONGEST_LIGHT * slowness, () => measured(page, '(Canvas.choose(null), Canvas.choose({ step: 50000 }))'));
-  assert.match(await page.value('document.getElementById("overview").getAttribute("aria-valuetext")'), /step 50000: 33333 causes \(blue\), 16\d\d\d consequences/);
+  assert.match(await page.value('document.getElementById("overview").getAttribute("aria-valuetext")'), /step 50000: 33333 causes \(blue\), 15001 consequences/);
   const record = 'Service.ask("lines", { lines: ["records"] }).then((told) => new TextDecoder().decode(told.replies[0]).split("\\n").filter(Boolean))';
   await page.value("new Promise((done) => setTimeout(done, 2500))");
   assert.equal(await page.value(`${record}.then((lines) => lines.length === Talk.run.graph.count && lines.every((line, index) => line === Talk.run.graph.told[index]))`), true, "the page's record is the console's");

@@ -13,7 +13,9 @@ const RUNS = [
 /** The texts of the picture that stand beyond its edge, and the pairs of them that stand over each other. */
 const TEXTS = `(() => {
   const svg = document.querySelector("#canvas svg"), edge = svg.getBoundingClientRect(), wrong = [];
-  const texts = [...svg.querySelectorAll("text")].filter((one) => one.textContent.trim() !== "" && one.getClientRects().length > 0);
+  const names = svg.querySelector(".names rect").getBoundingClientRect(), axis = svg.querySelector(".axis rect").getBoundingClientRect();
+  const isHidden = (one, box) => !one.closest(".names, .axis") && (box.left < names.right && box.top < names.bottom || box.top < axis.bottom); // it was scrolled behind them
+  const texts = [...svg.querySelectorAll("text")].filter((one) => one.textContent.trim() !== "" && one.getClientRects().length > 0 && !isHidden(one, one.getBoundingClientRect()));
   const boxes = texts.map((one) => ({ words: one.textContent, kind: one.getAttribute("class") || one.parentNode.getAttribute("class"), box: one.getBoundingClientRect() }));
   for (const { words, box } of boxes) if (box.left < edge.left - 1 || box.right > edge.right + 1 || box.top < edge.top - 1 || box.bottom > edge.bottom + 1) wrong.push("beyond the edge: " + words);
   for (let at = 0; at < boxes.length; at++) for (let other = at + 1; other < boxes.length; other++) {
