@@ -5,6 +5,7 @@ const Panels = (() => {
   const { find, make, lineButton, withCode, goTo, linkedLines } = Elements;
   const MOST_ROWS = 100, MOST_LINES = 1000, MOST_TIDIED = 3000;
   const LONGEST_GOAL = 200; // letters
+  const MOST_KEPT = 1000000; // steps that the program keeps
   const MOST_LINKED = 60; // lines of a reply in which numbers are links
   const plural = (count, word) => `${count} ${word}${count === 1 ? "" : "s"}`;
   const isRefusal = (line) => /^F\d+ /.test(line) || /^(program|query|history|session): /.test(line);
@@ -90,6 +91,7 @@ const Panels = (() => {
     if (Talk.refusal) return [`Refused: ${Talk.refusal}`];
     if (Talk.session.hasEnded) return ["The session has ended. Start begins a new one."];
     if (Overview.until !== null) return [`This is the run after ${plural(Overview.until, "step")}: nothing was taken back. `, make("button", { class: "small", id: "show-all-steps" }, "Show all steps")];
+    if (graph.count >= MOST_KEPT) return ["1,000,000 steps are kept, and there is no room for another one. ", ...withCode("`undo`, `roll` or Start lead back.")];
     if (Beside.isOn()) return Beside.noteParts();
     if (failed) return tellFailure(failed);
     if (isReady && graph.count === 0) return ["A green ring is a goal that is ready: click it, or press Run."];
@@ -109,10 +111,11 @@ const Panels = (() => {
 
   function showCount() {
     const { graph, goals } = Talk.run, ready = goals.filter((goal) => goal.status === "ready");
-    find("count").textContent = `${plural(graph.count, "step")}, depth ${graph.deepestChain}, ${ready.length} ready`;
+    find("count").textContent = `${plural(graph.count, "step")}, depth ${graph.deepestChain}`;
+    find("count").title = `${plural(graph.count, "kept step")}; the longest chain of causes has ${graph.deepestChain}; ${plural(ready.length, "goal")} ready`;
     const last = graph.count > 0 ? graph.numbers.at(graph.count - 1) : undefined;
-    const isOver = !Talk.session || Talk.session.hasEnded;
-    for (const name of ["step", "leap", "leap-ten"]) find(name).disabled = isOver || ready.length === 0;
+    const isOver = !Talk.session || Talk.session.hasEnded, isFull = graph.count >= MOST_KEPT;
+    for (const name of ["step", "leap", "leap-ten"]) find(name).disabled = isOver || isFull || ready.length === 0;
     find("undo-last").disabled = isOver || last === undefined;
     find("tidy").disabled = isOver || graph.count < 3 || graph.count > MOST_TIDIED;
     find("ask-more").disabled = isOver || Boolean(Talk.refusal);
