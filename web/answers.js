@@ -22,6 +22,16 @@ const Answers = (() => {
   /** The numbers of the steps that a reply to `who X` names, the last one first. */
   const stepsBy = (reply) => reply.map((line) => /^\S+ by (\d+)$/.exec(line)).filter(Boolean).map(([, number]) => Number(number)).reverse();
 
+  const OF_SLICE = /^(\d+) (?:\d+\.\d+|-) .* makes \S+( or [\d,]+)?$/;
+
+  /** Rings the steps that a reply to `explain` tells, otherwise those at which another clause could be chosen. */
+  function lightSlice(entry) {
+    const steps = entry.reply.map((line) => OF_SLICE.exec(line)).filter(Boolean);
+    if (steps.length === 0) return;
+    Canvas.choose(null);
+    Canvas.markWay(steps.map(([, number]) => Number(number)), steps.filter(([, , others]) => others).map(([, number]) => Number(number)));
+  }
+
   /** Lights the step that a line asked about, or the steps that bound a variable. */
   function light(entry) {
     const [word, name] = wordsOf(entry.line).split(" ");
@@ -44,7 +54,10 @@ const Answers = (() => {
     shown = Talk.entries.length;
     hide();
     if (refused) put(true, make("code", null, wordsOf(refused.line)), " was refused: ", ...linkedLine(refused.reply[0]));
-    else if (last && /^(why|who) /.test(wordsOf(last.line)) && last.reply[0] !== "none") {
+    else if (last && /^explain /.test(wordsOf(last.line))) {
+      tellReply(last);
+      lightSlice(last);
+    } else if (last && /^(why|who) /.test(wordsOf(last.line)) && last.reply[0] !== "none") {
       tellReply(last);
       light(last);
     }

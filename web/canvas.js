@@ -52,6 +52,7 @@ const Canvas = (() => {
     if (!svg) return;
     const step = chosen && graph.byNumber.has(chosen.step) ? chosen.step : undefined;
     const causes = step ? Graph.allCauses(graph, step) : new Set(), effects = step ? Graph.allEffects(graph, step) : new Set();
+    const way = new Set(canvas.way);
     const hits = new Set(Overview.hits.map((index) => graph.numbers.at(index)));
     svg.classList.toggle("looking", Boolean(step));
     for (const mark of marks()) {
@@ -59,7 +60,8 @@ const Canvas = (() => {
       mark.classList.toggle("chosen", number === step);
       mark.classList.toggle("cause", causes.has(number) && number !== step);
       mark.classList.toggle("effect", effects.has(number) && number !== step);
-      mark.classList.toggle("way", canvas.way.includes(number));
+      mark.classList.toggle("way", way.has(number));
+      mark.classList.remove("or");
       mark.classList.toggle("hit", hits.has(number));
       mark.classList.remove("going");
     }
@@ -72,10 +74,14 @@ const Canvas = (() => {
     for (const mark of marks()) mark.classList.toggle("going", numbers.has(Number(mark.dataset.step)));
   }
 
-  /** Rings the steps on the way to a part of a value. */
-  function markWay(numbers) {
+  /** Rings the steps on the way to a part of a value, and otherwise those of them at which another clause could be chosen. */
+  function markWay(numbers, others = []) {
     canvas.way = numbers;
-    for (const mark of marks()) mark.classList.toggle("way", canvas.way.includes(Number(mark.dataset.step)));
+    const way = new Set(numbers), open = new Set(others);
+    for (const mark of marks()) {
+      mark.classList.toggle("way", way.has(Number(mark.dataset.step)));
+      mark.classList.toggle("or", open.has(Number(mark.dataset.step)));
+    }
   }
 
   /** The clause by which a chosen step went. */
@@ -182,5 +188,5 @@ const Canvas = (() => {
     return true;
   }
 
-  return Object.assign(canvas, { draw, choose, markWay, showThere, isOwnScroll, scrollTo, ring, stayInSight, onKey, addTitle });
+  return Object.assign(canvas, { draw, choose, markWay, elementOf, showThere, isOwnScroll, scrollTo, ring, stayInSight, onKey, addTitle });
 })();

@@ -18,7 +18,9 @@ const Panels = (() => {
     if (entry.length === 0) return;
     const lines = entry.tail(MOST_LINES), isRefused = entry.length === 1 && isRefusal(lines[0]), more = entry.length - lines.length;
     if (more > 0) told.append(make("div", { class: "dim" }, `(${plural(more, "line")} before these, which Save writes)`));
-    told.append(make("div", { class: isRefused ? "refused" : null }, ...(lines.length > MOST_LINKED ? [lines.join("\n")] : linkedLines(lines))));
+    const isMany = lines.length > MOST_LINKED;
+    told.append(make("div", { class: isRefused ? "refused" : null, "aria-hidden": isMany ? "true" : null }, ...(isMany ? [lines.join("\n")] : linkedLines(lines))));
+    if (isMany) told.append(make("div", { class: "for-readers" }, `${plural(entry.length, "line")}, the last of them: ${lines[lines.length - 1]}`));
   }
 
   /** With what the page was made. */

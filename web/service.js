@@ -54,6 +54,7 @@ const Service = (() => {
   const load = () => ask("load", { bytes: Engine.bytesOfBase64(MODULE) });
 
   async function start() {
+    if (worker !== null) worker.terminate();
     worker = newWorker();
     if (worker !== null) {
       try {
