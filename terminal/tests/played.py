@@ -16,18 +16,21 @@ import time
 import traceback
 from pathlib import Path
 
-sys.path.insert(0, str(Path(__file__).resolve().parent))
+sys.path[:0] = [str(Path(__file__).resolve().parent), str(Path(__file__).resolve().parents[2] / "tests")]
+import run_rows  # noqa: E402
 from pseudo_terminal import Terminal  # noqa: E402
 from typed import SESSIONS  # noqa: E402
 
 ROOT = Path(__file__).resolve().parents[2]
 FRONT = str(ROOT / "terminal" / "ghcdb")
 MARK = "% "
+PROGRAM = os.environ.get("GHCDB", "")
+PROGRAM = os.path.abspath(PROGRAM) if os.sep in PROGRAM else PROGRAM
 ENDLESS = "p(N) :- true | M := N + 1, p(M).\n"
 
 
 def start(home, *words, wait=30.0, folder=None):
-    environment = {"HOME": home, "COLUMNS": "220", "GHCDB": os.environ.get("GHCDB", "")}
+    environment = {"HOME": home, "COLUMNS": "220", "GHCDB": PROGRAM}
     return Terminal(["node", FRONT, *words], environment, wait, folder)
 
 
@@ -54,9 +57,17 @@ def play_typed(home, name):
         terminal.end()
 
 
-def tutorial_rows():
-    told = subprocess.run([sys.executable, str(ROOT / "tests" / "run_rows.py"), "--tell"], capture_output=True, text=True, check=True).stdout
-    return [row for row in map(json.loads, told.splitlines()) if row["name"].startswith("docs/TUTORIAL.md")]
+def page_rows():
+    """The examples of the tutorials, as run_rows.py reads them."""
+    pages = [ROOT / "docs" / page for page in ("TUTORIAL.md", "RACE.md")]
+    return [(name, row) for page in pages for name, row in run_rows.rows_of(page)]
+
+
+def play_bare(row):
+    """An example of a tutorial on the program alone, where there is one."""
+    if run_rows.PROGRAM.is_file():
+        wrong = run_rows.judge(row)
+        wants(not wrong, "\n".join(wrong))
 
 
 def play_row(home, row):
@@ -71,6 +82,8 @@ def play_row(home, row):
         finally:
             terminal.end()
     told = [line for line in shown if not line.startswith(MARK)]
+    if any(line.startswith("% ..") for line in shown):
+        return  # a long run is shortened, which test_long_run_is_shortened looks at
     wants("\n".join(told) + "\n" == row["output"], f"{row['name']}: {told}")
 
 
@@ -249,8 +262,10 @@ def tests():
         yield f"typed: {name}", lambda home, name=name: play_typed(home, name)
     for block in answers():
         yield f"answers: {block[0]}", lambda home, block=block: play_answer(home, block)
-    for row in tutorial_rows():
-        yield row["name"], lambda home, row=row: play_row(home, row)
+    for name, row in page_rows():
+        yield name, lambda home, name=name, row=row: play_row(home, json.loads(run_rows.told(name, row)))
+        if "RACE.md" in name:
+            yield f"{name}, bare", lambda home, row=row: play_bare(row)
 
 
 def main():
