@@ -47,17 +47,19 @@ const Kept = (() => {
 
     /** Learns what the reply to a line tells. */
     learn(line, reply) {
-      if (!CHANGING.has(firstWord(line))) return;
+      if (!CHANGING.has(firstWord(line)) || /^F\d+ /.test(reply[0] ?? "")) return;
       this.changes += 1;
       if (reply[0] === "arranged") this.arrange(line.trim().split(/ +/).slice(1).map(Number));
       for (const told of reply) this.learnLine(told);
     }
 
     learnLine(told) {
-      const taken = TAKEN.exec(told), undone = UNDONE.exec(told), call = CALL.exec(told);
-      if (taken !== null) this.add(stepOf(taken));
+      const taken = TAKEN.exec(told);
+      if (taken !== null) return this.add(stepOf(taken));
+      const undone = UNDONE.exec(told), call = CALL.exec(told);
       if (undone !== null) for (const number of undone[1].split(",")) this.remove(Number(number));
       if (call !== null) this.texts.set(call[1], call[2]);
+      return undefined;
     }
 
     arrange(numbers) {

@@ -18,6 +18,23 @@ const Run = ((Graph, Reader, Print) => {
     return { sort: goal.sort, left: substitute(goal.left, env), right: substitute(goal.right, env) };
   }
 
+  const NONE = [];
+  const bindingOf = (text) => ({ variable: text.slice(0, text.indexOf("=")), term: text.slice(text.indexOf("=") + 1) });
+
+  /** The variables of others that an ask names. */
+  function namesIn(line, number, end) {
+    if (!line.startsWith(`${number} - ask `)) return NONE;
+    return Graph.variablesIn(line.slice(0, end)).filter((variable) => numbersOf(variable)[0] !== number);
+  }
+
+  /** What a record line tells of reads and bindings; no text of a term has a semicolon or a blank. Undefined where it is none. */
+  function recordOf(line) {
+    const makes = line.lastIndexOf(" makes "), binds = line.lastIndexOf(" binds ", makes), reads = line.lastIndexOf(" reads ", binds);
+    if (reads < 0) return undefined;
+    const number = Number.parseInt(line, 10), read = line.slice(reads + " reads ".length, binds), bound = line.slice(binds + " binds ".length, makes);
+    return { number, reads: read === "-" ? NONE : read.split(","), binds: bound === "-" ? NONE : bound.split(";").map(bindingOf), names: namesIn(line, number, reads) };
+  }
+
   class Run {
     /** The run of a program's clauses and a query, of which no step is known. `kept` tells its steps, as they are now. */
     constructor(clauses, query, kept) {
@@ -44,15 +61,21 @@ const Run = ((Graph, Reader, Print) => {
       });
     }
 
-    /** Learns the lines of the reply to `records`. */
+    /** Is what `records` told last still so? Where it is not, no binding is followed and nothing new is computed. */
+    get isFresh() {
+      return this.learnedAt === this.kept.changes;
+    }
+
+    /** Learns the lines of the reply to `records`, as it is now. */
     learn(lines) {
+      this.learnedAt = this.kept.changes;
       const known = this.lines;
       this.lines = new Map();
       this.records = new Map();
       this.bound = new Map();
       this.binders = new Map();
       for (const line of lines) {
-        const record = known.get(line) ?? Graph.readRecords([line])[0];
+        const record = known.get(line) ?? recordOf(line);
         if (record === undefined) continue;
         this.lines.set(line, record);
         this.records.set(record.number, record);
@@ -71,9 +94,10 @@ const Run = ((Graph, Reader, Print) => {
       return term;
     }
 
-    /** Where the chain of a term ends. */
+    /** Where the chain of a term ends, as far as it is known. */
     endOf(term) {
       let end = term;
+      if (!this.isFresh) return end;
       while (end.variable !== undefined && this.bound.has(end.variable)) end = this.termOf(end.variable);
       return end;
     }
@@ -114,7 +138,7 @@ const Run = ((Graph, Reader, Print) => {
     /** What the variables of a step's clause stand for, 0 being the query; undefined where the step takes no clause. */
     environmentOf(number) {
       if (this.environments.has(number)) return this.environments.get(number);
-      const step = this.kept.steps.get(number), goal = step?.clause ? this.goalOf(step.goal) : undefined;
+      const step = this.kept.steps.get(number), goal = this.isFresh && step?.clause ? this.goalOf(step.goal) : undefined;
       if (goal === undefined) return undefined;
       const clause = this.clauses[step.clause - 1], env = new Map();
       this.match(clause.head, goal.call, env);
@@ -199,10 +223,10 @@ const Run = ((Graph, Reader, Print) => {
     consequencesOf(number) {
       const reached = new Set([number]);
       for (const step of this.kept.steps.values()) {
-        const record = this.records.get(step.number);
-        const maker = step.goal === null ? undefined : numbersOf(step.goal)[0];
-        const causes = [maker, ...(record?.reads ?? []).map((variable) => this.binders.get(variable)), ...(record?.names ?? []).map((variable) => numbersOf(variable)[0])];
-        if (causes.some((cause) => reached.has(cause))) reached.add(step.number);
+        const { reads, names } = this.records.get(step.number) ?? { reads: NONE, names: NONE };
+        const depends = (step.goal !== null && reached.has(Number.parseInt(step.goal, 10))) || reads.some((variable) => reached.has(this.binders.get(variable))) ||
+          names.some((variable) => reached.has(numbersOf(variable)[0]));
+        if (depends) reached.add(step.number);
       }
       return [...this.kept.steps.keys()].filter((kept) => reached.has(kept));
     }

@@ -10,6 +10,7 @@ const { REFUSALS } = require("./commands.js");
 const { isRefusal } = require("./session.js");
 
 const MOST = 12; // lines of a kind that are told
+const MOST_LOOKED = 200_000; // kept steps: of a longer run not all that depends on a step is looked for
 
 const plural = (count, word) => `${count} ${word}${count === 1 ? "" : "s"}`;
 const some = (words) => (words.length > MOST ? [...words.slice(0, MOST), ".."] : words);
@@ -62,6 +63,7 @@ async function notKept(session, [number]) {
 }
 
 async function hasConsequences(session, [number]) {
+  if (session.kept.steps.size > MOST_LOOKED) return [`roll ${Number(number)} takes it back with all that depends on it`];
   const all = (await session.look()).consequencesOf(Number(number));
   return [`roll ${Number(number)} takes it back with all that depends on it: ${some(all).join(",")}${all.length > MOST ? ` (${all.length} steps)` : ""}`];
 }
@@ -115,6 +117,10 @@ async function whyFailed(session, name, refusal) {
   return ["F11", "F13"].includes(refusal) ? whyNoValue(session, name) : [REFUSALS[refusal]];
 }
 
+const STOPS = {
+  limit: ["leap goes on"], full: ["no step has room any more: 1,000,000 are kept, or all numbers are used up"], memory: ["memory was refused; what was done stands"],
+};
+
 /** What the last line of a run means. */
 async function behindStop(session, line) {
   const [, reason, name] = line.split(" "), goals = await session.goals();
@@ -127,7 +133,7 @@ async function behindStop(session, line) {
   }
   if (reason === "clash" && goal) return [`${goal.text} has failed: ${goal.refusal}`, ...await whyFailed(session, name, goal.refusal)];
   if (reason === "spied" && goal) return [`next is ${goal.text}: step ${name} takes it`];
-  return reason === "limit" ? ["leap goes on"] : [];
+  return STOPS[reason] ?? [];
 }
 
 /** Behind SUSP and FAIL lines: for what a goal waits, by the names of the text; why it has failed. */

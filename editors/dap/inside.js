@@ -10,13 +10,32 @@ const LONGEST = 1000; // letters of a value
 
 const flat = (name, value) => ({ name, value, variablesReference: 0 });
 
+// For terms in which every binding was followed by the console.
+const SETTLED = { endOf: (term) => term };
+
+/** A goal of the reply to `goals`, and a value of the reply to `show`; undefined where the text is nested too deeply to be read. */
+function read(what) {
+  try {
+    return what();
+  } catch (error) {
+    if (error instanceof RangeError || error instanceof SyntaxError) return undefined;
+    throw error;
+  }
+}
+
+function goalOf({ status, text }) {
+  const stream = /^instream (\d+) (.*)$/.exec(text);
+  if (status === "stream") return { sort: "stream", tail: Reader.readTerm(stream[2]) };
+  return Reader.readQuery(text).goals[0];
+}
+
 /** The elements of a list as far as it is known, and what comes behind them. */
-function elementsOf(term, run) {
+function elementsOf(term, store) {
   const elements = [];
   let rest = term;
   while (rest.name === "." && rest.arguments.length === 2) {
     elements.push([String(elements.length + 1), rest.arguments[0]]);
-    rest = run.endOf(rest.arguments[1]);
+    rest = store.endOf(rest.arguments[1]);
   }
   return rest.name === "[]" ? elements : [...elements, ["| tail", rest]];
 }
@@ -50,11 +69,11 @@ class Inside {
   }
 
   /** A variable or a part of a term, which unfolds where it has parts. */
-  variable(name, term) {
-    const { run } = this.session, end = run.endOf(term), unfolds = end.arguments?.length > 0 && !Print.isOperation(end);
-    const shown = { name, value: Print.term(end, { store: run, most: LONGEST }), variablesReference: unfolds ? this.reference("term", end) : 0 };
+  variable(name, term, store = this.session.run) {
+    const end = store.endOf(term), unfolds = end.arguments?.length > 0 && !Print.isOperation(end);
+    const shown = { name, value: Print.term(end, { store, most: LONGEST }), variablesReference: unfolds ? this.reference("term", { term: end, store }) : 0 };
     if (term.variable === undefined) return shown;
-    return { ...shown, evaluateName: term.variable, type: run.labelOf(term.variable) };
+    return { ...shown, evaluateName: term.variable, type: this.session.run.labelOf(term.variable) };
   }
 
   /** What the variables of a clause stand for, those of the query where `number` is 0. */
@@ -78,14 +97,14 @@ class Inside {
     return this[`in_${found.kind}`](found.what);
   }
 
-  in_term(term) {
-    const { run } = this.session, parts = term.name === "." ? elementsOf(term, run) : term.arguments.map((argument, place) => [String(place + 1), argument]);
-    return parts.map(([name, part]) => this.variable(name, part));
+  in_term({ term, store }) {
+    const parts = term.name === "." ? elementsOf(term, store) : term.arguments.map((argument, place) => [String(place + 1), argument]);
+    return parts.map(([name, part]) => this.variable(name, part, store));
   }
 
-  async in_parts({ name }) {
-    const run = await this.session.look(), goal = run.goalOf(name);
-    return goal === undefined ? [] : partsOf(goal).map(([part, term]) => this.variable(part, term));
+  in_parts(shown) {
+    const goal = read(() => goalOf(shown));
+    return goal === undefined ? [flat("goal", shown.text.slice(0, LONGEST))] : partsOf(goal).map(([part, term]) => this.variable(part, term, SETTLED));
   }
 
   async in_waits(goal) {
@@ -108,9 +127,16 @@ class Inside {
     return readLines(await this.session.ask(`why ${number}`)).map(({ number: cause, rest }) => flat(`step ${cause}`, `${run.textOf(this.session.kept.steps.get(cause).goal)}   ${rest}`));
   }
 
+  /** The query's variables, of which the console tells the values: so not all records need be read. */
   async in_query() {
-    await this.session.look();
-    return this.environment(0);
+    const shown = [];
+    for (const [name, { variable }] of this.session.run.environmentOf(0)) {
+      if (!Reader.isWritten(name)) continue;
+      const [line] = await this.session.ask(`show ${name}`), text = line.slice(`${name} = `.length), term = read(() => Reader.readTerm(text));
+      const found = term === undefined ? flat(name, text.slice(0, LONGEST)) : this.variable(name, term, SETTLED);
+      shown.push({ ...found, evaluateName: variable, type: this.session.run.labelOf(variable) });
+    }
+    return shown;
   }
 
   async in_goals() {

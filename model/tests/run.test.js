@@ -62,8 +62,8 @@ test("clauses say what the console says of them", async () => {
   for (const given of programs()) {
     const { session, run, type, look } = begin(engine, given);
     for (let steps = 0; steps < 25; steps += 1) {
-      look();
       for (const { name, sort } of Graph.readGoals(session.line("goals"))) {
+        look();
         for (const { clause, says } of sort === "call" ? Choices.choicesOf(run, name) : []) {
           const [reply] = type(`step ${name} ${clause.number}`), number = /^REDU (\d+)/.exec(reply);
           if (number !== null) type(`undo ${number[1]}`);
@@ -89,6 +89,21 @@ test("a rollback takes the consequences that were told", async () => {
       assert.strictEqual(kept.steps.has(number), false);
     }
   }
+});
+
+test("nothing is computed of a run that has changed since it was told", async () => {
+  const { engine } = await engineOfPage();
+  const { run, type, look } = begin(engine, { program: "p(X) :- true | q(X,Y), Y = b.\nq(a,_) :- true | r.\nr :- true | true.\n", query: "p(X), X = a" });
+  for (const line of ["step 0.1", "step 0.2"]) type(line);
+  look();
+  assert.strictEqual(run.endOf({ variable: "_0_1" }).name, "a");
+  type("undo 2");
+  assert.strictEqual(run.endOf({ variable: "_0_1" }).variable, "_0_1");
+  type("ask X = c");
+  type("leap 1");
+  assert.strictEqual(run.environmentOf(1), undefined);
+  look();
+  assert.deepStrictEqual([...run.environmentOf(1).keys()], ["X", "Y"]);
 });
 
 test("asks and inputs have goals, places and names", async () => {
@@ -124,6 +139,7 @@ test("why nothing goes on: circles, and what nobody can bind", () => {
 
 test("a long list, a long chain and a deep term are walked by loops", () => {
   const kept = new Kept(), run = new Run([], "p(X)", kept), length = 200000;
+  run.learn([]);
   run.bound = new Map(Array.from({ length }, (none, place) => [`_1_${place + 1}`, place + 1 < length ? { name: "s", arguments: [{ variable: `_1_${place + 2}` }] } : { integer: 1n }]));
   const Print = require("../print.js");
   assert.strictEqual(Print.term({ variable: "_1_1" }, { store: run }).length, 3 * (length - 1) + 1);
