@@ -61,7 +61,8 @@ const Causes = ((Tokens, Reader, SyntaxCauses, CheckerCauses, Nearest) => {
       if (token.text !== ":=") return;
       const left = clause[place - 1], behind = clause.slice(place + 1), end = behind.findIndex(({ text }) => text === "," || text === ".");
       if (!behind.slice(0, end).some(({ kind, text }) => kind === "variable" && text === left.text)) return;
-      notes.push(caused(which, { token: left, title: `note: ${left.text} stands on both sides of := in clause ${number}`, hints: [`a variable gets one value; name a new one: ${left.text}1 := ${left.text} + ..`] }));
+      const cure = `a variable gets one value; name a new one: ${left.text}1 := ${left.text} + ..`;
+      notes.push(caused(which, { token: left, title: `note: ${left.text} stands on both sides of := in clause ${number}`, hints: [cure] }));
     });
     return notes;
   }
@@ -72,7 +73,9 @@ const Causes = ((Tokens, Reader, SyntaxCauses, CheckerCauses, Nearest) => {
     let last;
     clauses.forEach((clause, place) => {
       const predicate = `${clause[0].text}/${Tokens.arityAt(clause, 0)}`;
-      if (seen.has(predicate) && last !== predicate) notes.push(caused(which, { token: clause[0], title: `note: clause ${place + 1} of ${predicate} stands apart from clause ${seen.get(predicate)}`, hints: ["clauses of one predicate are read more easily side by side"] }));
+      const title = `note: clause ${place + 1} of ${predicate} stands apart from clause ${seen.get(predicate)}`;
+      const isApart = seen.has(predicate) && last !== predicate;
+      if (isApart) notes.push(caused(which, { token: clause[0], title, hints: ["clauses of one predicate are read more easily side by side"] }));
       seen.set(predicate, place + 1);
       last = predicate;
     });
@@ -95,7 +98,8 @@ const Causes = ((Tokens, Reader, SyntaxCauses, CheckerCauses, Nearest) => {
         const binder = argument.variable === undefined ? binderOf(clauses, clause.predicate, place) : undefined;
         if (binder === undefined) return;
         const token = { line: clause.line, column: clause.letter, text: clause.name };
-        notes.push(caused(which, { token, title: `note: clause ${clause.number} waits until argument ${place + 1} is bound`, hints: [`a head binds nothing; clause ${binder.number} binds that argument in its body, by =`] }));
+        const cure = `a head binds nothing; clause ${binder.number} binds that argument in its body, by =`;
+        notes.push(caused(which, { token, title: `note: clause ${clause.number} waits until argument ${place + 1} is bound`, hints: [cure] }));
       });
     }
     return notes;

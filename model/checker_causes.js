@@ -11,38 +11,53 @@ const CheckerCauses = ((Tokens, Habits, Nearest) => {
   /** Where a clause's guard begins and ends. */
   function guardOf(clause) {
     const start = clause.findIndex(({ text }) => text === ":-") + 1;
-    const end = clause.findIndex(({ text }, place) => place >= start && text === "|" && Tokens.depthOf(clause.slice(start, place)) === 0);
-    return { start, end: end < 0 ? clause.length : end };
+    let depth = 0;
+    for (let place = start; place < clause.length; place += 1) {
+      if (depth === 0 && clause[place].text === "|") return { start, end: place };
+      depth += Tokens.depthOf([clause[place]]);
+    }
+    return { start, end: clause.length };
   }
 
-  function badTest(clause, place, head) {
-    const token = clause[place], arity = Tokens.arityAt(clause, place);
-    if (token.text === "=" || token.text === ":=") return causeAt(token, "a guard binds nothing: = and := stand in the body", "to test for a value write it in the head, as p(1,Y) :- .., or compare numbers by =:=");
-    if (token.kind !== "name" || token.text === "mod") return undefined;
-    if (Object.hasOwn(Habits.TESTS, token.text)) return causeAt(token, ...Habits.TESTS[token.text]);
-    if (!TESTS.includes(token.text)) return causeAt(token, `${token.text}/${arity} is no test`, ALL_TESTS, "let a process answer, and wait for its answer: p(X) :- true | q(X,A), p1(A).");
-    if (token.text === "true" ? arity !== 0 : arity !== 1 || clause[place + 2].kind !== "variable") return causeAt(token, `${token.text} takes ${token.text === "true" ? "no argument" : "one variable of the head"}`, `as ${token.text}${token.text === "true" ? "" : "(X)"}`);
-    return undefined;
+  const NO_BINDING = ["a guard binds nothing: = and := stand in the body", "to test for a value write it in the head, as p(1,Y) :- .., or compare numbers by =:="];
+  const ASK_INSTEAD = "let a process answer, and wait for its answer: p(X) :- true | q(X,A), p1(A).";
+  const NOT_THERE_YET = "a guard tests what the goal brings; what the body makes is not there yet";
+
+  /** What is wrong with the test that begins at a place of a clause, outside of all brackets; undefined where nothing is. */
+  function badTest(clause, place) {
+    const token = clause[place], { text } = token, arity = Tokens.arityAt(clause, place);
+    if (text === "=" || text === ":=") return causeAt(token, ...NO_BINDING);
+    if (token.kind !== "name" || text === "mod") return undefined;
+    if (Object.hasOwn(Habits.TESTS, text)) return causeAt(token, ...Habits.TESTS[text]);
+    if (!TESTS.includes(text)) return causeAt(token, `${text}/${arity} is no test`, ALL_TESTS, ASK_INSTEAD);
+    if (text === "true") return arity === 0 ? undefined : causeAt(token, "true takes no argument", "as true");
+    const isRight = arity === 1 && clause[place + 2].kind === "variable";
+    return isRight ? undefined : causeAt(token, `${text} takes one variable of the head`, `as ${text}(X)`);
+  }
+
+  function badVariable(token, head) {
+    if (token.kind !== "variable" || head.has(token.text)) return undefined;
+    return causeAt(token, token.text === "_" ? "a lone _ stands for a new variable" : `${token.text} does not stand in the head`, NOT_THERE_YET);
   }
 
   /** F3: the first test of a clause that is none, or the first variable of its guard that the head does not have. */
   function notFlat(tokens, number) {
     const clause = Tokens.clausesOf(tokens)[number - 1], { start, end } = guardOf(clause);
     const head = new Set(clause.slice(0, start).filter(({ kind, text }) => kind === "variable" && text !== "_").map(({ text }) => text));
-    for (let place = start; place < end; place += 1) {
-      const token = clause[place];
-      const isOutside = Tokens.depthOf(clause.slice(start, place)) === 0;
-      const found = isOutside ? badTest(clause, place, head) : undefined;
-      if (found !== undefined) return { ...found, title: `not flat, clause ${number}: ${found.title}` };
-      if (token.kind === "variable" && !head.has(token.text)) return causeAt(token, `not flat, clause ${number}: ${token.text === "_" ? "a lone _ stands for a new variable" : `${token.text} does not stand in the head`}`, "a guard tests what the goal brings; what the body makes is not there yet");
+    let found, depth = 0;
+    for (let place = start; place < end && found === undefined; place += 1) {
+      found = (depth === 0 ? badTest(clause, place) : undefined) ?? badVariable(clause[place], head);
+      depth += Tokens.depthOf([clause[place]]);
     }
-    return causeAt(clause[start] ?? clause[0], `not flat, clause ${number}: this guard is no test`, ALL_TESTS);
+    found ??= causeAt(clause[start] ?? clause[0], "this guard is no test", ALL_TESTS);
+    return { ...found, title: `not flat, clause ${number}: ${found.title}` };
   }
 
   /** F4: the second place of the variable in the head. */
   function notLinear(tokens, name, number) {
     const token = Tokens.clausesOf(tokens)[number - 1].filter(({ text }) => text === name)[1];
-    return causeAt(token, `not linear, clause ${number}: ${name} stands twice in the head`, `name the second one otherwise, as ${name}1, and compare: ${name} =:= ${name}1 in the guard, for numbers`);
+    const cure = `name the second one otherwise, as ${name}1, and compare: ${name} =:= ${name}1 in the guard, for numbers`;
+    return causeAt(token, `not linear, clause ${number}: ${name} stands twice in the head`, cure);
   }
 
   /** The predicates that a program's clauses define, by name and arity. */
@@ -53,7 +68,11 @@ const CheckerCauses = ((Tokens, Habits, Nearest) => {
   /** The first call of a predicate in a text; its first token where there is none. */
   function callIn(tokens, name, arity, isQuery) {
     const isGoal = (place) => (isQuery && place === 0) || [",", "|", ":-"].includes(tokens[place - 1]?.text);
-    const found = tokens.findIndex((token, place) => token.text === name && Tokens.arityAt(tokens, place) === arity && isGoal(place) && Tokens.depthOf(tokens.slice(tokens.slice(0, place).findLastIndex(({ text }) => text === ".") + 1, place)) === 0);
+    const isOutside = (place) => {
+      const stop = tokens.slice(0, place).findLastIndex(({ text }) => text === ".");
+      return Tokens.depthOf(tokens.slice(stop + 1, place)) === 0;
+    };
+    const found = tokens.findIndex((token, place) => token.text === name && Tokens.arityAt(tokens, place) === arity && isGoal(place) && isOutside(place));
     return tokens[Math.max(0, found)];
   }
 
@@ -66,7 +85,8 @@ const CheckerCauses = ((Tokens, Habits, Nearest) => {
     else if (near !== undefined) hints.push(`there is ${defined.filter((predicate) => predicate.split("/")[0] === near).join(", ")}: is it that?`);
     if (Object.hasOwn(Habits.PREDICATES, name)) hints.push(Habits.PREDICATES[name]);
     if (hints.length === 0) hints.push(defined.length === 0 ? "the program has no clause" : `defined are: ${defined.slice(0, 12).join(", ")}${defined.length > 12 ? ", .." : ""}`);
-    return causeAt(callIn(tokens, name, arity, isQuery), `undefined: no clause has the head ${name} with ${arity} argument${arity === 1 ? "" : "s"}`, ...hints);
+    return causeAt(
+      callIn(tokens, name, arity, isQuery), `undefined: no clause has the head ${name} with ${arity} argument${arity === 1 ? "" : "s"}`, ...hints);
   }
 
   const LIMITS = {

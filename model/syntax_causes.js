@@ -28,14 +28,16 @@ const SyntaxCauses = ((Tokens, Habits) => {
   }
 
   function foreignMark({ rest, text, token }) {
-    if (text.startsWith("\ufeff") && token.at <= 1) return cause(Habits.MARKS.find(([pattern]) => pattern.test("\ufeff"))[1], "save it as UTF-8 without BOM");
+    if (text.startsWith("\ufeff") && token.at <= 1) return cause(
+      Habits.MARKS.find(([pattern]) => pattern.test("\ufeff"))[1], "save it as UTF-8 without BOM");
     const found = Habits.MARKS.find(([pattern]) => pattern.test(rest));
     if (found === undefined || (token.kind !== "wrong" && !/^\/[*/]/.test(rest))) return undefined;
     return cause(found[1], found[2]);
   }
 
   function badToken({ token }) {
-    if (token.kind === "variable" && /^_\d+_\d+$/.test(token.text)) return cause(`${token.text} is a name of the running state`, "name the variable otherwise; such names may stand in `ask` and `show` alone");
+    if (token.kind === "variable" && /^_\d+_\d+$/.test(token.text)) return cause(
+      `${token.text} is a name of the running state`, "name the variable otherwise; such names may stand in `ask` and `show` alone");
     if (token.kind !== "integer") return undefined;
     const value = BigInt(token.text);
     if (value <= 2n ** 63n - 1n && value >= -(2n ** 63n)) return undefined;
@@ -50,7 +52,8 @@ const SyntaxCauses = ((Tokens, Habits) => {
 
   function endOfText({ token, here, isQuery, before }) {
     if (token.kind !== "end") return undefined;
-    if (isQuery) return cause(here.length > 0 ? "the query ends too early" : "the query is empty", "write goals, as append([1],[2],R); for none: true");
+    if (isQuery) return cause(
+      here.length > 0 ? "the query ends too early" : "the query is empty", "write goals, as append([1],[2],R); for none: true");
     const open = Tokens.openBrackets(here).at(-1);
     const hint = open === undefined ? `write a full stop behind ${quoted(before)}` : `${quoted(open)} of line ${open.line}, column ${open.column} is not closed`;
     return { ...cause("the text ends within a clause", hint), behind: before };
@@ -60,9 +63,12 @@ const SyntaxCauses = ((Tokens, Habits) => {
     if (here.length > 0) return undefined;
     if (isQuery && before?.text === ".") return cause("a query is one row of goals", "separate goals by commas");
     if (token.text === ":-") return cause("a clause begins with a name", "there are no directives and modules: drop this line");
-    if (["true", "otherwise", "alternatively", "instream"].includes(token.text)) return cause(`no clause is for ${token.text}`, "it has a meaning of its own; name the predicate otherwise");
-    if (token.kind === "variable" && !isQuery && (next.text === "=" || next.text === ":=")) return cause(`a clause begins with a name, and not with ${quoted(token)}`, "goals stand in a clause's body, or in the query");
-    if (token.kind === "variable") return cause(`${token.text} is a variable, and no ${isQuery ? "goal" : "clause"} begins with one`, `names of predicates begin with a small letter: ${token.text[0].toLowerCase()}${token.text.slice(1)}`);
+    if (["true", "otherwise", "alternatively", "instream"].includes(token.text)) return cause(
+      `no clause is for ${token.text}`, "it has a meaning of its own; name the predicate otherwise");
+    if (token.kind === "variable" && !isQuery && (next.text === "=" || next.text === ":=")) return cause(
+      `a clause begins with a name, and not with ${quoted(token)}`, "goals stand in a clause's body, or in the query");
+    if (token.kind === "variable") return cause(
+      `${token.text} is a variable, and no ${isQuery ? "goal" : "clause"} begins with one`, `names of predicates begin with a small letter: ${token.text[0].toLowerCase()}${token.text.slice(1)}`);
     if (isQuery) return cause(`no goal begins with ${quoted(token)}`, "write goals, as append([1],[2],R)");
     return cause(`no clause begins with ${quoted(token)}`, CLAUSE);
   }
@@ -77,9 +83,12 @@ const SyntaxCauses = ((Tokens, Habits) => {
 
   function numbers({ token, before, next, tokens, place }) {
     const first = tokens[place - 2];
-    if (token.kind === "integer" && before?.text === "." && touches(before, token) && first?.kind === "integer") return cause("there are no fractions", "numbers are integers of 64 bits");
-    if (before?.kind === "integer" && touches(before, token) && (token.kind === "name" || token.kind === "variable")) return cause(`${quoted(token)} cannot follow ${quoted(before)}`, BEHIND_NUMBER);
-    if (token.text === "-" && next.kind === "integer" && !touches(token, next) && !endsTerm(before)) return cause("a space stands between the sign and the number", `write -${next.text}`);
+    if (token.kind === "integer" && before?.text === "." && touches(before, token) && first?.kind === "integer") return cause(
+      "there are no fractions", "numbers are integers of 64 bits");
+    if (before?.kind === "integer" && touches(before, token) && (token.kind === "name" || token.kind === "variable")) return cause(
+      `${quoted(token)} cannot follow ${quoted(before)}`, BEHIND_NUMBER);
+    if (token.text === "-" && next.kind === "integer" && !touches(token, next) && !endsTerm(before)) return cause(
+      "a space stands between the sign and the number", `write -${next.text}`);
     return undefined;
   }
 
@@ -87,21 +96,25 @@ const SyntaxCauses = ((Tokens, Habits) => {
 
   function arithmetic({ token, before, depth, here, later }) {
     const isOperator = ["+", "-", "*", "/", "mod"].includes(token.text);
-    if (token.text === "-" && before?.text !== "(" && BEFORE_OPERAND.has(before?.text)) return cause("there is no minus before a variable or a bracket", "write 0 - X");
+    if (token.text === "-" && before?.text !== "(" && BEFORE_OPERAND.has(before?.text)) return cause(
+      "there is no minus before a variable or a bracket", "write 0 - X");
     if (isOperator && depth > 0) return cause(...ARGUMENT);
     if (token.text.startsWith("-") && token.kind === "integer" && depth > 0) return cause(...ARGUMENT);
     if (isOperator && [...here, ...later].some(({ text }) => text === "=")) return cause("= does not compute", "to compute write :=, as Y := X + 1");
     if (token.text === ":=") return cause("only a variable stands before :=", "turn it round, as X := 3, or compare numbers by =:= in the guard");
-    if (token.kind === "name" && BEFORE_OPERAND.has(before?.text) && here.some(({ text }) => text === ":=" || COMPARISONS.has(text))) return cause(`${quoted(token)} is no number`, "an expression has variables, integers, + - * / mod and brackets; to name a term write =");
+    if (token.kind === "name" && BEFORE_OPERAND.has(before?.text) && here.some(({ text }) => text === ":=" || COMPARISONS.has(text))) return cause(
+      `${quoted(token)} is no number`, "an expression has variables, integers, + - * / mod and brackets; to name a term write =");
     return undefined;
   }
 
   function bars({ token, before, here, depth }) {
     const bar = here.find(({ text }, place) => text === "|" && Tokens.depthOf(here.slice(0, place)) === 0);
     if (token.text === "|" && before?.text === ":-") return cause("the guard is empty", "write true |, or leave out the bar too");
-    if (token.text === "|" && depth > 0 && here.some(({ text }) => text === "|")) return cause("one tail stands behind the bar of a list", "[A,B|C], and not [A|B|C]");
+    if (token.text === "|" && depth > 0 && here.some(({ text }) => text === "|")) return cause(
+      "one tail stands behind the bar of a list", "[A,B|C], and not [A|B|C]");
     if (token.text === "|" && before?.kind === "variable") return cause(`${quoted(before)} is no test`, "to wait until it is bound write wait(X)");
-    if (token.text === "|" && bar !== undefined) return cause("a second bar in one clause", "a clause is head :- guard | body. with one bar: all tests stand before it");
+    if (token.text === "|" && bar !== undefined) return cause(
+      "a second bar in one clause", "a clause is head :- guard | body. with one bar: all tests stand before it");
     return undefined;
   }
 
@@ -116,8 +129,10 @@ const SyntaxCauses = ((Tokens, Habits) => {
     if (chained) return cause("a comparison has two sides", `write two: X < Y, Y < Z`);
     const isCompared = COMPARISONS.has(token.text) || ([".", ","].includes(token.text) && hasComparison(here)) || (token.kind === "end" && hasComparison(here));
     if (!isCompared || before === undefined) return undefined;
-    if (isQuery) return cause("a comparison stands in the query", "comparisons are tests of clauses; to compute write Y := X + 1, and look at it by `show`");
-    return cause("a comparison stands in the body", "tests stand before the bar: head :- X > Y | body.", "a clause without a bar has the guard true, and all of it is body");
+    if (isQuery) return cause(
+      "a comparison stands in the query", "comparisons are tests of clauses; to compute write Y := X + 1, and look at it by `show`");
+    return cause(
+      "a comparison stands in the body", "tests stand before the bar: head :- X > Y | body.", "a clause without a bar has the guard true, and all of it is body");
   }
 
   function brackets({ token, before, here, depth }) {
@@ -125,9 +140,11 @@ const SyntaxCauses = ((Tokens, Habits) => {
     const where = open && `${quoted(open)} of line ${open.line}, column ${open.column}`;
     const isClosing = token.text === ")" || token.text === "]";
     if ((token.text === "." || token.text === ":-") && depth > 0) return cause(`${where} is not closed`, `missing: ${missing}`);
-    if (isClosing && open === undefined) return cause(`${quoted(token)} closes nothing`, "there is one bracket too many, or one before it is missing");
+    if (isClosing && open === undefined) return cause(
+      `${quoted(token)} closes nothing`, "there is one bracket too many, or one before it is missing");
     if (isClosing && missing !== token.text) return cause(`${quoted(token)} does not close ${where}`, `missing: ${missing}`);
-    if (isClosing && before?.text === "(") return cause("no arguments stand between the brackets", "an atom, or a goal without arguments, has no brackets");
+    if (isClosing && before?.text === "(") return cause(
+      "no arguments stand between the brackets", "an atom, or a goal without arguments, has no brackets");
     if (token.text === "(" && before?.text === "(") return cause("brackets group expressions alone", "write the term without them");
     return undefined;
   }
@@ -139,21 +156,26 @@ const SyntaxCauses = ((Tokens, Habits) => {
   }
 
   function neighbours({ token, before, isQuery }) {
-    if (token.kind === "variable" && before?.kind === "name" && before.line === token.line) return cause(`${quoted(token)} cannot follow ${quoted(before)}`, `arguments stand in brackets: ${before.text}(${token.text})`);
+    if (token.kind === "variable" && before?.kind === "name" && before.line === token.line) return cause(
+      `${quoted(token)} cannot follow ${quoted(before)}`, `arguments stand in brackets: ${before.text}(${token.text})`);
     if (!endsTerm(before) || !["name", "variable", "integer"].includes(token.kind)) return undefined;
     const isNewLine = before.line < token.line && !isQuery;
-    return cause(`${quoted(token)} cannot follow ${quoted(before)}`, isNewLine ? `is there a full stop missing behind ${quoted(before)} in line ${before.line}?` : "a comma or an operator is missing");
+    return cause(
+      `${quoted(token)} cannot follow ${quoted(before)}`, isNewLine ? `is there a full stop missing behind ${quoted(before)} in line ${before.line}?` : "a comma or an operator is missing");
   }
 
   function variableAsGoal({ token, before, tokens, place, depth }) {
     const isEnd = token.text === "." || token.text === "," || token.kind === "end";
     if (depth > 0 || before?.kind !== "variable" || !isEnd) return undefined;
-    return [",", "|", ":-", undefined].includes(tokens[place - 2]?.text) ? cause(`the variable ${before.text} is no goal`, "goals are calls, as p(X), and X = Y, X := E; there is no call of a term") : undefined;
+    if (![",", "|", ":-", undefined].includes(tokens[place - 2]?.text)) return undefined;
+    return cause(`the variable ${before.text} is no goal`, "goals are calls, as p(X), and X = Y, X := E; there is no call of a term");
   }
 
   function behindMark({ token, before }) {
-    if (before?.text === ",") return cause(`a goal or a term is expected behind the comma, and ${quoted(token)} is none`, "drop the comma, or write what is missing");
-    if (["=", ":="].includes(before?.text)) return cause(`${quoted(token)} cannot stand behind ${quoted(before)}`, before.text === "=" ? "a term stands there, as [A|X]" : "an expression stands there, as X + 1");
+    if (before?.text === ",") return cause(
+      `a goal or a term is expected behind the comma, and ${quoted(token)} is none`, "drop the comma, or write what is missing");
+    if (["=", ":="].includes(before?.text)) return cause(
+      `${quoted(token)} cannot stand behind ${quoted(before)}`, before.text === "=" ? "a term stands there, as [A|X]" : "an expression stands there, as X + 1");
     if ([":-", "|"].includes(before?.text)) return cause(`no goal begins with ${quoted(token)}`, CLAUSE);
     return undefined;
   }
@@ -163,7 +185,8 @@ const SyntaxCauses = ((Tokens, Habits) => {
   }
 
   const RULES = [
-    badToken, foreignMark, foreignPair, comparisonBehindBar, comparison, variableAsGoal, endOfText, numbers, streams, beginning, foreignWord, bars, arithmetic, brackets, neighbours, behindMark, anything,
+    badToken, foreignMark, foreignPair, comparisonBehindBar, comparison, variableAsGoal, endOfText, numbers, streams, beginning, foreignWord,
+    bars, arithmetic, brackets, neighbours, behindMark, anything,
   ];
 
   /** The cause of a refusal at a place of a text: its title, its hints, and the token at which it stands. */

@@ -29,7 +29,8 @@ function change(reply) {
 
 /** A kept step, with the text of the goal that it consumed. */
 function step({ number, goal, act, clause, reads, binds, makes }, textOf) {
-  return { step: number, goal, text: goal === null ? null : textOf(goal), act, ...(clause !== null && { clause }), reads, binds: Object.fromEntries(binds.map(({ variable, term }) => [variable, term])), makes };
+  const bound = Object.fromEntries(binds.map(({ variable, term }) => [variable, term]));
+  return { step: number, goal, text: goal === null ? null : textOf(goal), act, ...(clause !== null && { clause }), reads, binds: bound, makes };
 }
 
 function goal({ name, status, waitsFor, refusal, text }) {

@@ -74,6 +74,12 @@ function bindingLine(run, variable, step) {
   return `${run.labelOf(variable)} = ${value}   step ${step.number}: ${cut(run.textOf(step.goal))}${made}`;
 }
 
+/** On which variables a variable's value rests directly: those that the step that bound it read, and those that stand in the term. */
+function innerVariables(run, variable, number) {
+  const { reads, binds } = run.records.get(number), { term } = binds.find((bind) => bind.variable === variable);
+  return [...new Set([...reads, ...Graph.variablesIn(term)])].filter((other) => other !== variable);
+}
+
 async function explain(session, [word]) {
   const run = await session.look(), lines = [], told = new Set();
   const left = variablesOf(session, word).slice(0, 1).map((variable) => ({ variable, depth: 0 }));
@@ -82,8 +88,8 @@ async function explain(session, [word]) {
     if (step === undefined) lines.push(`${margin}${run.labelOf(variable)} is unbound`);
     else {
       lines.push(margin + bindingLine(run, variable, step) + (told.has(step.number) ? "  (above)" : ""));
-      const inner = [...new Set([...run.records.get(step.number).reads, ...Graph.variablesIn(String(run.records.get(step.number).binds.find((bind) => bind.variable === variable).term))])];
-      if (!told.has(step.number) && depth < DEEPEST) left.push(...inner.filter((other) => other !== variable).map((other) => ({ variable: other, depth: depth + 1 })).reverse());
+      const inner = told.has(step.number) || depth === DEEPEST ? [] : innerVariables(run, variable, step.number);
+      left.push(...inner.map((other) => ({ variable: other, depth: depth + 1 })).reverse());
       told.add(step.number);
     }
   }

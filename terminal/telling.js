@@ -59,7 +59,8 @@ async function noOpenStream(session) {
 
 async function notKept(session, [number]) {
   const shelf = await session.ask("shelf");
-  return shelf.some((line) => line.startsWith(`${Number(number)} `)) ? [`step ${Number(number)} was taken back: redo ${Number(number)} puts it there again`] : ["records lists the kept steps"];
+  const isThere = shelf.some((line) => line.startsWith(`${Number(number)} `));
+  return [isThere ? `step ${Number(number)} was taken back: redo ${Number(number)} puts it there again` : "records lists the kept steps"];
 }
 
 async function hasConsequences(session, [number]) {
@@ -70,7 +71,8 @@ async function hasConsequences(session, [number]) {
 
 async function notLawful(session, words, reply) {
   const [, later, earlier] = /^F21 not lawful: (\d+) (\d+)$/.exec(reply[0]);
-  return [earlier === "0" ? `step ${later} is kept, and is not in the list` : later === earlier ? `${later} is no kept step, or stands twice` : `step ${earlier} depends on step ${later}`];
+  if (earlier === "0") return [`step ${later} is kept, and is not in the list`];
+  return [later === earlier ? `${later} is no kept step, or stands twice` : `step ${earlier} depends on step ${later}`];
 }
 
 function noVariable(session, [name = ""]) {

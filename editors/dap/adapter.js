@@ -147,7 +147,8 @@ class Adapter {
 }
 
 // Requests that make a run or a step: while a run goes on they are refused.
-const RUNS = new Set(["continue", "next", "stepIn", "stepOut", "stepBack", "reverseContinue", "goto", "restartFrame", "setVariable", "setExpression", "ghcdb/undo", "ghcdb/roll", "ghcdb/redo", "evaluate"]);
+const RUNS = new Set(["continue", "next", "stepIn", "stepOut", "stepBack", "reverseContinue", "goto", "restartFrame", "setVariable", "setExpression", "evaluate",
+  "ghcdb/undo", "ghcdb/roll", "ghcdb/redo"]);
 
 Object.assign(Adapter.prototype, require("./beginning.js"), require("./looking.js"), require("./stepping.js"), require("./changing.js"), require("./running.js"));
 

@@ -100,7 +100,8 @@ module.exports = {
       if (clause === undefined) return "no clause stands here";
       const point = this.breakpoints.made("clause", { ...given, own: { predicate: clause.predicate, clause: clause.number } });
       points.push(point);
-      return { id: point.id, verified: true, line: this.places.shown(clause.line), source: this.places.source(), message: `stops before a goal to which clause ${clause.number} says yes` };
+      const message = `stops before a goal to which clause ${clause.number} says yes`;
+      return { id: point.id, verified: true, line: this.places.shown(clause.line), source: this.places.source(), message };
     });
     if (isOurs) this.breakpoints.clauses = points;
     await this.breakpoints.spy(this.session);
@@ -129,7 +130,8 @@ module.exports = {
   async on_dataBreakpointInfo({ name, variablesReference, frameId }) {
     const term = await this.inside.termNamed(name, variablesReference ?? frameId) ?? await this.termShown(name, variablesReference);
     if (term?.variable === undefined) return { dataId: null, description: `${name} is no variable of the run` };
-    return { dataId: term.variable, description: `${term.variable}: forwards, where it is bound; backwards, before the step that bound it`, accessTypes: ["write"], canPersist: false };
+    const description = `${term.variable}: forwards, where it is bound; backwards, before the step that bound it`;
+    return { dataId: term.variable, description, accessTypes: ["write"], canPersist: false };
   },
 
   on_setDataBreakpoints({ breakpoints }) {

@@ -13,7 +13,8 @@ function fits(pattern, term, run) {
   if (pattern.variable !== undefined) return true;
   const end = run.endOf(term);
   if (pattern.integer !== undefined || end.arguments === undefined) return pattern.integer === end.integer && pattern.arguments === end.arguments;
-  return pattern.name === end.name && pattern.arguments.length === end.arguments.length && pattern.arguments.every((argument, place) => fits(argument, end.arguments[place], run));
+  if (pattern.name !== end.name || pattern.arguments.length !== end.arguments.length) return false;
+  return pattern.arguments.every((argument, place) => fits(argument, end.arguments[place], run));
 }
 
 /** The pattern of a condition; undefined where the text is no term. */
@@ -71,8 +72,10 @@ class Breakpoints {
   /** The breakpoint before which a kept step lies, for a run backwards. A clause's stops where the step took that clause. */
   before(step, run) {
     const predicate = run.predicateOf(step.goal), call = run.goalOf(step.goal)?.call;
-    return [...this.clauses, ...this.predicates].find((point) => point.predicate === predicate && !point.logMessage && (point.clause === undefined || point.clause === step.clause) &&
-      (point.condition === undefined || (call !== undefined && fits(point.condition, call, run))));
+    return [...this.clauses, ...this.predicates].find((point) => {
+      const isItsPlace = point.predicate === predicate && (point.clause === undefined || point.clause === step.clause);
+      return isItsPlace && !point.logMessage && (point.condition === undefined || (call !== undefined && fits(point.condition, call, run)));
+    });
   }
 }
 

@@ -124,7 +124,8 @@ class Inside {
 
   async in_why(number) {
     const run = await this.session.look();
-    return readLines(await this.session.ask(`why ${number}`)).map(({ number: cause, rest }) => flat(`step ${cause}`, `${run.textOf(this.session.kept.steps.get(cause).goal)}   ${rest}`));
+    const textOf = (cause) => run.textOf(this.session.kept.steps.get(cause).goal);
+    return readLines(await this.session.ask(`why ${number}`)).map(({ number: cause, rest }) => flat(`step ${cause}`, `${textOf(cause)}   ${rest}`));
   }
 
   /** The query's variables, of which the console tells the values: so not all records need be read. */
@@ -140,7 +141,8 @@ class Inside {
   }
 
   async in_goals() {
-    return (await this.session.goals()).map(({ name, status, waitsFor, refusal, text }) => flat(name, `${[status, waitsFor.join(","), refusal].filter(Boolean).join(" ")}   ${text}`));
+    const statusOf = ({ status, waitsFor, refusal }) => [status, waitsFor.join(","), refusal].filter(Boolean).join(" ");
+    return (await this.session.goals()).map((goal) => flat(goal.name, `${statusOf(goal)}   ${goal.text.slice(0, LONGEST)}`));
   }
 
   async in_shelf() {

@@ -65,7 +65,8 @@ module.exports = {
 
   async on_exceptionInfo() {
     const goals = await this.session.goals(), failed = goals.find(({ status }) => status === "failed");
-    if (failed === undefined) return { exceptionId: "stuck", description: Stuck.linesOf(goals, (variable) => this.session.run.labelOf(variable)).join("\n"), breakMode: "always" };
+    const labelOf = (variable) => this.session.run.labelOf(variable);
+    if (failed === undefined) return { exceptionId: "stuck", description: Stuck.linesOf(goals, labelOf).join("\n"), breakMode: "always" };
     const why = failed.refusal === "F10" ? await whyNoClause(this.session, failed.name) : [];
     return { exceptionId: `failed ${failed.refusal}`, description: [`${failed.name} ${failed.text}`, ...why].join("\n"), breakMode: "always" };
   },
@@ -73,14 +74,16 @@ module.exports = {
   async on_stepInTargets({ frameId }) {
     const { kind, what } = this.inside.referred(frameId) ?? {};
     const choices = kind === "goal" ? Choices.choicesOf(await this.session.look(), what.name) : [];
-    return { targets: choices.filter(({ says }) => says === "yes").map(({ clause }) => ({ id: clause.number, label: `clause ${clause.number}: ${clause.text.replace(/\s+/g, " ").slice(0, 90)}` })) };
+    const label = ({ number, text }) => `clause ${number}: ${text.replace(/\s+/g, " ").slice(0, 90)}`;
+    return { targets: choices.filter(({ says }) => says === "yes").map(({ clause }) => ({ id: clause.number, label: label(clause) })) };
   },
 
   async on_gotoTargets({ source, line }) {
     const isOurs = source?.path === undefined || path.resolve(source.path) === this.places.file;
     const clause = isOurs ? this.clauseAt(this.places.meant(line)) : undefined, run = await this.session.look();
     const steps = [...this.session.kept.steps.values()].filter((step) => clause !== undefined && step.clause === clause.number).reverse().slice(0, 50);
-    return { targets: steps.map(({ number, goal }) => ({ id: number, label: `before step ${number}: ${run.textOf(goal).slice(0, 80)}`, line: this.places.shown(clause.line) })) };
+    const label = ({ number, goal }) => `before step ${number}: ${run.textOf(goal).slice(0, 80)}`;
+    return { targets: steps.map((step) => ({ id: step.number, label: label(step), line: this.places.shown(clause.line) })) };
   },
 
   async on_completions({ text, column }) {

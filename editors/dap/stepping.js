@@ -64,7 +64,8 @@ module.exports = {
       reply = [`this process has done nothing: the last step of all is taken back, step ${last.number}`, ...await this.session.ask(`undo ${last.number}`)];
     }
     this.tell(reply);
-    this.later(() => this.stopped("step", reply.find((line) => line.startsWith("undone")), { thread: mine.length > 0 || last.goal === null ? threadId : this.processes.of(last.goal) }));
+    const thread = mine.length > 0 || last.goal === null ? threadId : this.processes.of(last.goal);
+    this.later(() => this.stopped("step", reply.find((line) => line.startsWith("undone")), { thread }));
   },
 
   on_reverseContinue() {

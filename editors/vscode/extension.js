@@ -24,7 +24,8 @@ function completed(folder, configuration) {
 /** Asks for a step's number, and hands the request on to the session. */
 async function ask(what) {
   const session = vscode.debug.activeDebugSession;
-  const number = session && await vscode.window.showInputBox({ prompt: `${what} step number`, validateInput: (text) => (/^\d+$/.test(text) ? undefined : "a step's number, as `records` lists them") });
+  const validateInput = (text) => (/^\d+$/.test(text) ? undefined : "a step's number, as `records` lists them");
+  const number = session && await vscode.window.showInputBox({ prompt: `${what} step number`, validateInput });
   if (number === undefined) return;
   try {
     await session.customRequest(`ghcdb/${what}`, { step: Number(number) });

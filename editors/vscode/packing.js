@@ -41,7 +41,8 @@ function manifest({ name, publisher, version, displayName, description, engines 
 /** The files of the archive that VS Code installs. */
 function vsixFiles(files) {
   const about = JSON.parse(files.get("package.json"));
-  return new Map([["[Content_Types].xml", Buffer.from(TYPES)], ["extension.vsixmanifest", Buffer.from(manifest(about))], ...[...files].map(([name, bytes]) => [`extension/${name}`, bytes])]);
+  const heads = [["[Content_Types].xml", Buffer.from(TYPES)], ["extension.vsixmanifest", Buffer.from(manifest(about))]];
+  return new Map([...heads, ...[...files].map(([name, bytes]) => [`extension/${name}`, bytes])]);
 }
 
 module.exports = { packedFiles, vsixFiles };

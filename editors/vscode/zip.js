@@ -31,7 +31,8 @@ function zip(files) {
   let place = 0;
   for (const [name, bytes] of files) {
     const packed = zlib.deflateRawSync(bytes), title = Buffer.from(name);
-    const about = numbers([2, VERSION], [2, 0], [2, DEFLATED], [2, NO_TIME], [2, FIRST_DAY], [4, checksum(bytes)], [4, packed.length], [4, bytes.length], [2, title.length], [2, 0]);
+    const sizes = [[4, checksum(bytes)], [4, packed.length], [4, bytes.length], [2, title.length], [2, 0]];
+    const about = numbers([2, VERSION], [2, 0], [2, DEFLATED], [2, NO_TIME], [2, FIRST_DAY], ...sizes);
     const piece = Buffer.concat([numbers([4, LOCAL]), about, title, packed]);
     entries.push(Buffer.concat([numbers([4, CENTRAL], [2, VERSION]), about, numbers([2, 0], [2, 0], [2, 0], [4, 0], [4, place]), title]));
     pieces.push(piece);
