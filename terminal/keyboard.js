@@ -31,6 +31,7 @@ class Keyboard {
     Object.assign(this, { input, output, complete, interrupt, end });
     this.lines = [];
     this.history = oldLines();
+    process.on("SIGINT", () => this.interrupt()); // of a terminal that edits no lines; elsewhere ^C is a key
     this.open();
   }
 

@@ -29,9 +29,9 @@ PROGRAM = os.path.abspath(PROGRAM) if os.sep in PROGRAM else PROGRAM
 ENDLESS = "p(N) :- true | M := N + 1, p(M).\n"
 
 
-def start(home, *words, wait=30.0, folder=None):
+def start(home, *words, wait=30.0, folder=None, kind="xterm"):
     environment = {"HOME": home, "COLUMNS": "220", "GHCDB": PROGRAM}
-    return Terminal(["node", FRONT, *words], environment, wait, folder)
+    return Terminal(["node", FRONT, *words], environment, wait, folder, kind)
 
 
 def wants(condition, told):
@@ -224,6 +224,16 @@ def test_tab(home):
     terminal.type("step")
     wants(terminal.complete("undo ").rstrip() == "undo 1", "no kept step is offered")
     terminal.end()
+
+
+def test_terminal_that_edits_no_lines(home):
+    terminal = start(home, str(ROOT / "examples/bill.ghc"), "--query", "bill(12,3,T)", kind="dumb")
+    wants(is_met("=REDU 1 0.1 by 1", terminal.type("step")), "no step")
+    terminal.press("\x03")
+    wants("% quit ends; the session stands" in terminal.read(), "^C ends the session")
+    wants(is_met("=undone 1", terminal.type("back")), "the session is gone")
+    terminal.type("quit")
+    wants(terminal.status == 0, f"status {terminal.status}")
 
 
 def test_history_is_kept(home):

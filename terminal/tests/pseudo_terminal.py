@@ -10,17 +10,17 @@ import struct
 import termios
 import time
 
-PROMPT = b"> \x1b[3G"  # how the line editor shows the prompt, and waits
+PROMPTS = {"xterm": b"> \x1b[3G", "dumb": b"\n> "}  # how the prompt is shown, and then a line is waited for
 CONTROLS = re.compile(r"\x1b\[[0-9;?]*[A-Za-z]")
 ROWS, COLUMNS = 50, 220  # so wide that no line of a test is broken
 
 
 class Terminal:
-    def __init__(self, words, environment, wait=30.0, folder=None):
-        self.wait = wait
+    def __init__(self, words, environment, wait=30.0, folder=None, kind="xterm"):
+        self.wait, self.prompt = wait, PROMPTS[kind]
         self.child, self.device = pty.fork()
         if self.child == 0:
-            os.environ.update(environment, TERM="xterm")
+            os.environ.update(environment, TERM=kind)
             if folder is not None:
                 os.chdir(folder)
             os.execvp(words[0], words)
@@ -28,7 +28,7 @@ class Terminal:
         self.status = None
         self.start = self.read()
 
-    def read(self, until=PROMPT):
+    def read(self):
         """What is shown up to a prompt, or up to the program's end."""
         shown, end = b"", time.monotonic() + self.wait
         while time.monotonic() < end:
@@ -43,7 +43,7 @@ class Terminal:
                 self.status = os.waitstatus_to_exitcode(os.waitpid(self.child, 0)[1])
                 return text_of(shown)
             shown += piece
-            if shown.endswith(until):
+            if shown.replace(b"\r", b"").endswith(self.prompt):
                 return text_of(shown)
         raise TimeoutError(f"no prompt behind {text_of(shown)[-300:]!r}")
 
