@@ -1,12 +1,15 @@
 #!/usr/bin/env python3
 """Plays sessions at a pseudo-terminal: what people type who have not read the manual, ^C, ^D, Tab, the tutorial, and examples/wrong.
 
-    python3 terminal/tests/played.py        GHCDB names the native program; without it see terminal/ghcdb
+    python3 terminal/tests/played.py [PATTERN]      those whose names have the pattern, or all, several at once
+
+GHCDB names the native program; without it see terminal/ghcdb.
 
 The last line is `N passed, M failed`; the exit status is 1 where a test failed.
 """
 
 import json
+import multiprocessing
 import os
 import re
 import subprocess
@@ -278,22 +281,28 @@ def tests():
             yield f"{name}, bare", lambda home, row=row: play_bare(row)
 
 
+def try_one(place):
+    """Plays a test, by its place: what is wrong, or nothing."""
+    name, test = CHOSEN[place]
+    with tempfile.TemporaryDirectory() as home:
+        try:
+            test(home)
+            return ""
+        except AssertionError as error:
+            return f"failed: {name}: {error}"
+        except (TimeoutError, OSError):
+            return f"failed: {name}: {traceback.format_exc()}"
+
+
+CHOSEN = [(name, test) for name, test in tests() if re.search(sys.argv[1] if len(sys.argv) > 1 else "", name)]
+
+
 def main():
-    passed = failed = 0
-    for name, test in tests():
-        if not re.search(sys.argv[1] if len(sys.argv) > 1 else "", name):
-            continue
-        with tempfile.TemporaryDirectory() as home:
-            try:
-                test(home)
-                passed += 1
-            except (AssertionError, TimeoutError, OSError) as error:
-                failed += 1
-                print(f"failed: {name}: {error}")
-                if not isinstance(error, AssertionError):
-                    traceback.print_exc()
-    print(f"{passed} passed, {failed} failed")
-    sys.exit(1 if failed or not passed else 0)
+    with multiprocessing.get_context("fork").Pool(os.cpu_count()) as pool:
+        told = pool.map(try_one, range(len(CHOSEN)), chunksize=1)
+    failed = [line for line in told if line]
+    print("\n".join([*failed, f"{len(told) - len(failed)} passed, {len(failed)} failed"]))
+    sys.exit(1 if failed or not told else 0)
 
 
 if __name__ == "__main__":
