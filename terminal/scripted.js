@@ -8,6 +8,7 @@ const { readWords, isSession } = require("./words.js");
 const STATUS = { done: 0, commandLine: 2, refusedLine: 4, failed: 5, waits: 6, unfinished: 7 };
 
 const LINE_FEED = 10, RETURN = 13;
+const MOST_BYTES = 1_048_576; // of a line
 
 /** The lines of bytes as ghcdb takes them: a CR before the line feed is none of the line, one before the end of the input is. */
 async function* linesOf(input) {
@@ -19,8 +20,11 @@ async function* linesOf(input) {
       rest = rest.subarray(end + 1);
     }
   }
-  if (rest.length > 0) yield rest.at(-1) === RETURN ? Buffer.concat([rest, Buffer.from([RETURN])]) : rest;
+  if (rest.length > 0) yield rest;
 }
+
+/** A line as it is sent: of a CR at its end one more is taken off. */
+const sent = (line) => (line.at(-1) === RETURN ? Buffer.concat([line, Buffer.from([RETURN])]) : line);
 
 /** What is left at the end of a session. */
 async function statusOf(session, wasRefused) {
@@ -43,9 +47,9 @@ async function play(words, input, tell, errors) {
     let wasRefused = false;
     for await (const line of linesOf(input)) {
       const text = line.toString("latin1"), given = text.split(" ").filter(Boolean);
-      if (given.length === 0) continue;
+      if (given.length === 0 && line.length <= MOST_BYTES) continue; // no word, no reply; but a line that is too long has one
       if (given.length === 1 && given[0] === "quit") break;
-      const reply = await session.ask(line);
+      const reply = await session.ask(sent(line));
       wasRefused ||= isRefusal(reply);
       await tell(text, reply, session);
     }
