@@ -44,8 +44,10 @@ const Causes = ((Tokens, Reader, SyntaxCauses, CheckerCauses, Nearest) => {
   /** Notes on the variables of a clause that stand once in it. */
   function loneVariables(clause, number, which) {
     const places = new Map();
-    for (const token of clause) if (token.kind === "variable" && !token.text.startsWith("_")) places.set(token.text, [...(places.get(token.text) ?? []), token]);
-    const lone = [...places.values()].filter((tokens) => tokens.length === 1).map(([token]) => token);
+    for (const token of clause) {
+      if (token.kind === "variable" && !token.text.startsWith("_")) places.set(token.text, places.has(token.text) ? undefined : token);
+    }
+    const lone = [...places.values()].filter((token) => token !== undefined);
     const names = [...lone.map(({ text }) => text), ...places.keys()]; // two that stand once may be meant to be one
     return lone.map((token) => {
       const near = Nearest.nearest(token.text, names.filter((name) => mayBeMeant(token.text, name)));
@@ -82,24 +84,25 @@ const Causes = ((Tokens, Reader, SyntaxCauses, CheckerCauses, Nearest) => {
     return notes;
   }
 
-  /** The clause of a predicate that binds the argument at a place, which is a variable of its head; undefined where none does. */
-  function binderOf(clauses, predicate, place) {
-    return clauses.find((clause) => {
-      const name = clause.predicate === predicate ? clause.head.arguments[place].variable : undefined;
-      return name !== undefined && clause.body.some((goal) => goal.left?.variable === name && goal.sort !== "true");
-    });
+  /** For each predicate and place of an argument the clause whose body binds that argument, a variable of its head. */
+  function bindersOf(clauses) {
+    const binders = new Map();
+    for (const { head, body, predicate, number } of clauses) {
+      const places = new Map(head.arguments.map(({ variable }, place) => [variable, place]));
+      for (const { left } of body) if (left?.variable !== undefined && places.has(left.variable)) binders.set(`${predicate} ${places.get(left.variable)}`, number);
+    }
+    return binders;
   }
 
   /** Notes on results that stand in a head, which binds nothing, where another clause of the predicate binds that argument in its body. */
   function resultsInHeads(program, which) {
-    const clauses = Reader.readProgram(program), notes = [];
-    for (const clause of clauses) {
-      clause.head.arguments.forEach((argument, place) => {
-        const binder = argument.variable === undefined ? binderOf(clauses, clause.predicate, place) : undefined;
+    const clauses = Reader.readProgram(program), binders = bindersOf(clauses), notes = [];
+    for (const { head, predicate, number, line, letter, name } of clauses) {
+      head.arguments.forEach((argument, place) => {
+        const binder = argument.variable === undefined ? binders.get(`${predicate} ${place}`) : undefined;
         if (binder === undefined) return;
-        const token = { line: clause.line, column: clause.letter, text: clause.name };
-        const cure = `a head binds nothing; clause ${binder.number} binds that argument in its body, by =`;
-        notes.push(caused(which, { token, title: `note: clause ${clause.number} waits until argument ${place + 1} is bound`, hints: [cure] }));
+        const cure = `a head binds nothing; clause ${binder} binds that argument in its body, by =`, token = { line, column: letter, text: name };
+        notes.push(caused(which, { token, title: `note: clause ${number} waits until argument ${place + 1} is bound`, hints: [cure] }));
       });
     }
     return notes;

@@ -24,20 +24,22 @@ const Choices = ((Reader, Print) => {
     "=\\=": (left, right) => left !== right,
   };
 
-  /** The value of an expression whose variables `valueOfVariable` gives as terms. */
+  /** The value of an operation. */
+  function computed(name, [left, right]) {
+    if ((name === "/" || name === "mod") && right === 0n) throw new NoValue("division by zero");
+    const value = OPERATIONS[name](left, right);
+    if (value < LEAST || value > MOST) throw new NoValue("a number does not fit into 64 bits");
+    return value;
+  }
+
+  /** The value of an expression, whose variables stand for what `env` gives. */
   function valueOf(expression, run, env) {
-    if (expression.integer !== undefined) return expression.integer;
-    if (Print.isOperation(expression)) {
-      const [left, right] = expression.arguments.map((operand) => valueOf(operand, run, env));
-      if ((expression.name === "/" || expression.name === "mod") && right === 0n) throw new NoValue("division by zero");
-      const value = OPERATIONS[expression.name](left, right);
-      if (value < LEAST || value > MOST) throw new NoValue("a number does not fit into 64 bits");
-      return value;
-    }
-    const end = run.endOf(env.get(expression.variable) ?? expression);
-    if (Print.isOperation(end)) return valueOf(end, run, env);
-    if (end.integer === undefined) throw new NoValue(`${Print.term(end, { store: run, most: SHOWN })} is no integer`);
-    return end.integer;
+    const valueOfLeaf = (leaf) => {
+      const end = run.endOf(env.get(leaf.variable) ?? leaf);
+      if (end.integer === undefined) throw new NoValue(`${Print.term(end, { store: run, most: SHOWN })} is no integer`);
+      return end.integer;
+    };
+    return Reader.fold(expression, valueOfLeaf, computed);
   }
 
   /** Why an assignment's expression has no value; undefined where it has one. */

@@ -162,6 +162,27 @@ const Reader = ((Tokens) => {
     return names;
   }
 
+  /** What comes of a term from its leaves up: `leaf` of variables, integers and atoms, `node` of a name and what came of its arguments. */
+  function fold(given, leaf, node) {
+    const open = [];
+    let next = given, result;
+    for (;;) {
+      if (next?.arguments?.length > 0) {
+        open.push({ name: next.name, terms: next.arguments, results: [] });
+        next = next.arguments[0];
+        continue;
+      }
+      if (next !== undefined) result = leaf(next);
+      if (open.length === 0) return result;
+      const { name, terms, results } = open.at(-1);
+      results.push(result);
+      next = terms[results.length];
+      if (next !== undefined) continue;
+      open.pop();
+      result = node(name, results);
+    }
+  }
+
   /** The terms of a goal. */
   const termsOf = (goal) => (goal.sort === "call" ? [goal.call] : goal.sort === "true" ? [] : goal.sort === "stream" ? [goal.tail] : [goal.left, goal.right]);
 
@@ -195,6 +216,6 @@ const Reader = ((Tokens) => {
 
   const readTerm = (text) => new Reading(text).term();
 
-  return { NIL, isWritten, addVariables, termsOf, readProgram, readQuery, readTerm };
+  return { NIL, isWritten, addVariables, termsOf, fold, readProgram, readQuery, readTerm };
 })(typeof require === "undefined" ? Tokens : require("./tokens.js"));
 if (typeof module !== "undefined") module.exports = Reader;

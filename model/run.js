@@ -8,9 +8,7 @@ const Run = ((Graph, Reader, Print) => {
 
   /** The term in which each variable stands for what `env` gives. */
   function substitute(term, env) {
-    if (term.variable !== undefined) return env.get(term.variable) ?? term;
-    if (term.arguments === undefined || term.arguments.length === 0) return term;
-    return { name: term.name, arguments: term.arguments.map((argument) => substitute(argument, env)) };
+    return Reader.fold(term, (leaf) => (leaf.variable === undefined ? leaf : env.get(leaf.variable) ?? leaf), (name, terms) => ({ name, arguments: terms }));
   }
 
   function substituteGoal(goal, env) {

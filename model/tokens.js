@@ -5,6 +5,14 @@ const Tokens = (() => {
   const FORM = /(?<blank>[ \t\r\n]+|%[^\n]*)|(?<name>[a-z]\w*)|(?<variable>[A-Z_]\w*)|(?<integer>\d+)|(?<mark>:-|:=|=:=|=\\=|=<|>=|[=<>+\-*/()[\],|.])|(?<wrong>[^])/suy;
   const kindOf = (groups) => Object.keys(groups).find((kind) => groups[kind] !== undefined);
 
+  /** How many bytes of UTF-8 a letter has, of a pair of surrogates all four for the first. */
+  function bytesOf(code) {
+    if (code < 0x80) return 1;
+    if (code < 0x800) return 2;
+    if (code >= 0xd800 && code < 0xdc00) return 4;
+    return code >= 0xdc00 && code < 0xe000 ? 0 : 3;
+  }
+
   // Follows lines through a text. The console counts a column in bytes, an editor in letters; both count from 1.
   class Places {
     constructor(text) {
@@ -13,17 +21,17 @@ const Tokens = (() => {
       this.start = 0; // where the line begins
       this.at = 0;
       this.bytes = 0; // of the line, up to `at`
-      this.encoder = new TextEncoder();
     }
 
     goTo(place) {
-      for (let end = this.text.indexOf("\n", this.at); end >= 0 && end < place; end = this.text.indexOf("\n", this.at)) {
+      for (; this.at < place; this.at += 1) {
+        const code = this.text.charCodeAt(this.at);
+        this.bytes += bytesOf(code);
+        if (code !== 10) continue;
         this.line += 1;
-        this.start = this.at = end + 1;
+        this.start = this.at + 1;
         this.bytes = 0;
       }
-      this.bytes += this.encoder.encode(this.text.slice(this.at, place)).length;
-      this.at = place;
       return { line: this.line, column: this.bytes + 1, letter: place - this.start + 1 };
     }
   }

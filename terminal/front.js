@@ -11,6 +11,7 @@ const Own = require("./own.js");
 const { behind, plural } = require("./telling.js");
 
 const MARK = "% ";
+const MOST_NOTES = 6; // on a program that are shown
 const FIRST = 20, LAST = 10, LONG = 40; // lines of a long run that are shown, and how many a run has that is shown whole
 const PROMPT_STEPS = 1000; // a run of so many steps ends soon: it is not prepared for being ended
 const MOST_WATCHED = 1_000_000;
@@ -45,7 +46,9 @@ class Front {
       return;
     }
     const { file } = this.session.given;
-    for (const cause of Causes.notesOn(this.session.text, file)) this.note(...Causes.linesOf(cause, this.session.text));
+    const notes = Causes.notesOn(this.session.text, file);
+    for (const cause of notes.slice(0, MOST_NOTES)) this.note(...Causes.linesOf(cause, this.session.text));
+    if (notes.length > MOST_NOTES) this.note(`.. ${plural(notes.length - MOST_NOTES, "note")} more ..`);
     this.note("Flat GHC. help lists the commands; step alone takes a step, leap runs, back goes back.");
   }
 
@@ -82,8 +85,8 @@ class Front {
       if (meaning.name !== undefined) await this.act(meaning, typed);
       else await this.passOn(meaning, typed);
     } catch (error) {
-      if (!(error instanceof Ended)) throw error;
-      await this.afterEnd(error);
+      if (error instanceof Ended) await this.afterEnd(error);
+      else this.note(`the terminal can tell no more of it (${error.message}); the session stands`);
     }
   }
 
@@ -234,15 +237,15 @@ class Front {
     if (name === undefined) return this.note(usageOf("watch"));
     const line = `show ${name}`, was = await this.session.ask(line);
     if (isRefusal(was)) return this.send({ name: "show", words: [name], line }, line);
-    let now = was, last = "";
-    for (let taken = 0; taken < MOST_WATCHED && !this.isInterrupted && isUnbound(now); taken += 1) {
+    let now = was, last = "", taken = 0;
+    for (; taken < MOST_WATCHED && !this.isInterrupted && isUnbound(now); taken += 1) {
       last = (await this.session.ask("leap 1")).at(-1);
       if (last !== "stopped limit") break;
       now = await this.session.ask(line);
     }
     this.show(now = await this.session.ask(line));
     if (isUnbound(now)) return this.note(this.isInterrupted ? "ended: it is not bound" : `it is not bound: ${last}`);
-    return this.note(isUnbound(was) ? `bound by step ${this.session.kept.last}` : "it is bound already");
+    return this.note(isUnbound(was) ? `bound by step ${this.session.kept.last}; sent: leap 1, ${plural(taken, "time")}` : "it is bound already");
   }
 
   async on_save({ words }) {

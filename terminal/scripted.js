@@ -2,7 +2,7 @@
 "use strict";
 
 const { Ended } = require("./program.js");
-const { Session, isRefusal } = require("./session.js");
+const { Session, NotTold, isRefusal } = require("./session.js");
 const { readWords, isSession } = require("./words.js");
 
 const STATUS = { done: 0, commandLine: 2, refusedLine: 4, failed: 5, waits: 6, unfinished: 7 };
@@ -26,10 +26,16 @@ async function* linesOf(input) {
 /** A line as it is sent: of a CR at its end one more is taken off. */
 const sent = (line) => (line.at(-1) === RETURN ? Buffer.concat([line, Buffer.from([RETURN])]) : line);
 
+/** Goals that are too long to be told are left, whatever they are. */
+function notTold(error) {
+  if (error instanceof NotTold) return ["ready"];
+  throw error;
+}
+
 /** What is left at the end of a session. */
 async function statusOf(session, wasRefused) {
   if (wasRefused) return STATUS.refusedLine;
-  const statuses = (await session.goals()).map(({ status }) => status);
+  const statuses = await session.goals().then((goals) => goals.map(({ status }) => status), (error) => notTold(error));
   if (statuses.length === 0) return STATUS.done;
   if (statuses.includes("failed")) return STATUS.failed;
   return statuses.includes("ready") || statuses.includes("stream") ? STATUS.unfinished : STATUS.waits;

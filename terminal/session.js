@@ -14,6 +14,9 @@ const { readWords, wordsFrom } = require("./words.js");
 
 const isRefusal = (reply) => /^F\d+ (?!= )/.test(reply[0] ?? ""); // `F1 = 2` is the value of a variable
 
+// What is thrown where the console refuses to list the goals, since one of them is too long to print.
+class NotTold extends Error {}
+
 /** The text of a file; empty where it cannot be read, which ghcdb tells. */
 function textOf(file) {
   try {
@@ -41,7 +44,7 @@ class Session {
     this.kept = new Kept();
     if (this.given.load !== undefined) this.kept.begin(await this.program.ask("records"));
     this.run = new Run(this.clauses, this.given.query, this.kept);
-    this.seen = { records: -1, goals: 0, list: Graph.readGoals(goals) };
+    this.seen = { records: -1, goals: 0, reply: goals, list: Graph.readGoals(goals) };
     this.savedAt = 0;
   }
 
@@ -65,12 +68,14 @@ class Session {
     return reply;
   }
 
-  /** The goals as they stand. */
+  /** The goals as they stand. Throws `NotTold` where the console lists none. */
   async goals() {
     if (this.seen.goals !== this.kept.changes) {
-      this.seen.list = Graph.readGoals(await this.program.ask("goals"));
+      this.seen.reply = await this.program.ask("goals");
+      this.seen.list = Graph.readGoals(this.seen.reply);
       this.seen.goals = this.kept.changes;
     }
+    if (isRefusal(this.seen.reply)) throw new NotTold(`goals: ${this.seen.reply[0]}`);
     return this.seen.list;
   }
 
@@ -119,4 +124,4 @@ class Session {
   }
 }
 
-module.exports = { Session, isRefusal };
+module.exports = { Session, NotTold, isRefusal };

@@ -8,7 +8,7 @@ const { Breakpoints } = require("./breakpoints.js");
 const { Refused } = require("./refused.js");
 const { clauseTaken } = require("./told.js");
 const { Ended } = require("../../terminal/program.js");
-const { isRefusal } = require("../../terminal/session.js");
+const { NotTold, isRefusal } = require("../../terminal/session.js");
 const { behind } = require("../../terminal/telling.js");
 
 const MOST_THREAD_EVENTS = 200; // of one stop; an editor asks for all threads in any case
@@ -109,16 +109,27 @@ class Adapter {
 
   /** Looks at the goals as they stand, and tells which processes came and went. */
   async look() {
-    const goals = await this.session.goals(), now = new Set(goals.map(({ name }) => this.processes.of(name)));
+    const goals = await this.goalsTold(), now = new Set(goals.map(({ name }) => this.processes.of(name)));
     const changed = [...[...now].filter((id) => !this.live.has(id)).map((id) => ["started", id]), ...[...this.live].filter((id) => !now.has(id)).map((id) => ["exited", id])];
     for (const [reason, threadId] of changed.slice(0, MOST_THREAD_EVENTS)) this.event("thread", { reason, threadId });
     this.live = now;
     return goals;
   }
 
+  /** The goals as they stand; none where one of them is too long to be told. */
+  async goalsTold() {
+    try {
+      return await this.session.goals();
+    } catch (error) {
+      if (!(error instanceof NotTold)) throw error;
+      this.tell([`${error.message}: no goal is shown`], "important");
+      return [];
+    }
+  }
+
   /** The goal at which a process stands: a ready one before others; undefined where the process is done. */
   async goalOf(thread) {
-    const mine = (await this.session.goals()).filter(({ name }) => this.processes.of(name) === thread);
+    const mine = (await this.goalsTold()).filter(({ name }) => this.processes.of(name) === thread);
     return mine.find(({ status }) => status === "ready") ?? mine[0];
   }
 

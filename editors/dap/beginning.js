@@ -16,6 +16,8 @@ const CAN = ["ConfigurationDoneRequest", "FunctionBreakpoints", "ConditionalBrea
   "StepBack", "RestartFrame", "RestartRequest", "GotoTargetsRequest", "StepInTargetsRequest", "CompletionsRequest", "SetVariable", "SetExpression", "LoadedSourcesRequest",
   "ExceptionInfoRequest", "TerminateRequest", "SingleThreadExecutionRequests", "BreakpointLocationsRequest"];
 
+const MOST_NOTES = 6; // on a program that are told
+
 /** The words of ghcdb's command line for a launch configuration. */
 function wordsOf({ load, workers }, program, query) {
   return [program, "--query", query, ...(load ? ["--load", load] : []), ...(workers ? ["--workers", String(workers)] : [])];
@@ -65,7 +67,8 @@ module.exports = {
     this.inside = new Inside(this.session);
     this.live = new Set();
     this.breakpoints.spied = new Set();
-    this.later(() => this.tell(Causes.notesOn(program, path.basename(file)).flatMap((cause) => Causes.linesOf(cause, program)), "important"));
+    const notes = Causes.notesOn(program, path.basename(file)).slice(0, MOST_NOTES);
+    this.later(() => this.tell(notes.flatMap((cause) => Causes.linesOf(cause, program)), "important"));
   },
 
   on_attach() {

@@ -72,7 +72,7 @@ module.exports = {
   },
 
   async atEnd(reason, name) {
-    const goals = await this.session.goals();
+    const goals = await this.goalsTold();
     if (reason === "clash") return ["exception", `${name} ${goals.find((goal) => goal.name === name)?.text} has failed`, { thread: this.processes.of(name) }];
     if (reason !== "quiet") return ["pause", reason];
     const waiting = goals.filter(({ status }) => status === "waits");

@@ -7,7 +7,7 @@ const { refused } = require("./refused.js");
 module.exports = {
   /** The process that goes on behind a step: that of the goal stepped where it goes on, else of the first ready goal that was made. */
   async into(made, thread) {
-    const goals = (await this.session.goals()).filter(({ name }) => made.includes(name));
+    const goals = (await this.goalsTold()).filter(({ name }) => made.includes(name));
     const next = goals.find(({ name }) => this.processes.of(name) === thread) ?? goals.find(({ status }) => status === "ready") ?? goals[0];
     return next === undefined ? thread : this.processes.of(next.name);
   },
