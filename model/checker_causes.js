@@ -10,13 +10,8 @@ const CheckerCauses = ((Tokens, Habits, Nearest) => {
 
   /** Where a clause's guard begins and ends. */
   function guardOf(clause) {
-    const start = clause.findIndex(({ text }) => text === ":-") + 1;
-    let depth = 0;
-    for (let place = start; place < clause.length; place += 1) {
-      if (depth === 0 && clause[place].text === "|") return { start, end: place };
-      depth += Tokens.depthOf([clause[place]]);
-    }
-    return { start, end: clause.length };
+    const start = clause.findIndex(({ text }) => text === ":-") + 1, bar = Tokens.barOutside(clause, start);
+    return { start, end: bar < 0 ? clause.length : bar };
   }
 
   const NO_BINDING = ["a guard binds nothing: = and := stand in the body", "to test for a value write it in the head, as p(1,Y) :- .., or compare numbers by =:="];

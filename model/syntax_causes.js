@@ -108,18 +108,18 @@ const SyntaxCauses = ((Tokens, Habits) => {
   }
 
   function bars({ token, before, here, depth }) {
-    const bar = here.find(({ text }, place) => text === "|" && Tokens.depthOf(here.slice(0, place)) === 0);
+    const hasBar = Tokens.barOutside(here) >= 0;
     if (token.text === "|" && before?.text === ":-") return cause("the guard is empty", "write true |, or leave out the bar too");
     if (token.text === "|" && depth > 0 && here.some(({ text }) => text === "|")) return cause(
       "one tail stands behind the bar of a list", "[A,B|C], and not [A|B|C]");
     if (token.text === "|" && before?.kind === "variable") return cause(`${quoted(before)} is no test`, "to wait until it is bound write wait(X)");
-    if (token.text === "|" && bar !== undefined) return cause(
+    if (token.text === "|" && hasBar) return cause(
       "a second bar in one clause", "a clause is head :- guard | body. with one bar: all tests stand before it");
     return undefined;
   }
 
   function comparisonBehindBar({ token, here, later }) {
-    const hasBar = here.some(({ text }, place) => text === "|" && Tokens.depthOf(here.slice(0, place)) === 0);
+    const hasBar = Tokens.barOutside(here) >= 0;
     if (!COMPARISONS.has(token.text) || !hasBar || !later.some(({ text }) => text === "|")) return undefined;
     return cause("a comparison stands behind the first bar", "a clause has one bar: all tests stand before it, with commas, as true, X > 0 |");
   }

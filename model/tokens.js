@@ -2,8 +2,17 @@
 const Tokens = (() => {
   "use strict";
 
-  const FORM = /(?<blank>[ \t\r\n]+|%[^\n]*)|(?<name>[a-z]\w*)|(?<variable>[A-Z_]\w*)|(?<integer>\d+)|(?<mark>:-|:=|=:=|=\\=|=<|>=|[=<>+\-*/()[\],|.])|(?<wrong>[^])/suy;
-  const kindOf = (groups) => Object.keys(groups).find((kind) => groups[kind] !== undefined);
+  const FORM = /[ \t\r\n]+|%[^\n]*|[a-z]\w*|[A-Z_]\w*|\d+|:-|:=|=:=|=\\=|=<|>=|[^]/uy;
+
+  /** The kind of a word, by its first letter; a lone `:` or `\` is `wrong` as any other letter at which no token starts is. */
+  function kindOf(word) {
+    const [first] = word;
+    if (first >= "a" && first <= "z") return "name";
+    if ((first >= "A" && first <= "Z") || first === "_") return "variable";
+    if (first >= "0" && first <= "9") return "integer";
+    if (" \t\r\n%".includes(first)) return "blank";
+    return "=<>+-*/()[],|.".includes(first) || word === ":-" || word === ":=" ? "mark" : "wrong";
+  }
 
   /** How many bytes of UTF-8 a letter has, of a pair of surrogates all four for the first. */
   function bytesOf(code) {
@@ -48,7 +57,7 @@ const Tokens = (() => {
     const tokens = [], places = new Places(text);
     FORM.lastIndex = 0;
     for (let found = FORM.exec(text); found !== null; found = FORM.exec(text)) {
-      const kind = kindOf(found.groups), [word] = found, start = found.index;
+      const [word] = found, kind = kindOf(word), start = found.index;
       if (kind === "blank") continue;
       if (kind === "integer" && takesSign(tokens, start)) {
         const minus = tokens.pop();
@@ -78,6 +87,17 @@ const Tokens = (() => {
     return open;
   }
 
+  /** The place of the first bar, from a place on, that stands outside of all brackets opened there; -1 where there is none. */
+  function barOutside(tokens, start = 0) {
+    let depth = 0;
+    for (let place = start; place < tokens.length; place += 1) {
+      const { text } = tokens[place];
+      if (depth === 0 && text === "|") return place;
+      depth += OPENING.has(text) ? 1 : CLOSING.has(text) ? -1 : 0;
+    }
+    return -1;
+  }
+
   /** The tokens of each clause, its full stop included; what stands behind the last full stop is a clause of its own. */
   function clausesOf(tokens) {
     const clauses = [];
@@ -104,6 +124,6 @@ const Tokens = (() => {
     return commas + 1;
   }
 
-  return { tokensOf, clausesOf, arityAt, depthOf, openBrackets };
+  return { tokensOf, clausesOf, arityAt, depthOf, openBrackets, barOutside };
 })();
 if (typeof module !== "undefined") module.exports = Tokens;
