@@ -17,6 +17,11 @@ const PROMPT_STEPS = 1000; // a run of so many steps ends soon: it is not prepar
 const MOST_WATCHED = 1_000_000;
 const ASK_AGAIN = { quit: "quit again ends", restart: "restart again begins anew" };
 
+const RUN_ENDED = "the run was ended; the session stands as before it. leap 1000 runs for 1000 steps at most";
+
+// What is thrown where ^C came before a run was begun.
+class Interrupted extends Error {}
+
 const isLongRun = (meaning) => meaning.name === "skip" || (meaning.name === "leap" && !(Number(meaning.words[0]) <= PROMPT_STEPS));
 
 class Front {
@@ -86,6 +91,7 @@ class Front {
       else await this.passOn(meaning, typed);
     } catch (error) {
       if (error instanceof Ended) await this.afterEnd(error);
+      else if (error instanceof Interrupted) this.note(RUN_ENDED);
       else this.note(`the terminal can tell no more of it (${error.message}); the session stands`);
     }
   }
@@ -118,6 +124,7 @@ class Front {
   async run(meaning) {
     if (!isLongRun(meaning)) return this.session.ask(meaning.line);
     await this.session.prepareForEnding();
+    if (this.isInterrupted) throw new Interrupted();
     this.isRunning = true;
     try {
       return await this.session.ask(meaning.line);
@@ -148,7 +155,7 @@ class Front {
     const ending = this.ending;
     this.ending = undefined;
     await ending;
-    return this.note("the run was ended; the session stands as before it. leap 1000 runs for 1000 steps at most");
+    return this.note(RUN_ENDED);
   }
 
   // ---- commands that the terminal answers itself, or completes. A reply of `false` leaves the line to the console.
