@@ -3,7 +3,7 @@
 -- comment has a line `% Query: ..`.
 local here = vim.fn.fnamemodify(debug.getinfo(1, "S").source:sub(2), ":p:h")
 
-vim.filetype.add({ extension = { ghc = "fghc" } })
+vim.api.nvim_create_autocmd({ "BufRead", "BufNewFile" }, { pattern = "*.ghc", callback = function() vim.bo.filetype = "fghc" end })
 
 local found, dap = pcall(require, "dap")
 if found then

@@ -79,6 +79,16 @@ test("Vim knows the files and colours them", { skip: !isThere("vim") }, () => {
   assert.deepStrictEqual(fs.readFileSync(out, "utf8").trim().split("\n"), ["fghc", "% %s", "fghcComment", "fghcHead", "fghcVariable", "fghcCommit"]);
 });
 
+test("Neovim knows the files, and nvim-dap is told the adapter", { skip: !isThere("nvim") }, () => {
+  const out = path.join(room(), "told"), at = (name) => path.join(ROOT, name);
+  const stub = "lua package.preload.dap = function() return { adapters = {}, configurations = {}, step_back = print, reverse_continue = print } end";
+  const tell = `lua local dap = require("dap"); vim.fn.writefile({ vim.bo.filetype, dap.configurations.fghc[1].type, vim.fn.resolve(dap.adapters.ghcdb.args[1]) }, "${out}")`;
+  const words = ["-c", stub, "-c", `luafile ${at("editors/neovim/ghcdb.lua")}`, "-c", "filetype on", "-c", `edit ${at("examples/bill.ghc")}`, "-c", tell, "-c", "quitall!"];
+  execFileSync("nvim", ["--headless", "-u", "NONE", ...words], { stdio: "ignore" });
+  const [kind, type, adapter] = fs.readFileSync(out, "utf8").trim().split("\n");
+  assert.deepStrictEqual([kind, type, fs.realpathSync(adapter)], ["fghc", "ghcdb", fs.realpathSync(at("editors/ghcdb-adapter"))]);
+});
+
 const hasEmacs = isThere("emacs") && spawnSync("emacs", ["-q", "--batch", "--eval", "(progn (package-initialize) (kill-emacs (if (locate-library \"dap-mode\") 0 1)))"]).status === 0;
 
 test("Emacs steps forwards and back through bill.ghc as it was recorded", { skip: !hasEmacs, timeout: 60000 }, () => {
