@@ -47,38 +47,31 @@ class Front {
       await this.session.begin();
     } catch (error) {
       if (!(error instanceof Ended)) throw error;
-      this.refuse(error);
+      this.end(error);
       return;
     }
-    const { file } = this.session.given;
-    const notes = Causes.notesOn(this.session.text, file);
-    for (const cause of notes.slice(0, MOST_NOTES)) this.note(...Causes.linesOf(cause, this.session.text));
+    this.greet();
+  }
+
+  greet() {
+    const { text, given } = this.session, notes = Causes.notesOn(text, given.file);
+    for (const cause of notes.slice(0, MOST_NOTES)) this.note(...Causes.linesOf(cause, text));
     if (notes.length > MOST_NOTES) this.note(`.. ${plural(notes.length - MOST_NOTES, "note")} more ..`);
     this.note("Flat GHC. help lists the commands; step alone takes a step, leap runs, back goes back.");
   }
 
-  /** Tells why the program has ended. */
-  refuse({ errors, status }) {
+  /** Tells why the program has ended, and ends with it. */
+  end(ended) {
     this.hasEnded = true;
-    this.status = status;
-    for (const line of errors.trimEnd().split("\n")) {
-      this.errors(line);
-      this.whyRefused(line).forEach((told) => this.errors(MARK + told));
-    }
+    this.status = ended.status;
+    this.tellRefusal(ended, this.session, this.errors);
   }
 
-  whyRefused(line) {
-    const { text, given } = this.session;
-    const [, who, refusal] = /^(program|query|history|schedule): (F\d+ .*)$/.exec(line) ?? [];
-    if (who === undefined) return [];
-    const file = who === "history" ? given.load : given.file;
-    if (refusal.startsWith("F26")) return whyNotRead(file);
-    if (who === "history") return whyNotLoaded(file, refusal);
-    const isQuery = who === "query", source = isQuery ? given.query : text;
-    const cause = Causes.causeOf(refusal, { text: source, which: isQuery ? "query" : file, isQuery, program: text });
-    const limit = /^F6 limit: (\w+)$/.exec(refusal);
-    if (limit !== null) return [Causes.LIMITS[limit[1]]];
-    return cause === undefined ? [] : Causes.linesOf(cause, source);
+  tellRefusal({ errors }, session, tell) {
+    for (const line of errors.trimEnd().split("\n")) {
+      tell(line);
+      whyRefused(line, session).forEach((told) => tell(MARK + told));
+    }
   }
 
   /** Does what a typed line asks for. One line at a time. */
@@ -151,7 +144,7 @@ class Front {
 
   /** The program has ended beneath a line: by ^C, or by itself. */
   async afterEnd(error) {
-    if (this.ending === undefined) return this.refuse(error);
+    if (this.ending === undefined) return this.end(error);
     const ending = this.ending;
     this.ending = undefined;
     await ending;
@@ -278,10 +271,21 @@ class Front {
     return true;
   }
 
+  /** A new session; where the file is refused now, the old one stands. */
   async on_restart() {
     if (this.warnsOfLoss("restart")) return;
+    const { words, native } = this.session, next = new Session(words, native);
+    try {
+      await next.begin();
+    } catch (error) {
+      if (!(error instanceof Ended)) throw error;
+      this.tellRefusal(error, next, this.out);
+      this.note("the session before stands");
+      return;
+    }
     await this.session.end();
-    await this.begin();
+    this.session = next;
+    this.greet();
   }
 
   async on_quit() {
@@ -289,6 +293,20 @@ class Front {
     this.status = await this.session.end();
     this.hasEnded = true;
   }
+}
+
+/** What helps with a refusal of a text or a file. */
+function whyRefused(line, { text, given }) {
+  const [, who, refusal] = /^(program|query|history|schedule): (F\d+ .*)$/.exec(line) ?? [];
+  if (who === undefined) return [];
+  const file = who === "history" ? given.load : given.file;
+  if (refusal.startsWith("F26")) return whyNotRead(file);
+  if (who === "history") return whyNotLoaded(file, refusal);
+  const isQuery = who === "query", source = isQuery ? given.query : text;
+  const limit = /^F6 limit: (\w+)$/.exec(refusal);
+  if (limit !== null) return [Causes.LIMITS[limit[1]]];
+  const cause = Causes.causeOf(refusal, { text: source, which: isQuery ? "query" : file, isQuery, program: text });
+  return cause === undefined ? [] : Causes.linesOf(cause, source);
 }
 
 /** Does a reply to `show` tell a variable that nothing has bound? */

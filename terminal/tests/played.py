@@ -217,6 +217,12 @@ def test_restart(home):
         wants(is_met("Flat GHC.", terminal.type("restart")), "no new beginning")
         terminal.type("leap")
         wants(is_met("T = 126", terminal.type("T")), "the old program")
+        program.write_text("price(N,P) :- N > 0 P := N.\n")
+        terminal.type("restart")
+        wants(is_met("% the session before stands", terminal.type("restart")), "it is not told that the new text is refused")
+        wants(is_met("T = 126", terminal.type("T")), "the session is gone")
+        history = str(Path(folder, "kept"))
+        wants(is_met("saved in", terminal.type(f"save 1 {history}")) and Path(history).read_text().startswith("ghc-history 1\n"), "no history 1")
         terminal.end()
 
 
