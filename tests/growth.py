@@ -1,0 +1,121 @@
+#!/usr/bin/env python3
+"""Looks that what a line costs grows no faster than what it looks at: tests/growth.py
+
+Each session below is played at a size and at four times that size. The processor time may grow to SLOWER times four, which leaves room
+for a logarithm and for caches; what grows with the square grows to sixteen times. Of each, the least of three runs counts. The last line
+is `N passed, M failed`, and the status is 1 where one failed.
+"""
+import os
+import subprocess
+import sys
+import tempfile
+from pathlib import Path
+from typing import Callable, NamedTuple
+
+sys.dont_write_bytecode = True
+from searched_numbers import PROGRAM as LOOP, QUERY, hash_of_kit, hash_of_numbers, searched_history
+
+ROOT = Path(__file__).resolve().parent.parent
+PROGRAM = os.path.abspath(os.environ.get("GHCDB") or ROOT / "crates" / "ghcdb" / "out" / "ghcdb")
+SLOWER = 2.0
+RUNS = 3
+SECONDS = 60
+
+# al(N,X) makes a chain of N variables behind X, each bound by a step of its own, and r(X) reads all of them.
+CHAIN = """al(0,X) :- true | X = a.
+al(N,X) :- N > 0 | M := N - 1, X = Y, al(M,Y).
+r(a) :- true | true.
+"""
+# Goals that wait for one variable, and a loop beside them.
+WAITING = """waits(0,_) :- true | true.
+waits(N,X) :- N > 0 | M := N - 1, w(X), waits(M,X).
+w(a) :- true | true.
+loop :- true | loop.
+"""
+
+
+class Session(NamedTuple):
+    """A session of some size, and the last line that it has to print, or None where that does not matter."""
+
+    program: str
+    query: str
+    lines: list
+    history: str = ""
+    last: str | None = None
+
+
+def causes(size):
+    """`why` of a step that read what so many steps bound: three a variable and two at the end make the chain, and one asks for the reader."""
+    reader = 3 * size + 4
+    return Session(CHAIN, f"al({size},X)", ["leap", "ask r(X)", f"step {reader - 1}.1", f"why {reader}"], last=f"{reader - 1} made")
+
+
+def searched(hashed):
+    return lambda size: Session(LOOP, QUERY, ["show X"], searched_history(size, hashed), "F23 no variable")
+
+
+def beside_many(size):
+    """Runs of one step beside so many goals that wait."""
+    return Session(WAITING, f"waits({size},X), loop", [f"leap {4 * size}"] + ["leap 1"] * size)
+
+
+class Growth(NamedTuple):
+    what: str
+    session: Callable[[int], Session]
+    size: int
+
+
+GROWTHS = [
+    Growth("why of a step with many causes", causes, 5_000),
+    Growth("a history whose numbers were searched for the hash of numbers", searched(hash_of_numbers), 40_000),
+    Growth("a history whose numbers were searched for the hash of the kit", searched(hash_of_kit), 40_000),
+    Growth("runs of one step beside many goals that wait", beside_many, 4_000),
+]
+
+
+def played(session, folder):
+    """The least processor time that the session takes, in seconds, and the last line that it prints."""
+    (folder / "program.ghc").write_text(session.program)
+    words = [PROGRAM, "program.ghc", "--query", session.query]
+    if session.history:
+        (folder / "run.history").write_text(session.history)
+        words += ["--load", "run.history"]
+    times = []
+    for _ in range(RUNS):
+        before = os.times()
+        text = "".join(f"{line}\n" for line in session.lines)
+        run = subprocess.run(words, input=text, capture_output=True, text=True, cwd=folder, timeout=SECONDS)
+        after = os.times()
+        times.append(after.children_user + after.children_system - before.children_user - before.children_system)
+    if run.returncode:
+        raise AssertionError(f"status {run.returncode}: {run.stderr.strip()}")
+    return min(times), run.stdout.rstrip("\n").rpartition("\n")[2]
+
+
+def wrong_with(growth, folder):
+    """What is wrong with the growth, if anything."""
+    try:
+        small, _ = played(growth.session(growth.size), folder)
+        session = growth.session(4 * growth.size)
+        large, last = played(session, folder)
+    except subprocess.TimeoutExpired:
+        return f"it ran for more than {SECONDS} seconds"
+    print(f"growth: {growth.what}: {small:.2f} s at {growth.size:,}, {large:.2f} s at {4 * growth.size:,}")
+    if session.last is not None and last != session.last:
+        return f"it ended with {last!r}"
+    return f"{large / small:.1f} times as long" if large > 4 * SLOWER * max(small, 0.01) else None
+
+
+def main():
+    wrong = []
+    for growth in GROWTHS:
+        with tempfile.TemporaryDirectory(prefix="ghcdb-growth-") as folder:
+            found = wrong_with(growth, Path(folder))
+        wrong += [f"{growth.what}: {found}"] if found else []
+    print("".join(f"failed: {it}\n" for it in wrong), end="")
+    print(f"{len(GROWTHS) - len(wrong)} passed, {len(wrong)} failed")
+    return 1 if wrong else 0
+
+
+if __name__ == "__main__":
+    sys.exit(main())
