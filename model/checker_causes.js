@@ -24,7 +24,9 @@ const CheckerCauses = ((Tokens, Habits, Nearest) => {
     if (text === "=" || text === ":=") return causeAt(token, ...NO_BINDING);
     if (token.kind !== "name" || text === "mod") return undefined;
     if (Object.hasOwn(Habits.TESTS, text)) return causeAt(token, ...Habits.TESTS[text]);
-    if (!TESTS.includes(text)) return causeAt(token, `${text}/${arity} is no test`, ALL_TESTS, ASK_INSTEAD);
+    const near = TESTS.includes(text) ? text : Nearest.nearest(text, TESTS);
+    if (near === undefined) return causeAt(token, `${text}/${arity} is no test`, ALL_TESTS, ASK_INSTEAD);
+    if (near !== text) return causeAt(token, `${text}/${arity} is no test`, `is it ${near}?`, ALL_TESTS);
     if (text === "true") return arity === 0 ? undefined : causeAt(token, "true takes no argument", "as true");
     const isRight = arity === 1 && clause[place + 2].kind === "variable";
     return isRight ? undefined : causeAt(token, `${text} takes one variable of the head`, `as ${text}(X)`);

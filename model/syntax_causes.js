@@ -4,7 +4,7 @@ const SyntaxCauses = ((Tokens, Habits) => {
   "use strict";
 
   const COMPARISONS = new Set(["<", ">", "=<", ">=", "=:=", "=\\="]);
-  const CLAUSE = "a clause is: head :- guard | body.";
+  const CLAUSE = "a clause is: head :- guard | body.", GOALS = "a query is goals with commas between them, as append([1],[2],R)";
   const ARGUMENT = ["an argument is a term, and is not computed", "compute it first: N1 := N - 1, fact(N1,F)"];
   const BEHIND_NUMBER = "numbers are integers, written in digits alone";
 
@@ -81,10 +81,11 @@ const SyntaxCauses = ((Tokens, Habits) => {
     return undefined;
   }
 
+  const isFraction = (left, point, right) => left?.kind === "integer" && point?.text === "." && right?.kind === "integer" && touches(left, point) && touches(point, right);
+
   function numbers({ token, before, next, tokens, place }) {
     const first = tokens[place - 2];
-    if (token.kind === "integer" && before?.text === "." && touches(before, token) && first?.kind === "integer") return cause(
-      "there are no fractions", "numbers are integers of 64 bits");
+    if (isFraction(first, before, token) || isFraction(before, token, next)) return cause("there are no fractions", "numbers are integers of 64 bits");
     if (before?.kind === "integer" && touches(before, token) && (token.kind === "name" || token.kind === "variable")) return cause(
       `${quoted(token)} cannot follow ${quoted(before)}`, BEHIND_NUMBER);
     if (token.text === "-" && next.kind === "integer" && !touches(token, next) && !endsTerm(before)) return cause(
@@ -139,13 +140,55 @@ const SyntaxCauses = ((Tokens, Habits) => {
     const open = Tokens.openBrackets(here).at(-1), missing = open?.text === "(" ? ")" : "]";
     const where = open && `${quoted(open)} of line ${open.line}, column ${open.column}`;
     const isClosing = token.text === ")" || token.text === "]";
-    if ((token.text === "." || token.text === ":-") && depth > 0) return cause(`${where} is not closed`, `missing: ${missing}`);
+    const ends = token.text === "." || token.text === ":-" || (token.text === "|" && open?.text === "(");
+    if (ends && depth > 0) return cause(`${where} is not closed`, `missing: ${missing}`);
     if (isClosing && open === undefined) return cause(
       `${quoted(token)} closes nothing`, "there is one bracket too many, or one before it is missing");
     if (isClosing && missing !== token.text) return cause(`${quoted(token)} does not close ${where}`, `missing: ${missing}`);
     if (isClosing && before?.text === "(") return cause(
       "no arguments stand between the brackets", "an atom, or a goal without arguments, has no brackets");
     if (token.text === "(" && before?.text === "(") return cause("brackets group expressions alone", "write the term without them");
+    return undefined;
+  }
+
+  /** What belongs to clauses stands in a query. */
+  function clauseInQuery({ token, isQuery, depth }) {
+    if (!isQuery || depth > 0 || (token.text !== ":-" && token.text !== "|")) return undefined;
+    return cause(token.text === ":-" ? "a clause stands in the place of a query" : "a query has no guard", GOALS);
+  }
+
+  /** The place of the name of the call that ends before a place. */
+  function callBefore(tokens, place) {
+    if (tokens[place - 1]?.text !== ")") return place - 1;
+    let at = place - 1;
+    for (let depth = 0; at > 0; at -= 1) {
+      depth += Tokens.depthOf([tokens[at]]);
+      if (depth === 0) break;
+    }
+    return at - 1;
+  }
+
+  /** A second `:-` where a clause has not ended: most often a comma in the place of a full stop. */
+  function secondNeck({ token, here, tokens, place }) {
+    if (token.text !== ":-" || !here.some(({ text }) => text === ":-")) return undefined;
+    const at = callBefore(tokens, place), head = tokens[at], mark = tokens[at - 1];
+    const cure = mark?.text === "," ? `is a full stop meant in place of the comma before ${quoted(head)} in line ${head.line}?` : "a clause ends with a full stop: is one missing?";
+    return cause("a second :- in one clause", cure);
+  }
+
+  /** A head is one call, and then comes `:-` or the full stop. */
+  function behindHead({ token, here, isQuery, depth, before }) {
+    if (isQuery || depth > 0 || here.some(({ text }) => text === ":-") || !endsTerm(before)) return undefined;
+    if (![",", "|", "=", ":=", ...COMPARISONS].includes(token.text)) return undefined;
+    return cause(`${quoted(token)} cannot follow the head of a clause`, "is :- missing? " + CLAUSE);
+  }
+
+  /** What stands within brackets is terms with commas between them. */
+  function withinBrackets({ token, before, depth }) {
+    if (depth === 0) return undefined;
+    if (["=", ":="].includes(token.text) || COMPARISONS.has(token.text)) return cause("an argument is a term, and no goal or test", "write the goal before or behind this one, with a comma between them");
+    if (["(", "["].includes(before?.text) && [",", "|"].includes(token.text)) return cause(`a term is expected behind ${quoted(before)}`, "write it, or drop the mark");
+    if (before?.text === "(" && token.kind === "name") return cause("brackets group expressions alone", "write goals and terms without them");
     return undefined;
   }
 
@@ -158,7 +201,8 @@ const SyntaxCauses = ((Tokens, Habits) => {
   function neighbours({ token, before, isQuery }) {
     if (token.kind === "variable" && before?.kind === "name" && before.line === token.line) return cause(
       `${quoted(token)} cannot follow ${quoted(before)}`, `arguments stand in brackets: ${before.text}(${token.text})`);
-    if (!endsTerm(before) || !["name", "variable", "integer"].includes(token.kind)) return undefined;
+    if (token.text === "(" && before?.kind === "variable") return cause(`${before.text} is a variable, and names nothing that has arguments`, `names begin with a small letter: ${before.text[0].toLowerCase()}${before.text.slice(1)}(..)`);
+    if (!endsTerm(before) || !(["name", "variable", "integer"].includes(token.kind) || ["(", "["].includes(token.text))) return undefined;
     const isNewLine = before.line < token.line && !isQuery;
     return cause(
       `${quoted(token)} cannot follow ${quoted(before)}`, isNewLine ? `is there a full stop missing behind ${quoted(before)} in line ${before.line}?` : "a comma or an operator is missing");
@@ -171,22 +215,22 @@ const SyntaxCauses = ((Tokens, Habits) => {
     return cause(`the variable ${before.text} is no goal`, "goals are calls, as p(X), and X = Y, X := E; there is no call of a term");
   }
 
-  function behindMark({ token, before }) {
+  function behindMark({ token, before, isQuery }) {
     if (before?.text === ",") return cause(
       `a goal or a term is expected behind the comma, and ${quoted(token)} is none`, "drop the comma, or write what is missing");
     if (["=", ":="].includes(before?.text)) return cause(
       `${quoted(token)} cannot stand behind ${quoted(before)}`, before.text === "=" ? "a term stands there, as [A|X]" : "an expression stands there, as X + 1");
-    if ([":-", "|"].includes(before?.text)) return cause(`no goal begins with ${quoted(token)}`, CLAUSE);
+    if ([":-", "|"].includes(before?.text)) return cause(`no goal begins with ${quoted(token)}`, isQuery ? GOALS : CLAUSE);
     return undefined;
   }
 
-  function anything({ token, before }) {
-    return cause(`${quoted(token)} cannot stand here${before === undefined ? "" : `, behind ${quoted(before)}`}`, CLAUSE);
+  function anything({ token, before, isQuery }) {
+    return cause(`${quoted(token)} cannot stand here${before === undefined ? "" : `, behind ${quoted(before)}`}`, isQuery ? GOALS : CLAUSE);
   }
 
   const RULES = [
-    badToken, foreignMark, foreignPair, comparisonBehindBar, comparison, variableAsGoal, endOfText, numbers, streams, beginning, foreignWord,
-    bars, arithmetic, brackets, neighbours, behindMark, anything,
+    badToken, foreignMark, foreignPair, numbers, comparisonBehindBar, comparison, variableAsGoal, endOfText, streams, beginning, foreignWord,
+    clauseInQuery, secondNeck, bars, arithmetic, brackets, behindHead, withinBrackets, neighbours, behindMark, anything,
   ];
 
   /** The cause of a refusal at a place of a text: its title, its hints, and the token at which it stands. */
