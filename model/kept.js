@@ -6,7 +6,7 @@ const Kept = (() => {
   const RECORDED = /^(\d+) (\d+\.\d+|-) (.+) reads \S+ binds \S+ makes \S+$/;
   const UNDONE = /^undone ([\d,]+)$/;
   const CALL = /^CALL (\d+\.\d+) (.*)$/;
-  const CHANGING = new Set(["step", "leap", "skip", "in", "end", "ask", "undo", "roll", "redo", "arrange", "keep"]);
+  const READING = new Set(["goals", "show", "records", "shelf", "save", "why", "who", "spy", "nospy", "explain", "goal", "clauses", "since"]); // all others may change it
 
   function stepOf([, number, goal, act]) {
     const clause = /^by (\d+)$/.exec(act);
@@ -47,7 +47,7 @@ const Kept = (() => {
 
     /** Learns what the reply to a line tells. */
     learn(line, reply) {
-      if (!CHANGING.has(firstWord(line)) || /^F\d+ /.test(reply[0] ?? "")) return;
+      if (READING.has(firstWord(line)) || /^F\d+ /.test(reply[0] ?? "")) return;
       this.changes += 1;
       if (reply[0] === "arranged") this.arrange(line.trim().split(/ +/).slice(1).map(Number));
       for (const told of reply) this.learnLine(told);

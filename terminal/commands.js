@@ -47,7 +47,7 @@ const OTHER_NAMES = new Map(Object.entries({
   backtrace: "goals", info: "goals", threads: "goals", b: "spy", break: "spy", breakpoint: "spy", tbreak: "spy", delete: "nospy", clear: "nospy",
   u: "undo", "reverse-step": "back", prev: "back", previous: "back", retry: "back", q: "quit", exit: "quit", bye: "quit", halt: "quit", h: "help",
   "?": "help", man: "help", commands: "help", deadlock: "stuck", history: "records", trace: "records", log: "records", reload: "restart", reset: "restart",
-  load: "restart", write: "save", call: "ask", query: "ask", rollback: "roll", rewind: "roll",
+  write: "save", call: "ask", query: "ask", rollback: "roll", rewind: "roll",
 }));
 
 const VARIABLE = /^[A-Z_]\w*$/;
@@ -87,8 +87,16 @@ const widest = Math.max(...COMMANDS.map(({ form }) => form.length));
 const helpLine = ({ form, tells }) => `${form.padEnd(widest)}  ${tells}`;
 const usageOf = (name) => `usage: ${helpLine(byName.get(name))}`;
 
+// Words for what is done otherwise here.
+const ELSEWHERE = {
+  load: "a history is loaded at the start: ./ghcdb FILE --query GOALS --load HISTORY", open: "a program is named at the start: ./ghcdb FILE --query GOALS",
+  edit: "edit the file elsewhere, then restart", set: "ask X = TERM binds a variable that is unbound", jump: "roll N goes back to before step N",
+  until: "watch X runs until X is bound", cut: "there is no cut: step G C takes goal G by clause C", fail: "there is no fail: roll N takes a step back",
+};
+
 /** Which word was meant, in words. */
 function suggestion(word) {
+  if (Object.hasOwn(ELSEWHERE, word)) return `${word}: no such command; ${ELSEWHERE[word]}`;
   const other = nearest(word, [...NAMES, ...OTHER_NAMES.keys()].filter((known) => known.length > 2));
   const name = other && (OTHER_NAMES.get(other) ?? other);
   return `${word}: no such command${name === undefined ? "" : `; ${name}?`}  (help lists them)`;

@@ -54,17 +54,17 @@ module.exports = {
    * the step that made it, and where others stand on that, the last step of all.
    */
   async on_stepBack({ threadId }) {
-    const steps = [...this.session.kept.steps.values()], mine = steps.filter(({ goal }) => goal !== null && this.processes.of(goal) === threadId);
+    const steps = [...this.session.kept.steps.values()], mine = steps.findLast(({ goal }) => goal !== null && this.processes.of(goal) === threadId);
     if (steps.length === 0) throw refused("nothing was done yet");
-    const goal = await this.goalOf(threadId), first = mine.at(-1) ?? (goal && this.session.run.makerOf(goal.name)) ?? steps.at(-1);
+    const goal = await this.goalOf(threadId), first = mine ?? (goal && this.session.run.makerOf(goal.name)) ?? steps.at(-1);
     let last = first, reply = await this.session.ask(`undo ${first.number}`);
-    if (reply[0].startsWith("F17") && mine.length > 0) reply = await this.session.ask(`roll ${first.number}`);
+    if (reply[0].startsWith("F17") && mine !== undefined) reply = await this.session.ask(`roll ${first.number}`);
     else if (reply[0].startsWith("F17")) {
       last = steps.at(-1);
       reply = [`this process has done nothing: the last step of all is taken back, step ${last.number}`, ...await this.session.ask(`undo ${last.number}`)];
     }
     this.tell(reply);
-    const thread = mine.length > 0 || last.goal === null ? threadId : this.processes.of(last.goal);
+    const thread = mine !== undefined || last.goal === null ? threadId : this.processes.of(last.goal);
     this.later(() => this.stopped("step", reply.find((line) => line.startsWith("undone")), { thread }));
   },
 

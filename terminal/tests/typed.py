@@ -53,7 +53,10 @@ WITHOUT_THE_MANUAL = [
     ("trace", "=% sent: records"),
     ("records append", "append([1],[2],_0_1) by 2"),
     ("stat", "% 4 steps, longest chain of causes"),
+    ("load x", "=F25 command", "% load: no such command; a history is loaded at the start"),
+    ("restart now", "% 4 steps kept and not saved"),
     ("exit", "% 4 steps kept and not saved"),
+    ("q",),
 ]
 
 # Refusals, with what would help.
