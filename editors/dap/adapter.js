@@ -113,7 +113,23 @@ class Adapter {
     const changed = [...[...now].filter((id) => !this.live.has(id)).map((id) => ["started", id]), ...[...this.live].filter((id) => !now.has(id)).map((id) => ["exited", id])];
     for (const [reason, threadId] of changed.slice(0, MOST_THREAD_EVENTS)) this.event("thread", { reason, threadId });
     this.live = now;
+    this.noteTexts(goals);
     return goals;
+  }
+
+  /** Keeps the texts of the goals of this stop and of the one before: what was stepped between them was shown so. */
+  noteTexts(goals) {
+    if (this.notedAt === this.session.kept.changes) return;
+    this.notedAt = this.session.kept.changes;
+    this.textsBefore = this.textsNow;
+    this.textsNow = new Map(goals.map(({ name, text }) => [name, text]));
+  }
+
+  /** The text of a goal that a step consumed, for its frame; once it was shown it stays. Undefined where `records` has to be read for it. */
+  frameText(goal) {
+    const text = this.frameTexts.get(goal) ?? this.textsBefore?.get(goal) ?? this.session.run.textOf(goal);
+    if (text !== "") this.frameTexts.set(goal, text);
+    return text === "" ? undefined : text;
   }
 
   /** The goals as they stand; none where one of them is too long to be told. */

@@ -66,6 +66,8 @@ module.exports = {
     this.processes = new Processes(this.session);
     this.inside = new Inside(this.session);
     this.live = new Set();
+    this.frameTexts = new Map();
+    this.textsNow = this.textsBefore = this.notedAt = undefined;
     this.breakpoints.spied = new Set();
     const notes = Causes.notesOn(program, path.basename(file)).slice(0, MOST_NOTES);
     this.later(() => this.tell(notes.flatMap((cause) => Causes.linesOf(cause, program)), "important"));

@@ -32,7 +32,7 @@ module.exports = {
     const steps = [];
     for (let step = run.makerOf(goal.name); step !== undefined; step = step.goal === null ? undefined : run.makerOf(step.goal)) steps.push(step);
     const shown = [goal, ...steps].slice(startFrame, startFrame + (levels || MOST_FRAMES));
-    if (shown.some(({ name, goal: consumed }) => name === undefined && consumed !== null && run.textOf(consumed) === "")) await this.session.look();
+    if (shown.some((one) => one !== goal && one.goal !== null && this.frameText(one.goal) === undefined)) await this.session.look();
     return { stackFrames: shown.map((one) => (one === goal ? this.frameOfGoal(goal) : this.frameOfStep(one))), totalFrames: steps.length + 1 };
   },
 
@@ -41,8 +41,8 @@ module.exports = {
   },
 
   frameOfStep({ number, goal, act }) {
-    const { run } = this.session, text = goal === null ? "" : `${run.textOf(goal) || goal} `;
-    const place = goal === null ? undefined : run.placeOf(goal);
+    const text = goal === null ? "" : `${this.frameText(goal) ?? goal} `;
+    const place = goal === null ? undefined : this.session.run.placeOf(goal);
     return { id: this.inside.reference("step", number), name: `step ${number}: ${text.slice(0, LONGEST_NAME)}${act}`, canRestart: true, ...this.places.spotOf(place) };
   },
 
