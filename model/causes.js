@@ -1,4 +1,4 @@
-// Texts that say why: behind a refusal of a program, a query or a line the place, the cause in a reader's words, and what to write
+// Texts that say why: after a refusal of a program, a query or a line the place, the cause in a reader's words, and what to write
 // instead; and notes on texts that are accepted but seldom meant. Nothing is refused or accepted here. Pure.
 //
 // A cause is `{ which, line, column, length, title, hints }`: `which` is the text's name, the column counts bytes from 1.
@@ -61,8 +61,8 @@ const Causes = ((Tokens, Reader, SyntaxCauses, CheckerCauses, Nearest) => {
     const notes = [];
     clause.forEach((token, place) => {
       if (token.text !== ":=") return;
-      const left = clause[place - 1], behind = clause.slice(place + 1), end = behind.findIndex(({ text }) => text === "," || text === ".");
-      if (!behind.slice(0, end).some(({ kind, text }) => kind === "variable" && text === left.text)) return;
+      const left = clause[place - 1], right = clause.slice(place + 1), end = right.findIndex(({ text }) => text === "," || text === ".");
+      if (!right.slice(0, end).some(({ kind, text }) => kind === "variable" && text === left.text)) return;
       const cure = `a variable gets one value; name a new one: ${left.text}1 := ${left.text} + ..`;
       notes.push(caused(which, { token: left, title: `note: ${left.text} stands on both sides of := in clause ${number}`, hints: [cure] }));
     });

@@ -23,7 +23,7 @@ const Print = ((Reader) => {
     return [`${term.name}(`, ...terms, ")"];
   }
 
-  /** The pieces that stand for what comes behind a list's element. */
+  /** The pieces that stand for what comes after a list's element. */
   function restOf(term) {
     if (term.name === ".") return [",", { element: term.arguments[0] }, { rest: term.arguments[1] }];
     return term.name === "[]" ? ["]"] : ["|", { element: term }, "]"];

@@ -20,10 +20,10 @@ const SyntaxCauses = ((Tokens, Habits) => {
     const found = tokens.findIndex((token) => token.line === at.line && token.column === at.column);
     const place = found < 0 ? tokens.length - 1 : found, token = tokens[place];
     const stop = tokens.slice(0, place).findLastIndex((other) => other.text === ".");
-    const behind = tokens.slice(place), end = behind.findIndex((other) => other.text === ".");
+    const following = tokens.slice(place), end = following.findIndex((other) => other.text === ".");
     return {
       text, isQuery, tokens, place, token, before: tokens[place - 1], next: tokens[place + 1] ?? token, here: tokens.slice(stop + 1, place),
-      later: end < 0 ? behind : behind.slice(0, end), rest: text.slice(token.at), depth: Tokens.depthOf(tokens.slice(stop + 1, place)),
+      later: end < 0 ? following : following.slice(0, end), rest: text.slice(token.at), depth: Tokens.depthOf(tokens.slice(stop + 1, place)),
     };
   }
 
@@ -55,8 +55,8 @@ const SyntaxCauses = ((Tokens, Habits) => {
     if (isQuery) return cause(
       here.length > 0 ? "the query ends too early" : "the query is empty", "write goals, as append([1],[2],R); for none: true");
     const open = Tokens.openBrackets(here).at(-1);
-    const hint = open === undefined ? `write a full stop behind ${quoted(before)}` : `${quoted(open)} of line ${open.line}, column ${open.column} is not closed`;
-    return { ...cause("the text ends within a clause", hint), behind: before };
+    const hint = open === undefined ? `write a full stop after ${quoted(before)}` : `${quoted(open)} of line ${open.line}, column ${open.column} is not closed`;
+    return { ...cause("the text ends within a clause", hint), after: before };
   }
 
   function beginning({ token, here, next, isQuery, before }) {
@@ -112,17 +112,17 @@ const SyntaxCauses = ((Tokens, Habits) => {
     const hasBar = Tokens.barOutside(here) >= 0;
     if (token.text === "|" && before?.text === ":-") return cause("the guard is empty", "write true |, or leave out the bar too");
     if (token.text === "|" && depth > 0 && here.some(({ text }) => text === "|")) return cause(
-      "one tail stands behind the bar of a list", "[A,B|C], and not [A|B|C]");
+      "one tail stands after the bar of a list", "[A,B|C], and not [A|B|C]");
     if (token.text === "|" && before?.kind === "variable") return cause(`${quoted(before)} is no test`, "to wait until it is bound write wait(X)");
     if (token.text === "|" && hasBar) return cause(
       "a second bar in one clause", "a clause is head :- guard | body. with one bar: all tests stand before it");
     return undefined;
   }
 
-  function comparisonBehindBar({ token, here, later }) {
+  function comparisonAfterBar({ token, here, later }) {
     const hasBar = Tokens.barOutside(here) >= 0;
     if (!COMPARISONS.has(token.text) || !hasBar || !later.some(({ text }) => text === "|")) return undefined;
-    return cause("a comparison stands behind the first bar", "a clause has one bar: all tests stand before it, with commas, as true, X > 0 |");
+    return cause("a comparison stands after the first bar", "a clause has one bar: all tests stand before it, with commas, as true, X > 0 |");
   }
 
   function comparison({ token, before, here, isQuery, tokens, place }) {
@@ -177,7 +177,7 @@ const SyntaxCauses = ((Tokens, Habits) => {
   }
 
   /** A head is one call, and then comes `:-` or the full stop. */
-  function behindHead({ token, here, isQuery, depth, before }) {
+  function afterHead({ token, here, isQuery, depth, before }) {
     if (isQuery || depth > 0 || here.some(({ text }) => text === ":-") || !endsTerm(before)) return undefined;
     if (![",", "|", "=", ":=", ...COMPARISONS].includes(token.text)) return undefined;
     return cause(`${quoted(token)} cannot follow the head of a clause`, "is :- missing? " + CLAUSE);
@@ -186,8 +186,8 @@ const SyntaxCauses = ((Tokens, Habits) => {
   /** What stands within brackets is terms with commas between them. */
   function withinBrackets({ token, before, depth }) {
     if (depth === 0) return undefined;
-    if (["=", ":="].includes(token.text) || COMPARISONS.has(token.text)) return cause("an argument is a term, and no goal or test", "write the goal before or behind this one, with a comma between them");
-    if (["(", "["].includes(before?.text) && [",", "|"].includes(token.text)) return cause(`a term is expected behind ${quoted(before)}`, "write it, or drop the mark");
+    if (["=", ":="].includes(token.text) || COMPARISONS.has(token.text)) return cause("an argument is a term, and no goal or test", "write the goal before or after this one, with a comma between them");
+    if (["(", "["].includes(before?.text) && [",", "|"].includes(token.text)) return cause(`a term is expected after ${quoted(before)}`, "write it, or drop the mark");
     if (before?.text === "(" && token.kind === "name") return cause("brackets group expressions alone", "write goals and terms without them");
     return undefined;
   }
@@ -205,7 +205,7 @@ const SyntaxCauses = ((Tokens, Habits) => {
     if (!endsTerm(before) || !(["name", "variable", "integer"].includes(token.kind) || ["(", "["].includes(token.text))) return undefined;
     const isNewLine = before.line < token.line && !isQuery;
     return cause(
-      `${quoted(token)} cannot follow ${quoted(before)}`, isNewLine ? `is there a full stop missing behind ${quoted(before)} in line ${before.line}?` : "a comma or an operator is missing");
+      `${quoted(token)} cannot follow ${quoted(before)}`, isNewLine ? `is there a full stop missing after ${quoted(before)} in line ${before.line}?` : "a comma or an operator is missing");
   }
 
   function variableAsGoal({ token, before, tokens, place, depth }) {
@@ -215,22 +215,22 @@ const SyntaxCauses = ((Tokens, Habits) => {
     return cause(`the variable ${before.text} is no goal`, "goals are calls, as p(X), and X = Y, X := E; there is no call of a term");
   }
 
-  function behindMark({ token, before, isQuery }) {
+  function afterMark({ token, before, isQuery }) {
     if (before?.text === ",") return cause(
-      `a goal or a term is expected behind the comma, and ${quoted(token)} is none`, "drop the comma, or write what is missing");
+      `a goal or a term is expected after the comma, and ${quoted(token)} is none`, "drop the comma, or write what is missing");
     if (["=", ":="].includes(before?.text)) return cause(
-      `${quoted(token)} cannot stand behind ${quoted(before)}`, before.text === "=" ? "a term stands there, as [A|X]" : "an expression stands there, as X + 1");
+      `${quoted(token)} cannot stand after ${quoted(before)}`, before.text === "=" ? "a term stands there, as [A|X]" : "an expression stands there, as X + 1");
     if ([":-", "|"].includes(before?.text)) return cause(`no goal begins with ${quoted(token)}`, isQuery ? GOALS : CLAUSE);
     return undefined;
   }
 
   function anything({ token, before, isQuery }) {
-    return cause(`${quoted(token)} cannot stand here${before === undefined ? "" : `, behind ${quoted(before)}`}`, isQuery ? GOALS : CLAUSE);
+    return cause(`${quoted(token)} cannot stand here${before === undefined ? "" : `, after ${quoted(before)}`}`, isQuery ? GOALS : CLAUSE);
   }
 
   const RULES = [
-    badToken, foreignMark, foreignPair, numbers, comparisonBehindBar, comparison, variableAsGoal, endOfText, streams, beginning, foreignWord,
-    clauseInQuery, secondNeck, bars, arithmetic, brackets, behindHead, withinBrackets, neighbours, behindMark, anything,
+    badToken, foreignMark, foreignPair, numbers, comparisonAfterBar, comparison, variableAsGoal, endOfText, streams, beginning, foreignWord,
+    clauseInQuery, secondNeck, bars, arithmetic, brackets, afterHead, withinBrackets, neighbours, afterMark, anything,
   ];
 
   /** The cause of a refusal at a place of a text: its title, its hints, and the token at which it stands. */
@@ -239,9 +239,9 @@ const SyntaxCauses = ((Tokens, Habits) => {
     for (const rule of RULES) {
       const found = rule(where);
       if (found === undefined) continue;
-      const { behind, ...told } = found;
-      if (behind === undefined) return { ...told, token: where.token };
-      return { ...told, token: { line: behind.line, column: behind.column + behind.text.length, text: " " } };
+      const { after, ...told } = found;
+      if (after === undefined) return { ...told, token: where.token };
+      return { ...told, token: { line: after.line, column: after.column + after.text.length, text: " " } };
     }
     return undefined;
   }

@@ -70,14 +70,14 @@ const Tokens = (() => {
 
   const OPENING = new Set(["(", "["]), CLOSING = new Set([")", "]"]);
 
-  /** How many brackets are open behind these tokens; a closing one takes one off. */
+  /** How many brackets are open after these tokens; a closing one takes one off. */
   function depthOf(tokens) {
     let depth = 0;
     for (const { text } of tokens) depth += OPENING.has(text) ? 1 : CLOSING.has(text) ? -1 : 0;
     return depth;
   }
 
-  /** The brackets that are open behind these tokens, the outermost first. */
+  /** The brackets that are open after these tokens, the outermost first. */
   function openBrackets(tokens) {
     const open = [];
     for (const token of tokens) {
@@ -98,7 +98,7 @@ const Tokens = (() => {
     return -1;
   }
 
-  /** The tokens of each clause, its full stop included; what stands behind the last full stop is a clause of its own. */
+  /** The tokens of each clause, its full stop included; what stands after the last full stop is a clause of its own. */
   function clausesOf(tokens) {
     const clauses = [];
     let clause = [];

@@ -51,7 +51,7 @@ const OTHER_NAMES = new Map(Object.entries({
 }));
 
 const VARIABLE = /^[A-Z_]\w*$/;
-const FREE = new Set(["ask", "in", "save"]); // behind these stands a text, which is left as it was typed
+const FREE = new Set(["ask", "in", "save"]); // after these stands a text, which is left as it was typed
 
 /** The command that a word means; undefined where it means none. A beginning is written in small letters. */
 function commandOf(word) {

@@ -1,4 +1,4 @@
-// What the Tab key offers: commands at a line's beginning, and behind them ready goals, kept steps, variables, predicates. Pure but for
+// What the Tab key offers: commands at a line's beginning, and after them ready goals, kept steps, variables, predicates. Pure but for
 // what it asks of the session.
 "use strict";
 

@@ -1,4 +1,4 @@
-// The thread in which the engine of web/ghcdb.html runs, for program.js: it is told lines, and tells their replies.
+// The thread in which the engine of web/ghcdb.html runs, for program.js: it takes lines, and gives their replies.
 "use strict";
 
 const fs = require("node:fs");

@@ -8,7 +8,7 @@ const { Ended } = require("./program.js");
 const { Session, isRefusal } = require("./session.js");
 const { asksConsole, helpLines, meaningOf, suggestion, usageOf } = require("./commands.js");
 const Own = require("./own.js");
-const { behind, plural } = require("./telling.js");
+const { notesAfter, plural } = require("./telling.js");
 
 const MARK = "% ";
 const MOST_NOTES = 6; // on a program that are shown
@@ -34,14 +34,14 @@ class Front {
     this.status = 0;
     this.isRunning = false; // a run is being made that may be long
     this.isInterrupted = false;
-    this.warned = undefined; // for which command and number of changes unsaved steps were told
+    this.warned = undefined; // for which command and number of changes it warned of unsaved steps
   }
 
   note(...lines) {
     lines.forEach((line) => this.out(MARK + line));
   }
 
-  /** Starts the program; where it is refused, says why. Afterwards either `hasEnded`, or the greeting was told. */
+  /** Starts the program; where it is refused, says why. Afterwards it has ended, or has greeted. */
   async begin() {
     try {
       await this.session.begin();
@@ -111,7 +111,7 @@ class Front {
       return this.note(usageOf(meaning.name));
     }
     this.show(reply);
-    return this.note(...await behind(this.session, meaning, reply));
+    return this.note(...await notesAfter(this.session, meaning, reply));
   }
 
   async run(meaning) {
@@ -230,7 +230,7 @@ class Front {
     if (reply[0] === "F25 command") return this.note(...await Own[meaning.name](this.session, meaning.words));
     if (typed.trim() !== meaning.line) this.note(`sent: ${meaning.line}`);
     this.show(reply);
-    return this.note(...await behind(this.session, meaning, reply));
+    return this.note(...await notesAfter(this.session, meaning, reply));
   }
 
   async on_watch({ words: [name] }) {
@@ -262,7 +262,7 @@ class Front {
     }
   }
 
-  /** Tells once that steps would be lost; true where that was told just now. */
+  /** Warns once that steps would be lost; true where it does so now. */
   warnsOfLoss(name) {
     const { session } = this, state = `${name} ${session.kept.changes}`;
     if (session.isSaved || this.warned === state) return false;

@@ -1,4 +1,4 @@
-// The keyboard: lines are edited, kept for later sessions, and completed by Tab; ^C and ^D are told to those who know what they mean.
+// The keyboard: lines are edited, kept for later sessions, and completed by Tab; ^C and ^D go to those who know what they mean.
 "use strict";
 
 const fs = require("node:fs");

@@ -42,8 +42,8 @@ async function clauses(session, [name]) {
   const run = await session.look(), found = Choices.choicesOf(run, name);
   if (session.kept.takers.has(name)) return [`${name} was taken by step ${session.kept.takers.get(name)}; goals lists those that are there`];
   if (found.length === 0) return [`no call ${name} is there`];
-  const behind = ({ says, why, waitsFor }) => (says === "no" ? `: ${why}` : says === "waits" ? ` for ${waitsFor.map((variable) => run.labelOf(variable)).join(", ")}` : "");
-  return found.map((choice) => `clause ${choice.clause.number} (line ${choice.clause.line}) ${choice.says === "waits" ? "waits" : `says ${choice.says}`}${behind(choice)}`);
+  const reasonOf = ({ says, why, waitsFor }) => (says === "no" ? `: ${why}` : says === "waits" ? ` for ${waitsFor.map((variable) => run.labelOf(variable)).join(", ")}` : "");
+  return found.map((choice) => `clause ${choice.clause.number} (line ${choice.clause.line}) ${choice.says === "waits" ? "waits" : `says ${choice.says}`}${reasonOf(choice)}`);
 }
 
 const cut = (text) => (text.length > SHOWN ? `${text.slice(0, SHOWN - 1)}…` : text);

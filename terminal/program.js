@@ -19,8 +19,8 @@ class Ended extends Error {
   }
 }
 
-// A line behind each other line, whose reply ends the other's. No session has such a variable, and each line has a reply of a line
-// at least: so the first line that is told is never the mark.
+// A line after each other line, whose reply ends the other's. No session has such a variable, and each line has a reply of a line
+// at least: so the first line of a reply is never the mark.
 const MARK = "show _4294967295_9", MARK_REPLY = "F23 no variable\n";
 
 class NativeSession {

@@ -1,4 +1,4 @@
-// What the terminal adds behind a reply: why it was refused and what would help, what a stop means, and the names of variables.
+// What the terminal adds after a reply: why it was refused and what would help, what a stop means, and the names of variables.
 "use strict";
 
 const Causes = require("../model/causes.js");
@@ -9,7 +9,7 @@ const { nearest } = require("../model/nearest.js");
 const { REFUSALS } = require("./commands.js");
 const { isRefusal } = require("./session.js");
 
-const MOST = 12; // lines of a kind that are told
+const MOST = 12; // lines of a kind that it tells
 const MOST_LOOKED = 200_000; // kept steps: of a longer run not all that depends on a step is looked for
 
 const plural = (count, word) => `${count} ${word}${count === 1 ? "" : "s"}`;
@@ -88,7 +88,7 @@ function noPredicate(session, words, reply) {
   return [near === undefined ? `the program's predicates: ${some(session.predicates).join(", ")}` : `${near}?`];
 }
 
-/** Why the text behind `ask` or `in` is refused. */
+/** Why the text after `ask` or `in` is refused. */
 function badText(session, meaning, reply) {
   const text = meaning.line.replace(meaning.name === "in" ? /^in +\S+ +/ : /^ask +/, "");
   const cause = Causes.causeOf(reply[0], { text, which: meaning.name, isQuery: true, program: session.text });
@@ -102,7 +102,7 @@ const HELPERS = {
 };
 
 /** What helps with a refusal. */
-async function behindRefusal(session, meaning, reply) {
+async function afterRefusal(session, meaning, reply) {
   const [number] = reply[0].split(" ");
   if (["ask", "in"].includes(meaning.name)) {
     const told = badText(session, meaning, reply);
@@ -124,7 +124,7 @@ const STOPS = {
 };
 
 /** What the last line of a run means. */
-async function behindStop(session, line) {
+async function afterStop(session, line) {
   const [, reason, name] = line.split(" "), goals = await session.goals();
   const goal = goals.find((other) => other.name === name);
   if (reason === "quiet") {
@@ -138,8 +138,8 @@ async function behindStop(session, line) {
   return STOPS[reason] ?? [];
 }
 
-/** Behind SUSP and FAIL lines: for what a goal waits, by the names of the text; why it has failed. */
-async function behindSettling(session, reply) {
+/** After SUSP and FAIL lines: for what a goal waits, by the names of the text; why it has failed. */
+async function afterSettling(session, reply) {
   const told = [];
   for (const line of reply) {
     const [port, name, rest] = line.split(" ");
@@ -153,7 +153,7 @@ async function behindSettling(session, reply) {
 }
 
 /** Who could bind a variable that `show` tells to be unbound. */
-async function behindShow(session, reply) {
+async function afterShow(session, reply) {
   const [, variable] = /^\S+ = (_\d+_\d+)$/.exec(reply[0]) ?? [];
   if (variable === undefined) return [];
   const holders = Stuck.holdersOf(await session.goals()).get(variable) ?? [];
@@ -161,26 +161,26 @@ async function behindShow(session, reply) {
   return [`${session.run.labelOf(variable)} is unbound; ${held}`];
 }
 
-function behindGoals(session, reply) {
+function afterGoals(session, reply) {
   const waited = new Set(reply.flatMap((line) => /^\S+ waits (\S+) /.exec(line)?.[1].split(",") ?? []));
   const named = [...waited].filter((variable) => session.run.nameOf(variable) !== undefined);
   return named.length === 0 ? [] : [`waited for: ${some(named.map(labelOf(session))).join(", ")}`];
 }
 
-function behindWho(session, reply) {
+function afterWho(session, reply) {
   const named = reply.map((line) => line.split(" ")[0]).filter((variable) => session.run.nameOf(variable) !== undefined);
   return named.length === 0 ? [] : [some(named.map(labelOf(session))).join(", ")];
 }
 
-/** All that is added behind a reply to a line of the console. */
-async function behind(session, meaning, reply) {
-  if (isRefusal(reply)) return behindRefusal(session, meaning, reply);
+/** All that is added after a reply to a line of the console. */
+async function notesAfter(session, meaning, reply) {
+  if (isRefusal(reply)) return afterRefusal(session, meaning, reply);
   const last = reply.at(-1) ?? "";
-  if (last.startsWith("stopped ")) return behindStop(session, last);
-  if (meaning.name === "show") return behindShow(session, reply);
-  if (meaning.name === "goals") return behindGoals(session, reply);
-  if (meaning.name === "who") return behindWho(session, reply);
-  return behindSettling(session, reply);
+  if (last.startsWith("stopped ")) return afterStop(session, last);
+  if (meaning.name === "show") return afterShow(session, reply);
+  if (meaning.name === "goals") return afterGoals(session, reply);
+  if (meaning.name === "who") return afterWho(session, reply);
+  return afterSettling(session, reply);
 }
 
-module.exports = { behind, whyNoClause, plural, some };
+module.exports = { notesAfter, whyNoClause, plural, some };

@@ -9,7 +9,7 @@ const { Refused } = require("./refused.js");
 const { clauseTaken } = require("./told.js");
 const { Ended } = require("../../terminal/program.js");
 const { NotTold, isRefusal } = require("../../terminal/session.js");
-const { behind } = require("../../terminal/telling.js");
+const { notesAfter } = require("../../terminal/telling.js");
 
 const MOST_THREAD_EVENTS = 200; // of one stop; an editor asks for all threads in any case
 
@@ -162,7 +162,7 @@ class Adapter {
   /** Sends a line that changes the session; where it is refused, the request is. */
   async change(line, words = line.split(" ").slice(1)) {
     const reply = await this.session.ask(line);
-    if (isRefusal(reply)) throw new Refused([reply[0], ...await behind(this.session, { name: line.split(" ")[0], words, line }, reply)].join("\n"));
+    if (isRefusal(reply)) throw new Refused([reply[0], ...await notesAfter(this.session, { name: line.split(" ")[0], words, line }, reply)].join("\n"));
     this.tell(reply);
     return reply;
   }

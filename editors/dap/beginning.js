@@ -16,14 +16,14 @@ const CAN = ["ConfigurationDoneRequest", "FunctionBreakpoints", "ConditionalBrea
   "StepBack", "RestartFrame", "RestartRequest", "GotoTargetsRequest", "StepInTargetsRequest", "CompletionsRequest", "SetVariable", "SetExpression", "LoadedSourcesRequest",
   "ExceptionInfoRequest", "TerminateRequest", "SingleThreadExecutionRequests", "BreakpointLocationsRequest"];
 
-const MOST_NOTES = 6; // on a program that are told
+const MOST_NOTES = 6; // on a program that it tells
 
 /** The words of ghcdb's command line for a launch configuration. */
 function wordsOf({ load, workers }, program, query) {
   return [program, "--query", query, ...(load ? ["--load", load] : []), ...(workers ? ["--workers", String(workers)] : [])];
 }
 
-/** Why ghcdb refused program or query, as the editor's user is told. */
+/** Why ghcdb refused program or query, in words for the editor's user. */
 function whyRefused({ errors }, program, query, file) {
   const [, who, refusal] = /^(program|query): (F\d+ .*)$/m.exec(errors) ?? [], isQuery = who === "query", text = isQuery ? query : program;
   const cause = who && Causes.causeOf(refusal, { text, which: isQuery ? "query" : path.basename(file), isQuery, program });

@@ -2,7 +2,7 @@
 "use strict";
 
 const { isRefusal } = require("../../terminal/session.js");
-const { behind } = require("../../terminal/telling.js");
+const { notesAfter } = require("../../terminal/telling.js");
 const { suggestion, NAMES } = require("../../terminal/commands.js");
 const { goalsMade } = require("./told.js");
 const { refused } = require("./refused.js");
@@ -16,7 +16,7 @@ module.exports = {
       if (this.session.kept.changes !== before) this.later(() => this.stoppedAnew(line));
       return reply;
     }
-    return [...reply, ...await behind(this.session, { name: word, words: line.split(/ +/).slice(1), line }, reply)];
+    return [...reply, ...await notesAfter(this.session, { name: word, words: line.split(/ +/).slice(1), line }, reply)];
   },
 
   /** An unbound variable is bound by goals asked for: a step like any other, which can be taken back. */

@@ -29,7 +29,7 @@ function goalOf({ status, text }) {
   return Reader.readQuery(text).goals[0];
 }
 
-/** The elements of a list as far as it is known, and what comes behind them. */
+/** The elements of a list as far as it is known, and what comes after them. */
 function elementsOf(term, store) {
   const elements = [];
   let rest = term;

@@ -1,4 +1,4 @@
-// What is thrown where a request is refused, with what the user is told.
+// What is thrown where a request is refused, with words for the user.
 "use strict";
 
 class Refused extends Error {}

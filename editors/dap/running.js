@@ -6,7 +6,7 @@ const { Ended } = require("../../terminal/program.js");
 const { isRefusal } = require("../../terminal/session.js");
 const { plural } = require("../../terminal/telling.js");
 
-const MOST_TOLD = 200; // steps of a run that are told in the editor's console
+const MOST_TOLD = 200; // steps of a run that it tells in the editor's console
 
 module.exports = {
   /** Runs something during which other requests are answered; a pause ends it. */

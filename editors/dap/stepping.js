@@ -5,7 +5,7 @@ const { goalsMade } = require("./told.js");
 const { refused } = require("./refused.js");
 
 module.exports = {
-  /** The process that goes on behind a step: that of the goal stepped where it goes on, else of the first ready goal that was made. */
+  /** The process that goes on after a step: that of the goal stepped where it goes on, else of the first ready goal that was made. */
   async into(made, thread) {
     const goals = (await this.goalsTold()).filter(({ name }) => made.includes(name));
     const next = goals.find(({ name }) => this.processes.of(name) === thread) ?? goals.find(({ status }) => status === "ready") ?? goals[0];

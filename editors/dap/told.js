@@ -1,7 +1,7 @@
 // Reads single lines of the console's replies. Pure.
 "use strict";
 
-/** Lines that begin with a step's number: the number, and what stands behind it. */
+/** Lines that begin with a step's number: the number, and what stands after it. */
 function readLines(lines) {
   return lines.map((line) => /^(\d+) (.*)$/.exec(line)).filter(Boolean).map(([, number, rest]) => ({ number: Number(number), rest }));
 }

@@ -1,4 +1,4 @@
-// The Debug Adapter Protocol's messages: texts of JSON, each behind a head that tells its length in bytes.
+// The Debug Adapter Protocol's messages: texts of JSON, each after a head that tells its length in bytes.
 "use strict";
 
 const HEAD_END = "\r\n\r\n";

@@ -11,7 +11,7 @@ const { COMMANDS } = require("../commands.js");
 const ROOT = path.join(__dirname, "..", "..");
 const isThere = (program) => spawnSync("sh", ["-c", `command -v ${program}`]).status === 0;
 
-/** What bash offers behind the words. */
+/** What bash offers after the words. */
 function offered(...words) {
   const script = `source packaging/ghcdb.bash; COMP_WORDS=("$@"); COMP_CWORD=$(($# - 1)); _ghcdb; printf '%s\\n' "\${COMPREPLY[@]}"`;
   return execFileSync("bash", ["-c", script, "bash", ...words], { cwd: ROOT, encoding: "utf8" }).trim().split("\n");

@@ -157,7 +157,7 @@ def test_interrupt_in_a_run(home):
         shown = terminal.read()
         wants("% the run was ended; the session stands as before it" in shown, shown[-500:])
         wants(terminal.type("records") == before, "the session is another one")
-        wants(is_met("stopped limit", terminal.type("leap 5")), "no run behind it")
+        wants(is_met("stopped limit", terminal.type("leap 5")), "no run after it")
         terminal.end()
 
 

@@ -45,7 +45,7 @@ class Terminal:
             shown += piece
             if shown.replace(b"\r", b"").endswith(self.prompt):
                 return text_of(shown)
-        raise TimeoutError(f"no prompt behind {text_of(shown)[-300:]!r}")
+        raise TimeoutError(f"no prompt after {text_of(shown)[-300:]!r}")
 
     def press(self, keys):
         os.write(self.device, keys.encode())
