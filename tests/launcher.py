@@ -40,7 +40,7 @@ echo "what rt says of $here"
 """
 NODE = """#!/usr/bin/env bash
 [ "$*" != --version ] || { echo "${NODE_VERSION:-v18.0.0}"; exit; }
-printf '%s\\n' "node: ${1##*/} ${*:2}${GHCDB_CLOSED:+, closed: $GHCDB_CLOSED}"
+printf '%s\\n' "node: ${1##*/} ${*:2}${GHCDB:+, on ${GHCDB##*/}}${GHCDB_CLOSED:+, closed: $GHCDB_CLOSED}"
 [ "$2" = --version ] || exit 4
 """
 PYTHON = """#!/usr/bin/env bash
@@ -284,11 +284,11 @@ def with_a_native_program(copy):
     tests.unlink()
 
 
-def the_gate(copy):
-    """The case of --check."""
-    (copy.folder / ".ci").mkdir()
-    copy.write(copy.folder / ".ci" / "run", "echo the gate; exit 7\n")
-    yield "the gate", copy.run("--check"), ("the gate\n", "", 7)
+def with_words_for_scripts(copy):
+    """Cases of --check and --json, which a command of terminal/ serves by Node, on the program that would run."""
+    told = "node: {} a --query q, on ghcdb\n"
+    for word in ("check", "json"):
+        yield f"--{word}", copy.run(f"--{word}", "a", "--query", "q", path=["node"]), (told.format(word), "", 4)
 
 
 def at_a_terminal(copy):
@@ -304,6 +304,8 @@ def at_a_terminal(copy):
     greeting = "ghcdb: type goals, step G, leap, records, why N, undo N or quit; ./ghcdb --help tells all commands\n"
     words = ("a", "--query", "q")
     yield "a session at a terminal is greeted", copy.run_at_terminal(*words), (f"{greeting}the program: a --query q\n", 3)
+    front = "node: ghcdb a --query q, on ghcdb\n"
+    yield "with Node a session at a terminal gets the front", copy.run_at_terminal(*words, path=["node", "rlwrap"]), (front, 4)
     yield "one in a pipe is not", copy.run(*words), ("the program: a --query q\n", "", 3)
     yield "nor is a schedule", copy.run_at_terminal(*words, "--schedule", "s"), ("the program: a --query q --schedule s\n", 3)
 
@@ -328,7 +330,7 @@ def texts(copy):
 
 def cases(copy):
     """The cases in their order: a name, what came, what is wanted."""
-    for group in (without_a_native_program, proving, with_a_native_program, the_gate, at_a_terminal, versions, texts):
+    for group in (without_a_native_program, proving, with_a_native_program, with_words_for_scripts, at_a_terminal, versions, texts):
         yield from group(copy)
 
 
