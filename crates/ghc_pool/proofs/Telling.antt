@@ -4,6 +4,10 @@ use base.Stored.{Gv}
 use mathlib.Core.List.{IsPrefix}
 use lib.ListN.{get_or}
 use Rattle.ghc_core.specs.Events as events
+use Rattle.ghc_core.specs.Answers.{by_hand}
+use Rattle.ghc_core.specs.EventCode.{reply_of}
+use Rattle.ghc_core.specs.Playing.{IsRefusal}
+use Rattle.ghc_records.specs.Journal.{took, step_of}
 use Rattle.ghc_shared.specs.declared.receipt.Receipt as given
 use Rattle.ghc_shared.specs.declared.calls.Call.TheVariants.{Note}
 
@@ -42,7 +46,7 @@ step_places_append (y ∷ taken) x = ap (λ l. places_in y.1 ++ l) (step_places_
 
 module _ (opened : Gv) (scope : Scope) (spies : Spies) (steps : Bool) where
   answer_later : (base front longer : List Item) (g : GoalName) (a : Answer) → IsPrefix front longer → IsAnswerOf opened scope spies steps base front g a → IsAnswerOf opened scope spies steps base longer g a
-  answer_later base front longer g (Submitted r) p is = (is.0, is.1, is.2, receipt_later _ front longer _ _ _ p is.3, is.4, λ yes. stands_later front longer is.0 r p (is.5 yes))
+  answer_later base front longer g (Submitted r) p is = (is.0, is.1, is.2, receipt_later _ front longer _ _ _ p is.3, is.4, (λ yes. stands_later front longer is.0 r p (is.5 yes)), is.6)
   answer_later base front longer g (Noted r) p is = (receipt_later _ front longer _ _ _ p is.0, is.1, is.2)
   answer_later base front longer g Starved p is = is
 
@@ -110,6 +114,22 @@ note_stays w v g reply left (Answers.no_memory s) = refl
 longer_by_one : (xs : List Entry) (e : Entry) → xs ≡ xs ++ e ∷ [] → ⊥
 longer_by_one xs e same = omega (arith, ap (λ l. length l) same, length-append xs (e ∷ []))
 
+-- a commit that adds no entry is refused
+commit_refused : (w v : World) (hands : Hands) (h : ℕ) (reply : events.Reply) (left : Hands) → Answers (Unit {0}) w hands (events.commit h) reply v left → v.journal ≡ w.journal → IsRefusal reply
+commit_refused w v hands h reply left (Answers.no_hand n) same = (Fault.Command, refl)
+commit_refused w v hands h reply left (Answers.makes hand (by_hand {r = r} there is) can changes told) same =
+    absurd (longer_by_one w.journal (took (step_of r)) (sym same ∙ ap (λ (u : World). u.journal) changes))
+commit_refused w v hands h reply left (Answers.says hand s) same = elim s [ ]
+commit_refused w v hands h reply left (Answers.fails {f = f} hand why) same = (f, refl)
+commit_refused w v hands h reply left (Answers.no_memory s) same = (Fault.Memory, refl)
+
+-- a submit that was not accepted is refused
+submit_refused : (before : List Item) (p : Proposal) (r : given.Receipt Reply) (old new : Known Item) → IsDecided IsAnswerTo before (Submit p) r old new → r.accepted ≡ false → IsRefusal (reply_of r.reply)
+submit_refused before p r old new d told =
+    let a : IsRefusedCall IsAnswerTo before (Submit p) r.reply old new = rw told at d.decided in
+    let is = a.answer.told in
+    commit_refused is.before is.after (holding p) 1 (reply_of r.reply) is.left is.answer is.adds_nothing
+
 -- a note has no place
 pub note_places : (before : List Item) (g : GoalName) (r : given.Receipt Reply) (old new : Known Item) → IsDecided IsAnswerTo before (Note g) r old new → new.places ≡ old.places
 note_places before g r old new d = told r.accepted d.decided
@@ -121,17 +141,17 @@ note_places before g r old new d = told r.accepted d.decided
     told false a = a.places
 
 -- the reason of one answer is that of all
-pub reason_after : (opened : Gv) (spies : Spies) (x : Taken) (stop : Option RoundStop) → IsReason AreFedAnswers (Asks opened spies) stop (x ∷ [])
-    → (taken : List Taken) → AreFedAnswers taken → IsReason AreFedAnswers (Asks opened spies) stop (taken ++ x ∷ [])
-reason_after opened spies x stop is taken fed = told stop is
+pub reason_after : (opened : Gv) (spies : Spies) (steps : Bool) (x : Taken) (stop : Option RoundStop) → IsReason AreFedAnswers (Asks opened spies steps) stop (x ∷ [])
+    → (taken : List Taken) → AreFedAnswers taken → IsReason AreFedAnswers (Asks opened spies steps) stop (taken ++ x ∷ [])
+reason_after opened spies steps x stop is taken fed = told stop is
   where
     all : AreFedAnswers (x ∷ []) → AreFedAnswers (taken ++ x ∷ [])
     all one y i = elim (in_more taken x y i) [ inl j ↦ fed y j | inr e ↦ one y (inl e) ]
 
-    asked : (s : RoundStop) → Asks opened spies (x ∷ []) s → Asks opened spies (taken ++ x ∷ []) s
-    asked s a = (x, in_last taken x, elim a.1 [ inl e ↦ subst (λ (z : Taken). IsAskedBy opened spies z.0 z.1 s) e a.2 | inr none ↦ absurd none ])
+    asked : (s : RoundStop) → Asks opened spies steps (x ∷ []) s → Asks opened spies steps (taken ++ x ∷ []) s
+    asked s a = (a.0, (x, in_last taken x, elim a.1.1 [ inl e ↦ subst (λ (z : Taken). IsAskedBy opened spies z.0 z.1 s) e a.1.2 | inr none ↦ absurd none ]))
 
-    told : (s : Option RoundStop) → IsReason AreFedAnswers (Asks opened spies) s (x ∷ []) → IsReason AreFedAnswers (Asks opened spies) s (taken ++ x ∷ [])
+    told : (s : Option RoundStop) → IsReason AreFedAnswers (Asks opened spies steps) s (x ∷ []) → IsReason AreFedAnswers (Asks opened spies steps) s (taken ++ x ∷ [])
     told None a = all a
     told (Some Memory) a = tt
     told (Some Limit) a = a
@@ -146,29 +166,39 @@ noted_memory : (g : GoalName) (s : Status) → events.noted g s ≡ events.refus
 noted_memory g s e = cc
 
 module _ (opened : Gv) (scope : Scope) (spies : Spies) (steps : Bool) (g : GoalName) where
-  reason_of_submit : (r : given.Receipt Reply) (stop : Option RoundStop) → IsSubmitStop r.reply stop → IsReason AreFedAnswers (Asks opened spies) stop ((g, Submitted r) ∷ [])
-  reason_of_submit r None is = λ y i. elim i [ inl e ↦ λ s. is (subst (λ (z : Taken). IsStarved z.1) e s) | inr none ↦ absurd none ]
-  reason_of_submit r (Some Memory) is = tt
-  reason_of_submit r (Some Limit) is = is
-  reason_of_submit r (Some Full) is = (
+  reason_of_submit : (r : given.Receipt Reply) (stop : Option RoundStop) → steps ≡ true → IsSubmitStop r.reply stop → IsReason AreFedAnswers (Asks opened spies steps) stop ((g, Submitted r) ∷ [])
+  reason_of_submit r None takes is = λ y i. elim i [ inl e ↦ λ s. is (subst (λ (z : Taken). IsStarved z.1) e s) | inr none ↦ absurd none ]
+  reason_of_submit r (Some Memory) takes is = tt
+  reason_of_submit r (Some Limit) takes is = is
+  reason_of_submit r (Some Full) takes is = (
     (λ y i. elim i [ inl e ↦ λ s. full_memory (sym is ∙ subst (λ (z : Taken). IsStarved z.1) e s) | inr none ↦ absurd none ]),
-    ((g, Submitted r), inl refl, is),
+    (takes, ((g, Submitted r), inl refl, is)),
   )
-  reason_of_submit r (Some (Spied h)) is = absurd is
-  reason_of_submit r (Some (Clash h)) is = absurd is
+  reason_of_submit r (Some (Spied h)) takes is = absurd is
+  reason_of_submit r (Some (Clash h)) takes is = absurd is
 
-  reason_of_note : (spied : Bool) (r : given.Receipt Reply) (stop : Option RoundStop) → (spied ≡ true → IsSpiedGoal opened spies g) → IsNoteStop spied g r.reply stop → IsReason AreFedAnswers (Asks opened spies) stop ((g, Noted r) ∷ [])
-  reason_of_note spied r None goal is = λ y i. elim i [ inl e ↦ λ s. is (subst (λ (z : Taken). IsStarved z.1) e s) | inr none ↦ absurd none ]
-  reason_of_note spied r (Some Memory) goal is = tt
-  reason_of_note spied r (Some Limit) goal is = is
-  reason_of_note spied r (Some Full) goal is = absurd is
-  reason_of_note spied r (Some (Spied h)) goal is = (
+  -- where no steps are taken, want of memory alone is a reason
+  pub reason_of_settling : (r : given.Receipt Reply) (stop : Option RoundStop) → IsSettlingStop r.reply stop → IsReason AreFedAnswers (Asks opened spies steps) stop ((g, Noted r) ∷ [])
+  reason_of_settling r None is = λ y i. elim i [ inl e ↦ λ s. is (subst (λ (z : Taken). IsStarved z.1) e s) | inr none ↦ absurd none ]
+  reason_of_settling r (Some Memory) is = tt
+  reason_of_settling r (Some Limit) is = is
+  reason_of_settling r (Some Full) is = absurd is
+  reason_of_settling r (Some (Spied h)) is = absurd is
+  reason_of_settling r (Some (Clash h)) is = absurd is
+
+  pub reason_of_note : (spied : Bool) (r : given.Receipt Reply) (stop : Option RoundStop) → steps ≡ true → (spied ≡ true → IsSpiedGoal opened spies g) → IsNoteStop spied g r.reply stop
+      → IsReason AreFedAnswers (Asks opened spies steps) stop ((g, Noted r) ∷ [])
+  reason_of_note spied r None takes goal is = λ y i. elim i [ inl e ↦ λ s. is (subst (λ (z : Taken). IsStarved z.1) e s) | inr none ↦ absurd none ]
+  reason_of_note spied r (Some Memory) takes goal is = tt
+  reason_of_note spied r (Some Limit) takes goal is = is
+  reason_of_note spied r (Some Full) takes goal is = absurd is
+  reason_of_note spied r (Some (Spied h)) takes goal is = (
     (λ y i. elim i [ inl e ↦ λ s. noted_memory _ _ (sym is.2.1 ∙ subst (λ (z : Taken). IsStarved z.1) e s) | inr none ↦ absurd none ]),
-    ((g, Noted r), inl refl, (is.1, is.2, goal is.0)),
+    (takes, ((g, Noted r), inl refl, (is.1, is.2, goal is.0))),
   )
-  reason_of_note spied r (Some (Clash h)) goal is = (
+  reason_of_note spied r (Some (Clash h)) takes goal is = (
     (λ y i. elim i [ inl e ↦ λ s. noted_memory _ _ (sym is.1.1.1 ∙ subst (λ (z : Taken). IsStarved z.1) e s) | inr none ↦ absurd none ]),
-    ((g, Noted r), inl refl, is),
+    (takes, ((g, Noted r), inl refl, is)),
   )
 
   module _ (old new : Known Item) (step made : ℕ) where
@@ -177,19 +207,19 @@ module _ (opened : Gv) (scope : Scope) (spies : Spies) (steps : Bool) (g : GoalN
         → IsDecidedAs opened scope spies steps g old new (record { answer = Submitted r; stop = stop; step = step; made = made })
     decided_submit before p r stop takes inside unspied number begins d a s = record {
       told = told_more opened scope spies steps old new g (Submitted r) number begins (submit_places before (Submit p) r old new d)
-          (λ base low. (p, inside, unspied, receipt_of_answer _ old.front new.front _ _ _ a, behind before (Submit p) r old new d base low, submit_stands before p r old new d));
+          (λ base low. (p, inside, unspied, receipt_of_answer _ old.front new.front _ _ _ a, behind before (Submit p) r old new d base low, submit_stands before p r old new d, submit_refused before p r old new d));
       submits = omega (arith, ap one_if takes);
-      reason = reason_of_submit r stop s;
+      reason = reason_of_submit r stop takes s;
     }
 
-    pub decided_note : (before : List Item) (spied : Bool) (r : given.Receipt Reply) (stop : Option RoundStop) → (steps ≡ true → IsNotedFor opened scope spies g r.reply) → (spied ≡ true → IsSpiedGoal opened spies g) → new.number ≡ old.number → IsPrefix old.front new.front
-        → IsDecided IsAnswerTo before (Note g) r old new → IsAnswered (Unit {0}) old.front new.front no_hands (events.note g) (receipt_of r) → IsNoteStop spied g r.reply stop
+    pub decided_note : (before : List Item) (r : given.Receipt Reply) (stop : Option RoundStop) → (steps ≡ true → IsNotedFor opened scope spies g r.reply) → new.number ≡ old.number → IsPrefix old.front new.front
+        → IsDecided IsAnswerTo before (Note g) r old new → IsAnswered (Unit {0}) old.front new.front no_hands (events.note g) (receipt_of r) → IsReason AreFedAnswers (Asks opened spies steps) stop ((g, Noted r) ∷ [])
         → IsDecidedAs opened scope spies steps g old new (record { answer = Noted r; stop = stop; step = step; made = made })
-    decided_note before spied r stop cause goal number begins d a s = record {
+    decided_note before r stop cause number begins d a reason = record {
       told = told_more opened scope spies steps old new g (Noted r) number begins (note_places before g r old new d ∙ sym (append-nil old.places))
           (λ base low. (receipt_of_answer _ old.front new.front _ _ _ a, behind before (Note g) r old new d base low, cause));
       submits = omega arith;
-      reason = reason_of_note spied r stop goal s;
+      reason = reason;
     }
 
   pub decided_starved : (old : Known Item) (step made : ℕ) → steps ≡ true → IsStarvedGoal opened g → IsDecidedAs opened scope spies steps g old old (record { answer = Starved; stop = Some RoundStop.Memory; step = step; made = made })
@@ -205,14 +235,6 @@ module _ (opened : Gv) (scope : Scope) (spies : Spies) (steps : Bool) (g : GoalN
 
   pub decided_after : (old mid new : Known Item) (d : Decided) → GoesOnWithout opened scope spies steps old mid → IsDecidedAs opened scope spies steps g mid new d → IsDecidedAs opened scope spies steps g old new d
   decided_after old mid new d on is = record { told = λ start taken was. is.told start taken (on start taken was); submits = is.submits; reason = is.reason }
-
-pub settling_stop : (g : GoalName) (reply : Reply) (stop : Option RoundStop) → IsSettlingStop reply stop → IsNoteStop false g reply stop
-settling_stop g reply None is = is
-settling_stop g reply (Some Memory) is = tt
-settling_stop g reply (Some Limit) is = is
-settling_stop g reply (Some Full) is = is
-settling_stop g reply (Some (Spied h)) is = absurd is
-settling_stop g reply (Some (Clash h)) is = absurd is
 
 pub opposite : {A : Type 0} (b : Bool) → b ≡ true → b ≡ false → A
 opposite b t f = let clash : true ≡ false = sym t ∙ f in cc

@@ -67,4 +67,4 @@ module _ (opened : Gv) (scope : Scope) (spies : Spies) (steps : Bool) where
   pub record IsDecidedAs (g : GoalName) (old new : Known Item) (d : Decided) : Type 0 where
     pub told : (start : Known Item) (taken : List Taken) → IsPassAfter opened scope spies steps start taken old → IsPassAfter opened scope spies steps start (taken ++ (g, d.answer) ∷ []) new
     pub submits : submits_in d.answer ≤ one_if steps
-    pub reason : IsReason AreFedAnswers (Asks opened spies) d.stop ((g, d.answer) ∷ [])
+    pub reason : IsReason AreFedAnswers (Asks opened spies steps) d.stop ((g, d.answer) ∷ [])

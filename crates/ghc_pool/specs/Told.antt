@@ -1,5 +1,6 @@
 -- What is told of the workers of a round over a shared core.
 use Rattle.std.specs.Prelude.{◌≡◌, ◌≢◌, ◌⊎◌, ℕ, ◌≤◌, ◌++◌, List, [], ◌∷◌, length, Bool, true, false, Option, Some, None, Ok, Err}
+use Rattle.ghc_core.specs.Playing.{IsRefusal}
 use base.Stored.{Gv}
 use mathlib.Core.List.{IsPrefix}
 use Rattle.ghc_term.specs.Lists.{In}
@@ -70,11 +71,11 @@ module _ (opened : Gv) where
   abbrev pub IsNotedFor : Scope → Spies → GoalName → Reply → Type 0
   IsNotedFor scope spies g reply = (¬ IsInScope scope g) ⊎ (IsSpiedGoal spies g ⊎ (IsRefusedGoal g × (¬ TellsStatus ready reply)))
 
-  -- IsAnswerOf scope spies steps base front g answer: a worker whose pass had seen `base` and has seen `front` got this answer to the name g. It is a receipt in the front, behind all that had been seen: of the commit of a step that was proposed of g, which the round may step and which is no call of a spied predicate, and where it was accepted it stands there; or of a note of g, for which there is a cause where steps are taken. Or memory was refused for the proposal of a step.
+  -- IsAnswerOf scope spies steps base front g answer: a worker whose pass had seen `base` and has seen `front` got this answer to the name g. It is a receipt in the front, behind all that had been seen: of the commit of a step that was proposed of g, which the round may step and which is no call of a spied predicate, and where it was accepted it stands there, and else its reply is a refusal; or of a note of g, for which there is a cause where steps are taken. Or memory was refused for the proposal of a step.
   abbrev pub IsAnswerOf : Scope → Spies → Bool → List Item → List Item → GoalName → Answer → Type 0
   IsAnswerOf scope spies steps base front g (Submitted r) =
       (p : Proposal) × IsInScope scope g × IsUnspiedStep spies g p × IsReceipt (Unit {0}) front (holding p) (events.commit 1) (receipt_of r) × (length base ≤ r.place)
-      × (r.accepted ≡ true → StandsIn front p r)
+      × (r.accepted ≡ true → StandsIn front p r) × (r.accepted ≡ false → IsRefusal (reply_of r.reply))
   IsAnswerOf scope spies steps base front g (Noted r) =
       IsReceipt (Unit {0}) front no_hands (events.note g) (receipt_of r) × (length base ≤ r.place) × (steps ≡ true → IsNotedFor scope spies g r.reply)
   IsAnswerOf scope spies steps base front g Starved = (steps ≡ true) × IsStarvedGoal g
@@ -136,6 +137,6 @@ IsAskedBy opened spies g answer Full = IsToldFull answer
 IsAskedBy opened spies g answer (Spied h) = (h ≡ g) × IsNotedAs ready answer × IsSpiedGoal opened spies g
 IsAskedBy opened spies g answer (Clash h) = (h ≡ g) × ((f : Fault) × IsNotedAs (failed f) answer)
 
--- One of the answers is this reason to stop.
-abbrev pub Asks : Gv → Spies → List Taken → RoundStop → Type 0
-Asks opened spies taken stop = (x : Taken) × In x taken × IsAskedBy opened spies x.0 x.1 stop
+-- Steps are taken, and one of the answers is this reason to stop.
+abbrev pub Asks : Gv → Spies → Bool → List Taken → RoundStop → Type 0
+Asks opened spies steps taken stop = (steps ≡ true) × ((x : Taken) × In x taken × IsAskedBy opened spies x.0 x.1 stop)

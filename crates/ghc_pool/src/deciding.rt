@@ -192,7 +192,8 @@ impl<N: Naming, R: Wait, G: Gate> Deciding<'_, N, R, G> {
 
     // Notes the goal, which is a call of a spied predicate.
     fn note_spied(&self, pass: &mut Pass<Core, N>, goal: GoalName) -> Decided
-        requires { IsSpiedGoal N.opened self.now.spies.now goal }
+        requires steps { self.now.steps ≡ true }
+        requires spied { IsSpiedGoal N.opened self.now.spies.now goal }
         ensures { IsDecidedAs N.opened self.now.scope.now self.now.spies.now self.now.steps goal pass.old pass.new result }
     {
         let receipt = self.shared.note(self.rt, self.alloc, pass, goal);
@@ -207,7 +208,8 @@ impl<N: Naming, R: Wait, G: Gate> Deciding<'_, N, R, G> {
 
     // Notes the goal, of which no step could be proposed; or it is ready by now, and nothing comes of that.
     fn note_refused(&self, pass: &mut Pass<Core, N>, goal: GoalName) -> Option<Decided>
-        requires { IsRefusedGoal N.opened goal }
+        requires steps { self.now.steps ≡ true }
+        requires refused { IsRefusedGoal N.opened goal }
         ensures { MatchOption result (GoesOnWithout N.opened self.now.scope.now self.now.spies.now self.now.steps pass.old pass.new) (IsDecidedAs N.opened self.now.scope.now self.now.spies.now self.now.steps goal pass.old pass.new) }
     {
         let receipt = self.shared.note(self.rt, self.alloc, pass, goal);
@@ -270,7 +272,7 @@ impl<N: Naming, R: Wait, G: Gate> Craft<Pass<Core, N>> for Deciding<'_, N, R, G>
 
     ghost fed = { λ d. AreFedAnswers };
 
-    ghost asks = { λ d. Asks N.opened d.spies.now };
+    ghost asks = { λ d. Asks N.opened d.spies.now d.steps };
 
     fn takes_steps(&self) -> bool {
         self.steps

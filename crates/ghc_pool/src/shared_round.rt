@@ -79,7 +79,7 @@ pub fn round<'a, N: Naming + Send + Sync, R: Threads + Wait + Sync, G: Gate + Sy
     requires few { length names.now < 2 ^ 60 }
     ensures settled { IfOk result (λ r. AreSettled r.1.workers.items) }
     ensures few { IfOk result (λ r. total_work submits_by r.1.workers.items ≤ limit_of mode.now) }
-    ensures judged { IfOk result (λ r. AreJudged AreFedAnswers (Asks N.opened spies.now) ((takes_steps mode.now ≡ true) × (total_work submits_by r.1.workers.items ≡ limit_of mode.now)) r.1.stop r.1.workers.items) }
+    ensures judged { IfOk result (λ r. AreJudged AreFedAnswers (Asks N.opened spies.now (takes_steps mode.now)) ((takes_steps mode.now ≡ true) × (total_work submits_by r.1.workers.items ≡ limit_of mode.now)) r.1.stop r.1.workers.items) }
     ensures told { IfOk result (λ r. AreTold (IsPassAfter N.opened scope.now spies.now (takes_steps mode.now)) passes.items r.1.workers.items r.0.items) }
     ensures begins { IfOk result (λ r. FirstBegins names.now r.1.workers.items) }
     ensures refused { IfErr result (λ back. back ≡ passes) }

@@ -2,7 +2,7 @@ use Rattle.ghc_pool.proofs.Telling.{reason_after}
 use Rattle.ghc_pool.proofs.deciding.DecidingCraftPassCore.decide.Goals as goal
 
 pub returns-then-self-clause-reason : goal.returns-then-self-clause-reason
-returns-then-self-clause-reason g c = reason_after g.N.Naming.opened c.args.self.now.spies.now (c.args.name, c.take_step.result.answer) c.take_step.result.stop c.take_step.ensures.reason
+returns-then-self-clause-reason g c = reason_after g.N.Naming.opened c.args.self.now.spies.now c.args.self.now.steps (c.args.name, c.take_step.result.answer) c.take_step.result.stop c.take_step.ensures.reason
 
 pub returns-clause-reason : goal.returns-clause-reason
-returns-clause-reason g c = reason_after g.N.Naming.opened c.args.self.now.spies.now (c.args.name, c.settle.result.answer) c.settle.result.stop c.settle.ensures.reason
+returns-clause-reason g c = reason_after g.N.Naming.opened c.args.self.now.spies.now c.args.self.now.steps (c.args.name, c.settle.result.answer) c.settle.result.stop c.settle.ensures.reason
