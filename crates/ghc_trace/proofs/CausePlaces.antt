@@ -1,5 +1,5 @@
 -- The places of the steps on which a step depends directly are found one after another.
-use Rattle.ghc_trace.proofs.Words.{◌≡◌, ℕ, ◌<◌, ◌⊎◌, Result, Ok, Err, OnOk, List, [], ◌∷◌, ◌++◌, refl, sym, ap, ◌∙◌, subst, inl, inr, arith, ◌↔◌, Option, Some, None, nat_cmp, insert_key, VarName, GoalName, In, in_left, in_last, in_more, has_member, is_member, AreDistinct, Record, numbers, SlotList, held_in, StandsIn, HasNumberIn, variables_asked, Consumes, Uses, once_of, stands_held, in_inserted}
+use Rattle.ghc_trace.proofs.Words.{◌≡◌, ℕ, ◌<◌, ◌⊎◌, Result, Ok, Err, OnOk, List, [], ◌∷◌, ◌++◌, refl, sym, ap, ◌∙◌, subst, inl, inr, arith, ◌↔◌, Option, Some, None, nat_cmp, insert_key, VarName, GoalName, In, in_left, in_last, in_more, has_member, is_member, AreDistinct, Record, numbers, SlotList, held_in, StandsIn, HasNumberIn, variables_asked, Uses, once_of, stands_held, in_inserted}
 use Rattle.std.specs.FinSet as set
 use Rattle.ghc_records.specs.Uses.{Binds, MakesGoal, MakesVariable}
 use Rattle.ghc_depend.specs.Sources.{IsPlaceOfOne}

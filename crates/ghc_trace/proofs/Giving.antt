@@ -1,5 +1,5 @@
 -- The steps that gave a variable its term, by their numbers, and the slice that these have.
-use Rattle.ghc_trace.proofs.Words.{◌≡◌, ℕ, ◌⊎◌, Result, Ok, Err, IfOk, List, [], ◌∷◌, ◌++◌, refl, sym, ap, ◌∙◌, subst, inl, inr, ◌↔◌, Option, Some, None, is_some, true, false, VarName, Tree, In, in_left, in_last, in_more, AreDistinct, Record, State, numbers, SlotList, held_in, stands_held, record_once, value_at, Picks, nothing, leave, picks_in, picks_has, DependsOn, StepBinds, is_member, has_member}
+use Rattle.ghc_trace.proofs.Words.{◌≡◌, ℕ, Result, Ok, Err, IfOk, List, [], ◌∷◌, ◌++◌, refl, sym, ◌∙◌, subst, inl, inr, ◌↔◌, Option, Some, None, is_some, true, false, VarName, Tree, In, in_left, in_last, in_more, AreDistinct, Record, State, numbers, SlotList, held_in, stands_held, record_once, value_at, Picks, nothing, leave, picks_in, picks_has, StepBinds, is_member, has_member}
 use Rattle.std.specs.FinSet as set
 use Rattle.ghc_term.specs.Tree.{variable}
 use Rattle.ghc_term.specs.Sets.{Variables, IsSetOf}

@@ -1,4 +1,4 @@
-use Rattle.ghc_trace.proofs.Words.{◌≡◌, ◌+◌, ℕ, [], ◌∷◌, ◌++◌, List, get_or, take, true, false, refl, sym, ◌∙◌, subst, arith, take_more, take_all, AreDistinct, numbers, held_in, VarName, Tree, StoreValue, value_at}
+use Rattle.ghc_trace.proofs.Words.{◌≡◌, ◌+◌, [], ◌∷◌, ◌++◌, get_or, take, true, false, refl, sym, ◌∙◌, subst, arith, take_more, take_all, AreDistinct, numbers, held_in, VarName, Tree, StoreValue, value_at}
 use Rattle.ghc_term.specs.Bindings.{Reaches}
 use Rattle.ghc_term.specs.Sets.{IsSetOf}
 use Rattle.ghc_term.specs.Tree.{variable}

@@ -1,4 +1,4 @@
-use Rattle.ghc_trace.proofs.Words.{◌∙◌, ap, subst}
+use Rattle.ghc_trace.proofs.Words.{subst}
 use Rattle.ghc_trace.specs.Causes.{IsSliceTold}
 use Rattle.ghc_trace.proofs.Giving.{if_ok, told_slice}
 use Rattle.ghc_trace.proofs.given.slice_of.Goals as goal

@@ -1,4 +1,4 @@
-use Rattle.ghc_trace.proofs.Words.{◌≡◌, ◌<◌, ℕ, false, true, List, [], ◌∷◌, ◌++◌, length, map, refl, sym, ap, ◌∙◌, subst, inl, inr, arith, In, IsDirect, AreDistinct, numbers, held_in, rank, rank_stands, some_of, record_once, IsKeptAs, all_behind, behind_ranked, AreReasonsTold}
+use Rattle.ghc_trace.proofs.Words.{◌≡◌, ℕ, [], ◌∷◌, ◌++◌, length, map, refl, sym, ap, ◌∙◌, subst, inl, inr, arith, In, IsDirect, AreDistinct, numbers, held_in, rank, rank_stands, some_of, record_once, all_behind, behind_ranked, AreReasonsTold}
 use Rattle.std.specs.Option.{option_copied}
 use Rattle.ghc_trace.proofs.Reasoning.{search, stands_ahead, still_kept, up_to, behind_it, none_ahead, gathered, passed, finished}
 use Rattle.ghc_trace.proofs.Slicing.{nothing_left}

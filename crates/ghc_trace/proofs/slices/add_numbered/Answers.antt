@@ -1,4 +1,4 @@
-use Rattle.ghc_trace.proofs.Words.{◌≡◌, ◌+◌, ◌⊎◌, ℕ, [], ◌∷◌, ◌++◌, get_or, take, sym, subst, arith, take_more, take_all, In, AreDistinct, numbers}
+use Rattle.ghc_trace.proofs.Words.{◌≡◌, ◌+◌, [], ◌∷◌, ◌++◌, get_or, take, sym, subst, arith, take_more, take_all, AreDistinct, numbers}
 use Rattle.ghc_trace.specs.Causes.{HasNumbered}
 use Rattle.ghc_trace.proofs.CausePlaces.{numbered_none, numbered_still, numbered_more}
 use Rattle.ghc_trace.proofs.slices.add_numbered.Goals.{in-Some+in-Ok, in_default}

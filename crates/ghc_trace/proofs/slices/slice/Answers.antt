@@ -1,4 +1,4 @@
-use Rattle.ghc_trace.proofs.Words.{◌≡◌, ℕ, ◌+◌, ◌<◌, ◌++◌, ◌∷◌, [], List, length, sym, ap, ◌∙◌, subst, arith, option_copied, In, in_last, AreDistinct, numbers, held_in, some_of}
+use Rattle.ghc_trace.proofs.Words.{◌≡◌, ◌+◌, ◌++◌, ◌∷◌, [], length, sym, ap, ◌∙◌, subst, arith, option_copied, In, in_last, AreDistinct, numbers, held_in, some_of}
 use Rattle.std.proofs.Common.{length-append}
 use Rattle.ghc_trace.specs.Causes.{HasNumbered, IsSliceTold}
 use Rattle.ghc_trace.proofs.Slicing.{IsSliced, slice_begin, slice_next, slice_fewer, slice_end, all_in_front, nothing_left}
