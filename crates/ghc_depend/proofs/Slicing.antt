@@ -6,7 +6,9 @@ use Rattle.ghc_depend.specs.Slices.{IsCauseOf, root, cause, Gave, SameFrom, IsSl
 use Rattle.ghc_depend.proofs.Finding.{ends}
 use Rattle.std.specs.Prelude.{Some}
 use Rattle.std.specs.FinMap as finite
+use Rattle.ghc_term.specs.Bindings.{Reaches}
 use Rattle.ghc_term.specs.Goal.{Goal}
+use Rattle.ghc_term.specs.Tree.{variable}
 use Rattle.ghc_match.specs.Looked.{GoalLooksAt}
 use Rattle.ghc_depend.proofs.Results.{bound_by, is_old, untaken}
 use Rattle.ghc_depend.proofs.Placing.{results_of, bound_once, numbered_once}
@@ -34,7 +36,7 @@ module _ (P : Program) (query : Query) (kept : List Record) (t : State) (x : Var
   in_slice : (r : Record) → In r kept → IsCauseOf kept roots r → In r slice
   in_slice r i c = elim (picks_has kept slice r parts.0 i) [ inl j ↦ j | inr n ↦ absurd (n c) ]
 
-  unbound_by_rest : (y : VarName) → Rattle.ghc_term.specs.Bindings.Reaches (value_at t.store) (Rattle.ghc_term.specs.Tree.variable x) y → ¬ IsBoundIn rest y
+  unbound_by_rest : (y : VarName) → Reaches (value_at t.store) (variable x) y → ¬ IsBoundIn rest y
   unbound_by_rest y reached b = (picks_in kept rest b.0 parts.1 b.1).1 (root (inl (y, reached, b.2)))
 
   alone : (u : State) × Replays P query slice u × IsVariableOf query slice x × SameFrom x (value_at t.store) (value_at u.store)
