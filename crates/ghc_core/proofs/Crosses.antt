@@ -91,16 +91,16 @@ state_sync : IsSync state.the_row
 state_sync = search (goals_sync, term_sync, crosses, sendable) depth 60 fits 20000
 
 slots_send : IsSend slots.the_row
-slots_send = search (taken_send, crosses, sendable) depth 60 fits 20000
+slots_send = search (taken_send, maps.crosses, crosses, sendable) depth 60 fits 20000
 
 slots_sync : IsSync slots.the_row
-slots_sync = search (taken_sync, crosses, sendable) depth 60 fits 20000
+slots_sync = search (taken_sync, maps.crosses, crosses, sendable) depth 60 fits 20000
 
 use_index_send : IsSend use_index.the_row
-use_index_send = search (crosses, sendable) depth 60 fits 20000
+use_index_send = search (maps.crosses, crosses, sendable) depth 60 fits 20000
 
 use_index_sync : IsSync use_index.the_row
-use_index_sync = search (crosses, sendable) depth 60 fits 20000
+use_index_sync = search (maps.crosses, crosses, sendable) depth 60 fits 20000
 
 records_send : IsSend records.the_row
 records_send = search (slots_send, use_index_send, crosses, sendable) depth 60 fits 20000
