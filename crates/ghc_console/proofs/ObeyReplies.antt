@@ -1,6 +1,7 @@
 -- What the texts of replies to commands of the core say.
-use Rattle.ghc_console.proofs.CitedWords.{◌≡◌, ◌≢◌, ◌⊎◌, ◌∙◌, inl, inr, sym, subst, ap, List, ℕ, Result, Ok, Err, OnOk, OnErr, Fault, a_term, an_ask, IsRefusal, Meter, one_more, World, Command, input, finish, undo, roll, redo, arrange, ask, Fails, opening_stays, CountsInObeying, FiresInObeying, IsObeyed, obeys, refuses, RepliesToAsk, RepliesToInput, unasked, unread, refusal}
+use Rattle.ghc_console.proofs.CitedWords.{◌≡◌, ◌≢◌, ◌⊎◌, ◌∙◌, inl, inr, sym, subst, ap, List, ℕ, Result, Ok, Err, OnOk, OnErr, Fault, a_term, an_ask, IsRefusal, Meter, one_more, World, Command, redo, Fails, opening_stays, CountsInObeying, FiresInObeying, IsObeyed, obeys, refuses, RepliesToAsk, RepliesToInput, unasked, unread, refusal}
 use Rattle.ghc_term.specs.declared.fault.Fault.TheVariants as fault
+use Rattle.ghc_core.proofs.Counted.{redo_decided}
 
 -- a command that is refused
 pub command_refused : (w v : World) (c : Command) (f : Fault) (text : List ℕ) → v ≡ w → (f ≡ fault.Memory) ⊎ Fails w c f → text ≡ refusal f → f ≢ fault.Memory → IsObeyed w c text v
@@ -28,12 +29,9 @@ opening_left w u v c text (Ok t) told kept same = obeyed_leaves_opening w v c te
 opening_left w u v c text (Err e) told kept same = ap (λ (z : World). z.opening) (kept ∙ same)
 
 -- What a command counted it fired, where nothing was fired before and behind it.
-pub fires_as_counted : (c : Command) (m n : Meter) (before after : ℕ) → m.firings ≡ before → CountsInObeying c m n → after ≡ n.firings → FiresInObeying c before after
-fires_as_counted (input k t) m n before after old counted new = new ∙ ap (λ (z : Meter). z.firings) counted ∙ old
-fires_as_counted (finish k) m n before after old counted new = new ∙ ap (λ (z : Meter). z.firings) counted ∙ old
-fires_as_counted (undo k) m n before after old counted new = new ∙ ap (λ (z : Meter). z.firings) counted ∙ old
-fires_as_counted (roll k) m n before after old counted new = new ∙ ap (λ (z : Meter). z.firings) counted ∙ old
-fires_as_counted (redo k) m n before after old (inl none) new = inl (new ∙ ap (λ (z : Meter). z.firings) none ∙ old)
-fires_as_counted (redo k) m n before after old (inr once) new = inr (new ∙ ap (λ (z : Meter). z.firings) once ∙ ap one_more old)
-fires_as_counted (arrange order) m n before after old counted new = new ∙ ap (λ (z : Meter). z.firings) counted ∙ old
-fires_as_counted (ask gs) m n before after old counted new = new ∙ ap (λ (z : Meter). z.firings) counted ∙ old
+pub fires_as_counted : (w : World) (c : Command) (m n : Meter) (before after : ℕ) → m.firings ≡ before → CountsInObeying w c m n → after ≡ n.firings → FiresInObeying c before after
+fires_as_counted w (redo k) m n before after old counted new = elim (redo_decided w k) [
+  | inl refused ↦ inl (new ∙ ap (λ (z : Meter). z.firings) (counted.0 refused) ∙ old)
+  | inr possible ↦ inr (new ∙ ap (λ (z : Meter). z.firings) (counted.1 possible) ∙ ap one_more old)
+]
+fires_as_counted w c m n before after old counted new = new ∙ ap (λ (z : Meter). z.firings) counted ∙ old

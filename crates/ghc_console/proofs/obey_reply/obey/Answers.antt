@@ -34,10 +34,10 @@ returns-in_err-settle-clause-firings c = obeys_nothing (command_of c.args.comman
 
 pub returns-in-Ok-clause-firings : goal.returns-in-Ok-clause-firings
 returns-in-Ok-clause-firings c =
-    fires_as_counted (command_of c.args.command.now) c.settle.new.core.meter c.prepare_command.new.self.meter c.args.core.now.meter.firings c.carry_out.new.core.meter.firings c.in_ok-settle.ensures.firings c.in-Ok.ensures.counted
+    fires_as_counted c.settle.new.core.world (command_of c.args.command.now) c.settle.new.core.meter c.prepare_command.new.self.meter c.args.core.now.meter.firings c.carry_out.new.core.meter.firings c.in_ok-settle.ensures.firings c.in-Ok.ensures.counted
     c.carry_out.ensures.firings
 
 pub returns-in-Err-clause-firings : goal.returns-in-Err-clause-firings
 returns-in-Err-clause-firings c =
     let counts = c.prepare_command.new.self.meter in
-    fires_as_counted (command_of c.args.command.now) c.settle.new.core.meter counts c.args.core.now.meter.firings counts.firings c.in_ok-settle.ensures.firings c.in-Err.ensures.counted refl
+    fires_as_counted c.settle.new.core.world (command_of c.args.command.now) c.settle.new.core.meter counts c.args.core.now.meter.firings counts.firings c.in_ok-settle.ensures.firings c.in-Err.ensures.counted refl
