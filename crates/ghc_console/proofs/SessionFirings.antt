@@ -5,24 +5,14 @@ use Rattle.ghc_core.specs.Events as command
 
 -- obeying a command of the core may fire nothing
 pub obeys_nothing : (c : Command) (m n : ℕ) → n ≡ m → FiresInObeying c m n
-obeys_nothing (command.input k t) m n e = e
-obeys_nothing (command.finish k) m n e = e
-obeys_nothing (command.undo k) m n e = e
-obeys_nothing (command.roll k) m n e = e
 obeys_nothing (command.redo k) m n e = inl e
-obeys_nothing (command.arrange order) m n e = e
-obeys_nothing (command.ask gs) m n e = e
+obeys_nothing c m n e = e
 
 -- and no more than it asks for
 obeys_few : (c : Command) (m n : ℕ) → FiresInObeying c m n → n ≤ m + firings_of_obeying c
-obeys_few (command.input k t) m n e = omega (arith, e)
-obeys_few (command.finish k) m n e = omega (arith, e)
-obeys_few (command.undo k) m n e = omega (arith, e)
-obeys_few (command.roll k) m n e = omega (arith, e)
 obeys_few (command.redo k) m n (inl e) = omega (arith, e)
 obeys_few (command.redo k) m n (inr e) = omega (arith, e)
-obeys_few (command.arrange order) m n e = omega (arith, e)
-obeys_few (command.ask gs) m n e = omega (arith, e)
+obeys_few c m n e = omega (arith, e)
 
 -- a command may fire nothing
 pub fires_nothing : (c : LineCommand) (m n : ℕ) → n ≡ m → Fires c m n
@@ -30,21 +20,7 @@ fires_nothing (Step goal choice) m n e = inl e
 fires_nothing (Obey c) m n e = obeys_nothing (core_command_of c) m n e
 fires_nothing (Leap limit) m n e = tt
 fires_nothing (Skip goal) m n e = tt
-fires_nothing Nothing m n e = e
-fires_nothing (Show word) m n e = e
-fires_nothing Records m n e = e
-fires_nothing Goals m n e = e
-fires_nothing (Why number) m n e = e
-fires_nothing (Who word) m n e = e
-fires_nothing Shelf m n e = e
-fires_nothing Save m n e = e
-fires_nothing SaveSteps m n e = e
-fires_nothing (Spy name arity) m n e = e
-fires_nothing (Unspy name arity) m n e = e
-fires_nothing (Input stream given) m n e = e
-fires_nothing (Ask given) m n e = e
-fires_nothing Quit m n e = e
-fires_nothing Unknown m n e = e
+fires_nothing c m n e = e
 
 -- and where it is no run, no more than it asks for
 fires_few : (c : LineCommand) (m n : ℕ) → runs_of c ≡ 0 → Fires c m n → n ≤ m + firings_of c
@@ -53,21 +29,7 @@ fires_few (Step goal choice) m n none (inr e) = omega (arith, e)
 fires_few (Obey c) m n none fires = obeys_few (core_command_of c) m n fires
 fires_few (Leap limit) m n none e = absurd (omega (arith, none))
 fires_few (Skip goal) m n none e = absurd (omega (arith, none))
-fires_few Nothing m n none e = omega (arith, e)
-fires_few (Show word) m n none e = omega (arith, e)
-fires_few Records m n none e = omega (arith, e)
-fires_few Goals m n none e = omega (arith, e)
-fires_few (Why number) m n none e = omega (arith, e)
-fires_few (Who word) m n none e = omega (arith, e)
-fires_few Shelf m n none e = omega (arith, e)
-fires_few Save m n none e = omega (arith, e)
-fires_few SaveSteps m n none e = omega (arith, e)
-fires_few (Spy name arity) m n none e = omega (arith, e)
-fires_few (Unspy name arity) m n none e = omega (arith, e)
-fires_few (Input stream given) m n none e = omega (arith, e)
-fires_few (Ask given) m n none e = omega (arith, e)
-fires_few Quit m n none e = omega (arith, e)
-fires_few Unknown m n none e = omega (arith, e)
+fires_few c m n none e = omega (arith, e)
 
 -- where no line is a run, none that is left is one, and with those no more was fired than the lines ask for
 abbrev pub FiredSo : Option (List ℕ) → Option (List ℕ) → ℕ → ℕ → Type 0

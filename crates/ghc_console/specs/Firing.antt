@@ -10,12 +10,7 @@ use Rattle.ghc_console.specs.declared.command.LineCommand.TheVariants.{Nothing, 
 -- FiresInObeying c old new: obeying the command c of the core takes the count of firings from old to new: a redo fires once, or not at all where it is refused before; no other command fires.
 abbrev pub FiresInObeying : Command → ℕ → ℕ → Type 0
 FiresInObeying (redo n) old new = (new ≡ old) ⊎ (new ≡ one_more old)
-FiresInObeying (input k t) old new = new ≡ old
-FiresInObeying (finish k) old new = new ≡ old
-FiresInObeying (undo n) old new = new ≡ old
-FiresInObeying (roll n) old new = new ≡ old
-FiresInObeying (arrange order) old new = new ≡ old
-FiresInObeying (ask gs) old new = new ≡ old
+FiresInObeying c old new = new ≡ old
 
 -- Fires c old new: carrying out the command c takes the count of firings from old to new. A step or a redo fires once in the core, or not at all where it is refused before; of a run nothing is said; no other command fires.
 abbrev pub Fires : LineCommand → ℕ → ℕ → Type 0
@@ -23,53 +18,18 @@ Fires (Step goal choice) old new = (new ≡ old) ⊎ (new ≡ one_more old)
 Fires (Obey c) old new = FiresInObeying (core_command_of c) old new
 Fires (Leap limit) old new = Unit {0}
 Fires (Skip goal) old new = Unit {0}
-Fires Nothing old new = new ≡ old
-Fires (Show word) old new = new ≡ old
-Fires Records old new = new ≡ old
-Fires Goals old new = new ≡ old
-Fires (Why number) old new = new ≡ old
-Fires (Who word) old new = new ≡ old
-Fires Shelf old new = new ≡ old
-Fires Save old new = new ≡ old
-Fires SaveSteps old new = new ≡ old
-Fires (Spy name arity) old new = new ≡ old
-Fires (Unspy name arity) old new = new ≡ old
-Fires (Input stream given) old new = new ≡ old
-Fires (Ask given) old new = new ≡ old
-Fires Quit old new = new ≡ old
-Fires Unknown old new = new ≡ old
+Fires c old new = new ≡ old
 
 -- how many firings a command of the core may ask for
 abbrev pub firings_of_obeying : Command → ℕ
 firings_of_obeying (redo n) = 1
-firings_of_obeying (input k t) = 0
-firings_of_obeying (finish k) = 0
-firings_of_obeying (undo n) = 0
-firings_of_obeying (roll n) = 0
-firings_of_obeying (arrange order) = 0
-firings_of_obeying (ask gs) = 0
+firings_of_obeying c = 0
 
 -- how many firings a command that is no run may ask for
 abbrev pub firings_of : LineCommand → ℕ
 firings_of (Step goal choice) = 1
 firings_of (Obey c) = firings_of_obeying (core_command_of c)
-firings_of (Leap limit) = 0
-firings_of (Skip goal) = 0
-firings_of Nothing = 0
-firings_of (Show word) = 0
-firings_of Records = 0
-firings_of Goals = 0
-firings_of (Why number) = 0
-firings_of (Who word) = 0
-firings_of Shelf = 0
-firings_of Save = 0
-firings_of SaveSteps = 0
-firings_of (Spy name arity) = 0
-firings_of (Unspy name arity) = 0
-firings_of (Input stream given) = 0
-firings_of (Ask given) = 0
-firings_of Quit = 0
-firings_of Unknown = 0
+firings_of c = 0
 
 -- how many runs a command asks for
 abbrev pub runs_of : LineCommand → ℕ

@@ -202,25 +202,8 @@ Replies workers spies w unknown text v = (text ≡ refusal Fault.Command) × (v 
 
 -- The command ends the session.
 abbrev pub quits : LineCommand → Bool
-quits nothing = false
-quits (step g choice) = false
-quits (obey c) = false
-quits (show word) = false
-quits records = false
-quits goals = false
-quits (why n) = false
-quits (who word) = false
-quits shelf = false
-quits save = false
-quits save_steps = false
-quits (spy f n) = false
-quits (unspy f n) = false
-quits (input k given) = false
-quits (ask given) = false
-quits (leap limit) = false
-quits (skip g) = false
 quits quit = true
-quits unknown = false
+quits c = false
 
 -- Answers s c text t: the reply to the command c in the state s is the text, and it leaves the state t.
 pub record Answers (s : SessionState) (c : LineCommand) (text : List ℕ) (t : SessionState) : Type 0 where

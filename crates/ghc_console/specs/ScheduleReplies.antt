@@ -65,21 +65,7 @@ PlaysCommand nothing old reply new = (reply ≡ None) × (new ≡ old)
 PlaysCommand (obey c) old reply new = IsPlayed (command (core_command_of c)) old reply new
 PlaysCommand (input k given) old reply new = IsGiven k given old reply new
 PlaysCommand (ask given) old reply new = IsAskedOf given old reply new
-PlaysCommand (step g choice) old reply new = IsTurnedDown Fault.Command old reply new
-PlaysCommand (show word) old reply new = IsTurnedDown Fault.Command old reply new
-PlaysCommand records old reply new = IsTurnedDown Fault.Command old reply new
-PlaysCommand goals old reply new = IsTurnedDown Fault.Command old reply new
-PlaysCommand (why n) old reply new = IsTurnedDown Fault.Command old reply new
-PlaysCommand (who word) old reply new = IsTurnedDown Fault.Command old reply new
-PlaysCommand shelf old reply new = IsTurnedDown Fault.Command old reply new
-PlaysCommand save old reply new = IsTurnedDown Fault.Command old reply new
-PlaysCommand save_steps old reply new = IsTurnedDown Fault.Command old reply new
-PlaysCommand (spy f n) old reply new = IsTurnedDown Fault.Command old reply new
-PlaysCommand (unspy f n) old reply new = IsTurnedDown Fault.Command old reply new
-PlaysCommand (leap limit) old reply new = IsTurnedDown Fault.Command old reply new
-PlaysCommand (skip g) old reply new = IsTurnedDown Fault.Command old reply new
-PlaysCommand quit old reply new = IsTurnedDown Fault.Command old reply new
-PlaysCommand unknown old reply new = IsTurnedDown Fault.Command old reply new
+PlaysCommand c old reply new = IsTurnedDown Fault.Command old reply new
 
 -- What a line does that says what it says at the console: what its command does; or, where reading it takes memory, that was refused, which changes nothing.
 pub data IsDoneAsConsole (bytes : List ℕ) (old : Played) (reply : Option Reply) (new : Played) : Type 0 where
