@@ -24,6 +24,8 @@ const HANDS: u32 = 64;
 fn write<D: Device>(device: &mut D, bytes: &[u8]) -> Result<(), Fault>
     ensures written { WritesFront (D.written device.old) (D.written device.new) result bytes.now }
     ensures unread { Keeps (D.unread device.old) (D.unread device.new) }
+    ensures earlier { D.earlier device.new ≡ D.earlier device.old }
+    ensures latest { D.latest device.new ≡ D.latest device.old }
     ensures ends { EndsSo (D.failures device.old) (D.failures device.new) result }
 {
     match write_all(device, bytes) {
@@ -36,6 +38,8 @@ fn write<D: Device>(device: &mut D, bytes: &[u8]) -> Result<(), Fault>
 fn write_reply<D: Device>(device: &mut D, reply: &Reply, text: &mut String) -> Result<(), Fault>
     ensures written { WritesFront (D.written device.old) (D.written device.new) result (reply_text (reply_of reply.now)) }
     ensures unread { Keeps (D.unread device.old) (D.unread device.new) }
+    ensures earlier { D.earlier device.new ≡ D.earlier device.old }
+    ensures latest { D.latest device.new ≡ D.latest device.old }
     ensures ends { EndsSo (D.failures device.old) (D.failures device.new) result }
 {
     if let Reply::Refused(Fault::Memory) = reply {
@@ -58,6 +62,8 @@ fn play_line<D: Device>(
 ) -> Result<(), Fault>
     ensures played { PlaysLine line.now world.old world.new (D.written device.old) (D.written device.new) result }
     ensures unread { Keeps (D.unread device.old) (D.unread device.new) }
+    ensures earlier { D.earlier device.new ≡ D.earlier device.old }
+    ensures latest { D.latest device.new ≡ D.latest device.old }
     ensures ends { EndsSo (D.failures device.old) (D.failures device.new) result }
 {
     match hear(alloc, world, line) {
@@ -70,6 +76,8 @@ fn play_line<D: Device>(
 fn write_records<D: Device>(core: &Core, device: &mut D, text: &mut String) -> Result<(), Fault>
     ensures written { WritesFront (D.written device.old) (D.written device.new) result (records_text core.now.world.kept) }
     ensures unread { Keeps (D.unread device.old) (D.unread device.new) }
+    ensures earlier { D.earlier device.new ≡ D.earlier device.old }
+    ensures latest { D.latest device.new ≡ D.latest device.old }
     ensures ends { EndsSo (D.failures device.old) (D.failures device.new) result }
 {
     text.clear();
@@ -88,6 +96,8 @@ fn play_lines<D: Device>(
 ) -> Result<(), Fault>
     ensures played { ArePlayedOut world.old (lines_of lines.now) (D.written device.old) (D.written device.new) world.new result }
     ensures unread { Keeps (D.unread device.old) (D.unread device.new) }
+    ensures earlier { D.earlier device.new ≡ D.earlier device.old }
+    ensures latest { D.latest device.new ≡ D.latest device.old }
     ensures ends { EndsSo (D.failures device.old) (D.failures device.new) result }
 {
     let mut text = String::new(alloc);
@@ -117,7 +127,11 @@ pub fn schedule<D: Device>(
 ) -> (Core, Result<(), Fault>)
     // What is written is the replies to the lines and the records, or a beginning of that where it was broken off.
     ensures played { IsScheduleOf core text.now (D.written device.old) (D.written device.new) result.0 result.1 }
+
+    // Nothing is read: the counts of what reads gave are as they were, whatever they were.
     ensures unread { Keeps (D.unread device.old) (D.unread device.new) }
+    ensures earlier { D.earlier device.new ≡ D.earlier device.old }
+    ensures latest { D.latest device.new ≡ D.latest device.old }
 
     // It fails for want of memory, or where the device did.
     ensures ends { EndsSo (D.failures device.old) (D.failures device.new) result.1 }

@@ -8,6 +8,8 @@ loop-line-preserved g c =
       going_on _ _ _ _ _ _ _ _ _ _ _ c.loop-line.invariant.0 c.in-Some.ensures.found told.played.heard told.played.told,
       Keeps-trans _ _ _ c.loop-line.invariant.1 told.unread,
       told.ends ∙ c.loop-line.invariant.2,
+      told.earlier ∙ c.loop-line.invariant.3,
+      told.latest ∙ c.loop-line.invariant.4,
     )
 
 pub returns-in-Err-clause-played : goal.returns-in-Err-clause-played

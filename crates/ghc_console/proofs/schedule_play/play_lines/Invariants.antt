@@ -7,6 +7,7 @@ invariant-loop-line g l =
     let d = g.D.Device in
     Going l.initial.world l.world (lines_of l.lines) (lines_of l.rest) (d.written l.initial.device) (d.written l.device)
     × Keeps (d.unread l.initial.device) (d.unread l.device) × (d.failures l.device ≡ d.failures l.initial.device)
+    × (d.earlier l.device ≡ d.earlier l.initial.device) × (d.latest l.device ≡ d.latest l.initial.device)
 
 abbrev pub decreases-loop-line : goal.decreases-loop-line
 decreases-loop-line g l = length l.rest
