@@ -4,7 +4,7 @@
 Each read of standard input and each write of standard output of two sessions fails once, in turn. What is written has to be what
 was written before that call, and nothing behind it; the status is 3, with `session: F26 device`. Then the lines of a shell below
 are tried, each in a folder of its own, for what a system does itself: ends that are closed, a reader that goes away, a full
-device, a file that may not grow, memory that runs out, and files that do not end.
+device, a file that may not grow, memory that runs out, files that do not end, and a signal in a run.
 
 It needs a C compiler; where there is none that is said, and nothing is tried. The last line is `N passed, M failed`.
 """
@@ -22,6 +22,11 @@ from refusing import PROGRAM, SECONDS, TESTS, Session, tried
 EXAMPLES = TESTS.parent / "examples"
 DEVICE = b"session: F26 device\n"
 LOOP = "loop(X) :- true | loop(X).\n"
+# Each step of `busy` compares two lists, so a run of it takes minutes.
+BUSY = (
+    "list(0,L,D) :- true | L = [], D = done. list(N,L,D) :- N > 0 | L = [N|T], M := N - 1, list(M,T,D). "
+    "busy(done,done,L,M) :- true | L = M, busy(done,done,L,M)."
+)
 STEPS = "\n".join(f"REDU {n} {n - 1}.1 by 1" for n in range(1, 1001)) + "\nstopped limit\n"
 
 
@@ -88,6 +93,12 @@ SHELLS = [
     Shell(
         "a history has no end",
         "ulimit -v 60000; { echo ghc-history 1; cat /dev/zero; } | { $ghcdb append.ghc --query true --load /dev/stdin; }", "", "history: F1 no memory\n", 1,
+    ),
+    Shell(
+        "what was replied before a run is written when a signal ends it",
+        f"echo '{BUSY}' >busy.ghc; printf 'leap 1\\nsave\\nleap\\n' |"
+        " timeout -s INT 2 $ghcdb busy.ghc --query 'list(200,L,D), list(200,M,E), busy(D,E,L,M)'; echo $?",
+        "REDU 1 0.2 by 2\nstopped limit\nghc-history 2\nopening 0 1\nentries 1\n1 0.2 by 2\nspies 0\nend 2\n124\n",
     ),
 ]
 

@@ -1,7 +1,8 @@
 -- What it is to have served a line.
-use Rattle.ghc_console.proofs.CitedWords.{◌≡◌, ◌≤◌, ℕ, Bool, true, false, Option, List, length, take, refl, sym, subst, Result, Ok, Err, MatchResult, Appends, GoalName, AsksForRun, HasRun, IsAnsweredBy, ServesSo, command_of, Counts, WritesFront, line_limit, IsReply, refusal, Served, SessionState, Answered, Told as told, Ends as ends, Asks as asks}
+use Rattle.ghc_console.proofs.CitedWords.{◌≡◌, ◌≤◌, ℕ, Bool, true, false, Option, List, [], length, take, refl, sym, subst, Result, Ok, Err, MatchResult, Appends, Keeps, Appends-kept, Appends-nil, GoalName, AsksForRun, HasRun, IsAnsweredBy, ServesSo, command_of, Counts, WritesFront, line_limit, IsReply, refusal, no_memory, Served, SessionState, Answered, Told as told, Ends as ends, Asks as asks}
 use Rattle.ghc_term.specs.declared.fault.Fault.TheVariants as fault
 use Rattle.ghc_console.proofs.RunCommands.{run_replied}
+use Rattle.ghc_console.proofs.SessionLoop.{kept_then}
 
 -- what is said of the answer to a line, with the text that was written for it
 abbrev IsAnswer : {E : Type 0} → SessionState → SessionState → List ℕ → List ℕ → Result Answered E → Type 0
@@ -34,6 +35,15 @@ pub breaks : {E : Type 0} (error : E) (s t : SessionState) (bytes text out : Lis
     → Served {E = E} s bytes t old new (Err error)
 breaks error s t bytes text out ended old new reply is wrote = record { text = text; ended = ended; reply = reply; written = (wrote.0, subst (λ l. Appends old new (take wrote.0 l)) is wrote.1) }
 
+-- what was written before could not be handed on, so the run was not made, and nothing was written for it
+pub not_run : {E : Type 0} (error : E) (s t : SessionState) (bytes : List ℕ) (old new : Option (List ℕ)) → t ≡ s → Keeps old new → Served {E = E} s bytes t old new (Err error)
+not_run error s t bytes old new same kept = record {
+  text = refusal fault.Memory;
+  ended = false;
+  reply = subst (λ u. IsReply s bytes (refusal fault.Memory) u false) (sym same) no_memory;
+  written = (0, Appends-kept _ _ _ [] (Appends-nil old) kept);
+}
+
 -- what was written, by whether a call failed
 abbrev HasWritten : {E : Type 0} → Option (List ℕ) → Option (List ℕ) → List ℕ → Bool → Result Bool E → Type 0
 HasWritten old new text ended r = MatchResult r (λ b. (b ≡ ended) × Appends old new text) (λ _. (n : ℕ) × Appends old new (take n text))
@@ -52,7 +62,7 @@ pub has_ended : {E : Type 0} (s t : SessionState) (bytes : List ℕ) (old new : 
 has_ended {E} s t bytes old new r a e is h = has_served {E = E} s t bytes old new true (subst (λ b. ServesSo {E = E} s bytes t old new (Ok b)) is (subst (ServesSo {E = E} s bytes t old new) e h))
 
 pub has_asked : {E : Type 0} (s t : SessionState) (bytes : List ℕ) (old new : Option (List ℕ)) (r : Result Answered E) (a : Answered) (root : Option GoalName) (limit : ℕ) → r ≡ Ok a → a ≡ asks root limit → ServesSo s bytes t old new r
-    → (t ≡ s) × (new ≡ old) × (length bytes ≤ line_limit) × AsksForRun s.world (command_of bytes) root limit
+    → (t ≡ s) × Keeps old new × (length bytes ≤ line_limit) × AsksForRun s.world (command_of bytes) root limit
 has_asked {E} s t bytes old new r a root limit e is h = subst (λ b. ServesSo {E = E} s bytes t old new (Ok b)) is (subst (ServesSo {E = E} s bytes t old new) e h)
 
 pub has_broken : {E : Type 0} (s t : SessionState) (bytes : List ℕ) (old new : Option (List ℕ)) (r : Result Answered E) (error : E) → r ≡ Err error → ServesSo s bytes t old new r
@@ -64,19 +74,19 @@ has_broken {E} s t bytes old new r error e h =
 
 -- the run for which a line asks was made, and its text written, or a beginning of it
 pub has_run : {E : Type 0} (s t u : SessionState) (bytes : List ℕ) (old now new : Option (List ℕ)) (root : Option GoalName) (limit : ℕ) (r : Result Unit E) (one : Unit)
-    → (t ≡ s) × (now ≡ old) × (length bytes ≤ line_limit) × AsksForRun s.world (command_of bytes) root limit
+    → (t ≡ s) × Keeps old now × (length bytes ≤ line_limit) × AsksForRun s.world (command_of bytes) root limit
     → (text : List ℕ) × HasRun t root limit text u × WritesFront now new r text → r ≡ Ok one
     → (text : List ℕ) × IsReply s bytes text u false × Appends old new text
 has_run {E} s t u bytes old now new root limit r one asked ran is =
     let run : HasRun s root limit ran.0 u = subst (λ v. HasRun v root limit ran.0 u) asked.0 ran.1 in
-    let wrote : WritesFront {E = E} old new (Ok one) ran.0 = subst (λ q. WritesFront {E = E} old new q ran.0) is (subst (λ l. WritesFront {E = E} l new r ran.0) asked.1 ran.2) in
-    (ran.0, run_replied s u bytes root limit ran.0 asked.2 asked.3 run, wrote)
+    let wrote : WritesFront {E = E} now new (Ok one) ran.0 = subst (λ q. WritesFront {E = E} now new q ran.0) is ran.2 in
+    (ran.0, run_replied s u bytes root limit ran.0 asked.2 asked.3 run, kept_then old now new ran.0 asked.1 wrote)
 
 pub has_broken_run : {E : Type 0} (s t u : SessionState) (bytes : List ℕ) (old now new : Option (List ℕ)) (root : Option GoalName) (limit : ℕ) (r : Result Unit E) (error : E)
-    → (t ≡ s) × (now ≡ old) × (length bytes ≤ line_limit) × AsksForRun s.world (command_of bytes) root limit
+    → (t ≡ s) × Keeps old now × (length bytes ≤ line_limit) × AsksForRun s.world (command_of bytes) root limit
     → (text : List ℕ) × HasRun t root limit text u × WritesFront now new r text → r ≡ Err error
     → (text : List ℕ) × (ended : Bool) × IsReply s bytes text u ended × ((n : ℕ) × Appends old new (take n text))
 has_broken_run {E} s t u bytes old now new root limit r error asked ran is =
     let run : HasRun s root limit ran.0 u = subst (λ v. HasRun v root limit ran.0 u) asked.0 ran.1 in
-    let wrote : WritesFront {E = E} old new (Err error) ran.0 = subst (λ q. WritesFront {E = E} old new q ran.0) is (subst (λ l. WritesFront {E = E} l new r ran.0) asked.1 ran.2) in
-    (ran.0, false, run_replied s u bytes root limit ran.0 asked.2 asked.3 run, wrote)
+    let wrote : WritesFront {E = E} now new (Err error) ran.0 = subst (λ q. WritesFront {E = E} now new q ran.0) is ran.2 in
+    (ran.0, false, run_replied s u bytes root limit ran.0 asked.2 asked.3 run, (wrote.0, kept_then old now new _ asked.1 wrote.1))

@@ -1,6 +1,7 @@
 -- What lines are answered with.
 use Rattle.std.specs.Prelude.{◌≡◌, ◌≤◌, ℕ, false, true, List, length, Option, None, Some, Result, Ok, Err}
 use Rattle.std.specs.FinMap as finite
+use Rattle.std.specs.Io.KnownBytes.{Keeps}
 use Rattle.ghc_term.specs.declared.goal_name.GoalName.{GoalName}
 use Rattle.ghc_term.specs.Goal.{Goal}
 use Rattle.ghc_core.specs.World.{World}
@@ -38,9 +39,14 @@ pub record HasRun (s : SessionState) (root : Option GoalName) (limit : ℕ) (tex
   pub spies : t.spies ≡ s.spies
   pub workers : t.workers ≡ s.workers
 
+-- Where a run is asked for, this holds.
+abbrev pub IfAsksForRun : Answered → Type 0 → Type 0
+IfAsksForRun (asks root limit) Holds = Holds
+IfAsksForRun answered Holds = Unit {0}
+
 -- ServesSo s line t old new result: the line was served, and the session goes on or ends, or a call failed. Or the line asks for a run in the state s, which is left, and nothing was written.
 abbrev pub ServesSo : {E : Type 0} → SessionState → List ℕ → SessionState → Option (List ℕ) → Option (List ℕ) → Result Answered E → Type 0
 ServesSo {E} s line t old new (Ok told) = Served {E = E} s line t old new (Ok false)
 ServesSo {E} s line t old new (Ok ends) = Served {E = E} s line t old new (Ok true)
-ServesSo s line t old new (Ok (asks root limit)) = (t ≡ s) × (new ≡ old) × (length line ≤ line_limit) × AsksForRun s.world (command_of line) root limit
+ServesSo s line t old new (Ok (asks root limit)) = (t ≡ s) × Keeps old new × (length line ≤ line_limit) × AsksForRun s.world (command_of line) root limit
 ServesSo s line t old new (Err e) = Served s line t old new (Err e)

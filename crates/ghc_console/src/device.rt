@@ -50,6 +50,16 @@ pub trait Device {
         ensures count { Counts (failures self.old) (failures self.new) result }
         ensures earlier { earlier self.new ≡ earlier self.old }
         ensures latest { latest self.new ≡ latest self.old };
+
+    /// Hands on what it holds back.
+    fn flush(&mut self) -> Result<(), Broken>
+        ensures held { OnOk result (held self.new ≡ []) }
+        ensures tail { EndsWith (written self.new) (held self.new) }
+        ensures unread { Keeps (unread self.old) (unread self.new) }
+        ensures written { Keeps (written self.old) (written self.new) }
+        ensures count { Counts (failures self.old) (failures self.new) result }
+        ensures earlier { earlier self.new ≡ earlier self.old }
+        ensures latest { latest self.new ≡ latest self.old };
 }
 
 /// Writes all the bytes, or a front of them where a call fails, which is the last call. At most one call for each byte.

@@ -102,26 +102,6 @@ impl<R: Read, W: Write + Drop, L: Ledger> Lines<R, W, L> {
         }
     }
 
-    /// Hands on what the buffer holds. A failure is counted.
-    pub fn flush(&mut self) -> Result<(), Broken>
-        ensures held { OnOk result (self.new.held ≡ []) }
-        ensures tail { EndsWith self.new.written self.new.held }
-        ensures unread { self.new.unread ≡ self.old.unread }
-        ensures written { Keeps self.old.written self.new.written }
-        ensures count { Counts self.old.failures self.new.failures result }
-        ensures earlier { self.new.earlier ≡ self.old.earlier }
-        ensures latest { self.new.latest ≡ self.old.latest }
-        ensures broken { StaysBroken self.old.failures self.old.handed self.new.handed result }
-    {
-        if self.calls.has_failed() {
-            return Err(self.calls.fail());
-        }
-        match hand_on(&mut self.writer) {
-            Ok(()) => Ok(()),
-            Err(Broken) => Err(self.calls.fail()),
-        }
-    }
-
     /// The reader, and the writer behind the buffer. What the buffer holds is not handed on.
     pub fn into_parts(self) -> (R, W)
         ensures reader { R.remaining result.0 ≡ self.unread }
@@ -204,6 +184,26 @@ impl<R: Read, W: Write + Drop, L: Ledger> Device for Lines<R, W, L> {
         }
         match write_some(&mut self.writer, bytes) {
             Ok(n) => Ok(n),
+            Err(Broken) => Err(self.calls.fail()),
+        }
+    }
+
+    /// As `Device` has it; where a call has failed before, it fails, and hands nothing on.
+    fn flush(&mut self) -> Result<(), Broken>
+        ensures held { OnOk result (self.new.held ≡ []) }
+        ensures tail { EndsWith self.new.written self.new.held }
+        ensures unread { Keeps self.old.unread self.new.unread }
+        ensures written { Keeps self.old.written self.new.written }
+        ensures count { Counts self.old.failures self.new.failures result }
+        ensures earlier { self.new.earlier ≡ self.old.earlier }
+        ensures latest { self.new.latest ≡ self.old.latest }
+        ensures broken { StaysBroken self.old.failures self.old.handed self.new.handed result }
+    {
+        if self.calls.has_failed() {
+            return Err(self.calls.fail());
+        }
+        match hand_on(&mut self.writer) {
+            Ok(()) => Ok(()),
             Err(Broken) => Err(self.calls.fail()),
         }
     }

@@ -173,4 +173,17 @@ impl<L: Ledger> Device for Script<L> {
         }
         Ok(bytes.len())
     }
+
+    /// As `Device` has it; it holds nothing back, so there is nothing to do.
+    fn flush(&mut self) -> Result<(), Broken>
+        ensures tail { EndsWith (Some self.new.written) [] }
+        ensures unread { Keeps (Some self.old.unread) (Some self.new.unread) }
+        ensures written { Keeps (Some self.old.written) (Some self.new.written) }
+        ensures count { Counts self.old.failures self.new.failures result }
+        ensures earlier { self.new.earlier ≡ self.old.earlier }
+        ensures latest { self.new.latest ≡ self.old.latest }
+        ensures counted { self.new.fails_after ≡ self.old.fails_after }
+    {
+        Ok(())
+    }
 }

@@ -1,7 +1,7 @@
 // The session: lines are read, and their replies written.
-ghost use Rattle.std.specs.Prelude.{◌≡◌, ◌+◌, ◌-◌, ◌≤◌, ℕ, List, IfErr, IfSome, OnOk, MatchResult};
+ghost use Rattle.std.specs.Prelude.{◌≡◌, ◌+◌, ◌-◌, ◌≤◌, ℕ, List, [], IfErr, IfOk, IfSome, OnOk, MatchResult};
 ghost use Rattle.std.specs.Io.KnownBytes.{Keeps};
-ghost use Rattle.ghc_console.specs.Answered.{HasRun, ServesSo};
+ghost use Rattle.ghc_console.specs.Answered.{HasRun, IfAsksForRun, ServesSo};
 ghost use Rattle.ghc_console.specs.Commands.{command_of};
 ghost use Rattle.ghc_console.specs.Device.{Counts, WritesFront};
 ghost use Rattle.ghc_console.specs.Firing.{Fires, firings_in, runs_in};
@@ -34,7 +34,8 @@ pub(crate) fn cut_down(alloc: Global, reply: &mut String) {
     }
 }
 
-// Carries a line out and writes its reply, and says whether the session ends; or says which run the line asks for.
+// Carries a line out and writes its reply, and says whether the session ends; or says which run the line asks for, and hands on what
+// was written before.
 fn serve<D: Device>(
     alloc: Global,
     debugger: &mut Debugger,
@@ -46,6 +47,7 @@ fn serve<D: Device>(
         → ServesSo (state_of debugger.old) bytes (state_of debugger.new) (D.written device.old) (D.written device.new) result }
     ensures opening { debugger.new.core.world.opening ≡ debugger.old.core.world.opening }
     ensures fires { (bytes : List ℕ) → LineSays line.now bytes → Fires (command_of bytes) debugger.old.core.meter.firings debugger.new.core.meter.firings }
+    ensures handed_on { IfOk result (λ answered. IfAsksForRun answered (D.held device.new ≡ [])) }
     ensures unread { Keeps (D.unread device.old) (D.unread device.new) }
     ensures count { Counts (D.failures device.old) (D.failures device.new) result }
     ensures earlier { D.earlier device.new ≡ D.earlier device.old }
@@ -60,7 +62,10 @@ fn serve<D: Device>(
             Ok(()) => Ok(Answered::Ends),
             Err(Broken) => Err(Broken),
         },
-        Ok(Answered::Asks(root, limit)) => Ok(Answered::Asks(root, limit)),
+        Ok(Answered::Asks(root, limit)) => match device.flush() {
+            Ok(()) => Ok(Answered::Asks(root, limit)),
+            Err(Broken) => Err(Broken),
+        },
         Err(_) => match write_all(device, b"F1 no memory\n") {
             Ok(()) => Ok(Answered::Told),
             Err(Broken) => Err(Broken),
@@ -68,8 +73,8 @@ fn serve<D: Device>(
     }
 }
 
-// Makes a run that a line asks for, and writes its lines, one at a time. Here alone is the debugger moved, since several workers
-// take the core.
+// Makes a run that a line asks for, and writes its lines, one at a time. It may take long, or never end, so what was written before
+// is handed on. Here alone is the debugger moved, since several workers take the core.
 #[inline(never)]
 fn serve_run<R: Threads + Wait + Sync, G: Gate + Sync, D: Device>(
     rt: &R,
@@ -81,6 +86,7 @@ fn serve_run<R: Threads + Wait + Sync, G: Gate + Sync, D: Device>(
     limit: u32,
     line: &mut String,
 ) -> (Debugger, Result<(), Broken>)
+    requires handed_on { D.held device.old ≡ [] }
     ensures told { (text : List ℕ) × HasRun (state_of debugger) root limit text (state_of result.0) × WritesFront (D.written device.old) (D.written device.new) result.1 text }
     ensures opening { result.0.core.world.opening ≡ debugger.core.world.opening }
     ensures unread { Keeps (D.unread device.old) (D.unread device.new) }
@@ -95,7 +101,8 @@ fn serve_run<R: Threads + Wait + Sync, G: Gate + Sync, D: Device>(
 
 /// Settles, and answers the lines of the device, up to `quit` or the end of the input. Where a call of the device fails it ends
 /// with `Device`, and the debugger is that after the last line executed. A run is made by as many workers as the debugger says,
-/// which tell the gate; its lines are written behind it, one at a time. Each line costs what its command costs.
+/// which tell the gate; what was written before it is handed on first, and its lines are written behind it, one at a time. Each line
+/// costs what its command costs.
 pub fn session<R: Threads + Wait + Sync, G: Gate + Sync, D: Device>(
     rt: &R,
     alloc: Global,

@@ -5,7 +5,7 @@ ghost use Rattle.ghc_console.specs.SessionState.{state_of};
 ghost use Rattle.ghcdb.specs.Outputs.{HasBeginning, HasReplies};
 
 use crate::no_gate::NoGate;
-use ghc_console::{Broken, Debugger, Lines, session};
+use ghc_console::{Broken, Debugger, Device, Lines, session};
 use ghc_term::Fault;
 use std::alloc::Global;
 use std::io::{BufWriter, Read, Write};

@@ -2,7 +2,7 @@
 ghost use Rattle.std.specs.Prelude.{◌≡◌, ◌⊎◌, ◌<◌, [], Err, IfErr};
 ghost use Rattle.ghc_console.specs.ScheduleText.{IsScheduleOf};
 
-use ghc_console::{Broken, Lines, schedule};
+use ghc_console::{Broken, Device, Lines, schedule};
 use ghc_core::Core;
 use ghc_term::Fault;
 use std::alloc::Global;

@@ -1,5 +1,5 @@
 use Rattle.ghc_console.proofs.CitedWords.{◌≡◌, false, refl, string_bytes, true, Told as told, Ends as ends, Asks as asks, state_of}
-use Rattle.ghc_console.proofs.Served.{asks_run, breaks, ends_reply, serves, starved_reply, told_reply}
+use Rattle.ghc_console.proofs.Served.{asks_run, breaks, ends_reply, not_run, serves, starved_reply, told_reply}
 use Rattle.ghc_console.proofs.session_loop.serve.Goals as goal
 
 pub returns-in-Ok-clause-served : goal.returns-in-Ok-clause-served
@@ -30,12 +30,19 @@ returns-in-Err-write_all-2-clause-served g c bytes says =
     let reply = ends_reply (state_of c.args.debugger.now) (state_of answer.new.debugger) bytes (string_bytes answer.new.reply) answer.result _ c.in-Ok-Ends.is is (answer.ensures.reply bytes says) in
     breaks _ (state_of c.args.debugger.now) (state_of answer.new.debugger) bytes _ _ true _ _ reply c.as_bytes-in-Ok-Ends.ensures.value c.in-Err-write_all-2.ensures.bytes
 
-pub returns-in-Ok-Asks-clause-served : goal.returns-in-Ok-Asks-clause-served
-returns-in-Ok-Asks-clause-served g c bytes says =
+pub returns-in-Ok-flush-clause-served : goal.returns-in-Ok-flush-clause-served
+returns-in-Ok-flush-clause-served g c bytes says =
     let answer = c.answer in
     let is : c.in-Ok-Asks.field-0 ≡ asks c.in-Ok-Asks.root c.in-Ok-Asks.limit = c.in-Ok-Asks.field-0-is in
     let asked = asks_run (state_of c.args.debugger.now) (state_of answer.new.debugger) bytes (string_bytes answer.new.reply) answer.result _ c.in-Ok-Asks.root c.in-Ok-Asks.limit c.in-Ok-Asks.is is (answer.ensures.reply bytes says) in
-    (asked.0, refl, asked.1, asked.2)
+    (asked.0, c.in-Ok-flush.ensures.written, asked.1, asked.2)
+
+pub returns-in-Err-flush-clause-served : goal.returns-in-Err-flush-clause-served
+returns-in-Err-flush-clause-served g c bytes says =
+    let answer = c.answer in
+    let is : c.in-Ok-Asks.field-0 ≡ asks c.in-Ok-Asks.root c.in-Ok-Asks.limit = c.in-Ok-Asks.field-0-is in
+    let asked = asks_run (state_of c.args.debugger.now) (state_of answer.new.debugger) bytes (string_bytes answer.new.reply) answer.result _ c.in-Ok-Asks.root c.in-Ok-Asks.limit c.in-Ok-Asks.is is (answer.ensures.reply bytes says) in
+    not_run _ (state_of c.args.debugger.now) (state_of answer.new.debugger) bytes _ _ asked.0 c.in-Err-flush.ensures.written
 
 pub returns-in-Ok-write_all-2-clause-served : goal.returns-in-Ok-write_all-2-clause-served
 returns-in-Ok-write_all-2-clause-served g c bytes says =
