@@ -10,7 +10,7 @@ pub loop-init : goal.loop-init
 loop-init g c = (tt, tt, rw c.new-ahead.ensures (going_start _ _ _ _ (omega arith)), refl, refl, rw (c.new-ahead.ensures, prepend_known-nil _) (fired_start _ _ _ refl), given_start _ _)
 
 pub serve_run-left-requires : goal.serve_run-left-requires
-serve_run-left-requires g c = record { handed_on = rw c.in-Asks.is at c.in-Ok.ensures.handed_on }
+serve_run-left-requires g c = (search rules, (search rules, rw c.in-Asks.is at c.in-Ok.ensures.handed_on))
 
 pub returns-in-Err-clause-text : goal.returns-in-Err-clause-text
 returns-in-Err-clause-text g c =
