@@ -52,6 +52,7 @@ const Beside = (() => {
     if (isOn() && (beside.kept.given.program !== Talk.given.program || beside.kept.given.query !== Talk.given.query)) beside.kept = null;
   }
 
+  const isComparable = () => Talk.run.graph.count <= MOST_STEPS;
   const told = () => Compare.compare(beside.kept.graph, Talk.run.graph);
 
   /** Rings the steps that the other run has not. */
@@ -67,9 +68,10 @@ const Beside = (() => {
       area.textContent = "";
       return;
     }
-    const { pairs } = told(), others = new Set(pairs.values());
     const drawn = Picture.draw(beside.kept, { ...options, by: "depth", scope: "kept", leastColumns: columns(), legend: false, high: undefined });
     area.innerHTML = drawn.svg.replace(/ data-step="/g, ' data-kept="').replace(/ data-(goal|taken|goto|unfold|from-goal|to-goal)="/g, ' data-kept-$1="');
+    if (!isComparable()) return;
+    const { pairs } = told(), others = new Set(pairs.values());
     ringAlone(area, "kept", (number) => !pairs.has(number));
     ringAlone(find("canvas"), "step", (number) => !others.has(number));
   }
@@ -79,16 +81,18 @@ const Beside = (() => {
 
   /** What is said of both runs. */
   function noteParts() {
+    const drops = make("button", { class: "small", id: "drop-run" }, "Drop it");
+    if (!isComparable()) return [`Above is the run that you kept. This one has more than ${MOST_STEPS} steps: too many to be compared. `, drops];
     const { pairs, alone, otherAlone, first, instead } = told(), step = first === null ? null : beside.kept.graph.byNumber.get(first);
     const words = first === null ? "" : ` The first that differs: step ${first} above (${Graph.wordsOf(step)})`;
     return [`Above is the run that you kept. ${plural(pairs.size, "step")} in both, ${alone} in that one alone, ${otherAlone} in this one (ringed).${words}`,
       ...(instead === null ? [] : [", here step ", goTo(instead), ` (${Graph.wordsOf(Talk.run.graph.byNumber.get(instead))})`]), first === null ? "" : ".", " ",
-      make("button", { class: "small", id: "swap-runs" }, "Swap"), " ", make("button", { class: "small", id: "drop-run" }, "Drop it")];
+      make("button", { class: "small", id: "swap-runs" }, "Swap"), " ", drops];
   }
 
   /** A click on a step of the run that was kept goes to the same step of this one, or tells what it was. */
   function onClick(number) {
-    const { pairs } = told();
+    const pairs = isComparable() ? told().pairs : new Map();
     if (pairs.has(number)) {
       Canvas.choose({ step: pairs.get(number) });
       Canvas.scrollTo(Canvas.chosen);

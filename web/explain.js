@@ -48,43 +48,34 @@ const Explain = ((Graph, Terms) => {
     return { steps, by: steps[steps.length - 1], part };
   }
 
-  /** The elements of a list as far as they are known, `most` at most, each with its path; and the path of what comes behind them. */
-  function elementsOf(graph, term, most) {
-    const elements = [], none = [];
-    let rest = follow(graph, term, none), path = [];
-    while (rest.startsWith("[") && rest !== "[]" && elements.length < most) {
-      const [head, tail] = argumentsOf(rest);
-      elements.push({ term: head, path: [...path, 0] });
-      path = [...path, 1];
-      rest = follow(graph, tail, none);
-    }
-    return { elements, rest, path };
-  }
-
-  /** The steps on which a variable's value rests: those that bound what it reaches, and all their causes. */
+  /** For each step by its index, 1 where a variable's value rests on it: those that bound what it reaches, and all their causes. */
   function sliceOf(graph, variable) {
-    const isIn = new Uint8Array(graph.count), left = [variable], seen = new Set();
+    const left = [variable], seen = new Set(left), binders = [];
     while (left.length > 0) {
-      const next = left.pop(), number = seen.has(next) ? undefined : graph.binderOf(next);
-      seen.add(next);
+      const next = left.pop(), number = graph.binderOf(next);
       if (number === undefined) continue;
-      const index = graph.indexOf(number);
-      if (isIn[index] === 0) Graph.causesReached(graph, index).isIn.forEach((is, at) => { isIn[at] |= is; });
-      left.push(...Graph.variablesIn(graph.termOf(next)));
+      binders.push(graph.indexOf(number));
+      for (const other of Graph.variablesIn(graph.termOf(next))) {
+        if (!seen.has(other)) left.push(other);
+        seen.add(other);
+      }
     }
-    return isIn;
+    return Graph.causesOfAll(graph, binders).isIn;
   }
 
-  /** The steps that have to be rolled back, one after another, so that a slice alone is left; and the numbers of all that go. */
+  /**
+   * The steps that have to be rolled back so that a slice alone is left: those outside it all whose causes are in it. And the numbers of all
+   * that go.
+   */
   function rollsTo(graph, isIn) {
-    const isGone = new Uint8Array(graph.count), rolls = [], gone = new Set();
+    const rolls = [], gone = new Set();
     for (let index = 0; index < graph.count; index++) {
       if (isIn[index] === 1) continue;
-      gone.add(graph.numbers.at(index));
-      if (isGone[index] === 0) {
-        rolls.push(graph.numbers.at(index));
-        Graph.effectsReached(graph, index).isIn.forEach((is, at) => { isGone[at] |= is; });
-      }
+      const number = graph.numbers.at(index);
+      gone.add(number);
+      let isFirst = true;
+      for (let edge = graph.firstCause.at(index); edge < graph.causeEnd(index); edge++) isFirst = isFirst && isIn[graph.from.at(edge)] === 1;
+      if (isFirst) rolls.push(number);
     }
     return { rolls, gone };
   }
@@ -128,6 +119,6 @@ const Explain = ((Graph, Terms) => {
     return { words: words ? words() : goal.refusal, binders: bindersOf(run.graph, written) };
   }
 
-  return { argumentsOf, explain, elementsOf, sliceOf, rollsTo, clashOf, failureOf, isVariable };
+  return { argumentsOf, explain, sliceOf, rollsTo, clashOf, failureOf, isVariable };
 })(typeof require === "undefined" ? Graph : require("./graph.js"), typeof require === "undefined" ? Terms : require("./terms.js"));
 if (typeof module !== "undefined") module.exports = Explain;

@@ -417,25 +417,26 @@ const Graph = (() => {
     return graph;
   }
 
-  /** For each step by its index, 1 where one comes to it from the step of an index along the edges, that step among them; and how many. */
-  function reached(graph, index, goesOn) {
-    const isIn = new Uint8Array(graph.count), left = [index];
-    let count = 1;
-    isIn[index] = 1;
+  /** For each step by its index, 1 where one comes to it from one of some steps along the edges, these steps among them; and how many. */
+  function reached(graph, indexes, goesOn) {
+    const isIn = new Uint8Array(graph.count), left = [];
+    let count = 0;
     const add = (other) => {
       if (isIn[other] === 1) return;
       isIn[other] = 1;
       count += 1;
       left.push(other);
     };
+    indexes.forEach(add);
     while (left.length > 0) goesOn(left.pop(), add);
     return { isIn, count };
   }
 
-  const causesReached = (graph, index) => reached(graph, index, (at, add) => {
+  const causesReached = (graph, ...indexes) => causesOfAll(graph, indexes);
+  const causesOfAll = (graph, indexes) => reached(graph, indexes, (at, add) => {
     for (let edge = graph.firstCause.at(at); edge < graph.causeEnd(at); edge++) add(graph.from.at(edge));
   });
-  const effectsReached = (graph, index) => reached(graph, index, (at, add) => {
+  const effectsReached = (graph, index) => reached(graph, [index], (at, add) => {
     for (let edge = graph.lastEffect.at(at); edge !== NONE; edge = graph.effectBefore.at(edge)) add(graph.to.at(edge));
   });
 
@@ -530,7 +531,7 @@ const Graph = (() => {
 
   return {
     splitOutside, variablesIn, wordsOf, readRecords, readShelf, readGoals, readClauses, predicateOf, sortOfText, graphOf,
-    allCauses, allEffects, whyLines, tidyOrder, waitingEdges, circleOf, RunGraph, causesReached, effectsReached, nameParts, readRecord, NONE,
+    allCauses, allEffects, whyLines, tidyOrder, waitingEdges, circleOf, RunGraph, causesReached, causesOfAll, effectsReached, nameParts, readRecord, NONE,
   };
 })();
 if (typeof module !== "undefined") module.exports = Graph;

@@ -87,7 +87,7 @@ const Panels = (() => {
 
   /** What is said above the picture where there is something that one should know. */
   function noteParts() {
-    const { goals, graph } = Talk.run, circle = Graph.circleOf(goals), isReady = goals.some((goal) => goal.status === "ready");
+    const { goals, graph } = Talk.run, isReady = goals.some((goal) => goal.status === "ready");
     const failed = goals.find((goal) => goal.status === "failed"), stream = goals.find((goal) => goal.status === "stream");
     if (Talk.trouble) return [Talk.trouble, ...(Talk.session && Talk.session.hasEnded ? [" ", make("button", { class: "small", id: "again" }, "Go on without the last line")] : [])];
     if (Talk.refusal) return [`Refused: ${Talk.refusal}`];
@@ -98,6 +98,7 @@ const Panels = (() => {
     if (failed) return tellFailure(failed);
     if (isReady && graph.count === 0) return ["A green ring is a goal that is ready: click it, or press Run."];
     if (isReady) return [];
+    const circle = Graph.circleOf(goals);
     if (circle.length > 0) return [`Nothing is ready: ${Terms.cut([...circle, circle[0]].join(" waits for "), 400)}, in a circle.`];
     if (stream) return [`Nothing is ready. Click the stream ${stream.name} and give it an input.`];
     if (goals.length > 0) return ["Nothing is ready, and some goals wait."];

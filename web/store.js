@@ -3,7 +3,7 @@ const Store = (() => {
   "use strict";
 
   const { find, make, goTo } = Elements;
-  const MOST_ROWS = 100, MOST_LOOKED_AT = 2000, MOST_PARTS = 40, MOST_DEEP = 6, LONGEST_ATOM = 60;
+  const MOST_ROWS = 100, MOST_LOOKED_AT = 2000, MOST_PARTS = 40, MOST_DEEP = 6, LONGEST_ATOM = 60, MOST_ROLLS = 1000;
   const plural = (count, word) => `${count} ${word}${count === 1 ? "" : "s"}`;
   const { isVariable, argumentsOf } = Explain;
 
@@ -96,7 +96,8 @@ const Store = (() => {
     const { rolls, gone } = Explain.rollsTo(graph, Explain.sliceOf(graph, variable)), rest = graph.count - gone.size;
     Canvas.choose(null);
     Canvas.ring(gone);
-    const does = make("button", { class: "danger", disabled: rolls.length === 0 }, gone.size === 0 ? "Nothing would go" : `Take back ${gone.size}`);
+    const isTooMany = rolls.length > MOST_ROLLS, words = gone.size === 0 ? "Nothing would go" : isTooMany ? "Too many rolls for the page" : `Take back ${gone.size}`;
+    const does = make("button", { class: "danger", disabled: rolls.length === 0 || isTooMany }, words);
     does.addEventListener("click", () => { Menus.close(); Talk.send(...rolls.map((step) => `roll ${step}`)); });
     return [make("div", { class: "menu-title" }, make("b", null, `Keep what ${name} rests on`)),
       make("p", null, `${plural(rest, "step")} of ${graph.count} gave this value. The ringed ${plural(gone.size, "step")} would be taken back, by ${plural(rolls.length, "roll")}.`),

@@ -174,6 +174,7 @@ const WorkerSide = ((Graph, Asking) => {
     TheHost.prototype.calls = function callsThatTell() {
       const all = calls.call(this), take = all.rattle_alloc;
       let requests = 0;
+      if (take === undefined) return all;
       all.rattle_alloc = (at, bytes) => {
         requests += 1;
         if (requests % EVERY === 0 && performance.now() - lastTold > LEAST_PAUSE) {

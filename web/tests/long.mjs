@@ -17,12 +17,12 @@ const WATCH = `(() => {
     last = now;
     if (isOn) channel.port2.postMessage(0);
   };
-  const work = () => { const start = performance.now(); let sum = 0; for (let at = 0; at < 400000; at++) sum += at % 7; return performance.now() - start + sum * 0; };
+  const work = () => { const start = performance.now(); let sum = 0; for (let at = 0; at < 8000000; at++) sum += at % 7; return performance.now() - start + sum * 0; };
   window.slowness = async () => {
     const times = [];
-    for (let round = 0; round < 40; round++) { times.push(work()); await new Promise((done) => setTimeout(done, 2)); }
-    const sorted = [...times].sort((one, other) => one - other);
-    return Math.max(1, sorted[36] / Math.max(0.1, sorted[2]));
+    for (let round = 0; round < 16; round++) { times.push(work()); await new Promise((done) => setTimeout(done, 2)); }
+    const sorted = times.slice(4).sort((one, other) => one - other); // the first rounds are slow, for the browser has not compiled them yet
+    return Math.max(1, sorted[9] / sorted[0]);
   };
   window.measured = async (does) => {
     last = performance.now();

@@ -30,6 +30,8 @@ inBrowsers("a refusal stands above the picture, also on a phone, and its step is
     assert.deepEqual(await page.value("Canvas.chosen"), { step: 3 });
     await page.click("#close-answer");
     assert.ok(await page.value('document.getElementById("answer").hidden'));
+    await page.value('(document.getElementById("run").scrollTop = 9999, Talk.send("undo 4"))');
+    assert.ok(await page.value(isSeen("answer")), "also where one has scrolled down");
   }
 });
 
