@@ -51,7 +51,8 @@ const Canvas = (() => {
     const svg = find("canvas").querySelector("svg"), { chosen } = canvas, { graph } = Talk.run;
     if (!svg) return;
     const step = chosen && graph.byNumber.has(chosen.step) ? chosen.step : undefined;
-    const causes = step ? Graph.allCauses(graph, step) : new Set(), effects = step ? Graph.allEffects(graph, step) : new Set();
+    const reach = step ? Overview.reachOf(step) : null, amongst = (found) => ({ has: (number) => found.isIn[graph.indexOf(number)] === 1 });
+    const causes = reach ? amongst(reach.causes) : new Set(), effects = reach ? amongst(reach.effects) : new Set();
     const way = new Set(canvas.way);
     const hits = new Set(Overview.hits.map((index) => graph.numbers.at(index)));
     svg.classList.toggle("looking", Boolean(step));

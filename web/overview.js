@@ -184,6 +184,18 @@ const Overview = (() => {
     if (chosen !== null) dots.put(places.x(chosen) - 3, places.y(lanes.ofStep[chosen].index) - 3, places.dot + 6, places.tall + 6, pixelOf(theme.ink, theme.ground, 1), LEVELS.chosen);
   }
 
+  let reach = { graph: null, version: 0, number: null };
+
+  /** The causes and the consequences of a step, by flags for indexes and by count; they are found once for each step that is chosen. */
+  function reachOf(number) {
+    const { graph, version } = run();
+    if (reach.graph !== graph || reach.version !== version || reach.number !== number) {
+      const index = graph.indexOf(number);
+      reach = { graph, version, number, causes: Graph.causesReached(graph, index), effects: Graph.effectsReached(graph, index) };
+    }
+    return reach;
+  }
+
   const layer = document.createElement("canvas");
   let drawn = [], words = "";
 
@@ -193,7 +205,7 @@ const Overview = (() => {
     const wanted = [run(), version, chosen, Canvas.theme, wide, high, ratio, overview.hits, count()];
     if (wanted.every((value, at) => value === drawn[at])) return layer;
     drawn = wanted;
-    const causes = chosen === null ? null : Graph.causesReached(graph, chosen), effects = chosen === null ? null : Graph.effectsReached(graph, chosen);
+    const { causes, effects } = chosen === null ? { causes: null, effects: null } : reachOf(number);
     words = chosen === null ? "drag or click: goes there" : `step ${number}: ${causes.count - 1} causes (blue), ${effects.count - 1} consequences (orange)`;
     layer.width = wide;
     layer.height = high;
@@ -269,5 +281,5 @@ const Overview = (() => {
     area.addEventListener("wheel", (event) => { event.preventDefault(); zoom(event.deltaY < 0 ? 1.2 : 1 / 1.2); goTo(overview.from); }, { passive: false });
   }
 
-  return Object.assign(overview, { MOST_SIZE, incoming, isOn, count, shownRun, follow, show, showUntil, laneOf, stepsUnder, zoom, fit, draw, listenToAll, sizeNow: size });
+  return Object.assign(overview, { MOST_SIZE, reachOf, incoming, isOn, count, shownRun, follow, show, showUntil, laneOf, stepsUnder, zoom, fit, draw, listenToAll, sizeNow: size });
 })();
