@@ -1,10 +1,11 @@
 // Tests of web/ghcdb.html with runs of any length, in a headless Chromium and a headless Firefox: 100,000 steps are drawn while the page goes on,
 // a step is lit with its causes, a line that is at work is stopped. With GHCDB_LONG=1 a run of 1,000,000 steps is tried, too.
+import os from "node:os";
 import assert from "node:assert/strict";
 import { inBrowsers, open } from "./in_browsers.mjs";
 
 const LONGEST_FREEZE = 100, LONGEST_STEP = 100, LONGEST_LIGHT = 500; // milliseconds on a machine that does nothing else
-const MOST_ROUNDS = 4; // the least time of some rounds counts, for other work may be done on the machine
+const MOST_ROUNDS = 8; // the least time of some rounds counts, for other work may be done on the machine
 const PRIMES = "#example=primes&query=primes(20000,Ps)";
 
 /** Puts up what measures: how long the page stands still, and by how much other work makes this machine slower at this time. */
@@ -38,7 +39,12 @@ const WATCH = `(() => {
   };
   return true;
 })()`;
-const measured = (page, does) => page.value(`measured(() => ${does})`);
+
+/** How long something took and the page stood still; `slowness` is at least how many programs want each processor of this machine. */
+async function measured(page, does) {
+  const told = await page.value(`measured(() => ${does})`);
+  return { ...told, slowness: Math.max(told.slowness, os.loadavg()[0] / os.cpus().length) };
+}
 
 /** Tries something until a round is as quick as it has to be. */
 async function quickEnough(words, isQuick, does) {
@@ -57,6 +63,7 @@ inBrowsers("a run of 100,000 steps is drawn while the page goes on; a further st
     return measured(page, 'Talk.send("leap 100000")');
   });
   assert.equal(await page.value('document.getElementById("count").textContent'), "100000 steps, depth 40003");
+  assert.ok(await page.value('(() => { const count = document.getElementById("count"); return count.scrollWidth <= count.clientWidth + 1; })()'), "the count is not cut");
   assert.ok(await page.value('!document.getElementById("overview").hidden && document.querySelectorAll("#canvas .mark").length > 10'));
   await quickEnough("a step", ({ took, slowness }) => took <= LONGEST_STEP * slowness, async () => {
     await new Promise((done) => setTimeout(done, 1500)); // the record of the step before is printed meanwhile

@@ -53,7 +53,7 @@ const PARTS = `(() => {
     const box = element.getBoundingClientRect();
     if (box.width === 0 || element.closest("option, select, [hidden]")) continue;
     if (box.right > innerWidth + 1) wrong.push("beyond the window: " + (element.id || element.textContent));
-    if (element.tagName === "BUTTON" && element.scrollWidth > element.clientWidth + 1) wrong.push("cut: " + element.textContent);
+    if ((element.tagName === "BUTTON" || element.id === "count") && element.scrollWidth > element.clientWidth + 1) wrong.push("cut: " + element.textContent);
   }
   return wrong;
 })()`;
