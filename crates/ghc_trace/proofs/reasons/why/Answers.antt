@@ -33,8 +33,8 @@ loop-earlier-init c =
     let causes = subst (λ old. HasInFront ss c.in-Some.place (Uses b) old ahead) c.new-ahead.ensures.empty c.in_ok-add_causes.ensures in
     (b, kept_as (held_in ss) ss refl c.in-Some.place c.args.number c.in-Some.ensures.found b at, search ss distinct c.in-Some.place b at ahead c.new-reasons.result.items causes c.new-reasons.ensures.items, stands_ahead ss c.in-Some.place (Uses b) ahead causes)
 
-pub direct-requires : goal.direct-requires
-direct-requires c b own =
+pub direct_by_sources-requires : goal.direct_by_sources-requires
+direct_by_sources-requires c b own =
     let ss = c.args.records.now.slots in
     let is = c.len-count.ensures.slots in
     let kept = c.unwrap-kept.result.now in
@@ -64,17 +64,17 @@ loop-earlier-preserved-in-Ok c =
     let a = c.unwrap.result.now in
     let stands = (c.at-in-Some-pop_first.ensures a).0 (ap option_copied c.unwrap.ensures) in
     let at = rank_stands ss place a stands in
-    let direct = subst (λ l. IsDirect l n a.number c.direct.result) is (subst (λ m. IsDirect c.args.records.now.held n m c.direct.result) c.number-step.ensures c.direct.ensures) in
+    let direct = subst (λ l. IsDirect l n a.number c.direct_by_sources.result) is (subst (λ m. IsDirect c.args.records.now.held n m c.direct_by_sources.result) c.number-step.ensures c.direct_by_sources.ensures) in
     let removal = ap (λ l. map (rank ss) l) c.in-Some-pop_first.ensures.removal in
     let behind = behind_ranked ss place a stands rest (all_behind place rest c.in-Some-pop_first.ensures.all_above) in
     let before = up_to kept inv.0 ahead items inv.2 (rank ss place) (map (rank ss) rest) removal behind in
     let others = λ (p : ℕ) (i : In p rest). inv.3 p (subst (In p) (sym c.in-Some-pop_first.ensures.removal) (inr i)) in
-    let told : c.push.new.self.items ≡ items ++ record { step = a.number; cause = c.in-Some-direct.cause } ∷ [] =
-    c.in-Ok.ensures.items ∙ ap (λ m. items ++ record { step = m; cause = c.in-Some-direct.cause } ∷ []) c.number-step.ensures in (
+    let told : c.push.new.self.items ≡ items ++ record { step = a.number; cause = c.in-Some-direct_by_sources.cause } ∷ [] =
+    c.in-Ok.ensures.items ∙ ap (λ m. items ++ record { step = m; cause = c.in-Some-direct_by_sources.cause } ∷ []) c.number-step.ensures in (
       inv.0,
       inv.1,
       behind_it kept inv.0 ahead items inv.2 (rank ss place) (map (rank ss) rest) c.push.new.self.items removal behind
-          (gathered kept distinct n inv.0 inv.1 (rank ss place) items before a at c.in-Some-direct.cause c.push.new.self.items (subst (IsDirect kept n a.number) c.in-Some-direct.is direct) told),
+          (gathered kept distinct n inv.0 inv.1 (rank ss place) items before a at c.in-Some-direct_by_sources.cause c.push.new.self.items (subst (IsDirect kept n a.number) c.in-Some-direct_by_sources.is direct) told),
       others,
     )
 
@@ -96,7 +96,7 @@ loop-earlier-preserved c =
     let a = c.unwrap.result.now in
     let stands = (c.at-in-Some-pop_first.ensures a).0 (ap option_copied c.unwrap.ensures) in
     let at = rank_stands ss place a stands in
-    let direct = subst (λ l. IsDirect l n a.number c.direct.result) is (subst (λ m. IsDirect c.args.records.now.held n m c.direct.result) c.number-step.ensures c.direct.ensures) in
+    let direct = subst (λ l. IsDirect l n a.number c.direct_by_sources.result) is (subst (λ m. IsDirect c.args.records.now.held n m c.direct_by_sources.result) c.number-step.ensures c.direct_by_sources.ensures) in
     let removal = ap (λ l. map (rank ss) l) c.in-Some-pop_first.ensures.removal in
     let behind = behind_ranked ss place a stands rest (all_behind place rest c.in-Some-pop_first.ensures.all_above) in
     let before = up_to kept inv.0 ahead items inv.2 (rank ss place) (map (rank ss) rest) removal behind in
@@ -104,7 +104,7 @@ loop-earlier-preserved c =
       inv.0,
       inv.1,
       behind_it kept inv.0 ahead items inv.2 (rank ss place) (map (rank ss) rest) items removal behind
-          (passed kept distinct n inv.0 inv.1 (rank ss place) items before a at (subst (IsDirect kept n a.number) c.in_default-direct.is direct)),
+          (passed kept distinct n inv.0 inv.1 (rank ss place) items before a at (subst (IsDirect kept n a.number) c.in_default-direct_by_sources.is direct)),
       others,
     )
 
