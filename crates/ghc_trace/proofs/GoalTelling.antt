@@ -4,7 +4,7 @@ use Rattle.std.specs.FinMap as finite
 use Rattle.ghc_trace.proofs.Lines.{each, listed}
 
 -- a goal of the world has the status that its note says
-stands : (w : World) (notes : NotesByGoal) → IsSettled w notes → (goal : Named) (s : Status) → In goal (finite.entries w.state.goals) → StandsByNote notes goal s → Stands w goal.0 s
+pub stands : (w : World) (notes : NotesByGoal) → IsSettled w notes → (goal : Named) (s : Status) → In goal (finite.entries w.state.goals) → StandsByNote notes goal s → Stands w goal.0 s
 stands w notes settled goal s i (as_stream e) = (goal.1, listed w.state.goals goal i, is_stream_goal e)
 stands w notes settled goal s i (as_noted {note = note} e f) = let n = settled.exact.noted goal.0 note f in (n.0, n.1, n.3.0)
 

@@ -11,6 +11,11 @@ pub mod GoalTelling
 pub mod CausePlaces
 pub mod Slicing
 pub mod Giving
+pub mod Held
+pub mod Explained
+pub mod Resting
+pub mod OtherClauses
+pub mod TakenAgain
 pub mod Reasoning
 pub mod BoundChain
 pub mod WayUp

@@ -77,7 +77,7 @@ module _ (goals : Goals) where
   pub listed : (goal : Named) → In goal (finite.entries goals) → finite.get goals goal.0 ≡ Some goal.1
   listed goal i = sym (by_list goal.0) ∙ in_entry (finite.entries goals) goal (rising (finite.entries goals) (finite.entries_sorted goals)) i
 
-  there : (g : GoalName) (b : Goal) → finite.get goals g ≡ Some b → In (g, b) (finite.entries goals)
+  pub there : (g : GoalName) (b : Goal) → finite.get goals g ≡ Some b → In (g, b) (finite.entries goals)
   there g b e = entry_in (finite.entries goals) g b (by_list g ∙ e)
 
   -- each goal that is listed has a note, or is a stream

@@ -44,7 +44,7 @@ rest_short [] (suc p) = omega arith
 rest_short (None ∷ ss) (suc p) = rest_short ss p
 rest_short (Some a ∷ ss) (suc p) = let h = rest_short ss p in omega (arith, h)
 
-stands_within : (ss : SlotList) (p : ℕ) (a : Record) → StandsIn ss p a → p < length ss
+pub stands_within : (ss : SlotList) (p : ℕ) (a : Record) → StandsIn ss p a → p < length ss
 stands_within [] zero a at = cc
 stands_within [] (suc p) a at = cc
 stands_within (s ∷ ss) zero a at = omega arith

@@ -12,6 +12,7 @@ pub mod GoalLines
 pub mod GoalLinesCode
 pub mod GoalLaws
 pub mod Causes
+pub mod Holding
 pub mod Why
 pub mod ReasonText
 pub mod Who
@@ -19,3 +20,6 @@ pub mod Spies
 pub mod SpiesCode
 pub mod SpyKeys
 pub mod SpyLaws
+pub mod OtherClauses
+pub mod OtherClausesCode
+pub mod Explaining

@@ -48,8 +48,8 @@ fn add_goal_maker(
     }
 }
 
-// Adds the places of the steps that bound these variables: two look-ups for each.
-fn add_binders(
+/// Adds the places of the steps that bound these variables: two look-ups for each.
+pub(crate) fn add_binders(
     places: &mut BTreeSet<usize>,
     records: &Records,
     xs: &[VarName],

@@ -16,7 +16,7 @@ use ghc_term::{Store, Term, VarName, Variables};
 use std::alloc::{AllocError, Global};
 
 // All variables that the term reaches in the store.
-fn reached_by(alloc: Global, store: &Store, term: &Term) -> Result<Variables, AllocError>
+pub(crate) fn reached_by(alloc: Global, store: &Store, term: &Term) -> Result<Variables, AllocError>
     ensures { IfOk result (λ xs. IsSetOf xs (Reaches (value_at store.now.held) term.now)) }
 {
     let mut terms = Vec::new(alloc);

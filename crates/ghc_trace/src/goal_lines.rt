@@ -19,7 +19,7 @@ use std::alloc::{AllocError, Global};
 use std::collections::BTreeMap;
 
 // Writes the status of a goal: that of its note, or that it is a stream.
-fn write_status(
+pub(crate) fn write_status(
     name: GoalName,
     goal: &Goal,
     tries: &Tries,

@@ -1,5 +1,6 @@
 // Laws about the definitions, each as the contract of a function.
 ghost use Rattle.ghc_trace.specs.Laws.{NotesTellPorts, NotesTellNews};
+ghost use Rattle.ghc_trace.specs.OtherClauses.{OtherClausesAreTaken};
 
 /// Where no goal is untried, the notes tell which goals a step resumes.
 pub fn notes_tell_ports()
@@ -9,4 +10,9 @@ pub fn notes_tell_ports()
 /// Where no goal is untried before a change and after it, the notes tell which goals are stuck otherwise.
 pub fn notes_tell_news()
     ensures { NotesTellNews }
+{}
+
+/// Once a kept step was rolled back, its goal can be stepped by the step's own clause, and by just those others that are told for it.
+pub fn other_clauses_are_taken()
+    ensures { OtherClausesAreTaken }
 {}

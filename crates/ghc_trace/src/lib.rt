@@ -1,16 +1,19 @@
-//! What a step shows as it is taken, what a change tells of goals that are stuck, why a step was possible, what bound the variables of
-//! a chain, which goals descend from a goal, and which predicates are spied.
+//! What a step shows as it is taken, what a change tells of goals that are stuck, why a step was possible and which other clauses
+//! were, what bound the variables of a chain, which goals descend from a goal, and which predicates are spied.
 #![tactic(auto)]
 
 mod cause_places;
 mod descent;
 mod disturbed;
+mod explaining;
 mod gathered;
 mod given;
 mod goal_laws;
 mod goal_lines;
+mod holding;
 mod laws;
 mod news;
+mod others;
 mod port;
 mod reason_text;
 mod reasons;
@@ -24,10 +27,13 @@ mod who_bound;
 
 pub use descent::descends;
 pub use disturbed::Disturbed;
+pub use explaining::{push_holders, push_steps};
 pub use given::slice_of;
 pub use goal_laws::{lines_are_of_goals, notes_tell_goals};
 pub use goal_lines::push_goals;
-pub use laws::{notes_tell_news, notes_tell_ports};
+pub use holding::{Holder, holders};
+pub use laws::{notes_tell_news, notes_tell_ports, other_clauses_are_taken};
+pub use others::other_clauses;
 pub use port::{Port, push_port, push_ports};
 pub use reason_text::push_reason;
 pub use reasons::{Reason, why};
