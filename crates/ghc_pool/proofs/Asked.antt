@@ -1,5 +1,5 @@
 -- What was made by steps that took goals in question is in question.
-use Rattle.ghc_pool.proofs.Words.{◌≡◌, ℕ, ◌≤◌, [], ◌∷◌, ◌++◌, ap, ◌∙◌, inl, inr, arith, Some, None, Option, GoalName, Goal, in_either, Record, MakesGoal, made_by, own_made, goal_by, of_query, results_of, World, IsStanding, reached_good, standing_replay, standing_below, Spies, IsInQuestion, IsRunStep, TookInQuestion}
+use Rattle.ghc_pool.proofs.Words.{◌≡◌, ℕ, ◌≤◌, [], ◌∷◌, ◌++◌, ap, ◌∙◌, inl, inr, arith, Some, None, Option, GoalName, Goal, in_either, Record, MakesGoal, made_by, own_made, goal_by, of_query, results_of, NotesByGoal, World, IsStanding, reached_good, standing_replay, standing_below, Spies, IsInQuestion, IsRunStep, TookInQuestion}
 use Rattle.std.specs.FinMap as finite
 use Rattle.ghc_pool.proofs.AtTheEnd.{still_in_question, named_one}
 
@@ -11,8 +11,8 @@ none_since root w stands = (
 )
 
 -- with one more step of the run
-pub one_since : (workers : ℕ) (spies : Spies) (root : Option GoalName) (w : World) (r : Record) (since : ℕ) → IsRunStep workers spies root w r → TookInQuestion root w.kept since → TookInQuestion root (w.kept ++ r ∷ []) since
-one_since workers spies root w r since s before = (
+pub one_since : (workers : ℕ) (spies : Spies) (root : Option GoalName) (w : World) (notes : NotesByGoal) (r : Record) (since : ℕ) → IsRunStep workers spies root w notes r → TookInQuestion root w.kept since → TookInQuestion root (w.kept ++ r ∷ []) since
+one_since workers spies root w notes r since s before = (
   before.0,
   λ q i least. elim (in_either w.kept (r ∷ []) q i) [
     | inl old ↦ let t = before.1 q old least in (t.0, t.1, still_in_question root w.kept (r ∷ []) t.0 t.2)

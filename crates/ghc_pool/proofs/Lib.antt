@@ -5,6 +5,7 @@ pub mod Spied
 pub mod Standings
 pub mod Surveyed
 pub mod Taking
+pub mod Failures
 pub mod Moves
 pub mod Stealing
 pub mod Wells

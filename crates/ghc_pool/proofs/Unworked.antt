@@ -1,13 +1,13 @@
 -- What a round adds to the record, and that the world is as it was where its passes made no call.
-use Rattle.ghc_pool.proofs.Words.{◌≡◌, ℕ, ◌+◌, ◌-◌, ◌<◌, ◌≤◌, List, [], ◌∷◌, ◌++◌, length, sym, ap, ◌∙◌, subst, arith, append-nil, length-append, All, Option, All-head, GoalName, Record, Item, history, World, IsStanding, Leaves, reached_legal, leaves_once, Known, newcomers, weight, weight_of_places, places_since, AreEachOnce, weight-one, Spies, Takes}
+use Rattle.ghc_pool.proofs.Words.{◌≡◌, ℕ, ◌+◌, ◌-◌, ◌<◌, ◌≤◌, List, [], ◌∷◌, ◌++◌, length, sym, ap, ◌∙◌, subst, arith, append-nil, length-append, All, Option, All-head, GoalName, Record, Item, history, NotesByGoal, World, IsStanding, Leaves, reached_legal, leaves_once, Known, newcomers, weight, weight_of_places, places_since, AreEachOnce, weight-one, Spies, Takes}
 use mathlib.Core.List.{IsPrefix}
 use Rattle.ghc_pool.proofs.AtTheEnd.{adds_at_the_end}
 use Rattle.ghc_pool.proofs.RoundPlaces.{AreNewcomers, are_newcomers, newcomers_length, numbers_length}
 
 -- so many records more are kept as steps were taken
-pub kept_count : (workers : ℕ) (spies : Spies) (root : Option GoalName) (w v : World) (steps : List Record) → Takes workers spies root w steps v → length v.kept ≡ length w.kept + length steps
-kept_count workers spies root w v steps taken =
-    let adds = adds_at_the_end workers spies root w v steps taken in
+pub kept_count : (workers : ℕ) (spies : Spies) (root : Option GoalName) (w v : World) (before after : NotesByGoal) (steps : List Record) → Takes workers spies root w before steps v after → length v.kept ≡ length w.kept + length steps
+kept_count workers spies root w v before after steps taken =
+    let adds = adds_at_the_end workers spies root w before v after steps taken in
     omega (arith, ap (λ (l : List Record). length l) adds.kept, length-append w.kept steps)
 
 no_places : (h : ℕ → ℕ) (items : List Item) (ps : List (Known Item)) → AreNewcomers items ps → weight_of_places h ps ≡ 0

@@ -14,39 +14,44 @@ pub use Rattle.ghc_core.specs.Change.{Changes}
 pub use Rattle.ghc_core.specs.Core.{AreExactIn, Core, IsStanding}
 pub use Rattle.ghc_core.specs.EventCode.{reply_of}
 pub use Rattle.ghc_core.specs.Legal.{Begins, IsAnswered, IsReceipt, Leaves, Receipt, and_entry}
-pub use Rattle.ghc_core.specs.Proposes.{AttemptAnswers, IsCommitOf, IsReduction, IsStepOf, StillHolds}
+pub use Rattle.ghc_core.specs.Proposes.{AttemptAnswers, IsCommitOf, IsReduction, IsStepOf, StepFails, StillHolds}
+pub use Rattle.ghc_core.specs.Settling.{AreKept, IsNoted}
 pub use Rattle.ghc_core.specs.World.{Hands, HasRoom, IsFull, Proposal, World, no_hands, with_step}
 pub use Rattle.ghc_core.specs.declared.change.Change.{Change}
 pub use Rattle.ghc_core.specs.declared.reply.Reply.{Reply}
 pub use Rattle.ghc_depend.proofs.Finding.{own_made, same_value}
 pub use Rattle.ghc_depend.proofs.Placing.{results_of}
-pub use Rattle.ghc_depend.proofs.Results.{goal_by, of_query}
-pub use Rattle.ghc_depend.specs.Depend.{Descends, MakesGoal, itself, made_by}
+pub use Rattle.ghc_depend.proofs.Results.{IsOld, Results, goal_by, is_old, of_query}
+pub use Rattle.ghc_depend.specs.Depend.{Binds, Descends, MakesGoal, itself, made_by}
+pub use Rattle.ghc_fire.proofs.Answering.{same_fault}
 pub use Rattle.ghc_fire.proofs.GoalNames.{goal_antisymmetric, goal_total}
 pub use Rattle.ghc_fire.proofs.Steps.{clause_once}
-pub use Rattle.ghc_fire.specs.Attempt.{proposes}
+pub use Rattle.ghc_fire.proofs.Tries.{attempt_once}
+pub use Rattle.ghc_fire.specs.Attempt.{Attempts, proposes, refused}
 pub use Rattle.ghc_fire.specs.Effect.{Effect, HasEffect, no_step}
 pub use Rattle.ghc_fire.specs.Goals.{Goals, goal_cmp}
 pub use Rattle.ghc_fire.specs.declared.act.Act.{Act}
 pub use Rattle.ghc_fire.specs.declared.act.Act.TheVariants.{ByClause}
 pub use Rattle.ghc_flat.specs.Clause.{Clause, IsClause, IsFor, Program}
 pub use Rattle.ghc_flat.specs.Flat.{is_stream}
+pub use Rattle.ghc_hooks.proofs.Fitting.{put_elsewhere, put_here}
+pub use Rattle.ghc_hooks.proofs.Looking.{goal_cases}
 pub use Rattle.ghc_hooks.proofs.LookingAll.{so_far}
 pub use Rattle.ghc_hooks.proofs.Statuses.{status_once}
 pub use Rattle.ghc_hooks.specs.Face.{GoalNames}
-pub use Rattle.ghc_hooks.specs.Notes.{IsUntried, Note, NotesByGoal}
-pub use Rattle.ghc_hooks.specs.Status.{HasStatus, Status, failed, is_stream_goal, ready, streaming, waiting}
+pub use Rattle.ghc_hooks.specs.Notes.{AreLeft, IsUntried, Note, NotesByGoal}
+pub use Rattle.ghc_hooks.specs.Status.{HasStatus, Status, failed, is_failed, is_stream_goal, ready, streaming, waiting}
 pub use Rattle.ghc_hooks.specs.Tries.{IsUnblocked}
 pub use Rattle.ghc_hooks.specs.Verdict.{status_of}
 pub use Rattle.ghc_pool.specs.Answers.{IsReason, Taken, one_if, submits_in}
 pub use Rattle.ghc_pool.specs.Fair.{Balanced, IdleIsEmpty, all_parts, hand, total, weigh}
 pub use Rattle.ghc_pool.specs.Gathered.{AreDrained, AreDrainedTo, ArePending, AreReady, AreReleased, AreTold, FirstBegins, HaveGivenBack, HaveParts, HavePartsFrom, IsAbsorbed, IsDrained, IsPending, IsReady, all_victims, own_deques}
 pub use Rattle.ghc_pool.specs.Laws.{AddsAtTheEnd, RunsAddAtTheEnd, RunsReduce}
-pub use Rattle.ghc_pool.specs.Meeting.{IsMet, IsNotedReady, IsNotedWaiting, TookInQuestion}
+pub use Rattle.ghc_pool.specs.Meeting.{HasStepped, IsMet, IsNotedReady, IsNotedWaiting, TookInQuestion, WasTaken, WasTried}
 pub use Rattle.ghc_pool.specs.Modes.{root_of}
 pub use Rattle.ghc_pool.specs.Opened.{AreCounted, AreFresh, AreFreshFrom, AreHandfuls, AreJobs, AreNew, AreStarting, HasWorked, IsCounted, IsFresh, IsHandful, IsJob, IsStarting, Owner, Works, deques_of, passes_in, workers_in}
 pub use Rattle.ghc_pool.specs.Plans.{GoesOnWithout, IsDecidedAs, IsNoteStop, IsSettlingStop, IsSubmitStop}
-pub use Rattle.ghc_pool.specs.Runs.{AsksForNoStop, CanGoOn, HasFailed, Holds, IsInQuestion, IsRunStep, IsSpiedIn, Runs, RunsIn, Takes, all_taken, and_step, at_start, has_failed, is_full, is_quiet, is_spied, starved}
+pub use Rattle.ghc_pool.specs.Runs.{AsksForNoStop, CanGoOn, HasFailed, HasMetNoFailure, Holds, IsInQuestion, IsNotedFailed, IsRunStep, IsSpiedIn, Runs, RunsIn, Takes, all_taken, and_step, and_tries, at_start, has_failed, is_full, is_quiet, is_spied, starved}
 pub use Rattle.ghc_pool.specs.Stops.{AreFed, AreJudged, AreOpen, AreWell, GoesOn, IsJudged, IsOpen, IsSpent, IsWell, OneAsks, WentOn, joined}
 pub use Rattle.ghc_pool.specs.Stretches.{TakesAtMost}
 pub use Rattle.ghc_pool.specs.Survey.{AreListed, IsStopped, StandsTo}
@@ -57,6 +62,8 @@ pub use Rattle.ghc_pool.specs.declared.answer.Answer.TheVariants.{Noted, Starved
 pub use Rattle.ghc_pool.specs.declared.answer.RoundStop.{RoundStop}
 pub use Rattle.ghc_pool.specs.declared.answer.RoundStop.TheVariants.{Clash, Full, Limit, Memory, Spied}
 pub use Rattle.ghc_pool.specs.declared.craft.Decided.{Decided}
+pub use Rattle.ghc_pool.specs.declared.meet.Met.{Met}
+pub use Rattle.ghc_pool.specs.declared.meet.Met.TheVariants.{Passed, Stepped}
 pub use Rattle.ghc_pool.specs.declared.mode.Mode.{Mode}
 pub use Rattle.ghc_pool.specs.declared.rounds.rule.Hand.{Hand}
 pub use Rattle.ghc_pool.specs.declared.rounds.victim.Victim.{Victim}

@@ -4,6 +4,7 @@ use Rattle.ghc_term.specs.Lists.{In}
 use Rattle.ghc_term.specs.declared.goal_name.GoalName.{GoalName}
 use Rattle.ghc_records.specs.Record.{Record}
 use Rattle.ghc_records.specs.Journal.{took, step_of}
+use Rattle.ghc_hooks.specs.Notes.{NotesByGoal}
 use Rattle.ghc_core.specs.World.{World}
 use Rattle.ghc_core.specs.Proposes.{IsReduction}
 use Rattle.ghc_trace.specs.Spies.{Spies}
@@ -18,10 +19,11 @@ pub record AddsAtTheEnd (w : World) (steps : List Record) (v : World) : Type 0 w
   pub opening : v.opening ≡ w.opening
 
 abbrev pub RunsAddAtTheEnd : Type 0
-RunsAddAtTheEnd = (workers : ℕ) (spies : Spies) (root : Option GoalName) (w v : World) (steps : List Record) → Takes workers spies root w steps v → AddsAtTheEnd w steps v
+RunsAddAtTheEnd =
+    (workers : ℕ) (spies : Spies) (root : Option GoalName) (w : World) (before : NotesByGoal) (v : World) (after : NotesByGoal) (steps : List Record) → Takes workers spies root w before steps v after → AddsAtTheEnd w steps v
 
 -- Each step of a run is a reduction of a goal that is in question by the record that is left.
 abbrev pub RunsReduce : Type 0
 RunsReduce =
-    (workers : ℕ) (spies : Spies) (root : Option GoalName) (w v : World) (steps : List Record) → Takes workers spies root w steps v
+    (workers : ℕ) (spies : Spies) (root : Option GoalName) (w : World) (before : NotesByGoal) (v : World) (after : NotesByGoal) (steps : List Record) → Takes workers spies root w before steps v after
     → (r : Record) → In r steps → IsReduction r.act × ((g : GoalName) × (r.goal ≡ Some g) × IsInQuestion root v.kept g)

@@ -5,13 +5,14 @@ use Rattle.ghc_term.specs.declared.goal_name.GoalName.{GoalName}
 use Rattle.ghc_term.specs.Goal.{Goal}
 use Rattle.ghc_term.specs.declared.fault.Fault.{Fault}
 use Rattle.ghc_records.specs.Record.{Record}
-use Rattle.ghc_depend.specs.Depend.{Descends}
+use Rattle.ghc_depend.specs.Depend.{Descends, Binds}
 use Rattle.ghc_hooks.specs.Status.{ready, failed}
-use Rattle.ghc_hooks.specs.Notes.{NotesByGoal, IsUntried}
+use Rattle.ghc_hooks.specs.Notes.{Note, NotesByGoal, IsUntried, AreLeft}
 use Rattle.ghc_fire.specs.Attempt.{proposes}
 use Rattle.ghc_core.specs.World.{Proposal, World, IsFull, with_step}
 use Rattle.ghc_core.specs.Core.{IsStanding}
 use Rattle.ghc_core.specs.Proposes.{AttemptAnswers, IsCommitOf, IsStepOf}
+use Rattle.ghc_core.specs.Settling.{AreKept}
 use Rattle.ghc_trace.specs.News.{Stands}
 use Rattle.ghc_trace.specs.Spies.{Spies, IsSpied}
 use Rattle.ghc_pool.specs.declared.stop.Stop.{Stop}
@@ -37,19 +38,30 @@ Proposes w g p = (p.goal ≡ g) × AttemptAnswers w g None (proposes p.act p.eff
 abbrev pub IsHeldStep : World → GoalName → Record → Type 0
 IsHeldStep w g r = (p : Proposal) × ((before : World) × IsStanding before × (before.opening ≡ w.opening) × Proposes before g p) × IsCommitOf w p r
 
--- A run by so many workers may take the step in the world w: it reduces a goal in question that is no call of a spied predicate, as it was proposed; by one worker, as it is proposed in w: a call by the least clause that accepts it.
-pub record IsRunStep (workers : ℕ) (spies : Spies) (root : Option GoalName) (w : World) (r : Record) : Type 0 where
+-- By its note the goal named g has failed.
+abbrev pub IsNotedFailed : NotesByGoal → GoalName → Type 0
+IsNotedFailed notes g = (note : Note) × (f : Fault) × (finite.get notes g ≡ Some note) × (note.status ≡ failed f)
+
+-- With these steps kept and these notes, a run has met no failed goal: none in question is noted as failed.
+abbrev pub HasMetNoFailure : Option GoalName → List Record → NotesByGoal → Type 0
+HasMetNoFailure root kept notes = (g : GoalName) → IsInQuestion root kept g → ¬ IsNotedFailed notes g
+
+-- A run by so many workers may take the step in the world w, with these notes: it reduces a goal in question that is no call of a spied predicate, as it was proposed; by one worker, as it is proposed in w, a call by the least clause that accepts it, and where the run has met no failed goal.
+pub record IsRunStep (workers : ℕ) (spies : Spies) (root : Option GoalName) (w : World) (notes : NotesByGoal) (r : Record) : Type 0 where
   pub goal : GoalName
   pub taken : IsHeldStep w goal r
   pub alone : workers ≡ 1 → IsStepOf w goal None r
   pub asked : IsInQuestion root w.kept goal
   pub unspied : ¬ IsSpiedIn spies w goal
+  pub unfailed : workers ≡ 1 → HasMetNoFailure root w.kept notes
 
--- Takes workers spies root w steps v: from the world w a run by so many workers took these steps, one after another, which left the world v.
-pub data Takes (workers : ℕ) (spies : Spies) (root : Option GoalName) (w : World) : List Record → World → Type 0 where
-  at_start : Takes workers spies root w [] w
-  and_step : {steps : List Record} {v : World} (r : Record) → Takes workers spies root w steps v → IsRunStep workers spies root v r
-      → Takes workers spies root w (steps ++ r ∷ []) (with_step r v)
+-- Takes workers spies root w before steps v after: from the world w, with the notes before, a run by so many workers took these steps, one after another, which left the world v, with the notes after. Goals are tried between the steps. By one worker no note goes or changes by that, and a step leaves just the notes that did not look at what it binds.
+pub data Takes (workers : ℕ) (spies : Spies) (root : Option GoalName) (w : World) (before : NotesByGoal) : List Record → World → NotesByGoal → Type 0 where
+  at_start : Takes workers spies root w before [] w before
+  and_tries : {steps : List Record} {v : World} {notes : NotesByGoal} (more : NotesByGoal) → Takes workers spies root w before steps v notes → (workers ≡ 1 → AreKept notes more)
+      → Takes workers spies root w before steps v more
+  and_step : {steps : List Record} {v : World} {notes : NotesByGoal} (r : Record) (left : NotesByGoal) → Takes workers spies root w before steps v notes → IsRunStep workers spies root v notes r
+      → (workers ≡ 1 → AreLeft (with_step r v).state.goals (Binds r) notes left) → Takes workers spies root w before (steps ++ r ∷ []) (with_step r v) left
 
 -- The goal named g is in question, and has failed.
 abbrev pub HasFailed : Option GoalName → World → GoalName → Type 0
@@ -86,10 +98,11 @@ pub data Holds (Starved : Type 0) (spies : Spies) (root : Option GoalName) (limi
   is_quiet : ¬ IsFull w → IsQuiet root w notes → Holds Starved spies root limit taken w notes Stop.Quiet
   all_taken : CanGoOn spies root w → taken ≡ limit → Holds Starved spies root limit taken w notes Stop.Limit
 
--- From the world w a run by so many workers left the world v, with these notes: it took as many steps as it reports, at most the limit, and the reason that it reports holds of what is left.
+-- From the world w, with some notes, a run by so many workers left the world v, with these notes: it took as many steps as it reports, at most the limit, and the reason that it reports holds of what is left.
 pub record Runs (Starved : Type 0) (workers : ℕ) (spies : Spies) (root : Option GoalName) (limit : ℕ) (w v : World) (notes : NotesByGoal) (report : Report) : Type 0 where
+  pub before : NotesByGoal
   pub steps : List Record
-  pub taken : Takes workers spies root w steps v
+  pub taken : Takes workers spies root w before steps v notes
   pub count : report.added ≡ length steps
   pub few : report.added ≤ limit
   pub reason : Holds Starved spies root limit report.added v notes report.stop

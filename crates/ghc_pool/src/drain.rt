@@ -1,9 +1,11 @@
 // A stretch of a run: steps taken one after another, as long as a goal is met that can be stepped.
-ghost use Rattle.std.specs.Prelude.{◌≡◌, ◌≤◌, true, false, List, length};
+ghost use Rattle.std.specs.Prelude.{◌≡◌, ◌≤◌, true, false};
+ghost use Rattle.ghc_term.specs.declared.goal_name.GoalName.{GoalName as goal_name};
 ghost use Rattle.ghc_records.specs.Record.{Record as record_spec};
-ghost use Rattle.ghc_core.specs.World.{with_step};
-ghost use Rattle.ghc_pool.specs.Runs.{IsRunStep, Takes};
-ghost use Rattle.ghc_pool.specs.Meeting.{TookInQuestion, IsMet};
+ghost use Rattle.ghc_core.specs.Settling.{AreKept};
+ghost use Rattle.ghc_pool.specs.Runs.{HasFailed, HasMetNoFailure};
+ghost use Rattle.ghc_pool.specs.Meeting.{TookInQuestion, HasStepped, IsMet};
+ghost use Rattle.ghc_pool.specs.Stretches.{TakesSoMany};
 
 use crate::meet::{Met, is_to_meet, meet};
 use ghc_core::Core;
@@ -20,8 +22,9 @@ fn among_listed(
     since: u32,
     listed: &mut Vec<GoalName>,
 ) -> Met
-    requires { TookInQuestion root core.old.world.kept since }
-    ensures { IsMet spies.now root core.old.world result core.new.world }
+    requires took { TookInQuestion root core.old.world.kept since }
+    requires unfailed { HasMetNoFailure root core.old.world.kept core.old.notes }
+    ensures { IsMet spies.now root core.old.world core.old.notes result core.new.world core.new.notes }
 {
     while let Some(goal) = listed.pop() {
         core.stands();
@@ -43,8 +46,9 @@ fn among_untried(
     root: Option<GoalName>,
     since: u32,
 ) -> Met
-    requires { TookInQuestion root core.old.world.kept since }
-    ensures { IsMet spies.now root core.old.world result core.new.world }
+    requires took { TookInQuestion root core.old.world.kept since }
+    requires unfailed { HasMetNoFailure root core.old.world.kept core.old.notes }
+    ensures { IsMet spies.now root core.old.world core.old.notes result core.new.world core.new.notes }
 {
     while let Some(goal) = core.tries().next_untried() {
         core.stands();
@@ -65,8 +69,9 @@ fn take_one(
     since: u32,
     listed: &mut Vec<GoalName>,
 ) -> Met
-    requires { TookInQuestion root core.old.world.kept since }
-    ensures { IsMet spies.now root core.old.world result core.new.world }
+    requires took { TookInQuestion root core.old.world.kept since }
+    requires unfailed { HasMetNoFailure root core.old.world.kept core.old.notes }
+    ensures { IsMet spies.now root core.old.world core.old.notes result core.new.world core.new.notes }
 {
     match among_listed(core, alloc, spies, root, since, listed) {
         Met::Passed => among_untried(core, alloc, spies, root, since),
@@ -93,9 +98,10 @@ fn advance(
     since: u32,
     listed: &mut Vec<GoalName>,
 ) -> bool
-    requires { TookInQuestion root core.old.world.kept since }
-    ensures step { result ≡ true → (r : record_spec) × IsRunStep 1 spies.now root core.old.world r × (core.new.world ≡ with_step r core.old.world) }
-    ensures none { result ≡ false → core.new.world ≡ core.old.world }
+    requires took { TookInQuestion root core.old.world.kept since }
+    requires unfailed { HasMetNoFailure root core.old.world.kept core.old.notes }
+    ensures step { result ≡ true → (r : record_spec) × HasStepped spies.now root core.old.world core.old.notes r core.new.world core.new.notes }
+    ensures none { result ≡ false → (core.new.world ≡ core.old.world) × AreKept core.old.notes core.new.notes }
 {
     match take_one(core, alloc, spies, root, since, listed) {
         Met::Stepped(step, count) => {
@@ -108,8 +114,8 @@ fn advance(
 }
 
 // Takes steps of goals that are listed or untried, at most as many as it may, and says how many: one attempt each. The last one
-// listed comes first, and what a step makes is listed. It ends at a goal that may be a reason to stop, where memory is refused,
-// or where none of the goals is left.
+// listed comes first, and what a step makes is listed. It ends at a goal that may be a reason to stop, as one in question that has
+// failed, where memory is refused, or where none of the goals is left.
 pub fn drain(
     core: &mut Core,
     alloc: Global,
@@ -118,7 +124,8 @@ pub fn drain(
     most: usize,
     listed: &mut Vec<GoalName>,
 ) -> usize
-    ensures taken { (steps : List record_spec) × Takes 1 spies.now root core.old.world steps core.new.world × (result ≡ length steps) }
+    requires { (g : goal_name) → ¬ HasFailed root core.old.world g }
+    ensures taken { TakesSoMany result 1 spies.now root core.old.world core.old.notes core.new.world core.new.notes }
     ensures few { result ≤ most }
 {
     core.stands();

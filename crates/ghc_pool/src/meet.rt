@@ -8,9 +8,10 @@ ghost use Rattle.ghc_hooks.specs.Verdict.{status_of};
 ghost use Rattle.ghc_hooks.specs.Status.{ready, waiting};
 ghost use Rattle.ghc_core.specs.World.{IsNextStep};
 ghost use Rattle.ghc_core.specs.Core.{Core as core_spec};
+ghost use Rattle.ghc_core.specs.Settling.{AreKept};
 ghost use Rattle.ghc_trace.specs.Spies.{Spies};
-ghost use Rattle.ghc_pool.specs.Runs.{IsRunStep};
-ghost use Rattle.ghc_pool.specs.Meeting.{TookInQuestion, IsMet, IsPassed, IsNotedReady, IsNotedWaiting, IsToMeet};
+ghost use Rattle.ghc_pool.specs.Runs.{HasMetNoFailure};
+ghost use Rattle.ghc_pool.specs.Meeting.{TookInQuestion, WasTried, WasTaken, IsMet, IsPassed, IsNotedReady, IsNotedWaiting, IsToMeet};
 
 use crate::question::{is_in_question_since, is_spied_in};
 use ghc_core::{Change, Coming, Core};
@@ -86,7 +87,8 @@ pub fn is_to_meet(core: &Core, goal: GoalName) -> bool
 // Tries the goal and notes the outcome, where memory is found: one try.
 fn pass(core: &mut Core, alloc: Global, goal: GoalName) -> Met
     ensures world { core.new.world ≡ core.old.world }
-    ensures met { (spies : Spies) (root : option goal_name) → IsMet spies root core.old.world result core.new.world }
+    ensures kept { AreKept core.old.notes core.new.notes }
+    ensures tried { WasTried core.old.world goal core.old.notes result core.new.notes }
     ensures passed { IsPassed core.old goal result core.new }
 {
     match core.note(alloc, goal) {
@@ -97,7 +99,7 @@ fn pass(core: &mut Core, alloc: Global, goal: GoalName) -> Met
 
 // The same, for a spied goal: the run goes by it if it waits.
 fn pass_spied(core: &mut Core, alloc: Global, goal: GoalName) -> Met
-    ensures met { (spies : Spies) (root : option goal_name) → IsMet spies root core.old.world result core.new.world }
+    ensures met { (spies : Spies) (root : option goal_name) → HasMetNoFailure root core.old.world.kept core.old.notes → IsMet spies root core.old.world core.old.notes result core.new.world core.new.notes }
     ensures passed { IsPassed core.old goal result core.new }
 {
     let met = pass(core, alloc, goal);
@@ -110,7 +112,7 @@ fn pass_spied(core: &mut Core, alloc: Global, goal: GoalName) -> Met
 // Takes a step that was found; where memory is refused for it nothing changes.
 fn take(core: &mut Core, addition: Addition) -> Met
     requires { IsNextStep core.old.world addition }
-    ensures met { (spies : Spies) (root : option goal_name) → IsRunStep 1 spies root core.old.world addition → IsMet spies root core.old.world result core.new.world }
+    ensures taken { WasTaken core.old.world core.old.notes addition result core.new.world core.new.notes }
     ensures passed { (before : core_spec) (g : goal_name) → IsPassed before g result core.new }
 {
     let (step, count) = (addition.step().number(), addition.step().effect().made());
@@ -121,8 +123,8 @@ fn take(core: &mut Core, addition: Addition) -> Met
 }
 
 // Meets a goal: a step of it is taken, with one attempt, or the run goes by it or may have to stop. It is noted only where its
-// step is refused since it waits, where it is spied, or where it is not in question. Since the number given each kept step took a
-// goal in question.
+// step is refused since it waits, where it is spied, or where it is not in question; so the run goes by no failed goal in question.
+// Since the number given each kept step took a goal in question.
 #[inline(always)]
 pub fn meet(
     core: &mut Core,
@@ -134,7 +136,8 @@ pub fn meet(
 ) -> Met
     requires there { (b : goal_spec) × (finite.get core.old.world.state.goals goal ≡ Some b) }
     requires took { TookInQuestion root core.old.world.kept since }
-    ensures met { IsMet spies.now root core.old.world result core.new.world }
+    requires unfailed { HasMetNoFailure root core.old.world.kept core.old.notes }
+    ensures met { IsMet spies.now root core.old.world core.old.notes result core.new.world core.new.notes }
     ensures passed { IsPassed core.old goal result core.new }
 {
     if !is_in_question_since(core, root, since, goal) {

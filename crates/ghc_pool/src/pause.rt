@@ -2,6 +2,7 @@
 ghost use Rattle.std.specs.Prelude.{◌≡◌, ℕ, IfOk, IfErr};
 ghost use Rattle.ghc_term.specs.Lists.{In};
 ghost use Rattle.ghc_term.specs.declared.goal_name.GoalName.{GoalName as goal_name};
+ghost use Rattle.ghc_core.specs.Settling.{AreKept};
 ghost use Rattle.ghc_pool.specs.Runs.{IsReady, CanGoOn, Holds};
 
 use crate::stop::Stop;
@@ -20,6 +21,7 @@ pub fn pause(
     root: Option<GoalName>,
 ) -> Result<Vec<GoalName>, Stop>
     ensures world { core.new.world ≡ core.old.world }
+    ensures kept { AreKept core.old.notes core.new.notes }
     ensures ready { IfOk result (λ _. CanGoOn spies.now root core.new.world) }
     ensures each { IfOk result (λ ready. (g : goal_name) → In g ready.items → IsReady root core.new.world g) }
     ensures stop { IfErr result (λ stop. (limit taken : ℕ) → Holds (Unit {0}) spies.now root limit taken core.new.world core.new.notes stop) }

@@ -48,7 +48,8 @@ fn go_on(
 /// Takes steps, one after another, until there is a reason to stop, which it reports with how many it took: at most as many as
 /// the limit says, each of a goal in question that is no call of a spied predicate, a call by the least clause that accepts it.
 /// Any goal is in question, or where a root is named, those that descend from it. Of several reasons that hold it reports the
-/// first of clash, spied, memory, full, quiet and limit; no step is taken where one of them but the last holds at the start.
+/// first of clash, spied, memory, full, quiet and limit; no step is taken where one of them but the last holds at the start, nor once a
+/// failed goal in question was met.
 ///
 /// The goals that the run makes come first, the newest step's before the others and of one step the first before the others,
 /// then those that were ready, and then those that the run wakes. A step is found with one attempt and taken at once; a goal is

@@ -2,7 +2,7 @@
 ghost use Rattle.std.specs.Prelude.{◌≡◌, ◌≤◌, ◌<◌, ◌^◌, length, All, IfOk};
 ghost use Rattle.ghc_term.specs.Lists.{In};
 ghost use Rattle.ghc_term.specs.declared.goal_name.GoalName.{GoalName as goal_name};
-ghost use Rattle.ghc_pool.specs.Runs.{IsInQuestion};
+ghost use Rattle.ghc_pool.specs.Runs.{HasFailed, IsInQuestion};
 ghost use Rattle.ghc_pool.specs.Told.{Covers};
 ghost use Rattle.ghc_pool.specs.Stretches.{TakesSoMany, TakesAtMost};
 
@@ -93,7 +93,8 @@ impl<R: Threads + Wait + Sync, G: Gate + Sync> Team<'_, R, G> {
         most: usize,
         ready: Vec<GoalName>,
     ) -> usize
-        ensures taken { TakesSoMany result self.now.workers self.now.spies.now root core.old.world core.new.world }
+        requires { (g : goal_name) → ¬ HasFailed root core.old.world g }
+        ensures taken { TakesSoMany result self.now.workers self.now.spies.now root core.old.world core.old.notes core.new.world core.new.notes }
         ensures few { result ≤ most }
     {
         let mut listed = ready;
@@ -112,7 +113,7 @@ impl<R: Threads + Wait + Sync, G: Gate + Sync> Team<'_, R, G> {
         requires several { self.now.workers ≡ 1 → ⊥ }
         requires asked { (g : goal_name) → In g ready.now → IsInQuestion root core.world.kept g }
         requires few { length ready.now < 2 ^ 60 }
-        ensures { TakesAtMost most self.now.workers self.now.spies.now root core.world result.world }
+        ensures { TakesAtMost most self.now.workers self.now.spies.now root core.world core.notes result.world result.notes }
     {
         let Ok(scope) = scope_of(&core, self.alloc, root, ready) else {
             return core;
@@ -134,7 +135,7 @@ impl<R: Threads + Wait + Sync, G: Gate + Sync> Team<'_, R, G> {
     ) -> (Core, usize)
         requires several { self.now.workers ≡ 1 → ⊥ }
         requires asked { (g : goal_name) → In g ready.items → IsInQuestion root core.world.kept g }
-        ensures taken { TakesSoMany result.1 self.now.workers self.now.spies.now root core.world result.0.world }
+        ensures taken { TakesSoMany result.1 self.now.workers self.now.spies.now root core.world core.notes result.0.world result.0.notes }
         ensures few { result.1 ≤ most }
     {
         let mut ready = ready;
@@ -155,8 +156,9 @@ impl<R: Threads + Wait + Sync, G: Gate + Sync> Team<'_, R, G> {
         ready: Vec<GoalName>,
     ) -> (Core, usize)
         requires several { self.now.workers ≡ 1 → ⊥ }
+        requires unfailed { (g : goal_name) → ¬ HasFailed root core.world g }
         requires asked { (g : goal_name) → In g ready.items → IsInQuestion root core.world.kept g }
-        ensures taken { TakesSoMany result.1 self.now.workers self.now.spies.now root core.world result.0.world }
+        ensures taken { TakesSoMany result.1 self.now.workers self.now.spies.now root core.world core.notes result.0.world result.0.notes }
         ensures few { result.1 ≤ most }
     {
         if ready.len() == 1 {

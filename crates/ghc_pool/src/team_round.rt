@@ -37,7 +37,7 @@ pub fn work_off<N: Naming + Send + Sync, R: Threads + Wait + Sync, G: Gate + Syn
     requires passes { opening.passes ≡ N.passes }
     requires opened { code_of opening.value.world.opening ≡ N.opened }
     requires base { length (history opening.value.world.opening opening.value.world.journal) ≡ N.base }
-    ensures { TakesAtMost most team.now.workers team.now.spies.now root opening.value.world result.world }
+    ensures { TakesAtMost most team.now.workers team.now.spies.now root opening.value.world opening.value.notes result.world result.notes }
 {
     let mode = Mode::Leap { limit: most };
     match opening.named::<N>(team.alloc) {

@@ -1,4 +1,5 @@
-use Rattle.ghc_pool.proofs.Words.{[], refl, subst, sym, arith, World, Runs, Takes, CanGoOn, at_start}
+use Rattle.ghc_pool.proofs.Words.{[], refl, subst, arith, World, Runs, CanGoOn, at_start}
+use Rattle.ghc_pool.proofs.Taking.{takes_tried}
 use Rattle.ghc_pool.proofs.running.run.Goals as goal
 
 pub go_on-requires : goal.go_on-requires
@@ -13,8 +14,9 @@ returns-in-Ok-clause-stopped c stuck = absurd (stuck (subst (CanGoOn c.args.spie
 
 pub returns-in-Err-clause-runs : goal.returns-in-Err-clause-runs
 returns-in-Err-clause-runs c = record {
+  before = c.args.core.now.notes;
   steps = [];
-  taken = subst (Takes 1 c.args.spies.now c.args.root c.args.core.now.world []) (sym c.in-Err.ensures.world) at_start;
+  taken = takes_tried 1 c.args.spies.now c.args.root c.args.core.now.world c.args.core.now.world c.pause.new.core.world c.args.core.now.notes c.args.core.now.notes c.pause.new.core.notes [] at_start c.in-Err.ensures.world c.in-Err.ensures.kept;
   count = refl;
   few = omega arith;
   reason = c.in-Err.ensures.stop c.args.limit 0;

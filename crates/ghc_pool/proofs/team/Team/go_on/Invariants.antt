@@ -4,7 +4,7 @@ use Rattle.ghc_pool.proofs.team.Team.go_on.Given as goal
 abbrev pub invariant-loop-added : goal.invariant-loop-added
 invariant-loop-added g l = record {
   steps : List Record;
-  taken : Takes l.self.workers l.self.spies.now l.root l.initial.core.world steps l.core.world;
+  taken : Takes l.self.workers l.self.spies.now l.root l.initial.core.world l.initial.core.notes steps l.core.world l.core.notes;
   count : l.added ≡ length steps;
   few : l.added ≤ l.limit;
   goes_on : CanGoOn l.self.spies.now l.root l.core.world;

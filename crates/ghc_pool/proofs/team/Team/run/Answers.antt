@@ -1,4 +1,5 @@
-use Rattle.ghc_pool.proofs.Words.{◌≡◌, ℕ, [], refl, subst, sym, arith, World, Runs, Takes, CanGoOn, at_start}
+use Rattle.ghc_pool.proofs.Words.{◌≡◌, ℕ, [], refl, subst, arith, World, Runs, CanGoOn, at_start}
+use Rattle.ghc_pool.proofs.Taking.{takes_tried}
 use Rattle.ghc_pool.proofs.team.Team.run.Goals as goal
 
 pub returns-then-count-eq1-clause-runs : goal.returns-then-count-eq1-clause-runs
@@ -27,8 +28,9 @@ pub returns-in-Err-clause-runs : goal.returns-in-Err-clause-runs
 returns-in-Err-clause-runs g c =
     let team = c.args.self.now in
     record {
+      before = c.args.core.notes;
       steps = [];
-      taken = subst (Takes team.workers team.spies.now c.args.root c.args.core.world []) (sym c.in-Err.ensures.world) at_start;
+      taken = takes_tried team.workers team.spies.now c.args.root c.args.core.world c.args.core.world c.pause.new.core.world c.args.core.notes c.args.core.notes c.pause.new.core.notes [] at_start c.in-Err.ensures.world c.in-Err.ensures.kept;
       count = refl;
       few = omega arith;
       reason = c.in-Err.ensures.stop c.args.limit 0;

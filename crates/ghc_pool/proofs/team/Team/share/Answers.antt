@@ -20,9 +20,9 @@ work_off-requires-clause-standing g c κs within = subst (λ (o : Core). IsStand
 pub returns-in-Ok-new : goal.returns-in-Ok-new
 returns-in-Ok-new g c =
     let team = c.args.self.now in
-    subst (λ (o : Core). TakesAtMost c.args.most team.workers team.spies.now c.args.root o.world c.work_off.result.world) c.in-Ok-new.ensures.value c.work_off.ensures
+    subst (λ (o : Core). TakesAtMost c.args.most team.workers team.spies.now c.args.root o.world o.notes c.work_off.result.world c.work_off.result.notes) c.in-Ok-new.ensures.value c.work_off.ensures
 
 pub returns : goal.returns
 returns g c =
     let team = c.args.self.now in
-    subst (λ (o : Core). TakesAtMost c.args.most team.workers team.spies.now c.args.root c.args.core.world o.world) (sym c.in-Err.ensures.refused) ([], at_start, omega arith)
+    subst (λ (o : Core). TakesAtMost c.args.most team.workers team.spies.now c.args.root c.args.core.world c.args.core.notes o.world o.notes) (sym c.in-Err.ensures.refused) ([], at_start, omega arith)

@@ -5,4 +5,4 @@ pub returns-clause-taken : goal.returns-clause-taken
 returns-clause-taken g c =
     let t = c.drain.ensures.taken in
     let team = c.args.self.now in
-    (t.0, more_workers team.workers team.spies.now c.args.root c.args.core.now.world c.drain.new.core.world t.0 t.1, t.2)
+    (t.0, more_workers team.workers team.spies.now c.args.root c.args.core.now.world c.args.core.now.notes c.drain.new.core.world c.drain.new.core.notes t.0 t.1, t.2)

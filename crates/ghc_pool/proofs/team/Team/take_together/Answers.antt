@@ -12,7 +12,7 @@ pub overflow_sub-result : goal.overflow_sub-result
 overflow_sub-result g c =
     let team = c.args.self.now in
     let t = c.share-core.ensures in
-    let more = kept_count team.workers team.spies.now c.args.root c.args.core.world c.share-core.result.world t.0 t.1 in
+    let more = kept_count team.workers team.spies.now c.args.root c.args.core.world c.share-core.result.world c.args.core.notes c.share-core.result.notes t.0 t.1 in
     let before = c.len-before.ensures.count ∙ ap (λ l. length l) c.records.ensures in
     let after = c.len-after.ensures.count ∙ ap (λ l. length l) c.records-2.ensures in
     omega (arith, before, after, more)
@@ -21,7 +21,7 @@ pub returns-clause-taken : goal.returns-clause-taken
 returns-clause-taken g c =
     let team = c.args.self.now in
     let t = c.share-core.ensures in
-    let more = kept_count team.workers team.spies.now c.args.root c.args.core.world c.share-core.result.world t.0 t.1 in
+    let more = kept_count team.workers team.spies.now c.args.root c.args.core.world c.share-core.result.world c.args.core.notes c.share-core.result.notes t.0 t.1 in
     let before = c.len-before.ensures.count ∙ ap (λ l. length l) c.records.ensures in
     let after = c.len-after.ensures.count ∙ ap (λ l. length l) c.records-2.ensures in
     (t.0, t.1, omega (arith, before, after, more))
@@ -30,7 +30,7 @@ pub returns-clause-few : goal.returns-clause-few
 returns-clause-few g c =
     let team = c.args.self.now in
     let t = c.share-core.ensures in
-    let more = kept_count team.workers team.spies.now c.args.root c.args.core.world c.share-core.result.world t.0 t.1 in
+    let more = kept_count team.workers team.spies.now c.args.root c.args.core.world c.share-core.result.world c.args.core.notes c.share-core.result.notes t.0 t.1 in
     let before = c.len-before.ensures.count ∙ ap (λ l. length l) c.records.ensures in
     let after = c.len-after.ensures.count ∙ ap (λ l. length l) c.records-2.ensures in
     omega (arith, before, after, more, t.2)
