@@ -8,7 +8,7 @@ pub use Rattle.ghc_console.specs.LineMemory.{BeginsWithNumber, TakesMemory, for_
 pub use Rattle.ghc_console.specs.Lines.{line_feeds, line_of, lines_of, onto, rows_of}
 pub use Rattle.ghc_console.specs.PredicateWords.{is_name, predicate_named, predicate_of, predicate_of_parts}
 pub use Rattle.ghc_console.specs.Reading.{AsksAtNeed, CountsGiven, HasGathered, IsMadeOf, IsNextLine, LineSays, TakesFirst, TakesFront, TakesLine, line_limit}
-pub use Rattle.ghc_console.specs.Replies.{Answers, IsFrontOf, IsObeyed, IsReply, RepliesToAsk, RepliesToGoals, RepliesToInput, RepliesToSaveSteps, RepliesToShow, RepliesToSpy, RepliesToStep, RepliesToWho, RepliesToWhy, Settled, TellsChange, TellsSlot, asks, fails, full, goal_too_long, has_asked, is_spied, is_undefined, lined, lines_or_none, lists, names_nothing, no_goals, no_memory, no_variable, not_kept, numbers_text, obeys, print_limit, quits, reads, record_lines, records_text, refusal, refuses, replies, saved_text, settled, shows, steps, steps_told, takes, tells_binders, tells_history, tells_reasons, text_lines, too_long, unasked, unread, unsettled}
+pub use Rattle.ghc_console.specs.Replies.{Answers, IsFrontOf, IsObeyed, IsReply, RepliesToAsk, RepliesToGoals, RepliesToInput, RepliesToKeep, RepliesToSaveSteps, RepliesToShow, RepliesToSpy, RepliesToStep, RepliesToWho, RepliesToWhy, Settled, TellsChange, TellsSlot, asks, fails, full, goal_too_long, has_asked, is_spied, is_undefined, keeps, keeps_nothing, lined, lines_or_none, lists, names_nothing, no_goals, no_memory, no_variable, not_kept, numbers_text, obeys, print_limit, quits, reads, record_lines, records_text, refusal, refuses, replies, saved_text, settled, shows, steps, steps_told, takes, tells_binders, tells_history, tells_reasons, text_lines, too_long, unasked, unread, unsettled}
 pub use Rattle.ghc_console.specs.RunReplies.{AreLinesTold, IsAdded, IsLineTold, RepliesToSkip, TellsRun, and_line, last_of, mode_of, no_goal, no_line, run_lines, skips, step_line, stop_line}
 pub use Rattle.ghc_console.specs.ScheduleReplies.{Hears, IsAskedOf, IsDoneBy, IsGiven, PlaysCommand, does, reply_text, starves, told_text}
 pub use Rattle.ghc_console.specs.ScheduleText.{ArePlayedOut, BrokenOff, Schedule, WritesSchedule, hand_count, nothing_more, part_of_records, part_of_reply, then_begun, then_whole, told_at_end, with_hands}
@@ -21,7 +21,7 @@ pub use Rattle.ghc_console.specs.WritesTold.{WritesTold}
 pub use Rattle.ghc_console.specs.declared.answered.Answered.{Answered}
 pub use Rattle.ghc_console.specs.declared.answered.Answered.TheVariants.{Asks, Ends, Told}
 pub use Rattle.ghc_console.specs.declared.command.LineCommand.{LineCommand}
-pub use Rattle.ghc_console.specs.declared.command.LineCommand.TheVariants.{Ask, Goals, Input, Leap, Nothing, Obey, Quit, Records, Save, SaveSteps, Shelf, Show, Skip, Spy, Step, Unknown, Unspy, Who, Why}
+pub use Rattle.ghc_console.specs.declared.command.LineCommand.TheVariants.{Ask, Goals, Input, Keep, Leap, Nothing, Obey, Quit, Records, Save, SaveSteps, Shelf, Show, Skip, Spy, Step, Unknown, Unspy, Who, Why}
 pub use Rattle.ghc_console.specs.declared.line_buffer.Gathered.{Gathered}
 pub use Rattle.ghc_console.specs.declared.reading.Line.{Line}
 pub use Rattle.ghc_core.proofs.Moving.{opening_stays}
@@ -49,7 +49,7 @@ pub use Rattle.ghc_flat.specs.Numbers.{AreNumbersFor}
 pub use Rattle.ghc_flat.specs.Samples.{asked}
 pub use Rattle.ghc_hooks.specs.Notes.{NotesByGoal}
 pub use Rattle.ghc_pool.specs.Laws.{RunsAddAtTheEnd}
-pub use Rattle.ghc_pool.specs.Runs.{Runs, RunsIn, Takes, and_step, at_start}
+pub use Rattle.ghc_pool.specs.Runs.{Runs, RunsIn, Takes, and_step, and_tries, at_start}
 pub use Rattle.ghc_pool.specs.declared.mode.Mode.{Mode}
 pub use Rattle.ghc_pool.specs.declared.stop.Report.{Report}
 pub use Rattle.ghc_reader.specs.Tests.{IsRefusal, a_term, an_ask}

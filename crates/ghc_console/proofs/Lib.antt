@@ -15,11 +15,16 @@ pub mod NumberedWords
 pub mod PredicateWordLemmas
 pub mod GivenNames
 pub mod CauseReplies
+pub mod ExplainReplies
+pub mod LookReplies
 pub mod Ordering
 pub mod LineMemory
 pub mod Spying
 pub mod RunLines
 pub mod RunCommands
+pub mod Parting
+pub mod Keeping
+pub mod KeptAlone
 mod Served
 mod ScheduleSaid
 mod SchedulePlays

@@ -1,5 +1,5 @@
 -- The lines of runs: how far their writing has come, and of which steps they are.
-use Rattle.ghc_console.proofs.CitedWords.{◌≡◌, ℕ, zero, suc, ◌+◌, ◌-◌, ◌<◌, ◌≤◌, List, [], ◌∷◌, ◌++◌, length, map, take, drop, refl, sym, ap, ◌∙◌, subst, inl, inr, ◌⊎◌, slice_get, append_assoc, append-nil, take-append-drop, drop_of_length-le, length-append, arith, Option, Some, None, Result, Ok, Err, length-drop, slice_get_cases, take-append_seam, drop-append_seam, Appends, Appends-trans, Appends-nil, GoalName, In, in_at, in_right, Record, numbers, AreDistinct, record_once, NotesByGoal, World, Spies, Report, Mode, Runs, RunsIn, Takes, at_start, and_step, RunsAddAtTheEnd, AreLinesTold, no_line, and_line, IsAdded, IsLineTold, TellsRun, last_of, mode_of, run_lines, step_line, WritesTold}
+use Rattle.ghc_console.proofs.CitedWords.{◌≡◌, ℕ, zero, suc, ◌+◌, ◌-◌, ◌<◌, ◌≤◌, List, [], ◌∷◌, ◌++◌, length, map, take, drop, refl, sym, ap, ◌∙◌, subst, inl, inr, ◌⊎◌, slice_get, append_assoc, append-nil, take-append-drop, drop_of_length-le, length-append, arith, Option, Some, None, Result, Ok, Err, length-drop, slice_get_cases, take-append_seam, drop-append_seam, Appends, Appends-trans, Appends-nil, GoalName, In, in_at, in_right, Record, numbers, AreDistinct, record_once, NotesByGoal, World, Spies, Report, Mode, Runs, RunsIn, Takes, at_start, and_step, and_tries, RunsAddAtTheEnd, AreLinesTold, no_line, and_line, IsAdded, IsLineTold, TellsRun, last_of, mode_of, run_lines, step_line, WritesTold}
 use Rattle.ghc_console.proofs.RecordLines.{drop_at}
 
 -- Lines that are told, and more behind them.
@@ -73,13 +73,14 @@ runs_so None limit workers spies w v notes report mode is ran = subst (λ m. Run
 runs_so (Some root) limit workers spies w v notes report mode is ran = subst (λ m. RunsIn m (Unit {0}) workers spies w v notes report) is ran
 
 -- The steps of a run have the next numbers.
-numbered : RunsAddAtTheEnd → (workers : ℕ) (spies : Spies) (root : Option GoalName) (w v : World) (steps : List Record) → Takes workers spies root w steps v
+numbered : RunsAddAtTheEnd → (workers : ℕ) (spies : Spies) (root : Option GoalName) (w : World) (before : NotesByGoal) (v : World) (after : NotesByGoal) (steps : List Record) → Takes workers spies root w before steps v after
     → (i : ℕ) (r : Record) → slice_get steps i ≡ Some r → r.number ≡ w.next + i
-numbered law workers spies root w v steps at_start i r e = let clash : None ≡ Some r = e in cc
-numbered law workers spies root w v steps (and_step {steps = front} {v = u} q t s) i r e =
+numbered law workers spies root w before v after steps at_start i r e = let clash : None ≡ Some r = e in cc
+numbered law workers spies root w before v after steps (and_tries {notes = notes} more t kept) i r e = numbered law workers spies root w before v notes steps t i r e
+numbered law workers spies root w before v after steps (and_step {steps = front} {v = u} {notes = notes} q left t s spared) i r e =
     elim (at_last front q r i e) [
-      | inl old ↦ numbered law workers spies root w u front t i r old
-      | inr new ↦ ap (λ (z : Record). z.number) new.1 ∙ s.taken.2.1.0 ∙ (law workers spies root w u front t).next ∙ ap (λ k. w.next + k) (sym new.0)
+      | inl old ↦ numbered law workers spies root w before u notes front t i r old
+      | inr new ↦ ap (λ (z : Record). z.number) new.1 ∙ s.taken.2.1.0 ∙ (law workers spies root w before u notes front t).next ∙ ap (λ k. w.next + k) (sym new.0)
     ]
 
 -- The last of a list, as many as stand behind its front.
@@ -93,7 +94,7 @@ module _ (law : RunsAddAtTheEnd) (workers : ℕ) (spies : Spies) (root : Option 
   -- the last steps are those of the run
   its_steps : last_of report.added v.kept ≡ ran.steps
   its_steps =
-      let adds = law workers spies root w v ran.steps ran.taken in
+      let adds = law workers spies root w ran.before v notes ran.steps ran.taken in
       ap (λ k. last_of k v.kept) ran.count ∙ ap (last_of (length ran.steps)) adds.kept ∙ last_is w.kept ran.steps
 
   pub tells_run : (text : List ℕ) → AreLinesTold (run_lines (last_of report.added v.kept) report.stop) text → TellsRun workers spies root limit w text v
@@ -101,7 +102,7 @@ module _ (law : RunsAddAtTheEnd) (workers : ℕ) (spies : Spies) (root : Option 
 
   pub is_added : IsAdded v report.added
   is_added =
-      let adds = law workers spies root w v ran.steps ran.taken in
+      let adds = law workers spies root w ran.before v notes ran.steps ran.taken in
       let count = ran.count in
       let next = adds.next in
       let long : length v.kept ≡ length w.kept + length ran.steps = ap length adds.kept ∙ length-append w.kept ran.steps in
@@ -109,11 +110,11 @@ module _ (law : RunsAddAtTheEnd) (workers : ℕ) (spies : Spies) (root : Option 
       record {
         few = omega (arith, count, long);
         below = omega (arith, count, next);
-        numbered = λ i r e. numbered law workers spies root w v ran.steps ran.taken i r (subst (λ steps. slice_get steps i ≡ Some r) its_steps e) ∙ ap (λ k. k + i) (sym first);
+        numbered = λ i r e. numbered law workers spies root w ran.before v notes ran.steps ran.taken i r (subst (λ steps. slice_get steps i ≡ Some r) its_steps e) ∙ ap (λ k. k + i) (sym first);
       }
 
   pub opening_left : v.opening ≡ w.opening
-  opening_left = (law workers spies root w v ran.steps ran.taken).opening
+  opening_left = (law workers spies root w ran.before v notes ran.steps ran.taken).opening
 
 module _ (w : World) (count : ℕ) (added : IsAdded w count) where
   so_many : length (last_of count w.kept) ≡ count

@@ -7,7 +7,7 @@ use Rattle.ghc_core.specs.declared.command.Command.TheVariants.{Undo, Redo, Roll
 use Rattle.ghc_console.specs.Words.{behind, goal_name_of, is_printable, is_variable, number_of, numbers_of, words_of}
 use Rattle.ghc_console.specs.PredicateWords.{predicate_of}
 use Rattle.ghc_console.specs.declared.command.LineCommand.{LineCommand}
-use Rattle.ghc_console.specs.declared.command.LineCommand.TheVariants.{Nothing, Step, Obey, Show, Records, Goals, Why, Who, Shelf, Save, SaveSteps, Spy, Unspy, Input, Ask, Leap, Skip, Quit, Unknown}
+use Rattle.ghc_console.specs.declared.command.LineCommand.TheVariants.{Nothing, Step, Obey, Show, Records, Since, Causes, GoalOf, Clauses, Goals, Why, Who, Explain, Keep, Shelf, Save, SaveSteps, Spy, Unspy, Input, Ask, Leap, Skip, Quit, Unknown}
 
 -- A step with the goal, by the least clause that accepts, where the word named one.
 abbrev pub step_with : Option GoalName → LineCommand
@@ -33,33 +33,43 @@ abbrev pub skip_with : Option GoalName → LineCommand
 skip_with (Some goal) = Skip goal
 skip_with None = Unknown
 
--- The command of a word alone: `records`, `goals`, `shelf`, `save`, `leap` or `quit`.
+-- What the clauses say to the goal, where the word named one.
+abbrev pub clauses_with : Option GoalName → LineCommand
+clauses_with (Some goal) = Clauses goal
+clauses_with None = Unknown
+
+-- The command of a word alone: `records`, `goals`, `shelf`, `save`, `leap`, `quit` or `causes`.
 abbrev pub command_of_one_word : List ℕ → LineCommand
 command_of_one_word name = if bytes_eq name (codes "records") then Records
     else (if bytes_eq name (codes "goals") then Goals
     else (if bytes_eq name (codes "shelf") then Shelf
     else (if bytes_eq name (codes "save") then Save
     else (if bytes_eq name (codes "leap") then Leap run_limit
-    else (if bytes_eq name (codes "quit") then Quit else Unknown)))))
+    else (if bytes_eq name (codes "quit") then Quit
+    else (if bytes_eq name (codes "causes") then Causes else Unknown))))))
 
--- The command of a word with a number: `undo N`, `redo N`, `roll N`, `why N`, `end K` or `leap K`.
+-- The command of a word with a number: `undo N`, `redo N`, `roll N`, `why N`, `end K`, `leap K`, `since N` or `goal N`.
 abbrev pub command_with_number : List ℕ → ℕ → LineCommand
 command_with_number name number = if bytes_eq name (codes "undo") then Obey (Undo number)
     else (if bytes_eq name (codes "redo") then Obey (Redo number)
     else (if bytes_eq name (codes "roll") then Obey (Roll number)
     else (if bytes_eq name (codes "why") then Why number
     else (if bytes_eq name (codes "end") then Obey (Close number)
-    else (if bytes_eq name (codes "leap") then leap_of number else Unknown)))))
+    else (if bytes_eq name (codes "leap") then leap_of number
+    else (if bytes_eq name (codes "since") then Since number
+    else (if bytes_eq name (codes "goal") then GoalOf number else Unknown)))))))
 
 -- The same, where the word behind said a number.
 abbrev pub numbered : List ℕ → Option ℕ → LineCommand
 numbered name (Some number) = command_with_number name number
 numbered name None = Unknown
 
--- The command of a word with a variable: `show X` or `who X`.
+-- The command of a word with a variable: `show X`, `who X`, `explain X` or `keep X`.
 abbrev pub command_with_variable : List ℕ → List ℕ → LineCommand
 command_with_variable name word = if bytes_eq name (codes "show") then Show word
-    else (if bytes_eq name (codes "who") then Who word else Unknown)
+    else (if bytes_eq name (codes "who") then Who word
+    else (if bytes_eq name (codes "explain") then Explain word
+    else (if bytes_eq name (codes "keep") then Keep word else Unknown)))
 
 -- The spying of the predicate, where the word named one.
 abbrev pub spy_with : Option (List ℕ × ℕ) → LineCommand
@@ -75,14 +85,15 @@ unspy_with None = Unknown
 abbrev pub save_of : List ℕ → LineCommand
 save_of word = if bytes_eq word (codes "1") then SaveSteps else Unknown
 
--- The command of a word and one more: `step G` or `skip G`, `save 1`, one with a predicate, or one with a variable or a number.
+-- The command of a word and one more: `step G`, `skip G` or `clauses G`, `save 1`, one with a predicate, or one with a variable or a number.
 abbrev pub command_of_two_words : List ℕ → List ℕ → LineCommand
 command_of_two_words name word = if bytes_eq name (codes "step") then step_with (goal_name_of word)
     else (if bytes_eq name (codes "skip") then skip_with (goal_name_of word)
+    else (if bytes_eq name (codes "clauses") then clauses_with (goal_name_of word)
     else (if bytes_eq name (codes "spy") then spy_with (predicate_of word)
     else (if bytes_eq name (codes "nospy") then unspy_with (predicate_of word)
     else (if bytes_eq name (codes "save") then save_of word
-    else (if is_variable word then command_with_variable name word else numbered name (number_of word))))))
+    else (if is_variable word then command_with_variable name word else numbered name (number_of word)))))))
 
 -- The command of a word and two more: `step G C`.
 abbrev pub command_of_three_words : List ℕ → List ℕ → List ℕ → LineCommand

@@ -10,7 +10,12 @@ pub mod VariableNamed
 pub mod AskedFor
 pub mod SessionState
 pub mod TextLines
+pub mod Looks
+pub mod Explaining
 pub mod RunReplies
+pub mod Keeping
+pub mod KeepingCode
+pub mod KeepLaws
 pub mod WritesTold
 pub mod Replies
 pub mod Told

@@ -4,12 +4,14 @@ use Rattle.std.specs.List.{list_all}
 use Rattle.ghc_console.specs.Words.{is_printable, number_of, words_of}
 use Rattle.ghc_console.specs.Commands.{command_of}
 use Rattle.ghc_console.specs.declared.command.LineCommand.{LineCommand}
-use Rattle.ghc_console.specs.declared.command.LineCommand.TheVariants.{Show, Who, Spy, Unspy, Input, Ask}
+use Rattle.ghc_console.specs.declared.command.LineCommand.TheVariants.{Show, Who, Explain, Keep, Spy, Unspy, Input, Ask}
 
 -- The command keeps a text of its line: the word of a variable, the name of a predicate, or what is given or asked for.
 abbrev pub KeepsText : LineCommand → Type 0
 KeepsText (Show word) = Unit {0}
 KeepsText (Who word) = Unit {0}
+KeepsText (Explain word) = Unit {0}
+KeepsText (Keep word) = Unit {0}
 KeepsText (Spy name arity) = Unit {0}
 KeepsText (Unspy name arity) = Unit {0}
 KeepsText (Input stream given) = Unit {0}

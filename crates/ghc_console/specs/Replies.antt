@@ -18,10 +18,11 @@ use Rattle.ghc_fire.specs.Proposal.{Proposal}
 use Rattle.ghc_records.specs.Slots.{SlotList, StandsIn}
 use Rattle.ghc_records.specs.Record.{Record, Shelf, numbers}
 use Rattle.ghc_records.specs.Journal.{step_of}
-use Rattle.ghc_records.specs.StepText.{listed, record_text, step_text}
+use Rattle.ghc_records.specs.StepText.{record_text, step_text}
 use Rattle.ghc_records.specs.HistoryText.{history_text}
 use Rattle.ghc_records.specs.ChronicleText.{chronicle_text}
 use Rattle.ghc_depend.specs.Depend.{IsNotKept}
+use Rattle.ghc_depend.specs.Slices.{IsSliceOf}
 use Rattle.ghc_core.specs.World.{World, IsFull, with_step}
 use Rattle.ghc_core.specs.Events.{Command}
 use Rattle.ghc_core.specs.Events as command
@@ -45,13 +46,16 @@ use Rattle.ghc_trace.specs.Why.{AreReasonsTold}
 use Rattle.ghc_trace.specs.declared.who_bound.Binder.{Binder}
 use Rattle.ghc_trace.specs.Who.{AreBindersTold, binder_text}
 use Rattle.ghc_trace.specs.Spies.{Spies, spies_in_order}
-pub use Rattle.ghc_console.specs.TextLines.{lined, refusal}
+pub use Rattle.ghc_console.specs.TextLines.{lined, lines_or_none, numbers_text, record_lines, refusal, text_lines, undone_text}
+use Rattle.ghc_console.specs.Explaining.{RepliesToExplain}
+use Rattle.ghc_console.specs.Looks.{RepliesToSince, RepliesToCauses, RepliesToGoalOf, RepliesToClauses}
 use Rattle.ghc_console.specs.RunReplies.{TellsRun, RepliesToSkip}
+use Rattle.ghc_console.specs.Keeping.{TellsKept}
 use Rattle.ghc_console.specs.VariableNamed.{IsVariableNamed}
 use Rattle.ghc_console.specs.AskedFor.{IsReadAskFor}
 use Rattle.ghc_console.specs.Commands.{command_of}
 use Rattle.ghc_console.specs.declared.command.LineCommand.{LineCommand}
-use Rattle.ghc_console.specs.declared.command.LineCommand.TheVariants.{Nothing as nothing, Step as step, Obey as obey, Show as show, Records as records, Goals as goals, Why as why, Who as who, Shelf as shelf, Save as save, SaveSteps as save_steps, Spy as spy, Unspy as unspy, Input as input, Ask as ask, Leap as leap, Skip as skip, Quit as quit, Unknown as unknown}
+use Rattle.ghc_console.specs.declared.command.LineCommand.TheVariants.{Nothing as nothing, Step as step, Obey as obey, Show as show, Records as records, Since as since, Causes as causes, GoalOf as goal_of, Clauses as clauses, Goals as goals, Why as why, Who as who, Explain as explain, Keep as keep, Shelf as shelf, Save as save, SaveSteps as save_steps, Spy as spy, Unspy as unspy, Input as input, Ask as ask, Leap as leap, Skip as skip, Quit as quit, Unknown as unknown}
 use Rattle.ghc_console.specs.Reading.{line_limit}
 use Rattle.ghc_console.specs.SessionState.{SessionState, HasClauseFor, LeavesSpies, predicate_text}
 
@@ -74,14 +78,6 @@ pub data Takes (w : World) (p : Proposal) : List ℕ → World → Type 0 where
 pub data RepliesToStep (w : World) (g : GoalName) (choice : Option ℕ) (text : List ℕ) (v : World) : Type 0 where
   steps : (p : Proposal) → p.goal ≡ g → AttemptAnswers w g choice (proposes p.act p.effect) → Takes w p text v → RepliesToStep w g choice text v
   fails : (f : Fault) → AttemptAnswers w g choice (refused f) → text ≡ refusal f → v ≡ w → RepliesToStep w g choice text v
-
--- the numbers with a comma between them, and `-` where there is none
-abbrev pub numbers_text : List ℕ → List ℕ
-numbers_text numbers = listed (codes ",") (map decimal numbers)
-
--- the line of the steps that were undone, as `undone 3,4`
-abbrev pub undone_text : List ℕ → List ℕ
-undone_text numbers = lined (codes "undone " ++ numbers_text numbers)
 
 -- IsFrontOf w change front: the front of a text tells the change of the world w: the ports of the step that comes, which steps are undone, or that the record is arranged.
 abbrev pub IsFrontOf : World → Change → List ℕ → Type 0
@@ -116,11 +112,6 @@ pub data RepliesToShow (w : World) (word : List ℕ) : List ℕ → Type 0 where
       → RepliesToShow w word (refusal (Fault.Limit limit.Print))
   no_variable : ((x : VarName) → ¬ IsVariableNamed w word x) → RepliesToShow w word (refusal Fault.NoVariable)
 
--- the records, a line each
-abbrev pub record_lines : List Record → List ℕ
-record_lines [] = []
-record_lines (r ∷ rs) = lined (record_text r) ++ record_lines rs
-
 -- The text behind is that in front and the line of the record in the slot; the same text, where that is a gap.
 abbrev pub TellsSlot : SlotList → ℕ → List ℕ → List ℕ → Type 0
 TellsSlot ss place before after = ((r : Record) × StandsIn ss place r × (after ≡ before ++ record_lines (r ∷ []))) ⊎ (((r : Record) → ¬ StandsIn ss place r) × (after ≡ before))
@@ -135,16 +126,6 @@ pub data RepliesToGoals (w : World) : List ℕ → Type 0 where
   no_goals : w.state.goals ≡ finite.empty → RepliesToGoals w (lined (codes "none"))
   lists : {text : List ℕ} → w.state.goals ≢ finite.empty → AreGoalLines w text → ¬ HasTooLong w.state.goals w.state.store → RepliesToGoals w text
   goal_too_long : HasTooLong w.state.goals w.state.store → RepliesToGoals w (refusal (Fault.Limit limit.Print))
-
--- texts, a line each
-abbrev pub text_lines : List (List ℕ) → List ℕ
-text_lines [] = []
-text_lines (t ∷ ts) = t ++ (codes "\n" ++ text_lines ts)
-
--- texts, a line each, and `none` where there is none
-abbrev pub lines_or_none : List (List ℕ) → List ℕ
-lines_or_none [] = lined (codes "none")
-lines_or_none (t ∷ ts) = text_lines (t ∷ ts)
 
 -- the texts of the steps of records
 abbrev pub steps_told : List (ℕ × Record) → List (List ℕ)
@@ -163,6 +144,12 @@ pub data RepliesToWhy (w : World) (n : ℕ) : List ℕ → Type 0 where
 pub data RepliesToWho (w : World) (word : List ℕ) : List ℕ → Type 0 where
   tells_binders : (x : VarName) (binders : List Binder) → IsVariableNamed w word x → AreBindersTold w x binders → RepliesToWho w word (lines_or_none (map binder_text binders))
   names_nothing : ((x : VarName) → ¬ IsVariableNamed w word x) → RepliesToWho w word (refusal Fault.NoVariable)
+
+-- RepliesToKeep w word text v: the kept steps outside of the slice of the variable that the word names are rolled back, which leaves the world v, and it is told how many are kept; or the refusal where the word names none.
+pub data RepliesToKeep (w : World) (word : List ℕ) : List ℕ → World → Type 0 where
+  keeps : (x : VarName) (slice rest : List Record) {text : List ℕ} {v : World} → IsVariableNamed w word x → IsSliceOf w.kept w.state x slice rest → TellsKept w (numbers rest) text v
+      → RepliesToKeep w word text v
+  keeps_nothing : ((x : VarName) → ¬ IsVariableNamed w word x) → RepliesToKeep w word (refusal Fault.NoVariable) w
 
 -- the text of the whole session: what it began with, the entries of the journal behind that, the spies in order, and the next number
 abbrev pub saved_text : World → Spies → List ℕ
@@ -185,9 +172,15 @@ Replies workers spies w (step g choice) text v = RepliesToStep w g choice text v
 Replies workers spies w (obey c) text v = IsObeyed w (core_command_of c) text v
 Replies workers spies w (show word) text v = RepliesToShow w word text × (v ≡ w)
 Replies workers spies w records text v = (text ≡ records_text w.kept) × (v ≡ w)
+Replies workers spies w (since n) text v = RepliesToSince w n text × (v ≡ w)
+Replies workers spies w causes text v = RepliesToCauses w text × (v ≡ w)
+Replies workers spies w (goal_of n) text v = RepliesToGoalOf w n text × (v ≡ w)
+Replies workers spies w (clauses g) text v = RepliesToClauses w g text × (v ≡ w)
 Replies workers spies w goals text v = RepliesToGoals w text × (v ≡ w)
 Replies workers spies w (why n) text v = RepliesToWhy w n text × (v ≡ w)
 Replies workers spies w (who word) text v = RepliesToWho w word text × (v ≡ w)
+Replies workers spies w (explain word) text v = RepliesToExplain w word text × (v ≡ w)
+Replies workers spies w (keep word) text v = RepliesToKeep w word text v
 Replies workers spies w shelf text v = (text ≡ shelf_text w.shelf) × (v ≡ w)
 Replies workers spies w save text v = (text ≡ saved_text w spies) × (v ≡ w)
 Replies workers spies w save_steps text v = RepliesToSaveSteps w text × (v ≡ w)

@@ -7,16 +7,22 @@ ghost use Rattle.ghc_console.specs.Answered.{IsAnsweredBy, IsCommandAnsweredBy};
 ghost use Rattle.ghc_console.specs.Replies.{IsReply, Replies, refusal};
 ghost use Rattle.ghc_console.specs.SessionState.{LeavesSpies, state_of};
 
+use crate::all_causes::causes;
 use crate::answered::Answered;
 use crate::causes::{who, why};
+use crate::clause_lines::clauses;
 use crate::command::{LineCommand, parse};
 use crate::debugger::Debugger;
+use crate::explain::explain;
+use crate::goal_of_step::goal_of;
+use crate::keep::keep;
 use crate::obey_reply::{ask, input, obey};
 use crate::reading::Line;
 use crate::reply::{goals, records, refused, show, step};
 use crate::run_reply::skip;
 use crate::save_reply::{save, save_steps};
 use crate::shelf_reply::shelf;
+use crate::since::since;
 use crate::spy_reply::{spy, unspy};
 use ghc_term::{Fault, Limit};
 use std::alloc::{AllocError, Global};
@@ -44,9 +50,15 @@ fn tell(
         LineCommand::Obey(command) => obey(alloc, &mut debugger.core, command, reply),
         LineCommand::Show(word) => show(alloc, &debugger.core, word.as_str(), reply),
         LineCommand::Records => records(&debugger.core, reply),
+        LineCommand::Since(number) => since(&debugger.core, *number, reply),
+        LineCommand::Causes => causes(alloc, &debugger.core, reply),
+        LineCommand::GoalOf(number) => goal_of(&debugger.core, *number, reply),
+        LineCommand::Clauses(goal) => clauses(alloc, &debugger.core, *goal, reply),
         LineCommand::Goals => goals(alloc, &mut debugger.core, reply),
         LineCommand::Why(number) => why(alloc, &debugger.core, *number, reply),
         LineCommand::Who(word) => who(alloc, &debugger.core, word.as_str(), reply),
+        LineCommand::Explain(word) => explain(alloc, &mut debugger.core, word.as_str(), reply),
+        LineCommand::Keep(word) => keep(alloc, &mut debugger.core, word.as_str(), reply),
         LineCommand::Shelf => shelf(alloc, &debugger.core, reply),
         LineCommand::Save => save(alloc, &debugger.core, &debugger.spies, reply),
         LineCommand::SaveSteps => save_steps(alloc, &debugger.core, reply),

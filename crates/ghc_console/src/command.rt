@@ -1,10 +1,10 @@
 // The command of a line.
 ghost use Rattle.std.specs.Prelude.{◌≡◌, true, IfOk, IfSome, None, OnErr};
 ghost use Rattle.std.specs.List.{list_all};
-ghost use Rattle.ghc_console.specs.Words.{behind, is_printable, is_variable, numbers_of, words_of};
+ghost use Rattle.ghc_console.specs.Words.{behind, goal_name_of, is_printable, is_variable, numbers_of, words_of};
 ghost use Rattle.ghc_console.specs.LineMemory.{BeginsWithNumber, KeepsText, TakesMemory};
 ghost use Rattle.ghc_console.specs.declared.command.LineCommand.TheVariants.{Step};
-ghost use Rattle.ghc_console.specs.Commands.{arrange_with, command_by_count, command_of, command_of_one_word, command_of_three_words, command_of_two_words, command_of_words, command_with_number, command_with_variable, input_to, save_of, leap_of, run_limit};
+ghost use Rattle.ghc_console.specs.Commands.{arrange_with, clauses_with, command_by_count, command_of, command_of_one_word, command_of_three_words, command_of_two_words, command_of_words, command_with_number, command_with_variable, input_to, save_of, leap_of, run_limit};
 
 use crate::asked_for::ask_command;
 use crate::input_text::InputText;
@@ -31,12 +31,24 @@ pub enum LineCommand {
     Show(Word),
     /// The record.
     Records,
+    /// The record from the step of this number on.
+    Since(u32),
+    /// Each direct dependence of each kept step.
+    Causes,
+    /// The goal that the step of this number took.
+    GoalOf(u32),
+    /// What each clause of its predicate says to the goal.
+    Clauses(GoalName),
     /// The goals with their statuses.
     Goals,
     /// The steps on which the step of this number depends.
     Why(u32),
     /// The steps that bound the chain of the variable that is written so.
     Who(Word),
+    /// Where the value of the variable that is written so comes from.
+    Explain(Word),
+    /// The rolling back of all steps on which the value of the variable that is written so does not rest.
+    Keep(Word),
     /// The steps that were taken back.
     Shelf,
     /// The history of the whole session.
@@ -93,6 +105,9 @@ fn one_word_command(first_word: &[u8]) -> LineCommand
     if first_word == b"quit".as_slice() {
         return LineCommand::Quit;
     }
+    if first_word == b"causes".as_slice() {
+        return LineCommand::Causes;
+    }
     LineCommand::Unknown
 }
 
@@ -129,6 +144,12 @@ fn number_command(first_word: &[u8], step: u32) -> LineCommand
     if first_word == b"leap".as_slice() {
         return leap_command(step);
     }
+    if first_word == b"since".as_slice() {
+        return LineCommand::Since(step);
+    }
+    if first_word == b"goal".as_slice() {
+        return LineCommand::GoalOf(step);
+    }
     LineCommand::Unknown
 }
 
@@ -148,7 +169,23 @@ fn variable_command(
     if first_word == b"who".as_slice() {
         return Ok(LineCommand::Who(variable_word(alloc, word)?));
     }
+    if first_word == b"explain".as_slice() {
+        return Ok(LineCommand::Explain(variable_word(alloc, word)?));
+    }
+    if first_word == b"keep".as_slice() {
+        return Ok(LineCommand::Keep(variable_word(alloc, word)?));
+    }
     Ok(LineCommand::Unknown)
+}
+
+// What the clauses say to the goal that the word names.
+fn clauses_command(word: &[u8]) -> LineCommand
+    ensures { result ≡ clauses_with (goal_name_of word.now) }
+{
+    match goal_name(word) {
+        Some(goal) => LineCommand::Clauses(goal),
+        None => LineCommand::Unknown,
+    }
 }
 
 // The saving of the version that the word says: `1` says the first.
@@ -181,6 +218,9 @@ fn two_word_command(
             Some(goal) => Ok(LineCommand::Skip(goal)),
             None => Ok(LineCommand::Unknown),
         };
+    }
+    if first_word == b"clauses".as_slice() {
+        return Ok(clauses_command(word));
     }
     if first_word == b"spy".as_slice() {
         return spy_command(alloc, word);
@@ -320,7 +360,7 @@ fn of_any_line(alloc: Global, line: &[u8]) -> Result<LineCommand, AllocError>
 }
 
 /// The command that a line says; a line that says none is `Unknown`. It takes time in proportion to the
-/// line, and memory for the word of `show` or `who`, for the name of `spy` or `nospy`, for the numbers of `arrange` and for the
+/// line, and memory for the word of `show`, `who`, `explain` or `keep`, for the name of `spy` or `nospy`, for the numbers of `arrange` and for the
 /// text of `in` or `ask` alone.
 #[inline(always)]
 pub fn parse(alloc: Global, line: &[u8]) -> Result<LineCommand, AllocError>

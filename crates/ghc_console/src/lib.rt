@@ -1,22 +1,31 @@
 //! The console: devices, the lines of an input, and the commands that lines say.
 #![tactic(auto)]
 
+mod all_causes;
 mod answer;
 mod answered;
 mod asked_for;
 mod asking;
 mod call_counts;
 mod causes;
+mod clause_lines;
 mod command;
+mod count_text;
 mod debugger;
 mod device;
+mod explain;
+mod goal_of_step;
 mod input_text;
+mod keep;
+mod keep_laws;
 mod line_buffer;
 mod lines;
 mod obey_reply;
+mod outside;
 mod predicate_words;
 mod reading;
 mod reply;
+mod rollbacks;
 mod run_lines;
 mod run_reply;
 mod save_reply;
@@ -27,6 +36,7 @@ mod script;
 mod session_loop;
 mod settled;
 mod shelf_reply;
+mod since;
 mod spy_reply;
 mod text_rows;
 mod word;
@@ -37,6 +47,7 @@ pub use command::{LineCommand, parse};
 pub use debugger::Debugger;
 pub use device::{Broken, Device, write_all};
 pub use input_text::InputText;
+pub use keep_laws::keep_leaves_the_slice;
 pub use line_buffer::LINE_LIMIT;
 pub use lines::Lines;
 pub use reading::{Ahead, Line};

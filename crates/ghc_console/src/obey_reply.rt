@@ -47,7 +47,7 @@ pub(crate) fn undone(numbers: &[u32], reply: &mut String) -> Result<(), AllocErr
 }
 
 // The line of the steps that go: one that goes alone takes no memory for a list.
-fn gone(alloc: Global, rollback: &Rollback, reply: &mut String) -> Result<(), AllocError>
+pub(crate) fn gone(alloc: Global, rollback: &Rollback, reply: &mut String) -> Result<(), AllocError>
     requires { string_bytes reply.old ≡ [] }
     ensures { OnOk result (string_bytes reply.new ≡ undone_text (numbers (all_gone rollback.now))) }
 {

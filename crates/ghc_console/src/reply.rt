@@ -77,7 +77,7 @@ pub fn step(
 }
 
 // The word, and the term to which its variable leads.
-fn shown(word: &str, term: &str, reply: &mut String) -> Result<(), AllocError>
+pub(crate) fn shown(word: &str, term: &str, reply: &mut String) -> Result<(), AllocError>
     requires { string_bytes reply.old ≡ [] }
     ensures { OnOk result (string_bytes reply.new ≡ lined (word.now ++ (codes " = " ++ term.now))) }
 {
@@ -104,7 +104,7 @@ pub fn show(alloc: Global, core: &Core, word: &str, reply: &mut String) -> Resul
 }
 
 // The record at this place on a line, if there is one.
-fn line(records: &Records, place: usize, reply: &mut String) -> Result<(), AllocError>
+pub(crate) fn line(records: &Records, place: usize, reply: &mut String) -> Result<(), AllocError>
     ensures { OnOk result (TellsSlot records.now.slots place (string_bytes reply.old) (string_bytes reply.new)) }
 {
     let Some(record) = records.at(place) else {

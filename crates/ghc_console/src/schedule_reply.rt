@@ -49,9 +49,15 @@ fn carry_out(alloc: Global, world: &mut World, command: LineCommand) -> Option<R
         LineCommand::Step(_, _)
         | LineCommand::Show(_)
         | LineCommand::Records
+        | LineCommand::Since(_)
+        | LineCommand::Causes
+        | LineCommand::GoalOf(_)
+        | LineCommand::Clauses(_)
         | LineCommand::Goals
         | LineCommand::Why(_)
         | LineCommand::Who(_)
+        | LineCommand::Explain(_)
+        | LineCommand::Keep(_)
         | LineCommand::Shelf
         | LineCommand::Save
         | LineCommand::SaveSteps

@@ -7,7 +7,7 @@ loop-place-init c = let ss = c.args.records.now.slots in
     ap (λ l. l ++ record_lines (drop (rank ss 0) (held_in ss))) c.requires ∙ ap (λ k. record_lines (drop k (held_in ss))) (rank_zero ss)
 
 pub loop-place-preserved : goal.loop-place-preserved
-loop-place-preserved c = slot_on c.args.records.now.slots c.loop-place.place (string_bytes c.loop-place.reply) (string_bytes c.line.new.reply) c.in_ok-line.ensures c.loop-place.invariant
+loop-place-preserved c = slot_on c.args.records.now.slots c.loop-place.place (string_bytes c.loop-place.reply) (string_bytes c.line.new.reply) (record_lines (held_in c.args.records.now.slots)) c.in_ok-line.ensures c.loop-place.invariant
 
 pub returns : goal.returns
 returns c =

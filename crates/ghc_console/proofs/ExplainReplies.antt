@@ -1,0 +1,46 @@
+-- What is said of a slice that is told, and of who holds a variable.
+use Rattle.ghc_console.proofs.CitedWords.{◌≡◌, ◌≢◌, ◌⊎◌, ◌<◌, length, Fault, IsTextOf, IsVariableNamed, Tree, variable, value_at, print_limit, refusal, ◌++◌, inl, inr, refl, sym, subst, ap, ◌∙◌, ℕ, List, [], ◌∷◌, None, Some, Record, World, VarName}
+use Rattle.std.proofs.Common.{append_assoc}
+use Rattle.std.specs.FinMap as finite
+use Rattle.ghc_term.specs.declared.fault.Fault.TheVariants as fault
+use Rattle.ghc_term.specs.declared.limit.Limit.TheVariants as limit
+use Rattle.ghc_term.specs.Lists.{In}
+use Rattle.ghc_records.specs.Record.{State, numbers}
+use Rattle.ghc_depend.proofs.Picking.{picks_in}
+use Rattle.ghc_depend.specs.Depend.{IsKeptAs}
+use Rattle.ghc_trace.specs.declared.holding.Holder.{Holder}
+use Rattle.ghc_trace.specs.Causes.{IsToldSliceOf}
+use Rattle.ghc_trace.specs.Holding.{AreHolders}
+use Rattle.ghc_console.specs.Explaining.{RepliesToExplain, too_long_to_explain}
+
+-- a number that is told is that of a record
+of_number : (rs : List Record) (n : ℕ) → In n (numbers rs) → (r : Record) × In r rs × (r.number ≡ n)
+of_number [] n i = absurd i
+of_number (r ∷ rs) n (inl e) = (r, inl refl, sym e)
+of_number (r ∷ rs) n (inr i) = let q = of_number rs n i in (q.0, inr q.1, q.2)
+
+-- the steps of a slice are kept
+pub slice_kept : (kept : List Record) (t : State) (x : VarName) (told : List ℕ) → IsToldSliceOf kept t x told → (n : ℕ) → In n told → (r : Record) × IsKeptAs kept n r
+slice_kept kept t x told s n i =
+    let q = of_number s.0 n (subst (λ ns. In n ns) (sym s.3) i) in
+    (q.0, ((picks_in kept s.0 q.0 s.2.0 q.1).0, q.2))
+
+-- a holder's goal is there
+pub holder_there : (t : State) (x : VarName) (hs : List Holder) → AreHolders t x hs → (h : Holder) → In h hs → finite.get t.goals h.goal ≢ None
+holder_there t x hs a h i none =
+    let q = ((a.1 h).0 i).1 in
+    let never : None ≡ Some q.0 = sym none ∙ q.1 in
+    cc
+
+-- what is written one after another
+pub joined : (a b c d : List ℕ) → ((a ++ b) ++ c) ++ d ≡ a ++ (b ++ (c ++ d))
+joined a b c d = append_assoc (a ++ b) c d ∙ append_assoc a b (c ++ d)
+
+-- A refusal of a term says that it is too long.
+pub explained_refused : (w : World) (word : List ℕ) (x : VarName) (f : Fault) (text : List ℕ) → IsVariableNamed w word x → (f ≡ fault.Memory) ⊎ (f ≡ fault.Limit limit.Print)
+    → (f ≡ fault.Limit limit.Print → (long : List ℕ) × (IsTextOf (value_at w.state.store) (variable x) long × (print_limit < length long)))
+    → text ≡ refusal f → f ≢ fault.Memory → RepliesToExplain w word text
+explained_refused w word x f text named (inl m) past told kept = absurd (kept m)
+explained_refused w word x f text named (inr q) past told kept =
+    let long = past q in
+    subst (RepliesToExplain w word) (sym (told ∙ ap refusal q)) (too_long_to_explain x long.0 named long.1.0 long.1.1)

@@ -1,0 +1,175 @@
+-- Where all steps outside of a slice are rolled back, the slice is kept alone.
+use Rattle.ghc_term.proofs.ListsLemmas.{in_more, in_left, in_last}
+use Rattle.ghc_records.specs.Journal.{Opening}
+use Rattle.ghc_console.proofs.CitedWords.{◌≡◌, ◌↔◌, ℕ, List, [], ◌∷◌, ◌++◌, refl, sym, ap, subst, ◌∙◌, inl, inr, arith, In, VarName, value_at, AreDistinct, Record, numbers, record_once, World, IsVariableOf, IsNotKept, opening_stays}
+use Rattle.ghc_core.proofs.Reaching.{reached_good}
+use Rattle.ghc_core.proofs.Replayed.{replayed}
+use Rattle.ghc_core.specs.Core.{IsStanding}
+use Rattle.ghc_core.specs.Reached.{by_change}
+use Rattle.ghc_core.specs.declared.change.Change.TheVariants.{Goes as goes}
+use Rattle.ghc_core.specs.declared.change.Going.{Going}
+use Rattle.ghc_core.specs.Gone.{all_gone}
+use Rattle.ghc_records.specs.Orders.{Picks, nothing, take, leave}
+use Rattle.ghc_records.specs.Record.{State}
+use Rattle.ghc_records.specs.Replay.{Replays}
+use Rattle.ghc_records.proofs.OrderLemmas.{Before, is_before, before_is, number_in, number_of, picks_once, records_distinct}
+use Rattle.ghc_records.proofs.PickLemmas.{picks_in, picks_has, picks_order, picks_distinct}
+use Rattle.ghc_records.proofs.Replaying.{replay_once}
+use Rattle.ghc_depend.specs.Depend.{DependsOn, Follows, directly, further, GoesWith}
+use Rattle.ghc_depend.specs.Deletion.{IsPartedBy}
+use Rattle.ghc_depend.specs.Slices.{IsCauseOf, Gave, SameFrom, IsSliceOf}
+use Rattle.ghc_depend.proofs.ComingBack.{gone_come_back}
+use Rattle.ghc_depend.proofs.Finding.{ends}
+use Rattle.ghc_depend.proofs.Slicing.{rest_is_closed, slices}
+use Rattle.ghc_console.specs.Keeping.{RollsBack, not_kept, rolls, RollBack, none_yet, and_next}
+use Rattle.ghc_console.specs.KeepLaws.{IsKeptAlone, KeepLeavesTheSlice}
+
+module _ {X : Type 0} where
+  -- what is picked by one property is picked by another that says the same of each
+  pub picks_alike : {P Q : X → Type 0} (xs ys : List X) → ((x : X) → In x xs → P x ↔ Q x) → Picks P xs ys → Picks Q xs ys
+  picks_alike [] ys h nothing = nothing
+  picks_alike (x ∷ xs) ys h (take p rest) = take ((h x (inl refl)).0 p) (picks_alike xs _ (λ y i. h y (inr i)) rest)
+  picks_alike (x ∷ xs) ys h (leave n rest) = leave (λ q. n ((h x (inl refl)).1 q)) (picks_alike xs ys (λ y i. h y (inr i)) rest)
+
+  -- a list without an element twice has all of itself
+  pub all_picked : (xs whole : List X) → ((x : X) → In x xs → In x whole) → Picks (λ x. In x whole) xs xs
+  all_picked [] whole h = nothing
+  all_picked (x ∷ xs) whole h = take (h x (inl refl)) (all_picked xs whole (λ y i. h y (inr i)))
+
+  -- what is picked of what was picked is picked
+  pub picks_twice : {P Q : X → Type 0} (xs ys zs : List X) → AreDistinct xs → Picks P xs ys → Picks Q ys zs → Picks (λ x. In x zs) xs zs
+  picks_twice [] ys zs d nothing nothing = nothing
+  picks_twice (x ∷ xs) ys zs d (take {ys = more} p rest) (take {ys = last} q others) =
+      take (inl refl) (picks_alike xs last (λ y i. (λ j. inr j, λ j. elim j [ inl e ↦ absurd (d.0 (subst (λ z. In z xs) e i)) | inr k ↦ k ])) (picks_twice xs more last d.1 rest others))
+  picks_twice (x ∷ xs) ys zs d (take {ys = more} p rest) (leave n others) =
+      leave (λ i. d.0 (picks_in xs more x rest (picks_in more zs x others i).0).0) (picks_twice xs more zs d.1 rest others)
+  picks_twice (x ∷ xs) ys zs d (leave n rest) others = leave (λ i. d.0 (picks_in xs ys x rest (picks_in ys zs x others i).0).0) (picks_twice xs ys zs d.1 rest others)
+
+-- what follows in a part of the record follows in the whole
+still_follows : {P : Record → Type 0} (whole part : List Record) → Picks P whole part → (a b : Record) → Follows part a b → Follows whole a b
+still_follows whole part picked a b (directly d) = directly (before_is whole a b (picks_order whole part a b picked (is_before part a b d.0)), d.1)
+still_follows whole part picked a b (further {b = m} f d) =
+    further (still_follows whole part picked a m f) (before_is whole m b (picks_order whole part m b picked (is_before part m b d.0)), d.1)
+
+module _ (w : World) (roots : Record → Type 0) (slice rest : List Record) (standing : IsStanding w) (parts : IsPartedBy w.kept (IsCauseOf w.kept roots) slice rest) where
+  distinct : AreDistinct (numbers w.kept)
+  distinct = (reached_good standing).kept_once
+
+  abbrev Belongs : Record → Type 0
+  Belongs = IsCauseOf w.kept roots
+
+  outside : (r : Record) → In r w.kept → ¬ Belongs r → In r rest
+  outside r i n = elim (picks_has w.kept rest r parts.1 i) [ inl k ↦ k | inr m ↦ absurd (m n) ]
+
+  not_outside : (r : Record) → In r w.kept → ¬ In r rest → Belongs r
+  not_outside r i n = elim (picks_has w.kept slice r parts.0 i) [ inl k ↦ (picks_in w.kept slice r parts.0 k).1 | inr m ↦ absurd (n (outside r i m)) ]
+
+  behind_kept : (a b : Record) → Follows w.kept a b → In b w.kept
+  behind_kept a b (directly d) = (ends w.kept b a d).1
+  behind_kept a b (further {b = m} f d) = (ends w.kept b m d).1
+
+  -- the rest behind the slice gives the old state
+  pub way_back : Replays w.opening.program w.opening.query (slice ++ rest) w.state
+  way_back =
+      let good = reached_good standing in
+      gone_come_back w.opening.program w.opening.query w.kept w.state rest slice good.accepted good.asked (replayed standing).replay
+      (picks_alike w.kept rest (λ r i. (outside r i, λ j. (picks_in w.kept rest r parts.1 j).1)) parts.1, picks_alike w.kept slice (λ r i. (λ b j. (picks_in w.kept rest r parts.1 j).1 b, not_outside r i)) parts.0)
+      (λ a b i f. outside b (behind_kept a b f) (rest_is_closed w.kept roots a b (picks_in w.kept rest a parts.1 i).1 f))
+
+  -- After some of the others were rolled back: what is kept is a part of what was kept, the slice among it, and none of those rolled back.
+  pub record Left (ns : List ℕ) (v : World) : Type 0 where
+    pub part : Picks (λ r. In r v.kept) w.kept v.kept
+    pub has : (r : Record) → In r slice → In r v.kept
+    pub gone : (r : Record) → In r v.kept → ¬ In r.number ns
+    pub reached : IsStanding v
+    pub query : v.opening ≡ w.opening
+
+  start : Left [] w
+  start = record {
+    part = all_picked w.kept w.kept (λ r i. i);
+    has = λ r i. (picks_in w.kept slice r parts.0 i).0;
+    gone = λ r i never. never;
+    reached = standing;
+    query = refl;
+  }
+
+  module _ (ns : List ℕ) (n : ℕ) (v : World) (l : Left ns v) (other : In n (numbers rest)) where
+    not_there : (r : Record) → In r v.kept → ¬ (r.number ≡ n) → ¬ In r.number (ns ++ n ∷ [])
+    not_there r i differs j = elim (in_more ns n r.number j) [ inl k ↦ l.gone r i k | inr e ↦ differs e ]
+
+    next : (u : World) (line : List ℕ) → RollsBack v n line u → Left (ns ++ n ∷ []) u
+    next u line (not_kept none) = record { part = l.part; has = l.has; gone = λ r i. not_there r i (none r i); reached = l.reached; query = l.query }
+    next u line (rolls gone first can changes) =
+        let left = changes.0 in
+        let split = changes.1 in
+        let is = changes.2.2 in
+        let s = gone.first in
+        let kept : u.kept ≡ left = ap (λ (z : World). z.kept) is in
+        let in_w : In s w.kept = (picks_in w.kept v.kept s l.part can.0).0 in
+        let is_rest : ¬ Belongs s =
+        let o = number_of rest n other in
+        let p = picks_in w.kept rest o.0 parts.1 o.1 in
+        subst (λ r. ¬ Belongs r) (record_once w.kept o.0 s distinct p.0 in_w (o.2 ∙ sym first)) p.1
+        in
+        let picked : Picks (λ r. In r left) w.kept left = picks_twice w.kept v.kept left (records_distinct w.kept distinct) l.part split.1 in
+        record {
+          part = subst (λ k. Picks (λ r. In r k) w.kept k) (sym kept) picked;
+          has = λ r i.
+              let belongs = (picks_in w.kept slice r parts.0 i).1 in
+              elim (picks_has v.kept left r split.1 (l.has r i)) [
+                | inl j ↦ subst (In r) (sym kept) j
+                | inr n ↦ absurd (n (λ g. elim g [
+                  | inl e ↦ is_rest (subst Belongs e belongs)
+                  | inr f ↦ rest_is_closed w.kept roots s r is_rest (still_follows w.kept v.kept l.part s r f) belongs
+                ]))
+              ];
+          gone = λ r i.
+              let j = picks_in v.kept left r split.1 (subst (In r) kept i) in
+              not_there r j.0 (λ e. j.1 (inl (record_once w.kept r s distinct (picks_in w.kept v.kept r l.part j.0).0 in_w (e ∙ sym first))));
+          reached = by_change (goes Going.Together gone) l.reached can changes;
+          query = opening_stays v u (goes Going.Together gone) can changes ∙ l.query;
+        }
+
+  pub after : (ns lines : List ℕ) (v : World) → ((n : ℕ) → In n ns → In n (numbers rest)) → RollBack w ns lines v → Left ns v
+  after ns lines v among none_yet = start
+  after ns lines v among (and_next {ns = before} {text = text} {line = line} {n = n} {v = u} done one) =
+      next before n u (after before text u (λ m i. among m (in_left before (n ∷ []) m i)) done) (among n (in_last before n)) v line one
+
+  module _ (v : World) (l : Left (numbers rest) v) where
+    only_slice : (r : Record) → In r w.kept → In r v.kept → Belongs r
+    only_slice r i j = elim (picks_has w.kept slice r parts.0 i) [
+      | inl k ↦ (picks_in w.kept slice r parts.0 k).1
+      | inr n ↦ elim (picks_has w.kept rest r parts.1 i) [ inl k ↦ absurd (l.gone r j (number_in rest r k)) | inr m ↦ absurd (m n) ]
+    ]
+
+    all_slice : (r : Record) → In r w.kept → Belongs r → In r v.kept
+    all_slice r i b = elim (picks_has w.kept slice r parts.0 i) [ inl k ↦ l.has r k | inr n ↦ absurd (n b) ]
+
+    pub alone : v.kept ≡ slice
+    alone = picks_once w.kept v.kept slice (picks_alike w.kept v.kept (λ r i. (only_slice r i, all_slice r i)) l.part) parts.0
+
+    -- it replays, from the opening that was there
+    pub replays_alone : Replays w.opening.program w.opening.query slice v.state
+    replays_alone = subst (λ (o : Opening). Replays o.program o.query slice v.state) l.query (subst (λ rs. Replays v.opening.program v.opening.query rs v.state) alone (replayed l.reached).replay)
+
+    pub replays_back : Replays v.opening.program v.opening.query (v.kept ++ rest) w.state
+    replays_back =
+        subst (λ (o : Opening). Replays o.program o.query (v.kept ++ rest) w.state) (sym l.query) (subst (λ rs. Replays w.opening.program w.opening.query (rs ++ rest) w.state) (sym alone) way_back)
+
+    pub same_query : v.opening ≡ w.opening
+    same_query = l.query
+
+pub keep_leaves : KeepLeavesTheSlice
+keep_leaves w v x slice rest lines standing known parts done =
+    let roots = Gave (value_at w.state.store) x in
+    let l = after w roots slice rest standing parts (numbers rest) lines v (λ n i. i) done in
+    let is = alone w roots slice rest standing parts v l in
+    let good = reached_good standing in
+    let there = (slices w.opening.program w.opening.query w.kept w.state x slice rest good.accepted good.asked (replayed standing).replay known parts).alone in
+    let one : there.0 ≡ v.state = replay_once w.opening.program w.opening.query slice there.0 v.state there.1 (replays_alone w roots slice rest standing parts v l) in
+    record {
+      kept = is;
+      variable = subst (λ (o : Opening). IsVariableOf o.query v.kept x) (sym (same_query w roots slice rest standing parts v l)) (subst (λ rs. IsVariableOf w.opening.query rs x) (sym is) there.2);
+      same = subst (λ (s : State). SameFrom x (value_at w.state.store) (value_at s.store)) one there.3;
+      way_back = replays_back w roots slice rest standing parts v l;
+    }

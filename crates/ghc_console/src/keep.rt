@@ -1,0 +1,59 @@
+// The commands that keep what the value of a variable rests on: each other step is rolled back.
+ghost use Rattle.std.specs.Prelude.{◌≡◌, [], List, ℕ, OnErr, OnOk, string_bytes};
+ghost use Rattle.ghc_term.specs.Lists.{In};
+ghost use Rattle.ghc_records.specs.Orders.{Picks};
+ghost use Rattle.ghc_records.specs.Record.{numbers};
+ghost use Rattle.ghc_console.specs.Keeping.{TellsKept};
+ghost use Rattle.ghc_console.specs.Replies.{RepliesToKeep};
+
+use crate::asking::variable_named;
+use crate::outside::outside;
+use crate::reply::refused;
+use crate::rollbacks::take_back;
+use ghc_core::Core;
+use ghc_term::Fault;
+use ghc_trace::slice_of;
+use std::alloc::{AllocError, Global};
+
+// Rolls back each kept step that has none of these numbers, which are of kept steps, in recorded order.
+fn keep_alone(
+    alloc: Global,
+    core: &mut Core,
+    slice: &[u32],
+    reply: &mut String,
+) -> Result<(), AllocError>
+    requires empty { string_bytes reply.old ≡ [] }
+    requires slice { Picks (λ n. In n slice.now) (numbers core.old.world.kept) slice.now }
+    ensures told { OnOk result ((ns : List ℕ) × Picks (λ n. ¬ In n slice.now) (numbers core.old.world.kept) ns × TellsKept core.old.world ns (string_bytes reply.new) core.new.world) }
+    ensures err { OnErr result (core.new.world ≡ core.old.world) }
+    ensures firings { core.new.meter.firings ≡ core.old.meter.firings }
+{
+    let kept = core.kept_numbers(alloc)?;
+    let rest = outside(alloc, kept.as_slice(), slice)?;
+    take_back(alloc, core, rest.as_slice(), reply)
+}
+
+/// Rolls back each kept step outside of the slice of the variable that the word names, in recorded order, as far as it is still
+/// kept then, and tells which steps are undone, a line for each rollback, and how many are kept then; or the refusal. Where memory
+/// is refused on the way, what was rolled back stays so, and the refusal is told in place of the rest. An error leaves the world as
+/// it was. It costs what `slice_of` costs, a step for each place of the record, and what each rollback costs.
+#[inline(never)]
+pub fn keep(
+    alloc: Global,
+    core: &mut Core,
+    word: &str,
+    reply: &mut String,
+) -> Result<(), AllocError>
+    requires { string_bytes reply.old ≡ [] }
+    ensures text { OnOk result (RepliesToKeep core.old.world word.now (string_bytes reply.new) core.new.world) }
+    ensures err { OnErr result (core.new.world ≡ core.old.world) }
+    ensures opening { core.new.world.opening ≡ core.old.world.opening }
+    ensures firings { core.new.meter.firings ≡ core.old.meter.firings }
+{
+    let Some(x) = variable_named(core, word.as_bytes()) else {
+        return refused(&Fault::NoVariable, reply);
+    };
+    core.stands();
+    let slice = slice_of(alloc, core, x)?;
+    keep_alone(alloc, core, slice.as_slice(), reply)
+}
