@@ -64,7 +64,7 @@ pub use Rattle.ghcdb.specs.Sessions.{IsSessionOf, WhatOpensIsASession}
 pub use Rattle.ghcdb.specs.Start.{AreRead, IsNoMemoryFor, IsOutOfMemory, IsStartRefusal, IsStarted, StartIsExact, for_program, for_query, of_calls, of_clauses, of_program, of_query, told_of}
 pub use Rattle.ghcdb.specs.declared.refusal.Refusal.{Refusal}
 pub use Rattle.ghcdb.specs.declared.start.Started.{Started}
-pub use Rattle.std.proofs.Common.{Err, IfNone, IfSome, List, MatchResult, None, Ok, OnOk, Option, Result, Some, [], ap, append-nil, arith, codes, false, get_or, inl, inr, is_some, length, map, option_map, refl, rules, slice_get, slice_index, subst, subst₂, suc, sym, take, true, zero, ℕ, ◌++◌, ◌-◌, ◌<◌, ◌||◌, ◌↔◌, ◌∙◌, ◌∷◌, ◌≡◌, ◌≤◌, ◌⊎◌}
+pub use Rattle.std.proofs.Common.{Err, IfNone, IfSome, List, MatchResult, None, Ok, OnOk, Option, Result, Some, [], ap, append-nil, arith, codes, false, get_or, inl, inr, is_some, length, map, option_map, refl, rules, slice_get, slice_index, subst, subst₂, suc, sym, take, true, zero, ℕ, ◌++◌, ◌-◌, ◌<◌, ◌||◌, ◌↔◌, ◌∙◌, ◌∷◌, ◌≡◌, ◌≤◌, ◌⊎◌, ◌+◌, ◌≢◌, drop}
 pub use Rattle.std.proofs.Crossing.{crosses}
 pub use Rattle.std.proofs.KnownBytes.{Appends-kept, Consumes-trans, Consumes-whole}
 pub use Rattle.std.proofs.Math.Seq.{take-length}

@@ -5,7 +5,7 @@ use Rattle.ghc_records.specs.declared.predicate.Predicate as written
 use Rattle.ghcdb.proofs.SessionsOpened.{told}
 
 -- a predicate that is written is in the set of what is written
-held : (ps : List written.Predicate) (p : written.Predicate) → In p ps → HasPredicate (spied_of ps) p.name p.arity
+pub held : (ps : List written.Predicate) (p : written.Predicate) → In p ps → HasPredicate (spied_of ps) p.name p.arity
 held ps p i = set.contains-from_list predicate_total (map told ps) (told p) ∙ list_any-from_Contains (eq_by_cmp_equiv predicate_total) (told p) (map told ps) (in_contains (map told ps) (told p) (in_map told ps p i))
 
 -- the predicates that a set lists have clauses where those of the set do

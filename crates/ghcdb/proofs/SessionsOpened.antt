@@ -17,7 +17,7 @@ told_by (p ∷ ps) q (inl e) = (p, inl refl, sym e)
 told_by (p ∷ ps) q (inr i) = let r = told_by ps q i in (r.0, inr r.1, r.2)
 
 -- a predicate of the set is written
-is_written : (ps : List written.Predicate) (f : List ℕ) (n : ℕ) → HasPredicate (spied_of ps) f n → (p : written.Predicate) × In p ps × (told p ≡ predicate f n)
+pub is_written : (ps : List written.Predicate) (f : List ℕ) (n : ℕ) → HasPredicate (spied_of ps) f n → (p : written.Predicate) × In p ps × (told p ≡ predicate f n)
 is_written ps f n h =
     let found : list_any (eq_by_cmp predicate_cmp (predicate f n)) (map told ps) ≡ true = sym (set.contains-from_list predicate_total (map told ps) (predicate f n)) ∙ h in
     told_by ps (predicate f n) (contains_in (map told ps) (predicate f n) (Contains-from_any (λ p q e. predicate_antisymmetric p q ((Equal-is (predicate_cmp p q)).0 e)) (predicate f n) (map told ps) found))
@@ -28,13 +28,13 @@ known_of P ps known f n h =
     let r = is_written ps f n h in
     subst (λ (q : Predicate). HasClauseFor P q.name q.arity) r.2 (known r.0 r.1)
 
-none_spied : (f : List ℕ) (n : ℕ) → ¬ HasPredicate set.empty f n
+pub none_spied : (f : List ℕ) (n : ℕ) → ¬ HasPredicate set.empty f n
 none_spied f n h = let clash : true ≡ false = sym h ∙ set.contains-empty predicate_cmp (predicate f n) in cc
 
 -- ---- what opens
 
 -- program and query that are started are sound as an opening, with any steps loaded
-sound : (p q : List ℕ) (s : Started) (h : History) → IsStarted p q s → IsSound (loaded_opening s.program s.query.goals s.query.variables h)
+pub sound : (p q : List ℕ) (s : Started) (h : History) → IsStarted p q s → IsSound (loaded_opening s.program s.query.goals s.query.variables h)
 sound p q s h started =
     let named = started.reads_query.2.variables in
     (started.accepted.program, started.accepted.query, record { named = named.named; apart = named.apart })

@@ -1,5 +1,5 @@
 -- What a session told stays told where nothing more is written; and what a whole session told is what one that is broken off may tell.
-use Rattle.ghcdb.proofs.CitedWords.{◌≡◌, ℕ, Option, None, Some, Result, Ok, Err, List, [], ◌∷◌, length, refl, sym, ap, ◌∙◌, subst, append-nil, MatchResult, OnOk, take-length, Keeps, append_known, Appends-kept, Session, Began, Tells, at_end, ends, goes_on, nothing_yet, broken, went_on, SessionState, HasBeginning, HasReplies}
+use Rattle.ghcdb.proofs.CitedWords.{ℕ, Option, None, Some, List, ◌∷◌, length, subst, take-length, Keeps, Appends-kept, Session, Began, Tells, at_end, ends, goes_on, nothing_yet, broken, went_on, SessionState}
 
 pub told_kept : (Run : ℕ → SessionState → List (List ℕ) → List ℕ → SessionState → Type 0) (s t : SessionState) (unread written now later : Option (List ℕ)) (before : ℕ)
     → Tells Run s unread written now before t → Keeps now later → Tells Run s unread written later before t
@@ -27,17 +27,3 @@ told_begun s t (Some input) written now before told = record {
   run = began told.count s t _ told.out told.run;
   asked = told.asked;
 }
-
-nothing_appended : (bytes : Option (List ℕ)) → append_known bytes [] ≡ bytes
-nothing_appended None = refl
-nothing_appended (Some bytes) = ap Some (append-nil bytes)
-
--- What stands behind the buffer is what was written, but for what the buffer holds.
-pub in_writer : {E : Type 0} (result : Result Unit E) (s t : SessionState) (unread before written handed after : Option (List ℕ)) (held : List ℕ) (asked : ℕ)
-    → MatchResult result (λ _. Tells Session s unread before written asked t) (λ _. Tells Began s unread before written asked t) → OnOk result (held ≡ []) → after ≡ handed → written ≡ append_known handed held
-    → MatchResult result (λ _. HasReplies s unread before after) (λ _. HasBeginning s unread before after)
-in_writer (Ok done) s t unread before written handed after held asked told none is cut =
-    let whole = cut ∙ ap (append_known handed) none ∙ nothing_appended handed ∙ sym is in
-    (asked, t, subst (λ w. Tells Session s unread before w asked t) whole told)
-in_writer (Err e) s t unread before written handed after held asked told none is cut =
-    (asked, t, held, subst (λ w. Tells Began s unread before w asked t) (cut ∙ ap (λ w. append_known w held) (sym is)) told)

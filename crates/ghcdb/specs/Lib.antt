@@ -6,7 +6,9 @@ pub mod Start
 pub mod Opening
 pub mod Sessions
 pub mod Saving
+pub mod Tellable
 pub mod Outputs
+pub mod Ending
 pub mod HistoryFront
 pub mod ProgramText
 pub mod Status

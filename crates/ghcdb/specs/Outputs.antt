@@ -1,13 +1,33 @@
--- What a writer has at the end of a session.
-use Rattle.std.specs.Prelude.{ℕ, List, Option}
+-- What is written of a session, or of a schedule that is played in its place, and what a writer has of that at the end.
+use Rattle.std.specs.Prelude.{◌≡◌, ℕ, List, [], Option, None, Some, Result, MatchResult, OnOk}
 use Rattle.std.specs.Io.KnownBytes.{append_known}
+use Rattle.ghc_core.specs.Core.{Core}
+use Rattle.ghc_console.specs.ScheduleText.{IsScheduleOf}
 use Rattle.ghc_console.specs.Session.{Began, Session, Tells}
-use Rattle.ghc_console.specs.SessionState.{SessionState}
+use Rattle.ghc_console.specs.SessionState.{SessionState, state_of}
+use Rattle.ghc_console.specs.declared.debugger.Debugger.{Debugger}
 
--- HasReplies s unread before after: where the bytes to come and those that the writer had before are known, it has the replies to all lines behind these.
+-- HasReplies s unread before after: where the bytes to come and those written before are known, the replies to all lines behind these are written.
 abbrev pub HasReplies : SessionState → Option (List ℕ) → Option (List ℕ) → Option (List ℕ) → Type 0
 HasReplies s unread before after = (asked : ℕ) × (t : SessionState) × Tells Session s unread before after asked t
 
--- HasBeginning s unread before after: it has a beginning of what a session that was broken off tells; the rest of that is lost.
+-- HasBeginning s unread before after: what a session that was broken off tells is written.
 abbrev pub HasBeginning : SessionState → Option (List ℕ) → Option (List ℕ) → Option (List ℕ) → Type 0
-HasBeginning s unread before after = (asked : ℕ) × (t : SessionState) × (lost : List ℕ) × Tells Began s unread before (append_known after lost) asked t
+HasBeginning s unread before after = (asked : ℕ) × (t : SessionState) × Tells Began s unread before after asked t
+
+-- RunsSession s unread before after result: the replies to all lines are written, or, where the result is an error, a beginning of them.
+abbrev pub RunsSession : {E : Type 0} → SessionState → Option (List ℕ) → Option (List ℕ) → Option (List ℕ) → Result Unit E → Type 0
+RunsSession s unread before after result = MatchResult result (λ _. HasReplies s unread before after) (λ _. HasBeginning s unread before after)
+
+-- PlaysSchedule core text before after result: the replies to the lines of the schedule and the records are written, or, where the result is an error, a beginning of that.
+abbrev pub PlaysSchedule : {E : Type 0} → Core → List ℕ → Option (List ℕ) → Option (List ℕ) → Result Unit E → Type 0
+PlaysSchedule core text before after result = (left : Core) × IsScheduleOf core text before after left result
+
+-- RunsOrPlays d schedule unread before after result: where a schedule is given, it is played on the core of the debugger d; else a session is run on d.
+abbrev pub RunsOrPlays : {E : Type 0} → Debugger → Option (List ℕ) → Option (List ℕ) → Option (List ℕ) → Option (List ℕ) → Result Unit E → Type 0
+RunsOrPlays d None unread before after result = RunsSession (state_of d) unread before after result
+RunsOrPlays d (Some text) unread before after result = PlaysSchedule d.core text before after result
+
+-- HasOutput d schedule unread before after result: the writer has all that is written so; or, where the result is an error, it may lack an end of it, which is lost.
+abbrev pub HasOutput : {E : Type 0} → Debugger → Option (List ℕ) → Option (List ℕ) → Option (List ℕ) → Option (List ℕ) → Result Unit E → Type 0
+HasOutput d schedule unread before after result = (lost : List ℕ) × OnOk result (lost ≡ []) × RunsOrPlays d schedule unread before (append_known after lost) result

@@ -1,25 +1,23 @@
 // What the program does with the words of its command line.
-ghost use Rattle.std.specs.Prelude.{◌≡◌, ◌≢◌, IfOk};
+ghost use Rattle.std.specs.Prelude.{◌≡◌, ◌≢◌, IfErr, IfOk};
 ghost use Rattle.clap.specs.Words.{kind_of};
 ghost use Rattle.clap.specs.declared.error.kind.ErrorKind.{ErrorKind};
 ghost use Rattle.ghc_term.specs.Answered.{AnsweredUnless};
 ghost use Rattle.ghc_term.specs.Fault.{fault_text};
+ghost use Rattle.ghcdb.specs.Ending.{DoOpen, EndsWith, IsEnd, IsRefusalOf};
 ghost use Rattle.ghcdb.specs.Opening.{IsDebuggerOf, IsOpenRefusal, IsWithoutMemory};
-ghost use Rattle.ghcdb.specs.Texts.{history_in};
+ghost use Rattle.ghcdb.specs.Texts.{history_in, schedule_in};
 ghost use Rattle.ghcdb.specs.Status.{spare_fault, status_of};
 
 use crate::command_line::options;
-use crate::console::run_console;
 use crate::files::{Texts, read_texts};
 use crate::opening::open;
-use crate::playing::play_schedule;
 use crate::refusal::{Refusal, push_line};
-use crate::refused_part::RefusedPart;
+use crate::run_or_play::run_or_play;
 use crate::settings::{Given, Options};
 use crate::status::Status;
 use clap::Error;
 use ghc_console::Debugger;
-use ghc_core::Core;
 use ghc_pool::Workers;
 use ghc_term::Fault;
 use std::alloc::Global;
@@ -86,58 +84,52 @@ fn open_for_workers(
     }
 }
 
-// Reads the files, all of them before anything is judged, starts, and plays the schedule or else runs the session.
-fn debug<R: Threads + Wait + Sync + Files + Input + Print + Eprint + AllocGlobal>(
+// Starts what the texts and the options say, and plays the schedule, where there is a text of one, or else runs the session.
+fn carry_out<R: Threads + Wait + Sync + Input + Print + AllocGlobal>(
     rt: &R,
+    texts: &Texts,
     options: Options<'_>,
     workers: Workers,
-) -> Status {
-    let texts = match read_texts(rt, options) {
-        Ok(texts) => texts,
-        Err(refusal) => return tell(rt, &refusal),
+) -> Result<(), Refusal>
+    ensures done { IfOk result (λ _. DoOpen texts.now.program.items options.entry.query.now (history_in texts.now)) }
+    ensures refused { IfErr result (IsRefusalOf texts.now.program.items options.entry.query.now (history_in texts.now) (schedule_in texts.now)) }
+{
+    let debugger = match open_for_workers(rt.alloc(), texts, options, workers) {
+        Ok(debugger) => debugger,
+        Err(refusal) => return Err(refusal),
     };
-    match open_for_workers(rt.alloc(), &texts, options, workers) {
-        Ok(debugger) => match &texts.schedule {
-            Some(schedule) => {
-                let Debugger {
-                    core,
-                    spies: _,
-                    workers: _,
-                } = debugger;
-                run_schedule(rt, core, schedule.as_slice())
-            }
-            None => run_session(rt, debugger),
-        },
+    match &texts.schedule {
+        Some(schedule) => run_or_play(rt, debugger, Some(schedule.as_slice())),
+        None => run_or_play(rt, debugger, None),
+    }
+}
+
+// Carries out what the texts and the options say, tells of a refusal, and says how it ends.
+fn debug_texts<R: Threads + Wait + Sync + Input + Print + Eprint + AllocGlobal>(
+    rt: &R,
+    texts: &Texts,
+    options: Options<'_>,
+    workers: Workers,
+) -> Status
+    ensures { EndsWith texts.now.program.items options.entry.query.now (history_in texts.now) (schedule_in texts.now) result }
+{
+    match carry_out(rt, texts, options, workers) {
+        Ok(()) => Status::Done,
         Err(refusal) => tell(rt, &refusal),
     }
 }
 
-// Runs the session on what was started.
-fn run_session<R: Threads + Wait + Sync + Input + Print + Eprint + AllocGlobal>(
+// Reads the files, all of them before anything is judged, and debugs what stands in them.
+fn debug<R: Threads + Wait + Sync + Files + Input + Print + Eprint + AllocGlobal>(
     rt: &R,
-    debugger: Debugger,
-) -> Status {
-    match run_console(rt, debugger) {
-        Ok(()) => Status::Done,
-        Err(fault) => {
-            let part = RefusedPart::Session;
-            tell(rt, &Refusal { part, fault })
-        }
-    }
-}
-
-// Plays the schedule on the core that was started.
-fn run_schedule<R: Input + Print + Eprint + AllocGlobal>(
-    rt: &R,
-    core: Core,
-    schedule: &[u8],
-) -> Status {
-    match play_schedule(rt, core, schedule) {
-        Ok(()) => Status::Done,
-        Err(fault) => {
-            let part = RefusedPart::Schedule;
-            tell(rt, &Refusal { part, fault })
-        }
+    options: Options<'_>,
+    workers: Workers,
+) -> Status
+    ensures { IsEnd result }
+{
+    match read_texts(rt, options) {
+        Ok(texts) => debug_texts(rt, &texts, options, workers),
+        Err(refusal) => tell(rt, &refusal),
     }
 }
 

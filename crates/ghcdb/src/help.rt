@@ -7,10 +7,16 @@ pub const AFTER_HELP: &str = "Commands of the session, a line each:
   goals             list the goals, each with its status
   show X            tell the value of variable X
   records           list the kept steps
+  since N           list the kept steps from step N on
+  goal N            tell which goal step N took, as written then
+  clauses G         tell what each clause says to goal G now
   why N             tell on which steps step N depends
+  causes            tell so of all kept steps
   who X             tell which steps bound variable X
+  explain X         tell on which steps the value of X rests
   undo N            take back step N, on which no other depends
   roll N            take back step N with all that depends on it
+  keep X            take back all steps on which X does not rest
   shelf             list what was taken back
   redo N            put step N there again
   arrange N ..      put the kept steps into another lawful order

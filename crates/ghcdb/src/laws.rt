@@ -2,8 +2,9 @@
 ghost use Rattle.ghcdb.specs.HistoryFront.{WhatIsReadTells};
 ghost use Rattle.ghcdb.specs.ProgramText.{FrontTells};
 ghost use Rattle.ghcdb.specs.Saving.{SavedSessionsOpenAgain};
-ghost use Rattle.ghcdb.specs.Sessions.{WhatOpensIsASession};
+ghost use Rattle.ghcdb.specs.Sessions.{SessionsStaySessions, WhatOpensIsASession};
 ghost use Rattle.ghcdb.specs.Start.{StartIsExact};
+ghost use Rattle.ghcdb.specs.Tellable.{EachSaveOpensAgain, SessionsStayTellable};
 
 use ghc_core::{
     carried_out_is_legal, events_lead_where_changes_lead, legal_is_reachable,
@@ -38,6 +39,11 @@ pub fn what_opens_is_a_session()
     events_lead_where_changes_lead();
 }
 
+/// What lines leave of a session on program and query that are started is a session on them, also where it was broken off.
+pub fn sessions_stay_sessions()
+    ensures { SessionsStaySessions }
+{}
+
 /// What is saved of a session, where a text can tell its chronicle, opens as that session again, its world whole and its spies, and as no
 /// other, and is not refused.
 pub fn saved_sessions_open_again()
@@ -49,4 +55,30 @@ pub fn saved_sessions_open_again()
     what_is_told_is_carried_out();
     events_lead_where_changes_lead();
     listed_spies_come_back();
+}
+
+/// What opens on program and query that are started is tellable, and so is what lines leave of it; and a text can tell the chronicle of
+/// what is, where that has no more entries than a text may have.
+pub fn sessions_stay_tellable()
+    ensures { SessionsStayTellable }
+{
+    // Each is called for its clause, which the proof cites.
+    listed_spies_come_back();
+    carried_out_is_legal();
+    legal_is_reachable();
+}
+
+/// What `save` tells anywhere in a session that was opened, also in one that was broken off, opens as that session again, where its
+/// journal has no more entries than a text may have.
+pub fn each_save_opens_again()
+    ensures { EachSaveOpensAgain }
+{
+    // Each is called for its clause, which the proof cites.
+    written_chronicles_are_read_again();
+    texts_tell_one_chronicle();
+    what_is_told_is_carried_out();
+    events_lead_where_changes_lead();
+    listed_spies_come_back();
+    carried_out_is_legal();
+    legal_is_reachable();
 }

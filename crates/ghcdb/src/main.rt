@@ -12,6 +12,7 @@ mod opening;
 mod playing;
 mod refusal;
 mod refused_part;
+mod run_or_play;
 mod settings;
 mod start;
 mod status;
